@@ -1,0 +1,4 @@
+pub mod Fronts
+pub mod Fetches
+pub mod Puts
+pub mod Under

@@ -1,0 +1,26 @@
+-- What a shelf holds, where it tells it.
+use Rattle.std.specs.Prelude.{ℕ, ◌≡◌, ◌<◌, Option, Some, List, length, IfSome}
+use Rattle.std.specs.Ordering.{nat_cmp}
+use Rattle.std.specs.Cmp.Lexicographic.{slice_cmp}
+use Rattle.std.specs.FinMap.{FinMap, get, from_entries}
+use Rattle.htl_edge.specs.declared.shelf.ShelfFault.{ShelfFault}
+use Rattle.htl_edge.specs.declared.shelf.ShelfFault.TheVariants.{Failed, TooLong, Memory}
+
+-- bytes by name
+abbrev pub Holdings : Type 0
+Holdings = FinMap (slice_cmp nat_cmp) (List ℕ)
+
+-- what these names and bytes make
+abbrev pub holdings_of : List (List ℕ × List ℕ) → Holdings
+holdings_of entries = from_entries entries
+
+-- Where it is told, these bytes are held under the name.
+abbrev pub HoldsUnder : Option Holdings → List ℕ → List ℕ → Type 0
+HoldsUnder holds name bytes = IfSome holds (λ held. get held name ≡ Some bytes)
+
+-- A file is too long only above the limit, and where it is told, `seen` is its length.
+abbrev pub IsTooLong : Option Holdings → List ℕ → ℕ → ShelfFault → Type 0
+IsTooLong holds name limit (TooLong seen) =
+    (limit < seen) × IfSome holds (λ held. (bytes : List ℕ) × (get held name ≡ Some bytes) × (seen ≡ length bytes))
+IsTooLong holds name limit Failed = Unit {0}
+IsTooLong holds name limit Memory = Unit {0}
