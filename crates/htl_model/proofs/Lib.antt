@@ -1,0 +1,11 @@
+pub mod ChoiceLaws
+pub mod Laws
+pub mod Locality
+pub mod PlainLaws
+pub mod Reversed
+pub mod Rows
+pub mod SelectionLaws
+pub mod SelectionRows
+pub mod SlowLaws
+pub mod Sources
+pub mod Stays

@@ -1,0 +1,198 @@
+-- Laws of selections: modules in range have modes, and a cap on the choices changes no quotient.
+use Rattle.std.proofs.Common.{◌≡◌, ◌≤◌, ◌<◌, ◌⊎◌, ◌+◌, ◌-◌, ◌*◌, ◌/◌, ◌%◌, ◌^◌, ℕ, zero, suc, Bool, true, false, cond, List, [], ◌∷◌, ◌++◌, length, drop, drop-cons, get_or, slice_get, Option, Some, None, add-one, min, refl, sym, subst, ◌∙◌, ap, arith, inl, inr, length-drop, length-append, IfSome, eq-eqb}
+use Rattle.std.specs.List.{flat_map, All}
+use Rattle.std.proofs.lemmas.List.Elements.{All-append, All-get_or, All-from_get_or}
+use Rattle.std.proofs.Math.Nat.{div-eq_of_lt}
+use Rattle.std.proofs.Math.Seq.{get_or-append_right}
+use Rattle.std.proofs.lemmas.Nat.{mul-lt}
+use Rattle.std.proofs.lemmas.Option.{slice_get_cases, slice_get-get_or}
+use Rattle.htl_model.specs.declared.parts.Module.{Module}
+use Rattle.htl_model.specs.Lists.{places_from}
+use Rattle.htl_model.specs.declared.parts.Task.{Task}
+use Rattle.htl_model.specs.Tables.{Tables, mode_period, function_count, count_at, count_before}
+use Rattle.htl_model.specs.Ranges.{AreInRange, IsModeThat}
+use Rattle.htl_model.specs.Selections.{is_root, mode_of_unit, modes_of, choices_from, root_mode, invs_of, unit_positions, root_modules, root_period, inv_of_mode, positions}
+
+either : (a b : ℕ) → (a < b) ⊎ (b ≤ a)
+either a b = grind arith
+
+-- ---- places that pass a test
+
+on_front : (b : Bool) (k : ℕ) (rest : List ℕ) → 0 < length rest → 0 < length (cond b (k ∷ rest) rest)
+on_front true k rest h = omega arith
+on_front false k rest h = h
+
+pub places_some : {A : Type 0} (test : A → Bool) (k p : ℕ) (xs : List A) (x : A) → slice_get xs p ≡ Some x → test x ≡ true → 0 < length (places_from test k xs)
+places_some test k p [] x e f = cc
+places_some test k zero (y ∷ ys) x e f =
+    let same : y ≡ x = cc in
+    let passes : test y ≡ true = ap test same ∙ f in
+    rw passes (omega arith)
+places_some test k (suc p) (y ∷ ys) x e f = on_front (test y) k (places_from test (suc k) ys) (places_some test (suc k) p ys x e f)
+
+-- ---- modes of a module in range
+
+pub modes_some : (t : Tables) (k : ℕ) → AreInRange t → k < length t.modules → 0 < length (modes_of t k)
+modes_some t k r h = elim (slice_get_cases t.modules k).1 [
+  | inl c ↦
+      let start = (r.modules k c.0 c.2).start in
+      places_some (mode_of_unit k) 0 c.0.start t.modes start.0 start.1 (eq-eqb start.0.«module» k start.2)
+  | inr c ↦ absurd (omega (arith, c.0))
+]
+
+some_choices : (b : Bool) (n m : ℕ) → 0 < n → 0 < m → 0 < cond b n 1 * m
+some_choices true n m h k = mul-lt 0 0 n m h k
+some_choices false n m h k = omega arith
+
+pub choices_some : (t : Tables) (k : ℕ) (xs : List Module) → ((j : ℕ) → j < length xs → 0 < length (modes_of t (k + j))) → 0 < choices_from t k xs
+choices_some t k [] h = omega arith
+choices_some t k (x ∷ xs) h =
+    some_choices (is_root x) (length (modes_of t k)) (choices_from t (suc k) xs)
+    (let z : k + 0 ≡ k = omega arith in subst (λ n. 0 < length (modes_of t n)) z (h 0 (omega arith)))
+    (choices_some t (suc k) xs (λ j b. let z : k + suc j ≡ suc k + j = omega arith in subst (λ n. 0 < length (modes_of t n)) z (h (suc j) (omega arith))))
+
+-- a quotient by a number of choices that is capped above the dividend is the quotient
+pub capped_quotient : (sel c cap : ℕ) → sel < cap → 0 < c → sel / min c cap ≡ sel / c
+capped_quotient sel c cap h k = elim (either cap c) [
+  | inl a ↦
+      let m : min c cap ≡ cap = omega arith in
+      ap (λ n. sel / n) m ∙ div-eq_of_lt h ∙ sym (div-eq_of_lt (let b : sel < c = omega arith in b))
+  | inr a ↦ let m : min c cap ≡ c = omega arith in ap (λ n. sel / n) m
+]
+
+pub later_choices : (t : Tables) (u : ℕ) → AreInRange t → u < length t.modules → 0 < choices_from t (u + 1) (drop (u + 1) t.modules)
+later_choices t u r h = choices_some t (u + 1) (drop (u + 1) t.modules) (λ j b. modes_some t (u + 1 + j) r (omega (arith, length-drop (u + 1) t.modules)))
+
+-- the mode that is found with capped choices
+pub root_mode_found : (t : Tables) (sel u later count mode : ℕ) → AreInRange t → u < length t.modules → sel < 2 ^ 64 - 1
+    → later ≡ min (choices_from t (u + 1) (drop (u + 1) t.modules)) (2 ^ 64 - 1) → count ≡ length (modes_of t u)
+    → mode ≡ get_or (modes_of t u) (sel / later % count) 0 → mode ≡ root_mode t sel u
+root_mode_found t sel u later count mode r h small e f g =
+    let c = choices_from t (u + 1) (drop (u + 1) t.modules) in
+    g ∙ ap (λ n. get_or (modes_of t u) (sel / n % count) 0) e
+    ∙ ap (λ n. get_or (modes_of t u) (n % count) 0) (capped_quotient sel c (2 ^ 64 - 1) small (later_choices t u r h))
+    ∙ ap (λ n. get_or (modes_of t u) (sel / c % n) 0) f
+
+-- ---- positions
+
+cut_front : {A : Type 0} (f : ℕ → List A) (b : Bool) (k : ℕ) (rest : List ℕ) → flat_map f (cond b (k ∷ rest) rest) ≡ cond b (f k) [] ++ flat_map f rest
+cut_front f true k rest = refl
+cut_front f false k rest = refl
+
+-- the positions from a module on are its own and those of the later ones
+pub positions_cut : (t : Tables) (sel k : ℕ) (units : List Module) (x : Module) → k < length units → x ≡ get_or units k x
+    → flat_map (λ u. invs_of t (root_mode t sel u)) (places_from is_root k (drop k units))
+    ≡ unit_positions t sel k x ++ flat_map (λ u. invs_of t (root_mode t sel u)) (places_from is_root (k + 1) (drop (k + 1) units))
+positions_cut t sel k units x below at =
+    let f = λ (u : ℕ). invs_of t (root_mode t sel u) in
+    ap (λ (xs : List Module). flat_map f (places_from is_root k xs)) (drop-cons units k x below ∙ ap (λ z. z ∷ drop (suc k) units) (sym at))
+    ∙ cut_front f (is_root x) k (places_from is_root (suc k) (drop (suc k) units))
+    ∙ ap (λ n. unit_positions t sel k x ++ flat_map f (places_from is_root n (drop n units))) (sym (add-one k))
+
+-- a root module with some position
+pub root_of_position : (t : Tables) (sel k : ℕ) (x : Module) (p : ℕ) → p < length (unit_positions t sel k x) → unit_positions t sel k x ≡ invs_of t (root_mode t sel k)
+root_of_position t sel k x p h = by_root (is_root x) h
+  where
+    by_root : (b : Bool) → p < length (cond b (invs_of t (root_mode t sel k)) []) → cond b (invs_of t (root_mode t sel k)) [] ≡ invs_of t (root_mode t sel k)
+    by_root true h = refl
+    by_root false h = absurd (omega arith)
+
+pub count_step : (t : Tables) (sel k : ℕ) (units : List Module) (x : Module) (n here whole : ℕ) → k < length units → x ≡ get_or units k x → here ≡ length (unit_positions t sel k x)
+    → n + length (flat_map (λ u. invs_of t (root_mode t sel u)) (places_from is_root k (drop k units))) ≡ whole
+    → n + here + length (flat_map (λ u. invs_of t (root_mode t sel u)) (places_from is_root (k + 1) (drop (k + 1) units))) ≡ whole
+count_step t sel k units x n here whole below at is going =
+    let rest = flat_map (λ (u : ℕ). invs_of t (root_mode t sel u)) (places_from is_root (k + 1) (drop (k + 1) units)) in
+    let cut = ap length (positions_cut t sel k units x below at) in
+    omega (arith, cut, length-append (unit_positions t sel k x) rest)
+
+pub position_step : (t : Tables) (sel k : ℕ) (units : List Module) (x : Module) (left here whole : ℕ) → k < length units → x ≡ get_or units k x → here ≡ length (unit_positions t sel k x) → here ≤ left
+    → get_or (flat_map (λ u. invs_of t (root_mode t sel u)) (places_from is_root k (drop k units))) left 0 ≡ whole
+    → get_or (flat_map (λ u. invs_of t (root_mode t sel u)) (places_from is_root (k + 1) (drop (k + 1) units))) (left - here) 0 ≡ whole
+position_step t sel k units x left here whole below at is past going =
+    let rest = flat_map (λ (u : ℕ). invs_of t (root_mode t sel u)) (places_from is_root (k + 1) (drop (k + 1) units)) in
+    ap (λ n. get_or rest (left - n) 0) is
+    ∙ sym (get_or-append_right (unit_positions t sel k x) rest left 0 (omega arith))
+    ∙ ap (λ xs. get_or xs left 0) (sym (positions_cut t sel k units x below at)) ∙ going
+
+-- ---- the first root module
+
+pub places_below : {A : Type 0} (test : A → Bool) (k j p : ℕ) (xs : List A) → slice_get (places_from test k xs) j ≡ Some p → p < k + length xs
+places_below test k j p [] e = cc
+places_below test k j p (x ∷ xs) e = by_test (test x) j (λ i f. places_below test (suc k) i p xs f) e
+  where
+    by_test : (b : Bool) (j : ℕ) → ((i : ℕ) → slice_get (places_from test (suc k) xs) i ≡ Some p → p < suc k + length xs)
+        → slice_get (cond b (k ∷ places_from test (suc k) xs) (places_from test (suc k) xs)) j ≡ Some p → p < k + length (x ∷ xs)
+    by_test true zero later f = let same : k ≡ p = cc in omega arith
+    by_test true (suc i) later f = let r : p < suc k + length xs = later i f in omega arith
+    by_test false i later f = let r : p < suc k + length xs = later i f in omega arith
+
+root_without_parent : (t : Tables) (parent : Option ℕ) (x : Module) → x.parent ≡ parent → IfSome parent (IsModeThat t (λ owner. owner < 0)) → is_root x ≡ true
+root_without_parent t None x e h = ap (λ (p : Option ℕ). elim p [ Some q ↦ false | None ↦ true ]) e
+root_without_parent t (Some p) x e h = absurd (omega (arith, h.2))
+
+-- the first module is a root module
+pub no_modules : (t : Tables) (units : List Module) → AreInRange t → units ≡ t.modules → slice_get (places_from is_root 0 units) 0 ≡ None → length units ≡ 0
+no_modules t [] r e f = refl
+no_modules t (x ∷ xs) r e f =
+    let range = r.modules 0 x (sym (ap (λ us. slice_get us 0) e)) in
+    let root : is_root x ≡ true = root_without_parent t x.parent x refl range.parent in
+    let first : slice_get (cond (is_root x) (0 ∷ places_from is_root 1 xs) (places_from is_root 1 xs)) 0 ≡ Some 0 = ap (λ (b : Bool). slice_get (cond b (0 ∷ places_from is_root 1 xs) (places_from is_root 1 xs)) 0) root in
+    cc (first, f)
+
+module _ (t : Tables) (u p : ℕ) where
+  by_modes : (modes : List ℕ) → 0 < length modes → p ≡ mode_period t (get_or modes 0 0) → Some p ≡ elim modes [ [] ↦ None | m ∷ ms ↦ Some (mode_period t m) ]
+  by_modes [] h e = absurd (omega arith)
+  by_modes (m ∷ ms) h e = ap Some e
+
+  by_roots : (roots : List ℕ) → slice_get roots 0 ≡ Some u → 0 < length (modes_of t u) → p ≡ mode_period t (get_or (modes_of t u) 0 0)
+      → Some p ≡ elim roots [ [] ↦ None | v ∷ us ↦ elim (modes_of t v) [ [] ↦ None | m ∷ ms ↦ Some (mode_period t m) ] ]
+  by_roots [] e some is = cc
+  by_roots (v ∷ us) e some is =
+      let same : u ≡ v = cc in
+      by_modes (modes_of t v) (subst (λ n. 0 < length (modes_of t n)) same some) (subst (λ n. p ≡ mode_period t (get_or (modes_of t n) 0 0)) same is)
+
+  pub root_period_is : AreInRange t → slice_get (root_modules t) 0 ≡ Some u → p ≡ mode_period t (get_or (modes_of t u) 0 0) → Some p ≡ root_period t
+  root_period_is r e is = let below : u < 0 + length t.modules = places_below is_root 0 0 u t.modules e in
+      by_roots (root_modules t) e (modes_some t u r (omega arith)) is
+
+-- ---- functions
+
+pub count_grows : (m n : ℕ) (ts : List Task) → m ≤ n → count_before m ts ≤ count_before n ts
+count_grows m zero ts h = let same : m ≡ 0 = omega arith in omega (arith, ap (λ k. count_before k ts) same)
+count_grows m (suc n) ts h = elim (either n m) [
+  | inl a ↦ let same : m ≡ suc n = omega arith in omega (arith, ap (λ k. count_before k ts) same)
+  | inr a ↦ let less : count_before m ts ≤ count_before n ts = count_grows m n ts a in omega arith
+]
+
+-- the function of an output is one of the tables
+pub output_within : (t : Tables) (task output : ℕ) → AreInRange t → task < length t.tasks → IfSome (slice_get t.tasks task) (λ k. output < function_count k) → count_before task t.tasks + output < length t.functions
+output_within t task output r h below = elim (slice_get_cases t.tasks task).1 [
+  | inl c ↦
+      let less : output < function_count c.0 = subst (λ o. IfSome o (λ k. output < function_count k)) c.2 below in
+      let next : count_before (suc task) t.tasks ≡ count_before task t.tasks + function_count c.0 = ap (λ o. count_before task t.tasks + count_at o) c.2 in
+      omega (arith, count_grows (suc task) (length t.tasks) t.tasks h, r.function_count)
+  | inr c ↦ absurd (omega (arith, c.0))
+]
+
+-- ---- what is found is in range
+
+pub all_places_below : {A : Type 0} (test : A → Bool) (xs : List A) → All (λ p. p < length xs) (places_from test 0 xs)
+all_places_below test xs =
+    All-from_get_or (λ p. p < length xs) (places_from test 0 xs) 0
+    (λ i h. let below : get_or (places_from test 0 xs) i 0 < 0 + length xs = places_below test 0 i (get_or (places_from test 0 xs) i 0) xs (slice_get-get_or (places_from test 0 xs) i 0 h) in omega arith)
+
+all_flat_map : (n : ℕ) (f : ℕ → List ℕ) → ((u : ℕ) → All (λ p. p < n) (f u)) → (us : List ℕ) → All (λ p. p < n) (flat_map f us)
+all_flat_map n f each [] = λ i d h. absurd (omega arith)
+all_flat_map n f each (u ∷ us) = All-append (λ p. p < n) (f u) (flat_map f us) (each u) (all_flat_map n f each us)
+
+pub root_mode_below : (t : Tables) (sel u : ℕ) → AreInRange t → u < length t.modules → root_mode t sel u < length t.modes
+root_mode_below t sel u r h =
+    let some : 0 < length (modes_of t u) = modes_some t u r h in
+    let place = sel / choices_from t (u + 1) (drop (u + 1) t.modules) % length (modes_of t u) in
+    let within : place < length (modes_of t u) = omega arith in
+    All-get_or (λ p. p < length t.modes) (modes_of t u) place 0 within (all_places_below (mode_of_unit u) t.modes)
+
+pub position_below : (t : Tables) (sel p : ℕ) → p < length (positions t sel) → get_or (positions t sel) p 0 < length t.invs
+position_below t sel p h =
+    All-get_or (λ k. k < length t.invs) (positions t sel) p 0 h
+    (all_flat_map (length t.invs) (λ u. invs_of t (root_mode t sel u)) (λ u. all_places_below (inv_of_mode (root_mode t sel u)) t.invs) (root_modules t))

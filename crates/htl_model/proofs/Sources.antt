@@ -1,0 +1,148 @@
+-- The worked examples as tables.
+use Rattle.std.specs.Prelude.{ℕ, Bool, true, false, List, [], ◌∷◌, Option, Some, None, ℤ, pos, codes}
+use Rattle.htl_base.specs.declared.Ty.{Ty}
+use Rattle.htl_base.specs.declared.Ty.TheVariants.{Int as IntTy, Bool as BoolTy}
+use Rattle.htl_base.specs.declared.operator.UnOp.TheVariants.{Not}
+use Rattle.htl_base.specs.declared.operator.BinOp.TheVariants.{Add, Mul, Ge}
+use Rattle.htl_model.specs.declared.parts.Comm.{Comm}
+use Rattle.htl_model.specs.declared.parts.Mode.{Mode}
+use Rattle.htl_model.specs.declared.parts.Module.{Module}
+use Rattle.htl_model.specs.declared.parts.Task.{Task}
+use Rattle.htl_model.specs.declared.parts.Inv.{Inv}
+use Rattle.htl_model.specs.declared.parts.Switch.{Switch}
+use Rattle.htl_model.specs.declared.parts.End.{End}
+use Rattle.htl_model.specs.declared.parts.End.TheVariants as E
+use Rattle.htl_model.specs.Functions.{Term, Number, Arg, Unary, Binary}
+use Rattle.htl_model.specs.Tables.{Tables, Fun, Formula}
+
+abbrev pub plain : List ℕ → ℕ → ℤ → Comm
+plain n p x = record { name = n; ty = IntTy; sensor = false; period = p; init = x }
+
+abbrev pub sensor : List ℕ → Ty → ℕ → Comm
+sensor n t p = record { name = n; ty = t; sensor = true; period = p; init = pos 0 }
+
+abbrev pub mode : List ℕ → ℕ → ℕ → Mode
+mode n m p = record { name = n; «module» = m; period = p }
+
+abbrev pub unit : List ℕ → Option ℕ → ℕ → Module
+unit n parent s = record { name = n; parent = parent; start = s }
+
+abbrev pub task : List ℕ → ℕ → Bool → ℕ → List Ty → Task
+task n m a w ins = record { name = n; «module» = m; is_abstract = a; worst = w; inputs = ins; outputs = IntTy ∷ [] }
+
+abbrev pub call : ℕ → ℕ → Option ℕ → List End → List End → Inv
+call m k parent reads writes = record { mode = m; task = k; parent = parent; reads = reads; writes = writes }
+
+abbrev pub switch : ℕ → ℕ → ℕ → Switch
+switch m to c = record { mode = m; target = to; reads = c ∷ [] }
+
+abbrev pub formula : Term → Fun
+formula e = Formula 0 e
+
+abbrev pub int_one : List Ty
+int_one = IntTy ∷ []
+
+-- one sensor, one communicator, one module of an empty mode
+abbrev pub empty_mode : Tables
+empty_mode =
+    record {
+      comms = sensor (codes "s") IntTy 10 ∷ plain (codes "u") 10 (pos 7) ∷ [];
+      modes = mode (codes "m") 0 20 ∷ [];
+      modules = unit (codes "M") None 0 ∷ [];
+      ports = [];
+      tasks = [];
+      invs = [];
+      switches = [];
+      functions = [];
+    }
+
+abbrev pub source_a : Tables
+source_a =
+    record {
+      comms = sensor (codes "s") IntTy 10 ∷ plain (codes "u") 10 (pos 7) ∷ [];
+      modes = mode (codes "m") 0 20 ∷ [];
+      modules = unit (codes "M") None 0 ∷ [];
+      ports = [];
+      tasks = task (codes "dbl") 0 false 4 int_one ∷ [];
+      invs = call 0 0 None (E.Comm 0 0 ∷ []) (E.Comm 1 1 ∷ []) ∷ [];
+      switches = [];
+      functions = formula (Binary 0 Mul (Arg 0 0) (Number 0 (pos 2))) ∷ [];
+    }
+
+abbrev pub source_b : Tables
+source_b =
+    record {
+      comms = plain (codes "x") 2 (pos 1) ∷ plain (codes "y") 2 (pos 0) ∷ plain (codes "z") 10 (pos 0) ∷ [];
+      modes = mode (codes "m") 0 10 ∷ [];
+      modules = unit (codes "M") None 0 ∷ [];
+      ports = [];
+      tasks = task (codes "a") 0 false 7 int_one ∷ task (codes "b") 0 false 3 int_one ∷ [];
+      invs = call 0 0 None (E.Comm 0 0 ∷ []) (E.Comm 2 1 ∷ []) ∷ call 0 1 None (E.Comm 0 1 ∷ []) (E.Comm 1 3 ∷ []) ∷ [];
+      switches = [];
+      functions = formula (Binary 0 Add (Arg 0 0) (Number 0 (pos 1))) ∷ formula (Binary 0 Mul (Arg 0 0) (Number 0 (pos 5))) ∷ [];
+    }
+
+-- an invocation reads a port that another writes
+abbrev pub ports : Tables
+ports =
+    record {
+      comms = plain (codes "x") 10 (pos 2) ∷ plain (codes "u") 10 (pos 0) ∷ [];
+      modes = mode (codes "m") 0 10 ∷ [];
+      modules = unit (codes "M") None 0 ∷ [];
+      ports = record { name = []; mode = 0; ty = IntTy } ∷ [];
+      tasks = task (codes "p") 0 false 3 int_one ∷ task (codes "q") 0 false 4 int_one ∷ [];
+      invs = call 0 1 None (E.Port 0 ∷ []) (E.Comm 1 1 ∷ []) ∷ call 0 0 None (E.Comm 0 0 ∷ []) (E.Port 0 ∷ []) ∷ [];
+      switches = [];
+      functions = formula (Binary 0 Add (Arg 0 0) (Number 0 (pos 5))) ∷ formula (Binary 0 Mul (Arg 0 0) (Number 0 (pos 2))) ∷ [];
+    }
+
+abbrev pub source_c : Tables
+source_c =
+    record {
+      comms = plain (codes "u") 10 (pos 3) ∷ plain (codes "w") 10 (pos 0) ∷ sensor (codes "g") BoolTy 10 ∷ [];
+      modes = mode (codes "m") 0 10 ∷ mode (codes "off") 1 10 ∷ mode (codes "on") 1 10 ∷ [];
+      modules = unit (codes "M") None 0 ∷ unit (codes "N") (Some 0) 1 ∷ [];
+      ports = [];
+      tasks = task (codes "plan") 0 true 4 int_one ∷ task (codes "fix") 0 false 2 int_one ∷ task (codes "fast") 1 false 3 int_one ∷ [];
+      invs = call 0 0 None (E.Comm 1 0 ∷ []) (E.Comm 0 1 ∷ [])
+          ∷ call 0 1 None (E.Comm 1 0 ∷ []) (E.Comm 1 1 ∷ [])
+          ∷ call 2 2 (Some 0) (E.Comm 1 0 ∷ []) (E.Comm 0 1 ∷ []) ∷ [];
+      switches = switch 1 2 2 ∷ switch 2 1 2 ∷ [];
+      functions = formula (Binary 0 Add (Arg 0 0) (Number 0 (pos 1)))
+          ∷ formula (Binary 0 Mul (Arg 0 0) (Number 0 (pos 10)))
+          ∷ formula (Arg 0 0) ∷ formula (Unary 0 Not (Arg 0 0)) ∷ [];
+    }
+
+-- g sensor, u; M.m (0), M.rest (1); N.one (2), N.two (3); the root's switch in m goes to `to`
+abbrev pub source_d : ℕ → Tables
+source_d to =
+    record {
+      comms = sensor (codes "g") BoolTy 10 ∷ plain (codes "u") 10 (pos 0) ∷ [];
+      modes = mode (codes "m") 0 10 ∷ mode (codes "rest") 0 10 ∷ mode (codes "one") 1 10 ∷ mode (codes "two") 1 10 ∷ [];
+      modules = unit (codes "M") None 0 ∷ unit (codes "N") (Some 0) 2 ∷ [];
+      ports = [];
+      tasks = task (codes "plan") 0 true 4 [] ∷ task (codes "f") 1 false 3 int_one ∷ task (codes "h") 1 false 4 int_one ∷ [];
+      invs = call 0 0 None [] (E.Comm 1 1 ∷ [])
+          ∷ call 2 1 (Some 0) (E.Comm 1 0 ∷ []) (E.Comm 1 1 ∷ [])
+          ∷ call 3 2 (Some 0) (E.Comm 1 0 ∷ []) (E.Comm 1 1 ∷ []) ∷ [];
+      switches = switch 0 to 0 ∷ switch 1 0 0 ∷ switch 2 3 1 ∷ [];
+      functions = formula (Binary 0 Add (Arg 0 0) (Number 0 (pos 1)))
+          ∷ formula (Binary 0 Add (Arg 0 0) (Number 0 (pos 100)))
+          ∷ formula (Arg 0 0) ∷ formula (Unary 0 Not (Arg 0 0))
+          ∷ formula (Binary 0 Ge (Arg 0 0) (Number 0 (pos 1))) ∷ [];
+    }
+
+abbrev pub source_e : Tables
+source_e =
+    record {
+      comms = sensor (codes "g") BoolTy 10 ∷ plain (codes "u") 10 (pos 0) ∷ [];
+      modes = mode (codes "one") 0 10 ∷ mode (codes "two") 0 10 ∷ [];
+      modules = unit (codes "M") None 0 ∷ [];
+      ports = [];
+      tasks = task (codes "f") 0 false 3 int_one ∷ task (codes "h") 0 false 4 int_one ∷ [];
+      invs = call 0 0 None (E.Comm 1 0 ∷ []) (E.Comm 1 1 ∷ []) ∷ call 1 1 None (E.Comm 1 0 ∷ []) (E.Comm 1 1 ∷ []) ∷ [];
+      switches = switch 0 1 0 ∷ switch 1 0 0 ∷ [];
+      functions = formula (Binary 0 Add (Arg 0 0) (Number 0 (pos 1)))
+          ∷ formula (Binary 0 Add (Arg 0 0) (Number 0 (pos 100)))
+          ∷ formula (Arg 0 0) ∷ formula (Unary 0 Not (Arg 0 0)) ∷ [];
+    }

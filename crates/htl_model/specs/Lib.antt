@@ -1,0 +1,12 @@
+pub mod Functions
+pub mod Lines
+pub mod Lists
+pub mod Meaning
+pub mod Plain
+pub mod Ranges
+pub mod Selections
+pub mod Slow
+pub mod Tables
+pub mod TablesCode
+pub mod TermCode
+pub mod Windows

@@ -1,0 +1,95 @@
+// What the tables say of single items.
+ghost use Rattle.std.specs.Prelude.{◌≡◌, ◌<◌, ◌≤◌, ◌-◌, ◌^◌, length, get_or, slice_get, min, IfSome, MatchOption};
+ghost use Rattle.htl_model.specs.Selections.{selection_count, root_mode as root_mode_of, positions as positions_of, root_period as root_period_of};
+ghost use Rattle.htl_model.specs.Tables.{release as release_of, window_end as window_end_of, function_count, output_function as output_function_of, switch_function as switch_function_of};
+
+use crate::lookup::functions_before;
+use crate::selections::{choices, first_root, position_at, position_count, root_mode, root_period};
+use crate::window::{release, window_end};
+use crate::{Tables, Window};
+use htl_base::Time;
+
+impl Tables {
+    /// The window of an invocation, which is in range.
+    pub fn window(&self, inv: u16) -> Window
+        requires { inv < length self.now.invs }
+        ensures release { IfSome (slice_get self.now.invs inv) (λ i. result.release ≡ release_of self.now i) }
+        ensures end { IfSome (slice_get self.now.invs inv) (λ i. result.end ≡ window_end_of self.now i) }
+    {
+        let inv = &self.parts().invs.as_slice()[inv as usize];
+        Window {
+            release: release(self, inv),
+            end: window_end(self, inv),
+        }
+    }
+
+    /// The period of the first root module's first mode, in ticks; None exactly where there is no module.
+    pub fn period(&self) -> Option<Time>
+        ensures value { result ≡ root_period_of self.now }
+        ensures none { MatchOption result (length self.now.modules ≡ 0) (λ p. 0 < length self.now.modules) }
+    {
+        let _parts = self.parts();
+        root_period(self)
+    }
+
+    /// How many root selections there are, capped at 4,294,967,295.
+    pub fn selections(&self) -> u32
+        ensures { result ≡ min (selection_count self.now) (2 ^ 32 - 1) }
+    {
+        let _parts = self.parts();
+        match first_root(self) {
+            Some(_) => choices(self, 0).min(u32::MAX as u64) as u32,
+            None => 0,
+        }
+    }
+
+    /// The mode of a root module in a selection, where the first root module is the most significant place. Both are in
+    /// range: the selection is below the number of selections, and the module is a root module.
+    pub fn root_mode(&self, selection: u32, module: u16) -> u16
+        requires { «module» < length self.now.modules }
+        ensures value { result ≡ root_mode_of self.now selection «module» }
+        ensures within { result < length self.now.modes }
+    {
+        let _parts = self.parts();
+        root_mode(self, selection, module)
+    }
+
+    /// How many positions a selection has, which is below the number of selections.
+    pub fn positions(&self, selection: u32) -> usize
+        ensures { result ≡ length (positions_of self.now selection) }
+    {
+        let _parts = self.parts();
+        position_count(self, selection)
+    }
+
+    /// The root invocation at position `p` of a selection, both in range: in the order of modules, then of the source.
+    pub fn position(&self, selection: u32, p: usize) -> u16
+        requires { p < length (positions_of self.now selection) }
+        ensures value { result ≡ get_or (positions_of self.now selection) p 0 }
+        ensures within { result < length self.now.invs }
+    {
+        let _parts = self.parts();
+        position_at(self, selection, p)
+    }
+
+    /// The number of the function of an output of a concrete task; both are in range.
+    pub fn output_function(&self, task: u16, output: u16) -> u32
+        requires task { task < length self.now.tasks }
+        requires output { IfSome (slice_get self.now.tasks task) (λ k. output < function_count k) }
+        ensures value { result ≡ output_function_of self.now task output }
+        ensures within { result < length self.now.functions }
+    {
+        let tasks = self.parts().tasks.as_slice();
+        functions_before(tasks, task as usize) + output as u32
+    }
+
+    /// The number of the function of a switch, which is in range.
+    pub fn switch_function(&self, switch: u16) -> u32
+        requires { switch < length self.now.switches }
+        ensures value { result ≡ switch_function_of self.now switch }
+        ensures within { result < length self.now.functions }
+    {
+        let tasks = self.parts().tasks.as_slice();
+        functions_before(tasks, tasks.len()) + switch as u32
+    }
+}

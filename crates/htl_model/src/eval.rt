@@ -1,0 +1,69 @@
+// The values of expressions.
+ghost use Rattle.std.specs.Prelude.{◌≡◌};
+ghost use Rattle.htl_model.specs.Functions.{value, term_of, combine as combined, negate as negated, of_test};
+
+use crate::Expr;
+use htl_base::{BinOp, UnOp};
+
+fn flag(b: bool) -> i64
+    ensures { result ≡ of_test b }
+{
+    if b { 1 } else { 0 }
+}
+
+/// The value of an operator on one value.
+fn negate(op: UnOp, x: i64) -> i64
+    ensures { result ≡ negated op x }
+{
+    match op {
+        UnOp::Neg => x.wrapping_neg(),
+        UnOp::Not => flag(x == 0),
+    }
+}
+
+/// The value of an operator on two values.
+fn combine(op: BinOp, x: i64, y: i64) -> i64
+    ensures { result ≡ combined op x y }
+{
+    match op {
+        BinOp::Add => x.wrapping_add(y),
+        BinOp::Sub => x.wrapping_sub(y),
+        BinOp::Mul => x.wrapping_mul(y),
+        BinOp::Div => if y == 0 { 0 } else { x.wrapping_div(y) },
+        BinOp::Rem => if y == 0 { 0 } else { x.wrapping_rem(y) },
+        BinOp::Lt => flag(x < y),
+        BinOp::Le => flag(x <= y),
+        BinOp::Gt => flag(x > y),
+        BinOp::Ge => flag(x >= y),
+        BinOp::Eq => flag(x == y),
+        BinOp::Ne => flag(x != y),
+        BinOp::And => if x == 0 { 0 } else { y },
+        BinOp::Or => if x == 0 { y } else { 1 },
+    }
+}
+
+/// The value of an expression.
+pub fn eval_expr(e: &Expr, args: &[i64]) -> i64
+    ensures { result ≡ value args.now (term_of e.now) }
+{
+    match e {
+        Expr::Int { x, .. } => *x,
+        Expr::Bool { x, .. } => flag(*x),
+        Expr::Arg { k, .. } => {
+            let k = *k as usize;
+            if k < args.len() { args[k] } else { 0 }
+        }
+        Expr::Unary { op, e, .. } => negate(*op, eval_expr(e, args)),
+        Expr::Binary { op, l, r, .. } => {
+            let x = eval_expr(l, args);
+            let y = eval_expr(r, args);
+            combine(*op, x, y)
+        }
+        Expr::Choose { c, a, b, .. } => {
+            let x = eval_expr(c, args);
+            let y = eval_expr(a, args);
+            let z = eval_expr(b, args);
+            if x == 0 { z } else { y }
+        }
+    }
+}

@@ -1,0 +1,27 @@
+//! The tables of a program and what they mean: windows, functions, and the values and modes of logical
+//! execution time.
+#![tactic(auto)]
+
+mod accessors;
+mod eval;
+mod event;
+mod form_fault;
+mod function;
+mod line;
+pub mod lookup;
+mod parts;
+pub mod selections;
+mod sensor;
+pub mod slow;
+mod state;
+mod tables;
+pub mod window;
+
+pub use event::Event;
+pub use form_fault::FormFault;
+pub use function::{Code, Expr, FInstr, Function};
+pub use line::Line;
+pub use parts::{Comm, End, Inv, Mode, Module, Parts, Port, Switch, Task};
+pub use state::{State, Stay, Write};
+pub use tables::Tables;
+pub use window::Window;
