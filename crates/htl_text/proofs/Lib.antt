@@ -1,0 +1,11 @@
+pub mod Cutting
+pub mod FirstFault
+pub mod Found
+pub mod Lengths
+pub mod Numbers
+pub mod OneCut
+pub mod Reprinted
+mod Rows
+pub mod Skipping
+pub mod Spellable
+pub mod Writing

@@ -1,0 +1,7 @@
+use Rattle.std.proofs.Common.{take}
+use Rattle.htl_text.specs.PrintedBytes.{Adds}
+use Rattle.htl_text.specs.PrintedTokens.{after_commas}
+use Rattle.htl_text.proofs.printer.after_commas.Given as goal
+
+abbrev pub invariant-loop-item : goal.invariant-loop-item
+invariant-loop-item g l = Adds (after_commas g.T.Print.tokens (take l.item-index l.items)) l.fn.out l.out

@@ -1,0 +1,7 @@
+use Rattle.std.proofs.Common.{take}
+use Rattle.htl_text.specs.PrintedBytes.{Adds}
+use Rattle.htl_text.specs.PrintedTokens.{each}
+use Rattle.htl_text.proofs.printer.each.Given as goal
+
+abbrev pub invariant-loop-item : goal.invariant-loop-item
+invariant-loop-item g l = Adds (each g.T.Print.tokens (take l.item-index l.items)) l.fn.out l.out

@@ -1,0 +1,13 @@
+pub mod Answers
+pub mod Expressions
+pub mod Grammar
+pub mod Laws
+pub mod Nodes
+pub mod Placed
+pub mod PrintedBytes
+pub mod PrintedTokens
+pub mod Scanning
+pub mod Spans
+pub mod Statements
+pub mod Texts
+pub mod TokenLists

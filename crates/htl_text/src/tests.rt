@@ -1,0 +1,122 @@
+// Texts at the edges of the rules, and a printed program.
+use crate::{
+    CommNode, ConstNode, Id, LexFault, Num, ProgramNode, Sign, Token, Tree, Word, lex, print,
+};
+use htl_base::{Name, Seq, Ty, Value};
+use std::test::Fail;
+
+#[test]
+fn tokens_have_their_places(rt: HostRuntime) -> Result<(), Fail> {
+    let text = b"if x1 // y\r\n\t<=007//";
+    let tokens = lex(rt.alloc(), text).expect(&rt, "tokens");
+    assert_eq!(rt; tokens.len(), 4);
+    assert!(rt; tokens.token(0) == Token::Word(Word::If));
+    assert!(rt; tokens.token(1) == Token::Ident(Name::new(b"x1").expect(&rt, "a name")));
+    assert!(rt; tokens.token(2) == Token::Sign(Sign::LessEqual));
+    assert!(rt; tokens.token(3) == Token::Number(7));
+    let offsets = [0, 3, 13, 15, 20];
+    for token in 0..5usize {
+        assert_eq!(rt; tokens.offset(token), offsets[token]);
+    }
+    assert_eq!(rt; tokens.as_slice().len(), 4);
+    Ok(())
+}
+
+// The kind of a token: 0 name, 1 number, 2 word, 3 sign.
+fn kind(token: Token) -> u8 {
+    match token {
+        Token::Ident(_) => 0,
+        Token::Number(_) => 1,
+        Token::Word(_) => 2,
+        Token::Sign(_) => 3,
+    }
+}
+
+#[test]
+fn texts_have_these_tokens(rt: HostRuntime) -> Result<(), Fail> {
+    let table: [(&[u8], &[u8]); 12] = [
+        (b"", &[]),
+        (b"//", &[]),
+        (b" \t\r\n// a\n", &[]),
+        (b"{}();,= == != < <= > >=+-*/%!&&||", &[3; 21]),
+        (b"a//b\nc", &[0, 0]),
+        (b"a/ /b", &[0, 3, 3, 0]),
+        (b"===", &[3, 3]),
+        (b"!==", &[3, 3]),
+        (b"programs program _ int0 int", &[0, 2, 0, 0, 2]),
+        (b"9223372036854775807 000 09", &[1, 1, 1]),
+        (b"12ab if(x", &[1, 0, 2, 3, 0]),
+        (b"aaaaaaaaaaaaaaaaaaaaaaaaaaaaaaaaaaaaaaaaaaaaaaaa", &[0]),
+    ];
+    for (text, kinds) in table {
+        let tokens = lex(rt.alloc(), text).expect(&rt, "tokens");
+        assert_eq!(rt; tokens.len(), kinds.len());
+        for (token, wanted) in tokens.as_slice().iter().zip(kinds) {
+            assert_eq!(rt; kind(*token), *wanted);
+        }
+    }
+    Ok(())
+}
+
+#[test]
+fn texts_have_these_faults(rt: HostRuntime) -> Result<(), Fail> {
+    let table: [(&[u8], LexFault); 9] = [
+        (b"program P { #", LexFault::Char { offset: 12 }),
+        (b"a & b", LexFault::Char { offset: 2 }),
+        (b"a && | b", LexFault::Char { offset: 5 }),
+        (b"// \xc3\xa4\n \xc3", LexFault::Char { offset: 7 }),
+        (b"x 9223372036854775808", LexFault::Number { offset: 2 }),
+        (b"0009223372036854775808#", LexFault::Number { offset: 0 }),
+        (b"# 9223372036854775808", LexFault::Char { offset: 0 }),
+        (
+            b" aaaaaaaaaaaaaaaaaaaaaaaaaaaaaaaaaaaaaaaaaaaaaaaaa",
+            LexFault::NameLong { offset: 1 },
+        ),
+        (b"a$b", LexFault::Char { offset: 1 }),
+    ];
+    for (text, wanted) in table {
+        match lex(rt.alloc(), text) {
+            Ok(_) => assert!(rt; false),
+            Err(fault) => assert_eq!(rt; fault, wanted),
+        }
+    }
+    Ok(())
+}
+
+fn id(name: &[u8]) -> Option<Id> {
+    let name = Name::new(name)?;
+    Some(Id { name, token: 0 })
+}
+
+fn num(x: Value) -> Num {
+    Num { x, token: 0 }
+}
+
+#[test]
+fn a_program_is_printed(rt: HostRuntime) -> Result<(), Fail> {
+    let comm = CommNode {
+        sensor: false,
+        ty: Ty::Int,
+        name: id(b"u").expect(&rt, "a name"),
+        period: num(10),
+        init: ConstNode::Int {
+            token: 0,
+            minus: false,
+            x: 7,
+        },
+    };
+    let program = ProgramNode {
+        name: id(b"P").expect(&rt, "a name"),
+        comms: Seq::new(vec![in rt.alloc(); comm]?),
+        modules: Seq::new(Vec::new(rt.alloc())),
+    };
+    let tree = Tree {
+        programs: Seq::new(vec![in rt.alloc(); program]?),
+    };
+    let printed = print(rt.alloc(), &tree).expect(&rt, "memory");
+    assert_eq!(rt;
+        printed.as_slice(),
+        b"program P {\ncommunicator int u period 10 init 7 ;\n}\n".as_slice()
+    );
+    Ok(())
+}
