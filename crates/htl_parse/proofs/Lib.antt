@@ -1,0 +1,17 @@
+pub mod Basics
+pub mod Coding
+pub mod Complete
+pub mod Descent
+pub mod Fixed
+pub mod Items
+pub mod Listing
+pub mod LongRuns
+pub mod Parts
+pub mod Repeating
+pub mod Repeats
+pub mod Reparsing
+pub mod Sound
+pub mod Sources
+pub mod Standing
+pub mod Statements
+pub mod Whole

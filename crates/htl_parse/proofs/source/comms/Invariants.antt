@@ -1,0 +1,11 @@
+use Rattle.std.proofs.Common.{length}
+use Rattle.htl_parse.specs.ReadingLists.{repeated_at}
+use Rattle.htl_parse.specs.ReadingStatements.{begins_comm, comm_at}
+use Rattle.htl_parse.proofs.Repeats.{IsRepeating}
+use Rattle.htl_parse.proofs.source.comms.Given as goal
+
+abbrev pub invariant-loop-cursor : goal.invariant-loop-cursor
+invariant-loop-cursor l = IsRepeating begins_comm comm_at (repeated_at begins_comm comm_at l.fn.cursor) l.cursor l.found.items
+
+abbrev pub decreases-loop-cursor : goal.decreases-loop-cursor
+decreases-loop-cursor l = length l.cursor

@@ -1,0 +1,18 @@
+use Rattle.std.proofs.Common.{map, sym, ◌∙◌}
+use Rattle.std.proofs.lemmas.List.{map-append}
+use Rattle.htl_text.specs.Nodes.{mode_of}
+use Rattle.htl_parse.specs.ReadingLists.{repeated_at}
+use Rattle.htl_parse.specs.ReadingStatements.{begins_mode, mode_at}
+use Rattle.htl_parse.proofs.Items.{less-read}
+use Rattle.htl_parse.proofs.Repeats.{repeat-more, mode-item}
+use Rattle.htl_parse.proofs.source.modes.Goals as goal
+
+pub loop-alloc-preserved : goal.loop-alloc-preserved
+loop-alloc-preserved c =
+    let more =
+    repeat-more begins_mode mode_at mode-item (repeated_at begins_mode mode_at c.args.cursor.now) c.loop-alloc.cursor (map mode_of c.loop-alloc.found.items) c.loop-alloc.invariant c.mode.new.cursor (mode_of c.in_ok-next.next)
+    (sym c.begins_mode.ensures ∙ c.loop-alloc-test.true) c.in_ok-next.ensures in
+    rw (c.in_ok-push.ensures.items, map-append) more
+
+pub loop-alloc-smaller : goal.loop-alloc-smaller
+loop-alloc-smaller c = less-read mode_at mode-item.less c.loop-alloc.cursor c.mode.new.cursor (mode_of c.in_ok-next.next) c.in_ok-next.ensures

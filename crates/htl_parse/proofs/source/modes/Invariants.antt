@@ -1,0 +1,12 @@
+use Rattle.std.proofs.Common.{map, length}
+use Rattle.htl_text.specs.Nodes.{mode_of}
+use Rattle.htl_parse.specs.ReadingLists.{repeated_at}
+use Rattle.htl_parse.specs.ReadingStatements.{begins_mode, mode_at}
+use Rattle.htl_parse.proofs.Repeats.{IsRepeating}
+use Rattle.htl_parse.proofs.source.modes.Given as goal
+
+abbrev pub invariant-loop-alloc : goal.invariant-loop-alloc
+invariant-loop-alloc l = IsRepeating begins_mode mode_at (repeated_at begins_mode mode_at l.fn.cursor) l.cursor (map mode_of l.found.items)
+
+abbrev pub decreases-loop-alloc : goal.decreases-loop-alloc
+decreases-loop-alloc l = length l.cursor

@@ -1,0 +1,11 @@
+use Rattle.std.proofs.Common.{map, length}
+use Rattle.htl_text.specs.Nodes.{program_of}
+use Rattle.htl_parse.specs.ReadingStatements.{begins_program, program_at, source_at}
+use Rattle.htl_parse.proofs.Repeats.{IsRepeating}
+use Rattle.htl_parse.proofs.source.source.Given as goal
+
+abbrev pub invariant-loop-alloc : goal.invariant-loop-alloc
+invariant-loop-alloc l = IsRepeating begins_program program_at (source_at l.fn.cursor) l.cursor (map program_of l.found.items)
+
+abbrev pub decreases-loop-alloc : goal.decreases-loop-alloc
+decreases-loop-alloc l = length l.cursor

@@ -1,0 +1,18 @@
+use Rattle.std.proofs.Common.{map, sym, ◌∙◌}
+use Rattle.std.proofs.lemmas.List.{map-append}
+use Rattle.htl_text.specs.Nodes.{task_of}
+use Rattle.htl_parse.specs.ReadingLists.{repeated_at}
+use Rattle.htl_parse.specs.ReadingStatements.{begins_task, task_at}
+use Rattle.htl_parse.proofs.Items.{less-read}
+use Rattle.htl_parse.proofs.Repeats.{repeat-more, task-item}
+use Rattle.htl_parse.proofs.source.tasks.Goals as goal
+
+pub loop-alloc-preserved : goal.loop-alloc-preserved
+loop-alloc-preserved c =
+    let more =
+    repeat-more begins_task task_at task-item (repeated_at begins_task task_at c.args.cursor.now) c.loop-alloc.cursor (map task_of c.loop-alloc.found.items) c.loop-alloc.invariant c.task.new.cursor (task_of c.in_ok-next.next)
+    (sym c.begins_task.ensures ∙ c.loop-alloc-test.true) c.in_ok-next.ensures in
+    rw (c.in_ok-push.ensures.items, map-append) more
+
+pub loop-alloc-smaller : goal.loop-alloc-smaller
+loop-alloc-smaller c = less-read task_at task-item.less c.loop-alloc.cursor c.task.new.cursor (task_of c.in_ok-next.next) c.in_ok-next.ensures

@@ -1,0 +1,41 @@
+-- Laws over all tokens and all trees.
+use Rattle.std.specs.Prelude.{◌≡◌, ◌≤◌, List, [], length}
+use Rattle.htl_text.specs.Laws.{AreSpellable}
+use Rattle.htl_text.specs.Nodes.{PlainProgram}
+use Rattle.htl_text.specs.PrintedBytes.{printed_bytes}
+use Rattle.htl_text.specs.PrintedTokens.{source_tokens}
+use Rattle.htl_text.specs.Spans.{Tokens}
+use Rattle.htl_text.specs.TokenLists.{TokenList}
+use Rattle.htl_parse.specs.Answers.{Spell}
+use Rattle.htl_parse.specs.Bare.{AreAlike}
+use Rattle.htl_parse.specs.Runs.{AreShort}
+use Rattle.htl_text.specs.declared.token.Token.{Token}
+
+-- tokens spell at most one tree
+abbrev pub OneTree : Type 0
+OneTree = (tokens : List Token) (t u : List PlainProgram) → Spell tokens t → Spell tokens u → t ≡ u
+
+-- the tokens of the printed form of a tree with a program spell the tree again, but for the numbers of its tokens
+abbrev pub TokensAgain : Type 0
+TokensAgain = (tree : List PlainProgram) → (tree ≡ [] → ⊥) → (again : List PlainProgram) × AreAlike again tree × Spell (source_tokens tree) again
+
+-- A tree that has a program, names that are such and no negative literal, whose printed form has at most
+-- 1,048,576 bytes and no run of more than 512 tokens.
+pub record IsPrintable (tree : List PlainProgram) : Type 0 where
+  pub some : tree ≡ [] → ⊥
+  pub spellable : AreSpellable (source_tokens tree)
+  pub fits : length (printed_bytes (source_tokens tree)) ≤ 1048576
+  pub short : AreShort (source_tokens tree)
+
+-- such a tree's printed form has tokens; no run of them is long, and they spell the tree again, but for the
+-- numbers of its tokens
+pub record IsParsedAgain (tree : List PlainProgram) : Type 0 where
+  pub tokens : TokenList
+  pub cut : Tokens (printed_bytes (source_tokens tree)) tokens
+  pub short : AreShort tokens.tokens
+  pub again : List PlainProgram
+  pub spelled : Spell tokens.tokens again
+  pub alike : AreAlike again tree
+
+abbrev pub ParsesAgain : Type 0
+ParsesAgain = (tree : List PlainProgram) → IsPrintable tree → IsParsedAgain tree

@@ -1,0 +1,11 @@
+pub mod Answers
+pub mod Bare
+pub mod Codes
+pub mod Cursors
+pub mod Faults
+pub mod Laws
+pub mod Reading
+pub mod ReadingExpressions
+pub mod ReadingLists
+pub mod ReadingStatements
+pub mod Runs

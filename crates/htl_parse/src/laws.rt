@@ -1,0 +1,19 @@
+// What holds of all tokens and all trees. These functions do nothing; their clauses are the laws.
+ghost use Rattle.htl_parse.specs.Laws.{OneTree, TokensAgain, ParsesAgain};
+
+/// Tokens spell at most one tree.
+pub fn one_tree()
+    ensures { OneTree }
+{}
+
+/// The tokens of the printed form of a tree spell it again, but for the numbers of its tokens.
+pub fn tokens_again()
+    ensures { TokensAgain }
+{}
+
+/// The printed form of a tree is lexed and parsed to the tree again, but for the numbers of its tokens, where
+/// it has at most 1,048,576 bytes and no run of more than 512 tokens without `;`, `{` and `}`. The tree has a
+/// program, names that are such, and no negative literal.
+pub fn parses_again()
+    ensures { ParsesAgain }
+{}
