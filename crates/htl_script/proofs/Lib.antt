@@ -1,0 +1,10 @@
+pub mod Answering
+pub mod Digits
+pub mod Fitting
+pub mod Judged
+pub mod Names
+pub mod Places
+pub mod Rows
+pub mod SampleFits
+pub mod Splitting
+pub mod Taking

@@ -1,0 +1,26 @@
+use Rattle.std.proofs.Common.{◌≡◌, ◌∙◌, sym, ap, ℤ, Result, Ok, rules}
+use Rattle.htl_model.specs.declared.event.Event.{Event}
+use Rattle.htl_model.specs.declared.event.Event.TheVariants as event
+use Rattle.htl_script.specs.declared.fault.ScriptKind.{ScriptKind}
+use Rattle.htl_script.specs.Numbers.{signed_of}
+use Rattle.htl_script.specs.Judging.{is_value}
+use Rattle.std.proofs.Common.{Option}
+use Rattle.htl_base.specs.declared.Ty.{Ty}
+use Rattle.htl_script.proofs.Judged.{sense_range, sense_value}
+use Rattle.htl_script.proofs.judge.sense.Goals as goal
+
+pub returns-in_default-value_of : goal.returns-in_default-value_of
+returns-in_default-value_of c =
+    sense_range c.args.t.now c.args.past c.args.name.now (signed_of c.args.digits.now) c.in-Some.minus c.in-Some.size c.in-Some-sensor.comm
+    (sym c.in-Some.is ∙ c.signed.ensures) (sym c.sensor.ensures ∙ c.in-Some-sensor.is)
+    (sym (ap (λ (type : Option Ty). is_value (c.in-Some.minus, c.in-Some.size) type) c.type_of.ensures) ∙ c.in_default-value_of.ensures)
+
+pub returns : goal.returns
+returns c =
+    let event_is : c.sensed.result ≡ event.Sense c.in-Some-sensor.comm c.in-Some-value_of.x = search rules in
+    let told : Event → Result Event ScriptKind = λ e. Ok e in
+    ap told (event_is ∙ ap (λ (x : ℤ). event.Sense c.in-Some-sensor.comm x) c.in-Some-value_of.ensures.1)
+    ∙ sense_value c.args.t.now c.args.past c.args.name.now (signed_of c.args.digits.now) c.in-Some.minus c.in-Some.size c.in-Some-sensor.comm
+    (sym c.in-Some.is ∙ c.signed.ensures) (sym c.sensor.ensures ∙ c.in-Some-sensor.is)
+    (sym (ap (λ (type : Option Ty). is_value (c.in-Some.minus, c.in-Some.size) type) c.type_of.ensures) ∙ c.in-Some-value_of.ensures.0)
+    c.if-is_none.ensures

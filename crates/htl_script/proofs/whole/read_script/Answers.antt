@@ -1,0 +1,79 @@
+use Rattle.std.proofs.Common.{◌+◌, ◌<◌, length, take, ap, arith, refl, length-take-le, Err}
+use Rattle.htl_script.specs.declared.fault.WholeStop.TheVariants as stop
+use Rattle.htl_script.specs.Readers.{Here}
+use Rattle.htl_script.proofs.Answering.{IsReading-start, IsReading-step, answer_read, answer_stop, answer_end, LosesFront-piece}
+use Rattle.htl_script.proofs.Fitting.{grown-events}
+use Rattle.htl_script.proofs.whole.read_script.Goals as goal
+
+pub chunks-init : goal.chunks-init
+chunks-init g c = (
+  IsReading-start c.args.t.now c.new-reader.result (g.R.Source.rest c.args.src.now) c.args.into.now.items c.new-reader.ensures,
+  omega arith,
+  refl,
+  omega (arith, ap (λ (h : Here). h.start + length h.line) c.new-reader.ensures),
+)
+
+pub returns-in_default-clause-script : goal.returns-in_default-clause-script
+returns-in_default-clause-script g c =
+    answer_read (Unit {0}) c.args.t.now c.chunks.reader (g.R.Source.rest c.args.src.now) (g.R.Source.rest c.chunks.src) (g.R.Source.rest c.read.new.self)
+    c.args.into.now.items c.chunks.into.items c.chunks.invariant.0 c.in_default.ensures.bytes
+
+pub returns-in_default-clause-events : goal.returns-in_default-clause-events
+returns-in_default-clause-events g c =
+    grown-events (Unit {0}) c.args.t.now (g.R.Source.rest c.args.src.now) c.args.into.now.items c.chunks.into.items (Err stop.Read)
+    (answer_read (Unit {0}) c.args.t.now c.chunks.reader (g.R.Source.rest c.args.src.now) (g.R.Source.rest c.chunks.src) (g.R.Source.rest c.read.new.self)
+    c.args.into.now.items c.chunks.into.items c.chunks.invariant.0 c.in_default.ensures.bytes)
+
+pub returns-then-count-eq0-clause-script : goal.returns-then-count-eq0-clause-script
+returns-then-count-eq0-clause-script g c =
+    let room : 0 < length c.read.new.buf = omega (arith, c.read.auto.buf, c.chunks.invariant.2) in
+    answer_end (Unit {0}) c.args.t.now c.chunks.reader (g.R.Source.rest c.args.src.now) (g.R.Source.rest c.chunks.src)
+    c.args.into.now.items c.chunks.into.items c.finish.new.into.items c.finish.result c.chunks.invariant.0
+    (c.in-Ok.ensures.bytes.1 c.if-count-eq0.true room) c.finish.ensures
+
+pub returns-then-count-eq0-clause-events : goal.returns-then-count-eq0-clause-events
+returns-then-count-eq0-clause-events g c =
+    let room : 0 < length c.read.new.buf = omega (arith, c.read.auto.buf, c.chunks.invariant.2) in
+    grown-events (Unit {0}) c.args.t.now (g.R.Source.rest c.args.src.now) c.args.into.now.items c.finish.new.into.items c.finish.result
+    (answer_end (Unit {0}) c.args.t.now c.chunks.reader (g.R.Source.rest c.args.src.now) (g.R.Source.rest c.chunks.src)
+    c.args.into.now.items c.chunks.into.items c.finish.new.into.items c.finish.result c.chunks.invariant.0
+    (c.in-Ok.ensures.bytes.1 c.if-count-eq0.true room) c.finish.ensures)
+
+pub returns-in-Err-clause-script : goal.returns-in-Err-clause-script
+returns-in-Err-clause-script g c =
+    answer_stop (Unit {0}) c.args.t.now c.chunks.reader c.take_all.new.reader (g.R.Source.rest c.args.src.now) (g.R.Source.rest c.chunks.src) (g.R.Source.rest c.read.new.self)
+    c.args.into.now.items c.chunks.into.items c.take_all.new.into.items (take c.in-Ok.count c.read.new.buf) c.in-Err.stop
+    c.chunks.invariant.0 c.in-Ok.ensures.bytes.0 c.in-Err.ensures.events
+
+pub returns-in-Err-clause-events : goal.returns-in-Err-clause-events
+returns-in-Err-clause-events g c =
+    grown-events (Unit {0}) c.args.t.now (g.R.Source.rest c.args.src.now) c.args.into.now.items c.take_all.new.into.items (Err c.in-Err.stop)
+    (answer_stop (Unit {0}) c.args.t.now c.chunks.reader c.take_all.new.reader (g.R.Source.rest c.args.src.now) (g.R.Source.rest c.chunks.src) (g.R.Source.rest c.read.new.self)
+    c.args.into.now.items c.chunks.into.items c.take_all.new.into.items (take c.in-Ok.count c.read.new.buf) c.in-Err.stop
+    c.chunks.invariant.0 c.in-Ok.ensures.bytes.0 c.in-Err.ensures.events)
+
+pub returns-in-Err-clause-left : goal.returns-in-Err-clause-left
+returns-in-Err-clause-left g c =
+    LosesFront-piece c.args.t.now c.chunks.reader (g.R.Source.rest c.args.src.now) (g.R.Source.rest c.chunks.src) (g.R.Source.rest c.read.new.self)
+    c.args.into.now.items c.chunks.into.items (take c.in-Ok.count c.read.new.buf) c.chunks.invariant.0 c.in-Ok.ensures.bytes.0
+
+pub chunks-smaller : goal.chunks-smaller
+chunks-smaller g c =
+    omega (
+      arith,
+      c.chunks.invariant.3,
+      c.in_default-take_all.ensures.count,
+      c.if-count-eq0.false,
+      c.in-Ok.ensures.bound,
+      length-take-le c.in-Ok.count c.read.new.buf c.in-Ok.ensures.bound,
+    )
+
+pub chunks-preserved : goal.chunks-preserved
+chunks-preserved g c = (
+  IsReading-step (Unit {0}) c.args.t.now c.chunks.reader c.take_all.new.reader (g.R.Source.rest c.args.src.now) (g.R.Source.rest c.chunks.src) (g.R.Source.rest c.read.new.self)
+      c.args.into.now.items c.chunks.into.items c.take_all.new.into.items (take c.in-Ok.count c.read.new.buf) tt
+      c.chunks.invariant.0 c.in-Ok.ensures.bytes.0 c.in_default-take_all.ensures.events,
+  omega (arith, c.chunks.invariant.1, c.in-Ok.ensures.cause.later),
+  omega (arith, c.read.auto.buf, c.chunks.invariant.2),
+  c.in_default-take_all.ensures.bound c.chunks.invariant.3,
+)

@@ -1,0 +1,9 @@
+pub mod Events
+pub mod Judging
+pub mod Lines
+pub mod Numbers
+pub mod Readers
+pub mod Reading
+pub mod Samples
+pub mod Script
+pub mod Statements

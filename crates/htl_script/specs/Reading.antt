@@ -1,0 +1,75 @@
+-- A script that is read in parts: what is still to come of it.
+use Rattle.std.specs.Prelude.{ℕ, min, ◌+◌, ◌-◌, ◌*◌, ◌^◌, ◌≡◌, List, [], ◌∷◌, ◌++◌, Option, Some, None, Ok, Err, IfSome, ◌≤◌}
+use Rattle.std.specs.declared.result.Result.{Result}
+use Rattle.std.specs.Io.KnownBytes.{prepend_known}
+use Rattle.htl_edge.specs.Causes.{Rose}
+use Rattle.htl_model.specs.declared.event.Event.{Event}
+use Rattle.htl_model.specs.Tables.{Tables}
+use Rattle.htl_script.specs.declared.fault.ScriptKind.{ScriptKind}
+use Rattle.htl_script.specs.declared.fault.ScriptKind.TheVariants as kind
+use Rattle.htl_script.specs.declared.fault.WholeStop.{WholeStop}
+use Rattle.htl_script.specs.declared.fault.WholeStop.TheVariants as stop
+use Rattle.htl_script.specs.Lines.{Line, size_of}
+use Rattle.htl_script.specs.Judging.{noted, judged}
+use Rattle.htl_script.specs.declared.judge.Past.{Past}
+use Rattle.htl_script.specs.Script.{Script, Whole, Bad, events_of, listed}
+
+-- a number and one more digit, where the number stands still at the end of 64 bits
+abbrev pub with_digit_capped : ℕ → ℕ → ℕ
+with_digit_capped n digit = min (min (n * 10) (2 ^ 64 - 1) + (digit - 48)) (2 ^ 64 - 1)
+
+-- a script with more events before its own
+abbrev pub behind : List Event → Script → Script
+behind events (Whole later end) = Whole (events ++ later) end
+behind events (Bad line kind later) = Bad line kind (events ++ later)
+
+abbrev pub noted_if : Past → Option Event → Past
+noted_if past None = past
+noted_if past (Some e) = noted past e
+
+-- the end of a script, behind the lines below number `line`
+abbrev pub rest_at_end : ℕ → Past → Script
+rest_at_end line past = elim past.end [ Some instant ↦ Whole [] instant | None ↦ Bad line kind.NoEnd [] ]
+
+-- what the lines from number `line` on give, behind `start` bytes and what the events before them leave
+abbrev pub rest_of_lines : Tables → ℕ → ℕ → Past → List Line → Script
+rest_of_lines t line start past [] = rest_at_end line past
+rest_of_lines t line start past (x ∷ xs) =
+    elim (judged t start past x) [
+      | Ok e ↦ behind (listed e) (rest_of_lines t (line + 1) (start + size_of x) (noted_if past e) xs)
+      | Err k ↦ Bad line k []
+    ]
+
+-- what comes after a line's answer
+abbrev pub answered : ℕ → Result (Option Event) ScriptKind → Script → Script
+answered line (Ok e) later = behind (listed e) later
+answered line (Err k) later = Bad line k []
+
+-- a list begins with another
+abbrev pub Begins : List Event → List Event → Type 0
+Begins all front = (back : List Event) × (all ≡ front ++ back)
+
+-- a list grew by others
+abbrev pub Grows : List Event → List Event → (List Event → Type 0) → Type 0
+Grows old new fits = (gained : List Event) × (new ≡ old ++ gained) × fits gained
+
+-- The events of a whole script, or those before its first fault; a front of them where the source failed or no
+-- memory was left.
+abbrev pub IsAnswer : {T : Type 0} → Script → Result T WholeStop → List Event → Type 0
+IsAnswer script (Ok done) gained = (end : ℕ) × (script ≡ Whole gained end)
+IsAnswer script (Err (stop.Script fault)) gained = script ≡ Bad fault.line fault.kind gained
+IsAnswer script (Err stop.Read) gained = Begins (events_of script) gained
+IsAnswer script (Err stop.Memory) gained = Begins (events_of script) gained
+
+-- There is a script, namely the one that is known where it is, of which something holds.
+abbrev pub OfScript : Option (List ℕ) → (List ℕ → Type 0) → Type 0
+OfScript known fits = (script : List ℕ) × IfSome known (λ bytes. bytes ≡ script) × fits script
+
+-- a source lost a front of what was left, and whether that is told doesn't change
+abbrev pub LosesFront : Option (List ℕ) → Option (List ℕ) → Type 0
+LosesFront old new = (front : List ℕ) × (prepend_known front new ≡ old)
+
+-- A count of faults doesn't fall, and rose where the reader stopped at a fault of its source.
+pub record HasReadCause {T : Type 0} (before now : ℕ) (result : Result T WholeStop) : Type 0 where
+  pub later : before ≤ now
+  pub read : result ≡ Err stop.Read → Rose before now

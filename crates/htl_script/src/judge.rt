@@ -1,0 +1,267 @@
+// One line of a script, judged against what the events before it leave.
+ghost use Rattle.std.specs.Prelude.{◌≡◌, ◌-◌, ◌^◌, ℕ, Bool, min, is_some, is_none, Option, MatchOption, true, false, Some, None, Ok, Err, ◌∷◌, [], nat_le, neg_ℤ, pos, if◌then◌else◌};
+ghost use Rattle.std.specs.Option.{option_map};
+ghost use Rattle.htl_base.specs.declared.Ty.TheVariants as ty;
+ghost use Rattle.htl_model.specs.declared.event.Event.TheVariants as event;
+ghost use Rattle.htl_script.specs.Judging.{noted, at_first, judged_text, judged_statement, number_with_sign, is_value, is_above, is_below};
+ghost use Rattle.htl_script.specs.Numbers.{number_of, signed_of};
+ghost use Rattle.htl_script.specs.Statements.{statement_of, instant_statement, named_statement, At, End, Sense, Took};
+
+use crate::field::cut;
+use crate::number::{number, signed};
+use crate::{ScriptKind, lookup};
+use htl_base::limits::MAX_INSTANT;
+use htl_base::{Time, Ty, Value};
+use htl_model::{Event, Tables};
+
+/// What the events before a line leave.
+#[derive(Clone, Copy)]
+pub struct Past {
+    /// The last reading.
+    pub reading: Option<Time>,
+    /// The instant with which the run ends.
+    pub end: Option<Time>,
+}
+
+impl Past {
+    pub fn new() -> Past
+        ensures { result ≡ at_first }
+    {
+        Past {
+            reading: None,
+            end: None,
+        }
+    }
+
+    // What one more event leaves.
+    pub fn after(self, event: Event) -> Past
+        ensures { result ≡ noted self event }
+    {
+        match event {
+            Event::At(instant) => Past {
+                reading: Some(instant),
+                end: self.end,
+            },
+            Event::Sense { .. } => self,
+            Event::Took { .. } => self,
+            Event::End(instant) => Past {
+                reading: self.reading,
+                end: Some(instant),
+            },
+        }
+    }
+}
+
+// The event of a line of at most 255 bytes; None where it is passed over.
+pub fn judge(past: Past, t: &Tables, text: &[u8]) -> Result<Option<Event>, ScriptKind>
+    ensures { result ≡ judged_text t.now past text.now }
+{
+    if text.is_empty() || text[0] == b'#' {
+        return Ok(None);
+    }
+    if past.end.is_some() {
+        return Err(ScriptKind::After);
+    }
+    match statement(past, t, text) {
+        Ok(event) => Ok(Some(event)),
+        Err(kind) => Err(kind),
+    }
+}
+
+fn statement(past: Past, t: &Tables, text: &[u8]) -> Result<Event, ScriptKind>
+    ensures { result ≡ judged_statement t.now past (statement_of text.now) }
+{
+    let Some((word, rest)) = cut(text) else {
+        return Err(ScriptKind::Form);
+    };
+    let Some((name, digits)) = cut(rest) else {
+        return instant(past, t, word, rest);
+    };
+    match cut(digits) {
+        Some(_) => Err(ScriptKind::Form),
+        None => named(past, t, word, name, digits),
+    }
+}
+
+// `at T` or `end T`.
+fn instant(past: Past, t: &Tables, word: &[u8], digits: &[u8]) -> Result<Event, ScriptKind>
+    ensures { result ≡ judged_statement t.now past (instant_statement word.now digits.now) }
+{
+    if word == "at".as_bytes() {
+        at(past, t, digits)
+    } else if word == "end".as_bytes() {
+        end(past, t, digits)
+    } else {
+        Err(ScriptKind::Form)
+    }
+}
+
+fn at(past: Past, t: &Tables, digits: &[u8]) -> Result<Event, ScriptKind>
+    ensures { result ≡ judged_statement t.now past (option_map At (number_of digits.now)) }
+{
+    let Some(instant) = number(digits) else {
+        return Err(ScriptKind::Form);
+    };
+    if instant > MAX_INSTANT {
+        return Err(ScriptKind::Range);
+    }
+    if !is_above(instant, past.reading) {
+        return Err(ScriptKind::Order);
+    }
+    Ok(Event::At(instant))
+}
+
+fn end(past: Past, t: &Tables, digits: &[u8]) -> Result<Event, ScriptKind>
+    ensures { result ≡ judged_statement t.now past (option_map End (number_of digits.now)) }
+{
+    let Some(instant) = number(digits) else {
+        return Err(ScriptKind::Form);
+    };
+    if instant > MAX_INSTANT {
+        return Err(ScriptKind::Range);
+    }
+    if is_below(instant, past.reading) {
+        return Err(ScriptKind::Order);
+    }
+    Ok(Event::End(instant))
+}
+
+// The instant is above the last reading, if there is one.
+fn is_above(instant: Time, reading: Option<Time>) -> bool
+    ensures { result ≡ is_above instant reading }
+{
+    match reading {
+        None => true,
+        Some(last) => instant > last,
+    }
+}
+
+// There is a last reading, and the instant is below it.
+fn is_below(instant: Time, reading: Option<Time>) -> bool
+    ensures { result ≡ is_below instant reading }
+{
+    match reading {
+        None => false,
+        Some(last) => instant < last,
+    }
+}
+
+// `sense NAME X` or `took NAME N`.
+fn named(
+    past: Past,
+    t: &Tables,
+    word: &[u8],
+    name: &[u8],
+    digits: &[u8],
+) -> Result<Event, ScriptKind>
+    ensures { result ≡ judged_statement t.now past (named_statement word.now name.now digits.now) }
+{
+    if name.is_empty() {
+        return Err(ScriptKind::Form);
+    }
+    if word == "sense".as_bytes() {
+        sense(past, t, name, digits)
+    } else if word == "took".as_bytes() {
+        took(past, t, name, digits)
+    } else {
+        Err(ScriptKind::Form)
+    }
+}
+
+fn sense(past: Past, t: &Tables, name: &[u8], digits: &[u8]) -> Result<Event, ScriptKind>
+    ensures { result ≡ judged_statement t.now past (option_map (Sense name.now) (signed_of digits.now)) }
+{
+    let Some((minus, size)) = signed(digits) else {
+        return Err(ScriptKind::Form);
+    };
+    let Some(comm) = lookup::sensor(t, name) else {
+        return Err(ScriptKind::Unknown);
+    };
+    let Some(x) = value_of(lookup::type_of(t, comm), minus, size) else {
+        return Err(ScriptKind::Range);
+    };
+    if past.reading.is_none() {
+        return Err(ScriptKind::Order);
+    }
+    Ok(sensed(comm, x))
+}
+
+fn sensed(comm: u16, x: Value) -> Event
+    ensures { result ≡ event.Sense comm x }
+{
+    Event::Sense { comm, x }
+}
+
+fn took(past: Past, t: &Tables, name: &[u8], digits: &[u8]) -> Result<Event, ScriptKind>
+    ensures { result ≡ judged_statement t.now past (option_map (Took name.now) (number_of digits.now)) }
+{
+    let Some(length) = number(digits) else {
+        return Err(ScriptKind::Form);
+    };
+    let Some(inv) = lookup::invocation(t, name) else {
+        return Err(ScriptKind::Unknown);
+    };
+    if length == 0 || length > MAX_LENGTH {
+        return Err(ScriptKind::Range);
+    }
+    if past.reading.is_none() {
+        return Err(ScriptKind::Order);
+    }
+    let worst = lookup::worst(t, inv);
+    if length > worst {
+        return Err(ScriptKind::Overrun {
+            took: length,
+            worst,
+        });
+    }
+    Ok(Event::Took { inv, length })
+}
+
+// The largest length that a line can give; a larger one is out of range.
+const MAX_LENGTH: u64 = 9_223_372_036_854_775_807;
+
+// The value of a type with this sign and size; None where the type has no such value.
+fn value_of(ty: Option<Ty>, minus: bool, size: u64) -> Option<Value>
+    ensures { MatchOption result (is_value (minus, size) ty ≡ false) (λ x. (is_value (minus, size) ty ≡ true) × (x ≡ number_with_sign (minus, size))) }
+{
+    match ty {
+        Some(Ty::Bool) => truth(minus, size),
+        Some(Ty::Int) => integer(minus, size),
+        None => None,
+    }
+}
+
+fn truth(minus: bool, size: u64) -> Option<Value>
+    ensures { result ≡ (if is_value (minus, size) (Some ty.Bool) then Some (number_with_sign (minus, size)) else None) }
+{
+    if !minus && size < 2 {
+        Some(size as i64)
+    } else {
+        None
+    }
+}
+
+fn integer(minus: bool, size: u64) -> Option<Value>
+    ensures { result ≡ (if is_value (minus, size) (Some ty.Int) then Some (number_with_sign (minus, size)) else None) }
+{
+    if minus {
+        negative(size)
+    } else if size <= MAX_LENGTH {
+        Some(size as i64)
+    } else {
+        None
+    }
+}
+
+// The number below zero with this size, where it is a 64-bit value.
+fn negative(size: u64) -> Option<Value>
+    ensures { result ≡ (if nat_le size (2 ^ 63) then Some (neg_ℤ (pos size)) else None) }
+{
+    if size <= MAX_LENGTH {
+        Some(-(size as i64))
+    } else if size == MAX_LENGTH + 1 {
+        Some(i64::MIN)
+    } else {
+        None
+    }
+}
