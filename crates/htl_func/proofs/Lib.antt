@@ -1,0 +1,3 @@
+pub mod Causes
+pub mod CodeMeans
+mod Rows

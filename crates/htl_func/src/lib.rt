@@ -1,0 +1,13 @@
+//! The function compiler: expressions into function code.
+#![tactic(auto)]
+
+mod compiler;
+mod depth;
+mod emit;
+mod law;
+#[cfg(test)]
+mod tests;
+mod types;
+
+pub use compiler::{FnFault, compile_fn};
+pub use law::code_means_expression;
