@@ -1,0 +1,100 @@
+-- When a position finishes.
+use Rattle.std.proofs.Common.{◌≡◌, ℕ, zero, suc, ◌≤◌, ◌<◌, Bool, true, false, cond, ◌&&◌, eqb, List, [], ◌∷◌, get_or, Some, refl, sym, ap, ◌∙◌, subst, arith, ◌⊎◌, inl, inr}
+use Rattle.std.proofs.lemmas.Bool.{eq-eqb, ne_eqb}
+use Rattle.htl_walk.specs.declared.job.Job.{Job}
+use Rattle.htl_walk.specs.declared.schedule.SInstr.{SInstr}
+use Rattle.htl_walk.specs.declared.schedule.SInstr.TheVariants.{Dispatch, Idle, End}
+use Rattle.htl_walk.specs.Walk.{Point, job_at, finishes_by, work_after, next_point, walk_from, finish, DoneBy}
+use Rattle.htl_walk.proofs.Steps.{apart, left_other, time_rises}
+use Rattle.htl_walk.proofs.Ahead.{Ahead, ahead_next}
+
+finishes_yes : (a b : ℕ) → 0 < a → b ≡ 0 → finishes_by a b ≡ true
+finishes_yes zero b h e = absurd (omega arith)
+finishes_yes (suc a) zero h e = refl
+finishes_yes (suc a) (suc b) h e = absurd (omega arith)
+
+pub finishes_no : (a b : ℕ) → (a ≡ 0) ⊎ (0 < b) → finishes_by a b ≡ false
+finishes_no zero b h = refl
+finishes_no (suc a) zero h = absurd (omega arith)
+finishes_no (suc a) (suc b) h = refl
+
+pub ends : (a b : ℕ) → ((0 < a) × (b ≡ 0)) ⊎ ((a ≡ 0) ⊎ (0 < b))
+ends zero b = inr (inl refl)
+ends (suc a) zero = inl (omega arith, refl)
+ends (suc a) (suc b) = inr (inr (omega arith))
+
+both : (a b : Bool) → a ≡ true → b ≡ true → (a && b) ≡ true
+both a b h k = grind arith
+
+not_first : (a b : Bool) → a ≡ false → (a && b) ≡ false
+not_first a b h = grind arith
+
+not_second : (a b : Bool) → b ≡ false → (a && b) ≡ false
+not_second a b h = grind arith
+
+pub finish_now : (jobs : List Job) (i : SInstr) (is : List SInstr) (x : Point) (p : ℕ) →
+    0 < get_or x.left p 0 → get_or (next_point jobs i x).left p 0 ≡ 0 → finish (walk_from jobs (i ∷ is) x) p ≡ Some (next_point jobs i x).time
+finish_now jobs (Dispatch r h) is x p a e =
+    elim (apart r p) [
+      | inl q ↦
+          let y = next_point jobs (Dispatch r h) x in
+          let rest = finish (walk_from jobs is y) p in
+          ap (λ b. cond b (Some y.time) rest)
+          (both (eqb r p) (finishes_by (get_or x.left r 0) (get_or y.left r 0)) (eq-eqb r p q)
+          (subst (λ z. finishes_by (get_or x.left z 0) (get_or y.left z 0) ≡ true) (sym q) (finishes_yes _ _ a e)))
+      | inr n ↦ absurd (omega (arith, left_other x.left r p (work_after x.time (get_or x.left r 0) (job_at jobs r).release h) n))
+    ]
+finish_now jobs (Idle h) is x p a e = absurd (omega arith)
+finish_now jobs End is x p a e = absurd (omega arith)
+
+pub finish_later : (jobs : List Job) (i : SInstr) (is : List SInstr) (x : Point) (p : ℕ) →
+    (get_or x.left p 0 ≡ 0) ⊎ (0 < get_or (next_point jobs i x).left p 0) → finish (walk_from jobs (i ∷ is) x) p ≡ finish (walk_from jobs is (next_point jobs i x)) p
+finish_later jobs (Dispatch r h) is x p c =
+    let y = next_point jobs (Dispatch r h) x in
+    let rest = finish (walk_from jobs is y) p in
+    let test = finishes_by (get_or x.left r 0) (get_or y.left r 0) in
+    let fact : (eqb r p && test) ≡ false =
+    elim (apart r p) [
+      | inl q ↦ not_second (eqb r p) test (subst (λ z. finishes_by (get_or x.left z 0) (get_or y.left z 0) ≡ false) (sym q) (finishes_no _ _ c))
+      | inr n ↦ not_first (eqb r p) test (ne_eqb r p n)
+    ] in
+    ap (λ b. cond b (Some y.time) rest) fact
+finish_later jobs (Idle h) is x p c = refl
+finish_later jobs End is x p c = refl
+
+pub some_same : {A : Type 0} (a b : A) → Some a ≡ Some b → a ≡ b
+some_same a b e = cc
+
+pub finish_after : (jobs : List Job) (is : List SInstr) (x : Point) (p f : ℕ) → finish (walk_from jobs is x) p ≡ Some f → x.time ≤ f
+finish_after jobs [] x p f e = cc
+finish_after jobs (i ∷ is) x p f e =
+    let y = next_point jobs i x in
+    let t : x.time ≤ y.time = time_rises jobs i x in
+    elim (ends (get_or x.left p 0) (get_or y.left p 0)) [
+      | inl q ↦ let s : y.time ≡ f = some_same _ _ (sym (finish_now jobs i is x p q.0 q.1) ∙ e) in omega arith
+      | inr c ↦ let s : y.time ≤ f = finish_after jobs is y p f (sym (finish_later jobs i is x p c) ∙ e) in omega arith
+    ]
+
+-- a walk that is ahead finishes no later
+pub finish_ahead : (js ks : List Job) (is : List SInstr) (x y : Point) (p t : ℕ) → Ahead js ks x y → 0 < get_or x.left p 0 → DoneBy (walk_from ks is y) p t → DoneBy (walk_from js is x) p t
+finish_ahead js ks [] x y p t a w d = cc d.1
+finish_ahead js ks (i ∷ is) x y p t a w d =
+    let x' = next_point js i x in
+    let y' = next_point ks i y in
+    let n : Ahead js ks x' y' = ahead_next js ks i x y a in
+    elim (ends (get_or x.left p 0) (get_or x'.left p 0)) [
+      | inl q ↦
+          let bound : y'.time ≤ d.0 =
+          elim (ends (get_or y.left p 0) (get_or y'.left p 0)) [
+            | inl r ↦ let s : y'.time ≡ d.0 = some_same _ _ (sym (finish_now ks i is y p r.0 r.1) ∙ d.1) in omega arith
+            | inr c ↦ finish_after ks is y' p d.0 (sym (finish_later ks i is y p c) ∙ d.1)
+          ] in
+          let ahead : x'.time ≤ y'.time = n.time in
+          (x'.time, finish_now js i is x p q.0 q.1, omega (arith, d.2))
+      | inr c ↦
+          let more : 0 < get_or x'.left p 0 = omega arith in
+          let less : get_or x'.left p 0 ≤ get_or y'.left p 0 = n.left p in
+          let rest : DoneBy (walk_from js is x') p t =
+          finish_ahead js ks is x' y' p t n more (d.0, sym (finish_later ks i is y p (inr (omega arith))) ∙ d.1, d.2) in
+          (rest.0, finish_later js i is x p c ∙ rest.1, rest.2)
+    ]

@@ -1,0 +1,194 @@
+-- The worst-case walk, followed instruction by instruction.
+use Rattle.std.proofs.Common.{◌≡◌, ℕ, zero, suc, ◌+◌, ◌≤◌, ◌<◌, true, List, [], ◌∷◌, length, get_or, slice_get, Some, refl, sym, ap, ◌∙◌, subst, arith, inl, inr, add-one}
+use Rattle.std.specs.List.{All}
+use Rattle.std.proofs.lemmas.Option.{slice_get-get_or}
+use Rattle.std.proofs.lemmas.List.{ext_get_or}
+use Rattle.htl_walk.specs.declared.job.Job.{Job}
+use Rattle.htl_walk.specs.declared.miss.Miss.{Miss}
+use Rattle.htl_walk.specs.declared.miss.Miss.TheVariants as miss
+use Rattle.htl_walk.specs.declared.schedule.SInstr.{SInstr}
+use Rattle.htl_walk.specs.declared.schedule.SInstr.TheVariants.{Dispatch, Idle, End}
+use Rattle.htl_walk.specs.Jobs.{precedes}
+use Rattle.htl_walk.specs.Walk.{Point, job_at, next_point, walk, work, work_after, first_point, finish, InForm, IsAccepted, worst_cases}
+use Rattle.htl_walk.specs.Misses.{worst_point, DispatchesAt, IsTooEarly, IsTooLate, IsCleanBefore, IsFirstBefore, IsFirstMiss}
+use Rattle.htl_walk.specs.Following.{IsKnown, IsReady, IsInTime, IsFollowed, IsMissAt}
+use Rattle.htl_walk.specs.Refinement.{HasWork}
+use Rattle.htl_walk.proofs.Steps.{either, apart, left_other}
+use Rattle.htl_walk.proofs.Finishes.{some_same}
+use Rattle.htl_walk.proofs.Work.{all_at, work_present, worst_at}
+use Rattle.htl_walk.proofs.Acceptance.{point_step, finish_at, accepted}
+
+-- the walk was followed up to instruction k, to this point and these finish offsets
+pub record IsFollowedTo (jobs : List Job) (s : List SInstr) (k : ℕ) (x : Point) (finishes : List ℕ) : Type 0 where
+  pub point : x ≡ worst_point jobs s k
+  pub clean : IsCleanBefore jobs s k
+  pub done : (p : ℕ) → p < length jobs → get_or x.left p 0 ≡ 0 → finish (walk jobs (worst_cases jobs) s) p ≡ Some (get_or finishes p 0)
+  pub in_time : (p : ℕ) → p < length jobs → get_or x.left p 0 ≡ 0 → get_or finishes p 0 ≤ (job_at jobs p).end
+
+work_at : (jobs : List Job) → All HasWork jobs → (p : ℕ) → p < length jobs → 0 < get_or (work jobs (worst_cases jobs)) p 0
+work_at jobs all p h =
+    let at : slice_get jobs p ≡ Some (get_or jobs p (job_at jobs p)) = slice_get-get_or jobs p (job_at jobs p) h in
+    let j = get_or jobs p (job_at jobs p) in
+    let w : HasWork j = all_at HasWork jobs all p j at in
+    omega (arith, work_present jobs (worst_cases jobs) p j at w.present, worst_at jobs p j at, w.worst)
+
+pub followed_none : (jobs : List Job) (s : List SInstr) (finishes : List ℕ) → All HasWork jobs → IsFollowedTo jobs s 0 (first_point jobs (worst_cases jobs)) finishes
+followed_none jobs s finishes all =
+    record {
+      point = refl;
+      clean = record { early = λ m p q h e. absurd (omega arith); late = λ m p f h e. absurd (omega arith) };
+      done = λ p h e. absurd (omega (arith, work_at jobs all p h));
+      in_time = λ p h e. absurd (omega (arith, work_at jobs all p h));
+    }
+
+module _ (jobs : List Job) (s : List SInstr) (k : ℕ) (i : SInstr) (at : slice_get s k ≡ Some i) where
+  ready_at : (x : Point) (p until q : ℕ) → IsReady jobs i x → slice_get s k ≡ Some (Dispatch p until) → precedes q (job_at jobs p) ≡ true → get_or x.left q 0 ≡ 0
+  ready_at x p until q ready e w =
+      let same : i ≡ Dispatch p until = some_same _ _ (sym at ∙ e) in
+      subst (λ i. IsReady jobs i x) same ready q w
+
+  in_time_at : (x y : Point) (p until : ℕ) → IsInTime jobs i x y → slice_get s k ≡ Some (Dispatch p until) → 0 < get_or x.left p 0 → get_or y.left p 0 ≡ 0 → y.time ≤ (job_at jobs p).end
+  in_time_at x y p until time e some none =
+      let same : i ≡ Dispatch p until = some_same _ _ (sym at ∙ e) in
+      subst (λ i. IsInTime jobs i x y) same time some none
+
+  point_more : (x y : Point) → x ≡ worst_point jobs s k → y ≡ next_point jobs i x → y ≡ worst_point jobs s (suc k)
+  point_more x y e f = f ∙ ap (next_point jobs i) e ∙ sym (point_step jobs s k (first_point jobs (worst_cases jobs)) i at)
+
+  clean_more : (x y : Point) (fs gs : List ℕ) → IsFollowedTo jobs s k x fs → IsFollowed jobs i x y fs gs → IsCleanBefore jobs s (suc k)
+  clean_more x y fs gs f d =
+      let after : y ≡ worst_point jobs s (suc k) = point_more x y f.point d.next in
+      record {
+        early = λ m p q h e. elim (either m k) [
+          | inl less ↦ f.clean.early m p q less e
+          | inr more ↦
+              let same : m ≡ k = omega arith in
+              let e' : IsTooEarly jobs s k p q = subst (λ n. IsTooEarly jobs s n p q) same e in
+              let none : get_or x.left q 0 ≡ 0 = ready_at x p e'.dispatches.0 q d.ready e'.dispatches.1 e'.waits in
+              let some : 0 < get_or x.left q 0 = subst (λ z. 0 < get_or z.left q 0) (sym f.point) e'.left in
+              omega arith
+        ];
+        late = λ m p g h e. elim (either m k) [
+          | inl less ↦ f.clean.late m p g less e
+          | inr more ↦
+              let same : m ≡ k = omega arith in
+              let e' : IsTooLate jobs s k p g = subst (λ n. IsTooLate jobs s n p g) same e in
+              let some : 0 < get_or x.left p 0 = subst (λ z. 0 < get_or z.left p 0) (sym f.point) e'.left in
+              let here : worst_point jobs s (k + 1) ≡ y = ap (worst_point jobs s) (add-one k) ∙ sym after in
+              let none : get_or y.left p 0 ≡ 0 = subst (λ z. get_or z.left p 0 ≡ 0) here e'.done in
+              let told : g ≡ y.time = subst (λ z. g ≡ z.time) here e'.at in
+              let bound : y.time ≤ (job_at jobs p).end = in_time_at x y p e'.dispatches.0 d.in_time e'.dispatches.1 some none in
+              omega (arith, e'.late)
+        ];
+      }
+
+  finished_now : (x y : Point) → x ≡ worst_point jobs s k → y ≡ worst_point jobs s (suc k) → (p : ℕ) → 0 < get_or x.left p 0 → get_or y.left p 0 ≡ 0
+      → finish (walk jobs (worst_cases jobs) s) p ≡ Some y.time
+  finished_now x y e f p some none =
+      finish_at jobs s (first_point jobs (worst_cases jobs)) k p i at (subst (λ z. 0 < get_or z.left p 0) e some) (subst (λ z. get_or z.left p 0 ≡ 0) f none)
+      ∙ ap (λ z. Some z.time) (sym f)
+
+  pub followed_more : (x y : Point) (fs gs : List ℕ) → IsFollowedTo jobs s k x fs → IsFollowed jobs i x y fs gs → IsFollowedTo jobs s (suc k) y gs
+  followed_more x y fs gs f d =
+      let after : y ≡ worst_point jobs s (suc k) = point_more x y f.point d.next in
+      record {
+        point = after;
+        clean = clean_more x y fs gs f d;
+        done = λ p h none. elim (either 0 (get_or x.left p 0)) [
+          | inl some ↦ finished_now x y f.point after p some none ∙ ap Some (sym (d.noted.finished p h some none))
+          | inr idle ↦ let z : get_or x.left p 0 ≡ 0 = omega arith in f.done p h z ∙ ap Some (sym (d.noted.others p (inl z)))
+        ];
+        in_time = λ p h none. elim (either 0 (get_or x.left p 0)) [
+          | inl some ↦
+              omega (arith, d.noted.finished p h some none, finished_in_time i d.in_time d.next p some none)
+          | inr idle ↦ let z : get_or x.left p 0 ≡ 0 = omega arith in omega (arith, f.in_time p h z, d.noted.others p (inl z))
+        ];
+      }
+    where
+      finished_in_time : (i : SInstr) → IsInTime jobs i x y → y ≡ next_point jobs i x → (p : ℕ) → 0 < get_or x.left p 0 → get_or y.left p 0 ≡ 0 → y.time ≤ (job_at jobs p).end
+      finished_in_time (Dispatch r until) time e p some none =
+          elim (apart r p) [
+            | inl same ↦
+                subst (λ n. y.time ≤ (job_at jobs n).end) same (time (subst (λ n. 0 < get_or x.left n 0) (sym same) some) (subst (λ n. get_or y.left n 0 ≡ 0) (sym same) none))
+            | inr other ↦
+                let kept : get_or y.left p 0 ≡ get_or x.left p 0 = ap (λ z. get_or z.left p 0) e ∙ left_other x.left r p (work_after x.time (get_or x.left r 0) (job_at jobs r).release until) other in
+                absurd (omega arith)
+          ]
+      finished_in_time (Idle until) time e p some none = let kept : get_or y.left p 0 ≡ get_or x.left p 0 = ap (λ z. get_or z.left p 0) e in absurd (omega arith)
+      finished_in_time End time e p some none = let kept : get_or y.left p 0 ≡ get_or x.left p 0 = ap (λ z. get_or z.left p 0) e in absurd (omega arith)
+
+  -- the miss of instruction k, where nothing went wrong before it, is the first
+  pub missed_here : (period : ℕ) (x : Point) (fs : List ℕ) (m : Miss) → InForm (length jobs) period s → IsFollowedTo jobs s k x fs → IsMissAt jobs i k x m → IsFirstMiss jobs period s m
+  missed_here period x fs (miss.Order at) form f d = absurd d
+  missed_here period x fs (miss.Unfinished p left) form f d = absurd d
+  missed_here period x fs (miss.Before p q place) form f d =
+      let b = d.1 in
+      let dispatched : DispatchesAt s k p = (b.dispatches.0, at ∙ ap Some b.dispatches.1) in
+      let first : IsFirstBefore jobs s p q k =
+      record {
+        clean = f.clean;
+        here = record { dispatches = dispatched; waits = b.waits; left = subst (λ z. 0 < get_or z.left q 0) f.point b.left };
+        lowest = λ r h e. let none : get_or x.left r 0 ≡ 0 = b.lowest r h e.waits in let some : 0 < get_or x.left r 0 = subst (λ z. 0 < get_or z.left r 0) (sym f.point) e.left in omega arith;
+      } in
+      (form, subst (IsFirstBefore jobs s p q) (sym d.0) first)
+  missed_here period x fs (miss.Late p g window_end) form f d =
+      let after : next_point jobs i x ≡ worst_point jobs s (k + 1) = point_more x (next_point jobs i x) f.point refl ∙ ap (worst_point jobs s) (sym (add-one k)) in (
+        form,
+        record {
+          place = k;
+          clean = f.clean;
+          ready = λ q e. let none : get_or x.left q 0 ≡ 0 = d.ready q e.waits in let some : 0 < get_or x.left q 0 = subst (λ z. 0 < get_or z.left q 0) (sym f.point) e.left in omega arith;
+          here = record {
+            dispatches = (d.dispatches.0, at ∙ ap Some d.dispatches.1);
+            left = subst (λ z. 0 < get_or z.left p 0) f.point d.left;
+            done = subst (λ z. get_or z.left p 0 ≡ 0) after d.done;
+            at = subst (λ z. g ≡ z.time) after d.at;
+            late = d.late;
+          };
+          end = d.end;
+        },
+      )
+
+-- work that is left at the end
+pub unfinished : (jobs : List Job) (period : ℕ) (s : List SInstr) (x : Point) (fs : List ℕ) (p left : ℕ) → InForm (length jobs) period s → IsFollowedTo jobs s (length s) x fs
+    → left ≡ get_or x.left p 0 → 0 < get_or x.left p 0 → ((q : ℕ) → q < p → get_or x.left q 0 ≡ 0) → IsFirstMiss jobs period s (miss.Unfinished p left)
+unfinished jobs period s x fs p left form f is some lowest = (
+  form,
+  record {
+    clean = f.clean;
+    is = subst (λ z. left ≡ get_or z.left p 0) f.point is;
+    some = omega arith;
+    lowest = λ q h. subst (λ z. get_or z.left q 0 ≡ 0) f.point (lowest q h);
+  },
+)
+
+-- the walk was followed to its end and nothing is left
+pub followed_all : (jobs : List Job) (period : ℕ) (s : List SInstr) (x : Point) (fs : List ℕ) → All HasWork jobs → InForm (length jobs) period s → IsFollowedTo jobs s (length s) x fs
+    → ((q : ℕ) → get_or x.left q 0 ≡ 0) → IsAccepted jobs period s
+followed_all jobs period s x fs all form f none =
+    accepted jobs period s all form f.clean (λ p h. (get_or fs p 0, f.done p h (none p), f.in_time p h (none p)))
+
+pub known_at : (count period : ℕ) (s : List SInstr) (k : ℕ) (i : SInstr) → InForm count period s → slice_get s k ≡ Some i → IsKnown count i
+known_at count period [] k i f e = cc
+known_at count period (End ∷ []) zero i f e = subst (IsKnown count) (some_same _ _ e) tt
+known_at count period (End ∷ []) (suc k) i f e = cc
+known_at count period (End ∷ j ∷ is) k i f e = absurd f.0
+known_at count period (Dispatch p until ∷ is) zero i f e = subst (IsKnown count) (some_same _ _ e) f.0.0
+known_at count period (Dispatch p until ∷ is) (suc k) i f e = known_at count period is k i f.1 e
+known_at count period (Idle until ∷ is) zero i f e = subst (IsKnown count) (some_same _ _ e) tt
+known_at count period (Idle until ∷ is) (suc k) i f e = known_at count period is k i f.1 e
+
+length-work : (jobs : List Job) (ns : List ℕ) → length (work jobs ns) ≡ length jobs
+length-work [] ns = refl
+length-work (j ∷ js) [] = ap suc (length-work js [])
+length-work (j ∷ js) (n ∷ ns) = ap suc (length-work js ns)
+
+pub worst_filled : (jobs : List Job) (left : List ℕ) → All HasWork jobs → length left ≡ length jobs → ((q : ℕ) → q < length jobs → get_or left q 0 ≡ get_or (worst_cases jobs) q 0)
+    → left ≡ work jobs (worst_cases jobs)
+worst_filled jobs left all same each =
+    ext_get_or 0 left (work jobs (worst_cases jobs)) (same ∙ sym (length-work jobs (worst_cases jobs)))
+    (λ q h.
+    let below : q < length jobs = omega arith in
+    let at : slice_get jobs q ≡ Some (get_or jobs q (job_at jobs q)) = slice_get-get_or jobs q (job_at jobs q) below in
+    let w : HasWork (get_or jobs q (job_at jobs q)) = all_at HasWork jobs all q (get_or jobs q (job_at jobs q)) at in
+    each q below ∙ sym (work_present jobs (worst_cases jobs) q (get_or jobs q (job_at jobs q)) at w.present))

@@ -1,0 +1,44 @@
+-- The jobs of a selection are present and have some work.
+use Rattle.std.proofs.Common.{◌≡◌, ℕ, ◌≤◌, ◌<◌, true, List, length, map, get_or, slice_get, Option, Some, None, ap, arith, inl, inr}
+use Rattle.std.specs.List.{All}
+use Rattle.std.proofs.lemmas.List.Elements.{All-map, All-from_get_or}
+use Rattle.std.proofs.lemmas.Option.{slice_get_cases}
+use Rattle.htl_model.specs.declared.parts.Inv.{Inv}
+use Rattle.htl_model.specs.declared.parts.Task.{Task}
+use Rattle.htl_model.specs.Tables.{Tables, task_worst, release, window_end}
+use Rattle.htl_model.specs.Ranges.{AreInRange, IsInvInRange, IsTaskInRange}
+use Rattle.htl_model.specs.Selections.{positions}
+use Rattle.htl_model.proofs.SelectionLaws.{position_below}
+use Rattle.htl_walk.specs.declared.job.Job.{Job}
+use Rattle.htl_walk.specs.Jobs.{absent_job, job_of, abstract_jobs, mask, feeds}
+use Rattle.htl_walk.specs.Refinement.{HasWork}
+use Rattle.htl_walk.proofs.Work.{all_at}
+
+worst_some : (t : Tables) (i : Inv) (k : ℕ) → AreInRange t → slice_get t.invs k ≡ Some i → 1 ≤ task_worst t i.task
+worst_some t i k r at =
+    let inv : IsInvInRange t i = all_at (IsInvInRange t) t.invs r.invs k i at in
+    let task : Task = inv.task.0 in
+    let range : IsTaskInRange t task = all_at (IsTaskInRange t) t.tasks r.tasks i.task task inv.task.1 in
+    let worst : task_worst t i.task ≡ task.worst = ap (λ (o : Option Task). elim o [ Some x ↦ x.worst | None ↦ 0 ]) inv.task.1 in
+    omega (arith, range.worst.some)
+
+-- the job of an invocation that is there
+job_there : (t : Tables) (standing : List (Option ℕ)) (k : ℕ) (i : Inv) → Job
+job_there t standing k i =
+    record { present = true; inv = k; release = release t i; end = window_end t i; worst = task_worst t i.task; preds = mask (map (feeds t i) standing) }
+
+job_work : (t : Tables) (standing : List (Option ℕ)) (k : ℕ) → AreInRange t → k < length t.invs → HasWork (job_of t standing (Some k))
+unfolding job_there
+job_work t standing k r h = elim (slice_get_cases t.invs k).1 [
+  | inl c ↦
+      let is : job_of t standing (Some k) ≡ job_there t standing k c.0 = ap (λ (o : Option Inv). elim o [ None ↦ absent_job | Some i ↦ job_there t standing k i ]) c.2 in
+      record { present = ap (λ (j : Job). j.present) is; worst = omega (arith, ap (λ (j : Job). j.worst) is, worst_some t c.0 k r c.2) }
+  | inr c ↦ absurd (omega (arith, c.0))
+]
+
+pub abstract_jobs_work : (t : Tables) (sel : ℕ) → AreInRange t → All HasWork (abstract_jobs t sel)
+abstract_jobs_work t sel r =
+    let standing = map (λ (k : ℕ). Some k) (positions t sel) in
+    All-map HasWork (job_of t standing) standing
+    (All-map (λ o. HasWork (job_of t standing o)) (λ (k : ℕ). Some k) (positions t sel)
+    (All-from_get_or (λ k. HasWork (job_of t standing (Some k))) (positions t sel) 0 (λ i h. job_work t standing (get_or (positions t sel) i 0) r (position_below t sel i h))))

@@ -1,0 +1,15 @@
+pub mod Acceptance
+pub mod Ahead
+pub mod Dominance
+pub mod Finishes
+pub mod FirstMiss
+pub mod Following
+pub mod JobLaws
+pub mod JobRows
+pub mod Masks
+pub mod Predecessors
+pub mod Slices
+pub mod Standing
+pub mod Steps
+pub mod Unreleased
+pub mod Work

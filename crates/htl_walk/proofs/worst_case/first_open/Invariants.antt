@@ -1,0 +1,5 @@
+use Rattle.std.proofs.Common.{◌≡◌, ℕ, ◌<◌, get_or}
+use Rattle.htl_walk.proofs.worst_case.first_open.Given as goal
+
+abbrev pub invariant-loop-p : goal.invariant-loop-p
+invariant-loop-p l = (q : ℕ) → q < l.p → get_or l.left q 0 ≡ 0

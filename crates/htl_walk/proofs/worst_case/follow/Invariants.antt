@@ -1,0 +1,5 @@
+use Rattle.htl_walk.proofs.Following.{IsFollowedTo}
+use Rattle.htl_walk.proofs.worst_case.follow.Given as goal
+
+abbrev pub invariant-loop-k : goal.invariant-loop-k
+invariant-loop-k l = IsFollowedTo l.jobs l.instrs l.k (record { time = l.time; left = l.left }) l.finish

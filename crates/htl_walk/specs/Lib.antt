@@ -1,0 +1,6 @@
+pub mod Following
+pub mod Jobs
+pub mod Laws
+pub mod Misses
+pub mod Refinement
+pub mod Walk

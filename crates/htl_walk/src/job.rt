@@ -1,0 +1,19 @@
+// The jobs of a round.
+use htl_base::Time;
+
+/// The job of a position in one round; all times are offsets from the round's start, in ticks.
+#[derive(Clone, Copy, PartialEq, Eq, Debug)]
+pub struct Job {
+    /// Whether an invocation stands for the position; where none does, every other field is 0.
+    pub present: bool,
+    /// The invocation.
+    pub inv: u16,
+    /// The release, the start of the half-open window.
+    pub release: Time,
+    /// The end of the window.
+    pub end: Time,
+    /// The worst-case execution time.
+    pub worst: Time,
+    /// Bit p says that position p is a predecessor: one whose port the job reads.
+    pub preds: u128,
+}

@@ -1,0 +1,135 @@
+// The jobs of a round.
+ghost use Rattle.std.specs.Prelude.{◌≡◌, ◌≤◌, ◌<◌, ◌+◌, ◌++◌, length, map, take, drop, Some, Option, ℕ, All};
+ghost use Rattle.htl_model.specs.Selections.{selection_count, positions, invs_of, unit_positions};
+ghost use Rattle.htl_walk.specs.Refinement.{HasWork};
+ghost use Rattle.htl_walk.specs.Jobs.{absent_job, job_of, jobs_of, abstract_jobs as abstract_jobs_of};
+
+use crate::Job;
+use crate::ports::predecessors;
+use htl_base::Time;
+use htl_base::limits::MAX_POSITIONS;
+use htl_model::lookup::task_worst;
+use htl_model::selections::is_root;
+use htl_model::{Module, Tables};
+
+// The job of a position at which nothing stands.
+fn absent() -> Job
+    ensures { result ≡ absent_job }
+{
+    Job {
+        present: false,
+        inv: 0,
+        release: 0,
+        end: 0,
+        worst: 0,
+        preds: 0,
+    }
+}
+
+// The job of an invocation among those that stand at the positions.
+fn job(t: &Tables, standing: &[Option<u16>], inv: Option<u16>) -> Job
+    requires { length standing.now ≤ 128 }
+    ensures { result ≡ job_of t.now standing.now inv }
+{
+    let invs = t.parts().invs.as_slice();
+    match inv {
+        Some(k) => {
+            if k as usize >= invs.len() {
+                return absent();
+            }
+            let window = t.window(k);
+            let i = &invs[k as usize];
+            Job {
+                present: true,
+                inv: k,
+                release: window.release,
+                end: window.end,
+                worst: task_worst(t, i.task) as Time,
+                preds: predecessors(t, i, standing),
+            }
+        }
+        None => absent(),
+    }
+}
+
+/// Fills the front of `out` with the jobs of the invocations that stand at the positions, of which there are at most 128;
+/// a position at which none stands has an absent job. The rest of `out` stays.
+pub fn fill_jobs(t: &Tables, standing: &[Option<u16>], out: &mut [Job; 128])
+    requires { length standing.now ≤ 128 }
+    ensures jobs { take (length standing.now) out.new ≡ jobs_of t.now standing.now }
+    ensures rest { drop (length standing.now) out.new ≡ drop (length standing.now) out.old }
+{
+    for p in 0..standing.len() {
+        out[p] = job(t, standing, standing[p]);
+    }
+}
+
+// Writes the invocations of a mode to the places from `n` on: the place behind the last.
+fn put_mode(t: &Tables, mode: u16, standing: &mut [Option<u16>], n: usize) -> usize
+    requires { n + length (invs_of t.now mode) ≤ length standing.old }
+    ensures front { take result standing.new ≡ take n standing.old ++ map (λ k. Some k) (invs_of t.now mode) }
+    ensures count { result ≡ n + length (invs_of t.now mode) }
+{
+    let invs = t.parts().invs.as_slice();
+    let mut end = n;
+    for k in 0..invs.len() {
+        if invs[k].mode == mode {
+            standing[end] = Some(k as u16);
+            end += 1;
+        }
+    }
+    end
+}
+
+// Writes the positions of one module to the places from `n` on: the place behind the last.
+fn put_unit(
+    t: &Tables,
+    selection: u32,
+    u: u16,
+    unit: &Module,
+    standing: &mut [Option<u16>],
+    n: usize,
+) -> usize
+    requires within { u < length t.now.modules }
+    requires room { n + length (unit_positions t.now selection u unit.now) ≤ length standing.old }
+    ensures front { take result standing.new ≡ take n standing.old ++ map (λ k. Some k) (unit_positions t.now selection u unit.now) }
+    ensures count { result ≡ n + length (unit_positions t.now selection u unit.now) }
+{
+    if is_root(unit) {
+        put_mode(t, t.root_mode(selection, u), standing, n)
+    } else {
+        n
+    }
+}
+
+// Writes the positions of a selection to the front: how many there are.
+fn put_selection(t: &Tables, selection: u32, standing: &mut [Option<u16>]) -> usize
+    requires { length (positions t.now selection) ≤ length standing.old }
+    ensures front { take result standing.new ≡ map (λ k. Some k) (positions t.now selection) }
+    ensures count { result ≡ length (positions t.now selection) }
+{
+    let units = t.parts().modules.as_slice();
+    let mut n = 0;
+    for k in 0..units.len() {
+        n = put_unit(t, selection, k as u16, &units[k], standing, n);
+    }
+    n
+}
+
+/// Fills the front of `out` with the jobs of a root selection, abstract invocations included, and answers their number;
+/// the rest of `out` stays. A job's position is the place of its invocation in the order of modules, then of the source.
+/// The selection is below the number of selections. It has at most 128 positions, as in all tables that keep the form
+/// rules and the limits.
+pub fn abstract_jobs(t: &Tables, selection: u32, out: &mut [Job; 128]) -> usize
+    requires { length (positions t.now selection) ≤ 128 }
+    ensures count { result ≡ length (positions t.now selection) }
+    ensures jobs { take result out.new ≡ abstract_jobs_of t.now selection }
+    ensures work { All HasWork (abstract_jobs_of t.now selection) }
+    ensures rest { drop result out.new ≡ drop result out.old }
+{
+    let _parts = t.parts();
+    let mut standing = [None; MAX_POSITIONS];
+    let count = put_selection(t, selection, &mut standing);
+    fill_jobs(t, &standing[..count], out);
+    count
+}
