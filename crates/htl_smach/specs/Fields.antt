@@ -1,0 +1,16 @@
+-- The round that a machine's fields hold.
+use Rattle.std.specs.Prelude.{take}
+use Rattle.htl_smach.specs.Rounds.{Round}
+use Rattle.htl_smach.specs.declared.machine.SMach.TheInside.{Inside}
+
+abbrev pub round_of : Inside → Round
+round_of m =
+    record {
+      running = m.running;
+      start = m.start;
+      jobs = take m.count m.jobs;
+      lengths = take m.count m.lengths;
+      released = take m.count m.released;
+      place = m.place;
+      point = record { time = m.time; left = take m.count m.left };
+    }

@@ -1,0 +1,4 @@
+pub mod Fields
+pub mod Order
+pub mod Rounds
+pub mod Steps

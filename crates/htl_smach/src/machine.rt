@@ -1,0 +1,242 @@
+// The S machine.
+ghost use Rattle.std.specs.Prelude.{◌≡◌, ltb, ◌<◌, ◌≤◌, ◌+◌, ◌++◌, ℕ, suc, Bool, true, false, List, [], length, set, ◌↔◌, IsSome, Option, Some, None, IfSome};
+ghost use Rattle.htl_walk.specs.declared.schedule.SInstr.{SInstr as Instr};
+ghost use Rattle.htl_walk.specs.Walk.{job_at, work};
+ghost use Rattle.htl_walk.specs.Refinement.{HaveLengths, AreWithinWorst};
+ghost use Rattle.htl_smach.specs.declared.state.PosState.TheVariants as states;
+ghost use Rattle.htl_smach.specs.Rounds.{Round, no_round, begun, shifted, records, given, next_left, after, one_more, state_by, state_of, finish_so_far, Stands, IsInForm, IsTold};
+ghost use Rattle.htl_smach.specs.Steps.{point_of};
+
+use crate::step::{Step, next_step};
+use crate::{Left, PosState};
+use htl_base::Time;
+use htl_base::limits::MAX_POSITIONS;
+use htl_walk::{Job, Schedule};
+use std::marker::Model;
+
+/// Leaves the instructions of a round's S code one by one, as time goes on (schedule-carrying code: Henzinger, Kirsch,
+/// Matic, EMSOFT 2003). It takes no memory and refuses nothing.
+///
+/// It stands between two instructions: one that isn't left yet has changed nothing. Contracts see the round: its start,
+/// jobs and lengths as last set, the positions whose release was told, how many instructions were left, and the offset
+/// and the work left after them.
+#[derive(Drop)]
+pub struct SMach {
+    running: bool,
+    start: Time,
+    // of the arrays so many entries are in use
+    count: usize,
+    jobs: [Job; MAX_POSITIONS],
+    // as last set
+    lengths: [Time; MAX_POSITIONS],
+    released: [bool; MAX_POSITIONS],
+    // the next instruction
+    place: u32,
+    // when the instruction before it was left
+    time: Time,
+    // the work left
+    left: [Time; MAX_POSITIONS],
+}
+
+impl Model for SMach {
+    ghost use Rattle.std.specs.Prelude.{◌≤◌};
+    ghost use Rattle.htl_smach.specs.Rounds.{Round};
+
+    ghost Value = { Round };
+
+    ghost use Rattle.htl_smach.specs.Fields.{round_of};
+
+    ghost view = { round_of };
+
+    ghost invariant = { λ m. (m.count ≤ 128) × (m.start ≤ 1000000000) × (m.time ≤ 4294967295) };
+}
+
+const NO_JOB: Job = Job {
+    present: false,
+    inv: 0,
+    release: 0,
+    end: 0,
+    worst: 0,
+    preds: 0,
+};
+
+impl SMach {
+    /// A machine without a round.
+    pub fn new() -> SMach
+        ensures round { result ≡ no_round }
+        ensures stands { (s : List Instr) → Stands result s }
+    {
+        SMach {
+            running: false,
+            start: 0,
+            count: 0,
+            jobs: [NO_JOB; MAX_POSITIONS],
+            lengths: [0; MAX_POSITIONS],
+            released: [false; MAX_POSITIONS],
+            place: 0,
+            time: 0,
+            left: [0; MAX_POSITIONS],
+        }
+    }
+
+    /// Begins a round at an instant of at most 1,000,000,000, once the round before is over. There are at most 128 jobs
+    /// and as many lengths; that of each present job is from 1 to its worst case.
+    pub fn start(&mut self, at: Time, jobs: &[Job], lengths: &[Time])
+        requires over { self.old.running ≡ false }
+        requires at { at ≤ 1000000000 }
+        requires few { length jobs.now ≤ 128 }
+        requires same { length lengths.now ≡ length jobs.now }
+        requires lengths { HaveLengths jobs.now lengths.now }
+        requires worst { AreWithinWorst jobs.now lengths.now }
+        ensures round { self.new ≡ begun at jobs.now lengths.now }
+        ensures stands { (s : List Instr) → Stands self.new s }
+    {
+        let count = jobs.len();
+        self.jobs[..count].copy_from_slice(jobs);
+        self.lengths[..count].copy_from_slice(lengths);
+        fill_work(jobs, lengths, &mut self.left[..count]);
+        self.released[..count].fill(false);
+        self.running = true;
+        self.start = at;
+        self.count = count;
+        self.place = 0;
+        self.time = 0;
+    }
+
+    /// Tells the release of a position that is Pending, which makes it Ready. It changes no record, even where it is
+    /// told early.
+    pub fn release(&mut self, position: usize)
+        requires pending { state_of self.old position ≡ states.Pending }
+        ensures round { self.new ≡ record self.old { released = set self.old.released position true } }
+        ensures ready { state_of self.new position ≡ states.Ready }
+        ensures records { (s : List Instr) → records self.new s ≡ records self.old s }
+        ensures stands { (s : List Instr) → Stands self.old s → Stands self.new s }
+    {
+        self.released[position] = true;
+    }
+
+    /// Gives a position that is Pending another length, from 1 to its worst case. From then on the records are those
+    /// of the walk with this length; those given so far stay.
+    pub fn set_length(&mut self, position: usize, length: Time)
+        requires pending { state_of self.old position ≡ states.Pending }
+        requires some { 1 ≤ length }
+        requires worst { length ≤ (job_at self.old.jobs position).worst }
+        ensures round { self.new ≡ record self.old { lengths = set self.old.lengths position length; point = record self.old.point { left = set self.old.point.left position length } } }
+        ensures given { (s : List Instr) → Stands self.old s → given self.new s ≡ given self.old s }
+        ensures stands { (s : List Instr) → Stands self.old s → Stands self.new s }
+    {
+        let count = self.count;
+        let lengths = &mut self.lengths[..count];
+        lengths[position] = length;
+        let left = &mut self.left[..count];
+        left[position] = length;
+    }
+
+    /// The state of a position below the number of jobs: Absent exactly where its job isn't present, Done exactly where
+    /// an instruction left so far finished it, Ready exactly where its release was told and it isn't Done, else Pending.
+    pub fn state(&self, position: usize) -> PosState
+        requires known { position < length self.now.jobs }
+        ensures state { result ≡ state_of self.now position }
+        ensures done { (s : List Instr) → Stands self.now s → (result ≡ states.Done) ↔ IsSome (finish_so_far self.now s position) }
+    {
+        let jobs = &self.jobs[..self.count];
+        state_by(
+            jobs[position].present,
+            self.left[position] == 0,
+            self.released[position],
+        )
+    }
+
+    /// Goes on to the next instruction that is left at or before the instant `until`, and tells of it. None exactly
+    /// where no instruction is left by then or the round is over; then nothing has changed.
+    ///
+    /// The schedule keeps its form, has at most 4,294,967,295 instructions and is the same in all calls of one round, and
+    /// no release falls before `until` that hasn't been told.
+    pub fn run_to(&mut self, s: &Schedule, until: Time) -> Option<Left>
+        requires form { self.old.running ≡ true → IsInForm self.old s.now.instrs }
+        requires instrs { length s.now.instrs ≤ 4294967295 }
+        requires same { Stands self.old s.now.instrs }
+        requires told { IsTold self.old until }
+        ensures left { result ≡ next_left self.old s.now.instrs until }
+        ensures round { self.new ≡ after self.old s.now.instrs result }
+        ensures given { given self.new s.now.instrs ≡ given self.old s.now.instrs ++ one_more result }
+        ensures stands { Stands self.new s.now.instrs }
+    {
+        if !self.running {
+            return None;
+        }
+        let instrs = s.instrs.as_slice();
+        let place = self.place as usize;
+        if place >= instrs.len() {
+            return None;
+        }
+        let jobs = &self.jobs[..self.count];
+        let step = next_step(jobs, &self.left[..self.count], self.time, instrs[place]);
+        let at = self.start + step.time;
+        if at > until {
+            return None;
+        }
+        let left = Left {
+            at,
+            instr: self.place,
+            position: step.position,
+            slice: shifted(self.start, step.slice),
+            finished: step.finished,
+        };
+        self.leave(&step, instrs.len());
+        Some(left)
+    }
+
+    // Leaves an instruction of so many.
+    fn leave(&mut self, step: &Step, len: usize)
+        requires known { IfSome step.now.position (λ p. p < length self.old.point.left) }
+        requires time { step.now.time ≤ 4294967295 }
+        requires place { self.old.place < 4294967295 }
+        ensures { self.new ≡ record self.old { running = ltb (suc self.old.place) len; place = suc self.old.place; point = point_of self.old.point.left step.now } }
+    {
+        if let Some(position) = step.position {
+            self.left[position as usize] = step.rest;
+        }
+        self.time = step.time;
+        self.place += 1;
+        self.running = (self.place as usize) < len;
+    }
+}
+
+// The state of a position.
+fn state_by(present: bool, idle: bool, released: bool) -> PosState
+    ensures { result ≡ state_by present idle released }
+{
+    if !present {
+        PosState::Absent
+    } else if idle {
+        PosState::Done
+    } else if released {
+        PosState::Ready
+    } else {
+        PosState::Pending
+    }
+}
+
+// A slice, by instants.
+fn shifted(start: Time, slice: Option<(Time, Time)>) -> Option<(Time, Time)>
+    requires start { start ≤ 1000000000 }
+    requires slice { IfSome slice (λ s. (s.0 ≤ 4294967295) × (s.1 ≤ 4294967295)) }
+    ensures { result ≡ shifted start slice }
+{
+    match slice {
+        Some((from, to)) => Some((start + from, start + to)),
+        None => None,
+    }
+}
+
+// The work of each position: nothing where no job stands for it.
+fn fill_work(jobs: &[Job], lengths: &[Time], left: &mut [Time])
+    requires lengths { length lengths.now ≡ length jobs.now }
+    requires left { length left.old ≡ length jobs.now }
+    ensures { left.new ≡ work jobs.now lengths.now }
+{
+    for p in 0..jobs.len() {
+        left[p] = if jobs[p].present { lengths[p] } else { 0 };
+    }
+}
