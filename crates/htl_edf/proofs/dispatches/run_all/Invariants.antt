@@ -1,0 +1,18 @@
+use Rattle.std.proofs.Common.{◌≡◌, ◌≤◌, ◌-◌, length}
+use Rattle.htl_edf.specs.Lists.{jobs_of, LeftAt}
+use Rattle.htl_edf.specs.Tight.{tight}
+use Rattle.htl_edf.specs.Edf.{edf, slices}
+use Rattle.htl_edf.specs.Code.{closed_of, open_of}
+use Rattle.htl_edf.proofs.dispatches.run_all.Given as goal
+
+abbrev pub invariant-loop-t : goal.invariant-loop-t
+invariant-loop-t l = record {
+  long : length l.left ≡ length l.jobs;
+  lefts : LeftAt l.jobs l.left l.t;
+  within : l.t ≤ l.period;
+  closed : l.instrs.items ≡ closed_of (slices (edf (tight (jobs_of l.jobs))) l.t);
+  last : l.last ≡ open_of (slices (edf (tight (jobs_of l.jobs))) l.t);
+}
+
+abbrev pub decreases-loop-t : goal.decreases-loop-t
+decreases-loop-t l = l.period - l.t

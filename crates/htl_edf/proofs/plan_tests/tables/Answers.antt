@@ -1,0 +1,13 @@
+use Rattle.std.proofs.Common.{rules, ◌≡◌}
+use Rattle.htl_edf.specs.Samples.{sample_modes, sample_modules, sample_tasks, sample_invs}
+use Rattle.htl_edf.proofs.SampleFits.{sample_same}
+use Rattle.htl_edf.proofs.plan_tests.tables.Goals as goal
+
+pub tables_of-requires : goal.tables_of-requires
+tables_of-requires c =
+    let modes : c.in_ok-modes.modes.items ≡ sample_modes = search rules in
+    let modules : c.in_ok-modules.modules.items ≡ sample_modules = search rules in
+    let tasks : c.in_ok-tasks.tasks.items ≡ sample_tasks c.args.b c.args.c = search rules in
+    let invs : c.in_ok-invs.invs.items ≡ sample_invs = search rules in
+    sample_same c.args.b c.args.c c.requires.b c.requires.c c.in_ok-modes.modes.items c.in_ok-modules.modules.items c.in_ok-tasks.tasks.items c.in_ok-invs.invs.items
+    modes modules tasks invs

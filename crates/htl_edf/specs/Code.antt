@@ -1,0 +1,25 @@
+-- The schedule of earliest deadline first.
+use Rattle.std.specs.Prelude.{ℕ, List, [], ◌∷◌, ◌++◌, Option, Some, None}
+use Rattle.htl_walk.specs.declared.job.Job.{Job}
+use Rattle.htl_walk.specs.declared.schedule.SInstr.{SInstr}
+use Rattle.htl_walk.specs.declared.schedule.SInstr.TheVariants.{Dispatch, End}
+use Rattle.htl_edf.specs.Edf.{Slice, edf, slices}
+use Rattle.htl_edf.specs.Lists.{tightened}
+
+-- a dispatch for each of the slices, which are listed last first
+abbrev pub instrs_of : List Slice → List SInstr
+instrs_of [] = []
+instrs_of (s ∷ ss) = instrs_of ss ++ (Dispatch s.position s.end ∷ [])
+
+-- the slices of earliest deadline first over the tightened windows, and `End`
+abbrev pub edf_schedule : List Job → ℕ → List SInstr
+edf_schedule js period = instrs_of (slices (edf (tightened js)) period) ++ (End ∷ [])
+
+-- the last slice is kept open
+abbrev pub closed_of : List Slice → List SInstr
+closed_of [] = []
+closed_of (s ∷ ss) = instrs_of ss
+
+abbrev pub open_of : List Slice → Option (ℕ × ℕ)
+open_of [] = None
+open_of (s ∷ ss) = Some (s.position, s.end)

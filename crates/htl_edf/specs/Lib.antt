@@ -1,0 +1,12 @@
+pub mod Code
+pub mod Edf
+pub mod Faults
+pub mod Laws
+pub mod Lists
+pub mod Plan
+pub mod Samples
+pub mod Search
+pub mod Slices
+pub mod Sums
+pub mod Tight
+pub mod Windows

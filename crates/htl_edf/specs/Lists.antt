@@ -1,0 +1,60 @@
+-- Jobs of a list, by position, and what is asked of them.
+use Rattle.std.specs.Prelude.{◌≡◌, ℕ, ◌<◌, ◌≤◌, true, List, length, get_or, pos}
+use Rattle.std.specs.List.{All}
+use Rattle.htl_walk.specs.declared.job.Job.{Job}
+use Rattle.htl_walk.specs.Jobs.{absent_job, precedes}
+use Rattle.htl_edf.specs.declared.rounds.Tight.{Tight}
+use Rattle.htl_edf.specs.Tight.{Jobs, tight, release_at, end_at}
+use Rattle.htl_edf.specs.Windows.{Windows}
+use Rattle.htl_edf.specs.Edf.{left}
+
+abbrev pub jobs_of : List Job → Jobs
+jobs_of js = record {
+  count = length js;
+  release = λ q. (get_or js q absent_job).release;
+  end = λ q. (get_or js q absent_job).end;
+  worst = λ q. (get_or js q absent_job).worst;
+  before = λ p q. precedes p (get_or js q absent_job);
+}
+
+-- the tightened windows of the jobs
+abbrev pub tightened : List Job → Windows
+tightened js = tight (jobs_of js)
+
+-- a present job with some work and a window of at least one tick, and numbers of at most a million
+pub record IsWellFormed (j : Job) : Type 0 where
+  pub present : j.present ≡ true
+  pub window : j.release < j.end
+  pub small : j.end ≤ 1000000
+  pub some : 1 ≤ j.worst
+  pub most : j.worst ≤ 1000000
+
+-- at most 128 such jobs
+pub record AreWellFormed (js : List Job) : Type 0 where
+  pub few : length js ≤ 128
+  pub each : All IsWellFormed js
+
+-- each window lies within the period
+abbrev pub EndWithin : List Job → ℕ → Type 0
+EndWithin js period = All (λ j. j.end ≤ period) js
+
+abbrev pub no_window : Tight
+no_window = record { release = pos 0; end = pos 0 }
+
+-- ts holds the windows over chains of at most k predecessors or successors
+pub record HoldsAfter (js : List Job) (ts : List Tight) (k : ℕ) : Type 0 where
+  pub releases : (q : ℕ) → q < length js → (get_or ts q no_window).release ≡ pos (release_at (jobs_of js) k q)
+  pub ends : (q : ℕ) → q < length js → (get_or ts q no_window).end ≡ end_at (jobs_of js) k q
+
+-- ts holds the tightened windows
+pub record AreTightened (js : List Job) (ts : List Tight) : Type 0 where
+  pub releases : (q : ℕ) → q < length js → (get_or ts q no_window).release ≡ pos ((tightened js).from q)
+  pub ends : (q : ℕ) → q < length js → (get_or ts q no_window).end ≡ (tightened js).due q
+
+-- the numbers are the ticks that the positions have left at t
+pub record LeftAt (js : List Job) (ls : List ℕ) (t : ℕ) : Type 0 where
+  pub lefts : (q : ℕ) → q < length js → get_or ls q 0 ≡ left (tightened js) t q
+
+-- no position is released after t and before h
+pub record QuietFrom (js : List Job) (t h : ℕ) : Type 0 where
+  pub quiet : (q : ℕ) → q < length js → t < release_at (jobs_of js) (length js) q → h ≤ release_at (jobs_of js) (length js) q

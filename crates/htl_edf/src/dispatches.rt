@@ -1,0 +1,62 @@
+// The slices of earliest deadline first as instructions.
+ghost use Rattle.std.specs.Prelude.{◌≡◌, ◌≤◌, ◌<◌, ℕ, List, length, IfOk};
+ghost use Rattle.htl_edf.specs.Edf.{Slice, run_for};
+ghost use Rattle.htl_edf.specs.Lists.{HoldsAfter, LeftAt};
+ghost use Rattle.htl_edf.specs.Code.{closed_of, open_of, edf_schedule};
+
+use crate::Tight;
+use crate::events::advance;
+use htl_base::Time;
+use htl_walk::{Job, SInstr};
+use std::alloc::{AllocError, Global};
+
+// Adds that p runs from t to an event. The last slice stays open, since p may go on.
+fn record_run(
+    instrs: &mut Vec<SInstr>,
+    last: Option<(u16, u32)>,
+    p: u16,
+    t: u32,
+    event: u32,
+) -> Result<Option<(u16, u32)>, AllocError>
+    ensures { (ss : List Slice) → instrs.old.items ≡ closed_of ss → last ≡ open_of ss → IfOk result (λ o. (o ≡ open_of (run_for p t event ss)) × (instrs.new.items ≡ closed_of (run_for p t event ss))) }
+{
+    if let Some((position, until)) = last {
+        if p != position || until != t {
+            instrs.push(SInstr::Dispatch { position, until })?;
+        }
+    }
+    Ok(Some((p, event)))
+}
+
+/// A dispatch for each maximal slice up to the period, and `End`; the positions have their worst cases left.
+pub fn run_all(
+    alloc: Global,
+    jobs: &[Job],
+    windows: &[Tight],
+    left: &mut [Time],
+    period: Time,
+) -> Result<Vec<SInstr>, AllocError>
+    requires few { length jobs.now ≤ 128 }
+    requires at { HoldsAfter jobs.now windows.now (length jobs.now) }
+    requires same { length windows.now ≡ length jobs.now }
+    requires left_same { length left.old ≡ length jobs.now }
+    requires lefts { LeftAt jobs.now left.old 0 }
+    requires period { period ≤ 1000000 }
+    ensures { IfOk result (λ v. v.items ≡ edf_schedule jobs.now period) }
+{
+    let mut instrs = Vec::new(alloc);
+    let mut last = None;
+    let mut t = 0;
+    while t < period {
+        let (runs, event) = advance(jobs, windows, left, t, period);
+        if let Some(p) = runs {
+            last = record_run(&mut instrs, last, p as u16, t as u32, event as u32)?;
+        }
+        t = event;
+    }
+    if let Some((position, until)) = last {
+        instrs.push(SInstr::Dispatch { position, until })?;
+    }
+    instrs.push(SInstr::End)?;
+    Ok(instrs)
+}

@@ -1,0 +1,83 @@
+// A schedule for each root selection.
+ghost use Rattle.std.specs.Prelude.{◌≡◌, ◌≤◌, ◌<◌, ◌^◌, ℕ, IfOk, IfErr, MatchOption, pos};
+ghost use Rattle.htl_model.specs.Selections.{selection_count};
+ghost use Rattle.htl_walk.specs.Jobs.{abstract_jobs as abstract_jobs_of};
+ghost use Rattle.htl_edf.specs.Plan.{round_of, IsPlannable, ArePlannable, IsPlanned, ArePlanned, ExplainsPlan, IsOverloadOf};
+
+use crate::{EdfFault, edf};
+use htl_base::Time;
+use htl_base::limits::MAX_POSITIONS;
+use htl_model::Tables;
+use htl_walk::{Job, Schedule, abstract_jobs};
+use std::alloc::Global;
+
+/// Why there are no schedules.
+#[derive(Clone, Copy, PartialEq, Eq, Debug)]
+pub enum PlanFault {
+    /// The first root selection whose jobs are overloaded, with the interval that `edf` reports for it.
+    Overload {
+        selection: u32,
+        from: Time,
+        to: Time,
+        demand: u64,
+    },
+    /// No memory was left.
+    Memory,
+}
+
+// The schedule of one selection.
+fn plan(alloc: Global, t: &Tables, selection: u32, period: Time) -> Result<Schedule, PlanFault>
+    requires jobs { IsPlannable t.now selection }
+    requires round { period ≡ round_of t.now }
+    requires period { period ≤ 1000000 }
+    ensures planned { IfOk result (λ s. IsPlanned t.now selection s) }
+    ensures fault { IfErr result (λ e. IsOverloadOf t.now selection e) }
+{
+    let mut jobs = [Job {
+        present: false,
+        inv: 0,
+        release: 0,
+        end: 0,
+        worst: 0,
+        preds: 0,
+    }; MAX_POSITIONS];
+    let count = abstract_jobs(t, selection, &mut jobs);
+    match edf(alloc, &jobs[..count], period) {
+        Ok(schedule) => Ok(schedule),
+        Err(EdfFault::Overload { from, to, demand }) => Err(PlanFault::Overload {
+            selection,
+            from,
+            to,
+            demand,
+        }),
+        Err(EdfFault::Memory) => Err(PlanFault::Memory),
+    }
+}
+
+/// The schedule of earliest deadline first for each root selection, in the order of the selections.
+///
+/// The jobs of each selection are as `edf` asks: at most 128, each with a window of at least one tick that ends within the
+/// round, whose length is the period of the root modules and at most 1,000,000; worst cases of at most 1,000,000; and
+/// predecessors without a cycle. There are fewer than 2^32 selections. Tables that keep the form rules and the limits are
+/// such.
+///
+/// Each schedule is accepted by the worst-case walk of its selection. `Overload` comes exactly where a selection is
+/// overloaded, and names the first; no S code whatever is accepted for it. Want of memory may come first.
+pub fn edf_all(alloc: Global, t: &Tables) -> Result<Vec<Schedule>, PlanFault>
+    requires { ArePlannable t.now }
+    ensures planned { IfOk result (λ v. ArePlanned t.now (selection_count t.now) v.items) }
+    ensures fault { IfErr result (λ e. ExplainsPlan t.now e) }
+{
+    let period = t.period().unwrap_or(0);
+    let mut schedules = Vec::new(alloc);
+    for selection in 0..t.selections() {
+        let schedule = match plan(alloc, t, selection, period) {
+            Ok(schedule) => schedule,
+            Err(fault) => return Err(fault),
+        };
+        if schedules.push(schedule).is_err() {
+            return Err(PlanFault::Memory);
+        }
+    }
+    Ok(schedules)
+}

@@ -1,0 +1,122 @@
+// Tightened windows.
+ghost use Rattle.std.specs.Prelude.{◌≡◌, ◌≤◌, ◌<◌, suc, length, pos};
+ghost use Rattle.htl_edf.specs.Tight.{release_at, end_at};
+ghost use Rattle.htl_edf.specs.Lists.{jobs_of, AreWellFormed, HoldsAfter, AreTightened};
+
+use htl_base::limits::MAX_POSITIONS;
+use htl_walk::Job;
+
+/// The tightened window of a position: each schedule that meets all windows, after all predecessors, gives the position
+/// ticks of this window alone. Both are offsets from the round's start, in ticks; the end may be negative.
+#[derive(Clone, Copy, PartialEq, Eq, Debug)]
+pub struct Tight {
+    /// The first tick that may be the position's own.
+    pub release: i64,
+    /// The end of the window, which isn't in it.
+    pub end: i64,
+}
+
+/// Whether position q waits for position p.
+pub fn waits(jobs: &[Job], p: usize, q: usize) -> bool
+    requires q_in { q < length jobs.now }
+    requires p_in { p < 128 }
+    ensures { result ≡ (jobs_of jobs.now).before p q }
+{
+    (jobs[q].preds >> p) & 1 == 1
+}
+
+// The release of q after its predecessors, whose windows are those of `so_far`.
+fn released(jobs: &[Job], so_far: &[Tight], q: usize, k: usize) -> i64
+    requires jobs { AreWellFormed jobs.now }
+    requires same { length so_far.now ≡ length jobs.now }
+    requires q_in { q < length jobs.now }
+    requires rounds { k ≤ 128 }
+    requires at { HoldsAfter jobs.now so_far.now k }
+    ensures { result ≡ pos (release_at (jobs_of jobs.now) (suc k) q) }
+{
+    let mut latest = jobs[q].release as i64;
+    for p in 0..jobs.len() {
+        if waits(jobs, p, q) {
+            let after = so_far[p].release + jobs[p].worst as i64;
+            if after > latest {
+                latest = after;
+            }
+        }
+    }
+    latest
+}
+
+// The end of p before its successors, whose windows are those of `so_far`.
+fn ended(jobs: &[Job], so_far: &[Tight], p: usize, k: usize) -> i64
+    requires jobs { AreWellFormed jobs.now }
+    requires same { length so_far.now ≡ length jobs.now }
+    requires p_in { p < length jobs.now }
+    requires rounds { k ≤ 128 }
+    requires at { HoldsAfter jobs.now so_far.now k }
+    ensures { result ≡ end_at (jobs_of jobs.now) (suc k) p }
+{
+    let mut earliest = jobs[p].end as i64;
+    for q in 0..jobs.len() {
+        if waits(jobs, p, q) {
+            let before = so_far[q].end - jobs[q].worst as i64;
+            if before < earliest {
+                earliest = before;
+            }
+        }
+    }
+    earliest
+}
+
+// One round: each window from those of the round before.
+fn round(jobs: &[Job], so_far: &[Tight], next: &mut [Tight], k: usize)
+    requires jobs { AreWellFormed jobs.now }
+    requires same { length so_far.now ≡ length jobs.now }
+    requires next_same { length next.old ≡ length jobs.now }
+    requires rounds { k ≤ 128 }
+    requires at { HoldsAfter jobs.now so_far.now k }
+    ensures { HoldsAfter jobs.now next.new (suc k) }
+{
+    for q in 0..jobs.len() {
+        next[q] = Tight {
+            release: released(jobs, so_far, q, k),
+            end: ended(jobs, so_far, q, k),
+        };
+    }
+}
+
+// The windows as the jobs have them.
+fn fill(jobs: &[Job], out: &mut [Tight])
+    requires jobs { AreWellFormed jobs.now }
+    requires same { length out.old ≡ length jobs.now }
+    ensures { HoldsAfter jobs.now out.new 0 }
+{
+    for q in 0..jobs.len() {
+        out[q] = Tight {
+            release: jobs[q].release as i64,
+            end: jobs[q].end as i64,
+        };
+    }
+}
+
+/// Writes the tightened windows of at most 128 jobs to `out`, which is as long as `jobs`. A release is the greatest of the
+/// job's own and, over its direct predecessors, their tightened releases and worst cases together; an end is the least of
+/// the job's own and, over its direct successors, their tightened ends less their worst cases (Blazewicz 1976; Chetto,
+/// Silly and Bouchentouf 1990). Exactly the schedules that meet the jobs' windows meet the tightened ones: the laws
+/// `tight_windows` and `tightening`.
+///
+/// All jobs are present, with `release < end <= 1,000,000` and `1 <= worst <= 1,000,000`. Predecessors that make a cycle
+/// have no tightened windows; what is written then means nothing. A bit of `preds` at the number of jobs or above names no
+/// position and is passed over.
+pub fn tighten(jobs: &[Job], out: &mut [Tight])
+    requires jobs { AreWellFormed jobs.now }
+    requires same { length out.old ≡ length jobs.now }
+    ensures { AreTightened jobs.now out.new }
+{
+    let mut last = [Tight { release: 0, end: 0 }; MAX_POSITIONS];
+    fill(jobs, out);
+    for k in 0..jobs.len() {
+        let before = &mut last[..jobs.len()];
+        before.copy_from_slice(out);
+        round(jobs, before, out, k);
+    }
+}

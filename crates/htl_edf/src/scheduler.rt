@@ -1,0 +1,98 @@
+// Earliest deadline first.
+ghost use Rattle.std.specs.Prelude.{◌≡◌, ◌≤◌, ◌+◌, length, IfOk, OnOk, IfErr};
+ghost use Rattle.htl_walk.specs.Walk.{IsAccepted};
+ghost use Rattle.htl_edf.specs.Windows.{NoOverload};
+ghost use Rattle.htl_edf.specs.Tight.{NoCycle};
+ghost use Rattle.htl_edf.specs.Lists.{jobs_of, tightened, AreWellFormed, EndWithin};
+ghost use Rattle.htl_edf.specs.Code.{edf_schedule};
+ghost use Rattle.htl_edf.specs.Faults.{Explains};
+
+use crate::dispatches::run_all;
+use crate::events::start;
+use crate::overload::find_overload;
+use crate::{Tight, tighten};
+use htl_base::limits::MAX_POSITIONS;
+use htl_base::{Seq, Time};
+use htl_walk::{Job, Schedule};
+use std::alloc::Global;
+
+/// Why there is no schedule.
+#[derive(Clone, Copy, PartialEq, Eq, Debug)]
+pub enum EdfFault {
+    /// The positions whose tightened windows begin at `from` or later and end by `to`, at least one, have worst cases that
+    /// sum to `demand`, which is more than `to - from`. Of the intervals with such a demand this one has the greatest end
+    /// among the tightened ends, and then the least start among the tightened releases. `from` is after `to` only where a
+    /// position waits for another, directly or through further ones, and its window ends before that one is released.
+    Overload { from: Time, to: Time, demand: u64 },
+    /// No memory was left.
+    Memory,
+}
+
+// The schedule, with room for the windows and the work left.
+fn schedule(
+    alloc: Global,
+    jobs: &[Job],
+    period: Time,
+    windows: &mut [Tight],
+    left: &mut [Time],
+) -> Result<Schedule, EdfFault>
+    requires jobs { AreWellFormed jobs.now }
+    requires order { NoCycle (jobs_of jobs.now) }
+    requires period { period ≤ 1000000 }
+    requires ends { EndWithin jobs.now period }
+    requires windows_same { length windows.old ≡ length jobs.now }
+    requires left_same { length left.old ≡ length jobs.now }
+    ensures schedule { IfOk result (λ s. s.instrs ≡ edf_schedule jobs.now period) }
+    ensures accepted { IfOk result (λ s. IsAccepted jobs.now period s.instrs) }
+    ensures short { IfOk result (λ s. length s.instrs ≤ period + 1) }
+    ensures fits { OnOk result (NoOverload (tightened jobs.now)) }
+    ensures fault { IfErr result (λ e. Explains jobs.now period e) }
+{
+    tighten(jobs, windows);
+    if let Some(i) = find_overload(jobs, windows) {
+        return Err(EdfFault::Overload {
+            from: i.from,
+            to: i.to,
+            demand: i.demand,
+        });
+    }
+    start(jobs, left);
+    match run_all(alloc, jobs, windows, left, period) {
+        Ok(instrs) => Ok(Schedule {
+            instrs: Seq::new(instrs),
+        }),
+        Err(_) => Err(EdfFault::Memory),
+    }
+}
+
+/// The schedule of earliest deadline first (Liu and Layland 1973) over the tightened windows: at each tick the released
+/// position with work left and the least tightened end runs, of several the lowest. Each maximal interval in which one
+/// position runs gives a dispatch until its end, and `End` comes last.
+///
+/// All of at most 128 jobs are present, with `release < end <= 1,000,000` and `1 <= worst <= 1,000,000`; predecessors make
+/// no cycle. The period is at most 1,000,000, and each window ends within it.
+///
+/// `worst` accepts the schedule. `Overload` comes exactly where an interval is overloaded, which is exactly where no S
+/// code whatever is accepted for these jobs; want of memory comes only where there is a schedule.
+pub fn edf(alloc: Global, jobs: &[Job], period: Time) -> Result<Schedule, EdfFault>
+    requires jobs { AreWellFormed jobs.now }
+    requires order { NoCycle (jobs_of jobs.now) }
+    requires period { period ≤ 1000000 }
+    requires ends { EndWithin jobs.now period }
+    ensures schedule { IfOk result (λ s. s.instrs ≡ edf_schedule jobs.now period) }
+    ensures accepted { IfOk result (λ s. IsAccepted jobs.now period s.instrs) }
+    ensures short { IfOk result (λ s. length s.instrs ≤ period + 1) }
+    ensures fits { OnOk result (NoOverload (tightened jobs.now)) }
+    ensures fault { IfErr result (λ e. Explains jobs.now period e) }
+{
+    let mut windows = [Tight { release: 0, end: 0 }; MAX_POSITIONS];
+    let mut left = [0; MAX_POSITIONS];
+    let count = jobs.len();
+    schedule(
+        alloc,
+        jobs,
+        period,
+        &mut windows[..count],
+        &mut left[..count],
+    )
+}
