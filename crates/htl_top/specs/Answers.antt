@@ -1,0 +1,111 @@
+-- What each answer of the top call says, answer by answer.
+use Rattle.std.specs.Prelude.{ℕ, ◌≡◌, ◌⊎◌, Option, Some, None, IfSome, List}
+use Rattle.std.specs.Io.KnownBytes.{append_known}
+use Rattle.htl_edge.specs.Causes.{Rose}
+use Rattle.htl_edge.specs.Content.{AppendsPrefix}
+use Rattle.htl_edge.specs.Holdings.{Holdings}
+use Rattle.htl_model.specs.Tables.{Tables}
+use Rattle.htl_top.specs.Causes.{IsFaultOf, IsLongFile, IsFaultySource, HasTables, IsProgram, not_built, IsRun, IsCut}
+use Rattle.htl_top.specs.Scripts.{IsNotWhole}
+use Rattle.htl_top.specs.Sources.{IsSourceFault}
+use Rattle.htl_top.specs.declared.outcome.Outcome.{Outcome}
+use Rattle.htl_top.specs.declared.outcome.Outcome.TheVariants.{Done, Usage, Source, Script, Shelf, Read, Write, Memory}
+use Rattle.htl_top.specs.declared.outcome.ShelfCause.TheVariants.{Failed, TooLong}
+
+-- the input and the output at one moment: what is left, what was written, and the counts of faults
+pub record Streams : Type 0 where
+  pub rest : Option (List ℕ)
+  pub read_faults : ℕ
+  pub written : Option (List ℕ)
+  pub write_faults : ℕ
+
+abbrev pub streams : {R W : Type 0} → (R → Option (List ℕ)) → (R → ℕ) → (W → Option (List ℕ)) → (W → ℕ) → R → W → Streams
+streams rest read_faults written write_faults input out =
+    record { rest = rest input; read_faults = read_faults input; written = written out; write_faults = write_faults out }
+
+-- what a shelf holds, and its counts of faults before a call and after
+pub record Files : Type 0 where
+  pub holds : Option Holdings
+  pub before : List ℕ → ℕ
+  pub after : List ℕ → ℕ
+
+abbrev pub files : {S : Type 0} → (S → Option Holdings) → (S → List ℕ → ℕ) → S → S → Files
+files holds faults old new = record { holds = holds old; before = faults old; after = faults new }
+
+-- nothing was read and nothing written
+pub record IsUntouched (old new : Streams) : Type 0 where
+  pub rest : new.rest ≡ old.rest
+  pub written : new.written ≡ old.written
+
+-- a text was written whole, or a prefix of it where the count of faults rose
+abbrev pub IsWritten : List ℕ → Option (List ℕ) → Option (List ℕ) → ℕ → ℕ → Outcome → Type 0
+IsWritten text old new before now Done = new ≡ append_known old text
+IsWritten text old new before now Write = Rose before now × AppendsPrefix old new text
+IsWritten text old new before now Usage = ⊥
+IsWritten text old new before now (Source fault) = ⊥
+IsWritten text old new before now (Script fault) = ⊥
+IsWritten text old new before now (Shelf cause) = ⊥
+IsWritten text old new before now Read = ⊥
+IsWritten text old new before now Memory = ⊥
+
+-- these tables are run with the input as script
+abbrev pub IsPlayed : Tables → Streams → Streams → Outcome → Type 0
+IsPlayed tables old new Done = IsRun tables old.rest new.rest old.written new.written
+IsPlayed tables old new (Script fault) = (fault ≡ not_built) × IfSome old.rest (IsNotWhole tables) × (new.written ≡ old.written)
+IsPlayed tables old new Read = Rose old.read_faults new.read_faults × (new.written ≡ old.written)
+IsPlayed tables old new Write = Rose old.write_faults new.write_faults × IsCut tables old.rest old.written new.written
+IsPlayed tables old new Memory = new.written ≡ old.written
+IsPlayed tables old new Usage = ⊥
+IsPlayed tables old new (Source fault) = ⊥
+IsPlayed tables old new (Shelf cause) = ⊥
+
+-- the source with these bytes is compiled and run
+abbrev pub IsGone : List ℕ → Streams → Streams → Outcome → Type 0
+IsGone bytes old new Done = HasTables bytes (λ tables. IsPlayed tables old new Done)
+IsGone bytes old new (Script fault) = HasTables bytes (λ tables. IsPlayed tables old new (Script fault))
+IsGone bytes old new Read = HasTables bytes (λ tables. IsPlayed tables old new Read)
+IsGone bytes old new Write = HasTables bytes (λ tables. IsPlayed tables old new Write)
+IsGone bytes old new Memory = new.written ≡ old.written
+IsGone bytes old new (Source fault) = IsSourceFault bytes fault × IsUntouched old new
+IsGone bytes old new Usage = ⊥
+IsGone bytes old new (Shelf cause) = ⊥
+
+-- the whole call, for the name in its words
+abbrev pub IsAnswer : Option (List ℕ) → Files → Streams → Streams → Outcome → Type 0
+IsAnswer name shelf old new Usage = (name ≡ None) × IsUntouched old new
+IsAnswer name shelf old new (Shelf Failed) = IsFaultOf name shelf.before shelf.after × IsUntouched old new
+IsAnswer name shelf old new (Shelf (TooLong seen)) = IsLongFile name shelf.holds seen × IsUntouched old new
+IsAnswer name shelf old new (Source fault) = IsFaultySource name shelf.holds fault × IsUntouched old new
+IsAnswer name shelf old new Done = IsProgram name shelf.holds (λ tables. IsPlayed tables old new Done)
+IsAnswer name shelf old new (Script fault) = IsProgram name shelf.holds (λ tables. IsPlayed tables old new (Script fault))
+IsAnswer name shelf old new Read = IsProgram name shelf.holds (λ tables. IsPlayed tables old new Read)
+IsAnswer name shelf old new Write = IsProgram name shelf.holds (λ tables. IsPlayed tables old new Write)
+IsAnswer name shelf old new Memory = ((word : List ℕ) × (name ≡ Some word)) × (new.written ≡ old.written)
+
+-- ---- what other answers leave as it was
+
+-- answers after which nothing was read
+abbrev pub IsBeforeScript : Outcome → Type 0
+IsBeforeScript Usage = Unit {0}
+IsBeforeScript (Shelf cause) = Unit {0}
+IsBeforeScript (Source fault) = Unit {0}
+IsBeforeScript Done = ⊥
+IsBeforeScript (Script fault) = ⊥
+IsBeforeScript Read = ⊥
+IsBeforeScript Write = ⊥
+IsBeforeScript Memory = ⊥
+
+-- answers after which nothing was written
+abbrev pub IsBeforeRun : Outcome → Type 0
+IsBeforeRun Usage = Unit {0}
+IsBeforeRun (Shelf cause) = Unit {0}
+IsBeforeRun (Source fault) = Unit {0}
+IsBeforeRun (Script fault) = Unit {0}
+IsBeforeRun Read = Unit {0}
+IsBeforeRun Memory = Unit {0}
+IsBeforeRun Done = ⊥
+IsBeforeRun Write = ⊥
+
+-- What is told on a sink: the whole line, or a prefix of it where the count of faults rose.
+abbrev pub Tells : Option (List ℕ) → Option (List ℕ) → ℕ → ℕ → List ℕ → Type 0
+Tells old new before now line = (new ≡ append_known old line) ⊎ (Rose before now × AppendsPrefix old new line)

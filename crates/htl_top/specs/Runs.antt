@@ -1,0 +1,19 @@
+-- What a run goes by.
+use Rattle.std.specs.Prelude.{◌≡◌, ◌≤◌, ℕ, List, [], ◌∷◌, map}
+use Rattle.htl_model.specs.declared.event.Event.{Event}
+use Rattle.htl_model.specs.declared.event.Event.TheVariants as V
+use Rattle.htl_model.specs.Tables.{Tables}
+use Rattle.htl_top.specs.declared.board.Board.{Board}
+
+-- the readings of the events never fall, from one that stands before them
+abbrev pub AreInOrder : ℕ → List Event → Type 0
+AreInOrder reading [] = Unit {0}
+AreInOrder reading (V.At t ∷ es) = (reading ≤ t) × AreInOrder t es
+AreInOrder reading (V.Sense c x ∷ es) = AreInOrder reading es
+AreInOrder reading (V.Took i n ∷ es) = AreInOrder reading es
+AreInOrder reading (V.End t ∷ es) = AreInOrder reading es
+
+-- each communicator has its initial value
+pub record IsFresh (t : Tables) (b : Board) : Type 0 where
+  pub latest : b.latest ≡ map (λ x. x.init) t.comms
+  pub shown : b.shown ≡ map (λ x. x.init) t.comms

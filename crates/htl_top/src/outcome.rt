@@ -1,0 +1,70 @@
+// What the top call answers.
+ghost use Rattle.std.specs.Prelude.{◌≡◌};
+ghost use Rattle.htl_top.specs.Status.{status_of};
+
+use crate::SourceFault;
+
+/// Why a script is refused.
+#[derive(Clone, Copy, PartialEq, Eq, Debug)]
+pub enum ScriptKind {
+    /// It isn't a whole script. Its first fault isn't told yet.
+    NotBuilt,
+}
+
+/// A script that is refused.
+#[derive(Clone, Copy, PartialEq, Eq, Debug)]
+pub struct ScriptFault {
+    /// The number of the line, from 1; 0 where the script as a whole is refused.
+    pub line: u64,
+    pub kind: ScriptKind,
+}
+
+/// Why the shelf didn't give a file.
+#[derive(Clone, Copy, PartialEq, Eq, Debug)]
+pub enum ShelfCause {
+    /// It failed, and counted it as a fault of the name; so it does where it has no such file.
+    Failed,
+    /// The file has too many bytes: more than 1,048,576 for a source.
+    TooLong {
+        /// How many bytes were seen: all of them, where the shelf tells what it holds.
+        seen: u64,
+    },
+}
+
+/// What a command of the tool came to.
+#[derive(Clone, Copy, PartialEq, Eq, Debug)]
+pub enum Outcome {
+    /// All was written.
+    Done,
+    /// The words are no command.
+    Usage,
+    /// The source has no tables.
+    Source(SourceFault),
+    /// The script isn't whole.
+    Script(ScriptFault),
+    /// The shelf didn't give the file.
+    Shelf(ShelfCause),
+    /// The input failed.
+    Read,
+    /// The output failed; a prefix was written.
+    Write,
+    /// No memory was left.
+    Memory,
+}
+
+/// The status with which the program ends: 0 for Done, 2 Usage, 3 Source, 7 Script, 8 Shelf, 9 Read, 10 Write
+/// and 11 Memory.
+pub fn status(o: &Outcome) -> u8
+    ensures { result ≡ status_of o.now }
+{
+    match o {
+        Outcome::Done => 0,
+        Outcome::Usage => 2,
+        Outcome::Source(_) => 3,
+        Outcome::Script(_) => 7,
+        Outcome::Shelf(_) => 8,
+        Outcome::Read => 9,
+        Outcome::Write => 10,
+        Outcome::Memory => 11,
+    }
+}
