@@ -1,5 +1,5 @@
 -- Steps of the descent through expressions.
-use Rattle.std.proofs.Common.{arith, ◌≡◌, ◌<◌, ℕ, List, ◌∷◌, length, Option, None, Some, Ok, Err, refl, sym, ap, ◌∙◌}
+use Rattle.std.proofs.Common.{arith, ◌≡◌, ◌<◌, ℕ, List, ◌∷◌, length, Option, None, Some, Ok, refl, sym, ap, ◌∙◌}
 use Rattle.htl_base.specs.declared.operator.BinOp.{BinOp}
 use Rattle.htl_text.specs.Placed.{Placed, Put}
 use Rattle.htl_text.specs.Expressions.{Expr, expr_of, Infix}

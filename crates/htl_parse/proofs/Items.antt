@@ -3,7 +3,7 @@ use Rattle.std.proofs.Common.{arith, ◌≡◌, ◌<◌, ℕ, zero, suc, List, [
 use Rattle.htl_text.specs.Placed.{Placed, Put}
 use Rattle.htl_parse.specs.Reading.{Read, Reader, ◌>>=◌}
 use Rattle.htl_parse.specs.ReadingStatements.{param_at, out_at, end_at}
-use Rattle.htl_parse.specs.ReadingLists.{more_at, items_at, closed_at, closing_at}
+use Rattle.htl_parse.specs.ReadingLists.{more_at, items_at}
 use Rattle.htl_parse.proofs.Sound.{Holds}
 use Rattle.htl_parse.proofs.Statements.{param-sound, param-shorter, out-sound, out-shorter, end-sound, end-shorter}
 use Rattle.htl_text.specs.Statements.{SpellsParam, SpellsOut, SpellsEnd}

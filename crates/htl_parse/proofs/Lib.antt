@@ -1,7 +1,9 @@
 pub mod Basics
+pub mod Bounded
 pub mod Coding
 pub mod Complete
 pub mod Descent
+pub mod Firsts
 pub mod Fixed
 pub mod Items
 pub mod Listing

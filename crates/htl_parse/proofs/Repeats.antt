@@ -1,11 +1,10 @@
 -- Steps of reading repeated items.
-use Rattle.std.proofs.Common.{arith, ◌≡◌, ◌<◌, Bool, true, false, List, [], ◌∷◌, ◌++◌, length, Ok, Err, refl, ap, ◌∙◌, append-nil}
+use Rattle.std.proofs.Common.{arith, ◌≡◌, ◌<◌, Bool, true, false, List, [], ◌∷◌, ◌++◌, length, Ok, Err, refl, ap, ◌∙◌}
 use Rattle.htl_text.specs.Placed.{Placed}
 use Rattle.htl_text.specs.Statements.{SpellsComm, SpellsTask, SpellsPort, SpellsInvoke, SpellsSwitch, SpellsMode, SpellsModule, SpellsProgram}
-use Rattle.htl_text.specs.Nodes.{PlainProgram}
 use Rattle.htl_parse.specs.Reading.{Read, Reader, ◌>>=◌}
 use Rattle.htl_parse.specs.ReadingLists.{again_at, repeated_at}
-use Rattle.htl_parse.specs.ReadingStatements.{begins_comm, comm_at, begins_task, task_at, begins_port, port_at, begins_invoke, invoke_at, begins_switch, switch_at, begins_mode, mode_at, begins_module, module_at, begins_program, program_at, source_at}
+use Rattle.htl_parse.specs.ReadingStatements.{begins_comm, comm_at, begins_task, task_at, begins_port, port_at, begins_invoke, invoke_at, begins_switch, switch_at, begins_mode, mode_at, begins_module, module_at, begins_program, program_at}
 use Rattle.htl_parse.proofs.Items.{Less, with_front, front-append, less-of}
 use Rattle.htl_parse.proofs.Parts.{comm-sound, comm-part, task-sound, task-part, port-sound, port-part, invoke-sound, invoke-part, switch-sound, switch-part}
 use Rattle.htl_parse.proofs.Repeating.{repeated-is}

@@ -1,13 +1,14 @@
 -- From the reading of whole sources to what they spell.
-use Rattle.std.proofs.Common.{arith, ◌≡◌, ◌<◌, ℕ, List, [], Result, Ok, Err, refl, subst, ap, inl, inr}
+use Rattle.std.proofs.Common.{◌≡◌, ℕ, List, [], Result, Ok, Err, refl, subst, ap, inl, inr}
 use Rattle.htl_text.specs.Placed.{Placed, numbered}
 use Rattle.htl_text.specs.Nodes.{PlainProgram, tree_of}
 use Rattle.htl_text.specs.Statements.{SpellsSource}
 use Rattle.htl_parse.specs.Reading.{Read}
 use Rattle.htl_parse.specs.ReadingStatements.{source_at}
-use Rattle.htl_parse.specs.Runs.{IsFirstLong}
+use Rattle.htl_parse.specs.Runs.{IsLong}
 use Rattle.htl_parse.specs.Cursors.{Gives}
 use Rattle.htl_parse.specs.Answers.{IsTree, IsParsed, TellsTree, TellsLong, TellsSyntax}
+use Rattle.htl_parse.proofs.Firsts.{first-unique}
 use Rattle.htl_parse.proofs.Sound.{Holds}
 use Rattle.htl_parse.proofs.Sources.{source-sound, source-complete}
 use Rattle.htl_text.specs.declared.token.Token.{Token}
@@ -53,20 +54,11 @@ tells-tree tokens (Err fault.Syntax) is = λ tree short s. is.1 tree s
 tells-tree tokens (Err fault.Memory) is = λ tree short s. tt
 tells-tree tokens (Err (fault.Long k)) is = λ tree short s. short k is.long
 
-below : (tokens : List Token) (j k : ℕ) → IsFirstLong tokens j → IsFirstLong tokens k → j < k → ⊥
-below tokens j k one two less = two.first j less one.long
-
-ordered : (j k : ℕ) → (j < k → ⊥) → (k < j → ⊥) → j ≡ k
-ordered j k one two = omega arith
-
-first-unique : (tokens : List Token) (j k : ℕ) → IsFirstLong tokens j → IsFirstLong tokens k → j ≡ k
-first-unique tokens j k one two = ordered j k (below tokens j k one two) (below tokens k j two one)
-
 pub tells-long : (tokens : List Token) (result : Result Tree ParseFault) → IsParsed tokens result → TellsLong tokens result
 tells-long tokens (Ok t) is = λ k first. absurd (is.0 k first.long)
 tells-long tokens (Err fault.Syntax) is = λ k first. absurd (is.0 k first.long)
 tells-long tokens (Err fault.Memory) is = λ k first. absurd (is k first.long)
-tells-long tokens (Err (fault.Long j)) is = λ k first. ap (λ (n : ℕ). Err (fault.Long n)) (first-unique tokens j k is first)
+tells-long tokens (Err (fault.Long j)) is = λ k first. ap (λ (n : ℕ). Err (fault.Long n)) (first-unique (IsLong tokens) j k is.long first.long is.first first.first)
 
 pub tells-syntax : (tokens : List Token) (result : Result Tree ParseFault) → IsParsed tokens result → TellsSyntax tokens result
 tells-syntax tokens (Ok t) is = λ short none. absurd (none (tree_of t) is.1)

@@ -1,10 +1,11 @@
 -- Laws over all tokens and all trees.
 use Rattle.std.specs.Prelude.{◌≡◌, ◌≤◌, List, [], length}
-use Rattle.htl_text.specs.Laws.{AreSpellable}
+use Rattle.htl_text.specs.Bounds.{IsBounded}
 use Rattle.htl_text.specs.Nodes.{PlainProgram}
 use Rattle.htl_text.specs.PrintedBytes.{printed_bytes}
 use Rattle.htl_text.specs.PrintedTokens.{source_tokens}
 use Rattle.htl_text.specs.Spans.{Tokens}
+use Rattle.htl_text.specs.Spellable.{AreSpellable}
 use Rattle.htl_text.specs.TokenLists.{TokenList}
 use Rattle.htl_parse.specs.Answers.{Spell}
 use Rattle.htl_parse.specs.Bare.{AreAlike}
@@ -14,6 +15,11 @@ use Rattle.htl_text.specs.declared.token.Token.{Token}
 -- tokens spell at most one tree
 abbrev pub OneTree : Type 0
 OneTree = (tokens : List Token) (t u : List PlainProgram) → Spell tokens t → Spell tokens u → t ≡ u
+
+-- a tree is bounded that at most 1,048,576 tokens spell, each such as a text can spell, with no long run
+abbrev pub TreesBounded : Type 0
+TreesBounded =
+    (tokens : List Token) (tree : List PlainProgram) → length tokens ≤ 1048576 → AreSpellable tokens → AreShort tokens → Spell tokens tree → IsBounded tree
 
 -- the tokens of the printed form of a tree with a program spell the tree again, but for the numbers of its tokens
 abbrev pub TokensAgain : Type 0

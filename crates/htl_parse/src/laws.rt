@@ -1,9 +1,17 @@
 // What holds of all tokens and all trees. These functions do nothing; their clauses are the laws.
-ghost use Rattle.htl_parse.specs.Laws.{OneTree, TokensAgain, ParsesAgain};
+ghost use Rattle.htl_parse.specs.Laws.{OneTree, TreesBounded, TokensAgain, ParsesAgain};
 
 /// Tokens spell at most one tree.
 pub fn one_tree()
     ensures { OneTree }
+{}
+
+/// A tree is bounded that is spelled by at most 1,048,576 tokens, no more than 512 of them in a run without
+/// `;`, `{` and `}`: it has at most 1,048,576 programs and items of any kind, at most 256 in each list of
+/// parameters or ends, at most 512 nodes in each expression, at most 256 names in each switch condition, and
+/// no negative literal.
+pub fn trees_bounded()
+    ensures { TreesBounded }
 {}
 
 /// The tokens of the printed form of a tree spell it again, but for the numbers of its tokens.

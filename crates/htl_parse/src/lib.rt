@@ -11,7 +11,7 @@ mod source;
 mod statement;
 mod stop;
 
-pub use laws::{one_tree, parses_again, tokens_again};
+pub use laws::{one_tree, parses_again, tokens_again, trees_bounded};
 pub use parser::{ParseFault, parse};
 
 #[cfg(test)]

@@ -1,5 +1,7 @@
 // Whole sources.
-ghost use Rattle.std.specs.Prelude.{◌≤◌, length};
+ghost use Rattle.std.specs.Prelude.{◌≤◌, length, IfOk};
+ghost use Rattle.htl_text.specs.Bounds.{IsBounded};
+ghost use Rattle.htl_text.specs.Nodes.{tree_of};
 ghost use Rattle.htl_parse.specs.Answers.{IsTree, IsParsed, TellsTree, TellsLong, TellsSyntax};
 
 use crate::cursor::Cursor;
@@ -43,12 +45,15 @@ impl From<Stop> for ParseFault {
 
 /// The tree that the tokens spell; at most one tree does. `Long` comes exactly where a run of tokens without
 /// `;`, `{` and `}` has more than 512, and is tried first; `Syntax` where no tree spells the tokens; `Memory`
-/// only where no memory was left. The depth of the recursion is bounded by the length of such a run.
+/// only where no memory was left. The depth of the recursion is bounded by the length of such a run. The tree
+/// has at most 1,048,576 programs and items of any kind, at most 256 in each list of parameters or ends, at
+/// most 512 nodes in each expression, at most 256 names in each switch condition, and no negative literal.
 pub fn parse(alloc: Global, tokens: &Tokens) -> Result<Tree, ParseFault>
     ensures answer { IsParsed tokens.now.tokens result }
     ensures tree { TellsTree tokens.now.tokens result }
     ensures long { TellsLong tokens.now.tokens result }
     ensures syntax { TellsSyntax tokens.now.tokens result }
+    ensures bounded { IfOk result (λ tree. IsBounded (tree_of tree)) }
 {
     parse_tokens(alloc, tokens.as_slice())
 }

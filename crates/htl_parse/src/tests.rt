@@ -77,23 +77,44 @@ fn each_form_parses(rt: HostRuntime) -> Result<(), Fail> {
     Ok(())
 }
 
-// The first tokens of a text spell nothing, however many they are.
+// Whether the first tokens of a text spell nothing, however many they are, and all of them a tree.
+fn needs_each_token(alloc: Global, text: &[u8]) -> bool {
+    if text.len() > 1_048_576 {
+        return false;
+    }
+    let Ok(tokens) = lex(alloc, text) else {
+        return false;
+    };
+    for place in 0..tokens.len() {
+        let end = tokens.offset(place) as usize;
+        if end > text.len() || !is_refused(alloc, &text[..end]) {
+            return false;
+        }
+    }
+    matches!(answer(alloc, text), Some(Ok(_)))
+}
+
+fn is_refused(alloc: Global, text: &[u8]) -> bool {
+    matches!(answer(alloc, text), Some(Err(ParseFault::Syntax)))
+}
+
 #[test]
 fn prefixes_are_refused(rt: HostRuntime) -> Result<(), Fail> {
     let text = b"program P { communicator int a period 1 init -1; module M start m {
         task t input (int x, bool y) output (int z = if(!y, x*-3, (2)), int w = 1) worst 3;
         mode m period 1 program Q { port int p; invoke t input ((a, 0), p) output (p) parent u;
         switch (a >= 3 || false, m); } } }";
-    let tokens = lex(rt.alloc(), text).expect(&rt, "tokens");
-    let count = tokens.len();
-    for place in 0..count {
-        let end = tokens.offset(place) as usize;
-        assert!(rt; end <= text.len());
-        let found = answer(rt.alloc(), &text[..end]).expect(&rt, "tokens");
-        assert!(rt; matches!(found, Err(ParseFault::Syntax)), "up to {place}");
-    }
-    let found = answer(rt.alloc(), text).expect(&rt, "tokens");
-    assert!(rt; found.is_ok());
+    assert!(rt; needs_each_token(rt.alloc(), text));
+    Ok(())
+}
+
+#[test]
+fn prefixes_of_one_task_are_refused(rt: HostRuntime) -> Result<(), Fail> {
+    let text = b"program P { sensor int s period 10 init 0; communicator int u period 10 init 7;
+        module M start m { task dbl input (int x) output (int y = x * 2) worst 4;
+        mode m period 20 { invoke dbl input ((s, 0)) output ((u, 1)); } } }";
+    assert!(rt; needs_each_token(rt.alloc(), text));
+    assert!(rt; !needs_each_token(rt.alloc(), b"program P {} program Q {}"));
     Ok(())
 }
 

@@ -16,6 +16,7 @@ use Rattle.htl_text.specs.TokenLists.{AreHeld}
 use Rattle.htl_text.specs.Scanning.{skip, token_len}
 use Rattle.htl_text.proofs.Lengths.{token-most, token_len-fits}
 use Rattle.htl_text.proofs.Skipping.{IsSolid, Skipped, skipped, IsSpan-front, Cuts-push}
+use Rattle.htl_text.proofs.Spellable.{cuts-spellable}
 use Rattle.htl_text.specs.declared.token.Token.{Token}
 use Rattle.htl_text.specs.declared.token.Token.TheVariants.{Ident, Number, Word, Sign}
 use Rattle.htl_text.specs.declared.token.Sign.{Sign as ASign}
@@ -241,6 +242,7 @@ pub AreFound-held : (bytes rest : List ℕ) (tokens : List Token) (offsets : Lis
 AreFound-held bytes rest tokens offsets fits so = record {
   paired = so.paired;
   short = let n = length-zip tokens offsets in omega (arith, n, so.paired, so.cutting.few, so.cutting.at, fits);
+  spellable = cuts-spellable tokens offsets 0 bytes so.cutting.end rest so.paired so.cutting.cuts;
 }
 
 pub AreFound-end : (bytes rest here : List ℕ) (tokens : List Token) (offsets : List ℕ) (end : ℕ) → AreFound bytes rest tokens offsets → here ≡ skip false rest → here ≡ [] → end ≡ length bytes

@@ -6,6 +6,7 @@ pub mod Numbers
 pub mod OneCut
 pub mod Reprinted
 mod Rows
+pub mod Sizes
 pub mod Skipping
 pub mod Spellable
 pub mod Writing

@@ -10,7 +10,7 @@ use Rattle.std.proofs.lemmas.Fmt.{decimal_is_IsNumeral}
 use Rattle.std.proofs.lemmas.Bool.Decides.{nat_tests}
 use Rattle.std.proofs.lemmas.Slice.Eq.{bytes_eq-Decides}
 use Rattle.htl_base.specs.Names.{is_word_byte, is_identifier, is_name, is_reserved}
-use Rattle.htl_text.specs.Laws.{IsSpellable, AreSpellable}
+use Rattle.htl_text.specs.Spellable.{IsSpellable, AreSpellable}
 use Rattle.htl_text.specs.PrintedBytes.{word_text, sign_text, token_text, separator, printed_bytes}
 use Rattle.htl_text.specs.Texts.{is_token, is_number, token_of, words, word_of, signs, sign_of, number_of, or_else, look_up}
 use Rattle.htl_text.specs.Spans.{Gap, none, blank, IsSpan, Cuts, Tokens, is_blank}

@@ -1,10 +1,11 @@
--- The printed form of a program, as the definitions compute it.
-use Rattle.std.proofs.Common.{◌≡◌, ℕ, pos, true, Some, List, [], ◌∷◌, ◌++◌, refl}
+-- The printed form of a program and its size, as the definitions compute them.
+use Rattle.std.proofs.Common.{◌≡◌, ◌+◌, ℕ, pos, true, Some, List, [], ◌∷◌, ◌++◌, refl}
 use Rattle.std.specs.Prelude.{codes}
 use Rattle.std.specs.Fmt.{decimal}
 use Rattle.htl_base.specs.declared.Ty.TheVariants as ty
 use Rattle.htl_base.specs.declared.operator.UnOp.TheVariants as un
 use Rattle.htl_base.specs.declared.operator.BinOp.TheVariants as bin
+use Rattle.htl_text.specs.Bounds.{nodes, names_of, tree_size}
 use Rattle.htl_text.specs.Expressions.{Expr, Number, Flag, Variable, Prefix, Infix, Choice}
 use Rattle.htl_text.specs.Nodes.{PlainOut, Concrete, Abstract, PlainTask, PlainMode, PlainProgram}
 use Rattle.htl_text.specs.PrintedTokens.{source_tokens}
@@ -84,3 +85,15 @@ printed : printed_bytes (source_tokens (program ∷ []))
     ++ (codes "invoke t input ( ( u , " ++ number 2 (codes ") , ( u , " ++ number 2 (codes ") ) output ( q ) parent s ;\nswitch ( ( ! a ) , m ) ;\n}\n}\n}\n")))))))))))
 unfolding printed_bytes
 printed = refl
+
+-- if and three operators over five atoms, of which three are names
+output_nodes : nodes output.value ≡ 9
+output_nodes = refl
+
+output_names : names_of output.value ≡ id (codes "a") ∷ id (codes "a") ∷ id (codes "a") ∷ []
+output_names = refl
+
+-- a program, a communicator, a module, two tasks with two inputs and two outputs, a mode, a port, an invocation
+-- with three ends, a switch, and eleven nodes of expressions
+size : tree_size (program ∷ []) ≡ 1 + 1 + 1 + 2 + 2 + 2 + 1 + 1 + 1 + 3 + 1 + 11
+size = refl

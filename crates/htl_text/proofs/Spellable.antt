@@ -6,7 +6,7 @@ use Rattle.std.specs.Option.{option_map}
 use Rattle.std.specs.Str.Parse.{digits_value}
 use Rattle.std.proofs.lemmas.Bool.Decides.{nat_tests}
 use Rattle.htl_base.specs.Names.{is_name}
-use Rattle.htl_text.specs.Laws.{IsSpellable, AreSpellable}
+use Rattle.htl_text.specs.Spellable.{IsSpellable, AreSpellable}
 use Rattle.htl_text.specs.Spans.{Cuts, Tokens}
 use Rattle.htl_text.specs.Texts.{is_number, number_of, or_else, token_of, word_of, sign_of}
 use Rattle.htl_text.specs.TokenLists.{TokenList}
@@ -33,7 +33,7 @@ spellable text t e = by (is_number text) (word_of text) (sign_of text) (is_name 
     by false None None true f e = inside (Ident text) t e f
     by false None None false f e = absurd cc
 
-cuts-spellable : (ts : List Token) (os : List ℕ) (at : ℕ) (bytes : List ℕ) (end : ℕ) (rest : List ℕ) → length os ≡ length ts → Cuts at bytes (zip ts os) end rest
+pub cuts-spellable : (ts : List Token) (os : List ℕ) (at : ℕ) (bytes : List ℕ) (end : ℕ) (rest : List ℕ) → length os ≡ length ts → Cuts at bytes (zip ts os) end rest
     → AreSpellable ts
 cuts-spellable [] os at bytes end rest e p = tt
 cuts-spellable (t ∷ ts) [] at bytes end rest e p = absurd (omega (arith, e))

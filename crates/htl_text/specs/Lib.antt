@@ -1,4 +1,5 @@
 pub mod Answers
+pub mod Bounds
 pub mod Expressions
 pub mod Grammar
 pub mod Laws
@@ -8,6 +9,7 @@ pub mod PrintedBytes
 pub mod PrintedTokens
 pub mod Scanning
 pub mod Spans
+pub mod Spellable
 pub mod Statements
 pub mod Texts
 pub mod TokenLists

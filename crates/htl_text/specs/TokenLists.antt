@@ -1,5 +1,6 @@
 -- The tokens of a text with their places.
 use Rattle.std.specs.Prelude.{ℕ, ◌≡◌, ◌≤◌, List, length}
+use Rattle.htl_text.specs.Spellable.{AreSpellable}
 use Rattle.htl_text.specs.declared.token.Token.{Token}
 
 -- offsets has the place of each token's first byte, and end is the length of the text
@@ -11,3 +12,4 @@ pub record TokenList : Type 0 where
 pub record AreHeld (tokens : List Token) (offsets : List ℕ) : Type 0 where
   pub paired : length offsets ≡ length tokens
   pub short : length tokens ≤ 1048576
+  pub spellable : AreSpellable tokens

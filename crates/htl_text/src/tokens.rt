@@ -1,5 +1,6 @@
 // The tokens of a source with their places.
 ghost use Rattle.std.specs.Prelude.{◌≡◌, ◌≤◌, ◌<◌, ◌++◌, ◌∷◌, [], Some, length, slice_get};
+ghost use Rattle.htl_text.specs.Spellable.{AreSpellable};
 ghost use Rattle.htl_text.specs.TokenLists.{AreHeld};
 
 use crate::token::Token;
@@ -66,10 +67,12 @@ impl Tokens {
         self.tokens[place]
     }
 
-    /// All tokens, in order.
+    /// All tokens, in order. Each is a name, a number from 0 to 9,223,372,036,854,775,807, a reserved word or
+    /// a sign.
     pub fn as_slice(&self) -> &[Token]
         ensures value { result.now ≡ self.now.tokens }
         ensures short { length result.now ≤ 1048576 }
+        ensures spellable { AreSpellable result.now }
     {
         self.tokens.as_slice()
     }
