@@ -1,7 +1,6 @@
 //! The function machine: a verifier of function code, and the machine that runs what it passes.
 #![tactic(auto)]
 
-mod arithmetic;
 mod machine;
 mod operation;
 #[cfg(test)]

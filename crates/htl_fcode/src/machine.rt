@@ -6,11 +6,11 @@ ghost use Rattle.htl_fcode.specs.Arguments.{AreArguments};
 ghost use Rattle.htl_fcode.specs.Stacks.{operation_of, values_after};
 
 use crate::Verified;
-use crate::arithmetic::{combine, negate};
 use crate::operation::Operation;
 use crate::value_stack::ValueStack;
 use htl_base::Value;
 use htl_model::FInstr;
+use htl_model::eval::{combine, negate};
 
 /// The value of a function for its arguments: as many as the code declares, those of type bool 0 or 1.
 pub fn eval(v: Verified<'_>, args: &[Value]) -> Value

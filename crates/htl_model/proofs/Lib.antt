@@ -1,4 +1,5 @@
 pub mod ChoiceLaws
+pub mod FormRows
 pub mod Laws
 pub mod Locality
 pub mod PlainLaws

@@ -56,8 +56,9 @@ empty_mode =
       functions = [];
     }
 
-abbrev pub source_a : Tables
-source_a =
+-- a task that doubles what a sensor shows
+abbrev pub doubling : Tables
+doubling =
     record {
       comms = sensor (codes "s") IntTy 10 ∷ plain (codes "u") 10 (pos 7) ∷ [];
       modes = mode (codes "m") 0 20 ∷ [];
@@ -69,8 +70,9 @@ source_a =
       functions = formula (Binary 0 Mul (Arg 0 0) (Number 0 (pos 2))) ∷ [];
     }
 
-abbrev pub source_b : Tables
-source_b =
+-- two invocations, the window of the second within that of the first
+abbrev pub preempted : Tables
+preempted =
     record {
       comms = plain (codes "x") 2 (pos 1) ∷ plain (codes "y") 2 (pos 0) ∷ plain (codes "z") 10 (pos 0) ∷ [];
       modes = mode (codes "m") 0 10 ∷ [];
@@ -96,8 +98,9 @@ ports =
       functions = formula (Binary 0 Add (Arg 0 0) (Number 0 (pos 5))) ∷ formula (Binary 0 Mul (Arg 0 0) (Number 0 (pos 2))) ∷ [];
     }
 
-abbrev pub source_c : Tables
-source_c =
+-- an abstract invocation, and a refinement whose modes `off` and `on` leave it out or stand for it
+abbrev pub refined : Tables
+refined =
     record {
       comms = plain (codes "u") 10 (pos 3) ∷ plain (codes "w") 10 (pos 0) ∷ sensor (codes "g") BoolTy 10 ∷ [];
       modes = mode (codes "m") 0 10 ∷ mode (codes "off") 1 10 ∷ mode (codes "on") 1 10 ∷ [];
@@ -113,9 +116,9 @@ source_c =
           ∷ formula (Arg 0 0) ∷ formula (Unary 0 Not (Arg 0 0)) ∷ [];
     }
 
--- g sensor, u; M.m (0), M.rest (1); N.one (2), N.two (3); the root's switch in m goes to `to`
-abbrev pub source_d : ℕ → Tables
-source_d to =
+-- a refined mode, and one that isn't; the switch of the refined mode goes to mode `to`: 1 leaves it, 0 is itself
+abbrev pub reentered : ℕ → Tables
+reentered to =
     record {
       comms = sensor (codes "g") BoolTy 10 ∷ plain (codes "u") 10 (pos 0) ∷ [];
       modes = mode (codes "m") 0 10 ∷ mode (codes "rest") 0 10 ∷ mode (codes "one") 1 10 ∷ mode (codes "two") 1 10 ∷ [];
@@ -132,8 +135,9 @@ source_d to =
           ∷ formula (Binary 0 Ge (Arg 0 0) (Number 0 (pos 1))) ∷ [];
     }
 
-abbrev pub source_e : Tables
-source_e =
+-- one module of two modes by turns, without refinement
+abbrev pub alternating : Tables
+alternating =
     record {
       comms = sensor (codes "g") BoolTy 10 ∷ plain (codes "u") 10 (pos 0) ∷ [];
       modes = mode (codes "one") 0 10 ∷ mode (codes "two") 0 10 ∷ [];

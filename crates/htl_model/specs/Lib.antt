@@ -1,9 +1,17 @@
+pub mod Broken
+pub mod EndRules
+pub mod FormRules
 pub mod Functions
 pub mod Lines
 pub mod Lists
 pub mod Meaning
+pub mod PeriodRules
 pub mod Plain
+pub mod PortOrder
+pub mod PortWriters
 pub mod Ranges
+pub mod RefinementRules
+pub mod SecondWriters
 pub mod Selections
 pub mod Slow
 pub mod Tables

@@ -5,7 +5,8 @@ use Rattle.std.specs.List.{flat_map}
 use Rattle.htl_model.specs.declared.event.Event.{Event}
 use Rattle.htl_model.specs.declared.line.Line.{Line}
 use Rattle.htl_model.specs.declared.line.Line.TheVariants.{ValueLine, ModeLine}
-use Rattle.htl_model.specs.Meaning.{run_lines}
+use Rattle.htl_model.specs.Lists.{up_to}
+use Rattle.htl_model.specs.Meaning.{run_lines, value_lines}
 use Rattle.htl_model.specs.Selections.{root_modules}
 use Rattle.htl_model.specs.Tables.{Tables, mode_period}
 
@@ -51,6 +52,14 @@ empty_e_count t at = sum (map (λ k. 3 * rounds_to (unit_period t k) at) (root_m
 
 abbrev pub empty_s_count : Tables → ℕ → ℕ
 empty_s_count t at = elim (root_modules t) [ [] ↦ 0 | k ∷ ks ↦ rounds_to (unit_period t k) at ]
+
+-- the lines of the instants 0 to `end`, without the totals line
+abbrev pub lines_to_text : Tables → List Event → ℕ → List ℕ
+lines_to_text t es end = lines_text t (run_lines t es end)
+
+-- the lines of the instants before `at`
+abbrev pub lines_before_text : Tables → List Event → ℕ → List ℕ
+lines_before_text t es at = lines_text t (up_to (value_lines t es) at)
 
 -- all that a run of modes without invocations writes up to its last instant
 abbrev pub empty_text : Tables → List Event → ℕ → List ℕ

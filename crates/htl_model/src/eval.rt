@@ -1,18 +1,19 @@
-// The values of expressions.
+//! The values of operators and expressions.
 ghost use Rattle.std.specs.Prelude.{◌≡◌};
 ghost use Rattle.htl_model.specs.Functions.{value, term_of, combine as combined, negate as negated, of_test};
 
 use crate::Expr;
-use htl_base::{BinOp, UnOp};
+use htl_base::{BinOp, UnOp, Value};
 
-fn flag(b: bool) -> i64
-    ensures { result ≡ of_test b }
+// The value of a test: 1 where it holds, else 0.
+fn flag(holds: bool) -> Value
+    ensures { result ≡ of_test holds }
 {
-    if b { 1 } else { 0 }
+    if holds { 1 } else { 0 }
 }
 
-/// The value of an operator on one value.
-fn negate(op: UnOp, x: i64) -> i64
+/// The value of an operator on one value. A negative wraps; `!` gives 1 for 0, else 0.
+pub fn negate(op: UnOp, x: Value) -> Value
     ensures { result ≡ negated op x }
 {
     match op {
@@ -21,8 +22,9 @@ fn negate(op: UnOp, x: i64) -> i64
     }
 }
 
-/// The value of an operator on two values.
-fn combine(op: BinOp, x: i64, y: i64) -> i64
+/// The value of an operator on two values. Sums, differences and products wrap. A quotient by 0 and a remainder by 0 are 0; else a
+/// quotient truncates, and a remainder has the sign of `x`. A comparison gives 1 or 0.
+pub fn combine(op: BinOp, x: Value, y: Value) -> Value
     ensures { result ≡ combined op x y }
 {
     match op {
@@ -42,8 +44,8 @@ fn combine(op: BinOp, x: i64, y: i64) -> i64
     }
 }
 
-/// The value of an expression.
-pub fn eval_expr(e: &Expr, args: &[i64]) -> i64
+/// The value of an expression for its arguments; an argument that isn't there counts as 0.
+pub fn eval_expr(e: &Expr, args: &[Value]) -> Value
     ensures { result ≡ value args.now (term_of e.now) }
 {
     match e {

@@ -3,7 +3,7 @@
 #![tactic(auto)]
 
 mod accessors;
-mod eval;
+pub mod eval;
 mod event;
 mod form_fault;
 mod function;

@@ -1,0 +1,38 @@
+-- The rules on periods: one in a module, one for all root modules, and divided by those of the communicators.
+use Rattle.std.specs.Prelude.{◌≡◌, ◌≢◌, ◌⊎◌, ℕ, ◌%◌, Option, Some, None, option_map, slice_get}
+use Rattle.htl_model.specs.declared.parts.Mode.{Mode}
+use Rattle.htl_model.specs.declared.parts.Inv.{Inv}
+use Rattle.htl_model.specs.declared.parts.End.{End}
+use Rattle.htl_model.specs.declared.parts.End.TheVariants as E
+use Rattle.htl_model.specs.Tables.{Tables, mode_period, comm_period}
+use Rattle.htl_model.specs.Ranges.{parent_of}
+use Rattle.htl_model.specs.Selections.{modes_of, root_period}
+
+-- the first mode of a module
+abbrev pub first_mode : Tables → ℕ → Option ℕ
+first_mode t u = slice_get (modes_of t u) 0
+
+-- the period to which the modes of a module are held: that of the mode that the module refines, or of a root module's first mode
+abbrev pub asked_period : Tables → ℕ → Option ℕ
+asked_period t u = elim (parent_of t u) [ Some p ↦ Some (mode_period t p) | None ↦ option_map (mode_period t) (first_mode t u) ]
+
+-- 1: the mode's period isn't that of the module
+abbrev pub PeriodDiffers : Tables → Mode → ℕ → ℕ → Type 0
+PeriodDiffers t x have need = (have ≡ x.period) × (asked_period t x.«module» ≡ Some need) × (have ≢ need)
+
+-- 2: the mode is the first of a root module, and has another period than the first mode of the first root module
+pub record RootPeriodDiffers (t : Tables) (m : ℕ) (x : Mode) (have need : ℕ) : Type 0 where
+  pub root : parent_of t x.«module» ≡ None
+  pub first : first_mode t x.«module» ≡ Some m
+  pub period : have ≡ x.period
+  pub asked : root_period t ≡ Some need
+  pub differs : have ≢ need
+
+-- 3: the communicator's period doesn't divide the mode's
+abbrev pub NotDivided : Tables → ℕ → ℕ → ℕ → ℕ → Type 0
+NotDivided t m c have need = (have ≡ comm_period t c) × (need ≡ mode_period t m) × ((have ≡ 0) ⊎ (need % have ≢ 0))
+
+-- 3: so for the communicator of an input or output
+abbrev pub EndNotDivided : Tables → Inv → End → ℕ → ℕ → Type 0
+EndNotDivided t i (E.Comm c n) have need = NotDivided t i.mode c have need
+EndNotDivided t i (E.Port p) have need = ⊥
