@@ -1,0 +1,126 @@
+-- The search through the limits finds the first that is exceeded.
+use Rattle.std.proofs.Common.{◌≡◌, ◌≤◌, ◌<◌, ◌+◌, ◌-◌, ◌^◌, ℕ, zero, suc, Bool, true, false, cond, ltb, min, List, [], ◌∷◌, ◌++◌, length, Option, Some, None, refl, sym, ◌∙◌, ap, subst, arith}
+use Rattle.std.specs.Prelude.{MatchOption, slice_get}
+use Rattle.std.proofs.lemmas.Bool.Decides.{nat_tests}
+use Rattle.htl_names.specs.declared.limits.Excess.{Excess}
+use Rattle.htl_names.specs.Excess.{IsFirstExcess}
+use Rattle.htl_names.specs.Excesses.{excess, or_else, excess_from, capped}
+use Rattle.htl_names.specs.Limits.{limits}
+
+-- ---- counts under a cap
+
+-- the counts agree up to the greatest number, and the limits are far below it
+abbrev pub AreAlike : List ℕ → List ℕ → List ℕ → Type 0
+AreAlike (d ∷ ds) (c ∷ cs) (m ∷ ms) = (capped d ≡ capped c) × (m ≤ 4096) × AreAlike ds cs ms
+AreAlike [] [] [] = Unit {0}
+AreAlike [] [] (m ∷ ms) = ⊥
+AreAlike [] (c ∷ cs) [] = ⊥
+AreAlike [] (c ∷ cs) (m ∷ ms) = ⊥
+AreAlike (d ∷ ds) [] [] = ⊥
+AreAlike (d ∷ ds) [] (m ∷ ms) = ⊥
+AreAlike (d ∷ ds) (c ∷ cs) [] = ⊥
+
+same_test : (d c m cap : ℕ) → min d cap ≡ min c cap → m < cap → ltb m d ≡ ltb m c
+same_test d c m cap e small = by (ltb m d) (ltb m c) refl refl
+  where
+    by : (a b : Bool) → ltb m d ≡ a → ltb m c ≡ b → a ≡ b
+    by true true p q = refl
+    by false false p q = refl
+    by true false p q = absurd (clash (grind (arith, nat_tests)) (grind (arith, nat_tests)))
+      where
+        clash : m < d → c ≤ m → ⊥
+        clash u v = omega arith
+    by false true p q = absurd (clash (grind (arith, nat_tests)) (grind (arith, nat_tests)))
+      where
+        clash : d ≤ m → m < c → ⊥
+        clash u v = omega arith
+
+same_told : (d c top cap : ℕ) → min d cap ≡ min c cap → top ≤ cap → min d top ≡ min c top
+same_told d c top cap e small = omega arith
+
+excess-alike : (which d c m : ℕ) → capped d ≡ capped c → m ≤ 4096 → excess which d m ≡ excess which c m
+excess-alike which d c m e small =
+    ap (λ (b : Bool). cond b (Some (record { which = which; count = min d (2 ^ 32 - 1) })) None) (same_test d c m (2 ^ 64 - 1) e (omega arith))
+    ∙ ap (λ (n : ℕ). cond (ltb m c) (Some (record { which = which; count = n })) None) (same_told d c (2 ^ 32 - 1) (2 ^ 64 - 1) e (omega arith))
+
+pub excess_from-alike : (which : ℕ) (ds cs ms : List ℕ) → AreAlike ds cs ms → excess_from which ds ms ≡ excess_from which cs ms
+excess_from-alike which [] [] [] h = refl
+excess_from-alike which [] [] (m ∷ ms) h = elim h [ ]
+excess_from-alike which [] (c ∷ cs) [] h = elim h [ ]
+excess_from-alike which [] (c ∷ cs) (m ∷ ms) h = elim h [ ]
+excess_from-alike which (d ∷ ds) [] [] h = elim h [ ]
+excess_from-alike which (d ∷ ds) [] (m ∷ ms) h = elim h [ ]
+excess_from-alike which (d ∷ ds) (c ∷ cs) [] h = elim h [ ]
+excess_from-alike which (d ∷ ds) (c ∷ cs) (m ∷ ms) h =
+    ap (λ (o : Option Excess). or_else o (excess_from (suc which) ds ms)) (excess-alike which d c m h.0 h.1)
+    ∙ ap (or_else (excess which c m)) (excess_from-alike (suc which) ds cs ms h.2)
+
+-- ---- one search after another
+
+or_else-assoc : (a b c : Option Excess) → or_else (or_else a b) c ≡ or_else a (or_else b c)
+or_else-assoc (Some e) b c = refl
+or_else-assoc None b c = refl
+
+pub excess_from-append : (which next : ℕ) (cs ds ms ns : List ℕ) → length cs ≡ length ms → next ≡ which + length cs
+    → or_else (excess_from which cs ms) (excess_from next ds ns) ≡ excess_from which (cs ++ ds) (ms ++ ns)
+excess_from-append which next [] ds [] ns len is = ap (λ (n : ℕ). excess_from n ds ns) (omega (arith, is))
+excess_from-append which next [] ds (m ∷ ms) ns len is = absurd (omega (arith, len))
+excess_from-append which next (c ∷ cs) ds [] ns len is = absurd (omega (arith, len))
+excess_from-append which next (c ∷ cs) ds (m ∷ ms) ns len is =
+    or_else-assoc (excess which c m) (excess_from (suc which) cs ms) (excess_from next ds ns)
+    ∙ ap (or_else (excess which c m)) (excess_from-append (suc which) next cs ds ms ns (omega (arith, len)) (omega (arith, is)))
+
+-- ---- the first
+
+-- as IsFirstExcess, for any limits, numbered from any number on
+abbrev pub IsFirstFrom : ℕ → List ℕ → List ℕ → Option Excess → Type 0
+IsFirstFrom which counts limits o =
+    MatchOption o
+    ((k count limit : ℕ) → slice_get counts k ≡ Some count → slice_get limits k ≡ Some limit → count ≤ limit)
+    (λ e. (k count limit : ℕ) × (slice_get counts k ≡ Some count) × (slice_get limits k ≡ Some limit) × (limit < count)
+    × (e.which ≡ which + k) × (e.count ≡ min count (2 ^ 32 - 1))
+    × ((j c m : ℕ) → j < k → slice_get counts j ≡ Some c → slice_get limits j ≡ Some m → c ≤ m))
+
+same_number : (a b : ℕ) → ◌≡◌ {A = Option ℕ} (Some a) (Some b) → a ≡ b
+same_number a b e = cc
+
+within : (a b c m : ℕ) → c ≤ m → ◌≡◌ {A = Option ℕ} (Some c) (Some a) → ◌≡◌ {A = Option ℕ} (Some m) (Some b) → a ≤ b
+within a b c m h p q = omega (arith, h, same_number c a p, same_number m b q)
+
+first-past : (which : ℕ) (c m : ℕ) (cs ms : List ℕ) → c ≤ m → (o : Option Excess) → IsFirstFrom (suc which) cs ms o → IsFirstFrom which (c ∷ cs) (m ∷ ms) o
+first-past which c m cs ms small None none = all
+  where
+    all : (k count limit : ℕ) → slice_get (c ∷ cs) k ≡ Some count → slice_get (m ∷ ms) k ≡ Some limit → count ≤ limit
+    all zero count limit p q = within count limit c m small p q
+    all (suc k) count limit p q = none k count limit p q
+first-past which c m cs ms small (Some e) f =
+    (suc f.0, f.1, f.2, f.3, f.4, f.5, omega (arith, f.6), f.7, before)
+  where
+    before : (j a b : ℕ) → j < suc f.0 → slice_get (c ∷ cs) j ≡ Some a → slice_get (m ∷ ms) j ≡ Some b → a ≤ b
+    before zero a b h p q = within a b c m small p q
+    before (suc j) a b h p q = f.8 j a b (omega (arith, h)) p q
+
+first-found : (which c m : ℕ) (cs ms : List ℕ) → m < c → (e : Excess) → e.which ≡ which → e.count ≡ min c (2 ^ 32 - 1)
+    → IsFirstFrom which (c ∷ cs) (m ∷ ms) (Some e)
+first-found which c m cs ms h e w n = (0, c, m, refl, refl, h, omega (arith, w), n, λ j a b small p q. absurd (omega (arith, small)))
+
+first-step : (which c m : ℕ) (cs ms : List ℕ) → IsFirstFrom (suc which) cs ms (excess_from (suc which) cs ms)
+    → IsFirstFrom which (c ∷ cs) (m ∷ ms) (excess_from which (c ∷ cs) (m ∷ ms))
+first-step which c m cs ms rest = by (ltb m c) refl
+  where
+    by : (b : Bool) → ltb m c ≡ b
+        → IsFirstFrom which (c ∷ cs) (m ∷ ms) (or_else (cond b (Some (record { which = which; count = min c (2 ^ 32 - 1) })) None) (excess_from (suc which) cs ms))
+    by true h = first-found which c m cs ms (grind (arith, nat_tests)) (record { which = which; count = min c (2 ^ 32 - 1) }) refl refl
+    by false h = first-past which c m cs ms (grind (arith, nat_tests)) (excess_from (suc which) cs ms) rest
+
+pub excess_from-first : (which : ℕ) (cs ms : List ℕ) → length cs ≡ length ms → IsFirstFrom which cs ms (excess_from which cs ms)
+excess_from-first which [] ms len = λ k count limit p q. cc
+excess_from-first which (c ∷ cs) [] len = absurd (omega (arith, len))
+excess_from-first which (c ∷ cs) (m ∷ ms) len = first-step which c m cs ms (excess_from-first (suc which) cs ms (omega (arith, len)))
+
+pub first_excess_is : (counts : List ℕ) → length counts ≡ 11 → (o : Option Excess) → o ≡ excess_from 1 counts limits → IsFirstExcess counts o
+first_excess_is counts len o is = subst (λ (x : Option Excess). IsFirstExcess counts x) (sym is) (by (excess_from 1 counts limits) (excess_from-first 1 counts limits len))
+  where
+    by : (x : Option Excess) → IsFirstFrom 1 counts limits x → IsFirstExcess counts x
+    by None h = h
+    by (Some e) h = (h.0, h.1, h.2, h.3, h.4, h.5, omega (arith, h.6), h.7, h.8)

@@ -1,0 +1,224 @@
+-- Where the items of lists and of their parts stand.
+use Rattle.std.proofs.Common.{◌≡◌, ℕ, zero, suc, ◌+◌, ◌<◌, ◌≤◌, ◌⊎◌, inl, inr, List, [], ◌∷◌, ◌++◌, length, take, slice_get, Some, refl, sym, ◌∙◌, ap, subst, arith, length-append, eq-or-lt_of_le, drop, take-append-drop}
+use Rattle.std.specs.List.{flat_map}
+use Rattle.std.proofs.lemmas.Option.{slice_get_within, same_Some}
+use Rattle.std.proofs.lemmas.Grind.{flat_map-append}
+use Rattle.htl_model.specs.Lists.{list_to}
+use Rattle.htl_model.proofs.PlainLaws.{length-list_to}
+use Rattle.htl_names.specs.Lists.{flat_map_at, map_at}
+
+-- ---- the front and the back of a list
+
+pub get_front : {A : Type 0} (xs ys : List A) (k : ℕ) (x : A) → slice_get xs k ≡ Some x → slice_get (xs ++ ys) k ≡ Some x
+get_front [] ys k x e = absurd cc
+get_front (z ∷ xs) ys zero x e = e
+get_front (z ∷ xs) ys (suc k) x e = get_front xs ys k x e
+
+pub get_back : {A : Type 0} (xs ys : List A) (k : ℕ) → slice_get (xs ++ ys) (length xs + k) ≡ slice_get ys k
+get_back [] ys k = let e : 0 + k ≡ k = omega arith in ap (slice_get ys) e
+get_back (z ∷ xs) ys k =
+    let e : length (z ∷ xs) + k ≡ suc (length xs + k) = omega arith in ap (slice_get (z ∷ (xs ++ ys))) e ∙ get_back xs ys k
+
+-- an item stands in the front or in the back
+pub get_either : {A : Type 0} (xs ys : List A) (k : ℕ) (x : A) → slice_get (xs ++ ys) k ≡ Some x
+    → (slice_get xs k ≡ Some x) ⊎ ((j : ℕ) × (k ≡ length xs + j) × (slice_get ys j ≡ Some x))
+get_either [] ys k x e = inr (k, omega arith, e)
+get_either (z ∷ xs) ys zero x e = inl e
+get_either (z ∷ xs) ys (suc k) x e =
+    elim (get_either xs ys k x e) [ inl a ↦ inl a | inr b ↦ inr (b.0, omega (arith, b.1), b.2) ]
+
+-- an item stands at each place below the length
+pub there_is : {A : Type 0} (xs : List A) (k : ℕ) → k < length xs → (x : A) × (slice_get xs k ≡ Some x)
+there_is [] k less = absurd (omega (arith, less))
+there_is (x ∷ xs) zero less = (x, refl)
+there_is (x ∷ xs) (suc k) less = there_is xs k (omega (arith, less))
+
+-- ---- lists by places
+
+pub list_to_at : {A : Type 0} (f : ℕ → A) (n k : ℕ) → k < n → slice_get (list_to f n) k ≡ Some (f k)
+list_to_at f zero k less = absurd (omega (arith, less))
+list_to_at f (suc n) k less =
+    elim (eq-or-lt_of_le {n = k} {m = n} (omega (arith, less))) [
+      | inl is ↦
+          let place : k ≡ length (list_to f n) + 0 = let size = length-list_to f n in omega (arith, size, is) in
+          ap (slice_get (list_to f n ++ f n ∷ [])) place ∙ get_back (list_to f n) (f n ∷ []) 0 ∙ ap (λ (i : ℕ). Some (f i)) (sym is)
+      | inr a ↦ get_front (list_to f n) (f n ∷ []) k (f k) (list_to_at f n k a)
+    ]
+
+-- an item of a list by places is the value there
+pub of_list_to : {A : Type 0} (f : ℕ → A) (n k : ℕ) (y : A) → slice_get (list_to f n) k ≡ Some y → (k < n) × (f k ≡ y)
+of_list_to f n k y e =
+    let size = length-list_to f n in
+    let within = slice_get_within (list_to f n) k y e in
+    let less : k < n = omega (arith, size, within) in
+    (less, same_Some (f k) y (sym (list_to_at f n k less) ∙ e))
+
+-- ---- the parts of a list
+
+-- item j of part i stands behind the parts before
+pub at_part : {A B : Type 0} (f : ℕ → A → List B) (k : ℕ) (xs : List A) (i j : ℕ) (x : A) (y : B) → slice_get xs i ≡ Some x → slice_get (f (k + i) x) j ≡ Some y
+    → slice_get (flat_map_at f k xs) (length (flat_map_at f k (take i xs)) + j) ≡ Some y
+at_part f k [] i j x y e g = absurd cc
+at_part f k (z ∷ xs) zero j x y e g =
+    let is : z ≡ x = cc in
+    let own : slice_get (f k z) j ≡ Some y = ap (λ w. slice_get (f k w) j) is ∙ ap (λ (n : ℕ). slice_get (f n x) j) (omega arith) ∙ g in
+    let same : j ≡ 0 + j = omega arith in
+    subst (λ (n : ℕ). slice_get (f k z ++ flat_map_at f (suc k) xs) n ≡ Some y) same (get_front (f k z) (flat_map_at f (suc k) xs) j y own)
+at_part f k (z ∷ xs) (suc i) j x y e g =
+    let later = at_part f (suc k) xs i j x y e (ap (λ (n : ℕ). slice_get (f n x) j) (omega arith) ∙ g) in
+    let front = flat_map_at f (suc k) (take i xs) in
+    let size = length-append (f k z) front in
+    let place : length (f k z) + (length front + j) ≡ length (f k z ++ front) + j = omega (arith, size) in
+    let whole : slice_get (f k z ++ flat_map_at f (suc k) xs) (length (f k z) + (length front + j)) ≡ Some y =
+    get_back (f k z) (flat_map_at f (suc k) xs) (length front + j) ∙ later in
+    subst (λ (n : ℕ). slice_get (f k z ++ flat_map_at f (suc k) xs) n ≡ Some y) place whole
+
+-- where an item stands
+pub record Part {A B : Type 0} (f : ℕ → A → List B) (k : ℕ) (xs : List A) (n : ℕ) (y : B) : Type 0 where
+  pub part : ℕ
+  pub owner : A
+  pub there : slice_get xs part ≡ Some owner
+  pub place : ℕ
+  pub item : slice_get (f (k + part) owner) place ≡ Some y
+  pub number : n ≡ length (flat_map_at f k (take part xs)) + place
+
+pub part_of : {A B : Type 0} (f : ℕ → A → List B) (k : ℕ) (xs : List A) (n : ℕ) (y : B) → slice_get (flat_map_at f k xs) n ≡ Some y → Part f k xs n y
+part_of f k [] n y e = absurd cc
+part_of {B = B} f k (z ∷ xs) n y e = by (get_either (f k z) (flat_map_at f (suc k) xs) n y e) (part_of f (suc k) xs)
+  where
+    by : (slice_get (f k z) n ≡ Some y) ⊎ ((j : ℕ) × (n ≡ length (f k z) + j) × (slice_get (flat_map_at f (suc k) xs) j ≡ Some y))
+        → ((m : ℕ) (y : B) → slice_get (flat_map_at f (suc k) xs) m ≡ Some y → Part f (suc k) xs m y) → Part f k (z ∷ xs) n y
+    by (inl own) later =
+        record { part = 0; owner = z; there = refl; place = n; item = ap (λ (m : ℕ). slice_get (f m z) n) (omega arith) ∙ own; number = omega arith }
+    by (inr b) later =
+        let p = later b.0 y b.2 in
+        let size = length-append (f k z) (flat_map_at f (suc k) (take p.part xs)) in
+        record {
+          part = suc p.part;
+          owner = p.owner;
+          there = p.there;
+          place = p.place;
+          item = ap (λ (m : ℕ). slice_get (f m p.owner) p.place) (omega arith) ∙ p.item;
+          number = omega (arith, b.1, p.number, size);
+        }
+
+-- a part ends where a later one begins, or before
+pub part_before : {A B : Type 0} (f : ℕ → A → List B) (k : ℕ) (xs : List A) (i j : ℕ) (x : A) → i < j → slice_get xs i ≡ Some x
+    → length (flat_map_at f k (take i xs)) + length (f (k + i) x) ≤ length (flat_map_at f k (take j xs))
+part_before f k [] i j x less there = absurd cc
+part_before f k (y ∷ xs) i zero x less there = absurd (omega (arith, less))
+part_before f k (y ∷ xs) zero (suc j) x less there =
+    let is : y ≡ x = cc in
+    let one : k + 0 ≡ k = omega arith in
+    let sum = length-append (f k y) (flat_map_at f (suc k) (take j xs)) in
+    let same = ap (λ z. length (f k z)) is in
+    let moved = ap (λ (n : ℕ). length (f n x)) one in
+    omega (arith, sum, same, moved)
+part_before f k (y ∷ xs) (suc i) (suc j) x less there =
+    let one : k + suc i ≡ suc k + i = omega arith in
+    let rest = part_before f (suc k) xs i j x (omega (arith, less)) there in
+    let a = length-append (f k y) (flat_map_at f (suc k) (take i xs)) in
+    let b = length-append (f k y) (flat_map_at f (suc k) (take j xs)) in
+    let moved = ap (λ (n : ℕ). length (f n x)) one in
+    omega (arith, rest, a, b, moved)
+
+-- ---- lengths
+
+-- parts that are as long as those of another list
+pub same_length : {A B C : Type 0} (f : ℕ → A → List B) (g : A → List C) → ((k : ℕ) (x : A) → length (f k x) ≡ length (g x)) → (k : ℕ) (xs : List A)
+    → length (flat_map_at f k xs) ≡ length (flat_map g xs)
+same_length f g same k [] = refl
+same_length f g same k (x ∷ xs) =
+    let one = length-append (f k x) (flat_map_at f (suc k) xs) in
+    let two = length-append (g x) (flat_map g xs) in
+    let own = same k x in
+    let rest = same_length f g same (suc k) xs in
+    omega (arith, one, two, own, rest)
+
+-- what a front gives is no longer
+pub take_length : {A B : Type 0} (f : A → List B) (k : ℕ) (xs : List A) → length (flat_map f (take k xs)) ≤ length (flat_map f xs)
+take_length f k xs =
+    let e = ap (λ l. length (flat_map f l)) (take-append-drop k xs) in
+    let a = ap length (flat_map-append f (take k xs) (drop k xs)) in
+    let n = length-append (flat_map f (take k xs)) (flat_map f (drop k xs)) in
+    omega (arith, e, a, n)
+
+-- at most as many from each item
+pub flat_map_shorter : {A B C : Type 0} (f : A → List B) (g : A → List C) → ((x : A) → length (f x) ≤ length (g x)) → (xs : List A) → length (flat_map f xs) ≤ length (flat_map g xs)
+flat_map_shorter f g le [] = omega arith
+flat_map_shorter f g le (x ∷ xs) =
+    let a = length-append (f x) (flat_map f xs) in
+    let b = length-append (g x) (flat_map g xs) in
+    let c = le x in
+    let d = flat_map_shorter f g le xs in
+    omega (arith, a, b, c, d)
+
+pub flat_map_single_shorter : {A B : Type 0} (f : A → List B) → ((x : A) → length (f x) ≤ 1) → (xs : List A) → length (flat_map f xs) ≤ length xs
+flat_map_single_shorter f le [] = omega arith
+flat_map_single_shorter f le (x ∷ xs) = let a = length-append (f x) (flat_map f xs) in let c = le x in let d = flat_map_single_shorter f le xs in omega (arith, a, c, d)
+
+-- ---- parts that are numbered from 0
+
+pub at_part_0 : {A B : Type 0} (f : ℕ → A → List B) (xs : List A) (i j : ℕ) (x : A) (y : B) → slice_get xs i ≡ Some x → slice_get (f i x) j ≡ Some y
+    → slice_get (flat_map_at f 0 xs) (length (flat_map_at f 0 (take i xs)) + j) ≡ Some y
+at_part_0 f xs i j x y e g = let same : i ≡ 0 + i = omega arith in at_part f 0 xs i j x y e (subst (λ (n : ℕ). slice_get (f n x) j ≡ Some y) same g)
+
+pub record Part0 {A B : Type 0} (f : ℕ → A → List B) (xs : List A) (n : ℕ) (y : B) : Type 0 where
+  pub part : ℕ
+  pub owner : A
+  pub there : slice_get xs part ≡ Some owner
+  pub place : ℕ
+  pub item : slice_get (f part owner) place ≡ Some y
+  pub number : n ≡ length (flat_map_at f 0 (take part xs)) + place
+
+pub part_of_0 : {A B : Type 0} (f : ℕ → A → List B) (xs : List A) (n : ℕ) (y : B) → slice_get (flat_map_at f 0 xs) n ≡ Some y → Part0 f xs n y
+part_of_0 f xs n y e =
+    let p = part_of f 0 xs n y e in
+    let same : 0 + p.part ≡ p.part = omega arith in
+    record { part = p.part; owner = p.owner; there = p.there; place = p.place; item = subst (λ (m : ℕ). slice_get (f m p.owner) p.place ≡ Some y) same p.item; number = p.number }
+
+-- ---- parts that know nothing of their place
+
+pub flat_map_is : {A B : Type 0} (f : A → List B) (k : ℕ) (xs : List A) → flat_map_at (λ k x. f x) k xs ≡ flat_map f xs
+flat_map_is f k [] = refl
+flat_map_is f k (x ∷ xs) = ap (λ ys. f x ++ ys) (flat_map_is f (suc k) xs)
+
+pub at_flat : {A B : Type 0} (f : A → List B) (xs : List A) (i j : ℕ) (x : A) (y : B) → slice_get xs i ≡ Some x → slice_get (f x) j ≡ Some y
+    → slice_get (flat_map f xs) (length (flat_map f (take i xs)) + j) ≡ Some y
+at_flat f xs i j x y e g =
+    let at = at_part (λ k x. f x) 0 xs i j x y e g in
+    subst (λ (ys : _). slice_get ys (length (flat_map f (take i xs)) + j) ≡ Some y) (flat_map_is f 0 xs)
+    (subst (λ (ys : _). slice_get (flat_map_at (λ k x. f x) 0 xs) (length ys + j) ≡ Some y) (flat_map_is f 0 (take i xs)) at)
+
+pub record FlatPart {A B : Type 0} (f : A → List B) (xs : List A) (n : ℕ) (y : B) : Type 0 where
+  pub part : ℕ
+  pub owner : A
+  pub there : slice_get xs part ≡ Some owner
+  pub place : ℕ
+  pub item : slice_get (f owner) place ≡ Some y
+  pub number : n ≡ length (flat_map f (take part xs)) + place
+
+pub flat_part : {A B : Type 0} (f : A → List B) (xs : List A) (n : ℕ) (y : B) → slice_get (flat_map f xs) n ≡ Some y → FlatPart f xs n y
+flat_part f xs n y e =
+    let p = part_of (λ k x. f x) 0 xs n y (subst (λ (ys : _). slice_get ys n ≡ Some y) (sym (flat_map_is f 0 xs)) e) in
+    record {
+      part = p.part;
+      owner = p.owner;
+      there = p.there;
+      place = p.place;
+      item = p.item;
+      number = subst (λ (ys : _). n ≡ length ys + p.place) (flat_map_is f 0 (take p.part xs)) p.number;
+    }
+
+-- ---- values with their places
+
+pub of_map_at : {A B : Type 0} (f : ℕ → A → B) (k : ℕ) (xs : List A) (j : ℕ) (y : B) → slice_get (map_at f k xs) j ≡ Some y → (x : A) × (slice_get xs j ≡ Some x) × (f (k + j) x ≡ y)
+of_map_at f k [] j y e = absurd cc
+of_map_at f k (x ∷ xs) zero y e = let own : f k x ≡ y = cc in (x, refl, (let same : k + 0 ≡ k = omega arith in ap (λ (n : ℕ). f n x) same ∙ own))
+of_map_at f k (x ∷ xs) (suc j) y e =
+    let r = of_map_at f (suc k) xs j y e in (r.0, r.1, (let same : k + suc j ≡ suc k + j = omega arith in ap (λ (n : ℕ). f n r.0) same ∙ r.2))
+
+pub to_map_at : {A B : Type 0} (f : ℕ → A → B) (k : ℕ) (xs : List A) (j : ℕ) (x : A) → slice_get xs j ≡ Some x → slice_get (map_at f k xs) j ≡ Some (f (k + j) x)
+to_map_at f k [] j x e = absurd cc
+to_map_at f k (y ∷ ys) zero x e = let is : y ≡ x = cc in (let same : k ≡ k + 0 = omega arith in ap (λ z. Some (f k z)) is ∙ ap (λ (n : ℕ). Some (f n x)) same)
+to_map_at f k (y ∷ ys) (suc j) x e = let same : suc k + j ≡ k + suc j = omega arith in to_map_at f (suc k) ys j x e ∙ ap (λ (n : ℕ). Some (f n x)) same

@@ -1,0 +1,73 @@
+-- Levels by the table of refined modes.
+use Rattle.std.proofs.Common.{◌≡◌, ◌<◌, ◌+◌, ◌-◌, ℕ, zero, suc, max, List, [], ◌∷◌, ◌++◌, length, Option, Some, None, refl, sym, ◌∙◌, ap, arith, add-one}
+use Rattle.htl_model.specs.Lists.{list_to}
+use Rattle.htl_model.specs.Tables.{greatest}
+use Rattle.htl_model.proofs.PlainLaws.{length-list_to, get_list_to}
+use Rattle.std.proofs.lemmas.Option.{slice_get-get_or}
+use Rattle.htl_text.specs.Nodes.{PlainProgram}
+use Rattle.htl_names.specs.declared.key.Key.{Key}
+use Rattle.htl_names.specs.declared.place.ModeAt.{ModeAt}
+use Rattle.htl_names.specs.LevelTable.{above, program_above, level_by, levels_by}
+use Rattle.htl_names.specs.Programs.{Naming, naming, refined_in, refined_by, level, levels}
+use Rattle.htl_names.proofs.NamingPlaces.{refined-is-below}
+
+pub greatest-push : (x : ℕ) (xs : List ℕ) (y : ℕ) → greatest x (xs ++ y ∷ []) ≡ max (greatest x xs) y
+greatest-push x [] y = refl
+greatest-push x (z ∷ xs) y = greatest-push (max x z) xs y
+
+level_by-above : (refined : List (Option ModeAt)) (n p q : ℕ) → above refined p ≡ Some q → level_by refined (suc n) p ≡ suc (level_by refined n q)
+level_by-above refined n p q e = ap (λ (o : Option ℕ). elim o as (λ _. ℕ) [ Some a ↦ suc (level_by refined n a) | None ↦ 1 ]) e
+
+-- one level up
+pub level-step : (refined : List (Option ModeAt)) (n k p q whole : ℕ) → k < n → above refined p ≡ Some q
+    → k + level_by refined (n - k) p ≡ whole → k + 1 + level_by refined (n - (k + 1)) q ≡ whole
+level-step refined n k p q whole within up going =
+    let left : n - k ≡ suc (n - (k + 1)) = omega arith in
+    let more = ap (λ (m : ℕ). level_by refined m p) left ∙ level_by-above refined (n - (k + 1)) p q up in
+    omega (arith, more, going)
+
+-- one program more
+pub levels-step : (f : ℕ → ℕ) (p most here next : ℕ) → most ≡ greatest 0 (list_to f p) → here ≡ f p → next ≡ max most here
+    → next ≡ greatest 0 (list_to f (p + 1))
+levels-step f p most here next so_far is new =
+    new ∙ ap (λ (x : ℕ). max x here) so_far ∙ ap (max (greatest 0 (list_to f p))) is ∙ sym (greatest-push 0 (list_to f p) (f p))
+    ∙ ap (λ (k : ℕ). greatest 0 (list_to f k)) (sym (add-one p))
+
+-- ---- the table agrees with the definition
+
+same_below : (n : ℕ) (f g : ℕ → ℕ) → ((k : ℕ) → k < n → f k ≡ g k) → list_to f n ≡ list_to g n
+same_below zero f g h = refl
+same_below (suc n) f g h =
+    ap (λ (xs : List ℕ). xs ++ f n ∷ []) (same_below n f g (λ k small. h k (omega (arith, small)))) ∙ ap (λ (x : ℕ). list_to g n ++ x ∷ []) (h n (omega arith))
+
+table-above : (f : ℕ → Option ModeAt) (n p : ℕ) → p < n → above (list_to f n) p ≡ program_above (Some (f p))
+table-above f n p small =
+    let len = length-list_to f n in
+    ap program_above (slice_get-get_or (list_to f n) p None (omega (arith, len)) ∙ ap (λ (o : Option ModeAt). Some o) (get_list_to f n p None small))
+
+above-level : (xs : List Naming) (refined : List (Option ModeAt)) (n p : ℕ) → above refined p ≡ program_above (Some (refined_in p xs))
+    → ((a : ModeAt) → refined_in p xs ≡ Some a → level_by refined n a.program ≡ level xs n a.program) → level_by refined (suc n) p ≡ level xs (suc n) p
+above-level xs refined n p up more =
+    ap (λ (o : Option ℕ). elim o as (λ _. ℕ) [ Some q ↦ suc (level_by refined n q) | None ↦ 1 ]) up ∙ by (refined_in p xs) more
+  where
+    by : (o : Option ModeAt) → ((a : ModeAt) → o ≡ Some a → level_by refined n a.program ≡ level xs n a.program)
+        → ◌≡◌ {A = ℕ} (elim (program_above (Some o)) as (λ _. ℕ) [ Some q ↦ suc (level_by refined n q) | None ↦ 1 ])
+        (elim o as (λ _. ℕ) [ Some a ↦ suc (level xs n a.program) | None ↦ 1 ])
+    by (Some a) h = ap suc (h a refl)
+    by None h = refl
+
+table-level : (symbols : List (Key × ℕ)) (ps : List PlainProgram) (n p : ℕ) → p < length ps
+    → level_by (list_to (refined_by symbols ps) (length ps)) n p ≡ level (naming symbols ps) n p
+table-level symbols ps zero p small = refl
+table-level symbols ps (suc n) p small =
+    above-level (naming symbols ps) (list_to (refined_by symbols ps) (length ps)) n p (table-above (refined_by symbols ps) (length ps) p small)
+    (λ a e. table-level symbols ps n a.program (refined-is-below symbols ps p a e))
+
+pub table-levels : (symbols : List (Key × ℕ)) (ps : List PlainProgram) (refined : List (Option ModeAt))
+    → refined ≡ list_to (refined_by symbols ps) (length ps) → levels_by refined ≡ levels symbols ps
+table-levels symbols ps refined is =
+    let table = list_to (refined_by symbols ps) (length ps) in
+    let len : length table ≡ length ps = length-list_to (refined_by symbols ps) (length ps) in
+    ap levels_by is
+    ∙ ap (λ (n : ℕ). greatest 0 (list_to (level_by table n) n)) len
+    ∙ ap (greatest 0) (same_below (length ps) (level_by table (length ps)) (level (naming symbols ps) (length ps)) (λ p small. table-level symbols ps (length ps) p small))

@@ -1,0 +1,102 @@
+-- Lists: what holds of each item, and which items there are.
+use Rattle.std.proofs.Common.{◌≡◌, ℕ, zero, suc, ◌+◌, ◌<◌, ◌⊎◌, inl, inr, List, [], ◌∷◌, ◌++◌, map, slice_get, Some, All, refl, sym, ◌∙◌, ap, subst, arith}
+use Rattle.std.specs.List.{flat_map, sum_by}
+use Rattle.std.proofs.lemmas.List.{map-append}
+use Rattle.std.proofs.lemmas.List.Elements.{All-nil, All-cons, All-get_or}
+use Rattle.std.proofs.lemmas.List.Sums.{sum_by-cons, sum_by-append}
+use Rattle.std.proofs.lemmas.Option.{none-some, same_Some, slice_get_within, slice_get-get_or, get_or_from_slice_get}
+use Rattle.htl_model.specs.Lists.{list_to}
+use Rattle.htl_names.specs.Lists.{flat_map_at}
+
+-- P holds of each item
+abbrev pub Each : {A : Type 0} → (A → Type 0) → List A → Type 0
+Each P [] = Unit {0}
+Each P (x ∷ xs) = P x × Each P xs
+
+-- y is an item
+abbrev pub Has : {A : Type 0} → A → List A → Type 0
+Has y [] = ⊥
+Has y (x ∷ xs) = (x ≡ y) ⊎ Has y xs
+
+-- ---- each item
+
+module _ {A : Type 0} (P : A → Type 0) where
+  pub each_append : (xs ys : List A) → Each P xs → Each P ys → Each P (xs ++ ys)
+  each_append [] ys p q = q
+  each_append (x ∷ xs) ys p q = (p.0, each_append xs ys p.1 q)
+
+  pub each_at : (xs : List A) (k : ℕ) (x : A) → Each P xs → slice_get xs k ≡ Some x → P x
+  each_at [] k x h e = absurd (none-some x e)
+  each_at (y ∷ xs) zero x h e = subst P (same_Some y x e) h.0
+  each_at (y ∷ xs) (suc k) x h e = each_at xs k x h.1 e
+
+  pub each_all : (xs : List A) → Each P xs → All P xs
+  each_all [] h = All-nil P
+  each_all (x ∷ xs) h = All-cons P x xs h.0 (each_all xs h.1)
+
+  pub each_list_to : (f : ℕ → A) (n : ℕ) → ((k : ℕ) → k < n → P (f k)) → Each P (list_to f n)
+  each_list_to f zero h = tt
+  each_list_to f (suc n) h = each_append (list_to f n) (f n ∷ []) (each_list_to f n (λ k lt. h k (omega arith))) (h n (omega arith), tt)
+
+  pub each_flat_map : {B : Type 0} (f : B → List A) (xs : List B) → Each (λ x. Each P (f x)) xs → Each P (flat_map f xs)
+  each_flat_map f [] h = tt
+  each_flat_map f (x ∷ xs) h = each_append (f x) (flat_map f xs) h.0 (each_flat_map f xs h.1)
+
+  pub each_flat_map_at : {B : Type 0} (f : ℕ → B → List A) (k : ℕ) (xs : List B)
+      → ((i j : ℕ) (x : B) → i ≡ k + j → slice_get xs j ≡ Some x → Each P (f i x)) → Each P (flat_map_at f k xs)
+  each_flat_map_at f k [] h = tt
+  each_flat_map_at f k (x ∷ xs) h =
+      each_append (f k x) (flat_map_at f (suc k) xs) (h k 0 x (omega arith) refl)
+      (each_flat_map_at f (suc k) xs (λ i j y e s. h i (suc j) y (omega (arith, e)) s))
+
+pub each_weaker : {A : Type 0} (P Q : A → Type 0) → ((x : A) → P x → Q x) → (xs : List A) → Each P xs → Each Q xs
+each_weaker P Q f [] h = tt
+each_weaker P Q f (x ∷ xs) h = (f x h.0, each_weaker P Q f xs h.1)
+
+-- what holds at each place holds of each item
+pub All-from_places : {A : Type 0} (P : A → Type 0) (xs : List A) → ((k : ℕ) (x : A) → slice_get xs k ≡ Some x → P x) → All P xs
+All-from_places P xs h k d below = h k _ (slice_get-get_or xs k d below)
+
+pub All-at : {A : Type 0} (P : A → Type 0) (xs : List A) (k : ℕ) (x : A) → All P xs → slice_get xs k ≡ Some x → P x
+All-at P xs k x all e = subst P (get_or_from_slice_get xs k x x e) (All-get_or P xs k x (slice_get_within xs k x e) all)
+
+-- ---- the items
+
+module _ {A : Type 0} (y : A) where
+  pub has_left : (xs ys : List A) → Has y xs → Has y (xs ++ ys)
+  has_left [] ys h = absurd h
+  has_left (x ∷ xs) ys (inl e) = inl e
+  has_left (x ∷ xs) ys (inr h) = inr (has_left xs ys h)
+
+  pub has_right : (xs ys : List A) → Has y ys → Has y (xs ++ ys)
+  has_right [] ys h = h
+  has_right (x ∷ xs) ys h = inr (has_right xs ys h)
+
+  pub has_at : (xs : List A) (k : ℕ) → slice_get xs k ≡ Some y → Has y xs
+  has_at [] k e = absurd (none-some y e)
+  has_at (x ∷ xs) zero e = inl (same_Some x y e)
+  has_at (x ∷ xs) (suc k) e = inr (has_at xs k e)
+
+  pub has_flat_map_at : {B : Type 0} (f : ℕ → B → List A) (k i j : ℕ) (xs : List B) (x : B) → i ≡ k + j → slice_get xs j ≡ Some x → Has y (f i x) → Has y (flat_map_at f k xs)
+  has_flat_map_at f k i j [] x e s h = absurd (none-some x s)
+  has_flat_map_at f k i zero (z ∷ xs) x e s h =
+      let same : i ≡ k = omega (arith, e) in
+      has_left (f k z) (flat_map_at f (suc k) xs) (subst (λ w. Has y (f k w)) (sym (same_Some z x s)) (subst (λ n. Has y (f n x)) same h))
+  has_flat_map_at f k i (suc j) (z ∷ xs) x e s h = has_right (f k z) (flat_map_at f (suc k) xs) (has_flat_map_at f (suc k) i j xs x (omega (arith, e)) s h)
+
+-- ---- maps
+
+pub map_flat_map_at : {A B C : Type 0} (h : B → C) (f : ℕ → A → List B) (g : A → List C) → ((k : ℕ) (x : A) → map h (f k x) ≡ g x)
+    → (k : ℕ) (xs : List A) → map h (flat_map_at f k xs) ≡ flat_map g xs
+map_flat_map_at h f g e k [] = refl
+map_flat_map_at h f g e k (x ∷ xs) =
+    map-append h (f k x) (flat_map_at f (suc k) xs) ∙ ap (λ l. l ++ map h (flat_map_at f (suc k) xs)) (e k x) ∙ ap (λ l. g x ++ l) (map_flat_map_at h f g e (suc k) xs)
+
+pub sum_by_map : {A B : Type 0} (f : B → ℕ) (h : A → B) (xs : List A) → sum_by f (map h xs) ≡ sum_by (λ x. f (h x)) xs
+sum_by_map f h [] = refl
+sum_by_map f h (x ∷ xs) = sum_by-cons f (h x) (map h xs) ∙ ap (λ n. f (h x) + n) (sum_by_map f h xs) ∙ sym (sum_by-cons (λ y. f (h y)) x xs)
+
+pub sum_by_flat_map : {A B : Type 0} (f : B → ℕ) (h : A → List B) (xs : List A) → sum_by f (flat_map h xs) ≡ sum_by (λ x. sum_by f (h x)) xs
+sum_by_flat_map f h [] = refl
+sum_by_flat_map f h (x ∷ xs) =
+    sum_by-append f (h x) (flat_map h xs) ∙ ap (λ n. sum_by f (h x) + n) (sum_by_flat_map f h xs) ∙ sym (sum_by-cons (λ y. sum_by f (h y)) x xs)

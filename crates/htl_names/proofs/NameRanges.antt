@@ -1,0 +1,252 @@
+-- The names of a tree's tables differ.
+use Rattle.std.proofs.Common.{◌≡◌, ◌<◌, ◌⊎◌, inl, inr, ◌+◌, ℕ, suc, List, map, length, take, slice_get, Some, refl, sym, ◌∙◌, ap, subst, arith, length-append}
+use Rattle.std.proofs.lemmas.Option.{slice_get_within}
+use Rattle.htl_model.specs.declared.parts.Comm.{Comm}
+use Rattle.htl_model.specs.declared.parts.Mode.{Mode}
+use Rattle.htl_model.specs.declared.parts.Module.{Module}
+use Rattle.htl_model.specs.declared.parts.Port.{Port}
+use Rattle.htl_model.specs.declared.parts.Task.{Task}
+use Rattle.htl_model.specs.declared.parts.Inv.{Inv}
+use Rattle.htl_text.specs.Bounds.{comms_of}
+use Rattle.htl_text.specs.Nodes.{PlainProgram, PlainModule, PlainTask}
+use Rattle.htl_names.specs.declared.key.Entry.{Entry}
+use Rattle.htl_names.specs.Entries.{entry, module_entries, comm_entry, program_entries, entries, port_entry, invoke_entry}
+use Rattle.htl_names.specs.Flat.{Layout, layout, symbols_of, comm_item, comm_items, mode_item, unit_mode_items, mode_items, module_items, port_item, mode_port_items, port_items, task_item, unit_task_items, task_items, invoke_item, mode_invoke_items, invoke_items}
+use Rattle.htl_names.specs.Keys.{look_up, comm_key, module_key, task_key, mode_key, port_key, invoke_key}
+use Rattle.htl_names.specs.Lists.{flat_map_at, map_at}
+use Rattle.htl_names.specs.NameRules.{AreNamesRight}
+use Rattle.htl_names.specs.Order.{order, module_at, tasks_at, modes_at, ports_at, invokes_at}
+use Rattle.htl_names.specs.Ordered.{IsOrdered}
+use Rattle.htl_names.specs.Uses.{usage}
+use Rattle.htl_names.proofs.Declared.{declared}
+use Rattle.htl_names.proofs.FlatMaps.{get_back, at_part_0, part_of_0, part_before}
+use Rattle.htl_names.proofs.InvokeRanges.{of_mode}
+use Rattle.htl_names.proofs.Meant.{one_place, one_entry, task_means}
+use Rattle.htl_names.proofs.ModuleRanges.{module_from, meaning_is}
+use Rattle.htl_names.proofs.Numbered.{mode_of_number}
+use Rattle.htl_names.proofs.Origins.{Origin, of_comm, of_task, of_mode as mode_origin, of_port, of_invoke, first_entry, in_source_at, entries_before}
+use Rattle.htl_names.proofs.Owners.{of_map, IsOwned, AreApart}
+use Rattle.htl_names.proofs.Used.{known, task_used}
+use Rattle.htl_names.proofs.Places.{program_of_module}
+use Rattle.htl_names.proofs.Deciding.{order_of}
+
+-- two declared items with one key have one number
+pub same_number : (ps : List PlainProgram) → AreNamesRight ps → (e d : Entry) → Origin ps e → Origin ps d → e.key ≡ d.key → e.number ≡ d.number
+same_number ps right e d a b same = ap (λ (x : Entry). x.number) (one_entry ps right e d (declared ps e a) (declared ps d b) same)
+
+-- ---- communicators
+
+pub comm_names_apart : (ps : List PlainProgram) → AreNamesRight ps → AreApart (map (λ (c : Comm). c.name) (comm_items ps))
+comm_names_apart ps right j k n less p q =
+    let a = of_map (λ (c : Comm). c.name) (comm_items ps) j n p in
+    let b = of_map (λ (c : Comm). c.name) (comm_items ps) k n q in
+    let x = of_map comm_item (comms_of ps) j a.0 a.1 in
+    let y = of_map comm_item (comms_of ps) k b.0 b.1 in
+    let names : x.0.name.name ≡ y.0.name.name = ap (λ (c : Comm). c.name) x.2 ∙ a.2 ∙ sym b.2 ∙ sym (ap (λ (c : Comm). c.name) y.2) in
+    let keys = ap (λ (m : List ℕ). comm_key m) names in
+    let number = same_number ps right (comm_entry j x.0) (comm_entry k y.0) (of_comm j x.0 x.1) (of_comm k y.0 y.1) keys in
+    omega (arith, less, number)
+
+-- ---- modules
+
+-- where the entry of module u of program p stands
+module_place : List PlainProgram → ℕ → ℕ → PlainProgram → ℕ
+module_place ps p u x = first_entry ps p + suc (length (map_at comm_entry (length (comms_of (take p ps))) x.comms) + length (flat_map_at (module_entries p) 0 (take u x.modules)))
+
+module_entry_at : (ps : List PlainProgram) (p u : ℕ) (x : PlainProgram) (y : PlainModule) → slice_get ps p ≡ Some x → slice_get x.modules u ≡ Some y
+    → slice_get (entries ps) (module_place ps p u x) ≡ Some (entry (module_key y.name.name) u y.name)
+unfolding module_place
+module_entry_at ps p u x y there its =
+    let first = length (comms_of (take p ps)) in
+    let comms = map_at comm_entry first x.comms in
+    let rest = flat_map_at (module_entries p) 0 x.modules in
+    let e = entry (module_key y.name.name) u y.name in
+    let part = at_part_0 (module_entries p) x.modules u 0 y e its refl in
+    let n = length (flat_map_at (module_entries p) 0 (take u x.modules)) in
+    let same : n + 0 ≡ n = omega arith in
+    let own : slice_get rest n ≡ Some e = subst (λ (m : ℕ). slice_get rest m ≡ Some e) same part in
+    in_source_at ps p (suc (length comms + n)) x e there (get_back comms rest n ∙ own)
+
+-- an entry stands within those of its program
+module_within : (ps : List PlainProgram) (p u : ℕ) (x : PlainProgram) (y : PlainModule) → slice_get x.modules u ≡ Some y
+    → module_place ps p u x < first_entry ps p + length (program_entries p (length (comms_of (take p ps))) x)
+unfolding module_place
+module_within ps p u x y its =
+    let first = length (comms_of (take p ps)) in
+    let comms = map_at comm_entry first x.comms in
+    let rest = flat_map_at (module_entries p) 0 x.modules in
+    let e = entry (module_key y.name.name) u y.name in
+    let within = slice_get_within rest _ e (at_part_0 (module_entries p) x.modules u 0 y e its refl) in
+    let sum = length-append comms rest in
+    omega (arith, within, sum)
+
+places_differ : (ps : List PlainProgram) (p u q v : ℕ) (x z : PlainProgram) (y w : PlainModule) → slice_get ps p ≡ Some x → slice_get x.modules u ≡ Some y → slice_get ps q ≡ Some z → slice_get z.modules v ≡ Some w
+    → (p < q) ⊎ ((p ≡ q) × (u < v)) → module_place ps p u x < module_place ps q v z
+unfolding module_place
+places_differ ps p u q v x z y w a b c d (inl less) =
+    let within = module_within ps p u x y b in
+    let before = entries_before 0 0 ps p q x less a in
+    let one : 0 + p ≡ p = omega arith in
+    let two : 0 + length (comms_of (take p ps)) ≡ length (comms_of (take p ps)) = omega arith in
+    let moved = ap (λ (n : ℕ). length (program_entries n (0 + length (comms_of (take p ps))) x)) one ∙ ap (λ (n : ℕ). length (program_entries p n x)) two in
+    omega (arith, within, before, moved)
+places_differ ps p u q v x z y w a b c d (inr h) =
+    let same : Some x ≡ Some z = sym a ∙ ap (slice_get ps) h.0 ∙ c in
+    let program : x ≡ z = cc in
+    let before = part_before (module_entries p) 0 x.modules u v y h.1 b in
+    let moved = ap (λ (n : ℕ). first_entry ps n + suc (length (map_at comm_entry (length (comms_of (take n ps))) x.comms) + length (flat_map_at (module_entries n) 0 (take v x.modules)))) h.0 in
+    let other = ap (λ (t : PlainProgram). first_entry ps q + suc (length (map_at comm_entry (length (comms_of (take q ps))) t.comms) + length (flat_map_at (module_entries q) 0 (take v t.modules)))) program in
+    omega (arith, before, moved, other)
+
+-- two modules of one name are one
+one_module : (ps : List PlainProgram) → AreNamesRight ps → (p u q v : ℕ) (y w : PlainModule) → module_at ps p u ≡ Some y → module_at ps q v ≡ Some w → y.name.name ≡ w.name.name → (p ≡ q) × (u ≡ v)
+one_module ps right p u q v y w a b names = by (order_of p q) (order_of u v)
+  where
+    x : (x : PlainProgram) × (slice_get ps p ≡ Some x) × (slice_get x.modules u ≡ Some y)
+    x = program_of_module ps p u y a
+
+    z : (x : PlainProgram) × (slice_get ps q ≡ Some x) × (slice_get x.modules v ≡ Some w)
+    z = program_of_module ps q v w b
+
+    place : module_place ps p u (program_of_module ps p u y a).0 ≡ module_place ps q v (program_of_module ps q v w b).0
+    place =
+        one_place ps right _ _ (entry (module_key y.name.name) u y.name) (entry (module_key w.name.name) v w.name)
+        (module_entry_at ps p u (program_of_module ps p u y a).0 y (program_of_module ps p u y a).1 (program_of_module ps p u y a).2)
+        (module_entry_at ps q v (program_of_module ps q v w b).0 w (program_of_module ps q v w b).1 (program_of_module ps q v w b).2)
+        (ap (λ (m : List ℕ). module_key m) names)
+
+    less : (p < q) ⊎ ((p ≡ q) × (u < v)) → ⊥
+    less h =
+        let f = program_of_module ps p u y a in
+        let g = program_of_module ps q v w b in
+        let differ = places_differ ps p u q v f.0 g.0 y w f.1 f.2 g.1 g.2 h in
+        omega (arith, place, differ)
+
+    more : (q < p) ⊎ ((q ≡ p) × (v < u)) → ⊥
+    more h =
+        let f = program_of_module ps p u y a in
+        let g = program_of_module ps q v w b in
+        let differ = places_differ ps q v p u g.0 f.0 w y g.1 g.2 f.1 f.2 h in
+        omega (arith, place, differ)
+
+    by : (p < q) ⊎ ((q < p) ⊎ (p ≡ q)) → (u < v) ⊎ ((v < u) ⊎ (u ≡ v)) → (p ≡ q) × (u ≡ v)
+    by (inl h) o = absurd (less (inl h))
+    by (inr (inl h)) o = absurd (more (inl h))
+    by (inr (inr h)) (inl k) = absurd (less (inr (h, k)))
+    by (inr (inr h)) (inr (inl k)) = absurd (more (inr (sym h, k)))
+    by (inr (inr h)) (inr (inr k)) = (h, k)
+
+pub module_names_apart : (ps : List PlainProgram) → AreNamesRight ps → IsOrdered (symbols_of ps) ps (order (symbols_of ps) ps) → AreApart (map (λ (x : Module). x.name) (module_items (layout ps) ps))
+module_names_apart ps right ordered j k n less p q =
+    let a = of_map (λ (x : Module). x.name) (module_items (layout ps) ps) j n p in
+    let b = of_map (λ (x : Module). x.name) (module_items (layout ps) ps) k n q in
+    let f = module_from ps ordered j a.0 a.1 in
+    let g = module_from ps ordered k b.0 b.1 in
+    let names : f.node.name.name ≡ g.node.name.name = ap (λ (x : Module). x.name) f.is ∙ a.2 ∙ sym b.2 ∙ sym (ap (λ (x : Module). x.name) g.is) in
+    let one = one_module ps right f.unit.program f.unit.unit g.unit.program g.unit.unit f.node g.node f.its g.its names in
+    let same = ordered.apart j k f.unit g.unit f.there g.there one.0 one.1 in
+    omega (arith, less, same)
+
+-- ---- names of an owner
+
+-- Where an item of a part is known by what it is called, items differ by owner and what they are called.
+pub owned_apart : {A B N : Type 0} (f : ℕ → A → List B) (own : B → ℕ) (called : B → N) (xs : List A) → IsOwned f own
+    → ((k : ℕ) (x : A) → slice_get xs k ≡ Some x → (i j : ℕ) (y z : B) → slice_get (f k x) i ≡ Some y → slice_get (f k x) j ≡ Some z → called y ≡ called z → i ≡ j)
+    → AreApart {A = ℕ × N} (map (λ y. (own y, called y)) (flat_map_at f 0 xs))
+owned_apart {B = B} {N = N} f own called xs owned known_by j k n less p q =
+    let pair : B → ℕ × N = λ y. (own y, called y) in
+    let a = of_map pair (flat_map_at f 0 xs) j n p in
+    let b = of_map pair (flat_map_at f 0 xs) k n q in
+    let r = part_of_0 f xs j a.0 a.1 in
+    let s = part_of_0 f xs k b.0 b.1 in
+    let same : pair a.0 ≡ pair b.0 = a.2 ∙ sym b.2 in
+    let owners : own a.0 ≡ own b.0 = ap (λ (t : ℕ × N). t.0) same in
+    let names : called a.0 ≡ called b.0 = ap (λ (t : ℕ × N). t.1) same in
+    let one = owned r.part r.owner r.place a.0 r.item in
+    let two = owned s.part s.owner s.place b.0 s.item in
+    let part : s.part ≡ r.part = omega (arith, one, two, owners) in
+    let there : slice_get xs r.part ≡ Some s.owner = ap (slice_get xs) (sym part) ∙ s.there in
+    let whose : Some s.owner ≡ Some r.owner = sym there ∙ r.there in
+    let owner : s.owner ≡ r.owner = cc in
+    let item : slice_get (f r.part r.owner) s.place ≡ Some b.0 =
+    subst (λ (x : _). slice_get (f r.part x) s.place ≡ Some b.0) owner (subst (λ (m : ℕ). slice_get (f m s.owner) s.place ≡ Some b.0) part s.item) in
+    let place = known_by r.part r.owner r.there r.place s.place a.0 b.0 r.item item names in
+    let starts = ap (λ (m : ℕ). length (flat_map_at f 0 (take m xs))) part in
+    omega (arith, less, r.number, s.number, place, starts)
+
+pub modes_owned : (ps : List PlainProgram) → IsOwned (unit_mode_items ps) (λ (m : Mode). m.«module»)
+modes_owned ps k s j y e = let x = of_map (mode_item k) (modes_at ps s.program s.unit) j y e in sym (ap (λ (m : Mode). m.«module») x.2)
+
+pub mode_names_apart : (ps : List PlainProgram) → AreNamesRight ps → AreApart {A = ℕ × List ℕ} (map (λ (m : Mode). (m.«module», m.name)) (mode_items (layout ps) ps))
+mode_names_apart ps right =
+    owned_apart (unit_mode_items ps) (λ (m : Mode). m.«module») (λ (m : Mode). m.name) (layout ps).units (modes_owned ps) (λ k s there i j y z a b names.
+    let p = s.program in
+    let u = s.unit in
+    let x = of_map (mode_item k) (modes_at ps p u) i y a in
+    let w = of_map (mode_item k) (modes_at ps p u) j z b in
+    let same : x.0.name.name ≡ w.0.name.name = ap (λ (m : Mode). m.name) x.2 ∙ names ∙ sym (ap (λ (m : Mode). m.name) w.2) in
+    same_number ps right (entry (mode_key p u x.0.name.name) i x.0.name) (entry (mode_key p u w.0.name.name) j w.0.name) (mode_origin p u i x.0 x.1) (mode_origin p u j w.0 w.1) (ap (λ (m : List ℕ). mode_key p u m) same))
+
+pub tasks_owned : (ps : List PlainProgram) → IsOwned (unit_task_items ps) (λ (t : Task). t.«module»)
+tasks_owned ps k s j y e = let x = of_map (task_item k) (tasks_at ps s.program s.unit) j y e in sym (ap (λ (t : Task). t.«module») x.2)
+
+pub task_names_apart : (ps : List PlainProgram) → AreNamesRight ps → AreApart {A = ℕ × List ℕ} (map (λ (t : Task). (t.«module», t.name)) (task_items (layout ps) ps))
+task_names_apart ps right =
+    owned_apart (unit_task_items ps) (λ (t : Task). t.«module») (λ (t : Task). t.name) (layout ps).units (tasks_owned ps) (λ k s there i j y z a b names.
+    let p = s.program in
+    let u = s.unit in
+    let x = of_map (task_item k) (tasks_at ps p u) i y a in
+    let w = of_map (task_item k) (tasks_at ps p u) j z b in
+    let same : x.0.name.name ≡ w.0.name.name = ap (λ (t : Task). t.name) x.2 ∙ names ∙ sym (ap (λ (t : Task). t.name) w.2) in
+    same_number ps right (entry (task_key p u x.0.name.name) i x.0.name) (entry (task_key p u w.0.name.name) j w.0.name) (of_task p u i x.0 x.1) (of_task p u j w.0 w.1) (ap (λ (m : List ℕ). task_key p u m) same))
+
+pub ports_owned : (ps : List PlainProgram) → IsOwned (mode_port_items ps) (λ (q : Port). q.mode)
+ports_owned ps m a j y e = let x = of_map (port_item m) (ports_at ps a) j y e in sym (ap (λ (q : Port). q.mode) x.2)
+
+pub port_names_apart : (ps : List PlainProgram) → AreNamesRight ps → AreApart {A = ℕ × List ℕ} (map (λ (q : Port). (q.mode, q.name)) (port_items (layout ps) ps))
+port_names_apart ps right =
+    owned_apart (mode_port_items ps) (λ (q : Port). q.mode) (λ (q : Port). q.name) (layout ps).modes (ports_owned ps) (λ m a there i j y z p q names.
+    let f = mode_of_number (layout ps) ps refl m a there in
+    let ports = of_mode ps a f.node (λ z. z.ports) f.its in
+    let x = of_map (port_item m) (ports_at ps a) i y p in
+    let w = of_map (port_item m) (ports_at ps a) j z q in
+    let same : x.0.name.name ≡ w.0.name.name = ap (λ (q : Port). q.name) x.2 ∙ names ∙ sym (ap (λ (q : Port). q.name) w.2) in
+    same_number ps right (port_entry a.program a.unit a.mode i x.0) (port_entry a.program a.unit a.mode j w.0)
+    (of_port a.program a.unit a.mode f.node f.its i x.0 (sym (ap (λ qs. slice_get qs i) ports) ∙ x.1))
+    (of_port a.program a.unit a.mode f.node f.its j w.0 (sym (ap (λ qs. slice_get qs j) ports) ∙ w.1))
+    (ap (λ (n : List ℕ). port_key a.program a.unit a.mode n) same))
+
+pub invokes_owned : (l : Layout) (ps : List PlainProgram) → IsOwned (mode_invoke_items l ps) (λ (i : Inv). i.mode)
+invokes_owned l ps m a j y e = let x = of_map (invoke_item l ps m a) (invokes_at ps a) j y e in sym (ap (λ (i : Inv). i.mode) x.2)
+
+-- a task's place tells its name
+task_name_is : (ps : List PlainProgram) → AreNamesRight ps → (p u : ℕ) (n m : List ℕ) (i j : ℕ) → look_up (task_key p u n) (symbols_of ps) ≡ Some i → look_up (task_key p u m) (symbols_of ps) ≡ Some j → i ≡ j → n ≡ m
+task_name_is ps right p u n m i j a b same =
+    let x = task_means ps p u n i a in
+    let y = task_means ps p u m j b in
+    let one : Some x.0 ≡ Some y.0 = sym x.1 ∙ ap (slice_get (tasks_at ps p u)) same ∙ y.1 in
+    let task : x.0 ≡ y.0 = cc in
+    sym x.2 ∙ ap (λ (t : PlainTask). t.name.name) task ∙ y.2
+
+pub invoked_once : (ps : List PlainProgram) → AreNamesRight ps → AreApart {A = ℕ × ℕ} (map (λ (i : Inv). (i.mode, i.task)) (invoke_items (layout ps) ps))
+invoked_once ps right =
+    owned_apart (mode_invoke_items (layout ps) ps) (λ (i : Inv). i.mode) (λ (i : Inv). i.task) (layout ps).modes (invokes_owned (layout ps) ps) (λ m a there i j y z p q tasks.
+    let l = layout ps in
+    let f = mode_of_number l ps refl m a there in
+    let invokes = of_mode ps a f.node (λ z. z.invokes) f.its in
+    let x = of_map (invoke_item l ps m a) (invokes_at ps a) i y p in
+    let w = of_map (invoke_item l ps m a) (invokes_at ps a) j z q in
+    let own = sym (ap (λ qs. slice_get qs i) invokes) ∙ x.1 in
+    let other = sym (ap (λ qs. slice_get qs j) invokes) ∙ w.1 in
+    let one = known ps right (usage (task_key a.program a.unit x.0.task.name) x.0.task) (task_used ps a.program a.unit a.mode i f.node x.0 f.its own) in
+    let two = known ps right (usage (task_key a.program a.unit w.0.task.name) w.0.task) (task_used ps a.program a.unit a.mode j f.node w.0 f.its other) in
+    let first = meaning_is ps (task_key a.program a.unit x.0.task.name) one.0 one.1 in
+    let second = meaning_is ps (task_key a.program a.unit w.0.task.name) two.0 two.1 in
+    let left = ap (λ (v : Inv). v.task) x.2 in
+    let right_side = ap (λ (v : Inv). v.task) w.2 in
+    let same : one.0 ≡ two.0 = omega (arith, first, second, left, right_side, tasks) in
+    let names = task_name_is ps right a.program a.unit x.0.task.name w.0.task.name one.0 two.0 one.1 two.1 same in
+    same_number ps right (invoke_entry a.program a.unit a.mode i x.0) (invoke_entry a.program a.unit a.mode j w.0)
+    (of_invoke a.program a.unit a.mode f.node f.its i x.0 own)
+    (of_invoke a.program a.unit a.mode f.node f.its j w.0 other)
+    (ap (λ (n : List ℕ). invoke_key a.program a.unit a.mode n) names))

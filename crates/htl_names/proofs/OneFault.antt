@@ -1,0 +1,65 @@
+-- A source has one first name fault at most.
+use Rattle.std.proofs.Common.{◌≡◌, ℕ, zero, suc, ◌<◌, ◌⊎◌, inl, inr, List, refl, sym, ◌∙◌, ap, subst, arith}
+use Rattle.htl_text.specs.Nodes.{PlainProgram}
+use Rattle.htl_names.specs.NameRules.{NameRule, RepeatedName, UnknownName, WrongKind, ProgramTree, ParentName, Limits, order_of, NameBroken, TriedBefore, IsFirstNameFault}
+use Rattle.htl_names.specs.declared.fault.NameFault.{NameFault}
+
+-- the rule with a place in the order
+abbrev rule_at : ℕ → NameRule
+rule_at zero = RepeatedName
+rule_at (suc zero) = RepeatedName
+rule_at (suc (suc zero)) = UnknownName
+rule_at (suc (suc (suc zero))) = WrongKind
+rule_at (suc (suc (suc (suc zero)))) = ProgramTree
+rule_at (suc (suc (suc (suc (suc zero))))) = ParentName
+rule_at (suc (suc (suc (suc (suc (suc n)))))) = Limits
+
+rule_back : (r : NameRule) → rule_at (order_of r) ≡ r
+rule_back RepeatedName = refl
+rule_back UnknownName = refl
+rule_back WrongKind = refl
+rule_back ProgramTree = refl
+rule_back ParentName = refl
+rule_back Limits = refl
+
+same_rule : (r s : NameRule) → order_of r ≡ order_of s → r ≡ s
+same_rule r s e = sym (rule_back r) ∙ ap rule_at e ∙ rule_back s
+
+three : (a b : ℕ) → (a < b) ⊎ (a ≡ b) ⊎ (b < a)
+three a b = grind arith
+
+-- a place is tried before another, or it is the other, or tried after it
+tried : (r s : NameRule) (j k : ℕ) → TriedBefore r j s k ⊎ ((r ≡ s) × (j ≡ k)) ⊎ TriedBefore s k r j
+tried r s j k = by (three (order_of r) (order_of s)) (three j k)
+  where
+    by : (order_of r < order_of s) ⊎ (order_of r ≡ order_of s) ⊎ (order_of s < order_of r) → (j < k) ⊎ (j ≡ k) ⊎ (k < j)
+        → TriedBefore r j s k ⊎ ((r ≡ s) × (j ≡ k)) ⊎ TriedBefore s k r j
+    by (inl less) place = inl (inl less)
+    by (inr (inl same)) (inl less) = inl (inr (same, less))
+    by (inr (inl same)) (inr (inl at)) = inr (inl (same_rule r s same, at))
+    by (inr (inl same)) (inr (inr more)) = inr (inr (inr (sym same, more)))
+    by (inr (inr more)) place = inr (inr (inl more))
+
+-- at one place one fault is told
+one_at : (ps : List PlainProgram) (r : NameRule) (k : ℕ) (f g : NameFault) → NameBroken ps r k f → NameBroken ps r k g → f ≡ g
+one_at ps RepeatedName k f g p q =
+    let a = p.1 in let b = q.1 in let x = p.3 in let y = q.3 in cc
+one_at ps UnknownName k f g p q =
+    let a = p.1 in let b = q.1 in let x = p.3 in let y = q.3 in cc
+one_at ps WrongKind k f g p q =
+    let a = p.1 in let b = q.1 in let x = p.3 in let y = q.3 in cc
+one_at ps ProgramTree k f g p q = p.2 ∙ sym q.2
+one_at ps ParentName k f g p q =
+    let a = p.1 in let b = q.1 in let x = p.3 in let y = q.3 in cc
+one_at ps Limits k f g p q =
+    let a = p.2 in let b = q.2 in let x = p.5 in let y = q.5 in cc
+
+pub one_name_fault : (ps : List PlainProgram) (f g : NameFault) → IsFirstNameFault ps f → IsFirstNameFault ps g → f ≡ g
+one_name_fault ps f g p q = by (tried p.rule q.rule p.place q.place)
+  where
+    by : TriedBefore p.rule p.place q.rule q.place ⊎ ((p.rule ≡ q.rule) × (p.place ≡ q.place)) ⊎ TriedBefore q.rule q.place p.rule p.place → f ≡ g
+    by (inl before) = absurd (q.first p.rule p.place f before p.broken)
+    by (inr (inl same)) =
+        one_at ps q.rule q.place f g
+        (subst (λ (k : ℕ). NameBroken ps q.rule k f) same.1 (subst (λ (r : NameRule). NameBroken ps r p.place f) same.0 p.broken)) q.broken
+    by (inr (inr after)) = absurd (p.first q.rule q.place g after q.broken)

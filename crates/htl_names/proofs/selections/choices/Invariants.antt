@@ -1,0 +1,12 @@
+use Rattle.std.proofs.Common.{◌≡◌, ◌≤◌, ◌*◌, ◌-◌, ◌^◌, map, drop}
+use Rattle.htl_text.specs.Nodes.{module_of}
+use Rattle.htl_names.specs.Excesses.{capped}
+use Rattle.htl_names.specs.Limits.{choices}
+use Rattle.htl_names.proofs.selections.choices.Given as goal
+
+abbrev pub invariant-loop-k : goal.invariant-loop-k
+invariant-loop-k l =
+    record {
+      product : capped (l.n * choices (map module_of (drop l.k l.units))) ≡ capped (choices (map module_of l.units));
+      room : l.n ≤ 2 ^ 64 - 1;
+    }

@@ -1,0 +1,13 @@
+use Rattle.std.proofs.Common.{◌≡◌, ◌≤◌, ◌+◌, ◌-◌, ◌^◌, map, drop, sum}
+use Rattle.htl_text.specs.Nodes.{module_of, PlainModule}
+use Rattle.htl_names.specs.Excesses.{capped}
+use Rattle.htl_names.specs.Limits.{most_invokes}
+use Rattle.htl_names.proofs.selections.most_positions.Given as goal
+
+abbrev pub invariant-loop-k : goal.invariant-loop-k
+invariant-loop-k l =
+    record {
+      total : capped (l.sum + sum (map (λ (x : PlainModule). most_invokes x.modes) (map module_of (drop l.k l.units))))
+          ≡ capped (sum (map (λ (x : PlainModule). most_invokes x.modes) (map module_of l.units)));
+      room : l.sum ≤ 2 ^ 64 - 1;
+    }

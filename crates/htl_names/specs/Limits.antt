@@ -1,0 +1,50 @@
+-- How much of each kind a source has, and how much it may have.
+use Rattle.std.specs.Prelude.{ℕ, ◌*◌, List, [], ◌∷◌, length, map, sum}
+use Rattle.htl_model.specs.Tables.{greatest}
+use Rattle.htl_text.specs.Bounds.{comms_of, modules_of, modes_of, ports_of, tasks_of, invokes_of, switches_of}
+use Rattle.htl_text.specs.Nodes.{PlainProgram, PlainModule, PlainMode}
+use Rattle.htl_names.specs.declared.key.Key.{Key}
+use Rattle.htl_names.specs.Programs.{levels}
+
+-- the modules of the root program
+abbrev pub root_modules : List PlainProgram → List PlainModule
+root_modules [] = []
+root_modules (p ∷ ps) = p.modules
+
+-- how many choices of one mode for each module there are
+abbrev pub choices : List PlainModule → ℕ
+choices [] = 1
+choices (x ∷ xs) = length x.modes * choices xs
+
+-- how many root selections there are: none without root modules
+abbrev pub selections : List PlainProgram → ℕ
+selections ps = elim (root_modules ps) [ [] ↦ 0 | x ∷ xs ↦ choices (x ∷ xs) ]
+
+-- the most invocations that a mode of a module has
+abbrev pub most_invokes : List PlainMode → ℕ
+most_invokes xs = greatest 0 (map (λ x. length x.invokes) xs)
+
+-- the most positions that a root selection has: of each root module the mode with the most invocations
+abbrev pub most_positions : List PlainProgram → ℕ
+most_positions ps = sum (map (λ x. most_invokes x.modes) (root_modules ps))
+
+-- communicators, modules, modes, ports, tasks, invocations, switches, the most invocations in one mode, levels of
+-- programs, root selections, the most positions in one selection
+abbrev pub counts : List (Key × ℕ) → List PlainProgram → List ℕ
+counts symbols ps =
+    length (comms_of ps)
+    ∷ length (modules_of ps)
+    ∷ length (modes_of (modules_of ps))
+    ∷ length (ports_of (modes_of (modules_of ps)))
+    ∷ length (tasks_of (modules_of ps))
+    ∷ length (invokes_of (modes_of (modules_of ps)))
+    ∷ length (switches_of (modes_of (modules_of ps)))
+    ∷ most_invokes (modes_of (modules_of ps))
+    ∷ levels symbols ps
+    ∷ selections ps
+    ∷ most_positions ps
+    ∷ []
+
+-- the limits, in the same order
+abbrev pub limits : List ℕ
+limits = 1024 ∷ 64 ∷ 256 ∷ 4096 ∷ 4096 ∷ 2048 ∷ 4096 ∷ 128 ∷ 8 ∷ 1024 ∷ 128 ∷ []

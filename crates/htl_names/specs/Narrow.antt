@@ -1,0 +1,38 @@
+-- Bounds by which the numbers of a layout fit the fields of the tables.
+use Rattle.std.specs.Prelude.{ℕ, ◌≤◌, All, List, length, Option, Some, None}
+use Rattle.htl_text.specs.Bounds.{comms_of}
+use Rattle.htl_text.specs.Nodes.{PlainProgram}
+use Rattle.htl_text.specs.declared.tree.EndNode.{EndNode}
+use Rattle.htl_text.specs.declared.tree.EndNode.TheVariants as end
+use Rattle.htl_text.specs.declared.tree.InvokeNode.{InvokeNode}
+use Rattle.htl_names.specs.declared.key.Key.{Key}
+use Rattle.htl_names.specs.declared.place.ModeAt.{ModeAt}
+use Rattle.htl_names.specs.declared.place.UnitAt.{UnitAt}
+use Rattle.htl_names.specs.Flat.{Layout, meaning, first_mode, first_task, first_port, first_invoke, size_of}
+use Rattle.htl_names.specs.Order.{modes_at, tasks_at, invokes_at}
+
+abbrev pub IsNarrowEnd : EndNode → Type 0
+IsNarrowEnd (end.Comm comm instance) = size_of instance.x ≤ 1000000
+IsNarrowEnd (end.Port port) = Unit {0}
+
+pub record IsNarrowInvoke (i : InvokeNode) : Type 0 where
+  pub reads : All IsNarrowEnd i.reads
+  pub writes : All IsNarrowEnd i.writes
+
+abbrev pub IsNarrowParent : Option ModeAt → Type 0
+IsNarrowParent None = Unit {0}
+IsNarrowParent (Some a) = a.mode ≤ 256
+
+pub record IsNarrow (l : Layout) (ps : List PlainProgram) : Type 0 where
+  pub meanings : (key : Key) → meaning l key ≤ 4096
+  pub units : length l.units ≤ 64
+  pub modes : length l.modes ≤ 256
+  pub first_modes : (k : ℕ) → first_mode l ps k ≤ 256
+  pub first_tasks : (k : ℕ) → first_task l ps k ≤ 4096
+  pub first_ports : (m : ℕ) → first_port l ps m ≤ 4096
+  pub first_invokes : (m : ℕ) → first_invoke l ps m ≤ 2048
+  pub parents : All (λ (s : UnitAt). IsNarrowParent s.parent) l.units
+  pub comm_periods : All (λ c. size_of c.period.x ≤ 1000000) (comms_of ps)
+  pub mode_periods : (p u : ℕ) → All (λ x. size_of x.period.x ≤ 1000000) (modes_at ps p u)
+  pub worsts : (p u : ℕ) → All (λ t. size_of t.worst.x ≤ 1000000) (tasks_at ps p u)
+  pub instances : (a : ModeAt) → All IsNarrowInvoke (invokes_at ps a)

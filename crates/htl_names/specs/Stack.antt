@@ -1,0 +1,37 @@
+-- Modules that are still to come, as a stack.
+use Rattle.std.specs.Prelude.{ℕ, zero, suc, List, [], map, reverse, Option, Some, None}
+use Rattle.std.specs.List.{flat_map}
+use Rattle.htl_text.specs.Nodes.{PlainProgram}
+use Rattle.htl_names.specs.declared.key.Key.{Key}
+use Rattle.htl_names.specs.declared.order.Frame.{Frame}
+use Rattle.htl_names.specs.declared.place.ModeAt.{ModeAt}
+use Rattle.htl_names.specs.declared.place.UnitAt.{UnitAt}
+use Rattle.htl_names.specs.Order.{units_in, kids, below}
+
+abbrev pub unit_at : ℕ → Option ModeAt → ℕ → UnitAt
+unit_at program parent u = record { program = program; unit = u; parent = parent }
+
+abbrev pub mode_in : UnitAt → ℕ → ModeAt
+mode_in s m = record { program = s.program; unit = s.unit; mode = m }
+
+-- a module, and how many levels may lie below it
+abbrev pub frame : ℕ → UnitAt → Frame
+frame steps s = record { unit = s; steps = steps }
+
+-- the modules of the program that refines mode a, where there is one
+abbrev pub units_named : List PlainProgram → ModeAt → Option ℕ → List UnitAt
+units_named ps a (Some q) = units_in ps (Some a) q
+units_named ps a None = []
+
+-- what comes in the place of a module that was taken
+abbrev pub kid_frames : ℕ → List (Key × ℕ) → List PlainProgram → UnitAt → List Frame
+kid_frames zero symbols ps s = []
+kid_frames (suc n) symbols ps s = map (frame n) (kids symbols ps s)
+
+-- what a module that is still to come gives
+abbrev pub coming : List (Key × ℕ) → List PlainProgram → Frame → List UnitAt
+coming symbols ps f = below f.steps symbols ps f.unit
+
+-- what the modules on a stack give, the last first
+abbrev pub coming_from : List (Key × ℕ) → List PlainProgram → List Frame → List UnitAt
+coming_from symbols ps stack = flat_map (coming symbols ps) (reverse stack)

@@ -1,0 +1,105 @@
+// Expressions with places of arguments for names.
+ghost use Rattle.std.specs.Prelude.{◌≡◌, ◌≤◌, ℕ, eqb, length, IfOk};
+ghost use Rattle.htl_model.specs.Functions.{term_of};
+ghost use Rattle.htl_text.specs.Expressions.{expr_of};
+ghost use Rattle.htl_text.specs.declared.tree.Id.{Id as AnId};
+ghost use Rattle.htl_names.specs.Lists.{place_in};
+ghost use Rattle.htl_names.specs.Flat.{term_by, input_place, read_place};
+
+use crate::layout::Layout;
+use crate::meanings::{comm_place, param_place};
+use htl_model::Expr;
+use htl_text::{Id, Term};
+use std::alloc::{AllocError, Global};
+
+/// What the names of an expression stand for.
+pub trait Arguments {
+    ghost place: { Self → AnId → ℕ };
+
+    /// The place of the argument that a name means.
+    fn place(&self, id: &Id) -> u16
+        requires { place self.now id.now ≤ 4097 }
+        ensures { result ≡ place self.now id.now };
+}
+
+/// The inputs of a task.
+#[derive(Drop)]
+pub struct Inputs<'a> {
+    pub layout: &'a Layout,
+    pub program: usize,
+    pub unit: usize,
+    pub task: usize,
+}
+
+impl Arguments for Inputs<'_> {
+    ghost place = { λ s. input_place s.layout.now s.program s.unit s.task };
+
+    fn place(&self, id: &Id) -> u16 {
+        param_place(self.layout, self.program, self.unit, self.task, id.name) as u16
+    }
+}
+
+/// The communicators that a switch reads.
+#[derive(Drop)]
+pub struct Reads<'a> {
+    pub layout: &'a Layout,
+    pub comms: &'a [u16],
+}
+
+impl Arguments for Reads<'_> {
+    ghost place = { λ s. read_place s.layout.now s.comms.now };
+
+    fn place(&self, id: &Id) -> u16 {
+        place_in(comm_place(self.layout, id.name), self.comms) as u16
+    }
+}
+
+// The place of a communicator; their number where it is none of them.
+fn place_in(comm: usize, comms: &[u16]) -> usize
+    ensures { result ≡ place_in (eqb comm) comms.now }
+{
+    for k in 0..comms.len() {
+        if comms[k] as usize == comm {
+            return k;
+        }
+    }
+    comms.len()
+}
+
+/// The expression with the places of its names.
+pub fn formula<A: Arguments>(alloc: Global, arguments: &A, e: &Term) -> Result<Expr, AllocError>
+    requires { (id : AnId) → A.place arguments.now id ≤ 4097 }
+    ensures { IfOk result (λ x. term_of x ≡ term_by (A.place arguments.now) (expr_of e.now)) }
+{
+    match e {
+        Term::Int { token, x } => Ok(Expr::Int {
+            token: *token,
+            x: *x,
+        }),
+        Term::Bool { token, x } => Ok(Expr::Bool {
+            token: *token,
+            x: *x,
+        }),
+        Term::Named { id } => Ok(Expr::Arg {
+            token: id.token,
+            k: arguments.place(id),
+        }),
+        Term::Unary { token, op, e } => Ok(Expr::Unary {
+            token: *token,
+            op: *op,
+            e: Box::new(alloc, formula(alloc, arguments, e)?)?,
+        }),
+        Term::Binary { token, op, l, r } => Ok(Expr::Binary {
+            token: *token,
+            op: *op,
+            l: Box::new(alloc, formula(alloc, arguments, l)?)?,
+            r: Box::new(alloc, formula(alloc, arguments, r)?)?,
+        }),
+        Term::Choose { token, c, a, b } => Ok(Expr::Choose {
+            token: *token,
+            c: Box::new(alloc, formula(alloc, arguments, c)?)?,
+            a: Box::new(alloc, formula(alloc, arguments, a)?)?,
+            b: Box::new(alloc, formula(alloc, arguments, b)?)?,
+        }),
+    }
+}

@@ -1,0 +1,172 @@
+// The list of functions.
+ghost use Rattle.std.specs.Prelude.{◌≡◌, ◌++◌, ◌≤◌, ℕ, OnOk, IfOk, length, map};
+ghost use Rattle.std.specs.List.{flat_map};
+ghost use Rattle.htl_model.specs.Tables.{fun_of};
+ghost use Rattle.htl_text.specs.Nodes.{tree_of, task_of, outs_of, out_of, switch_of};
+ghost use Rattle.htl_names.specs.declared.key.Key.{Key as AKey};
+ghost use Rattle.htl_names.specs.Lists.{flat_map_at};
+ghost use Rattle.htl_names.specs.Flat.{meaning, output_function, outs_functions, task_functions, unit_functions, switch_function, mode_functions, function_items};
+ghost use Rattle.htl_names.specs.Narrow.{IsNarrow};
+
+use crate::at::{switches_at, tasks_at};
+use crate::formulas::{Inputs, Reads, formula};
+use crate::layout::Layout;
+use crate::place::{ModeAt, UnitAt};
+use crate::switches::comms_in;
+use htl_model::Function;
+use htl_text::{OutNode, OutNodes, SwitchNode, Tree};
+use std::alloc::{AllocError, Global};
+
+/// One for each output of each concrete task, in the order of tasks, then one for each switch.
+pub fn functions(alloc: Global, tree: &Tree, layout: &Layout) -> Result<Vec<Function>, AllocError>
+    requires { IsNarrow layout.now (tree_of tree.now) }
+    ensures { IfOk result (λ v. map fun_of v.items ≡ function_items layout.now (tree_of tree.now)) }
+{
+    let mut into = Vec::new(alloc);
+    put_outputs(alloc, tree, layout, &mut into)?;
+    put_switches(alloc, tree, layout, &mut into)?;
+    Ok(into)
+}
+
+fn put_outputs(
+    alloc: Global,
+    tree: &Tree,
+    layout: &Layout,
+    into: &mut Vec<Function>,
+) -> Result<(), AllocError>
+    requires { IsNarrow layout.now (tree_of tree.now) }
+    ensures { OnOk result (map fun_of into.new.items
+        ≡ map fun_of into.old.items ++ flat_map (unit_functions layout.now (tree_of tree.now)) layout.now.units) }
+{
+    let units = layout.units.as_slice();
+    for k in 0..units.len() {
+        put_unit(alloc, tree, layout, units[k], into)?;
+    }
+    Ok(())
+}
+
+// Those of the tasks of a module.
+fn put_unit(
+    alloc: Global,
+    tree: &Tree,
+    layout: &Layout,
+    at: UnitAt,
+    into: &mut Vec<Function>,
+) -> Result<(), AllocError>
+    requires { (key : AKey) → meaning layout.now key ≤ 4096 }
+    ensures { OnOk result (map fun_of into.new.items ≡ map fun_of into.old.items ++ unit_functions layout.now (tree_of tree.now) at) }
+{
+    let tasks = tasks_at(tree, at.program, at.unit);
+    for k in 0..tasks.len() {
+        let inputs = Inputs {
+            layout,
+            program: at.program,
+            unit: at.unit,
+            task: k,
+        };
+        put_task(alloc, &inputs, &tasks[k].outputs, into)?;
+    }
+    Ok(())
+}
+
+// Those of a task with these inputs: none of an abstract one.
+fn put_task(
+    alloc: Global,
+    inputs: &Inputs<'_>,
+    outs: &OutNodes,
+    into: &mut Vec<Function>,
+) -> Result<(), AllocError>
+    requires { (key : AKey) → meaning inputs.now.layout.now key ≤ 4096 }
+    ensures { OnOk result (map fun_of into.new.items ≡ map fun_of into.old.items
+        ++ outs_functions inputs.now.layout.now inputs.now.program inputs.now.unit inputs.now.task (outs_of outs.now)) }
+{
+    match outs {
+        OutNodes::Concrete { outs } => put_outs(alloc, inputs, outs.as_slice(), into),
+        OutNodes::Abstract { .. } => Ok(()),
+    }
+}
+
+fn put_outs(
+    alloc: Global,
+    inputs: &Inputs<'_>,
+    outs: &[OutNode],
+    into: &mut Vec<Function>,
+) -> Result<(), AllocError>
+    requires { (key : AKey) → meaning inputs.now.layout.now key ≤ 4096 }
+    ensures { OnOk result (map fun_of into.new.items ≡ map fun_of into.old.items
+        ++ map (output_function inputs.now.layout.now inputs.now.program inputs.now.unit inputs.now.task) (map out_of outs.now)) }
+{
+    for k in 0..outs.len() {
+        into.push(output_function(alloc, inputs, &outs[k])?)?;
+    }
+    Ok(())
+}
+
+fn output_function(
+    alloc: Global,
+    inputs: &Inputs<'_>,
+    out: &OutNode,
+) -> Result<Function, AllocError>
+    requires { (key : AKey) → meaning inputs.now.layout.now key ≤ 4096 }
+    ensures { IfOk result (λ f. fun_of f
+        ≡ output_function inputs.now.layout.now inputs.now.program inputs.now.unit inputs.now.task (out_of out.now)) }
+{
+    Ok(Function::Expr {
+        first: out.first,
+        e: formula(alloc, inputs, &out.value)?,
+    })
+}
+
+fn put_switches(
+    alloc: Global,
+    tree: &Tree,
+    layout: &Layout,
+    into: &mut Vec<Function>,
+) -> Result<(), AllocError>
+    requires { IsNarrow layout.now (tree_of tree.now) }
+    ensures { OnOk result (map fun_of into.new.items
+        ≡ map fun_of into.old.items ++ flat_map (mode_functions layout.now (tree_of tree.now)) layout.now.modes) }
+{
+    let modes = layout.modes.as_slice();
+    for k in 0..modes.len() {
+        put_mode(alloc, tree, layout, modes[k], into)?;
+    }
+    Ok(())
+}
+
+// Those of the switches of a mode.
+fn put_mode(
+    alloc: Global,
+    tree: &Tree,
+    layout: &Layout,
+    at: ModeAt,
+    into: &mut Vec<Function>,
+) -> Result<(), AllocError>
+    requires { (key : AKey) → meaning layout.now key ≤ 4096 }
+    ensures { OnOk result (map fun_of into.new.items ≡ map fun_of into.old.items ++ mode_functions layout.now (tree_of tree.now) at) }
+{
+    let nodes = switches_at(tree, at);
+    for k in 0..nodes.len() {
+        into.push(switch_function(alloc, layout, &nodes[k])?)?;
+    }
+    Ok(())
+}
+
+fn switch_function(
+    alloc: Global,
+    layout: &Layout,
+    node: &SwitchNode,
+) -> Result<Function, AllocError>
+    requires { (key : AKey) → meaning layout.now key ≤ 4096 }
+    ensures { IfOk result (λ f. fun_of f ≡ switch_function layout.now (switch_of node.now)) }
+{
+    let comms = comms_in(alloc, layout, &node.cond)?;
+    let reads = Reads {
+        layout,
+        comms: comms.as_slice(),
+    };
+    Ok(Function::Expr {
+        first: node.first,
+        e: formula(alloc, &reads, &node.cond)?,
+    })
+}

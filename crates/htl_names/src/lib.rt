@@ -1,0 +1,37 @@
+//! Names: from the tree of a source to its flat tables, and the first name rule that a source breaks.
+#![tactic(auto)]
+
+mod at;
+mod entries;
+mod fault;
+mod flat;
+mod formulas;
+mod functions;
+mod graph;
+mod invocations;
+mod items;
+mod key;
+mod kinds;
+mod layout;
+mod levels;
+mod limits;
+mod literals;
+mod meanings;
+mod numbers;
+mod order;
+mod parents;
+mod place;
+mod programs;
+mod reach;
+mod repeats;
+mod resolving;
+mod selections;
+mod spaces;
+mod switches;
+mod symbols;
+mod tally;
+mod tasks;
+mod uses;
+
+pub use fault::NameFault;
+pub use resolving::resolve;

@@ -1,0 +1,114 @@
+// The first limit that a source exceeds.
+ghost use Rattle.std.specs.Prelude.{◌≡◌, ◌≤◌, length, take};
+ghost use Rattle.htl_model.specs.Lists.{list_to};
+ghost use Rattle.htl_text.specs.Nodes.{tree_of};
+ghost use Rattle.htl_names.specs.Excess.{IsFirstExcess};
+ghost use Rattle.htl_names.specs.Excesses.{excess, excess_from, or_else, capped};
+ghost use Rattle.htl_names.specs.LevelTable.{levels_by};
+ghost use Rattle.htl_names.specs.Limits.{counts, limits, selections, most_positions};
+ghost use Rattle.htl_names.specs.Programs.{refined_by};
+ghost use Rattle.htl_names.specs.Tallies.{tally, tally_counts};
+
+use crate::levels::levels;
+use crate::place::ModeAt;
+use crate::selections::{most_positions, selections};
+use crate::symbols::Symbols;
+use crate::tally::tally_of;
+use htl_base::limits::{
+    MAX_COMMUNICATORS, MAX_INVOCATIONS, MAX_LEVELS, MAX_MODE_INVOCATIONS, MAX_MODES, MAX_MODULES,
+    MAX_PORTS, MAX_POSITIONS, MAX_SELECTIONS, MAX_SWITCHES, MAX_TASKS,
+};
+use htl_text::Tree;
+
+/// A limit that is exceeded.
+#[derive(Clone, Copy)]
+pub(crate) struct Excess {
+    /// The number of the limit, from 1.
+    pub which: u8,
+    /// What there is, at most 4,294,967,295.
+    pub count: u32,
+}
+
+/// The excess of a count over its limit.
+fn excess_over(which: u8, count: usize, limit: usize) -> Option<Excess>
+    ensures { result ≡ excess which count limit }
+{
+    if limit < count {
+        Some(Excess {
+            which,
+            count: count.min(u32::MAX as usize) as u32,
+        })
+    } else {
+        None
+    }
+}
+
+/// The first excess of counts over their limits, which are numbered from 1.
+fn first_excess(counts: &[usize], limits: &[usize]) -> Option<Excess>
+    requires few { length counts.now ≤ 11 }
+    requires paired { length counts.now ≡ length limits.now }
+    ensures { result ≡ excess_from 1 counts.now limits.now }
+{
+    for k in 0..counts.len() {
+        if let Some(found) = excess_over(k as u8 + 1, counts[k], limits[k]) {
+            return Some(found);
+        }
+    }
+    None
+}
+
+/// The first excess of what is counted over all modes, limits 1 to 8.
+fn counted_excess(tree: &Tree) -> Option<Excess>
+    ensures { result ≡ excess_from 1 (tally_counts (tally (tree_of tree.now))) (take 8 limits) }
+{
+    let sum = tally_of(tree);
+    let counts = [
+        sum.comms,
+        sum.modules,
+        sum.modes,
+        sum.ports,
+        sum.tasks,
+        sum.invokes,
+        sum.switches,
+        sum.most_invokes,
+    ];
+    let limits = [
+        MAX_COMMUNICATORS,
+        MAX_MODULES,
+        MAX_MODES,
+        MAX_PORTS,
+        MAX_TASKS,
+        MAX_INVOCATIONS,
+        MAX_SWITCHES,
+        MAX_MODE_INVOCATIONS,
+    ];
+    first_excess(&counts, &limits)
+}
+
+/// The first excess of levels, root selections and positions, limits 9 to 11.
+fn shape_excess(tree: &Tree, refined: &[Option<ModeAt>]) -> Option<Excess>
+    ensures { result ≡ or_else (excess 9 (levels_by refined.now) 8) (or_else (excess 10 (capped (selections (tree_of tree.now))) 1024) (excess 11 (capped (most_positions (tree_of tree.now))) 128)) }
+{
+    if let Some(found) = excess_over(9, levels(refined), MAX_LEVELS) {
+        return Some(found);
+    }
+    if let Some(found) = excess_over(10, selections(tree), MAX_SELECTIONS as usize) {
+        return Some(found);
+    }
+    excess_over(11, most_positions(tree), MAX_POSITIONS)
+}
+
+/// The first limit that is exceeded. `refined` has of each program the mode that it refines.
+pub(crate) fn first_exceeded(
+    tree: &Tree,
+    symbols: &Symbols,
+    refined: &[Option<ModeAt>],
+) -> Option<Excess>
+    requires { refined.now ≡ list_to (refined_by symbols.now (tree_of tree.now)) (length (tree_of tree.now)) }
+    ensures { IsFirstExcess (counts symbols.now (tree_of tree.now)) result }
+{
+    match counted_excess(tree) {
+        Some(found) => Some(found),
+        None => shape_excess(tree, refined),
+    }
+}

@@ -1,0 +1,210 @@
+// The modules and modes of a source in the order of the tables.
+ghost use Rattle.std.specs.Prelude.{◌≡◌, ◌++◌, OnOk, IfOk, map, length, reverse};
+ghost use Rattle.std.specs.List.{flat_map};
+ghost use Rattle.htl_text.specs.Nodes.{mode_of, module_of, tree_of};
+ghost use Rattle.htl_names.specs.Flat.{layout_by};
+ghost use Rattle.htl_names.specs.Order.{modules_at, modes_at, units_in, mode_kids, kids as kids_of_unit, order, unit_modes, mode_order};
+ghost use Rattle.htl_names.specs.Stack.{frame, units_named, kid_frames};
+
+use crate::graph::named_program;
+use crate::layout::Layout;
+use crate::place::{ModeAt, UnitAt};
+use crate::symbols::Symbols;
+use htl_text::{ModeNode, ModuleNode, Tree};
+use std::alloc::{AllocError, Global};
+
+/// A module that is still to come, and how many levels may lie below it.
+#[derive(Clone, Copy)]
+struct Frame {
+    unit: UnitAt,
+    steps: usize,
+}
+
+/// The modules of a program; none where there is no such program.
+fn modules_at<'a>(tree: &'a Tree, program: usize) -> &'a [ModuleNode]
+    ensures { map module_of result.now ≡ modules_at (tree_of tree.now) program }
+{
+    let programs = tree.programs.as_slice();
+    if program < programs.len() {
+        programs[program].modules.as_slice()
+    } else {
+        &[]
+    }
+}
+
+/// The modes of a module; none where there is no such module.
+fn modes_at<'a>(tree: &'a Tree, program: usize, unit: usize) -> &'a [ModeNode]
+    ensures { map mode_of result.now ≡ modes_at (tree_of tree.now) program unit }
+{
+    let units = modules_at(tree, program);
+    if unit < units.len() {
+        units[unit].modes.as_slice()
+    } else {
+        &[]
+    }
+}
+
+// ---- modules
+
+/// Puts the modules of a program behind others.
+fn push_units(
+    tree: &Tree,
+    parent: Option<ModeAt>,
+    program: usize,
+    steps: usize,
+    into: &mut Vec<Frame>,
+) -> Result<(), AllocError>
+    ensures { OnOk result (into.new.items ≡ into.old.items ++ map (frame steps) (units_in (tree_of tree.now) parent program)) }
+{
+    let units = modules_at(tree, program);
+    for u in 0..units.len() {
+        let unit = UnitAt {
+            program,
+            unit: u,
+            parent,
+        };
+        into.push(Frame { unit, steps })?;
+    }
+    Ok(())
+}
+
+fn push_named_units(
+    tree: &Tree,
+    place: ModeAt,
+    found: Option<usize>,
+    steps: usize,
+    into: &mut Vec<Frame>,
+) -> Result<(), AllocError>
+    ensures { OnOk result (into.new.items ≡ into.old.items ++ map (frame steps) (units_named (tree_of tree.now) place found)) }
+{
+    match found {
+        Some(q) => push_units(tree, Some(place), q, steps, into),
+        None => Ok(()),
+    }
+}
+
+/// Puts the modules of the program that refines a mode behind others.
+fn push_mode_kids(
+    tree: &Tree,
+    symbols: &Symbols,
+    place: ModeAt,
+    mode: &ModeNode,
+    steps: usize,
+    into: &mut Vec<Frame>,
+) -> Result<(), AllocError>
+    ensures { OnOk result (into.new.items ≡ into.old.items ++ map (frame steps) (mode_kids symbols.now (tree_of tree.now) place.program place.unit place.mode (mode_of mode.now))) }
+{
+    push_named_units(tree, place, named_program(mode, symbols), steps, into)
+}
+
+/// The modules of the programs that refine the modes of a module.
+fn kids(
+    alloc: Global,
+    tree: &Tree,
+    symbols: &Symbols,
+    unit: UnitAt,
+    steps: usize,
+) -> Result<Vec<Frame>, AllocError>
+    ensures { IfOk result (λ v. v.items ≡ map (frame steps) (kids_of_unit symbols.now (tree_of tree.now) unit)) }
+{
+    let mut found = Vec::new(alloc);
+    let modes = modes_at(tree, unit.program, unit.unit);
+    for k in 0..modes.len() {
+        let place = ModeAt {
+            program: unit.program,
+            unit: unit.unit,
+            mode: k,
+        };
+        push_mode_kids(tree, symbols, place, &modes[k], steps, &mut found)?;
+    }
+    Ok(found)
+}
+
+/// Puts frames on the stack, the first of them on top.
+fn push_reversed(frames: Vec<Frame>, stack: &mut Vec<Frame>) -> Result<(), AllocError>
+    ensures { OnOk result (stack.new.items ≡ stack.old.items ++ reverse frames.items) }
+{
+    let mut left = frames;
+    while let Some(frame) = left.pop() {
+        stack.push(frame)?;
+    }
+    Ok(())
+}
+
+/// Puts what comes below a module on the stack.
+fn push_kids(
+    alloc: Global,
+    tree: &Tree,
+    symbols: &Symbols,
+    top: Frame,
+    stack: &mut Vec<Frame>,
+) -> Result<(), AllocError>
+    ensures { OnOk result (stack.new.items ≡ stack.old.items ++ reverse (kid_frames top.steps symbols.now (tree_of tree.now) top.unit)) }
+{
+    if top.steps == 0 {
+        return Ok(());
+    }
+    let next = kids(alloc, tree, symbols, top.unit, top.steps - 1)?;
+    push_reversed(next, stack)
+}
+
+/// The modules of a source: a root module, then for each of its modes in order the modules of its refinement with theirs,
+/// then the next root module. What is still to come stands on a stack, so that no depth of programs costs room of the
+/// machine's own.
+fn ordered_units(alloc: Global, tree: &Tree, symbols: &Symbols) -> Result<Vec<UnitAt>, AllocError>
+    ensures { IfOk result (λ v. v.items ≡ order symbols.now (tree_of tree.now)) }
+{
+    let mut roots = Vec::new(alloc);
+    push_units(tree, None, 0, tree.programs.as_slice().len(), &mut roots)?;
+    let mut stack = Vec::new(alloc);
+    push_reversed(roots, &mut stack)?;
+    let mut units = Vec::new(alloc);
+    while let Some(top) = stack.pop() {
+        units.push(top.unit)?;
+        push_kids(alloc, tree, symbols, top, &mut stack)?;
+    }
+    Ok(units)
+}
+
+// ---- modes
+
+/// Puts the modes of a module behind others.
+fn push_modes(tree: &Tree, unit: UnitAt, into: &mut Vec<ModeAt>) -> Result<(), AllocError>
+    ensures { OnOk result (into.new.items ≡ into.old.items ++ unit_modes (tree_of tree.now) unit) }
+{
+    let modes = modes_at(tree, unit.program, unit.unit);
+    for mode in 0..modes.len() {
+        into.push(ModeAt {
+            program: unit.program,
+            unit: unit.unit,
+            mode,
+        })?;
+    }
+    Ok(())
+}
+
+/// The modes of modules, by module.
+fn ordered_modes(alloc: Global, tree: &Tree, units: &[UnitAt]) -> Result<Vec<ModeAt>, AllocError>
+    ensures { IfOk result (λ v. v.items ≡ mode_order (tree_of tree.now) units.now) }
+{
+    let mut found = Vec::new(alloc);
+    for k in 0..units.len() {
+        push_modes(tree, units[k], &mut found)?;
+    }
+    Ok(found)
+}
+
+// ---- both
+
+/// The symbols of a source with its modules and modes in the order of the tables.
+pub(crate) fn layout_of(alloc: Global, tree: &Tree, symbols: Symbols) -> Result<Layout, AllocError>
+    ensures { IfOk result (λ layout. layout ≡ layout_by symbols (order symbols (tree_of tree.now)) (tree_of tree.now)) }
+{
+    let units = ordered_units(alloc, tree, &symbols)?;
+    let modes = ordered_modes(alloc, tree, &units)?;
+    Ok(Layout {
+        symbols,
+        units,
+        modes,
+    })
+}

@@ -1,0 +1,147 @@
+// From the tree of a source to its tables.
+ghost use Rattle.std.specs.Prelude.{◌≡◌, MatchResult, length, IfOk};
+ghost use Rattle.htl_model.specs.Broken.{KeepsLimits};
+ghost use Rattle.htl_model.specs.Lists.{list_to};
+ghost use Rattle.htl_text.specs.Nodes.{tree_of};
+ghost use Rattle.htl_names.specs.Conditions.{IsSmall};
+ghost use Rattle.htl_names.specs.Flat.{symbols_of};
+ghost use Rattle.htl_names.specs.NameRules.{RepeatedName, UnknownName, WrongKind, ProgramTree, ParentName, Limits, AreNamesRight, IsResolved};
+ghost use Rattle.htl_names.specs.Programs.{refined_by};
+ghost use Rattle.htl_names.specs.Told.{IsKept, IsTold, IsTested, IsJudged};
+
+use crate::entries::entries_of;
+use crate::fault::NameFault;
+use crate::flat::parts_of;
+use crate::kinds::first_wrong_kind;
+use crate::limits::first_exceeded;
+use crate::order::layout_of;
+use crate::parents::first_orphan;
+use crate::place::ModeAt;
+use crate::programs::{first_misplaced, refined_modes};
+use crate::repeats::{Declared, declare};
+use crate::symbols::Symbols;
+use crate::uses::first_unknown;
+use htl_model::Tables;
+use htl_text::Tree;
+use std::alloc::{AllocError, Global};
+
+impl From<AllocError> for NameFault {
+    ghost use Rattle.htl_names.specs.declared.fault.NameFault.TheVariants.{Memory};
+
+    ghost from_gives = { λ _ e. e ≡ Memory };
+
+    fn from(_error: AllocError) -> NameFault {
+        NameFault::Memory
+    }
+}
+
+/// The flat tables of a source whose names keep the rules, else the first rule that is broken, with its place. Memory
+/// comes only where no memory was left. The tables have at most 1,024 root selections, and at most 128 positions in each.
+pub fn resolve(alloc: Global, tree: &Tree) -> Result<Tables, NameFault>
+    requires small { IsSmall (tree_of tree.now) }
+    ensures resolved { IsResolved (tree_of tree.now) result }
+    ensures limits { IfOk result (λ tables. KeepsLimits tables) }
+{
+    let symbols = symbols_of(alloc, tree)?;
+    check(alloc, tree, &symbols)?;
+    tables(alloc, tree, symbols)
+}
+
+// The meanings of the declared names, none of which may repeat.
+fn symbols_of(alloc: Global, tree: &Tree) -> Result<Symbols, NameFault>
+    ensures { MatchResult result (λ symbols. (symbols ≡ symbols_of (tree_of tree.now)) × IsKept (tree_of tree.now) RepeatedName) (IsTold (tree_of tree.now) RepeatedName) }
+{
+    let entries = entries_of(alloc, tree)?;
+    match declare(alloc, entries.as_slice())? {
+        Declared::Apart { symbols } => Ok(symbols),
+        Declared::Repeated { token } => Err(NameFault::Twice { token }),
+    }
+}
+
+// The rules after the first, in their order.
+fn check(alloc: Global, tree: &Tree, symbols: &Symbols) -> Result<(), NameFault>
+    requires small { IsSmall (tree_of tree.now) }
+    requires symbols { symbols.now ≡ symbols_of (tree_of tree.now) }
+    requires apart { IsKept (tree_of tree.now) RepeatedName }
+    ensures { IsJudged (tree_of tree.now) result }
+{
+    check_uses(tree, symbols)?;
+    check_kinds(tree)?;
+    check_programs(alloc, tree, symbols)?;
+    let refined = refined_modes(alloc, tree, symbols)?;
+    check_parents(tree, symbols, refined.as_slice())?;
+    check_limits(tree, symbols, refined.as_slice())
+}
+
+fn check_uses(tree: &Tree, symbols: &Symbols) -> Result<(), NameFault>
+    requires { symbols.now ≡ symbols_of (tree_of tree.now) }
+    ensures { IsTested (tree_of tree.now) UnknownName result }
+{
+    match first_unknown(tree, symbols) {
+        None => Ok(()),
+        Some(token) => Err(NameFault::Unknown { token }),
+    }
+}
+
+fn check_kinds(tree: &Tree) -> Result<(), NameFault>
+    ensures { IsTested (tree_of tree.now) WrongKind result }
+{
+    match first_wrong_kind(tree) {
+        None => Ok(()),
+        Some(token) => Err(NameFault::Kind { token }),
+    }
+}
+
+fn check_programs(alloc: Global, tree: &Tree, symbols: &Symbols) -> Result<(), NameFault>
+    requires small { IsSmall (tree_of tree.now) }
+    requires symbols { symbols.now ≡ symbols_of (tree_of tree.now) }
+    ensures { IsTested (tree_of tree.now) ProgramTree result }
+{
+    match first_misplaced(alloc, tree, symbols)? {
+        None => Ok(()),
+        Some(program) => Err(NameFault::NotATree { program }),
+    }
+}
+
+fn check_parents(
+    tree: &Tree,
+    symbols: &Symbols,
+    refined: &[Option<ModeAt>],
+) -> Result<(), NameFault>
+    requires symbols { symbols.now ≡ symbols_of (tree_of tree.now) }
+    requires refined { refined.now ≡ list_to (refined_by symbols.now (tree_of tree.now)) (length (tree_of tree.now)) }
+    ensures { IsTested (tree_of tree.now) ParentName result }
+{
+    match first_orphan(tree, symbols, refined) {
+        None => Ok(()),
+        Some(token) => Err(NameFault::Unknown { token }),
+    }
+}
+
+fn check_limits(tree: &Tree, symbols: &Symbols, refined: &[Option<ModeAt>]) -> Result<(), NameFault>
+    requires symbols { symbols.now ≡ symbols_of (tree_of tree.now) }
+    requires refined { refined.now ≡ list_to (refined_by symbols.now (tree_of tree.now)) (length (tree_of tree.now)) }
+    requires placed { IsKept (tree_of tree.now) ProgramTree }
+    ensures { IsTested (tree_of tree.now) Limits result }
+{
+    match first_exceeded(tree, symbols, refined) {
+        None => Ok(()),
+        Some(excess) => Err(NameFault::Limit {
+            which: excess.which,
+            count: excess.count,
+        }),
+    }
+}
+
+// The tables of a source whose names keep the rules.
+fn tables(alloc: Global, tree: &Tree, symbols: Symbols) -> Result<Tables, NameFault>
+    requires small { IsSmall (tree_of tree.now) }
+    requires symbols { symbols ≡ symbols_of (tree_of tree.now) }
+    requires right { AreNamesRight (tree_of tree.now) }
+    ensures resolved { IsResolved (tree_of tree.now) result }
+    ensures limits { IfOk result (λ tables. KeepsLimits tables) }
+{
+    let layout = layout_of(alloc, tree, symbols)?;
+    let parts = parts_of(alloc, tree, &layout)?;
+    Ok(Tables::new(parts))
+}

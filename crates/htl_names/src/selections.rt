@@ -1,0 +1,60 @@
+// How many root selections a source has, and how many positions they have at most.
+ghost use Rattle.std.specs.Prelude.{◌≡◌, map};
+ghost use Rattle.htl_text.specs.Nodes.{mode_of, module_of, tree_of};
+ghost use Rattle.htl_names.specs.Excesses.{capped};
+ghost use Rattle.htl_names.specs.Limits.{root_modules, choices, selections, most_invokes, most_positions};
+
+use htl_text::{ModuleNode, Tree};
+
+/// The modules of the root program.
+fn root_modules(tree: &Tree) -> &[ModuleNode]
+    ensures { map module_of result.now ≡ root_modules (tree_of tree.now) }
+{
+    match tree.programs.as_slice().first() {
+        Some(root) => root.modules.as_slice(),
+        None => &[],
+    }
+}
+
+/// How many choices of one mode for each module there are, at most `usize::MAX`.
+fn choices(units: &[ModuleNode]) -> usize
+    ensures { result ≡ capped (choices (map module_of units.now)) }
+{
+    let mut n = 1usize;
+    for k in 0..units.len() {
+        n = n.saturating_mul(units[k].modes.as_slice().len());
+    }
+    n
+}
+
+/// How many root selections there are, at most `usize::MAX`.
+pub(crate) fn selections(tree: &Tree) -> usize
+    ensures { result ≡ capped (selections (tree_of tree.now)) }
+{
+    let units = root_modules(tree);
+    if units.is_empty() { 0 } else { choices(units) }
+}
+
+/// The most invocations that a mode of a module has.
+fn most_invokes(unit: &ModuleNode) -> usize
+    ensures { result ≡ most_invokes (map mode_of unit.now.modes) }
+{
+    let modes = unit.modes.as_slice();
+    let mut most = 0usize;
+    for k in 0..modes.len() {
+        most = most.max(modes[k].invokes.as_slice().len());
+    }
+    most
+}
+
+/// The most positions that a root selection has, at most `usize::MAX`.
+pub(crate) fn most_positions(tree: &Tree) -> usize
+    ensures { result ≡ capped (most_positions (tree_of tree.now)) }
+{
+    let units = root_modules(tree);
+    let mut sum = 0usize;
+    for k in 0..units.len() {
+        sum = sum.saturating_add(most_invokes(&units[k]));
+    }
+    sum
+}
