@@ -1,0 +1,203 @@
+-- The test for cycles of ports finds what the rule says.
+use Rattle.std.proofs.Common.{◌≡◌, ◌<◌, ◌≤◌, ◌⊎◌, ℕ, zero, suc, ◌+◌, Bool, true, false, not, ◌&&◌, ◌||◌, cond, eqb, List, [], ◌∷◌, length, Option, Some, None, refl, sym, ◌∙◌, ap, subst, arith, inl, inr}
+use Rattle.std.specs.Prelude.{slice_get}
+use Rattle.std.specs.List.{list_any, IsDistinct, AllByRecursion}
+use Rattle.std.proofs.lemmas.Bool.Decides.{nat_tests}
+use Rattle.std.proofs.lemmas.Cmp.{nat_eq_equiv}
+use Rattle.std.proofs.lemmas.Map.Keys.{IsDistinct-from_apart, IsDistinct-cons}
+use Rattle.std.proofs.lemmas.Map.Made.{length-from_same_keys}
+use Rattle.std.proofs.lemmas.Map.Views.{list_any-from_Contains, Contains-from_any}
+use Rattle.std.proofs.lemmas.Option.{slice_get_within}
+use Rattle.htl_model.specs.declared.parts.Inv.{Inv}
+use Rattle.htl_model.specs.PortOrder.{Leads, direct, through, feeds, feeds_at, Precedes, IsOnCycle, AreOnCycles, InCycle}
+use Rattle.htl_model.specs.Ranges.{AreInRange}
+use Rattle.htl_model.specs.Tables.{Tables}
+use Rattle.htl_form.proofs.Finding.{Finds, finds_unless}
+use Rattle.htl_form.proofs.TestLaws.{either, both, on_left, on_right, and_true, agree, equal, same_number, last}
+use Rattle.htl_form.specs.Cycles.{leads_below, precedes_itself, is_of_mode, is_on_cycle, numbers_below, count_below, cycle_count, cycle_fault}
+
+-- ---- what leads to what, by going through one place more at a time
+
+right : (a b c : Bool) → b ≡ true → c ≡ true → (a || (b && c)) ≡ true
+right a b c p q = grind (arith, nat_tests)
+
+-- what the test finds leads there
+pub leads_from : (step : ℕ → ℕ → Bool) (k a b : ℕ) → leads_below step k a b ≡ true → Leads step a b
+leads_from step zero a b h = direct a b h
+leads_from step (suc k) a b h =
+    elim (either (leads_below step k a b) _ h) [
+      | inl x ↦ leads_from step k a b x
+      | inr y ↦
+          let parts = both (leads_below step k a k) (leads_below step k k b) y in
+          through a k b (leads_from step k a k parts.0) (leads_from step k k b parts.1)
+    ]
+
+-- one place more
+split : (step : ℕ → ℕ → Bool) (k a b : ℕ) → leads_below step (suc k) a b ≡ true → (leads_below step k a b ≡ true) ⊎ ((leads_below step k a k ≡ true) × (leads_below step k k b ≡ true))
+split step k a b h = elim (either (leads_below step k a b) _ h) [ inl x ↦ inl x | inr y ↦ inr (both (leads_below step k a k) (leads_below step k k b) y) ]
+
+-- through a place below k
+pub leads_join : (step : ℕ → ℕ → Bool) (k a c b : ℕ) → c < k → leads_below step k a c ≡ true → leads_below step k c b ≡ true → leads_below step k a b ≡ true
+leads_join step zero a c b less p q = absurd (omega arith)
+leads_join step (suc k) a c b less p q =
+    elim (last c k less) [
+      | inl below ↦
+          elim (split step k a c p) [
+            | inl ac ↦
+                elim (split step k c b q) [
+                  | inl cb ↦ on_left (leads_below step k a b) _ (leads_join step k a c b below ac cb)
+                  | inr kb ↦ right (leads_below step k a b) _ _ (leads_join step k a c k below ac kb.0) kb.1
+                ]
+            | inr ak ↦
+                elim (split step k c b q) [
+                  | inl cb ↦ right (leads_below step k a b) _ _ ak.0 (leads_join step k k c b below ak.1 cb)
+                  | inr kb ↦ right (leads_below step k a b) _ _ ak.0 kb.1
+                ]
+          ]
+      | inr is ↦ right (leads_below step k a b) _ _ (to_k step k a c is p) (from_k step k c b is q)
+    ]
+  where
+    to_k : (step : ℕ → ℕ → Bool) (k a c : ℕ) → c ≡ k → leads_below step (suc k) a c ≡ true → leads_below step k a k ≡ true
+    to_k step k a c is p =
+        let q = subst (λ (x : ℕ). leads_below step (suc k) a x ≡ true) is p in
+        elim (split step k a k q) [ inl x ↦ x | inr y ↦ y.0 ]
+
+    from_k : (step : ℕ → ℕ → Bool) (k c b : ℕ) → c ≡ k → leads_below step (suc k) c b ≡ true → leads_below step k k b ≡ true
+    from_k step k c b is q =
+        let p = subst (λ (x : ℕ). leads_below step (suc k) x b ≡ true) is q in
+        elim (split step k k b p) [ inl x ↦ x | inr y ↦ y.1 ]
+
+grown : (step : ℕ → ℕ → Bool) (k a b : ℕ) → step a b ≡ true → leads_below step k a b ≡ true
+grown step zero a b h = h
+grown step (suc k) a b h = on_left (leads_below step k a b) _ (grown step k a b h)
+
+ends_within : (step : ℕ → ℕ → Bool) (n : ℕ) → ((a b : ℕ) → step a b ≡ true → b < n) → (a b : ℕ) → Leads step a b → b < n
+ends_within step n within a b (direct _ _ h) = within a b h
+ends_within step n within a b (through _ c _ p q) = ends_within step n within c b q
+
+-- where each step ends below n, the places below n are all that is gone through
+pub leads_within : (step : ℕ → ℕ → Bool) (n : ℕ) → ((a b : ℕ) → step a b ≡ true → b < n) → (a b : ℕ) → Leads step a b → leads_below step n a b ≡ true
+leads_within step n within a b (direct _ _ h) = grown step n a b h
+leads_within step n within a b (through _ c _ p q) =
+    leads_join step n a c b (ends_within step n within a c p) (leads_within step n within a c p) (leads_within step n within c b q)
+
+-- steps that agree below n lead alike
+pub leads_same : (f g : ℕ → ℕ → Bool) (n : ℕ) → ((a b : ℕ) → a < n → b < n → f a b ≡ g a b) → (k a b : ℕ) → k ≤ n → a < n → b < n → leads_below f k a b ≡ leads_below g k a b
+leads_same f g n same zero a b within p q = same a b p q
+leads_same f g n same (suc k) a b within p q =
+    ap (λ x. x || (leads_below f k a k && leads_below f k k b)) (leads_same f g n same k a b (omega arith) p q)
+    ∙ ap (λ x. leads_below g k a b || (x && leads_below f k k b)) (leads_same f g n same k a k (omega arith) p (omega arith))
+    ∙ ap (λ x. leads_below g k a b || (leads_below g k a k && x)) (leads_same f g n same k k b (omega arith) (omega arith) q)
+
+-- ---- an invocation that precedes itself
+
+feeds_within : (t : Tables) (a b : ℕ) → feeds t a b ≡ true → b < length t.invs
+feeds_within t a b h = by (slice_get t.invs a) (slice_get t.invs b) refl h
+  where
+    by : (x y : Option Inv) → slice_get t.invs b ≡ y → feeds_at x y ≡ true → b < length t.invs
+    by (Some x) (Some y) e h = slice_get_within t.invs b y e
+    by (Some x) None e h = cc
+    by None y e h = cc
+
+pub precedes_true : (t : Tables) (k : ℕ) → precedes_itself t k ≡ true → Precedes t k k
+unfolding precedes_itself
+precedes_true t k h = leads_from (feeds t) (length t.invs) k k h
+
+pub true_precedes : (t : Tables) (k : ℕ) → Precedes t k k → precedes_itself t k ≡ true
+unfolding precedes_itself
+true_precedes t k h = leads_within (feeds t) (length t.invs) (feeds_within t) k k h
+
+-- ---- numbers that pass a test
+
+has_number : (p : ℕ → Bool) (n k : ℕ) → list_any (eqb k) (numbers_below p n) ≡ true → (k < n) × (p k ≡ true)
+has_number p zero k h = cc
+has_number p (suc n) k h = by (p n) refl (λ e. has_number p n k e) h
+  where
+    by : (b : Bool) → p n ≡ b → (list_any (eqb k) (numbers_below p n) ≡ true → (k < n) × (p k ≡ true))
+        → list_any (eqb k) (cond b (n ∷ numbers_below p n) (numbers_below p n)) ≡ true → (k < suc n) × (p k ≡ true)
+    by true is later h =
+        elim (either (eqb k n) (list_any (eqb k) (numbers_below p n)) h) [
+          | inl e ↦ let same : n ≡ k = grind (arith, nat_tests) in (omega arith, subst (λ x. p x ≡ true) same is)
+          | inr e ↦ let r = later e in (omega (arith, r.0), r.1)
+        ]
+    by false is later h = let r = later h in (omega (arith, r.0), r.1)
+
+number_has : (p : ℕ → Bool) (n k : ℕ) → k < n → p k ≡ true → list_any (eqb k) (numbers_below p n) ≡ true
+number_has p zero k less h = absurd (omega arith)
+number_has p (suc n) k less h = by (p n) refl (λ below. number_has p n k below h)
+  where
+    by : (b : Bool) → p n ≡ b → (k < n → list_any (eqb k) (numbers_below p n) ≡ true) → list_any (eqb k) (cond b (n ∷ numbers_below p n) (numbers_below p n)) ≡ true
+    by true is later = elim (last k n less) [ inl below ↦ on_right (eqb k n) _ (later below) | inr same ↦ on_left (eqb k n) _ (equal k n same) ]
+    by false is later =
+        elim (last k n less) [
+          | inl below ↦ later below
+          | inr same ↦ absurd (let no : false ≡ true = sym is ∙ sym (ap p same) ∙ h in cc)
+        ]
+
+apart : (p : ℕ → Bool) (m n : ℕ) → n ≤ m → AllByRecursion (λ y. eqb m y ≡ false) (numbers_below p n)
+apart p m zero h = tt
+apart p m (suc n) h = by (p n) (apart p m n (omega arith))
+  where
+    by : (b : Bool) → AllByRecursion (λ y. eqb m y ≡ false) (numbers_below p n) → AllByRecursion (λ y. eqb m y ≡ false) (cond b (n ∷ numbers_below p n) (numbers_below p n))
+    by true others = (grind (arith, nat_tests), others)
+    by false others = others
+
+numbers_once : (p : ℕ → Bool) (n : ℕ) → IsDistinct eqb (numbers_below p n)
+numbers_once p zero = IsDistinct-from_apart eqb [] (λ i j d a b. absurd (omega arith))
+numbers_once p (suc n) = by (p n) (numbers_once p n) (apart p n n (omega arith))
+  where
+    by : (b : Bool) → IsDistinct eqb (numbers_below p n) → AllByRecursion (λ y. eqb n y ≡ false) (numbers_below p n) → IsDistinct eqb (cond b (n ∷ numbers_below p n) (numbers_below p n))
+    by true once others = IsDistinct-cons eqb n (numbers_below p n) others once
+    by false once others = once
+
+length_numbers : (p : ℕ → Bool) (n : ℕ) → length (numbers_below p n) ≡ count_below p n
+length_numbers p zero = refl
+length_numbers p (suc n) = by (p n) (length_numbers p n)
+  where
+    by : (b : Bool) → length (numbers_below p n) ≡ count_below p n → length (cond b (n ∷ numbers_below p n) (numbers_below p n)) ≡ count_below p n + cond b 1 0
+    by true e = omega arith
+    by false e = omega arith
+
+-- ---- the rule
+
+on_cycle_true : (t : Tables) (m k : ℕ) → is_on_cycle t m k ≡ true → IsOnCycle t m k
+on_cycle_true t m k h =
+    let parts = both (is_of_mode m (slice_get t.invs k)) (precedes_itself t k) h in
+    by (slice_get t.invs k) refl parts.0 (precedes_true t k parts.1)
+  where
+    by : (o : Option Inv) → slice_get t.invs k ≡ o → is_of_mode m o ≡ true → Precedes t k k → IsOnCycle t m k
+    by (Some i) e h p = record { inv = i; at = e; mode = grind (arith, nat_tests); cycle = p }
+    by None e h p = cc
+
+true_on_cycle : (t : Tables) (m k : ℕ) → IsOnCycle t m k → is_on_cycle t m k ≡ true
+true_on_cycle t m k c =
+    ap (λ o. is_of_mode m o && precedes_itself t k) c.at ∙ ap (λ b. eqb c.inv.mode m && b) (true_precedes t k c.cycle) ∙ and_true (eqb c.inv.mode m) true (equal c.inv.mode m c.mode)
+
+listed : (t : Tables) (m : ℕ) → AreOnCycles t m (numbers_below (is_on_cycle t m) (length t.invs))
+listed t m =
+    let p : ℕ → Bool = is_on_cycle t m in
+    let n : ℕ = length t.invs in
+    record {
+      once = numbers_once p n;
+      only = λ k h. on_cycle_true t m k (has_number p n k (list_any-from_Contains nat_eq_equiv k (numbers_below p n) h)).1;
+      all = λ k h. Contains-from_any same_number k (numbers_below p n) (number_has p n k (slice_get_within t.invs k h.inv h.at) (true_on_cycle t m k h));
+    }
+
+-- two such lists are equally long
+equally_long : (t : Tables) (m : ℕ) (xs ys : List ℕ) → AreOnCycles t m xs → AreOnCycles t m ys → length xs ≡ length ys
+equally_long t m xs ys a b = length-from_same_keys nat_eq_equiv xs ys a.once b.once (λ q. agree (list_any (eqb q) xs) (list_any (eqb q) ys) (to xs ys a b q) (to ys xs b a q))
+  where
+    to : (xs ys : List ℕ) → AreOnCycles t m xs → AreOnCycles t m ys → (q : ℕ) → list_any (eqb q) xs ≡ true → list_any (eqb q) ys ≡ true
+    to xs ys a b q h = list_any-from_Contains nat_eq_equiv q ys (b.all q (a.only q (Contains-from_any same_number q xs h)))
+
+pub cycle_is : (t : Tables) (k : ℕ) (i : Inv) → AreInRange t → slice_get t.invs k ≡ Some i → Finds (cycle_fault t k i) (InCycle t k i)
+cycle_is t k i r at =
+    let ks : List ℕ = numbers_below (is_on_cycle t i.mode) (length t.invs) in
+    let count : length ks ≡ cycle_count t i.mode = length_numbers (is_on_cycle t i.mode) (length t.invs) in
+    finds_unless (not (precedes_itself t k)) (cycle_count t i.mode) 0 (InCycle t k i)
+    (λ off. (precedes_true t k (on (precedes_itself t k) off), refl, ks, listed t i.mode, sym count))
+    (λ h m p. (ap not (true_precedes t k p.0), p.4 ∙ equally_long t i.mode p.2 ks p.3 (listed t i.mode) ∙ count, p.1))
+  where
+    on : (b : Bool) → not b ≡ false → b ≡ true
+    on true e = refl
+    on false e = cc

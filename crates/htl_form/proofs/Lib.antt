@@ -1,0 +1,25 @@
+pub mod AbstractLaws
+pub mod ApartLaws
+pub mod CycleLaws
+pub mod EndLaws
+pub mod Finding
+pub mod FirstLaws
+pub mod Judging
+pub mod OneFault
+pub mod PartLaws
+pub mod PathLaws
+pub mod PeriodLaws
+pub mod Places
+pub mod PortLaws
+pub mod RangeLaws
+pub mod RowLaws
+pub mod RuleOrder
+pub mod RuleRows
+pub mod SampleFits
+pub mod SearchLaws
+pub mod SilentLaws
+pub mod SiteLaws
+pub mod TestLaws
+pub mod WriterLaws
+mod WriterRows
+pub mod WriterSamples

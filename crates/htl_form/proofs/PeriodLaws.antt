@@ -1,0 +1,85 @@
+-- The tests of the rules on periods find exactly what the words say.
+use Rattle.std.proofs.Common.{◌≡◌, ◌≢◌, ℕ, ◌%◌, ◌⊎◌, Bool, true, false, cond, eqb, Option, Some, None, refl, sym, ap, subst, arith}
+use Rattle.std.proofs.lemmas.Bool.Decides.{nat_tests}
+use Rattle.htl_model.specs.declared.parts.Mode.{Mode}
+use Rattle.htl_model.specs.declared.parts.Inv.{Inv}
+use Rattle.htl_model.specs.declared.parts.End.{End}
+use Rattle.htl_model.specs.declared.parts.End.TheVariants as E
+use Rattle.htl_model.specs.Tables.{Tables, mode_period, comm_period}
+use Rattle.htl_model.specs.Ranges.{parent_of}
+use Rattle.htl_model.specs.Selections.{root_period}
+use Rattle.htl_model.specs.PeriodRules.{asked_period, first_mode, PeriodDiffers, RootPeriodDiffers, NotDivided, EndNotDivided}
+use Rattle.htl_form.specs.Found.{Found, unless}
+use Rattle.htl_form.specs.PeriodFaults.{unless_asked, module_period_fault, is_number, is_first_of_root, root_period_fault, divides, divides_fault, end_divides_fault}
+use Rattle.htl_form.proofs.Finding.{Finds, finds_nothing, finds_unless}
+
+-- two numbers that differ
+pub finds_equal : (x y : ℕ) → Finds (unless (eqb x y) x y) (λ h n. (h ≡ x) × (n ≡ y) × (h ≢ n))
+finds_equal x y =
+    finds_unless (eqb x y) x y (λ h n. (h ≡ x) × (n ≡ y) × (h ≢ n)) (λ off. (refl, refl, differ x y off)) (λ h m p. (same x y h m p.0 p.1 p.2, p.0, p.1))
+  where
+    differ : (x y : ℕ) → eqb x y ≡ false → x ≢ y
+    differ x y e = grind (arith, nat_tests)
+
+    same : (x y h m : ℕ) → h ≡ x → m ≡ y → h ≢ m → eqb x y ≡ false
+    same x y h m a b c = grind (arith, nat_tests)
+
+inner : (x h : ℕ) → Some x ≡ Some h → h ≡ x
+inner x h e = cc
+
+pub finds_asked : (x : ℕ) (o : Option ℕ) → Finds (unless_asked x o) (λ h n. (h ≡ x) × (o ≡ Some n) × (h ≢ n))
+finds_asked x (Some y) =
+    let f = finds_equal x y in
+    record {
+      says = λ h n e. (let p = f.says h n e in (p.0, ap (λ (z : ℕ). Some z) (sym p.1), p.2));
+      finds = λ h n p. f.finds h n (p.0, inner y n p.1, p.2);
+    }
+finds_asked x None =
+    record { says = λ h n e. absurd (let no : None ≡ Some (h, n) = e in cc); finds = λ h n p. absurd (let no : None ≡ Some n = p.1 in cc) }
+
+pub module_period_is : (t : Tables) (x : Mode) → Finds (module_period_fault t x) (PeriodDiffers t x)
+module_period_is t x = finds_asked x.period (asked_period t x.«module»)
+
+-- a test that is tried only where a condition holds
+pub finds_where : (b : Bool) (o : Found) (P Q : ℕ → ℕ → Type 0) → Finds o P → ((h n : ℕ) → b ≡ true → P h n → Q h n) → ((h n : ℕ) → Q h n → (b ≡ true) × P h n) → Finds (cond b o None) Q
+finds_where true o P Q f made taken = record { says = λ h n e. made h n refl (f.says h n e); finds = λ h n q. f.finds h n (taken h n q).1 }
+finds_where false o P Q f made taken =
+    record { says = λ h n e. absurd (let no : None ≡ Some (h, n) = e in cc); finds = λ h n q. absurd (let no : false ≡ true = (taken h n q).0 in cc) }
+
+at_number : (o : Option ℕ) (m : ℕ) → is_number o m ≡ true → o ≡ Some m
+at_number (Some x) m h = let same : x ≡ m = grind (arith, nat_tests) in ap (λ (z : ℕ). Some z) same
+at_number None m h = cc
+
+number_at : (o : Option ℕ) (m : ℕ) → o ≡ Some m → is_number o m ≡ true
+number_at (Some x) m e = let same : x ≡ m = cc in grind (arith, nat_tests)
+number_at None m e = cc
+
+parts : (o f : Option ℕ) (m : ℕ) → elim o [ Some p ↦ false | None ↦ is_number f m ] ≡ true → (o ≡ None) × (f ≡ Some m)
+parts (Some p) f m h = cc
+parts None f m h = (refl, at_number f m h)
+
+joined : (o f : Option ℕ) (m : ℕ) → o ≡ None → f ≡ Some m → elim o [ Some p ↦ false | None ↦ is_number f m ] ≡ true
+joined (Some p) f m a b = cc
+joined None f m a b = number_at f m b
+
+pub root_period_is : (t : Tables) (m : ℕ) (x : Mode) → Finds (root_period_fault t m x) (RootPeriodDiffers t m x)
+root_period_is t m x =
+    let P : ℕ → ℕ → Type 0 = λ h n. (h ≡ x.period) × (root_period t ≡ Some n) × (h ≢ n) in
+    finds_where (is_first_of_root t m x.«module») (unless_asked x.period (root_period t)) P (RootPeriodDiffers t m x) (finds_asked x.period (root_period t))
+    (λ h n b p. (let both = parts (parent_of t x.«module») (first_mode t x.«module») m b in record { root = both.0; first = both.1; period = p.0; asked = p.1; differs = p.2 }))
+    (λ h n q. (joined (parent_of t x.«module») (first_mode t x.«module») m q.root q.first, (q.period, q.asked, q.differs)))
+
+pub divides_is : (t : Tables) (m c : ℕ) → Finds (divides_fault t m c) (NotDivided t m c)
+divides_is t m c =
+    finds_unless (divides (comm_period t c) (mode_period t m)) (comm_period t c) (mode_period t m) (NotDivided t m c)
+    (λ off. (refl, refl, left (comm_period t c) (mode_period t m) off)) (λ h n p. (back (comm_period t c) (mode_period t m) h n p.0 p.1 p.2, p.0, p.1))
+  where
+    left : (p w : ℕ) → divides p w ≡ false → (p ≡ 0) ⊎ (w % p ≢ 0)
+    left p w e = grind (arith, nat_tests)
+
+    back : (p w h m : ℕ) → h ≡ p → m ≡ w → (h ≡ 0) ⊎ (m % h ≢ 0) → divides p w ≡ false
+    back p w h m a b c = let d : (p ≡ 0) ⊎ (w % p ≢ 0) = subst (λ (x : ℕ). (x ≡ 0) ⊎ (w % x ≢ 0)) a (subst (λ (y : ℕ). (h ≡ 0) ⊎ (y % h ≢ 0)) b c) in grind (arith, nat_tests)
+
+pub end_divides_is : (t : Tables) (i : Inv) (e : End) → Finds (end_divides_fault t i e) (EndNotDivided t i e)
+end_divides_is t i (E.Comm c n) = divides_is t i.mode c
+end_divides_is t i (E.Port p) = finds_nothing

@@ -1,0 +1,6 @@
+use Rattle.std.proofs.Common.{◌≡◌, ◌≤◌}
+use Rattle.htl_form.specs.Cycles.{is_on_cycle, count_below}
+use Rattle.htl_form.proofs.cycles.cycle_count.Given as goal
+
+abbrev pub invariant-loop-k : goal.invariant-loop-k
+invariant-loop-k l = (l.n ≡ count_below (is_on_cycle l.t l.mode) l.k) × (l.n ≤ l.k)

@@ -1,0 +1,15 @@
+use Rattle.std.proofs.Common.{◌<◌, sym, ◌∙◌, ap, arith, Some}
+use Rattle.std.proofs.lemmas.Option.{slice_get_within}
+use Rattle.htl_model.specs.PortWriters.{port_writers}
+use Rattle.htl_form.specs.PortFaults.{rewritten_fault}
+use Rattle.htl_form.proofs.PortLaws.{none_before}
+use Rattle.htl_form.proofs.ports.rewritten_fault.Goals as goal
+
+pub returns-then-count-lt2 : goal.returns-then-count-lt2
+returns-then-count-lt2 c =
+    let few : port_writers c.args.t.now c.in-Port.port < 2 = omega (arith, c.writers-count.ensures) in
+    none_before c.args.t.now c.in-Port.port c.args.k c.args.inv.now c.args.j c.requires.inv (c.requires.output ∙ ap (λ e. Some e) c.in-Port.is) few
+    ∙ ap (λ e. rewritten_fault c.args.t.now c.args.k c.args.inv.now c.args.j e) (sym c.in-Port.is)
+
+pub writers_before-requires-clause-j : goal.writers_before-requires-clause-j
+writers_before-requires-clause-j c = slice_get_within c.args.inv.now.writes c.args.j c.args.end c.requires.output

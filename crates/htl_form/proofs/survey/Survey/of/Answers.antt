@@ -1,0 +1,9 @@
+use Rattle.htl_form.proofs.ApartLaws.{none_marked}
+use Rattle.htl_form.proofs.Places.{zeros_at}
+use Rattle.htl_form.proofs.survey.Survey.of.Goals as goal
+
+pub count_writers-requires : goal.count_writers-requires
+count_writers-requires c = λ p. zeros_at 4096 p
+
+pub mark_apart-requires-clause-marks : goal.mark_apart-requires-clause-marks
+mark_apart-requires-clause-marks c = none_marked c.args.t.now 2048

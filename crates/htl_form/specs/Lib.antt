@@ -1,0 +1,17 @@
+pub mod AbstractWriters
+pub mod Apart
+pub mod Cycles
+pub mod EndFaults
+pub mod First
+pub mod Found
+pub mod Overviews
+pub mod PeriodFaults
+pub mod PortFaults
+pub mod Rows
+pub mod Rules
+pub mod Samples
+pub mod Search
+pub mod Surveys
+pub mod Tests
+pub mod WindowFaults
+pub mod WriterFaults

@@ -1,0 +1,40 @@
+-- What the tests of the rules on periods find.
+use Rattle.std.specs.Prelude.{ℕ, ◌%◌, Bool, false, cond, ◌&&◌, eqb, ltb, Option, Some, None}
+use Rattle.htl_model.specs.declared.parts.Mode.{Mode}
+use Rattle.htl_model.specs.declared.parts.Inv.{Inv}
+use Rattle.htl_model.specs.declared.parts.End.{End}
+use Rattle.htl_model.specs.declared.parts.End.TheVariants as E
+use Rattle.htl_model.specs.Tables.{Tables, mode_period, comm_period}
+use Rattle.htl_model.specs.Ranges.{parent_of}
+use Rattle.htl_model.specs.Selections.{root_period}
+use Rattle.htl_model.specs.PeriodRules.{asked_period, first_mode}
+use Rattle.htl_form.specs.Found.{Found, unless}
+
+-- nothing where the number is the one that is asked, or none is asked
+abbrev pub unless_asked : ℕ → Option ℕ → Found
+unless_asked x None = None
+unless_asked x (Some y) = unless (eqb x y) x y
+
+abbrev pub module_period_fault : Tables → Mode → Found
+module_period_fault t x = unless_asked x.period (asked_period t x.«module»)
+
+abbrev pub is_number : Option ℕ → ℕ → Bool
+is_number (Some x) n = eqb x n
+is_number None n = false
+
+-- whether a mode is the first of a root module
+abbrev pub is_first_of_root : Tables → ℕ → ℕ → Bool
+is_first_of_root t m u = elim (parent_of t u) [ Some p ↦ false | None ↦ is_number (first_mode t u) m ]
+
+abbrev pub root_period_fault : Tables → ℕ → Mode → Found
+root_period_fault t m x = cond (is_first_of_root t m x.«module») (unless_asked x.period (root_period t)) None
+
+abbrev pub divides : ℕ → ℕ → Bool
+divides p whole = ltb 0 p && eqb (whole % p) 0
+
+abbrev pub divides_fault : Tables → ℕ → ℕ → Found
+divides_fault t m c = unless (divides (comm_period t c) (mode_period t m)) (comm_period t c) (mode_period t m)
+
+abbrev pub end_divides_fault : Tables → Inv → End → Found
+end_divides_fault t i (E.Comm c n) = divides_fault t i.mode c
+end_divides_fault t i (E.Port p) = None

@@ -1,0 +1,76 @@
+-- What precedes what among the invocations of one mode, as rows of bits.
+use Rattle.std.specs.Prelude.{◌≡◌, ◌≤◌, ◌<◌, ℕ, zero, suc, ◌+◌, Bool, false, cond, eqb, ltb, ◌&&◌, List, get_or, map, length, slice_get, Option, Some, None}
+use Rattle.std.specs.Int.{bit_at}
+use Rattle.std.specs.Int.Bits.{bit_or}
+use Rattle.std.specs.List.{list_any}
+use Rattle.htl_model.specs.declared.parts.Inv.{Inv}
+use Rattle.htl_model.specs.declared.parts.End.{End}
+use Rattle.htl_model.specs.declared.parts.End.TheVariants as E
+use Rattle.htl_model.specs.PortOrder.{feeds}
+use Rattle.htl_model.specs.PortWriters.{is_port}
+use Rattle.htl_model.specs.Tables.{Tables}
+use Rattle.htl_form.specs.Cycles.{precedes_itself}
+
+-- the invocations of mode m are the n from `base` on, at most 128
+pub record IsRangeOf (t : Tables) (m base n : ℕ) : Type 0 where
+  pub within : base + n ≤ length t.invs
+  pub few : n ≤ 128
+  pub inside : (q : ℕ) (i : Inv) → q < n → slice_get t.invs (base + q) ≡ Some i → i.mode ≡ m
+  pub outside : (k : ℕ) (i : Inv) → slice_get t.invs k ≡ Some i → i.mode ≡ m → (base ≤ k) × (k < base + n)
+
+-- the invocations of mode m and of later modes are those from number k on
+pub record IsStartOf (t : Tables) (m k : ℕ) : Type 0 where
+  pub within : k ≤ length t.invs
+  pub below : (q : ℕ) (i : Inv) → q < k → slice_get t.invs q ≡ Some i → i.mode < m
+  pub above : (q : ℕ) (i : Inv) → k ≤ q → slice_get t.invs q ≡ Some i → m ≤ i.mode
+
+-- ---- bits
+
+abbrev pub has_bit : ℕ → ℕ → Bool
+has_bit row k = eqb (bit_at row k) 1
+
+-- whether row a has bit b
+abbrev pub cell : List ℕ → ℕ → ℕ → Bool
+cell rows a b = has_bit (get_or rows a 0) b
+
+-- a row, with another row where it has bit k
+abbrev pub widened : ℕ → ℕ → ℕ → ℕ
+widened other k row = cond (has_bit row k) (bit_or row other) row
+
+abbrev pub through_one : List ℕ → ℕ → List ℕ
+through_one rows k = map (widened (get_or rows k 0) k) rows
+
+abbrev pub through_all : ℕ → List ℕ → List ℕ
+through_all zero rows = rows
+through_all (suc k) rows = through_one (through_all k rows) k
+
+-- ---- the writers of each port
+
+-- whether the invocation writes the port
+abbrev pub writes_to : Option Inv → ℕ → Bool
+writes_to (Some x) p = list_any (is_port p) x.writes
+writes_to None p = false
+
+-- the end is a port that invocation q of the table writes
+abbrev pub is_from : List ℕ → ℕ → End → Bool
+is_from table q (E.Comm c n) = false
+is_from table q (E.Port p) = cell table p q
+
+-- the table has for each port a bit for each of the n invocations from `base` on that writes it
+abbrev pub AreWriters : Tables → ℕ → ℕ → List ℕ → Type 0
+AreWriters t base n table = (p q : ℕ) → p < length table → cell table p q ≡ (ltb q n && writes_to (slice_get t.invs (base + q)) p)
+
+-- ---- the steps of a mode
+
+-- of the n invocations from `base` on, number b reads a port that number a writes
+abbrev pub follows : Tables → ℕ → ℕ → ℕ → ℕ → Bool
+follows t base n b a = ltb b n && (ltb a n && feeds t (base + a) (base + b))
+
+abbrev pub AreSteps : Tables → ℕ → ℕ → List ℕ → Type 0
+AreSteps t base n rows = (b a : ℕ) → b < n → a < n → cell rows b a ≡ follows t base n b a
+
+-- the marks of the n invocations from `base` on say which precede themselves, and the others are as they were
+pub record AreMarked (t : Tables) (base n : ℕ) (old new : List Bool) : Type 0 where
+  pub inside : (q : ℕ) → q < n → get_or new (base + q) false ≡ precedes_itself t (base + q)
+  pub below : (k : ℕ) → k < base → get_or new k false ≡ get_or old k false
+  pub above : (k : ℕ) → base + n ≤ k → get_or new k false ≡ get_or old k false

@@ -1,0 +1,21 @@
+-- What is counted once over the tables before their ends are judged.
+use Rattle.std.specs.Prelude.{◌≡◌, ◌<◌, ℕ, Bool, false, List, get_or, slice_get, Some}
+use Rattle.htl_model.specs.declared.parts.Inv.{Inv}
+use Rattle.htl_model.specs.PortWriters.{port_writers}
+use Rattle.htl_model.specs.Tables.{Tables}
+use Rattle.htl_form.specs.Apart.{AreApart}
+use Rattle.htl_form.specs.Cycles.{precedes_itself}
+use Rattle.htl_form.specs.declared.survey.Survey.{Survey}
+
+-- the marks say of each invocation whether it precedes itself
+abbrev pub AreCycleMarks : Tables → List Bool → Type 0
+AreCycleMarks t marks = (k : ℕ) (i : Inv) → slice_get t.invs k ≡ Some i → get_or marks k false ≡ precedes_itself t k
+
+-- The survey is that of these tables.
+pub record IsSurveyOf (t : Tables) (survey : Survey) : Type 0 where
+  -- how many outputs write each port
+  pub writers : (p : ℕ) → p < 4096 → get_or survey.writers p 0 ≡ port_writers t p
+  -- which invocations precede themselves
+  pub on_cycle : AreCycleMarks t survey.on_cycle
+  -- some of the invocations that write nothing that an earlier concrete one writes
+  pub apart : AreApart t survey.apart

@@ -1,0 +1,47 @@
+-- What the tests of each rule find: at a mode, at an invocation as a whole, at an input or output of one, at a communicator that a
+-- switch of a mode reads.
+use Rattle.std.specs.Prelude.{ℕ, None}
+use Rattle.htl_model.specs.declared.parts.Mode.{Mode}
+use Rattle.htl_model.specs.declared.parts.Inv.{Inv}
+use Rattle.htl_model.specs.declared.parts.End.{End}
+use Rattle.htl_model.specs.Tables.{Tables}
+use Rattle.htl_model.specs.EndRules.{input_types, output_types}
+use Rattle.htl_form.specs.Found.{Found}
+use Rattle.htl_form.specs.PeriodFaults.{module_period_fault, root_period_fault, divides_fault, end_divides_fault}
+use Rattle.htl_form.specs.EndFaults.{read_offset_fault, write_offset_fault, count_fault, type_fault, abstract_read_fault, sensor_fault}
+use Rattle.htl_form.specs.WindowFaults.{window_fault, worst_case_fault}
+use Rattle.htl_form.specs.PortFaults.{unwritten_fault, rewritten_fault}
+use Rattle.htl_form.specs.Cycles.{cycle_fault}
+use Rattle.htl_form.specs.WriterFaults.{writer_fault}
+use Rattle.htl_form.specs.declared.rule.Rule.{Rule}
+use Rattle.htl_form.specs.declared.rule.Rule.TheVariants as R
+
+pub record Tests : Type 0 where
+  pub mode : ℕ → Mode → Found
+  pub inv : ℕ → Inv → Found
+  pub input : ℕ → Inv → ℕ → End → Found
+  pub output : ℕ → Inv → ℕ → End → Found
+  pub test : ℕ → ℕ → Found
+
+-- tests that find nothing
+abbrev pub silent : Tests
+silent = record { mode = λ m x. None; inv = λ k i. None; input = λ k i j e. None; output = λ k i j e. None; test = λ m c. None }
+
+abbrev pub tests : Tables → Rule → Tests
+tests t R.ModulePeriod = record silent { mode = λ m x. module_period_fault t x }
+tests t R.RootPeriod = record silent { mode = λ m x. root_period_fault t m x }
+tests t R.Divides = record silent { input = λ k i j e. end_divides_fault t i e; output = λ k i j e. end_divides_fault t i e; test = λ m c. divides_fault t m c }
+tests t R.Offsets = record silent { input = λ k i j e. read_offset_fault t i e; output = λ k i j e. write_offset_fault t i e }
+tests t R.Ends =
+    record silent {
+      inv = λ k i. count_fault t i;
+      input = λ k i j e. type_fault t (input_types t i.task) j e;
+      output = λ k i j e. type_fault t (output_types t i.task) j e;
+    }
+tests t R.Windows = record silent { inv = λ k i. window_fault t i }
+tests t R.WorstCases = record silent { inv = λ k i. worst_case_fault t i }
+tests t R.PortWriters = record silent { input = λ k i j e. unwritten_fault t e; output = λ k i j e. rewritten_fault t k i j e }
+tests t R.PortCycles = record silent { inv = λ k i. cycle_fault t k i }
+tests t R.AbstractPorts = record silent { input = λ k i j e. abstract_read_fault t i j e }
+tests t R.Sensors = record silent { output = λ k i j e. sensor_fault t j e }
+tests t R.ConcreteWriters = record silent { output = λ k i j e. writer_fault t k i j e }

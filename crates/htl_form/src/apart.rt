@@ -1,0 +1,69 @@
+// Which invocations write nothing that an earlier concrete invocation writes.
+ghost use Rattle.std.specs.Prelude.{◌≡◌, ◌≤◌, ◌<◌, ◌+◌, true, eqb, length, slice_get, Some};
+ghost use Rattle.std.specs.List.{IsDistinct};
+ghost use Rattle.htl_form.specs.Apart.{keys_from, AreTaken, IsApart, AreApart};
+ghost use Rattle.htl_form.specs.Rows.{IsRangeOf};
+
+use crate::instances::are_written_once;
+use crate::items::{inv_at, mode_count};
+use crate::ranges::range_of;
+use crate::taken::{mark_taken, some_taken};
+use htl_model::Tables;
+
+// Whether invocation `q` of a mode, those `n` from `base` on, writes nothing that an earlier one does.
+// Where the whole mode writes no instance twice, neither do those up to it.
+fn is_apart(
+    t: &Tables,
+    mode: u16,
+    base: usize,
+    n: usize,
+    q: usize,
+    taken: &[bool],
+    once: bool,
+) -> bool
+    requires range { IsRangeOf t.now mode base n }
+    requires within { q < n }
+    requires len { length taken.now ≡ 1024 }
+    requires taken { AreTaken t.now mode base taken.now }
+    requires once { once ≡ true → IsDistinct eqb (keys_from t.now base n) }
+    ensures { result ≡ true → IsApart t.now (base + q) }
+{
+    let _parts = t.parts();
+    let inv = inv_at(t, base + q);
+    if some_taken(inv.writes.as_slice(), taken) {
+        return false;
+    }
+    once || are_written_once(t, base, q + 1)
+}
+
+// Marks those invocations of a mode, the `n` from `base` on, that are apart, and answers whether the mode
+// writes each instance once.
+fn mark_mode(t: &Tables, mode: u16, base: usize, n: usize, marks: &mut [bool]) -> bool
+    requires range { IsRangeOf t.now mode base n }
+    requires room { base + n ≤ length marks.old }
+    requires marks { AreApart t.now marks.old }
+    ensures { AreApart t.now marks.new }
+{
+    let mut taken = [false; 1024];
+    mark_taken(t, mode, base, &mut taken);
+    let once = are_written_once(t, base, n);
+    for q in 0..n {
+        marks[base + q] = is_apart(t, mode, base, n, q, &taken, once);
+    }
+    once
+}
+
+/// Marks invocations that are apart: all, up to the first mode that writes an instance twice.
+pub fn mark_apart(t: &Tables, marks: &mut [bool])
+    requires room { length t.now.invs ≤ length marks.old }
+    requires marks { AreApart t.now marks.old }
+    ensures { AreApart t.now marks.new }
+{
+    let modes = mode_count(t);
+    for m in 0..modes {
+        let range = range_of(t, m as u16);
+        if !mark_mode(t, m as u16, range.base, range.count, marks) {
+            return;
+        }
+    }
+}

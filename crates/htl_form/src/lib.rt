@@ -1,0 +1,26 @@
+//! The form rules 1 to 12: the first that tables break.
+#![tactic(auto)]
+
+mod abstract_ports;
+mod answer;
+mod apart;
+mod cycles;
+mod ends;
+mod instances;
+mod items;
+mod overview;
+mod paths;
+mod periods;
+mod ports;
+mod ranges;
+mod rows;
+mod rule;
+mod search;
+mod survey;
+mod taken;
+#[cfg(test)]
+mod tests;
+mod windows;
+mod writers;
+
+pub use answer::form;

@@ -1,0 +1,38 @@
+// What is counted once over the tables before their ends are judged.
+ghost use Rattle.htl_form.specs.Surveys.{IsSurveyOf};
+
+use crate::apart::mark_apart;
+use crate::cycles::mark_cycles;
+use crate::ports::count_writers;
+use htl_model::Tables;
+
+/// Counts over the whole tables, so that each end is judged in a few steps.
+#[derive(Drop)]
+pub struct Survey {
+    /// For each port how many outputs write it.
+    pub writers: [u32; 4096],
+    /// For each invocation whether it precedes itself by the ports.
+    pub on_cycle: [bool; 2048],
+    /// For each invocation whether it surely writes nothing that an earlier concrete one writes.
+    pub apart: [bool; 2048],
+}
+
+impl Survey {
+    /// The survey of these tables.
+    pub fn of(t: &Tables) -> Survey
+        ensures { IsSurveyOf t.now result }
+    {
+        let _parts = t.parts();
+        let mut writers = [0u32; 4096];
+        count_writers(t, &mut writers);
+        let mut on_cycle = [false; 2048];
+        mark_cycles(t, &mut on_cycle);
+        let mut apart = [false; 2048];
+        mark_apart(t, &mut apart);
+        Survey {
+            writers,
+            on_cycle,
+            apart,
+        }
+    }
+}
