@@ -15,7 +15,7 @@ use Rattle.htl_script.specs.Judging.{at_first, noted_all, noted, past_of, judged
 use Rattle.htl_script.specs.Script.{Script, Whole, Bad, events_of, listed, ended, script_of, script_of_lines}
 use Rattle.htl_script.specs.Reading.{behind, Grows, IsAnswer, OfScript, LosesFront, noted_if, rest_at_end, rest_of_lines}
 use Rattle.htl_script.specs.Readers.{Here, rest_of, Takes, Finishes}
-use Rattle.htl_script.proofs.Taking.{behind-nil, behind-append, events_of-behind, Begins-behind}
+use Rattle.htl_script.proofs.Taking.{behind-nil, behind-append, events_of-behind, HasFront-behind}
 
 -- ---- the whole script and what is left of it
 
@@ -140,7 +140,7 @@ answer_stop T t now next known rest left old new newer piece s reading gave grew
         → IsAnswer {T = T} (script_of t (reading.taken ++ (piece ++ left_of left))) (Err s) (reading.gained ++ grew.0)
     by_stop (stop.Script f) stopped = reading.follows (piece ++ left_of left) ∙ ap (λ (x : Script). behind reading.gained x) (stopped (left_of left))
     by_stop stop.Read stopped = absurd stopped
-    by_stop stop.Memory stopped = Begins-behind reading.gained grew.0 _ _ (reading.follows (piece ++ left_of left)) (stopped (left_of left))
+    by_stop stop.Memory stopped = HasFront-behind reading.gained grew.0 _ _ (reading.follows (piece ++ left_of left)) (stopped (left_of left))
 
 -- the reader came to the end
 pub answer_end : (T : Type 0) (t : Tables) (now : Here) (known rest : Option (List ℕ)) (old new newer : List Event) (r : Result T WholeStop)
@@ -161,7 +161,7 @@ answer_end T t now known rest old new newer r reading at_end grew = (
     by_result (Ok done) finished = (finished.0, reading.follows [] ∙ ap (λ (x : Script). behind reading.gained x) finished.1)
     by_result (Err (stop.Script f)) finished = reading.follows [] ∙ ap (λ (x : Script). behind reading.gained x) finished
     by_result (Err stop.Read) finished = absurd finished
-    by_result (Err stop.Memory) finished = Begins-behind reading.gained grew.0 _ _ (reading.follows []) finished
+    by_result (Err stop.Memory) finished = HasFront-behind reading.gained grew.0 _ _ (reading.follows []) finished
 
 -- nothing is left
 pub none_left-end : (t : Tables) (now : Here) (known rest left : Option (List ℕ)) (old new : List Event)

@@ -1,5 +1,6 @@
 pub mod Answering
 pub mod Digits
+pub mod Ending
 pub mod Fitting
 pub mod Judged
 pub mod Names

@@ -1,5 +1,5 @@
 -- Worked scripts.
-use Rattle.std.proofs.Common.{◌≡◌, true, false, [], ◌∷◌, pos, negsuc, codes, refl}
+use Rattle.std.proofs.Common.{◌≡◌, true, false, [], ◌∷◌, pos, negsuc, codes, replicate, refl}
 use Rattle.htl_model.specs.declared.event.Event.TheVariants as event
 use Rattle.htl_script.specs.declared.fault.ScriptKind.TheVariants as kind
 use Rattle.htl_script.specs.Lines.{is_past_limit}
@@ -35,6 +35,73 @@ of_an_abstract_task = refl
 
 empty : script_of sample [] ≡ Bad 1 kind.NoEnd []
 empty = refl
+
+no_line_feed : script_of sample (codes "at 0") ≡ Bad 2 kind.NoEnd (event.At 0 ∷ [])
+no_line_feed = refl
+
+passed_over : script_of sample (codes "\n# a\nat 0\n") ≡ Bad 4 kind.NoEnd (event.At 0 ∷ [])
+passed_over = refl
+
+other_behind_the_end : script_of sample (codes "end 5\nx y\n") ≡ Bad 2 kind.After (event.End 5 ∷ [])
+other_behind_the_end = refl
+
+end_below : script_of sample (codes "at 7\nend 6\n") ≡ Bad 2 kind.Order (event.At 7 ∷ [])
+end_below = refl
+
+no_bool : script_of sample (codes "at 0\nsense g 2\n") ≡ Bad 2 kind.Range (event.At 0 ∷ [])
+no_bool = refl
+
+negative_bool : script_of sample (codes "at 0\nsense g -1\n") ≡ Bad 2 kind.Range (event.At 0 ∷ [])
+negative_bool = refl
+
+above_64_bits : script_of sample (codes "at 0\nsense s 9223372036854775808\n") ≡ Bad 2 kind.Range (event.At 0 ∷ [])
+above_64_bits = refl
+
+below_64_bits : script_of sample (codes "at 0\nsense s -9223372036854775809\n") ≡ Bad 2 kind.Range (event.At 0 ∷ [])
+below_64_bits = refl
+
+minus_zero : script_of sample (codes "at 0\nsense s -0\n") ≡ Bad 2 kind.Form (event.At 0 ∷ [])
+minus_zero = refl
+
+far_too_late : script_of sample (codes "at 99999999999999999999999999\n") ≡ Bad 1 kind.Range []
+far_too_late = refl
+
+negative_instant : script_of sample (codes "at -1\n") ≡ Bad 1 kind.Form []
+negative_instant = refl
+
+space_behind : script_of sample (codes "at 1 \n") ≡ Bad 1 kind.Form []
+space_behind = refl
+
+two_spaces : script_of sample (codes "at  1\n") ≡ Bad 1 kind.Form []
+two_spaces = refl
+
+tab : script_of sample (codes "at\t1\n") ≡ Bad 1 kind.Form []
+tab = refl
+
+carriage_return : script_of sample (codes "at 1\r\n") ≡ Bad 1 kind.Form []
+carriage_return = refl
+
+space_before : script_of sample (codes " at 1\n") ≡ Bad 1 kind.Form []
+space_before = refl
+
+empty_name : script_of sample (codes "sense  1\n") ≡ Bad 1 kind.Form []
+empty_name = refl
+
+unknown_before_range : script_of sample (codes "took x 0\n") ≡ Bad 1 kind.Unknown []
+unknown_before_range = refl
+
+length_above_63_bits : script_of sample (codes "took M.m.dbl 9223372036854775808\n") ≡ Bad 1 kind.Range []
+length_above_63_bits = refl
+
+order_before_overrun : script_of sample (codes "took M.m.dbl 5\n") ≡ Bad 1 kind.Order []
+order_before_overrun = refl
+
+-- a line of 256 bytes, and one of 255, which is a comment
+long : script_of sample (replicate 256 35) ≡ Bad 1 kind.Long []
+long = refl
+
+not_long : script_of sample (replicate 255 35) ≡ Bad 2 kind.NoEnd []
+not_long = refl
 
 -- a comment, an empty line and a last line without a line feed
 whole : script_of sample (codes "# a\n\nat 0\nsense s -3\nsense g 1\ntook M.m.dbl 4\nend 20")

@@ -6,7 +6,7 @@ use Rattle.htl_model.specs.Tables.{Tables}
 use Rattle.htl_script.specs.declared.fault.ScriptFault.{ScriptFault}
 use Rattle.htl_script.specs.declared.fault.WholeStop.TheVariants as stop
 use Rattle.htl_script.specs.Script.{Script, Whole, Bad, events_of, listed}
-use Rattle.htl_script.specs.Reading.{behind, Begins, Grows}
+use Rattle.htl_script.specs.Reading.{behind, HasFront, Grows}
 use Rattle.htl_script.specs.Readers.{Here, rest_of, Takes}
 
 -- ---- events before a script's own
@@ -24,8 +24,8 @@ events_of-behind a (Whole es end) = refl
 events_of-behind a (Bad line k es) = refl
 
 -- a front of the events of a script with others before them
-pub Begins-behind : (a b : List Event) (s whole : Script) → whole ≡ behind a s → Begins (events_of s) b → Begins (events_of whole) (a ++ b)
-Begins-behind a b s whole e begins =
+pub HasFront-behind : (a b : List Event) (s whole : Script) → whole ≡ behind a s → HasFront (events_of s) b → HasFront (events_of whole) (a ++ b)
+HasFront-behind a b s whole e begins =
     (begins.0, ap events_of e ∙ events_of-behind a s ∙ ap (λ (xs : List Event). a ++ xs) begins.1 ∙ sym (append_assoc a b begins.0))
 
 -- ---- bytes

@@ -8,7 +8,7 @@ use Rattle.htl_script.specs.Lines.{is_line_feed, lines_of}
 use Rattle.htl_script.specs.Script.{Script, Whole, Bad, events_of}
 use Rattle.htl_script.specs.declared.fault.WholeStop.{WholeStop}
 use Rattle.htl_script.specs.declared.fault.WholeStop.TheVariants as stop
-use Rattle.htl_script.specs.Reading.{rest_of_lines, noted_if, behind, Begins}
+use Rattle.htl_script.specs.Reading.{rest_of_lines, noted_if, behind, HasFront}
 
 -- the number of the line that is being read, the bytes before it, what was read of it, and what the events so
 -- far leave
@@ -38,11 +38,11 @@ abbrev pub Takes : {T : Type 0} → Tables → Here → Here → List ℕ → Re
 Takes t old new bytes (Ok done) gained = (later : List ℕ) → rest_of t old (bytes ++ later) ≡ behind gained (rest_of t new later)
 Takes t old new bytes (Err (stop.Script fault)) gained = (later : List ℕ) → rest_of t old (bytes ++ later) ≡ Bad fault.line fault.kind gained
 Takes t old new bytes (Err stop.Read) gained = ⊥
-Takes t old new bytes (Err stop.Memory) gained = (later : List ℕ) → Begins (events_of (rest_of t old (bytes ++ later))) gained
+Takes t old new bytes (Err stop.Memory) gained = (later : List ℕ) → HasFront (events_of (rest_of t old (bytes ++ later))) gained
 
 -- What a reader does at the end of the script, and the events that it gains.
 abbrev pub Finishes : {T : Type 0} → Tables → Here → Result T WholeStop → List Event → Type 0
 Finishes t old (Ok done) gained = (end : ℕ) × (rest_of t old [] ≡ Whole gained end)
 Finishes t old (Err (stop.Script fault)) gained = rest_of t old [] ≡ Bad fault.line fault.kind gained
 Finishes t old (Err stop.Read) gained = ⊥
-Finishes t old (Err stop.Memory) gained = Begins (events_of (rest_of t old [])) gained
+Finishes t old (Err stop.Memory) gained = HasFront (events_of (rest_of t old [])) gained

@@ -46,8 +46,8 @@ answered line (Ok e) later = behind (listed e) later
 answered line (Err k) later = Bad line k []
 
 -- a list begins with another
-abbrev pub Begins : List Event → List Event → Type 0
-Begins all front = (back : List Event) × (all ≡ front ++ back)
+abbrev pub HasFront : List Event → List Event → Type 0
+HasFront all front = (back : List Event) × (all ≡ front ++ back)
 
 -- a list grew by others
 abbrev pub Grows : List Event → List Event → (List Event → Type 0) → Type 0
@@ -58,8 +58,8 @@ Grows old new fits = (gained : List Event) × (new ≡ old ++ gained) × fits ga
 abbrev pub IsAnswer : {T : Type 0} → Script → Result T WholeStop → List Event → Type 0
 IsAnswer script (Ok done) gained = (end : ℕ) × (script ≡ Whole gained end)
 IsAnswer script (Err (stop.Script fault)) gained = script ≡ Bad fault.line fault.kind gained
-IsAnswer script (Err stop.Read) gained = Begins (events_of script) gained
-IsAnswer script (Err stop.Memory) gained = Begins (events_of script) gained
+IsAnswer script (Err stop.Read) gained = HasFront (events_of script) gained
+IsAnswer script (Err stop.Memory) gained = HasFront (events_of script) gained
 
 -- There is a script, namely the one that is known where it is, of which something holds.
 abbrev pub OfScript : Option (List ℕ) → (List ℕ → Type 0) → Type 0

@@ -1,7 +1,7 @@
 // Why a script is refused.
 
 /// What is wrong with a line of a script, in the order in which a line is judged, but for `NoEnd`.
-#[derive(Clone, Copy, PartialEq, Debug)]
+#[derive(Clone, Copy, PartialEq, Eq, Debug)]
 pub enum ScriptKind {
     /// The line has none of the four forms.
     Form,
@@ -25,7 +25,7 @@ pub enum ScriptKind {
 }
 
 /// The first fault of a script.
-#[derive(Clone, Copy, PartialEq, Debug)]
+#[derive(Clone, Copy, PartialEq, Eq, Debug)]
 pub struct ScriptFault {
     /// The number of the line, from 1.
     pub line: u64,
@@ -33,7 +33,7 @@ pub struct ScriptFault {
 }
 
 /// Why the reader of a whole script stopped.
-#[derive(Clone, Copy, PartialEq, Debug)]
+#[derive(Clone, Copy, PartialEq, Eq, Debug)]
 pub enum WholeStop {
     /// The source failed, and counted it.
     Read,

@@ -161,7 +161,7 @@ fn read(
     Ok((events, answer))
 }
 
-const REFUSED: [(&[u8], u64, ScriptKind); 30] = [
+const REFUSED: [(&[u8], u64, ScriptKind); 10] = [
     (b"at 5\nat 5\n", 2, ScriptKind::Order),
     (b"sense s 1\n", 1, ScriptKind::Order),
     (b"at 0\nsense u 1\n", 2, ScriptKind::Unknown),
@@ -176,30 +176,6 @@ const REFUSED: [(&[u8], u64, ScriptKind); 30] = [
     ),
     (b"", 1, ScriptKind::NoEnd),
     (b"at 0", 2, ScriptKind::NoEnd),
-    (b"\n# a\nat 0\n", 4, ScriptKind::NoEnd),
-    (b"end 5\nx y\n", 2, ScriptKind::After),
-    (b"at 7\nend 6\n", 2, ScriptKind::Order),
-    (b"at 0\nsense g 2\n", 2, ScriptKind::Range),
-    (b"at 0\nsense g -1\n", 2, ScriptKind::Range),
-    (b"at 0\nsense s 9223372036854775808\n", 2, ScriptKind::Range),
-    (
-        b"at 0\nsense s -9223372036854775809\n",
-        2,
-        ScriptKind::Range,
-    ),
-    (b"at 0\nsense s -0\n", 2, ScriptKind::Form),
-    (b"at 99999999999999999999999999\n", 1, ScriptKind::Range),
-    (b"at -1\n", 1, ScriptKind::Form),
-    (b"at 1 \n", 1, ScriptKind::Form),
-    (b"at  1\n", 1, ScriptKind::Form),
-    (b"at\t1\n", 1, ScriptKind::Form),
-    (b"at 1\r\n", 1, ScriptKind::Form),
-    (b" at 1\n", 1, ScriptKind::Form),
-    (b"sense  1\n", 1, ScriptKind::Form),
-    (b"at 0\ntook M.m.hold 1\n", 2, ScriptKind::Unknown),
-    (b"took x 0\n", 1, ScriptKind::Unknown),
-    (b"took M.m.dbl 9223372036854775808\n", 1, ScriptKind::Range),
-    (b"took M.m.dbl 5\n", 1, ScriptKind::Order),
 ];
 
 #[test]
