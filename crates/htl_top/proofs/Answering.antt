@@ -1,50 +1,66 @@
 -- From the answers of the parts to that of the whole call, and from it to each of its clauses.
-use Rattle.std.proofs.Common.{arith, ◌≡◌, ◌≤◌, ◌<◌, ℕ, List, length, Option, None, Some, refl, ap, ◌∙◌, subst, inl, inr}
+use Rattle.std.proofs.Common.{arith, ◌≡◌, ◌≤◌, ◌<◌, ℕ, List, length, Option, None, Some, refl, sym, ap, ◌∙◌, subst, inl, inr}
 use Rattle.std.specs.Prelude.{◌↔◌, IfSome}
 use Rattle.std.specs.FinMap.{get}
 use Rattle.htl_edge.specs.Causes.{Rose}
 use Rattle.htl_edge.specs.Holdings.{Holdings, HoldsUnder}
 use Rattle.htl_model.specs.Tables.{Tables}
+use Rattle.htl_model.specs.Broken.{site_of, IsFirstBroken}
 use Rattle.htl_model.specs.declared.event.Event.{Event}
-use Rattle.htl_top.proofs.SourceLaws.{tables_unique, tables_or_fault, fault_unique}
-use Rattle.htl_top.specs.Answers.{Files, Streams, IsWritten, IsPlayed, IsGone, IsAnswer, IsBeforeScript, IsBeforeRun}
-use Rattle.htl_top.specs.Causes.{IsFaultOf, IsLongFile, IsSource, IsGiven, IsReady, IsFaultySource, HasTables, IsProgram, not_built, IsRun, IsCut, IsOrMemory}
+use Rattle.htl_model.specs.declared.form_fault.FormFault.{FormFault}
+use Rattle.htl_top.proofs.SourceLaws.{tables_unique, tables_or_fault, form_unique, fault_unique}
+use Rattle.htl_script.specs.Script.{Whole, Bad}
+use Rattle.htl_script.specs.declared.fault.ScriptFault.{ScriptFault}
+use Rattle.htl_script.specs.declared.fault.ScriptKind.{ScriptKind}
+use Rattle.htl_top.specs.Answers.{Files, Streams, IsWritten, IsPlayed, IsGone, IsAnswer, IsBeforeScript, IsBeforeRun, SpeaksOf, IsLineTold}
+use Rattle.htl_top.specs.Causes.{IsFaultOf, IsLongFile, IsSource, IsGiven, IsReady, IsFaultySource, HasTables, HasBuiltTables, IsProgram, IsBuiltProgram, IsIllFormed, IsRun, IsFaulty, IsCut, IsOrMemory}
 use Rattle.htl_edge.specs.Content.{none_left}
 use Rattle.htl_model.specs.Lines.{empty_text}
-use Rattle.htl_top.specs.Scripts.{IsWhole, IsNotWhole, EndsAt, IsTold}
-use Rattle.htl_top.specs.Sources.{IsTablesOf, IsSourceFault}
+use Rattle.htl_top.specs.Scripts.{IsWhole, IsBad, EndsAt, IsTold}
+use Rattle.htl_top.specs.Status.{fault_line}
+use Rattle.htl_top.specs.Texts.{text_before_fault}
+use Rattle.htl_top.specs.Sources.{AreBuiltTables, CanRun, BreakFirst, IsSourceFault}
 use Rattle.htl_top.specs.declared.outcome.Outcome.{Outcome}
-use Rattle.htl_top.specs.declared.outcome.Outcome.TheVariants.{Done, Usage, Source, Script, Shelf, Read, Write, Memory}
-use Rattle.htl_top.specs.declared.outcome.ScriptFault.{ScriptFault}
+use Rattle.htl_top.specs.declared.outcome.Outcome.TheVariants.{Done, Usage, Source, IllFormed, Script, Shelf, Read, Write, Memory}
 use Rattle.htl_top.specs.declared.outcome.ShelfCause.TheVariants.{Failed, TooLong}
 use Rattle.htl_top.specs.declared.source_fault.SourceFault.{SourceFault}
 
 -- ---- from the parts to the whole
 
-IsPlayed-from_written : (tables : Tables) (old new : Streams) (events : List Event) (outcome : Outcome) (told : IsTold tables old.rest events)
-    → new.rest ≡ none_left old.rest → IsWritten (empty_text tables events told.end) old.written new.written old.write_faults new.write_faults outcome
-    → IsPlayed tables old new outcome
-IsPlayed-from_written tables old new events Done told left written = record { events = events; end = told.end; script = told.script; read = left; written = written }
-IsPlayed-from_written tables old new events Write told left written = (written.0, record { events = events; end = told.end; script = told.script; written = written.1 })
-IsPlayed-from_written tables old new events Usage told left written = absurd written
-IsPlayed-from_written tables old new events (Source fault) told left written = absurd written
-IsPlayed-from_written tables old new events (Script fault) told left written = absurd written
-IsPlayed-from_written tables old new events (Shelf cause) told left written = absurd written
-IsPlayed-from_written tables old new events Read told left written = absurd written
-IsPlayed-from_written tables old new events Memory told left written = absurd written
-
--- the same where the events were written as they were read
-pub IsPlayed-from_run : (tables : Tables) (old new : Streams) (events shown : List Event) (outcome : Outcome) → shown ≡ events → IsTold tables old.rest events
+-- a whole script was run
+pub IsPlayed-from_whole : (tables : Tables) (old new : Streams) (events shown : List Event) (outcome : Outcome) → shown ≡ events → IsTold tables old.rest events
     → new.rest ≡ none_left old.rest
-    → ((end : ℕ) → EndsAt shown end → IsWritten (empty_text tables shown end) old.written new.written old.write_faults new.write_faults outcome)
+    → ((end : ℕ) → EndsAt shown end → IsWritten (empty_text tables shown end) Done old.written new.written old.write_faults new.write_faults outcome)
     → IsPlayed tables old new outcome
-IsPlayed-from_run tables old new events shown outcome same told left written =
+IsPlayed-from_whole tables old new events shown outcome same told left written =
     let Written : List Event → Type 0 = λ es.
-    (end : ℕ) → EndsAt es end → IsWritten (empty_text tables es end) old.written new.written old.write_faults new.write_faults outcome in
-    IsPlayed-from_written tables old new events outcome told left (subst Written same written told.end told.ends)
+    (end : ℕ) → EndsAt es end → IsWritten (empty_text tables es end) Done old.written new.written old.write_faults new.write_faults outcome in
+    elim (subst Written same written told.end told.ends) [
+      | inl w ↦
+          subst (λ (o : Outcome). IsPlayed tables old new o) (sym w.0)
+          (record { events = events; end = told.end; script = told.script; read = left; written = w.1 })
+      | inr w ↦
+          subst (λ (o : Outcome). IsPlayed tables old new o) (sym w.0)
+          (w.1, record { given = Whole events told.end; script = told.script; written = w.2 })
+    ]
+
+-- the lines before a fault were written
+pub IsPlayed-from_faulty : (tables : Tables) (old new : Streams) (events shown : List Event) (fault : ScriptFault) (outcome : Outcome) → shown ≡ events
+    → IfSome old.rest (λ script. IsBad tables script fault events)
+    → IsWritten (text_before_fault tables shown) (Script fault) old.written new.written old.write_faults new.write_faults outcome
+    → IsPlayed tables old new outcome
+IsPlayed-from_faulty tables old new events shown fault outcome same bad written =
+    let Written : List Event → Type 0 = λ es.
+    IsWritten (text_before_fault tables es) (Script fault) old.written new.written old.write_faults new.write_faults outcome in
+    elim (subst Written same written) [
+      | inl w ↦ subst (λ (o : Outcome). IsPlayed tables old new o) (sym w.0) (record { events = events; script = bad; written = w.1 })
+      | inr w ↦
+          subst (λ (o : Outcome). IsPlayed tables old new o) (sym w.0)
+          (w.1, record { given = Bad fault.line fault.kind events; script = bad; written = w.2 })
+    ]
 
 pub IsGone-from_played : (bytes : List ℕ) (tables : Tables) (old new : Streams) (outcome : Outcome)
-    → IsTablesOf bytes tables → IsPlayed tables old new outcome → IsGone bytes old new outcome
+    → CanRun bytes tables → IsPlayed tables old new outcome → IsGone bytes old new outcome
 IsGone-from_played bytes tables old new Done is played = record { tables = tables; compiled = is; fact = played }
 IsGone-from_played bytes tables old new (Script fault) is played = record { tables = tables; compiled = is; fact = played }
 IsGone-from_played bytes tables old new Read is played = record { tables = tables; compiled = is; fact = played }
@@ -52,6 +68,7 @@ IsGone-from_played bytes tables old new Write is played = record { tables = tabl
 IsGone-from_played bytes tables old new Memory is played = played
 IsGone-from_played bytes tables old new Usage is played = absurd played
 IsGone-from_played bytes tables old new (Source fault) is played = absurd played
+IsGone-from_played bytes tables old new (IllFormed fault) is played = absurd played
 IsGone-from_played bytes tables old new (Shelf cause) is played = absurd played
 
 pub IsAnswer-from_gone : (name : Option (List ℕ)) (shelf : Files) (old new : Streams) (bytes : List ℕ) (outcome : Outcome)
@@ -62,6 +79,7 @@ IsAnswer-from_gone name shelf old new bytes Read source gone = record { bytes = 
 IsAnswer-from_gone name shelf old new bytes Write source gone = record { bytes = bytes; source = source; has_tables = gone }
 IsAnswer-from_gone name shelf old new bytes Memory source gone = ((source.word, source.named), gone)
 IsAnswer-from_gone name shelf old new bytes (Source fault) source gone = (record { bytes = bytes; source = source; first = gone.0 }, gone.1)
+IsAnswer-from_gone name shelf old new bytes (IllFormed fault) source gone = (record { bytes = bytes; source = source; has_tables = gone.0 }, gone.1)
 IsAnswer-from_gone name shelf old new bytes Usage source gone = absurd gone
 IsAnswer-from_gone name shelf old new bytes (Shelf cause) source gone = absurd gone
 
@@ -78,6 +96,7 @@ usage-from_none name shelf old new (Script fault) answer none = absurd (some_not
 usage-from_none name shelf old new Read answer none = absurd (some_not_none name answer.source.word answer.source.named none)
 usage-from_none name shelf old new Write answer none = absurd (some_not_none name answer.source.word answer.source.named none)
 usage-from_none name shelf old new (Source fault) answer none = absurd (some_not_none name answer.0.source.word answer.0.source.named none)
+usage-from_none name shelf old new (IllFormed fault) answer none = absurd (some_not_none name answer.0.source.word answer.0.source.named none)
 usage-from_none name shelf old new (Shelf Failed) answer none = absurd (subst (λ (o : Option (List ℕ)). IsFaultOf o shelf.before shelf.after) none answer.0)
 usage-from_none name shelf old new (Shelf (TooLong seen)) answer none = absurd (subst (λ (o : Option (List ℕ)). IsLongFile o shelf.holds seen) none answer.0)
 usage-from_none name shelf old new Memory answer none = absurd (some_not_none name answer.0.0 answer.0.1 none)
@@ -91,6 +110,7 @@ Says bytes old new (Script fault) = (length bytes ≤ 1048576) × HasTables byte
 Says bytes old new Read = (length bytes ≤ 1048576) × HasTables bytes (λ tables. IsPlayed tables old new Read)
 Says bytes old new Write = (length bytes ≤ 1048576) × HasTables bytes (λ tables. IsPlayed tables old new Write)
 Says bytes old new (Source fault) = (length bytes ≤ 1048576) × IsSourceFault bytes fault
+Says bytes old new (IllFormed fault) = (length bytes ≤ 1048576) × HasBuiltTables bytes (λ tables. BreakFirst tables fault)
 Says bytes old new (Shelf Failed) = ⊥
 Says bytes old new (Shelf (TooLong seen)) = (1048576 < length bytes) × (seen ≡ length bytes)
 Says bytes old new Usage = ⊥
@@ -115,6 +135,9 @@ module _ (name : Option (List ℕ)) (shelf : Files) (old new : Streams) (bytes :
   says Write answer = says_of answer.bytes (λ tables. IsPlayed tables old new Write) answer.source answer.has_tables
   says (Source fault) answer =
       subst (λ (bs : List ℕ). (length bs ≤ 1048576) × IsSourceFault bs fault) (same_bytes answer.0.bytes answer.0.source) (answer.0.source.short, answer.0.first)
+  says (IllFormed fault) answer =
+      subst (λ (bs : List ℕ). (length bs ≤ 1048576) × HasBuiltTables bs (λ tables. BreakFirst tables fault)) (same_bytes answer.0.bytes answer.0.source)
+      (answer.0.source.short, answer.0.has_tables)
   says (Shelf Failed) answer = absurd (given.no_fault (subst (λ (o : Option (List ℕ)). IsFaultOf o shelf.before shelf.after) given.named answer.0))
   says (Shelf (TooLong seen)) answer =
       let long : IsLongFile (Some given.word) (Some given.held) seen =
@@ -132,6 +155,7 @@ module _ (name : Option (List ℕ)) (shelf : Files) (old new : Streams) (bytes :
   long_says Read long said = absurd (omega (arith, long, said.0))
   long_says Write long said = absurd (omega (arith, long, said.0))
   long_says (Source fault) long said = absurd (omega (arith, long, said.0))
+  long_says (IllFormed fault) long said = absurd (omega (arith, long, said.0))
   long_says (Shelf Failed) long said = absurd said
   long_says (Shelf (TooLong seen)) long said = inl (ap (λ (n : ℕ). Shelf (TooLong n)) said.1)
   long_says Usage long said = absurd said
@@ -142,11 +166,12 @@ module _ (name : Option (List ℕ)) (shelf : Files) (old new : Streams) (bytes :
 
   -- the source has a fault
   faulty_says : (outcome : Outcome) (fault : SourceFault) → length bytes ≤ 1048576 → IsSourceFault bytes fault → Says bytes old new outcome → IsOrMemory outcome (Source fault)
-  faulty_says Done fault short is said = absurd (tables_or_fault bytes said.1.tables fault said.1.compiled is)
-  faulty_says (Script other) fault short is said = absurd (tables_or_fault bytes said.1.tables fault said.1.compiled is)
-  faulty_says Read fault short is said = absurd (tables_or_fault bytes said.1.tables fault said.1.compiled is)
-  faulty_says Write fault short is said = absurd (tables_or_fault bytes said.1.tables fault said.1.compiled is)
+  faulty_says Done fault short is said = absurd (tables_or_fault bytes said.1.tables fault said.1.compiled.compiled is)
+  faulty_says (Script other) fault short is said = absurd (tables_or_fault bytes said.1.tables fault said.1.compiled.compiled is)
+  faulty_says Read fault short is said = absurd (tables_or_fault bytes said.1.tables fault said.1.compiled.compiled is)
+  faulty_says Write fault short is said = absurd (tables_or_fault bytes said.1.tables fault said.1.compiled.compiled is)
   faulty_says (Source other) fault short is said = inl (ap (λ (f : SourceFault). Source f) (fault_unique bytes other fault said.1 is))
+  faulty_says (IllFormed other) fault short is said = absurd (tables_or_fault bytes said.1.tables fault said.1.compiled is)
   faulty_says (Shelf Failed) fault short is said = absurd said
   faulty_says (Shelf (TooLong seen)) fault short is said = absurd (omega (arith, short, said.0))
   faulty_says Usage fault short is said = absurd said
@@ -155,7 +180,50 @@ module _ (name : Option (List ℕ)) (shelf : Files) (old new : Streams) (bytes :
   pub faulty_source : (outcome : Outcome) → IsAnswer name shelf old new outcome → (fault : SourceFault) → length bytes ≤ 1048576 → IsSourceFault bytes fault → IsOrMemory outcome (Source fault)
   faulty_source outcome answer fault short is = faulty_says outcome fault short is (says outcome answer)
 
+  -- its tables break a form rule
+  not_formed : (Fact : Tables → Type 0) (tables : Tables) (fault : FormFault) → AreBuiltTables bytes tables → IsFirstBroken tables fault → HasTables bytes Fact → ⊥
+  not_formed Fact tables fault built first has =
+      let same : tables ≡ has.tables = tables_unique bytes tables has.tables built.source has.compiled.compiled.source in
+      let there = subst (λ (t : Tables). IsFirstBroken t fault) same first in
+      has.compiled.formed there.law (site_of fault there.part) fault.have fault.need there.broken
+
+  form_says : (outcome : Outcome) (tables : Tables) (fault : FormFault) → length bytes ≤ 1048576 → AreBuiltTables bytes tables → IsFirstBroken tables fault
+      → Says bytes old new outcome → IsOrMemory outcome (IllFormed fault)
+  form_says Done tables fault short built first said = absurd (not_formed (λ t. IsPlayed t old new Done) tables fault built first said.1)
+  form_says (Script other) tables fault short built first said = absurd (not_formed (λ t. IsPlayed t old new (Script other)) tables fault built first said.1)
+  form_says Read tables fault short built first said = absurd (not_formed (λ t. IsPlayed t old new Read) tables fault built first said.1)
+  form_says Write tables fault short built first said = absurd (not_formed (λ t. IsPlayed t old new Write) tables fault built first said.1)
+  form_says (Source other) tables fault short built first said = absurd (tables_or_fault bytes tables other built said.1)
+  form_says (IllFormed other) tables fault short built first said =
+      let same : said.1.tables ≡ tables = tables_unique bytes said.1.tables tables said.1.compiled.source built.source in
+      let there = subst (λ (t : Tables). BreakFirst t other) same said.1.fact in
+      inl (ap (λ (f : FormFault). IllFormed f) (form_unique bytes tables other fault built there first))
+  form_says (Shelf Failed) tables fault short built first said = absurd said
+  form_says (Shelf (TooLong seen)) tables fault short built first said = absurd (omega (arith, short, said.0))
+  form_says Usage tables fault short built first said = absurd said
+  form_says Memory tables fault short built first said = inr refl
+
+  pub broken_form : (outcome : Outcome) → IsAnswer name shelf old new outcome → (tables : Tables) (fault : FormFault) → length bytes ≤ 1048576 → AreBuiltTables bytes tables
+      → IsFirstBroken tables fault → IsOrMemory outcome (IllFormed fault)
+  broken_form outcome answer tables fault short built first = form_says outcome tables fault short built first (says outcome answer)
+
 -- ---- of tables and a script that are given
+
+-- a script is whole or has a fault
+whole_or_bad : (tables : Tables) (script : List ℕ) (events : List Event) (end : ℕ) (fault : ScriptFault) (others : List Event)
+    → IsWhole tables script events end → IsBad tables script fault others → ⊥
+whole_or_bad tables script events end fault others whole bad = cc
+
+same_fault : (line other : ℕ) (kind another : ScriptKind) (events others : List Event) → Bad line kind events ≡ Bad other another others → (line ≡ other) × (kind ≡ another)
+same_fault line other kind another events others e = (cc, cc)
+
+-- it has one first fault
+one_bad : (tables : Tables) (script : List ℕ) (fault other : ScriptFault) (events others : List Event)
+    → IsBad tables script fault events → IsBad tables script other others → fault ≡ other
+one_bad tables script fault other events others bad also =
+    let same = same_fault fault.line other.line fault.kind other.kind events others (sym bad ∙ also) in
+    let make : ℕ → ScriptKind → ScriptFault = λ line kind. record { line = line; kind = kind } in
+    ap (λ (line : ℕ). make line fault.kind) same.0 ∙ ap (λ (kind : ScriptKind). make other.line kind) same.1
 
 module _ (name : Option (List ℕ)) (shelf : Files) (old new : Streams) (tables : Tables) (script : List ℕ)
     (ready : IsReady name shelf.holds shelf.before shelf.after old.rest tables script) where
@@ -164,37 +232,54 @@ module _ (name : Option (List ℕ)) (shelf : Files) (old new : Streams) (tables 
 
   played : (outcome : Outcome) → HasTables ready.bytes (λ others. IsPlayed others old new outcome) → IsPlayed tables old new outcome
   played outcome has =
-      subst (λ (others : Tables). IsPlayed others old new outcome) (tables_unique ready.bytes has.tables tables has.compiled ready.compiled) has.fact
+      subst (λ (others : Tables). IsPlayed others old new outcome) (tables_unique ready.bytes has.tables tables has.compiled.compiled.source ready.compiled.compiled.source) has.fact
+
+  -- they break no form rule
+  formed : (fault : FormFault) → HasBuiltTables ready.bytes (λ others. BreakFirst others fault) → ⊥
+  formed fault has =
+      let same : has.tables ≡ tables = tables_unique ready.bytes has.tables tables has.compiled.source ready.compiled.compiled.source in
+      let there = (subst (λ (t : Tables). BreakFirst t fault) same has.fact).broken in
+      ready.compiled.formed there.law (site_of fault there.part) fault.have fault.need there.broken
 
   whole_in : (events : List Event) (end : ℕ) → IfSome old.rest (λ bytes. IsWhole tables bytes events end) → IsWhole tables script events end
   whole_in events end is = subst (λ (rest : Option (List ℕ)). IfSome rest (λ bytes. IsWhole tables bytes events end)) ready.input is
 
-  -- the script isn't whole
-  bad_says : (outcome : Outcome) → IsNotWhole tables script → (Rose old.read_faults new.read_faults → ⊥) → Says ready.bytes old new outcome → IsOrMemory outcome (Script not_built)
-  bad_says Done bad quiet said = let run = played Done said.1 in absurd (bad run.events run.end (whole_in run.events run.end run.script))
-  bad_says (Script fault) bad quiet said = inl (ap (λ (f : ScriptFault). Script f) (played (Script fault) said.1).0)
-  bad_says Read bad quiet said = absurd (quiet (played Read said.1).0)
-  bad_says Write bad quiet said = let cut = (played Write said.1).1 in absurd (bad cut.events cut.end (whole_in cut.events cut.end cut.script))
-  bad_says (Source fault) bad quiet said = absurd (tables_or_fault ready.bytes tables fault ready.compiled said.1)
-  bad_says (Shelf Failed) bad quiet said = absurd said
-  bad_says (Shelf (TooLong seen)) bad quiet said = absurd (omega (arith, ready.short, said.0))
-  bad_says Usage bad quiet said = absurd said
-  bad_says Memory bad quiet said = inr refl
+  bad_in : (fault : ScriptFault) (events : List Event) → IfSome old.rest (λ bytes. IsBad tables bytes fault events) → IsBad tables script fault events
+  bad_in fault events is = subst (λ (rest : Option (List ℕ)). IfSome rest (λ bytes. IsBad tables bytes fault events)) ready.input is
 
-  pub bad_script : (outcome : Outcome) → IsAnswer name shelf old new outcome → IsNotWhole tables script → (Rose old.read_faults new.read_faults → ⊥)
-      → IsOrMemory outcome (Script not_built)
-  bad_script outcome answer bad quiet = bad_says outcome bad quiet (ready_says outcome answer)
+  -- the script has a fault
+  bad_says : (outcome : Outcome) (fault : ScriptFault) (events : List Event) → IsBad tables script fault events → (Rose old.read_faults new.read_faults → ⊥)
+      → (Rose old.write_faults new.write_faults → ⊥) → Says ready.bytes old new outcome → IsOrMemory outcome (Script fault)
+  bad_says Done fault events bad quiet still said =
+      let run = played Done said.1 in
+      absurd (whole_or_bad tables script run.events run.end fault events (whole_in run.events run.end run.script) bad)
+  bad_says (Script other) fault events bad quiet still said =
+      let faulty = played (Script other) said.1 in
+      inl (ap (λ (f : ScriptFault). Script f) (one_bad tables script other fault faulty.events events (bad_in other faulty.events faulty.script) bad))
+  bad_says Read fault events bad quiet still said = absurd (quiet (played Read said.1).0)
+  bad_says Write fault events bad quiet still said = absurd (still (played Write said.1).0)
+  bad_says (Source other) fault events bad quiet still said = absurd (tables_or_fault ready.bytes tables other ready.compiled.compiled said.1)
+  bad_says (IllFormed other) fault events bad quiet still said = absurd (formed other said.1)
+  bad_says (Shelf Failed) fault events bad quiet still said = absurd said
+  bad_says (Shelf (TooLong seen)) fault events bad quiet still said = absurd (omega (arith, ready.short, said.0))
+  bad_says Usage fault events bad quiet still said = absurd said
+  bad_says Memory fault events bad quiet still said = inr refl
+
+  pub bad_script : (outcome : Outcome) → IsAnswer name shelf old new outcome → (fault : ScriptFault) (events : List Event) → IsBad tables script fault events
+      → (Rose old.read_faults new.read_faults → ⊥) → (Rose old.write_faults new.write_faults → ⊥) → IsOrMemory outcome (Script fault)
+  bad_script outcome answer fault events bad quiet still = bad_says outcome fault events bad quiet still (ready_says outcome answer)
 
   -- the script is whole
   whole_says : (outcome : Outcome) (events : List Event) (end : ℕ) → IsWhole tables script events end → (Rose old.read_faults new.read_faults → ⊥)
       → (Rose old.write_faults new.write_faults → ⊥) → Says ready.bytes old new outcome → IsOrMemory outcome Done
   whole_says Done events end whole quiet still said = inl refl
   whole_says (Script fault) events end whole quiet still said =
-      let bad : IsNotWhole tables script = subst (λ (rest : Option (List ℕ)). IfSome rest (IsNotWhole tables)) ready.input (played (Script fault) said.1).1 in
-      absurd (bad events end whole)
+      let faulty = played (Script fault) said.1 in
+      absurd (whole_or_bad tables script events end fault faulty.events whole (bad_in fault faulty.events faulty.script))
   whole_says Read events end whole quiet still said = absurd (quiet (played Read said.1).0)
   whole_says Write events end whole quiet still said = absurd (still (played Write said.1).0)
-  whole_says (Source fault) events end whole quiet still said = absurd (tables_or_fault ready.bytes tables fault ready.compiled said.1)
+  whole_says (Source fault) events end whole quiet still said = absurd (tables_or_fault ready.bytes tables fault ready.compiled.compiled said.1)
+  whole_says (IllFormed fault) events end whole quiet still said = absurd (formed fault said.1)
   whole_says (Shelf Failed) events end whole quiet still said = absurd said
   whole_says (Shelf (TooLong seen)) events end whole quiet still said = absurd (omega (arith, ready.short, said.0))
   whole_says Usage events end whole quiet still said = absurd said
@@ -222,6 +307,7 @@ module _ (name : Option (List ℕ)) (shelf : Files) (old new : Streams) where
   unread (Shelf Failed) answer early = answer.1.rest
   unread (Shelf (TooLong seen)) answer early = answer.1.rest
   unread (Source fault) answer early = answer.1.rest
+  unread (IllFormed fault) answer early = answer.1.rest
   unread Done answer early = absurd early
   unread (Script fault) answer early = absurd early
   unread Read answer early = absurd early
@@ -233,10 +319,11 @@ module _ (name : Option (List ℕ)) (shelf : Files) (old new : Streams) where
   unwritten (Shelf Failed) answer early = answer.1.written
   unwritten (Shelf (TooLong seen)) answer early = answer.1.written
   unwritten (Source fault) answer early = answer.1.written
-  unwritten (Script fault) answer early = answer.has_tables.fact.2
+  unwritten (IllFormed fault) answer early = answer.1.written
   unwritten Read answer early = answer.has_tables.fact.1
   unwritten Memory answer early = answer.1
   unwritten Done answer early = absurd early
+  unwritten (Script fault) answer early = absurd early
   unwritten Write answer early = absurd early
 
   module _ (outcome : Outcome) (answer : IsAnswer name shelf old new outcome) where
@@ -255,13 +342,11 @@ module _ (name : Option (List ℕ)) (shelf : Files) (old new : Streams) where
     pub source : (fault : SourceFault) → outcome ≡ Source fault → IsFaultySource name shelf.holds fault
     source fault e = (at (Source fault) e).0
 
-    pub script : (fault : ScriptFault) → outcome ≡ Script fault
-        → (fault ≡ not_built) × IsProgram name shelf.holds (λ tables. IfSome old.rest (IsNotWhole tables))
-    script fault e = (
-      (at (Script fault) e).has_tables.fact.0,
-      IsProgram-map name shelf.holds (λ tables. IsPlayed tables old new (Script fault)) (λ tables. IfSome old.rest (IsNotWhole tables))
-          (λ tables played. played.1) (at (Script fault) e),
-    )
+    pub ill_formed : (fault : FormFault) → outcome ≡ IllFormed fault → IsIllFormed name shelf.holds fault
+    ill_formed fault e = (at (IllFormed fault) e).0
+
+    pub script : (fault : ScriptFault) → outcome ≡ Script fault → IsProgram name shelf.holds (λ tables. IsFaulty tables old.rest old.written new.written fault)
+    script fault e = at (Script fault) e
 
     pub read : outcome ≡ Read → Rose old.read_faults new.read_faults × IsProgram name shelf.holds (λ tables. Unit {0})
     read e = (
@@ -281,3 +366,55 @@ module _ (name : Option (List ℕ)) (shelf : Files) (old new : Streams) where
 
     pub memory : outcome ≡ Memory → new.written ≡ old.written
     memory e = (at Memory e).1
+
+-- ---- what tells of the answer
+
+-- running tables breaks no form rule
+pub SpeaksOf-played : (HasSource : (Tables → Type 0) → Type 0) (tables : Tables) (old new : Streams) (outcome : Outcome) (told : Option Tables)
+    → IsPlayed tables old new outcome → SpeaksOf HasSource outcome told
+SpeaksOf-played HasSource tables old new Done told played = tt
+SpeaksOf-played HasSource tables old new Usage told played = tt
+SpeaksOf-played HasSource tables old new (Source fault) told played = tt
+SpeaksOf-played HasSource tables old new (IllFormed fault) told played = absurd played
+SpeaksOf-played HasSource tables old new (Script fault) told played = tt
+SpeaksOf-played HasSource tables old new (Shelf cause) told played = tt
+SpeaksOf-played HasSource tables old new Read told played = tt
+SpeaksOf-played HasSource tables old new Write told played = tt
+SpeaksOf-played HasSource tables old new Memory told played = tt
+
+-- the source is that of the words
+pub SpeaksOf-source : (name : Option (List ℕ)) (holds : Option Holdings) (bytes : List ℕ) (outcome : Outcome) (told : Option Tables)
+    → IsSource name holds bytes → SpeaksOf (HasBuiltTables bytes) outcome told → SpeaksOf (IsBuiltProgram name holds) outcome told
+SpeaksOf-source name holds bytes Done told source speaks = tt
+SpeaksOf-source name holds bytes Usage told source speaks = tt
+SpeaksOf-source name holds bytes (Source fault) told source speaks = tt
+SpeaksOf-source name holds bytes (IllFormed fault) told source speaks = record { bytes = bytes; source = source; has_tables = speaks }
+SpeaksOf-source name holds bytes (Script fault) told source speaks = tt
+SpeaksOf-source name holds bytes (Shelf cause) told source speaks = tt
+SpeaksOf-source name holds bytes Read told source speaks = tt
+SpeaksOf-source name holds bytes Write told source speaks = tt
+SpeaksOf-source name holds bytes Memory told source speaks = tt
+
+IsBuiltProgram-map : (name : Option (List ℕ)) (holds : Option Holdings) (Fact Other : Tables → Type 0) → ((tables : Tables) → Fact tables → Other tables)
+    → IsBuiltProgram name holds Fact → IsBuiltProgram name holds Other
+IsBuiltProgram-map name holds Fact Other f program =
+    let has = program.has_tables in
+    record {
+      bytes = program.bytes;
+      source = program.source;
+      has_tables = record { tables = has.tables; compiled = has.compiled; fact = f has.tables has.fact };
+    }
+
+pub IsLineTold-report : (name : Option (List ℕ)) (holds : Option Holdings) (Told : List ℕ → Type 0) (outcome : Outcome) (tables : Option Tables)
+    → SpeaksOf (IsBuiltProgram name holds) outcome tables → Told (fault_line tables outcome) → IsLineTold (IsBuiltProgram name holds) Told outcome
+IsLineTold-report name holds Told Done tables speaks told = told
+IsLineTold-report name holds Told Usage tables speaks told = told
+IsLineTold-report name holds Told (Source fault) tables speaks told = told
+IsLineTold-report name holds Told (IllFormed fault) tables speaks told =
+    IsBuiltProgram-map name holds (λ compiled. tables ≡ Some compiled) (λ compiled. Told (fault_line (Some compiled) (IllFormed fault)))
+    (λ compiled same. subst (λ (o : Option Tables). Told (fault_line o (IllFormed fault))) same told) speaks
+IsLineTold-report name holds Told (Script fault) tables speaks told = told
+IsLineTold-report name holds Told (Shelf cause) tables speaks told = told
+IsLineTold-report name holds Told Read tables speaks told = told
+IsLineTold-report name holds Told Write tables speaks told = told
+IsLineTold-report name holds Told Memory tables speaks told = told

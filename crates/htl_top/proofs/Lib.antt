@@ -1,21 +1,16 @@
 pub mod Answering
-pub mod Choices
+mod FaultRows
 pub mod Fixtures
-pub mod Items
-pub mod Modules
-pub mod NameKeys
-pub mod Naming
+pub mod PlainTables
 pub mod PlainTrees
 pub mod Putting
 pub mod Reading
 pub mod Rounds
-pub mod Ruling
 pub mod Scanning
 pub mod Scripts
-pub mod Selecting
 pub mod Showing
+pub mod SmallTrees
 pub mod SourceLaws
-mod SourceRows
-pub mod Starting
-pub mod TableRanges
+pub mod TokenPlaces
+mod UnbuiltRows
 pub mod Values

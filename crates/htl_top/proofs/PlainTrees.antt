@@ -1,5 +1,5 @@
--- Where no token begins a form that isn't built, the tree is one program without tasks and with empty modes.
-use Rattle.std.proofs.Common.{◌≡◌, ℕ, zero, suc, ◌+◌, Bool, true, false, ◌||◌, ◌&&◌, List, [], ◌∷◌, slice_get, Option, Some, None, refl, ap, ◌∙◌, subst, arith}
+-- Where no token begins a form that isn't built, no module of the tree has a task and all modes are empty.
+use Rattle.std.proofs.Common.{◌≡◌, ℕ, suc, ◌+◌, ◌-◌, Bool, true, false, ◌||◌, ◌&&◌, ℤ, List, [], ◌∷◌, slice_get, Option, Some, None, refl, sym, ap, ◌∙◌, subst, arith}
 use Rattle.std.specs.Prelude.{nat_lt}
 use Rattle.std.proofs.lemmas.Bool.Decides.{nat_tests}
 use Rattle.htl_base.specs.declared.Ty.{Ty}
@@ -7,6 +7,7 @@ use Rattle.htl_text.specs.Placed.{Placed, Put, numbered}
 use Rattle.htl_text.specs.Nodes.{PlainTask, PlainSwitch, PlainMode, PlainModule, PlainProgram}
 use Rattle.htl_text.specs.Statements.{SpellsEach, no_other, another, SpellsClause, absent, present, SpellsType, int, bool, SpellsConst, positive, negative, true_word, false_word, SpellsComm, communicator, sensor, SpellsTask, concrete, abstract_task, SpellsPort, port, SpellsInvoke, invoke, SpellsSwitch, switch, SpellsMode, mode, SpellsModule, a_module, SpellsProgram, program, SpellsSource, source}
 use Rattle.htl_text.specs.declared.token.Token.{Token}
+use Rattle.htl_text.specs.declared.token.Token.TheVariants as token
 use Rattle.htl_text.specs.declared.token.Word.TheVariants as word
 use Rattle.htl_text.specs.declared.tree.Id.{Id}
 use Rattle.htl_text.specs.declared.tree.CommNode.{CommNode}
@@ -14,12 +15,18 @@ use Rattle.htl_text.specs.declared.tree.ConstNode.{ConstNode}
 use Rattle.htl_text.specs.declared.tree.InvokeNode.{InvokeNode}
 use Rattle.htl_text.specs.declared.tree.ParamNode.{ParamNode}
 use Rattle.htl_parse.specs.Answers.{Spell}
-use Rattle.htl_top.specs.Unbuilt.{begins_unbuilt, is_program, AllBuilt}
+use Rattle.htl_names.proofs.Members.{Each}
+use Rattle.htl_top.specs.Unbuilt.{begins_unbuilt, is_program, is_number, holds_number, is_behind_number, is_unbuilt, AllBuilt}
 
--- none of the tokens begins a form that isn't built, or is `program`
+-- the first of the tokens is no `program` behind a number
+abbrev IsNoHead : Token → List Placed → Type 0
+IsNoHead t [] = Unit {0}
+IsNoHead t (Put k u ∷ us) = (is_number t && is_program u) ≡ false
+
+-- none of the tokens begins a form that isn't built
 abbrev pub IsBuilt : List Placed → Type 0
 IsBuilt [] = Unit {0}
-IsBuilt (Put k t ∷ ts) = ((begins_unbuilt t || is_program t) ≡ false) × IsBuilt ts
+IsBuilt (Put k t ∷ ts) = ((begins_unbuilt t ≡ false) × IsNoHead t ts) × IsBuilt ts
 
 -- ---- what follows an item
 
@@ -44,20 +51,17 @@ comms_rest (another c cs) h = comms_rest cs (comm_rest c h)
 -- ---- nothing of what isn't built
 
 task_none : {ts rest : List Placed} {t : PlainTask} → SpellsTask ts t rest → IsBuilt ts → ⊥
-task_none (concrete ins outs) h = let begins = h.0 in cc
-task_none (abstract_task ins outs) h = let begins = h.0 in cc
+task_none (concrete ins outs) h = let begins = h.0.0 in cc
+task_none (abstract_task ins outs) h = let begins = h.0.0 in cc
 
 port_none : {ts rest : List Placed} {p : ParamNode} → SpellsPort ts p rest → IsBuilt ts → ⊥
-port_none (port p) h = let begins = h.0 in cc
+port_none (port p) h = let begins = h.0.0 in cc
 
 invoke_none : {ts rest : List Placed} {i : InvokeNode} → SpellsInvoke ts i rest → IsBuilt ts → ⊥
-invoke_none (invoke reads writes parent) h = let begins = h.0 in cc
+invoke_none (invoke reads writes parent) h = let begins = h.0.0 in cc
 
 switch_none : {ts rest : List Placed} {s : PlainSwitch} → SpellsSwitch ts s rest → IsBuilt ts → ⊥
-switch_none (switch e) h = let begins = h.0 in cc
-
-program_none : {ts rest : List Placed} {p : PlainProgram} → SpellsProgram ts p rest → IsBuilt ts → ⊥
-program_none (program comms modules) h = let begins = h.0 in cc
+switch_none (switch e) h = let begins = h.0.0 in cc
 
 -- so none is listed
 record Nothing {X : Type 0} (ts rest : List Placed) (xs : List X) : Type 0 where
@@ -69,9 +73,10 @@ none_listed : {X : Type 0} {Item : List Placed → X → List Placed → Type 0}
 none_listed none no_other h = record { empty = refl; left = h }
 none_listed none (another {ts} {us} {rest} {x} {xs} one more) h = absurd (none ts us x one h)
 
-clause_none : {ts rest : List Placed} {o : Option Id} → SpellsClause word.Program ts o rest → IsBuilt ts → (o ≡ None) × IsBuilt rest
-clause_none absent h = (refl, h)
-clause_none present h = let begins = h.0 in absurd cc
+-- behind a number no program is named
+clause_none : {ts rest : List Placed} {o : Option Id} (x : ℤ) → SpellsClause word.Program ts o rest → IsNoHead (token.Number x) ts → IsBuilt ts → (o ≡ None) × IsBuilt rest
+clause_none x absent head h = (refl, h)
+clause_none x present head h = absurd (let no : true ≡ false = head in cc)
 
 -- ---- plain trees
 
@@ -85,85 +90,94 @@ pub record IsEmpty (m : PlainMode) : Type 0 where
 -- a module without tasks, whose modes are empty
 pub record IsPlainModule (x : PlainModule) : Type 0 where
   pub tasks : x.tasks ≡ []
-  pub modes : (k : ℕ) (m : PlainMode) → slice_get x.modes k ≡ Some m → IsEmpty m
+  pub modes : Each IsEmpty x.modes
+
+abbrev pub IsPlainProgram : PlainProgram → Type 0
+IsPlainProgram p = Each IsPlainModule p.modules
 
 mode_empty : {ts rest : List Placed} {m : PlainMode} → SpellsMode ts m rest → IsBuilt ts → IsEmpty m × IsBuilt rest
-mode_empty (mode clause ports invokes switches) h =
-    let refined = clause_none clause h.1.1.1.1 in
+mode_empty (mode {ts} {us} {vs} {ws} {rest} {n} {x} clause ports invokes switches) h =
+    let refined = clause_none x clause h.1.1.1.0.1 h.1.1.1.1 in
     let p = none_listed (λ us vs x. port_none) ports refined.1.1 in
     let i = none_listed (λ us vs x. invoke_none) invokes p.left in
     let s = none_listed (λ us vs x. switch_none) switches i.left in
     (record { program = refined.0; ports = p.empty; invokes = i.empty; switches = s.empty }, s.left.1)
 
-modes_empty : {ts rest : List Placed} {ms : List PlainMode} → SpellsEach SpellsMode ts ms rest → IsBuilt ts
-    → ((k : ℕ) (m : PlainMode) → slice_get ms k ≡ Some m → IsEmpty m) × IsBuilt rest
-modes_empty no_other h = (λ k m e. absurd cc, h)
-modes_empty (another {x} {xs} one more) h =
-    let first = mode_empty one h in
-    let others = modes_empty more first.1 in
-    (λ k m e. at k m e first.0 others.0, others.1)
-  where
-    at : (k : ℕ) (m : PlainMode) → slice_get (x ∷ xs) k ≡ Some m → IsEmpty x → ((k : ℕ) (m : PlainMode) → slice_get xs k ≡ Some m → IsEmpty m) → IsEmpty m
-    at zero m e first others = let same : x ≡ m = cc in subst IsEmpty same first
-    at (suc k) m e first others = others k m e
+-- what holds of an item holds of each that is listed
+each_listed : {X : Type 0} {Item : List Placed → X → List Placed → Type 0} {P : X → Type 0} {ts rest : List Placed} {xs : List X}
+    → ((us vs : List Placed) (x : X) → Item us x vs → IsBuilt us → P x × IsBuilt vs) → SpellsEach Item ts xs rest → IsBuilt ts → Each P xs × IsBuilt rest
+each_listed of no_other h = (tt, h)
+each_listed of (another {ts} {us} {rest} {x} {xs} one more) h =
+    let first = of ts us x one h in
+    let others = each_listed of more first.1 in
+    ((first.0, others.0), others.1)
 
 module_plain : {ts rest : List Placed} {x : PlainModule} → SpellsModule ts x rest → IsBuilt ts → IsPlainModule x × IsBuilt rest
 module_plain (a_module tasks modes) h =
     let t = none_listed (λ us vs x. task_none) tasks h.1.1.1.1.1 in
-    let m = modes_empty modes t.left in
+    let m = each_listed (λ us vs x. mode_empty) modes t.left in
     (record { tasks = t.empty; modes = m.0 }, m.1.1)
 
-modules_plain : {ts rest : List Placed} {xs : List PlainModule} → SpellsEach SpellsModule ts xs rest → IsBuilt ts
-    → ((k : ℕ) (x : PlainModule) → slice_get xs k ≡ Some x → IsPlainModule x) × IsBuilt rest
-modules_plain no_other h = (λ k m e. absurd cc, h)
-modules_plain (another {x} {xs} one more) h =
-    let first = module_plain one h in
-    let others = modules_plain more first.1 in
-    (λ k m e. at k m e first.0 others.0, others.1)
-  where
-    at : (k : ℕ) (m : PlainModule) → slice_get (x ∷ xs) k ≡ Some m → IsPlainModule x → ((k : ℕ) (m : PlainModule) → slice_get xs k ≡ Some m → IsPlainModule m) → IsPlainModule m
-    at zero m e first others = let same : x ≡ m = cc in subst IsPlainModule same first
-    at (suc k) m e first others = others k m e
-
--- the tokens behind the first one
-abbrev IsBuiltBehind : List Placed → Type 0
-IsBuiltBehind [] = Unit {0}
-IsBuiltBehind (t ∷ ts) = IsBuilt ts
-
-program_plain : {ts rest : List Placed} {p : PlainProgram} → SpellsProgram ts p rest → IsBuiltBehind ts
-    → ((k : ℕ) (x : PlainModule) → slice_get p.modules k ≡ Some x → IsPlainModule x) × IsBuilt rest
+program_plain : {ts rest : List Placed} {p : PlainProgram} → SpellsProgram ts p rest → IsBuilt ts → IsPlainProgram p × IsBuilt rest
 program_plain (program comms modules) h =
-    let m = modules_plain modules (comms_rest comms h.1.1) in
+    let m = each_listed (λ us vs x. module_plain) modules (comms_rest comms h.1.1.1) in
     (m.0, m.1.1)
 
--- one program, each of whose modules is plain
-pub record IsPlainTree (ps : List PlainProgram) : Type 0 where
-  pub program : PlainProgram
-  pub only : ps ≡ program ∷ []
-  pub modules : (k : ℕ) (x : PlainModule) → slice_get program.modules k ≡ Some x → IsPlainModule x
-
-source_plain : {ts rest : List Placed} {ps : List PlainProgram} → SpellsSource ts ps rest → IsBuiltBehind ts → IsPlainTree ps
-source_plain (source {p} one more) h =
+source_plain : {ts rest : List Placed} {ps : List PlainProgram} → SpellsSource ts ps rest → IsBuilt ts → Each IsPlainProgram ps
+source_plain (source one more) h =
     let first = program_plain one h in
-    let others = none_listed (λ us vs x. program_none) more first.1 in
-    record { program = p; only = ap (λ qs. p ∷ qs) others.empty; modules = first.0 }
+    (first.0, (each_listed (λ us vs x. program_plain) more first.1).0)
 
 -- ---- the tokens of a source
 
-behind : (n : ℕ) (ts : List Token) → ((k : ℕ) (t : Token) → slice_get ts k ≡ Some t → (begins_unbuilt t || is_program t) ≡ false) → IsBuilt (numbered n ts)
-behind n [] h = tt
-behind n (t ∷ ts) h = (h 0 t refl, behind (n + 1) ts (λ k u e. h (suc k) u e))
+not_true : (b : Bool) → (b ≡ true → ⊥) → b ≡ false
+not_true false h = refl
+not_true true h = absurd (h refl)
 
-all_behind : (ts : List Token) → AllBuilt ts → IsBuiltBehind (numbered 0 ts)
-all_behind [] built = tt
-all_behind (t ∷ ts) built = behind (0 + 1) ts (λ k u e. by u k (begins_unbuilt u || is_program u) refl (λ bad. built (suc k) (u, e, ap (λ b. begins_unbuilt u || (b && is_program u)) (later k) ∙ bad)))
+or_left : (a b : Bool) → (a || b) ≡ false → a ≡ false
+or_left false b e = refl
+or_left true b e = e
+
+or_right : (a b : Bool) → (a || b) ≡ false → b ≡ false
+or_right false b e = e
+or_right true b e = absurd (let no : true ≡ false = e in cc)
+
+turned : (a b : Bool) → (a && b) ≡ false → (b && a) ≡ false
+turned false false e = refl
+turned false true e = refl
+turned true false e = refl
+turned true true e = e
+
+-- the token at a place begins nothing unbuilt, and the next is no `program` behind it
+placed : (n k : ℕ) (all ts : List Token) → ((j : ℕ) (t : Token) → slice_get ts j ≡ Some t → slice_get all (k + j) ≡ Some t) → AllBuilt all → IsBuilt (numbered n ts)
+placed n k all [] same built = tt
+placed n k all (t ∷ ts) same built =
+    ((or_left (begins_unbuilt t) (is_program t && is_behind_number all (k + 0)) here, head ts same), placed (n + 1) (suc k) all ts later built)
   where
-    later : (k : ℕ) → nat_lt 0 (suc k) ≡ true
-    later k = grind (arith, nat_tests)
+    none : (j : ℕ) (u : Token) → slice_get all j ≡ Some u → is_unbuilt all j u ≡ false
+    none j u e = not_true (is_unbuilt all j u) (λ bad. built j (u, e, bad))
 
-    by : (u : Token) (k : ℕ) (b : Bool) → (begins_unbuilt u || is_program u) ≡ b → ((begins_unbuilt u || is_program u) ≡ true → ⊥) → (begins_unbuilt u || is_program u) ≡ false
-    by u k false e h = e
-    by u k true e h = absurd (h e)
+    here : is_unbuilt all (k + 0) t ≡ false
+    here = none (k + 0) t (same 0 t refl)
 
-pub plain_tree : (ts : List Token) (ps : List PlainProgram) → AllBuilt ts → Spell ts ps → IsPlainTree ps
-plain_tree ts ps built spelled = source_plain spelled (all_behind ts built)
+    later : (j : ℕ) (u : Token) → slice_get ts j ≡ Some u → slice_get all (suc k + j) ≡ Some u
+    later j u e = let step : k + suc j ≡ suc k + j = omega arith in subst (λ (i : ℕ). slice_get all i ≡ Some u) step (same (suc j) u e)
+
+    behind : (j : ℕ) → j ≡ suc (k + 0) → is_behind_number all j ≡ is_number t
+    behind j e =
+        let back : j - 1 ≡ k + 0 = omega (arith, e) in
+        let some : nat_lt 0 j ≡ true = grind (arith, nat_tests) in
+        ap (λ b. b && holds_number (slice_get all (j - 1))) some ∙ ap (λ (i : ℕ). holds_number (slice_get all i)) back ∙ ap holds_number (same 0 t refl)
+
+    head : (us : List Token) → ((j : ℕ) (u : Token) → slice_get (t ∷ us) j ≡ Some u → slice_get all (k + j) ≡ Some u) → IsNoHead t (numbered (n + 1) us)
+    head [] at = tt
+    head (u ∷ us) at =
+        let next : k + 1 ≡ suc (k + 0) = omega arith in
+        let bad = or_right (begins_unbuilt u) (is_program u && is_behind_number all (k + 1)) (none (k + 1) u (at 1 u refl)) in
+        turned (is_program u) (is_number t) (sym (ap (λ b. is_program u && b) (behind (k + 1) next)) ∙ bad)
+
+pub plain_tree : (ts : List Token) (ps : List PlainProgram) → AllBuilt ts → Spell ts ps → Each IsPlainProgram ps
+plain_tree ts ps built spelled = source_plain spelled (placed 0 0 ts ts (λ j t e. subst (λ (i : ℕ). slice_get ts i ≡ Some t) (zero_add j) e) built)
+  where
+    zero_add : (j : ℕ) → j ≡ 0 + j
+    zero_add j = omega arith

@@ -1,14 +1,17 @@
 -- Lines that are written one place after another.
-use Rattle.std.proofs.Common.{◌≡◌, ℕ, zero, suc, ◌≤◌, ◌<◌, false, cond, eqb, List, [], ◌∷◌, ◌++◌, length, Option, Some, Ok, Err, refl, sym, ap, ◌∙◌, subst, arith, append_assoc, append-nil, ◌⊎◌, inl, inr}
+use Rattle.std.proofs.Common.{◌≡◌, ℕ, zero, suc, ◌+◌, ◌≤◌, ◌<◌, false, cond, eqb, List, [], ◌∷◌, ◌++◌, length, Option, Some, Result, Ok, Err, refl, sym, ap, ◌∙◌, subst, arith, add-one, append_assoc, append-nil, ◌⊎◌, inl, inr}
 use Rattle.std.specs.Io.KnownBytes.{append_known}
 use Rattle.std.proofs.lemmas.Bool.Decides.{nat_tests}
 use Rattle.std.proofs.lemmas.Grind.{flat_map-append}
 use Rattle.std.proofs.lemmas.List.Concat.{flat_map-cons}
-use Rattle.htl_edge.specs.Content.{Puts}
-use Rattle.htl_edge.proofs.Puts.{append_known-start, append_known-more, Puts-failed}
+use Rattle.htl_edge.specs.Content.{AppendsPrefix, Puts}
+use Rattle.htl_edge.proofs.Puts.{append_known-start, append_known-more, Puts-failed, Puts-second}
 use Rattle.htl_model.specs.declared.line.Line.{Line}
 use Rattle.htl_model.specs.declared.line.Line.TheVariants.{ModeLine}
-use Rattle.htl_model.specs.Lines.{lines_text, line_text}
+use Rattle.htl_model.specs.Lines.{lines_text, line_text, lines_before_text}
+use Rattle.htl_model.specs.Meaning.{run_lines}
+use Rattle.htl_model.specs.declared.event.Event.{Event}
+use Rattle.htl_top.specs.Answers.{Tells}
 use Rattle.htl_model.specs.Lists.{up_to}
 use Rattle.htl_model.specs.Plain.{start_line}
 use Rattle.htl_model.specs.Tables.{Tables}
@@ -102,3 +105,24 @@ start_lines-later t at later =
     let e : eqb at 0 ≡ false = grind (arith, nat_tests) in
     up_to_none (λ k. start_line at k (start_of t k)) (length t.modules)
     (λ k. ap (λ b. cond b (ModeLine at k (Some (start_of t k)) ∷ []) []) e)
+
+-- the lines of all instants and then the totals
+pub Puts-run : {T E : Type 0} (t : Tables) (es : List Event) (end : ℕ) (totals : List ℕ) (old mid new : Option (List ℕ)) (before between now : ℕ) (result : Result T E)
+    → mid ≡ append_known old (lines_before_text t es (end + 1)) → before ≤ between → Puts mid new between now totals result
+    → Puts old new before now (lines_text t (run_lines t es end) ++ totals) result
+Puts-run t es end totals old mid new before between now result was later puts =
+    let lines : mid ≡ append_known old (lines_text t (run_lines t es end)) = was ∙ ap (λ (n : ℕ). append_known old (lines_before_text t es n)) (add-one end) in
+    Puts-second old mid new before between now (lines_text t (run_lines t es end)) totals result lines later puts
+
+-- the lines failed
+pub Puts-run_cut : {T S E F : Type 0} (t : Tables) (es : List Event) (end : ℕ) (totals : List ℕ) (old new : Option (List ℕ)) (before now : ℕ) (e : E) (f : F)
+    → Puts {T = S} old new before now (lines_before_text t es (end + 1)) (Err e) → Puts {T = T} old new before now (lines_text t (run_lines t es end) ++ totals) (Err f)
+Puts-run_cut {T = T} {S = S} {E = E} t es end totals old new before now e f puts =
+    let lines = subst (λ (n : ℕ). Puts {T = S} {E = E} old new before now (lines_before_text t es n) (Err e)) (add-one end) puts in
+    Puts-failed {T = T} old old new before before now [] (lines_text t (run_lines t es end)) totals e f (append_known-start old) (omega arith) lines
+
+-- what was put is told
+pub Tells-put : {T E : Type 0} (old new : Option (List ℕ)) (before now : ℕ) (text line : List ℕ) (result : Result T E) → text ≡ line → Puts old new before now text result
+    → Tells old new before now line
+Tells-put old new before now text line (Ok done) same puts = inl (puts.whole ∙ ap (λ (bs : List ℕ). append_known old bs) same)
+Tells-put old new before now text line (Err e) same puts = inr (puts.cause.refused, subst (λ (bs : List ℕ). AppendsPrefix old new bs) same puts.part)

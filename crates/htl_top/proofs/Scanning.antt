@@ -4,7 +4,7 @@ use Rattle.std.proofs.lemmas.Option.{slice_get_within, slice_get_read}
 use Rattle.htl_text.specs.declared.token.Token.{Token}
 use Rattle.htl_top.specs.Unbuilt.{is_unbuilt, UnbuiltAt, AllBuilt}
 
-pub scan_more : (ts : List Token) (k : ℕ) (t : Token) → k < length ts → t ≡ get_or ts k t → is_unbuilt k t ≡ false → ((j : ℕ) → j < k → UnbuiltAt ts j → ⊥)
+pub scan_more : (ts : List Token) (k : ℕ) (t : Token) → k < length ts → t ≡ get_or ts k t → is_unbuilt ts k t ≡ false → ((j : ℕ) → j < k → UnbuiltAt ts j → ⊥)
     → (j : ℕ) → j < k + 1 → UnbuiltAt ts j → ⊥
 scan_more ts k t below at built before j less bad = by j bad (upto j k less)
   where
@@ -16,7 +16,7 @@ scan_more ts k t below at built before j less bad = by j bad (upto j k less)
     by j bad (inr same) =
         let one : Some t ≡ Some bad.0 = sym (slice_get_read ts (length ts) k t refl below at) ∙ ap (slice_get ts) (sym same) ∙ bad.1 in
         let both : t ≡ bad.0 = cc in
-        let is : is_unbuilt k t ≡ is_unbuilt j bad.0 = ap (λ n. is_unbuilt n t) (sym same) ∙ ap (is_unbuilt j) both in
+        let is : is_unbuilt ts k t ≡ is_unbuilt ts j bad.0 = ap (λ n. is_unbuilt ts n t) (sym same) ∙ ap (is_unbuilt ts j) both in
         let test = bad.2 in
         absurd cc
 

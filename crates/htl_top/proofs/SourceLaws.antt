@@ -1,55 +1,45 @@
 -- The tables and the fault of a source.
-use Rattle.std.proofs.Common.{◌≡◌, ℕ, ◌<◌, ◌≤◌, ◌⊎◌, inl, inr, List, [], ◌∷◌, map, get_or, slice_get, Some, None, Result, Ok, Err, refl, sym, ◌∙◌, ap, subst, arith}
+use Rattle.std.proofs.Common.{◌≡◌, ℕ, List, slice_get, Some, refl, sym, ◌∙◌, ap, subst}
+use Rattle.htl_form.proofs.OneFault.{one_form_fault}
+use Rattle.htl_model.specs.Broken.{KeptTo, IsFirstBroken}
 use Rattle.htl_model.specs.Plain.{IsPlain}
 use Rattle.htl_model.specs.Ranges.{AreInRange}
 use Rattle.htl_model.specs.Tables.{Tables}
+use Rattle.htl_model.specs.declared.form_fault.FormFault.{FormFault}
+use Rattle.htl_names.proofs.OneFault.{one_name_fault}
+use Rattle.htl_names.specs.Flat.{tables_of_tree}
+use Rattle.htl_names.specs.NameRules.{IsFirstNameFault, AreNamesRight}
+use Rattle.htl_names.specs.declared.fault.NameFault.{NameFault}
+use Rattle.htl_names.specs.declared.fault.NameFault.TheVariants as name
+use Rattle.htl_parse.proofs.Firsts.{first-unique}
 use Rattle.htl_parse.proofs.Whole.{one_tree-law}
 use Rattle.htl_parse.specs.Answers.{Spell}
 use Rattle.htl_parse.specs.Runs.{IsLong, IsFirstLong}
 use Rattle.htl_text.proofs.FirstFault.{Tokens-sound, Faults-unique}
 use Rattle.htl_text.proofs.OneCut.{Tokens-unique}
-use Rattle.htl_text.specs.Nodes.{PlainProgram, program_of}
+use Rattle.htl_text.specs.Nodes.{PlainProgram}
 use Rattle.htl_text.specs.Placed.{numbered}
 use Rattle.htl_text.specs.Spans.{Tokens as IsTokens, Faults}
 use Rattle.htl_text.specs.TokenLists.{TokenList}
 use Rattle.htl_text.specs.declared.lexer.LexFault.{LexFault}
 use Rattle.htl_text.specs.declared.lexer.LexFault.TheVariants as lex
-use Rattle.htl_text.specs.declared.token.Token.{Token}
-use Rattle.htl_text.specs.declared.tree.ProgramNode.{ProgramNode}
-use Rattle.htl_top.specs.PlainTables.{tables_of_program}
-use Rattle.htl_top.specs.RuleChecks.{IsTabled}
-use Rattle.htl_top.specs.SourceRules.{RuleBroken}
-use Rattle.htl_top.specs.Sources.{Reads, BeginsAt, IsTablesOf, IsUnbuiltForm, IsSourceFault, IsRead}
+use Rattle.htl_top.specs.Sources.{Reads, BeginsAt, IsTablesOf, AreBuiltTables, CanRun, IsNameFaultOf, IsUnbuiltAt, IsSourceFault, BreakFirst}
 use Rattle.htl_top.specs.Unbuilt.{UnbuiltAt, FirstUnbuilt, AllBuilt}
 use Rattle.htl_top.specs.declared.source_fault.SourceFault.{SourceFault}
 use Rattle.htl_top.specs.declared.source_fault.SourceFault.TheVariants as fault
-use Rattle.htl_top.specs.declared.source.SourceStop.{SourceStop}
-use Rattle.htl_top.specs.declared.source.SourceStop.TheVariants as stop
+use Rattle.htl_top.proofs.PlainTables.{plain_tables, formed, few_rules}
 use Rattle.htl_top.proofs.PlainTrees.{plain_tree}
-use Rattle.htl_top.proofs.TableRanges.{sound, in_range, plain}
 
 -- ---- the parts of a source
 
--- all readings of a text have the same programs
-same_programs : (bytes : List ℕ) (t u : TokenList) (ps qs : List PlainProgram) → IsTokens bytes t → IsTokens bytes u → Spell t.tokens ps → Spell u.tokens qs → ps ≡ qs
+-- all readings of a text have the same tokens
+same_list : (bytes : List ℕ) (t u : TokenList) → Reads bytes t → Reads bytes u → u ≡ t
+same_list bytes t u one two = Tokens-unique bytes u t two.tokens one.tokens
+
+-- and the same programs
+same_programs : (bytes : List ℕ) (t u : TokenList) (ps qs : List PlainProgram) → Reads bytes t → Reads bytes u → Spell t.tokens ps → Spell u.tokens qs → ps ≡ qs
 same_programs bytes t u ps qs one two p q =
-    let same : u ≡ t = Tokens-unique bytes u t two one in
-    one_tree-law (numbered 0 t.tokens) ps qs p (subst (λ (v : TokenList). Spell v.tokens qs) same q)
-
-first_of_list : (p q : PlainProgram) → ◌≡◌ {A = List PlainProgram} (p ∷ []) (q ∷ []) → p ≡ q
-first_of_list p q e = cc
-
--- a number that is the first of its kind is the only one
-least : (P : ℕ → Type 0) (j k : ℕ) → P j → P k → ((i : ℕ) → i < j → P i → ⊥) → ((i : ℕ) → i < k → P i → ⊥) → j ≡ k
-least P j k p q first second = by (order j k) (order k j)
-  where
-    order : (j k : ℕ) → (j < k) ⊎ (k ≤ j)
-    order j k = grind arith
-
-    by : (j < k) ⊎ (k ≤ j) → (k < j) ⊎ (j ≤ k) → j ≡ k
-    by (inl less) other = absurd (second j less p)
-    by (inr le) (inl less) = absurd (first k less q)
-    by (inr le) (inr ge) = omega (arith, le, ge)
+    one_tree-law (numbered 0 t.tokens) ps qs p (subst (λ (v : TokenList). Spell v.tokens qs) (same_list bytes t u one two) q)
 
 begins_once : (t : TokenList) (j k a b : ℕ) → j ≡ k → BeginsAt t j a → BeginsAt t k b → a ≡ b
 begins_once t j k a b same p q =
@@ -60,87 +50,67 @@ begins_once t j k a b same p q =
 -- a source has one list of tables at most
 pub tables_unique : (bytes : List ℕ) (t u : Tables) → IsTablesOf bytes t → IsTablesOf bytes u → t ≡ u
 tables_unique bytes t u p q =
-    let programs = same_programs bytes p.list q.list (p.program ∷ []) (q.program ∷ []) p.reads.tokens q.reads.tokens p.spelled q.spelled in
-    p.is ∙ ap tables_of_program (first_of_list p.program q.program programs) ∙ sym q.is
+    p.is ∙ ap tables_of_tree (same_programs bytes p.list q.list p.programs q.programs p.reads q.reads p.spelled q.spelled) ∙ sym q.is
 
-pub tables_plain : (bytes : List ℕ) (t : Tables) → IsTablesOf bytes t → IsPlain t
-tables_plain bytes t p = subst IsPlain (sym p.is) (plain p.program (sound p.program p.unbroken))
+-- its own tokens begin no form that isn't built
+pub tables_built : (bytes : List ℕ) (t : Tables) (list : TokenList) (source : IsTablesOf bytes t) → source.list ≡ list → AllBuilt list.tokens → AreBuiltTables bytes t
+tables_built bytes t list source same built = record { source = source; built = subst (λ (l : TokenList). AllBuilt l.tokens) (sym same) built }
 
-pub tables_in_range : (bytes : List ℕ) (t : Tables) → IsTablesOf bytes t → AreInRange t
-tables_in_range bytes t p = subst AreInRange (sym p.is) (in_range p.program (sound p.program p.unbroken))
+pub tables_plain : (bytes : List ℕ) (t : Tables) → AreBuiltTables bytes t → AreInRange t → IsPlain t
+tables_plain bytes t p ranges = plain_tables p.source.programs (plain_tree p.source.list.tokens p.source.programs p.built p.source.spelled) t p.source.is ranges
 
--- a source has no tables where it has a fault
-pub tables_or_fault : (bytes : List ℕ) (t : Tables) (f : SourceFault) → IsTablesOf bytes t → IsSourceFault bytes f → ⊥
-tables_or_fault bytes t (fault.Char at) p q = Tokens-sound bytes p.list (lex.Char at) p.reads.tokens q
-tables_or_fault bytes t (fault.Number at) p q = Tokens-sound bytes p.list (lex.Number at) p.reads.tokens q
-tables_or_fault bytes t (fault.NameLong at) p q = Tokens-sound bytes p.list (lex.NameLong at) p.reads.tokens q
-tables_or_fault bytes t (fault.Long at) p q =
-    let same : q.0 ≡ p.list = Tokens-unique bytes q.0 p.list q.1 p.reads.tokens in
-    p.reads.short q.2 (subst (λ (v : TokenList). IsFirstLong v.tokens q.2) same q.3).long
-tables_or_fault bytes t fault.Syntax p q =
-    let same : p.list ≡ q.0 = Tokens-unique bytes p.list q.0 p.reads.tokens q.1.tokens in
-    q.2 (p.program ∷ []) (subst (λ (v : TokenList). Spell v.tokens (p.program ∷ [])) same p.spelled)
-tables_or_fault bytes t (fault.NotBuilt at) p q = by q.4
-  where
-    same : q.0 ≡ p.list
-    same = Tokens-unique bytes q.0 p.list q.1.tokens p.reads.tokens
+pub tables_run : (bytes : List ℕ) (t : Tables) → AreBuiltTables bytes t → AreInRange t → KeptTo t 12 → CanRun bytes t
+tables_run bytes t p ranges kept = record { compiled = p; formed = formed t (tables_plain bytes t p ranges) kept }
 
-    by : IsUnbuiltForm q.0 q.2 at → ⊥
-    by (inl form) = p.built form.0 (subst (λ (v : TokenList). FirstUnbuilt v.tokens form.0) same form.1).here
-    by (inr broken) =
-        let programs = same_programs bytes q.0 p.list q.2 (p.program ∷ []) q.1.tokens p.reads.tokens q.3 p.spelled in
-        let one = first_of_list broken.0 p.program (sym broken.1 ∙ programs) in
-        p.unbroken (subst RuleBroken one broken.3)
+-- tables that are in range have one first broken form rule
+pub form_unique : (bytes : List ℕ) (t : Tables) (f g : FormFault) → AreBuiltTables bytes t → BreakFirst t f → IsFirstBroken t g → f ≡ g
+form_unique bytes t f g p q r =
+    let plain = tables_plain bytes t p q.ranges in
+    one_form_fault t q.ranges f g (few_rules t f plain q.broken) (few_rules t g plain r) q.broken r
 
--- ---- what reading a tree finds
+-- ---- the stages of compiling
 
-only : (ps : List ProgramNode) (node : ProgramNode) (q : PlainProgram) → map program_of ps ≡ q ∷ [] → node ≡ get_or ps 0 node → map program_of ps ≡ program_of node ∷ []
-only [] node q e at = absurd cc
-only (x ∷ xs) node q e at =
-    let rest : map program_of xs ≡ [] = cc in
-    ap (λ ys. program_of x ∷ ys) rest ∙ ap (λ (n : ProgramNode). program_of n ∷ []) (sym at)
+-- a fault of a text, as one of a source
+abbrev of_text : LexFault → SourceFault
+of_text (lex.Char at) = fault.Char at
+of_text (lex.Number at) = fault.Number at
+of_text (lex.NameLong at) = fault.NameLong at
+of_text lex.Memory = fault.Syntax
 
--- where each form is built, the first program is the only one
-pub only_program : (tokens : List Token) (ps : List ProgramNode) (node : ProgramNode) → AllBuilt tokens → Spell tokens (map program_of ps) → node ≡ get_or ps 0 node
-    → map program_of ps ≡ program_of node ∷ []
-only_program tokens ps node built spelled at =
-    let tree = plain_tree tokens (map program_of ps) built spelled in
-    only ps node tree.program tree.only at
+-- a broken name rule, as a fault of a source with these tokens
+abbrev IsOfNames : TokenList → NameFault → SourceFault → Type 0
+IsOfNames t (name.Twice token) f = (at : ℕ) × BeginsAt t token at × (fault.Twice at ≡ f)
+IsOfNames t (name.Unknown token) f = (at : ℕ) × BeginsAt t token at × (fault.Unknown at ≡ f)
+IsOfNames t (name.Kind token) f = (at : ℕ) × BeginsAt t token at × (fault.Kind at ≡ f)
+IsOfNames t (name.NotATree program) f = fault.NotATree program ≡ f
+IsOfNames t (name.Limit which count) f = fault.Limit which count ≡ f
+IsOfNames t name.Memory f = ⊥
 
-pub tabled : (bytes : List ℕ) (t : TokenList) (ps : List PlainProgram) (p : PlainProgram) (tables : Tables) → Reads bytes t → Spell t.tokens ps → ps ≡ p ∷ [] → AllBuilt t.tokens
-    → IsTabled p (Some tables) → IsTablesOf bytes tables
-tabled bytes t ps p tables reads spelled one built told =
-    record {
-      list = t;
-      reads = reads;
-      program = p;
-      spelled = subst (λ (qs : List PlainProgram). Spell t.tokens qs) one spelled;
-      built = built;
-      unbroken = told.0;
-      is = told.1;
-    }
+-- the fault is found at one of these stages
+data Stage (bytes : List ℕ) (f : SourceFault) : Type 0 where
+  text : (l : LexFault) → Faults bytes l → of_text l ≡ f → Stage bytes f
+  long : (at : ℕ) → IsSourceFault bytes (fault.Long at) → fault.Long at ≡ f → Stage bytes f
+  tree : IsSourceFault bytes fault.Syntax → fault.Syntax ≡ f → Stage bytes f
+  names : (t : TokenList) (n : NameFault) → IsNameFaultOf bytes t n → IsOfNames t n f → Stage bytes f
+  form : (at : ℕ) → IsUnbuiltAt bytes at → fault.NotBuilt at ≡ f → Stage bytes f
 
-pub broken : (bytes : List ℕ) (t : TokenList) (ps : List PlainProgram) (p : PlainProgram) → Reads bytes t → Spell t.tokens ps → ps ≡ p ∷ [] → AllBuilt t.tokens → IsTabled p None
-    → IsSourceFault bytes (fault.NotBuilt 0)
-broken bytes t ps p reads spelled one built told = (t, reads, ps, spelled, inr (p, one, built, told, refl))
+stage : (bytes : List ℕ) (f : SourceFault) → IsSourceFault bytes f → Stage bytes f
+stage bytes (fault.Char at) p = text (lex.Char at) p refl
+stage bytes (fault.Number at) p = text (lex.Number at) p refl
+stage bytes (fault.NameLong at) p = text (lex.NameLong at) p refl
+stage bytes (fault.Long at) p = long at p refl
+stage bytes fault.Syntax p = tree p refl
+stage bytes (fault.Twice at) p = names p.0 (name.Twice p.1) p.2 (at, p.3, refl)
+stage bytes (fault.Unknown at) p = names p.0 (name.Unknown p.1) p.2 (at, p.3, refl)
+stage bytes (fault.Kind at) p = names p.0 (name.Kind p.1) p.2 (at, p.3, refl)
+stage bytes (fault.NotATree program) p = names p.0 (name.NotATree program) p.1 refl
+stage bytes (fault.Limit which count) p = names p.0 (name.Limit which count) p.1 refl
+stage bytes (fault.NotBuilt at) p = form at p refl
 
--- ---- one fault
+-- ---- two stages exclude each other
 
--- the faults of a text, as those of a source
-abbrev pub source_fault : LexFault → SourceFault
-source_fault (lex.Char at) = fault.Char at
-source_fault (lex.Number at) = fault.Number at
-source_fault (lex.NameLong at) = fault.NameLong at
-source_fault lex.Memory = fault.Syntax
-
-one_lexical : (bytes : List ℕ) (f g : LexFault) → Faults bytes f → Faults bytes g → source_fault f ≡ source_fault g
-one_lexical bytes f g p q = ap source_fault (Faults-unique bytes f g p q)
-
-one_long : (bytes : List ℕ) (a b : ℕ) → IsSourceFault bytes (fault.Long a) → IsSourceFault bytes (fault.Long b) → a ≡ b
-one_long bytes a b p q =
-    let same : q.0 ≡ p.0 = Tokens-unique bytes q.0 p.0 q.1 p.1 in
-    let second = subst (λ (v : TokenList). IsFirstLong v.tokens q.2 × BeginsAt v q.2 b) same (q.3, q.4) in
-    begins_once p.0 p.2 q.2 a b (least (IsLong p.0.tokens) p.2 q.2 p.3.long second.0.long p.3.first second.0.first) p.4 second.1
+no_text : (bytes : List ℕ) (f : LexFault) (t : TokenList) → Faults bytes f → IsTokens bytes t → ⊥
+no_text bytes f t p q = Tokens-sound bytes t f q p
 
 no_long : (bytes : List ℕ) (a : ℕ) (t : TokenList) → IsSourceFault bytes (fault.Long a) → Reads bytes t → ⊥
 no_long bytes a t p reads =
@@ -152,72 +122,81 @@ no_syntax bytes t ps p reads spelled =
     let same : t ≡ p.0 = Tokens-unique bytes t p.0 reads.tokens p.1.tokens in
     p.2 ps (subst (λ (v : TokenList). Spell v.tokens ps) same spelled)
 
-one_unbuilt : (bytes : List ℕ) (a b : ℕ) → IsSourceFault bytes (fault.NotBuilt a) → IsSourceFault bytes (fault.NotBuilt b) → a ≡ b
-one_unbuilt bytes a b p q = by p.4 (subst (λ (v : TokenList). IsUnbuiltForm v q.2 b) same q.4)
+no_names : (bytes : List ℕ) (t u : TokenList) (n : NameFault) (ps : List PlainProgram) → IsNameFaultOf bytes t n → Reads bytes u → Spell u.tokens ps → AreNamesRight ps → ⊥
+no_names bytes t u n ps p reads spelled right =
+    let first = subst (λ (qs : List PlainProgram). IsFirstNameFault qs n) (same_programs bytes t u p.programs ps p.reads reads p.spelled spelled) p.first in
+    right first.rule first.place n first.broken
+
+no_form : (bytes : List ℕ) (a : ℕ) (t : TokenList) → IsUnbuiltAt bytes a → Reads bytes t → AllBuilt t.tokens → ⊥
+no_form bytes a t p reads built =
+    built p.token (subst (λ (v : TokenList). FirstUnbuilt v.tokens p.token) (same_list bytes t p.list reads p.reads) p.unbuilt).here
+
+-- a source whose forms are all built has no fault where it has tables
+pub tables_or_fault : (bytes : List ℕ) (t : Tables) (f : SourceFault) → AreBuiltTables bytes t → IsSourceFault bytes f → ⊥
+tables_or_fault bytes t f p q = by (stage bytes f q)
   where
-    same : q.0 ≡ p.0
-    same = Tokens-unique bytes q.0 p.0 q.1.tokens p.1.tokens
+    by : Stage bytes f → ⊥
+    by (text l faults e) = no_text bytes l p.source.list faults p.source.reads.tokens
+    by (long at is e) = no_long bytes at p.source.list is p.source.reads
+    by (tree is e) = no_syntax bytes p.source.list p.source.programs is p.source.reads p.source.spelled
+    by (names u n is e) = no_names bytes u p.source.list n p.source.programs is p.source.reads p.source.spelled p.source.named
+    by (form at is e) = no_form bytes at p.source.list is p.source.reads p.built
 
-    by : IsUnbuiltForm p.0 p.2 a → IsUnbuiltForm p.0 q.2 b → a ≡ b
-    by (inl f) (inl g) = begins_once p.0 f.0 g.0 a b (least (UnbuiltAt p.0.tokens) f.0 g.0 f.1.here g.1.here f.1.first g.1.first) f.2 g.2
-    by (inl f) (inr g) = absurd (g.2 f.0 f.1.here)
-    by (inr f) (inl g) = absurd (f.2 g.0 g.1.here)
-    by (inr f) (inr g) = f.4 ∙ sym g.4
+-- ---- at one stage there is one fault
 
--- the tokens of a source whose fault is not in them
-late : (bytes : List ℕ) (f : LexFault) (t : TokenList) → Faults bytes f → IsTokens bytes t → {P : Type 0} → P
-late bytes f t p q = absurd (Tokens-sound bytes t f q p)
+one_long : (bytes : List ℕ) (a b : ℕ) → IsSourceFault bytes (fault.Long a) → IsSourceFault bytes (fault.Long b) → a ≡ b
+one_long bytes a b p q =
+    let same : q.0 ≡ p.0 = Tokens-unique bytes q.0 p.0 q.1 p.1 in
+    let second = subst (λ (v : TokenList). IsFirstLong v.tokens q.2 × BeginsAt v q.2 b) same (q.3, q.4) in
+    begins_once p.0 p.2 q.2 a b (first-unique (IsLong p.0.tokens) p.2 q.2 p.3.long second.0.long p.3.first second.0.first) p.4 second.1
+
+one_form : (bytes : List ℕ) (a b : ℕ) → IsUnbuiltAt bytes a → IsUnbuiltAt bytes b → a ≡ b
+one_form bytes a b p q =
+    let second = subst (λ (v : TokenList). FirstUnbuilt v.tokens q.token × BeginsAt v q.token b) (same_list bytes p.list q.list p.reads q.reads) (q.unbuilt, q.begins) in
+    begins_once p.list p.token q.token a b
+    (first-unique (UnbuiltAt p.list.tokens) p.token q.token p.unbuilt.here second.0.here p.unbuilt.first second.0.first) p.begins second.1
+
+one_of_names : (t : TokenList) (n : NameFault) (f g : SourceFault) → IsOfNames t n f → IsOfNames t n g → f ≡ g
+one_of_names t (name.Twice k) f g p q = sym p.2 ∙ ap fault.Twice (begins_once t k k p.0 q.0 refl p.1 q.1) ∙ q.2
+one_of_names t (name.Unknown k) f g p q = sym p.2 ∙ ap fault.Unknown (begins_once t k k p.0 q.0 refl p.1 q.1) ∙ q.2
+one_of_names t (name.Kind k) f g p q = sym p.2 ∙ ap fault.Kind (begins_once t k k p.0 q.0 refl p.1 q.1) ∙ q.2
+one_of_names t (name.NotATree program) f g p q = sym p ∙ q
+one_of_names t (name.Limit which count) f g p q = sym p ∙ q
+one_of_names t name.Memory f g p q = absurd p
+
+one_names : (bytes : List ℕ) (t u : TokenList) (n m : NameFault) (f g : SourceFault) → IsNameFaultOf bytes t n → IsNameFaultOf bytes u m → IsOfNames t n f → IsOfNames u m g → f ≡ g
+one_names bytes t u n m f g p q is other =
+    let programs = same_programs bytes t u p.programs q.programs p.reads q.reads p.spelled q.spelled in
+    let same = one_name_fault q.programs n m (subst (λ (ps : List PlainProgram). IsFirstNameFault ps n) programs p.first) q.first in
+    one_of_names u m f g (subst (λ (k : NameFault). IsOfNames u k f) same (subst (λ (v : TokenList). IsOfNames v n f) (sym (same_list bytes t u p.reads q.reads)) is)) other
 
 -- a source has one fault at most
 pub fault_unique : (bytes : List ℕ) (f g : SourceFault) → IsSourceFault bytes f → IsSourceFault bytes g → f ≡ g
-fault_unique bytes (fault.Char a) (fault.Char b) p q = one_lexical bytes (lex.Char a) (lex.Char b) p q
-fault_unique bytes (fault.Char a) (fault.Number b) p q = one_lexical bytes (lex.Char a) (lex.Number b) p q
-fault_unique bytes (fault.Char a) (fault.NameLong b) p q = one_lexical bytes (lex.Char a) (lex.NameLong b) p q
-fault_unique bytes (fault.Char a) (fault.Long b) p q = late bytes (lex.Char a) q.0 p q.1
-fault_unique bytes (fault.Char a) fault.Syntax p q = late bytes (lex.Char a) q.0 p q.1.tokens
-fault_unique bytes (fault.Char a) (fault.NotBuilt b) p q = late bytes (lex.Char a) q.0 p q.1.tokens
-fault_unique bytes (fault.Number a) (fault.Char b) p q = one_lexical bytes (lex.Number a) (lex.Char b) p q
-fault_unique bytes (fault.Number a) (fault.Number b) p q = one_lexical bytes (lex.Number a) (lex.Number b) p q
-fault_unique bytes (fault.Number a) (fault.NameLong b) p q = one_lexical bytes (lex.Number a) (lex.NameLong b) p q
-fault_unique bytes (fault.Number a) (fault.Long b) p q = late bytes (lex.Number a) q.0 p q.1
-fault_unique bytes (fault.Number a) fault.Syntax p q = late bytes (lex.Number a) q.0 p q.1.tokens
-fault_unique bytes (fault.Number a) (fault.NotBuilt b) p q = late bytes (lex.Number a) q.0 p q.1.tokens
-fault_unique bytes (fault.NameLong a) (fault.Char b) p q = one_lexical bytes (lex.NameLong a) (lex.Char b) p q
-fault_unique bytes (fault.NameLong a) (fault.Number b) p q = one_lexical bytes (lex.NameLong a) (lex.Number b) p q
-fault_unique bytes (fault.NameLong a) (fault.NameLong b) p q = one_lexical bytes (lex.NameLong a) (lex.NameLong b) p q
-fault_unique bytes (fault.NameLong a) (fault.Long b) p q = late bytes (lex.NameLong a) q.0 p q.1
-fault_unique bytes (fault.NameLong a) fault.Syntax p q = late bytes (lex.NameLong a) q.0 p q.1.tokens
-fault_unique bytes (fault.NameLong a) (fault.NotBuilt b) p q = late bytes (lex.NameLong a) q.0 p q.1.tokens
-fault_unique bytes (fault.Long a) (fault.Char b) p q = late bytes (lex.Char b) p.0 q p.1
-fault_unique bytes (fault.Long a) (fault.Number b) p q = late bytes (lex.Number b) p.0 q p.1
-fault_unique bytes (fault.Long a) (fault.NameLong b) p q = late bytes (lex.NameLong b) p.0 q p.1
-fault_unique bytes (fault.Long a) (fault.Long b) p q = ap fault.Long (one_long bytes a b p q)
-fault_unique bytes (fault.Long a) fault.Syntax p q = absurd (no_long bytes a q.0 p q.1)
-fault_unique bytes (fault.Long a) (fault.NotBuilt b) p q = absurd (no_long bytes a q.0 p q.1)
-fault_unique bytes fault.Syntax (fault.Char b) p q = late bytes (lex.Char b) p.0 q p.1.tokens
-fault_unique bytes fault.Syntax (fault.Number b) p q = late bytes (lex.Number b) p.0 q p.1.tokens
-fault_unique bytes fault.Syntax (fault.NameLong b) p q = late bytes (lex.NameLong b) p.0 q p.1.tokens
-fault_unique bytes fault.Syntax (fault.Long b) p q = absurd (no_long bytes b p.0 q p.1)
-fault_unique bytes fault.Syntax fault.Syntax p q = refl
-fault_unique bytes fault.Syntax (fault.NotBuilt b) p q = absurd (no_syntax bytes q.0 q.2 p q.1 q.3)
-fault_unique bytes (fault.NotBuilt a) (fault.Char b) p q = late bytes (lex.Char b) p.0 q p.1.tokens
-fault_unique bytes (fault.NotBuilt a) (fault.Number b) p q = late bytes (lex.Number b) p.0 q p.1.tokens
-fault_unique bytes (fault.NotBuilt a) (fault.NameLong b) p q = late bytes (lex.NameLong b) p.0 q p.1.tokens
-fault_unique bytes (fault.NotBuilt a) (fault.Long b) p q = absurd (no_long bytes b p.0 q p.1)
-fault_unique bytes (fault.NotBuilt a) fault.Syntax p q = absurd (no_syntax bytes p.0 p.2 q p.1 p.3)
-fault_unique bytes (fault.NotBuilt a) (fault.NotBuilt b) p q = ap fault.NotBuilt (one_unbuilt bytes a b p q)
-
--- ---- what reading a source answers
-
--- where the source has tables they are the answer, unless memory was wanting
-pub tells_tables : (bytes : List ℕ) (result : Result Tables SourceStop) (t : Tables) → IsRead bytes result → IsTablesOf bytes t → (result ≡ Ok t) ⊎ (result ≡ Err stop.Memory)
-tells_tables bytes (Ok u) t is tables = inl (ap Ok (tables_unique bytes u t is tables))
-tells_tables bytes (Err (stop.Fault f)) t is tables = absurd (tables_or_fault bytes t f tables is)
-tells_tables bytes (Err stop.Memory) t is tables = inr refl
-
--- where it has a fault that is the answer, unless memory was wanting
-pub tells_source_fault : (bytes : List ℕ) (result : Result Tables SourceStop) (f : SourceFault) → IsRead bytes result → IsSourceFault bytes f
-    → (result ≡ Err (stop.Fault f)) ⊎ (result ≡ Err stop.Memory)
-tells_source_fault bytes (Ok u) f is fault = absurd (tables_or_fault bytes u f is fault)
-tells_source_fault bytes (Err (stop.Fault g)) f is fault = inl (ap (λ (h : SourceFault). Err (stop.Fault h)) (fault_unique bytes g f is fault))
-tells_source_fault bytes (Err stop.Memory) f is fault = inr refl
+fault_unique bytes f g p q = by (stage bytes f p) (stage bytes g q)
+  where
+    by : Stage bytes f → Stage bytes g → f ≡ g
+    by (text l is e) (text m other d) = sym e ∙ ap of_text (Faults-unique bytes l m is other) ∙ d
+    by (text l is e) (long at other d) = absurd (no_text bytes l other.0 is other.1)
+    by (text l is e) (tree other d) = absurd (no_text bytes l other.0 is other.1.tokens)
+    by (text l is e) (names t n other d) = absurd (no_text bytes l t is other.reads.tokens)
+    by (text l is e) (form at other d) = absurd (no_text bytes l other.list is other.reads.tokens)
+    by (long at is e) (text l other d) = absurd (no_text bytes l is.0 other is.1)
+    by (long at is e) (long other also d) = sym e ∙ ap fault.Long (one_long bytes at other is also) ∙ d
+    by (long at is e) (tree other d) = absurd (no_long bytes at other.0 is other.1)
+    by (long at is e) (names t n other d) = absurd (no_long bytes at t is other.reads)
+    by (long at is e) (form other also d) = absurd (no_long bytes at also.list is also.reads)
+    by (tree is e) (text l other d) = absurd (no_text bytes l is.0 other is.1.tokens)
+    by (tree is e) (long at other d) = absurd (no_long bytes at is.0 other is.1)
+    by (tree is e) (tree other d) = sym e ∙ d
+    by (tree is e) (names t n other d) = absurd (no_syntax bytes t other.programs is other.reads other.spelled)
+    by (tree is e) (form at other d) = absurd (no_syntax bytes other.list other.programs is other.reads other.spelled)
+    by (names t n is e) (text l other d) = absurd (no_text bytes l t other is.reads.tokens)
+    by (names t n is e) (long at other d) = absurd (no_long bytes at t other is.reads)
+    by (names t n is e) (tree other d) = absurd (no_syntax bytes t is.programs other is.reads is.spelled)
+    by (names t n is e) (names u m other d) = one_names bytes t u n m f g is other e d
+    by (names t n is e) (form at other d) = absurd (no_names bytes t other.list n other.programs is other.reads other.spelled other.named)
+    by (form at is e) (text l other d) = absurd (no_text bytes l is.list other is.reads.tokens)
+    by (form at is e) (long other also d) = absurd (no_long bytes other is.list also is.reads)
+    by (form at is e) (tree other d) = absurd (no_syntax bytes is.list is.programs other is.reads is.spelled)
+    by (form at is e) (names t n other d) = absurd (no_names bytes t is.list n is.programs other is.reads is.spelled is.named)
+    by (form at is e) (form other also d) = sym e ∙ ap fault.NotBuilt (one_form bytes at other is also) ∙ d

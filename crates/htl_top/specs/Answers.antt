@@ -1,15 +1,15 @@
 -- What each answer of the top call says, answer by answer.
-use Rattle.std.specs.Prelude.{ℕ, ◌≡◌, ◌⊎◌, Option, Some, None, IfSome, List}
+use Rattle.std.specs.Prelude.{ℕ, ◌≡◌, ◌⊎◌, Option, Some, None, List}
 use Rattle.std.specs.Io.KnownBytes.{append_known}
 use Rattle.htl_edge.specs.Causes.{Rose}
 use Rattle.htl_edge.specs.Content.{AppendsPrefix}
 use Rattle.htl_edge.specs.Holdings.{Holdings}
 use Rattle.htl_model.specs.Tables.{Tables}
-use Rattle.htl_top.specs.Causes.{IsFaultOf, IsLongFile, IsFaultySource, HasTables, IsProgram, not_built, IsRun, IsCut}
-use Rattle.htl_top.specs.Scripts.{IsNotWhole}
-use Rattle.htl_top.specs.Sources.{IsSourceFault}
+use Rattle.htl_top.specs.Causes.{IsFaultOf, IsLongFile, IsFaultySource, HasTables, HasBuiltTables, IsProgram, IsIllFormed, IsRun, IsFaulty, IsCut}
+use Rattle.htl_top.specs.Sources.{BreakFirst, IsSourceFault}
+use Rattle.htl_top.specs.Status.{fault_line}
 use Rattle.htl_top.specs.declared.outcome.Outcome.{Outcome}
-use Rattle.htl_top.specs.declared.outcome.Outcome.TheVariants.{Done, Usage, Source, Script, Shelf, Read, Write, Memory}
+use Rattle.htl_top.specs.declared.outcome.Outcome.TheVariants.{Done, Usage, Source, IllFormed, Script, Shelf, Read, Write, Memory}
 use Rattle.htl_top.specs.declared.outcome.ShelfCause.TheVariants.{Failed, TooLong}
 
 -- the input and the output at one moment: what is left, what was written, and the counts of faults
@@ -37,26 +37,22 @@ pub record IsUntouched (old new : Streams) : Type 0 where
   pub rest : new.rest ≡ old.rest
   pub written : new.written ≡ old.written
 
--- a text was written whole, or a prefix of it where the count of faults rose
-abbrev pub IsWritten : List ℕ → Option (List ℕ) → Option (List ℕ) → ℕ → ℕ → Outcome → Type 0
-IsWritten text old new before now Done = new ≡ append_known old text
-IsWritten text old new before now Write = Rose before now × AppendsPrefix old new text
-IsWritten text old new before now Usage = ⊥
-IsWritten text old new before now (Source fault) = ⊥
-IsWritten text old new before now (Script fault) = ⊥
-IsWritten text old new before now (Shelf cause) = ⊥
-IsWritten text old new before now Read = ⊥
-IsWritten text old new before now Memory = ⊥
+-- Where a text was written whole this is the answer; else it is Write, a prefix of the text was written, and the
+-- count of faults rose.
+abbrev pub IsWritten : List ℕ → Outcome → Option (List ℕ) → Option (List ℕ) → ℕ → ℕ → Outcome → Type 0
+IsWritten text whole old new before now result =
+    ((result ≡ whole) × (new ≡ append_known old text)) ⊎ ((result ≡ Write) × Rose before now × AppendsPrefix old new text)
 
 -- these tables are run with the input as script
 abbrev pub IsPlayed : Tables → Streams → Streams → Outcome → Type 0
 IsPlayed tables old new Done = IsRun tables old.rest new.rest old.written new.written
-IsPlayed tables old new (Script fault) = (fault ≡ not_built) × IfSome old.rest (IsNotWhole tables) × (new.written ≡ old.written)
+IsPlayed tables old new (Script fault) = IsFaulty tables old.rest old.written new.written fault
 IsPlayed tables old new Read = Rose old.read_faults new.read_faults × (new.written ≡ old.written)
 IsPlayed tables old new Write = Rose old.write_faults new.write_faults × IsCut tables old.rest old.written new.written
 IsPlayed tables old new Memory = new.written ≡ old.written
 IsPlayed tables old new Usage = ⊥
 IsPlayed tables old new (Source fault) = ⊥
+IsPlayed tables old new (IllFormed fault) = ⊥
 IsPlayed tables old new (Shelf cause) = ⊥
 
 -- the source with these bytes is compiled and run
@@ -67,6 +63,7 @@ IsGone bytes old new Read = HasTables bytes (λ tables. IsPlayed tables old new 
 IsGone bytes old new Write = HasTables bytes (λ tables. IsPlayed tables old new Write)
 IsGone bytes old new Memory = new.written ≡ old.written
 IsGone bytes old new (Source fault) = IsSourceFault bytes fault × IsUntouched old new
+IsGone bytes old new (IllFormed fault) = HasBuiltTables bytes (λ tables. BreakFirst tables fault) × IsUntouched old new
 IsGone bytes old new Usage = ⊥
 IsGone bytes old new (Shelf cause) = ⊥
 
@@ -76,6 +73,7 @@ IsAnswer name shelf old new Usage = (name ≡ None) × IsUntouched old new
 IsAnswer name shelf old new (Shelf Failed) = IsFaultOf name shelf.before shelf.after × IsUntouched old new
 IsAnswer name shelf old new (Shelf (TooLong seen)) = IsLongFile name shelf.holds seen × IsUntouched old new
 IsAnswer name shelf old new (Source fault) = IsFaultySource name shelf.holds fault × IsUntouched old new
+IsAnswer name shelf old new (IllFormed fault) = IsIllFormed name shelf.holds fault × IsUntouched old new
 IsAnswer name shelf old new Done = IsProgram name shelf.holds (λ tables. IsPlayed tables old new Done)
 IsAnswer name shelf old new (Script fault) = IsProgram name shelf.holds (λ tables. IsPlayed tables old new (Script fault))
 IsAnswer name shelf old new Read = IsProgram name shelf.holds (λ tables. IsPlayed tables old new Read)
@@ -89,6 +87,7 @@ abbrev pub IsBeforeScript : Outcome → Type 0
 IsBeforeScript Usage = Unit {0}
 IsBeforeScript (Shelf cause) = Unit {0}
 IsBeforeScript (Source fault) = Unit {0}
+IsBeforeScript (IllFormed fault) = Unit {0}
 IsBeforeScript Done = ⊥
 IsBeforeScript (Script fault) = ⊥
 IsBeforeScript Read = ⊥
@@ -100,11 +99,38 @@ abbrev pub IsBeforeRun : Outcome → Type 0
 IsBeforeRun Usage = Unit {0}
 IsBeforeRun (Shelf cause) = Unit {0}
 IsBeforeRun (Source fault) = Unit {0}
-IsBeforeRun (Script fault) = Unit {0}
+IsBeforeRun (IllFormed fault) = Unit {0}
 IsBeforeRun Read = Unit {0}
 IsBeforeRun Memory = Unit {0}
 IsBeforeRun Done = ⊥
+IsBeforeRun (Script fault) = ⊥
 IsBeforeRun Write = ⊥
+
+-- ---- what tells of an answer
+
+-- The tables that the line of an answer speaks of: those of the source, where they break a form rule.
+abbrev pub SpeaksOf : ((Tables → Type 0) → Type 0) → Outcome → Option Tables → Type 0
+SpeaksOf HasSource (IllFormed fault) tables = HasSource (λ compiled. tables ≡ Some compiled)
+SpeaksOf HasSource Done tables = Unit {0}
+SpeaksOf HasSource Usage tables = Unit {0}
+SpeaksOf HasSource (Source fault) tables = Unit {0}
+SpeaksOf HasSource (Script fault) tables = Unit {0}
+SpeaksOf HasSource (Shelf cause) tables = Unit {0}
+SpeaksOf HasSource Read tables = Unit {0}
+SpeaksOf HasSource Write tables = Unit {0}
+SpeaksOf HasSource Memory tables = Unit {0}
+
+-- The line of an answer was told. That of IllFormed has names of the tables of the source; no other needs tables.
+abbrev pub IsLineTold : ((Tables → Type 0) → Type 0) → (List ℕ → Type 0) → Outcome → Type 0
+IsLineTold HasSource Told (IllFormed fault) = HasSource (λ tables. Told (fault_line (Some tables) (IllFormed fault)))
+IsLineTold HasSource Told Done = Told (fault_line None Done)
+IsLineTold HasSource Told Usage = Told (fault_line None Usage)
+IsLineTold HasSource Told (Source fault) = Told (fault_line None (Source fault))
+IsLineTold HasSource Told (Script fault) = Told (fault_line None (Script fault))
+IsLineTold HasSource Told (Shelf cause) = Told (fault_line None (Shelf cause))
+IsLineTold HasSource Told Read = Told (fault_line None Read)
+IsLineTold HasSource Told Write = Told (fault_line None Write)
+IsLineTold HasSource Told Memory = Told (fault_line None Memory)
 
 -- What is told on a sink: the whole line, or a prefix of it where the count of faults rose.
 abbrev pub Tells : Option (List ℕ) → Option (List ℕ) → ℕ → ℕ → List ℕ → Type 0

@@ -9,12 +9,14 @@ use Rattle.htl_edge.specs.declared.shelf.ShelfFault.TheVariants.{TooLong as Long
 use Rattle.htl_model.specs.Lines.{empty_text}
 use Rattle.htl_model.specs.Tables.{Tables}
 use Rattle.htl_model.specs.declared.event.Event.{Event}
-use Rattle.htl_top.specs.Scripts.{IsWhole}
-use Rattle.htl_top.specs.Sources.{IsTablesOf, IsSourceFault}
+use Rattle.htl_model.specs.declared.form_fault.FormFault.{FormFault}
+use Rattle.htl_script.specs.Script.{Script, script_of}
+use Rattle.htl_script.specs.declared.fault.ScriptFault.{ScriptFault}
+use Rattle.htl_top.specs.Scripts.{IsWhole, IsBad}
+use Rattle.htl_top.specs.Sources.{AreBuiltTables, CanRun, BreakFirst, IsSourceFault}
 use Rattle.htl_top.specs.declared.outcome.Outcome.{Outcome}
 use Rattle.htl_top.specs.declared.outcome.Outcome.TheVariants.{Memory}
-use Rattle.htl_top.specs.declared.outcome.ScriptFault.{ScriptFault}
-use Rattle.htl_top.specs.declared.outcome.ScriptKind.TheVariants.{NotBuilt}
+use Rattle.htl_top.specs.Texts.{text_before_fault, text_of_script}
 use Rattle.htl_top.specs.declared.source_fault.SourceFault.{SourceFault}
 
 -- ---- the shelf
@@ -54,31 +56,42 @@ pub record IsFaultySource (name : Option (List ℕ)) (holds : Option Holdings) (
   pub source : IsSource name holds bytes
   pub first : IsSourceFault bytes fault
 
--- The source has tables, of which the fact holds.
+-- The source has tables that can be run, of which the fact holds.
 pub record HasTables (bytes : List ℕ) (Fact : Tables → Type 0) : Type 0 where
   pub tables : Tables
-  pub compiled : IsTablesOf bytes tables
+  pub compiled : CanRun bytes tables
   pub fact : Fact tables
 
--- The words name a source with tables, of which the fact holds.
+-- The source has tables, each of its forms is built, and the fact holds of the tables.
+pub record HasBuiltTables (bytes : List ℕ) (Fact : Tables → Type 0) : Type 0 where
+  pub tables : Tables
+  pub compiled : AreBuiltTables bytes tables
+  pub fact : Fact tables
+
+-- The words name a source with tables that can be run, of which the fact holds.
 pub record IsProgram (name : Option (List ℕ)) (holds : Option Holdings) (Fact : Tables → Type 0) : Type 0 where
   pub bytes : List ℕ
   pub source : IsSource name holds bytes
   pub has_tables : HasTables bytes Fact
 
--- The words name a source that the shelf tells to hold, it has these tables, and the input tells this script.
+-- The words name a source with tables, each of its forms is built, and the fact holds of the tables.
+pub record IsBuiltProgram (name : Option (List ℕ)) (holds : Option Holdings) (Fact : Tables → Type 0) : Type 0 where
+  pub bytes : List ℕ
+  pub source : IsSource name holds bytes
+  pub has_tables : HasBuiltTables bytes Fact
+
+-- The words name such a source, and this is the first form rule that its tables break.
+abbrev pub IsIllFormed : Option (List ℕ) → Option Holdings → FormFault → Type 0
+IsIllFormed name holds fault = IsBuiltProgram name holds (λ tables. BreakFirst tables fault)
+
+-- The words name a source that the shelf tells to hold, it has these tables, which can be run, and the input tells
+-- this script.
 pub record IsReady (name : Option (List ℕ)) (holds : Option Holdings) (before after : List ℕ → ℕ) (rest : Option (List ℕ)) (tables : Tables) (script : List ℕ) : Type 0 where
   pub bytes : List ℕ
   pub given : IsGiven name holds before after bytes
   pub short : length bytes ≤ 1048576
-  pub compiled : IsTablesOf bytes tables
+  pub compiled : CanRun bytes tables
   pub input : rest ≡ Some script
-
--- ---- the script
-
--- the fault of a script that isn't whole
-abbrev pub not_built : ScriptFault
-not_built = record { line = 0; kind = NotBuilt }
 
 -- ---- the run
 
@@ -90,12 +103,18 @@ pub record IsRun (tables : Tables) (rest left old new : Option (List ℕ)) : Typ
   pub read : left ≡ none_left rest
   pub written : new ≡ append_known old (empty_text tables events end)
 
--- The input had a whole script for the tables, and a prefix of the text of the run was written.
-pub record IsCut (tables : Tables) (rest old new : Option (List ℕ)) : Type 0 where
+-- This is the first fault of the input as a script for the tables, and the lines of the events before it were
+-- written.
+pub record IsFaulty (tables : Tables) (rest old new : Option (List ℕ)) (fault : ScriptFault) : Type 0 where
   pub events : List Event
-  pub end : ℕ
-  pub script : IfSome rest (λ script. IsWhole tables script events end)
-  pub written : AppendsPrefix old new (empty_text tables events end)
+  pub script : IfSome rest (λ script. IsBad tables script fault events)
+  pub written : new ≡ append_known old (text_before_fault tables events)
+
+-- A prefix was written of the text that the input as a script for the tables makes a run write.
+pub record IsCut (tables : Tables) (rest old new : Option (List ℕ)) : Type 0 where
+  pub given : Script
+  pub script : IfSome rest (λ script. script_of tables script ≡ given)
+  pub written : AppendsPrefix old new (text_of_script tables given)
 
 -- ---- what must be answered
 

@@ -2,13 +2,10 @@ pub mod Answers
 pub mod Causes
 pub mod Instants
 pub mod Laws
-pub mod PlainTables
-pub mod RuleChecks
 pub mod Runs
 pub mod Scripts
-pub mod SourceRules
 pub mod Sources
 pub mod Status
-pub mod Symbols
+pub mod Texts
 pub mod Unbuilt
 pub mod Words

@@ -13,6 +13,17 @@ AreInOrder reading (V.Sense c x ∷ es) = AreInOrder reading es
 AreInOrder reading (V.Took i n ∷ es) = AreInOrder reading es
 AreInOrder reading (V.End t ∷ es) = AreInOrder reading es
 
+-- the instants of an event are instants of a run
+abbrev pub IsInTime : Event → Type 0
+IsInTime (V.At t) = t ≤ 1000000000
+IsInTime (V.Sense c x) = Unit {0}
+IsInTime (V.Took i n) = Unit {0}
+IsInTime (V.End t) = t ≤ 1000000000
+
+abbrev pub AreInTime : List Event → Type 0
+AreInTime [] = Unit {0}
+AreInTime (e ∷ es) = IsInTime e × AreInTime es
+
 -- each communicator has its initial value
 pub record IsFresh (t : Tables) (b : Board) : Type 0 where
   pub latest : b.latest ≡ map (λ x. x.init) t.comms

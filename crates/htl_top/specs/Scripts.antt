@@ -1,32 +1,36 @@
 -- What a script gives a run.
-use Rattle.std.specs.Prelude.{ℕ, ◌≡◌, ◌≤◌, Option, List, IfSome}
+use Rattle.std.specs.Prelude.{ℕ, ◌≡◌, ◌≤◌, Option, List, IfSome, Ok, Err}
+use Rattle.std.specs.declared.result.Result.{Result}
 use Rattle.htl_model.specs.Tables.{Tables}
 use Rattle.htl_model.specs.declared.event.Event.{Event}
 use Rattle.htl_script.specs.Events.{EndWith}
-use Rattle.htl_script.specs.Script.{script_of, Whole}
-use Rattle.htl_top.specs.Runs.{AreInOrder}
+use Rattle.htl_script.specs.Script.{script_of, Whole, Bad}
+use Rattle.htl_script.specs.declared.fault.ScriptFault.{ScriptFault}
+use Rattle.htl_script.specs.declared.fault.WholeStop.{WholeStop}
+use Rattle.htl_script.specs.declared.fault.WholeStop.TheVariants as stop
 
 -- The script is whole for the tables: it gives these events up to this last instant.
 abbrev pub IsWhole : Tables → List ℕ → List Event → ℕ → Type 0
 IsWhole tables script events end = script_of tables script ≡ Whole events end
 
--- The script isn't whole for the tables.
-abbrev pub IsNotWhole : Tables → List ℕ → Type 0
-IsNotWhole tables script = (events : List Event) (end : ℕ) → IsWhole tables script events end → ⊥
+-- This is the first fault of the script for the tables, and these are the events before it.
+abbrev pub IsBad : Tables → List ℕ → ScriptFault → List Event → Type 0
+IsBad tables script fault events = script_of tables script ≡ Bad fault.line fault.kind events
 
 -- the last event ends the run, at an instant of a run
 pub record EndsAt (events : List Event) (end : ℕ) : Type 0 where
   pub last : EndWith events end
   pub in_time : end ≤ 1000000000
 
--- events that a run can go by
-pub record IsRunnable (events : List Event) : Type 0 where
-  pub end : ℕ
-  pub ends : EndsAt events end
-  pub order : AreInOrder 0 events
-
 -- The script is whole for the tables, with these events, where it is told.
 pub record IsTold (tables : Tables) (rest : Option (List ℕ)) (events : List Event) : Type 0 where
   pub end : ℕ
   pub script : IfSome rest (λ script. IsWhole tables script events end)
   pub ends : EndsAt events end
+
+-- What was read of a script: the events of a whole one, or its first fault and the events before it.
+abbrev pub IsScriptRead : {T : Type 0} → Tables → Option (List ℕ) → List Event → Result T WholeStop → Type 0
+IsScriptRead tables rest events (Ok done) = IsTold tables rest events
+IsScriptRead tables rest events (Err (stop.Script fault)) = IfSome rest (λ script. IsBad tables script fault events)
+IsScriptRead tables rest events (Err stop.Read) = Unit {0}
+IsScriptRead tables rest events (Err stop.Memory) = Unit {0}

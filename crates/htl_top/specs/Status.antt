@@ -1,16 +1,23 @@
 -- The status of each answer, and the line that tells of it.
-use Rattle.std.specs.Prelude.{ℕ, List, [], ◌++◌, codes, decimal}
+use Rattle.std.specs.Prelude.{ℕ, List, [], ◌++◌, Option, None, Some, slice_get, codes, decimal}
+use Rattle.htl_model.specs.Lines.{module_name, mode_name}
+use Rattle.htl_model.specs.Tables.{Tables}
+use Rattle.htl_model.specs.declared.form_fault.FormFault.{FormFault}
+use Rattle.htl_script.specs.declared.fault.ScriptFault.{ScriptFault}
+use Rattle.htl_script.specs.declared.fault.ScriptKind.{ScriptKind}
+use Rattle.htl_script.specs.declared.fault.ScriptKind.TheVariants as kind
 use Rattle.htl_top.specs.declared.outcome.Outcome.{Outcome}
-use Rattle.htl_top.specs.declared.outcome.Outcome.TheVariants.{Done, Usage, Source, Script, Shelf, Read, Write, Memory}
+use Rattle.htl_top.specs.declared.outcome.Outcome.TheVariants.{Done, Usage, Source, IllFormed, Script, Shelf, Read, Write, Memory}
 use Rattle.htl_top.specs.declared.outcome.ShelfCause.{ShelfCause}
 use Rattle.htl_top.specs.declared.outcome.ShelfCause.TheVariants.{Failed, TooLong}
 use Rattle.htl_top.specs.declared.source_fault.SourceFault.{SourceFault}
-use Rattle.htl_top.specs.declared.source_fault.SourceFault.TheVariants.{NotBuilt, Char, Number, NameLong, Long, Syntax}
+use Rattle.htl_top.specs.declared.source_fault.SourceFault.TheVariants.{NotBuilt, Char, Number, NameLong, Long, Syntax, Twice, Unknown, Kind, NotATree, Limit}
 
 abbrev pub status_of : Outcome → ℕ
 status_of Done = 0
 status_of Usage = 2
 status_of (Source fault) = 3
+status_of (IllFormed fault) = 4
 status_of (Script fault) = 7
 status_of (Shelf cause) = 8
 status_of Read = 9
@@ -24,18 +31,67 @@ source_line (Number at) = codes "htl: source number " ++ decimal at ++ codes "\n
 source_line (NameLong at) = codes "htl: source name-long " ++ decimal at ++ codes "\n"
 source_line (Long at) = codes "htl: source long " ++ decimal at ++ codes "\n"
 source_line Syntax = codes "htl: source syntax\n"
+source_line (Twice at) = codes "htl: source twice " ++ decimal at ++ codes "\n"
+source_line (Unknown at) = codes "htl: source unknown " ++ decimal at ++ codes "\n"
+source_line (Kind at) = codes "htl: source kind " ++ decimal at ++ codes "\n"
+source_line (NotATree program) = codes "htl: source not-a-tree " ++ decimal program ++ codes "\n"
+source_line (Limit which count) = codes "htl: source limit " ++ decimal which ++ codes " count " ++ decimal count ++ codes "\n"
+
+-- ---- a broken form rule
+
+-- the name of an invocation's task
+abbrev pub inv_task_name : Tables → ℕ → List ℕ
+inv_task_name t i =
+    elim (slice_get t.invs i) [ Some x ↦ elim (slice_get t.tasks x.task) [ Some k ↦ k.name | None ↦ [] ] | None ↦ [] ]
+
+-- `module.mode`
+abbrev pub mode_place : Tables → FormFault → List ℕ
+mode_place t fault = module_name t fault.«module» ++ codes "." ++ mode_name t fault.mode
+
+-- `module.mode`, or `module.mode.task` where an invocation is the place
+abbrev pub place_of_fault : Tables → FormFault → List ℕ
+place_of_fault t fault = elim fault.inv [ Some i ↦ mode_place t fault ++ codes "." ++ inv_task_name t i | None ↦ mode_place t fault ]
+
+-- the place by the names of tables; nothing where there are none
+abbrev pub place_in : Option Tables → FormFault → List ℕ
+place_in (Some t) fault = place_of_fault t fault
+place_in None fault = []
+
+abbrev pub form_line : Option Tables → FormFault → List ℕ
+form_line tables fault =
+    codes "htl: ill-formed " ++ decimal fault.rule ++ codes " at " ++ place_in tables fault ++ codes " have " ++ decimal fault.have
+    ++ codes " need " ++ decimal fault.need ++ codes "\n"
+
+-- ---- a fault of a script
+
+abbrev pub kind_text : ScriptKind → List ℕ
+kind_text kind.Form = codes "form"
+kind_text kind.Long = codes "long"
+kind_text kind.Unknown = codes "unknown"
+kind_text kind.Order = codes "order"
+kind_text kind.Range = codes "range"
+kind_text (kind.Overrun took worst) = codes "overrun " ++ decimal took ++ codes " " ++ decimal worst
+kind_text kind.NoEnd = codes "no-end"
+kind_text kind.After = codes "after"
+kind_text kind.Size = codes "size"
+
+abbrev pub script_line : ScriptFault → List ℕ
+script_line fault = codes "htl: script " ++ decimal fault.line ++ codes " " ++ kind_text fault.kind ++ codes "\n"
+
+-- ----
 
 abbrev pub shelf_line : ShelfCause → List ℕ
 shelf_line Failed = codes "htl: shelf failed\n"
 shelf_line (TooLong seen) = codes "htl: shelf too-long " ++ decimal seen ++ codes "\n"
 
--- the line that tells of an answer; none tells of Done
-abbrev pub fault_line : Outcome → List ℕ
-fault_line Done = []
-fault_line Usage = codes "htl: usage\n"
-fault_line (Source fault) = source_line fault
-fault_line (Script fault) = codes "htl: script " ++ decimal fault.line ++ codes " not-built\n"
-fault_line (Shelf cause) = shelf_line cause
-fault_line Read = codes "htl: read\n"
-fault_line Write = codes "htl: write\n"
-fault_line Memory = codes "htl: memory\n"
+-- The line that tells of an answer; none tells of Done. That of IllFormed names its place by tables.
+abbrev pub fault_line : Option Tables → Outcome → List ℕ
+fault_line tables Done = []
+fault_line tables Usage = codes "htl: usage\n"
+fault_line tables (Source fault) = source_line fault
+fault_line tables (IllFormed fault) = form_line tables fault
+fault_line tables (Script fault) = script_line fault
+fault_line tables (Shelf cause) = shelf_line cause
+fault_line tables Read = codes "htl: read\n"
+fault_line tables Write = codes "htl: write\n"
+fault_line tables Memory = codes "htl: memory\n"

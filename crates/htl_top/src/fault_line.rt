@@ -1,33 +1,38 @@
 // The lines that tell of answers.
 ghost use Rattle.std.specs.Prelude.{◌≡◌, ◌++◌, ◌+◌, ◌≤◌, codes, decimal, length};
+ghost use Rattle.std.specs.Option.{option_copied};
 ghost use Rattle.htl_top.specs.Answers.{Tells};
-ghost use Rattle.htl_top.specs.Status.{fault_line as line_of, source_line, shelf_line};
+ghost use Rattle.htl_top.specs.Status.{fault_line as line_of, source_line, form_line, place_in, kind_text, script_line, shelf_line};
 
 use crate::line::Line;
+use crate::place::place;
 use crate::{Outcome, ShelfCause, SourceFault};
 use htl_edge::{Sink, put_all};
+use htl_model::{FormFault, Tables};
+use htl_script::{ScriptFault, ScriptKind};
 
-/// Tells of an answer other than Done, by its line.
-pub fn report<E: Sink>(err: &mut E, outcome: &Outcome)
-    ensures told { Tells (E.written err.old) (E.written err.new) (E.faults err.old) (E.faults err.new) (line_of outcome.now) }
+/// Tells of an answer other than Done, by its line. The line of `IllFormed` has its names from `tables`.
+pub fn report<E: Sink>(err: &mut E, tables: Option<&Tables>, outcome: &Outcome)
+    ensures told { Tells (E.written err.old) (E.written err.new) (E.faults err.old) (E.faults err.new) (line_of (option_copied tables.entry) outcome.now) }
     ensures quiet { outcome.now ≡ Outcome.Done → E.written err.new ≡ E.written err.old }
 {
     if *outcome == Outcome::Done {
         return;
     }
-    let line = fault_line(outcome);
+    let line = fault_line(tables, outcome);
     let _ = put_all(err, line.as_bytes());
 }
 
 // The line that tells of an answer; empty for Done.
-fn fault_line(outcome: &Outcome) -> Line
-    ensures { result ≡ line_of outcome.now }
+fn fault_line(tables: Option<&Tables>, outcome: &Outcome) -> Line
+    ensures { result ≡ line_of (option_copied tables.entry) outcome.now }
 {
     match outcome {
         Outcome::Done => Line::new(),
         Outcome::Usage => plain_line(b"htl: usage\n"),
         Outcome::Source(fault) => source_line(fault),
-        Outcome::Script(fault) => script_line(fault.line),
+        Outcome::IllFormed(fault) => form_line(tables, fault),
+        Outcome::Script(fault) => script_line(fault),
         Outcome::Shelf(cause) => shelf_line(cause),
         Outcome::Read => plain_line(b"htl: read\n"),
         Outcome::Write => plain_line(b"htl: write\n"),
@@ -45,7 +50,96 @@ fn source_line(fault: &SourceFault) -> Line
         SourceFault::NameLong { at } => numbered_line(b"htl: source name-long ", *at),
         SourceFault::Long { at } => numbered_line(b"htl: source long ", *at),
         SourceFault::Syntax => plain_line(b"htl: source syntax\n"),
+        SourceFault::Twice { at } => numbered_line(b"htl: source twice ", *at),
+        SourceFault::Unknown { at } => numbered_line(b"htl: source unknown ", *at),
+        SourceFault::Kind { at } => numbered_line(b"htl: source kind ", *at),
+        SourceFault::NotATree { program } => {
+            numbered_line(b"htl: source not-a-tree ", *program as u64)
+        }
+        SourceFault::Limit { which, count } => limit_line(*which, *count),
     }
+}
+
+fn limit_line(which: u8, count: u32) -> Line
+    ensures { result ≡ codes "htl: source limit " ++ decimal which ++ codes " count " ++ decimal count ++ codes "\n" }
+{
+    let mut line = Line::new();
+    line.text(b"htl: source limit ");
+    line.number(which as u64);
+    line.text(b" count ");
+    line.number(count as u64);
+    line.text(b"\n");
+    line
+}
+
+fn form_line(tables: Option<&Tables>, fault: &FormFault) -> Line
+    ensures { result ≡ form_line (option_copied tables.entry) fault.now }
+{
+    let place = place_of(tables, fault);
+    let mut line = Line::new();
+    line.text(b"htl: ill-formed ");
+    line.number(fault.rule as u64);
+    line.text(b" at ");
+    line.text(place.as_bytes());
+    line.text(b" have ");
+    line.number(fault.have);
+    line.text(b" need ");
+    line.number(fault.need);
+    line.text(b"\n");
+    line
+}
+
+// The place of a fault by the names of tables; nothing where there are none.
+fn place_of(tables: Option<&Tables>, fault: &FormFault) -> Line
+    ensures text { result ≡ place_in (option_copied tables.entry) fault.now }
+    ensures short { length result ≤ 146 }
+{
+    match tables {
+        Some(t) => place(t, fault),
+        None => Line::new(),
+    }
+}
+
+fn script_line(fault: &ScriptFault) -> Line
+    ensures { result ≡ script_line fault.now }
+{
+    let kind = kind_text(&fault.kind);
+    let mut line = Line::new();
+    line.text(b"htl: script ");
+    line.number(fault.line);
+    line.text(b" ");
+    line.text(kind.as_bytes());
+    line.text(b"\n");
+    line
+}
+
+fn kind_text(kind: &ScriptKind) -> Line
+    ensures text { result ≡ kind_text kind.now }
+    ensures short { length result ≤ 64 }
+{
+    match kind {
+        ScriptKind::Form => plain_line(b"form"),
+        ScriptKind::Long => plain_line(b"long"),
+        ScriptKind::Unknown => plain_line(b"unknown"),
+        ScriptKind::Order => plain_line(b"order"),
+        ScriptKind::Range => plain_line(b"range"),
+        ScriptKind::Overrun { took, worst } => overrun_text(*took, *worst),
+        ScriptKind::NoEnd => plain_line(b"no-end"),
+        ScriptKind::After => plain_line(b"after"),
+        ScriptKind::Size => plain_line(b"size"),
+    }
+}
+
+fn overrun_text(took: u64, worst: u64) -> Line
+    ensures text { result ≡ codes "overrun " ++ decimal took ++ codes " " ++ decimal worst }
+    ensures short { length result ≤ 64 }
+{
+    let mut line = Line::new();
+    line.text(b"overrun ");
+    line.number(took);
+    line.text(b" ");
+    line.number(worst);
+    line
 }
 
 fn shelf_line(cause: &ShelfCause) -> Line
@@ -57,19 +151,10 @@ fn shelf_line(cause: &ShelfCause) -> Line
     }
 }
 
-fn script_line(number: u64) -> Line
-    ensures { result ≡ codes "htl: script " ++ decimal number ++ codes " not-built\n" }
-{
-    let mut line = Line::new();
-    line.text(b"htl: script ");
-    line.number(number);
-    line.text(b" not-built\n");
-    line
-}
-
 fn plain_line(text: &[u8]) -> Line
     requires { length text.now ≤ 64 }
-    ensures { result ≡ text.now }
+    ensures text { result ≡ text.now }
+    ensures short { length result ≤ 64 }
 {
     let mut line = Line::new();
     line.text(text);

@@ -3,21 +3,8 @@ ghost use Rattle.std.specs.Prelude.{◌≡◌};
 ghost use Rattle.htl_top.specs.Status.{status_of};
 
 use crate::SourceFault;
-
-/// Why a script is refused.
-#[derive(Clone, Copy, PartialEq, Eq, Debug)]
-pub enum ScriptKind {
-    /// It isn't a whole script. Its first fault isn't told yet.
-    NotBuilt,
-}
-
-/// A script that is refused.
-#[derive(Clone, Copy, PartialEq, Eq, Debug)]
-pub struct ScriptFault {
-    /// The number of the line, from 1; 0 where the script as a whole is refused.
-    pub line: u64,
-    pub kind: ScriptKind,
-}
+use htl_model::FormFault;
+use htl_script::ScriptFault;
 
 /// Why the shelf didn't give a file.
 #[derive(Clone, Copy, PartialEq, Eq, Debug)]
@@ -38,9 +25,11 @@ pub enum Outcome {
     Done,
     /// The words are no command.
     Usage,
-    /// The source has no tables.
+    /// The source has no tables, or has a form that isn't built.
     Source(SourceFault),
-    /// The script isn't whole.
+    /// The tables of the source break a form rule.
+    IllFormed(FormFault),
+    /// The script isn't whole; the lines of the events before its first fault were written.
     Script(ScriptFault),
     /// The shelf didn't give the file.
     Shelf(ShelfCause),
@@ -52,8 +41,8 @@ pub enum Outcome {
     Memory,
 }
 
-/// The status with which the program ends: 0 for Done, 2 Usage, 3 Source, 7 Script, 8 Shelf, 9 Read, 10 Write
-/// and 11 Memory.
+/// The status with which the program ends: 0 for Done, 2 Usage, 3 Source, 4 IllFormed, 7 Script, 8 Shelf, 9
+/// Read, 10 Write and 11 Memory.
 pub fn status(o: &Outcome) -> u8
     ensures { result ≡ status_of o.now }
 {
@@ -61,6 +50,7 @@ pub fn status(o: &Outcome) -> u8
         Outcome::Done => 0,
         Outcome::Usage => 2,
         Outcome::Source(_) => 3,
+        Outcome::IllFormed(_) => 4,
         Outcome::Script(_) => 7,
         Outcome::Shelf(_) => 8,
         Outcome::Read => 9,

@@ -1,8 +1,8 @@
 // What a run writes.
 ghost use Rattle.std.specs.Prelude.{◌≡◌, ◌<◌, ◌≤◌, length, Some, OnOk};
 ghost use Rattle.htl_edge.specs.Content.{Puts};
-ghost use Rattle.htl_model.specs.Lines.{line_text, lines_text, empty_text};
-ghost use Rattle.htl_model.specs.Meaning.{value_line, run_lines};
+ghost use Rattle.htl_model.specs.Lines.{line_text, lines_text, lines_before_text, empty_text};
+ghost use Rattle.htl_model.specs.Meaning.{value_line};
 ghost use Rattle.htl_model.specs.Plain.{IsPlain, start_line};
 ghost use Rattle.htl_model.specs.declared.line.Line.TheVariants.{ValueLine, ModeLine};
 ghost use Rattle.htl_top.specs.Runs.{AreInOrder, IsFresh};
@@ -32,28 +32,29 @@ pub fn write_run<W: Sink>(
     requires fresh { IsFresh t.now board.old }
     ensures { Puts (W.written out.old) (W.written out.new) (W.faults out.old) (W.faults out.new) (empty_text t.now events.now end) result }
 {
-    if let Err(failed) = write_instants(out, t, events, end, board) {
+    if let Err(failed) = write_instants(out, t, events, end + 1, board) {
         return Err(failed);
     }
     write_totals(out, t, end)
 }
 
-// The lines of the instants from 0 to `end`.
-fn write_instants<W: Sink>(
+/// Writes the lines of values and modes of so many instants, from 0 on. It takes no memory. After `Failed` a prefix
+/// was written.
+pub fn write_instants<W: Sink>(
     out: &mut W,
     t: &Tables,
     events: &[Event],
-    end: Time,
+    count: Time,
     board: &mut Board,
 ) -> Result<(), Failed>
     requires plain { IsPlain t.now }
     requires order { AreInOrder 0 events.now }
-    requires end { end ≤ 1000000000 }
+    requires count { count ≤ 1000000001 }
     requires fresh { IsFresh t.now board.old }
-    ensures { Puts (W.written out.old) (W.written out.new) (W.faults out.old) (W.faults out.new) (lines_text t.now (run_lines t.now events.now end)) result }
+    ensures { Puts (W.written out.old) (W.written out.new) (W.faults out.old) (W.faults out.new) (lines_before_text t.now events.now count) result }
 {
     let mut next = 0;
-    for at in 0..end + 1 {
+    for at in 0..count {
         next = board.read_to(events, next, at);
         if let Err(failed) = write_instant(out, t, at, board) {
             return Err(failed);

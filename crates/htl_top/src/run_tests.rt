@@ -5,12 +5,14 @@ ghost use Rattle.htl_model.specs.Plain.{IsPlain};
 ghost use Rattle.htl_model.specs.Slow.{IsSource};
 ghost use Rattle.htl_model.specs.Ranges.{AreInRange};
 
+use crate::Outcome;
 use crate::board::Board;
+use crate::fault_line::report;
 use crate::run::write_run;
 use htl_base::{Name, Seq, Ty};
 use htl_edge::Page;
 use htl_model::slow::states;
-use htl_model::{Comm, Event, Mode, Module, Parts, Tables};
+use htl_model::{Comm, Event, FormFault, Mode, Module, Parts, Tables};
 use std::alloc::Global;
 use std::test::Fail;
 
@@ -146,6 +148,31 @@ fn a_failed_write_leaves_a_prefix(rt: HostRuntime) -> Result<(), Fail> {
         let mut page = Page::new(alloc, 100, &[fails])?;
         assert!(rt; write_run(&mut page, &t, &EVENTS, 20, &mut board).is_err());
         assert_eq!(rt; page.bytes(), written);
+    }
+    Ok(())
+}
+
+// The line of a broken form rule with the names of the tables.
+#[test]
+fn the_place_of_a_broken_rule_is_named(rt: HostRuntime) -> Result<(), Fail> {
+    let alloc = rt.alloc();
+    let t = one_module(alloc).expect(&rt, "tables");
+    let table: [(u16, &str); 2] = [
+        (0, "htl: ill-formed 16 at M.m have 20 need 10\n"),
+        (1, "htl: ill-formed 16 at .m have 20 need 10\n"),
+    ];
+    for (module, line) in table {
+        let fault = FormFault {
+            rule: 16,
+            module,
+            mode: 0,
+            inv: None,
+            have: 20,
+            need: 10,
+        };
+        let mut page = Page::new(alloc, 100, &[])?;
+        report(&mut page, Some(&t), &Outcome::IllFormed(fault));
+        assert_eq!(rt; page.bytes(), line.as_bytes());
     }
     Ok(())
 }

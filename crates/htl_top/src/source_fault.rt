@@ -1,13 +1,12 @@
-// Why a source has no tables.
+// Why a source isn't compiled.
 
-/// Why a source has no tables. Places are byte offsets from the source's start.
+/// Why a source isn't compiled. Places are byte offsets from the source's start.
 #[derive(Clone, Copy, PartialEq, Eq, Debug)]
 pub enum SourceFault {
-    /// A form of the language that isn't built yet: at the first `task`, `abstract`, `port`, `invoke`,
-    /// `switch`, or `program` that isn't the first token. Where there is none of these, 0: a name or form
-    /// rule is broken, or a limit exceeded.
+    /// A form of the language that isn't built yet: at the first `task`, `abstract`, `port`, `invoke` or
+    /// `switch`, or `program` in a mode's head. It comes only where the names are right.
     NotBuilt {
-        /// The first byte of the form, or 0.
+        /// The first byte of the form.
         at: u64,
     },
     /// No token begins at this byte.
@@ -32,4 +31,34 @@ pub enum SourceFault {
     },
     /// No tree spells the tokens.
     Syntax,
+    /// A name repeats an earlier one of its space: a program, a communicator, a module of the source; a task or mode
+    /// of the module; a port of the mode; a parameter of the task; a task invoked twice in the mode.
+    Twice {
+        /// The first byte of the name.
+        at: u64,
+    },
+    /// A name stands for nothing.
+    Unknown {
+        /// The first byte of the name.
+        at: u64,
+    },
+    /// An initial value isn't of the communicator's type, a period or worst case is
+    /// outside 1 to 1,000,000, or an instance is above 1,000,000.
+    Kind {
+        /// The first byte of the value or number; of the `-`, where there is one.
+        at: u64,
+    },
+    /// The programs aren't a tree below the first: another is not named by exactly one mode or not reached from the
+    /// first, or a mode names the first.
+    NotATree {
+        /// The number of the first program that breaks it, from 0 in source order.
+        program: u32,
+    },
+    /// A limit is exceeded.
+    Limit {
+        /// The number of the limit, 1 to 11.
+        which: u8,
+        /// What there is, for limits 8, 9 and 11 the greatest; at most 4,294,967,295.
+        count: u32,
+    },
 }

@@ -13,7 +13,7 @@ fn answer(alloc: Global, text: &[u8]) -> Option<Result<Tables, SourceFault>> {
     match read_source(alloc, text) {
         Ok(tables) => Some(Ok(tables)),
         Err(SourceStop::Fault(fault)) => Some(Err(fault)),
-        Err(SourceStop::Memory) => None,
+        Err(_) => None,
     }
 }
 
@@ -57,10 +57,6 @@ const FAULTS: &[(&str, SourceFault)] = &[
         SourceFault::NotBuilt { at: 49 },
     ),
     (
-        "program P { module M start m { mode m period 1 { invoke t input () output (); switch (true, m); } } }",
-        SourceFault::NotBuilt { at: 49 },
-    ),
-    (
         "program P { module M start m { mode m period 1 { switch (true, m); } } }",
         SourceFault::NotBuilt { at: 49 },
     ),
@@ -68,49 +64,69 @@ const FAULTS: &[(&str, SourceFault)] = &[
         "program P { module M start m { mode m period 1 program Q { } } } program Q { }",
         SourceFault::NotBuilt { at: 47 },
     ),
+    // a broken name rule before a form that isn't built
+    (
+        "program P { module M start m { mode m period 1 { invoke t input () output (); switch (true, m); } } }",
+        SourceFault::Unknown { at: 56 },
+    ),
+    (
+        "program P { module M start m { mode m period 1 program R { } } } program Q { }",
+        SourceFault::Unknown { at: 55 },
+    ),
+    (
+        "program P { module M start m { mode m period 1 program Q { } mode n period 1 program Q { } } } program Q { }",
+        SourceFault::NotATree { program: 1 },
+    ),
     (
         "// program\n program P { } program Q { }",
-        SourceFault::NotBuilt { at: 26 },
+        SourceFault::NotATree { program: 1 },
     ),
-    // a broken rule before the form
     (
-        "program P { sensor int s period 0 init true; } program P { }",
-        SourceFault::NotBuilt { at: 47 },
+        "program P { sensor int s period 1 init 0; sensor int t period 1 init 0; sensor int s period 1 init 0; }",
+        SourceFault::Twice { at: 83 },
     ),
-];
-
-// Texts that break a rule.
-const BROKEN: &[&str] = &[
-    // names
-    "program P { sensor int s period 1 init 0; sensor int t period 1 init 0; sensor int s period 1 init 0; }",
-    "program P { module M start m { mode m period 1 { } } module M start m { mode m period 1 { } } }",
-    "program P { module M start m { mode m period 1 { } mode m period 1 { } } }",
-    "program P { module M start n { mode m period 1 { } } }",
-    "program P { module M start m { } }",
-    "program P { module M start m { mode m period 1 { } } module N start m { mode n period 1 { } } }",
-    // kinds
-    "program P { sensor int s period 1 init true; }",
-    "program P { sensor bool s period 1 init -1; }",
-    "program P { sensor int s period 0 init 0; }",
-    "program P { sensor int s period 1000001 init 0; }",
-    "program P { sensor int s period 4294967297 init 0; }",
-    "program P { module M start m { mode m period 0 { } } }",
-    "program P { module M start m { mode m period 1000001 { } } }",
-    // periods
-    "program P { module M start a { mode a period 10 { } mode b period 20 { } } }",
-    "program P { module A start m { mode m period 10 { } } module B start m { mode m period 20 { } } module C start m { mode m period 10 { } } }",
+    (
+        "program P { module M start m { mode m period 1 { } } module M start m { mode m period 1 { } } }",
+        SourceFault::Twice { at: 60 },
+    ),
+    (
+        "program P { module M start m { mode m period 1 { } mode m period 1 { } } }",
+        SourceFault::Twice { at: 56 },
+    ),
+    (
+        "program P { module M start n { mode m period 1 { } } }",
+        SourceFault::Unknown { at: 27 },
+    ),
+    (
+        "program P { module M start m { mode m period 1 { } } module N start m { mode n period 1 { } } }",
+        SourceFault::Unknown { at: 68 },
+    ),
+    (
+        "program P { sensor int s period 1 init true; }",
+        SourceFault::Kind { at: 39 },
+    ),
+    (
+        "program P { sensor bool s period 1 init -1; }",
+        SourceFault::Kind { at: 40 },
+    ),
+    (
+        "program P { sensor int s period 0 init 0; }",
+        SourceFault::Kind { at: 32 },
+    ),
+    (
+        "program P { sensor int s period 4294967297 init 0; }",
+        SourceFault::Kind { at: 32 },
+    ),
+    (
+        "program P { module M start m { mode m period 1000001 { } } }",
+        SourceFault::Kind { at: 45 },
+    ),
 ];
 
 #[test]
 fn faults_stand_at_their_places(rt: HostRuntime) {
     for (text, at) in FAULTS {
         assert!(rt; is_fault(rt.alloc(), text.as_bytes(), *at), "{text}");
-    }
-    for text in BROKEN {
-        assert!(rt;
-            is_fault(rt.alloc(), text.as_bytes(), SourceFault::NotBuilt { at: 0 }),
-            "{text}"
-        );
     }
 }
 
@@ -168,13 +184,12 @@ const MET: &[(usize, &[usize])] = &[
     (0, &[2; 10]),
 ];
 
-// The same beyond them.
-const EXCEEDED: &[(usize, &[usize])] = &[
-    (1_025, &[]),
-    (0, &[1; 65]),
-    (0, &[257]),
-    (0, &[2; 64]),
-    (0, &[41, 5, 5]),
+// The same beyond them, with the limit and the count.
+const EXCEEDED: &[(usize, &[usize], u8, u32)] = &[
+    (1_025, &[], 1, 1_025),
+    (0, &[1; 65], 2, 65),
+    (0, &[257], 3, 257),
+    (0, &[41, 5, 5], 10, 1_025),
 ];
 
 #[test]
@@ -183,9 +198,13 @@ fn limits_are_met_exactly(rt: HostRuntime) -> Result<(), Fail> {
         let text = program(rt.alloc(), *comms, modules)?;
         assert!(rt; has_tables(rt.alloc(), text.as_bytes()));
     }
-    for (comms, modules) in EXCEEDED {
+    for (comms, modules, which, count) in EXCEEDED {
         let text = program(rt.alloc(), *comms, modules)?;
-        assert!(rt; is_fault(rt.alloc(), text.as_bytes(), SourceFault::NotBuilt { at: 0 }));
+        let fault = SourceFault::Limit {
+            which: *which,
+            count: *count,
+        };
+        assert!(rt; is_fault(rt.alloc(), text.as_bytes(), fault));
     }
     Ok(())
 }

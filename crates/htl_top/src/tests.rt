@@ -186,12 +186,42 @@ fn sources_are_refused(rt: HostRuntime) -> Result<(), Fail> {
         ),
         (
             "program P { module M start m { } }",
-            "htl: source not-built 0\n",
+            "htl: source unknown 27\n",
         ),
+        (
+            "program P { communicator int u period 1 init 0; communicator int u period 1 init 0; }",
+            "htl: source twice 65\n",
+        ),
+        (
+            "program P { communicator bool b period 1 init 3; }",
+            "htl: source kind 46\n",
+        ),
+        ("program P { } program Q { }", "htl: source not-a-tree 1\n"),
     ];
     for (source, line) in table {
         let called = go(alloc, source, &Setting::of(SCRIPT))?;
         assert!(rt; called.is(3, b"", line), "{source}");
+    }
+    Ok(())
+}
+
+// Modules of two modes of one period, and of two periods.
+#[test]
+fn ill_formed_sources_are_refused(rt: HostRuntime) -> Result<(), Fail> {
+    let alloc = rt.alloc();
+    let table = [
+        (
+            "program P { module M start a { mode a period 10 { } mode b period 20 { } } }",
+            "htl: ill-formed 1 at M.b have 20 need 10\n",
+        ),
+        (
+            "program P { module A start m { mode m period 10 { } } module B start m { mode m period 20 { } } }",
+            "htl: ill-formed 2 at B.m have 20 need 10\n",
+        ),
+    ];
+    for (source, line) in table {
+        let called = go(alloc, source, &Setting::of(SCRIPT))?;
+        assert!(rt; called.is(4, b"", line), "{source}");
     }
     Ok(())
 }
@@ -217,29 +247,63 @@ fn long_statements_are_refused(rt: HostRuntime) -> Result<(), Fail> {
     Ok(())
 }
 
+// Scripts with a fault, its line, and how many lines are written before it.
+const REFUSED: [(&str, &str, usize); 8] = [
+    ("", "htl: script 1 no-end\n", 0),
+    ("at 01\nend 20\n", "htl: script 1 form\n", 0),
+    ("at 0\nat 0\nend 20\n", "htl: script 2 order\n", 0),
+    (
+        "at 0\nsense s 3\nat 1\nsense u 3\nend 20\n",
+        "htl: script 4 unknown\n",
+        3,
+    ),
+    (
+        "at 0\nsense s 3\nat 10\nsense s 5\n",
+        "htl: script 5 no-end\n",
+        3,
+    ),
+    (
+        "at 0\nsense s 3\nat 10\nsense s 5\nat 11\nend 1000000001\n",
+        "htl: script 6 range\n",
+        4,
+    ),
+    (
+        "at 0\nsense s 3\nat 10\nsense s 5\nend 9\n",
+        "htl: script 5 order\n",
+        3,
+    ),
+    (
+        "at 0\nsense s 3\nat 10\nsense s 5\nend 20\nx",
+        "htl: script 6 after\n",
+        4,
+    ),
+];
+
 #[test]
 fn scripts_are_refused(rt: HostRuntime) -> Result<(), Fail> {
     let alloc = rt.alloc();
-    let table = [
-        "",
-        "at 0\nsense s 3\nat 10\nsense s 5\n",
-        "at 01\nend 20\n",
-        "at 0 \nend 20\n",
-        "stop 20\n",
-        "at 0\nsense u 3\nend 20\n",
-        "at 0\ntook M.m.t 3\nend 20\n",
-        "at 1000000001\nend 20\n",
-        "end 1000000001\n",
-        "at 0\nsense s 9223372036854775808\nend 20\n",
-        "sense s 3\nat 0\nend 20\n",
-        "at 5\nat 5\nend 20\n",
-        "at 5\nend 4\n",
-        "end 20\nend 20\n",
-        "end 20\nat 30\n",
-    ];
-    for script in table {
+    for (script, line, count) in REFUSED {
         let called = go(alloc, EMPTY_MODE, &Setting::of(script))?;
-        assert!(rt; called.is(7, b"", "htl: script 0 not-built\n"), "{script}");
+        assert!(rt;
+            called.is(7, lines(alloc, count)?.as_slice(), line),
+            "{script}"
+        );
+    }
+    Ok(())
+}
+
+// Each write of a script without its end fails once.
+#[test]
+fn failing_writes_stand_before_a_fault(rt: HostRuntime) -> Result<(), Fail> {
+    let alloc = rt.alloc();
+    let mut setting = Setting::of("at 0\nsense s 3\nat 10\nsense s 5\n");
+    for k in 0..3 {
+        setting.write = k as u64 + 1;
+        let called = go(alloc, EMPTY_MODE, &setting)?;
+        assert!(rt;
+            called.is(10, lines(alloc, k)?.as_slice(), "htl: write\n"),
+            "write {k}"
+        );
     }
     Ok(())
 }

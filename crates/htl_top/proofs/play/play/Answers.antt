@@ -1,9 +1,16 @@
-use Rattle.htl_top.proofs.Answering.{IsPlayed-from_run}
+use Rattle.htl_top.proofs.Answering.{IsPlayed-from_whole, IsPlayed-from_faulty}
 use Rattle.htl_top.specs.Answers.{streams}
 use Rattle.htl_top.proofs.play.play.Goals as goal
 
-pub returns-in-Ok-events_of : goal.returns-in-Ok-events_of
-returns-in-Ok-events_of g c =
+pub returns-in-Ok-read : goal.returns-in-Ok-read
+returns-in-Ok-read g c =
     let side = streams g.R.Source.rest g.R.Source.faults g.W.Sink.written g.W.Sink.faults in
-    IsPlayed-from_run c.args.tables.now (side c.args.input.now c.args.out.now) (side c.events_of.new.input c.write.new.out)
-    c.in-Ok-events_of.events.items c.deref.result.now c.write.result c.deref.ensures.value c.in-Ok-events_of.ensures.told c.in-Ok-events_of.ensures.left c.write.ensures
+    IsPlayed-from_whole c.args.tables.now (side c.args.input.now c.args.out.now) (side c.read.new.input c.write_whole.new.out)
+    c.read.new.events.items c.deref.result.now c.write_whole.result c.deref.ensures.value c.in-Ok-read.ensures.script c.in-Ok-read.ensures.left c.write_whole.ensures
+
+pub returns-in-Err-Script : goal.returns-in-Err-Script
+returns-in-Err-Script g c =
+    let side = streams g.R.Source.rest g.R.Source.faults g.W.Sink.written g.W.Sink.faults in
+    IsPlayed-from_faulty c.args.tables.now (side c.args.input.now c.args.out.now) (side c.read.new.input c.write_faulty.new.out)
+    c.read.new.events.items c.deref-in-Err-Script.result.now c.in-Err-Script.fault c.write_faulty.result c.deref-in-Err-Script.ensures.value
+    (rw c.in-Err-Script.field-0-is at c.in-Err-Script.ensures.script) c.write_faulty.ensures

@@ -1,4 +1,4 @@
-use Rattle.std.proofs.Common.{◌≡◌, suc, ◌<◌, arith, add-one}
+use Rattle.std.proofs.Common.{◌≡◌, ◌<◌, arith, add-one}
 use Rattle.htl_model.specs.Meaning.{value_lines}
 use Rattle.htl_top.proofs.Putting.{IsPutting-start, IsPutting-step, Puts-cut, Puts-all}
 use Rattle.htl_top.proofs.Values.{Reaches-start, Reaches-next, IsKnown-read, instant_lines_are}
@@ -35,11 +35,11 @@ returns-in-Err g c =
     let read = c.read_to-next in
     let known = IsKnown-read _ _ _ _ _ _ _ _ here.invariant.reaches read.ensures.latest in
     let put = rw read.ensures.shown at c.in-Err.ensures.put in
-    let inside : here.at < suc c.args.end = omega arith in
-    Puts-cut c.args.t.now (value_lines c.args.t.now c.args.events.now) here.at (suc c.args.end) _ _ _ _ _ _ _ _ _ inside
+    let inside : here.at < c.args.count = omega arith in
+    Puts-cut c.args.t.now (value_lines c.args.t.now c.args.events.now) here.at c.args.count _ _ _ _ _ _ _ _ _ inside
     (instant_lines_are c.args.t.now c.args.events.now here.at read.new.self.latest here.board.shown c.requires.plain known) here.invariant.put put
 
 pub returns : goal.returns
 returns g c =
-    let all : c.loop-at.at ≡ suc c.args.end = omega arith in
-    Puts-all c.args.t.now (value_lines c.args.t.now c.args.events.now) c.loop-at.at (suc c.args.end) _ _ _ _ _ all c.loop-at.invariant.put
+    let all : c.loop-at.at ≡ c.args.count = omega arith in
+    Puts-all c.args.t.now (value_lines c.args.t.now c.args.events.now) c.loop-at.at c.args.count _ _ _ _ _ all c.loop-at.invariant.put
