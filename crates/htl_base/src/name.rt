@@ -4,6 +4,7 @@ ghost use Rattle.htl_base.specs.Names.{is_name, is_identifier, is_reserved, is_l
 ghost use Rattle.std.specs.List.{list_all, list_any};
 ghost use Rattle.std.specs.Str.{bytes_eq};
 
+use crate::limits::MAX_NAME;
 use std::marker::Model;
 
 /// The name of an item of a source: an ASCII letter or `_`, then letters, digits or `_`, in all 1 to 48
@@ -11,7 +12,7 @@ use std::marker::Model;
 #[derive(Clone, Copy, PartialEq, Eq, Hash)]
 pub struct Name {
     len: u8,
-    bytes: [u8; 48],
+    bytes: [u8; MAX_NAME],
 }
 
 impl Model for Name {
@@ -41,7 +42,7 @@ impl Name {
         if !is_name(bytes) {
             return None;
         }
-        let mut held = [0u8; 48];
+        let mut held = [0u8; MAX_NAME];
         let len = bytes.len();
         held[..len].copy_from_slice(bytes);
         Some(Name {
@@ -64,7 +65,7 @@ impl Name {
 fn is_name(bytes: &[u8]) -> bool
     ensures { result ≡ is_name bytes.now }
 {
-    bytes.len() <= 48 && is_identifier(bytes) && !is_reserved(bytes)
+    bytes.len() <= MAX_NAME && is_identifier(bytes) && !is_reserved(bytes)
 }
 
 // The bytes are a letter or `_`, and then letters, digits or `_`.

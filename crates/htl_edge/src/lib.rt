@@ -1,7 +1,8 @@
-//! What lies outside: where text comes from, where it goes and where files are kept.
+//! What lies outside: where text comes from, where it goes and where files are kept; and the lines in between.
 #![tactic(auto)]
 
 mod drawer;
+mod line_buffer;
 mod page;
 mod put;
 mod shelf;
@@ -12,6 +13,7 @@ mod tape;
 mod tests;
 
 pub use drawer::Drawer;
+pub use line_buffer::LineBuffer;
 pub use page::Page;
 pub use put::put_all;
 pub use shelf::{Shelf, ShelfFault};

@@ -1,5 +1,5 @@
 // The fakes, call by call.
-use crate::{Drawer, Failed, Page, Shelf, ShelfFault, Sink, Source, Tape, put_all};
+use crate::{Drawer, Failed, LineBuffer, Page, Shelf, ShelfFault, Sink, Source, Tape, put_all};
 use std::alloc::Global;
 use std::test::Fail;
 
@@ -64,5 +64,22 @@ fn drawer_gives_files_by_name(rt: HostRuntime) -> Result<(), Fail> {
     assert!(rt; matches!(&shelf.fetch(alloc, "c", 3), Err(ShelfFault::Failed)));
     assert!(rt; matches!(&shelf.fetch(alloc, "a", 3), Err(ShelfFault::Failed)));
     assert!(rt; shelf.fetch(alloc, "a", 2).is_ok());
+    Ok(())
+}
+
+#[test]
+fn a_line_is_put_together(rt: HostRuntime) -> Result<(), Fail> {
+    let mut line = LineBuffer::new();
+    line.text(b"left");
+    line.clear();
+    line.push(b'v');
+    line.text(b" at ");
+    line.number(18_446_744_073_709_551_615);
+    line.push(b' ');
+    line.signed(-9_223_372_036_854_775_808);
+    assert_eq!(rt;
+        line.as_bytes(),
+        b"v at 18446744073709551615 -9223372036854775808".as_slice()
+    );
     Ok(())
 }
