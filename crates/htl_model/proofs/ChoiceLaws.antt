@@ -32,12 +32,12 @@ capped x c (suc r) =
     ]
 
 -- one more module
-pub choices_step : (cap : ℕ) (t : Tables) (units : List Module) (k n m : ℕ) (x : Module) (whole : ℕ) → k < length units → x ≡ get_or units k x
-    → m ≡ min (n * cond (is_root x) (length (modes_of t k)) 1) cap → min (n * choices_from t k (drop k units)) cap ≡ whole
-    → min (m * choices_from t (k + 1) (drop (k + 1) units)) cap ≡ whole
-choices_step cap t units k n m x whole below at is going =
+pub choices_step : (cap : ℕ) (t : Tables) (modules : List Module) (k n m : ℕ) (x : Module) (whole : ℕ) → k < length modules → x ≡ get_or modules k x
+    → m ≡ min (n * cond (is_root x) (length (modes_of t k)) 1) cap → min (n * choices_from t k (drop k modules)) cap ≡ whole
+    → min (m * choices_from t (k + 1) (drop (k + 1) modules)) cap ≡ whole
+choices_step cap t modules k n m x whole below at is going =
     let here = cond (is_root x) (length (modes_of t k)) 1 in
-    let rest = choices_from t (suc k) (drop (suc k) units) in
-    let cut : choices_from t k (drop k units) ≡ here * rest =
-    ap (choices_from t k) (drop-cons units k x below ∙ ap (λ z. z ∷ drop (suc k) units) (sym at)) in
+    let rest = choices_from t (suc k) (drop (suc k) modules) in
+    let cut : choices_from t k (drop k modules) ≡ here * rest =
+    ap (choices_from t k) (drop-cons modules k x below ∙ ap (λ z. z ∷ drop (suc k) modules) (sym at)) in
     rw add-one (ap (λ y. min (y * rest) cap) is ∙ capped (n * here) cap rest ∙ ap (λ y. min y cap) (mul_assoc n here rest ∙ ap (λ y. n * y) (sym cut)) ∙ going)

@@ -1,13 +1,11 @@
 -- The meaning of tables without invocations and switches.
-use Rattle.std.proofs.Common.{◌≡◌, ℕ, zero, suc, ◌*◌, ◌/◌, ◌<◌, Bool, true, false, cond, List, [], ◌∷◌, length, get_or, slice_get, Some, None, ℤ, pos, refl, sym, ap, ◌∙◌, arith, ◌++◌, ◌⊎◌, inl, inr, length-append}
+use Rattle.std.proofs.Common.{◌≡◌, ℕ, zero, suc, ◌*◌, ◌/◌, ◌<◌, Bool, true, false, cond, List, [], ◌∷◌, length, get_or, slice_get, Some, ℤ, pos, refl, sym, ap, ◌∙◌, arith, ◌++◌, ◌⊎◌, inl, inr, length-append}
 use Rattle.htl_model.specs.declared.parts.Comm.{Comm}
 use Rattle.htl_model.specs.declared.event.Event.{Event}
-use Rattle.htl_model.specs.declared.parts.Parts.{Parts}
-use Rattle.std.proofs.lemmas.Option.{slice_get_read, slice_get_within}
+use Rattle.std.proofs.lemmas.Option.{slice_get_within}
 use Rattle.htl_model.specs.Lists.{list_to}
-use Rattle.htl_model.specs.Tables.{Tables, tables_of}
-use Rattle.htl_model.specs.Plain.{IsPlain}
-use Rattle.htl_model.specs.Meaning.{history, newest, past, sense, val, next_value, first_value, written_by, write_from, initial, last_sense}
+use Rattle.htl_model.specs.Tables.{Tables}
+use Rattle.htl_model.specs.Meaning.{history, newest, past, sense, val, next_value, first_value, written_by, write_from}
 
 pub length-list_to : {A : Type 0} (f : ℕ → A) (n : ℕ) → length (list_to f n) ≡ n
 length-list_to f zero = refl
@@ -63,14 +61,3 @@ val_unwritten t es c x (suc n) p e =
     ∙ ap (λ is. cond x.sensor (sense t es c (x.period * (suc n / x.period))) (written_by t (past h) old.values c (write_from t old.stays c (suc n) 0 is))) p
     ∙ cond_same x.sensor (sense t es c (x.period * (suc n / x.period))) (get_or old.values c (pos 0)) x.init
     (λ b. val_unwritten t es c x n p e ∙ cond_false x.sensor (sense t es c (x.period * (n / x.period))) x.init b)
-
--- what the code works out of the item at the place
-pub val_by_item : (t : Tables) (p : Parts) (es : List Event) (comms : List Comm) (c now : ℕ) (x : Comm) →
-    IsPlain t → t ≡ tables_of p → comms ≡ p.comms → c < length t.comms → x ≡ get_or comms c x →
-    cond x.sensor (last_sense c (x.period * (now / x.period)) 0 x.init es) x.init ≡ val t es c now
-val_by_item t p es comms c now x plain is are k item =
-    let same : comms ≡ t.comms = are ∙ sym (ap (λ z. z.comms) is) in
-    let at : slice_get t.comms c ≡ Some x = slice_get_read t.comms (length t.comms) c x refl k (item ∙ ap (λ l. get_or l c x) same) in
-    let start : x.init ≡ initial t c = sym (ap (λ o. elim o [ Some y ↦ y.init | None ↦ pos 0 ]) at) in
-    ap (λ z. cond x.sensor (last_sense c (x.period * (now / x.period)) 0 z es) x.init) start
-    ∙ sym (val_unwritten t es c x now plain.no_invs at)

@@ -11,7 +11,7 @@ use Rattle.htl_model.specs.Lists.{places_from}
 use Rattle.htl_model.specs.declared.parts.Task.{Task}
 use Rattle.htl_model.specs.Tables.{Tables, mode_period, function_count, count_at, count_before}
 use Rattle.htl_model.specs.Ranges.{AreInRange, IsModeThat}
-use Rattle.htl_model.specs.Selections.{is_root, mode_of_unit, modes_of, choices_from, root_mode, invs_of, unit_positions, root_modules, root_period, inv_of_mode, positions}
+use Rattle.htl_model.specs.Selections.{is_root, mode_of_module, modes_of, choices_from, root_mode, invs_of, module_positions, root_modules, root_period, inv_of_mode, positions}
 
 either : (a b : ℕ) → (a < b) ⊎ (b ≤ a)
 either a b = grind arith
@@ -36,7 +36,7 @@ pub modes_some : (t : Tables) (k : ℕ) → AreInRange t → k < length t.module
 modes_some t k r h = elim (slice_get_cases t.modules k).1 [
   | inl c ↦
       let start = (r.modules k c.0 c.2).start in
-      places_some (mode_of_unit k) 0 c.0.start t.modes start.0 start.1 (eq-eqb start.0.«module» k start.2)
+      places_some (mode_of_module k) 0 c.0.start t.modes start.0 start.1 (eq-eqb start.0.«module» k start.2)
   | inr c ↦ absurd (omega (arith, c.0))
 ]
 
@@ -80,39 +80,31 @@ cut_front f true k rest = refl
 cut_front f false k rest = refl
 
 -- the positions from a module on are its own and those of the later ones
-pub positions_cut : (t : Tables) (sel k : ℕ) (units : List Module) (x : Module) → k < length units → x ≡ get_or units k x
-    → flat_map (λ u. invs_of t (root_mode t sel u)) (places_from is_root k (drop k units))
-    ≡ unit_positions t sel k x ++ flat_map (λ u. invs_of t (root_mode t sel u)) (places_from is_root (k + 1) (drop (k + 1) units))
-positions_cut t sel k units x below at =
+pub positions_cut : (t : Tables) (sel k : ℕ) (modules : List Module) (x : Module) → k < length modules → x ≡ get_or modules k x
+    → flat_map (λ u. invs_of t (root_mode t sel u)) (places_from is_root k (drop k modules))
+    ≡ module_positions t sel k x ++ flat_map (λ u. invs_of t (root_mode t sel u)) (places_from is_root (k + 1) (drop (k + 1) modules))
+positions_cut t sel k modules x below at =
     let f = λ (u : ℕ). invs_of t (root_mode t sel u) in
-    ap (λ (xs : List Module). flat_map f (places_from is_root k xs)) (drop-cons units k x below ∙ ap (λ z. z ∷ drop (suc k) units) (sym at))
-    ∙ cut_front f (is_root x) k (places_from is_root (suc k) (drop (suc k) units))
-    ∙ ap (λ n. unit_positions t sel k x ++ flat_map f (places_from is_root n (drop n units))) (sym (add-one k))
+    ap (λ (xs : List Module). flat_map f (places_from is_root k xs)) (drop-cons modules k x below ∙ ap (λ z. z ∷ drop (suc k) modules) (sym at))
+    ∙ cut_front f (is_root x) k (places_from is_root (suc k) (drop (suc k) modules))
+    ∙ ap (λ n. module_positions t sel k x ++ flat_map f (places_from is_root n (drop n modules))) (sym (add-one k))
 
--- a root module with some position
-pub root_of_position : (t : Tables) (sel k : ℕ) (x : Module) (p : ℕ) → p < length (unit_positions t sel k x) → unit_positions t sel k x ≡ invs_of t (root_mode t sel k)
-root_of_position t sel k x p h = by_root (is_root x) h
-  where
-    by_root : (b : Bool) → p < length (cond b (invs_of t (root_mode t sel k)) []) → cond b (invs_of t (root_mode t sel k)) [] ≡ invs_of t (root_mode t sel k)
-    by_root true h = refl
-    by_root false h = absurd (omega arith)
+pub count_step : (t : Tables) (sel k : ℕ) (modules : List Module) (x : Module) (n here whole : ℕ) → k < length modules → x ≡ get_or modules k x → here ≡ length (module_positions t sel k x)
+    → n + length (flat_map (λ u. invs_of t (root_mode t sel u)) (places_from is_root k (drop k modules))) ≡ whole
+    → n + here + length (flat_map (λ u. invs_of t (root_mode t sel u)) (places_from is_root (k + 1) (drop (k + 1) modules))) ≡ whole
+count_step t sel k modules x n here whole below at is going =
+    let rest = flat_map (λ (u : ℕ). invs_of t (root_mode t sel u)) (places_from is_root (k + 1) (drop (k + 1) modules)) in
+    let cut = ap length (positions_cut t sel k modules x below at) in
+    omega (arith, cut, length-append (module_positions t sel k x) rest)
 
-pub count_step : (t : Tables) (sel k : ℕ) (units : List Module) (x : Module) (n here whole : ℕ) → k < length units → x ≡ get_or units k x → here ≡ length (unit_positions t sel k x)
-    → n + length (flat_map (λ u. invs_of t (root_mode t sel u)) (places_from is_root k (drop k units))) ≡ whole
-    → n + here + length (flat_map (λ u. invs_of t (root_mode t sel u)) (places_from is_root (k + 1) (drop (k + 1) units))) ≡ whole
-count_step t sel k units x n here whole below at is going =
-    let rest = flat_map (λ (u : ℕ). invs_of t (root_mode t sel u)) (places_from is_root (k + 1) (drop (k + 1) units)) in
-    let cut = ap length (positions_cut t sel k units x below at) in
-    omega (arith, cut, length-append (unit_positions t sel k x) rest)
-
-pub position_step : (t : Tables) (sel k : ℕ) (units : List Module) (x : Module) (left here whole : ℕ) → k < length units → x ≡ get_or units k x → here ≡ length (unit_positions t sel k x) → here ≤ left
-    → get_or (flat_map (λ u. invs_of t (root_mode t sel u)) (places_from is_root k (drop k units))) left 0 ≡ whole
-    → get_or (flat_map (λ u. invs_of t (root_mode t sel u)) (places_from is_root (k + 1) (drop (k + 1) units))) (left - here) 0 ≡ whole
-position_step t sel k units x left here whole below at is past going =
-    let rest = flat_map (λ (u : ℕ). invs_of t (root_mode t sel u)) (places_from is_root (k + 1) (drop (k + 1) units)) in
+pub position_step : (t : Tables) (sel k : ℕ) (modules : List Module) (x : Module) (left here whole : ℕ) → k < length modules → x ≡ get_or modules k x → here ≡ length (module_positions t sel k x) → here ≤ left
+    → get_or (flat_map (λ u. invs_of t (root_mode t sel u)) (places_from is_root k (drop k modules))) left 0 ≡ whole
+    → get_or (flat_map (λ u. invs_of t (root_mode t sel u)) (places_from is_root (k + 1) (drop (k + 1) modules))) (left - here) 0 ≡ whole
+position_step t sel k modules x left here whole below at is past going =
+    let rest = flat_map (λ (u : ℕ). invs_of t (root_mode t sel u)) (places_from is_root (k + 1) (drop (k + 1) modules)) in
     ap (λ n. get_or rest (left - n) 0) is
-    ∙ sym (get_or-append_right (unit_positions t sel k x) rest left 0 (omega arith))
-    ∙ ap (λ xs. get_or xs left 0) (sym (positions_cut t sel k units x below at)) ∙ going
+    ∙ sym (get_or-append_right (module_positions t sel k x) rest left 0 (omega arith))
+    ∙ ap (λ xs. get_or xs left 0) (sym (positions_cut t sel k modules x below at)) ∙ going
 
 -- ---- the first root module
 
@@ -131,7 +123,7 @@ root_without_parent t None x e h = ap (λ (p : Option ℕ). elim p [ Some q ↦ 
 root_without_parent t (Some p) x e h = absurd (omega (arith, h.2))
 
 -- the first module is a root module
-pub no_modules : (t : Tables) (units : List Module) → AreInRange t → units ≡ t.modules → slice_get (places_from is_root 0 units) 0 ≡ None → length units ≡ 0
+pub no_modules : (t : Tables) (modules : List Module) → AreInRange t → modules ≡ t.modules → slice_get (places_from is_root 0 modules) 0 ≡ None → length modules ≡ 0
 no_modules t [] r e f = refl
 no_modules t (x ∷ xs) r e f =
     let range = r.modules 0 x (sym (ap (λ us. slice_get us 0) e)) in
@@ -190,7 +182,7 @@ root_mode_below t sel u r h =
     let some : 0 < length (modes_of t u) = modes_some t u r h in
     let place = sel / choices_from t (u + 1) (drop (u + 1) t.modules) % length (modes_of t u) in
     let within : place < length (modes_of t u) = omega arith in
-    All-get_or (λ p. p < length t.modes) (modes_of t u) place 0 within (all_places_below (mode_of_unit u) t.modes)
+    All-get_or (λ p. p < length t.modes) (modes_of t u) place 0 within (all_places_below (mode_of_module u) t.modes)
 
 pub position_below : (t : Tables) (sel p : ℕ) → p < length (positions t sel) → get_or (positions t sel) p 0 < length t.invs
 position_below t sel p h =

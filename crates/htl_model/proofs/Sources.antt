@@ -24,8 +24,8 @@ sensor n t p = record { name = n; ty = t; sensor = true; period = p; init = pos 
 abbrev pub mode : List ℕ → ℕ → ℕ → Mode
 mode n m p = record { name = n; «module» = m; period = p }
 
-abbrev pub unit : List ℕ → Option ℕ → ℕ → Module
-unit n parent s = record { name = n; parent = parent; start = s }
+abbrev pub module_named : List ℕ → Option ℕ → ℕ → Module
+module_named n parent s = record { name = n; parent = parent; start = s }
 
 abbrev pub task : List ℕ → ℕ → Bool → ℕ → List Ty → Task
 task n m a w ins = record { name = n; «module» = m; is_abstract = a; worst = w; inputs = ins; outputs = IntTy ∷ [] }
@@ -48,7 +48,7 @@ empty_mode =
     record {
       comms = sensor (codes "s") IntTy 10 ∷ plain (codes "u") 10 (pos 7) ∷ [];
       modes = mode (codes "m") 0 20 ∷ [];
-      modules = unit (codes "M") None 0 ∷ [];
+      modules = module_named (codes "M") None 0 ∷ [];
       ports = [];
       tasks = [];
       invs = [];
@@ -62,7 +62,7 @@ doubling =
     record {
       comms = sensor (codes "s") IntTy 10 ∷ plain (codes "u") 10 (pos 7) ∷ [];
       modes = mode (codes "m") 0 20 ∷ [];
-      modules = unit (codes "M") None 0 ∷ [];
+      modules = module_named (codes "M") None 0 ∷ [];
       ports = [];
       tasks = task (codes "dbl") 0 false 4 int_one ∷ [];
       invs = call 0 0 None (E.Comm 0 0 ∷ []) (E.Comm 1 1 ∷ []) ∷ [];
@@ -76,7 +76,7 @@ preempted =
     record {
       comms = plain (codes "x") 2 (pos 1) ∷ plain (codes "y") 2 (pos 0) ∷ plain (codes "z") 10 (pos 0) ∷ [];
       modes = mode (codes "m") 0 10 ∷ [];
-      modules = unit (codes "M") None 0 ∷ [];
+      modules = module_named (codes "M") None 0 ∷ [];
       ports = [];
       tasks = task (codes "a") 0 false 7 int_one ∷ task (codes "b") 0 false 3 int_one ∷ [];
       invs = call 0 0 None (E.Comm 0 0 ∷ []) (E.Comm 2 1 ∷ []) ∷ call 0 1 None (E.Comm 0 1 ∷ []) (E.Comm 1 3 ∷ []) ∷ [];
@@ -90,7 +90,7 @@ ports =
     record {
       comms = plain (codes "x") 10 (pos 2) ∷ plain (codes "u") 10 (pos 0) ∷ [];
       modes = mode (codes "m") 0 10 ∷ [];
-      modules = unit (codes "M") None 0 ∷ [];
+      modules = module_named (codes "M") None 0 ∷ [];
       ports = record { name = []; mode = 0; ty = IntTy } ∷ [];
       tasks = task (codes "p") 0 false 3 int_one ∷ task (codes "q") 0 false 4 int_one ∷ [];
       invs = call 0 1 None (E.Port 0 ∷ []) (E.Comm 1 1 ∷ []) ∷ call 0 0 None (E.Comm 0 0 ∷ []) (E.Port 0 ∷ []) ∷ [];
@@ -104,7 +104,7 @@ refined =
     record {
       comms = plain (codes "u") 10 (pos 3) ∷ plain (codes "w") 10 (pos 0) ∷ sensor (codes "g") BoolTy 10 ∷ [];
       modes = mode (codes "m") 0 10 ∷ mode (codes "off") 1 10 ∷ mode (codes "on") 1 10 ∷ [];
-      modules = unit (codes "M") None 0 ∷ unit (codes "N") (Some 0) 1 ∷ [];
+      modules = module_named (codes "M") None 0 ∷ module_named (codes "N") (Some 0) 1 ∷ [];
       ports = [];
       tasks = task (codes "plan") 0 true 4 int_one ∷ task (codes "fix") 0 false 2 int_one ∷ task (codes "fast") 1 false 3 int_one ∷ [];
       invs = call 0 0 None (E.Comm 1 0 ∷ []) (E.Comm 0 1 ∷ [])
@@ -122,7 +122,7 @@ reentered to =
     record {
       comms = sensor (codes "g") BoolTy 10 ∷ plain (codes "u") 10 (pos 0) ∷ [];
       modes = mode (codes "m") 0 10 ∷ mode (codes "rest") 0 10 ∷ mode (codes "one") 1 10 ∷ mode (codes "two") 1 10 ∷ [];
-      modules = unit (codes "M") None 0 ∷ unit (codes "N") (Some 0) 2 ∷ [];
+      modules = module_named (codes "M") None 0 ∷ module_named (codes "N") (Some 0) 2 ∷ [];
       ports = [];
       tasks = task (codes "plan") 0 true 4 [] ∷ task (codes "f") 1 false 3 int_one ∷ task (codes "h") 1 false 4 int_one ∷ [];
       invs = call 0 0 None [] (E.Comm 1 1 ∷ [])
@@ -141,7 +141,7 @@ alternating =
     record {
       comms = sensor (codes "g") BoolTy 10 ∷ plain (codes "u") 10 (pos 0) ∷ [];
       modes = mode (codes "one") 0 10 ∷ mode (codes "two") 0 10 ∷ [];
-      modules = unit (codes "M") None 0 ∷ [];
+      modules = module_named (codes "M") None 0 ∷ [];
       ports = [];
       tasks = task (codes "f") 0 false 3 int_one ∷ task (codes "h") 0 false 4 int_one ∷ [];
       invs = call 0 0 None (E.Comm 1 0 ∷ []) (E.Comm 1 1 ∷ []) ∷ call 1 1 None (E.Comm 1 0 ∷ []) (E.Comm 1 1 ∷ []) ∷ [];

@@ -1,15 +1,13 @@
 -- Where a module is, by where the modules are.
-use Rattle.std.proofs.Common.{◌≡◌, ℕ, zero, suc, ◌+◌, ◌<◌, Bool, true, false, cond, List, [], ◌∷◌, ◌++◌, length, get_or, slice_get, Option, Some, None, ℤ, refl, sym, ap, ◌∙◌, subst, arith, ◌⊎◌, inl, inr, length-append, eqb, append_assoc, add-one}
+use Rattle.std.proofs.Common.{◌≡◌, ℕ, zero, suc, ◌+◌, ◌<◌, Bool, true, false, cond, List, [], ◌∷◌, ◌++◌, length, slice_get, Option, Some, None, ℤ, refl, sym, ap, ◌∙◌, arith, ◌⊎◌, inl, inr, length-append, eqb}
 use Rattle.htl_model.specs.declared.parts.Module.{Module}
 use Rattle.htl_model.specs.declared.event.Event.{Event}
 use Rattle.std.proofs.lemmas.Bool.{eq-eqb}
-use Rattle.std.proofs.lemmas.Option.{slice_get_within, slice_get-get_or}
+use Rattle.std.proofs.lemmas.Option.{slice_get_within}
 use Rattle.std.proofs.Math.Dec.{eqb-suc-zero}
 use Rattle.htl_model.specs.declared.line.Line.TheVariants.{ModeLine}
-use Rattle.htl_model.specs.Lists.{up_to}
-use Rattle.htl_model.specs.Plain.{start_line, IsPlain}
-use Rattle.htl_model.specs.declared.parts.Parts.{Parts}
-use Rattle.htl_model.specs.Tables.{Tables, mode_period, tables_of}
+use Rattle.htl_model.specs.Plain.{start_line}
+use Rattle.htl_model.specs.Tables.{Tables, mode_period}
 use Rattle.htl_model.specs.declared.state.Stay.{Stay}
 use Rattle.htl_model.specs.Meaning.{state, place, stay_of, stays_to, next_stay, next_stay_at, mode_in, mode_of, same_mode, mode_line, before, target, target_from, go_on, go_on_or_begin, runs}
 
@@ -99,18 +97,3 @@ start_line_is t es k x (suc n) e at root =
     ∙ ap (λ m. cond (same_mode m (Some x.start)) [] (ModeLine (suc n) k (Some x.start) ∷ [])) (mode_is_start t es k x n e at root)
     ∙ ap (λ b. cond b [] (ModeLine (suc n) k (Some x.start) ∷ [])) (same_mode_refl x.start)
     ∙ sym (ap (λ b. cond b (ModeLine (suc n) k (Some x.start) ∷ []) []) (eqb-suc-zero n))
-
-pub line_of_module : (t : Tables) (p : Parts) (es : List Event) (modules : List Module) (k now : ℕ) (d : Module) →
-    IsPlain t → t ≡ tables_of p → modules ≡ p.modules → k < length modules →
-    start_line now k (get_or modules k d).start ≡ mode_line now (before t es now) (state t es now) k
-line_of_module t p es modules k now d plain is are h =
-    let same : modules ≡ t.modules = are ∙ sym (ap (λ z. z.modules) is) in
-    let x = get_or t.modules k d in
-    let h' : k < length t.modules = subst (λ l. k < length l) same h in
-    let at : slice_get t.modules k ≡ Some x = slice_get-get_or t.modules k d h' in
-    ap (λ l. start_line now k (get_or l k d).start) same
-    ∙ sym (start_line_is t es k x now plain.no_switches at (plain.roots k d h'))
-
-pub one_more : {A : Type 0} (f : ℕ → List A) (a old new line : List A) (k : ℕ) → old ≡ a ++ up_to f k → new ≡ old ++ line → line ≡ f k → new ≡ a ++ up_to f (k + 1)
-one_more f a old new line k e g h =
-    g ∙ ap (λ l. l ++ line) e ∙ append_assoc a (up_to f k) line ∙ ap (λ l. a ++ (up_to f k ++ l)) h ∙ ap (λ n. a ++ up_to f n) (sym (add-one k))

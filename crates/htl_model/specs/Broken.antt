@@ -1,5 +1,6 @@
 -- When a form rule is broken, and which broken one is the first.
 use Rattle.std.specs.Prelude.{◌≡◌, ◌≤◌, ◌<◌, ℕ, Option, Some, None, length, slice_get}
+use Rattle.htl_base.specs.declared.limits.TheConstants.{MAX_SELECTIONS, MAX_POSITIONS}
 use Rattle.htl_model.specs.declared.parts.Mode.{Mode}
 use Rattle.htl_model.specs.declared.parts.Inv.{Inv}
 use Rattle.htl_model.specs.declared.parts.Switch.{Switch}
@@ -7,7 +8,7 @@ use Rattle.htl_model.specs.declared.parts.End.{End}
 use Rattle.htl_model.specs.declared.form_fault.FormFault.{FormFault}
 use Rattle.htl_model.specs.Tables.{Tables, mode_module}
 use Rattle.htl_model.specs.Selections.{selection_count, positions}
-use Rattle.htl_model.specs.FormRules.{FormRule, ModulePeriod, RootPeriod, Divides, Offsets, Ends, Windows, WorstCases, PortWriters, PortCycles, AbstractPorts, Sensors, ConcreteWriters, AbstractPlaces, Parents, SharedParents, Inheritance, number_of, Part, Itself, Input, Output, Test, Site, Before}
+use Rattle.htl_model.specs.FormRules.{FormRule, ModulePeriod, RootPeriod, Divides, Offsets, Ends, Windows, WorstCases, PortWriters, PortCycles, AbstractPorts, Sensors, ConcreteWriters, AbstractPlaces, Parents, SharedParents, Inheritance, number_of, Part, Itself, Input, Output, Test, Site, ComesBefore}
 use Rattle.htl_model.specs.PeriodRules.{PeriodDiffers, RootPeriodDiffers, NotDivided, EndNotDivided}
 use Rattle.htl_model.specs.EndRules.{ReadLate, WriteOutside, input_types, output_types, CountsDiffer, TypeDiffers, WindowEmpty, WorstLong, AbstractRead, SensorWritten}
 use Rattle.htl_model.specs.PortWriters.{Unwritten, Rewritten}
@@ -101,9 +102,9 @@ pub record IsFirstBroken (t : Tables) (f : FormFault) : Type 0 where
   pub rule : f.rule ≡ number_of law
   pub «module» : f.«module» ≡ mode_module t f.mode
   pub broken : Broken t law (site_of f part) f.have f.need
-  pub first : (r : FormRule) (s : Site) (have need : ℕ) → Before r s law (site_of f part) → Broken t r s have need → ⊥
+  pub first : (r : FormRule) (s : Site) (have need : ℕ) → ComesBefore r s law (site_of f part) → Broken t r s have need → ⊥
 
--- at most 1,024 root selections, and at most 128 positions in each
+-- how many root selections there may be, and how many positions in each
 pub record KeepsLimits (t : Tables) : Type 0 where
-  pub selections : selection_count t ≤ 1024
-  pub positions : (sel : ℕ) → sel < selection_count t → length (positions t sel) ≤ 128
+  pub selections : selection_count t ≤ MAX_SELECTIONS
+  pub positions : (sel : ℕ) → sel < selection_count t → length (positions t sel) ≤ MAX_POSITIONS

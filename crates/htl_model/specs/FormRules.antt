@@ -82,5 +82,5 @@ abbrev pub SiteBefore : Site → Site → Type 0
 SiteBefore a b = (a.mode < b.mode) ⊎ ((a.mode ≡ b.mode) × InvBefore a.inv a.part b.inv b.part)
 
 -- by rule, then by site
-abbrev pub Before : FormRule → Site → FormRule → Site → Type 0
-Before r a q b = (number_of r < number_of q) ⊎ ((number_of r ≡ number_of q) × SiteBefore a b)
+abbrev pub ComesBefore : FormRule → Site → FormRule → Site → Type 0
+ComesBefore r a q b = (number_of r < number_of q) ⊎ ((number_of r ≡ number_of q) × SiteBefore a b)

@@ -1,6 +1,7 @@
 -- What a function of the tables means: a value for its arguments.
 use Rattle.std.specs.Prelude.{◌≡◌, ℕ, ◌+◌, ◌≤◌, max, Bool, true, false, cond, ◌&&◌, eqb, ltb, leb, List, [], ◌∷◌, ◌++◌, length, get_or, slice_get, map, Option, Some, None, ℤ, pos, negsuc, int_lt, int_le, int_rem}
 use Rattle.std.specs.Int.{w64, int_wrapping_add, int_wrapping_sub, int_wrapping_mul, int_wrapping_div, int_wrapping_neg}
+use Rattle.htl_base.specs.declared.limits.TheConstants.{MAX_INSTRUCTIONS, MAX_STACK}
 use Rattle.htl_base.specs.declared.Ty.{Ty}
 use Rattle.htl_base.specs.declared.Ty.TheVariants.{Int as IntTy, Bool as BoolTy}
 use Rattle.htl_base.specs.declared.operator.UnOp.{UnOp}
@@ -228,8 +229,8 @@ pub record Verified (code : Code) : Type 0 where
   pub typed : type_of code.args tree_of ≡ Some code.want
   pub bools : bools_fit code.instrs ≡ true
   pub some_code : 1 ≤ length code.instrs
-  pub short : length code.instrs ≤ 512
-  pub fits : held tree_of ≤ 64
+  pub short : length code.instrs ≤ MAX_INSTRUCTIONS
+  pub fits : held tree_of ≤ MAX_STACK
 
 -- the value that a tree gives, or 0 where there is none
 abbrev pub value_or : List ℤ → Option Term → ℤ

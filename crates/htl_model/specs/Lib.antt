@@ -1,6 +1,10 @@
+pub mod Bits
 pub mod Broken
+pub mod Chosen
 pub mod EndRules
+pub mod Exchanged
 pub mod FormRules
+pub mod FunctionTypes
 pub mod Functions
 pub mod Lines
 pub mod Lists
@@ -8,12 +12,15 @@ pub mod Meaning
 pub mod PeriodRules
 pub mod Plain
 pub mod PortOrder
+pub mod PortTable
 pub mod PortWriters
 pub mod Ranges
 pub mod RefinementRules
 pub mod SecondWriters
+pub mod Selected
 pub mod Selections
 pub mod Slow
+pub mod Small
 pub mod Tables
 pub mod TablesCode
 pub mod TermCode

@@ -42,16 +42,16 @@ abbrev pub rounds_to : ℕ → ℕ → ℕ
 rounds_to period at = at / period + 1
 
 -- the period of a module's rounds: that of the mode in which it starts
-abbrev pub unit_period : Tables → ℕ → ℕ
-unit_period t k = elim (slice_get t.modules k) [ Some x ↦ mode_period t x.start | None ↦ 0 ]
+abbrev pub module_period : Tables → ℕ → ℕ
+module_period t k = elim (slice_get t.modules k) [ Some x ↦ mode_period t x.start | None ↦ 0 ]
 
 -- Modes without invocations and switches: each round of a root module begins with three E instructions,
 -- and each round of the processor is that of the first root module, with one S instruction.
 abbrev pub empty_e_count : Tables → ℕ → ℕ
-empty_e_count t at = sum (map (λ k. 3 * rounds_to (unit_period t k) at) (root_modules t))
+empty_e_count t at = sum (map (λ k. 3 * rounds_to (module_period t k) at) (root_modules t))
 
 abbrev pub empty_s_count : Tables → ℕ → ℕ
-empty_s_count t at = elim (root_modules t) [ [] ↦ 0 | k ∷ ks ↦ rounds_to (unit_period t k) at ]
+empty_s_count t at = elim (root_modules t) [ [] ↦ 0 | k ∷ ks ↦ rounds_to (module_period t k) at ]
 
 -- the lines of the instants 0 to `end`, without the totals line
 abbrev pub lines_to_text : Tables → List Event → ℕ → List ℕ
@@ -62,5 +62,5 @@ abbrev pub lines_before_text : Tables → List Event → ℕ → List ℕ
 lines_before_text t es at = lines_text t (up_to (value_lines t es) at)
 
 -- all that a run of modes without invocations writes up to its last instant
-abbrev pub empty_text : Tables → List Event → ℕ → List ℕ
-empty_text t es end = lines_text t (run_lines t es end) ++ totals_line end 0 (empty_e_count t end) (empty_s_count t end)
+abbrev pub run_text : Tables → List Event → ℕ → List ℕ
+run_text t es end = lines_text t (run_lines t es end) ++ totals_line end 0 (empty_e_count t end) (empty_s_count t end)

@@ -92,8 +92,8 @@ in_round None m = None
 in_round (Some y) m = cond (eqb y.mode m) (Some y.start) None
 
 -- the start of the round in which a concrete invocation runs, where the modules are as `stays` says
-abbrev pub round_of : Tables → List (Option Stay) → Inv → Option ℕ
-round_of t stays x = cond (is_concrete t x) (in_round (stay_of stays (mode_module t x.mode)) x.mode) None
+abbrev pub round_start : Tables → List (Option Stay) → Inv → Option ℕ
+round_start t stays x = cond (is_concrete t x) (in_round (stay_of stays (mode_module t x.mode)) x.mode) None
 
 abbrev pub with_start : ℕ → ℕ → Option ℕ → Option Write
 with_start i s None = None
@@ -107,7 +107,7 @@ write_in t c now i ends (Some s) = with_start i s (end_to t c s now 0 ends)
 abbrev pub write_from : Tables → List (Option Stay) → ℕ → ℕ → ℕ → List Inv → Option Write
 write_from t stays c now k [] = None
 write_from t stays c now k (x ∷ xs) =
-    elim (write_in t c now k x.writes (round_of t stays x)) [ Some w ↦ Some w | None ↦ write_from t stays c now (suc k) xs ]
+    elim (write_in t c now k x.writes (round_start t stays x)) [ Some w ↦ Some w | None ↦ write_from t stays c now (suc k) xs ]
 
 -- ---- one instant
 

@@ -1,5 +1,6 @@
 -- Tables without invocations and switches.
 use Rattle.std.specs.Prelude.{◌≡◌, ◌≤◌, length, List, [], All, None, Some, ℕ, cond, eqb, ◌∷◌}
+use Rattle.htl_base.specs.declared.limits.TheConstants.{MAX_COMMUNICATORS, MAX_MODULES}
 use Rattle.htl_model.specs.declared.line.Line.{Line}
 use Rattle.htl_model.specs.declared.line.Line.TheVariants.{ModeLine}
 use Rattle.htl_model.specs.Tables.{Tables}
@@ -10,8 +11,8 @@ pub record IsPlain (t : Tables) : Type 0 where
   pub no_invs : t.invs ≡ []
   pub no_switches : t.switches ≡ []
   pub periods : All (λ c. 1 ≤ c.period) t.comms
-  pub few_comms : length t.comms ≤ 1024
-  pub few_modules : length t.modules ≤ 64
+  pub few_comms : length t.comms ≤ MAX_COMMUNICATORS
+  pub few_modules : length t.modules ≤ MAX_MODULES
   pub mode_periods : All (λ m. 1 ≤ m.period) t.modes
 
 -- the line of a root module in its start mode

@@ -3,6 +3,7 @@ use Rattle.std.specs.Prelude.{ℕ, zero, suc, ℤ, pos, Bool, true, false, ◌&&
 use Rattle.std.specs.List.{list_any}
 use Rattle.std.specs.List.Sorted.{IsNonDecreasing}
 use Rattle.std.specs.Str.{bytes_eq}
+use Rattle.htl_base.specs.declared.limits.TheConstants.{MAX_COMMUNICATORS, MAX_MODULES, MAX_MODES, MAX_PORTS, MAX_TASKS, MAX_INVOCATIONS, MAX_SWITCHES, MAX_MODE_INVOCATIONS, MAX_PERIOD, MAX_ENDS, MAX_ARGUMENTS, MAX_INSTRUCTIONS}
 use Rattle.htl_base.specs.declared.Ty.{Ty}
 use Rattle.htl_base.specs.declared.Ty.TheVariants as ty
 use Rattle.htl_model.specs.declared.parts.Comm.{Comm}
@@ -51,7 +52,7 @@ FitsType ty.Bool x = (x ≡ pos 0) ⊎ (x ≡ pos 1)
 -- a period or a worst case
 pub record IsSpan (n : ℕ) : Type 0 where
   pub some : 1 ≤ n
-  pub most : n ≤ 1000000
+  pub most : n ≤ MAX_PERIOD
 
 pub record IsCommInRange (c : Comm) : Type 0 where
   pub period : IsSpan c.period
@@ -87,12 +88,12 @@ IsPortInRange t p = p.mode < length t.modes
 pub record IsTaskInRange (t : Tables) (k : Task) : Type 0 where
   pub owner : k.«module» < length t.modules
   pub worst : IsSpan k.worst
-  pub few_inputs : length k.inputs ≤ 256
-  pub few_outputs : length k.outputs ≤ 256
+  pub few_inputs : length k.inputs ≤ MAX_ENDS
+  pub few_outputs : length k.outputs ≤ MAX_ENDS
 
 -- an instance of a communicator, or a port of the mode
 abbrev pub IsEndInRange : Tables → ℕ → End → Type 0
-IsEndInRange t m (E.Comm c n) = (c < length t.comms) × (n ≤ 1000000)
+IsEndInRange t m (E.Comm c n) = (c < length t.comms) × (n ≤ MAX_PERIOD)
 IsEndInRange t m (E.Port p) = (q : Port) × (slice_get t.ports p ≡ Some q) × (q.mode ≡ m)
 
 -- an invocation is of a task of its mode's module
@@ -102,8 +103,8 @@ pub record IsInvInRange (t : Tables) (i : Inv) : Type 0 where
   pub parent : IfSome i.parent (λ p. p < length t.invs)
   pub reads : All (IsEndInRange t i.mode) i.reads
   pub writes : All (IsEndInRange t i.mode) i.writes
-  pub few_reads : length i.reads ≤ 256
-  pub few_writes : length i.writes ≤ 256
+  pub few_reads : length i.reads ≤ MAX_ENDS
+  pub few_writes : length i.writes ≤ MAX_ENDS
 
 -- a switch goes to a mode of its mode's module
 pub record IsSwitchInRange (t : Tables) (w : Switch) : Type 0 where
@@ -111,22 +112,22 @@ pub record IsSwitchInRange (t : Tables) (w : Switch) : Type 0 where
   pub target : IsModeThat t (λ owner. owner ≡ mode_module t w.mode) w.target
   pub reads : All (λ c. c < length t.comms) w.reads
   pub different : are_different_numbers w.reads ≡ true
-  pub few_reads : length w.reads ≤ 256
+  pub few_reads : length w.reads ≤ MAX_ARGUMENTS
 
 abbrev pub IsFunInRange : Fun → Type 0
 IsFunInRange (Formula first e) = Unit {0}
-IsFunInRange (Compiled c) = (1 ≤ length c.instrs) × (length c.instrs ≤ 512) × (length c.args ≤ 256)
+IsFunInRange (Compiled c) = (1 ≤ length c.instrs) × (length c.instrs ≤ MAX_INSTRUCTIONS) × (length c.args ≤ MAX_ARGUMENTS)
 
 pub record AreInRange (t : Tables) : Type 0 where
   -- how many there are
-  pub few_comms : length t.comms ≤ 1024
-  pub few_modules : length t.modules ≤ 64
-  pub few_modes : length t.modes ≤ 256
-  pub few_ports : length t.ports ≤ 4096
-  pub few_tasks : length t.tasks ≤ 4096
-  pub few_invs : length t.invs ≤ 2048
-  pub few_switches : length t.switches ≤ 4096
-  pub few_in_mode : (m : ℕ) → count_by (λ i. eqb i.mode m) t.invs ≤ 128
+  pub few_comms : length t.comms ≤ MAX_COMMUNICATORS
+  pub few_modules : length t.modules ≤ MAX_MODULES
+  pub few_modes : length t.modes ≤ MAX_MODES
+  pub few_ports : length t.ports ≤ MAX_PORTS
+  pub few_tasks : length t.tasks ≤ MAX_TASKS
+  pub few_invs : length t.invs ≤ MAX_INVOCATIONS
+  pub few_switches : length t.switches ≤ MAX_SWITCHES
+  pub few_in_mode : (m : ℕ) → count_by (λ i. eqb i.mode m) t.invs ≤ MAX_MODE_INVOCATIONS
   -- names of one space differ, and a task is invoked once in a mode
   pub comm_names : are_different (map (λ c. c.name) t.comms) ≡ true
   pub module_names : are_different (map (λ x. x.name) t.modules) ≡ true

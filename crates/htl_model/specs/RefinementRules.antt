@@ -11,9 +11,9 @@ use Rattle.htl_model.specs.SecondWriters.{parent_mode}
 -- some module refines the mode
 pub record IsRefined (t : Tables) (m : ℕ) : Type 0 where
   pub number : ℕ
-  pub unit : Module
-  pub at : slice_get t.modules number ≡ Some unit
-  pub refines : unit.parent ≡ Some m
+  pub «module» : Module
+  pub at : slice_get t.modules number ≡ Some «module»
+  pub refines : «module».parent ≡ Some m
 
 -- 13: an abstract invocation stands in a mode that nothing refines
 abbrev pub StandsUnrefined : Tables → Inv → ℕ → ℕ → Type 0

@@ -14,15 +14,15 @@ is_root x = elim x.parent [ Some p ↦ false | None ↦ true ]
 abbrev pub root_modules : Tables → List ℕ
 root_modules t = places_from is_root 0 t.modules
 
-abbrev pub mode_of_unit : ℕ → Mode → Bool
-mode_of_unit u x = eqb x.«module» u
+abbrev pub mode_of_module : ℕ → Mode → Bool
+mode_of_module u x = eqb x.«module» u
 
 abbrev pub inv_of_mode : ℕ → Inv → Bool
 inv_of_mode m i = eqb i.mode m
 
 -- the modes of a module, by number
 abbrev pub modes_of : Tables → ℕ → List ℕ
-modes_of t u = places_from (mode_of_unit u) 0 t.modes
+modes_of t u = places_from (mode_of_module u) 0 t.modes
 
 -- the invocations of a mode, by number
 abbrev pub invs_of : Tables → ℕ → List ℕ
@@ -46,10 +46,14 @@ abbrev pub positions : Tables → ℕ → List ℕ
 positions t sel = flat_map (λ u. invs_of t (root_mode t sel u)) (root_modules t)
 
 -- the positions of one module in a selection
-abbrev pub unit_positions : Tables → ℕ → ℕ → Module → List ℕ
-unit_positions t sel k x = cond (is_root x) (invs_of t (root_mode t sel k)) []
+abbrev pub module_positions : Tables → ℕ → ℕ → Module → List ℕ
+module_positions t sel k x = cond (is_root x) (invs_of t (root_mode t sel k)) []
 
 -- the period of the first root module's first mode
 abbrev pub root_period : Tables → Option ℕ
 root_period t =
     elim (root_modules t) [ [] ↦ None | u ∷ us ↦ elim (modes_of t u) [ [] ↦ None | m ∷ ms ↦ Some (mode_period t m) ] ]
+
+-- the length of a round of the processor, in ticks: the period of the root modules; 0 without modules
+abbrev pub round_length : Tables → ℕ
+round_length t = elim (root_period t) [ Some p ↦ p | None ↦ 0 ]

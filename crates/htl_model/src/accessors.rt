@@ -1,8 +1,10 @@
 // What the tables say of single items.
 ghost use Rattle.std.specs.Prelude.{◌≡◌, ◌<◌, ◌≤◌, ◌-◌, ◌^◌, length, get_or, slice_get, min, IfSome, MatchOption};
+ghost use Rattle.htl_model.specs.Chosen.{chosen as chosen_of};
 ghost use Rattle.htl_model.specs.Selections.{selection_count, root_mode as root_mode_of, positions as positions_of, root_period as root_period_of};
 ghost use Rattle.htl_model.specs.Tables.{release as release_of, window_end as window_end_of, function_count, output_function as output_function_of, switch_function as switch_function_of};
 
+use crate::choice::{chosen_by, running_children};
 use crate::lookup::functions_before;
 use crate::selections::{choices, first_root, position_at, position_count, root_mode, root_period};
 use crate::window::{release, window_end};
@@ -28,7 +30,7 @@ impl Tables {
         ensures value { result ≡ root_period_of self.now }
         ensures none { MatchOption result (length self.now.modules ≡ 0) (λ p. 0 < length self.now.modules) }
     {
-        let _parts = self.parts();
+        self.keeps_ranges();
         root_period(self)
     }
 
@@ -36,7 +38,7 @@ impl Tables {
     pub fn selections(&self) -> u32
         ensures { result ≡ min (selection_count self.now) (2 ^ 32 - 1) }
     {
-        let _parts = self.parts();
+        self.keeps_ranges();
         match first_root(self) {
             Some(_) => choices(self, 0).min(u32::MAX as u64) as u32,
             None => 0,
@@ -50,7 +52,7 @@ impl Tables {
         ensures value { result ≡ root_mode_of self.now selection «module» }
         ensures within { result < length self.now.modes }
     {
-        let _parts = self.parts();
+        self.keeps_ranges();
         root_mode(self, selection, module)
     }
 
@@ -58,7 +60,7 @@ impl Tables {
     pub fn positions(&self, selection: u32) -> usize
         ensures { result ≡ length (positions_of self.now selection) }
     {
-        let _parts = self.parts();
+        self.keeps_ranges();
         position_count(self, selection)
     }
 
@@ -68,8 +70,18 @@ impl Tables {
         ensures value { result ≡ get_or (positions_of self.now selection) p 0 }
         ensures within { result < length self.now.invs }
     {
-        let _parts = self.parts();
+        self.keeps_ranges();
         position_at(self, selection, p)
+    }
+
+    /// The concrete invocation that stands for the root invocation `inv` where the modules are in these modes, one entry for each
+    /// module: itself, or the one that is reached through the modes that run. None exactly where it is absent. In tables that
+    /// break a form rule on refinement the first child that runs is taken.
+    pub fn chosen(&self, modes: &[Option<u16>], inv: u16) -> Option<u16>
+        ensures value { result ≡ chosen_of self.now modes.now inv }
+    {
+        let children = running_children(self, modes);
+        chosen_by(self, modes, &children, inv)
     }
 
     /// The number of the function of an output of a concrete task; both are in range.

@@ -3,13 +3,17 @@
 #![tactic(auto)]
 
 mod accessors;
+pub mod bits;
+pub mod choice;
 pub mod eval;
 mod event;
+pub mod exchange;
 mod form_fault;
 mod function;
 mod line;
 pub mod lookup;
 mod parts;
+pub mod port_table;
 pub mod selections;
 mod sensor;
 pub mod slow;

@@ -13,7 +13,7 @@ pub enum Line {
     /// A module's mode, where it isn't that of the instant before; None where the module is inactive.
     ModeLine {
         at: Time,
-        unit: u16,
+        module: u16,
         mode: Option<u16>,
     },
 }

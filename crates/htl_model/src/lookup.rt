@@ -1,8 +1,12 @@
 //! Look-ups by number, with 0 or false for what isn't there.
-ghost use Rattle.std.specs.Prelude.{◌≡◌, ◌≤◌, length, All};
+ghost use Rattle.std.specs.Prelude.{◌≡◌, ◌≤◌, length, All, map, take, drop};
+ghost use Rattle.htl_base.specs.declared.limits.TheConstants as limit;
+ghost use Rattle.htl_model.specs.FunctionTypes.{comm_type as comm_type_of};
 ghost use Rattle.htl_model.specs.Tables.{tables_of, count_before, function_count as function_count_of, comm_period as comm_period_of, mode_module as mode_module_of, mode_period as mode_period_of, task_worst as task_worst_of, is_concrete as is_concrete_of};
 
-use crate::{Inv, Parts, Tables, Task};
+use crate::{Inv, Parts, Switch, Tables, Task};
+use htl_base::Ty;
+use htl_base::limits::MAX_ARGUMENTS;
 
 // The lists of the tables, without a word on their ranges.
 pub(crate) fn lists(t: &Tables) -> &Parts
@@ -22,6 +26,33 @@ pub fn comm_period(t: &Tables, comm: u16) -> u32
     } else {
         0
     }
+}
+
+/// The type of a communicator; int where there is none.
+pub fn comm_type(t: &Tables, comm: u16) -> Ty
+    ensures { result ≡ comm_type_of t.now comm }
+{
+    let parts = lists(t);
+    let comms = parts.comms.as_slice();
+    if (comm as usize) < comms.len() {
+        comms[comm as usize].ty
+    } else {
+        Ty::Int
+    }
+}
+
+/// Fills the front with the types of the communicators that a switch reads, at most 256, and answers how many they are.
+pub fn fill_types(t: &Tables, switch: &Switch, types: &mut [Ty; MAX_ARGUMENTS]) -> usize
+    requires { length switch.now.reads ≤ limit.MAX_ARGUMENTS }
+    ensures types { take result types.new ≡ map (comm_type_of t.now) switch.now.reads }
+    ensures count { result ≡ length switch.now.reads }
+    ensures rest { drop result types.new ≡ drop result types.old }
+{
+    let reads = switch.reads.as_slice();
+    for k in 0..reads.len() {
+        types[k] = comm_type(t, reads[k]);
+    }
+    reads.len()
 }
 
 /// The period of a mode, in ticks.
@@ -79,9 +110,9 @@ pub fn is_concrete(t: &Tables, inv: &Inv) -> bool
 
 /// How many functions a task has: one for each output, none where it is abstract.
 pub fn function_count(task: &Task) -> u32
-    requires { length task.now.outputs ≤ 256 }
+    requires { length task.now.outputs ≤ limit.MAX_ENDS }
     ensures count { result ≡ function_count_of task.now }
-    ensures few { result ≤ 256 }
+    ensures few { result ≤ limit.MAX_ENDS }
 {
     if task.is_abstract {
         0
@@ -92,8 +123,8 @@ pub fn function_count(task: &Task) -> u32
 
 /// How many functions the tasks below a place have.
 pub fn functions_before(tasks: &[Task], count: usize) -> u32
-    requires few { length tasks.now ≤ 4096 }
-    requires outputs { All (λ k. length k.outputs ≤ 256) tasks.now }
+    requires few { length tasks.now ≤ limit.MAX_TASKS }
+    requires outputs { All (λ k. length k.outputs ≤ limit.MAX_ENDS) tasks.now }
     requires within { count ≤ length tasks.now }
     ensures value { result ≡ count_before count tasks.now }
     ensures few { result ≤ 1048576 }

@@ -1,27 +1,28 @@
 //! Root selections and their positions.
 ghost use Rattle.std.specs.Prelude.{◌≡◌, ◌≤◌, ◌<◌, ◌+◌, ◌*◌, ◌-◌, ◌^◌, min, cond, length, get_or, slice_get, drop, MatchOption};
+ghost use Rattle.htl_base.specs.declared.limits.TheConstants as limit;
 ghost use Rattle.htl_model.specs.Ranges.{AreInRange};
-ghost use Rattle.htl_model.specs.Selections.{is_root as is_root_of, root_modules, modes_of, invs_of, choices_from, root_mode as root_mode_of, positions as positions_of, root_period as root_period_of, unit_positions as unit_positions_of};
+ghost use Rattle.htl_model.specs.Selections.{is_root as is_root_of, root_modules, modes_of, invs_of, choices_from, root_mode as root_mode_of, positions as positions_of, root_period as root_period_of, module_positions as module_positions_of};
 
 use crate::lookup::{lists, mode_period};
 use crate::{Module, Tables};
 use htl_base::Time;
 
 /// Whether a module refines no mode.
-pub fn is_root(unit: &Module) -> bool
-    ensures { result ≡ is_root_of unit.now }
+pub fn is_root(module: &Module) -> bool
+    ensures { result ≡ is_root_of «module».now }
 {
-    unit.parent.is_none()
+    module.parent.is_none()
 }
 
 /// The first root module.
 pub fn first_root(t: &Tables) -> Option<u16>
-    requires { length t.now.modules ≤ 64 }
+    requires { length t.now.modules ≤ limit.MAX_MODULES }
     ensures { result ≡ slice_get (root_modules t.now) 0 }
 {
-    let units = lists(t).modules.as_slice();
-    for k in 0..units.len() {
-        if is_root(&units[k]) {
+    let modules = lists(t).modules.as_slice();
+    for k in 0..modules.len() {
+        if is_root(&modules[k]) {
             return Some(k as u16);
         }
     }
@@ -29,15 +30,15 @@ pub fn first_root(t: &Tables) -> Option<u16>
 }
 
 /// How many modes a module has.
-pub fn mode_count(t: &Tables, unit: u16) -> u32
-    requires { length t.now.modes ≤ 256 }
-    ensures count { result ≡ length (modes_of t.now unit) }
-    ensures few { result ≤ 256 }
+pub fn mode_count(t: &Tables, module: u16) -> u32
+    requires { length t.now.modes ≤ limit.MAX_MODES }
+    ensures count { result ≡ length (modes_of t.now «module») }
+    ensures few { result ≤ limit.MAX_MODES }
 {
     let modes = lists(t).modes.as_slice();
     let mut n = 0u32;
     for k in 0..modes.len() {
-        if modes[k].module == unit {
+        if modes[k].module == module {
             n += 1;
         }
     }
@@ -45,14 +46,14 @@ pub fn mode_count(t: &Tables, unit: u16) -> u32
 }
 
 /// A mode of a module by its place among them; 0 where there is none.
-pub fn mode_at(t: &Tables, unit: u16, place: u32) -> u16
-    requires { length t.now.modes ≤ 256 }
-    ensures { result ≡ get_or (modes_of t.now unit) place 0 }
+pub fn mode_at(t: &Tables, module: u16, place: u32) -> u16
+    requires { length t.now.modes ≤ limit.MAX_MODES }
+    ensures { result ≡ get_or (modes_of t.now «module») place 0 }
 {
     let modes = lists(t).modes.as_slice();
     let mut left = place;
     for k in 0..modes.len() {
-        if modes[k].module == unit {
+        if modes[k].module == module {
             if left == 0 {
                 return k as u16;
             }
@@ -64,9 +65,9 @@ pub fn mode_at(t: &Tables, unit: u16, place: u32) -> u16
 
 /// How many invocations a mode has.
 pub fn inv_count(t: &Tables, mode: u16) -> usize
-    requires { length t.now.invs ≤ 2048 }
+    requires { length t.now.invs ≤ limit.MAX_INVOCATIONS }
     ensures count { result ≡ length (invs_of t.now mode) }
-    ensures few { result ≤ 2048 }
+    ensures few { result ≤ limit.MAX_INVOCATIONS }
 {
     let invs = lists(t).invs.as_slice();
     let mut n = 0usize;
@@ -80,7 +81,7 @@ pub fn inv_count(t: &Tables, mode: u16) -> usize
 
 /// An invocation of a mode by its place among them; 0 where there is none.
 pub fn inv_at(t: &Tables, mode: u16, place: usize) -> u16
-    requires { length t.now.invs ≤ 2048 }
+    requires { length t.now.invs ≤ limit.MAX_INVOCATIONS }
     ensures { result ≡ get_or (invs_of t.now mode) place 0 }
 {
     let invs = lists(t).invs.as_slice();
@@ -97,11 +98,11 @@ pub fn inv_at(t: &Tables, mode: u16, place: usize) -> u16
 }
 
 // The choices of the modules so far with those of one more, capped.
-fn more_choices(t: &Tables, n: u64, k: u16, unit: &Module) -> u64
-    requires few { length t.now.modes ≤ 256 }
-    ensures { result ≡ min (n * cond (is_root_of unit.now) (length (modes_of t.now k)) 1) (2 ^ 64 - 1) }
+fn more_choices(t: &Tables, n: u64, k: u16, module: &Module) -> u64
+    requires few { length t.now.modes ≤ limit.MAX_MODES }
+    ensures { result ≡ min (n * cond (is_root_of «module».now) (length (modes_of t.now k)) 1) (2 ^ 64 - 1) }
 {
-    if is_root(unit) {
+    if is_root(module) {
         n.saturating_mul(mode_count(t, k) as u64)
     } else {
         n
@@ -110,38 +111,38 @@ fn more_choices(t: &Tables, n: u64, k: u16, unit: &Module) -> u64
 
 /// How many choices of modes the root modules from a number on have, capped at 2^64 - 1.
 pub fn choices(t: &Tables, from: usize) -> u64
-    requires few { length t.now.modes ≤ 256 }
-    requires units { length t.now.modules ≤ 64 }
+    requires few { length t.now.modes ≤ limit.MAX_MODES }
+    requires modules { length t.now.modules ≤ limit.MAX_MODULES }
     requires within { from ≤ length t.now.modules }
     ensures { result ≡ min (choices_from t.now from (drop from t.now.modules)) (2 ^ 64 - 1) }
 {
-    let units = lists(t).modules.as_slice();
+    let modules = lists(t).modules.as_slice();
     let mut n = 1u64;
-    for k in from..units.len() {
-        n = more_choices(t, n, k as u16, &units[k]);
+    for k in from..modules.len() {
+        n = more_choices(t, n, k as u16, &modules[k]);
     }
     n
 }
 
 /// The mode of a root module in a selection.
-pub fn root_mode(t: &Tables, selection: u32, unit: u16) -> u16
+pub fn root_mode(t: &Tables, selection: u32, module: u16) -> u16
     requires ranges { AreInRange t.now }
-    requires within { unit < length t.now.modules }
-    ensures { result ≡ root_mode_of t.now selection unit }
+    requires within { «module» < length t.now.modules }
+    ensures { result ≡ root_mode_of t.now selection «module» }
 {
-    let later = choices(t, unit as usize + 1);
-    let place = selection as u64 / later % mode_count(t, unit) as u64;
-    mode_at(t, unit, place as u32)
+    let later = choices(t, module as usize + 1);
+    let place = selection as u64 / later % mode_count(t, module) as u64;
+    mode_at(t, module, place as u32)
 }
 
 // How many positions a module has in a selection.
-fn unit_positions(t: &Tables, selection: u32, k: u16, unit: &Module) -> usize
+fn module_positions(t: &Tables, selection: u32, k: u16, module: &Module) -> usize
     requires ranges { AreInRange t.now }
     requires within { k < length t.now.modules }
-    ensures count { result ≡ length (unit_positions_of t.now selection k unit.now) }
-    ensures few { result ≤ 2048 }
+    ensures count { result ≡ length (module_positions_of t.now selection k «module».now) }
+    ensures few { result ≤ limit.MAX_INVOCATIONS }
 {
-    if is_root(unit) {
+    if is_root(module) {
         inv_count(t, root_mode(t, selection, k))
     } else {
         0
@@ -153,10 +154,10 @@ pub fn position_count(t: &Tables, selection: u32) -> usize
     requires ranges { AreInRange t.now }
     ensures { result ≡ length (positions_of t.now selection) }
 {
-    let units = lists(t).modules.as_slice();
+    let modules = lists(t).modules.as_slice();
     let mut n = 0usize;
-    for k in 0..units.len() {
-        n += unit_positions(t, selection, k as u16, &units[k]);
+    for k in 0..modules.len() {
+        n += module_positions(t, selection, k as u16, &modules[k]);
     }
     n
 }
@@ -166,10 +167,10 @@ pub fn position_at(t: &Tables, selection: u32, place: usize) -> u16
     requires ranges { AreInRange t.now }
     ensures { result ≡ get_or (positions_of t.now selection) place 0 }
 {
-    let units = lists(t).modules.as_slice();
+    let modules = lists(t).modules.as_slice();
     let mut left = place;
-    for k in 0..units.len() {
-        let here = unit_positions(t, selection, k as u16, &units[k]);
+    for k in 0..modules.len() {
+        let here = module_positions(t, selection, k as u16, &modules[k]);
         if left < here {
             return inv_at(t, root_mode(t, selection, k as u16), left);
         }

@@ -2,9 +2,10 @@
 //! every instant. Each function gives what a definition of the meaning says; tests compare faster programs
 //! with it.
 ghost use Rattle.std.specs.Prelude.{◌≡◌, ◌<◌, ◌≤◌, ◌*◌, ◌+◌, ◌^◌, ◌∷◌, [], ◌++◌, IfOk, IfSome, length, slice_get, get_or, map, pos, reverse, All, ℕ, ℤ};
-ghost use Rattle.htl_model.specs.Meaning.{port_output as port_output_of, writer_from, out, sense, past, input_value, out_by, end_to as end_to_of, stay_of, round_of, write_from, written, next_values as next_values_of, next_value, switch_holds, target as target_of, runs as runs_of, go_on_or_begin, next_stay as next_stay_of, stays_at as stays_at_of, first_value, first_values as first_values_of, first_state as first_state_of, state_after, history};
+ghost use Rattle.htl_base.specs.declared.limits.TheConstants as limit;
+ghost use Rattle.htl_model.specs.Meaning.{port_output as port_output_of, writer_from, out, sense, past, input_value, out_by, end_to as end_to_of, stay_of, round_start as round_start_of, write_from, written, next_values as next_values_of, next_value, switch_holds, target as target_of, runs as runs_of, go_on_or_begin, next_stay as next_stay_of, stays_at as stays_at_of, first_value, first_values as first_values_of, first_state as first_state_of, state_after, history};
 ghost use Rattle.htl_model.specs.Tables.{function_value, output_function, fun, fun_of, mode_period as mode_period_of};
-ghost use Rattle.htl_model.specs.Slow.{value_at as value_at_of, IsSource, IsFormula, StartsInTime};
+ghost use Rattle.htl_model.specs.Slow.{value_at as value_at_of, HasExpressions, IsFormula, StartsInTime};
 
 use crate::eval::eval_expr;
 use crate::lookup::{comm_period, functions_before, is_concrete, lists, mode_module, mode_period};
@@ -31,7 +32,7 @@ pub fn value_at(states: &[State], comm: u16, at: u64) -> i64
 
 /// The place of the output that goes to a port.
 pub fn port_output(port: u16, ends: &[End]) -> Option<u16>
-    requires { length ends.now ≤ 256 }
+    requires { length ends.now ≤ limit.MAX_ENDS }
     ensures { result ≡ port_output_of port 0 ends.now }
 {
     for k in 0..ends.len() {
@@ -46,8 +47,8 @@ pub fn port_output(port: u16, ends: &[End]) -> Option<u16>
 
 /// The writer of a port in a mode, and the place of its output.
 pub fn port_writer(mode: u16, port: u16, invs: &[Inv]) -> Option<(u16, u16)>
-    requires few { length invs.now ≤ 2048 }
-    requires ends { All (λ i. length i.writes ≤ 256) invs.now }
+    requires few { length invs.now ≤ limit.MAX_INVOCATIONS }
+    requires ends { All (λ i. length i.writes ≤ limit.MAX_ENDS) invs.now }
     ensures { result ≡ writer_from mode port 0 invs.now }
 {
     for k in 0..invs.len() {
@@ -97,8 +98,8 @@ pub fn out_value(
     output: u16,
     steps: u16,
 ) -> Result<i64, AllocError>
-    requires source { IsSource t.now }
-    requires start { start ≤ 1000000000 }
+    requires source { HasExpressions t.now }
+    requires start { start ≤ limit.MAX_INSTANT }
     ensures { IfOk result (λ r. r ≡ out steps t.now (value_at_of states.now) inv start output) }
 {
     let parts = lists(t);
@@ -138,8 +139,8 @@ pub fn out_value(
 
 /// The first output, from the front, that goes to a communicator at an instant of the round from `start`.
 pub fn end_to(t: &Tables, comm: u16, start: u64, now: u64, ends: &[End]) -> Option<u16>
-    requires few { length ends.now ≤ 256 }
-    requires start { start ≤ 1000000000 }
+    requires few { length ends.now ≤ limit.MAX_ENDS }
+    requires start { start ≤ limit.MAX_INSTANT }
     ensures { result ≡ end_to_of t.now comm start now 0 ends.now }
 {
     for k in 0..ends.len() {
@@ -153,11 +154,11 @@ pub fn end_to(t: &Tables, comm: u16, start: u64, now: u64, ends: &[End]) -> Opti
 }
 
 /// Where a module is.
-pub fn stay_at(stays: &[Option<Stay>], unit: u16) -> Option<Stay>
-    ensures { result ≡ stay_of stays.now unit }
+pub fn stay_at(stays: &[Option<Stay>], module: u16) -> Option<Stay>
+    ensures { result ≡ stay_of stays.now «module» }
 {
-    if (unit as usize) < stays.len() {
-        stays[unit as usize]
+    if (module as usize) < stays.len() {
+        stays[module as usize]
     } else {
         None
     }
@@ -165,7 +166,7 @@ pub fn stay_at(stays: &[Option<Stay>], unit: u16) -> Option<Stay>
 
 /// The start of the round in which a concrete invocation runs.
 pub fn round_start(t: &Tables, stays: &[Option<Stay>], inv: &Inv) -> Option<u64>
-    ensures { result ≡ round_of t.now stays.now inv.now }
+    ensures { result ≡ round_start_of t.now stays.now inv.now }
 {
     if !is_concrete(t, inv) {
         return None;
@@ -182,10 +183,10 @@ pub fn round_start(t: &Tables, stays: &[Option<Stay>], inv: &Inv) -> Option<u64>
 
 /// The first write to a communicator that is due at an instant.
 pub fn find_write(t: &Tables, stays: &[Option<Stay>], comm: u16, now: u64) -> Option<Write>
-    requires source { IsSource t.now }
+    requires source { HasExpressions t.now }
     requires starts { All StartsInTime stays.now }
     ensures write { result ≡ write_from t.now stays.now comm now 0 t.now.invs }
-    ensures start { IfSome result (λ w. w.start ≤ 1000000000) }
+    ensures start { IfSome result (λ w. w.start ≤ limit.MAX_INSTANT) }
 {
     let parts = lists(t);
     let invs = parts.invs.as_slice();
@@ -215,7 +216,7 @@ pub fn written_value(
     now: u64,
     comm: u16,
 ) -> Result<i64, AllocError>
-    requires source { IsSource t.now }
+    requires source { HasExpressions t.now }
     requires starts { All StartsInTime stays.now }
     ensures { IfOk result (λ r. r ≡ written t.now (value_at_of states.now) stays.now old.now now comm) }
 {
@@ -242,8 +243,8 @@ pub fn next_values(
     old: &[i64],
     now: u64,
 ) -> Result<Vec<i64>, AllocError>
-    requires source { IsSource t.now }
-    requires comms { length t.now.comms ≤ 1024 }
+    requires source { HasExpressions t.now }
+    requires comms { length t.now.comms ≤ limit.MAX_COMMUNICATORS }
     requires starts { All StartsInTime stays.now }
     ensures { IfOk result (λ v. v.items ≡ next_values_of t.now (sense t.now events.now) (value_at_of states.now) stays.now old.now now) }
 {
@@ -283,7 +284,7 @@ pub fn holds(
     k: u16,
     w: &Switch,
 ) -> Result<bool, AllocError>
-    requires source { IsSource t.now }
+    requires source { HasExpressions t.now }
     ensures { IfOk result (λ b. b ≡ switch_holds t.now values.now k w.now) }
 {
     let args = switch_args(alloc, w.reads.as_slice(), values)?;
@@ -295,8 +296,8 @@ pub fn holds(
 
 /// The mode that the first switch of a mode that holds names, from the front; the mode where none holds.
 pub fn target(alloc: Global, t: &Tables, values: &[i64], mode: u16) -> Result<u16, AllocError>
-    requires source { IsSource t.now }
-    requires few { length t.now.switches ≤ 4096 }
+    requires source { HasExpressions t.now }
+    requires few { length t.now.switches ≤ limit.MAX_SWITCHES }
     ensures { IfOk result (λ m. m ≡ target_of t.now values.now mode) }
 {
     let parts = lists(t);
@@ -326,19 +327,19 @@ pub fn go_on(
     t: &Tables,
     values: &[i64],
     now: u64,
-    unit: &Module,
+    module: &Module,
     old: Option<Stay>,
 ) -> Result<Option<Stay>, AllocError>
-    requires source { IsSource t.now }
-    requires few { length t.now.switches ≤ 4096 }
-    requires now { now ≤ 1000000000 }
+    requires source { HasExpressions t.now }
+    requires few { length t.now.switches ≤ limit.MAX_SWITCHES }
+    requires now { now ≤ limit.MAX_INSTANT }
     requires old { StartsInTime old }
-    ensures stay { IfOk result (λ r. r ≡ go_on_or_begin t.now values.now now unit.now old) }
+    ensures stay { IfOk result (λ r. r ≡ go_on_or_begin t.now values.now now «module».now old) }
     ensures start { IfOk result (λ r. StartsInTime r) }
 {
     match old {
         None => Ok(Some(Stay {
-            mode: unit.start,
+            mode: module.start,
             start: now,
         })),
         Some(stay) => {
@@ -359,21 +360,21 @@ pub fn next_stay(
     values: &[i64],
     now: u64,
     lower: &[Option<Stay>],
-    unit: &Module,
+    module: &Module,
     old: Option<Stay>,
 ) -> Result<Option<Stay>, AllocError>
-    requires source { IsSource t.now }
-    requires few { length t.now.switches ≤ 4096 }
-    requires now { now ≤ 1000000000 }
+    requires source { HasExpressions t.now }
+    requires few { length t.now.switches ≤ limit.MAX_SWITCHES }
+    requires now { now ≤ limit.MAX_INSTANT }
     requires old { StartsInTime old }
-    ensures stay { IfOk result (λ r. r ≡ next_stay_of t.now values.now now lower.now unit.now old) }
+    ensures stay { IfOk result (λ r. r ≡ next_stay_of t.now values.now now lower.now «module».now old) }
     ensures start { IfOk result (λ r. StartsInTime r) }
 {
-    match unit.parent {
-        None => go_on(alloc, t, values, now, unit, old),
+    match module.parent {
+        None => go_on(alloc, t, values, now, module, old),
         Some(mode) => {
             if runs(t, lower, mode) {
-                go_on(alloc, t, values, now, unit, old)
+                go_on(alloc, t, values, now, module, old)
             } else {
                 Ok(None)
             }
@@ -389,25 +390,25 @@ pub fn stays_after(
     now: u64,
     old: &[Option<Stay>],
 ) -> Result<Vec<Option<Stay>>, AllocError>
-    requires source { IsSource t.now }
-    requires few { length t.now.switches ≤ 4096 }
-    requires units { length t.now.modules ≤ 64 }
-    requires now { now ≤ 1000000000 }
+    requires source { HasExpressions t.now }
+    requires few { length t.now.switches ≤ limit.MAX_SWITCHES }
+    requires modules { length t.now.modules ≤ limit.MAX_MODULES }
+    requires now { now ≤ limit.MAX_INSTANT }
     requires old { All StartsInTime old.now }
     ensures stays { IfOk result (λ v. v.items ≡ stays_at_of t.now values.now now old.now) }
     ensures starts { IfOk result (λ v. All StartsInTime v.items) }
 {
     let parts = lists(t);
-    let units = parts.modules.as_slice();
+    let modules = parts.modules.as_slice();
     let mut stays = Vec::new(alloc);
-    for k in 0..units.len() {
+    for k in 0..modules.len() {
         let stay = next_stay(
             alloc,
             t,
             values,
             now,
             &stays,
-            &units[k],
+            &modules[k],
             stay_at(old, k as u16),
         )?;
         stays.push(stay)?;
@@ -417,7 +418,7 @@ pub fn stays_after(
 
 /// The values at instant 0.
 pub fn first_values(alloc: Global, t: &Tables, events: &[Event]) -> Result<Vec<i64>, AllocError>
-    requires comms { length t.now.comms ≤ 1024 }
+    requires comms { length t.now.comms ≤ limit.MAX_COMMUNICATORS }
     ensures { IfOk result (λ v. v.items ≡ first_values_of t.now (sense t.now events.now)) }
 {
     let parts = lists(t);
@@ -437,10 +438,10 @@ pub fn first_values(alloc: Global, t: &Tables, events: &[Event]) -> Result<Vec<i
 
 /// The state at instant 0.
 pub fn first_state(alloc: Global, t: &Tables, events: &[Event]) -> Result<State, AllocError>
-    requires source { IsSource t.now }
-    requires few { length t.now.switches ≤ 4096 }
-    requires units { length t.now.modules ≤ 64 }
-    requires comms { length t.now.comms ≤ 1024 }
+    requires source { HasExpressions t.now }
+    requires few { length t.now.switches ≤ limit.MAX_SWITCHES }
+    requires modules { length t.now.modules ≤ limit.MAX_MODULES }
+    requires comms { length t.now.comms ≤ limit.MAX_COMMUNICATORS }
     ensures state { IfOk result (λ x. x ≡ first_state_of t.now (sense t.now events.now)) }
     ensures starts { IfOk result (λ x. All StartsInTime x.stays) }
 {
@@ -461,11 +462,11 @@ pub fn next_state(
     old: &State,
     now: u64,
 ) -> Result<State, AllocError>
-    requires source { IsSource t.now }
-    requires few { length t.now.switches ≤ 4096 }
-    requires units { length t.now.modules ≤ 64 }
-    requires comms { length t.now.comms ≤ 1024 }
-    requires now { now ≤ 1000000000 }
+    requires source { HasExpressions t.now }
+    requires few { length t.now.switches ≤ limit.MAX_SWITCHES }
+    requires modules { length t.now.modules ≤ limit.MAX_MODULES }
+    requires comms { length t.now.comms ≤ limit.MAX_COMMUNICATORS }
+    requires now { now ≤ limit.MAX_INSTANT }
     requires starts { All StartsInTime old.now.stays }
     ensures state { IfOk result (λ x. x ≡ state_after t.now (sense t.now events.now) (value_at_of states.now) old.now now) }
     ensures starts { IfOk result (λ x. All StartsInTime x.stays) }
@@ -486,11 +487,11 @@ pub fn states(
     events: &[Event],
     end: u64,
 ) -> Result<Vec<State>, AllocError>
-    requires source { IsSource t.now }
-    requires few { length t.now.switches ≤ 4096 }
-    requires units { length t.now.modules ≤ 64 }
-    requires comms { length t.now.comms ≤ 1024 }
-    requires end { end ≤ 1000000000 }
+    requires source { HasExpressions t.now }
+    requires few { length t.now.switches ≤ limit.MAX_SWITCHES }
+    requires modules { length t.now.modules ≤ limit.MAX_MODULES }
+    requires comms { length t.now.comms ≤ limit.MAX_COMMUNICATORS }
+    requires end { end ≤ limit.MAX_INSTANT }
     ensures { IfOk result (λ v. v.items ≡ reverse (history t.now (sense t.now events.now) end)) }
 {
     let first = first_state(alloc, t, events)?;

@@ -19,7 +19,7 @@ impl Model for Tables {
     ghost use Rattle.htl_model.specs.Ranges.{AreInRange};
     ghost use Rattle.htl_model.specs.contracts.parts.Comm as comm;
     ghost use Rattle.htl_model.specs.contracts.parts.Mode as mode;
-    ghost use Rattle.htl_model.specs.contracts.parts.Module as unit;
+    ghost use Rattle.htl_model.specs.contracts.parts.Module as owner;
     ghost use Rattle.htl_model.specs.contracts.parts.Port as port;
     ghost use Rattle.htl_model.specs.contracts.parts.Task as task;
     ghost use Rattle.htl_model.specs.contracts.parts.Inv as inv;
@@ -28,7 +28,7 @@ impl Model for Tables {
 
     ghost Value = { Plain };
 
-    ghost coded = { Prim.hlevel (codes, fun_code, comm.the_row.coded, mode.the_row.coded, unit.the_row.coded, port.the_row.coded, task.the_row.coded, inv.the_row.coded, switch.the_row.coded) };
+    ghost coded = { Prim.hlevel (codes, fun_code, comm.the_row.coded, mode.the_row.coded, owner.the_row.coded, port.the_row.coded, task.the_row.coded, inv.the_row.coded, switch.the_row.coded) };
 
     ghost view = { λ t. tables_of t.parts };
 
@@ -42,6 +42,13 @@ impl Tables {
         ensures { result ≡ tables_of parts }
     {
         Tables { parts }
+    }
+
+    /// States that the lists are within their ranges; there is nothing to run.
+    pub fn keeps_ranges(&self)
+        ensures ranges { AreInRange self.now }
+    {
+        self.parts();
     }
 
     /// The lists.

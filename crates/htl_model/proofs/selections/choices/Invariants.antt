@@ -4,4 +4,4 @@ use Rattle.htl_model.proofs.selections.choices.Given as goal
 
 abbrev pub invariant-loop-k : goal.invariant-loop-k
 invariant-loop-k l =
-    (min (l.n * choices_from l.t l.k (drop l.k l.units)) (2 ^ 64 - 1) ≡ min (choices_from l.t l.from (drop l.from l.units)) (2 ^ 64 - 1)) × (l.n ≤ 2 ^ 64 - 1)
+    (min (l.n * choices_from l.t l.k (drop l.k l.modules)) (2 ^ 64 - 1) ≡ min (choices_from l.t l.from (drop l.from l.modules)) (2 ^ 64 - 1)) × (l.n ≤ 2 ^ 64 - 1)

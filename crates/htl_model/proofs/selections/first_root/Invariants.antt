@@ -4,4 +4,4 @@ use Rattle.htl_model.specs.Selections.{is_root}
 use Rattle.htl_model.proofs.selections.first_root.Given as goal
 
 abbrev pub invariant-loop-k : goal.invariant-loop-k
-invariant-loop-k l = places_from is_root l.k (drop l.k l.units) ≡ places_from is_root 0 l.units
+invariant-loop-k l = places_from is_root l.k (drop l.k l.modules) ≡ places_from is_root 0 l.modules

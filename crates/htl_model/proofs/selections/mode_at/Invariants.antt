@@ -1,8 +1,8 @@
 use Rattle.std.proofs.Common.{◌≡◌, drop, get_or}
 use Rattle.htl_model.specs.Lists.{places_from}
-use Rattle.htl_model.specs.Selections.{mode_of_unit}
+use Rattle.htl_model.specs.Selections.{mode_of_module}
 use Rattle.htl_model.proofs.selections.mode_at.Given as goal
 
 abbrev pub invariant-loop-k : goal.invariant-loop-k
 invariant-loop-k l =
-    get_or (places_from (mode_of_unit l.unit) l.k (drop l.k l.modes)) l.left 0 ≡ get_or (places_from (mode_of_unit l.unit) 0 l.modes) l.place 0
+    get_or (places_from (mode_of_module l.module) l.k (drop l.k l.modes)) l.left 0 ≡ get_or (places_from (mode_of_module l.module) 0 l.modes) l.place 0

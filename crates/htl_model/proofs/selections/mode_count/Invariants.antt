@@ -1,8 +1,8 @@
 use Rattle.std.proofs.Common.{◌≡◌, ◌+◌, ◌≤◌, length, drop}
 use Rattle.htl_model.specs.Lists.{places_from}
-use Rattle.htl_model.specs.Selections.{mode_of_unit}
+use Rattle.htl_model.specs.Selections.{mode_of_module}
 use Rattle.htl_model.proofs.selections.mode_count.Given as goal
 
 abbrev pub invariant-loop-k : goal.invariant-loop-k
 invariant-loop-k l =
-    (l.n + length (places_from (mode_of_unit l.unit) l.k (drop l.k l.modes)) ≡ length (places_from (mode_of_unit l.unit) 0 l.modes)) × (l.n ≤ l.k)
+    (l.n + length (places_from (mode_of_module l.module) l.k (drop l.k l.modes)) ≡ length (places_from (mode_of_module l.module) 0 l.modes)) × (l.n ≤ l.k)

@@ -4,7 +4,7 @@ use Rattle.htl_model.proofs.selections.position_count.Goals as goal
 
 pub loop-k-preserved : goal.loop-k-preserved
 loop-k-preserved c = (
-  count_step c.args.t.now c.args.selection c.loop-k.k c.as_slice-units.result.now c.index-units-k.result c.loop-k.n c.unit_positions-n.result _ (omega arith) c.index-units-k.is
-      c.unit_positions-n.ensures.count c.loop-k.invariant.0,
-  omega (arith, c.unit_positions-n.ensures.few),
+  count_step c.args.t.now c.args.selection c.loop-k.k c.as_slice-modules.result.now c.index-modules-k.result c.loop-k.n c.module_positions-n.result _ (omega arith) c.index-modules-k.is
+      c.module_positions-n.ensures.count c.loop-k.invariant.0,
+  omega (arith, c.module_positions-n.ensures.few),
 )

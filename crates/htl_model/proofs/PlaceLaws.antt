@@ -1,0 +1,108 @@
+-- The types of functions stand where the order of functions says.
+use Rattle.std.proofs.Common.{◌≡◌, ◌<◌, ℕ, zero, suc, ◌+◌, Bool, true, false, cond, List, [], ◌∷◌, ◌++◌, length, map, take, drop, set, get_or, slice_get, Some, refl, sym, ◌∙◌, ap, add-one, arith, length-append}
+use Rattle.std.proofs.Math.Seq.{take-suc, take-suc-set}
+use Rattle.std.proofs.lemmas.List.{drop-set-lt}
+use Rattle.std.specs.List.{flat_map}
+use Rattle.std.proofs.lemmas.List.{length-map}
+use Rattle.htl_base.specs.declared.Ty.{Ty}
+use Rattle.htl_model.specs.declared.parts.Switch.{Switch}
+use Rattle.htl_model.specs.declared.parts.Task.{Task}
+use Rattle.htl_model.specs.Ranges.{AreInRange}
+use Rattle.htl_model.specs.Tables.{Tables, function_count, count_before, output_function, switch_function}
+use Rattle.htl_model.specs.FunctionTypes.{FunctionType, output_type, task_types, switch_type, function_types}
+
+-- ---- look-ups in lists that are joined
+
+get_front : {A : Type 0} (xs ys : List A) (k : ℕ) (x : A) → slice_get xs k ≡ Some x → slice_get (xs ++ ys) k ≡ Some x
+get_front [] ys k x e = cc
+get_front (y ∷ xs) ys zero x e = e
+get_front (y ∷ xs) ys (suc k) x e = get_front xs ys k x e
+
+get_back : {A : Type 0} (xs ys : List A) (k : ℕ) → slice_get (xs ++ ys) (length xs + k) ≡ slice_get ys k
+get_back [] ys k = ap (slice_get ys) (let e : 0 + k ≡ k = omega arith in e)
+get_back (x ∷ xs) ys k = ap (slice_get (x ∷ (xs ++ ys))) (let e : suc (length xs) + k ≡ suc (length xs + k) = omega arith in e) ∙ get_back xs ys k
+
+pub get_mapped : {A B : Type 0} (f : A → B) (xs : List A) (k : ℕ) (x : A) → slice_get xs k ≡ Some x → slice_get (map f xs) k ≡ Some (f x)
+get_mapped f [] k x e = cc
+get_mapped f (y ∷ xs) zero x e = let same : y ≡ x = cc in ap (λ z. Some (f z)) same
+get_mapped f (y ∷ xs) (suc k) x e = get_mapped f xs k x e
+
+-- ---- tasks
+
+count_types : (k : Task) → length (task_types k) ≡ function_count k
+count_types k = by k.is_abstract
+  where
+    by : (b : Bool) → length (cond b [] (map (output_type k.inputs) k.outputs)) ≡ cond b 0 (length k.outputs)
+    by true = refl
+    by false = length-map k.outputs (output_type k.inputs)
+
+count_more : (k : Task) (ts : List Task) (n : ℕ) → count_before (suc n) (k ∷ ts) ≡ function_count k + count_before n ts
+count_more k ts zero = omega arith
+count_more k ts (suc n) = let e : count_before (suc n) (k ∷ ts) ≡ function_count k + count_before n ts = count_more k ts n in omega (arith, e)
+
+count_all : (ts : List Task) → length (flat_map task_types ts) ≡ count_before (length ts) ts
+count_all [] = refl
+count_all (k ∷ ts) =
+    let e = length-append (task_types k) (flat_map task_types ts) in
+    omega (arith, e, count_types k, count_all ts, count_more k ts (length ts))
+
+-- there is a type for each function
+pub count_function_types : (t : Tables) → AreInRange t → length (function_types t) ≡ length t.functions
+count_function_types t r =
+    let e = length-append (flat_map task_types t.tasks) (map (switch_type t) t.switches) in
+    omega (arith, e, length-map t.switches (switch_type t), count_all t.tasks, r.function_count)
+
+task_at : (ts : List Task) (n j : ℕ) (k : Task) (f : FunctionType) → slice_get ts n ≡ Some k → slice_get (task_types k) j ≡ Some f → slice_get (flat_map task_types ts) (count_before n ts + j) ≡ Some f
+task_at [] n j k f e g = cc
+task_at (x ∷ ts) zero j k f e g =
+    let same : x ≡ k = cc in
+    let place : count_before zero (x ∷ ts) + j ≡ j = omega arith in
+    ap (slice_get (task_types x ++ flat_map task_types ts)) place
+    ∙ get_front (task_types x) (flat_map task_types ts) j f (ap (λ z. slice_get (task_types z) j) same ∙ g)
+task_at (x ∷ ts) (suc n) j k f e g =
+    let place : count_before (suc n) (x ∷ ts) + j ≡ length (task_types x) + (count_before n ts + j) = omega (arith, count_more x ts n, count_types x) in
+    ap (slice_get (task_types x ++ flat_map task_types ts)) place ∙ get_back (task_types x) (flat_map task_types ts) (count_before n ts + j)
+    ∙ task_at ts n j k f e g
+
+concrete_types : (k : Task) (j : ℕ) (y : Ty) → k.is_abstract ≡ false → slice_get k.outputs j ≡ Some y → slice_get (task_types k) j ≡ Some (output_type k.inputs y)
+concrete_types k j y c e =
+    ap (λ (b : Bool). slice_get (cond b [] (map (output_type k.inputs) k.outputs)) j) c ∙ get_mapped (output_type k.inputs) k.outputs j y e
+
+-- the types of the function of an output
+pub output_types_at : (t : Tables) (n j : ℕ) (k : Task) (y : Ty) → slice_get t.tasks n ≡ Some k → k.is_abstract ≡ false → slice_get k.outputs j ≡ Some y
+    → slice_get (function_types t) (output_function t n j) ≡ Some (output_type k.inputs y)
+output_types_at t n j k y e c g =
+    let f : FunctionType = output_type k.inputs y in
+    get_front (flat_map task_types t.tasks) (map (switch_type t) t.switches) (count_before n t.tasks + j) f (task_at t.tasks n j k f e (concrete_types k j y c g))
+
+-- the types of the function of a switch
+pub switch_types_at : (t : Tables) (n : ℕ) (w : Switch) → slice_get t.switches n ≡ Some w → slice_get (function_types t) (switch_function t n) ≡ Some (switch_type t w)
+switch_types_at t n w e =
+    let place : switch_function t n ≡ length (flat_map task_types t.tasks) + n = omega (arith, count_all t.tasks) in
+    ap (slice_get (function_types t)) place ∙ get_back (flat_map task_types t.tasks) (map (switch_type t) t.switches) n ∙ get_mapped (switch_type t) t.switches n w e
+
+-- ---- a buffer that is filled from the front
+
+drop_first : {A : Type 0} (k : ℕ) (xs : List A) → drop (suc k) xs ≡ drop 1 (drop k xs)
+drop_first zero xs = refl
+drop_first (suc k) [] = refl
+drop_first (suc k) (x ∷ xs) = drop_first k xs
+
+-- the front of a buffer holds the types of the first reads, and one more
+pub types_more : (f : ℕ → Ty) (reads : List ℕ) (types : List Ty) (k d : ℕ) → k < length reads → k < length types → take k types ≡ map f (take k reads)
+    → take (k + 1) (set types k (f (get_or reads k d))) ≡ map f (take (k + 1) reads)
+types_more f reads types k d below room front =
+    let c = get_or reads k d in
+    let reached : take (suc k) reads ≡ take k reads ++ c ∷ [] = take-suc reads k d below in
+    ap (λ (n : ℕ). take n (set types k (f c))) (add-one k) ∙ take-suc-set types k (f c) room ∙ ap (λ (ts : List Ty). ts ++ f c ∷ []) front
+    ∙ sym (ap (λ (n : ℕ). map f (take n reads)) (add-one k) ∙ ap (map f) reached ∙ map_end f (take k reads) c)
+  where
+    map_end : (f : ℕ → Ty) (xs : List ℕ) (c : ℕ) → map f (xs ++ c ∷ []) ≡ map f xs ++ f c ∷ []
+    map_end f [] c = refl
+    map_end f (x ∷ xs) c = ap (λ (ts : List Ty). f x ∷ ts) (map_end f xs c)
+
+-- what lies behind is left as it was
+pub rest_same : (types old : List Ty) (k : ℕ) (y : Ty) → drop k types ≡ drop k old → drop (k + 1) (set types k y) ≡ drop (k + 1) old
+rest_same types old k y same =
+    drop-set-lt (k + 1) types k y (omega arith) ∙ ap (λ (n : ℕ). drop n types) (add-one k) ∙ drop_first k types ∙ ap (drop 1) same
+    ∙ sym (ap (λ (n : ℕ). drop n old) (add-one k) ∙ drop_first k old)

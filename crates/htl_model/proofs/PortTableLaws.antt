@@ -1,0 +1,122 @@
+-- The rows of a table of writers.
+use Rattle.std.proofs.Common.{◌≡◌, ◌<◌, ◌⊎◌, ℕ, zero, suc, ◌+◌, Bool, true, false, ◌&&◌, ◌||◌, eqb, ltb, List, [], ◌∷◌, length, get_or, Option, Some, None, refl, sym, ◌∙◌, ap, subst, arith, inl, inr}
+use Rattle.std.specs.Prelude.{slice_get}
+use Rattle.std.specs.List.{list_any}
+use Rattle.std.proofs.lemmas.Bool.Decides.{nat_tests}
+use Rattle.std.proofs.lemmas.Option.{slice_get_within, get_or_from_slice_get}
+use Rattle.htl_model.specs.declared.parts.Inv.{Inv}
+use Rattle.htl_model.specs.declared.parts.End.{End}
+use Rattle.htl_model.specs.declared.parts.End.TheVariants as E
+use Rattle.htl_model.specs.PortOrder.{is_read_from, feeds_at}
+use Rattle.htl_model.specs.PortTable.{writes_to, is_from}
+use Rattle.htl_model.specs.PortWriters.{is_port}
+use Rattle.htl_model.specs.Bits.{cell}
+use Rattle.htl_model.specs.Ranges.{AreInRange, IsInvInRange, IsEndInRange}
+use Rattle.htl_model.specs.Tables.{Tables}
+
+-- one writer more among those before number q
+pub one_writer : (w : ℕ → Bool) (q r : ℕ) (old new last : Bool) → old ≡ (ltb r q && w r) → last ≡ w q → new ≡ (old || (eqb r q && last)) → new ≡ (ltb r (q + 1) && w r)
+one_writer w q r old new last before is made = made ∙ ap (λ b. b || (eqb r q && last)) before ∙ ap (λ b. (ltb r q && w r) || (eqb r q && b)) is ∙ by (order r q)
+  where
+    order : (r q : ℕ) → (r < q) ⊎ ((r ≡ q) ⊎ (q < r))
+    order r q = grind arith
+
+    less : (r q : ℕ) (x y : Bool) → r < q → ((ltb r q && x) || (eqb r q && y)) ≡ (ltb r (q + 1) && x)
+    less r q x y h = grind (arith, nat_tests)
+
+    equal : (r q : ℕ) (x : Bool) → r ≡ q → ((ltb r q && x) || (eqb r q && x)) ≡ (ltb r (q + 1) && x)
+    equal r q x h = grind (arith, nat_tests)
+
+    more : (r q : ℕ) (x y : Bool) → q < r → ((ltb r q && x) || (eqb r q && y)) ≡ (ltb r (q + 1) && x)
+    more r q x y h = grind (arith, nat_tests)
+
+    by : (r < q) ⊎ ((r ≡ q) ⊎ (q < r)) → ((ltb r q && w r) || (eqb r q && w q)) ≡ (ltb r (q + 1) && w r)
+    by (inl h) = less r q (w r) (w q) h
+    by (inr (inl h)) = ap (λ x. (ltb r q && w r) || (eqb r q && w x)) (sym h) ∙ equal r q (w r) h
+    by (inr (inr h)) = more r q (w r) (w q) h
+
+pub any_same : {A : Type 0} (f g : A → Bool) (xs : List A) → ((k : ℕ) (x : A) → slice_get xs k ≡ Some x → f x ≡ g x) → list_any f xs ≡ list_any g xs
+any_same f g [] h = refl
+any_same f g (x ∷ xs) h = ap (λ b. b || list_any f xs) (h 0 x refl) ∙ ap (λ b. g x || b) (any_same f g xs (λ k y at. h (suc k) y at))
+
+none_any : {A : Type 0} (xs : List A) → list_any (λ (x : A). false) xs ≡ false
+none_any [] = refl
+none_any (x ∷ xs) = none_any xs
+
+all_at : {A : Type 0} (P : A → Type 0) (xs : List A) (k : ℕ) (x : A) → ((k : ℕ) (d : A) → k < length xs → P (get_or xs k d)) → slice_get xs k ≡ Some x → P x
+all_at P xs k x all at = subst P (get_or_from_slice_get xs k x x at) (all k x (slice_get_within xs k x at))
+
+-- what passes stands somewhere
+found : {A : Type 0} (f : A → Bool) (xs : List A) → list_any f xs ≡ true → (k : ℕ) × (x : A) × (slice_get xs k ≡ Some x) × (f x ≡ true)
+found f [] h = cc
+found f (x ∷ xs) h = by (f x) refl h (λ r. found f xs r)
+  where
+    by : (b : Bool) → f x ≡ b → (b || list_any f xs) ≡ true → (list_any f xs ≡ true → (k : ℕ) × (y : _) × (slice_get xs k ≡ Some y) × (f y ≡ true))
+        → (k : ℕ) × (y : _) × (slice_get (x ∷ xs) k ≡ Some y) × (f y ≡ true)
+    by true e h rest = (0, x, refl, e)
+    by false e h rest = let r = rest h in (suc r.0, r.1, r.2, r.3)
+
+-- an invocation that reads a port of another is of the same mode
+module _ (t : Tables) (r : AreInRange t) (x y : Inv) (m n : ℕ) (at_x : slice_get t.invs m ≡ Some x) (at_y : slice_get t.invs n ≡ Some y) where
+  port_mode : (p : ℕ) (j k : ℕ) → slice_get x.writes j ≡ Some (E.Port p) → slice_get y.reads k ≡ Some (E.Port p) → x.mode ≡ y.mode
+  port_mode p j k written read =
+      let a = all_at (IsEndInRange t x.mode) x.writes j (E.Port p) (all_at (IsInvInRange t) t.invs m x r.invs at_x).writes written in
+      let b = all_at (IsEndInRange t y.mode) y.reads k (E.Port p) (all_at (IsInvInRange t) t.invs n y r.invs at_y).reads read in
+      let same : Some a.0 ≡ Some b.0 = sym a.1 ∙ b.1 in
+      let one : a.0 ≡ b.0 = cc in
+      sym a.2 ∙ ap (λ q. q.mode) one ∙ b.2
+
+  by_read : (e : End) (k : ℕ) → slice_get y.reads k ≡ Some e → is_read_from x.writes e ≡ true → x.mode ≡ y.mode
+  by_read (E.Comm c o) k at h = cc
+  by_read (E.Port p) k at h = by_write (found (is_port p) x.writes h)
+    where
+      by_write : (j : ℕ) × (e : End) × (slice_get x.writes j ≡ Some e) × (is_port p e ≡ true) → x.mode ≡ y.mode
+      by_write (j, E.Comm c o, written, is) = cc
+      by_write (j, E.Port q, written, is) =
+          let same : q ≡ p = grind (arith, nat_tests) in
+          port_mode p j k (subst (λ z. slice_get x.writes j ≡ Some (E.Port z)) same written) at
+
+  -- so the modes needn't be compared
+  pub feeds_by_reads : feeds_at (Some x) (Some y) ≡ list_any (is_read_from x.writes) y.reads
+  feeds_by_reads = by (list_any (is_read_from x.writes) y.reads) refl
+    where
+      and_true : (a b : Bool) → a ≡ true → (a && b) ≡ b
+      and_true true b e = refl
+      and_true false b e = cc
+
+      no_right : (a : Bool) → (a && false) ≡ false
+      no_right true = refl
+      no_right false = refl
+
+      equal : (a b : ℕ) → a ≡ b → eqb a b ≡ true
+      equal a b e = grind (arith, nat_tests)
+
+      by : (b : Bool) → list_any (is_read_from x.writes) y.reads ≡ b → (eqb x.mode y.mode && list_any (is_read_from x.writes) y.reads) ≡ list_any (is_read_from x.writes) y.reads
+      by true e = let f = found (is_read_from x.writes) y.reads e in and_true (eqb x.mode y.mode) _ (equal x.mode y.mode (by_read f.1 f.0 f.2 f.3))
+      by false e = ap (λ b. eqb x.mode y.mode && b) e ∙ no_right (eqb x.mode y.mode) ∙ sym e
+
+  -- a table that has bit q for the ports that x writes says what y reads from x
+  pub row_by_reads : (table : List ℕ) (q : ℕ) → length table ≡ 4096 → ((p : ℕ) → p < length table → cell table p q ≡ writes_to (Some x) p)
+      → list_any (is_from table q) y.reads ≡ feeds_at (Some x) (Some y)
+  row_by_reads table q len says = any_same (is_from table q) (is_read_from x.writes) y.reads each ∙ sym feeds_by_reads
+    where
+      each : (k : ℕ) (e : End) → slice_get y.reads k ≡ Some e → is_from table q e ≡ is_read_from x.writes e
+      each k (E.Comm c o) at = refl
+      each k (E.Port p) at =
+          let b = all_at (IsEndInRange t y.mode) y.reads k (E.Port p) (all_at (IsInvInRange t) t.invs n y r.invs at_y).reads at in
+          let few = slice_get_within t.ports p b.0 b.1 in
+          let short = r.few_ports in
+          says p (omega arith)
+
+-- a table without bit q says that y reads nothing from there
+pub row_of_none : (t : Tables) (r : AreInRange t) (y : Inv) (n : ℕ) (at_y : slice_get t.invs n ≡ Some y) (table : List ℕ) (q : ℕ) → length table ≡ 4096
+    → ((p : ℕ) → p < length table → cell table p q ≡ false) → list_any (is_from table q) y.reads ≡ false
+row_of_none t r y n at_y table q len says = any_same (is_from table q) (λ e. false) y.reads each ∙ none_any y.reads
+  where
+    each : (k : ℕ) (e : End) → slice_get y.reads k ≡ Some e → is_from table q e ≡ false
+    each k (E.Comm c o) at = refl
+    each k (E.Port p) at =
+        let b = all_at (IsEndInRange t y.mode) y.reads k (E.Port p) (all_at (IsInvInRange t) t.invs n y r.invs at_y).reads at in
+        let few = slice_get_within t.ports p b.0 b.1 in
+        let short = r.few_ports in
+        says p (omega arith)
