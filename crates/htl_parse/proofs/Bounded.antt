@@ -7,7 +7,7 @@ use Rattle.std.proofs.lemmas.List.Elements.{All-nil, All-cons, All-map}
 use Rattle.std.proofs.lemmas.List.Sums.{sum_by-cons}
 use Rattle.htl_base.specs.declared.Ty.{Ty}
 use Rattle.htl_base.specs.declared.operator.BinOp.{BinOp}
-use Rattle.htl_text.specs.Bounds.{nodes, names_of, HasLiterals, IsBoundedExpr, IsBoundedConst, IsBoundedComm, IsBoundedTask, IsBoundedEnd, IsBoundedInvoke, IsBoundedSwitch, IsBoundedMode, IsBoundedModule, IsBoundedProgram, task_size, invoke_size, switch_size, mode_size, module_size, program_size, tree_size, IsBounded}
+use Rattle.htl_text.specs.Bounds.{tree_nodes, names_of, HasLiterals, IsBoundedExpr, IsBoundedConst, IsBoundedComm, IsBoundedTask, IsBoundedEnd, IsBoundedInvoke, IsBoundedSwitch, IsBoundedMode, IsBoundedModule, IsBoundedProgram, task_size, invoke_size, switch_size, mode_size, module_size, program_size, tree_size, IsBounded}
 use Rattle.htl_text.specs.Expressions.{Expr, Number, Flag, Variable, Prefix, Infix, Choice}
 use Rattle.htl_text.specs.Grammar.{Level, Spells, prefix_of, or_of, and_of, compare_of, sum_of, product_of, conj, or, cmp, and, sum, compare, prod, add, unary, multiply, atom, prefix, number, true_word, false_word, name, brackets, choice}
 use Rattle.htl_text.specs.Nodes.{PlainOut, PlainTask, PlainSwitch, PlainMode, PlainModule, PlainProgram, tree_of}
@@ -28,7 +28,7 @@ use Rattle.htl_text.specs.declared.tree.CommNode.{CommNode}
 use Rattle.htl_text.specs.declared.tree.EndNode.{EndNode}
 use Rattle.htl_text.specs.declared.tree.InvokeNode.{InvokeNode}
 use Rattle.htl_parse.specs.Answers.{Spell, IsParsed}
-use Rattle.htl_parse.specs.Runs.{ends_run, IsRun, IsLong, AreShort}
+use Rattle.htl_parse.specs.Runs.{ends_run, IsStatementRun, IsLong, AreShort}
 use Rattle.htl_parse.specs.declared.parser.ParseFault.{ParseFault}
 use Rattle.htl_text.specs.declared.tree.Tree.{Tree}
 
@@ -85,7 +85,7 @@ run-fit (next is run) fit = run-fit run (behind fit)
 record Passed (ts rest : List Placed) : Type 0 where
   front : List Token
   cut : plain ts ≡ front ++ plain rest
-  is_run : IsRun front
+  is_run : IsStatementRun front
   long : length front + length rest ≡ length ts
 
 passed : {ts rest : List Placed} → Runs ts rest → Passed ts rest
@@ -94,12 +94,12 @@ passed (next {k} {t} {ts} {rest} is run) =
     let more = passed run in
     record { front = t ∷ more.front; cut = ap (λ (us : List Token). t ∷ us) more.cut; is_run = (is, more.is_run); long = omega (arith, more.long) }
 
-run-take : (n : ℕ) (ts : List Token) → IsRun ts → IsRun (take n ts)
+run-take : (n : ℕ) (ts : List Token) → IsStatementRun ts → IsStatementRun (take n ts)
 run-take zero ts is = tt
 run-take (suc n) [] is = tt
 run-take (suc n) (t ∷ ts) is = (is.0, run-take n ts is.1)
 
-long-front : (front rest : List Token) → IsRun front → 513 ≤ length front → IsLong (front ++ rest) 512
+long-front : (front rest : List Token) → IsStatementRun front → 513 ≤ length front → IsLong (front ++ rest) 512
 long-front front rest is long = record {
   front = [];
   run = take 513 front;
@@ -136,7 +136,7 @@ weight (Prefix k op e) = weight e + 1
 weight (Infix k op l r) = weight l + weight r + 1
 weight (Choice k c a b) = weight c + weight a + weight b + 5
 
-nodes-weight : (e : Expr) → nodes e ≤ weight e
+nodes-weight : (e : Expr) → tree_nodes e ≤ weight e
 nodes-weight (Number k x) = omega arith
 nodes-weight (Flag k x) = omega arith
 nodes-weight (Variable id) = omega arith
@@ -340,10 +340,10 @@ comm-over _ _ _ (communicator type init) fit = let parts = comm-parts type init 
 comm-over _ _ _ (sensor type init) fit = let parts = comm-parts type init (behind fit) in record { fit = parts.fit; fits = omega (arith, parts.fits); good = parts.good }
 
 -- the outputs of a task and the nodes of their expressions
-outs-size : (os : List PlainOut) → length (map (λ (o : PlainOut). o.param) os) + sum_by nodes (map (λ (o : PlainOut). o.value) os) ≤ listed out_weight os
+outs-size : (os : List PlainOut) → length (map (λ (o : PlainOut). o.param) os) + sum_by tree_nodes (map (λ (o : PlainOut). o.value) os) ≤ listed out_weight os
 outs-size [] = omega arith
 outs-size (o ∷ os) =
-    omega (arith, nodes-weight o.value, outs-size os, sum_by-cons (λ (x : PlainOut). out_weight x + 1) o os, sum_by-cons nodes o.value (map (λ (x : PlainOut). x.value) os))
+    omega (arith, nodes-weight o.value, outs-size os, sum_by-cons (λ (x : PlainOut). out_weight x + 1) o os, sum_by-cons tree_nodes o.value (map (λ (x : PlainOut). x.value) os))
 
 task-over : (ts : List Placed) (t : PlainTask) (rest : List Placed) → SpellsTask ts t rest → AreFit ts → Over task_size IsBoundedTask ts t rest
 task-over _ _ _ (concrete {ins = ins} {outs = outs} inputs outputs) fit =

@@ -3,7 +3,6 @@ pub mod Bounded
 pub mod Coding
 pub mod Complete
 pub mod Descent
-pub mod Firsts
 pub mod Fixed
 pub mod Items
 pub mod Listing

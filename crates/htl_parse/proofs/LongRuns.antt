@@ -1,10 +1,10 @@
 -- Counting the tokens of a run.
-use Rattle.std.proofs.Common.{arith, ◌≡◌, ◌≤◌, ◌<◌, ◌+◌, ℕ, suc, Bool, true, false, cond, List, [], ◌∷◌, ◌++◌, length, drop, get_or, Option, None, Some, refl, sym, subst, ap, ◌∙◌, append_assoc, length-append, add-one}
+use Rattle.std.proofs.Common.{arith, ◌≡◌, ◌≤◌, ◌<◌, ◌+◌, ℕ, suc, Bool, true, false, cond, List, [], ◌∷◌, ◌++◌, length, drop, get_or, Option, None, Some, refl, sym, subst, ap, ◌∙◌, append_assoc, length-append}
 use Rattle.std.specs.Prelude.{nat_lt}
 use Rattle.std.proofs.Math.Seq.{drop-cons}
 use Rattle.std.proofs.lemmas.List.{drop_all}
 use Rattle.std.proofs.lemmas.Bool.Decides.{nat_tests}
-use Rattle.htl_parse.specs.Runs.{ends_run, IsRun, IsLong, AreShort, IsFirstLong, run_after}
+use Rattle.htl_parse.specs.Runs.{ends_run, IsStatementRun, IsLong, AreShort, IsFirstLong, run_after}
 use Rattle.htl_text.specs.declared.token.Token.{Token}
 
 -- n tokens of a run have been seen, and place is the number of the next token: the first with which a run is long
@@ -21,17 +21,14 @@ not_above n e = grind (arith, nat_tests)
 is_above : (n : ℕ) → 512 < n → nat_lt 512 n ≡ true
 is_above n e = grind (arith, nat_tests)
 
-is_not_above : (n : ℕ) → n ≤ 512 → nat_lt 512 n ≡ false
-is_not_above n e = grind (arith, nat_tests)
-
-run-push : (run : List Token) (t : Token) → IsRun run → ends_run t ≡ false → IsRun (run ++ t ∷ [])
+run-push : (run : List Token) (t : Token) → IsStatementRun run → ends_run t ≡ false → IsStatementRun (run ++ t ∷ [])
 run-push [] t is other = (other, tt)
 run-push (u ∷ us) t is other = (is.0, run-push us t is.1 other)
 
 -- what counting finds behind a front and a run of n tokens
 abbrev Finds : List Token → List Token → Type 0
 Finds whole ts =
-    (n place : ℕ) (front run : List Token) → whole ≡ front ++ (run ++ ts) → IsRun run → length run ≡ n → place ≡ length front + n → n ≤ 512
+    (n place : ℕ) (front run : List Token) → whole ≡ front ++ (run ++ ts) → IsStatementRun run → length run ≡ n → place ≡ length front + n → n ≤ 512
     → (k : ℕ) → counted n place ts ≡ Some k → IsLong whole k
 
 found : (whole ts : List Token) → Finds whole ts
@@ -59,7 +56,7 @@ found whole (t ∷ ts) n place front run cut is len at fits k e = by (found whol
     by rec false other e = go rec other (nat_lt 512 (n + 1)) refl e
 
 -- a long run at the front is found
-run-found : (run rest : List Token) (n place : ℕ) → IsRun run → n ≤ 512 → 513 ≤ n + length run → (k : ℕ) × (counted n place (run ++ rest) ≡ Some k) × (k + n ≡ place + 512)
+run-found : (run rest : List Token) (n place : ℕ) → IsStatementRun run → n ≤ 512 → 513 ≤ n + length run → (k : ℕ) × (counted n place (run ++ rest) ≡ Some k) × (k + n ≡ place + 512)
 run-found [] rest n place is fits long = absurd (omega (arith, fits, long))
 run-found (t ∷ ts) rest n place is fits long = by (λ m p. run-found ts rest m p is.1) (nat_lt 512 (n + 1)) refl
   where
@@ -74,7 +71,7 @@ run-found (t ∷ ts) rest n place is fits long = by (λ m p. run-found ts rest m
         (more.0, step ∙ ap (λ (c : Bool). cond c (Some place) (counted (n + 1) (place + 1) (ts ++ rest))) e ∙ more.1, omega (arith, more.2))
 
 -- whatever stands before it
-front-found : (front run rest : List Token) (n place : ℕ) → IsRun run → n ≤ 512 → length run ≡ 513
+front-found : (front run rest : List Token) (n place : ℕ) → IsStatementRun run → n ≤ 512 → length run ≡ 513
     → (k : ℕ) × (counted n place (front ++ (run ++ rest)) ≡ Some k) × (k ≤ place + length front + 512)
 front-found [] run rest n place is fits long =
     let found = run-found run rest n place is fits (omega (arith, long)) in
@@ -115,16 +112,6 @@ counted-none ts e = λ k is. let other = long-found ts k is in by (counted 0 0 t
 pub record IsCounting (ts : List Token) (n place : ℕ) : Type 0 where
   pub reads : counted 0 0 ts ≡ counted n place (drop place ts)
   pub short : n ≤ 512
-
-pub counting-more : (ts : List Token) (n place : ℕ) (t : Token) → IsCounting ts n place → place < length ts → t ≡ get_or ts place t → run_after n t ≤ 512
-    → IsCounting ts (run_after n t) (place + 1)
-counting-more ts n place t so within is fits = record {
-  reads =
-      so.reads ∙ ap (counted n place) (drop-cons ts place t within) ∙ ap (λ (u : Token). counted n place (u ∷ drop (suc place) ts)) (sym is)
-      ∙ ap (λ (c : Bool). cond c (Some place) (counted (run_after n t) (place + 1) (drop (suc place) ts))) (is_not_above (run_after n t) fits)
-      ∙ ap (λ (p : ℕ). counted (run_after n t) (place + 1) (drop p ts)) (sym (add-one place));
-  short = fits;
-}
 
 -- with token t at index i a run is long
 pub counting-found : (ts : List Token) (n place i m : ℕ) (t : Token) → IsCounting ts n place → place ≡ i → i < length ts → t ≡ get_or ts i t → m ≡ run_after n t → 512 < m

@@ -1,5 +1,5 @@
 -- Steps of reading repeated items.
-use Rattle.std.proofs.Common.{arith, ◌≡◌, ◌<◌, Bool, true, false, List, [], ◌∷◌, ◌++◌, length, Ok, Err, refl, ap, ◌∙◌}
+use Rattle.std.proofs.Common.{arith, ◌≡◌, ◌<◌, Bool, true, false, List, [], ◌∷◌, ◌++◌, length, Ok, refl, ap, ◌∙◌}
 use Rattle.htl_text.specs.Placed.{Placed}
 use Rattle.htl_text.specs.Statements.{SpellsComm, SpellsTask, SpellsPort, SpellsInvoke, SpellsSwitch, SpellsMode, SpellsModule, SpellsProgram}
 use Rattle.htl_parse.specs.Reading.{Read, Reader, ◌>>=◌}
@@ -18,10 +18,6 @@ pub record IsItem {X : Type 0} (begins : List Placed → Bool) (item : Reader X)
 -- the whole reading, all, has read these items, and goes on with those that begin in what is left
 pub record IsRepeating {X : Type 0} (begins : List Placed → Bool) (item : Reader X) (all : Read (List X)) (left : List Placed) (found : List X) : Type 0 where
   pub reads : all ≡ with_front found (repeated_at begins item left)
-
-front-nil : {X : Type 0} (r : Read (List X)) → r ≡ with_front [] r
-front-nil (Ok xs) = refl
-front-nil (Err left) = refl
 
 module _ {X : Type 0} (begins : List Placed → Bool) (item : Reader X) (is : IsItem begins item) (all : Read (List X)) (left : List Placed) (found : List X)
     (so : IsRepeating begins item all left found) where

@@ -8,7 +8,7 @@ use Rattle.htl_parse.specs.ReadingStatements.{source_at}
 use Rattle.htl_parse.specs.Runs.{IsLong}
 use Rattle.htl_parse.specs.Cursors.{Gives}
 use Rattle.htl_parse.specs.Answers.{IsTree, IsParsed, TellsTree, TellsLong, TellsSyntax}
-use Rattle.htl_parse.proofs.Firsts.{first-unique}
+use Rattle.htl_base.proofs.Firsts.{first-unique}
 use Rattle.htl_parse.proofs.Sound.{Holds}
 use Rattle.htl_parse.proofs.Sources.{source-sound, source-complete}
 use Rattle.htl_text.specs.declared.token.Token.{Token}

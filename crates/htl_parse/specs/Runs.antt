@@ -12,9 +12,9 @@ ends_run (token.Sign sign.CloseBrace) = true
 ends_run t = false
 
 -- none of these tokens ends a run
-abbrev pub IsRun : List Token → Type 0
-IsRun [] = Unit {0}
-IsRun (t ∷ ts) = (ends_run t ≡ false) × IsRun ts
+abbrev pub IsStatementRun : List Token → Type 0
+IsStatementRun [] = Unit {0}
+IsStatementRun (t ∷ ts) = (ends_run t ≡ false) × IsStatementRun ts
 
 -- token k is the 513th of a run, or a later one
 pub record IsLong (ts : List Token) (k : ℕ) : Type 0 where
@@ -22,7 +22,7 @@ pub record IsLong (ts : List Token) (k : ℕ) : Type 0 where
   pub run : List Token
   pub rest : List Token
   pub cut : ts ≡ front ++ (run ++ rest)
-  pub is_run : IsRun run
+  pub is_run : IsStatementRun run
   pub long : length run ≡ 513
   pub last : k ≡ length front + 512
 

@@ -100,20 +100,18 @@ fn is_refused(alloc: Global, text: &[u8]) -> bool {
 
 #[test]
 fn prefixes_are_refused(rt: HostRuntime) -> Result<(), Fail> {
-    let text = b"program P { communicator int a period 1 init -1; module M start m {
+    let texts: [&[u8]; 2] = [
+        b"program P { communicator int a period 1 init -1; module M start m {
         task t input (int x, bool y) output (int z = if(!y, x*-3, (2)), int w = 1) worst 3;
         mode m period 1 program Q { port int p; invoke t input ((a, 0), p) output (p) parent u;
-        switch (a >= 3 || false, m); } } }";
-    assert!(rt; needs_each_token(rt.alloc(), text));
-    Ok(())
-}
-
-#[test]
-fn prefixes_of_one_task_are_refused(rt: HostRuntime) -> Result<(), Fail> {
-    let text = b"program P { sensor int s period 10 init 0; communicator int u period 10 init 7;
+        switch (a >= 3 || false, m); } } }",
+        b"program P { sensor int s period 10 init 0; communicator int u period 10 init 7;
         module M start m { task dbl input (int x) output (int y = x * 2) worst 4;
-        mode m period 20 { invoke dbl input ((s, 0)) output ((u, 1)); } } }";
-    assert!(rt; needs_each_token(rt.alloc(), text));
+        mode m period 20 { invoke dbl input ((s, 0)) output ((u, 1)); } } }",
+    ];
+    for text in texts {
+        assert!(rt; needs_each_token(rt.alloc(), text));
+    }
     assert!(rt; !needs_each_token(rt.alloc(), b"program P {} program Q {}"));
     Ok(())
 }

@@ -10,7 +10,7 @@ use Rattle.std.proofs.lemmas.Slice.Eq.{bytes_eq-Decides}
 use Rattle.std.proofs.lemmas.Slice.Zip.{length-zip}
 use Rattle.std.proofs.lemmas.Bool.Decides.{nat_tests}
 use Rattle.htl_base.specs.Names.{is_identifier, is_reserved, is_name}
-use Rattle.htl_text.specs.Texts.{words, look_up, is_token, is_number, token_of, word_of, sign_of, or_else, number_of}
+use Rattle.htl_text.specs.Texts.{words, look_up, is_token, is_numeral, token_of, word_of, sign_of, or_else, number_of}
 use Rattle.htl_text.specs.Spans.{Gap, IsSpan, Item, Cuts, IsCut, Tokens, IsFault, Faults}
 use Rattle.htl_text.specs.TokenLists.{AreHeld}
 use Rattle.htl_text.specs.Scanning.{skip, token_len}
@@ -50,7 +50,7 @@ cond-none : {A : Type 0} (b : Bool) (x : A) → cond b (Some x) None ≡ None �
 cond-none true x e = absurd cc
 cond-none false x e = refl
 
-number-large : (text : List ℕ) → is_number text ≡ true → token_of text ≡ None → 2 ^ 63 ≤ digits_value 10 text
+number-large : (text : List ℕ) → is_numeral text ≡ true → token_of text ≡ None → 2 ^ 63 ≤ digits_value 10 text
 number-large text is e =
     let none_is : option_map Number (number_of text) ≡ None = ap (λ (b : Bool). cond b (option_map Number (number_of text)) (other text)) (sym is) ∙ e in
     let large = cond-none (nat_lt (digits_value 10 text) (2 ^ 63)) (pos (digits_value 10 text)) (map-none Number (number_of text) none_is) in
@@ -59,7 +59,7 @@ number-large text is e =
     other : List ℕ → Option Token
     other text = or_else (option_map Word (word_of text)) (or_else (option_map Sign (sign_of text)) (cond (is_name text) (Some (Ident text)) None))
 
-name-long : (text : List ℕ) → is_number text ≡ false → token_of text ≡ None → is_token text ≡ true → (is_identifier text ≡ true) × (48 < length text)
+name-long : (text : List ℕ) → is_numeral text ≡ false → token_of text ≡ None → is_token text ≡ true → (is_identifier text ≡ true) × (48 < length text)
 name-long text no_number e token =
     let rest : or_else (option_map Word (word_of text)) (or_else (option_map Sign (sign_of text)) (cond (is_name text) (Some (Ident text)) None)) ≡ None =
     ap (λ (b : Bool). cond b (option_map Number (number_of text)) (or_else (option_map Word (word_of text)) (or_else (option_map Sign (sign_of text)) (cond (is_name text) (Some (Ident text)) None)))) (sym no_number) ∙ e in
@@ -68,7 +68,7 @@ name-long text no_number e token =
     let no_sign : sign_of text ≡ None = map-none Sign (sign_of text) two.0 in
     let no_word : is_reserved text ≡ false = look_up-none words text (map-none Word (word_of text) one.0) in
     let no_name = cond-none (is_name text) (Ident text) two.1 in
-    by (is_identifier text) (is_reserved text) (is_number text) (sign_of text) no_word no_number no_sign token no_name
+    by (is_identifier text) (is_reserved text) (is_numeral text) (sign_of text) no_word no_number no_sign token no_name
   where
     by : (i r n : Bool) (s : Option ASign) → r ≡ false → n ≡ false → s ≡ None → (i || n || is_some s) ≡ true → (nat_lt (length text) 49 && i && not r) ≡ false
         → (i ≡ true) × (48 < length text)
@@ -83,9 +83,6 @@ pub record IsCutting (bytes rest : List ℕ) (found : List Item) : Type 0 where
   pub at : end + length rest ≡ length bytes
   pub cuts : Cuts 0 bytes found end rest
   pub few : length found ≤ end
-
-pub IsCutting-start : (bytes : List ℕ) → IsCutting bytes bytes []
-IsCutting-start bytes = record { end = 0; at = omega arith; cuts = (refl, refl); few = omega arith }
 
 -- a gap and what stands behind it
 record Stands (rest here : List ℕ) : Type 0 where
@@ -177,16 +174,16 @@ module _ (bytes rest here : List ℕ) (found : List Item) (so : IsCutting bytes 
       by [] at solid all = solid
       by (x ∷ xs) at solid all = (refl, solid.0, all)
 
-  pub cut-number : here ≢ [] → 0 < token_len here → (offset : ℕ) → offset ≡ length bytes - length here → is_number (take (token_len here) here) ≡ true
+  pub cut-number : here ≢ [] → 0 < token_len here → (offset : ℕ) → offset ≡ length bytes - length here → is_numeral (take (token_len here) here) ≡ true
       → token_of (take (token_len here) here) ≡ None → Faults bytes (fault.Number offset)
   cut-number some long offset place is e =
       cut-fault some offset place fault.Number (λ at solid. by here at solid (take (token_len here) here) (drop (token_len here) here) (sym (take-append-drop (token_len here) here)) (IsSpan-front here solid long) is (number-large (take (token_len here) here) is e))
     where
-      by : (xs : List ℕ) (at : ℕ) → IsSolid xs → (text left : List ℕ) → xs ≡ text ++ left → IsSpan text left → is_number text ≡ true → 2 ^ 63 ≤ digits_value 10 text → IsFault at xs (fault.Number at)
+      by : (xs : List ℕ) (at : ℕ) → IsSolid xs → (text left : List ℕ) → xs ≡ text ++ left → IsSpan text left → is_numeral text ≡ true → 2 ^ 63 ≤ digits_value 10 text → IsFault at xs (fault.Number at)
       by [] at solid text left cut span is large = solid
       by (x ∷ xs) at solid text left cut span is large = (refl, (text, left, cut, span, is, large))
 
-  pub cut-name : here ≢ [] → 0 < token_len here → (offset : ℕ) → offset ≡ length bytes - length here → is_number (take (token_len here) here) ≡ false
+  pub cut-name : here ≢ [] → 0 < token_len here → (offset : ℕ) → offset ≡ length bytes - length here → is_numeral (take (token_len here) here) ≡ false
       → token_of (take (token_len here) here) ≡ None → Faults bytes (fault.NameLong offset)
   cut-name some long offset place is e =
       cut-fault some offset place fault.NameLong (λ at solid. by here at solid (take (token_len here) here) (drop (token_len here) here) (sym (take-append-drop (token_len here) here)) (IsSpan-front here solid long)
@@ -227,9 +224,6 @@ zip-push {A} {B} (a ∷ xs) (b ∷ ys) x y e = ap (λ (zs : List (A × B)). (a, 
 pub record AreFound (bytes rest : List ℕ) (tokens : List Token) (offsets : List ℕ) : Type 0 where
   pub paired : length offsets ≡ length tokens
   pub cutting : IsCutting bytes rest (zip tokens offsets)
-
-pub AreFound-start : (bytes : List ℕ) → AreFound bytes bytes [] []
-AreFound-start bytes = record { paired = refl; cutting = IsCutting-start bytes }
 
 pub AreFound-push : (bytes rest : List ℕ) (tokens : List Token) (offsets : List ℕ) (token : Token) (offset : ℕ) → length offsets ≡ length tokens
     → IsCutting bytes rest (zip tokens offsets ++ (token, offset) ∷ []) → AreFound bytes rest (tokens ++ token ∷ []) (offsets ++ offset ∷ [])

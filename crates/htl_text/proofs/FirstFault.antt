@@ -9,7 +9,7 @@ use Rattle.std.proofs.Math.Seq.{take-append_seam}
 use Rattle.std.proofs.lemmas.Bool.Decides.{nat_tests, Decides-eqb}
 use Rattle.htl_base.specs.Names.{is_letter, is_word_byte, is_identifier, is_name, is_reserved}
 use Rattle.htl_text.specs.Answers.{IsLexed, TellsTokens, TellsFault}
-use Rattle.htl_text.specs.Texts.{is_token, is_number, token_of, word_of, sign_of, number_of, or_else}
+use Rattle.htl_text.specs.Texts.{is_token, is_numeral, token_of, word_of, sign_of, number_of, or_else}
 use Rattle.htl_text.specs.TokenLists.{TokenList}
 use Rattle.htl_text.specs.Spans.{Gap, IsSpan, Item, Cuts, Tokens, IsFault, Faults, is_blank}
 use Rattle.htl_text.specs.Scanning.{skip, token_len}
@@ -25,7 +25,7 @@ use Rattle.htl_text.specs.declared.lexer.LexFault.TheVariants as fault
 
 -- the fault of a place, by the longest token there
 abbrev fault_at : ℕ → List ℕ → LexFault
-fault_at at rest = cond (token_len rest == 0) (fault.Char at) (cond (is_number (take (token_len rest) rest)) (fault.Number at) (fault.NameLong at))
+fault_at at rest = cond (token_len rest == 0) (fault.Char at) (cond (is_numeral (take (token_len rest) rest)) (fault.Number at) (fault.NameLong at))
 
 record AtFault (at : ℕ) (rest : List ℕ) (f : LexFault) : Type 0 where
   solid : IsSolid rest
@@ -53,14 +53,14 @@ no_token-solid b bs visible all = (visible, by (b == 47) refl)
 
 fault-char : (at : ℕ) (rest : List ℕ) → token_len rest ≡ 0 → fault_at at rest ≡ fault.Char at
 fault-char at rest e =
-    ap (λ (n : ℕ). cond (n == 0) (fault.Char at) (cond (is_number (take (token_len rest) rest)) (fault.Number at) (fault.NameLong at))) e
+    ap (λ (n : ℕ). cond (n == 0) (fault.Char at) (cond (is_numeral (take (token_len rest) rest)) (fault.Number at) (fault.NameLong at))) e
 
 positive : (n : ℕ) → 0 < n → (n == 0) ≡ false
 positive n some = grind (arith, nat_tests)
 
-fault-long : (at : ℕ) (rest : List ℕ) (b : Bool) → 0 < token_len rest → is_number (take (token_len rest) rest) ≡ b → fault_at at rest ≡ cond b (fault.Number at) (fault.NameLong at)
+fault-long : (at : ℕ) (rest : List ℕ) (b : Bool) → 0 < token_len rest → is_numeral (take (token_len rest) rest) ≡ b → fault_at at rest ≡ cond b (fault.Number at) (fault.NameLong at)
 fault-long at rest b some e =
-    ap (λ (t : Bool). cond t (fault.Char at) (cond (is_number (take (token_len rest) rest)) (fault.Number at) (fault.NameLong at))) (positive (token_len rest) some)
+    ap (λ (t : Bool). cond t (fault.Char at) (cond (is_numeral (take (token_len rest) rest)) (fault.Number at) (fault.NameLong at))) (positive (token_len rest) some)
     ∙ ap (λ (t : Bool). cond t (fault.Number at) (fault.NameLong at)) e
 
 -- the span at the front is the text of the longest token
@@ -79,7 +79,7 @@ front rest text left e s =
       taken = rw (n, e) (take-append_seam text left);
     }
 
-number-none : (text : List ℕ) → is_number text ≡ true → 2 ^ 63 ≤ digits_value 10 text → token_of text ≡ None
+number-none : (text : List ℕ) → is_numeral text ≡ true → 2 ^ 63 ≤ digits_value 10 text → token_of text ≡ None
 number-none text is large =
     ap (λ (b : Bool). cond b (option_map Number (number_of text)) (or_else (option_map Word (word_of text)) (or_else (option_map Sign (sign_of text)) (cond (is_name text) (Some (Ident text)) None)))) is
     ∙ ap (λ (b : Bool). option_map Number (cond b (Some (pos (digits_value 10 text))) None)) small
@@ -90,11 +90,11 @@ number-none text is large =
 letter-digit : (b : ℕ) → is_letter b ≡ true → is_ascii_digit b ≡ false
 letter-digit b e = grind (arith, nat_tests, e)
 
-pub identifier-number : (text : List ℕ) → is_identifier text ≡ true → is_number text ≡ false
+pub identifier-number : (text : List ℕ) → is_identifier text ≡ true → is_numeral text ≡ false
 identifier-number [] e = refl
 identifier-number (b ∷ bs) e = by (is_letter b) refl e
   where
-    by : (t : Bool) → is_letter b ≡ t → (t && list_all is_word_byte (b ∷ bs)) ≡ true → is_number (b ∷ bs) ≡ false
+    by : (t : Bool) → is_letter b ≡ t → (t && list_all is_word_byte (b ∷ bs)) ≡ true → is_numeral (b ∷ bs) ≡ false
     by true f all =
         ap (λ (t : Bool). nat_lt 0 (length (b ∷ bs)) && (t && list_all is_ascii_digit bs)) (letter-digit b f) ∙ and-false (nat_lt 0 (length (b ∷ bs)))
     by false f all = absurd cc
@@ -130,7 +130,7 @@ at-fault at (b ∷ bs) (fault.Number o) h =
     let f = front (b ∷ bs) s.0 s.1 s.2 s.3 in
     record {
       solid = f.solid;
-      is = ap fault.Number h.0 ∙ sym (fault-long at (b ∷ bs) true f.long (ap is_number f.taken ∙ s.4));
+      is = ap fault.Number h.0 ∙ sym (fault-long at (b ∷ bs) true f.long (ap is_numeral f.taken ∙ s.4));
       no_value = λ some. ap token_of f.taken ∙ number-none s.0 s.4 s.5;
     }
 at-fault at (b ∷ bs) (fault.NameLong o) h =
@@ -138,7 +138,7 @@ at-fault at (b ∷ bs) (fault.NameLong o) h =
     let f = front (b ∷ bs) s.0 s.1 s.2 s.3 in
     record {
       solid = f.solid;
-      is = ap fault.NameLong h.0 ∙ sym (fault-long at (b ∷ bs) false f.long (ap is_number f.taken ∙ identifier-number s.0 s.4));
+      is = ap fault.NameLong h.0 ∙ sym (fault-long at (b ∷ bs) false f.long (ap is_numeral f.taken ∙ identifier-number s.0 s.4));
       no_value = λ some. ap token_of f.taken ∙ name-none s.0 s.4 s.5;
     }
 at-fault at (b ∷ bs) fault.Memory h = absurd h

@@ -10,7 +10,7 @@ use Rattle.std.proofs.lemmas.List.Sums.{prefix_len-le-length}
 use Rattle.std.proofs.lemmas.Slice.Eq.{bytes_eq-Decides}
 use Rattle.std.proofs.lemmas.Bool.Decides.{nat_tests}
 use Rattle.htl_base.specs.Names.{is_letter, is_word_byte, is_identifier}
-use Rattle.htl_text.specs.Texts.{look_up, words, word_of, signs, sign_of, is_number, is_token}
+use Rattle.htl_text.specs.Texts.{look_up, words, word_of, signs, sign_of, is_numeral, is_token}
 use Rattle.htl_text.specs.Scanning.{name_len, number_len, sign_len, token_len}
 
 both : (a b : Bool) → (a && b) ≡ true → (a ≡ true) × (b ≡ true)
@@ -68,7 +68,7 @@ name-most (suc k) (b ∷ bs) fits is =
     let most = prefix-most is_word_byte (suc k) (b ∷ bs) fits parts.1 in
     subst (λ (c : Bool). suc k ≤ cond c (prefix_len is_word_byte (b ∷ bs)) 0) (sym parts.0) most
 
-number-most : (k : ℕ) (bs : List ℕ) → k ≤ length bs → is_number (take k bs) ≡ true → k ≤ number_len bs
+number-most : (k : ℕ) (bs : List ℕ) → k ≤ length bs → is_numeral (take k bs) ≡ true → k ≤ number_len bs
 number-most k bs fits is = prefix-most is_ascii_digit k bs fits (both _ _ is).1
 
 sign-most : (k : ℕ) (bs : List ℕ) → k ≤ length bs → is_some (sign_of (take k bs)) ≡ true → k ≤ sign_len bs
@@ -90,14 +90,14 @@ sign-most k bs fits is = by k fits is (let le : length (take k bs) ≤ 2 = sign-
     by (suc (suc (suc k))) fits is le = absurd (omega (arith, le))
 
 pub token-most : (k : ℕ) (bs : List ℕ) → k ≤ length bs → is_token (take k bs) ≡ true → k ≤ token_len bs
-token-most k bs fits is = by (either (is_identifier (take k bs) || is_number (take k bs)) (is_some (sign_of (take k bs))) is)
+token-most k bs fits is = by (either (is_identifier (take k bs) || is_numeral (take k bs)) (is_some (sign_of (take k bs))) is)
   where
-    first : (is_identifier (take k bs) ≡ true) ⊎ (is_number (take k bs) ≡ true) → k ≤ token_len bs
+    first : (is_identifier (take k bs) ≡ true) ⊎ (is_numeral (take k bs) ≡ true) → k ≤ token_len bs
     first (inl e) = let n = name-most k bs fits e in omega (arith, n)
     first (inr e) = let n = number-most k bs fits e in omega (arith, n)
 
-    by : ((is_identifier (take k bs) || is_number (take k bs)) ≡ true) ⊎ (is_some (sign_of (take k bs)) ≡ true) → k ≤ token_len bs
-    by (inl e) = first (either (is_identifier (take k bs)) (is_number (take k bs)) e)
+    by : ((is_identifier (take k bs) || is_numeral (take k bs)) ≡ true) ⊎ (is_some (sign_of (take k bs)) ≡ true) → k ≤ token_len bs
+    by (inl e) = first (either (is_identifier (take k bs)) (is_numeral (take k bs)) e)
     by (inr e) = let n = sign-most k bs fits e in omega (arith, n)
 
 or-left : (a b c : Bool) → a ≡ true → (a || b || c) ≡ true
@@ -125,7 +125,7 @@ name-taken (b ∷ bs) some = by (is_letter b) refl some
     by true e some = first (prefix_len is_word_byte (b ∷ bs)) some e (prefix-all is_word_byte (b ∷ bs))
     by false e some = absurd (omega (arith, some))
 
-number-taken : (bs : List ℕ) → 0 < number_len bs → is_number (take (number_len bs) bs) ≡ true
+number-taken : (bs : List ℕ) → 0 < number_len bs → is_numeral (take (number_len bs) bs) ≡ true
 number-taken bs some =
     let all = prefix-all is_ascii_digit bs in
     let len = length-prefix_len is_ascii_digit bs in
@@ -161,12 +161,12 @@ token-taken bs some = by (max-cases (name_len bs) (max (number_len bs) (sign_len
     second : token_len bs ≡ max (number_len bs) (sign_len bs)
         → ((max (number_len bs) (sign_len bs) ≡ number_len bs) × (sign_len bs ≤ number_len bs)) ⊎ ((max (number_len bs) (sign_len bs) ≡ sign_len bs) × (number_len bs ≤ sign_len bs))
         → is_token (take (token_len bs) bs) ≡ true
-    second e (inl h) = at (number_len bs) (e ∙ h.0) (or-middle (is_identifier (take (number_len bs) bs)) (is_number (take (number_len bs) bs)) (is_some (sign_of (take (number_len bs) bs))) (number-taken bs (omega (arith, some, e, h.0))))
-    second e (inr h) = at (sign_len bs) (e ∙ h.0) (or-right (is_identifier (take (sign_len bs) bs)) (is_number (take (sign_len bs) bs)) (is_some (sign_of (take (sign_len bs) bs))) (sign-taken bs (omega (arith, some, e, h.0))))
+    second e (inl h) = at (number_len bs) (e ∙ h.0) (or-middle (is_identifier (take (number_len bs) bs)) (is_numeral (take (number_len bs) bs)) (is_some (sign_of (take (number_len bs) bs))) (number-taken bs (omega (arith, some, e, h.0))))
+    second e (inr h) = at (sign_len bs) (e ∙ h.0) (or-right (is_identifier (take (sign_len bs) bs)) (is_numeral (take (sign_len bs) bs)) (is_some (sign_of (take (sign_len bs) bs))) (sign-taken bs (omega (arith, some, e, h.0))))
 
     by : ((token_len bs ≡ name_len bs) × (max (number_len bs) (sign_len bs) ≤ name_len bs)) ⊎ ((token_len bs ≡ max (number_len bs) (sign_len bs)) × (name_len bs ≤ max (number_len bs) (sign_len bs)))
         → is_token (take (token_len bs) bs) ≡ true
-    by (inl h) = at (name_len bs) h.0 (or-left (is_identifier (take (name_len bs) bs)) (is_number (take (name_len bs) bs)) (is_some (sign_of (take (name_len bs) bs))) (name-taken bs (omega (arith, some, h.0))))
+    by (inl h) = at (name_len bs) h.0 (or-left (is_identifier (take (name_len bs) bs)) (is_numeral (take (name_len bs) bs)) (is_some (sign_of (take (name_len bs) bs))) (name-taken bs (omega (arith, some, h.0))))
     by (inr h) = second h.0 (max-cases (number_len bs) (sign_len bs))
 
 name_len-fits : (bs : List ℕ) → name_len bs ≤ length bs

@@ -1,11 +1,11 @@
 pub mod Cutting
+mod Examples
 pub mod FirstFault
 pub mod Found
 pub mod Lengths
 pub mod Numbers
 pub mod OneCut
 pub mod Reprinted
-mod Rows
 pub mod Sizes
 pub mod Skipping
 pub mod Spellable

@@ -7,7 +7,7 @@ use Rattle.std.proofs.Math.Seq.{take-append_seam, drop-append_seam}
 use Rattle.std.proofs.lemmas.Slice.Zip.{firsts-zip, seconds-zip}
 use Rattle.std.proofs.lemmas.Bool.Decides.{nat_tests, Decides-eqb}
 use Rattle.htl_base.specs.Names.{is_identifier}
-use Rattle.htl_text.specs.Texts.{is_token, is_number, sign_of, token_of}
+use Rattle.htl_text.specs.Texts.{is_token, is_numeral, sign_of, token_of}
 use Rattle.htl_text.specs.Spans.{Gap, none, blank, begin, inside, feed, is_blank, IsSpan, Item, Cuts, IsCut, Tokens}
 use Rattle.htl_text.specs.TokenLists.{TokenList}
 use Rattle.htl_text.specs.Scanning.{skip, token_len}
@@ -37,13 +37,13 @@ and-false false = refl
 
 -- no token begins with a blank
 no_token : (b : ℕ) (bs : List ℕ) → is_identifier (b ∷ bs) ≡ false → (is_ascii_digit b) ≡ false → is_some (sign_of (b ∷ bs)) ≡ false → is_token (b ∷ bs) ≡ false
-no_token b bs i d s = by (is_identifier (b ∷ bs)) (is_number (b ∷ bs)) (is_some (sign_of (b ∷ bs))) i (number d) s
+no_token b bs i d s = by (is_identifier (b ∷ bs)) (is_numeral (b ∷ bs)) (is_some (sign_of (b ∷ bs))) i (number d) s
   where
     digits : (c : Bool) → c ≡ false → (c && list_all is_ascii_digit bs) ≡ false
     digits true e = absurd cc
     digits false e = refl
 
-    number : is_ascii_digit b ≡ false → is_number (b ∷ bs) ≡ false
+    number : is_ascii_digit b ≡ false → is_numeral (b ∷ bs) ≡ false
     number e = ap (λ (t : Bool). nat_lt 0 (length (b ∷ bs)) && t) (digits (is_ascii_digit b) e) ∙ and-false (nat_lt 0 (length (b ∷ bs)))
 
     by : (x y z : Bool) → x ≡ false → y ≡ false → z ≡ false → (x || y || z) ≡ false

@@ -12,7 +12,7 @@ use Rattle.std.proofs.lemmas.Slice.Eq.{bytes_eq-Decides}
 use Rattle.htl_base.specs.Names.{is_word_byte, is_identifier, is_name, is_reserved}
 use Rattle.htl_text.specs.Spellable.{IsSpellable, AreSpellable}
 use Rattle.htl_text.specs.PrintedBytes.{word_text, sign_text, token_text, separator, printed_bytes}
-use Rattle.htl_text.specs.Texts.{is_token, is_number, token_of, words, word_of, signs, sign_of, number_of, or_else, look_up}
+use Rattle.htl_text.specs.Texts.{is_token, is_numeral, token_of, words, word_of, signs, sign_of, number_of, or_else, look_up}
 use Rattle.htl_text.specs.Spans.{Gap, none, blank, IsSpan, Cuts, Tokens, is_blank}
 use Rattle.htl_text.proofs.FirstFault.{identifier-number}
 use Rattle.htl_text.proofs.Numbers.{own}
@@ -62,14 +62,14 @@ digit-solid b e = grind (arith, nat_tests, e)
 identifier-all : (bs : List ℕ) → is_identifier bs ≡ true → list_all is_word_byte bs ≡ true
 identifier-all bs e = (both _ (list_all is_word_byte bs) e).1
 
-number-all : (bs : List ℕ) → is_number bs ≡ true → list_all is_ascii_digit bs ≡ true
+number-all : (bs : List ℕ) → is_numeral bs ≡ true → list_all is_ascii_digit bs ≡ true
 number-all bs e = (both (nat_lt 0 (length bs)) (list_all is_ascii_digit bs) e).1
 
 -- no token holds a blank
 token-solid : (bs : List ℕ) → is_token bs ≡ true → list_all is_solid bs ≡ true
-token-solid bs is = by (is_identifier bs) refl (is_number bs) refl is
+token-solid bs is = by (is_identifier bs) refl (is_numeral bs) refl is
   where
-    by : (i : Bool) → is_identifier bs ≡ i → (n : Bool) → is_number bs ≡ n → (i || n || is_some (sign_of bs)) ≡ true → list_all is_solid bs ≡ true
+    by : (i : Bool) → is_identifier bs ≡ i → (n : Bool) → is_numeral bs ≡ n → (i || n || is_some (sign_of bs)) ≡ true → list_all is_solid bs ≡ true
     by true e n f is = all-more is_word_byte is_solid word-solid bs (identifier-all bs e)
     by false e true f is = all-more is_ascii_digit is_solid digit-solid bs (number-all bs f)
     by false e false f is = look_up-kept (list_all is_solid) signs bs refl is
@@ -119,7 +119,7 @@ name-again n is =
     let inner = both (nat_lt (length n) 49) (is_identifier n) outer.0 in
     let no_word : word_of n ≡ None = not-listed words n (not-true (is_reserved n) outer.1) in
     let no_sign : sign_of n ≡ None = not-found (sign_of n) (not (is_identifier n)) (ap not inner.1) (look_up-kept (λ (bs : List ℕ). not (is_identifier bs)) signs n refl) in (
-      ap (λ (b : Bool). b || is_number n || is_some (sign_of n)) inner.1,
+      ap (λ (b : Bool). b || is_numeral n || is_some (sign_of n)) inner.1,
       ap (λ (b : Bool). cond b (option_map Number (number_of n)) (other (word_of n) (sign_of n) (is_name n))) (identifier-number n inner.1)
           ∙ ap (λ (w : Option AWord). other w (sign_of n) (is_name n)) no_word ∙ ap (λ (s : Option ASign). other None s (is_name n)) no_sign
           ∙ ap (λ (b : Bool). other None None b) is,
@@ -157,9 +157,9 @@ number-again n below =
     let numeral = decimal_is_IsNumeral n (omega (arith, below)) in
     let digits : list_all is_ascii_digit (decimal n) ≡ true = own.from (decimal n) numeral.0.1 in
     let some : nat_lt 0 (length (decimal n)) ≡ true = let long = numeral.0.0 in grind (arith, nat_tests, long) in
-    let is : is_number (decimal n) ≡ true = ap (λ (b : Bool). b && list_all is_ascii_digit (decimal n)) some ∙ digits in
+    let is : is_numeral (decimal n) ≡ true = ap (λ (b : Bool). b && list_all is_ascii_digit (decimal n)) some ∙ digits in
     let small : nat_lt n (2 ^ 63) ≡ true = grind (arith, nat_tests, below) in (
-      or-middle (is_identifier (decimal n)) (is_number (decimal n)) (is_some (sign_of (decimal n))) is,
+      or-middle (is_identifier (decimal n)) (is_numeral (decimal n)) (is_some (sign_of (decimal n))) is,
       ap (λ (b : Bool). cond b (option_map Number (number_of (decimal n))) (other (decimal n))) is
           ∙ ap (λ (v : ℕ). option_map Number (cond (nat_lt v (2 ^ 63)) (Some (pos v)) None)) numeral.1
           ∙ ap (λ (b : Bool). option_map Number (cond b (Some (pos n)) None)) small,

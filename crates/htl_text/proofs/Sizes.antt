@@ -3,7 +3,7 @@ use Rattle.std.proofs.Common.{arith, ◌≤◌, ℕ, List, [], ◌∷◌, length
 use Rattle.std.specs.List.{flat_map, sum_by}
 use Rattle.std.proofs.lemmas.List.Concat.{length-flat_map}
 use Rattle.std.proofs.lemmas.List.Sums.{sum_by-cons, sum_by-append, sum_by-le-sum_by}
-use Rattle.htl_text.specs.Bounds.{nodes, out_params, out_values, modules_of, tasks_of, modes_of, invokes_of, switches_of, task_size, invoke_size, switch_size, mode_size, module_size, program_size, tree_size, HasFewItems}
+use Rattle.htl_text.specs.Bounds.{tree_nodes, out_params, out_values, modules_of, tasks_of, modes_of, invokes_of, switches_of, task_size, invoke_size, switch_size, mode_size, module_size, program_size, tree_size, HasFewItems}
 use Rattle.htl_text.specs.Nodes.{PlainTask, PlainSwitch, PlainMode, PlainModule, PlainProgram}
 use Rattle.htl_text.specs.declared.tree.InvokeNode.{InvokeNode}
 
@@ -45,13 +45,13 @@ size-few tree fits =
       modes = omega (arith, in_modes, length-within mode_size (λ m. omega arith) ns);
       inputs = omega (arith, in_tasks, parts-length (λ (t : PlainTask). t.inputs) task_size (λ t. omega arith) ts);
       outputs = omega (arith, in_tasks, parts-length (λ (t : PlainTask). out_params t.outputs) task_size (λ t. omega arith) ts);
-      value_nodes = omega (arith, in_tasks, parts-size (λ (t : PlainTask). out_values t.outputs) task_size nodes (λ t. omega arith) ts);
+      value_nodes = omega (arith, in_tasks, parts-size (λ (t : PlainTask). out_values t.outputs) task_size tree_nodes (λ t. omega arith) ts);
       ports = omega (arith, in_modes, parts-length (λ (m : PlainMode). m.ports) mode_size (λ m. omega arith) ns);
       invokes = omega (arith, in_invokes, length-within invoke_size (λ i. omega arith) is);
       reads = omega (arith, in_invokes, parts-length (λ (i : InvokeNode). i.reads) invoke_size (λ i. omega arith) is);
       writes = omega (arith, in_invokes, parts-length (λ (i : InvokeNode). i.writes) invoke_size (λ i. omega arith) is);
       switches = omega (arith, in_switches, length-within switch_size (λ s. omega arith) ss);
-      cond_nodes = omega (arith, in_switches, sum_by-le-sum_by (λ (s : PlainSwitch). nodes s.cond) switch_size ss (λ s. omega arith));
+      cond_nodes = omega (arith, in_switches, sum_by-le-sum_by (λ (s : PlainSwitch). tree_nodes s.cond) switch_size ss (λ s. omega arith));
     }
   where
     ms : List PlainModule

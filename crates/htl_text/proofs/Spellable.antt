@@ -8,7 +8,7 @@ use Rattle.std.proofs.lemmas.Bool.Decides.{nat_tests}
 use Rattle.htl_base.specs.Names.{is_name}
 use Rattle.htl_text.specs.Spellable.{IsSpellable, AreSpellable}
 use Rattle.htl_text.specs.Spans.{Cuts, Tokens}
-use Rattle.htl_text.specs.Texts.{is_number, number_of, or_else, token_of, word_of, sign_of}
+use Rattle.htl_text.specs.Texts.{is_numeral, number_of, or_else, token_of, word_of, sign_of}
 use Rattle.htl_text.specs.TokenLists.{TokenList}
 use Rattle.htl_text.specs.declared.token.Token.{Token}
 use Rattle.htl_text.specs.declared.token.Token.TheVariants.{Ident, Number, Word, Sign}
@@ -19,7 +19,7 @@ inside : (t u : Token) → ◌≡◌ {A = Option Token} (Some t) (Some u) → Is
 inside t u e h = let same : t ≡ u = cc in subst IsSpellable same h
 
 spellable : (text : List ℕ) (t : Token) → token_of text ≡ Some t → IsSpellable t
-spellable text t e = by (is_number text) (word_of text) (sign_of text) (is_name text) refl e
+spellable text t e = by (is_numeral text) (word_of text) (sign_of text) (is_name text) refl e
   where
     number : (b : Bool) → nat_lt (digits_value 10 text) (2 ^ 63) ≡ b → option_map Number (cond b (Some (pos (digits_value 10 text))) None) ≡ Some t → IsSpellable t
     number true f e = inside (Number (pos (digits_value 10 text))) t e (digits_value 10 text, refl, grind (arith, nat_tests, f))

@@ -16,13 +16,13 @@ use Rattle.htl_text.specs.declared.tree.InvokeNode.{InvokeNode}
 -- Expressions.
 
 -- how many literals, names and operators an expression has; `if` is one operator over three operands
-abbrev pub nodes : Expr → ℕ
-nodes (Number k x) = 1
-nodes (Flag k x) = 1
-nodes (Variable id) = 1
-nodes (Prefix k op e) = nodes e + 1
-nodes (Infix k op l r) = nodes l + nodes r + 1
-nodes (Choice k c a b) = nodes c + nodes a + nodes b + 1
+abbrev pub tree_nodes : Expr → ℕ
+tree_nodes (Number k x) = 1
+tree_nodes (Flag k x) = 1
+tree_nodes (Variable id) = 1
+tree_nodes (Prefix k op e) = tree_nodes e + 1
+tree_nodes (Infix k op l r) = tree_nodes l + tree_nodes r + 1
+tree_nodes (Choice k c a b) = tree_nodes c + tree_nodes a + tree_nodes b + 1
 
 -- the names of an expression in order, each as often as it stands there
 abbrev pub names_of : Expr → List Id
@@ -47,7 +47,7 @@ HasLiterals (Infix k op l r) = HasLiterals l × HasLiterals r
 HasLiterals (Choice k c a b) = HasLiterals c × HasLiterals a × HasLiterals b
 
 pub record IsBoundedExpr (e : Expr) : Type 0 where
-  pub few_nodes : nodes e ≤ 512
+  pub few_nodes : tree_nodes e ≤ 512
   pub literals : HasLiterals e
 
 -- The parts of a tree, from the inside out.
@@ -153,13 +153,13 @@ writes_of is = flat_map (λ (i : InvokeNode). i.writes) is
 -- switches and nodes of expressions there are together. Each has a token of its own.
 
 abbrev pub task_size : PlainTask → ℕ
-task_size t = length t.inputs + length (out_params t.outputs) + sum_by nodes (out_values t.outputs) + 1
+task_size t = length t.inputs + length (out_params t.outputs) + sum_by tree_nodes (out_values t.outputs) + 1
 
 abbrev pub invoke_size : InvokeNode → ℕ
 invoke_size i = length i.reads + length i.writes + 1
 
 abbrev pub switch_size : PlainSwitch → ℕ
-switch_size s = nodes s.cond + 1
+switch_size s = tree_nodes s.cond + 1
 
 abbrev pub mode_size : PlainMode → ℕ
 mode_size m = length m.ports + sum_by invoke_size m.invokes + sum_by switch_size m.switches + 1
@@ -181,13 +181,13 @@ pub record HasFewItems (tree : List PlainProgram) : Type 0 where
   pub modes : length (modes_of (modules_of tree)) ≤ 1048576
   pub inputs : length (inputs_of (tasks_of (modules_of tree))) ≤ 1048576
   pub outputs : length (outputs_of (tasks_of (modules_of tree))) ≤ 1048576
-  pub value_nodes : sum_by nodes (values_of (tasks_of (modules_of tree))) ≤ 1048576
+  pub value_nodes : sum_by tree_nodes (values_of (tasks_of (modules_of tree))) ≤ 1048576
   pub ports : length (ports_of (modes_of (modules_of tree))) ≤ 1048576
   pub invokes : length (invokes_of (modes_of (modules_of tree))) ≤ 1048576
   pub reads : length (reads_of (invokes_of (modes_of (modules_of tree)))) ≤ 1048576
   pub writes : length (writes_of (invokes_of (modes_of (modules_of tree)))) ≤ 1048576
   pub switches : length (switches_of (modes_of (modules_of tree))) ≤ 1048576
-  pub cond_nodes : sum_by (λ (s : PlainSwitch). nodes s.cond) (switches_of (modes_of (modules_of tree))) ≤ 1048576
+  pub cond_nodes : sum_by (λ (s : PlainSwitch). tree_nodes s.cond) (switches_of (modes_of (modules_of tree))) ≤ 1048576
 
 -- The tree has a program and its parts are bounded, each by itself and all together.
 pub record IsBounded (tree : List PlainProgram) : Type 0 where

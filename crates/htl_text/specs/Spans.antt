@@ -4,7 +4,7 @@ use Rattle.std.specs.Prelude.{ℕ, ◌+◌, ◌≡◌, ◌≤◌, ◌<◌, Bool,
 use Rattle.std.specs.List.{zip}
 use Rattle.std.specs.Str.Parse.{digits_value}
 use Rattle.htl_base.specs.Names.{is_identifier}
-use Rattle.htl_text.specs.Texts.{is_token, is_number, token_of}
+use Rattle.htl_text.specs.Texts.{is_token, is_numeral, token_of}
 use Rattle.htl_text.specs.TokenLists.{TokenList}
 use Rattle.htl_text.specs.declared.token.Token.{Token}
 use Rattle.htl_text.specs.declared.lexer.LexFault.{LexFault}
@@ -55,7 +55,7 @@ IsFault at [] fault = ⊥
 IsFault at (b ∷ bs) (fault.Char offset) =
     (offset ≡ at) × (is_blank b ≡ false) × ((k : ℕ) → k ≤ length (b ∷ bs) → is_token (take k (b ∷ bs)) ≡ false)
 IsFault at (b ∷ bs) (fault.Number offset) =
-    (offset ≡ at) × ((text : List ℕ) × (left : List ℕ) × (b ∷ bs ≡ text ++ left) × IsSpan text left × (is_number text ≡ true) × (2 ^ 63 ≤ digits_value 10 text))
+    (offset ≡ at) × ((text : List ℕ) × (left : List ℕ) × (b ∷ bs ≡ text ++ left) × IsSpan text left × (is_numeral text ≡ true) × (2 ^ 63 ≤ digits_value 10 text))
 IsFault at (b ∷ bs) (fault.NameLong offset) =
     (offset ≡ at) × ((text : List ℕ) × (left : List ℕ) × (b ∷ bs ≡ text ++ left) × IsSpan text left × (is_identifier text ≡ true) × (48 < length text))
 IsFault at (b ∷ bs) fault.Memory = ⊥

@@ -31,8 +31,8 @@ abbrev pub sign_of : List ℕ → Option ASign
 sign_of text = look_up signs text
 
 -- a run of digits
-abbrev pub is_number : List ℕ → Bool
-is_number text = nat_lt 0 (length text) && list_all is_ascii_digit text
+abbrev pub is_numeral : List ℕ → Bool
+is_numeral text = nat_lt 0 (length text) && list_all is_ascii_digit text
 
 -- the number that digits write, where it is below 2^63
 abbrev pub number_of : List ℕ → Option ℤ
@@ -40,7 +40,7 @@ number_of text = cond (nat_lt (digits_value 10 text) (2 ^ 63)) (Some (pos (digit
 
 -- an identifier, a number or a sign
 abbrev pub is_token : List ℕ → Bool
-is_token text = is_identifier text || is_number text || is_some (sign_of text)
+is_token text = is_identifier text || is_numeral text || is_some (sign_of text)
 
 -- some value, or another where there is none
 abbrev pub or_else : {T : Type 0} → Option T → Option T → Option T
@@ -50,5 +50,5 @@ or_else (Some x) other = Some x
 -- a number below 2^63, a reserved word, a sign or a name
 abbrev pub token_of : List ℕ → Option Token
 token_of text =
-    cond (is_number text) (option_map Number (number_of text))
+    cond (is_numeral text) (option_map Number (number_of text))
     (or_else (option_map Word (word_of text)) (or_else (option_map Sign (sign_of text)) (cond (is_name text) (Some (Ident text)) None)))

@@ -3,7 +3,7 @@ ghost use Rattle.std.specs.Prelude.{◌≡◌, ◌≤◌, length};
 ghost use Rattle.htl_text.specs.Answers.{IsLexed, TellsTokens, TellsFault};
 
 use crate::scan::{skip, token_len};
-use crate::spelling::{is_number, token_of};
+use crate::spelling::{is_numeral, token_of};
 use crate::tokens::Tokens;
 use std::alloc::{AllocFailed, Global};
 use thiserror::Error;
@@ -76,7 +76,7 @@ fn read_tokens(alloc: Global, bytes: &[u8]) -> Result<Tokens, LexFault>
         let (text, behind) = here.split_at(len);
         match token_of(text) {
             Some(token) => tokens.push(token)?,
-            None if is_number(text) => return Err(LexFault::Number { offset }),
+            None if is_numeral(text) => return Err(LexFault::Number { offset }),
             None => return Err(LexFault::NameLong { offset }),
         }
         offsets.push(offset)?;

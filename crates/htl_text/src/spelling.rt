@@ -5,7 +5,7 @@ ghost use Rattle.std.specs.List.{list_all};
 ghost use Rattle.std.specs.Option.{option_map};
 ghost use Rattle.std.specs.Str.{bytes_eq};
 ghost use Rattle.htl_text.specs.PrintedBytes.{sign_text, word_text};
-ghost use Rattle.htl_text.specs.Texts.{is_number, number_of, sign_of, token_of, word_of, look_up};
+ghost use Rattle.htl_text.specs.Texts.{is_numeral, number_of, sign_of, token_of, word_of, look_up};
 
 use crate::token::{Sign, Token, Word};
 use htl_base::{Name, Value};
@@ -63,7 +63,7 @@ const SIGNS: [(&str, Sign); 21] = [
 pub fn token_of(text: &[u8]) -> Option<Token>
     ensures { result ≡ token_of text.now }
 {
-    if is_number(text) {
+    if is_numeral(text) {
         return match number_of(text) {
             Some(x) => Some(Token::Number(x)),
             None => None,
@@ -82,8 +82,8 @@ pub fn token_of(text: &[u8]) -> Option<Token>
 }
 
 /// The text is a run of digits.
-pub fn is_number(text: &[u8]) -> bool
-    ensures { result ≡ is_number text.now }
+pub fn is_numeral(text: &[u8]) -> bool
+    ensures { result ≡ is_numeral text.now }
 {
     !text.is_empty() && are_digits(text)
 }
@@ -96,7 +96,7 @@ fn are_digits(text: &[u8]) -> bool
 
 // The number that digits write, where it is below 2^63.
 fn number_of(text: &[u8]) -> Option<Value>
-    requires { is_number text.now ≡ true }
+    requires { is_numeral text.now ≡ true }
     ensures { result ≡ number_of text.now }
 {
     let Ok(text) = str::from_utf8(text) else {

@@ -3,7 +3,7 @@ use Rattle.std.specs.List.{zip}
 use Rattle.htl_text.specs.Scanning.{token_len}
 use Rattle.htl_text.specs.Spans.{Tokens}
 use Rattle.htl_text.specs.TokenLists.{TokenList}
-use Rattle.htl_text.specs.Texts.{token_of, is_number}
+use Rattle.htl_text.specs.Texts.{token_of, is_numeral}
 use Rattle.htl_text.proofs.Cutting.{IsCutting, AreFound-held, AreFound-end, AreFound-push, cut-more, cut-char, cut-number, cut-name, cut-shorter, cut-token, not_empty, is_empty, skip-fits}
 use Rattle.htl_text.proofs.lexer.read_tokens.Goals as goal
 
@@ -35,7 +35,7 @@ returns-in-None c =
     let long : 0 < token_len here = omega (arith, n, c.if-len-eq0.false) in
     cut-number c.args.bytes.now c.loop-here.rest.now here (zip c.loop-here.tokens.items c.loop-here.offsets.items) c.loop-here.invariant.cutting c.skip-here.ensures
     (not_empty here (sym c.if-is_empty.ensures)) long _ refl
-    (cut-token is_number here c.split_at.result.0.now _ true n c.split_at.ensures.front (sym c.is_number.ensures ∙ c.if-is_number.true))
+    (cut-token is_numeral here c.split_at.result.0.now _ true n c.split_at.ensures.front (sym c.is_numeral.ensures ∙ c.if-is_numeral.true))
     (cut-token token_of here c.split_at.result.0.now _ None n c.split_at.ensures.front (sym c.token_of.ensures ∙ c.in-None.is))
 
 pub returns-in-None-2 : goal.returns-in-None-2
@@ -45,7 +45,7 @@ returns-in-None-2 c =
     let long : 0 < token_len here = omega (arith, n, c.if-len-eq0.false) in
     cut-name c.args.bytes.now c.loop-here.rest.now here (zip c.loop-here.tokens.items c.loop-here.offsets.items) c.loop-here.invariant.cutting c.skip-here.ensures
     (not_empty here (sym c.if-is_empty.ensures)) long _ refl
-    (cut-token is_number here c.split_at.result.0.now _ false n c.split_at.ensures.front (sym c.is_number.ensures ∙ c.if-is_number.false))
+    (cut-token is_numeral here c.split_at.result.0.now _ false n c.split_at.ensures.front (sym c.is_numeral.ensures ∙ c.if-is_numeral.false))
     (cut-token token_of here c.split_at.result.0.now _ None n c.split_at.ensures.front (sym c.token_of.ensures ∙ c.in-None.is))
 
 pub loop-here-smaller : goal.loop-here-smaller

@@ -5,7 +5,7 @@ use Rattle.std.specs.Fmt.{decimal}
 use Rattle.htl_base.specs.declared.Ty.TheVariants as ty
 use Rattle.htl_base.specs.declared.operator.UnOp.TheVariants as un
 use Rattle.htl_base.specs.declared.operator.BinOp.TheVariants as bin
-use Rattle.htl_text.specs.Bounds.{nodes, names_of, tree_size}
+use Rattle.htl_text.specs.Bounds.{tree_nodes, names_of, tree_size}
 use Rattle.htl_text.specs.Expressions.{Expr, Number, Flag, Variable, Prefix, Infix, Choice}
 use Rattle.htl_text.specs.Nodes.{PlainOut, Concrete, Abstract, PlainTask, PlainMode, PlainProgram}
 use Rattle.htl_text.specs.PrintedTokens.{source_tokens}
@@ -87,7 +87,7 @@ unfolding printed_bytes
 printed = refl
 
 -- if and three operators over five atoms, of which three are names
-output_nodes : nodes output.value ≡ 9
+output_nodes : tree_nodes output.value ≡ 9
 output_nodes = refl
 
 output_names : names_of output.value ≡ id (codes "a") ∷ id (codes "a") ∷ id (codes "a") ∷ []
