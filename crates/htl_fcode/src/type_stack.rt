@@ -9,7 +9,7 @@ use std::marker::Model;
 /// At most 64 types, held in place; contracts see them as a list, the top first.
 #[derive(Drop)]
 pub struct TypeStack {
-    types: [Ty; 64],
+    types: [Ty; MAX_STACK],
     height: usize,
 }
 
@@ -30,7 +30,7 @@ impl TypeStack {
         ensures { result ≡ [] }
     {
         TypeStack {
-            types: [Ty::Int; 64],
+            types: [Ty::Int; MAX_STACK],
             height: 0,
         }
     }

@@ -2,12 +2,13 @@
 ghost use Rattle.std.specs.Prelude.{◌≡◌, ◌<◌, [], ◌∷◌, length};
 
 use htl_base::Value;
+use htl_base::limits::MAX_STACK;
 use std::marker::Model;
 
 /// At most 64 values, held in place; contracts see them as a list, the top first.
 #[derive(Drop)]
 pub struct ValueStack {
-    values: [Value; 64],
+    values: [Value; MAX_STACK],
     height: usize,
 }
 
@@ -27,7 +28,7 @@ impl ValueStack {
         ensures { result ≡ [] }
     {
         ValueStack {
-            values: [0; 64],
+            values: [0; MAX_STACK],
             height: 0,
         }
     }

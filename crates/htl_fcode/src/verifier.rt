@@ -1,5 +1,6 @@
 // Code that the function machine takes.
-ghost use Rattle.std.specs.Prelude.{◌≡◌, ◌↔◌, [], ◌∷◌, IsTrue, MatchOption, IfSome, IfNone};
+ghost use Rattle.std.specs.Prelude.{◌≡◌, ◌↔◌, ◌≤◌, length, [], ◌∷◌, IsTrue, MatchOption, IfSome, IfNone};
+ghost use Rattle.htl_base.specs.declared.limits.TheConstants as limit;
 ghost use Rattle.htl_model.specs.Functions.{Verified as IsVerified};
 ghost use Rattle.htl_fcode.specs.Stacks.{types_after, types_run, operation_of};
 
@@ -36,11 +37,18 @@ pub fn verify(code: &Code) -> Option<Verified<'_>>
     ensures verified { IfSome result (λ _. IsVerified code.now) }
     ensures refused { IfNone result (IsVerified code.now → ⊥) }
 {
-    if code.instrs.as_slice().len() <= MAX_INSTRUCTIONS && keeps_types(code) {
+    if is_short(code) && keeps_types(code) {
         Some(Verified { code })
     } else {
         None
     }
+}
+
+// Whether there aren't too many instructions.
+fn is_short(code: &Code) -> bool
+    ensures { IsTrue result ↔ (length code.now.instrs ≤ limit.MAX_INSTRUCTIONS) }
+{
+    code.instrs.as_slice().len() <= MAX_INSTRUCTIONS
 }
 
 // Whether the run over types ends with the declared type alone.

@@ -14,7 +14,8 @@ use Rattle.htl_model.specs.TermCode.{stack_of-spelled}
 use Rattle.htl_model.specs.Tables.{fun, Compiled}
 use Rattle.htl_fcode.proofs.Parses.{BoolsFit-split, BoolsFit-join}
 use Rattle.htl_fcode.proofs.Runs.{zeros}
-use Rattle.htl_func.specs.Expressions.{nodes, without_tokens}
+use Rattle.htl_model.specs.Small.{nodes}
+use Rattle.htl_func.specs.Expressions.{without_tokens}
 use Rattle.htl_func.specs.Compiled.{IsFunction, IsCompiled}
 
 -- ---- the postfix form by parts

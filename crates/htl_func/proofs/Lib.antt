@@ -1,3 +1,3 @@
 pub mod Causes
 pub mod CodeMeans
-mod Rows
+mod Examples

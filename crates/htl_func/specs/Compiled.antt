@@ -1,5 +1,6 @@
 -- What a compiled function is.
 use Rattle.std.specs.Prelude.{◌≡◌, ◌≤◌, List, Some, ℤ}
+use Rattle.htl_base.specs.declared.limits.TheConstants.{MAX_STACK}
 use Rattle.htl_base.specs.declared.Ty.{Ty}
 use Rattle.htl_model.specs.declared.function.Code.{Code}
 use Rattle.htl_model.specs.Functions.{Term, type_of, held, value, postfix, tree, Verified}
@@ -9,7 +10,7 @@ use Rattle.htl_func.specs.Expressions.{without_tokens}
 -- an expression that is a function: of the type that is wanted, and holding at most 64 values
 pub record IsFunction (args : List Ty) (want : Ty) (e : Term) : Type 0 where
   pub typed : type_of args e ≡ Some want
-  pub fits : held e ≤ 64
+  pub fits : held e ≤ MAX_STACK
 
 -- code is the postfix form of an expression, and means it
 pub record IsCompiled (types : List Ty) (result : Ty) (e : Term) (code : Code) : Type 0 where

@@ -1,26 +1,8 @@
--- Expressions: their size, their first ill-typed operator, and what the compiler makes of them.
-use Rattle.std.specs.Prelude.{ℕ, ◌+◌, ◌<◌, List, Option, Some, None}
+-- Expressions: their first ill-typed operator, and what the compiler makes of them.
+use Rattle.std.specs.Prelude.{ℕ, List, Option, Some, None}
 use Rattle.htl_base.specs.declared.Ty.{Ty}
 use Rattle.htl_base.specs.declared.Ty.TheVariants.{Int as IntTy, Bool as BoolTy}
 use Rattle.htl_model.specs.Functions.{Term, Number, Truth, Arg, Unary, Binary, Choose, type_of, type_one, type_two, type_choose}
-
--- how many literals, arguments and operators an expression has
-abbrev pub nodes : Term → ℕ
-nodes (Number token x) = 1
-nodes (Truth token x) = 1
-nodes (Arg token k) = 1
-nodes (Unary token op e) = nodes e + 1
-nodes (Binary token op l r) = nodes l + nodes r + 1
-nodes (Choose token c a b) = nodes c + nodes a + nodes b + 1
-
--- each argument is one of so many
-abbrev pub ArgumentsBelow : ℕ → Term → Type 0
-ArgumentsBelow n (Number token x) = Unit {0}
-ArgumentsBelow n (Truth token x) = Unit {0}
-ArgumentsBelow n (Arg token k) = k < n
-ArgumentsBelow n (Unary token op e) = ArgumentsBelow n e
-ArgumentsBelow n (Binary token op l r) = ArgumentsBelow n l × ArgumentsBelow n r
-ArgumentsBelow n (Choose token c a b) = ArgumentsBelow n c × ArgumentsBelow n a × ArgumentsBelow n b
 
 -- an expression with every token number 0
 abbrev pub without_tokens : Term → Term

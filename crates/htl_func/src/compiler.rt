@@ -1,7 +1,9 @@
 // Expressions into code.
 ghost use Rattle.std.specs.Prelude.{◌≡◌, ◌↔◌, ◌⊎◌, ◌<◌, ◌≤◌, ℕ, length, IfOk, IsOk, OnOk, MatchResult};
+ghost use Rattle.htl_base.specs.declared.limits.TheConstants as limit;
 ghost use Rattle.htl_model.specs.Functions.{term_of, type_of as type_of_term, held as held_by, postfix};
-ghost use Rattle.htl_func.specs.Expressions.{ArgumentsBelow, nodes, ill_typed};
+ghost use Rattle.htl_model.specs.Small.{ArgumentsBelow, nodes};
+ghost use Rattle.htl_func.specs.Expressions.{ill_typed};
 ghost use Rattle.htl_func.specs.Compiled.{IsFunction, IsCompiled};
 ghost use Rattle.htl_func.specs.Faults.{IsFault};
 
@@ -36,15 +38,15 @@ pub fn compile_fn(
     args: &[Ty],
     want: Ty,
 ) -> Result<Code, FnFault>
-    requires nodes { nodes (term_of e.now) ≤ 512 }
-    requires types { length args.now ≤ 256 }
+    requires nodes { nodes (term_of e.now) ≤ limit.MAX_INSTRUCTIONS }
+    requires types { length args.now ≤ limit.MAX_ARGUMENTS }
     requires arguments { ArgumentsBelow (length args.now) (term_of e.now) }
     ensures compiled { IfOk result (IsCompiled args.now want (term_of e.now)) }
     ensures complete { IsFunction args.now want (term_of e.now) → IsOk result ⊎ (result ≡ Err FnFault.Memory) }
     ensures ill_typed { (token : ℕ) → (result ≡ Err (FnFault.IllTyped token))
         ↔ (ill_typed first args.now want (term_of e.now) ≡ Some token) }
     ensures deep { (token : ℕ) → (result ≡ Err (FnFault.Deep token))
-        ↔ ((token ≡ first) × (type_of_term args.now (term_of e.now) ≡ Some want) × (64 < held_by (term_of e.now))) }
+        ↔ ((token ≡ first) × (type_of_term args.now (term_of e.now) ≡ Some want) × (limit.MAX_STACK < held_by (term_of e.now))) }
 {
     if let Err(fault) = judge(first, e, args, want) {
         return Err(fault);
@@ -57,7 +59,7 @@ pub fn compile_fn(
 
 // Whether the expression is a function, or its first fault.
 fn judge(first: u32, e: &Expr, args: &[Ty], want: Ty) -> Result<(), FnFault>
-    requires nodes { nodes (term_of e.now) ≤ 512 }
+    requires nodes { nodes (term_of e.now) ≤ limit.MAX_INSTRUCTIONS }
     requires arguments { ArgumentsBelow (length args.now) (term_of e.now) }
     ensures { MatchResult result (λ _. IsFunction args.now want (term_of e.now)) (IsFault first args.now want (term_of e.now)) }
 {
@@ -74,7 +76,7 @@ fn judge(first: u32, e: &Expr, args: &[Ty], want: Ty) -> Result<(), FnFault>
 
 // The code of an expression that is a function.
 fn code_of(alloc: Global, e: &Expr, args: &[Ty], want: Ty) -> Result<Code, AllocError>
-    requires nodes { nodes (term_of e.now) ≤ 512 }
+    requires nodes { nodes (term_of e.now) ≤ limit.MAX_INSTRUCTIONS }
     requires function { IsFunction args.now want (term_of e.now) }
     ensures { IfOk result (IsCompiled args.now want (term_of e.now)) }
 {

@@ -1,13 +1,14 @@
 // How many values an expression holds.
 ghost use Rattle.std.specs.Prelude.{◌≡◌, ◌≤◌};
+ghost use Rattle.htl_base.specs.declared.limits.TheConstants as limit;
 ghost use Rattle.htl_model.specs.Functions.{term_of, held as held_by};
-ghost use Rattle.htl_func.specs.Expressions.{nodes};
+ghost use Rattle.htl_model.specs.Small.{nodes};
 
 use htl_model::Expr;
 
 /// How many values are held at once while an expression is evaluated, operands from left to right.
 pub fn held(e: &Expr) -> u32
-    requires { nodes (term_of e.now) ≤ 512 }
+    requires { nodes (term_of e.now) ≤ limit.MAX_INSTRUCTIONS }
     ensures count { result ≡ held_by (term_of e.now) }
     ensures some { 1 ≤ result }
     ensures few { result ≤ nodes (term_of e.now) }

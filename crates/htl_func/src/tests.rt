@@ -2,7 +2,7 @@
 // places of faults.
 ghost use Rattle.std.specs.Prelude.{◌≡◌, ◌≤◌, ◌+◌, ◌*◌, IfOk, length};
 ghost use Rattle.htl_model.specs.Functions.{Number, Truth, Arg, Unary, Binary, Choose, term_of};
-ghost use Rattle.htl_func.specs.Expressions.{ArgumentsBelow, nodes};
+ghost use Rattle.htl_model.specs.Small.{ArgumentsBelow, nodes};
 
 use crate::{FnFault, compile_fn};
 use htl_base::{BinOp, Ty, UnOp, Value};

@@ -1,7 +1,8 @@
 // The types of expressions.
 ghost use Rattle.std.specs.Prelude.{◌≡◌, length, MatchResult};
 ghost use Rattle.htl_model.specs.Functions.{term_of, type_of as type_of_term};
-ghost use Rattle.htl_func.specs.Expressions.{ArgumentsBelow, first_ill};
+ghost use Rattle.htl_model.specs.Small.{ArgumentsBelow};
+ghost use Rattle.htl_func.specs.Expressions.{first_ill};
 
 use htl_base::Ty;
 use htl_fcode::typing::{binary_type, choice_type, unary_type};

@@ -1,6 +1,6 @@
 use Rattle.std.proofs.Common.{◌≡◌, ◌+◌}
 use Rattle.htl_model.specs.Functions.{term_of}
-use Rattle.htl_func.specs.Expressions.{ArgumentsBelow, nodes}
+use Rattle.htl_model.specs.Small.{ArgumentsBelow, nodes}
 use Rattle.htl_func.proofs.tests.negated.Given as goal
 
 abbrev pub invariant-loop : goal.invariant-loop
