@@ -4,3 +4,4 @@ pub mod Going
 pub mod Holding
 pub mod Lengths
 pub mod Telling
+pub mod Timely

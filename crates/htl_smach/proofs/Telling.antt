@@ -7,7 +7,7 @@ use Rattle.htl_walk.specs.Walk as walks
 use Rattle.htl_walk.specs.Walk.{Point, job_at, next_point, left_by, walk_from, last_point, point_at, first_point, work, finish}
 use Rattle.htl_walk.specs.Refinement.{HaveLengths, AreWithinWorst}
 use Rattle.htl_walk.proofs.Steps.{left_falls, apart, either}
-use Rattle.htl_walk.proofs.Acceptance.{point_step}
+use Rattle.htl_walk.proofs.Acceptance.{point_step, left_falls_to}
 use Rattle.htl_walk.proofs.Finishes.{some_same}
 use Rattle.htl_walk.proofs.Work.{job_there, job_is, work_present, work_some}
 use Rattle.htl_smach.specs.declared.left.Left.{Left}
@@ -91,35 +91,36 @@ absent_idle js ns p e =
 -- ---- the next record
 
 module _ (r : Round) (s : List SInstr) (stands : Stands r s) where
-  pub next_point_is : (i : SInstr) → slice_get s r.place ≡ Some i → point_at r.jobs r.lengths s (suc r.place) ≡ next_point r.jobs i r.point
-  next_point_is i e = point_step r.jobs s r.place (first_point r.jobs r.lengths) i e ∙ ap (next_point r.jobs i) (sym stands.point)
+  pub next_point_is : (i : SInstr) → slice_get s r.place ≡ Some i → last_point r.jobs (take (suc r.place) s) r.first ≡ next_point r.jobs i r.point
+  next_point_is i e = point_step r.jobs s r.place r.first i e ∙ ap (next_point r.jobs i) (sym stands.point)
 
   pub next_record_is : (i : SInstr) → slice_get s r.place ≡ Some i
       → slice_get (records r s) r.place ≡ Some (told r.start r.place (left_by r.jobs i r.point (next_point r.jobs i r.point)))
   next_record_is i e =
-      told_at r.start 0 r.place r.jobs s (first_point r.jobs r.lengths) i e
+      told_at r.start 0 r.place r.jobs s r.first i e
       ∙ ap₂ (λ (n : ℕ) (z : Point). Some (told r.start n (left_by r.jobs i z (next_point r.jobs i z)))) (let z : 0 + r.place ≡ r.place = omega arith in z) (sym stands.point)
 
   pub no_record : slice_get s r.place ≡ None → slice_get (records r s) r.place ≡ None
-  no_record e = told_past r.start 0 r.place r.jobs s (first_point r.jobs r.lengths) e
+  no_record e = told_past r.start 0 r.place r.jobs s r.first e
 
 -- the round after the next instruction stands in the walk too
 pub stands_next : (r : Round) (s : List SInstr) (until : ℕ) (i : SInstr) → Stands r s → slice_get s r.place ≡ Some i → IsTold r until
     → r.start + (next_point r.jobs i r.point).time ≤ until → Stands (moved r s) s
 stands_next r s until i st e told by =
     let y = next_point r.jobs i r.point in
-    let is : point_at r.jobs r.lengths s (suc r.place) ≡ y = next_point_is r s st i e in
+    let is : last_point r.jobs (take (suc r.place) s) r.first ≡ y = next_point_is r s st i e in
     record {
       point = refl;
+      first = st.first;
       lengths = st.lengths;
       worst = st.worst;
       pending = λ p z.
           let now : IsPending (moved r s) p = pending_is (moved r s) p z in
-          let less : get_or (point_at r.jobs r.lengths s (suc r.place)).left p 0 ≤ get_or r.point.left p 0 =
+          let less : get_or (last_point r.jobs (take (suc r.place) s) r.first).left p 0 ≤ get_or r.point.left p 0 =
           subst (λ (v : Point). get_or v.left p 0 ≤ get_or r.point.left p 0) (sym is) (left_falls r.jobs i r.point p) in
           let was : IsPending r p = record { present = now.present; left = still _ _ less now.left; told = now.told } in
           let bound : until ≤ r.start + (job_at r.jobs p).release = told p (is_pending r p was) in
-          let time : (point_at r.jobs r.lengths s (suc r.place)).time ≡ y.time = ap (λ (v : Point). v.time) is in
+          let time : (last_point r.jobs (take (suc r.place) s) r.first).time ≡ y.time = ap (λ (v : Point). v.time) is in
           omega arith;
     }
   where
@@ -141,8 +142,13 @@ set_lengths jobs lengths p n P below old new q j at here =
       | inr d ↦ subst (λ (m : ℕ). P m j) (sym (get_or-set_other lengths p q n 0 d)) (old q j at here)
     ]
 
+-- what isn't 0 wasn't 0 before
+some_first : (a b : ℕ) → eqb a 0 ≡ false → a ≤ b → 0 < b
+some_first zero b e l = cc
+some_first (suc a) b e l = omega (arith, l)
+
 abbrev pub with_length : Round → ℕ → ℕ → Round
-with_length r p n = record r { lengths = set r.lengths p n; point = with_work p n r.point }
+with_length r p n = record r { lengths = set r.lengths p n; first = with_work p n r.first; point = with_work p n r.point }
 
 module _ (r : Round) (s : List SInstr) (p n : ℕ) (st : Stands r s) (pending : state_of r p ≡ Pending) (some : 1 ≤ n) (worst : n ≤ (job_at r.jobs p).worst) where
   is : IsPending r p
@@ -154,28 +160,23 @@ module _ (r : Round) (s : List SInstr) (p n : ℕ) (st : Stands r s) (pending : 
   within : p < length r.lengths
   within = some_below r.lengths p (omega (arith, its))
 
-  first : first_point r.jobs (set r.lengths p n) ≡ with_work p n (first_point r.jobs r.lengths)
-  first = first_with r.jobs r.lengths p n is.present within
-
-  same : SameWalk r.jobs (take r.place s) p n (first_point r.jobs r.lengths)
+  same : SameWalk r.jobs (take r.place s) p n r.first
   same =
-      same_walk r.jobs (take r.place s) p n (first_point r.jobs r.lengths)
-      (let e : get_or (work r.jobs r.lengths) p 0 ≡ get_or r.lengths p 0 = work_present r.jobs r.lengths p (job_at r.jobs p) (job_there r.jobs p is.present) is.present in omega (arith, its))
+      same_walk r.jobs (take r.place s) p n r.first
+      (some_first (get_or r.point.left p 0) (get_or r.first.left p 0) is.left (let e : get_or r.point.left p 0 ≡ get_or (last_point r.jobs (take r.place s) r.first).left p 0 = ap (λ (z : Point). get_or z.left p 0) st.point in omega (arith, e, left_falls_to r.jobs (take r.place s) r.first p)))
       (omega arith) (subst (λ (z : Point). z.time ≤ (job_at r.jobs p).release) st.point (st.pending p pending))
 
   pub given_stays : given (with_length r p n) s ≡ given r s
   given_stays =
-      told_from-take r.start 0 (walk_from r.jobs s (first_point r.jobs (set r.lengths p n))) r.place
-      ∙ ap (told_from r.start 0) (
-      walk-take r.jobs s (first_point r.jobs (set r.lengths p n)) r.place ∙ ap (walk_from r.jobs (take r.place s)) first
-      ∙ same.told ∙ sym (walk-take r.jobs s (first_point r.jobs r.lengths) r.place)
-      )
-      ∙ sym (told_from-take r.start 0 (walk_from r.jobs s (first_point r.jobs r.lengths)) r.place)
+      told_from-take r.start 0 (walk_from r.jobs s (with_work p n r.first)) r.place
+      ∙ ap (told_from r.start 0) (walk-take r.jobs s (with_work p n r.first) r.place ∙ same.told ∙ sym (walk-take r.jobs s r.first r.place))
+      ∙ sym (told_from-take r.start 0 (walk_from r.jobs s r.first) r.place)
 
   pub stands_set : Stands (with_length r p n) s
   stands_set =
       record {
-        point = sym (ap (last_point r.jobs (take r.place s)) first ∙ same.point ∙ ap (with_work p n) (sym st.point));
+        point = sym (same.point ∙ ap (with_work p n) (sym st.point));
+        first = ap (with_work p n) st.first ∙ sym (first_with r.jobs r.lengths p n is.present within);
         lengths = set_lengths r.jobs r.lengths p n (λ m j. 1 ≤ m) within st.lengths some;
         worst = set_lengths r.jobs r.lengths p n (λ m j. m ≤ j.worst) within st.worst worst;
         pending = λ q z. st.pending q (was q z);
@@ -214,6 +215,7 @@ pub stands_released : (r : Round) (s : List SInstr) (p : ℕ) → state_of r p �
 stands_released r s p here st =
     record {
       point = st.point;
+      first = st.first;
       lengths = st.lengths;
       worst = st.worst;
       pending = λ q z. st.pending q (pending_released r p q here z);
@@ -234,23 +236,23 @@ absent_never b c (Some x) e = cc
 pub done_is : (r : Round) (s : List SInstr) (p : ℕ) → Stands r s → (state_of r p ≡ Done) ↔ IsSome (finish_so_far r s p)
 done_is r s p st = by_present (job_at r.jobs p).present refl
   where
-    x : Point
-    x = first_point r.jobs r.lengths
+    front : finish (walk_from r.jobs (take r.place s) r.first) p ≡ finish_so_far r s p
+    front = ap (λ (z : List walks.Left). finish z p) (sym (walk-take r.jobs s r.first r.place))
 
-    front : finish (walk_from r.jobs (take r.place s) x) p ≡ finish_so_far r s p
-    front = ap (λ (z : List walks.Left). finish z p) (sym (walk-take r.jobs s x r.place))
+    work_is : get_or r.first.left p 0 ≡ get_or (work r.jobs r.lengths) p 0
+    work_is = ap (λ (z : Point). get_or z.left p 0) st.first
 
     by_present : (b : Bool) → (job_at r.jobs p).present ≡ b
         → (state_by b (eqb (get_or r.point.left p 0) 0) (get_or r.released p false) ≡ Done) ↔ IsSome (finish_so_far r s p)
     by_present false e =
         absent_never (eqb (get_or r.point.left p 0) 0) (get_or r.released p false) (finish_so_far r s p)
-        (sym front ∙ never_finished r.jobs (take r.place s) x p (absent_idle r.jobs r.lengths p e))
+        (sym front ∙ never_finished r.jobs (take r.place s) r.first p (work_is ∙ absent_idle r.jobs r.lengths p e))
     by_present true e =
         let its : 1 ≤ get_or r.lengths p 0 = st.lengths p (job_at r.jobs p) (job_there r.jobs p e) e in
-        let work_is : get_or (work r.jobs r.lengths) p 0 ≡ get_or r.lengths p 0 = work_present r.jobs r.lengths p (job_at r.jobs p) (job_there r.jobs p e) e in
+        let length_is : get_or (work r.jobs r.lengths) p 0 ≡ get_or r.lengths p 0 = work_present r.jobs r.lengths p (job_at r.jobs p) (job_there r.jobs p e) e in
         done_by (eqb (get_or r.point.left p 0) 0) (get_or r.released p false) (finish_so_far r s p) (
         ap (λ (z : Point). eqb (get_or z.left p 0) 0) st.point
-        ∙ finished_where_none r.jobs (take r.place s) x p (omega arith) ∙ ap is_some front
+        ∙ finished_where_none r.jobs (take r.place s) r.first p (omega (arith, work_is)) ∙ ap is_some front
         )
 
 -- ---- what a call answers
@@ -296,4 +298,4 @@ moved_is r s i st e =
 
 -- a round that begins
 pub stands_begun : (at : ℕ) (jobs : List Job) (lengths : List ℕ) (s : List SInstr) → HaveLengths jobs lengths → AreWithinWorst jobs lengths → Stands (begun at jobs lengths) s
-stands_begun at jobs lengths s some worst = record { point = refl; lengths = some; worst = worst; pending = λ p z. omega arith }
+stands_begun at jobs lengths s some worst = record { point = refl; first = refl; lengths = some; worst = worst; pending = λ p z. omega arith }

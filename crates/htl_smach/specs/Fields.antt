@@ -3,8 +3,8 @@ use Rattle.std.specs.Prelude.{take}
 use Rattle.htl_smach.specs.Rounds.{Round}
 use Rattle.htl_smach.specs.declared.machine.SMach.TheInside.{Inside}
 
-abbrev pub round_of : Inside → Round
-round_of m =
+abbrev pub inside_round : Inside → Round
+inside_round m =
     record {
       running = m.running;
       start = m.start;
@@ -12,5 +12,6 @@ round_of m =
       lengths = take m.count m.lengths;
       released = take m.count m.released;
       place = m.place;
+      first = record { time = m.from; left = take m.count m.first };
       point = record { time = m.time; left = take m.count m.left };
     }

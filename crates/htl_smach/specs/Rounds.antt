@@ -3,7 +3,7 @@ use Rattle.std.specs.Prelude.{◌≡◌, ℕ, suc, ◌+◌, ◌≤◌, Bool, tru
 use Rattle.htl_walk.specs.declared.job.Job.{Job}
 use Rattle.htl_walk.specs.declared.schedule.SInstr.{SInstr}
 use Rattle.htl_walk.specs.Walk as walks
-use Rattle.htl_walk.specs.Walk.{Point, job_at, first_point, point_at, walk, finish, InForm}
+use Rattle.htl_walk.specs.Walk.{Point, job_at, first_point, last_point, walk_from, finish, InForm}
 use Rattle.htl_walk.specs.Refinement.{HaveLengths, AreWithinWorst}
 use Rattle.htl_smach.specs.declared.left.Left.{Left}
 use Rattle.htl_smach.specs.declared.state.PosState.{PosState}
@@ -22,6 +22,8 @@ pub record Round : Type 0 where
   pub released : List Bool
   -- how many instructions were left so far
   pub place : ℕ
+  -- the point at which the walk begins: the work of each position, with the lengths as last set
+  pub first : Point
   -- the offset at which the last of them was left, and the work left of each position
   pub point : Point
 
@@ -34,6 +36,7 @@ no_round =
       lengths = [];
       released = [];
       place = 0;
+      first = record { time = 0; left = [] };
       point = record { time = 0; left = [] };
     }
 
@@ -46,6 +49,7 @@ begun at jobs lengths =
       lengths = lengths;
       released = replicate (length jobs) false;
       place = 0;
+      first = first_point jobs lengths;
       point = first_point jobs lengths;
     }
 
@@ -64,9 +68,9 @@ abbrev pub told_from : ℕ → ℕ → List walks.Left → List Left
 told_from start k [] = []
 told_from start k (l ∷ ls) = told start k l ∷ told_from start (suc k) ls
 
--- the walk of the round's jobs with the lengths as last set
+-- the walk of the round's jobs
 abbrev pub records : Round → List SInstr → List Left
-records r s = told_from r.start 0 (walk r.jobs r.lengths s)
+records r s = told_from r.start 0 (walk_from r.jobs s r.first)
 
 -- the records of the instructions left so far
 abbrev pub given : Round → List SInstr → List Left
@@ -85,7 +89,7 @@ next_left r s until = cond r.running (left_until until (slice_get (records r s) 
 -- the round after its next instruction; it is over after the last
 abbrev pub moved : Round → List SInstr → Round
 moved r s =
-    record r { running = ltb (suc r.place) (length s); place = suc r.place; point = point_at r.jobs r.lengths s (suc r.place) }
+    record r { running = ltb (suc r.place) (length s); place = suc r.place; point = last_point r.jobs (take (suc r.place) s) r.first }
 
 abbrev pub after : Round → List SInstr → Option Left → Round
 after r s None = r
@@ -109,14 +113,15 @@ state_of r p = state_by (job_at r.jobs p).present (eqb (get_or r.point.left p 0)
 
 -- when an instruction left so far finished the position, as an offset
 abbrev pub finish_so_far : Round → List SInstr → ℕ → Option ℕ
-finish_so_far r s p = finish (take r.place (walk r.jobs r.lengths s)) p
+finish_so_far r s p = finish (take r.place (walk_from r.jobs s r.first)) p
 
 -- ---- what a machine keeps
 
--- the round stands in the walk of the schedule: it is at the point after the instructions left so far, and nothing was
--- left after the release of a position for which it wasn't told
+-- the round stands in the walk of the schedule: it begins with the lengths as last set, it is at the point after the
+-- instructions left so far, and nothing was left after the release of a position for which it wasn't told
 pub record Stands (r : Round) (s : List SInstr) : Type 0 where
-  pub point : r.point ≡ point_at r.jobs r.lengths s r.place
+  pub point : r.point ≡ last_point r.jobs (take r.place s) r.first
+  pub first : r.first ≡ first_point r.jobs r.lengths
   pub lengths : HaveLengths r.jobs r.lengths
   pub worst : AreWithinWorst r.jobs r.lengths
   pub pending : (p : ℕ) → state_of r p ≡ Pending → r.point.time ≤ (job_at r.jobs p).release

@@ -5,6 +5,7 @@ ghost use Rattle.htl_walk.specs.Walk.{job_at, work};
 ghost use Rattle.htl_walk.specs.Refinement.{HaveLengths, AreWithinWorst};
 ghost use Rattle.htl_smach.specs.declared.state.PosState.TheVariants as states;
 ghost use Rattle.htl_smach.specs.Rounds.{Round, no_round, begun, shifted, records, given, next_left, after, one_more, state_by, state_of, finish_so_far, Stands, IsInForm, IsTold};
+ghost use Rattle.htl_smach.specs.Order.{left_by_then, IsWholeWhenOver, IsBy};
 ghost use Rattle.htl_smach.specs.Steps.{point_of};
 
 use crate::step::{Step, next_step};
@@ -32,6 +33,9 @@ pub struct SMach {
     released: [bool; MAX_POSITIONS],
     // the next instruction
     place: u32,
+    // the offset at which the walk begins, and the work left then
+    from: Time,
+    first: [Time; MAX_POSITIONS],
     // when the instruction before it was left
     time: Time,
     // the work left
@@ -44,9 +48,9 @@ impl Model for SMach {
 
     ghost Value = { Round };
 
-    ghost use Rattle.htl_smach.specs.Fields.{round_of};
+    ghost use Rattle.htl_smach.specs.Fields.{inside_round};
 
-    ghost view = { round_of };
+    ghost view = { inside_round };
 
     ghost invariant = { λ m. (m.count ≤ 128) × (m.start ≤ 1000000000) × (m.time ≤ 4294967295) };
 }
@@ -74,6 +78,8 @@ impl SMach {
             lengths: [0; MAX_POSITIONS],
             released: [false; MAX_POSITIONS],
             place: 0,
+            from: 0,
+            first: [0; MAX_POSITIONS],
             time: 0,
             left: [0; MAX_POSITIONS],
         }
@@ -95,11 +101,13 @@ impl SMach {
         self.jobs[..count].copy_from_slice(jobs);
         self.lengths[..count].copy_from_slice(lengths);
         fill_work(jobs, lengths, &mut self.left[..count]);
+        fill_work(jobs, lengths, &mut self.first[..count]);
         self.released[..count].fill(false);
         self.running = true;
         self.start = at;
         self.count = count;
         self.place = 0;
+        self.from = 0;
         self.time = 0;
     }
 
@@ -121,7 +129,7 @@ impl SMach {
         requires pending { state_of self.old position ≡ states.Pending }
         requires some { 1 ≤ length }
         requires worst { length ≤ (job_at self.old.jobs position).worst }
-        ensures round { self.new ≡ record self.old { lengths = set self.old.lengths position length; point = record self.old.point { left = set self.old.point.left position length } } }
+        ensures round { self.new ≡ record self.old { lengths = set self.old.lengths position length; first = record self.old.first { left = set self.old.first.left position length }; point = record self.old.point { left = set self.old.point.left position length } } }
         ensures given { (s : List Instr) → Stands self.old s → given self.new s ≡ given self.old s }
         ensures stands { (s : List Instr) → Stands self.old s → Stands self.new s }
     {
@@ -130,6 +138,8 @@ impl SMach {
         lengths[position] = length;
         let left = &mut self.left[..count];
         left[position] = length;
+        let first = &mut self.first[..count];
+        first[position] = length;
     }
 
     /// The state of a position below the number of jobs: Absent exactly where its job isn't present, Done exactly where
@@ -148,7 +158,8 @@ impl SMach {
     }
 
     /// Goes on to the next instruction that is left at or before the instant `until`, and tells of it. None exactly
-    /// where no instruction is left by then or the round is over; then nothing has changed.
+    /// where no instruction is left by then or the round is over; then nothing has changed, and the records given are
+    /// exactly those of the instructions left by then, where none given before was left later.
     ///
     /// The schedule keeps its form, has at most 4,294,967,295 instructions and is the same in all calls of one round, and
     /// no release falls before `until` that hasn't been told.
@@ -161,6 +172,8 @@ impl SMach {
         ensures round { self.new ≡ after self.old s.now.instrs result }
         ensures given { given self.new s.now.instrs ≡ given self.old s.now.instrs ++ one_more result }
         ensures stands { Stands self.new s.now.instrs }
+        ensures none { result ≡ None → IsWholeWhenOver self.old s.now.instrs → IsBy self.old until → given self.new s.now.instrs ≡ left_by_then until (records self.new s.now.instrs) }
+        ensures whole { IsWholeWhenOver self.old s.now.instrs → IsWholeWhenOver self.new s.now.instrs }
     {
         if !self.running {
             return None;

@@ -6,7 +6,8 @@ use Rattle.htl_walk.specs.declared.schedule.SInstr.{SInstr}
 use Rattle.htl_walk.specs.declared.schedule.SInstr.TheVariants.{Dispatch, Idle, End}
 use Rattle.htl_walk.specs.Jobs.{precedes}
 use Rattle.htl_walk.specs.Walk.{Point, job_at, next_point, point_at, walk_from, walk, work, work_after, first_point, slices, DoneBy, InOrder, AreDone, IsMet, Meets, IsAccepted, worst_cases}
-use Rattle.htl_walk.specs.Refinement.{LeadsTo, direct, through, IsRefined, Refines, HasWork, HaveLengths, AreWithinWorst}
+use Rattle.htl_model.specs.PortOrder.{direct, through}
+use Rattle.htl_walk.specs.Refinement.{LeadsTo, RefinesJob, Refines, HasWork, HaveLengths, AreWithinWorst}
 use Rattle.htl_walk.specs.Laws.{Dominance}
 use Rattle.htl_walk.proofs.Steps.{apart, either, left_falls, left_other}
 use Rattle.htl_walk.proofs.Ahead.{Ahead, ahead_next, ahead_last}
@@ -35,8 +36,8 @@ orderly_next ks End is y o d r q a b = o r q a b
 
 module _ (ks : List Job) (busy : (q r : ℕ) → precedes q (job_at ks r) ≡ true → 0 < (job_at ks r).worst) where
   all_done : (y : Point) (q p : ℕ) → IsOrderly ks y → AreDone ks (job_at ks p) y → LeadsTo ks q p → get_or y.left q 0 ≡ 0
-  all_done y q p o d (direct e) = d q e
-  all_done y q p o d (through {r = r} a b) =
+  all_done y q p o d (direct _ _ e) = d q e
+  all_done y q p o d (through _ r _ a b) =
       let z : get_or y.left r 0 ≡ 0 = all_done y r p o d b in
       all_done y q r o (λ s e. o r s (let w : 0 < (job_at ks r).worst = busy s r e in omega arith) e) a
 
@@ -114,7 +115,7 @@ module _ (js ks : List Job) (ns : List ℕ) (all : All HasWork ks) (refined : Re
     | inr h ↦ omega (arith, ap (λ j. j.worst) h)
   ]
 
-  refined_at : (p : ℕ) → (job_at js p).present ≡ true → (k : Job) × (slice_get ks p ≡ Some k) × IsRefined ks p (job_at js p) k
+  refined_at : (p : ℕ) → (job_at js p).present ≡ true → (k : Job) × (slice_get ks p ≡ Some k) × RefinesJob ks p (job_at js p) k
   refined_at p e = refined.each p (job_at js p) (job_there js p e) e
 
   lengths_at : (p : ℕ) → get_or (work js ns) p 0 ≤ get_or (work ks (worst_cases ks)) p 0

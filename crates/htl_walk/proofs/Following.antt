@@ -95,13 +95,13 @@ module _ (jobs : List Job) (s : List SInstr) (k : ℕ) (i : SInstr) (at : slice_
         point = after;
         clean = clean_more x y fs gs f d;
         done = λ p h none. elim (either 0 (get_or x.left p 0)) [
-          | inl some ↦ finished_now x y f.point after p some none ∙ ap Some (sym (d.noted.finished p h some none))
-          | inr idle ↦ let z : get_or x.left p 0 ≡ 0 = omega arith in f.done p h z ∙ ap Some (sym (d.noted.others p (inl z)))
+          | inl some ↦ finished_now x y f.point after p some none ∙ ap Some (sym (d.finishes.finished p h some none))
+          | inr idle ↦ let z : get_or x.left p 0 ≡ 0 = omega arith in f.done p h z ∙ ap Some (sym (d.finishes.others p (inl z)))
         ];
         in_time = λ p h none. elim (either 0 (get_or x.left p 0)) [
           | inl some ↦
-              omega (arith, d.noted.finished p h some none, finished_in_time i d.in_time d.next p some none)
-          | inr idle ↦ let z : get_or x.left p 0 ≡ 0 = omega arith in omega (arith, f.in_time p h z, d.noted.others p (inl z))
+              omega (arith, d.finishes.finished p h some none, finished_in_time i d.in_time d.next p some none)
+          | inr idle ↦ let z : get_or x.left p 0 ≡ 0 = omega arith in omega (arith, f.in_time p h z, d.finishes.others p (inl z))
         ];
       }
     where

@@ -1,5 +1,5 @@
 -- The jobs of a selection are present and have some work.
-use Rattle.std.proofs.Common.{◌≡◌, ℕ, ◌≤◌, ◌<◌, true, List, length, map, get_or, slice_get, Option, Some, None, ap, arith, inl, inr}
+use Rattle.std.proofs.Common.{◌≡◌, ℕ, ◌≤◌, ◌<◌, true, List, length, map, get_or, slice_get, Option, Some, None, refl, ◌∙◌, ap, arith, inl, inr}
 use Rattle.std.specs.List.{All}
 use Rattle.std.proofs.lemmas.List.Elements.{All-map, All-from_get_or}
 use Rattle.std.proofs.lemmas.Option.{slice_get_cases}
@@ -10,8 +10,9 @@ use Rattle.htl_model.specs.Ranges.{AreInRange, IsInvInRange, IsTaskInRange}
 use Rattle.htl_model.specs.Selections.{positions}
 use Rattle.htl_model.proofs.SelectionLaws.{position_below}
 use Rattle.htl_walk.specs.declared.job.Job.{Job}
-use Rattle.htl_walk.specs.Jobs.{absent_job, job_of, abstract_jobs, mask, feeds}
+use Rattle.htl_walk.specs.Jobs.{absent_job, job_of, abstract_jobs, mask, precedes, is_fed_by}
 use Rattle.htl_walk.specs.Refinement.{HasWork}
+use Rattle.htl_walk.proofs.Masks.{mask_bit, get_mapped}
 use Rattle.htl_walk.proofs.Work.{all_at}
 
 worst_some : (t : Tables) (i : Inv) (k : ℕ) → AreInRange t → slice_get t.invs k ≡ Some i → 1 ≤ task_worst t i.task
@@ -25,7 +26,7 @@ worst_some t i k r at =
 -- the job of an invocation that is there
 job_there : (t : Tables) (standing : List (Option ℕ)) (k : ℕ) (i : Inv) → Job
 job_there t standing k i =
-    record { present = true; inv = k; release = release t i; end = window_end t i; worst = task_worst t i.task; preds = mask (map (feeds t i) standing) }
+    record { present = true; inv = k; release = release t i; end = window_end t i; worst = task_worst t i.task; preds = mask (map (is_fed_by t k) standing) }
 
 job_work : (t : Tables) (standing : List (Option ℕ)) (k : ℕ) → AreInRange t → k < length t.invs → HasWork (job_of t standing (Some k))
 unfolding job_there
@@ -42,3 +43,11 @@ abstract_jobs_work t sel r =
     All-map HasWork (job_of t standing) standing
     (All-map (λ o. HasWork (job_of t standing o)) (λ (k : ℕ). Some k) (positions t sel)
     (All-from_get_or (λ k. HasWork (job_of t standing (Some k))) (positions t sel) 0 (λ i h. job_work t standing (get_or (positions t sel) i 0) r (position_below t sel i h))))
+
+-- ---- predecessors are those of the port order
+
+pub preds_of : (t : Tables) (standing : List (Option ℕ)) (k : ℕ) (i : Inv) → slice_get t.invs k ≡ Some i → (q : ℕ) → precedes q (job_of t standing (Some k)) ≡ is_fed_by t k (get_or standing q None)
+unfolding job_there
+preds_of t standing k i at q =
+    ap (λ (o : Option Inv). precedes q (elim o [ None ↦ absent_job | Some i ↦ job_there t standing k i ])) at
+    ∙ mask_bit (map (is_fed_by t k) standing) q ∙ get_mapped (is_fed_by t k) standing None q refl

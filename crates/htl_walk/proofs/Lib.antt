@@ -4,12 +4,15 @@ pub mod Dominance
 pub mod Finishes
 pub mod FirstMiss
 pub mod Following
+pub mod JobExamples
 pub mod JobLaws
-pub mod JobRows
 pub mod Masks
 pub mod Predecessors
+pub mod SameJobs
+pub mod SampleFits
 pub mod Slices
 pub mod Standing
 pub mod Steps
 pub mod Unreleased
+pub mod Waiting
 pub mod Work

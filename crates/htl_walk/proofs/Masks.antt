@@ -1,39 +1,108 @@
--- Numbers by their bits.
-use Rattle.std.proofs.Common.{◌≡◌, ℕ, suc, ◌+◌, ◌*◌, ◌%◌, ◌^◌, ◌<◌, ◌≤◌, Bool, List, [], ◌∷◌, ◌++◌, length, take, map, get_or, sym, ap, ◌∙◌, arith, add-one}
-use Rattle.std.proofs.Math.Nat.{two-pow-succ, mod-eq_of_lt, pow-le-pow_right}
-use Rattle.std.proofs.Math.Pow.{pow-lt}
+-- Predecessors as numbers by their bits.
+use Rattle.std.proofs.Common.{◌≡◌, ℕ, zero, suc, ◌+◌, ◌*◌, ◌/◌, ◌%◌, ◌<◌, Bool, true, false, ◌&&◌, eqb, ltb, List, [], ◌∷◌, ◌++◌, length, map, take, set, get_or, add-one, Option, Some, None, refl, sym, ap, ◌∙◌, arith, inl, inr}
+use Rattle.std.specs.Prelude.{slice_get}
+use Rattle.std.specs.Int.{bit_at}
+use Rattle.std.specs.List.{list_any}
+use Rattle.std.proofs.lemmas.Bool.Decides.{nat_tests}
 use Rattle.std.proofs.Math.Seq.{take-suc}
-use Rattle.std.proofs.lemmas.List.{map-append, length-map, length-take-le}
+use Rattle.std.proofs.lemmas.List.{get_or_past, map-append, take_more_set}
+use Rattle.std.proofs.lemmas.Nat.Bits.{bit_at-suc, bit_at_lowest}
+use Rattle.htl_model.specs.declared.parts.Inv.{Inv}
+use Rattle.htl_model.specs.Bits.{has_bit, cell}
 use Rattle.htl_model.specs.Functions.{of_bool}
-use Rattle.htl_walk.specs.Jobs.{mask}
+use Rattle.htl_model.specs.PortOrder.{feeds_at}
+use Rattle.htl_model.specs.PortTable.{writes_to, is_from}
+use Rattle.htl_model.specs.Ranges.{AreInRange}
+use Rattle.htl_model.specs.Tables.{Tables, task_worst, release, window_end}
+use Rattle.htl_model.proofs.BitLaws.{same_row, has_no_bit}
+use Rattle.htl_model.proofs.PortTableLaws.{row_by_reads, row_of_none}
+use Rattle.htl_walk.specs.declared.job.Job.{Job}
+use Rattle.htl_walk.specs.Jobs.{is_fed_by, mask, absent_job, job_of}
+use Rattle.htl_walk.specs.Writers.{inv_of, reads_of, AreWriters, job_with}
+use Rattle.htl_walk.proofs.Steps.{either}
 
--- one bit more on top
-pub mask-append : (bs : List Bool) (b : Bool) → mask (bs ++ b ∷ []) ≡ mask bs + of_bool b * 2 ^ length bs
-mask-append [] b = omega arith
-mask-append (c ∷ bs) b =
-    let rest : mask (bs ++ b ∷ []) ≡ mask bs + of_bool b * 2 ^ length bs = mask-append bs b in
-    let twice : 2 ^ suc (length bs) ≡ 2 ^ length bs + 2 ^ length bs = two-pow-succ (length bs) in
-    go (of_bool b) (2 ^ length bs) (2 ^ suc (length bs)) (mask bs) (mask (bs ++ b ∷ [])) rest twice
+-- ---- the bits of a mask
+
+low_bit : (b : Bool) (m : ℕ) → eqb ((of_bool b + 2 * m) % 2) 1 ≡ b
+low_bit true m = let e : (1 + 2 * m) % 2 ≡ 1 = omega arith in ap (λ n. eqb n 1) e
+low_bit false m = let e : (0 + 2 * m) % 2 ≡ 0 = omega arith in ap (λ n. eqb n 1) e
+
+halved : (b : Bool) (m : ℕ) → (of_bool b + 2 * m) / 2 ≡ m
+halved true m = omega arith
+halved false m = omega arith
+
+-- bit q of a mask is what the list has there
+pub mask_bit : (bs : List Bool) (q : ℕ) → has_bit (mask bs) q ≡ get_or bs q false
+mask_bit [] zero = has_no_bit 0
+mask_bit [] (suc q) = has_no_bit (suc q)
+mask_bit (b ∷ bs) zero = ap (λ n. eqb n 1) (bit_at_lowest (of_bool b + 2 * mask bs)) ∙ low_bit b (mask bs)
+mask_bit (b ∷ bs) (suc q) =
+    ap (λ n. eqb n 1) (bit_at-suc (of_bool b + 2 * mask bs) q ∙ ap (λ n. bit_at n q) (halved b (mask bs))) ∙ mask_bit bs q
+
+pub mask_is : (row : ℕ) (bs : List Bool) → ((q : ℕ) → has_bit row q ≡ get_or bs q false) → row ≡ mask bs
+mask_is row bs h = same_row row (mask bs) (λ q. h q ∙ sym (mask_bit bs q))
+
+-- what is mapped at a place, where the default is mapped to the default
+pub get_mapped : {A : Type 0} (f : A → Bool) (xs : List A) (d : A) (q : ℕ) → f d ≡ false → get_or (map f xs) q false ≡ f (get_or xs q d)
+get_mapped f [] d zero e = sym e
+get_mapped f [] d (suc q) e = sym e
+get_mapped f (x ∷ xs) d zero e = refl
+get_mapped f (x ∷ xs) d (suc q) e = get_mapped f xs d q e
+
+-- ---- the job of a position
+
+-- all positions were noted
+pub writers_all : (t : Tables) (standing : List (Option ℕ)) (n : ℕ) (table : List ℕ) → n ≡ length standing
+    → ((p r : ℕ) → p < length table → cell table p r ≡ (ltb r n && writes_to (inv_of t (get_or standing r None)) p)) → AreWriters t standing table
+writers_all t standing n table is says p r within = says p r within ∙ elim (either r n) [
+  | inl less ↦ here (ltb r n) (writes_to (inv_of t (get_or standing r None)) p) (grind (arith, nat_tests))
+  | inr past ↦
+      let none : get_or standing r None ≡ None = get_or_past standing r None (omega arith) in
+      ap (λ o. ltb r n && writes_to (inv_of t o) p) none ∙ no_right (ltb r n) ∙ sym (ap (λ o. writes_to (inv_of t o) p) none)
+]
   where
-    go : (o p q m n : ℕ) → n ≡ m + o * p → q ≡ p + p → of_bool c + 2 * n ≡ of_bool c + 2 * m + o * q
-    go o p q m n e f = rw f (omega arith)
+    here : (a b : Bool) → a ≡ true → (a && b) ≡ b
+    here true b e = refl
+    here false b e = cc
 
-pub shifted : (q : ℕ) → q < 128 → 1 * 2 ^ q % 340282366920938463463374607431768211456 ≡ 2 ^ q
-shifted q h = let below : 2 ^ q < 2 ^ 128 = pow-lt h in let one : 1 * 2 ^ q ≡ 2 ^ q = omega arith in ap (λ n. n % 340282366920938463463374607431768211456) one ∙ mod-eq_of_lt below
+    no_right : (a : Bool) → (a && false) ≡ false
+    no_right true = refl
+    no_right false = refl
 
-pub sum_fits : (bits q : ℕ) → q < 128 → bits < 2 ^ q → bits + 2 ^ q < 2 ^ 128
-sum_fits bits q h small =
-    let twice : 2 ^ suc q ≡ 2 ^ q + 2 ^ q = two-pow-succ q in
-    let most : 2 ^ suc q ≤ 2 ^ 128 = pow-le-pow_right (omega arith) h in
-    omega arith
+abbrev made : Tables → ℕ → Inv → ℕ → Job
+made t k i preds = record { present = true; inv = k; release = release t i; end = window_end t i; worst = task_worst t i.task; preds = preds }
 
--- the mask of one place more
-pub mask_more : {A : Type 0} (f : A → Bool) (xs : List A) (q : ℕ) (d : A) (preds result : ℕ) → q < length xs → preds ≡ mask (map f (take q xs))
-    → result ≡ preds + of_bool (f (get_or xs q d)) * 2 ^ q → result ≡ mask (map f (take (q + 1) xs))
-mask_more f xs q d preds result h e g =
-    let front = map f (take q xs) in
-    let size : length front ≡ q = length-map (take q xs) f ∙ length-take-le q xs (omega arith) in
-    let cut : map f (take (q + 1) xs) ≡ front ++ f (get_or xs q d) ∷ [] =
-    ap (λ n. map f (take n xs)) (add-one q) ∙ ap (map f) (take-suc xs q d h) ∙ map-append f (take q xs) (get_or xs q d ∷ []) in
-    g ∙ ap (λ m. m + of_bool (f (get_or xs q d)) * 2 ^ q) e ∙ ap (λ n. mask front + of_bool (f (get_or xs q d)) * 2 ^ n) (sym size)
-    ∙ sym (mask-append front (f (get_or xs q d))) ∙ ap mask (sym cut)
+module _ (t : Tables) (standing : List (Option ℕ)) (table : List ℕ) (r : AreInRange t) (len : length table ≡ 4096) (writers : AreWriters t standing table) where
+  -- a position is a predecessor where its invocation feeds the other
+  row_is : (k : ℕ) (i : Inv) → slice_get t.invs k ≡ Some i → (q : ℕ) → list_any (is_from table q) i.reads ≡ is_fed_by t k (get_or standing q None)
+  row_is k i at q = by_standing (get_or standing q None) refl
+    where
+      by_inv : (n : ℕ) (o : Option Inv) → get_or standing q None ≡ Some n → slice_get t.invs n ≡ o → list_any (is_from table q) i.reads ≡ feeds_at o (slice_get t.invs k)
+      by_inv n (Some x) stands here =
+          row_by_reads t r x i n k here at table q len (λ p within. writers p q within ∙ ap (λ o. writes_to (inv_of t o) p) stands ∙ ap (λ o. writes_to o p) here)
+          ∙ ap (λ o. feeds_at (Some x) o) (sym at)
+      by_inv n None stands none =
+          row_of_none t r i k at table q len (λ p within. writers p q within ∙ ap (λ o. writes_to (inv_of t o) p) stands ∙ ap (λ o. writes_to o p) none)
+
+      by_standing : (o : Option ℕ) → get_or standing q None ≡ o → list_any (is_from table q) i.reads ≡ is_fed_by t k o
+      by_standing None stands = row_of_none t r i k at table q len (λ p within. writers p q within ∙ ap (λ o. writes_to (inv_of t o) p) stands)
+      by_standing (Some n) stands = by_inv n (slice_get t.invs n) stands refl
+
+  preds_is : (k : ℕ) (i : Inv) (preds : ℕ) → slice_get t.invs k ≡ Some i → ((q : ℕ) → has_bit preds q ≡ list_any (is_from table q) i.reads) → preds ≡ mask (map (is_fed_by t k) standing)
+  preds_is k i preds at bits = mask_is preds (map (is_fed_by t k) standing) (λ q. bits q ∙ row_is k i at q ∙ sym (get_mapped (is_fed_by t k) standing None q refl))
+
+  pub job_is : (o : Option ℕ) (preds : ℕ) → ((q : ℕ) → has_bit preds q ≡ list_any (is_from table q) (reads_of (inv_of t o))) → job_with t o preds ≡ job_of t standing o
+  job_is None preds bits = refl
+  job_is (Some k) preds bits = by (slice_get t.invs k) refl bits
+    where
+      by : (o : Option Inv) → slice_get t.invs k ≡ o → ((q : ℕ) → has_bit preds q ≡ list_any (is_from table q) (reads_of o))
+          → elim o as (λ _. Job) [ None ↦ absent_job | Some i ↦ made t k i preds ] ≡ elim o as (λ _. Job) [ None ↦ absent_job | Some i ↦ made t k i (mask (map (is_fed_by t k) standing)) ]
+      by None at bits = refl
+      by (Some i) at bits = ap (made t k i) (preds_is k i preds at bits)
+
+-- one position more is filled
+pub front_more : (f : Option ℕ → Job) (out : List Job) (standing : List (Option ℕ)) (p : ℕ) (j : Job) → p < length out → p < length standing → take p out ≡ map f (take p standing)
+    → j ≡ f (get_or standing p None) → take (p + 1) (set out p j) ≡ map f (take (p + 1) standing)
+front_more f out standing p j within below front is =
+    take_more_set out p j within ∙ ap (λ xs. xs ++ j ∷ []) front ∙ ap (λ x. map f (take p standing) ++ x ∷ []) is
+    ∙ sym (ap (λ n. map f (take n standing)) (add-one p) ∙ ap (map f) (take-suc standing p None below) ∙ map-append f (take p standing) (get_or standing p None ∷ []))

@@ -1,15 +1,15 @@
 -- Records before t do not depend on the lengths of jobs that are released at t or later.
-use Rattle.std.proofs.Common.{◌≡◌, ◌≢◌, ℕ, zero, suc, ◌+◌, ◌-◌, ◌≤◌, ◌<◌, min, max, Bool, true, false, cond, ltb, List, [], ◌∷◌, get_or, Some, None, refl, sym, ap, ap₂, ◌∙◌, subst, arith, ◌⊎◌, inl, inr}
+use Rattle.std.proofs.Common.{◌≡◌, ◌≢◌, ℕ, zero, suc, ◌≤◌, ◌<◌, max, true, false, cond, ltb, List, [], ◌∷◌, get_or, None, refl, sym, ap, ap₂, ◌∙◌, subst, arith, ◌⊎◌, inl, inr}
 use Rattle.std.proofs.lemmas.Bool.{le-ltb}
 use Rattle.htl_walk.specs.declared.job.Job.{Job}
 use Rattle.htl_walk.specs.declared.schedule.SInstr.{SInstr}
 use Rattle.htl_walk.specs.declared.schedule.SInstr.TheVariants.{Dispatch, Idle, End}
-use Rattle.htl_walk.specs.Walk.{Point, Left, job_at, begins, finishes_by, slice_between, time_after, work_after, next_point, left_by, walk_from, work, first_point, earlier}
+use Rattle.htl_walk.specs.Walk.{Point, job_at, begins, time_after, work_after, next_point, left_by, walk_from, work, first_point, earlier}
 use Rattle.htl_walk.specs.Refinement.{HaveLengths}
 use Rattle.htl_walk.specs.Laws.{AgreeBefore, UnreleasedLengths}
 use Rattle.htl_walk.proofs.Work.{job_there, work_present, present_or_idle}
 use Rattle.htl_walk.proofs.Steps.{left_same, left_other, left_falls, time_rises, apart, either}
-use Rattle.htl_walk.proofs.Finishes.{finishes_no}
+use Rattle.htl_walk.proofs.Waiting.{told_same, waited, told_waits, time_waits, work_waits}
 
 -- the same for what is released before t, and for what isn't no more than whether anything is left
 pub record Alike (jobs : List Job) (t : ℕ) (x y : Point) : Type 0 where
@@ -33,42 +33,6 @@ record Same (jobs : List Job) (t : ℕ) (i : SInstr) (x y : Point) : Type 0 wher
 record Late (t : ℕ) (x y : Point) : Type 0 where
   one : t ≤ x.time
   two : t ≤ y.time
-
--- what is told of a dispatch
-told_by : ℕ → ℕ → ℕ → ℕ → ℕ → ℕ → Left
-told_by p now w r h w' =
-    record {
-      at = time_after now w r h;
-      position = Some p;
-      slice = slice_between (begins now r h) h w (time_after now w r h);
-      finished = finishes_by w w';
-    }
-
-told_same : (p r h now now' w w' v v' : ℕ) → now ≡ now' → w ≡ w' → v ≡ v' → told_by p now w r h v ≡ told_by p now' w' r h v'
-told_same p r h now now' w w' v v' e f g =
-    ap (λ n. told_by p n w r h v) e ∙ ap (λ n. told_by p now' n r h v) f ∙ ap (λ n. told_by p now' w' r h n) g
-
--- a dispatch that waits till it is over runs nothing
-waited : ℕ → ℕ → Left
-waited p at = record { at = at; position = Some p; slice = None; finished = false }
-
-told_waits : (p r h now w v : ℕ) → 0 < w → 0 < v → h ≤ begins now r h → told_by p now w r h v ≡ waited p (begins now r h)
-unfolding told_by waited
-told_waits p r h now zero v a b c = absurd (omega arith)
-told_waits p r h now (suc w) v a b c =
-    let slice : ltb (begins now r h) h ≡ false = le-ltb (begins now r h) h c in
-    let time : begins now r h + min (suc w) (h - begins now r h) ≡ begins now r h = omega arith in
-    let P : Bool → ℕ → Bool → Left =
-    λ s n f. record { at = n; position = Some p; slice = elim s [ true ↦ Some (begins now r h, n) | false ↦ None ]; finished = f } in
-    ap (λ s. P s (begins now r h + min (suc w) (h - begins now r h)) (finishes_by (suc w) v)) slice
-    ∙ ap (λ n. P false n (finishes_by (suc w) v)) time ∙ ap (λ f. P false (begins now r h) f) (finishes_no (suc w) v (inr b))
-
-time_waits : (now w r h : ℕ) → h ≤ begins now r h → 0 < w → time_after now w r h ≡ begins now r h
-time_waits now zero r h a b = absurd (omega arith)
-time_waits now (suc w) r h a b = omega arith
-
-work_waits : (now w r h : ℕ) → h ≤ begins now r h → work_after now w r h ≡ w
-work_waits now w r h a = omega arith
 
 is_late : (now w r h t : ℕ) → t ≤ r → begins now r h < h → 0 < w → t ≤ time_after now w r h
 is_late now zero r h t a b c = absurd (omega arith)
@@ -121,7 +85,7 @@ module _ (jobs : List Job) (t p h : ℕ) (x y : Point) (a : Alike jobs t x y) wh
       }
 
   same_work : get_or x.left p 0 ≡ get_or y.left p 0 → (t ≤ (job_at jobs p).release → get_or x.left p 0 ≡ 0) → Same jobs t (Dispatch p h) x y
-  unfolding told_by Rest
+  unfolding Rest
   same_work e z =
       record {
         told = told_same p (job_at jobs p).release h x.time y.time (get_or x.left p 0) (get_or y.left p 0) _ _ a.time e (same_left e);
@@ -132,7 +96,7 @@ module _ (jobs : List Job) (t p h : ℕ) (x y : Point) (a : Alike jobs t x y) wh
       }
 
   waits : t ≤ (job_at jobs p).release → h ≤ begins x.time (job_at jobs p).release h → 0 < get_or x.left p 0 → 0 < get_or y.left p 0 → Same jobs t (Dispatch p h) x y
-  unfolding told_by Rest
+  unfolding Rest
   waits k u v w =
       let u' : h ≤ begins y.time (job_at jobs p).release h = omega (arith, a.time) in
       let vx : get_or (next_point jobs (Dispatch p h) x).left p 0 ≡ get_or x.left p 0 =

@@ -1,11 +1,11 @@
 -- The job and the work at a position.
 use Rattle.std.proofs.lemmas.Option.{slice_get_within, get_or_from_slice_get}
 use Rattle.std.specs.List.{All}
-use Rattle.std.proofs.Math.Nat.{zero-div}
+use Rattle.htl_model.proofs.BitLaws.{has_no_bit}
 use Rattle.htl_walk.specs.Jobs.{absent_job}
 use Rattle.htl_walk.proofs.Steps.{either}
 use Rattle.htl_walk.proofs.Finishes.{some_same}
-use Rattle.std.proofs.Common.{◌≡◌, ℕ, zero, suc, ◌<◌, Bool, true, false, cond, eqb, ◌%◌, ◌^◌, ◌%◌, ◌^◌, List, [], ◌∷◌, get_or, slice_get, Some, refl, ap, ◌∙◌, subst, arith, ◌⊎◌, inl, inr}
+use Rattle.std.proofs.Common.{◌≡◌, ℕ, zero, suc, ◌<◌, Bool, true, false, cond, List, [], ◌∷◌, get_or, slice_get, Some, refl, ap, ◌∙◌, subst, arith, ◌⊎◌, inl, inr}
 use Rattle.htl_walk.specs.declared.job.Job.{Job}
 use Rattle.htl_walk.specs.Jobs.{precedes}
 use Rattle.htl_walk.specs.Walk.{job_at, worst_cases, work}
@@ -27,7 +27,7 @@ job_cases (k ∷ ks) zero = inl refl
 job_cases (k ∷ ks) (suc p) = job_cases ks p
 
 pub absent_precedes : (q : ℕ) → precedes q absent_job ≡ false
-absent_precedes q = ap (λ n. eqb (n % 2) 1) (zero-div (2 ^ q))
+absent_precedes q = has_no_bit q
 
 pub all_at : {A : Type 0} (P : A → Type 0) (xs : List A) → All P xs → (p : ℕ) (x : A) → slice_get xs p ≡ Some x → P x
 all_at P xs all p x e = subst P (get_or_from_slice_get xs p x x e) (all p x (slice_get_within xs p x e))

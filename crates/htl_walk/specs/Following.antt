@@ -27,7 +27,7 @@ IsInTime jobs (Idle until) x y = Unit {0}
 IsInTime jobs End x y = Unit {0}
 
 -- the finish offsets before and after an instruction between these points: that of a position that it finishes is the time after it
-pub record AreNoted (count : ℕ) (x y : Point) (old new : List ℕ) : Type 0 where
+pub record AreFinishesAfter (count : ℕ) (x y : Point) (old new : List ℕ) : Type 0 where
   pub finished : (p : ℕ) → p < count → 0 < get_or x.left p 0 → get_or y.left p 0 ≡ 0 → get_or new p 0 ≡ y.time
   pub others : (p : ℕ) → (get_or x.left p 0 ≡ 0) ⊎ (0 < get_or y.left p 0) → get_or new p 0 ≡ get_or old p 0
 
@@ -36,7 +36,7 @@ pub record IsFollowed (jobs : List Job) (i : SInstr) (x y : Point) (old new : Li
   pub next : y ≡ next_point jobs i x
   pub ready : IsReady jobs i x
   pub in_time : IsInTime jobs i x y
-  pub noted : AreNoted (length jobs) x y old new
+  pub finishes : AreFinishesAfter (length jobs) x y old new
 
 -- instruction `at` dispatches p while q, its lowest predecessor with work left, isn't done
 pub record IsBeforeAt (jobs : List Job) (i : SInstr) (x : Point) (p q : ℕ) : Type 0 where

@@ -1,8 +1,7 @@
 -- The jobs of a round.
-use Rattle.std.specs.Prelude.{ℕ, ◌+◌, ◌*◌, ◌/◌, ◌%◌, ◌^◌, Bool, true, false, ◌&&◌, ◌||◌, eqb, List, [], ◌∷◌, slice_get, map, Option, Some, None}
-use Rattle.htl_model.specs.declared.parts.Inv.{Inv}
-use Rattle.htl_model.specs.declared.parts.End.{End}
-use Rattle.htl_model.specs.declared.parts.End.TheVariants as E
+use Rattle.std.specs.Prelude.{ℕ, ◌+◌, ◌*◌, Bool, true, false, List, [], ◌∷◌, slice_get, map, Option, Some, None}
+use Rattle.htl_model.specs.Bits.{has_bit}
+use Rattle.htl_model.specs.PortOrder.{feeds}
 use Rattle.htl_walk.specs.declared.job.Job.{Job}
 use Rattle.htl_model.specs.Functions.{of_bool}
 use Rattle.htl_model.specs.Selections.{positions}
@@ -10,24 +9,10 @@ use Rattle.htl_model.specs.Tables.{Tables, task_worst, release, window_end}
 
 -- ---- predecessors
 
-abbrev pub has_port : ℕ → List End → Bool
-has_port p [] = false
-has_port p (E.Port q ∷ ends) = eqb p q || has_port p ends
-has_port p (E.Comm c n ∷ ends) = has_port p ends
-
-abbrev pub shares_port : List End → List End → Bool
-shares_port [] writes = false
-shares_port (E.Port p ∷ reads) writes = has_port p writes || shares_port reads writes
-shares_port (E.Comm c n ∷ reads) writes = shares_port reads writes
-
--- whether i reads a port that j writes
-abbrev pub reads_from : Inv → Inv → Bool
-reads_from i j = eqb i.mode j.mode && shares_port i.reads j.writes
-
--- whether i reads a port that what stands at a position writes
-abbrev pub feeds : Tables → Inv → Option ℕ → Bool
-feeds t i None = false
-feeds t i (Some n) = elim (slice_get t.invs n) [ None ↦ false | Some j ↦ reads_from i j ]
+-- whether what stands at a position writes a port that invocation k reads
+abbrev pub is_fed_by : Tables → ℕ → Option ℕ → Bool
+is_fed_by t k None = false
+is_fed_by t k (Some n) = feeds t n k
 
 -- the number whose bits are these
 abbrev pub mask : List Bool → ℕ
@@ -36,7 +21,7 @@ mask (b ∷ bs) = of_bool b + 2 * mask bs
 
 -- whether position p is a predecessor of the job
 abbrev pub precedes : ℕ → Job → Bool
-precedes p j = eqb (j.preds / 2 ^ p % 2) 1
+precedes p j = has_bit j.preds p
 
 abbrev pub absent_job : Job
 absent_job = record { present = false; inv = 0; release = 0; end = 0; worst = 0; preds = 0 }
@@ -54,7 +39,7 @@ job_of t standing (Some k) =
             release = release t i;
             end = window_end t i;
             worst = task_worst t i.task;
-            preds = mask (map (feeds t i) standing);
+            preds = mask (map (is_fed_by t k) standing);
           }
     ]
 

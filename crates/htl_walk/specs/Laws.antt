@@ -1,6 +1,9 @@
 -- The laws of the walk.
-use Rattle.std.specs.Prelude.{◌≡◌, ℕ, ◌≤◌, ◌<◌, true, List, get_or, slice_get, All, Some}
+use Rattle.std.specs.Prelude.{◌≡◌, ℕ, ◌≤◌, ◌<◌, true, List, get_or, slice_get, All, Option, Some}
+use Rattle.htl_model.specs.Exchanged.{with_functions}
+use Rattle.htl_model.specs.Tables.{Tables, Fun}
 use Rattle.htl_walk.specs.declared.job.Job.{Job}
+use Rattle.htl_walk.specs.Jobs.{jobs_of, abstract_jobs}
 use Rattle.htl_walk.specs.declared.schedule.SInstr.{SInstr}
 use Rattle.htl_walk.specs.Walk.{point_at, walk, earlier, worst_cases, Meets, IsAccepted}
 use Rattle.htl_walk.specs.declared.miss.Miss.{Miss}
@@ -34,3 +37,11 @@ Dominance =
 -- a schedule has one first miss at most
 abbrev pub OneFirstMiss : Type 0
 OneFirstMiss = (jobs : List Job) (period : ℕ) (s : List SInstr) (m n : Miss) → IsFirstMiss jobs period s m → IsFirstMiss jobs period s n → m ≡ n
+
+-- tables with other functions have the same jobs
+pub record SameJobs (t u : Tables) : Type 0 where
+  pub jobs : (standing : List (Option ℕ)) → jobs_of t standing ≡ jobs_of u standing
+  pub selections : (sel : ℕ) → abstract_jobs t sel ≡ abstract_jobs u sel
+
+abbrev pub FunctionsDecideNoJob : Type 0
+FunctionsDecideNoJob = (t : Tables) (fs : List Fun) → SameJobs t (with_functions t fs)

@@ -1,16 +1,16 @@
 -- Jobs that refine others: what an accepted schedule carries over to.
 use Rattle.std.specs.Prelude.{◌≡◌, ℕ, ◌≤◌, true, List, length, get_or, slice_get, Some}
+use Rattle.htl_model.specs.PortOrder.{Leads}
 use Rattle.htl_walk.specs.declared.job.Job.{Job}
 use Rattle.htl_walk.specs.Jobs.{precedes}
 use Rattle.htl_walk.specs.Walk.{job_at}
 
 -- position q precedes position p, directly or through further positions
-pub data LeadsTo (jobs : List Job) : ℕ → ℕ → Type 0 where
-  direct : {q p : ℕ} → precedes q (job_at jobs p) ≡ true → LeadsTo jobs q p
-  through : {q r p : ℕ} → LeadsTo jobs q r → LeadsTo jobs r p → LeadsTo jobs q p
+abbrev pub LeadsTo : List Job → ℕ → ℕ → Type 0
+LeadsTo jobs q p = Leads (λ a b. precedes a (job_at jobs b)) q p
 
 -- the job j refines the job k at position p
-pub record IsRefined (jobs : List Job) (p : ℕ) (j k : Job) : Type 0 where
+pub record RefinesJob (jobs : List Job) (p : ℕ) (j k : Job) : Type 0 where
   pub present : k.present ≡ true
   pub release : j.release ≤ k.release
   pub end : k.end ≤ j.end
@@ -21,7 +21,7 @@ pub record IsRefined (jobs : List Job) (p : ℕ) (j k : Job) : Type 0 where
 -- and its predecessors are among those through further positions
 pub record Refines (js ks : List Job) : Type 0 where
   pub same : length js ≡ length ks
-  pub each : (p : ℕ) (j : Job) → slice_get js p ≡ Some j → j.present ≡ true → (k : Job) × (slice_get ks p ≡ Some k) × IsRefined ks p j k
+  pub each : (p : ℕ) (j : Job) → slice_get js p ≡ Some j → j.present ≡ true → (k : Job) × (slice_get ks p ≡ Some k) × RefinesJob ks p j k
 
 -- a present job, with some work
 pub record HasWork (j : Job) : Type 0 where

@@ -177,7 +177,3 @@ last_point jobs (i ∷ is) x = last_point jobs is (next_point jobs i x)
 -- the point of the walk before instruction k, which is that after the k instructions in front of it
 abbrev pub point_at : List Job → List ℕ → List SInstr → ℕ → Point
 point_at jobs lengths s k = last_point jobs (take k s) (first_point jobs lengths)
-
--- numbers of a round are small
-abbrev pub IsSmall : Job → Type 0
-IsSmall j = (j.release ≤ 1000000) × (j.worst ≤ 1000000)

@@ -1,13 +1,15 @@
 // The jobs of a round.
 ghost use Rattle.std.specs.Prelude.{◌≡◌, ◌≤◌, ◌<◌, ◌+◌, ◌++◌, length, map, take, drop, Some, Option, ℕ, All};
-ghost use Rattle.htl_model.specs.Selections.{selection_count, positions, invs_of, unit_positions};
+ghost use Rattle.htl_model.specs.Broken.{KeepsLimits};
+ghost use Rattle.htl_model.specs.Selections.{selection_count, positions, invs_of, module_positions};
 ghost use Rattle.htl_walk.specs.Refinement.{HasWork};
-ghost use Rattle.htl_walk.specs.Jobs.{absent_job, job_of, jobs_of, abstract_jobs as abstract_jobs_of};
+ghost use Rattle.htl_walk.specs.Writers.{job_with};
+ghost use Rattle.htl_walk.specs.Jobs.{absent_job, jobs_of, abstract_jobs as abstract_jobs_of};
 
 use crate::Job;
-use crate::ports::predecessors;
+use crate::writers::{fill_writers, predecessors};
 use htl_base::Time;
-use htl_base::limits::MAX_POSITIONS;
+use htl_base::limits::{MAX_PORTS, MAX_POSITIONS};
 use htl_model::lookup::task_worst;
 use htl_model::selections::is_root;
 use htl_model::{Module, Tables};
@@ -26,10 +28,9 @@ fn absent() -> Job
     }
 }
 
-// The job of an invocation among those that stand at the positions.
-fn job(t: &Tables, standing: &[Option<u16>], inv: Option<u16>) -> Job
-    requires { length standing.now ≤ 128 }
-    ensures { result ≡ job_of t.now standing.now inv }
+// The job of an invocation with these predecessors.
+fn job(t: &Tables, inv: Option<u16>, preds: u128) -> Job
+    ensures { result ≡ job_with t.now inv preds }
 {
     let invs = t.parts().invs.as_slice();
     match inv {
@@ -38,14 +39,13 @@ fn job(t: &Tables, standing: &[Option<u16>], inv: Option<u16>) -> Job
                 return absent();
             }
             let window = t.window(k);
-            let i = &invs[k as usize];
             Job {
                 present: true,
                 inv: k,
                 release: window.release,
                 end: window.end,
-                worst: task_worst(t, i.task) as Time,
-                preds: predecessors(t, i, standing),
+                worst: task_worst(t, invs[k as usize].task) as Time,
+                preds,
             }
         }
         None => absent(),
@@ -59,8 +59,12 @@ pub fn fill_jobs(t: &Tables, standing: &[Option<u16>], out: &mut [Job; 128])
     ensures jobs { take (length standing.now) out.new ≡ jobs_of t.now standing.now }
     ensures rest { drop (length standing.now) out.new ≡ drop (length standing.now) out.old }
 {
+    t.keeps_ranges();
+    let mut table = [0u128; MAX_PORTS];
+    fill_writers(t, standing, &mut table);
     for p in 0..standing.len() {
-        out[p] = job(t, standing, standing[p]);
+        let inv = standing[p];
+        out[p] = job(t, inv, predecessors(t, inv, &table));
     }
 }
 
@@ -82,21 +86,21 @@ fn put_mode(t: &Tables, mode: u16, standing: &mut [Option<u16>], n: usize) -> us
 }
 
 // Writes the positions of one module to the places from `n` on: the place behind the last.
-fn put_unit(
+fn put_module(
     t: &Tables,
     selection: u32,
-    u: u16,
-    unit: &Module,
+    k: u16,
+    owner: &Module,
     standing: &mut [Option<u16>],
     n: usize,
 ) -> usize
-    requires within { u < length t.now.modules }
-    requires room { n + length (unit_positions t.now selection u unit.now) ≤ length standing.old }
-    ensures front { take result standing.new ≡ take n standing.old ++ map (λ k. Some k) (unit_positions t.now selection u unit.now) }
-    ensures count { result ≡ n + length (unit_positions t.now selection u unit.now) }
+    requires within { k < length t.now.modules }
+    requires room { n + length (module_positions t.now selection k owner.now) ≤ length standing.old }
+    ensures front { take result standing.new ≡ take n standing.old ++ map (λ k. Some k) (module_positions t.now selection k owner.now) }
+    ensures count { result ≡ n + length (module_positions t.now selection k owner.now) }
 {
-    if is_root(unit) {
-        put_mode(t, t.root_mode(selection, u), standing, n)
+    if is_root(owner) {
+        put_mode(t, t.root_mode(selection, k), standing, n)
     } else {
         n
     }
@@ -108,26 +112,28 @@ fn put_selection(t: &Tables, selection: u32, standing: &mut [Option<u16>]) -> us
     ensures front { take result standing.new ≡ map (λ k. Some k) (positions t.now selection) }
     ensures count { result ≡ length (positions t.now selection) }
 {
-    let units = t.parts().modules.as_slice();
+    let modules = t.parts().modules.as_slice();
     let mut n = 0;
-    for k in 0..units.len() {
-        n = put_unit(t, selection, k as u16, &units[k], standing, n);
+    for k in 0..modules.len() {
+        n = put_module(t, selection, k as u16, &modules[k], standing, n);
     }
     n
 }
 
 /// Fills the front of `out` with the jobs of a root selection, abstract invocations included, and answers their number;
 /// the rest of `out` stays. A job's position is the place of its invocation in the order of modules, then of the source.
-/// The selection is below the number of selections. It has at most 128 positions, as in all tables that keep the form
-/// rules and the limits.
+///
+/// The tables keep the limits on selections and positions, and the selection is below the number of selections. Of the
+/// form rules nothing is asked.
 pub fn abstract_jobs(t: &Tables, selection: u32, out: &mut [Job; 128]) -> usize
-    requires { length (positions t.now selection) ≤ 128 }
+    requires limits { KeepsLimits t.now }
+    requires selection { selection < selection_count t.now }
     ensures count { result ≡ length (positions t.now selection) }
     ensures jobs { take result out.new ≡ abstract_jobs_of t.now selection }
     ensures work { All HasWork (abstract_jobs_of t.now selection) }
     ensures rest { drop result out.new ≡ drop result out.old }
 {
-    let _parts = t.parts();
+    t.keeps_ranges();
     let mut standing = [None; MAX_POSITIONS];
     let count = put_selection(t, selection, &mut standing);
     fill_jobs(t, &standing[..count], out);

@@ -1,6 +1,6 @@
 //! The laws of the walk, which crates above build on. Each is a statement that the check has proved; there is nothing
 //! to run.
-ghost use Rattle.htl_walk.specs.Laws.{OneFirstMiss, UnreleasedLengths, Dominance};
+ghost use Rattle.htl_walk.specs.Laws.{OneFirstMiss, UnreleasedLengths, Dominance, FunctionsDecideNoJob};
 
 /// A schedule has one first miss at most.
 pub fn one_first_miss()
@@ -19,4 +19,9 @@ pub fn unreleased_lengths()
 /// worst-case walk, and each present job is done in its window, after its predecessors.
 pub fn dominance()
     ensures { Dominance }
+{}
+
+/// Tables whose functions are exchanged for others have the same jobs.
+pub fn functions_decide_no_job()
+    ensures { FunctionsDecideNoJob }
 {}

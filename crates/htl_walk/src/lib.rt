@@ -2,14 +2,15 @@
 #![tactic(auto)]
 
 mod departure;
+pub mod dispatch;
 mod job;
 mod jobs;
 pub mod laws;
 mod miss;
-mod ports;
 mod schedule;
 mod step;
 mod worst_case;
+mod writers;
 
 pub use job::Job;
 pub use jobs::{abstract_jobs, fill_jobs};
@@ -17,5 +18,7 @@ pub use miss::Miss;
 pub use schedule::{SInstr, Schedule};
 pub use worst_case::worst;
 
+#[cfg(test)]
+mod jobs_tests;
 #[cfg(test)]
 mod tests;

@@ -5,15 +5,17 @@ ghost use Rattle.htl_walk.specs.Jobs.{precedes as precedes_of};
 ghost use Rattle.htl_walk.specs.Walk.{Point, dispatched, job_at, AreDone};
 ghost use Rattle.htl_walk.specs.Following.{IsKnown, IsFollowed, IsMissAt};
 
+use crate::dispatch::dispatch;
 use crate::{Job, Miss, SInstr};
 use htl_base::Time;
+use htl_model::bits::has_bit;
 
 /// Whether position `p` is a predecessor of the job.
 pub fn precedes(p: usize, job: &Job) -> bool
     requires { p < 128 }
     ensures { result ≡ precedes_of p job.now }
 {
-    (job.preds >> p) & 1 == 1
+    has_bit(job.preds, p as u32)
 }
 
 /// The lowest predecessor of a job that has work left.
@@ -32,21 +34,15 @@ pub fn open_predecessor(job: &Job, left: &[Time]) -> Option<u16>
     None
 }
 
-/// Dispatches a position: the time after it, and the work left in place.
-pub fn dispatch(jobs: &[Job], left: &mut [Time], time: Time, p: u16, until: u32) -> Time
+// Dispatches a position: the time after it, and the work left in place.
+fn run_position(jobs: &[Job], left: &mut [Time], time: Time, p: u16, until: u32) -> Time
     requires known { p < length left.old }
     requires same { length left.old ≡ length jobs.now }
     ensures { record { time = result; left = left.new } ≡ dispatched jobs.now p until (record { time = time; left = left.old }) }
 {
-    let work = left[p as usize];
-    if work == 0 {
-        return time;
-    }
-    let until = until as u64;
-    let begin = time.max(jobs[p as usize].release.min(until));
-    let run = work.min(until.saturating_sub(begin));
-    left[p as usize] = work - run;
-    begin + run
+    let done = dispatch(until, jobs[p as usize].release, left[p as usize], time);
+    left[p as usize] = done.rest;
+    done.time
 }
 
 // Dispatches a position whose predecessors are done, and notes its finish offset.
@@ -66,7 +62,7 @@ fn run(
     ensures missed { IfErr result (λ m. (k : ℕ) → IsMissAt jobs.now (instr.Dispatch p until) k (record { time = time; left = left.old }) m) }
 {
     let work = left[p as usize];
-    let end = dispatch(jobs, left, time, p, until);
+    let end = run_position(jobs, left, time, p, until);
     if work > 0 && left[p as usize] == 0 {
         let window_end = jobs[p as usize].end;
         if end > window_end {

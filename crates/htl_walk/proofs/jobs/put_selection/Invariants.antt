@@ -8,7 +8,7 @@ abbrev pub invariant-loop-k : goal.invariant-loop-k
 invariant-loop-k l =
     record {
       front :
-          take l.n l.standing ++ map (λ k. Some k) (flat_map (λ u. invs_of l.t (root_mode l.t l.selection u)) (places_from is_root l.k (drop l.k l.units)))
+          take l.n l.standing ++ map (λ k. Some k) (flat_map (λ u. invs_of l.t (root_mode l.t l.selection u)) (places_from is_root l.k (drop l.k l.modules)))
           ≡ map (λ k. Some k) (positions l.t l.selection);
-      count : l.n + length (flat_map (λ u. invs_of l.t (root_mode l.t l.selection u)) (places_from is_root l.k (drop l.k l.units))) ≡ length (positions l.t l.selection);
+      count : l.n + length (flat_map (λ u. invs_of l.t (root_mode l.t l.selection u)) (places_from is_root l.k (drop l.k l.modules))) ≡ length (positions l.t l.selection);
     }

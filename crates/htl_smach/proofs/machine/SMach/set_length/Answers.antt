@@ -1,6 +1,6 @@
 use Rattle.std.proofs.Common.{◌≡◌, drop, sym, ap, ◌∙◌, subst, arith}
 use Rattle.htl_smach.specs.Rounds.{Round, Stands, given}
-use Rattle.htl_smach.specs.Fields.{round_of}
+use Rattle.htl_smach.specs.Fields.{inside_round}
 use Rattle.htl_smach.proofs.Telling.{with_length, given_stays, stands_set}
 use Rattle.htl_smach.proofs.Holding.{holds_length}
 use Rattle.htl_smach.proofs.machine.SMach.set_length.Goals as goal
@@ -9,8 +9,8 @@ pub returns-clause-round : goal.returns-clause-round
 returns-clause-round c =
     let m = c.self.inside in
     let p = c.args.position in
-    let v : round_of m ≡ c.args.self.now = c.self.view_is in
-    holds_length m p c.args.length (drop m.count m.lengths) (drop m.count m.left) (omega arith) (omega arith) ∙ ap (λ (r : Round). with_length r p c.args.length) v
+    let v : inside_round m ≡ c.args.self.now = c.self.view_is in
+    holds_length m p c.args.length (drop m.count m.lengths) (drop m.count m.left) (drop m.count m.first) (omega arith) (omega arith) (omega arith) ∙ ap (λ (r : Round). with_length r p c.args.length) v
 
 pub returns-clause-given : goal.returns-clause-given
 returns-clause-given c = λ s st.

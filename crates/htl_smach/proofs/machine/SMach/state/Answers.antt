@@ -1,6 +1,6 @@
 use Rattle.std.proofs.Common.{◌≡◌, ◌<◌, length, take, sym, ap, ◌∙◌, subst}
 use Rattle.htl_smach.specs.Rounds.{Round, state_of}
-use Rattle.htl_smach.specs.Fields.{round_of}
+use Rattle.htl_smach.specs.Fields.{inside_round}
 use Rattle.htl_smach.proofs.Telling.{done_is}
 use Rattle.htl_smach.proofs.Holding.{holds_state}
 use Rattle.htl_smach.proofs.machine.SMach.state.Goals as goal
@@ -9,7 +9,7 @@ pub returns-clause-done : goal.returns-clause-done
 returns-clause-done c = λ s st.
     let m = c.self.inside in
     let p = c.args.position in
-    let v : round_of m ≡ c.args.self.now = c.self.view_is in
+    let v : inside_round m ≡ c.args.self.now = c.self.view_is in
     let known : p < length (take m.count m.jobs) = subst (λ (r : Round). p < length r.jobs) (sym v) c.requires.known in
     let e : c.state_by.result ≡ state_of c.args.self.now p = c.state_by.ensures ∙ holds_state m p _ known ∙ ap (λ (r : Round). state_of r p) v in
     let d = done_is c.args.self.now s p st in

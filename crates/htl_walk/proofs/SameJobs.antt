@@ -1,0 +1,45 @@
+-- Tables have the same jobs, whatever functions they have.
+use Rattle.std.proofs.Common.{◌≡◌, ℕ, Bool, true, List, map, slice_get, Option, Some, None, refl, ◌∙◌, ap}
+use mathlib.Core.Path.{fun_ext}
+use Rattle.htl_model.specs.Exchanged.{with_functions}
+use Rattle.htl_model.specs.Selections.{positions}
+use Rattle.htl_model.specs.Tables.{Tables, Fun, task_worst, release, window_end}
+use Rattle.htl_model.specs.declared.parts.Inv.{Inv}
+use Rattle.htl_model.proofs.SameRanges.{positions_same}
+use Rattle.htl_model.proofs.SameRules.{release_same, window_end_same}
+use Rattle.htl_walk.specs.declared.job.Job.{Job}
+use Rattle.htl_walk.specs.Jobs.{absent_job, job_of, jobs_of, abstract_jobs, mask, is_fed_by}
+use Rattle.htl_walk.specs.Laws.{FunctionsDecideNoJob}
+
+module _ (t : Tables) (fs : List Fun) where
+  fed_same : (k : ℕ) (o : Option ℕ) → is_fed_by t k o ≡ is_fed_by (with_functions t fs) k o
+  fed_same k None = refl
+  fed_same k (Some n) = refl
+
+  made : Tables → List (Option ℕ) → ℕ → Inv → Job
+  made u standing k i = record { present = true; inv = k; release = release u i; end = window_end u i; worst = task_worst u i.task; preds = mask (map (is_fed_by u k) standing) }
+
+  made_same : (standing : List (Option ℕ)) (k : ℕ) (i : Inv) → made t standing k i ≡ made (with_functions t fs) standing k i
+  unfolding made
+  made_same standing k i =
+      let make : ℕ → ℕ → (Option ℕ → Bool) → Job = λ r e f. record { present = true; inv = k; release = r; end = e; worst = task_worst t i.task; preds = mask (map f standing) } in
+      ap (λ (r : ℕ). make r (window_end t i) (is_fed_by t k)) (release_same t t.functions fs i)
+      ∙ ap (λ (e : ℕ). make (release (with_functions t fs) i) e (is_fed_by t k)) (window_end_same t t.functions fs i)
+      ∙ ap (make (release (with_functions t fs) i) (window_end (with_functions t fs) i)) (fun_ext (fed_same k))
+
+  pub job_same : (standing : List (Option ℕ)) (o : Option ℕ) → job_of t standing o ≡ job_of (with_functions t fs) standing o
+  unfolding made
+  job_same standing None = refl
+  job_same standing (Some k) =
+      ap (λ (f : Inv → Job). elim (slice_get t.invs k) as (λ _. Job) [ None ↦ absent_job | Some i ↦ f i ]) (fun_ext (made_same standing k))
+
+  pub jobs_same : (standing : List (Option ℕ)) → jobs_of t standing ≡ jobs_of (with_functions t fs) standing
+  jobs_same standing = ap (λ (f : Option ℕ → Job). map f standing) (fun_ext (job_same standing))
+
+  pub abstract_jobs_same : (sel : ℕ) → abstract_jobs t sel ≡ abstract_jobs (with_functions t fs) sel
+  abstract_jobs_same sel =
+      jobs_same (map (λ (k : ℕ). Some k) (positions t sel))
+      ∙ ap (λ (ps : List ℕ). jobs_of (with_functions t fs) (map (λ (k : ℕ). Some k) ps)) (positions_same t fs sel)
+
+pub functions_decide_no_job : FunctionsDecideNoJob
+functions_decide_no_job t fs = record { jobs = jobs_same t fs; selections = abstract_jobs_same t fs }

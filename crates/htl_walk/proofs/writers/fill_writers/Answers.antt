@@ -1,0 +1,19 @@
+use Rattle.std.proofs.Common.{arith, rules, get_or, None, refl}
+use Rattle.htl_model.specs.Bits.{cell}
+use Rattle.htl_model.specs.PortTable.{writes_to}
+use Rattle.htl_model.proofs.PortTableLaws.{one_writer}
+use Rattle.htl_walk.specs.Writers.{inv_of}
+use Rattle.htl_walk.proofs.Masks.{writers_all}
+use Rattle.htl_walk.proofs.writers.fill_writers.Goals as goal
+
+pub loop-q-preserved : goal.loop-q-preserved
+loop-q-preserved c =
+    record {
+      len = search rules;
+      says = λ p r within.
+          one_writer (λ r. writes_to (inv_of c.args.t.now (get_or c.args.standing.now r None)) p) c.loop-q.q r (cell c.loop-q.table p r) (cell c.mark_position.new.table p r)
+          (writes_to (inv_of c.args.t.now (get_or c.args.standing.now c.loop-q.q None)) p) (c.loop-q.invariant.says p r within) refl (c.mark_position.ensures.rows p r (omega arith));
+    }
+
+pub returns-clause-writers : goal.returns-clause-writers
+returns-clause-writers c = writers_all c.args.t.now c.args.standing.now c.loop-q.q c.loop-q.table (omega arith) (λ p r within. c.loop-q.invariant.says p r (omega arith))
