@@ -4,9 +4,9 @@ use Rattle.std.proofs.lemmas.Bool.{both_ways, and_parts, or_cases}
 use Rattle.std.proofs.lemmas.Bool.Decides.{nat_tests}
 use Rattle.htl_edf.specs.Sums.{sum_below, bit}
 use Rattle.htl_edf.specs.Windows.{given, OneATick, Overloaded}
-use Rattle.htl_edf.specs.Tight.{Jobs, NoCycle, Meets, tight}
+use Rattle.htl_edf.specs.Tight.{Jobs, NoCycle, TicksMeet, tight}
 use Rattle.htl_edf.specs.Edf.{Slice}
-use Rattle.htl_edf.specs.Slices.{Each, Apart, DoNotOverlap, ticks_of, covers, on_slices, MeetsBy}
+use Rattle.htl_edf.specs.Slices.{Each, Apart, DoNotOverlap, ticks_of, covers, on_slices, SlicesMeet}
 use Rattle.htl_edf.proofs.Counting.{sum_below-same, sum_below-add, sum_below-none}
 use Rattle.htl_edf.proofs.Optimal.{given-mono}
 use Rattle.htl_edf.proofs.Tightened.{refuses}
@@ -84,7 +84,7 @@ pub Each-map : (P Q : Slice → Type 0) (ss : List Slice) → ((s : Slice) → P
 Each-map P Q [] f h = tt
 Each-map P Q (s ∷ ss) f h = (f s h.0, Each-map P Q ss f h.1)
 
-pub by_slices : (j : Jobs) (ss : List Slice) → MeetsBy j ss → Meets j (on_slices ss) (last_end ss)
+pub by_slices : (j : Jobs) (ss : List Slice) → SlicesMeet j ss → TicksMeet j (on_slices ss) (last_end ss)
 by_slices j ss m = record {
   one = one_a_tick ss m.apart;
   all = λ q l. omega (arith, total q (last_end ss) (le_refl _), m.done q l);
@@ -105,7 +105,7 @@ by_slices j ss m = record {
     total q T h = given-ticks ss q T m.apart (ends_by ss q T h)
 
 -- the law of refusal: where an interval is overloaded no list of slices meets
-pub no_slices : (j : Jobs) (o : NoCycle j) (a : ℕ) (b : ℤ) (demand : ℕ) → ((q : ℕ) → q < j.count → 0 < j.worst q) → Overloaded (tight j) a b demand → (ss : List Slice) → MeetsBy j ss → ⊥
+pub no_slices : (j : Jobs) (o : NoCycle j) (a : ℕ) (b : ℤ) (demand : ℕ) → ((q : ℕ) → q < j.count → 0 < j.worst q) → Overloaded (tight j) a b demand → (ss : List Slice) → SlicesMeet j ss → ⊥
 no_slices j o a b demand positive over ss m = refuses j o (on_slices ss) (last_end ss) a b demand positive over (by_slices j ss m)
 
 pub Each-zip : (P Q R : Slice → Type 0) (ss : List Slice) → ((s : Slice) → P s → Q s → R s) → Each P ss → Each Q ss → Each R ss

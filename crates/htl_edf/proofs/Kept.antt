@@ -5,7 +5,7 @@ use Rattle.std.proofs.lemmas.Int.{ints}
 use Rattle.htl_edf.specs.Windows.{Windows, demand_of, Overloaded, Reported}
 use Rattle.htl_edf.specs.Tight.{Jobs, NoCycle, tight}
 use Rattle.htl_edf.specs.Edf.{Slice}
-use Rattle.htl_edf.specs.Slices.{Each, covers, on_slices, HaveTicks, MeetsIn, MeetsBy}
+use Rattle.htl_edf.specs.Slices.{Each, covers, on_slices, HaveTicks, SlicesMeetIn, SlicesMeet}
 use Rattle.htl_edf.specs.Laws.{HaveWork, Tightening, OneReport, TightWindows}
 use Rattle.htl_edf.proofs.BySlices.{Each-map, Each-zip, by_slices, last_end}
 use Rattle.htl_edf.proofs.Tightened.{tightened}
@@ -25,7 +25,7 @@ covered (s ∷ ss) all up = (
   covered ss all (λ x q e. up x q (or_right (covers s x q) (on_slices ss x q) e)),
 )
 
-into_tight : (j : Jobs) → NoCycle j → HaveWork j → (ss : List Slice) → HaveTicks ss → MeetsBy j ss → MeetsIn j (tight j) ss
+into_tight : (j : Jobs) → NoCycle j → HaveWork j → (ss : List Slice) → HaveTicks ss → SlicesMeet j ss → SlicesMeetIn j (tight j) ss
 into_tight j o work ss some m =
     let v = tight j in
     let t = tight_is j o in
@@ -44,7 +44,7 @@ into_tight j o work ss some m =
       after = m.after;
     }
 
-out_of_tight : (j : Jobs) → NoCycle j → (ss : List Slice) → MeetsIn j (tight j) ss → MeetsBy j ss
+out_of_tight : (j : Jobs) → NoCycle j → (ss : List Slice) → SlicesMeetIn j (tight j) ss → SlicesMeet j ss
 out_of_tight j o ss m =
     let v = tight j in
     let t = tight_is j o in

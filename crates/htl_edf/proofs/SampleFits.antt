@@ -1,5 +1,5 @@
 -- The tables of the tests are within their ranges.
-use Rattle.std.proofs.Common.{eqb, codes, ◌≡◌, ◌∙◌, ℕ, zero, suc, ◌≤◌, ◌<◌, Bool, true, ◌&&◌, leb, leb-true, List, [], ◌∷◌, length, get_or, Some, None, refl, sym, subst, arith}
+use Rattle.std.proofs.Common.{eqb, codes, ◌≡◌, ◌∙◌, ℕ, zero, suc, ◌≤◌, ◌<◌, Bool, true, ◌&&◌, leb, leb-true, List, [], ◌∷◌, length, get_or, Some, None, refl, sym, ap, subst, arith}
 use Rattle.std.specs.Prelude.{slice_get}
 use Rattle.std.specs.List.{count_by}
 use Rattle.std.specs.List.Sorted.{IsNonDecreasing}
@@ -118,11 +118,13 @@ module _ (b c : ℕ) (span_b : IsSpan b) (span_c : IsSpan c) where
         function_count = refl;
       }
 
--- what holds of the tables of some lists holds of those of equal lists
+-- the tables of equal lists
+pub sample_is : (b c : ℕ) (ms : List Mode) (us : List Module) (ks : List Task) (is : List Inv) → ms ≡ sample_modes → us ≡ sample_modules → ks ≡ sample_tasks b c → is ≡ sample_invs
+    → sample_of ms us ks is ≡ sample b c
+sample_is b c ms us ks is m u k i =
+    ap (λ (xs : List Mode). sample_of xs us ks is) m ∙ ap (λ (xs : List Module). sample_of sample_modes xs ks is) u
+    ∙ ap (λ (xs : List Task). sample_of sample_modes sample_modules xs is) k ∙ ap (λ (xs : List Inv). sample_of sample_modes sample_modules (sample_tasks b c) xs) i
+
 pub sample_same : (b c : ℕ) → IsSpan b → IsSpan c → (ms : List Mode) (us : List Module) (ks : List Task) (is : List Inv)
     → ms ≡ sample_modes → us ≡ sample_modules → ks ≡ sample_tasks b c → is ≡ sample_invs → AreInRange (sample_of ms us ks is)
-sample_same b c span_b span_c ms us ks is m u k i =
-    subst (λ (xs : List Mode). AreInRange (sample_of xs us ks is)) (sym m)
-    (subst (λ (xs : List Module). AreInRange (sample_of sample_modes xs ks is)) (sym u)
-    (subst (λ (xs : List Task). AreInRange (sample_of sample_modes sample_modules xs is)) (sym k)
-    (subst (λ (xs : List Inv). AreInRange (sample_of sample_modes sample_modules (sample_tasks b c) xs)) (sym i) (sample_in_range b c span_b span_c))))
+sample_same b c span_b span_c ms us ks is m u k i = subst AreInRange (sym (sample_is b c ms us ks is m u k i)) (sample_in_range b c span_b span_c)

@@ -5,7 +5,7 @@ use Rattle.std.proofs.lemmas.Int.{ints}
 use borrow.Author.Differences.{up}
 use Rattle.htl_edf.specs.Sums.{bit}
 use Rattle.htl_edf.specs.Windows.{Windows, inside, demand_of, Overloaded, given, Served, Ready, IsEdf, NoOverload}
-use Rattle.htl_edf.specs.Tight.{Jobs, tight, NoCycle, Meets}
+use Rattle.htl_edf.specs.Tight.{Jobs, tight, NoCycle, TicksMeet}
 use Rattle.htl_edf.proofs.Counting.{sum_below-within, sum_below-term}
 use Rattle.htl_edf.proofs.Refusal.{bit-some, bit-le, one_part, inside_from, refused}
 use Rattle.htl_edf.proofs.Optimal.{given-mono, given-more, given-le, missed, le_z_refl}
@@ -24,7 +24,7 @@ given-from on q a (suc t) h = ⊎_elim
     (cases_Bool (on t q))
 
 -- each tick of q comes at its tightened release or later: by the order of the positions, k bounds the rank
-after_from : (j : Jobs) (v : Windows) (o : NoCycle j) (tt' : IsTight j v) (on : ℕ → ℕ → Bool) (T : ℕ) → ((q : ℕ) → q < j.count → 0 < j.worst q) → Meets j on T → (k q : ℕ) → q < j.count → o.rank q < k → (x : ℕ) → on x q ≡ true → v.from q ≤ x
+after_from : (j : Jobs) (v : Windows) (o : NoCycle j) (tt' : IsTight j v) (on : ℕ → ℕ → Bool) (T : ℕ) → ((q : ℕ) → q < j.count → 0 < j.worst q) → TicksMeet j on T → (k q : ℕ) → q < j.count → o.rank q < k → (x : ℕ) → on x q ≡ true → v.from q ≤ x
 after_from j v o t on T positive m zero q l a x e = absurd (omega arith)
 after_from j v o t on T positive m (suc k) q l a x e = ⊎_elim
     (λ is. omega (arith, is, (m.within x q l e).0))
@@ -34,14 +34,14 @@ after_from j v o t on T positive m (suc k) q l a x e = ⊎_elim
     (t.from_is q l)
 
 -- once a position has its worst case it gets no more
-spent : (j : Jobs) (on : ℕ → ℕ → Bool) (T : ℕ) → Meets j on T → (p x y : ℕ) → p < j.count → on x p ≡ true → j.worst p ≤ given on p y → x < y
+spent : (j : Jobs) (on : ℕ → ℕ → Bool) (T : ℕ) → TicksMeet j on T → (p x y : ℕ) → p < j.count → on x p ≡ true → j.worst p ≤ given on p y → x < y
 spent j on T m p x y l e h = ⊎_elim
     (λ b. b)
     (λ b. absurd (omega (arith, given-mono on p y x b, m.most p (suc x) l, ap bit e)))
     (cases_lt x y)
 
 -- each tick of p comes before its tightened end
-before_due : (j : Jobs) (v : Windows) (o : NoCycle j) (t : IsTight j v) (on : ℕ → ℕ → Bool) (T : ℕ) → ((q : ℕ) → q < j.count → 0 < j.worst q) → Meets j on T → (k p : ℕ) → p < j.count → j.count ≤ k + o.rank p → (x : ℕ) → on x p ≡ true → pos x <ℤ v.due p
+before_due : (j : Jobs) (v : Windows) (o : NoCycle j) (t : IsTight j v) (on : ℕ → ℕ → Bool) (T : ℕ) → ((q : ℕ) → q < j.count → 0 < j.worst q) → TicksMeet j on T → (k p : ℕ) → p < j.count → j.count ≤ k + o.rank p → (x : ℕ) → on x p ≡ true → pos x <ℤ v.due p
 before_due j v o t on T positive m zero p l a x e = absurd (omega (arith, o.below p l))
 before_due j v o t on T positive m (suc k) p l a x e = ⊎_elim
     (λ is. rw is (omega (arith, ints, (m.within x p l e).1)))
@@ -52,7 +52,7 @@ before_due j v o t on T positive m (suc k) p l a x e = ⊎_elim
     rw r.3 (omega (arith, ints, there, m.all q r.1, positive q r.1, one_part (v.due q))))
     (t.due_is p l)
 
-pub tightened : (j : Jobs) (v : Windows) (o : NoCycle j) (t : IsTight j v) (on : ℕ → ℕ → Bool) (T : ℕ) → ((q : ℕ) → q < j.count → 0 < j.worst q) → Meets j on T → Served v on T
+pub tightened : (j : Jobs) (v : Windows) (o : NoCycle j) (t : IsTight j v) (on : ℕ → ℕ → Bool) (T : ℕ) → ((q : ℕ) → q < j.count → 0 < j.worst q) → TicksMeet j on T → Served v on T
 tightened j v o t on T positive m = record {
   all = λ q l. omega (arith, t.lasts q, m.all q (omega (arith, t.counts)));
   within = λ x q l e. let k : q < j.count = omega (arith, t.counts) in
@@ -60,7 +60,7 @@ tightened j v o t on T positive m = record {
 }
 
 -- the law of refusal, over ticks
-pub refuses : (j : Jobs) (o : NoCycle j) (on : ℕ → ℕ → Bool) (T a : ℕ) (b : ℤ) (demand : ℕ) → ((q : ℕ) → q < j.count → 0 < j.worst q) → Overloaded (tight j) a b demand → Meets j on T → ⊥
+pub refuses : (j : Jobs) (o : NoCycle j) (on : ℕ → ℕ → Bool) (T a : ℕ) (b : ℤ) (demand : ℕ) → ((q : ℕ) → q < j.count → 0 < j.worst q) → Overloaded (tight j) a b demand → TicksMeet j on T → ⊥
 refuses j o on T a b demand positive over m =
     let t = tight_is j o in
     refused (tight j) on T a b demand (λ q l. omega (arith, t.lasts q, positive q (omega (arith, t.counts)))) m.one (tightened j (tight j) o t on T positive m) over
@@ -104,7 +104,7 @@ done v on edf none q l some =
           (cases_lt (given on q r.0) (v.worst q)),
     )
 
-pub optimal : (j : Jobs) (v : Windows) (t : IsTight j v) (on : ℕ → ℕ → Bool) (T : ℕ) → ((q : ℕ) → q < j.count → (0 < j.worst q) × (j.end q ≤ T)) → IsEdf v on → NoOverload v → Meets j on T
+pub optimal : (j : Jobs) (v : Windows) (t : IsTight j v) (on : ℕ → ℕ → Bool) (T : ℕ) → ((q : ℕ) → q < j.count → (0 < j.worst q) × (j.end q ≤ T)) → IsEdf v on → NoOverload v → TicksMeet j on T
 optimal j v t on T good edf none = record {
   one = edf.one;
   all = λ q l. let d = fin q l in omega (arith, d.2, t.lasts q, given-mono on q d.0 T (omega (arith, last q l, (good q l).1)));

@@ -4,21 +4,21 @@ use Rattle.std.proofs.lemmas.Bool.{cases_lt, cases_Bool}
 use Rattle.std.proofs.lemmas.Int.{ints, clamps}
 use Rattle.std.specs.Int.{int_min}
 use Rattle.htl_edf.specs.Windows.{Windows}
-use Rattle.htl_edf.specs.Tight.{Jobs, greatest, least, release_at, end_at, tight, NoCycle}
+use Rattle.htl_edf.specs.Tight.{Jobs, greatest_below, least_below, release_at, end_at, tight, NoCycle}
 
 -- ---- the greatest and the least
 
-pub greatest-same : (s : ℕ → Bool) (f g : ℕ → ℕ) (z n : ℕ) → ((p : ℕ) → p < n → s p ≡ true → f p ≡ g p) → greatest s f z n ≡ greatest s g z n
+pub greatest-same : (s : ℕ → Bool) (f g : ℕ → ℕ) (z n : ℕ) → ((p : ℕ) → p < n → s p ≡ true → f p ≡ g p) → greatest_below s f z n ≡ greatest_below s g z n
 greatest-same s f g z zero h = refl
 greatest-same s f g z (suc n) h =
     let rest = greatest-same s f g z n (λ p l. h p (omega arith)) in
     ⊎_elim (λ yes. rw yes (omega (arith, rest, h n (omega arith) yes))) (λ no. rw no rest) (cases_Bool (s n))
 
-pub greatest-least : (s : ℕ → Bool) (f : ℕ → ℕ) (z n : ℕ) → z ≤ greatest s f z n
+pub greatest-least : (s : ℕ → Bool) (f : ℕ → ℕ) (z n : ℕ) → z ≤ greatest_below s f z n
 greatest-least s f z zero = omega arith
 greatest-least s f z (suc n) = ⊎_elim (λ yes. rw yes (omega (arith, greatest-least s f z n))) (λ no. rw no (greatest-least s f z n)) (cases_Bool (s n))
 
-pub greatest-le : (s : ℕ → Bool) (f : ℕ → ℕ) (z n p : ℕ) → p < n → s p ≡ true → f p ≤ greatest s f z n
+pub greatest-le : (s : ℕ → Bool) (f : ℕ → ℕ) (z n p : ℕ) → p < n → s p ≡ true → f p ≤ greatest_below s f z n
 greatest-le s f z zero p l e = absurd (omega arith)
 greatest-le s f z (suc n) p l e = ⊎_elim
     (λ b. let rest = greatest-le s f z n p b e in
@@ -26,29 +26,29 @@ greatest-le s f z (suc n) p l e = ⊎_elim
     (λ (b : n ≤ p). let q : p ≡ n = omega arith in rw (sym (ap s q) ∙ e) (omega (arith, ap f q)))
     (cases_lt p n)
 
-pub greatest_is : (s : ℕ → Bool) (f : ℕ → ℕ) (z n : ℕ) → (greatest s f z n ≡ z) ⊎ ((p : ℕ) × (p < n) × (s p ≡ true) × (greatest s f z n ≡ f p))
+pub greatest_is : (s : ℕ → Bool) (f : ℕ → ℕ) (z n : ℕ) → (greatest_below s f z n ≡ z) ⊎ ((p : ℕ) × (p < n) × (s p ≡ true) × (greatest_below s f z n ≡ f p))
 greatest_is s f z zero = inl refl
 greatest_is s f z (suc n) =
-    let rest = ⊎_elim {C = (greatest s f z n ≡ z) ⊎ ((p : ℕ) × (p < suc n) × (s p ≡ true) × (greatest s f z n ≡ f p))} inl (λ r. inr (r.0, omega (arith, r.1), r.2, r.3)) (greatest_is s f z n) in
+    let rest = ⊎_elim {C = (greatest_below s f z n ≡ z) ⊎ ((p : ℕ) × (p < suc n) × (s p ≡ true) × (greatest_below s f z n ≡ f p))} inl (λ r. inr (r.0, omega (arith, r.1), r.2, r.3)) (greatest_is s f z n) in
     ⊎_elim
     (λ yes. rw yes (⊎_elim
     (λ b. inr (n, omega arith, yes, omega arith))
-    (λ b. let m : max (greatest s f z n) (f n) ≡ greatest s f z n = omega arith in rw m rest)
-    (cases_lt (greatest s f z n) (f n))))
+    (λ b. let m : max (greatest_below s f z n) (f n) ≡ greatest_below s f z n = omega arith in rw m rest)
+    (cases_lt (greatest_below s f z n) (f n))))
     (λ no. rw no rest)
     (cases_Bool (s n))
 
-pub least-same : (s : ℕ → Bool) (f g : ℕ → ℤ) (z : ℤ) (n : ℕ) → ((p : ℕ) → p < n → s p ≡ true → f p ≡ g p) → least s f z n ≡ least s g z n
+pub least-same : (s : ℕ → Bool) (f g : ℕ → ℤ) (z : ℤ) (n : ℕ) → ((p : ℕ) → p < n → s p ≡ true → f p ≡ g p) → least_below s f z n ≡ least_below s g z n
 least-same s f g z zero h = refl
 least-same s f g z (suc n) h =
     let rest = least-same s f g z n (λ p l. h p (omega arith)) in
     ⊎_elim (λ yes. rw (yes, rest, h n (omega arith) yes)) (λ no. rw no rest) (cases_Bool (s n))
 
-pub least-z : (s : ℕ → Bool) (f : ℕ → ℤ) (z : ℤ) (n : ℕ) → least s f z n ≤ℤ z
+pub least-z : (s : ℕ → Bool) (f : ℕ → ℤ) (z : ℤ) (n : ℕ) → least_below s f z n ≤ℤ z
 least-z s f z zero = omega (arith, ints)
 least-z s f z (suc n) = ⊎_elim (λ yes. rw yes (omega (arith, ints, clamps, least-z s f z n))) (λ no. rw no (least-z s f z n)) (cases_Bool (s n))
 
-pub least-le : (s : ℕ → Bool) (f : ℕ → ℤ) (z : ℤ) (n p : ℕ) → p < n → s p ≡ true → least s f z n ≤ℤ f p
+pub least-le : (s : ℕ → Bool) (f : ℕ → ℤ) (z : ℤ) (n p : ℕ) → p < n → s p ≡ true → least_below s f z n ≤ℤ f p
 least-le s f z zero p l e = absurd (omega arith)
 least-le s f z (suc n) p l e = ⊎_elim
     (λ b. let rest = least-le s f z n p b e in
@@ -56,15 +56,15 @@ least-le s f z (suc n) p l e = ⊎_elim
     (λ (b : n ≤ p). let q : p ≡ n = omega arith in rw (sym (ap s q) ∙ e) (rw q (omega (arith, ints, clamps))))
     (cases_lt p n)
 
-pub least_is : (s : ℕ → Bool) (f : ℕ → ℤ) (z : ℤ) (n : ℕ) → (least s f z n ≡ z) ⊎ ((p : ℕ) × (p < n) × (s p ≡ true) × (least s f z n ≡ f p))
+pub least_is : (s : ℕ → Bool) (f : ℕ → ℤ) (z : ℤ) (n : ℕ) → (least_below s f z n ≡ z) ⊎ ((p : ℕ) × (p < n) × (s p ≡ true) × (least_below s f z n ≡ f p))
 least_is s f z zero = inl refl
 least_is s f z (suc n) =
-    let rest = ⊎_elim {C = (least s f z n ≡ z) ⊎ ((p : ℕ) × (p < suc n) × (s p ≡ true) × (least s f z n ≡ f p))} inl (λ r. inr (r.0, omega (arith, r.1), r.2, r.3)) (least_is s f z n) in
+    let rest = ⊎_elim {C = (least_below s f z n ≡ z) ⊎ ((p : ℕ) × (p < suc n) × (s p ≡ true) × (least_below s f z n ≡ f p))} inl (λ r. inr (r.0, omega (arith, r.1), r.2, r.3)) (least_is s f z n) in
     ⊎_elim
     (λ yes. rw yes (⊎_elim
     (λ b. rw b (inr (n, omega arith, yes, refl)))
     (λ b. rw b rest)
-    (cases_Bool (int_lt (f n) (least s f z n)))))
+    (cases_Bool (int_lt (f n) (least_below s f z n)))))
     (λ no. rw no rest)
     (cases_Bool (s n))
 
@@ -96,10 +96,10 @@ pub record IsTight (j : Jobs) (v : Windows) : Type 0 where
   pub leaves : (p q : ℕ) → p < j.count → q < j.count → j.before p q ≡ true → v.due p ≤ℤ (v.due q -ℤ pos (j.worst q))
   pub due_is : (p : ℕ) → p < j.count → (v.due p ≡ pos (j.end p)) ⊎ ((q : ℕ) × (q < j.count) × (j.before p q ≡ true) × (v.due p ≡ v.due q -ℤ pos (j.worst q)))
 
-pub release_at_is : (j : Jobs) (o : NoCycle j) (q : ℕ) → q < j.count → release_at j j.count q ≡ greatest (λ p. j.before p q) (λ p. release_at j j.count p + j.worst p) (j.release q) j.count
+pub release_at_is : (j : Jobs) (o : NoCycle j) (q : ℕ) → q < j.count → release_at j j.count q ≡ greatest_below (λ p. j.before p q) (λ p. release_at j j.count p + j.worst p) (j.release q) j.count
 release_at_is j o q l = release_at-same j o j.count (suc j.count) q l (o.below q l) (omega (arith, o.below q l))
 
-pub end_at_is : (j : Jobs) (o : NoCycle j) (p : ℕ) → p < j.count → end_at j j.count p ≡ least (λ q. j.before p q) (λ q. end_at j j.count q -ℤ pos (j.worst q)) (pos (j.end p)) j.count
+pub end_at_is : (j : Jobs) (o : NoCycle j) (p : ℕ) → p < j.count → end_at j j.count p ≡ least_below (λ q. j.before p q) (λ q. end_at j j.count q -ℤ pos (j.worst q)) (pos (j.end p)) j.count
 end_at_is j o p l = end_at-same j o j.count (suc j.count) p l (omega arith) (omega arith)
 
 pub tight_is : (j : Jobs) → NoCycle j → IsTight j (tight j)
@@ -119,14 +119,14 @@ tight_is j o =
     }
 
 -- one more position, as a loop counts them
-pub greatest_more_yes : (s : ℕ → Bool) (f : ℕ → ℕ) (z n : ℕ) → s n ≡ true → greatest s f z (n + 1) ≡ max (greatest s f z n) (f n)
+pub greatest_more_yes : (s : ℕ → Bool) (f : ℕ → ℕ) (z n : ℕ) → s n ≡ true → greatest_below s f z (n + 1) ≡ max (greatest_below s f z n) (f n)
 greatest_more_yes s f z n e = rw (add-one, e)
 
-pub greatest_more_no : (s : ℕ → Bool) (f : ℕ → ℕ) (z n : ℕ) → s n ≡ false → greatest s f z (n + 1) ≡ greatest s f z n
+pub greatest_more_no : (s : ℕ → Bool) (f : ℕ → ℕ) (z n : ℕ) → s n ≡ false → greatest_below s f z (n + 1) ≡ greatest_below s f z n
 greatest_more_no s f z n e = rw (add-one, e)
 
-pub least_more_yes : (s : ℕ → Bool) (f : ℕ → ℤ) (z : ℤ) (n : ℕ) → s n ≡ true → least s f z (n + 1) ≡ int_min (least s f z n) (f n)
+pub least_more_yes : (s : ℕ → Bool) (f : ℕ → ℤ) (z : ℤ) (n : ℕ) → s n ≡ true → least_below s f z (n + 1) ≡ int_min (least_below s f z n) (f n)
 least_more_yes s f z n e = rw (add-one, e)
 
-pub least_more_no : (s : ℕ → Bool) (f : ℕ → ℤ) (z : ℤ) (n : ℕ) → s n ≡ false → least s f z (n + 1) ≡ least s f z n
+pub least_more_no : (s : ℕ → Bool) (f : ℕ → ℤ) (z : ℤ) (n : ℕ) → s n ≡ false → least_below s f z (n + 1) ≡ least_below s f z n
 least_more_no s f z n e = rw (add-one, e)

@@ -10,7 +10,7 @@ use Rattle.htl_walk.proofs.Steps.{apart, left_same, left_other, left_falls, time
 use Rattle.htl_edf.specs.Windows.{Overloaded}
 use Rattle.htl_edf.specs.Tight.{NoCycle, tight}
 use Rattle.htl_edf.specs.Edf.{Slice}
-use Rattle.htl_edf.specs.Slices.{Each, Apart, DoNotOverlap, ticks_of, MeetsBy}
+use Rattle.htl_edf.specs.Slices.{Each, Apart, DoNotOverlap, ticks_of, SlicesMeet}
 use Rattle.htl_edf.specs.Lists.{jobs_of, AreWellFormed}
 use Rattle.htl_edf.proofs.BySlices.{Each-map, Each-zip, no_slices}
 use Rattle.htl_edf.proofs.Fine.{IsFine, job_at_is, first_left, accepted_fine}
@@ -191,7 +191,7 @@ ordered js x (Idle h ∷ is) f = ordered js (next_point js (Idle h) x) is f
 ordered js x (End ∷ is) f = ordered js x is f
 
 -- what an accepted walk runs meets
-pub walk_meets : (js : List Job) (period : ℕ) (is : List SInstr) → AreWellFormed js → IsAccepted js period is → MeetsBy (jobs_of js) (walk_slices js (first_point js (worst_cases js)) is)
+pub walk_meets : (js : List Job) (period : ℕ) (is : List SInstr) → AreWellFormed js → IsAccepted js period is → SlicesMeet (jobs_of js) (walk_slices js (first_point js (worst_cases js)) is)
 walk_meets js period is good a =
     let x = first_point js (worst_cases js) in
     let f : IsFine js x is = accepted_fine js period is a in

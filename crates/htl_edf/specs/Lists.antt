@@ -46,6 +46,10 @@ pub record HoldsAfter (js : List Job) (ts : List Tight) (k : ℕ) : Type 0 where
   pub releases : (q : ℕ) → q < length js → (get_or ts q no_window).release ≡ pos (release_at (jobs_of js) k q)
   pub ends : (q : ℕ) → q < length js → (get_or ts q no_window).end ≡ end_at (jobs_of js) k q
 
+-- the windows of the first n positions are the same
+abbrev pub AgreeBelow : ℕ → List Tight → List Tight → Type 0
+AgreeBelow n ts us = (q : ℕ) → q < n → ((get_or ts q no_window).release ≡ (get_or us q no_window).release) × ((get_or ts q no_window).end ≡ (get_or us q no_window).end)
+
 -- ts holds the tightened windows
 pub record AreTightened (js : List Job) (ts : List Tight) : Type 0 where
   pub releases : (q : ℕ) → q < length js → (get_or ts q no_window).release ≡ pos ((tightened js).from q)

@@ -34,14 +34,14 @@ abbrev pub HaveTicks : List Slice → Type 0
 HaveTicks ss = Each (λ s. s.start < s.end) ss
 
 -- the slices give each position its worst case, in the window that v has for it and after its predecessors
-pub record MeetsIn (j : Jobs) (v : Windows) (ss : List Slice) : Type 0 where
+pub record SlicesMeetIn (j : Jobs) (v : Windows) (ss : List Slice) : Type 0 where
   pub apart : DoNotOverlap ss
   pub done : (q : ℕ) → q < j.count → ticks_of ss q ≡ j.worst q
   pub within : Each (λ s. s.position < j.count → (v.from s.position ≤ s.start) × (pos s.end ≤ℤ v.due s.position)) ss
   pub after : Each (λ s. Each (λ r. r.position < j.count → j.before r.position s.position ≡ true → r.end ≤ s.start) ss) ss
 
 -- the same in the jobs' own windows
-pub record MeetsBy (j : Jobs) (ss : List Slice) : Type 0 where
+pub record SlicesMeet (j : Jobs) (ss : List Slice) : Type 0 where
   pub apart : DoNotOverlap ss
   pub done : (q : ℕ) → q < j.count → ticks_of ss q ≡ j.worst q
   pub within : Each (λ s. s.position < j.count → (j.release s.position ≤ s.start) × (s.end ≤ j.end s.position)) ss

@@ -13,23 +13,23 @@ pub record Jobs : Type 0 where
   pub before : ℕ → ℕ → Bool
 
 -- the greatest of z and all f p for p below n that pass s
-abbrev pub greatest : (ℕ → Bool) → (ℕ → ℕ) → ℕ → ℕ → ℕ
-greatest s f z zero = z
-greatest s f z (suc n) = cond (s n) (max (greatest s f z n) (f n)) (greatest s f z n)
+abbrev pub greatest_below : (ℕ → Bool) → (ℕ → ℕ) → ℕ → ℕ → ℕ
+greatest_below s f z zero = z
+greatest_below s f z (suc n) = cond (s n) (max (greatest_below s f z n) (f n)) (greatest_below s f z n)
 
 -- the least of z and all f p for p below n that pass s
-abbrev pub least : (ℕ → Bool) → (ℕ → ℤ) → ℤ → ℕ → ℤ
-least s f z zero = z
-least s f z (suc n) = cond (s n) (int_min (least s f z n) (f n)) (least s f z n)
+abbrev pub least_below : (ℕ → Bool) → (ℕ → ℤ) → ℤ → ℕ → ℤ
+least_below s f z zero = z
+least_below s f z (suc n) = cond (s n) (int_min (least_below s f z n) (f n)) (least_below s f z n)
 
 -- the tightened release of q, and the tightened end of p, over chains of at most k predecessors or successors
 abbrev pub release_at : Jobs → ℕ → ℕ → ℕ
 release_at j zero q = j.release q
-release_at j (suc k) q = greatest (λ p. j.before p q) (λ p. release_at j k p + j.worst p) (j.release q) j.count
+release_at j (suc k) q = greatest_below (λ p. j.before p q) (λ p. release_at j k p + j.worst p) (j.release q) j.count
 
 abbrev pub end_at : Jobs → ℕ → ℕ → ℤ
 end_at j zero p = pos (j.end p)
-end_at j (suc k) p = least (λ q. j.before p q) (λ q. end_at j k q -ℤ pos (j.worst q)) (pos (j.end p)) j.count
+end_at j (suc k) p = least_below (λ q. j.before p q) (λ q. end_at j k q -ℤ pos (j.worst q)) (pos (j.end p)) j.count
 
 -- the tightened windows: a chain without a cycle has fewer than `count` steps
 unfoldable pub tight : Jobs → Windows
@@ -42,7 +42,7 @@ pub record NoCycle (j : Jobs) : Type 0 where
   pub rises : (p q : ℕ) → p < j.count → q < j.count → j.before p q ≡ true → rank p < rank q
 
 -- each position has its worst case before T, in its window, and after its predecessors
-pub record Meets (j : Jobs) (on : ℕ → ℕ → Bool) (T : ℕ) : Type 0 where
+pub record TicksMeet (j : Jobs) (on : ℕ → ℕ → Bool) (T : ℕ) : Type 0 where
   pub one : OneATick on
   pub all : (q : ℕ) → q < j.count → j.worst q ≤ given on q T
   pub most : (q t : ℕ) → q < j.count → given on q t ≤ j.worst q

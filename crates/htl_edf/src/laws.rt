@@ -1,6 +1,6 @@
 //! The laws of the scheduler, which crates above build on. Each is a statement that the check has proved; there is
 //! nothing to run.
-ghost use Rattle.htl_edf.specs.Laws.{TightWindows, Tightening, SliceRefusal, Refusal, Acceptance, OneReport, EqualFronts};
+ghost use Rattle.htl_edf.specs.Laws.{TightWindows, Tightening, SliceRefusal, Refusal, Acceptance, OneReport, EqualFronts, FormedArePlannable, FunctionsDecideNoPlan};
 
 /// Where predecessors make no cycle, tightened windows are those of their definition: a release the greatest of the job's
 /// own and those of the direct predecessors with their work, an end the least of the job's own and those of the direct
@@ -40,4 +40,15 @@ pub fn one_report()
 /// choices before t.
 pub fn equal_fronts()
     ensures { EqualFronts }
+{}
+
+/// Tables that keep the form rules 1 to 12 and the limits on selections and positions have jobs that the scheduler takes:
+/// windows of some ticks within the round, small numbers, and predecessors without a cycle.
+pub fn plannable()
+    ensures { FormedArePlannable }
+{}
+
+/// Tables whose functions are exchanged for others have the same schedules.
+pub fn functions_decide_no_plan()
+    ensures { FunctionsDecideNoPlan }
 {}

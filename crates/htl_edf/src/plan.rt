@@ -1,8 +1,9 @@
 // A schedule for each root selection.
 ghost use Rattle.std.specs.Prelude.{◌≡◌, ◌≤◌, ◌<◌, ◌^◌, ℕ, IfOk, IfErr, MatchOption, pos};
-ghost use Rattle.htl_model.specs.Selections.{selection_count};
+ghost use Rattle.htl_model.specs.Broken.{KeptTo, KeepsLimits};
+ghost use Rattle.htl_model.specs.Selections.{selection_count, round_length};
 ghost use Rattle.htl_walk.specs.Jobs.{abstract_jobs as abstract_jobs_of};
-ghost use Rattle.htl_edf.specs.Plan.{round_of, IsPlannable, ArePlannable, IsPlanned, ArePlanned, ExplainsPlan, IsOverloadOf};
+ghost use Rattle.htl_edf.specs.Plan.{IsPlannable, IsPlanned, ArePlanned, ExplainsPlan, IsOverloadOf};
 
 use crate::{EdfFault, edf};
 use htl_base::Time;
@@ -27,8 +28,10 @@ pub enum PlanFault {
 
 // The schedule of one selection.
 fn plan(alloc: Global, t: &Tables, selection: u32, period: Time) -> Result<Schedule, PlanFault>
+    requires limits { KeepsLimits t.now }
+    requires selection { selection < selection_count t.now }
     requires jobs { IsPlannable t.now selection }
-    requires round { period ≡ round_of t.now }
+    requires round { period ≡ round_length t.now }
     requires period { period ≤ 1000000 }
     ensures planned { IfOk result (λ s. IsPlanned t.now selection s) }
     ensures fault { IfErr result (λ e. IsOverloadOf t.now selection e) }
@@ -56,18 +59,18 @@ fn plan(alloc: Global, t: &Tables, selection: u32, period: Time) -> Result<Sched
 
 /// The schedule of earliest deadline first for each root selection, in the order of the selections.
 ///
-/// The jobs of each selection are as `edf` asks: at most 128, each with a window of at least one tick that ends within the
-/// round, whose length is the period of the root modules and at most 1,000,000; worst cases of at most 1,000,000; and
-/// predecessors without a cycle. There are fewer than 2^32 selections. Tables that keep the form rules and the limits are
-/// such.
+/// The tables keep the form rules 1 to 12 and the limits on selections and positions; so the jobs of each selection are as
+/// `edf` asks: the law `plannable`.
 ///
 /// Each schedule is accepted by the worst-case walk of its selection. `Overload` comes exactly where a selection is
 /// overloaded, and names the first; no S code whatever is accepted for it. Want of memory may come first.
 pub fn edf_all(alloc: Global, t: &Tables) -> Result<Vec<Schedule>, PlanFault>
-    requires { ArePlannable t.now }
+    requires formed { KeptTo t.now 12 }
+    requires limits { KeepsLimits t.now }
     ensures planned { IfOk result (λ v. ArePlanned t.now (selection_count t.now) v.items) }
     ensures fault { IfErr result (λ e. ExplainsPlan t.now e) }
 {
+    t.keeps_ranges();
     let period = t.period().unwrap_or(0);
     let mut schedules = Vec::new(alloc);
     for selection in 0..t.selections() {

@@ -1,8 +1,7 @@
 // A schedule for each selection of tables that are made by hand.
-ghost use Rattle.std.specs.Prelude.{◌≡◌, ◌<◌, true, IfSome};
+ghost use Rattle.std.specs.Prelude.{◌≡◌, ◌≤◌, IfSome};
 ghost use Rattle.htl_model.specs.Ranges.{AreInRange, IsSpan};
-ghost use Rattle.htl_model.specs.Selections.{selection_count};
-ghost use Rattle.htl_edf.specs.Plan.{round_of, IsPlannable, ArePlannable};
+ghost use Rattle.htl_model.specs.Broken.{KeptTo, KeepsLimits};
 ghost use Rattle.htl_edf.specs.Samples.{
   sample_mode,
   sample_task,
@@ -14,12 +13,10 @@ ghost use Rattle.htl_edf.specs.Samples.{
   sample_of,
 };
 
-use crate::tests::{are_in_order, are_well_formed, end_within};
 use crate::{PlanFault, edf_all};
-use htl_base::limits::MAX_POSITIONS;
 use htl_base::{Name, Seq};
 use htl_model::{Inv, Mode, Module, Parts, Tables, Task};
-use htl_walk::{Job, SInstr, abstract_jobs};
+use htl_walk::SInstr;
 use std::alloc::{AllocError, Global};
 use std::test::Fail;
 
@@ -112,6 +109,10 @@ fn invs(alloc: Global) -> Option<Vec<Inv>>
 fn tables(alloc: Global, b: u32, c: u32) -> Option<Tables>
     requires b { IsSpan b }
     requires c { IsSpan c }
+    requires small_b { b ≤ 10 }
+    requires small_c { c ≤ 10 }
+    ensures formed { IfSome result (λ t. KeptTo t 12) }
+    ensures limits { IfSome result (λ t. KeepsLimits t) }
 {
     let modes = modes(alloc)?;
     let modules = modules(alloc)?;
@@ -129,6 +130,7 @@ fn tables_of(
     invs: Vec<Inv>,
 ) -> Tables
     requires { AreInRange (sample_of modes.items modules.items tasks.items invs.items) }
+    ensures { result ≡ sample_of modes.items modules.items tasks.items invs.items }
 {
     Tables::new(Parts {
         comms: Seq::new(Vec::new(alloc)),
@@ -142,61 +144,22 @@ fn tables_of(
     })
 }
 
-// ---- the conditions, for tables without ports
-
-fn is_plannable(t: &Tables, selection: u32, period: u64) -> bool
-    requires { period ≡ round_of t.now }
-    ensures { result ≡ true → IsPlannable t.now selection }
-{
-    if t.positions(selection) > MAX_POSITIONS {
-        return false;
-    }
-    let mut jobs = [Job {
-        present: false,
-        inv: 0,
-        release: 0,
-        end: 0,
-        worst: 0,
-        preds: 0,
-    }; MAX_POSITIONS];
-    let places = [0; MAX_POSITIONS];
-    let count = abstract_jobs(t, selection, &mut jobs);
-    let jobs = &jobs[..count];
-    are_well_formed(jobs) && are_in_order(jobs, &places[..count]) && end_within(jobs, period)
-}
-
-fn are_plannable(t: &Tables) -> bool
-    ensures { result ≡ true → ArePlannable t.now }
-{
-    let period = t.period().unwrap_or(0);
-    let count = t.selections();
-    if period > 1_000_000 || count == u32::MAX {
-        return false;
-    }
-    for selection in 0..count {
-        if !is_plannable(t, selection, period) {
-            return false;
-        }
-    }
-    true
-}
-
 // ---- answers
 
-// The instructions of the schedules, one list behind the other, or the fault; None for tables that break a condition.
-fn plans(alloc: Global, t: &Tables) -> Result<Option<Result<Vec<SInstr>, PlanFault>>, AllocError> {
-    if !are_plannable(t) {
-        return Ok(None);
-    }
+// The instructions of the schedules, one list behind the other, or the fault.
+fn plans(alloc: Global, t: &Tables) -> Result<Result<Vec<SInstr>, PlanFault>, AllocError>
+    requires formed { KeptTo t.now 12 }
+    requires limits { KeepsLimits t.now }
+{
     match edf_all(alloc, t) {
         Ok(schedules) => {
             let mut instrs = Vec::new(alloc);
             for schedule in schedules.iter() {
                 instrs.extend_from_slice(schedule.instrs.as_slice())?;
             }
-            Ok(Some(Ok(instrs)))
+            Ok(Ok(instrs))
         }
-        Err(fault) => Ok(Some(Err(fault))),
+        Err(fault) => Ok(Err(fault)),
     }
 }
 
@@ -216,7 +179,7 @@ fn each_selection_has_a_schedule(rt: HostRuntime) -> Result<(), Fail> {
         run(1, 9),
         end,
     ]?;
-    assert_eq!(rt; plans(alloc, &t)?, Some(Ok(wanted)));
+    assert_eq!(rt; plans(alloc, &t)?, Ok(wanted));
     Ok(())
 }
 
@@ -230,8 +193,8 @@ fn the_first_overloaded_selection_is_named(rt: HostRuntime) -> Result<(), Fail> 
         demand,
     };
     let t = tables(alloc, 7, 8).expect(&rt, "tables");
-    assert_eq!(rt; plans(alloc, &t)?, Some(Err(over(1, 11))));
+    assert_eq!(rt; plans(alloc, &t)?, Err(over(1, 11)));
     let t = tables(alloc, 6, 8).expect(&rt, "tables");
-    assert_eq!(rt; plans(alloc, &t)?, Some(Err(over(2, 14))));
+    assert_eq!(rt; plans(alloc, &t)?, Err(over(2, 14)));
     Ok(())
 }

@@ -1,9 +1,10 @@
 // Tightened windows.
-ghost use Rattle.std.specs.Prelude.{◌≡◌, ◌≤◌, ◌<◌, suc, length, pos};
+ghost use Rattle.std.specs.Prelude.{◌≡◌, ◌≤◌, ◌<◌, suc, true, length, pos};
 ghost use Rattle.htl_edf.specs.Tight.{release_at, end_at};
-ghost use Rattle.htl_edf.specs.Lists.{jobs_of, AreWellFormed, HoldsAfter, AreTightened};
+ghost use Rattle.htl_edf.specs.Lists.{jobs_of, AreWellFormed, HoldsAfter, AgreeBelow, AreTightened};
 
 use htl_base::limits::MAX_POSITIONS;
+use htl_model::bits::has_bit;
 use htl_walk::Job;
 
 /// The tightened window of a position: each schedule that meets all windows, after all predecessors, gives the position
@@ -22,7 +23,7 @@ pub fn waits(jobs: &[Job], p: usize, q: usize) -> bool
     requires p_in { p < 128 }
     ensures { result ≡ (jobs_of jobs.now).before p q }
 {
-    (jobs[q].preds >> p) & 1 == 1
+    has_bit(jobs[q].preds, p as u32)
 }
 
 // The release of q after its predecessors, whose windows are those of `so_far`.
@@ -98,6 +99,19 @@ fn fill(jobs: &[Job], out: &mut [Tight])
     }
 }
 
+// Whether the windows are the same, position by position.
+fn are_same(a: &[Tight], b: &[Tight]) -> bool
+    requires { length a.now ≡ length b.now }
+    ensures { result ≡ true → AgreeBelow (length a.now) a.now b.now }
+{
+    for q in 0..a.len() {
+        if a[q].release != b[q].release || a[q].end != b[q].end {
+            return false;
+        }
+    }
+    true
+}
+
 /// Writes the tightened windows of at most 128 jobs to `out`, which is as long as `jobs`. A release is the greatest of the
 /// job's own and, over its direct predecessors, their tightened releases and worst cases together; an end is the least of
 /// the job's own and, over its direct successors, their tightened ends less their worst cases (Blazewicz 1976; Chetto,
@@ -118,5 +132,8 @@ pub fn tighten(jobs: &[Job], out: &mut [Tight])
         let before = &mut last[..jobs.len()];
         before.copy_from_slice(out);
         round(jobs, before, out, k);
+        if are_same(before, out) {
+            return;
+        }
     }
 }

@@ -1,9 +1,9 @@
 // Earliest deadline first.
-ghost use Rattle.std.specs.Prelude.{◌≡◌, ◌≤◌, ◌+◌, length, IfOk, OnOk, IfErr};
+ghost use Rattle.std.specs.Prelude.{◌≡◌, ◌≤◌, ◌+◌, ℕ, length, IfOk, OnOk, IfErr};
 ghost use Rattle.htl_walk.specs.Walk.{IsAccepted};
 ghost use Rattle.htl_edf.specs.Windows.{NoOverload};
 ghost use Rattle.htl_edf.specs.Tight.{NoCycle};
-ghost use Rattle.htl_edf.specs.Lists.{jobs_of, tightened, AreWellFormed, EndWithin};
+ghost use Rattle.htl_edf.specs.Lists.{jobs_of, tightened, AreWellFormed, EndWithin, HoldsAfter};
 ghost use Rattle.htl_edf.specs.Code.{edf_schedule};
 ghost use Rattle.htl_edf.specs.Faults.{Explains};
 
@@ -13,7 +13,7 @@ use crate::overload::find_overload;
 use crate::{Tight, tighten};
 use htl_base::limits::MAX_POSITIONS;
 use htl_base::{Seq, Time};
-use htl_walk::{Job, Schedule};
+use htl_walk::{Job, Schedule, worst};
 use std::alloc::Global;
 
 /// Why there is no schedule.
@@ -28,7 +28,27 @@ pub enum EdfFault {
     Memory,
 }
 
-// The schedule, with room for the windows and the work left.
+// Why there is no schedule, where the walk of earliest deadline first misses or memory was short: the overloaded interval, and
+// else want of memory.
+fn refusal(jobs: &[Job], windows: &[Tight]) -> EdfFault
+    requires jobs { AreWellFormed jobs.now }
+    requires order { NoCycle (jobs_of jobs.now) }
+    requires at { HoldsAfter jobs.now windows.now (length jobs.now) }
+    requires same { length windows.now ≡ length jobs.now }
+    ensures { (period : ℕ) → Explains jobs.now period result }
+{
+    match find_overload(jobs, windows) {
+        Some(i) => EdfFault::Overload {
+            from: i.from,
+            to: i.to,
+            demand: i.demand,
+        },
+        None => EdfFault::Memory,
+    }
+}
+
+// The schedule, with room for the windows and the work left. An interval is overloaded exactly where the walk misses, so the
+// search for it is made only then.
 fn schedule(
     alloc: Global,
     jobs: &[Job],
@@ -49,23 +69,20 @@ fn schedule(
     ensures fault { IfErr result (λ e. Explains jobs.now period e) }
 {
     tighten(jobs, windows);
-    if let Some(i) = find_overload(jobs, windows) {
-        return Err(EdfFault::Overload {
-            from: i.from,
-            to: i.to,
-            demand: i.demand,
-        });
-    }
     start(jobs, left);
-    match run_all(alloc, jobs, windows, left, period) {
-        Ok(instrs) => Ok(Schedule {
-            instrs: Seq::new(instrs),
-        }),
-        Err(_) => Err(EdfFault::Memory),
+    let Ok(instrs) = run_all(alloc, jobs, windows, left, period) else {
+        return Err(refusal(jobs, windows));
+    };
+    let s = Schedule {
+        instrs: Seq::new(instrs),
+    };
+    match worst(jobs, &s, period, left) {
+        Ok(()) => Ok(s),
+        Err(_) => Err(refusal(jobs, windows)),
     }
 }
 
-/// The schedule of earliest deadline first (Liu and Layland 1973) over the tightened windows: at each tick the released
+/// The schedule of earliest deadline first (Dertouzos 1974, Horn 1974) over the tightened windows: at each tick the released
 /// position with work left and the least tightened end runs, of several the lowest. Each maximal interval in which one
 /// position runs gives a dispatch until its end, and `End` comes last.
 ///

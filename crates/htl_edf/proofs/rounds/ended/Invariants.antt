@@ -1,9 +1,9 @@
 use Rattle.std.proofs.Common.{◌≡◌, pos, ◌-ℤ◌}
 use Rattle.htl_edf.specs.Lists.{jobs_of}
-use Rattle.htl_edf.specs.Tight.{end_at, least}
+use Rattle.htl_edf.specs.Tight.{end_at, least_below}
 use Rattle.htl_edf.proofs.rounds.ended.Given as goal
 
 abbrev pub invariant-loop-q : goal.invariant-loop-q
 invariant-loop-q l =
     let j = jobs_of l.jobs in
-    l.earliest ≡ least (λ q. j.before l.p q) (λ q. end_at j l.k q -ℤ pos (j.worst q)) (pos (j.end l.p)) l.q
+    l.earliest ≡ least_below (λ q. j.before l.p q) (λ q. end_at j l.k q -ℤ pos (j.worst q)) (pos (j.end l.p)) l.q

@@ -1,25 +1,32 @@
-use Rattle.std.proofs.Common.{◌≤◌, ◌+◌, ◌∙◌, sym, subst, length}
-use Rattle.htl_walk.specs.Walk.{IsAccepted}
+use Rattle.std.proofs.Common.{◌≤◌, ◌+◌, ◌∙◌, sym, subst, length, arith}
 use Rattle.htl_edf.proofs.Jumps.{holds_all}
-use Rattle.htl_edf.proofs.Walking.{accepted, schedule_short}
+use Rattle.htl_edf.proofs.Walking.{schedule_short}
 use Rattle.htl_edf.proofs.Walks.{no_schedule}
 use Rattle.htl_edf.proofs.scheduler.schedule.Goals as goal
-
-pub find_overload-requires-clause-at : goal.find_overload-requires-clause-at
-find_overload-requires-clause-at c = holds_all c.args.jobs.now _ c.tighten.ensures
-
-pub returns-in-Some-clause-fault : goal.returns-in-Some-clause-fault
-returns-in-Some-clause-fault c =
-    let i = c.in-Some.i in
-    (c.in-Some.ensures, λ s accepted. no_schedule c.args.jobs.now c.requires.jobs c.requires.order _ _ i.demand c.in-Some.ensures.over c.args.period s accepted)
 
 pub run_all-requires-clause-at : goal.run_all-requires-clause-at
 run_all-requires-clause-at c = holds_all c.args.jobs.now _ c.tighten.ensures
 
-pub returns-in-Ok-clause-accepted : goal.returns-in-Ok-clause-accepted
-returns-in-Ok-clause-accepted c =
-    subst (IsAccepted c.args.jobs.now c.args.period) (sym (c.new.ensures ∙ c.in-Ok.ensures))
-    (accepted c.args.jobs.now c.requires.jobs c.requires.order c.args.period c.requires.ends c.in_default.ensures)
+pub refusal-requires-clause-at : goal.refusal-requires-clause-at
+refusal-requires-clause-at c = holds_all c.args.jobs.now _ c.tighten.ensures
 
-pub returns-in-Ok-clause-short : goal.returns-in-Ok-clause-short
-returns-in-Ok-clause-short c = subst (λ s. length s ≤ c.args.period + 1) (sym (c.new.ensures ∙ c.in-Ok.ensures)) (schedule_short c.args.jobs.now c.args.period)
+pub refusal-requires-in-Err-clause-at : goal.refusal-requires-in-Err-clause-at
+refusal-requires-in-Err-clause-at c = holds_all c.args.jobs.now _ c.tighten.ensures
+
+pub returns-in_default-clause-fault : goal.returns-in_default-clause-fault
+returns-in_default-clause-fault c = c.refusal.ensures c.args.period
+
+pub returns-in-Err-clause-fault : goal.returns-in-Err-clause-fault
+returns-in-Err-clause-fault c = c.refusal-in-Err.ensures c.args.period
+
+pub worst-requires-clause-instrs : goal.worst-requires-clause-instrs
+worst-requires-clause-instrs c =
+    let js = c.args.jobs.now in
+    let is : length c.new.result ≤ c.args.period + 1 = subst (λ s. length s ≤ c.args.period + 1) (sym (c.new.ensures ∙ c.in-Ok.ensures)) (schedule_short js c.args.period) in
+    omega (arith, is, c.requires.period)
+
+pub returns-in-Ok-worst-clause-short : goal.returns-in-Ok-worst-clause-short
+returns-in-Ok-worst-clause-short c = subst (λ s. length s ≤ c.args.period + 1) (sym (c.new.ensures ∙ c.in-Ok.ensures)) (schedule_short c.args.jobs.now c.args.period)
+
+pub returns-in-Ok-worst-clause-fits : goal.returns-in-Ok-worst-clause-fits
+returns-in-Ok-worst-clause-fits c = λ a b m o. no_schedule c.args.jobs.now c.requires.jobs c.requires.order a b m o c.args.period c.new.result c.in-Ok-worst.ensures.accepted

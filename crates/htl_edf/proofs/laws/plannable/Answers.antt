@@ -1,0 +1,5 @@
+use Rattle.htl_edf.proofs.Plannable.{plannable}
+use Rattle.htl_edf.proofs.laws.plannable.Goals as goal
+
+pub returns : goal.returns
+returns c = λ t r kept limits. plannable t r kept limits
