@@ -17,7 +17,7 @@ use Rattle.htl_model.specs.Ranges.{AreInRange, IsInvInRange, IsEndInRange}
 use Rattle.htl_model.specs.SecondWriters.{StandTogether, AreSameWrite, WritesBefore}
 use Rattle.htl_model.specs.Tables.{Tables, is_concrete}
 use Rattle.htl_form.proofs.PathLaws.{true_together}
-use Rattle.htl_form.proofs.Places.{all_at, falses_at}
+use Rattle.htl_form.proofs.Places.{all_at, filled_at}
 use Rattle.htl_form.proofs.TestLaws.{either, on_left, on_right, not_both, equal, last}
 use Rattle.htl_form.proofs.WriterLaws.{writes_before}
 use Rattle.htl_form.specs.Apart.{key, end_keys, keys_in, inv_keys, keys_from, is_comm, takes, is_taken, AreTaken, is_taken_end, IsApart, AreApart}
@@ -232,4 +232,4 @@ apart_is t m base n upto q taken r w is_q upto_q d len tk i at free = λ y j c o
 
 -- where nothing is marked, each marked invocation is apart
 pub none_marked : (t : Tables) (n : ℕ) → AreApart t (replicate n false)
-none_marked t n = λ k marked. absurd (not_both (get_or (replicate n false) k false) marked (falses_at n k))
+none_marked t n = λ k marked. absurd (not_both (get_or (replicate n false) k false) marked (filled_at false n k))

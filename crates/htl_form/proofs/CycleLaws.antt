@@ -1,5 +1,5 @@
 -- The test for cycles of ports finds what the rule says.
-use Rattle.std.proofs.Common.{◌≡◌, ◌<◌, ◌≤◌, ◌⊎◌, ℕ, zero, suc, ◌+◌, Bool, true, false, not, ◌&&◌, ◌||◌, cond, eqb, List, [], ◌∷◌, length, Option, Some, None, refl, sym, ◌∙◌, ap, subst, arith, inl, inr}
+use Rattle.std.proofs.Common.{◌≡◌, ◌<◌, ◌≤◌, ℕ, zero, suc, ◌+◌, Bool, true, false, not, ◌&&◌, ◌||◌, cond, eqb, List, [], ◌∷◌, length, Option, Some, None, refl, sym, ◌∙◌, ap, subst, arith, inl, inr}
 use Rattle.std.specs.Prelude.{slice_get}
 use Rattle.std.specs.List.{list_any, IsDistinct, AllByRecursion}
 use Rattle.std.proofs.lemmas.Bool.Decides.{nat_tests}
@@ -8,78 +8,16 @@ use Rattle.std.proofs.lemmas.Map.Keys.{IsDistinct-from_apart, IsDistinct-cons}
 use Rattle.std.proofs.lemmas.Map.Made.{length-from_same_keys}
 use Rattle.std.proofs.lemmas.Map.Views.{list_any-from_Contains, Contains-from_any}
 use Rattle.std.proofs.lemmas.Option.{slice_get_within}
+use Rattle.htl_model.proofs.PortChains.{leads_below, leads_from, leads_within, feeds_within, count_below}
 use Rattle.htl_model.specs.declared.parts.Inv.{Inv}
-use Rattle.htl_model.specs.PortOrder.{Leads, direct, through, feeds, feeds_at, Precedes, IsOnCycle, AreOnCycles, InCycle}
+use Rattle.htl_model.specs.PortOrder.{feeds, Precedes, IsOnCycle, AreOnCycles, InCycle}
 use Rattle.htl_model.specs.Ranges.{AreInRange}
 use Rattle.htl_model.specs.Tables.{Tables}
 use Rattle.htl_form.proofs.Finding.{Finds, finds_unless}
 use Rattle.htl_form.proofs.TestLaws.{either, both, on_left, on_right, and_true, agree, equal, same_number, last}
-use Rattle.htl_form.specs.Cycles.{leads_below, precedes_itself, is_of_mode, is_on_cycle, numbers_below, count_below, cycle_count, cycle_fault}
+use Rattle.htl_form.specs.Cycles.{precedes_itself, is_of_mode, is_on_cycle, numbers_below, cycle_count, cycle_fault}
 
--- ---- what leads to what, by going through one place more at a time
-
-right : (a b c : Bool) → b ≡ true → c ≡ true → (a || (b && c)) ≡ true
-right a b c p q = grind (arith, nat_tests)
-
--- what the test finds leads there
-pub leads_from : (step : ℕ → ℕ → Bool) (k a b : ℕ) → leads_below step k a b ≡ true → Leads step a b
-leads_from step zero a b h = direct a b h
-leads_from step (suc k) a b h =
-    elim (either (leads_below step k a b) _ h) [
-      | inl x ↦ leads_from step k a b x
-      | inr y ↦
-          let parts = both (leads_below step k a k) (leads_below step k k b) y in
-          through a k b (leads_from step k a k parts.0) (leads_from step k k b parts.1)
-    ]
-
--- one place more
-split : (step : ℕ → ℕ → Bool) (k a b : ℕ) → leads_below step (suc k) a b ≡ true → (leads_below step k a b ≡ true) ⊎ ((leads_below step k a k ≡ true) × (leads_below step k k b ≡ true))
-split step k a b h = elim (either (leads_below step k a b) _ h) [ inl x ↦ inl x | inr y ↦ inr (both (leads_below step k a k) (leads_below step k k b) y) ]
-
--- through a place below k
-pub leads_join : (step : ℕ → ℕ → Bool) (k a c b : ℕ) → c < k → leads_below step k a c ≡ true → leads_below step k c b ≡ true → leads_below step k a b ≡ true
-leads_join step zero a c b less p q = absurd (omega arith)
-leads_join step (suc k) a c b less p q =
-    elim (last c k less) [
-      | inl below ↦
-          elim (split step k a c p) [
-            | inl ac ↦
-                elim (split step k c b q) [
-                  | inl cb ↦ on_left (leads_below step k a b) _ (leads_join step k a c b below ac cb)
-                  | inr kb ↦ right (leads_below step k a b) _ _ (leads_join step k a c k below ac kb.0) kb.1
-                ]
-            | inr ak ↦
-                elim (split step k c b q) [
-                  | inl cb ↦ right (leads_below step k a b) _ _ ak.0 (leads_join step k k c b below ak.1 cb)
-                  | inr kb ↦ right (leads_below step k a b) _ _ ak.0 kb.1
-                ]
-          ]
-      | inr is ↦ right (leads_below step k a b) _ _ (to_k step k a c is p) (from_k step k c b is q)
-    ]
-  where
-    to_k : (step : ℕ → ℕ → Bool) (k a c : ℕ) → c ≡ k → leads_below step (suc k) a c ≡ true → leads_below step k a k ≡ true
-    to_k step k a c is p =
-        let q = subst (λ (x : ℕ). leads_below step (suc k) a x ≡ true) is p in
-        elim (split step k a k q) [ inl x ↦ x | inr y ↦ y.0 ]
-
-    from_k : (step : ℕ → ℕ → Bool) (k c b : ℕ) → c ≡ k → leads_below step (suc k) c b ≡ true → leads_below step k k b ≡ true
-    from_k step k c b is q =
-        let p = subst (λ (x : ℕ). leads_below step (suc k) x b ≡ true) is q in
-        elim (split step k k b p) [ inl x ↦ x | inr y ↦ y.1 ]
-
-grown : (step : ℕ → ℕ → Bool) (k a b : ℕ) → step a b ≡ true → leads_below step k a b ≡ true
-grown step zero a b h = h
-grown step (suc k) a b h = on_left (leads_below step k a b) _ (grown step k a b h)
-
-ends_within : (step : ℕ → ℕ → Bool) (n : ℕ) → ((a b : ℕ) → step a b ≡ true → b < n) → (a b : ℕ) → Leads step a b → b < n
-ends_within step n within a b (direct _ _ h) = within a b h
-ends_within step n within a b (through _ c _ p q) = ends_within step n within c b q
-
--- where each step ends below n, the places below n are all that is gone through
-pub leads_within : (step : ℕ → ℕ → Bool) (n : ℕ) → ((a b : ℕ) → step a b ≡ true → b < n) → (a b : ℕ) → Leads step a b → leads_below step n a b ≡ true
-leads_within step n within a b (direct _ _ h) = grown step n a b h
-leads_within step n within a b (through _ c _ p q) =
-    leads_join step n a c b (ends_within step n within a c p) (leads_within step n within a c p) (leads_within step n within c b q)
+-- ---- what leads to what
 
 -- steps that agree below n lead alike
 pub leads_same : (f g : ℕ → ℕ → Bool) (n : ℕ) → ((a b : ℕ) → a < n → b < n → f a b ≡ g a b) → (k a b : ℕ) → k ≤ n → a < n → b < n → leads_below f k a b ≡ leads_below g k a b
@@ -90,14 +28,6 @@ leads_same f g n same (suc k) a b within p q =
     ∙ ap (λ x. leads_below g k a b || (leads_below g k a k && x)) (leads_same f g n same k k b (omega arith) (omega arith) q)
 
 -- ---- an invocation that precedes itself
-
-feeds_within : (t : Tables) (a b : ℕ) → feeds t a b ≡ true → b < length t.invs
-feeds_within t a b h = by (slice_get t.invs a) (slice_get t.invs b) refl h
-  where
-    by : (x y : Option Inv) → slice_get t.invs b ≡ y → feeds_at x y ≡ true → b < length t.invs
-    by (Some x) (Some y) e h = slice_get_within t.invs b y e
-    by (Some x) None e h = cc
-    by None y e h = cc
 
 pub precedes_true : (t : Tables) (k : ℕ) → precedes_itself t k ≡ true → Precedes t k k
 unfolding precedes_itself

@@ -13,13 +13,13 @@ pub mod Places
 pub mod PortLaws
 pub mod RangeLaws
 pub mod RowLaws
+pub mod RuleExamples
 pub mod RuleOrder
-pub mod RuleRows
 pub mod SampleFits
 pub mod SearchLaws
 pub mod SilentLaws
 pub mod SiteLaws
 pub mod TestLaws
+mod WriterExamples
 pub mod WriterLaws
-mod WriterRows
 pub mod WriterSamples

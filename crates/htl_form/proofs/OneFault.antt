@@ -7,7 +7,7 @@ use Rattle.htl_model.specs.declared.parts.Inv.{Inv}
 use Rattle.htl_model.specs.declared.parts.Mode.{Mode}
 use Rattle.htl_model.specs.Tables.{Tables, mode_module}
 use Rattle.htl_model.specs.Ranges.{AreInRange}
-use Rattle.htl_model.specs.FormRules.{FormRule, number_of, Part, Itself, Input, Output, Test, Site, PartBefore, InvBefore, SiteBefore, Before}
+use Rattle.htl_model.specs.FormRules.{FormRule, number_of, Part, Itself, Input, Output, Test, Site, PartBefore, InvBefore, SiteBefore, ComesBefore}
 use Rattle.htl_model.specs.Broken.{Breach, breach, PartBreaks, ModeBreaks, BreaksAt, Broken, site_of, IsFirstBroken}
 use Rattle.htl_form.specs.Found.{Found}
 use Rattle.htl_form.specs.Rules.{law_of, all_rules}
@@ -79,11 +79,11 @@ site_order a b = by (three a.mode b.mode) (inv_order a.inv b.inv a.part b.part)
     by (inr (inr more)) inv = inr (inr (inl more))
 
 -- two rules and places: one comes before the other, or they are the same
-order : (r q : FormRule) (a b : Site) → Before r a q b ⊎ ((number_of r ≡ number_of q) × SameSite a b) ⊎ Before q b r a
+pub order : (r q : FormRule) (a b : Site) → ComesBefore r a q b ⊎ ((number_of r ≡ number_of q) × SameSite a b) ⊎ ComesBefore q b r a
 order r q a b = by (three (number_of r) (number_of q)) (site_order a b)
   where
     by : (number_of r < number_of q) ⊎ (number_of r ≡ number_of q) ⊎ (number_of q < number_of r) → SiteBefore a b ⊎ SameSite a b ⊎ SiteBefore b a
-        → Before r a q b ⊎ ((number_of r ≡ number_of q) × SameSite a b) ⊎ Before q b r a
+        → ComesBefore r a q b ⊎ ((number_of r ≡ number_of q) × SameSite a b) ⊎ ComesBefore q b r a
     by (inl less) site = inl (inl less)
     by (inr (inl same)) (inl less) = inl (inr (same, less))
     by (inr (inl same)) (inr (inl is)) = inr (inl (same, is))
@@ -123,7 +123,7 @@ one_of_mode t f b judge m x at (Test l j) h n a c y z =
     let same : z.3 ≡ y.3 = cc in
     one_found (f.test m y.3) (b.test m y.3) (judge.test m y.3) h n a c y.5 (subst (λ (d : ℕ). b.test m d a c) same z.5)
 
-one_at : (t : Tables) (f : Tests) (b : Breach) → Judges t f b → (m : ℕ) (x : Mode) → slice_get t.modes m ≡ Some x
+pub one_at : (t : Tables) (f : Tests) (b : Breach) → Judges t f b → (m : ℕ) (x : Mode) → slice_get t.modes m ≡ Some x
     → (k : Option ℕ) (p : Part) (h n a c : ℕ) → BreaksAt t b m x k p h n → BreaksAt t b m x k p a c → (h ≡ a) × (n ≡ c)
 one_at t f b judge m x at None p h n a c y z = one_of_mode t f b judge m x at p h n a c y z
 one_at t f b judge m x at (Some k) p h n a c y z =
@@ -149,7 +149,7 @@ one_law l m e few =
     let rule : s.1 ≡ r.1 = cc in
     sym s.4 ∙ ap law_of rule ∙ r.4
 
-same_fault : (f g : FormFault) → f.rule ≡ g.rule → f.«module» ≡ g.«module» → f.mode ≡ g.mode → f.inv ≡ g.inv → f.have ≡ g.have → f.need ≡ g.need → f ≡ g
+pub same_fault : (f g : FormFault) → f.rule ≡ g.rule → f.«module» ≡ g.«module» → f.mode ≡ g.mode → f.inv ≡ g.inv → f.have ≡ g.have → f.need ≡ g.need → f ≡ g
 same_fault f g a b c d e h =
     let make : ℕ → ℕ → ℕ → Option ℕ → ℕ → ℕ → FormFault = λ r u m i x y. record { rule = r; «module» = u; mode = m; inv = i; have = x; need = y } in
     ap (λ r. make r f.«module» f.mode f.inv f.have f.need) a ∙ ap (λ u. make g.rule u f.mode f.inv f.have f.need) b
@@ -165,8 +165,8 @@ one_form_fault t range f g low less p q = by (order p.law q.law (site_of f p.par
         let is : s ≡ u = ap (λ m. make m s.inv s.part) at.mode ∙ ap (λ k. make u.mode k s.part) at.inv ∙ ap (make u.mode u.inv) at.part in
         subst (λ (v : Site). Broken t l v h n) is (subst (λ (x : FormRule). Broken t x s h n) same y)
 
-    by : Before p.law (site_of f p.part) q.law (site_of g q.part) ⊎ ((number_of p.law ≡ number_of q.law) × SameSite (site_of f p.part) (site_of g q.part))
-        ⊎ Before q.law (site_of g q.part) p.law (site_of f p.part) → f ≡ g
+    by : ComesBefore p.law (site_of f p.part) q.law (site_of g q.part) ⊎ ((number_of p.law ≡ number_of q.law) × SameSite (site_of f p.part) (site_of g q.part))
+        ⊎ ComesBefore q.law (site_of g q.part) p.law (site_of f p.part) → f ≡ g
     by (inl before) = absurd (q.first p.law (site_of f p.part) f.have f.need before p.broken)
     by (inr (inr after)) = absurd (p.first q.law (site_of g q.part) g.have g.need after q.broken)
     by (inr (inl same)) =

@@ -10,7 +10,7 @@ use Rattle.htl_model.specs.Ranges.{parent_of}
 use Rattle.htl_model.specs.Selections.{root_period}
 use Rattle.htl_model.specs.PeriodRules.{asked_period, first_mode, PeriodDiffers, RootPeriodDiffers, NotDivided, EndNotDivided}
 use Rattle.htl_form.specs.Found.{Found, unless}
-use Rattle.htl_form.specs.PeriodFaults.{unless_asked, module_period_fault, is_number, is_first_of_root, root_period_fault, divides, divides_fault, end_divides_fault}
+use Rattle.htl_form.specs.PeriodFaults.{unless_asked, module_period_fault, matches_number, is_first_of_root, root_period_fault, divides, divides_fault, end_divides_fault}
 use Rattle.htl_form.proofs.Finding.{Finds, finds_nothing, finds_unless}
 
 -- two numbers that differ
@@ -46,19 +46,19 @@ finds_where true o P Q f made taken = record { says = λ h n e. made h n refl (f
 finds_where false o P Q f made taken =
     record { says = λ h n e. absurd (let no : None ≡ Some (h, n) = e in cc); finds = λ h n q. absurd (let no : false ≡ true = (taken h n q).0 in cc) }
 
-at_number : (o : Option ℕ) (m : ℕ) → is_number o m ≡ true → o ≡ Some m
+at_number : (o : Option ℕ) (m : ℕ) → matches_number o m ≡ true → o ≡ Some m
 at_number (Some x) m h = let same : x ≡ m = grind (arith, nat_tests) in ap (λ (z : ℕ). Some z) same
 at_number None m h = cc
 
-number_at : (o : Option ℕ) (m : ℕ) → o ≡ Some m → is_number o m ≡ true
+number_at : (o : Option ℕ) (m : ℕ) → o ≡ Some m → matches_number o m ≡ true
 number_at (Some x) m e = let same : x ≡ m = cc in grind (arith, nat_tests)
 number_at None m e = cc
 
-parts : (o f : Option ℕ) (m : ℕ) → elim o [ Some p ↦ false | None ↦ is_number f m ] ≡ true → (o ≡ None) × (f ≡ Some m)
+parts : (o f : Option ℕ) (m : ℕ) → elim o [ Some p ↦ false | None ↦ matches_number f m ] ≡ true → (o ≡ None) × (f ≡ Some m)
 parts (Some p) f m h = cc
 parts None f m h = (refl, at_number f m h)
 
-joined : (o f : Option ℕ) (m : ℕ) → o ≡ None → f ≡ Some m → elim o [ Some p ↦ false | None ↦ is_number f m ] ≡ true
+joined : (o f : Option ℕ) (m : ℕ) → o ≡ None → f ≡ Some m → elim o [ Some p ↦ false | None ↦ matches_number f m ] ≡ true
 joined (Some p) f m a b = cc
 joined None f m a b = number_at f m b
 

@@ -1,5 +1,5 @@
 -- Items at places of a list.
-use Rattle.std.proofs.Common.{◌≡◌, ℕ, zero, suc, ◌<◌, false, List, [], ◌∷◌, length, get_or, take, replicate, All, Some, refl, subst, arith}
+use Rattle.std.proofs.Common.{◌≡◌, ℕ, zero, suc, ◌<◌, List, [], ◌∷◌, length, get_or, take, replicate, All, Some, refl, subst, arith}
 use Rattle.std.specs.Prelude.{slice_get}
 use Rattle.std.proofs.lemmas.Option.{slice_get_within, get_or_from_slice_get}
 
@@ -21,17 +21,11 @@ take_at (x ∷ xs) (suc j) (suc place) e less h = take_at xs j place e (omega ar
 pub all_at : {A : Type 0} (P : A → Type 0) (xs : List A) (k : ℕ) (x : A) → All P xs → slice_get xs k ≡ Some x → P x
 all_at P xs k x all at = subst P (get_or_from_slice_get xs k x x at) (all k x (slice_get_within xs k x at))
 
--- a list of zeros
-pub zeros_at : (n k : ℕ) → ◌≡◌ {A = ℕ} (get_or (replicate n 0) k 0) 0
-zeros_at zero k = refl
-zeros_at (suc n) zero = refl
-zeros_at (suc n) (suc k) = zeros_at n k
-
--- a list of falsehoods
-pub falses_at : (n k : ℕ) → get_or (replicate n false) k false ≡ false
-falses_at zero k = refl
-falses_at (suc n) zero = refl
-falses_at (suc n) (suc k) = falses_at n k
+-- a list of one item again and again
+pub filled_at : {A : Type 0} (x : A) (n k : ℕ) → get_or (replicate n x) k x ≡ x
+filled_at x zero k = refl
+filled_at x (suc n) zero = refl
+filled_at x (suc n) (suc k) = filled_at x n k
 
 -- there is an item at each place below the length
 pub item_at : {A : Type 0} (xs : List A) (k : ℕ) → k < length xs → (x : A) × (slice_get xs k ≡ Some x)

@@ -1,7 +1,9 @@
 -- The tests of a port's writers find what the rule says.
-use Rattle.std.proofs.Common.{◌≡◌, ℕ, zero, suc, ◌+◌, ◌<◌, ◌*◌, ◌≤◌, ◌⊎◌, Bool, true, false, cond, eqb, ltb, List, [], ◌∷◌, length, get_or, take, Some, None, refl, sym, ◌∙◌, ap, subst, arith, inl, inr}
+use Rattle.std.proofs.Common.{◌≡◌, ℕ, zero, suc, ◌+◌, ◌<◌, ◌*◌, ◌≤◌, ◌⊎◌, Bool, true, false, ◌||◌, cond, eqb, ltb, List, [], ◌∷◌, length, get_or, take, drop, drop-cons, add-one, Option, Some, None, refl, sym, ◌∙◌, ap, subst, arith, inl, inr}
 use Rattle.std.specs.Prelude.{slice_get}
+use Rattle.std.specs.List.{list_any}
 use Rattle.std.proofs.lemmas.Bool.Decides.{nat_tests}
+use Rattle.std.proofs.lemmas.List.Folds.{list_any_more}
 use Rattle.std.proofs.lemmas.List.Sums.{sum_by-cons, sum_by-le, sum_by-take-le, sum_by_more_le, count_by-le-length}
 use Rattle.std.proofs.lemmas.Option.{slice_get_within, slice_get_read, get_or_from_slice_get}
 use Rattle.std.proofs.lemmas.List.{get_or_past}
@@ -12,9 +14,11 @@ use Rattle.htl_model.specs.PortWriters.{is_port, port_uses, writers_in, port_wri
 use Rattle.htl_model.specs.Ranges.{AreInRange, IsInvInRange, IsEndInRange}
 use Rattle.htl_model.specs.Tables.{Tables}
 use Rattle.htl_form.proofs.Finding.{Finds, finds_nothing, finds_unless}
+use Rattle.htl_form.proofs.FirstLaws.{IsFirstAt, found_at, none_at}
 use Rattle.htl_form.proofs.Places.{taken_at, take_at, all_at}
+use Rattle.htl_form.specs.First.{or_else, first_from}
 use Rattle.htl_form.specs.Found.{Found, unless}
-use Rattle.htl_form.specs.PortFaults.{unwritten_fault, rewritten_fault, writers_before}
+use Rattle.htl_form.specs.PortFaults.{port_writer, first_port_writer, is_below, unwritten_fault, rewritten_fault, writers_before}
 
 -- ---- where a port is written
 
@@ -147,6 +151,155 @@ fewer_before t p k i j at out =
     sum_by_more_le (λ (x : Inv). port_uses p x.writes) t.invs k i (slice_get_within t.invs k i at) in
     let same : port_uses p (get_or t.invs k i).writes ≡ port_uses p i.writes = ap (λ (x : Inv). port_uses p x.writes) here in
     omega arith
+
+-- ---- the first invocation that writes a port
+
+-- some end is the port where the port is used
+any_uses : (p : ℕ) (ends : List End) → list_any (is_port p) ends ≡ ltb 0 (port_uses p ends)
+any_uses p [] = refl
+any_uses p (e ∷ ends) = by (is_port p e) refl (any_uses p ends)
+  where
+    some : (n m : ℕ) → n ≡ 1 + m → true ≡ ltb 0 n
+    some n m e = grind (arith, nat_tests)
+
+    by : (b : Bool) → is_port p e ≡ b → list_any (is_port p) ends ≡ ltb 0 (port_uses p ends) → (b || list_any (is_port p) ends) ≡ ltb 0 (port_uses p (e ∷ ends))
+    by true is later =
+        let one : ◌≡◌ {A = ℕ} (cond (is_port p e) 1 0) 1 = ap (λ (b : Bool). cond b 1 0) is in
+        some (port_uses p (e ∷ ends)) (port_uses p ends) (omega (arith, uses_cons p e ends, one))
+    by false is later =
+        let none : ◌≡◌ {A = ℕ} (cond (is_port p e) 1 0) 0 = ap (λ (b : Bool). cond b 1 0) is in
+        let same : port_uses p ends ≡ port_uses p (e ∷ ends) = omega (arith, uses_cons p e ends, none) in
+        later ∙ ap (ltb 0) same
+
+writes_at : (p : ℕ) (x : Inv) → list_any (is_port p) x.writes ≡ true → (place : ℕ) × (slice_get x.writes place ≡ Some (E.Port p))
+writes_at p x h = at_uses p x.writes (positive (port_uses p x.writes) (sym (any_uses p x.writes) ∙ h))
+  where
+    positive : (n : ℕ) → ltb 0 n ≡ true → 0 < n
+    positive n e = grind (arith, nat_tests)
+
+at_writes : (p : ℕ) (x : Inv) (place : ℕ) → slice_get x.writes place ≡ Some (E.Port p) → list_any (is_port p) x.writes ≡ true
+at_writes p x place h = any_uses p x.writes ∙ positive (port_uses p x.writes) (uses_at p x.writes place h)
+  where
+    positive : (n : ℕ) → 0 < n → ltb 0 n ≡ true
+    positive n e = grind (arith, nat_tests)
+
+pub given : (b : Bool) (l h : ℕ) → ◌≡◌ {A = Option ℕ} (cond b (Some l) None) (Some h) → (b ≡ true) × (l ≡ h)
+given true l h e = (refl, cc)
+given false l h e = cc
+
+pub not_given : (b : Bool) (l : ℕ) → b ≡ true → ◌≡◌ {A = Option ℕ} (cond b (Some l) None) None → ⊥
+not_given true l e h = cc
+not_given false l e h = cc
+
+no_count : (n : ℕ) → (0 < n → ⊥) → false ≡ ltb 0 n
+no_count zero h = refl
+no_count (suc n) h = absurd (h (omega arith))
+
+some_count : (n : ℕ) → 0 < n → true ≡ ltb 0 n
+some_count n h = grind (arith, nat_tests)
+
+-- it stands below a number where some invocation below that writes the port
+first_below : (t : Tables) (p k : ℕ) → is_below (first_port_writer t p) k ≡ ltb 0 (writers_in p (take k t.invs))
+first_below t p k = by (first_port_writer t p) refl
+  where
+    by : (o : Option ℕ) → first_port_writer t p ≡ o → is_below o k ≡ ltb 0 (writers_in p (take k t.invs))
+    by None e =
+        no_count (writers_in p (take k t.invs)) (λ some.
+        let w = at_writers p (take k t.invs) some in
+        let in_list = taken_at t.invs k w.0 w.2 w.3 in
+        not_given _ w.0 (at_writes p w.2 w.1 w.4) (none_at (port_writer p) t.invs e w.0 w.2 in_list.1))
+    by (Some l) e = where_first (ltb l k) refl
+      where
+        g : IsFirstAt (port_writer p) t.invs l
+        g = found_at (port_writer p) t.invs l e
+
+        here : (list_any (is_port p) g.item.writes ≡ true) × (g.place ≡ l)
+        here = given (list_any (is_port p) g.item.writes) g.place l g.gives
+
+        at_least : ltb l k ≡ false → k ≤ l
+        at_least h = grind (arith, nat_tests)
+
+        less : ltb l k ≡ true → l < k
+        less h = grind (arith, nat_tests)
+
+        where_first : (b : Bool) → ltb l k ≡ b → b ≡ ltb 0 (writers_in p (take k t.invs))
+        where_first true below =
+            let place = writes_at p g.item here.0 in
+            let low : g.place < k = omega (arith, less below, here.1) in
+            some_count (writers_in p (take k t.invs)) (writers_at p (take k t.invs) g.place place.0 g.item (take_at t.invs k g.place g.item low g.at) place.1)
+        where_first false past =
+            no_count (writers_in p (take k t.invs)) (λ some.
+            let w = at_writers p (take k t.invs) some in
+            let in_list = taken_at t.invs k w.0 w.2 w.3 in
+            let before : w.0 < g.place = omega (arith, at_least past, here.1, in_list.0) in
+            not_given _ w.0 (at_writes p w.2 w.1 w.4) (g.before w.0 w.2 before in_list.1))
+
+-- so it tells whether an output that writes the port stands before an output
+pub first_before : (t : Tables) (p k : ℕ) (i : Inv) (j : ℕ) (o : Option ℕ) → o ≡ first_port_writer t p → (is_below o k || ltb 0 (port_uses p (take j i.writes))) ≡ ltb 0 (writers_before t p k i j)
+first_before t p k i j o is =
+    ap (λ (x : Option ℕ). is_below x k || ltb 0 (port_uses p (take j i.writes))) is
+    ∙ ap (λ (b : Bool). b || ltb 0 (port_uses p (take j i.writes))) (first_below t p k)
+    ∙ sum (writers_in p (take k t.invs)) (port_uses p (take j i.writes))
+  where
+    sum : (n m : ℕ) → (ltb 0 n || ltb 0 m) ≡ ltb 0 (n + m)
+    sum zero zero = refl
+    sum zero (suc m) = grind (arith, nat_tests)
+    sum (suc n) m = grind (arith, nat_tests)
+
+-- no invocation writes a port past the tables'
+pub no_first : (t : Tables) (p : ℕ) → AreInRange t → 4096 ≤ p → first_port_writer t p ≡ None
+no_first t p r past = by (first_port_writer t p) refl
+  where
+    by : (o : Option ℕ) → first_port_writer t p ≡ o → o ≡ None
+    by None e = refl
+    by (Some l) e =
+        let g = found_at (port_writer p) t.invs l e in
+        let here = given (list_any (is_port p) g.item.writes) g.place l g.gives in
+        let place = writes_at p g.item here.0 in
+        let some : 0 < port_writers t p = writers_at p t.invs g.place place.0 g.item g.at place.1 in
+        absurd (omega (arith, some, writers_past t p r past))
+
+-- ---- a table of the first writers
+
+-- one output more of an invocation
+pub noted_more : (p k j : ℕ) (ends : List End) (d : End) (start old new : Option ℕ) → j < length ends → old ≡ or_else start (cond (list_any (is_port p) (take j ends)) (Some k) None)
+    → new ≡ or_else old (cond (is_port p (get_or ends j d)) (Some k) None) → new ≡ or_else start (cond (list_any (is_port p) (take (j + 1) ends)) (Some k) None)
+noted_more p k j ends d start old new below before is =
+    is ∙ ap (λ (o : Option ℕ). or_else o (cond (is_port p (get_or ends j d)) (Some k) None)) before
+    ∙ joined start (list_any (is_port p) (take j ends)) (is_port p (get_or ends j d))
+    ∙ ap (λ (b : Bool). or_else start (cond b (Some k) None)) (sym (list_any_more (is_port p) ends j d below))
+  where
+    joined : (o : Option ℕ) (a b : Bool) → or_else (or_else o (cond a (Some k) None)) (cond b (Some k) None) ≡ or_else o (cond (a || b) (Some k) None)
+    joined (Some l) a b = refl
+    joined None true b = refl
+    joined None false b = refl
+
+-- one invocation more
+pub first_more : (p : ℕ) (invs : List Inv) (k : ℕ) (x : Inv) (old new whole : Option ℕ) → k < length invs → x ≡ get_or invs k x
+    → or_else old (first_from (port_writer p) k (drop k invs)) ≡ whole → new ≡ or_else old (cond (list_any (is_port p) x.writes) (Some k) None)
+    → or_else new (first_from (port_writer p) (k + 1) (drop (k + 1) invs)) ≡ whole
+first_more p invs k x old new whole below at going is =
+    let rest : Option ℕ = first_from (port_writer p) (suc k) (drop (suc k) invs) in
+    let cut : drop k invs ≡ x ∷ drop (suc k) invs = drop-cons invs k x below ∙ ap (λ z. z ∷ drop (suc k) invs) (sym at) in
+    rw add-one (ap (λ (o : Option ℕ). or_else o rest) is ∙ turned old (port_writer p k x) rest ∙ ap (or_else old) (sym (ap (first_from (port_writer p) k) cut)) ∙ going)
+  where
+    turned : (a b c : Option ℕ) → or_else (or_else a b) c ≡ or_else a (or_else b c)
+    turned (Some l) b c = refl
+    turned None b c = refl
+
+-- no invocation more
+pub first_all : (p : ℕ) (invs : List Inv) (k : ℕ) (o whole : Option ℕ) → length invs ≤ k → or_else o (first_from (port_writer p) k (drop k invs)) ≡ whole → o ≡ whole
+first_all p invs k o whole past going = sym (alone o) ∙ sym (ap (or_else o) (nothing_left k invs k past)) ∙ going
+  where
+    alone : (o : Option ℕ) → or_else o None ≡ o
+    alone (Some l) = refl
+    alone None = refl
+
+    nothing_left : (k : ℕ) (xs : List Inv) (n : ℕ) → length xs ≤ n → first_from (port_writer p) k (drop n xs) ≡ None
+    nothing_left k [] zero h = refl
+    nothing_left k [] (suc n) h = refl
+    nothing_left k (x ∷ xs) zero h = absurd (omega arith)
+    nothing_left k (x ∷ xs) (suc n) h = nothing_left k xs n (omega arith)
 
 -- so a port with one writer at most has none before
 pub none_before : (t : Tables) (p k : ℕ) (i : Inv) (j : ℕ) → slice_get t.invs k ≡ Some i → slice_get i.writes j ≡ Some (E.Port p) → port_writers t p < 2

@@ -1,24 +1,24 @@
 -- What precedes what among the invocations of one mode, as rows of bits.
-use Rattle.std.proofs.Common.{◌≡◌, ◌≢◌, ◌<◌, ◌≤◌, ◌⊎◌, ℕ, zero, suc, ◌+◌, ◌-◌, ◌*◌, ◌^◌, ◌%◌, Bool, true, false, ◌&&◌, ◌||◌, cond, eqb, ltb, max, List, [], ◌∷◌, ◌++◌, length, get_or, set, take, drop, map, replicate, Option, Some, None, refl, sym, ◌∙◌, ap, subst, arith, inl, inr}
+use Rattle.std.proofs.Common.{◌≡◌, ◌≢◌, ◌<◌, ◌≤◌, ◌⊎◌, ℕ, zero, suc, ◌+◌, ◌-◌, Bool, true, false, ◌&&◌, ◌||◌, cond, eqb, ltb, List, [], ◌∷◌, ◌++◌, length, get_or, set, take, drop, map, Option, Some, None, refl, sym, ◌∙◌, ap, subst, arith, inl, inr}
 use Rattle.std.specs.Prelude.{slice_get}
-use Rattle.std.specs.Int.{bit_at, w128}
 use Rattle.std.specs.Int.Bits.{bit_or}
 use Rattle.std.specs.List.{list_any}
 use Rattle.std.proofs.lemmas.Bool.Decides.{nat_tests}
 use Rattle.std.proofs.lemmas.List.{length-map, get_or-set_same, get_or-set_other}
-use Rattle.std.proofs.lemmas.Nat.Bits.{bit_at_or, bit_at-lt, bit_at-zero, bit_at_set_same, bit_at_set_other}
-use Rattle.std.proofs.lemmas.Option.{slice_get_within, slice_get-get_or}
+use Rattle.std.proofs.lemmas.Option.{slice_get-get_or}
+use Rattle.htl_model.proofs.BitLaws.{has_bit_or}
+use Rattle.htl_model.proofs.PortChains.{leads_below, leads_from, leads_within}
+use Rattle.htl_model.proofs.PortTableLaws.{row_by_reads}
+use Rattle.htl_model.specs.Bits.{has_bit, cell}
 use Rattle.htl_model.specs.declared.parts.Inv.{Inv}
-use Rattle.htl_model.specs.declared.parts.End.{End}
-use Rattle.htl_model.specs.declared.parts.End.TheVariants as E
-use Rattle.htl_model.specs.PortOrder.{Leads, direct, through, feeds, feeds_at, is_read_from}
-use Rattle.htl_model.specs.Ranges.{AreInRange, IsInvInRange, IsEndInRange}
+use Rattle.htl_model.specs.PortOrder.{Leads, direct, through, feeds, feeds_at}
+use Rattle.htl_model.specs.PortTable.{writes_to, is_from}
+use Rattle.htl_model.specs.Ranges.{AreInRange}
 use Rattle.htl_model.specs.Tables.{Tables}
-use Rattle.htl_form.proofs.CycleLaws.{leads_from, leads_within, leads_same, precedes_true, true_precedes}
-use Rattle.htl_form.proofs.Places.{all_at, zeros_at}
-use Rattle.htl_form.proofs.TestLaws.{and_true, agree, equal, below}
-use Rattle.htl_form.specs.Cycles.{leads_below, precedes_itself}
-use Rattle.htl_form.specs.Rows.{IsRangeOf, has_bit, cell, widened, through_one, through_all, writes_to, is_from, AreWriters, follows, AreSteps}
+use Rattle.htl_form.proofs.CycleLaws.{leads_same, precedes_true, true_precedes}
+use Rattle.htl_form.proofs.TestLaws.{and_true, agree, below}
+use Rattle.htl_form.specs.Cycles.{precedes_itself}
+use Rattle.htl_form.specs.Rows.{IsRangeOf, widened, through_one, through_all, AreWriters, follows, AreSteps}
 
 -- ---- rows of bits
 
@@ -27,20 +27,11 @@ get_map g [] q h = absurd (omega arith)
 get_map g (x ∷ xs) zero h = refl
 get_map g (x ∷ xs) (suc q) h = get_map g xs q (omega arith)
 
-joined : (x y : ℕ) → x < 2 → y < 2 → eqb (max x y) 1 ≡ (eqb x 1 || eqb y 1)
-joined zero zero p q = refl
-joined zero (suc zero) p q = refl
-joined zero (suc (suc y)) p q = absurd (omega arith)
-joined (suc zero) zero p q = refl
-joined (suc zero) (suc zero) p q = refl
-joined (suc zero) (suc (suc y)) p q = absurd (omega arith)
-joined (suc (suc x)) y p q = absurd (omega arith)
-
 widened_bit : (other k row b : ℕ) → has_bit (widened other k row) b ≡ (has_bit row b || (has_bit row k && has_bit other b))
 widened_bit other k row b = by (has_bit row k)
   where
     by : (test : Bool) → has_bit (cond test (bit_or row other) row) b ≡ (has_bit row b || (test && has_bit other b))
-    by true = ap (λ x. eqb x 1) (bit_at_or row other b) ∙ joined (bit_at row b) (bit_at other b) (bit_at-lt row b) (bit_at-lt other b)
+    by true = has_bit_or row other b
     by false = nothing (has_bit row b)
       where
         nothing : (x : Bool) → x ≡ (x || false)
@@ -77,32 +68,6 @@ at_step f (x ∷ xs) (suc i) h = at_step f xs i (omega arith)
 
 -- ---- steps of the loops
 
-pub has_bit_or : (a b q : ℕ) → has_bit (bit_or a b) q ≡ (has_bit a q || has_bit b q)
-has_bit_or a b q = ap (λ x. eqb x 1) (bit_at_or a b q) ∙ joined (bit_at a q) (bit_at b q) (bit_at-lt a q) (bit_at-lt b q)
-
-pub has_bit_set : (row k q : ℕ) → k < 128 → has_bit (bit_or row (1 * 2 ^ k % 2 ^ 128)) q ≡ (has_bit row q || eqb q k)
-has_bit_set row k q h = by (eqb q k) refl
-  where
-    on_right : (b : Bool) → true ≡ (b || true)
-    on_right true = refl
-    on_right false = refl
-
-    nothing : (b : Bool) → b ≡ (b || false)
-    nothing true = refl
-    nothing false = refl
-
-    by : (b : Bool) → eqb q k ≡ b → has_bit (bit_or row (1 * 2 ^ k % 2 ^ 128)) q ≡ (has_bit row q || b)
-    by true e =
-        let is : q ≡ k = grind (arith, nat_tests) in
-        ap (λ x. has_bit (bit_or row (1 * 2 ^ k % 2 ^ 128)) x) is ∙ ap (λ x. eqb x 1) (bit_at_set_same w128 row k h) ∙ on_right (has_bit row q)
-    by false e =
-        let apart : q ≢ k = grind (arith, nat_tests) in
-        ap (λ x. eqb x 1) (bit_at_set_other w128 row k h q apart) ∙ nothing (has_bit row q)
-
--- rows of zeros
-pub no_bits : (n p q : ℕ) → cell (replicate n 0) p q ≡ false
-no_bits n p q = ap (λ x. has_bit x q) (zeros_at n p) ∙ ap (λ x. eqb x 1) (bit_at-zero q)
-
 -- one more row
 pub one_row : (f : ℕ → ℕ → Bool) (rows : List ℕ) (b row n : ℕ) → b < length rows → ((x a : ℕ) → x < b → a < n → cell rows x a ≡ f x a)
     → ((a : ℕ) → a < n → has_bit row a ≡ f b a) → (x a : ℕ) → x < b + 1 → a < n → cell (set rows b row) x a ≡ f x a
@@ -117,64 +82,32 @@ one_row f rows b row n within before here x a below is_a =
     order : (x b : ℕ) → x < b + 1 → (x < b) ⊎ (x ≡ b)
     order x b h = grind arith
 
--- one invocation more among those before number q
-pub one_writer : (w : ℕ → Bool) (q r : ℕ) (old new last : Bool) → old ≡ (ltb r q && w r) → last ≡ w q → new ≡ (old || (eqb r q && last)) → new ≡ (ltb r (q + 1) && w r)
-one_writer w q r old new last before is made = made ∙ ap (λ b. b || (eqb r q && last)) before ∙ ap (λ b. (ltb r q && w r) || (eqb r q && b)) is ∙ by (order r q)
-  where
-    order : (r q : ℕ) → (r < q) ⊎ ((r ≡ q) ⊎ (q < r))
-    order r q = grind arith
-
-    less : (r q : ℕ) (x y : Bool) → r < q → ((ltb r q && x) || (eqb r q && y)) ≡ (ltb r (q + 1) && x)
-    less r q x y h = grind (arith, nat_tests)
-
-    equal : (r q : ℕ) (x : Bool) → r ≡ q → ((ltb r q && x) || (eqb r q && x)) ≡ (ltb r (q + 1) && x)
-    equal r q x h = grind (arith, nat_tests)
-
-    more : (r q : ℕ) (x y : Bool) → q < r → ((ltb r q && x) || (eqb r q && y)) ≡ (ltb r (q + 1) && x)
-    more r q x y h = grind (arith, nat_tests)
-
-    by : (r < q) ⊎ ((r ≡ q) ⊎ (q < r)) → ((ltb r q && w r) || (eqb r q && w q)) ≡ (ltb r (q + 1) && w r)
-    by (inl h) = less r q (w r) (w q) h
-    by (inr (inl h)) = ap (λ x. (ltb r q && w r) || (eqb r q && w x)) (sym h) ∙ equal r q (w r) h
-    by (inr (inr h)) = more r q (w r) (w q) h
-
 -- ---- from the writers of each port to the steps
-
-any_same : {A : Type 0} (f g : A → Bool) (xs : List A) → ((k : ℕ) (x : A) → slice_get xs k ≡ Some x → f x ≡ g x) → list_any f xs ≡ list_any g xs
-any_same f g [] h = refl
-any_same f g (x ∷ xs) h = ap (λ b. b || list_any f xs) (h 0 x refl) ∙ ap (λ b. g x || b) (any_same f g xs (λ k y at. h (suc k) y at))
 
 -- a row that has a bit for each writer of each port that an invocation reads is the row of its steps
 pub row_is : (t : Tables) (m base n b a : ℕ) (y : Inv) (table : List ℕ) → AreInRange t → IsRangeOf t m base n → length table ≡ 4096 → AreWriters t base n table → b < n → a < n
     → slice_get t.invs (base + b) ≡ Some y → list_any (is_from table a) y.reads ≡ follows t base n b a
 row_is t m base n b a y table r w len writers is_b is_a at = by (slice_get t.invs (base + a)) refl
   where
-    sure : (x : Inv) → slice_get t.invs (base + a) ≡ Some x → follows t base n b a ≡ list_any (is_read_from x.writes) y.reads
+    sure : (x : Inv) → slice_get t.invs (base + a) ≡ Some x → follows t base n b a ≡ feeds_at (Some x) (Some y)
     sure x e =
         and_true (ltb b n) (ltb a n && feeds t (base + a) (base + b)) (below b n is_b)
         ∙ and_true (ltb a n) (feeds t (base + a) (base + b)) (below a n is_a)
         ∙ ap (λ o. feeds_at o (slice_get t.invs (base + b))) e
         ∙ ap (λ o. feeds_at (Some x) o) at
-        ∙ and_true (eqb x.mode y.mode) (list_any (is_read_from x.writes) y.reads) (equal x.mode y.mode (w.inside a x is_a e ∙ sym (w.inside b y is_b at)))
-
-    each : (x : Inv) → slice_get t.invs (base + a) ≡ Some x → (e : End) → IsEndInRange t y.mode e → is_from table a e ≡ is_read_from x.writes e
-    each x here (E.Comm c o) within = refl
-    each x here (E.Port p) within =
-        let few = slice_get_within t.ports p within.0 within.1 in
-        let short = r.few_ports in
-        writers p a (omega arith) ∙ and_true (ltb a n) (writes_to (slice_get t.invs (base + a)) p) (below a n is_a) ∙ ap (λ o. writes_to o p) here
 
     by : (o : Option Inv) → slice_get t.invs (base + a) ≡ o → list_any (is_from table a) y.reads ≡ follows t base n b a
     by (Some x) here =
-        any_same (is_from table a) (is_read_from x.writes) y.reads
-        (λ k e read. each x here e (all_at (IsEndInRange t y.mode) y.reads k e (all_at (IsInvInRange t) t.invs (base + b) y r.invs at).reads read)) ∙ sym (sure x here)
+        row_by_reads t r x y (base + a) (base + b) here at table a len
+        (λ p within. writers p a within ∙ and_true (ltb a n) (writes_to (slice_get t.invs (base + a)) p) (below a n is_a) ∙ ap (λ o. writes_to o p) here)
+        ∙ sym (sure x here)
     by None none =
         let long = w.within in
         absurd (let no : None ≡ Some (get_or t.invs (base + a) y) = sym none ∙ slice_get-get_or t.invs (base + a) y (omega arith) in cc)
 
 -- ---- from the steps to what precedes itself
 
-unfold_follows : (t : Tables) (base n b a : ℕ) → follows t base n b a ≡ true → (b < n) × (a < n) × (feeds t (base + a) (base + b) ≡ true)
+pub unfold_follows : (t : Tables) (base n b a : ℕ) → follows t base n b a ≡ true → (b < n) × (a < n) × (feeds t (base + a) (base + b) ≡ true)
 unfold_follows t base n b a h = by (ltb b n) (ltb a n) refl refl h
   where
     by : (x y : Bool) → ltb b n ≡ x → ltb a n ≡ y → (x && (y && feeds t (base + a) (base + b))) ≡ true → (b < n) × (a < n) × (feeds t (base + a) (base + b) ≡ true)
@@ -186,11 +119,11 @@ fold_follows : (t : Tables) (base n b a : ℕ) → b < n → a < n → feeds t (
 fold_follows t base n b a p q h = and_true (ltb b n) _ (below b n p) ∙ and_true (ltb a n) _ (below a n q) ∙ h
 
 -- a way among the rows is a way among the invocations, backwards
-way_out : (t : Tables) (base n b a : ℕ) → Leads (follows t base n) b a → Leads (feeds t) (base + a) (base + b)
+pub way_out : (t : Tables) (base n b a : ℕ) → Leads (follows t base n) b a → Leads (feeds t) (base + a) (base + b)
 way_out t base n b a (direct _ _ h) = direct (base + a) (base + b) (unfold_follows t base n b a h).2
 way_out t base n b a (through _ c _ p q) = through (base + a) (base + c) (base + b) (way_out t base n c a q) (way_out t base n b c p)
 
-same_mode : (t : Tables) (x y : ℕ) → feeds t x y ≡ true → (i j : Inv) × (slice_get t.invs x ≡ Some i) × (slice_get t.invs y ≡ Some j) × (i.mode ≡ j.mode)
+pub same_mode : (t : Tables) (x y : ℕ) → feeds t x y ≡ true → (i j : Inv) × (slice_get t.invs x ≡ Some i) × (slice_get t.invs y ≡ Some j) × (i.mode ≡ j.mode)
 same_mode t x y h = by (slice_get t.invs x) (slice_get t.invs y) refl refl h
   where
     by : (a b : Option Inv) → slice_get t.invs x ≡ a → slice_get t.invs y ≡ b → feeds_at a b ≡ true → (i j : Inv) × (slice_get t.invs x ≡ Some i) × (slice_get t.invs y ≡ Some j) × (i.mode ≡ j.mode)
@@ -202,7 +135,7 @@ same_mode t x y h = by (slice_get t.invs x) (slice_get t.invs y) refl refl h
     by None b p q h = cc
 
 -- what leads to an invocation of the range is in the range, by a way among the rows
-way_in : (t : Tables) (m base n : ℕ) → IsRangeOf t m base n → (x y : ℕ) → Leads (feeds t) x y → (b : ℕ) → b < n → y ≡ base + b
+pub way_in : (t : Tables) (m base n : ℕ) → IsRangeOf t m base n → (x y : ℕ) → Leads (feeds t) x y → (b : ℕ) → b < n → y ≡ base + b
     → (a : ℕ) × (a < n) × (x ≡ base + a) × Leads (follows t base n) b a
 way_in t m base n w x y (direct _ _ h) b below is =
     let s = same_mode t x y h in

@@ -4,7 +4,7 @@ use Rattle.std.specs.Prelude.{slice_get}
 use Rattle.htl_model.specs.declared.form_fault.FormFault.{FormFault}
 use Rattle.htl_model.specs.Tables.{Tables}
 use Rattle.htl_model.specs.Ranges.{AreInRange}
-use Rattle.htl_model.specs.FormRules.{FormRule, number_of, Site, Before}
+use Rattle.htl_model.specs.FormRules.{FormRule, number_of, Site, ComesBefore}
 use Rattle.htl_model.specs.Broken.{Broken, KeptTo, site_of, IsFirstBroken}
 use Rattle.htl_form.specs.Rules.{law_of, rule_number, all_rules}
 use Rattle.htl_form.specs.Tests.{tests}
@@ -28,7 +28,7 @@ kept t range none = λ law s h d few y. kept_at t range law few (λ p r is at. n
 
 -- nothing is broken before the first of a rule, where rules before it find nothing
 least_of_all : (t : Tables) → AreInRange t → (f : FormFault) (g : IsFirstAt (of_rule t) all_rules f) (first : IsFirstOfRule t (law_of g.item) (rule_number g.item) f)
-    → (law : FormRule) (s : Site) (h d : ℕ) → Before law s (law_of g.item) (site_of f first.part) → Broken t law s h d → ⊥
+    → (law : FormRule) (s : Site) (h d : ℕ) → ComesBefore law s (law_of g.item) (site_of f first.part) → Broken t law s h d → ⊥
 least_of_all t range f g first law s h d (inl less) y =
     let number = number_at g.place g.item g.at in
     let most : number_of law ≤ 12 = omega (arith, number.0, number.1) in
@@ -47,5 +47,5 @@ first t range f e =
     let number = number_at g.place g.item g.at in
     let one = rule_first t (tests t g.item) (law_of g.item) (judges t range g.item) (rule_number g.item) f g.gives in (
       omega (arith, one.rule, number.0, number.1),
-      record { law = law_of g.item; part = one.part; rule = one.rule; «module» = one.unit; broken = one.broken; first = least_of_all t range f g one },
+      record { law = law_of g.item; part = one.part; rule = one.rule; «module» = one.«module»; broken = one.broken; first = least_of_all t range f g one },
     )

@@ -23,7 +23,7 @@ told_none n u m k (Some p) e = cc
 
 pub record IsTold (n u m : ℕ) (k : Option ℕ) (o : Found) (f : FormFault) : Type 0 where
   pub rule : f.rule ≡ n
-  pub unit : f.«module» ≡ u
+  pub «module» : f.«module» ≡ u
   pub mode : f.mode ≡ m
   pub inv : f.inv ≡ k
   pub found : o ≡ Some (f.have, f.need)
@@ -32,7 +32,7 @@ told_some : (n u m : ℕ) (k : Option ℕ) (o : Found) (f : FormFault) → told 
 told_some n u m k None f e = absurd (none_some f e)
 told_some n u m k (Some p) f e =
     let same : ◌≡◌ {A = FormFault} (record { rule = n; «module» = u; mode = m; inv = k; have = p.0; need = p.1 }) f = cc in
-    subst (λ g. IsTold n u m k (Some p) g) same (record { rule = refl; unit = refl; mode = refl; inv = refl; found = refl })
+    subst (λ g. IsTold n u m k (Some p) g) same (record { rule = refl; «module» = refl; mode = refl; inv = refl; found = refl })
 
 -- ---- in a mode
 
@@ -58,7 +58,7 @@ in_mode_none t f b judge n m x at none (Some k) p h d y =
 -- the first in a mode
 pub record IsFirstHere (t : Tables) (b : Breach) (n m : ℕ) (x : Mode) (f : FormFault) : Type 0 where
   pub rule : f.rule ≡ n
-  pub unit : f.«module» ≡ x.«module»
+  pub «module» : f.«module» ≡ x.«module»
   pub mode : f.mode ≡ m
   pub part : Part
   pub breaks : BreaksAt t b m x f.inv part f.have f.need
@@ -90,7 +90,7 @@ first_inv t f b judge n m x fault g =
     let first = inv_first t f b judge g.place g.item g.at fault.have fault.need tale.found in
     record {
       rule = tale.rule;
-      unit = tale.unit;
+      «module» = tale.«module»;
       mode = tale.mode;
       part = first.part;
       breaks = subst (λ o. BreaksAt t b m x o first.part fault.have fault.need) (sym tale.inv) (g.item, g.at, eqb_same g.item.mode m both.0, first.breaks);
@@ -106,7 +106,7 @@ first_mode t f b judge n m x at fault none e =
     let first = mode_first t f b judge m x at fault.have fault.need tale.found in
     record {
       rule = tale.rule;
-      unit = tale.unit;
+      «module» = tale.«module»;
       mode = tale.mode;
       part = first.part;
       breaks = subst (λ o. BreaksAt t b m x o first.part fault.have fault.need) (sym tale.inv) first.breaks;
@@ -135,7 +135,7 @@ module_is t m x e = ap (λ (o : Option Mode). elim o [ Some y ↦ y.«module» |
 pub record IsFirstOfRule (t : Tables) (l : FormRule) (n : ℕ) (fault : FormFault) : Type 0 where
   pub part : Part
   pub rule : fault.rule ≡ n
-  pub unit : fault.«module» ≡ mode_module t fault.mode
+  pub «module» : fault.«module» ≡ mode_module t fault.mode
   pub broken : Broken t l (site_of fault part) fault.have fault.need
   pub least : (s : Site) (a c : ℕ) → SiteBefore s (site_of fault part) → Broken t l s a c → ⊥
 
@@ -159,7 +159,7 @@ rule_first t f l judge n fault e =
     record {
       part = here.part;
       rule = here.rule;
-      unit = here.unit ∙ sym (module_is t fault.mode g.item at);
+      «module» = here.«module» ∙ sym (module_is t fault.mode g.item at);
       broken = (g.item, at, subst (λ (m : ℕ). BreaksAt t (breach t l) m g.item fault.inv here.part fault.have fault.need) (sym here.mode) here.breaks);
       least = subst (λ (m : ℕ). (s : Site) (a c : ℕ) → (s.mode < m) ⊎ ((s.mode ≡ m) × InvBefore s.inv s.part fault.inv here.part) → Broken t l s a c → ⊥)
           (sym here.mode) (least_site t f l judge n fault g here);

@@ -1,9 +1,10 @@
 -- The test for concrete writers of the same finds what the rule says.
-use Rattle.std.proofs.Common.{◌≡◌, ℕ, suc, ◌<◌, ◌⊎◌, Bool, true, false, cond, not, ◌&&◌, ◌||◌, eqb, ltb, List, [], ◌∷◌, take, Option, Some, None, refl, sym, ◌∙◌, ap, subst, arith, inl, inr}
+use Rattle.std.proofs.Common.{◌≡◌, ℕ, suc, ◌<◌, Bool, true, false, cond, not, ◌&&◌, ◌||◌, eqb, ltb, List, [], ◌∷◌, take, Option, Some, None, refl, sym, ◌∙◌, ap, subst, arith, inl, inr}
 use Rattle.std.specs.Prelude.{slice_get}
 use Rattle.std.specs.List.{list_any}
 use Rattle.std.proofs.lemmas.Bool.Decides.{nat_tests}
 use Rattle.std.proofs.lemmas.Map.Keys.{any_passes_from_place}
+use Rattle.htl_base.proofs.Firsts.{first-unique}
 use Rattle.htl_model.specs.declared.parts.Inv.{Inv}
 use Rattle.htl_model.specs.declared.parts.End.{End}
 use Rattle.htl_model.specs.declared.parts.End.TheVariants as E
@@ -11,6 +12,7 @@ use Rattle.htl_model.specs.PortWriters.{OutputBefore}
 use Rattle.htl_model.specs.Ranges.{AreInRange}
 use Rattle.htl_model.specs.SecondWriters.{AreSameWrite, WritesBefore, SecondWriter}
 use Rattle.htl_model.specs.Tables.{Tables, is_concrete}
+use Rattle.htl_form.proofs.PortLaws.{given, not_given}
 use Rattle.htl_form.proofs.Finding.{Finds, finds_nothing}
 use Rattle.htl_form.proofs.FirstLaws.{found_at, none_at}
 use Rattle.htl_form.proofs.PathLaws.{together_true, true_together}
@@ -101,25 +103,11 @@ before_writes t k i j c n l x at w =
     same m o q n (inl e) h = e.1
     same m o q n (inr e) h = absurd (e.0 (same_number m q h))
 
-given : (b : Bool) (l h : ℕ) → cond b (Some l) None ≡ Some h → (b ≡ true) × (l ≡ h)
-given true l h e = (refl, cc)
-given false l h e = cc
-
-not_given : (b : Bool) (l : ℕ) → b ≡ true → cond b (Some l) None ≡ None → ⊥
-not_given true l e h = cc
-not_given false l e h = cc
-
 told_is : (c : ℕ) (o : Option ℕ) (h m : ℕ) → told_writer c o ≡ Some (h, m) → (o ≡ Some h) × (m ≡ c)
 told_is c (Some l) h m e =
     let pair : ◌≡◌ {A = ℕ × ℕ} (l, c) (h, m) = cc in
     (ap (λ (q : ℕ × ℕ). Some q.0) pair, ap (λ (q : ℕ × ℕ). q.1) (sym pair))
 told_is c None h m e = cc
-
-least : (a b : ℕ) → ((x : ℕ) → x < a → x ≡ b → ⊥) → ((x : ℕ) → x < b → x ≡ a → ⊥) → a ≡ b
-least a b p q = elim (order a b) [ inl less ↦ absurd (q a less refl) | inr rest ↦ elim rest [ inl is ↦ is | inr more ↦ absurd (p b more refl) ] ]
-  where
-    order : (a b : ℕ) → (a < b) ⊎ ((a ≡ b) ⊎ (b < a))
-    order a b = grind arith
 
 concrete_writer : (t : Tables) (k : ℕ) (i : Inv) (j c n : ℕ) → AreInRange t → (b : Bool) → is_concrete t i ≡ b
     → Finds (cond b (told_writer c (first_writer t k i j c n)) None) (SecondWriter t k i j (E.Comm c n))
@@ -148,8 +136,8 @@ concrete_writer t k i j c n r true is =
         let g = found_at (writer_before t k i j c n) t.invs l e in
         let here = given (rivals t i c n g.item (outputs_before k j g.place g.item)) g.place l g.gives in
         let same : g.place ≡ h =
-        least g.place h (λ x less eq. not_given _ h (before_writes t k i j c n h w.0 w.1 w) (g.before h w.0 (subst (λ (z : ℕ). z < g.place) eq less) w.1))
-        (λ x less eq. p.3 g.place (subst (λ (z : ℕ). z < h) eq less) (writes_before t k i j c n g.place g.item r g.at here.0)) in
+        first-unique (WritesBefore t k i j c n) g.place h (writes_before t k i j c n g.place g.item r g.at here.0) w
+        (λ x less y. not_given _ x (before_writes t k i j c n x y.0 y.1 y) (g.before x y.0 less y.1)) p.3 in
         let first : l ≡ h = sym here.1 ∙ same in
         let second : m ≡ c = p.0 in
         cc

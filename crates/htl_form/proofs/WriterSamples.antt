@@ -1,7 +1,8 @@
 -- Small tables that break one of the rules on writers and cycles, and tables that just keep it.
-use Rattle.std.specs.Prelude.{ℕ, Bool, false, List, [], ◌∷◌, Option, None, pos, codes, map}
+use Rattle.std.specs.Prelude.{ℕ, Bool, false, List, [], ◌∷◌, None, pos, codes, map}
 use Rattle.htl_base.specs.declared.Ty.{Ty}
 use Rattle.htl_base.specs.declared.Ty.TheVariants.{Int as IntTy}
+use Rattle.htl_model.proofs.Sources.{module_named}
 use Rattle.htl_model.specs.declared.parts.Comm.{Comm}
 use Rattle.htl_model.specs.declared.parts.Mode.{Mode}
 use Rattle.htl_model.specs.declared.parts.Module.{Module}
@@ -24,9 +25,6 @@ task n u a i = record { name = n; «module» = u; is_abstract = a; worst = 1; in
 
 abbrev pub mode : List ℕ → ℕ → Mode
 mode n u = record { name = n; «module» = u; period = 10 }
-
-abbrev pub unit : List ℕ → Option ℕ → ℕ → Module
-unit n parent start = record { name = n; parent = parent; start = start }
 
 abbrev pub comm : Comm
 comm = record { name = codes "u"; ty = IntTy; sensor = false; period = 1; init = pos 0 }
@@ -53,7 +51,7 @@ one_mode invs =
     record {
       comms = comm ∷ [];
       modes = mode (codes "m") 0 ∷ [];
-      modules = unit (codes "M") None 0 ∷ [];
+      modules = module_named (codes "M") None 0 ∷ [];
       ports = port (codes "p") ∷ port (codes "q") ∷ port (codes "r") ∷ [];
       tasks = tasks_of three_names concrete invs;
       invs = invs;

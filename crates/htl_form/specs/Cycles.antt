@@ -1,14 +1,10 @@
 -- What the test for cycles of ports finds.
-use Rattle.std.specs.Prelude.{ℕ, zero, suc, ◌+◌, Bool, false, cond, eqb, not, ◌&&◌, ◌||◌, List, [], ◌∷◌, length, slice_get, Option, Some, None}
+use Rattle.std.specs.Prelude.{ℕ, zero, suc, Bool, false, cond, eqb, not, ◌&&◌, List, [], ◌∷◌, length, slice_get, Option, Some, None}
 use Rattle.htl_model.specs.declared.parts.Inv.{Inv}
+use Rattle.htl_model.proofs.PortChains.{leads_below, count_below}
 use Rattle.htl_model.specs.PortOrder.{feeds}
 use Rattle.htl_model.specs.Tables.{Tables}
 use Rattle.htl_form.specs.Found.{Found, unless}
-
--- a leads to b, by steps that go through places below k alone
-abbrev pub leads_below : (ℕ → ℕ → Bool) → ℕ → ℕ → ℕ → Bool
-leads_below step zero a b = step a b
-leads_below step (suc k) a b = leads_below step k a b || (leads_below step k a k && leads_below step k k b)
 
 -- whether an invocation precedes itself by the ports
 unfoldable pub precedes_itself : Tables → ℕ → Bool
@@ -26,11 +22,6 @@ is_on_cycle t m k = is_of_mode m (slice_get t.invs k) && precedes_itself t k
 abbrev pub numbers_below : (ℕ → Bool) → ℕ → List ℕ
 numbers_below p zero = []
 numbers_below p (suc n) = cond (p n) (n ∷ numbers_below p n) (numbers_below p n)
-
--- how many they are
-abbrev pub count_below : (ℕ → Bool) → ℕ → ℕ
-count_below p zero = 0
-count_below p (suc n) = count_below p n + cond (p n) 1 0
 
 -- how many invocations of the mode precede themselves
 abbrev pub cycle_count : Tables → ℕ → ℕ

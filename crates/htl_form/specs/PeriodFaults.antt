@@ -18,13 +18,13 @@ unless_asked x (Some y) = unless (eqb x y) x y
 abbrev pub module_period_fault : Tables → Mode → Found
 module_period_fault t x = unless_asked x.period (asked_period t x.«module»)
 
-abbrev pub is_number : Option ℕ → ℕ → Bool
-is_number (Some x) n = eqb x n
-is_number None n = false
+abbrev pub matches_number : Option ℕ → ℕ → Bool
+matches_number (Some x) n = eqb x n
+matches_number None n = false
 
 -- whether a mode is the first of a root module
 abbrev pub is_first_of_root : Tables → ℕ → ℕ → Bool
-is_first_of_root t m u = elim (parent_of t u) [ Some p ↦ false | None ↦ is_number (first_mode t u) m ]
+is_first_of_root t m u = elim (parent_of t u) [ Some p ↦ false | None ↦ matches_number (first_mode t u) m ]
 
 abbrev pub root_period_fault : Tables → ℕ → Mode → Found
 root_period_fault t m x = cond (is_first_of_root t m x.«module») (unless_asked x.period (root_period t)) None

@@ -1,11 +1,26 @@
 -- What the tests of a port's writers find.
-use Rattle.std.specs.Prelude.{ℕ, ◌+◌, eqb, ltb, take, None}
+use Rattle.std.specs.Prelude.{ℕ, ◌+◌, Bool, false, cond, eqb, ltb, take, Option, Some, None}
+use Rattle.std.specs.List.{list_any}
 use Rattle.htl_model.specs.declared.parts.Inv.{Inv}
 use Rattle.htl_model.specs.declared.parts.End.{End}
 use Rattle.htl_model.specs.declared.parts.End.TheVariants as E
-use Rattle.htl_model.specs.PortWriters.{port_uses, writers_in, port_writers}
+use Rattle.htl_model.specs.PortWriters.{is_port, port_uses, writers_in, port_writers}
 use Rattle.htl_model.specs.Tables.{Tables}
+use Rattle.htl_form.specs.First.{first_from}
 use Rattle.htl_form.specs.Found.{Found, unless}
+
+-- the number of an invocation that writes the port
+abbrev pub port_writer : ℕ → ℕ → Inv → Option ℕ
+port_writer p l x = cond (list_any (is_port p) x.writes) (Some l) None
+
+-- the first invocation that writes the port
+abbrev pub first_port_writer : Tables → ℕ → Option ℕ
+first_port_writer t p = first_from (port_writer p) 0 t.invs
+
+-- whether there is a number, and it is below k
+abbrev pub is_below : Option ℕ → ℕ → Bool
+is_below (Some l) k = ltb l k
+is_below None k = false
 
 -- how many outputs that write the port stand before output j of invocation k, which is i
 abbrev pub writers_before : Tables → ℕ → ℕ → Inv → ℕ → ℕ

@@ -1,13 +1,10 @@
 -- What precedes what among the invocations of one mode, as rows of bits.
-use Rattle.std.specs.Prelude.{◌≡◌, ◌≤◌, ◌<◌, ℕ, zero, suc, ◌+◌, Bool, false, cond, eqb, ltb, ◌&&◌, List, get_or, map, length, slice_get, Option, Some, None}
-use Rattle.std.specs.Int.{bit_at}
+use Rattle.std.specs.Prelude.{◌≡◌, ◌≤◌, ◌<◌, ℕ, zero, suc, ◌+◌, Bool, false, cond, ltb, ◌&&◌, List, get_or, map, length, slice_get, Some}
 use Rattle.std.specs.Int.Bits.{bit_or}
-use Rattle.std.specs.List.{list_any}
 use Rattle.htl_model.specs.declared.parts.Inv.{Inv}
-use Rattle.htl_model.specs.declared.parts.End.{End}
-use Rattle.htl_model.specs.declared.parts.End.TheVariants as E
+use Rattle.htl_model.specs.Bits.{has_bit, cell}
 use Rattle.htl_model.specs.PortOrder.{feeds}
-use Rattle.htl_model.specs.PortWriters.{is_port}
+use Rattle.htl_model.specs.PortTable.{writes_to}
 use Rattle.htl_model.specs.Tables.{Tables}
 use Rattle.htl_form.specs.Cycles.{precedes_itself}
 
@@ -24,14 +21,7 @@ pub record IsStartOf (t : Tables) (m k : ℕ) : Type 0 where
   pub below : (q : ℕ) (i : Inv) → q < k → slice_get t.invs q ≡ Some i → i.mode < m
   pub above : (q : ℕ) (i : Inv) → k ≤ q → slice_get t.invs q ≡ Some i → m ≤ i.mode
 
--- ---- bits
-
-abbrev pub has_bit : ℕ → ℕ → Bool
-has_bit row k = eqb (bit_at row k) 1
-
--- whether row a has bit b
-abbrev pub cell : List ℕ → ℕ → ℕ → Bool
-cell rows a b = has_bit (get_or rows a 0) b
+-- ---- rows that are widened
 
 -- a row, with another row where it has bit k
 abbrev pub widened : ℕ → ℕ → ℕ → ℕ
@@ -45,16 +35,6 @@ through_all zero rows = rows
 through_all (suc k) rows = through_one (through_all k rows) k
 
 -- ---- the writers of each port
-
--- whether the invocation writes the port
-abbrev pub writes_to : Option Inv → ℕ → Bool
-writes_to (Some x) p = list_any (is_port p) x.writes
-writes_to None p = false
-
--- the end is a port that invocation q of the table writes
-abbrev pub is_from : List ℕ → ℕ → End → Bool
-is_from table q (E.Comm c n) = false
-is_from table q (E.Port p) = cell table p q
 
 -- the table has for each port a bit for each of the n invocations from `base` on that writes it
 abbrev pub AreWriters : Tables → ℕ → ℕ → List ℕ → Type 0

@@ -1,10 +1,11 @@
 -- What is counted once over the tables before their ends are judged.
-use Rattle.std.specs.Prelude.{◌≡◌, ◌<◌, ℕ, Bool, false, List, get_or, slice_get, Some}
+use Rattle.std.specs.Prelude.{◌≡◌, ◌<◌, ℕ, Bool, false, List, get_or, slice_get, Some, None}
 use Rattle.htl_model.specs.declared.parts.Inv.{Inv}
 use Rattle.htl_model.specs.PortWriters.{port_writers}
 use Rattle.htl_model.specs.Tables.{Tables}
 use Rattle.htl_form.specs.Apart.{AreApart}
 use Rattle.htl_form.specs.Cycles.{precedes_itself}
+use Rattle.htl_form.specs.PortFaults.{first_port_writer}
 use Rattle.htl_form.specs.declared.survey.Survey.{Survey}
 
 -- the marks say of each invocation whether it precedes itself
@@ -15,6 +16,8 @@ AreCycleMarks t marks = (k : ℕ) (i : Inv) → slice_get t.invs k ≡ Some i �
 pub record IsSurveyOf (t : Tables) (survey : Survey) : Type 0 where
   -- how many outputs write each port
   pub writers : (p : ℕ) → p < 4096 → get_or survey.writers p 0 ≡ port_writers t p
+  -- the first invocation that writes each port
+  pub first_writers : (p : ℕ) → p < 4096 → get_or survey.first_writers p None ≡ first_port_writer t p
   -- which invocations precede themselves
   pub on_cycle : AreCycleMarks t survey.on_cycle
   -- some of the invocations that write nothing that an earlier concrete one writes

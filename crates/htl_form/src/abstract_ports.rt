@@ -55,7 +55,7 @@ fn is_marked(t: &Tables, ports: &AbstractPorts, port: u16) -> bool
     requires { MarksPorts (is_abstractly_written t.now) ports.now.marks }
     ensures { result ≡ is_abstractly_written t.now port }
 {
-    let _parts = t.parts();
+    t.keeps_ranges();
     if (port as usize) < ports.marks.len() {
         ports.marks[port as usize]
     } else {

@@ -13,7 +13,7 @@ pub fn form(t: &Tables) -> Result<(), FormFault>
     ensures kept { OnOk result (KeptTo t.now 12) }
     ensures first { IfErr result (λ f. (f.rule ≤ 12) × IsFirstBroken t.now f) }
 {
-    let _parts = t.parts();
+    t.keeps_ranges();
     let overview = Overview::of(t);
     match first_fault(t, &overview, &RULES) {
         Some(fault) => Err(fault),

@@ -28,7 +28,7 @@ fn is_apart(
     requires once { once ≡ true → IsDistinct eqb (keys_from t.now base n) }
     ensures { result ≡ true → IsApart t.now (base + q) }
 {
-    let _parts = t.parts();
+    t.keeps_ranges();
     let inv = inv_at(t, base + q);
     if some_taken(inv.writes.as_slice(), taken) {
         return false;

@@ -1,13 +1,15 @@
 // Form rule 9: ports make no cycle.
 ghost use Rattle.std.specs.Prelude.{◌≡◌, ◌≤◌, ◌<◌, ◌+◌, ℕ, false, Some, length, get_or, slice_get};
 ghost use Rattle.htl_form.specs.Cycles.{is_on_cycle as is_on_cycle_of, cycle_count as cycle_count_of, cycle_fault as cycle_fault_of};
-ghost use Rattle.htl_form.specs.Rows.{cell, IsRangeOf, AreMarked};
+ghost use Rattle.htl_form.specs.Rows.{IsRangeOf, AreMarked};
+ghost use Rattle.htl_model.specs.Bits.{cell};
 ghost use Rattle.htl_form.specs.Surveys.{AreCycleMarks, IsSurveyOf};
 
 use crate::items::{inv_at, inv_count, mode_count};
 use crate::ranges::range_of;
-use crate::rows::{fill_rows, fill_writers, has_bit, through_all};
+use crate::rows::{fill_rows, fill_writers, through_all};
 use crate::survey::Survey;
+use htl_model::bits::has_bit;
 use htl_model::{Inv, Tables};
 
 // Marks for each of the `n` invocations from `base` on whether its row has its own bit.
@@ -43,7 +45,7 @@ pub fn mark_cycles(t: &Tables, marks: &mut [bool])
     requires { length t.now.invs ≤ length marks.old }
     ensures { AreCycleMarks t.now marks.new }
 {
-    let _parts = t.parts();
+    t.keeps_ranges();
     let modes = mode_count(t);
     for m in 0..modes {
         let range = range_of(t, m as u16);
@@ -82,7 +84,7 @@ pub fn cycle_fault(t: &Tables, survey: &Survey, k: u16, inv: &Inv) -> Option<(u6
     requires inv { slice_get t.now.invs k ≡ Some inv.now }
     ensures { result ≡ cycle_fault_of t.now k inv.now }
 {
-    let _parts = t.parts();
+    t.keeps_ranges();
     if survey.on_cycle[k as usize] {
         Some((cycle_count(t, survey, inv.mode) as u64, 0))
     } else {

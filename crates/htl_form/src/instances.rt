@@ -56,7 +56,7 @@ fn collect(t: &Tables, base: usize, n: usize, keys: &mut [u64]) -> usize
     requires room { n * 256 ≤ length keys.old }
     ensures { IsFilled keys.old 0 keys.new result (keys_from t.now base n) }
 {
-    let _parts = t.parts();
+    t.keeps_ranges();
     let mut len = 0;
     for q in 0..n {
         let inv = inv_at(t, base + q);

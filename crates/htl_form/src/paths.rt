@@ -12,9 +12,9 @@ fn parent_mode(t: &Tables, mode: u16) -> Option<u16>
     ensures { result ≡ parent_mode_of t.now mode }
 {
     let modules = t.parts().modules.as_slice();
-    let unit = mode_module(t, mode) as usize;
-    if unit < modules.len() {
-        modules[unit].parent
+    let module = mode_module(t, mode) as usize;
+    if module < modules.len() {
+        modules[module].parent
     } else {
         None
     }

@@ -1,9 +1,10 @@
 // Form rule 8: a port that is read has exactly one writer, and any port at most one.
-ghost use Rattle.std.specs.Prelude.{◌≡◌, ◌≤◌, ◌<◌, ◌+◌, ◌^◌, ◌*◌, ℕ, length, get_or, take, slice_get, cond, Some, All};
-ghost use Rattle.htl_form.specs.PortFaults.{unwritten_fault as unwritten_fault_of, rewritten_fault as rewritten_fault_of, writers_before as writers_before_of};
+ghost use Rattle.std.specs.Prelude.{◌≡◌, ◌≤◌, ◌<◌, ◌+◌, ℕ, length, get_or, slice_get, cond, ltb, Some, None};
+ghost use Rattle.std.specs.List.{list_any};
+ghost use Rattle.htl_form.specs.First.{or_else};
+ghost use Rattle.htl_form.specs.PortFaults.{unwritten_fault as unwritten_fault_of, rewritten_fault as rewritten_fault_of, writers_before as writers_before_of, first_port_writer, is_below as is_below_of};
 ghost use Rattle.htl_form.specs.Surveys.{IsSurveyOf};
-ghost use Rattle.htl_model.specs.PortWriters.{is_port as is_port_of, port_uses, writers_in, port_writers};
-ghost use Rattle.htl_model.specs.Ranges.{AreInRange};
+ghost use Rattle.htl_model.specs.PortWriters.{is_port as is_port_of, port_uses, port_writers};
 
 use crate::survey::Survey;
 use htl_model::{End, Inv, Tables};
@@ -23,21 +24,6 @@ fn uses(port: u16, ends: &[End]) -> u32
         }
     }
     n
-}
-
-/// How many outputs of the first invocations go to the port.
-fn writers_below(t: &Tables, port: u16, count: usize) -> u32
-    requires { count ≤ length t.now.invs }
-    ensures count { result ≡ writers_in port (take count t.now.invs) }
-    ensures few { result ≤ 524288 }
-{
-    let invs = t.parts().invs.as_slice();
-    let mut sum = 0u32;
-    for k in 0..count {
-        let inv = &invs[k];
-        sum += uses(port, inv.writes.as_slice());
-    }
-    sum
 }
 
 // Counts an end that is a port.
@@ -74,12 +60,45 @@ pub fn count_writers(t: &Tables, counts: &mut [u32])
     }
 }
 
+// Notes that invocation `k` writes the end, if that is a port that none is noted to write.
+fn note_end(end: End, k: u16, firsts: &mut [Option<u16>])
+    ensures { (p : ℕ) → p < length firsts.old → get_or firsts.new p None ≡ or_else (get_or firsts.old p None) (cond (is_port_of p end) (Some k) None) }
+{
+    if let End::Port { port } = end {
+        if (port as usize) < firsts.len() && firsts[port as usize].is_none() {
+            firsts[port as usize] = Some(k);
+        }
+    }
+}
+
+// Notes the ports that invocation `k` writes and none is noted to write.
+fn note_ends(ends: &[End], k: u16, firsts: &mut [Option<u16>])
+    ensures { (p : ℕ) → p < length firsts.old → get_or firsts.new p None ≡ or_else (get_or firsts.old p None) (cond (list_any (is_port_of p) ends.now) (Some k) None) }
+{
+    for j in 0..ends.len() {
+        note_end(ends[j], k, firsts);
+    }
+}
+
+/// Notes for each port the first invocation that writes it.
+pub fn note_first_writers(t: &Tables, firsts: &mut [Option<u16>])
+    requires { (p : ℕ) → get_or firsts.old p None ≡ None }
+    ensures { (p : ℕ) → p < length firsts.old → get_or firsts.new p None ≡ first_port_writer t.now p }
+{
+    t.keeps_ranges();
+    let invs = t.parts().invs.as_slice();
+    for k in 0..invs.len() {
+        let inv = &invs[k];
+        note_ends(inv.writes.as_slice(), k as u16, firsts);
+    }
+}
+
 /// How many outputs write the port.
 fn writers(t: &Tables, survey: &Survey, port: u16) -> u32
     requires { IsSurveyOf t.now survey.now }
     ensures { result ≡ port_writers t.now port }
 {
-    let _parts = t.parts();
+    t.keeps_ranges();
     if port < 4096 {
         survey.writers[port as usize]
     } else {
@@ -87,15 +106,39 @@ fn writers(t: &Tables, survey: &Survey, port: u16) -> u32
     }
 }
 
-/// How many outputs that write the port stand before output `j` of invocation `k`.
-fn writers_before(t: &Tables, port: u16, k: u16, inv: &Inv, j: usize) -> u32
+/// The first invocation that writes the port.
+fn first_writer(t: &Tables, survey: &Survey, port: u16) -> Option<u16>
+    requires { IsSurveyOf t.now survey.now }
+    ensures { result ≡ first_port_writer t.now port }
+{
+    t.keeps_ranges();
+    if port < 4096 {
+        survey.first_writers[port as usize]
+    } else {
+        None
+    }
+}
+
+// Whether there is a number, and it is below another.
+fn is_below(found: Option<u16>, k: u16) -> bool
+    ensures { result ≡ is_below_of found k }
+{
+    match found {
+        Some(l) => l < k,
+        None => false,
+    }
+}
+
+/// Whether an output that writes the port stands before output `j` of invocation `k`.
+fn is_written_before(t: &Tables, survey: &Survey, port: u16, k: u16, inv: &Inv, j: usize) -> bool
+    requires survey { IsSurveyOf t.now survey.now }
     requires inv { slice_get t.now.invs k ≡ Some inv.now }
     requires j { j < length inv.now.writes }
-    ensures { result ≡ writers_before_of t.now port k inv.now j }
+    ensures { result ≡ ltb 0 (writers_before_of t.now port k inv.now j) }
 {
-    let _parts = t.parts();
+    t.keeps_ranges();
     let writes = inv.writes.as_slice();
-    writers_below(t, port, k as usize) + uses(port, &writes[..j])
+    is_below(first_writer(t, survey, port), k) || 0 < uses(port, &writes[..j])
 }
 
 /// An input that reads a port that no output writes.
@@ -135,9 +178,9 @@ pub fn rewritten_fault(
     if count < 2 {
         return None;
     }
-    if writers_before(t, port, k, inv, j) == 0 {
-        None
-    } else {
+    if is_written_before(t, survey, port, k, inv, j) {
         Some((count as u64, 1))
+    } else {
+        None
     }
 }

@@ -1,4 +1,4 @@
-// Where the invocations of a mode stand in the list.
+//! Where the invocations of a mode stand in the list.
 ghost use Rattle.htl_form.specs.Rows.{IsRangeOf, IsStartOf};
 
 use crate::items::{inv_at, inv_count};
@@ -15,7 +15,7 @@ pub struct ModeRange {
 fn start_of(t: &Tables, mode: usize) -> usize
     ensures { IsStartOf t.now mode result }
 {
-    let _parts = t.parts();
+    t.keeps_ranges();
     let count = inv_count(t);
     for k in 0..count {
         if mode <= inv_at(t, k).mode as usize {
@@ -29,7 +29,7 @@ fn start_of(t: &Tables, mode: usize) -> usize
 pub fn range_of(t: &Tables, mode: u16) -> ModeRange
     ensures { IsRangeOf t.now mode result.base result.count }
 {
-    let _parts = t.parts();
+    t.keeps_ranges();
     let base = start_of(t, mode as usize);
     let end = start_of(t, mode as usize + 1);
     ModeRange {

@@ -208,17 +208,17 @@ fn at_mode(t: &Tables, rule: Rule, m: u16, mode: &Mode) -> Option<(u64, u64)>
 // What was found, told with its rule and site.
 fn told(
     rule: u8,
-    unit: u16,
+    module: u16,
     m: u16,
     inv: Option<u16>,
     found: Option<(u64, u64)>,
 ) -> Option<FormFault>
-    ensures { result ≡ told_of rule unit m inv found }
+    ensures { result ≡ told_of rule «module» m inv found }
 {
     match found {
         Some((have, need)) => Some(FormFault {
             rule,
-            module: unit,
+            module,
             mode: m,
             inv,
             have,
@@ -232,19 +232,19 @@ fn inv_in_mode(
     t: &Tables,
     overview: &Overview,
     rule: Rule,
-    unit: u16,
+    module: u16,
     m: u16,
     k: u16,
     inv: &Inv,
 ) -> Option<FormFault>
     requires overview { IsOverviewOf t.now overview.now }
     requires inv { slice_get t.now.invs k ≡ Some inv.now }
-    ensures { result ≡ inv_in_mode_of (tests t.now rule) (rule_number rule) unit m k inv.now }
+    ensures { result ≡ inv_in_mode_of (tests t.now rule) (rule_number rule) «module» m k inv.now }
 {
     if inv.mode == m {
         told(
             rule.number(),
-            unit,
+            module,
             m,
             Some(k),
             at_inv(t, overview, rule, k, inv),
@@ -254,13 +254,13 @@ fn inv_in_mode(
     }
 }
 
-fn first_inv(t: &Tables, overview: &Overview, rule: Rule, unit: u16, m: u16) -> Option<FormFault>
+fn first_inv(t: &Tables, overview: &Overview, rule: Rule, module: u16, m: u16) -> Option<FormFault>
     requires { IsOverviewOf t.now overview.now }
-    ensures { result ≡ first_from (inv_in_mode_of (tests t.now rule) (rule_number rule) unit m) 0 t.now.invs }
+    ensures { result ≡ first_from (inv_in_mode_of (tests t.now rule) (rule_number rule) «module» m) 0 t.now.invs }
 {
     let invs = t.parts().invs.as_slice();
     for k in 0..invs.len() {
-        if let Some(fault) = inv_in_mode(t, overview, rule, unit, m, k as u16, &invs[k]) {
+        if let Some(fault) = inv_in_mode(t, overview, rule, module, m, k as u16, &invs[k]) {
             return Some(fault);
         }
     }

@@ -3,7 +3,7 @@ ghost use Rattle.htl_form.specs.Surveys.{IsSurveyOf};
 
 use crate::apart::mark_apart;
 use crate::cycles::mark_cycles;
-use crate::ports::count_writers;
+use crate::ports::{count_writers, note_first_writers};
 use htl_model::Tables;
 
 /// Counts over the whole tables, so that each end is judged in a few steps.
@@ -11,6 +11,8 @@ use htl_model::Tables;
 pub struct Survey {
     /// For each port how many outputs write it.
     pub writers: [u32; 4096],
+    /// For each port the first invocation that writes it.
+    pub first_writers: [Option<u16>; 4096],
     /// For each invocation whether it precedes itself by the ports.
     pub on_cycle: [bool; 2048],
     /// For each invocation whether it surely writes nothing that an earlier concrete one writes.
@@ -22,15 +24,18 @@ impl Survey {
     pub fn of(t: &Tables) -> Survey
         ensures { IsSurveyOf t.now result }
     {
-        let _parts = t.parts();
+        t.keeps_ranges();
         let mut writers = [0u32; 4096];
         count_writers(t, &mut writers);
+        let mut first_writers = [None; 4096];
+        note_first_writers(t, &mut first_writers);
         let mut on_cycle = [false; 2048];
         mark_cycles(t, &mut on_cycle);
         let mut apart = [false; 2048];
         mark_apart(t, &mut apart);
         Survey {
             writers,
+            first_writers,
             on_cycle,
             apart,
         }

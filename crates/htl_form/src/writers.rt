@@ -102,7 +102,7 @@ pub fn writer_fault(
     requires output { slice_get inv.now.writes j ≡ Some end }
     ensures { result ≡ writer_fault_of t.now k inv.now j end }
 {
-    let _parts = t.parts();
+    t.keeps_ranges();
     match end {
         End::Comm { comm, instance } => {
             if !is_concrete(t, inv) || survey.apart[k as usize] {

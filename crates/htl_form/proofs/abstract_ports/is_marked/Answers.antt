@@ -3,4 +3,4 @@ use Rattle.htl_form.proofs.AbstractLaws.{beyond}
 use Rattle.htl_form.proofs.abstract_ports.is_marked.Goals as goal
 
 pub returns-else-port-lt4096 : goal.returns-else-port-lt4096
-returns-else-port-lt4096 c = sym (beyond c.args.t.now c.args.port c.parts-parts.ensures.ranges (omega arith))
+returns-else-port-lt4096 c = sym (beyond c.args.t.now c.args.port c.keeps_ranges.ensures.ranges (omega arith))

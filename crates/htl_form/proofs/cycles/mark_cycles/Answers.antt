@@ -14,4 +14,4 @@ loop-m-preserved c =
 
 pub returns : goal.returns
 returns c = λ k i at.
-    c.loop-m.invariant.marked k i at (omega (arith, (all_at (IsInvInRange c.args.t.now) c.args.t.now.invs k i c.parts-parts.ensures.ranges.invs at).owner))
+    c.loop-m.invariant.marked k i at (omega (arith, (all_at (IsInvInRange c.args.t.now) c.args.t.now.invs k i c.keeps_ranges.ensures.ranges.invs at).owner))

@@ -1,5 +1,5 @@
 use Rattle.std.proofs.Common.{◌≡◌, ◌≤◌, ◌<◌, ◌+◌, ℕ, false, length, get_or}
-use Rattle.htl_form.specs.Rows.{cell}
+use Rattle.htl_model.specs.Bits.{cell}
 use Rattle.htl_form.proofs.cycles.mark_diagonal.Given as goal
 
 abbrev pub invariant-loop-q : goal.invariant-loop-q

@@ -1,6 +1,7 @@
 use Rattle.std.proofs.Common.{◌∙◌, ap, arith}
-use Rattle.htl_form.specs.Rows.{cell}
-use Rattle.htl_form.proofs.RowLaws.{no_bits, diagonal}
+use Rattle.htl_model.specs.Bits.{cell}
+use Rattle.htl_model.proofs.BitLaws.{no_bits}
+use Rattle.htl_form.proofs.RowLaws.{diagonal}
 use Rattle.htl_form.proofs.cycles.mark_mode.Goals as goal
 
 pub fill_writers-requires-clause-empty : goal.fill_writers-requires-clause-empty

@@ -1,8 +1,8 @@
 use Rattle.std.proofs.Common.{◌≡◌, drop}
 use Rattle.std.specs.Prelude.{slice_get}
 use Rattle.htl_model.specs.Lists.{places_from}
-use Rattle.htl_model.specs.Selections.{mode_of_unit}
+use Rattle.htl_model.specs.Selections.{mode_of_module}
 use Rattle.htl_form.proofs.periods.first_mode.Given as goal
 
 abbrev pub invariant-loop-m : goal.invariant-loop-m
-invariant-loop-m l = slice_get (places_from (mode_of_unit l.unit) l.m (drop l.m l.modes)) 0 ≡ slice_get (places_from (mode_of_unit l.unit) 0 l.modes) 0
+invariant-loop-m l = slice_get (places_from (mode_of_module l.«module») l.m (drop l.m l.modes)) 0 ≡ slice_get (places_from (mode_of_module l.«module») 0 l.modes) 0

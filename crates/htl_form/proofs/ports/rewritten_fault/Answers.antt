@@ -11,5 +11,5 @@ returns-then-count-lt2 c =
     none_before c.args.t.now c.in-Port.port c.args.k c.args.inv.now c.args.j c.requires.inv (c.requires.output ∙ ap (λ e. Some e) c.in-Port.is) few
     ∙ ap (λ e. rewritten_fault c.args.t.now c.args.k c.args.inv.now c.args.j e) (sym c.in-Port.is)
 
-pub writers_before-requires-clause-j : goal.writers_before-requires-clause-j
-writers_before-requires-clause-j c = slice_get_within c.args.inv.now.writes c.args.j c.args.end c.requires.output
+pub is_written_before-requires-clause-j : goal.is_written_before-requires-clause-j
+is_written_before-requires-clause-j c = slice_get_within c.args.inv.now.writes c.args.j c.args.end c.requires.output

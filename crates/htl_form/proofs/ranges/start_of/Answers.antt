@@ -8,7 +8,7 @@ returns-then-mode-inv_at c =
     record {
       within = omega arith;
       below = c.loop-k.invariant;
-      above = rise_above c.args.t.now c.args.mode c.loop-k.k c.inv_at.result.now c.parts-parts.ensures.ranges c.inv_at.ensures c.if-mode-inv_at.true;
+      above = rise_above c.args.t.now c.args.mode c.loop-k.k c.inv_at.result.now c.keeps_ranges.ensures.ranges c.inv_at.ensures c.if-mode-inv_at.true;
     }
 
 pub returns : goal.returns

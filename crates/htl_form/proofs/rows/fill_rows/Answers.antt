@@ -1,6 +1,7 @@
 use Rattle.std.proofs.Common.{◌∙◌, ap, arith, rules}
 use Rattle.std.specs.List.{list_any}
-use Rattle.htl_form.specs.Rows.{is_from, follows}
+use Rattle.htl_model.specs.PortTable.{is_from}
+use Rattle.htl_form.specs.Rows.{follows}
 use Rattle.htl_form.proofs.RowLaws.{one_row, row_is}
 use Rattle.htl_form.proofs.rows.fill_rows.Goals as goal
 
@@ -15,5 +16,5 @@ loop-b-preserved c =
       len = search rules;
       says = one_row (follows t base n) c.loop-b.rows b c.row_of.result n (omega arith) c.loop-b.invariant.says
           (λ a is_a. c.row_of.ensures a ∙ ap (λ ends. list_any (is_from table a) ends) c.as_slice.ensures
-          ∙ row_is t c.args.mode base n b a c.inv_at-inv.result.now table c.parts-parts.ensures.ranges c.requires.range c.requires.table c.requires.writers (omega arith) is_a c.inv_at-inv.ensures);
+          ∙ row_is t c.args.mode base n b a c.inv_at-inv.result.now table c.keeps_ranges.ensures.ranges c.requires.range c.requires.table c.requires.writers (omega arith) is_a c.inv_at-inv.ensures);
     }

@@ -6,4 +6,4 @@ use Rattle.htl_form.specs.Tests.{tests}
 use Rattle.htl_form.proofs.search.first_inv.Given as goal
 
 abbrev pub invariant-loop-k : goal.invariant-loop-k
-invariant-loop-k l = first_from (inv_in_mode (tests l.t l.rule) (rule_number l.rule) l.unit l.m) l.k (drop l.k l.invs) ≡ first_from (inv_in_mode (tests l.t l.rule) (rule_number l.rule) l.unit l.m) 0 l.invs
+invariant-loop-k l = first_from (inv_in_mode (tests l.t l.rule) (rule_number l.rule) l.«module» l.m) l.k (drop l.k l.invs) ≡ first_from (inv_in_mode (tests l.t l.rule) (rule_number l.rule) l.«module» l.m) 0 l.invs

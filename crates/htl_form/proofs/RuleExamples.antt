@@ -10,7 +10,7 @@ use Rattle.htl_model.specs.declared.parts.Inv.{Inv}
 use Rattle.htl_model.specs.declared.parts.End.{End}
 use Rattle.htl_model.specs.declared.parts.End.TheVariants as E
 use Rattle.htl_model.specs.Tables.{Tables}
-use Rattle.htl_model.proofs.Sources.{plain, sensor, mode, unit, task, call, switch, int_one}
+use Rattle.htl_model.proofs.Sources.{plain, sensor, mode, module_named, task, call, switch, int_one}
 use Rattle.htl_form.specs.Search.{told, of_rule}
 use Rattle.htl_form.specs.declared.rule.Rule.TheVariants as R
 
@@ -32,7 +32,7 @@ nothing = None ∷ None ∷ None ∷ None ∷ None ∷ None ∷ None ∷ None �
 -- ---- tables
 
 abbrev modes_alone : List Module → List Mode → Tables
-modes_alone units modes = record { comms = []; modes = modes; modules = units; ports = []; tasks = []; invs = []; switches = []; functions = [] }
+modes_alone modules modes = record { comms = []; modes = modes; modules = modules; ports = []; tasks = []; invs = []; switches = []; functions = [] }
 
 -- one mode of period 10 with these communicators and one invocation of a task with these types
 abbrev one_call : List Comm → ℕ → List Ty → List Ty → List End → List End → Tables
@@ -40,7 +40,7 @@ one_call comms worst ins outs reads writes =
     record {
       comms = comms;
       modes = mode (codes "m") 0 10 ∷ [];
-      modules = unit (codes "M") None 0 ∷ [];
+      modules = module_named (codes "M") None 0 ∷ [];
       ports = [];
       tasks = record (task (codes "f") 0 false worst ins) { outputs = outs } ∷ [];
       invs = call 0 0 None reads writes ∷ [];
@@ -55,7 +55,7 @@ five_and p = plain (codes "x") 5 (pos 0) ∷ plain (codes "y") p (pos 0) ∷ []
 -- ---- rule 1: one period a module
 
 abbrev two_modes : ℕ → Tables
-two_modes p = modes_alone (unit (codes "M") None 0 ∷ []) (mode (codes "a") 0 10 ∷ mode (codes "b") 0 p ∷ [])
+two_modes p = modes_alone (module_named (codes "M") None 0 ∷ []) (mode (codes "a") 0 10 ∷ mode (codes "b") 0 p ∷ [])
 
 periods_differ : judged (two_modes 20) ≡ at_mode 1 0 1 20 10 ∷ None ∷ None ∷ None ∷ None ∷ None ∷ None ∷ None ∷ None ∷ []
 periods_differ = refl
@@ -66,7 +66,7 @@ periods_agree = refl
 -- in a refinement every mode is held to the refined mode's period, the first one too
 abbrev refinement : ℕ → ℕ → Tables
 refinement p q =
-    modes_alone (unit (codes "M") None 0 ∷ unit (codes "N") (Some 0) 1 ∷ []) (mode (codes "a") 0 10 ∷ mode (codes "b") 1 p ∷ mode (codes "c") 1 q ∷ [])
+    modes_alone (module_named (codes "M") None 0 ∷ module_named (codes "N") (Some 0) 1 ∷ []) (mode (codes "a") 0 10 ∷ mode (codes "b") 1 p ∷ mode (codes "c") 1 q ∷ [])
 
 refined_period_differs : judged (refinement 20 20) ≡ at_mode 1 1 1 20 10 ∷ None ∷ None ∷ None ∷ None ∷ None ∷ None ∷ None ∷ None ∷ []
 refined_period_differs = refl
@@ -80,7 +80,7 @@ refined_period_agrees = refl
 -- ---- rule 2: one period for all root modules
 
 abbrev two_roots : ℕ → Tables
-two_roots p = modes_alone (unit (codes "M") None 0 ∷ unit (codes "N") None 1 ∷ []) (mode (codes "a") 0 10 ∷ mode (codes "b") 1 p ∷ mode (codes "c") 1 p ∷ [])
+two_roots p = modes_alone (module_named (codes "M") None 0 ∷ module_named (codes "N") None 1 ∷ []) (mode (codes "a") 0 10 ∷ mode (codes "b") 1 p ∷ mode (codes "c") 1 p ∷ [])
 
 root_periods_differ : judged (two_roots 20) ≡ None ∷ at_mode 2 1 1 20 10 ∷ None ∷ None ∷ None ∷ None ∷ None ∷ None ∷ None ∷ []
 root_periods_differ = refl
@@ -105,7 +105,7 @@ tested m invs =
     record {
       comms = five_and 4;
       modes = mode (codes "a") 0 10 ∷ mode (codes "b") 0 10 ∷ [];
-      modules = unit (codes "M") None 0 ∷ [];
+      modules = module_named (codes "M") None 0 ∷ [];
       ports = [];
       tasks = task (codes "f") 0 false 1 int_one ∷ [];
       invs = invs;
@@ -183,7 +183,7 @@ port_from is_abstract =
     record {
       comms = five_and 5;
       modes = mode (codes "m") 0 10 ∷ [];
-      modules = unit (codes "M") None 0 ∷ [];
+      modules = module_named (codes "M") None 0 ∷ [];
       ports = record { name = codes "p"; mode = 0; ty = IntTy } ∷ [];
       tasks = task (codes "f") 0 false 1 (IntTy ∷ IntTy ∷ []) ∷ task (codes "g") 0 is_abstract 1 [] ∷ [];
       invs = call 0 0 None (E.Comm 0 0 ∷ E.Port 0 ∷ []) (E.Comm 0 2 ∷ []) ∷ call 0 1 None [] (E.Port 0 ∷ []) ∷ [];

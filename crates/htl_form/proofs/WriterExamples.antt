@@ -1,10 +1,11 @@
 -- The rules on writers and cycles on small tables.
 use Rattle.std.specs.Prelude.{◌≡◌, ℕ, Bool, true, false, List, [], ◌∷◌, Some, None, codes, refl}
+use Rattle.htl_model.proofs.Sources.{module_named}
 use Rattle.htl_model.specs.declared.parts.Inv.{Inv}
 use Rattle.htl_model.specs.declared.parts.Module.{Module}
 use Rattle.htl_model.specs.declared.parts.End.TheVariants as E
 use Rattle.htl_model.specs.Tables.{Tables}
-use Rattle.htl_form.proofs.WriterSamples.{call, mode, unit, concrete, one_mode, more_modes}
+use Rattle.htl_form.proofs.WriterSamples.{call, mode, concrete, one_mode, more_modes}
 use Rattle.htl_form.specs.Cycles.{cycle_fault, precedes_itself}
 use Rattle.htl_form.specs.PortFaults.{unwritten_fault, rewritten_fault}
 use Rattle.htl_form.specs.WriterFaults.{writer_fault, stand_together}
@@ -90,7 +91,7 @@ abbrev puts : ℕ → ℕ → ℕ → Inv
 puts m k n = call m k [] (E.Comm 0 n ∷ [])
 
 abbrev root : List Module
-root = unit (codes "M") None 0 ∷ []
+root = module_named (codes "M") None 0 ∷ []
 
 abbrev in_one : List (ℕ × Bool) → List Inv → Tables
 in_one kinds invs = more_modes root (mode (codes "m") 0 ∷ []) kinds invs
@@ -137,7 +138,7 @@ modes_of_one_module = refl
 -- modes of two root modules do, whatever the instances
 abbrev two_modules : Tables
 two_modules =
-    more_modes (unit (codes "M") None 0 ∷ unit (codes "N") None 1 ∷ []) (mode (codes "m") 0 ∷ mode (codes "n") 1 ∷ []) ((0, false) ∷ (1, false) ∷ [])
+    more_modes (module_named (codes "M") None 0 ∷ module_named (codes "N") None 1 ∷ []) (mode (codes "m") 0 ∷ mode (codes "n") 1 ∷ []) ((0, false) ∷ (1, false) ∷ [])
     (puts 0 0 1 ∷ puts 1 1 2 ∷ [])
 
 modes_of_two_modules : writer_fault two_modules 1 (puts 1 1 2) 0 (E.Comm 0 2) ≡ Some (0, 0)
@@ -147,7 +148,7 @@ modes_of_two_modules = refl
 -- a module of two modes, of which the first is refined
 abbrev refined : List Inv → Tables
 refined invs =
-    more_modes (unit (codes "M") None 0 ∷ unit (codes "N") (Some 0) 2 ∷ []) (mode (codes "m") 0 ∷ mode (codes "n") 0 ∷ mode (codes "c") 1 ∷ [])
+    more_modes (module_named (codes "M") None 0 ∷ module_named (codes "N") (Some 0) 2 ∷ []) (mode (codes "m") 0 ∷ mode (codes "n") 0 ∷ mode (codes "c") 1 ∷ [])
     ((0, false) ∷ (1, false) ∷ []) invs
 
 with_the_refined_mode : writer_fault (refined (puts 0 0 1 ∷ puts 2 1 2 ∷ [])) 1 (puts 2 1 2) 0 (E.Comm 0 2) ≡ Some (0, 0)

@@ -1,5 +1,0 @@
-use Rattle.htl_form.proofs.RowLaws.{has_bit_set}
-use Rattle.htl_form.proofs.rows.with_bit.Goals as goal
-
-pub returns : goal.returns
-returns c = λ q. has_bit_set c.args.row c.args.k q c.requires
