@@ -6,77 +6,78 @@ use Rattle.htl_model.specs.Lists.{list_to}
 use Rattle.htl_text.specs.Nodes.{PlainProgram, PlainMode}
 use Rattle.htl_names.specs.declared.key.Key.{Key}
 use Rattle.htl_names.specs.declared.place.ModeAt.{ModeAt}
-use Rattle.htl_names.specs.declared.place.UnitAt.{UnitAt}
+use Rattle.htl_names.specs.declared.place.ModuleAt.{ModuleAt}
 use Rattle.htl_names.specs.Lists.{flat_map_at}
-use Rattle.htl_names.specs.Order.{modules_at, modes_at, units_in, mode_kids, kids, below, order}
+use Rattle.htl_names.specs.Order.{modules_at, modes_at, modules_in, mode_kids, kids, below, order}
 use Rattle.htl_names.specs.Programs.{named_program, naming, refined_by, level}
+use Rattle.htl_names.specs.Stack.{nth_module}
 use Rattle.htl_names.proofs.Members.{Each, each_at, each_append, each_weaker, each_list_to, each_flat_map, each_flat_map_at}
 use Rattle.htl_names.proofs.Leveled.{IsTree, refined_at, level_step}
-use Rattle.htl_names.proofs.Units.{IsPlaced, IsKid, unit_of, placed_within, placed_names, placed_root, mode_kids_are, kids_are, each_below, roots_are}
+use Rattle.htl_names.proofs.ModulePlaces.{IsPlaced, IsKid, placed_within, placed_names, placed_root, mode_kids_are, kids_are, each_below, roots_are}
 
 abbrev Spot : Type 0
 Spot = ℕ × ℕ
 
-abbrev spot : UnitAt → Spot
-spot s = (s.program, s.unit)
+abbrev spot : ModuleAt → Spot
+spot s = (s.program, s.«module»)
 
 -- two modules
-abbrev Far : UnitAt → UnitAt → Type 0
-Far s r = s.program ≡ r.program → s.unit ≡ r.unit → ⊥
+abbrev Far : ModuleAt → ModuleAt → Type 0
+Far s r = s.program ≡ r.program → s.«module» ≡ r.«module» → ⊥
 
 -- no module stands twice
-abbrev pub Spread : List UnitAt → Type 0
+abbrev pub Spread : List ModuleAt → Type 0
 Spread [] = Unit {0}
 Spread (s ∷ xs) = Each (Far s) xs × Spread xs
 
-spread_append : (xs ys : List UnitAt) → Spread xs → Spread ys → Each (λ x. Each (Far x) ys) xs → Spread (xs ++ ys)
+spread_append : (xs ys : List ModuleAt) → Spread xs → Spread ys → Each (λ x. Each (Far x) ys) xs → Spread (xs ++ ys)
 spread_append [] ys h k f = k
 spread_append (x ∷ xs) ys h k f = (each_append (Far x) xs ys h.0 f.0, spread_append xs ys h.1 k f.1)
 
-pub spread_at : (xs : List UnitAt) → Spread xs → (j k : ℕ) (s r : UnitAt) → slice_get xs j ≡ Some s → slice_get xs k ≡ Some r → s.program ≡ r.program → s.unit ≡ r.unit → j ≡ k
+pub spread_at : (xs : List ModuleAt) → Spread xs → (j k : ℕ) (s r : ModuleAt) → slice_get xs j ≡ Some s → slice_get xs k ≡ Some r → s.program ≡ r.program → s.«module» ≡ r.«module» → j ≡ k
 spread_at [] h j k s r a b p u = absurd (none-some s a)
 spread_at (x ∷ xs) h zero zero s r a b p u = refl
 spread_at (x ∷ xs) h zero (suc k) s r a b p u =
     let same = same_Some x s a in
-    absurd (each_at (Far x) xs k r h.0 b (ap (λ (y : UnitAt). y.program) same ∙ p) (ap (λ (y : UnitAt). y.unit) same ∙ u))
+    absurd (each_at (Far x) xs k r h.0 b (ap (λ (y : ModuleAt). y.program) same ∙ p) (ap (λ (y : ModuleAt). y.«module») same ∙ u))
 spread_at (x ∷ xs) h (suc j) zero s r a b p u =
     let same = same_Some x r b in
-    absurd (each_at (Far x) xs j s h.0 a (ap (λ (y : UnitAt). y.program) same ∙ sym p) (ap (λ (y : UnitAt). y.unit) same ∙ sym u))
+    absurd (each_at (Far x) xs j s h.0 a (ap (λ (y : ModuleAt). y.program) same ∙ sym p) (ap (λ (y : ModuleAt). y.«module») same ∙ sym u))
 spread_at (x ∷ xs) h (suc j) (suc k) s r a b p u = ap suc (spread_at xs h.1 j k s r a b p u)
 
 module _ (symbols : List (Key × ℕ)) (ps : List PlainProgram) (tree : IsTree symbols ps) where
-  abbrev height : UnitAt → ℕ
+  abbrev height : ModuleAt → ℕ
   height s = level (naming symbols ps) (length ps) s.program
 
   -- the module of the mode that a module's program refines
   abbrev over : Spot → Spot
-  over x = elim (refined_by symbols ps x.0) [ Some a ↦ (a.program, a.unit) | None ↦ x ]
+  over x = elim (refined_by symbols ps x.0) [ Some a ↦ (a.program, a.«module») | None ↦ x ]
 
   abbrev up : ℕ → Spot → Spot
   up zero x = x
   up (suc k) x = up k (over x)
 
   -- r stands below s or is s
-  record IsUnder (s r : UnitAt) : Type 0 where
+  record IsUnder (s r : ModuleAt) : Type 0 where
     steps : ℕ
     climb : up steps (spot r) ≡ spot s
     heights : height r ≡ steps + height s
     placed : IsPlaced symbols ps r
 
-  kid_refines : (t r : UnitAt) (k : IsKid symbols ps t r) → refined_by symbols ps r.program ≡ Some (record { program = t.program; unit = t.unit; mode = k.mode })
+  kid_refines : (t r : ModuleAt) (k : IsKid symbols ps t r) → refined_by symbols ps r.program ≡ Some (record { program = t.program; «module» = t.«module»; mode = k.mode })
   kid_refines t r k =
-      refined_at symbols ps tree (record { program = t.program; unit = t.unit; mode = k.mode }) r.program (placed_within symbols ps r k.placed)
-      (placed_names symbols ps r (record { program = t.program; unit = t.unit; mode = k.mode }) k.placed k.parent)
+      refined_at symbols ps tree (record { program = t.program; «module» = t.«module»; mode = k.mode }) r.program (placed_within symbols ps r k.placed)
+      (placed_names symbols ps r (record { program = t.program; «module» = t.«module»; mode = k.mode }) k.placed k.parent)
 
-  kid_over : (t r : UnitAt) → IsKid symbols ps t r → over (spot r) ≡ spot t
-  kid_over t r k = ap (λ (o : Option ModeAt). elim o as (λ _. Spot) [ Some a ↦ (a.program, a.unit) | None ↦ spot r ]) (kid_refines t r k)
+  kid_over : (t r : ModuleAt) → IsKid symbols ps t r → over (spot r) ≡ spot t
+  kid_over t r k = ap (λ (o : Option ModeAt). elim o as (λ _. Spot) [ Some a ↦ (a.program, a.«module») | None ↦ spot r ]) (kid_refines t r k)
 
-  kid_height : (t r : UnitAt) → IsKid symbols ps t r → height r ≡ suc (height t)
+  kid_height : (t r : ModuleAt) → IsKid symbols ps t r → height r ≡ suc (height t)
   kid_height t r k =
-      let a : ModeAt = record { program = t.program; unit = t.unit; mode = k.mode } in
+      let a : ModeAt = record { program = t.program; «module» = t.«module»; mode = k.mode } in
       level_step symbols ps tree r.program a (placed_within symbols ps r k.placed) (placed_names symbols ps r a k.placed k.parent)
 
-  under_kid : (s t r : UnitAt) → IsKid symbols ps t r → IsUnder s t → IsUnder s r
+  under_kid : (s t r : ModuleAt) → IsKid symbols ps t r → IsUnder s t → IsUnder s r
   under_kid s t r k h =
       record {
         steps = suc h.steps;
@@ -85,15 +86,15 @@ module _ (symbols : List (Key × ℕ)) (ps : List PlainProgram) (tree : IsTree s
         placed = k.placed;
       }
 
-  under_below : (n : ℕ) (s : UnitAt) → IsPlaced symbols ps s → Each (IsUnder s) (below n symbols ps s)
+  under_below : (n : ℕ) (s : ModuleAt) → IsPlaced symbols ps s → Each (IsUnder s) (below n symbols ps s)
   under_below n s p = each_below symbols ps (IsUnder s) (λ t r k h. under_kid s t r k h) n s (record { steps = 0; climb = refl; heights = omega arith; placed = p })
 
   -- what stands below two modules of one level differs where they do
-  far_below : (x y r q : UnitAt) → Far x y → height x ≡ height y → IsUnder x r → IsUnder y q → Far r q
+  far_below : (x y r q : ModuleAt) → Far x y → height x ≡ height y → IsUnder x r → IsUnder y q → Far r q
   far_below x y r q far alike a b p u =
       let heights : height r ≡ height q = ap (λ n. level (naming symbols ps) (length ps) n) p in
       let rise : a.steps ≡ b.steps = same a.steps b.steps a.heights b.heights heights in
-      let spots : spot r ≡ spot q = ap (λ n. pair n r.unit) p ∙ ap (λ n. pair q.program n) u in
+      let spots : spot r ≡ spot q = ap (λ n. pair n r.«module») p ∙ ap (λ n. pair q.program n) u in
       let one : spot x ≡ spot y = sym a.climb ∙ ap (λ n. up n (spot r)) rise ∙ ap (up b.steps) spots ∙ b.climb in
       far (ap (λ (z : Spot). z.0) one) (ap (λ (z : Spot). z.1) one)
     where
@@ -105,44 +106,44 @@ module _ (symbols : List (Key × ℕ)) (ps : List PlainProgram) (tree : IsTree s
 
   -- ---- the kids of one module
 
-  units_spread : (q : ℕ) (parent : Option ModeAt) (n : ℕ) → Spread (list_to (unit_of q parent) n)
-  units_spread q parent zero = tt
-  units_spread q parent (suc n) =
-      spread_append (list_to (unit_of q parent) n) (unit_of q parent n ∷ []) (units_spread q parent n) (tt, tt)
-      (each_list_to (λ x. Each (Far x) (unit_of q parent n ∷ [])) (unit_of q parent) n (λ k lt. ((λ p u. omega (arith, lt, u)), tt)))
+  modules_spread : (q : ℕ) (parent : Option ModeAt) (n : ℕ) → Spread (list_to (nth_module q parent) n)
+  modules_spread q parent zero = tt
+  modules_spread q parent (suc n) =
+      spread_append (list_to (nth_module q parent) n) (nth_module q parent n ∷ []) (modules_spread q parent n) (tt, tt)
+      (each_list_to (λ x. Each (Far x) (nth_module q parent n ∷ [])) (nth_module q parent) n (λ k lt. ((λ p u. omega (arith, lt, u)), tt)))
 
   mode_spread : (p u m : ℕ) (x : PlainMode) → Spread (mode_kids symbols ps p u m x)
   mode_spread p u m x = by (named_program symbols x)
     where
-      by : (o : Option ℕ) → Spread (elim o [ Some q ↦ units_in ps (Some (record { program = p; unit = u; mode = m })) q | None ↦ [] ])
+      by : (o : Option ℕ) → Spread (elim o [ Some q ↦ modules_in ps (Some (record { program = p; «module» = u; mode = m })) q | None ↦ [] ])
       by None = tt
-      by (Some q) = units_spread q (Some (record { program = p; unit = u; mode = m })) (length (modules_at ps q))
+      by (Some q) = modules_spread q (Some (record { program = p; «module» = u; mode = m })) (length (modules_at ps q))
 
-  kids_far : (t r q : UnitAt) (a : IsKid symbols ps t r) (b : IsKid symbols ps t q) → a.mode < b.mode → Far r q
+  kids_far : (t r q : ModuleAt) (a : IsKid symbols ps t r) (b : IsKid symbols ps t q) → a.mode < b.mode → Far r q
   kids_far t r q a b lt p u =
-      let one : ModeAt = record { program = t.program; unit = t.unit; mode = a.mode } in
-      let two : ModeAt = record { program = t.program; unit = t.unit; mode = b.mode } in
+      let one : ModeAt = record { program = t.program; «module» = t.«module»; mode = a.mode } in
+      let two : ModeAt = record { program = t.program; «module» = t.«module»; mode = b.mode } in
       let same : one ≡ two = same_Some one two (sym (kid_refines t r a) ∙ ap (refined_by symbols ps) p ∙ kid_refines t q b) in
       let modes : a.mode ≡ b.mode = ap (λ (c : ModeAt). c.mode) same in
       omega (arith, modes, lt)
 
-  abbrev KidAt : UnitAt → ℕ → UnitAt → Type 0
+  abbrev KidAt : ModuleAt → ℕ → ModuleAt → Type 0
   KidAt t m r = (k : IsKid symbols ps t r) × (k.mode ≡ m)
 
-  abbrev KidFrom : UnitAt → ℕ → UnitAt → Type 0
+  abbrev KidFrom : ModuleAt → ℕ → ModuleAt → Type 0
   KidFrom t m r = (k : IsKid symbols ps t r) × (m ≤ k.mode)
 
-  modes_spread : (t : UnitAt) (k : ℕ) (xs : List PlainMode)
-      → ((i j : ℕ) (x : PlainMode) → i ≡ k + j → slice_get xs j ≡ Some x → Each (KidAt t i) (mode_kids symbols ps t.program t.unit i x))
-      → Spread (flat_map_at (mode_kids symbols ps t.program t.unit) k xs)
+  modes_spread : (t : ModuleAt) (k : ℕ) (xs : List PlainMode)
+      → ((i j : ℕ) (x : PlainMode) → i ≡ k + j → slice_get xs j ≡ Some x → Each (KidAt t i) (mode_kids symbols ps t.program t.«module» i x))
+      → Spread (flat_map_at (mode_kids symbols ps t.program t.«module») k xs)
   modes_spread t k [] h = tt
   modes_spread t k (x ∷ xs) h =
-      let f = mode_kids symbols ps t.program t.unit in
+      let f = mode_kids symbols ps t.program t.«module» in
       let rest = flat_map_at f (suc k) xs in
       let tail = λ (i j : ℕ) (y : PlainMode) (e : i ≡ suc k + j) (s : slice_get xs j ≡ Some y). h i (suc j) y (shift i j e) s in
       let from : Each (KidFrom t (suc k)) rest = each_flat_map_at (KidFrom t (suc k)) f (suc k) xs
       (λ i j y e s. each_weaker (KidAt t i) (KidFrom t (suc k)) (λ r c. (c.0, least i j c.0.mode e c.1)) (f i y) (tail i j y e s)) in
-      spread_append (f k x) rest (mode_spread t.program t.unit k x) (modes_spread t (suc k) xs tail)
+      spread_append (f k x) rest (mode_spread t.program t.«module» k x) (modes_spread t (suc k) xs tail)
       (each_weaker (KidAt t k) (λ r. Each (Far r) rest)
       (λ r c. each_weaker (KidFrom t (suc k)) (Far r) (λ q d. kids_far t r q c.0 d.0 (lower c.0.mode d.0.mode c.1 d.1)) rest from)
       (f k x) (h k 0 x (omega arith) refl))
@@ -156,20 +157,20 @@ module _ (symbols : List (Key × ℕ)) (ps : List PlainProgram) (tree : IsTree s
       lower : (m n : ℕ) → m ≡ k → suc k ≤ n → m < n
       lower m n a b = omega (arith, a, b)
 
-  kids_spread : (t : UnitAt) → Spread (kids symbols ps t)
+  kids_spread : (t : ModuleAt) → Spread (kids symbols ps t)
   kids_spread t =
-      modes_spread t 0 (modes_at ps t.program t.unit)
-      (λ i j x e s. subst (λ n. Each (KidAt t n) (mode_kids symbols ps t.program t.unit n x)) (same i j e) (mode_kids_are symbols ps t j x s))
+      modes_spread t 0 (modes_at ps t.program t.«module»)
+      (λ i j x e s. subst (λ n. Each (KidAt t n) (mode_kids symbols ps t.program t.«module» n x)) (same i j e) (mode_kids_are symbols ps t j x s))
     where
       same : (i j : ℕ) → i ≡ 0 + j → j ≡ i
       same i j e = omega (arith, e)
 
   -- ---- all modules
 
-  abbrev Stands : ℕ → UnitAt → Type 0
+  abbrev Stands : ℕ → ModuleAt → Type 0
   Stands l s = IsPlaced symbols ps s × (height s ≡ l)
 
-  spread_over : (n l : ℕ) (xs : List UnitAt) → ((s : UnitAt) → IsPlaced symbols ps s → Spread (below n symbols ps s)) → Each (Stands l) xs → Spread xs
+  spread_over : (n l : ℕ) (xs : List ModuleAt) → ((s : ModuleAt) → IsPlaced symbols ps s → Spread (below n symbols ps s)) → Each (Stands l) xs → Spread xs
       → Spread (flat_map (below n symbols ps) xs)
   spread_over n l [] each h k = tt
   spread_over n l (x ∷ xs) each h k =
@@ -177,12 +178,12 @@ module _ (symbols : List (Key × ℕ)) (ps : List PlainProgram) (tree : IsTree s
       spread_append (below n symbols ps x) rest (each x h.0.0) (spread_over n l xs each h.1 k.1)
       (each_weaker (IsUnder x) (λ r. Each (Far r) rest) (λ r a. each_flat_map (Far r) (below n symbols ps) xs (others r a xs k.0 h.1)) (below n symbols ps x) (under_below n x h.0.0))
     where
-      others : (r : UnitAt) → IsUnder x r → (ys : List UnitAt) → Each (Far x) ys → Each (Stands l) ys → Each (λ y. Each (Far r) (below n symbols ps y)) ys
+      others : (r : ModuleAt) → IsUnder x r → (ys : List ModuleAt) → Each (Far x) ys → Each (Stands l) ys → Each (λ y. Each (Far r) (below n symbols ps y)) ys
       others r a [] f s = tt
       others r a (y ∷ ys) f s =
           (each_weaker (IsUnder y) (Far r) (λ q b. far_below x y r q f.0 (h.0.1 ∙ sym s.0.1) a b) (below n symbols ps y) (under_below n y s.0.0), others r a ys f.1 s.1)
 
-  spread_below : (n : ℕ) (s : UnitAt) → IsPlaced symbols ps s → Spread (below n symbols ps s)
+  spread_below : (n : ℕ) (s : ModuleAt) → IsPlaced symbols ps s → Spread (below n symbols ps s)
   spread_below zero s p = (tt, tt)
   spread_below (suc n) s p = (
     each_flat_map (Far s) (below n symbols ps) (kids symbols ps s)
@@ -192,7 +193,7 @@ module _ (symbols : List (Key × ℕ)) (ps : List PlainProgram) (tree : IsTree s
         (each_weaker (IsKid symbols ps s) (Stands (suc (height s))) (λ t k. (k.placed, kid_height s t k)) (kids symbols ps s) (kids_are symbols ps s)) (kids_spread s),
   )
     where
-      lower : (t r : UnitAt) → IsKid symbols ps s t → IsUnder t r → Far s r
+      lower : (t r : ModuleAt) → IsKid symbols ps s t → IsUnder t r → Far s r
       lower t r k h e u =
           let a = kid_height s t k in
           let b = h.heights in
@@ -201,7 +202,7 @@ module _ (symbols : List (Key × ℕ)) (ps : List PlainProgram) (tree : IsTree s
 
   pub order_spread : Spread (order symbols ps)
   order_spread =
-      spread_over (length ps) (level (naming symbols ps) (length ps) 0) (units_in ps None 0) (spread_below (length ps))
-      (each_weaker (λ (s : UnitAt). IsPlaced symbols ps s × (s.parent ≡ None)) (Stands (level (naming symbols ps) (length ps) 0))
-      (λ s h. (h.0, ap (λ n. level (naming symbols ps) (length ps) n) (placed_root symbols ps s h.0 h.1))) (units_in ps None 0) (roots_are symbols ps))
-      (units_spread 0 None (length (modules_at ps 0)))
+      spread_over (length ps) (level (naming symbols ps) (length ps) 0) (modules_in ps None 0) (spread_below (length ps))
+      (each_weaker (λ (s : ModuleAt). IsPlaced symbols ps s × (s.parent ≡ None)) (Stands (level (naming symbols ps) (length ps) 0))
+      (λ s h. (h.0, ap (λ n. level (naming symbols ps) (length ps) n) (placed_root symbols ps s h.0 h.1))) (modules_in ps None 0) (roots_are symbols ps))
+      (modules_spread 0 None (length (modules_at ps 0)))

@@ -8,7 +8,8 @@ use Rattle.htl_names.specs.Keys.{program_key, module_key, task_key, mode_key}
 use Rattle.htl_names.specs.Lists.{flat_map_at, map_at}
 use Rattle.htl_names.specs.Order.{module_at, tasks_at, modes_at}
 use Rattle.htl_names.proofs.FlatMaps.{get_front, get_back, at_part_0, flat_part, to_map_at}
-use Rattle.htl_names.proofs.Origins.{In, Origin, of_program, of_comm, of_module, of_task, of_param, of_mode, of_port, of_invoke, in_source}
+use Rattle.htl_names.proofs.Members.{In}
+use Rattle.htl_names.proofs.Origins.{Origin, of_program, of_comm, of_module, of_task, of_param, of_mode, of_port, of_invoke, in_source}
 use Rattle.htl_names.proofs.Places.{program_of_module, module_of_task, module_of_mode}
 
 -- ---- the entries of a module, a task, a mode

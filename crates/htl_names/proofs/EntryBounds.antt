@@ -5,7 +5,7 @@ use Rattle.htl_text.specs.Bounds.{comms_of, modules_of, modes_of, tasks_of, port
 use Rattle.htl_text.specs.Nodes.{PlainProgram, PlainMode}
 use Rattle.htl_names.specs.declared.key.Entry.{Entry}
 use Rattle.htl_names.specs.declared.key.Key.{Key}
-use Rattle.htl_names.specs.Conditions.{IsSmallTask}
+use Rattle.htl_names.specs.Conditions.{MeetsTaskBounds}
 use Rattle.htl_names.specs.Entries.{entries, params_of}
 use Rattle.htl_names.specs.Flat.{layout, symbols_of, meaning}
 use Rattle.htl_names.specs.Keys.{look_up}
@@ -23,7 +23,7 @@ pub record IsLowSource (ps : List PlainProgram) : Type 0 where
   pub modes : length (modes_of (modules_of ps)) ≤ 4096
   pub ports : length (ports_of (modes_of (modules_of ps))) ≤ 4096
   pub invokes : length (invokes_of (modes_of (modules_of ps))) ≤ 4096
-  pub small : All IsSmallTask (tasks_of (modules_of ps))
+  pub small : All MeetsTaskBounds (tasks_of (modules_of ps))
 
 -- each name stands at its number in its list
 entry_low : (ps : List PlainProgram) → IsLowSource ps → (e : Entry) → Origin ps e → e.number ≤ 4096
@@ -41,7 +41,7 @@ entry_low ps h e (of_task p u k t there) =
     omega (arith, within, low)
 entry_low ps h e (of_param p u k t there j x at) =
     let n = task_in_source ps p u k t there in
-    let small = All-at IsSmallTask (tasks_of (modules_of ps)) (n.0 + k) t h.small n.1 in
+    let small = All-at MeetsTaskBounds (tasks_of (modules_of ps)) (n.0 + k) t h.small n.1 in
     let within = slice_get_within (params_of t) j x at in
     let size = length-append t.inputs (out_params t.outputs) in
     let inputs = small.inputs in

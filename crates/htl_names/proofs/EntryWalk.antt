@@ -23,10 +23,10 @@ entries_grown p next first after x here rest old new total one more is grown goi
 pub few_more : (p first after : ℕ) (x : PlainProgram) (old new : List Entry) → after ≡ first + length x.comms
     → new ≡ old ++ program_entries p first x → first ≤ length old → after ≤ length new
 few_more p first after x old new more grown few =
-    let units = flat_map_at (module_entries p) 0 x.modules in
+    let modules = flat_map_at (module_entries p) 0 x.modules in
     let comms = map_at comm_entry first x.comms in
     let whole = ap length grown ∙ length-append old (program_entries p first x) in
-    let head : length (program_entries p first x) ≡ suc (length (comms ++ units)) = refl in
-    let parts = length-append comms units in
+    let head : length (program_entries p first x) ≡ suc (length (comms ++ modules)) = refl in
+    let parts = length-append comms modules in
     let few_comms = length-map_at comm_entry first x.comms in
     omega (arith, whole, head, parts, few_comms, more, few)

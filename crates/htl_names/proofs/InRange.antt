@@ -8,12 +8,13 @@ use Rattle.htl_model.specs.declared.parts.Port.{Port}
 use Rattle.htl_model.specs.declared.parts.Task.{Task}
 use Rattle.htl_model.specs.declared.parts.Inv.{Inv}
 use Rattle.htl_model.specs.declared.parts.Switch.{Switch}
+use Rattle.htl_model.proofs.Apart.{different, different_owned, different_pairs}
 use Rattle.htl_model.specs.Ranges.{IsCommInRange, IsModeInRange, IsPortInRange, IsTaskInRange, IsInvInRange, IsSwitchInRange, AreInRange}
 use Rattle.htl_text.specs.Bounds.{comms_of}
 use Rattle.htl_text.specs.Nodes.{PlainProgram}
-use Rattle.htl_names.specs.Conditions.{IsSmall}
-use Rattle.htl_names.specs.declared.place.UnitAt.{UnitAt}
-use Rattle.htl_names.specs.Flat.{layout, symbols_of, comm_item, comm_items, mode_items, unit_mode_items, module_items, port_item, mode_port_items, port_items, task_item, unit_task_items, task_items, invoke_item, mode_invoke_items, invoke_items, switch_item, mode_switch_items, switch_items, tables_of_tree}
+use Rattle.htl_names.specs.Conditions.{MeetsBounds}
+use Rattle.htl_names.specs.declared.place.ModuleAt.{ModuleAt}
+use Rattle.htl_names.specs.Flat.{layout, symbols_of, comm_item, comm_items, mode_items, module_mode_items, module_items, port_item, mode_port_items, port_items, task_item, module_task_items, task_items, invoke_item, mode_invoke_items, invoke_items, switch_item, mode_switch_items, switch_items, tables_of_tree}
 use Rattle.htl_names.specs.NameRules.{AreNamesRight}
 use Rattle.htl_names.specs.Order.{order, tasks_at, ports_at, invokes_at, switches_at}
 use Rattle.htl_names.specs.Ordered.{IsOrdered}
@@ -24,7 +25,7 @@ use Rattle.htl_names.proofs.ModuleRanges.{modules_exist, mode_in_range, module_i
 use Rattle.htl_names.proofs.NameRanges.{comm_names_apart, module_names_apart, mode_names_apart, task_names_apart, port_names_apart, invoked_once, modes_owned, tasks_owned, ports_owned, invokes_owned}
 use Rattle.htl_names.proofs.Numbered.{mode_count, module_count}
 use Rattle.htl_names.proofs.Ordering.{kept_limit, names-ordered}
-use Rattle.htl_names.proofs.Owners.{IsOwned, of_map, few_owned, non_decreasing, different, different_owned, different_pairs}
+use Rattle.htl_names.proofs.Owners.{IsOwned, of_map, few_owned, non_decreasing}
 use Rattle.htl_names.proofs.SwitchRanges.{switch_in_range, function_in_range, functions_counted}
 use Rattle.htl_names.proofs.Members.{All-from_places}
 
@@ -40,7 +41,7 @@ comm_in_range ps right k y e =
 switches_owned : (ps : List PlainProgram) → IsOwned (mode_switch_items (layout ps) ps) (λ (w : Switch). w.mode)
 switches_owned ps m a j y e = let x = of_map (switch_item (layout ps) ps m a) (switches_at ps a) j y e in sym (ap (λ (w : Switch). w.mode) x.2)
 
-in_range_by_order : (ps : List PlainProgram) → IsSmall ps → AreNamesRight ps → IsOrdered (symbols_of ps) ps (order (symbols_of ps) ps) → AreInRange (tables_of_tree ps)
+in_range_by_order : (ps : List PlainProgram) → MeetsBounds ps → AreNamesRight ps → IsOrdered (symbols_of ps) ps (order (symbols_of ps) ps) → AreInRange (tables_of_tree ps)
 in_range_by_order ps small right ordered =
     let l = layout ps in
     let t = tables_of_tree ps in
@@ -49,12 +50,12 @@ in_range_by_order ps small right ordered =
     let modules = module_count l ps (modules_exist ps ordered) in
     let modes = mode_count l ps refl in
     let ports = same_length (mode_port_items ps) (ports_at ps) (λ n a. length-map (ports_at ps a) (port_item n)) 0 l.modes in
-    let tasks = same_length (unit_task_items ps) (λ (s : UnitAt). tasks_at ps s.program s.unit) (λ n s. length-map (tasks_at ps s.program s.unit) (task_item n)) 0 l.units in
+    let tasks = same_length (module_task_items ps) (λ (s : ModuleAt). tasks_at ps s.program s.«module») (λ n s. length-map (tasks_at ps s.program s.«module») (task_item n)) 0 l.modules in
     let invs = same_length (mode_invoke_items l ps) (invokes_at ps) (λ n a. length-map (invokes_at ps a) (invoke_item l ps n a)) 0 l.modes in
     let switches = same_length (mode_switch_items l ps) (switches_at ps) (λ n a. length-map (switches_at ps a) (switch_item l ps n a)) 0 l.modes in
     record {
       few_comms = omega (arith, comms, few_comms);
-      few_modules = omega (arith, modules, ordered.few_units);
+      few_modules = omega (arith, modules, ordered.few_modules);
       few_modes = omega (arith, modes, ordered.few_modes);
       few_ports = omega (arith, ports, ordered.few_ports);
       few_tasks = omega (arith, tasks, ordered.few_tasks);
@@ -70,9 +71,9 @@ in_range_by_order ps small right ordered =
       port_names = different_owned (map (λ (q : Port). (q.mode, q.name)) (port_items l ps)) (port_names_apart ps right);
       task_names = different_owned (map (λ (k : Task). (k.«module», k.name)) (task_items l ps)) (task_names_apart ps right);
       invoked_once = different_pairs (map (λ (i : Inv). (i.mode, i.task)) (invoke_items l ps)) (invoked_once ps right);
-      modes_by_module = non_decreasing (unit_mode_items ps) (λ (m : Mode). m.«module») (modes_owned ps) 0 l.units;
+      modes_by_module = non_decreasing (module_mode_items ps) (λ (m : Mode). m.«module») (modes_owned ps) 0 l.modules;
       ports_by_mode = non_decreasing (mode_port_items ps) (λ (q : Port). q.mode) (ports_owned ps) 0 l.modes;
-      tasks_by_module = non_decreasing (unit_task_items ps) (λ (k : Task). k.«module») (tasks_owned ps) 0 l.units;
+      tasks_by_module = non_decreasing (module_task_items ps) (λ (k : Task). k.«module») (tasks_owned ps) 0 l.modules;
       invs_by_mode = non_decreasing (mode_invoke_items l ps) (λ (i : Inv). i.mode) (invokes_owned l ps) 0 l.modes;
       switches_by_mode = non_decreasing (mode_switch_items l ps) (λ (w : Switch). w.mode) (switches_owned ps) 0 l.modes;
       comms = All-from_places IsCommInRange (comm_items ps) (comm_in_range ps right);
@@ -86,5 +87,5 @@ in_range_by_order ps small right ordered =
       function_count = functions_counted l ps;
     }
 
-pub names-in-range : (ps : List PlainProgram) → IsSmall ps → AreNamesRight ps → AreInRange (tables_of_tree ps)
+pub names-in-range : (ps : List PlainProgram) → MeetsBounds ps → AreNamesRight ps → AreInRange (tables_of_tree ps)
 names-in-range ps small right = in_range_by_order ps small right (names-ordered ps right)

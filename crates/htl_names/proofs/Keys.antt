@@ -179,15 +179,15 @@ code_same space.Invokes space.Invokes h = refl
 -- ---- keys
 
 abbrev make : Space → ℕ → ℕ → ℕ → List ℕ → Key
-make s p u i n = record { space = s; program = p; unit = u; item = i; name = n }
+make s p u i n = record { space = s; program = p; «module» = u; item = i; name = n }
 
-made : (a b : Key) → a.space ≡ b.space → a.program ≡ b.program → a.unit ≡ b.unit → a.item ≡ b.item → a.name ≡ b.name → a ≡ b
+made : (a b : Key) → a.space ≡ b.space → a.program ≡ b.program → a.«module» ≡ b.«module» → a.item ≡ b.item → a.name ≡ b.name → a ≡ b
 made a b s p u i n =
-    ap (λ x. make x a.program a.unit a.item a.name) s
-    ∙ ap (λ x. make b.space x a.unit a.item a.name) p
+    ap (λ x. make x a.program a.«module» a.item a.name) s
+    ∙ ap (λ x. make b.space x a.«module» a.item a.name) p
     ∙ ap (λ x. make b.space b.program x a.item a.name) u
-    ∙ ap (λ x. make b.space b.program b.unit x a.name) i
-    ∙ ap (λ x. make b.space b.program b.unit b.item x) n
+    ∙ ap (λ x. make b.space b.program b.«module» x a.name) i
+    ∙ ap (λ x. make b.space b.program b.«module» b.item x) n
 
 -- the parts of a test of five
 five : (a b c d e : Bool) → (a && b && c && d && e) ≡ true → (a ≡ true) × (b ≡ true) × (c ≡ true) × (d ≡ true) × (e ≡ true)
@@ -204,10 +204,10 @@ joined a b c d e p q r s t = join (a && b && c && d) e (join (a && b && c) d (jo
 pub same_key_decides : (a b : Key) → Decides (same_key a b) (a ≡ b)
 same_key_decides a b = (
   λ h.
-      let p = five (eqb (space_code a.space) (space_code b.space)) (eqb a.program b.program) (eqb a.unit b.unit) (eqb a.item b.item) (bytes_eq a.name b.name) h in
+      let p = five (eqb (space_code a.space) (space_code b.space)) (eqb a.program b.program) (eqb a.«module» b.«module») (eqb a.item b.item) (bytes_eq a.name b.name) h in
       made a b (code_same a.space b.space (eqb-true _ _ p.0)) (eqb-true _ _ p.1) (eqb-true _ _ p.2) (eqb-true _ _ p.3) ((bytes_eq-Decides a.name b.name).0 p.4),
   λ e. subst (λ (c : Key). same_key a c ≡ true) e
-      (joined (eqb (space_code a.space) (space_code a.space)) (eqb a.program a.program) (eqb a.unit a.unit) (eqb a.item a.item) (bytes_eq a.name a.name)
+      (joined (eqb (space_code a.space) (space_code a.space)) (eqb a.program a.program) (eqb a.«module» a.«module») (eqb a.item a.item) (bytes_eq a.name a.name)
       (eq-eqb _ _ refl) (eq-eqb _ _ refl) (eq-eqb _ _ refl) (eq-eqb _ _ refl) ((bytes_eq-Decides a.name a.name).1 refl)),
 )
 
@@ -226,10 +226,10 @@ joined_right a b c d e p q r s t = join a _ p (join b _ q (join c _ r (join d e 
 pub key_decides : (a b : Key) → Decides ((key_impl.eq-value).it a b) (a ≡ b)
 key_decides a b = (
   λ h.
-      let p = five_right ((space_impl.eq-value).it a.space b.space) (eqb a.program b.program) (eqb a.unit b.unit) (eqb a.item b.item) ((name_impl.eq-value).it a.name b.name) h in
+      let p = five_right ((space_impl.eq-value).it a.space b.space) (eqb a.program b.program) (eqb a.«module» b.«module») (eqb a.item b.item) ((name_impl.eq-value).it a.name b.name) h in
       made a b (space_same a.space b.space p.0) (eqb-true _ _ p.1) (eqb-true _ _ p.2) (eqb-true _ _ p.3) ((name_decides a.name b.name).0 p.4),
   λ e. subst (λ (c : Key). (key_impl.eq-value).it a c ≡ true) e
-      (joined_right ((space_impl.eq-value).it a.space a.space) (eqb a.program a.program) (eqb a.unit a.unit) (eqb a.item a.item) ((name_impl.eq-value).it a.name a.name)
+      (joined_right ((space_impl.eq-value).it a.space a.space) (eqb a.program a.program) (eqb a.«module» a.«module») (eqb a.item a.item) ((name_impl.eq-value).it a.name a.name)
       (space_refl a.space) (eq-eqb _ _ refl) (eq-eqb _ _ refl) (eq-eqb _ _ refl) ((name_decides a.name a.name).1 refl)),
 )
 

@@ -19,7 +19,7 @@ use Rattle.htl_names.specs.Kinds.{Judged, Span, Instance, Initial, token_of, IsN
 use Rattle.htl_names.specs.NameRules.{AreNamesRight, WrongKind}
 use Rattle.htl_names.specs.Order.{module_at, tasks_at, modes_at}
 use Rattle.htl_names.proofs.FlatMaps.{get_front, get_back, at_flat, flat_part}
-use Rattle.htl_names.proofs.Origins.{In}
+use Rattle.htl_names.proofs.Members.{In}
 use Rattle.htl_names.proofs.Owners.{to_map}
 use Rattle.htl_names.proofs.Deciding.{not_above}
 use Rattle.htl_names.proofs.Places.{program_of_module, module_of_task, module_of_mode}

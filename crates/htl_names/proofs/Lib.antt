@@ -7,8 +7,8 @@ mod Declared
 mod Distinct
 mod EntryBounds
 mod EntryWalk
+mod Examples
 mod ExcessLaws
-mod FewReads
 mod FirstLaws
 mod FlatMaps
 mod InRange
@@ -23,10 +23,10 @@ mod Leveled
 mod LimitLaws
 mod Meant
 pub mod Members
+mod ModulePlaces
 mod ModuleRanges
 mod NameRanges
 mod Naming
-mod NamingLaws
 mod NamingPlaces
 mod Narrowing
 mod Numbered
@@ -35,6 +35,7 @@ mod Ordering
 mod Origins
 mod OrphanLaws
 mod Owners
+mod Paired
 mod Passing
 mod Places
 mod Preceding
@@ -43,14 +44,15 @@ mod ReachLaws
 mod RefinedLaws
 mod RepeatLaws
 mod ResolveLaws
-mod Rows
 mod RuleLaws
+mod SampleFits
 mod Searching
+pub mod SmallFunctions
 mod StackLaws
 mod SwitchRanges
 mod TallyLaws
 mod Totals
-mod Units
+pub mod TreeBounds
 mod UnknownLaws
 mod Used
 mod Walking

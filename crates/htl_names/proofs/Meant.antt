@@ -8,13 +8,14 @@ use Rattle.htl_text.specs.declared.tree.InvokeNode.{InvokeNode}
 use Rattle.htl_names.specs.declared.fault.NameFault.TheVariants as fault
 use Rattle.htl_names.specs.declared.key.Entry.{Entry}
 use Rattle.htl_names.specs.declared.key.Key.{Key}
-use Rattle.htl_names.specs.Entries.{entries, params_of}
+use Rattle.htl_names.specs.Entries.{entries}
 use Rattle.htl_names.specs.Flat.{symbols_of}
-use Rattle.htl_names.specs.Keys.{space_code, same_key, look_up, pair_of, program_key, comm_key, task_key, mode_key, param_key, port_key, invoke_key}
+use Rattle.htl_names.specs.Keys.{space_code, same_key, look_up, pair_of, comm_key, task_key, mode_key, port_key, invoke_key}
 use Rattle.htl_names.specs.NameRules.{AreNamesRight, RepeatedName}
 use Rattle.htl_names.specs.Order.{tasks_at, modes_at}
 use Rattle.htl_names.proofs.Keys.{same_key_decides}
-use Rattle.htl_names.proofs.Origins.{In, Origin, of_program, of_comm, of_module, of_task, of_param, of_mode, of_port, of_invoke, origin}
+use Rattle.htl_names.proofs.Members.{In}
+use Rattle.htl_names.proofs.Origins.{Origin, of_program, of_comm, of_module, of_task, of_param, of_mode, of_port, of_invoke, origin}
 use Rattle.htl_names.proofs.Deciding.{order_of}
 
 -- ---- one place for one key
@@ -80,19 +81,6 @@ moved_modes : (ps : List PlainProgram) (q v i p u k : ℕ) (x : PlainMode) → q
 moved_modes ps q v i p u k x a b c e =
     subst (λ (n : ℕ). slice_get (modes_at ps n u) k ≡ Some x) a (subst (λ (n : ℕ). slice_get (modes_at ps q n) k ≡ Some x) b (subst (λ (n : ℕ). slice_get (modes_at ps q v) n ≡ Some x) c e))
 
-program_of : (ps : List PlainProgram) (n : List ℕ) (k : ℕ) (e : Entry) → Origin ps e → e.key ≡ program_key n → e.number ≡ k → (x : PlainProgram) × (slice_get ps k ≡ Some x) × (x.name.name ≡ n)
-program_of ps n k e (of_program q x there) same is = let number : q ≡ k = is in (x, sym (ap (slice_get ps) number) ∙ there, ap (λ (a : Key). a.name) same)
-program_of ps n k e (of_comm c x there) same is = let code : space_code e.key.space ≡ 0 = ap (λ (a : Key). space_code a.space) same in absurd (omega (arith, code))
-program_of ps n k e (of_module q v x there) same is = let code : space_code e.key.space ≡ 0 = ap (λ (a : Key). space_code a.space) same in absurd (omega (arith, code))
-program_of ps n k e (of_task q v i t there) same is = let code : space_code e.key.space ≡ 0 = ap (λ (a : Key). space_code a.space) same in absurd (omega (arith, code))
-program_of ps n k e (of_param q v i t there j x at) same is = let code : space_code e.key.space ≡ 0 = ap (λ (a : Key). space_code a.space) same in absurd (omega (arith, code))
-program_of ps n k e (of_mode q v i x there) same is = let code : space_code e.key.space ≡ 0 = ap (λ (a : Key). space_code a.space) same in absurd (omega (arith, code))
-program_of ps n k e (of_port q v i x there j y at) same is = let code : space_code e.key.space ≡ 0 = ap (λ (a : Key). space_code a.space) same in absurd (omega (arith, code))
-program_of ps n k e (of_invoke q v i x there j y at) same is = let code : space_code e.key.space ≡ 0 = ap (λ (a : Key). space_code a.space) same in absurd (omega (arith, code))
-
-pub program_means : (ps : List PlainProgram) (n : List ℕ) (k : ℕ) → look_up (program_key n) (symbols_of ps) ≡ Some k → (x : PlainProgram) × (slice_get ps k ≡ Some x) × (x.name.name ≡ n)
-program_means ps n k got = let f = found (program_key n) (entries ps) k got in program_of ps n k f.0 (origin ps f.1.0 f.0 f.1.1) f.2 f.3
-
 comm_of : (ps : List PlainProgram) (n : List ℕ) (k : ℕ) (e : Entry) → Origin ps e → e.key ≡ comm_key n → e.number ≡ k → (x : CommNode) × (slice_get (comms_of ps) k ≡ Some x) × (x.name.name ≡ n)
 comm_of ps n k e (of_program q x there) same is = let code : space_code e.key.space ≡ 1 = ap (λ (a : Key). space_code a.space) same in absurd (omega (arith, code))
 comm_of ps n k e (of_comm c x there) same is = let number : c ≡ k = is in (x, sym (ap (slice_get (comms_of ps)) number) ∙ there, ap (λ (a : Key). a.name) same)
@@ -110,7 +98,7 @@ task_of : (ps : List PlainProgram) (p u : ℕ) (n : List ℕ) (k : ℕ) (e : Ent
 task_of ps p u n k e (of_program q x there) same is = let code : space_code e.key.space ≡ 3 = ap (λ (a : Key). space_code a.space) same in absurd (omega (arith, code))
 task_of ps p u n k e (of_comm c x there) same is = let code : space_code e.key.space ≡ 3 = ap (λ (a : Key). space_code a.space) same in absurd (omega (arith, code))
 task_of ps p u n k e (of_module q v x there) same is = let code : space_code e.key.space ≡ 3 = ap (λ (a : Key). space_code a.space) same in absurd (omega (arith, code))
-task_of ps p u n k e (of_task q v i t there) same is = (t, moved_tasks ps q v i p u k t (ap (λ (a : Key). a.program) same) (ap (λ (a : Key). a.unit) same) is there, ap (λ (a : Key). a.name) same)
+task_of ps p u n k e (of_task q v i t there) same is = (t, moved_tasks ps q v i p u k t (ap (λ (a : Key). a.program) same) (ap (λ (a : Key). a.«module») same) is there, ap (λ (a : Key). a.name) same)
 task_of ps p u n k e (of_param q v i t there j x at) same is = let code : space_code e.key.space ≡ 3 = ap (λ (a : Key). space_code a.space) same in absurd (omega (arith, code))
 task_of ps p u n k e (of_mode q v i x there) same is = let code : space_code e.key.space ≡ 3 = ap (λ (a : Key). space_code a.space) same in absurd (omega (arith, code))
 task_of ps p u n k e (of_port q v i x there j y at) same is = let code : space_code e.key.space ≡ 3 = ap (λ (a : Key). space_code a.space) same in absurd (omega (arith, code))
@@ -125,25 +113,12 @@ mode_of ps p u n k e (of_comm c x there) same is = let code : space_code e.key.s
 mode_of ps p u n k e (of_module q v x there) same is = let code : space_code e.key.space ≡ 4 = ap (λ (a : Key). space_code a.space) same in absurd (omega (arith, code))
 mode_of ps p u n k e (of_task q v i t there) same is = let code : space_code e.key.space ≡ 4 = ap (λ (a : Key). space_code a.space) same in absurd (omega (arith, code))
 mode_of ps p u n k e (of_param q v i t there j x at) same is = let code : space_code e.key.space ≡ 4 = ap (λ (a : Key). space_code a.space) same in absurd (omega (arith, code))
-mode_of ps p u n k e (of_mode q v i x there) same is = (x, moved_modes ps q v i p u k x (ap (λ (a : Key). a.program) same) (ap (λ (a : Key). a.unit) same) is there, ap (λ (a : Key). a.name) same)
+mode_of ps p u n k e (of_mode q v i x there) same is = (x, moved_modes ps q v i p u k x (ap (λ (a : Key). a.program) same) (ap (λ (a : Key). a.«module») same) is there, ap (λ (a : Key). a.name) same)
 mode_of ps p u n k e (of_port q v i x there j y at) same is = let code : space_code e.key.space ≡ 4 = ap (λ (a : Key). space_code a.space) same in absurd (omega (arith, code))
 mode_of ps p u n k e (of_invoke q v i x there j y at) same is = let code : space_code e.key.space ≡ 4 = ap (λ (a : Key). space_code a.space) same in absurd (omega (arith, code))
 
 pub mode_means : (ps : List PlainProgram) (p u : ℕ) (n : List ℕ) (k : ℕ) → look_up (mode_key p u n) (symbols_of ps) ≡ Some k → (x : PlainMode) × (slice_get (modes_at ps p u) k ≡ Some x) × (x.name.name ≡ n)
 mode_means ps p u n k got = let f = found (mode_key p u n) (entries ps) k got in mode_of ps p u n k f.0 (origin ps f.1.0 f.0 f.1.1) f.2 f.3
-
-param_of : (ps : List PlainProgram) (p u m : ℕ) (n : List ℕ) (k : ℕ) (e : Entry) → Origin ps e → e.key ≡ param_key p u m n → e.number ≡ k → (t : PlainTask) × (slice_get (tasks_at ps p u) m ≡ Some t) × (x : ParamNode) × (slice_get (params_of t) k ≡ Some x) × (x.name.name ≡ n)
-param_of ps p u m n k e (of_program q x there) same is = let code : space_code e.key.space ≡ 5 = ap (λ (a : Key). space_code a.space) same in absurd (omega (arith, code))
-param_of ps p u m n k e (of_comm c x there) same is = let code : space_code e.key.space ≡ 5 = ap (λ (a : Key). space_code a.space) same in absurd (omega (arith, code))
-param_of ps p u m n k e (of_module q v x there) same is = let code : space_code e.key.space ≡ 5 = ap (λ (a : Key). space_code a.space) same in absurd (omega (arith, code))
-param_of ps p u m n k e (of_task q v i t there) same is = let code : space_code e.key.space ≡ 5 = ap (λ (a : Key). space_code a.space) same in absurd (omega (arith, code))
-param_of ps p u m n k e (of_param q v i t there j x at) same is = (t, moved_tasks ps q v i p u m t (ap (λ (a : Key). a.program) same) (ap (λ (a : Key). a.unit) same) (ap (λ (a : Key). a.item) same) there, x, sym (ap (slice_get (params_of t)) is) ∙ at, ap (λ (a : Key). a.name) same)
-param_of ps p u m n k e (of_mode q v i x there) same is = let code : space_code e.key.space ≡ 5 = ap (λ (a : Key). space_code a.space) same in absurd (omega (arith, code))
-param_of ps p u m n k e (of_port q v i x there j y at) same is = let code : space_code e.key.space ≡ 5 = ap (λ (a : Key). space_code a.space) same in absurd (omega (arith, code))
-param_of ps p u m n k e (of_invoke q v i x there j y at) same is = let code : space_code e.key.space ≡ 5 = ap (λ (a : Key). space_code a.space) same in absurd (omega (arith, code))
-
-pub param_means : (ps : List PlainProgram) (p u m : ℕ) (n : List ℕ) (k : ℕ) → look_up (param_key p u m n) (symbols_of ps) ≡ Some k → (t : PlainTask) × (slice_get (tasks_at ps p u) m ≡ Some t) × (x : ParamNode) × (slice_get (params_of t) k ≡ Some x) × (x.name.name ≡ n)
-param_means ps p u m n k got = let f = found (param_key p u m n) (entries ps) k got in param_of ps p u m n k f.0 (origin ps f.1.0 f.0 f.1.1) f.2 f.3
 
 port_of : (ps : List PlainProgram) (p u m : ℕ) (n : List ℕ) (k : ℕ) (e : Entry) → Origin ps e → e.key ≡ port_key p u m n → e.number ≡ k → (x : PlainMode) × (slice_get (modes_at ps p u) m ≡ Some x) × (y : ParamNode) × (slice_get x.ports k ≡ Some y) × (y.name.name ≡ n)
 port_of ps p u m n k e (of_program q x there) same is = let code : space_code e.key.space ≡ 6 = ap (λ (a : Key). space_code a.space) same in absurd (omega (arith, code))
@@ -152,7 +127,7 @@ port_of ps p u m n k e (of_module q v x there) same is = let code : space_code e
 port_of ps p u m n k e (of_task q v i t there) same is = let code : space_code e.key.space ≡ 6 = ap (λ (a : Key). space_code a.space) same in absurd (omega (arith, code))
 port_of ps p u m n k e (of_param q v i t there j x at) same is = let code : space_code e.key.space ≡ 6 = ap (λ (a : Key). space_code a.space) same in absurd (omega (arith, code))
 port_of ps p u m n k e (of_mode q v i x there) same is = let code : space_code e.key.space ≡ 6 = ap (λ (a : Key). space_code a.space) same in absurd (omega (arith, code))
-port_of ps p u m n k e (of_port q v i x there j y at) same is = (x, moved_modes ps q v i p u m x (ap (λ (a : Key). a.program) same) (ap (λ (a : Key). a.unit) same) (ap (λ (a : Key). a.item) same) there, y, sym (ap (slice_get x.ports) is) ∙ at, ap (λ (a : Key). a.name) same)
+port_of ps p u m n k e (of_port q v i x there j y at) same is = (x, moved_modes ps q v i p u m x (ap (λ (a : Key). a.program) same) (ap (λ (a : Key). a.«module») same) (ap (λ (a : Key). a.item) same) there, y, sym (ap (slice_get x.ports) is) ∙ at, ap (λ (a : Key). a.name) same)
 port_of ps p u m n k e (of_invoke q v i x there j y at) same is = let code : space_code e.key.space ≡ 6 = ap (λ (a : Key). space_code a.space) same in absurd (omega (arith, code))
 
 pub port_means : (ps : List PlainProgram) (p u m : ℕ) (n : List ℕ) (k : ℕ) → look_up (port_key p u m n) (symbols_of ps) ≡ Some k → (x : PlainMode) × (slice_get (modes_at ps p u) m ≡ Some x) × (y : ParamNode) × (slice_get x.ports k ≡ Some y) × (y.name.name ≡ n)
@@ -166,7 +141,7 @@ invoke_of ps p u m n k e (of_task q v i t there) same is = let code : space_code
 invoke_of ps p u m n k e (of_param q v i t there j x at) same is = let code : space_code e.key.space ≡ 7 = ap (λ (a : Key). space_code a.space) same in absurd (omega (arith, code))
 invoke_of ps p u m n k e (of_mode q v i x there) same is = let code : space_code e.key.space ≡ 7 = ap (λ (a : Key). space_code a.space) same in absurd (omega (arith, code))
 invoke_of ps p u m n k e (of_port q v i x there j y at) same is = let code : space_code e.key.space ≡ 7 = ap (λ (a : Key). space_code a.space) same in absurd (omega (arith, code))
-invoke_of ps p u m n k e (of_invoke q v i x there j y at) same is = (x, moved_modes ps q v i p u m x (ap (λ (a : Key). a.program) same) (ap (λ (a : Key). a.unit) same) (ap (λ (a : Key). a.item) same) there, y, sym (ap (slice_get x.invokes) is) ∙ at, ap (λ (a : Key). a.name) same)
+invoke_of ps p u m n k e (of_invoke q v i x there j y at) same is = (x, moved_modes ps q v i p u m x (ap (λ (a : Key). a.program) same) (ap (λ (a : Key). a.«module») same) (ap (λ (a : Key). a.item) same) there, y, sym (ap (slice_get x.invokes) is) ∙ at, ap (λ (a : Key). a.name) same)
 
 pub invoke_means : (ps : List PlainProgram) (p u m : ℕ) (n : List ℕ) (k : ℕ) → look_up (invoke_key p u m n) (symbols_of ps) ≡ Some k → (x : PlainMode) × (slice_get (modes_at ps p u) m ≡ Some x) × (y : InvokeNode) × (slice_get x.invokes k ≡ Some y) × (y.task.name ≡ n)
 invoke_means ps p u m n k got = let f = found (invoke_key p u m n) (entries ps) k got in invoke_of ps p u m n k f.0 (origin ps f.1.0 f.0 f.1.1) f.2 f.3

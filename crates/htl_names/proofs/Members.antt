@@ -1,5 +1,5 @@
 -- Lists: what holds of each item, and which items there are.
-use Rattle.std.proofs.Common.{◌≡◌, ℕ, zero, suc, ◌+◌, ◌<◌, ◌⊎◌, inl, inr, List, [], ◌∷◌, ◌++◌, map, slice_get, Some, All, refl, sym, ◌∙◌, ap, subst, arith}
+use Rattle.std.proofs.Common.{◌≡◌, ℕ, zero, suc, ◌+◌, ◌<◌, List, [], ◌∷◌, ◌++◌, map, slice_get, Some, All, refl, sym, ◌∙◌, ap, subst, arith}
 use Rattle.std.specs.List.{flat_map, sum_by}
 use Rattle.std.proofs.lemmas.List.{map-append}
 use Rattle.std.proofs.lemmas.List.Elements.{All-nil, All-cons, All-get_or}
@@ -14,9 +14,8 @@ Each P [] = Unit {0}
 Each P (x ∷ xs) = P x × Each P xs
 
 -- y is an item
-abbrev pub Has : {A : Type 0} → A → List A → Type 0
-Has y [] = ⊥
-Has y (x ∷ xs) = (x ≡ y) ⊎ Has y xs
+abbrev pub In : {A : Type 0} → A → List A → Type 0
+In y xs = (k : ℕ) × (slice_get xs k ≡ Some y)
 
 -- ---- each item
 
@@ -53,36 +52,16 @@ pub each_weaker : {A : Type 0} (P Q : A → Type 0) → ((x : A) → P x → Q x
 each_weaker P Q f [] h = tt
 each_weaker P Q f (x ∷ xs) h = (f x h.0, each_weaker P Q f xs h.1)
 
+pub each_of_all : {A : Type 0} (P : A → Type 0) (xs : List A) → All P xs → Each P xs
+each_of_all P [] h = tt
+each_of_all P (x ∷ xs) h = (h 0 x (omega arith), each_of_all P xs (λ k d below. h (suc k) d (omega (arith, below))))
+
 -- what holds at each place holds of each item
 pub All-from_places : {A : Type 0} (P : A → Type 0) (xs : List A) → ((k : ℕ) (x : A) → slice_get xs k ≡ Some x → P x) → All P xs
 All-from_places P xs h k d below = h k _ (slice_get-get_or xs k d below)
 
 pub All-at : {A : Type 0} (P : A → Type 0) (xs : List A) (k : ℕ) (x : A) → All P xs → slice_get xs k ≡ Some x → P x
 All-at P xs k x all e = subst P (get_or_from_slice_get xs k x x e) (All-get_or P xs k x (slice_get_within xs k x e) all)
-
--- ---- the items
-
-module _ {A : Type 0} (y : A) where
-  pub has_left : (xs ys : List A) → Has y xs → Has y (xs ++ ys)
-  has_left [] ys h = absurd h
-  has_left (x ∷ xs) ys (inl e) = inl e
-  has_left (x ∷ xs) ys (inr h) = inr (has_left xs ys h)
-
-  pub has_right : (xs ys : List A) → Has y ys → Has y (xs ++ ys)
-  has_right [] ys h = h
-  has_right (x ∷ xs) ys h = inr (has_right xs ys h)
-
-  pub has_at : (xs : List A) (k : ℕ) → slice_get xs k ≡ Some y → Has y xs
-  has_at [] k e = absurd (none-some y e)
-  has_at (x ∷ xs) zero e = inl (same_Some x y e)
-  has_at (x ∷ xs) (suc k) e = inr (has_at xs k e)
-
-  pub has_flat_map_at : {B : Type 0} (f : ℕ → B → List A) (k i j : ℕ) (xs : List B) (x : B) → i ≡ k + j → slice_get xs j ≡ Some x → Has y (f i x) → Has y (flat_map_at f k xs)
-  has_flat_map_at f k i j [] x e s h = absurd (none-some x s)
-  has_flat_map_at f k i zero (z ∷ xs) x e s h =
-      let same : i ≡ k = omega (arith, e) in
-      has_left (f k z) (flat_map_at f (suc k) xs) (subst (λ w. Has y (f k w)) (sym (same_Some z x s)) (subst (λ n. Has y (f n x)) same h))
-  has_flat_map_at f k i (suc j) (z ∷ xs) x e s h = has_right (f k z) (flat_map_at f (suc k) xs) (has_flat_map_at f (suc k) i j xs x (omega (arith, e)) s h)
 
 -- ---- maps
 

@@ -1,6 +1,7 @@
 -- The names of a tree's tables differ.
 use Rattle.std.proofs.Common.{◌≡◌, ◌<◌, ◌⊎◌, inl, inr, ◌+◌, ℕ, suc, List, map, length, take, slice_get, Some, refl, sym, ◌∙◌, ap, subst, arith, length-append}
 use Rattle.std.proofs.lemmas.Option.{slice_get_within}
+use Rattle.htl_model.specs.Lists.{AreApart}
 use Rattle.htl_model.specs.declared.parts.Comm.{Comm}
 use Rattle.htl_model.specs.declared.parts.Mode.{Mode}
 use Rattle.htl_model.specs.declared.parts.Module.{Module}
@@ -11,7 +12,7 @@ use Rattle.htl_text.specs.Bounds.{comms_of}
 use Rattle.htl_text.specs.Nodes.{PlainProgram, PlainModule, PlainTask}
 use Rattle.htl_names.specs.declared.key.Entry.{Entry}
 use Rattle.htl_names.specs.Entries.{entry, module_entries, comm_entry, program_entries, entries, port_entry, invoke_entry}
-use Rattle.htl_names.specs.Flat.{Layout, layout, symbols_of, comm_item, comm_items, mode_item, unit_mode_items, mode_items, module_items, port_item, mode_port_items, port_items, task_item, unit_task_items, task_items, invoke_item, mode_invoke_items, invoke_items}
+use Rattle.htl_names.specs.Flat.{Layout, layout, symbols_of, comm_item, comm_items, mode_item, module_mode_items, mode_items, module_items, port_item, mode_port_items, port_items, task_item, module_task_items, task_items, invoke_item, mode_invoke_items, invoke_items}
 use Rattle.htl_names.specs.Keys.{look_up, comm_key, module_key, task_key, mode_key, port_key, invoke_key}
 use Rattle.htl_names.specs.Lists.{flat_map_at, map_at}
 use Rattle.htl_names.specs.NameRules.{AreNamesRight}
@@ -22,10 +23,10 @@ use Rattle.htl_names.proofs.Declared.{declared}
 use Rattle.htl_names.proofs.FlatMaps.{get_back, at_part_0, part_of_0, part_before}
 use Rattle.htl_names.proofs.InvokeRanges.{of_mode}
 use Rattle.htl_names.proofs.Meant.{one_place, one_entry, task_means}
-use Rattle.htl_names.proofs.ModuleRanges.{module_from, meaning_is}
+use Rattle.htl_names.proofs.ModuleRanges.{module_of_program, meaning_is}
 use Rattle.htl_names.proofs.Numbered.{mode_of_number}
 use Rattle.htl_names.proofs.Origins.{Origin, of_comm, of_task, of_mode as mode_origin, of_port, of_invoke, first_entry, in_source_at, entries_before}
-use Rattle.htl_names.proofs.Owners.{of_map, IsOwned, AreApart}
+use Rattle.htl_names.proofs.Owners.{of_map, IsOwned}
 use Rattle.htl_names.proofs.Used.{known, task_used}
 use Rattle.htl_names.proofs.Places.{program_of_module}
 use Rattle.htl_names.proofs.Deciding.{order_of}
@@ -140,11 +141,11 @@ pub module_names_apart : (ps : List PlainProgram) → AreNamesRight ps → IsOrd
 module_names_apart ps right ordered j k n less p q =
     let a = of_map (λ (x : Module). x.name) (module_items (layout ps) ps) j n p in
     let b = of_map (λ (x : Module). x.name) (module_items (layout ps) ps) k n q in
-    let f = module_from ps ordered j a.0 a.1 in
-    let g = module_from ps ordered k b.0 b.1 in
+    let f = module_of_program ps ordered j a.0 a.1 in
+    let g = module_of_program ps ordered k b.0 b.1 in
     let names : f.node.name.name ≡ g.node.name.name = ap (λ (x : Module). x.name) f.is ∙ a.2 ∙ sym b.2 ∙ sym (ap (λ (x : Module). x.name) g.is) in
-    let one = one_module ps right f.unit.program f.unit.unit g.unit.program g.unit.unit f.node g.node f.its g.its names in
-    let same = ordered.apart j k f.unit g.unit f.there g.there one.0 one.1 in
+    let one = one_module ps right f.«module».program f.«module».«module» g.«module».program g.«module».«module» f.node g.node f.its g.its names in
+    let same = ordered.apart j k f.«module» g.«module» f.there g.there one.0 one.1 in
     omega (arith, less, same)
 
 -- ---- names of an owner
@@ -174,27 +175,27 @@ owned_apart {B = B} {N = N} f own called xs owned known_by j k n less p q =
     let starts = ap (λ (m : ℕ). length (flat_map_at f 0 (take m xs))) part in
     omega (arith, less, r.number, s.number, place, starts)
 
-pub modes_owned : (ps : List PlainProgram) → IsOwned (unit_mode_items ps) (λ (m : Mode). m.«module»)
-modes_owned ps k s j y e = let x = of_map (mode_item k) (modes_at ps s.program s.unit) j y e in sym (ap (λ (m : Mode). m.«module») x.2)
+pub modes_owned : (ps : List PlainProgram) → IsOwned (module_mode_items ps) (λ (m : Mode). m.«module»)
+modes_owned ps k s j y e = let x = of_map (mode_item k) (modes_at ps s.program s.«module») j y e in sym (ap (λ (m : Mode). m.«module») x.2)
 
 pub mode_names_apart : (ps : List PlainProgram) → AreNamesRight ps → AreApart {A = ℕ × List ℕ} (map (λ (m : Mode). (m.«module», m.name)) (mode_items (layout ps) ps))
 mode_names_apart ps right =
-    owned_apart (unit_mode_items ps) (λ (m : Mode). m.«module») (λ (m : Mode). m.name) (layout ps).units (modes_owned ps) (λ k s there i j y z a b names.
+    owned_apart (module_mode_items ps) (λ (m : Mode). m.«module») (λ (m : Mode). m.name) (layout ps).modules (modes_owned ps) (λ k s there i j y z a b names.
     let p = s.program in
-    let u = s.unit in
+    let u = s.«module» in
     let x = of_map (mode_item k) (modes_at ps p u) i y a in
     let w = of_map (mode_item k) (modes_at ps p u) j z b in
     let same : x.0.name.name ≡ w.0.name.name = ap (λ (m : Mode). m.name) x.2 ∙ names ∙ sym (ap (λ (m : Mode). m.name) w.2) in
     same_number ps right (entry (mode_key p u x.0.name.name) i x.0.name) (entry (mode_key p u w.0.name.name) j w.0.name) (mode_origin p u i x.0 x.1) (mode_origin p u j w.0 w.1) (ap (λ (m : List ℕ). mode_key p u m) same))
 
-pub tasks_owned : (ps : List PlainProgram) → IsOwned (unit_task_items ps) (λ (t : Task). t.«module»)
-tasks_owned ps k s j y e = let x = of_map (task_item k) (tasks_at ps s.program s.unit) j y e in sym (ap (λ (t : Task). t.«module») x.2)
+pub tasks_owned : (ps : List PlainProgram) → IsOwned (module_task_items ps) (λ (t : Task). t.«module»)
+tasks_owned ps k s j y e = let x = of_map (task_item k) (tasks_at ps s.program s.«module») j y e in sym (ap (λ (t : Task). t.«module») x.2)
 
 pub task_names_apart : (ps : List PlainProgram) → AreNamesRight ps → AreApart {A = ℕ × List ℕ} (map (λ (t : Task). (t.«module», t.name)) (task_items (layout ps) ps))
 task_names_apart ps right =
-    owned_apart (unit_task_items ps) (λ (t : Task). t.«module») (λ (t : Task). t.name) (layout ps).units (tasks_owned ps) (λ k s there i j y z a b names.
+    owned_apart (module_task_items ps) (λ (t : Task). t.«module») (λ (t : Task). t.name) (layout ps).modules (tasks_owned ps) (λ k s there i j y z a b names.
     let p = s.program in
-    let u = s.unit in
+    let u = s.«module» in
     let x = of_map (task_item k) (tasks_at ps p u) i y a in
     let w = of_map (task_item k) (tasks_at ps p u) j z b in
     let same : x.0.name.name ≡ w.0.name.name = ap (λ (t : Task). t.name) x.2 ∙ names ∙ sym (ap (λ (t : Task). t.name) w.2) in
@@ -211,10 +212,10 @@ port_names_apart ps right =
     let x = of_map (port_item m) (ports_at ps a) i y p in
     let w = of_map (port_item m) (ports_at ps a) j z q in
     let same : x.0.name.name ≡ w.0.name.name = ap (λ (q : Port). q.name) x.2 ∙ names ∙ sym (ap (λ (q : Port). q.name) w.2) in
-    same_number ps right (port_entry a.program a.unit a.mode i x.0) (port_entry a.program a.unit a.mode j w.0)
-    (of_port a.program a.unit a.mode f.node f.its i x.0 (sym (ap (λ qs. slice_get qs i) ports) ∙ x.1))
-    (of_port a.program a.unit a.mode f.node f.its j w.0 (sym (ap (λ qs. slice_get qs j) ports) ∙ w.1))
-    (ap (λ (n : List ℕ). port_key a.program a.unit a.mode n) same))
+    same_number ps right (port_entry a.program a.«module» a.mode i x.0) (port_entry a.program a.«module» a.mode j w.0)
+    (of_port a.program a.«module» a.mode f.node f.its i x.0 (sym (ap (λ qs. slice_get qs i) ports) ∙ x.1))
+    (of_port a.program a.«module» a.mode f.node f.its j w.0 (sym (ap (λ qs. slice_get qs j) ports) ∙ w.1))
+    (ap (λ (n : List ℕ). port_key a.program a.«module» a.mode n) same))
 
 pub invokes_owned : (l : Layout) (ps : List PlainProgram) → IsOwned (mode_invoke_items l ps) (λ (i : Inv). i.mode)
 invokes_owned l ps m a j y e = let x = of_map (invoke_item l ps m a) (invokes_at ps a) j y e in sym (ap (λ (i : Inv). i.mode) x.2)
@@ -238,15 +239,15 @@ invoked_once ps right =
     let w = of_map (invoke_item l ps m a) (invokes_at ps a) j z q in
     let own = sym (ap (λ qs. slice_get qs i) invokes) ∙ x.1 in
     let other = sym (ap (λ qs. slice_get qs j) invokes) ∙ w.1 in
-    let one = known ps right (usage (task_key a.program a.unit x.0.task.name) x.0.task) (task_used ps a.program a.unit a.mode i f.node x.0 f.its own) in
-    let two = known ps right (usage (task_key a.program a.unit w.0.task.name) w.0.task) (task_used ps a.program a.unit a.mode j f.node w.0 f.its other) in
-    let first = meaning_is ps (task_key a.program a.unit x.0.task.name) one.0 one.1 in
-    let second = meaning_is ps (task_key a.program a.unit w.0.task.name) two.0 two.1 in
+    let one = known ps right (usage (task_key a.program a.«module» x.0.task.name) x.0.task) (task_used ps a.program a.«module» a.mode i f.node x.0 f.its own) in
+    let two = known ps right (usage (task_key a.program a.«module» w.0.task.name) w.0.task) (task_used ps a.program a.«module» a.mode j f.node w.0 f.its other) in
+    let first = meaning_is ps (task_key a.program a.«module» x.0.task.name) one.0 one.1 in
+    let second = meaning_is ps (task_key a.program a.«module» w.0.task.name) two.0 two.1 in
     let left = ap (λ (v : Inv). v.task) x.2 in
     let right_side = ap (λ (v : Inv). v.task) w.2 in
     let same : one.0 ≡ two.0 = omega (arith, first, second, left, right_side, tasks) in
-    let names = task_name_is ps right a.program a.unit x.0.task.name w.0.task.name one.0 two.0 one.1 two.1 same in
-    same_number ps right (invoke_entry a.program a.unit a.mode i x.0) (invoke_entry a.program a.unit a.mode j w.0)
-    (of_invoke a.program a.unit a.mode f.node f.its i x.0 own)
-    (of_invoke a.program a.unit a.mode f.node f.its j w.0 other)
-    (ap (λ (n : List ℕ). invoke_key a.program a.unit a.mode n) names))
+    let names = task_name_is ps right a.program a.«module» x.0.task.name w.0.task.name one.0 two.0 one.1 two.1 same in
+    same_number ps right (invoke_entry a.program a.«module» a.mode i x.0) (invoke_entry a.program a.«module» a.mode j w.0)
+    (of_invoke a.program a.«module» a.mode f.node f.its i x.0 own)
+    (of_invoke a.program a.«module» a.mode f.node f.its j w.0 other)
+    (ap (λ (n : List ℕ). invoke_key a.program a.«module» a.mode n) names))

@@ -1,16 +1,23 @@
 -- The modes that name programs: the links between programs and the refined modes tell the same.
-use Rattle.std.proofs.Common.{◌≡◌, ℕ, zero, suc, ◌≤◌, ◌<◌, inl, inr, Bool, true, false, cond, ◌||◌, eqb, List, [], ◌∷◌, map, length, slice_get, Option, Some, None, refl, sym, ◌∙◌, ap, subst, arith, eqb-true, eq-eqb}
+use Rattle.std.proofs.Common.{◌≡◌, ℕ, zero, suc, ◌≤◌, ◌<◌, Bool, true, false, cond, ◌||◌, eqb, List, [], ◌∷◌, map, length, slice_get, Option, Some, None, refl, sym, ◌∙◌, ap, subst, arith, eqb-true, eq-eqb, ◌+◌, min, get_or, fold, take}
 use Rattle.std.specs.List.{flat_map, list_any, sum_by, count_by}
 use Rattle.std.proofs.lemmas.List.Sums.{sum_by-cons}
 use Rattle.std.proofs.lemmas.List.Folds.{list_any-append}
 use Rattle.std.proofs.lemmas.Bool.Decides.{nat_tests}
-use Rattle.std.proofs.lemmas.Option.{slice_get_within}
+use Rattle.std.proofs.lemmas.Option.{slice_get_within, get_or_from_slice_get, none-some, same_Some}
+use Rattle.std.specs.Prelude.{slice_get}
+use Rattle.std.proofs.lemmas.Grind.{get_or-set_at}
+use Rattle.std.proofs.lemmas.List.{get_or-set_other, get_or-replicate}
+use Rattle.std.proofs.Math.ListN.{set, length-set, replicate, length-replicate}
 use Rattle.htl_text.specs.Nodes.{PlainProgram, PlainMode}
 use Rattle.htl_names.specs.declared.key.Key.{Key}
 use Rattle.htl_names.specs.declared.place.ModeAt.{ModeAt}
 use Rattle.htl_names.specs.Order.{mode_at}
-use Rattle.htl_names.specs.Programs.{named_program, mode_links, module_links, program_links, links, named_by, namings, Naming, mode_naming, module_naming, program_naming, naming, refined_in, refined_by}
-use Rattle.htl_names.proofs.Members.{Has, has_flat_map_at, map_flat_map_at, sum_by_map, sum_by_flat_map}
+use Rattle.htl_names.specs.Programs.{named_program, mode_links, module_links, program_links, links, named_by, namings, Naming, mode_naming, module_naming, program_naming, naming, refined_in, refined_by, Graph}
+use Rattle.htl_names.specs.Namings.{counted_at, counted, counted_all, CountsNamings}
+use Rattle.htl_names.specs.Lists.{flat_map_at}
+use Rattle.htl_names.proofs.FlatMaps.{at_part_0}
+use Rattle.htl_names.proofs.Members.{In, map_flat_map_at, sum_by_map, sum_by_flat_map}
 use Rattle.htl_names.proofs.Places.{program_of_module, module_of_mode, module_there, modes_there}
 
 -- ---- the mode that names a program
@@ -22,20 +29,23 @@ pub record Names (symbols : List (Key × ℕ)) (ps : List PlainProgram) (a : Mod
   pub named : named_program symbols mode ≡ Some q
 
 abbrev place_of : ℕ → ℕ → ℕ → ModeAt
-place_of p u m = record { program = p; unit = u; mode = m }
+place_of p u m = record { program = p; «module» = u; mode = m }
 
-mode_has : (symbols : List (Key × ℕ)) (p u m q : ℕ) (x : PlainMode) → named_program symbols x ≡ Some q → Has {A = Naming} (place_of p u m, q) (mode_naming symbols p u m x)
-mode_has symbols p u m q x h =
-    subst (λ (o : Option ℕ). Has {A = Naming} (place_of p u m, q) (elim o [ Some r ↦ (place_of p u m, r) ∷ [] | None ↦ [] ])) (sym h) (inl refl)
+in_mode : (symbols : List (Key × ℕ)) (p u m q : ℕ) (x : PlainMode) → named_program symbols x ≡ Some q → In {A = Naming} (place_of p u m, q) (mode_naming symbols p u m x)
+in_mode symbols p u m q x h =
+    subst (λ (o : Option ℕ). In {A = Naming} (place_of p u m, q) (elim o [ Some r ↦ (place_of p u m, r) ∷ [] | None ↦ [] ])) (sym h) (0, refl)
 
-pub naming_has : (symbols : List (Key × ℕ)) (ps : List PlainProgram) (a : ModeAt) (q : ℕ) → Names symbols ps a q → Has {A = Naming} (a, q) (naming symbols ps)
-naming_has symbols ps a q h =
-    let o = module_of_mode ps a.program a.unit a.mode h.mode h.there in
-    let x = program_of_module ps a.program a.unit o.0 o.1 in
-    let one = mode_has symbols a.program a.unit a.mode q h.mode h.named in
-    let two = has_flat_map_at {A = Naming} (a, q) (mode_naming symbols a.program a.unit) 0 a.mode a.mode o.0.modes h.mode (omega arith) o.2 one in
-    let three = has_flat_map_at {A = Naming} (a, q) (module_naming symbols a.program) 0 a.unit a.unit x.0.modules o.0 (omega arith) x.2 two in
-    has_flat_map_at {A = Naming} (a, q) (program_naming symbols) 0 a.program a.program ps x.0 (omega arith) x.1 three
+in_part : {A : Type 0} (f : ℕ → A → List Naming) (xs : List A) (i : ℕ) (x : A) (y : Naming) → slice_get xs i ≡ Some x → In y (f i x) → In y (flat_map_at f 0 xs)
+in_part f xs i x y e h = (length (flat_map_at f 0 (take i xs)) + h.0, at_part_0 f xs i h.0 x y e h.1)
+
+pub in_naming : (symbols : List (Key × ℕ)) (ps : List PlainProgram) (a : ModeAt) (q : ℕ) → Names symbols ps a q → In {A = Naming} (a, q) (naming symbols ps)
+in_naming symbols ps a q h =
+    let o = module_of_mode ps a.program a.«module» a.mode h.mode h.there in
+    let x = program_of_module ps a.program a.«module» o.0 o.1 in
+    let one = in_mode symbols a.program a.«module» a.mode q h.mode h.named in
+    let two = in_part (mode_naming symbols a.program a.«module») o.0.modes a.mode h.mode (a, q) o.2 one in
+    let three = in_part (module_naming symbols a.program) x.0.modules a.«module» o.0 (a, q) x.2 two in
+    in_part (program_naming symbols) ps a.program x.0 (a, q) x.1 three
 
 -- ---- how often a program is named
 
@@ -64,29 +74,29 @@ naming_count symbols ps q =
 
 -- ---- the one mode
 
-has_counts : (a : ModeAt) (q : ℕ) (xs : List Naming) → Has {A = Naming} (a, q) xs → 1 ≤ count_by (λ (x : Naming). eqb q x.1) xs
-has_counts a q [] h = absurd h
-has_counts a q (x ∷ xs) (inl e) =
+naming_counts : (a : ModeAt) (q : ℕ) (xs : List Naming) (k : ℕ) → slice_get xs k ≡ Some (a, q) → 1 ≤ count_by (λ (x : Naming). eqb q x.1) xs
+naming_counts a q [] k h = absurd (none-some {A = Naming} (a, q) h)
+naming_counts a q (x ∷ xs) zero h =
     let test : Naming → ℕ = λ y. cond (eqb q y.1) 1 0 in
-    let one : eqb q x.1 ≡ true = eq-eqb q x.1 (sym (ap (λ (y : Naming). y.1) e)) in
+    let one : eqb q x.1 ≡ true = eq-eqb q x.1 (sym (ap (λ (y : Naming). y.1) (same_Some {A = Naming} x (a, q) h))) in
     let c : test x ≡ 1 = rw one refl in
     omega (arith, sum_by-cons test x xs, c)
-has_counts a q (x ∷ xs) (inr h) = let test : Naming → ℕ = λ y. cond (eqb q y.1) 1 0 in omega (arith, sum_by-cons test x xs, has_counts a q xs h)
+naming_counts a q (x ∷ xs) (suc k) h = let test : Naming → ℕ = λ y. cond (eqb q y.1) 1 0 in omega (arith, sum_by-cons test x xs, naming_counts a q xs k h)
 
-refined_one : (a : ModeAt) (q : ℕ) (xs : List Naming) → Has {A = Naming} (a, q) xs → count_by (λ (x : Naming). eqb q x.1) xs ≡ 1 → refined_in q xs ≡ Some a
-refined_one a q [] h c = absurd h
-refined_one a q (x ∷ xs) h c = by (refined_one a q xs) (eqb x.1 q) refl
+refined_one : (a : ModeAt) (q : ℕ) (xs : List Naming) (k : ℕ) → slice_get xs k ≡ Some (a, q) → count_by (λ (x : Naming). eqb q x.1) xs ≡ 1 → refined_in q xs ≡ Some a
+refined_one a q [] k h c = absurd (none-some {A = Naming} (a, q) h)
+refined_one a q (x ∷ xs) k h c = by (λ j e. refined_one a q xs j e) (eqb x.1 q) refl
   where
-    by : (Has {A = Naming} (a, q) xs → count_by (λ (y : Naming). eqb q y.1) xs ≡ 1 → refined_in q xs ≡ Some a) → (b : Bool) → eqb x.1 q ≡ b → refined_in q (x ∷ xs) ≡ Some a
-    by later true e = rw (e, refined_in) (first h)
+    by : ((j : ℕ) → slice_get xs j ≡ Some (a, q) → count_by (λ (y : Naming). eqb q y.1) xs ≡ 1 → refined_in q xs ≡ Some a) → (b : Bool) → eqb x.1 q ≡ b → refined_in q (x ∷ xs) ≡ Some a
+    by later true e = rw (e, refined_in) (first k h)
       where
         c1 : ◌≡◌ {A = ℕ} (cond (eqb q x.1) 1 0) 1
         c1 = let o = eq-eqb q x.1 (sym (eqb-true x.1 q e)) in rw o refl
 
-        first : Has {A = Naming} (a, q) (x ∷ xs) → Some x.0 ≡ Some a
-        first (inl s) = ap (λ (y : Naming). Some y.0) s
-        first (inr m) = absurd (omega (arith, sum_by-cons (λ (y : Naming). cond (eqb q y.1) 1 0) x xs, c, c1, has_counts a q xs m))
-    by later false e = rw (e, refined_in) (rest h)
+        first : (j : ℕ) → slice_get (x ∷ xs) j ≡ Some (a, q) → Some x.0 ≡ Some a
+        first zero s = ap (λ (y : Naming). Some y.0) (same_Some {A = Naming} x (a, q) s)
+        first (suc j) m = absurd (omega (arith, sum_by-cons (λ (y : Naming). cond (eqb q y.1) 1 0) x xs, c, c1, naming_counts a q xs j m))
+    by later false e = rw (e, refined_in) (rest k h)
       where
         other : (s : ◌≡◌ {A = Naming} x (a, q)) → ⊥
         other s = let t : eqb x.1 q ≡ true = eq-eqb x.1 q (ap (λ (y : Naming). y.1) s) in cc
@@ -95,17 +105,17 @@ refined_one a q (x ∷ xs) h c = by (refined_one a q xs) (eqb x.1 q) refl
         c0 true t = let u : eqb x.1 q ≡ true = eq-eqb x.1 q (sym (eqb-true q x.1 t)) in cc
         c0 false t = rw t refl
 
-        rest : Has {A = Naming} (a, q) (x ∷ xs) → refined_in q xs ≡ Some a
-        rest (inl s) = absurd (other s)
-        rest (inr m) = later m (omega (arith, sum_by-cons (λ (y : Naming). cond (eqb q y.1) 1 0) x xs, c, c0 (eqb q x.1) refl))
+        rest : (j : ℕ) → slice_get (x ∷ xs) j ≡ Some (a, q) → refined_in q xs ≡ Some a
+        rest zero s = absurd (other (same_Some {A = Naming} x (a, q) s))
+        rest (suc j) m = later j m (omega (arith, sum_by-cons (λ (y : Naming). cond (eqb q y.1) 1 0) x xs, c, c0 (eqb q x.1) refl))
 
 -- a program that one mode names refines that mode
 pub refined_is : (symbols : List (Key × ℕ)) (ps : List PlainProgram) (a : ModeAt) (q : ℕ) → Names symbols ps a q → namings (links symbols ps) q ≡ 1 → refined_by symbols ps q ≡ Some a
-refined_is symbols ps a q h c = refined_one a q (naming symbols ps) (naming_has symbols ps a q h) (naming_count symbols ps q ∙ c)
+refined_is symbols ps a q h c = let n = in_naming symbols ps a q h in refined_one a q (naming symbols ps) n.0 n.1 (naming_count symbols ps q ∙ c)
 
 -- a mode that names a program counts
 pub named_counts : (symbols : List (Key × ℕ)) (ps : List PlainProgram) (a : ModeAt) (q : ℕ) → Names symbols ps a q → 1 ≤ namings (links symbols ps) q
-named_counts symbols ps a q h = omega (arith, has_counts a q (naming symbols ps) (naming_has symbols ps a q h), naming_count symbols ps q)
+named_counts symbols ps a q h = let n = in_naming symbols ps a q h in omega (arith, naming_counts a q (naming symbols ps) n.0 n.1, naming_count symbols ps q)
 
 -- a program that no mode names refines none
 pub refined_none : (symbols : List (Key × ℕ)) (ps : List PlainProgram) (q : ℕ) → namings (links symbols ps) q ≡ 0 → refined_by symbols ps q ≡ None
@@ -162,10 +172,84 @@ link_names symbols ps p q h =
     let one = named_at symbols ps p q h in
     let two = any_flat_map q (module_links symbols) one.0.modules one.2 in
     let three = any_flat_map q (mode_links symbols) two.1.modes two.3 in
-    let unit = module_there ps p two.0 one.0 two.1 one.1 two.2 in
-    let at : mode_at ps (place_of p two.0 three.0) ≡ Some three.1 = ap (λ ms. slice_get ms three.0) (modes_there ps p two.0 two.1 unit) ∙ three.2 in (
+    let «module» = module_there ps p two.0 one.0 two.1 one.1 two.2 in
+    let at : mode_at ps (place_of p two.0 three.0) ≡ Some three.1 = ap (λ ms. slice_get ms three.0) (modes_there ps p two.0 two.1 «module») ∙ three.2 in (
       slice_get_within ps p one.0 one.1,
       place_of p two.0 three.0,
       refl,
       record { mode = three.1; there = at; named = mode_named symbols q three.1 three.3 },
     )
+
+-- ---- a table that counts namings up to 255
+
+past : (xs : List ℕ) (k : ℕ) → slice_get xs k ≡ None → length xs ≤ k
+past [] k e = omega arith
+past (x ∷ xs) zero e = cc
+past (x ∷ xs) (suc k) e = omega (arith, past xs k e)
+
+same : (p q : ℕ) → eqb p q ≡ true → p ≡ q
+same p q e = grind (arith, nat_tests)
+
+differ : (p q : ℕ) → eqb p q ≡ false → p ≡ q → ⊥
+differ p q e h = grind (arith, nat_tests)
+
+pub length-counted : (counts : List ℕ) (q : ℕ) → length (counted counts q) ≡ length counts
+length-counted counts q = by (slice_get counts q)
+  where
+    by : (o : Option ℕ) → length (counted_at counts q o) ≡ length counts
+    by (Some n) = length-set counts q _
+    by None = refl
+
+counted-get : (counts : List ℕ) (p q : ℕ) → p < length counts → min (get_or (counted counts q) p 0) 255 ≡ min (get_or counts p 0 + cond (eqb p q) 1 0) 255
+counted-get counts p q small = by (slice_get counts q) refl (eqb p q) refl
+  where
+    by : (o : Option ℕ) → slice_get counts q ≡ o → (b : Bool) → eqb p q ≡ b → min (get_or (counted_at counts q o) p 0) 255 ≡ min (get_or counts p 0 + cond b 1 0) 255
+    by None at true e = absurd (omega (arith, past counts q at, same p q e))
+    by None at false e = omega arith
+    by (Some n) at true e =
+        let is = same p q e in
+        let within = slice_get_within counts q n at in
+        let new : get_or (set counts q (min (n + 1) 255)) p 0 ≡ min (n + 1) 255 = get_or-set_at counts q p (min (n + 1) 255) 0 is within in
+        let old : get_or counts p 0 ≡ n = ap (λ k. get_or counts k 0) is ∙ get_or_from_slice_get counts q n 0 at in
+        omega (arith, new, old)
+    by (Some n) at false e =
+        let new : get_or (set counts q (min (n + 1) 255)) p 0 ≡ get_or counts p 0 = get_or-set_other counts q p (min (n + 1) 255) 0 (differ p q e) in
+        omega (arith, new)
+
+pub length-counted_all : (counts qs : List ℕ) → length (counted_all counts qs) ≡ length counts
+length-counted_all counts [] = refl
+length-counted_all counts (q ∷ qs) = length-counted_all (counted counts q) qs ∙ length-counted counts q
+
+counted_all-get : (counts qs : List ℕ) (p : ℕ) → p < length counts → min (get_or (counted_all counts qs) p 0) 255 ≡ min (get_or counts p 0 + count_by (eqb p) qs) 255
+counted_all-get counts [] p small = let none : count_by (eqb p) [] ≡ 0 = refl in omega (arith, none)
+counted_all-get counts (q ∷ qs) p small =
+    let first = counted-get counts p q small in
+    let rest = counted_all-get (counted counts q) qs p (omega (arith, length-counted counts q)) in
+    let more : count_by (eqb p) (q ∷ qs) ≡ cond (eqb p q) 1 0 + count_by (eqb p) qs = sum_by-cons (λ (x : ℕ). cond (eqb p x) 1 0) q qs in
+    omega (arith, first, rest, more)
+
+pub length-counts : (counts : List ℕ) (g : Graph) → length (fold counted_all counts g) ≡ length counts
+length-counts counts [] = refl
+length-counts counts (r ∷ g) = length-counts (counted_all counts r) g ∙ length-counted_all counts r
+
+pub counts-get : (counts : List ℕ) (g : Graph) (p : ℕ) → p < length counts → min (get_or (fold counted_all counts g) p 0) 255 ≡ min (get_or counts p 0 + namings g p) 255
+counts-get counts [] p small = let none : namings [] p ≡ 0 = refl in omega (arith, none)
+counts-get counts (r ∷ g) p small =
+    let first = counted_all-get counts r p small in
+    let rest = counts-get (counted_all counts r) g p (omega (arith, length-counted_all counts r)) in
+    let more : namings (r ∷ g) p ≡ count_by (eqb p) r + namings g p = sum_by-cons (λ (x : List ℕ). count_by (eqb p) x) r g in
+    omega (arith, first, rest, more)
+
+pub counts_namings : (g : Graph) (counts : List ℕ) → counts ≡ fold counted_all (replicate (length g) 0) g → CountsNamings g counts
+counts_namings g counts is =
+    let zeros : List ℕ = replicate (length g) 0 in
+    let start : length zeros ≡ length g = length-replicate (length g) 0 in
+    let len = ap length is ∙ length-counts zeros g ∙ start in
+    record {
+      len = len;
+      says = λ p small.
+          let none : get_or zeros p 0 ≡ 0 = get_or-replicate (length g) p 0 0 small in
+          let all = counts-get zeros g p (omega (arith, start)) in
+          let same : get_or counts p 0 ≡ get_or (fold counted_all zeros g) p 0 = ap (λ (xs : List ℕ). get_or xs p 0) is in
+          omega (arith, none, all, same);
+    }

@@ -47,7 +47,7 @@ IsIn p a = a.program ≡ p
 mode-is-in : (symbols : List (Key × ℕ)) (p u m : ℕ) (x : PlainMode) → EachMode (IsIn p) (mode_naming symbols p u m x)
 mode-is-in symbols p u m x = by (named_program symbols x)
   where
-    by : (o : Option ℕ) → EachMode (IsIn p) (elim o [ Some q ↦ (record { program = p; unit = u; mode = m }, q) ∷ [] | None ↦ [] ])
+    by : (o : Option ℕ) → EachMode (IsIn p) (elim o [ Some q ↦ (record { program = p; «module» = u; mode = m }, q) ∷ [] | None ↦ [] ])
     by (Some q) = (refl, tt)
     by None = tt
 

@@ -7,8 +7,8 @@ use Rattle.htl_text.specs.Bounds.{comms_of, modules_of, modes_of}
 use Rattle.htl_text.specs.Nodes.{PlainProgram, PlainModule, PlainMode, PlainTask}
 use Rattle.htl_text.specs.declared.tree.CommNode.{CommNode}
 use Rattle.htl_names.specs.declared.place.ModeAt.{ModeAt}
-use Rattle.htl_names.specs.declared.place.UnitAt.{UnitAt}
-use Rattle.htl_names.specs.Conditions.{IsSmall}
+use Rattle.htl_names.specs.declared.place.ModuleAt.{ModuleAt}
+use Rattle.htl_names.specs.Conditions.{MeetsBounds}
 use Rattle.htl_names.specs.Flat.{symbols_of, layout, size_of}
 use Rattle.htl_names.specs.NameRules.{AreNamesRight}
 use Rattle.htl_names.specs.Narrow.{IsNarrow, IsNarrowParent, IsNarrowInvoke, IsNarrowEnd}
@@ -18,7 +18,7 @@ use Rattle.htl_names.proofs.Apart.{order_spread}
 use Rattle.htl_names.proofs.Counts.{few}
 use Rattle.htl_names.proofs.Ordering.{kept_limit, right_tree, names-ordered}
 use Rattle.htl_names.proofs.ProgramBounds.{few_programs}
-use Rattle.htl_names.proofs.Units.{IsParent, IsPlaced, units_placed}
+use Rattle.htl_names.proofs.ModulePlaces.{IsParent, IsPlaced, modules_placed}
 use Rattle.htl_names.proofs.EntryBounds.{IsLowSource, meaning_low}
 use Rattle.htl_names.proofs.Kindly.{comm_period_span, mode_period_span, worst_span, read_instance, write_instance}
 use Rattle.htl_names.proofs.Members.{each_all, each_weaker, All-from_places}
@@ -28,7 +28,7 @@ use Rattle.htl_text.specs.declared.tree.EndNode.TheVariants as end
 use Rattle.htl_text.specs.declared.tree.InvokeNode.{InvokeNode}
 use Rattle.htl_names.proofs.FlatMaps.{take_length}
 
-low_source : (ps : List PlainProgram) → IsSmall ps → AreNamesRight ps → IsLowSource ps
+low_source : (ps : List PlainProgram) → MeetsBounds ps → AreNamesRight ps → IsLowSource ps
 low_source ps small right =
     let comms = kept_limit ps right 0 _ 1024 refl refl in
     let modules = kept_limit ps right 1 _ 64 refl refl in
@@ -58,11 +58,11 @@ module _ (ps : List PlainProgram) (right : AreNamesRight ps) where
 
   module _ (a : ModeAt) (x : PlainMode) (there : mode_at ps a ≡ Some x) (k : ℕ) (i : InvokeNode) (its : slice_get x.invokes k ≡ Some i) where
     narrow_read : (n : ℕ) (e : EndNode) → slice_get i.reads n ≡ Some e → IsNarrowEnd e
-    narrow_read n (end.Comm comm instance) at = read_instance ps right a.program a.unit a.mode k n x i comm instance there its at
+    narrow_read n (end.Comm comm instance) at = read_instance ps right a.program a.«module» a.mode k n x i comm instance there its at
     narrow_read n (end.Port port) at = tt
 
     narrow_write : (n : ℕ) (e : EndNode) → slice_get i.writes n ≡ Some e → IsNarrowEnd e
-    narrow_write n (end.Comm comm instance) at = write_instance ps right a.program a.unit a.mode k n x i comm instance there its at
+    narrow_write n (end.Comm comm instance) at = write_instance ps right a.program a.«module» a.mode k n x i comm instance there its at
     narrow_write n (end.Port port) at = tt
 
     narrow_invoke : IsNarrowInvoke i
@@ -75,42 +75,42 @@ module _ (ps : List PlainProgram) (right : AreNamesRight ps) where
       by None e = All-nil IsNarrowInvoke
       by (Some x) e = All-from_places IsNarrowInvoke x.invokes (narrow_invoke a x e)
 
-  parent_narrow : (s : UnitAt) → IsPlaced (symbols_of ps) ps s → IsNarrowParent s.parent
+  parent_narrow : (s : ModuleAt) → IsPlaced (symbols_of ps) ps s → IsNarrowParent s.parent
   parent_narrow s h = by s.parent h.parent
     where
       by : (o : Option ModeAt) → IsParent (symbols_of ps) ps o s.program → IsNarrowParent o
       by None n = tt
       by (Some a) n =
-          let m = mode_in_source ps a.program a.unit a.mode n.mode n.there in
+          let m = mode_in_source ps a.program a.«module» a.mode n.mode n.there in
           let within = slice_get_within (modes_of (modules_of ps)) (m.0 + a.mode) n.mode m.1 in
           let limit = kept_limit ps right 2 _ 256 refl refl in
           omega (arith, within, limit)
 
-  abbrev units : List UnitAt
-  units = order (symbols_of ps) ps
+  abbrev modules : List ModuleAt
+  modules = order (symbols_of ps) ps
 
-  few_modes : length (flat_map (λ (s : UnitAt). modes_at ps s.program s.unit) units) ≤ length (modes_of (modules_of ps))
+  few_modes : length (flat_map (λ (s : ModuleAt). modes_at ps s.program s.«module») modules) ≤ length (modes_of (modules_of ps))
   few_modes =
-      few ps (λ (s : UnitAt). modes_at ps s.program s.unit) (λ (y : PlainModule). y.modes) units (λ s y e. ap length (modes_there ps s.program s.unit y e))
-      (each_weaker (IsPlaced (symbols_of ps) ps) (Exists ps) (λ s h. h.there) units (units_placed (symbols_of ps) ps))
+      few ps (λ (s : ModuleAt). modes_at ps s.program s.«module») (λ (y : PlainModule). y.modes) modules (λ s y e. ap length (modes_there ps s.program s.«module» y e))
+      (each_weaker (IsPlaced (symbols_of ps) ps) (Exists ps) (λ s h. h.there) modules (modules_placed (symbols_of ps) ps))
       (order_spread (symbols_of ps) ps (right_tree ps right))
 
-pub names-narrow : (ps : List PlainProgram) → IsSmall ps → AreNamesRight ps → IsNarrow (layout ps) ps
+pub names-narrow : (ps : List PlainProgram) → MeetsBounds ps → AreNamesRight ps → IsNarrow (layout ps) ps
 names-narrow ps small right =
-    let units = order (symbols_of ps) ps in
-    let modes = mode_order ps units in
+    let modules = order (symbols_of ps) ps in
+    let modes = mode_order ps modules in
     let ordered = names-ordered ps right in
     record {
       meanings = λ key. meaning_low ps (low_source ps small right) key;
-      units = ordered.few_units;
+      modules = ordered.few_modules;
       modes = ordered.few_modes;
-      first_modes = λ k. le_trans (take_length (λ (s : UnitAt). modes_at ps s.program s.unit) k units) (le_trans (few_modes ps right) (kept_limit ps right 2 _ 256 refl refl));
-      first_tasks = λ k. le_trans (take_length (λ (s : UnitAt). tasks_at ps s.program s.unit) k units) ordered.few_tasks;
+      modes_before = λ k. le_trans (take_length (λ (s : ModuleAt). modes_at ps s.program s.«module») k modules) (le_trans (few_modes ps right) (kept_limit ps right 2 _ 256 refl refl));
+      first_tasks = λ k. le_trans (take_length (λ (s : ModuleAt). tasks_at ps s.program s.«module») k modules) ordered.few_tasks;
       first_ports = λ m. le_trans (take_length (ports_at ps) m modes) ordered.few_ports;
       first_invokes = λ m. le_trans (take_length (invokes_at ps) m modes) ordered.few_invokes;
       parents =
-          each_all (λ (s : UnitAt). IsNarrowParent s.parent) units
-          (each_weaker (IsPlaced (symbols_of ps) ps) (λ (s : UnitAt). IsNarrowParent s.parent) (parent_narrow ps right) units (units_placed (symbols_of ps) ps));
+          each_all (λ (s : ModuleAt). IsNarrowParent s.parent) modules
+          (each_weaker (IsPlaced (symbols_of ps) ps) (λ (s : ModuleAt). IsNarrowParent s.parent) (parent_narrow ps right) modules (modules_placed (symbols_of ps) ps));
       comm_periods = comm_periods ps right;
       mode_periods = periods ps right;
       worsts = worsts ps right;

@@ -8,10 +8,10 @@ use Rattle.htl_text.specs.Nodes.{PlainProgram, PlainModule, PlainMode, PlainTask
 use Rattle.htl_text.specs.declared.tree.ParamNode.{ParamNode}
 use Rattle.htl_text.specs.declared.tree.InvokeNode.{InvokeNode}
 use Rattle.htl_names.specs.declared.place.ModeAt.{ModeAt}
-use Rattle.htl_names.specs.declared.place.UnitAt.{UnitAt}
-use Rattle.htl_names.specs.Flat.{Layout, is_unit, unit_number, first_mode, first_task, first_port, first_invoke, mode_item, unit_mode_items, mode_items, module_item, unit_module_items, module_items, port_item, mode_port_items, port_items, task_item, unit_task_items, task_items, invoke_item, mode_invoke_items, invoke_items}
+use Rattle.htl_names.specs.declared.place.ModuleAt.{ModuleAt}
+use Rattle.htl_names.specs.Flat.{Layout, is_module, module_number, modes_before, tasks_before, ports_before, invokes_before, mode_item, module_mode_items, mode_items, module_item, module_items_at, module_items, port_item, mode_port_items, port_items, task_item, module_task_items, task_items, invoke_item, mode_invoke_items, invoke_items}
 use Rattle.htl_names.specs.Lists.{flat_map_at, place_in}
-use Rattle.htl_names.specs.Order.{module_at, tasks_at, modes_at, ports_at, invokes_at, unit_modes, mode_order}
+use Rattle.htl_names.specs.Order.{module_at, tasks_at, modes_at, ports_at, invokes_at, module_modes, mode_order}
 use Rattle.htl_names.specs.Ordered.{Exists}
 use Rattle.htl_names.proofs.FlatMaps.{at_part_0, at_flat, same_length, flat_part, there_is, list_to_at, of_list_to}
 use Rattle.htl_names.proofs.Owners.{to_map}
@@ -29,124 +29,124 @@ place_found {A} p (z ∷ xs) k x e h = by (p z) refl k e (place_found p xs)
     by false is zero e later = let same : z ≡ x = cc in let true_there : p z ≡ true = ap p same ∙ h in absurd cc
     by false is (suc k) e later = let r = later k x e h in (r.0, ap (λ b. slice_get (z ∷ xs) (cond b 0 (suc (place_in p xs)))) is ∙ r.1, r.2)
 
--- ---- units
+-- ---- modules
 
--- the units stand once
-abbrev pub AreOnce : List UnitAt → Type 0
-AreOnce units = (j k : ℕ) (s r : UnitAt) → slice_get units j ≡ Some s → slice_get units k ≡ Some r → s.program ≡ r.program → s.unit ≡ r.unit → j ≡ k
+-- the modules stand once
+abbrev pub AreOnce : List ModuleAt → Type 0
+AreOnce modules = (j k : ℕ) (s r : ModuleAt) → slice_get modules j ≡ Some s → slice_get modules k ≡ Some r → s.program ≡ r.program → s.«module» ≡ r.«module» → j ≡ k
 
-is_unit_true : (p u : ℕ) (s : UnitAt) → s.program ≡ p → s.unit ≡ u → is_unit p u s ≡ true
-is_unit_true p u s a b = grind (arith, nat_tests)
+is_module_true : (p u : ℕ) (s : ModuleAt) → s.program ≡ p → s.«module» ≡ u → is_module p u s ≡ true
+is_module_true p u s a b = grind (arith, nat_tests)
 
-is_unit_is : (p u : ℕ) (s : UnitAt) → is_unit p u s ≡ true → (s.program ≡ p) × (s.unit ≡ u)
-is_unit_is p u s h = grind (arith, nat_tests)
+is_module_is : (p u : ℕ) (s : ModuleAt) → is_module p u s ≡ true → (s.program ≡ p) × (s.«module» ≡ u)
+is_module_is p u s h = grind (arith, nat_tests)
 
-pub unit_number_is : (l : Layout) (k : ℕ) (s : UnitAt) (p u : ℕ) → AreOnce l.units → slice_get l.units k ≡ Some s → s.program ≡ p → s.unit ≡ u → unit_number l p u ≡ k
-unit_number_is l k s p u once there a b =
-    let f = place_found (is_unit p u) l.units k s there (is_unit_true p u s a b) in
-    let g = is_unit_is p u f.0 f.2 in
-    once (unit_number l p u) k f.0 s f.1 there (g.0 ∙ sym a) (g.1 ∙ sym b)
+pub module_number_is : (l : Layout) (k : ℕ) (s : ModuleAt) (p u : ℕ) → AreOnce l.modules → slice_get l.modules k ≡ Some s → s.program ≡ p → s.«module» ≡ u → module_number l p u ≡ k
+module_number_is l k s p u once there a b =
+    let f = place_found (is_module p u) l.modules k s there (is_module_true p u s a b) in
+    let g = is_module_is p u f.0 f.2 in
+    once (module_number l p u) k f.0 s f.1 there (g.0 ∙ sym a) (g.1 ∙ sym b)
 
 -- ---- modes and tasks of a module
 
-mode_parts : (l : Layout) (ps : List PlainProgram) (k : ℕ) → length (flat_map_at (unit_mode_items ps) 0 (take k l.units)) ≡ first_mode l ps k
-mode_parts l ps k = same_length (unit_mode_items ps) (λ (s : UnitAt). modes_at ps s.program s.unit) (λ n s. length-map (modes_at ps s.program s.unit) (mode_item n)) 0 (take k l.units)
+mode_parts : (l : Layout) (ps : List PlainProgram) (k : ℕ) → length (flat_map_at (module_mode_items ps) 0 (take k l.modules)) ≡ modes_before l ps k
+mode_parts l ps k = same_length (module_mode_items ps) (λ (s : ModuleAt). modes_at ps s.program s.«module») (λ n s. length-map (modes_at ps s.program s.«module») (mode_item n)) 0 (take k l.modules)
 
-pub mode_stands : (l : Layout) (ps : List PlainProgram) (k m : ℕ) (s : UnitAt) (x : PlainMode) → slice_get l.units k ≡ Some s → slice_get (modes_at ps s.program s.unit) m ≡ Some x
-    → slice_get (mode_items l ps) (first_mode l ps k + m) ≡ Some (mode_item k x)
+pub mode_stands : (l : Layout) (ps : List PlainProgram) (k m : ℕ) (s : ModuleAt) (x : PlainMode) → slice_get l.modules k ≡ Some s → slice_get (modes_at ps s.program s.«module») m ≡ Some x
+    → slice_get (mode_items l ps) (modes_before l ps k + m) ≡ Some (mode_item k x)
 mode_stands l ps k m s x there its =
     subst (λ (n : ℕ). slice_get (mode_items l ps) (n + m) ≡ Some (mode_item k x)) (mode_parts l ps k)
-    (at_part_0 (unit_mode_items ps) l.units k m s (mode_item k x) there (to_map (mode_item k) (modes_at ps s.program s.unit) m x its))
+    (at_part_0 (module_mode_items ps) l.modules k m s (mode_item k x) there (to_map (mode_item k) (modes_at ps s.program s.«module») m x its))
 
-task_parts : (l : Layout) (ps : List PlainProgram) (k : ℕ) → length (flat_map_at (unit_task_items ps) 0 (take k l.units)) ≡ first_task l ps k
-task_parts l ps k = same_length (unit_task_items ps) (λ (s : UnitAt). tasks_at ps s.program s.unit) (λ n s. length-map (tasks_at ps s.program s.unit) (task_item n)) 0 (take k l.units)
+task_parts : (l : Layout) (ps : List PlainProgram) (k : ℕ) → length (flat_map_at (module_task_items ps) 0 (take k l.modules)) ≡ tasks_before l ps k
+task_parts l ps k = same_length (module_task_items ps) (λ (s : ModuleAt). tasks_at ps s.program s.«module») (λ n s. length-map (tasks_at ps s.program s.«module») (task_item n)) 0 (take k l.modules)
 
-pub task_stands : (l : Layout) (ps : List PlainProgram) (k m : ℕ) (s : UnitAt) (t : PlainTask) → slice_get l.units k ≡ Some s → slice_get (tasks_at ps s.program s.unit) m ≡ Some t
-    → slice_get (task_items l ps) (first_task l ps k + m) ≡ Some (task_item k t)
+pub task_stands : (l : Layout) (ps : List PlainProgram) (k m : ℕ) (s : ModuleAt) (t : PlainTask) → slice_get l.modules k ≡ Some s → slice_get (tasks_at ps s.program s.«module») m ≡ Some t
+    → slice_get (task_items l ps) (tasks_before l ps k + m) ≡ Some (task_item k t)
 task_stands l ps k m s t there its =
     subst (λ (n : ℕ). slice_get (task_items l ps) (n + m) ≡ Some (task_item k t)) (task_parts l ps k)
-    (at_part_0 (unit_task_items ps) l.units k m s (task_item k t) there (to_map (task_item k) (tasks_at ps s.program s.unit) m t its))
+    (at_part_0 (module_task_items ps) l.modules k m s (task_item k t) there (to_map (task_item k) (tasks_at ps s.program s.«module») m t its))
 
 -- ---- ports and invocations of a mode
 
-port_parts : (l : Layout) (ps : List PlainProgram) (m : ℕ) → length (flat_map_at (mode_port_items ps) 0 (take m l.modes)) ≡ first_port l ps m
+port_parts : (l : Layout) (ps : List PlainProgram) (m : ℕ) → length (flat_map_at (mode_port_items ps) 0 (take m l.modes)) ≡ ports_before l ps m
 port_parts l ps m = same_length (mode_port_items ps) (ports_at ps) (λ n a. length-map (ports_at ps a) (port_item n)) 0 (take m l.modes)
 
 pub port_stands : (l : Layout) (ps : List PlainProgram) (m j : ℕ) (a : ModeAt) (x : ParamNode) → slice_get l.modes m ≡ Some a → slice_get (ports_at ps a) j ≡ Some x
-    → slice_get (port_items l ps) (first_port l ps m + j) ≡ Some (port_item m x)
+    → slice_get (port_items l ps) (ports_before l ps m + j) ≡ Some (port_item m x)
 port_stands l ps m j a x there its =
     subst (λ (n : ℕ). slice_get (port_items l ps) (n + j) ≡ Some (port_item m x)) (port_parts l ps m)
     (at_part_0 (mode_port_items ps) l.modes m j a (port_item m x) there (to_map (port_item m) (ports_at ps a) j x its))
 
-invoke_parts : (l : Layout) (ps : List PlainProgram) (m : ℕ) → length (flat_map_at (mode_invoke_items l ps) 0 (take m l.modes)) ≡ first_invoke l ps m
+invoke_parts : (l : Layout) (ps : List PlainProgram) (m : ℕ) → length (flat_map_at (mode_invoke_items l ps) 0 (take m l.modes)) ≡ invokes_before l ps m
 invoke_parts l ps m = same_length (mode_invoke_items l ps) (invokes_at ps) (λ n a. length-map (invokes_at ps a) (invoke_item l ps n a)) 0 (take m l.modes)
 
 pub invoke_stands : (l : Layout) (ps : List PlainProgram) (m j : ℕ) (a : ModeAt) (i : InvokeNode) → slice_get l.modes m ≡ Some a → slice_get (invokes_at ps a) j ≡ Some i
-    → slice_get (invoke_items l ps) (first_invoke l ps m + j) ≡ Some (invoke_item l ps m a i)
+    → slice_get (invoke_items l ps) (invokes_before l ps m + j) ≡ Some (invoke_item l ps m a i)
 invoke_stands l ps m j a i there its =
     subst (λ (n : ℕ). slice_get (invoke_items l ps) (n + j) ≡ Some (invoke_item l ps m a i)) (invoke_parts l ps m)
     (at_part_0 (mode_invoke_items l ps) l.modes m j a (invoke_item l ps m a i) there (to_map (invoke_item l ps m a) (invokes_at ps a) j i its))
 
 -- ---- modes by their numbers
 
-abbrev pub at_mode : UnitAt → ℕ → ModeAt
-at_mode s m = record { program = s.program; unit = s.unit; mode = m }
+abbrev pub at_mode : ModuleAt → ℕ → ModeAt
+at_mode s m = record { program = s.program; «module» = s.«module»; mode = m }
 
-unit_mode_parts : (ps : List PlainProgram) (units : List UnitAt) → length (flat_map (unit_modes ps) units) ≡ length (flat_map (λ (s : UnitAt). modes_at ps s.program s.unit) units)
-unit_mode_parts ps [] = refl
-unit_mode_parts ps (s ∷ ss) =
-    let one = length-append (unit_modes ps s) (flat_map (unit_modes ps) ss) in
-    let two = length-append (modes_at ps s.program s.unit) (flat_map (λ (r : UnitAt). modes_at ps r.program r.unit) ss) in
-    let own = length-list_to (λ m. at_mode s m) (length (modes_at ps s.program s.unit)) in
-    let rest = unit_mode_parts ps ss in
+module_mode_parts : (ps : List PlainProgram) (modules : List ModuleAt) → length (flat_map (module_modes ps) modules) ≡ length (flat_map (λ (s : ModuleAt). modes_at ps s.program s.«module») modules)
+module_mode_parts ps [] = refl
+module_mode_parts ps (s ∷ ss) =
+    let one = length-append (module_modes ps s) (flat_map (module_modes ps) ss) in
+    let two = length-append (modes_at ps s.program s.«module») (flat_map (λ (r : ModuleAt). modes_at ps r.program r.«module») ss) in
+    let own = length-list_to (λ m. at_mode s m) (length (modes_at ps s.program s.«module»)) in
+    let rest = module_mode_parts ps ss in
     omega (arith, one, two, own, rest)
 
--- a layout whose modes are those of its units
+-- a layout whose modes are those of its modules
 abbrev pub IsLaid : Layout → List PlainProgram → Type 0
-IsLaid l ps = l.modes ≡ mode_order ps l.units
+IsLaid l ps = l.modes ≡ mode_order ps l.modules
 
 pub mode_count : (l : Layout) (ps : List PlainProgram) → IsLaid l ps → length (mode_items l ps) ≡ length l.modes
 mode_count l ps laid =
-    same_length (unit_mode_items ps) (λ (s : UnitAt). modes_at ps s.program s.unit) (λ n s. length-map (modes_at ps s.program s.unit) (mode_item n)) 0 l.units
-    ∙ sym (unit_mode_parts ps l.units) ∙ sym (ap length laid)
+    same_length (module_mode_items ps) (λ (s : ModuleAt). modes_at ps s.program s.«module») (λ n s. length-map (modes_at ps s.program s.«module») (mode_item n)) 0 l.modules
+    ∙ sym (module_mode_parts ps l.modules) ∙ sym (ap length laid)
 
-pub mode_numbered : (l : Layout) (ps : List PlainProgram) → IsLaid l ps → (k m : ℕ) (s : UnitAt) → slice_get l.units k ≡ Some s → m < length (modes_at ps s.program s.unit)
-    → slice_get l.modes (first_mode l ps k + m) ≡ Some (at_mode s m)
+pub mode_numbered : (l : Layout) (ps : List PlainProgram) → IsLaid l ps → (k m : ℕ) (s : ModuleAt) → slice_get l.modules k ≡ Some s → m < length (modes_at ps s.program s.«module»)
+    → slice_get l.modes (modes_before l ps k + m) ≡ Some (at_mode s m)
 mode_numbered l ps laid k m s there less =
-    let at = at_flat (unit_modes ps) l.units k m s (at_mode s m) there (list_to_at (λ m. at_mode s m) (length (modes_at ps s.program s.unit)) m less) in
-    ap (λ ms. slice_get ms (first_mode l ps k + m)) laid ∙ subst (λ (n : ℕ). slice_get (mode_order ps l.units) (n + m) ≡ Some (at_mode s m)) (unit_mode_parts ps (take k l.units)) at
+    let at = at_flat (module_modes ps) l.modules k m s (at_mode s m) there (list_to_at (λ m. at_mode s m) (length (modes_at ps s.program s.«module»)) m less) in
+    ap (λ ms. slice_get ms (modes_before l ps k + m)) laid ∙ subst (λ (n : ℕ). slice_get (mode_order ps l.modules) (n + m) ≡ Some (at_mode s m)) (module_mode_parts ps (take k l.modules)) at
 
 -- the mode of a number: its module's number and place
 pub record ModeOf (l : Layout) (ps : List PlainProgram) (n : ℕ) (a : ModeAt) : Type 0 where
   pub number : ℕ
-  pub unit : UnitAt
-  pub there : slice_get l.units number ≡ Some unit
-  pub program : unit.program ≡ a.program
-  pub place : unit.unit ≡ a.unit
+  pub «module» : ModuleAt
+  pub there : slice_get l.modules number ≡ Some «module»
+  pub program : «module».program ≡ a.program
+  pub place : «module».«module» ≡ a.«module»
   pub node : PlainMode
-  pub its : slice_get (modes_at ps a.program a.unit) a.mode ≡ Some node
-  pub is : n ≡ first_mode l ps number + a.mode
+  pub its : slice_get (modes_at ps a.program a.«module») a.mode ≡ Some node
+  pub is : n ≡ modes_before l ps number + a.mode
   pub item : slice_get (mode_items l ps) n ≡ Some (mode_item number node)
 
 pub mode_of_number : (l : Layout) (ps : List PlainProgram) → IsLaid l ps → (n : ℕ) (a : ModeAt) → slice_get l.modes n ≡ Some a → ModeOf l ps n a
 mode_of_number l ps laid n a e =
-    let p = flat_part (unit_modes ps) l.units n a (sym (ap (λ ms. slice_get ms n) laid) ∙ e) in
+    let p = flat_part (module_modes ps) l.modules n a (sym (ap (λ ms. slice_get ms n) laid) ∙ e) in
     let s = p.owner in
-    let m = of_list_to (λ m. at_mode s m) (length (modes_at ps s.program s.unit)) p.place a p.item in
-    let x = there_is (modes_at ps s.program s.unit) p.place m.0 in
+    let m = of_list_to (λ m. at_mode s m) (length (modes_at ps s.program s.«module»)) p.place a p.item in
+    let x = there_is (modes_at ps s.program s.«module») p.place m.0 in
     let mode : p.place ≡ a.mode = ap (λ (b : ModeAt). b.mode) m.1 in
     let program : s.program ≡ a.program = ap (λ (b : ModeAt). b.program) m.1 in
-    let unit : s.unit ≡ a.unit = ap (λ (b : ModeAt). b.unit) m.1 in
-    let first = unit_mode_parts ps (take p.part l.units) in
-    let number : n ≡ first_mode l ps p.part + p.place = omega (arith, p.number, first) in
+    let «module» : s.«module» ≡ a.«module» = ap (λ (b : ModeAt). b.«module») m.1 in
+    let first = module_mode_parts ps (take p.part l.modules) in
+    let number : n ≡ modes_before l ps p.part + p.place = omega (arith, p.number, first) in
     record {
       number = p.part;
-      unit = s;
+      «module» = s;
       there = p.there;
       program = program;
-      place = unit;
+      place = «module»;
       node = x.0;
-      its = subst (λ (b : ModeAt). slice_get (modes_at ps b.program b.unit) b.mode ≡ Some x.0) m.1 x.1;
+      its = subst (λ (b : ModeAt). slice_get (modes_at ps b.program b.«module») b.mode ≡ Some x.0) m.1 x.1;
       is = omega (arith, number, mode);
       item = ap (slice_get (mode_items l ps)) number ∙ mode_stands l ps p.part p.place s x.0 p.there x.1;
     }
@@ -168,23 +168,23 @@ taken (y ∷ ys) zero i x e = absurd cc
 taken (y ∷ ys) (suc k) zero x e = e
 taken (y ∷ ys) (suc k) (suc i) x e = taken ys k i x e
 
--- each unit is a module of the source
-abbrev pub AreModules : List PlainProgram → List UnitAt → Type 0
-AreModules ps units = (k : ℕ) (s : UnitAt) → slice_get units k ≡ Some s → Exists ps s
+-- each module is a module of the source
+abbrev pub AreModules : List PlainProgram → List ModuleAt → Type 0
+AreModules ps modules = (k : ℕ) (s : ModuleAt) → slice_get modules k ≡ Some s → Exists ps s
 
-pub one_module : (l : Layout) (ps : List PlainProgram) (k : ℕ) (s : UnitAt) (x : PlainModule) → module_at ps s.program s.unit ≡ Some x → unit_module_items l ps k s ≡ module_item l ps k s x ∷ []
+pub one_module : (l : Layout) (ps : List PlainProgram) (k : ℕ) (s : ModuleAt) (x : PlainModule) → module_at ps s.program s.«module» ≡ Some x → module_items_at l ps k s ≡ module_item l ps k s x ∷ []
 one_module l ps k s x e = ap (λ o. elim o [ Some x ↦ module_item l ps k s x ∷ [] | None ↦ [] ]) e
 
-pub module_count : (l : Layout) (ps : List PlainProgram) → AreModules ps l.units → length (module_items l ps) ≡ length l.units
-module_count l ps exist = singles (unit_module_items l ps) l.units (λ i s e k. let x = exist i s e in ap length (one_module l ps k s x.0 x.1)) 0
+pub module_count : (l : Layout) (ps : List PlainProgram) → AreModules ps l.modules → length (module_items l ps) ≡ length l.modules
+module_count l ps exist = singles (module_items_at l ps) l.modules (λ i s e k. let x = exist i s e in ap length (one_module l ps k s x.0 x.1)) 0
 
-pub module_stands : (l : Layout) (ps : List PlainProgram) → AreModules ps l.units → (k : ℕ) (s : UnitAt) (x : PlainModule) → slice_get l.units k ≡ Some s → module_at ps s.program s.unit ≡ Some x
+pub module_stands : (l : Layout) (ps : List PlainProgram) → AreModules ps l.modules → (k : ℕ) (s : ModuleAt) (x : PlainModule) → slice_get l.modules k ≡ Some s → module_at ps s.program s.«module» ≡ Some x
     → slice_get (module_items l ps) k ≡ Some (module_item l ps k s x)
 module_stands l ps exist k s x there is =
-    let within = slice_get_within l.units k s there in
-    let front = singles (unit_module_items l ps) (take k l.units) (λ i r e n. let y = exist i r (taken l.units k i r e) in ap length (one_module l ps n r y.0 y.1)) 0 in
-    let size = length-take-le k l.units (omega (arith, within)) in
-    let own : slice_get (unit_module_items l ps k s) 0 ≡ Some (module_item l ps k s x) = ap (λ ms. slice_get ms 0) (one_module l ps k s x is) in
-    let at = at_part_0 (unit_module_items l ps) l.units k 0 s (module_item l ps k s x) there own in
-    let place : length (flat_map_at (unit_module_items l ps) 0 (take k l.units)) + 0 ≡ k = omega (arith, front, size) in
+    let within = slice_get_within l.modules k s there in
+    let front = singles (module_items_at l ps) (take k l.modules) (λ i r e n. let y = exist i r (taken l.modules k i r e) in ap length (one_module l ps n r y.0 y.1)) 0 in
+    let size = length-take-le k l.modules (omega (arith, within)) in
+    let own : slice_get (module_items_at l ps k s) 0 ≡ Some (module_item l ps k s x) = ap (λ ms. slice_get ms 0) (one_module l ps k s x is) in
+    let at = at_part_0 (module_items_at l ps) l.modules k 0 s (module_item l ps k s x) there own in
+    let place : length (flat_map_at (module_items_at l ps) 0 (take k l.modules)) + 0 ≡ k = omega (arith, front, size) in
     subst (λ (n : ℕ). slice_get (module_items l ps) n ≡ Some (module_item l ps k s x)) place at

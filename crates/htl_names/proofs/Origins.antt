@@ -11,11 +11,8 @@ use Rattle.htl_names.specs.Keys.{program_key, module_key, task_key, mode_key}
 use Rattle.htl_names.specs.Lists.{flat_map_at, map_at}
 use Rattle.htl_names.specs.Order.{module_at, tasks_at, modes_at}
 use Rattle.htl_names.proofs.FlatMaps.{get_front, get_back, get_either, part_of_0, at_flat, of_map_at}
+use Rattle.htl_names.proofs.Members.{In}
 use Rattle.htl_names.proofs.Places.{module_there, tasks_there, modes_there}
-
--- an item stands in a list
-abbrev pub In : {A : Type 0} → A → List A → Type 0
-In x xs = (k : ℕ) × (slice_get xs k ≡ Some x)
 
 -- where an entry comes from
 pub data Origin (ps : List PlainProgram) : Entry → Type 0 where

@@ -1,16 +1,11 @@
--- Owners along a list of parts, and lists without repetitions.
-use Rattle.std.proofs.Common.{◌≡◌, ℕ, zero, suc, cond, ◌+◌, ◌<◌, ◌≤◌, ◌⊎◌, inl, inr, Bool, true, false, not, ◌&&◌, eqb, List, [], ◌∷◌, length, map, get_or, slice_get, Option, Some, None, eqb-true, eq-eqb, refl, sym, ◌∙◌, ap, arith}
-use Rattle.std.specs.List.{list_any, count_by}
+-- Owners along a list of parts.
+use Rattle.std.proofs.Common.{◌≡◌, ℕ, zero, suc, cond, ◌+◌, ◌≤◌, ◌⊎◌, inl, inr, Bool, true, false, eqb, List, [], ◌∷◌, length, map, get_or, slice_get, Option, Some, None, eqb-true, eq-eqb, refl, sym, ◌∙◌, ap, arith}
+use Rattle.std.specs.List.{count_by}
 use Rattle.std.specs.List.Sorted.{IsNonDecreasing}
-use Rattle.std.specs.Str.{bytes_eq}
-use Rattle.std.proofs.lemmas.Bool.Decides.{nat_tests}
 use Rattle.std.proofs.lemmas.List.Sums.{sum_by-cons, sum_by-append}
 use Rattle.std.proofs.lemmas.Option.{slice_get_within, slice_get-get_or, none-some}
-use Rattle.std.proofs.lemmas.Slice.Eq.{bytes_eq-Decides}
-use Rattle.htl_model.specs.Ranges.{are_different, are_different_owned, same_owned, are_different_pairs, same_pair, are_different_numbers}
 use Rattle.htl_names.specs.Lists.{flat_map_at}
 use Rattle.htl_names.proofs.FlatMaps.{get_either, part_of}
-use Rattle.htl_names.proofs.Deciding.{both}
 
 -- ---- mapped lists
 
@@ -111,54 +106,3 @@ few_owned {A} f own m most owned xs few = by (slice_get xs m) refl
         let place : p.part ≡ m = omega (arith, owner, is) in
         none-some p.owner (sym there ∙ ap (slice_get xs) (sym place) ∙ p.there)) in
         omega (arith, none)
-
--- ---- lists without repetitions
-
--- no item of the list stands again later
-abbrev pub AreApart : {A : Type 0} → List A → Type 0
-AreApart {A} xs = (j k : ℕ) (x : A) → j < k → slice_get xs j ≡ Some x → slice_get xs k ≡ Some x → ⊥
-
-apart_rest : {A : Type 0} (y : A) (xs : List A) → AreApart (y ∷ xs) → AreApart xs
-apart_rest y xs apart j k x less p q = apart (suc j) (suc k) x (omega (arith, less)) p q
-
-apart_first : {A : Type 0} (y : A) (xs : List A) → AreApart (y ∷ xs) → (k : ℕ) → slice_get xs k ≡ Some y → ⊥
-apart_first y xs apart k e = apart 0 (suc k) y (omega arith) refl e
-
--- a test that tells items apart finds none
-pub none_same : {A : Type 0} (same : A → A → Bool) → ((a b : A) → same a b ≡ true → a ≡ b) → (y : A) (xs : List A) → ((k : ℕ) → slice_get xs k ≡ Some y → ⊥) → list_any (same y) xs ≡ false
-none_same same tells y [] none = refl
-none_same same tells y (x ∷ xs) none = by (same y x) refl (none_same same tells y xs (λ k e. none (suc k) e))
-  where
-    by : (b : Bool) → same y x ≡ b → list_any (same y) xs ≡ false → list_any (same y) (x ∷ xs) ≡ false
-    by true is later = absurd (none 0 (ap Some (sym (tells y x is))))
-    by false is later = grind (arith, nat_tests)
-
-same_owned_is : (a b : ℕ × List ℕ) → same_owned a b ≡ true → a ≡ b
-same_owned_is a b h =
-    let p = both (eqb a.0 b.0) (bytes_eq a.1 b.1) h in
-    ap (λ (n : ℕ). (n, a.1)) (eqb-true a.0 b.0 p.0) ∙ ap (λ (n : List ℕ). (b.0, n)) ((bytes_eq-Decides a.1 b.1).0 p.1)
-
-same_pair_is : (a b : ℕ × ℕ) → same_pair a b ≡ true → a ≡ b
-same_pair_is a b h =
-    let p = both (eqb a.0 b.0) (eqb a.1 b.1) h in
-    ap (λ (n : ℕ). (n, a.1)) (eqb-true a.0 b.0 p.0) ∙ ap (λ (n : ℕ). (b.0, n)) (eqb-true a.1 b.1 p.1)
-
-pub different : (xs : List (List ℕ)) → AreApart xs → are_different xs ≡ true
-different [] apart = refl
-different (x ∷ xs) apart =
-    ap (λ b. not b && are_different xs) (none_same bytes_eq (λ a b. (bytes_eq-Decides a b).0) x xs (apart_first x xs apart)) ∙ different xs (apart_rest x xs apart)
-
-pub different_owned : (xs : List (ℕ × List ℕ)) → AreApart xs → are_different_owned xs ≡ true
-different_owned [] apart = refl
-different_owned (x ∷ xs) apart =
-    ap (λ b. not b && are_different_owned xs) (none_same same_owned same_owned_is x xs (apart_first x xs apart)) ∙ different_owned xs (apart_rest x xs apart)
-
-pub different_pairs : (xs : List (ℕ × ℕ)) → AreApart xs → are_different_pairs xs ≡ true
-different_pairs [] apart = refl
-different_pairs (x ∷ xs) apart =
-    ap (λ b. not b && are_different_pairs xs) (none_same same_pair same_pair_is x xs (apart_first x xs apart)) ∙ different_pairs xs (apart_rest x xs apart)
-
-pub different_numbers : (xs : List ℕ) → AreApart xs → are_different_numbers xs ≡ true
-different_numbers [] apart = refl
-different_numbers (x ∷ xs) apart =
-    ap (λ b. not b && are_different_numbers xs) (none_same eqb eqb-true x xs (apart_first x xs apart)) ∙ different_numbers xs (apart_rest x xs apart)

@@ -3,7 +3,6 @@ use Rattle.std.proofs.Common.{◌≡◌, ◌<◌, ℕ, List, Result, Ok, Err, re
 use Rattle.std.specs.Result.{IsErrAnd}
 use Rattle.htl_text.specs.Nodes.{PlainProgram}
 use Rattle.std.specs.Result.{IfOk}
-use Rattle.htl_model.specs.Broken.{KeepsLimits}
 use Rattle.htl_model.specs.Tables.{Tables}
 use Rattle.htl_names.specs.declared.fault.NameFault.{NameFault}
 use Rattle.htl_names.specs.declared.fault.NameFault.TheVariants as fault
@@ -157,6 +156,6 @@ resolved_by ps (Ok x) f h told = absurd h
 resolved_by ps (Err e) f h told = resolved_err ps e (subst (IsRefusal ps) (sym h) told)
 
 -- where there is an error, no tables are spoken of
-pub limits_by : (r : Result Tables NameFault) (f : NameFault) → IsErrAnd r (λ e. e ≡ f) → IfOk r KeepsLimits
-limits_by (Ok x) f h = absurd h
-limits_by (Err e) f h = tt
+pub no_tables : (P : Tables → Type 0) (r : Result Tables NameFault) (f : NameFault) → IsErrAnd r (λ e. e ≡ f) → IfOk r P
+no_tables P (Ok x) f h = absurd h
+no_tables P (Err e) f h = tt

@@ -60,14 +60,14 @@ modes_counted cap field size adds sizes items start ps =
     zero-first : (n : ℕ) → 0 + n ≡ n
     zero-first n = omega arith
 
-    unit : (t : Tally) (x : PlainModule) → min (field (with_module t x)) cap ≡ min (field t + sum_by size x.modes) cap
-    unit t x =
+    «module» : (t : Tally) (x : PlainModule) → min (field (with_module t x)) cap ≡ min (field t + sum_by size x.modes) cap
+    «module» t x =
         summed cap with_mode field size adds (with_sizes t (length x.modes) (length x.tasks)) x.modes
         ∙ ap (λ n. min (n + sum_by size x.modes) cap) (sizes t (length x.modes) (length x.tasks))
 
     program : (t : Tally) (p : PlainProgram) → min (field (with_program t p)) cap ≡ min (field t + sum_by (λ x. sum_by size x.modes) p.modules) cap
     program t p =
-        summed cap with_module field (λ x. sum_by size x.modes) unit (with_items t (length p.comms) (length p.modules)) p.modules
+        summed cap with_module field (λ x. sum_by size x.modes) «module» (with_items t (length p.comms) (length p.modules)) p.modules
         ∙ ap (λ n. min (n + sum_by (λ (x : PlainModule). sum_by size x.modes) p.modules) cap) (items t (length p.comms) (length p.modules))
 
 -- ---- a count of items of modules, and of programs
@@ -86,12 +86,12 @@ modules_counted cap field size modes adds items start ps =
     zero-first : (n : ℕ) → 0 + n ≡ n
     zero-first n = omega arith
 
-    unit : (t : Tally) (x : PlainModule) → min (field (with_module t x)) cap ≡ min (field t + size x) cap
-    unit t x = ap (λ n. min n cap) (kept with_mode field modes (with_sizes t (length x.modes) (length x.tasks)) x.modes) ∙ adds t x
+    «module» : (t : Tally) (x : PlainModule) → min (field (with_module t x)) cap ≡ min (field t + size x) cap
+    «module» t x = ap (λ n. min n cap) (kept with_mode field modes (with_sizes t (length x.modes) (length x.tasks)) x.modes) ∙ adds t x
 
     program : (t : Tally) (p : PlainProgram) → min (field (with_program t p)) cap ≡ min (field t + sum_by size p.modules) cap
     program t p =
-        summed cap with_module field size unit (with_items t (length p.comms) (length p.modules)) p.modules
+        summed cap with_module field size «module» (with_items t (length p.comms) (length p.modules)) p.modules
         ∙ ap (λ n. min (n + sum_by size p.modules) cap) (items t (length p.comms) (length p.modules))
 
 programs_counted : (cap : ℕ) (field : Tally → ℕ) (size : PlainProgram → ℕ)
@@ -106,11 +106,11 @@ programs_counted cap field size modes sizes adds start ps =
     zero-first : (n : ℕ) → 0 + n ≡ n
     zero-first n = omega arith
 
-    unit : (t : Tally) (x : PlainModule) → field (with_module t x) ≡ field t
-    unit t x = kept with_mode field modes (with_sizes t (length x.modes) (length x.tasks)) x.modes ∙ sizes t (length x.modes) (length x.tasks)
+    «module» : (t : Tally) (x : PlainModule) → field (with_module t x) ≡ field t
+    «module» t x = kept with_mode field modes (with_sizes t (length x.modes) (length x.tasks)) x.modes ∙ sizes t (length x.modes) (length x.tasks)
 
     program : (t : Tally) (p : PlainProgram) → min (field (with_program t p)) cap ≡ min (field t + size p) cap
-    program t p = ap (λ n. min n cap) (kept with_module field unit (with_items t (length p.comms) (length p.modules)) p.modules) ∙ adds t p
+    program t p = ap (λ n. min n cap) (kept with_module field «module» (with_items t (length p.comms) (length p.modules)) p.modules) ∙ adds t p
 
 -- ---- the eight counts
 

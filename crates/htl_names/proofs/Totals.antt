@@ -1,12 +1,12 @@
 -- A sum over different places of a list is at most the sum over the list.
-use Rattle.std.proofs.Common.{◌≡◌, ◌≢◌, ℕ, zero, suc, ◌+◌, ◌≤◌, ◌<◌, max, inl, inr, List, [], ◌∷◌, ◌++◌, length, map, get_or, set, slice_get, Some, sum_by, sum, refl, sym, ◌∙◌, ap, arith, length-set, get_or-set_other}
+use Rattle.std.proofs.Common.{◌≡◌, ◌≢◌, ℕ, zero, suc, ◌+◌, ◌≤◌, ◌<◌, max, List, [], ◌∷◌, ◌++◌, length, map, get_or, set, slice_get, Some, sum_by, sum, refl, sym, ◌∙◌, ap, arith, length-set, get_or-set_other}
 use Rattle.std.specs.List.{flat_map}
 use Rattle.std.proofs.lemmas.List.Sums.{sum_by-cons, sum_by-set}
 use Rattle.std.proofs.lemmas.Grind.{flat_map-append}
+use Rattle.std.proofs.lemmas.Option.{none-some, same_Some}
 use Rattle.htl_model.specs.Lists.{list_to}
 use Rattle.htl_model.specs.Tables.{greatest}
-use Rattle.htl_names.proofs.Members.{Each, each_weaker, Has, has_at}
-use Rattle.htl_names.proofs.FlatMaps.{list_to_at}
+use Rattle.htl_names.proofs.Members.{Each, each_weaker}
 
 -- no two items have one place
 abbrev pub Differ : {A : Type 0} → (A → ℕ) → List A → Type 0
@@ -56,19 +56,12 @@ map_places h f e (z ∷ zs) same =
     ∙ ap (λ w. w ∷ map h (list_to (λ k. f (suc k)) (length zs))) (same 0 z refl)
     ∙ ap (λ l. e z ∷ l) (map_places h (λ k. f (suc k)) e zs (λ k y s. same (suc k) y s))
 
-pub has_list_to : {A : Type 0} (f : ℕ → A) (n k : ℕ) → k < n → Has (f k) (list_to f n)
-has_list_to f n k lt = has_at (f k) (list_to f n) k (list_to_at f n k lt)
-
 pub greatest_start : (d : ℕ) (xs : List ℕ) → d ≤ greatest d xs
 greatest_start d [] = omega arith
 greatest_start d (x ∷ xs) = let h = greatest_start (max d x) xs in omega (arith, h)
 
-pub greatest_has : (d x : ℕ) (xs : List ℕ) → Has x xs → x ≤ greatest d xs
-greatest_has d x [] h = absurd h
-greatest_has d x (y ∷ xs) (inl e) = let h = greatest_start (max d y) xs in omega (arith, h, e)
-greatest_has d x (y ∷ xs) (inr m) = greatest_has (max d y) x xs m
-
-pub has_map : {A B : Type 0} (f : A → B) (x : A) (xs : List A) → Has x xs → Has (f x) (map f xs)
-has_map f x [] h = absurd h
-has_map f x (y ∷ xs) (inl e) = inl (ap f e)
-has_map f x (y ∷ xs) (inr m) = inr (has_map f x xs m)
+-- the greatest is at least each
+pub greatest_at : (d x : ℕ) (xs : List ℕ) (k : ℕ) → slice_get xs k ≡ Some x → x ≤ greatest d xs
+greatest_at d x [] k e = absurd (none-some x e)
+greatest_at d x (y ∷ xs) zero e = let h = greatest_start (max d y) xs in omega (arith, h, same_Some y x e)
+greatest_at d x (y ∷ xs) (suc k) e = greatest_at (max d y) x xs k e

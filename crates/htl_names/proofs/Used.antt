@@ -16,7 +16,7 @@ use Rattle.htl_names.specs.NameRules.{AreNamesRight, UnknownName}
 use Rattle.htl_names.specs.Order.{module_at, tasks_at, modes_at}
 use Rattle.htl_names.specs.Uses.{usage, task_uses, comm_use, end_use, invoke_uses, switch_uses, program_use, mode_uses, module_uses, program_uses, uses, IsUnknown}
 use Rattle.htl_names.proofs.FlatMaps.{get_front, get_back, at_part_0, at_flat}
-use Rattle.htl_names.proofs.Origins.{In}
+use Rattle.htl_names.proofs.Members.{In}
 use Rattle.htl_names.proofs.Owners.{to_map}
 use Rattle.htl_names.proofs.Places.{program_of_module, module_of_task, module_of_mode}
 use Rattle.htl_names.proofs.Deciding.{not_below}

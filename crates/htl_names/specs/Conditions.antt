@@ -2,7 +2,7 @@
 use Rattle.std.specs.Prelude.{ℕ, cond, ◌≤◌, ◌∷◌, ◌++◌, List, [], All, length, map, fold}
 use Rattle.std.specs.List.{list_any}
 use Rattle.std.specs.Str.{bytes_eq}
-use Rattle.htl_text.specs.Bounds.{nodes, names_of, out_params, out_values, modules_of, modes_of, tasks_of, invokes_of, switches_of}
+use Rattle.htl_text.specs.Bounds.{tree_nodes, names_of, out_params, out_values, modules_of, modes_of, tasks_of, invokes_of, switches_of, IsBounded}
 use Rattle.htl_text.specs.Nodes.{PlainProgram, PlainTask, PlainSwitch}
 use Rattle.htl_text.specs.declared.tree.Id.{Id}
 use Rattle.htl_text.specs.declared.tree.InvokeNode.{InvokeNode}
@@ -15,23 +15,27 @@ with_new_name ns n = cond (list_any (bytes_eq n) ns) ns (ns ++ n ∷ [])
 abbrev pub different_names : List Id → List (List ℕ)
 different_names ids = fold with_new_name [] (map (λ id. id.name) ids)
 
-pub record IsSmallTask (t : PlainTask) : Type 0 where
+pub record MeetsTaskBounds (t : PlainTask) : Type 0 where
   pub inputs : length t.inputs ≤ 256
   pub outputs : length (out_params t.outputs) ≤ 256
-  pub values : All (λ e. nodes e ≤ 512) (out_values t.outputs)
+  pub values : All (λ e. tree_nodes e ≤ 512) (out_values t.outputs)
 
-pub record IsSmallInvoke (i : InvokeNode) : Type 0 where
+pub record MeetsInvokeBounds (i : InvokeNode) : Type 0 where
   pub reads : length i.reads ≤ 256
   pub writes : length i.writes ≤ 256
 
-pub record IsSmallSwitch (s : PlainSwitch) : Type 0 where
-  pub cond : nodes s.cond ≤ 512
+pub record MeetsSwitchBounds (s : PlainSwitch) : Type 0 where
+  pub cond : tree_nodes s.cond ≤ 512
   pub names : length (different_names (names_of s.cond)) ≤ 256
 
 -- The tree has at most 1,048,576 programs, each list of parameters or ends at most 256 items, each expression at most
 -- 512 nodes, and each condition of a switch at most 256 different names.
-pub record IsSmall (ps : List PlainProgram) : Type 0 where
+pub record MeetsBounds (ps : List PlainProgram) : Type 0 where
   pub programs : length ps ≤ 1048576
-  pub tasks : All IsSmallTask (tasks_of (modules_of ps))
-  pub invokes : All IsSmallInvoke (invokes_of (modes_of (modules_of ps)))
-  pub switches : All IsSmallSwitch (switches_of (modes_of (modules_of ps)))
+  pub tasks : All MeetsTaskBounds (tasks_of (modules_of ps))
+  pub invokes : All MeetsInvokeBounds (invokes_of (modes_of (modules_of ps)))
+  pub switches : All MeetsSwitchBounds (switches_of (modes_of (modules_of ps)))
+
+-- a tree that is bounded meets them
+abbrev pub SourceTreesMeetBounds : Type 0
+SourceTreesMeetBounds = (ps : List PlainProgram) → IsBounded ps → MeetsBounds ps

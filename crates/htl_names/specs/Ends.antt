@@ -11,4 +11,4 @@ use Rattle.htl_names.specs.Flat.{Layout, meaning, size_of}
 -- an end of an invocation in mode a, whose ports are numbered from the given number on
 abbrev pub end_by : Layout → ModeAt → ℕ → EndNode → End
 end_by l a first (end.Comm comm instance) = E.Comm (meaning l (comm_key comm.name)) (size_of instance.x)
-end_by l a first (end.Port port) = E.Port (first + meaning l (port_key a.program a.unit a.mode port.name))
+end_by l a first (end.Port port) = E.Port (first + meaning l (port_key a.program a.«module» a.mode port.name))

@@ -27,7 +27,7 @@ use Rattle.htl_text.specs.declared.tree.EndNode.TheVariants as end
 use Rattle.htl_text.specs.declared.tree.InvokeNode.{InvokeNode}
 use Rattle.htl_names.specs.declared.key.Key.{Key}
 use Rattle.htl_names.specs.declared.place.ModeAt.{ModeAt}
-use Rattle.htl_names.specs.declared.place.UnitAt.{UnitAt}
+use Rattle.htl_names.specs.declared.place.ModuleAt.{ModuleAt}
 use Rattle.htl_names.specs.Entries.{entries}
 use Rattle.htl_names.specs.Keys.{look_up, pair_of, comm_key, task_key, mode_key, param_key, port_key, invoke_key}
 use Rattle.htl_names.specs.Lists.{flat_map_at, place_in, distinct}
@@ -36,14 +36,14 @@ use Rattle.htl_names.specs.Order.{order, mode_order, modes_at, module_at, tasks_
 -- the meanings of names, and the modules and modes by their numbers in the tables
 pub record Layout : Type 0 where
   pub symbols : List (Key × ℕ)
-  pub units : List UnitAt
+  pub modules : List ModuleAt
   pub modes : List ModeAt
 
 abbrev pub symbols_of : List PlainProgram → List (Key × ℕ)
 symbols_of ps = map pair_of (entries ps)
 
-abbrev pub layout_by : List (Key × ℕ) → List UnitAt → List PlainProgram → Layout
-layout_by symbols units ps = record { symbols = symbols; units = units; modes = mode_order ps units }
+abbrev pub layout_by : List (Key × ℕ) → List ModuleAt → List PlainProgram → Layout
+layout_by symbols modules ps = record { symbols = symbols; modules = modules; modes = mode_order ps modules }
 
 abbrev pub layout : List PlainProgram → Layout
 layout ps = layout_by (symbols_of ps) (order (symbols_of ps) ps) ps
@@ -54,29 +54,29 @@ meaning l key = elim (look_up key l.symbols) [ Some n ↦ n | None ↦ 0 ]
 
 -- ---- numbers
 
-abbrev pub is_unit : ℕ → ℕ → UnitAt → Bool
-is_unit p u s = eqb s.program p && eqb s.unit u
+abbrev pub is_module : ℕ → ℕ → ModuleAt → Bool
+is_module p u s = eqb s.program p && eqb s.«module» u
 
 -- the number of module u of program p
-abbrev pub unit_number : Layout → ℕ → ℕ → ℕ
-unit_number l p u = place_in (is_unit p u) l.units
+abbrev pub module_number : Layout → ℕ → ℕ → ℕ
+module_number l p u = place_in (is_module p u) l.modules
 
 -- how many modes, and tasks, the modules below number k have
-abbrev pub first_mode : Layout → List PlainProgram → ℕ → ℕ
-first_mode l ps k = length (flat_map (λ s. modes_at ps s.program s.unit) (take k l.units))
+abbrev pub modes_before : Layout → List PlainProgram → ℕ → ℕ
+modes_before l ps k = length (flat_map (λ s. modes_at ps s.program s.«module») (take k l.modules))
 
-abbrev pub first_task : Layout → List PlainProgram → ℕ → ℕ
-first_task l ps k = length (flat_map (λ s. tasks_at ps s.program s.unit) (take k l.units))
+abbrev pub tasks_before : Layout → List PlainProgram → ℕ → ℕ
+tasks_before l ps k = length (flat_map (λ s. tasks_at ps s.program s.«module») (take k l.modules))
 
 -- how many ports, and invocations, the modes below number m have
-abbrev pub first_port : Layout → List PlainProgram → ℕ → ℕ
-first_port l ps m = length (flat_map (ports_at ps) (take m l.modes))
+abbrev pub ports_before : Layout → List PlainProgram → ℕ → ℕ
+ports_before l ps m = length (flat_map (ports_at ps) (take m l.modes))
 
-abbrev pub first_invoke : Layout → List PlainProgram → ℕ → ℕ
-first_invoke l ps m = length (flat_map (invokes_at ps) (take m l.modes))
+abbrev pub invokes_before : Layout → List PlainProgram → ℕ → ℕ
+invokes_before l ps m = length (flat_map (invokes_at ps) (take m l.modes))
 
 abbrev pub mode_number : Layout → List PlainProgram → ModeAt → ℕ
-mode_number l ps a = first_mode l ps (unit_number l a.program a.unit) + a.mode
+mode_number l ps a = modes_before l ps (module_number l a.program a.«module») + a.mode
 
 -- ---- the lists
 
@@ -98,25 +98,25 @@ comm_items ps = map comm_item (flat_map (λ p. p.comms) ps)
 abbrev pub mode_item : ℕ → PlainMode → Mode
 mode_item k x = record { name = x.name.name; «module» = k; period = size_of x.period.x }
 
-abbrev pub unit_mode_items : List PlainProgram → ℕ → UnitAt → List Mode
-unit_mode_items ps k s = map (mode_item k) (modes_at ps s.program s.unit)
+abbrev pub module_mode_items : List PlainProgram → ℕ → ModuleAt → List Mode
+module_mode_items ps k s = map (mode_item k) (modes_at ps s.program s.«module»)
 
 abbrev pub mode_items : Layout → List PlainProgram → List Mode
-mode_items l ps = flat_map_at (unit_mode_items ps) 0 l.units
+mode_items l ps = flat_map_at (module_mode_items ps) 0 l.modules
 
-abbrev pub module_item : Layout → List PlainProgram → ℕ → UnitAt → PlainModule → Module
+abbrev pub module_item : Layout → List PlainProgram → ℕ → ModuleAt → PlainModule → Module
 module_item l ps k s x =
     record {
       name = x.name.name;
       parent = elim s.parent [ Some a ↦ Some (mode_number l ps a) | None ↦ None ];
-      start = first_mode l ps k + meaning l (mode_key s.program s.unit x.start.name);
+      start = modes_before l ps k + meaning l (mode_key s.program s.«module» x.start.name);
     }
 
-abbrev pub unit_module_items : Layout → List PlainProgram → ℕ → UnitAt → List Module
-unit_module_items l ps k s = elim (module_at ps s.program s.unit) [ Some x ↦ module_item l ps k s x ∷ [] | None ↦ [] ]
+abbrev pub module_items_at : Layout → List PlainProgram → ℕ → ModuleAt → List Module
+module_items_at l ps k s = elim (module_at ps s.program s.«module») [ Some x ↦ module_item l ps k s x ∷ [] | None ↦ [] ]
 
 abbrev pub module_items : Layout → List PlainProgram → List Module
-module_items l ps = flat_map_at (unit_module_items l ps) 0 l.units
+module_items l ps = flat_map_at (module_items_at l ps) 0 l.modules
 
 abbrev pub port_item : ℕ → ParamNode → Port
 port_item m x = record { name = x.name.name; mode = m; ty = x.ty }
@@ -145,32 +145,32 @@ task_item k t =
       outputs = types_of (out_params t.outputs);
     }
 
-abbrev pub unit_task_items : List PlainProgram → ℕ → UnitAt → List Task
-unit_task_items ps k s = map (task_item k) (tasks_at ps s.program s.unit)
+abbrev pub module_task_items : List PlainProgram → ℕ → ModuleAt → List Task
+module_task_items ps k s = map (task_item k) (tasks_at ps s.program s.«module»)
 
 abbrev pub task_items : Layout → List PlainProgram → List Task
-task_items l ps = flat_map_at (unit_task_items ps) 0 l.units
+task_items l ps = flat_map_at (module_task_items ps) 0 l.modules
 
 -- an end of an invocation in mode a, whose number is m
 abbrev pub end_item : Layout → List PlainProgram → ℕ → ModeAt → EndNode → End
 end_item l ps m a (end.Comm comm instance) = E.Comm (meaning l (comm_key comm.name)) (size_of instance.x)
-end_item l ps m a (end.Port port) = E.Port (first_port l ps m + meaning l (port_key a.program a.unit a.mode port.name))
+end_item l ps m a (end.Port port) = E.Port (ports_before l ps m + meaning l (port_key a.program a.«module» a.mode port.name))
 
 -- the mode that the program of module u of program p refines
 abbrev pub refined_mode : Layout → ℕ → ℕ → Option ModeAt
-refined_mode l p u = elim (slice_get l.units (unit_number l p u)) [ Some s ↦ s.parent | None ↦ None ]
+refined_mode l p u = elim (slice_get l.modules (module_number l p u)) [ Some s ↦ s.parent | None ↦ None ]
 
 -- the number of the invocation that a name after `parent` means, in the refined mode
 abbrev pub parent_number : Layout → List PlainProgram → Option ModeAt → Id → Option ℕ
 parent_number l ps None id = None
-parent_number l ps (Some b) id = Some (first_invoke l ps (mode_number l ps b) + meaning l (invoke_key b.program b.unit b.mode id.name))
+parent_number l ps (Some b) id = Some (invokes_before l ps (mode_number l ps b) + meaning l (invoke_key b.program b.«module» b.mode id.name))
 
 abbrev pub invoke_item : Layout → List PlainProgram → ℕ → ModeAt → InvokeNode → Inv
 invoke_item l ps m a i =
     record {
       mode = m;
-      task = first_task l ps (unit_number l a.program a.unit) + meaning l (task_key a.program a.unit i.task.name);
-      parent = elim i.parent [ Some id ↦ parent_number l ps (refined_mode l a.program a.unit) id | None ↦ None ];
+      task = tasks_before l ps (module_number l a.program a.«module») + meaning l (task_key a.program a.«module» i.task.name);
+      parent = elim i.parent [ Some id ↦ parent_number l ps (refined_mode l a.program a.«module») id | None ↦ None ];
       reads = map (end_item l ps m a) i.reads;
       writes = map (end_item l ps m a) i.writes;
     }
@@ -189,7 +189,7 @@ abbrev pub switch_item : Layout → List PlainProgram → ℕ → ModeAt → Pla
 switch_item l ps m a s =
     record {
       mode = m;
-      target = first_mode l ps (unit_number l a.program a.unit) + meaning l (mode_key a.program a.unit s.target.name);
+      target = modes_before l ps (module_number l a.program a.«module») + meaning l (mode_key a.program a.«module» s.target.name);
       reads = comms_in l s.cond;
     }
 
@@ -224,8 +224,8 @@ outs_functions l p u k (Abstract xs) = []
 abbrev pub task_functions : Layout → ℕ → ℕ → ℕ → PlainTask → List Fun
 task_functions l p u k t = outs_functions l p u k t.outputs
 
-abbrev pub unit_functions : Layout → List PlainProgram → UnitAt → List Fun
-unit_functions l ps s = flat_map_at (task_functions l s.program s.unit) 0 (tasks_at ps s.program s.unit)
+abbrev pub module_functions : Layout → List PlainProgram → ModuleAt → List Fun
+module_functions l ps s = flat_map_at (task_functions l s.program s.«module») 0 (tasks_at ps s.program s.«module»)
 
 -- in the function of a switch a name is a place among the communicators that it reads
 abbrev pub read_place : Layout → List ℕ → Id → ℕ
@@ -239,7 +239,7 @@ mode_functions l ps a = map (switch_function l) (switches_at ps a)
 
 -- one for each output of each concrete task, in the order of tasks, then one for each switch
 abbrev pub function_items : Layout → List PlainProgram → List Fun
-function_items l ps = flat_map (unit_functions l ps) l.units ++ flat_map (mode_functions l ps) l.modes
+function_items l ps = flat_map (module_functions l ps) l.modules ++ flat_map (mode_functions l ps) l.modes
 
 -- ---- the tables
 

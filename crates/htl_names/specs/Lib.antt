@@ -22,6 +22,7 @@ pub mod Programs
 pub mod Reach
 pub mod Refined
 pub mod Repeats
+pub mod Samples
 pub mod Stack
 pub mod Tallies
 pub mod Told

@@ -7,8 +7,8 @@ use Rattle.htl_text.specs.declared.tree.EndNode.TheVariants as end
 use Rattle.htl_text.specs.declared.tree.InvokeNode.{InvokeNode}
 use Rattle.htl_names.specs.declared.key.Key.{Key}
 use Rattle.htl_names.specs.declared.place.ModeAt.{ModeAt}
-use Rattle.htl_names.specs.declared.place.UnitAt.{UnitAt}
-use Rattle.htl_names.specs.Flat.{Layout, meaning, first_mode, first_task, first_port, first_invoke, size_of}
+use Rattle.htl_names.specs.declared.place.ModuleAt.{ModuleAt}
+use Rattle.htl_names.specs.Flat.{Layout, meaning, modes_before, tasks_before, ports_before, invokes_before, size_of}
 use Rattle.htl_names.specs.Order.{modes_at, tasks_at, invokes_at}
 
 abbrev pub IsNarrowEnd : EndNode → Type 0
@@ -25,13 +25,13 @@ IsNarrowParent (Some a) = a.mode ≤ 256
 
 pub record IsNarrow (l : Layout) (ps : List PlainProgram) : Type 0 where
   pub meanings : (key : Key) → meaning l key ≤ 4096
-  pub units : length l.units ≤ 64
+  pub modules : length l.modules ≤ 64
   pub modes : length l.modes ≤ 256
-  pub first_modes : (k : ℕ) → first_mode l ps k ≤ 256
-  pub first_tasks : (k : ℕ) → first_task l ps k ≤ 4096
-  pub first_ports : (m : ℕ) → first_port l ps m ≤ 4096
-  pub first_invokes : (m : ℕ) → first_invoke l ps m ≤ 2048
-  pub parents : All (λ (s : UnitAt). IsNarrowParent s.parent) l.units
+  pub modes_before : (k : ℕ) → modes_before l ps k ≤ 256
+  pub first_tasks : (k : ℕ) → tasks_before l ps k ≤ 4096
+  pub first_ports : (m : ℕ) → ports_before l ps m ≤ 4096
+  pub first_invokes : (m : ℕ) → invokes_before l ps m ≤ 2048
+  pub parents : All (λ (s : ModuleAt). IsNarrowParent s.parent) l.modules
   pub comm_periods : All (λ c. size_of c.period.x ≤ 1000000) (comms_of ps)
   pub mode_periods : (p u : ℕ) → All (λ x. size_of x.period.x ≤ 1000000) (modes_at ps p u)
   pub worsts : (p u : ℕ) → All (λ t. size_of t.worst.x ≤ 1000000) (tasks_at ps p u)

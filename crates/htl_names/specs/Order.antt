@@ -8,7 +8,7 @@ use Rattle.htl_text.specs.declared.tree.ParamNode.{ParamNode}
 use Rattle.htl_text.specs.declared.tree.InvokeNode.{InvokeNode}
 use Rattle.htl_names.specs.declared.key.Key.{Key}
 use Rattle.htl_names.specs.declared.place.ModeAt.{ModeAt}
-use Rattle.htl_names.specs.declared.place.UnitAt.{UnitAt}
+use Rattle.htl_names.specs.declared.place.ModuleAt.{ModuleAt}
 use Rattle.htl_names.specs.Lists.{flat_map_at}
 use Rattle.htl_names.specs.Programs.{named_program}
 
@@ -27,7 +27,7 @@ abbrev pub modes_at : List PlainProgram → ℕ → ℕ → List PlainMode
 modes_at ps p u = elim (module_at ps p u) [ Some x ↦ x.modes | None ↦ [] ]
 
 abbrev pub mode_at : List PlainProgram → ModeAt → Option PlainMode
-mode_at ps a = slice_get (modes_at ps a.program a.unit) a.mode
+mode_at ps a = slice_get (modes_at ps a.program a.«module») a.mode
 
 abbrev pub ports_at : List PlainProgram → ModeAt → List ParamNode
 ports_at ps a = elim (mode_at ps a) [ Some x ↦ x.ports | None ↦ [] ]
@@ -41,32 +41,32 @@ switches_at ps a = elim (mode_at ps a) [ Some x ↦ x.switches | None ↦ [] ]
 -- ---- the order of modules
 
 -- the modules of program q, which refines a mode
-abbrev pub units_in : List PlainProgram → Option ModeAt → ℕ → List UnitAt
-units_in ps parent q = list_to (λ u. record { program = q; unit = u; parent = parent }) (length (modules_at ps q))
+abbrev pub modules_in : List PlainProgram → Option ModeAt → ℕ → List ModuleAt
+modules_in ps parent q = list_to (λ u. record { program = q; «module» = u; parent = parent }) (length (modules_at ps q))
 
-abbrev pub mode_kids : List (Key × ℕ) → List PlainProgram → ℕ → ℕ → ℕ → PlainMode → List UnitAt
+abbrev pub mode_kids : List (Key × ℕ) → List PlainProgram → ℕ → ℕ → ℕ → PlainMode → List ModuleAt
 mode_kids symbols ps p u m x =
     elim (named_program symbols x) [
-      | Some q ↦ units_in ps (Some (record { program = p; unit = u; mode = m })) q
+      | Some q ↦ modules_in ps (Some (record { program = p; «module» = u; mode = m })) q
       | None ↦ []
     ]
 
 -- the modules of the programs that refine the modes of a module
-abbrev pub kids : List (Key × ℕ) → List PlainProgram → UnitAt → List UnitAt
-kids symbols ps s = flat_map_at (mode_kids symbols ps s.program s.unit) 0 (modes_at ps s.program s.unit)
+abbrev pub kids : List (Key × ℕ) → List PlainProgram → ModuleAt → List ModuleAt
+kids symbols ps s = flat_map_at (mode_kids symbols ps s.program s.«module») 0 (modes_at ps s.program s.«module»)
 
 -- a module, and in order those below it, at most so many levels down
-abbrev pub below : ℕ → List (Key × ℕ) → List PlainProgram → UnitAt → List UnitAt
+abbrev pub below : ℕ → List (Key × ℕ) → List PlainProgram → ModuleAt → List ModuleAt
 below zero symbols ps s = s ∷ []
 below (suc n) symbols ps s = s ∷ flat_map (below n symbols ps) (kids symbols ps s)
 
 -- the modules of the source: no level is deeper than there are programs
-abbrev pub order : List (Key × ℕ) → List PlainProgram → List UnitAt
-order symbols ps = flat_map (below (length ps) symbols ps) (units_in ps None 0)
+abbrev pub order : List (Key × ℕ) → List PlainProgram → List ModuleAt
+order symbols ps = flat_map (below (length ps) symbols ps) (modules_in ps None 0)
 
 -- the modes: by module, then in source order
-abbrev pub unit_modes : List PlainProgram → UnitAt → List ModeAt
-unit_modes ps s = list_to (λ m. record { program = s.program; unit = s.unit; mode = m }) (length (modes_at ps s.program s.unit))
+abbrev pub module_modes : List PlainProgram → ModuleAt → List ModeAt
+module_modes ps s = list_to (λ m. record { program = s.program; «module» = s.«module»; mode = m }) (length (modes_at ps s.program s.«module»))
 
-abbrev pub mode_order : List PlainProgram → List UnitAt → List ModeAt
-mode_order ps units = flat_map (unit_modes ps) units
+abbrev pub mode_order : List PlainProgram → List ModuleAt → List ModeAt
+mode_order ps modules = flat_map (module_modes ps) modules

@@ -32,7 +32,7 @@ parents ps = flat_map_at program_parents 0 ps
 
 -- the place of the invocation that the name means in the refined mode
 abbrev pub parent_place : List (Key × ℕ) → ModeAt → List ℕ → Option ℕ
-parent_place symbols a n = look_up (invoke_key a.program a.unit a.mode n) symbols
+parent_place symbols a n = look_up (invoke_key a.program a.«module» a.mode n) symbols
 
 abbrev pub parent_in : List (Key × ℕ) → Option ModeAt → List ℕ → Option ℕ
 parent_in symbols None n = None

@@ -55,7 +55,7 @@ Naming = ModeAt × ℕ
 
 abbrev pub mode_naming : List (Key × ℕ) → ℕ → ℕ → ℕ → PlainMode → List Naming
 mode_naming symbols p u m x =
-    elim (named_program symbols x) [ Some q ↦ (record { program = p; unit = u; mode = m }, q) ∷ [] | None ↦ [] ]
+    elim (named_program symbols x) [ Some q ↦ (record { program = p; «module» = u; mode = m }, q) ∷ [] | None ↦ [] ]
 
 abbrev pub module_naming : List (Key × ℕ) → ℕ → ℕ → PlainModule → List Naming
 module_naming symbols p u x = flat_map_at (mode_naming symbols p u) 0 x.modes

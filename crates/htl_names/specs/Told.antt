@@ -1,5 +1,5 @@
 -- What the test of one name rule tells.
-use Rattle.std.specs.Prelude.{ℕ, ◌≡◌, ◌<◌, ◌⊎◌, List, MatchOption, MatchResult, Option, Result}
+use Rattle.std.specs.Prelude.{ℕ, ◌≡◌, ◌<◌, ◌⊎◌, List, MatchResult, Result}
 use Rattle.htl_text.specs.Nodes.{PlainProgram}
 use Rattle.htl_names.specs.declared.fault.NameFault.{NameFault}
 use Rattle.htl_names.specs.declared.fault.NameFault.TheVariants as fault
@@ -17,10 +17,6 @@ pub record IsFirstOf (ps : List PlainProgram) (rule : NameRule) (f : NameFault) 
 
 abbrev pub IsTold : List PlainProgram → NameRule → NameFault → Type 0
 IsTold ps rule f = (f ≡ fault.Memory) ⊎ IsFirstOf ps rule f
-
--- a test of a rule that takes no memory
-abbrev pub IsSearched : List PlainProgram → NameRule → Option NameFault → Type 0
-IsSearched ps rule o = MatchOption o (IsKept ps rule) (IsFirstOf ps rule)
 
 -- a test of a rule
 abbrev pub IsTested : List PlainProgram → NameRule → Result (Unit {0}) NameFault → Type 0

@@ -23,7 +23,7 @@ unknown_token symbols u = unknown_by (look_up u.key symbols) u.below u.token
 abbrev pub use_in : Scope → Id → Use
 use_in s id =
     record {
-      key = record { space = s.space; program = s.program; unit = s.unit; item = s.item; name = id.name };
+      key = record { space = s.space; program = s.program; «module» = s.«module»; item = s.item; name = id.name };
       below = s.below;
       token = id.token;
     }

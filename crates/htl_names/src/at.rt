@@ -17,28 +17,28 @@ pub fn modules_at(tree: &Tree, program: usize) -> &[ModuleNode]
 }
 
 /// A module.
-pub fn module_at(tree: &Tree, program: usize, unit: usize) -> Option<&ModuleNode>
-    ensures { MatchOption result (module_at (tree_of tree.now) program unit ≡ None)
-        (λ node. module_at (tree_of tree.now) program unit ≡ Some (module_of node.now)) }
+pub fn module_at(tree: &Tree, program: usize, module: usize) -> Option<&ModuleNode>
+    ensures { MatchOption result (module_at (tree_of tree.now) program «module» ≡ None)
+        (λ node. module_at (tree_of tree.now) program «module» ≡ Some (module_of node.now)) }
 {
-    modules_at(tree, program).get(unit)
+    modules_at(tree, program).get(module)
 }
 
 /// The tasks of a module.
-pub fn tasks_at(tree: &Tree, program: usize, unit: usize) -> &[TaskNode]
-    ensures { map task_of result.now ≡ tasks_at (tree_of tree.now) program unit }
+pub fn tasks_at(tree: &Tree, program: usize, module: usize) -> &[TaskNode]
+    ensures { map task_of result.now ≡ tasks_at (tree_of tree.now) program «module» }
 {
-    match module_at(tree, program, unit) {
+    match module_at(tree, program, module) {
         Some(node) => node.tasks.as_slice(),
         None => &[],
     }
 }
 
 /// The modes of a module.
-pub fn modes_at(tree: &Tree, program: usize, unit: usize) -> &[ModeNode]
-    ensures { map mode_of result.now ≡ modes_at (tree_of tree.now) program unit }
+pub fn modes_at(tree: &Tree, program: usize, module: usize) -> &[ModeNode]
+    ensures { map mode_of result.now ≡ modes_at (tree_of tree.now) program «module» }
 {
-    match module_at(tree, program, unit) {
+    match module_at(tree, program, module) {
         Some(node) => node.modes.as_slice(),
         None => &[],
     }
@@ -49,7 +49,7 @@ pub fn mode_at(tree: &Tree, at: ModeAt) -> Option<&ModeNode>
     ensures { MatchOption result (mode_at (tree_of tree.now) at ≡ None)
         (λ node. mode_at (tree_of tree.now) at ≡ Some (mode_of node.now)) }
 {
-    modes_at(tree, at.program, at.unit).get(at.mode)
+    modes_at(tree, at.program, at.module).get(at.mode)
 }
 
 /// The ports of a mode.

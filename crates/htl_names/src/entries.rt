@@ -90,14 +90,14 @@ fn add_modules(p: usize, modules: &[ModuleNode], into: &mut Vec<Entry>) -> Resul
 fn add_module(
     p: usize,
     u: usize,
-    unit: &ModuleNode,
+    module: &ModuleNode,
     into: &mut Vec<Entry>,
 ) -> Result<(), AllocError>
-    ensures { OnOk result (into.new.items ≡ into.old.items ++ entries.module_entries p u (module_of unit.now)) }
+    ensures { OnOk result (into.new.items ≡ into.old.items ++ entries.module_entries p u (module_of «module».now)) }
 {
-    add(module_key(unit.name.name), u, &unit.name, into)?;
-    add_tasks(p, u, unit.tasks.as_slice(), into)?;
-    add_modes(p, u, unit.modes.as_slice(), into)
+    add(module_key(module.name.name), u, &module.name, into)?;
+    add_tasks(p, u, module.tasks.as_slice(), into)?;
+    add_modes(p, u, module.modes.as_slice(), into)
 }
 
 fn add_tasks(

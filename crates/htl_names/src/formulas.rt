@@ -27,15 +27,15 @@ pub trait Arguments {
 pub struct Inputs<'a> {
     pub layout: &'a Layout,
     pub program: usize,
-    pub unit: usize,
+    pub module: usize,
     pub task: usize,
 }
 
 impl Arguments for Inputs<'_> {
-    ghost place = { λ s. input_place s.layout.now s.program s.unit s.task };
+    ghost place = { λ s. input_place s.layout.now s.program s.«module» s.task };
 
     fn place(&self, id: &Id) -> u16 {
-        param_place(self.layout, self.program, self.unit, self.task, id.name) as u16
+        param_place(self.layout, self.program, self.module, self.task, id.name) as u16
     }
 }
 

@@ -5,13 +5,13 @@ ghost use Rattle.htl_model.specs.Tables.{fun_of};
 ghost use Rattle.htl_text.specs.Nodes.{tree_of, task_of, outs_of, out_of, switch_of};
 ghost use Rattle.htl_names.specs.declared.key.Key.{Key as AKey};
 ghost use Rattle.htl_names.specs.Lists.{flat_map_at};
-ghost use Rattle.htl_names.specs.Flat.{meaning, output_function, outs_functions, task_functions, unit_functions, switch_function, mode_functions, function_items};
+ghost use Rattle.htl_names.specs.Flat.{meaning, output_function, outs_functions, task_functions, module_functions, switch_function, mode_functions, function_items};
 ghost use Rattle.htl_names.specs.Narrow.{IsNarrow};
 
 use crate::at::{switches_at, tasks_at};
 use crate::formulas::{Inputs, Reads, formula};
 use crate::layout::Layout;
-use crate::place::{ModeAt, UnitAt};
+use crate::place::{ModeAt, ModuleAt};
 use crate::switches::comms_in;
 use htl_model::Function;
 use htl_text::{OutNode, OutNodes, SwitchNode, Tree};
@@ -36,32 +36,32 @@ fn put_outputs(
 ) -> Result<(), AllocError>
     requires { IsNarrow layout.now (tree_of tree.now) }
     ensures { OnOk result (map fun_of into.new.items
-        ≡ map fun_of into.old.items ++ flat_map (unit_functions layout.now (tree_of tree.now)) layout.now.units) }
+        ≡ map fun_of into.old.items ++ flat_map (module_functions layout.now (tree_of tree.now)) layout.now.modules) }
 {
-    let units = layout.units.as_slice();
-    for k in 0..units.len() {
-        put_unit(alloc, tree, layout, units[k], into)?;
+    let modules = layout.modules.as_slice();
+    for k in 0..modules.len() {
+        put_module(alloc, tree, layout, modules[k], into)?;
     }
     Ok(())
 }
 
 // Those of the tasks of a module.
-fn put_unit(
+fn put_module(
     alloc: Global,
     tree: &Tree,
     layout: &Layout,
-    at: UnitAt,
+    at: ModuleAt,
     into: &mut Vec<Function>,
 ) -> Result<(), AllocError>
     requires { (key : AKey) → meaning layout.now key ≤ 4096 }
-    ensures { OnOk result (map fun_of into.new.items ≡ map fun_of into.old.items ++ unit_functions layout.now (tree_of tree.now) at) }
+    ensures { OnOk result (map fun_of into.new.items ≡ map fun_of into.old.items ++ module_functions layout.now (tree_of tree.now) at) }
 {
-    let tasks = tasks_at(tree, at.program, at.unit);
+    let tasks = tasks_at(tree, at.program, at.module);
     for k in 0..tasks.len() {
         let inputs = Inputs {
             layout,
             program: at.program,
-            unit: at.unit,
+            module: at.module,
             task: k,
         };
         put_task(alloc, &inputs, &tasks[k].outputs, into)?;
@@ -78,7 +78,7 @@ fn put_task(
 ) -> Result<(), AllocError>
     requires { (key : AKey) → meaning inputs.now.layout.now key ≤ 4096 }
     ensures { OnOk result (map fun_of into.new.items ≡ map fun_of into.old.items
-        ++ outs_functions inputs.now.layout.now inputs.now.program inputs.now.unit inputs.now.task (outs_of outs.now)) }
+        ++ outs_functions inputs.now.layout.now inputs.now.program inputs.now.module inputs.now.task (outs_of outs.now)) }
 {
     match outs {
         OutNodes::Concrete { outs } => put_outs(alloc, inputs, outs.as_slice(), into),
@@ -94,7 +94,7 @@ fn put_outs(
 ) -> Result<(), AllocError>
     requires { (key : AKey) → meaning inputs.now.layout.now key ≤ 4096 }
     ensures { OnOk result (map fun_of into.new.items ≡ map fun_of into.old.items
-        ++ map (output_function inputs.now.layout.now inputs.now.program inputs.now.unit inputs.now.task) (map out_of outs.now)) }
+        ++ map (output_function inputs.now.layout.now inputs.now.program inputs.now.module inputs.now.task) (map out_of outs.now)) }
 {
     for k in 0..outs.len() {
         into.push(output_function(alloc, inputs, &outs[k])?)?;
@@ -109,7 +109,7 @@ fn output_function(
 ) -> Result<Function, AllocError>
     requires { (key : AKey) → meaning inputs.now.layout.now key ≤ 4096 }
     ensures { IfOk result (λ f. fun_of f
-        ≡ output_function inputs.now.layout.now inputs.now.program inputs.now.unit inputs.now.task (out_of out.now)) }
+        ≡ output_function inputs.now.layout.now inputs.now.program inputs.now.«module» inputs.now.task (out_of out.now)) }
 {
     Ok(Function::Expr {
         first: out.first,

@@ -19,7 +19,7 @@ fn number_of(name: Option<Id>, symbols: &Symbols) -> Option<usize>
         Some(id) => symbols.get(&Key {
             space: Space::Programs,
             program: 0,
-            unit: 0,
+            module: 0,
             item: 0,
             name: id.name,
         }),
@@ -56,13 +56,13 @@ fn push_mode_links(
 }
 
 fn push_module_links(
-    unit: &ModuleNode,
+    module: &ModuleNode,
     symbols: &Symbols,
     into: &mut Vec<usize>,
 ) -> Result<(), AllocError>
-    ensures { OnOk result (into.new.items ≡ into.old.items ++ module_links symbols.now (module_of unit.now)) }
+    ensures { OnOk result (into.new.items ≡ into.old.items ++ module_links symbols.now (module_of «module».now)) }
 {
-    let modes = unit.modes.as_slice();
+    let modes = module.modes.as_slice();
     for k in 0..modes.len() {
         push_mode_links(&modes[k], symbols, into)?;
     }
@@ -77,9 +77,9 @@ fn program_links(
     ensures { IfOk result (λ v. v.items ≡ program_links symbols.now (program_of program.now)) }
 {
     let mut found = Vec::new(alloc);
-    let units = program.modules.as_slice();
-    for k in 0..units.len() {
-        push_module_links(&units[k], symbols, &mut found)?;
+    let modules = program.modules.as_slice();
+    for k in 0..modules.len() {
+        push_module_links(&modules[k], symbols, &mut found)?;
     }
     Ok(found)
 }
@@ -122,25 +122,25 @@ fn push_mode_naming(
     symbols: &Symbols,
     into: &mut Vec<(ModeAt, usize)>,
 ) -> Result<(), AllocError>
-    ensures { OnOk result (into.new.items ≡ into.old.items ++ mode_naming symbols.now place.program place.unit place.mode (mode_of mode.now)) }
+    ensures { OnOk result (into.new.items ≡ into.old.items ++ mode_naming symbols.now place.program place.«module» place.mode (mode_of mode.now)) }
 {
     push_placed(place, named_program(mode, symbols), into)
 }
 
 fn push_module_naming(
     program: usize,
-    unit: usize,
+    module: usize,
     node: &ModuleNode,
     symbols: &Symbols,
     into: &mut Vec<(ModeAt, usize)>,
 ) -> Result<(), AllocError>
-    ensures { OnOk result (into.new.items ≡ into.old.items ++ module_naming symbols.now program unit (module_of node.now)) }
+    ensures { OnOk result (into.new.items ≡ into.old.items ++ module_naming symbols.now program «module» (module_of node.now)) }
 {
     let modes = node.modes.as_slice();
     for k in 0..modes.len() {
         let place = ModeAt {
             program,
-            unit,
+            module,
             mode: k,
         };
         push_mode_naming(place, &modes[k], symbols, into)?;
@@ -156,9 +156,9 @@ fn push_program_naming(
 ) -> Result<(), AllocError>
     ensures { OnOk result (into.new.items ≡ into.old.items ++ program_naming symbols.now program (program_of node.now)) }
 {
-    let units = node.modules.as_slice();
-    for k in 0..units.len() {
-        push_module_naming(program, k, &units[k], symbols, into)?;
+    let modules = node.modules.as_slice();
+    for k in 0..modules.len() {
+        push_module_naming(program, k, &modules[k], symbols, into)?;
     }
     Ok(())
 }

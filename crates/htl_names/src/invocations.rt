@@ -3,7 +3,7 @@ ghost use Rattle.std.specs.Prelude.{◌≡◌, ◌++◌, ◌≤◌, ℕ, None, S
 ghost use Rattle.htl_text.specs.Nodes.{tree_of};
 ghost use Rattle.htl_names.specs.declared.key.Key.{Key as AKey};
 ghost use Rattle.htl_names.specs.Ends.{end_by};
-ghost use Rattle.htl_names.specs.Flat.{meaning, first_port, refined_mode, parent_number, invoke_item, mode_invoke_items, invoke_items};
+ghost use Rattle.htl_names.specs.Flat.{meaning, ports_before, refined_mode, parent_number, invoke_item, mode_invoke_items, invoke_items};
 ghost use Rattle.htl_names.specs.Narrow.{IsNarrow, IsNarrowEnd, IsNarrowInvoke};
 
 use crate::at::invokes_at;
@@ -11,7 +11,7 @@ use crate::layout::Layout;
 use crate::literals::size_of;
 use crate::meanings::{comm_place, invoke_place, port_place, task_place};
 use crate::numbers::{
-    first_invoke, first_port, first_task, mode_number, refined_mode, unit_number,
+    invokes_before, mode_number, module_number, ports_before, refined_mode, tasks_before,
 };
 use crate::place::ModeAt;
 use htl_base::Seq;
@@ -45,7 +45,7 @@ fn push_invocations(
     requires mode { mode ≤ 256 }
     ensures { OnOk result (into.new.items ≡ into.old.items ++ mode_invoke_items layout.now (tree_of tree.now) mode at) }
 {
-    let first = first_port(tree, layout, mode);
+    let first = ports_before(tree, layout, mode);
     let nodes = invokes_at(tree, at);
     for k in 0..nodes.len() {
         into.push(invocation(alloc, tree, layout, mode, at, first, &nodes[k])?)?;
@@ -65,12 +65,12 @@ fn invocation(
 ) -> Result<Inv, AllocError>
     requires narrow { IsNarrow layout.now (tree_of tree.now) }
     requires mode { mode ≤ 256 }
-    requires port { first ≡ first_port layout.now (tree_of tree.now) mode }
+    requires port { first ≡ ports_before layout.now (tree_of tree.now) mode }
     requires ends { IsNarrowInvoke node.now }
     ensures { IfOk result (λ i. i ≡ invoke_item layout.now (tree_of tree.now) mode at node.now) }
 {
-    let task = first_task(tree, layout, unit_number(layout, at.program, at.unit))
-        + task_place(layout, at.program, at.unit, node.task.name);
+    let task = tasks_before(tree, layout, module_number(layout, at.program, at.module))
+        + task_place(layout, at.program, at.module, node.task.name);
     Ok(Inv {
         mode: mode as u16,
         task: task as u16,
@@ -84,12 +84,12 @@ fn invocation(
 fn parent(tree: &Tree, layout: &Layout, at: ModeAt, name: Option<Id>) -> Option<u16>
     requires { IsNarrow layout.now (tree_of tree.now) }
     ensures { result ≡ elim name [
-      | Some id ↦ parent_number layout.now (tree_of tree.now) (refined_mode layout.now at.program at.unit) id
+      | Some id ↦ parent_number layout.now (tree_of tree.now) (refined_mode layout.now at.program at.module) id
       | None ↦ None
     ] }
 {
     match name {
-        Some(id) => match refined_mode(layout, at.program, at.unit) {
+        Some(id) => match refined_mode(layout, at.program, at.module) {
             Some(refined) => Some(parent_number(tree, layout, refined, id)),
             None => None,
         },
@@ -103,7 +103,7 @@ fn parent_number(tree: &Tree, layout: &Layout, refined: ModeAt, id: Id) -> u16
     requires mode { refined.mode ≤ 256 }
     ensures { parent_number layout.now (tree_of tree.now) (Some refined) id ≡ Some result }
 {
-    let first = first_invoke(tree, layout, mode_number(tree, layout, refined));
+    let first = invokes_before(tree, layout, mode_number(tree, layout, refined));
     (first + invoke_place(layout, refined, id.name)) as u16
 }
 

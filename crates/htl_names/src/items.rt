@@ -3,15 +3,15 @@ ghost use Rattle.std.specs.Prelude.{◌≡◌, ◌++◌, ◌∷◌, ◌≤◌, [
 ghost use Rattle.htl_text.specs.Bounds.{comms_of};
 ghost use Rattle.htl_text.specs.Nodes.{tree_of, module_of, mode_of};
 ghost use Rattle.htl_text.specs.declared.tree.CommNode.{CommNode as ACommNode};
-ghost use Rattle.htl_names.specs.Flat.{size_of, comm_item, comm_items, mode_item, mode_items, mode_number, module_item, module_items, unit_module_items, port_item, port_items};
+ghost use Rattle.htl_names.specs.Flat.{size_of, comm_item, comm_items, mode_item, mode_items, mode_number, module_item, module_items, module_items_at, port_item, port_items};
 ghost use Rattle.htl_names.specs.Narrow.{IsNarrow, IsNarrowParent};
 
 use crate::at::{modes_at, module_at, ports_at};
 use crate::layout::Layout;
 use crate::literals::{size_of, value_of};
 use crate::meanings::mode_place;
-use crate::numbers::{first_mode, mode_number};
-use crate::place::UnitAt;
+use crate::numbers::{mode_number, modes_before};
+use crate::place::ModuleAt;
 use htl_model::{Comm, Mode, Module, Port};
 use htl_text::{CommNode, ModeNode, ModuleNode, ParamNode, Tree};
 use std::alloc::{AllocError, Global};
@@ -58,31 +58,31 @@ pub fn modes(alloc: Global, tree: &Tree, layout: &Layout) -> Result<Vec<Mode>, A
     ensures { IfOk result (λ v. v.items ≡ mode_items layout.now (tree_of tree.now)) }
 {
     let mut into = Vec::new(alloc);
-    let units = layout.units.as_slice();
-    for k in 0..units.len() {
-        let nodes = modes_at(tree, units[k].program, units[k].unit);
+    let modules = layout.modules.as_slice();
+    for k in 0..modules.len() {
+        let nodes = modes_at(tree, modules[k].program, modules[k].module);
         push_modes(nodes, k as u16, &mut into)?;
     }
     Ok(into)
 }
 
-fn push_modes(nodes: &[ModeNode], unit: u16, into: &mut Vec<Mode>) -> Result<(), AllocError>
+fn push_modes(nodes: &[ModeNode], module: u16, into: &mut Vec<Mode>) -> Result<(), AllocError>
     requires { All (λ x. size_of x.period.x ≤ 1000000) (map mode_of nodes.now) }
-    ensures { OnOk result (into.new.items ≡ into.old.items ++ map (mode_item unit) (map mode_of nodes.now)) }
+    ensures { OnOk result (into.new.items ≡ into.old.items ++ map (mode_item «module») (map mode_of nodes.now)) }
 {
     for k in 0..nodes.len() {
-        into.push(mode(&nodes[k], unit))?;
+        into.push(mode(&nodes[k], module))?;
     }
     Ok(())
 }
 
-fn mode(node: &ModeNode, unit: u16) -> Mode
+fn mode(node: &ModeNode, module: u16) -> Mode
     requires { size_of node.now.period.x ≤ 1000000 }
-    ensures { result ≡ mode_item unit (mode_of node.now) }
+    ensures { result ≡ mode_item «module» (mode_of node.now) }
 {
     Mode {
         name: node.name.name,
-        module: unit,
+        module: module,
         period: size_of(node.period.x),
     }
 }
@@ -93,23 +93,23 @@ pub fn modules(alloc: Global, tree: &Tree, layout: &Layout) -> Result<Vec<Module
     ensures { IfOk result (λ v. v.items ≡ module_items layout.now (tree_of tree.now)) }
 {
     let mut into = Vec::new(alloc);
-    let units = layout.units.as_slice();
-    for k in 0..units.len() {
-        if let Some(node) = module_at(tree, units[k].program, units[k].unit) {
-            into.push(module(tree, layout, k, units[k], node))?;
+    let modules = layout.modules.as_slice();
+    for k in 0..modules.len() {
+        if let Some(node) = module_at(tree, modules[k].program, modules[k].module) {
+            into.push(module(tree, layout, k, modules[k], node))?;
         }
     }
     Ok(into)
 }
 
-fn module(tree: &Tree, layout: &Layout, number: usize, at: UnitAt, node: &ModuleNode) -> Module
+fn module(tree: &Tree, layout: &Layout, number: usize, at: ModuleAt, node: &ModuleNode) -> Module
     requires narrow { IsNarrow layout.now (tree_of tree.now) }
-    requires within { number ≤ length layout.now.units }
+    requires within { number ≤ length layout.now.modules }
     requires parent { IsNarrowParent at.parent }
     ensures { result ≡ module_item layout.now (tree_of tree.now) number at (module_of node.now) }
 {
-    let start = first_mode(tree, layout, number)
-        + mode_place(layout, at.program, at.unit, node.start.name);
+    let start = modes_before(tree, layout, number)
+        + mode_place(layout, at.program, at.module, node.start.name);
     Module {
         name: node.name.name,
         parent: parent_mode(tree, layout, at),
@@ -118,7 +118,7 @@ fn module(tree: &Tree, layout: &Layout, number: usize, at: UnitAt, node: &Module
 }
 
 // The number of the mode that a module refines.
-fn parent_mode(tree: &Tree, layout: &Layout, at: UnitAt) -> Option<u16>
+fn parent_mode(tree: &Tree, layout: &Layout, at: ModuleAt) -> Option<u16>
     requires narrow { IsNarrow layout.now (tree_of tree.now) }
     requires parent { IsNarrowParent at.parent }
     ensures { result ≡ elim at.parent [ Some a ↦ Some (mode_number layout.now (tree_of tree.now) a) | None ↦ None ] }

@@ -28,7 +28,7 @@ pub enum Space {
 pub struct Key {
     pub space: Space,
     pub program: usize,
-    pub unit: usize,
+    pub module: usize,
     pub item: usize,
     pub name: Name,
 }

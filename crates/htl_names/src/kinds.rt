@@ -132,11 +132,11 @@ fn in_modules(modules: &[ModuleNode]) -> Option<u32>
     None
 }
 
-fn in_module(unit: &ModuleNode) -> Option<u32>
-    ensures { result ≡ first_some wrong_token (kinds.module_kinds (module_of unit.now)) }
+fn in_module(module: &ModuleNode) -> Option<u32>
+    ensures { result ≡ first_some wrong_token (kinds.module_kinds (module_of «module».now)) }
 {
-    let tasks = in_tasks(unit.tasks.as_slice());
-    let modes = in_modes(unit.modes.as_slice());
+    let tasks = in_tasks(module.tasks.as_slice());
+    let modes = in_modes(module.modes.as_slice());
     tasks.or(modes)
 }
 

@@ -1,5 +1,5 @@
 // The meanings of names, and the order of the tables.
-use crate::place::{ModeAt, UnitAt};
+use crate::place::{ModeAt, ModuleAt};
 use crate::symbols::Symbols;
 use std::marker::Model;
 
@@ -7,7 +7,7 @@ use std::marker::Model;
 #[derive(Drop)]
 pub struct Layout {
     pub symbols: Symbols,
-    pub units: Vec<UnitAt>,
+    pub modules: Vec<ModuleAt>,
     pub modes: Vec<ModeAt>,
 }
 
@@ -16,5 +16,5 @@ impl Model for Layout {
 
     ghost Value = { Plain };
 
-    ghost view = { λ l. record { symbols = l.symbols; units = l.units.items; modes = l.modes.items } };
+    ghost view = { λ l. record { symbols = l.symbols; modules = l.modules.items; modes = l.modes.items } };
 }

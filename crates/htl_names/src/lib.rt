@@ -12,6 +12,7 @@ mod invocations;
 mod items;
 mod key;
 mod kinds;
+mod laws;
 mod layout;
 mod levels;
 mod limits;
@@ -31,7 +32,10 @@ mod switches;
 mod symbols;
 mod tally;
 mod tasks;
+#[cfg(test)]
+mod tests;
 mod uses;
 
 pub use fault::NameFault;
+pub use laws::source_trees_meet_bounds;
 pub use resolving::resolve;

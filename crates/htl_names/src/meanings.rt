@@ -23,7 +23,7 @@ pub fn comm_place(layout: &Layout, name: Name) -> usize
         &Key {
             space: Space::Comms,
             program: 0,
-            unit: 0,
+            module: 0,
             item: 0,
             name,
         },
@@ -31,15 +31,15 @@ pub fn comm_place(layout: &Layout, name: Name) -> usize
 }
 
 /// Among the tasks of a module.
-pub fn task_place(layout: &Layout, program: usize, unit: usize, name: Name) -> usize
-    ensures { result ≡ meaning layout.now (task_key program unit name) }
+pub fn task_place(layout: &Layout, program: usize, module: usize, name: Name) -> usize
+    ensures { result ≡ meaning layout.now (task_key program «module» name) }
 {
     meaning(
         layout,
         &Key {
             space: Space::Tasks,
             program,
-            unit,
+            module,
             item: 0,
             name,
         },
@@ -47,15 +47,15 @@ pub fn task_place(layout: &Layout, program: usize, unit: usize, name: Name) -> u
 }
 
 /// Among the modes of a module.
-pub fn mode_place(layout: &Layout, program: usize, unit: usize, name: Name) -> usize
-    ensures { result ≡ meaning layout.now (mode_key program unit name) }
+pub fn mode_place(layout: &Layout, program: usize, module: usize, name: Name) -> usize
+    ensures { result ≡ meaning layout.now (mode_key program «module» name) }
 {
     meaning(
         layout,
         &Key {
             space: Space::Modes,
             program,
-            unit,
+            module,
             item: 0,
             name,
         },
@@ -63,15 +63,15 @@ pub fn mode_place(layout: &Layout, program: usize, unit: usize, name: Name) -> u
 }
 
 /// Among the inputs and outputs of a task.
-pub fn param_place(layout: &Layout, program: usize, unit: usize, task: usize, name: Name) -> usize
-    ensures { result ≡ meaning layout.now (param_key program unit task name) }
+pub fn param_place(layout: &Layout, program: usize, module: usize, task: usize, name: Name) -> usize
+    ensures { result ≡ meaning layout.now (param_key program «module» task name) }
 {
     meaning(
         layout,
         &Key {
             space: Space::Params,
             program,
-            unit,
+            module,
             item: task,
             name,
         },
@@ -80,14 +80,14 @@ pub fn param_place(layout: &Layout, program: usize, unit: usize, task: usize, na
 
 /// Among the ports of a mode.
 pub fn port_place(layout: &Layout, at: ModeAt, name: Name) -> usize
-    ensures { result ≡ meaning layout.now (port_key at.program at.unit at.mode name) }
+    ensures { result ≡ meaning layout.now (port_key at.program at.«module» at.mode name) }
 {
     meaning(
         layout,
         &Key {
             space: Space::Ports,
             program: at.program,
-            unit: at.unit,
+            module: at.module,
             item: at.mode,
             name,
         },
@@ -96,14 +96,14 @@ pub fn port_place(layout: &Layout, at: ModeAt, name: Name) -> usize
 
 /// Among the invocations of a mode.
 pub fn invoke_place(layout: &Layout, at: ModeAt, name: Name) -> usize
-    ensures { result ≡ meaning layout.now (invoke_key at.program at.unit at.mode name) }
+    ensures { result ≡ meaning layout.now (invoke_key at.program at.«module» at.mode name) }
 {
     meaning(
         layout,
         &Key {
             space: Space::Invokes,
             program: at.program,
-            unit: at.unit,
+            module: at.module,
             item: at.mode,
             name,
         },

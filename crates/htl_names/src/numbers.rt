@@ -1,9 +1,9 @@
 // The numbers of modules and modes in the tables, and those of the first items that they have.
 ghost use Rattle.std.specs.Prelude.{◌≡◌, ◌≤◌, All, length};
 ghost use Rattle.htl_text.specs.Nodes.{tree_of};
-ghost use Rattle.htl_names.specs.Flat.{unit_number, first_mode, first_task, first_port, first_invoke, mode_number, refined_mode};
+ghost use Rattle.htl_names.specs.Flat.{module_number, modes_before, tasks_before, ports_before, invokes_before, mode_number, refined_mode};
 ghost use Rattle.htl_names.specs.Narrow.{IsNarrow, IsNarrowParent};
-ghost use Rattle.htl_names.specs.declared.place.UnitAt.{UnitAt as AUnitAt};
+ghost use Rattle.htl_names.specs.declared.place.ModuleAt.{ModuleAt as AModuleAt};
 
 use crate::at::{invokes_at, modes_at, ports_at, tasks_at};
 use crate::layout::Layout;
@@ -11,51 +11,51 @@ use crate::place::ModeAt;
 use htl_text::Tree;
 
 /// The number of a module; that of modules where it stands nowhere.
-pub fn unit_number(layout: &Layout, program: usize, unit: usize) -> usize
-    ensures value { result ≡ unit_number layout.now program unit }
-    ensures within { result ≤ length layout.now.units }
+pub fn module_number(layout: &Layout, program: usize, module: usize) -> usize
+    ensures value { result ≡ module_number layout.now program «module» }
+    ensures within { result ≤ length layout.now.modules }
 {
-    let units = layout.units.as_slice();
-    for k in 0..units.len() {
-        if units[k].program == program && units[k].unit == unit {
+    let modules = layout.modules.as_slice();
+    for k in 0..modules.len() {
+        if modules[k].program == program && modules[k].module == module {
             return k;
         }
     }
-    units.len()
+    modules.len()
 }
 
 /// How many modes the modules below a number have.
-pub fn first_mode(tree: &Tree, layout: &Layout, unit: usize) -> usize
+pub fn modes_before(tree: &Tree, layout: &Layout, module: usize) -> usize
     requires narrow { IsNarrow layout.now (tree_of tree.now) }
-    requires within { unit ≤ length layout.now.units }
-    ensures { result ≡ first_mode layout.now (tree_of tree.now) unit }
+    requires within { «module» ≤ length layout.now.modules }
+    ensures { result ≡ modes_before layout.now (tree_of tree.now) «module» }
 {
     let mut count: usize = 0;
-    let units = layout.units.as_slice();
-    for k in 0..unit {
-        count += modes_at(tree, units[k].program, units[k].unit).len();
+    let modules = layout.modules.as_slice();
+    for k in 0..module {
+        count += modes_at(tree, modules[k].program, modules[k].module).len();
     }
     count
 }
 
 /// How many tasks the modules below a number have.
-pub fn first_task(tree: &Tree, layout: &Layout, unit: usize) -> usize
+pub fn tasks_before(tree: &Tree, layout: &Layout, module: usize) -> usize
     requires narrow { IsNarrow layout.now (tree_of tree.now) }
-    requires within { unit ≤ length layout.now.units }
-    ensures { result ≡ first_task layout.now (tree_of tree.now) unit }
+    requires within { «module» ≤ length layout.now.modules }
+    ensures { result ≡ tasks_before layout.now (tree_of tree.now) «module» }
 {
     let mut count: usize = 0;
-    let units = layout.units.as_slice();
-    for k in 0..unit {
-        count += tasks_at(tree, units[k].program, units[k].unit).len();
+    let modules = layout.modules.as_slice();
+    for k in 0..module {
+        count += tasks_at(tree, modules[k].program, modules[k].module).len();
     }
     count
 }
 
 /// How many ports the modes below a number have.
-pub fn first_port(tree: &Tree, layout: &Layout, mode: usize) -> usize
+pub fn ports_before(tree: &Tree, layout: &Layout, mode: usize) -> usize
     requires narrow { IsNarrow layout.now (tree_of tree.now) }
-    ensures { result ≡ first_port layout.now (tree_of tree.now) mode }
+    ensures { result ≡ ports_before layout.now (tree_of tree.now) mode }
 {
     let mut count: usize = 0;
     let modes = layout.modes.as_slice();
@@ -66,9 +66,9 @@ pub fn first_port(tree: &Tree, layout: &Layout, mode: usize) -> usize
 }
 
 /// How many invocations the modes below a number have.
-pub fn first_invoke(tree: &Tree, layout: &Layout, mode: usize) -> usize
+pub fn invokes_before(tree: &Tree, layout: &Layout, mode: usize) -> usize
     requires narrow { IsNarrow layout.now (tree_of tree.now) }
-    ensures { result ≡ first_invoke layout.now (tree_of tree.now) mode }
+    ensures { result ≡ invokes_before layout.now (tree_of tree.now) mode }
 {
     let mut count: usize = 0;
     let modes = layout.modes.as_slice();
@@ -85,18 +85,18 @@ pub fn mode_number(tree: &Tree, layout: &Layout, at: ModeAt) -> usize
     ensures value { result ≡ mode_number layout.now (tree_of tree.now) at }
     ensures within { result ≤ 512 }
 {
-    first_mode(tree, layout, unit_number(layout, at.program, at.unit)) + at.mode
+    modes_before(tree, layout, module_number(layout, at.program, at.module)) + at.mode
 }
 
 /// The mode that the program of a module refines.
-pub fn refined_mode(layout: &Layout, program: usize, unit: usize) -> Option<ModeAt>
-    requires { All (λ (s : AUnitAt). IsNarrowParent s.parent) layout.now.units }
-    ensures value { result ≡ refined_mode layout.now program unit }
+pub fn refined_mode(layout: &Layout, program: usize, module: usize) -> Option<ModeAt>
+    requires { All (λ (s : AModuleAt). IsNarrowParent s.parent) layout.now.modules }
+    ensures value { result ≡ refined_mode layout.now program «module» }
     ensures narrow { IsNarrowParent result }
 {
-    let number = unit_number(layout, program, unit);
-    match layout.units.as_slice().get(number) {
-        Some(unit) => unit.parent,
+    let number = module_number(layout, program, module);
+    match layout.modules.as_slice().get(number) {
+        Some(module) => module.parent,
         None => None,
     }
 }

@@ -3,12 +3,12 @@ ghost use Rattle.std.specs.Prelude.{◌≡◌, ◌++◌, OnOk, IfOk, map, length
 ghost use Rattle.std.specs.List.{flat_map};
 ghost use Rattle.htl_text.specs.Nodes.{mode_of, module_of, tree_of};
 ghost use Rattle.htl_names.specs.Flat.{layout_by};
-ghost use Rattle.htl_names.specs.Order.{modules_at, modes_at, units_in, mode_kids, kids as kids_of_unit, order, unit_modes, mode_order};
-ghost use Rattle.htl_names.specs.Stack.{frame, units_named, kid_frames};
+ghost use Rattle.htl_names.specs.Order.{modules_at, modes_at, modules_in, mode_kids, kids as kids_of_module, order, module_modes, mode_order};
+ghost use Rattle.htl_names.specs.Stack.{frame, modules_named, kid_frames};
 
 use crate::graph::named_program;
 use crate::layout::Layout;
-use crate::place::{ModeAt, UnitAt};
+use crate::place::{ModeAt, ModuleAt};
 use crate::symbols::Symbols;
 use htl_text::{ModeNode, ModuleNode, Tree};
 use std::alloc::{AllocError, Global};
@@ -16,7 +16,7 @@ use std::alloc::{AllocError, Global};
 /// A module that is still to come, and how many levels may lie below it.
 #[derive(Clone, Copy)]
 struct Frame {
-    unit: UnitAt,
+    module: ModuleAt,
     steps: usize,
 }
 
@@ -33,12 +33,12 @@ fn modules_at<'a>(tree: &'a Tree, program: usize) -> &'a [ModuleNode]
 }
 
 /// The modes of a module; none where there is no such module.
-fn modes_at<'a>(tree: &'a Tree, program: usize, unit: usize) -> &'a [ModeNode]
-    ensures { map mode_of result.now ≡ modes_at (tree_of tree.now) program unit }
+fn modes_at<'a>(tree: &'a Tree, program: usize, module: usize) -> &'a [ModeNode]
+    ensures { map mode_of result.now ≡ modes_at (tree_of tree.now) program «module» }
 {
-    let units = modules_at(tree, program);
-    if unit < units.len() {
-        units[unit].modes.as_slice()
+    let modules = modules_at(tree, program);
+    if module < modules.len() {
+        modules[module].modes.as_slice()
     } else {
         &[]
     }
@@ -47,38 +47,38 @@ fn modes_at<'a>(tree: &'a Tree, program: usize, unit: usize) -> &'a [ModeNode]
 // ---- modules
 
 /// Puts the modules of a program behind others.
-fn push_units(
+fn push_modules(
     tree: &Tree,
     parent: Option<ModeAt>,
     program: usize,
     steps: usize,
     into: &mut Vec<Frame>,
 ) -> Result<(), AllocError>
-    ensures { OnOk result (into.new.items ≡ into.old.items ++ map (frame steps) (units_in (tree_of tree.now) parent program)) }
+    ensures { OnOk result (into.new.items ≡ into.old.items ++ map (frame steps) (modules_in (tree_of tree.now) parent program)) }
 {
-    let units = modules_at(tree, program);
-    for u in 0..units.len() {
-        let unit = UnitAt {
+    let modules = modules_at(tree, program);
+    for u in 0..modules.len() {
+        let module = ModuleAt {
             program,
-            unit: u,
+            module: u,
             parent,
         };
-        into.push(Frame { unit, steps })?;
+        into.push(Frame { module, steps })?;
     }
     Ok(())
 }
 
-fn push_named_units(
+fn push_named_modules(
     tree: &Tree,
     place: ModeAt,
     found: Option<usize>,
     steps: usize,
     into: &mut Vec<Frame>,
 ) -> Result<(), AllocError>
-    ensures { OnOk result (into.new.items ≡ into.old.items ++ map (frame steps) (units_named (tree_of tree.now) place found)) }
+    ensures { OnOk result (into.new.items ≡ into.old.items ++ map (frame steps) (modules_named (tree_of tree.now) place found)) }
 {
     match found {
-        Some(q) => push_units(tree, Some(place), q, steps, into),
+        Some(q) => push_modules(tree, Some(place), q, steps, into),
         None => Ok(()),
     }
 }
@@ -92,9 +92,9 @@ fn push_mode_kids(
     steps: usize,
     into: &mut Vec<Frame>,
 ) -> Result<(), AllocError>
-    ensures { OnOk result (into.new.items ≡ into.old.items ++ map (frame steps) (mode_kids symbols.now (tree_of tree.now) place.program place.unit place.mode (mode_of mode.now))) }
+    ensures { OnOk result (into.new.items ≡ into.old.items ++ map (frame steps) (mode_kids symbols.now (tree_of tree.now) place.program place.«module» place.mode (mode_of mode.now))) }
 {
-    push_named_units(tree, place, named_program(mode, symbols), steps, into)
+    push_named_modules(tree, place, named_program(mode, symbols), steps, into)
 }
 
 /// The modules of the programs that refine the modes of a module.
@@ -102,17 +102,17 @@ fn kids(
     alloc: Global,
     tree: &Tree,
     symbols: &Symbols,
-    unit: UnitAt,
+    module: ModuleAt,
     steps: usize,
 ) -> Result<Vec<Frame>, AllocError>
-    ensures { IfOk result (λ v. v.items ≡ map (frame steps) (kids_of_unit symbols.now (tree_of tree.now) unit)) }
+    ensures { IfOk result (λ v. v.items ≡ map (frame steps) (kids_of_module symbols.now (tree_of tree.now) «module»)) }
 {
     let mut found = Vec::new(alloc);
-    let modes = modes_at(tree, unit.program, unit.unit);
+    let modes = modes_at(tree, module.program, module.module);
     for k in 0..modes.len() {
         let place = ModeAt {
-            program: unit.program,
-            unit: unit.unit,
+            program: module.program,
+            module: module.module,
             mode: k,
         };
         push_mode_kids(tree, symbols, place, &modes[k], steps, &mut found)?;
@@ -139,44 +139,48 @@ fn push_kids(
     top: Frame,
     stack: &mut Vec<Frame>,
 ) -> Result<(), AllocError>
-    ensures { OnOk result (stack.new.items ≡ stack.old.items ++ reverse (kid_frames top.steps symbols.now (tree_of tree.now) top.unit)) }
+    ensures { OnOk result (stack.new.items ≡ stack.old.items ++ reverse (kid_frames top.steps symbols.now (tree_of tree.now) top.«module»)) }
 {
     if top.steps == 0 {
         return Ok(());
     }
-    let next = kids(alloc, tree, symbols, top.unit, top.steps - 1)?;
+    let next = kids(alloc, tree, symbols, top.module, top.steps - 1)?;
     push_reversed(next, stack)
 }
 
 /// The modules of a source: a root module, then for each of its modes in order the modules of its refinement with theirs,
 /// then the next root module. What is still to come stands on a stack, so that no depth of programs costs room of the
 /// machine's own.
-fn ordered_units(alloc: Global, tree: &Tree, symbols: &Symbols) -> Result<Vec<UnitAt>, AllocError>
+fn ordered_modules(
+    alloc: Global,
+    tree: &Tree,
+    symbols: &Symbols,
+) -> Result<Vec<ModuleAt>, AllocError>
     ensures { IfOk result (λ v. v.items ≡ order symbols.now (tree_of tree.now)) }
 {
     let mut roots = Vec::new(alloc);
-    push_units(tree, None, 0, tree.programs.as_slice().len(), &mut roots)?;
+    push_modules(tree, None, 0, tree.programs.as_slice().len(), &mut roots)?;
     let mut stack = Vec::new(alloc);
     push_reversed(roots, &mut stack)?;
-    let mut units = Vec::new(alloc);
+    let mut modules = Vec::new(alloc);
     while let Some(top) = stack.pop() {
-        units.push(top.unit)?;
+        modules.push(top.module)?;
         push_kids(alloc, tree, symbols, top, &mut stack)?;
     }
-    Ok(units)
+    Ok(modules)
 }
 
 // ---- modes
 
 /// Puts the modes of a module behind others.
-fn push_modes(tree: &Tree, unit: UnitAt, into: &mut Vec<ModeAt>) -> Result<(), AllocError>
-    ensures { OnOk result (into.new.items ≡ into.old.items ++ unit_modes (tree_of tree.now) unit) }
+fn push_modes(tree: &Tree, module: ModuleAt, into: &mut Vec<ModeAt>) -> Result<(), AllocError>
+    ensures { OnOk result (into.new.items ≡ into.old.items ++ module_modes (tree_of tree.now) «module») }
 {
-    let modes = modes_at(tree, unit.program, unit.unit);
+    let modes = modes_at(tree, module.program, module.module);
     for mode in 0..modes.len() {
         into.push(ModeAt {
-            program: unit.program,
-            unit: unit.unit,
+            program: module.program,
+            module: module.module,
             mode,
         })?;
     }
@@ -184,12 +188,16 @@ fn push_modes(tree: &Tree, unit: UnitAt, into: &mut Vec<ModeAt>) -> Result<(), A
 }
 
 /// The modes of modules, by module.
-fn ordered_modes(alloc: Global, tree: &Tree, units: &[UnitAt]) -> Result<Vec<ModeAt>, AllocError>
-    ensures { IfOk result (λ v. v.items ≡ mode_order (tree_of tree.now) units.now) }
+fn ordered_modes(
+    alloc: Global,
+    tree: &Tree,
+    modules: &[ModuleAt],
+) -> Result<Vec<ModeAt>, AllocError>
+    ensures { IfOk result (λ v. v.items ≡ mode_order (tree_of tree.now) modules.now) }
 {
     let mut found = Vec::new(alloc);
-    for k in 0..units.len() {
-        push_modes(tree, units[k], &mut found)?;
+    for k in 0..modules.len() {
+        push_modes(tree, modules[k], &mut found)?;
     }
     Ok(found)
 }
@@ -200,11 +208,11 @@ fn ordered_modes(alloc: Global, tree: &Tree, units: &[UnitAt]) -> Result<Vec<Mod
 pub(crate) fn layout_of(alloc: Global, tree: &Tree, symbols: Symbols) -> Result<Layout, AllocError>
     ensures { IfOk result (λ layout. layout ≡ layout_by symbols (order symbols (tree_of tree.now)) (tree_of tree.now)) }
 {
-    let units = ordered_units(alloc, tree, &symbols)?;
-    let modes = ordered_modes(alloc, tree, &units)?;
+    let modules = ordered_modules(alloc, tree, &symbols)?;
+    let modes = ordered_modes(alloc, tree, &modules)?;
     Ok(Layout {
         symbols,
-        units,
+        modules,
         modes,
     })
 }

@@ -49,7 +49,7 @@ fn place_in(mode: Option<ModeAt>, id: &Id, symbols: &Symbols) -> Option<usize>
 {
     match mode {
         None => None,
-        Some(a) => symbols.get(&invoke_key(a.program, a.unit, a.mode, id.name)),
+        Some(a) => symbols.get(&invoke_key(a.program, a.module, a.mode, id.name)),
     }
 }
 
@@ -104,13 +104,13 @@ fn in_modules(
 
 fn in_module(
     p: usize,
-    unit: &ModuleNode,
+    module: &ModuleNode,
     symbols: &Symbols,
     refined: &[Option<ModeAt>],
 ) -> Option<u32>
-    ensures { result ≡ first_some (orphan_token symbols.now refined.now) (parents.module_parents p (module_of unit.now)) }
+    ensures { result ≡ first_some (orphan_token symbols.now refined.now) (parents.module_parents p (module_of «module».now)) }
 {
-    in_modes(p, unit.modes.as_slice(), symbols, refined)
+    in_modes(p, module.modes.as_slice(), symbols, refined)
 }
 
 fn in_modes(

@@ -4,14 +4,14 @@
 #[derive(Clone, Copy, PartialEq, Eq)]
 pub struct ModeAt {
     pub program: usize,
-    pub unit: usize,
+    pub module: usize,
     pub mode: usize,
 }
 
 /// A module: its program, its place in the program, and the mode that its program refines; None in the root program.
 #[derive(Clone, Copy)]
-pub struct UnitAt {
+pub struct ModuleAt {
     pub program: usize,
-    pub unit: usize,
+    pub module: usize,
     pub parent: Option<ModeAt>,
 }

@@ -2,8 +2,9 @@
 ghost use Rattle.std.specs.Prelude.{◌≡◌, MatchResult, length, IfOk};
 ghost use Rattle.htl_model.specs.Broken.{KeepsLimits};
 ghost use Rattle.htl_model.specs.Lists.{list_to};
+ghost use Rattle.htl_model.specs.Small.{AreSmall};
 ghost use Rattle.htl_text.specs.Nodes.{tree_of};
-ghost use Rattle.htl_names.specs.Conditions.{IsSmall};
+ghost use Rattle.htl_names.specs.Conditions.{MeetsBounds};
 ghost use Rattle.htl_names.specs.Flat.{symbols_of};
 ghost use Rattle.htl_names.specs.NameRules.{RepeatedName, UnknownName, WrongKind, ProgramTree, ParentName, Limits, AreNamesRight, IsResolved};
 ghost use Rattle.htl_names.specs.Programs.{refined_by};
@@ -36,11 +37,13 @@ impl From<AllocError> for NameFault {
 }
 
 /// The flat tables of a source whose names keep the rules, else the first rule that is broken, with its place. Memory
-/// comes only where no memory was left. The tables have at most 1,024 root selections, and at most 128 positions in each.
+/// comes only where no memory was left. The tables have at most 1,024 root selections, and at most 128 positions in each; each of
+/// their functions is an expression of at most 512 nodes over at most 256 arguments that are there.
 pub fn resolve(alloc: Global, tree: &Tree) -> Result<Tables, NameFault>
-    requires small { IsSmall (tree_of tree.now) }
+    requires bounds { MeetsBounds (tree_of tree.now) }
     ensures resolved { IsResolved (tree_of tree.now) result }
     ensures limits { IfOk result (λ tables. KeepsLimits tables) }
+    ensures functions { IfOk result (λ tables. AreSmall tables) }
 {
     let symbols = symbols_of(alloc, tree)?;
     check(alloc, tree, &symbols)?;
@@ -60,7 +63,7 @@ fn symbols_of(alloc: Global, tree: &Tree) -> Result<Symbols, NameFault>
 
 // The rules after the first, in their order.
 fn check(alloc: Global, tree: &Tree, symbols: &Symbols) -> Result<(), NameFault>
-    requires small { IsSmall (tree_of tree.now) }
+    requires bounds { MeetsBounds (tree_of tree.now) }
     requires symbols { symbols.now ≡ symbols_of (tree_of tree.now) }
     requires apart { IsKept (tree_of tree.now) RepeatedName }
     ensures { IsJudged (tree_of tree.now) result }
@@ -93,7 +96,7 @@ fn check_kinds(tree: &Tree) -> Result<(), NameFault>
 }
 
 fn check_programs(alloc: Global, tree: &Tree, symbols: &Symbols) -> Result<(), NameFault>
-    requires small { IsSmall (tree_of tree.now) }
+    requires bounds { MeetsBounds (tree_of tree.now) }
     requires symbols { symbols.now ≡ symbols_of (tree_of tree.now) }
     ensures { IsTested (tree_of tree.now) ProgramTree result }
 {
@@ -135,11 +138,12 @@ fn check_limits(tree: &Tree, symbols: &Symbols, refined: &[Option<ModeAt>]) -> R
 
 // The tables of a source whose names keep the rules.
 fn tables(alloc: Global, tree: &Tree, symbols: Symbols) -> Result<Tables, NameFault>
-    requires small { IsSmall (tree_of tree.now) }
+    requires bounds { MeetsBounds (tree_of tree.now) }
     requires symbols { symbols ≡ symbols_of (tree_of tree.now) }
     requires right { AreNamesRight (tree_of tree.now) }
     ensures resolved { IsResolved (tree_of tree.now) result }
     ensures limits { IfOk result (λ tables. KeepsLimits tables) }
+    ensures functions { IfOk result (λ tables. AreSmall tables) }
 {
     let layout = layout_of(alloc, tree, symbols)?;
     let parts = parts_of(alloc, tree, &layout)?;

@@ -17,12 +17,12 @@ fn root_modules(tree: &Tree) -> &[ModuleNode]
 }
 
 /// How many choices of one mode for each module there are, at most `usize::MAX`.
-fn choices(units: &[ModuleNode]) -> usize
-    ensures { result ≡ capped (choices (map module_of units.now)) }
+fn choices(modules: &[ModuleNode]) -> usize
+    ensures { result ≡ capped (choices (map module_of modules.now)) }
 {
     let mut n = 1usize;
-    for k in 0..units.len() {
-        n = n.saturating_mul(units[k].modes.as_slice().len());
+    for k in 0..modules.len() {
+        n = n.saturating_mul(modules[k].modes.as_slice().len());
     }
     n
 }
@@ -31,15 +31,19 @@ fn choices(units: &[ModuleNode]) -> usize
 pub(crate) fn selections(tree: &Tree) -> usize
     ensures { result ≡ capped (selections (tree_of tree.now)) }
 {
-    let units = root_modules(tree);
-    if units.is_empty() { 0 } else { choices(units) }
+    let modules = root_modules(tree);
+    if modules.is_empty() {
+        0
+    } else {
+        choices(modules)
+    }
 }
 
 /// The most invocations that a mode of a module has.
-fn most_invokes(unit: &ModuleNode) -> usize
-    ensures { result ≡ most_invokes (map mode_of unit.now.modes) }
+fn most_invokes(module: &ModuleNode) -> usize
+    ensures { result ≡ most_invokes (map mode_of «module».now.modes) }
 {
-    let modes = unit.modes.as_slice();
+    let modes = module.modes.as_slice();
     let mut most = 0usize;
     for k in 0..modes.len() {
         most = most.max(modes[k].invokes.as_slice().len());
@@ -51,10 +55,10 @@ fn most_invokes(unit: &ModuleNode) -> usize
 pub(crate) fn most_positions(tree: &Tree) -> usize
     ensures { result ≡ capped (most_positions (tree_of tree.now)) }
 {
-    let units = root_modules(tree);
+    let modules = root_modules(tree);
     let mut sum = 0usize;
-    for k in 0..units.len() {
-        sum = sum.saturating_add(most_invokes(&units[k]));
+    for k in 0..modules.len() {
+        sum = sum.saturating_add(most_invokes(&modules[k]));
     }
     sum
 }

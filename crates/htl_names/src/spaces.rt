@@ -11,7 +11,7 @@ pub(crate) fn program_key(name: Name) -> Key
     Key {
         space: Space::Programs,
         program: 0,
-        unit: 0,
+        module: 0,
         item: 0,
         name,
     }
@@ -23,7 +23,7 @@ pub(crate) fn comm_key(name: Name) -> Key
     Key {
         space: Space::Comms,
         program: 0,
-        unit: 0,
+        module: 0,
         item: 0,
         name,
     }
@@ -35,70 +35,70 @@ pub(crate) fn module_key(name: Name) -> Key
     Key {
         space: Space::Modules,
         program: 0,
-        unit: 0,
+        module: 0,
         item: 0,
         name,
     }
 }
 
-pub(crate) fn task_key(program: usize, unit: usize, name: Name) -> Key
-    ensures { result ≡ keys.task_key program unit name }
+pub(crate) fn task_key(program: usize, module: usize, name: Name) -> Key
+    ensures { result ≡ keys.task_key program «module» name }
 {
     Key {
         space: Space::Tasks,
         program,
-        unit,
+        module,
         item: 0,
         name,
     }
 }
 
-pub(crate) fn mode_key(program: usize, unit: usize, name: Name) -> Key
-    ensures { result ≡ keys.mode_key program unit name }
+pub(crate) fn mode_key(program: usize, module: usize, name: Name) -> Key
+    ensures { result ≡ keys.mode_key program «module» name }
 {
     Key {
         space: Space::Modes,
         program,
-        unit,
+        module,
         item: 0,
         name,
     }
 }
 
 /// Of an input or output of a task.
-pub(crate) fn param_key(program: usize, unit: usize, task: usize, name: Name) -> Key
-    ensures { result ≡ keys.param_key program unit task name }
+pub(crate) fn param_key(program: usize, module: usize, task: usize, name: Name) -> Key
+    ensures { result ≡ keys.param_key program «module» task name }
 {
     Key {
         space: Space::Params,
         program,
-        unit,
+        module,
         item: task,
         name,
     }
 }
 
 /// Of a port of a mode.
-pub(crate) fn port_key(program: usize, unit: usize, mode: usize, name: Name) -> Key
-    ensures { result ≡ keys.port_key program unit mode name }
+pub(crate) fn port_key(program: usize, module: usize, mode: usize, name: Name) -> Key
+    ensures { result ≡ keys.port_key program «module» mode name }
 {
     Key {
         space: Space::Ports,
         program,
-        unit,
+        module,
         item: mode,
         name,
     }
 }
 
 /// Of a task that a mode invokes.
-pub(crate) fn invoke_key(program: usize, unit: usize, mode: usize, name: Name) -> Key
-    ensures { result ≡ keys.invoke_key program unit mode name }
+pub(crate) fn invoke_key(program: usize, module: usize, mode: usize, name: Name) -> Key
+    ensures { result ≡ keys.invoke_key program «module» mode name }
 {
     Key {
         space: Space::Invokes,
         program,
-        unit,
+        module,
         item: mode,
         name,
     }

@@ -14,7 +14,7 @@ ghost use Rattle.htl_names.specs.Narrow.{IsNarrow};
 use crate::at::switches_at;
 use crate::layout::Layout;
 use crate::meanings::{comm_place, mode_place};
-use crate::numbers::{first_mode, unit_number};
+use crate::numbers::{modes_before, module_number};
 use crate::place::ModeAt;
 use htl_base::Seq;
 use htl_model::Switch;
@@ -66,8 +66,8 @@ fn switch(
     requires mode { mode ≤ 256 }
     ensures { IfOk result (λ s. s ≡ switch_item layout.now (tree_of tree.now) mode at (switch_of node.now)) }
 {
-    let target = first_mode(tree, layout, unit_number(layout, at.program, at.unit))
-        + mode_place(layout, at.program, at.unit, node.target.name);
+    let target = modes_before(tree, layout, module_number(layout, at.program, at.module))
+        + mode_place(layout, at.program, at.module, node.target.name);
     Ok(Switch {
         mode: mode as u16,
         target: target as u16,

@@ -64,11 +64,11 @@ fn with_sizes(t: Tally, modes: usize, tasks: usize) -> Tally
     }
 }
 
-fn with_module(t: Tally, unit: &ModuleNode) -> Tally
-    ensures { result ≡ with_module t (module_of unit.now) }
+fn with_module(t: Tally, module: &ModuleNode) -> Tally
+    ensures { result ≡ with_module t (module_of «module».now) }
 {
-    let modes = unit.modes.as_slice();
-    let mut sum = with_sizes(t, modes.len(), unit.tasks.as_slice().len());
+    let modes = module.modes.as_slice();
+    let mut sum = with_sizes(t, modes.len(), module.tasks.as_slice().len());
     for k in 0..modes.len() {
         sum = with_mode(sum, &modes[k]);
     }
@@ -93,10 +93,10 @@ fn with_items(t: Tally, comms: usize, modules: usize) -> Tally
 fn with_program(t: Tally, program: &ProgramNode) -> Tally
     ensures { result ≡ with_program t (program_of program.now) }
 {
-    let units = program.modules.as_slice();
-    let mut sum = with_items(t, program.comms.as_slice().len(), units.len());
-    for k in 0..units.len() {
-        sum = with_module(sum, &units[k]);
+    let modules = program.modules.as_slice();
+    let mut sum = with_items(t, program.comms.as_slice().len(), modules.len());
+    for k in 0..modules.len() {
+        sum = with_module(sum, &modules[k]);
     }
     sum
 }

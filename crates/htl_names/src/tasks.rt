@@ -19,9 +19,9 @@ pub fn tasks(alloc: Global, tree: &Tree, layout: &Layout) -> Result<Vec<Task>, A
     ensures { IfOk result (λ v. v.items ≡ task_items layout.now (tree_of tree.now)) }
 {
     let mut into = Vec::new(alloc);
-    let units = layout.units.as_slice();
-    for k in 0..units.len() {
-        let nodes = tasks_at(tree, units[k].program, units[k].unit);
+    let modules = layout.modules.as_slice();
+    for k in 0..modules.len() {
+        let nodes = tasks_at(tree, modules[k].program, modules[k].module);
         push_tasks(alloc, nodes, k as u16, &mut into)?;
     }
     Ok(into)
@@ -30,25 +30,25 @@ pub fn tasks(alloc: Global, tree: &Tree, layout: &Layout) -> Result<Vec<Task>, A
 fn push_tasks(
     alloc: Global,
     nodes: &[TaskNode],
-    unit: u16,
+    module: u16,
     into: &mut Vec<Task>,
 ) -> Result<(), AllocError>
     requires { All (λ t. size_of t.worst.x ≤ 1000000) (map task_of nodes.now) }
-    ensures { OnOk result (into.new.items ≡ into.old.items ++ map (task_item unit) (map task_of nodes.now)) }
+    ensures { OnOk result (into.new.items ≡ into.old.items ++ map (task_item «module») (map task_of nodes.now)) }
 {
     for k in 0..nodes.len() {
-        into.push(task(alloc, &nodes[k], unit)?)?;
+        into.push(task(alloc, &nodes[k], module)?)?;
     }
     Ok(())
 }
 
-fn task(alloc: Global, node: &TaskNode, unit: u16) -> Result<Task, AllocError>
+fn task(alloc: Global, node: &TaskNode, module: u16) -> Result<Task, AllocError>
     requires { size_of node.now.worst.x ≤ 1000000 }
-    ensures { IfOk result (λ t. t ≡ task_item unit (task_of node.now)) }
+    ensures { IfOk result (λ t. t ≡ task_item «module» (task_of node.now)) }
 {
     Ok(Task {
         name: node.name.name,
-        module: unit,
+        module: module,
         is_abstract: is_abstract(&node.outputs),
         worst: size_of(node.worst.x),
         inputs: Seq::new(types_of(alloc, node.inputs.as_slice())?),

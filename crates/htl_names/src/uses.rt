@@ -29,7 +29,7 @@ pub(crate) fn first_unknown(tree: &Tree, symbols: &Symbols) -> Option<u32>
 struct Scope {
     space: Space,
     program: usize,
-    unit: usize,
+    module: usize,
     item: usize,
     below: Option<usize>,
 }
@@ -95,12 +95,12 @@ fn in_modules(p: usize, modules: &[ModuleNode], symbols: &Symbols) -> Option<u32
     None
 }
 
-fn in_module(p: usize, u: usize, unit: &ModuleNode, symbols: &Symbols) -> Option<u32>
-    ensures { result ≡ first_some (unknown_token symbols.now) (uses.module_uses p u (module_of unit.now)) }
+fn in_module(p: usize, u: usize, module: &ModuleNode, symbols: &Symbols) -> Option<u32>
+    ensures { result ≡ first_some (unknown_token symbols.now) (uses.module_uses p u (module_of «module».now)) }
 {
-    let start = unknown(symbols, mode_key(p, u, unit.start.name), &unit.start);
-    let tasks = in_tasks(p, u, unit.tasks.as_slice(), symbols);
-    let modes = in_modes(p, u, unit.modes.as_slice(), symbols);
+    let start = unknown(symbols, mode_key(p, u, module.start.name), &module.start);
+    let tasks = in_tasks(p, u, module.tasks.as_slice(), symbols);
+    let modes = in_modes(p, u, module.modes.as_slice(), symbols);
     start.or(tasks.or(modes))
 }
 
@@ -122,7 +122,7 @@ fn in_task(p: usize, u: usize, k: usize, task: &TaskNode, symbols: &Symbols) -> 
     let scope = Scope {
         space: Space::Params,
         program: p,
-        unit: u,
+        module: u,
         item: k,
         below: Some(task.inputs.as_slice().len()),
     };
@@ -174,7 +174,7 @@ fn unknown_in(scope: &Scope, id: &Id, symbols: &Symbols) -> Option<u32>
             key: Key {
                 space: scope.space,
                 program: scope.program,
-                unit: scope.unit,
+                module: scope.module,
                 item: scope.item,
                 name: id.name,
             },
@@ -278,7 +278,7 @@ fn in_switch(p: usize, u: usize, switch: &SwitchNode, symbols: &Symbols) -> Opti
     let scope = Scope {
         space: Space::Comms,
         program: 0,
-        unit: 0,
+        module: 0,
         item: 0,
         below: None,
     };

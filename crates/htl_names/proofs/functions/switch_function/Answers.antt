@@ -1,7 +1,7 @@
 use Rattle.std.proofs.Common.{◌≤◌, ◌∙◌, sym, subst, List, ℕ}
 use Rattle.htl_text.specs.Expressions.{expr_of}
 use Rattle.htl_names.specs.Flat.{read_place}
-use Rattle.htl_names.proofs.FewReads.{read_place-le}
+use Rattle.htl_names.proofs.Distinct.{read_place-le}
 use Rattle.htl_names.proofs.functions.switch_function.Goals as goal
 
 pub formula-requires : goal.formula-requires

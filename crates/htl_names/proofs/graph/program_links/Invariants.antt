@@ -6,5 +6,5 @@ use Rattle.htl_names.proofs.graph.program_links.Given as goal
 
 abbrev pub invariant-loop-k : goal.invariant-loop-k
 invariant-loop-k l =
-    l.found.items ++ flat_map (module_links l.symbols) (map module_of (drop l.k l.units))
-    ≡ flat_map (module_links l.symbols) (map module_of l.units)
+    l.found.items ++ flat_map (module_links l.symbols) (map module_of (drop l.k l.modules))
+    ≡ flat_map (module_links l.symbols) (map module_of l.modules)

@@ -6,5 +6,5 @@ use Rattle.htl_names.proofs.graph.push_module_naming.Given as goal
 
 abbrev pub invariant-loop-k : goal.invariant-loop-k
 invariant-loop-k l =
-    l.into.items ++ flat_map_at (mode_naming l.symbols l.program l.unit) l.k (map mode_of (drop l.k l.modes))
-    ≡ l.initial.into.items ++ flat_map_at (mode_naming l.symbols l.program l.unit) 0 (map mode_of l.modes)
+    l.into.items ++ flat_map_at (mode_naming l.symbols l.program l.«module») l.k (map mode_of (drop l.k l.modes))
+    ≡ l.initial.into.items ++ flat_map_at (mode_naming l.symbols l.program l.«module») 0 (map mode_of l.modes)

@@ -6,5 +6,5 @@ use Rattle.htl_names.proofs.graph.push_program_naming.Given as goal
 
 abbrev pub invariant-loop-k : goal.invariant-loop-k
 invariant-loop-k l =
-    l.into.items ++ flat_map_at (module_naming l.symbols l.program) l.k (map module_of (drop l.k l.units))
-    ≡ l.initial.into.items ++ flat_map_at (module_naming l.symbols l.program) 0 (map module_of l.units)
+    l.into.items ++ flat_map_at (module_naming l.symbols l.program) l.k (map module_of (drop l.k l.modules))
+    ≡ l.initial.into.items ++ flat_map_at (module_naming l.symbols l.program) 0 (map module_of l.modules)

@@ -9,6 +9,6 @@ use Rattle.htl_names.proofs.kinds.in_module.Goals as goal
 pub returns : goal.returns
 returns c =
     let f = wrong_token in
-    let x = c.args.unit.now in
+    let x = c.args.«module».now in
     either f (map task_kind (map task_of x.tasks)) (flat_map mode_kinds (map mode_of x.modes)) c.in_tasks-tasks.result c.in_modes-modes.result c.or.result
     (rw c.as_slice.ensures at c.in_tasks-tasks.ensures) (rw c.as_slice-2.ensures at c.in_modes-modes.ensures) c.or.ensures

@@ -8,5 +8,5 @@ use Rattle.htl_names.proofs.order.kids.Given as goal
 abbrev pub invariant-loop-k : goal.invariant-loop-k
 invariant-loop-k l =
     l.found.items
-    ++ map (frame l.steps) (flat_map_at (mode_kids l.symbols (tree_of l.tree) l.unit.program l.unit.unit) l.k (map mode_of (drop l.k l.modes)))
-    ≡ map (frame l.steps) (flat_map_at (mode_kids l.symbols (tree_of l.tree) l.unit.program l.unit.unit) 0 (map mode_of l.modes))
+    ++ map (frame l.steps) (flat_map_at (mode_kids l.symbols (tree_of l.tree) l.«module».program l.«module».«module») l.k (map mode_of (drop l.k l.modes)))
+    ≡ map (frame l.steps) (flat_map_at (mode_kids l.symbols (tree_of l.tree) l.«module».program l.«module».«module») 0 (map mode_of l.modes))

@@ -4,4 +4,4 @@ use Rattle.htl_names.specs.Stack.{mode_in}
 use Rattle.htl_names.proofs.order.push_modes.Given as goal
 
 abbrev pub invariant-loop-mode : goal.invariant-loop-mode
-invariant-loop-mode l = l.into.items ≡ l.initial.into.items ++ list_to (mode_in l.unit) l.mode
+invariant-loop-mode l = l.into.items ≡ l.initial.into.items ++ list_to (mode_in l.«module») l.mode

@@ -1,7 +1,7 @@
 use Rattle.std.proofs.Common.{◌≡◌, ◌∙◌, ap, arith, length, take, fold, replicate, List, ℕ}
 use Rattle.std.proofs.Math.Seq.{take-length}
 use Rattle.htl_names.specs.Namings.{counted_all}
-use Rattle.htl_names.proofs.NamingLaws.{counts_namings}
+use Rattle.htl_names.proofs.Naming.{counts_namings}
 use Rattle.htl_names.proofs.programs.namings.Goals as goal
 
 pub returns : goal.returns

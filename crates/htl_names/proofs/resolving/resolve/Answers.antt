@@ -1,10 +1,16 @@
+use Rattle.htl_model.specs.Broken.{KeepsLimits}
+use Rattle.htl_model.specs.Small.{AreSmall}
 use Rattle.htl_text.specs.Nodes.{tree_of}
 use Rattle.htl_names.specs.NameRules.{RepeatedName}
-use Rattle.htl_names.proofs.ResolveLaws.{refusal, resolved_by, limits_by, kept_below1}
+use Rattle.htl_names.proofs.ResolveLaws.{refusal, resolved_by, no_tables, kept_below1}
 use Rattle.htl_names.proofs.resolving.resolve.Goals as goal
 
 pub returns-in_err-symbols : goal.returns-in_err-symbols
 returns-in_err-symbols c =
     let ps = tree_of c.args.tree.now in
     let f = c.in_err-symbols.field-0.0 in
-    record { resolved = resolved_by ps c.from_residual.result f c.from_residual.ensures.1 (refusal ps RepeatedName f (kept_below1 ps) c.in_err-symbols.ensures); limits = limits_by c.from_residual.result f c.from_residual.ensures.1 }
+    record {
+      resolved = resolved_by ps c.from_residual.result f c.from_residual.ensures.1 (refusal ps RepeatedName f (kept_below1 ps) c.in_err-symbols.ensures);
+      limits = no_tables KeepsLimits c.from_residual.result f c.from_residual.ensures.1;
+      functions = no_tables AreSmall c.from_residual.result f c.from_residual.ensures.1;
+    }

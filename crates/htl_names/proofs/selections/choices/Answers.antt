@@ -6,7 +6,7 @@ pub loop-k-preserved : goal.loop-k-preserved
 loop-k-preserved c =
     record {
       product =
-          choices-step (2 ^ 64 - 1) c.args.units.now c.loop-k.k c.loop-k.n c.saturating_mul-n.result c.index-units-k.result c.as_slice.result.now _ c.loop-k-test.true
-          c.index-units-k.is c.as_slice.ensures c.saturating_mul-n.ensures c.loop-k.invariant.product;
+          choices-step (2 ^ 64 - 1) c.args.modules.now c.loop-k.k c.loop-k.n c.saturating_mul-n.result c.index-modules-k.result c.as_slice.result.now _ c.loop-k-test.true
+          c.index-modules-k.is c.as_slice.ensures c.saturating_mul-n.ensures c.loop-k.invariant.product;
       room = omega (arith, c.saturating_mul-n.ensures);
     }

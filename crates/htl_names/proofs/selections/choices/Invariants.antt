@@ -7,6 +7,6 @@ use Rattle.htl_names.proofs.selections.choices.Given as goal
 abbrev pub invariant-loop-k : goal.invariant-loop-k
 invariant-loop-k l =
     record {
-      product : capped (l.n * choices (map module_of (drop l.k l.units))) ≡ capped (choices (map module_of l.units));
+      product : capped (l.n * choices (map module_of (drop l.k l.modules))) ≡ capped (choices (map module_of l.modules));
       room : l.n ≤ 2 ^ 64 - 1;
     }

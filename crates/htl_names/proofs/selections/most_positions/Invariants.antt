@@ -7,7 +7,7 @@ use Rattle.htl_names.proofs.selections.most_positions.Given as goal
 abbrev pub invariant-loop-k : goal.invariant-loop-k
 invariant-loop-k l =
     record {
-      total : capped (l.sum + sum (map (λ (x : PlainModule). most_invokes x.modes) (map module_of (drop l.k l.units))))
-          ≡ capped (sum (map (λ (x : PlainModule). most_invokes x.modes) (map module_of l.units)));
+      total : capped (l.sum + sum (map (λ (x : PlainModule). most_invokes x.modes) (map module_of (drop l.k l.modules))))
+          ≡ capped (sum (map (λ (x : PlainModule). most_invokes x.modes) (map module_of l.modules)));
       room : l.sum ≤ 2 ^ 64 - 1;
     }

@@ -4,4 +4,4 @@ use Rattle.htl_names.specs.Tallies.{with_module}
 use Rattle.htl_names.proofs.tally.with_program.Given as goal
 
 abbrev pub invariant-loop-k : goal.invariant-loop-k
-invariant-loop-k l = fold with_module l.sum (map module_of (drop l.k l.units)) ≡ fold with_module l.initial.sum (map module_of l.units)
+invariant-loop-k l = fold with_module l.sum (map module_of (drop l.k l.modules)) ≡ fold with_module l.initial.sum (map module_of l.modules)

@@ -10,7 +10,7 @@ use Rattle.htl_names.proofs.uses.in_module.Goals as goal
 pub returns : goal.returns
 returns c =
     let f = unknown_token c.args.symbols.now in
-    let x = c.args.unit.now in
+    let x = c.args.«module».now in
     let tasks = flat_map_at (task_uses c.args.p c.args.u) 0 (map task_of x.tasks) in
     let modes = flat_map_at (mode_uses c.args.p c.args.u) 0 (map mode_of x.modes) in
     head_or f (usage (mode_key c.args.p c.args.u x.start.name) x.start) (tasks ++ modes) c.unknown-start.result c.or.result c.or-2.result

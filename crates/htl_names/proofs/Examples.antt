@@ -32,10 +32,10 @@ abbrev number : ℕ → ℕ → Num
 number n t = record { x = pos n; token = t }
 
 abbrev program : List ℕ → ℕ → List PlainModule → PlainProgram
-program n t units = record { name = id n t; comms = []; modules = units }
+program n t modules = record { name = id n t; comms = []; modules = modules }
 
-abbrev unit_of : ℕ → List PlainTask → List PlainMode → PlainModule
-unit_of t tasks modes = record { name = id a_name t; start = id a_name (t + 2); tasks = tasks; modes = modes }
+abbrev module_with : ℕ → List PlainTask → List PlainMode → PlainModule
+module_with t tasks modes = record { name = id a_name t; start = id a_name (t + 2); tasks = tasks; modes = modes }
 
 abbrev mode : ℕ → ℕ → List InvokeNode → PlainMode
 mode t period invokes = record { name = id a_name t; period = number period (t + 2); program = None; ports = []; invokes = invokes; switches = [] }
@@ -43,7 +43,7 @@ mode t period invokes = record { name = id a_name t; period = number period (t +
 -- ---- a module's name repeats one of another program
 
 abbrev twice : List PlainProgram
-twice = program a_name 1 (unit_of 4 [] [] ∷ []) ∷ program b_name 9 (unit_of 12 [] [] ∷ []) ∷ []
+twice = program a_name 1 (module_with 4 [] [] ∷ []) ∷ program b_name 9 (module_with 12 [] [] ∷ []) ∷ []
 
 module_name_repeats : NameBroken twice RepeatedName 3 (fault.Twice 12)
 module_name_repeats =
@@ -65,7 +65,7 @@ loose =
     }
 
 abbrev output_used : List PlainProgram
-output_used = program a_name 1 (unit_of 4 (loose ∷ []) (mode 25 1 [] ∷ []) ∷ []) ∷ []
+output_used = program a_name 1 (module_with 4 (loose ∷ []) (mode 25 1 [] ∷ []) ∷ []) ∷ []
 
 output_is_no_input : NameBroken output_used UnknownName 1 (fault.Unknown 19)
 output_is_no_input = (input_use 0 0 0 1 (id b_name 19), refl, omega arith, refl)
@@ -79,7 +79,7 @@ abbrev refining : InvokeNode
 refining = record { task = id a_name 30; reads = []; writes = []; parent = Some (id a_name 38) }
 
 abbrev root_parent : List PlainProgram
-root_parent = program a_name 1 (unit_of 4 [] (mode 25 1 (refining ∷ []) ∷ []) ∷ []) ∷ []
+root_parent = program a_name 1 (module_with 4 [] (mode 25 1 (refining ∷ []) ∷ []) ∷ []) ∷ []
 
 parent_in_root : NameBroken root_parent ParentName 0 (fault.Unknown 38)
 parent_in_root = (record { program = 0; id = id a_name 38 }, refl, tt, refl)
@@ -87,7 +87,7 @@ parent_in_root = (record { program = 0; id = id a_name 38 }, refl, tt, refl)
 -- ---- a period of 0
 
 abbrev still : List PlainProgram
-still = program a_name 1 (unit_of 4 [] (mode 25 0 [] ∷ []) ∷ []) ∷ []
+still = program a_name 1 (module_with 4 [] (mode 25 0 [] ∷ []) ∷ []) ∷ []
 
 no_period : NameBroken still WrongKind 0 (fault.Kind 27)
 no_period = (Span (number 0 27), refl, inl (omega arith), refl)

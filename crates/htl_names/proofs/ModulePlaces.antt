@@ -1,0 +1,124 @@
+-- The modules in the order of the tables: where each stands, and what it refines.
+use Rattle.std.proofs.Common.{◌≡◌, ℕ, zero, suc, ◌+◌, ◌<◌, true, false, cond, List, [], ◌∷◌, ◌++◌, length, slice_get, Option, Some, None, filter, refl, ◌∙◌, ap, subst, arith}
+use Rattle.std.specs.List.{flat_map}
+use Rattle.std.proofs.lemmas.List.Elements.{filter-append}
+use Rattle.std.proofs.lemmas.Option.{slice_get_within}
+use Rattle.htl_text.specs.Nodes.{PlainProgram, PlainMode}
+use Rattle.htl_names.specs.declared.key.Key.{Key}
+use Rattle.htl_names.specs.declared.place.ModeAt.{ModeAt}
+use Rattle.htl_names.specs.declared.place.ModuleAt.{ModuleAt}
+use Rattle.htl_names.specs.Order.{modules_at, modes_at, modules_in, mode_kids, kids, below, order}
+use Rattle.htl_names.specs.Ordered.{Exists, is_root_module}
+use Rattle.htl_names.specs.Programs.{named_program}
+use Rattle.htl_names.specs.Stack.{nth_module}
+use Rattle.htl_names.proofs.Members.{Each, each_weaker, each_list_to, each_flat_map, each_flat_map_at}
+use Rattle.htl_names.proofs.Naming.{Names}
+use Rattle.htl_names.proofs.FlatMaps.{there_is}
+use Rattle.htl_names.proofs.Places.{program_of_module}
+
+-- a module of the root has no parent; one of another program has the mode that names the program
+abbrev pub IsParent : List (Key × ℕ) → List PlainProgram → Option ModeAt → ℕ → Type 0
+IsParent symbols ps None q = q ≡ 0
+IsParent symbols ps (Some a) q = Names symbols ps a q
+
+pub record IsPlaced (symbols : List (Key × ℕ)) (ps : List PlainProgram) (s : ModuleAt) : Type 0 where
+  pub there : Exists ps s
+  pub parent : IsParent symbols ps s.parent s.program
+
+-- r stands in a program that refines a mode of s
+pub record IsKid (symbols : List (Key × ℕ)) (ps : List PlainProgram) (s r : ModuleAt) : Type 0 where
+  pub mode : ℕ
+  pub inside : mode < length (modes_at ps s.program s.«module»)
+  pub parent : r.parent ≡ Some (record { program = s.program; «module» = s.«module»; mode = mode })
+  pub placed : IsPlaced symbols ps r
+
+module _ (symbols : List (Key × ℕ)) (ps : List PlainProgram) where
+  -- a module's program is one of the source
+  pub placed_within : (s : ModuleAt) → IsPlaced symbols ps s → s.program < length ps
+  placed_within s h = let x = program_of_module ps s.program s.«module» h.there.0 h.there.1 in slice_get_within ps s.program x.0 x.1
+
+  pub placed_names : (s : ModuleAt) (a : ModeAt) → IsPlaced symbols ps s → s.parent ≡ Some a → Names symbols ps a s.program
+  placed_names s a h e = subst (λ o. IsParent symbols ps o s.program) e h.parent
+
+  pub placed_root : (s : ModuleAt) → IsPlaced symbols ps s → s.parent ≡ None → s.program ≡ 0
+  placed_root s h e = subst (λ o. IsParent symbols ps o s.program) e h.parent
+
+  -- those of mode m refine mode m
+  pub mode_kids_are : (s : ModuleAt) (m : ℕ) (x : PlainMode) → slice_get (modes_at ps s.program s.«module») m ≡ Some x
+      → Each (λ r. (k : IsKid symbols ps s r) × (k.mode ≡ m)) (mode_kids symbols ps s.program s.«module» m x)
+  mode_kids_are s m x at = by (named_program symbols x) refl
+    where
+      by : (o : Option ℕ) → named_program symbols x ≡ o
+          → Each (λ r. (k : IsKid symbols ps s r) × (k.mode ≡ m)) (elim o [ Some q ↦ modules_in ps (Some (record { program = s.program; «module» = s.«module»; mode = m })) q | None ↦ [] ])
+      by None e = tt
+      by (Some q) e =
+          each_list_to (λ r. (k : IsKid symbols ps s r) × (k.mode ≡ m)) (nth_module q (Some (record { program = s.program; «module» = s.«module»; mode = m }))) (length (modules_at ps q))
+          (λ u lt. (
+            record {
+              mode = m;
+              inside = slice_get_within (modes_at ps s.program s.«module») m x at;
+              parent = refl;
+              placed = record { there = there_is (modules_at ps q) u lt; parent = record { mode = x; there = at; named = e } };
+            },
+            refl,
+          ))
+
+  pub kids_are : (s : ModuleAt) → Each (IsKid symbols ps s) (kids symbols ps s)
+  kids_are s =
+      each_flat_map_at (IsKid symbols ps s) (mode_kids symbols ps s.program s.«module») 0 (modes_at ps s.program s.«module»)
+      (λ i j x e at. subst (λ k. Each (IsKid symbols ps s) (mode_kids symbols ps s.program s.«module» k x)) (same i j e) (one j x at))
+    where
+      same : (i j : ℕ) → i ≡ 0 + j → j ≡ i
+      same i j e = omega (arith, e)
+
+      one : (j : ℕ) (x : PlainMode) → slice_get (modes_at ps s.program s.«module») j ≡ Some x → Each (IsKid symbols ps s) (mode_kids symbols ps s.program s.«module» j x)
+      one j x at =
+          each_weaker (λ r. (k : IsKid symbols ps s r) × (k.mode ≡ j)) (IsKid symbols ps s) (λ r k. k.0) (mode_kids symbols ps s.program s.«module» j x) (mode_kids_are s j x at)
+
+  -- what passes on to kids holds of all below
+  pub each_below : (P : ModuleAt → Type 0) → ((s r : ModuleAt) → IsKid symbols ps s r → P s → P r) → (n : ℕ) (s : ModuleAt) → P s → Each P (below n symbols ps s)
+  each_below P step zero s p = (p, tt)
+  each_below P step (suc n) s p = (
+    p,
+    each_flat_map P (below n symbols ps) (kids symbols ps s)
+        (each_weaker (IsKid symbols ps s) (λ r. Each P (below n symbols ps r)) (λ r k. each_below P step n r (step s r k p)) (kids symbols ps s) (kids_are s)),
+  )
+
+  pub roots_are : Each (λ (s : ModuleAt). IsPlaced symbols ps s × (s.parent ≡ None)) (modules_in ps None 0)
+  roots_are =
+      each_list_to (λ (s : ModuleAt). IsPlaced symbols ps s × (s.parent ≡ None)) (nth_module 0 None) (length (modules_at ps 0))
+      (λ u lt. (record { there = there_is (modules_at ps 0) u lt; parent = refl }, refl))
+
+  pub modules_placed : Each (IsPlaced symbols ps) (order symbols ps)
+  modules_placed =
+      each_flat_map (IsPlaced symbols ps) (below (length ps) symbols ps) (modules_in ps None 0)
+      (each_weaker (λ (s : ModuleAt). IsPlaced symbols ps s × (s.parent ≡ None)) (λ r. Each (IsPlaced symbols ps) (below (length ps) symbols ps r))
+      (λ r p. each_below (IsPlaced symbols ps) (λ s t k q. k.placed) (length ps) r p.0) (modules_in ps None 0) roots_are)
+
+  -- ---- the root modules
+
+  none_kept : (xs : List ModuleAt) → Each (λ s. is_root_module s ≡ false) xs → filter is_root_module xs ≡ []
+  none_kept [] h = refl
+  none_kept (x ∷ xs) h = ap (λ b. cond b (x ∷ filter is_root_module xs) (filter is_root_module xs)) h.0 ∙ none_kept xs h.1
+
+  kid_no_root : (s r : ModuleAt) → IsKid symbols ps s r → is_root_module r ≡ false
+  kid_no_root s r k = ap (λ (o : Option ModeAt). elim o [ Some a ↦ false | None ↦ true ]) k.parent
+
+  below_roots : (n : ℕ) (s : ModuleAt) → s.parent ≡ None → filter is_root_module (below n symbols ps s) ≡ s ∷ []
+  below_roots zero s e = ap (λ (o : Option ModeAt). cond (elim o [ Some a ↦ false | None ↦ true ]) (s ∷ []) []) e
+  below_roots (suc n) s e =
+      let P : ModuleAt → Type 0 = λ r. is_root_module r ≡ false in
+      let rest = flat_map (below n symbols ps) (kids symbols ps s) in
+      let no = none_kept rest (each_flat_map P (below n symbols ps) (kids symbols ps s)
+      (each_weaker (IsKid symbols ps s) (λ r. Each P (below n symbols ps r)) (λ r k. each_below P (λ t q l p. kid_no_root t q l) n r (kid_no_root s r k)) (kids symbols ps s) (kids_are s))) in
+      ap (λ (o : Option ModeAt). cond (elim o [ Some a ↦ false | None ↦ true ]) (s ∷ filter is_root_module rest) (filter is_root_module rest)) e ∙ ap (λ l. s ∷ l) no
+
+  all_roots : (n : ℕ) (xs : List ModuleAt) → Each (λ (s : ModuleAt). IsPlaced symbols ps s × (s.parent ≡ None)) xs → filter is_root_module (flat_map (below n symbols ps) xs) ≡ xs
+  all_roots n [] h = refl
+  all_roots n (x ∷ xs) h =
+      filter-append is_root_module (below n symbols ps x) (flat_map (below n symbols ps) xs)
+      ∙ ap (λ l. l ++ filter is_root_module (flat_map (below n symbols ps) xs)) (below_roots n x h.0.1)
+      ∙ ap (λ l. x ∷ l) (all_roots n xs h.1)
+
+  pub roots_of : filter is_root_module (order symbols ps) ≡ modules_in ps None 0
+  roots_of = all_roots (length ps) (modules_in ps None 0) roots_are
