@@ -21,11 +21,11 @@ use Rattle.htl_script.specs.declared.fault.ScriptKind.TheVariants as kind
 use Rattle.htl_script.specs.declared.fault.WholeStop.{WholeStop}
 use Rattle.htl_script.specs.declared.fault.WholeStop.TheVariants as stop
 use Rattle.htl_script.specs.declared.judge.Past.{Past}
-use Rattle.htl_script.specs.Lines.{Line, is_past_limit, is_long, is_passed_over, size_of, lines_of}
+use Rattle.htl_script.specs.Lines.{ScriptLine, is_past_limit, is_long, is_passed_over, size_of, lines_of}
 use Rattle.htl_script.specs.Statements.{Statement, At, Sense, Took, End, statement_of}
-use Rattle.htl_script.specs.Judging.{sensor_of, is_sensor, type_of, is_invocation, invocation_of, worst_of, is_value, number_with_sign, is_above, is_below, is_unknown, is_out_of_range, is_out_of_order, overrun_of, fault_of, event_of, event_unless, judged_statement, as_some, judged, noted, at_first}
+use Rattle.htl_script.specs.Judging.{sensor_of, is_sensor, type_of, is_invocation, invocation_of, worst_of, is_value, number_with_sign, is_above, is_below, is_unknown, is_out_of_range, is_out_of_order, overrun_of, fault_of, event_of, event_unless, judged_statement, as_some, judged, past_after, at_first}
 use Rattle.htl_script.specs.Script.{Script, Whole, Bad, events_of, listed, script_of}
-use Rattle.htl_script.specs.Reading.{behind, Grows, OfScript, IsAnswer, rest_of_lines, rest_at_end, noted_if}
+use Rattle.htl_script.specs.Reading.{behind, Grows, OfScript, IsScriptAnswer, rest_of_lines, rest_at_end, past_after_if}
 use Rattle.htl_script.specs.Events.{IsSensed, IsTaken, AreEvents, EndWith}
 use Rattle.htl_script.proofs.Places.{found_item}
 use Rattle.htl_script.proofs.Taking.{behind-nil, events_of-behind}
@@ -206,7 +206,7 @@ the_event (Err k) x e = absurd (err_ok k x e)
     err_ok k x e = cc
 
 -- a line that gives an event is judged by its text
-judged-event : (t : Tables) (start : ℕ) (past : Past) (x : Line) (e : Event) → judged t start past x ≡ Ok (Some e)
+judged-event : (t : Tables) (start : ℕ) (past : Past) (x : ScriptLine) (e : Event) → judged t start past x ≡ Ok (Some e)
     → (is_some past.end ≡ false) × Fits t past.reading e
 judged-event t start past x e is =
     let text = no_fault (is_long x) kind.Long _ _ (no_fault (is_past_limit start x) kind.Size _ _ is) in
@@ -224,28 +224,28 @@ rest_at_end-none line past = by_end past.end
     by_end None = refl
 
 -- behind the end of the run there are no events
-ended-none : (t : Tables) (line start : ℕ) (past : Past) (xs : List Line) → is_some past.end ≡ true → events_of (rest_of_lines t line start past xs) ≡ []
+ended-none : (t : Tables) (line start : ℕ) (past : Past) (xs : List ScriptLine) → is_some past.end ≡ true → events_of (rest_of_lines t line start past xs) ≡ []
 ended-none t line start past [] end = rest_at_end-none line past
 ended-none t line start past (x ∷ xs) end =
     by_verdict (ended-none t (line + 1) (start + size_of x) past xs end) (judged t start past x) refl
   where
     by_verdict : events_of (rest_of_lines t (line + 1) (start + size_of x) past xs) ≡ []
         → (v : Result (Option Event) ScriptKind) → judged t start past x ≡ v
-        → events_of (elim v [ Ok e ↦ behind (listed e) (rest_of_lines t (line + 1) (start + size_of x) (noted_if past e) xs) | Err k ↦ Bad line k [] ]) ≡ []
+        → events_of (elim v [ Ok e ↦ behind (listed e) (rest_of_lines t (line + 1) (start + size_of x) (past_after_if past e) xs) | Err k ↦ Bad line k [] ]) ≡ []
     by_verdict later (Ok None) is = events_of-behind [] (rest_of_lines t (line + 1) (start + size_of x) past xs) ∙ later
     by_verdict later (Ok (Some e)) is = absurd (false≢true (sym (judged-event t start past x e is).0 ∙ end))
     by_verdict later (Err k) is = refl
 
 -- an event and what comes behind it
 one_more : (t : Tables) (past : Past) (e : Event) (later : List Event) → Fits t past.reading e
-    → (is_some (noted past e).end ≡ true → later ≡ []) → (is_some (noted past e).end ≡ false → AreEvents t (noted past e).reading later)
+    → (is_some (past_after past e).end ≡ true → later ≡ []) → (is_some (past_after past e).end ≡ false → AreEvents t (past_after past e).reading later)
     → is_some past.end ≡ false → AreEvents t past.reading (e ∷ later)
 one_more t past (event.At instant) later fits over go_on running = (fits.0, fits.1, go_on running)
 one_more t past (event.Sense c x) later fits over go_on running = (fits.0, fits.1, go_on running)
 one_more t past (event.Took i ticks) later fits over go_on running = (fits.0, fits.1, go_on running)
 one_more t past (event.End instant) later fits over go_on running = (fits.0, fits.1, over refl)
 
-rest-events : (t : Tables) (line start : ℕ) (past : Past) (xs : List Line) → is_some past.end ≡ false
+rest-events : (t : Tables) (line start : ℕ) (past : Past) (xs : List ScriptLine) → is_some past.end ≡ false
     → AreEvents t past.reading (events_of (rest_of_lines t line start past xs))
 rest-events t line start past [] running = subst (λ (es : List Event). AreEvents t past.reading es) (sym (rest_at_end-none line past)) tt
 rest-events t line start past (x ∷ xs) running =
@@ -253,14 +253,14 @@ rest-events t line start past (x ∷ xs) running =
   where
     by_verdict : ((past : Past) → is_some past.end ≡ false → AreEvents t past.reading (events_of (rest_of_lines t (line + 1) (start + size_of x) past xs)))
         → (v : Result (Option Event) ScriptKind) → judged t start past x ≡ v
-        → AreEvents t past.reading (events_of (elim v [ Ok e ↦ behind (listed e) (rest_of_lines t (line + 1) (start + size_of x) (noted_if past e) xs) | Err k ↦ Bad line k [] ]))
+        → AreEvents t past.reading (events_of (elim v [ Ok e ↦ behind (listed e) (rest_of_lines t (line + 1) (start + size_of x) (past_after_if past e) xs) | Err k ↦ Bad line k [] ]))
     by_verdict later (Ok None) is =
         subst (λ (es : List Event). AreEvents t past.reading es) (sym (events_of-behind [] (rest_of_lines t (line + 1) (start + size_of x) past xs))) (later past running)
     by_verdict later (Ok (Some e)) is =
-        let after = rest_of_lines t (line + 1) (start + size_of x) (noted past e) xs in
+        let after = rest_of_lines t (line + 1) (start + size_of x) (past_after past e) xs in
         subst (λ (es : List Event). AreEvents t past.reading es) (sym (events_of-behind (e ∷ []) after))
         (one_more t past e (events_of after) (judged-event t start past x e is).1
-        (λ end. ended-none t (line + 1) (start + size_of x) (noted past e) xs end) (λ open_run. later (noted past e) open_run) running)
+        (λ end. ended-none t (line + 1) (start + size_of x) (past_after past e) xs end) (λ open_run. later (past_after past e) open_run) running)
     by_verdict later (Err k) is = tt
 
 -- the events of a script, up to its end or its first fault
@@ -300,7 +300,7 @@ behind-whole a (Bad line k later) es end e = absurd (bad_whole line k (a ++ late
 abbrev pub Closes : Past → List Event → ℕ → Type 0
 Closes past es end = ((past.end ≡ Some end) × (es ≡ [])) ⊎ EndWith es end
 
-closes_event : (t : Tables) (past : Past) (e : Event) (es : List Event) (end : ℕ) → is_some past.end ≡ false → Closes (noted past e) es end → EndWith (e ∷ es) end
+closes_event : (t : Tables) (past : Past) (e : Event) (es : List Event) (end : ℕ) → is_some past.end ≡ false → Closes (past_after past e) es end → EndWith (e ∷ es) end
 closes_event t past e es end running (inr closed) = (e ∷ closed.0, ap (λ (xs : List Event). e ∷ xs) closed.1)
 closes_event t past (event.End instant) es end running (inl ended) =
     ([], ap (λ (xs : List Event). event.End instant ∷ xs) ended.1 ∙ ap (λ (x : ℕ). event.End x ∷ []) (same_Some instant end ended.0))
@@ -308,7 +308,7 @@ closes_event t past (event.At instant) es end running (inl ended) = absurd (fals
 closes_event t past (event.Sense c x) es end running (inl ended) = absurd (false≢true (sym running ∙ ap (λ (o : Option ℕ). is_some o) ended.0))
 closes_event t past (event.Took i ticks) es end running (inl ended) = absurd (false≢true (sym running ∙ ap (λ (o : Option ℕ). is_some o) ended.0))
 
-rest-closes : (t : Tables) (line start : ℕ) (past : Past) (xs : List Line) (es : List Event) (end : ℕ)
+rest-closes : (t : Tables) (line start : ℕ) (past : Past) (xs : List ScriptLine) (es : List Event) (end : ℕ)
     → rest_of_lines t line start past xs ≡ Whole es end → Closes past es end
 rest-closes t line start past [] es end e = inl (by_end past.end e)
   where
@@ -329,13 +329,13 @@ rest-closes t line start past (x ∷ xs) es end e =
 
     by_verdict : ((past : Past) (es : List Event) → rest_of_lines t (line + 1) (start + size_of x) past xs ≡ Whole es end → Closes past es end)
         → (v : Result (Option Event) ScriptKind) → judged t start past x ≡ v
-        → elim v [ Ok e ↦ behind (listed e) (rest_of_lines t (line + 1) (start + size_of x) (noted_if past e) xs) | Err k ↦ Bad line k [] ] ≡ Whole es end
+        → elim v [ Ok e ↦ behind (listed e) (rest_of_lines t (line + 1) (start + size_of x) (past_after_if past e) xs) | Err k ↦ Bad line k [] ] ≡ Whole es end
         → Closes past es end
     by_verdict later (Ok None) is whole = later past es (sym (behind-nil (rest_of_lines t (line + 1) (start + size_of x) past xs)) ∙ whole)
     by_verdict later (Ok (Some e)) is whole =
-        let after = behind-whole (e ∷ []) (rest_of_lines t (line + 1) (start + size_of x) (noted past e) xs) es end whole in
+        let after = behind-whole (e ∷ []) (rest_of_lines t (line + 1) (start + size_of x) (past_after past e) xs) es end whole in
         inr (subst (λ (ys : List Event). EndWith ys end) (sym after.2)
-        (closes_event t past e after.0 end (judged-event t start past x e is).0 (later (noted past e) after.0 after.1)))
+        (closes_event t past e after.0 end (judged-event t start past x e is).0 (later (past_after past e) after.0 after.1)))
     by_verdict later (Err k) is whole = absurd (bad_whole k es end whole)
 
 -- a whole script ends with its `end` event
@@ -346,8 +346,13 @@ script-end t bytes es end e =
       | inr closed ↦ closed
     ]
 
+-- the events of a whole script, and its end
+pub whole-script : (t : Tables) (bytes : List ℕ) (events : List Event) (end : ℕ) → script_of t bytes ≡ Whole events end → AreEvents t None events × EndWith events end
+whole-script t bytes events end whole =
+    (subst (λ (s : Script). AreEvents t None (events_of s)) whole (script-events t bytes), script-end t bytes events end whole)
+
 -- what a reader appended, whatever it answered
-pub answer-events : (T : Type 0) (t : Tables) (bytes : List ℕ) (r : Result T WholeStop) (gained : List Event) → IsAnswer (script_of t bytes) r gained
+pub answer-events : (T : Type 0) (t : Tables) (bytes : List ℕ) (r : Result T WholeStop) (gained : List Event) → IsScriptAnswer (script_of t bytes) r gained
     → AreEvents t None gained × OnOk r ((end : ℕ) × EndWith gained end)
 answer-events T t bytes (Ok done) gained answer =
     (subst (λ (s : Script). AreEvents t None (events_of s)) answer.1 (script-events t bytes), (answer.0, script-end t bytes gained answer.0 answer.1))
@@ -359,6 +364,6 @@ answer-events T t bytes (Err stop.Memory) gained answer =
     (AreEvents-front t None gained answer.0 (subst (λ (es : List Event). AreEvents t None es) answer.1 (script-events t bytes)), tt)
 
 pub grown-events : (T : Type 0) (t : Tables) (known : Option (List ℕ)) (old new : List Event) (r : Result T WholeStop)
-    → OfScript known (λ script. Grows old new (λ gained. IsAnswer (script_of t script) r gained))
+    → OfScript known (λ script. Grows old new (λ gained. IsScriptAnswer (script_of t script) r gained))
     → Grows old new (λ gained. AreEvents t None gained × OnOk r ((end : ℕ) × EndWith gained end))
 grown-events T t known old new r answer = (answer.2.0, answer.2.1, answer-events T t answer.0 r answer.2.0 answer.2.2)

@@ -9,10 +9,10 @@ use Rattle.htl_model.specs.Tables.{Tables}
 use Rattle.htl_script.specs.declared.fault.ScriptKind.{ScriptKind}
 use Rattle.htl_script.specs.declared.fault.ScriptKind.TheVariants as kind
 use Rattle.htl_script.specs.declared.judge.Past.{Past}
-use Rattle.htl_script.specs.Lines.{Line, is_line_feed, lines_of_parts, lines_of, size_of, is_past_limit, is_long}
+use Rattle.htl_script.specs.Lines.{ScriptLine, is_line_feed, lines_of_parts, lines_of, size_of, is_past_limit, is_long}
 use Rattle.htl_script.specs.Judging.{judged_text, judged}
 use Rattle.htl_script.specs.Script.{Bad, listed}
-use Rattle.htl_script.specs.Reading.{behind, answered, rest_of_lines, noted_if}
+use Rattle.htl_script.specs.Reading.{behind, answered, rest_of_lines, past_after_if}
 use Rattle.htl_script.specs.Readers.{Here, IsHere, rest_of, next_line}
 
 -- ---- lines
@@ -55,7 +55,7 @@ lines_of-last line plain some =
 
 -- a line that goes on behind what was read of it
 pub lines_of-begun : (line : List ℕ) (b : ℕ) (later : List ℕ) → All (λ b. is_line_feed b ≡ false) line → is_line_feed b ≡ false
-    → (x : Line) × (xs : List Line) × (lines_of (line ++ b ∷ later) ≡ x ∷ xs) × (length line + 1 ≤ length x.text)
+    → (x : ScriptLine) × (xs : List ScriptLine) × (lines_of (line ++ b ∷ later) ≡ x ∷ xs) × (length line + 1 ≤ length x.text)
 lines_of-begun line b later plain other =
     let some = split_some later in
     let begun : slice_split is_line_feed (b ∷ later) ≡ (b ∷ some.0) ∷ some.1 =
@@ -63,7 +63,7 @@ lines_of-begun line b later plain other =
     by_parts some.0 some.1 (split_front line (b ∷ later) (b ∷ some.0) some.1 plain begun)
   where
     by_parts : (y : List ℕ) (ys : List (List ℕ)) → slice_split is_line_feed (line ++ b ∷ later) ≡ (line ++ b ∷ y) ∷ ys
-        → (x : Line) × (xs : List Line) × (lines_of (line ++ b ∷ later) ≡ x ∷ xs) × (length line + 1 ≤ length x.text)
+        → (x : ScriptLine) × (xs : List ScriptLine) × (lines_of (line ++ b ∷ later) ≡ x ∷ xs) × (length line + 1 ≤ length x.text)
     by_parts y [] parts =
         let long : length line + 1 ≤ length (line ++ b ∷ y) = omega (arith, length-append line (b ∷ y)) in
         let full : eqb (length (line ++ b ∷ y)) 0 ≡ false = ne_eqb (length (line ++ b ∷ y)) 0 (λ none. absurd (omega (arith, long, none))) in (
@@ -77,14 +77,14 @@ lines_of-begun line b later plain other =
 
 -- ---- how a line is judged by its size
 
-size_at_least : (x : Line) → length x.text ≤ size_of x
+size_at_least : (x : ScriptLine) → length x.text ≤ size_of x
 size_at_least x = sized x.fed
   where
     sized : (fed : Bool) → length x.text ≤ length x.text + (if fed then 1 else 0)
     sized true = omega arith
     sized false = omega arith
 
-judged-limit : (t : Tables) (start n : ℕ) (past : Past) (x : Line) → start + n ≡ 1073741824 → n ≤ 255 → n + 1 ≤ size_of x
+judged-limit : (t : Tables) (start n : ℕ) (past : Past) (x : ScriptLine) → start + n ≡ 1073741824 → n ≤ 255 → n + 1 ≤ size_of x
     → judged t start past x ≡ Err kind.Size
 judged-limit t start n past x at short long =
     let size = size_of x in
@@ -92,10 +92,10 @@ judged-limit t start n past x at short long =
     and_from _ _ (le-leb start 1073741824 (omega (arith, at))) (lt-ltb 1073741824 (start + min 256 size) (omega (arith, at, short, long))) in
     ap (λ (b : Bool). cond b (Err kind.Size) (cond (is_long x) (Err kind.Long) (judged_text t past x.text))) over
 
-within_limit : (start : ℕ) (x : Line) → start + min 256 (size_of x) ≤ 1073741824 → is_past_limit start x ≡ false
+within_limit : (start : ℕ) (x : ScriptLine) → start + min 256 (size_of x) ≤ 1073741824 → is_past_limit start x ≡ false
 within_limit start x below = and_right _ _ (le-ltb 1073741824 (start + min 256 (size_of x)) below)
 
-judged-long : (t : Tables) (start : ℕ) (past : Past) (x : Line) → start + 256 ≤ 1073741824 → 256 ≤ length x.text
+judged-long : (t : Tables) (start : ℕ) (past : Past) (x : ScriptLine) → start + 256 ≤ 1073741824 → 256 ≤ length x.text
     → judged t start past x ≡ Err kind.Long
 judged-long t start past x below long =
     let size = size_of x in
@@ -104,7 +104,7 @@ judged-long t start past x below long =
     ap (λ (b : Bool). cond b (Err kind.Size) (cond (is_long x) (Err kind.Long) (judged_text t past x.text))) within
     ∙ ap (λ (b : Bool). cond b (Err kind.Long) (judged_text t past x.text)) is
 
-judged-short : (t : Tables) (start : ℕ) (past : Past) (x : Line) → start + size_of x ≤ 1073741824 → length x.text ≤ 255
+judged-short : (t : Tables) (start : ℕ) (past : Past) (x : ScriptLine) → start + size_of x ≤ 1073741824 → length x.text ≤ 255
     → judged t start past x ≡ judged_text t past x.text
 judged-short t start past x below short =
     let size = size_of x in
@@ -116,17 +116,17 @@ judged-short t start past x below short =
 -- ---- one more byte
 
 -- what the lines give, by what the first gives
-pub rest_of_lines-first : (t : Tables) (line start : ℕ) (past : Past) (x : Line) (xs : List Line) (r : Result (Option Event) ScriptKind)
+pub rest_of_lines-first : (t : Tables) (line start : ℕ) (past : Past) (x : ScriptLine) (xs : List ScriptLine) (r : Result (Option Event) ScriptKind)
     → judged t start past x ≡ r
     → rest_of_lines t line start past (x ∷ xs)
-    ≡ elim r [ Ok e ↦ behind (listed e) (rest_of_lines t (line + 1) (start + size_of x) (noted_if past e) xs) | Err k ↦ Bad line k [] ]
+    ≡ elim r [ Ok e ↦ behind (listed e) (rest_of_lines t (line + 1) (start + size_of x) (past_after_if past e) xs) | Err k ↦ Bad line k [] ]
 rest_of_lines-first t line start past x xs r e =
-    ap (λ (v : Result (Option Event) ScriptKind). elim v [ Ok e ↦ behind (listed e) (rest_of_lines t (line + 1) (start + size_of x) (noted_if past e) xs) | Err k ↦ Bad line k [] ]) e
+    ap (λ (v : Result (Option Event) ScriptKind). elim v [ Ok e ↦ behind (listed e) (rest_of_lines t (line + 1) (start + size_of x) (past_after_if past e) xs) | Err k ↦ Bad line k [] ]) e
 
-refused_first : (t : Tables) (h : Here) (bytes : List ℕ) (x : Line) (xs : List Line) (k : ScriptKind) → lines_of (h.line ++ bytes) ≡ x ∷ xs
+refused_first : (t : Tables) (h : Here) (bytes : List ℕ) (x : ScriptLine) (xs : List ScriptLine) (k : ScriptKind) → lines_of (h.line ++ bytes) ≡ x ∷ xs
     → judged t h.start h.past x ≡ Err k → rest_of t h bytes ≡ Bad h.number k []
 refused_first t h bytes x xs k lines e =
-    ap (λ (ls : List Line). rest_of_lines t h.number h.start h.past ls) lines ∙ rest_of_lines-first t h.number h.start h.past x xs (Err k) e
+    ap (λ (ls : List ScriptLine). rest_of_lines t h.number h.start h.past ls) lines ∙ rest_of_lines-first t h.number h.start h.past x xs (Err k) e
 
 -- the byte past the limit
 pub rest_of-limit : (t : Tables) (h : Here) (b : ℕ) (later : List ℕ) → IsHere h → h.start + length h.line ≡ 1073741824
@@ -164,12 +164,12 @@ line_answered : (t : Tables) (h new : Here) (fed : Bool) (bytes later : List ℕ
     → r ≡ judged_text t h.past h.line → IfOk r (λ e. new ≡ next_line h (if fed then 1 else 0) e)
     → rest_of t h bytes ≡ answered h.number r (rest_of t new later)
 line_answered t h new fed bytes later (Ok e) short below lines is next =
-    let x : Line = record { text = h.line; fed = fed } in
-    ap (λ (ls : List Line). rest_of_lines t h.number h.start h.past ls) lines
+    let x : ScriptLine = record { text = h.line; fed = fed } in
+    ap (λ (ls : List ScriptLine). rest_of_lines t h.number h.start h.past ls) lines
     ∙ rest_of_lines-first t h.number h.start h.past x (lines_of later) (Ok e) (judged-short t h.start h.past x below short ∙ sym is)
     ∙ ap (λ (n : Here). behind (listed e) (rest_of t n later)) (sym next)
 line_answered t h new fed bytes later (Err k) short below lines is next =
-    let x : Line = record { text = h.line; fed = fed } in
+    let x : ScriptLine = record { text = h.line; fed = fed } in
     refused_first t h bytes x (lines_of later) k lines (judged-short t h.start h.past x below short ∙ sym is)
 
 -- a line feed

@@ -1,5 +1,6 @@
 -- The events that a script can have.
 use Rattle.std.specs.Prelude.{ℕ, ◌≡◌, ◌<◌, ◌≤◌, true, ℤ, List, [], ◌∷◌, ◌++◌, Option, Some, IsSome, IfSome, slice_get}
+use Rattle.htl_base.specs.declared.limits.TheConstants.{MAX_INSTANT}
 use Rattle.htl_model.specs.declared.parts.Comm.{Comm}
 use Rattle.htl_model.specs.declared.parts.Inv.{Inv}
 use Rattle.htl_model.specs.declared.event.Event.{Event}
@@ -21,10 +22,10 @@ IsTaken t i ticks =
 -- it, and an end isn't below the last reading and is the last event.
 abbrev pub AreEvents : Tables → Option ℕ → List Event → Type 0
 AreEvents t last [] = Unit {0}
-AreEvents t last (event.At instant ∷ es) = (instant ≤ 1000000000) × IfSome last (λ reading. reading < instant) × AreEvents t (Some instant) es
+AreEvents t last (event.At instant ∷ es) = (instant ≤ MAX_INSTANT) × IfSome last (λ reading. reading < instant) × AreEvents t (Some instant) es
 AreEvents t last (event.Sense c x ∷ es) = IsSome last × IsSensed t c x × AreEvents t last es
 AreEvents t last (event.Took i ticks ∷ es) = IsSome last × IsTaken t i ticks × AreEvents t last es
-AreEvents t last (event.End instant ∷ es) = (instant ≤ 1000000000) × IfSome last (λ reading. reading ≤ instant) × (es ≡ [])
+AreEvents t last (event.End instant ∷ es) = (instant ≤ MAX_INSTANT) × IfSome last (λ reading. reading ≤ instant) × (es ≡ [])
 
 -- the last event ends the run
 abbrev pub EndWith : List Event → ℕ → Type 0

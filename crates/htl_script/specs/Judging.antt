@@ -6,6 +6,7 @@ use Rattle.std.specs.Option.{option_map}
 use Rattle.std.specs.Str.{bytes_eq}
 use Rattle.htl_base.specs.declared.Ty.{Ty}
 use Rattle.htl_base.specs.declared.Ty.TheVariants as ty
+use Rattle.htl_base.specs.declared.limits.TheConstants.{MAX_INSTANT}
 use Rattle.htl_model.specs.declared.parts.Comm.{Comm}
 use Rattle.htl_model.specs.declared.parts.Inv.{Inv}
 use Rattle.htl_model.specs.declared.event.Event.{Event}
@@ -14,7 +15,7 @@ use Rattle.htl_model.specs.Tables.{Tables, task_worst}
 use Rattle.htl_script.specs.declared.fault.ScriptKind.{ScriptKind}
 use Rattle.htl_script.specs.declared.fault.ScriptKind.TheVariants as kind
 use Rattle.htl_script.specs.declared.judge.Past.{Past}
-use Rattle.htl_script.specs.Lines.{Line, is_past_limit, is_long, is_passed_over}
+use Rattle.htl_script.specs.Lines.{ScriptLine, is_past_limit, is_long, is_passed_over}
 use Rattle.htl_script.specs.Statements.{Statement, At, Sense, Took, End, statement_of}
 
 -- ---- what the events before a line leave: the last reading, and the instant with which the run ends
@@ -22,18 +23,18 @@ use Rattle.htl_script.specs.Statements.{Statement, At, Sense, Took, End, stateme
 abbrev pub at_first : Past
 at_first = record { reading = None; end = None }
 
-abbrev pub noted : Past → Event → Past
-noted past (event.At instant) = record { reading = Some instant; end = past.end }
-noted past (event.Sense comm x) = past
-noted past (event.Took inv ticks) = past
-noted past (event.End instant) = record { reading = past.reading; end = Some instant }
+abbrev pub past_after : Past → Event → Past
+past_after past (event.At instant) = record { reading = Some instant; end = past.end }
+past_after past (event.Sense comm x) = past
+past_after past (event.Took inv ticks) = past
+past_after past (event.End instant) = record { reading = past.reading; end = Some instant }
 
-abbrev pub noted_all : Past → List Event → Past
-noted_all past [] = past
-noted_all past (e ∷ es) = noted_all (noted past e) es
+abbrev pub past_after_all : Past → List Event → Past
+past_after_all past [] = past
+past_after_all past (e ∷ es) = past_after_all (past_after past e) es
 
 abbrev pub past_of : List Event → Past
-past_of events = noted_all at_first events
+past_of events = past_after_all at_first events
 
 -- ---- what names mean
 
@@ -84,10 +85,10 @@ is_value value (Some ty.Int) = nat_le value.1 (if value.0 then 2 ^ 63 else 2 ^ 6
 is_value value (Some ty.Bool) = not value.0 && nat_lt value.1 2
 
 abbrev pub is_out_of_range : Tables → Statement → Bool
-is_out_of_range t (At instant) = nat_lt 1000000000 instant
+is_out_of_range t (At instant) = nat_lt MAX_INSTANT instant
 is_out_of_range t (Sense name value) = not (is_value value (type_of t (unwrap_or (sensor_of t name) 0)))
 is_out_of_range t (Took name ticks) = (ticks == 0) || nat_lt (2 ^ 63 - 1) ticks
-is_out_of_range t (End instant) = nat_lt 1000000000 instant
+is_out_of_range t (End instant) = nat_lt MAX_INSTANT instant
 
 abbrev pub is_above : ℕ → Option ℕ → Bool
 is_above instant None = true
@@ -152,7 +153,7 @@ judged_text t past text =
 
 -- a line that begins behind `start` bytes of the script: its event, nothing where it is passed over, or the first
 -- rule that it breaks
-abbrev pub judged : Tables → ℕ → Past → Line → Result (Option Event) ScriptKind
+abbrev pub judged : Tables → ℕ → Past → ScriptLine → Result (Option Event) ScriptKind
 judged t start past line =
     if is_past_limit start line then Err kind.Size
     else if is_long line then Err kind.Long

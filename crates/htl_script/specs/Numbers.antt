@@ -5,8 +5,8 @@ use Rattle.std.specs.Char.{is_ascii_digit}
 use Rattle.std.specs.Option.{option_map}
 
 -- decimal digits, at least one, with no zero before others
-abbrev pub is_number : List ℕ → Bool
-is_number field = nat_lt 0 (length field) && (not (slice_index field 0 == 48) || (length field == 1)) && list_all is_ascii_digit field
+abbrev pub is_numeral : List ℕ → Bool
+is_numeral field = nat_lt 0 (length field) && (not (slice_index field 0 == 48) || (length field == 1)) && list_all is_ascii_digit field
 
 -- a number, and one more digit
 abbrev pub with_digit : ℕ → ℕ → ℕ
@@ -14,7 +14,7 @@ with_digit n digit = n * 10 + (digit - 48)
 
 -- the number that a field spells, however large
 abbrev pub number_of : List ℕ → Option ℕ
-number_of field = if is_number field then Some (fold with_digit 0 field) else None
+number_of field = if is_numeral field then Some (fold with_digit 0 field) else None
 
 abbrev pub less_than_zero : Option ℕ → Option (Bool × ℕ)
 less_than_zero None = None

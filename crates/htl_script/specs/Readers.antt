@@ -1,6 +1,7 @@
 -- Where a reader of a script is.
 use Rattle.std.specs.Prelude.{ℕ, ◌+◌, ◌≤◌, ◌≡◌, false, Ok, Err, Option, List, [], ◌++◌, length, All}
 use Rattle.std.specs.declared.result.Result.{Result}
+use Rattle.htl_base.specs.declared.limits.TheConstants.{MAX_LINE, MAX_SCRIPT}
 use Rattle.htl_model.specs.declared.event.Event.{Event}
 use Rattle.htl_model.specs.Tables.{Tables}
 use Rattle.htl_script.specs.declared.judge.Past.{Past}
@@ -8,7 +9,7 @@ use Rattle.htl_script.specs.Lines.{is_line_feed, lines_of}
 use Rattle.htl_script.specs.Script.{Script, Whole, Bad, events_of}
 use Rattle.htl_script.specs.declared.fault.WholeStop.{WholeStop}
 use Rattle.htl_script.specs.declared.fault.WholeStop.TheVariants as stop
-use Rattle.htl_script.specs.Reading.{rest_of_lines, noted_if, behind, HasFront}
+use Rattle.htl_script.specs.Reading.{rest_of_lines, past_after_if, behind, HasFront}
 
 -- the number of the line that is being read, the bytes before it, what was read of it, and what the events so
 -- far leave
@@ -20,9 +21,9 @@ pub record Here : Type 0 where
 
 pub record IsHere (here : Here) : Type 0 where
   pub counted : here.number ≤ here.start + 1
-  pub small : here.start + length here.line ≤ 1073741824
+  pub small : here.start + length here.line ≤ MAX_SCRIPT
   pub plain : All (λ b. is_line_feed b ≡ false) here.line
-  pub short : length here.line ≤ 255
+  pub short : length here.line ≤ MAX_LINE
 
 -- what the bytes behind a reader give
 abbrev pub rest_of : Tables → Here → List ℕ → Script
@@ -30,7 +31,7 @@ rest_of t here bytes = rest_of_lines t here.number here.start here.past (lines_o
 
 -- the reader behind a line that gave an event or nothing, and behind its line feed where it has one
 abbrev pub next_line : Here → ℕ → Option Event → Here
-next_line here feed e = record { number = here.number + 1; start = here.start + (length here.line + feed); line = []; past = noted_if here.past e }
+next_line here feed e = record { number = here.number + 1; start = here.start + (length here.line + feed); line = []; past = past_after_if here.past e }
 
 -- What a reader does with bytes, and the events that it gains: all of them are read; or the script has its first
 -- fault in them; or no memory was left.

@@ -1,5 +1,5 @@
 -- A script that is read in parts: what is still to come of it.
-use Rattle.std.specs.Prelude.{ℕ, min, ◌+◌, ◌-◌, ◌*◌, ◌^◌, ◌≡◌, List, [], ◌∷◌, ◌++◌, Option, Some, None, Ok, Err, IfSome, ◌≤◌}
+use Rattle.std.specs.Prelude.{ℕ, min, ◌+◌, ◌-◌, ◌*◌, ◌^◌, ◌≡◌, List, [], ◌∷◌, ◌++◌, Option, Some, None, Ok, Err, IfSome, ◌≤◌, length}
 use Rattle.std.specs.declared.result.Result.{Result}
 use Rattle.std.specs.Io.KnownBytes.{prepend_known}
 use Rattle.htl_edge.specs.Causes.{Rose}
@@ -9,8 +9,8 @@ use Rattle.htl_script.specs.declared.fault.ScriptKind.{ScriptKind}
 use Rattle.htl_script.specs.declared.fault.ScriptKind.TheVariants as kind
 use Rattle.htl_script.specs.declared.fault.WholeStop.{WholeStop}
 use Rattle.htl_script.specs.declared.fault.WholeStop.TheVariants as stop
-use Rattle.htl_script.specs.Lines.{Line, size_of}
-use Rattle.htl_script.specs.Judging.{noted, judged}
+use Rattle.htl_script.specs.Lines.{ScriptLine, size_of}
+use Rattle.htl_script.specs.Judging.{past_after, judged}
 use Rattle.htl_script.specs.declared.judge.Past.{Past}
 use Rattle.htl_script.specs.Script.{Script, Whole, Bad, events_of, listed}
 
@@ -23,20 +23,20 @@ abbrev pub behind : List Event → Script → Script
 behind events (Whole later end) = Whole (events ++ later) end
 behind events (Bad line kind later) = Bad line kind (events ++ later)
 
-abbrev pub noted_if : Past → Option Event → Past
-noted_if past None = past
-noted_if past (Some e) = noted past e
+abbrev pub past_after_if : Past → Option Event → Past
+past_after_if past None = past
+past_after_if past (Some e) = past_after past e
 
 -- the end of a script, behind the lines below number `line`
 abbrev pub rest_at_end : ℕ → Past → Script
 rest_at_end line past = elim past.end [ Some instant ↦ Whole [] instant | None ↦ Bad line kind.NoEnd [] ]
 
 -- what the lines from number `line` on give, behind `start` bytes and what the events before them leave
-abbrev pub rest_of_lines : Tables → ℕ → ℕ → Past → List Line → Script
+abbrev pub rest_of_lines : Tables → ℕ → ℕ → Past → List ScriptLine → Script
 rest_of_lines t line start past [] = rest_at_end line past
 rest_of_lines t line start past (x ∷ xs) =
     elim (judged t start past x) [
-      | Ok e ↦ behind (listed e) (rest_of_lines t (line + 1) (start + size_of x) (noted_if past e) xs)
+      | Ok e ↦ behind (listed e) (rest_of_lines t (line + 1) (start + size_of x) (past_after_if past e) xs)
       | Err k ↦ Bad line k []
     ]
 
@@ -55,19 +55,19 @@ Grows old new fits = (gained : List Event) × (new ≡ old ++ gained) × fits ga
 
 -- The events of a whole script, or those before its first fault; a front of them where the source failed or no
 -- memory was left.
-abbrev pub IsAnswer : {T : Type 0} → Script → Result T WholeStop → List Event → Type 0
-IsAnswer script (Ok done) gained = (end : ℕ) × (script ≡ Whole gained end)
-IsAnswer script (Err (stop.Script fault)) gained = script ≡ Bad fault.line fault.kind gained
-IsAnswer script (Err stop.Read) gained = HasFront (events_of script) gained
-IsAnswer script (Err stop.Memory) gained = HasFront (events_of script) gained
+abbrev pub IsScriptAnswer : {T : Type 0} → Script → Result T WholeStop → List Event → Type 0
+IsScriptAnswer script (Ok done) gained = (end : ℕ) × (script ≡ Whole gained end)
+IsScriptAnswer script (Err (stop.Script fault)) gained = script ≡ Bad fault.line fault.kind gained
+IsScriptAnswer script (Err stop.Read) gained = HasFront (events_of script) gained
+IsScriptAnswer script (Err stop.Memory) gained = HasFront (events_of script) gained
 
 -- There is a script, namely the one that is known where it is, of which something holds.
 abbrev pub OfScript : Option (List ℕ) → (List ℕ → Type 0) → Type 0
 OfScript known fits = (script : List ℕ) × IfSome known (λ bytes. bytes ≡ script) × fits script
 
--- a source lost a front of what was left, and whether that is told doesn't change
-abbrev pub LosesFront : Option (List ℕ) → Option (List ℕ) → Type 0
-LosesFront old new = (front : List ℕ) × (prepend_known front new ≡ old)
+-- A source lost a front of what was left, of at most so many bytes, and whether that is told doesn't change.
+abbrev pub LosesFront : ℕ → Option (List ℕ) → Option (List ℕ) → Type 0
+LosesFront most old new = (front : List ℕ) × (length front ≤ most) × (prepend_known front new ≡ old)
 
 -- A count of faults doesn't fall, and rose where the reader stopped at a fault of its source.
 pub record HasReadCause {T : Type 0} (before now : ℕ) (result : Result T WholeStop) : Type 0 where

@@ -4,7 +4,7 @@ use Rattle.htl_model.specs.declared.event.Event.{Event}
 use Rattle.htl_model.specs.Tables.{Tables}
 use Rattle.htl_script.specs.declared.fault.ScriptKind.{ScriptKind}
 use Rattle.htl_script.specs.declared.fault.ScriptKind.TheVariants as kind
-use Rattle.htl_script.specs.Lines.{Line, lines_of, size_of}
+use Rattle.htl_script.specs.Lines.{ScriptLine, lines_of, size_of}
 use Rattle.htl_script.specs.Judging.{past_of, judged}
 
 -- A script is whole, with its events and the instant with which the run ends; or one of its lines is the first
@@ -26,7 +26,7 @@ abbrev pub ended : ℕ → List Event → Script
 ended line events = elim ((past_of events).end) [ Some instant ↦ Whole events instant | None ↦ Bad line kind.NoEnd events ]
 
 -- the lines from number `line` on, which begin behind `start` bytes, each against the events before it
-abbrev pub script_of_lines : Tables → ℕ → ℕ → List Event → List Line → Script
+abbrev pub script_of_lines : Tables → ℕ → ℕ → List Event → List ScriptLine → Script
 script_of_lines t line start events [] = ended line events
 script_of_lines t line start events (x ∷ xs) =
     elim (judged t start (past_of events) x) [

@@ -3,7 +3,7 @@ ghost use Rattle.std.specs.Prelude.{◌≡◌, ◌-◌, ◌^◌, ℕ, Bool, min,
 ghost use Rattle.std.specs.Option.{option_map};
 ghost use Rattle.htl_base.specs.declared.Ty.TheVariants as ty;
 ghost use Rattle.htl_model.specs.declared.event.Event.TheVariants as event;
-ghost use Rattle.htl_script.specs.Judging.{noted, at_first, judged_text, judged_statement, number_with_sign, is_value, is_above, is_below};
+ghost use Rattle.htl_script.specs.Judging.{past_after, at_first, judged_text, judged_statement, number_with_sign, is_value, is_above, is_below};
 ghost use Rattle.htl_script.specs.Numbers.{number_of, signed_of};
 ghost use Rattle.htl_script.specs.Statements.{statement_of, instant_statement, named_statement, At, End, Sense, Took};
 
@@ -35,7 +35,7 @@ impl Past {
 
     // What one more event leaves.
     pub fn after(self, event: Event) -> Past
-        ensures { result ≡ noted self event }
+        ensures { result ≡ past_after self event }
     {
         match event {
             Event::At(instant) => Past {

@@ -2,9 +2,9 @@
 #![tactic(auto)]
 
 mod fault;
-mod field;
+pub mod field;
 mod judge;
-mod line;
+pub mod laws;
 mod lookup;
 mod number;
 mod reader;

@@ -4,13 +4,13 @@ ghost use Rattle.std.specs.Option.{option_map};
 ghost use Rattle.std.specs.List.{fold, list_all};
 ghost use Rattle.std.specs.Char.{is_ascii_digit};
 ghost use Rattle.htl_script.specs.Reading.{with_digit_capped};
-ghost use Rattle.htl_script.specs.Numbers.{is_number, number_of, signed_of, with_digit};
+ghost use Rattle.htl_script.specs.Numbers.{is_numeral, number_of, signed_of, with_digit};
 
 // The number that a field spells, or 18,446,744,073,709,551,615 where it is larger.
 pub fn number(field: &[u8]) -> Option<u64>
     ensures { result ≡ option_map (λ (n : ℕ). min n (2 ^ 64 - 1)) (number_of field.now) }
 {
-    if is_number(field) {
+    if is_numeral(field) {
         Some(value(field))
     } else {
         None
@@ -37,8 +37,8 @@ pub fn signed(field: &[u8]) -> Option<(bool, u64)>
 }
 
 // Decimal digits, at least one, with no zero before others.
-fn is_number(field: &[u8]) -> bool
-    ensures { result ≡ is_number field.now }
+fn is_numeral(field: &[u8]) -> bool
+    ensures { result ≡ is_numeral field.now }
 {
     if field.is_empty() {
         return false;

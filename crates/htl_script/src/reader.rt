@@ -1,13 +1,14 @@
 // The reader of a script, byte by byte.
-ghost use Rattle.std.specs.Prelude.{◌≡◌, ◌<◌, ◌≤◌, ◌+◌, ◌∷◌, [], ◌++◌, length, List, ℕ, IfOk, OnErr, is_some};
+ghost use Rattle.std.specs.Prelude.{◌≡◌, ◌==◌, ◌<◌, ◌≤◌, ◌+◌, ◌∷◌, [], ◌++◌, length, List, ℕ, IfOk, OnErr, is_some};
+ghost use Rattle.htl_base.specs.declared.limits.TheConstants as limit;
 ghost use Rattle.htl_script.specs.Judging.{judged_text, at_first};
 ghost use Rattle.htl_script.specs.Reading.{answered};
 ghost use Rattle.htl_script.specs.Readers.{rest_of, next_line};
 
 use crate::ScriptKind;
 use crate::judge::{Past, judge};
-use crate::line::LineText;
 use htl_base::limits::{MAX_LINE, MAX_SCRIPT};
+use htl_edge::LineBuffer;
 use htl_model::{Event, Tables};
 use std::marker::Model;
 
@@ -19,7 +20,7 @@ pub struct Reader {
     // How many bytes of the script stand before that line.
     start: u64,
     // What was read of that line.
-    line: LineText,
+    line: LineBuffer,
     // What the events so far leave.
     past: Past,
 }
@@ -42,7 +43,7 @@ impl Reader {
         Reader {
             number: 1,
             start: 0,
-            line: LineText::new(),
+            line: LineBuffer::new(),
             past: Past::new(),
         }
     }
@@ -57,9 +58,25 @@ impl Reader {
     // How many bytes were read.
     pub fn count(&self) -> u64
         ensures value { result ≡ self.now.start + length self.now.line }
-        ensures bound { result ≤ 1073741824 }
+        ensures bound { result ≤ limit.MAX_SCRIPT }
     {
         self.start + self.line.as_bytes().len() as u64
+    }
+
+    // Whether all bytes were read that a script may have.
+    fn is_at_limit(&self) -> bool
+        ensures value { result ≡ (self.now.start + length self.now.line == limit.MAX_SCRIPT) }
+        ensures bound { self.now.start + length self.now.line ≤ limit.MAX_SCRIPT }
+    {
+        self.count() == MAX_SCRIPT
+    }
+
+    // Whether the line has all bytes that it may have.
+    fn is_full(&self) -> bool
+        ensures value { result ≡ (length self.now.line == limit.MAX_LINE) }
+        ensures bound { length self.now.line ≤ limit.MAX_LINE }
+    {
+        self.line.as_bytes().len() == MAX_LINE
     }
 
     // Reads one more byte of the script, and gives the event of the line that it ends. After a fault
@@ -67,16 +84,16 @@ impl Reader {
     pub fn take(&mut self, t: &Tables, b: u8) -> Result<Option<Event>, ScriptKind>
         ensures rest { (later : List ℕ) → rest_of t.now self.old (b ∷ later) ≡ answered self.old.number result (rest_of t.now self.new later) }
         ensures count { IfOk result (λ e. self.new.start + length self.new.line ≡ self.old.start + length self.old.line + 1) }
-        ensures bound { IfOk result (λ e. self.new.start + length self.new.line ≤ 1073741824) }
+        ensures bound { IfOk result (λ e. self.new.start + length self.new.line ≤ limit.MAX_SCRIPT) }
         ensures same { OnErr result (self.new ≡ self.old) }
     {
-        if self.count() == MAX_SCRIPT {
+        if self.is_at_limit() {
             return Err(ScriptKind::Size);
         }
         if b == b'\n' {
             return self.end_line(t, 1);
         }
-        if self.line.as_bytes().len() == MAX_LINE {
+        if self.is_full() {
             return Err(ScriptKind::Long);
         }
         self.line.push(b);
@@ -105,7 +122,7 @@ impl Reader {
     // Ends the line, by a line feed or without, and gives its event.
     fn end_line(&mut self, t: &Tables, feed: u64) -> Result<Option<Event>, ScriptKind>
         requires feed { feed ≤ 1 }
-        requires room { self.old.start + (length self.old.line + feed) ≤ 1073741824 }
+        requires room { self.old.start + (length self.old.line + feed) ≤ limit.MAX_SCRIPT }
         requires some { 1 ≤ length self.old.line + feed }
         ensures judged { result ≡ judged_text t.now self.old.past self.old.line }
         ensures next { IfOk result (λ e. self.new ≡ next_line self.old feed e) }

@@ -1,9 +1,10 @@
 // The reader of a whole script.
 ghost use Rattle.std.specs.Prelude.{◌≡◌, ◌≤◌, ◌+◌, ◌++◌, length, ℕ, List, OnOk, OnErr, None};
+ghost use Rattle.htl_base.specs.declared.limits.TheConstants as limit;
 ghost use Rattle.htl_edge.specs.Content.{none_left};
 ghost use Rattle.htl_script.specs.declared.fault.WholeStop.TheVariants as stop;
 ghost use Rattle.htl_script.specs.Events.{AreEvents, EndWith};
-ghost use Rattle.htl_script.specs.Reading.{Grows, IsAnswer, OfScript, LosesFront, HasReadCause};
+ghost use Rattle.htl_script.specs.Reading.{Grows, IsScriptAnswer, OfScript, LosesFront, HasReadCause};
 ghost use Rattle.htl_script.specs.Readers.{Takes, Finishes};
 ghost use Rattle.htl_script.specs.Script.{script_of, listed};
 
@@ -16,18 +17,18 @@ use std::alloc::Global;
 
 /// Reads a script to its end and appends its events, up to the first fault. `Script` comes exactly at the
 /// script's first fault; then the events before it were appended. `Read` comes only where the source
-/// counted a fault; then, and after `Memory`, a front of the events was appended. The script is read
-/// ahead by up to 4,096 bytes, and by at most 1,073,741,824 + 4,096 in all.
+/// counted a fault; then, and after `Memory`, a front of the events was appended. At most 1,073,745,920
+/// bytes are read: those of the longest script, and one piece of 4,096.
 pub fn read_script<R: Source>(
     _alloc: Global,
     src: &mut R,
     t: &Tables,
     into: &mut Vec<Event>,
 ) -> Result<(), WholeStop>
-    ensures script { OfScript (R.rest src.old) (λ script. Grows into.old.items into.new.items (λ gained. IsAnswer (script_of t.now script) result gained)) }
+    ensures script { OfScript (R.rest src.old) (λ script. Grows into.old.items into.new.items (λ gained. IsScriptAnswer (script_of t.now script) result gained)) }
     ensures events { Grows into.old.items into.new.items (λ gained. AreEvents t.now None gained × OnOk result ((end : ℕ) × EndWith gained end)) }
     ensures whole { OnOk result (R.rest src.new ≡ none_left (R.rest src.old)) }
-    ensures left { LosesFront (R.rest src.old) (R.rest src.new) }
+    ensures left { LosesFront (limit.MAX_SCRIPT + 4096) (R.rest src.old) (R.rest src.new) }
     ensures cause { HasReadCause (R.faults src.old) (R.faults src.new) result }
 {
     let mut reader = Reader::new();
@@ -54,7 +55,7 @@ fn take_all(
 ) -> Result<(), WholeStop>
     ensures events { Grows into.old.items into.new.items (λ gained. Takes t.now reader.old reader.new bytes.now result gained) }
     ensures count { OnOk result (reader.new.start + length reader.new.line ≡ reader.old.start + length reader.old.line + length bytes.now) }
-    ensures bound { reader.old.start + length reader.old.line ≤ 1073741824 → OnOk result (reader.new.start + length reader.new.line ≤ 1073741824) }
+    ensures bound { reader.old.start + length reader.old.line ≤ limit.MAX_SCRIPT → OnOk result (reader.new.start + length reader.new.line ≤ limit.MAX_SCRIPT) }
 {
     for b in bytes {
         match reader.take(t, *b) {

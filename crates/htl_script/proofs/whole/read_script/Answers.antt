@@ -1,7 +1,7 @@
 use Rattle.std.proofs.Common.{◌+◌, ◌<◌, length, take, ap, arith, refl, length-take-le, Err}
 use Rattle.htl_script.specs.declared.fault.WholeStop.TheVariants as stop
 use Rattle.htl_script.specs.Readers.{Here}
-use Rattle.htl_script.proofs.Answering.{IsReading-start, IsReading-step, answer_read, answer_stop, answer_end, LosesFront-piece}
+use Rattle.htl_script.proofs.Answering.{IsReading-start, IsReading-step, answer_read, answer_stop, answer_end, LosesFront-piece, LosesFront-same}
 use Rattle.htl_script.proofs.Fitting.{grown-events}
 use Rattle.htl_script.proofs.whole.read_script.Goals as goal
 
@@ -55,7 +55,19 @@ returns-in-Err-clause-events g c =
 pub returns-in-Err-clause-left : goal.returns-in-Err-clause-left
 returns-in-Err-clause-left g c =
     LosesFront-piece c.args.t.now c.chunks.reader (g.R.Source.rest c.args.src.now) (g.R.Source.rest c.chunks.src) (g.R.Source.rest c.read.new.self)
-    c.args.into.now.items c.chunks.into.items (take c.in-Ok.count c.read.new.buf) c.chunks.invariant.0 c.in-Ok.ensures.bytes.0
+    c.args.into.now.items c.chunks.into.items (take c.in-Ok.count c.read.new.buf) c.chunks.invariant.0 c.chunks.invariant.3 c.in-Ok.ensures.bytes.0
+    (omega (arith, length-take-le c.in-Ok.count c.read.new.buf c.in-Ok.ensures.bound, c.in-Ok.ensures.bound, c.read.auto.buf, c.chunks.invariant.2))
+
+pub returns-in_default-clause-left : goal.returns-in_default-clause-left
+returns-in_default-clause-left g c =
+    LosesFront-same c.args.t.now c.chunks.reader (g.R.Source.rest c.args.src.now) (g.R.Source.rest c.chunks.src) (g.R.Source.rest c.read.new.self)
+    c.args.into.now.items c.chunks.into.items c.chunks.invariant.0 c.chunks.invariant.3 c.in_default.ensures.bytes
+
+pub returns-then-count-eq0-clause-left : goal.returns-then-count-eq0-clause-left
+returns-then-count-eq0-clause-left g c =
+    LosesFront-piece c.args.t.now c.chunks.reader (g.R.Source.rest c.args.src.now) (g.R.Source.rest c.chunks.src) (g.R.Source.rest c.read.new.self)
+    c.args.into.now.items c.chunks.into.items (take c.in-Ok.count c.read.new.buf) c.chunks.invariant.0 c.chunks.invariant.3 c.in-Ok.ensures.bytes.0
+    (omega (arith, length-take-le c.in-Ok.count c.read.new.buf c.in-Ok.ensures.bound, c.in-Ok.ensures.bound, c.read.auto.buf, c.chunks.invariant.2))
 
 pub chunks-smaller : goal.chunks-smaller
 chunks-smaller g c =
@@ -72,7 +84,8 @@ pub chunks-preserved : goal.chunks-preserved
 chunks-preserved g c = (
   IsReading-step (Unit {0}) c.args.t.now c.chunks.reader c.take_all.new.reader (g.R.Source.rest c.args.src.now) (g.R.Source.rest c.chunks.src) (g.R.Source.rest c.read.new.self)
       c.args.into.now.items c.chunks.into.items c.take_all.new.into.items (take c.in-Ok.count c.read.new.buf) tt
-      c.chunks.invariant.0 c.in-Ok.ensures.bytes.0 c.in_default-take_all.ensures.events,
+      c.chunks.invariant.0 c.in-Ok.ensures.bytes.0
+      (omega (arith, c.in_default-take_all.ensures.count, length-take-le c.in-Ok.count c.read.new.buf c.in-Ok.ensures.bound)) c.in_default-take_all.ensures.events,
   omega (arith, c.chunks.invariant.1, c.in-Ok.ensures.cause.later),
   omega (arith, c.read.auto.buf, c.chunks.invariant.2),
   c.in_default-take_all.ensures.bound c.chunks.invariant.3,
