@@ -1,0 +1,12 @@
+pub mod Chains
+pub mod Conditions
+pub mod Departure
+pub mod Generation
+pub mod Instructions
+pub mod Jumps
+pub mod Laws
+pub mod Layout
+pub mod Offsets
+pub mod Paths
+pub mod Spelling
+pub mod Steps
