@@ -1,0 +1,8 @@
+use Rattle.std.proofs.Common.{◌≡◌, drop}
+use Rattle.htl_model.specs.Lists.{joined, numbered}
+use Rattle.htl_espell.specs.Checks.{next_of}
+use Rattle.htl_espell.specs.Parts.{child_wants}
+use Rattle.htl_espell.proofs.entries.need_children.Given as goal
+
+abbrev pub invariant-loop-k : goal.invariant-loop-k
+invariant-loop-k l = next_of l.code l.place (joined (child_wants l.mode) (numbered l.k (drop l.k l.modules))) ≡ next_of l.code l.fn.at (joined (child_wants l.mode) (numbered 0 l.t.modules))
