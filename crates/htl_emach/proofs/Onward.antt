@@ -1,0 +1,164 @@
+-- What the machine does next, from any place inside an instant.
+use Rattle.std.proofs.Common.{◌≡◌, ℕ, ◌<◌, true, eqb, List, [], ◌∷◌, ◌++◌, length, slice_get, Option, Some, None, ℤ, IfSome, All, refl, sym, ap, ◌∙◌, subst}
+use Rattle.std.proofs.lemmas.Option.{slice_get_within, get_or_from_slice_get}
+use Rattle.htl_model.specs.declared.event.Event.{Event}
+use Rattle.htl_model.specs.declared.parts.Inv.{Inv}
+use Rattle.htl_model.specs.declared.parts.End.{End}
+use Rattle.htl_model.specs.declared.parts.End.TheVariants as E
+use Rattle.htl_model.specs.Tables.{Tables}
+use Rattle.htl_model.specs.Ranges.{AreInRange, IsInvInRange, IsEndInRange}
+use Rattle.htl_model.specs.Meaning.{state}
+use Rattle.htl_ecode.specs.declared.ecode.ECode.{ECode}
+use Rattle.htl_ecode.specs.declared.instr.EInstr.{EInstr}
+use Rattle.htl_ecode.specs.declared.instr.EInstr.TheVariants as I
+use Rattle.htl_ecode.specs.Paths.{Done}
+use Rattle.htl_emach.specs.declared.trigger.Block.{Block}
+use Rattle.htl_emach.specs.declared.trigger.EDone.{EDone}
+use Rattle.htl_emach.specs.Contents.{Content, comm_of, reads_at, writes_at}
+use Rattle.htl_emach.specs.Shapes.{IsShaped, HasEnds}
+use Rattle.htl_emach.specs.Calendars.{Calendar, Standing, taken, taken_by, block_in, block_from, first_due, triggers_of, with_trigger, done_at, done_in, stepped, standing_after}
+use Rattle.htl_emach.specs.Ready.{Fits, IsReady}
+use Rattle.htl_emach.specs.Leading.{goes_at, IsAllowed}
+use Rattle.htl_emach.specs.Pending.{IsSized}
+use Rattle.htl_emach.specs.Following.{Runs, IsInBlock, Stands, Midway, Onward, phase_path, calendar_at, calendar_replay}
+use Rattle.htl_emach.proofs.ModuleLaws.{ModuleLaws}
+use Rattle.htl_emach.proofs.Inside.{next_of_block, inside}
+use Rattle.htl_emach.proofs.Beginning.{no_block, begins}
+use Rattle.htl_emach.proofs.Effects.{sized_module, effect_sized}
+
+no_end : (front : List ℕ) (b : ℕ) → [] ≡ front ++ b ∷ [] → ⊥
+no_end [] b e = cc
+no_end (x ∷ xs) b e = cc
+
+-- the next instruction of a block, and what it may be
+pub record Next (t : Tables) (code : ECode) (phase : ℕ) (b : Block) : Type 0 where
+  pub instr : EInstr
+  pub stands : slice_get code.instrs b.address ≡ Some instr
+  pub allowed : IsAllowed t phase b.«module» instr
+
+pub next_in : (t : Tables) (code : ECode) (es : List Event) (now phase : ℕ) (c : Calendar) (b : Block) (rest : List Done) → IsInBlock t code es now phase c b rest → Next t code phase b
+next_in t code es now phase c b rest h = by_path h.path h.runs
+  where
+    by_path : (xs : List ℕ) → Runs t code es now phase c b.«module» b.address xs → Next t code phase b
+    by_path [] r = absurd (no_end r.ends.0 r.ends.1 r.ends.3)
+    by_path (x ∷ xs) r =
+        let one = next_of_block code.instrs (goes_at t es now) b.address x xs r.ends in
+        record { instr = one.1.0; stands = one.1.1; allowed = r.allowed.0 one.1.0 (ap (slice_get code.instrs) one.0 ∙ one.1.1) }
+
+module _ (t : Tables) (code : ECode) (es : List Event) (now phase : ℕ) (laws : (j : ℕ) → j < length t.modules → ModuleLaws t code es now phase j) where
+  at_block : (values : List ℤ) (done rest : List Done) → phase_path t code es now phase ≡ done ++ rest → (eqb phase 2 ≡ true → values ≡ (state t es now).values) →
+      (m : Standing) (c : Calendar) (b : Block) → taken phase now m ≡ c → IsInBlock t code es now phase c b rest →
+      Onward t code es now phase (standing_after t code values phase now m (done_at b.«module» b.address (slice_get code.instrs b.address))) done rest (done_at b.«module» b.address (slice_get code.instrs b.address))
+  at_block values done rest path same m c b is h =
+      let n = next_in t code es now phase c b rest h in
+      let d : EDone = record { address = b.address; instr = n.instr; «module» = b.«module» } in
+      let one : Onward t code es now phase (stepped t code values now c d) done rest (Some d) = inside t code es now phase c b values done rest n.instr path h n.stands same in
+      let two : Onward t code es now phase (stepped t code values now (taken phase now m) d) done rest (Some d) = subst (λ z. Onward t code es now phase (stepped t code values now z d) done rest (Some d)) (sym is) one in
+      subst (λ o. Onward t code es now phase (standing_after t code values phase now m (done_at b.«module» b.address o)) done rest (done_at b.«module» b.address o)) (sym n.stands) two
+
+  pub onward_at : (values : List ℤ) (done rest : List Done) (c : Calendar) (r : Option Block) → phase_path t code es now phase ≡ done ++ rest → (eqb phase 2 ≡ true → values ≡ (state t es now).values) →
+      Stands t code es now phase c r rest →
+      Onward t code es now phase (standing_after t code values phase now (record { calendar = c; running = r }) (done_in code phase now (record { calendar = c; running = r }))) done rest (done_in code phase now (record { calendar = c; running = r }))
+  onward_at values done rest c (Some b) path same h = at_block values done rest path same (record { calendar = c; running = Some b }) c b refl h
+  onward_at values done rest c None path same h = by_due (first_due now 0 (triggers_of phase c)) refl
+    where
+      by_due : (f : Option (ℕ × ℕ)) → first_due now 0 (triggers_of phase c) ≡ f →
+          Onward t code es now phase (standing_after t code values phase now (record { calendar = c; running = None }) (elim (block_from now f) [ Some b ↦ done_at b.«module» b.address (slice_get code.instrs b.address) | None ↦ None ])) done rest
+          (elim (block_from now f) [ Some b ↦ done_at b.«module» b.address (slice_get code.instrs b.address) | None ↦ None ])
+      by_due None is = let r = no_block t code es now phase laws c rest h is in (r.0, refl, r.1)
+      by_due (Some p) is =
+          at_block values done rest path same (record { calendar = c; running = None }) (with_trigger phase p.0 None c) (record { «module» = p.0; address = p.1; at = now })
+          (ap (λ f. taken_by phase f c) is) (begins t code es now phase laws c rest p h is)
+
+  -- one call: from any place inside a phase, the next of the path is done, and the machine stands behind it
+  pub onward : (values : List ℤ) (m : Standing) (done rest : List Done) → (eqb phase 2 ≡ true → values ≡ (state t es now).values) → Midway t code es now phase m done rest →
+      Onward t code es now phase (standing_after t code values phase now m (done_in code phase now m)) done rest (done_in code phase now m)
+  onward values m done rest same h = onward_at values done rest m.calendar m.running h.path same h.stands
+
+-- ---- the next instruction can be done
+
+all_at : {A : Type 0} (P : A → Type 0) (xs : List A) → All P xs → (k : ℕ) (x : A) → slice_get xs k ≡ Some x → P x
+all_at P xs all k x e = subst P (get_or_from_slice_get xs k x x e) (all k x (slice_get_within xs k x e))
+
+comm_below : (t : Tables) (m : ℕ) (n : ℕ) (e : End) → n ≡ length t.comms → IsEndInRange t m e → IfSome (comm_of (Some e)) (λ c. c < n)
+comm_below t m n (E.Comm c i) same h = subst (λ z. c < z) (sym same) h.0
+comm_below t m n (E.Port p) same h = tt
+
+end_below : (t : Tables) (m n k : ℕ) (ends : List End) → n ≡ length t.comms → All (IsEndInRange t m) ends → IfSome (comm_of (slice_get ends k)) (λ c. c < n)
+end_below t m n k ends same all = by_end (slice_get ends k) refl
+  where
+    by_end : (o : Option End) → slice_get ends k ≡ o → IfSome (comm_of o) (λ c. c < n)
+    by_end None e = tt
+    by_end (Some x) e = comm_below t m n x same (all_at (IsEndInRange t m) ends all k x e)
+
+pub allowed_fits : (t : Tables) (c : Calendar) (w : Content) (phase k : ℕ) (i : EInstr) → AreInRange t → HasEnds t → IsShaped t w → IsSized t c → IsAllowed t phase k i → Fits t c w i
+allowed_fits t c w phase k (I.CallWrite u v) r e s z h =
+    let row = s.outputs u h.1.0 h.1.1 in
+    let ends : writes_at t u ≡ h.1.0.writes = ap (λ (o : Option Inv). elim o as (λ _. List End) [ Some x ↦ x.writes | None ↦ [] ]) h.1.1 in
+    let inv = all_at (IsInvInRange t) t.invs r.invs u h.1.0 h.1.1 in
+    record {
+      end = subst (λ zs. v < length zs) (sym ends) h.1.2;
+      room = (subst (λ n. u < n) (sym s.output_rows) (slice_get_within t.invs u h.1.0 h.1.1), subst (λ n. v < n) (e.writes u h.1.0 h.1.1 ∙ sym row.count) h.1.2);
+      comm = subst (λ zs. IfSome (comm_of (slice_get zs v)) (λ y. y < length w.values)) (sym ends) (end_below t h.1.0.mode (length w.values) v h.1.0.writes s.values.count inv.writes);
+    }
+allowed_fits t c w phase k (I.CallRead u v) r e s z h =
+    let row = s.inputs u h.1.0 h.1.1 in
+    let ends : reads_at t u ≡ h.1.0.reads = ap (λ (o : Option Inv). elim o as (λ _. List End) [ Some x ↦ x.reads | None ↦ [] ]) h.1.1 in
+    let inv = all_at (IsInvInRange t) t.invs r.invs u h.1.0 h.1.1 in
+    record {
+      end = subst (λ zs. v < length zs) (sym ends) h.1.2;
+      room = (subst (λ n. u < n) (sym s.input_rows) (slice_get_within t.invs u h.1.0 h.1.1), subst (λ n. v < n) (e.reads u h.1.0 h.1.1 ∙ sym row.count) h.1.2);
+      comm = subst (λ zs. IfSome (comm_of (slice_get zs v)) (λ y. y < length w.values)) (sym ends) (end_below t h.1.0.mode (length w.values) v h.1.0.reads s.values.count inv.reads);
+    }
+allowed_fits t c w phase k (I.Release a) r e s z h = tt
+allowed_fits t c w phase k (I.Future a b d) r e s z h = tt
+allowed_fits t c w phase k (I.JumpIf a b) r e s z h = h.1
+allowed_fits t c w phase k (I.Jump a) r e s z h = tt
+allowed_fits t c w phase k (I.IfMode a b) r e s z h = tt
+allowed_fits t c w phase k (I.Enter a) r e s z h = tt
+allowed_fits t c w phase k I.Leave r e s z h = tt
+allowed_fits t c w phase k (I.Fork a) r e s z h = sized_module t c a z h
+allowed_fits t c w phase k I.Return r e s z h = tt
+
+some_instr : (a b : EInstr) → Some a ≡ Some b → a ≡ b
+some_instr a b e = cc
+
+block_ready : (t : Tables) (code : ECode) (es : List Event) (now phase : ℕ) (c d : Calendar) (w : Content) (b : Block) (rest : List Done) → AreInRange t → HasEnds t → IsShaped t w → IsSized t c →
+    IsInBlock t code es now phase d b rest → IsReady t code c w b
+block_ready t code es now phase c d w b rest r e s z h =
+    let n = next_in t code es now phase d b rest h in
+    record {
+      «module» = sized_module t c b.«module» z h.runs.within;
+      stands = slice_get_within code.instrs b.address n.instr n.stands;
+      fits = λ i is. allowed_fits t c w phase b.«module» i r e s z (subst (IsAllowed t phase b.«module») (some_instr n.instr i (sym n.stands ∙ is)) n.allowed);
+    }
+
+-- the calendar keeps its size while a block runs
+replay_sized : (t : Tables) (code : ECode) (at k : ℕ) (xs : List ℕ) (c : Calendar) → IsSized t (calendar_replay t code at k xs c) → IsSized t c
+replay_sized t code at k [] c h = h
+replay_sized t code at k (x ∷ xs) c h = by_instr (slice_get code.instrs x) (replay_sized t code at k xs (calendar_at t code at k (slice_get code.instrs x) c) h)
+  where
+    by_instr : (o : Option EInstr) → IsSized t (calendar_at t code at k o c) → IsSized t c
+    by_instr None h = h
+    by_instr (Some i) h = effect_sized t code at k i c h
+
+-- from any place inside an instant the next instruction can be done
+pub ready : (t : Tables) (code : ECode) (es : List Event) (now phase : ℕ) (laws : (j : ℕ) → j < length t.modules → ModuleLaws t code es now phase j) (m : Standing) (w : Content) (done rest : List Done) →
+    AreInRange t → HasEnds t → IsShaped t w → Midway t code es now phase m done rest → IfSome (block_in phase now m) (IsReady t code m.calendar w)
+ready t code es now phase laws m w done rest r e s h = by_running m.calendar m.running h.stands
+  where
+    by_running : (c : Calendar) (o : Option Block) → Stands t code es now phase c o rest → IfSome (block_in phase now (record { calendar = c; running = o })) (IsReady t code c w)
+    by_running c (Some b) st = block_ready t code es now phase c c w b rest r e s (replay_sized t code now b.«module» st.path c st.runs.leads.sized) st
+    by_running c None st = by_due (first_due now 0 (triggers_of phase c)) refl
+      where
+        by_due : (f : Option (ℕ × ℕ)) → first_due now 0 (triggers_of phase c) ≡ f → IfSome (block_from now f) (IsReady t code c w)
+        by_due None is = tt
+        by_due (Some p) is = block_ready t code es now phase c (with_trigger phase p.0 None c) w (record { «module» = p.0; address = p.1; at = now }) rest r e s st.calendar.sized (begins t code es now phase laws c rest p st is)
+
+-- a machine that stands inside an instant has an entry for each module
+pub midway_sized : (t : Tables) (code : ECode) (es : List Event) (now phase : ℕ) (m : Standing) (done rest : List Done) → Midway t code es now phase m done rest → IsSized t m.calendar
+midway_sized t code es now phase m done rest h = by_running m.calendar m.running h.stands
+  where
+    by_running : (c : Calendar) (o : Option Block) → Stands t code es now phase c o rest → IsSized t c
+    by_running c (Some b) st = replay_sized t code now b.«module» st.path c st.runs.leads.sized
+    by_running c None st = st.calendar.sized

@@ -1,0 +1,227 @@
+-- Tables that keep the form rules, and E code that spells them, are what the machine runs.
+use Rattle.std.proofs.Common.{◌≡◌, ◌≢◌, ℕ, zero, suc, ◌*◌, ◌<◌, ◌≤◌, max, Bool, true, false, cond, ◌&&◌, ◌||◌, eqb, List, [], ◌∷◌, ◌++◌, length, slice_get, Option, Some, None, option_map, ℤ, refl, sym, ap, ◌∙◌, subst, arith, ◌⊎◌, inl, inr}
+use Rattle.std.proofs.lemmas.Bool.{eqb-true, eq-eqb}
+use Rattle.htl_model.specs.declared.parts.Inv.{Inv}
+use Rattle.htl_model.specs.declared.parts.Mode.{Mode}
+use Rattle.htl_model.specs.declared.parts.End.{End}
+use Rattle.htl_model.specs.declared.parts.End.TheVariants as E
+use Rattle.htl_model.specs.Lists.{joined}
+use Rattle.htl_model.specs.Ranges.{AreInRange, IsInvInRange}
+use Rattle.htl_model.specs.Tables.{Tables, mode_period, mode_module, comm_period, is_concrete, release, offsets, greatest}
+use Rattle.htl_model.specs.FormRules.{ModulePeriod, Offsets, Ends, Itself, Input, Output}
+use Rattle.htl_model.specs.PeriodRules.{asked_period, first_mode}
+use Rattle.htl_model.specs.EndRules.{CountsDiffer, input_types, output_types}
+use Rattle.htl_model.specs.Broken.{KeptTo}
+use Rattle.htl_ecode.specs.declared.ecode.ECode.{ECode}
+use Rattle.htl_ecode.specs.Offsets.{counts, counted_in, phase_offsets, holds}
+use Rattle.htl_ecode.specs.Departure.{departure}
+use Rattle.htl_ecode.specs.Paths.{Done}
+use Rattle.htl_ecode.proofs.Spelled.{spelled_reads}
+use Rattle.htl_model.specs.declared.event.Event.{Event}
+use Rattle.htl_model.specs.Meaning.{state}
+use Rattle.htl_emach.specs.declared.trigger.EDone.{EDone}
+use Rattle.htl_emach.specs.Calendars.{Standing, done_in, standing_after}
+use Rattle.htl_emach.specs.Following.{Midway, Onward}
+use Rattle.htl_emach.proofs.Instants.{call_onward, IsPhase}
+use Rattle.htl_emach.specs.Shapes.{HasEnds}
+use Rattle.htl_emach.proofs.States.{SamePeriods, all_at}
+use Rattle.htl_emach.proofs.Switching.{Sound, positive, bool_cases}
+
+-- ---- numbers that are equal, or not
+
+pub equal_or : (a b : ℕ) → (a ≡ b) ⊎ (a ≢ b)
+equal_or a b = elim (bool_cases (eqb a b)) [ inl e ↦ inl (eqb-true a b e) | inr e ↦ inr (λ same. no (sym (eq-eqb a b same) ∙ e)) ]
+  where
+    no : true ≡ false → ⊥
+    no e = cc
+
+pub item_at : {A : Type 0} (xs : List A) (k : ℕ) → k < length xs → (x : A) × (slice_get xs k ≡ Some x)
+item_at [] k h = absurd (omega (arith, h))
+item_at (x ∷ xs) zero h = (x, refl)
+item_at (x ∷ xs) (suc k) h = item_at xs k (omega (arith, h))
+
+-- ---- the period of a refinement
+
+mode_is : (t : Tables) (m : ℕ) (x : Mode) → slice_get t.modes m ≡ Some x → (mode_period t m ≡ x.period) × (mode_module t m ≡ x.«module»)
+mode_is t m x e = (ap (λ (o : Option Mode). elim o as (λ _. ℕ) [ Some y ↦ y.period | None ↦ 0 ]) e, ap (λ (o : Option Mode). elim o as (λ _. ℕ) [ Some y ↦ y.«module» | None ↦ 0 ]) e)
+
+pub same_periods : (t : Tables) (last : ℕ) → 1 ≤ last → KeptTo t last → SamePeriods t
+same_periods t last least kept = λ k q m parent inside owner.
+    let x = item_at t.modes m inside in
+    let is = mode_is t m x.0 x.1 in
+    let owned : x.0.«module» ≡ k = sym is.1 ∙ owner in
+    let asked : asked_period t x.0.«module» ≡ Some (mode_period t q) =
+    ap (asked_period t) owned ∙ ap (λ (o : Option ℕ). elim o as (λ _. Option ℕ) [ Some p ↦ Some (mode_period t p) | None ↦ option_map (mode_period t) (first_mode t k) ]) parent in
+    elim (equal_or x.0.period (mode_period t q)) [
+      | inl same ↦ is.0 ∙ same
+      | inr other ↦
+          absurd (kept ModulePeriod (record { mode = m; inv = None; part = Itself }) x.0.period (mode_period t q) (omega (arith, least)) (x.0, x.1, (refl, asked, other)))
+    ]
+
+-- ---- as many ends as the task has
+
+pub has_ends : (t : Tables) (last : ℕ) → 5 ≤ last → AreInRange t → KeptTo t last → HasEnds t
+has_ends t last least r kept =
+    record {
+      reads = λ i x at. reads_same i x at;
+      writes = λ i x at. elim (equal_or (length x.writes) (length (output_types t x.task))) [
+        | inl same ↦ same
+        | inr other ↦ absurd (broken i x at (length x.writes) (length (output_types t x.task)) (inr (reads_same i x at, refl, refl, other)))
+      ];
+    }
+  where
+    broken : (i : ℕ) (x : Inv) → slice_get t.invs i ≡ Some x → (have need : ℕ) → CountsDiffer t x have need → ⊥
+    broken i x at have need differ =
+        let inv = all_at (IsInvInRange t) t.invs r.invs i x at in
+        let m = item_at t.modes x.mode inv.owner in
+        kept Ends (record { mode = x.mode; inv = Some i; part = Itself }) have need (omega (arith, least)) (m.0, m.1, (x, at, refl, differ))
+
+    reads_same : (i : ℕ) (x : Inv) → slice_get t.invs i ≡ Some x → length x.reads ≡ length (input_types t x.task)
+    reads_same i x at = elim (equal_or (length x.reads) (length (input_types t x.task))) [
+      | inl same ↦ same
+      | inr other ↦ absurd (broken i x at (length x.reads) (length (input_types t x.task)) (inl (refl, refl, other)))
+    ]
+
+-- ---- offsets
+
+or_cases : (a b : Bool) → (a || b) ≡ true → (a ≡ true) ⊎ (b ≡ true)
+or_cases true b e = inl refl
+or_cases false b e = inr e
+
+and_cases : (a b : Bool) → (a && b) ≡ true → (a ≡ true) × (b ≡ true)
+and_cases true true e = (refl, refl)
+and_cases true false e = absurd (let z : ⊥ = cc in z)
+and_cases false b e = absurd (let z : ⊥ = cc in z)
+
+holds_more : (o : ℕ) (xs ys : List ℕ) → holds o (xs ++ ys) ≡ true → (holds o xs ≡ true) ⊎ (holds o ys ≡ true)
+holds_more o [] ys e = inr e
+holds_more o (x ∷ xs) ys e = elim (or_cases (eqb x o) (holds o (xs ++ ys)) e) [
+  | inl h ↦ inl (ap (λ b. b || holds o xs) h)
+  | inr h ↦ elim (holds_more o xs ys h) [ inl g ↦ inl (both (eqb x o) (holds o xs) g) | inr g ↦ inr g ]
+]
+  where
+    both : (a b : Bool) → b ≡ true → (a || b) ≡ true
+    both true b e = refl
+    both false b e = e
+
+-- an offset of the invocations of a mode is one of an invocation
+holds_joined : (o : ℕ) (f : Inv → List ℕ) (xs : List Inv) → holds o (joined f xs) ≡ true → (i : ℕ) × (x : Inv) × (slice_get xs i ≡ Some x) × (holds o (f x) ≡ true)
+holds_joined o f [] e = absurd (let z : ⊥ = cc in z)
+holds_joined o f (x ∷ xs) e = elim (holds_more o (f x) (joined f xs) e) [
+  | inl h ↦ (0, x, refl, h)
+  | inr h ↦ (let r = holds_joined o f xs h in (suc r.0, r.1, r.2, r.3))
+]
+
+-- an offset of ends is that of an end
+holds_ends : (t : Tables) (o : ℕ) (ends : List End) → holds o (offsets t ends) ≡ true → (j : ℕ) × (c : ℕ) × (n : ℕ) × (slice_get ends j ≡ Some (E.Comm c n)) × (o ≡ n * comm_period t c)
+holds_ends t o [] e = absurd (let z : ⊥ = cc in z)
+holds_ends t o (E.Port p ∷ ends) e = let r = holds_ends t o ends e in (suc r.0, r.1, r.2, r.3, r.4)
+holds_ends t o (E.Comm c n ∷ ends) e = elim (or_cases (eqb (n * comm_period t c) o) (holds o (offsets t ends)) e) [
+  | inl h ↦ (0, c, n, refl, sym (eqb-true (n * comm_period t c) o h))
+  | inr h ↦ (let r = holds_ends t o ends h in (suc r.0, r.1, r.2, r.3, r.4))
+]
+
+holds_cond : (o : ℕ) (b : Bool) (xs : List ℕ) → holds o (cond b xs []) ≡ true → (b ≡ true) × (holds o xs ≡ true)
+holds_cond o true xs e = (refl, e)
+holds_cond o false xs e = absurd (let z : ⊥ = cc in z)
+
+counts_mode : (t : Tables) (m : ℕ) (x : Inv) → counts t m x ≡ true → m ≡ x.mode
+counts_mode t m x e = sym (eqb-true x.mode m (and_cases (eqb x.mode m) (is_concrete t x) e).0)
+
+pub writes_within : (t : Tables) (last : ℕ) → 4 ≤ last → KeptTo t last → (m o : ℕ) → m < length t.modes → holds o (phase_offsets t m 1) ≡ true → (0 < o) × (o ≤ mode_period t m)
+writes_within t last least kept m o inside there =
+    let v = holds_joined o (counted_in t m 1) t.invs there in
+    let c = holds_cond o (counts t m v.1) (offsets t v.1.writes) v.3 in
+    let e = holds_ends t o v.1.writes c.1 in
+    let mode : m ≡ v.1.mode = counts_mode t m v.1 c.0 in
+    let x = item_at t.modes m inside in
+    let no : (0 ≡ o) ⊎ (mode_period t m < o) → ⊥ = λ h.
+    kept Offsets (record { mode = m; inv = Some v.0; part = Output e.0 }) o (mode_period t m) (omega (arith, least))
+    (x.0, x.1, (v.1, v.2, sym mode, (E.Comm e.1 e.2, e.3, (e.4, ap (mode_period t) mode, elim h [ inl z ↦ inl (sym z) | inr z ↦ inr z ])))) in
+    (by_zero o no, by_most o (mode_period t m) no)
+  where
+    by_zero : (a : ℕ) → ((0 ≡ a) ⊎ (mode_period t m < a) → ⊥) → 0 < a
+    by_zero zero h = absurd (h (inl refl))
+    by_zero (suc a) h = omega arith
+
+    split : (a b : ℕ) → (a ≤ b) ⊎ (b < a)
+    split a b = grind arith
+
+    by_most : (a b : ℕ) → ((0 ≡ a) ⊎ (b < a) → ⊥) → a ≤ b
+    by_most a b h = elim (split a b) [ inl g ↦ g | inr g ↦ absurd (h (inr g)) ]
+
+pub reads_within : (t : Tables) (last : ℕ) → 4 ≤ last → AreInRange t → KeptTo t last → (m o : ℕ) → m < length t.modes → holds o (phase_offsets t m 3) ≡ true → o < mode_period t m
+reads_within t last least r kept m o inside there =
+    let v = holds_joined o (counted_in t m 3) t.invs there in
+    let c = holds_cond o (counts t m v.1) (release t v.1 ∷ offsets t v.1.reads) v.3 in
+    let mode : m ≡ v.1.mode = counts_mode t m v.1 c.0 in
+    elim (or_cases (eqb (release t v.1) o) (holds o (offsets t v.1.reads)) c.1) [
+      | inl at_release ↦ subst (λ n. n < mode_period t m) (eqb-true (release t v.1) o at_release) (of_release v.0 v.1 v.2 mode)
+      | inr of_end ↦ of_read v.0 v.1 v.2 mode o of_end
+    ]
+  where
+    split : (a b : ℕ) → (a < b) ⊎ (b ≤ a)
+    split a b = grind arith
+
+    of_read : (i : ℕ) (x : Inv) → slice_get t.invs i ≡ Some x → m ≡ x.mode → (a : ℕ) → holds a (offsets t x.reads) ≡ true → a < mode_period t m
+    of_read i x at mode a h =
+        let e = holds_ends t a x.reads h in
+        let y = item_at t.modes m inside in
+        elim (split a (mode_period t m)) [
+          | inl less ↦ less
+          | inr late ↦
+              absurd (kept Offsets (record { mode = m; inv = Some i; part = Input e.0 }) a (mode_period t m) (omega (arith, least))
+              (y.0, y.1, (x, at, sym mode, (E.Comm e.1 e.2, e.3, (e.4, ap (mode_period t) mode, late)))))
+        ]
+
+    -- the greatest of offsets is the first, or one of them
+    greatest_is : (a : ℕ) (xs : List ℕ) → (greatest a xs ≡ a) ⊎ (holds (greatest a xs) xs ≡ true)
+    greatest_is a [] = inl refl
+    greatest_is a (y ∷ ys) = elim (greatest_is (max a y) ys) [
+      | inl e ↦ elim (either_max a y) [
+        | inl z ↦ inl (e ∙ z)
+        | inr z ↦ inr (ap (λ b. b || holds (greatest (max a y) ys) ys) (eq-eqb y (greatest (max a y) ys) (sym (e ∙ z))))
+      ]
+      | inr h ↦ inr (both (eqb y (greatest (max a y) ys)) (holds (greatest (max a y) ys) ys) h)
+    ]
+      where
+        either_max : (a b : ℕ) → (max a b ≡ a) ⊎ (max a b ≡ b)
+        either_max a b = grind arith
+
+        both : (a b : Bool) → b ≡ true → (a || b) ≡ true
+        both true b e = refl
+        both false b e = e
+
+    of_release : (i : ℕ) (x : Inv) → slice_get t.invs i ≡ Some x → m ≡ x.mode → release t x < mode_period t m
+    of_release i x at mode = elim (greatest_is 0 (offsets t x.reads)) [
+      | inl none ↦ (let some = positive t m r inside in subst (λ n. n < mode_period t m) (sym none) some)
+      | inr one ↦ of_read i x at mode (release t x) one
+    ]
+
+-- ---- all together
+
+pub sound : (t : Tables) (code : ECode) (last : ℕ) → 4 ≤ last → AreInRange t → KeptTo t last → departure t code ≡ None → Sound t code
+sound t code last least r kept spelled =
+    record {
+      ranges = r;
+      reads = λ m inside. spelled_reads t code m spelled inside;
+      periods = same_periods t last (omega (arith, least)) kept;
+      writes_within = writes_within t last least kept;
+      reads_within = reads_within t last least r kept;
+    }
+
+pub phase_is : (phase : ℕ) → (1 ≤ phase) × (phase ≤ 3) → IsPhase phase
+phase_is zero h = absurd (omega (arith, h.0))
+phase_is (suc zero) h = inl refl
+phase_is (suc (suc zero)) h = inr (inl refl)
+phase_is (suc (suc (suc zero))) h = inr (inr refl)
+phase_is (suc (suc (suc (suc n)))) h = absurd (omega (arith, h.1))
+
+-- one call, by what is asked of tables and code
+pub step_onward : (t : Tables) (code : ECode) (now phase : ℕ) (values : List ℤ) (m after : Standing) (result : Option EDone) → AreInRange t → KeptTo t 12 → departure t code ≡ None → (1 ≤ phase) × (phase ≤ 3) →
+    result ≡ done_in code phase now m → after ≡ standing_after t code values phase now m result →
+    (es : List Event) → (done rest : List Done) → (phase ≡ 2 → values ≡ (state t es now).values) → Midway t code es now phase m done rest → Onward t code es now phase after done rest result
+step_onward t code now phase values m after result r kept spelled p is next es done rest same mid =
+    let one = call_onward t code es now phase values m done rest (sound t code 12 (omega arith) r kept spelled) (phase_is phase p) (λ e. same (eqb-true phase 2 e)) mid in
+    let two : Onward t code es now phase (standing_after t code values phase now m result) done rest result = subst (λ o. Onward t code es now phase (standing_after t code values phase now m o) done rest o) (sym is) one in
+    subst (λ z. Onward t code es now phase z done rest result) (sym next) two

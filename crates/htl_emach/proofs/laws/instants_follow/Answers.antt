@@ -1,0 +1,8 @@
+use Rattle.std.proofs.Common.{arith}
+use Rattle.htl_ecode.proofs.SpellingLaws.{spelled_departs_not}
+use Rattle.htl_emach.proofs.Instants.{passes_instant}
+use Rattle.htl_emach.proofs.Soundness.{sound}
+use Rattle.htl_emach.proofs.laws.instants_follow.Goals as goal
+
+pub returns : goal.returns
+returns c = λ t code es now r kept spelled. passes_instant t code es now (sound t code 12 (omega arith) r kept (spelled_departs_not t code spelled))

@@ -1,0 +1,11 @@
+pub mod Contents
+pub mod Shapes
+pub mod Calendars
+pub mod Due
+pub mod Ready
+pub mod Leading
+pub mod Pending
+pub mod Following
+pub mod Safety
+pub mod Laws
+pub mod Samples
