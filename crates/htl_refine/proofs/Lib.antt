@@ -1,0 +1,20 @@
+pub mod Chains
+pub mod Exact
+mod Examples
+pub mod Inherit
+pub mod Kept
+pub mod Members
+pub mod OneFault
+pub mod OnePassLaws
+pub mod OneSelection
+pub mod OrderLaws
+pub mod Positions
+pub mod PrecedenceLaws
+pub mod RefiningLaws
+pub mod RootSelection
+pub mod RoundLaws
+pub mod RuleOrder
+pub mod SampleFits
+pub mod SearchLaws
+pub mod SelectedLaws
+pub mod StateLaws

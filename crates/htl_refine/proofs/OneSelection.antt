@@ -1,0 +1,119 @@
+-- A selection of running modes has one root selection.
+use Rattle.std.proofs.Common.{◌≡◌, ◌≤◌, ◌<◌, ℕ, zero, suc, ◌+◌, ◌*◌, ◌/◌, ◌%◌, Bool, true, false, cond, eqb, List, [], ◌∷◌, length, get_or, drop, Option, Some, None, refl, sym, ◌∙◌, ap, subst, arith, add-one}
+use Rattle.std.specs.Prelude.{slice_get}
+use Rattle.std.proofs.Math.Nat.{div-add-mod, div-lt_iff_lt-mul, mod-lt, mod-eq_of_lt, mul_comm}
+use Rattle.std.proofs.lemmas.Bool.Decides.{nat_tests}
+use Rattle.htl_model.specs.declared.parts.Module.{Module}
+use Rattle.htl_model.specs.Lists.{places_from}
+use Rattle.htl_model.specs.Ranges.{AreInRange}
+use Rattle.htl_model.specs.Selections.{is_root, mode_of_module, modes_of, choices_from, selection_count}
+use Rattle.htl_model.specs.Tables.{Tables}
+use Rattle.htl_model.proofs.SelectionLaws.{modes_some}
+use Rattle.htl_form.proofs.TestLaws.{equal}
+use Rattle.std.proofs.lemmas.Option.{slice_get_within}
+use Rattle.htl_refine.specs.ConcreteJobs.{IsOfSelection}
+use Rattle.htl_refine.specs.Roots.{place_among, entry_place, selection_from, selection_of}
+use Rattle.htl_model.specs.Selected.{entry}
+use Rattle.htl_refine.proofs.Positions.{rootless}
+use Rattle.htl_refine.proofs.RootSelection.{factor, multiple, later_digit, digit_at, roots_some}
+
+-- ---- the place of an item among places
+
+above : {A : Type 0} (test : A → Bool) (k : ℕ) (xs : List A) (d : ℕ) → d < length (places_from test k xs) → k ≤ get_or (places_from test k xs) d 0
+above test k [] d h = absurd (omega arith)
+above test k (x ∷ xs) d h = by (test x) d (λ i below. above test (suc k) xs i below) h
+  where
+    by : (b : Bool) (i : ℕ) → ((i : ℕ) → i < length (places_from test (suc k) xs) → suc k ≤ get_or (places_from test (suc k) xs) i 0)
+        → i < length (cond b (k ∷ places_from test (suc k) xs) (places_from test (suc k) xs)) → k ≤ get_or (cond b (k ∷ places_from test (suc k) xs) (places_from test (suc k) xs)) i 0
+    by true zero later f = omega arith
+    by true (suc i) later f = omega (arith, later i (omega arith))
+    by false i later f = omega (arith, later i f)
+
+place_is : {A : Type 0} (test : A → Bool) (k : ℕ) (xs : List A) (d : ℕ) → d < length (places_from test k xs) → place_among (get_or (places_from test k xs) d 0) (places_from test k xs) ≡ d
+place_is test k [] d h = absurd (omega arith)
+place_is test k (x ∷ xs) d h = by (test x) d (λ i below. place_is test (suc k) xs i below) h
+  where
+    other : (a b : ℕ) → suc a ≤ b → eqb a b ≡ false
+    other a b h = grind (arith, nat_tests)
+
+    by : (b : Bool) (i : ℕ) → ((i : ℕ) → i < length (places_from test (suc k) xs) → place_among (get_or (places_from test (suc k) xs) i 0) (places_from test (suc k) xs) ≡ i)
+        → i < length (cond b (k ∷ places_from test (suc k) xs) (places_from test (suc k) xs))
+        → place_among (get_or (cond b (k ∷ places_from test (suc k) xs) (places_from test (suc k) xs)) i 0) (cond b (k ∷ places_from test (suc k) xs) (places_from test (suc k) xs)) ≡ i
+    by true zero later f = ap (λ c. cond c 0 (suc (place_among k (places_from test (suc k) xs)))) (equal k k refl)
+    by true (suc i) later f =
+        let y = get_or (places_from test (suc k) xs) i 0 in
+        ap (λ c. cond c 0 (suc (place_among y (places_from test (suc k) xs)))) (other k y (above test (suc k) xs i (omega arith))) ∙ ap suc (later i (omega arith))
+    by false i later f = later i f
+
+-- ---- a number by its digits
+
+module _ (t : Tables) (modes : List (Option ℕ)) where
+  -- the digits of a number at the root modules from number k on are the places of these modes
+  abbrev HasDigits : ℕ → ℕ → List Module → Type 0
+  HasDigits n k xs = (j : ℕ) (x : Module) → slice_get xs j ≡ Some x → is_root x ≡ true → digit_at t modes n (k + j) xs j ≡ entry_place t modes (k + j)
+
+  abbrev IsMade : ℕ → List Module → Type 0
+  IsMade k xs = (n : ℕ) → n < choices_from t k xs → HasDigits n k xs → n ≡ selection_from t modes k xs
+
+  -- one digit more
+  made_root : (k n : ℕ) (x : Module) (xs : List Module) → is_root x ≡ true → IsMade (suc k) xs → n < length (modes_of t k) * choices_from t (suc k) xs → HasDigits n k (x ∷ xs)
+      → n ≡ entry_place t modes k * choices_from t (suc k) xs + selection_from t modes (suc k) xs
+  made_root k n x xs root later less digits =
+      let l = length (modes_of t k) in
+      let c = choices_from t (suc k) xs in
+      let some : 0 < c = factor l c (omega (arith, less)) in
+      let whole : c * (n / c) + n % c ≡ n = div-add-mod n c in
+      let turn : c * (n / c) ≡ n / c * c = mul_comm c (n / c) in
+      let high : n / c < l = (div-lt_iff_lt-mul {k = c} {x = n} {y = l} some).1 less in
+      let zero_add : k + 0 ≡ k = omega arith in
+      let first : n / c % l ≡ entry_place t modes k = subst (λ u. digit_at t modes n u (x ∷ xs) 0 ≡ entry_place t modes u) zero_add (digits 0 x refl root) in
+      let digit : n / c ≡ entry_place t modes k = sym (mod-eq_of_lt high) ∙ first in
+      let low : n % c ≡ selection_from t modes (suc k) xs = later (n % c) (mod-lt n some) (λ j y at pass.
+      let m = multiple t modes (suc k) xs j y at pass in
+      let next : k + suc j ≡ suc k + j = omega arith in
+      let u = suc k + j in
+      let rest = choices_from t (suc u) (drop (suc j) xs) in
+      let same : digit_at t modes n u (x ∷ xs) (suc j) ≡ entry_place t modes u = subst (λ v. digit_at t modes n v (x ∷ xs) (suc j) ≡ entry_place t modes v) next (digits (suc j) y at pass) in
+      let parts : n / c * (m.0 * length (modes_of t u) * rest) + n % c ≡ n = ap (λ w. n / c * w + n % c) (sym m.1) ∙ ap (λ w. w + n % c) (sym turn) ∙ whole in
+      sym (later_digit t modes (n / c) m.0 (length (modes_of t u)) rest (n % c) (factor (m.0 * length (modes_of t u)) rest (subst (λ w. 0 < w) m.1 some)))
+      ∙ ap (λ w. w / rest % length (modes_of t u)) parts ∙ same) in
+      sym whole ∙ ap (λ w. w + n % c) turn ∙ ap (λ w. w * c + n % c) digit ∙ ap (λ w. entry_place t modes k * c + w) low
+
+  made : (k : ℕ) (xs : List Module) → IsMade k xs
+  made k [] n less digits = omega arith
+  made k (x ∷ xs) n less digits = by (made (suc k) xs) (is_root x) refl less
+    where
+      by : IsMade (suc k) xs → (b : Bool) → is_root x ≡ b → n < cond b (length (modes_of t k)) 1 * choices_from t (suc k) xs
+          → n ≡ cond b (entry_place t modes k * choices_from t (suc k) xs) 0 + selection_from t modes (suc k) xs
+      by later true is f = made_root k n x xs is later f digits
+      by later false is f = later n (omega arith) (λ j y at pass.
+          let next : k + suc j ≡ suc k + j = omega arith in
+          subst (λ u. digit_at t modes n u (x ∷ xs) (suc j) ≡ entry_place t modes u) next (digits (suc j) y at pass)) ∙ zero_plus (selection_from t modes (suc k) xs)
+        where
+          zero_plus : (m : ℕ) → m ≡ 0 + m
+          zero_plus m = omega arith
+
+  -- the root selection with these root modes
+  pub one_selection : AreInRange t → 0 < length t.modules → (sel : ℕ) → sel < selection_count t → IsOfSelection t sel modes → sel ≡ selection_of t modes
+  one_selection range some sel less roots = made 0 t.modules sel below digits
+    where
+      below : sel < choices_from t 0 t.modules
+      below =
+          let root = roots_some t range some in
+          let count : selection_count t ≡ choices_from t 0 t.modules = ap (λ (us : List ℕ). elim us [ [] ↦ 0 | v ∷ vs ↦ choices_from t 0 t.modules ]) root.2 in
+          omega (arith, count, less)
+
+      digits : HasDigits sel 0 t.modules
+      digits j x at pass =
+          let zero_add : j ≡ 0 + j = omega arith in
+          subst (λ u. digit_at t modes sel u t.modules j ≡ entry_place t modes u) zero_add (here j x at pass)
+        where
+          here : (u : ℕ) (x : Module) → slice_get t.modules u ≡ Some x → is_root x ≡ true → digit_at t modes sel u t.modules u ≡ entry_place t modes u
+          here u x at pass =
+              let l = length (modes_of t u) in
+              let d = digit_at t modes sel u t.modules u in
+              let more : 0 < l = modes_some t u range (slice_get_within t.modules u x at) in
+              let within : d < l = mod-lt (sel / choices_from t (suc u) (drop (suc u) t.modules)) more in
+              let mode : entry modes u ≡ Some (get_or (modes_of t u) d 0) =
+              roots u x at (rootless x pass) ∙ ap (λ (n : ℕ). Some (get_or (modes_of t u) (sel / choices_from t n (drop n t.modules) % l) 0)) (add-one u) in
+              sym (ap (λ (o : Option ℕ). elim o [ Some m ↦ place_among m (modes_of t u) | None ↦ 0 ]) mode ∙ place_is (mode_of_module u) 0 t.modes d within)

@@ -1,0 +1,368 @@
+-- The tests of the rules on refinement find exactly what the words say.
+use Rattle.std.proofs.Common.{◌≡◌, ◌≢◌, ◌≤◌, ◌<◌, ◌⊎◌, ℕ, Bool, true, false, not, ◌&&◌, ◌||◌, cond, eqb, ltb, length, Option, Some, None, refl, sym, ◌∙◌, ap, subst, arith, inl, inr}
+use Rattle.std.specs.Prelude.{slice_get}
+use Rattle.std.specs.Bool.{Decides}
+use Rattle.std.specs.List.{list_any}
+use Rattle.std.proofs.lemmas.Bool.Decides.{nat_tests}
+use Rattle.htl_model.specs.declared.parts.Inv.{Inv}
+use Rattle.htl_model.specs.declared.parts.End.{End}
+use Rattle.htl_model.specs.declared.parts.End.TheVariants as E
+use Rattle.htl_model.specs.Tables.{Tables, mode_module, is_concrete, task_worst, release, window_end}
+use Rattle.htl_model.specs.Ranges.{AreInRange}
+use Rattle.htl_model.specs.Broken.{KeptTo}
+use Rattle.htl_model.specs.PortOrder.{Leads, feeds}
+use Rattle.htl_model.specs.PortWriters.{is_port}
+use Rattle.htl_model.specs.RefinementRules.{IsRefined, StandsUnrefined, IsAbstractIn, ParentFault, ParentWrong, SharesParent, SecondChild, AsksMore, Exceeds, IsWriterOf, Unordered}
+use Rattle.htl_model.specs.SecondWriters.{parent_mode}
+use Rattle.htl_form.specs.First.{or_else}
+use Rattle.htl_form.specs.Found.{unless}
+use Rattle.htl_form.proofs.AbstractLaws.{some_place, place_some}
+use Rattle.htl_form.proofs.EndLaws.{finds_or_else}
+use Rattle.htl_form.proofs.Finding.{Finds, finds_nothing, finds_unless}
+use Rattle.htl_form.proofs.FirstLaws.{none_at, found_at, to_none, to_found}
+use Rattle.htl_form.proofs.PartLaws.{none_some, taken}
+use Rattle.htl_form.proofs.TestLaws.{both, equal, same_number, not_both}
+use Rattle.std.proofs.lemmas.Option.{slice_get_within}
+use Rattle.htl_model.specs.Selected.{is_at}
+use Rattle.htl_refine.specs.Refining.{refines, is_refined, place_fault, is_abstract_at, parent_fault_by, parent_fault, clashes, clash_before, first_clash, told_clash, shared_fault_by, shared_fault, unless_more, unless_less, excess, excess_at, excess_by, excess_fault, writers_parent, writer_parent, precedes, order_fault_by, order_fault}
+use Rattle.htl_refine.proofs.Kept.{one_writer}
+use Rattle.htl_refine.proofs.PrecedenceLaws.{precedes_is}
+use Rattle.htl_refine.proofs.SelectedLaws.{at_number, number_at}
+
+off : (b : Bool) → (b ≡ true → ⊥) → b ≡ false
+off true h = absurd (h refl)
+off false h = refl
+
+-- ---- 13
+
+refined_is : (t : Tables) (m : ℕ) → Decides (is_refined t m) (IsRefined t m)
+refined_is t m = (
+  λ h. let p = some_place (refines m) t.modules h in record { number = p.0; «module» = p.1; at = p.2; refines = at_number p.1.parent m p.3 },
+  λ r. place_some (refines m) t.modules r.number r.«module» r.at (number_at r.«module».parent m r.refines),
+)
+
+neither : (a b : Bool) → (a || b) ≡ false → (a ≡ false) × (b ≡ false)
+neither true b h = cc
+neither false b h = (refl, h)
+
+pub place_is : (t : Tables) (i : Inv) → Finds (place_fault t i) (StandsUnrefined t i)
+place_is t i =
+    finds_unless (is_concrete t i || is_refined t i.mode) 0 1 (StandsUnrefined t i)
+    (λ e. (let two = neither (is_concrete t i) (is_refined t i.mode) e in (refl, refl, two.0, λ r. not_both (is_refined t i.mode) ((refined_is t i.mode).1 r) two.1)))
+    (λ h n p. (fold p.2 (off (is_refined t i.mode) (λ e. p.3 ((refined_is t i.mode).0 e))), p.0, p.1))
+  where
+    fold : is_concrete t i ≡ false → is_refined t i.mode ≡ false → (is_concrete t i || is_refined t i.mode) ≡ false
+    fold a b = ap (λ c. c || is_refined t i.mode) a ∙ b
+
+-- ---- 14
+
+on : (b : Bool) → not b ≡ true → b ≡ false
+on true h = cc
+on false h = refl
+
+abstract_is : (t : Tables) (m p : ℕ) → Decides (is_abstract_at t m (slice_get t.invs p)) (IsAbstractIn t m p)
+abstract_is t m p = by (slice_get t.invs p) refl
+  where
+    by : (o : Option Inv) → slice_get t.invs p ≡ o → Decides (is_abstract_at t m o) (IsAbstractIn t m p)
+    by (Some y) e = (
+      λ h. let two = both (not (is_concrete t y)) (eqb y.mode m) h in record { parent = y; at = e; abstract = on (is_concrete t y) two.0; mode = same_number y.mode m two.1 },
+      λ a.
+          let item : Some y ≡ Some a.parent = sym e ∙ a.at in
+          let is : a.parent ≡ y = cc in
+          ap (λ b. not b && eqb y.mode m) (subst (λ (z : Inv). is_concrete t z ≡ false) is a.abstract) ∙ equal y.mode m (subst (λ (z : Inv). z.mode ≡ m) is a.mode),
+    )
+    by None e = (λ h. cc, λ a. absurd (none_some a.parent (sym e ∙ a.at)))
+
+parent_by_is : (t : Tables) (o q : Option ℕ) → Finds (parent_fault_by t o q) (ParentFault t o q)
+parent_by_is t (Some m) (Some p) =
+    finds_unless (is_abstract_at t m (slice_get t.invs p)) 2 1 (ParentFault t (Some m) (Some p))
+    (λ e. (refl, (refl, λ a. not_both (is_abstract_at t m (slice_get t.invs p)) ((abstract_is t m p).1 a) e)))
+    (λ h n b. (off (is_abstract_at t m (slice_get t.invs p)) (λ e. b.1.1 ((abstract_is t m p).0 e)), b.1.0, b.0))
+parent_by_is t (Some m) None = finds_unless false 0 1 (ParentFault t (Some m) None) (λ e. (refl, refl)) (λ h n b. (refl, b.1, b.0))
+parent_by_is t None (Some p) = finds_unless false 2 0 (ParentFault t None (Some p)) (λ e. (refl, refl)) (λ h n b. (refl, b.1, b.0))
+parent_by_is t None None = finds_nothing
+
+pub parent_is : (t : Tables) (i : Inv) → Finds (parent_fault t i) (ParentWrong t i)
+parent_is t i = parent_by_is t (parent_mode t i.mode) i.parent
+
+-- ---- 15
+
+either_clash : (a b : Bool) → (not a || b) ≡ true → (a ≡ false) ⊎ (b ≡ true)
+either_clash true b h = inr h
+either_clash false b h = inl refl
+
+module _ (t : Tables) (k : ℕ) (i : Inv) (p : ℕ) where
+  clash_shares : (l : ℕ) (x : Inv) (y : ℕ) → slice_get t.invs l ≡ Some x → clash_before t k i p l x ≡ Some y → (l ≡ y) × SharesParent t k i p l
+  clash_shares l x y at e =
+      let c = taken (ltb l k && clashes t i p x) (Some l) y e in
+      let two = both (ltb l k) (clashes t i p x) c.0 in
+      let three = both (is_at x.parent p) _ two.1 in
+      let number : l ≡ y = (let same = c.1 in cc) in (
+        number,
+        record {
+          earlier = grind (arith, nat_tests);
+          other = x;
+          at = at;
+          parent = at_number x.parent p three.0;
+          clash = elim (either_clash (eqb (mode_module t x.mode) (mode_module t i.mode)) (eqb x.mode i.mode) three.1) [
+            | inl h ↦ inl (apart (mode_module t x.mode) (mode_module t i.mode) h)
+            | inr h ↦ inr (same_number x.mode i.mode h)
+          ];
+        },
+      )
+    where
+      apart : (a b : ℕ) → eqb a b ≡ false → a ≢ b
+      apart a b h = grind (arith, nat_tests)
+
+  shares_clash : (l : ℕ) (s : SharesParent t k i p l) → clash_before t k i p l s.other ≡ Some l
+  shares_clash l s =
+      ap (λ b. cond b (Some l) None)
+      (ap (λ b. b && clashes t i p s.other) (less l k s.earlier)
+      ∙ ap (λ b. b && (not (eqb (mode_module t s.other.mode) (mode_module t i.mode)) || eqb s.other.mode i.mode)) (number_at s.other.parent p s.parent)
+      ∙ by s.clash)
+    where
+      less : (a b : ℕ) → a < b → ltb a b ≡ true
+      less a b h = grind (arith, nat_tests)
+
+      differ : (a b : ℕ) (c : Bool) → a ≢ b → (not (eqb a b) || c) ≡ true
+      differ a b c h = grind (arith, nat_tests)
+
+      right : (a b : Bool) → b ≡ true → (a || b) ≡ true
+      right true b h = refl
+      right false b h = h
+
+      by : (mode_module t s.other.mode ≢ mode_module t i.mode) ⊎ (s.other.mode ≡ i.mode)
+          → (not (eqb (mode_module t s.other.mode) (mode_module t i.mode)) || eqb s.other.mode i.mode) ≡ true
+      by (inl h) = differ (mode_module t s.other.mode) (mode_module t i.mode) (eqb s.other.mode i.mode) h
+      by (inr h) = right (not (eqb (mode_module t s.other.mode) (mode_module t i.mode))) (eqb s.other.mode i.mode) (equal s.other.mode i.mode h)
+
+  told : (o : Option ℕ) (h n : ℕ) → told_clash p o ≡ Some (h, n) → (o ≡ Some h) × (p ≡ n)
+  told (Some l) h n e =
+      let pair : ◌≡◌ {A = ℕ × ℕ} (l, p) (h, n) = cc in
+      (ap (λ (q : ℕ × ℕ). Some q.0) pair, ap (λ (q : ℕ × ℕ). q.1) pair)
+  told None h n e = absurd (none_some (h, n) e)
+
+  some_inner : (l h : ℕ) → l ≡ h → ◌≡◌ {A = Option ℕ} (Some l) (Some h)
+  some_inner l h e = ap (λ (x : ℕ). Some x) e
+
+  first_is : (l : ℕ) → SharesParent t k i p l → ((q : ℕ) → q < l → SharesParent t k i p q → ⊥) → first_clash t k i p ≡ Some l
+  first_is l s least = by (first_clash t k i p) refl
+    where
+      by : (o : Option ℕ) → first_clash t k i p ≡ o → first_clash t k i p ≡ Some l
+      by None e = absurd (none_some l (sym (none_at (clash_before t k i p) t.invs e l s.other s.at) ∙ shares_clash l s))
+      by (Some y) e =
+          let g = found_at (clash_before t k i p) t.invs y e in
+          let c = clash_shares g.place g.item y g.at g.gives in
+          let order : (y < l) ⊎ ((y ≡ l) ⊎ (l < y)) = cases y l in
+          elim order [
+            | inl less ↦ absurd (least y less (subst (SharesParent t k i p) c.0 c.1))
+            | inr (inl same) ↦ e ∙ some_inner y l same
+            | inr (inr more) ↦ absurd (none_some l (sym (g.before l s.other (omega (arith, c.0)) s.at) ∙ shares_clash l s))
+          ]
+        where
+          cases : (y l : ℕ) → (y < l) ⊎ ((y ≡ l) ⊎ (l < y))
+          cases y l = grind arith
+
+  shares_found : (h : ℕ) → first_clash t k i p ≡ Some h → SharesParent t k i p h × ((l : ℕ) → l < h → SharesParent t k i p l → ⊥)
+  shares_found h e =
+      let g = found_at (clash_before t k i p) t.invs h e in
+      let c = clash_shares g.place g.item h g.at g.gives in (
+        subst (SharesParent t k i p) c.0 c.1,
+        λ l less s. none_some l (sym (g.before l s.other (omega (arith, c.0)) s.at) ∙ shares_clash l s),
+      )
+
+  -- of those that share the parent wrongly there is a first
+  pub first_sharing : (l : ℕ) → SharesParent t k i p l → (h : ℕ) × SharesParent t k i p h × ((q : ℕ) → q < h → SharesParent t k i p q → ⊥)
+  first_sharing l s = by (first_clash t k i p) refl
+    where
+      by : (o : Option ℕ) → first_clash t k i p ≡ o → (h : ℕ) × SharesParent t k i p h × ((q : ℕ) → q < h → SharesParent t k i p q → ⊥)
+      by None e = absurd (none_some l (sym (none_at (clash_before t k i p) t.invs e l s.other s.at) ∙ shares_clash l s))
+      by (Some h) e = let f = shares_found h e in (h, f.0, f.1)
+
+shared_by_is : (t : Tables) (k : ℕ) (i : Inv) (o : Option ℕ) → i.parent ≡ o → Finds (shared_fault_by t k i o) (SecondChild t k i)
+shared_by_is t k i (Some p) is =
+    record {
+      says = λ h n e.
+          let two = told t k i p (first_clash t k i p) h n e in
+          let s = shares_found t k i p h two.0 in
+          subst (λ q. SecondChild t k i h q) two.1 (record { parent = is; shares = s.0; least = s.1 });
+      finds = λ h n c.
+          let item : Some p ≡ Some n = sym is ∙ c.parent in
+          let same : n ≡ p = cc in
+          let first : first_clash t k i p ≡ Some h =
+          first_is t k i p h (subst (λ q. SharesParent t k i q h) same c.shares) (λ l less s. c.least l less (subst (λ q. SharesParent t k i q l) (sym same) s)) in
+          ap (told_clash p) first ∙ ap (λ (q : ℕ). Some (h, q)) (sym same);
+    }
+shared_by_is t k i None is =
+    record { says = λ h n e. absurd (none_some (h, n) e); finds = λ h n c. absurd (none_some n (sym is ∙ c.parent)) }
+
+pub shared_is : (t : Tables) (k : ℕ) (i : Inv) → Finds (shared_fault t k i) (SecondChild t k i)
+shared_is t k i = shared_by_is t k i i.parent refl
+
+-- ---- 16, windows and worst cases
+
+more_is : (x y : ℕ) → Finds (unless_more x y) (λ h n. (h ≡ x) × (n ≡ y) × (n < h))
+more_is x y =
+    finds_unless (not (ltb y x)) x y (λ h n. (h ≡ x) × (n ≡ y) × (n < h)) (λ e. (refl, refl, grind (arith, nat_tests)))
+    (λ h n p. (less h n p.0 p.1 p.2, p.0, p.1))
+  where
+    less : (h n : ℕ) → h ≡ x → n ≡ y → n < h → not (ltb y x) ≡ false
+    less h n a b c = grind (arith, nat_tests)
+
+less_is : (x y : ℕ) → Finds (unless_less x y) (λ h n. (h ≡ x) × (n ≡ y) × (h < n))
+less_is x y =
+    finds_unless (not (ltb x y)) x y (λ h n. (h ≡ x) × (n ≡ y) × (h < n)) (λ e. (refl, refl, grind (arith, nat_tests)))
+    (λ h n p. (less h n p.0 p.1 p.2, p.0, p.1))
+  where
+    less : (h n : ℕ) → h ≡ x → n ≡ y → h < n → not (ltb x y) ≡ false
+    less h n a b c = grind (arith, nat_tests)
+
+no_more : (x y : ℕ) → unless_more x y ≡ None → x ≤ y
+no_more x y e = by (ltb y x) refl e
+  where
+    by : (b : Bool) → ltb y x ≡ b → unless (not b) x y ≡ None → x ≤ y
+    by true h f = absurd (none_some (x, y) (sym f))
+    by false h f = grind (arith, nat_tests)
+
+more_none : (x y : ℕ) → x ≤ y → unless_more x y ≡ None
+more_none x y h = ap (λ b. unless (not b) x y) (not_less x y h)
+  where
+    not_less : (x y : ℕ) → x ≤ y → ltb y x ≡ false
+    not_less x y h = grind (arith, nat_tests)
+
+no_less : (x y : ℕ) → unless_less x y ≡ None → y ≤ x
+no_less x y e = by (ltb x y) refl e
+  where
+    by : (b : Bool) → ltb x y ≡ b → unless (not b) x y ≡ None → y ≤ x
+    by true h f = absurd (none_some (x, y) (sym f))
+    by false h f = grind (arith, nat_tests)
+
+less_none : (x y : ℕ) → y ≤ x → unless_less x y ≡ None
+less_none x y h = ap (λ b. unless (not b) x y) (not_less x y h)
+  where
+    not_less : (x y : ℕ) → y ≤ x → ltb x y ≡ false
+    not_less x y h = grind (arith, nat_tests)
+
+module _ (t : Tables) (i y : Inv) where
+  abbrev Later : ℕ → ℕ → Type 0
+  Later h n = (h ≡ release t i) × (n ≡ release t y) × (n < h)
+
+  abbrev Sooner : ℕ → ℕ → Type 0
+  Sooner h n = (h ≡ window_end t i) × (n ≡ window_end t y) × (h < n)
+
+  abbrev Longer : ℕ → ℕ → Type 0
+  Longer h n = (h ≡ task_worst t i.task) × (n ≡ task_worst t y.task) × (n < h)
+
+  abbrev Rest : ℕ → ℕ → Type 0
+  Rest h n = Sooner h n ⊎ ((window_end t y ≤ window_end t i) × Longer h n)
+
+  rest_is : Finds (or_else (unless_less (window_end t i) (window_end t y)) (unless_more (task_worst t i.task) (task_worst t y.task))) Rest
+  rest_is =
+      finds_or_else (unless_less (window_end t i) (window_end t y)) (unless_more (task_worst t i.task) (task_worst t y.task)) Sooner Longer Rest
+      (less_is (window_end t i) (window_end t y)) (more_is (task_worst t i.task) (task_worst t y.task))
+      (λ h n p. inl p) (λ h n e q. inr (no_less (window_end t i) (window_end t y) e, q))
+      (λ h n r. elim r [ inl p ↦ inl p | inr q ↦ inr (less_none (window_end t i) (window_end t y) q.0, q.1) ])
+
+  excess_is : Finds (excess t i y) (AsksMore t i y)
+  excess_is =
+      finds_or_else (unless_more (release t i) (release t y)) _ Later Rest (AsksMore t i y)
+      (more_is (release t i) (release t y)) rest_is
+      (λ h n p. inl p)
+      (λ h n e q. let le = no_more (release t i) (release t y) e in elim q [
+        | inl p ↦ inr (inl (le, p.0, p.1, p.2))
+        | inr p ↦ inr (inr (le, p.0, p.1.0, p.1.1, p.1.2))
+      ])
+      (λ h n r. elim r [
+        | inl p ↦ inl p
+        | inr (inl p) ↦ inr (more_none (release t i) (release t y) p.0, inl (p.1, p.2, p.3))
+        | inr (inr p) ↦ inr (more_none (release t i) (release t y) p.0, inr (p.1, (p.2, p.3, p.4)))
+      ])
+
+excess_by_is : (t : Tables) (i : Inv) (o : Option ℕ) → i.parent ≡ o → Finds (excess_by t i o) (Exceeds t i)
+excess_by_is t i (Some p) is = by (slice_get t.invs p) refl
+  where
+    by : (o : Option Inv) → slice_get t.invs p ≡ o → Finds (excess_at t i o) (Exceeds t i)
+    by (Some y) at =
+        record {
+          says = λ h n e. (p, is, y, at, (excess_is t i y).says h n e);
+          finds = λ h n x.
+              let number : Some x.0 ≡ Some p = sym x.1 ∙ is in
+              let same : x.0 ≡ p = cc in
+              let item : Some x.2 ≡ Some y = sym x.3 ∙ ap (slice_get t.invs) same ∙ at in
+              let inv : x.2 ≡ y = cc in
+              (excess_is t i y).finds h n (subst (λ (z : Inv). AsksMore t i z h n) inv x.4);
+        }
+    by None at =
+        record {
+          says = λ h n e. absurd (none_some (h, n) e);
+          finds = λ h n x.
+              let number : Some x.0 ≡ Some p = sym x.1 ∙ is in
+              let same : x.0 ≡ p = cc in
+              absurd (none_some x.2 (sym at ∙ ap (slice_get t.invs) (sym same) ∙ x.3));
+        }
+excess_by_is t i None is =
+    record { says = λ h n e. absurd (none_some (h, n) e); finds = λ h n x. absurd (none_some x.0 (sym is ∙ x.1)) }
+
+pub exceeds_is : (t : Tables) (i : Inv) → Finds (excess_fault t i) (Exceeds t i)
+exceeds_is t i = excess_by_is t i i.parent refl
+
+-- ---- 16, the order of ports
+
+pub goes : (p : ℕ) (e : End) → is_port p e ≡ true → e ≡ E.Port p
+goes p (E.Comm c n) h = cc
+goes p (E.Port q) h = let same : q ≡ p = same_number q p h in ap E.Port same
+
+parent_found : (t : Tables) (p l a : ℕ) → writers_parent p (slice_get t.invs l) ≡ Some a → IsWriterOf t p a
+parent_found t p l a e = by (slice_get t.invs l) refl e
+  where
+    by : (o : Option Inv) → slice_get t.invs l ≡ o → writers_parent p o ≡ Some a → IsWriterOf t p a
+    by (Some x) at f =
+        let two = taken (list_any (is_port p) x.writes) x.parent a f in
+        let o = some_place (is_port p) x.writes two.0 in
+        record { number = l; writer = x; at = at; place = o.0; writes = o.2 ∙ ap (λ (e : End). Some e) (goes p o.1 o.3); parent = two.1 }
+    by None at f = absurd (none_some a f)
+
+writer_found : (t : Tables) (p a : ℕ) (w : IsWriterOf t p a) → writers_parent p (slice_get t.invs w.number) ≡ Some a
+writer_found t p a w =
+    ap (writers_parent p) w.at
+    ∙ ap (λ b. cond b w.writer.parent None) (place_some (is_port p) w.writer.writes w.place (E.Port p) w.writes (equal p p refl))
+    ∙ w.parent
+
+-- where ports have one writer, the parent that is found is the writer's
+pub writer_parent_is : (t : Tables) (last p a : ℕ) → AreInRange t → KeptTo t last → 8 ≤ last → IsWriterOf t p a → writer_parent t p ≡ Some a
+writer_parent_is t last p a range kept few w = by (writer_parent t p) refl
+  where
+    f : ℕ → Option ℕ
+    f l = writers_parent p (slice_get t.invs l)
+
+    by : (o : Option ℕ) → writer_parent t p ≡ o → writer_parent t p ≡ Some a
+    by None e = absurd (none_some a (sym (to_none f (length t.invs) e w.number (slice_get_within t.invs w.number w.writer w.at)) ∙ writer_found t p a w))
+    by (Some b) e =
+        let g = to_found f (length t.invs) b e in
+        let v = parent_found t p g.0 b g.2 in
+        let same : v.number ≡ w.number = one_writer t last p range kept few v.number v.place w.number w.place (v.writer, v.at, v.writes) (w.writer, w.at, w.writes) in
+        let item : Some v.writer ≡ Some w.writer = sym v.at ∙ ap (slice_get t.invs) same ∙ w.at in
+        let inv : v.writer ≡ w.writer = cc in
+        e ∙ sym v.parent ∙ ap (λ (x : Inv). x.parent) inv ∙ w.parent
+
+pub parent_writer : (t : Tables) (p a : ℕ) → writer_parent t p ≡ Some a → IsWriterOf t p a
+parent_writer t p a e =
+    let g = to_found (λ l. writers_parent p (slice_get t.invs l)) (length t.invs) a e in parent_found t p g.0 a g.2
+
+pub order_is : (t : Tables) (last : ℕ) (i : Inv) (e : End) → AreInRange t → KeptTo t last → 8 ≤ last → Finds (order_fault t i e) (Unordered t i e)
+order_is t last i (E.Comm c n) range kept few = finds_nothing
+order_is t last i (E.Port p) range kept few = by (writer_parent t p) i.parent refl refl
+  where
+    by : (o q : Option ℕ) → writer_parent t p ≡ o → i.parent ≡ q → Finds (order_fault_by t o q) (Unordered t i (E.Port p))
+    by (Some a) (Some b) w is =
+        finds_unless (precedes t a b) a b (Unordered t i (E.Port p))
+        (λ e. (is, parent_writer t p a w, λ l. not_both (precedes t a b) ((precedes_is t a b).1 l) e))
+        (λ h n u.
+        let writer : Some a ≡ Some h = sym w ∙ writer_parent_is t last p h range kept few u.1 in
+        let h_is : h ≡ a = cc in
+        let parent : Some b ≡ Some n = sym is ∙ u.0 in
+        let n_is : n ≡ b = cc in
+        (off (precedes t a b) (λ e. u.2 (subst (λ x. Leads (feeds t) x n) (sym h_is) (subst (λ y. Leads (feeds t) a y) (sym n_is) ((precedes_is t a b).0 e)))), h_is, n_is))
+    by (Some a) None w is = record { says = λ h n e. absurd (none_some (h, n) e); finds = λ h n u. absurd (none_some n (sym is ∙ u.0)) }
+    by None q w is =
+        record { says = λ h n e. absurd (none_some (h, n) e); finds = λ h n u. absurd (none_some h (sym w ∙ writer_parent_is t last p h range kept few u.1)) }

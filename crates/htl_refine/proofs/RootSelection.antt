@@ -1,0 +1,270 @@
+-- Each selection of running modes has a root selection.
+use Rattle.std.proofs.Common.{◌≡◌, ◌≤◌, ◌<◌, ℕ, zero, suc, ◌+◌, ◌*◌, ◌/◌, ◌%◌, Bool, true, false, cond, eqb, List, [], ◌∷◌, length, get_or, drop, drop-cons, Option, Some, None, refl, sym, ◌∙◌, ap, subst, arith, add-one, length-drop}
+use Rattle.std.specs.Prelude.{slice_get}
+use Rattle.std.specs.List.{flat_map}
+use Rattle.std.proofs.Math.Nat.{mul_assoc, add-mul-div_right, add-mul-mod_self_right}
+use Rattle.std.proofs.lemmas.Nat.{div-mul-add}
+use Rattle.std.proofs.Math.Nat.{mod-eq_of_lt}
+use Rattle.htl_model.specs.declared.parts.Module.{Module}
+use Rattle.htl_model.specs.Ranges.{AreInRange}
+use Rattle.htl_model.proofs.SelectionLaws.{choices_some, modes_some, no_modules}
+use Rattle.htl_model.specs.Broken.{KeepsLimits}
+use Rattle.htl_model.specs.Selections.{is_root, root_modules, mode_of_module, modes_of, choices_from, selection_count, positions}
+use Rattle.htl_model.specs.Tables.{Tables}
+use Rattle.htl_form.proofs.PartLaws.{none_some}
+use Rattle.htl_form.proofs.TestLaws.{equal, same_number}
+use Rattle.htl_refine.specs.ConcreteJobs.{running_invs, running_positions, IsOfSelection}
+use Rattle.htl_refine.specs.Roots.{place_among, entry_place, selection_from, selection_of}
+use Rattle.htl_model.specs.Selected.{entry, IsSelection, IsEntry, IsModeOf}
+use Rattle.htl_refine.proofs.Members.{at_place}
+use Rattle.htl_refine.proofs.Positions.{rootless, root_is, same_positions}
+
+-- a factor of a number above 0 is above 0
+pub factor : (e c : ℕ) → 0 < e * c → 0 < c
+factor e zero h = absurd (let none : e * 0 ≡ 0 = omega arith in omega arith)
+factor e (suc c) h = omega arith
+
+-- ---- a place in a list
+
+pub place_found : (m : ℕ) (xs : List ℕ) (r : ℕ) → slice_get xs r ≡ Some m → (place_among m xs < length xs) × (get_or xs (place_among m xs) 0 ≡ m)
+place_found m [] r e = absurd (none_some m e)
+place_found m (x ∷ xs) zero e =
+    let same : x ≡ m = cc in
+    here (eqb x m) (equal x m same) same
+  where
+    here : (b : Bool) → b ≡ true → x ≡ m → (cond b 0 (suc (place_among m xs)) < length (x ∷ xs)) × (get_or (x ∷ xs) (cond b 0 (suc (place_among m xs))) 0 ≡ m)
+    here true p q = (omega arith, q)
+    here false p q = cc
+place_found m (x ∷ xs) (suc r) e = by (eqb x m) refl (place_found m xs r e)
+  where
+    by : (b : Bool) → eqb x m ≡ b → (place_among m xs < length xs) × (get_or xs (place_among m xs) 0 ≡ m)
+        → (cond b 0 (suc (place_among m xs)) < length (x ∷ xs)) × (get_or (x ∷ xs) (cond b 0 (suc (place_among m xs))) 0 ≡ m)
+    by true p later = (omega arith, same_number x m p)
+    by false p later = (omega (arith, later.0), later.1)
+
+module _ (t : Tables) (modes : List (Option ℕ)) where
+  -- the places of root modules from number k on are places of modes
+  abbrev Fits : ℕ → List Module → Type 0
+  Fits k xs = (j : ℕ) (x : Module) → slice_get xs j ≡ Some x → is_root x ≡ true → entry_place t modes (k + j) < length (modes_of t (k + j))
+
+  fits_later : (k : ℕ) (x : Module) (xs : List Module) → Fits k (x ∷ xs) → Fits (suc k) xs
+  fits_later k x xs h j y at root =
+      let next : k + suc j ≡ suc k + j = omega arith in
+      subst (λ n. entry_place t modes n < length (modes_of t n)) next (h (suc j) y at root)
+
+  fits_here : (k : ℕ) (x : Module) (xs : List Module) → Fits k (x ∷ xs) → is_root x ≡ true → entry_place t modes k < length (modes_of t k)
+  fits_here k x xs h root = let zero_add : k + 0 ≡ k = omega arith in subst (λ n. entry_place t modes n < length (modes_of t n)) zero_add (h 0 x refl root)
+
+  -- a number in mixed radix is below the number of choices
+  digits : (p c l r : ℕ) → p < l → r < c → p * c + r < l * c
+  digits p c l r a b =
+      let most : suc p * c ≤ l * c = grow (suc p) l c a in
+      let one : suc p * c ≡ p * c + c = succ p c in
+      omega (arith, most, one)
+    where
+      grow : (a b c : ℕ) → a ≤ b → a * c ≤ b * c
+      grow a b c h = grind arith
+
+      succ : (p c : ℕ) → suc p * c ≡ p * c + c
+      succ p c = omega arith
+
+  pub below_choices : (k : ℕ) (xs : List Module) → Fits k xs → selection_from t modes k xs < choices_from t k xs
+  below_choices k [] h = omega arith
+  below_choices k (x ∷ xs) h = by (is_root x) refl (below_choices (suc k) xs (fits_later k x xs h))
+    where
+      by : (b : Bool) → is_root x ≡ b → selection_from t modes (suc k) xs < choices_from t (suc k) xs
+          → cond b (entry_place t modes k * choices_from t (suc k) xs) 0 + selection_from t modes (suc k) xs < cond b (length (modes_of t k)) 1 * choices_from t (suc k) xs
+      by true is later = digits (entry_place t modes k) (choices_from t (suc k) xs) (length (modes_of t k)) (selection_from t modes (suc k) xs) (fits_here k x xs h is) later
+      by false is later = omega (arith, later)
+
+  -- the choices from a module on are a multiple of those of a later root module and of all behind it
+  pub multiple : (k : ℕ) (xs : List Module) (j : ℕ) (x : Module) → slice_get xs j ≡ Some x → is_root x ≡ true
+      → (d : ℕ) × (choices_from t k xs ≡ d * length (modes_of t (k + j)) * choices_from t (suc (k + j)) (drop (suc j) xs))
+  multiple k [] j x at root = absurd (none_some x at)
+  multiple k (y ∷ ys) zero x at root =
+      let same : y ≡ x = cc in
+      let test : is_root y ≡ true = ap is_root same ∙ root in
+      let zero_add : k ≡ k + 0 = omega arith in (
+        1,
+        subst (λ n. cond (is_root y) (length (modes_of t k)) 1 * choices_from t (suc k) ys ≡ 1 * length (modes_of t n) * choices_from t (suc n) ys) zero_add
+            (ap (λ b. cond b (length (modes_of t k)) 1 * choices_from t (suc k) ys) test ∙ ap (λ n. n * choices_from t (suc k) ys) (one (length (modes_of t k)))),
+      )
+    where
+      one : (n : ℕ) → n ≡ 1 * n
+      one n = omega arith
+  multiple k (y ∷ ys) (suc j) x at root =
+      let m = multiple (suc k) ys j x at root in
+      let a = cond (is_root y) (length (modes_of t k)) 1 in
+      let next : suc k + j ≡ k + suc j = omega arith in (
+        a * m.0,
+        subst (λ n. a * choices_from t (suc k) ys ≡ a * m.0 * length (modes_of t n) * choices_from t (suc n) (drop (suc j) ys)) next
+            (ap (λ c. a * c) m.1
+            ∙ sym (mul_assoc a (m.0 * length (modes_of t (suc k + j))) (choices_from t (suc (suc k + j)) (drop (suc j) ys)))
+            ∙ ap (λ n. n * choices_from t (suc (suc k + j)) (drop (suc j) ys)) (sym (mul_assoc a m.0 (length (modes_of t (suc k + j)))))),
+      )
+
+  -- ---- the digit of a root module
+
+  abbrev pub digit_at : ℕ → ℕ → List Module → ℕ → ℕ
+  digit_at n u xs j = n / choices_from t (suc u) (drop (suc j) xs) % length (modes_of t u)
+
+  first_digit : (p c l r : ℕ) → p < l → r < c → (p * c + r) / c % l ≡ p
+  first_digit p c l r a b = ap (λ n. n % l) (div-mul-add p c r b) ∙ mod-eq_of_lt a
+
+  pub later_digit : (p d l c r : ℕ) → 0 < c → (p * (d * l * c) + r) / c % l ≡ r / c % l
+  later_digit p d l c r some =
+      ap (λ n. n / c % l) (turn (p * (d * l * c)) r)
+      ∙ ap (λ n. (r + n) / c % l) (sym (mul_assoc p (d * l) c))
+      ∙ ap (λ n. n % l) (add-mul-div_right r (p * (d * l)) some)
+      ∙ ap (λ n. (r / c + n) % l) (sym (mul_assoc p d l))
+      ∙ add-mul-mod_self_right (r / c) (p * d) l
+    where
+      turn : (a b : ℕ) → a + b ≡ b + a
+      turn a b = omega arith
+
+  pub digit_is : (k : ℕ) (xs : List Module) → Fits k xs → (j : ℕ) (x : Module) → slice_get xs j ≡ Some x → is_root x ≡ true
+      → digit_at (selection_from t modes k xs) (k + j) xs j ≡ entry_place t modes (k + j)
+  digit_is k [] h j x at root = absurd (none_some x at)
+  digit_is k (y ∷ ys) h zero x at root =
+      let same : y ≡ x = cc in
+      let test : is_root y ≡ true = ap is_root same ∙ root in
+      let zero_add : k ≡ k + 0 = omega arith in
+      subst (λ n. digit_at (selection_from t modes k (y ∷ ys)) n (y ∷ ys) 0 ≡ entry_place t modes n) zero_add
+      (ap (λ b. (cond b (entry_place t modes k * choices_from t (suc k) ys) 0 + selection_from t modes (suc k) ys) / choices_from t (suc k) ys % length (modes_of t k)) test
+      ∙ first_digit (entry_place t modes k) (choices_from t (suc k) ys) (length (modes_of t k)) (selection_from t modes (suc k) ys) (fits_here k y ys h test)
+      (below_choices (suc k) ys (fits_later k y ys h)))
+  digit_is k (y ∷ ys) h (suc j) x at root =
+      let next : suc k + j ≡ k + suc j = omega arith in
+      let later = digit_is (suc k) ys (fits_later k y ys h) j x at root in
+      let m = multiple (suc k) ys j x at root in
+      let c = choices_from t (suc (suc k + j)) (drop (suc j) ys) in
+      let l = length (modes_of t (suc k + j)) in
+      let r = selection_from t modes (suc k) ys in
+      let some : 0 < choices_from t (suc k) ys = omega (arith, below_choices (suc k) ys (fits_later k y ys h)) in
+      subst (λ n. digit_at (selection_from t modes k (y ∷ ys)) n (y ∷ ys) (suc j) ≡ entry_place t modes n) next
+      (by (is_root y) (entry_place t modes k) m.0 l c r (choices_from t (suc k) ys) m.1 some ∙ later)
+    where
+      by : (b : Bool) (p d l c r whole : ℕ) → whole ≡ d * l * c → 0 < whole → (cond b (p * whole) 0 + r) / c % l ≡ r / c % l
+      by true p d l c r whole e some = ap (λ w. (p * w + r) / c % l) e ∙ later_digit p d l c r (factor (d * l) c (subst (λ n. 0 < n) e some))
+      by false p d l c r whole e some = ap (λ n. n / c % l) (zero_plus r)
+        where
+          zero_plus : (n : ℕ) → 0 + n ≡ n
+          zero_plus n = omega arith
+
+  -- ---- a selection of running modes
+
+  module _ (s : IsSelection t modes) where
+    -- the mode of a root module
+    pub root_entry : (u : ℕ) (x : Module) → slice_get t.modules u ≡ Some x → x.parent ≡ None → (m : ℕ) × (entry modes u ≡ Some m) × IsModeOf t u m
+    root_entry u x at root = by (entry modes u) refl
+      where
+        by : (o : Option ℕ) → entry modes u ≡ o → (m : ℕ) × (entry modes u ≡ Some m) × IsModeOf t u m
+        by (Some m) e = let right : IsEntry t modes u x.parent (Some m) = subst (IsEntry t modes u x.parent) e (s.each u x at) in (m, e, right.0)
+        by None e =
+            let wrong : IsEntry t modes u None None = subst (λ p. IsEntry t modes u p None) root (subst (IsEntry t modes u x.parent) e (s.each u x at)) in
+            absurd (wrong tt)
+
+    pub root_place : (u : ℕ) (x : Module) → slice_get t.modules u ≡ Some x → x.parent ≡ None
+        → (entry_place t modes u < length (modes_of t u)) × (entry modes u ≡ Some (get_or (modes_of t u) (entry_place t modes u) 0))
+    root_place u x at root =
+        let m = root_entry u x at root in
+        let own = m.2 in
+        let r = at_place (mode_of_module u) t.modes m.0 own.0 own.1 (equal own.0.«module» u own.2) in
+        let place = place_found m.0 (modes_of t u) r.0 r.1 in
+        let is : entry_place t modes u ≡ place_among m.0 (modes_of t u) = ap (λ (o : Option ℕ). elim o [ Some n ↦ place_among n (modes_of t u) | None ↦ 0 ]) m.1 in (
+          omega (arith, is, place.0),
+          m.1 ∙ ap (λ (n : ℕ). Some n) (sym (ap (λ n. get_or (modes_of t u) n 0) is ∙ place.1)),
+        )
+
+    all_fit : Fits 0 t.modules
+    all_fit j x at root =
+        let zero_add : j ≡ 0 + j = omega arith in
+        subst (λ n. entry_place t modes n < length (modes_of t n)) zero_add (root_place j x at (rootless x root)).0
+
+    -- the root modules are in the modes of its root selection
+    pub is_of_selection : IsOfSelection t (selection_of t modes) modes
+    is_of_selection u x at root =
+        let zero_add : 0 + u ≡ u = omega arith in
+        let digit : digit_at (selection_of t modes) u t.modules u ≡ entry_place t modes u =
+        subst (λ n. digit_at (selection_of t modes) n t.modules u ≡ entry_place t modes n) zero_add (digit_is 0 t.modules all_fit u x at (root_is x root)) in
+        (root_place u x at root).1
+        ∙ ap (λ (n : ℕ). Some (get_or (modes_of t u) n 0)) (sym digit)
+        ∙ ap (λ (n : ℕ). Some (get_or (modes_of t u) (selection_of t modes / choices_from t n (drop n t.modules) % length (modes_of t u)) 0)) (sym (add-one u))
+
+    -- which is one, where there is a module
+    pub selection_below : (k : ℕ) (ks : List ℕ) → root_modules t ≡ k ∷ ks → selection_of t modes < selection_count t
+    selection_below k ks e =
+        let count : selection_count t ≡ choices_from t 0 t.modules = ap (λ (us : List ℕ). elim us [ [] ↦ 0 | v ∷ vs ↦ choices_from t 0 t.modules ]) e in
+        omega (arith, count, below_choices 0 t.modules all_fit)
+
+    -- there are at most as many positions as in a root selection
+    pub few_positions : KeepsLimits t → length (running_positions t modes) ≤ 128
+    few_positions limits = by (root_modules t) refl
+      where
+        by : (us : List ℕ) → root_modules t ≡ us → length (running_positions t modes) ≤ 128
+        by [] e = let none : length (running_positions t modes) ≡ 0 = ap (λ us. length (flat_map (running_invs t modes) us)) e in omega arith
+        by (k ∷ ks) e =
+            let same : length (running_positions t modes) ≡ length (positions t (selection_of t modes)) = ap length (same_positions t (selection_of t modes) modes is_of_selection) in
+            omega (arith, same, limits.positions (selection_of t modes) (selection_below k ks e))
+
+-- ---- the loop that makes the number
+
+pub some_from : (t : Tables) (k : ℕ) → AreInRange t → k ≤ length t.modules → 0 < choices_from t k (drop k t.modules)
+some_from t k range h = choices_some t k (drop k t.modules) (λ j b. modes_some t (k + j) range (omega (arith, length-drop k t.modules)))
+
+pub small_so_far : (n c s total : ℕ) → n * c + s ≡ total → 0 < c → total < 1024 → n < 1024
+small_so_far n zero s total e some less = absurd (omega arith)
+small_so_far n (suc c) s total e some less = let most : n ≤ n * suc c = grow n c in omega arith
+  where
+    grow : (n c : ℕ) → n ≤ n * suc c
+    grow n c = grind arith
+
+more : (a c : ℕ) → suc a * c ≡ a * c + c
+more a c = omega arith
+
+spread : (a b c : ℕ) → (a + b) * c ≡ a * c + b * c
+spread zero b c = let none : 0 + b ≡ b = omega arith in ap (λ n. n * c) none ∙ omega arith
+spread (suc a) b c =
+    let next : suc a + b ≡ suc (a + b) = omega arith in
+    let rest : (a + b) * c ≡ a * c + b * c = spread a b c in
+    ap (λ n. n * c) next ∙ more (a + b) c ∙ omega (arith, rest, more a c)
+
+module_by : (b : Bool) (n l p c s new : ℕ) → new ≡ cond b (n * l + p) n → new * c + s ≡ n * (cond b l 1 * c) + (cond b (p * c) 0 + s)
+module_by true n l p c s new e =
+    let turn : n * l * c ≡ n * (l * c) = mul_assoc n l c in
+    ap (λ m. m * c + s) e ∙ omega (arith, spread (n * l) p c, turn)
+module_by false n l p c s new e =
+    let one : 1 * c ≡ c = omega arith in
+    ap (λ m. m * c + s) e ∙ ap (λ m. n * m + s) (sym one) ∙ zero_plus (n * (1 * c)) s
+  where
+    zero_plus : (a s : ℕ) → a + s ≡ a + (0 + s)
+    zero_plus a s = omega arith
+
+pub module_step : (t : Tables) (modes : List (Option ℕ)) (k n new : ℕ) (modules : List Module) (x : Module) → k < length modules → x ≡ get_or modules k x
+    → new ≡ cond (is_root x) (n * length (modes_of t k) + entry_place t modes k) n
+    → new * choices_from t (k + 1) (drop (k + 1) modules) + selection_from t modes (k + 1) (drop (k + 1) modules) ≡ n * choices_from t k (drop k modules) + selection_from t modes k (drop k modules)
+module_step t modes k n new modules x below at is =
+    let cut : drop k modules ≡ x ∷ drop (suc k) modules = drop-cons modules k x below ∙ ap (λ z. z ∷ drop (suc k) modules) (sym at) in
+    ap (λ m. new * choices_from t m (drop m modules) + selection_from t modes m (drop m modules)) (add-one k)
+    ∙ module_by (is_root x) n (length (modes_of t k)) (entry_place t modes k) (choices_from t (suc k) (drop (suc k) modules)) (selection_from t modes (suc k) (drop (suc k) modules)) new is
+    ∙ ap (λ us. n * choices_from t k us + selection_from t modes k us) (sym cut)
+
+pub roots_some : (t : Tables) → AreInRange t → 0 < length t.modules → (k : ℕ) × (ks : List ℕ) × (root_modules t ≡ k ∷ ks)
+roots_some t range some = by (root_modules t) refl
+  where
+    by : (us : List ℕ) → root_modules t ≡ us → (k : ℕ) × (ks : List ℕ) × (root_modules t ≡ k ∷ ks)
+    by (k ∷ ks) e = (k, ks, e)
+    by [] e = let none : length t.modules ≡ 0 = no_modules t t.modules range refl (ap (λ us. slice_get us 0) e) in absurd (omega arith)
+
+pub small_here : (t : Tables) (modes : List (Option ℕ)) (n k : ℕ) (modules : List Module) → AreInRange t → KeepsLimits t → IsSelection t modes → 0 < length t.modules → modules ≡ t.modules → k ≤ length modules
+    → n * choices_from t k (drop k modules) + selection_from t modes k (drop k modules) ≡ selection_of t modes → n < 1024
+small_here t modes n k modules range limits s some same within e =
+    let root = roots_some t range some in
+    let below : selection_of t modes < selection_count t = selection_below t modes s root.0 root.1 root.2 in
+    let few : selection_of t modes < 1024 = omega (arith, below, limits.selections) in
+    let choices : 0 < choices_from t k (drop k modules) =
+    subst (λ us. 0 < choices_from t k (drop k us)) (sym same) (some_from t k range (subst (λ us. k ≤ length us) same within)) in
+    small_so_far n (choices_from t k (drop k modules)) (selection_from t modes k (drop k modules)) (selection_of t modes) e choices few
+
+pub below_count : (t : Tables) (modes : List (Option ℕ)) → AreInRange t → IsSelection t modes → 0 < length t.modules → selection_of t modes < selection_count t
+below_count t modes range s some = let root = roots_some t range some in selection_below t modes s root.0 root.1 root.2

@@ -1,0 +1,98 @@
+-- The lengths of a round are within the worst cases, and its schedule meets.
+use Rattle.std.proofs.Common.{◌≡◌, ◌≤◌, ◌<◌, ℕ, ◌+◌, Bool, true, false, ◌&&◌, cond, eqb, leb, List, [], ◌∷◌, length, get_or, map, Option, Some, None, refl, sym, ◌∙◌, ap, arith}
+use Rattle.std.specs.Prelude.{slice_get}
+use Rattle.std.specs.List.{flat_map}
+use Rattle.std.proofs.lemmas.Option.{get_or_from_slice_get}
+use Rattle.htl_model.specs.declared.event.Event.{Event}
+use Rattle.htl_model.specs.declared.event.Event.TheVariants as V
+use Rattle.htl_model.specs.declared.parts.Inv.{Inv}
+use Rattle.htl_model.specs.declared.parts.Module.{Module}
+use Rattle.htl_model.specs.declared.parts.Task.{Task}
+use Rattle.htl_model.specs.Chosen.{chosen}
+use Rattle.htl_model.specs.Lists.{places_from}
+use Rattle.htl_model.specs.Broken.{KeptTo}
+use Rattle.htl_model.specs.Ranges.{AreInRange, IsInvInRange, IsTaskInRange}
+use Rattle.htl_model.specs.Selections.{is_root, selection_count}
+use Rattle.htl_model.specs.Tables.{Tables, task_worst}
+use Rattle.htl_form.proofs.PartLaws.{none_some}
+use Rattle.htl_form.proofs.Places.{all_at}
+use Rattle.htl_form.proofs.TestLaws.{same_number}
+use Rattle.htl_walk.specs.declared.job.Job.{Job}
+use Rattle.htl_walk.specs.declared.schedule.SInstr.{SInstr}
+use Rattle.htl_walk.specs.Jobs.{abstract_jobs, job_of, jobs_of}
+use Rattle.htl_walk.specs.Refinement.{HaveLengths, AreWithinWorst}
+use Rattle.htl_walk.specs.Walk.{IsAccepted, Meets}
+use Rattle.htl_refine.specs.ConcreteJobs.{running_invs, running_positions, standing, concrete_jobs}
+use Rattle.htl_refine.specs.Records.{last_took, inv_worst, took, lengths_of, AreTookWithin, modes_at, round_at}
+use Rattle.htl_refine.specs.Roots.{selection_of}
+use Rattle.htl_refine.proofs.Inherit.{mapped, map_at, present_worst, inheritance}
+use Rattle.htl_refine.proofs.RootSelection.{below_count, is_of_selection}
+use Rattle.htl_refine.proofs.StateLaws.{states_are_selections}
+
+took_within : (t : Tables) (i u r x : ℕ) (es : List Event) → AreTookWithin t es → 1 ≤ x → x ≤ inv_worst t i → (1 ≤ last_took i u r x es) × (last_took i u r x es ≤ inv_worst t i)
+took_within t i u r x [] h a b = (a, b)
+took_within t i u r x (V.At n ∷ es) h a b = took_within t i u n x es h.1 a b
+took_within t i u r x (V.Sense d y ∷ es) h a b = took_within t i u r x es h.1 a b
+took_within t i u r x (V.End n ∷ es) h a b = took_within t i u r x es h.1 a b
+took_within t i u r x (V.Took j n ∷ es) h a b = by (eqb i j) (leb r u) refl (λ y c d. took_within t i u r y es h.1 c d)
+  where
+    by : (p q : Bool) → eqb i j ≡ p → ((y : ℕ) → 1 ≤ y → y ≤ inv_worst t i → (1 ≤ last_took i u r y es) × (last_took i u r y es ≤ inv_worst t i))
+        → (1 ≤ last_took i u r (cond (p && q) n x) es) × (last_took i u r (cond (p && q) n x) es ≤ inv_worst t i)
+    by true true e later = let same : inv_worst t j ≡ inv_worst t i = ap (inv_worst t) (sym (same_number i j e)) in later n h.0.0 (omega (arith, same, h.0.1))
+    by true false e later = later x a b
+    by false q e later = later x a b
+
+-- an invocation takes at least one tick in its worst case
+worst_some : (t : Tables) (k : ℕ) (i : Inv) → AreInRange t → slice_get t.invs k ≡ Some i → (1 ≤ inv_worst t k) × (inv_worst t k ≡ task_worst t i.task)
+worst_some t k i range at =
+    let inv = (all_at (IsInvInRange t) t.invs k i range.invs at).task in
+    let worst = (all_at (IsTaskInRange t) t.tasks i.task inv.0 range.tasks inv.1).worst in
+    let a : inv_worst t k ≡ task_worst t i.task = ap (λ (o : Option Inv). elim o [ Some x ↦ task_worst t x.task | None ↦ 0 ]) at in
+    let b : task_worst t i.task ≡ inv.0.worst = ap (λ (o : Option Task). elim o [ Some x ↦ x.worst | None ↦ 0 ]) inv.1 in
+    (omega (arith, a, b, worst.some), a)
+
+module _ (t : Tables) (modes : List (Option ℕ)) (es : List Event) (start : ℕ) (range : AreInRange t) (within : AreTookWithin t es) where
+  length_is : (p : ℕ) (j : Job) → slice_get (concrete_jobs t modes) p ≡ Some j → j.present ≡ true
+      → (1 ≤ get_or (lengths_of t es start (concrete_jobs t modes)) p 0) × (get_or (lengths_of t es start (concrete_jobs t modes)) p 0 ≤ j.worst)
+  length_is p j at here =
+      let o = mapped (job_of t (standing t modes)) (standing t modes) p j at in
+      let job = present_worst t (standing t modes) o.0 j o.2 here in
+      let w = worst_some t j.inv job.0 range job.1 in
+      let r = took_within t j.inv (start + j.release) 0 (inv_worst t j.inv) es within w.0 (omega arith) in
+      let f = λ (j : Job). took t es j.inv (start + j.release) in
+      let is : get_or (lengths_of t es start (concrete_jobs t modes)) p 0 ≡ f j =
+      get_or_from_slice_get (map f (concrete_jobs t modes)) p (f j) 0 (map_at f (concrete_jobs t modes) p j at) in
+      (omega (arith, is, r.0), omega (arith, is, r.1, w.1, job.2))
+
+  pub have_lengths : HaveLengths (concrete_jobs t modes) (lengths_of t es start (concrete_jobs t modes))
+  have_lengths p j at here = (length_is p j at here).0
+
+  pub within_worst : AreWithinWorst (concrete_jobs t modes) (lengths_of t es start (concrete_jobs t modes))
+  within_worst p j at here = (length_is p j at here).1
+
+-- without modules nothing runs
+no_jobs : (t : Tables) (modes : List (Option ℕ)) → t.modules ≡ [] → concrete_jobs t modes ≡ []
+no_jobs t modes none =
+    let positions : running_positions t modes ≡ [] = ap (λ (us : List Module). flat_map (running_invs t modes) (places_from is_root 0 us)) none in
+    ap (λ ps. jobs_of t (map (chosen t modes) ps)) positions
+
+none_meet : (jobs : List Job) (ns : List ℕ) (s : List SInstr) → jobs ≡ [] → Meets jobs ns s
+none_meet jobs ns s none p j at here = absurd (none_some j (sym (ap (λ js. slice_get js p) none) ∙ at))
+
+pub rounds_meet : (t : Tables) (schedules : List (List SInstr)) (es : List Event) (start period : ℕ) → AreInRange t → KeptTo t 16 → AreTookWithin t es
+    → ((sel : ℕ) → sel < selection_count t → IsAccepted (abstract_jobs t sel) period (get_or schedules sel []))
+    → let r = round_at t schedules es start in Meets r.jobs r.lengths r.schedule
+rounds_meet t schedules es start period range kept within accepted = by t.modules refl
+  where
+    by : (us : List Module) → t.modules ≡ us → let r = round_at t schedules es start in Meets r.jobs r.lengths r.schedule
+    by [] e =
+        let modes = modes_at t es start in
+        none_meet (concrete_jobs t modes) (lengths_of t es start (concrete_jobs t modes)) (get_or schedules (selection_of t modes) []) (no_jobs t modes e)
+    by (u ∷ us) e =
+        let modes = modes_at t es start in
+        let selection = states_are_selections t range es start in
+        let sel = selection_of t modes in
+        let some : 0 < length t.modules = omega (arith, ap length e) in
+        (inheritance t sel modes (lengths_of t es start (concrete_jobs t modes)) (get_or schedules sel []) period
+        (record { range = range; kept = kept; selection = selection; roots = is_of_selection t modes selection })
+        (have_lengths t modes es start range within) (within_worst t modes es start range within) (accepted sel (below_count t modes range selection some))).meets

@@ -1,0 +1,158 @@
+-- The search answers the first broken rule.
+use Rattle.std.proofs.Common.{◌≡◌, ℕ, suc, ◌+◌, ◌≤◌, ◌<◌, ◌⊎◌, cond, Bool, true, false, List, [], ◌∷◌, Option, Some, None, refl, sym, ◌∙◌, ap, subst, arith, inl, inr}
+use Rattle.std.specs.Prelude.{slice_get}
+use Rattle.htl_model.specs.declared.form_fault.FormFault.{FormFault}
+use Rattle.htl_model.specs.declared.parts.Inv.{Inv}
+use Rattle.htl_model.specs.declared.parts.Mode.{Mode}
+use Rattle.htl_model.specs.Tables.{Tables}
+use Rattle.htl_model.specs.Ranges.{AreInRange}
+use Rattle.htl_model.specs.FormRules.{FormRule, number_of, Site, ComesBefore}
+use Rattle.htl_model.specs.Broken.{Broken, KeptTo, site_of, IsFirstBroken, breach}
+use Rattle.htl_form.specs.First.{or_else, first_from}
+use Rattle.htl_form.specs.Found.{Found}
+use Rattle.htl_form.specs.Search.{at_inv, at_read, at_switch, at_mode, told, inv_in_mode, in_mode}
+use Rattle.htl_form.specs.Tests.{Tests}
+use Rattle.htl_form.proofs.Finding.{finds_nothing}
+use Rattle.htl_form.proofs.FirstLaws.{none_at, found_at, IsFirstAt}
+use Rattle.htl_form.proofs.Judging.{Judges}
+use Rattle.htl_form.proofs.SiteLaws.{rule_none, rule_first, IsFirstOfRule}
+use Rattle.htl_refine.specs.Rules.{law_of, rule_number, all_rules, judges_inputs}
+use Rattle.htl_refine.specs.Tests.{tests, of_rule, first_fault}
+use Rattle.htl_refine.specs.declared.rule.Rule.{Rule}
+use Rattle.htl_refine.specs.declared.rule.Rule.TheVariants as R
+use Rattle.htl_refine.proofs.RefiningLaws.{place_is, parent_is, shared_is, exceeds_is, order_is}
+use Rattle.htl_refine.proofs.RuleOrder.{place_of, number_at}
+
+-- ---- what isn't judged
+
+nothing_first : {A B : Type 0} (f : ℕ → A → Option B) (k : ℕ) (xs : List A) → ((j : ℕ) (x : A) → f j x ≡ None) → first_from f k xs ≡ None
+nothing_first f k [] h = refl
+nothing_first f k (x ∷ xs) h = ap (λ o. or_else o (first_from f (suc k) xs)) (h k x) ∙ nothing_first f (suc k) xs h
+
+no_more : (o : Found) → or_else o None ≡ o
+no_more (Some p) = refl
+no_more None = refl
+
+no_more_faults : (o : Option FormFault) → or_else o None ≡ o
+no_more_faults (Some p) = refl
+no_more_faults None = refl
+
+left : (b : Bool) (o : Found) → o ≡ None → cond b o None ≡ None
+left true o e = e
+left false o e = refl
+
+-- a rule that judges no outputs finds nothing there
+at_inv_is : (f : Tests) (k : ℕ) (i : Inv) → ((j : ℕ) → f.output k i j ≡ λ e. None) → at_inv f k i ≡ or_else (f.inv k i) (first_from (f.input k i) 0 i.reads)
+at_inv_is f k i h =
+    ap (λ o. or_else (f.inv k i) (or_else (first_from (f.input k i) 0 i.reads) o)) (nothing_first (f.output k i) 0 i.writes (λ j e. ap (λ g. g e) (h j)))
+    ∙ ap (or_else (f.inv k i)) (no_more (first_from (f.input k i) 0 i.reads))
+
+pub inv_parts : (t : Tables) (r : Rule) (k : ℕ) (i : Inv) → at_inv (tests t r) k i ≡ or_else ((tests t r).inv k i) (first_from ((tests t r).input k i) 0 i.reads)
+inv_parts t R.AbstractPlaces k i = at_inv_is (tests t R.AbstractPlaces) k i (λ j. refl)
+inv_parts t R.Parents k i = at_inv_is (tests t R.Parents) k i (λ j. refl)
+inv_parts t R.SharedParents k i = at_inv_is (tests t R.SharedParents) k i (λ j. refl)
+inv_parts t R.Inheritance k i = at_inv_is (tests t R.Inheritance) k i (λ j. refl)
+
+-- what is found at the invocation as a whole, or else at its inputs
+pub inv_whole : (t : Tables) (r : Rule) (k : ℕ) (i : Inv) (y : ℕ × ℕ) → (tests t r).inv k i ≡ Some y → Some y ≡ at_inv (tests t r) k i
+inv_whole t r k i y e = sym (inv_parts t r k i ∙ ap (λ o. or_else o (first_from ((tests t r).input k i) 0 i.reads)) e)
+
+pub inv_inputs : (t : Tables) (r : Rule) (k : ℕ) (i : Inv) → (tests t r).inv k i ≡ None → first_from ((tests t r).input k i) 0 i.reads ≡ at_inv (tests t r) k i
+inv_inputs t r k i e = sym (inv_parts t r k i ∙ ap (λ o. or_else o (first_from ((tests t r).input k i) 0 i.reads)) e)
+
+pub no_input : (t : Tables) (r : Rule) (k : ℕ) (i : Inv) → judges_inputs r ≡ false → first_from ((tests t r).input k i) 0 i.reads ≡ None
+no_input t R.AbstractPlaces k i h = nothing_first ((tests t R.AbstractPlaces).input k i) 0 i.reads (λ j e. refl)
+no_input t R.Parents k i h = nothing_first ((tests t R.Parents).input k i) 0 i.reads (λ j e. refl)
+no_input t R.SharedParents k i h = nothing_first ((tests t R.SharedParents).input k i) 0 i.reads (λ j e. refl)
+no_input t R.Inheritance k i h = cc
+
+-- nothing is found at a mode itself and its switches
+mode_silent : (t : Tables) (r : Rule) (m : ℕ) (x : Mode) → at_mode (tests t r) t m x ≡ None
+mode_silent t R.AbstractPlaces m x = nothing_first (at_switch (tests t R.AbstractPlaces) m) 0 t.switches (λ l w. left _ _ (nothing_first (at_read (tests t R.AbstractPlaces) m) 0 w.reads (λ j c. refl)))
+mode_silent t R.Parents m x = nothing_first (at_switch (tests t R.Parents) m) 0 t.switches (λ l w. left _ _ (nothing_first (at_read (tests t R.Parents) m) 0 w.reads (λ j c. refl)))
+mode_silent t R.SharedParents m x = nothing_first (at_switch (tests t R.SharedParents) m) 0 t.switches (λ l w. left _ _ (nothing_first (at_read (tests t R.SharedParents) m) 0 w.reads (λ j c. refl)))
+mode_silent t R.Inheritance m x = nothing_first (at_switch (tests t R.Inheritance) m) 0 t.switches (λ l w. left _ _ (nothing_first (at_read (tests t R.Inheritance) m) 0 w.reads (λ j c. refl)))
+
+pub mode_parts : (t : Tables) (r : Rule) (m : ℕ) (x : Mode) → in_mode (tests t r) (rule_number r) t m x ≡ first_from (inv_in_mode (tests t r) (rule_number r) x.«module» m) 0 t.invs
+mode_parts t r m x =
+    ap (λ o. or_else (first_from (inv_in_mode (tests t r) (rule_number r) x.«module» m) 0 t.invs) (told (rule_number r) x.«module» m None o)) (mode_silent t r m x)
+    ∙ no_more_faults (first_from (inv_in_mode (tests t r) (rule_number r) x.«module» m) 0 t.invs)
+
+-- ---- each rule's tests find exactly what breaks it
+
+pub judges : (t : Tables) → AreInRange t → KeptTo t 12 → (r : Rule) → Judges t (tests t r) (breach t (law_of r))
+judges t range kept R.AbstractPlaces =
+    record {
+      mode = λ m x at. finds_nothing;
+      inv = λ k i at. place_is t i;
+      input = λ k i j e at read. finds_nothing;
+      output = λ k i j e at out. finds_nothing;
+      test = λ m c. finds_nothing;
+    }
+judges t range kept R.Parents =
+    record {
+      mode = λ m x at. finds_nothing;
+      inv = λ k i at. parent_is t i;
+      input = λ k i j e at read. finds_nothing;
+      output = λ k i j e at out. finds_nothing;
+      test = λ m c. finds_nothing;
+    }
+judges t range kept R.SharedParents =
+    record {
+      mode = λ m x at. finds_nothing;
+      inv = λ k i at. shared_is t k i;
+      input = λ k i j e at read. finds_nothing;
+      output = λ k i j e at out. finds_nothing;
+      test = λ m c. finds_nothing;
+    }
+judges t range kept R.Inheritance =
+    record {
+      mode = λ m x at. finds_nothing;
+      inv = λ k i at. exceeds_is t i;
+      input = λ k i j e at read. order_is t 12 i e range kept (omega arith);
+      output = λ k i j e at out. finds_nothing;
+      test = λ m c. finds_nothing;
+    }
+
+-- ---- the first
+
+-- a rule at whose place nothing is found
+kept_at : (t : Tables) → AreInRange t → KeptTo t 12 → (law : FormRule)
+    → ((p : ℕ) (r : Rule) → p + 13 ≡ number_of law → slice_get all_rules p ≡ Some r → of_rule t p r ≡ None)
+    → (s : Site) (h d : ℕ) → Broken t law s h d → ⊥
+kept_at t range kept law none s h d y = elim (order (number_of law)) [
+  | inl few ↦ kept law s h d few y
+  | inr more ↦
+      let q = place_of law more in
+      rule_none t (tests t q.1) (law_of q.1) (judges t range kept q.1) (rule_number q.1) (none q.0 q.1 q.2 q.3) s h d (subst (λ (l : FormRule). Broken t l s h d) (sym q.4) y)
+]
+  where
+    order : (n : ℕ) → (n ≤ 12) ⊎ (12 < n)
+    order n = grind arith
+
+pub kept_all : (t : Tables) → AreInRange t → KeptTo t 12 → first_fault t all_rules ≡ None → KeptTo t 16
+kept_all t range kept none = λ law s h d few y. kept_at t range kept law (λ p r is at. none_at (of_rule t) all_rules none p r at) s h d y
+
+-- nothing is broken before the first of a rule, where rules before it find nothing
+least_of_all : (t : Tables) → AreInRange t → KeptTo t 12 → (f : FormFault) (g : IsFirstAt (of_rule t) all_rules f) (first : IsFirstOfRule t (law_of g.item) (rule_number g.item) f)
+    → (law : FormRule) (s : Site) (h d : ℕ) → ComesBefore law s (law_of g.item) (site_of f first.part) → Broken t law s h d → ⊥
+least_of_all t range kept f g first law s h d (inl less) y =
+    let number = number_at g.place g.item g.at in
+    kept_at t range kept law (λ p r is at. g.before p r (omega (arith, number.0)) at) s h d y
+least_of_all t range kept f g first law s h d (inr same) y =
+    let number = number_at g.place g.item g.at in
+    let q = place_of law (omega (arith, number.0)) in
+    let place : q.0 ≡ g.place = omega (arith, q.2, number.0) in
+    let item : Some q.1 ≡ Some g.item = sym q.3 ∙ ap (slice_get all_rules) place ∙ g.at in
+    let rule : q.1 ≡ g.item = cc in
+    first.least s h d same.1 (subst (λ (l : FormRule). Broken t l s h d) (sym q.4 ∙ ap law_of rule) y)
+
+pub first : (t : Tables) → AreInRange t → KeptTo t 12 → (f : FormFault) → first_fault t all_rules ≡ Some f → (13 ≤ f.rule) × (f.rule ≤ 16) × IsFirstBroken t f
+first t range kept f e =
+    let g = found_at (of_rule t) all_rules f e in
+    let number = number_at g.place g.item g.at in
+    let one = rule_first t (tests t g.item) (law_of g.item) (judges t range kept g.item) (rule_number g.item) f g.gives in (
+      omega (arith, one.rule, number.0, number.1),
+      omega (arith, one.rule, number.0, number.1),
+      record { law = law_of g.item; part = one.part; rule = one.rule; «module» = one.«module»; broken = one.broken; first = least_of_all t range kept f g one },
+    )

@@ -1,0 +1,10 @@
+pub mod ConcreteJobs
+pub mod Laws
+pub mod OnePass
+pub mod Orders
+pub mod Records
+pub mod Refining
+pub mod Roots
+pub mod Rules
+pub mod Samples
+pub mod Tests

@@ -1,0 +1,24 @@
+// The form rules 13 to 16.
+ghost use Rattle.std.specs.Prelude.{◌≤◌, OnOk, IfErr};
+ghost use Rattle.htl_model.specs.Broken.{KeptTo, IsFirstBroken};
+
+use crate::order::Order;
+use crate::rule::RULES;
+use crate::search::first_fault;
+use htl_model::{FormFault, Tables};
+
+/// Tries the form rules 13 to 16 on tables that keep the rules 1 to 12. A fault comes exactly where one of them is broken, and
+/// tells the first that is: by rule, then by site in the order of modules and invocations, then the invocation before its inputs.
+/// It takes no memory.
+pub fn refine(t: &Tables) -> Result<(), FormFault>
+    requires { KeptTo t.now 12 }
+    ensures kept { OnOk result (KeptTo t.now 16) }
+    ensures first { IfErr result (λ f. (13 ≤ f.rule) × (f.rule ≤ 16) × IsFirstBroken t.now f) }
+{
+    t.keeps_ranges();
+    let order = Order::of(t);
+    match first_fault(t, &order, &RULES) {
+        Some(fault) => Err(fault),
+        None => Ok(()),
+    }
+}
