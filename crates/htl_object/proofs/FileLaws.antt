@@ -1,0 +1,183 @@
+-- The two laws of objects, and that what is written is read again.
+use Rattle.std.proofs.Common.{◌≡◌, ℕ, ◌==◌, true, List, [], ◌++◌, length, take, drop, Option, Some, None, Result, Ok, Err, refl, sym, ap, subst, ◌∙◌, ◌↔◌, arith}
+use Rattle.std.specs.Prelude.{codes, nat_le, IfOk}
+use Rattle.std.specs.Int.{w16, w32, to_be_bytes}
+use Rattle.std.specs.List.{flat_map}
+use Rattle.std.specs.Str.{bytes_eq}
+use Rattle.std.proofs.lemmas.Bool.{eqb-true, le-leb}
+use Rattle.std.proofs.lemmas.List.{append-nil, nil_from_length, take_at, drop_at, take-append-drop, length-append}
+use Rattle.std.proofs.lemmas.Slice.Eq.{bytes_eq-Decides}
+use Rattle.htl_object.specs.declared.malformed.MalKind.{MalKind}
+use Rattle.htl_object.specs.declared.malformed.MalKind.TheVariants.{Magic, Version, Index, Trailing}
+use Rattle.htl_object.specs.declared.malformed.Malformed.{Malformed}
+use Rattle.htl_model.specs.declared.parts.Comm.{Comm}
+use Rattle.htl_model.specs.declared.parts.Mode.{Mode}
+use Rattle.htl_model.specs.declared.parts.Module.{Module}
+use Rattle.htl_model.specs.declared.parts.Port.{Port}
+use Rattle.htl_model.specs.declared.parts.Task.{Task}
+use Rattle.htl_model.specs.declared.parts.Inv.{Inv}
+use Rattle.htl_model.specs.declared.parts.Switch.{Switch}
+use Rattle.htl_model.specs.declared.function.Code.{Code}
+use Rattle.htl_ecode.specs.declared.instr.EInstr.{EInstr}
+use Rattle.htl_walk.specs.declared.schedule.SInstr.{SInstr}
+use Rattle.htl_walk.specs.declared.schedule.Schedule.{Schedule}
+use Rattle.htl_object.specs.declared.lists.Anchors.{Anchors}
+use Rattle.htl_object.specs.declared.lists.Counts.{Counts}
+use Rattle.htl_object.specs.declared.lists.Lists.{Lists}
+use Rattle.htl_object.specs.Reading.{IsBytes, Read, ◌>>=◌, bad_at, short, need, count_at}
+use Rattle.htl_object.specs.Comms.{comm_bytes}
+use Rattle.htl_object.specs.Modes.{mode_bytes}
+use Rattle.htl_object.specs.Modules.{module_bytes}
+use Rattle.htl_object.specs.Ports.{port_bytes, task_bytes}
+use Rattle.htl_object.specs.Invocations.{inv_bytes, switch_bytes}
+use Rattle.htl_object.specs.Instructions.{code_bytes, s_bytes}
+use Rattle.htl_object.specs.Items.{Fits16, Is32, Every, IsSInstr}
+use Rattle.htl_object.specs.Files.{counts_of, counts_bytes, counts_at, AreCounts, anchors_bytes, anchors_at, AreAnchors, is_selections, e_code_bytes, e_code_at, IsECode, s_code_at, schedule_bytes, schedule_at, IsSchedule, schedules_bytes, function_count, text_at, version_at, file_bytes, file_at, IsFile, IsFileInRange, whole_at, fault_of, first_bad}
+use Rattle.htl_object.proofs.Lawful.{IsCodec, Taken, given-value, needed, bound, field, last, checked, counted, items, whole}
+use Rattle.htl_object.proofs.FieldLaws.{number16, number32}
+use Rattle.htl_object.proofs.ItemLaws.{comm, mode, unit, port, task, inv, switch}
+use Rattle.htl_object.proofs.InstructionLaws.{code, e_instr, s_instr}
+
+-- ---- parts
+
+count : (limit : ℕ) → IsCodec (to_be_bytes w16) (Fits16 (λ n. nat_le n limit)) (count_at limit)
+count limit = checked Index (λ n. nat_le n limit) number16
+
+abbrev make_counts : ℕ × (ℕ × (ℕ × (ℕ × (ℕ × (ℕ × ℕ))))) → Counts
+make_counts p = record { comms = p.0; modes = p.1.0; modules = p.1.1.0; ports = p.1.1.1.0; tasks = p.1.1.1.1.0; invs = p.1.1.1.1.1.0; switches = p.1.1.1.1.1.1 }
+
+counts : IsCodec counts_bytes AreCounts counts_at
+counts =
+    whole make_counts (λ n. (n.comms, (n.modes, (n.modules, (n.ports, (n.tasks, (n.invs, n.switches))))))) counts_bytes AreCounts
+    (field (count 1024) (λ _ _. field (count 256) (λ _ _. field (count 64) (λ _ _. field (count 4096) (λ _ _. field (count 4096) (λ _ _. field (count 2048) (λ _ _. last (count 4096))))))))
+    (λ n f. (refl, refl, (f.comms, (f.modes, (f.modules, (f.ports, (f.tasks, (f.invs, f.switches))))))))
+    (λ p f. (refl, record { comms = f.0; modes = f.1.0; modules = f.1.1.0; ports = f.1.1.1.0; tasks = f.1.1.1.1.0; invs = f.1.1.1.1.1.0; switches = f.1.1.1.1.1.1 }))
+
+abbrev make_anchors : ℕ × (ℕ × ℕ) → Anchors
+make_anchors p = record { enter = p.0; begin = p.1.0; decide = p.1.1 }
+
+anchors : IsCodec anchors_bytes AreAnchors anchors_at
+anchors =
+    whole make_anchors (λ a. (a.enter, (a.begin, a.decide))) anchors_bytes AreAnchors
+    (field number32 (λ _ _. field number32 (λ _ _. last number32)))
+    (λ a f. (refl, refl, (f.enter, (f.begin, f.decide))))
+    (λ p f. (refl, record { enter = f.0; begin = f.1.0; decide = f.1.1 }))
+
+e_code : IsCodec e_code_bytes IsECode e_code_at
+e_code = counted number32 (λ _. e_instr)
+
+s_code : IsCodec (λ is. to_be_bytes w32 (length is) ++ flat_map s_bytes is) (λ is. Is32 (length is) × Every IsSInstr is) s_code_at
+s_code = counted number32 (λ _. s_instr)
+
+abbrev make_schedule : List SInstr → Schedule
+make_schedule is = record { instrs = is }
+
+schedule : IsCodec schedule_bytes IsSchedule schedule_at
+schedule = whole make_schedule (λ s. s.instrs) schedule_bytes IsSchedule (last {make = make_schedule} s_code) (λ s f. (refl, refl, f)) (λ is f. (refl, f))
+
+version : IsCodec (to_be_bytes w16) (Fits16 (λ n. n == 1)) version_at
+version = checked Version (λ n. n == 1) number16
+
+text : (kind : MalKind) (t : List ℕ) → IsCodec (λ x. x) (λ x. x ≡ t) (text_at kind t)
+text kind t = record { again = again; takes = takes }
+  where
+    again : (x rest : List ℕ) → x ≡ t → text_at kind t (x ++ rest) ≡ Ok (x, rest)
+    again x rest e =
+        let long : nat_le (length t) (length (t ++ rest)) ≡ true = le-leb _ _ (omega (arith, length-append t rest)) in
+        let same : bytes_eq t t ≡ true = (bytes_eq-Decides t t).1 refl in
+        let one : text_at kind t (t ++ rest) ≡ Ok (t, rest) = rw (long, take_at t rest (length t) refl, drop_at t rest (length t) refl, same) refl in
+        ap (λ (y : List ℕ). text_at kind t (y ++ rest)) e ∙ one ∙ ap (λ (y : List ℕ). Ok (y, rest)) (sym e)
+
+    takes : (bytes x rest : List ℕ) → IsBytes bytes → text_at kind t bytes ≡ Ok (x, rest) → Taken (λ x. x) (λ x. x) (λ x. x ≡ t) bytes x rest
+    takes bytes x rest are e =
+        let front = take (length t) bytes in
+        let a = needed (nat_le (length t) (length bytes)) short (need (bytes_eq front t) (bad_at kind bytes) (Ok (t, drop (length t) bytes))) x rest e in
+        let b = needed (bytes_eq front t) (bad_at kind bytes) (Ok (t, drop (length t) bytes)) x rest a.1 in
+        let g = given-value t x (drop (length t) bytes) rest b.1 in
+        let same : front ≡ t = (bytes_eq-Decides front t).0 b.0 in
+        record {
+          part = t;
+          made = g.0;
+          spelled = sym (take-append-drop (length t) bytes) ∙ ap (λ (y : List ℕ). y ++ drop (length t) bytes) same ∙ ap (λ (y : List ℕ). t ++ y) g.1;
+          fit = refl;
+        }
+
+-- ---- the whole
+
+counts-same : (n : Counts) (a b c d e f g : ℕ) → a ≡ n.comms → b ≡ n.modes → c ≡ n.modules → d ≡ n.ports → e ≡ n.tasks → f ≡ n.invs → g ≡ n.switches
+    → n ≡ make_counts (a, (b, (c, (d, (e, (f, g))))))
+counts-same n a b c d e f g ea eb ec ed ee ef eg =
+    ap (λ (x : ℕ). make_counts (x, (n.modes, (n.modules, (n.ports, (n.tasks, (n.invs, n.switches))))))) (sym ea)
+    ∙ ap (λ (x : ℕ). make_counts (a, (x, (n.modules, (n.ports, (n.tasks, (n.invs, n.switches))))))) (sym eb)
+    ∙ ap (λ (x : ℕ). make_counts (a, (b, (x, (n.ports, (n.tasks, (n.invs, n.switches))))))) (sym ec)
+    ∙ ap (λ (x : ℕ). make_counts (a, (b, (c, (x, (n.tasks, (n.invs, n.switches))))))) (sym ed)
+    ∙ ap (λ (x : ℕ). make_counts (a, (b, (c, (d, (x, (n.invs, n.switches))))))) (sym ee)
+    ∙ ap (λ (x : ℕ). make_counts (a, (b, (c, (d, (e, (x, n.switches))))))) (sym ef)
+    ∙ ap (λ (x : ℕ). make_counts (a, (b, (c, (d, (e, (f, x))))))) (sym eg)
+
+abbrev Parts : Type 0
+Parts = List ℕ × (ℕ × (Counts × (List Comm × (List Mode × (List Module × (List Port × (List Task × (List Inv × (List Switch × (List Code × (List Anchors × (List EInstr × List Schedule))))))))))))
+
+abbrev make_lists : Parts → Lists
+make_lists p = record { comms = p.1.1.1.0; modes = p.1.1.1.1.0; modules = p.1.1.1.1.1.0; ports = p.1.1.1.1.1.1.0; tasks = p.1.1.1.1.1.1.1.0; invs = p.1.1.1.1.1.1.1.1.0; switches = p.1.1.1.1.1.1.1.1.1.0; functions = p.1.1.1.1.1.1.1.1.1.1.0; anchors = p.1.1.1.1.1.1.1.1.1.1.1.0; instrs = p.1.1.1.1.1.1.1.1.1.1.1.1.0; schedules = p.1.1.1.1.1.1.1.1.1.1.1.1.1 }
+
+abbrev parts_of : Lists → Parts
+parts_of o = (codes "HTLO", (1, (counts_of o, (o.comms, (o.modes, (o.modules, (o.ports, (o.tasks, (o.invs, (o.switches, (o.functions, (o.anchors, (o.instrs, o.schedules)))))))))))))
+
+object : IsCodec file_bytes IsFileInRange file_at
+object =
+    whole make_lists parts_of file_bytes IsFileInRange
+    (field (text Magic (codes "HTLO")) (λ _ _. field version (λ _ _. field counts (λ _ n.
+    field (items comm n.comms []) (λ _ _.
+    field (items (mode n.modules) n.modes []) (λ _ modes.
+    field (items (unit modes) n.modules []) (λ _ modules.
+    field (items (port n.modes) n.ports []) (λ _ ports.
+    field (items (task n.modules) n.tasks []) (λ _ tasks.
+    field (items (inv n.comms n.invs modes tasks ports) n.invs []) (λ _ invs.
+    field (items (switch n.comms modes) n.switches []) (λ _ _.
+    field (items (λ _. code) (function_count tasks n.switches) []) (λ _ _.
+    field (items (λ _. anchors) n.modes []) (λ _ _.
+    field e_code (λ _ _.
+    last (counted (checked Index (is_selections modes modules invs) number16) (λ _. schedule))))))))))))))))
+    (λ o f. let one : Fits16 (λ n. n == 1) 1 = (omega arith, refl) in (refl, refl, (refl, (one, (f.counts, ((refl, f.comms), ((refl, f.modes), ((refl, f.modules), ((refl, f.ports), ((refl, f.tasks), ((refl, f.invs), ((refl, f.switches), ((f.function_count, f.functions), ((f.anchor_count, f.anchors), (f.instrs, (f.schedule_count, f.schedules))))))))))))))))
+    (λ p f.
+    let n = p.1.1.0 in
+    let o = make_lists p in
+    let same : n ≡ counts_of o = counts-same n (length o.comms) (length o.modes) (length o.modules) (length o.ports) (length o.tasks) (length o.invs) (length o.switches)
+    f.1.1.1.0.0 f.1.1.1.1.0.0 f.1.1.1.1.1.0.0 f.1.1.1.1.1.1.0.0 f.1.1.1.1.1.1.1.0.0 f.1.1.1.1.1.1.1.1.0.0 f.1.1.1.1.1.1.1.1.1.0.0 in
+    let is : IsFile n o = record { counts = f.1.1.0; comms = f.1.1.1.0.1; modes = f.1.1.1.1.0.1; modules = f.1.1.1.1.1.0.1; ports = f.1.1.1.1.1.1.0.1; tasks = f.1.1.1.1.1.1.1.0.1; invs = f.1.1.1.1.1.1.1.1.0.1; switches = f.1.1.1.1.1.1.1.1.1.0.1; function_count = f.1.1.1.1.1.1.1.1.1.1.0.0; functions = f.1.1.1.1.1.1.1.1.1.1.0.1; anchor_count = f.1.1.1.1.1.1.1.1.1.1.1.0.0; anchors = f.1.1.1.1.1.1.1.1.1.1.1.0.1; instrs = f.1.1.1.1.1.1.1.1.1.1.1.1.0; schedule_count = f.1.1.1.1.1.1.1.1.1.1.1.1.1.0; schedules = f.1.1.1.1.1.1.1.1.1.1.1.1.1.1 } in
+    let rest = flat_map comm_bytes o.comms ++ (flat_map mode_bytes o.modes ++ (flat_map module_bytes o.modules ++ (flat_map port_bytes o.ports ++ (flat_map task_bytes o.tasks ++ (flat_map inv_bytes o.invs ++ (flat_map switch_bytes o.switches ++ (flat_map code_bytes o.functions ++ (flat_map anchors_bytes o.anchors ++ (e_code_bytes o.instrs ++ schedules_bytes o.schedules))))))))) in (
+      ap (λ (m : Counts). codes "HTLO" ++ (to_be_bytes w16 1 ++ (counts_bytes m ++ rest))) (sym same)
+          ∙ ap (λ (v : ℕ). codes "HTLO" ++ (to_be_bytes w16 v ++ (counts_bytes n ++ rest))) (sym (eqb-true _ 1 f.1.0.1))
+          ∙ ap (λ (t : List ℕ). t ++ (to_be_bytes w16 p.1.0 ++ (counts_bytes n ++ rest))) (sym f.0),
+      subst (λ (m : Counts). IsFile m o) same is,
+    ))
+
+-- what is spelled is all read
+pub whole-again : (o : Lists) → IsFileInRange o → whole_at (file_bytes o) ≡ Ok (o, [])
+whole-again o f =
+    let next = λ (x : Lists) (rest : List ℕ). need (length rest == 0) (bad_at Trailing rest) (Ok (x, rest)) in
+    ap (λ (bytes : List ℕ). file_at bytes >>= next) (sym (append-nil (file_bytes o))) ∙ ap (λ r. r >>= next) (object.again o [] f)
+
+-- what is read as a whole is in range, and the bytes are its spelling
+pub whole-takes : (bytes : List ℕ) (o : Lists) (rest : List ℕ) → IsBytes bytes → whole_at bytes ≡ Ok (o, rest) → IsFileInRange o × (bytes ≡ file_bytes o)
+whole-takes bytes o rest are e =
+    let b = bound (file_at bytes) (λ x s. need (length s == 0) (bad_at Trailing s) (Ok (x, s))) o rest e in
+    let n = needed (length b.rest == 0) (bad_at Trailing b.rest) (Ok (b.value, b.rest)) o rest b.then in
+    let g = given-value b.value o b.rest rest n.1 in
+    let t = object.takes bytes b.value b.rest are b.first in
+    let nothing : b.rest ≡ [] = nil_from_length b.rest (eqb-true _ _ n.0) in
+    let is : t.part ≡ o = t.made ∙ g.0 in
+    (subst IsFileInRange is t.fit, t.spelled ∙ ap (λ (r : List ℕ). file_bytes t.part ++ r) nothing ∙ append-nil (file_bytes t.part) ∙ ap file_bytes is)
+
+-- an object in range has no other spelling, nor two objects one
+pub one-file : (o p : Lists) → IsFileInRange o → IsFileInRange p → file_bytes o ≡ file_bytes p → o ≡ p
+one-file o p f g e = (given-value o p [] [] (sym (whole-again o f) ∙ ap whole_at e ∙ whole-again p g)).0
+
+-- bytes have no bad field exactly where some object in range has them
+pub no-bad-field : (bytes : List ℕ) → IsBytes bytes → (first_bad bytes ≡ None) ↔ ((o : Lists) × IsFileInRange o × (bytes ≡ file_bytes o))
+no-bad-field bytes are = (found (whole_at bytes) refl, λ h. ap first_bad h.2 ∙ ap (fault_of (file_bytes h.0)) (whole-again h.0 h.1))
+  where
+    found : (r : Read Lists) → whole_at bytes ≡ r → fault_of bytes r ≡ None → (o : Lists) × IsFileInRange o × (bytes ≡ file_bytes o)
+    found (Ok x) is e = let t = whole-takes bytes x.0 x.1 are is in (x.0, t.0, t.1)
+    found (Err bad) is e = absurd cc

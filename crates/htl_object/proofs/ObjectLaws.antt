@@ -1,0 +1,105 @@
+-- The laws of objects, from those of the lists of a file.
+use Rattle.std.proofs.Common.{◌≡◌, ◌↔◌, ◌<◌, ℕ, true, List, [], length, map, All, Option, Some, None, Result, Ok, Err, refl, sym, ap, subst, ◌∙◌}
+use Rattle.std.proofs.lemmas.List.Elements.{All-map}
+use Rattle.std.specs.Prelude.{FitsSigned}
+use Rattle.std.specs.Int.{w64}
+use Rattle.htl_base.specs.Names.{is_name}
+use Rattle.htl_ecode.specs.declared.instr.EInstr.{EInstr}
+use Rattle.htl_ecode.specs.declared.instr.EInstr.TheVariants as I
+use Rattle.htl_model.specs.Tables.{Compiled}
+use Rattle.htl_model.specs.declared.function.Code.{Code}
+use Rattle.htl_model.specs.declared.parts.Comm.{Comm}
+use Rattle.htl_model.specs.declared.parts.Mode.{Mode}
+use Rattle.htl_model.specs.declared.parts.Module.{Module}
+use Rattle.htl_model.specs.declared.parts.Port.{Port}
+use Rattle.htl_model.specs.declared.parts.Task.{Task}
+use Rattle.htl_walk.specs.declared.schedule.Schedule.{Schedule}
+use Rattle.htl_object.proofs.Each.{all_of}
+use Rattle.htl_object.proofs.FileLaws.{whole-again, whole-takes, one-file, no-bad-field}
+use Rattle.htl_object.proofs.FileRanges.{file_in_range}
+use Rattle.htl_object.proofs.Listed.{lists_again, object_again}
+use Rattle.htl_object.proofs.ObjectRange.{lists_are_object}
+use Rattle.htl_object.specs.Files.{AreAnchors, IsSchedule, IsFileInRange, file_bytes, whole_at, malformed_at, first_bad}
+use Rattle.htl_object.specs.Items.{Is32, IsComm, IsMode, IsModule, IsPort, IsTask, IsCode, IsEInstr, IsSInstr, IsFInstr}
+use Rattle.htl_object.specs.Laws.{OneSpelling, OneObject, NoBadField, SaysItself}
+use Rattle.htl_object.specs.Lists.{object_of_lists, lists_of}
+use Rattle.htl_object.specs.Objects.{HasWidths, KeepsFunction, KeepsTypes, IsObject, object_bytes, object_or, object_in, IsRead, IsReadAs}
+use Rattle.htl_object.specs.Reading.{IsBytes, Read}
+use Rattle.htl_object.specs.declared.decoding.DecodeFault.{DecodeFault}
+use Rattle.htl_object.specs.declared.decoding.DecodeFault.TheVariants as fault
+use Rattle.htl_object.specs.declared.lists.Anchors.{Anchors}
+use Rattle.htl_object.specs.declared.lists.Lists.{Lists}
+use Rattle.htl_object.specs.declared.malformed.Malformed.{Malformed}
+use Rattle.htl_object.specs.declared.object.Object.{Object}
+
+-- ---- what is read keeps its types
+
+has_widths : (i : EInstr) → IsEInstr i → HasWidths i
+has_widths (I.CallWrite a b) h = h
+has_widths (I.CallRead a b) h = h
+has_widths (I.Release a) h = h
+has_widths (I.Future d p x) h = (h.0, h.1.1)
+has_widths (I.JumpIf a b) h = h
+has_widths (I.Jump a) h = h
+has_widths (I.IfMode a b) h = h
+has_widths (I.Enter a) h = h
+has_widths I.Leave h = tt
+has_widths (I.Fork a) h = h
+has_widths I.Return h = tt
+
+keeps_types : (l : Lists) → IsFileInRange l → KeepsTypes (object_of_lists l)
+keeps_types l h =
+    record {
+      comms = all_of IsComm (λ (y : Comm). (is_name y.name ≡ true) × FitsSigned w64 y.init) l.comms (λ b c f. (f.name, f.width)) h.comms;
+      modes = all_of (IsMode (length l.modules)) (λ (y : Mode). is_name y.name ≡ true) l.modes (λ b m f. f.name) h.modes;
+      modules = all_of (IsModule l.modes) (λ (y : Module). is_name y.name ≡ true) l.modules (λ b m f. f.name) h.modules;
+      ports = all_of (IsPort (length l.modes)) (λ (y : Port). is_name y.name ≡ true) l.ports (λ b m f. f.name) h.ports;
+      tasks = all_of (IsTask (length l.modules)) (λ (y : Task). is_name y.name ≡ true) l.tasks (λ b m f. f.name) h.tasks;
+      functions = All-map KeepsFunction (λ (c : Code). Compiled c) l.functions (all_of (λ _. IsCode) (λ (c : Code). All IsFInstr c.instrs) l.functions (λ b c f. all_of (λ _. IsFInstr) IsFInstr c.instrs (λ b i g. g) f.instrs) h.functions);
+      enter = All-map Is32 (λ (a : Anchors). a.enter) l.anchors (all_of (λ _. AreAnchors) (λ (a : Anchors). Is32 a.enter) l.anchors (λ b a f. f.enter) h.anchors);
+      begin = All-map Is32 (λ (a : Anchors). a.begin) l.anchors (all_of (λ _. AreAnchors) (λ (a : Anchors). Is32 a.begin) l.anchors (λ b a f. f.begin) h.anchors);
+      decide = All-map Is32 (λ (a : Anchors). a.decide) l.anchors (all_of (λ _. AreAnchors) (λ (a : Anchors). Is32 a.decide) l.anchors (λ b a f. f.decide) h.anchors);
+      instrs = all_of (λ _. IsEInstr) HasWidths l.instrs (λ b i f. has_widths i f) h.instrs.1;
+      schedules = all_of (λ _. IsSchedule) (λ (s : Schedule). All IsSInstr s.instrs) l.schedules (λ b s f. all_of (λ _. IsSInstr) IsSInstr s.instrs (λ b i g. g) f.1) h.schedules;
+    }
+
+-- the object of lists in range is in range, and has their bytes
+pub object_found : (bytes : List ℕ) (l : Lists) (o : Object) → IsFileInRange l → bytes ≡ file_bytes l → o ≡ object_of_lists l → IsObject o × (bytes ≡ object_bytes o)
+object_found bytes l o h e is =
+    let there : IsObject (object_of_lists l) × (bytes ≡ object_bytes (object_of_lists l)) = (record { types = keeps_types l h; ranges = lists_are_object l h }, e ∙ ap file_bytes (sym (lists_again l h))) in
+    subst (λ (x : Object). IsObject x × (bytes ≡ object_bytes x)) (sym is) there
+
+-- ---- the laws
+
+pub one_object : OneObject
+one_object o p f g e =
+    sym (object_again o f.ranges) ∙ ap object_of_lists (one-file (lists_of o) (lists_of p) (file_in_range o f) (file_in_range p g) e) ∙ object_again p g.ranges
+
+pub says_itself : SaysItself
+says_itself o f = ap (object_or (object_bytes o)) (whole-again (lists_of o) (file_in_range o f)) ∙ ap (λ (x : Object). Ok x) (object_again o f.ranges)
+
+pub one_spelling : OneSpelling
+one_spelling bytes are o e = by (whole_at bytes) refl e
+  where
+    by : (r : Read Lists) → whole_at bytes ≡ r → object_or bytes r ≡ Ok o → IsObject o × (bytes ≡ object_bytes o)
+    by (Ok x) is f =
+        let t = whole-takes bytes x.0 x.1 are is in
+        let same : object_of_lists x.0 ≡ o = cc in
+        object_found bytes x.0 o t.0 t.1 (sym same)
+    by (Err bad) is f = absurd cc
+
+pub no_bad_field : NoBadField
+no_bad_field bytes are = (
+  λ e. let f = (no-bad-field bytes are).0 e in let g = object_found bytes f.0 (object_of_lists f.0) f.1 f.2 refl in (object_of_lists f.0, g.0, g.1),
+  λ f. (no-bad-field bytes are).1 (lists_of f.0, file_in_range f.0 f.1, f.2),
+)
+
+-- ---- what decoding answers
+
+none-some : (m : Malformed) → ◌≡◌ {A = Option Malformed} None (Some m) → ⊥
+none-some m e = cc
+
+-- the bytes of an object in range are refused only for want of memory
+pub not_refused : (bytes : List ℕ) (f : DecodeFault) → IsBytes bytes → IsRead bytes (Err f) → (o : Object) → IsObject o → bytes ≡ object_bytes o → IsReadAs o (Err f)
+not_refused bytes (fault.Malformed m) are read o h e = absurd (none-some m (sym ((no_bad_field bytes are).1 (o, h, e)) ∙ read))
+not_refused bytes fault.Memory are read o h e = tt

@@ -1,0 +1,60 @@
+-- What is read of a file is an object in range.
+use Rattle.std.proofs.Common.{◌≡◌, ◌≤◌, ℕ, Bool, true, false, ◌&&◌, List, length, refl, ◌∙◌, arith}
+use Rattle.std.specs.Prelude.{nat_le}
+use Rattle.std.proofs.lemmas.Bool.Decides.{nat_tests}
+use Rattle.std.proofs.lemmas.List.{length-map}
+use Rattle.std.proofs.lemmas.List.Elements.{All-map}
+use Rattle.htl_object.specs.Files.{IsFileInRange, IsSchedule}
+use Rattle.htl_object.specs.Items.{IsEInstr}
+use Rattle.htl_object.specs.declared.lists.Anchors.{Anchors}
+use Rattle.htl_object.specs.declared.lists.Lists.{Lists}
+use Rattle.htl_ecode.specs.declared.instr.EInstr.{EInstr}
+use Rattle.htl_ecode.specs.declared.instr.EInstr.TheVariants as I
+use Rattle.htl_model.specs.Tables.{Compiled}
+use Rattle.htl_model.specs.declared.function.Code.{Code}
+use Rattle.htl_object.specs.Ranges.{IsCode, IsPhased, IsShort, IsInRange}
+use Rattle.htl_object.proofs.Each.{all_of}
+use Rattle.htl_object.proofs.ListRanges.{lists_in_range}
+use Rattle.htl_object.proofs.Limits.{lists_keep_limits, counted_schedules}
+use Rattle.htl_object.specs.Lists.{object_of_lists}
+use Rattle.htl_walk.specs.declared.schedule.SInstr.{SInstr}
+use Rattle.htl_walk.specs.declared.schedule.Schedule.{Schedule}
+
+at_most : (n m : ℕ) → nat_le n m ≡ true → n ≤ m
+at_most n m h = grind (arith, nat_tests)
+
+left : (a b : Bool) → (a && b) ≡ true → a ≡ true
+left true b h = refl
+left false b h = cc
+
+right : (a b : Bool) → (a && b) ≡ true → b ≡ true
+right true b h = h
+right false b h = cc
+
+phased : (i : EInstr) → IsEInstr i → IsPhased i
+phased (I.CallWrite a b) h = tt
+phased (I.CallRead a b) h = tt
+phased (I.Release a) h = tt
+phased (I.Future d p x) h = (at_most 1 p (left (nat_le 1 p) (nat_le p 3) h.1.0.1), at_most p 3 (right (nat_le 1 p) (nat_le p 3) h.1.0.1))
+phased (I.JumpIf a b) h = tt
+phased (I.Jump a) h = tt
+phased (I.IfMode a b) h = tt
+phased (I.Enter a) h = tt
+phased I.Leave h = tt
+phased (I.Fork a) h = tt
+phased I.Return h = tt
+
+pub lists_are_object : (l : Lists) → IsFileInRange l → IsInRange (object_of_lists l)
+lists_are_object l h =
+    record {
+      tables = lists_in_range l h;
+      limits = lists_keep_limits l h;
+      coded = All-map IsCode (λ (c : Code). Compiled c) l.functions (λ k d less. tt);
+      enter = length-map l.anchors (λ (a : Anchors). a.enter) ∙ h.anchor_count;
+      begin = length-map l.anchors (λ (a : Anchors). a.begin) ∙ h.anchor_count;
+      decide = length-map l.anchors (λ (a : Anchors). a.decide) ∙ h.anchor_count;
+      phases = all_of (λ _. IsEInstr) IsPhased l.instrs (λ b i f. phased i f) h.instrs.1;
+      few_instrs = omega (arith, h.instrs.0);
+      schedules = counted_schedules l h;
+      short = all_of (λ _. IsSchedule) IsShort l.schedules (λ b s f. omega (arith, f.0)) h.schedules;
+    }

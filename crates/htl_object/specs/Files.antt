@@ -1,0 +1,232 @@
+-- The lists of a file: their one spelling, their ranges, and the first bad field of bytes.
+use Rattle.std.specs.Prelude.{◌≡◌, ℕ, zero, suc, ◌+◌, ◌-◌, ◌*◌, max, ◌==◌, ◌&&◌, Bool, false, cond, slice_get, is_none, List, [], ◌++◌, length, take, drop, Option, Some, None, Ok, Err, nat_le, codes, count_by, sum_by}
+use Rattle.std.specs.Int.{w16, w32, to_be_bytes}
+use Rattle.std.specs.List.{flat_map}
+use Rattle.std.specs.Str.{bytes_eq}
+use Rattle.htl_base.specs.declared.limits.TheConstants.{MAX_COMMUNICATORS, MAX_MODULES, MAX_MODES, MAX_PORTS, MAX_TASKS, MAX_INVOCATIONS, MAX_SWITCHES, MAX_SELECTIONS, MAX_POSITIONS}
+use Rattle.htl_object.specs.declared.malformed.MalKind.{MalKind}
+use Rattle.htl_object.specs.declared.malformed.MalKind.TheVariants.{Magic, Version, Index, Trailing}
+use Rattle.htl_object.specs.declared.malformed.Malformed.{Malformed}
+use Rattle.htl_object.specs.declared.malformed.Bad.{Bad}
+use Rattle.htl_model.specs.declared.parts.Mode.{Mode}
+use Rattle.htl_model.specs.declared.parts.Module.{Module}
+use Rattle.htl_model.specs.declared.parts.Task.{Task}
+use Rattle.htl_model.specs.declared.parts.Inv.{Inv}
+use Rattle.htl_ecode.specs.declared.instr.EInstr.{EInstr}
+use Rattle.htl_walk.specs.declared.schedule.SInstr.{SInstr}
+use Rattle.htl_walk.specs.declared.schedule.Schedule.{Schedule}
+use Rattle.htl_object.specs.declared.lists.Anchors.{Anchors}
+use Rattle.htl_object.specs.declared.lists.Counts.{Counts}
+use Rattle.htl_object.specs.declared.lists.Lists.{Lists}
+use Rattle.htl_object.specs.Reading.{Read, ◌>>=◌, bad_at, short, need, field_at, items_at, number_at, count_at}
+use Rattle.htl_object.specs.Comms.{comm_bytes, comm_at}
+use Rattle.htl_object.specs.Modes.{mode_bytes, mode_at}
+use Rattle.htl_object.specs.Modules.{module_bytes, module_at, is_mode_of}
+use Rattle.htl_object.specs.Ports.{port_bytes, port_at, task_bytes, task_at}
+use Rattle.htl_object.specs.Invocations.{inv_bytes, inv_at, switch_bytes, switch_at}
+use Rattle.htl_object.specs.Instructions.{code_bytes, code_at, e_bytes, e_instr_at, s_bytes, s_instr_at}
+use Rattle.htl_object.specs.Items.{Each, Every, Fits16, Is32, IsComm, IsMode, IsModule, IsPort, IsTask, IsInv, IsSwitch, IsCode, IsEInstr, IsSInstr}
+
+-- ---- counts
+
+abbrev pub counts_of : Lists → Counts
+counts_of o =
+    record {
+      comms = length o.comms;
+      modes = length o.modes;
+      modules = length o.modules;
+      ports = length o.ports;
+      tasks = length o.tasks;
+      invs = length o.invs;
+      switches = length o.switches;
+    }
+
+abbrev pub counts_bytes : Counts → List ℕ
+counts_bytes n =
+    to_be_bytes w16 n.comms ++ (to_be_bytes w16 n.modes ++ (to_be_bytes w16 n.modules ++ (to_be_bytes w16 n.ports
+    ++ (to_be_bytes w16 n.tasks ++ (to_be_bytes w16 n.invs ++ to_be_bytes w16 n.switches)))))
+
+abbrev pub counts_at : List ℕ → Read Counts
+counts_at bytes =
+    count_at MAX_COMMUNICATORS bytes >>= λ comms rest.
+    count_at MAX_MODES rest >>= λ modes rest.
+    count_at MAX_MODULES rest >>= λ modules rest.
+    count_at MAX_PORTS rest >>= λ ports rest.
+    count_at MAX_TASKS rest >>= λ tasks rest.
+    count_at MAX_INVOCATIONS rest >>= λ invs rest.
+    count_at MAX_SWITCHES rest >>= λ switches rest.
+    Ok (record { comms = comms; modes = modes; modules = modules; ports = ports; tasks = tasks; invs = invs; switches = switches }, rest)
+
+pub record AreCounts (n : Counts) : Type 0 where
+  pub comms : Fits16 (λ k. nat_le k MAX_COMMUNICATORS) n.comms
+  pub modes : Fits16 (λ k. nat_le k MAX_MODES) n.modes
+  pub modules : Fits16 (λ k. nat_le k MAX_MODULES) n.modules
+  pub ports : Fits16 (λ k. nat_le k MAX_PORTS) n.ports
+  pub tasks : Fits16 (λ k. nat_le k MAX_TASKS) n.tasks
+  pub invs : Fits16 (λ k. nat_le k MAX_INVOCATIONS) n.invs
+  pub switches : Fits16 (λ k. nat_le k MAX_SWITCHES) n.switches
+
+-- ---- what the tables ask for
+
+abbrev pub function_count : List Task → ℕ → ℕ
+function_count tasks switches = sum_by (λ t. cond t.is_abstract 0 (length t.outputs)) tasks + switches
+
+-- module k is a root
+abbrev pub is_root : List Module → ℕ → Bool
+is_root modules k = elim (slice_get modules k) [ Some m ↦ is_none m.parent | None ↦ false ]
+
+-- one mode for each root module below n
+abbrev pub selections_to : List Mode → List Module → ℕ → ℕ
+selections_to modes modules zero = 1
+selections_to modes modules (suc n) =
+    selections_to modes modules n * cond (is_root modules n) (count_by (λ q. q.«module» == n) modes) 1
+
+-- the most invocations of a mode of module k, of the modes below q
+abbrev pub widest_to : List Mode → List Inv → ℕ → ℕ → ℕ
+widest_to modes invs k zero = 0
+widest_to modes invs k (suc q) =
+    max (widest_to modes invs k q) (cond (is_mode_of modes k q) (count_by (λ i. i.mode == q) invs) 0)
+
+-- the most positions of a selection, of the root modules below n
+abbrev pub positions_to : List Mode → List Module → List Inv → ℕ → ℕ
+positions_to modes modules invs zero = 0
+positions_to modes modules invs (suc n) =
+    positions_to modes modules invs n + cond (is_root modules n) (widest_to modes invs n (length modes)) 0
+
+-- the number of selections, none without modules, where there are few and none has more positions than there may be
+abbrev pub is_selections : List Mode → List Module → List Inv → ℕ → Bool
+is_selections modes modules invs n =
+    n == cond (length modules == 0) 0 (selections_to modes modules (length modules)) && nat_le n MAX_SELECTIONS
+    && nat_le (positions_to modes modules invs (length modules)) MAX_POSITIONS
+
+-- ---- the parts behind the tables
+
+abbrev pub anchors_bytes : Anchors → List ℕ
+anchors_bytes a = to_be_bytes w32 a.enter ++ (to_be_bytes w32 a.begin ++ to_be_bytes w32 a.decide)
+
+abbrev pub anchors_at : List ℕ → Read Anchors
+anchors_at bytes =
+    number_at w32 bytes >>= λ enter rest.
+    number_at w32 rest >>= λ begin rest.
+    number_at w32 rest >>= λ decide rest.
+    Ok (record { enter = enter; begin = begin; decide = decide }, rest)
+
+pub record AreAnchors (a : Anchors) : Type 0 where
+  pub enter : Is32 a.enter
+  pub begin : Is32 a.begin
+  pub decide : Is32 a.decide
+
+abbrev pub e_code_bytes : List EInstr → List ℕ
+e_code_bytes xs = to_be_bytes w32 (length xs) ++ flat_map e_bytes xs
+
+abbrev pub e_code_at : List ℕ → Read (List EInstr)
+e_code_at bytes = number_at w32 bytes >>= λ n rest. items_at (λ _. e_instr_at) n [] rest
+
+abbrev pub IsECode : List EInstr → Type 0
+IsECode xs = Is32 (length xs) × Every IsEInstr xs
+
+abbrev pub schedule_bytes : Schedule → List ℕ
+schedule_bytes s = to_be_bytes w32 (length s.instrs) ++ flat_map s_bytes s.instrs
+
+abbrev pub s_code_at : List ℕ → Read (List SInstr)
+s_code_at bytes = number_at w32 bytes >>= λ n rest. items_at (λ _. s_instr_at) n [] rest
+
+abbrev pub schedule_at : List ℕ → Read Schedule
+schedule_at bytes = s_code_at bytes >>= λ instrs rest. Ok (record { instrs = instrs }, rest)
+
+abbrev pub IsSchedule : Schedule → Type 0
+IsSchedule s = Is32 (length s.instrs) × Every IsSInstr s.instrs
+
+abbrev pub schedules_bytes : List Schedule → List ℕ
+schedules_bytes ss = to_be_bytes w16 (length ss) ++ flat_map schedule_bytes ss
+
+abbrev pub schedules_at : (ℕ → Bool) → List ℕ → Read (List Schedule)
+schedules_at test bytes = field_at Index test (number_at w16) bytes >>= λ n rest. items_at (λ _. schedule_at) n [] rest
+
+-- ---- the whole
+
+-- just these bytes
+abbrev pub text_at : MalKind → List ℕ → List ℕ → Read (List ℕ)
+text_at kind text bytes =
+    need (nat_le (length text) (length bytes)) short
+    (need (bytes_eq (take (length text) bytes) text) (bad_at kind bytes) (Ok (text, drop (length text) bytes)))
+
+abbrev pub version_at : List ℕ → Read ℕ
+version_at = field_at Version (λ n. n == 1) (number_at w16)
+
+abbrev pub file_bytes : Lists → List ℕ
+file_bytes o =
+    codes "HTLO" ++ (to_be_bytes w16 1 ++ (counts_bytes (counts_of o)
+    ++ (flat_map comm_bytes o.comms ++ (flat_map mode_bytes o.modes ++ (flat_map module_bytes o.modules
+    ++ (flat_map port_bytes o.ports ++ (flat_map task_bytes o.tasks ++ (flat_map inv_bytes o.invs
+    ++ (flat_map switch_bytes o.switches ++ (flat_map code_bytes o.functions ++ (flat_map anchors_bytes o.anchors
+    ++ (e_code_bytes o.instrs ++ schedules_bytes o.schedules))))))))))))
+
+abbrev pub file_at : List ℕ → Read Lists
+file_at bytes =
+    text_at Magic (codes "HTLO") bytes >>= λ magic rest.
+    version_at rest >>= λ version rest.
+    counts_at rest >>= λ n rest.
+    items_at comm_at n.comms [] rest >>= λ comms rest.
+    items_at (mode_at n.modules) n.modes [] rest >>= λ modes rest.
+    items_at (module_at modes) n.modules [] rest >>= λ modules rest.
+    items_at (port_at n.modes) n.ports [] rest >>= λ ports rest.
+    items_at (task_at n.modules) n.tasks [] rest >>= λ tasks rest.
+    items_at (inv_at n.comms n.invs modes tasks ports) n.invs [] rest >>= λ invs rest.
+    items_at (switch_at n.comms modes) n.switches [] rest >>= λ switches rest.
+    items_at (λ _. code_at) (function_count tasks n.switches) [] rest >>= λ functions rest.
+    items_at (λ _. anchors_at) n.modes [] rest >>= λ anchors rest.
+    e_code_at rest >>= λ instrs rest.
+    schedules_at (is_selections modes modules invs) rest >>= λ schedules rest.
+    Ok (
+      record {
+        comms = comms;
+        modes = modes;
+        modules = modules;
+        ports = ports;
+        tasks = tasks;
+        invs = invs;
+        switches = switches;
+        functions = functions;
+        anchors = anchors;
+        instrs = instrs;
+        schedules = schedules;
+      },
+      rest,
+    )
+
+-- the object is in range, its counts being n
+pub record IsFile (n : Counts) (o : Lists) : Type 0 where
+  pub counts : AreCounts n
+  pub comms : Each IsComm [] o.comms
+  pub modes : Each (IsMode n.modules) [] o.modes
+  pub modules : Each (IsModule o.modes) [] o.modules
+  pub ports : Each (IsPort n.modes) [] o.ports
+  pub tasks : Each (IsTask n.modules) [] o.tasks
+  pub invs : Each (IsInv n.comms n.invs o.modes o.tasks o.ports) [] o.invs
+  pub switches : Each (IsSwitch n.comms o.modes) [] o.switches
+  pub function_count : length o.functions ≡ function_count o.tasks n.switches
+  pub functions : Every IsCode o.functions
+  pub anchor_count : length o.anchors ≡ n.modes
+  pub anchors : Every AreAnchors o.anchors
+  pub instrs : IsECode o.instrs
+  pub schedule_count : Fits16 (is_selections o.modes o.modules o.invs) (length o.schedules)
+  pub schedules : Every IsSchedule o.schedules
+
+abbrev pub IsFileInRange : Lists → Type 0
+IsFileInRange o = IsFile (counts_of o) o
+
+-- an object that is all of the bytes
+abbrev pub whole_at : List ℕ → Read Lists
+whole_at bytes = file_at bytes >>= λ o rest. need (length rest == 0) (bad_at Trailing rest) (Ok (o, rest))
+
+abbrev pub malformed_at : List ℕ → Bad → Malformed
+malformed_at bytes bad = record { offset = length bytes - bad.left; kind = bad.kind }
+
+abbrev pub fault_of : {X : Type 0} → List ℕ → Read X → Option Malformed
+fault_of bytes (Ok x) = None
+fault_of bytes (Err bad) = Some (malformed_at bytes bad)
+
+-- the first bad field
+abbrev pub first_bad : List ℕ → Option Malformed
+first_bad bytes = fault_of bytes (whole_at bytes)

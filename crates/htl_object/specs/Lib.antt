@@ -1,0 +1,14 @@
+pub mod Comms
+pub mod Fields
+pub mod Files
+pub mod Instructions
+pub mod Invocations
+pub mod Items
+pub mod Laws
+pub mod Lists
+pub mod Modes
+pub mod Modules
+pub mod Objects
+pub mod Ports
+pub mod Ranges
+pub mod Reading

@@ -1,0 +1,80 @@
+-- The lists of a file and the object that they are of.
+use Rattle.std.specs.Prelude.{ℕ, List, [], ◌∷◌, length, map, get_or}
+use Rattle.htl_ecode.specs.declared.ecode.ECode.{ECode}
+use Rattle.htl_model.specs.Lists.{list_to}
+use Rattle.htl_model.specs.Tables.{Tables, Fun, Formula, Compiled}
+use Rattle.htl_model.specs.declared.function.Code.{Code}
+use Rattle.htl_object.specs.declared.lists.Anchors.{Anchors}
+use Rattle.htl_object.specs.declared.lists.Counts.{Counts}
+use Rattle.htl_object.specs.declared.lists.Lists.{Lists}
+use Rattle.htl_object.specs.declared.object.Object.{Object}
+
+-- ---- the object of lists
+
+abbrev pub tables_of_lists : Lists → Tables
+tables_of_lists l =
+    record {
+      comms = l.comms;
+      modes = l.modes;
+      modules = l.modules;
+      ports = l.ports;
+      tasks = l.tasks;
+      invs = l.invs;
+      switches = l.switches;
+      functions = map (λ c. Compiled c) l.functions;
+    }
+
+-- tables with code, three lists of addresses for one by mode, and schedules
+abbrev pub object_of_lists : Lists → Object
+object_of_lists l =
+    record {
+      tables = tables_of_lists l;
+      ecode = record {
+        enter = map (λ (a : Anchors). a.enter) l.anchors;
+        begin = map (λ (a : Anchors). a.begin) l.anchors;
+        decide = map (λ (a : Anchors). a.decide) l.anchors;
+        instrs = l.instrs;
+      };
+      schedules = l.schedules;
+    }
+
+-- ---- the lists of an object
+
+-- the numbers of items
+abbrev pub counts_in : Tables → Counts
+counts_in t =
+    record {
+      comms = length t.comms;
+      modes = length t.modes;
+      modules = length t.modules;
+      ports = length t.ports;
+      tasks = length t.tasks;
+      invs = length t.invs;
+      switches = length t.switches;
+    }
+
+-- the functions that are code
+abbrev pub codes_of : List Fun → List Code
+codes_of [] = []
+codes_of (Compiled c ∷ fs) = c ∷ codes_of fs
+codes_of (Formula first e ∷ fs) = codes_of fs
+
+-- the addresses of mode m
+abbrev pub anchors_of : ECode → ℕ → Anchors
+anchors_of e m = record { enter = get_or e.enter m 0; begin = get_or e.begin m 0; decide = get_or e.decide m 0 }
+
+abbrev pub lists_of : Object → Lists
+lists_of o =
+    record {
+      comms = o.tables.comms;
+      modes = o.tables.modes;
+      modules = o.tables.modules;
+      ports = o.tables.ports;
+      tasks = o.tables.tasks;
+      invs = o.tables.invs;
+      switches = o.tables.switches;
+      functions = codes_of o.tables.functions;
+      anchors = list_to (anchors_of o.ecode) (length o.tables.modes);
+      instrs = o.ecode.instrs;
+      schedules = o.schedules;
+    }

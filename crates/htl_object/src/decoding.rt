@@ -1,0 +1,179 @@
+// Bytes to an object, or their first bad field.
+ghost use Rattle.std.specs.Prelude.{◌≡◌, ◌≤◌, List, ℕ, IfOk};
+ghost use Rattle.htl_object.specs.Reading.{Gives};
+ghost use Rattle.htl_object.specs.Files.{counts_at, file_at, schedules_at, is_selections, whole_at, malformed_at, IsFileInRange, file_bytes};
+ghost use Rattle.htl_object.specs.Objects.{object_bytes, IsObject, IsDecoded, IsReadAs, IsRead};
+ghost use Rattle.htl_object.specs.declared.object.Object.{Object};
+
+use crate::assembly::assemble;
+use crate::code_reader::e_code;
+use crate::cursor::{Cursor, bad};
+use crate::items::items;
+use crate::lists::{Counts, Lists};
+use crate::malformed::{Bad, MalKind, Malformed, Stop};
+use crate::object::Object;
+use crate::selections::{function_count, is_selections};
+use crate::table_reader::{
+    InvAround, ModeCount, ModuleAround, ModuleCount, SwitchAround, TaskAround,
+};
+use htl_base::Seq;
+use htl_base::limits::{
+    MAX_COMMUNICATORS, MAX_INVOCATIONS, MAX_MODES, MAX_MODULES, MAX_PORTS, MAX_SWITCHES, MAX_TASKS,
+};
+use htl_model::{Inv, Mode, Module};
+use htl_walk::Schedule;
+use std::alloc::Global;
+
+/// Why bytes gave no object.
+#[derive(Debug, Drop)]
+pub enum DecodeFault {
+    /// They are no object; the first bad field.
+    Malformed(Malformed),
+    /// No memory was left.
+    Memory,
+}
+
+// The numbers of items.
+fn counts(cursor: &mut Cursor<'_>) -> Result<Counts, Stop>
+    ensures reads { Gives (λ x. x) (counts_at cursor.old) cursor.new result }
+    ensures few { IfOk result (λ n. n.tasks ≤ 4096) }
+{
+    let comms = cursor.count(MAX_COMMUNICATORS)?;
+    let modes = cursor.count(MAX_MODES)?;
+    let modules = cursor.count(MAX_MODULES)?;
+    let ports = cursor.count(MAX_PORTS)?;
+    let tasks = cursor.count(MAX_TASKS)?;
+    let invs = cursor.count(MAX_INVOCATIONS)?;
+    let switches = cursor.count(MAX_SWITCHES)?;
+    Ok(Counts {
+        comms,
+        modes,
+        modules,
+        ports,
+        tasks,
+        invs,
+        switches,
+    })
+}
+
+// The schedules, as many as the tables have selections.
+fn schedules(
+    alloc: Global,
+    cursor: &mut Cursor<'_>,
+    modes: &[Mode],
+    modules: &[Module],
+    invs: &[Inv],
+) -> Result<Vec<Schedule>, Stop>
+    ensures { Gives (λ x. x.items) (schedules_at (is_selections modes.now modules.now invs.now) cursor.old) cursor.new result }
+{
+    let left = cursor.left();
+    let count = cursor.u16()?;
+    if !is_selections(modes, modules, invs, count) {
+        return Err(bad(MalKind::Index, left));
+    }
+    items(alloc, cursor, &alloc, count as usize)
+}
+
+// The lists of a file, item by item.
+fn lists(alloc: Global, cursor: &mut Cursor<'_>) -> Result<Lists, Stop>
+    ensures { Gives (λ x. x) (file_at cursor.old) cursor.new result }
+{
+    cursor.text(MalKind::Magic, b"HTLO")?;
+    cursor.version()?;
+    let n = counts(cursor)?;
+    let comms = items(alloc, cursor, &(), n.comms as usize)?;
+    let modes = items(alloc, cursor, &ModuleCount(n.modules), n.modes as usize)?;
+    let around = ModuleAround { modes: &modes };
+    let modules = items(alloc, cursor, &around, n.modules as usize)?;
+    let ports = items(alloc, cursor, &ModeCount(n.modes), n.ports as usize)?;
+    let around = TaskAround {
+        alloc,
+        modules: n.modules,
+    };
+    let tasks = items(alloc, cursor, &around, n.tasks as usize)?;
+    let around = InvAround {
+        alloc,
+        comms: n.comms,
+        invs: n.invs,
+        modes: &modes,
+        tasks: &tasks,
+        ports: &ports,
+    };
+    let invs = items(alloc, cursor, &around, n.invs as usize)?;
+    let around = SwitchAround {
+        alloc,
+        comms: n.comms,
+        modes: &modes,
+    };
+    let switches = items(alloc, cursor, &around, n.switches as usize)?;
+    let count = function_count(&tasks, n.switches);
+    let functions = items(alloc, cursor, &alloc, count)?;
+    let anchors = items(alloc, cursor, &(), n.modes as usize)?;
+    let instrs = e_code(alloc, cursor)?;
+    let schedules = schedules(alloc, cursor, &modes, &modules, &invs)?;
+    Ok(Lists {
+        comms: Seq::new(comms),
+        modes: Seq::new(modes),
+        modules: Seq::new(modules),
+        ports: Seq::new(ports),
+        tasks: Seq::new(tasks),
+        invs: Seq::new(invs),
+        switches: Seq::new(switches),
+        functions: Seq::new(functions),
+        anchors: Seq::new(anchors),
+        instrs: Seq::new(instrs),
+        schedules: Seq::new(schedules),
+    })
+}
+
+// The lists of a file, which is all of the bytes.
+fn whole(alloc: Global, cursor: &mut Cursor<'_>) -> Result<Lists, Stop>
+    ensures { Gives (λ x. x) (whole_at cursor.old) cursor.new result }
+{
+    let found = lists(alloc, cursor)?;
+    let left = cursor.left();
+    if left != 0 {
+        return Err(bad(MalKind::Trailing, left));
+    }
+    Ok(found)
+}
+
+// Where a bad field begins.
+fn placed(bytes: &[u8], bad: Bad) -> Malformed
+    ensures { result ≡ malformed_at bytes.now bad }
+{
+    Malformed {
+        offset: bytes.len().saturating_sub(bad.left) as u64,
+        kind: bad.kind,
+    }
+}
+
+// The lists of a file.
+fn read(alloc: Global, bytes: &[u8]) -> Result<Lists, DecodeFault>
+    ensures found { IfOk result (λ l. IsFileInRange l × (bytes.now ≡ file_bytes l)) }
+    ensures exact { IsRead bytes.now result }
+{
+    let mut cursor = Cursor::new(bytes);
+    match whole(alloc, &mut cursor) {
+        Ok(found) => Ok(found),
+        Err(Stop::Memory) => Err(DecodeFault::Memory),
+        Err(Stop::Bad(bad)) => Err(DecodeFault::Malformed(placed(bytes, bad))),
+    }
+}
+
+/// The object in range that has these bytes. Malformed exactly where none has them: the first bad field, with the offset
+/// of its first byte. Want of memory may stand in place of either.
+pub fn decode(alloc: Global, bytes: &[u8]) -> Result<Object, DecodeFault>
+    ensures found { IfOk result (λ o. IsObject o × (bytes.now ≡ object_bytes o)) }
+    ensures exact { IsDecoded bytes.now result }
+    ensures only { (o : Object) → IsObject o → bytes.now ≡ object_bytes o → IsReadAs o result }
+{
+    let lists = match read(alloc, bytes) {
+        Ok(lists) => lists,
+        Err(fault) => return Err(fault),
+    };
+    match assemble(alloc, lists) {
+        Ok(o) => Ok(o),
+        Err(_) => Err(DecodeFault::Memory),
+    }
+}

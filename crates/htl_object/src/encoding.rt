@@ -1,0 +1,91 @@
+// An object to its bytes.
+ghost use Rattle.std.specs.Prelude.{◌≡◌, ◌++◌, ◌<◌, length, IfOk, OnOk, Ok, All};
+ghost use Rattle.std.specs.List.{flat_map};
+ghost use Rattle.htl_model.specs.Tables.{tables_of};
+ghost use Rattle.htl_model.specs.Lists.{list_to};
+ghost use Rattle.htl_object.specs.Files.{counts_bytes, anchors_bytes, AreAnchors};
+ghost use Rattle.htl_object.specs.Lists.{anchors_of, counts_in};
+ghost use Rattle.htl_object.specs.Objects.{object_bytes, object_in, KeepsTypes, IsObject};
+ghost use Rattle.htl_object.specs.Ranges.{IsInRange};
+
+use crate::lists::Anchors;
+use crate::object::Object;
+use crate::writer::{Spelled, put_all, put_count, put_list, put_long_list, put16};
+use htl_base::Memory;
+use htl_ecode::ECode;
+use htl_model::Parts;
+use std::alloc::{AllocError, Global};
+
+// The number of items of each list.
+fn put_counts(out: &mut Vec<u8>, parts: &Parts) -> Result<(), AllocError>
+    ensures { OnOk result (out.new.items ≡ out.old.items ++ counts_bytes (counts_in (tables_of parts.now))) }
+{
+    put_count(out, parts.comms.as_slice().len())?;
+    put_count(out, parts.modes.as_slice().len())?;
+    put_count(out, parts.modules.as_slice().len())?;
+    put_count(out, parts.ports.as_slice().len())?;
+    put_count(out, parts.tasks.as_slice().len())?;
+    put_count(out, parts.invs.as_slice().len())?;
+    put_count(out, parts.switches.as_slice().len())?;
+    Ok(())
+}
+
+// The addresses of each mode.
+fn put_anchors(out: &mut Vec<u8>, code: &ECode, modes: usize) -> Result<(), AllocError>
+    requires enter { length code.now.enter ≡ modes }
+    requires begin { length code.now.begin ≡ modes }
+    requires decide { length code.now.decide ≡ modes }
+    ensures spelled { OnOk result (out.new.items ≡ out.old.items ++ flat_map anchors_bytes (list_to (anchors_of code.now) modes)) }
+    ensures types { OnOk result (All AreAnchors (list_to (anchors_of code.now) modes)) }
+{
+    let enter = code.enter.as_slice();
+    let begin = code.begin.as_slice();
+    let decide = code.decide.as_slice();
+    for m in 0..modes {
+        let anchors = Anchors {
+            enter: enter[m],
+            begin: begin[m],
+            decide: decide[m],
+        };
+        anchors.put(out)?;
+    }
+    Ok(())
+}
+
+fn encoded(alloc: Global, o: &Object) -> Result<Vec<u8>, AllocError>
+    requires { IsInRange o.now }
+    ensures spelled { IfOk result (λ bytes. bytes.items ≡ object_bytes o.now) }
+    ensures types { IfOk result (λ _. KeepsTypes o.now) }
+{
+    let mut out = Vec::new(alloc);
+    let parts = o.tables.parts();
+    out.extend_from_slice(b"HTLO")?;
+    put16(&mut out, 1)?;
+    put_counts(&mut out, parts)?;
+    put_all(&mut out, parts.comms.as_slice())?;
+    put_all(&mut out, parts.modes.as_slice())?;
+    put_all(&mut out, parts.modules.as_slice())?;
+    put_all(&mut out, parts.ports.as_slice())?;
+    put_all(&mut out, parts.tasks.as_slice())?;
+    put_all(&mut out, parts.invs.as_slice())?;
+    put_all(&mut out, parts.switches.as_slice())?;
+    put_all(&mut out, parts.functions.as_slice())?;
+    put_anchors(&mut out, &o.ecode, parts.modes.as_slice().len())?;
+    put_long_list(&mut out, o.ecode.instrs.as_slice())?;
+    put_list(&mut out, o.schedules.as_slice())?;
+    Ok(out)
+}
+
+/// The one spelling of an object in range, which says this object and no other: decoded, it is this object again. Memory
+/// only where no memory was left.
+pub fn encode(alloc: Global, o: &Object) -> Result<Vec<u8>, Memory>
+    requires { IsInRange o.now }
+    ensures spelled { IfOk result (λ bytes. bytes.items ≡ object_bytes o.now) }
+    ensures object { IfOk result (λ _. IsObject o.now) }
+    ensures again { IfOk result (λ bytes. object_in bytes.items ≡ Ok o.now) }
+{
+    match encoded(alloc, o) {
+        Ok(bytes) => Ok(bytes),
+        Err(_) => Err(Memory),
+    }
+}

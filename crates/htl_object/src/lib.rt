@@ -1,0 +1,25 @@
+//! The object file: its one spelling, its ranges, and the first bad field of bytes.
+#![tactic(auto)]
+
+mod assembly;
+mod code_reader;
+mod code_writer;
+mod cursor;
+mod decoding;
+mod encoding;
+mod items;
+pub mod laws;
+mod lists;
+mod malformed;
+mod object;
+mod selections;
+mod table_reader;
+mod table_writer;
+#[cfg(test)]
+mod tests;
+mod writer;
+
+pub use decoding::{DecodeFault, decode};
+pub use encoding::encode;
+pub use malformed::{MalKind, Malformed};
+pub use object::Object;

@@ -1,0 +1,16 @@
+// Objects: what a compiler makes and a loader is handed.
+use htl_base::Seq;
+use htl_ecode::ECode;
+use htl_model::Tables;
+use htl_walk::Schedule;
+
+/// Tables whose functions are code, with their E code, and S code for each root selection.
+#[derive(Drop)]
+pub struct Object {
+    /// All functions are code.
+    pub tables: Tables,
+    /// Three addresses for each mode, and at most 4,294,967,295 instructions.
+    pub ecode: ECode,
+    /// One for each root selection, in the order of the selections.
+    pub schedules: Seq<Schedule>,
+}

@@ -1,0 +1,102 @@
+// How many functions and selections the tables ask for.
+ghost use Rattle.std.specs.Prelude.{◌≡◌, ◌<◌, ◌≤◌, ◌^◌, ◌+◌, ◌==◌, min, length, cond, count_by, sum_by};
+ghost use Rattle.htl_object.specs.Modules.{is_mode_of};
+ghost use Rattle.htl_object.specs.Files.{is_root, selections_to, widest_to, positions_to, is_selections, function_count};
+
+use crate::table_reader::is_mode_of;
+use htl_base::limits::{MAX_POSITIONS, MAX_SELECTIONS};
+use htl_model::{Inv, Mode, Module, Task};
+
+fn is_root(modules: &[Module], k: usize) -> bool
+    ensures { result ≡ is_root modules.now k }
+{
+    match modules.get(k) {
+        None => false,
+        Some(m) => m.parent.is_none(),
+    }
+}
+
+fn mode_count(modes: &[Mode], k: usize) -> usize
+    ensures { result ≡ count_by (λ q. q.«module» == k) modes.now }
+{
+    modes.iter().filter(|q| q.module as usize == k).count()
+}
+
+fn inv_count(invs: &[Inv], mode: usize) -> usize
+    ensures { result ≡ count_by (λ i. i.mode == mode) invs.now }
+{
+    invs.iter().filter(|i| i.mode as usize == mode).count()
+}
+
+// The number of selections, up to 1,025.
+fn selections(modes: &[Mode], modules: &[Module]) -> u64
+    ensures { result ≡ min (selections_to modes.now modules.now (length modules.now)) 1025 }
+{
+    let mut found = 1u64;
+    for k in 0..modules.len() {
+        if is_root(modules, k) {
+            found = found.saturating_mul(mode_count(modes, k) as u64).min(1_025);
+        }
+    }
+    found
+}
+
+// The number of selections, up to 1,025; none without modules.
+fn count(modes: &[Mode], modules: &[Module]) -> u64
+    ensures { result ≡ cond (length modules.now == 0) 0 (min (selections_to modes.now modules.now (length modules.now)) 1025) }
+{
+    if modules.len() == 0 {
+        0
+    } else {
+        selections(modes, modules)
+    }
+}
+
+// The most invocations of a mode of the module.
+fn widest(modes: &[Mode], invs: &[Inv], k: usize) -> usize
+    ensures { result ≡ widest_to modes.now invs.now k (length modes.now) }
+{
+    let mut found = 0;
+    for q in 0..modes.len() {
+        if is_mode_of(modes, k, q) {
+            found = inv_count(invs, q).max(found);
+        }
+    }
+    found
+}
+
+// The most positions of a selection, up to 129.
+fn positions(modes: &[Mode], modules: &[Module], invs: &[Inv]) -> usize
+    ensures { result ≡ min (positions_to modes.now modules.now invs.now (length modules.now)) 129 }
+{
+    let mut found = 0usize;
+    for k in 0..modules.len() {
+        if is_root(modules, k) {
+            found = found.saturating_add(widest(modes, invs, k)).min(129);
+        }
+    }
+    found
+}
+
+/// The tables have so many selections, at most `MAX_SELECTIONS`, and none with more than `MAX_POSITIONS` positions.
+pub fn is_selections(modes: &[Mode], modules: &[Module], invs: &[Inv], n: u16) -> bool
+    ensures { result ≡ is_selections modes.now modules.now invs.now n }
+{
+    n as u64 == count(modes, modules)
+        && n as u32 <= MAX_SELECTIONS
+        && positions(modes, modules, invs) <= MAX_POSITIONS
+}
+
+/// One for each output of a concrete task, and one for each switch, up to a limit.
+pub fn function_count(tasks: &[Task], switches: u16) -> usize
+    requires { sum_by (λ t. cond t.is_abstract 0 (length t.outputs)) tasks.now < 2 ^ 60 }
+    ensures { result ≡ function_count tasks.now switches }
+{
+    let mut found = 0usize;
+    for t in tasks {
+        if !t.is_abstract {
+            found += t.outputs.as_slice().len();
+        }
+    }
+    found + switches as usize
+}
