@@ -1,0 +1,5 @@
+pub mod Telling
+pub mod Refusals
+pub mod StateLaws
+pub mod TypeLists
+pub mod UnfitLaws

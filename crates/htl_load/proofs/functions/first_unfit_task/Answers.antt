@@ -1,0 +1,25 @@
+use Rattle.std.proofs.Common.{◌+◌, length, ap, arith}
+use Rattle.htl_load.proofs.UnfitLaws.{tasks_of, next_count, count_bound, fit_more, at_end, fit_to}
+use Rattle.htl_load.proofs.functions.first_unfit_task.Goals as goal
+
+pub overflow_add-id : goal.overflow_add-id
+overflow_add-id c =
+    let tasks = tasks_of c.args.t.now _ c.as_slice-tasks.result.now c.parts.ensures.value c.as_slice-tasks.ensures in
+    let next = next_count c.args.t.now c.as_slice-tasks.result.now c.loop-k.k c.index-tasks-k.result tasks c.loop-k-test.true c.index-tasks-k.is in
+    let bound = count_bound c.args.t.now (c.loop-k.k + 1) c.parts.ensures.ranges (omega (arith, c.loop-k-test.true, ap length tasks)) in
+    omega (arith, c.loop-k.invariant.id, c.function_count.ensures.count, next, bound)
+
+pub loop-k-preserved : goal.loop-k-preserved
+loop-k-preserved c =
+    let tasks = tasks_of c.args.t.now _ c.as_slice-tasks.result.now c.parts.ensures.value c.as_slice-tasks.ensures in
+    let next = next_count c.args.t.now c.as_slice-tasks.result.now c.loop-k.k c.index-tasks-k.result tasks c.loop-k-test.true c.index-tasks-k.is in
+    record {
+      id = omega (arith, c.loop-k.invariant.id, c.function_count.ensures.count, next);
+      fit = fit_more c.args.t.now c.as_slice-tasks.result.now c.loop-k.k c.loop-k.id c.function_count.result c.index-tasks-k.result tasks c.loop-k-test.true c.index-tasks-k.is c.function_count.ensures.count c.loop-k.invariant.fit c.in_default.ensures;
+    }
+
+pub returns : goal.returns
+returns c =
+    let tasks = tasks_of c.args.t.now _ c.as_slice-tasks.result.now c.parts.ensures.value c.as_slice-tasks.ensures in
+    let end = at_end c.args.t.now c.as_slice-tasks.result.now c.loop-k.id c.loop-k.k tasks c.loop-k.invariant.id c.loop-k.auto.k-end c.loop-k-test.false in
+    fit_to c.args.t.now 0 c.loop-k.id _ end c.loop-k.invariant.fit

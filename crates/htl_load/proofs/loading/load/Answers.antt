@@ -1,0 +1,31 @@
+use Rattle.std.proofs.Common.{◌≡◌, Err, subst}
+use Rattle.htl_load.proofs.Refusals.{accepted_is_not_refused}
+use Rattle.htl_load.proofs.Telling.{bad_field_told, accepted_bytes, fault_told}
+use Rattle.htl_load.specs.Faults.{IsRefused}
+use Rattle.htl_object.specs.Objects.{IsDecoded, IsReadAs}
+use Rattle.htl_object.specs.declared.decoding.DecodeFault.{DecodeFault}
+use Rattle.htl_object.specs.declared.decoding.DecodeFault.TheVariants as decode
+use Rattle.htl_object.specs.declared.object.Object.{Object}
+use Rattle.htl_load.proofs.loading.load.Goals as goal
+
+pub returns-in-Err-clause-only : goal.returns-in-Err-clause-only
+returns-in-Err-clause-only c = λ o has accepted.
+    let same : c.in-Ok.o ≡ o = c.in-Ok.ensures.only o has.object has.spelled in
+    accepted_is_not_refused o c.in-Err.fault accepted (subst (λ (x : Object). IsRefused x c.in-Err.fault) same c.in-Err.ensures.refused)
+
+pub returns-in-Err-Malformed-clause-refused : goal.returns-in-Err-Malformed-clause-refused
+returns-in-Err-Malformed-clause-refused c =
+    let bytes = c.args.bytes.now in
+    let fault = decode.Malformed c.in-Err-Malformed.bad in
+    let is : c.in-Err-Malformed.field-0 ≡ fault = c.in-Err-Malformed.field-0-is in
+    bad_field_told bytes c.in-Err-Malformed.bad (subst (λ (e : DecodeFault). IsDecoded bytes (Err e)) is c.in-Err-Malformed.ensures.exact)
+    (λ p has. subst (λ (e : DecodeFault). IsReadAs p (Err e)) is (c.in-Err-Malformed.ensures.only p has.object has.spelled))
+
+pub returns-in-Ok-tested-clause-refused : goal.returns-in-Ok-tested-clause-refused
+returns-in-Ok-tested-clause-refused c =
+    accepted_bytes c.args.bytes.now c.in-Ok.o c.in-Ok.ensures.exact (λ p has. c.in-Ok.ensures.only p has.object has.spelled) c.in-Ok-tested.ensures.accepted.1
+
+pub returns-in-Err-clause-refused : goal.returns-in-Err-clause-refused
+returns-in-Err-clause-refused c =
+    fault_told c.args.bytes.now c.in-Ok.o c.in-Ok.ensures.exact (λ p has. c.in-Ok.ensures.only p has.object has.spelled) c.in-Ok.ensures.found.0.ranges c.in-Err.fault
+    c.in-Err.ensures.refused

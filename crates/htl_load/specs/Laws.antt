@@ -1,0 +1,15 @@
+-- Refusals of the loader.
+use Rattle.std.specs.Prelude.{◌≡◌}
+use Rattle.htl_load.specs.Accepted.{IsAccepted}
+use Rattle.htl_load.specs.Faults.{IsRefused}
+use Rattle.htl_load.specs.declared.fault.ObjectFault.{ObjectFault}
+use Rattle.htl_object.specs.Ranges.{IsInRange}
+use Rattle.htl_object.specs.declared.object.Object.{Object}
+
+-- an accepted object has no fault
+abbrev pub AcceptedIsNotRefused : Type 0
+AcceptedIsNotRefused = (o : Object) (f : ObjectFault) → IsAccepted o → IsRefused o f → ⊥
+
+-- an object in range has one first fault at most
+abbrev pub OneFault : Type 0
+OneFault = (o : Object) (f g : ObjectFault) → IsInRange o → IsRefused o f → IsRefused o g → f ≡ g

@@ -1,0 +1,5 @@
+pub mod Accepted
+pub mod Faults
+pub mod Laws
+pub mod Loading
+pub mod Unfit

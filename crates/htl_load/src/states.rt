@@ -1,0 +1,167 @@
+// The typed states of an object: each keeps what was tested of it.
+ghost use Rattle.std.specs.Prelude.{◌≡◌, ◌<◌, length, slice_get, Some, IfOk, OnOk, IfErr};
+ghost use Rattle.htl_load.specs.Accepted.{IsFormed, IsSpelled, IsAccepted};
+ghost use Rattle.htl_load.specs.Faults.{IsFormFault, IsSpellingFault, IsScheduleFault};
+ghost use Rattle.htl_model.specs.Broken.{Formed, IsFirstBroken};
+ghost use Rattle.htl_model.specs.Tables.{Compiled};
+ghost use Rattle.htl_object.specs.Ranges.{IsInRange};
+
+use crate::ObjectFault;
+use crate::functions::first_unfit;
+use crate::schedules::first_infeasible;
+use htl_ecode::ECode;
+use htl_espell::spells;
+use htl_fcode::Verified;
+use htl_form::form;
+use htl_model::{FormFault, Function, Tables};
+use htl_object::Object;
+use htl_refine::refine;
+use htl_walk::Schedule;
+use std::marker::Model;
+
+/// An object in range whose tables break no form rule.
+#[derive(Drop)]
+pub struct FormedObject {
+    object: Object,
+}
+
+impl Model for FormedObject {
+    ghost use Rattle.htl_object.specs.declared.object.Object.{Object};
+    ghost use Rattle.htl_load.specs.Accepted.{IsFormed};
+    ghost use Rattle.htl_object.specs.contracts.object.Object as object_row;
+
+    ghost Value = { Object };
+
+    ghost coded = { object_row.the_row.coded };
+
+    ghost view = { λ s. s.object };
+
+    ghost invariant = { λ s. IsFormed s.object };
+}
+
+/// A formed object whose functions are verified code of the types of their places, and whose E code spells its tables.
+#[derive(Drop)]
+pub struct SpelledObject {
+    object: Object,
+}
+
+impl Model for SpelledObject {
+    ghost use Rattle.htl_object.specs.declared.object.Object.{Object};
+    ghost use Rattle.htl_load.specs.Accepted.{IsSpelled};
+    ghost use Rattle.htl_object.specs.contracts.object.Object as object_row;
+
+    ghost Value = { Object };
+
+    ghost coded = { object_row.the_row.coded };
+
+    ghost view = { λ s. s.object };
+
+    ghost invariant = { λ s. IsSpelled s.object };
+}
+
+/// An accepted object: it is ready to run, and under the declared worst cases each root selection keeps its deadlines.
+#[derive(Drop)]
+pub struct Loaded {
+    object: Object,
+}
+
+impl Model for Loaded {
+    ghost use Rattle.htl_object.specs.declared.object.Object.{Object};
+    ghost use Rattle.htl_load.specs.Accepted.{IsAccepted};
+    ghost use Rattle.htl_object.specs.contracts.object.Object as object_row;
+
+    ghost Value = { Object };
+
+    ghost coded = { object_row.the_row.coded };
+
+    ghost view = { λ s. s.object };
+
+    ghost invariant = { λ s. IsAccepted s.object };
+}
+
+// The first form rule that tables break.
+fn first_broken(t: &Tables) -> Result<(), FormFault>
+    ensures formed { OnOk result (Formed t.now) }
+    ensures broken { IfErr result (IsFirstBroken t.now) }
+{
+    form(t)?;
+    refine(t)
+}
+
+/// Tests the form rules of an object in range. A refusal comes exactly where one of the form rules 1 to 16 is broken: it hands the
+/// object back unchanged, with the first that is broken. It takes no memory.
+pub fn formed(o: Object) -> Result<FormedObject, (Object, ObjectFault)>
+    requires { IsInRange o }
+    ensures formed { IfOk result (λ f. (f ≡ o) × IsFormed o) }
+    ensures fault { IfErr result (λ e. (e.0 ≡ o) × IsFormFault o e.1) }
+{
+    match first_broken(&o.tables) {
+        Ok(()) => Ok(FormedObject { object: o }),
+        Err(fault) => Err((o, ObjectFault::IllFormed(fault))),
+    }
+}
+
+/// Tests the functions, and then the E code. A refusal comes exactly where a function isn't verified code of the types of its place,
+/// with the first such, or else where the E code departs from the tables, with the first departure. It hands the object back
+/// unchanged. It takes no memory.
+pub fn spelled(f: FormedObject) -> Result<SpelledObject, (Object, ObjectFault)>
+    ensures spelled { IfOk result (λ s. (s ≡ f) × IsSpelled f) }
+    ensures fault { IfErr result (λ e. (e.0 ≡ f) × IsSpellingFault f e.1) }
+{
+    let o = f.object;
+    if let Some(id) = first_unfit(&o.tables) {
+        return Err((o, ObjectFault::Function { id }));
+    }
+    match spells(&o.tables, &o.ecode) {
+        Ok(()) => Ok(SpelledObject { object: o }),
+        Err(fault) => Err((o, ObjectFault::ECode(fault))),
+    }
+}
+
+/// Tests the schedule of each root selection. A refusal comes exactly where the worst-case walk of one isn't accepted: it hands the
+/// object back unchanged, with the first such selection and the first miss of its walk. It takes no memory.
+pub fn scheduled(s: SpelledObject) -> Result<Loaded, (Object, ObjectFault)>
+    ensures loaded { IfOk result (λ l. (l ≡ s) × IsAccepted s) }
+    ensures fault { IfErr result (λ e. (e.0 ≡ s) × IsScheduleFault s e.1) }
+{
+    let o = s.object;
+    match first_infeasible(&o.tables, o.schedules.as_slice()) {
+        Some((selection, miss)) => Err((o, ObjectFault::Schedule { selection, miss })),
+        None => Ok(Loaded { object: o }),
+    }
+}
+
+impl Loaded {
+    /// The tables.
+    pub fn tables(&self) -> &Tables
+        ensures value { result.now ≡ self.now.tables }
+        ensures accepted { IsAccepted self.now }
+    {
+        &self.object.tables
+    }
+
+    /// The E code.
+    pub fn ecode(&self) -> &ECode
+        ensures { result.now ≡ self.now.ecode }
+    {
+        &self.object.ecode
+    }
+
+    /// The schedules, in the order of the root selections.
+    pub fn schedules(&self) -> &[Schedule]
+        ensures { result.now ≡ self.now.schedules }
+    {
+        self.object.schedules.as_slice()
+    }
+
+    /// The code of a function, whose number is in range.
+    pub fn function(&self, id: u32) -> Verified<'_>
+        requires { id < length self.now.tables.functions }
+        ensures { slice_get self.now.tables.functions id ≡ Some (Compiled result.code.now) }
+    {
+        match &self.object.tables.parts().functions.as_slice()[id as usize] {
+            Function::Code(code) => Verified::of(code),
+            Function::Expr { .. } => unreachable!(),
+        }
+    }
+}
