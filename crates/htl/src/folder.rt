@@ -18,8 +18,10 @@ pub struct Folder<'a, F> {
 }
 
 impl<'a, F: Files> Folder<'a, F> {
-    /// A shelf over the files of a runtime.
-    pub fn new(rt: &'a F) -> Folder<'a, F> {
+    /// A shelf over the files of a runtime, with no fault counted.
+    pub fn new(rt: &'a F) -> Folder<'a, F>
+        ensures { result.faults ≡ 0 }
+    {
         Folder { rt, faults: 0 }
     }
 }

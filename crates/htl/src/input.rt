@@ -1,5 +1,5 @@
 // The script from a real reader, as standard input.
-ghost use Rattle.std.specs.Prelude.{None};
+ghost use Rattle.std.specs.Prelude.{◌≡◌, None};
 
 use htl_edge::{Failed, Source};
 use std::io::Read;
@@ -12,8 +12,10 @@ pub struct Input<R> {
 }
 
 impl<R> Input<R> {
-    /// A source that reads from `inner`.
-    pub fn new(inner: R) -> Input<R> {
+    /// A source that reads from `inner`, with no fault counted.
+    pub fn new(inner: R) -> Input<R>
+        ensures { result.faults ≡ 0 }
+    {
         Input { inner, faults: 0 }
     }
 }

@@ -1,5 +1,5 @@
 // The lines to a real writer, as standard output and standard error.
-ghost use Rattle.std.specs.Prelude.{None};
+ghost use Rattle.std.specs.Prelude.{◌≡◌, None};
 
 use htl_edge::{Failed, Sink};
 use std::io::Write;
@@ -13,8 +13,10 @@ pub struct Output<W> {
 }
 
 impl<W> Output<W> {
-    /// A sink that writes to `inner`.
-    pub fn new(inner: W) -> Output<W> {
+    /// A sink that writes to `inner`, with no fault counted.
+    pub fn new(inner: W) -> Output<W>
+        ensures { result.faults ≡ 0 }
+    {
         Output { inner, faults: 0 }
     }
 }

@@ -5,7 +5,7 @@ use crate::output::Output;
 use htl_edge::{Failed, Shelf, ShelfFault, Sink, Source};
 use std::io::{Read, Write};
 use std::test::Fail;
-use std::{fs, io};
+use std::{fs, io, process};
 
 /// What a reader or a writer does at a call.
 #[derive(Clone, Copy, PartialEq, Eq, Debug)]
@@ -100,7 +100,9 @@ fn output_writes_and_fails(rt: HostRuntime) {
 #[test]
 fn files_are_read_up_to_a_limit(rt: HostRuntime) -> Result<(), Fail> {
     let alloc = rt.alloc();
-    let path = "/tmp/htl_adapter_test.htl";
+    // A file of this process alone.
+    let name = format!(in alloc; "/tmp/htl_adapter_test_{}", process::id(rt.process()))?;
+    let path = name.as_str();
     fs::write(&rt, path, "12345")?;
     let mut folder = Folder::new(&rt);
     let held = folder.fetch(alloc, path, 5);

@@ -12,10 +12,10 @@ use Rattle.htl_top.proofs.SourceLaws.{tables_unique, tables_or_fault, form_uniqu
 use Rattle.htl_script.specs.Script.{Whole, Bad}
 use Rattle.htl_script.specs.declared.fault.ScriptFault.{ScriptFault}
 use Rattle.htl_script.specs.declared.fault.ScriptKind.{ScriptKind}
-use Rattle.htl_top.specs.Answers.{Files, Streams, IsWritten, IsPlayed, IsGone, IsAnswer, IsBeforeScript, IsBeforeRun, SpeaksOf, IsLineTold}
-use Rattle.htl_top.specs.Causes.{IsFaultOf, IsLongFile, IsSource, IsGiven, IsReady, IsFaultySource, HasTables, HasBuiltTables, IsProgram, IsBuiltProgram, IsIllFormed, IsRun, IsFaulty, IsCut, IsOrMemory}
+use Rattle.htl_top.specs.Answers.{Files, Streams, IsWritten, IsExecuted, IsGoAnswer, IsAnswer, IsBeforeScript, IsBeforeRun, SpeaksOf, IsLineTold}
+use Rattle.htl_top.specs.Causes.{IsFaultOf, IsLongFile, IsSource, IsGiven, IsReady, IsFaultySource, HasTables, HasBuiltTables, IsProgram, IsBuiltProgram, IsIllFormed, IsWholeRun, IsFaultyRun, IsCutRun, IsOrMemory}
 use Rattle.htl_edge.specs.Content.{none_left}
-use Rattle.htl_model.specs.Lines.{empty_text}
+use Rattle.htl_model.specs.Lines.{run_text}
 use Rattle.htl_top.specs.Scripts.{IsWhole, IsBad, EndsAt, IsTold}
 use Rattle.htl_top.specs.Status.{fault_line}
 use Rattle.htl_top.specs.Texts.{text_before_fault}
@@ -28,60 +28,60 @@ use Rattle.htl_top.specs.declared.source_fault.SourceFault.{SourceFault}
 -- ---- from the parts to the whole
 
 -- a whole script was run
-pub IsPlayed-from_whole : (tables : Tables) (old new : Streams) (events shown : List Event) (outcome : Outcome) → shown ≡ events → IsTold tables old.rest events
+pub IsExecuted-whole : (tables : Tables) (old new : Streams) (events shown : List Event) (outcome : Outcome) → shown ≡ events → IsTold tables old.rest events
     → new.rest ≡ none_left old.rest
-    → ((end : ℕ) → EndsAt shown end → IsWritten (empty_text tables shown end) Done old.written new.written old.write_faults new.write_faults outcome)
-    → IsPlayed tables old new outcome
-IsPlayed-from_whole tables old new events shown outcome same told left written =
+    → ((end : ℕ) → EndsAt shown end → IsWritten (run_text tables shown end) Done old.written new.written old.write_faults new.write_faults outcome)
+    → IsExecuted tables old new outcome
+IsExecuted-whole tables old new events shown outcome same told left written =
     let Written : List Event → Type 0 = λ es.
-    (end : ℕ) → EndsAt es end → IsWritten (empty_text tables es end) Done old.written new.written old.write_faults new.write_faults outcome in
+    (end : ℕ) → EndsAt es end → IsWritten (run_text tables es end) Done old.written new.written old.write_faults new.write_faults outcome in
     elim (subst Written same written told.end told.ends) [
       | inl w ↦
-          subst (λ (o : Outcome). IsPlayed tables old new o) (sym w.0)
+          subst (λ (o : Outcome). IsExecuted tables old new o) (sym w.0)
           (record { events = events; end = told.end; script = told.script; read = left; written = w.1 })
       | inr w ↦
-          subst (λ (o : Outcome). IsPlayed tables old new o) (sym w.0)
+          subst (λ (o : Outcome). IsExecuted tables old new o) (sym w.0)
           (w.1, record { given = Whole events told.end; script = told.script; written = w.2 })
     ]
 
 -- the lines before a fault were written
-pub IsPlayed-from_faulty : (tables : Tables) (old new : Streams) (events shown : List Event) (fault : ScriptFault) (outcome : Outcome) → shown ≡ events
+pub IsExecuted-faulty : (tables : Tables) (old new : Streams) (events shown : List Event) (fault : ScriptFault) (outcome : Outcome) → shown ≡ events
     → IfSome old.rest (λ script. IsBad tables script fault events)
     → IsWritten (text_before_fault tables shown) (Script fault) old.written new.written old.write_faults new.write_faults outcome
-    → IsPlayed tables old new outcome
-IsPlayed-from_faulty tables old new events shown fault outcome same bad written =
+    → IsExecuted tables old new outcome
+IsExecuted-faulty tables old new events shown fault outcome same bad written =
     let Written : List Event → Type 0 = λ es.
     IsWritten (text_before_fault tables es) (Script fault) old.written new.written old.write_faults new.write_faults outcome in
     elim (subst Written same written) [
-      | inl w ↦ subst (λ (o : Outcome). IsPlayed tables old new o) (sym w.0) (record { events = events; script = bad; written = w.1 })
+      | inl w ↦ subst (λ (o : Outcome). IsExecuted tables old new o) (sym w.0) (record { events = events; script = bad; written = w.1 })
       | inr w ↦
-          subst (λ (o : Outcome). IsPlayed tables old new o) (sym w.0)
+          subst (λ (o : Outcome). IsExecuted tables old new o) (sym w.0)
           (w.1, record { given = Bad fault.line fault.kind events; script = bad; written = w.2 })
     ]
 
-pub IsGone-from_played : (bytes : List ℕ) (tables : Tables) (old new : Streams) (outcome : Outcome)
-    → CanRun bytes tables → IsPlayed tables old new outcome → IsGone bytes old new outcome
-IsGone-from_played bytes tables old new Done is played = record { tables = tables; compiled = is; fact = played }
-IsGone-from_played bytes tables old new (Script fault) is played = record { tables = tables; compiled = is; fact = played }
-IsGone-from_played bytes tables old new Read is played = record { tables = tables; compiled = is; fact = played }
-IsGone-from_played bytes tables old new Write is played = record { tables = tables; compiled = is; fact = played }
-IsGone-from_played bytes tables old new Memory is played = played
-IsGone-from_played bytes tables old new Usage is played = absurd played
-IsGone-from_played bytes tables old new (Source fault) is played = absurd played
-IsGone-from_played bytes tables old new (IllFormed fault) is played = absurd played
-IsGone-from_played bytes tables old new (Shelf cause) is played = absurd played
+pub IsGoAnswer-executed : (bytes : List ℕ) (tables : Tables) (old new : Streams) (outcome : Outcome)
+    → CanRun bytes tables → IsExecuted tables old new outcome → IsGoAnswer bytes old new outcome
+IsGoAnswer-executed bytes tables old new Done is executed = record { tables = tables; compiled = is; fact = executed }
+IsGoAnswer-executed bytes tables old new (Script fault) is executed = record { tables = tables; compiled = is; fact = executed }
+IsGoAnswer-executed bytes tables old new Read is executed = record { tables = tables; compiled = is; fact = executed }
+IsGoAnswer-executed bytes tables old new Write is executed = record { tables = tables; compiled = is; fact = executed }
+IsGoAnswer-executed bytes tables old new Memory is executed = executed
+IsGoAnswer-executed bytes tables old new Usage is executed = absurd executed
+IsGoAnswer-executed bytes tables old new (Source fault) is executed = absurd executed
+IsGoAnswer-executed bytes tables old new (IllFormed fault) is executed = absurd executed
+IsGoAnswer-executed bytes tables old new (Shelf cause) is executed = absurd executed
 
-pub IsAnswer-from_gone : (name : Option (List ℕ)) (shelf : Files) (old new : Streams) (bytes : List ℕ) (outcome : Outcome)
-    → IsSource name shelf.holds bytes → IsGone bytes old new outcome → IsAnswer name shelf old new outcome
-IsAnswer-from_gone name shelf old new bytes Done source gone = record { bytes = bytes; source = source; has_tables = gone }
-IsAnswer-from_gone name shelf old new bytes (Script fault) source gone = record { bytes = bytes; source = source; has_tables = gone }
-IsAnswer-from_gone name shelf old new bytes Read source gone = record { bytes = bytes; source = source; has_tables = gone }
-IsAnswer-from_gone name shelf old new bytes Write source gone = record { bytes = bytes; source = source; has_tables = gone }
-IsAnswer-from_gone name shelf old new bytes Memory source gone = ((source.word, source.named), gone)
-IsAnswer-from_gone name shelf old new bytes (Source fault) source gone = (record { bytes = bytes; source = source; first = gone.0 }, gone.1)
-IsAnswer-from_gone name shelf old new bytes (IllFormed fault) source gone = (record { bytes = bytes; source = source; has_tables = gone.0 }, gone.1)
-IsAnswer-from_gone name shelf old new bytes Usage source gone = absurd gone
-IsAnswer-from_gone name shelf old new bytes (Shelf cause) source gone = absurd gone
+pub IsAnswer-go : (name : Option (List ℕ)) (shelf : Files) (old new : Streams) (bytes : List ℕ) (outcome : Outcome)
+    → IsSource name shelf.holds bytes → IsGoAnswer bytes old new outcome → IsAnswer name shelf old new outcome
+IsAnswer-go name shelf old new bytes Done source went = record { bytes = bytes; source = source; has_tables = went }
+IsAnswer-go name shelf old new bytes (Script fault) source went = record { bytes = bytes; source = source; has_tables = went }
+IsAnswer-go name shelf old new bytes Read source went = record { bytes = bytes; source = source; has_tables = went }
+IsAnswer-go name shelf old new bytes Write source went = record { bytes = bytes; source = source; has_tables = went }
+IsAnswer-go name shelf old new bytes Memory source went = ((source.word, source.named), went)
+IsAnswer-go name shelf old new bytes (Source fault) source went = (record { bytes = bytes; source = source; first = went.0 }, went.1)
+IsAnswer-go name shelf old new bytes (IllFormed fault) source went = (record { bytes = bytes; source = source; has_tables = went.0 }, went.1)
+IsAnswer-go name shelf old new bytes Usage source went = absurd went
+IsAnswer-go name shelf old new bytes (Shelf cause) source went = absurd went
 
 -- ---- no command
 
@@ -105,10 +105,10 @@ usage-from_none name shelf old new Memory answer none = absurd (some_not_none na
 
 -- what an answer says of the bytes that the shelf tells to hold
 abbrev Says : List ℕ → Streams → Streams → Outcome → Type 0
-Says bytes old new Done = (length bytes ≤ 1048576) × HasTables bytes (λ tables. IsPlayed tables old new Done)
-Says bytes old new (Script fault) = (length bytes ≤ 1048576) × HasTables bytes (λ tables. IsPlayed tables old new (Script fault))
-Says bytes old new Read = (length bytes ≤ 1048576) × HasTables bytes (λ tables. IsPlayed tables old new Read)
-Says bytes old new Write = (length bytes ≤ 1048576) × HasTables bytes (λ tables. IsPlayed tables old new Write)
+Says bytes old new Done = (length bytes ≤ 1048576) × HasTables bytes (λ tables. IsExecuted tables old new Done)
+Says bytes old new (Script fault) = (length bytes ≤ 1048576) × HasTables bytes (λ tables. IsExecuted tables old new (Script fault))
+Says bytes old new Read = (length bytes ≤ 1048576) × HasTables bytes (λ tables. IsExecuted tables old new Read)
+Says bytes old new Write = (length bytes ≤ 1048576) × HasTables bytes (λ tables. IsExecuted tables old new Write)
 Says bytes old new (Source fault) = (length bytes ≤ 1048576) × IsSourceFault bytes fault
 Says bytes old new (IllFormed fault) = (length bytes ≤ 1048576) × HasBuiltTables bytes (λ tables. BreakFirst tables fault)
 Says bytes old new (Shelf Failed) = ⊥
@@ -129,10 +129,10 @@ module _ (name : Option (List ℕ)) (shelf : Files) (old new : Streams) (bytes :
       subst (λ (bs : List ℕ). (length bs ≤ 1048576) × HasTables bs Fact) (same_bytes others source) (source.short, has)
 
   says : (outcome : Outcome) → IsAnswer name shelf old new outcome → Says bytes old new outcome
-  says Done answer = says_of answer.bytes (λ tables. IsPlayed tables old new Done) answer.source answer.has_tables
-  says (Script fault) answer = says_of answer.bytes (λ tables. IsPlayed tables old new (Script fault)) answer.source answer.has_tables
-  says Read answer = says_of answer.bytes (λ tables. IsPlayed tables old new Read) answer.source answer.has_tables
-  says Write answer = says_of answer.bytes (λ tables. IsPlayed tables old new Write) answer.source answer.has_tables
+  says Done answer = says_of answer.bytes (λ tables. IsExecuted tables old new Done) answer.source answer.has_tables
+  says (Script fault) answer = says_of answer.bytes (λ tables. IsExecuted tables old new (Script fault)) answer.source answer.has_tables
+  says Read answer = says_of answer.bytes (λ tables. IsExecuted tables old new Read) answer.source answer.has_tables
+  says Write answer = says_of answer.bytes (λ tables. IsExecuted tables old new Write) answer.source answer.has_tables
   says (Source fault) answer =
       subst (λ (bs : List ℕ). (length bs ≤ 1048576) × IsSourceFault bs fault) (same_bytes answer.0.bytes answer.0.source) (answer.0.source.short, answer.0.first)
   says (IllFormed fault) answer =
@@ -189,10 +189,10 @@ module _ (name : Option (List ℕ)) (shelf : Files) (old new : Streams) (bytes :
 
   form_says : (outcome : Outcome) (tables : Tables) (fault : FormFault) → length bytes ≤ 1048576 → AreBuiltTables bytes tables → IsFirstBroken tables fault
       → Says bytes old new outcome → IsOrMemory outcome (IllFormed fault)
-  form_says Done tables fault short built first said = absurd (not_formed (λ t. IsPlayed t old new Done) tables fault built first said.1)
-  form_says (Script other) tables fault short built first said = absurd (not_formed (λ t. IsPlayed t old new (Script other)) tables fault built first said.1)
-  form_says Read tables fault short built first said = absurd (not_formed (λ t. IsPlayed t old new Read) tables fault built first said.1)
-  form_says Write tables fault short built first said = absurd (not_formed (λ t. IsPlayed t old new Write) tables fault built first said.1)
+  form_says Done tables fault short built first said = absurd (not_formed (λ t. IsExecuted t old new Done) tables fault built first said.1)
+  form_says (Script other) tables fault short built first said = absurd (not_formed (λ t. IsExecuted t old new (Script other)) tables fault built first said.1)
+  form_says Read tables fault short built first said = absurd (not_formed (λ t. IsExecuted t old new Read) tables fault built first said.1)
+  form_says Write tables fault short built first said = absurd (not_formed (λ t. IsExecuted t old new Write) tables fault built first said.1)
   form_says (Source other) tables fault short built first said = absurd (tables_or_fault bytes tables other built said.1)
   form_says (IllFormed other) tables fault short built first said =
       let same : said.1.tables ≡ tables = tables_unique bytes said.1.tables tables said.1.compiled.source built.source in
@@ -230,9 +230,9 @@ module _ (name : Option (List ℕ)) (shelf : Files) (old new : Streams) (tables 
   ready_says : (outcome : Outcome) → IsAnswer name shelf old new outcome → Says ready.bytes old new outcome
   ready_says outcome answer = says name shelf old new ready.bytes ready.given outcome answer
 
-  played : (outcome : Outcome) → HasTables ready.bytes (λ others. IsPlayed others old new outcome) → IsPlayed tables old new outcome
-  played outcome has =
-      subst (λ (others : Tables). IsPlayed others old new outcome) (tables_unique ready.bytes has.tables tables has.compiled.compiled.source ready.compiled.compiled.source) has.fact
+  executed : (outcome : Outcome) → HasTables ready.bytes (λ others. IsExecuted others old new outcome) → IsExecuted tables old new outcome
+  executed outcome has =
+      subst (λ (others : Tables). IsExecuted others old new outcome) (tables_unique ready.bytes has.tables tables has.compiled.compiled.source ready.compiled.compiled.source) has.fact
 
   -- they break no form rule
   formed : (fault : FormFault) → HasBuiltTables ready.bytes (λ others. BreakFirst others fault) → ⊥
@@ -251,13 +251,13 @@ module _ (name : Option (List ℕ)) (shelf : Files) (old new : Streams) (tables 
   bad_says : (outcome : Outcome) (fault : ScriptFault) (events : List Event) → IsBad tables script fault events → (Rose old.read_faults new.read_faults → ⊥)
       → (Rose old.write_faults new.write_faults → ⊥) → Says ready.bytes old new outcome → IsOrMemory outcome (Script fault)
   bad_says Done fault events bad quiet still said =
-      let run = played Done said.1 in
+      let run = executed Done said.1 in
       absurd (whole_or_bad tables script run.events run.end fault events (whole_in run.events run.end run.script) bad)
   bad_says (Script other) fault events bad quiet still said =
-      let faulty = played (Script other) said.1 in
+      let faulty = executed (Script other) said.1 in
       inl (ap (λ (f : ScriptFault). Script f) (one_bad tables script other fault faulty.events events (bad_in other faulty.events faulty.script) bad))
-  bad_says Read fault events bad quiet still said = absurd (quiet (played Read said.1).0)
-  bad_says Write fault events bad quiet still said = absurd (still (played Write said.1).0)
+  bad_says Read fault events bad quiet still said = absurd (quiet (executed Read said.1).0)
+  bad_says Write fault events bad quiet still said = absurd (still (executed Write said.1).0)
   bad_says (Source other) fault events bad quiet still said = absurd (tables_or_fault ready.bytes tables other ready.compiled.compiled said.1)
   bad_says (IllFormed other) fault events bad quiet still said = absurd (formed other said.1)
   bad_says (Shelf Failed) fault events bad quiet still said = absurd said
@@ -274,10 +274,10 @@ module _ (name : Option (List ℕ)) (shelf : Files) (old new : Streams) (tables 
       → (Rose old.write_faults new.write_faults → ⊥) → Says ready.bytes old new outcome → IsOrMemory outcome Done
   whole_says Done events end whole quiet still said = inl refl
   whole_says (Script fault) events end whole quiet still said =
-      let faulty = played (Script fault) said.1 in
+      let faulty = executed (Script fault) said.1 in
       absurd (whole_or_bad tables script events end fault faulty.events whole (bad_in fault faulty.events faulty.script))
-  whole_says Read events end whole quiet still said = absurd (quiet (played Read said.1).0)
-  whole_says Write events end whole quiet still said = absurd (still (played Write said.1).0)
+  whole_says Read events end whole quiet still said = absurd (quiet (executed Read said.1).0)
+  whole_says Write events end whole quiet still said = absurd (still (executed Write said.1).0)
   whole_says (Source fault) events end whole quiet still said = absurd (tables_or_fault ready.bytes tables fault ready.compiled.compiled said.1)
   whole_says (IllFormed fault) events end whole quiet still said = absurd (formed fault said.1)
   whole_says (Shelf Failed) events end whole quiet still said = absurd said
@@ -345,23 +345,23 @@ module _ (name : Option (List ℕ)) (shelf : Files) (old new : Streams) where
     pub ill_formed : (fault : FormFault) → outcome ≡ IllFormed fault → IsIllFormed name shelf.holds fault
     ill_formed fault e = (at (IllFormed fault) e).0
 
-    pub script : (fault : ScriptFault) → outcome ≡ Script fault → IsProgram name shelf.holds (λ tables. IsFaulty tables old.rest old.written new.written fault)
+    pub script : (fault : ScriptFault) → outcome ≡ Script fault → IsProgram name shelf.holds (λ tables. IsFaultyRun tables old.rest old.written new.written fault)
     script fault e = at (Script fault) e
 
     pub read : outcome ≡ Read → Rose old.read_faults new.read_faults × IsProgram name shelf.holds (λ tables. Unit {0})
     read e = (
       (at Read e).has_tables.fact.0,
-      IsProgram-map name shelf.holds (λ tables. IsPlayed tables old new Read) (λ tables. Unit {0}) (λ tables played. tt) (at Read e),
+      IsProgram-map name shelf.holds (λ tables. IsExecuted tables old new Read) (λ tables. Unit {0}) (λ tables executed. tt) (at Read e),
     )
 
-    pub write : outcome ≡ Write → Rose old.write_faults new.write_faults × IsProgram name shelf.holds (λ tables. IsCut tables old.rest old.written new.written)
+    pub write : outcome ≡ Write → Rose old.write_faults new.write_faults × IsProgram name shelf.holds (λ tables. IsCutRun tables old.rest old.written new.written)
     write e = (
       (at Write e).has_tables.fact.0,
-      IsProgram-map name shelf.holds (λ tables. IsPlayed tables old new Write) (λ tables. IsCut tables old.rest old.written new.written)
-          (λ tables played. played.1) (at Write e),
+      IsProgram-map name shelf.holds (λ tables. IsExecuted tables old new Write) (λ tables. IsCutRun tables old.rest old.written new.written)
+          (λ tables executed. executed.1) (at Write e),
     )
 
-    pub done : outcome ≡ Done → IsProgram name shelf.holds (λ tables. IsRun tables old.rest new.rest old.written new.written)
+    pub done : outcome ≡ Done → IsProgram name shelf.holds (λ tables. IsWholeRun tables old.rest new.rest old.written new.written)
     done e = at Done e
 
     pub memory : outcome ≡ Memory → new.written ≡ old.written
@@ -370,17 +370,17 @@ module _ (name : Option (List ℕ)) (shelf : Files) (old new : Streams) where
 -- ---- what tells of the answer
 
 -- running tables breaks no form rule
-pub SpeaksOf-played : (HasSource : (Tables → Type 0) → Type 0) (tables : Tables) (old new : Streams) (outcome : Outcome) (told : Option Tables)
-    → IsPlayed tables old new outcome → SpeaksOf HasSource outcome told
-SpeaksOf-played HasSource tables old new Done told played = tt
-SpeaksOf-played HasSource tables old new Usage told played = tt
-SpeaksOf-played HasSource tables old new (Source fault) told played = tt
-SpeaksOf-played HasSource tables old new (IllFormed fault) told played = absurd played
-SpeaksOf-played HasSource tables old new (Script fault) told played = tt
-SpeaksOf-played HasSource tables old new (Shelf cause) told played = tt
-SpeaksOf-played HasSource tables old new Read told played = tt
-SpeaksOf-played HasSource tables old new Write told played = tt
-SpeaksOf-played HasSource tables old new Memory told played = tt
+pub SpeaksOf-executed : (HasSource : (Tables → Type 0) → Type 0) (tables : Tables) (old new : Streams) (outcome : Outcome) (told : Option Tables)
+    → IsExecuted tables old new outcome → SpeaksOf HasSource outcome told
+SpeaksOf-executed HasSource tables old new Done told executed = tt
+SpeaksOf-executed HasSource tables old new Usage told executed = tt
+SpeaksOf-executed HasSource tables old new (Source fault) told executed = tt
+SpeaksOf-executed HasSource tables old new (IllFormed fault) told executed = absurd executed
+SpeaksOf-executed HasSource tables old new (Script fault) told executed = tt
+SpeaksOf-executed HasSource tables old new (Shelf cause) told executed = tt
+SpeaksOf-executed HasSource tables old new Read told executed = tt
+SpeaksOf-executed HasSource tables old new Write told executed = tt
+SpeaksOf-executed HasSource tables old new Memory told executed = tt
 
 -- the source is that of the words
 pub SpeaksOf-source : (name : Option (List ℕ)) (holds : Option Holdings) (bytes : List ℕ) (outcome : Outcome) (told : Option Tables)

@@ -1,5 +1,6 @@
 pub mod Answering
-mod FaultRows
+pub mod EarlierReadings
+mod FaultExamples
 pub mod Fixtures
 pub mod PlainTables
 pub mod PlainTrees
@@ -9,8 +10,7 @@ pub mod Rounds
 pub mod Scanning
 pub mod Scripts
 pub mod Showing
-pub mod SmallTrees
 pub mod SourceLaws
 pub mod TokenPlaces
-mod UnbuiltRows
+mod UnbuiltExamples
 pub mod Values

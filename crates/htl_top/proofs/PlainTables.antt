@@ -11,13 +11,13 @@ use Rattle.htl_model.specs.declared.form_fault.FormFault.{FormFault}
 use Rattle.htl_model.specs.declared.parts.Mode.{Mode}
 use Rattle.htl_model.specs.declared.parts.Module.{Module}
 use Rattle.htl_names.proofs.Members.{Each, each_at, each_all, each_flat_map, each_flat_map_at, each_list_to, each_weaker}
-use Rattle.htl_names.specs.Flat.{Layout, layout, symbols_of, mode_number, module_item, unit_module_items, module_items, mode_invoke_items, invoke_item, invoke_items, mode_switch_items, switch_item, switch_items, tables_of_tree}
+use Rattle.htl_names.specs.Flat.{Layout, layout, symbols_of, mode_number, module_item, module_items_at, module_items, mode_invoke_items, invoke_item, invoke_items, mode_switch_items, switch_item, switch_items, tables_of_tree}
 use Rattle.htl_names.specs.Lists.{flat_map_at}
-use Rattle.htl_names.specs.Order.{modules_at, module_at, modes_at, mode_at, invokes_at, switches_at, units_in, mode_kids, kids, below, order}
+use Rattle.htl_names.specs.Order.{modules_at, module_at, modes_at, mode_at, invokes_at, switches_at, modules_in, mode_kids, kids, below, order}
 use Rattle.htl_names.specs.Programs.{named_program}
 use Rattle.htl_names.specs.declared.key.Key.{Key}
 use Rattle.htl_names.specs.declared.place.ModeAt.{ModeAt}
-use Rattle.htl_names.specs.declared.place.UnitAt.{UnitAt}
+use Rattle.htl_names.specs.declared.place.ModuleAt.{ModuleAt}
 use Rattle.htl_text.specs.Nodes.{PlainMode, PlainModule, PlainProgram}
 use Rattle.htl_text.specs.declared.tree.Id.{Id}
 use Rattle.htl_text.specs.declared.tree.InvokeNode.{InvokeNode}
@@ -55,14 +55,14 @@ module _ (ps : List PlainProgram) (plain : Each IsPlainProgram ps) where
     where
       by : (o : Option PlainMode) → mode_at ps a ≡ o → ◌≡◌ {A = List InvokeNode} (elim o [ Some x ↦ x.invokes | None ↦ [] ]) []
       by None e = refl
-      by (Some x) e = (each_at IsEmpty (modes_at ps a.program a.unit) a.mode x (modes_empty a.program a.unit) e).invokes
+      by (Some x) e = (each_at IsEmpty (modes_at ps a.program a.«module») a.mode x (modes_empty a.program a.«module») e).invokes
 
   no_switches : (a : ModeAt) → switches_at ps a ≡ []
   no_switches a = by (mode_at ps a) refl
     where
       by : (o : Option PlainMode) → mode_at ps a ≡ o → ◌≡◌ {A = List PlainSwitch} (elim o [ Some x ↦ x.switches | None ↦ [] ]) []
       by None e = refl
-      by (Some x) e = (each_at IsEmpty (modes_at ps a.program a.unit) a.mode x (modes_empty a.program a.unit) e).switches
+      by (Some x) e = (each_at IsEmpty (modes_at ps a.program a.«module») a.mode x (modes_empty a.program a.«module») e).switches
 
   -- ---- no invocation and no switch
 
@@ -78,36 +78,36 @@ module _ (ps : List PlainProgram) (plain : Each IsPlainProgram ps) where
 
   -- ---- root modules alone
 
-  abbrev IsRoot : UnitAt → Type 0
+  abbrev IsRoot : ModuleAt → Type 0
   IsRoot s = s.parent ≡ None
 
-  no_kids : (symbols : List (Key × ℕ)) (s : UnitAt) → kids symbols ps s ≡ []
+  no_kids : (symbols : List (Key × ℕ)) (s : ModuleAt) → kids symbols ps s ≡ []
   no_kids symbols s =
-      none_at_all (mode_kids symbols ps s.program s.unit) 0 (modes_at ps s.program s.unit)
-      (each_weaker IsEmpty (λ x. (m : ℕ) → mode_kids symbols ps s.program s.unit m x ≡ []) (λ x empty m. by m x empty) (modes_at ps s.program s.unit) (modes_empty s.program s.unit))
+      none_at_all (mode_kids symbols ps s.program s.«module») 0 (modes_at ps s.program s.«module»)
+      (each_weaker IsEmpty (λ x. (m : ℕ) → mode_kids symbols ps s.program s.«module» m x ≡ []) (λ x empty m. by m x empty) (modes_at ps s.program s.«module») (modes_empty s.program s.«module»))
     where
       none : (x : PlainMode) → IsEmpty x → named_program symbols x ≡ None
       none x empty = subst (λ (o : Option Id). named_program symbols (record x { program = o }) ≡ None) (sym empty.program) refl
 
-      by : (m : ℕ) (x : PlainMode) → IsEmpty x → mode_kids symbols ps s.program s.unit m x ≡ []
+      by : (m : ℕ) (x : PlainMode) → IsEmpty x → mode_kids symbols ps s.program s.«module» m x ≡ []
       by m x empty =
-          ap (λ (o : Option ℕ). elim o [ Some q ↦ units_in ps (Some (record { program = s.program; unit = s.unit; mode = m })) q | None ↦ [] ]) (none x empty)
+          ap (λ (o : Option ℕ). elim o [ Some q ↦ modules_in ps (Some (record { program = s.program; «module» = s.«module»; mode = m })) q | None ↦ [] ]) (none x empty)
 
-  roots_below : (n : ℕ) (symbols : List (Key × ℕ)) (s : UnitAt) → IsRoot s → Each IsRoot (below n symbols ps s)
+  roots_below : (n : ℕ) (symbols : List (Key × ℕ)) (s : ModuleAt) → IsRoot s → Each IsRoot (below n symbols ps s)
   roots_below zero symbols s root = (root, tt)
-  roots_below (suc n) symbols s root = (root, subst (λ (ss : List UnitAt). Each IsRoot (flat_map (below n symbols ps) ss)) (sym (no_kids symbols s)) tt)
+  roots_below (suc n) symbols s root = (root, subst (λ (ss : List ModuleAt). Each IsRoot (flat_map (below n symbols ps) ss)) (sym (no_kids symbols s)) tt)
 
   root_units : (symbols : List (Key × ℕ)) → Each IsRoot (order symbols ps)
   root_units symbols =
-      each_flat_map IsRoot (below (length ps) symbols ps) (units_in ps None 0)
-      (each_weaker IsRoot (λ s. Each IsRoot (below (length ps) symbols ps s)) (roots_below (length ps) symbols) (units_in ps None 0)
-      (each_list_to IsRoot (λ u. record { program = 0; unit = u; parent = None }) (length (modules_at ps 0)) (λ u below. refl)))
+      each_flat_map IsRoot (below (length ps) symbols ps) (modules_in ps None 0)
+      (each_weaker IsRoot (λ s. Each IsRoot (below (length ps) symbols ps s)) (roots_below (length ps) symbols) (modules_in ps None 0)
+      (each_list_to IsRoot (λ u. record { program = 0; «module» = u; parent = None }) (length (modules_at ps 0)) (λ u below. refl)))
 
   abbrev IsRootModule : Module → Type 0
   IsRootModule m = m.parent ≡ None
 
-  root_item : (l : Layout) (k : ℕ) (s : UnitAt) → IsRoot s → Each IsRootModule (unit_module_items l ps k s)
-  root_item l k s root = by (module_at ps s.program s.unit)
+  root_item : (l : Layout) (k : ℕ) (s : ModuleAt) → IsRoot s → Each IsRootModule (module_items_at l ps k s)
+  root_item l k s root = by (module_at ps s.program s.«module»)
     where
       by : (o : Option PlainModule) → Each IsRootModule (elim o [ Some x ↦ module_item l ps k s x ∷ [] | None ↦ [] ])
       by None = tt
@@ -115,7 +115,7 @@ module _ (ps : List PlainProgram) (plain : Each IsPlainProgram ps) where
 
   root_items : Each IsRootModule (module_items (layout ps) ps)
   root_items =
-      each_flat_map_at IsRootModule (unit_module_items (layout ps) ps) 0 (order (symbols_of ps) ps)
+      each_flat_map_at IsRootModule (module_items_at (layout ps) ps) 0 (order (symbols_of ps) ps)
       (λ i j s at there. root_item (layout ps) i s (each_at IsRoot (order (symbols_of ps) ps) j s (root_units (symbols_of ps)) there))
 
   pub plain_tables : (t : Tables) → t ≡ tables_of_tree ps → AreInRange t → IsPlain t

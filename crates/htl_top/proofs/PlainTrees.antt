@@ -16,12 +16,12 @@ use Rattle.htl_text.specs.declared.tree.InvokeNode.{InvokeNode}
 use Rattle.htl_text.specs.declared.tree.ParamNode.{ParamNode}
 use Rattle.htl_parse.specs.Answers.{Spell}
 use Rattle.htl_names.proofs.Members.{Each}
-use Rattle.htl_top.specs.Unbuilt.{begins_unbuilt, is_program, is_number, holds_number, is_behind_number, is_unbuilt, AllBuilt}
+use Rattle.htl_top.specs.Unbuilt.{begins_unbuilt, is_program, is_number_token, holds_number, is_behind_number, is_unbuilt, AllBuilt}
 
 -- the first of the tokens is no `program` behind a number
 abbrev IsNoHead : Token → List Placed → Type 0
 IsNoHead t [] = Unit {0}
-IsNoHead t (Put k u ∷ us) = (is_number t && is_program u) ≡ false
+IsNoHead t (Put k u ∷ us) = (is_number_token t && is_program u) ≡ false
 
 -- none of the tokens begins a form that isn't built
 abbrev pub IsBuilt : List Placed → Type 0
@@ -163,7 +163,7 @@ placed n k all (t ∷ ts) same built =
     later : (j : ℕ) (u : Token) → slice_get ts j ≡ Some u → slice_get all (suc k + j) ≡ Some u
     later j u e = let step : k + suc j ≡ suc k + j = omega arith in subst (λ (i : ℕ). slice_get all i ≡ Some u) step (same (suc j) u e)
 
-    behind : (j : ℕ) → j ≡ suc (k + 0) → is_behind_number all j ≡ is_number t
+    behind : (j : ℕ) → j ≡ suc (k + 0) → is_behind_number all j ≡ is_number_token t
     behind j e =
         let back : j - 1 ≡ k + 0 = omega (arith, e) in
         let some : nat_lt 0 j ≡ true = grind (arith, nat_tests) in
@@ -174,7 +174,7 @@ placed n k all (t ∷ ts) same built =
     head (u ∷ us) at =
         let next : k + 1 ≡ suc (k + 0) = omega arith in
         let bad = or_right (begins_unbuilt u) (is_program u && is_behind_number all (k + 1)) (none (k + 1) u (at 1 u refl)) in
-        turned (is_program u) (is_number t) (sym (ap (λ b. is_program u && b) (behind (k + 1) next)) ∙ bad)
+        turned (is_program u) (is_number_token t) (sym (ap (λ b. is_program u && b) (behind (k + 1) next)) ∙ bad)
 
 pub plain_tree : (ts : List Token) (ps : List PlainProgram) → AllBuilt ts → Spell ts ps → Each IsPlainProgram ps
 plain_tree ts ps built spelled = source_plain spelled (placed 0 0 ts ts (λ j t e. subst (λ (i : ℕ). slice_get ts i ≡ Some t) (zero_add j) e) built)

@@ -15,7 +15,7 @@ use Rattle.htl_top.specs.Answers.{Tells}
 use Rattle.htl_model.specs.Lists.{up_to}
 use Rattle.htl_model.specs.Plain.{start_line}
 use Rattle.htl_model.specs.Tables.{Tables}
-use Rattle.htl_top.specs.Instants.{start_of, start_lines}
+use Rattle.htl_top.specs.Instants.{start_mode, start_lines}
 
 pub one_line : (t : Tables) (x : Line) → lines_text t (x ∷ []) ≡ line_text t x
 one_line t x = flat_map-cons (line_text t) x [] ∙ append-nil (line_text t x)
@@ -103,8 +103,8 @@ up_to_none f (suc n) h = ap (λ a. a ++ f n) (up_to_none f n h) ∙ h n
 pub start_lines-later : (t : Tables) (at : ℕ) → (at ≡ 0 → ⊥) → start_lines t at ≡ []
 start_lines-later t at later =
     let e : eqb at 0 ≡ false = grind (arith, nat_tests) in
-    up_to_none (λ k. start_line at k (start_of t k)) (length t.modules)
-    (λ k. ap (λ b. cond b (ModeLine at k (Some (start_of t k)) ∷ []) []) e)
+    up_to_none (λ k. start_line at k (start_mode t k)) (length t.modules)
+    (λ k. ap (λ b. cond b (ModeLine at k (Some (start_mode t k)) ∷ []) []) e)
 
 -- the lines of all instants and then the totals
 pub Puts-run : {T E : Type 0} (t : Tables) (es : List Event) (end : ℕ) (totals : List ℕ) (old mid new : Option (List ℕ)) (before between now : ℕ) (result : Result T E)

@@ -7,7 +7,7 @@ use Rattle.htl_model.specs.declared.event.Event.TheVariants as V
 use Rattle.htl_model.specs.Meaning.{last_sense}
 use Rattle.htl_model.proofs.Locality.{not_yet}
 use Rattle.htl_top.specs.Runs.{AreInOrder}
-use Rattle.htl_top.specs.Instants.{ReadsTo, is_after, noted}
+use Rattle.htl_top.specs.Instants.{ReadsTo, is_after, sensed_after}
 
 -- an earlier reading may stand before them too
 AreInOrder-below : (r s : ℕ) (es : List Event) → s ≤ r → AreInOrder r es → AreInOrder s es
@@ -53,29 +53,29 @@ counts c d r u y x e h = grind (arith, nat_tests)
 counts_not : (c d r u : ℕ) (y x : ℤ) → (c ≡ d → ⊥) → cond (eqb c d && leb r u) y x ≡ x
 counts_not c d r u y x e = grind (arith, nat_tests)
 
-noted_sense : (c d r u : ℕ) (y : ℤ) (latest : List ℤ) → r ≤ u → c < length latest →
+sensed_after-sense : (c d r u : ℕ) (y : ℤ) (latest : List ℤ) → r ≤ u → c < length latest →
     cond (eqb c d && leb r u) y (get_or latest c (pos 0)) ≡ get_or (set latest d y) c (pos 0)
-noted_sense c d r u y latest h k =
+sensed_after-sense c d r u y latest h k =
     elim (same_or_not c d) [
       | inl e ↦ counts c d r u y (get_or latest c (pos 0)) e h ∙ sym (get_or-set_same latest c y (pos 0) k) ∙ ap (λ z. get_or (set latest z y) c (pos 0)) e
       | inr e ↦ counts_not c d r u y (get_or latest c (pos 0)) e ∙ sym (get_or-set_other latest d c y (pos 0) e)
     ]
 
 -- one more event was taken in, which isn't after the instant
-noted_is : (c u at : ℕ) (e : Event) (es : List Event) (latest : List ℤ) → is_after at e ≡ false → at ≤ u → c < length latest →
-    last_sense c u at (get_or latest c (pos 0)) (e ∷ es) ≡ last_sense c u at (get_or (noted e latest) c (pos 0)) es
-noted_is c u at (V.At t) es latest b h k =
+last_sense-after : (c u at : ℕ) (e : Event) (es : List Event) (latest : List ℤ) → is_after at e ≡ false → at ≤ u → c < length latest →
+    last_sense c u at (get_or latest c (pos 0)) (e ∷ es) ≡ last_sense c u at (get_or (sensed_after e latest) c (pos 0)) es
+last_sense-after c u at (V.At t) es latest b h k =
     let le : t ≤ at = grind (arith, nat_tests) in
     last_sense_reading c u t at (get_or latest c (pos 0)) es (omega (arith, le, h)) h
-noted_is c u at (V.Sense d y) es latest b h k = ap (λ z. last_sense c u at z es) (noted_sense c d at u y latest h k)
-noted_is c u at (V.Took i n) es latest b h k = refl
-noted_is c u at (V.End t) es latest b h k = refl
+last_sense-after c u at (V.Sense d y) es latest b h k = ap (λ z. last_sense c u at z es) (sensed_after-sense c d at u y latest h k)
+last_sense-after c u at (V.Took i n) es latest b h k = refl
+last_sense-after c u at (V.End t) es latest b h k = refl
 
-length-noted : (e : Event) (latest : List ℤ) → length (noted e latest) ≡ length latest
-length-noted (V.At t) latest = refl
-length-noted (V.Sense c x) latest = length-set latest c x
-length-noted (V.Took i n) latest = refl
-length-noted (V.End t) latest = refl
+length-sensed_after : (e : Event) (latest : List ℤ) → length (sensed_after e latest) ≡ length latest
+length-sensed_after (V.At t) latest = refl
+length-sensed_after (V.Sense c x) latest = length-set latest c x
+length-sensed_after (V.Took i n) latest = refl
+length-sensed_after (V.End t) latest = refl
 
 -- some of the events up to an instant were taken in
 pub record IsReading (at : ℕ) (old new : List ℤ) (before after : List Event) : Type 0 where
@@ -87,12 +87,12 @@ pub IsReading-start : (at : ℕ) (old : List ℤ) (es : List Event) → AreInOrd
 IsReading-start at old es o = record { places = refl; later = λ c u k h. refl; order = o }
 
 pub IsReading-step : (at : ℕ) (old new : List ℤ) (before after rest : List Event) (e : Event) → after ≡ e ∷ rest → is_after at e ≡ false →
-    IsReading at old new before after → IsReading at old (noted e new) before rest
+    IsReading at old new before after → IsReading at old (sensed_after e new) before rest
 IsReading-step at old new before after rest e is b h = record {
-  places = length-noted e new ∙ h.places;
+  places = length-sensed_after e new ∙ h.places;
   later = λ c u k le.
       let inside : c < length new = omega (arith, h.places, k) in
-      h.later c u k le ∙ ap (last_sense c u at (get_or new c (pos 0))) is ∙ noted_is c u at e rest new b le inside;
+      h.later c u k le ∙ ap (last_sense c u at (get_or new c (pos 0))) is ∙ last_sense-after c u at e rest new b le inside;
   order = AreInOrder-rest e rest (subst (AreInOrder 0) is h.order);
 }
 

@@ -6,7 +6,7 @@ use Rattle.std.proofs.lemmas.List.Sums.{sum_by-cons}
 use Rattle.std.proofs.lemmas.Option.{slice_get_cases}
 use Rattle.htl_model.specs.declared.parts.Module.{Module}
 use Rattle.htl_model.specs.Lists.{places_from}
-use Rattle.htl_model.specs.Lines.{rounds_to, unit_period, empty_s_count}
+use Rattle.htl_model.specs.Lines.{rounds_to, module_period, empty_s_count}
 use Rattle.htl_model.specs.Plain.{IsPlain}
 use Rattle.htl_model.specs.Selections.{is_root}
 use Rattle.htl_model.specs.Tables.{Tables}
@@ -27,7 +27,7 @@ roots_from t k plain h =
     ]
 
 abbrev pub e_of : Tables → ℕ → ℕ → ℕ
-e_of t at u = 3 * rounds_to (unit_period t u) at
+e_of t at u = 3 * rounds_to (module_period t u) at
 
 -- the E instructions of the root modules from number k on
 abbrev pub e_from : Tables → ℕ → ℕ → ℕ
@@ -44,6 +44,6 @@ pub e_from-end : (t : Tables) (at k : ℕ) → length t.modules ≤ k → e_from
 e_from-end t at k h = ap (λ (xs : List Module). sum (map (e_of t at) (places_from is_root k xs))) (drop_all k t.modules h)
 
 -- the first module is the first root module
-pub s_count-some : (t : Tables) (at : ℕ) → IsPlain t → 0 < length t.modules → empty_s_count t at ≡ rounds_to (unit_period t 0) at
+pub s_count-some : (t : Tables) (at : ℕ) → IsPlain t → 0 < length t.modules → empty_s_count t at ≡ rounds_to (module_period t 0) at
 s_count-some t at plain h =
-    ap (λ (us : List ℕ). elim us [ [] ↦ 0 | k ∷ ks ↦ rounds_to (unit_period t k) at ]) (roots_from t 0 plain h)
+    ap (λ (us : List ℕ). elim us [ [] ↦ 0 | k ∷ ks ↦ rounds_to (module_period t k) at ]) (roots_from t 0 plain h)

@@ -10,8 +10,8 @@ use Rattle.htl_model.specs.declared.event.Event.{Event}
 use Rattle.htl_model.specs.declared.event.Event.TheVariants as event
 use Rattle.htl_script.proofs.Ending.{whole_end, end_in_time}
 use Rattle.htl_script.specs.Events.{AreEvents, EndWith}
-use Rattle.htl_script.specs.Judging.{noted_all, past_of}
-use Rattle.htl_script.specs.Reading.{OfScript, Grows, IsAnswer}
+use Rattle.htl_script.specs.Judging.{past_after_all, past_of}
+use Rattle.htl_script.specs.Reading.{OfScript, Grows, IsScriptAnswer}
 use Rattle.htl_script.specs.Script.{script_of}
 use Rattle.htl_script.specs.declared.fault.WholeStop.{WholeStop}
 use Rattle.htl_script.specs.declared.fault.WholeStop.TheVariants as stop
@@ -62,7 +62,7 @@ abbrev before_end : Option ℕ → Past
 before_end reading = record { reading = reading; end = None }
 
 shown_is : (t : Tables) (last : Option ℕ) (es : List Event) → AreEvents t last es
-    → instants_shown (reading_of last) es ≡ shown_of (noted_all (before_end last) es).end (noted_all (before_end last) es).reading
+    → instants_shown (reading_of last) es ≡ shown_of (past_after_all (before_end last) es).end (past_after_all (before_end last) es).reading
 shown_is t last [] h = refl
 shown_is t last (event.At instant ∷ es) h = shown_is t (Some instant) es h.2
 shown_is t last (event.Sense c x ∷ es) h = shown_is t last es h.2
@@ -70,7 +70,7 @@ shown_is t last (event.Took i ticks ∷ es) h = shown_is t last es h.2
 shown_is t last (event.End instant ∷ es) h =
     let Same : List Event → Type 0 = λ fs.
     instants_shown (instant + 1) fs
-    ≡ shown_of (noted_all (record { reading = last; end = Some instant }) fs).end (noted_all (record { reading = last; end = Some instant }) fs).reading in
+    ≡ shown_of (past_after_all (record { reading = last; end = Some instant }) fs).end (past_after_all (record { reading = last; end = Some instant }) fs).reading in
     subst Same (sym h.2) refl
 
 text_is : (t : Tables) (es : List Event) (end reading : Option ℕ) → lines_before_text t es (shown_of end reading) ≡ text_to t es end reading
@@ -85,7 +85,7 @@ shown_text t es h =
 -- ---- what the reader gives, where it began with no events
 
 abbrev IsScript : {T : Type 0} → Tables → List Event → List Event → Result T WholeStop → List ℕ → Type 0
-IsScript t old new r script = Grows old new (λ gained. IsAnswer (script_of t script) r gained)
+IsScript t old new r script = Grows old new (λ gained. IsScriptAnswer (script_of t script) r gained)
 
 abbrev AreGained : {T : Type 0} → Tables → List Event → List Event → Result T WholeStop → Type 0
 AreGained t old new r = Grows old new (λ gained. AreEvents t None gained × OnOk r ((end : ℕ) × EndWith gained end))
@@ -119,7 +119,7 @@ pub IsScriptRead-read : {T : Type 0} (t : Tables) (rest : Option (List ℕ)) (ne
     → OfScript rest (IsScript t [] new r) → AreGained t [] new r → IsScriptRead t rest new r
 IsScriptRead-read t rest new (Ok done) script events = IsTold-read t rest new done script events
 IsScriptRead-read {T = T} t rest new (Err (stop.Script fault)) script events =
-    let bad = subst (λ (es : List Event). IsAnswer {T = T} (script_of t script.0) (Err (stop.Script fault)) es) (sym script.2.1) script.2.2 in
-    told_where rest script.0 (λ bytes. IsAnswer {T = T} (script_of t bytes) (Err (stop.Script fault)) new) script.1 bad
+    let bad = subst (λ (es : List Event). IsScriptAnswer {T = T} (script_of t script.0) (Err (stop.Script fault)) es) (sym script.2.1) script.2.2 in
+    told_where rest script.0 (λ bytes. IsScriptAnswer {T = T} (script_of t bytes) (Err (stop.Script fault)) new) script.1 bad
 IsScriptRead-read t rest new (Err stop.Read) script events = tt
 IsScriptRead-read t rest new (Err stop.Memory) script events = tt

@@ -11,7 +11,7 @@ use Rattle.htl_names.specs.Flat.{tables_of_tree}
 use Rattle.htl_names.specs.NameRules.{IsFirstNameFault, AreNamesRight}
 use Rattle.htl_names.specs.declared.fault.NameFault.{NameFault}
 use Rattle.htl_names.specs.declared.fault.NameFault.TheVariants as name
-use Rattle.htl_parse.proofs.Firsts.{first-unique}
+use Rattle.htl_base.proofs.Firsts.{first-unique}
 use Rattle.htl_parse.proofs.Whole.{one_tree-law}
 use Rattle.htl_parse.specs.Answers.{Spell}
 use Rattle.htl_parse.specs.Runs.{IsLong, IsFirstLong}

@@ -23,7 +23,7 @@ use Rattle.htl_model.proofs.Stays.{start_line_is}
 use Rattle.htl_top.proofs.Reading.{last_sense_reading}
 use Rattle.htl_top.specs.Runs.{AreInOrder, IsFresh}
 use Rattle.htl_top.specs.declared.board.Board.{Board}
-use Rattle.htl_top.specs.Instants.{ReadsTo, shown_by, shown_at, all_shown, state_of, start_of, instant_lines}
+use Rattle.htl_top.specs.Instants.{ReadsTo, shown_by, shown_at, all_shown, state_of, start_mode, instant_lines}
 
 -- what a communicator shows before an instant: its initial value, or that of the instant before
 abbrev pub held : Tables → List Event → ℕ → ℕ → ℤ
@@ -138,17 +138,17 @@ value_line_is t es c (suc n) latest shown plain k l h =
     value_line_same (suc n) c (state_of shown) (state_of (all_shown t (suc n) latest shown)) (state t es n) (state t es (suc n)) h
     (all_shown_is t (suc n) latest shown c k ∙ shown_at_is t es c (suc n) latest shown plain k l h)
 
-start_of_unit : Option Module → ℕ
-start_of_unit o = elim o [ Some x ↦ x.start | None ↦ 0 ]
+start_mode_of : Option Module → ℕ
+start_mode_of o = elim o [ Some x ↦ x.start | None ↦ 0 ]
 
 mode_line_is : (t : Tables) (es : List Event) (k at : ℕ) → IsPlain t → k < length t.modules →
-    start_line at k (start_of t k) ≡ mode_line at (before t es at) (state t es at) k
-unfolding start_of_unit
+    start_line at k (start_mode t k) ≡ mode_line at (before t es at) (state t es at) k
+unfolding start_mode_of
 mode_line_is t es k at plain inside =
     elim (slice_get_cases t.modules k).1 [
       | inl w ↦
           let root : w.0.parent ≡ None = ap (λ (x : Module). x.parent) (sym w.3) ∙ plain.roots k w.0 inside in
-          ap (λ o. start_line at k (start_of_unit o)) w.2 ∙ sym (start_line_is t es k w.0 at plain.no_switches w.2 root)
+          ap (λ o. start_line at k (start_mode_of o)) w.2 ∙ sym (start_line_is t es k w.0 at plain.no_switches w.2 root)
       | inr w ↦ absurd (omega (arith, w.0, inside))
     ]
 
@@ -164,7 +164,7 @@ instant_lines_are t es at latest shown plain h =
     ap₂ (λ a b. a ++ b)
     (up_to_same (value_line at (state_of shown) (state_of (all_shown t at latest shown))) (value_line at (before t es at) (state t es at)) (length t.comms)
     (λ c k. value_line_is t es c at latest shown plain k (h.sensed c k) (h.held c k)))
-    (up_to_same (λ k. start_line at k (start_of t k)) (mode_line at (before t es at) (state t es at)) (length t.modules)
+    (up_to_same (λ k. start_line at k (start_mode t k)) (mode_line at (before t es at) (state t es at)) (length t.modules)
     (λ k i. mode_line_is t es k at plain i))
 
 -- ---- from instant to instant

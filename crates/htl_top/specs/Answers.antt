@@ -5,7 +5,7 @@ use Rattle.htl_edge.specs.Causes.{Rose}
 use Rattle.htl_edge.specs.Content.{AppendsPrefix}
 use Rattle.htl_edge.specs.Holdings.{Holdings}
 use Rattle.htl_model.specs.Tables.{Tables}
-use Rattle.htl_top.specs.Causes.{IsFaultOf, IsLongFile, IsFaultySource, HasTables, HasBuiltTables, IsProgram, IsIllFormed, IsRun, IsFaulty, IsCut}
+use Rattle.htl_top.specs.Causes.{IsFaultOf, IsLongFile, IsFaultySource, HasTables, HasBuiltTables, IsProgram, IsIllFormed, IsWholeRun, IsFaultyRun, IsCutRun}
 use Rattle.htl_top.specs.Sources.{BreakFirst, IsSourceFault}
 use Rattle.htl_top.specs.Status.{fault_line}
 use Rattle.htl_top.specs.declared.outcome.Outcome.{Outcome}
@@ -44,28 +44,28 @@ IsWritten text whole old new before now result =
     ((result ≡ whole) × (new ≡ append_known old text)) ⊎ ((result ≡ Write) × Rose before now × AppendsPrefix old new text)
 
 -- these tables are run with the input as script
-abbrev pub IsPlayed : Tables → Streams → Streams → Outcome → Type 0
-IsPlayed tables old new Done = IsRun tables old.rest new.rest old.written new.written
-IsPlayed tables old new (Script fault) = IsFaulty tables old.rest old.written new.written fault
-IsPlayed tables old new Read = Rose old.read_faults new.read_faults × (new.written ≡ old.written)
-IsPlayed tables old new Write = Rose old.write_faults new.write_faults × IsCut tables old.rest old.written new.written
-IsPlayed tables old new Memory = new.written ≡ old.written
-IsPlayed tables old new Usage = ⊥
-IsPlayed tables old new (Source fault) = ⊥
-IsPlayed tables old new (IllFormed fault) = ⊥
-IsPlayed tables old new (Shelf cause) = ⊥
+abbrev pub IsExecuted : Tables → Streams → Streams → Outcome → Type 0
+IsExecuted tables old new Done = IsWholeRun tables old.rest new.rest old.written new.written
+IsExecuted tables old new (Script fault) = IsFaultyRun tables old.rest old.written new.written fault
+IsExecuted tables old new Read = Rose old.read_faults new.read_faults × (new.written ≡ old.written)
+IsExecuted tables old new Write = Rose old.write_faults new.write_faults × IsCutRun tables old.rest old.written new.written
+IsExecuted tables old new Memory = new.written ≡ old.written
+IsExecuted tables old new Usage = ⊥
+IsExecuted tables old new (Source fault) = ⊥
+IsExecuted tables old new (IllFormed fault) = ⊥
+IsExecuted tables old new (Shelf cause) = ⊥
 
 -- the source with these bytes is compiled and run
-abbrev pub IsGone : List ℕ → Streams → Streams → Outcome → Type 0
-IsGone bytes old new Done = HasTables bytes (λ tables. IsPlayed tables old new Done)
-IsGone bytes old new (Script fault) = HasTables bytes (λ tables. IsPlayed tables old new (Script fault))
-IsGone bytes old new Read = HasTables bytes (λ tables. IsPlayed tables old new Read)
-IsGone bytes old new Write = HasTables bytes (λ tables. IsPlayed tables old new Write)
-IsGone bytes old new Memory = new.written ≡ old.written
-IsGone bytes old new (Source fault) = IsSourceFault bytes fault × IsUntouched old new
-IsGone bytes old new (IllFormed fault) = HasBuiltTables bytes (λ tables. BreakFirst tables fault) × IsUntouched old new
-IsGone bytes old new Usage = ⊥
-IsGone bytes old new (Shelf cause) = ⊥
+abbrev pub IsGoAnswer : List ℕ → Streams → Streams → Outcome → Type 0
+IsGoAnswer bytes old new Done = HasTables bytes (λ tables. IsExecuted tables old new Done)
+IsGoAnswer bytes old new (Script fault) = HasTables bytes (λ tables. IsExecuted tables old new (Script fault))
+IsGoAnswer bytes old new Read = HasTables bytes (λ tables. IsExecuted tables old new Read)
+IsGoAnswer bytes old new Write = HasTables bytes (λ tables. IsExecuted tables old new Write)
+IsGoAnswer bytes old new Memory = new.written ≡ old.written
+IsGoAnswer bytes old new (Source fault) = IsSourceFault bytes fault × IsUntouched old new
+IsGoAnswer bytes old new (IllFormed fault) = HasBuiltTables bytes (λ tables. BreakFirst tables fault) × IsUntouched old new
+IsGoAnswer bytes old new Usage = ⊥
+IsGoAnswer bytes old new (Shelf cause) = ⊥
 
 -- the whole call, for the name in its words
 abbrev pub IsAnswer : Option (List ℕ) → Files → Streams → Streams → Outcome → Type 0
@@ -74,10 +74,10 @@ IsAnswer name shelf old new (Shelf Failed) = IsFaultOf name shelf.before shelf.a
 IsAnswer name shelf old new (Shelf (TooLong seen)) = IsLongFile name shelf.holds seen × IsUntouched old new
 IsAnswer name shelf old new (Source fault) = IsFaultySource name shelf.holds fault × IsUntouched old new
 IsAnswer name shelf old new (IllFormed fault) = IsIllFormed name shelf.holds fault × IsUntouched old new
-IsAnswer name shelf old new Done = IsProgram name shelf.holds (λ tables. IsPlayed tables old new Done)
-IsAnswer name shelf old new (Script fault) = IsProgram name shelf.holds (λ tables. IsPlayed tables old new (Script fault))
-IsAnswer name shelf old new Read = IsProgram name shelf.holds (λ tables. IsPlayed tables old new Read)
-IsAnswer name shelf old new Write = IsProgram name shelf.holds (λ tables. IsPlayed tables old new Write)
+IsAnswer name shelf old new Done = IsProgram name shelf.holds (λ tables. IsExecuted tables old new Done)
+IsAnswer name shelf old new (Script fault) = IsProgram name shelf.holds (λ tables. IsExecuted tables old new (Script fault))
+IsAnswer name shelf old new Read = IsProgram name shelf.holds (λ tables. IsExecuted tables old new Read)
+IsAnswer name shelf old new Write = IsProgram name shelf.holds (λ tables. IsExecuted tables old new Write)
 IsAnswer name shelf old new Memory = ((word : List ℕ) × (name ≡ Some word)) × (new.written ≡ old.written)
 
 -- ---- what other answers leave as it was

@@ -2,11 +2,12 @@
 use Rattle.std.specs.Prelude.{ℕ, ◌≡◌, ◌≤◌, ◌⊎◌, Option, None, Some, IfSome, List, length}
 use Rattle.std.specs.FinMap.{get}
 use Rattle.std.specs.Io.KnownBytes.{append_known}
+use Rattle.htl_base.specs.declared.limits.TheConstants.{MAX_SOURCE}
 use Rattle.htl_edge.specs.Causes.{Rose}
 use Rattle.htl_edge.specs.Content.{AppendsPrefix, none_left}
 use Rattle.htl_edge.specs.Holdings.{Holdings, HoldsUnder, IsTooLong}
 use Rattle.htl_edge.specs.declared.shelf.ShelfFault.TheVariants.{TooLong as LongFile}
-use Rattle.htl_model.specs.Lines.{empty_text}
+use Rattle.htl_model.specs.Lines.{run_text}
 use Rattle.htl_model.specs.Tables.{Tables}
 use Rattle.htl_model.specs.declared.event.Event.{Event}
 use Rattle.htl_model.specs.declared.form_fault.FormFault.{FormFault}
@@ -30,14 +31,14 @@ IsFaultOf (Some word) before after = Rose (before word) (after word)
 -- what it holds.
 abbrev pub IsLongFile : Option (List ℕ) → Option Holdings → ℕ → Type 0
 IsLongFile None holds seen = ⊥
-IsLongFile (Some word) holds seen = IsTooLong holds word 1048576 (LongFile seen)
+IsLongFile (Some word) holds seen = IsTooLong holds word MAX_SOURCE (LongFile seen)
 
 -- The words name a file with these bytes, where the shelf tells what it holds; they are at most 1,048,576.
 pub record IsSource (name : Option (List ℕ)) (holds : Option Holdings) (bytes : List ℕ) : Type 0 where
   pub word : List ℕ
   pub named : name ≡ Some word
   pub held : HoldsUnder holds word bytes
-  pub short : length bytes ≤ 1048576
+  pub short : length bytes ≤ MAX_SOURCE
 
 -- The words name a file, the shelf tells that it holds these bytes under the name, and counted no fault of it.
 pub record IsGiven (name : Option (List ℕ)) (holds : Option Holdings) (before after : List ℕ → ℕ) (bytes : List ℕ) : Type 0 where
@@ -89,29 +90,29 @@ IsIllFormed name holds fault = IsBuiltProgram name holds (λ tables. BreakFirst 
 pub record IsReady (name : Option (List ℕ)) (holds : Option Holdings) (before after : List ℕ → ℕ) (rest : Option (List ℕ)) (tables : Tables) (script : List ℕ) : Type 0 where
   pub bytes : List ℕ
   pub given : IsGiven name holds before after bytes
-  pub short : length bytes ≤ 1048576
+  pub short : length bytes ≤ MAX_SOURCE
   pub compiled : CanRun bytes tables
   pub input : rest ≡ Some script
 
 -- ---- the run
 
 -- The input had a whole script for the tables, which was read to its end, and the text of the run was written.
-pub record IsRun (tables : Tables) (rest left old new : Option (List ℕ)) : Type 0 where
+pub record IsWholeRun (tables : Tables) (rest left old new : Option (List ℕ)) : Type 0 where
   pub events : List Event
   pub end : ℕ
   pub script : IfSome rest (λ script. IsWhole tables script events end)
   pub read : left ≡ none_left rest
-  pub written : new ≡ append_known old (empty_text tables events end)
+  pub written : new ≡ append_known old (run_text tables events end)
 
 -- This is the first fault of the input as a script for the tables, and the lines of the events before it were
 -- written.
-pub record IsFaulty (tables : Tables) (rest old new : Option (List ℕ)) (fault : ScriptFault) : Type 0 where
+pub record IsFaultyRun (tables : Tables) (rest old new : Option (List ℕ)) (fault : ScriptFault) : Type 0 where
   pub events : List Event
   pub script : IfSome rest (λ script. IsBad tables script fault events)
   pub written : new ≡ append_known old (text_before_fault tables events)
 
 -- A prefix was written of the text that the input as a script for the tables makes a run write.
-pub record IsCut (tables : Tables) (rest old new : Option (List ℕ)) : Type 0 where
+pub record IsCutRun (tables : Tables) (rest old new : Option (List ℕ)) : Type 0 where
   pub given : Script
   pub script : IfSome rest (λ script. script_of tables script ≡ given)
   pub written : AppendsPrefix old new (text_of_script tables given)

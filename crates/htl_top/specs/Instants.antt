@@ -28,11 +28,11 @@ is_after at (V.Took i n) = false
 is_after at (V.End t) = false
 
 -- what was last sensed, after one more event
-abbrev pub noted : Event → List ℤ → List ℤ
-noted (V.At t) latest = latest
-noted (V.Sense c x) latest = slice_set latest c x
-noted (V.Took i n) latest = latest
-noted (V.End t) latest = latest
+abbrev pub sensed_after : Event → List ℤ → List ℤ
+sensed_after (V.At t) latest = latest
+sensed_after (V.Sense c x) latest = slice_set latest c x
+sensed_after (V.Took i n) latest = latest
+sensed_after (V.End t) latest = latest
 
 -- Of the events `before` those that were read at an instant or earlier were taken in, and `after` are left:
 -- what was last sensed at that instant is what `new` holds, and with the rest each later instant has the
@@ -73,12 +73,12 @@ shown_lines t at latest shown =
     up_to (value_line at (state_of shown) (state_of (all_shown t at latest shown))) (length t.comms)
 
 -- the mode in which a module starts
-abbrev pub start_of : Tables → ℕ → ℕ
-start_of t k = elim (slice_get t.modules k) [ Some x ↦ x.start | None ↦ 0 ]
+abbrev pub start_mode : Tables → ℕ → ℕ
+start_mode t k = elim (slice_get t.modules k) [ Some x ↦ x.start | None ↦ 0 ]
 
 -- the lines of modes: at the first instant alone
 abbrev pub start_lines : Tables → ℕ → List Line
-start_lines t at = up_to (λ k. start_line at k (start_of t k)) (length t.modules)
+start_lines t at = up_to (λ k. start_line at k (start_mode t k)) (length t.modules)
 
 abbrev pub instant_lines : Tables → ℕ → List ℤ → List ℤ → List Line
 instant_lines t at latest shown = shown_lines t at latest shown ++ start_lines t at

@@ -1,5 +1,6 @@
 -- What a run goes by.
 use Rattle.std.specs.Prelude.{◌≡◌, ◌≤◌, ℕ, List, [], ◌∷◌, map}
+use Rattle.htl_base.specs.declared.limits.TheConstants.{MAX_INSTANT}
 use Rattle.htl_model.specs.declared.event.Event.{Event}
 use Rattle.htl_model.specs.declared.event.Event.TheVariants as V
 use Rattle.htl_model.specs.Tables.{Tables}
@@ -15,10 +16,10 @@ AreInOrder reading (V.End t ∷ es) = AreInOrder reading es
 
 -- the instants of an event are instants of a run
 abbrev pub IsInTime : Event → Type 0
-IsInTime (V.At t) = t ≤ 1000000000
+IsInTime (V.At t) = t ≤ MAX_INSTANT
 IsInTime (V.Sense c x) = Unit {0}
 IsInTime (V.Took i n) = Unit {0}
-IsInTime (V.End t) = t ≤ 1000000000
+IsInTime (V.End t) = t ≤ MAX_INSTANT
 
 abbrev pub AreInTime : List Event → Type 0
 AreInTime [] = Unit {0}

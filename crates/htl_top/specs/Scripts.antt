@@ -1,6 +1,7 @@
 -- What a script gives a run.
 use Rattle.std.specs.Prelude.{ℕ, ◌≡◌, ◌≤◌, Option, List, IfSome, Ok, Err}
 use Rattle.std.specs.declared.result.Result.{Result}
+use Rattle.htl_base.specs.declared.limits.TheConstants.{MAX_INSTANT}
 use Rattle.htl_model.specs.Tables.{Tables}
 use Rattle.htl_model.specs.declared.event.Event.{Event}
 use Rattle.htl_script.specs.Events.{EndWith}
@@ -20,7 +21,7 @@ IsBad tables script fault events = script_of tables script ≡ Bad fault.line fa
 -- the last event ends the run, at an instant of a run
 pub record EndsAt (events : List Event) (end : ℕ) : Type 0 where
   pub last : EndWith events end
-  pub in_time : end ≤ 1000000000
+  pub in_time : end ≤ MAX_INSTANT
 
 -- The script is whole for the tables, with these events, where it is told.
 pub record IsTold (tables : Tables) (rest : Option (List ℕ)) (events : List Event) : Type 0 where

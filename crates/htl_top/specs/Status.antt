@@ -40,8 +40,8 @@ source_line (Limit which count) = codes "htl: source limit " ++ decimal which ++
 -- ---- a broken form rule
 
 -- the name of an invocation's task
-abbrev pub inv_task_name : Tables → ℕ → List ℕ
-inv_task_name t i =
+abbrev pub task_name : Tables → ℕ → List ℕ
+task_name t i =
     elim (slice_get t.invs i) [ Some x ↦ elim (slice_get t.tasks x.task) [ Some k ↦ k.name | None ↦ [] ] | None ↦ [] ]
 
 -- `module.mode`
@@ -50,7 +50,7 @@ mode_place t fault = module_name t fault.«module» ++ codes "." ++ mode_name t 
 
 -- `module.mode`, or `module.mode.task` where an invocation is the place
 abbrev pub place_of_fault : Tables → FormFault → List ℕ
-place_of_fault t fault = elim fault.inv [ Some i ↦ mode_place t fault ++ codes "." ++ inv_task_name t i | None ↦ mode_place t fault ]
+place_of_fault t fault = elim fault.inv [ Some i ↦ mode_place t fault ++ codes "." ++ task_name t i | None ↦ mode_place t fault ]
 
 -- the place by the names of tables; nothing where there are none
 abbrev pub place_in : Option Tables → FormFault → List ℕ

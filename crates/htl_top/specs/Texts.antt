@@ -1,6 +1,6 @@
 -- The text that a script makes a run write.
 use Rattle.std.specs.Prelude.{ℕ, ◌+◌, List, [], ◌∷◌, Option, None, Some}
-use Rattle.htl_model.specs.Lines.{lines_to_text, lines_before_text, empty_text}
+use Rattle.htl_model.specs.Lines.{lines_to_text, lines_before_text, run_text}
 use Rattle.htl_model.specs.Tables.{Tables}
 use Rattle.htl_model.specs.declared.event.Event.{Event}
 use Rattle.htl_model.specs.declared.event.Event.TheVariants as event
@@ -19,7 +19,7 @@ text_before_fault t events = text_to t events (past_of events).end (past_of even
 
 -- what a run writes of a script: all lines and the totals of a whole one
 abbrev pub text_of_script : Tables → Script → List ℕ
-text_of_script t (Whole events end) = empty_text t events end
+text_of_script t (Whole events end) = run_text t events end
 text_of_script t (Bad line kind events) = text_before_fault t events
 
 -- ---- the instants that are shown

@@ -17,12 +17,12 @@ abbrev pub is_program : Token → Bool
 is_program (token.Word word.Program) = true
 is_program t = false
 
-abbrev pub is_number : Token → Bool
-is_number (token.Number x) = true
-is_number t = false
+abbrev pub is_number_token : Token → Bool
+is_number_token (token.Number x) = true
+is_number_token t = false
 
 abbrev pub holds_number : Option Token → Bool
-holds_number (Some t) = is_number t
+holds_number (Some t) = is_number_token t
 holds_number None = false
 
 -- the token before this place is a number

@@ -2,7 +2,7 @@
 ghost use Rattle.std.specs.Prelude.{◌≡◌, ◌<◌, ◌≤◌, length, drop, slice_set, IfOk, map};
 ghost use Rattle.htl_model.specs.Meaning.{value_line};
 ghost use Rattle.htl_top.specs.Runs.{AreInOrder, IsFresh};
-ghost use Rattle.htl_top.specs.Instants.{HasPlaces, ReadsTo, is_after as is_after_instant, noted, shown_at, state_of, line_of};
+ghost use Rattle.htl_top.specs.Instants.{HasPlaces, ReadsTo, is_after as is_after_instant, sensed_after, shown_at, state_of, line_of};
 
 use htl_base::{Memory, Seq, Time, Value};
 use htl_model::{Comm, Event, Tables};
@@ -54,7 +54,7 @@ impl Board {
 
     // Takes in an event.
     fn note(&mut self, event: &Event)
-        ensures latest { self.new.latest ≡ noted event.now self.old.latest }
+        ensures latest { self.new.latest ≡ sensed_after event.now self.old.latest }
         ensures shown { self.new.shown ≡ self.old.shown }
     {
         if let Event::Sense { comm, x } = *event {

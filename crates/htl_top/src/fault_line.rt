@@ -4,10 +4,9 @@ ghost use Rattle.std.specs.Option.{option_copied};
 ghost use Rattle.htl_top.specs.Answers.{Tells};
 ghost use Rattle.htl_top.specs.Status.{fault_line as line_of, source_line, form_line, place_in, kind_text, script_line, shelf_line};
 
-use crate::line::Line;
 use crate::place::place;
 use crate::{Outcome, ShelfCause, SourceFault};
-use htl_edge::{Sink, put_all};
+use htl_edge::{LineBuffer, Sink, put_all};
 use htl_model::{FormFault, Tables};
 use htl_script::{ScriptFault, ScriptKind};
 
@@ -24,11 +23,11 @@ pub fn report<E: Sink>(err: &mut E, tables: Option<&Tables>, outcome: &Outcome)
 }
 
 // The line that tells of an answer; empty for Done.
-fn fault_line(tables: Option<&Tables>, outcome: &Outcome) -> Line
+fn fault_line(tables: Option<&Tables>, outcome: &Outcome) -> LineBuffer
     ensures { result ≡ line_of (option_copied tables.entry) outcome.now }
 {
     match outcome {
-        Outcome::Done => Line::new(),
+        Outcome::Done => LineBuffer::new(),
         Outcome::Usage => plain_line(b"htl: usage\n"),
         Outcome::Source(fault) => source_line(fault),
         Outcome::IllFormed(fault) => form_line(tables, fault),
@@ -40,7 +39,7 @@ fn fault_line(tables: Option<&Tables>, outcome: &Outcome) -> Line
     }
 }
 
-fn source_line(fault: &SourceFault) -> Line
+fn source_line(fault: &SourceFault) -> LineBuffer
     ensures { result ≡ source_line fault.now }
 {
     match fault {
@@ -60,10 +59,10 @@ fn source_line(fault: &SourceFault) -> Line
     }
 }
 
-fn limit_line(which: u8, count: u32) -> Line
+fn limit_line(which: u8, count: u32) -> LineBuffer
     ensures { result ≡ codes "htl: source limit " ++ decimal which ++ codes " count " ++ decimal count ++ codes "\n" }
 {
-    let mut line = Line::new();
+    let mut line = LineBuffer::new();
     line.text(b"htl: source limit ");
     line.number(which as u64);
     line.text(b" count ");
@@ -72,11 +71,11 @@ fn limit_line(which: u8, count: u32) -> Line
     line
 }
 
-fn form_line(tables: Option<&Tables>, fault: &FormFault) -> Line
+fn form_line(tables: Option<&Tables>, fault: &FormFault) -> LineBuffer
     ensures { result ≡ form_line (option_copied tables.entry) fault.now }
 {
     let place = place_of(tables, fault);
-    let mut line = Line::new();
+    let mut line = LineBuffer::new();
     line.text(b"htl: ill-formed ");
     line.number(fault.rule as u64);
     line.text(b" at ");
@@ -90,21 +89,21 @@ fn form_line(tables: Option<&Tables>, fault: &FormFault) -> Line
 }
 
 // The place of a fault by the names of tables; nothing where there are none.
-fn place_of(tables: Option<&Tables>, fault: &FormFault) -> Line
+fn place_of(tables: Option<&Tables>, fault: &FormFault) -> LineBuffer
     ensures text { result ≡ place_in (option_copied tables.entry) fault.now }
     ensures short { length result ≤ 146 }
 {
     match tables {
         Some(t) => place(t, fault),
-        None => Line::new(),
+        None => LineBuffer::new(),
     }
 }
 
-fn script_line(fault: &ScriptFault) -> Line
+fn script_line(fault: &ScriptFault) -> LineBuffer
     ensures { result ≡ script_line fault.now }
 {
     let kind = kind_text(&fault.kind);
-    let mut line = Line::new();
+    let mut line = LineBuffer::new();
     line.text(b"htl: script ");
     line.number(fault.line);
     line.text(b" ");
@@ -113,7 +112,7 @@ fn script_line(fault: &ScriptFault) -> Line
     line
 }
 
-fn kind_text(kind: &ScriptKind) -> Line
+fn kind_text(kind: &ScriptKind) -> LineBuffer
     ensures text { result ≡ kind_text kind.now }
     ensures short { length result ≤ 64 }
 {
@@ -130,11 +129,11 @@ fn kind_text(kind: &ScriptKind) -> Line
     }
 }
 
-fn overrun_text(took: u64, worst: u64) -> Line
+fn overrun_text(took: u64, worst: u64) -> LineBuffer
     ensures text { result ≡ codes "overrun " ++ decimal took ++ codes " " ++ decimal worst }
     ensures short { length result ≤ 64 }
 {
-    let mut line = Line::new();
+    let mut line = LineBuffer::new();
     line.text(b"overrun ");
     line.number(took);
     line.text(b" ");
@@ -142,7 +141,7 @@ fn overrun_text(took: u64, worst: u64) -> Line
     line
 }
 
-fn shelf_line(cause: &ShelfCause) -> Line
+fn shelf_line(cause: &ShelfCause) -> LineBuffer
     ensures { result ≡ shelf_line cause.now }
 {
     match cause {
@@ -151,22 +150,22 @@ fn shelf_line(cause: &ShelfCause) -> Line
     }
 }
 
-fn plain_line(text: &[u8]) -> Line
+fn plain_line(text: &[u8]) -> LineBuffer
     requires { length text.now ≤ 64 }
     ensures text { result ≡ text.now }
     ensures short { length result ≤ 64 }
 {
-    let mut line = Line::new();
+    let mut line = LineBuffer::new();
     line.text(text);
     line
 }
 
 // The text, a number and a line feed.
-fn numbered_line(text: &[u8], number: u64) -> Line
+fn numbered_line(text: &[u8], number: u64) -> LineBuffer
     requires { length text.now ≤ 64 }
     ensures { result ≡ text.now ++ decimal number ++ codes "\n" }
 {
-    let mut line = Line::new();
+    let mut line = LineBuffer::new();
     line.text(text);
     line.number(number);
     line.text(b"\n");

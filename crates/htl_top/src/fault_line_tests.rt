@@ -1,27 +1,11 @@
-// The lines that tell of answers that no source has yet.
+// The lines that tell of answers that no call of the tests has.
 use crate::fault_line::report;
 use crate::{Outcome, SourceFault};
 use htl_edge::Page;
 use htl_script::{ScriptFault, ScriptKind};
 use std::test::Fail;
 
-const TOLD: [(Outcome, &str); 7] = [
-    (
-        Outcome::Source(SourceFault::Twice { at: 40 }),
-        "htl: source twice 40\n",
-    ),
-    (
-        Outcome::Source(SourceFault::Unknown { at: 41 }),
-        "htl: source unknown 41\n",
-    ),
-    (
-        Outcome::Source(SourceFault::Kind { at: 42 }),
-        "htl: source kind 42\n",
-    ),
-    (
-        Outcome::Source(SourceFault::NotATree { program: 2 }),
-        "htl: source not-a-tree 2\n",
-    ),
+const TOLD: &[(Outcome, &str)] = &[
     (
         Outcome::Source(SourceFault::Limit {
             which: 2,
@@ -50,7 +34,7 @@ fn lines_are_told(rt: HostRuntime) -> Result<(), Fail> {
     let alloc = rt.alloc();
     for (outcome, line) in TOLD {
         let mut page = Page::new(alloc, 100, &[])?;
-        report(&mut page, None, &outcome);
+        report(&mut page, None, outcome);
         assert_eq!(rt; page.bytes(), line.as_bytes());
     }
     Ok(())

@@ -2,22 +2,21 @@
 #![tactic(auto)]
 
 mod board;
+mod execute;
 mod fault_line;
 #[cfg(test)]
 mod fault_line_tests;
 #[cfg(test)]
 mod form_tests;
 mod laws;
-mod line;
 mod lookups;
 #[cfg(test)]
 mod names_tests;
 mod outcome;
 mod place;
-mod play;
 mod run;
 #[cfg(test)]
-mod run_tests;
+mod slow_tests;
 mod source;
 mod source_fault;
 #[cfg(test)]
@@ -32,7 +31,10 @@ mod top;
 mod totals;
 mod unbuilt;
 
-pub use laws::sensors_decide_lines;
+pub use fault_line::report;
+pub use laws::{
+    earlier_readings_decide_texts, earlier_readings_decide_values, sensors_decide_lines,
+};
 pub use outcome::{Outcome, ShelfCause, status};
 pub use source_fault::SourceFault;
 pub use top::htl;

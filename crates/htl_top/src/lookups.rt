@@ -1,10 +1,10 @@
 // What the numbers of the tables name.
 ghost use Rattle.std.specs.Prelude.{◌≡◌, ◌<◌, ◌≤◌, length};
-ghost use Rattle.htl_model.specs.Lines.{comm_name as comm_name_of, mode_name as mode_name_of, module_name as module_name_of, unit_period as unit_period_of};
-ghost use Rattle.htl_top.specs.Instants.{start_of as start_of_unit};
+ghost use Rattle.htl_model.specs.Lines.{comm_name as comm_name_of, mode_name as mode_name_of, module_name as module_name_of, module_period as module_period_of};
+ghost use Rattle.htl_top.specs.Instants.{start_mode as start_mode_of};
+ghost use Rattle.htl_top.specs.Status.{task_name as task_name_of};
 
-use htl_base::Name;
-use htl_model::{Module, Tables};
+use htl_model::Tables;
 
 /// How many communicators there are.
 pub fn comm_count(t: &Tables) -> usize
@@ -14,50 +14,73 @@ pub fn comm_count(t: &Tables) -> usize
 }
 
 /// How many modules there are.
-pub fn unit_count(t: &Tables) -> usize
+pub fn module_count(t: &Tables) -> usize
     ensures { result ≡ length t.now.modules }
 {
     t.parts().modules.as_slice().len()
 }
 
-/// The name of a communicator.
-pub fn comm_name(t: &Tables, comm: usize) -> &Name
-    requires { comm < length t.now.comms }
-    ensures { result.now ≡ comm_name_of t.now comm }
+/// The name of a communicator; nothing where there is none of this number.
+pub fn comm_name(t: &Tables, comm: usize) -> &[u8]
+    ensures name { result.now ≡ comm_name_of t.now comm }
+    ensures short { length result.now ≤ 48 }
 {
-    &t.parts().comms.as_slice()[comm].name
+    match t.parts().comms.as_slice().get(comm) {
+        Some(comm) => comm.name.as_bytes(),
+        None => b"",
+    }
 }
 
-/// The name of a mode.
-pub fn mode_name(t: &Tables, mode: usize) -> &Name
-    requires { mode < length t.now.modes }
-    ensures { result.now ≡ mode_name_of t.now mode }
+/// The name of a module; nothing where there is none of this number.
+pub fn module_name(t: &Tables, k: usize) -> &[u8]
+    ensures name { result.now ≡ module_name_of t.now k }
+    ensures short { length result.now ≤ 48 }
 {
-    &t.parts().modes.as_slice()[mode].name
+    match t.parts().modules.as_slice().get(k) {
+        Some(module) => module.name.as_bytes(),
+        None => b"",
+    }
 }
 
-/// The name of a module.
-pub fn module_name(t: &Tables, unit: usize) -> &Name
-    requires { unit < length t.now.modules }
-    ensures { result.now ≡ module_name_of t.now unit }
+/// The name of a mode; nothing where there is none of this number.
+pub fn mode_name(t: &Tables, mode: usize) -> &[u8]
+    ensures name { result.now ≡ mode_name_of t.now mode }
+    ensures short { length result.now ≤ 48 }
 {
-    &t.parts().modules.as_slice()[unit].name
+    match t.parts().modes.as_slice().get(mode) {
+        Some(mode) => mode.name.as_bytes(),
+        None => b"",
+    }
+}
+
+/// The name of an invocation's task; nothing where there is no invocation of this number.
+pub fn task_name(t: &Tables, inv: usize) -> &[u8]
+    ensures name { result.now ≡ task_name_of t.now inv }
+    ensures short { length result.now ≤ 48 }
+{
+    let Some(inv) = t.parts().invs.as_slice().get(inv) else {
+        return b"";
+    };
+    match t.parts().tasks.as_slice().get(inv.task as usize) {
+        Some(task) => task.name.as_bytes(),
+        None => b"",
+    }
 }
 
 /// The mode in which a module starts.
-pub fn start_of(t: &Tables, unit: usize) -> usize
-    requires { unit < length t.now.modules }
-    ensures start { result ≡ start_of_unit t.now unit }
+pub fn start_mode(t: &Tables, k: usize) -> usize
+    requires { k < length t.now.modules }
+    ensures start { result ≡ start_mode_of t.now k }
     ensures known { result < length t.now.modes }
 {
-    t.parts().modules.as_slice()[unit].start as usize
+    t.parts().modules.as_slice()[k].start as usize
 }
 
 /// The length of a module's rounds in ticks: that of the mode in which it starts.
-pub fn unit_period(t: &Tables, unit: usize) -> u32
-    requires { unit < length t.now.modules }
-    ensures period { result ≡ unit_period_of t.now unit }
+pub fn module_period(t: &Tables, k: usize) -> u32
+    requires { k < length t.now.modules }
+    ensures period { result ≡ module_period_of t.now k }
     ensures some { 1 ≤ result }
 {
-    t.parts().modes.as_slice()[start_of(t, unit)].period
+    t.parts().modes.as_slice()[start_mode(t, k)].period
 }

@@ -312,54 +312,43 @@ const KIND: &[Cut] = &[
     ),
 ];
 
-#[test]
-fn repeated_names_are_told(rt: HostRuntime) -> Result<(), Fail> {
-    for row in TWICE {
-        let text = joined(rt.alloc(), row)?;
-        let at = row.0.len() as u64;
-        assert!(rt;
-            has_fault(rt.alloc(), text.as_bytes(), SourceFault::Twice { at }),
-            "{text}"
-        );
+// What is told at the place of a fault.
+#[derive(Clone, Copy)]
+enum Told {
+    Twice,
+    Unknown,
+    Kind,
+}
+
+impl Told {
+    fn at(self, at: u64) -> SourceFault {
+        match self {
+            Told::Twice => SourceFault::Twice { at },
+            Told::Unknown => SourceFault::Unknown { at },
+            Told::Kind => SourceFault::Kind { at },
+        }
     }
-    Ok(())
+}
+
+const TOLD: &[(Told, &[Cut])] = &[
+    (Told::Twice, TWICE),
+    (Told::Unknown, UNKNOWN),
+    (Told::Unknown, PARENTS),
+    (Told::Kind, KIND),
+];
+
+fn is_told(alloc: Global, told: Told, pieces: &Cut) -> Result<bool, AllocError> {
+    let text = joined(alloc, pieces)?;
+    let fault = told.at(pieces.0.len() as u64);
+    Ok(has_fault(alloc, text.as_bytes(), fault))
 }
 
 #[test]
-fn unknown_names_are_told(rt: HostRuntime) -> Result<(), Fail> {
-    for row in UNKNOWN {
-        let text = joined(rt.alloc(), row)?;
-        let at = row.0.len() as u64;
-        assert!(rt;
-            has_fault(rt.alloc(), text.as_bytes(), SourceFault::Unknown { at }),
-            "{text}"
-        );
-    }
-    Ok(())
-}
-
-#[test]
-fn unknown_parents_are_told(rt: HostRuntime) -> Result<(), Fail> {
-    for row in PARENTS {
-        let text = joined(rt.alloc(), row)?;
-        let at = row.0.len() as u64;
-        assert!(rt;
-            has_fault(rt.alloc(), text.as_bytes(), SourceFault::Unknown { at }),
-            "{text}"
-        );
-    }
-    Ok(())
-}
-
-#[test]
-fn wrong_kinds_are_told(rt: HostRuntime) -> Result<(), Fail> {
-    for row in KIND {
-        let text = joined(rt.alloc(), row)?;
-        let at = row.0.len() as u64;
-        assert!(rt;
-            has_fault(rt.alloc(), text.as_bytes(), SourceFault::Kind { at }),
-            "{text}"
-        );
+fn broken_names_are_told(rt: HostRuntime) -> Result<(), Fail> {
+    for (told, rows) in TOLD {
+        for row in *rows {
+            assert!(rt; is_told(rt.alloc(), *told, row)?, "{}", row.0);
+        }
     }
     Ok(())
 }
@@ -513,28 +502,21 @@ fn listed(alloc: Global, list: &List, count: usize) -> Result<String, AllocError
     Ok(text)
 }
 
-#[test]
-fn full_lists_have_tables(rt: HostRuntime) -> Result<(), Fail> {
-    for list in LISTS {
-        let text = listed(rt.alloc(), list, list.most as usize)?;
-        assert!(rt; has_tables(rt.alloc(), text.as_bytes()), "{}", list.which);
-    }
-    Ok(())
+// A full list has tables, and with one item more the limit is told.
+fn ends_at_its_limit(alloc: Global, list: &List) -> Result<bool, AllocError> {
+    let full = listed(alloc, list, list.most as usize)?;
+    let more = listed(alloc, list, list.most as usize + 1)?;
+    let fault = SourceFault::Limit {
+        which: list.which,
+        count: list.most as u32 + 1,
+    };
+    Ok(has_tables(alloc, full.as_bytes()) && has_fault(alloc, more.as_bytes(), fault))
 }
 
 #[test]
-fn one_item_more_is_refused(rt: HostRuntime) -> Result<(), Fail> {
+fn lists_end_at_their_limits(rt: HostRuntime) -> Result<(), Fail> {
     for list in LISTS {
-        let text = listed(rt.alloc(), list, list.most as usize + 1)?;
-        let fault = SourceFault::Limit {
-            which: list.which,
-            count: list.most as u32 + 1,
-        };
-        assert!(rt;
-            has_fault(rt.alloc(), text.as_bytes(), fault),
-            "{}",
-            list.which
-        );
+        assert!(rt; ends_at_its_limit(rt.alloc(), list)?, "{}", list.which);
     }
     Ok(())
 }
@@ -564,62 +546,56 @@ fn modules(alloc: Global, counts: &[&[usize]]) -> Result<String, AllocError> {
     Ok(text)
 }
 
-const INVOCATIONS_MET: &[Counts] = &[
-    &[&[128]],
-    &[&[128; 16]],
-    &[&[64], &[64]],
-    &[&[1, 64, 2], &[3, 64]],
-    &[
-        &[0, 0],
-        &[0, 0],
-        &[0, 0],
-        &[0, 0],
-        &[0, 0],
-        &[0, 0],
-        &[0, 0],
-        &[0, 0],
-        &[0, 0],
-        &[0, 0],
-    ],
-];
-
-// The same beyond them, with the limit and the count.
-const INVOCATIONS_EXCEEDED: &[(Counts, u8, u32)] = &[
-    (&[&[129]], 8, 129),
-    (&[&[1, 129, 2]], 8, 129),
+// Invocations that keep the limits, and invocations beyond one, with its number and the count.
+const INVOCATIONS: &[(Counts, Option<(u8, u32)>)] = &[
+    (&[&[128]], None),
+    (&[&[128; 16]], None),
+    (&[&[64], &[64]], None),
+    (&[&[1, 64, 2], &[3, 64]], None),
+    (
+        &[
+            &[0; 2], &[0; 2], &[0; 2], &[0; 2], &[0; 2], &[0; 2], &[0; 2], &[0; 2], &[0; 2], &[0; 2],
+        ],
+        None,
+    ),
+    (&[&[129]], Some((8, 129))),
+    (&[&[1, 129, 2]], Some((8, 129))),
     (
         &[&[
             128, 128, 128, 128, 128, 128, 128, 128, 128, 128, 128, 128, 128, 128, 128, 128, 1,
         ]],
-        6,
-        2_049,
+        Some((6, 2_049)),
     ),
-    (&[&[65], &[64]], 11, 129),
-    (&[&[1, 65, 2], &[64, 3]], 11, 129),
-    (&[&[0; 41], &[0; 5], &[0; 5]], 10, 1_025),
+    (&[&[65], &[64]], Some((11, 129))),
+    (&[&[1, 65, 2], &[64, 3]], Some((11, 129))),
+    (&[&[0; 41], &[0; 5], &[0; 5]], Some((10, 1_025))),
     // two limits: the lower number
-    (&[&[129; 16]], 6, 2_064),
-    (&[&[129], &[0; 1_025]], 3, 1_026),
+    (&[&[129; 16]], Some((6, 2_064))),
+    (&[&[129], &[0; 256]], Some((3, 257))),
 ];
 
-#[test]
-fn full_modes_have_tables(rt: HostRuntime) -> Result<(), Fail> {
-    for counts in INVOCATIONS_MET {
-        let text = modules(rt.alloc(), counts)?;
-        assert!(rt; has_tables(rt.alloc(), text.as_bytes()));
+fn has_invocations(
+    alloc: Global,
+    counts: Counts,
+    exceeded: Option<(u8, u32)>,
+) -> Result<bool, AllocError> {
+    let text = modules(alloc, counts)?;
+    match exceeded {
+        None => Ok(has_tables(alloc, text.as_bytes())),
+        Some((which, count)) => {
+            let fault = SourceFault::Limit { which, count };
+            Ok(has_fault(alloc, text.as_bytes(), fault))
+        }
     }
-    Ok(())
 }
 
 #[test]
-fn one_invocation_more_is_refused(rt: HostRuntime) -> Result<(), Fail> {
-    for (counts, which, count) in INVOCATIONS_EXCEEDED {
-        let text = modules(rt.alloc(), counts)?;
-        let fault = SourceFault::Limit {
-            which: *which,
-            count: *count,
-        };
-        assert!(rt; has_fault(rt.alloc(), text.as_bytes(), fault), "{which}");
+fn invocations_end_at_their_limits(rt: HostRuntime) -> Result<(), Fail> {
+    for (counts, exceeded) in INVOCATIONS {
+        assert!(rt;
+            has_invocations(rt.alloc(), counts, *exceeded)?,
+            "{exceeded:?}"
+        );
     }
     Ok(())
 }

@@ -1,20 +1,20 @@
 // What a run writes.
 ghost use Rattle.std.specs.Prelude.{◌≡◌, ◌<◌, ◌≤◌, length, Some, OnOk};
 ghost use Rattle.htl_edge.specs.Content.{Puts};
-ghost use Rattle.htl_model.specs.Lines.{line_text, lines_text, lines_before_text, empty_text};
+ghost use Rattle.htl_model.specs.Lines.{line_text, lines_text, lines_before_text, run_text};
 ghost use Rattle.htl_model.specs.Meaning.{value_line};
 ghost use Rattle.htl_model.specs.Plain.{IsPlain, start_line};
 ghost use Rattle.htl_model.specs.declared.line.Line.TheVariants.{ValueLine, ModeLine};
 ghost use Rattle.htl_top.specs.Runs.{AreInOrder, IsFresh};
-ghost use Rattle.htl_top.specs.Instants.{HasPlaces, shown_at, all_shown, state_of, shown_lines, start_of as start_of_unit, start_lines, instant_lines};
+ghost use Rattle.htl_top.specs.Instants.{HasPlaces, shown_at, all_shown, state_of, shown_lines, start_mode as start_mode_of, start_lines, instant_lines};
 ghost use Rattle.std.specs.Prelude.{slice_set};
+ghost use Rattle.htl_base.specs.declared.limits.TheConstants as limit;
 
 use crate::board::Board;
-use crate::line::Line;
-use crate::lookups::{comm_count, comm_name, mode_name, module_name, start_of, unit_count};
+use crate::lookups::{comm_count, comm_name, mode_name, module_count, module_name, start_mode};
 use crate::totals::write_totals;
 use htl_base::{Time, Value};
-use htl_edge::{Failed, Sink, put_all};
+use htl_edge::{Failed, LineBuffer, Sink, put_all};
 use htl_model::{Event, Tables};
 
 /// Writes all that a run up to an instant writes: the lines of values and modes of each instant from 0 to
@@ -28,9 +28,9 @@ pub fn write_run<W: Sink>(
 ) -> Result<(), Failed>
     requires plain { IsPlain t.now }
     requires order { AreInOrder 0 events.now }
-    requires end { end ≤ 1000000000 }
+    requires end { end ≤ limit.MAX_INSTANT }
     requires fresh { IsFresh t.now board.old }
-    ensures { Puts (W.written out.old) (W.written out.new) (W.faults out.old) (W.faults out.new) (empty_text t.now events.now end) result }
+    ensures { Puts (W.written out.old) (W.written out.new) (W.faults out.old) (W.faults out.new) (run_text t.now events.now end) result }
 {
     if let Err(failed) = write_instants(out, t, events, end + 1, board) {
         return Err(failed);
@@ -129,11 +129,11 @@ fn write_value_line<W: Sink>(
     requires { c < length t.now.comms }
     ensures { Puts (W.written out.old) (W.written out.new) (W.faults out.old) (W.faults out.new) (line_text t.now (ValueLine at c x)) result }
 {
-    let mut line = Line::new();
+    let mut line = LineBuffer::new();
     line.text(b"v ");
     line.number(at);
     line.text(b" ");
-    line.text(comm_name(t, c).as_bytes());
+    line.text(comm_name(t, c));
     line.text(b" ");
     line.signed(x);
     line.text(b"\n");
@@ -155,7 +155,7 @@ fn write_modes<W: Sink>(out: &mut W, t: &Tables, at: Time) -> Result<(), Failed>
 fn write_starts<W: Sink>(out: &mut W, t: &Tables) -> Result<(), Failed>
     ensures { Puts (W.written out.old) (W.written out.new) (W.faults out.old) (W.faults out.new) (lines_text t.now (start_lines t.now 0)) result }
 {
-    for k in 0..unit_count(t) {
+    for k in 0..module_count(t) {
         if let Err(failed) = write_start_line(out, t, k) {
             return Err(failed);
         }
@@ -166,15 +166,15 @@ fn write_starts<W: Sink>(out: &mut W, t: &Tables) -> Result<(), Failed>
 // The line of a module at the first instant.
 fn write_start_line<W: Sink>(out: &mut W, t: &Tables, k: usize) -> Result<(), Failed>
     requires { k < length t.now.modules }
-    ensures { Puts (W.written out.old) (W.written out.new) (W.faults out.old) (W.faults out.new) (line_text t.now (ModeLine 0 k (Some (start_of_unit t.now k)))) result }
+    ensures { Puts (W.written out.old) (W.written out.new) (W.faults out.old) (W.faults out.new) (line_text t.now (ModeLine 0 k (Some (start_mode_of t.now k)))) result }
 {
-    let mut line = Line::new();
+    let mut line = LineBuffer::new();
     line.text(b"m ");
     line.number(0);
     line.text(b" ");
-    line.text(module_name(t, k).as_bytes());
+    line.text(module_name(t, k));
     line.text(b" ");
-    line.text(mode_name(t, start_of(t, k)).as_bytes());
+    line.text(mode_name(t, start_mode(t, k)));
     line.text(b"\n");
     put_all(out, line.as_bytes())
 }

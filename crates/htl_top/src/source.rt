@@ -1,5 +1,6 @@
 // The tables of a source.
 ghost use Rattle.std.specs.Prelude.{ℕ, List, ◌≡◌, ◌≤◌, ◌<◌, length};
+ghost use Rattle.htl_base.specs.declared.limits.TheConstants as limit;
 ghost use Rattle.htl_model.specs.Ranges.{AreInRange};
 ghost use Rattle.htl_names.specs.NameRules.{IsFirstNameFault};
 ghost use Rattle.htl_parse.specs.Answers.{Spell};
@@ -36,7 +37,7 @@ pub enum SourceStop {
 /// The tables of a source of at most 1,048,576 bytes, which can be run, or its one fault. Memory comes only where
 /// no memory was left.
 pub fn read_source(alloc: Global, bytes: &[u8]) -> Result<Tables, SourceStop>
-    requires { length bytes.now ≤ 1048576 }
+    requires { length bytes.now ≤ limit.MAX_SOURCE }
     ensures { IsRead bytes.now result }
 {
     match lex(alloc, bytes) {
@@ -111,7 +112,7 @@ fn judge(tokens: &Tokens, tables: Tables) -> Result<Tables, SourceStop>
         let at = tokens.offset(token);
         return Err(SourceStop::Fault(SourceFault::NotBuilt { at }));
     }
-    let _parts = tables.parts();
+    tables.keeps_ranges();
     match form(&tables) {
         Ok(()) => Ok(tables),
         Err(fault) => Err(SourceStop::IllFormed { fault, tables }),

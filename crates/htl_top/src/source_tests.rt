@@ -1,13 +1,14 @@
 // Sources at the edges of the rules.
 use crate::SourceFault;
 use crate::source::{SourceStop, read_source};
+use htl_base::limits::MAX_SOURCE;
 use htl_model::Tables;
 use std::alloc::{AllocError, Global};
 use std::test::Fail;
 
 // The tables of a text, or its fault.
 fn answer(alloc: Global, text: &[u8]) -> Option<Result<Tables, SourceFault>> {
-    if text.len() > 1_048_576 {
+    if text.len() > MAX_SOURCE as usize {
         return None;
     }
     match read_source(alloc, text) {

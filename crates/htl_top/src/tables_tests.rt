@@ -556,49 +556,23 @@ fn first_unlike(alloc: Global, want: &Source) -> Option<&'static str> {
     }
 }
 
-#[test]
-fn one_doubling_task_has_its_tables(rt: HostRuntime) {
-    assert_eq!(rt; first_unlike(rt.alloc(), &ONE_DOUBLING_TASK), None);
-}
+const SOURCES: &[&Source] = &[
+    &ONE_DOUBLING_TASK,
+    &PREEMPTION,
+    &A_PORT,
+    &A_REFINED_TASK,
+    &A_LEFT_REFINEMENT,
+    &TWO_MODES,
+    &TWO_PERIODS,
+    &TWO_TANKS,
+    &THREE_LEVELS,
+];
 
 #[test]
-fn preemption_has_its_tables(rt: HostRuntime) {
-    assert_eq!(rt; first_unlike(rt.alloc(), &PREEMPTION), None);
-}
-
-#[test]
-fn a_port_has_its_tables(rt: HostRuntime) {
-    assert_eq!(rt; first_unlike(rt.alloc(), &A_PORT), None);
-}
-
-#[test]
-fn a_refined_task_has_its_tables(rt: HostRuntime) {
-    assert_eq!(rt; first_unlike(rt.alloc(), &A_REFINED_TASK), None);
-}
-
-#[test]
-fn a_left_refinement_has_its_tables(rt: HostRuntime) {
-    assert_eq!(rt; first_unlike(rt.alloc(), &A_LEFT_REFINEMENT), None);
-}
-
-#[test]
-fn two_modes_have_their_tables(rt: HostRuntime) {
-    assert_eq!(rt; first_unlike(rt.alloc(), &TWO_MODES), None);
-}
-
-#[test]
-fn two_periods_have_their_tables(rt: HostRuntime) {
-    assert_eq!(rt; first_unlike(rt.alloc(), &TWO_PERIODS), None);
-}
-
-#[test]
-fn two_tanks_have_their_tables(rt: HostRuntime) {
-    assert_eq!(rt; first_unlike(rt.alloc(), &TWO_TANKS), None);
-}
-
-#[test]
-fn three_levels_are_numbered_in_preorder(rt: HostRuntime) {
-    assert_eq!(rt; first_unlike(rt.alloc(), &THREE_LEVELS), None);
+fn sources_have_their_tables(rt: HostRuntime) {
+    for source in SOURCES {
+        assert_eq!(rt; first_unlike(rt.alloc(), source), None, "{}", source.text);
+    }
 }
 
 // The argument at this token.
@@ -610,7 +584,7 @@ fn is_arg(e: &Expr, at: u32, place: u16) -> bool {
 }
 
 // The number at this token.
-fn is_number(e: &Expr, at: u32, number: i64) -> bool {
+fn is_int(e: &Expr, at: u32, number: i64) -> bool {
     match e {
         Expr::Int { token, x } => *token == at && *x == number,
         _ => false,
@@ -628,7 +602,7 @@ fn is_with_number(function: &Function, from: u32, operator: BinOp, number: i64) 
                 && *token == from.saturating_add(1)
                 && *op == operator
                 && is_arg(l, from, 0)
-                && is_number(r, from.saturating_add(2), number)
+                && is_int(r, from.saturating_add(2), number)
         }
         _ => false,
     }

@@ -77,9 +77,31 @@ fn call(
     })
 }
 
-fn go(alloc: Global, source: &str, setting: &Setting) -> Result<Called, Fail> {
+// Whether a call is answered so, where what it tells goes through, and where it fails, which changes nothing else.
+fn is_answered(
+    alloc: Global,
+    words: &[&str],
+    shelf: &mut Drawer,
+    setting: &Setting,
+    want: (u8, &[u8], &str),
+) -> Result<bool, Fail> {
+    let (status, written, told) = want;
+    let mut untold = *setting;
+    untold.tell = 1;
+    let called = call(alloc, words, shelf, setting)?;
+    let failing = call(alloc, words, shelf, &untold)?;
+    Ok(called.is(status, written, told) && failing.is(status, written, ""))
+}
+
+// Whether `go` answers so to a source.
+fn goes(
+    alloc: Global,
+    source: &str,
+    setting: &Setting,
+    want: (u8, &[u8], &str),
+) -> Result<bool, Fail> {
     let mut shelf = drawer(alloc, Vec::from_slice(alloc, source.as_bytes())?)?;
-    call(alloc, &["go", "A"], &mut shelf, setting)
+    is_answered(alloc, &["go", "A"], &mut shelf, setting, want)
 }
 
 // The first lines of the run of EMPTY_MODE.
@@ -91,164 +113,150 @@ fn lines(alloc: Global, count: usize) -> Result<Vec<u8>, Fail> {
     Ok(text)
 }
 
+const WHOLE: &str = "v 0 s 3\nv 0 u 7\nm 0 M m\nv 10 s 5\nend 20 jobs 0 e 6 s 2\n";
+
+// A source, a script, how many bytes each read gives, and what is written.
+const RUNS: &[(&str, &str, usize, &str)] = &[
+    (EMPTY_MODE, SCRIPT, 1, WHOLE),
+    (EMPTY_MODE, SCRIPT, 7, WHOLE),
+    (EMPTY_MODE, SCRIPT, 4096, WHOLE),
+    (
+        EMPTY_MODE,
+        "at 0\nsense s 3\nat 3\nat 7\nat 10\nsense s 5\nat 15\nend 20",
+        7,
+        WHOLE,
+    ),
+    (
+        "program P { sensor int s period 10 init 0; communicator int u period 10 init 7; module M start m { mode m period 20 { } } } // x",
+        SCRIPT,
+        7,
+        WHOLE,
+    ),
+    (
+        "program P { sensor int s period 10 init 0; communicator int u period 10 init 7; }",
+        SCRIPT,
+        7,
+        "v 0 s 3\nv 0 u 7\nv 10 s 5\nend 20 jobs 0 e 0 s 0\n",
+    ),
+    (
+        "program P { communicator int u period 10 init 7; }",
+        "end 0\n",
+        7,
+        "v 0 u 7\nend 0 jobs 0 e 0 s 0\n",
+    ),
+    (
+        "program P { }",
+        "# nothing\n\nend 7\n",
+        7,
+        "end 7 jobs 0 e 0 s 0\n",
+    ),
+];
+
 #[test]
 fn runs_are_written(rt: HostRuntime) -> Result<(), Fail> {
-    let alloc = rt.alloc();
-    let whole = "v 0 s 3\nv 0 u 7\nm 0 M m\nv 10 s 5\nend 20 jobs 0 e 6 s 2\n";
-    let further = "at 0\nsense s 3\nat 3\nat 7\nat 10\nsense s 5\nat 15\nend 20";
-    let commented =
-        "program P { sensor int s period 10 init 0; communicator int u period 10 init 7; module M start m { mode m period 20 { } } } // x";
-    let plain = "program P { communicator int u period 10 init 7; }";
-    let no_module =
-        "program P { sensor int s period 10 init 0; communicator int u period 10 init 7; }";
-    let table = [
-        (EMPTY_MODE, SCRIPT, 1, whole),
-        (EMPTY_MODE, SCRIPT, 7, whole),
-        (EMPTY_MODE, SCRIPT, 4096, whole),
-        (EMPTY_MODE, further, 7, whole),
-        (commented, SCRIPT, 7, whole),
-        (
-            no_module,
-            SCRIPT,
-            7,
-            "v 0 s 3\nv 0 u 7\nv 10 s 5\nend 20 jobs 0 e 0 s 0\n",
-        ),
-        (plain, "end 0\n", 7, "v 0 u 7\nend 0 jobs 0 e 0 s 0\n"),
-        (
-            "program P { }",
-            "# nothing\n\nend 7\n",
-            7,
-            "end 7 jobs 0 e 0 s 0\n",
-        ),
-    ];
-    for (source, script, step, text) in table {
+    for (source, script, step, text) in RUNS {
         let mut setting = Setting::of(script);
-        setting.step = step;
-        let called = go(alloc, source, &setting)?;
-        assert!(rt; called.is(0, text.as_bytes(), ""), "{script}");
+        setting.step = *step;
+        let want = (0, text.as_bytes(), "");
+        assert!(rt; goes(rt.alloc(), source, &setting, want)?, "{script}");
     }
     Ok(())
 }
 
-#[test]
-fn other_words_are_usage(rt: HostRuntime) -> Result<(), Fail> {
-    let alloc = rt.alloc();
-    let mut shelf = drawer(alloc, Vec::new(alloc))?;
-    let table: [&[&str]; 8] = [
-        &[],
-        &["go"],
-        &["bulk", "0"],
-        &["bulk", "65"],
-        &["bulk", "01"],
-        &["go", "A", "A"],
-        &["run", "A"],
-        &["--help"],
-    ];
-    for words in table {
-        let called = call(alloc, words, &mut shelf, &Setting::of(SCRIPT))?;
-        assert!(rt; called.is(2, b"", "htl: usage\n"));
-    }
-    Ok(())
-}
+// Words that are no command, a file that isn't there, and one that is too long.
+const UNSERVED: &[(&[&str], u8, &str)] = &[
+    (&[], 2, "htl: usage\n"),
+    (&["go"], 2, "htl: usage\n"),
+    (&["bulk", "0"], 2, "htl: usage\n"),
+    (&["bulk", "65"], 2, "htl: usage\n"),
+    (&["bulk", "01"], 2, "htl: usage\n"),
+    (&["go", "A", "A"], 2, "htl: usage\n"),
+    (&["run", "A"], 2, "htl: usage\n"),
+    (&["--help"], 2, "htl: usage\n"),
+    (&["go", "X"], 8, "htl: shelf failed\n"),
+    (&["go", "A"], 8, "htl: shelf too-long 1048577\n"),
+];
 
 #[test]
-fn missing_and_long_files_are_refused(rt: HostRuntime) -> Result<(), Fail> {
+fn other_words_and_files_are_refused(rt: HostRuntime) -> Result<(), Fail> {
     let alloc = rt.alloc();
     let mut shelf = drawer(alloc, vec![in alloc; b' '; 1_048_577]?)?;
-    let table = [
-        ("X", "htl: shelf failed\n"),
-        ("A", "htl: shelf too-long 1048577\n"),
-    ];
-    for (name, line) in table {
-        let called = call(alloc, &["go", name], &mut shelf, &Setting::of(SCRIPT))?;
-        assert!(rt; called.is(8, b"", line), "{name}");
+    for (words, status, told) in UNSERVED {
+        let setting = Setting::of(SCRIPT);
+        let want = (*status, b"".as_slice(), *told);
+        assert!(rt;
+            is_answered(alloc, words, &mut shelf, &setting, want)?,
+            "{told}"
+        );
     }
     Ok(())
 }
+
+// Sources that are refused: a fault of each kind, and the first two form rules.
+const FAULTY: &[(&str, u8, &str)] = &[
+    ("program P { #", 3, "htl: source char 12\n"),
+    (
+        "program P { communicator int u period 9223372036854775808 init 0; }",
+        3,
+        "htl: source number 38\n",
+    ),
+    (
+        "program aaaaaaaaaaaaaaaaaaaaaaaaaaaaaaaaaaaaaaaaaaaaaaaaa { }",
+        3,
+        "htl: source name-long 8\n",
+    ),
+    ("", 3, "htl: source syntax\n"),
+    (
+        "program P { module M start m { abstract task t input () output () worst 1; mode m period 1 { } } }",
+        3,
+        "htl: source not-built 31\n",
+    ),
+    (
+        "program P { module M start m { } }",
+        3,
+        "htl: source unknown 27\n",
+    ),
+    (
+        "program P { communicator int u period 1 init 0; communicator int u period 1 init 0; }",
+        3,
+        "htl: source twice 65\n",
+    ),
+    (
+        "program P { communicator bool b period 1 init 3; }",
+        3,
+        "htl: source kind 46\n",
+    ),
+    (
+        "program P { } program Q { }",
+        3,
+        "htl: source not-a-tree 1\n",
+    ),
+    (
+        "program P { module M start a { mode a period 10 { } mode b period 20 { } } }",
+        4,
+        "htl: ill-formed 1 at M.b have 20 need 10\n",
+    ),
+    (
+        "program P { module A start m { mode m period 10 { } } module B start m { mode m period 20 { } } }",
+        4,
+        "htl: ill-formed 2 at B.m have 20 need 10\n",
+    ),
+];
 
 #[test]
 fn sources_are_refused(rt: HostRuntime) -> Result<(), Fail> {
-    let alloc = rt.alloc();
-    let table = [
-        ("program P { #", "htl: source char 12\n"),
-        (
-            "program P { communicator int u period 9223372036854775808 init 0; }",
-            "htl: source number 38\n",
-        ),
-        (
-            "program aaaaaaaaaaaaaaaaaaaaaaaaaaaaaaaaaaaaaaaaaaaaaaaaa { }",
-            "htl: source name-long 8\n",
-        ),
-        ("", "htl: source syntax\n"),
-        (
-            "program P { module M start m { abstract task t input () output () worst 1; mode m period 1 { } } }",
-            "htl: source not-built 31\n",
-        ),
-        (
-            "program P { module M start m { } }",
-            "htl: source unknown 27\n",
-        ),
-        (
-            "program P { communicator int u period 1 init 0; communicator int u period 1 init 0; }",
-            "htl: source twice 65\n",
-        ),
-        (
-            "program P { communicator bool b period 1 init 3; }",
-            "htl: source kind 46\n",
-        ),
-        ("program P { } program Q { }", "htl: source not-a-tree 1\n"),
-    ];
-    for (source, line) in table {
-        let called = go(alloc, source, &Setting::of(SCRIPT))?;
-        assert!(rt; called.is(3, b"", line), "{source}");
-    }
-    Ok(())
-}
-
-// Modules of two modes of one period, and of two periods.
-#[test]
-fn ill_formed_sources_are_refused(rt: HostRuntime) -> Result<(), Fail> {
-    let alloc = rt.alloc();
-    let table = [
-        (
-            "program P { module M start a { mode a period 10 { } mode b period 20 { } } }",
-            "htl: ill-formed 1 at M.b have 20 need 10\n",
-        ),
-        (
-            "program P { module A start m { mode m period 10 { } } module B start m { mode m period 20 { } } }",
-            "htl: ill-formed 2 at B.m have 20 need 10\n",
-        ),
-    ];
-    for (source, line) in table {
-        let called = go(alloc, source, &Setting::of(SCRIPT))?;
-        assert!(rt; called.is(4, b"", line), "{source}");
-    }
-    Ok(())
-}
-
-// A statement of 512 tokens, and one of 514.
-#[test]
-fn long_statements_are_refused(rt: HostRuntime) -> Result<(), Fail> {
-    let alloc = rt.alloc();
-    let head = "program P { module M start m { task t input () output (int y = 1";
-    let table = [
-        (249, "htl: source not-built 31\n"),
-        (250, "htl: source long 1066\n"),
-    ];
-    for (count, line) in table {
-        let mut source = String::from_str(alloc, head)?;
-        for _ in 0..count {
-            source.push_str(" + 1")?;
-        }
-        source.push_str(") worst 1; mode m period 1 { } } }")?;
-        let called = go(alloc, source.as_str(), &Setting::of(SCRIPT))?;
-        assert!(rt; called.is(3, b"", line), "{count}");
+    for (source, status, told) in FAULTY {
+        let want = (*status, b"".as_slice(), *told);
+        assert!(rt;
+            goes(rt.alloc(), source, &Setting::of(SCRIPT), want)?,
+            "{source}"
+        );
     }
     Ok(())
 }
 
 // Scripts with a fault, its line, and how many lines are written before it.
-const REFUSED: [(&str, &str, usize); 8] = [
+const REFUSED: &[(&str, &str, usize)] = &[
     ("", "htl: script 1 no-end\n", 0),
     ("at 01\nend 20\n", "htl: script 1 form\n", 0),
     ("at 0\nat 0\nend 20\n", "htl: script 2 order\n", 0),
@@ -282,66 +290,39 @@ const REFUSED: [(&str, &str, usize); 8] = [
 #[test]
 fn scripts_are_refused(rt: HostRuntime) -> Result<(), Fail> {
     let alloc = rt.alloc();
-    for (script, line, count) in REFUSED {
-        let called = go(alloc, EMPTY_MODE, &Setting::of(script))?;
+    for (script, told, count) in REFUSED {
+        let written = lines(alloc, *count)?;
+        let want = (7, written.as_slice(), *told);
         assert!(rt;
-            called.is(7, lines(alloc, count)?.as_slice(), line),
+            goes(alloc, EMPTY_MODE, &Setting::of(script), want)?,
             "{script}"
         );
     }
     Ok(())
 }
 
-// Each write of a script without its end fails once.
-#[test]
-fn failing_writes_stand_before_a_fault(rt: HostRuntime) -> Result<(), Fail> {
-    let alloc = rt.alloc();
-    let mut setting = Setting::of("at 0\nsense s 3\nat 10\nsense s 5\n");
-    for k in 0..3 {
-        setting.write = k as u64 + 1;
-        let called = go(alloc, EMPTY_MODE, &setting)?;
-        assert!(rt;
-            called.is(10, lines(alloc, k)?.as_slice(), "htl: write\n"),
-            "write {k}"
-        );
-    }
-    Ok(())
-}
-
-// Each write fails once, and each read of one byte.
+// Each write fails once, of a whole script and of one without its end, and each read of one byte.
 #[test]
 fn failing_streams_are_told(rt: HostRuntime) -> Result<(), Fail> {
     let alloc = rt.alloc();
-    let mut setting = Setting::of(SCRIPT);
-    for k in 0..LINES.len() {
-        setting.write = k as u64 + 1;
-        let called = go(alloc, EMPTY_MODE, &setting)?;
-        assert!(rt;
-            called.is(10, lines(alloc, k)?.as_slice(), "htl: write\n"),
-            "write {k}"
-        );
+    for (script, count) in [
+        (SCRIPT, LINES.len()),
+        ("at 0\nsense s 3\nat 10\nsense s 5\n", 3),
+    ] {
+        let mut setting = Setting::of(script);
+        for k in 0..count {
+            setting.write = k as u64 + 1;
+            let written = lines(alloc, k)?;
+            let want = (10, written.as_slice(), "htl: write\n");
+            assert!(rt; goes(alloc, EMPTY_MODE, &setting, want)?, "write {k}");
+        }
     }
-    setting.write = 0;
+    let mut setting = Setting::of(SCRIPT);
     setting.step = 1;
     for k in 0..SCRIPT.len() {
         setting.read = k as u64 + 1;
-        let called = go(alloc, EMPTY_MODE, &setting)?;
-        assert!(rt; called.is(9, b"", "htl: read\n"), "read {k}");
-    }
-    Ok(())
-}
-
-#[test]
-fn a_failing_err_changes_nothing(rt: HostRuntime) -> Result<(), Fail> {
-    let alloc = rt.alloc();
-    for (script, status, count) in [(SCRIPT, 0, 5), ("end", 7, 0)] {
-        let mut setting = Setting::of(script);
-        setting.tell = 1;
-        let called = go(alloc, EMPTY_MODE, &setting)?;
-        assert!(rt;
-            called.is(status, lines(alloc, count)?.as_slice(), ""),
-            "{script}"
-        );
+        let want = (9, b"".as_slice(), "htl: read\n");
+        assert!(rt; goes(alloc, EMPTY_MODE, &setting, want)?, "read {k}");
     }
     Ok(())
 }

@@ -3,6 +3,7 @@ ghost use Rattle.htl_text.specs.Bounds.{IsBounded};
 ghost use Rattle.htl_text.specs.Nodes.{tree_of};
 
 use crate::SourceFault;
+use htl_base::limits::MAX_SOURCE;
 use htl_model::Tables;
 use htl_names::{NameFault, resolve};
 use htl_parse::parse;
@@ -12,7 +13,7 @@ use std::alloc::{AllocError, Global};
 /// The tables of a text, or the first name rule that it breaks, by the byte offset of its place. None where the text
 /// is longer than a source or has no tree.
 pub fn tables_of(alloc: Global, text: &[u8]) -> Option<Result<Tables, SourceFault>> {
-    if text.len() > 1_048_576 {
+    if text.len() > MAX_SOURCE as usize {
         return None;
     }
     match lex(alloc, text) {

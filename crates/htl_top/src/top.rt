@@ -1,21 +1,22 @@
 // The top call.
 ghost use Rattle.std.specs.Prelude.{◌≡◌, ◌≤◌, ◌<◌, ◌↔◌, ℕ, List, Some, None, IfSome, length};
 ghost use Rattle.std.specs.Option.{option_copied};
+ghost use Rattle.htl_base.specs.declared.limits.TheConstants as limit;
 ghost use Rattle.htl_edge.specs.Causes.{Rose};
 ghost use Rattle.htl_model.specs.Tables.{Tables};
 ghost use Rattle.htl_model.specs.Broken.{IsFirstBroken};
 ghost use Rattle.htl_model.specs.declared.event.Event.{Event};
 ghost use Rattle.htl_model.specs.declared.form_fault.FormFault.{FormFault};
 ghost use Rattle.htl_script.specs.declared.fault.ScriptFault.{ScriptFault};
-ghost use Rattle.htl_top.specs.Answers.{files, streams, IsGone, IsAnswer, IsBeforeScript, IsBeforeRun, SpeaksOf, IsLineTold, Tells};
-ghost use Rattle.htl_top.specs.Causes.{IsFaultOf, IsLongFile, IsFaultySource, HasBuiltTables, IsProgram, IsBuiltProgram, IsIllFormed, IsGiven, IsReady, IsRun, IsFaulty, IsCut, IsOrMemory};
+ghost use Rattle.htl_top.specs.Answers.{files, streams, IsGoAnswer, IsAnswer, IsBeforeScript, IsBeforeRun, SpeaksOf, IsLineTold, Tells};
+ghost use Rattle.htl_top.specs.Causes.{IsFaultOf, IsLongFile, IsFaultySource, HasBuiltTables, IsProgram, IsBuiltProgram, IsIllFormed, IsGiven, IsReady, IsWholeRun, IsFaultyRun, IsCutRun, IsOrMemory};
 ghost use Rattle.htl_top.specs.Scripts.{IsWhole, IsBad};
 ghost use Rattle.htl_top.specs.Sources.{IsSourceFault, AreBuiltTables};
 ghost use Rattle.htl_top.specs.Words.{name_in};
 ghost use Rattle.htl_top.specs.declared.source_fault.SourceFault.{SourceFault};
 
+use crate::execute::execute;
 use crate::fault_line::report;
-use crate::play::play;
 use crate::source::{SourceStop, read_source};
 use crate::{Outcome, ShelfCause};
 use htl_base::limits::MAX_SOURCE;
@@ -46,21 +47,21 @@ pub fn htl<S: Shelf, R: Source, W: Sink, E: Sink>(
     ensures source { (fault : SourceFault) → result ≡ Outcome.Source fault → IsFaultySource (name_in words.now) (S.holds shelf.old) fault }
     ensures ill_formed { (fault : FormFault) → result ≡ Outcome.IllFormed fault → IsIllFormed (name_in words.now) (S.holds shelf.old) fault }
     ensures script { (fault : ScriptFault) → result ≡ Outcome.Script fault →
-        IsProgram (name_in words.now) (S.holds shelf.old) (λ tables. IsFaulty tables (R.rest input.old) (W.written out.old) (W.written out.new) fault) }
+        IsProgram (name_in words.now) (S.holds shelf.old) (λ tables. IsFaultyRun tables (R.rest input.old) (W.written out.old) (W.written out.new) fault) }
     ensures read { result ≡ Outcome.Read → Rose (R.faults input.old) (R.faults input.new)
         × IsProgram (name_in words.now) (S.holds shelf.old) (λ tables. Unit {0}) }
     ensures write { result ≡ Outcome.Write → Rose (W.faults out.old) (W.faults out.new)
-        × IsProgram (name_in words.now) (S.holds shelf.old) (λ tables. IsCut tables (R.rest input.old) (W.written out.old) (W.written out.new)) }
+        × IsProgram (name_in words.now) (S.holds shelf.old) (λ tables. IsCutRun tables (R.rest input.old) (W.written out.old) (W.written out.new)) }
     ensures done { result ≡ Outcome.Done →
-        IsProgram (name_in words.now) (S.holds shelf.old) (λ tables. IsRun tables (R.rest input.old) (R.rest input.new) (W.written out.old) (W.written out.new)) }
+        IsProgram (name_in words.now) (S.holds shelf.old) (λ tables. IsWholeRun tables (R.rest input.old) (R.rest input.new) (W.written out.old) (W.written out.new)) }
 
     // Where the cause stands and no earlier one, this is the answer, or Memory.
     ensures long_file { (bytes : List ℕ) → IsGiven (name_in words.now) (S.holds shelf.old) (S.faults shelf.old) (S.faults shelf.new) bytes
-        → 1048576 < length bytes → IsOrMemory result (Outcome.Shelf (ShelfCause.TooLong (length bytes))) }
+        → limit.MAX_SOURCE < length bytes → IsOrMemory result (Outcome.Shelf (ShelfCause.TooLong (length bytes))) }
     ensures faulty_source { (bytes : List ℕ) → IsGiven (name_in words.now) (S.holds shelf.old) (S.faults shelf.old) (S.faults shelf.new) bytes
-        → (fault : SourceFault) → length bytes ≤ 1048576 → IsSourceFault bytes fault → IsOrMemory result (Outcome.Source fault) }
+        → (fault : SourceFault) → length bytes ≤ limit.MAX_SOURCE → IsSourceFault bytes fault → IsOrMemory result (Outcome.Source fault) }
     ensures broken_form { (bytes : List ℕ) → IsGiven (name_in words.now) (S.holds shelf.old) (S.faults shelf.old) (S.faults shelf.new) bytes
-        → (tables : Tables) (fault : FormFault) → length bytes ≤ 1048576 → AreBuiltTables bytes tables → IsFirstBroken tables fault → IsOrMemory result (Outcome.IllFormed fault) }
+        → (tables : Tables) (fault : FormFault) → length bytes ≤ limit.MAX_SOURCE → AreBuiltTables bytes tables → IsFirstBroken tables fault → IsOrMemory result (Outcome.IllFormed fault) }
     ensures bad_script { (tables : Tables) (script : List ℕ)
         → IsReady (name_in words.now) (S.holds shelf.old) (S.faults shelf.old) (S.faults shelf.new) (R.rest input.old) tables script
         → (fault : ScriptFault) (events : List Event) → IsBad tables script fault events
@@ -80,6 +81,12 @@ pub fn htl<S: Shelf, R: Source, W: Sink, E: Sink>(
     ensures told { IsLineTold (IsBuiltProgram (name_in words.now) (S.holds shelf.old))
         (Tells (E.written err.old) (E.written err.new) (E.faults err.old) (E.faults err.new)) result }
     ensures quiet { result ≡ Outcome.Done → E.written err.new ≡ E.written err.old }
+
+    // The causes in one, answer by answer.
+    ensures answer { IsAnswer (name_in words.now)
+        (files S.holds S.faults shelf.old shelf.new)
+        (streams R.rest R.faults W.written W.faults input.old out.old) (streams R.rest R.faults W.written W.faults input.new out.new)
+        result }
 {
     let answer = run(alloc, words, shelf, input, out);
     report(err, answer.tables.as_ref(), &answer.outcome);
@@ -146,14 +153,14 @@ fn name_of<'a>(words: &[&'a str]) -> Option<&'a str>
 
 // Compiles a source and runs it.
 fn go<R: Source, W: Sink>(alloc: Global, bytes: &[u8], input: &mut R, out: &mut W) -> Answer
-    requires { length bytes.now ≤ 1048576 }
-    ensures answer { IsGone bytes.now
+    requires { length bytes.now ≤ limit.MAX_SOURCE }
+    ensures answer { IsGoAnswer bytes.now
         (streams R.rest R.faults W.written W.faults input.old out.old) (streams R.rest R.faults W.written W.faults input.new out.new)
         result.outcome }
     ensures tables { SpeaksOf (HasBuiltTables bytes.now) result.outcome result.tables }
 {
     match read_source(alloc, bytes) {
-        Ok(tables) => Answer::plain(play(alloc, &tables, input, out)),
+        Ok(tables) => Answer::plain(execute(alloc, &tables, input, out)),
         Err(SourceStop::Fault(fault)) => Answer::plain(Outcome::Source(fault)),
         Err(SourceStop::IllFormed { fault, tables }) => Answer {
             outcome: Outcome::IllFormed(fault),

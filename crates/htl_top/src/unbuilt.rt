@@ -1,7 +1,7 @@
 // The tokens with which forms begin that are not built.
 ghost use Rattle.std.specs.Prelude.{◌≡◌};
 ghost use Rattle.std.specs.Option.{option_copied};
-ghost use Rattle.htl_top.specs.Unbuilt.{begins_unbuilt, is_program, is_number, holds_number, is_behind_number, is_unbuilt, IsScanned};
+ghost use Rattle.htl_top.specs.Unbuilt.{begins_unbuilt, is_program, is_number_token, holds_number, is_behind_number, is_unbuilt, IsScanned};
 
 use htl_text::{Token, Word};
 

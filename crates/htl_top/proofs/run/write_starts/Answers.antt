@@ -1,6 +1,6 @@
 use Rattle.std.proofs.Common.{◌<◌, length, arith, add-one, refl}
 use Rattle.htl_model.specs.Plain.{start_line}
-use Rattle.htl_top.specs.Instants.{start_of}
+use Rattle.htl_top.specs.Instants.{start_mode}
 use Rattle.htl_top.proofs.Putting.{IsPutting-step, Puts-cut, one_line}
 use Rattle.htl_top.proofs.run.write_starts.Goals as goal
 
@@ -13,4 +13,4 @@ pub returns-in-Err : goal.returns-in-Err
 returns-in-Err g c =
     let put = rw (← one_line c.args.t.now _) at c.in-Err.ensures in
     let inside : c.loop-k.k < length c.args.t.now.modules = omega arith in
-    Puts-cut c.args.t.now (λ k. start_line 0 k (start_of c.args.t.now k)) c.loop-k.k (length c.args.t.now.modules) _ _ _ _ _ _ _ _ _ inside refl c.loop-k.invariant put
+    Puts-cut c.args.t.now (λ k. start_line 0 k (start_mode c.args.t.now k)) c.loop-k.k (length c.args.t.now.modules) _ _ _ _ _ _ _ _ _ inside refl c.loop-k.invariant put

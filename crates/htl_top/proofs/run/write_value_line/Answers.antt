@@ -6,13 +6,12 @@ pub returns : goal.returns
 returns g c =
     let signed : c.signed.new.self ≡ c.text-4.new.self ++ signed_decimal c.args.x = search rules in
     rw (
-      c.as_bytes-2.ensures,
+      c.as_bytes.ensures.bytes,
       c.text-5.ensures.bytes,
       signed,
       c.text-4.ensures.bytes,
       c.text-3.ensures.bytes,
-      c.as_bytes.ensures.value,
-      c.comm_name.ensures,
+      c.comm_name.ensures.name,
       c.text-2.ensures.bytes,
       c.number.ensures.bytes,
       c.text.ensures.bytes,

@@ -1,12 +1,12 @@
 use Rattle.std.proofs.Common.{refl}
 use Rattle.htl_text.specs.Nodes.{tree_of}
 use Rattle.htl_names.specs.declared.fault.NameFault.TheVariants as name
-use Rattle.htl_top.proofs.SmallTrees.{small_tree}
+use Rattle.htl_names.proofs.TreeBounds.{bounded_tree}
 use Rattle.htl_top.proofs.TokenPlaces.{fault_token}
 use Rattle.htl_top.proofs.source.read_tree.Goals as goal
 
 pub resolve-requires : goal.resolve-requires
-resolve-requires c = record { small = small_tree (tree_of c.args.tree.now) c.requires.bounded }
+resolve-requires c = record { bounds = bounded_tree (tree_of c.args.tree.now) c.requires.bounded }
 
 pub first_byte-at-requires : goal.first_byte-at-requires
 first_byte-at-requires c =

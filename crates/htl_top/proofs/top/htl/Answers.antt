@@ -35,4 +35,5 @@ returns g c =
           answering.IsLineTold-report name shelf.holds (Tells (g.E.Sink.written c.args.err.now) (g.E.Sink.written c.report.new.err) (g.E.Sink.faults c.args.err.now) (g.E.Sink.faults c.report.new.err))
           outcome c.run-answer.result.tables c.run-answer.ensures.tables (rw c.as_ref.ensures.value at c.report.ensures.told);
       quiet = c.report.ensures.quiet;
+      answer = answer;
     }

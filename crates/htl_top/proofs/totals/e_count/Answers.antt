@@ -1,5 +1,5 @@
 use Rattle.std.proofs.Common.{◌≡◌, ap, ◌∙◌, arith, add-one}
-use Rattle.htl_model.specs.Lines.{rounds_to, unit_period}
+use Rattle.htl_model.specs.Lines.{rounds_to, module_period}
 use Rattle.htl_top.proofs.Rounds.{e_from-next, e_from-end}
 use Rattle.htl_top.proofs.totals.e_count.Goals as goal
 
@@ -9,7 +9,7 @@ overflow_add-sum c =
 
 pub loop-k-preserved : goal.loop-k-preserved
 loop-k-preserved c =
-    let count : c.rounds_to.result ≡ rounds_to (unit_period c.args.t.now c.loop-k.k) c.args.end = c.rounds_to.ensures.count ∙ ap (λ p. rounds_to p c.args.end) c.unit_period.ensures.period in
+    let count : c.rounds_to.result ≡ rounds_to (module_period c.args.t.now c.loop-k.k) c.args.end = c.rounds_to.ensures.count ∙ ap (λ p. rounds_to p c.args.end) c.module_period.ensures.period in
     let next = e_from-next c.args.t.now c.args.end c.loop-k.k c.requires.plain (omega arith) in
     record {
       sum_is = rw add-one (omega (arith, c.loop-k.invariant.sum_is, count, next));

@@ -1,0 +1,49 @@
+-- What the program comes to.
+use Rattle.std.specs.Prelude.{◌≡◌, ◌⊎◌, ℕ, Option, None, List}
+use Rattle.htl_top.specs.Answers.{Files, Streams, IsUntouched, IsAnswer, IsLineTold, Tells}
+use Rattle.htl_top.specs.Causes.{IsBuiltProgram}
+use Rattle.htl_top.specs.Status.{status_of, fault_line}
+use Rattle.htl_top.specs.Words.{go_name}
+use Rattle.htl_top.specs.declared.outcome.Outcome.{Outcome}
+use Rattle.htl_top.specs.declared.outcome.Outcome.TheVariants.{Done, Memory}
+
+-- The status is that of what `htl` answers to these words over the shelf and the streams; `Told` holds of the line
+-- that tells of the answer, and after Done nothing was told.
+pub record EndsWith (words : List (List ℕ)) (shelf : Files) (old new : Streams) (Told : List ℕ → Type 0) (Quiet : Type 0) (status : ℕ) : Type 0 where
+  pub outcome : Outcome
+  pub is : status ≡ status_of outcome
+  pub answer : IsAnswer (go_name words) shelf old new outcome
+  pub told : IsLineTold (IsBuiltProgram (go_name words) shelf.holds) Told outcome
+  pub quiet : outcome ≡ Done → Quiet
+
+-- There was no memory for the words: the status is that of Memory, whose line was told, and nothing was read or
+-- written.
+pub record EndsWordless (old new : Streams) (Told : List ℕ → Type 0) (status : ℕ) : Type 0 where
+  pub is : status ≡ status_of Memory
+  pub untouched : IsUntouched old new
+  pub told : Told (fault_line None Memory)
+
+-- the one or the other
+abbrev pub Ends : List (List ℕ) → Files → Streams → Streams → (List ℕ → Type 0) → Type 0 → ℕ → Type 0
+Ends words shelf old new Told Quiet status = EndsWith words shelf old new Told Quiet status ⊎ EndsWordless old new Told status
+
+-- the same, for some words
+abbrev pub EndsSomehow : Files → Streams → Streams → (List ℕ → Type 0) → Type 0 → ℕ → Type 0
+EndsSomehow shelf old new Told Quiet status = (words : List (List ℕ)) × Ends words shelf old new Told Quiet status
+
+-- ---- the real files and streams, which tell their counts of faults alone
+
+abbrev pub untold : Option (List ℕ)
+untold = None
+
+abbrev pub counted_files : ℕ → ℕ → Files
+counted_files before after = record { holds = None; before = λ name. before; after = λ name. after }
+
+abbrev pub counted_streams : ℕ → ℕ → Streams
+counted_streams read_faults write_faults = record { rest = untold; read_faults = read_faults; written = untold; write_faults = write_faults }
+
+-- the same over real files and streams that counted no fault before, for some words and some counts afterwards
+abbrev pub EndsFresh : ℕ → Type 0
+EndsFresh status =
+    (seen read_faults write_faults told_faults : ℕ)
+    × EndsSomehow (counted_files 0 seen) (counted_streams 0 0) (counted_streams read_faults write_faults) (Tells untold untold 0 told_faults) (untold ≡ untold) status
