@@ -1,0 +1,46 @@
+# For the commands of the tables: a repository with this one's bin/ and tools/, and stand-ins for the program and for rt.
+# $htl is its bin/htl, in a folder whose name has a blank; $calls lists the calls of rt, and $calls.stdin holds what the last one read.
+repo="$work/a repository"
+htl="$repo/bin/htl"
+calls="$work/calls"
+export calls work root
+export LC_ALL=C.UTF-8
+
+# Makes the repository: with no program, with one that is newer than its sources, or with one that is older.
+set_up() {
+	rm -rf "$repo" "$work/tools" "$calls" "$calls.stdin"
+	mkdir -p "$repo/crates/htl/src" "$repo/crates/low/src" "$repo/crates/other/src" "$repo/crates/htl/data" "$work/tools"
+	cp -R "$root/bin" "$root/tools" "$repo/"
+	printf 'low:\nother: low\nhtl: low std\n' >"$repo/crates.txt"
+	echo '// a source' >"$repo/crates/low/src/lib.rt"
+	echo '// a source' >"$repo/crates/htl/data/source.htl"
+	echo 'end 0' >"$repo/crates/htl/stdin"
+	echo 'v 0 bytes 6' >"$repo/crates/htl/stdout"
+	cp "$root/tests/fake-rt" "$work/tools/rt"
+	chmod +x "$work/tools/rt"
+	case $1 in
+	proved)
+		find "$repo" -exec touch -t 202001010000 {} +
+		install_program
+		;;
+	stale)
+		install_program
+		touch -t 202001010000 "$repo/crates/htl/out/htl"
+		;;
+	esac
+}
+
+install_program() {
+	mkdir -p "$repo/crates/htl/out"
+	cp "$root/tests/fake-htl" "$repo/crates/htl/out/htl"
+	chmod +x "$repo/crates/htl/out/htl"
+}
+
+# A command on a terminal, which types the first word.
+on_terminal() { python3 "$root/tests/terminal.py" "$@"; }
+
+# A source that is answered so by the stand-in for the program: a status and what follows `htl: `.
+source_answered() {
+	echo "// answers $*"
+	cat
+}

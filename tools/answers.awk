@@ -1,0 +1,58 @@
+# Over answers.txt (status, answer, meaning, what helps; %4A stands for word 4 of the fault line, or else A).
+# With -v line='htl: ...' prints the meaning and then the help of that answer, each with its tag in front.
+# With -v word='WORDS' prints each answer that these words name: some of its words in a row, or its status.
+# With -v word='' lists the answers. Ends with 1 where there is none.
+
+# The answer's name in the table, and `part`, the words of its line from the answer's own on.
+function name_of(text,    w, n, i) {
+	sub(/^htl: /, "", text)
+	if (text ~ /^object ill-formed /) sub(/^object /, "", text)
+	n = split(text, part, " ")
+	w = part[1]
+	if (w == "source") return "source " part[2] (part[2] == "limit" ? " " part[3] : "")
+	if (w == "ill-formed") return w " " part[2]
+	if (w == "object" && part[2] == "malformed") return w " " part[2] " " part[3]
+	if (w == "object" && part[2] != "function") return w " " part[2] " " part[4]
+	if (w == "object") return w " " part[2]
+	if (w == "script") return w " " part[3]
+	if (w == "shelf") return w " " part[2]
+	return w
+}
+
+function filled(text,    hole, out) {
+	while (match(text, /%[0-9][A-Z]/)) {
+		hole = substr(text, RSTART, RLENGTH)
+		out = out substr(text, 1, RSTART - 1) (line == "" ? substr(hole, 3) : part[substr(hole, 2, 1)])
+		text = substr(text, RSTART + RLENGTH)
+	}
+	return out text
+}
+
+function is_asked(name, status) {
+	return word ~ /^[0-9]+$/ ? word == status : index(" " name " ", " " word " ")
+}
+
+BEGIN {
+	FS = "\t"
+	if (line != "") asked = name_of(line)
+	else if (word ~ /^htl: ./) asked = name_of(word)
+	else {
+		sub(/^htl: /, "", word)
+		gsub(/[ \t]+/, " ", word)
+		asked = ""
+	}
+}
+
+line != "" && $2 == asked {
+	print "meaning " filled($3)
+	print "help " filled($4)
+	found = 1
+}
+
+line == "" && (asked != "" ? $2 == asked : word == "" || is_asked($2, $1)) {
+	found = 1
+	if (word == "") printf "%2d  %s\n", $1, $2
+	else printf "%shtl: %s (status %d)\n  %s\n  %s\n", many++ ? "\n" : "", $2, $1, filled($3), filled($4)
+}
+
+END { exit !found }

@@ -1,0 +1,29 @@
+# Completion of bash for bin/htl. In ~/.bashrc: . /path/to/tools/completion.bash
+
+_htl() {
+	local word=${COMP_WORDS[COMP_CWORD]} before=${COMP_WORDS[COMP_CWORD - 1]} i command=
+	local commands="go run jobs code compile check show plan bulk"
+	COMPREPLY=()
+	for ((i = 1; i < COMP_CWORD; i++)); do
+		case ${COMP_WORDS[i]} in
+		--explain | --unproved) ;;
+		*) command=${command:-${COMP_WORDS[i]}} ;;
+		esac
+	done
+	case $command in
+	'')
+		local answers=
+		[ "$before" = --explain ] && answers="usage char number name-long long syntax twice unknown kind not-a-tree limit not-built type deep too-long
+			ill-formed unschedulable object form range order overrun no-end after size failed read write memory"
+		COMPREPLY=($(compgen -W "$commands --explain --unproved $answers --prove --svg --vcd --help --version" -- "$word"))
+		;;
+	go | run | jobs | code | check | show | plan)
+		[ "$before" = "$command" ] || return
+		compopt -o filenames 2>/dev/null
+		local IFS=$'\n' pattern='*'
+		[ "$command" = go ] && pattern='*.htl'
+		COMPREPLY=($(compgen -d -- "$word") $(compgen -f -X "!$pattern" -- "$word" | while read -r i; do [ -d "$i" ] || printf '%s\n' "$i"; done))
+		;;
+	esac
+}
+complete -F _htl htl bin/htl ./bin/htl

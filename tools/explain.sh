@@ -1,0 +1,109 @@
+# Explains a fault line of htl, on standard error: where the fault is, what the answer means, and what usually helps.
+. "$tools/place.sh"
+
+# The file name as it was written.
+case $form in
+file) shown=$2 ;;
+*) shown="(standard input)" ;;
+esac
+
+outline() { LC_ALL=C awk -f "$tools/outline.awk" <"$1" 2>/dev/null; }
+
+# What the fault's answer is called, and what it means: two lines, `meaning ..` and `help ..`.
+look_up() { awk -v line="$1" -f "$tools/answers.awk" "$tools/answers.txt"; }
+
+# A line of a file by its number, with a heading, and cut where it is long. $4 is `script` for a script.
+numbered_line() {
+	echo "$shown:$2: $3"
+	sed -n "$2{p;q;}" <"$1" | LC_ALL=C tr '\000-\010\013\014\016-\037\177' '[?*]' | LC_ALL=C awk -v of="${4-}" '{
+		ends_in_cr = sub(/\r$/, "")
+		gsub(/\r/, "?")
+		print "    " (length($0) > 255 ? substr($0, 1, 255) "..." : $0)
+		if (ends_in_cr && of == "script") print "    (a carriage return ends it)"
+	}'
+}
+
+# A fault at a byte of the source.
+at_byte() {
+	set -- "$1" "$2" $(line_and_column "$1" "$2")
+	echo "$shown:$3:$4: $meaning"
+	excerpt "$1" "$2" "$5"
+}
+
+# A fault of the grammar, which tells no place: the first token with which no source can go on.
+in_grammar() {
+	place=$(od -An -v -tu1 <"$1" | LC_ALL=C awk -f "$tools/syntax.awk" -f "$tools/source.awk" 2>/dev/null)
+	if [ -n "$place" ]; then
+		meaning="The grammar has no such source: here it wants ${place#* }."
+		at_byte "$1" "${place%% *}"
+	else
+		echo "$shown: $meaning"
+	fi
+}
+
+# A fault of a mode or an invocation, MODULE.MODE or MODULE.MODE.TASK.
+at_item() {
+	line=$(outline "$1" | awk -v place="$2" '
+	$1 == "mode" && $3 "." $4 == place || $1 == "invoke" && $3 "." $4 "." $5 == place {
+		print $2
+		exit
+	}')
+	if [ -n "$line" ]; then
+		numbered_line "$1" "$line" "$2: $meaning"
+	else
+		echo "$2: $meaning"
+	fi
+}
+
+at_program() {
+	line=$(outline "$1" | awk -v number="$2" '$1 == "program" && number-- == 0 { print $2; exit }')
+	[ -z "$line" ] && echo "$meaning" || numbered_line "$1" "$line" "$meaning"
+}
+
+overload() {
+	echo "$shown: $meaning"
+	outline "$1" | awk -v selection="$2" -v from="$4" -v to="$6" -v demand="$8" -f "$tools/overload.awk" | sed 's/^/    /'
+}
+
+at_script_line() {
+	[ "$form" = file ] && shown="script"
+	if [ -n "$1" ] && [ "$2" != no-end ]; then
+		numbered_line "$1" "$3" "$meaning" script
+	else
+		echo "$shown:$3: $meaning"
+	fi
+}
+
+# $1 the fault line, $2 the source and $3 the script, where they are known.
+explain_fault() {
+	found=$(look_up "$1") || return 0
+	meaning=$(echo "$found" | sed -n 's/^meaning //p')
+	{
+		case $1 in
+		'htl: usage')
+			echo "  $meaning"
+			help
+			return
+			;;
+		'htl: source not-a-tree '*) at_program "$2" "${1##* }" ;;
+		'htl: source limit '* | 'htl: source too-long '*) echo "$shown: $meaning" ;;
+		'htl: source syntax') in_grammar "$2" ;;
+		'htl: source '*' '[0-9]*) at_byte "$2" "${1##* }" ;;
+		'htl: ill-formed '*)
+			item=${1#* at }
+			at_item "$2" "${item%% *}"
+			case $1 in
+			'htl: ill-formed 12 '*) outline "$2" | awk -v number="${1##* }" '$1 == "comm" && number-- == 0 { print "    communicator " $3 " of line " $2 }' ;;
+			esac
+			;;
+		'htl: unschedulable '*) overload "$2" ${1#htl: unschedulable } ;;
+		'htl: script '*)
+			number=${1#htl: script }
+			kind=${number#* }
+			at_script_line "$3" "${kind%% *}" "${number%% *}"
+			;;
+		*) echo "$shown: $meaning" ;;
+		esac
+		echo "$found" | sed -n 's/^help /  /p'
+	} >&2
+}

@@ -1,0 +1,95 @@
+# Reads the lines of a run. Of communicator c: name_c[c], its changes at[c, k] to value[c, k], k from 1 to changes[c], least[c],
+# greatest[c]. Of module m: name_m[m], moves[m], when[m, k], mode[m, k]. Of invocation j: name_j[j], slices[j], from[j, k],
+# upto[j, k], finishes[j], done[j, k]. instants: how many distinct ones; last: the last; totals: the totals line.
+
+function refuse(why) {
+	if (!failed) print "bin/htl: line " NR " of the run " why | "cat 1>&2"
+	failed = 1
+	exit 1
+}
+
+# An instant; it is refused where it is none.
+function instant(text) {
+	if (text !~ /^[0-9]+$/ || length(text) > 10) refuse("has no instant where one belongs: " shown(text))
+	if (!(text in seen_at)) {
+		seen_at[text] = 1
+		instants++
+	}
+	if (text + 0 > last) last = text + 0
+	return text + 0
+}
+
+function shown(text) {
+	gsub(/[^ -~]/, "?", text)
+	return "`" substr(text, 1, 60) "`"
+}
+
+# Whether the text is so many identifiers, joined by dots.
+function is_name(text, parts) {
+	return text ~ /^[A-Za-z_][A-Za-z0-9_.]*$/ && length(text) <= 48 * parts + 2 && gsub(/\./, ".", text) == parts - 1
+}
+
+# The number of an item, which is new where its name is.
+function number_of(kind, name) {
+	if (!((kind, name) in numbers)) numbers[kind, name] = ++items[kind]
+	return numbers[kind, name]
+}
+
+function invocation(name,    j) {
+	j = number_of("j", name)
+	name_j[j] = name
+	return j
+}
+
+{ sub(/\r$/, "") }
+
+/^$/ || /^htl: / || /^bin\/htl: / || /^[es] [0-9]+ / { next }
+
+$1 == "v" && NF == 4 && is_name($3, 1) && $4 ~ /^-?[0-9]+$/ && length($4) <= 20 {
+	c = number_of("v", $3)
+	name_c[c] = $3
+	at[c, ++changes[c]] = instant($2)
+	value[c, changes[c]] = $4
+	if (changes[c] == 1 || $4 + 0 < least[c]) least[c] = $4 + 0
+	if (changes[c] == 1 || $4 + 0 > greatest[c]) greatest[c] = $4 + 0
+	next
+}
+
+$1 == "m" && NF == 4 && is_name($3, 1) && ($4 == "-" || is_name($4, 1)) {
+	m = number_of("m", $3)
+	name_m[m] = $3
+	when[m, ++moves[m]] = instant($2)
+	mode[m, moves[m]] = $4
+	next
+}
+
+$1 == "j" && NF == 4 && is_name($4, 3) {
+	j = invocation($4)
+	from[j, ++slices[j]] = instant($2)
+	upto[j, slices[j]] = instant($3)
+	if ($3 + 0 <= $2 + 0) refuse("ends before it begins: " shown($0))
+	if (slices[j] > 1 && $2 + 0 < upto[j, slices[j] - 1]) refuse("overlaps a slice before it: " shown($0))
+	next
+}
+
+$1 == "d" && NF == 3 && is_name($3, 3) {
+	j = invocation($3)
+	done[j, ++finishes[j]] = instant($2)
+	next
+}
+
+($1 == "end" || $1 == "plan" || $1 == "audited") && NF > 3 {
+	instant($2)
+	totals = $0
+	next
+}
+
+{ refuse("is none that htl prints: " shown($0)) }
+
+END {
+	if (!failed && !instants) {
+		print "bin/htl: standard input has no line of a run; try: bin/htl go SOURCE < SCRIPT > RUN" | "cat 1>&2"
+		failed = 1
+	}
+	if (failed) exit 1
+}

@@ -1,0 +1,86 @@
+# The outline of a source that has been read without a fault of its grammar: one line for each item, in the order of
+# the source, each with the number of the line on which it begins.
+#   program LINE NAME                        comm LINE NAME PERIOD
+#   module LINE NAME PROGRAM                 task LINE MODULE NAME WORST
+#   mode LINE MODULE NAME PERIOD PROGRAM     PROGRAM is the one that refines the mode, or -
+#   invoke LINE MODULE MODE TASK ENDS..      ENDS are <C:I or >C:I for an instance read or written, <P or >P for a port
+
+# Carries on after a name or number that an item waits for.
+function take(token) {
+	if (want == "program") {
+		program = token
+		print "program", line, token
+	} else if (want == "comm") {
+		comm = token
+	} else if (want == "module") {
+		module = token
+		print "module", line, token, program
+	} else if (want == "task") {
+		task = token
+	} else if (want == "mode") {
+		mode = token
+		refined = "-"
+	} else if (want == "refined") {
+		refined = token
+	} else if (want == "invoke") {
+		item = "invoke " line " " module " " mode " " token
+	} else if (want == "comm period") {
+		print "comm", line, comm, token
+	} else if (want == "worst") {
+		print "task", line, module, task, token
+	} else if (want == "mode period") {
+		period = token
+	}
+	want = ""
+}
+
+# Inside the brackets of an invocation: instances and ports.
+function end_token(token) {
+	if (token ~ /^[0-9]/) item = item ":" token
+	else if (token ~ /^[A-Za-z_]/) item = item " " side token
+	else if (token == ";") {
+		print item
+		item = ""
+	}
+}
+
+# A word or sign; `kind` is the head that began last.
+function read(token) {
+	if (item != "") {
+		if (token == "input") side = "<"
+		else if (token == "output") side = ">"
+		else if (token == "parent") side = "^"
+		else end_token(token)
+	} else if (want != "") {
+		take(token)
+	} else if (token == "communicator" || token == "sensor") {
+		line = NR
+		kind = "comm"
+		typed = 1
+	} else if (typed) {
+		typed = 0
+		want = "comm"
+	} else if (token == "program" && kind == "mode") {
+		want = "refined"
+	} else if (token == "program" || token == "module" || token == "mode" || token == "invoke") {
+		line = NR
+		kind = want = token
+	} else if (token == "abstract" || token == "task") {
+		if (token == "abstract" || kind != "abstract") line = NR
+		kind = token
+		if (token == "task") want = token
+	} else if (token == "period" || token == "worst") {
+		want = token == "worst" ? token : kind " period"
+	} else if (token == "{") {
+		if (kind == "mode") print "mode", line, module, mode, period, refined
+		kind = ""
+	}
+}
+
+{
+	sub(/\/\/.*/, "")
+	gsub(/\r/, " ")
+	gsub(/[^A-Za-z0-9_]/, " & ")
+	n = split($0, token, " ")
+	for (i = 1; i <= n; i++) read(token[i])
+}

@@ -1,0 +1,96 @@
+# Runs the words by the unproved build, `rt try`, which compiles the program anew at each run, checks it as it runs,
+# and leaves no program behind. Words and files that htl would refuse are refused before that.
+. "$tools/words.sh"
+# More seconds than a run takes; the toolchain stops a program after 60 where it is told nothing.
+seconds=3600
+
+# Ends with an answer of htl's: $1 its status, $2 its line, $3 and $4 files with the source and the script, where known.
+answer() {
+	[ -z "$2" ] || echo "$2" >&2
+	[ -z "$explain" ] || explain_fault "$2" "${3-}" "${4-}"
+	exit "$1"
+}
+
+# Says how long the command that runs for us has taken, on a terminal alone, and waits for its end.
+watch_child() {
+	if [ -t 2 ]; then
+		waited=0
+		while kill -0 "$child" 2>/dev/null; do
+			printf '\rbin/htl: %s, %d s so far ' "$1" "$waited" >&2
+			sleep 1
+			waited=$((waited + 1))
+		done
+		printf '\r%70s\r' '' >&2
+	fi
+	wait "$child"
+	ended=$?
+	child=
+	return "$ended"
+}
+
+# The status with which the program ended, where it did: only then is the log's last line `run=ended status=N .. proved=no`.
+# A status of rt's own, 1 to 6, comes with another last line.
+ended_with() {
+	LC_ALL=C awk -v rt="$1" '
+	{ last = $0 }
+	END {
+		if (last ~ /^run=ended status=[0-9]+ (.* )?proved=no$/) {
+			split(last, part, /[= ]/)
+			if (part[4] == rt) print rt
+		}
+	}' "$room/log" 2>/dev/null
+}
+
+why_not() {
+	if grep -q 'wrote more than 1048576 bytes' "$room/log"; then
+		echo "bin/htl: the toolchain gives no output of an unproved run above 1 MiB, so nothing is shown; bin/htl --prove makes a program without that limit" >&2
+	else
+		echo "bin/htl: the unproved build gave no answer of htl (rt try ended with status $1); its last lines:" >&2
+		tail -n 5 "$room/log" | cut -c 1-300 >&2
+	fi
+	exit 1
+}
+
+run_unproved() {
+	word=$1
+	shift
+	if [ "$form" = file ]; then
+		set -- --data "FILE=$room/file" -- "$word" FILE
+	else
+		set -- -- "$word" "$@"
+	fi
+	(cd "$crate" && exec rt try --seconds "$seconds" "$@") <"$room/in" >"$room/out" 2>"$room/log" &
+	child=$!
+	watch_child "building and running with nothing proved"
+}
+
+make_room
+judge_words "$@"
+. "$tools/explain.sh"
+[ "$form" != wrong ] || answer 2 'htl: usage'
+if [ "$form" = file ]; then
+	# The greatest file that is read is an object of 16 MiB; one block more tells that a file is longer.
+	{ [ ! -d "$2" ] && head -c 16781312 <"$2" >"$room/file"; } 2>/dev/null || answer 8 'htl: shelf failed'
+fi
+need_rt
+about="half a minute or more, with nothing proved"
+case ${unproved:+asked}$(state) in
+asked*) say "running the unproved build: $about" ;;
+*none) say "no proved program stands, so this is the unproved build, slower and checked as it runs ($about); bin/htl --prove makes the proved one" ;;
+*stale) say "sources changed since the last proof, so this is the unproved build, slower and checked as it runs ($about); bin/htl --prove makes the proved one anew" ;;
+esac
+: >"$room/in"
+if [ "$input" != none ]; then
+	[ ! -t 0 ] || [ ! -t 2 ] || say "reading the $input from this terminal; Ctrl-D at the start of a line ends it"
+	cat >"$room/in" 2>/dev/null || fail "standard input can't be read to its end, so nothing was run"
+fi
+run_unproved "$@"
+rt_status=$?
+status=$(ended_with "$rt_status")
+[ -n "$status" ] || why_not "$rt_status"
+if [ -s "$room/out" ] && ! cat "$room/out" 2>/dev/null; then
+	answer 10 'htl: write'
+fi
+source=$room/in
+[ "$form" != file ] || source=$room/file
+answer "$status" "$(grep '^htl: ' "$room/log" | tail -n 1)" "$source" "$room/in"

@@ -1,0 +1,44 @@
+# Judges words before any build. Sets `form`: wrong, file (the second word is a file), or plain; and `input`: script,
+# source, or none where standard input is not read.
+
+# Whether the bytes of the words are UTF-8: htl takes no others for text. (Some awks fail where an output is closed.)
+are_text() {
+	printf '%s\n' "$@" | od -An -v -tu1 | LC_ALL=C awk '
+	{
+		for (i = 1; i <= NF; i++) {
+			b = $i + 0
+			if (left) {
+				if (b < low || b > high) exit bad = 1
+				left--
+				low = 128
+				high = 191
+				continue
+			}
+			low = 128
+			high = 191
+			if (b < 128) continue
+			if (b < 194 || b > 244) exit bad = 1
+			left = b < 224 ? 1 : b < 240 ? 2 : 3
+			if (b == 224) low = 160
+			if (b == 237) high = 159
+			if (b == 240) low = 144
+			if (b == 244) high = 143
+		}
+	}
+	END { exit bad || left }' >/dev/null 2>&1
+}
+
+judge_words() {
+	form=wrong input=none
+	case $#:${1-} in
+	2:go | 2:run | 2:jobs | 2:code | 2:plan) form=file input=script ;;
+	2:check | 2:show) form=file ;;
+	1:compile) form=plain input=source ;;
+	2:bulk)
+		case $2 in
+		[1-9] | [1-5][0-9] | 6[0-4]) form=plain ;;
+		esac
+		;;
+	esac
+	[ "$form" = wrong ] || are_text "$@" || form=wrong
+}
