@@ -86,21 +86,21 @@ returns-clause-types c =
     let o = c.args.o.now in
     let p = c.parts-parts.result.now in
     let typed : KeepsTypes (record { tables = tables_of p; ecode = o.ecode; schedules = o.schedules }) = (
-      let n = length p.modes in
-      let anchors = rw c.as_slice-9.ensures at c.in_ok-put_anchors.ensures.types in
-      let same : length o.tables.modes ≡ n = ap (λ (x : Tables). length x.modes) c.parts-parts.ensures.value in
-      record {
-        comms = rw c.as_slice.ensures at c.in_ok-put_all.ensures.types;
-        modes = rw c.as_slice-2.ensures at c.in_ok-put_all-2.ensures.types;
-        modules = rw c.as_slice-3.ensures at c.in_ok-put_all-3.ensures.types;
-        ports = rw c.as_slice-4.ensures at c.in_ok-put_all-4.ensures.types;
-        tasks = rw c.as_slice-5.ensures at c.in_ok-put_all-5.ensures.types;
-        functions = All-map KeepsFunction fun_of p.functions (rw c.as_slice-8.ensures at c.in_ok-put_all-8.ensures.types);
-        enter = enter_kept o.ecode n (c.requires.enter ∙ same) anchors;
-        begin = begin_kept o.ecode n (c.requires.begin ∙ same) anchors;
-        decide = decide_kept o.ecode n (c.requires.decide ∙ same) anchors;
-        instrs = rw c.as_slice-10.ensures at c.in_ok-put_long_list.ensures.types;
-        schedules = rw c.as_slice-11.ensures at c.in_ok-put_list.ensures.types;
-      }
+    let n = length p.modes in
+    let anchors = rw c.as_slice-9.ensures at c.in_ok-put_anchors.ensures.types in
+    let same : length o.tables.modes ≡ n = ap (λ (x : Tables). length x.modes) c.parts-parts.ensures.value in
+    record {
+      comms = rw c.as_slice.ensures at c.in_ok-put_all.ensures.types;
+      modes = rw c.as_slice-2.ensures at c.in_ok-put_all-2.ensures.types;
+      modules = rw c.as_slice-3.ensures at c.in_ok-put_all-3.ensures.types;
+      ports = rw c.as_slice-4.ensures at c.in_ok-put_all-4.ensures.types;
+      tasks = rw c.as_slice-5.ensures at c.in_ok-put_all-5.ensures.types;
+      functions = All-map KeepsFunction fun_of p.functions (rw c.as_slice-8.ensures at c.in_ok-put_all-8.ensures.types);
+      enter = enter_kept o.ecode n (c.requires.enter ∙ same) anchors;
+      begin = begin_kept o.ecode n (c.requires.begin ∙ same) anchors;
+      decide = decide_kept o.ecode n (c.requires.decide ∙ same) anchors;
+      instrs = rw c.as_slice-10.ensures at c.in_ok-put_long_list.ensures.types;
+      schedules = rw c.as_slice-11.ensures at c.in_ok-put_list.ensures.types;
+    }
     ) in
     subst (λ (x : Tables). KeepsTypes (record { tables = x; ecode = o.ecode; schedules = o.schedules })) (sym c.parts-parts.ensures.value) typed
