@@ -1,5 +1,5 @@
 -- The lists of an object in range are in range, each item by those before it.
-use Rattle.std.proofs.Common.{◌≡◌, ◌≤◌, ◌<◌, ◌⊎◌, ◌+◌, ◌*◌, ◌^◌, ℕ, zero, suc, Bool, true, false, not, cond, ◌&&◌, ◌||◌, eqb, List, [], ◌∷◌, ◌++◌, length, map, take, drop, get_or, slice_get, Option, Some, None, All, IfSome, ℤ, pos, refl, sym, ◌∙◌, ap, subst, arith, inl, inr, take-append-drop}
+use Rattle.std.proofs.Common.{◌≡◌, ◌≤◌, ◌<◌, ℕ, zero, suc, Bool, true, false, not, cond, ◌&&◌, ◌||◌, eqb, List, [], ◌∷◌, ◌++◌, length, map, take, drop, get_or, slice_get, Option, Some, None, All, IfSome, ℤ, pos, refl, sym, ◌∙◌, ap, subst, arith, inl, inr, take-append-drop}
 use Rattle.std.specs.Prelude.{nat_le, nat_lt, FitsSigned}
 use Rattle.std.specs.Int.{w64}
 use Rattle.std.specs.List.{list_any, count_by}
@@ -18,8 +18,7 @@ use Rattle.htl_ecode.specs.declared.instr.EInstr.TheVariants as I
 use Rattle.htl_model.proofs.Apart.{apart_names, apart_owned, apart_pairs, apart_numbers}
 use Rattle.htl_model.proofs.PlainLaws.{length-list_to, get_list_to}
 use Rattle.htl_model.specs.Lists.{AreApart, list_to}
-use Rattle.htl_model.specs.Ranges.{FitsType, IsSpan, IsModeThat, parent_of, is_within, IsEndInRange, IsFunInRange, AreInRange, IsCommInRange, IsModeInRange, IsModuleInRange, IsPortInRange, IsInvInRange, IsSwitchInRange, IsTaskInRange}
-use Rattle.htl_model.specs.Selections.{selection_count}
+use Rattle.htl_model.specs.Ranges.{FitsType, IsSpan, IsModeThat, parent_of, is_within, IsEndInRange, IsFunInRange, AreInRange, IsCommInRange, IsModeInRange, IsPortInRange, IsInvInRange, IsSwitchInRange, IsTaskInRange}
 use Rattle.htl_model.specs.Tables.{Tables, Fun, Compiled, mode_module}
 use Rattle.htl_model.specs.declared.function.Code.{Code}
 use Rattle.htl_model.specs.declared.parts.Comm.{Comm}
@@ -33,21 +32,20 @@ use Rattle.htl_model.specs.declared.parts.Switch.{Switch}
 use Rattle.htl_model.specs.declared.parts.Task.{Task}
 use Rattle.htl_object.proofs.Each.{all_at, each_of, every, none_before, last_least, length_take, get_take}
 use Rattle.htl_object.proofs.Limits.{selections_are}
-use Rattle.htl_object.proofs.ListRanges.{counted}
+use Rattle.htl_object.proofs.ListRanges.{both, counted, equal, itself, left, module_of_mode, right}
 use Rattle.htl_object.proofs.Listed.{all_codes}
 use Rattle.htl_object.proofs.Widest.{most_few}
 use Rattle.htl_object.specs.Comms.{is_named_comm}
 use Rattle.htl_object.specs.Fields.{is_span, is_owner, is_of}
-use Rattle.htl_object.specs.Files.{AreCounts, AreAnchors, IsECode, IsSchedule, IsFileInRange, selections_to, positions_to, is_selections, function_count}
-use Rattle.htl_object.specs.Instructions.{is_body}
-use Rattle.htl_object.specs.Invocations.{is_port_of, is_inv_mode, is_inv_task, is_parent, is_target, is_read, last_inv_mode, last_switch_mode}
-use Rattle.htl_object.specs.Items.{Each, Every, Fits16, Is32, IsComm, IsMode, IsOption, IsModule, IsPort, AreTypes, IsTask, IsEnd, AreEnds, IsInv, IsSwitch, IsCode, IsEInstr, IsSInstr, IsFInstr}
+use Rattle.htl_object.specs.Files.{AreAnchors, IsSchedule, IsFileInRange, selections_to, positions_to, is_selections}
+use Rattle.htl_object.specs.Invocations.{is_parent, is_read, last_inv_mode, last_switch_mode}
+use Rattle.htl_object.specs.Items.{Each, Fits16, IsComm, IsMode, IsOption, IsModule, IsPort, AreTypes, IsTask, IsEnd, AreEnds, IsInv, IsSwitch, IsCode, IsEInstr, IsSInstr, IsFInstr}
 use Rattle.htl_object.specs.Lists.{codes_of, anchors_of, lists_of}
 use Rattle.htl_object.specs.Modes.{is_named_mode, last_module}
 use Rattle.htl_object.specs.Modules.{is_named_module, is_mode_of, is_within as is_within_before}
-use Rattle.htl_object.specs.Objects.{HasWidths, KeepsFunction, KeepsTypes, IsObject}
+use Rattle.htl_object.specs.Objects.{HasWidths, KeepsFunction, IsObject}
 use Rattle.htl_object.specs.Ports.{is_named_port, is_named_task, last_mode, last_owner}
-use Rattle.htl_object.specs.Ranges.{IsPhased, IsShort, IsInRange}
+use Rattle.htl_object.specs.Ranges.{IsPhased, IsShort}
 use Rattle.htl_object.specs.declared.lists.Anchors.{Anchors}
 use Rattle.htl_object.specs.declared.object.Object.{Object}
 use Rattle.htl_walk.specs.declared.schedule.Schedule.{Schedule}
@@ -62,21 +60,6 @@ lt_test n m h = grind (arith, nat_tests)
 
 eq_test : (n m : ℕ) → n ≡ m → eqb n m ≡ true
 eq_test n m h = grind (arith, nat_tests)
-
-equal : (n m : ℕ) → eqb n m ≡ true → n ≡ m
-equal n m h = grind (arith, nat_tests)
-
-both : (a b : Bool) → a ≡ true → b ≡ true → (a && b) ≡ true
-both true b p q = q
-both false b p q = absurd cc
-
-left : (a b : Bool) → (a && b) ≡ true → a ≡ true
-left true b h = refl
-left false b h = cc
-
-right : (a b : Bool) → (a && b) ≡ true → b ≡ true
-right true b h = h
-right false b h = cc
 
 off : (b : Bool) → b ≡ false → not b ≡ true
 off true h = absurd cc
@@ -117,17 +100,10 @@ init_test ty.Bool x (inr e) = other (int_eq x (pos 0)) (int_eq x (pos 1)) ((Deci
 all_there : {A : Type 0} (xs : List A) → Each (λ _ _. Unit {0}) [] xs
 all_there xs = each_of (λ _ _. Unit {0}) xs (λ k x e. tt)
 
-itself : {A : Type 0} (xs : List A) → map (λ x. x) xs ≡ xs
-itself [] = refl
-itself (x ∷ xs) = ap (λ ys. x ∷ ys) (itself xs)
-
 -- ---- modes of modules
 
 mode_test : (modes : List Mode) (k n : ℕ) (m : Mode) → slice_get modes n ≡ Some m → m.«module» ≡ k → is_mode_of modes k n ≡ true
 mode_test modes k n m e same = ap (λ (o : Option Mode). elim o as (λ _. Bool) [ Some y ↦ eqb y.«module» k | None ↦ false ]) e ∙ eq_test m.«module» k same
-
-module_of_mode : (t : Tables) (n : ℕ) (m : Mode) → slice_get t.modes n ≡ Some m → mode_module t n ≡ m.«module»
-module_of_mode t n m e = ap (λ (o : Option Mode). elim o as (λ _. ℕ) [ Some x ↦ x.«module» | None ↦ 0 ]) e
 
 -- a mode of the module of the mode
 same_module_test : (t : Tables) (mode k : ℕ) → mode < length t.modes → k ≡ mode_module t mode → is_mode_of t.modes k mode ≡ true

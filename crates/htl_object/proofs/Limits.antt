@@ -18,7 +18,7 @@ use Rattle.htl_model.specs.Tables.{Tables}
 use Rattle.htl_model.specs.declared.parts.Inv.{Inv}
 use Rattle.htl_model.specs.declared.parts.Mode.{Mode}
 use Rattle.htl_model.specs.declared.parts.Module.{Module}
-use Rattle.htl_object.proofs.ListRanges.{lists_in_range}
+use Rattle.htl_object.proofs.ListRanges.{at_most, equal, lists_in_range}
 use Rattle.htl_object.specs.Lists.{tables_of_lists}
 
 -- ---- places that pass, and how many
@@ -139,12 +139,6 @@ parts true true true h = (refl, refl, refl)
 parts true true false h = absurd (let z : ⊥ = cc in z)
 parts true false c h = absurd (let z : ⊥ = cc in z)
 parts false b c h = absurd (let z : ⊥ = cc in z)
-
-at_most : (n m : ℕ) → nat_le n m ≡ true → n ≤ m
-at_most n m h = grind (arith, nat_tests)
-
-equal : (n m : ℕ) → eqb n m ≡ true → n ≡ m
-equal n m h = grind (arith, nat_tests)
 
 pub count_some : (t : Tables) (roots : List ℕ) (u : ℕ) → slice_get roots 0 ≡ Some u → elim roots as (λ _. ℕ) [ [] ↦ 0 | k ∷ ks ↦ choices_from t 0 t.modules ] ≡ choices_from t 0 t.modules
 count_some t [] u e = cc

@@ -22,7 +22,7 @@ use Rattle.htl_object.specs.Instructions.{is_body}
 use Rattle.htl_object.specs.Files.{IsFileInRange}
 use Rattle.htl_object.specs.Items.{Each, Fits16, IsComm, IsMode, IsModule, IsPort, IsTask, IsEnd, AreEnds, IsInv, IsSwitch, IsCode}
 use Rattle.htl_object.specs.declared.lists.Lists.{Lists}
-use Rattle.htl_model.specs.Ranges.{are_different, same_owned, are_different_owned, same_pair, are_different_pairs, are_different_numbers, FitsType, IsSpan, IsCommInRange, IsModeInRange, IsModeThat, parent_of, is_within, IsPortInRange, IsTaskInRange, IsEndInRange, IsInvInRange, IsSwitchInRange, IsFunInRange, AreInRange}
+use Rattle.htl_model.specs.Ranges.{are_different_numbers, FitsType, IsSpan, IsCommInRange, IsModeInRange, IsModeThat, parent_of, is_within, IsPortInRange, IsTaskInRange, IsEndInRange, IsInvInRange, IsSwitchInRange, IsFunInRange, AreInRange}
 use Rattle.htl_model.specs.Tables.{Tables, Compiled, mode_module, function_count as task_count, count_before}
 use Rattle.htl_model.specs.declared.function.Code.{Code}
 use Rattle.htl_model.specs.declared.parts.Comm.{Comm}
@@ -41,11 +41,11 @@ use Rattle.htl_object.specs.Lists.{tables_of_lists}
 
 -- ---- tests
 
-left : (a b : Bool) → (a && b) ≡ true → a ≡ true
+pub left : (a b : Bool) → (a && b) ≡ true → a ≡ true
 left true b h = refl
 left false b h = cc
 
-right : (a b : Bool) → (a && b) ≡ true → b ≡ true
+pub right : (a b : Bool) → (a && b) ≡ true → b ≡ true
 right true b h = h
 right false b h = cc
 
@@ -53,16 +53,16 @@ off : (b : Bool) → not b ≡ true → b ≡ false
 off true h = cc
 off false h = refl
 
-both : (a b : Bool) → a ≡ true → b ≡ true → (a && b) ≡ true
+pub both : (a b : Bool) → a ≡ true → b ≡ true → (a && b) ≡ true
 both a b h k = grind (arith, nat_tests)
 
-at_most : (n m : ℕ) → nat_le n m ≡ true → n ≤ m
+pub at_most : (n m : ℕ) → nat_le n m ≡ true → n ≤ m
 at_most n m h = grind (arith, nat_tests)
 
 below : (n m : ℕ) → nat_lt n m ≡ true → n < m
 below n m h = grind (arith, nat_tests)
 
-equal : (n m : ℕ) → eqb n m ≡ true → n ≡ m
+pub equal : (n m : ℕ) → eqb n m ≡ true → n ≡ m
 equal n m h = grind (arith, nat_tests)
 
 same_number : (n m : ℕ) → n ≡ m → eqb n m ≡ true
@@ -82,7 +82,7 @@ owner_least count least n h = at_most least n (right (nat_lt n count) (nat_le le
 
 -- ---- keys without repetitions
 
-itself : {A : Type 0} (xs : List A) → map (λ x. x) xs ≡ xs
+pub itself : {A : Type 0} (xs : List A) → map (λ x. x) xs ≡ xs
 itself [] = refl
 itself (x ∷ xs) = ap (λ ys. x ∷ ys) (itself xs)
 
@@ -105,7 +105,7 @@ mode_of modes k n h = by (slice_get modes n) refl h
     by (Some m) e h = (m, e, equal m.«module» k h)
     by None e h = cc
 
-module_of_mode : (t : Tables) (n : ℕ) (m : Mode) → slice_get t.modes n ≡ Some m → mode_module t n ≡ m.«module»
+pub module_of_mode : (t : Tables) (n : ℕ) (m : Mode) → slice_get t.modes n ≡ Some m → mode_module t n ≡ m.«module»
 module_of_mode t n m e = ap (λ (o : Option Mode). elim o as (λ _. ℕ) [ Some x ↦ x.«module» | None ↦ 0 ]) e
 
 -- levels over the modules before are levels over all

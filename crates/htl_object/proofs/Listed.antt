@@ -1,5 +1,5 @@
 -- The lists of an object, and the object of lists: each gives the other back.
-use Rattle.std.proofs.Common.{◌≡◌, ◌≤◌, ◌<◌, ◌+◌, ℕ, zero, suc, List, [], ◌∷◌, ◌++◌, length, map, take, get_or, slice_get, Option, Some, None, All, refl, sym, ◌∙◌, ap, arith}
+use Rattle.std.proofs.Common.{◌≡◌, ◌≤◌, ◌<◌, ℕ, zero, suc, List, [], ◌∷◌, ◌++◌, length, map, take, get_or, slice_get, Some, All, refl, sym, ◌∙◌, ap, arith}
 use Rattle.std.proofs.Math.Seq.{take-suc}
 use Rattle.std.proofs.lemmas.List.{length-map}
 use Rattle.std.proofs.lemmas.List.Elements.{All-head, All-tail}
@@ -11,7 +11,7 @@ use Rattle.htl_model.specs.Lists.{list_to}
 use Rattle.htl_model.specs.Tables.{Tables, Fun, Formula, Compiled}
 use Rattle.htl_model.specs.declared.function.Code.{Code}
 use Rattle.htl_object.specs.Files.{IsFileInRange}
-use Rattle.htl_object.specs.Lists.{tables_of_lists, object_of_lists, codes_of, anchors_of, lists_of}
+use Rattle.htl_object.specs.Lists.{object_of_lists, codes_of, anchors_of, lists_of}
 use Rattle.htl_object.specs.Ranges.{IsCode, IsInRange}
 use Rattle.htl_object.specs.declared.lists.Anchors.{Anchors}
 use Rattle.htl_object.specs.declared.lists.Lists.{Lists}

@@ -1,5 +1,5 @@
 -- The laws of objects, from those of the lists of a file.
-use Rattle.std.proofs.Common.{◌≡◌, ◌↔◌, ◌<◌, ℕ, true, List, [], length, map, All, Option, Some, None, Result, Ok, Err, refl, sym, ap, subst, ◌∙◌}
+use Rattle.std.proofs.Common.{◌≡◌, ℕ, true, List, length, All, Option, Some, None, Ok, Err, refl, sym, ap, subst, ◌∙◌}
 use Rattle.std.proofs.lemmas.List.Elements.{All-map}
 use Rattle.std.specs.Prelude.{FitsSigned}
 use Rattle.std.specs.Int.{w64}
@@ -19,11 +19,11 @@ use Rattle.htl_object.proofs.FileLaws.{whole-again, whole-takes, one-file, no-ba
 use Rattle.htl_object.proofs.FileRanges.{file_in_range}
 use Rattle.htl_object.proofs.Listed.{lists_again, object_again}
 use Rattle.htl_object.proofs.ObjectRange.{lists_are_object}
-use Rattle.htl_object.specs.Files.{AreAnchors, IsSchedule, IsFileInRange, file_bytes, whole_at, malformed_at, first_bad}
+use Rattle.htl_object.specs.Files.{AreAnchors, IsSchedule, IsFileInRange, file_bytes, whole_at}
 use Rattle.htl_object.specs.Items.{Is32, IsComm, IsMode, IsModule, IsPort, IsTask, IsCode, IsEInstr, IsSInstr, IsFInstr}
 use Rattle.htl_object.specs.Laws.{OneSpelling, OneObject, NoBadField, SaysItself}
 use Rattle.htl_object.specs.Lists.{object_of_lists, lists_of}
-use Rattle.htl_object.specs.Objects.{HasWidths, KeepsFunction, KeepsTypes, IsObject, object_bytes, object_or, object_in, IsRead, IsReadAs}
+use Rattle.htl_object.specs.Objects.{HasWidths, KeepsFunction, KeepsTypes, IsObject, object_bytes, object_or, IsRead, IsReadAs}
 use Rattle.htl_object.specs.Reading.{IsBytes, Read}
 use Rattle.htl_object.specs.declared.decoding.DecodeFault.{DecodeFault}
 use Rattle.htl_object.specs.declared.decoding.DecodeFault.TheVariants as fault

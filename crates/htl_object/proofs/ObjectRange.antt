@@ -1,7 +1,6 @@
 -- What is read of a file is an object in range.
-use Rattle.std.proofs.Common.{◌≡◌, ◌≤◌, ℕ, Bool, true, false, ◌&&◌, List, length, refl, ◌∙◌, arith}
+use Rattle.std.proofs.Common.{◌∙◌, arith}
 use Rattle.std.specs.Prelude.{nat_le}
-use Rattle.std.proofs.lemmas.Bool.Decides.{nat_tests}
 use Rattle.std.proofs.lemmas.List.{length-map}
 use Rattle.std.proofs.lemmas.List.Elements.{All-map}
 use Rattle.htl_object.specs.Files.{IsFileInRange, IsSchedule}
@@ -14,22 +13,9 @@ use Rattle.htl_model.specs.Tables.{Compiled}
 use Rattle.htl_model.specs.declared.function.Code.{Code}
 use Rattle.htl_object.specs.Ranges.{IsCode, IsPhased, IsShort, IsInRange}
 use Rattle.htl_object.proofs.Each.{all_of}
-use Rattle.htl_object.proofs.ListRanges.{lists_in_range}
+use Rattle.htl_object.proofs.ListRanges.{at_most, left, right, lists_in_range}
 use Rattle.htl_object.proofs.Limits.{lists_keep_limits, counted_schedules}
 use Rattle.htl_object.specs.Lists.{object_of_lists}
-use Rattle.htl_walk.specs.declared.schedule.SInstr.{SInstr}
-use Rattle.htl_walk.specs.declared.schedule.Schedule.{Schedule}
-
-at_most : (n m : ℕ) → nat_le n m ≡ true → n ≤ m
-at_most n m h = grind (arith, nat_tests)
-
-left : (a b : Bool) → (a && b) ≡ true → a ≡ true
-left true b h = refl
-left false b h = cc
-
-right : (a b : Bool) → (a && b) ≡ true → b ≡ true
-right true b h = h
-right false b h = cc
 
 phased : (i : EInstr) → IsEInstr i → IsPhased i
 phased (I.CallWrite a b) h = tt

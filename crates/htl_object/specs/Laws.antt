@@ -1,5 +1,5 @@
 -- The laws of objects and their bytes.
-use Rattle.std.specs.Prelude.{◌≡◌, ◌↔◌, ℕ, List, Option, Some, None, Ok, Err}
+use Rattle.std.specs.Prelude.{◌≡◌, ◌↔◌, ℕ, List, None, Ok}
 use Rattle.htl_object.specs.Files.{first_bad}
 use Rattle.htl_object.specs.Objects.{object_bytes, object_in, IsObject}
 use Rattle.htl_object.specs.Reading.{IsBytes}

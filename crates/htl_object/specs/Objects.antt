@@ -1,5 +1,5 @@
 -- An object as bytes: its one spelling, and what bytes say.
-use Rattle.std.specs.Prelude.{◌≡◌, ℕ, ◌<◌, ◌^◌, true, List, Result, Ok, Err, Some, All, FitsSigned}
+use Rattle.std.specs.Prelude.{◌≡◌, ℕ, true, List, Result, Ok, Err, Some, All, FitsSigned}
 use Rattle.std.specs.Int.{w64}
 use Rattle.htl_base.specs.Names.{is_name}
 use Rattle.htl_ecode.specs.declared.instr.EInstr.{EInstr}

@@ -11,6 +11,7 @@ use htl_base::limits::MAX_PERIOD;
 use htl_base::{Name, Ty, Value};
 use std::marker::Model;
 
+/// A reader of bytes from left to right; contracts see the bytes that are left.
 #[derive(Drop)]
 pub struct Cursor<'a> {
     left: &'a [u8],
@@ -30,6 +31,7 @@ const SHORT: Stop = Stop::Bad(Bad {
 });
 
 impl<'a> Cursor<'a> {
+    /// All of the bytes.
     pub fn new(bytes: &'a [u8]) -> Cursor<'a>
         ensures { result ≡ bytes.now }
     {
@@ -43,6 +45,7 @@ impl<'a> Cursor<'a> {
         self.left.len()
     }
 
+    /// One byte.
     pub fn byte(&mut self) -> Result<u8, Stop>
         ensures { Gives (λ x. x) (byte_at self.old) self.new result }
     {
@@ -55,6 +58,7 @@ impl<'a> Cursor<'a> {
         }
     }
 
+    /// A number of two bytes.
     pub fn u16(&mut self) -> Result<u16, Stop>
         ensures { Gives (λ x. x) (number_at w16 self.old) self.new result }
     {
@@ -66,6 +70,7 @@ impl<'a> Cursor<'a> {
         Ok(u16::from_be_bytes([front[0], front[1]]))
     }
 
+    /// A number of four bytes.
     pub fn u32(&mut self) -> Result<u32, Stop>
         ensures { Gives (λ x. x) (number_at w32 self.old) self.new result }
     {
@@ -77,6 +82,7 @@ impl<'a> Cursor<'a> {
         Ok(u32::from_be_bytes([front[0], front[1], front[2], front[3]]))
     }
 
+    /// A value of eight bytes.
     pub fn value(&mut self) -> Result<Value, Stop>
         ensures { Gives (λ x. x) (value_at self.old) self.new result }
     {
@@ -90,6 +96,7 @@ impl<'a> Cursor<'a> {
         ]))
     }
 
+    /// A name: its length and its bytes.
     pub fn name(&mut self) -> Result<Name, Stop>
         ensures { Gives (λ x. x) (name_at self.old) self.new result }
     {
@@ -108,6 +115,7 @@ impl<'a> Cursor<'a> {
         }
     }
 
+    /// A type.
     pub fn ty(&mut self) -> Result<Ty, Stop>
         ensures { Gives (λ x. x) (type_at self.old) self.new result }
     {
@@ -119,6 +127,7 @@ impl<'a> Cursor<'a> {
         }
     }
 
+    /// A flag.
     pub fn flag(&mut self) -> Result<bool, Stop>
         ensures { Gives (λ x. x) (flag_at self.old) self.new result }
     {
@@ -215,6 +224,7 @@ impl<'a> Cursor<'a> {
         Ok(n)
     }
 
+    /// A phase of a trigger: 1, 2 or 3.
     pub fn phase(&mut self) -> Result<u8, Stop>
         ensures { Gives (λ x. x) (phase_at self.old) self.new result }
     {

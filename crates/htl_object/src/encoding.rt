@@ -76,8 +76,8 @@ fn encoded(alloc: Global, o: &Object) -> Result<Vec<u8>, AllocError>
     Ok(out)
 }
 
-/// The one spelling of an object in range, which says this object and no other: decoded, it is this object again. Memory
-/// only where no memory was left.
+/// The one spelling of an object in range. It says this object: decoded, it is this object again, or want of memory. Memory
+/// where no memory was left.
 pub fn encode(alloc: Global, o: &Object) -> Result<Vec<u8>, Memory>
     requires { IsInRange o.now }
     ensures spelled { IfOk result (λ bytes. bytes.items ≡ object_bytes o.now) }
