@@ -4,7 +4,7 @@ use Rattle.htl_ecode.proofs.SpellingLaws.{spells_or_departs}
 use Rattle.htl_ecode.specs.Departure.{departure}
 use Rattle.htl_ecode.specs.declared.fault.EFault.{EFault}
 use Rattle.htl_form.proofs.OneFault.{one_form_fault}
-use Rattle.htl_load.specs.Accepted.{IsSpelled, IsFeasible}
+use Rattle.htl_object.specs.Accepted.{IsSpelled, IsFeasible}
 use Rattle.htl_load.specs.Faults.{IsFirstInfeasible}
 use Rattle.htl_load.specs.Laws.{AcceptedIsNotRefused, OneFault}
 use Rattle.htl_load.specs.Unfit.{IsFirstUnfit}

@@ -1,17 +1,15 @@
 -- Small laws of the typed states.
-use Rattle.std.proofs.Common.{◌≡◌, ◌<◌, ◌+◌, ℕ, List, length, map, get_or, slice_get, Some, None, sym, ◌∙◌, ap, subst, arith, inl, inr, Result, Ok, Err, OnOk}
-use Rattle.std.proofs.lemmas.List.{length-map}
+use Rattle.std.proofs.Common.{◌≡◌, ◌<◌, ◌+◌, ℕ, List, length, get_or, slice_get, Some, None, sym, ◌∙◌, ap, subst, arith, inl, inr, Result, Ok, Err, OnOk}
 use Rattle.std.proofs.lemmas.Option.{slice_get_cases, slice_get-get_or}
-use Rattle.htl_model.proofs.PlaceLaws.{get_mapped, count_function_types}
+use Rattle.htl_model.proofs.PlaceLaws.{count_function_types}
 use Rattle.htl_model.specs.FunctionTypes.{FunctionType, function_types, IsFunctionOf, FitPlaces}
-use Rattle.htl_load.specs.Accepted.{IsFeasible, AreFeasible, IsSpelled, IsAccepted}
+use Rattle.htl_object.specs.Accepted.{IsFeasible, AreFeasible, IsSpelled, IsAccepted}
 use Rattle.htl_object.specs.declared.object.Object.{Object}
 use Rattle.htl_model.specs.Selections.{round_length}
-use Rattle.htl_load.proofs.UnfitLaws.{below_next}
+use Rattle.htl_object.proofs.FunctionPlaces.{below_next}
 use Rattle.htl_model.specs.Broken.{KeptTo, Formed}
 use Rattle.htl_model.specs.Ranges.{AreInRange}
-use Rattle.htl_model.specs.Tables.{Tables, Fun, fun_of}
-use Rattle.htl_model.specs.declared.function.Function.{Function}
+use Rattle.htl_model.specs.Tables.{Tables, Fun}
 use Rattle.htl_refine.proofs.OneFault.{formed}
 use Rattle.htl_walk.specs.Jobs.{abstract_jobs}
 use Rattle.htl_walk.specs.Walk.{IsAccepted as IsScheduleAccepted}
@@ -28,12 +26,6 @@ feasible_more t ss sel x less is before here = λ k below s at. elim (below_next
       let one : x ≡ s = cc in
       subst (λ (n : ℕ). IsScheduleAccepted (abstract_jobs t n) (round_length t) s.instrs) (sym same) (subst (λ (y : Schedule). IsScheduleAccepted (abstract_jobs t sel) (round_length t) y.instrs) one here)
 ]
-
--- the function at a place
-pub function_at : (t : Tables) (fs : List Function) (id : ℕ) (f : Function) → t.functions ≡ map fun_of fs → id < length t.functions → f ≡ get_or fs id f → slice_get t.functions id ≡ Some (fun_of f)
-function_at t fs id f same less is =
-    let inside : id < length fs = omega (arith, less, ap length same, length-map fs fun_of) in
-    ap (λ (l : List Fun). slice_get l id) same ∙ get_mapped fun_of fs id f (slice_get-get_or fs id f inside ∙ ap (λ (y : Function). Some y) (sym is))
 
 -- it fits its place
 pub function_fits : (t : Tables) (id : ℕ) (f : Fun) → AreInRange t → FitPlaces t → slice_get t.functions id ≡ Some f → (y : FunctionType) × IsFunctionOf y f

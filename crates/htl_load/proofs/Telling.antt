@@ -1,7 +1,7 @@
 -- What loading answers of bytes is one answer.
 use Rattle.std.proofs.Common.{◌≡◌, ◌⊎◌, ℕ, List, Option, Some, Ok, Err, refl, sym, ◌∙◌, subst, inl, inr}
 use Rattle.htl_load.proofs.Refusals.{accepted_is_not_refused, one_fault}
-use Rattle.htl_load.specs.Accepted.{IsAccepted}
+use Rattle.htl_object.specs.Accepted.{IsAccepted}
 use Rattle.htl_load.specs.Faults.{IsRefused}
 use Rattle.htl_load.specs.Loading.{HasBytes, RefusesObject, RefusesBytes}
 use Rattle.htl_load.specs.declared.fault.ObjectFault.{ObjectFault}

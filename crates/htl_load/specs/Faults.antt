@@ -5,7 +5,7 @@ use Rattle.htl_model.specs.Broken.{IsFirstBroken}
 use Rattle.htl_model.specs.FunctionTypes.{FitPlaces}
 use Rattle.htl_model.specs.Selections.{selection_count, round_length}
 use Rattle.htl_model.specs.Tables.{Tables}
-use Rattle.htl_load.specs.Accepted.{IsFeasible, IsFormed, IsSpelled}
+use Rattle.htl_object.specs.Accepted.{IsFeasible, IsFormed, IsSpelled}
 use Rattle.htl_load.specs.Unfit.{IsFirstUnfit}
 use Rattle.htl_load.specs.declared.fault.ObjectFault.{ObjectFault}
 use Rattle.htl_load.specs.declared.fault.ObjectFault.TheVariants as fault

@@ -1,6 +1,6 @@
 -- Refusals of the loader.
 use Rattle.std.specs.Prelude.{◌≡◌}
-use Rattle.htl_load.specs.Accepted.{IsAccepted}
+use Rattle.htl_object.specs.Accepted.{IsAccepted}
 use Rattle.htl_load.specs.Faults.{IsRefused}
 use Rattle.htl_load.specs.declared.fault.ObjectFault.{ObjectFault}
 use Rattle.htl_object.specs.Ranges.{IsInRange}

@@ -1,4 +1,3 @@
-pub mod Accepted
 pub mod Faults
 pub mod Laws
 pub mod Loading

@@ -1,6 +1,6 @@
 // From bytes to an accepted object.
 ghost use Rattle.std.specs.Prelude.{◌≡◌, IfOk, IfErr};
-ghost use Rattle.htl_load.specs.Accepted.{IsAccepted};
+ghost use Rattle.htl_object.specs.Accepted.{IsAccepted};
 ghost use Rattle.htl_load.specs.Faults.{IsRefused};
 ghost use Rattle.htl_load.specs.Loading.{HasBytes, RefusesBytes, IsLoadFault, IsLoadedAs, IsRefusedFor};
 ghost use Rattle.htl_load.specs.declared.fault.ObjectFault.{ObjectFault as FaultOf};

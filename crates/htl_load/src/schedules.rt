@@ -1,6 +1,6 @@
 // The schedules of an object.
 ghost use Rattle.std.specs.Prelude.{◌≡◌, ◌<◌, length, All, OnOk, IfErr, MatchOption};
-ghost use Rattle.htl_load.specs.Accepted.{AreFeasible};
+ghost use Rattle.htl_object.specs.Accepted.{AreFeasible};
 ghost use Rattle.htl_load.specs.Faults.{IsFirstInfeasible};
 ghost use Rattle.htl_model.specs.Broken.{KeepsLimits};
 ghost use Rattle.htl_model.specs.Selections.{selection_count, round_length};

@@ -1,6 +1,6 @@
 // The typed states of an object: each keeps what was tested of it.
 ghost use Rattle.std.specs.Prelude.{◌≡◌, ◌<◌, length, slice_get, Some, IfOk, OnOk, IfErr};
-ghost use Rattle.htl_load.specs.Accepted.{IsFormed, IsSpelled, IsAccepted};
+ghost use Rattle.htl_object.specs.Accepted.{IsFormed, IsSpelled, IsAccepted};
 ghost use Rattle.htl_load.specs.Faults.{IsFormFault, IsSpellingFault, IsScheduleFault};
 ghost use Rattle.htl_model.specs.Broken.{Formed, IsFirstBroken};
 ghost use Rattle.htl_model.specs.Tables.{Compiled};
@@ -27,7 +27,7 @@ pub struct FormedObject {
 
 impl Model for FormedObject {
     ghost use Rattle.htl_object.specs.declared.object.Object.{Object};
-    ghost use Rattle.htl_load.specs.Accepted.{IsFormed};
+    ghost use Rattle.htl_object.specs.Accepted.{IsFormed};
     ghost use Rattle.htl_object.specs.contracts.object.Object as object_row;
 
     ghost Value = { Object };
@@ -47,7 +47,7 @@ pub struct SpelledObject {
 
 impl Model for SpelledObject {
     ghost use Rattle.htl_object.specs.declared.object.Object.{Object};
-    ghost use Rattle.htl_load.specs.Accepted.{IsSpelled};
+    ghost use Rattle.htl_object.specs.Accepted.{IsSpelled};
     ghost use Rattle.htl_object.specs.contracts.object.Object as object_row;
 
     ghost Value = { Object };
@@ -67,7 +67,7 @@ pub struct Loaded {
 
 impl Model for Loaded {
     ghost use Rattle.htl_object.specs.declared.object.Object.{Object};
-    ghost use Rattle.htl_load.specs.Accepted.{IsAccepted};
+    ghost use Rattle.htl_object.specs.Accepted.{IsAccepted};
     ghost use Rattle.htl_object.specs.contracts.object.Object as object_row;
 
     ghost Value = { Object };

@@ -17,4 +17,5 @@ pub mod FileRanges
 pub mod ObjectLaws
 pub mod ObjectRange
 pub mod Assembled
+pub mod FunctionPlaces
 pub mod Examples

@@ -1,3 +1,4 @@
+pub mod Accepted
 pub mod Comms
 pub mod Fields
 pub mod Files

@@ -1,5 +1,6 @@
 use Rattle.std.proofs.Common.{◌+◌, length, ap, arith}
-use Rattle.htl_load.proofs.UnfitLaws.{tasks_of, next_count, count_bound, fit_more, at_end, fit_to}
+use Rattle.htl_load.proofs.UnfitLaws.{fit_more, fit_to}
+use Rattle.htl_object.proofs.FunctionPlaces.{tasks_of, next_count, count_bound, at_end}
 use Rattle.htl_load.proofs.functions.first_unfit_task.Goals as goal
 
 pub overflow_add-id : goal.overflow_add-id

@@ -1,5 +1,5 @@
 use Rattle.std.proofs.Common.{◌<◌, ℕ}
-use Rattle.htl_load.specs.Accepted.{IsFeasible}
+use Rattle.htl_object.specs.Accepted.{IsFeasible}
 use Rattle.htl_load.proofs.schedules.first_infeasible.Given as goal
 
 abbrev pub invariant-loop-selection : goal.invariant-loop-selection
