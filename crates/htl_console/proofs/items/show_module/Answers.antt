@@ -1,0 +1,16 @@
+use Rattle.htl_console.proofs.items.show_module.Goals as goal
+
+pub returns : goal.returns
+returns g c =
+    rw (
+      c.as_bytes-2.ensures.bytes,
+      c.text-5.ensures.bytes,
+      c.put_parent_mode.ensures.bytes,
+      c.text-4.ensures.bytes,
+      c.mode_name.ensures.name,
+      c.text-3.ensures.bytes,
+      c.text-2.ensures.bytes,
+      c.as_bytes.ensures.value,
+      c.text.ensures.bytes,
+      c.new-line.ensures.bytes,
+    ) at c.put_all.ensures

@@ -1,0 +1,6 @@
+use Rattle.htl_console.specs.Listing.{schedule_line}
+use Rattle.htl_console.proofs.Writing.{IsWriting}
+use Rattle.htl_console.proofs.listing.show_schedule.Given as goal
+
+abbrev pub invariant-loop-k : goal.invariant-loop-k
+invariant-loop-k g l = IsWriting (schedule_line l.selection) (l.instrs) l.k (g.W.Sink.written l.initial.sink) (g.W.Sink.written l.sink) (g.W.Sink.faults l.initial.sink) (g.W.Sink.faults l.sink)

@@ -1,0 +1,6 @@
+pub mod Instrs
+pub mod Lines
+pub mod Listing
+pub mod Names
+pub mod Samples
+pub mod Shows

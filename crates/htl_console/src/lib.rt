@@ -1,0 +1,18 @@
+//! What a run prints, line by line, and the listing of an object.
+//!
+//! Each line is one piece given to the sink. No call takes memory. `Failed` comes only where the sink counted a fault; what was
+//! written is then a prefix of the text. Instants and lengths are in ticks.
+#![tactic(auto)]
+
+mod instrs;
+mod items;
+mod lines;
+mod listing;
+mod names;
+mod shown;
+#[cfg(test)]
+mod tests;
+
+pub use lines::{line_d, line_e, line_end, line_j, line_m, line_plan, line_s, line_v};
+pub use listing::show;
+pub use shown::Shown;
