@@ -1,0 +1,137 @@
+-- What has no fault but want of memory, and that there is one fault at most.
+use Rattle.std.proofs.Common.{◌≡◌, ◌<◌, ◌≤◌, ◌⊎◌, ℕ, List, refl, sym, ◌∙◌, ap, subst, arith, pos, inl, inr}
+use Rattle.htl_compile.proofs.SourceLaws.{tables_unique, typed_or_fault, fault_unique}
+use Rattle.htl_compile.specs.Building.{IsBackFault, HasBackFault, unbuilt_of}
+use Rattle.htl_compile.specs.Laws.{FrontOnlyMemory, BackOnlyMemory, CompileOnlyMemory, OneFrontFault, OneBackFault, OneCompileFault}
+use Rattle.htl_compile.specs.Sources.{IsTablesOf, IsSourceFault}
+use Rattle.htl_compile.specs.declared.source_fault.SourceFault.{SourceFault}
+use Rattle.htl_compile.specs.declared.building.BackFault.{BackFault}
+use Rattle.htl_compile.specs.declared.building.BackFault.TheVariants as back
+use Rattle.htl_compile.specs.declared.compiling.CompileFault.TheVariants as compile
+use Rattle.htl_compile.specs.declared.source.FrontFault.TheVariants as front
+use Rattle.htl_edf.proofs.Kept.{one_report}
+use Rattle.htl_edf.specs.Lists.{tightened}
+use Rattle.htl_edf.specs.Plan.{ExplainsPlan}
+use Rattle.htl_edf.specs.Windows.{Reported}
+use Rattle.htl_form.proofs.OneFault.{one_form_fault}
+use Rattle.htl_edf.specs.declared.plan.PlanFault.TheVariants.{Overload}
+use Rattle.htl_model.specs.Broken.{KeptTo, IsFirstBroken, site_of}
+use Rattle.htl_model.specs.Ranges.{AreInRange}
+use Rattle.htl_model.specs.Tables.{Tables}
+use Rattle.htl_model.specs.declared.form_fault.FormFault.{FormFault}
+use Rattle.htl_refine.proofs.OneFault.{formed, one_refine_fault}
+use Rattle.htl_walk.specs.Jobs.{abstract_jobs}
+
+-- ---- completeness
+
+pub front_only_memory : FrontOnlyMemory
+front_only_memory bytes t (front.Source f) source typed h = absurd (typed_or_fault bytes t f source typed h)
+front_only_memory bytes t front.Memory source typed h = refl
+
+pub back_only_memory : BackOnlyMemory
+back_only_memory t (back.IllFormed f) formed free h = absurd (formed h.law (site_of f h.part) f.have f.need h.broken)
+back_only_memory t (back.Unschedulable sel a b demand) formed free h = absurd (free sel h.1.0 a (pos b) demand h.1.2.here.over)
+back_only_memory t back.Memory formed free h = refl
+
+-- a fault of the source's tables is a fault of these tables
+of_these : (bytes : List ℕ) (t : Tables) (f : BackFault) → IsTablesOf bytes t → HasBackFault bytes f → IsBackFault t f
+of_these bytes t f source h = subst (λ (u : Tables). IsBackFault u f) (tables_unique bytes h.tables t h.of source) h.fault
+
+pub compile_only_memory : CompileOnlyMemory
+compile_only_memory bytes t (compile.Source f) source can h = absurd (typed_or_fault bytes t f source can.can.typed h)
+compile_only_memory bytes t (compile.IllFormed f) source can h =
+    absurd (let no : back.IllFormed f ≡ back.Memory = back_only_memory t (back.IllFormed f) can.formed can.schedulable (of_these bytes t (back.IllFormed f) source h) in cc)
+compile_only_memory bytes t (compile.Unschedulable sel a b demand) source can h =
+    let f : BackFault = back.Unschedulable sel a b demand in
+    absurd (let no : back.Unschedulable sel a b demand ≡ back.Memory = back_only_memory t f can.formed can.schedulable (of_these bytes t f source h) in cc)
+compile_only_memory bytes t compile.Memory source can h = refl
+
+-- ---- one fault
+
+pub one_front_fault : OneFrontFault
+one_front_fault bytes (front.Source f) (front.Source g) p q h i = ap front.Source (fault_unique bytes f g h i)
+one_front_fault bytes (front.Source f) front.Memory p q h i = absurd (q refl)
+one_front_fault bytes front.Memory g p q h i = absurd (p refl)
+
+twelve : (n : ℕ) → (n ≤ 12) ⊎ (12 < n)
+twelve n = grind arith
+
+-- tables in range have one first form rule that is broken
+one_broken : (t : Tables) → AreInRange t → (f g : FormFault) → IsFirstBroken t f → IsFirstBroken t g → f ≡ g
+one_broken t range f g p q = by (twelve f.rule) (twelve g.rule)
+  where
+    -- where no rule up to 12 is broken before the first fault, the tables keep them
+    kept : (h : FormFault) → IsFirstBroken t h → 12 < h.rule → KeptTo t 12
+    kept h b late = λ r s have need few broken. b.first r s have need (inl (omega (arith, few, late, b.rule))) broken
+
+    early : (h e : FormFault) → IsFirstBroken t h → IsFirstBroken t e → 12 < h.rule → e.rule ≤ 12 → ⊥
+    early h e b x late few = kept h b late x.law (site_of e x.part) e.have e.need (omega (arith, few, x.rule)) x.broken
+
+    by : (f.rule ≤ 12) ⊎ (12 < f.rule) → (g.rule ≤ 12) ⊎ (12 < g.rule) → f ≡ g
+    by (inl low) (inl less) = one_form_fault t range f g low less p q
+    by (inl low) (inr more) = absurd (early g f q p more low)
+    by (inr high) (inl less) = absurd (early f g p q high less)
+    by (inr high) (inr more) = one_refine_fault t range (kept f p high) f g p q
+
+order : (a b : ℕ) → (a < b) ⊎ (a ≡ b) ⊎ (b < a)
+order a b = grind arith
+
+-- a first overload is one
+one_overload : (t : Tables) (j k a c b d m n : ℕ) → ExplainsPlan t (Overload j a b m) → ExplainsPlan t (Overload k c d n)
+    → ◌≡◌ {A = BackFault} (back.Unschedulable j a b m) (back.Unschedulable k c d n)
+one_overload t j k a c b d m n p q = by (order j k)
+  where
+    by : (j < k) ⊎ (j ≡ k) ⊎ (k < j) → ◌≡◌ {A = BackFault} (back.Unschedulable j a b m) (back.Unschedulable k c d n)
+    by (inl less) = absurd (q.1 j less a (pos b) m p.2.here.over)
+    by (inr (inr more)) = absurd (p.1 k more c (pos d) n q.2.here.over)
+    by (inr (inl same)) =
+        let other : Reported (tightened (abstract_jobs t j)) c (pos d) n = subst (λ (s : ℕ). Reported (tightened (abstract_jobs t s)) c (pos d) n) (sym same) q.2.here in
+        let one = one_report (tightened (abstract_jobs t j)) a c (pos b) (pos d) m n p.2.here other in
+        let from : a ≡ c = one.0 in
+        let to : pos b ≡ pos d = one.1 in
+        let demand : m ≡ n = one.2 in
+        let end : b ≡ d = cc in
+        ap (λ (s : ℕ). back.Unschedulable s a b m) same ∙ ap (λ (x : ℕ). back.Unschedulable k x b m) from ∙ ap (λ (x : ℕ). back.Unschedulable k c x m) end
+        ∙ ap (back.Unschedulable k c d) demand
+
+pub one_back_fault : OneBackFault
+one_back_fault t (back.IllFormed f) (back.IllFormed g) range p q h i = ap back.IllFormed (one_broken t range f g h i)
+one_back_fault t (back.IllFormed f) (back.Unschedulable sel a b demand) range p q h i = absurd (i.0 h.law (site_of f h.part) f.have f.need h.broken)
+one_back_fault t (back.Unschedulable sel a b demand) (back.IllFormed g) range p q h i = absurd (h.0 i.law (site_of g i.part) g.have g.need i.broken)
+one_back_fault t (back.Unschedulable j a b m) (back.Unschedulable k c d n) range p q h i = one_overload t j k a c b d m n h.1 i.1
+one_back_fault t (back.IllFormed f) back.Memory range p q h i = absurd (q refl)
+one_back_fault t (back.Unschedulable j a b m) back.Memory range p q h i = absurd (q refl)
+one_back_fault t back.Memory g range p q h i = absurd (p refl)
+
+-- a fault of its tables is no fault of a source
+not_both : (bytes : List ℕ) (f : SourceFault) (g : BackFault) → IsSourceFault bytes f → HasBackFault bytes g → ⊥
+not_both bytes f g h i = typed_or_fault bytes i.tables f i.of i.can.typed h
+
+-- two faults of a source's tables
+two_faults : (bytes : List ℕ) (f g : BackFault) → (f ≡ back.Memory → ⊥) → (g ≡ back.Memory → ⊥) → HasBackFault bytes f → HasBackFault bytes g → f ≡ g
+two_faults bytes f g p q h i = one_back_fault i.tables f g i.can.tables.ranges p q (of_these bytes i.tables f i.of h) i.fault
+
+ill_formed_told : (f : FormFault) → back.IllFormed f ≡ back.Memory → ⊥
+ill_formed_told f e = cc
+
+unschedulable_told : (sel a b demand : ℕ) → back.Unschedulable sel a b demand ≡ back.Memory → ⊥
+unschedulable_told sel a b demand e = cc
+
+pub one_compile_fault : OneCompileFault
+one_compile_fault bytes (compile.Source f) (compile.Source g) p q h i = ap compile.Source (fault_unique bytes f g h i)
+one_compile_fault bytes (compile.Source f) (compile.IllFormed g) p q h i = absurd (not_both bytes f (back.IllFormed g) h i)
+one_compile_fault bytes (compile.Source f) (compile.Unschedulable k c d n) p q h i = absurd (not_both bytes f (back.Unschedulable k c d n) h i)
+one_compile_fault bytes (compile.Source f) compile.Memory p q h i = absurd (q refl)
+one_compile_fault bytes (compile.IllFormed f) (compile.Source g) p q h i = absurd (not_both bytes g (back.IllFormed f) i h)
+one_compile_fault bytes (compile.IllFormed f) (compile.IllFormed g) p q h i =
+    ap unbuilt_of (two_faults bytes (back.IllFormed f) (back.IllFormed g) (ill_formed_told f) (ill_formed_told g) h i)
+one_compile_fault bytes (compile.IllFormed f) (compile.Unschedulable k c d n) p q h i =
+    ap unbuilt_of (two_faults bytes (back.IllFormed f) (back.Unschedulable k c d n) (ill_formed_told f) (unschedulable_told k c d n) h i)
+one_compile_fault bytes (compile.IllFormed f) compile.Memory p q h i = absurd (q refl)
+one_compile_fault bytes (compile.Unschedulable j a b m) (compile.Source g) p q h i = absurd (not_both bytes g (back.Unschedulable j a b m) i h)
+one_compile_fault bytes (compile.Unschedulable j a b m) (compile.IllFormed g) p q h i =
+    ap unbuilt_of (two_faults bytes (back.Unschedulable j a b m) (back.IllFormed g) (unschedulable_told j a b m) (ill_formed_told g) h i)
+one_compile_fault bytes (compile.Unschedulable j a b m) (compile.Unschedulable k c d n) p q h i =
+    ap unbuilt_of (two_faults bytes (back.Unschedulable j a b m) (back.Unschedulable k c d n) (unschedulable_told j a b m) (unschedulable_told k c d n) h i)
+one_compile_fault bytes (compile.Unschedulable j a b m) compile.Memory p q h i = absurd (q refl)
+one_compile_fault bytes compile.Memory g p q h i = absurd (p refl)

@@ -1,0 +1,12 @@
+pub mod Answering
+pub mod BuiltLaws
+pub mod CodedLaws
+pub mod Completeness
+mod Examples
+pub mod FromSource
+pub mod FunctionLaws
+pub mod FunctionTokens
+pub mod PhaseLaws
+pub mod PlanLaws
+pub mod SourceLaws
+pub mod TokenPlaces

@@ -1,0 +1,12 @@
+use Rattle.std.proofs.Common.{◌≡◌, ◌+◌, map}
+use Rattle.htl_compile.specs.Coded.{code_at, TypedBetween}
+use Rattle.htl_model.specs.Lists.{list_to}
+use Rattle.htl_model.specs.Tables.{fun_of}
+use Rattle.htl_compile.proofs.functions.push_switches.Given as goal
+
+abbrev pub invariant-loop-k : goal.invariant-loop-k
+invariant-loop-k l =
+    record {
+      codes : map fun_of l.codes.items ≡ list_to (code_at l.t) (l.first + l.k);
+      typed : TypedBetween l.t 0 (l.first + l.k);
+    }

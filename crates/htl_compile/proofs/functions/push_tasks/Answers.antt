@@ -1,0 +1,33 @@
+use Rattle.std.proofs.Common.{◌+◌, length, ap, arith}
+use Rattle.htl_compile.proofs.FunctionLaws.{typed_more, typed_to, codes_past, codes_to}
+use Rattle.htl_object.proofs.FunctionPlaces.{tasks_of, next_count, count_bound, at_end}
+use Rattle.htl_compile.proofs.functions.push_tasks.Goals as goal
+
+pub overflow_add-id : goal.overflow_add-id
+overflow_add-id c =
+    let tasks = tasks_of c.args.t.now _ c.as_slice-tasks.result.now c.parts.ensures.value c.as_slice-tasks.ensures in
+    let next = next_count c.args.t.now c.as_slice-tasks.result.now c.loop-k.k c.index-tasks-k.result tasks c.loop-k-test.true c.index-tasks-k.is in
+    let bound = count_bound c.args.t.now (c.loop-k.k + 1) c.parts.ensures.ranges (omega (arith, c.loop-k-test.true, ap length tasks)) in
+    omega (arith, c.loop-k.invariant.id, c.function_count.ensures.count, next, bound)
+
+pub loop-k-preserved : goal.loop-k-preserved
+loop-k-preserved c =
+    let tasks = tasks_of c.args.t.now _ c.as_slice-tasks.result.now c.parts.ensures.value c.as_slice-tasks.ensures in
+    let next = next_count c.args.t.now c.as_slice-tasks.result.now c.loop-k.k c.index-tasks-k.result tasks c.loop-k-test.true c.index-tasks-k.is in
+    record {
+      id = omega (arith, c.loop-k.invariant.id, c.function_count.ensures.count, next);
+      codes = codes_past c.args.t.now c.as_slice-tasks.result.now c.push_outputs.new.codes.items c.loop-k.k c.loop-k.id c.function_count.result c.index-tasks-k.result tasks c.loop-k-test.true c.index-tasks-k.is c.function_count.ensures.count c.in-Ok.ensures.codes;
+      typed = typed_more c.args.t.now c.as_slice-tasks.result.now c.loop-k.k c.loop-k.id c.function_count.result c.index-tasks-k.result tasks c.loop-k-test.true c.index-tasks-k.is c.function_count.ensures.count c.loop-k.invariant.typed c.in-Ok.ensures.typed;
+    }
+
+pub returns-clause-codes : goal.returns-clause-codes
+returns-clause-codes c =
+    let tasks = tasks_of c.args.t.now _ c.as_slice-tasks.result.now c.parts.ensures.value c.as_slice-tasks.ensures in
+    let end = at_end c.args.t.now c.as_slice-tasks.result.now c.loop-k.id c.loop-k.k tasks c.loop-k.invariant.id c.loop-k.auto.k-end c.loop-k-test.false in
+    codes_to c.args.t.now c.loop-k.codes.items c.loop-k.id _ end c.loop-k.invariant.codes
+
+pub returns-clause-typed : goal.returns-clause-typed
+returns-clause-typed c =
+    let tasks = tasks_of c.args.t.now _ c.as_slice-tasks.result.now c.parts.ensures.value c.as_slice-tasks.ensures in
+    let end = at_end c.args.t.now c.as_slice-tasks.result.now c.loop-k.id c.loop-k.k tasks c.loop-k.invariant.id c.loop-k.auto.k-end c.loop-k-test.false in
+    typed_to c.args.t.now 0 c.loop-k.id _ end c.loop-k.invariant.typed

@@ -1,0 +1,58 @@
+-- Why no object is built of tables, and why none is compiled of a source.
+use Rattle.std.specs.Prelude.{◌≡◌, ℕ, List}
+use Rattle.htl_compile.specs.Built.{built, CanBuild}
+use Rattle.htl_compile.specs.Coded.{CanCode}
+use Rattle.htl_compile.specs.Sources.{IsTablesOf, IsSourceFault}
+use Rattle.htl_compile.specs.declared.building.BackFault.{BackFault}
+use Rattle.htl_compile.specs.declared.building.BackFault.TheVariants as back
+use Rattle.htl_compile.specs.declared.compiling.CompileFault.{CompileFault}
+use Rattle.htl_compile.specs.declared.compiling.CompileFault.TheVariants as compile
+use Rattle.htl_edf.specs.Plan.{ExplainsPlan}
+use Rattle.htl_edf.specs.declared.plan.PlanFault.{PlanFault}
+use Rattle.htl_edf.specs.declared.plan.PlanFault.TheVariants.{Overload, Memory as PlanMemory}
+use Rattle.htl_model.specs.Broken.{Formed, IsFirstBroken}
+use Rattle.htl_model.specs.Tables.{Tables}
+use Rattle.htl_object.specs.Objects.{IsObject, object_bytes}
+
+-- ---- of tables
+
+-- a fault of the scheduler, as a fault of the tables
+abbrev pub unplanned_of : PlanFault → BackFault
+unplanned_of (Overload sel a b demand) = back.Unschedulable sel a b demand
+unplanned_of PlanMemory = back.Memory
+
+-- the first form rule that is broken; where none is, the first root selection that is overloaded; want of memory is free
+abbrev pub IsBackFault : Tables → BackFault → Type 0
+IsBackFault t (back.IllFormed f) = IsFirstBroken t f
+IsBackFault t (back.Unschedulable sel a b demand) = Formed t × ExplainsPlan t (Overload sel a b demand)
+IsBackFault t back.Memory = Unit {0}
+
+-- ---- of a source
+
+-- the bytes are those of the object of the source's tables
+pub record IsCompiledTo (source bytes : List ℕ) : Type 0 where
+  pub tables : Tables
+  pub of : IsTablesOf source tables
+  pub can : CanBuild tables
+  pub object : IsObject (built tables)
+  pub is : bytes ≡ object_bytes (built tables)
+
+-- the source has tables with typed functions, and this is their fault
+pub record HasBackFault (source : List ℕ) (f : BackFault) : Type 0 where
+  pub tables : Tables
+  pub of : IsTablesOf source tables
+  pub can : CanCode tables
+  pub fault : IsBackFault tables f
+
+-- the source's fault; where it has none, that of its tables; want of memory is free
+abbrev pub IsCompileFault : List ℕ → CompileFault → Type 0
+IsCompileFault source (compile.Source f) = IsSourceFault source f
+IsCompileFault source (compile.IllFormed f) = HasBackFault source (back.IllFormed f)
+IsCompileFault source (compile.Unschedulable sel a b demand) = HasBackFault source (back.Unschedulable sel a b demand)
+IsCompileFault source compile.Memory = Unit {0}
+
+-- a fault of tables, as a fault of their source
+abbrev pub unbuilt_of : BackFault → CompileFault
+unbuilt_of (back.IllFormed f) = compile.IllFormed f
+unbuilt_of (back.Unschedulable sel a b demand) = compile.Unschedulable sel a b demand
+unbuilt_of back.Memory = compile.Memory

@@ -1,0 +1,58 @@
+-- The laws of compiling.
+use Rattle.std.specs.Prelude.{◌≡◌, ℕ, List}
+use Rattle.htl_compile.specs.Built.{built, AreSchedulable, CanBuild}
+use Rattle.htl_compile.specs.Building.{IsBackFault, IsCompileFault}
+use Rattle.htl_compile.specs.Coded.{coded, AreTyped}
+use Rattle.htl_compile.specs.Sources.{IsTablesOf, IsFrontFault}
+use Rattle.htl_compile.specs.declared.building.BackFault.{BackFault}
+use Rattle.htl_compile.specs.declared.building.BackFault.TheVariants as back
+use Rattle.htl_compile.specs.declared.compiling.CompileFault.{CompileFault}
+use Rattle.htl_compile.specs.declared.compiling.CompileFault.TheVariants as compile
+use Rattle.htl_compile.specs.declared.source.FrontFault.{FrontFault}
+use Rattle.htl_compile.specs.declared.source.FrontFault.TheVariants as front
+use Rattle.htl_model.specs.Broken.{Formed}
+use Rattle.htl_model.specs.Exchanged.{SameRuns}
+use Rattle.htl_model.specs.Ranges.{AreInRange}
+use Rattle.htl_model.specs.Tables.{Tables}
+use Rattle.htl_object.specs.Accepted.{IsAccepted}
+
+-- what is built is accepted
+abbrev pub BuiltIsAccepted : Type 0
+BuiltIsAccepted = (t : Tables) → CanBuild t → IsAccepted (built t)
+
+-- with code in the place of functions, tables have the same states, values, modes and lines
+abbrev pub CodedRunsTheSame : Type 0
+CodedRunsTheSame = (t : Tables) → AreInRange t → SameRuns t (coded t)
+
+-- a source has one list of tables at most
+abbrev pub OneTables : Type 0
+OneTables = (bytes : List ℕ) (t u : Tables) → IsTablesOf bytes t → IsTablesOf bytes u → t ≡ u
+
+-- ---- completeness
+
+-- a source with tables whose functions are typed has no fault
+abbrev pub FrontOnlyMemory : Type 0
+FrontOnlyMemory = (bytes : List ℕ) (t : Tables) (f : FrontFault) → IsTablesOf bytes t → AreTyped t → IsFrontFault bytes f → f ≡ front.Memory
+
+-- tables that break no form rule and have no overloaded root selection have no fault
+abbrev pub BackOnlyMemory : Type 0
+BackOnlyMemory = (t : Tables) (f : BackFault) → Formed t → AreSchedulable t → IsBackFault t f → f ≡ back.Memory
+
+-- nor has a source with such tables
+abbrev pub CompileOnlyMemory : Type 0
+CompileOnlyMemory =
+    (bytes : List ℕ) (t : Tables) (f : CompileFault) → IsTablesOf bytes t → CanBuild t → IsCompileFault bytes f → f ≡ compile.Memory
+
+-- ---- one fault
+
+abbrev pub OneFrontFault : Type 0
+OneFrontFault =
+    (bytes : List ℕ) (f g : FrontFault) → (f ≡ front.Memory → ⊥) → (g ≡ front.Memory → ⊥) → IsFrontFault bytes f → IsFrontFault bytes g → f ≡ g
+
+abbrev pub OneBackFault : Type 0
+OneBackFault =
+    (t : Tables) (f g : BackFault) → AreInRange t → (f ≡ back.Memory → ⊥) → (g ≡ back.Memory → ⊥) → IsBackFault t f → IsBackFault t g → f ≡ g
+
+abbrev pub OneCompileFault : Type 0
+OneCompileFault =
+    (bytes : List ℕ) (f g : CompileFault) → (f ≡ compile.Memory → ⊥) → (g ≡ compile.Memory → ⊥) → IsCompileFault bytes f → IsCompileFault bytes g → f ≡ g

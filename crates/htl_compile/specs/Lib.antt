@@ -1,0 +1,7 @@
+pub mod Building
+pub mod Built
+pub mod Coded
+pub mod FunctionFaults
+pub mod Laws
+pub mod Sources
+pub mod TokenBounds

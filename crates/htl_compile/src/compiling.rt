@@ -1,0 +1,96 @@
+// From a source to the bytes of its object.
+ghost use Rattle.std.specs.Prelude.{◌≡◌, ◌⊎◌, ◌≤◌, length, IfOk, IfErr, MatchResult};
+ghost use Rattle.htl_base.specs.declared.limits.TheConstants as limit;
+ghost use Rattle.htl_compile.specs.Building.{IsCompiledTo, IsCompileFault, unbuilt_of};
+ghost use Rattle.htl_compile.specs.Built.{CanBuild, built};
+ghost use Rattle.htl_compile.specs.Sources.{IsTablesOf};
+ghost use Rattle.htl_compile.specs.declared.compiling.CompileFault.{CompileFault as FaultOf};
+ghost use Rattle.htl_model.specs.Tables.{Tables as TablesOf};
+ghost use Rattle.htl_object.specs.Objects.{object_bytes};
+
+use crate::building::{BackFault, back};
+use crate::source::{FrontFault, front};
+use crate::source_fault::SourceFault;
+use htl_base::{Memory, Time};
+use htl_model::FormFault;
+use htl_object::encode;
+use std::alloc::Global;
+
+/// Why a source isn't compiled.
+#[derive(Clone, Copy, PartialEq, Eq, Debug)]
+pub enum CompileFault {
+    /// The source's one fault.
+    Source(SourceFault),
+    /// The source has none, and this is the first form rule that its tables break.
+    IllFormed(FormFault),
+    /// Its tables break no form rule, and a root selection is overloaded.
+    Unschedulable {
+        /// The number of the first such root selection.
+        selection: u32,
+        /// The overloaded interval, in ticks from the start of the round.
+        from: Time,
+        /// Its end.
+        to: Time,
+        /// The worst cases that have to be done in it, in ticks.
+        demand: u64,
+    },
+    /// No memory was left.
+    Memory,
+}
+
+// A fault of tables, as a fault of their source.
+fn unbuilt(fault: BackFault) -> CompileFault
+    ensures { result ≡ unbuilt_of fault }
+{
+    match fault {
+        BackFault::IllFormed(fault) => CompileFault::IllFormed(fault),
+        BackFault::Unschedulable {
+            selection,
+            from,
+            to,
+            demand,
+        } => CompileFault::Unschedulable {
+            selection,
+            from,
+            to,
+            demand,
+        },
+        BackFault::Memory => CompileFault::Memory,
+    }
+}
+
+// The bytes of a source's object, or its first fault.
+fn compile_source(alloc: Global, bytes: &[u8]) -> Result<Vec<u8>, CompileFault>
+    requires { length bytes.now ≤ limit.MAX_SOURCE }
+    ensures compiled { IfOk result (λ v. IsCompiledTo bytes.now v.items) }
+    ensures fault { IfErr result (IsCompileFault bytes.now) }
+{
+    let tables = match front(alloc, bytes) {
+        Ok(tables) => tables,
+        Err(FrontFault::Source(fault)) => return Err(CompileFault::Source(fault)),
+        Err(FrontFault::Memory) => return Err(CompileFault::Memory),
+    };
+    let object = match back(alloc, tables) {
+        Ok(object) => object,
+        Err((_tables, fault)) => return Err(unbuilt(fault)),
+    };
+    match encode(alloc, &object) {
+        Ok(bytes) => Ok(bytes),
+        Err(Memory) => Err(CompileFault::Memory),
+    }
+}
+
+/// The bytes of the object of a source of at most 1,048,576 bytes. The object is accepted, so loading the bytes gives it back,
+/// or want of memory. It is refused exactly where the source has a fault, its tables break a form rule, or a root selection is
+/// overloaded, with the first of these; `TooLong` is never the answer. Want of memory may stand in place of any answer.
+pub fn compile(alloc: Global, bytes: &[u8]) -> Result<Vec<u8>, CompileFault>
+    requires { length bytes.now ≤ limit.MAX_SOURCE }
+    ensures compiled { IfOk result (λ v. IsCompiledTo bytes.now v.items) }
+    ensures fault { IfErr result (IsCompileFault bytes.now) }
+    ensures only { (t : TablesOf) → IsTablesOf bytes.now t → CanBuild t
+        → MatchResult result (λ v. v.items ≡ object_bytes (built t)) (λ f. f ≡ CompileFault.Memory) }
+    ensures refused { (f : FaultOf) → (f ≡ CompileFault.Memory → ⊥) → IsCompileFault bytes.now f
+        → MatchResult result (λ _. ⊥) (λ g. (g ≡ f) ⊎ (g ≡ CompileFault.Memory)) }
+{
+    compile_source(alloc, bytes)
+}

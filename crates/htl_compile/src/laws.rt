@@ -1,0 +1,48 @@
+//! The laws of compiling, which crates above build on. Each is a statement that the check has proved; there is nothing to run.
+ghost use Rattle.htl_compile.specs.Laws.{BuiltIsAccepted, CodedRunsTheSame, OneTables, FrontOnlyMemory, BackOnlyMemory, CompileOnlyMemory, OneFrontFault, OneBackFault, OneCompileFault};
+
+/// The object of tables in range that keep the limits and the form rules, whose functions are typed, and of whose root
+/// selections none is overloaded, is accepted.
+pub fn built_is_accepted()
+    ensures { BuiltIsAccepted }
+{}
+
+/// With code in the place of functions, tables have the same states, values, modes and lines.
+pub fn coded_runs_the_same()
+    ensures { CodedRunsTheSame }
+{}
+
+/// A source has one list of tables at most.
+pub fn one_tables()
+    ensures { OneTables }
+{}
+
+/// A source with tables whose functions are typed has no fault, but that memory may run out.
+pub fn front_only_memory()
+    ensures { FrontOnlyMemory }
+{}
+
+/// Tables that break no form rule and have no overloaded root selection have no fault, but that memory may run out.
+pub fn back_only_memory()
+    ensures { BackOnlyMemory }
+{}
+
+/// A source with tables of which an accepted object is built is compiled, but that memory may run out.
+pub fn compile_only_memory()
+    ensures { CompileOnlyMemory }
+{}
+
+/// A source has one fault at most beside want of memory.
+pub fn one_front_fault()
+    ensures { OneFrontFault }
+{}
+
+/// Tables in range have one fault at most beside want of memory.
+pub fn one_back_fault()
+    ensures { OneBackFault }
+{}
+
+/// Compiling a source has one fault at most beside want of memory.
+pub fn one_compile_fault()
+    ensures { OneCompileFault }
+{}
