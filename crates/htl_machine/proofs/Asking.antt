@@ -1,0 +1,119 @@
+-- What the parts of an instant ask for, from what the machine follows.
+use Rattle.std.proofs.Common.{◌≡◌, ℕ, zero, suc, ◌-◌, ◌<◌, List, length, ℤ, Option, sym, ap, ◌∙◌, subst, arith, refl}
+use Rattle.htl_model.specs.declared.event.Event.{Event}
+use Rattle.htl_model.specs.Meaning.{before, state}
+use Rattle.htl_model.specs.Tables.{Tables}
+use Rattle.htl_walk.specs.declared.job.Job.{Job}
+use Rattle.htl_walk.specs.declared.schedule.SInstr.{SInstr}
+use Rattle.htl_emach.specs.Calendars.{list_at}
+use Rattle.htl_emach.proofs.Instants.{follows_writes}
+use Rattle.htl_emach.specs.Shapes.{HasValues}
+use Rattle.htl_ecode.specs.declared.ecode.ECode.{ECode}
+use Rattle.htl_emach.specs.Contents.{Content}
+use Rattle.htl_emach.specs.Following.{phase_path}
+use Rattle.htl_object.specs.declared.object.Object.{Object}
+use Rattle.htl_smach.specs.Rounds.{Round}
+use Rattle.htl_walk.specs.declared.schedule.Schedule.{Schedule}
+use Rattle.htl_machine.specs.Follows.{DeskAt}
+use Rattle.htl_machine.specs.Leaving.{due_by}
+use Rattle.htl_machine.specs.Programs.{schedules_of}
+use Rattle.htl_machine.specs.Rounds.{plan_of}
+use Rattle.htl_machine.specs.declared.tally.Tally.{Tally}
+use Rattle.htl_machine.specs.Counts.{with_instrs, with_records}
+use Rattle.htl_machine.specs.Opening.{first_records}
+use Rattle.htl_machine.specs.Running.{replay}
+use Rattle.htl_machine.specs.Starting.{IsToBegin, instrs_of}
+use Rattle.htl_object.specs.Accepted.{IsAccepted}
+use Rattle.htl_refine.proofs.OneFault.{kept_all}
+use Rattle.htl_machine.specs.Asking.{IsSound, IsToOpen, IsNoted}
+use Rattle.htl_machine.specs.Calls.{Seen, IsUpTo}
+use Rattle.htl_machine.specs.Instant.{IsReadyAt}
+use Rattle.htl_machine.specs.Recording.{AreOf}
+use Rattle.htl_machine.specs.Values.{values_before}
+use Rattle.htl_machine.proofs.Agreeing.{modes_open}
+use Rattle.htl_machine.proofs.Beginnings.{kept_twelve}
+
+pub sound_of : (m : Seen) (t : Tables) (code : ECode) (ss : List Schedule) → t ≡ m.object.tables → code ≡ m.object.ecode → ss ≡ m.object.schedules → IsAccepted m.object → IsSound t code ss
+sound_of m t code ss same same_code same_schedules accepted =
+    subst (λ z. IsSound z code ss) (sym same) (subst (λ z. IsSound m.object.tables z ss) (sym same_code) (subst (λ z. IsSound m.object.tables m.object.ecode z) (sym same_schedules) here))
+  where
+    here : IsSound m.object.tables m.object.ecode m.object.schedules
+    here =
+        let ranges = accepted.spelled.formed.ranges in
+        let kept = kept_all m.object.tables accepted.spelled.formed.formed in
+        record {
+          kept = kept;
+          form = kept_twelve m.object.tables kept;
+          limits = ranges.limits;
+          spells = accepted.spelled.code;
+          instrs = ranges.few_instrs;
+          places = accepted.spelled.functions;
+          all = ranges.schedules;
+        }
+
+pub to_open : (m : Seen) (es : List Event) (at : ℕ) (jobs : List Job) (steps : List SInstr) (values : List ℤ) → IsUpTo m es at → IsReadyAt m es at steps → m.held.desk.jobs ≡ jobs → values ≡ m.held.world.values
+    → IsToOpen m es at jobs steps m.held.shows values
+to_open m es at jobs steps values u r are noted =
+    record {
+      shaped = u.before.values.shaped;
+      safe = u.before.values.safe;
+      jobs_are = are;
+      of = subst (AreOf m.object.tables) are r.of;
+      round = r.form;
+      slots = r.short;
+      stands = r.stands;
+      told = r.told;
+      starts = follows_writes m.object.tables m.object.ecode es at m.standing u.before.values.triggers;
+      shows_fit = u.kept.fits;
+      values_fit = subst (HasValues m.object.tables) (sym noted) u.before.values.shaped.values;
+    }
+
+values_were : (t : Tables) (es : List Event) (at : ℕ) → 0 < at → values_before t es at ≡ (before t es at).values
+values_were t es zero h = absurd (omega (arith, h))
+values_were t es (suc n) h = refl
+
+pub noted_of : (m : Seen) (es : List Event) (at : ℕ) (t : Tables) (values : List ℤ) (modes : List (Option ℕ)) → IsUpTo m es at → t ≡ m.object.tables → values ≡ m.held.world.values → modes ≡ m.standing.calendar.modes
+    → IsNoted t es at values modes
+noted_of m es at t values modes u same noted are =
+    subst (λ z. IsNoted z es at values modes) (sym same)
+    (record {
+      few = ap length noted ∙ u.before.values.shaped.values.count;
+      modules = ap length are ∙ u.before.values.triggers.calendar.sized.modes;
+      values_are = λ some. noted ∙ u.before.values.values.values ∙ values_were m.object.tables es at some;
+      modes_are = λ k less. ap (λ z. list_at z k) are ∙ modes_open m.object.tables m.object.ecode es at m.standing.calendar u.before.values.triggers.calendar k less;
+    })
+
+-- what holds of the object's parts holds of parts that are named otherwise
+pub values_at : (o : Object) (es : List Event) (at : ℕ) (t : Tables) (values : List ℤ) → t ≡ o.tables → values ≡ (state o.tables es at).values → values ≡ (state t es at).values
+values_at o es at t values same h = h ∙ ap (λ z. (state z es at).values) (sym same)
+
+pub reads_at : (o : Object) (es : List Event) (at : ℕ) (t : Tables) (code : ECode) (w : Content) → t ≡ o.tables → code ≡ o.ecode
+    → (replay o.tables o.ecode (phase_path o.tables o.ecode es at 3) (replay o.tables o.ecode (phase_path o.tables o.ecode es at 2) w)).values ≡ (state o.tables es at).values
+    → (replay t code (phase_path t code es at 3) (replay t code (phase_path t code es at 2) w)).values ≡ (state t es at).values
+reads_at o es at t code w same same_code h =
+    subst (λ z. (replay z code (phase_path z code es at 3) (replay z code (phase_path z code es at 2) w)).values ≡ (state z es at).values) (sym same)
+    (subst (λ z. (replay o.tables z (phase_path o.tables z es at 3) (replay o.tables z (phase_path o.tables z es at 2) w)).values ≡ (state o.tables es at).values) (sym same_code) h)
+
+pub begins_at : (o : Object) (es : List Event) (at : ℕ) (t : Tables) (code : ECode) (ss : List Schedule) (takes kept : List ℕ) → t ≡ o.tables → code ≡ o.ecode → ss ≡ o.schedules → takes ≡ kept
+    → IsToBegin o.tables o.ecode (schedules_of o) es at kept → IsToBegin t code (instrs_of ss) es at takes
+begins_at o es at t code ss takes kept same same_code same_schedules are h =
+    subst (λ z. IsToBegin z code (instrs_of ss) es at takes) (sym same)
+    (subst (λ z. IsToBegin o.tables z (instrs_of ss) es at takes) (sym same_code)
+    (subst (λ z. IsToBegin o.tables o.ecode (instrs_of z) es at takes) (sym same_schedules) (subst (λ z. IsToBegin o.tables o.ecode (instrs_of o.schedules) es at z) (sym are) h)))
+
+-- the round that has begun
+pub begun_at : (o : Object) (es : List Event) (at : ℕ) (t : Tables) (ss : List Schedule) (d : Round) → t ≡ o.tables → ss ≡ o.schedules
+    → DeskAt (plan_of t (instrs_of ss) es at) at (due_by (plan_of t (instrs_of ss) es at) at at) (suc at - at) d
+    → DeskAt (plan_of o.tables (schedules_of o) es at) at (due_by (plan_of o.tables (schedules_of o) es at) at at) (suc at - at) d
+begun_at o es at t ss d same same_schedules h =
+    subst (λ z. DeskAt (plan_of o.tables (instrs_of z) es at) at (due_by (plan_of o.tables (instrs_of z) es at) at at) (suc at - at) d) same_schedules
+    (subst (λ z. DeskAt (plan_of z (instrs_of ss) es at) at (due_by (plan_of z (instrs_of ss) es at) at at) (suc at - at) d) same h)
+
+-- what the second part of an instant counts where a round begins
+pub counts_at : (o : Object) (es : List Event) (at : ℕ) (t : Tables) (code : ECode) (ss : List Schedule) (n n1 : Tally) → t ≡ o.tables → code ≡ o.ecode → ss ≡ o.schedules
+    → n ≡ with_records (first_records t (instrs_of ss) es at) (with_instrs (length (phase_path t code es at 3)) (with_instrs (length (phase_path t code es at 2)) n1))
+    → n ≡ with_records (first_records o.tables (schedules_of o) es at) (with_instrs (length (phase_path o.tables o.ecode es at 3)) (with_instrs (length (phase_path o.tables o.ecode es at 2)) n1))
+counts_at o es at t code ss n n1 same same_code same_schedules h =
+    subst (λ z. n ≡ with_records (first_records o.tables (instrs_of z) es at) (with_instrs (length (phase_path o.tables o.ecode es at 3)) (with_instrs (length (phase_path o.tables o.ecode es at 2)) n1))) same_schedules
+    (subst (λ z. n ≡ with_records (first_records o.tables (instrs_of ss) es at) (with_instrs (length (phase_path o.tables z es at 3)) (with_instrs (length (phase_path o.tables z es at 2)) n1))) same_code
+    (subst (λ z. n ≡ with_records (first_records z (instrs_of ss) es at) (with_instrs (length (phase_path z code es at 3)) (with_instrs (length (phase_path z code es at 2)) n1))) same h))

@@ -1,0 +1,293 @@
+-- The calls of the machine, by their contracts: each carries what the machine follows.
+use Rattle.std.proofs.Common.{◌≡◌, ℕ, zero, suc, ◌≤◌, ◌<◌, false, cond, ◌&&◌, eqb, leb, true, List, [], ◌∷◌, ◌++◌, length, map, get_or, slice_get, IfSome, Option, Some, None, ℤ, pos, refl, sym, ap, ap₂, ◌∙◌, subst, arith}
+use Rattle.std.proofs.lemmas.Bool.Decides.{nat_tests}
+use Rattle.std.proofs.Math.Nat.{div-add-mod}
+use Rattle.std.proofs.lemmas.List.{length-map, length-set}
+use Rattle.std.proofs.lemmas.Option.{slice_get_within}
+use Rattle.htl_model.specs.declared.event.Event.{Event}
+use Rattle.htl_model.specs.declared.event.Event.TheVariants as V
+use Rattle.htl_model.specs.declared.parts.Comm.{Comm}
+use Rattle.htl_model.specs.declared.parts.Inv.{Inv}
+use Rattle.htl_model.specs.Ranges.{FitsType}
+use Rattle.htl_model.specs.Selections.{root_period}
+use Rattle.htl_model.specs.Tables.{Tables, task_worst}
+use Rattle.htl_model.specs.Meaning.{sense, state, initial}
+use Rattle.htl_walk.specs.declared.schedule.SInstr.{SInstr}
+use Rattle.htl_walk.specs.declared.job.Job.{Job}
+use Rattle.htl_walk.specs.Jobs.{absent_job}
+use Rattle.htl_walk.specs.Walk.{job_at}
+use Rattle.htl_smach.specs.Rounds as rounds
+use Rattle.htl_ecode.specs.declared.ecode.ECode.{ECode}
+use Rattle.htl_emach.specs.Calendars.{Standing, first_standing}
+use Rattle.htl_emach.specs.Contents.{Content, first_content}
+use Rattle.htl_emach.specs.Safety.{StandsSafely}
+use Rattle.htl_emach.specs.Shapes.{IsShaped}
+use Rattle.htl_refine.specs.Records.{inv_worst, Round as Plan}
+use Rattle.htl_object.specs.declared.object.Object.{Object}
+use Rattle.htl_object.specs.Accepted.{IsAccepted}
+use Rattle.htl_console.specs.declared.shown.Shown.{Shown}
+use Rattle.htl_machine.specs.Calls.{Seen, IsKept, IsBefore, IsUpTo, Follows, GoesBy, IsSensorValue, IsLength, IsFinished, first_seen}
+use Rattle.htl_machine.specs.Follows.{reading_of, at_reading, shown_as, taken_as, desk_taking, position_from, DeskFollows, AreKept, period_or}
+use Rattle.htl_machine.specs.Casts.{IsCast}
+use Rattle.htl_machine.specs.Machines.{Counts}
+use Rattle.htl_machine.specs.Plans.{round_start}
+use Rattle.htl_machine.specs.Programs.{schedules_of}
+use Rattle.htl_machine.specs.Rounds.{plan_of, selection_of}
+use Rattle.htl_machine.specs.Texts.{text_before}
+use Rattle.htl_machine.specs.Wholes.{Whole, WholeFollowed}
+use Rattle.htl_machine.proofs.Accepted.{accepted_is_loaded}
+use Rattle.htl_machine.proofs.Counting.{totals_start}
+use Rattle.htl_machine.proofs.Events.{Alike, state_same, sense_at, sense_took, sense_sense}
+use Rattle.htl_machine.proofs.Standing.{none_some, some_same}
+use Rattle.htl_machine.proofs.Taking.{new_follows, position_some}
+use Rattle.htl_machine.proofs.TellingLoaded.{loaded_jobs, loaded_s, loaded_e}
+use Rattle.htl_machine.proofs.Wholly.{whole_new, whole_reading, whole_sense, whole_took}
+
+abbrev pub counts_of : Seen → Counts
+counts_of m = record { jobs = m.jobs; e = m.e; s = m.s }
+
+-- the whole machine before an instant, with the text of the instants before it
+abbrev pub IsWhole : Seen → List Event → ℕ → Type 0
+IsWhole m es now =
+    Whole m.object.tables m.object.ecode (schedules_of m.object) m.show es now m.standing m.held (counts_of m)
+    (text_before m.object.tables m.object.ecode (schedules_of m.object) es m.show now)
+
+pub whole_of : (m : Seen) (es : List Event) (now : ℕ) → IsAccepted m.object → IsKept m.object.tables es m.held → reading_of 0 es ≤ now → IsBefore m es now → IsWhole m es now
+whole_of m es now accepted kept later b =
+    let loaded = accepted_is_loaded m.object accepted in
+    record {
+      triggers = b.values.triggers;
+      safe = b.values.safe;
+      stands =
+          record {
+            up_to =
+                record {
+                  within = kept.within;
+                  later = later;
+                  fits = kept.fits;
+                  shows = kept.shows;
+                  takes = kept.takes;
+                  values = b.values.values;
+                  shape = b.values.shaped;
+                  desk = b.records.desk;
+                };
+            totals =
+                record {
+                  jobs_are = b.records.jobs_are ∙ loaded_jobs m.object.tables (schedules_of m.object) es loaded kept.within now;
+                  e_are = b.values.count ∙ loaded_e m.object.tables (schedules_of m.object) es loaded kept.within m.object.ecode now;
+                  s_are = b.records.s_are ∙ loaded_s m.object.tables (schedules_of m.object) es loaded kept.within now;
+                };
+            text = refl;
+          };
+    }
+
+pub before_of : (m : Seen) (es : List Event) (now : ℕ) (written : List ℕ) → IsAccepted m.object
+    → Whole m.object.tables m.object.ecode (schedules_of m.object) m.show es now m.standing m.held (counts_of m) written
+    → GoesBy m.object.tables es (root_period m.object.tables) now m.selection → IsBefore m es now
+before_of m es now written accepted w goes =
+    let loaded = accepted_is_loaded m.object accepted in
+    let within = w.stands.up_to.within in
+    record {
+      values =
+          record {
+            values = w.stands.up_to.values;
+            shaped = w.stands.up_to.shape;
+            triggers = w.triggers;
+            safe = w.safe;
+            count = w.stands.totals.e_are ∙ sym (loaded_e m.object.tables (schedules_of m.object) es loaded within m.object.ecode now);
+          };
+      records =
+          record {
+            desk = w.stands.up_to.desk;
+            goes = goes;
+            jobs_are = w.stands.totals.jobs_are ∙ sym (loaded_jobs m.object.tables (schedules_of m.object) es loaded within now);
+            s_are = w.stands.totals.s_are ∙ sym (loaded_s m.object.tables (schedules_of m.object) es loaded within now);
+          };
+    }
+
+followed_of : (m : Seen) (es : List Event) → IsAccepted m.object → Follows m es
+    → WholeFollowed m.object.tables m.object.ecode (schedules_of m.object) m.show es m.standing m.held (counts_of m)
+    (text_before m.object.tables m.object.ecode (schedules_of m.object) es m.show m.held.reading)
+followed_of m es accepted f =
+    let w = whole_of m es m.held.reading accepted f.kept (omega (arith, f.kept.reading)) f.before in
+    record { follows = record { fresh = f.kept.fresh; reading = f.kept.reading; up_to = w.stands.up_to }; whole = w }
+
+follows_of : (m : Seen) (es : List Event) (written : List ℕ) → IsAccepted m.object
+    → WholeFollowed m.object.tables m.object.ecode (schedules_of m.object) m.show es m.standing m.held (counts_of m) written
+    → GoesBy m.object.tables es (root_period m.object.tables) m.held.reading m.selection → length m.held.takes ≡ length m.object.tables.invs → Follows m es
+follows_of m es written accepted w goes count =
+    record {
+      kept =
+          record {
+            fresh = w.follows.fresh;
+            reading = w.follows.reading;
+            within = w.follows.up_to.within;
+            fits = w.follows.up_to.fits;
+            shows = w.follows.up_to.shows;
+            takes = w.follows.up_to.takes;
+            count = count;
+          };
+      before = before_of m es m.held.reading written accepted w.whole goes;
+    }
+
+-- ---- the selection by which the round goes
+
+last_start : (period n : ℕ) → round_start period n ≤ n
+last_start period n = omega (arith, div-add-mod n period)
+
+goes_alike : (t : Tables) (es fs : List Event) (o : Option ℕ) (now : ℕ) (sel : Option ℕ) → Alike t es fs now → GoesBy t es o now sel → GoesBy t fs o now sel
+goes_alike t es fs None now sel a g = g
+goes_alike t es fs (Some p) zero sel a g = g
+goes_alike t es fs (Some p) (suc n) sel a g =
+    let below = last_start p n in
+    g ∙ ap (λ z. Some (selection_of t z.stays)) (state_same t es fs (suc n) (round_start p n) a (omega (arith, below)))
+
+-- ---- calls
+
+pub sense_follows : (m : Seen) (es : List Event) (c : ℕ) (x : ℤ) → IsAccepted m.object → IsSensorValue m.object.tables c x → Follows m es
+    → Follows (record m { held = shown_as c x m.held }) (es ++ V.Sense c x ∷ [])
+sense_follows m es c x accepted sensor f =
+    let t = m.object.tables in
+    let g =
+    whole_sense t m.object.ecode (schedules_of m.object) (accepted_is_loaded m.object accepted) accepted.spelled.code m.show es c x m.standing m.held (counts_of m)
+    (text_before t m.object.ecode (schedules_of m.object) es m.show m.held.reading) (slice_get_within t.comms c sensor.comm sensor.known)
+    (subst (λ (o : Option Comm). IfSome o (λ y. FitsType y.ty x)) (sym sensor.known) sensor.fits) (followed_of m es accepted f) in
+    follows_of (record m { held = shown_as c x m.held }) (es ++ V.Sense c x ∷ []) _ accepted g
+    (goes_alike t es (es ++ V.Sense c x ∷ []) (root_period t) m.held.reading m.selection
+    (λ d u h. sym (sense_sense t es c d u x ∙ ap (λ b. cond b x (sense t es d u)) (early d u (omega (arith, f.kept.reading, h))))) f.before.records.goes)
+    f.kept.count
+  where
+    early : (d u : ℕ) → u < reading_of 0 es → (eqb d c && leb (reading_of 0 es) u) ≡ false
+    early d u h = grind (arith, nat_tests)
+
+-- the worst case of the job at an invocation's position is the invocation's
+pub position_worst : (m : Seen) (es : List Event) (i n p : ℕ) → IsAccepted m.object → IsLength m.object.tables i n → Follows m es
+    → position_from 0 m.held.desk.jobs i ≡ Some p → n ≤ (job_at m.held.desk.jobs p).worst
+position_worst m es i n p accepted length f found =
+    by (root_period t) refl m.held.reading f.before.records.desk
+  where
+    t : Tables
+    t = m.object.tables
+
+    plan : ℕ → Plan
+    plan = plan_of t (schedules_of m.object) es
+
+    in_round : (s : ℕ) → m.held.desk.jobs ≡ (plan s).jobs → IsCast t (state t es s).stays s (plan s).jobs → n ≤ (job_at m.held.desk.jobs p).worst
+    in_round s same cast =
+        let h = position_some 0 m.held.desk.jobs i p found in
+        let at : slice_get (plan s).jobs h.0 ≡ Some h.2 = ap (λ (js : List Job). slice_get js h.0) (sym same) ∙ h.3 in
+        let st = cast.stands h.0 h.2 at h.4 in
+        let mine = cast.has h.2.inv st.0 s st.1 in
+        let one : h.0 ≡ mine.0 = cast.once h.0 mine.0 h.2 mine.1.job at mine.1.at h.4 mine.1.present (sym mine.1.inv) in
+        let job_is : h.2 ≡ mine.1.job = some_same _ _ (sym at ∙ ap (λ z. slice_get (plan s).jobs z) one ∙ mine.1.at) in
+        let inv_is : st.0 ≡ length.inv = some_same _ _ (sym st.1.known ∙ ap (λ z. slice_get t.invs z) h.5 ∙ length.known) in
+        let here : job_at m.held.desk.jobs p ≡ h.2 =
+        ap (λ z. job_at m.held.desk.jobs z) (let z : p ≡ h.0 = omega (arith, h.1) in z) ∙ ap (λ (o : Option Job). elim o [ Some j ↦ j | None ↦ absent_job ]) h.3 in
+        let worst : (job_at m.held.desk.jobs p).worst ≡ task_worst t length.inv.task =
+        ap (λ (z : Job). z.worst) (here ∙ job_is) ∙ mine.1.worst ∙ ap (λ (z : Inv). task_worst t z.task) inv_is in
+        omega (arith, worst, length.worst)
+
+    no_job : m.held.desk ≡ rounds.no_round → n ≤ (job_at m.held.desk.jobs p).worst
+    no_job d = none_some p (ap (λ (r : rounds.Round). position_from 0 r.jobs i) (sym d) ∙ found)
+
+    by : (o : Option ℕ) → root_period t ≡ o → (now : ℕ) → DeskFollows plan o now m.held.desk → n ≤ (job_at m.held.desk.jobs p).worst
+    by None e now d = no_job d
+    by (Some q) e zero d = no_job d
+    by (Some q) e (suc k) d = in_round (round_start q k) d.jobs (subst (λ z. IsCast t (state t es (round_start z k)).stays (round_start z k) (plan (round_start z k)).jobs) (ap period_or e) (kept_rounds.sound.casts k))
+      where
+        kept_rounds : AreKept t (schedules_of m.object) es
+        kept_rounds = (accepted_is_loaded m.object accepted).rounds es f.kept.within
+
+pub took_follows : (m : Seen) (es : List Event) (i n : ℕ) → IsAccepted m.object → IsLength m.object.tables i n
+    → ((c : List SInstr) → rounds.Stands m.held.desk c → rounds.Stands (desk_taking i n m.held.desk) c) → Follows m es
+    → Follows (record m { held = taken_as i n m.held }) (es ++ V.Took i n ∷ [])
+took_follows m es i n accepted length keeps f =
+    let t = m.object.tables in
+    let worst : inv_worst t i ≡ task_worst t length.inv.task = ap (λ (o : Option Inv). elim o [ Some x ↦ task_worst t x.task | None ↦ 0 ]) length.known in
+    let g =
+    whole_took t m.object.ecode (schedules_of m.object) (accepted_is_loaded m.object accepted) accepted.spelled.code m.show es i n m.standing m.held (counts_of m)
+    (text_before t m.object.ecode (schedules_of m.object) es m.show m.held.reading) (length.some, omega (arith, length.worst, worst)) (slice_get_within t.invs i length.inv length.known) f.kept.count keeps
+    (followed_of m es accepted f) in
+    follows_of (record m { held = taken_as i n m.held }) (es ++ V.Took i n ∷ []) _ accepted g
+    (goes_alike t es (es ++ V.Took i n ∷ []) (root_period t) m.held.reading m.selection (λ d u h. sym (sense_took t es i n d u)) f.before.records.goes)
+    (length-set m.held.takes i n ∙ f.kept.count)
+
+-- a reading, once all instants before it are done
+pub read_follows : (m : Seen) (es : List Event) (to : ℕ) → IsAccepted m.object → m.held.reading ≤ to → IsUpTo m es to → Follows (record m { held = at_reading to m.held }) (es ++ V.At to ∷ [])
+read_follows m es to accepted later f =
+    let t = m.object.tables in
+    let g =
+    whole_reading t m.object.ecode (schedules_of m.object) (accepted_is_loaded m.object accepted) accepted.spelled.code m.show es to m.standing m.held (counts_of m)
+    (text_before t m.object.ecode (schedules_of m.object) es m.show to) f.kept.fresh (whole_of m es to accepted f.kept (omega (arith, f.kept.reading, later)) f.before) in
+    follows_of (record m { held = at_reading to m.held }) (es ++ V.At to ∷ []) _ accepted g
+    (goes_alike t es (es ++ V.At to ∷ []) (root_period t) to m.selection (λ d u h. sym (sense_at t es to d u)) f.before.records.goes) f.kept.count
+
+-- the end of a run
+pub finished : (m : Seen) (es : List Event) (to : ℕ) → IsUpTo m es (suc to) → IsFinished (record m { held = record m.held { reading = to; spent = true } }) es to
+finished m es to f =
+    record {
+      spent = refl;
+      reading = refl;
+      values = f.before.values.values.values;
+      jobs = f.before.records.jobs_are;
+      e = f.before.values.count;
+      s = f.before.records.s_are;
+    }
+
+map_or : {A B : Type 0} (f : A → B) (d : B) (xs : List A) (k : ℕ) → get_or (map f xs) k d ≡ elim (slice_get xs k) as (λ _. B) [ Some x ↦ f x | None ↦ d ]
+map_or f d [] zero = refl
+map_or f d [] (suc k) = refl
+map_or f d (x ∷ xs) zero = refl
+map_or f d (x ∷ xs) (suc k) = map_or f d xs k
+
+-- a new machine
+pub first_follows : (o : Object) (show : Shown) → IsAccepted o → StandsSafely o.tables o.ecode (first_standing o.tables o.ecode) → IsShaped o.tables (first_content o.tables)
+    → Follows (first_seen o show (first_content o.tables) (first_standing o.tables o.ecode)) []
+first_follows o show accepted safe shaped =
+    let t = o.tables in
+    let m = first_seen o show (first_content t) (first_standing t o.ecode) in
+    let loaded = accepted_is_loaded o accepted in
+    let f =
+    new_follows t (schedules_of o) m.held refl refl shaped.values (λ c below. initial_is c below) (λ i below. worst_is i below) refl shaped refl in
+    let w =
+    whole_new t o.ecode (schedules_of o) loaded accepted.spelled.code show m.held (counts_of m) [] safe
+    (record { follows = f; stands = record { up_to = f.up_to; totals = totals_start t o.ecode (schedules_of o) []; text = refl } }) in
+    follows_of m [] [] accepted w (goes (root_period t)) (length-map t.invs _)
+  where
+    goes : (p : Option ℕ) → GoesBy o.tables [] p 0 None
+    goes None = refl
+    goes (Some p) = refl
+
+    initial_is : (c : ℕ) → c < length o.tables.comms → get_or (map (λ (x : Comm). x.init) o.tables.comms) c (pos 0) ≡ initial o.tables c
+    initial_is c below = map_or (λ (x : Comm). x.init) (pos 0) o.tables.comms c
+
+    worst_is : (i : ℕ) → i < length o.tables.invs → get_or (map (λ (x : Inv). task_worst o.tables x.task) o.tables.invs) i 0 ≡ inv_worst o.tables i
+    worst_is i below = map_or (λ (x : Inv). task_worst o.tables x.task) 0 o.tables.invs i
+
+pub new_follows_none : (o : Object) (show : Shown) (t : Tables) (code : ECode) (w : Content) (e : Standing) → t ≡ o.tables → code ≡ o.ecode → IsAccepted o → w ≡ first_content t → IsShaped t w
+    → e ≡ first_standing t code → StandsSafely t code e → Follows (first_seen o show w e) []
+new_follows_none o show t code w e same same_code accepted is shaped first safe =
+    let w_is : w ≡ first_content o.tables = is ∙ ap first_content same in
+    let e_is : e ≡ first_standing o.tables o.ecode = first ∙ ap₂ first_standing same same_code in
+    let s : StandsSafely o.tables o.ecode (first_standing o.tables o.ecode) =
+    subst (λ z. StandsSafely o.tables o.ecode z) e_is (subst (λ z. StandsSafely o.tables z e) same_code (subst (λ z. StandsSafely z code e) same safe)) in
+    let h : IsShaped o.tables (first_content o.tables) = subst (λ z. IsShaped o.tables z) w_is (subst (λ z. IsShaped z w) same shaped) in
+    subst (λ z. Follows (first_seen o show z e) []) (sym w_is)
+    (subst (λ z. Follows (first_seen o show (first_content o.tables) z) []) (sym e_is) (first_follows o show accepted s h))
+
+-- a machine that is made stands at the beginning
+pub first_is : (o : Object) (show : Shown) (w : Content) (e : Standing) (shows : List ℤ) (takes : List ℕ) (desk : rounds.Round) → shows ≡ w.values → takes ≡ map (λ (x : Inv). task_worst o.tables x.task) o.tables.invs → desk ≡ rounds.no_round
+    → ◌≡◌ {A = Seen} (record {
+      object = o;
+      show = show;
+      held = record { spent = false; reading = 0; shows = shows; takes = takes; world = w; desk = desk };
+      standing = e;
+      selection = None;
+      jobs = 0;
+      e = 0;
+      s = 0;
+    }) (first_seen o show w e)
+first_is o show w e shows takes desk a b d =
+    let make : List ℤ → List ℕ → rounds.Round → Seen =
+    λ shows takes desk. record { object = o; show = show; held = record { spent = false; reading = 0; shows = shows; takes = takes; world = w; desk = desk }; standing = e; selection = None; jobs = 0; e = 0; s = 0 } in
+    ap (λ z. make z takes desk) a ∙ ap (λ z. make w.values z desk) b ∙ ap (make w.values (map (λ (x : Inv). task_worst o.tables x.task) o.tables.invs)) d

@@ -1,0 +1,70 @@
+-- The totals: what an instant adds, and what events leave as it is.
+use Rattle.std.proofs.Common.{◌≡◌, ℕ, zero, suc, ◌+◌, ◌-◌, ◌^◌, min, ◌<◌, cond, eqb, List, [], ◌++◌, length, Option, Some, None, refl, sym, ap, ap₂, ◌∙◌, arith}
+use Rattle.std.specs.List.{count_by}
+use Rattle.htl_model.specs.declared.event.Event.{Event}
+use Rattle.htl_model.specs.Selections.{root_period}
+use Rattle.htl_model.specs.Tables.{Tables}
+use Rattle.htl_walk.specs.declared.schedule.SInstr.{SInstr}
+use Rattle.htl_smach.specs.declared.left.Left.{Left}
+use Rattle.htl_ecode.specs.declared.ecode.ECode.{ECode}
+use Rattle.htl_ecode.specs.Paths.{instant_path, e_path}
+use Rattle.htl_machine.specs.Turns.{count_before}
+use Rattle.htl_refine.specs.Records.{took}
+use Rattle.htl_refine.specs.Records.{Round as Plan}
+use Rattle.htl_machine.specs.Plans.{round_start}
+use Rattle.htl_refine.specs.Records.{walk_of}
+use Rattle.htl_machine.specs.Rounds.{plan_of}
+use Rattle.htl_machine.specs.Texts.{capped, sum_to, some_records, old_records, records_of, TotalsFollow}
+use Rattle.htl_machine.proofs.Events.{Alike, state_same, before_same}
+use Rattle.htl_machine.proofs.Following.{plan_same}
+use Rattle.htl_machine.proofs.Plain.{down}
+use Rattle.htl_machine.proofs.Writing.{capped_more}
+
+pub sum_same : (f g : ℕ → ℕ) (n : ℕ) → ((k : ℕ) → k < n → f k ≡ g k) → sum_to f n ≡ sum_to g n
+sum_same f g zero h = refl
+sum_same f g (suc n) h = ap₂ (λ a b. a + b) (sum_same f g n (λ k p. h k (omega arith))) (h n (omega arith))
+
+-- nothing is counted before the first instant
+pub totals_start : (t : Tables) (code : ECode) (schedules : List (List SInstr)) (es : List Event) → TotalsFollow t code schedules es 0 0 0 0
+totals_start t code schedules es = record { jobs_are = refl; e_are = refl; s_are = refl }
+
+-- an instant adds its records and its addresses
+pub totals_next : (t : Tables) (code : ECode) (schedules : List (List SInstr)) (es : List Event) (now jobs e s : ℕ) → TotalsFollow t code schedules es now jobs e s
+    → TotalsFollow t code schedules es (suc now)
+    (min (jobs + count_by (λ (l : Left). l.finished) (records_of t schedules es (root_period t) now)) (2 ^ 64 - 1))
+    (min (e + length (e_path t code es now)) (2 ^ 64 - 1))
+    (min (s + length (records_of t schedules es (root_period t) now)) (2 ^ 64 - 1))
+totals_next t code schedules es now jobs e s f =
+    let records = records_of t schedules es (root_period t) now in
+    record {
+      jobs_are = ap (λ z. min (z + count_by (λ (l : Left). l.finished) records) (2 ^ 64 - 1)) f.jobs_are ∙ sym (capped_more (sum_to (λ n. count_by (λ (l : Left). l.finished) (records_of t schedules es (root_period t) n)) now) (count_by (λ (l : Left). l.finished) records));
+      e_are = ap (λ z. min (z + length (e_path t code es now)) (2 ^ 64 - 1)) f.e_are ∙ sym (capped_more (sum_to (λ n. length (e_path t code es n)) now) (length (e_path t code es now)));
+      s_are = ap (λ z. min (z + length records) (2 ^ 64 - 1)) f.s_are ∙ sym (capped_more (sum_to (λ n. length (records_of t schedules es (root_period t) n)) now) (length records));
+    }
+
+-- events with the same records and addresses before an instant
+pub totals_same : (t : Tables) (code : ECode) (schedules : List (List SInstr)) (es fs : List Event) (now jobs e s : ℕ)
+    → ((n : ℕ) → n < now → records_of t schedules es (root_period t) n ≡ records_of t schedules fs (root_period t) n) → Alike t es fs now
+    → TotalsFollow t code schedules es now jobs e s → TotalsFollow t code schedules fs now jobs e s
+totals_same t code schedules es fs now jobs e s records alike f =
+    record {
+      jobs_are = f.jobs_are ∙ ap capped (sum_same _ _ now (λ n h. ap (λ (z : List Left). count_by (λ (l : Left). l.finished) z) (records n h)));
+      e_are = f.e_are ∙ ap capped (sum_same _ _ now (λ n h. path n h));
+      s_are = f.s_are ∙ ap capped (sum_same _ _ now (λ n h. ap (λ (z : List Left). length z) (records n h)));
+    }
+  where
+    path : (n : ℕ) → n < now → length (e_path t code es n) ≡ length (e_path t code fs n)
+    path n h = ap₂ (λ x y. length (instant_path t code n x y)) (before_same t es fs n (λ c u g. alike c u (omega arith))) (state_same t es fs now n alike h)
+
+-- records where plans agree
+pub records_alike : (t : Tables) (schedules : List (List SInstr)) (es fs : List Event) (now : ℕ) → Alike t es fs now → ((i u : ℕ) → took t es i u ≡ took t fs i u)
+    → (o : Option ℕ) (n : ℕ) → n < now → records_of t schedules es o n ≡ records_of t schedules fs o n
+records_alike t schedules es fs now alike tooks None n h = refl
+records_alike t schedules es fs now alike tooks (Some period) n h = ap₂ (λ a b. a ++ b) (old n h) (ap (λ (p : Plan). cond (eqb (round_start period n) n) (some_records p n 0 (count_before (suc n - n) (walk_of p))) []) (plan_same t schedules es fs now alike tooks n h))
+  where
+    old : (n : ℕ) → n < now → old_records (plan_of t schedules es) period n ≡ old_records (plan_of t schedules fs) period n
+    old zero h = refl
+    old (suc n) h =
+        let s = round_start period n in
+        ap (λ (p : Plan). some_records p s (count_before (suc n - s) (walk_of p)) (count_before (suc (suc n) - s) (walk_of p) - count_before (suc n - s) (walk_of p)))
+        (plan_same t schedules es fs now alike tooks s (omega (arith, down period n)))

@@ -1,0 +1,173 @@
+-- The S machine over an instant: which records it answers, when a round is over, and where it stands afterwards.
+use Rattle.std.proofs.Common.{◌≡◌, ℕ, zero, suc, ◌+◌, ◌-◌, ◌≤◌, ◌<◌, Bool, true, false, cond, ◌&&◌, leb, ltb, List, [], ◌∷◌, length, get_or, slice_get, replicate, Option, Some, None, option_map, refl, sym, ap, ap₂, ◌∙◌, arith}
+use Rattle.std.proofs.lemmas.Bool.{lt-ltb, le-ltb, le-leb}
+use Rattle.std.proofs.lemmas.Bool.Decides.{nat_tests}
+use Rattle.htl_walk.specs.declared.job.Job.{Job}
+use Rattle.htl_walk.specs.declared.schedule.SInstr.{SInstr}
+use Rattle.htl_walk.specs.declared.schedule.SInstr.TheVariants.{Dispatch, Idle, End}
+use Rattle.htl_walk.specs.Walk.{Point, Left, job_at, time_after, next_point, walk_from, walk, first_point, InForm}
+use Rattle.htl_smach.specs.Rounds as rounds
+use Rattle.htl_smach.specs.Rounds.{Round, begun, told, told_from, records, next_left, left_until, moved}
+use Rattle.htl_machine.specs.Turns.{count_before}
+use Rattle.htl_refine.specs.Records.{Round as Plan}
+use Rattle.htl_refine.specs.Records.{walk_of}
+use Rattle.htl_machine.specs.Follows.{released_before, DeskStands, DeskAt}
+use Rattle.htl_machine.proofs.Standing.{some_same, none_some}
+use Rattle.htl_machine.proofs.Turning.{at_count, before_count}
+
+length-walk : (jobs : List Job) (is : List SInstr) (x : Point) → length (walk_from jobs is x) ≡ length is
+length-walk jobs [] x = refl
+length-walk jobs (i ∷ is) x = ap suc (length-walk jobs is (next_point jobs i x))
+
+pub told_get : (start m : ℕ) (ls : List Left) (k : ℕ) → slice_get (told_from start m ls) k ≡ option_map (told start (m + k)) (slice_get ls k)
+told_get start m [] k = refl
+told_get start m (l ∷ ls) zero = ap (λ z. Some (told start z l)) (let e : m ≡ m + 0 = omega arith in e)
+told_get start m (l ∷ ls) (suc k) = told_get start (suc m) ls k ∙ ap (λ z. option_map (told start z) (slice_get ls k)) (let e : suc m + k ≡ m + suc k = omega arith in e)
+
+pub record_there : (ls : List Left) (k : ℕ) → k < length ls → (l : Left) × (slice_get ls k ≡ Some l)
+record_there [] k h = absurd (omega arith)
+record_there (l ∷ ls) zero h = (l, refl)
+record_there (l ∷ ls) (suc k) h = record_there ls k (omega arith)
+
+pub count_within : (e : ℕ) (ls : List Left) → count_before e ls ≤ length ls
+count_within e [] = omega arith
+count_within e (l ∷ ls) = by_test (ltb l.at e) (count_within e ls)
+  where
+    by_test : (b : Bool) → count_before e ls ≤ length ls → cond b (suc (count_before e ls)) 0 ≤ suc (length ls)
+    by_test true h = omega arith
+    by_test false h = omega arith
+
+module _ (p : Plan) (s now d : ℕ) (past : s ≤ now) where
+  abbrev pub ls : List Left
+  ls = walk_of p
+
+  record_of : (k : ℕ) (r : Round) → DeskAt p s k d r → slice_get (records r p.schedule) r.place ≡ option_map (told s k) (slice_get ls k)
+  record_of k r at =
+      ap (λ (x : Point). slice_get (told_from r.start 0 (walk_from r.jobs p.schedule x)) r.place) at.stands.first
+      ∙ ap₂ (λ (js : List Job) (ns : List ℕ). slice_get (told_from r.start 0 (walk js ns p.schedule)) r.place) at.jobs at.lengths
+      ∙ told_get r.start 0 ls r.place
+      ∙ ap₂ (λ a b. option_map (told a (0 + b)) (slice_get ls b)) at.start at.place
+      ∙ ap (λ z. option_map (told s z) (slice_get ls k)) (let e : 0 + k ≡ k = omega arith in e)
+
+  -- while records are left up to the instant, the next is answered
+  pub next_some : (k : ℕ) (r : Round) → DeskAt p s k d r → k < count_before (suc now - s) ls → (l : Left) × (slice_get ls k ≡ Some l) × (next_left r p.schedule now ≡ Some (told s k l))
+  next_some k r at h =
+      let few : k < length ls = omega (arith, count_within (suc now - s) ls) in
+      let l = record_there ls k few in
+      let early : l.0.at < suc now - s = before_count (suc now - s) ls k l.0 h l.1 in
+      let runs : r.running ≡ true = at.running ∙ lt-ltb k (length p.schedule) (omega (arith, length-walk p.jobs p.schedule (first_point p.jobs p.lengths))) in
+      let within : leb (s + l.0.at) now ≡ true = le-leb (s + l.0.at) now (omega (arith, early)) in (
+        l.0,
+        l.1,
+        ap (λ b. cond b (left_until now (slice_get (records r p.schedule) r.place)) None) runs
+            ∙ ap (left_until now) (record_of k r at ∙ ap (option_map (told s k)) l.1) ∙ ap (λ b. cond b (Some (told s k l.0)) None) within,
+      )
+
+  -- and then none
+  pub next_none : (k : ℕ) (r : Round) → DeskAt p s k d r → k ≡ count_before (suc now - s) ls → next_left r p.schedule now ≡ None
+  next_none k r at e =
+      ap (λ o. cond r.running (left_until now o) None) (record_of k r at) ∙ by_record (slice_get ls k) refl r.running
+    where
+      by_record : (o : Option Left) → slice_get ls k ≡ o → (b : Bool) → cond b (left_until now (option_map (told s k) o)) None ≡ None
+      by_record o f false = refl
+      by_record None f true = refl
+      by_record (Some l) f true =
+          let late : suc now - s ≤ l.at = at_count (suc now - s) ls l (sym (ap (slice_get ls) e) ∙ f) in
+          ap (λ b. cond b (Some (told s k l)) None) (late_test (s + l.at) now (omega (arith, late, past)))
+        where
+          late_test : (a b : ℕ) → b < a → leb a b ≡ false
+          late_test a b h = grind (arith, nat_tests)
+
+  -- a record that was answered moves it on
+  pub moves_on : (k : ℕ) (r : Round) → DeskAt p s k d r → rounds.Stands (moved r p.schedule) p.schedule → DeskAt p s (suc k) d (moved r p.schedule)
+  moves_on k r at st =
+      record {
+        start = at.start;
+        jobs = at.jobs;
+        lengths = at.lengths;
+        place = ap suc at.place;
+        running = ap (λ z. ltb (suc z) (length p.schedule)) at.place;
+        released = at.released;
+        stands = st;
+      }
+
+-- before the instant it stands at the records before it
+pub desk_opens : (p : Plan) (s now : ℕ) (r : Round) → DeskStands p s now r → DeskAt p s (count_before (now - s) (walk_of p)) (now - s) r
+desk_opens p s now r f =
+    record {
+      start = f.start;
+      jobs = f.jobs;
+      lengths = f.lengths;
+      place = f.place;
+      running = f.running ∙ ap (λ z. ltb z (length p.schedule)) f.place;
+      released = f.released;
+      stands = f.stands;
+    }
+
+-- and once all records of it are given and all releases told, it stands before the next
+pub desk_closes : (p : Plan) (s now : ℕ) (r : Round) → DeskAt p s (count_before (suc now - s) (walk_of p)) (suc now - s) r → DeskStands p s (suc now) r
+desk_closes p s now r at =
+    record {
+      start = at.start;
+      jobs = at.jobs;
+      lengths = at.lengths;
+      place = at.place;
+      running = at.running ∙ ap (λ z. ltb z (length p.schedule)) (sym at.place);
+      released = at.released;
+      stands = at.stands;
+    }
+
+-- ---- a round is over at the end of its period
+
+step_time : (now w r until period : ℕ) → now ≤ period → until ≤ period → time_after now w r until ≤ period
+step_time now zero r until period a b = a
+step_time now (suc w) r until period a b = omega arith
+
+pub times_within : (jobs : List Job) (count period : ℕ) (is : List SInstr) (x : Point) → InForm count period is → x.time ≤ period → (k : ℕ) (l : Left) → slice_get (walk_from jobs is x) k ≡ Some l → l.at ≤ period
+times_within jobs count period [] x f h k l e = none_some l e
+times_within jobs count period (End ∷ []) x f h zero l e = omega (arith, h, ap (λ (z : Left). z.at) (some_same _ _ e))
+times_within jobs count period (End ∷ []) x f h (suc k) l e = none_some l e
+times_within jobs count period (End ∷ j ∷ is) x f h k l e = absurd f.0
+times_within jobs count period (Dispatch q until ∷ is) x f h zero l e =
+    omega (arith, step_time x.time (get_or x.left q 0) (job_at jobs q).release until period h f.0.1, ap (λ (z : Left). z.at) (some_same _ _ e))
+times_within jobs count period (Dispatch q until ∷ is) x f h (suc k) l e =
+    times_within jobs count period is (next_point jobs (Dispatch q until) x) f.1 (step_time x.time (get_or x.left q 0) (job_at jobs q).release until period h f.0.1) k l e
+times_within jobs count period (Idle until ∷ is) x f h zero l e = omega (arith, h, f.0, ap (λ (z : Left). z.at) (some_same _ _ e))
+times_within jobs count period (Idle until ∷ is) x f h (suc k) l e = times_within jobs count period is (next_point jobs (Idle until) x) f.1 (omega (arith, h, f.0)) k l e
+
+count_all : (e : ℕ) (ls : List Left) → ((k : ℕ) (l : Left) → slice_get ls k ≡ Some l → l.at < e) → count_before e ls ≡ length ls
+count_all e [] h = refl
+count_all e (l ∷ ls) h = ap (λ b. cond b (suc (count_before e ls)) 0) (lt-ltb l.at e (h 0 l refl)) ∙ ap suc (count_all e ls (λ k m g. h (suc k) m g))
+
+-- then all its records are given
+pub is_over : (p : Plan) (s now d count period : ℕ) (r : Round) → InForm count period p.schedule → now ≡ s + period → DeskAt p s (count_before (suc now - s) (walk_of p)) d r → r.running ≡ false
+is_over p s now d count period r form e at =
+    let all : count_before (suc now - s) (walk_of p) ≡ length (walk_of p) =
+    count_all (suc now - s) (walk_of p)
+    (λ k l g. let z : l.at ≤ period = times_within p.jobs count period p.schedule (first_point p.jobs p.lengths) form (omega arith) k l g in omega arith) in
+    at.running ∙ le-ltb (count_before (suc now - s) (walk_of p)) (length p.schedule) (omega (arith, all, length-walk p.jobs p.schedule (first_point p.jobs p.lengths)))
+
+-- ---- a round begins
+
+none_released : (js : List Job) → replicate (length js) false ≡ released_before 0 js
+none_released [] = refl
+none_released (j ∷ js) = ap₂ (λ a b. a ∷ b) (by_present j.present) (none_released js)
+  where
+    none : (n : ℕ) → ltb n 0 ≡ false
+    none n = le-ltb n 0 (omega arith)
+
+    by_present : (b : Bool) → false ≡ (b && ltb j.release 0)
+    by_present true = sym (none j.release)
+    by_present false = refl
+
+pub desk_begins : (p : Plan) (s : ℕ) → 0 < length p.schedule → rounds.Stands (begun s p.jobs p.lengths) p.schedule → DeskAt p s 0 0 (begun s p.jobs p.lengths)
+desk_begins p s some st =
+    record {
+      start = refl;
+      jobs = refl;
+      lengths = refl;
+      place = refl;
+      running = sym (lt-ltb 0 (length p.schedule) some);
+      released = none_released p.jobs;
+      stands = st;
+    }

@@ -1,0 +1,150 @@
+-- A machine that follows events follows one event more.
+use Rattle.std.proofs.Common.{◌≡◌, ℕ, zero, suc, ◌+◌, ◌-◌, ◌≤◌, ◌<◌, Bool, true, false, cond, ◌&&◌, eqb, leb, List, [], ◌∷◌, ◌++◌, length, get_or, slice_get, set, map, Option, Some, None, IfSome, ℤ, pos, refl, sym, ap, ap₂, ◌∙◌, subst, arith}
+use mathlib.Core.Path.{fun_ext}
+use Rattle.std.proofs.lemmas.Bool.{eqb-true, eqb-false, le-leb}
+use Rattle.std.proofs.lemmas.Bool.Decides.{nat_tests}
+use Rattle.std.proofs.lemmas.List.{length-set, get_or-set_same, get_or-set_other}
+use Rattle.htl_model.specs.declared.event.Event.{Event}
+use Rattle.htl_model.specs.declared.event.Event.TheVariants as V
+use Rattle.htl_model.specs.declared.parts.Comm.{Comm}
+use Rattle.htl_model.specs.declared.parts.Inv.{Inv}
+use Rattle.htl_model.specs.declared.state.State.{State}
+use Rattle.htl_model.specs.Ranges.{FitsType}
+use Rattle.htl_model.specs.Selections.{root_period}
+use Rattle.htl_model.specs.Tables.{Tables}
+use Rattle.htl_model.specs.Meaning.{sense, before}
+use Rattle.htl_walk.specs.declared.job.Job.{Job}
+use Rattle.htl_walk.specs.declared.schedule.SInstr.{SInstr}
+use Rattle.htl_walk.specs.Jobs.{jobs_of}
+use Rattle.htl_smach.specs.Rounds.{Round}
+use Rattle.htl_emach.specs.Contents.{Content}
+use Rattle.htl_machine.specs.Values.{Stands, HasRead, ValuesFollow, HasPlaces}
+use Rattle.htl_machine.specs.Turns.{count_before, done_by, finished_in}
+use Rattle.htl_refine.specs.Records.{took, lengths_of, IsTookWithin, AreTookWithin}
+use Rattle.htl_refine.specs.Records.{Round as Plan}
+use Rattle.htl_machine.specs.Plans.{round_start, finished_before, next_world}
+use Rattle.htl_refine.specs.Records.{walk_of}
+use Rattle.htl_machine.specs.Rounds.{standing_of, selection_of, plan_of}
+use Rattle.htl_machine.specs.Follows.{Held, reading_of, period_or, DeskStands, DeskFollows, UpTo, Follows, IsLoaded, at_reading, shown_as, AreKept}
+use Rattle.htl_machine.proofs.Shaping.{has_places}
+use Rattle.htl_machine.proofs.Rounding.{read_before, values_carried}
+use Rattle.htl_machine.proofs.Events.{Alike, state_same, values_alike, reading_more, sense_at, sense_sense, took_at, took_sense}
+use Rattle.htl_machine.proofs.Plain.{down}
+
+pub within_more : (t : Tables) (es : List Event) (e : Event) → AreTookWithin t es → IsTookWithin t e → AreTookWithin t (es ++ e ∷ [])
+within_more t [] e a b = (b, tt)
+within_more t (x ∷ es) e a b = (a.0, within_more t es e a.1 b)
+
+-- ---- plans that agree
+
+module _ (t : Tables) (schedules : List (List SInstr)) (es fs : List Event) (now : ℕ) (alike : Alike t es fs now) where
+  pub jobs_same : (s : ℕ) → s < now → (plan_of t schedules es s).jobs ≡ (plan_of t schedules fs s).jobs
+  jobs_same s h = ap (λ (z : State). jobs_of t (standing_of t z.stays)) (state_same t es fs now s alike h)
+
+  pub code_same : (s : ℕ) → s < now → (plan_of t schedules es s).schedule ≡ (plan_of t schedules fs s).schedule
+  code_same s h = ap (λ (z : State). get_or schedules (selection_of t z.stays) []) (state_same t es fs now s alike h)
+
+  module _ (tooks : (i u : ℕ) → took t es i u ≡ took t fs i u) where
+    pub plan_same : (s : ℕ) → s < now → plan_of t schedules es s ≡ plan_of t schedules fs s
+    plan_same s h =
+        let lengths : (js : List Job) → lengths_of t es s js ≡ lengths_of t fs s js = λ js. ap (λ f. map f js) (fun_ext (λ (j : Job). tooks j.inv (s + j.release))) in
+        let P : List Job → List ℕ → List SInstr → Plan = λ js ns c. record { jobs = js; lengths = ns; schedule = c } in
+        ap (λ ns. P (plan_of t schedules es s).jobs ns (plan_of t schedules es s).schedule) (lengths (plan_of t schedules es s).jobs)
+        ∙ ap₂ (λ js c. P js (lengths_of t fs s js) c) (jobs_same s h) (code_same s h)
+
+    finished_alike : (period n i : ℕ) → n ≤ now → finished_before (plan_of t schedules es) period n i ≡ finished_before (plan_of t schedules fs) period n i
+    finished_alike period zero i h = refl
+    finished_alike period (suc n) i h =
+        let s = round_start period n in
+        ap (λ (p : Plan). finished_in p.jobs (done_by (walk_of p) (count_before (suc n - s) (walk_of p))) i) (plan_same s (omega (arith, down period n)))
+
+    desk_alike : (root : Option ℕ) (n : ℕ) (r : Round) → n ≤ now → DeskFollows (plan_of t schedules es) root n r → DeskFollows (plan_of t schedules fs) root n r
+    desk_alike None n r h f = f
+    desk_alike (Some period) zero r h f = f
+    desk_alike (Some period) (suc n) r h f = let s = round_start period n in subst (λ p. DeskStands p s (suc n) r) (plan_same s (omega (arith, down period n))) f
+
+-- ---- what a machine keeps of its values with other events
+
+module _ (t : Tables) (schedules : List (List SInstr)) (loaded : IsLoaded t schedules) (es : List Event) (within : AreTookWithin t es) where
+  kept : AreKept t schedules es
+  kept = loaded.rounds es within
+
+  -- who is finished has read
+  pub all_read : (now i : ℕ) (x : Inv) (s : ℕ) → Stands t (before t es now).stays i x s → finished_before (plan_of t schedules es) (period_or (root_period t)) now i ≡ true
+      → HasRead t now (finished_before (plan_of t schedules es) (period_or (root_period t)) now) x s
+  all_read now i x s st fin = read_before t loaded.range loaded.kept es (plan_of t schedules es) (period_or (root_period t)) kept.regular kept.sound now i x s st fin
+
+  values_same : (fs : List Event) (now : ℕ) (w : Content) → Alike t es fs now → ((i u : ℕ) → took t es i u ≡ took t fs i u)
+      → ValuesFollow t es now (finished_before (plan_of t schedules es) (period_or (root_period t)) now) w → ValuesFollow t fs now (finished_before (plan_of t schedules fs) (period_or (root_period t)) now) w
+  values_same fs now w alike tooks f =
+      subst (λ z. ValuesFollow t fs now z w) (fun_ext (λ i. finished_alike t schedules es fs now alike tooks (period_or (root_period t)) now i (omega arith)))
+      (values_alike t loaded.range loaded.kept es fs now (finished_before (plan_of t schedules es) (period_or (root_period t)) now) w alike (λ i x s st fin. all_read now i x s st fin) f)
+
+  -- a reading
+  pub read_follows : (to : ℕ) (m : Held) → m.spent ≡ false → UpTo t schedules es to m → Follows t schedules (es ++ V.At to ∷ []) (at_reading to m)
+  read_follows to m open_yet up =
+      let fs = es ++ V.At to ∷ [] in
+      let reading : reading_of 0 fs ≡ to = reading_more 0 es (V.At to) in
+      let alike : Alike t es fs to = (λ c u h. sym (sense_at t es to c u)) in
+      let tooks : (i u : ℕ) → took t es i u ≡ took t fs i u = (λ i u. sym (took_at t es to i u)) in
+      record {
+        fresh = open_yet;
+        reading = sym reading;
+        up_to =
+            record {
+              within = within_more t es (V.At to) within tt;
+              later = omega (arith, reading);
+              fits = up.fits;
+              shows = λ c u k h. sense_at t es to c u ∙ up.shows c u k (omega (arith, reading, up.later));
+              takes = λ i u k h. took_at t es to i u ∙ up.takes i u k (omega (arith, reading, up.later));
+              values = values_same fs to m.world alike tooks up.values;
+              shape = up.shape;
+              desk = desk_alike t schedules es fs to alike tooks (root_period t) to m.desk (omega arith) up.desk;
+            };
+      }
+
+  -- a sensor that shows another value from now on
+  pub sense_follows : (d : ℕ) (y : ℤ) (m : Held) → d < length t.comms → IfSome (slice_get t.comms d) (λ x. FitsType x.ty y) → Follows t schedules es m → Follows t schedules (es ++ V.Sense d y ∷ []) (shown_as d y m)
+  sense_follows d y m known fits f =
+      let fs = es ++ V.Sense d y ∷ [] in
+      let more : reading_of 0 fs ≡ reading_of 0 es = reading_more 0 es (V.Sense d y) in
+      let alike : Alike t es fs m.reading = (λ c u h. sym (sense_sense t es d c u y ∙ ap (λ b. cond b y (sense t es c u)) (early c u (omega (arith, f.reading))))) in
+      let tooks : (i u : ℕ) → took t es i u ≡ took t fs i u = (λ i u. sym (took_sense t es d i u y)) in
+      record {
+        fresh = f.fresh;
+        reading = f.reading ∙ sym more;
+        up_to =
+            record {
+              within = within_more t es (V.Sense d y) within tt;
+              later = omega (arith, more, f.up_to.later);
+              fits = record { count = length-set m.shows d y ∙ f.up_to.fits.count; fit = λ c x at. by_comm c x at (eqb c d) refl };
+              shows = λ c u k h. sense_sense t es d c u y ∙ by_test c u k (omega (arith, more)) (eqb c d) refl;
+              takes = λ i u k h. took_sense t es d i u y ∙ f.up_to.takes i u k (omega (arith, more));
+              values = values_same fs m.reading m.world alike tooks f.up_to.values;
+              shape = f.up_to.shape;
+              desk = desk_alike t schedules es fs m.reading alike tooks (root_period t) m.reading m.desk (omega arith) f.up_to.desk;
+            };
+      }
+    where
+      by_comm : (c : ℕ) (x : Comm) → slice_get t.comms c ≡ Some x → (b : Bool) → eqb c d ≡ b → FitsType x.ty (get_or (set m.shows d y) c (pos 0))
+      by_comm c x at true is =
+          let e : c ≡ d = eqb-true c d is in
+          let one : FitsType x.ty y = subst (λ o. IfSome o (λ z. FitsType z.ty y)) (sym (ap (slice_get t.comms) e) ∙ at) fits in
+          subst (FitsType x.ty) (sym (ap (λ i. get_or (set m.shows d y) i (pos 0)) e ∙ get_or-set_same m.shows d y (pos 0) (omega (arith, f.up_to.fits.count)))) one
+      by_comm c x at false is = subst (FitsType x.ty) (sym (get_or-set_other m.shows d c y (pos 0) (eqb-false c d is))) (f.up_to.fits.fit c x at)
+
+      early : (c u : ℕ) → u < reading_of 0 es → (eqb c d && leb (reading_of 0 es) u) ≡ false
+      early c u h = grind (arith, nat_tests)
+
+      by_test : (c u : ℕ) → c < length t.comms → reading_of 0 es ≤ u → (b : Bool) → eqb c d ≡ b → cond (b && leb (reading_of 0 es) u) y (sense t es c u) ≡ get_or (set m.shows d y) c (pos 0)
+      by_test c u k h true is =
+          let e : c ≡ d = eqb-true c d is in
+          ap (λ b. cond b y (sense t es c u)) (le-leb (reading_of 0 es) u h)
+          ∙ sym (ap (λ i. get_or (set m.shows d y) i (pos 0)) e ∙ get_or-set_same m.shows d y (pos 0) (omega (arith, f.up_to.fits.count)))
+      by_test c u k h false is = f.up_to.shows c u k h ∙ sym (get_or-set_other m.shows d c y (pos 0) (eqb-false c d is))
+
+  -- an instant, as far as the values go
+  pub instant_values : (now : ℕ) (m : Held) → UpTo t schedules es now m
+      → ValuesFollow t es (suc now) (finished_before (plan_of t schedules es) (period_or (root_period t)) (suc now)) (next_world t es (plan_of t schedules es) (period_or (root_period t)) now m.world)
+      × HasPlaces t (next_world t es (plan_of t schedules es) (period_or (root_period t)) now m.world)
+  instant_values now m up = values_carried t loaded.range loaded.kept es (plan_of t schedules es) (period_or (root_period t)) kept.regular kept.sound now m.world up.values (has_places t m.world loaded.range loaded.kept up.shape)

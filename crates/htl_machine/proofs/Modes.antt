@@ -1,0 +1,41 @@
+-- The modes of the modules, as the E machine answers them and as the meaning has them.
+use Rattle.std.proofs.Common.{◌≡◌, ℕ, zero, suc, ◌+◌, ◌<◌, List, [], ◌∷◌, ◌++◌, length, take, get_or, map, set, Option, Some, None, option_map, refl, sym, ap, ap₂, ◌∙◌, arith}
+use Rattle.std.proofs.lemmas.List.{ext_get_or, take_more, take_more_set, length-set}
+use Rattle.htl_model.specs.declared.event.Event.{Event}
+use Rattle.htl_model.specs.declared.state.Stay.{Stay}
+use Rattle.htl_model.specs.Ranges.{AreInRange}
+use Rattle.htl_model.specs.Meaning.{state, stay_of, mode_of}
+use Rattle.htl_model.specs.Tables.{Tables}
+use Rattle.htl_ecode.specs.declared.ecode.ECode.{ECode}
+use Rattle.htl_emach.specs.Calendars.{Calendar, list_at}
+use Rattle.htl_emach.specs.Pending.{Between}
+use Rattle.htl_refine.specs.Records.{modes_at}
+use Rattle.htl_refine.proofs.StateLaws.{states_are_selections}
+use Rattle.htl_machine.proofs.Agreeing.{modes_switched}
+
+list_get : (xs : List (Option ℕ)) (k : ℕ) → get_or xs k None ≡ list_at xs k
+list_get [] k = refl
+list_get (x ∷ xs) zero = refl
+list_get (x ∷ xs) (suc k) = list_get xs k
+
+-- one place more is noted
+pub one_noted : (xs ys zs : List (Option ℕ)) (k : ℕ) (o : Option ℕ) → k < length ys → length xs ≡ length ys → take k xs ≡ take k ys → o ≡ list_at ys k → zs ≡ set xs k o
+    → (take (k + 1) zs ≡ take (k + 1) ys) × (length zs ≡ length ys)
+one_noted xs ys zs k o less same front is noted = (
+  ap (take (k + 1)) noted ∙ take_more_set xs k o (omega (arith, less, same))
+      ∙ ap₂ (λ (ps : List (Option ℕ)) (p : Option ℕ). ps ++ p ∷ []) front (is ∙ sym (list_get ys k))
+      ∙ sym (take_more ys k None less),
+  ap length noted ∙ length-set xs k o ∙ same,
+)
+
+mode_there : (ys : List (Option Stay)) (k : ℕ) → mode_of (stay_of ys k) ≡ get_or (map (λ (o : Option Stay). option_map (λ y. y.mode) o) ys) k None
+mode_there [] k = refl
+mode_there (None ∷ ys) zero = refl
+mode_there (Some y ∷ ys) zero = refl
+mode_there (y ∷ ys) (suc k) = mode_there ys k
+
+-- once the switch phase is done the E machine's modes are those of the instant
+pub modes_are : (t : Tables) (code : ECode) (es : List Event) (now : ℕ) (c : Calendar) → AreInRange t → Between t code es now 2 c (length t.modules) → c.modes ≡ modes_at t es now
+modes_are t code es now c range b =
+    ext_get_or None c.modes (modes_at t es now) (b.sized.modes ∙ sym (states_are_selections t range es now).same)
+    (λ k h. list_get c.modes k ∙ modes_switched t code es now c range b k ∙ mode_there (state t es now).stays k)

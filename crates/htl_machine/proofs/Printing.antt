@@ -1,0 +1,209 @@
+-- The lines of records: one by one, and all that are due.
+use Rattle.std.proofs.Common.{◌≡◌, ℕ, zero, suc, ◌+◌, ◌-◌, ◌≤◌, ◌<◌, Bool, true, false, cond, List, [], ◌∷◌, ◌++◌, length, take, drop, slice_get, Option, Some, None, option_map, Result, Ok, Err, refl, sym, ap, ap₂, ◌∙◌, subst, arith, append_assoc, append-nil, ◌⊎◌, inl, inr}
+use Rattle.std.proofs.lemmas.Option.{slice_get_past}
+use Rattle.std.specs.Io.KnownBytes.{append_known}
+use Rattle.htl_edge.specs.Content.{Puts}
+use Rattle.htl_edge.proofs.Puts.{append_known-start, append_known-more, Puts-failed, Puts-second}
+use Rattle.htl_model.specs.Lists.{joined}
+use Rattle.htl_model.specs.Tables.{Tables}
+use Rattle.htl_walk.specs.declared.job.Job.{Job}
+use Rattle.htl_walk.specs.declared.schedule.SInstr.{SInstr}
+use Rattle.htl_smach.specs.declared.left.Left.{Left}
+use Rattle.htl_smach.specs.Rounds.{Round, next_left, after, told, told_from}
+use Rattle.htl_emach.specs.Contents.{Content}
+use Rattle.htl_console.specs.declared.shown.Shown.{Shown}
+use Rattle.htl_console.specs.Lines.{done_line, step_line}
+use Rattle.htl_console.specs.Shows.{shows_jobs}
+use Rattle.htl_machine.specs.declared.tally.Tally.{Tally}
+use Rattle.htl_machine.specs.Counts.{one_record, with_records}
+use Rattle.htl_refine.specs.Records.{Round as Plan}
+use Rattle.htl_refine.specs.Records.{walk_of}
+use Rattle.htl_machine.specs.Follows.{DeskAt}
+use Rattle.htl_machine.specs.Leaving.{due_by}
+use Rattle.htl_machine.specs.Recording.{IsRecording}
+use Rattle.htl_machine.specs.Printing.{Prints, Counted, IsPrinting}
+use Rattle.htl_machine.specs.Texts.{inv_at, slice_lines, record_text, some_records}
+use Rattle.htl_machine.specs.RecordLines.{place_lines, job_lines, record_lines}
+use Rattle.htl_machine.proofs.Standing.{some_same, none_some}
+use Rattle.htl_machine.proofs.Desking.{next_some, next_none, told_get}
+
+-- ---- the lines of one record
+
+pub job_told : {T E : Type 0} (t : Tables) (show : Shown) (jobs : List Job) (l : Left) (i : ℕ) (b : Bool) (old mid new : Option (List ℕ)) (before between now : ℕ) (result : Result T E)
+    → b ≡ shows_jobs show → b ≡ true → i ≡ inv_at jobs l.position → mid ≡ append_known old (slice_lines t i l.slice) → before ≤ between
+    → Puts mid new between now (cond l.finished (done_line t l.at i) []) result → Puts old new before now (job_lines t show jobs l) result
+job_told t show jobs l i b old mid new before between now result is shows inv was le puts =
+    let lines : ℕ → List ℕ = λ i. slice_lines t i l.slice ++ cond l.finished (done_line t l.at i) [] in
+    subst (λ z. Puts old new before now z result)
+    (ap lines inv ∙ sym (ap (λ z. cond z (lines (inv_at jobs l.position)) []) (sym is ∙ shows)))
+    (Puts-second old mid new before between now (slice_lines t i l.slice) (cond l.finished (done_line t l.at i) []) result was le puts)
+
+-- nothing is to be written
+pub nothing_put : {T E : Type 0} (old : Option (List ℕ)) (before : ℕ) (text : List ℕ) (u : T) → text ≡ [] → Puts {T = T} {E = E} old old before before text (Ok u)
+nothing_put old before text u e = record {
+  whole = append_known-start old ∙ ap (append_known old) (sym e);
+  part = tt;
+  cause = record { later = omega arith; refused = tt };
+}
+
+-- nothing was written
+pub nothing_written : {T E : Type 0} (old new : Option (List ℕ)) (before now : ℕ) (u : T) → new ≡ old → before ≤ now → Puts {T = T} {E = E} old new before now [] (Ok u)
+nothing_written old new before now u e later = record {
+  whole = e ∙ append_known-start old;
+  part = tt;
+  cause = record { later = later; refused = tt };
+}
+
+-- a round that doesn't run has no answer
+pub never : (r0 r : Round) → r ≡ r0 → r0.running ≡ false → r.running ≡ true → ⊥
+never r0 r e off on = let same : true ≡ false = sym on ∙ ap (λ (z : Round). z.running) e ∙ off in cc
+
+pub no_place : (code : List SInstr) (sel at k : ℕ) → length code ≤ k → place_lines code sel at k ≡ []
+no_place code sel at k h = ap (λ (o : Option SInstr). elim o [ Some x ↦ step_line at sel k x | None ↦ [] ]) (slice_get_past code k h)
+
+-- ---- lists
+
+pub joined-append : {A B : Type 0} (f : A → List B) (xs ys : List A) → joined f (xs ++ ys) ≡ joined f xs ++ joined f ys
+joined-append f [] ys = refl
+joined-append f (x ∷ xs) ys = ap (λ z. f x ++ z) (joined-append f xs ys) ∙ sym (append_assoc (f x) (joined f xs) (joined f ys))
+
+cut : {A : Type 0} (xs : List A) (n m : ℕ) (y : A) → slice_get xs n ≡ Some y → n < m → take m xs ≡ take n xs ++ (y ∷ take (m - suc n) (drop (suc n) xs))
+cut [] n m y e h = none_some y e
+cut (x ∷ xs) n zero y e h = absurd (omega (arith, h))
+cut (x ∷ xs) zero (suc m) y e h = ap₂ (λ a b. a ∷ take b xs) (some_same _ _ e) (let z : m ≡ suc m - suc zero = omega arith in z)
+cut (x ∷ xs) (suc n) (suc m) y e h =
+    ap (λ z. x ∷ z) (cut xs n m y e (omega (arith, h)))
+    ∙ ap (λ z. x ∷ (take n xs ++ (y ∷ take z (drop (suc n) xs)))) (let z : m - suc n ≡ suc m - suc (suc n) = omega arith in z)
+
+one_more : {A : Type 0} (xs : List A) (n : ℕ) (y : A) → slice_get xs n ≡ Some y → take (suc n) xs ≡ take n xs ++ y ∷ []
+one_more xs n y e = cut xs n (suc n) y e (omega arith) ∙ ap (λ m. take n xs ++ (y ∷ take m (drop (suc n) xs))) (let z : suc n - suc n ≡ 0 = omega arith in z)
+
+get_drop : {A : Type 0} (xs : List A) (k n : ℕ) → slice_get (drop k xs) n ≡ slice_get xs (k + n)
+get_drop xs zero n = ap (slice_get xs) (let z : n ≡ 0 + n = omega arith in z)
+get_drop [] (suc k) n = refl
+get_drop (x ∷ xs) (suc k) n = get_drop xs k n ∙ ap (slice_get (x ∷ xs)) (let z : suc (k + n) ≡ suc k + n = omega arith in z)
+
+with_more : (ls : List Left) (l : Left) (n : Tally) → with_records (ls ++ l ∷ []) n ≡ one_record l.finished (with_records ls n)
+with_more [] l n = refl
+with_more (x ∷ ls) l n = with_more ls l (one_record x.finished n)
+
+-- ---- an answer is the next of the records that are due
+
+record IsNext (p : Plan) (s k at : ℕ) (r : Round) (l : Left) : Type 0 where
+  less : r.place < due_by p s at
+  past : k ≤ r.place
+  there : slice_get (drop k (told_from s 0 (walk_of p))) (r.place - k) ≡ Some l
+
+next_is : (p : Plan) (s k m d at : ℕ) (r : Round) (code : List SInstr) (l : Left) → p.schedule ≡ code → s ≤ at → k ≤ m → m ≤ due_by p s at → DeskAt p s m d r → next_left r code at ≡ Some l → IsNext p s k at r l
+next_is p s k m d at r code l same past low few was e =
+    let less : m < due_by p s at = not_all (order m (due_by p s at) few) in
+    let x = next_some p s at d past m r was less in
+    let one : l ≡ told s m x.0 = some_same _ _ (sym e ∙ ap (λ c. next_left r c at) (sym same) ∙ x.2) in
+    record {
+      less = omega (arith, less, was.place);
+      past = omega (arith, low, was.place);
+      there =
+          get_drop (told_from s 0 (walk_of p)) k (r.place - k)
+          ∙ ap (slice_get (told_from s 0 (walk_of p))) (let z : k + (r.place - k) ≡ m = omega (arith, low, was.place) in z)
+          ∙ told_get s 0 (walk_of p) m
+          ∙ ap (option_map (told s (0 + m))) x.1
+          ∙ ap (λ z. Some (told s z x.0)) (let z : 0 + m ≡ m = omega arith in z)
+          ∙ ap (λ z. Some z) (sym one);
+    }
+  where
+    order : (a b : ℕ) → a ≤ b → (a < b) ⊎ (a ≡ b)
+    order a b h = grind arith
+
+    not_all : (m < due_by p s at) ⊎ (m ≡ due_by p s at) → m < due_by p s at
+    not_all (inl a) = a
+    not_all (inr b) = none_some l (sym (next_none p s at d past m r was b) ∙ ap (λ c. next_left r c at) same ∙ e)
+
+-- none is left
+all_given : (p : Plan) (s m d at : ℕ) (r : Round) (code : List SInstr) → p.schedule ≡ code → s ≤ at → m ≤ due_by p s at → DeskAt p s m d r → next_left r code at ≡ None → r.place ≡ due_by p s at
+all_given p s m d at r code same past few was e = elim (order m (due_by p s at) few) [
+  | inr b ↦ was.place ∙ b
+  | inl a ↦ let x = next_some p s at d past m r was a in none_some (told s m x.0) (sym e ∙ ap (λ c. next_left r c at) (sym same) ∙ x.2)
+]
+  where
+    order : (a b : ℕ) → a ≤ b → (a < b) ⊎ (a ≡ b)
+    order a b h = grind arith
+
+-- ---- the loop
+
+pub printing_start : (t : Tables) (show : Shown) (sel : ℕ) (r : Round) (code : List SInstr) (at : ℕ) (w : Option (List ℕ)) (f : ℕ) (n : Tally) → IsPrinting t show sel r r code at w w f f n n
+printing_start t show sel r code at w f n =
+    record {
+      later = omega arith;
+      text = λ p s k d same past few was. append_known-start w ∙ ap (λ m. append_known w (joined (record_text t show p sel) (some_records p s k m))) (none k was.place);
+      count = λ p s k d same past few was. ap (λ m. with_records (some_records p s k m) n) (none k was.place);
+    }
+  where
+    none : (k : ℕ) → r.place ≡ k → 0 ≡ r.place - k
+    none k e = omega (arith, e)
+
+-- the text of a record, by the plan
+line_is : (t : Tables) (show : Shown) (sel : ℕ) (p : Plan) (jobs : List Job) (code : List SInstr) (l : Left) → p.schedule ≡ code → p.jobs ≡ jobs → record_lines t show jobs code sel l ≡ record_text t show p sel l
+line_is t show sel p jobs code l same are = ap₂ (λ js c. record_lines t show js c sel l) (sym are) (sym same)
+
+pub printing_step : {T E : Type 0} (t : Tables) (show : Shown) (sel : ℕ) (r0 r n : Round) (u0 u : Content) (jobs : List Job) (code : List SInstr) (at : ℕ) (l : Left) (w0 w v : Option (List ℕ)) (f0 f g : ℕ) (n0 m m' : Tally) (x : T)
+    → IsRecording t r0 u0 r u jobs code at → IsPrinting t show sel r0 r code at w0 w f0 f n0 m → next_left r code at ≡ Some l → n ≡ after r code (Some l) → m' ≡ one_record l.finished m
+    → Puts {T = T} {E = E} w v f g (record_lines t show jobs code sel l) (Ok x) → IsPrinting t show sel r0 n code at w0 v f0 g n0 m'
+printing_step t show sel r0 r n u0 u jobs code at l w0 w v f0 f g n0 m m' x h i e next count puts =
+    let place : n.place ≡ suc r.place = ap (λ (z : Round). z.place) next in
+    record {
+      later = omega (arith, i.later, puts.cause.later);
+      text = λ p s k d same past few was.
+          let go = h.goes p s k d same past few was in
+          let is = next_is p s k go.0 d at r code l same past go.1 go.2 go.3 e in
+          append_known-more w0 w v (joined (record_text t show p sel) (some_records p s k (r.place - k))) (record_lines t show jobs code sel l) (i.text p s k d same past few was) puts.whole
+          ∙ ap (append_known w0) (
+          ap (λ z. joined (record_text t show p sel) (some_records p s k (r.place - k)) ++ z) (line_is t show sel p jobs code l same (sym go.3.jobs ∙ h.are) ∙ sym (append-nil (record_text t show p sel l)))
+          ∙ sym (joined-append (record_text t show p sel) (some_records p s k (r.place - k)) (l ∷ []))
+          ∙ ap (joined (record_text t show p sel)) (more p s k is place)
+          );
+      count = λ p s k d same past few was.
+          let go = h.goes p s k d same past few was in
+          let is = next_is p s k go.0 d at r code l same past go.1 go.2 go.3 e in
+          count ∙ ap (one_record l.finished) (i.count p s k d same past few was) ∙ sym (with_more (some_records p s k (r.place - k)) l n0) ∙ ap (λ ls. with_records ls n0) (more p s k is place);
+    }
+  where
+    more : (p : Plan) (s k : ℕ) → IsNext p s k at r l → n.place ≡ suc r.place → some_records p s k (r.place - k) ++ l ∷ [] ≡ some_records p s k (n.place - k)
+    more p s k is place =
+        sym (one_more (drop k (told_from s 0 (walk_of p))) (r.place - k) l is.there)
+        ∙ ap (some_records p s k) (let z : suc (r.place - k) ≡ n.place - k = omega (arith, place, is.past) in z)
+
+pub printing_cut : {T S E F : Type 0} (t : Tables) (show : Shown) (sel : ℕ) (r0 r : Round) (u0 u : Content) (jobs : List Job) (code : List SInstr) (at : ℕ) (l : Left) (w0 w v : Option (List ℕ)) (f0 f g : ℕ) (n0 m : Tally) (x : E) (y : F)
+    → IsRecording t r0 u0 r u jobs code at → IsPrinting t show sel r0 r code at w0 w f0 f n0 m → next_left r code at ≡ Some l
+    → Puts {T = T} {E = E} w v f g (record_lines t show jobs code sel l) (Err x) → Prints {T = S} {E = F} t show sel r0 code at w0 v f0 g (Err y)
+printing_cut {S = S} {F = F} t show sel r0 r u0 u jobs code at l w0 w v f0 f g n0 m x y h i e puts =
+    λ p s k d same past few was.
+    let go = h.goes p s k d same past few was in
+    let is = next_is p s k go.0 d at r code l same past go.1 go.2 go.3 e in
+    let text = record_text t show p sel in
+    let front = some_records p s k (r.place - k) in
+    let zs = drop k (told_from s 0 (walk_of p)) in
+    let rest = take (due_by p s at - k - suc (r.place - k)) (drop (suc (r.place - k)) zs) in
+    let whole : joined text front ++ (record_lines t show jobs code sel l ++ joined text rest) ≡ joined text (some_records p s k (due_by p s at - k)) =
+    ap (λ z. joined text front ++ (z ++ joined text rest)) (line_is t show sel p jobs code l same (sym go.3.jobs ∙ h.are))
+    ∙ sym (joined-append text front (l ∷ rest))
+    ∙ ap (joined text) (sym (cut zs (r.place - k) (due_by p s at - k) l is.there (omega (arith, is.less, is.past)))) in
+    subst (λ z. Puts {T = S} {E = F} w0 v f0 g z (Err y)) whole
+    (Puts-failed w0 w v f0 f g (joined text front) (record_lines t show jobs code sel l) (joined text rest) x y (i.text p s k d same past few was) i.later puts)
+
+pub printing_end : {T E : Type 0} (t : Tables) (show : Shown) (sel : ℕ) (r0 r : Round) (u0 u : Content) (jobs : List Job) (code : List SInstr) (at : ℕ) (w0 w : Option (List ℕ)) (f0 f : ℕ) (n0 m : Tally) (x : T)
+    → IsRecording t r0 u0 r u jobs code at → IsPrinting t show sel r0 r code at w0 w f0 f n0 m → next_left r code at ≡ None → Prints {T = T} {E = E} t show sel r0 code at w0 w f0 f (Ok x)
+printing_end t show sel r0 r u0 u jobs code at w0 w f0 f n0 m x h i e =
+    λ p s k d same past few was.
+    let go = h.goes p s k d same past few was in
+    record {
+      whole = i.text p s k d same past few was ∙ ap (λ z. append_known w0 (joined (record_text t show p sel) (some_records p s k (z - k)))) (all_given p s go.0 d at r code same past go.2 go.3 e);
+      part = tt;
+      cause = record { later = i.later; refused = tt };
+    }
+
+pub printing_counted : (t : Tables) (show : Shown) (sel : ℕ) (r0 r : Round) (u0 u : Content) (jobs : List Job) (code : List SInstr) (at : ℕ) (w0 w : Option (List ℕ)) (f0 f : ℕ) (n0 m : Tally)
+    → IsRecording t r0 u0 r u jobs code at → IsPrinting t show sel r0 r code at w0 w f0 f n0 m → next_left r code at ≡ None → Counted r0 code at n0 m
+printing_counted t show sel r0 r u0 u jobs code at w0 w f0 f n0 m h i e =
+    λ p s k d same past few was.
+    let go = h.goes p s k d same past few was in
+    i.count p s k d same past few was ∙ ap (λ z. with_records (some_records p s k (z - k)) n0) (all_given p s go.0 d at r code same past go.2 go.3 e)

@@ -1,0 +1,99 @@
+-- The read phase goes on by one instruction, and what it releases is told.
+use Rattle.std.proofs.Common.{◌≡◌, ℕ, List, [], ◌∷◌, ◌++◌, slice_get, Option, Some, None, refl, sym, ap, ◌∙◌}
+use Rattle.std.proofs.lemmas.List.{append-nil}
+use Rattle.htl_model.specs.declared.event.Event.{Event}
+use Rattle.htl_model.specs.Tables.{Tables}
+use Rattle.htl_walk.specs.declared.job.Job.{Job}
+use Rattle.htl_walk.specs.declared.schedule.SInstr.{SInstr}
+use Rattle.htl_smach.specs.declared.state.PosState.{PosState}
+use Rattle.htl_smach.specs.declared.state.PosState.TheVariants.{Absent, Pending, Ready, Done as Finished}
+use Rattle.htl_smach.specs.Rounds as rounds
+use Rattle.htl_smach.specs.Rounds.{Round, state_of}
+use Rattle.htl_ecode.specs.declared.ecode.ECode.{ECode}
+use Rattle.htl_ecode.specs.declared.instr.EInstr.{EInstr}
+use Rattle.htl_ecode.specs.declared.instr.EInstr.TheVariants as I
+use Rattle.htl_ecode.specs.Paths.{Done}
+use Rattle.htl_emach.specs.declared.trigger.EDone.{EDone}
+use Rattle.htl_emach.specs.Contents.{Content}
+use Rattle.htl_emach.specs.Shapes.{IsShaped}
+use Rattle.htl_emach.specs.Calendars.{Standing, content_after}
+use Rattle.htl_emach.specs.Safety.{StandsSafely}
+use Rattle.htl_emach.specs.Following.{Midway, Onward, phase_path, done_of}
+use Rattle.htl_machine.proofs.Going.{running_on, running_done}
+use Rattle.htl_machine.specs.Follows.{position_from}
+use Rattle.htl_machine.specs.Readiness.{made_ready, released_to, desk_does, desk_at, desk_replay, IsReadying}
+
+-- but for flags the round stays
+ready_only : (s : PosState) (r : Round) (p : ℕ) → made_ready s r p ≡ record r { released = (made_ready s r p).released }
+ready_only Pending r p = refl
+ready_only Absent r p = refl
+ready_only Ready r p = refl
+ready_only Finished r p = refl
+
+released_only : (i : ℕ) (r : Round) → released_to i r ≡ record r { released = (released_to i r).released }
+released_only i r = by_place (position_from 0 r.jobs i)
+  where
+    by_place : (o : Option ℕ) → (let x : Round = elim o as (λ _. Round) [ Some p ↦ made_ready (state_of r p) r p | None ↦ r ] in x ≡ record r { released = x.released })
+    by_place None = refl
+    by_place (Some p) = ready_only (state_of r p) r p
+
+does_only : (i : EInstr) (r : Round) → desk_does i r ≡ record r { released = (desk_does i r).released }
+does_only (I.Release i) r = released_only i r
+does_only (I.CallWrite a b) r = refl
+does_only (I.CallRead a b) r = refl
+does_only (I.Future a b c) r = refl
+does_only (I.JumpIf a b) r = refl
+does_only (I.Jump a) r = refl
+does_only (I.IfMode a b) r = refl
+does_only (I.Enter a) r = refl
+does_only I.Leave r = refl
+does_only (I.Fork a) r = refl
+does_only I.Return r = refl
+
+pub does_jobs : (i : EInstr) (r : Round) → (desk_does i r).jobs ≡ r.jobs
+does_jobs i r = ap (λ (z : Round). z.jobs) (does_only i r)
+
+at_only : (o : Option EInstr) (r : Round) → ((desk_at o r).jobs ≡ r.jobs) × ((desk_at o r).start ≡ r.start)
+at_only None r = (refl, refl)
+at_only (Some i) r = (does_jobs i r, ap (λ (z : Round). z.start) (does_only i r))
+
+pub replay_only : (code : ECode) (ds : List Done) (r : Round) → ((desk_replay code ds r).jobs ≡ r.jobs) × ((desk_replay code ds r).start ≡ r.start)
+replay_only code [] r = (refl, refl)
+replay_only code (d ∷ ds) r =
+    let one = at_only (slice_get code.instrs d.address) r in
+    let rest = replay_only code ds (desk_at (slice_get code.instrs d.address) r) in
+    (rest.0 ∙ one.0, rest.1 ∙ one.1)
+
+desk_more : (code : ECode) (ds : List Done) (d : Done) (r : Round) → desk_replay code (ds ++ d ∷ []) r ≡ desk_at (slice_get code.instrs d.address) (desk_replay code ds r)
+desk_more code [] d r = refl
+desk_more code (x ∷ ds) d r = desk_more code ds d (desk_at (slice_get code.instrs x.address) r)
+
+pub readying_start : (t : Tables) (code : ECode) (es : List Event) (at : ℕ) (m : Standing) (w : Content) (desk : Round) (jobs : List Job) → StandsSafely t code m → IsShaped t w → desk.jobs ≡ jobs
+    → Midway t code es at 3 m [] (phase_path t code es at 3) → IsReadying t code es at m w w desk desk jobs
+readying_start t code es at m w desk jobs safe shaped are mid =
+    record {
+      running = record { done = []; rest = phase_path t code es at 3; midway = mid; safe = safe; shaped = shaped; content = refl; values = λ two. refl };
+      are = are;
+      told = refl;
+      stands = λ s st. st;
+    }
+
+-- one instruction more
+pub readying_on : (t : Tables) (code : ECode) (es : List Event) (at : ℕ) (m next : Standing) (w after first : Content) (desk then before : Round) (jobs : List Job) (d : EDone)
+    → (h : IsReadying t code es at m w first desk before jobs) → StandsSafely t code next → IsShaped t after → Onward t code es at 3 next h.running.done h.running.rest (Some d) → after ≡ content_after t w (Some d)
+    → then ≡ desk_does d.instr desk → ((s : List SInstr) → rounds.Stands desk s → rounds.Stands then s) → IsReadying t code es at next after first then before jobs
+readying_on t code es at m next w after first desk then before jobs d h safe shaped on is told stands =
+    record {
+      running = running_on t code es at 3 m next w after first d h.running safe shaped on is;
+      are = ap (λ (z : Round). z.jobs) told ∙ does_jobs d.instr desk ∙ h.are;
+      told = told ∙ sym (ap (λ (o : Option EInstr). desk_at o desk) on.2) ∙ ap (desk_at (slice_get code.instrs d.address)) h.told ∙ sym (desk_more code h.running.done (done_of d) before)
+          ∙ sym (ap (λ ds. desk_replay code ds before) (running_done t code es at 3 m next w after first d h.running safe shaped on is));
+      stands = λ s st. stands s (h.stands s st);
+    }
+
+-- nothing is left
+pub readying_ends : (t : Tables) (code : ECode) (es : List Event) (at : ℕ) (m next : Standing) (w first : Content) (desk before : Round) (jobs : List Job) → (h : IsReadying t code es at m w first desk before jobs)
+    → Onward t code es at 3 next h.running.done h.running.rest None → desk ≡ desk_replay code (phase_path t code es at 3) before
+readying_ends t code es at m next w first desk before jobs h on =
+    let all : phase_path t code es at 3 ≡ h.running.done = h.running.midway.path ∙ ap (λ zs. h.running.done ++ zs) on.0 ∙ append-nil h.running.done in
+    h.told ∙ sym (ap (λ ds. desk_replay code ds before) all)

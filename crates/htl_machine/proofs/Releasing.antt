@@ -1,0 +1,251 @@
+-- The releases of an instant: exactly the invocations that stand and are released then, and the flags afterwards.
+use Rattle.std.proofs.Common.{◌≡◌, ◌≢◌, ℕ, zero, suc, ◌+◌, ◌-◌, ◌≤◌, ◌<◌, Bool, true, false, cond, ◌&&◌, eqb, ltb, List, [], ◌∷◌, ◌++◌, length, get_or, slice_get, set, Option, Some, None, refl, sym, ap, ap₂, ◌∙◌, subst, arith, ◌⊎◌, inl, inr}
+use Rattle.std.proofs.lemmas.Bool.{eqb-true, eq-eqb, lt-ltb, le-ltb}
+use Rattle.std.proofs.lemmas.List.{get_or-set_same, get_or-set_other, length-set, length-map}
+use Rattle.htl_model.specs.declared.parts.Inv.{Inv}
+use Rattle.htl_model.specs.declared.state.Stay.{Stay}
+use Rattle.htl_model.specs.Lists.{numbered}
+use Rattle.htl_model.specs.Tables.{Tables, mode_module, is_concrete, release}
+use Rattle.htl_model.specs.Meaning.{stay_of}
+use Rattle.htl_walk.specs.declared.job.Job.{Job}
+use Rattle.htl_ecode.specs.declared.instr.EInstr.TheVariants as I
+use Rattle.htl_ecode.specs.Offsets.{counts, next_offset}
+use Rattle.htl_ecode.specs.Chains.{Want, Does, Waits, Turns, Tests, Asks, Arrives, all_do, waits_for, block_chain}
+use Rattle.htl_ecode.specs.Chains as C
+use Rattle.htl_machine.specs.Worlds.{reads_at, all_reads}
+use Rattle.htl_machine.specs.Values.{Stands}
+use Rattle.htl_machine.specs.Casts.{IsCast}
+use Rattle.htl_machine.specs.Follows.{position_from, released_before}
+use Rattle.htl_machine.specs.Tellings.{tell_at, tell_want, tell_all}
+use Rattle.htl_machine.proofs.Standing.{IsStanding, some_same, none_some}
+use Rattle.htl_machine.proofs.Asked.{In, AsksFor, asks_left, do_right, asks_joined, joined_asks, asks_up_to, up_to_asks, numbered_in, in_numbered, copied, not_called, among_reads}
+use Rattle.htl_machine.proofs.Taking.{position_some, position_none}
+use Rattle.htl_machine.proofs.Plain.{apart, both}
+
+-- ---- who is asked for
+
+release_called : (t : Tables) (m o i : ℕ) → AsksFor (I.Release i) (block_chain t m 3 o) → (x : Inv) × (slice_get t.invs i ≡ Some x) × (counts t m x ≡ true) × (release t x ≡ o)
+release_called t m o i h = elim (among_reads (I.Release i) t m o (λ e. let z : ⊥ = cc in z) h) [
+  | inl a ↦ absurd (not_called (I.Release i) I.CallRead (λ x. x.reads) t m o (numbered 0 t.invs) (λ a b e. let z : ⊥ = cc in z) a)
+  | inr b ↦ let r = asks_joined (I.Release i) (C.release_of t m o) (numbered 0 t.invs) b in item r.0 r.1 (counts t m r.0.1 && eqb (release t r.0.1) o) refl r.2
+]
+  where
+    item : (n : ℕ × Inv) → In n (numbered 0 t.invs) → (b : Bool) → (counts t m n.1 && eqb (release t n.1) o) ≡ b → AsksFor (I.Release i) (all_do (cond b (I.Release n.0 ∷ []) []))
+        → (x : Inv) × (slice_get t.invs i ≡ Some x) × (counts t m x ≡ true) × (release t x ≡ o)
+    item n g false e a = absurd a
+    item n g true e (inr a) = absurd a
+    item n g true e (inl a) =
+        let same : n.0 ≡ i = cc in
+        let d = numbered_in t.invs 0 n g in
+        let b = both (counts t m n.1) (eqb (release t n.1) o) e in
+        (n.1, ap (slice_get t.invs) (let z : i ≡ d.0 = omega (arith, same, d.1) in z) ∙ d.2, b.0, eqb-true (release t n.1) o b.1)
+
+called_release : (t : Tables) (m o i : ℕ) (x : Inv) → slice_get t.invs i ≡ Some x → counts t m x ≡ true → release t x ≡ o → AsksFor (I.Release i) (block_chain t m 3 o)
+called_release t m o i x at c r =
+    let yes' : (counts t m x && eqb (release t x) o) ≡ true = all_true (counts t m x) (eqb (release t x) o) c (eq-eqb (release t x) o r) in
+    asks_left (I.Release i) (all_do (copied t m o ++ C.releases t m o)) (waits_for o 3 (next_offset t m 3 (suc o)) ++ Does I.Return ∷ [])
+    (do_right (I.Release i) (copied t m o) (C.releases t m o)
+    (joined_asks (I.Release i) (C.release_of t m o) (numbered 0 t.invs) (i, x)
+    (subst (λ z. In (z, x) (numbered 0 t.invs)) (let z : 0 + i ≡ i = omega arith in z) (in_numbered t.invs 0 i x at))
+    (subst (λ b. AsksFor (I.Release i) (all_do (cond b (I.Release i ∷ []) []))) (sym yes') (inl refl))))
+  where
+    all_true : (a b : Bool) → a ≡ true → b ≡ true → (a && b) ≡ true
+    all_true a b e f = grind arith
+
+module _ (t : Tables) (stays : List (Option Stay)) (n now : ℕ) (standing : IsStanding t stays n) (past : n ≤ now) where
+  -- who is asked for stands and is released now
+  pub release_of : (i : ℕ) → AsksFor (I.Release i) (all_reads t now stays) → (x : Inv) × (s : ℕ) × Stands t stays i x s × (s + release t x ≡ now)
+  release_of i h = let r = asks_up_to (I.Release i) (λ u. reads_at t now (stay_of stays u)) (length t.modules) h in by_stay r.0 (stay_of stays r.0) refl r.2
+    where
+      by_stay : (u : ℕ) (o : Option Stay) → stay_of stays u ≡ o → AsksFor (I.Release i) (reads_at t now o) → (x : Inv) × (s : ℕ) × Stands t stays i x s × (s + release t x ≡ now)
+      by_stay u None is a = absurd a
+      by_stay u (Some y) is a =
+          let c = release_called t y.mode (now - y.start) i a in
+          let b = both (eqb c.0.mode y.mode) (is_concrete t c.0) c.2 in
+          let mode : c.0.mode ≡ y.mode = eqb-true c.0.mode y.mode b.0 in (
+            c.0,
+            y.start,
+            record {
+              known = c.1;
+              concrete = b.1;
+              in_round = ap (λ m. stay_of stays (mode_module t m)) mode ∙ ap (stay_of stays) (standing.own u y is) ∙ is ∙ ap (λ m. Some (record { mode = m; start = y.start })) (sym mode);
+            },
+            omega (arith, c.3, standing.past u y is),
+          )
+
+  pub release_asks : (i s : ℕ) (x : Inv) → Stands t stays i x s → s + release t x ≡ now → AsksFor (I.Release i) (all_reads t now stays)
+  release_asks i s x st e =
+      let k = mode_module t x.mode in
+      let y : Stay = record { mode = x.mode; start = s } in
+      up_to_asks (I.Release i) (λ u. reads_at t now (stay_of stays u)) (length t.modules) k (standing.known k y st.in_round)
+      (subst (λ o. AsksFor (I.Release i) (reads_at t now o)) (sym st.in_round)
+      (called_release t x.mode (now - s) i x st.known (all_true (eqb x.mode x.mode) (is_concrete t x) (eq-eqb x.mode x.mode refl) st.concrete) (omega (arith, e))))
+    where
+      all_true : (a b : Bool) → a ≡ true → b ≡ true → (a && b) ≡ true
+      all_true a b e f = grind arith
+
+-- ---- the flags
+
+data Kind (x : Want) : Type 1 where
+  releases : (i : ℕ) → x ≡ Does (I.Release i) → Kind x
+  idles : ((jobs : List Job) (bs : List Bool) → tell_want jobs x bs ≡ bs) → ((i : ℕ) → x ≡ Does (I.Release i) → ⊥) → Kind x
+
+kind_of : (x : Want) → Kind x
+kind_of (Does (I.Release a)) = releases a refl
+kind_of (Does (I.CallWrite a b)) = idles (λ js bs. refl) (λ i e. let z : ⊥ = cc in z)
+kind_of (Does (I.CallRead a b)) = idles (λ js bs. refl) (λ i e. let z : ⊥ = cc in z)
+kind_of (Does (I.Future a b d)) = idles (λ js bs. refl) (λ i e. let z : ⊥ = cc in z)
+kind_of (Does (I.JumpIf a b)) = idles (λ js bs. refl) (λ i e. let z : ⊥ = cc in z)
+kind_of (Does (I.Jump a)) = idles (λ js bs. refl) (λ i e. let z : ⊥ = cc in z)
+kind_of (Does (I.IfMode a b)) = idles (λ js bs. refl) (λ i e. let z : ⊥ = cc in z)
+kind_of (Does (I.Enter a)) = idles (λ js bs. refl) (λ i e. let z : ⊥ = cc in z)
+kind_of (Does I.Leave) = idles (λ js bs. refl) (λ i e. let z : ⊥ = cc in z)
+kind_of (Does (I.Fork a)) = idles (λ js bs. refl) (λ i e. let z : ⊥ = cc in z)
+kind_of (Does I.Return) = idles (λ js bs. refl) (λ i e. let z : ⊥ = cc in z)
+kind_of (Waits d p) = idles (λ js bs. refl) (λ i e. let z : ⊥ = cc in z)
+kind_of (Turns d x) = idles (λ js bs. refl) (λ i e. let z : ⊥ = cc in z)
+kind_of (Tests k m x) = idles (λ js bs. refl) (λ i e. let z : ⊥ = cc in z)
+kind_of (Asks q) = idles (λ js bs. refl) (λ i e. let z : ⊥ = cc in z)
+kind_of (Arrives x) = idles (λ js bs. refl) (λ i e. let z : ⊥ = cc in z)
+
+tell_length : (o : Option ℕ) (bs : List Bool) → length (tell_at o bs) ≡ length bs
+tell_length None bs = refl
+tell_length (Some p) bs = length-set bs p true
+
+want_length : (jobs : List Job) (x : Want) (bs : List Bool) → Kind x → length (tell_want jobs x bs) ≡ length bs
+want_length jobs x bs (releases i e) = ap (λ z. length (tell_want jobs z bs)) e ∙ tell_length (position_from 0 jobs i) bs
+want_length jobs x bs (idles f g) = ap (λ (z : List Bool). length z) (f jobs bs)
+
+all_length : (jobs : List Job) (ws : List Want) (bs : List Bool) → length (tell_all jobs ws bs) ≡ length bs
+all_length jobs [] bs = refl
+all_length jobs (x ∷ xs) bs = all_length jobs xs (tell_want jobs x bs) ∙ want_length jobs x bs (kind_of x)
+
+-- a flag is that before, or true where the position's invocation is asked for
+abbrev pub Flagged : List Job → List Want → List Bool → ℕ → Type 0
+Flagged jobs ws bs p =
+    (((i : ℕ) → AsksFor (I.Release i) ws → position_from 0 jobs i ≡ Some p → ⊥) × (get_or (tell_all jobs ws bs) p false ≡ get_or bs p false))
+    ⊎ ((i : ℕ) × AsksFor (I.Release i) ws × (position_from 0 jobs i ≡ Some p) × (get_or (tell_all jobs ws bs) p false ≡ true))
+
+true_stays : (jobs : List Job) (ws : List Want) (bs : List Bool) (p : ℕ) → p < length bs → get_or bs p false ≡ true → get_or (tell_all jobs ws bs) p false ≡ true
+true_stays jobs [] bs p h e = e
+true_stays jobs (x ∷ xs) bs p h e = true_stays jobs xs (tell_want jobs x bs) p (omega (arith, want_length jobs x bs (kind_of x))) (by_kind (kind_of x))
+  where
+    by_kind : Kind x → get_or (tell_want jobs x bs) p false ≡ true
+    by_kind (idles f g) = ap (λ z. get_or z p false) (f jobs bs) ∙ e
+    by_kind (releases i f) = ap (λ z. get_or (tell_want jobs z bs) p false) f ∙ by_place (position_from 0 jobs i)
+      where
+        by_place : (o : Option ℕ) → get_or (tell_at o bs) p false ≡ true
+        by_place None = e
+        by_place (Some q) = elim (apart q p) [
+          | inl g ↦ ap (λ z. get_or (set bs z true) p false) g ∙ get_or-set_same bs p true false h
+          | inr n ↦ get_or-set_other bs q p true false (λ g. n (sym g)) ∙ e
+        ]
+
+pub are_flagged : (jobs : List Job) (ws : List Want) (bs : List Bool) (p : ℕ) → p < length bs → Flagged jobs ws bs p
+are_flagged jobs [] bs p h = inl (λ i a e. a, refl)
+are_flagged jobs (x ∷ xs) bs p h = by_kind (kind_of x) (are_flagged jobs xs (tell_want jobs x bs) p (omega (arith, want_length jobs x bs (kind_of x))))
+  where
+    by_kind : Kind x → Flagged jobs xs (tell_want jobs x bs) p → Flagged jobs (x ∷ xs) bs p
+    by_kind k (inr r) = inr (r.0, inr r.1, r.2, r.3)
+    by_kind (idles f g) (inl r) =
+        inl (λ i a e. elim a [ inl z ↦ g i z | inr z ↦ r.0 i z e ], r.1 ∙ ap (λ z. get_or z p false) (f jobs bs))
+    by_kind (releases i f) (inl r) = by_place (position_from 0 jobs i) refl
+      where
+        by_place : (o : Option ℕ) → position_from 0 jobs i ≡ o → Flagged jobs (x ∷ xs) bs p
+        by_place o e = by_same o (decide o)
+          where
+            decide : (o : Option ℕ) → (o ≡ Some p) ⊎ (o ≢ Some p)
+            decide None = inr (λ e. none_some p e)
+            decide (Some q) = elim (apart q p) [ inl g ↦ inl (ap (λ z. Some z) g) | inr n ↦ inr (λ e. n (some_same _ _ e)) ]
+
+            put : tell_want jobs x bs ≡ tell_at o bs
+            put = ap (λ z. tell_want jobs z bs) f ∙ ap (λ z. tell_at z bs) e
+
+            by_same : (q : Option ℕ) → (o ≡ Some p) ⊎ (o ≢ Some p) → Flagged jobs (x ∷ xs) bs p
+            by_same q (inl g) =
+                inr (i, inl f, e ∙ g, r.1 ∙ ap (λ z. get_or z p false) (put ∙ ap (λ z. tell_at z bs) g) ∙ get_or-set_same bs p true false h)
+            by_same q (inr n) =
+                inl (
+                  λ j a w. elim a [
+                    | inl z ↦ let same : i ≡ j = (let y : Does (I.Release i) ≡ Does (I.Release j) = sym f ∙ z in cc) in n (sym e ∙ ap (position_from 0 jobs) same ∙ w)
+                    | inr z ↦ r.0 j z w
+                  ],
+                  r.1 ∙ ap (λ z. get_or z p false) put ∙ kept o n,
+                )
+              where
+                kept : (o : Option ℕ) → (o ≢ Some p) → get_or (tell_at o bs) p false ≡ get_or bs p false
+                kept None n = refl
+                kept (Some a) n = get_or-set_other bs a p true false (λ g. n (ap (λ z. Some z) (sym g)))
+
+-- ---- one offset more
+
+same_bools : (xs ys : List Bool) → length xs ≡ length ys → ((k : ℕ) → k < length ys → get_or xs k false ≡ get_or ys k false) → xs ≡ ys
+same_bools [] [] e h = refl
+same_bools [] (y ∷ ys) e h = absurd (omega arith)
+same_bools (x ∷ xs) [] e h = absurd (omega arith)
+same_bools (x ∷ xs) (y ∷ ys) e h = ap₂ (λ a b. a ∷ b) (h 0 (omega arith)) (same_bools xs ys (omega arith) (λ k p. h (suc k) (omega arith)))
+
+pub flag_at : (d : ℕ) (js : List Job) (p : ℕ) (j : Job) → slice_get js p ≡ Some j → get_or (released_before d js) p false ≡ (j.present && ltb j.release d)
+flag_at d [] p j e = none_some j e
+flag_at d (k ∷ js) zero j e = ap (λ (z : Job). z.present && ltb z.release d) (some_same _ _ e)
+flag_at d (k ∷ js) (suc p) j e = flag_at d js p j e
+
+job_there : (js : List Job) (p : ℕ) → p < length js → (j : Job) × (slice_get js p ≡ Some j)
+job_there [] p h = absurd (omega arith)
+job_there (j ∷ js) zero h = (j, refl)
+job_there (j ∷ js) (suc p) h = job_there js p (omega arith)
+
+module _ (t : Tables) (stays : List (Option Stay)) (n now start : ℕ) (jobs : List Job) (standing : IsStanding t stays n) (past : n ≤ now) (begun : start ≤ now) (cast : IsCast t stays start jobs) where
+  -- after the read phase the releases of one offset more are told
+  pub flags_after : tell_all jobs (all_reads t now stays) (released_before (now - start) jobs) ≡ released_before (suc now - start) jobs
+  flags_after =
+      let bs = released_before (now - start) jobs in
+      let len : (d : ℕ) → length (released_before d jobs) ≡ length jobs = λ d. length-map jobs (λ j. j.present && ltb j.release d) in
+      same_bools (tell_all jobs (all_reads t now stays) bs) (released_before (suc now - start) jobs)
+      (all_length jobs (all_reads t now stays) bs ∙ len (now - start) ∙ sym (len (suc now - start)))
+      (λ p h.
+      let below : p < length jobs = omega (arith, len (suc now - start)) in
+      let j = job_there jobs p below in
+      by_flag p j.0 j.1 (are_flagged jobs (all_reads t now stays) bs p (omega (arith, len (now - start)))))
+    where
+      -- released now, or not
+      by_time : (b : Bool) (r : ℕ) → (b ≡ true → start + r ≢ now) → (b && ltb r (now - start)) ≡ (b && ltb r (suc now - start))
+      by_time false r h = refl
+      by_time true r h = elim (order r (now - start)) [
+        | inl a ↦ lt-ltb r (now - start) a ∙ sym (lt-ltb r (suc now - start) (omega arith))
+        | inr (inl a) ↦ absurd (h refl (omega arith))
+        | inr (inr a) ↦ le-ltb r (now - start) (omega arith) ∙ sym (le-ltb r (suc now - start) (omega arith))
+      ]
+        where
+          order : (a b : ℕ) → (a < b) ⊎ ((a ≡ b) ⊎ (b < a))
+          order a b = grind arith
+
+      by_flag : (p : ℕ) (j : Job) → slice_get jobs p ≡ Some j → Flagged jobs (all_reads t now stays) (released_before (now - start) jobs) p
+          → get_or (tell_all jobs (all_reads t now stays) (released_before (now - start) jobs)) p false ≡ get_or (released_before (suc now - start) jobs) p false
+      by_flag p j at (inr r) =
+          let st = release_of t stays n now standing past r.0 r.1 in
+          let w = position_some 0 jobs r.0 p r.2 in
+          let one : w.2 ≡ j = some_same _ _ (sym w.3 ∙ ap (slice_get jobs) (let z : w.0 ≡ p = omega (arith, w.1) in z) ∙ at) in
+          let h = cast.has r.0 st.0 st.1 st.2 in
+          let same : h.0 ≡ p = cast.once h.0 p h.1.job j h.1.at at h.1.present (ap (λ (z : Job). z.present) (sym one) ∙ w.4) (h.1.inv ∙ sym w.5 ∙ ap (λ (z : Job). z.inv) one) in
+          let job : h.1.job ≡ j = some_same _ _ (sym h.1.at ∙ ap (slice_get jobs) same ∙ at) in
+          let begin : st.1 ≡ start = cast.round r.0 st.0 st.1 st.2 in
+          let when : j.release < suc now - start = omega (arith, st.3, begin, h.1.release, ap (λ (z : Job). z.release) job) in
+          r.3 ∙ sym (flag_at (suc now - start) jobs p j at ∙ ap₂ (λ a b. a && b) (ap (λ (z : Job). z.present) (sym one) ∙ w.4) (lt-ltb j.release (suc now - start) when))
+      by_flag p j at (inl r) = r.1 ∙ flag_at (now - start) jobs p j at ∙ by_time j.present j.release not_now ∙ sym (flag_at (suc now - start) jobs p j at)
+        where
+          not_now : j.present ≡ true → start + j.release ≢ now
+          not_now here e =
+              let st = cast.stands p j at here in
+              let h = cast.has j.inv st.0 start st.1 in
+              let same : h.0 ≡ p = cast.once h.0 p h.1.job j h.1.at at h.1.present here h.1.inv in
+              let job : h.1.job ≡ j = some_same _ _ (sym h.1.at ∙ ap (slice_get jobs) same ∙ at) in
+              let asked = release_asks t stays n now standing past j.inv start st.0 st.1 (omega (arith, e, h.1.release, ap (λ (z : Job). z.release) job)) in
+              by_position (position_from 0 jobs j.inv) refl asked
+            where
+              by_position : (o : Option ℕ) → position_from 0 jobs j.inv ≡ o → AsksFor (I.Release j.inv) (all_reads t now stays) → ⊥
+              by_position None f asked = position_none 0 jobs j.inv p j f at here refl
+              by_position (Some q) f asked =
+                  let w = position_some 0 jobs j.inv q f in
+                  let same : w.0 ≡ p = cast.once w.0 p w.2 j w.3 at w.4 here w.5 in
+                  r.0 j.inv asked (f ∙ ap (λ z. Some z) (let z : q ≡ p = omega (arith, w.1, same) in z))

@@ -1,0 +1,140 @@
+-- The calls of the whole machine: each carries the triggers of the E machine with all else.
+use Rattle.std.proofs.Common.{◌≡◌, ℕ, suc, ◌+◌, ◌-◌, ◌^◌, min, ◌<◌, false, cond, ◌&&◌, eqb, leb, List, [], ◌∷◌, ◌++◌, length, slice_get, IfSome, ℤ, sym, ap, ◌∙◌, subst, arith}
+use Rattle.std.specs.List.{count_by}
+use Rattle.std.proofs.lemmas.Bool.Decides.{nat_tests}
+use Rattle.htl_model.specs.declared.event.Event.{Event}
+use Rattle.htl_model.specs.declared.event.Event.TheVariants as V
+use Rattle.htl_model.specs.Ranges.{FitsType}
+use Rattle.htl_model.specs.Selections.{root_period}
+use Rattle.htl_model.specs.Tables.{Tables}
+use Rattle.htl_model.specs.Meaning.{state, sense}
+use Rattle.htl_walk.specs.declared.schedule.SInstr.{SInstr}
+use Rattle.htl_smach.specs.declared.left.Left.{Left}
+use Rattle.htl_smach.specs.Rounds as rounds
+use Rattle.htl_smach.specs.Rounds.{Round}
+use Rattle.htl_ecode.specs.declared.ecode.ECode.{ECode}
+use Rattle.htl_ecode.specs.Spelling.{Spells}
+use Rattle.htl_ecode.specs.Paths.{e_path}
+use Rattle.htl_ecode.proofs.SpellingLaws.{spells_or_departs}
+use Rattle.htl_ecode.proofs.Spelled.{ModeReads, spelled_reads}
+use Rattle.htl_emach.specs.Calendars.{Standing, first_standing}
+use Rattle.htl_emach.specs.Safety.{StandsSafely}
+use Rattle.htl_emach.specs.Shapes.{IsShaped}
+use Rattle.htl_emach.specs.Following.{Midway, phase_path}
+use Rattle.htl_emach.proofs.Soundness.{sound}
+use Rattle.htl_emach.proofs.Instants.{follows_writes, reads_follows, first_follows}
+use Rattle.htl_emach.specs.Following as machines
+use Rattle.htl_refine.specs.Records.{IsTookWithin}
+use Rattle.htl_emach.specs.Contents.{Content}
+use Rattle.htl_machine.specs.Plans.{next_world}
+use Rattle.htl_machine.specs.Rounds.{plan_of}
+use Rattle.htl_machine.specs.Follows.{Held, reading_of, period_or, DeskFollows, IsLoaded, at_reading, shown_as, desk_taking, taken_as}
+use Rattle.htl_console.specs.declared.shown.Shown.{Shown}
+use Rattle.htl_machine.specs.Texts.{instant_text, records_of}
+use Rattle.htl_machine.specs.Machines.{Counts, Stands, Followed}
+use Rattle.htl_machine.specs.Wholes.{Whole, WholeFollowed, Passed}
+use Rattle.htl_machine.proofs.Events.{sense_at, sense_took, sense_sense}
+use Rattle.htl_machine.proofs.Meeting.{next_is, switch_values}
+use Rattle.htl_machine.proofs.Advancing.{instant_stands, read_stands, sense_stands, took_stands}
+use Rattle.htl_machine.proofs.Waking.{triggers_alike}
+
+-- what is counted at an instant
+abbrev pub counted : Tables → ECode → List (List SInstr) → List Event → ℕ → Counts → Counts
+counted t code schedules es now n =
+    record {
+      jobs = min (n.jobs + count_by (λ (l : Left). l.finished) (records_of t schedules es (root_period t) now)) (2 ^ 64 - 1);
+      e = min (n.e + length (e_path t code es now)) (2 ^ 64 - 1);
+      s = min (n.s + length (records_of t schedules es (root_period t) now)) (2 ^ 64 - 1);
+    }
+
+module _ (t : Tables) (code : ECode) (schedules : List (List SInstr)) (loaded : IsLoaded t schedules) (spelled : Spells t code) (show : Shown) where
+  pub modes_read : (m : ℕ) → m < length t.modes → ModeReads t code m
+  modes_read m inside = spelled_reads t code m ((spells_or_departs t code).0 spelled) inside
+
+  -- the write phase starts from what the machine holds
+  pub whole_starts : (es : List Event) (now : ℕ) (e : Standing) (m : Held) (n : Counts) (written : List ℕ) → Whole t code schedules show es now e m n written → Midway t code es now 1 e [] (phase_path t code es now 1)
+  whole_starts es now e m n written f = follows_writes t code es now e f.triggers
+
+  -- the values that the switch phase asks for
+  pub whole_values : (es : List Event) (now : ℕ) (e e1 : Standing) (m : Held) (n : Counts) (written : List ℕ) (w5 : Content) → Whole t code schedules show es now e m n written → (p : Passed t code schedules es now m.world w5 e1) → p.sensed.values ≡ (state t es now).values
+  whole_values es now e e1 m n written w5 f p =
+      switch_values t code schedules loaded modes_read es f.stands.up_to.within now m p.recorded p.wrote p.sensed f.stands.up_to p.records p.writes p.sensors
+
+  -- one instant: what the calls of both machines say carries all that the machine is asked for
+  pub whole_instant : (es : List Event) (now : ℕ) (e e1 : Standing) (m : Held) (n : Counts) (written new : List ℕ) (w5 : Content) (r : Round) → Whole t code schedules show es now e m n written
+      → Passed t code schedules es now m.world w5 e1 → DeskFollows (plan_of t schedules es) (root_period t) (suc now) r → new ≡ written ++ instant_text t code schedules es show now
+      → Whole t code schedules show es (suc now) e1 (record m { world = w5; desk = r }) (counted t code schedules es now n) new
+  whole_instant es now e e1 m n written new w5 r f p desk text =
+      let world : w5 ≡ next_world t es (plan_of t schedules es) (period_or (root_period t)) now m.world =
+      next_is t code schedules loaded modes_read es f.stands.up_to.within now m.world p.recorded p.wrote p.sensed p.switched w5 p.records p.writes p.sensors p.switches p.reads in
+      record {
+        triggers = reads_follows t code es now e1 (phase_path t code es now 3) [] (sound t code 12 (omega arith) loaded.range loaded.kept ((spells_or_departs t code).0 spelled)) p.ends;
+        safe = p.safe;
+        stands =
+            subst (λ w. Stands t code schedules show es (suc now) (record m { world = w; desk = r }) (counted t code schedules es now n) new) (sym world)
+            (instant_stands t code schedules loaded show es now m n written new r f.stands (subst (IsShaped t) world p.shaped) desk text);
+      }
+
+  -- a reading, once all instants before it are done
+  pub whole_reading : (es : List Event) (to : ℕ) (e : Standing) (m : Held) (n : Counts) (written : List ℕ) → m.spent ≡ false → Whole t code schedules show es to e m n written
+      → WholeFollowed t code schedules show (es ++ V.At to ∷ []) e (at_reading to m) n written
+  whole_reading es to e m n written open_yet f =
+      let g = read_stands t code schedules loaded show es to m n written open_yet f.stands in
+      record {
+        follows = g.follows;
+        whole =
+            record {
+              triggers = triggers_alike t loaded.range to code es (es ++ V.At to ∷ []) (λ c u h. sym (sense_at t es to c u)) e f.triggers;
+              safe = f.safe;
+              stands = g.stands;
+            };
+      }
+
+  -- a sensor
+  pub whole_sense : (es : List Event) (d : ℕ) (y : ℤ) (e : Standing) (m : Held) (n : Counts) (written : List ℕ) → d < length t.comms → IfSome (slice_get t.comms d) (λ x. FitsType x.ty y) → WholeFollowed t code schedules show es e m n written
+      → WholeFollowed t code schedules show (es ++ V.Sense d y ∷ []) e (shown_as d y m) n written
+  whole_sense es d y e m n written known fits f =
+      let g = sense_stands t code schedules loaded show es d y m n written known fits (record { follows = f.follows; stands = f.whole.stands }) in
+      record {
+        follows = g.follows;
+        whole =
+            record {
+              triggers =
+                  triggers_alike t loaded.range m.reading code es (es ++ V.Sense d y ∷ [])
+                  (λ c u h. sym (sense_sense t es d c u y ∙ ap (λ b. cond b y (sense t es c u)) (early c u (omega (arith, f.follows.reading, h))))) e f.whole.triggers;
+              safe = f.whole.safe;
+              stands = g.stands;
+            };
+      }
+    where
+      early : (c u : ℕ) → u < reading_of 0 es → (eqb c d && leb (reading_of 0 es) u) ≡ false
+      early c u h = grind (arith, nat_tests)
+
+  -- a length
+  pub whole_took : (es : List Event) (i k : ℕ) (e : Standing) (m : Held) (n : Counts) (written : List ℕ) → IsTookWithin t (V.Took i k) → i < length t.invs → length m.takes ≡ length t.invs
+      → ((c : List SInstr) → rounds.Stands m.desk c → rounds.Stands (desk_taking i k m.desk) c) → WholeFollowed t code schedules show es e m n written
+      → WholeFollowed t code schedules show (es ++ V.Took i k ∷ []) e (taken_as i k m) n written
+  whole_took es i k e m n written fits known long keeps f =
+      let g = took_stands t code schedules loaded show es i k m n written fits known long keeps (record { follows = f.follows; stands = f.whole.stands }) in
+      record {
+        follows = g.follows;
+        whole =
+            record {
+              triggers = triggers_alike t loaded.range m.reading code es (es ++ V.Took i k ∷ []) (λ c u h. sym (sense_took t es i k c u)) e f.whole.triggers;
+              safe = f.whole.safe;
+              stands = g.stands;
+            };
+      }
+
+  -- a new machine
+  pub whole_new : (m : Held) (n : Counts) (written : List ℕ) → StandsSafely t code (first_standing t code) → Followed t code schedules show [] m n written → WholeFollowed t code schedules show [] (first_standing t code) m n written
+  whole_new m n written safe f =
+      record {
+        follows = f.follows;
+        whole =
+            record {
+              triggers = subst (λ now. machines.Follows t code [] now (first_standing t code)) (sym f.follows.reading) (first_follows t code [] (sound t code 12 (omega arith) loaded.range loaded.kept ((spells_or_departs t code).0 spelled)));
+              safe = safe;
+              stands = f.stands;
+            };
+      }

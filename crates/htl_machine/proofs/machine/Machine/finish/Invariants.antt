@@ -1,0 +1,4 @@
+use Rattle.htl_machine.proofs.machine.Machine.finish.Given as goal
+
+abbrev pub ghost-pass : goal.ghost-pass
+ghost-pass g a = g.es

@@ -1,0 +1,24 @@
+use Rattle.std.proofs.Common.{◌≡◌, ◌≤◌, ℕ, Some, sym, ap, ◌∙◌, subst, List}
+use Rattle.htl_walk.specs.declared.job.Job.{Job}
+use Rattle.htl_walk.specs.Walk.{job_at}
+use Rattle.htl_smach.specs.Rounds.{Round, Stands}
+use Rattle.htl_machine.specs.Calls.{Seen, Follows, IsLength}
+use Rattle.htl_machine.specs.Follows.{position_from}
+use Rattle.htl_machine.proofs.Calling.{position_worst, took_follows}
+use Rattle.htl_machine.proofs.machine.Machine.took.Goals as goal
+
+pub take-requires-clause-worst : goal.take-requires-clause-worst
+take-requires-clause-worst g c =
+    subst (λ (js : List Job). (p : ℕ) → position_from 0 js c.args.inv ≡ Some p → c.args.length ≤ (job_at js p).worst) (sym (c.self.invariant.are (ap (λ (z : Seen). z.held.spent) c.self.view_is ∙ c.requires.0.kept.fresh)))
+    (λ p found.
+    position_worst _ g.es c.args.inv c.args.length p c.self.invariant.accepted
+    (subst (λ (z : Seen). IsLength z.object.tables c.args.inv c.args.length) (sym c.self.view_is) c.requires.1)
+    (subst (λ (z : Seen). Follows z g.es) (sym c.self.view_is) c.requires.0) found)
+
+pub returns-clause-follows : goal.returns-clause-follows
+returns-clause-follows g c =
+    rw (c.set.ensures, c.take.ensures.desk)
+    (took_follows _ g.es c.args.inv c.args.length c.self.invariant.accepted
+    (subst (λ (z : Seen). IsLength z.object.tables c.args.inv c.args.length) (sym c.self.view_is) c.requires.1)
+    (λ s h. subst (λ (r : Round). Stands r s) c.take.ensures.desk (c.take.ensures.stands s h))
+    (subst (λ (z : Seen). Follows z g.es) (sym c.self.view_is) c.requires.0))

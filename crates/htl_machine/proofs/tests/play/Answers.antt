@@ -1,0 +1,12 @@
+use Rattle.std.proofs.Common.{sym, subst, add-one}
+use Rattle.std.proofs.Math.Seq.{take-suc}
+use Rattle.htl_machine.specs.Calls.{Follows}
+use Rattle.htl_machine.proofs.tests.play.Goals as goal
+
+pub loop-k-preserved : goal.loop-k-preserved
+loop-k-preserved c =
+    let told = c.tell.ensures.follows c.if-not-tell.false in
+    record {
+      follows = rw add-one (subst (λ es. Follows c.tell.new.m es) (sym (take-suc c.args.events.now c.loop-k.k _ c.loop-k-test.true)) told);
+      tables = c.tell.ensures.tables;
+    }

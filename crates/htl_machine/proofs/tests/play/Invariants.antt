@@ -1,0 +1,15 @@
+use Rattle.std.proofs.Common.{◌≡◌, take}
+use Rattle.htl_machine.specs.Calls.{Follows}
+use Rattle.htl_machine.proofs.tests.play.Given as goal
+
+abbrev pub invariant-loop-k : goal.invariant-loop-k
+invariant-loop-k l = record {
+  follows : Follows l.m (take l.k l.events);
+  tables : l.m.object.tables ≡ l.t;
+}
+
+abbrev pub ghost-tell : goal.ghost-tell
+ghost-tell a = a.told.now
+
+abbrev pub ghost-end : goal.ghost-end
+ghost-end a = a.told.now

@@ -1,0 +1,161 @@
+-- What contracts see of a machine, what it follows, and what its calls write.
+use Rattle.std.specs.Prelude.{◌≡◌, ℕ, zero, suc, ◌+◌, ◌-◌, ◌≤◌, ◌<◌, Bool, false, true, List, [], length, get_or, map, slice_get, Option, Some, None, ℤ, pos}
+use Rattle.htl_model.specs.declared.event.Event.{Event}
+use Rattle.htl_model.specs.Lists.{up_to}
+use Rattle.htl_model.specs.Selections.{root_period}
+use Rattle.htl_model.specs.declared.parts.Comm.{Comm}
+use Rattle.htl_model.specs.declared.parts.Inv.{Inv}
+use Rattle.htl_model.specs.Ranges.{FitsType}
+use Rattle.htl_model.specs.Tables.{Tables, is_concrete, task_worst}
+use Rattle.htl_model.specs.Meaning.{sense, state}
+use Rattle.htl_walk.specs.declared.schedule.SInstr.{SInstr}
+use Rattle.htl_smach.specs.Rounds.{Round, no_round}
+use Rattle.htl_ecode.specs.declared.ecode.ECode.{ECode}
+use Rattle.htl_emach.specs.Calendars.{Standing}
+use Rattle.htl_emach.specs.Contents.{Content}
+use Rattle.htl_emach.specs.Following as machines
+use Rattle.htl_emach.specs.Safety.{StandsSafely}
+use Rattle.htl_emach.specs.Shapes.{HasValues, IsShaped}
+use Rattle.htl_refine.specs.Records.{AreTookWithin, took}
+use Rattle.htl_object.specs.declared.object.Object.{Object}
+use Rattle.htl_console.specs.declared.shown.Shown.{Shown}
+use Rattle.htl_machine.specs.Programs.{schedules_of, lines_of}
+use Rattle.htl_machine.specs.Plans.{round_start, finished_before}
+use Rattle.htl_machine.specs.Rounds.{plan_of, selection_of}
+use Rattle.htl_machine.specs.Values.{ValuesFollow}
+use Rattle.htl_machine.specs.Follows.{Held, reading_of, DeskFollows, period_or}
+use Rattle.htl_machine.specs.Lines.{e_done, jobs_done, s_done}
+
+-- what contracts see of a machine
+pub record Seen : Type 0 where
+  pub object : Object
+  pub show : Shown
+  -- what it keeps of the calls, its world, and the round of the S machine
+  pub held : Held
+  -- the E machine
+  pub standing : Standing
+  -- the root selection by whose schedule the round goes; none before the first round
+  pub selection : Option ℕ
+  -- the jobs done, the E instructions and the S instructions so far
+  pub jobs : ℕ
+  pub e : ℕ
+  pub s : ℕ
+
+-- the schedule of a selection, and its number; where there is none, this list and 0
+abbrev pub schedule_by : Object → List SInstr → Option ℕ → List SInstr
+schedule_by o idle (Some n) = get_or (schedules_of o) n []
+schedule_by o idle None = idle
+
+abbrev pub number_by : Option ℕ → ℕ
+number_by (Some n) = n
+number_by None = 0
+
+-- before instant 0, with these values and buffers and this E machine
+abbrev pub first_seen : Object → Shown → Content → Standing → Seen
+first_seen o show w m =
+    record {
+      object = o;
+      show = show;
+      held =
+          record {
+            spent = false;
+            reading = 0;
+            shows = w.values;
+            takes = map (λ (x : Inv). task_worst o.tables x.task) o.tables.invs;
+            world = w;
+            desk = no_round;
+          };
+      standing = m;
+      selection = None;
+      jobs = 0;
+      e = 0;
+      s = 0;
+    }
+
+-- ---- the three parts of what a machine follows
+
+-- what calls told it: it isn't spent, and keeps the last reading, what each sensor showed last, and how long the jobs of each
+-- invocation take that are released from now on
+pub record IsKept (t : Tables) (es : List Event) (m : Held) : Type 0 where
+  pub fresh : m.spent ≡ false
+  pub reading : m.reading ≡ reading_of 0 es
+  pub within : AreTookWithin t es
+  pub fits : HasValues t m.shows
+  pub shows : (c u : ℕ) → c < length t.comms → reading_of 0 es ≤ u → sense t es c u ≡ get_or m.shows c (pos 0)
+  pub takes : (i u : ℕ) → i < length t.invs → reading_of 0 es ≤ u → took t es i u ≡ get_or m.takes i 0
+  pub count : length m.takes ≡ length t.invs
+
+-- values, buffers, modes and triggers before an instant, where these jobs of the present rounds are finished
+pub record IsValued (t : Tables) (code : ECode) (es : List Event) (now : ℕ) (finished : ℕ → Bool) (w : Content) (m : Standing) (e : ℕ) : Type 0 where
+  pub values : ValuesFollow t es now finished w
+  pub shaped : IsShaped t w
+  pub triggers : machines.Follows t code es now m
+  pub safe : StandsSafely t code m
+  pub count : e ≡ e_done t code es now
+
+-- the round goes by the schedule of the selection that ran when it began
+abbrev pub GoesBy : Tables → List Event → Option ℕ → ℕ → Option ℕ → Type 0
+GoesBy t es None now selection = selection ≡ None
+GoesBy t es (Some period) zero selection = selection ≡ None
+GoesBy t es (Some period) (suc n) selection = selection ≡ Some (selection_of t (state t es (round_start period n)).stays)
+
+-- the round of the processor that began last before an instant
+pub record IsRecorded (t : Tables) (schedules : List (List SInstr)) (es : List Event) (now : ℕ) (r : Round) (selection : Option ℕ) (jobs s : ℕ) : Type 0 where
+  pub desk : DeskFollows (plan_of t schedules es) (root_period t) now r
+  pub goes : GoesBy t es (root_period t) now selection
+  pub jobs_are : jobs ≡ jobs_done t schedules es now
+  pub s_are : s ≡ s_done t schedules es now
+
+-- both halves before an instant
+pub record IsBefore (m : Seen) (es : List Event) (now : ℕ) : Type 0 where
+  pub values :
+      IsValued m.object.tables m.object.ecode es now
+      (finished_before (plan_of m.object.tables (schedules_of m.object) es) (period_or (root_period m.object.tables)) now) m.held.world m.standing m.e
+  pub records : IsRecorded m.object.tables (schedules_of m.object) es now m.held.desk m.selection m.jobs m.s
+
+-- before an instant that is no earlier than the last reading
+pub record IsUpTo (m : Seen) (es : List Event) (now : ℕ) : Type 0 where
+  pub kept : IsKept m.object.tables es m.held
+  pub before : IsBefore m es now
+
+-- a machine follows a list of events: all instants before the last reading are done
+pub record Follows (m : Seen) (es : List Event) : Type 0 where
+  pub kept : IsKept m.object.tables es m.held
+  pub before : IsBefore m es m.held.reading
+
+-- ---- what calls ask for
+
+-- a value of its type for a sensor
+pub record IsSensorValue (t : Tables) (c : ℕ) (x : ℤ) : Type 0 where
+  pub comm : Comm
+  pub known : slice_get t.comms c ≡ Some comm
+  pub sensor : comm.sensor ≡ true
+  pub fits : FitsType comm.ty x
+
+-- a length of a concrete invocation, from one tick to its worst case
+pub record IsLength (t : Tables) (i n : ℕ) : Type 0 where
+  pub inv : Inv
+  pub known : slice_get t.invs i ≡ Some inv
+  pub concrete : is_concrete t inv ≡ true
+  pub some : 1 ≤ n
+  pub worst : n ≤ task_worst t inv.task
+
+-- ---- what calls write and leave
+
+-- the text of the instants from `from` up to before `to`
+abbrev pub text_between : Object → List Event → Shown → ℕ → ℕ → List ℕ
+text_between o es show from to = up_to (λ n. lines_of o es show (from + n)) (to - from)
+
+-- no call changes what runs and what is shown
+pub record IsSameRun (old new : Seen) : Type 0 where
+  pub object : new.object ≡ old.object
+  pub show : new.show ≡ old.show
+
+-- all instants up to `to` are done, and nothing more can be: the values are those of the meaning at `to`, the numbers those of the run
+pub record IsFinished (m : Seen) (es : List Event) (to : ℕ) : Type 0 where
+  pub spent : m.held.spent ≡ true
+  pub reading : m.held.reading ≡ to
+  pub values : m.held.world.values ≡ (state m.object.tables es to).values
+  pub jobs : m.jobs ≡ jobs_done m.object.tables (schedules_of m.object) es (suc to)
+  pub e : m.e ≡ e_done m.object.tables m.object.ecode es (suc to)
+  pub s : m.s ≡ s_done m.object.tables (schedules_of m.object) es (suc to)

@@ -1,0 +1,42 @@
+-- The instructions of a phase while they are done: their lines, their number, and the releases that the S machine is told.
+use Rattle.std.specs.Prelude.{◌≡◌, ◌≤◌, ℕ, cond, eqb, List, [], length, Option}
+use Rattle.std.specs.Io.KnownBytes.{append_known}
+use Rattle.htl_model.specs.declared.event.Event.{Event}
+use Rattle.htl_model.specs.Lists.{joined}
+use Rattle.htl_model.specs.Tables.{Tables}
+use Rattle.htl_walk.specs.declared.schedule.SInstr.{SInstr}
+use Rattle.htl_smach.specs.Rounds as rounds
+use Rattle.htl_smach.specs.Rounds.{Round}
+use Rattle.htl_ecode.specs.declared.ecode.ECode.{ECode}
+use Rattle.htl_ecode.specs.declared.instr.EInstr.{EInstr}
+use Rattle.htl_ecode.specs.Paths as paths
+use Rattle.htl_emach.specs.Contents.{Content}
+use Rattle.htl_emach.specs.Calendars.{Standing}
+use Rattle.htl_machine.specs.Running.{IsRunning}
+use Rattle.htl_console.specs.declared.shown.Shown.{Shown}
+use Rattle.htl_console.specs.Lines.{instr_line}
+use Rattle.htl_console.specs.Shows.{shows_code}
+use Rattle.htl_machine.specs.declared.tally.Tally.{Tally}
+use Rattle.htl_machine.specs.Counts.{with_instrs}
+use Rattle.htl_machine.specs.Readiness.{desk_replay}
+use Rattle.htl_machine.specs.Texts.{e_line}
+
+-- the line of an instruction
+abbrev pub instr_lines : Tables → Shown → ℕ → ℕ → EInstr → List ℕ
+instr_lines t show at address i = cond (shows_code show) (instr_line t at address i) []
+
+-- the lines of these addresses
+abbrev pub path_lines : Tables → ECode → Shown → ℕ → List paths.Done → List ℕ
+path_lines t code show at ds = cond (shows_code show) (joined (e_line t code at) ds) []
+
+-- the read phase alone tells releases
+abbrev pub told_in_phase : ℕ → ECode → List paths.Done → Round → Round
+told_in_phase phase code ds r = cond (eqb phase 3) (desk_replay code ds r) r
+
+pub record IsDoing (t : Tables) (code : ECode) (es : List Event) (at phase : ℕ) (show : Shown) (m : Standing) (w first : Content) (r0 r : Round) (w0 w1 : Option (List ℕ)) (f0 f : ℕ) (n0 n : Tally) : Type 0 where
+  pub running : IsRunning t code es at phase m w first
+  pub later : f0 ≤ f
+  pub text : w1 ≡ append_known w0 (path_lines t code show at running.done)
+  pub count : n ≡ with_instrs (length running.done) n0
+  pub desk : r ≡ told_in_phase phase code running.done r0
+  pub stands : (s : List SInstr) → rounds.Stands r0 s → rounds.Stands r s

@@ -1,0 +1,153 @@
+-- When a machine follows tables, schedules and events.
+use Rattle.std.specs.Prelude.{◌≡◌, ℕ, zero, suc, ◌-◌, ◌≤◌, ◌<◌, Bool, false, ◌&&◌, cond, eqb, ltb, List, [], ◌∷◌, length, get_or, set, map, Option, Some, None, ℤ, pos}
+use Rattle.htl_model.specs.declared.event.Event.{Event}
+use Rattle.htl_model.specs.declared.event.Event.TheVariants as V
+use Rattle.htl_model.specs.Selections.{root_period}
+use Rattle.htl_model.specs.Tables.{Tables}
+use Rattle.htl_model.specs.Meaning.{sense}
+use Rattle.htl_walk.specs.declared.job.Job.{Job}
+use Rattle.htl_walk.specs.declared.schedule.SInstr.{SInstr}
+use Rattle.htl_walk.specs.Walk.{InForm}
+use Rattle.htl_emach.specs.Shapes.{HasValues, IsShaped}
+use Rattle.htl_smach.specs.Rounds as rounds
+use Rattle.htl_smach.specs.Rounds.{Round, no_round, state_of}
+use Rattle.htl_smach.specs.declared.state.PosState.{PosState}
+use Rattle.htl_smach.specs.declared.state.PosState.TheVariants.{Absent, Pending, Ready, Done}
+use Rattle.htl_model.specs.Ranges.{AreInRange}
+use Rattle.htl_model.specs.Broken.{KeptTo}
+use Rattle.htl_refine.specs.Records.{AreTookWithin, took}
+use Rattle.htl_emach.specs.Contents.{Content}
+use Rattle.htl_machine.specs.Values.{ValuesFollow}
+use Rattle.htl_machine.specs.Turns.{count_before}
+use Rattle.htl_refine.specs.Records.{Round as Plan}
+use Rattle.htl_machine.specs.Plans.{AreRegular, AreSound, round_start, finished_before}
+use Rattle.htl_refine.specs.Records.{walk_of}
+use Rattle.htl_machine.specs.Rounds.{plan_of}
+
+-- what contracts see of a machine, but for its triggers and totals
+pub record Held : Type 0 where
+  pub spent : Bool
+  pub reading : ℕ
+  -- what each sensor showed last, and how long the jobs of each invocation take that are released from now on
+  pub shows : List ℤ
+  pub takes : List ℕ
+  pub world : Content
+  pub desk : Round
+
+-- the last reading, where the one before the events was r
+abbrev pub reading_of : ℕ → List Event → ℕ
+reading_of r [] = r
+reading_of r (V.At t ∷ es) = reading_of t es
+reading_of r (V.Sense c x ∷ es) = reading_of r es
+reading_of r (V.Took i n ∷ es) = reading_of r es
+reading_of r (V.End t ∷ es) = reading_of r es
+
+-- ---- the record half
+
+-- the positions whose release falls before an offset
+abbrev pub released_before : ℕ → List Job → List Bool
+released_before d jobs = map (λ j. j.present && ltb j.release d) jobs
+
+-- the S machine stands in the round from s, all records before `now` given
+pub record DeskStands (p : Plan) (s now : ℕ) (r : Round) : Type 0 where
+  pub start : r.start ≡ s
+  pub jobs : r.jobs ≡ p.jobs
+  pub lengths : r.lengths ≡ p.lengths
+  pub place : r.place ≡ count_before (now - s) (walk_of p)
+  pub running : r.running ≡ ltb r.place (length p.schedule)
+  pub released : r.released ≡ released_before (now - s) p.jobs
+  pub stands : rounds.Stands r p.schedule
+
+-- before an instant the S machine stands in the round that began last before it
+abbrev pub DeskFollows : (ℕ → Plan) → Option ℕ → ℕ → Round → Type 0
+DeskFollows plan None now r = r ≡ no_round
+DeskFollows plan (Some period) zero r = r ≡ no_round
+DeskFollows plan (Some period) (suc n) r = DeskStands (plan (round_start period n)) (round_start period n) (suc n) r
+
+-- ---- the machine
+
+-- the period of the rounds; any where there is no module
+abbrev pub period_or : Option ℕ → ℕ
+period_or (Some p) = p
+period_or None = 1
+
+-- before the instant `now`, which is no earlier than the last reading
+pub record UpTo (t : Tables) (schedules : List (List SInstr)) (es : List Event) (now : ℕ) (m : Held) : Type 0 where
+  pub within : AreTookWithin t es
+  pub later : reading_of 0 es ≤ now
+  -- the values that sensors showed are of their types
+  pub fits : HasValues t m.shows
+  pub shows : (c u : ℕ) → c < length t.comms → reading_of 0 es ≤ u → sense t es c u ≡ get_or m.shows c (pos 0)
+  pub takes : (i u : ℕ) → i < length t.invs → reading_of 0 es ≤ u → took t es i u ≡ get_or m.takes i 0
+  pub values : ValuesFollow t es now (finished_before (plan_of t schedules es) (period_or (root_period t)) now) m.world
+  -- each value, input and output is of its type
+  pub shape : IsShaped t m.world
+  pub desk : DeskFollows (plan_of t schedules es) (root_period t) now m.desk
+
+-- at the last reading
+pub record Follows (t : Tables) (schedules : List (List SInstr)) (es : List Event) (m : Held) : Type 0 where
+  pub fresh : m.spent ≡ false
+  pub reading : m.reading ≡ reading_of 0 es
+  pub up_to : UpTo t schedules es m.reading m
+
+-- ---- inside an instant
+
+-- the S machine stands in the round from s, k of its records given, the releases before an offset told
+pub record DeskAt (p : Plan) (s k d : ℕ) (r : Round) : Type 0 where
+  pub start : r.start ≡ s
+  pub jobs : r.jobs ≡ p.jobs
+  pub lengths : r.lengths ≡ p.lengths
+  pub place : r.place ≡ k
+  pub running : r.running ≡ ltb k (length p.schedule)
+  pub released : r.released ≡ released_before d p.jobs
+  pub stands : rounds.Stands r p.schedule
+
+-- the schedule of each round is in form
+abbrev pub AreInForm : Tables → List (List SInstr) → List Event → ℕ → Type 0
+AreInForm t schedules es period = (n : ℕ) → let r = plan_of t schedules es (round_start period n) in InForm (length r.jobs) period r.schedule
+
+-- every round is sound, and its schedule in form; without modules there is no schedule
+pub record AreKept (t : Tables) (schedules : List (List SInstr)) (es : List Event) : Type 0 where
+  pub regular : AreRegular t es (period_or (root_period t))
+  pub sound : AreSound t es (plan_of t schedules es) (period_or (root_period t))
+  pub form : (period : ℕ) → root_period t ≡ Some period → AreInForm t schedules es period
+
+-- tables in range that keep the form rules, with schedules that serve every round
+pub record IsLoaded (t : Tables) (schedules : List (List SInstr)) : Type 0 where
+  pub range : AreInRange t
+  pub kept : KeptTo t 12
+  pub rounds : (es : List Event) → AreTookWithin t es → AreKept t schedules es
+
+-- ---- what the calls of a machine do to what it keeps
+
+abbrev pub at_reading : ℕ → Held → Held
+at_reading to m = record m { reading = to }
+
+abbrev pub shown_as : ℕ → ℤ → Held → Held
+shown_as c x m = record m { shows = set m.shows c x }
+
+abbrev pub with_length : Round → ℕ → ℕ → Round
+with_length r p n =
+    record r { lengths = set r.lengths p n; first = record r.first { left = set r.first.left p n }; point = record r.point { left = set r.point.left p n } }
+
+abbrev pub later_or : Option ℕ → Option ℕ → Option ℕ
+later_or (Some p) o = Some p
+later_or None o = o
+
+-- the last position of an invocation, counted from q: that of its present round
+abbrev pub position_from : ℕ → List Job → ℕ → Option ℕ
+position_from q [] i = None
+position_from q (j ∷ js) i = later_or (position_from (suc q) js i) (cond (j.present && eqb j.inv i) (Some q) None)
+
+abbrev pub set_pending : PosState → Round → ℕ → ℕ → Round
+set_pending Pending r p n = with_length r p n
+set_pending Absent r p n = r
+set_pending Ready r p n = r
+set_pending Done r p n = r
+
+-- a pending job of the invocation takes so long
+abbrev pub desk_taking : ℕ → ℕ → Round → Round
+desk_taking i n r = elim (position_from 0 r.jobs i) [ Some p ↦ set_pending (state_of r p) r p n | None ↦ r ]
+
+abbrev pub taken_as : ℕ → ℕ → Held → Held
+taken_as i n m = record m { takes = set m.takes i n; desk = desk_taking i n m.desk }

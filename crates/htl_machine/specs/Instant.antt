@@ -1,0 +1,38 @@
+-- How the machine stands as an instant begins, and what it owes once the instant is done.
+use Rattle.std.specs.Prelude.{◌≡◌, ◌≤◌, ℕ, ◌-◌, true, List, length}
+use Rattle.htl_model.specs.declared.event.Event.{Event}
+use Rattle.htl_model.specs.Lists.{joined}
+use Rattle.htl_model.specs.Selections.{root_period}
+use Rattle.htl_walk.specs.declared.schedule.SInstr.{SInstr}
+use Rattle.htl_smach.specs.Rounds.{Round, Stands, IsInForm, IsTold}
+use Rattle.htl_emach.specs.Contents.{Content}
+use Rattle.htl_refine.specs.Records.{Round as Plan}
+use Rattle.htl_machine.specs.Calls.{Seen, number_by}
+use Rattle.htl_machine.specs.Follows.{DeskAt, period_or}
+use Rattle.htl_machine.specs.Leaving.{due_by}
+use Rattle.htl_machine.specs.Plans.{with_records}
+use Rattle.htl_machine.specs.Programs.{schedules_of}
+use Rattle.htl_machine.specs.Recording.{AreOf, Records}
+use Rattle.htl_machine.specs.Rounds.{plan_of}
+use Rattle.htl_machine.specs.Texts.{record_text, round_texts, some_records}
+
+-- before an instant the S machine stands in a round that goes by this schedule, or in none, by an empty one
+pub record IsReadyAt (m : Seen) (es : List Event) (now : ℕ) (steps : List SInstr) : Type 0 where
+  pub plan : Plan
+  pub start : ℕ
+  pub place : ℕ
+  pub offset : ℕ
+  pub same : plan.schedule ≡ steps
+  pub past : start ≤ now
+  pub few : place ≤ due_by plan start now
+  pub was : DeskAt plan start place offset m.held.desk
+  pub of : AreOf m.object.tables m.held.desk.jobs
+  pub form : m.held.desk.running ≡ true → IsInForm m.held.desk steps
+  pub short : length steps ≤ 4294967295
+  pub stands : Stands m.held.desk steps
+  pub told : IsTold m.held.desk now
+  -- what its records do to the world, and what they show
+  pub recorded : (d : Round) (v : Content) → Records m.object.tables m.held.desk m.held.world d v steps now
+      → v ≡ with_records m.object.tables (plan_of m.object.tables (schedules_of m.object) es) (period_or (root_period m.object.tables)) now m.held.world
+  pub lines : joined (record_text m.object.tables m.show plan (number_by m.selection)) (some_records plan start place (due_by plan start now - place))
+      ≡ (round_texts m.object.tables m.object.ecode (schedules_of m.object) es m.show (root_period m.object.tables) now).0

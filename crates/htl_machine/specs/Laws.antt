@@ -1,0 +1,53 @@
+-- The laws of a run, over definitions alone.
+use Rattle.std.specs.Prelude.{◌≡◌, ◌≤◌, ◌<◌, ℕ, List, [], ◌∷◌, ◌++◌, Some}
+use Rattle.htl_model.specs.declared.event.Event.{Event}
+use Rattle.htl_model.specs.declared.event.Event.TheVariants as V
+use Rattle.htl_model.specs.Lines.{lines_text}
+use Rattle.htl_model.specs.Lists.{up_to}
+use Rattle.htl_model.specs.Meaning.{sense, value_lines}
+use Rattle.htl_model.specs.Selections.{root_period}
+use Rattle.htl_object.specs.declared.object.Object.{Object}
+use Rattle.htl_object.specs.Accepted.{IsAccepted}
+use Rattle.htl_refine.specs.Records.{AreTookWithin}
+use Rattle.htl_console.specs.declared.shown.Shown.{Shown}
+use Rattle.htl_console.specs.declared.shown.Shown.TheVariants.{Values}
+use Rattle.htl_machine.specs.Follows.{reading_of, IsLoaded}
+use Rattle.htl_machine.specs.Rounds.{plan_of}
+use Rattle.htl_machine.specs.Served.{AllServed}
+use Rattle.htl_machine.specs.Programs.{schedules_of, before_of}
+
+-- of an accepted object every round is sound: its jobs are those of the invocations that stand, and it meets
+abbrev pub AcceptedIsLoaded : Type 0
+AcceptedIsLoaded = (o : Object) → IsAccepted o → IsLoaded o.tables (schedules_of o)
+
+-- of an accepted object, whatever the sensors show and however long the jobs take within their worst cases: each job of each round
+-- whose window ended by the end of the run is done once, within its window, in slices of its own that follow its predecessors;
+-- without modules there are no rounds
+abbrev pub EveryJobInTime : Type 0
+EveryJobInTime =
+    (o : Object) (es : List Event) (period end : ℕ) → IsAccepted o → AreTookWithin o.tables es → root_period o.tables ≡ Some period
+    → AllServed (plan_of o.tables (schedules_of o) es) period end
+
+-- where values and modes alone are shown, the text is that of the meaning: it knows no code, no schedule and no length
+abbrev pub ValuesAreTheMeaning : Type 0
+ValuesAreTheMeaning = (o : Object) (es : List Event) (now : ℕ) → before_of o es Values now ≡ up_to (λ n. lines_text o.tables (value_lines o.tables es n)) now
+
+-- so it is the same for all objects of the same tables, and for all events under which the sensors show the same before then
+abbrev pub SensorsDecide : Type 0
+SensorsDecide =
+    (o p : Object) (es fs : List Event) (now : ℕ) → o.tables ≡ p.tables → ((c u : ℕ) → u < now → sense o.tables es c u ≡ sense o.tables fs c u)
+    → before_of o es Values now ≡ before_of p fs Values now
+
+-- the values and lengths of these events are read at `now` or later, where the last reading before them is r
+abbrev pub AreReadFrom : ℕ → ℕ → List Event → Type 0
+AreReadFrom now r [] = Unit {0}
+AreReadFrom now r (V.At to ∷ es) = AreReadFrom now to es
+AreReadFrom now r (V.Sense c x ∷ es) = (now ≤ r) × AreReadFrom now r es
+AreReadFrom now r (V.Took i n ∷ es) = (now ≤ r) × AreReadFrom now r es
+AreReadFrom now r (V.End to ∷ es) = AreReadFrom now r es
+
+-- the text before an instant depends on nothing that is read then or later
+abbrev pub LaterEventsLeaveText : Type 0
+LaterEventsLeaveText =
+    (o : Object) (es later : List Event) (show : Shown) (now : ℕ) → IsAccepted o → AreTookWithin o.tables (es ++ later) → AreReadFrom now (reading_of 0 es) later
+    → before_of o (es ++ later) show now ≡ before_of o es show now

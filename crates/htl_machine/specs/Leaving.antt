@@ -1,0 +1,27 @@
+-- The S machine while the records of an instant are left.
+use Rattle.std.specs.Prelude.{◌≡◌, ◌≤◌, ℕ, suc, ◌-◌, true, List}
+use Rattle.htl_walk.specs.declared.schedule.SInstr.{SInstr}
+use Rattle.htl_smach.specs.Rounds.{Round, Stands, IsInForm, IsTold}
+use Rattle.htl_machine.specs.Turns.{count_before}
+use Rattle.htl_refine.specs.Records.{Round as Plan}
+use Rattle.htl_refine.specs.Records.{walk_of}
+use Rattle.htl_machine.specs.Follows.{DeskAt}
+
+-- the records of the round from s that are left at an instant or before, as a number
+abbrev pub due_by : Plan → ℕ → ℕ → ℕ
+due_by p s at = count_before (suc at - s) (walk_of p)
+
+-- wherever it stood, it stands in the same round, no record past those that are due
+abbrev pub Goes : Round → Round → List SInstr → ℕ → Type 0
+Goes old now code at =
+    (p : Plan) (s k d : ℕ) → p.schedule ≡ code → s ≤ at → k ≤ due_by p s at → DeskAt p s k d old → (m : ℕ) × (k ≤ m) × (m ≤ due_by p s at) × DeskAt p s m d now
+
+-- and once no more is answered, all of them are given
+abbrev pub Leaves : Round → Round → List SInstr → ℕ → Type 0
+Leaves old now code at = (p : Plan) (s k d : ℕ) → p.schedule ≡ code → s ≤ at → k ≤ due_by p s at → DeskAt p s k d old → DeskAt p s (due_by p s at) d now
+
+pub record IsLeaving (old now : Round) (code : List SInstr) (at : ℕ) : Type 0 where
+  pub form : now.running ≡ true → IsInForm now code
+  pub stands : Stands now code
+  pub told : IsTold now at
+  pub goes : Goes old now code at

@@ -1,0 +1,58 @@
+-- The S machine while the read phase of an instant is done: its releases make jobs ready.
+use Rattle.std.specs.Prelude.{◌≡◌, ℕ, true, List, [], ◌∷◌, slice_get, set, Option, Some, None}
+use Rattle.htl_model.specs.declared.event.Event.{Event}
+use Rattle.htl_model.specs.Tables.{Tables}
+use Rattle.htl_walk.specs.declared.job.Job.{Job}
+use Rattle.htl_walk.specs.declared.schedule.SInstr.{SInstr}
+use Rattle.htl_smach.specs.declared.state.PosState.{PosState}
+use Rattle.htl_smach.specs.declared.state.PosState.TheVariants.{Absent, Pending, Ready, Done as Finished}
+use Rattle.htl_smach.specs.Rounds as rounds
+use Rattle.htl_smach.specs.Rounds.{Round, state_of}
+use Rattle.htl_ecode.specs.declared.ecode.ECode.{ECode}
+use Rattle.htl_ecode.specs.declared.instr.EInstr.{EInstr}
+use Rattle.htl_ecode.specs.declared.instr.EInstr.TheVariants as I
+use Rattle.htl_ecode.specs.Chains.{Want, Does}
+use Rattle.htl_ecode.specs.Paths.{Done}
+use Rattle.htl_emach.specs.Calendars.{Standing}
+use Rattle.htl_emach.specs.Contents.{Content}
+use Rattle.htl_machine.specs.Running.{IsRunning}
+use Rattle.htl_machine.specs.Follows.{position_from}
+
+-- a position is made ready, where it is pending
+abbrev pub made_ready : PosState → Round → ℕ → Round
+made_ready Pending r p = record r { released = set r.released p true }
+made_ready Absent r p = r
+made_ready Ready r p = r
+made_ready Finished r p = r
+
+abbrev pub released_to : ℕ → Round → Round
+released_to i r = elim (position_from 0 r.jobs i) [ Some p ↦ made_ready (state_of r p) r p | None ↦ r ]
+
+-- what an instruction does to the S machine
+abbrev pub desk_does : EInstr → Round → Round
+desk_does (I.Release i) r = released_to i r
+desk_does _ r = r
+
+abbrev pub desk_at : Option EInstr → Round → Round
+desk_at None r = r
+desk_at (Some i) r = desk_does i r
+
+abbrev pub desk_replay : ECode → List Done → Round → Round
+desk_replay code [] r = r
+desk_replay code (d ∷ ds) r = desk_replay code ds (desk_at (slice_get code.instrs d.address) r)
+
+-- what the instructions that a chain requires do to it
+abbrev pub desk_want : Want → Round → Round
+desk_want (Does j) r = desk_does j r
+desk_want _ r = r
+
+abbrev pub desk_all : List Want → Round → Round
+desk_all [] r = r
+desk_all (w ∷ ws) r = desk_all ws (desk_want w r)
+
+-- the read phase is being done; what is done of it was told
+pub record IsReadying (t : Tables) (code : ECode) (es : List Event) (at : ℕ) (m : Standing) (w first : Content) (desk before : Round) (jobs : List Job) : Type 0 where
+  pub running : IsRunning t code es at 3 m w first
+  pub are : desk.jobs ≡ jobs
+  pub told : desk ≡ desk_replay code running.done before
+  pub stands : (s : List SInstr) → rounds.Stands before s → rounds.Stands desk s

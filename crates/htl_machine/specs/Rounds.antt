@@ -1,0 +1,25 @@
+-- The rounds of a program, as tables, schedules and events tell.
+use Rattle.std.specs.Prelude.{ℕ, List, map, Option, option_map}
+use Rattle.htl_model.specs.declared.event.Event.{Event}
+use Rattle.htl_model.specs.declared.state.Stay.{Stay}
+use Rattle.htl_model.specs.Tables.{Tables}
+use Rattle.htl_walk.specs.declared.schedule.SInstr.{SInstr}
+use Rattle.htl_refine.specs.ConcreteJobs.{standing}
+use Rattle.htl_refine.specs.Records.{Round as Plan, round_at}
+use Rattle.htl_refine.specs.Roots as roots
+
+-- the modes in which the modules are
+abbrev pub modes_of_stays : List (Option Stay) → List (Option ℕ)
+modes_of_stays stays = map (λ (o : Option Stay). option_map (λ y. y.mode) o) stays
+
+-- the root selection that runs
+abbrev pub selection_of : Tables → List (Option Stay) → ℕ
+selection_of t stays = roots.selection_of t (modes_of_stays stays)
+
+-- who stands at the positions
+abbrev pub standing_of : Tables → List (Option Stay) → List (Option ℕ)
+standing_of t stays = standing t (modes_of_stays stays)
+
+-- what the processor does in the round that begins at s, by the schedules of the selections
+abbrev pub plan_of : Tables → List (List SInstr) → List Event → ℕ → Plan
+plan_of t schedules es s = round_at t schedules es s

@@ -1,0 +1,128 @@
+-- The text of a run: at each instant the records of the round before, the E instructions, the values and modes, and the records
+-- of the round that begins.
+use Rattle.std.specs.Prelude.{◌≡◌, ℕ, zero, suc, ◌+◌, ◌-◌, ◌^◌, cond, eqb, min, List, [], ◌++◌, length, take, drop, slice_get, count_by, Option, Some, None}
+use Rattle.htl_model.specs.declared.event.Event.{Event}
+use Rattle.htl_model.specs.Lines.{lines_text, totals_line}
+use Rattle.htl_model.specs.Lists.{joined, up_to}
+use Rattle.htl_model.specs.Selections.{root_period}
+use Rattle.htl_model.specs.Tables.{Tables}
+use Rattle.htl_model.specs.Meaning.{state, value_lines}
+use Rattle.htl_walk.specs.declared.job.Job.{Job}
+use Rattle.htl_walk.specs.declared.schedule.SInstr.{SInstr}
+use Rattle.htl_walk.specs.Walk.{job_at}
+use Rattle.htl_smach.specs.declared.left.Left.{Left}
+use Rattle.htl_smach.specs.Rounds.{told_from}
+use Rattle.htl_ecode.specs.declared.ecode.ECode.{ECode}
+use Rattle.htl_ecode.specs.Paths.{Done, e_path}
+use Rattle.htl_refine.specs.Records.{Round as Plan}
+use Rattle.htl_machine.specs.Plans.{round_start, left_before}
+use Rattle.htl_refine.specs.Records.{walk_of}
+use Rattle.htl_console.specs.declared.shown.Shown.{Shown}
+use Rattle.htl_console.specs.Shows.{shows_values, shows_jobs, shows_code}
+use Rattle.htl_console.specs.Lines.{slice_line, done_line, step_line, instr_line}
+use Rattle.htl_machine.specs.Rounds.{plan_of, selection_of}
+use Rattle.htl_machine.specs.Turns.{count_before}
+
+-- `e T ADDRESS TEXT`
+abbrev pub e_line : Tables → ECode → ℕ → Done → List ℕ
+e_line t code now d = elim (slice_get code.instrs d.address) [ Some i ↦ instr_line t now d.address i | None ↦ [] ]
+
+abbrev pub inv_at : List Job → Option ℕ → ℕ
+inv_at jobs (Some p) = (job_at jobs p).inv
+inv_at jobs None = 0
+
+abbrev pub slice_lines : Tables → ℕ → Option (ℕ × ℕ) → List ℕ
+slice_lines t i (Some s) = slice_line t s.0 s.1 i
+slice_lines t i None = []
+
+-- the lines of a record: its slice, whether it did the last work, its instruction
+abbrev pub record_text : Tables → Shown → Plan → ℕ → Left → List ℕ
+record_text t show p sel l =
+    let i = inv_at p.jobs l.position in
+    cond (shows_jobs show) (slice_lines t i l.slice ++ cond l.finished (done_line t l.at i) []) []
+    ++ cond (shows_code show) (elim (slice_get p.schedule l.instr) [ Some x ↦ step_line l.at sel l.instr x | None ↦ [] ]) []
+
+-- ---- the records of an instant
+
+-- so many records of the round from s, from place k on, by instants
+abbrev pub some_records : Plan → ℕ → ℕ → ℕ → List Left
+some_records p s k n = take n (drop k (told_from s 0 (walk_of p)))
+
+-- of the round that began before it
+abbrev pub old_records : (ℕ → Plan) → ℕ → ℕ → List Left
+old_records plan period zero = []
+old_records plan period (suc n) =
+    let s = round_start period n in
+    let k = left_before plan s (suc n) in
+    some_records (plan s) s k (left_before plan s (suc (suc n)) - k)
+
+-- of the round that begins at it
+abbrev pub new_records : (ℕ → Plan) → ℕ → ℕ → List Left
+new_records plan period now = cond (eqb (round_start period now) now) (some_records (plan now) now 0 (left_before plan now (suc now))) []
+
+abbrev pub records_text : Tables → List (List SInstr) → List Event → Shown → ℕ → List Left → List ℕ
+records_text t schedules es show s ls = joined (record_text t show (plan_of t schedules es s) (selection_of t (state t es s).stays)) ls
+
+-- the start of the round that began last before an instant
+abbrev pub old_start : ℕ → ℕ → ℕ
+old_start period zero = 0
+old_start period (suc n) = round_start period n
+
+-- ---- the text of an instant and of a run
+
+abbrev pub round_texts : Tables → ECode → List (List SInstr) → List Event → Shown → Option ℕ → ℕ → List ℕ × List ℕ
+round_texts t code schedules es show None now = ([], [])
+round_texts t code schedules es show (Some period) now =
+    let plan = plan_of t schedules es in
+    (records_text t schedules es show (old_start period now) (old_records plan period now), records_text t schedules es show now (new_records plan period now))
+
+abbrev pub instant_text : Tables → ECode → List (List SInstr) → List Event → Shown → ℕ → List ℕ
+instant_text t code schedules es show now =
+    let r = round_texts t code schedules es show (root_period t) now in
+    r.0 ++ cond (shows_code show) (joined (e_line t code now) (e_path t code es now)) [] ++ cond (shows_values show) (lines_text t (value_lines t es now)) [] ++ r.1
+
+-- the text of the instants before `now`
+abbrev pub text_before : Tables → ECode → List (List SInstr) → List Event → Shown → ℕ → List ℕ
+text_before t code schedules es show now = up_to (instant_text t code schedules es show) now
+
+-- ---- totals: each stands once it is at the end of its type
+
+abbrev pub capped : ℕ → ℕ
+capped n = min n (2 ^ 64 - 1)
+
+abbrev pub records_of : Tables → List (List SInstr) → List Event → Option ℕ → ℕ → List Left
+records_of t schedules es None now = []
+records_of t schedules es (Some period) now = let plan = plan_of t schedules es in old_records plan period now ++ new_records plan period now
+
+abbrev pub sum_to : (ℕ → ℕ) → ℕ → ℕ
+sum_to f zero = 0
+sum_to f (suc n) = sum_to f n + f n
+
+-- of the instants before `now`: the jobs done, the E instructions, the S instructions
+abbrev pub jobs_before : Tables → List (List SInstr) → List Event → ℕ → ℕ
+jobs_before t schedules es now = capped (sum_to (λ n. count_by (λ (l : Left). l.finished) (records_of t schedules es (root_period t) n)) now)
+
+abbrev pub e_before : Tables → ECode → List Event → ℕ → ℕ
+e_before t code es now = capped (sum_to (λ n. length (e_path t code es n)) now)
+
+abbrev pub s_before : Tables → List (List SInstr) → List Event → ℕ → ℕ
+s_before t schedules es now = capped (sum_to (λ n. length (records_of t schedules es (root_period t) n)) now)
+
+-- the text of a run up to and including `end`
+abbrev pub run_text : Tables → ECode → List (List SInstr) → List Event → Shown → ℕ → List ℕ
+run_text t code schedules es show end =
+    text_before t code schedules es show (suc end)
+    ++ totals_line end (jobs_before t schedules es (suc end)) (e_before t code es (suc end)) (s_before t schedules es (suc end))
+
+-- the records of the round from s that the instants from s to s + n tell
+abbrev pub told_in : Plan → ℕ → ℕ → List Left
+told_in p s zero = some_records p s 0 (count_before (suc s - s) (walk_of p))
+told_in p s (suc n) =
+    told_in p s n
+    ++ some_records p s (count_before (s + suc n - s) (walk_of p)) (count_before (suc (s + suc n) - s) (walk_of p) - count_before (s + suc n - s) (walk_of p))
+
+-- what is counted stands before an instant
+pub record TotalsFollow (t : Tables) (code : ECode) (schedules : List (List SInstr)) (es : List Event) (now jobs e s : ℕ) : Type 0 where
+  pub jobs_are : jobs ≡ jobs_before t schedules es now
+  pub e_are : e ≡ e_before t code es now
+  pub s_are : s ≡ s_before t schedules es now

@@ -1,0 +1,46 @@
+-- The whole machine before an instant: the E machine's triggers beside what the machine holds, counted and wrote.
+use Rattle.std.specs.Prelude.{◌≡◌, ℕ, List, [], None}
+use Rattle.htl_model.specs.declared.event.Event.{Event}
+use Rattle.htl_model.specs.Selections.{root_period}
+use Rattle.htl_model.specs.Tables.{Tables}
+use Rattle.htl_model.specs.Meaning.{sense}
+use Rattle.htl_walk.specs.declared.schedule.SInstr.{SInstr}
+use Rattle.htl_ecode.specs.declared.ecode.ECode.{ECode}
+use Rattle.htl_emach.specs.Calendars.{Standing}
+use Rattle.htl_emach.specs.Safety.{StandsSafely}
+use Rattle.htl_emach.specs.Shapes.{IsShaped}
+use Rattle.htl_emach.specs.Following.{Onward, phase_path}
+use Rattle.htl_emach.specs.Following as machines
+use Rattle.htl_emach.specs.Contents.{Content}
+use Rattle.htl_machine.specs.Running.{replay}
+use Rattle.htl_machine.specs.Worlds.{with_sensors}
+use Rattle.htl_machine.specs.Plans.{with_records}
+use Rattle.htl_machine.specs.Rounds.{plan_of}
+use Rattle.htl_machine.specs.Follows.{Held, period_or, Follows}
+use Rattle.htl_console.specs.declared.shown.Shown.{Shown}
+use Rattle.htl_machine.specs.Machines.{Counts, Stands}
+
+pub record Whole (t : Tables) (code : ECode) (schedules : List (List SInstr)) (show : Shown) (es : List Event) (now : ℕ) (e : Standing) (m : Held) (n : Counts) (written : List ℕ) : Type 0 where
+  pub triggers : machines.Follows t code es now e
+  pub safe : StandsSafely t code e
+  pub stands : Stands t code schedules show es now m n written
+
+-- at the last reading
+pub record WholeFollowed (t : Tables) (code : ECode) (schedules : List (List SInstr)) (show : Shown) (es : List Event) (e : Standing) (m : Held) (n : Counts) (written : List ℕ) : Type 0 where
+  pub follows : Follows t schedules es m
+  pub whole : Whole t code schedules show es m.reading e m n written
+
+-- what the calls of an instant say: the records of the round before, each phase, and the sensors between
+pub record Passed (t : Tables) (code : ECode) (schedules : List (List SInstr)) (es : List Event) (now : ℕ) (w0 w5 : Content) (e : Standing) : Type 0 where
+  pub recorded : Content
+  pub wrote : Content
+  pub sensed : Content
+  pub switched : Content
+  pub records : recorded ≡ with_records t (plan_of t schedules es) (period_or (root_period t)) now w0
+  pub writes : wrote ≡ replay t code (phase_path t code es now 1) recorded
+  pub sensors : sensed ≡ with_sensors t (sense t es) now wrote
+  pub switches : switched ≡ replay t code (phase_path t code es now 2) sensed
+  pub reads : w5 ≡ replay t code (phase_path t code es now 3) switched
+  pub ends : Onward t code es now 3 e (phase_path t code es now 3) [] None
+  pub safe : StandsSafely t code e
+  pub shaped : IsShaped t w5

@@ -1,0 +1,31 @@
+//! The laws of a run, over the definitions alone. Each is a statement that the check has proved; there is nothing to run.
+ghost use Rattle.htl_machine.specs.Laws.{AcceptedIsLoaded, EveryJobInTime, ValuesAreTheMeaning, SensorsDecide, LaterEventsLeaveText};
+
+/// Of an accepted object every round is sound, whatever the events within the worst cases: its jobs are those of the invocations that
+/// stand, and its schedule does each of them in its window, after its predecessors.
+pub fn accepted_is_loaded()
+    ensures { AcceptedIsLoaded }
+{}
+
+/// Of an accepted object, whatever the sensors show and however long the jobs take within their worst cases: each job of each round
+/// whose window ended by the end of the run is done once, within its window, in slices that lie in the window, have as many ticks as
+/// it takes, overlap no other job's and begin no earlier than its predecessors are done.
+pub fn every_job_in_time()
+    ensures { EveryJobInTime }
+{}
+
+/// Where values and modes alone are shown, the text before an instant is that of the meaning, which knows no code, no schedule and no
+/// length of a job.
+pub fn values_are_the_meaning()
+    ensures { ValuesAreTheMeaning }
+{}
+
+/// So that text is the same for all objects of the same tables and for all events under which the sensors show the same values.
+pub fn sensors_decide()
+    ensures { SensorsDecide }
+{}
+
+/// The text before an instant depends on no value and no length that is read at that instant or later.
+pub fn later_events_leave_text()
+    ensures { LaterEventsLeaveText }
+{}

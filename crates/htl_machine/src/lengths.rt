@@ -1,0 +1,49 @@
+// The length of a job that isn't released yet.
+ghost use Rattle.std.specs.Prelude.{◌≡◌, ◌&&◌, eqb, ◌≤◌, ◌<◌, ℕ, List, length, slice_get, IfSome, Some};
+ghost use Rattle.htl_walk.specs.declared.job.Job.{Job as Work};
+ghost use Rattle.htl_walk.specs.declared.schedule.SInstr.{SInstr as Instr};
+ghost use Rattle.htl_walk.specs.Walk.{job_at};
+ghost use Rattle.htl_smach.specs.Rounds.{Stands};
+ghost use Rattle.htl_machine.specs.Follows.{position_from, desk_taking};
+
+use htl_base::Time;
+use htl_smach::{PosState, SMach};
+use htl_walk::Job;
+
+// Whether a job is of an invocation.
+fn is_of(job: &Job, inv: u16) -> bool
+    ensures { result ≡ (job.now.present && eqb job.now.inv inv) }
+{
+    job.present && job.inv == inv
+}
+
+// The last position of an invocation among the jobs of a round: that of its present round.
+pub(crate) fn position(jobs: &[Job], inv: u16) -> Option<usize>
+    ensures place { result ≡ position_from 0 jobs.now inv }
+    ensures known { IfSome result (λ p. p < length jobs.now) }
+{
+    let mut p = jobs.len();
+    while p > 0 {
+        p -= 1;
+        if is_of(&jobs[p], inv) {
+            return Some(p);
+        }
+    }
+    None
+}
+
+/// A job of the invocation that is pending takes so long: from 1 to its worst case.
+pub fn take(desk: &mut SMach, jobs: &[Job], inv: u16, ticks: Time)
+    requires jobs { desk.old.jobs ≡ jobs.now }
+    requires some { 1 ≤ ticks }
+    requires worst { (p : ℕ) → position_from 0 jobs.now inv ≡ Some p → ticks ≤ (job_at jobs.now p).worst }
+    ensures desk { desk.new ≡ desk_taking inv ticks desk.old }
+    ensures stands { (s : List Instr) → Stands desk.old s → Stands desk.new s }
+{
+    if let Some(p) = position(jobs, inv) {
+        match desk.state(p) {
+            PosState::Pending => desk.set_length(p, ticks),
+            _ => {}
+        }
+    }
+}

@@ -1,0 +1,27 @@
+//! The machine: both machines together.
+#![tactic(auto)]
+
+mod beginning;
+mod changes;
+mod close;
+pub mod laws;
+mod lengths;
+mod machine;
+mod memory;
+mod open;
+mod records;
+mod sensors;
+mod starting;
+mod steps;
+mod tally;
+mod tell;
+mod tellings;
+mod timing;
+
+pub use machine::{Machine, Totals};
+pub use tally::Tally;
+
+#[cfg(test)]
+mod samples;
+#[cfg(test)]
+mod tests;

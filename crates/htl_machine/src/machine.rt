@@ -1,0 +1,399 @@
+// The machine.
+ghost use Rattle.std.specs.Prelude.{◌≡◌, ◌≤◌, ◌<◌, ◌-◌, ◌+◌, ◌++◌, ℕ, suc, List, [], ◌∷◌, length, get_or, IfOk, IfSome, OnOk, OnErr, pos, true, false};
+ghost use Rattle.htl_base.specs.declared.limits.TheConstants as limit;
+ghost use Rattle.htl_edge.specs.Content.{Puts};
+ghost use Rattle.htl_model.specs.declared.event.Event.{Event as Told};
+ghost use Rattle.htl_model.specs.declared.event.Event.TheVariants as event;
+ghost use Rattle.htl_machine.specs.Calls.{Follows, IsSensorValue, IsLength, IsSameRun, IsFinished, IsUpTo, first_seen, number_by, schedule_by, text_between};
+ghost use Rattle.htl_machine.specs.Follows.{shown_as, taken_as};
+ghost use Rattle.htl_machine.specs.Programs.{lines_of};
+
+use crate::beginning::close_and_begin;
+use crate::close::close_instant;
+use crate::lengths::take;
+use crate::memory::{note_values, seen_values, worst_cases};
+use crate::open::open_instant;
+use crate::starting::note_modes;
+use crate::tally::Tally;
+use crate::timing::round_begins;
+use htl_base::limits::MAX_POSITIONS;
+use htl_base::{Memory, Seq, Time, Value};
+use htl_console::Shown;
+use htl_edge::{Failed, Sink};
+use htl_emach::{EMach, World};
+use htl_load::Loaded;
+use htl_refine::Selection;
+use htl_smach::SMach;
+use htl_walk::{Job, Schedule};
+use std::alloc::{AllocError, Global};
+use std::marker::Model;
+
+/// The numbers of a run up to its last reading. Each stands once it is at 18,446,744,073,709,551,615.
+#[derive(Clone, Copy, PartialEq, Eq, Debug)]
+pub struct Totals {
+    /// The last reading, in ticks.
+    pub at: Time,
+    /// The jobs that were done.
+    pub jobs: u64,
+    /// The E instructions that were done.
+    pub e: u64,
+    /// The S instructions that were left.
+    pub s: u64,
+}
+
+/// Both machines on one accepted object. It follows a list of events: what sensors show, how long jobs take, and how far the clock
+/// has come. Contracts see the object, what is shown, what the machine keeps of the calls, its world and round, its E machine and its
+/// numbers.
+#[derive(Drop)]
+pub struct Machine<'a> {
+    loaded: &'a Loaded,
+    show: Shown,
+    spent: bool,
+    reading: Time,
+    shows: Seq<Value>,
+    takes: Seq<Time>,
+    world: World,
+    emach: EMach,
+    desk: SMach,
+    selection: Option<u32>,
+    tally: Tally,
+    // The jobs of the round, in front.
+    jobs: [Job; 128],
+    count: usize,
+    // Where no round stands.
+    idle: Schedule,
+    // Before the instant that is being done.
+    values: Seq<Value>,
+    modes: Selection,
+    // The modes in which the round began.
+    selected: Selection,
+}
+
+impl<'a> Model for Machine<'a> {
+    ghost use Rattle.htl_machine.specs.Calls.{Seen};
+    ghost use Rattle.htl_machine.specs.Fitted.{IsFitted};
+    ghost use Rattle.htl_object.specs.contracts.object.Object as object_row;
+    ghost use Rattle.std.specs.Coded.{codes};
+
+    ghost Value = { Seen };
+
+    ghost coded = { Prim.hlevel (codes, object_row.the_row.coded) };
+
+    ghost view = { λ m. record { object = m.loaded.now; show = m.show; held = record { spent = m.spent; reading = m.reading; shows = m.shows; takes = m.takes; world = m.world; desk = m.desk }; standing = m.emach; selection = m.selection; jobs = m.tally.jobs; e = m.tally.e; s = m.tally.s } };
+
+    ghost invariant = { λ m. IsFitted m.loaded.now m.spent m.shows m.takes m.values m.modes.modes m.selected.modes m.jobs m.count m.desk m.idle.instrs };
+}
+
+const NO_JOB: Job = Job {
+    present: false,
+    inv: 0,
+    release: 0,
+    end: 0,
+    worst: 0,
+    preds: 0,
+};
+
+impl<'a> Machine<'a> {
+    /// Stands before instant 0, with reading 0, and has followed no event. All memory of the run is taken here; want of it is the one
+    /// refusal.
+    pub fn new(alloc: Global, l: &'a Loaded, show: Shown) -> Result<Machine<'a>, Memory>
+        ensures follows { IfOk result (λ m. Follows m []) }
+        ensures object { IfOk result (λ m. m.object ≡ l.now) }
+        ensures show { IfOk result (λ m. m.show ≡ show) }
+    {
+        let t = l.tables();
+        let world = World::new(alloc, t)?;
+        let emach = EMach::new(alloc, t, l.ecode())?;
+        Machine::at_start(alloc, l, show, world, emach).map_err(|_| Memory)
+    }
+
+    // The machine before instant 0, around its world and its E machine.
+    fn at_start(
+        alloc: Global,
+        l: &'a Loaded,
+        show: Shown,
+        world: World,
+        emach: EMach,
+    ) -> Result<Machine<'a>, AllocError>
+        requires { length world.values ≡ length l.now.tables.comms }
+        ensures { IfOk result (λ m. m ≡ first_seen l.now show world emach) }
+    {
+        let t = l.tables();
+        let shows = seen_values(alloc, t, &world)?;
+        let values = seen_values(alloc, t, &world)?;
+        let takes = worst_cases(alloc, t)?;
+        let count = t.parts().modules.as_slice().len();
+        let modes = vec![in alloc; None; count]?;
+        let selected = vec![in alloc; None; count]?;
+        Ok(Machine {
+            loaded: l,
+            show,
+            spent: false,
+            reading: 0,
+            shows: Seq::new(shows),
+            takes: Seq::new(takes),
+            world,
+            emach,
+            desk: SMach::new(),
+            selection: None,
+            tally: Tally {
+                jobs: 0,
+                e: 0,
+                s: 0,
+            },
+            jobs: [NO_JOB; MAX_POSITIONS],
+            count: 0,
+            idle: Schedule {
+                instrs: Seq::new(Vec::new(alloc)),
+            },
+            values: Seq::new(values),
+            modes: Selection {
+                modes: Seq::new(modes),
+            },
+            selected: Selection {
+                modes: Seq::new(selected),
+            },
+        })
+    }
+
+    /// What a sensor shows from the last reading on: it is taken at the sensor's next instance. The machine isn't spent, the
+    /// communicator is a sensor, and the value is of its type.
+    pub fn sense(&mut self, comm: u16, x: Value)
+        ghost es: { List Told }
+        requires follows { Follows self.old es }
+        requires sensor { IsSensorValue self.old.object.tables comm x }
+        ensures follows { Follows self.new (es ++ event.Sense comm x ∷ []) }
+        ensures seen { self.new ≡ record self.old { held = shown_as comm x self.old.held } }
+    {
+        self.shows.set(comm as usize, x);
+    }
+
+    /// How many ticks jobs of an invocation take that are released at the last reading or later. The machine isn't spent, the
+    /// invocation is concrete, and the length is from 1 to its worst case.
+    pub fn took(&mut self, inv: u16, length: Time)
+        ghost es: { List Told }
+        requires follows { Follows self.old es }
+        requires length { IsLength self.old.object.tables inv length }
+        ensures follows { Follows self.new (es ++ event.Took inv length ∷ []) }
+        ensures seen { self.new ≡ record self.old { held = taken_as inv length self.old.held } }
+    {
+        self.takes.set(inv as usize, length);
+        take(&mut self.desk, &self.jobs[..self.count], inv, length);
+    }
+
+    /// Does all instants before `to`, in ticks, writes their lines, and makes `to` the reading. The machine isn't spent, and `to` is
+    /// from the reading to 1,000,000,000. `Failed` comes only where the sink's count rose: then a prefix of the lines was written,
+    /// and the machine is spent.
+    pub fn advance<W: Sink>(&mut self, to: Time, sink: &mut W) -> Result<(), Failed>
+        ghost es: { List Told }
+        requires follows { Follows self.old es }
+        requires order { self.old.held.reading ≤ to }
+        requires at { to ≤ limit.MAX_INSTANT }
+        ensures text { Puts (W.written sink.old) (W.written sink.new) (W.faults sink.old) (W.faults sink.new) (text_between self.old.object es self.old.show self.old.held.reading to) result }
+        ensures follows { OnOk result (Follows self.new (es ++ event.At to ∷ [])) }
+        ensures spent { OnErr result (self.new.held.spent ≡ true) }
+        ensures same { IsSameRun self.old self.new }
+    {
+        if let Err(failed) = self.pass(self.reading, to, sink) {
+            return Err(failed);
+        }
+        self.reading = to;
+        Ok(())
+    }
+
+    /// Does all instants up to and including `to`, in ticks, writes their lines, makes `to` the reading, and spends the machine: its
+    /// values are then those at `to`, its numbers those of the run. The machine isn't spent, and `to` is from the reading to
+    /// 1,000,000,000. `Failed` comes only where the sink's count rose: then a prefix of the lines was written, and the machine is
+    /// spent.
+    pub fn finish<W: Sink>(&mut self, to: Time, sink: &mut W) -> Result<(), Failed>
+        ghost es: { List Told }
+        requires follows { Follows self.old es }
+        requires order { self.old.held.reading ≤ to }
+        requires at { to ≤ limit.MAX_INSTANT }
+        ensures text { Puts (W.written sink.old) (W.written sink.new) (W.faults sink.old) (W.faults sink.new) (text_between self.old.object es self.old.show self.old.held.reading (suc to)) result }
+        ensures finished { OnOk result (IsFinished self.new es to) }
+        ensures spent { OnErr result (self.new.held.spent ≡ true) }
+        ensures same { IsSameRun self.old self.new }
+    {
+        if let Err(failed) = self.pass(self.reading, to + 1, sink) {
+            return Err(failed);
+        }
+        self.reading = to;
+        self.spent = true;
+        Ok(())
+    }
+
+    // Does the instants from `from` up to before `to`.
+    fn pass<W: Sink>(&mut self, from: Time, to: Time, sink: &mut W) -> Result<(), Failed>
+        ghost es: { List Told }
+        requires before { IsUpTo self.old es from }
+        requires read { self.old.held.reading ≤ from }
+        requires order { from ≤ to }
+        requires at { to ≤ limit.MAX_INSTANT + 1 }
+        ensures text { Puts (W.written sink.old) (W.written sink.new) (W.faults sink.old) (W.faults sink.new) (text_between self.old.object es self.old.show from to) result }
+        ensures before { OnOk result (IsUpTo self.new es to) }
+        ensures spent { OnErr result (self.new.held.spent ≡ true) }
+        ensures same { IsSameRun self.old self.new }
+        ensures reading { self.new.held.reading ≡ self.old.held.reading }
+    {
+        for at in from..to {
+            if let Err(failed) = self.instant(at, sink) {
+                return Err(failed);
+            }
+        }
+        Ok(())
+    }
+
+    // Does one instant: the records that are due, the writes and the sensors; then the switches, a round where one begins, the
+    // reads with the releases, and what changed.
+    fn instant<W: Sink>(&mut self, at: Time, sink: &mut W) -> Result<(), Failed>
+        ghost es: { List Told }
+        requires before { IsUpTo self.old es at }
+        requires read { self.old.held.reading ≤ at }
+        requires at { at ≤ limit.MAX_INSTANT }
+        ensures text { Puts (W.written sink.old) (W.written sink.new) (W.faults sink.old) (W.faults sink.new) (lines_of self.old.object es self.old.show at) result }
+        ensures before { OnOk result (IsUpTo self.new es (suc at)) }
+        ensures spent { OnErr result (self.new.held.spent ≡ true) }
+        ensures same { IsSameRun self.old self.new }
+        ensures reading { self.new.held.reading ≡ self.old.held.reading }
+    {
+        let l = self.loaded;
+        let t = l.tables();
+        let code = l.ecode();
+        note_values(t, &self.world, &mut self.values);
+        note_modes(&mut self.modes, &self.emach);
+        if let Err(failed) = open_instant(
+            sink,
+            &mut self.emach,
+            &mut self.world,
+            &mut self.desk,
+            &mut self.tally,
+            t,
+            code,
+            &self.jobs[..self.count],
+            schedule_of(l, &self.idle, self.selection),
+            number_of(self.selection),
+            self.show,
+            self.shows.as_slice(),
+            self.values.as_slice(),
+            at,
+        ) {
+            self.spent = true;
+            return Err(failed);
+        }
+        if round_begins(t, at) {
+            match close_and_begin(
+                sink,
+                &mut self.emach,
+                &mut self.world,
+                &mut self.desk,
+                &mut self.tally,
+                &mut self.selected,
+                &mut self.jobs,
+                self.count,
+                t,
+                code,
+                l.schedules(),
+                self.show,
+                self.takes.as_slice(),
+                self.values.as_slice(),
+                self.modes.modes.as_slice(),
+                at,
+            ) {
+                Ok(begun) => {
+                    self.count = begun.positions;
+                    self.selection = Some(begun.selection);
+                    Ok(())
+                }
+                Err(failed) => {
+                    self.spent = true;
+                    Err(failed)
+                }
+            }
+        } else {
+            if let Err(failed) = close_instant(
+                sink,
+                &mut self.emach,
+                &mut self.world,
+                &mut self.desk,
+                &mut self.tally,
+                t,
+                code,
+                &self.jobs[..self.count],
+                self.show,
+                self.values.as_slice(),
+                self.modes.modes.as_slice(),
+                at,
+            ) {
+                self.spent = true;
+                return Err(failed);
+            }
+            Ok(())
+        }
+    }
+
+    /// The numbers so far, and the reading.
+    pub fn totals(&self) -> Totals
+        ensures at { result.at ≡ self.now.held.reading }
+        ensures jobs { result.jobs ≡ self.now.jobs }
+        ensures e { result.e ≡ self.now.e }
+        ensures s { result.s ≡ self.now.s }
+    {
+        Totals {
+            at: self.reading,
+            jobs: self.tally.jobs,
+            e: self.tally.e,
+            s: self.tally.s,
+        }
+    }
+
+    /// The value of a communicator, which is in range.
+    pub fn value(&self, comm: u16) -> Value
+        requires { comm < length self.now.held.world.values }
+        ensures { result ≡ get_or self.now.held.world.values comm (pos 0) }
+    {
+        self.world.value(comm)
+    }
+
+    /// The last reading, in ticks; 0 before the first.
+    pub fn reading(&self) -> Time
+        ensures { result ≡ self.now.held.reading }
+    {
+        self.reading
+    }
+
+    /// Whether the run has ended: `finish` was called, or a sink refused.
+    pub fn is_spent(&self) -> bool
+        ensures { result ≡ self.now.held.spent }
+    {
+        self.spent
+    }
+
+    /// The values and buffers: the machine has this one world.
+    pub fn world(&self) -> &World
+        ensures { result.now ≡ self.now.held.world }
+    {
+        &self.world
+    }
+}
+
+// The schedule by which the round goes; none stands before the first.
+fn schedule_of<'b>(l: &'b Loaded, idle: &'b Schedule, selection: Option<u32>) -> &'b Schedule
+    requires { IfSome selection (λ n. n < length l.now.schedules) }
+    ensures { result.now.instrs ≡ schedule_by l.now idle.now.instrs selection }
+{
+    match selection {
+        Some(n) => &l.schedules()[n as usize],
+        None => idle,
+    }
+}
+
+// The number of that schedule; 0 where none stands.
+fn number_of(selection: Option<u32>) -> u32
+    ensures { result ≡ number_by selection }
+{
+    match selection {
+        Some(n) => n,
+        None => 0,
+    }
+}

@@ -1,0 +1,52 @@
+// What a machine keeps beside its two machines: all of it is taken at its beginning.
+ghost use Rattle.std.specs.Prelude.{◌≡◌, length, map, IfOk};
+ghost use Rattle.htl_model.specs.Tables.{task_worst as task_worst_of};
+
+use htl_base::{Seq, Time, Value};
+use htl_emach::World;
+use htl_model::Tables;
+use htl_model::lookup::task_worst;
+use std::alloc::{AllocError, Global};
+
+// The values of the communicators.
+pub(crate) fn seen_values(
+    alloc: Global,
+    t: &Tables,
+    world: &World,
+) -> Result<Vec<Value>, AllocError>
+    requires { length world.now.values ≡ length t.now.comms }
+    ensures { IfOk result (λ v. v.items ≡ world.now.values) }
+{
+    t.keeps_ranges();
+    let count = t.parts().comms.as_slice().len();
+    let mut values = Vec::new(alloc);
+    for c in 0..count {
+        values.push(world.value(c as u16))?;
+    }
+    Ok(values)
+}
+
+// The worst cases of the invocations.
+pub(crate) fn worst_cases(alloc: Global, t: &Tables) -> Result<Vec<Time>, AllocError>
+    ensures { IfOk result (λ v. v.items ≡ map (λ x. task_worst_of t.now x.task) t.now.invs) }
+{
+    let invs = t.parts().invs.as_slice();
+    let mut worst = Vec::new(alloc);
+    for k in 0..invs.len() {
+        worst.push(task_worst(t, invs[k].task) as u64)?;
+    }
+    Ok(worst)
+}
+
+// Notes the values of the communicators.
+pub(crate) fn note_values(t: &Tables, world: &World, values: &mut Seq<Value>)
+    requires world { length world.now.values ≡ length t.now.comms }
+    requires same { length values.old ≡ length t.now.comms }
+    ensures { values.new ≡ world.now.values }
+{
+    t.keeps_ranges();
+    let count = values.as_slice().len();
+    for c in 0..count {
+        values.set(c, world.value(c as u16));
+    }
+}
