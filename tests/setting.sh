@@ -44,3 +44,6 @@ source_answered() {
 	echo "// answers $*"
 	cat
 }
+
+# The object of a program without modules, whose communicator u is an int of period 10 and begins at 7.
+small_object() { printf 'HTLO\0\1\0\1\0\0\0\0\0\0\0\0\0\0\0\0\1u\0\0\0\0\0\12\0\0\0\0\0\0\0\7\0\0\0\0\0\0'; }

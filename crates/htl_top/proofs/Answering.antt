@@ -2,6 +2,7 @@
 use Rattle.std.proofs.Common.{arith, ◌≡◌, ◌≤◌, ◌<◌, ℕ, List, length, Option, None, Some, refl, sym, ap, ◌∙◌, subst, inl, inr}
 use Rattle.std.specs.Prelude.{◌↔◌, IfSome}
 use Rattle.std.specs.FinMap.{get}
+use Rattle.htl_base.specs.declared.limits.TheConstants.{MAX_SOURCE}
 use Rattle.htl_edge.specs.Causes.{Rose}
 use Rattle.htl_edge.specs.Holdings.{Holdings, HoldsUnder}
 use Rattle.htl_model.specs.Tables.{Tables}
@@ -12,16 +13,15 @@ use Rattle.htl_top.proofs.SourceLaws.{tables_unique, tables_or_fault, form_uniqu
 use Rattle.htl_script.specs.Script.{Whole, Bad}
 use Rattle.htl_script.specs.declared.fault.ScriptFault.{ScriptFault}
 use Rattle.htl_script.specs.declared.fault.ScriptKind.{ScriptKind}
-use Rattle.htl_top.specs.Answers.{Files, Streams, IsWritten, IsExecuted, IsGoAnswer, IsAnswer, IsBeforeScript, IsBeforeRun, SpeaksOf, IsLineTold}
-use Rattle.htl_top.specs.Causes.{IsFaultOf, IsLongFile, IsSource, IsGiven, IsReady, IsFaultySource, HasTables, HasBuiltTables, IsProgram, IsBuiltProgram, IsIllFormed, IsWholeRun, IsFaultyRun, IsCutRun, IsOrMemory}
+use Rattle.htl_top.specs.Answers.{Files, Streams, IsWritten, IsExecuted, IsGoAnswer, IsAnswer, IsBeforeScript, IsBeforeRun}
+use Rattle.htl_top.specs.Causes.{IsFaultOf, IsLongFile, IsSource, IsGiven, IsReady, IsFaultySource, HasTables, HasBuiltTables, IsProgram, IsIllFormed, IsWholeRun, IsFaultyRun, IsCutRun, IsOrMemory}
 use Rattle.htl_edge.specs.Content.{none_left}
 use Rattle.htl_model.specs.Lines.{run_text}
 use Rattle.htl_top.specs.Scripts.{IsWhole, IsBad, EndsAt, IsTold}
-use Rattle.htl_top.specs.Status.{fault_line}
 use Rattle.htl_top.specs.Texts.{text_before_fault}
 use Rattle.htl_top.specs.Sources.{AreBuiltTables, CanRun, BreakFirst, IsSourceFault}
 use Rattle.htl_top.specs.declared.outcome.Outcome.{Outcome}
-use Rattle.htl_top.specs.declared.outcome.Outcome.TheVariants.{Done, Usage, Source, IllFormed, Script, Shelf, Read, Write, Memory}
+use Rattle.htl_top.specs.declared.outcome.Outcome.TheVariants.{Done, Usage, Source, IllFormed, Object, Script, Shelf, Read, Write, Memory}
 use Rattle.htl_top.specs.declared.outcome.ShelfCause.TheVariants.{Failed, TooLong}
 use Rattle.htl_top.specs.declared.source_fault.SourceFault.{SourceFault}
 
@@ -67,6 +67,7 @@ IsGoAnswer-executed bytes tables old new Read is executed = record { tables = ta
 IsGoAnswer-executed bytes tables old new Write is executed = record { tables = tables; compiled = is; fact = executed }
 IsGoAnswer-executed bytes tables old new Memory is executed = executed
 IsGoAnswer-executed bytes tables old new Usage is executed = absurd executed
+IsGoAnswer-executed bytes tables old new (Object fault) is executed = absurd executed
 IsGoAnswer-executed bytes tables old new (Source fault) is executed = absurd executed
 IsGoAnswer-executed bytes tables old new (IllFormed fault) is executed = absurd executed
 IsGoAnswer-executed bytes tables old new (Shelf cause) is executed = absurd executed
@@ -81,6 +82,7 @@ IsAnswer-go name shelf old new bytes Memory source went = ((source.word, source.
 IsAnswer-go name shelf old new bytes (Source fault) source went = (record { bytes = bytes; source = source; first = went.0 }, went.1)
 IsAnswer-go name shelf old new bytes (IllFormed fault) source went = (record { bytes = bytes; source = source; has_tables = went.0 }, went.1)
 IsAnswer-go name shelf old new bytes Usage source went = absurd went
+IsAnswer-go name shelf old new bytes (Object fault) source went = absurd went
 IsAnswer-go name shelf old new bytes (Shelf cause) source went = absurd went
 
 -- ---- no command
@@ -91,6 +93,7 @@ some_not_none name word p q = cc
 usage-from_none : (name : Option (List ℕ)) (shelf : Files) (old new : Streams) (outcome : Outcome)
     → IsAnswer name shelf old new outcome → name ≡ None → outcome ≡ Usage
 usage-from_none name shelf old new Usage answer none = refl
+usage-from_none name shelf old new (Object fault) answer none = absurd answer
 usage-from_none name shelf old new Done answer none = absurd (some_not_none name answer.source.word answer.source.named none)
 usage-from_none name shelf old new (Script fault) answer none = absurd (some_not_none name answer.source.word answer.source.named none)
 usage-from_none name shelf old new Read answer none = absurd (some_not_none name answer.source.word answer.source.named none)
@@ -98,7 +101,7 @@ usage-from_none name shelf old new Write answer none = absurd (some_not_none nam
 usage-from_none name shelf old new (Source fault) answer none = absurd (some_not_none name answer.0.source.word answer.0.source.named none)
 usage-from_none name shelf old new (IllFormed fault) answer none = absurd (some_not_none name answer.0.source.word answer.0.source.named none)
 usage-from_none name shelf old new (Shelf Failed) answer none = absurd (subst (λ (o : Option (List ℕ)). IsFaultOf o shelf.before shelf.after) none answer.0)
-usage-from_none name shelf old new (Shelf (TooLong seen)) answer none = absurd (subst (λ (o : Option (List ℕ)). IsLongFile o shelf.holds seen) none answer.0)
+usage-from_none name shelf old new (Shelf (TooLong seen)) answer none = absurd (subst (λ (o : Option (List ℕ)). IsLongFile MAX_SOURCE o shelf.holds seen) none answer.0)
 usage-from_none name shelf old new Memory answer none = absurd (some_not_none name answer.0.0 answer.0.1 none)
 
 -- ---- of bytes that are given
@@ -114,6 +117,7 @@ Says bytes old new (IllFormed fault) = (length bytes ≤ 1048576) × HasBuiltTab
 Says bytes old new (Shelf Failed) = ⊥
 Says bytes old new (Shelf (TooLong seen)) = (1048576 < length bytes) × (seen ≡ length bytes)
 Says bytes old new Usage = ⊥
+Says bytes old new (Object fault) = ⊥
 Says bytes old new Memory = Unit {0}
 
 module _ (name : Option (List ℕ)) (shelf : Files) (old new : Streams) (bytes : List ℕ) (given : IsGiven name shelf.holds shelf.before shelf.after bytes) where
@@ -140,12 +144,13 @@ module _ (name : Option (List ℕ)) (shelf : Files) (old new : Streams) (bytes :
       (answer.0.source.short, answer.0.has_tables)
   says (Shelf Failed) answer = absurd (given.no_fault (subst (λ (o : Option (List ℕ)). IsFaultOf o shelf.before shelf.after) given.named answer.0))
   says (Shelf (TooLong seen)) answer =
-      let long : IsLongFile (Some given.word) (Some given.held) seen =
-      subst (λ (o : Option (List ℕ)). IsLongFile o (Some given.held) seen) given.named (subst (λ (holds : Option Holdings). IsLongFile name holds seen) given.told answer.0) in
+      let long : IsLongFile MAX_SOURCE (Some given.word) (Some given.held) seen =
+      subst (λ (o : Option (List ℕ)). IsLongFile MAX_SOURCE o (Some given.held) seen) given.named (subst (λ (holds : Option Holdings). IsLongFile MAX_SOURCE name holds seen) given.told answer.0) in
       let same : long.1.0 ≡ bytes = let p = long.1.1 in let q = given.file in cc in
       let length_seen : seen ≡ length bytes = long.1.2 ∙ ap length same in
       (omega (arith, long.0, length_seen), length_seen)
   says Usage answer = absurd (some_not_none name given.word given.named answer.0)
+  says (Object fault) answer = absurd answer
   says Memory answer = tt
 
   -- the file is too long
@@ -159,6 +164,7 @@ module _ (name : Option (List ℕ)) (shelf : Files) (old new : Streams) (bytes :
   long_says (Shelf Failed) long said = absurd said
   long_says (Shelf (TooLong seen)) long said = inl (ap (λ (n : ℕ). Shelf (TooLong n)) said.1)
   long_says Usage long said = absurd said
+  long_says (Object fault) long said = absurd said
   long_says Memory long said = inr refl
 
   pub long_file : (outcome : Outcome) → IsAnswer name shelf old new outcome → 1048576 < length bytes → IsOrMemory outcome (Shelf (TooLong (length bytes)))
@@ -175,6 +181,7 @@ module _ (name : Option (List ℕ)) (shelf : Files) (old new : Streams) (bytes :
   faulty_says (Shelf Failed) fault short is said = absurd said
   faulty_says (Shelf (TooLong seen)) fault short is said = absurd (omega (arith, short, said.0))
   faulty_says Usage fault short is said = absurd said
+  faulty_says (Object broken) fault short is said = absurd said
   faulty_says Memory fault short is said = inr refl
 
   pub faulty_source : (outcome : Outcome) → IsAnswer name shelf old new outcome → (fault : SourceFault) → length bytes ≤ 1048576 → IsSourceFault bytes fault → IsOrMemory outcome (Source fault)
@@ -201,6 +208,7 @@ module _ (name : Option (List ℕ)) (shelf : Files) (old new : Streams) (bytes :
   form_says (Shelf Failed) tables fault short built first said = absurd said
   form_says (Shelf (TooLong seen)) tables fault short built first said = absurd (omega (arith, short, said.0))
   form_says Usage tables fault short built first said = absurd said
+  form_says (Object broken) tables fault short built first said = absurd said
   form_says Memory tables fault short built first said = inr refl
 
   pub broken_form : (outcome : Outcome) → IsAnswer name shelf old new outcome → (tables : Tables) (fault : FormFault) → length bytes ≤ 1048576 → AreBuiltTables bytes tables
@@ -263,6 +271,7 @@ module _ (name : Option (List ℕ)) (shelf : Files) (old new : Streams) (tables 
   bad_says (Shelf Failed) fault events bad quiet still said = absurd said
   bad_says (Shelf (TooLong seen)) fault events bad quiet still said = absurd (omega (arith, ready.short, said.0))
   bad_says Usage fault events bad quiet still said = absurd said
+  bad_says (Object broken) fault events bad quiet still said = absurd said
   bad_says Memory fault events bad quiet still said = inr refl
 
   pub bad_script : (outcome : Outcome) → IsAnswer name shelf old new outcome → (fault : ScriptFault) (events : List Event) → IsBad tables script fault events
@@ -283,6 +292,7 @@ module _ (name : Option (List ℕ)) (shelf : Files) (old new : Streams) (tables 
   whole_says (Shelf Failed) events end whole quiet still said = absurd said
   whole_says (Shelf (TooLong seen)) events end whole quiet still said = absurd (omega (arith, ready.short, said.0))
   whole_says Usage events end whole quiet still said = absurd said
+  whole_says (Object broken) events end whole quiet still said = absurd said
   whole_says Memory events end whole quiet still said = inr refl
 
   pub complete : (outcome : Outcome) → IsAnswer name shelf old new outcome → (events : List Event) (end : ℕ) → IsWhole tables script events end
@@ -304,6 +314,7 @@ IsProgram-map name holds Fact Other f program =
 module _ (name : Option (List ℕ)) (shelf : Files) (old new : Streams) where
   pub unread : (outcome : Outcome) → IsAnswer name shelf old new outcome → IsBeforeScript outcome → new.rest ≡ old.rest
   unread Usage answer early = answer.1.rest
+  unread (Object fault) answer early = absurd answer
   unread (Shelf Failed) answer early = answer.1.rest
   unread (Shelf (TooLong seen)) answer early = answer.1.rest
   unread (Source fault) answer early = answer.1.rest
@@ -316,6 +327,7 @@ module _ (name : Option (List ℕ)) (shelf : Files) (old new : Streams) where
 
   pub unwritten : (outcome : Outcome) → IsAnswer name shelf old new outcome → IsBeforeRun outcome → new.written ≡ old.written
   unwritten Usage answer early = answer.1.written
+  unwritten (Object fault) answer early = absurd answer
   unwritten (Shelf Failed) answer early = answer.1.written
   unwritten (Shelf (TooLong seen)) answer early = answer.1.written
   unwritten (Source fault) answer early = answer.1.written
@@ -336,7 +348,7 @@ module _ (name : Option (List ℕ)) (shelf : Files) (old new : Streams) where
     pub shelf_failed : outcome ≡ Shelf Failed → IsFaultOf name shelf.before shelf.after
     shelf_failed e = (at (Shelf Failed) e).0
 
-    pub shelf_long : (seen : ℕ) → outcome ≡ Shelf (TooLong seen) → IsLongFile name shelf.holds seen
+    pub shelf_long : (seen : ℕ) → outcome ≡ Shelf (TooLong seen) → IsLongFile MAX_SOURCE name shelf.holds seen
     shelf_long seen e = (at (Shelf (TooLong seen)) e).0
 
     pub source : (fault : SourceFault) → outcome ≡ Source fault → IsFaultySource name shelf.holds fault
@@ -366,55 +378,3 @@ module _ (name : Option (List ℕ)) (shelf : Files) (old new : Streams) where
 
     pub memory : outcome ≡ Memory → new.written ≡ old.written
     memory e = (at Memory e).1
-
--- ---- what tells of the answer
-
--- running tables breaks no form rule
-pub SpeaksOf-executed : (HasSource : (Tables → Type 0) → Type 0) (tables : Tables) (old new : Streams) (outcome : Outcome) (told : Option Tables)
-    → IsExecuted tables old new outcome → SpeaksOf HasSource outcome told
-SpeaksOf-executed HasSource tables old new Done told executed = tt
-SpeaksOf-executed HasSource tables old new Usage told executed = tt
-SpeaksOf-executed HasSource tables old new (Source fault) told executed = tt
-SpeaksOf-executed HasSource tables old new (IllFormed fault) told executed = absurd executed
-SpeaksOf-executed HasSource tables old new (Script fault) told executed = tt
-SpeaksOf-executed HasSource tables old new (Shelf cause) told executed = tt
-SpeaksOf-executed HasSource tables old new Read told executed = tt
-SpeaksOf-executed HasSource tables old new Write told executed = tt
-SpeaksOf-executed HasSource tables old new Memory told executed = tt
-
--- the source is that of the words
-pub SpeaksOf-source : (name : Option (List ℕ)) (holds : Option Holdings) (bytes : List ℕ) (outcome : Outcome) (told : Option Tables)
-    → IsSource name holds bytes → SpeaksOf (HasBuiltTables bytes) outcome told → SpeaksOf (IsBuiltProgram name holds) outcome told
-SpeaksOf-source name holds bytes Done told source speaks = tt
-SpeaksOf-source name holds bytes Usage told source speaks = tt
-SpeaksOf-source name holds bytes (Source fault) told source speaks = tt
-SpeaksOf-source name holds bytes (IllFormed fault) told source speaks = record { bytes = bytes; source = source; has_tables = speaks }
-SpeaksOf-source name holds bytes (Script fault) told source speaks = tt
-SpeaksOf-source name holds bytes (Shelf cause) told source speaks = tt
-SpeaksOf-source name holds bytes Read told source speaks = tt
-SpeaksOf-source name holds bytes Write told source speaks = tt
-SpeaksOf-source name holds bytes Memory told source speaks = tt
-
-IsBuiltProgram-map : (name : Option (List ℕ)) (holds : Option Holdings) (Fact Other : Tables → Type 0) → ((tables : Tables) → Fact tables → Other tables)
-    → IsBuiltProgram name holds Fact → IsBuiltProgram name holds Other
-IsBuiltProgram-map name holds Fact Other f program =
-    let has = program.has_tables in
-    record {
-      bytes = program.bytes;
-      source = program.source;
-      has_tables = record { tables = has.tables; compiled = has.compiled; fact = f has.tables has.fact };
-    }
-
-pub IsLineTold-report : (name : Option (List ℕ)) (holds : Option Holdings) (Told : List ℕ → Type 0) (outcome : Outcome) (tables : Option Tables)
-    → SpeaksOf (IsBuiltProgram name holds) outcome tables → Told (fault_line tables outcome) → IsLineTold (IsBuiltProgram name holds) Told outcome
-IsLineTold-report name holds Told Done tables speaks told = told
-IsLineTold-report name holds Told Usage tables speaks told = told
-IsLineTold-report name holds Told (Source fault) tables speaks told = told
-IsLineTold-report name holds Told (IllFormed fault) tables speaks told =
-    IsBuiltProgram-map name holds (λ compiled. tables ≡ Some compiled) (λ compiled. Told (fault_line (Some compiled) (IllFormed fault)))
-    (λ compiled same. subst (λ (o : Option Tables). Told (fault_line o (IllFormed fault))) same told) speaks
-IsLineTold-report name holds Told (Script fault) tables speaks told = told
-IsLineTold-report name holds Told (Shelf cause) tables speaks told = told
-IsLineTold-report name holds Told Read tables speaks told = told
-IsLineTold-report name holds Told Write tables speaks told = told
-IsLineTold-report name holds Told Memory tables speaks told = told

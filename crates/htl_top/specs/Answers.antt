@@ -1,15 +1,15 @@
--- What each answer of the top call says, answer by answer.
+-- What each answer of `go` says, answer by answer.
 use Rattle.std.specs.Prelude.{ℕ, ◌≡◌, ◌⊎◌, Option, Some, None, List}
 use Rattle.std.specs.Io.KnownBytes.{append_known}
+use Rattle.htl_base.specs.declared.limits.TheConstants.{MAX_SOURCE}
 use Rattle.htl_edge.specs.Causes.{Rose}
 use Rattle.htl_edge.specs.Content.{AppendsPrefix}
 use Rattle.htl_edge.specs.Holdings.{Holdings}
 use Rattle.htl_model.specs.Tables.{Tables}
 use Rattle.htl_top.specs.Causes.{IsFaultOf, IsLongFile, IsFaultySource, HasTables, HasBuiltTables, IsProgram, IsIllFormed, IsWholeRun, IsFaultyRun, IsCutRun}
 use Rattle.htl_top.specs.Sources.{BreakFirst, IsSourceFault}
-use Rattle.htl_top.specs.Status.{fault_line}
 use Rattle.htl_top.specs.declared.outcome.Outcome.{Outcome}
-use Rattle.htl_top.specs.declared.outcome.Outcome.TheVariants.{Done, Usage, Source, IllFormed, Script, Shelf, Read, Write, Memory}
+use Rattle.htl_top.specs.declared.outcome.Outcome.TheVariants.{Done, Usage, Source, IllFormed, Object, Script, Shelf, Read, Write, Memory}
 use Rattle.htl_top.specs.declared.outcome.ShelfCause.TheVariants.{Failed, TooLong}
 
 -- the input and the output at one moment: what is left, what was written, and the counts of faults
@@ -53,6 +53,7 @@ IsExecuted tables old new Memory = new.written ≡ old.written
 IsExecuted tables old new Usage = ⊥
 IsExecuted tables old new (Source fault) = ⊥
 IsExecuted tables old new (IllFormed fault) = ⊥
+IsExecuted tables old new (Object fault) = ⊥
 IsExecuted tables old new (Shelf cause) = ⊥
 
 -- the source with these bytes is compiled and run
@@ -65,15 +66,17 @@ IsGoAnswer bytes old new Memory = new.written ≡ old.written
 IsGoAnswer bytes old new (Source fault) = IsSourceFault bytes fault × IsUntouched old new
 IsGoAnswer bytes old new (IllFormed fault) = HasBuiltTables bytes (λ tables. BreakFirst tables fault) × IsUntouched old new
 IsGoAnswer bytes old new Usage = ⊥
+IsGoAnswer bytes old new (Object fault) = ⊥
 IsGoAnswer bytes old new (Shelf cause) = ⊥
 
--- the whole call, for the name in its words
+-- `go` of the source with this name, or no command where there is none
 abbrev pub IsAnswer : Option (List ℕ) → Files → Streams → Streams → Outcome → Type 0
 IsAnswer name shelf old new Usage = (name ≡ None) × IsUntouched old new
 IsAnswer name shelf old new (Shelf Failed) = IsFaultOf name shelf.before shelf.after × IsUntouched old new
-IsAnswer name shelf old new (Shelf (TooLong seen)) = IsLongFile name shelf.holds seen × IsUntouched old new
+IsAnswer name shelf old new (Shelf (TooLong seen)) = IsLongFile MAX_SOURCE name shelf.holds seen × IsUntouched old new
 IsAnswer name shelf old new (Source fault) = IsFaultySource name shelf.holds fault × IsUntouched old new
 IsAnswer name shelf old new (IllFormed fault) = IsIllFormed name shelf.holds fault × IsUntouched old new
+IsAnswer name shelf old new (Object fault) = ⊥
 IsAnswer name shelf old new Done = IsProgram name shelf.holds (λ tables. IsExecuted tables old new Done)
 IsAnswer name shelf old new (Script fault) = IsProgram name shelf.holds (λ tables. IsExecuted tables old new (Script fault))
 IsAnswer name shelf old new Read = IsProgram name shelf.holds (λ tables. IsExecuted tables old new Read)
@@ -88,6 +91,7 @@ IsBeforeScript Usage = Unit {0}
 IsBeforeScript (Shelf cause) = Unit {0}
 IsBeforeScript (Source fault) = Unit {0}
 IsBeforeScript (IllFormed fault) = Unit {0}
+IsBeforeScript (Object fault) = Unit {0}
 IsBeforeScript Done = ⊥
 IsBeforeScript (Script fault) = ⊥
 IsBeforeScript Read = ⊥
@@ -100,6 +104,7 @@ IsBeforeRun Usage = Unit {0}
 IsBeforeRun (Shelf cause) = Unit {0}
 IsBeforeRun (Source fault) = Unit {0}
 IsBeforeRun (IllFormed fault) = Unit {0}
+IsBeforeRun (Object fault) = Unit {0}
 IsBeforeRun Read = Unit {0}
 IsBeforeRun Memory = Unit {0}
 IsBeforeRun Done = ⊥
@@ -107,30 +112,6 @@ IsBeforeRun (Script fault) = ⊥
 IsBeforeRun Write = ⊥
 
 -- ---- what tells of an answer
-
--- The tables that the line of an answer speaks of: those of the source, where they break a form rule.
-abbrev pub SpeaksOf : ((Tables → Type 0) → Type 0) → Outcome → Option Tables → Type 0
-SpeaksOf HasSource (IllFormed fault) tables = HasSource (λ compiled. tables ≡ Some compiled)
-SpeaksOf HasSource Done tables = Unit {0}
-SpeaksOf HasSource Usage tables = Unit {0}
-SpeaksOf HasSource (Source fault) tables = Unit {0}
-SpeaksOf HasSource (Script fault) tables = Unit {0}
-SpeaksOf HasSource (Shelf cause) tables = Unit {0}
-SpeaksOf HasSource Read tables = Unit {0}
-SpeaksOf HasSource Write tables = Unit {0}
-SpeaksOf HasSource Memory tables = Unit {0}
-
--- The line of an answer was told. That of IllFormed has names of the tables of the source; no other needs tables.
-abbrev pub IsLineTold : ((Tables → Type 0) → Type 0) → (List ℕ → Type 0) → Outcome → Type 0
-IsLineTold HasSource Told (IllFormed fault) = HasSource (λ tables. Told (fault_line (Some tables) (IllFormed fault)))
-IsLineTold HasSource Told Done = Told (fault_line None Done)
-IsLineTold HasSource Told Usage = Told (fault_line None Usage)
-IsLineTold HasSource Told (Source fault) = Told (fault_line None (Source fault))
-IsLineTold HasSource Told (Script fault) = Told (fault_line None (Script fault))
-IsLineTold HasSource Told (Shelf cause) = Told (fault_line None (Shelf cause))
-IsLineTold HasSource Told Read = Told (fault_line None Read)
-IsLineTold HasSource Told Write = Told (fault_line None Write)
-IsLineTold HasSource Told Memory = Told (fault_line None Memory)
 
 -- What is told on a sink: the whole line, or a prefix of it where the count of faults rose.
 abbrev pub Tells : Option (List ℕ) → Option (List ℕ) → ℕ → ℕ → List ℕ → Type 0

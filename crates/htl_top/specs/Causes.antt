@@ -27,11 +27,10 @@ abbrev pub IsFaultOf : Option (List ℕ) → (List ℕ → ℕ) → (List ℕ �
 IsFaultOf None before after = ⊥
 IsFaultOf (Some word) before after = Rose (before word) (after word)
 
--- The words name a file, and it has more than 1,048,576 bytes. All of them were seen where the shelf tells
--- what it holds.
-abbrev pub IsLongFile : Option (List ℕ) → Option Holdings → ℕ → Type 0
-IsLongFile None holds seen = ⊥
-IsLongFile (Some word) holds seen = IsTooLong holds word MAX_SOURCE (LongFile seen)
+-- The words name a file, and it has more bytes than a limit. All of them were seen where the shelf tells what it holds.
+abbrev pub IsLongFile : ℕ → Option (List ℕ) → Option Holdings → ℕ → Type 0
+IsLongFile limit None holds seen = ⊥
+IsLongFile limit (Some word) holds seen = IsTooLong holds word limit (LongFile seen)
 
 -- The words name a file with these bytes, where the shelf tells what it holds; they are at most 1,048,576.
 pub record IsSource (name : Option (List ℕ)) (holds : Option Holdings) (bytes : List ℕ) : Type 0 where

@@ -1,13 +1,21 @@
 -- The status of each answer, and the line that tells of it.
 use Rattle.std.specs.Prelude.{ℕ, List, [], ◌++◌, Option, None, Some, slice_get, codes, decimal}
+use Rattle.htl_ecode.specs.declared.fault.EKind.{EKind}
+use Rattle.htl_ecode.specs.declared.fault.EKind.TheVariants as departure
+use Rattle.htl_load.specs.declared.fault.ObjectFault.{ObjectFault}
+use Rattle.htl_load.specs.declared.fault.ObjectFault.TheVariants as object
 use Rattle.htl_model.specs.Lines.{module_name, mode_name}
 use Rattle.htl_model.specs.Tables.{Tables}
 use Rattle.htl_model.specs.declared.form_fault.FormFault.{FormFault}
 use Rattle.htl_script.specs.declared.fault.ScriptFault.{ScriptFault}
 use Rattle.htl_script.specs.declared.fault.ScriptKind.{ScriptKind}
 use Rattle.htl_script.specs.declared.fault.ScriptKind.TheVariants as kind
+use Rattle.htl_object.specs.declared.malformed.MalKind.{MalKind}
+use Rattle.htl_object.specs.declared.malformed.MalKind.TheVariants as field
+use Rattle.htl_walk.specs.declared.miss.Miss.{Miss}
+use Rattle.htl_walk.specs.declared.miss.Miss.TheVariants as miss
 use Rattle.htl_top.specs.declared.outcome.Outcome.{Outcome}
-use Rattle.htl_top.specs.declared.outcome.Outcome.TheVariants.{Done, Usage, Source, IllFormed, Script, Shelf, Read, Write, Memory}
+use Rattle.htl_top.specs.declared.outcome.Outcome.TheVariants.{Done, Usage, Source, IllFormed, Object, Script, Shelf, Read, Write, Memory}
 use Rattle.htl_top.specs.declared.outcome.ShelfCause.{ShelfCause}
 use Rattle.htl_top.specs.declared.outcome.ShelfCause.TheVariants.{Failed, TooLong}
 use Rattle.htl_top.specs.declared.source_fault.SourceFault.{SourceFault}
@@ -18,6 +26,7 @@ status_of Done = 0
 status_of Usage = 2
 status_of (Source fault) = 3
 status_of (IllFormed fault) = 4
+status_of (Object fault) = 6
 status_of (Script fault) = 7
 status_of (Shelf cause) = 8
 status_of Read = 9
@@ -57,10 +66,48 @@ abbrev pub place_in : Option Tables → FormFault → List ℕ
 place_in (Some t) fault = place_of_fault t fault
 place_in None fault = []
 
+-- the rule, the place and the two numbers
+abbrev pub form_text : Option Tables → FormFault → List ℕ
+form_text tables fault =
+    decimal fault.rule ++ codes " at " ++ place_in tables fault ++ codes " have " ++ decimal fault.have ++ codes " need " ++ decimal fault.need
+    ++ codes "\n"
+
 abbrev pub form_line : Option Tables → FormFault → List ℕ
-form_line tables fault =
-    codes "htl: ill-formed " ++ decimal fault.rule ++ codes " at " ++ place_in tables fault ++ codes " have " ++ decimal fault.have
-    ++ codes " need " ++ decimal fault.need ++ codes "\n"
+form_line tables fault = codes "htl: ill-formed " ++ form_text tables fault
+
+-- ---- a fault of an object
+
+-- the kind of a bad field
+abbrev pub field_word : MalKind → List ℕ
+field_word field.Magic = codes "magic"
+field_word field.Version = codes "version"
+field_word field.Short = codes "short"
+field_word field.Index = codes "index"
+field_word field.Tag = codes "tag"
+field_word field.Spelling = codes "spelling"
+field_word field.Trailing = codes "trailing"
+
+-- the kind of a departure of E code
+abbrev pub departure_word : EKind → List ℕ
+departure_word departure.Target = codes "target"
+departure_word departure.Action = codes "action"
+departure_word departure.Delay = codes "delay"
+departure_word departure.Endless = codes "endless"
+departure_word departure.Branch = codes "branch"
+
+-- the first miss of a schedule, by positions and places
+abbrev pub miss_text : Miss → List ℕ
+miss_text (miss.Late p finish window_end) = codes "late " ++ decimal p ++ codes " finish " ++ decimal finish ++ codes " end " ++ decimal window_end
+miss_text (miss.Unfinished p left) = codes "unfinished " ++ decimal p ++ codes " left " ++ decimal left
+miss_text (miss.Before p predecessor at) = codes "before " ++ decimal p ++ codes " " ++ decimal predecessor ++ codes " at " ++ decimal at
+miss_text (miss.Order instr) = codes "order " ++ decimal instr
+
+abbrev pub object_line : Option Tables → ObjectFault → List ℕ
+object_line tables (object.Malformed bad) = codes "htl: object malformed " ++ field_word bad.kind ++ codes " " ++ decimal bad.offset ++ codes "\n"
+object_line tables (object.IllFormed fault) = codes "htl: object ill-formed " ++ form_text tables fault
+object_line tables (object.Function k) = codes "htl: object function " ++ decimal k ++ codes "\n"
+object_line tables (object.ECode fault) = codes "htl: object ecode " ++ decimal fault.address ++ codes " " ++ departure_word fault.kind ++ codes "\n"
+object_line tables (object.Schedule sel m) = codes "htl: object schedule " ++ decimal sel ++ codes " " ++ miss_text m ++ codes "\n"
 
 -- ---- a fault of a script
 
@@ -84,12 +131,13 @@ abbrev pub shelf_line : ShelfCause → List ℕ
 shelf_line Failed = codes "htl: shelf failed\n"
 shelf_line (TooLong seen) = codes "htl: shelf too-long " ++ decimal seen ++ codes "\n"
 
--- The line that tells of an answer; none tells of Done. That of IllFormed names its place by tables.
+-- The line that tells of an answer; none tells of Done. Those of a broken form rule name its place by tables.
 abbrev pub fault_line : Option Tables → Outcome → List ℕ
 fault_line tables Done = []
 fault_line tables Usage = codes "htl: usage\n"
 fault_line tables (Source fault) = source_line fault
 fault_line tables (IllFormed fault) = form_line tables fault
+fault_line tables (Object fault) = object_line tables fault
 fault_line tables (Script fault) = script_line fault
 fault_line tables (Shelf cause) = shelf_line cause
 fault_line tables Read = codes "htl: read\n"

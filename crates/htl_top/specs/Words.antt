@@ -1,15 +1,64 @@
 -- The words of a command.
-use Rattle.std.specs.Prelude.{ℕ, cond, Option, None, Some, List, [], ◌∷◌, codes, map}
+use Rattle.std.specs.Prelude.{ℕ, Option, None, Some, List, [], ◌∷◌, codes, map, if◌then◌else◌}
 use Rattle.std.specs.Borrow.{Bor}
+use Rattle.std.specs.Option.{option_map}
 use Rattle.std.specs.Str.{bytes_eq}
+use Rattle.htl_top.specs.declared.words.Verb.{Verb}
+use Rattle.htl_top.specs.declared.words.Verb.TheVariants as verb
 
--- the name in the words `go NAME`; none where the words are others
-abbrev pub go_name : List (List ℕ) → Option (List ℕ)
-go_name (word ∷ name ∷ []) = cond (bytes_eq word (codes "go")) (Some name) None
-go_name (word ∷ name ∷ other ∷ others) = None
-go_name (word ∷ []) = None
-go_name [] = None
+-- what the words ask for, with the name of the file that they name
+pub data Command : Type 0 where
+  Go : (name : List ℕ) → Command
+  Check : (name : List ℕ) → Command
+  Plan : (name : List ℕ) → Command
+  Show : (name : List ℕ) → Command
+
+-- `go`, `check`, `plan` and `show`
+abbrev pub verb_of : List ℕ → Option Verb
+verb_of word =
+    if bytes_eq word (codes "go") then Some verb.Go
+    else if bytes_eq word (codes "check") then Some verb.Check
+    else if bytes_eq word (codes "plan") then Some verb.Plan
+    else if bytes_eq word (codes "show") then Some verb.Show
+    else None
+
+abbrev pub with_file : Verb → List ℕ → Command
+with_file verb.Go name = Go name
+with_file verb.Check name = Check name
+with_file verb.Plan name = Plan name
+with_file verb.Show name = Show name
+
+-- a verb and the name of a file; other words are no command
+abbrev pub command_of : List (List ℕ) → Option Command
+command_of (word ∷ name ∷ []) = option_map (λ (v : Verb). with_file v name) (verb_of word)
+command_of (word ∷ name ∷ other ∷ others) = None
+command_of (word ∷ []) = None
+command_of [] = None
 
 -- the same of words that are lent
-abbrev pub name_in : List (Bor (List ℕ)) → Option (List ℕ)
-name_in words = go_name (map (λ (word : Bor (List ℕ)). word.now) words)
+abbrev pub command_in : List (Bor (List ℕ)) → Option Command
+command_in words = command_of (map (λ (word : Bor (List ℕ)). word.now) words)
+
+-- ---- the file
+
+-- the source that a command runs
+abbrev pub source_of : Option Command → Option (List ℕ)
+source_of (Some (Go name)) = Some name
+source_of (Some (Check name)) = None
+source_of (Some (Plan name)) = None
+source_of (Some (Show name)) = None
+source_of None = None
+
+-- the object that a command is about
+abbrev pub object_of : Option Command → Option (List ℕ)
+object_of (Some (Go name)) = None
+object_of (Some (Check name)) = Some name
+object_of (Some (Plan name)) = Some name
+object_of (Some (Show name)) = Some name
+object_of None = None
+
+abbrev pub source_in : List (Bor (List ℕ)) → Option (List ℕ)
+source_in words = source_of (command_in words)
+
+abbrev pub object_in : List (Bor (List ℕ)) → Option (List ℕ)
+object_in words = object_of (command_in words)

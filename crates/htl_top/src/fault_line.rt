@@ -2,15 +2,16 @@
 ghost use Rattle.std.specs.Prelude.{◌≡◌, ◌++◌, ◌+◌, ◌≤◌, codes, decimal, length};
 ghost use Rattle.std.specs.Option.{option_copied};
 ghost use Rattle.htl_top.specs.Answers.{Tells};
-ghost use Rattle.htl_top.specs.Status.{fault_line as line_of, source_line, form_line, place_in, kind_text, script_line, shelf_line};
+ghost use Rattle.htl_top.specs.Status.{fault_line as line_of, source_line, form_line, form_text, place_in, kind_text, script_line, shelf_line};
 
+use crate::object_line::object_line;
 use crate::place::place;
 use crate::{Outcome, ShelfCause, SourceFault};
 use htl_edge::{LineBuffer, Sink, put_all};
 use htl_model::{FormFault, Tables};
 use htl_script::{ScriptFault, ScriptKind};
 
-/// Tells of an answer other than Done, by its line. The line of `IllFormed` has its names from `tables`.
+/// Tells of an answer other than Done, by its line. The line of a broken form rule has its names from `tables`.
 pub fn report<E: Sink>(err: &mut E, tables: Option<&Tables>, outcome: &Outcome)
     ensures told { Tells (E.written err.old) (E.written err.new) (E.faults err.old) (E.faults err.new) (line_of (option_copied tables.entry) outcome.now) }
     ensures quiet { outcome.now ≡ Outcome.Done → E.written err.new ≡ E.written err.old }
@@ -31,6 +32,7 @@ fn fault_line(tables: Option<&Tables>, outcome: &Outcome) -> LineBuffer
         Outcome::Usage => plain_line(b"htl: usage\n"),
         Outcome::Source(fault) => source_line(fault),
         Outcome::IllFormed(fault) => form_line(tables, fault),
+        Outcome::Object(fault) => object_line(tables, fault),
         Outcome::Script(fault) => script_line(fault),
         Outcome::Shelf(cause) => shelf_line(cause),
         Outcome::Read => plain_line(b"htl: read\n"),
@@ -74,9 +76,17 @@ fn limit_line(which: u8, count: u32) -> LineBuffer
 fn form_line(tables: Option<&Tables>, fault: &FormFault) -> LineBuffer
     ensures { result ≡ form_line (option_copied tables.entry) fault.now }
 {
+    form_text(b"htl: ill-formed ", tables, fault)
+}
+
+/// A text of at most 23 bytes, and then the broken form rule, its place and its two numbers.
+pub fn form_text(text: &[u8], tables: Option<&Tables>, fault: &FormFault) -> LineBuffer
+    requires { length text.now ≤ 23 }
+    ensures { result ≡ text.now ++ form_text (option_copied tables.entry) fault.now }
+{
     let place = place_of(tables, fault);
     let mut line = LineBuffer::new();
-    line.text(b"htl: ill-formed ");
+    line.text(text);
     line.number(fault.rule as u64);
     line.text(b" at ");
     line.text(place.as_bytes());
@@ -160,8 +170,8 @@ fn plain_line(text: &[u8]) -> LineBuffer
     line
 }
 
-// The text, a number and a line feed.
-fn numbered_line(text: &[u8], number: u64) -> LineBuffer
+/// The text, a number and a line feed.
+pub fn numbered_line(text: &[u8], number: u64) -> LineBuffer
     requires { length text.now ≤ 64 }
     ensures { result ≡ text.now ++ decimal number ++ codes "\n" }
 {

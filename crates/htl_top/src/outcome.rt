@@ -3,6 +3,7 @@ ghost use Rattle.std.specs.Prelude.{◌≡◌};
 ghost use Rattle.htl_top.specs.Status.{status_of};
 
 use crate::SourceFault;
+use htl_load::ObjectFault;
 use htl_model::FormFault;
 use htl_script::ScriptFault;
 
@@ -11,7 +12,7 @@ use htl_script::ScriptFault;
 pub enum ShelfCause {
     /// It failed, and counted it as a fault of the name; so it does where it has no such file.
     Failed,
-    /// The file has too many bytes: more than 1,048,576 for a source.
+    /// The file has too many bytes: more than 1,048,576 for a source, more than 16,777,216 for an object.
     TooLong {
         /// How many bytes were seen: all of them, where the shelf tells what it holds.
         seen: u64,
@@ -29,6 +30,8 @@ pub enum Outcome {
     Source(SourceFault),
     /// The tables of the source break a form rule.
     IllFormed(FormFault),
+    /// The file is no accepted object: its bytes are none, or the object fails a test.
+    Object(ObjectFault),
     /// The script isn't whole; the lines of the events before its first fault were written.
     Script(ScriptFault),
     /// The shelf didn't give the file.
@@ -41,7 +44,7 @@ pub enum Outcome {
     Memory,
 }
 
-/// The status with which the program ends: 0 for Done, 2 Usage, 3 Source, 4 IllFormed, 7 Script, 8 Shelf, 9
+/// The status with which the program ends: 0 for Done, 2 Usage, 3 Source, 4 IllFormed, 6 Object, 7 Script, 8 Shelf, 9
 /// Read, 10 Write and 11 Memory.
 pub fn status(o: &Outcome) -> u8
     ensures { result ≡ status_of o.now }
@@ -51,6 +54,7 @@ pub fn status(o: &Outcome) -> u8
         Outcome::Usage => 2,
         Outcome::Source(_) => 3,
         Outcome::IllFormed(_) => 4,
+        Outcome::Object(_) => 6,
         Outcome::Script(_) => 7,
         Outcome::Shelf(_) => 8,
         Outcome::Read => 9,

@@ -19,16 +19,16 @@ const LINES: [&str; 5] = [
 
 /// The script, the bytes that each read gives at most, and the reads and writes that fail, counted from 1.
 #[derive(Clone, Copy)]
-struct Setting {
-    script: &'static str,
-    step: usize,
-    read: u64,
-    write: u64,
-    tell: u64,
+pub struct Setting {
+    pub script: &'static str,
+    pub step: usize,
+    pub read: u64,
+    pub write: u64,
+    pub tell: u64,
 }
 
 impl Setting {
-    fn of(script: &'static str) -> Setting {
+    pub fn of(script: &'static str) -> Setting {
         Setting {
             script,
             step: 7,
@@ -54,7 +54,7 @@ impl Called {
 }
 
 // A shelf that holds these bytes under the name A.
-fn drawer(alloc: Global, source: Vec<u8>) -> Result<Drawer, Fail> {
+pub fn drawer(alloc: Global, source: Vec<u8>) -> Result<Drawer, Fail> {
     let items = vec![in alloc; (String::from_str(alloc, "A")?, source)]?;
     Ok(Drawer::new(alloc, items, &[])?)
 }
@@ -78,7 +78,7 @@ fn call(
 }
 
 // Whether a call is answered so, where what it tells goes through, and where it fails, which changes nothing else.
-fn is_answered(
+pub fn is_answered(
     alloc: Global,
     words: &[&str],
     shelf: &mut Drawer,

@@ -3,7 +3,7 @@ use Rattle.htl_top.proofs.Answering.{IsGoAnswer-executed}
 use Rattle.htl_top.proofs.SourceLaws.{tables_plain}
 use Rattle.htl_top.specs.Answers.{streams, IsGoAnswer}
 use Rattle.htl_top.specs.declared.outcome.Outcome.{Outcome}
-use Rattle.htl_top.proofs.top.go.Goals as goal
+use Rattle.htl_top.proofs.go.go.Goals as goal
 
 pub execute-requires : goal.execute-requires
 execute-requires g c = tables_plain c.args.bytes.now c.in-Ok.tables c.in-Ok.ensures.0.compiled c.in-Ok.ensures.1

@@ -1,0 +1,331 @@
+-- What a command on an object answers, by what it does with an accepted one.
+use Rattle.std.proofs.Common.{arith, ◌≡◌, ◌≤◌, ◌<◌, ◌⊎◌, ℕ, List, length, Option, Some, Ok, Err, refl, sym, ap, ◌∙◌, subst, inl, inr}
+use Rattle.std.specs.FinMap.{get}
+use Rattle.htl_base.specs.declared.limits.TheConstants.{MAX_OBJECT}
+use Rattle.htl_edge.specs.Causes.{Rose}
+use Rattle.htl_edge.specs.Holdings.{Holdings, HoldsUnder}
+use Rattle.htl_load.proofs.Telling.{accepted_bytes, fault_told, bad_field_told}
+use Rattle.htl_load.specs.Loading.{HasBytes, RefusesBytes, RefusesObject}
+use Rattle.htl_load.specs.declared.fault.ObjectFault.{ObjectFault}
+use Rattle.htl_load.specs.declared.fault.ObjectFault.TheVariants as fault
+use Rattle.htl_object.proofs.ObjectLaws.{one_object, says_itself}
+use Rattle.htl_object.specs.Accepted.{IsAccepted}
+use Rattle.htl_object.specs.Files.{fault_of, whole_at}
+use Rattle.htl_object.specs.Objects.{object_in, object_or}
+use Rattle.htl_object.specs.Reading.{Read as ReadOf}
+use Rattle.htl_object.specs.declared.lists.Lists.{Lists}
+use Rattle.htl_object.specs.declared.malformed.Malformed.{Malformed}
+use Rattle.htl_object.specs.declared.object.Object.{Object}
+use Rattle.htl_top.specs.Answers.{Files, Streams, IsWritten, IsBeforeScript, IsBeforeRun}
+use Rattle.htl_top.specs.Causes.{IsFaultOf, IsLongFile, IsGiven, IsOrMemory}
+use Rattle.htl_top.specs.Objects.{IsObjectFile, IsRefusedFile, IsAcceptedFile, IsStopped, IsOnObject, IsTextAnswer, IsTextOnObject, IsReadyObject, Work}
+use Rattle.htl_model.specs.declared.form_fault.FormFault.{FormFault}
+use Rattle.htl_top.specs.declared.source_fault.SourceFault.{SourceFault}
+use Rattle.htl_top.specs.declared.outcome.Outcome.{Outcome}
+use Rattle.htl_top.specs.declared.outcome.Outcome.TheVariants.{Done, Usage, Source, IllFormed, Object as Refused, Script, Shelf, Read, Write, Memory}
+use Rattle.htl_top.specs.declared.outcome.ShelfCause.TheVariants.{Failed, TooLong}
+
+-- ---- bytes have one object, or one fault
+
+one_of_bytes : (bytes : List ℕ) (o p : Object) → HasBytes bytes o → HasBytes bytes p → o ≡ p
+one_of_bytes bytes o p h k = one_object o p h.object k.object (sym h.spelled ∙ k.spelled)
+
+said : (bytes : List ℕ) (o : Object) → HasBytes bytes o → object_in bytes ≡ Ok o
+said bytes o h = ap object_in h.spelled ∙ says_itself o h.object
+
+accepted_or_refused : (bytes : List ℕ) (o : Object) (f : ObjectFault) → HasBytes bytes o → IsAccepted o → RefusesBytes bytes f → ⊥
+accepted_or_refused bytes o f h accepted refused = accepted_bytes bytes o (said bytes o h) (λ p k. one_of_bytes bytes o p h k) accepted f refused
+
+not_both : (bytes : List ℕ) (r : ReadOf Lists) (o : Object) (m : Malformed) → object_or bytes r ≡ Ok o → fault_of bytes r ≡ Some m → ⊥
+not_both bytes (Ok x) o m p q = cc
+not_both bytes (Err bad) o m p q = cc
+
+of_object : (bytes : List ℕ) (f g : ObjectFault) → RefusesObject bytes g → RefusesBytes bytes f → f ≡ g
+of_object bytes f g r refused =
+    fault_told bytes r.object (said bytes r.object r.has) (λ p k. one_of_bytes bytes r.object p r.has k) r.has.object.ranges g r.refused f refused
+
+-- they are refused for one fault
+pub one_refusal : (bytes : List ℕ) (f g : ObjectFault) → RefusesBytes bytes f → RefusesBytes bytes g → f ≡ g
+one_refusal bytes f (fault.Malformed m) p q = bad_field_told bytes m q (λ o h. not_both bytes (whole_at bytes) o m (said bytes o h) q) f p
+one_refusal bytes f (fault.IllFormed g) p q = of_object bytes f (fault.IllFormed g) q p
+one_refusal bytes f (fault.Function k) p q = of_object bytes f (fault.Function k) q p
+one_refusal bytes f (fault.ECode e) p q = of_object bytes f (fault.ECode e) q p
+one_refusal bytes f (fault.Schedule sel m) p q = of_object bytes f (fault.Schedule sel m) q p
+
+-- ---- a text
+
+pub IsTextAnswer-written : (text : List ℕ) (old new : Streams) (outcome : Outcome) → new.rest ≡ old.rest
+    → IsWritten text Done old.written new.written old.write_faults new.write_faults outcome → IsTextAnswer text old new outcome
+IsTextAnswer-written text old new outcome same written =
+    elim written [
+      | inl w ↦ subst (λ (o : Outcome). IsTextAnswer text old new o) (sym w.0) (same, w.1)
+      | inr w ↦ subst (λ (o : Outcome). IsTextAnswer text old new o) (sym w.0) (same, w.1, w.2)
+    ]
+
+pub IsAcceptedFile-map : (name : Option (List ℕ)) (holds : Option Holdings) (Fact Other : Object → Type 0) → ((o : Object) → Fact o → Other o)
+    → IsAcceptedFile name holds Fact → IsAcceptedFile name holds Other
+IsAcceptedFile-map name holds Fact Other f a =
+    record { bytes = a.bytes; file = a.file; object = a.object; has = a.has; accepted = a.accepted; fact = f a.object a.fact }
+
+pub IsOnObject-text : (text : Object → List ℕ) (name : Option (List ℕ)) (shelf : Files) (old new : Streams) (outcome : Outcome) → new.rest ≡ old.rest
+    → IsTextOnObject text name shelf old.written new.written old.write_faults new.write_faults outcome
+    → IsOnObject (λ o before after answer. IsTextAnswer (text o) before after answer) name shelf old new outcome
+IsOnObject-text text name shelf old new outcome same on = elim on [
+  | inl a ↦
+      inl (
+      IsAcceptedFile-map name shelf.holds (λ o. IsWritten (text o) Done old.written new.written old.write_faults new.write_faults outcome)
+      (λ o. IsTextAnswer (text o) old new outcome) (λ o w. IsTextAnswer-written (text o) old new outcome same w) a
+      )
+  | inr s ↦ inr (s.0, record { rest = same; written = s.1 })
+]
+
+-- an accepted object was had, and its text was written
+pub IsTextOnObject-opened : (text : Object → List ℕ) (name : Option (List ℕ)) (shelf : Files) (old new : Option (List ℕ)) (before now : ℕ) (loaded : Object) (put : List ℕ) → put ≡ text loaded
+    → (given outcome : Outcome) → outcome ≡ given → IsAcceptedFile name shelf.holds (λ o. o ≡ loaded) → IsWritten put Done old new before now given
+    → IsTextOnObject text name shelf old new before now outcome
+IsTextOnObject-opened text name shelf old new before now loaded put same given outcome is opened written =
+    let told : IsWritten (text loaded) Done old new before now outcome =
+    subst (λ (bs : List ℕ). IsWritten bs Done old new before now outcome) same (subst (λ (o : Outcome). IsWritten put Done old new before now o) (sym is) written) in
+    inl (
+    IsAcceptedFile-map name shelf.holds (λ o. o ≡ loaded) (λ o. IsWritten (text o) Done old new before now outcome)
+    (λ o e. subst (λ (p : Object). IsWritten (text p) Done old new before now outcome) (sym e) told) opened
+    )
+
+-- an accepted object was had, and the command did its work
+pub IsOnObject-opened : (Does : Work) (name : Option (List ℕ)) (shelf : Files) (old new : Streams) (loaded : Object) (given outcome : Outcome) → outcome ≡ given
+    → IsAcceptedFile name shelf.holds (λ o. o ≡ loaded) → Does loaded old new given → IsOnObject Does name shelf old new outcome
+IsOnObject-opened Does name shelf old new loaded given outcome is opened does =
+    let done : Does loaded old new outcome = subst (λ (o : Outcome). Does loaded old new o) (sym is) does in
+    inl (
+    IsAcceptedFile-map name shelf.holds (λ o. o ≡ loaded) (λ o. Does o old new outcome)
+    (λ o e. subst (λ (p : Object). Does p old new outcome) (sym e) done) opened
+    )
+
+-- ---- answers of work
+
+-- answers that an accepted object may have
+abbrev pub IsOfWork : Outcome → Type 0
+IsOfWork Done = Unit {0}
+IsOfWork (Script f) = Unit {0}
+IsOfWork Read = Unit {0}
+IsOfWork Write = Unit {0}
+IsOfWork Memory = Unit {0}
+IsOfWork Usage = ⊥
+IsOfWork (Source f) = ⊥
+IsOfWork (IllFormed f) = ⊥
+IsOfWork (Refused f) = ⊥
+IsOfWork (Shelf cause) = ⊥
+
+-- the answers of what is done with an accepted object are such, and some leave the output as it was
+pub record IsWork (Does : Work) : Type 0 where
+  pub only : (o : Object) (old new : Streams) (outcome : Outcome) → Does o old new outcome → IsOfWork outcome
+  pub unwritten : (o : Object) (old new : Streams) (outcome : Outcome) → Does o old new outcome → IsBeforeRun outcome → new.written ≡ old.written
+
+text_only : (text : List ℕ) (old new : Streams) (outcome : Outcome) → IsTextAnswer text old new outcome → IsOfWork outcome
+text_only text old new Done answer = tt
+text_only text old new Write answer = tt
+text_only text old new Usage answer = absurd answer
+text_only text old new (Source f) answer = absurd answer
+text_only text old new (IllFormed f) answer = absurd answer
+text_only text old new (Refused f) answer = absurd answer
+text_only text old new (Script f) answer = absurd answer
+text_only text old new (Shelf cause) answer = absurd answer
+text_only text old new Read answer = absurd answer
+text_only text old new Memory answer = absurd answer
+
+text_unwritten : (text : List ℕ) (old new : Streams) (outcome : Outcome) → IsTextAnswer text old new outcome → IsBeforeRun outcome → new.written ≡ old.written
+text_unwritten text old new Done answer early = absurd early
+text_unwritten text old new Write answer early = absurd early
+text_unwritten text old new Usage answer early = absurd answer
+text_unwritten text old new (Source f) answer early = absurd answer
+text_unwritten text old new (IllFormed f) answer early = absurd answer
+text_unwritten text old new (Refused f) answer early = absurd answer
+text_unwritten text old new (Script f) answer early = absurd answer
+text_unwritten text old new (Shelf cause) answer early = absurd answer
+text_unwritten text old new Read answer early = absurd answer
+text_unwritten text old new Memory answer early = absurd answer
+
+pub text_is_work : (text : Object → List ℕ) → IsWork (λ o old new outcome. IsTextAnswer (text o) old new outcome)
+text_is_work text = record {
+  only = λ o old new outcome answer. text_only (text o) old new outcome answer;
+  unwritten = λ o old new outcome answer early. text_unwritten (text o) old new outcome answer early;
+}
+
+-- nothing is read for a text
+pub text_unread : (text : List ℕ) (old new : Streams) (outcome : Outcome) → IsTextAnswer text old new outcome → new.rest ≡ old.rest
+text_unread text old new Done answer = answer.0
+text_unread text old new Write answer = answer.0
+text_unread text old new Usage answer = absurd answer
+text_unread text old new (Source f) answer = absurd answer
+text_unread text old new (IllFormed f) answer = absurd answer
+text_unread text old new (Refused f) answer = absurd answer
+text_unread text old new (Script f) answer = absurd answer
+text_unread text old new (Shelf cause) answer = absurd answer
+text_unread text old new Read answer = absurd answer
+text_unread text old new Memory answer = absurd answer
+
+-- a text is written where the output doesn't fail
+pub text_done : (text : List ℕ) (old new : Streams) (outcome : Outcome) → IsTextAnswer text old new outcome → (Rose old.write_faults new.write_faults → ⊥) → IsOrMemory outcome Done
+text_done text old new Done answer still = inl refl
+text_done text old new Write answer still = absurd (still answer.1)
+text_done text old new Usage answer still = absurd answer
+text_done text old new (Source f) answer still = absurd answer
+text_done text old new (IllFormed f) answer still = absurd answer
+text_done text old new (Refused f) answer still = absurd answer
+text_done text old new (Script f) answer still = absurd answer
+text_done text old new (Shelf cause) answer still = absurd answer
+text_done text old new Read answer still = absurd answer
+text_done text old new Memory answer still = absurd answer
+
+-- ---- the clauses
+
+-- what nothing read and nothing written goes with
+stopped_before : (name : Option (List ℕ)) (shelf : Files) (outcome : Outcome) → IsStopped name shelf outcome → IsOfWork outcome → outcome ≡ Memory
+stopped_before name shelf Memory stopped work = refl
+stopped_before name shelf Done stopped work = absurd stopped
+stopped_before name shelf Usage stopped work = absurd stopped
+stopped_before name shelf (Source f) stopped work = absurd stopped
+stopped_before name shelf (IllFormed f) stopped work = absurd stopped
+stopped_before name shelf (Refused f) stopped work = absurd work
+stopped_before name shelf (Script f) stopped work = absurd stopped
+stopped_before name shelf (Shelf cause) stopped work = absurd work
+stopped_before name shelf Read stopped work = absurd stopped
+stopped_before name shelf Write stopped work = absurd stopped
+
+early_work : (outcome : Outcome) → IsBeforeScript outcome → IsOfWork outcome → ⊥
+early_work Done early work = early
+early_work Usage early work = work
+early_work (Source f) early work = work
+early_work (IllFormed f) early work = work
+early_work (Refused f) early work = work
+early_work (Script f) early work = early
+early_work (Shelf cause) early work = work
+early_work Read early work = early
+early_work Write early work = early
+early_work Memory early work = early
+
+module _ (Does : Work) (work : IsWork Does) (name : Option (List ℕ)) (shelf : Files) (old new : Streams) where
+  -- an answer that no work has
+  stopped : (outcome : Outcome) → IsOnObject Does name shelf old new outcome → (IsOfWork outcome → ⊥) → IsStopped name shelf outcome
+  stopped outcome on none = elim on [ inl a ↦ absurd (none (work.only a.object old new outcome a.fact)) | inr s ↦ s.0 ]
+
+  pub object : (f : ObjectFault) → IsOnObject Does name shelf old new (Refused f) → IsRefusedFile name shelf.holds f
+  object f on = stopped (Refused f) on (λ w. w)
+
+  pub shelf_failed : IsOnObject Does name shelf old new (Shelf Failed) → IsFaultOf name shelf.before shelf.after
+  shelf_failed on = stopped (Shelf Failed) on (λ w. w)
+
+  pub shelf_long : (seen : ℕ) → IsOnObject Does name shelf old new (Shelf (TooLong seen)) → IsLongFile MAX_OBJECT name shelf.holds seen
+  shelf_long seen on = stopped (Shelf (TooLong seen)) on (λ w. w)
+
+  pub no_usage : IsOnObject Does name shelf old new Usage → ⊥
+  no_usage on = stopped Usage on (λ w. w)
+
+  pub no_source : (f : SourceFault) → IsOnObject Does name shelf old new (Source f) → ⊥
+  no_source f on = stopped (Source f) on (λ w. w)
+
+  pub no_ill_formed : (f : FormFault) → IsOnObject Does name shelf old new (IllFormed f) → ⊥
+  no_ill_formed f on = stopped (IllFormed f) on (λ w. w)
+
+  pub unread : (outcome : Outcome) → IsOnObject Does name shelf old new outcome → IsBeforeScript outcome → new.rest ≡ old.rest
+  unread outcome on early = elim on [
+    | inl a ↦ absurd (early_work outcome early (work.only a.object old new outcome a.fact))
+    | inr s ↦ s.1.rest
+  ]
+
+  pub unwritten : (outcome : Outcome) → IsOnObject Does name shelf old new outcome → IsBeforeRun outcome → new.written ≡ old.written
+  unwritten outcome on early = elim on [ inl a ↦ work.unwritten a.object old new outcome a.fact early | inr s ↦ s.1.written ]
+
+  -- what was done with an accepted object
+  pub done_with : (outcome : Outcome) → IsOnObject Does name shelf old new outcome → IsOfWork outcome → (outcome ≡ Memory → ⊥)
+      → IsAcceptedFile name shelf.holds (λ o. Does o old new outcome)
+  done_with outcome on is apart = elim on [ inl a ↦ a | inr s ↦ absurd (apart (stopped_before name shelf outcome s.0 is)) ]
+
+  -- ---- of bytes that are given
+
+  module _ (bytes : List ℕ) (given : IsGiven name shelf.holds shelf.before shelf.after bytes) where
+    same_bytes : (others : List ℕ) → IsObjectFile name shelf.holds others → others ≡ bytes
+    same_bytes others file =
+        let same : file.word ≡ given.word = let p = file.named in let q = given.named in cc in
+        let told : get given.held file.word ≡ Some others = subst (λ (holds : Option Holdings). HoldsUnder holds file.word others) given.told file.held in
+        let held = given.file in
+        cc
+
+    short_bytes : (others : List ℕ) → IsObjectFile name shelf.holds others → length bytes ≤ 16777216
+    short_bytes others file = subst (λ (bs : List ℕ). length bs ≤ 16777216) (same_bytes others file) file.short
+
+    seen_long : (seen : ℕ) → IsLongFile MAX_OBJECT name shelf.holds seen → (16777216 < length bytes) × (seen ≡ length bytes)
+    seen_long seen is =
+        let long : IsLongFile MAX_OBJECT (Some given.word) (Some given.held) seen =
+        subst (λ (o : Option (List ℕ)). IsLongFile MAX_OBJECT o (Some given.held) seen) given.named (subst (λ (holds : Option Holdings). IsLongFile MAX_OBJECT name holds seen) given.told is) in
+        let same : long.1.0 ≡ bytes = let p = long.1.1 in let q = given.file in cc in
+        let length_seen : seen ≡ length bytes = long.1.2 ∙ ap length same in
+        (omega (arith, long.0, length_seen), length_seen)
+
+    no_fault : IsFaultOf name shelf.before shelf.after → ⊥
+    no_fault is = given.no_fault (subst (λ (o : Option (List ℕ)). IsFaultOf o shelf.before shelf.after) given.named is)
+
+    -- the file is too long
+    long_stopped : (outcome : Outcome) → 16777216 < length bytes → IsStopped name shelf outcome → IsOrMemory outcome (Shelf (TooLong (length bytes)))
+    long_stopped (Refused f) long s = absurd (omega (arith, long, short_bytes s.bytes s.file))
+    long_stopped (Shelf Failed) long s = absurd (no_fault s)
+    long_stopped (Shelf (TooLong seen)) long s = inl (ap (λ (n : ℕ). Shelf (TooLong n)) (seen_long seen s).1)
+    long_stopped Memory long s = inr refl
+    long_stopped Done long s = absurd s
+    long_stopped Usage long s = absurd s
+    long_stopped (Source f) long s = absurd s
+    long_stopped (IllFormed f) long s = absurd s
+    long_stopped (Script f) long s = absurd s
+    long_stopped Read long s = absurd s
+    long_stopped Write long s = absurd s
+
+    pub long_object : (outcome : Outcome) → IsOnObject Does name shelf old new outcome → 16777216 < length bytes → IsOrMemory outcome (Shelf (TooLong (length bytes)))
+    long_object outcome on long = elim on [
+      | inl a ↦ absurd (omega (arith, long, short_bytes a.bytes a.file))
+      | inr s ↦ long_stopped outcome long s.0
+    ]
+
+    -- the object has a fault
+    faulty_stopped : (outcome : Outcome) (f : ObjectFault) → length bytes ≤ 16777216 → RefusesBytes bytes f → IsStopped name shelf outcome → IsOrMemory outcome (Refused f)
+    faulty_stopped (Refused g) f short refused s =
+        inl (ap (λ (h : ObjectFault). Refused h) (one_refusal bytes g f (subst (λ (bs : List ℕ). RefusesBytes bs g) (same_bytes s.bytes s.file) s.refused) refused))
+    faulty_stopped (Shelf Failed) f short refused s = absurd (no_fault s)
+    faulty_stopped (Shelf (TooLong seen)) f short refused s = absurd (omega (arith, short, (seen_long seen s).0))
+    faulty_stopped Memory f short refused s = inr refl
+    faulty_stopped Done f short refused s = absurd s
+    faulty_stopped Usage f short refused s = absurd s
+    faulty_stopped (Source g) f short refused s = absurd s
+    faulty_stopped (IllFormed g) f short refused s = absurd s
+    faulty_stopped (Script g) f short refused s = absurd s
+    faulty_stopped Read f short refused s = absurd s
+    faulty_stopped Write f short refused s = absurd s
+
+    pub faulty_object : (outcome : Outcome) → IsOnObject Does name shelf old new outcome → (f : ObjectFault) → length bytes ≤ 16777216 → RefusesBytes bytes f → IsOrMemory outcome (Refused f)
+    faulty_object outcome on f short refused = elim on [
+      | inl a ↦ absurd (accepted_or_refused bytes a.object f (subst (λ (bs : List ℕ). HasBytes bs a.object) (same_bytes a.bytes a.file) a.has) a.accepted refused)
+      | inr s ↦ faulty_stopped outcome f short refused s.0
+    ]
+
+    -- the object is accepted
+    ready_stopped : (outcome : Outcome) (o : Object) → length bytes ≤ 16777216 → HasBytes bytes o → IsAccepted o → IsStopped name shelf outcome → outcome ≡ Memory
+    ready_stopped (Refused g) o short has accepted s =
+        absurd (accepted_or_refused bytes o g has accepted (subst (λ (bs : List ℕ). RefusesBytes bs g) (same_bytes s.bytes s.file) s.refused))
+    ready_stopped (Shelf Failed) o short has accepted s = absurd (no_fault s)
+    ready_stopped (Shelf (TooLong seen)) o short has accepted s = absurd (omega (arith, short, (seen_long seen s).0))
+    ready_stopped Memory o short has accepted s = refl
+    ready_stopped Done o short has accepted s = absurd s
+    ready_stopped Usage o short has accepted s = absurd s
+    ready_stopped (Source g) o short has accepted s = absurd s
+    ready_stopped (IllFormed g) o short has accepted s = absurd s
+    ready_stopped (Script g) o short has accepted s = absurd s
+    ready_stopped Read o short has accepted s = absurd s
+    ready_stopped Write o short has accepted s = absurd s
+
+  pub ready : (o : Object) → IsReadyObject name shelf.holds shelf.before shelf.after o → (outcome : Outcome) → IsOnObject Does name shelf old new outcome
+      → Does o old new outcome ⊎ (outcome ≡ Memory)
+  ready o is outcome on = elim on [
+    | inl a ↦
+        let same = one_of_bytes is.bytes a.object o (subst (λ (bs : List ℕ). HasBytes bs a.object) (same_bytes is.bytes is.given a.bytes a.file) a.has) is.has in
+        inl (subst (λ (p : Object). Does p old new outcome) same a.fact)
+    | inr s ↦ inr (ready_stopped is.bytes is.given outcome o is.short is.has is.accepted s.0)
+  ]

@@ -1,0 +1,140 @@
+-- A reader that takes a plan's input in pieces, as its source gives them.
+use Rattle.std.proofs.Common.{◌≡◌, ◌≤◌, ◌<◌, ◌+◌, ℕ, Bool, cond, List, [], ◌∷◌, ◌++◌, length, take, drop, get_or, Option, Some, None, Result, Ok, Err, refl, sym, ap, ◌∙◌, subst, arith, add-one, append_assoc}
+use Rattle.std.specs.Prelude.{IfSome, OnOk}
+use Rattle.std.specs.Io.KnownBytes.{prepend_known, IsAtEnd}
+use Rattle.std.proofs.Math.Seq.{drop-cons}
+use Rattle.std.proofs.lemmas.Bool.{ne_eqb, eq-eqb}
+use Rattle.std.proofs.lemmas.List.{take_all, length-take-le}
+use Rattle.htl_edge.specs.Content.{none_left}
+use Rattle.htl_model.specs.Ranges.{AreInRange}
+use Rattle.htl_model.specs.Tables.{Tables}
+use Rattle.htl_model.specs.Selected.{IsSelection}
+use Rattle.htl_script.specs.declared.fault.ScriptFault.{ScriptFault}
+use Rattle.htl_script.specs.declared.fault.ScriptKind.{ScriptKind}
+use Rattle.htl_script.specs.declared.fault.ScriptKind.TheVariants as kind
+use Rattle.htl_script.specs.Lines.{lines_of}
+use Rattle.htl_top.specs.declared.selection.ScriptStop.{ScriptStop}
+use Rattle.htl_top.specs.declared.selection.ScriptStop.TheVariants as stop
+use Rattle.htl_top.specs.SelectionInput.{Input, Whole, Bad, ended, input_of_lines, input_of}
+use Rattle.htl_top.specs.SelectionReaders.{Place, rest_of, first_place, Finishes}
+use Rattle.htl_top.proofs.SelectionEntries.{whole_right}
+
+-- ---- bytes
+
+-- some of the bytes were taken, and `left` are left
+pub record IsTaking (t : Tables) (first : Place) (modes : List (Option ℕ)) (now : Place) (entries : List (Option ℕ)) (bytes left : List ℕ) : Type 0 where
+  pub follows : (later : List ℕ) → rest_of t first modes (bytes ++ later) ≡ rest_of t now entries (left ++ later)
+
+pub taking_start : (t : Tables) (first : Place) (modes : List (Option ℕ)) (bytes : List ℕ) → IsTaking t first modes first modes bytes bytes
+taking_start t first modes bytes = record { follows = λ later. refl }
+
+-- the byte at a place is the first that is left
+cut : (bytes : List ℕ) (i d : ℕ) → i < length bytes → drop i bytes ≡ get_or bytes i d ∷ drop (i + 1) bytes
+cut bytes i d below = drop-cons bytes i d below ∙ ap (λ n. get_or bytes i d ∷ drop n bytes) (sym (add-one i))
+
+pub taking_step : (t : Tables) (first now next : Place) (modes entries newer : List (Option ℕ)) (bytes : List ℕ) (i d : ℕ) → i < length bytes
+    → IsTaking t first modes now entries bytes (drop i bytes) → ((later : List ℕ) → rest_of t now entries (get_or bytes i d ∷ later) ≡ rest_of t next newer later)
+    → IsTaking t first modes next newer bytes (drop (i + 1) bytes)
+taking_step t first now next modes entries newer bytes i d below taking one =
+    record { follows = λ later. taking.follows later ∙ ap (λ left. rest_of t now entries (left ++ later)) (cut bytes i d below) ∙ one (drop (i + 1) bytes ++ later) }
+
+pub taking_fault : (t : Tables) (first now : Place) (modes entries : List (Option ℕ)) (bytes : List ℕ) (i d line : ℕ) (k : ScriptKind) → i < length bytes
+    → IsTaking t first modes now entries bytes (drop i bytes) → ((later : List ℕ) → rest_of t now entries (get_or bytes i d ∷ later) ≡ Bad line k)
+    → (later : List ℕ) → rest_of t first modes (bytes ++ later) ≡ Bad line k
+taking_fault t first now modes entries bytes i d line k below taking one later =
+    taking.follows later ∙ ap (λ left. rest_of t now entries (left ++ later)) (cut bytes i d below) ∙ one (drop (i + 1) bytes ++ later)
+
+-- ---- the end
+
+pub end_is : (t : Tables) (p : Place) (modes : List (Option ℕ)) → p.line ≡ [] → rest_of t p modes [] ≡ ended t p.number (take p.done modes)
+end_is t p modes none = ap (λ (line : List ℕ). input_of_lines t p.number p.start (take p.done modes) (lines_of (line ++ []))) none
+
+all_taken : (xs : List (Option ℕ)) (n : ℕ) → n ≡ length xs → take n xs ≡ xs
+all_taken xs n e = take_all n xs (omega arith)
+
+pub end_whole : (t : Tables) (p : Place) (modes : List (Option ℕ)) → p.line ≡ [] → length modes ≡ length t.modules → p.done ≡ length t.modules → rest_of t p modes [] ≡ Whole modes
+end_whole t p modes none all done =
+    let whole : take p.done modes ≡ modes = all_taken modes p.done (done ∙ sym all) in
+    end_is t p modes none ∙ ap (ended t p.number) whole ∙ ap (λ (b : Bool). cond b (Whole modes) (Bad p.number kind.NoEnd)) (eq-eqb (length modes) (length t.modules) all)
+
+pub end_short : (t : Tables) (p : Place) (modes : List (Option ℕ)) → p.line ≡ [] → length modes ≡ length t.modules → p.done ≤ length t.modules → (p.done ≡ length t.modules → ⊥)
+    → rest_of t p modes [] ≡ Bad p.number kind.NoEnd
+end_short t p modes none all few apart =
+    let size : length (take p.done modes) ≡ p.done = length_taken p.done modes (omega arith) in
+    end_is t p modes none
+    ∙ ap (λ (b : Bool). cond b (Whole (take p.done modes)) (Bad p.number kind.NoEnd)) (ne_eqb (length (take p.done modes)) (length t.modules) (λ e. apart (sym size ∙ e)))
+  where
+    length_taken : (n : ℕ) (xs : List (Option ℕ)) → n ≤ length xs → length (take n xs) ≡ n
+    length_taken n xs h = length-take-le n xs h
+
+-- ---- what a source gave
+
+prepend-nil : (known : Option (List ℕ)) → prepend_known [] known ≡ known
+prepend-nil None = refl
+prepend-nil (Some xs) = refl
+
+prepend-append : (known : Option (List ℕ)) (xs ys : List ℕ) → prepend_known (xs ++ ys) known ≡ prepend_known xs (prepend_known ys known)
+prepend-append None xs ys = refl
+prepend-append (Some zs) xs ys = ap (λ (l : List ℕ). Some l) (append_assoc xs ys zs)
+
+-- a front of the source's rest was taken
+pub record IsReading (t : Tables) (now : Place) (entries : List (Option ℕ)) (known rest : Option (List ℕ)) : Type 0 where
+  pub taken : List ℕ
+  pub told : prepend_known taken rest ≡ known
+  pub follows : (later : List ℕ) → input_of t (taken ++ later) ≡ rest_of t now entries later
+
+pub reading_start : (t : Tables) (now : Place) (modes : List (Option ℕ)) (known : Option (List ℕ)) → now ≡ first_place → IsReading t now modes known known
+reading_start t now modes known at =
+    record { taken = []; told = prepend-nil known; follows = λ later. ap (λ (p : Place). rest_of t p modes later) (sym at) }
+
+pub reading_step : (t : Tables) (now next : Place) (entries newer : List (Option ℕ)) (known rest left : Option (List ℕ)) (piece : List ℕ) → IsReading t now entries known rest
+    → prepend_known piece left ≡ rest → ((later : List ℕ) → rest_of t now entries (piece ++ later) ≡ rest_of t next newer later) → IsReading t next newer known left
+reading_step t now next entries newer known rest left piece reading gave took =
+    record {
+      taken = reading.taken ++ piece;
+      told = prepend-append left reading.taken piece ∙ ap (prepend_known reading.taken) gave ∙ reading.told;
+      follows = λ later. ap (input_of t) (append_assoc reading.taken piece later) ∙ reading.follows (piece ++ later) ∙ took later;
+    }
+
+-- what is told of the input
+told_input : (t : Tables) (i : Input) (taken : List ℕ) (rest known : Option (List ℕ)) → prepend_known taken rest ≡ known → ((later : List ℕ) → rest ≡ Some later → input_of t (taken ++ later) ≡ i)
+    → IfSome known (λ bytes. input_of t bytes ≡ i)
+told_input t i taken None known e h = subst (λ (k : Option (List ℕ)). IfSome k (λ bytes. input_of t bytes ≡ i)) e tt
+told_input t i taken (Some later) known e h = subst (λ (k : Option (List ℕ)). IfSome k (λ bytes. input_of t bytes ≡ i)) e (h later refl)
+
+-- the reader stopped in a piece
+pub answer_stop : (t : Tables) (now : Place) (entries : List (Option ℕ)) (known rest left : Option (List ℕ)) (piece : List ℕ) (f : ScriptFault) → IsReading t now entries known rest
+    → prepend_known piece left ≡ rest → ((later : List ℕ) → rest_of t now entries (piece ++ later) ≡ Bad f.line f.kind) → IfSome known (λ bytes. input_of t bytes ≡ Bad f.line f.kind)
+answer_stop t now entries known rest left piece f reading gave stopped =
+    told_input t (Bad f.line f.kind) (reading.taken ++ piece) left known (prepend-append left reading.taken piece ∙ ap (prepend_known reading.taken) gave ∙ reading.told)
+    (λ later is. ap (input_of t) (append_assoc reading.taken piece later) ∙ reading.follows (piece ++ later) ∙ stopped later)
+
+-- the reader came to the end
+pub answer_end : (t : Tables) (now : Place) (entries : List (Option ℕ)) (known rest : Option (List ℕ)) (i : Input) → IsReading t now entries known rest → IsAtEnd rest
+    → rest_of t now entries [] ≡ i → IfSome known (λ bytes. input_of t bytes ≡ i)
+answer_end t now entries known rest i reading at_end is =
+    told_input t i reading.taken rest known reading.told (λ later e. ap (λ (l : List ℕ). input_of t (reading.taken ++ l)) (nothing rest later at_end e) ∙ reading.follows [] ∙ is)
+  where
+    nothing : (rest : Option (List ℕ)) (later : List ℕ) → IsAtEnd rest → rest ≡ Some later → later ≡ []
+    nothing None later a e = cc
+    nothing (Some xs) later a e = let same : later ≡ xs = cc in same ∙ a
+
+-- nothing is left
+pub nothing_left : (t : Tables) (now : Place) (entries : List (Option ℕ)) (known rest left : Option (List ℕ)) → IsReading t now entries known rest → IsAtEnd rest → prepend_known [] left ≡ rest
+    → left ≡ none_left known
+nothing_left t now entries known rest left reading at_end gave = sym (prepend-nil left) ∙ gave ∙ by_rest rest at_end ∙ ap none_left reading.told
+  where
+    by_rest : (rest : Option (List ℕ)) → IsAtEnd rest → rest ≡ none_left (prepend_known reading.taken rest)
+    by_rest None e = refl
+    by_rest (Some xs) e = ap (λ (l : List ℕ). Some l) e
+
+-- what is whole is a selection, whether it is told or not
+pub is_right : (t : Tables) (now : Place) (entries modes : List (Option ℕ)) (known rest : Option (List ℕ)) → AreInRange t → IsReading t now entries known rest
+    → rest_of t now entries [] ≡ Whole modes → IsSelection t modes
+is_right t now entries modes known rest range reading is = whole_right t range (reading.taken ++ []) modes (reading.follows [] ∙ is)
+
+pub finished_right : (T : Type 0) (t : Tables) (now : Place) (entries newer : List (Option ℕ)) (known rest : Option (List ℕ)) (r : Result T ScriptStop) → AreInRange t → IsReading t now entries known rest
+    → Finishes t now entries newer r → OnOk r (IsSelection t newer)
+finished_right T t now entries newer known rest (Ok done) range reading is = is_right t now entries newer known rest range reading is
+finished_right T t now entries newer known rest (Err (stop.Script f)) range reading is = tt
+finished_right T t now entries newer known rest (Err stop.Read) range reading is = tt

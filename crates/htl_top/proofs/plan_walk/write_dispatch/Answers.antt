@@ -1,0 +1,9 @@
+use Rattle.htl_console.proofs.Writing.{Puts-cut}
+use Rattle.htl_edge.proofs.Puts.{Puts-second}
+use Rattle.htl_top.proofs.plan_walk.write_dispatch.Goals as goal
+
+pub returns-in-Err : goal.returns-in-Err
+returns-in-Err g c = Puts-cut _ _ _ _ _ _ _ c.in-Err.ensures
+
+pub returns : goal.returns
+returns g c = Puts-second _ _ _ _ _ _ _ _ _ c.in_default.ensures.whole c.in_default.ensures.cause.later c.write_done.ensures

@@ -1,0 +1,13 @@
+-- What `show` answers of an accepted object.
+use Rattle.std.specs.Prelude.{ℕ, List}
+use Rattle.htl_console.specs.Listing.{listing}
+use Rattle.htl_object.specs.declared.object.Object.{Object}
+use Rattle.htl_top.specs.Objects.{Work, IsTextAnswer}
+
+-- the listing of an object
+abbrev pub show_text : Object → List ℕ
+show_text o = listing o.tables o.ecode o.schedules
+
+-- the listing is written
+abbrev pub IsShown : Work
+IsShown o old new outcome = IsTextAnswer (show_text o) old new outcome

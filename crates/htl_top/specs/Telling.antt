@@ -1,0 +1,44 @@
+-- The line that tells of an answer, and the tables whose names it has.
+use Rattle.std.specs.Prelude.{ℕ, ◌≡◌, Option, Some, None, List}
+use Rattle.htl_load.specs.declared.fault.ObjectFault.{ObjectFault}
+use Rattle.htl_load.specs.declared.fault.ObjectFault.TheVariants as fault
+use Rattle.htl_model.specs.Tables.{Tables}
+use Rattle.htl_top.specs.Objects.{SpeaksOfObject}
+use Rattle.htl_top.specs.Status.{fault_line}
+use Rattle.htl_top.specs.declared.outcome.Outcome.{Outcome}
+use Rattle.htl_top.specs.declared.outcome.Outcome.TheVariants.{Done, Usage, Source, IllFormed, Object, Script, Shelf, Read, Write, Memory}
+
+-- The tables that the line of an answer speaks of: those of the source or of the object, where they break a form rule.
+abbrev pub SpeaksOf : ((Tables → Type 0) → Type 0) → ((Tables → Type 0) → Type 0) → Outcome → Option Tables → Type 0
+SpeaksOf HasSource HasObject (IllFormed f) tables = HasSource (λ compiled. tables ≡ Some compiled)
+SpeaksOf HasSource HasObject (Object f) tables = SpeaksOfObject HasObject f tables
+SpeaksOf HasSource HasObject Done tables = Unit {0}
+SpeaksOf HasSource HasObject Usage tables = Unit {0}
+SpeaksOf HasSource HasObject (Source f) tables = Unit {0}
+SpeaksOf HasSource HasObject (Script f) tables = Unit {0}
+SpeaksOf HasSource HasObject (Shelf cause) tables = Unit {0}
+SpeaksOf HasSource HasObject Read tables = Unit {0}
+SpeaksOf HasSource HasObject Write tables = Unit {0}
+SpeaksOf HasSource HasObject Memory tables = Unit {0}
+
+-- The line of a fault of an object was told. Where it breaks a form rule, the line has names of its tables.
+abbrev pub IsFaultTold : ((Tables → Type 0) → Type 0) → (List ℕ → Type 0) → ObjectFault → Type 0
+IsFaultTold HasObject Told (fault.IllFormed f) = HasObject (λ tables. Told (fault_line (Some tables) (Object (fault.IllFormed f))))
+IsFaultTold HasObject Told (fault.Malformed m) = Told (fault_line None (Object (fault.Malformed m)))
+IsFaultTold HasObject Told (fault.Function k) = Told (fault_line None (Object (fault.Function k)))
+IsFaultTold HasObject Told (fault.ECode e) = Told (fault_line None (Object (fault.ECode e)))
+IsFaultTold HasObject Told (fault.Schedule sel m) = Told (fault_line None (Object (fault.Schedule sel m)))
+
+-- The line of an answer was told. That of IllFormed has names of the tables of the source, and that of an object that breaks a form
+-- rule those of its tables; no other needs tables.
+abbrev pub IsLineTold : ((Tables → Type 0) → Type 0) → ((Tables → Type 0) → Type 0) → (List ℕ → Type 0) → Outcome → Type 0
+IsLineTold HasSource HasObject Told (IllFormed f) = HasSource (λ tables. Told (fault_line (Some tables) (IllFormed f)))
+IsLineTold HasSource HasObject Told (Object f) = IsFaultTold HasObject Told f
+IsLineTold HasSource HasObject Told Done = Told (fault_line None Done)
+IsLineTold HasSource HasObject Told Usage = Told (fault_line None Usage)
+IsLineTold HasSource HasObject Told (Source f) = Told (fault_line None (Source f))
+IsLineTold HasSource HasObject Told (Script f) = Told (fault_line None (Script f))
+IsLineTold HasSource HasObject Told (Shelf cause) = Told (fault_line None (Shelf cause))
+IsLineTold HasSource HasObject Told Read = Told (fault_line None Read)
+IsLineTold HasSource HasObject Told Write = Told (fault_line None Write)
+IsLineTold HasSource HasObject Told Memory = Told (fault_line None Memory)

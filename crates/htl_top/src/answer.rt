@@ -1,0 +1,25 @@
+// An answer with what its line speaks of.
+ghost use Rattle.std.specs.Prelude.{◌≡◌, None};
+
+use crate::Outcome;
+use htl_model::Tables;
+
+/// An answer, and the tables that its line speaks of: where a form rule is broken, those that break it.
+#[derive(Drop)]
+pub struct Answer {
+    pub outcome: Outcome,
+    pub tables: Option<Tables>,
+}
+
+impl Answer {
+    /// An answer whose line speaks of no tables.
+    pub fn plain(outcome: Outcome) -> Answer
+        ensures outcome { result.outcome ≡ outcome }
+        ensures tables { result.tables ≡ None }
+    {
+        Answer {
+            outcome,
+            tables: None,
+        }
+    }
+}

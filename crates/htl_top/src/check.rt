@@ -1,0 +1,88 @@
+// The command `check`: what is told of an accepted object.
+ghost use Rattle.std.specs.Prelude.{◌≡◌, ◌++◌, Some, None, codes, decimal};
+ghost use Rattle.htl_edge.specs.Content.{Puts};
+ghost use Rattle.htl_model.specs.Broken.{KeepsLimits};
+ghost use Rattle.htl_model.specs.Selections.{selection_count};
+ghost use Rattle.htl_top.specs.Answers.{files, IsWritten};
+ghost use Rattle.htl_top.specs.Causes.{IsBuiltProgram};
+ghost use Rattle.htl_top.specs.Checked.{most_positions as most_positions_of, check_text};
+ghost use Rattle.htl_top.specs.Objects.{IsTextOnObject, IsObjectTables};
+ghost use Rattle.htl_top.specs.Telling.{SpeaksOf};
+
+use crate::Outcome;
+use crate::answer::Answer;
+use crate::object::open;
+use htl_edge::{Failed, LineBuffer, Shelf, Sink, put_all};
+use htl_model::Tables;
+use std::alloc::Global;
+
+// How many root selections there are.
+fn selections(t: &Tables) -> u32
+    requires { KeepsLimits t.now }
+    ensures { result ≡ selection_count t.now }
+{
+    t.selections()
+}
+
+// The greatest number of positions of a selection; 0 without one.
+fn most_positions(t: &Tables) -> usize
+    requires { KeepsLimits t.now }
+    ensures { result ≡ most_positions_of t.now (selection_count t.now) }
+{
+    let mut most = 0;
+    for selection in 0..t.selections() {
+        most = most.max(t.positions(selection));
+    }
+    most
+}
+
+// The line of an accepted object.
+fn check_line(selections: u32, positions: usize) -> LineBuffer
+    ensures { result ≡ codes "accepted selections " ++ decimal selections ++ codes " positions " ++ decimal positions ++ codes "\n" }
+{
+    let mut line = LineBuffer::new();
+    line.text(b"accepted selections ");
+    line.number(selections as u64);
+    line.text(b" positions ");
+    line.number(positions as u64);
+    line.text(b"\n");
+    line
+}
+
+// Writes how many selections there are, and the greatest number of positions of one.
+fn write_check<W: Sink>(out: &mut W, t: &Tables) -> Result<(), Failed>
+    requires { KeepsLimits t.now }
+    ensures { Puts (W.written out.old) (W.written out.new) (W.faults out.old) (W.faults out.new) (check_text t.now) result }
+{
+    let line = check_line(selections(t), most_positions(t));
+    put_all(out, line.as_bytes())
+}
+
+// Tells of an accepted object, by its tables.
+fn check<W: Sink>(out: &mut W, t: &Tables) -> Outcome
+    requires { KeepsLimits t.now }
+    ensures { IsWritten (check_text t.now) Outcome.Done (W.written out.old) (W.written out.new) (W.faults out.old) (W.faults out.new) result }
+{
+    match write_check(out, t) {
+        Ok(()) => Outcome::Done,
+        Err(_) => Outcome::Write,
+    }
+}
+
+/// Tests the object in a file, and tells of an accepted one.
+pub fn check_file<S: Shelf, W: Sink>(
+    alloc: Global,
+    name: &str,
+    shelf: &mut S,
+    out: &mut W,
+) -> Answer
+    ensures answer { IsTextOnObject (λ o. check_text o.tables) (Some name.now) (files S.holds S.faults shelf.old shelf.new)
+        (W.written out.old) (W.written out.new) (W.faults out.old) (W.faults out.new) result.outcome }
+    ensures tables { SpeaksOf (IsBuiltProgram None (S.holds shelf.old)) (IsObjectTables (Some name.now) (S.holds shelf.old)) result.outcome result.tables }
+    ensures shelf { S.holds shelf.new ≡ S.holds shelf.old }
+{
+    match open(alloc, name, shelf) {
+        Ok(loaded) => Answer::plain(check(out, loaded.tables())),
+        Err(answer) => answer,
+    }
+}

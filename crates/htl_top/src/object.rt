@@ -1,0 +1,100 @@
+// Files as accepted objects.
+ghost use Rattle.std.specs.Prelude.{◌≡◌, IfOk, IfErr, Some, None};
+ghost use Rattle.htl_load.specs.Faults.{IsRefused};
+ghost use Rattle.htl_object.specs.Accepted.{IsAccepted};
+ghost use Rattle.htl_object.specs.Ranges.{IsInRange};
+ghost use Rattle.htl_top.specs.Answers.{files};
+ghost use Rattle.htl_top.specs.Objects.{IsObjectRead, IsAcceptedFile, IsObjectTables, IsStopped};
+ghost use Rattle.htl_top.specs.Causes.{IsBuiltProgram};
+ghost use Rattle.htl_top.specs.Telling.{SpeaksOf};
+
+use crate::answer::Answer;
+use crate::{Outcome, ShelfCause};
+use htl_base::limits::MAX_OBJECT;
+use htl_edge::{Shelf, ShelfFault};
+use htl_load::{Loaded, ObjectFault, formed, scheduled, spelled};
+use htl_model::Tables;
+use htl_object::{DecodeFault, Object, decode};
+use std::alloc::Global;
+
+/// Why bytes aren't loaded as an accepted object.
+#[derive(Drop)]
+pub enum ObjectStop {
+    /// No accepted object has these bytes.
+    Refused {
+        /// The first fault.
+        fault: ObjectFault,
+        /// The tables of the object, where there is one.
+        tables: Option<Tables>,
+    },
+    /// No memory was left.
+    Memory,
+}
+
+// The three tests, one after the other; a refusal hands the object back.
+fn tested(o: Object) -> Result<Loaded, (Object, ObjectFault)>
+    requires { IsInRange o }
+    ensures accepted { IfOk result (λ l. (l ≡ o) × IsAccepted o) }
+    ensures refused { IfErr result (λ e. (e.0 ≡ o) × IsRefused o e.1) }
+{
+    let formed = match formed(o) {
+        Ok(formed) => formed,
+        Err(refusal) => return Err(refusal),
+    };
+    let spelled = match spelled(formed) {
+        Ok(spelled) => spelled,
+        Err(refusal) => return Err(refusal),
+    };
+    match scheduled(spelled) {
+        Ok(loaded) => Ok(loaded),
+        Err(refusal) => Err(refusal),
+    }
+}
+
+/// The accepted object that has these bytes, or why there is none. Memory comes only where no memory was left.
+pub fn read_object(alloc: Global, bytes: &[u8]) -> Result<Loaded, ObjectStop>
+    ensures { IsObjectRead bytes.now result }
+{
+    let o = match decode(alloc, bytes) {
+        Ok(o) => o,
+        Err(DecodeFault::Malformed(bad)) => {
+            return Err(ObjectStop::Refused {
+                fault: ObjectFault::Malformed(bad),
+                tables: None,
+            });
+        }
+        Err(DecodeFault::Memory) => return Err(ObjectStop::Memory),
+    };
+    match tested(o) {
+        Ok(loaded) => Ok(loaded),
+        Err((object, fault)) => Err(ObjectStop::Refused {
+            fault,
+            tables: Some(object.tables),
+        }),
+    }
+}
+
+/// The accepted object in a file of at most 16,777,216 bytes, or the answer where there is none.
+pub fn open<S: Shelf>(alloc: Global, name: &str, shelf: &mut S) -> Result<Loaded, Answer>
+    ensures opened { IfOk result (λ l. IsAcceptedFile (Some name.now) (S.holds shelf.old) (λ o. o ≡ l)) }
+    ensures stopped { IfErr result (λ a. IsStopped (Some name.now) (files S.holds S.faults shelf.old shelf.new) a.outcome) }
+    ensures tables { IfErr result (λ a. SpeaksOf (IsBuiltProgram None (S.holds shelf.old)) (IsObjectTables (Some name.now) (S.holds shelf.old)) a.outcome a.tables) }
+    ensures shelf { S.holds shelf.new ≡ S.holds shelf.old }
+{
+    let bytes = match shelf.fetch(alloc, name, MAX_OBJECT) {
+        Ok(bytes) => bytes,
+        Err(ShelfFault::Failed) => return Err(Answer::plain(Outcome::Shelf(ShelfCause::Failed))),
+        Err(ShelfFault::TooLong { seen }) => {
+            return Err(Answer::plain(Outcome::Shelf(ShelfCause::TooLong { seen })));
+        }
+        Err(ShelfFault::Memory) => return Err(Answer::plain(Outcome::Memory)),
+    };
+    match read_object(alloc, bytes.as_slice()) {
+        Ok(loaded) => Ok(loaded),
+        Err(ObjectStop::Refused { fault, tables }) => Err(Answer {
+            outcome: Outcome::Object(fault),
+            tables,
+        }),
+        Err(ObjectStop::Memory) => Err(Answer::plain(Outcome::Memory)),
+    }
+}

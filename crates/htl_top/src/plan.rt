@@ -1,0 +1,97 @@
+// The command `plan`: the round of the jobs at a selection of running modes.
+ghost use Rattle.std.specs.Prelude.{◌≡◌, Some, None, IfOk, length};
+ghost use Rattle.htl_edge.specs.Content.{Puts};
+ghost use Rattle.htl_model.specs.Selected.{IsSelection};
+ghost use Rattle.htl_top.specs.Answers.{files, streams};
+ghost use Rattle.htl_top.specs.Causes.{IsBuiltProgram};
+ghost use Rattle.htl_top.specs.Objects.{IsOnObject, IsObjectTables};
+ghost use Rattle.htl_top.specs.Planned.{plan_text, IsPlanned};
+ghost use Rattle.htl_top.specs.Telling.{SpeaksOf};
+
+use crate::Outcome;
+use crate::answer::Answer;
+use crate::object::open;
+use crate::plan_walk::write_round;
+use crate::selection::{ScriptStop, read_selection};
+use htl_base::limits::MAX_POSITIONS;
+use htl_base::{Memory, Seq};
+use htl_console::line_plan;
+use htl_edge::{Failed, Shelf, Sink, Source};
+use htl_load::Loaded;
+use htl_model::Tables;
+use htl_refine::{Selection, derive, selection_of};
+use htl_walk::Job;
+use std::alloc::Global;
+
+// One entry for each module, each of them none.
+fn no_modes(alloc: Global, t: &Tables) -> Result<Selection, Memory>
+    ensures { IfOk result (λ s. length s.modes ≡ length t.now.modules) }
+{
+    match vec![in alloc; None; t.parts().modules.as_slice().len()] {
+        Ok(modes) => Ok(Selection {
+            modes: Seq::new(modes),
+        }),
+        Err(_) => Err(Memory),
+    }
+}
+
+// Writes the plan of a selection. Without modules there is no round.
+fn write_plan<W: Sink>(out: &mut W, l: &Loaded, s: &Selection) -> Result<(), Failed>
+    requires { IsSelection l.now.tables s.now.modes }
+    ensures { Puts (W.written out.old) (W.written out.new) (W.faults out.old) (W.faults out.new) (plan_text l.now.tables l.now.schedules s.now.modes) result }
+{
+    let t = l.tables();
+    let Some(period) = t.period() else {
+        return line_plan(out, 0, 0, 0);
+    };
+    let mut jobs = [Job {
+        present: false,
+        inv: 0,
+        release: 0,
+        end: 0,
+        worst: 0,
+        preds: 0,
+    }; MAX_POSITIONS];
+    let count = derive(t, s, &mut jobs);
+    let schedule = &l.schedules()[selection_of(t, s) as usize];
+    write_round(out, t, &jobs[..count], schedule.instrs.as_slice(), period)
+}
+
+// Reads a selection of running modes, and writes its plan.
+fn plan<R: Source, W: Sink>(alloc: Global, l: &Loaded, input: &mut R, out: &mut W) -> Outcome
+    ensures { IsPlanned l.now
+        (streams R.rest R.faults W.written W.faults input.old out.old) (streams R.rest R.faults W.written W.faults input.new out.new)
+        result }
+{
+    let Ok(mut selection) = no_modes(alloc, l.tables()) else {
+        return Outcome::Memory;
+    };
+    match read_selection(input, l.tables(), &mut selection) {
+        Ok(()) => match write_plan(out, l, &selection) {
+            Ok(()) => Outcome::Done,
+            Err(_) => Outcome::Write,
+        },
+        Err(ScriptStop::Script(fault)) => Outcome::Script(fault),
+        Err(ScriptStop::Read) => Outcome::Read,
+    }
+}
+
+/// Tests the object in a file, reads a selection of running modes, and writes the round of its jobs with their worst cases.
+pub fn plan_file<S: Shelf, R: Source, W: Sink>(
+    alloc: Global,
+    name: &str,
+    shelf: &mut S,
+    input: &mut R,
+    out: &mut W,
+) -> Answer
+    ensures answer { IsOnObject IsPlanned (Some name.now) (files S.holds S.faults shelf.old shelf.new)
+        (streams R.rest R.faults W.written W.faults input.old out.old) (streams R.rest R.faults W.written W.faults input.new out.new)
+        result.outcome }
+    ensures tables { SpeaksOf (IsBuiltProgram None (S.holds shelf.old)) (IsObjectTables (Some name.now) (S.holds shelf.old)) result.outcome result.tables }
+    ensures shelf { S.holds shelf.new ≡ S.holds shelf.old }
+{
+    match open(alloc, name, shelf) {
+        Ok(loaded) => Answer::plain(plan(alloc, &loaded, input, out)),
+        Err(answer) => answer,
+    }
+}

@@ -1,0 +1,46 @@
+// The command `show`: the listing of an accepted object.
+ghost use Rattle.std.specs.Prelude.{◌≡◌, Some, None};
+ghost use Rattle.htl_edge.specs.Content.{Puts};
+ghost use Rattle.htl_top.specs.Answers.{files, IsWritten};
+ghost use Rattle.htl_top.specs.Causes.{IsBuiltProgram};
+ghost use Rattle.htl_top.specs.Objects.{IsTextOnObject, IsObjectTables};
+ghost use Rattle.htl_top.specs.Shown.{show_text};
+ghost use Rattle.htl_top.specs.Telling.{SpeaksOf};
+
+use crate::Outcome;
+use crate::answer::Answer;
+use crate::object::open;
+use htl_console::show;
+use htl_edge::{Failed, Shelf, Sink};
+use htl_load::Loaded;
+use std::alloc::Global;
+
+// Writes the listing of an accepted object.
+fn write_listing<W: Sink>(out: &mut W, l: &Loaded) -> Result<(), Failed>
+    ensures { Puts (W.written out.old) (W.written out.new) (W.faults out.old) (W.faults out.new) (show_text l.now) result }
+{
+    show(out, l.tables(), l.ecode(), l.schedules())
+}
+
+// Lists an accepted object.
+fn list<W: Sink>(out: &mut W, l: &Loaded) -> Outcome
+    ensures { IsWritten (show_text l.now) Outcome.Done (W.written out.old) (W.written out.new) (W.faults out.old) (W.faults out.new) result }
+{
+    match write_listing(out, l) {
+        Ok(()) => Outcome::Done,
+        Err(_) => Outcome::Write,
+    }
+}
+
+/// Tests the object in a file, and lists an accepted one.
+pub fn show_file<S: Shelf, W: Sink>(alloc: Global, name: &str, shelf: &mut S, out: &mut W) -> Answer
+    ensures answer { IsTextOnObject show_text (Some name.now) (files S.holds S.faults shelf.old shelf.new)
+        (W.written out.old) (W.written out.new) (W.faults out.old) (W.faults out.new) result.outcome }
+    ensures tables { SpeaksOf (IsBuiltProgram None (S.holds shelf.old)) (IsObjectTables (Some name.now) (S.holds shelf.old)) result.outcome result.tables }
+    ensures shelf { S.holds shelf.new ≡ S.holds shelf.old }
+{
+    match open(alloc, name, shelf) {
+        Ok(loaded) => Answer::plain(list(out, &loaded)),
+        Err(answer) => answer,
+    }
+}
