@@ -17,7 +17,7 @@ use Rattle.htl_edf.proofs.Walking.{accepted, schedule_short}
 use Rattle.htl_edf.specs.Lists.{tightened}
 use Rattle.htl_edf.specs.Plan.{ArePlannable}
 use Rattle.htl_edf.specs.Windows.{NoOverload}
-use Rattle.htl_model.proofs.PlainLaws.{length-list_to}
+use Rattle.htl_model.proofs.Listed.{length-list_to}
 use Rattle.htl_model.proofs.SameRanges.{limits_same, selection_count_same}
 use Rattle.htl_model.proofs.SameRules.{formed_same}
 use Rattle.htl_model.specs.Broken.{Formed, KeepsLimits, KeptTo}

@@ -11,7 +11,7 @@ use Rattle.htl_model.specs.FunctionTypes.{FunctionType, function_types, IsFuncti
 use Rattle.htl_compile.specs.Coded.{code_of, code_by, code_at, codes, coded, IsTyped, AreTyped}
 use Rattle.htl_func.proofs.CodeMeans.{code_means, IsCompiled-postfix}
 use Rattle.htl_func.specs.Compiled.{IsCompiled}
-use Rattle.htl_model.proofs.PlainLaws.{length-list_to}
+use Rattle.htl_model.proofs.Listed.{length-list_to}
 use Rattle.htl_model.specs.Broken.{IsFirstBroken}
 use Rattle.htl_model.specs.Functions.{postfix}
 use Rattle.htl_model.specs.Lists.{list_to}

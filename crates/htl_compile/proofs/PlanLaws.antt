@@ -11,7 +11,7 @@ use Rattle.htl_edf.specs.Plan.{ArePlanned, ExplainsPlan}
 use Rattle.htl_edf.specs.Windows.{Reported, NoOverload}
 use Rattle.htl_edf.specs.declared.plan.PlanFault.{PlanFault}
 use Rattle.htl_edf.specs.declared.plan.PlanFault.TheVariants.{Overload, Memory as PlanMemory}
-use Rattle.htl_model.proofs.PlainLaws.{length-list_to}
+use Rattle.htl_model.proofs.Listed.{length-list_to}
 use Rattle.htl_model.proofs.SameRanges.{selection_count_same}
 use Rattle.htl_model.specs.Broken.{Formed}
 use Rattle.htl_model.specs.Exchanged.{with_functions}

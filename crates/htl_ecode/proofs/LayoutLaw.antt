@@ -3,7 +3,7 @@ use Rattle.std.proofs.Common.{◌≡◌, ℕ, zero, suc, ◌+◌, ◌<◌, true,
 use Rattle.std.proofs.lemmas.List.{length-append}
 use Rattle.htl_model.specs.Lists.{up_to}
 use Rattle.htl_model.specs.Tables.{Tables}
-use Rattle.htl_model.proofs.PlainLaws.{get_list_to}
+use Rattle.htl_model.proofs.Listed.{get_list_to}
 use Rattle.htl_ecode.specs.declared.ecode.ECode.{ECode}
 use Rattle.htl_ecode.specs.declared.instr.EInstr.{EInstr}
 use Rattle.htl_ecode.specs.declared.instr.EInstr.TheVariants as I

@@ -17,7 +17,7 @@ use Rattle.htl_model.specs.Meaning.{port_output, writer_from}
 use Rattle.htl_model.specs.FormRules.{Ends, Input, Output}
 use Rattle.htl_model.specs.EndRules.{input_types, output_types, type_number, TypeDiffers}
 use Rattle.htl_model.specs.Broken.{KeptTo}
-use Rattle.htl_model.proofs.PlainLaws.{length-list_to, get_list_to}
+use Rattle.htl_model.proofs.Listed.{length-list_to, get_list_to}
 use Rattle.htl_model.proofs.PlaceLaws.{output_types_at}
 use Rattle.htl_model.proofs.SelectionLaws.{output_within}
 use Rattle.htl_fcode.specs.Arguments.{AreArguments}

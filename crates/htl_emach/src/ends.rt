@@ -4,7 +4,7 @@ ghost use Rattle.htl_base.specs.declared.limits.TheConstants as limit;
 ghost use Rattle.htl_model.specs.Meaning.{writer_from};
 ghost use Rattle.htl_emach.specs.Contents.{comm_of, reads_at, writes_at};
 
-use htl_model::slow::port_writer;
+use htl_model::port_ends::port_writer;
 use htl_model::{End, Inv, Tables};
 
 // The communicator at an end; None at a port.

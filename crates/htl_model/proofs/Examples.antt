@@ -1,9 +1,7 @@
-use Rattle.std.specs.Prelude.{◌≡◌, List, [], ◌∷◌, Some, None, pos, refl, codes}
+use Rattle.std.specs.Prelude.{◌≡◌, List, [], ◌∷◌, Some, None, pos, refl}
 use Rattle.htl_model.specs.declared.event.Event.{Event}
 use Rattle.htl_model.specs.declared.event.Event.TheVariants.{At, Sense, End}
 use Rattle.htl_model.specs.declared.line.Line.TheVariants.{ValueLine as v, ModeLine as m}
-use Rattle.std.specs.Fmt.{digits}
-use Rattle.htl_model.specs.Lines.{run_text}
 use Rattle.htl_model.specs.Meaning.{run_lines, all_value_lines}
 use Rattle.htl_model.proofs.Sources.{empty_mode, doubling, preempted, refined, reentered, alternating, ports}
 
@@ -45,9 +43,3 @@ reentered_by_instants = refl
 
 preempted_far : run_lines preempted [] 300 ≡ all_value_lines preempted [] 300
 preempted_far = refl
-
--- the text of three instants with lines, and the totals of three rounds
-empty_mode_text : run_text empty_mode two_readings 20
-    ≡ codes "v 0 s 3\nv 0 u 7\nm 0 M m\nv 10 s 5\nend 20 jobs 0 e 6 s 2\n"
-unfolding digits
-empty_mode_text = refl

@@ -10,7 +10,6 @@ pub mod Lines
 pub mod Lists
 pub mod Meaning
 pub mod PeriodRules
-pub mod Plain
 pub mod PortOrder
 pub mod PortTable
 pub mod PortWriters
@@ -19,7 +18,6 @@ pub mod RefinementRules
 pub mod SecondWriters
 pub mod Selected
 pub mod Selections
-pub mod Slow
 pub mod Small
 pub mod Tables
 pub mod TablesCode

@@ -1,5 +1,5 @@
--- The text of a run.
-use Rattle.std.specs.Prelude.{ℕ, ◌+◌, ◌*◌, ◌/◌, List, [], ◌∷◌, ◌++◌, map, sum, slice_get, Option, Some, None, codes, decimal}
+-- The lines of values, modes and totals as text.
+use Rattle.std.specs.Prelude.{ℕ, List, [], ◌++◌, slice_get, Option, Some, None, codes, decimal}
 use Rattle.std.specs.Fmt.{signed_decimal}
 use Rattle.std.specs.List.{flat_map}
 use Rattle.htl_model.specs.declared.event.Event.{Event}
@@ -7,8 +7,7 @@ use Rattle.htl_model.specs.declared.line.Line.{Line}
 use Rattle.htl_model.specs.declared.line.Line.TheVariants.{ValueLine, ModeLine}
 use Rattle.htl_model.specs.Lists.{up_to}
 use Rattle.htl_model.specs.Meaning.{run_lines, value_lines}
-use Rattle.htl_model.specs.Selections.{root_modules}
-use Rattle.htl_model.specs.Tables.{Tables, mode_period}
+use Rattle.htl_model.specs.Tables.{Tables}
 
 abbrev pub comm_name : Tables → ℕ → List ℕ
 comm_name t c = elim (slice_get t.comms c) [ Some x ↦ x.name | None ↦ [] ]
@@ -37,30 +36,10 @@ abbrev pub totals_line : ℕ → ℕ → ℕ → ℕ → List ℕ
 totals_line at jobs e s =
     codes "end " ++ decimal at ++ codes " jobs " ++ decimal jobs ++ codes " e " ++ decimal e ++ codes " s " ++ decimal s ++ codes "\n"
 
--- how many rounds of this period begin at or before an instant, the first at 0
-abbrev pub rounds_to : ℕ → ℕ → ℕ
-rounds_to period at = at / period + 1
-
--- the period of a module's rounds: that of the mode in which it starts
-abbrev pub module_period : Tables → ℕ → ℕ
-module_period t k = elim (slice_get t.modules k) [ Some x ↦ mode_period t x.start | None ↦ 0 ]
-
--- Modes without invocations and switches: each round of a root module begins with three E instructions,
--- and each round of the processor is that of the first root module, with one S instruction.
-abbrev pub empty_e_count : Tables → ℕ → ℕ
-empty_e_count t at = sum (map (λ k. 3 * rounds_to (module_period t k) at) (root_modules t))
-
-abbrev pub empty_s_count : Tables → ℕ → ℕ
-empty_s_count t at = elim (root_modules t) [ [] ↦ 0 | k ∷ ks ↦ rounds_to (module_period t k) at ]
-
--- the lines of the instants 0 to `end`, without the totals line
+-- the lines of the instants 0 to `end`
 abbrev pub lines_to_text : Tables → List Event → ℕ → List ℕ
 lines_to_text t es end = lines_text t (run_lines t es end)
 
 -- the lines of the instants before `at`
 abbrev pub lines_before_text : Tables → List Event → ℕ → List ℕ
 lines_before_text t es at = lines_text t (up_to (value_lines t es) at)
-
--- all that a run of modes without invocations writes up to its last instant
-abbrev pub run_text : Tables → List Event → ℕ → List ℕ
-run_text t es end = lines_text t (run_lines t es end) ++ totals_line end 0 (empty_e_count t end) (empty_s_count t end)

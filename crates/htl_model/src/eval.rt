@@ -1,8 +1,7 @@
-//! The values of operators and expressions.
+//! The values of operators.
 ghost use Rattle.std.specs.Prelude.{◌≡◌};
-ghost use Rattle.htl_model.specs.Functions.{value, term_of, combine as combined, negate as negated, of_test};
+ghost use Rattle.htl_model.specs.Functions.{combine as combined, negate as negated, of_test};
 
-use crate::Expr;
 use htl_base::{BinOp, UnOp, Value};
 
 // The value of a test: 1 where it holds, else 0.
@@ -41,31 +40,5 @@ pub fn combine(op: BinOp, x: Value, y: Value) -> Value
         BinOp::Ne => flag(x != y),
         BinOp::And => if x == 0 { 0 } else { y },
         BinOp::Or => if x == 0 { y } else { 1 },
-    }
-}
-
-/// The value of an expression for its arguments; an argument that isn't there counts as 0.
-pub fn eval_expr(e: &Expr, args: &[Value]) -> Value
-    ensures { result ≡ value args.now (term_of e.now) }
-{
-    match e {
-        Expr::Int { x, .. } => *x,
-        Expr::Bool { x, .. } => flag(*x),
-        Expr::Arg { k, .. } => {
-            let k = *k as usize;
-            if k < args.len() { args[k] } else { 0 }
-        }
-        Expr::Unary { op, e, .. } => negate(*op, eval_expr(e, args)),
-        Expr::Binary { op, l, r, .. } => {
-            let x = eval_expr(l, args);
-            let y = eval_expr(r, args);
-            combine(*op, x, y)
-        }
-        Expr::Choose { c, a, b, .. } => {
-            let x = eval_expr(c, args);
-            let y = eval_expr(a, args);
-            let z = eval_expr(b, args);
-            if x == 0 { z } else { y }
-        }
     }
 }

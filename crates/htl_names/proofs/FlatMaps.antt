@@ -4,7 +4,7 @@ use Rattle.std.specs.List.{flat_map}
 use Rattle.std.proofs.lemmas.Option.{slice_get_within, same_Some}
 use Rattle.std.proofs.lemmas.Grind.{flat_map-append}
 use Rattle.htl_model.specs.Lists.{list_to}
-use Rattle.htl_model.proofs.PlainLaws.{length-list_to}
+use Rattle.htl_model.proofs.Listed.{length-list_to}
 use Rattle.htl_names.specs.Lists.{flat_map_at, map_at}
 
 -- ---- the front and the back of a list

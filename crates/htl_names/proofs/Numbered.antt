@@ -15,7 +15,7 @@ use Rattle.htl_names.specs.Order.{module_at, tasks_at, modes_at, ports_at, invok
 use Rattle.htl_names.specs.Ordered.{Exists}
 use Rattle.htl_names.proofs.FlatMaps.{at_part_0, at_flat, same_length, flat_part, there_is, list_to_at, of_list_to}
 use Rattle.htl_names.proofs.Owners.{to_map}
-use Rattle.htl_model.proofs.PlainLaws.{length-list_to}
+use Rattle.htl_model.proofs.Listed.{length-list_to}
 
 -- ---- first places
 

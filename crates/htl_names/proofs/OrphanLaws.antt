@@ -3,7 +3,7 @@ use Rattle.std.proofs.Common.{◌≡◌, ◌≤◌, ◌<◌, ◌+◌, ℕ, zero,
 use Rattle.std.specs.List.{flat_map}
 use Rattle.std.proofs.lemmas.List.Concat.{flat_map-cons}
 use Rattle.htl_model.specs.Lists.{first_some, list_to}
-use Rattle.htl_model.proofs.PlainLaws.{get_list_to}
+use Rattle.htl_model.proofs.Listed.{get_list_to}
 use Rattle.htl_text.specs.Nodes.{PlainProgram}
 use Rattle.htl_text.specs.declared.tree.Id.{Id}
 use Rattle.htl_names.specs.declared.fault.NameFault.TheVariants as fault

@@ -7,7 +7,7 @@ use Rattle.std.proofs.lemmas.List.{get_or-set_other, get_or-replicate, get_or_de
 use Rattle.std.proofs.Math.ListN.{length-set, replicate, length-replicate}
 use Rattle.std.proofs.lemmas.Option.{slice_get_within, get_or_from_slice_get}
 use Rattle.htl_model.specs.Lists.{list_to}
-use Rattle.htl_model.proofs.PlainLaws.{length-list_to, get_list_to}
+use Rattle.htl_model.proofs.Listed.{length-list_to, get_list_to}
 use Rattle.htl_names.specs.declared.place.ModeAt.{ModeAt}
 use Rattle.htl_names.specs.Programs.{Naming, refined_in}
 use Rattle.htl_names.specs.Refined.{filled_at, filled}

@@ -16,7 +16,7 @@ use Rattle.htl_base.specs.declared.Ty.TheVariants as ty
 use Rattle.htl_ecode.specs.declared.instr.EInstr.{EInstr}
 use Rattle.htl_ecode.specs.declared.instr.EInstr.TheVariants as I
 use Rattle.htl_model.proofs.Apart.{apart_names, apart_owned, apart_pairs, apart_numbers}
-use Rattle.htl_model.proofs.PlainLaws.{length-list_to, get_list_to}
+use Rattle.htl_model.proofs.Listed.{length-list_to, get_list_to}
 use Rattle.htl_model.specs.Lists.{AreApart, list_to}
 use Rattle.htl_model.specs.Ranges.{FitsType, IsSpan, IsModeThat, parent_of, is_within, IsEndInRange, IsFunInRange, AreInRange, IsCommInRange, IsModeInRange, IsPortInRange, IsInvInRange, IsSwitchInRange, IsTaskInRange}
 use Rattle.htl_model.specs.Tables.{Tables, Fun, Compiled, mode_module}

@@ -5,7 +5,7 @@ use Rattle.std.proofs.lemmas.List.Concat.{flat_map-append}
 use Rattle.std.proofs.lemmas.List.Elements.{All-append, All-cons, All-nil}
 use Rattle.std.proofs.lemmas.Option.{slice_get-get_or}
 use Rattle.htl_ecode.specs.declared.ecode.ECode.{ECode}
-use Rattle.htl_model.proofs.PlainLaws.{length-list_to, get_list_to}
+use Rattle.htl_model.proofs.Listed.{length-list_to, get_list_to}
 use Rattle.htl_model.specs.Lists.{list_to}
 use Rattle.htl_model.specs.Tables.{Fun, Formula, Compiled, fun_of}
 use Rattle.htl_model.specs.declared.function.Function.{Function}

@@ -4,7 +4,7 @@ use Rattle.std.proofs.lemmas.List.{length-set, ext_get_or}
 use Rattle.htl_model.specs.declared.parts.Comm.{Comm}
 use Rattle.htl_model.specs.Meaning.{value_line}
 use Rattle.htl_model.specs.Tables.{Tables}
-use Rattle.htl_model.proofs.PlainLaws.{length-list_to}
+use Rattle.htl_model.proofs.Listed.{length-list_to}
 use Rattle.htl_top.specs.Instants.{shown_by, shown_at, all_shown, state_of}
 use Rattle.htl_top.proofs.Values.{all_shown_is, value_line_same}
 

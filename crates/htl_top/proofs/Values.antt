@@ -18,7 +18,7 @@ use Rattle.htl_model.specs.Meaning.{val, sense, initial, last_sense, state, befo
 use Rattle.htl_model.specs.Plain.{IsPlain, start_line}
 use Rattle.htl_model.specs.Tables.{Tables}
 use Rattle.htl_model.proofs.Locality.{up_to_same}
-use Rattle.htl_model.proofs.PlainLaws.{unwritten, val_unwritten, get_list_to, length-list_to}
+use Rattle.htl_model.proofs.Listed.{unwritten, val_unwritten, get_list_to, length-list_to}
 use Rattle.htl_model.proofs.Stays.{start_line_is}
 use Rattle.htl_top.proofs.Reading.{last_sense_reading}
 use Rattle.htl_top.specs.Runs.{AreInOrder, IsFresh}
