@@ -1,12 +1,10 @@
 -- What the program comes to.
 use Rattle.std.specs.Prelude.{◌≡◌, ◌⊎◌, ℕ, Option, None, List}
 use Rattle.htl_top.specs.Answers.{Files, Streams, IsUntouched, Tells}
-use Rattle.htl_top.specs.Calls.{IsCall}
-use Rattle.htl_top.specs.Causes.{IsBuiltProgram}
-use Rattle.htl_top.specs.Objects.{IsObjectTables}
+use Rattle.htl_top.specs.Calls.{IsCall, HasSource, HasObject}
 use Rattle.htl_top.specs.Status.{status_of, fault_line}
 use Rattle.htl_top.specs.Telling.{IsLineTold}
-use Rattle.htl_top.specs.Words.{command_of, source_of, object_of}
+use Rattle.htl_top.specs.Words.{command_of}
 use Rattle.htl_top.specs.declared.outcome.Outcome.{Outcome}
 use Rattle.htl_top.specs.declared.outcome.Outcome.TheVariants.{Done, Memory}
 
@@ -16,7 +14,7 @@ pub record EndsWith (words : List (List ℕ)) (shelf : Files) (old new : Streams
   pub outcome : Outcome
   pub is : status ≡ status_of outcome
   pub answer : IsCall (command_of words) shelf old new outcome
-  pub told : IsLineTold (IsBuiltProgram (source_of (command_of words)) shelf.holds) (IsObjectTables (object_of (command_of words)) shelf.holds) Told outcome
+  pub told : IsLineTold (HasSource (command_of words) shelf.holds old.rest) (HasObject (command_of words) shelf.holds) Told outcome
   pub quiet : outcome ≡ Done → Quiet
 
 -- There was no memory for the words: the status is that of Memory, whose line was told, and nothing was read or

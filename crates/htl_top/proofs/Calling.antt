@@ -3,30 +3,48 @@ use Rattle.std.proofs.Common.{◌≡◌, ◌≤◌, ◌<◌, ◌⊎◌, ℕ, Lis
 use Rattle.std.specs.Prelude.{◌↔◌}
 use Rattle.std.specs.Io.KnownBytes.{append_known}
 use Rattle.htl_base.specs.declared.limits.TheConstants.{MAX_SOURCE, MAX_OBJECT}
+use Rattle.htl_compile.specs.Building.{IsCompileFault}
+use Rattle.htl_compile.specs.Built.{built, CanBuild}
+use Rattle.htl_compile.specs.Sources.{IsTablesOf}
+use Rattle.htl_compile.specs.declared.compiling.CompileFault.{CompileFault}
+use Rattle.htl_compile.specs.declared.compiling.CompileFault.TheVariants as compile
+use Rattle.htl_compile.specs.declared.source_fault.SourceFault.TheVariants as source
+use Rattle.htl_console.specs.declared.shown.Shown.{Shown}
+use Rattle.htl_console.specs.declared.shown.Shown.TheVariants.{Jobs}
 use Rattle.htl_edge.specs.Causes.{Rose}
-use Rattle.htl_edge.specs.Content.{AppendsPrefix}
+use Rattle.htl_edge.specs.Content.{AppendsPrefix, none_left}
 use Rattle.htl_load.specs.Loading.{RefusesBytes}
 use Rattle.htl_load.specs.declared.fault.ObjectFault.{ObjectFault}
-use Rattle.htl_model.specs.declared.form_fault.FormFault.{FormFault}
+use Rattle.htl_model.specs.Tables.{Tables}
+use Rattle.htl_model.specs.declared.event.Event.{Event}
 use Rattle.htl_object.specs.declared.object.Object.{Object}
-use Rattle.htl_top.proofs.Answering as answering
+use Rattle.htl_script.specs.declared.fault.ScriptFault.{ScriptFault}
+use Rattle.htl_top.proofs.Compiling as compiling
+use Rattle.htl_top.proofs.Going as going
 use Rattle.htl_top.proofs.ObjectAnswering as objects
 use Rattle.htl_top.proofs.ObjectAnswering.{IsWork, text_is_work}
-use Rattle.htl_top.specs.Answers.{Files, Streams, IsAnswer, IsBeforeScript, IsBeforeRun}
-use Rattle.htl_top.specs.Calls.{IsCall}
-use Rattle.htl_top.specs.Causes.{IsFaultOf, IsLongFile, IsGiven, IsFaultySource, IsIllFormed, IsOrMemory}
-use Rattle.htl_top.specs.Checked.{check_text, IsChecked}
-use Rattle.htl_top.specs.Objects.{IsRefusedFile, IsAcceptedFile, IsOnObject, IsReadyObject, IsTextAnswer, Work}
-use Rattle.htl_top.specs.Shown.{show_text, IsShown}
-use Rattle.htl_top.specs.Planned.{IsPlanned, IsWholePlan, IsCutPlan, IsBadSelection}
-use Rattle.htl_top.specs.SelectionInput.{Whole, Bad, input_of}
-use Rattle.htl_script.specs.declared.fault.ScriptFault.{ScriptFault}
 use Rattle.htl_top.proofs.Planning.{planning, bad_input, whole_input}
-use Rattle.htl_top.specs.Words.{Command, Go, Check, Plan, Show, source_of, object_of}
+use Rattle.htl_top.proofs.Running.{running, bad_run, whole_run}
+use Rattle.htl_top.specs.Answers.{Files, Streams, IsBeforeScript, IsBeforeRun}
+use Rattle.htl_top.specs.Calls.{IsCall}
+use Rattle.htl_top.specs.Causes.{IsFaultOf, IsLongFile, IsGiven, IsOrMemory}
+use Rattle.htl_top.specs.Checked.{check_text, IsChecked}
+use Rattle.htl_top.specs.Compiling.{IsCompileCause, IsCompiling, compiled_bytes}
+use Rattle.htl_top.specs.Going.{IsGoing, IsReadySource}
+use Rattle.htl_top.specs.Objects.{IsRefusedFile, IsAcceptedFile, IsOnObject, IsReadyObject, IsStopped, IsTextAnswer, Work}
+use Rattle.htl_top.specs.Planned.{IsPlanned, IsWholePlan, IsCutPlan, IsBadSelection}
+use Rattle.htl_top.specs.Runs.{IsRun, IsWholeRun, IsFaultyRun, IsCutRun}
+use Rattle.htl_top.specs.Scripts.{IsWhole, IsBad}
+use Rattle.htl_top.specs.SelectionInput.{Whole, Bad, input_of}
+use Rattle.htl_top.specs.Shown.{show_text, IsShown}
+use Rattle.htl_top.specs.Sources.{IsProgram, IsInputProgram, answer_of}
+use Rattle.htl_top.specs.Words.{Command, Go, Compile, Run, Check, Plan, Show, source_of, object_of}
 use Rattle.htl_top.specs.declared.outcome.Outcome.{Outcome}
-use Rattle.htl_top.specs.declared.outcome.Outcome.TheVariants.{Done, Usage, Source, IllFormed, Object as Refused, Script, Shelf, Read, Write, Memory}
+use Rattle.htl_top.specs.declared.outcome.Outcome.TheVariants.{Done, Usage, Source, Object as Refused, Script, Shelf, Read, Write, Memory}
 use Rattle.htl_top.specs.declared.outcome.ShelfCause.TheVariants.{Failed, TooLong}
-use Rattle.htl_top.specs.declared.source_fault.SourceFault.{SourceFault}
+
+abbrev RunOf : Shown → Work
+RunOf show o = IsRun show o.tables o
 
 checking : IsWork IsChecked
 checking = text_is_work (λ o. check_text o.tables)
@@ -37,79 +55,126 @@ showing = text_is_work show_text
 some_not_none : (A : Type 0) (o : Option A) (x : A) → o ≡ Some x → o ≡ None → ⊥
 some_not_none A o x p q = cc
 
+done_memory : Done ≡ Memory → ⊥
+done_memory e = cc
+
+write_memory : Write ≡ Memory → ⊥
+write_memory e = cc
+
+read_memory : Read ≡ Memory → ⊥
+read_memory e = cc
+
+script_memory : (f : ScriptFault) → Script f ≡ Memory → ⊥
+script_memory f e = cc
+
+failed_usage : Shelf Failed ≡ Usage → ⊥
+failed_usage e = cc
+
+long_usage : (seen : ℕ) → Shelf (TooLong seen) ≡ Usage → ⊥
+long_usage seen e = cc
+
+refused_usage : (f : ObjectFault) → Refused f ≡ Usage → ⊥
+refused_usage f e = cc
+
+fault_usage : (f : CompileFault) → answer_of f ≡ Usage → ⊥
+fault_usage (compile.Source f) e = cc
+fault_usage (compile.IllFormed f) e = cc
+fault_usage (compile.Unschedulable sel a b demand) e = cc
+fault_usage compile.Memory e = cc
+
 module _ (shelf : Files) (old new : Streams) where
   -- ---- of the words
 
+  not_asked : (command : Command) (Answered : Type 0) → (Answered → ⊥) → Answered ↔ (Some command ≡ None)
+  not_asked command Answered never = (λ e. absurd (never e), λ e. absurd (some_not_none Command (Some command) command refl e))
+
   pub usage : (command : Option Command) (outcome : Outcome) → IsCall command shelf old new outcome → (outcome ≡ Usage) ↔ (command ≡ None)
-  usage None outcome call = (λ e. refl, λ e. (answering.usage None shelf old new outcome call).1 refl)
-  usage (Some (Go name)) outcome call = (
-    λ e. absurd (some_not_none (List ℕ) (Some name) name refl ((answering.usage (Some name) shelf old new outcome call).0 e)),
-    λ e. absurd (some_not_none Command (Some (Go name)) (Go name) refl e),
-  )
-  usage (Some (Check name)) outcome call = (
-    λ e. absurd (objects.no_usage IsChecked checking (Some name) shelf old new (subst (λ o. IsOnObject IsChecked (Some name) shelf old new o) e call)),
-    λ e. absurd (some_not_none Command (Some (Check name)) (Check name) refl e),
-  )
-  usage (Some (Plan name)) outcome call = (
-    λ e. absurd (objects.no_usage IsPlanned planning (Some name) shelf old new (subst (λ o. IsOnObject IsPlanned (Some name) shelf old new o) e call)),
-    λ e. absurd (some_not_none Command (Some (Plan name)) (Plan name) refl e),
-  )
-  usage (Some (Show name)) outcome call = (
-    λ e. absurd (objects.no_usage IsShown showing (Some name) shelf old new (subst (λ o. IsOnObject IsShown (Some name) shelf old new o) e call)),
-    λ e. absurd (some_not_none Command (Some (Show name)) (Show name) refl e),
-  )
+  usage None outcome call = (λ e. refl, λ e. call.0)
+  usage (Some (Go name)) outcome call =
+      not_asked (Go name) (outcome ≡ Usage) (λ e. going.no_usage (Some name) shelf old new (subst (λ o. IsGoing (Some name) shelf old new o) e call))
+  usage (Some Compile) outcome call = not_asked Compile (outcome ≡ Usage) (λ e. subst (λ o. IsCompiling old new o) e call)
+  usage (Some (Run show name)) outcome call =
+      not_asked (Run show name) (outcome ≡ Usage)
+      (λ e. objects.no_usage (RunOf show) (running show) (Some name) shelf old new (subst (λ o. IsOnObject (RunOf show) (Some name) shelf old new o) e call))
+  usage (Some (Check name)) outcome call =
+      not_asked (Check name) (outcome ≡ Usage) (λ e. objects.no_usage IsChecked checking (Some name) shelf old new (subst (λ o. IsOnObject IsChecked (Some name) shelf old new o) e call))
+  usage (Some (Plan name)) outcome call =
+      not_asked (Plan name) (outcome ≡ Usage) (λ e. objects.no_usage IsPlanned planning (Some name) shelf old new (subst (λ o. IsOnObject IsPlanned (Some name) shelf old new o) e call))
+  usage (Some (Show name)) outcome call =
+      not_asked (Show name) (outcome ≡ Usage) (λ e. objects.no_usage IsShown showing (Some name) shelf old new (subst (λ o. IsOnObject IsShown (Some name) shelf old new o) e call))
 
   -- ---- of an answer
 
   pub shelf_failed : (command : Option Command) → IsCall command shelf old new (Shelf Failed)
       → IsFaultOf (source_of command) shelf.before shelf.after ⊎ IsFaultOf (object_of command) shelf.before shelf.after
-  shelf_failed None call = inl call.0
-  shelf_failed (Some (Go name)) call = inl call.0
+  shelf_failed None call = absurd (failed_usage call.0)
+  shelf_failed (Some (Go name)) call = inl (going.shelf_failed (Some name) shelf old new call)
+  shelf_failed (Some Compile) call = absurd call
+  shelf_failed (Some (Run show name)) call = inr (objects.shelf_failed (RunOf show) (running show) (Some name) shelf old new call)
   shelf_failed (Some (Check name)) call = inr (objects.shelf_failed IsChecked checking (Some name) shelf old new call)
   shelf_failed (Some (Plan name)) call = inr (objects.shelf_failed IsPlanned planning (Some name) shelf old new call)
   shelf_failed (Some (Show name)) call = inr (objects.shelf_failed IsShown showing (Some name) shelf old new call)
 
   pub shelf_long : (command : Option Command) (seen : ℕ) → IsCall command shelf old new (Shelf (TooLong seen))
       → IsLongFile MAX_SOURCE (source_of command) shelf.holds seen ⊎ IsLongFile MAX_OBJECT (object_of command) shelf.holds seen
-  shelf_long None seen call = inl call.0
-  shelf_long (Some (Go name)) seen call = inl call.0
+  shelf_long None seen call = absurd (long_usage seen call.0)
+  shelf_long (Some (Go name)) seen call = inl (going.shelf_long (Some name) shelf old new seen call)
+  shelf_long (Some Compile) seen call = absurd call
+  shelf_long (Some (Run show name)) seen call = inr (objects.shelf_long (RunOf show) (running show) (Some name) shelf old new seen call)
   shelf_long (Some (Check name)) seen call = inr (objects.shelf_long IsChecked checking (Some name) shelf old new seen call)
   shelf_long (Some (Plan name)) seen call = inr (objects.shelf_long IsPlanned planning (Some name) shelf old new seen call)
   shelf_long (Some (Show name)) seen call = inr (objects.shelf_long IsShown showing (Some name) shelf old new seen call)
 
-  pub source : (command : Option Command) (f : SourceFault) → IsCall command shelf old new (Source f) → IsFaultySource (source_of command) shelf.holds f
-  source None f call = call.0
-  source (Some (Go name)) f call = call.0
-  source (Some (Check name)) f call = absurd (objects.no_source IsChecked checking (Some name) shelf old new f call)
-  source (Some (Plan name)) f call = absurd (objects.no_source IsPlanned planning (Some name) shelf old new f call)
-  source (Some (Show name)) f call = absurd (objects.no_source IsShown showing (Some name) shelf old new f call)
+  -- no object has an answer of a source
+  of_no_work : (f : CompileFault) → (f ≡ compile.Memory → ⊥) → objects.IsOfWork (answer_of f) → ⊥
+  of_no_work (compile.Source f) told work = work
+  of_no_work (compile.IllFormed f) told work = work
+  of_no_work (compile.Unschedulable sel a b demand) told work = work
+  of_no_work compile.Memory told work = told refl
 
-  pub ill_formed : (command : Option Command) (f : FormFault) → IsCall command shelf old new (IllFormed f) → IsIllFormed (source_of command) shelf.holds f
-  ill_formed None f call = call.0
-  ill_formed (Some (Go name)) f call = call.0
-  ill_formed (Some (Check name)) f call = absurd (objects.no_ill_formed IsChecked checking (Some name) shelf old new f call)
-  ill_formed (Some (Plan name)) f call = absurd (objects.no_ill_formed IsPlanned planning (Some name) shelf old new f call)
-  ill_formed (Some (Show name)) f call = absurd (objects.no_ill_formed IsShown showing (Some name) shelf old new f call)
+  not_stopped : (name : Option (List ℕ)) (f : CompileFault) → (f ≡ compile.Memory → ⊥) → IsStopped name shelf (answer_of f) → ⊥
+  not_stopped name (compile.Source f) told s = s
+  not_stopped name (compile.IllFormed f) told s = s
+  not_stopped name (compile.Unschedulable sel a b demand) told s = s
+  not_stopped name compile.Memory told s = told refl
+
+  no_source : (Does : Work) (work : IsWork Does) (name : List ℕ) (f : CompileFault) → (f ≡ compile.Memory → ⊥) → IsOnObject Does (Some name) shelf old new (answer_of f) → ⊥
+  no_source Does work name f told on = not_stopped (Some name) f told (objects.stopped Does work (Some name) shelf old new (answer_of f) on (of_no_work f told))
+
+  pub cause : (command : Option Command) (f : CompileFault) → (f ≡ compile.Memory → ⊥) → IsCall command shelf old new (answer_of f) → IsCompileCause command shelf.holds old.rest f
+  cause None f told call = fault_usage f call.0
+  cause (Some (Go name)) f told call = going.cause (Some name) shelf old new f told call
+  cause (Some Compile) f told call = compiling.cause old new f told call
+  cause (Some (Run show name)) f told call = no_source (RunOf show) (running show) name f told call
+  cause (Some (Check name)) f told call = no_source IsChecked checking name f told call
+  cause (Some (Plan name)) f told call = no_source IsPlanned planning name f told call
+  cause (Some (Show name)) f told call = no_source IsShown showing name f told call
 
   pub object : (command : Option Command) (f : ObjectFault) → IsCall command shelf old new (Refused f) → IsRefusedFile (object_of command) shelf.holds f
-  object None f call = absurd call
-  object (Some (Go name)) f call = absurd call
+  object None f call = absurd (refused_usage f call.0)
+  object (Some (Go name)) f call = absurd (going.no_object (Some name) shelf old new f call)
+  object (Some Compile) f call = absurd call
+  object (Some (Run show name)) f call = objects.object (RunOf show) (running show) (Some name) shelf old new f call
   object (Some (Check name)) f call = objects.object IsChecked checking (Some name) shelf old new f call
   object (Some (Plan name)) f call = objects.object IsPlanned planning (Some name) shelf old new f call
   object (Some (Show name)) f call = objects.object IsShown showing (Some name) shelf old new f call
 
   -- ---- what stays as it was
 
-  pub unread : (command : Option Command) (outcome : Outcome) → IsCall command shelf old new outcome → IsBeforeScript outcome → new.rest ≡ old.rest
-  unread None outcome call early = answering.unread None shelf old new outcome call early
-  unread (Some (Go name)) outcome call early = answering.unread (Some name) shelf old new outcome call early
-  unread (Some (Check name)) outcome call early = objects.unread IsChecked checking (Some name) shelf old new outcome call early
-  unread (Some (Plan name)) outcome call early = objects.unread IsPlanned planning (Some name) shelf old new outcome call early
-  unread (Some (Show name)) outcome call early = objects.unread IsShown showing (Some name) shelf old new outcome call early
+  pub unread : (command : Option Command) (outcome : Outcome) → IsCall command shelf old new outcome → (command ≡ Some Compile → ⊥) → IsBeforeScript outcome → new.rest ≡ old.rest
+  unread None outcome call other early = call.1.rest
+  unread (Some (Go name)) outcome call other early = going.unread (Some name) shelf old new outcome call early
+  unread (Some Compile) outcome call other early = absurd (other refl)
+  unread (Some (Run show name)) outcome call other early = objects.unread (RunOf show) (running show) (Some name) shelf old new outcome call early
+  unread (Some (Check name)) outcome call other early = objects.unread IsChecked checking (Some name) shelf old new outcome call early
+  unread (Some (Plan name)) outcome call other early = objects.unread IsPlanned planning (Some name) shelf old new outcome call early
+  unread (Some (Show name)) outcome call other early = objects.unread IsShown showing (Some name) shelf old new outcome call early
 
   pub unwritten : (command : Option Command) (outcome : Outcome) → IsCall command shelf old new outcome → IsBeforeRun outcome → new.written ≡ old.written
-  unwritten None outcome call early = answering.unwritten None shelf old new outcome call early
-  unwritten (Some (Go name)) outcome call early = answering.unwritten (Some name) shelf old new outcome call early
+  unwritten None outcome call early = call.1.written
+  unwritten (Some (Go name)) outcome call early = going.unwritten (Some name) shelf old new outcome call early
+  unwritten (Some Compile) outcome call early = compiling.unwritten old new outcome call early
+  unwritten (Some (Run show name)) outcome call early = objects.unwritten (RunOf show) (running show) (Some name) shelf old new outcome call early
   unwritten (Some (Check name)) outcome call early = objects.unwritten IsChecked checking (Some name) shelf old new outcome call early
   unwritten (Some (Plan name)) outcome call early = objects.unwritten IsPlanned planning (Some name) shelf old new outcome call early
   unwritten (Some (Show name)) outcome call early = objects.unwritten IsShown showing (Some name) shelf old new outcome call early
@@ -117,15 +182,115 @@ module _ (shelf : Files) (old new : Streams) where
   -- ---- of a source that is named
 
   pub of_source : (command : Option Command) (word : List ℕ) (outcome : Outcome) → source_of command ≡ Some word → IsCall command shelf old new outcome
-      → IsAnswer (source_of command) shelf old new outcome
-  of_source None word outcome named call = call
+      → IsGoing (source_of command) shelf old new outcome
+  of_source None word outcome named call = absurd (some_not_none (List ℕ) None word named refl)
   of_source (Some (Go name)) word outcome named call = call
+  of_source (Some Compile) word outcome named call = absurd (some_not_none (List ℕ) None word named refl)
+  of_source (Some (Run show name)) word outcome named call = absurd (some_not_none (List ℕ) None word named refl)
   of_source (Some (Check name)) word outcome named call = absurd (some_not_none (List ℕ) None word named refl)
   of_source (Some (Plan name)) word outcome named call = absurd (some_not_none (List ℕ) None word named refl)
   of_source (Some (Show name)) word outcome named call = absurd (some_not_none (List ℕ) None word named refl)
 
-  pub going : (command : Option Command) (name : List ℕ) (outcome : Outcome) → command ≡ Some (Go name) → IsCall command shelf old new outcome → IsAnswer (Some name) shelf old new outcome
-  going command name outcome is call = subst (λ (c : Option Command). IsCall c shelf old new outcome) is call
+  pub long_file : (command : Option Command) (bytes : List ℕ) (outcome : Outcome) → IsGiven (source_of command) shelf.holds shelf.before shelf.after bytes
+      → IsCall command shelf old new outcome → 1048576 < length bytes → IsOrMemory outcome (Shelf (TooLong (length bytes)))
+  long_file command bytes outcome given call long =
+      going.long_file (source_of command) shelf old new bytes given outcome (of_source command given.word outcome given.named call) long
+
+  pub faulty_source : (command : Option Command) (bytes : List ℕ) (outcome : Outcome) → IsGiven (source_of command) shelf.holds shelf.before shelf.after bytes
+      → IsCall command shelf old new outcome → (f : CompileFault) → (f ≡ compile.Memory → ⊥) → length bytes ≤ 1048576 → IsCompileFault bytes f → IsOrMemory outcome (answer_of f)
+  faulty_source command bytes outcome given call f told few is =
+      going.faulty_source (source_of command) shelf old new bytes given f told is few outcome (of_source command given.word outcome given.named call)
+
+  -- ---- `go`
+
+  goes : (command : Option Command) (name : List ℕ) (outcome : Outcome) → command ≡ Some (Go name) → IsCall command shelf old new outcome → IsGoing (Some name) shelf old new outcome
+  goes command name outcome is call = subst (λ (c : Option Command). IsCall c shelf old new outcome) is call
+
+  -- what was run, where the answer isn't Memory
+  went : (command : Option Command) (outcome other : Outcome) → IsCall command shelf old new outcome → (name : List ℕ) → command ≡ Some (Go name) → outcome ≡ other
+      → objects.IsOfWork other → (other ≡ Memory → ⊥) → IsProgram (Some name) shelf.holds (λ t. IsRun Jobs t (built t) old new other)
+  went command outcome other call name is same work apart =
+      going.ran (Some name) shelf old new other (subst (λ (o : Outcome). IsGoing (Some name) shelf old new o) same (goes command name outcome is call)) work apart
+
+  pub done : (command : Option Command) (outcome : Outcome) → IsCall command shelf old new outcome → (name : List ℕ) → command ≡ Some (Go name) → outcome ≡ Done
+      → IsProgram (Some name) shelf.holds (λ t. IsWholeRun Jobs t (built t) old.rest new.rest old.written new.written)
+  done command outcome call name is same = went command outcome Done call name is same tt done_memory
+
+  pub script : (command : Option Command) (outcome : Outcome) → IsCall command shelf old new outcome → (name : List ℕ) → command ≡ Some (Go name) → (f : ScriptFault) → outcome ≡ Script f
+      → IsProgram (Some name) shelf.holds (λ t. IsFaultyRun Jobs t (built t) old.rest old.written new.written f)
+  script command outcome call name is f same = went command outcome (Script f) call name is same tt (script_memory f)
+
+  pub read : (command : Option Command) (outcome : Outcome) → IsCall command shelf old new outcome → (name : List ℕ) → command ≡ Some (Go name) → outcome ≡ Read
+      → Rose old.read_faults new.read_faults × IsProgram (Some name) shelf.holds (λ t. new.written ≡ old.written)
+  read command outcome call name is same =
+      let p = went command outcome Read call name is same tt read_memory in (
+        p.has.fact.0,
+        going.IsProgram-map (Some name) shelf.holds (λ t. IsRun Jobs t (built t) old new Read) (λ t. new.written ≡ old.written) (λ t r. r.1) p,
+      )
+
+  pub write : (command : Option Command) (outcome : Outcome) → IsCall command shelf old new outcome → (name : List ℕ) → command ≡ Some (Go name) → outcome ≡ Write
+      → Rose old.write_faults new.write_faults × IsProgram (Some name) shelf.holds (λ t. IsCutRun Jobs t (built t) old.rest old.written new.written)
+  write command outcome call name is same =
+      let p = went command outcome Write call name is same tt write_memory in (
+        p.has.fact.0,
+        going.IsProgram-map (Some name) shelf.holds (λ t. IsRun Jobs t (built t) old new Write) (λ t. IsCutRun Jobs t (built t) old.rest old.written new.written) (λ t r. r.1) p,
+      )
+
+  -- the run of tables that are given
+  run_of : (command : Option Command) (outcome : Outcome) → IsCall command shelf old new outcome → (t : Tables) (ready : IsReadySource (source_of command) shelf.holds shelf.before shelf.after t)
+      → IsRun Jobs t (built t) old new outcome ⊎ (outcome ≡ Memory)
+  run_of command outcome call t ready =
+      going.of_ready (source_of command) shelf old new t ready outcome (of_source command ready.given.word outcome ready.given.named call)
+
+  pub bad_script : (command : Option Command) (outcome : Outcome) → IsCall command shelf old new outcome → (t : Tables)
+      → IsReadySource (source_of command) shelf.holds shelf.before shelf.after t → (s : List ℕ) (f : ScriptFault) (events : List Event) → old.rest ≡ Some s → IsBad t s f events
+      → (Rose old.read_faults new.read_faults → ⊥) → (Rose old.write_faults new.write_faults → ⊥) → IsOrMemory outcome (Script f)
+  bad_script command outcome call t ready s f events told bad quiet still = elim (run_of command outcome call t ready) [
+    | inl r ↦ bad_run Jobs t (built t) old new s told f events bad quiet still outcome r
+    | inr m ↦ inr m
+  ]
+
+  pub complete : (command : Option Command) (outcome : Outcome) → IsCall command shelf old new outcome → (t : Tables)
+      → IsReadySource (source_of command) shelf.holds shelf.before shelf.after t → (s : List ℕ) (events : List Event) (end : ℕ) → old.rest ≡ Some s → IsWhole t s events end
+      → (Rose old.read_faults new.read_faults → ⊥) → (Rose old.write_faults new.write_faults → ⊥) → IsOrMemory outcome Done
+  complete command outcome call t ready s events end told whole quiet still = elim (run_of command outcome call t ready) [
+    | inl r ↦ whole_run Jobs t (built t) old new s told events end whole quiet still outcome r
+    | inr m ↦ inr m
+  ]
+
+  -- ---- `compile`
+
+  compiles : (command : Option Command) (outcome : Outcome) → command ≡ Some Compile → IsCall command shelf old new outcome → IsCompiling old new outcome
+  compiles command outcome is call = subst (λ (c : Option Command). IsCall c shelf old new outcome) is call
+
+  compiled_as : (command : Option Command) (outcome other : Outcome) → IsCall command shelf old new outcome → command ≡ Some Compile → outcome ≡ other → IsCompiling old new other
+  compiled_as command outcome other call is same = subst (λ (o : Outcome). IsCompiling old new o) same (compiles command outcome is call)
+
+  pub compiled : (command : Option Command) (outcome : Outcome) → IsCall command shelf old new outcome → command ≡ Some Compile → outcome ≡ Done
+      → (new.rest ≡ none_left old.rest) × IsInputProgram old.rest (λ t. new.written ≡ append_known old.written (compiled_bytes t))
+  compiled command outcome call is same = compiled_as command outcome Done call is same
+
+  pub compile_cut : (command : Option Command) (outcome : Outcome) → IsCall command shelf old new outcome → command ≡ Some Compile → outcome ≡ Write
+      → Rose old.write_faults new.write_faults × IsInputProgram old.rest (λ t. AppendsPrefix old.written new.written (compiled_bytes t))
+  compile_cut command outcome call is same = compiled_as command outcome Write call is same
+
+  pub compile_read : (command : Option Command) (outcome : Outcome) → IsCall command shelf old new outcome → command ≡ Some Compile → outcome ≡ Read
+      → Rose old.read_faults new.read_faults × (new.written ≡ old.written)
+  compile_read command outcome call is same = compiled_as command outcome Read call is same
+
+  pub long_input : (command : Option Command) (outcome : Outcome) → IsCall command shelf old new outcome → command ≡ Some Compile → (bytes : List ℕ) → old.rest ≡ Some bytes
+      → 1048576 < length bytes → (Rose old.read_faults new.read_faults → ⊥) → IsOrMemory outcome (Source (source.TooLong 1048577))
+  long_input command outcome call is bytes told long quiet = compiling.long_input old new bytes told outcome (compiles command outcome is call) long quiet
+
+  pub faulty_input : (command : Option Command) (outcome : Outcome) → IsCall command shelf old new outcome → command ≡ Some Compile → (bytes : List ℕ) → old.rest ≡ Some bytes
+      → length bytes ≤ 1048576 → (f : CompileFault) → (f ≡ compile.Memory → ⊥) → IsCompileFault bytes f → (Rose old.read_faults new.read_faults → ⊥) → IsOrMemory outcome (answer_of f)
+  faulty_input command outcome call is bytes told few f known fault quiet =
+      compiling.faulty_input old new bytes told few f known fault outcome (compiles command outcome is call) quiet
+
+  pub compile_complete : (command : Option Command) (outcome : Outcome) → IsCall command shelf old new outcome → command ≡ Some Compile → (bytes : List ℕ) → old.rest ≡ Some bytes
+      → length bytes ≤ 1048576 → (t : Tables) → IsTablesOf bytes t → CanBuild t → (Rose old.read_faults new.read_faults → ⊥) → (Rose old.write_faults new.write_faults → ⊥)
+      → IsOrMemory outcome Done
+  compile_complete command outcome call is bytes told few t of can quiet still = compiling.complete old new bytes told few t of can outcome (compiles command outcome is call) quiet still
 
   -- ---- of an object that is named
 
@@ -133,6 +298,8 @@ module _ (shelf : Files) (old new : Streams) where
       → IsCall command shelf old new outcome → 16777216 < length bytes → IsOrMemory outcome (Shelf (TooLong (length bytes)))
   long_object None bytes outcome given call long = absurd (some_not_none (List ℕ) None given.word given.named refl)
   long_object (Some (Go name)) bytes outcome given call long = absurd (some_not_none (List ℕ) None given.word given.named refl)
+  long_object (Some Compile) bytes outcome given call long = absurd (some_not_none (List ℕ) None given.word given.named refl)
+  long_object (Some (Run show name)) bytes outcome given call long = objects.long_object (RunOf show) (running show) (Some name) shelf old new bytes given outcome call long
   long_object (Some (Check name)) bytes outcome given call long = objects.long_object IsChecked checking (Some name) shelf old new bytes given outcome call long
   long_object (Some (Plan name)) bytes outcome given call long = objects.long_object IsPlanned planning (Some name) shelf old new bytes given outcome call long
   long_object (Some (Show name)) bytes outcome given call long = objects.long_object IsShown showing (Some name) shelf old new bytes given outcome call long
@@ -141,12 +308,66 @@ module _ (shelf : Files) (old new : Streams) where
       → IsCall command shelf old new outcome → (f : ObjectFault) → length bytes ≤ 16777216 → RefusesBytes bytes f → IsOrMemory outcome (Refused f)
   faulty_object None bytes outcome given call f short refused = absurd (some_not_none (List ℕ) None given.word given.named refl)
   faulty_object (Some (Go name)) bytes outcome given call f short refused = absurd (some_not_none (List ℕ) None given.word given.named refl)
+  faulty_object (Some Compile) bytes outcome given call f short refused = absurd (some_not_none (List ℕ) None given.word given.named refl)
+  faulty_object (Some (Run show name)) bytes outcome given call f short refused =
+      objects.faulty_object (RunOf show) (running show) (Some name) shelf old new bytes given outcome call f short refused
   faulty_object (Some (Check name)) bytes outcome given call f short refused =
       objects.faulty_object IsChecked checking (Some name) shelf old new bytes given outcome call f short refused
   faulty_object (Some (Plan name)) bytes outcome given call f short refused =
       objects.faulty_object IsPlanned planning (Some name) shelf old new bytes given outcome call f short refused
   faulty_object (Some (Show name)) bytes outcome given call f short refused =
       objects.faulty_object IsShown showing (Some name) shelf old new bytes given outcome call f short refused
+
+  -- ---- `run` and `jobs`
+
+  runs : (command : Option Command) (show : Shown) (name : List ℕ) (outcome : Outcome) → command ≡ Some (Run show name) → IsCall command shelf old new outcome
+      → IsOnObject (RunOf show) (Some name) shelf old new outcome
+  runs command show name outcome is call = subst (λ (c : Option Command). IsCall c shelf old new outcome) is call
+
+  -- what was run, where the answer isn't Memory
+  ran_as : (command : Option Command) (outcome other : Outcome) → IsCall command shelf old new outcome → (show : Shown) (name : List ℕ) → command ≡ Some (Run show name) → outcome ≡ other
+      → objects.IsOfWork other → (other ≡ Memory → ⊥) → IsAcceptedFile (Some name) shelf.holds (λ o. IsRun show o.tables o old new other)
+  ran_as command outcome other call show name is same work apart =
+      objects.done_with (RunOf show) (running show) (Some name) shelf old new other
+      (subst (λ (o : Outcome). IsOnObject (RunOf show) (Some name) shelf old new o) same (runs command show name outcome is call)) work apart
+
+  pub ran : (command : Option Command) (outcome : Outcome) → IsCall command shelf old new outcome → (show : Shown) (name : List ℕ) → command ≡ Some (Run show name) → outcome ≡ Done
+      → IsAcceptedFile (Some name) shelf.holds (λ o. IsWholeRun show o.tables o old.rest new.rest old.written new.written)
+  ran command outcome call show name is same = ran_as command outcome Done call show name is same tt done_memory
+
+  pub run_fault : (command : Option Command) (outcome : Outcome) → IsCall command shelf old new outcome → (show : Shown) (name : List ℕ) → command ≡ Some (Run show name) → (f : ScriptFault) → outcome ≡ Script f
+      → IsAcceptedFile (Some name) shelf.holds (λ o. IsFaultyRun show o.tables o old.rest old.written new.written f)
+  run_fault command outcome call show name is f same = ran_as command outcome (Script f) call show name is same tt (script_memory f)
+
+  pub run_read : (command : Option Command) (outcome : Outcome) → IsCall command shelf old new outcome → (show : Shown) (name : List ℕ) → command ≡ Some (Run show name) → outcome ≡ Read
+      → Rose old.read_faults new.read_faults × (new.written ≡ old.written)
+  run_read command outcome call show name is same = let a = ran_as command outcome Read call show name is same tt read_memory in a.fact
+
+  pub run_cut : (command : Option Command) (outcome : Outcome) → IsCall command shelf old new outcome → (show : Shown) (name : List ℕ) → command ≡ Some (Run show name) → outcome ≡ Write
+      → Rose old.write_faults new.write_faults × IsAcceptedFile (Some name) shelf.holds (λ o. IsCutRun show o.tables o old.rest old.written new.written)
+  run_cut command outcome call show name is same =
+      let a = ran_as command outcome Write call show name is same tt write_memory in (
+        a.fact.0,
+        objects.IsAcceptedFile-map (Some name) shelf.holds (λ o. IsRun show o.tables o old new Write) (λ o. IsCutRun show o.tables o old.rest old.written new.written) (λ o r. r.1) a,
+      )
+
+  pub run_bad_script : (command : Option Command) (outcome : Outcome) → IsCall command shelf old new outcome → (show : Shown) (name : List ℕ) (o : Object) → command ≡ Some (Run show name)
+      → IsReadyObject (Some name) shelf.holds shelf.before shelf.after o → (s : List ℕ) (f : ScriptFault) (events : List Event) → old.rest ≡ Some s → IsBad o.tables s f events
+      → (Rose old.read_faults new.read_faults → ⊥) → (Rose old.write_faults new.write_faults → ⊥) → IsOrMemory outcome (Script f)
+  run_bad_script command outcome call show name o is ready s f events told bad quiet still =
+      elim (objects.ready (RunOf show) (running show) (Some name) shelf old new o ready outcome (runs command show name outcome is call)) [
+        | inl r ↦ bad_run show o.tables o old new s told f events bad quiet still outcome r
+        | inr m ↦ inr m
+      ]
+
+  pub run_complete : (command : Option Command) (outcome : Outcome) → IsCall command shelf old new outcome → (show : Shown) (name : List ℕ) (o : Object) → command ≡ Some (Run show name)
+      → IsReadyObject (Some name) shelf.holds shelf.before shelf.after o → (s : List ℕ) (events : List Event) (end : ℕ) → old.rest ≡ Some s → IsWhole o.tables s events end
+      → (Rose old.read_faults new.read_faults → ⊥) → (Rose old.write_faults new.write_faults → ⊥) → IsOrMemory outcome Done
+  run_complete command outcome call show name o is ready s events end told whole quiet still =
+      elim (objects.ready (RunOf show) (running show) (Some name) shelf old new o ready outcome (runs command show name outcome is call)) [
+        | inl r ↦ whole_run show o.tables o old new s told events end whole quiet still outcome r
+        | inr m ↦ inr m
+      ]
 
   -- ---- of a text of an object
 
@@ -155,22 +376,16 @@ module _ (shelf : Files) (old new : Streams) where
     pub text_done : (outcome : Outcome) → outcome ≡ Done → IsOnObject Does (Some name) shelf old new outcome
         → IsAcceptedFile (Some name) shelf.holds (λ o. new.written ≡ append_known old.written (text o))
     text_done outcome is on =
-        let done = objects.done_with Does work (Some name) shelf old new Done (subst (λ o. IsOnObject Does (Some name) shelf old new o) is on) tt (λ e. done_memory e) in
+        let done = objects.done_with Does work (Some name) shelf old new Done (subst (λ o. IsOnObject Does (Some name) shelf old new o) is on) tt done_memory in
         objects.IsAcceptedFile-map (Some name) shelf.holds (λ o. Does o old new Done) (λ o. new.written ≡ append_known old.written (text o)) (λ o d. (writes o Done d).1) done
-      where
-        done_memory : Done ≡ Memory → ⊥
-        done_memory e = cc
 
     pub text_cut : (outcome : Outcome) → outcome ≡ Write → IsOnObject Does (Some name) shelf old new outcome
         → Rose old.write_faults new.write_faults × IsAcceptedFile (Some name) shelf.holds (λ o. AppendsPrefix old.written new.written (text o))
     text_cut outcome is on =
-        let cut = objects.done_with Does work (Some name) shelf old new Write (subst (λ o. IsOnObject Does (Some name) shelf old new o) is on) tt (λ e. write_memory e) in (
+        let cut = objects.done_with Does work (Some name) shelf old new Write (subst (λ o. IsOnObject Does (Some name) shelf old new o) is on) tt write_memory in (
           (writes cut.object Write cut.fact).1,
           objects.IsAcceptedFile-map (Some name) shelf.holds (λ o. Does o old new Write) (λ o. AppendsPrefix old.written new.written (text o)) (λ o d. (writes o Write d).2) cut,
         )
-      where
-        write_memory : Write ≡ Memory → ⊥
-        write_memory e = cc
 
     pub text_unread : (outcome : Outcome) → IsOnObject Does (Some name) shelf old new outcome → new.rest ≡ old.rest
     text_unread outcome on = elim on [ inl a ↦ objects.text_unread (text a.object) old new outcome (writes a.object outcome a.fact) | inr s ↦ s.1.rest ]
@@ -238,18 +453,6 @@ module _ (shelf : Files) (old new : Streams) where
   planned_as command outcome other call name is same work apart =
       objects.done_with IsPlanned planning (Some name) shelf old new other
       (subst (λ (o : Outcome). IsOnObject IsPlanned (Some name) shelf old new o) same (plans command name outcome is call)) work apart
-
-  done_memory : Done ≡ Memory → ⊥
-  done_memory e = cc
-
-  write_memory : Write ≡ Memory → ⊥
-  write_memory e = cc
-
-  read_memory : Read ≡ Memory → ⊥
-  read_memory e = cc
-
-  script_memory : (f : ScriptFault) → Script f ≡ Memory → ⊥
-  script_memory f e = cc
 
   pub planned : (command : Option Command) (outcome : Outcome) → IsCall command shelf old new outcome → (name : List ℕ) → command ≡ Some (Plan name) → outcome ≡ Done
       → IsAcceptedFile (Some name) shelf.holds (λ o. IsWholePlan o old.rest new.rest old.written new.written)

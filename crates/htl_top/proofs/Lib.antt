@@ -1,26 +1,24 @@
-pub mod Answering
 pub mod Calling
+pub mod Compiling
 pub mod EarlierReadings
-mod FaultExamples
-pub mod Fixtures
+pub mod Executing
+pub mod Going
+pub mod Inputs
+mod LineExamples
 pub mod LineTelling
+pub mod Meaning
 pub mod ObjectAnswering
-pub mod PlainTables
-pub mod PlainTrees
 mod PlanExamples
-pub mod PlanWalk
 pub mod Planning
+pub mod PlanWalk
+pub mod Playing
 pub mod Putting
-pub mod Reading
-pub mod Rounds
-pub mod Scanning
+pub mod Running
 pub mod Scripts
 pub mod SelectionEntries
 pub mod SelectionFields
 pub mod SelectionLines
 pub mod SelectionReading
-pub mod Showing
-pub mod SourceLaws
-pub mod TokenPlaces
-mod UnbuiltExamples
-pub mod Values
+pub mod Stopping
+pub mod Telling
+pub mod Totals

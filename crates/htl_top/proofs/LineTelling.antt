@@ -1,52 +1,70 @@
 -- The line that tells of an answer has names of the tables that it speaks of.
-use Rattle.std.proofs.Common.{◌≡◌, List, ℕ, Option, Some, subst}
+use Rattle.std.proofs.Common.{◌≡◌, List, ℕ, Option, None, Some, refl, ap, ◌∙◌, subst}
+use Rattle.htl_compile.specs.Coded.{coded}
+use Rattle.htl_console.specs.declared.shown.Shown.{Shown}
 use Rattle.htl_edge.specs.Holdings.{Holdings}
 use Rattle.htl_load.specs.declared.fault.ObjectFault.{ObjectFault}
 use Rattle.htl_load.specs.declared.fault.ObjectFault.TheVariants as fault
 use Rattle.htl_model.specs.Tables.{Tables}
-use Rattle.htl_top.specs.Answers.{Streams, IsExecuted}
-use Rattle.htl_top.specs.Causes.{IsSource, HasBuiltTables, IsBuiltProgram}
+use Rattle.htl_model.specs.declared.form_fault.FormFault.{FormFault}
+use Rattle.htl_object.specs.declared.object.Object.{Object as ObjectOf}
+use Rattle.htl_top.specs.Answers.{Streams}
+use Rattle.htl_top.specs.Calls.{HasSource, HasObject}
+use Rattle.htl_top.specs.Causes.{IsSource}
 use Rattle.htl_top.specs.Objects.{HasObjectTables, IsObjectFile, IsObjectTables, SpeaksOfObject}
+use Rattle.htl_top.specs.Runs.{IsRun}
+use Rattle.htl_top.specs.Sources.{HasTypedTables, IsInput, IsNotCompiled, IsTypedInput, IsTypedProgram, outcome_of, tables_of}
 use Rattle.htl_top.specs.Status.{fault_line}
 use Rattle.htl_top.specs.Telling.{SpeaksOf, IsFaultTold, IsLineTold}
+use Rattle.htl_top.specs.Words.{Command, Go, Compile, Run, Check, Plan, Show}
 use Rattle.htl_top.specs.declared.outcome.Outcome.{Outcome}
-use Rattle.htl_top.specs.declared.outcome.Outcome.TheVariants.{Done, Usage, Source, IllFormed, Object, Script, Shelf, Read, Write, Memory}
+use Rattle.htl_top.specs.declared.outcome.Outcome.TheVariants.{Done, Usage, Source, IllFormed, Unschedulable, Object, Script, Shelf, Read, Write, Memory}
+use Rattle.htl_top.specs.declared.source.SourceStop.{SourceStop}
+use Rattle.htl_top.specs.declared.source.SourceStop.TheVariants as stop
 
--- running tables breaks no form rule
-pub SpeaksOf-executed : (HasSource HasObject : (Tables → Type 0) → Type 0) (tables : Tables) (old new : Streams) (outcome : Outcome) (told : Option Tables)
-    → IsExecuted tables old new outcome → SpeaksOf HasSource HasObject outcome told
-SpeaksOf-executed HasSource HasObject tables old new Done told executed = tt
-SpeaksOf-executed HasSource HasObject tables old new Usage told executed = tt
-SpeaksOf-executed HasSource HasObject tables old new (Source f) told executed = tt
-SpeaksOf-executed HasSource HasObject tables old new (IllFormed f) told executed = absurd executed
-SpeaksOf-executed HasSource HasObject tables old new (Object f) told executed = absurd executed
-SpeaksOf-executed HasSource HasObject tables old new (Script f) told executed = tt
-SpeaksOf-executed HasSource HasObject tables old new (Shelf cause) told executed = tt
-SpeaksOf-executed HasSource HasObject tables old new Read told executed = tt
-SpeaksOf-executed HasSource HasObject tables old new Write told executed = tt
-SpeaksOf-executed HasSource HasObject tables old new Memory told executed = tt
+-- a run breaks no form rule
+pub SpeaksOf-run : (Sources Objects : (Tables → Type 0) → Type 0) (show : Shown) (t : Tables) (o : ObjectOf) (old new : Streams) (outcome : Outcome) (told : Option Tables)
+    → IsRun show t o old new outcome → SpeaksOf Sources Objects outcome told
+SpeaksOf-run Sources Objects show t o old new Done told run = tt
+SpeaksOf-run Sources Objects show t o old new Usage told run = tt
+SpeaksOf-run Sources Objects show t o old new (Source f) told run = tt
+SpeaksOf-run Sources Objects show t o old new (IllFormed f) told run = absurd run
+SpeaksOf-run Sources Objects show t o old new (Unschedulable sel a b demand) told run = tt
+SpeaksOf-run Sources Objects show t o old new (Object f) told run = absurd run
+SpeaksOf-run Sources Objects show t o old new (Script f) told run = tt
+SpeaksOf-run Sources Objects show t o old new (Shelf cause) told run = tt
+SpeaksOf-run Sources Objects show t o old new Read told run = tt
+SpeaksOf-run Sources Objects show t o old new Write told run = tt
+SpeaksOf-run Sources Objects show t o old new Memory told run = tt
 
-no_object : (HasObject : (Tables → Type 0) → Type 0) (f : ObjectFault) (told : Option Tables)
-    → SpeaksOfObject (λ fact. ⊥) f told → SpeaksOfObject HasObject f told
-no_object HasObject (fault.IllFormed f) told speaks = absurd speaks
-no_object HasObject (fault.Malformed m) told speaks = tt
-no_object HasObject (fault.Function k) told speaks = tt
-no_object HasObject (fault.ECode e) told speaks = tt
-no_object HasObject (fault.Schedule sel m) told speaks = tt
+-- what stops a source speaks of its tables
+pub SpeaksOf-stop : (Objects : (Tables → Type 0) → Type 0) (bytes : List ℕ) (s : SourceStop) → IsNotCompiled bytes s → SpeaksOf (HasTypedTables bytes) Objects (outcome_of s) (tables_of s)
+SpeaksOf-stop Objects bytes (stop.Fault f) is = tt
+SpeaksOf-stop Objects bytes (stop.IllFormed f u) is =
+    let t = is.1 in record { tables = t.tables; of = t.of; can = t.can; fact = ap Some t.fact }
+SpeaksOf-stop Objects bytes (stop.Unschedulable sel a b demand) is = tt
+SpeaksOf-stop Objects bytes stop.Memory is = tt
 
--- the source is that of the words
-pub SpeaksOf-source : (HasObject : (Tables → Type 0) → Type 0) (name : Option (List ℕ)) (holds : Option Holdings) (bytes : List ℕ) (outcome : Outcome) (told : Option Tables)
-    → IsSource name holds bytes → SpeaksOf (HasBuiltTables bytes) (λ fact. ⊥) outcome told → SpeaksOf (IsBuiltProgram name holds) HasObject outcome told
-SpeaksOf-source HasObject name holds bytes Done told source speaks = tt
-SpeaksOf-source HasObject name holds bytes Usage told source speaks = tt
-SpeaksOf-source HasObject name holds bytes (Source f) told source speaks = tt
-SpeaksOf-source HasObject name holds bytes (IllFormed f) told source speaks = record { bytes = bytes; source = source; has_tables = speaks }
-SpeaksOf-source HasObject name holds bytes (Object f) told source speaks = no_object HasObject f told speaks
-SpeaksOf-source HasObject name holds bytes (Script f) told source speaks = tt
-SpeaksOf-source HasObject name holds bytes (Shelf cause) told source speaks = tt
-SpeaksOf-source HasObject name holds bytes Read told source speaks = tt
-SpeaksOf-source HasObject name holds bytes Write told source speaks = tt
-SpeaksOf-source HasObject name holds bytes Memory told source speaks = tt
+-- the source is another way to say the same
+pub SpeaksOf-source : (Sources Others Objects : (Tables → Type 0) → Type 0) (outcome : Outcome) (told : Option Tables) → ((Fact : Tables → Type 0) → Sources Fact → Others Fact)
+    → SpeaksOf Sources Objects outcome told → SpeaksOf Others Objects outcome told
+SpeaksOf-source Sources Others Objects Done told map speaks = tt
+SpeaksOf-source Sources Others Objects Usage told map speaks = tt
+SpeaksOf-source Sources Others Objects (Source f) told map speaks = tt
+SpeaksOf-source Sources Others Objects (IllFormed f) told map speaks = map (λ t. told ≡ Some (coded t)) speaks
+SpeaksOf-source Sources Others Objects (Unschedulable sel a b demand) told map speaks = tt
+SpeaksOf-source Sources Others Objects (Object f) told map speaks = speaks
+SpeaksOf-source Sources Others Objects (Script f) told map speaks = tt
+SpeaksOf-source Sources Others Objects (Shelf cause) told map speaks = tt
+SpeaksOf-source Sources Others Objects Read told map speaks = tt
+SpeaksOf-source Sources Others Objects Write told map speaks = tt
+SpeaksOf-source Sources Others Objects Memory told map speaks = tt
+
+pub in_file : (name : Option (List ℕ)) (holds : Option Holdings) (bytes : List ℕ) → IsSource name holds bytes → (Fact : Tables → Type 0) → HasTypedTables bytes Fact → IsTypedProgram name holds Fact
+in_file name holds bytes source Fact has = record { bytes = bytes; source = source; has = has }
+
+pub in_input : (rest : Option (List ℕ)) (bytes : List ℕ) → IsInput rest bytes → (Fact : Tables → Type 0) → HasTypedTables bytes Fact → IsTypedInput rest Fact
+in_input rest bytes input Fact has = record { bytes = bytes; input = input; has = has }
 
 -- the object is that of the words
 pub SpeaksOfObject-file : (name : Option (List ℕ)) (holds : Option Holdings) (bytes : List ℕ) (f : ObjectFault) (told : Option Tables)
@@ -59,39 +77,63 @@ SpeaksOfObject-file name holds bytes (fault.Schedule sel m) told file speaks = t
 
 -- ---- the line
 
-IsBuiltProgram-map : (name : Option (List ℕ)) (holds : Option Holdings) (Fact Other : Tables → Type 0) → ((tables : Tables) → Fact tables → Other tables)
-    → IsBuiltProgram name holds Fact → IsBuiltProgram name holds Other
-IsBuiltProgram-map name holds Fact Other f program =
-    let has = program.has_tables in
-    record {
-      bytes = program.bytes;
-      source = program.source;
-      has_tables = record { tables = has.tables; compiled = has.compiled; fact = f has.tables has.fact };
-    }
+-- what is had with a fact is had with another that follows
+abbrev Maps : ((Tables → Type 0) → Type 0) → Type 1
+Maps Has = (Fact Other : Tables → Type 0) → ((t : Tables) → Fact t → Other t) → Has Fact → Has Other
 
-IsObjectTables-map : (name : Option (List ℕ)) (holds : Option Holdings) (Fact Other : Tables → Type 0) → ((tables : Tables) → Fact tables → Other tables)
-    → IsObjectTables name holds Fact → IsObjectTables name holds Other
-IsObjectTables-map name holds Fact Other f t =
+program_maps : (name : Option (List ℕ)) (holds : Option Holdings) → Maps (IsTypedProgram name holds)
+program_maps name holds Fact Other f p =
+    record { bytes = p.bytes; source = p.source; has = record { tables = p.has.tables; of = p.has.of; can = p.has.can; fact = f p.has.tables p.has.fact } }
+
+input_maps : (rest : Option (List ℕ)) → Maps (IsTypedInput rest)
+input_maps rest Fact Other f p =
+    record { bytes = p.bytes; input = p.input; has = record { tables = p.has.tables; of = p.has.of; can = p.has.can; fact = f p.has.tables p.has.fact } }
+
+object_maps : (name : Option (List ℕ)) (holds : Option Holdings) → Maps (IsObjectTables name holds)
+object_maps name holds Fact Other f t =
     record { bytes = t.bytes; file = t.file; has = record { object = t.has.object; has = t.has.has; fact = f t.has.object.tables t.has.fact } }
 
-module _ (source object : Option (List ℕ)) (holds : Option Holdings) (Told : List ℕ → Type 0) (tables : Option Tables) where
-  fault_told : (f : ObjectFault) → SpeaksOfObject (IsObjectTables object holds) f tables → Told (fault_line tables (Object f)) → IsFaultTold (IsObjectTables object holds) Told f
+source_of_maps : (command : Option Command) (holds : Option Holdings) (rest : Option (List ℕ)) → Maps (HasSource command holds rest)
+source_of_maps None holds rest Fact Other f h = h
+source_of_maps (Some (Go name)) holds rest Fact Other f h = program_maps (Some name) holds Fact Other f h
+source_of_maps (Some Compile) holds rest Fact Other f h = input_maps rest Fact Other f h
+source_of_maps (Some (Run show name)) holds rest Fact Other f h = h
+source_of_maps (Some (Check name)) holds rest Fact Other f h = h
+source_of_maps (Some (Plan name)) holds rest Fact Other f h = h
+source_of_maps (Some (Show name)) holds rest Fact Other f h = h
+
+object_of_maps : (command : Option Command) (holds : Option Holdings) → Maps (HasObject command holds)
+object_of_maps None holds Fact Other f h = h
+object_of_maps (Some (Go name)) holds Fact Other f h = h
+object_of_maps (Some Compile) holds Fact Other f h = h
+object_of_maps (Some (Run show name)) holds Fact Other f h = object_maps (Some name) holds Fact Other f h
+object_of_maps (Some (Check name)) holds Fact Other f h = object_maps (Some name) holds Fact Other f h
+object_of_maps (Some (Plan name)) holds Fact Other f h = object_maps (Some name) holds Fact Other f h
+object_of_maps (Some (Show name)) holds Fact Other f h = object_maps (Some name) holds Fact Other f h
+
+-- the names of tables with code are those of the tables
+names_of : (t : Tables) (f : FormFault) → fault_line (Some (coded t)) (IllFormed f) ≡ fault_line (Some t) (IllFormed f)
+names_of t f = refl
+
+module _ (command : Option Command) (holds : Option Holdings) (rest : Option (List ℕ)) (Told : List ℕ → Type 0) (tables : Option Tables) where
+  fault_told : (f : ObjectFault) → SpeaksOfObject (HasObject command holds) f tables → Told (fault_line tables (Object f)) → IsFaultTold (HasObject command holds) Told f
   fault_told (fault.IllFormed f) speaks told =
-      IsObjectTables-map object holds (λ t. tables ≡ Some t) (λ t. Told (fault_line (Some t) (Object (fault.IllFormed f))))
+      object_of_maps command holds (λ t. tables ≡ Some t) (λ t. Told (fault_line (Some t) (Object (fault.IllFormed f))))
       (λ t same. subst (λ (o : Option Tables). Told (fault_line o (Object (fault.IllFormed f)))) same told) speaks
   fault_told (fault.Malformed m) speaks told = told
   fault_told (fault.Function k) speaks told = told
   fault_told (fault.ECode e) speaks told = told
   fault_told (fault.Schedule sel m) speaks told = told
 
-  pub IsLineTold-report : (outcome : Outcome) → SpeaksOf (IsBuiltProgram source holds) (IsObjectTables object holds) outcome tables → Told (fault_line tables outcome)
-      → IsLineTold (IsBuiltProgram source holds) (IsObjectTables object holds) Told outcome
+  pub IsLineTold-report : (outcome : Outcome) → SpeaksOf (HasSource command holds rest) (HasObject command holds) outcome tables → Told (fault_line tables outcome)
+      → IsLineTold (HasSource command holds rest) (HasObject command holds) Told outcome
   IsLineTold-report Done speaks told = told
   IsLineTold-report Usage speaks told = told
   IsLineTold-report (Source f) speaks told = told
   IsLineTold-report (IllFormed f) speaks told =
-      IsBuiltProgram-map source holds (λ compiled. tables ≡ Some compiled) (λ compiled. Told (fault_line (Some compiled) (IllFormed f)))
-      (λ compiled same. subst (λ (o : Option Tables). Told (fault_line o (IllFormed f))) same told) speaks
+      source_of_maps command holds rest (λ t. tables ≡ Some (coded t)) (λ t. Told (fault_line (Some t) (IllFormed f)))
+      (λ t same. subst Told (ap (λ (o : Option Tables). fault_line o (IllFormed f)) same ∙ names_of t f) told) speaks
+  IsLineTold-report (Unschedulable sel a b demand) speaks told = told
   IsLineTold-report (Object f) speaks told = fault_told f speaks told
   IsLineTold-report (Script f) speaks told = told
   IsLineTold-report (Shelf cause) speaks told = told

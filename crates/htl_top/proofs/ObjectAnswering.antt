@@ -19,10 +19,8 @@ use Rattle.htl_object.specs.declared.object.Object.{Object}
 use Rattle.htl_top.specs.Answers.{Files, Streams, IsWritten, IsBeforeScript, IsBeforeRun}
 use Rattle.htl_top.specs.Causes.{IsFaultOf, IsLongFile, IsGiven, IsOrMemory}
 use Rattle.htl_top.specs.Objects.{IsObjectFile, IsRefusedFile, IsAcceptedFile, IsStopped, IsOnObject, IsTextAnswer, IsTextOnObject, IsReadyObject, Work}
-use Rattle.htl_model.specs.declared.form_fault.FormFault.{FormFault}
-use Rattle.htl_top.specs.declared.source_fault.SourceFault.{SourceFault}
 use Rattle.htl_top.specs.declared.outcome.Outcome.{Outcome}
-use Rattle.htl_top.specs.declared.outcome.Outcome.TheVariants.{Done, Usage, Source, IllFormed, Object as Refused, Script, Shelf, Read, Write, Memory}
+use Rattle.htl_top.specs.declared.outcome.Outcome.TheVariants.{Done, Usage, Source, IllFormed, Unschedulable, Object as Refused, Script, Shelf, Read, Write, Memory}
 use Rattle.htl_top.specs.declared.outcome.ShelfCause.TheVariants.{Failed, TooLong}
 
 -- ---- bytes have one object, or one fault
@@ -113,6 +111,7 @@ IsOfWork Memory = Unit {0}
 IsOfWork Usage = ⊥
 IsOfWork (Source f) = ⊥
 IsOfWork (IllFormed f) = ⊥
+IsOfWork (Unschedulable sel a b demand) = ⊥
 IsOfWork (Refused f) = ⊥
 IsOfWork (Shelf cause) = ⊥
 
@@ -127,6 +126,7 @@ text_only text old new Write answer = tt
 text_only text old new Usage answer = absurd answer
 text_only text old new (Source f) answer = absurd answer
 text_only text old new (IllFormed f) answer = absurd answer
+text_only text old new (Unschedulable sel a b demand) answer = absurd answer
 text_only text old new (Refused f) answer = absurd answer
 text_only text old new (Script f) answer = absurd answer
 text_only text old new (Shelf cause) answer = absurd answer
@@ -139,6 +139,7 @@ text_unwritten text old new Write answer early = absurd early
 text_unwritten text old new Usage answer early = absurd answer
 text_unwritten text old new (Source f) answer early = absurd answer
 text_unwritten text old new (IllFormed f) answer early = absurd answer
+text_unwritten text old new (Unschedulable sel a b demand) answer early = absurd answer
 text_unwritten text old new (Refused f) answer early = absurd answer
 text_unwritten text old new (Script f) answer early = absurd answer
 text_unwritten text old new (Shelf cause) answer early = absurd answer
@@ -158,6 +159,7 @@ text_unread text old new Write answer = answer.0
 text_unread text old new Usage answer = absurd answer
 text_unread text old new (Source f) answer = absurd answer
 text_unread text old new (IllFormed f) answer = absurd answer
+text_unread text old new (Unschedulable sel a b demand) answer = absurd answer
 text_unread text old new (Refused f) answer = absurd answer
 text_unread text old new (Script f) answer = absurd answer
 text_unread text old new (Shelf cause) answer = absurd answer
@@ -171,6 +173,7 @@ text_done text old new Write answer still = absurd (still answer.1)
 text_done text old new Usage answer still = absurd answer
 text_done text old new (Source f) answer still = absurd answer
 text_done text old new (IllFormed f) answer still = absurd answer
+text_done text old new (Unschedulable sel a b demand) answer still = absurd answer
 text_done text old new (Refused f) answer still = absurd answer
 text_done text old new (Script f) answer still = absurd answer
 text_done text old new (Shelf cause) answer still = absurd answer
@@ -186,6 +189,7 @@ stopped_before name shelf Done stopped work = absurd stopped
 stopped_before name shelf Usage stopped work = absurd stopped
 stopped_before name shelf (Source f) stopped work = absurd stopped
 stopped_before name shelf (IllFormed f) stopped work = absurd stopped
+stopped_before name shelf (Unschedulable sel a b demand) stopped work = absurd stopped
 stopped_before name shelf (Refused f) stopped work = absurd work
 stopped_before name shelf (Script f) stopped work = absurd stopped
 stopped_before name shelf (Shelf cause) stopped work = absurd work
@@ -197,6 +201,7 @@ early_work Done early work = early
 early_work Usage early work = work
 early_work (Source f) early work = work
 early_work (IllFormed f) early work = work
+early_work (Unschedulable sel a b demand) early work = work
 early_work (Refused f) early work = work
 early_work (Script f) early work = early
 early_work (Shelf cause) early work = work
@@ -206,7 +211,7 @@ early_work Memory early work = early
 
 module _ (Does : Work) (work : IsWork Does) (name : Option (List ℕ)) (shelf : Files) (old new : Streams) where
   -- an answer that no work has
-  stopped : (outcome : Outcome) → IsOnObject Does name shelf old new outcome → (IsOfWork outcome → ⊥) → IsStopped name shelf outcome
+  pub stopped : (outcome : Outcome) → IsOnObject Does name shelf old new outcome → (IsOfWork outcome → ⊥) → IsStopped name shelf outcome
   stopped outcome on none = elim on [ inl a ↦ absurd (none (work.only a.object old new outcome a.fact)) | inr s ↦ s.0 ]
 
   pub object : (f : ObjectFault) → IsOnObject Does name shelf old new (Refused f) → IsRefusedFile name shelf.holds f
@@ -220,12 +225,6 @@ module _ (Does : Work) (work : IsWork Does) (name : Option (List ℕ)) (shelf : 
 
   pub no_usage : IsOnObject Does name shelf old new Usage → ⊥
   no_usage on = stopped Usage on (λ w. w)
-
-  pub no_source : (f : SourceFault) → IsOnObject Does name shelf old new (Source f) → ⊥
-  no_source f on = stopped (Source f) on (λ w. w)
-
-  pub no_ill_formed : (f : FormFault) → IsOnObject Does name shelf old new (IllFormed f) → ⊥
-  no_ill_formed f on = stopped (IllFormed f) on (λ w. w)
 
   pub unread : (outcome : Outcome) → IsOnObject Does name shelf old new outcome → IsBeforeScript outcome → new.rest ≡ old.rest
   unread outcome on early = elim on [
@@ -275,6 +274,7 @@ module _ (Does : Work) (work : IsWork Does) (name : Option (List ℕ)) (shelf : 
     long_stopped Usage long s = absurd s
     long_stopped (Source f) long s = absurd s
     long_stopped (IllFormed f) long s = absurd s
+    long_stopped (Unschedulable sel a b demand) long s = absurd s
     long_stopped (Script f) long s = absurd s
     long_stopped Read long s = absurd s
     long_stopped Write long s = absurd s
@@ -296,6 +296,7 @@ module _ (Does : Work) (work : IsWork Does) (name : Option (List ℕ)) (shelf : 
     faulty_stopped Usage f short refused s = absurd s
     faulty_stopped (Source g) f short refused s = absurd s
     faulty_stopped (IllFormed g) f short refused s = absurd s
+    faulty_stopped (Unschedulable sel a b demand) f short refused s = absurd s
     faulty_stopped (Script g) f short refused s = absurd s
     faulty_stopped Read f short refused s = absurd s
     faulty_stopped Write f short refused s = absurd s
@@ -317,6 +318,7 @@ module _ (Does : Work) (work : IsWork Does) (name : Option (List ℕ)) (shelf : 
     ready_stopped Usage o short has accepted s = absurd s
     ready_stopped (Source g) o short has accepted s = absurd s
     ready_stopped (IllFormed g) o short has accepted s = absurd s
+    ready_stopped (Unschedulable sel a b demand) o short has accepted s = absurd s
     ready_stopped (Script g) o short has accepted s = absurd s
     ready_stopped Read o short has accepted s = absurd s
     ready_stopped Write o short has accepted s = absurd s

@@ -11,7 +11,7 @@ use Rattle.htl_top.specs.Causes.{IsOrMemory}
 use Rattle.htl_top.specs.Planned.{IsPlanned}
 use Rattle.htl_top.specs.SelectionInput.{Input, Whole, Bad, input_of}
 use Rattle.htl_top.specs.declared.outcome.Outcome.{Outcome}
-use Rattle.htl_top.specs.declared.outcome.Outcome.TheVariants.{Done, Usage, Source, IllFormed, Object as Refused, Script, Shelf, Read, Write, Memory}
+use Rattle.htl_top.specs.declared.outcome.Outcome.TheVariants.{Done, Usage, Source, IllFormed, Unschedulable, Object as Refused, Script, Shelf, Read, Write, Memory}
 
 plan_only : (o : Object) (old new : Streams) (outcome : Outcome) → IsPlanned o old new outcome → IsOfWork outcome
 plan_only o old new Done answer = tt
@@ -22,6 +22,7 @@ plan_only o old new Memory answer = tt
 plan_only o old new Usage answer = absurd answer
 plan_only o old new (Source f) answer = absurd answer
 plan_only o old new (IllFormed f) answer = absurd answer
+plan_only o old new (Unschedulable sel a b demand) answer = absurd answer
 plan_only o old new (Refused f) answer = absurd answer
 plan_only o old new (Shelf cause) answer = absurd answer
 
@@ -34,6 +35,7 @@ plan_unwritten o old new Memory answer early = answer.written
 plan_unwritten o old new Usage answer early = absurd answer
 plan_unwritten o old new (Source f) answer early = absurd answer
 plan_unwritten o old new (IllFormed f) answer early = absurd answer
+plan_unwritten o old new (Unschedulable sel a b demand) answer early = absurd answer
 plan_unwritten o old new (Refused f) answer early = absurd answer
 plan_unwritten o old new (Shelf cause) answer early = absurd answer
 
@@ -71,6 +73,7 @@ module _ (o : Object) (old new : Streams) (script : List ℕ) where
   bad_input f told bad quiet still Usage answer = absurd answer
   bad_input f told bad quiet still (Source g) answer = absurd answer
   bad_input f told bad quiet still (IllFormed g) answer = absurd answer
+  bad_input f told bad quiet still (Unschedulable sel a b demand) answer = absurd answer
   bad_input f told bad quiet still (Refused g) answer = absurd answer
   bad_input f told bad quiet still (Shelf cause) answer = absurd answer
 
@@ -85,5 +88,6 @@ module _ (o : Object) (old new : Streams) (script : List ℕ) where
   whole_input modes told whole quiet still Usage answer = absurd answer
   whole_input modes told whole quiet still (Source g) answer = absurd answer
   whole_input modes told whole quiet still (IllFormed g) answer = absurd answer
+  whole_input modes told whole quiet still (Unschedulable sel a b demand) answer = absurd answer
   whole_input modes told whole quiet still (Refused g) answer = absurd answer
   whole_input modes told whole quiet still (Shelf cause) answer = absurd answer

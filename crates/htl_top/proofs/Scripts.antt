@@ -1,86 +1,15 @@
 -- What the reader of a script gives a run.
-use Rattle.std.proofs.Common.{arith, ◌≡◌, ◌≤◌, ◌<◌, ◌+◌, ℕ, List, [], ◌∷◌, length, drop, get_or, Option, None, Some, Result, Ok, Err, refl, sym, ap, ◌∙◌, subst, add-one}
+use Rattle.std.proofs.Common.{◌≡◌, ◌≤◌, ℕ, List, [], Option, None, Some, Result, Ok, Err, sym, subst}
 use Rattle.std.specs.Prelude.{IfSome, OnOk}
-use Rattle.std.proofs.lemmas.List.{drop_more}
-use Rattle.htl_model.specs.Lines.{lines_text, lines_before_text}
-use Rattle.htl_model.specs.Lists.{up_to}
-use Rattle.htl_model.specs.Meaning.{value_lines}
 use Rattle.htl_model.specs.Tables.{Tables}
 use Rattle.htl_model.specs.declared.event.Event.{Event}
-use Rattle.htl_model.specs.declared.event.Event.TheVariants as event
 use Rattle.htl_script.proofs.Ending.{whole_end, end_in_time}
 use Rattle.htl_script.specs.Events.{AreEvents, EndWith}
-use Rattle.htl_script.specs.Judging.{past_after_all, past_of}
 use Rattle.htl_script.specs.Reading.{OfScript, Grows, IsScriptAnswer}
 use Rattle.htl_script.specs.Script.{script_of}
 use Rattle.htl_script.specs.declared.fault.WholeStop.{WholeStop}
 use Rattle.htl_script.specs.declared.fault.WholeStop.TheVariants as stop
-use Rattle.htl_script.specs.declared.judge.Past.{Past}
-use Rattle.htl_top.specs.Runs.{AreInOrder, IsInTime, AreInTime}
 use Rattle.htl_top.specs.Scripts.{IsWhole, IsTold, IsScriptRead}
-use Rattle.htl_top.specs.Texts.{text_to, text_before_fault, instants_shown}
-
-abbrev reading_of : Option ℕ → ℕ
-reading_of None = 0
-reading_of (Some reading) = reading
-
-not_above : (last : Option ℕ) (instant : ℕ) → IfSome last (λ reading. reading < instant) → reading_of last ≤ instant
-not_above None instant h = omega arith
-not_above (Some reading) instant h = omega (arith, h)
-
-in_order : (t : Tables) (last : Option ℕ) (es : List Event) → AreEvents t last es → AreInOrder (reading_of last) es
-in_order t last [] h = tt
-in_order t last (event.At instant ∷ es) h = (not_above last instant h.1, in_order t (Some instant) es h.2)
-in_order t last (event.Sense c x ∷ es) h = in_order t last es h.2
-in_order t last (event.Took i ticks ∷ es) h = in_order t last es h.2
-in_order t last (event.End instant ∷ es) h = subst (λ (fs : List Event). AreInOrder (reading_of last) fs) (sym h.2) tt
-
-pub AreInOrder-events : (t : Tables) (es : List Event) → AreEvents t None es → AreInOrder 0 es
-AreInOrder-events t es h = in_order t None es h
-
-in_time : (t : Tables) (last : Option ℕ) (es : List Event) → AreEvents t last es → AreInTime es
-in_time t last [] h = tt
-in_time t last (event.At instant ∷ es) h = (h.0, in_time t (Some instant) es h.2)
-in_time t last (event.Sense c x ∷ es) h = (tt, in_time t last es h.2)
-in_time t last (event.Took i ticks ∷ es) h = (tt, in_time t last es h.2)
-in_time t last (event.End instant ∷ es) h = (h.0, subst (λ (fs : List Event). AreInTime fs) (sym h.2) tt)
-
-pub AreInTime-events : (t : Tables) (es : List Event) → AreEvents t None es → AreInTime es
-AreInTime-events t es h = in_time t None es h
-
--- one event more
-pub in_time_at : (es : List Event) (k : ℕ) (d : Event) → k < length es → AreInTime (drop k es) → IsInTime (get_or es k d) × AreInTime (drop (k + 1) es)
-in_time_at es k d below h = subst (λ (fs : List Event). AreInTime fs) (drop_more es k d below) h
-
--- ---- what is written before a fault
-
-abbrev shown_of : Option ℕ → Option ℕ → ℕ
-shown_of (Some end) reading = end + 1
-shown_of None reading = reading_of reading
-
-abbrev before_end : Option ℕ → Past
-before_end reading = record { reading = reading; end = None }
-
-shown_is : (t : Tables) (last : Option ℕ) (es : List Event) → AreEvents t last es
-    → instants_shown (reading_of last) es ≡ shown_of (past_after_all (before_end last) es).end (past_after_all (before_end last) es).reading
-shown_is t last [] h = refl
-shown_is t last (event.At instant ∷ es) h = shown_is t (Some instant) es h.2
-shown_is t last (event.Sense c x ∷ es) h = shown_is t last es h.2
-shown_is t last (event.Took i ticks ∷ es) h = shown_is t last es h.2
-shown_is t last (event.End instant ∷ es) h =
-    let Same : List Event → Type 0 = λ fs.
-    instants_shown (instant + 1) fs
-    ≡ shown_of (past_after_all (record { reading = last; end = Some instant }) fs).end (past_after_all (record { reading = last; end = Some instant }) fs).reading in
-    subst Same (sym h.2) refl
-
-text_is : (t : Tables) (es : List Event) (end reading : Option ℕ) → lines_before_text t es (shown_of end reading) ≡ text_to t es end reading
-text_is t es (Some end) reading = ap (λ (n : ℕ). lines_text t (up_to (value_lines t es) n)) (add-one end)
-text_is t es None (Some reading) = refl
-text_is t es None None = refl
-
-pub shown_text : (t : Tables) (es : List Event) → AreEvents t None es → lines_before_text t es (instants_shown 0 es) ≡ text_before_fault t es
-shown_text t es h =
-    ap (λ (n : ℕ). lines_before_text t es n) (shown_is t None es h) ∙ text_is t es (past_of es).end (past_of es).reading
 
 -- ---- what the reader gives, where it began with no events
 

@@ -1,16 +1,46 @@
 -- What the top call answers, command by command.
-use Rattle.std.specs.Prelude.{Option, None, Some}
-use Rattle.htl_top.specs.Answers.{Files, Streams, IsAnswer}
+use Rattle.std.specs.Prelude.{◌≡◌, Option, None, Some, List, ℕ}
+use Rattle.htl_edge.specs.Holdings.{Holdings}
+use Rattle.htl_model.specs.Tables.{Tables}
+use Rattle.htl_top.specs.Answers.{Files, Streams, IsUntouched}
 use Rattle.htl_top.specs.Checked.{IsChecked}
-use Rattle.htl_top.specs.Objects.{IsOnObject}
+use Rattle.htl_top.specs.Compiling.{IsCompiling}
+use Rattle.htl_top.specs.Going.{IsGoing}
+use Rattle.htl_top.specs.Objects.{IsOnObject, IsObjectTables}
 use Rattle.htl_top.specs.Planned.{IsPlanned}
+use Rattle.htl_top.specs.Runs.{IsRun}
 use Rattle.htl_top.specs.Shown.{IsShown}
-use Rattle.htl_top.specs.Words.{Command, Go, Check, Plan, Show}
+use Rattle.htl_top.specs.Sources.{IsTypedProgram, IsTypedInput}
+use Rattle.htl_top.specs.Words.{Command, Go, Compile, Run, Check, Plan, Show}
 use Rattle.htl_top.specs.declared.outcome.Outcome.{Outcome}
+use Rattle.htl_top.specs.declared.outcome.Outcome.TheVariants.{Usage}
 
+-- no command: nothing was read and nothing written
 abbrev pub IsCall : Option Command → Files → Streams → Streams → Outcome → Type 0
-IsCall None shelf old new outcome = IsAnswer None shelf old new outcome
-IsCall (Some (Go name)) shelf old new outcome = IsAnswer (Some name) shelf old new outcome
+IsCall None shelf old new outcome = (outcome ≡ Usage) × IsUntouched old new
+IsCall (Some (Go name)) shelf old new outcome = IsGoing (Some name) shelf old new outcome
+IsCall (Some Compile) shelf old new outcome = IsCompiling old new outcome
+IsCall (Some (Run show name)) shelf old new outcome = IsOnObject (λ o. IsRun show o.tables o) (Some name) shelf old new outcome
 IsCall (Some (Check name)) shelf old new outcome = IsOnObject IsChecked (Some name) shelf old new outcome
 IsCall (Some (Plan name)) shelf old new outcome = IsOnObject IsPlanned (Some name) shelf old new outcome
 IsCall (Some (Show name)) shelf old new outcome = IsOnObject IsShown (Some name) shelf old new outcome
+
+-- The source that a command compiles has tables whose functions are typed, and the fact holds of them.
+abbrev pub HasSource : Option Command → Option Holdings → Option (List ℕ) → (Tables → Type 0) → Type 0
+HasSource None holds rest Fact = ⊥
+HasSource (Some (Go name)) holds rest Fact = IsTypedProgram (Some name) holds Fact
+HasSource (Some Compile) holds rest Fact = IsTypedInput rest Fact
+HasSource (Some (Run show name)) holds rest Fact = ⊥
+HasSource (Some (Check name)) holds rest Fact = ⊥
+HasSource (Some (Plan name)) holds rest Fact = ⊥
+HasSource (Some (Show name)) holds rest Fact = ⊥
+
+-- The object that a command is about has tables of which the fact holds.
+abbrev pub HasObject : Option Command → Option Holdings → (Tables → Type 0) → Type 0
+HasObject None holds Fact = ⊥
+HasObject (Some (Go name)) holds Fact = ⊥
+HasObject (Some Compile) holds Fact = ⊥
+HasObject (Some (Run show name)) holds Fact = IsObjectTables (Some name) holds Fact
+HasObject (Some (Check name)) holds Fact = IsObjectTables (Some name) holds Fact
+HasObject (Some (Plan name)) holds Fact = IsObjectTables (Some name) holds Fact
+HasObject (Some (Show name)) holds Fact = IsObjectTables (Some name) holds Fact

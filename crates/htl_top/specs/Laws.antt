@@ -1,10 +1,18 @@
--- What the values and lines of a run depend on.
-use Rattle.std.specs.Prelude.{◌≡◌, ◌≤◌, ℕ, Bool, cond, nat_le, nat_lt, List, [], ◌∷◌}
+-- What the values and lines of a run depend on, and what `go` shows.
+use Rattle.std.specs.Prelude.{◌≡◌, ◌≤◌, ℕ, Bool, cond, nat_le, nat_lt, List, [], ◌∷◌, ◌++◌, Some}
+use Rattle.htl_compile.specs.Built.{built, CanBuild}
+use Rattle.htl_console.specs.declared.shown.Shown.TheVariants.{Jobs}
+use Rattle.htl_machine.specs.Lines.{old_lines}
+use Rattle.htl_machine.specs.Programs.{lines_of, schedules_of}
+use Rattle.htl_machine.specs.Rounds.{plan_of}
+use Rattle.htl_machine.specs.Served.{AllServed}
 use Rattle.htl_model.specs.declared.event.Event.{Event}
 use Rattle.htl_model.specs.declared.event.Event.TheVariants as event
-use Rattle.htl_model.specs.Lines.{lines_before_text}
-use Rattle.htl_model.specs.Meaning.{run_lines, sense, val}
+use Rattle.htl_model.specs.Lines.{lines_before_text, lines_text}
+use Rattle.htl_model.specs.Meaning.{run_lines, sense, val, value_lines}
+use Rattle.htl_model.specs.Selections.{root_period}
 use Rattle.htl_model.specs.Tables.{Tables}
+use Rattle.htl_top.specs.Scripts.{IsWhole}
 
 -- two scripts with equal sensor values up to `end` give equal lines up to `end`
 abbrev pub SensorsDecideLines : Type 0
@@ -35,3 +43,18 @@ EarlierReadingsDecideValues = (t : Tables) (es fs : List Event) (now : ℕ) → 
 abbrev pub EarlierReadingsDecideTexts : Type 0
 EarlierReadingsDecideTexts =
     (t : Tables) (es fs : List Event) (at : ℕ) → read_before at es ≡ read_before at fs → lines_before_text t es at ≡ lines_before_text t fs at
+
+-- ---- what `go` shows of a source
+
+-- at each instant the lines of jobs, and then those of values and modes, by the tables of the source and the sensors alone
+abbrev pub GoShowsTheMeaning : Type 0
+GoShowsTheMeaning =
+    (t : Tables) (es : List Event) (now : ℕ) → CanBuild t
+    → lines_of (built t) es Jobs now ≡ old_lines (built t).tables (schedules_of (built t)) es Jobs (root_period t) now ++ lines_text t (value_lines t es now)
+
+-- each job of each round whose window ended by the end is done once, within its window, in slices of its own that follow its
+-- predecessors; without modules there are no rounds
+abbrev pub GoKeepsDeadlines : Type 0
+GoKeepsDeadlines =
+    (t : Tables) (script : List ℕ) (events : List Event) (period end : ℕ) → CanBuild t → IsWhole t script events end → root_period t ≡ Some period
+    → AllServed (plan_of (built t).tables (schedules_of (built t)) events) period end

@@ -2,10 +2,12 @@ pub mod Answers
 pub mod Calls
 pub mod Causes
 pub mod Checked
-pub mod Instants
+pub mod Compiling
+pub mod Going
 pub mod Laws
 pub mod Objects
 pub mod Planned
+pub mod Playing
 pub mod Runs
 pub mod Scripts
 pub mod SelectionInput
@@ -15,5 +17,4 @@ pub mod Sources
 pub mod Status
 pub mod Telling
 pub mod Texts
-pub mod Unbuilt
 pub mod Words

@@ -17,7 +17,7 @@ use Rattle.htl_top.specs.Causes.{IsFaultOf, IsLongFile, IsGiven}
 use Rattle.htl_top.specs.declared.object.ObjectStop.{ObjectStop}
 use Rattle.htl_top.specs.declared.object.ObjectStop.TheVariants as stop
 use Rattle.htl_top.specs.declared.outcome.Outcome.{Outcome}
-use Rattle.htl_top.specs.declared.outcome.Outcome.TheVariants.{Done, Usage, Source, IllFormed, Object as Refused, Script, Shelf, Read, Write, Memory}
+use Rattle.htl_top.specs.declared.outcome.Outcome.TheVariants.{Done, Usage, Source, IllFormed, Unschedulable, Object as Refused, Script, Shelf, Read, Write, Memory}
 use Rattle.htl_top.specs.declared.outcome.ShelfCause.TheVariants.{Failed, TooLong}
 
 -- ---- reading bytes
@@ -84,6 +84,7 @@ IsStopped name shelf Done = ⊥
 IsStopped name shelf Usage = ⊥
 IsStopped name shelf (Source f) = ⊥
 IsStopped name shelf (IllFormed f) = ⊥
+IsStopped name shelf (Unschedulable sel a b demand) = ⊥
 IsStopped name shelf (Script f) = ⊥
 IsStopped name shelf Read = ⊥
 IsStopped name shelf Write = ⊥
@@ -104,6 +105,7 @@ IsTextAnswer text old new Write = (new.rest ≡ old.rest) × Rose old.write_faul
 IsTextAnswer text old new Usage = ⊥
 IsTextAnswer text old new (Source f) = ⊥
 IsTextAnswer text old new (IllFormed f) = ⊥
+IsTextAnswer text old new (Unschedulable sel a b demand) = ⊥
 IsTextAnswer text old new (Refused f) = ⊥
 IsTextAnswer text old new (Script f) = ⊥
 IsTextAnswer text old new (Shelf cause) = ⊥

@@ -19,7 +19,7 @@ use Rattle.htl_walk.specs.Walk.{Left, job_at, walk, worst_cases}
 use Rattle.htl_top.specs.Answers.{IsUntouched}
 use Rattle.htl_top.specs.Objects.{Work}
 use Rattle.htl_top.specs.SelectionInput.{Whole, Bad, input_of}
-use Rattle.htl_top.specs.declared.outcome.Outcome.TheVariants.{Done, Usage, Source, IllFormed, Object as Refused, Script, Shelf, Read, Write, Memory}
+use Rattle.htl_top.specs.declared.outcome.Outcome.TheVariants.{Done, Usage, Source, IllFormed, Unschedulable, Object as Refused, Script, Shelf, Read, Write, Memory}
 
 -- ---- the text
 
@@ -99,6 +99,7 @@ IsPlanned o old new Memory = IsUntouched old new
 IsPlanned o old new Usage = ⊥
 IsPlanned o old new (Source f) = ⊥
 IsPlanned o old new (IllFormed f) = ⊥
+IsPlanned o old new (Unschedulable sel a b demand) = ⊥
 IsPlanned o old new (Refused f) = ⊥
 IsPlanned o old new (Shelf cause) = ⊥
 

@@ -1,31 +1,53 @@
--- What a run goes by.
-use Rattle.std.specs.Prelude.{◌≡◌, ◌≤◌, ℕ, List, [], ◌∷◌, map}
-use Rattle.htl_base.specs.declared.limits.TheConstants.{MAX_INSTANT}
-use Rattle.htl_model.specs.declared.event.Event.{Event}
-use Rattle.htl_model.specs.declared.event.Event.TheVariants as V
+-- A run of an accepted object with the input as script, answer by answer. The script is one for the tables `t`: those of
+-- the object, or of the source of which it was built.
+use Rattle.std.specs.Prelude.{ℕ, ◌≡◌, Option, List, IfSome}
+use Rattle.std.specs.Io.KnownBytes.{append_known}
+use Rattle.htl_console.specs.declared.shown.Shown.{Shown}
+use Rattle.htl_edge.specs.Causes.{Rose}
+use Rattle.htl_edge.specs.Content.{AppendsPrefix, none_left}
+use Rattle.htl_machine.specs.Programs.{text_of}
 use Rattle.htl_model.specs.Tables.{Tables}
-use Rattle.htl_top.specs.declared.board.Board.{Board}
+use Rattle.htl_model.specs.declared.event.Event.{Event}
+use Rattle.htl_object.specs.declared.object.Object.{Object}
+use Rattle.htl_script.specs.Script.{Script, script_of}
+use Rattle.htl_script.specs.declared.fault.ScriptFault.{ScriptFault}
+use Rattle.htl_top.specs.Answers.{Streams}
+use Rattle.htl_top.specs.Scripts.{IsWhole, IsBad}
+use Rattle.htl_top.specs.Texts.{text_before_fault, text_of_script}
+use Rattle.htl_top.specs.declared.outcome.Outcome.{Outcome}
+use Rattle.htl_top.specs.declared.outcome.Outcome.TheVariants.{Done, Usage, Source, IllFormed, Unschedulable, Object as Refused, Script as Faulty, Shelf, Read, Write, Memory}
 
--- the readings of the events never fall, from one that stands before them
-abbrev pub AreInOrder : ℕ → List Event → Type 0
-AreInOrder reading [] = Unit {0}
-AreInOrder reading (V.At t ∷ es) = (reading ≤ t) × AreInOrder t es
-AreInOrder reading (V.Sense c x ∷ es) = AreInOrder reading es
-AreInOrder reading (V.Took i n ∷ es) = AreInOrder reading es
-AreInOrder reading (V.End t ∷ es) = AreInOrder reading es
+-- The input had a whole script for the tables, which was read to its end, and the text of the object's run was written.
+pub record IsWholeRun (show : Shown) (t : Tables) (o : Object) (rest left old new : Option (List ℕ)) : Type 0 where
+  pub events : List Event
+  pub end : ℕ
+  pub script : IfSome rest (λ script. IsWhole t script events end)
+  pub read : left ≡ none_left rest
+  pub written : new ≡ append_known old (text_of o events show end)
 
--- the instants of an event are instants of a run
-abbrev pub IsInTime : Event → Type 0
-IsInTime (V.At t) = t ≤ MAX_INSTANT
-IsInTime (V.Sense c x) = Unit {0}
-IsInTime (V.Took i n) = Unit {0}
-IsInTime (V.End t) = t ≤ MAX_INSTANT
+-- This is the first fault of the input as a script for the tables, and the lines of the events before it were
+-- written.
+pub record IsFaultyRun (show : Shown) (t : Tables) (o : Object) (rest old new : Option (List ℕ)) (fault : ScriptFault) : Type 0 where
+  pub events : List Event
+  pub script : IfSome rest (λ script. IsBad t script fault events)
+  pub written : new ≡ append_known old (text_before_fault o show events)
 
-abbrev pub AreInTime : List Event → Type 0
-AreInTime [] = Unit {0}
-AreInTime (e ∷ es) = IsInTime e × AreInTime es
+-- A prefix was written of the text that the input as a script for the tables makes a run write.
+pub record IsCutRun (show : Shown) (t : Tables) (o : Object) (rest old new : Option (List ℕ)) : Type 0 where
+  pub given : Script
+  pub script : IfSome rest (λ script. script_of t script ≡ given)
+  pub written : AppendsPrefix old new (text_of_script o show given)
 
--- each communicator has its initial value
-pub record IsFresh (t : Tables) (b : Board) : Type 0 where
-  pub latest : b.latest ≡ map (λ x. x.init) t.comms
-  pub shown : b.shown ≡ map (λ x. x.init) t.comms
+-- the object is run with the input as script
+abbrev pub IsRun : Shown → Tables → Object → Streams → Streams → Outcome → Type 0
+IsRun show t o old new Done = IsWholeRun show t o old.rest new.rest old.written new.written
+IsRun show t o old new (Faulty fault) = IsFaultyRun show t o old.rest old.written new.written fault
+IsRun show t o old new Read = Rose old.read_faults new.read_faults × (new.written ≡ old.written)
+IsRun show t o old new Write = Rose old.write_faults new.write_faults × IsCutRun show t o old.rest old.written new.written
+IsRun show t o old new Memory = new.written ≡ old.written
+IsRun show t o old new Usage = ⊥
+IsRun show t o old new (Source fault) = ⊥
+IsRun show t o old new (IllFormed fault) = ⊥
+IsRun show t o old new (Unschedulable sel a b demand) = ⊥
+IsRun show t o old new (Refused fault) = ⊥
+IsRun show t o old new (Shelf cause) = ⊥

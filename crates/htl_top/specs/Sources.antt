@@ -1,103 +1,123 @@
--- The tables of a source, and its one fault where it has none or they are not run.
-use Rattle.std.specs.Prelude.{ℕ, ◌≡◌, Some, List, slice_get, Result, Ok, Err}
-use Rattle.htl_model.specs.Broken.{Formed, IsFirstBroken}
-use Rattle.htl_model.specs.Ranges.{AreInRange}
+-- The source that a command compiles: where its tables are had, and why no object is built of it.
+use Rattle.std.specs.Prelude.{ℕ, ◌≡◌, ◌≤◌, ◌<◌, ◌+◌, ◌⊎◌, Option, Some, None, IfSome, List, length}
+use Rattle.htl_base.specs.declared.limits.TheConstants.{MAX_SOURCE}
+use Rattle.htl_compile.specs.Building.{IsCompileFault}
+use Rattle.htl_compile.specs.Built.{CanBuild}
+use Rattle.htl_compile.specs.Coded.{CanCode, coded}
+use Rattle.htl_compile.specs.Sources.{IsTablesOf}
+use Rattle.htl_compile.specs.declared.building.BackFault.{BackFault}
+use Rattle.htl_compile.specs.declared.building.BackFault.TheVariants as back
+use Rattle.htl_compile.specs.declared.compiling.CompileFault.{CompileFault}
+use Rattle.htl_compile.specs.declared.compiling.CompileFault.TheVariants as compile
+use Rattle.htl_compile.specs.declared.source_fault.SourceFault.TheVariants as source
+use Rattle.htl_edge.specs.Holdings.{Holdings}
 use Rattle.htl_model.specs.Tables.{Tables}
-use Rattle.htl_model.specs.declared.form_fault.FormFault.{FormFault}
-use Rattle.htl_names.specs.Flat.{tables_of_tree}
-use Rattle.htl_names.specs.NameRules.{AreNamesRight, IsFirstNameFault}
-use Rattle.htl_names.specs.declared.fault.NameFault.{NameFault}
-use Rattle.htl_names.specs.declared.fault.NameFault.TheVariants as name
-use Rattle.htl_parse.specs.Answers.{Spell, SpellNone}
-use Rattle.htl_parse.specs.Runs.{AreShort, IsFirstLong}
-use Rattle.htl_text.specs.TokenLists.{TokenList}
-use Rattle.htl_text.specs.Spans.{Tokens, Faults}
-use Rattle.htl_text.specs.Nodes.{PlainProgram}
-use Rattle.htl_text.specs.declared.lexer.LexFault.TheVariants as lex
-use Rattle.htl_top.specs.Unbuilt.{FirstUnbuilt, AllBuilt}
-use Rattle.htl_top.specs.declared.source_fault.SourceFault.{SourceFault}
-use Rattle.htl_top.specs.declared.source_fault.SourceFault.TheVariants as fault
+use Rattle.htl_top.specs.Causes.{IsSource}
+use Rattle.htl_top.specs.declared.outcome.Outcome.{Outcome}
+use Rattle.htl_top.specs.declared.outcome.Outcome.TheVariants.{Source, IllFormed, Unschedulable, Memory}
 use Rattle.htl_top.specs.declared.source.SourceStop.{SourceStop}
 use Rattle.htl_top.specs.declared.source.SourceStop.TheVariants as stop
 
--- the tokens of the text, none of whose runs is too long
-pub record Reads (bytes : List ℕ) (t : TokenList) : Type 0 where
-  pub tokens : Tokens bytes t
-  pub short : AreShort t.tokens
+-- a fault of compiling, as an answer
+abbrev pub answer_of : CompileFault → Outcome
+answer_of (compile.Source f) = Source f
+answer_of (compile.IllFormed f) = IllFormed f
+answer_of (compile.Unschedulable sel a b demand) = Unschedulable sel a b demand
+answer_of compile.Memory = Memory
 
--- the token of this number begins at this byte
-abbrev pub BeginsAt : TokenList → ℕ → ℕ → Type 0
-BeginsAt t k at = slice_get t.offsets k ≡ Some at
+-- ---- of bytes
 
--- ---- tables
+-- The bytes are a source with tables of which an accepted object is built, and the fact holds of the tables.
+pub record HasTables (bytes : List ℕ) (Fact : Tables → Type 0) : Type 0 where
+  pub tables : Tables
+  pub of : IsTablesOf bytes tables
+  pub can : CanBuild tables
+  pub fact : Fact tables
 
--- These are the tables of the source: it spells programs whose names are right, and the tables are theirs.
-pub record IsTablesOf (bytes : List ℕ) (tables : Tables) : Type 0 where
-  pub list : TokenList
-  pub reads : Reads bytes list
-  pub programs : List PlainProgram
-  pub spelled : Spell list.tokens programs
-  pub named : AreNamesRight programs
-  pub is : tables ≡ tables_of_tree programs
+-- The bytes are a source with tables whose functions are typed, and the fact holds of the tables.
+pub record HasTypedTables (bytes : List ℕ) (Fact : Tables → Type 0) : Type 0 where
+  pub tables : Tables
+  pub of : IsTablesOf bytes tables
+  pub can : CanCode tables
+  pub fact : Fact tables
 
--- These are the tables of the source, and each of its forms is built.
-pub record AreBuiltTables (bytes : List ℕ) (tables : Tables) : Type 0 where
-  pub source : IsTablesOf bytes tables
-  pub built : AllBuilt source.list.tokens
+-- Why no object is built of a source: its first fault. With a broken form rule come the tables that break it, with their
+-- functions as code.
+abbrev pub IsNotCompiled : List ℕ → SourceStop → Type 0
+IsNotCompiled bytes (stop.Fault f) = IsCompileFault bytes (compile.Source f)
+IsNotCompiled bytes (stop.IllFormed f tables) = IsCompileFault bytes (compile.IllFormed f) × HasTypedTables bytes (λ t. tables ≡ coded t)
+IsNotCompiled bytes (stop.Unschedulable sel a b demand) = IsCompileFault bytes (compile.Unschedulable sel a b demand)
+IsNotCompiled bytes stop.Memory = Unit {0}
 
--- These are the tables of the source, each of its forms is built, and no form rule is broken: they can be run.
-pub record CanRun (bytes : List ℕ) (tables : Tables) : Type 0 where
-  pub compiled : AreBuiltTables bytes tables
-  pub formed : Formed tables
+-- a fault of tables with code, as what stops their source
+abbrev pub stop_of : Tables → BackFault → SourceStop
+stop_of u (back.IllFormed f) = stop.IllFormed f u
+stop_of u (back.Unschedulable sel a b demand) = stop.Unschedulable sel a b demand
+stop_of u back.Memory = stop.Memory
 
--- ---- faults
+-- what stops a source, as an answer, and the tables that its line speaks of
+abbrev pub outcome_of : SourceStop → Outcome
+outcome_of (stop.Fault f) = Source f
+outcome_of (stop.IllFormed f u) = IllFormed f
+outcome_of (stop.Unschedulable sel a b demand) = Unschedulable sel a b demand
+outcome_of stop.Memory = Memory
 
--- The source spells programs, and this is the first broken name rule of them; its tokens are those of the list.
-pub record IsNameFaultOf (bytes : List ℕ) (list : TokenList) (f : NameFault) : Type 0 where
-  pub reads : Reads bytes list
-  pub programs : List PlainProgram
-  pub spelled : Spell list.tokens programs
-  pub first : IsFirstNameFault programs f
+abbrev pub tables_of : SourceStop → Option Tables
+tables_of (stop.Fault f) = None
+tables_of (stop.IllFormed f u) = Some u
+tables_of (stop.Unschedulable sel a b demand) = None
+tables_of stop.Memory = None
 
--- the first broken name rule of the source, told by a token that begins at this byte
-abbrev pub IsNameFaultAt : List ℕ → (ℕ → NameFault) → ℕ → Type 0
-IsNameFaultAt bytes f at = (t : TokenList) × (token : ℕ) × IsNameFaultOf bytes t (f token) × BeginsAt t token at
+-- ---- of a file
 
--- the names of the source are right, and the first form that isn't built begins at this byte
-pub record IsUnbuiltAt (bytes : List ℕ) (at : ℕ) : Type 0 where
-  pub list : TokenList
-  pub reads : Reads bytes list
-  pub programs : List PlainProgram
-  pub spelled : Spell list.tokens programs
-  pub named : AreNamesRight programs
-  pub token : ℕ
-  pub unbuilt : FirstUnbuilt list.tokens token
-  pub begins : BeginsAt list token at
+-- The words name a source with tables of which an accepted object is built, and the fact holds of the tables.
+pub record IsProgram (name : Option (List ℕ)) (holds : Option Holdings) (Fact : Tables → Type 0) : Type 0 where
+  pub bytes : List ℕ
+  pub source : IsSource name holds bytes
+  pub has : HasTables bytes Fact
 
--- This is the source's fault.
-abbrev pub IsSourceFault : List ℕ → SourceFault → Type 0
-IsSourceFault bytes (fault.Char at) = Faults bytes (lex.Char at)
-IsSourceFault bytes (fault.Number at) = Faults bytes (lex.Number at)
-IsSourceFault bytes (fault.NameLong at) = Faults bytes (lex.NameLong at)
-IsSourceFault bytes (fault.Long at) = (t : TokenList) × Tokens bytes t × (k : ℕ) × IsFirstLong t.tokens k × BeginsAt t k at
-IsSourceFault bytes fault.Syntax = (t : TokenList) × Reads bytes t × SpellNone t.tokens
-IsSourceFault bytes (fault.Twice at) = IsNameFaultAt bytes (λ token. name.Twice token) at
-IsSourceFault bytes (fault.Unknown at) = IsNameFaultAt bytes (λ token. name.Unknown token) at
-IsSourceFault bytes (fault.Kind at) = IsNameFaultAt bytes (λ token. name.Kind token) at
-IsSourceFault bytes (fault.NotATree program) = (t : TokenList) × IsNameFaultOf bytes t (name.NotATree program)
-IsSourceFault bytes (fault.Limit which count) = (t : TokenList) × IsNameFaultOf bytes t (name.Limit which count)
-IsSourceFault bytes (fault.NotBuilt at) = IsUnbuiltAt bytes at
+-- The words name a source with tables whose functions are typed, and the fact holds of the tables.
+pub record IsTypedProgram (name : Option (List ℕ)) (holds : Option Holdings) (Fact : Tables → Type 0) : Type 0 where
+  pub bytes : List ℕ
+  pub source : IsSource name holds bytes
+  pub has : HasTypedTables bytes Fact
 
--- ---- reading
+-- The words name a source of which no object is built, for this fault.
+pub record IsFaultyProgram (name : Option (List ℕ)) (holds : Option Holdings) (f : CompileFault) : Type 0 where
+  pub bytes : List ℕ
+  pub source : IsSource name holds bytes
+  pub fault : IsCompileFault bytes f
 
--- tables in range, of which this is the first broken form rule
-pub record BreakFirst (tables : Tables) (f : FormFault) : Type 0 where
-  pub ranges : AreInRange tables
-  pub broken : IsFirstBroken tables f
+-- ---- of the input
 
--- what reading a source answers
-abbrev pub IsRead : List ℕ → Result Tables SourceStop → Type 0
-IsRead bytes (Ok tables) = CanRun bytes tables × AreInRange tables
-IsRead bytes (Err (stop.Fault f)) = IsSourceFault bytes f
-IsRead bytes (Err (stop.IllFormed f tables)) = AreBuiltTables bytes tables × BreakFirst tables f
-IsRead bytes (Err stop.Memory) = Unit {0}
+-- The input is this source, where it is told; it has at most 1,048,576 bytes.
+pub record IsInput (rest : Option (List ℕ)) (bytes : List ℕ) : Type 0 where
+  pub told : IfSome rest (λ given. given ≡ bytes)
+  pub short : length bytes ≤ MAX_SOURCE
+
+-- The input is a source with tables of which an accepted object is built, and the fact holds of the tables.
+pub record IsInputProgram (rest : Option (List ℕ)) (Fact : Tables → Type 0) : Type 0 where
+  pub bytes : List ℕ
+  pub input : IsInput rest bytes
+  pub has : HasTables bytes Fact
+
+-- The input is a source with tables whose functions are typed, and the fact holds of the tables.
+pub record IsTypedInput (rest : Option (List ℕ)) (Fact : Tables → Type 0) : Type 0 where
+  pub bytes : List ℕ
+  pub input : IsInput rest bytes
+  pub has : HasTypedTables bytes Fact
+
+-- The input is a source of which no object is built, for this fault.
+pub record IsFaultyInput (rest : Option (List ℕ)) (f : CompileFault) : Type 0 where
+  pub bytes : List ℕ
+  pub input : IsInput rest bytes
+  pub fault : IsCompileFault bytes f
+
+-- The input has more than 1,048,576 bytes, of which one more than that was seen.
+pub record IsLongInput (rest : Option (List ℕ)) (f : CompileFault) : Type 0 where
+  pub is : f ≡ compile.Source (source.TooLong (MAX_SOURCE + 1))
+  pub long : IfSome rest (λ given. MAX_SOURCE < length given)
+
+-- no object is built of the input, for this fault: it is too long, or it is a source with the fault
+abbrev pub IsInputFault : Option (List ℕ) → CompileFault → Type 0
+IsInputFault rest f = IsLongInput rest f ⊎ IsFaultyInput rest f

@@ -15,17 +15,18 @@ use Rattle.htl_object.specs.declared.malformed.MalKind.TheVariants as field
 use Rattle.htl_walk.specs.declared.miss.Miss.{Miss}
 use Rattle.htl_walk.specs.declared.miss.Miss.TheVariants as miss
 use Rattle.htl_top.specs.declared.outcome.Outcome.{Outcome}
-use Rattle.htl_top.specs.declared.outcome.Outcome.TheVariants.{Done, Usage, Source, IllFormed, Object, Script, Shelf, Read, Write, Memory}
+use Rattle.htl_top.specs.declared.outcome.Outcome.TheVariants.{Done, Usage, Source, IllFormed, Unschedulable, Object, Script, Shelf, Read, Write, Memory}
 use Rattle.htl_top.specs.declared.outcome.ShelfCause.{ShelfCause}
 use Rattle.htl_top.specs.declared.outcome.ShelfCause.TheVariants.{Failed, TooLong}
-use Rattle.htl_top.specs.declared.source_fault.SourceFault.{SourceFault}
-use Rattle.htl_top.specs.declared.source_fault.SourceFault.TheVariants.{NotBuilt, Char, Number, NameLong, Long, Syntax, Twice, Unknown, Kind, NotATree, Limit}
+use Rattle.htl_compile.specs.declared.source_fault.SourceFault.{SourceFault}
+use Rattle.htl_compile.specs.declared.source_fault.SourceFault.TheVariants.{TooLong as LongSource, Char, Number, NameLong, Long, Syntax, Twice, Unknown, Kind, NotATree, Limit, IllTyped, Deep}
 
 abbrev pub status_of : Outcome → ℕ
 status_of Done = 0
 status_of Usage = 2
 status_of (Source fault) = 3
 status_of (IllFormed fault) = 4
+status_of (Unschedulable sel a b demand) = 5
 status_of (Object fault) = 6
 status_of (Script fault) = 7
 status_of (Shelf cause) = 8
@@ -34,7 +35,7 @@ status_of Write = 10
 status_of Memory = 11
 
 abbrev pub source_line : SourceFault → List ℕ
-source_line (NotBuilt at) = codes "htl: source not-built " ++ decimal at ++ codes "\n"
+source_line (LongSource seen) = codes "htl: source too-long " ++ decimal seen ++ codes "\n"
 source_line (Char at) = codes "htl: source char " ++ decimal at ++ codes "\n"
 source_line (Number at) = codes "htl: source number " ++ decimal at ++ codes "\n"
 source_line (NameLong at) = codes "htl: source name-long " ++ decimal at ++ codes "\n"
@@ -45,6 +46,8 @@ source_line (Unknown at) = codes "htl: source unknown " ++ decimal at ++ codes "
 source_line (Kind at) = codes "htl: source kind " ++ decimal at ++ codes "\n"
 source_line (NotATree program) = codes "htl: source not-a-tree " ++ decimal program ++ codes "\n"
 source_line (Limit which count) = codes "htl: source limit " ++ decimal which ++ codes " count " ++ decimal count ++ codes "\n"
+source_line (IllTyped at) = codes "htl: source type " ++ decimal at ++ codes "\n"
+source_line (Deep at) = codes "htl: source deep " ++ decimal at ++ codes "\n"
 
 -- ---- a broken form rule
 
@@ -74,6 +77,12 @@ form_text tables fault =
 
 abbrev pub form_line : Option Tables → FormFault → List ℕ
 form_line tables fault = codes "htl: ill-formed " ++ form_text tables fault
+
+-- ---- an overloaded root selection
+
+abbrev pub overload_line : ℕ → ℕ → ℕ → ℕ → List ℕ
+overload_line sel a b demand =
+    codes "htl: unschedulable " ++ decimal sel ++ codes " from " ++ decimal a ++ codes " to " ++ decimal b ++ codes " demand " ++ decimal demand ++ codes "\n"
 
 -- ---- a fault of an object
 
@@ -137,6 +146,7 @@ fault_line tables Done = []
 fault_line tables Usage = codes "htl: usage\n"
 fault_line tables (Source fault) = source_line fault
 fault_line tables (IllFormed fault) = form_line tables fault
+fault_line tables (Unschedulable sel a b demand) = overload_line sel a b demand
 fault_line tables (Object fault) = object_line tables fault
 fault_line tables (Script fault) = script_line fault
 fault_line tables (Shelf cause) = shelf_line cause

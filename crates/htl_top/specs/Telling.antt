@@ -1,20 +1,22 @@
 -- The line that tells of an answer, and the tables whose names it has.
 use Rattle.std.specs.Prelude.{ℕ, ◌≡◌, Option, Some, None, List}
+use Rattle.htl_compile.specs.Coded.{coded}
 use Rattle.htl_load.specs.declared.fault.ObjectFault.{ObjectFault}
 use Rattle.htl_load.specs.declared.fault.ObjectFault.TheVariants as fault
 use Rattle.htl_model.specs.Tables.{Tables}
 use Rattle.htl_top.specs.Objects.{SpeaksOfObject}
 use Rattle.htl_top.specs.Status.{fault_line}
 use Rattle.htl_top.specs.declared.outcome.Outcome.{Outcome}
-use Rattle.htl_top.specs.declared.outcome.Outcome.TheVariants.{Done, Usage, Source, IllFormed, Object, Script, Shelf, Read, Write, Memory}
+use Rattle.htl_top.specs.declared.outcome.Outcome.TheVariants.{Done, Usage, Source, IllFormed, Unschedulable, Object, Script, Shelf, Read, Write, Memory}
 
--- The tables that the line of an answer speaks of: those of the source or of the object, where they break a form rule.
+-- The tables that the line of an answer speaks of: those of the source, with code, or of the object, where they break a form rule.
 abbrev pub SpeaksOf : ((Tables → Type 0) → Type 0) → ((Tables → Type 0) → Type 0) → Outcome → Option Tables → Type 0
-SpeaksOf HasSource HasObject (IllFormed f) tables = HasSource (λ compiled. tables ≡ Some compiled)
+SpeaksOf HasSource HasObject (IllFormed f) tables = HasSource (λ t. tables ≡ Some (coded t))
 SpeaksOf HasSource HasObject (Object f) tables = SpeaksOfObject HasObject f tables
 SpeaksOf HasSource HasObject Done tables = Unit {0}
 SpeaksOf HasSource HasObject Usage tables = Unit {0}
 SpeaksOf HasSource HasObject (Source f) tables = Unit {0}
+SpeaksOf HasSource HasObject (Unschedulable sel a b demand) tables = Unit {0}
 SpeaksOf HasSource HasObject (Script f) tables = Unit {0}
 SpeaksOf HasSource HasObject (Shelf cause) tables = Unit {0}
 SpeaksOf HasSource HasObject Read tables = Unit {0}
@@ -37,6 +39,7 @@ IsLineTold HasSource HasObject Told (Object f) = IsFaultTold HasObject Told f
 IsLineTold HasSource HasObject Told Done = Told (fault_line None Done)
 IsLineTold HasSource HasObject Told Usage = Told (fault_line None Usage)
 IsLineTold HasSource HasObject Told (Source f) = Told (fault_line None (Source f))
+IsLineTold HasSource HasObject Told (Unschedulable sel a b demand) = Told (fault_line None (Unschedulable sel a b demand))
 IsLineTold HasSource HasObject Told (Script f) = Told (fault_line None (Script f))
 IsLineTold HasSource HasObject Told (Shelf cause) = Told (fault_line None (Shelf cause))
 IsLineTold HasSource HasObject Told Read = Told (fault_line None Read)

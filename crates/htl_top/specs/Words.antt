@@ -3,36 +3,47 @@ use Rattle.std.specs.Prelude.{ℕ, Option, None, Some, List, [], ◌∷◌, code
 use Rattle.std.specs.Borrow.{Bor}
 use Rattle.std.specs.Option.{option_map}
 use Rattle.std.specs.Str.{bytes_eq}
+use Rattle.htl_console.specs.declared.shown.Shown.{Shown}
+use Rattle.htl_console.specs.declared.shown.Shown.TheVariants.{Values, Jobs}
+use Rattle.htl_top.specs.declared.words.Asked.{Asked}
+use Rattle.htl_top.specs.declared.words.Asked.TheVariants as ask
 use Rattle.htl_top.specs.declared.words.Verb.{Verb}
 use Rattle.htl_top.specs.declared.words.Verb.TheVariants as verb
 
 -- what the words ask for, with the name of the file that they name
 pub data Command : Type 0 where
   Go : (name : List ℕ) → Command
+  Compile : Command
+  Run : (show : Shown) (name : List ℕ) → Command
   Check : (name : List ℕ) → Command
   Plan : (name : List ℕ) → Command
   Show : (name : List ℕ) → Command
 
--- `go`, `check`, `plan` and `show`
+-- the verbs that a file's name follows
 abbrev pub verb_of : List ℕ → Option Verb
 verb_of word =
     if bytes_eq word (codes "go") then Some verb.Go
+    else if bytes_eq word (codes "run") then Some verb.Run
+    else if bytes_eq word (codes "jobs") then Some verb.Jobs
     else if bytes_eq word (codes "check") then Some verb.Check
     else if bytes_eq word (codes "plan") then Some verb.Plan
     else if bytes_eq word (codes "show") then Some verb.Show
     else None
 
+-- `run` shows values and modes, `jobs` the jobs too
 abbrev pub with_file : Verb → List ℕ → Command
 with_file verb.Go name = Go name
+with_file verb.Run name = Run Values name
+with_file verb.Jobs name = Run Jobs name
 with_file verb.Check name = Check name
 with_file verb.Plan name = Plan name
 with_file verb.Show name = Show name
 
--- a verb and the name of a file; other words are no command
+-- a verb and the name of a file, or `compile` alone; other words are no command
 abbrev pub command_of : List (List ℕ) → Option Command
 command_of (word ∷ name ∷ []) = option_map (λ (v : Verb). with_file v name) (verb_of word)
 command_of (word ∷ name ∷ other ∷ others) = None
-command_of (word ∷ []) = None
+command_of (word ∷ []) = if bytes_eq word (codes "compile") then Some Compile else None
 command_of [] = None
 
 -- the same of words that are lent
@@ -41,9 +52,11 @@ command_in words = command_of (map (λ (word : Bor (List ℕ)). word.now) words)
 
 -- ---- the file
 
--- the source that a command runs
+-- the source in a file that a command runs
 abbrev pub source_of : Option Command → Option (List ℕ)
 source_of (Some (Go name)) = Some name
+source_of (Some Compile) = None
+source_of (Some (Run show name)) = None
 source_of (Some (Check name)) = None
 source_of (Some (Plan name)) = None
 source_of (Some (Show name)) = None
@@ -52,6 +65,8 @@ source_of None = None
 -- the object that a command is about
 abbrev pub object_of : Option Command → Option (List ℕ)
 object_of (Some (Go name)) = None
+object_of (Some Compile) = None
+object_of (Some (Run show name)) = Some name
 object_of (Some (Check name)) = Some name
 object_of (Some (Plan name)) = Some name
 object_of (Some (Show name)) = Some name
@@ -62,3 +77,10 @@ source_in words = source_of (command_in words)
 
 abbrev pub object_in : List (Bor (List ℕ)) → Option (List ℕ)
 object_in words = object_of (command_in words)
+
+-- ---- the words as they were read
+
+-- what was asked for
+abbrev pub asked_for : Asked → Command
+asked_for ask.Compile = Compile
+asked_for (ask.File v name) = with_file v name.now

@@ -4,7 +4,6 @@ ghost use Rattle.htl_edge.specs.Content.{Puts};
 ghost use Rattle.htl_model.specs.Broken.{KeepsLimits};
 ghost use Rattle.htl_model.specs.Selections.{selection_count};
 ghost use Rattle.htl_top.specs.Answers.{files, IsWritten};
-ghost use Rattle.htl_top.specs.Causes.{IsBuiltProgram};
 ghost use Rattle.htl_top.specs.Checked.{most_positions as most_positions_of, check_text};
 ghost use Rattle.htl_top.specs.Objects.{IsTextOnObject, IsObjectTables};
 ghost use Rattle.htl_top.specs.Telling.{SpeaksOf};
@@ -78,7 +77,7 @@ pub fn check_file<S: Shelf, W: Sink>(
 ) -> Answer
     ensures answer { IsTextOnObject (λ o. check_text o.tables) (Some name.now) (files S.holds S.faults shelf.old shelf.new)
         (W.written out.old) (W.written out.new) (W.faults out.old) (W.faults out.new) result.outcome }
-    ensures tables { SpeaksOf (IsBuiltProgram None (S.holds shelf.old)) (IsObjectTables (Some name.now) (S.holds shelf.old)) result.outcome result.tables }
+    ensures tables { SpeaksOf (λ fact. ⊥) (IsObjectTables (Some name.now) (S.holds shelf.old)) result.outcome result.tables }
     ensures shelf { S.holds shelf.new ≡ S.holds shelf.old }
 {
     match open(alloc, name, shelf) {

@@ -110,14 +110,33 @@ fn bytes_and_forms_are_refused(rt: HostRuntime) -> Result<(), Fail> {
     Ok(())
 }
 
+// A byte of the E code of DOUBLING, another in its place, and what is told of the first departure.
+const DEPARTURES: &[(usize, u8, &str)] = &[
+    // the write block comes a tick too late
+    (149, 11, "htl: object ecode 1 delay\n"),
+    // the read block would stand behind the last instruction
+    (164, 11, "htl: object ecode 11 target\n"),
+    // the round's end goes to an instruction that doesn't begin the next round
+    (174, 9, "htl: object ecode 3 branch\n"),
+    // `leave` in place of `return`
+    (181, 9, "htl: object ecode 6 action\n"),
+    // a jump to itself
+    (195, 10, "htl: object ecode 10 endless\n"),
+];
+
 // Functions, E code and schedules that aren't accepted.
 #[test]
 fn codes_and_schedules_are_refused(rt: HostRuntime) -> Result<(), Fail> {
-    let table: [(&[u8], usize, &[u8], bool, &str); 7] = [
+    for (at, by, told) in DEPARTURES {
+        let want = (6, b"".as_slice(), *told);
+        assert!(rt;
+            checks(rt.alloc(), (&DOUBLING, *at, &[*by], true), want)?,
+            "{told}"
+        );
+    }
+    let table: [(&[u8], usize, &[u8], bool, &str); 6] = [
         // `not` in place of `mul`
         (&DOUBLING, 125, &[5], true, "htl: object function 0\n"),
-        // `leave` in place of `return`
-        (&DOUBLING, 181, &[9], true, "htl: object ecode 6 action\n"),
         // a last dispatch that ends too soon
         (
             &TWO_JOBS,

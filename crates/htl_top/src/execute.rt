@@ -1,43 +1,46 @@
-// Tables, run with the input as script.
-ghost use Rattle.std.specs.Prelude.{◌≡◌, ◌≤◌, ℕ, [], None, Err, OnOk};
+// An accepted object, run with the input as script.
+ghost use Rattle.std.specs.Prelude.{◌≡◌, ℕ, [], None, Err, OnOk};
 ghost use Rattle.htl_edge.specs.Causes.{Rose};
-ghost use Rattle.htl_edge.specs.Content.{none_left};
-ghost use Rattle.htl_model.specs.Lines.{run_text};
-ghost use Rattle.htl_model.specs.Plain.{IsPlain};
+ghost use Rattle.htl_edge.specs.Content.{Puts, none_left};
+ghost use Rattle.htl_machine.specs.Calls.{Follows};
+ghost use Rattle.htl_machine.specs.Programs.{text_of};
+ghost use Rattle.htl_object.specs.Accepted.{IsAccepted};
 ghost use Rattle.htl_script.specs.Events.{AreEvents};
-ghost use Rattle.htl_top.specs.Answers.{streams, IsWritten, IsExecuted};
-ghost use Rattle.htl_top.specs.Runs.{IsFresh, IsInTime, AreInTime};
+ghost use Rattle.htl_top.specs.Answers.{streams, IsWritten};
+ghost use Rattle.htl_top.specs.Runs.{IsRun};
 ghost use Rattle.htl_top.specs.Scripts.{EndsAt, IsScriptRead};
-ghost use Rattle.htl_top.specs.Texts.{text_before_fault, shown_after, instants_shown};
+ghost use Rattle.htl_top.specs.Texts.{text_before_fault};
 
 use crate::Outcome;
-use crate::board::Board;
-use crate::run::{write_instants, write_run};
-use htl_base::Time;
-use htl_edge::{Sink, Source};
+use crate::play::play;
+use htl_console::{Shown, line_end};
+use htl_edge::{Failed, Sink, Source};
+use htl_load::Loaded;
+use htl_machine::Machine;
 use htl_model::{Event, Tables};
 use htl_script::{ScriptFault, WholeStop, read_script};
 use std::alloc::Global;
 
-/// Runs tables with the input as script. The whole script is read before the first line is written.
+/// Runs an accepted object with the input as script. All memory of the machine is taken first; the whole script is read before the
+/// first line is written.
 pub fn execute<R: Source, W: Sink>(
     alloc: Global,
-    tables: &Tables,
+    l: &Loaded,
+    show: Shown,
     input: &mut R,
     out: &mut W,
 ) -> Outcome
-    requires { IsPlain tables.now }
-    ensures { IsExecuted tables.now
+    ensures { IsRun show l.now.tables l.now
         (streams R.rest R.faults W.written W.faults input.old out.old) (streams R.rest R.faults W.written W.faults input.new out.new)
         result }
 {
-    let Ok(mut board) = Board::new(alloc, tables) else {
+    let Ok(mut machine) = Machine::new(alloc, l, show) else {
         return Outcome::Memory;
     };
     let mut events = Vec::new(alloc);
-    match read(alloc, tables, input, &mut events) {
-        Ok(()) => write_whole(out, tables, &events, &mut board),
-        Err(WholeStop::Script(fault)) => write_faulty(out, tables, &events, &mut board, fault),
+    match read(alloc, l.tables(), input, &mut events) {
+        Ok(()) => write_whole(&mut machine, &events, out),
+        Err(WholeStop::Script(fault)) => write_faulty(&mut machine, &events, fault, out),
         Err(WholeStop::Read) => Outcome::Read,
         Err(WholeStop::Memory) => Outcome::Memory,
     }
@@ -60,78 +63,54 @@ fn read<R: Source>(
 }
 
 // Writes the run of the events of a whole script.
-fn write_whole<W: Sink>(
-    out: &mut W,
-    tables: &Tables,
-    events: &[Event],
-    board: &mut Board,
-) -> Outcome
-    requires plain { IsPlain tables.now }
-    requires events { AreEvents tables.now None events.now }
+fn write_whole<W: Sink>(machine: &mut Machine<'_>, events: &[Event], out: &mut W) -> Outcome
+    requires follows { Follows machine.old [] }
+    requires accepted { IsAccepted machine.old.object }
+    requires events { AreEvents machine.old.object.tables None events.now }
     requires ended { (end : ℕ) × EndsAt events.now end }
-    requires fresh { IsFresh tables.now board.old }
     ensures { (end : ℕ) → EndsAt events.now end →
-        IsWritten (run_text tables.now events.now end) Outcome.Done (W.written out.old) (W.written out.new) (W.faults out.old) (W.faults out.new) result }
+        IsWritten (text_of machine.old.object events.now machine.old.show end) Outcome.Done (W.written out.old) (W.written out.new) (W.faults out.old) (W.faults out.new) result }
 {
-    match write_run(out, tables, events, end_of(events), board) {
+    match write_run(machine, events, out) {
         Ok(()) => Outcome::Done,
         Err(_) => Outcome::Write,
     }
 }
 
-// The instant with which the run ends.
-fn end_of(events: &[Event]) -> Time
-    ensures { (end : ℕ) → EndsAt events.now end → result ≡ end }
+// Writes all lines of a run, and its totals.
+fn write_run<W: Sink>(
+    machine: &mut Machine<'_>,
+    events: &[Event],
+    out: &mut W,
+) -> Result<(), Failed>
+    requires follows { Follows machine.old [] }
+    requires accepted { IsAccepted machine.old.object }
+    requires events { AreEvents machine.old.object.tables None events.now }
+    requires ended { (end : ℕ) × EndsAt events.now end }
+    ensures { (end : ℕ) → EndsAt events.now end →
+        Puts (W.written out.old) (W.written out.new) (W.faults out.old) (W.faults out.new) (text_of machine.old.object events.now machine.old.show end) result }
 {
-    match events.last() {
-        Some(Event::End(end)) => *end,
-        _ => 0,
+    if let Err(failed) = play(machine, events, out) {
+        return Err(failed);
     }
+    let totals = machine.totals();
+    line_end(out, totals.at, totals.jobs, totals.e, totals.s)
 }
 
 // Writes the lines of the events before the fault of a script.
 fn write_faulty<W: Sink>(
-    out: &mut W,
-    tables: &Tables,
+    machine: &mut Machine<'_>,
     events: &[Event],
-    board: &mut Board,
     fault: ScriptFault,
+    out: &mut W,
 ) -> Outcome
-    requires plain { IsPlain tables.now }
-    requires events { AreEvents tables.now None events.now }
-    requires fresh { IsFresh tables.now board.old }
-    ensures { IsWritten (text_before_fault tables.now events.now) (Outcome.Script fault) (W.written out.old) (W.written out.new) (W.faults out.old) (W.faults out.new) result }
+    requires follows { Follows machine.old [] }
+    requires accepted { IsAccepted machine.old.object }
+    requires events { AreEvents machine.old.object.tables None events.now }
+    ensures { IsWritten (text_before_fault machine.old.object machine.old.show events.now) (Outcome.Script fault) (W.written out.old) (W.written out.new) (W.faults out.old) (W.faults out.new) result }
 {
-    match write_instants(out, tables, events, instants_shown(events), board) {
+    match play(machine, events, out) {
         Ok(()) => Outcome::Script(fault),
         Err(_) => Outcome::Write,
-    }
-}
-
-// How many instants, from 0 on, show lines: those up to the end, or else those before the last reading.
-fn instants_shown(events: &[Event]) -> Time
-    requires { AreInTime events.now }
-    ensures shown { result ≡ instants_shown 0 events.now }
-    ensures few { result ≤ 1000000001 }
-{
-    let mut count = 0;
-    for event in events {
-        count = shown_after(count, event);
-    }
-    count
-}
-
-// How many instants show lines after one more event.
-fn shown_after(count: Time, event: &Event) -> Time
-    requires event { IsInTime event.now }
-    requires count { count ≤ 1000000001 }
-    ensures shown { result ≡ shown_after count event.now }
-    ensures few { result ≤ 1000000001 }
-{
-    match *event {
-        Event::At(reading) => reading,
-        Event::Sense { .. } => count,
-        Event::Took { .. } => count,
-        Event::End(end) => end + 1,
     }
 }

@@ -2,11 +2,12 @@
 ghost use Rattle.std.specs.Prelude.{◌≡◌, ◌++◌, ◌+◌, ◌≤◌, codes, decimal, length};
 ghost use Rattle.std.specs.Option.{option_copied};
 ghost use Rattle.htl_top.specs.Answers.{Tells};
-ghost use Rattle.htl_top.specs.Status.{fault_line as line_of, source_line, form_line, form_text, place_in, kind_text, script_line, shelf_line};
+ghost use Rattle.htl_top.specs.Status.{fault_line as line_of, source_line, form_line, form_text, overload_line, place_in, kind_text, script_line, shelf_line};
 
 use crate::object_line::object_line;
 use crate::place::place;
 use crate::{Outcome, ShelfCause, SourceFault};
+use htl_base::Time;
 use htl_edge::{LineBuffer, Sink, put_all};
 use htl_model::{FormFault, Tables};
 use htl_script::{ScriptFault, ScriptKind};
@@ -32,6 +33,12 @@ fn fault_line(tables: Option<&Tables>, outcome: &Outcome) -> LineBuffer
         Outcome::Usage => plain_line(b"htl: usage\n"),
         Outcome::Source(fault) => source_line(fault),
         Outcome::IllFormed(fault) => form_line(tables, fault),
+        Outcome::Unschedulable {
+            selection,
+            from,
+            to,
+            demand,
+        } => overload_line(*selection, *from, *to, *demand),
         Outcome::Object(fault) => object_line(tables, fault),
         Outcome::Script(fault) => script_line(fault),
         Outcome::Shelf(cause) => shelf_line(cause),
@@ -45,7 +52,7 @@ fn source_line(fault: &SourceFault) -> LineBuffer
     ensures { result ≡ source_line fault.now }
 {
     match fault {
-        SourceFault::NotBuilt { at } => numbered_line(b"htl: source not-built ", *at),
+        SourceFault::TooLong { seen } => numbered_line(b"htl: source too-long ", *seen),
         SourceFault::Char { at } => numbered_line(b"htl: source char ", *at),
         SourceFault::Number { at } => numbered_line(b"htl: source number ", *at),
         SourceFault::NameLong { at } => numbered_line(b"htl: source name-long ", *at),
@@ -58,6 +65,8 @@ fn source_line(fault: &SourceFault) -> LineBuffer
             numbered_line(b"htl: source not-a-tree ", *program as u64)
         }
         SourceFault::Limit { which, count } => limit_line(*which, *count),
+        SourceFault::IllTyped { at } => numbered_line(b"htl: source type ", *at),
+        SourceFault::Deep { at } => numbered_line(b"htl: source deep ", *at),
     }
 }
 
@@ -69,6 +78,22 @@ fn limit_line(which: u8, count: u32) -> LineBuffer
     line.number(which as u64);
     line.text(b" count ");
     line.number(count as u64);
+    line.text(b"\n");
+    line
+}
+
+fn overload_line(selection: u32, from: Time, to: Time, demand: u64) -> LineBuffer
+    ensures { result ≡ overload_line selection from to demand }
+{
+    let mut line = LineBuffer::new();
+    line.text(b"htl: unschedulable ");
+    line.number(selection as u64);
+    line.text(b" from ");
+    line.number(from);
+    line.text(b" to ");
+    line.number(to);
+    line.text(b" demand ");
+    line.number(demand);
     line.text(b"\n");
     line
 }

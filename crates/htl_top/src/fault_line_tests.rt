@@ -1,24 +1,17 @@
 // The lines that tell of answers that no call of the tests has.
+use crate::Outcome;
 use crate::fault_line::report;
-use crate::{Outcome, SourceFault};
 use htl_edge::Page;
 use htl_script::{ScriptFault, ScriptKind};
 use std::test::Fail;
 
 const TOLD: &[(Outcome, &str)] = &[
     (
-        Outcome::Source(SourceFault::Limit {
-            which: 2,
-            count: 65,
-        }),
-        "htl: source limit 2 count 65\n",
-    ),
-    (
         Outcome::Script(ScriptFault {
             line: 12,
-            kind: ScriptKind::Overrun { took: 5, worst: 4 },
+            kind: ScriptKind::Long,
         }),
-        "htl: script 12 overrun 5 4\n",
+        "htl: script 12 long\n",
     ),
     (
         Outcome::Script(ScriptFault {
@@ -27,6 +20,7 @@ const TOLD: &[(Outcome, &str)] = &[
         }),
         "htl: script 1 size\n",
     ),
+    (Outcome::Memory, "htl: memory\n"),
 ];
 
 #[test]

@@ -1,20 +1,26 @@
-// The command `go`: a source, compiled and run.
-ghost use Rattle.std.specs.Prelude.{◌≡◌, ◌≤◌, Some, None, length};
+// The command `go`: a source, compiled, loaded and run.
+ghost use Rattle.std.specs.Prelude.{◌≡◌, ◌≤◌, List, ℕ, Some, length};
 ghost use Rattle.htl_base.specs.declared.limits.TheConstants as limit;
-ghost use Rattle.htl_top.specs.Answers.{files, streams, IsGoAnswer, IsAnswer};
-ghost use Rattle.htl_top.specs.Causes.{HasBuiltTables, IsBuiltProgram};
-ghost use Rattle.htl_top.specs.Objects.{IsObjectTables};
+ghost use Rattle.htl_compile.specs.Building.{IsCompiledTo};
+ghost use Rattle.htl_compile.specs.Built.{built};
+ghost use Rattle.htl_console.specs.declared.shown.Shown.TheVariants as shown;
+ghost use Rattle.htl_top.specs.Answers.{files, streams};
+ghost use Rattle.htl_top.specs.Going.{IsGoing, IsBytesGoing};
+ghost use Rattle.htl_top.specs.Runs.{IsRun};
+ghost use Rattle.htl_top.specs.Sources.{HasTypedTables, IsTypedProgram};
 ghost use Rattle.htl_top.specs.Telling.{SpeaksOf};
 
 use crate::answer::Answer;
 use crate::execute::execute;
-use crate::source::{SourceStop, read_source};
+use crate::source::compile_source;
 use crate::{Outcome, ShelfCause};
 use htl_base::limits::MAX_SOURCE;
+use htl_console::Shown;
 use htl_edge::{Shelf, ShelfFault, Sink, Source};
+use htl_load::{LoadFault, load};
 use std::alloc::Global;
 
-/// Compiles the source in a file and runs it.
+/// Compiles the source in a file and runs its object, with the input as script.
 pub fn go_file<S: Shelf, R: Source, W: Sink>(
     alloc: Global,
     name: &str,
@@ -22,11 +28,11 @@ pub fn go_file<S: Shelf, R: Source, W: Sink>(
     input: &mut R,
     out: &mut W,
 ) -> Answer
-    ensures answer { IsAnswer (Some name.now)
+    ensures answer { IsGoing (Some name.now)
         (files S.holds S.faults shelf.old shelf.new)
         (streams R.rest R.faults W.written W.faults input.old out.old) (streams R.rest R.faults W.written W.faults input.new out.new)
         result.outcome }
-    ensures tables { SpeaksOf (IsBuiltProgram (Some name.now) (S.holds shelf.old)) (IsObjectTables None (S.holds shelf.old)) result.outcome result.tables }
+    ensures tables { SpeaksOf (IsTypedProgram (Some name.now) (S.holds shelf.old)) (λ fact. ⊥) result.outcome result.tables }
     ensures shelf { S.holds shelf.new ≡ S.holds shelf.old }
 {
     match shelf.fetch(alloc, name, MAX_SOURCE) {
@@ -39,21 +45,35 @@ pub fn go_file<S: Shelf, R: Source, W: Sink>(
     }
 }
 
-// Compiles a source and runs it.
+// Compiles a source and runs its object.
 fn go<R: Source, W: Sink>(alloc: Global, bytes: &[u8], input: &mut R, out: &mut W) -> Answer
     requires { length bytes.now ≤ limit.MAX_SOURCE }
-    ensures answer { IsGoAnswer bytes.now
+    ensures answer { IsBytesGoing bytes.now
         (streams R.rest R.faults W.written W.faults input.old out.old) (streams R.rest R.faults W.written W.faults input.new out.new)
         result.outcome }
-    ensures tables { SpeaksOf (HasBuiltTables bytes.now) (λ fact. ⊥) result.outcome result.tables }
+    ensures tables { SpeaksOf (HasTypedTables bytes.now) (λ fact. ⊥) result.outcome result.tables }
 {
-    match read_source(alloc, bytes) {
-        Ok(tables) => Answer::plain(execute(alloc, &tables, input, out)),
-        Err(SourceStop::Fault(fault)) => Answer::plain(Outcome::Source(fault)),
-        Err(SourceStop::IllFormed { fault, tables }) => Answer {
-            outcome: Outcome::IllFormed(fault),
-            tables: Some(tables),
-        },
-        Err(SourceStop::Memory) => Answer::plain(Outcome::Memory),
+    match compile_source(alloc, bytes) {
+        Ok(object) => Answer::plain(run_compiled(alloc, object.as_slice(), input, out)),
+        Err(stop) => stop.answer(),
+    }
+}
+
+// Loads the bytes of a compiled source, which are accepted, and runs the object.
+fn run_compiled<R: Source, W: Sink>(
+    alloc: Global,
+    object: &[u8],
+    input: &mut R,
+    out: &mut W,
+) -> Outcome
+    requires { (source : List ℕ) × IsCompiledTo source object.now }
+    ensures { (source : List ℕ) (compiled : IsCompiledTo source object.now) → IsRun shown.Jobs compiled.tables (built compiled.tables)
+        (streams R.rest R.faults W.written W.faults input.old out.old) (streams R.rest R.faults W.written W.faults input.new out.new)
+        result }
+{
+    match load(alloc, object) {
+        Ok(loaded) => execute(alloc, &loaded, Shown::Jobs, input, out),
+        Err(LoadFault::Refused(_)) => unreachable!(),
+        Err(LoadFault::Memory) => Outcome::Memory,
     }
 }

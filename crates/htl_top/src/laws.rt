@@ -1,6 +1,6 @@
-// What the values and lines of a run depend on. Each law is a statement that the check has proved; there is nothing to
-// run.
-ghost use Rattle.htl_top.specs.Laws.{SensorsDecideLines, EarlierReadingsDecideValues, EarlierReadingsDecideTexts};
+// What the values and lines of a run depend on, and what `go` shows of a source. Each law is a statement that the check has
+// proved; there is nothing to run.
+ghost use Rattle.htl_top.specs.Laws.{SensorsDecideLines, EarlierReadingsDecideValues, EarlierReadingsDecideTexts, GoShowsTheMeaning, GoKeepsDeadlines};
 
 /// Two scripts with the same sensor values up to an instant give the same lines of values and modes up to
 /// it, whatever lengths of jobs they set and whatever else they read.
@@ -16,4 +16,16 @@ pub fn earlier_readings_decide_values()
 /// The text of the instants before one depends only on the events that were read before it.
 pub fn earlier_readings_decide_texts()
     ensures { EarlierReadingsDecideTexts }
+{}
+
+/// At each instant of a run of a source's object, what `go` shows is lines of jobs, and then the lines of values and modes that
+/// logical execution time gives of the source's own tables, whose functions are expressions.
+pub fn go_shows_the_meaning()
+    ensures { GoShowsTheMeaning }
+{}
+
+/// In a run of a source's object with a whole script for its tables, each job of each round whose window ended by the end of the run
+/// is done once, within its window, in slices of its own that begin no earlier than its predecessors are done.
+pub fn go_keeps_deadlines()
+    ensures { GoKeepsDeadlines }
 {}

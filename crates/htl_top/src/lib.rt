@@ -2,10 +2,12 @@
 #![tactic(auto)]
 
 mod answer;
-mod board;
 mod check;
 #[cfg(test)]
 mod check_tests;
+mod compile;
+#[cfg(test)]
+mod compile_tests;
 mod execute;
 mod fault_line;
 #[cfg(test)]
@@ -13,6 +15,7 @@ mod fault_line_tests;
 #[cfg(test)]
 mod form_tests;
 mod go;
+mod input;
 mod laws;
 mod lookups;
 #[cfg(test)]
@@ -27,7 +30,12 @@ mod plan;
 #[cfg(test)]
 mod plan_tests;
 mod plan_walk;
+mod play;
 mod run;
+#[cfg(test)]
+mod run_tests;
+#[cfg(test)]
+mod samples;
 mod selection;
 mod selection_judge;
 mod selection_lookup;
@@ -35,12 +43,7 @@ mod selection_reader;
 mod show;
 #[cfg(test)]
 mod show_tests;
-#[cfg(test)]
-mod slow_tests;
 mod source;
-mod source_fault;
-#[cfg(test)]
-mod source_tests;
 #[cfg(test)]
 mod tables_tests;
 #[cfg(test)]
@@ -48,15 +51,14 @@ mod tests;
 #[cfg(test)]
 mod texts;
 mod top;
-mod totals;
-mod unbuilt;
 mod words;
 
 pub use fault_line::report;
+pub use htl_compile::SourceFault;
 pub use laws::{
-    earlier_readings_decide_texts, earlier_readings_decide_values, sensors_decide_lines,
+    earlier_readings_decide_texts, earlier_readings_decide_values, go_keeps_deadlines,
+    go_shows_the_meaning, sensors_decide_lines,
 };
 pub use outcome::{Outcome, ShelfCause, status};
 pub use selection::{ScriptStop, read_selection};
-pub use source_fault::SourceFault;
 pub use top::htl;

@@ -5,7 +5,6 @@ ghost use Rattle.htl_object.specs.Accepted.{IsAccepted};
 ghost use Rattle.htl_object.specs.Ranges.{IsInRange};
 ghost use Rattle.htl_top.specs.Answers.{files};
 ghost use Rattle.htl_top.specs.Objects.{IsObjectRead, IsAcceptedFile, IsObjectTables, IsStopped};
-ghost use Rattle.htl_top.specs.Causes.{IsBuiltProgram};
 ghost use Rattle.htl_top.specs.Telling.{SpeaksOf};
 
 use crate::answer::Answer;
@@ -78,7 +77,7 @@ pub fn read_object(alloc: Global, bytes: &[u8]) -> Result<Loaded, ObjectStop>
 pub fn open<S: Shelf>(alloc: Global, name: &str, shelf: &mut S) -> Result<Loaded, Answer>
     ensures opened { IfOk result (λ l. IsAcceptedFile (Some name.now) (S.holds shelf.old) (λ o. o ≡ l)) }
     ensures stopped { IfErr result (λ a. IsStopped (Some name.now) (files S.holds S.faults shelf.old shelf.new) a.outcome) }
-    ensures tables { IfErr result (λ a. SpeaksOf (IsBuiltProgram None (S.holds shelf.old)) (IsObjectTables (Some name.now) (S.holds shelf.old)) a.outcome a.tables) }
+    ensures tables { IfErr result (λ a. SpeaksOf (λ fact. ⊥) (IsObjectTables (Some name.now) (S.holds shelf.old)) a.outcome a.tables) }
     ensures shelf { S.holds shelf.new ≡ S.holds shelf.old }
 {
     let bytes = match shelf.fetch(alloc, name, MAX_OBJECT) {

@@ -184,6 +184,9 @@ pub const REFINED: [u8; 574] = [
     0, 2, 0, 0, 0, 2, 1, 0, 0, 0, 0, 0, 4, 3, 0, 0, 0, 1, 3,
 ];
 
+// The S code of DOUBLING, of one selection, with an `idle` before the dispatch.
+pub const IDLING: [u8; 17] = [0, 0, 0, 3, 2, 0, 0, 0, 3, 1, 0, 0, 0, 0, 0, 7, 3];
+
 // The object with other bytes from a place on; what lies behind them is kept, or left out.
 pub fn changed(
     alloc: Global,

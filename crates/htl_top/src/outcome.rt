@@ -2,7 +2,8 @@
 ghost use Rattle.std.specs.Prelude.{◌≡◌};
 ghost use Rattle.htl_top.specs.Status.{status_of};
 
-use crate::SourceFault;
+use htl_base::Time;
+use htl_compile::SourceFault;
 use htl_load::ObjectFault;
 use htl_model::FormFault;
 use htl_script::ScriptFault;
@@ -26,10 +27,21 @@ pub enum Outcome {
     Done,
     /// The words are no command.
     Usage,
-    /// The source has no tables, or has a form that isn't built.
+    /// The source has no tables whose functions are compiled.
     Source(SourceFault),
     /// The tables of the source break a form rule.
     IllFormed(FormFault),
+    /// A root selection of the source is overloaded: no schedule whatever keeps its deadlines.
+    Unschedulable {
+        /// The number of the first such root selection.
+        selection: u32,
+        /// The overloaded interval, in ticks from the start of the round.
+        from: Time,
+        /// Its end.
+        to: Time,
+        /// The worst cases that have to be done in it, in ticks.
+        demand: u64,
+    },
     /// The file is no accepted object: its bytes are none, or the object fails a test.
     Object(ObjectFault),
     /// The script isn't whole; the lines of the events before its first fault were written.
@@ -44,8 +56,8 @@ pub enum Outcome {
     Memory,
 }
 
-/// The status with which the program ends: 0 for Done, 2 Usage, 3 Source, 4 IllFormed, 6 Object, 7 Script, 8 Shelf, 9
-/// Read, 10 Write and 11 Memory.
+/// The status with which the program ends: 0 for Done, 2 Usage, 3 Source, 4 IllFormed, 5 Unschedulable, 6 Object, 7
+/// Script, 8 Shelf, 9 Read, 10 Write and 11 Memory.
 pub fn status(o: &Outcome) -> u8
     ensures { result ≡ status_of o.now }
 {
@@ -54,6 +66,7 @@ pub fn status(o: &Outcome) -> u8
         Outcome::Usage => 2,
         Outcome::Source(_) => 3,
         Outcome::IllFormed(_) => 4,
+        Outcome::Unschedulable { .. } => 5,
         Outcome::Object(_) => 6,
         Outcome::Script(_) => 7,
         Outcome::Shelf(_) => 8,

@@ -3,7 +3,6 @@ ghost use Rattle.std.specs.Prelude.{◌≡◌, Some, None, IfOk, length};
 ghost use Rattle.htl_edge.specs.Content.{Puts};
 ghost use Rattle.htl_model.specs.Selected.{IsSelection};
 ghost use Rattle.htl_top.specs.Answers.{files, streams};
-ghost use Rattle.htl_top.specs.Causes.{IsBuiltProgram};
 ghost use Rattle.htl_top.specs.Objects.{IsOnObject, IsObjectTables};
 ghost use Rattle.htl_top.specs.Planned.{plan_text, IsPlanned};
 ghost use Rattle.htl_top.specs.Telling.{SpeaksOf};
@@ -87,7 +86,7 @@ pub fn plan_file<S: Shelf, R: Source, W: Sink>(
     ensures answer { IsOnObject IsPlanned (Some name.now) (files S.holds S.faults shelf.old shelf.new)
         (streams R.rest R.faults W.written W.faults input.old out.old) (streams R.rest R.faults W.written W.faults input.new out.new)
         result.outcome }
-    ensures tables { SpeaksOf (IsBuiltProgram None (S.holds shelf.old)) (IsObjectTables (Some name.now) (S.holds shelf.old)) result.outcome result.tables }
+    ensures tables { SpeaksOf (λ fact. ⊥) (IsObjectTables (Some name.now) (S.holds shelf.old)) result.outcome result.tables }
     ensures shelf { S.holds shelf.new ≡ S.holds shelf.old }
 {
     match open(alloc, name, shelf) {

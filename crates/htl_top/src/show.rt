@@ -2,7 +2,6 @@
 ghost use Rattle.std.specs.Prelude.{◌≡◌, Some, None};
 ghost use Rattle.htl_edge.specs.Content.{Puts};
 ghost use Rattle.htl_top.specs.Answers.{files, IsWritten};
-ghost use Rattle.htl_top.specs.Causes.{IsBuiltProgram};
 ghost use Rattle.htl_top.specs.Objects.{IsTextOnObject, IsObjectTables};
 ghost use Rattle.htl_top.specs.Shown.{show_text};
 ghost use Rattle.htl_top.specs.Telling.{SpeaksOf};
@@ -36,7 +35,7 @@ fn list<W: Sink>(out: &mut W, l: &Loaded) -> Outcome
 pub fn show_file<S: Shelf, W: Sink>(alloc: Global, name: &str, shelf: &mut S, out: &mut W) -> Answer
     ensures answer { IsTextOnObject show_text (Some name.now) (files S.holds S.faults shelf.old shelf.new)
         (W.written out.old) (W.written out.new) (W.faults out.old) (W.faults out.new) result.outcome }
-    ensures tables { SpeaksOf (IsBuiltProgram None (S.holds shelf.old)) (IsObjectTables (Some name.now) (S.holds shelf.old)) result.outcome result.tables }
+    ensures tables { SpeaksOf (λ fact. ⊥) (IsObjectTables (Some name.now) (S.holds shelf.old)) result.outcome result.tables }
     ensures shelf { S.holds shelf.new ≡ S.holds shelf.old }
 {
     match open(alloc, name, shelf) {

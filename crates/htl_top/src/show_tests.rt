@@ -1,6 +1,6 @@
 // `show` over objects in memory.
-use crate::object_bytes::{DOUBLING, NO_MODULE, changed};
-use crate::tests::{Setting, drawer, is_answered};
+use crate::object_bytes::{DOUBLING, IDLING, NO_MODULE, REFINED, changed};
+use crate::tests::{Setting, drawer, edited, is_answered};
 use std::alloc::Global;
 use std::test::Fail;
 
@@ -25,6 +25,85 @@ S 0:0 dispatch 0 until 4
 S 0:1 end
 ";
 
+const REFINED_LISTED: &str = "sensor g bool period 10 init 0
+comm u int period 10 init 0
+module M start m
+module N start one parent M.m
+mode M.m period 10
+mode M.rest period 10
+mode N.one period 10
+mode N.two period 10
+inv M.m.plan worst 4 window 0 10 abstract
+inv N.one.f worst 3 window 0 10 parent M.m.plan
+inv N.two.h worst 4 window 0 10 parent M.m.plan
+fn 0 instrs 3
+fn 1 instrs 3
+fn 2 instrs 1
+fn 3 instrs 2
+fn 4 instrs 3
+E 0 enter M.m
+E 1 fork N
+E 2 future 10 switch 4
+E 3 return
+E 4 jumpif 0 6
+E 5 jump 2
+E 6 enter M.rest
+E 7 future 10 switch 9
+E 8 return
+E 9 jumpif 1 0
+E 10 jump 7
+E 11 enter N.one
+E 12 future 10 write 16
+E 13 future 0 read 18
+E 14 future 10 switch 21
+E 15 return
+E 16 call write N.one.f 0
+E 17 return
+E 18 call read N.one.f 0
+E 19 release N.one.f
+E 20 return
+E 21 ifmode M.m 24
+E 22 leave
+E 23 return
+E 24 jumpif 2 26
+E 25 jump 12
+E 26 enter N.two
+E 27 future 10 write 31
+E 28 future 0 read 33
+E 29 future 10 switch 36
+E 30 return
+E 31 call write N.two.h 0
+E 32 return
+E 33 call read N.two.h 0
+E 34 release N.two.h
+E 35 return
+E 36 ifmode M.m 39
+E 37 leave
+E 38 return
+E 39 jump 27
+S 0:0 dispatch 0 until 4
+S 0:1 end
+S 1:0 end
+";
+
+// E code for NO_MODULE that nothing reaches and whose items don't exist, and no S code.
+const UNREACHED: [u8; 39] = [
+    // seven instructions
+    0, 0, 0, 7, 8, 0, 7, 10, 0, 5, 3, 0, 9, 1, 0, 9, 0, 1, 2, 0, 9, 0, 2, 7, 0, 7, 0, 0, 0, 2, 5,
+    0, 4, 0, 0, 0, 3, 0, 0,
+];
+
+// Numbers stand for the names.
+const UNREACHED_LISTED: &str = "comm u int period 10 init 7
+E 0 enter 7
+E 1 fork 5
+E 2 release 9
+E 3 call write 9 1
+E 4 call read 9 2
+E 5 ifmode 7 2
+E 6 jumpif 4 3
+";
+
 // Whether `show` answers so to an object with other bytes from a place on, where a write fails or none does.
 fn shows(
     alloc: Global,
@@ -46,6 +125,18 @@ fn accepted_objects_are_listed(rt: HostRuntime) -> Result<(), Fail> {
     assert!(rt; shows(alloc, (&NO_MODULE, 0, &[]), 0, want)?);
     let want = (0, DOUBLING_LISTED.as_bytes(), "");
     assert!(rt; shows(alloc, (&DOUBLING, 0, &[]), 0, want)?);
+    let want = (0, REFINED_LISTED.as_bytes(), "");
+    assert!(rt; shows(alloc, (&REFINED, 0, &[]), 0, want)?);
+    let want = (0, UNREACHED_LISTED.as_bytes(), "");
+    assert!(rt; shows(alloc, (&NO_MODULE, 36, &UNREACHED), 0, want)?);
+    let listed = edited(
+        alloc,
+        DOUBLING_LISTED,
+        "S 0:0 dispatch 0 until 4\nS 0:1 end\n",
+        "S 0:0 idle until 3\nS 0:1 dispatch 0 until 7\nS 0:2 end\n",
+    )?;
+    let want = (0, listed.as_str().as_bytes(), "");
+    assert!(rt; shows(alloc, (&DOUBLING, 198, &IDLING), 0, want)?);
     let want = (
         10,
         b"sensor s int period 10 init 0\n".as_slice(),

@@ -1,120 +1,107 @@
-// The tables of a source.
-ghost use Rattle.std.specs.Prelude.{ℕ, List, ◌≡◌, ◌≤◌, ◌<◌, length};
+// From a source to the bytes of its object.
+ghost use Rattle.std.specs.Prelude.{◌≡◌, ◌≤◌, length, IfOk, IfErr};
 ghost use Rattle.htl_base.specs.declared.limits.TheConstants as limit;
-ghost use Rattle.htl_model.specs.Ranges.{AreInRange};
-ghost use Rattle.htl_names.specs.NameRules.{IsFirstNameFault};
-ghost use Rattle.htl_parse.specs.Answers.{Spell};
-ghost use Rattle.htl_text.specs.Bounds.{IsBounded};
-ghost use Rattle.htl_text.specs.Nodes.{tree_of};
-ghost use Rattle.htl_text.specs.Spans.{Tokens as IsTokens};
-ghost use Rattle.htl_top.specs.Sources.{Reads, BeginsAt, IsTablesOf, IsRead};
+ghost use Rattle.htl_compile.specs.Building.{IsCompiledTo};
+ghost use Rattle.htl_top.specs.Sources.{IsNotCompiled, outcome_of, tables_of, stop_of};
 
-use crate::SourceFault;
-use crate::unbuilt::first_unbuilt;
-use htl_form::form;
+use crate::Outcome;
+use crate::answer::Answer;
+use htl_base::{Memory, Time};
+use htl_compile::{BackFault, FrontFault, SourceFault, back, front};
 use htl_model::{FormFault, Tables};
-use htl_names::{NameFault, resolve};
-use htl_parse::{ParseFault, parse};
-use htl_text::{LexFault, Tokens, Tree, lex};
+use htl_object::encode;
 use std::alloc::Global;
 
-/// Why reading a source stops.
+/// Why no object is built of a source.
 #[derive(Drop)]
 pub enum SourceStop {
-    /// The source has no tables, or has a form that isn't built.
+    /// The source has no tables whose functions are compiled.
     Fault(SourceFault),
     /// Its tables break a form rule.
     IllFormed {
         /// The first that is broken, and where.
         fault: FormFault,
-        /// The tables.
+        /// The tables, with code for their functions.
         tables: Tables,
+    },
+    /// A root selection is overloaded.
+    Unschedulable {
+        selection: u32,
+        from: Time,
+        to: Time,
+        demand: u64,
     },
     /// No memory was left.
     Memory,
 }
 
-/// The tables of a source of at most 1,048,576 bytes, which can be run, or its one fault. Memory comes only where
-/// no memory was left.
-pub fn read_source(alloc: Global, bytes: &[u8]) -> Result<Tables, SourceStop>
+impl SourceStop {
+    /// The answer that tells of it, with the tables that its line speaks of.
+    pub fn answer(self) -> Answer
+        ensures outcome { result.outcome ≡ outcome_of self }
+        ensures tables { result.tables ≡ tables_of self }
+    {
+        match self {
+            SourceStop::Fault(fault) => Answer::plain(Outcome::Source(fault)),
+            SourceStop::IllFormed { fault, tables } => Answer {
+                outcome: Outcome::IllFormed(fault),
+                tables: Some(tables),
+            },
+            SourceStop::Unschedulable {
+                selection,
+                from,
+                to,
+                demand,
+            } => Answer::plain(Outcome::Unschedulable {
+                selection,
+                from,
+                to,
+                demand,
+            }),
+            SourceStop::Memory => Answer::plain(Outcome::Memory),
+        }
+    }
+}
+
+// A fault of tables with code, as what stops their source.
+fn stopped(tables: Tables, fault: BackFault) -> SourceStop
+    ensures { result ≡ stop_of tables fault }
+{
+    match fault {
+        BackFault::IllFormed(fault) => SourceStop::IllFormed { fault, tables },
+        BackFault::Unschedulable {
+            selection,
+            from,
+            to,
+            demand,
+        } => SourceStop::Unschedulable {
+            selection,
+            from,
+            to,
+            demand,
+        },
+        BackFault::Memory => SourceStop::Memory,
+    }
+}
+
+/// The bytes of the object of a source of at most 1,048,576 bytes, or its first fault: of the text, the names or the
+/// functions; else of the form rules; else the first root selection that is overloaded.
+pub fn compile_source(alloc: Global, bytes: &[u8]) -> Result<Vec<u8>, SourceStop>
     requires { length bytes.now ≤ limit.MAX_SOURCE }
-    ensures { IsRead bytes.now result }
+    ensures compiled { IfOk result (λ object. IsCompiledTo bytes.now object.items) }
+    ensures fault { IfErr result (IsNotCompiled bytes.now) }
 {
-    match lex(alloc, bytes) {
-        Ok(tokens) => read_tokens(alloc, &tokens),
-        Err(LexFault::Char { offset }) => Err(SourceStop::Fault(SourceFault::Char { at: offset })),
-        Err(LexFault::Number { offset }) => {
-            Err(SourceStop::Fault(SourceFault::Number { at: offset }))
-        }
-        Err(LexFault::NameLong { offset }) => {
-            Err(SourceStop::Fault(SourceFault::NameLong { at: offset }))
-        }
-        Err(LexFault::Memory) => Err(SourceStop::Memory),
-    }
-}
-
-fn read_tokens(alloc: Global, tokens: &Tokens) -> Result<Tables, SourceStop>
-    ensures { (bytes : List ℕ) → IsTokens bytes tokens.now → IsRead bytes result }
-{
-    match parse(alloc, tokens) {
-        Ok(tree) => read_tree(alloc, tokens, &tree),
-        Err(ParseFault::Syntax) => Err(SourceStop::Fault(SourceFault::Syntax)),
-        Err(ParseFault::Memory) => Err(SourceStop::Memory),
-        Err(ParseFault::Long { token }) => {
-            let at = tokens.offset(token as usize);
-            Err(SourceStop::Fault(SourceFault::Long { at }))
-        }
-    }
-}
-
-fn read_tree(alloc: Global, tokens: &Tokens, tree: &Tree) -> Result<Tables, SourceStop>
-    requires spelled { Spell tokens.now.tokens (tree_of tree.now) }
-    requires bounded { IsBounded (tree_of tree.now) }
-    ensures { (bytes : List ℕ) → Reads bytes tokens.now → IsRead bytes result }
-{
-    match resolve(alloc, tree) {
-        Ok(tables) => judge(tokens, tables),
-        Err(NameFault::Twice { token }) => {
-            let at = first_byte(tokens, token);
-            Err(SourceStop::Fault(SourceFault::Twice { at }))
-        }
-        Err(NameFault::Unknown { token }) => {
-            let at = first_byte(tokens, token);
-            Err(SourceStop::Fault(SourceFault::Unknown { at }))
-        }
-        Err(NameFault::Kind { token }) => {
-            let at = first_byte(tokens, token);
-            Err(SourceStop::Fault(SourceFault::Kind { at }))
-        }
-        Err(NameFault::NotATree { program }) => {
-            Err(SourceStop::Fault(SourceFault::NotATree { program }))
-        }
-        Err(NameFault::Limit { which, count }) => {
-            Err(SourceStop::Fault(SourceFault::Limit { which, count }))
-        }
-        Err(NameFault::Memory) => Err(SourceStop::Memory),
-    }
-}
-
-// The first byte of a token.
-fn first_byte(tokens: &Tokens, token: u32) -> u64
-    requires { token < length tokens.now.tokens }
-    ensures { (bytes : List ℕ) → IsTokens bytes tokens.now → BeginsAt tokens.now token result }
-{
-    tokens.offset(token as usize)
-}
-
-// Tables whose names are right, or the first form of the source that isn't built, or their first broken form rule.
-fn judge(tokens: &Tokens, tables: Tables) -> Result<Tables, SourceStop>
-    ensures { (bytes : List ℕ) (source : IsTablesOf bytes tables) → source.list ≡ tokens.now → IsRead bytes result }
-{
-    if let Some(token) = first_unbuilt(tokens.as_slice()) {
-        let at = tokens.offset(token);
-        return Err(SourceStop::Fault(SourceFault::NotBuilt { at }));
-    }
-    tables.keeps_ranges();
-    match form(&tables) {
-        Ok(()) => Ok(tables),
-        Err(fault) => Err(SourceStop::IllFormed { fault, tables }),
+    let tables = match front(alloc, bytes) {
+        Ok(tables) => tables,
+        Err(FrontFault::Source(fault)) => return Err(SourceStop::Fault(fault)),
+        Err(FrontFault::Memory) => return Err(SourceStop::Memory),
+    };
+    let object = match back(alloc, tables) {
+        Ok(object) => object,
+        Err((tables, fault)) => return Err(stopped(tables, fault)),
+    };
+    match encode(alloc, &object) {
+        Ok(bytes) => Ok(bytes),
+        Err(Memory) => Err(SourceStop::Memory),
     }
 }

@@ -1,4 +1,5 @@
 // The flat tables of sources, written by hand.
+use crate::samples;
 use crate::texts::tables_of;
 use htl_base::{BinOp, Name, Ty, UnOp};
 use htl_model::{Comm, End, Expr, Function, Inv, Mode, Module, Port, Switch, Tables, Task};
@@ -41,14 +42,7 @@ struct Source {
 }
 
 const ONE_DOUBLING_TASK: Source = Source {
-    text: "program P {
-  sensor int s period 10 init 0;
-  communicator int u period 10 init 7;
-  module M start m {
-    task dbl input (int x) output (int y = x * 2) worst 4;
-    mode m period 20 { invoke dbl input ((s, 0)) output ((u, 1)); }
-  }
-}",
+    text: samples::DOUBLING,
     comms: &[("s", Ty::Int, true, 10, 0), ("u", Ty::Int, false, 10, 7)],
     modules: &[("M", None, 0)],
     modes: &[("m", 0, 20)],
@@ -60,19 +54,7 @@ const ONE_DOUBLING_TASK: Source = Source {
 };
 
 const PREEMPTION: Source = Source {
-    text: "program P {
-  communicator int x period 2 init 1;
-  communicator int y period 2 init 0;
-  communicator int z period 10 init 0;
-  module M start m {
-    task a input (int i) output (int o = i + 1) worst 7;
-    task b input (int i) output (int o = i * 5) worst 3;
-    mode m period 10 {
-      invoke a input ((x, 0)) output ((z, 1));
-      invoke b input ((x, 1)) output ((y, 3));
-    }
-  }
-}",
+    text: samples::TWO_JOBS,
     comms: &[
         ("x", Ty::Int, false, 2, 1),
         ("y", Ty::Int, false, 2, 0),
@@ -94,19 +76,7 @@ const PREEMPTION: Source = Source {
 };
 
 const A_PORT: Source = Source {
-    text: "program P {
-  communicator int x period 10 init 2;
-  communicator int u period 10 init 0;
-  module M start m {
-    task p input (int i) output (int o = i + 5) worst 3;
-    task q input (int i) output (int o = i * 2) worst 4;
-    mode m period 10 {
-      port int k;
-      invoke q input (k) output ((u, 1));
-      invoke p input ((x, 0)) output (k);
-    }
-  }
-}",
+    text: samples::PORT,
     comms: &[("x", Ty::Int, false, 10, 2), ("u", Ty::Int, false, 10, 0)],
     modules: &[("M", None, 0)],
     modes: &[("m", 0, 10)],
@@ -124,29 +94,7 @@ const A_PORT: Source = Source {
 };
 
 const A_REFINED_TASK: Source = Source {
-    text: "program P {
-  communicator int u period 10 init 3;
-  communicator int w period 10 init 0;
-  sensor bool g period 10 init false;
-  module M start m {
-    abstract task plan input (int i) output (int o) worst 4;
-    task fix input (int i) output (int o = i + 1) worst 2;
-    mode m period 10 program Q {
-      invoke plan input ((w, 0)) output ((u, 1));
-      invoke fix input ((w, 0)) output ((w, 1));
-    }
-  }
-}
-program Q {
-  module N start off {
-    task fast input (int i) output (int o = i * 10) worst 3;
-    mode off period 10 { switch (g, on); }
-    mode on period 10 {
-      invoke fast input ((w, 0)) output ((u, 1)) parent plan;
-      switch (!g, off);
-    }
-  }
-}",
+    text: samples::SOMETIMES,
     comms: &[
         ("u", Ty::Int, false, 10, 3),
         ("w", Ty::Int, false, 10, 0),
@@ -170,26 +118,7 @@ program Q {
 };
 
 const A_LEFT_REFINEMENT: Source = Source {
-    text: "program P {
-  sensor bool g period 10 init false;
-  communicator int u period 10 init 0;
-  module M start m {
-    abstract task plan input () output (int o) worst 4;
-    mode m period 10 program Q { invoke plan input () output ((u, 1)); switch (g, rest); }
-    mode rest period 10 { switch (!g, m); }
-  }
-}
-program Q {
-  module N start one {
-    task f input (int i) output (int o = i + 1) worst 3;
-    task h input (int i) output (int o = i + 100) worst 4;
-    mode one period 10 {
-      invoke f input ((u, 0)) output ((u, 1)) parent plan;
-      switch (u >= 1, two);
-    }
-    mode two period 10 { invoke h input ((u, 0)) output ((u, 1)) parent plan; }
-  }
-}",
+    text: samples::REFINED,
     comms: &[("g", Ty::Bool, true, 10, 0), ("u", Ty::Int, false, 10, 0)],
     modules: &[("M", None, 0), ("N", Some(0), 2)],
     modes: &[
@@ -214,16 +143,7 @@ program Q {
 };
 
 const TWO_MODES: Source = Source {
-    text: "program P {
-  sensor bool g period 10 init false;
-  communicator int u period 10 init 0;
-  module M start one {
-    task f input (int i) output (int o = i + 1) worst 3;
-    task h input (int i) output (int o = i + 100) worst 4;
-    mode one period 10 { invoke f input ((u, 0)) output ((u, 1)); switch (g, two); }
-    mode two period 10 { invoke h input ((u, 0)) output ((u, 1)); switch (!g, one); }
-  }
-}",
+    text: samples::TWO_MODES,
     comms: &[("g", Ty::Bool, true, 10, 0), ("u", Ty::Int, false, 10, 0)],
     modules: &[("M", None, 0)],
     modes: &[("one", 0, 10), ("two", 0, 10)],
@@ -270,31 +190,7 @@ const TWO_PERIODS: Source = Source {
 };
 
 const TWO_TANKS: Source = Source {
-    text: "program Tanks {
-  sensor int h1 period 100 init 0;
-  sensor int h2 period 100 init 0;
-  communicator int u1 period 100 init 0;
-  communicator int u2 period 100 init 0;
-  module T1 start hold {
-    abstract task ctrl input (int h) output (int u) worst 120;
-    mode hold period 500 program Q1 { invoke ctrl input ((h1, 1)) output ((u1, 4)); }
-  }
-  module T2 start hold {
-    task direct input (int h) output (int u = if(h < 350, 100, 0)) worst 100;
-    mode hold period 500 { invoke direct input ((h2, 1)) output ((u2, 4)); }
-  }
-}
-program Q1 {
-  module C1 start p {
-    task prop input (int h) output (int u = (400 - h) * 2) worst 60;
-    task damp input (int h) output (int u = (400 - h) * 3 / 2) worst 110;
-    mode p period 500 {
-      invoke prop input ((h1, 1)) output ((u1, 4)) parent ctrl;
-      switch (u1 > 350, pi);
-    }
-    mode pi period 500 { invoke damp input ((h1, 1)) output ((u1, 4)) parent ctrl; }
-  }
-}",
+    text: samples::TANKS,
     comms: &[
         ("h1", Ty::Int, true, 100, 0),
         ("h2", Ty::Int, true, 100, 0),

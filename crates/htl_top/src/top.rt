@@ -2,52 +2,73 @@
 ghost use Rattle.std.specs.Prelude.{◌≡◌, ◌≤◌, ◌<◌, ◌↔◌, ◌⊎◌, ℕ, List, Option, Some, None, length};
 ghost use Rattle.std.specs.Io.KnownBytes.{append_known};
 ghost use Rattle.htl_base.specs.declared.limits.TheConstants as limit;
+ghost use Rattle.htl_compile.specs.Built.{built, CanBuild};
+ghost use Rattle.htl_compile.specs.Building.{IsCompileFault};
+ghost use Rattle.htl_compile.specs.Sources.{IsTablesOf};
+ghost use Rattle.htl_compile.specs.declared.compiling.CompileFault.{CompileFault};
+ghost use Rattle.htl_compile.specs.declared.compiling.CompileFault.TheVariants as failing;
+ghost use Rattle.htl_compile.specs.declared.source_fault.SourceFault.{SourceFault};
+ghost use Rattle.htl_compile.specs.declared.source_fault.SourceFault.TheVariants as fault_of;
+ghost use Rattle.htl_console.specs.declared.shown.Shown.{Shown};
+ghost use Rattle.htl_console.specs.declared.shown.Shown.TheVariants as shown;
 ghost use Rattle.htl_edge.specs.Causes.{Rose};
-ghost use Rattle.htl_edge.specs.Content.{AppendsPrefix};
+ghost use Rattle.htl_edge.specs.Content.{AppendsPrefix, none_left};
 ghost use Rattle.htl_load.specs.Loading.{RefusesBytes};
 ghost use Rattle.htl_load.specs.declared.fault.ObjectFault.{ObjectFault};
 ghost use Rattle.htl_model.specs.Tables.{Tables};
-ghost use Rattle.htl_model.specs.Broken.{IsFirstBroken};
 ghost use Rattle.htl_model.specs.declared.event.Event.{Event};
 ghost use Rattle.htl_model.specs.declared.form_fault.FormFault.{FormFault};
 ghost use Rattle.htl_object.specs.declared.object.Object.{Object};
 ghost use Rattle.htl_script.specs.declared.fault.ScriptFault.{ScriptFault};
 ghost use Rattle.htl_top.specs.Answers.{files, streams, IsBeforeScript, IsBeforeRun, Tells};
-ghost use Rattle.htl_top.specs.Calls.{IsCall};
-ghost use Rattle.htl_top.specs.Causes.{IsFaultOf, IsLongFile, IsFaultySource, IsProgram, IsBuiltProgram, IsIllFormed, IsGiven, IsReady, IsWholeRun, IsFaultyRun, IsCutRun, IsOrMemory};
+ghost use Rattle.htl_top.specs.Calls.{IsCall, HasSource, HasObject};
+ghost use Rattle.htl_top.specs.Causes.{IsFaultOf, IsLongFile, IsGiven, IsOrMemory};
 ghost use Rattle.htl_top.specs.Checked.{check_text};
-ghost use Rattle.htl_top.specs.Objects.{IsRefusedFile, IsAcceptedFile, IsReadyObject, IsObjectTables};
+ghost use Rattle.htl_top.specs.Compiling.{compiled_bytes, IsCompileCause};
+ghost use Rattle.htl_top.specs.Going.{IsReadySource};
+ghost use Rattle.htl_top.specs.Objects.{IsRefusedFile, IsAcceptedFile, IsReadyObject};
 ghost use Rattle.htl_top.specs.Planned.{IsWholePlan, IsCutPlan, IsBadSelection};
+ghost use Rattle.htl_top.specs.Runs.{IsWholeRun, IsFaultyRun, IsCutRun};
 ghost use Rattle.htl_top.specs.Scripts.{IsWhole, IsBad};
 ghost use Rattle.htl_top.specs.SelectionInput.{Whole, Bad, input_of};
 ghost use Rattle.htl_top.specs.Shown.{show_text};
-ghost use Rattle.htl_top.specs.Sources.{IsSourceFault, AreBuiltTables};
+ghost use Rattle.htl_top.specs.Sources.{IsProgram, IsInputProgram, answer_of};
 ghost use Rattle.htl_top.specs.Telling.{SpeaksOf, IsLineTold};
-ghost use Rattle.htl_top.specs.Words.{Go, Check, Plan, Show, command_in, source_in, object_in, source_of, object_of, with_file};
+ghost use Rattle.htl_top.specs.Words.{Go, Compile, Run, Check, Plan, Show, asked_for, command_in, source_in, object_in, with_file};
 ghost use Rattle.htl_top.specs.declared.outcome.ShelfCause.TheVariants as cause;
-ghost use Rattle.htl_top.specs.declared.source_fault.SourceFault.{SourceFault};
 
 use crate::Outcome;
 use crate::answer::Answer;
 use crate::check::check_file;
+use crate::compile::compile_input;
 use crate::fault_line::report;
 use crate::go::go_file;
 use crate::plan::plan_file;
+use crate::run::run_file;
 use crate::show::show_file;
-use crate::words::{Verb, read_words};
+use crate::words::{Asked, Verb, read_words};
+use htl_console::Shown;
 use htl_edge::{Shelf, Sink, Source};
 use std::alloc::Global;
 
 /// Does what the words of a command line say.
 ///
-/// With the words `go SRC` the source that `shelf` holds under SRC, of at most 1,048,576 bytes, is compiled and run
-/// with what `input` has left as its script; what the run writes goes to `out`. The first of these is the answer: `Shelf`; `Source`;
-/// `IllFormed`; `Read`, for which the whole script is read before the first line is written; `Write`; `Script`, after the lines of
-/// all instants before the last reading, or, where the fault stands behind the `end` line, all lines but the totals; `Done`.
+/// With the words `go SRC` the source that `shelf` holds under SRC, of at most 1,048,576 bytes, is compiled, its object is loaded, and
+/// it is run with what `input` has left as its script; what the run writes goes to `out`: values, modes, jobs and totals. The first of
+/// these is the answer: `Shelf`; `Source`; `IllFormed`; `Unschedulable`; `Read`, for which the whole script is read before the first
+/// line is written; `Write`; `Script`, after the lines of all instants before the last reading, or, where the fault stands behind the
+/// `end` line, all lines but the totals; `Done`.
 ///
-/// With the words `check OBJ` the object that `shelf` holds under OBJ, of at most 16,777,216 bytes, is tested, and one line goes to
-/// `out`: the number of root selections, and the greatest number of positions of one. Nothing is read. The first of these is the
-/// answer: `Shelf`; `Object`; `Write`; `Done`. With the words `show OBJ` its listing goes to `out` in place of that line.
+/// With the words `run OBJ` and `jobs OBJ` the object that `shelf` holds under OBJ, of at most 16,777,216 bytes, is tested and run in the
+/// same way; `run` shows values and modes, `jobs` the jobs too. The first of these is the answer: `Shelf`; `Object`; then as for `go`.
+///
+/// With the word `compile` the source is what `input` has left, and the bytes of its object go to `out`. The first of these is the
+/// answer: `Read`; `Source`, also for more than 1,048,576 bytes; `IllFormed`; `Unschedulable`; `Write`; `Done`. Nothing is written before
+/// all is judged.
+///
+/// With the words `check OBJ` the object is tested, and one line goes to `out`: the number of root selections, and the greatest number of
+/// positions of one. With the words `show OBJ` its listing goes to `out` in place of that line. Nothing is read. The first of these is
+/// the answer: `Shelf`; `Object`; `Write`; `Done`.
 ///
 /// With the words `plan OBJ` the object is tested likewise, `input` is read to its end as a line `mode MODULE MODE` for each module, and
 /// the slices and finishes of the jobs at these modes with their worst cases go to `out`, with a last line. The first of these is the
@@ -70,32 +91,49 @@ pub fn htl<S: Shelf, R: Source, W: Sink, E: Sink>(
     ensures shelf_long { (seen : ℕ) → result ≡ Outcome.Shelf (cause.TooLong seen) →
         IsLongFile limit.MAX_SOURCE (source_in words.now) (S.holds shelf.old) seen ⊎ IsLongFile limit.MAX_OBJECT (object_in words.now) (S.holds shelf.old) seen }
 
-    // Each answer of `go` and its cause.
-    ensures source { (fault : SourceFault) → result ≡ Outcome.Source fault → IsFaultySource (source_in words.now) (S.holds shelf.old) fault }
-    ensures ill_formed { (fault : FormFault) → result ≡ Outcome.IllFormed fault → IsIllFormed (source_in words.now) (S.holds shelf.old) fault }
+    // The faults of a source, in a file for `go` and as the input for `compile`.
+    ensures source { (fault : SourceFault) → result ≡ Outcome.Source fault →
+        IsCompileCause (command_in words.now) (S.holds shelf.old) (R.rest input.old) (failing.Source fault) }
+    ensures ill_formed { (fault : FormFault) → result ≡ Outcome.IllFormed fault →
+        IsCompileCause (command_in words.now) (S.holds shelf.old) (R.rest input.old) (failing.IllFormed fault) }
+    ensures unschedulable { (sel a b demand : ℕ) → result ≡ Outcome.Unschedulable sel a b demand →
+        IsCompileCause (command_in words.now) (S.holds shelf.old) (R.rest input.old) (failing.Unschedulable sel a b demand) }
+
+    // `go`: each other answer and its cause. `done` is the headline: the text is that of the object of the source's tables.
     ensures script { (name : List ℕ) → command_in words.now ≡ Some (Go name) → (fault : ScriptFault) → result ≡ Outcome.Script fault →
-        IsProgram (Some name) (S.holds shelf.old) (λ tables. IsFaultyRun tables (R.rest input.old) (W.written out.old) (W.written out.new) fault) }
+        IsProgram (Some name) (S.holds shelf.old) (λ t. IsFaultyRun shown.Jobs t (built t) (R.rest input.old) (W.written out.old) (W.written out.new) fault) }
     ensures read { (name : List ℕ) → command_in words.now ≡ Some (Go name) → result ≡ Outcome.Read → Rose (R.faults input.old) (R.faults input.new)
-        × IsProgram (Some name) (S.holds shelf.old) (λ tables. Unit {0}) }
+        × IsProgram (Some name) (S.holds shelf.old) (λ t. W.written out.new ≡ W.written out.old) }
     ensures write { (name : List ℕ) → command_in words.now ≡ Some (Go name) → result ≡ Outcome.Write → Rose (W.faults out.old) (W.faults out.new)
-        × IsProgram (Some name) (S.holds shelf.old) (λ tables. IsCutRun tables (R.rest input.old) (W.written out.old) (W.written out.new)) }
+        × IsProgram (Some name) (S.holds shelf.old) (λ t. IsCutRun shown.Jobs t (built t) (R.rest input.old) (W.written out.old) (W.written out.new)) }
     ensures done { (name : List ℕ) → command_in words.now ≡ Some (Go name) → result ≡ Outcome.Done →
-        IsProgram (Some name) (S.holds shelf.old) (λ tables. IsWholeRun tables (R.rest input.old) (R.rest input.new) (W.written out.old) (W.written out.new)) }
+        IsProgram (Some name) (S.holds shelf.old) (λ t. IsWholeRun shown.Jobs t (built t) (R.rest input.old) (R.rest input.new) (W.written out.old) (W.written out.new)) }
 
     // Where the cause stands and no earlier one, this is the answer of `go`, or Memory.
     ensures long_file { (bytes : List ℕ) → IsGiven (source_in words.now) (S.holds shelf.old) (S.faults shelf.old) (S.faults shelf.new) bytes
         → limit.MAX_SOURCE < length bytes → IsOrMemory result (Outcome.Shelf (cause.TooLong (length bytes))) }
     ensures faulty_source { (bytes : List ℕ) → IsGiven (source_in words.now) (S.holds shelf.old) (S.faults shelf.old) (S.faults shelf.new) bytes
-        → (fault : SourceFault) → length bytes ≤ limit.MAX_SOURCE → IsSourceFault bytes fault → IsOrMemory result (Outcome.Source fault) }
-    ensures broken_form { (bytes : List ℕ) → IsGiven (source_in words.now) (S.holds shelf.old) (S.faults shelf.old) (S.faults shelf.new) bytes
-        → (tables : Tables) (fault : FormFault) → length bytes ≤ limit.MAX_SOURCE → AreBuiltTables bytes tables → IsFirstBroken tables fault → IsOrMemory result (Outcome.IllFormed fault) }
-    ensures bad_script { (tables : Tables) (script : List ℕ)
-        → IsReady (source_in words.now) (S.holds shelf.old) (S.faults shelf.old) (S.faults shelf.new) (R.rest input.old) tables script
-        → (fault : ScriptFault) (events : List Event) → IsBad tables script fault events
+        → (fault : CompileFault) → (fault ≡ failing.Memory → ⊥) → length bytes ≤ limit.MAX_SOURCE → IsCompileFault bytes fault → IsOrMemory result (answer_of fault) }
+    ensures bad_script { (t : Tables) → IsReadySource (source_in words.now) (S.holds shelf.old) (S.faults shelf.old) (S.faults shelf.new) t
+        → (script : List ℕ) (fault : ScriptFault) (events : List Event) → R.rest input.old ≡ Some script → IsBad t script fault events
         → (Rose (R.faults input.old) (R.faults input.new) → ⊥) → (Rose (W.faults out.old) (W.faults out.new) → ⊥) → IsOrMemory result (Outcome.Script fault) }
-    ensures complete { (tables : Tables) (script : List ℕ)
-        → IsReady (source_in words.now) (S.holds shelf.old) (S.faults shelf.old) (S.faults shelf.new) (R.rest input.old) tables script
-        → (events : List Event) (end : ℕ) → IsWhole tables script events end
+    ensures complete { (t : Tables) → IsReadySource (source_in words.now) (S.holds shelf.old) (S.faults shelf.old) (S.faults shelf.new) t
+        → (script : List ℕ) (events : List Event) (end : ℕ) → R.rest input.old ≡ Some script → IsWhole t script events end
+        → (Rose (R.faults input.old) (R.faults input.new) → ⊥) → (Rose (W.faults out.old) (W.faults out.new) → ⊥) → IsOrMemory result Outcome.Done }
+
+    // `compile`: each other answer and its cause, and where this must be the answer, or Memory.
+    ensures compiled { command_in words.now ≡ Some Compile → result ≡ Outcome.Done → (R.rest input.new ≡ none_left (R.rest input.old))
+        × IsInputProgram (R.rest input.old) (λ t. W.written out.new ≡ append_known (W.written out.old) (compiled_bytes t)) }
+    ensures compile_cut { command_in words.now ≡ Some Compile → result ≡ Outcome.Write → Rose (W.faults out.old) (W.faults out.new)
+        × IsInputProgram (R.rest input.old) (λ t. AppendsPrefix (W.written out.old) (W.written out.new) (compiled_bytes t)) }
+    ensures compile_read { command_in words.now ≡ Some Compile → result ≡ Outcome.Read → Rose (R.faults input.old) (R.faults input.new)
+        × (W.written out.new ≡ W.written out.old) }
+    ensures long_input { command_in words.now ≡ Some Compile → (bytes : List ℕ) → R.rest input.old ≡ Some bytes → limit.MAX_SOURCE < length bytes
+        → (Rose (R.faults input.old) (R.faults input.new) → ⊥) → IsOrMemory result (Outcome.Source (fault_of.TooLong 1048577)) }
+    ensures faulty_input { command_in words.now ≡ Some Compile → (bytes : List ℕ) → R.rest input.old ≡ Some bytes → length bytes ≤ limit.MAX_SOURCE
+        → (fault : CompileFault) → (fault ≡ failing.Memory → ⊥) → IsCompileFault bytes fault → (Rose (R.faults input.old) (R.faults input.new) → ⊥) → IsOrMemory result (answer_of fault) }
+    ensures compile_complete { command_in words.now ≡ Some Compile → (bytes : List ℕ) → R.rest input.old ≡ Some bytes → length bytes ≤ limit.MAX_SOURCE
+        → (t : Tables) → IsTablesOf bytes t → CanBuild t
         → (Rose (R.faults input.old) (R.faults input.new) → ⊥) → (Rose (W.faults out.old) (W.faults out.new) → ⊥) → IsOrMemory result Outcome.Done }
 
     // The object of the other commands: its faults, and where this must be the answer, or Memory.
@@ -104,6 +142,24 @@ pub fn htl<S: Shelf, R: Source, W: Sink, E: Sink>(
         → limit.MAX_OBJECT < length bytes → IsOrMemory result (Outcome.Shelf (cause.TooLong (length bytes))) }
     ensures faulty_object { (bytes : List ℕ) → IsGiven (object_in words.now) (S.holds shelf.old) (S.faults shelf.old) (S.faults shelf.new) bytes
         → (fault : ObjectFault) → length bytes ≤ limit.MAX_OBJECT → RefusesBytes bytes fault → IsOrMemory result (Outcome.Object fault) }
+
+    // `run` and `jobs`: each other answer and its cause, and where this must be the answer, or Memory.
+    ensures ran { (show : Shown) (name : List ℕ) → command_in words.now ≡ Some (Run show name) → result ≡ Outcome.Done →
+        IsAcceptedFile (Some name) (S.holds shelf.old) (λ o. IsWholeRun show o.tables o (R.rest input.old) (R.rest input.new) (W.written out.old) (W.written out.new)) }
+    ensures run_fault { (show : Shown) (name : List ℕ) → command_in words.now ≡ Some (Run show name) → (fault : ScriptFault) → result ≡ Outcome.Script fault →
+        IsAcceptedFile (Some name) (S.holds shelf.old) (λ o. IsFaultyRun show o.tables o (R.rest input.old) (W.written out.old) (W.written out.new) fault) }
+    ensures run_read { (show : Shown) (name : List ℕ) → command_in words.now ≡ Some (Run show name) → result ≡ Outcome.Read →
+        Rose (R.faults input.old) (R.faults input.new) × (W.written out.new ≡ W.written out.old) }
+    ensures run_cut { (show : Shown) (name : List ℕ) → command_in words.now ≡ Some (Run show name) → result ≡ Outcome.Write → Rose (W.faults out.old) (W.faults out.new)
+        × IsAcceptedFile (Some name) (S.holds shelf.old) (λ o. IsCutRun show o.tables o (R.rest input.old) (W.written out.old) (W.written out.new)) }
+    ensures run_bad_script { (show : Shown) (name : List ℕ) (o : Object) → command_in words.now ≡ Some (Run show name)
+        → IsReadyObject (Some name) (S.holds shelf.old) (S.faults shelf.old) (S.faults shelf.new) o
+        → (script : List ℕ) (fault : ScriptFault) (events : List Event) → R.rest input.old ≡ Some script → IsBad o.tables script fault events
+        → (Rose (R.faults input.old) (R.faults input.new) → ⊥) → (Rose (W.faults out.old) (W.faults out.new) → ⊥) → IsOrMemory result (Outcome.Script fault) }
+    ensures run_complete { (show : Shown) (name : List ℕ) (o : Object) → command_in words.now ≡ Some (Run show name)
+        → IsReadyObject (Some name) (S.holds shelf.old) (S.faults shelf.old) (S.faults shelf.new) o
+        → (script : List ℕ) (events : List Event) (end : ℕ) → R.rest input.old ≡ Some script → IsWhole o.tables script events end
+        → (Rose (R.faults input.old) (R.faults input.new) → ⊥) → (Rose (W.faults out.old) (W.faults out.new) → ⊥) → IsOrMemory result Outcome.Done }
 
     // `check` writes its line and reads nothing.
     ensures checked { (name : List ℕ) → command_in words.now ≡ Some (Check name) → result ≡ Outcome.Done →
@@ -146,11 +202,11 @@ pub fn htl<S: Shelf, R: Source, W: Sink, E: Sink>(
     // What stays as it was.
     ensures memory { result ≡ Outcome.Memory → W.written out.new ≡ W.written out.old }
     ensures unwritten { IsBeforeRun result → W.written out.new ≡ W.written out.old }
-    ensures unread { IsBeforeScript result → R.rest input.new ≡ R.rest input.old }
+    ensures unread { (command_in words.now ≡ Some Compile → ⊥) → IsBeforeScript result → R.rest input.new ≡ R.rest input.old }
     ensures shelf { S.holds shelf.new ≡ S.holds shelf.old }
 
     // What tells of the answer.
-    ensures told { IsLineTold (IsBuiltProgram (source_in words.now) (S.holds shelf.old)) (IsObjectTables (object_in words.now) (S.holds shelf.old))
+    ensures told { IsLineTold (HasSource (command_in words.now) (S.holds shelf.old) (R.rest input.old)) (HasObject (command_in words.now) (S.holds shelf.old))
         (Tells (E.written err.old) (E.written err.new) (E.faults err.old) (E.faults err.new)) result }
     ensures quiet { result ≡ Outcome.Done → E.written err.new ≡ E.written err.old }
 
@@ -160,13 +216,13 @@ pub fn htl<S: Shelf, R: Source, W: Sink, E: Sink>(
         (streams R.rest R.faults W.written W.faults input.old out.old) (streams R.rest R.faults W.written W.faults input.new out.new)
         result }
 {
-    let answer = run(alloc, words, shelf, input, out);
+    let answer = answer_to(alloc, words, shelf, input, out);
     report(err, answer.tables.as_ref(), &answer.outcome);
     answer.outcome
 }
 
 // All but the telling of the answer.
-fn run<S: Shelf, R: Source, W: Sink>(
+fn answer_to<S: Shelf, R: Source, W: Sink>(
     alloc: Global,
     words: &[&str],
     shelf: &mut S,
@@ -177,17 +233,38 @@ fn run<S: Shelf, R: Source, W: Sink>(
         (files S.holds S.faults shelf.old shelf.new)
         (streams R.rest R.faults W.written W.faults input.old out.old) (streams R.rest R.faults W.written W.faults input.new out.new)
         result.outcome }
-    ensures tables { SpeaksOf (IsBuiltProgram (source_in words.now) (S.holds shelf.old)) (IsObjectTables (object_in words.now) (S.holds shelf.old)) result.outcome result.tables }
+    ensures tables { SpeaksOf (HasSource (command_in words.now) (S.holds shelf.old) (R.rest input.old)) (HasObject (command_in words.now) (S.holds shelf.old)) result.outcome result.tables }
     ensures shelf { S.holds shelf.new ≡ S.holds shelf.old }
 {
     match read_words(words) {
-        Some(asked) => answered(alloc, asked.verb, asked.name, shelf, input, out),
+        Some(asked) => answered(alloc, asked, shelf, input, out),
         None => Answer::plain(Outcome::Usage),
     }
 }
 
-// The answer of a command, by its verb.
+// The answer of a command.
 fn answered<S: Shelf, R: Source, W: Sink>(
+    alloc: Global,
+    asked: Asked<'_>,
+    shelf: &mut S,
+    input: &mut R,
+    out: &mut W,
+) -> Answer
+    ensures answer { IsCall (Some (asked_for asked.entry))
+        (files S.holds S.faults shelf.old shelf.new)
+        (streams R.rest R.faults W.written W.faults input.old out.old) (streams R.rest R.faults W.written W.faults input.new out.new)
+        result.outcome }
+    ensures tables { SpeaksOf (HasSource (Some (asked_for asked.entry)) (S.holds shelf.old) (R.rest input.old)) (HasObject (Some (asked_for asked.entry)) (S.holds shelf.old)) result.outcome result.tables }
+    ensures shelf { S.holds shelf.new ≡ S.holds shelf.old }
+{
+    match asked {
+        Asked::Compile => compile_input(alloc, input, out),
+        Asked::File { verb, name } => about_file(alloc, verb, name, shelf, input, out),
+    }
+}
+
+// The answer of a command with the name of a file, by its verb.
+fn about_file<S: Shelf, R: Source, W: Sink>(
     alloc: Global,
     verb: Verb,
     name: &str,
@@ -199,11 +276,13 @@ fn answered<S: Shelf, R: Source, W: Sink>(
         (files S.holds S.faults shelf.old shelf.new)
         (streams R.rest R.faults W.written W.faults input.old out.old) (streams R.rest R.faults W.written W.faults input.new out.new)
         result.outcome }
-    ensures tables { SpeaksOf (IsBuiltProgram (source_of (Some (with_file verb name.now))) (S.holds shelf.old)) (IsObjectTables (object_of (Some (with_file verb name.now))) (S.holds shelf.old)) result.outcome result.tables }
+    ensures tables { SpeaksOf (HasSource (Some (with_file verb name.now)) (S.holds shelf.old) (R.rest input.old)) (HasObject (Some (with_file verb name.now)) (S.holds shelf.old)) result.outcome result.tables }
     ensures shelf { S.holds shelf.new ≡ S.holds shelf.old }
 {
     match verb {
         Verb::Go => go_file(alloc, name, shelf, input, out),
+        Verb::Run => run_file(alloc, name, Shown::Values, shelf, input, out),
+        Verb::Jobs => run_file(alloc, name, Shown::Jobs, shelf, input, out),
         Verb::Check => check_file(alloc, name, shelf, out),
         Verb::Plan => plan_file(alloc, name, shelf, input, out),
         Verb::Show => show_file(alloc, name, shelf, out),

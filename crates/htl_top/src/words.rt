@@ -1,13 +1,17 @@
 // The words of a command.
-ghost use Rattle.std.specs.Prelude.{◌≡◌};
+ghost use Rattle.std.specs.Prelude.{◌≡◌, Option, None, Some, List, ℕ};
 ghost use Rattle.std.specs.Option.{option_map};
-ghost use Rattle.htl_top.specs.Words.{verb_of as verb_of_of, with_file, command_in};
+ghost use Rattle.htl_top.specs.Words.{verb_of as verb_of_of, command_in, asked_for};
 
 /// What a command does with the file that it names.
 #[derive(Clone, Copy, PartialEq, Eq, Debug)]
 pub enum Verb {
-    /// Runs a source.
+    /// Compiles a source and runs it.
     Go,
+    /// Runs an object, and shows values and modes.
+    Run,
+    /// Runs an object, and shows the jobs too.
+    Jobs,
     /// Tests an object.
     Check,
     /// Writes the round of an object at a selection of running modes.
@@ -18,10 +22,11 @@ pub enum Verb {
 
 /// A command.
 #[derive(Clone, Copy)]
-pub struct Asked<'a> {
-    pub verb: Verb,
-    /// The name of the file.
-    pub name: &'a str,
+pub enum Asked<'a> {
+    /// Compiles the source that the input is.
+    Compile,
+    /// A verb and the name of a file.
+    File { verb: Verb, name: &'a str },
 }
 
 // The verb that a word names.
@@ -30,6 +35,10 @@ fn verb_of(word: &str) -> Option<Verb>
 {
     if word == "go" {
         Some(Verb::Go)
+    } else if word == "run" {
+        Some(Verb::Run)
+    } else if word == "jobs" {
+        Some(Verb::Jobs)
     } else if word == "check" {
         Some(Verb::Check)
     } else if word == "plan" {
@@ -41,15 +50,16 @@ fn verb_of(word: &str) -> Option<Verb>
     }
 }
 
-/// The command that words ask for; None where they are none: a verb and the name of a file.
+/// The command that words ask for; None where they are none: `compile` alone, or a verb and the name of a file.
 pub fn read_words<'a>(words: &[&'a str]) -> Option<Asked<'a>>
-    ensures { command_in words.now ≡ option_map (λ a. with_file a.verb a.name.now) result }
+    ensures { command_in words.now ≡ option_map asked_for result }
 {
-    let [word, name] = words else {
-        return None;
-    };
-    match verb_of(word) {
-        Some(verb) => Some(Asked { verb, name }),
-        None => None,
+    match words {
+        [word] if *word == "compile" => Some(Asked::Compile),
+        [word, name] => match verb_of(word) {
+            Some(verb) => Some(Asked::File { verb, name }),
+            None => None,
+        },
+        _ => None,
     }
 }

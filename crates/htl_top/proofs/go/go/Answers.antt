@@ -1,16 +1,33 @@
-use Rattle.std.proofs.Common.{sym, subst}
-use Rattle.htl_top.proofs.Answering.{IsGoAnswer-executed}
-use Rattle.htl_top.proofs.SourceLaws.{tables_plain}
-use Rattle.htl_top.specs.Answers.{streams, IsGoAnswer}
-use Rattle.htl_top.specs.declared.outcome.Outcome.{Outcome}
+use Rattle.std.proofs.Common.{inl}
+use Rattle.htl_compile.specs.Built.{built}
+use Rattle.htl_console.specs.declared.shown.Shown.TheVariants.{Jobs}
+use Rattle.htl_top.proofs.Going.{bytes_run}
+use Rattle.htl_top.proofs.LineTelling.{SpeaksOf-run, SpeaksOf-stop}
+use Rattle.htl_top.proofs.Stopping.{of_answer}
+use Rattle.htl_top.specs.Answers.{streams}
+use Rattle.htl_top.specs.Sources.{HasTypedTables}
+use Rattle.htl_top.specs.Telling.{SpeaksOf}
 use Rattle.htl_top.proofs.go.go.Goals as goal
-
-pub execute-requires : goal.execute-requires
-execute-requires g c = tables_plain c.args.bytes.now c.in-Ok.tables c.in-Ok.ensures.0.compiled c.in-Ok.ensures.1
 
 pub returns-in-Ok-clause-answer : goal.returns-in-Ok-clause-answer
 returns-in-Ok-clause-answer g c =
     let side = streams g.R.Source.rest g.R.Source.faults g.W.Sink.written g.W.Sink.faults in
-    subst (λ (o : Outcome). IsGoAnswer c.args.bytes.now (side c.args.input.now c.args.out.now) (side c.execute.new.input c.execute.new.out) o) (sym c.plain.ensures.outcome)
-    (IsGoAnswer-executed c.args.bytes.now c.in-Ok.tables (side c.args.input.now c.args.out.now) (side c.execute.new.input c.execute.new.out) c.execute.result
-    c.in-Ok.ensures.0 c.execute.ensures)
+    inl (
+    bytes_run c.args.bytes.now c.in-Ok.object.items c.as_slice.result.now (side c.args.input.now c.args.out.now) (side c.run_compiled.new.input c.run_compiled.new.out)
+    c.plain.result.outcome c.run_compiled.result c.as_slice.ensures.value c.plain.ensures.outcome c.in-Ok.ensures.compiled c.run_compiled.ensures
+    )
+
+pub returns-in-Ok-clause-tables : goal.returns-in-Ok-clause-tables
+returns-in-Ok-clause-tables g c =
+    let side = streams g.R.Source.rest g.R.Source.faults g.W.Sink.written g.W.Sink.faults in
+    let old = side c.args.input.now c.args.out.now in
+    let new = side c.run_compiled.new.input c.run_compiled.new.out in
+    let has =
+    bytes_run c.args.bytes.now c.in-Ok.object.items c.as_slice.result.now old new
+    c.plain.result.outcome c.run_compiled.result c.as_slice.ensures.value c.plain.ensures.outcome c.in-Ok.ensures.compiled c.run_compiled.ensures in
+    SpeaksOf-run (HasTypedTables c.args.bytes.now) (λ fact. ⊥) Jobs has.tables (built has.tables) old new c.plain.result.outcome c.plain.result.tables has.fact
+
+pub returns-in-Err-clause-tables : goal.returns-in-Err-clause-tables
+returns-in-Err-clause-tables g c =
+    of_answer (SpeaksOf (HasTypedTables c.args.bytes.now) (λ fact. ⊥)) c.in-Err.stop c.answer.result.outcome c.answer.result.tables c.answer.ensures.outcome c.answer.ensures.tables
+    (SpeaksOf-stop (λ fact. ⊥) c.args.bytes.now c.in-Err.stop c.in-Err.ensures.fault)

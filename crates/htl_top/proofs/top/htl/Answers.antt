@@ -1,10 +1,10 @@
-use Rattle.htl_top.proofs.Answering as answering
 use Rattle.htl_top.proofs.Calling as calling
 use Rattle.htl_top.proofs.LineTelling as telling
-use Rattle.std.proofs.Common.{subst, Some}
+use Rattle.std.proofs.Common.{subst}
+use Rattle.htl_compile.specs.declared.compiling.CompileFault.TheVariants as compile
 use Rattle.htl_top.specs.Answers.{files, streams, Tells}
 use Rattle.htl_top.specs.Calls.{IsCall}
-use Rattle.htl_top.specs.Words.{command_in, source_in, object_in}
+use Rattle.htl_top.specs.Words.{command_in}
 use Rattle.htl_top.specs.declared.outcome.Outcome.{Outcome}
 use Rattle.htl_top.specs.declared.outcome.Outcome.TheVariants.{Memory}
 use Rattle.htl_top.proofs.top.htl.Goals as goal
@@ -12,38 +12,43 @@ use Rattle.htl_top.proofs.top.htl.Goals as goal
 pub returns : goal.returns
 returns g c =
     let command = command_in c.args.words.now in
-    let name = source_in c.args.words.now in
-    let shelf = files g.S.Shelf.holds g.S.Shelf.faults c.args.shelf.now c.run-answer.new.shelf in
+    let shelf = files g.S.Shelf.holds g.S.Shelf.faults c.args.shelf.now c.answer_to-answer.new.shelf in
     let side = streams g.R.Source.rest g.R.Source.faults g.W.Sink.written g.W.Sink.faults in
     let old = side c.args.input.now c.args.out.now in
-    let new = side c.run-answer.new.input c.run-answer.new.out in
-    let outcome = c.run-answer.result.outcome in
-    let answer = c.run-answer.ensures.answer in
+    let new = side c.answer_to-answer.new.input c.answer_to-answer.new.out in
+    let outcome = c.answer_to-answer.result.outcome in
+    let answer = c.answer_to-answer.ensures.answer in
+    let Answered : Outcome → Type 0 = λ o. IsCall command shelf old new o in
     record {
       usage = calling.usage shelf old new command outcome answer;
-      shelf_failed = λ e. calling.shelf_failed shelf old new command (subst (λ (o : Outcome). IsCall command shelf old new o) e answer);
-      shelf_long = λ seen e. calling.shelf_long shelf old new command seen (subst (λ (o : Outcome). IsCall command shelf old new o) e answer);
-      source = λ fault e. calling.source shelf old new command fault (subst (λ (o : Outcome). IsCall command shelf old new o) e answer);
-      ill_formed = λ fault e. calling.ill_formed shelf old new command fault (subst (λ (o : Outcome). IsCall command shelf old new o) e answer);
-      script = λ word is. answering.script (Some word) shelf old new outcome (calling.going shelf old new command word outcome is answer);
-      read = λ word is. answering.read (Some word) shelf old new outcome (calling.going shelf old new command word outcome is answer);
-      write = λ word is. answering.write (Some word) shelf old new outcome (calling.going shelf old new command word outcome is answer);
-      done = λ word is. answering.done (Some word) shelf old new outcome (calling.going shelf old new command word outcome is answer);
-      long_file = λ bytes given.
-          answering.long_file name shelf old new bytes given outcome (calling.of_source shelf old new command given.word outcome given.named answer);
-      faulty_source = λ bytes given.
-          answering.faulty_source name shelf old new bytes given outcome (calling.of_source shelf old new command given.word outcome given.named answer);
-      broken_form = λ bytes given.
-          answering.broken_form name shelf old new bytes given outcome (calling.of_source shelf old new command given.word outcome given.named answer);
-      bad_script = λ tables script ready.
-          answering.bad_script name shelf old new tables script ready outcome
-          (calling.of_source shelf old new command ready.given.word outcome ready.given.named answer);
-      complete = λ tables script ready.
-          answering.complete name shelf old new tables script ready outcome
-          (calling.of_source shelf old new command ready.given.word outcome ready.given.named answer);
-      object = λ fault e. calling.object shelf old new command fault (subst (λ (o : Outcome). IsCall command shelf old new o) e answer);
+      shelf_failed = λ e. calling.shelf_failed shelf old new command (subst Answered e answer);
+      shelf_long = λ seen e. calling.shelf_long shelf old new command seen (subst Answered e answer);
+      source = λ fault e. calling.cause shelf old new command (compile.Source fault) (λ m. cc) (subst Answered e answer);
+      ill_formed = λ fault e. calling.cause shelf old new command (compile.IllFormed fault) (λ m. cc) (subst Answered e answer);
+      unschedulable = λ sel a b demand e. calling.cause shelf old new command (compile.Unschedulable sel a b demand) (λ m. cc) (subst Answered e answer);
+      script = calling.script shelf old new command outcome answer;
+      read = calling.read shelf old new command outcome answer;
+      write = calling.write shelf old new command outcome answer;
+      done = calling.done shelf old new command outcome answer;
+      long_file = λ bytes given. calling.long_file shelf old new command bytes outcome given answer;
+      faulty_source = λ bytes given. calling.faulty_source shelf old new command bytes outcome given answer;
+      bad_script = calling.bad_script shelf old new command outcome answer;
+      complete = calling.complete shelf old new command outcome answer;
+      compiled = calling.compiled shelf old new command outcome answer;
+      compile_cut = calling.compile_cut shelf old new command outcome answer;
+      compile_read = calling.compile_read shelf old new command outcome answer;
+      long_input = calling.long_input shelf old new command outcome answer;
+      faulty_input = calling.faulty_input shelf old new command outcome answer;
+      compile_complete = calling.compile_complete shelf old new command outcome answer;
+      object = λ fault e. calling.object shelf old new command fault (subst Answered e answer);
       long_object = λ bytes given. calling.long_object shelf old new command bytes outcome given answer;
       faulty_object = λ bytes given. calling.faulty_object shelf old new command bytes outcome given answer;
+      ran = calling.ran shelf old new command outcome answer;
+      run_fault = calling.run_fault shelf old new command outcome answer;
+      run_read = calling.run_read shelf old new command outcome answer;
+      run_cut = calling.run_cut shelf old new command outcome answer;
+      run_bad_script = calling.run_bad_script shelf old new command outcome answer;
+      run_complete = calling.run_complete shelf old new command outcome answer;
       checked = calling.checked shelf old new command outcome answer;
       check_cut = calling.check_cut shelf old new command outcome answer;
       check_unread = calling.check_unread shelf old new command outcome answer;
@@ -58,15 +63,14 @@ returns g c =
       plan_read = calling.plan_read shelf old new command outcome answer;
       bad_selection = calling.bad_selection shelf old new command outcome answer;
       plan_complete = calling.plan_complete shelf old new command outcome answer;
-      memory = λ e.
-          calling.unwritten shelf old new command Memory (subst (λ (o : Outcome). IsCall command shelf old new o) e answer) tt;
+      memory = λ e. calling.unwritten shelf old new command Memory (subst Answered e answer) tt;
       unwritten = calling.unwritten shelf old new command outcome answer;
       unread = calling.unread shelf old new command outcome answer;
-      shelf = c.run-answer.ensures.shelf;
+      shelf = c.answer_to-answer.ensures.shelf;
       told =
-          telling.IsLineTold-report name (object_in c.args.words.now) shelf.holds
+          telling.IsLineTold-report command shelf.holds old.rest
           (Tells (g.E.Sink.written c.args.err.now) (g.E.Sink.written c.report.new.err) (g.E.Sink.faults c.args.err.now) (g.E.Sink.faults c.report.new.err))
-          c.run-answer.result.tables outcome c.run-answer.ensures.tables (rw c.as_ref.ensures.value at c.report.ensures.told);
+          c.answer_to-answer.result.tables outcome c.answer_to-answer.ensures.tables (rw c.as_ref.ensures.value at c.report.ensures.told);
       quiet = c.report.ensures.quiet;
       answer = answer;
     }

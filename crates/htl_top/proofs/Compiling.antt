@@ -1,0 +1,150 @@
+-- What `compile` answers, by its input.
+use Rattle.std.proofs.Common.{arith, ◌≡◌, ◌≤◌, ◌<◌, ℕ, List, length, Option, Some, refl, sym, ap, subst, inl, inr}
+use Rattle.std.specs.Prelude.{IfSome}
+use Rattle.std.specs.Io.KnownBytes.{append_known}
+use Rattle.htl_compile.proofs.Completeness.{compile_only_memory, one_compile_fault}
+use Rattle.htl_compile.specs.Building.{IsCompiledTo, IsCompileFault}
+use Rattle.htl_compile.specs.Built.{CanBuild}
+use Rattle.htl_compile.specs.Sources.{IsTablesOf}
+use Rattle.htl_compile.specs.declared.compiling.CompileFault.{CompileFault}
+use Rattle.htl_compile.specs.declared.compiling.CompileFault.TheVariants as compile
+use Rattle.htl_compile.specs.declared.source_fault.SourceFault.TheVariants as source
+use Rattle.htl_edge.specs.Causes.{Rose}
+use Rattle.htl_edge.specs.Content.{AppendsPrefix, none_left}
+use Rattle.htl_model.specs.Tables.{Tables}
+use Rattle.htl_top.specs.Answers.{Streams, IsBeforeRun}
+use Rattle.htl_top.specs.Causes.{IsOrMemory}
+use Rattle.htl_top.specs.Compiling.{IsCompiling, IsBytesCompiled, compiled_bytes}
+use Rattle.htl_top.specs.Sources.{IsInput, IsInputProgram, IsFaultyInput, IsLongInput, IsInputFault, IsNotCompiled, answer_of, outcome_of}
+use Rattle.htl_top.specs.declared.outcome.Outcome.{Outcome}
+use Rattle.htl_top.specs.declared.outcome.Outcome.TheVariants.{Done, Usage, Source, IllFormed, Unschedulable, Object as Refused, Script, Shelf, Read, Write, Memory}
+use Rattle.htl_top.specs.declared.source.SourceStop.{SourceStop}
+use Rattle.htl_top.specs.declared.source.SourceStop.TheVariants as stop
+
+-- ---- from the source to the input
+
+-- the input has a program whose object has these bytes
+program : (rest : Option (List ℕ)) (bytes object : List ℕ) (Fact : List ℕ → Type 0) → IsInput rest bytes → IsCompiledTo bytes object → Fact object → IsInputProgram rest (λ t. Fact (compiled_bytes t))
+program rest bytes object Fact input c fact =
+    record { bytes = bytes; input = input; has = record { tables = c.tables; of = c.of; can = c.can; fact = subst Fact c.is fact } }
+
+uncompiled : (old new : Streams) (bytes : List ℕ) (s : SourceStop) → IsInput old.rest bytes → new.written ≡ old.written → IsNotCompiled bytes s → IsCompiling old new (outcome_of s)
+uncompiled old new bytes (stop.Fault f) input same is = (inr (record { bytes = bytes; input = input; fault = is }), same)
+uncompiled old new bytes (stop.IllFormed f u) input same is = (inr (record { bytes = bytes; input = input; fault = is.0 }), same)
+uncompiled old new bytes (stop.Unschedulable sel a b demand) input same is = (inr (record { bytes = bytes; input = input; fault = is }), same)
+uncompiled old new bytes stop.Memory input same is = same
+
+pub IsCompiling-bytes : (old new : Streams) (bytes : List ℕ) (outcome : Outcome) → IsInput old.rest bytes → new.rest ≡ none_left old.rest
+    → IsBytesCompiled bytes old.written new.written old.write_faults new.write_faults outcome → IsCompiling old new outcome
+IsCompiling-bytes old new bytes outcome input left compiled = elim compiled [
+  | inl c ↦ elim c.2 [
+    | inl w ↦
+        subst (λ (o : Outcome). IsCompiling old new o) (sym w.0)
+        (left, program old.rest bytes c.0 (λ (object : List ℕ). new.written ≡ append_known old.written object) input c.1 w.1)
+    | inr w ↦
+        subst (λ (o : Outcome). IsCompiling old new o) (sym w.0)
+        (w.1, program old.rest bytes c.0 (λ (object : List ℕ). AppendsPrefix old.written new.written object) input c.1 w.2)
+  ]
+  | inr s ↦ subst (λ (o : Outcome). IsCompiling old new o) (sym s.2) (uncompiled old new bytes s.0 input s.3 s.1)
+]
+
+-- ---- the clauses
+
+module _ (old new : Streams) where
+  pub cause : (f : CompileFault) → (f ≡ compile.Memory → ⊥) → IsCompiling old new (answer_of f) → IsInputFault old.rest f
+  cause (compile.Source f) told compiling = compiling.0
+  cause (compile.IllFormed f) told compiling = compiling.0
+  cause (compile.Unschedulable sel a b demand) told compiling = compiling.0
+  cause compile.Memory told compiling = absurd (told refl)
+
+  pub unwritten : (outcome : Outcome) → IsCompiling old new outcome → IsBeforeRun outcome → new.written ≡ old.written
+  unwritten Done compiling early = absurd early
+  unwritten Write compiling early = absurd early
+  unwritten Read compiling early = compiling.1
+  unwritten (Source f) compiling early = compiling.1
+  unwritten (IllFormed f) compiling early = compiling.1
+  unwritten (Unschedulable sel a b demand) compiling early = compiling.1
+  unwritten Memory compiling early = compiling
+  unwritten Usage compiling early = absurd compiling
+  unwritten (Refused f) compiling early = absurd compiling
+  unwritten (Script f) compiling early = absurd compiling
+  unwritten (Shelf cause) compiling early = absurd compiling
+
+  -- ---- of an input that is told
+
+  module _ (bytes : List ℕ) (told : old.rest ≡ Some bytes) where
+    given : (P : List ℕ → Type 0) → IfSome old.rest P → P bytes
+    given P is = subst (λ (rest : Option (List ℕ)). IfSome rest P) told is
+
+    same_bytes : (others : List ℕ) → IsInput old.rest others → others ≡ bytes
+    same_bytes others input = sym (given (λ bs. bs ≡ others) input.told)
+
+    short : (others : List ℕ) → IsInput old.rest others → length bytes ≤ 1048576
+    short others input = subst (λ (bs : List ℕ). length bs ≤ 1048576) (same_bytes others input) input.short
+
+    is_long : (f : CompileFault) → IsLongInput old.rest f → 1048576 < length bytes
+    is_long f l = given (λ bs. 1048576 < length bs) l.long
+
+    fault_of : (f : CompileFault) → IsFaultyInput old.rest f → IsCompileFault bytes f
+    fault_of f p = subst (λ (bs : List ℕ). IsCompileFault bs f) (same_bytes p.bytes p.input) p.fault
+
+    -- the input is too long
+    long_fault : (f : CompileFault) → 1048576 < length bytes → IsInputFault old.rest f → answer_of f ≡ Source (source.TooLong 1048577)
+    long_fault f long (inl l) = ap answer_of l.is
+    long_fault f long (inr p) = absurd (omega (arith, long, short p.bytes p.input))
+
+    pub long_input : (outcome : Outcome) → IsCompiling old new outcome → 1048576 < length bytes → (Rose old.read_faults new.read_faults → ⊥)
+        → IsOrMemory outcome (Source (source.TooLong 1048577))
+    long_input Done compiling long quiet = absurd (omega (arith, long, short compiling.1.bytes compiling.1.input))
+    long_input Write compiling long quiet = absurd (omega (arith, long, short compiling.1.bytes compiling.1.input))
+    long_input Read compiling long quiet = absurd (quiet compiling.0)
+    long_input (Source f) compiling long quiet = inl (long_fault (compile.Source f) long compiling.0)
+    long_input (IllFormed f) compiling long quiet = inl (long_fault (compile.IllFormed f) long compiling.0)
+    long_input (Unschedulable sel a b demand) compiling long quiet = inl (long_fault (compile.Unschedulable sel a b demand) long compiling.0)
+    long_input Memory compiling long quiet = inr refl
+    long_input Usage compiling long quiet = absurd compiling
+    long_input (Refused f) compiling long quiet = absurd compiling
+    long_input (Script f) compiling long quiet = absurd compiling
+    long_input (Shelf cause) compiling long quiet = absurd compiling
+
+    -- it has a fault
+    module _ (few : length bytes ≤ 1048576) (f : CompileFault) (known : f ≡ compile.Memory → ⊥) (is : IsCompileFault bytes f) where
+      this : (g : CompileFault) → (g ≡ compile.Memory → ⊥) → IsInputFault old.rest g → answer_of g ≡ answer_of f
+      this g other (inl l) = absurd (omega (arith, few, is_long g l))
+      this g other (inr p) = ap answer_of (one_compile_fault bytes g f other known (fault_of g p) is)
+
+      no_program : (Fact : Tables → Type 0) → IsInputProgram old.rest Fact → ⊥
+      no_program Fact p =
+          known (compile_only_memory p.bytes p.has.tables f p.has.of p.has.can (subst (λ (bs : List ℕ). IsCompileFault bs f) (sym (same_bytes p.bytes p.input)) is))
+
+      pub faulty_input : (outcome : Outcome) → IsCompiling old new outcome → (Rose old.read_faults new.read_faults → ⊥) → IsOrMemory outcome (answer_of f)
+      faulty_input Done compiling quiet = absurd (no_program (λ t. new.written ≡ append_known old.written (compiled_bytes t)) compiling.1)
+      faulty_input Write compiling quiet = absurd (no_program (λ t. AppendsPrefix old.written new.written (compiled_bytes t)) compiling.1)
+      faulty_input Read compiling quiet = absurd (quiet compiling.0)
+      faulty_input (Source g) compiling quiet = inl (this (compile.Source g) (λ e. cc) compiling.0)
+      faulty_input (IllFormed g) compiling quiet = inl (this (compile.IllFormed g) (λ e. cc) compiling.0)
+      faulty_input (Unschedulable sel a b demand) compiling quiet = inl (this (compile.Unschedulable sel a b demand) (λ e. cc) compiling.0)
+      faulty_input Memory compiling quiet = inr refl
+      faulty_input Usage compiling quiet = absurd compiling
+      faulty_input (Refused g) compiling quiet = absurd compiling
+      faulty_input (Script g) compiling quiet = absurd compiling
+      faulty_input (Shelf cause) compiling quiet = absurd compiling
+
+    -- an object is built of it
+    module _ (few : length bytes ≤ 1048576) (t : Tables) (of : IsTablesOf bytes t) (can : CanBuild t) where
+      no_fault : (g : CompileFault) → (g ≡ compile.Memory → ⊥) → IsInputFault old.rest g → ⊥
+      no_fault g other (inl l) = omega (arith, few, is_long g l)
+      no_fault g other (inr p) = other (compile_only_memory bytes t g of can (fault_of g p))
+
+      pub complete : (outcome : Outcome) → IsCompiling old new outcome → (Rose old.read_faults new.read_faults → ⊥) → (Rose old.write_faults new.write_faults → ⊥) → IsOrMemory outcome Done
+      complete Done compiling quiet still = inl refl
+      complete Write compiling quiet still = absurd (still compiling.0)
+      complete Read compiling quiet still = absurd (quiet compiling.0)
+      complete (Source g) compiling quiet still = absurd (no_fault (compile.Source g) (λ e. cc) compiling.0)
+      complete (IllFormed g) compiling quiet still = absurd (no_fault (compile.IllFormed g) (λ e. cc) compiling.0)
+      complete (Unschedulable sel a b demand) compiling quiet still = absurd (no_fault (compile.Unschedulable sel a b demand) (λ e. cc) compiling.0)
+      complete Memory compiling quiet still = inr refl
+      complete Usage compiling quiet still = absurd compiling
+      complete (Refused g) compiling quiet still = absurd compiling
+      complete (Script g) compiling quiet still = absurd compiling
+      complete (Shelf cause) compiling quiet still = absurd compiling

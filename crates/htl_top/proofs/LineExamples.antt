@@ -1,0 +1,92 @@
+-- What a run of a small object writes, whole and before the fault of its script, and the lines that tell of faults, worked.
+use Rattle.std.proofs.Common.{◌≡◌, List, [], ◌∷◌, ◌++◌, Option, Some, None, pos, codes, refl}
+use Rattle.std.specs.Fmt.{digits}
+use Rattle.std.specs.Prelude.{decimal}
+use Rattle.htl_compile.specs.declared.source_fault.SourceFault.TheVariants as fault
+use Rattle.htl_ecode.specs.Layout.{layout}
+use Rattle.htl_console.specs.declared.shown.Shown.TheVariants.{Values, Jobs}
+use Rattle.htl_model.proofs.Sources.{doubling, empty_mode}
+use Rattle.htl_model.specs.declared.event.Event.{Event}
+use Rattle.htl_model.specs.declared.event.Event.TheVariants as event
+use Rattle.htl_model.specs.Tables.{Tables}
+use Rattle.htl_object.specs.declared.object.Object.{Object}
+use Rattle.htl_script.specs.Samples.{sample}
+use Rattle.htl_script.specs.Script.{script_of, Whole, Bad}
+use Rattle.htl_script.specs.declared.fault.ScriptKind.TheVariants as kind
+use Rattle.htl_top.specs.Status.{fault_line, place_of_fault}
+use Rattle.htl_top.specs.Texts.{text_before_fault, text_of_script}
+use Rattle.htl_top.specs.declared.outcome.Outcome.TheVariants.{Source, IllFormed, Unschedulable, Script}
+use Rattle.htl_walk.specs.declared.schedule.SInstr.TheVariants.{Dispatch, End}
+
+-- ---- the text of a script
+
+-- `sensor int s period 10 init 0; communicator int u period 10 init 7;` and a module `M` whose mode `m` has the period 20 and invokes a
+-- task `dbl` of 4 ticks: it reads `s` at 0 and writes twice that to `u` at 10
+abbrev object : Object
+object = record { tables = doubling; ecode = layout doubling; schedules = (record { instrs = Dispatch 0 4 ∷ End ∷ [] }) ∷ [] }
+
+no_end : script_of doubling (codes "at 0\nsense s 3\nat 10\nsense s 5\n")
+    ≡ Bad 5 kind.NoEnd (event.At 0 ∷ event.Sense 0 (pos 3) ∷ event.At 10 ∷ event.Sense 0 (pos 5) ∷ [])
+no_end = refl
+
+abbrev two_readings : List Event
+two_readings = event.At 0 ∷ event.Sense 0 (pos 3) ∷ event.At 10 ∷ event.Sense 0 (pos 5) ∷ []
+
+-- the whole script has all lines and the totals
+to_the_end : text_of_script object Jobs (Whole (two_readings ++ event.End 10 ∷ []) 10)
+    ≡ codes "v 0 s 3\nv 0 u 7\nm 0 M m\nj 0 4 M.m.dbl\nd 4 M.m.dbl\nv 10 s 5\nv 10 u 6\nend 10 jobs 1 e 10 s 2\n"
+unfolding digits
+to_the_end = refl
+
+-- without jobs
+values_to_the_end : text_of_script object Values (Whole (two_readings ++ event.End 10 ∷ []) 10)
+    ≡ codes "v 0 s 3\nv 0 u 7\nm 0 M m\nv 10 s 5\nv 10 u 6\nend 10 jobs 1 e 10 s 2\n"
+unfolding digits
+values_to_the_end = refl
+
+before_the_last_reading : text_before_fault object Jobs two_readings ≡ codes "v 0 s 3\nv 0 u 7\nm 0 M m\nj 0 4 M.m.dbl\nd 4 M.m.dbl\n"
+unfolding digits
+before_the_last_reading = refl
+
+no_reading : text_before_fault object Jobs [] ≡ []
+no_reading = refl
+
+reading_at_0 : text_before_fault object Jobs (event.At 0 ∷ event.Sense 0 (pos 3) ∷ []) ≡ []
+reading_at_0 = refl
+
+-- a fault behind the end: all lines but the totals
+behind_the_end : text_before_fault object Jobs (two_readings ++ event.End 10 ∷ [])
+    ≡ codes "v 0 s 3\nv 0 u 7\nm 0 M m\nj 0 4 M.m.dbl\nd 4 M.m.dbl\nv 10 s 5\nv 10 u 6\n"
+unfolding digits
+behind_the_end = refl
+
+-- ---- lines
+
+script_line : (tables : Option Tables) → fault_line tables (Script (record { line = 5; kind = kind.NoEnd })) ≡ codes "htl: script " ++ decimal 5 ++ codes " " ++ codes "no-end" ++ codes "\n"
+script_line tables = refl
+
+overrun_line : (tables : Option Tables) → fault_line tables (Script (record { line = 12; kind = kind.Overrun 5 4 }))
+    ≡ codes "htl: script " ++ decimal 12 ++ codes " " ++ (codes "overrun " ++ decimal 5 ++ codes " " ++ decimal 4) ++ codes "\n"
+overrun_line tables = refl
+
+limit_line : (tables : Option Tables) → fault_line tables (Source (fault.Limit 2 65)) ≡ codes "htl: source limit " ++ decimal 2 ++ codes " count " ++ decimal 65 ++ codes "\n"
+limit_line tables = refl
+
+overload_line : (tables : Option Tables) → fault_line tables (Unschedulable 0 0 10 11)
+    ≡ codes "htl: unschedulable " ++ decimal 0 ++ codes " from " ++ decimal 0 ++ codes " to " ++ decimal 10 ++ codes " demand " ++ decimal 11 ++ codes "\n"
+overload_line tables = refl
+
+-- a mode is the place, and an invocation is
+mode_place : place_of_fault empty_mode (record { rule = 1; «module» = 0; mode = 0; inv = None; have = 20; need = 10 }) ≡ codes "M.m"
+mode_place = refl
+
+-- a number that names nothing has no name
+no_module_place : place_of_fault empty_mode (record { rule = 1; «module» = 1; mode = 0; inv = None; have = 20; need = 10 }) ≡ codes ".m"
+no_module_place = refl
+
+invocation_place : place_of_fault sample (record { rule = 16; «module» = 0; mode = 0; inv = Some 0; have = 5; need = 4 }) ≡ codes "M.m.dbl"
+invocation_place = refl
+
+mode_line : fault_line (Some empty_mode) (IllFormed (record { rule = 1; «module» = 0; mode = 0; inv = None; have = 20; need = 10 }))
+    ≡ codes "htl: ill-formed " ++ decimal 1 ++ codes " at " ++ codes "M.m" ++ codes " have " ++ decimal 20 ++ codes " need " ++ decimal 10 ++ codes "\n"
+mode_line = refl

@@ -1,0 +1,58 @@
+-- What `go` shows of a source is what its own tables mean.
+use Rattle.std.proofs.Common.{◌≡◌, ℕ, ◌%◌, Bool, true, false, cond, eqb, List, [], ◌++◌, Option, None, Some, refl, sym, ap, ap₂, ◌∙◌}
+use Rattle.std.proofs.lemmas.List.{append-nil}
+use Rattle.std.specs.List.{flat_map}
+use mathlib.Core.Path.{fun_ext}
+use Rattle.htl_compile.proofs.BuiltLaws.{built_accepted}
+use Rattle.htl_compile.proofs.CodedLaws.{coded_runs}
+use Rattle.htl_compile.specs.Built.{built, CanBuild}
+use Rattle.htl_compile.specs.Coded.{coded, codes}
+use Rattle.htl_console.specs.declared.shown.Shown.TheVariants.{Jobs}
+use Rattle.htl_machine.proofs.Accepted.{accepted_is_loaded}
+use Rattle.htl_machine.proofs.Headline.{all_served}
+use Rattle.htl_machine.specs.Lines.{new_lines, old_lines}
+use Rattle.htl_machine.specs.Programs.{schedules_of}
+use Rattle.htl_model.specs.Lines.{line_text, lines_text}
+use Rattle.htl_model.specs.Meaning.{value_lines}
+use Rattle.htl_model.specs.Selections.{root_period}
+use Rattle.htl_model.specs.Tables.{Tables}
+use Rattle.htl_model.specs.declared.event.Event.{Event}
+use Rattle.htl_model.specs.declared.line.Line.{Line}
+use Rattle.htl_model.specs.declared.line.Line.TheVariants.{ValueLine, ModeLine}
+use Rattle.htl_script.proofs.Fitting.{whole-script}
+use Rattle.htl_script.proofs.SameScript.{script_same}
+use Rattle.htl_top.proofs.Playing.{took_within}
+use Rattle.htl_top.specs.Laws.{GoShowsTheMeaning, GoKeepsDeadlines}
+
+-- the names in a line are those of the tables, whatever their functions are
+line_same : (t : Tables) (x : Line) → line_text (coded t) x ≡ line_text t x
+line_same t (ValueLine at c x) = refl
+line_same t (ModeLine at k (Some m)) = refl
+line_same t (ModeLine at k None) = refl
+
+changes_same : (t : Tables) (es : List Event) (now : ℕ) → CanBuild t → lines_text (coded t) (value_lines (coded t) es now) ≡ lines_text t (value_lines t es now)
+changes_same t es now can =
+    ap (λ (f : Line → List ℕ). flat_map f (value_lines (coded t) es now)) (fun_ext (line_same t))
+    ∙ ap (lines_text t) (sym ((coded_runs t can.can.tables.ranges).lines es now))
+
+-- no instruction is shown
+nothing : (b : Bool) → cond {A = List ℕ} b [] [] ≡ []
+nothing true = refl
+nothing false = refl
+
+none_new : (t : Tables) (es : List Event) (now : ℕ) (o : Option ℕ) → new_lines (coded t) (schedules_of (built t)) es Jobs o now ≡ []
+none_new t es now None = refl
+none_new t es now (Some period) = nothing (eqb (now % period) 0)
+
+pub go_shows : GoShowsTheMeaning
+go_shows t es now can =
+    let old = old_lines (coded t) (schedules_of (built t)) es Jobs (root_period t) now in
+    let changes = lines_text (coded t) (value_lines (coded t) es now) in
+    ap (λ (bs : List ℕ). ((old ++ []) ++ changes) ++ bs) (none_new t es now (root_period t)) ∙ append-nil ((old ++ []) ++ changes)
+    ∙ ap₂ (λ (a b : List ℕ). a ++ b) (append-nil old) (changes_same t es now can)
+
+pub go_keeps : GoKeepsDeadlines
+go_keeps t script events period end can whole root =
+    let loaded = accepted_is_loaded (built t) (built_accepted t can) in
+    let are = (whole-script (coded t) script events end (sym (script_same t (codes t) script) ∙ whole)).0 in
+    all_served (coded t) (schedules_of (built t)) loaded events (took_within (coded t) events are) period end root

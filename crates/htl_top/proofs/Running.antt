@@ -1,0 +1,195 @@
+-- What a run answers, by its script.
+use Rattle.std.proofs.Common.{◌≡◌, ℕ, List, Option, None, Some, refl, sym, ap, ◌∙◌, subst, inl, inr}
+use Rattle.std.specs.Prelude.{IfSome}
+use Rattle.htl_compile.specs.Coded.{coded, codes}
+use Rattle.htl_console.specs.declared.shown.Shown.{Shown}
+use Rattle.htl_edge.specs.Causes.{Rose}
+use Rattle.htl_edge.specs.Content.{none_left}
+use Rattle.htl_machine.specs.Programs.{text_of}
+use Rattle.htl_model.specs.Tables.{Tables}
+use Rattle.htl_model.specs.declared.event.Event.{Event}
+use Rattle.htl_object.specs.declared.object.Object.{Object}
+use Rattle.htl_script.proofs.SameScript.{script_same}
+use Rattle.htl_script.specs.Script.{Script, Whole, Bad, script_of}
+use Rattle.htl_script.specs.declared.fault.ScriptFault.{ScriptFault}
+use Rattle.htl_script.specs.declared.fault.ScriptKind.{ScriptKind}
+use Rattle.htl_top.proofs.ObjectAnswering.{IsOfWork, IsWork}
+use Rattle.htl_top.specs.Answers.{Streams, IsWritten, IsBeforeRun}
+use Rattle.htl_top.specs.Causes.{IsOrMemory}
+use Rattle.htl_top.specs.Runs.{IsRun}
+use Rattle.htl_top.specs.Scripts.{IsWhole, IsBad, EndsAt, IsTold}
+use Rattle.htl_top.specs.Texts.{text_before_fault}
+use Rattle.htl_top.specs.declared.outcome.Outcome.{Outcome}
+use Rattle.htl_top.specs.declared.outcome.Outcome.TheVariants.{Done, Usage, Source, IllFormed, Unschedulable, Object as Refused, Script as Faulty, Shelf, Read, Write, Memory}
+
+-- ---- from the parts to the whole
+
+-- a whole script was run
+pub IsRun-whole : (show : Shown) (t : Tables) (o : Object) (old new : Streams) (events shown : List Event) (outcome : Outcome) → shown ≡ events → IsTold t old.rest events
+    → new.rest ≡ none_left old.rest
+    → ((end : ℕ) → EndsAt shown end → IsWritten (text_of o shown show end) Done old.written new.written old.write_faults new.write_faults outcome)
+    → IsRun show t o old new outcome
+IsRun-whole show t o old new events shown outcome same told left written =
+    let Written : List Event → Type 0 = λ es.
+    (end : ℕ) → EndsAt es end → IsWritten (text_of o es show end) Done old.written new.written old.write_faults new.write_faults outcome in
+    elim (subst Written same written told.end told.ends) [
+      | inl w ↦
+          subst (λ (answer : Outcome). IsRun show t o old new answer) (sym w.0)
+          (record { events = events; end = told.end; script = told.script; read = left; written = w.1 })
+      | inr w ↦
+          subst (λ (answer : Outcome). IsRun show t o old new answer) (sym w.0)
+          (w.1, record { given = Whole events told.end; script = told.script; written = w.2 })
+    ]
+
+-- the lines before a fault were written
+pub IsRun-faulty : (show : Shown) (t : Tables) (o : Object) (old new : Streams) (events shown : List Event) (fault : ScriptFault) (outcome : Outcome) → shown ≡ events
+    → IfSome old.rest (λ script. IsBad t script fault events)
+    → IsWritten (text_before_fault o show shown) (Faulty fault) old.written new.written old.write_faults new.write_faults outcome
+    → IsRun show t o old new outcome
+IsRun-faulty show t o old new events shown fault outcome same bad written =
+    let Written : List Event → Type 0 = λ es.
+    IsWritten (text_before_fault o show es) (Faulty fault) old.written new.written old.write_faults new.write_faults outcome in
+    elim (subst Written same written) [
+      | inl w ↦ subst (λ (answer : Outcome). IsRun show t o old new answer) (sym w.0) (record { events = events; script = bad; written = w.1 })
+      | inr w ↦
+          subst (λ (answer : Outcome). IsRun show t o old new answer) (sym w.0)
+          (w.1, record { given = Bad fault.line fault.kind events; script = bad; written = w.2 })
+    ]
+
+-- the same of a machine that runs this object and shows this
+module _ (show s : Shown) (t : Tables) (o p : Object) (shows : s ≡ show) (runs : p ≡ o) (has : t ≡ o.tables) (old new : Streams) (events told : List Event) (outcome : Outcome) (same : told ≡ events) where
+  run_here : IsRun s t p old new outcome → IsRun show o.tables o old new outcome
+  run_here run =
+      subst (λ (x : Tables). IsRun show x o old new outcome) has (subst (λ (x : Object). IsRun show t x old new outcome) runs (subst (λ (x : Shown). IsRun x t p old new outcome) shows run))
+
+  pub run_told : IsTold t old.rest events → new.rest ≡ none_left old.rest
+      → ((end : ℕ) → EndsAt told end → IsWritten (text_of p told s end) Done old.written new.written old.write_faults new.write_faults outcome)
+      → IsRun show o.tables o old new outcome
+  run_told is left written = run_here (IsRun-whole s t p old new events told outcome same is left written)
+
+  pub run_faulty : (fault : ScriptFault) → IfSome old.rest (λ script. IsBad t script fault events)
+      → IsWritten (text_before_fault p s told) (Faulty fault) old.written new.written old.write_faults new.write_faults outcome
+      → IsRun show o.tables o old new outcome
+  run_faulty fault bad written = run_here (IsRun-faulty s t p old new events told fault outcome same bad written)
+
+-- ---- tables and their functions
+
+told_alike : (rest : Option (List ℕ)) (P Q : List ℕ → Type 0) → ((script : List ℕ) → P script → Q script) → IfSome rest P → IfSome rest Q
+told_alike None P Q f h = tt
+told_alike (Some script) P Q f h = f script h
+
+-- a script for tables with code is one for the tables
+pub IsRun-source : (show : Shown) (t : Tables) (o : Object) (old new : Streams) (outcome : Outcome) → IsRun show (coded t) o old new outcome → IsRun show t o old new outcome
+IsRun-source show t o old new Done run = record {
+  events = run.events;
+  end = run.end;
+  script = told_alike old.rest (λ s. IsWhole (coded t) s run.events run.end) (λ s. IsWhole t s run.events run.end) (λ s h. script_same t (codes t) s ∙ h) run.script;
+  read = run.read;
+  written = run.written;
+}
+IsRun-source show t o old new (Faulty fault) run = record {
+  events = run.events;
+  script = told_alike old.rest (λ s. IsBad (coded t) s fault run.events) (λ s. IsBad t s fault run.events) (λ s h. script_same t (codes t) s ∙ h) run.script;
+  written = run.written;
+}
+IsRun-source show t o old new Read run = run
+IsRun-source show t o old new Write run = (
+  run.0,
+  record {
+    given = run.1.given;
+    script = told_alike old.rest (λ s. script_of (coded t) s ≡ run.1.given) (λ s. script_of t s ≡ run.1.given) (λ s h. script_same t (codes t) s ∙ h) run.1.script;
+    written = run.1.written;
+  },
+)
+IsRun-source show t o old new Memory run = run
+IsRun-source show t o old new Usage run = absurd run
+IsRun-source show t o old new (Source f) run = absurd run
+IsRun-source show t o old new (IllFormed f) run = absurd run
+IsRun-source show t o old new (Unschedulable sel a b demand) run = absurd run
+IsRun-source show t o old new (Refused f) run = absurd run
+IsRun-source show t o old new (Shelf cause) run = absurd run
+
+-- ---- the answers of a run
+
+pub run_only : (show : Shown) (t : Tables) (o : Object) (old new : Streams) (outcome : Outcome) → IsRun show t o old new outcome → IsOfWork outcome
+run_only show t o old new Done run = tt
+run_only show t o old new (Faulty f) run = tt
+run_only show t o old new Read run = tt
+run_only show t o old new Write run = tt
+run_only show t o old new Memory run = tt
+run_only show t o old new Usage run = absurd run
+run_only show t o old new (Source f) run = absurd run
+run_only show t o old new (IllFormed f) run = absurd run
+run_only show t o old new (Unschedulable sel a b demand) run = absurd run
+run_only show t o old new (Refused f) run = absurd run
+run_only show t o old new (Shelf cause) run = absurd run
+
+pub run_unwritten : (show : Shown) (t : Tables) (o : Object) (old new : Streams) (outcome : Outcome) → IsRun show t o old new outcome → IsBeforeRun outcome → new.written ≡ old.written
+run_unwritten show t o old new Done run early = absurd early
+run_unwritten show t o old new (Faulty f) run early = absurd early
+run_unwritten show t o old new Read run early = run.1
+run_unwritten show t o old new Write run early = absurd early
+run_unwritten show t o old new Memory run early = run
+run_unwritten show t o old new Usage run early = absurd run
+run_unwritten show t o old new (Source f) run early = absurd run
+run_unwritten show t o old new (IllFormed f) run early = absurd run
+run_unwritten show t o old new (Unschedulable sel a b demand) run early = absurd run
+run_unwritten show t o old new (Refused f) run early = absurd run
+run_unwritten show t o old new (Shelf cause) run early = absurd run
+
+pub running : (show : Shown) → IsWork (λ o. IsRun show o.tables o)
+running show = record {
+  only = λ o old new outcome run. run_only show o.tables o old new outcome run;
+  unwritten = λ o old new outcome run early. run_unwritten show o.tables o old new outcome run early;
+}
+
+-- ---- of a script that is given
+
+-- a script is whole or has a fault
+whole_or_bad : (i : Script) (events others : List Event) (end line : ℕ) (k : ScriptKind) → i ≡ Whole events end → i ≡ Bad line k others → ⊥
+whole_or_bad i events others end line k p q = cc
+
+same_fault : (line other : ℕ) (kind another : ScriptKind) (events others : List Event) → Bad line kind events ≡ Bad other another others → (line ≡ other) × (kind ≡ another)
+same_fault line other kind another events others e = (cc, cc)
+
+-- it has one first fault
+one_bad : (i : Script) (f g : ScriptFault) (events others : List Event) → i ≡ Bad f.line f.kind events → i ≡ Bad g.line g.kind others → f ≡ g
+one_bad i f g events others bad also =
+    let same = same_fault f.line g.line f.kind g.kind events others (sym bad ∙ also) in
+    let make : ℕ → ScriptKind → ScriptFault = λ line kind. record { line = line; kind = kind } in
+    ap (λ (line : ℕ). make line f.kind) same.0 ∙ ap (λ (kind : ScriptKind). make g.line kind) same.1
+
+module _ (show : Shown) (t : Tables) (o : Object) (old new : Streams) (script : List ℕ) (told : old.rest ≡ Some script) where
+  given : (P : List ℕ → Type 0) → IfSome old.rest P → P script
+  given P is = subst (λ (rest : Option (List ℕ)). IfSome rest P) told is
+
+  pub bad_run : (f : ScriptFault) (events : List Event) → IsBad t script f events → (Rose old.read_faults new.read_faults → ⊥)
+      → (Rose old.write_faults new.write_faults → ⊥) → (outcome : Outcome) → IsRun show t o old new outcome → IsOrMemory outcome (Faulty f)
+  bad_run f events bad quiet still Done run =
+      absurd (whole_or_bad (script_of t script) run.events events run.end f.line f.kind (given (λ s. IsWhole t s run.events run.end) run.script) bad)
+  bad_run f events bad quiet still (Faulty g) run =
+      inl (ap (λ (h : ScriptFault). Faulty h) (one_bad (script_of t script) g f run.events events (given (λ s. IsBad t s g run.events) run.script) bad))
+  bad_run f events bad quiet still Read run = absurd (quiet run.0)
+  bad_run f events bad quiet still Write run = absurd (still run.0)
+  bad_run f events bad quiet still Memory run = inr refl
+  bad_run f events bad quiet still Usage run = absurd run
+  bad_run f events bad quiet still (Source g) run = absurd run
+  bad_run f events bad quiet still (IllFormed g) run = absurd run
+  bad_run f events bad quiet still (Unschedulable sel a b demand) run = absurd run
+  bad_run f events bad quiet still (Refused g) run = absurd run
+  bad_run f events bad quiet still (Shelf cause) run = absurd run
+
+  pub whole_run : (events : List Event) (end : ℕ) → IsWhole t script events end → (Rose old.read_faults new.read_faults → ⊥)
+      → (Rose old.write_faults new.write_faults → ⊥) → (outcome : Outcome) → IsRun show t o old new outcome → IsOrMemory outcome Done
+  whole_run events end whole quiet still Done run = inl refl
+  whole_run events end whole quiet still (Faulty g) run =
+      absurd (whole_or_bad (script_of t script) events run.events end g.line g.kind whole (given (λ s. IsBad t s g run.events) run.script))
+  whole_run events end whole quiet still Read run = absurd (quiet run.0)
+  whole_run events end whole quiet still Write run = absurd (still run.0)
+  whole_run events end whole quiet still Memory run = inr refl
+  whole_run events end whole quiet still Usage run = absurd run
+  whole_run events end whole quiet still (Source g) run = absurd run
+  whole_run events end whole quiet still (IllFormed g) run = absurd run
+  whole_run events end whole quiet still (Unschedulable sel a b demand) run = absurd run
+  whole_run events end whole quiet still (Refused g) run = absurd run
+  whole_run events end whole quiet still (Shelf cause) run = absurd run

@@ -1,0 +1,14 @@
+use Rattle.std.proofs.Common.{List, ℕ, Some, refl, subst}
+use Rattle.htl_top.proofs.Going.{IsGoing-bytes}
+use Rattle.htl_top.specs.Answers.{files, streams}
+use Rattle.htl_top.specs.Going.{IsBytesGoing}
+use Rattle.htl_top.proofs.go.go_file.Goals as goal
+
+pub returns-in-Ok-clause-answer : goal.returns-in-Ok-clause-answer
+returns-in-Ok-clause-answer g c =
+    let side = streams g.R.Source.rest g.R.Source.faults g.W.Sink.written g.W.Sink.faults in
+    let old = side c.args.input.now c.args.out.now in
+    let new = side c.go.new.input c.go.new.out in
+    IsGoing-bytes (Some c.args.name.now) (files g.S.Shelf.holds g.S.Shelf.faults c.args.shelf.now c.fetch.new.self) old new c.in-Ok.bytes.items c.go.result.outcome
+    (record { word = c.args.name.now; named = refl; held = c.in-Ok.ensures.bytes; short = c.in-Ok.ensures.short })
+    (subst (λ (bs : List ℕ). IsBytesGoing bs old new c.go.result.outcome) c.as_slice.ensures.value c.go.ensures.answer)
