@@ -2,7 +2,7 @@
 
 _htl() {
 	local word=${COMP_WORDS[COMP_CWORD]} before=${COMP_WORDS[COMP_CWORD - 1]} i command=
-	local commands="go run jobs code compile check show plan bulk"
+	local commands="go compile jobs run check show plan"
 	COMPREPLY=()
 	for ((i = 1; i < COMP_CWORD; i++)); do
 		case ${COMP_WORDS[i]} in
@@ -13,11 +13,11 @@ _htl() {
 	case $command in
 	'')
 		local answers=
-		[ "$before" = --explain ] && answers="usage char number name-long long syntax twice unknown kind not-a-tree limit not-built type deep too-long
+		[ "$before" = --explain ] && answers="usage char number name-long long syntax twice unknown kind not-a-tree limit type deep too-long
 			ill-formed unschedulable object form range order overrun no-end after size failed read write memory"
 		COMPREPLY=($(compgen -W "$commands --explain --unproved $answers --prove --svg --vcd --help --version" -- "$word"))
 		;;
-	go | run | jobs | code | check | show | plan)
+	go | jobs | run | check | show | plan)
 		[ "$before" = "$command" ] || return
 		compopt -o filenames 2>/dev/null
 		local IFS=$'\n' pattern='*'

@@ -55,6 +55,9 @@ at_item() {
 	fi
 }
 
+# Invocations by their numbers in the tables.
+by_number() { outline "$1" | awk -v wanted="$2" -f "$tools/numbers.awk" | sed 's/^/    /'; }
+
 at_program() {
 	line=$(outline "$1" | awk -v number="$2" '$1 == "program" && number-- == 0 { print $2; exit }')
 	[ -z "$line" ] && echo "$meaning" || numbered_line "$1" "$line" "$meaning"
@@ -66,7 +69,7 @@ overload() {
 }
 
 at_script_line() {
-	[ "$form" = file ] && shown="script"
+	[ "$form" = file ] && shown=$input
 	if [ -n "$1" ] && [ "$2" != no-end ]; then
 		numbered_line "$1" "$3" "$meaning" script
 	else
@@ -74,8 +77,9 @@ at_script_line() {
 	fi
 }
 
-# $1 the fault line, $2 the source and $3 the script, where they are known.
+# $1 the fault line, empty where there is none; $2 the source and $3 the script, where they are known.
 explain_fault() {
+	[ -n "$1" ] || return 0
 	found=$(look_up "$1") || return 0
 	meaning=$(echo "$found" | sed -n 's/^meaning //p')
 	{
@@ -92,8 +96,13 @@ explain_fault() {
 		'htl: ill-formed '*)
 			item=${1#* at }
 			at_item "$2" "${item%% *}"
+			have=${item#* have }
 			case $1 in
-			'htl: ill-formed 12 '*) outline "$2" | awk -v number="${1##* }" '$1 == "comm" && number-- == 0 { print "    communicator " $3 " of line " $2 }' ;;
+			'htl: ill-formed 12 '*)
+				outline "$2" | awk -v number="${1##* }" '$1 == "comm" && number-- == 0 { print "    communicator " $3 " of line " $2 }'
+				by_number "$2" "${have%% *}"
+				;;
+			'htl: ill-formed 15 '*) by_number "$2" "${have%% *} ${1##* }" ;;
 			esac
 			;;
 		'htl: unschedulable '*) overload "$2" ${1#htl: unschedulable } ;;

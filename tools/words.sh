@@ -1,5 +1,5 @@
 # Judges words before any build. Sets `form`: wrong, file (the second word is a file), or plain; and `input`: script,
-# source, or none where standard input is not read.
+# modes, source, or none where standard input is not read.
 
 # Whether the bytes of the words are UTF-8: htl takes no others for text. (Some awks fail where an output is closed.)
 are_text() {
@@ -31,14 +31,10 @@ are_text() {
 judge_words() {
 	form=wrong input=none
 	case $#:${1-} in
-	2:go | 2:run | 2:jobs | 2:code | 2:plan) form=file input=script ;;
+	2:go | 2:jobs | 2:run) form=file input=script ;;
+	2:plan) form=file input=modes ;;
 	2:check | 2:show) form=file ;;
 	1:compile) form=plain input=source ;;
-	2:bulk)
-		case $2 in
-		[1-9] | [1-5][0-9] | 6[0-4]) form=plain ;;
-		esac
-		;;
 	esac
 	[ "$form" = wrong ] || are_text "$@" || form=wrong
 }

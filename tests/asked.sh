@@ -1,0 +1,138 @@
+# What the true program answers to many words, asked once and kept in $work/asked: by the proved program where it stands,
+# else by one unproved build for all of them. `asked NAME` gives an answer again: its output, its fault line, its status.
+
+asked() {
+	[ -d "$work/asked" ] || ask_all
+	cat "$work/asked/$1.out"
+	cat "$work/asked/$1.err" >&2
+	return "$(cat "$work/asked/$1.status")"
+}
+
+# This repository's bin/htl, with the true rt.
+true_htl() { PATH=${PATH#"$work/tools:"} "$root/bin/htl" "$@"; }
+
+# Puts down what to ask: a name, the file that is standard input (`lines`: what `lines` wrote last), and the words.
+ask() {
+	[ "$2" = lines ] && cp "$work/asked/lines" "$work/asked/cases/$1" || cp "$2" "$work/asked/cases/$1"
+	name=$1
+	shift 2
+	printf '%s\n' "$@" >"$work/asked/cases/$name.args"
+}
+
+lines() { printf '%s\n' "$@" >"$work/asked/lines"; }
+
+# Asks to compile a source after sed has changed it: a name, the source, and what sed does.
+ask_changed() {
+	name=$1
+	source=$2
+	shift 2
+	sed "$@" "$source" >"$work/asked/lines"
+	ask "$name" lines compile
+}
+
+# Asks to compile a source with this expression of an int.
+ask_output() {
+	lines 'program P { module M start m { task t input (int x) output (int y = ' "$2" ') worst 4; mode m period 20 { } } }'
+	ask "$1" lines compile
+}
+
+ask_all() {
+	mkdir -p "$work/asked/cases" "$work/asked/data"
+	(cd "$work/asked/data" && ask_for_all)
+	case $("$root/bin/htl" --version) in
+	*'is proved'*) ask_proved ;;
+	*) ask_unproved ;;
+	esac
+}
+
+ask_proved() {
+	for it in "$work"/asked/cases/*.args; do
+		answer=$work/asked/$(basename "$it" .args)
+		(cd "$work/asked/data" && "$root/crates/htl/out/htl" $(cat "$it")) <"${it%.args}" >"$answer.out" 2>"$answer.err"
+		echo $? >"$answer.status"
+	done
+}
+
+# rt try prints what each case wrote behind `== NAME`; behind what it told stands `case=NAME run=ended status=N ..`.
+ask_unproved() {
+	for it in "$work"/asked/cases/*.args; do
+		answer=$work/asked/$(basename "$it" .args)
+		: >"$answer.out"
+		: >"$answer.err"
+	done
+	set --
+	for it in "$work"/asked/data/*; do set -- "$@" --data "$(basename "$it")=$it"; done
+	(
+		PATH=${PATH#"$work/tools:"}
+		cd "$root/crates/htl" && rt try --seconds 3600 "$@" --cases "$work/asked/cases"
+	) </dev/null >"$work/asked/printed" 2>"$work/asked/told"
+	awk -v folder="$work/asked/" '/^== / { name = $2; next } { print >(folder name ".out") }' "$work/asked/printed"
+	awk -v folder="$work/asked/" '
+	/^case=[^ ]* run=ended status=[0-9]+ / {
+		split($0, part, /[= ]/)
+		printf "%s", told >(folder part[2] ".err")
+		print part[6] >(folder part[2] ".status")
+		close(folder part[2] ".err")
+		close(folder part[2] ".status")
+		told = ""
+		next
+	}
+	{ told = told $0 "\n" }' "$work/asked/told"
+}
+
+# All that is asked, in the folder of the files that the words name.
+ask_for_all() {
+	cp "$root"/examples/*.htl .
+	true_htl compile <tanks.htl >tanks.object 2>/dev/null
+	size=$(wc -c <tanks.object)
+	head -c $((size - 1)) tanks.object >cut.object
+	# The first dispatch ends at 200 in place of 220.
+	{ head -c $((size - 9)) tanks.object && printf '\310' && tail -c 8 tanks.object; } >short-of-time.object
+	small_object >small.object
+	sed 's/(kind, 3)/(kind, 4)/' overload.htl >belt.htl
+	sed 's/(weight, 2)/(weight, 1)/' overload.htl >belt-read.htl
+	sed 's/worst 30/worst 20/' overload.htl >belt-worst.htl
+	sed 's/worst 110/worst 130/' tanks.htl >greedy.htl
+	awk 'BEGIN { for (i = 0; i < 1048577; i++) printf " " }' >long.htl
+
+	for it in thermostat tanks motor boiler overload; do ask go-$it "$root/examples/$it.script" go $it.htl; done
+	ask go-belt "$root/examples/overload.script" go belt.htl
+	lines 'end 0'
+	for it in belt-read belt-worst greedy long missing; do ask go-$it lines go $it.htl; done
+
+	for it in tanks cut short-of-time small; do ask check-$it /dev/null check $it.object; done
+	ask show-tanks /dev/null show tanks.object
+	ask show-small /dev/null show small.object
+	for it in jobs run; do ask $it-tanks "$root/examples/tanks.script" $it tanks.object; done
+	ask jobs-short-of-time "$root/examples/tanks.script" jobs short-of-time.object
+	lines 'at 0' 'sense h1 250' 'at 200' 'took C1.p.prop 61'
+	ask jobs-overrun lines jobs tanks.object
+	ask run-no-end /dev/null run tanks.object
+	for it in p pi; do
+		lines 'mode T1 hold' "mode C1 $it" 'mode T2 hold'
+		ask plan-$it lines plan tanks.object
+	done
+	lines 'mode T1 hold' 'mode C1 -'
+	ask plan-inactive lines plan tanks.object
+	ask plan-small /dev/null plan small.object
+	lines 'mode M m'
+	ask plan-after lines plan small.object
+
+	ask compile-overload overload.htl compile
+	ask compile-long long.htl compile
+	ask_changed compile-twice thermostat.htl 's/door period/temperature period/'
+	ask_output compile-type 'x < 2'
+	ask_output compile-operator 'x + (x < 2)'
+	ask_output compile-deep "$(awk 'BEGIN { for (i = 0; i < 64; i++) { left = left "1 + ("; right = right ")" } print left "1" right }')"
+
+	ask_changed form-13 tanks.htl -e 's/ program Q1//' -e '/^program Q1/,$d'
+	ask_changed form-14 tanks.htl '/invoke prop/s/ parent ctrl//'
+	ask_changed form-14-code tanks.htl -e 's/ worst 120;/& task own input (int h) output () worst 1;/' \
+		-e 's/program Q1 { /&invoke own input ((h1, 1)) output (); /' -e '/invoke damp/s/parent ctrl/parent own/'
+	ask_changed form-15 tanks.htl -e 's/communicator int u2/communicator int u3 period 100 init 0; &/' \
+		-e 's/invoke prop/invoke damp input ((h1, 1)) output ((u3, 4)) parent ctrl; &/'
+	ask_changed form-16-release tanks.htl '/invoke damp/s/(h1, 1)/(h1, 2)/'
+	ask_changed form-16-end tanks.htl '/invoke damp/s/(u1, 4)/(u1, 3)/'
+	ask_changed form-16-worst greedy.htl ''
+	ask form-16-port "$root/tests/runs/unordered.htl" compile
+}
