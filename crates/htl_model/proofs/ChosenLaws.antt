@@ -49,7 +49,7 @@ inv_stands t invs k x same below is = ap (λ (xs : List Inv). slice_get xs k) (s
 
 -- ---- the table of children
 
-get_none : (n k : ℕ) → get_or (replicate {A = Option ℕ} n None) k None ≡ None
+pub get_none : (n k : ℕ) → get_or (replicate {A = Option ℕ} n None) k None ≡ None
 get_none zero k = refl
 get_none (suc n) zero = refl
 get_none (suc n) (suc k) = get_none n k

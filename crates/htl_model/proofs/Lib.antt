@@ -3,6 +3,7 @@ pub mod BitLaws
 pub mod ChoiceLaws
 pub mod ChosenLaws
 pub mod Examples
+pub mod FirstLaws
 pub mod FormExamples
 pub mod Laws
 pub mod Listed
@@ -10,10 +11,13 @@ pub mod Locality
 pub mod PlaceLaws
 pub mod PortChains
 pub mod PortTableLaws
+pub mod RisingKeys
+pub mod RootModeLaws
 pub mod SameMeaning
 pub mod SameRanges
 pub mod SameRules
 pub mod SelectionExamples
 pub mod SelectionLaws
 pub mod Sources
+pub mod StartLaws
 pub mod Stays

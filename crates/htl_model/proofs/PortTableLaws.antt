@@ -1,5 +1,5 @@
 -- The rows of a table of writers.
-use Rattle.std.proofs.Common.{◌≡◌, ◌<◌, ◌⊎◌, ℕ, suc, ◌+◌, Bool, true, false, ◌&&◌, ◌||◌, eqb, ltb, List, [], ◌∷◌, length, get_or, Some, refl, sym, ◌∙◌, ap, subst, arith, inl, inr}
+use Rattle.std.proofs.Common.{◌≡◌, ◌<◌, ◌≤◌, ◌⊎◌, ℕ, suc, ◌+◌, Bool, true, false, ◌&&◌, ◌||◌, eqb, ltb, List, [], ◌∷◌, length, get_or, Some, refl, sym, ◌∙◌, ap, subst, arith, inl, inr}
 use Rattle.std.specs.Prelude.{slice_get}
 use Rattle.std.specs.List.{list_any}
 use Rattle.std.proofs.lemmas.Bool.Decides.{nat_tests}
@@ -96,20 +96,23 @@ module _ (t : Tables) (r : AreInRange t) (x y : Inv) (m n : ℕ) (at_x : slice_g
       by false e = ap (λ b. eqb x.mode y.mode && b) e ∙ no_right (eqb x.mode y.mode) ∙ sym e
 
   -- a table that has bit q for the ports that x writes says what y reads from x
-  pub row_by_reads : (table : List ℕ) (q : ℕ) → length table ≡ 4096 → ((p : ℕ) → p < length table → cell table p q ≡ writes_to (Some x) p)
+  pub row_of_reads : (table : List ℕ) (q : ℕ) → length t.ports ≤ length table → ((p : ℕ) → p < length table → cell table p q ≡ writes_to (Some x) p)
       → list_any (is_from table q) y.reads ≡ feeds_at (Some x) (Some y)
-  row_by_reads table q len says = any_same (is_from table q) (is_read_from x.writes) y.reads each ∙ sym feeds_by_reads
+  row_of_reads table q len says = any_same (is_from table q) (is_read_from x.writes) y.reads each ∙ sym feeds_by_reads
     where
       each : (k : ℕ) (e : End) → slice_get y.reads k ≡ Some e → is_from table q e ≡ is_read_from x.writes e
       each k (E.Comm c o) at = refl
       each k (E.Port p) at =
           let b = all_at (IsEndInRange t y.mode) y.reads k (E.Port p) (all_at (IsInvInRange t) t.invs n y r.invs at_y).reads at in
           let few = slice_get_within t.ports p b.0 b.1 in
-          let short = r.few_ports in
           says p (omega arith)
 
+  pub row_by_reads : (table : List ℕ) (q : ℕ) → length table ≡ 4096 → ((p : ℕ) → p < length table → cell table p q ≡ writes_to (Some x) p)
+      → list_any (is_from table q) y.reads ≡ feeds_at (Some x) (Some y)
+  row_by_reads table q len says = row_of_reads table q (omega (arith, r.few_ports)) says
+
 -- a table without bit q says that y reads nothing from there
-pub row_of_none : (t : Tables) (r : AreInRange t) (y : Inv) (n : ℕ) (at_y : slice_get t.invs n ≡ Some y) (table : List ℕ) (q : ℕ) → length table ≡ 4096
+pub row_of_none : (t : Tables) (r : AreInRange t) (y : Inv) (n : ℕ) (at_y : slice_get t.invs n ≡ Some y) (table : List ℕ) (q : ℕ) → length t.ports ≤ length table
     → ((p : ℕ) → p < length table → cell table p q ≡ false) → list_any (is_from table q) y.reads ≡ false
 row_of_none t r y n at_y table q len says = any_same (is_from table q) (λ e. false) y.reads each ∙ none_any y.reads
   where
@@ -118,5 +121,4 @@ row_of_none t r y n at_y table q len says = any_same (is_from table q) (λ e. fa
     each k (E.Port p) at =
         let b = all_at (IsEndInRange t y.mode) y.reads k (E.Port p) (all_at (IsInvInRange t) t.invs n y r.invs at_y).reads at in
         let few = slice_get_within t.ports p b.0 b.1 in
-        let short = r.few_ports in
         says p (omega arith)

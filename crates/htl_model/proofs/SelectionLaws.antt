@@ -1,9 +1,8 @@
 -- Laws of selections: modules in range have modes, and a cap on the choices changes no quotient.
-use Rattle.std.proofs.Common.{◌≡◌, ◌≤◌, ◌<◌, ◌⊎◌, ◌+◌, ◌-◌, ◌*◌, ◌/◌, ◌%◌, ◌^◌, ℕ, zero, suc, Bool, true, false, cond, List, [], ◌∷◌, ◌++◌, length, drop, drop-cons, get_or, slice_get, Option, Some, None, add-one, min, refl, sym, subst, ◌∙◌, ap, arith, inl, inr, length-drop, length-append, IfSome, eq-eqb}
+use Rattle.std.proofs.Common.{◌≡◌, ◌≤◌, ◌<◌, ◌⊎◌, ◌+◌, ◌-◌, ◌*◌, ◌/◌, ◌%◌, ◌^◌, ℕ, zero, suc, Bool, true, false, cond, List, [], ◌∷◌, ◌++◌, length, drop, get_or, slice_get, Option, Some, None, min, refl, sym, subst, ◌∙◌, ap, arith, inl, inr, length-drop, IfSome, eq-eqb}
 use Rattle.std.specs.List.{flat_map, All}
 use Rattle.std.proofs.lemmas.List.Elements.{All-append, All-get_or, All-from_get_or}
 use Rattle.std.proofs.Math.Nat.{div-eq_of_lt}
-use Rattle.std.proofs.Math.Seq.{get_or-append_right}
 use Rattle.std.proofs.lemmas.Nat.{mul-lt}
 use Rattle.std.proofs.lemmas.Option.{slice_get_cases, slice_get-get_or}
 use Rattle.htl_model.specs.declared.parts.Module.{Module}
@@ -11,7 +10,7 @@ use Rattle.htl_model.specs.Lists.{places_from}
 use Rattle.htl_model.specs.declared.parts.Task.{Task}
 use Rattle.htl_model.specs.Tables.{Tables, mode_period, function_count, count_at, count_before}
 use Rattle.htl_model.specs.Ranges.{AreInRange, IsModeThat}
-use Rattle.htl_model.specs.Selections.{is_root, mode_of_module, modes_of, choices_from, root_mode, invs_of, module_positions, root_modules, root_period, inv_of_mode, positions}
+use Rattle.htl_model.specs.Selections.{is_root, mode_of_module, modes_of, choices_from, root_mode, invs_of, root_modules, root_period, inv_of_mode, positions}
 
 either : (a b : ℕ) → (a < b) ⊎ (b ≤ a)
 either a b = grind arith
@@ -75,36 +74,9 @@ root_mode_found t sel u later count mode r h small e f g =
 
 -- ---- positions
 
-cut_front : {A : Type 0} (f : ℕ → List A) (b : Bool) (k : ℕ) (rest : List ℕ) → flat_map f (cond b (k ∷ rest) rest) ≡ cond b (f k) [] ++ flat_map f rest
+pub cut_front : {A : Type 0} (f : ℕ → List A) (b : Bool) (k : ℕ) (rest : List ℕ) → flat_map f (cond b (k ∷ rest) rest) ≡ cond b (f k) [] ++ flat_map f rest
 cut_front f true k rest = refl
 cut_front f false k rest = refl
-
--- the positions from a module on are its own and those of the later ones
-pub positions_cut : (t : Tables) (sel k : ℕ) (modules : List Module) (x : Module) → k < length modules → x ≡ get_or modules k x
-    → flat_map (λ u. invs_of t (root_mode t sel u)) (places_from is_root k (drop k modules))
-    ≡ module_positions t sel k x ++ flat_map (λ u. invs_of t (root_mode t sel u)) (places_from is_root (k + 1) (drop (k + 1) modules))
-positions_cut t sel k modules x below at =
-    let f = λ (u : ℕ). invs_of t (root_mode t sel u) in
-    ap (λ (xs : List Module). flat_map f (places_from is_root k xs)) (drop-cons modules k x below ∙ ap (λ z. z ∷ drop (suc k) modules) (sym at))
-    ∙ cut_front f (is_root x) k (places_from is_root (suc k) (drop (suc k) modules))
-    ∙ ap (λ n. module_positions t sel k x ++ flat_map f (places_from is_root n (drop n modules))) (sym (add-one k))
-
-pub count_step : (t : Tables) (sel k : ℕ) (modules : List Module) (x : Module) (n here whole : ℕ) → k < length modules → x ≡ get_or modules k x → here ≡ length (module_positions t sel k x)
-    → n + length (flat_map (λ u. invs_of t (root_mode t sel u)) (places_from is_root k (drop k modules))) ≡ whole
-    → n + here + length (flat_map (λ u. invs_of t (root_mode t sel u)) (places_from is_root (k + 1) (drop (k + 1) modules))) ≡ whole
-count_step t sel k modules x n here whole below at is going =
-    let rest = flat_map (λ (u : ℕ). invs_of t (root_mode t sel u)) (places_from is_root (k + 1) (drop (k + 1) modules)) in
-    let cut = ap length (positions_cut t sel k modules x below at) in
-    omega (arith, cut, length-append (module_positions t sel k x) rest)
-
-pub position_step : (t : Tables) (sel k : ℕ) (modules : List Module) (x : Module) (left here whole : ℕ) → k < length modules → x ≡ get_or modules k x → here ≡ length (module_positions t sel k x) → here ≤ left
-    → get_or (flat_map (λ u. invs_of t (root_mode t sel u)) (places_from is_root k (drop k modules))) left 0 ≡ whole
-    → get_or (flat_map (λ u. invs_of t (root_mode t sel u)) (places_from is_root (k + 1) (drop (k + 1) modules))) (left - here) 0 ≡ whole
-position_step t sel k modules x left here whole below at is past going =
-    let rest = flat_map (λ (u : ℕ). invs_of t (root_mode t sel u)) (places_from is_root (k + 1) (drop (k + 1) modules)) in
-    ap (λ n. get_or rest (left - n) 0) is
-    ∙ sym (get_or-append_right (module_positions t sel k x) rest left 0 (omega arith))
-    ∙ ap (λ xs. get_or xs left 0) (sym (positions_cut t sel k modules x below at)) ∙ going
 
 -- ---- the first root module
 

@@ -3,7 +3,9 @@ pub mod Broken
 pub mod Chosen
 pub mod EndRules
 pub mod Exchanged
+pub mod First
 pub mod FormRules
+pub mod Found
 pub mod FunctionTypes
 pub mod Functions
 pub mod Lines
@@ -15,10 +17,13 @@ pub mod PortTable
 pub mod PortWriters
 pub mod Ranges
 pub mod RefinementRules
+pub mod RootModes
 pub mod SecondWriters
+pub mod Search
 pub mod Selected
 pub mod Selections
 pub mod Small
+pub mod Starts
 pub mod Tables
 pub mod TablesCode
 pub mod TermCode

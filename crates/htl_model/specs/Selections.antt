@@ -45,10 +45,6 @@ root_mode t sel u = get_or (modes_of t u) (sel / choices_from t (u + 1) (drop (u
 abbrev pub positions : Tables → ℕ → List ℕ
 positions t sel = flat_map (λ u. invs_of t (root_mode t sel u)) (root_modules t)
 
--- the positions of one module in a selection
-abbrev pub module_positions : Tables → ℕ → ℕ → Module → List ℕ
-module_positions t sel k x = cond (is_root x) (invs_of t (root_mode t sel k)) []
-
 -- the period of the first root module's first mode
 abbrev pub root_period : Tables → Option ℕ
 root_period t =

@@ -12,7 +12,7 @@ use crate::{Tables, Window};
 use htl_base::Time;
 
 impl Tables {
-    /// The window of an invocation, which is in range.
+    /// The window of an invocation, which is in range. One pass over its reads and writes.
     pub fn window(&self, inv: u16) -> Window
         requires { inv < length self.now.invs }
         ensures release { IfSome (slice_get self.now.invs inv) (λ i. result.release ≡ release_of self.now i) }
@@ -25,7 +25,8 @@ impl Tables {
         }
     }
 
-    /// The period of the first root module's first mode, in ticks; None exactly where there is no module.
+    /// The period of the first root module's first mode, in ticks; None exactly where there is no module. One pass over
+    /// the modules and modes in front of it.
     pub fn period(&self) -> Option<Time>
         ensures value { result ≡ root_period_of self.now }
         ensures none { MatchOption result (length self.now.modules ≡ 0) (λ p. 0 < length self.now.modules) }
@@ -34,7 +35,7 @@ impl Tables {
         root_period(self)
     }
 
-    /// How many root selections there are, capped at 4,294,967,295.
+    /// How many root selections there are, capped at 4,294,967,295. One pass over the modules and modes.
     pub fn selections(&self) -> u32
         ensures { result ≡ min (selection_count self.now) (2 ^ 32 - 1) }
     {
@@ -46,7 +47,8 @@ impl Tables {
     }
 
     /// The mode of a root module in a selection, where the first root module is the most significant place. Both are in
-    /// range: the selection is below the number of selections, and the module is a root module.
+    /// range: the selection is below the number of selections, and the module is a root module. One pass over the modules
+    /// and modes; `selections::root_modes` has the modes of all root modules for as much.
     pub fn root_mode(&self, selection: u32, module: u16) -> u16
         requires { «module» < length self.now.modules }
         ensures value { result ≡ root_mode_of self.now selection «module» }
@@ -56,7 +58,8 @@ impl Tables {
         root_mode(self, selection, module)
     }
 
-    /// How many positions a selection has, which is below the number of selections.
+    /// How many positions a selection has, which is below the number of selections. One pass over the modules, modes and
+    /// invocations.
     pub fn positions(&self, selection: u32) -> usize
         ensures { result ≡ length (positions_of self.now selection) }
     {
@@ -64,7 +67,8 @@ impl Tables {
         position_count(self, selection)
     }
 
-    /// The root invocation at position `p` of a selection, both in range: in the order of modules, then of the source.
+    /// The root invocation at position `p` of a selection, both in range: in the order of modules, then of the source. One
+    /// pass over the modules, modes and invocations.
     pub fn position(&self, selection: u32, p: usize) -> u16
         requires { p < length (positions_of self.now selection) }
         ensures value { result ≡ get_or (positions_of self.now selection) p 0 }
@@ -76,7 +80,8 @@ impl Tables {
 
     /// The concrete invocation that stands for the root invocation `inv` where the modules are in these modes, one entry for each
     /// module: itself, or the one that is reached through the modes that run. None exactly where it is absent. In tables that
-    /// break a form rule on refinement the first child that runs is taken.
+    /// break a form rule on refinement the first child that runs is taken. One pass over the invocations, for any number of
+    /// them by `running_children`.
     pub fn chosen(&self, modes: &[Option<u16>], inv: u16) -> Option<u16>
         ensures value { result ≡ chosen_of self.now modes.now inv }
     {
@@ -84,7 +89,7 @@ impl Tables {
         chosen_by(self, modes, &children, inv)
     }
 
-    /// The number of the function of an output of a concrete task; both are in range.
+    /// The number of the function of an output of a concrete task; both are in range. One pass over the tasks in front.
     pub fn output_function(&self, task: u16, output: u16) -> u32
         requires task { task < length self.now.tasks }
         requires output { IfSome (slice_get self.now.tasks task) (λ k. output < function_count k) }
@@ -95,7 +100,7 @@ impl Tables {
         functions_before(tasks, task as usize) + output as u32
     }
 
-    /// The number of the function of a switch, which is in range.
+    /// The number of the function of a switch, which is in range. One pass over the tasks.
     pub fn switch_function(&self, switch: u16) -> u32
         requires { switch < length self.now.switches }
         ensures value { result ≡ switch_function_of self.now switch }

@@ -1,12 +1,16 @@
 //! Root selections and their positions.
-ghost use Rattle.std.specs.Prelude.{◌≡◌, ◌≤◌, ◌<◌, ◌+◌, ◌*◌, ◌-◌, ◌^◌, min, cond, length, get_or, slice_get, drop, MatchOption};
+ghost use Rattle.std.specs.Prelude.{◌≡◌, ◌≤◌, ◌<◌, ◌+◌, ◌*◌, ◌-◌, ◌/◌, ◌%◌, ◌^◌, min, cond, length, get_or, slice_get, drop, map, None, Some, MatchOption};
+ghost use Rattle.std.specs.List.Sorted.{IsNonDecreasing};
 ghost use Rattle.htl_base.specs.declared.limits.TheConstants as limit;
 ghost use Rattle.htl_model.specs.Ranges.{AreInRange};
-ghost use Rattle.htl_model.specs.Selections.{is_root as is_root_of, root_modules, modes_of, invs_of, choices_from, root_mode as root_mode_of, positions as positions_of, root_period as root_period_of, module_positions as module_positions_of};
+ghost use Rattle.htl_model.specs.RootModes.{AreRootModes, modes_below};
+ghost use Rattle.htl_model.specs.Selections.{is_root as is_root_of, root_modules, modes_of, choices_from, root_mode as root_mode_of, positions as positions_of, root_period as root_period_of};
 
+use crate::choice::is_running;
 use crate::lookup::{lists, mode_period};
-use crate::{Module, Tables};
+use crate::{Mode, Module, Tables};
 use htl_base::Time;
+use htl_base::limits::MAX_MODULES;
 
 /// Whether a module refines no mode.
 pub fn is_root(module: &Module) -> bool
@@ -15,7 +19,7 @@ pub fn is_root(module: &Module) -> bool
     module.parent.is_none()
 }
 
-/// The first root module.
+/// The first root module. One pass over the modules in front of it.
 pub fn first_root(t: &Tables) -> Option<u16>
     requires { length t.now.modules ≤ limit.MAX_MODULES }
     ensures { result ≡ slice_get (root_modules t.now) 0 }
@@ -29,7 +33,7 @@ pub fn first_root(t: &Tables) -> Option<u16>
     None
 }
 
-/// How many modes a module has.
+/// How many modes a module has. One pass over the modes.
 pub fn mode_count(t: &Tables, module: u16) -> u32
     requires { length t.now.modes ≤ limit.MAX_MODES }
     ensures count { result ≡ length (modes_of t.now «module») }
@@ -45,7 +49,7 @@ pub fn mode_count(t: &Tables, module: u16) -> u32
     n
 }
 
-/// A mode of a module by its place among them; 0 where there is none.
+/// A mode of a module by its place among them; 0 where there is none. One pass over the modes in front of it.
 pub fn mode_at(t: &Tables, module: u16, place: u32) -> u16
     requires { length t.now.modes ≤ limit.MAX_MODES }
     ensures { result ≡ get_or (modes_of t.now «module») place 0 }
@@ -63,68 +67,94 @@ pub fn mode_at(t: &Tables, module: u16, place: u32) -> u16
     0
 }
 
-/// How many invocations a mode has.
-pub fn inv_count(t: &Tables, mode: u16) -> usize
-    requires { length t.now.invs ≤ limit.MAX_INVOCATIONS }
-    ensures count { result ≡ length (invs_of t.now mode) }
-    ensures few { result ≤ limit.MAX_INVOCATIONS }
+// The first mode of a module whose last one stands in front of `end`.
+fn first_mode(modes: &[Mode], module: u16, end: usize) -> usize
+    requires rising { IsNonDecreasing (map (λ m. m.«module») modes.now) }
+    requires end { end ≡ modes_below modes.now («module» + 1) }
+    ensures first { result ≡ modes_below modes.now «module» }
+    ensures front { result ≤ end }
 {
-    let invs = lists(t).invs.as_slice();
-    let mut n = 0usize;
-    for k in 0..invs.len() {
-        if invs[k].mode == mode {
-            n += 1;
-        }
+    let mut first = end;
+    while first > 0 && modes[first - 1].module == module {
+        first -= 1;
     }
-    n
+    first
 }
 
-/// An invocation of a mode by its place among them; 0 where there is none.
-pub fn inv_at(t: &Tables, mode: u16, place: usize) -> u16
-    requires { length t.now.invs ≤ limit.MAX_INVOCATIONS }
-    ensures { result ≡ get_or (invs_of t.now mode) place 0 }
-{
-    let invs = lists(t).invs.as_slice();
-    let mut left = place;
-    for k in 0..invs.len() {
-        if invs[k].mode == mode {
-            if left == 0 {
-                return k as u16;
-            }
-            left -= 1;
-        }
-    }
-    0
-}
-
-// The choices of the modules so far with those of one more, capped.
-fn more_choices(t: &Tables, n: u64, k: u16, module: &Module) -> u64
-    requires few { length t.now.modes ≤ limit.MAX_MODES }
-    ensures { result ≡ min (n * cond (is_root_of «module».now) (length (modes_of t.now k)) 1) (2 ^ 64 - 1) }
+// The choices of the modules behind with those of one more, capped.
+fn more_choices(n: u64, count: u64, module: &Module) -> u64
+    ensures { result ≡ min (n * cond (is_root_of «module».now) count 1) (2 ^ 64 - 1) }
 {
     if is_root(module) {
-        n.saturating_mul(mode_count(t, k) as u64)
+        n.saturating_mul(count)
     } else {
         n
     }
 }
 
-/// How many choices of modes the root modules from a number on have, capped at 2^64 - 1.
+/// How many choices of modes the root modules from a number on have, capped at 2^64 - 1. One pass over the modules and
+/// modes from there on.
 pub fn choices(t: &Tables, from: usize) -> u64
     requires few { length t.now.modes ≤ limit.MAX_MODES }
     requires modules { length t.now.modules ≤ limit.MAX_MODULES }
     requires within { from ≤ length t.now.modules }
     ensures { result ≡ min (choices_from t.now from (drop from t.now.modules)) (2 ^ 64 - 1) }
 {
+    t.keeps_ranges();
     let modules = lists(t).modules.as_slice();
+    let modes = lists(t).modes.as_slice();
     let mut n = 1u64;
-    for k in from..modules.len() {
-        n = more_choices(t, n, k as u16, &modules[k]);
+    let mut end = modes.len();
+    let mut k = modules.len();
+    while k > from {
+        k -= 1;
+        let first = first_mode(modes, k as u16, end);
+        n = more_choices(n, (end - first) as u64, &modules[k]);
+        end = first;
     }
     n
 }
 
-/// The mode of a root module in a selection.
+// The digit of a module whose modes stand from `first` to `end`, as its mode, and the digits before it. A module that
+// refines a mode has none.
+fn digit(module: &Module, first: usize, end: usize, digits: u32) -> (Option<u16>, u32)
+    requires some { first < end }
+    requires few { end ≤ limit.MAX_MODES }
+    ensures mode { result.0 ≡ cond (is_root_of «module».now) (Some (first + digits % (end - first))) None }
+    ensures before { result.1 ≡ cond (is_root_of «module».now) (digits / (end - first)) digits }
+{
+    if !is_root(module) {
+        return (None, digits);
+    }
+    let count = (end - first) as u32;
+    (Some((first as u32 + digits % count) as u16), digits / count)
+}
+
+/// The modes of all root modules in a selection, one entry for each module; None for a module that refines a mode, and
+/// behind the last module. One pass over the modules and modes, with one division a root module; it serves
+/// `is_running` for the positions.
+pub fn root_modes(t: &Tables, selection: u32) -> [Option<u16>; MAX_MODULES]
+    ensures { AreRootModes t.now selection result }
+{
+    t.keeps_ranges();
+    let modules = lists(t).modules.as_slice();
+    let modes = lists(t).modes.as_slice();
+    let mut entries = [None; MAX_MODULES];
+    let mut digits = selection;
+    let mut end = modes.len();
+    let mut k = modules.len();
+    while k > 0 {
+        k -= 1;
+        let first = first_mode(modes, k as u16, end);
+        let (mode, before) = digit(&modules[k], first, end, digits);
+        entries[k] = mode;
+        digits = before;
+        end = first;
+    }
+    entries
+}
+
+/// The mode of a root module in a selection. One pass over the modules and modes; `root_modes` has all of them for as much.
 pub fn root_mode(t: &Tables, selection: u32, module: u16) -> u16
     requires ranges { AreInRange t.now }
     requires within { «module» < length t.now.modules }
@@ -135,51 +165,42 @@ pub fn root_mode(t: &Tables, selection: u32, module: u16) -> u16
     mode_at(t, module, place as u32)
 }
 
-// How many positions a module has in a selection.
-fn module_positions(t: &Tables, selection: u32, k: u16, module: &Module) -> usize
-    requires ranges { AreInRange t.now }
-    requires within { k < length t.now.modules }
-    ensures count { result ≡ length (module_positions_of t.now selection k «module».now) }
-    ensures few { result ≤ limit.MAX_INVOCATIONS }
-{
-    if is_root(module) {
-        inv_count(t, root_mode(t, selection, k))
-    } else {
-        0
-    }
-}
-
-/// How many positions a selection has.
+/// How many positions a selection has. One pass over the modules, modes and invocations.
 pub fn position_count(t: &Tables, selection: u32) -> usize
     requires ranges { AreInRange t.now }
     ensures { result ≡ length (positions_of t.now selection) }
 {
-    let modules = lists(t).modules.as_slice();
+    let modes = root_modes(t, selection);
+    let invs = lists(t).invs.as_slice();
     let mut n = 0usize;
-    for k in 0..modules.len() {
-        n += module_positions(t, selection, k as u16, &modules[k]);
+    for k in 0..invs.len() {
+        if is_running(t, &modes, invs[k].mode) {
+            n += 1;
+        }
     }
     n
 }
 
-/// The invocation at a position of a selection; 0 where there is none.
+/// The invocation at a position of a selection; 0 where there is none. One pass over the modules, modes and invocations.
 pub fn position_at(t: &Tables, selection: u32, place: usize) -> u16
     requires ranges { AreInRange t.now }
     ensures { result ≡ get_or (positions_of t.now selection) place 0 }
 {
-    let modules = lists(t).modules.as_slice();
+    let modes = root_modes(t, selection);
+    let invs = lists(t).invs.as_slice();
     let mut left = place;
-    for k in 0..modules.len() {
-        let here = module_positions(t, selection, k as u16, &modules[k]);
-        if left < here {
-            return inv_at(t, root_mode(t, selection, k as u16), left);
+    for k in 0..invs.len() {
+        if is_running(t, &modes, invs[k].mode) {
+            if left == 0 {
+                return k as u16;
+            }
+            left -= 1;
         }
-        left -= here;
     }
     0
 }
 
-/// The period of the first mode of the first root module.
+/// The period of the first mode of the first root module. One pass over the modules and modes in front of it.
 pub fn root_period(t: &Tables) -> Option<Time>
     requires ranges { AreInRange t.now }
     ensures value { result ≡ root_period_of t.now }

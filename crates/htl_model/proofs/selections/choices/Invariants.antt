@@ -1,7 +1,17 @@
-use Rattle.std.proofs.Common.{◌≡◌, ◌*◌, ◌-◌, ◌^◌, ◌≤◌, min, drop}
+use Rattle.std.proofs.Common.{◌≡◌, ◌-◌, ◌^◌, ◌≤◌, length, min, drop}
+use Rattle.htl_model.specs.RootModes.{modes_below}
 use Rattle.htl_model.specs.Selections.{choices_from}
 use Rattle.htl_model.proofs.selections.choices.Given as goal
 
 abbrev pub invariant-loop-k : goal.invariant-loop-k
 invariant-loop-k l =
-    (min (l.n * choices_from l.t l.k (drop l.k l.modules)) (2 ^ 64 - 1) ≡ min (choices_from l.t l.from (drop l.from l.modules)) (2 ^ 64 - 1)) × (l.n ≤ 2 ^ 64 - 1)
+    record {
+      from : l.from ≤ l.k;
+      within : l.k ≤ length l.modules;
+      end : l.end ≡ modes_below l.modes l.k;
+      few : l.end ≤ length l.modes;
+      choices : l.n ≡ min (choices_from l.t l.k (drop l.k l.modules)) (2 ^ 64 - 1);
+    }
+
+abbrev pub decreases-loop-k : goal.decreases-loop-k
+decreases-loop-k l = l.k

@@ -1,10 +1,8 @@
-use Rattle.std.proofs.Common.{◌≡◌, ◌+◌, ◌*◌, ◌≤◌, drop, length}
-use Rattle.std.specs.List.{flat_map}
+use Rattle.std.proofs.Common.{◌≡◌, ◌+◌, ◌≤◌, length, drop}
 use Rattle.htl_model.specs.Lists.{places_from}
-use Rattle.htl_model.specs.Selections.{is_root, invs_of, root_mode, positions}
+use Rattle.htl_model.specs.Selected.{is_running}
 use Rattle.htl_model.proofs.selections.position_count.Given as goal
 
 abbrev pub invariant-loop-k : goal.invariant-loop-k
 invariant-loop-k l =
-    (l.n + length (flat_map (λ u. invs_of l.t (root_mode l.t l.selection u)) (places_from is_root l.k (drop l.k l.modules))) ≡ length (positions l.t l.selection))
-    × (l.n ≤ 2048 * l.k)
+    (l.n + length (places_from (λ i. is_running l.t l.modes i.mode) l.k (drop l.k l.invs)) ≡ length (places_from (λ i. is_running l.t l.modes i.mode) 0 l.invs)) × (l.n ≤ l.k)

@@ -1,0 +1,7 @@
+use Rattle.std.proofs.Common.{◌≡◌, drop}
+use Rattle.htl_model.specs.First.{first_from}
+use Rattle.htl_model.specs.Search.{of_rule}
+use Rattle.htl_model.proofs.search.first_fault.Given as goal
+
+abbrev pub invariant-loop-place : goal.invariant-loop-place
+invariant-loop-place g l = first_from (of_rule g.C.Tries.tests g.C.Tries.number l.t) l.place (drop l.place l.rules) ≡ first_from (of_rule g.C.Tries.tests g.C.Tries.number l.t) 0 l.rules
