@@ -23,7 +23,7 @@ use Rattle.htl_text.specs.declared.token.Sign.{Sign as ASign}
 use Rattle.htl_text.specs.declared.lexer.LexFault.{LexFault}
 use Rattle.htl_text.specs.declared.lexer.LexFault.TheVariants as fault
 
-look_up-none : {T : Type 0} (es : List (List ℕ × T)) (text : List ℕ) → look_up es text ≡ None → list_any (bytes_eq text) (map (λ (e : List ℕ × T). e.0) es) ≡ false
+pub look_up-none : {T : Type 0} (es : List (List ℕ × T)) (text : List ℕ) → look_up es text ≡ None → list_any (bytes_eq text) (map (λ (e : List ℕ × T). e.0) es) ≡ false
 look_up-none {T} [] text e = refl
 look_up-none {T} (x ∷ xs) text e = by (bytes_eq x.0 text) refl e (λ f. look_up-none xs text f)
   where
@@ -209,10 +209,6 @@ cut-shorter rest here n e some fits =
     let l = length-drop n here in
     let h = ap length e in
     omega (arith, m, l, h, some, fits)
-
--- the call's facts as the lemmas take them
-pub cut-token : {T : Type 0} (f : List ℕ → T) (here text : List ℕ) (n : ℕ) (x : T) → n ≡ token_len here → text ≡ take n here → f text ≡ x → f (take (token_len here) here) ≡ x
-cut-token f here text n x e front is = ap (λ (k : ℕ). f (take k here)) (sym e) ∙ ap f (sym front) ∙ is
 
 zip-push : {A B : Type 0} (xs : List A) (ys : List B) (x : A) (y : B) → length ys ≡ length xs → zip (xs ++ x ∷ []) (ys ++ y ∷ []) ≡ zip xs ys ++ (x, y) ∷ []
 zip-push [] [] x y e = refl

@@ -113,7 +113,7 @@ or-right false true c e = refl
 or-right false false c e = e
 
 -- the longest name, number and sign are tokens
-name-taken : (bs : List ℕ) → 0 < name_len bs → is_identifier (take (name_len bs) bs) ≡ true
+pub name-taken : (bs : List ℕ) → 0 < name_len bs → is_identifier (take (name_len bs) bs) ≡ true
 name-taken [] some = absurd (omega (arith, some))
 name-taken (b ∷ bs) some = by (is_letter b) refl some
   where
@@ -125,7 +125,7 @@ name-taken (b ∷ bs) some = by (is_letter b) refl some
     by true e some = first (prefix_len is_word_byte (b ∷ bs)) some e (prefix-all is_word_byte (b ∷ bs))
     by false e some = absurd (omega (arith, some))
 
-number-taken : (bs : List ℕ) → 0 < number_len bs → is_numeral (take (number_len bs) bs) ≡ true
+pub number-taken : (bs : List ℕ) → 0 < number_len bs → is_numeral (take (number_len bs) bs) ≡ true
 number-taken bs some =
     let all = prefix-all is_ascii_digit bs in
     let len = length-prefix_len is_ascii_digit bs in
@@ -190,5 +190,3 @@ token_len-fits bs =
     let b : number_len bs ≤ length bs = prefix_len-le-length is_ascii_digit bs in
     let c = sign_len-fits bs in
     omega (arith, a, b, c)
-
-pub ruleset lengths = (token_len-fits)

@@ -18,7 +18,7 @@ use Rattle.htl_text.specs.declared.token.Sign.{Sign as ASign}
 inside : (t u : Token) → ◌≡◌ {A = Option Token} (Some t) (Some u) → IsSpellable t → IsSpellable u
 inside t u e h = let same : t ≡ u = cc in subst IsSpellable same h
 
-spellable : (text : List ℕ) (t : Token) → token_of text ≡ Some t → IsSpellable t
+pub spellable : (text : List ℕ) (t : Token) → token_of text ≡ Some t → IsSpellable t
 spellable text t e = by (is_numeral text) (word_of text) (sign_of text) (is_name text) refl e
   where
     number : (b : Bool) → nat_lt (digits_value 10 text) (2 ^ 63) ≡ b → option_map Number (cond b (Some (pos (digits_value 10 text))) None) ≡ Some t → IsSpellable t

@@ -2,6 +2,8 @@
 use Rattle.std.specs.Prelude.{ℕ, ◌≡◌, ◌⊎◌, Result, Ok, Err, List}
 use Rattle.htl_text.specs.TokenLists.{TokenList}
 use Rattle.htl_text.specs.Spans.{Tokens, Faults}
+use Rattle.htl_text.specs.Entries.{AreKept, list_in}
+use Rattle.htl_text.specs.declared.entry.Entry.{Entry}
 use Rattle.htl_text.specs.declared.lexer.LexFault.{LexFault}
 use Rattle.htl_text.specs.declared.lexer.LexFault.TheVariants as fault
 
@@ -20,3 +22,7 @@ TellsTokens bytes result = (tokens : TokenList) → Tokens bytes tokens → (res
 -- where the text has a fault the first one is the answer, unless memory was wanting
 abbrev pub TellsFault : List ℕ → Result TokenList LexFault → Type 0
 TellsFault bytes result = (f : LexFault) → Faults bytes f → (result ≡ Err f) ⊎ (result ≡ Err fault.Memory)
+
+-- the entries are those of all tokens of the text
+abbrev pub AreAll : List ℕ → List Entry → Type 0
+AreAll bytes entries = AreKept bytes entries × Tokens bytes (list_in bytes entries)

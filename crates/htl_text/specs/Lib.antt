@@ -1,7 +1,9 @@
 pub mod Answers
 pub mod Bounds
+pub mod Entries
 pub mod Expressions
 pub mod Grammar
+pub mod Kinds
 pub mod Laws
 pub mod Nodes
 pub mod Placed

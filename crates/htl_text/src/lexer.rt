@@ -1,9 +1,9 @@
 // The tokens of a source.
 ghost use Rattle.std.specs.Prelude.{◌≡◌, ◌≤◌, length};
-ghost use Rattle.htl_text.specs.Answers.{IsLexed, TellsTokens, TellsFault};
+ghost use Rattle.htl_text.specs.Answers.{IsLexed, TellsTokens, TellsFault, AreAll};
 
-use crate::scan::{skip, token_len};
-use crate::spelling::{is_numeral, token_of};
+use crate::entry::Entry;
+use crate::scan::{Front, read_front, skip};
 use crate::tokens::Tokens;
 use std::alloc::{AllocFailed, Global};
 use thiserror::Error;
@@ -46,7 +46,8 @@ impl<T: Drop> From<AllocFailed<T>> for LexFault {
 
 /// The tokens of a text of at most 1,048,576 bytes, or the first fault in it. Blanks (space, tab, carriage
 /// return, line feed) and comments (from `//` to before the next line feed, or to the end) separate tokens;
-/// at each place the longest token is taken. Memory comes only where no memory was left.
+/// at each place the longest token is taken. Memory comes only where no memory was left. Linear in the text;
+/// takes twelve bytes for each token, and a copy of the text.
 pub fn lex(alloc: Global, bytes: &[u8]) -> Result<Tokens, LexFault>
     requires { length bytes.now ≤ 1048576 }
     ensures answer { IsLexed bytes.now result }
@@ -60,26 +61,44 @@ fn read_tokens(alloc: Global, bytes: &[u8]) -> Result<Tokens, LexFault>
     requires { length bytes.now ≤ 1048576 }
     ensures { IsLexed bytes.now result }
 {
-    let mut tokens = Vec::new(alloc);
-    let mut offsets = Vec::new(alloc);
+    let mut entries = Vec::new(alloc);
     let mut rest = bytes;
     loop {
         let here = skip(rest);
         if here.is_empty() {
-            return Ok(Tokens::new(tokens, offsets, bytes.len() as u64));
+            return hold(alloc, bytes, entries);
         }
-        let offset = (bytes.len() - here.len()) as u64;
-        let len = token_len(here);
-        if len == 0 {
-            return Err(LexFault::Char { offset });
+        let offset = bytes.len() - here.len();
+        match read_front(here) {
+            Front::Token { kind, len } => {
+                entries.push(Entry {
+                    kind,
+                    offset: offset as u32,
+                    len: len as u32,
+                })?;
+                let (_, behind) = here.split_at(len);
+                rest = behind;
+            }
+            Front::Nothing => return Err(LexFault::Char {
+                offset: offset as u64,
+            }),
+            Front::LargeNumber => return Err(LexFault::Number {
+                offset: offset as u64,
+            }),
+            Front::LongName => return Err(LexFault::NameLong {
+                offset: offset as u64,
+            }),
         }
-        let (text, behind) = here.split_at(len);
-        match token_of(text) {
-            Some(token) => tokens.push(token)?,
-            None if is_numeral(text) => return Err(LexFault::Number { offset }),
-            None => return Err(LexFault::NameLong { offset }),
-        }
-        offsets.push(offset)?;
-        rest = behind;
+    }
+}
+
+// The tokens of these entries, with a copy of the source.
+fn hold(alloc: Global, bytes: &[u8], entries: Vec<Entry>) -> Result<Tokens, LexFault>
+    requires { AreAll bytes.now entries.items }
+    ensures { IsLexed bytes.now result }
+{
+    match bytes.to_vec(alloc) {
+        Ok(source) => Ok(Tokens::new(source, entries)),
+        Err(_) => Err(LexFault::Memory),
     }
 }

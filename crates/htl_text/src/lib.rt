@@ -1,6 +1,7 @@
 //! The text of a source: its tokens, its tree, the grammar that ties them, and the printed form.
 #![tactic(auto)]
 
+mod entry;
 pub mod laws;
 mod lexer;
 mod printer;
@@ -13,7 +14,7 @@ mod tree;
 
 pub use lexer::{LexFault, lex};
 pub use printing::print;
-pub use token::{Sign, Token, Word};
+pub use token::{Kind, Sign, Token, Word};
 pub use tokens::Tokens;
 pub use tree::{
     CommNode, ConstNode, EndNode, Id, InvokeNode, ModeNode, ModuleNode, Num, OutNode, OutNodes,

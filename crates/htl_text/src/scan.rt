@@ -1,13 +1,27 @@
 // What stands at one place of a text.
-ghost use Rattle.std.specs.Prelude.{◌≡◌, ◌≤◌, ◌<◌, false, length, take, slice_index, ◌==◌, is_some};
+ghost use Rattle.std.specs.Prelude.{◌≡◌, ◌≤◌, true, false, get_or, length, slice_index};
 ghost use Rattle.std.specs.Char.{is_ascii_digit};
 ghost use Rattle.std.specs.List.{prefix_len};
 ghost use Rattle.htl_base.specs.Names.{is_letter, is_word_byte};
 ghost use Rattle.htl_text.specs.Spans.{is_blank};
-ghost use Rattle.htl_text.specs.Scanning.{skip, name_len, number_len, sign_len, token_len};
-ghost use Rattle.htl_text.specs.Texts.{sign_of};
+ghost use Rattle.htl_text.specs.Scanning.{skip, BeginsSolid, IsFront, IsFrontSign};
 
-use crate::spelling::sign_of;
+use crate::spelling::{number_of, one_byte_sign, two_byte_sign, word_of};
+use crate::token::{Kind, Sign};
+use htl_base::limits::MAX_NAME;
+
+/// What a text begins with.
+#[derive(Clone, Copy)]
+pub enum Front {
+    /// A token of this kind and length, the longest with which it begins.
+    Token { kind: Kind, len: usize },
+    /// No token.
+    Nothing,
+    /// A number above 9,223,372,036,854,775,807.
+    LargeNumber,
+    /// An identifier over 48 bytes.
+    LongName,
+}
 
 fn is_blank(b: u8) -> bool
     ensures { result ≡ is_blank b }
@@ -21,37 +35,94 @@ fn is_letter(b: u8) -> bool
     b.is_ascii_alphabetic() || b == b'_'
 }
 
+// Which bytes are letters, digits or `_`.
+const WORD_BYTES: [bool; 256] = [
+    false, false, false, false, false, false, false, false, false, false, false, false, false,
+    false, false, false, false, false, false, false, false, false, false, false, false, false,
+    false, false, false, false, false, false, false, false, false, false, false, false, false,
+    false, false, false, false, false, false, false, false, false, true, true, true, true, true,
+    true, true, true, true, true, false, false, false, false, false, false, false, true, true,
+    true, true, true, true, true, true, true, true, true, true, true, true, true, true, true, true,
+    true, true, true, true, true, true, true, true, false, false, false, false, true, false, true,
+    true, true, true, true, true, true, true, true, true, true, true, true, true, true, true, true,
+    true, true, true, true, true, true, true, true, true, false, false, false, false, false, false,
+    false, false, false, false, false, false, false, false, false, false, false, false, false,
+    false, false, false, false, false, false, false, false, false, false, false, false, false,
+    false, false, false, false, false, false, false, false, false, false, false, false, false,
+    false, false, false, false, false, false, false, false, false, false, false, false, false,
+    false, false, false, false, false, false, false, false, false, false, false, false, false,
+    false, false, false, false, false, false, false, false, false, false, false, false, false,
+    false, false, false, false, false, false, false, false, false, false, false, false, false,
+    false, false, false, false, false, false, false, false, false, false, false, false, false,
+    false, false, false, false, false, false, false, false, false, false, false, false, false,
+    false, false, false, false, false, false, false, false, false, false,
+];
+
 fn is_word_byte(b: u8) -> bool
     ensures { result ≡ is_word_byte b }
 {
-    b.is_ascii_alphanumeric() || b == b'_'
+    is_marked(&WORD_BYTES, b)
+}
+
+// What a table over all bytes says of one.
+fn is_marked(table: &[bool], b: u8) -> bool
+    requires { length table.now ≡ 256 }
+    ensures { result ≡ get_or table.now b false }
+{
+    table[b as usize]
 }
 
 /// What follows blanks and comments.
 pub fn skip(bytes: &[u8]) -> &[u8]
     ensures { result.now ≡ skip false bytes.now }
 {
+    let mut rest = behind_blanks(bytes);
+    while let [b'/', b'/', more @ ..] = rest {
+        rest = behind_blanks(behind_comment(more));
+    }
+    rest
+}
+
+// What follows blanks.
+fn behind_blanks(bytes: &[u8]) -> &[u8]
+    ensures same { skip false result.now ≡ skip false bytes.now }
+    ensures solid { BeginsSolid result.now }
+    ensures short { length result.now ≤ length bytes.now }
+{
     let mut rest = bytes;
-    let mut comment = false;
     while let [b, more @ ..] = rest {
-        if comment {
-            comment = *b != b'\n';
-        } else if *b == b'/' && begins_with_slash(more) {
-            comment = true;
-        } else if !is_blank(*b) {
-            return rest;
+        if !is_blank(*b) {
+            break;
         }
         rest = more;
     }
     rest
 }
 
-fn begins_with_slash(bytes: &[u8]) -> bool
-    ensures { result ≡ (slice_index bytes.now 0 == 47) }
+// What follows the text of a comment: the next line feed and the rest, or nothing.
+fn behind_comment(bytes: &[u8]) -> &[u8]
+    ensures same { skip false result.now ≡ skip true bytes.now }
+    ensures short { length result.now ≤ length bytes.now }
 {
-    match bytes {
-        [b, ..] => *b == b'/',
-        [] => false,
+    let mut rest = bytes;
+    while let [b, more @ ..] = rest {
+        if *b == b'\n' {
+            break;
+        }
+        rest = more;
+    }
+    rest
+}
+
+/// What a text begins with. Its first byte decides, and the bytes of the token are gone over once more at
+/// most.
+pub fn read_front(text: &[u8]) -> Front
+    ensures { IsFront text.now result }
+{
+    match text {
+        [b, ..] if is_letter(*b) => word_front(text),
+        [b, ..] if b.is_ascii_digit() => number_front(text),
+        _ => sign_front(text),
     }
 }
 
@@ -61,47 +132,81 @@ fn word_len(text: &[u8]) -> usize
     text.iter().take_while(|b| is_word_byte(**b)).count()
 }
 
-fn name_len(text: &[u8]) -> usize
-    ensures { result ≡ name_len text.now }
-{
-    match text {
-        [b, ..] if is_letter(*b) => word_len(text),
-        _ => 0,
-    }
-}
-
-fn number_len(text: &[u8]) -> usize
-    ensures { result ≡ number_len text.now }
+fn digits_len(text: &[u8]) -> usize
+    ensures { result ≡ prefix_len is_ascii_digit text.now }
 {
     text.iter().take_while(|b| b.is_ascii_digit()).count()
 }
 
-// The front of a text, of at most so many bytes.
-fn front(text: &[u8], len: usize) -> &[u8]
-    ensures { result.now ≡ take len text.now }
+// A reserved word or a name.
+fn word_front(text: &[u8]) -> Front
+    requires { is_letter (slice_index text.now 0) ≡ true }
+    ensures { IsFront text.now result }
 {
-    if len < text.len() { &text[..len] } else { text }
-}
-
-fn sign_len(text: &[u8]) -> usize
-    ensures { result ≡ sign_len text.now }
-{
-    let two = front(text, 2);
-    let one = front(text, 1);
-    if sign_of(two).is_some() {
-        two.len()
-    } else if sign_of(one).is_some() {
-        one.len()
-    } else {
-        0
+    let len = word_len(text);
+    let (word, _) = text.split_at(len);
+    match word_of(word) {
+        Some(word) => Front::Token {
+            kind: Kind::Word(word),
+            len,
+        },
+        None if len <= MAX_NAME => Front::Token {
+            kind: Kind::Ident,
+            len,
+        },
+        None => Front::LongName,
     }
 }
 
-/// How long the longest token is with which the text begins; 0 where none does.
-#[tactic(auto, using(crate::proofs::Lengths::lengths))]
-pub fn token_len(text: &[u8]) -> usize
-    ensures value { result ≡ token_len text.now }
-    ensures bound { result ≤ length text.now }
+// So many digits write a number in range.
+const SHORT_NUMBER: usize = 18;
+
+fn number_front(text: &[u8]) -> Front
+    requires { is_ascii_digit (slice_index text.now 0) ≡ true }
+    ensures { IsFront text.now result }
 {
-    name_len(text).max(number_len(text)).max(sign_len(text))
+    let len = digits_len(text);
+    let (digits, _) = text.split_at(len);
+    if len <= SHORT_NUMBER {
+        return Front::Token {
+            kind: Kind::Number,
+            len,
+        };
+    }
+    match number_of(digits) {
+        Some(_) => Front::Token {
+            kind: Kind::Number,
+            len,
+        },
+        None => Front::LargeNumber,
+    }
+}
+
+fn sign_front(text: &[u8]) -> Front
+    requires no_letter { is_letter (slice_index text.now 0) ≡ false }
+    requires no_digit { is_ascii_digit (slice_index text.now 0) ≡ false }
+    ensures { IsFront text.now result }
+{
+    match front_sign(text) {
+        Some((sign, len)) => Front::Token {
+            kind: Kind::Sign(sign),
+            len,
+        },
+        None => Front::Nothing,
+    }
+}
+
+// The longest sign with which a text begins, and its length.
+fn front_sign(text: &[u8]) -> Option<(Sign, usize)>
+    ensures { IsFrontSign text.now result }
+{
+    if let [b, c, ..] = text {
+        if let Some(sign) = two_byte_sign(*b, *c) {
+            return Some((sign, 2));
+        }
+    }
+    match text {
+        [b, ..] => one_byte_sign(*b).map(|sign| (sign, 1)),
+        [] => None,
+    }
 }

@@ -1,119 +1,78 @@
-// The token that a text spells, and the text of a token.
-ghost use Rattle.std.specs.Prelude.{◌≡◌, true, find, map};
-ghost use Rattle.std.specs.Char.{is_ascii_digit};
-ghost use Rattle.std.specs.List.{list_all};
+// Numbers, reserved words and signs, and their texts.
+ghost use Rattle.std.specs.Prelude.{◌≡◌, true, [], ◌∷◌, find, map};
 ghost use Rattle.std.specs.Option.{option_map};
 ghost use Rattle.std.specs.Str.{bytes_eq};
 ghost use Rattle.htl_text.specs.PrintedBytes.{sign_text, word_text};
-ghost use Rattle.htl_text.specs.Texts.{is_numeral, number_of, sign_of, token_of, word_of, look_up};
+ghost use Rattle.htl_text.specs.Texts.{is_numeral, number_of, sign_of, word_of, look_up};
 
-use crate::token::{Sign, Token, Word};
-use htl_base::{Name, Value};
+use crate::token::{Sign, Word};
+use htl_base::Value;
 
-const WORDS: [(&str, Word); 22] = [
-    ("program", Word::Program),
-    ("communicator", Word::Communicator),
-    ("sensor", Word::Sensor),
-    ("module", Word::Module),
-    ("start", Word::Start),
-    ("abstract", Word::Abstract),
-    ("task", Word::Task),
+// The greatest number of a source.
+const MAX_NUMBER: u64 = 9_223_372_036_854_775_807;
+
+/// The number that digits write, where it is below 2^63.
+pub fn number_of(digits: &[u8]) -> Option<Value>
+    requires { is_numeral digits.now ≡ true }
+    ensures { result ≡ number_of digits.now }
+{
+    let mut x = 0u64;
+    for b in digits {
+        if x > MAX_NUMBER / 10 {
+            return None;
+        }
+        x = x * 10 + (*b - b'0') as u64;
+    }
+    if x > MAX_NUMBER {
+        return None;
+    }
+    Some(x as Value)
+}
+
+/// The reserved word that a text spells. No word but those with its first byte is compared with it.
+pub fn word_of(text: &[u8]) -> Option<Word>
+    ensures { result ≡ word_of text.now }
+{
+    match text {
+        [b'a', ..] => word_in(&[("abstract", Word::Abstract)], text),
+        [b'b', ..] => word_in(&[("bool", Word::Bool)], text),
+        [b'c', ..] => word_in(&[("communicator", Word::Communicator)], text),
+        [b'f', ..] => word_in(&[("false", Word::False)], text),
+        [b'i', ..] => word_in(&I_WORDS, text),
+        [b'm', ..] => word_in(&M_WORDS, text),
+        [b'o', ..] => word_in(&[("output", Word::Output)], text),
+        [b'p', ..] => word_in(&P_WORDS, text),
+        [b's', ..] => word_in(&S_WORDS, text),
+        [b't', ..] => word_in(&T_WORDS, text),
+        [b'w', ..] => word_in(&[("worst", Word::Worst)], text),
+        _ => None,
+    }
+}
+
+const I_WORDS: [(&str, Word); 5] = [
     ("input", Word::Input),
-    ("output", Word::Output),
-    ("worst", Word::Worst),
-    ("mode", Word::Mode),
-    ("period", Word::Period),
-    ("port", Word::Port),
     ("invoke", Word::Invoke),
-    ("parent", Word::Parent),
-    ("switch", Word::Switch),
     ("init", Word::Init),
     ("int", Word::Int),
-    ("bool", Word::Bool),
-    ("true", Word::True),
-    ("false", Word::False),
     ("if", Word::If),
 ];
 
-const SIGNS: [(&str, Sign); 21] = [
-    ("{", Sign::OpenBrace),
-    ("}", Sign::CloseBrace),
-    ("(", Sign::OpenParen),
-    (")", Sign::CloseParen),
-    (";", Sign::Semicolon),
-    (",", Sign::Comma),
-    ("=", Sign::Assign),
-    ("==", Sign::Equal),
-    ("!=", Sign::NotEqual),
-    ("<", Sign::Less),
-    ("<=", Sign::LessEqual),
-    (">", Sign::Greater),
-    (">=", Sign::GreaterEqual),
-    ("+", Sign::Plus),
-    ("-", Sign::Minus),
-    ("*", Sign::Star),
-    ("/", Sign::Slash),
-    ("%", Sign::Percent),
-    ("!", Sign::Not),
-    ("&&", Sign::And),
-    ("||", Sign::Or),
+const M_WORDS: [(&str, Word); 2] = [("module", Word::Module), ("mode", Word::Mode)];
+
+const P_WORDS: [(&str, Word); 4] = [
+    ("program", Word::Program),
+    ("period", Word::Period),
+    ("port", Word::Port),
+    ("parent", Word::Parent),
 ];
 
-/// The token that a text spells; None where it spells none, or a number or a name out of its range.
-pub fn token_of(text: &[u8]) -> Option<Token>
-    ensures { result ≡ token_of text.now }
-{
-    if is_numeral(text) {
-        return match number_of(text) {
-            Some(x) => Some(Token::Number(x)),
-            None => None,
-        };
-    }
-    if let Some(word) = word_of(text) {
-        return Some(Token::Word(word));
-    }
-    if let Some(sign) = sign_of(text) {
-        return Some(Token::Sign(sign));
-    }
-    match Name::new(text) {
-        Some(name) => Some(Token::Ident(name)),
-        None => None,
-    }
-}
+const S_WORDS: [(&str, Word); 3] = [
+    ("sensor", Word::Sensor),
+    ("start", Word::Start),
+    ("switch", Word::Switch),
+];
 
-/// The text is a run of digits.
-pub fn is_numeral(text: &[u8]) -> bool
-    ensures { result ≡ is_numeral text.now }
-{
-    !text.is_empty() && are_digits(text)
-}
-
-fn are_digits(text: &[u8]) -> bool
-    ensures { result ≡ list_all is_ascii_digit text.now }
-{
-    text.iter().all(|b| b.is_ascii_digit())
-}
-
-// The number that digits write, where it is below 2^63.
-fn number_of(text: &[u8]) -> Option<Value>
-    requires { is_numeral text.now ≡ true }
-    ensures { result ≡ number_of text.now }
-{
-    let Ok(text) = str::from_utf8(text) else {
-        return None;
-    };
-    match text.parse::<i64>() {
-        Ok(x) => Some(x),
-        Err(_) => None,
-    }
-}
-
-// The reserved word that a text spells.
-fn word_of(text: &[u8]) -> Option<Word>
-    ensures { result ≡ word_of text.now }
-{
-    word_in(&WORDS, text)
-}
+const T_WORDS: [(&str, Word); 2] = [("task", Word::Task), ("true", Word::True)];
 
 // The word beside a spelling in a table.
 fn word_in(words: &[(&str, Word)], text: &[u8]) -> Option<Word>
@@ -131,27 +90,43 @@ fn find_word(words: &[(&str, Word)], text: &[u8]) -> Option<Word>
         .map(|entry| entry.1)
 }
 
-/// The sign that a text spells.
-pub fn sign_of(text: &[u8]) -> Option<Sign>
-    ensures { result ≡ sign_of text.now }
+/// The sign that one byte spells.
+pub fn one_byte_sign(b: u8) -> Option<Sign>
+    ensures { result ≡ sign_of (b ∷ []) }
 {
-    sign_in(&SIGNS, text)
+    match b {
+        b'{' => Some(Sign::OpenBrace),
+        b'}' => Some(Sign::CloseBrace),
+        b'(' => Some(Sign::OpenParen),
+        b')' => Some(Sign::CloseParen),
+        b';' => Some(Sign::Semicolon),
+        b',' => Some(Sign::Comma),
+        b'=' => Some(Sign::Assign),
+        b'<' => Some(Sign::Less),
+        b'>' => Some(Sign::Greater),
+        b'+' => Some(Sign::Plus),
+        b'-' => Some(Sign::Minus),
+        b'*' => Some(Sign::Star),
+        b'/' => Some(Sign::Slash),
+        b'%' => Some(Sign::Percent),
+        b'!' => Some(Sign::Not),
+        _ => None,
+    }
 }
 
-// The sign beside a spelling in a table.
-fn sign_in(signs: &[(&str, Sign)], text: &[u8]) -> Option<Sign>
-    ensures { result ≡ look_up (map (λ e. (e.0.now, e.1)) signs.now) text.now }
+/// The sign that two bytes spell.
+pub fn two_byte_sign(b: u8, c: u8) -> Option<Sign>
+    ensures { result ≡ sign_of (b ∷ c ∷ []) }
 {
-    find_sign(signs, text)
-}
-
-fn find_sign(signs: &[(&str, Sign)], text: &[u8]) -> Option<Sign>
-    ensures { result ≡ option_map (λ e. e.1) (find (λ e. bytes_eq e.0.now text.now) signs.now) }
-{
-    signs
-        .iter()
-        .find(|entry| entry.0.as_bytes() == text)
-        .map(|entry| entry.1)
+    match (b, c) {
+        (b'=', b'=') => Some(Sign::Equal),
+        (b'!', b'=') => Some(Sign::NotEqual),
+        (b'<', b'=') => Some(Sign::LessEqual),
+        (b'>', b'=') => Some(Sign::GreaterEqual),
+        (b'&', b'&') => Some(Sign::And),
+        (b'|', b'|') => Some(Sign::Or),
+        _ => None,
+    }
 }
 
 /// The spelling of a reserved word.

@@ -109,3 +109,16 @@ pub enum Token {
     /// A sign.
     Sign(Sign),
 }
+
+/// What a token is, without the bytes of a name or the value of a number.
+#[derive(Clone, Copy, PartialEq, Eq, Debug)]
+pub enum Kind {
+    /// An identifier that is no reserved word.
+    Ident,
+    /// A run of decimal digits.
+    Number,
+    /// A reserved word.
+    Word(Word),
+    /// A sign.
+    Sign(Sign),
+}

@@ -1,10 +1,13 @@
-use Rattle.std.proofs.Common.{sym}
-use Rattle.htl_text.proofs.Numbers.{digits_are_text, digits_of_number, number_of-refused}
+use Rattle.std.proofs.Common.{arith, ◌+◌, sym}
+use Rattle.htl_text.proofs.Numbers.{next-digit, number_of-large}
 use Rattle.htl_text.proofs.spelling.number_of.Goals as goal
 
-pub returns-in_default : goal.returns-in_default
-returns-in_default c = absurd (c.in_default.ensures.cases.0 (digits_are_text c.args.text.now (digits_of_number c.args.text.now c.requires)))
+pub returns-then-x : goal.returns-then-x
+returns-then-x c =
+    let n = next-digit c.args.digits.now c.requires c.loop-b.b-index (omega (arith, c.loop-b-test.true, c.loop-b.auto.b-index-end)) in
+    sym (number_of-large c.args.digits.now (c.loop-b.b-index + 1) (omega (arith, n.low, n.value, c.loop-b.invariant, c.if-x.true)))
 
-pub returns-in-Err : goal.returns-in-Err
-returns-in-Err c =
-    sym (number_of-refused c.args.text.now c.in-Err.field-0 c.requires (rw c.in-Ok.ensures.cases.0 at c.in-Err.ensures.value.0))
+pub loop-b-preserved : goal.loop-b-preserved
+loop-b-preserved c =
+    let n = next-digit c.args.digits.now c.requires c.loop-b.b-index (omega (arith, c.loop-b-test.true, c.loop-b.auto.b-index-end)) in
+    omega (arith, n.low, n.value, c.loop-b.invariant)

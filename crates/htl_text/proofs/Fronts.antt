@@ -1,0 +1,234 @@
+-- The token with which a text begins, by its first byte.
+use Rattle.std.proofs.Common.{arith, ◌≡◌, ◌≤◌, ◌<◌, ℕ, ℤ, zero, suc, ◌+◌, Bool, true, false, cond, not, ◌&&◌, List, [], ◌∷◌, length, take, Option, None, Some, is_some, refl, sym, subst, ap, ◌∙◌}
+use Rattle.std.specs.Prelude.{slice_index, nat_lt, find}
+use Rattle.std.specs.Char.{is_ascii_digit}
+use Rattle.std.specs.List.{prefix_len, list_all}
+use Rattle.std.specs.Option.{option_map}
+use Rattle.std.specs.Str.{bytes_eq}
+use Rattle.std.proofs.lemmas.List.Folds.{length-prefix_len}
+use Rattle.std.proofs.lemmas.Slice.Eq.{bytes_eq-Decides}
+use Rattle.std.proofs.lemmas.Bool.Decides.{nat_tests}
+use Rattle.htl_base.specs.Names.{is_letter, is_word_byte, is_identifier, is_reserved, is_name}
+use Rattle.htl_text.specs.Kinds.{kind_of}
+use Rattle.htl_text.specs.Texts.{look_up, or_else, words, word_of, signs, sign_of, is_numeral, number_of, token_of}
+use Rattle.htl_text.specs.Scanning.{name_len, number_len, sign_len, token_len, IsFront}
+use Rattle.htl_text.proofs.Cutting.{look_up-none}
+use Rattle.htl_text.proofs.Lengths.{name-taken, number-taken}
+use Rattle.htl_text.proofs.Numbers.{number_of-short}
+use Rattle.htl_text.specs.declared.scan.Front.TheVariants as front
+use Rattle.htl_text.specs.declared.token.Kind.TheVariants as kind
+use Rattle.htl_text.specs.declared.token.Sign.{Sign as ASign}
+use Rattle.htl_text.specs.declared.token.Token.{Token}
+use Rattle.htl_text.specs.declared.token.Token.TheVariants.{Ident, Number, Word, Sign}
+use Rattle.htl_text.specs.declared.token.Word.{Word as AWord}
+
+-- a table has no text that passes a test which no spelling passes
+pub look_up-unlike : {T : Type 0} (q : List ℕ → Bool) (text : List ℕ) → q text ≡ true → (es : List (List ℕ × T)) → list_all (λ (e : List ℕ × T). not (q e.0)) es ≡ true → look_up es text ≡ None
+look_up-unlike q text is [] all = refl
+look_up-unlike {T} q text is (e ∷ es) all = by (bytes_eq e.0 text) refl (q e.0) refl all (λ rest. look_up-unlike q text is es rest)
+  where
+    clash : (d r : Bool) → d ≡ true → (not d && r) ≡ true → ⊥
+    clash true r f g = cc
+    clash false r f g = cc
+
+    by : (c : Bool) → bytes_eq e.0 text ≡ c → (d : Bool) → q e.0 ≡ d → (not d && list_all (λ (x : List ℕ × T). not (q x.0)) es) ≡ true
+        → (list_all (λ (x : List ℕ × T). not (q x.0)) es ≡ true → look_up es text ≡ None)
+        → option_map (λ (x : List ℕ × T). x.1) (cond c (Some e) (find (λ (x : List ℕ × T). bytes_eq x.0 text) es)) ≡ None
+    by false unequal false f rest later = later rest
+    by false unequal true f rest later = absurd cc
+    by true same d f rest later =
+        let equal : e.0 ≡ text = (bytes_eq-Decides e.0 text).0 same in
+        absurd (clash d (list_all (λ (x : List ℕ × T). not (q x.0)) es) (sym f ∙ ap q equal ∙ is) rest)
+
+abbrev begins_with_letter : List ℕ → Bool
+begins_with_letter text = is_letter (slice_index text 0)
+
+abbrev begins_with_digit : List ℕ → Bool
+begins_with_digit text = is_ascii_digit (slice_index text 0)
+
+letter-no-digit : (b : ℕ) → is_letter b ≡ true → is_ascii_digit b ≡ false
+letter-no-digit b e = grind (arith, nat_tests, e)
+
+letter-word-byte : (b : ℕ) → is_letter b ≡ true → is_word_byte b ≡ true
+letter-word-byte b e = grind (arith, nat_tests, e)
+
+digit-no-letter : (b : ℕ) → is_ascii_digit b ≡ true → is_letter b ≡ false
+digit-no-letter b e = grind (arith, nat_tests, e)
+
+sign_len-none : (text : List ℕ) → sign_of (take 2 text) ≡ None → sign_of (take 1 text) ≡ None → sign_len text ≡ 0
+sign_len-none text two one =
+    ap (λ (o : Option ASign). cond (is_some o) (length (take 2 text)) (cond (is_some (sign_of (take 1 text))) (length (take 1 text)) 0)) two
+    ∙ ap (λ (o : Option ASign). cond (is_some o) (length (take 1 text)) 0) one
+
+-- a text that begins with a letter begins with a name or a reserved word
+pub record IsWordFront (text : List ℕ) (len : ℕ) : Type 0 where
+  pub some : 0 < len
+  pub longest : token_len text ≡ len
+  pub no_number : is_numeral (take len text) ≡ false
+  pub no_sign : sign_of (take len text) ≡ None
+  pub identifier : is_identifier (take len text) ≡ true
+  pub long : length (take len text) ≡ len
+
+pub word-front : (text : List ℕ) → is_letter (slice_index text 0) ≡ true → IsWordFront text (prefix_len is_word_byte text)
+word-front [] letter = absurd cc
+word-front (b ∷ bs) letter =
+    let text = b ∷ bs in
+    let one : prefix_len is_word_byte text ≡ 1 + prefix_len is_word_byte bs = ap (λ (c : Bool). cond c (1 + prefix_len is_word_byte bs) 0) (letter-word-byte b letter) in
+    let name : name_len text ≡ prefix_len is_word_byte text = ap (λ (c : Bool). cond c (prefix_len is_word_byte text) 0) letter in
+    let number : number_len text ≡ 0 = ap (λ (c : Bool). cond c (1 + prefix_len is_ascii_digit bs) 0) (letter-no-digit b letter) in
+    let sign : sign_len text ≡ 0 = sign_len-none text (look_up-unlike begins_with_letter (take 2 text) letter signs refl) (look_up-unlike begins_with_letter (take 1 text) letter signs refl) in
+    let some : 0 < prefix_len is_word_byte text = omega (arith, one) in
+    let word = take-some b bs (prefix_len is_word_byte text) some in
+    record {
+      some = some;
+      longest = omega (arith, name, number, sign);
+      no_number = no-numeral (take (prefix_len is_word_byte text) text) (ap is_ascii_digit word ∙ letter-no-digit b letter);
+      no_sign = look_up-unlike begins_with_letter (take (prefix_len is_word_byte text) text) (ap is_letter word ∙ letter) signs refl;
+      identifier = subst (λ (n : ℕ). is_identifier (take n text) ≡ true) name (name-taken text (omega (arith, name, some)));
+      long = length-prefix_len is_word_byte text;
+    }
+  where
+    take-some : (b : ℕ) (bs : List ℕ) (n : ℕ) → 0 < n → slice_index (take n (b ∷ bs)) 0 ≡ b
+    take-some b bs zero some = absurd (omega (arith, some))
+    take-some b bs (suc n) some = refl
+
+    no-numeral : (w : List ℕ) → is_ascii_digit (slice_index w 0) ≡ false → is_numeral w ≡ false
+    no-numeral [] e = refl
+    no-numeral (c ∷ cs) e = both (nat_lt 0 (length (c ∷ cs))) (is_ascii_digit c) e
+      where
+        both : (x y : Bool) → y ≡ false → (x && (y && list_all is_ascii_digit cs)) ≡ false
+        both true false e = refl
+        both false y e = refl
+        both true true e = absurd cc
+
+-- what follows the test for a number in `token_of`
+abbrev other : Option AWord → List ℕ → Option Token
+other word w = or_else (option_map Word word) (or_else (option_map Sign (sign_of w)) (cond (is_name w) (Some (Ident w)) None))
+
+unnumbered : (w : List ℕ) → is_numeral w ≡ false → token_of w ≡ other (word_of w) w
+unnumbered w e = ap (λ (b : Bool). cond b (option_map Number (number_of w)) (other (word_of w) w)) e
+
+pub token-word : (w : List ℕ) (x : AWord) → is_numeral w ≡ false → word_of w ≡ Some x → token_of w ≡ Some (Word x)
+token-word w x e f = unnumbered w e ∙ ap (λ (o : Option AWord). other o w) f
+
+unsigned : (w : List ℕ) (b : Bool) → is_numeral w ≡ false → word_of w ≡ None → sign_of w ≡ None → is_name w ≡ b → token_of w ≡ cond b (Some (Ident w)) None
+unsigned w b e f g h =
+    unnumbered w e ∙ ap (λ (o : Option AWord). other o w) f
+    ∙ ap (λ (o : Option ASign). or_else (option_map Sign o) (cond (is_name w) (Some (Ident w)) None)) g
+    ∙ ap (λ (c : Bool). cond c (Some (Ident w)) None) h
+
+pub token-name : (w : List ℕ) → is_numeral w ≡ false → word_of w ≡ None → sign_of w ≡ None → is_identifier w ≡ true → length w ≤ 48 → token_of w ≡ Some (Ident w)
+token-name w e f g is short = unsigned w true e f g (by (nat_lt (length w) 49) refl (is_identifier w) is (is_reserved w) (look_up-none words w f) short)
+  where
+    by : (a : Bool) → nat_lt (length w) 49 ≡ a → (i : Bool) → i ≡ true → (r : Bool) → r ≡ false → length w ≤ 48 → (a && i && not r) ≡ true
+    by true e true f false g short = refl
+    by false e i f r g short = absurd (grind (arith, nat_tests, e, short))
+    by true e false f r g short = absurd cc
+    by true e true f true g short = absurd cc
+
+pub token-long : (w : List ℕ) → is_numeral w ≡ false → word_of w ≡ None → sign_of w ≡ None → 48 < length w → token_of w ≡ None
+token-long w e f g long = unsigned w false e f g (by (nat_lt (length w) 49) refl long)
+  where
+    by : (a : Bool) → nat_lt (length w) 49 ≡ a → 48 < length w → (a && is_identifier w && not (is_reserved w)) ≡ false
+    by true e long = absurd (grind (arith, nat_tests, e, long))
+    by false e long = refl
+
+-- a text that begins with a digit begins with a number
+pub record IsNumberFront (text : List ℕ) (len : ℕ) : Type 0 where
+  pub some : 0 < len
+  pub longest : token_len text ≡ len
+  pub numeral : is_numeral (take len text) ≡ true
+  pub long : length (take len text) ≡ len
+
+pub number-front : (text : List ℕ) → is_ascii_digit (slice_index text 0) ≡ true → IsNumberFront text (prefix_len is_ascii_digit text)
+number-front [] digit = absurd cc
+number-front (b ∷ bs) digit =
+    let text = b ∷ bs in
+    let one : prefix_len is_ascii_digit text ≡ 1 + prefix_len is_ascii_digit bs = ap (λ (c : Bool). cond c (1 + prefix_len is_ascii_digit bs) 0) digit in
+    let name : name_len text ≡ 0 = ap (λ (c : Bool). cond c (prefix_len is_word_byte text) 0) (digit-no-letter b digit) in
+    let sign : sign_len text ≡ 0 = sign_len-none text (look_up-unlike begins_with_digit (take 2 text) digit signs refl) (look_up-unlike begins_with_digit (take 1 text) digit signs refl) in
+    let some : 0 < prefix_len is_ascii_digit text = omega (arith, one) in
+    record {
+      some = some;
+      longest = omega (arith, name, sign);
+      numeral = number-taken text some;
+      long = length-prefix_len is_ascii_digit text;
+    }
+
+numbered : (w : List ℕ) → is_numeral w ≡ true → token_of w ≡ option_map Number (number_of w)
+numbered w e = ap (λ (b : Bool). cond b (option_map Number (number_of w)) (other (word_of w) w)) e
+
+pub number-kind : (w : List ℕ) → is_numeral w ≡ true → is_some (number_of w) ≡ true → option_map kind_of (token_of w) ≡ Some kind.Number
+number-kind w e some = ap (option_map kind_of) (numbered w e) ∙ by (number_of w) some
+  where
+    by : (o : Option ℤ) → is_some o ≡ true → option_map kind_of (option_map Number o) ≡ Some kind.Number
+    by None e = absurd cc
+    by (Some x) e = refl
+
+pub number-none : (w : List ℕ) → is_numeral w ≡ true → is_some (number_of w) ≡ false → token_of w ≡ None
+number-none w e none = numbered w e ∙ by (number_of w) none
+  where
+    by : (o : Option ℤ) → is_some o ≡ false → option_map Number o ≡ None
+    by None e = refl
+    by (Some x) e = absurd cc
+
+-- the answer of each case, where so many bytes are gone over and w is their text
+module _ (text w : List ℕ) (len : ℕ) (letter : is_letter (slice_index text 0) ≡ true) (n : len ≡ prefix_len is_word_byte text) (is : w ≡ take len text) where
+  at : w ≡ take (prefix_len is_word_byte text) text
+  at = is ∙ ap (λ (k : ℕ). take k text) n
+
+  no_number : is_numeral w ≡ false
+  no_number = subst (λ (t : List ℕ). is_numeral t ≡ false) (sym at) (word-front text letter).no_number
+
+  no_sign : sign_of w ≡ None
+  no_sign = subst (λ (t : List ℕ). sign_of t ≡ None) (sym at) (word-front text letter).no_sign
+
+  identifier : is_identifier w ≡ true
+  identifier = subst (λ (t : List ℕ). is_identifier t ≡ true) (sym at) (word-front text letter).identifier
+
+  long : length w ≡ len
+  long = ap length at ∙ (word-front text letter).long ∙ sym n
+
+  longest : token_len text ≡ len
+  longest = (word-front text letter).longest ∙ sym n
+
+  some : 0 < len
+  some = let f = (word-front text letter).some in omega (arith, f, n)
+
+  fault : token_of w ≡ None → IsFront text front.LongName
+  fault none =
+      let same : w ≡ take (token_len text) text = is ∙ ap (λ (k : ℕ). take k text) (sym longest) in
+      (omega (arith, some, longest), subst (λ (t : List ℕ). is_numeral t ≡ false) same no_number, subst (λ (t : List ℕ). token_of t ≡ None) same none)
+
+  pub front-word : (x : AWord) → word_of w ≡ Some x → IsFront text (front.Token (kind.Word x) len)
+  front-word x e = (some, sym longest, ap (λ (t : List ℕ). option_map kind_of (token_of t)) (sym is) ∙ ap (option_map kind_of) (token-word w x no_number e))
+
+  pub front-name : word_of w ≡ None → len ≤ 48 → IsFront text (front.Token kind.Ident len)
+  front-name e short =
+      (some, sym longest, ap (λ (t : List ℕ). option_map kind_of (token_of t)) (sym is) ∙ ap (option_map kind_of) (token-name w no_number e no_sign identifier (omega (arith, long, short))))
+
+  pub front-long : word_of w ≡ None → 48 < len → IsFront text front.LongName
+  front-long e more = fault (token-long w no_number e no_sign (omega (arith, long, more)))
+
+module _ (text w : List ℕ) (len : ℕ) (digit : is_ascii_digit (slice_index text 0) ≡ true) (n : len ≡ prefix_len is_ascii_digit text) (is : w ≡ take len text) where
+  at-digits : w ≡ take (prefix_len is_ascii_digit text) text
+  at-digits = is ∙ ap (λ (k : ℕ). take k text) n
+
+  pub front-digits : is_numeral w ≡ true
+  front-digits = subst (λ (t : List ℕ). is_numeral t ≡ true) (sym at-digits) (number-front text digit).numeral
+
+  pub front-number : is_some (number_of w) ≡ true → IsFront text (front.Token kind.Number len)
+  front-number e =
+      let f = number-front text digit in
+      (omega (arith, f.some, n), n ∙ sym f.longest, ap (λ (t : List ℕ). option_map kind_of (token_of t)) (sym is) ∙ number-kind w front-digits e)
+
+  pub front-short : len ≤ 18 → IsFront text (front.Token kind.Number len)
+  front-short short =
+      let long = ap length at-digits ∙ (number-front text digit).long in
+      front-number (number_of-short w front-digits (omega (arith, long, n, short)))
+
+  pub front-large : is_some (number_of w) ≡ false → IsFront text front.LargeNumber
+  front-large e =
+      let f = number-front text digit in
+      let same : w ≡ take (token_len text) text = at-digits ∙ ap (λ (k : ℕ). take k text) (sym f.longest) in
+      (omega (arith, f.some, f.longest), subst (λ (t : List ℕ). is_numeral t ≡ true) same front-digits, subst (λ (t : List ℕ). token_of t ≡ None) same (number-none w front-digits e))

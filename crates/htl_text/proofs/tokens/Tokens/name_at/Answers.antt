@@ -1,0 +1,35 @@
+use Rattle.std.proofs.Common.{◌≡◌, ℕ, List, Some, length, ap, sym, subst, ◌∙◌, ◌<◌}
+use Rattle.std.specs.Prelude.{slice_get}
+use Rattle.std.specs.Option.{option_map}
+use Rattle.htl_text.specs.Entries.{IsKept, token_in}
+use Rattle.htl_text.specs.Kinds.{kind_of}
+use Rattle.htl_text.specs.TokenLists.{TokenList}
+use Rattle.htl_text.proofs.AtPlaces.{entry-below, entry-kind, token-at}
+use Rattle.htl_text.specs.declared.entry.Entry.{Entry}
+use Rattle.htl_text.specs.declared.token.Kind.TheVariants as kind
+use Rattle.htl_text.specs.declared.token.Token.{Token}
+use Rattle.htl_text.specs.declared.token.Token.TheVariants as token
+use Rattle.htl_text.proofs.tokens.Tokens.name_at.Goals as goal
+
+pub entry_at-entry-requires : goal.entry_at-entry-requires
+entry_at-entry-requires c =
+    let wanted = subst (λ (t : TokenList). option_map kind_of (slice_get t.tokens c.args.place) ≡ Some kind.Ident) (sym c.self.view_is) c.requires in
+    subst (λ (es : List Entry). c.args.place < length es) (sym c.as_slice.ensures.value) (entry-below c.self.inside.source.items c.self.inside.entries.items c.args.place kind.Ident wanted)
+
+pub name_in-requires-clause-kept : goal.name_in-requires-clause-kept
+name_in-requires-clause-kept c =
+    let at : slice_get c.self.inside.entries.items c.args.place ≡ Some c.entry_at-entry.result = ap (λ (es : List Entry). slice_get es c.args.place) (sym c.as_slice.ensures.value) ∙ c.entry_at-entry.ensures in
+    subst (λ (source : List ℕ). IsKept source c.entry_at-entry.result) (sym c.as_slice-source.ensures.value) (c.self.invariant.kept c.args.place c.entry_at-entry.result at)
+
+pub name_in-requires-clause-kind : goal.name_in-requires-clause-kind
+name_in-requires-clause-kind c =
+    let at : slice_get c.self.inside.entries.items c.args.place ≡ Some c.entry_at-entry.result = ap (λ (es : List Entry). slice_get es c.args.place) (sym c.as_slice.ensures.value) ∙ c.entry_at-entry.ensures in
+    let wanted = subst (λ (t : TokenList). option_map kind_of (slice_get t.tokens c.args.place) ≡ Some kind.Ident) (sym c.self.view_is) c.requires in
+    entry-kind c.self.inside.source.items c.self.inside.entries.items c.args.place kind.Ident c.entry_at-entry.result at wanted
+
+pub returns : goal.returns
+returns c =
+    let at : slice_get c.self.inside.entries.items c.args.place ≡ Some c.entry_at-entry.result = ap (λ (es : List Entry). slice_get es c.args.place) (sym c.as_slice.ensures.value) ∙ c.entry_at-entry.ensures in
+    subst (λ (t : TokenList). slice_get t.tokens c.args.place ≡ Some (token.Ident c.name_in.result)) c.self.view_is
+    (token-at c.self.inside.source.items c.self.inside.entries.items c.args.place c.entry_at-entry.result at
+    ∙ ap (λ (source : List ℕ). Some (token_in source c.entry_at-entry.result)) (sym c.as_slice-source.ensures.value) ∙ ap (λ (t : Token). Some t) c.name_in.ensures)
