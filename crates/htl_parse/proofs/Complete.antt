@@ -89,7 +89,7 @@ module _ (next : Reader Expr) (ops : Sign → Option BinOp) where
         e ∙ ap (grown (tail next ops m) next k l (Put k (token.Sign s) ∷ us) us) is ∙ ap (λ (x : Read Expr). x >>= λ y. tail next ops m (Infix k op l y.0) y.1) right,
       )
 
-compared-done : (next : Reader Expr) (e : Expr) (us : List Placed) → IsFree compare_of us → compared next e us ≡ Ok (e, us)
+pub compared-done : (next : Reader Expr) (e : Expr) (us : List Placed) → IsFree compare_of us → compared next e us ≡ Ok (e, us)
 compared-done next e (Put k (token.Sign s) ∷ us) free = ap (grown (λ f ts. Ok (f, ts)) next k e (Put k (token.Sign s) ∷ us) us) free
 compared-done next e us free = refl
 

@@ -1,4 +1,4 @@
--- Steps of the descent through expressions.
+-- Operands: where no prefix operator stands next, and what each level leaves.
 use Rattle.std.proofs.Common.{arith, ◌≡◌, ◌<◌, ℕ, List, ◌∷◌, length, Option, None, Some, Ok, refl, sym, ap, ◌∙◌}
 use Rattle.htl_base.specs.declared.operator.BinOp.{BinOp}
 use Rattle.htl_text.specs.Placed.{Placed, Put}
@@ -14,31 +14,6 @@ use Rattle.htl_text.specs.declared.token.Sign.{Sign}
 use Rattle.htl_text.specs.declared.token.Sign.TheVariants as sign
 use Rattle.htl_text.specs.declared.tree.Term.{Term}
 use Rattle.htl_parse.specs.Cursors.{PassesOperator}
-
--- one level has come to e, and goes on with what is left
-pub record IsGoing (read next : Reader Expr) (ops : Sign → Option BinOp) (old left : List Placed) (e : Term) : Type 0 where
-  pub reads : read old ≡ further next ops (expr_of e) left
-  pub less : length left < length old
-
-module _ (read next : Reader Expr) (ops : Sign → Option BinOp) (old left : List Placed) (e : Term) (so : IsGoing read next ops old left e) where
-  pub going-more : (shrinks : Shrinks next) (mid new : List Placed) (k : ℕ) (op : BinOp) (r f : Term) → PassesOperator ops left mid (Some (k, op)) → next mid ≡ Ok (expr_of r, new)
-      → length new < length mid → expr_of f ≡ Infix k op (expr_of e) (expr_of r) → IsGoing read next ops old new f
-  going-more shrinks mid new k op r f passes right less made = record {
-    reads =
-        so.reads ∙ ap (further next ops (expr_of e)) passes.2 ∙ further-is next ops shrinks (expr_of e) k passes.0 mid
-        ∙ ap (grown (further next ops) next k (expr_of e) (Put k (token.Sign passes.0) ∷ mid) mid) passes.1
-        ∙ ap (λ (x : Read Expr). x >>= λ y. further next ops (Infix k op (expr_of e) y.0) y.1) right
-        ∙ ap (λ (x : Expr). further next ops x new) (sym made);
-    less = let longer : length left ≡ length (Put k (token.Sign passes.0) ∷ mid) = ap length passes.2 in omega (arith, so.less, less, longer);
-  }
-
-  free : (us : List Placed) → ((k : ℕ) (s : Sign) (rest : List Placed) → us ≡ Put k (token.Sign s) ∷ rest → ops s ≡ None) → IsFree ops us
-  free (Put k (token.Sign s) ∷ us) none = none k s us refl
-  free us none = tt
-
-  pub going-done : (new : List Placed) → PassesOperator ops left new None → read old ≡ Ok (expr_of e, new)
-  going-done new passes =
-      so.reads ∙ tail-done next ops (length left) (expr_of e) left (free left passes.1) ∙ ap (λ (us : List Placed). Ok (expr_of e, us)) (sym passes.0)
 
 -- no prefix operator stands next
 pub unary-plain : (old new : List Placed) → PassesOperator prefix_of old new None → unary_by read_expr old ≡ atom_by read_expr new

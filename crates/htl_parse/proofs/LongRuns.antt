@@ -1,8 +1,11 @@
 -- Counting the tokens of a run.
 use Rattle.std.proofs.Common.{arith, ◌≡◌, ◌≤◌, ◌<◌, ◌+◌, ℕ, suc, Bool, true, false, cond, List, [], ◌∷◌, ◌++◌, length, drop, get_or, Option, None, Some, refl, sym, subst, ap, ◌∙◌, append_assoc, length-append}
-use Rattle.std.specs.Prelude.{nat_lt}
-use Rattle.std.proofs.Math.Seq.{drop-cons}
-use Rattle.std.proofs.lemmas.List.{drop_all}
+use Rattle.std.specs.Option.{option_map}
+use Rattle.std.specs.Prelude.{nat_lt, slice_get}
+use Rattle.std.proofs.lemmas.Option.{slice_get_within}
+use Rattle.htl_text.proofs.AtPlaces.{drop-at}
+use Rattle.htl_text.specs.Kinds.{kind_of, FirstIs}
+use Rattle.htl_text.specs.declared.token.Kind.{Kind}
 use Rattle.std.proofs.lemmas.Bool.Decides.{nat_tests}
 use Rattle.htl_parse.specs.Runs.{ends_run, IsStatementRun, IsLong, AreShort, IsFirstLong, run_after}
 use Rattle.htl_text.specs.declared.token.Token.{Token}
@@ -17,6 +20,9 @@ above n e = grind (arith, nat_tests)
 
 not_above : (n : ℕ) → nat_lt 512 n ≡ false → n ≤ 512
 not_above n e = grind (arith, nat_tests)
+
+none_above : (n : ℕ) → n ≤ 512 → nat_lt 512 n ≡ false
+none_above n e = grind (arith, nat_tests)
 
 is_above : (n : ℕ) → 512 < n → nat_lt 512 n ≡ true
 is_above n e = grind (arith, nat_tests)
@@ -112,17 +118,42 @@ counted-none ts e = λ k is. let other = long-found ts k is in by (counted 0 0 t
 pub record IsCounting (ts : List Token) (n place : ℕ) : Type 0 where
   pub reads : counted 0 0 ts ≡ counted n place (drop place ts)
   pub short : n ≤ 512
+  pub within : place ≤ length ts
 
--- with token t at index i a run is long
-pub counting-found : (ts : List Token) (n place i m : ℕ) (t : Token) → IsCounting ts n place → place ≡ i → i < length ts → t ≡ get_or ts i t → m ≡ run_after n t → 512 < m
-    → IsFirstLong ts place
-counting-found ts n place i m t so at within is after long =
-    let here : place < length ts = omega (arith, at, within) in
-    let item : t ≡ get_or ts place t = subst (λ (j : ℕ). t ≡ get_or ts j t) (sym at) is in
-    counted-first ts place (
-    so.reads ∙ ap (counted n place) (drop-cons ts place t here) ∙ ap (λ (u : Token). counted n place (u ∷ drop (suc place) ts)) (sym item)
-    ∙ ap (λ (c : Bool). cond c (Some place) (counted (run_after n t) (place + 1) (drop (suc place) ts))) (is_above (run_after n t) (omega (arith, after, long)))
-    )
+-- a token of this kind stands at the place, and then the run is so long
+record StandsAt (ts : List Token) (place : ℕ) (k : Kind) : Type 0 where
+  pub t : Token
+  pub is : slice_get ts place ≡ Some t
+  pub kind : kind_of t ≡ k
 
-pub counting-end : (ts : List Token) (n place i : ℕ) → IsCounting ts n place → place ≡ i → length ts ≤ i → AreShort ts
-counting-end ts n place i so at past = counted-none ts (so.reads ∙ ap (counted n place) (drop_all place ts (omega (arith, at, past))))
+stands-at : (ts : List Token) (place : ℕ) (k : Kind) → Some k ≡ option_map kind_of (slice_get ts place) → StandsAt ts place k
+stands-at ts place k e = by (slice_get ts place) refl e
+  where
+    by : (o : Option Token) → slice_get ts place ≡ o → Some k ≡ option_map kind_of o → StandsAt ts place k
+    by None is e = absurd cc
+    by (Some t) is e = record { t = t; is = is; kind = cc }
+
+module _ (ts : List Token) (n place m : ℕ) (k : Kind) (so : IsCounting ts n place) (next : Some k ≡ option_map kind_of (slice_get ts place)) (after : (t : Token) → kind_of t ≡ k → m ≡ run_after n t) where
+  pub counting-below : place < length ts
+  counting-below = let at = stands-at ts place k next in slice_get_within ts place at.t at.is
+
+  counted-next : counted 0 0 ts ≡ cond (nat_lt 512 m) (Some place) (counted m (place + 1) (drop (place + 1) ts))
+  counted-next =
+      let at = stands-at ts place k next in
+      so.reads ∙ ap (counted n place) (drop-at ts place at.t at.is)
+      ∙ ap (λ (j : ℕ). cond (nat_lt 512 j) (Some place) (counted j (place + 1) (drop (place + 1) ts))) (sym (after at.t at.kind))
+
+  -- with the token at the place a run is long
+  pub counting-found : 512 < m → IsFirstLong ts place
+  counting-found long =
+      counted-first ts place (counted-next ∙ ap (λ (c : Bool). cond c (Some place) (counted m (place + 1) (drop (place + 1) ts))) (is_above m long))
+
+  pub counting-more : m ≤ 512 → IsCounting ts m (place + 1)
+  counting-more fits = record {
+    reads = counted-next ∙ ap (λ (c : Bool). cond c (Some place) (counted m (place + 1) (drop (place + 1) ts))) (none_above m fits);
+    short = fits;
+    within = let h = counting-below in omega (arith, h);
+  }
+
+pub counting-end : (ts : List Token) (n place : ℕ) → IsCounting ts n place → FirstIs None (drop place ts) (drop (place + 1) ts) → AreShort ts
+counting-end ts n place so past = counted-none ts (so.reads ∙ ap (counted n place) past)

@@ -1,6 +1,13 @@
 -- A sign or a word that must stand next.
-use Rattle.std.proofs.Common.{arith, ◌≡◌, ◌≤◌, ℕ, Bool, true, false, cond, List, [], ◌∷◌, length, None, Some, Ok, Err, refl, sym, ap, ◌∙◌}
-use Rattle.std.specs.Prelude.{◌==◌}
+use Rattle.std.proofs.Common.{arith, ◌≡◌, ◌≤◌, ◌<◌, ◌-◌, ℕ, zero, suc, Bool, true, false, cond, List, [], ◌∷◌, ◌+◌, length, drop, Option, None, Some, Ok, Err, refl, sym, subst, ap, ◌∙◌, length-drop}
+use Rattle.std.specs.Option.{option_map}
+use Rattle.std.specs.Prelude.{◌==◌, slice_get}
+use Rattle.std.proofs.lemmas.List.{drop_all}
+use native.Mathlib.Numerals.{unary_clauses}
+use Rattle.htl_text.specs.Kinds.{kind_of, FirstIs}
+use Rattle.htl_text.specs.declared.token.Kind.{Kind}
+use Rattle.htl_text.specs.declared.token.Kind.TheVariants as kind
+use Rattle.htl_parse.specs.Cursors.{next_kind, NextIs, behind}
 use Rattle.htl_parse.specs.Codes.{sign_code, word_code}
 use Rattle.htl_text.specs.Placed.{Placed, Put, numbered}
 use Rattle.htl_parse.specs.Reading.{◌>>=◌, after_sign, after_word, place_at, name_at, clause_by, clause_at}
@@ -40,13 +47,57 @@ word-missing wanted old new missing = ap Err (sym missing.0)
 
 pub ruleset stands = (sign-passed, sign-missing, word-passed, word-missing)
 
-pub place-numbered : (n : ℕ) (ts : List Token) → 1 ≤ length ts → place_at (numbered n ts) ≡ n
-place-numbered n [] some = absurd (omega (arith, some))
-place-numbered n (t ∷ ts) some = refl
+pub length-numbered : (n : ℕ) (ts : List Token) → length (numbered n ts) ≡ length ts
+length-numbered n [] = refl
+length-numbered n (t ∷ ts) = let e = length-numbered (n + 1) ts in omega (arith, e)
 
-pub numbered-some : (n : ℕ) (ts : List Token) → 1 ≤ length ts → numbered n ts ≡ [] → ⊥
-numbered-some n [] some e = absurd (omega (arith, some))
-numbered-some n (t ∷ ts) some e = cc
+-- ---- the token at a place, and what stands from it on
+
+-- what the first token is
+pub next-first : (n : ℕ) (ts us : List Token) (k : Option Kind) → FirstIs k ts us → NextIs (numbered n ts) k
+next-first n ts us None e = ap (numbered n) e
+next-first n ts us (Some kind.Ident) e =
+    subst (λ (vs : List Token). NextIs (numbered n vs) (Some kind.Ident)) (sym e.1) (e.0, refl)
+next-first n ts us (Some kind.Number) e =
+    subst (λ (vs : List Token). NextIs (numbered n vs) (Some kind.Number)) (sym e.1) (e.0, refl)
+next-first n ts us (Some (kind.Word w)) e = subst (λ (vs : List Token). NextIs (numbered n vs) (Some (kind.Word w))) (sym e) refl
+next-first n ts us (Some (kind.Sign s)) e = subst (λ (vs : List Token). NextIs (numbered n vs) (Some (kind.Sign s))) (sym e) refl
+
+pub next-kind : (ts : List Placed) (k : Option Kind) → NextIs ts k → k ≡ next_kind ts
+next-kind ts None e = sym (ap next_kind e)
+next-kind ts (Some kind.Ident) e = sym (ap next_kind e.1)
+next-kind ts (Some kind.Number) e = sym (ap next_kind e.1)
+next-kind ts (Some (kind.Word w)) e = sym (ap next_kind e)
+next-kind ts (Some (kind.Sign s)) e = sym (ap next_kind e)
+
+pub kind-at : (n p : ℕ) (ts : List Token) → next_kind (numbered n (drop p ts)) ≡ option_map kind_of (slice_get ts p)
+kind-at n zero [] = refl
+kind-at n zero (t ∷ ts) = refl
+kind-at n (suc p) [] = refl
+kind-at n (suc p) (t ∷ ts) = kind-at n p ts
+
+pub next-is : (n : ℕ) (ts us : List Token) (t : Token) → ts ≡ t ∷ us → numbered n ts ≡ Put (place_at (numbered n ts)) t ∷ behind (numbered n ts)
+next-is n ts us t e = subst (λ (vs : List Token). numbered n vs ≡ Put (place_at (numbered n vs)) t ∷ behind (numbered n vs)) (sym e) refl
+
+pub behind-at : (n p : ℕ) (ts : List Token) → behind (numbered n (drop p ts)) ≡ numbered (n + 1) (drop (p + 1) ts)
+behind-at n zero [] = refl
+behind-at n zero (t ∷ ts) = refl
+behind-at n (suc p) [] = ap (numbered (n + 1)) (sym (drop_all (suc p + 1) [] (omega arith)))
+behind-at n (suc p) (t ∷ ts) = behind-at n p ts ∙ ap (numbered (n + 1)) (sym (later p t ts))
+  where
+    later : (p : ℕ) (t : Token) (ts : List Token) → drop (suc p + 1) (t ∷ ts) ≡ drop (p + 1) ts
+    later p t ts = simp unary_clauses
+
+pub place-at : (n p : ℕ) (ts : List Token) → p < length ts → place_at (numbered n (drop p ts)) ≡ n
+place-at n p [] below = absurd (omega (arith, below))
+place-at n zero (t ∷ ts) below = refl
+place-at n (suc p) (t ∷ ts) below = place-at n p ts (omega (arith, below))
+
+pub none-at : (n p : ℕ) (ts : List Token) → length ts ≤ p → numbered n (drop p ts) ≡ []
+none-at n p ts past = ap (numbered n) (drop_all p ts past)
+
+pub length-at : (n p : ℕ) (ts : List Token) → length (numbered n (drop p ts)) ≡ length ts - p
+length-at n p ts = length-numbered n (drop p ts) ∙ length-drop p ts
 
 -- a word that is looked for, and a name behind it
 pub clause-present : (wanted : Word) (old new : List Placed) (k : ℕ) → old ≡ Put k (token.Word wanted) ∷ new → clause_at wanted old ≡ (name_at new >>= λ n. Ok (Some n.0, n.1))
@@ -62,4 +113,4 @@ clause-absent wanted old new missing = ap (λ (ts : List Placed). Ok (None, ts))
 
 pub ruleset clauses = (clause-present, clause-absent)
 
-pub ruleset places = (place-numbered)
+pub ruleset places = (place-at, behind-at, none-at)

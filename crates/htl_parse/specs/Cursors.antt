@@ -1,8 +1,13 @@
 -- What the steps of a reader say of the tokens that are left.
-use Rattle.std.specs.Prelude.{Bool, true, false, ℕ, ◌≡◌, ◌<◌, Option, None, Some, Result, Ok, Err, List, [], ◌∷◌, length}
+use Rattle.std.specs.Prelude.{Bool, true, false, ℕ, ℤ, ◌≡◌, ◌<◌, ◌≤◌, ◌⊎◌, Option, None, Some, Result, Ok, Err, List, [], ◌∷◌, length}
 use Rattle.htl_text.specs.Placed.{Placed, Put}
+use Rattle.htl_base.specs.declared.operator.BinOp.{BinOp}
 use Rattle.htl_text.specs.Expressions.{Expr, expr_of}
-use Rattle.htl_parse.specs.Reading.{Read}
+use Rattle.htl_text.specs.Kinds.{kind_of}
+use Rattle.htl_text.specs.declared.token.Kind.{Kind}
+use Rattle.htl_text.specs.declared.token.Kind.TheVariants as kind
+use Rattle.htl_parse.specs.Levels.{level_of, operator_at}
+use Rattle.htl_parse.specs.Reading.{Read, left_of, place_at}
 use Rattle.htl_parse.specs.ReadingExpressions.{simple_at}
 use Rattle.htl_text.specs.declared.token.Token.{Token}
 use Rattle.htl_text.specs.declared.token.Token.TheVariants as token
@@ -10,6 +15,24 @@ use Rattle.htl_text.specs.declared.token.Sign.{Sign}
 use Rattle.htl_text.specs.declared.tree.Term.{Term}
 use Rattle.htl_parse.specs.declared.stop.Stop.{Stop}
 use Rattle.htl_parse.specs.declared.stop.Stop.TheVariants as stop
+
+-- the kind of the token that stands next
+abbrev pub next_kind : List Placed → Option Kind
+next_kind [] = None
+next_kind (Put k t ∷ ts) = Some (kind_of t)
+
+-- what stands behind the first token
+abbrev pub behind : List Placed → List Placed
+behind [] = []
+behind (t ∷ ts) = ts
+
+-- a token of this kind stands next, or none
+abbrev pub NextIs : List Placed → Option Kind → Type 0
+NextIs ts None = ts ≡ []
+NextIs ts (Some kind.Ident) = (n : List ℕ) × (ts ≡ Put (place_at ts) (token.Ident n) ∷ behind ts)
+NextIs ts (Some kind.Number) = (x : ℤ) × (ts ≡ Put (place_at ts) (token.Number x) ∷ behind ts)
+NextIs ts (Some (kind.Word w)) = ts ≡ Put (place_at ts) (token.Word w) ∷ behind ts
+NextIs ts (Some (kind.Sign s)) = ts ≡ Put (place_at ts) (token.Sign s) ∷ behind ts
 
 -- this token was passed, with its number; or it doesn't stand next and nothing was passed
 abbrev pub Passes : Token → List Placed → List Placed → Option ℕ → Type 0
@@ -20,6 +43,14 @@ Passes t old new None = (new ≡ old) × ((k : ℕ) (rest : List Placed) → old
 abbrev pub PassesOperator : {O : Type 0} → (Sign → Option O) → List Placed → List Placed → Option (ℕ × O) → Type 0
 PassesOperator ops old new (Some x) = (s : Sign) × (ops s ≡ Some x.1) × (old ≡ Put x.0 (token.Sign s) ∷ new)
 PassesOperator ops old new None = (new ≡ old) × ((k : ℕ) (s : Sign) (rest : List Placed) → old ≡ Put k (token.Sign s) ∷ rest → ops s ≡ None)
+
+-- An operator between operands was passed, with its number and its level, which is from loosest on and below limit; or
+-- none of these levels stands next.
+abbrev pub PassesBinary : ℕ → ℕ → List Placed → List Placed → Option (ℕ × ℕ × BinOp) → Type 0
+PassesBinary loosest limit old new (Some x) =
+    (s : Sign) × (x.1 ≡ level_of s) × (operator_at x.1 s ≡ Some x.2) × (loosest ≤ x.1) × (x.1 < limit) × (old ≡ Put x.0 (token.Sign s) ∷ new)
+PassesBinary loosest limit old new None =
+    (new ≡ old) × ((k : ℕ) (s : Sign) (rest : List Placed) → old ≡ Put k (token.Sign s) ∷ rest → (level_of s < loosest) ⊎ (limit ≤ level_of s))
 
 -- what a reader of expressions has found
 abbrev pub gives : Option Term → List Placed → Read Expr
@@ -42,6 +73,12 @@ abbrev pub Gives : {X Y : Type 0} → (X → Y) → Result X Stop → List Place
 Gives view (Ok x) new read = read ≡ Ok (view x, new)
 Gives view (Err stop.Memory) new read = Unit {0}
 Gives view (Err stop.Syntax) new read = read ≡ Err new
+
+-- The same of a reader behind which nothing may stand.
+abbrev pub GivesWhole : {X Y : Type 0} → (X → Y) → Result X Stop → List Placed → Read Y → Type 0
+GivesWhole view (Ok x) new read = read ≡ Ok (view x, [])
+GivesWhole view (Err stop.Memory) new read = Unit {0}
+GivesWhole {X} {Y} view (Err stop.Syntax) new read = (left_of read ≡ new) × ((y : Y) → read ≡ Ok (y, []) → ⊥)
 
 -- what was read is no longer left
 abbrev pub Lessens : {X : Type 0} → Result X Stop → List Placed → List Placed → Type 0

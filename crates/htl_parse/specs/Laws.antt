@@ -1,5 +1,5 @@
 -- Laws over all tokens and all trees.
-use Rattle.std.specs.Prelude.{◌≡◌, ◌≤◌, List, [], length}
+use Rattle.std.specs.Prelude.{ℕ, ◌≡◌, ◌≤◌, List, [], length}
 use Rattle.htl_text.specs.Bounds.{IsBounded}
 use Rattle.htl_text.specs.Nodes.{PlainProgram}
 use Rattle.htl_text.specs.PrintedBytes.{printed_bytes}
@@ -7,7 +7,7 @@ use Rattle.htl_text.specs.PrintedTokens.{source_tokens}
 use Rattle.htl_text.specs.Spans.{Tokens}
 use Rattle.htl_text.specs.Spellable.{AreSpellable}
 use Rattle.htl_text.specs.TokenLists.{TokenList}
-use Rattle.htl_parse.specs.Answers.{Spell}
+use Rattle.htl_parse.specs.Answers.{Spell, IsMisfit}
 use Rattle.htl_parse.specs.Bare.{AreAlike}
 use Rattle.htl_parse.specs.Runs.{AreShort}
 use Rattle.htl_text.specs.declared.token.Token.{Token}
@@ -15,6 +15,14 @@ use Rattle.htl_text.specs.declared.token.Token.{Token}
 -- tokens spell at most one tree
 abbrev pub OneTree : Type 0
 OneTree = (tokens : List Token) (t u : List PlainProgram) → Spell tokens t → Spell tokens u → t ≡ u
+
+-- every list of tokens has a place at which it stops to begin a text
+abbrev pub HasMisfit : Type 0
+HasMisfit = (tokens : List Token) → (k : ℕ) × IsMisfit tokens k
+
+-- and only one
+abbrev pub OneMisfit : Type 0
+OneMisfit = (tokens : List Token) (j k : ℕ) → IsMisfit tokens j → IsMisfit tokens k → j ≡ k
 
 -- a tree is bounded that at most 1,048,576 tokens spell, each such as a text can spell, with no long run
 abbrev pub TreesBounded : Type 0

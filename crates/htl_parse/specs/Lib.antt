@@ -2,8 +2,8 @@ pub mod Answers
 pub mod Bare
 pub mod Codes
 pub mod Cursors
-pub mod Faults
 pub mod Laws
+pub mod Levels
 pub mod Reading
 pub mod ReadingExpressions
 pub mod ReadingLists

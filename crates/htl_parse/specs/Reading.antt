@@ -18,6 +18,11 @@ use Rattle.htl_text.specs.declared.tree.ConstNode.TheVariants as const
 abbrev pub Read : Type 0 → Type 0
 Read X = Result (X × List Placed) (List Placed)
 
+-- what a reader leaves
+abbrev pub left_of : {X : Type 0} → Read X → List Placed
+left_of (Ok x) = x.1
+left_of (Err left) = left
+
 abbrev pub Reader : Type 0 → Type 0
 Reader X = List Placed → Read X
 

@@ -1,56 +1,100 @@
 // The tokens that are left to read.
-ghost use Rattle.std.specs.Prelude.{◌≡◌, ◌≤◌, ◌∷◌, [], length, IfSome};
+ghost use Rattle.std.specs.Prelude.{◌≡◌, ◌≤◌, ◌∷◌, [], Some, length, IfSome};
 ghost use Rattle.htl_text.specs.Placed.{Placed, Put, numbered};
-ghost use Rattle.htl_text.specs.Grammar.{or_of, and_of, compare_of, sum_of, product_of, prefix_of};
-ghost use Rattle.htl_parse.specs.Cursors.{IsDone, IsSimple, Passes, PassesOperator, Stands, Gives};
+ghost use Rattle.htl_text.specs.Grammar.{prefix_of};
+ghost use Rattle.htl_text.specs.declared.token.Kind.TheVariants as kind;
+ghost use Rattle.htl_parse.specs.Cursors.{next_kind, NextIs, behind, IsDone, IsSimple, Passes, PassesOperator, PassesBinary, Stands, Gives};
 ghost use Rattle.htl_parse.specs.Reading.{after_sign, after_word, place_at, type_at, name_at, number_at, const_at, clause_at};
 ghost use Rattle.htl_parse.specs.ReadingStatements.{kind_at, begins_comm, begins_task, begins_port, begins_invoke, begins_switch, begins_mode, begins_module, begins_program};
 ghost use Rattle.htl_text.specs.declared.token.Token.TheVariants as token;
 
-use crate::operator::{and_of, compare_of, or_of, prefix_of, product_of, sum_of};
+use crate::operator::{binary_of, prefix_of};
 use crate::stop::Stop;
-use htl_base::{BinOp, Ty, UnOp};
-use htl_text::{ConstNode, Id, Num, Sign, Term, Token, Word};
+use htl_base::{BinOp, Name, Ty, UnOp, Value};
+use htl_text::{ConstNode, Id, Kind, Num, Sign, Term, Tokens, Word};
 use std::marker::Model;
 
 /// Where a reader stands among the tokens of a source; contracts see what is left, each token with its
-/// number.
+/// number. No call takes memory, and each takes a few steps.
 #[derive(Drop)]
 pub struct Cursor<'a> {
-    left: &'a [Token],
+    tokens: &'a Tokens,
     place: u32,
 }
 
 impl<'a> Model for Cursor<'a> {
-    ghost use Rattle.std.specs.Prelude.{List, length, ◌+◌, ◌≤◌};
+    ghost use Rattle.std.specs.Prelude.{List, length, drop, ◌≤◌};
     ghost use Rattle.htl_text.specs.Placed.{Placed, numbered};
 
     ghost Value = { List Placed };
 
-    ghost view = { λ c. numbered c.place c.left.now };
+    ghost view = { λ c. numbered c.place (drop c.place c.tokens.now.tokens) };
 
-    ghost invariant = { λ c. c.place + length c.left.now ≤ 1048576 };
+    ghost invariant = { λ c. (c.place ≤ length c.tokens.now.tokens) × (length c.tokens.now.tokens ≤ 1048576) };
 }
 
 impl<'a> Cursor<'a> {
-    /// Before the first of these tokens, of which there are at most 1,048,576.
-    pub fn new(tokens: &'a [Token]) -> Cursor<'a>
-        requires { length tokens.now ≤ 1048576 }
-        ensures { result ≡ numbered 0 tokens.now }
+    /// Before the first token.
+    pub fn new(tokens: &'a Tokens) -> Cursor<'a>
+        ensures { result ≡ numbered 0 tokens.now.tokens }
     {
-        Cursor {
-            left: tokens,
-            place: 0,
+        let _short = tokens.len();
+        Cursor { tokens, place: 0 }
+    }
+
+    /// The kind of the token that stands next; None at the end.
+    pub fn next(&self) -> Option<Kind>
+        ensures kind { result ≡ next_kind self.now }
+        ensures first { NextIs self.now result }
+    {
+        self.tokens.kind(self.place as usize)
+    }
+
+    /// Passes the token that stands next, and answers its number. At the end nothing is passed, and the answer
+    /// is 0.
+    #[tactic(auto, using(crate::proofs::Standing::places))]
+    pub fn pass(&mut self) -> u32
+        ensures rest { self.new ≡ behind self.old }
+        ensures place { result ≡ place_at self.old }
+    {
+        let place = self.place;
+        if place as usize >= self.tokens.len() {
+            return 0;
         }
+        self.place = place + 1;
+        place
+    }
+
+    // The name that stands next.
+    fn next_name(&self) -> Name
+        requires { next_kind self.now ≡ Some kind.Ident }
+        ensures { self.now ≡ Put (place_at self.now) (token.Ident result) ∷ behind self.now }
+    {
+        self.tokens.name(self.place as usize)
+    }
+
+    // The number that stands next.
+    fn next_number(&self) -> Value
+        requires { next_kind self.now ≡ Some kind.Number }
+        ensures { self.now ≡ Put (place_at self.now) (token.Number result) ∷ behind self.now }
+    {
+        self.tokens.number(self.place as usize)
+    }
+
+    /// How many tokens are left.
+    pub fn remaining(&self) -> usize
+        ensures { result ≡ length self.now }
+    {
+        self.tokens.len() - self.place as usize
     }
 
     /// Whether nothing is left.
     pub fn is_done(&self) -> bool
         ensures { IsDone self.now result }
     {
-        match self.left {
-            [] => true,
-            [_, ..] => false,
+        match self.next() {
+            None => true,
+            Some(_) => false,
         }
     }
 
@@ -59,23 +103,18 @@ impl<'a> Cursor<'a> {
     pub fn place(&self) -> u32
         ensures { result ≡ place_at self.now }
     {
-        match self.left {
-            [_, ..] => self.place,
-            [] => 0,
+        if self.place as usize >= self.tokens.len() {
+            return 0;
         }
+        self.place
     }
 
     /// Passes this sign, where it stands next, and answers its number.
     pub fn sign(&mut self, wanted: Sign) -> Option<u32>
         ensures { Passes (token.Sign wanted) self.old self.new result }
     {
-        match self.left {
-            [Token::Sign(sign), rest @ ..] if *sign == wanted => {
-                let place = self.place;
-                self.left = rest;
-                self.place = place + 1;
-                Some(place)
-            }
+        match self.next() {
+            Some(Kind::Sign(sign)) if sign == wanted => Some(self.pass()),
             _ => None,
         }
     }
@@ -84,13 +123,8 @@ impl<'a> Cursor<'a> {
     pub fn word(&mut self, wanted: Word) -> Option<u32>
         ensures { Passes (token.Word wanted) self.old self.new result }
     {
-        match self.left {
-            [Token::Word(word), rest @ ..] if *word == wanted => {
-                let place = self.place;
-                self.left = rest;
-                self.place = place + 1;
-                Some(place)
-            }
+        match self.next() {
+            Some(Kind::Word(word)) if word == wanted => Some(self.pass()),
             _ => None,
         }
     }
@@ -117,87 +151,32 @@ impl<'a> Cursor<'a> {
         }
     }
 
-    /// Passes a `||`, where one stands next, and answers its number.
-    pub fn or_operator(&mut self) -> Option<(u32, BinOp)>
-        ensures { PassesOperator or_of self.old self.new result }
+    /// Passes an operator that stands between operands, of a level from `loosest` on and below `limit`, where one
+    /// stands next; answers its number and its level too.
+    pub fn binary_operator(&mut self, loosest: u8, limit: u8) -> Option<(u32, u8, BinOp)>
+        requires { limit ≤ 5 }
+        ensures { PassesBinary loosest limit self.old self.new result }
     {
-        let [Token::Sign(sign), rest @ ..] = self.left else {
+        let Some(Kind::Sign(sign)) = self.next() else {
             return None;
         };
-        let op = or_of(*sign)?;
-        let place = self.place;
-        self.left = rest;
-        self.place = place + 1;
-        Some((place, op))
-    }
-
-    /// Passes a `&&`, where one stands next, and answers its number.
-    pub fn and_operator(&mut self) -> Option<(u32, BinOp)>
-        ensures { PassesOperator and_of self.old self.new result }
-    {
-        let [Token::Sign(sign), rest @ ..] = self.left else {
+        let (level, op) = binary_of(sign)?;
+        if level < loosest || limit <= level {
             return None;
-        };
-        let op = and_of(*sign)?;
-        let place = self.place;
-        self.left = rest;
-        self.place = place + 1;
-        Some((place, op))
-    }
-
-    /// Passes a comparison, where one stands next, and answers its number.
-    pub fn compare_operator(&mut self) -> Option<(u32, BinOp)>
-        ensures { PassesOperator compare_of self.old self.new result }
-    {
-        let [Token::Sign(sign), rest @ ..] = self.left else {
-            return None;
-        };
-        let op = compare_of(*sign)?;
-        let place = self.place;
-        self.left = rest;
-        self.place = place + 1;
-        Some((place, op))
-    }
-
-    /// Passes a `+` or `-`, where one stands next, and answers its number.
-    pub fn sum_operator(&mut self) -> Option<(u32, BinOp)>
-        ensures { PassesOperator sum_of self.old self.new result }
-    {
-        let [Token::Sign(sign), rest @ ..] = self.left else {
-            return None;
-        };
-        let op = sum_of(*sign)?;
-        let place = self.place;
-        self.left = rest;
-        self.place = place + 1;
-        Some((place, op))
-    }
-
-    /// Passes a `*`, `/` or `%`, where one stands next, and answers its number.
-    pub fn product_operator(&mut self) -> Option<(u32, BinOp)>
-        ensures { PassesOperator product_of self.old self.new result }
-    {
-        let [Token::Sign(sign), rest @ ..] = self.left else {
-            return None;
-        };
-        let op = product_of(*sign)?;
-        let place = self.place;
-        self.left = rest;
-        self.place = place + 1;
-        Some((place, op))
+        }
+        let place = self.pass();
+        Some((place, level, op))
     }
 
     /// Passes a `-` or `!`, where one stands next, and answers its number.
     pub fn prefix_operator(&mut self) -> Option<(u32, UnOp)>
         ensures { PassesOperator prefix_of self.old self.new result }
     {
-        let [Token::Sign(sign), rest @ ..] = self.left else {
+        let Some(Kind::Sign(sign)) = self.next() else {
             return None;
         };
-        let op = prefix_of(*sign)?;
-        let place = self.place;
-        self.left = rest;
-        self.place = place + 1;
+        let op = prefix_of(sign)?;
+        let place = self.pass();
         Some((place, op))
     }
 
@@ -205,27 +184,24 @@ impl<'a> Cursor<'a> {
     pub fn simple(&mut self) -> Option<Term>
         ensures { IsSimple self.old self.new result }
     {
-        let token = self.place;
-        match self.left {
-            [Token::Number(x), rest @ ..] => {
-                self.left = rest;
-                self.place = token + 1;
-                Some(Term::Int { token, x: *x })
+        match self.next() {
+            Some(Kind::Number) => {
+                let x = self.next_number();
+                let token = self.pass();
+                Some(Term::Int { token, x })
             }
-            [Token::Word(Word::True), rest @ ..] => {
-                self.left = rest;
-                self.place = token + 1;
+            Some(Kind::Word(Word::True)) => {
+                let token = self.pass();
                 Some(Term::Bool { token, x: true })
             }
-            [Token::Word(Word::False), rest @ ..] => {
-                self.left = rest;
-                self.place = token + 1;
+            Some(Kind::Word(Word::False)) => {
+                let token = self.pass();
                 Some(Term::Bool { token, x: false })
             }
-            [Token::Ident(name), rest @ ..] => {
-                self.left = rest;
-                self.place = token + 1;
-                let id = Id { name: *name, token };
+            Some(Kind::Ident) => {
+                let name = self.next_name();
+                let token = self.pass();
+                let id = Id { name, token };
                 Some(Term::Named { id })
             }
             _ => None,
@@ -236,15 +212,13 @@ impl<'a> Cursor<'a> {
     pub fn ty(&mut self) -> Result<Ty, Stop>
         ensures { Gives (λ t. t) result self.new (type_at self.old) }
     {
-        match self.left {
-            [Token::Word(Word::Int), rest @ ..] => {
-                self.left = rest;
-                self.place = self.place + 1;
+        match self.next() {
+            Some(Kind::Word(Word::Int)) => {
+                self.pass();
                 Ok(Ty::Int)
             }
-            [Token::Word(Word::Bool), rest @ ..] => {
-                self.left = rest;
-                self.place = self.place + 1;
+            Some(Kind::Word(Word::Bool)) => {
+                self.pass();
                 Ok(Ty::Bool)
             }
             _ => Err(Stop::Syntax),
@@ -255,12 +229,11 @@ impl<'a> Cursor<'a> {
     pub fn name(&mut self) -> Result<Id, Stop>
         ensures { Gives (λ id. id) result self.new (name_at self.old) }
     {
-        match self.left {
-            [Token::Ident(name), rest @ ..] => {
-                let token = self.place;
-                self.left = rest;
-                self.place = token + 1;
-                Ok(Id { name: *name, token })
+        match self.next() {
+            Some(Kind::Ident) => {
+                let name = self.next_name();
+                let token = self.pass();
+                Ok(Id { name, token })
             }
             _ => Err(Stop::Syntax),
         }
@@ -270,12 +243,11 @@ impl<'a> Cursor<'a> {
     pub fn number(&mut self) -> Result<Num, Stop>
         ensures { Gives (λ n. n) result self.new (number_at self.old) }
     {
-        match self.left {
-            [Token::Number(x), rest @ ..] => {
-                let token = self.place;
-                self.left = rest;
-                self.place = token + 1;
-                Ok(Num { x: *x, token })
+        match self.next() {
+            Some(Kind::Number) => {
+                let x = self.next_number();
+                let token = self.pass();
+                Ok(Num { x, token })
             }
             _ => Err(Stop::Syntax),
         }
@@ -285,20 +257,18 @@ impl<'a> Cursor<'a> {
     pub fn constant(&mut self) -> Result<ConstNode, Stop>
         ensures { Gives (λ c. c) result self.new (const_at self.old) }
     {
-        let token = self.place;
-        match self.left {
-            [Token::Number(x), rest @ ..] => {
-                self.left = rest;
-                self.place = token + 1;
+        match self.next() {
+            Some(Kind::Number) => {
+                let x = self.next_number();
+                let token = self.pass();
                 Ok(ConstNode::Int {
                     token,
                     minus: false,
-                    x: *x,
+                    x,
                 })
             }
-            [Token::Sign(Sign::Minus), rest @ ..] => {
-                self.left = rest;
-                self.place = token + 1;
+            Some(Kind::Sign(Sign::Minus)) => {
+                let token = self.pass();
                 let x = self.number()?.x;
                 Ok(ConstNode::Int {
                     token,
@@ -306,14 +276,12 @@ impl<'a> Cursor<'a> {
                     x,
                 })
             }
-            [Token::Word(Word::True), rest @ ..] => {
-                self.left = rest;
-                self.place = token + 1;
+            Some(Kind::Word(Word::True)) => {
+                let token = self.pass();
                 Ok(ConstNode::Bool { token, x: true })
             }
-            [Token::Word(Word::False), rest @ ..] => {
-                self.left = rest;
-                self.place = token + 1;
+            Some(Kind::Word(Word::False)) => {
+                let token = self.pass();
                 Ok(ConstNode::Bool { token, x: false })
             }
             _ => Err(Stop::Syntax),
@@ -336,15 +304,13 @@ impl<'a> Cursor<'a> {
     pub fn kind(&mut self) -> Result<bool, Stop>
         ensures { Gives (λ k. k) result self.new (kind_at self.old) }
     {
-        match self.left {
-            [Token::Word(Word::Communicator), rest @ ..] => {
-                self.left = rest;
-                self.place = self.place + 1;
+        match self.next() {
+            Some(Kind::Word(Word::Communicator)) => {
+                self.pass();
                 Ok(false)
             }
-            [Token::Word(Word::Sensor), rest @ ..] => {
-                self.left = rest;
-                self.place = self.place + 1;
+            Some(Kind::Word(Word::Sensor)) => {
+                self.pass();
                 Ok(true)
             }
             _ => Err(Stop::Syntax),
@@ -356,8 +322,8 @@ impl<'a> Cursor<'a> {
         ensures { result ≡ begins_comm self.now }
     {
         matches!(
-            self.left,
-            [Token::Word(Word::Communicator | Word::Sensor), ..]
+            self.next(),
+            Some(Kind::Word(Word::Communicator | Word::Sensor))
         )
     }
 
@@ -365,48 +331,48 @@ impl<'a> Cursor<'a> {
     pub fn begins_task(&self) -> bool
         ensures { result ≡ begins_task self.now }
     {
-        matches!(self.left, [Token::Word(Word::Abstract | Word::Task), ..])
+        matches!(self.next(), Some(Kind::Word(Word::Abstract | Word::Task)))
     }
 
     /// Whether a port begins here.
     pub fn begins_port(&self) -> bool
         ensures { result ≡ begins_port self.now }
     {
-        matches!(self.left, [Token::Word(Word::Port), ..])
+        matches!(self.next(), Some(Kind::Word(Word::Port)))
     }
 
     /// Whether an invocation begins here.
     pub fn begins_invoke(&self) -> bool
         ensures { result ≡ begins_invoke self.now }
     {
-        matches!(self.left, [Token::Word(Word::Invoke), ..])
+        matches!(self.next(), Some(Kind::Word(Word::Invoke)))
     }
 
     /// Whether a switch begins here.
     pub fn begins_switch(&self) -> bool
         ensures { result ≡ begins_switch self.now }
     {
-        matches!(self.left, [Token::Word(Word::Switch), ..])
+        matches!(self.next(), Some(Kind::Word(Word::Switch)))
     }
 
     /// Whether a mode begins here.
     pub fn begins_mode(&self) -> bool
         ensures { result ≡ begins_mode self.now }
     {
-        matches!(self.left, [Token::Word(Word::Mode), ..])
+        matches!(self.next(), Some(Kind::Word(Word::Mode)))
     }
 
     /// Whether a module begins here.
     pub fn begins_module(&self) -> bool
         ensures { result ≡ begins_module self.now }
     {
-        matches!(self.left, [Token::Word(Word::Module), ..])
+        matches!(self.next(), Some(Kind::Word(Word::Module)))
     }
 
     /// Whether a program begins here.
     pub fn begins_program(&self) -> bool
         ensures { result ≡ begins_program self.now }
     {
-        matches!(self.left, [Token::Word(Word::Program), ..])
+        matches!(self.next(), Some(Kind::Word(Word::Program)))
     }
 }

@@ -1,116 +1,102 @@
-// Expressions, by descent through the levels of precedence.
-ghost use Rattle.std.specs.Prelude.{◌≡◌, ◌<◌, IfOk, OnOk, length};
+// Expressions: operands, and the operators between them by their levels.
+ghost use Rattle.std.specs.Prelude.{◌≡◌, ◌<◌, ◌≤◌, IfOk};
 ghost use Rattle.htl_text.specs.Expressions.{expr_of, Infix};
-ghost use Rattle.htl_parse.specs.ReadingExpressions.{read_expr, bracketed, chosen, atom_by, unary_by, product_by, sum_by, compare_by, and_by, or_by};
+ghost use Rattle.htl_parse.specs.ReadingExpressions.{read_expr, bracketed, chosen, atom_by, unary_by};
+ghost use Rattle.htl_parse.specs.Levels.{level_by, limit_behind};
 ghost use Rattle.htl_parse.specs.Cursors.{Gives, Lessens};
 
 use crate::cursor::Cursor;
+use crate::operator::{COMPARISON, OPERAND};
 use crate::stop::Stop;
 use htl_base::BinOp;
 use htl_text::{Sign, Term, Word};
 use std::alloc::{AllocError, Global};
 
-// An operator with its operands.
-fn infix(alloc: Global, token: u32, op: BinOp, l: Term, r: Term) -> Result<Term, AllocError>
-    ensures { IfOk result (λ e. expr_of e ≡ Infix token op (expr_of l) (expr_of r)) }
-{
-    let l = Box::new(alloc, l)?;
-    let r = Box::new(alloc, r)?;
-    Ok(Term::Binary { token, op, l, r })
-}
-
-/// expr = conj { "||" conj }
-#[cycle(expr)]
+/// expr = conj { "||" conj }, where conj = cmp { "&&" cmp }
 pub fn expr(alloc: Global, cursor: &mut Cursor<'_>) -> Result<Term, Stop>
-    ensures reads { Gives expr_of result cursor.new (read_expr cursor.old) }
-    ensures less { Lessens result cursor.old cursor.new }
+    ensures { Gives expr_of result cursor.new (read_expr cursor.old) }
 {
-    let mut left = conj(alloc, cursor)?;
-    while let Some((token, op)) = cursor.or_operator() {
-        let right = conj(alloc, cursor)?;
-        left = infix(alloc, token, op, left, right)?;
-    }
-    Ok(left)
+    let found = whole(alloc, cursor)?;
+    Ok(Box::into_inner(found))
 }
 
-// conj = cmp { "&&" cmp }
+// A whole expression, from the loosest level on.
 #[cycle(expr)]
-fn conj(alloc: Global, cursor: &mut Cursor<'_>) -> Result<Term, Stop>
-    ensures reads { Gives expr_of result cursor.new (and_by read_expr cursor.old) }
+fn whole(alloc: Global, cursor: &mut Cursor<'_>) -> Result<Box<Term>, Stop>
+    ensures reads { Gives (λ e. expr_of e.value) result cursor.new (read_expr cursor.old) }
     ensures less { Lessens result cursor.old cursor.new }
 {
-    let mut left = cmp(alloc, cursor)?;
-    while let Some((token, op)) = cursor.and_operator() {
-        let right = cmp(alloc, cursor)?;
-        left = infix(alloc, token, op, left, right)?;
-    }
-    Ok(left)
+    binary(alloc, cursor, 0)
 }
 
-// cmp = sum [ ( "<" | "<=" | ">" | ">=" | "==" | "!=" ) sum ]
-#[cycle(expr)]
-fn cmp(alloc: Global, cursor: &mut Cursor<'_>) -> Result<Term, Stop>
-    ensures reads { Gives expr_of result cursor.new (compare_by read_expr cursor.old) }
-    ensures less { Lessens result cursor.old cursor.new }
+// An operator with its operands.
+fn infix(
+    alloc: Global,
+    token: u32,
+    op: BinOp,
+    l: Box<Term>,
+    r: Box<Term>,
+) -> Result<Box<Term>, AllocError>
+    ensures { IfOk result (λ e. expr_of e.value ≡ Infix token op (expr_of l.value) (expr_of r.value)) }
 {
-    let left = sum(alloc, cursor)?;
-    let Some((token, op)) = cursor.compare_operator() else {
-        return Ok(left);
-    };
-    let right = sum(alloc, cursor)?;
-    let both = infix(alloc, token, op, left, right)?;
+    let both = Box::new(alloc, Term::Binary { token, op, l, r })?;
     Ok(both)
 }
 
-// sum = prod { ( "+" | "-" ) prod }
-#[cycle(expr)]
-fn sum(alloc: Global, cursor: &mut Cursor<'_>) -> Result<Term, Stop>
-    ensures reads { Gives expr_of result cursor.new (sum_by read_expr cursor.old) }
-    ensures less { Lessens result cursor.old cursor.new }
+// Below which level the operators are that may follow an operator of this level and its right operand.
+fn limit_behind(level: u8) -> u8
+    requires { level < 5 }
+    ensures { result ≡ limit_behind level }
 {
-    let mut left = prod(alloc, cursor)?;
-    while let Some((token, op)) = cursor.sum_operator() {
-        let right = prod(alloc, cursor)?;
-        left = infix(alloc, token, op, left, right)?;
+    if level == COMPARISON {
+        level
+    } else {
+        level + 1
     }
-    Ok(left)
 }
 
+// Operands and the operators between them, from a level on:
+// cmp = sum [ ( "<" | "<=" | ">" | ">=" | "==" | "!=" ) sum ]
+// sum = prod { ( "+" | "-" ) prod }
 // prod = unary { ( "*" | "/" | "%" ) unary }
 #[cycle(expr)]
-fn prod(alloc: Global, cursor: &mut Cursor<'_>) -> Result<Term, Stop>
-    ensures reads { Gives expr_of result cursor.new (product_by read_expr cursor.old) }
+fn binary(alloc: Global, cursor: &mut Cursor<'_>, loosest: u8) -> Result<Box<Term>, Stop>
+    requires { loosest ≤ 5 }
+    ensures reads { Gives (λ e. expr_of e.value) result cursor.new (level_by read_expr loosest cursor.old) }
     ensures less { Lessens result cursor.old cursor.new }
 {
     let mut left = unary(alloc, cursor)?;
-    while let Some((token, op)) = cursor.product_operator() {
-        let right = unary(alloc, cursor)?;
+    let mut limit = OPERAND;
+    while let Some((token, level, op)) = cursor.binary_operator(loosest, limit) {
+        let right = binary(alloc, cursor, level + 1)?;
         left = infix(alloc, token, op, left, right)?;
+        limit = limit_behind(level);
     }
     Ok(left)
 }
 
 // unary = ( "-" | "!" ) unary | atom
 #[cycle(expr)]
-fn unary(alloc: Global, cursor: &mut Cursor<'_>) -> Result<Term, Stop>
-    ensures reads { Gives expr_of result cursor.new (unary_by read_expr cursor.old) }
+fn unary(alloc: Global, cursor: &mut Cursor<'_>) -> Result<Box<Term>, Stop>
+    ensures reads { Gives (λ e. expr_of e.value) result cursor.new (unary_by read_expr cursor.old) }
     ensures less { Lessens result cursor.old cursor.new }
 {
     let Some((token, op)) = cursor.prefix_operator() else {
         return atom(alloc, cursor);
     };
     let e = unary(alloc, cursor)?;
-    let e = Box::new(alloc, e)?;
-    Ok(Term::Unary { token, op, e })
+    let whole = Box::new(alloc, Term::Unary { token, op, e })?;
+    Ok(whole)
 }
 
 // atom = number | "true" | "false" | name | "(" expr ")" | "if" "(" expr "," expr "," expr ")"
 #[cycle(expr)]
-fn atom(alloc: Global, cursor: &mut Cursor<'_>) -> Result<Term, Stop>
-    ensures reads { Gives expr_of result cursor.new (atom_by read_expr cursor.old) }
+fn atom(alloc: Global, cursor: &mut Cursor<'_>) -> Result<Box<Term>, Stop>
+    ensures reads { Gives (λ e. expr_of e.value) result cursor.new (atom_by read_expr cursor.old) }
     ensures less { Lessens result cursor.old cursor.new }
 {
     if let Some(found) = cursor.simple() {
+        let found = Box::new(alloc, found)?;
         return Ok(found);
     }
     if let Some(_) = cursor.sign(Sign::OpenParen) {
@@ -124,30 +110,28 @@ fn atom(alloc: Global, cursor: &mut Cursor<'_>) -> Result<Term, Stop>
 
 // What stands behind an opening bracket.
 #[cycle(expr)]
-fn bracketed(alloc: Global, cursor: &mut Cursor<'_>) -> Result<Term, Stop>
-    ensures reads { Gives expr_of result cursor.new (bracketed read_expr cursor.old) }
+fn bracketed(alloc: Global, cursor: &mut Cursor<'_>) -> Result<Box<Term>, Stop>
+    ensures reads { Gives (λ e. expr_of e.value) result cursor.new (bracketed read_expr cursor.old) }
     ensures less { Lessens result cursor.old cursor.new }
 {
-    let e = expr(alloc, cursor)?;
+    let e = whole(alloc, cursor)?;
     cursor.expect(Sign::CloseParen)?;
     Ok(e)
 }
 
 // What stands behind an `if`.
 #[cycle(expr)]
-fn choice(alloc: Global, cursor: &mut Cursor<'_>, token: u32) -> Result<Term, Stop>
-    ensures reads { Gives expr_of result cursor.new (chosen read_expr token cursor.old) }
+fn choice(alloc: Global, cursor: &mut Cursor<'_>, token: u32) -> Result<Box<Term>, Stop>
+    ensures reads { Gives (λ e. expr_of e.value) result cursor.new (chosen read_expr token cursor.old) }
     ensures less { Lessens result cursor.old cursor.new }
 {
     cursor.expect(Sign::OpenParen)?;
-    let c = expr(alloc, cursor)?;
+    let c = whole(alloc, cursor)?;
     cursor.expect(Sign::Comma)?;
-    let a = expr(alloc, cursor)?;
+    let a = whole(alloc, cursor)?;
     cursor.expect(Sign::Comma)?;
-    let b = expr(alloc, cursor)?;
+    let b = whole(alloc, cursor)?;
     cursor.expect(Sign::CloseParen)?;
-    let c = Box::new(alloc, c)?;
-    let a = Box::new(alloc, a)?;
-    let b = Box::new(alloc, b)?;
-    Ok(Term::Choose { token, c, a, b })
+    let whole = Box::new(alloc, Term::Choose { token, c, a, b })?;
+    Ok(whole)
 }

@@ -1,9 +1,20 @@
 // What holds of all tokens and all trees. These functions do nothing; their clauses are the laws.
-ghost use Rattle.htl_parse.specs.Laws.{OneTree, TreesBounded, TokensAgain, ParsesAgain};
+ghost use Rattle.htl_parse.specs.Laws.{OneTree, HasMisfit, OneMisfit, TreesBounded, TokensAgain, ParsesAgain};
 
 /// Tokens spell at most one tree.
 pub fn one_tree()
     ensures { OneTree }
+{}
+
+/// Each list of tokens has a place up to which it begins a text, and where more tokens stand there, it begins
+/// none with the next.
+pub fn has_misfit()
+    ensures { HasMisfit }
+{}
+
+/// There is only one such place.
+pub fn one_misfit()
+    ensures { OneMisfit }
 {}
 
 /// A tree is bounded that is spelled by at most 1,048,576 tokens, no more than 512 of them in a run without

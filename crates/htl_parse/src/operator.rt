@@ -1,64 +1,37 @@
-// The operators of each level.
-ghost use Rattle.std.specs.Prelude.{◌≡◌};
-ghost use Rattle.htl_text.specs.Grammar.{or_of, and_of, compare_of, sum_of, product_of, prefix_of};
+// The operators.
+ghost use Rattle.std.specs.Prelude.{◌≡◌, ◌<◌, Some, MatchOption};
+ghost use Rattle.htl_text.specs.Grammar.{prefix_of};
+ghost use Rattle.htl_parse.specs.Levels.{level_of, operator_at};
 
 use htl_base::{BinOp, UnOp};
 use htl_text::Sign;
 
-/// `||`
-pub fn or_of(sign: Sign) -> Option<BinOp>
-    ensures { result ≡ or_of sign }
-{
-    match sign {
-        Sign::Or => Some(BinOp::Or),
-        _ => None,
-    }
-}
+/// The level of comparisons, which don't follow one another.
+pub const COMPARISON: u8 = 2;
 
-/// `&&`
-pub fn and_of(sign: Sign) -> Option<BinOp>
-    ensures { result ≡ and_of sign }
-{
-    match sign {
-        Sign::And => Some(BinOp::And),
-        _ => None,
-    }
-}
+/// The level of an operand, behind those of all operators that stand between operands.
+pub const OPERAND: u8 = 5;
 
-/// A comparison.
-pub fn compare_of(sign: Sign) -> Option<BinOp>
-    ensures { result ≡ compare_of sign }
+/// An operator that stands between operands, with its level: 0 `||`, 1 `&&`, 2 comparisons, 3 `+` and `-`, 4 `*`,
+/// `/` and `%`.
+pub fn binary_of(sign: Sign) -> Option<(u8, BinOp)>
+    ensures { MatchOption result (level_of sign ≡ 5)
+        (λ x. (x.0 ≡ level_of sign) × (x.0 < 5) × (operator_at x.0 sign ≡ Some x.1)) }
 {
     match sign {
-        Sign::Less => Some(BinOp::Lt),
-        Sign::LessEqual => Some(BinOp::Le),
-        Sign::Greater => Some(BinOp::Gt),
-        Sign::GreaterEqual => Some(BinOp::Ge),
-        Sign::Equal => Some(BinOp::Eq),
-        Sign::NotEqual => Some(BinOp::Ne),
-        _ => None,
-    }
-}
-
-/// `+` or `-`
-pub fn sum_of(sign: Sign) -> Option<BinOp>
-    ensures { result ≡ sum_of sign }
-{
-    match sign {
-        Sign::Plus => Some(BinOp::Add),
-        Sign::Minus => Some(BinOp::Sub),
-        _ => None,
-    }
-}
-
-/// `*`, `/` or `%`
-pub fn product_of(sign: Sign) -> Option<BinOp>
-    ensures { result ≡ product_of sign }
-{
-    match sign {
-        Sign::Star => Some(BinOp::Mul),
-        Sign::Slash => Some(BinOp::Div),
-        Sign::Percent => Some(BinOp::Rem),
+        Sign::Or => Some((0, BinOp::Or)),
+        Sign::And => Some((1, BinOp::And)),
+        Sign::Less => Some((COMPARISON, BinOp::Lt)),
+        Sign::LessEqual => Some((COMPARISON, BinOp::Le)),
+        Sign::Greater => Some((COMPARISON, BinOp::Gt)),
+        Sign::GreaterEqual => Some((COMPARISON, BinOp::Ge)),
+        Sign::Equal => Some((COMPARISON, BinOp::Eq)),
+        Sign::NotEqual => Some((COMPARISON, BinOp::Ne)),
+        Sign::Plus => Some((3, BinOp::Add)),
+        Sign::Minus => Some((3, BinOp::Sub)),
+        Sign::Star => Some((4, BinOp::Mul)),
+        Sign::Slash => Some((4, BinOp::Div)),
+        Sign::Percent => Some((4, BinOp::Rem)),
         _ => None,
     }
 }

@@ -1,14 +1,17 @@
 // Whole sources.
-ghost use Rattle.std.specs.Prelude.{◌≤◌, length, IfOk};
+ghost use Rattle.std.specs.Prelude.{◌≡◌, ◌≤◌, ◌-◌, length, map, IfOk};
 ghost use Rattle.htl_text.specs.Bounds.{IsBounded};
-ghost use Rattle.htl_text.specs.Nodes.{tree_of};
+ghost use Rattle.htl_text.specs.Nodes.{program_of, tree_of};
 ghost use Rattle.htl_parse.specs.Answers.{IsTree, IsParsed, TellsTree, TellsLong, TellsSyntax};
+ghost use Rattle.htl_parse.specs.Cursors.{GivesWhole};
+ghost use Rattle.htl_parse.specs.ReadingStatements.{source_at};
 
 use crate::cursor::Cursor;
 use crate::long::first_long;
 use crate::source::source;
 use crate::stop::Stop;
-use htl_text::{Token, Tokens, Tree};
+use htl_base::Seq;
+use htl_text::{ProgramNode, Tokens, Tree};
 use std::alloc::Global;
 use thiserror::Error;
 
@@ -16,8 +19,12 @@ use thiserror::Error;
 #[derive(Clone, Copy, PartialEq, Eq, Debug, Error)]
 pub enum ParseFault {
     /// No tree spells the tokens.
-    #[error("syntax")]
-    Syntax,
+    #[error("syntax {token}")]
+    Syntax {
+        /// The number of the first token with which no source begins; the number of all tokens, where what is
+        /// missing stands behind them.
+        token: u32,
+    },
     /// No memory was left.
     #[error("memory")]
     Memory,
@@ -29,23 +36,10 @@ pub enum ParseFault {
     },
 }
 
-impl From<Stop> for ParseFault {
-    ghost use Rattle.std.specs.Prelude.{◌≡◌};
-    ghost use Rattle.htl_parse.specs.Faults.{fault_of};
-
-    ghost from_gives = { λ s e. e ≡ fault_of s };
-
-    fn from(stop: Stop) -> ParseFault {
-        match stop {
-            Stop::Syntax => ParseFault::Syntax,
-            Stop::Memory => ParseFault::Memory,
-        }
-    }
-}
-
 /// The tree that the tokens spell; at most one tree does. `Long` comes exactly where a run of tokens without
-/// `;`, `{` and `}` has more than 512, and is tried first; `Syntax` where no tree spells the tokens; `Memory`
-/// only where no memory was left. The depth of the recursion is bounded by the length of such a run. The tree
+/// `;`, `{` and `}` has more than 512, and is tried first; `Syntax` where no tree spells the tokens, with
+/// the first token that doesn't fit: those before it begin some source, and with it they begin none, or it is
+/// the number of all. `Memory` comes only where no memory was left. The depth of the recursion is bounded by the length of such a run. The tree
 /// has at most 1,048,576 programs and items of any kind, at most 256 in each list of parameters or ends, at
 /// most 512 nodes in each expression, at most 256 names in each switch condition, and no negative literal.
 pub fn parse(alloc: Global, tokens: &Tokens) -> Result<Tree, ParseFault>
@@ -55,30 +49,51 @@ pub fn parse(alloc: Global, tokens: &Tokens) -> Result<Tree, ParseFault>
     ensures syntax { TellsSyntax tokens.now.tokens result }
     ensures bounded { IfOk result (λ tree. IsBounded (tree_of tree)) }
 {
-    parse_tokens(alloc, tokens.as_slice())
+    let _facts = tokens.len();
+    parse_tokens(alloc, tokens)
 }
 
-fn parse_tokens(alloc: Global, tokens: &[Token]) -> Result<Tree, ParseFault>
-    requires { length tokens.now ≤ 1048576 }
-    ensures { IsParsed tokens.now result }
+fn parse_tokens(alloc: Global, tokens: &Tokens) -> Result<Tree, ParseFault>
+    ensures { IsParsed tokens.now.tokens result }
 {
     if let Some(token) = first_long(tokens) {
         return Err(ParseFault::Long { token });
     }
-    let tree = parse_source(alloc, tokens)?;
-    Ok(tree)
+    parse_source(alloc, tokens)
 }
 
-// The source, and nothing behind it.
-fn parse_source(alloc: Global, tokens: &[Token]) -> Result<Tree, Stop>
-    requires { length tokens.now ≤ 1048576 }
-    ensures { IsTree tokens.now result }
+// The tree of all tokens, or the first that does not fit.
+fn parse_source(alloc: Global, tokens: &Tokens) -> Result<Tree, ParseFault>
+    ensures { IsTree tokens.now.tokens result }
 {
     let mut cursor = Cursor::new(tokens);
-    let programs = source(alloc, &mut cursor)?;
+    match whole_source(alloc, &mut cursor) {
+        Ok(programs) => Ok(Tree { programs }),
+        Err(Stop::Syntax) => {
+            let token = misfit(tokens, &cursor);
+            Err(ParseFault::Syntax { token })
+        }
+        Err(Stop::Memory) => Err(ParseFault::Memory),
+    }
+}
+
+// The programs of a source, behind which nothing stands.
+fn whole_source(alloc: Global, cursor: &mut Cursor<'_>) -> Result<Seq<ProgramNode>, Stop>
+    ensures { GivesWhole (λ v. map program_of v) result cursor.new (source_at cursor.old) }
+{
+    let programs = source(alloc, cursor)?;
     if cursor.is_done() {
-        Ok(Tree { programs })
+        Ok(programs)
     } else {
         Err(Stop::Syntax)
     }
+}
+
+// The number of the token at which the cursor stands, which may be behind the last.
+fn misfit(tokens: &Tokens, cursor: &Cursor<'_>) -> u32
+    requires { length cursor.now ≤ length tokens.now.tokens }
+    ensures { result ≡ length tokens.now.tokens - length cursor.now }
+{
+    let token = tokens.len() - cursor.remaining();
+    token as u32
 }

@@ -95,7 +95,7 @@ fn needs_each_token(alloc: Global, text: &[u8]) -> bool {
 }
 
 fn is_refused(alloc: Global, text: &[u8]) -> bool {
-    matches!(answer(alloc, text), Some(Err(ParseFault::Syntax)))
+    matches!(answer(alloc, text), Some(Err(ParseFault::Syntax { .. })))
 }
 
 #[test]
@@ -192,10 +192,15 @@ fn deep_statements_end(rt: HostRuntime) -> Result<(), Fail> {
     for (piece, count) in [(b"(".as_slice(), 502), (b"if(", 251), (b"!", 502)] {
         let open = joined(rt.alloc(), &[(BEFORE, 1), (piece, count), (BEHIND, 1)])?;
         let found = answer(rt.alloc(), &open).expect(&rt, "tokens");
-        assert!(rt; matches!(found, Err(ParseFault::Syntax | ParseFault::Long { .. })));
+        assert!(rt;
+            matches!(
+                found,
+                Err(ParseFault::Syntax { .. } | ParseFault::Long { .. })
+            )
+        );
         let ended = joined(rt.alloc(), &[(BEFORE, 1), (piece, count), (b";", 1)])?;
         let found = answer(rt.alloc(), &ended).expect(&rt, "tokens");
-        assert!(rt; matches!(found, Err(ParseFault::Syntax)));
+        assert!(rt; matches!(found, Err(ParseFault::Syntax { .. })));
     }
     Ok(())
 }
@@ -240,7 +245,7 @@ fn these_are_refused(rt: HostRuntime) -> Result<(), Fail> {
     ];
     for text in table {
         let found = answer(rt.alloc(), text).expect(&rt, "tokens");
-        assert!(rt; matches!(found, Err(ParseFault::Syntax)));
+        assert!(rt; matches!(found, Err(ParseFault::Syntax { .. })));
     }
     Ok(())
 }

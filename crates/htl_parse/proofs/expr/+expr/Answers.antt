@@ -1,60 +1,38 @@
-use Rattle.std.proofs.Common.{rules, ap, ◌∙◌}
-use Rattle.htl_text.specs.Expressions.{Expr}
-use Rattle.htl_text.specs.Grammar.{or_of, and_of, sum_of, product_of}
-use Rattle.htl_parse.specs.Reading.{Read, ◌>>=◌}
-use Rattle.htl_parse.specs.ReadingExpressions.{further, read_expr, unary_by, product_by, sum_by, compare_by, and_by}
+use Rattle.std.proofs.Common.{ℕ, sym, subst}
+use Rattle.std.proofs.lemmas.Result.{err_from_is_err_and}
+use Rattle.htl_parse.proofs.Climbing.{IsClimbing, climbing-start, climbing-more, climbing-stopped, climbing-done}
+use Rattle.htl_parse.proofs.Descent.{unary-plain}
+use Rattle.std.specs.Prelude.{Box}
+use Rattle.std.specs.declared.alloc.Global.{Global}
+use Rattle.htl_text.specs.Expressions.{expr_of}
+use Rattle.htl_text.specs.declared.tree.Term.{Term}
 use Rattle.htl_parse.proofs.Fixed.{read_expr-is}
-use Rattle.htl_parse.proofs.Descent.{going-more, going-done, unary-plain, unary-shrinks, product-shrinks, compare-shrinks, and-shrinks}
 use Rattle.htl_parse.proofs.expr.+expr.Goals as goal
 
-pub conj-loop-token-preserved : goal.conj-loop-token-preserved
-conj-loop-token-preserved t c =
-    going-more (and_by read_expr) (compare_by read_expr) and_of c.args.cursor.now c.loop-token.cursor c.loop-token.left c.loop-token.invariant compare-shrinks
-    c.and_operator.new.self c.cmp-in-Some.new.cursor c.in-Some.token c.in-Some.op c.in_ok-right.right c.in_ok-left-2.left
-    c.in-Some.ensures c.in_ok-right.ensures.reads c.in_ok-right.ensures.less c.in_ok-left-2.ensures
+pub whole-returns-clause-reads : goal.whole-returns-clause-reads
+whole-returns-clause-reads t c = rw (read_expr-is c.args.cursor.now) c.binary.ensures.reads
 
-pub conj-returns-clause-reads : goal.conj-returns-clause-reads
-conj-returns-clause-reads t c =
-    going-done (and_by read_expr) (compare_by read_expr) and_of c.args.cursor.now c.loop-token.cursor c.loop-token.left c.loop-token.invariant c.and_operator.new.self c.in_default.ensures
+pub binary-loop-token-init : goal.binary-loop-token-init
+binary-loop-token-init t c =
+    climbing-start c.args.loosest c.args.cursor.now c.unary.new.cursor c.in_ok-left.left.value c.requires c.in_ok-left.ensures.reads c.in_ok-left.ensures.less
 
-pub expr-loop-token-preserved : goal.expr-loop-token-preserved
-expr-loop-token-preserved t c =
-    going-more read_expr (and_by read_expr) or_of c.args.cursor.now c.loop-token.cursor c.loop-token.left c.loop-token.invariant and-shrinks
-    c.or_operator.new.self c.conj-in-Some.new.cursor c.in-Some.token c.in-Some.op c.in_ok-right.right c.in_ok-left-2.left
-    c.in-Some.ensures c.in_ok-right.ensures.reads c.in_ok-right.ensures.less c.in_ok-left-2.ensures
+pub binary-loop-token-preserved : goal.binary-loop-token-preserved
+binary-loop-token-preserved t c =
+    subst (λ (limit : ℕ). IsClimbing c.args.loosest c.args.cursor.now c.binary.new.cursor limit c.in_ok-left-2.left.value) (sym c.limit_behind-limit.ensures)
+    (climbing-more c.args.loosest c.args.cursor.now c.loop-token.cursor c.loop-token.limit c.loop-token.left.value c.loop-token.invariant
+    c.binary_operator.new.self c.binary.new.cursor c.in-Some.token c.in-Some.level c.in-Some.op c.in_ok-right.right.value c.in_ok-left-2.left.value
+    c.in-Some.ensures c.in_ok-right.ensures.reads c.in_ok-right.ensures.less c.in_ok-left-2.ensures)
 
-pub expr-returns-clause-reads : goal.expr-returns-clause-reads
-expr-returns-clause-reads t c =
-    going-done read_expr (and_by read_expr) or_of c.args.cursor.now c.loop-token.cursor c.loop-token.left c.loop-token.invariant c.or_operator.new.self c.in_default.ensures
-
-pub prod-loop-token-preserved : goal.prod-loop-token-preserved
-prod-loop-token-preserved t c =
-    going-more (product_by read_expr) (unary_by read_expr) product_of c.args.cursor.now c.loop-token.cursor c.loop-token.left c.loop-token.invariant unary-shrinks
-    c.product_operator.new.self c.unary-in-Some.new.cursor c.in-Some.token c.in-Some.op c.in_ok-right.right c.in_ok-left-2.left
-    c.in-Some.ensures c.in_ok-right.ensures.reads c.in_ok-right.ensures.less c.in_ok-left-2.ensures
-
-pub prod-returns-clause-reads : goal.prod-returns-clause-reads
-prod-returns-clause-reads t c =
-    going-done (product_by read_expr) (unary_by read_expr) product_of c.args.cursor.now c.loop-token.cursor c.loop-token.left c.loop-token.invariant c.product_operator.new.self c.in_default.ensures
-
-pub sum-loop-token-preserved : goal.sum-loop-token-preserved
-sum-loop-token-preserved t c =
-    going-more (sum_by read_expr) (product_by read_expr) sum_of c.args.cursor.now c.loop-token.cursor c.loop-token.left c.loop-token.invariant product-shrinks
-    c.sum_operator.new.self c.prod-in-Some.new.cursor c.in-Some.token c.in-Some.op c.in_ok-right.right c.in_ok-left-2.left
-    c.in-Some.ensures c.in_ok-right.ensures.reads c.in_ok-right.ensures.less c.in_ok-left-2.ensures
-
-pub sum-returns-clause-reads : goal.sum-returns-clause-reads
-sum-returns-clause-reads t c =
-    going-done (sum_by read_expr) (product_by read_expr) sum_of c.args.cursor.now c.loop-token.cursor c.loop-token.left c.loop-token.invariant c.sum_operator.new.self c.in_default.ensures
-
-pub expr-returns-in_err-left-clause-reads : goal.expr-returns-in_err-left-clause-reads
-expr-returns-in_err-left-clause-reads t c = rw (read_expr-is c.args.cursor.now) (search rules)
-
-pub expr-loop-token-init : goal.expr-loop-token-init
-expr-loop-token-init t c = record {
-  reads = read_expr-is c.args.cursor.now ∙ ap (λ (r : Read Expr). r >>= λ x. further (and_by read_expr) or_of x.0 x.1) c.in_ok-left.ensures.reads;
-  less = c.in_ok-left.ensures.less;
-}
+pub binary-returns-clause-reads : goal.binary-returns-clause-reads
+binary-returns-clause-reads t c =
+    climbing-done c.args.loosest c.args.cursor.now c.loop-token.cursor c.loop-token.limit c.loop-token.left.value c.loop-token.invariant c.binary_operator.new.self c.in_default.ensures
 
 pub unary-returns-in_default-clause-reads : goal.unary-returns-in_default-clause-reads
 unary-returns-in_default-clause-reads t c = rw (unary-plain c.args.cursor.now c.prefix_operator.new.self c.in_default.ensures) c.atom.ensures.reads
+
+pub binary-returns-in_err-right-clause-reads : goal.binary-returns-in_err-right-clause-reads
+binary-returns-in_err-right-clause-reads t c =
+    let p = err_from_is_err_and c.from_residual-in_err-right.result c.from_residual-in_err-right.ensures.1 in
+    rw (p.1, p.2)
+    (climbing-stopped c.args.loosest c.args.cursor.now c.loop-token.cursor c.loop-token.limit c.loop-token.left.value c.loop-token.invariant (λ (e : Box Term Global). expr_of e.value)
+    c.binary_operator.new.self c.binary.new.cursor c.in-Some.token c.in-Some.level c.in-Some.op c.in_err-right.field-0.0 c.in-Some.ensures c.in_err-right.ensures.reads)

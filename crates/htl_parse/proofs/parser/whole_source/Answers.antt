@@ -1,0 +1,12 @@
+use Rattle.std.proofs.Common.{map}
+use Rattle.std.proofs.lemmas.Result.{err_from_is_err_and}
+use Rattle.htl_text.specs.Nodes.{program_of}
+use Rattle.htl_parse.specs.ReadingStatements.{source_at}
+use Rattle.htl_parse.proofs.Whole.{whole-stopped, whole-ended, whole-more}
+use Rattle.htl_parse.proofs.parser.whole_source.Goals as goal
+
+pub returns-then-is_done : goal.returns-then-is_done
+returns-then-is_done c = whole-ended (source_at c.args.cursor.now) (map program_of c.in_ok-programs.programs) c.source.new.cursor c.in_ok-programs.ensures c.if-is_done.ensures
+
+pub returns-else-is_done : goal.returns-else-is_done
+returns-else-is_done c = whole-more (source_at c.args.cursor.now) (map program_of c.in_ok-programs.programs) c.source.new.cursor c.in_ok-programs.ensures c.if-is_done.ensures
