@@ -6,14 +6,14 @@ mod Deciding
 mod Declared
 mod Distinct
 mod EntryBounds
-mod EntryWalk
 mod Examples
 mod ExcessLaws
 mod FirstLaws
 mod FlatMaps
-mod InRange
+mod Homes
+pub mod InRange
 mod InvokeRanges
-mod KeepsLimits
+pub mod KeepsLimits
 mod Keys
 mod KindLaws
 mod Kindly
@@ -44,9 +44,9 @@ mod ReachLaws
 mod RefinedLaws
 mod RepeatLaws
 mod ResolveLaws
+mod RowLaws
 mod RuleLaws
 mod SampleFits
-mod Searching
 pub mod SmallFunctions
 mod StackLaws
 mod SwitchRanges

@@ -13,7 +13,7 @@ use Rattle.htl_names.specs.Flat.{symbols_of}
 use Rattle.htl_names.specs.Keys.{space_code, same_key, look_up, pair_of, comm_key, task_key, mode_key, port_key, invoke_key}
 use Rattle.htl_names.specs.NameRules.{AreNamesRight, RepeatedName}
 use Rattle.htl_names.specs.Order.{tasks_at, modes_at}
-use Rattle.htl_names.proofs.Keys.{same_key_decides}
+use Rattle.htl_names.specs.SameKeys.{same_key_decides}
 use Rattle.htl_names.proofs.Members.{In}
 use Rattle.htl_names.proofs.Origins.{Origin, of_program, of_comm, of_module, of_task, of_param, of_mode, of_port, of_invoke, origin}
 use Rattle.htl_names.proofs.Deciding.{order_of}

@@ -9,7 +9,7 @@ use Rattle.htl_names.specs.declared.key.Entry.{Entry}
 use Rattle.htl_names.specs.Entries.{Repeats}
 use Rattle.htl_names.specs.Keys.{same_key, look_up, pair_of}
 use Rattle.htl_names.specs.Repeats.{AreApartTo, AreApart}
-use Rattle.htl_names.proofs.Keys.{same_key_decides}
+use Rattle.htl_names.specs.SameKeys.{same_key_decides}
 
 -- an entry below place k has the key
 abbrev pub StandsBelow : List Entry → ℕ → Key → Type 0

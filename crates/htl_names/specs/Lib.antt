@@ -22,6 +22,8 @@ pub mod Programs
 pub mod Reach
 pub mod Refined
 pub mod Repeats
+pub mod Rows
+pub mod SameKeys
 pub mod Samples
 pub mod Stack
 pub mod Tallies

@@ -3,7 +3,7 @@ use Rattle.std.specs.Prelude.{ℕ, cond, leb, Option, Some, None, List}
 use Rattle.htl_text.specs.declared.tree.Id.{Id}
 use Rattle.htl_names.specs.declared.key.Key.{Key}
 use Rattle.htl_names.specs.declared.key.Use.{Use}
-use Rattle.htl_names.specs.declared.uses.Scope.{Scope}
+use Rattle.htl_names.specs.declared.rows.Scope.{Scope}
 use Rattle.htl_names.specs.Keys.{look_up}
 
 -- the token, where a place is not below a bound

@@ -5,7 +5,7 @@ ghost use Rattle.htl_text.specs.Nodes.{tree_of};
 ghost use Rattle.htl_names.specs.Flat.{tables_by};
 ghost use Rattle.htl_names.specs.Narrow.{IsNarrow};
 
-use crate::functions::functions;
+use crate::functions::outputs;
 use crate::invocations::invocations;
 use crate::items::{comms, modes, modules, ports};
 use crate::layout::Layout;
@@ -21,6 +21,8 @@ pub(crate) fn parts_of(alloc: Global, tree: &Tree, layout: &Layout) -> Result<Pa
     requires { IsNarrow layout.now (tree_of tree.now) }
     ensures { IfOk result (λ parts. tables_of parts ≡ tables_by layout.now (tree_of tree.now)) }
 {
+    let outputs = outputs(alloc, tree, layout)?;
+    let switches = switches(alloc, tree, layout, outputs)?;
     Ok(Parts {
         comms: Seq::new(comms(alloc, tree)?),
         modes: Seq::new(modes(alloc, tree, layout)?),
@@ -28,7 +30,7 @@ pub(crate) fn parts_of(alloc: Global, tree: &Tree, layout: &Layout) -> Result<Pa
         ports: Seq::new(ports(alloc, tree, layout)?),
         tasks: Seq::new(tasks(alloc, tree, layout)?),
         invs: Seq::new(invocations(alloc, tree, layout)?),
-        switches: Seq::new(switches(alloc, tree, layout)?),
-        functions: Seq::new(functions(alloc, tree, layout)?),
+        switches: Seq::new(switches.items),
+        functions: Seq::new(switches.functions),
     })
 }

@@ -1,48 +1,32 @@
-// The list of functions.
+// The functions of outputs.
 ghost use Rattle.std.specs.Prelude.{◌≡◌, ◌++◌, ◌≤◌, ℕ, OnOk, IfOk, length, map};
 ghost use Rattle.std.specs.List.{flat_map};
 ghost use Rattle.htl_model.specs.Tables.{fun_of};
-ghost use Rattle.htl_text.specs.Nodes.{tree_of, task_of, outs_of, out_of, switch_of};
+ghost use Rattle.htl_text.specs.Nodes.{tree_of, task_of, outs_of, out_of};
 ghost use Rattle.htl_names.specs.declared.key.Key.{Key as AKey};
 ghost use Rattle.htl_names.specs.Lists.{flat_map_at};
-ghost use Rattle.htl_names.specs.Flat.{meaning, output_function, outs_functions, task_functions, module_functions, switch_function, mode_functions, function_items};
+ghost use Rattle.htl_names.specs.Flat.{meaning, output_function, outs_functions, task_functions, module_functions};
 ghost use Rattle.htl_names.specs.Narrow.{IsNarrow};
 
-use crate::at::{switches_at, tasks_at};
-use crate::formulas::{Inputs, Reads, formula};
+use crate::at::tasks_at;
+use crate::formulas::{Inputs, formula};
 use crate::layout::Layout;
-use crate::place::{ModeAt, ModuleAt};
-use crate::switches::comms_in;
+use crate::place::ModuleAt;
 use htl_model::Function;
-use htl_text::{OutNode, OutNodes, SwitchNode, Tree};
+use htl_text::{OutNode, OutNodes, Tree};
 use std::alloc::{AllocError, Global};
 
-/// One for each output of each concrete task, in the order of tasks, then one for each switch.
-pub fn functions(alloc: Global, tree: &Tree, layout: &Layout) -> Result<Vec<Function>, AllocError>
+/// One for each output of each concrete task, in the order of tasks.
+pub fn outputs(alloc: Global, tree: &Tree, layout: &Layout) -> Result<Vec<Function>, AllocError>
     requires { IsNarrow layout.now (tree_of tree.now) }
-    ensures { IfOk result (λ v. map fun_of v.items ≡ function_items layout.now (tree_of tree.now)) }
+    ensures { IfOk result (λ v. map fun_of v.items ≡ flat_map (module_functions layout.now (tree_of tree.now)) layout.now.modules) }
 {
     let mut into = Vec::new(alloc);
-    put_outputs(alloc, tree, layout, &mut into)?;
-    put_switches(alloc, tree, layout, &mut into)?;
-    Ok(into)
-}
-
-fn put_outputs(
-    alloc: Global,
-    tree: &Tree,
-    layout: &Layout,
-    into: &mut Vec<Function>,
-) -> Result<(), AllocError>
-    requires { IsNarrow layout.now (tree_of tree.now) }
-    ensures { OnOk result (map fun_of into.new.items
-        ≡ map fun_of into.old.items ++ flat_map (module_functions layout.now (tree_of tree.now)) layout.now.modules) }
-{
     let modules = layout.modules.as_slice();
     for k in 0..modules.len() {
-        put_module(alloc, tree, layout, modules[k], into)?;
+        put_module(alloc, tree, layout, modules[k], &mut into)?;
     }
-    Ok(())
+    Ok(into)
 }
 
 // Those of the tasks of a module.
@@ -114,59 +98,5 @@ fn output_function(
     Ok(Function::Expr {
         first: out.first,
         e: formula(alloc, inputs, &out.value)?,
-    })
-}
-
-fn put_switches(
-    alloc: Global,
-    tree: &Tree,
-    layout: &Layout,
-    into: &mut Vec<Function>,
-) -> Result<(), AllocError>
-    requires { IsNarrow layout.now (tree_of tree.now) }
-    ensures { OnOk result (map fun_of into.new.items
-        ≡ map fun_of into.old.items ++ flat_map (mode_functions layout.now (tree_of tree.now)) layout.now.modes) }
-{
-    let modes = layout.modes.as_slice();
-    for k in 0..modes.len() {
-        put_mode(alloc, tree, layout, modes[k], into)?;
-    }
-    Ok(())
-}
-
-// Those of the switches of a mode.
-fn put_mode(
-    alloc: Global,
-    tree: &Tree,
-    layout: &Layout,
-    at: ModeAt,
-    into: &mut Vec<Function>,
-) -> Result<(), AllocError>
-    requires { (key : AKey) → meaning layout.now key ≤ 4096 }
-    ensures { OnOk result (map fun_of into.new.items ≡ map fun_of into.old.items ++ mode_functions layout.now (tree_of tree.now) at) }
-{
-    let nodes = switches_at(tree, at);
-    for k in 0..nodes.len() {
-        into.push(switch_function(alloc, layout, &nodes[k])?)?;
-    }
-    Ok(())
-}
-
-fn switch_function(
-    alloc: Global,
-    layout: &Layout,
-    node: &SwitchNode,
-) -> Result<Function, AllocError>
-    requires { (key : AKey) → meaning layout.now key ≤ 4096 }
-    ensures { IfOk result (λ f. fun_of f ≡ switch_function layout.now (switch_of node.now)) }
-{
-    let comms = comms_in(alloc, layout, &node.cond)?;
-    let reads = Reads {
-        layout,
-        comms: comms.as_slice(),
-    };
-    Ok(Function::Expr {
-        first: node.first,
-        e: formula(alloc, &reads, &node.cond)?,
     })
 }

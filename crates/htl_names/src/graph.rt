@@ -4,8 +4,8 @@ ghost use Rattle.htl_text.specs.Nodes.{mode_of, module_of, program_of, tree_of};
 ghost use Rattle.htl_names.specs.Programs.{named_program as program_of_mode, mode_links, module_links, program_links, links, mode_naming, module_naming, program_naming, naming};
 ghost use Rattle.htl_names.specs.Graph.{program_named, named_alone, named_from};
 
-use crate::key::{Key, Space};
 use crate::place::ModeAt;
+use crate::spaces::program_key;
 use crate::symbols::Symbols;
 use htl_base::Seq;
 use htl_text::{Id, ModeNode, ModuleNode, ProgramNode, Tree};
@@ -16,13 +16,7 @@ fn number_of(name: Option<Id>, symbols: &Symbols) -> Option<usize>
     ensures { result ≡ program_named symbols.now name }
 {
     match name {
-        Some(id) => symbols.get(&Key {
-            space: Space::Programs,
-            program: 0,
-            module: 0,
-            item: 0,
-            name: id.name,
-        }),
+        Some(id) => symbols.get(&program_key(id.name)),
         None => None,
     }
 }

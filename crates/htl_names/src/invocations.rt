@@ -2,9 +2,9 @@
 ghost use Rattle.std.specs.Prelude.{◌≡◌, ◌++◌, ◌≤◌, ℕ, None, Some, OnOk, IfOk, All, length, map};
 ghost use Rattle.htl_text.specs.Nodes.{tree_of};
 ghost use Rattle.htl_names.specs.declared.key.Key.{Key as AKey};
-ghost use Rattle.htl_names.specs.Ends.{end_by};
-ghost use Rattle.htl_names.specs.Flat.{meaning, ports_before, refined_mode, parent_number, invoke_item, mode_invoke_items, invoke_items};
-ghost use Rattle.htl_names.specs.Narrow.{IsNarrow, IsNarrowEnd, IsNarrowInvoke};
+ghost use Rattle.htl_names.specs.Ends.{end_by, invoke_by, parent_by, home_of, refined_of, IsNarrowHome, IsNarrowRefined};
+ghost use Rattle.htl_names.specs.Flat.{meaning, mode_invoke_items, invoke_items};
+ghost use Rattle.htl_names.specs.Narrow.{IsNarrow, IsNarrowEnd, IsNarrowInvoke, IsNarrowParent};
 
 use crate::at::invokes_at;
 use crate::layout::Layout;
@@ -32,6 +32,54 @@ pub fn invocations(alloc: Global, tree: &Tree, layout: &Layout) -> Result<Vec<In
     Ok(into)
 }
 
+/// A mode that is refined, and the number of its first invocation.
+#[derive(Clone, Copy)]
+struct Refined {
+    at: ModeAt,
+    first: usize,
+}
+
+/// A mode with its number, the numbers of its first port and of the first task of its module, and the mode that its
+/// program refines.
+#[derive(Clone, Copy)]
+struct Home {
+    mode: usize,
+    at: ModeAt,
+    port: usize,
+    task: usize,
+    refined: Option<Refined>,
+}
+
+fn home_at(tree: &Tree, layout: &Layout, mode: usize, at: ModeAt) -> Home
+    requires narrow { IsNarrow layout.now (tree_of tree.now) }
+    requires mode { mode ≤ 256 }
+    ensures value { result ≡ home_of layout.now (tree_of tree.now) mode at }
+    ensures narrow { IsNarrowHome result }
+{
+    Home {
+        mode,
+        at,
+        port: ports_before(tree, layout, mode),
+        task: tasks_before(tree, layout, module_number(layout, at.program, at.module)),
+        refined: refined_from(tree, layout, refined_mode(layout, at.program, at.module)),
+    }
+}
+
+fn refined_from(tree: &Tree, layout: &Layout, mode: Option<ModeAt>) -> Option<Refined>
+    requires narrow { IsNarrow layout.now (tree_of tree.now) }
+    requires mode { IsNarrowParent mode }
+    ensures value { result ≡ refined_of layout.now (tree_of tree.now) mode }
+    ensures narrow { IsNarrowRefined result }
+{
+    match mode {
+        Some(at) => Some(Refined {
+            at,
+            first: invokes_before(tree, layout, mode_number(tree, layout, at)),
+        }),
+        None => None,
+    }
+}
+
 // Those of a mode: its number, and where it stands.
 fn push_invocations(
     alloc: Global,
@@ -45,69 +93,66 @@ fn push_invocations(
     requires mode { mode ≤ 256 }
     ensures { OnOk result (into.new.items ≡ into.old.items ++ mode_invoke_items layout.now (tree_of tree.now) mode at) }
 {
-    let first = ports_before(tree, layout, mode);
-    let nodes = invokes_at(tree, at);
+    let home = home_at(tree, layout, mode, at);
+    push_each(alloc, layout, &home, invokes_at(tree, at), into)
+}
+
+fn push_each(
+    alloc: Global,
+    layout: &Layout,
+    home: &Home,
+    nodes: &[InvokeNode],
+    into: &mut Vec<Inv>,
+) -> Result<(), AllocError>
+    requires meanings { (key : AKey) → meaning layout.now key ≤ 4096 }
+    requires home { IsNarrowHome home.now }
+    requires ends { All IsNarrowInvoke nodes.now }
+    ensures { OnOk result (into.new.items ≡ into.old.items ++ map (invoke_by layout.now home.now) nodes.now) }
+{
     for k in 0..nodes.len() {
-        into.push(invocation(alloc, tree, layout, mode, at, first, &nodes[k])?)?;
+        into.push(invocation(alloc, layout, home, &nodes[k])?)?;
     }
     Ok(())
 }
 
-// `first` is the number of the first port of the mode.
 fn invocation(
     alloc: Global,
-    tree: &Tree,
     layout: &Layout,
-    mode: usize,
-    at: ModeAt,
-    first: usize,
+    home: &Home,
     node: &InvokeNode,
 ) -> Result<Inv, AllocError>
-    requires narrow { IsNarrow layout.now (tree_of tree.now) }
-    requires mode { mode ≤ 256 }
-    requires port { first ≡ ports_before layout.now (tree_of tree.now) mode }
+    requires meanings { (key : AKey) → meaning layout.now key ≤ 4096 }
+    requires home { IsNarrowHome home.now }
     requires ends { IsNarrowInvoke node.now }
-    ensures { IfOk result (λ i. i ≡ invoke_item layout.now (tree_of tree.now) mode at node.now) }
+    ensures { IfOk result (λ i. i ≡ invoke_by layout.now home.now node.now) }
 {
-    let task = tasks_before(tree, layout, module_number(layout, at.program, at.module))
-        + task_place(layout, at.program, at.module, node.task.name);
+    let at = home.at;
+    let task = home.task + task_place(layout, at.program, at.module, node.task.name);
     Ok(Inv {
-        mode: mode as u16,
+        mode: home.mode as u16,
         task: task as u16,
-        parent: parent(tree, layout, at, node.parent),
-        reads: Seq::new(ends(alloc, layout, at, first, node.reads.as_slice())?),
-        writes: Seq::new(ends(alloc, layout, at, first, node.writes.as_slice())?),
+        parent: parent(layout, home.refined, node.parent),
+        reads: Seq::new(ends(alloc, layout, at, home.port, node.reads.as_slice())?),
+        writes: Seq::new(ends(alloc, layout, at, home.port, node.writes.as_slice())?),
     })
 }
 
 // The number of the invocation that an invocation refines.
-fn parent(tree: &Tree, layout: &Layout, at: ModeAt, name: Option<Id>) -> Option<u16>
-    requires { IsNarrow layout.now (tree_of tree.now) }
-    ensures { result ≡ elim name [
-      | Some id ↦ parent_number layout.now (tree_of tree.now) (refined_mode layout.now at.program at.module) id
-      | None ↦ None
-    ] }
+fn parent(layout: &Layout, refined: Option<Refined>, name: Option<Id>) -> Option<u16>
+    requires meanings { (key : AKey) → meaning layout.now key ≤ 4096 }
+    requires refined { IsNarrowRefined refined }
+    ensures { result ≡ parent_by layout.now refined name }
 {
-    match name {
-        Some(id) => match refined_mode(layout, at.program, at.module) {
-            Some(refined) => Some(parent_number(tree, layout, refined, id)),
-            None => None,
-        },
-        None => None,
+    match (refined, name) {
+        (Some(r), Some(id)) => Some((r.first + invoke_place(layout, r.at, id.name)) as u16),
+        (None, Some(_)) => None,
+        (Some(_), None) => None,
+        (None, None) => None,
     }
 }
 
-// The number of an invocation of a mode.
-fn parent_number(tree: &Tree, layout: &Layout, refined: ModeAt, id: Id) -> u16
-    requires narrow { IsNarrow layout.now (tree_of tree.now) }
-    requires mode { refined.mode ≤ 256 }
-    ensures { parent_number layout.now (tree_of tree.now) (Some refined) id ≡ Some result }
-{
-    let first = invokes_before(tree, layout, mode_number(tree, layout, refined));
-    (first + invoke_place(layout, refined, id.name)) as u16
-}
-
-// Where the inputs of an invocation come from, or its outputs go to; `first` as above.
+// Where the inputs of an invocation come from, or its outputs go to. `first` is the number of the
+// first port of the mode.
 fn ends(
     alloc: Global,
     layout: &Layout,

@@ -1,8 +1,15 @@
 // What a name is looked up by.
+ghost use Rattle.std.specs.Prelude.{◌≡◌, ◌++◌, ◌∷◌, []};
+ghost use Rattle.std.specs.Cmp.{decided, partial_equiv_from_equiv};
+ghost use Rattle.std.specs.Hash as fed;
+ghost use Rattle.htl_names.specs.Keys.{same_key, space_code};
+ghost use Rattle.htl_names.specs.SameKeys.{same_key_decides, mixed, owner_of, key_writes, hashed_alike};
+
 use htl_base::Name;
+use std::hash::{Hash, Hasher};
 
 /// The kinds of lists in which names have to differ.
-#[derive(Clone, Copy, PartialEq, Eq, Hash)]
+#[derive(Clone, Copy)]
 pub enum Space {
     /// The programs of the source.
     Programs,
@@ -22,15 +29,77 @@ pub enum Space {
     Invokes,
 }
 
+impl Space {
+    fn code(self) -> u8
+        ensures { result ≡ space_code self }
+    {
+        match self {
+            Space::Programs => 0,
+            Space::Comms => 1,
+            Space::Modules => 2,
+            Space::Tasks => 3,
+            Space::Modes => 4,
+            Space::Params => 5,
+            Space::Ports => 6,
+            Space::Invokes => 7,
+        }
+    }
+}
+
 /// A name in a list. The list's owner is given by its places: the program, the module in it, and the task or mode in
-/// that; each is 0 where the list has no such owner.
-#[derive(Clone, Copy, PartialEq, Eq, Hash)]
+/// that; each is 0 where the list has no such owner. Only the bytes that a name has are compared and hashed.
+#[derive(Clone, Copy)]
 pub struct Key {
     pub space: Space,
     pub program: usize,
     pub module: usize,
     pub item: usize,
     pub name: Name,
+}
+
+impl PartialEq for Key {
+    ghost eq = { same_key };
+
+    ghost laws = { partial_equiv_from_equiv (decided same_key same_key_decides) };
+
+    fn eq(&self, other: &Key) -> bool {
+        self.space.code() == other.space.code()
+            && self.program == other.program
+            && self.module == other.module
+            && self.item == other.item
+            && self.name.as_bytes() == other.name.as_bytes()
+    }
+}
+
+impl Eq for Key {
+    ghost laws = { decided same_key same_key_decides };
+}
+
+impl Hash for Key {
+    ghost hash_input = { key_writes };
+
+    ghost respects_eq = { hashed_alike };
+
+    fn hash<H: Hasher>(&self, state: &mut H) {
+        state.write_usize(self.owner());
+        state.write(self.name.as_bytes());
+    }
+}
+
+impl Key {
+    // The list as one number. Lists that have the same number cost time alone.
+    fn owner(&self) -> usize
+        ensures { result ≡ owner_of self.now }
+    {
+        let program = mixed(self.space.code() as usize, self.program);
+        mixed(mixed(program, self.module), self.item)
+    }
+}
+
+fn mixed(a: usize, b: usize) -> usize
+    ensures { result ≡ mixed a b }
+{
+    a.wrapping_mul(1_048_583).wrapping_add(b)
 }
 
 /// A name where it is declared: its place in its list, and its token.

@@ -2,7 +2,6 @@
 #![tactic(auto)]
 
 mod at;
-mod entries;
 mod fault;
 mod flat;
 mod formulas;
@@ -26,6 +25,7 @@ mod programs;
 mod reach;
 mod repeats;
 mod resolving;
+mod rows;
 mod selections;
 mod spaces;
 mod switches;
@@ -35,6 +35,7 @@ mod tasks;
 #[cfg(test)]
 mod tests;
 mod uses;
+mod walk;
 
 pub use fault::NameFault;
 pub use laws::source_trees_meet_bounds;

@@ -1,16 +1,16 @@
 // The modules and modes of a source in the order of the tables.
-ghost use Rattle.std.specs.Prelude.{◌≡◌, ◌++◌, OnOk, IfOk, map, length, reverse};
-ghost use Rattle.std.specs.List.{flat_map};
-ghost use Rattle.htl_text.specs.Nodes.{mode_of, module_of, tree_of};
+ghost use Rattle.std.specs.Prelude.{◌≡◌, ◌++◌, OnOk, IfOk, map, reverse};
+ghost use Rattle.htl_text.specs.Nodes.{mode_of, tree_of};
 ghost use Rattle.htl_names.specs.Flat.{layout_by};
-ghost use Rattle.htl_names.specs.Order.{modules_at, modes_at, modules_in, mode_kids, kids as kids_of_module, order, module_modes, mode_order};
+ghost use Rattle.htl_names.specs.Order.{modules_in, mode_kids, kids as kids_of_module, order, module_modes, mode_order};
 ghost use Rattle.htl_names.specs.Stack.{frame, modules_named, kid_frames};
 
+use crate::at::{modes_at, modules_at};
 use crate::graph::named_program;
 use crate::layout::Layout;
 use crate::place::{ModeAt, ModuleAt};
 use crate::symbols::Symbols;
-use htl_text::{ModeNode, ModuleNode, Tree};
+use htl_text::{ModeNode, Tree};
 use std::alloc::{AllocError, Global};
 
 /// A module that is still to come, and how many levels may lie below it.
@@ -18,30 +18,6 @@ use std::alloc::{AllocError, Global};
 struct Frame {
     module: ModuleAt,
     steps: usize,
-}
-
-/// The modules of a program; none where there is no such program.
-fn modules_at<'a>(tree: &'a Tree, program: usize) -> &'a [ModuleNode]
-    ensures { map module_of result.now ≡ modules_at (tree_of tree.now) program }
-{
-    let programs = tree.programs.as_slice();
-    if program < programs.len() {
-        programs[program].modules.as_slice()
-    } else {
-        &[]
-    }
-}
-
-/// The modes of a module; none where there is no such module.
-fn modes_at<'a>(tree: &'a Tree, program: usize, module: usize) -> &'a [ModeNode]
-    ensures { map mode_of result.now ≡ modes_at (tree_of tree.now) program «module» }
-{
-    let modules = modules_at(tree, program);
-    if module < modules.len() {
-        modules[module].modes.as_slice()
-    } else {
-        &[]
-    }
 }
 
 // ---- modules

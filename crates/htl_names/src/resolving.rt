@@ -1,16 +1,16 @@
 // From the tree of a source to its tables.
-ghost use Rattle.std.specs.Prelude.{◌≡◌, MatchResult, length, IfOk};
+ghost use Rattle.std.specs.Prelude.{◌≡◌, List, MatchResult, length, IfOk};
 ghost use Rattle.htl_model.specs.Broken.{KeepsLimits};
 ghost use Rattle.htl_model.specs.Lists.{list_to};
 ghost use Rattle.htl_model.specs.Small.{AreSmall};
-ghost use Rattle.htl_text.specs.Nodes.{tree_of};
+ghost use Rattle.htl_text.specs.Nodes.{PlainProgram, tree_of};
 ghost use Rattle.htl_names.specs.Conditions.{MeetsBounds};
 ghost use Rattle.htl_names.specs.Flat.{symbols_of};
 ghost use Rattle.htl_names.specs.NameRules.{RepeatedName, UnknownName, WrongKind, ProgramTree, ParentName, Limits, AreNamesRight, IsResolved};
 ghost use Rattle.htl_names.specs.Programs.{refined_by};
+ghost use Rattle.htl_names.specs.Rows.{rows as rows_in};
 ghost use Rattle.htl_names.specs.Told.{IsKept, IsTold, IsTested, IsJudged};
 
-use crate::entries::entries_of;
 use crate::fault::NameFault;
 use crate::flat::parts_of;
 use crate::kinds::first_wrong_kind;
@@ -20,8 +20,10 @@ use crate::parents::first_orphan;
 use crate::place::ModeAt;
 use crate::programs::{first_misplaced, refined_modes};
 use crate::repeats::{Declared, declare};
+use crate::rows::Rows;
 use crate::symbols::Symbols;
 use crate::uses::first_unknown;
+use crate::walk::rows_of;
 use htl_model::Tables;
 use htl_text::Tree;
 use std::alloc::{AllocError, Global};
@@ -45,51 +47,60 @@ pub fn resolve(alloc: Global, tree: &Tree) -> Result<Tables, NameFault>
     ensures limits { IfOk result (λ tables. KeepsLimits tables) }
     ensures functions { IfOk result (λ tables. AreSmall tables) }
 {
-    let symbols = symbols_of(alloc, tree)?;
-    check(alloc, tree, &symbols)?;
+    let Names { rows, symbols } = names_of(alloc, tree)?;
+    check(alloc, tree, &rows, &symbols)?;
     tables(alloc, tree, symbols)
 }
 
-// The meanings of the declared names, none of which may repeat.
-fn symbols_of(alloc: Global, tree: &Tree) -> Result<Symbols, NameFault>
-    ensures { MatchResult result (λ symbols. (symbols ≡ symbols_of (tree_of tree.now)) × IsKept (tree_of tree.now) RepeatedName) (IsTold (tree_of tree.now) RepeatedName) }
+// The names of a source, none of which repeats: its rows, and what the declared names mean.
+#[derive(Drop)]
+struct Names {
+    rows: Rows,
+    symbols: Symbols,
+}
+
+fn names_of(alloc: Global, tree: &Tree) -> Result<Names, NameFault>
+    ensures { MatchResult result
+        (λ n. (n.rows ≡ rows_in (tree_of tree.now)) × (n.symbols ≡ symbols_of (tree_of tree.now)) × IsKept (tree_of tree.now) RepeatedName)
+        (IsTold (tree_of tree.now) RepeatedName) }
 {
-    let entries = entries_of(alloc, tree)?;
-    match declare(alloc, entries.as_slice())? {
-        Declared::Apart { symbols } => Ok(symbols),
+    let rows = rows_of(alloc, tree)?;
+    match declare(alloc, rows.entries.as_slice())? {
+        Declared::Apart { symbols } => Ok(Names { rows, symbols }),
         Declared::Repeated { token } => Err(NameFault::Twice { token }),
     }
 }
 
 // The rules after the first, in their order.
-fn check(alloc: Global, tree: &Tree, symbols: &Symbols) -> Result<(), NameFault>
+fn check(alloc: Global, tree: &Tree, rows: &Rows, symbols: &Symbols) -> Result<(), NameFault>
     requires bounds { MeetsBounds (tree_of tree.now) }
+    requires rows { rows.now ≡ rows_in (tree_of tree.now) }
     requires symbols { symbols.now ≡ symbols_of (tree_of tree.now) }
     requires apart { IsKept (tree_of tree.now) RepeatedName }
     ensures { IsJudged (tree_of tree.now) result }
 {
-    check_uses(tree, symbols)?;
-    check_kinds(tree)?;
+    check_uses(rows, symbols)?;
+    check_kinds(rows)?;
     check_programs(alloc, tree, symbols)?;
     let refined = refined_modes(alloc, tree, symbols)?;
-    check_parents(tree, symbols, refined.as_slice())?;
+    check_parents(rows, symbols, refined.as_slice())?;
     check_limits(tree, symbols, refined.as_slice())
 }
 
-fn check_uses(tree: &Tree, symbols: &Symbols) -> Result<(), NameFault>
-    requires { symbols.now ≡ symbols_of (tree_of tree.now) }
-    ensures { IsTested (tree_of tree.now) UnknownName result }
+// The rows are those of a source.
+fn check_uses(rows: &Rows, symbols: &Symbols) -> Result<(), NameFault>
+    ensures { (ps : List PlainProgram) → rows.now ≡ rows_in ps → symbols.now ≡ symbols_of ps → IsTested ps UnknownName result }
 {
-    match first_unknown(tree, symbols) {
+    match first_unknown(rows.uses.as_slice(), symbols) {
         None => Ok(()),
         Some(token) => Err(NameFault::Unknown { token }),
     }
 }
 
-fn check_kinds(tree: &Tree) -> Result<(), NameFault>
-    ensures { IsTested (tree_of tree.now) WrongKind result }
+fn check_kinds(rows: &Rows) -> Result<(), NameFault>
+    ensures { (ps : List PlainProgram) → rows.now ≡ rows_in ps → IsTested ps WrongKind result }
 {
-    match first_wrong_kind(tree) {
+    match first_wrong_kind(rows.kinds.as_slice()) {
         None => Ok(()),
         Some(token) => Err(NameFault::Kind { token }),
     }
@@ -107,15 +118,14 @@ fn check_programs(alloc: Global, tree: &Tree, symbols: &Symbols) -> Result<(), N
 }
 
 fn check_parents(
-    tree: &Tree,
+    rows: &Rows,
     symbols: &Symbols,
     refined: &[Option<ModeAt>],
 ) -> Result<(), NameFault>
-    requires symbols { symbols.now ≡ symbols_of (tree_of tree.now) }
-    requires refined { refined.now ≡ list_to (refined_by symbols.now (tree_of tree.now)) (length (tree_of tree.now)) }
-    ensures { IsTested (tree_of tree.now) ParentName result }
+    ensures { (ps : List PlainProgram) → rows.now ≡ rows_in ps → symbols.now ≡ symbols_of ps
+        → refined.now ≡ list_to (refined_by symbols.now ps) (length ps) → IsTested ps ParentName result }
 {
-    match first_orphan(tree, symbols, refined) {
+    match first_orphan(rows.parents.as_slice(), symbols, refined) {
         None => Ok(()),
         Some(token) => Err(NameFault::Unknown { token }),
     }

@@ -1,6 +1,7 @@
-// The list of switches, and the communicators of conditions.
-ghost use Rattle.std.specs.Prelude.{◌≡◌, ◌++◌, ◌≤◌, ℕ, OnOk, IfOk, fold, length, map};
-ghost use Rattle.std.specs.List.{list_any};
+// The list of switches, with their functions.
+ghost use Rattle.std.specs.Prelude.{◌≡◌, ◌++◌, ◌∷◌, ◌≤◌, [], ℕ, OnOk, IfOk, fold, map};
+ghost use Rattle.std.specs.List.{flat_map};
+ghost use Rattle.htl_model.specs.Tables.{fun_of};
 ghost use Rattle.htl_text.specs.Bounds.{names_of};
 ghost use Rattle.htl_text.specs.Expressions.{expr_of};
 ghost use Rattle.htl_text.specs.Nodes.{tree_of, switch_of};
@@ -8,75 +9,131 @@ ghost use Rattle.htl_text.specs.declared.tree.Id.{Id as AnId};
 ghost use Rattle.htl_names.specs.declared.key.Key.{Key as AKey};
 ghost use Rattle.htl_names.specs.Keys.{comm_key};
 ghost use Rattle.htl_names.specs.Lists.{with_new};
-ghost use Rattle.htl_names.specs.Flat.{meaning, comms_in, switch_item, mode_switch_items, switch_items};
+ghost use Rattle.htl_names.specs.Flat.{meaning, comms_in, switch_function, mode_functions, mode_switch_items, switch_items};
+ghost use Rattle.htl_names.specs.Ends.{switch_by};
 ghost use Rattle.htl_names.specs.Narrow.{IsNarrow};
 
 use crate::at::switches_at;
+use crate::formulas::{Reads, formula};
 use crate::layout::Layout;
 use crate::meanings::{comm_place, mode_place};
 use crate::numbers::{modes_before, module_number};
 use crate::place::ModeAt;
 use htl_base::Seq;
-use htl_model::Switch;
+use htl_model::{Function, Switch};
 use htl_text::{SwitchNode, Term, Tree};
 use std::alloc::{AllocError, Global};
 
-/// The switches: by mode, then in source order.
-pub fn switches(alloc: Global, tree: &Tree, layout: &Layout) -> Result<Vec<Switch>, AllocError>
+/// The switches, with functions of which the last are theirs.
+#[derive(Drop)]
+pub struct Listed {
+    pub items: Vec<Switch>,
+    pub functions: Vec<Function>,
+}
+
+/// The switches: by mode, then in source order; their functions in the same order behind the given ones.
+pub fn switches(
+    alloc: Global,
+    tree: &Tree,
+    layout: &Layout,
+    functions: Vec<Function>,
+) -> Result<Listed, AllocError>
     requires { IsNarrow layout.now (tree_of tree.now) }
-    ensures { IfOk result (λ v. v.items ≡ switch_items layout.now (tree_of tree.now)) }
+    ensures items { IfOk result (λ v. v.items.items ≡ switch_items layout.now (tree_of tree.now)) }
+    ensures functions { IfOk result (λ v. map fun_of v.functions.items
+        ≡ map fun_of functions.items ++ flat_map (mode_functions layout.now (tree_of tree.now)) layout.now.modes) }
 {
-    let mut into = Vec::new(alloc);
+    let mut into = Listed {
+        items: Vec::new(alloc),
+        functions,
+    };
     let modes = layout.modes.as_slice();
     for k in 0..modes.len() {
-        push_switches(alloc, tree, layout, k, modes[k], &mut into)?;
+        put_mode(alloc, tree, layout, k, modes[k], &mut into)?;
     }
     Ok(into)
 }
 
+// A mode with its number, and the number of the first mode of its module.
+#[derive(Clone, Copy)]
+struct Source {
+    mode: usize,
+    at: ModeAt,
+    first: usize,
+}
+
 // Those of a mode: its number, and where it stands.
-fn push_switches(
+fn put_mode(
     alloc: Global,
     tree: &Tree,
     layout: &Layout,
     mode: usize,
     at: ModeAt,
-    into: &mut Vec<Switch>,
+    into: &mut Listed,
 ) -> Result<(), AllocError>
     requires narrow { IsNarrow layout.now (tree_of tree.now) }
     requires mode { mode ≤ 256 }
-    ensures { OnOk result (into.new.items ≡ into.old.items ++ mode_switch_items layout.now (tree_of tree.now) mode at) }
+    ensures items { OnOk result (into.new.items.items ≡ into.old.items.items ++ mode_switch_items layout.now (tree_of tree.now) mode at) }
+    ensures functions { OnOk result (map fun_of into.new.functions.items
+        ≡ map fun_of into.old.functions.items ++ mode_functions layout.now (tree_of tree.now) at) }
 {
+    let first = modes_before(tree, layout, module_number(layout, at.program, at.module));
+    let source = Source { mode, at, first };
     let nodes = switches_at(tree, at);
     for k in 0..nodes.len() {
-        into.push(switch(alloc, tree, layout, mode, at, &nodes[k])?)?;
+        put_switch(alloc, layout, &source, &nodes[k], into)?;
     }
     Ok(())
 }
 
-fn switch(
+// The communicators of the condition are gathered once, for the switch and for its function.
+fn put_switch(
     alloc: Global,
-    tree: &Tree,
     layout: &Layout,
-    mode: usize,
-    at: ModeAt,
+    source: &Source,
     node: &SwitchNode,
-) -> Result<Switch, AllocError>
-    requires narrow { IsNarrow layout.now (tree_of tree.now) }
-    requires mode { mode ≤ 256 }
-    ensures { IfOk result (λ s. s ≡ switch_item layout.now (tree_of tree.now) mode at (switch_of node.now)) }
+    into: &mut Listed,
+) -> Result<(), AllocError>
+    requires meanings { (key : AKey) → meaning layout.now key ≤ 4096 }
+    requires mode { source.now.mode ≤ 256 }
+    requires first { source.now.first ≤ 256 }
+    ensures items { OnOk result (into.new.items.items
+        ≡ into.old.items.items ++ switch_by layout.now source.now.mode source.now.at source.now.first (switch_of node.now) ∷ []) }
+    ensures functions { OnOk result (map fun_of into.new.functions.items
+        ≡ map fun_of into.old.functions.items ++ switch_function layout.now (switch_of node.now) ∷ []) }
 {
-    let target = modes_before(tree, layout, module_number(layout, at.program, at.module))
-        + mode_place(layout, at.program, at.module, node.target.name);
-    Ok(Switch {
-        mode: mode as u16,
+    let comms = comms_in(alloc, layout, &node.cond)?;
+    let function = switch_function(alloc, layout, comms.as_slice(), node)?;
+    let at = source.at;
+    let target = source.first + mode_place(layout, at.program, at.module, node.target.name);
+    into.functions.push(function)?;
+    into.items.push(Switch {
+        mode: source.mode as u16,
         target: target as u16,
-        reads: Seq::new(comms_in(alloc, layout, &node.cond)?),
+        reads: Seq::new(comms),
+    })?;
+    Ok(())
+}
+
+fn switch_function(
+    alloc: Global,
+    layout: &Layout,
+    comms: &[u16],
+    node: &SwitchNode,
+) -> Result<Function, AllocError>
+    requires meanings { (key : AKey) → meaning layout.now key ≤ 4096 }
+    requires comms { comms.now ≡ comms_in layout.now (expr_of node.now.cond) }
+    ensures { IfOk result (λ f. fun_of f ≡ switch_function layout.now (switch_of node.now)) }
+{
+    let reads = Reads { layout, comms };
+    Ok(Function::Expr {
+        first: node.first,
+        e: formula(alloc, &reads, &node.cond)?,
     })
 }
 
 /// The communicators of a condition, each once, in the order of their first occurrence.
-pub fn comms_in(alloc: Global, layout: &Layout, e: &Term) -> Result<Vec<u16>, AllocError>
+fn comms_in(alloc: Global, layout: &Layout, e: &Term) -> Result<Vec<u16>, AllocError>
     requires { (key : AKey) → meaning layout.now key ≤ 4096 }
     ensures { IfOk result (λ v. v.items ≡ comms_in layout.now (expr_of e.now)) }
 {

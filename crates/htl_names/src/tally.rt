@@ -38,14 +38,11 @@ fn with_mode(t: Tally, mode: &ModeNode) -> Tally
 {
     let invokes = mode.invokes.as_slice().len();
     Tally {
-        comms: t.comms,
-        modules: t.modules,
-        modes: t.modes,
         ports: t.ports.saturating_add(mode.ports.as_slice().len()),
-        tasks: t.tasks,
         invokes: t.invokes.saturating_add(invokes),
         switches: t.switches.saturating_add(mode.switches.as_slice().len()),
         most_invokes: t.most_invokes.max(invokes),
+        ..t
     }
 }
 
@@ -53,14 +50,9 @@ fn with_sizes(t: Tally, modes: usize, tasks: usize) -> Tally
     ensures { result ≡ with_sizes t modes tasks }
 {
     Tally {
-        comms: t.comms,
-        modules: t.modules,
         modes: t.modes.saturating_add(modes),
-        ports: t.ports,
         tasks: t.tasks.saturating_add(tasks),
-        invokes: t.invokes,
-        switches: t.switches,
-        most_invokes: t.most_invokes,
+        ..t
     }
 }
 
@@ -81,12 +73,7 @@ fn with_items(t: Tally, comms: usize, modules: usize) -> Tally
     Tally {
         comms: t.comms.saturating_add(comms),
         modules: t.modules.saturating_add(modules),
-        modes: t.modes,
-        ports: t.ports,
-        tasks: t.tasks,
-        invokes: t.invokes,
-        switches: t.switches,
-        most_invokes: t.most_invokes,
+        ..t
     }
 }
 

@@ -5,12 +5,12 @@ use Rattle.htl_names.specs.NameRules.{RepeatedName}
 use Rattle.htl_names.proofs.ResolveLaws.{refusal, resolved_by, no_tables, kept_below1}
 use Rattle.htl_names.proofs.resolving.resolve.Goals as goal
 
-pub returns-in_err-symbols : goal.returns-in_err-symbols
-returns-in_err-symbols c =
+pub returns-in_err-rows : goal.returns-in_err-rows
+returns-in_err-rows c =
     let ps = tree_of c.args.tree.now in
-    let f = c.in_err-symbols.field-0.0 in
+    let f = c.in_err-rows.field-0.0 in
     record {
-      resolved = resolved_by ps c.from_residual.result f c.from_residual.ensures.1 (refusal ps RepeatedName f (kept_below1 ps) c.in_err-symbols.ensures);
+      resolved = resolved_by ps c.from_residual.result f c.from_residual.ensures.1 (refusal ps RepeatedName f (kept_below1 ps) c.in_err-rows.ensures);
       limits = no_tables KeepsLimits c.from_residual.result f c.from_residual.ensures.1;
       functions = no_tables AreSmall c.from_residual.result f c.from_residual.ensures.1;
     }

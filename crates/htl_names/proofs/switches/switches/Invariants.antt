@@ -1,8 +1,15 @@
-use Rattle.std.proofs.Common.{◌≡◌, ◌++◌, drop}
+use Rattle.std.proofs.Common.{◌≡◌, ◌++◌, drop, map}
+use Rattle.std.specs.List.{flat_map}
+use Rattle.htl_model.specs.Tables.{fun_of}
 use Rattle.htl_text.specs.Nodes.{tree_of}
-use Rattle.htl_names.specs.Flat.{mode_switch_items}
+use Rattle.htl_names.specs.Flat.{mode_switch_items, mode_functions}
 use Rattle.htl_names.specs.Lists.{flat_map_at}
 use Rattle.htl_names.proofs.switches.switches.Given as goal
 
 abbrev pub invariant-loop-k : goal.invariant-loop-k
-invariant-loop-k l = l.into.items ++ flat_map_at (mode_switch_items l.layout (tree_of l.tree)) l.k (drop l.k l.modes) ≡ flat_map_at (mode_switch_items l.layout (tree_of l.tree)) 0 l.modes
+invariant-loop-k l =
+    record {
+      items : l.into.items.items ++ flat_map_at (mode_switch_items l.layout (tree_of l.tree)) l.k (drop l.k l.modes) ≡ flat_map_at (mode_switch_items l.layout (tree_of l.tree)) 0 l.modes;
+      functions : map fun_of l.into.functions.items ++ flat_map (mode_functions l.layout (tree_of l.tree)) (drop l.k l.modes)
+          ≡ map fun_of l.fn.functions.items ++ flat_map (mode_functions l.layout (tree_of l.tree)) l.modes;
+    }

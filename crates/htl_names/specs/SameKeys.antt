@@ -1,0 +1,89 @@
+-- The test of keys is true exactly where they are the same.
+use Rattle.std.specs.Prelude.{◌≡◌, ◌∷◌, ◌++◌, ◌+◌, ◌*◌, ◌%◌, ◌^◌, ℕ, zero, suc, Bool, true, false, ◌&&◌, eqb, List, [], IsTrue}
+use Rattle.std.specs.Bool.{Decides}
+use Rattle.std.specs.Hash as fed
+use Rattle.std.specs.Str.{bytes_eq}
+use Rattle.std.proofs.Common.{refl, sym, ◌∙◌, ap, subst, eqb-true, eq-eqb}
+use Rattle.std.proofs.lemmas.Slice.Eq.{bytes_eq-Decides}
+use Rattle.htl_names.specs.declared.key.Key.{Key}
+use Rattle.htl_names.specs.declared.key.Space.{Space}
+use Rattle.htl_names.specs.declared.key.Space.TheVariants as space
+use Rattle.htl_names.specs.Keys.{space_code, same_key}
+
+-- the kind of list with a number
+abbrev space_at : ℕ → Space
+space_at zero = space.Programs
+space_at (suc zero) = space.Comms
+space_at (suc (suc zero)) = space.Modules
+space_at (suc (suc (suc zero))) = space.Tasks
+space_at (suc (suc (suc (suc zero)))) = space.Modes
+space_at (suc (suc (suc (suc (suc zero))))) = space.Params
+space_at (suc (suc (suc (suc (suc (suc zero)))))) = space.Ports
+space_at (suc (suc (suc (suc (suc (suc (suc n))))))) = space.Invokes
+
+space_back : (s : Space) → space_at (space_code s) ≡ s
+space_back space.Programs = refl
+space_back space.Comms = refl
+space_back space.Modules = refl
+space_back space.Tasks = refl
+space_back space.Modes = refl
+space_back space.Params = refl
+space_back space.Ports = refl
+space_back space.Invokes = refl
+
+same_space : (a b : Space) → space_code a ≡ space_code b → a ≡ b
+same_space a b e = sym (space_back a) ∙ ap space_at e ∙ space_back b
+
+-- both tests passed
+both : (a b : Bool) → (a && b) ≡ true → (a ≡ true) × (b ≡ true)
+both true b h = (refl, h)
+both false true h = (h, refl)
+both false false h = (h, h)
+
+all : (a b c d e : Bool) → a ≡ true → b ≡ true → c ≡ true → d ≡ true → e ≡ true → (a && b && c && d && e) ≡ true
+all a b c d e p q r s t =
+    ap (λ x. x && b && c && d && e) p ∙ ap (λ x. true && x && c && d && e) q ∙ ap (λ x. true && true && x && d && e) r
+    ∙ ap (λ x. true && true && true && x && e) s ∙ t
+
+abbrev make : Space → ℕ → ℕ → ℕ → List ℕ → Key
+make s p u i n = record { space = s; program = p; «module» = u; item = i; name = n }
+
+made : (a b : Key) → a.space ≡ b.space → a.program ≡ b.program → a.«module» ≡ b.«module» → a.item ≡ b.item → a.name ≡ b.name → a ≡ b
+made a b s p u i n =
+    ap (λ x. make x a.program a.«module» a.item a.name) s
+    ∙ ap (λ x. make b.space x a.«module» a.item a.name) p
+    ∙ ap (λ x. make b.space b.program x a.item a.name) u
+    ∙ ap (λ x. make b.space b.program b.«module» x a.name) i
+    ∙ ap (λ x. make b.space b.program b.«module» b.item x) n
+
+pub same_key_decides : (a b : Key) → Decides (same_key a b) (a ≡ b)
+same_key_decides a b = (
+  λ h.
+      let one = eqb (space_code a.space) (space_code b.space) in
+      let two = eqb a.program b.program in
+      let three = eqb a.«module» b.«module» in
+      let four = eqb a.item b.item in
+      let five = bytes_eq a.name b.name in
+      let p = both (one && two && three && four) five h in
+      let q = both (one && two && three) four p.0 in
+      let r = both (one && two) three q.0 in
+      let s = both one two r.0 in
+      made a b (same_space a.space b.space (eqb-true _ _ s.0)) (eqb-true _ _ s.1) (eqb-true _ _ r.1) (eqb-true _ _ q.1) ((bytes_eq-Decides a.name b.name).0 p.1),
+  λ e. subst (λ (c : Key). same_key a c ≡ true) e
+      (all (eqb (space_code a.space) (space_code a.space)) (eqb a.program a.program) (eqb a.«module» a.«module») (eqb a.item a.item) (bytes_eq a.name a.name)
+      (eq-eqb _ _ refl) (eq-eqb _ _ refl) (eq-eqb _ _ refl) (eq-eqb _ _ refl) ((bytes_eq-Decides a.name a.name).1 refl)),
+)
+
+-- the list of a key as one number
+abbrev pub mixed : ℕ → ℕ → ℕ
+mixed a b = ((a * 1048583) % 2 ^ 64 + b) % 2 ^ 64
+
+abbrev pub owner_of : Key → ℕ
+owner_of k = mixed (mixed (mixed (space_code k.space) k.program) k.«module») k.item
+
+-- what the hash of a key is made from: that number, and the bytes of the name as one piece
+abbrev pub key_writes : Key → List (List ℕ)
+key_writes k = fed.usize (owner_of k) ++ k.name ∷ []
+
+pub hashed_alike : (a b : Key) → IsTrue (same_key a b) → key_writes a ≡ key_writes b
+hashed_alike a b h = ap key_writes ((same_key_decides a b).0 h)

@@ -1,0 +1,176 @@
+// What one walk over a source leaves for the name rules.
+ghost use Rattle.std.specs.Prelude.{◌≡◌, ◌≤◌, ◌^◌, ◌-◌, ◌∷◌, [], ◌++◌, OnOk, length, map};
+ghost use Rattle.htl_text.specs.Bounds.{names_of};
+ghost use Rattle.htl_text.specs.Expressions.{expr_of};
+ghost use Rattle.htl_names.specs.Entries.{entry};
+ghost use Rattle.htl_names.specs.Rows.{joined, declaring, using, judging, refining, judged_of};
+ghost use Rattle.htl_names.specs.Uses.{usage};
+ghost use Rattle.htl_names.specs.Unknowns.{use_in};
+
+use crate::key::{Entry, Key, Space, Use};
+use htl_base::Ty;
+use htl_text::{ConstNode, Id, Num, Term};
+use std::alloc::{AllocError, Global};
+use std::marker::Model;
+
+/// A value or number that has to be of a kind.
+#[derive(Clone, Copy)]
+pub enum Judged {
+    /// A period or worst case, in ticks.
+    Span {
+        /// The number.
+        n: Num,
+    },
+    /// An instance of a communicator.
+    Instance {
+        /// The number.
+        n: Num,
+    },
+    /// An initial value.
+    Initial {
+        /// The type that it has to have.
+        wanted: Ty,
+        /// The value.
+        c: ConstNode,
+    },
+}
+
+/// A name after `parent`, in an invocation of a program.
+#[derive(Clone, Copy)]
+pub struct ParentName {
+    pub program: usize,
+    pub id: Id,
+}
+
+/// The list in which the names of an expression are looked up, and a bound for the places of its items.
+#[derive(Clone, Copy)]
+pub struct Scope {
+    pub space: Space,
+    pub program: usize,
+    pub module: usize,
+    pub item: usize,
+    pub below: Option<usize>,
+}
+
+/// The names that a source declares, those that it uses, its values and numbers, and the names after `parent`, each
+/// list in source order.
+#[derive(Drop)]
+pub struct Rows {
+    pub entries: Vec<Entry>,
+    pub uses: Vec<Use>,
+    pub kinds: Vec<Judged>,
+    pub parents: Vec<ParentName>,
+}
+
+impl Model for Rows {
+    ghost use Rattle.std.specs.Prelude.{map};
+    ghost use Rattle.htl_names.specs.Rows.{Rows as Plain, judged_of, parent_use_of};
+
+    ghost Value = { Plain };
+
+    ghost view = { λ r. record {
+      entries = r.entries.items;
+      uses = r.uses.items;
+      kinds = map judged_of r.kinds.items;
+      parents = map parent_use_of r.parents.items;
+    } };
+}
+
+impl Rows {
+    /// No rows.
+    pub fn new(alloc: Global) -> Rows
+        ensures { result ≡ declaring [] }
+    {
+        Rows {
+            entries: Vec::new(alloc),
+            uses: Vec::new(alloc),
+            kinds: Vec::new(alloc),
+            parents: Vec::new(alloc),
+        }
+    }
+
+    /// A name that is declared, and its place in its list.
+    pub fn declare(&mut self, key: Key, number: usize, id: &Id) -> Result<(), AllocError>
+        ensures rows { OnOk result (self.new ≡ joined self.old (declaring (entry key number id.now ∷ []))) }
+        ensures few { OnOk result (length self.new.entries ≤ 2 ^ 63 - 1) }
+    {
+        self.entries.push(Entry {
+            key,
+            number,
+            token: id.token,
+        })?;
+        Ok(())
+    }
+
+    /// A name that is used for any item of its list.
+    pub fn mention(&mut self, key: Key, id: &Id) -> Result<(), AllocError>
+        ensures { OnOk result (self.new ≡ joined self.old (using (usage key id.now ∷ []))) }
+    {
+        self.uses.push(Use {
+            key,
+            below: None,
+            token: id.token,
+        })?;
+        Ok(())
+    }
+
+    /// The names of an expression.
+    pub fn mention_all(&mut self, scope: &Scope, e: &Term) -> Result<(), AllocError>
+        ensures { OnOk result (self.new ≡ joined self.old (using (map (use_in scope.now) (names_of (expr_of e.now))))) }
+    {
+        put_names(scope, e, &mut self.uses)
+    }
+
+    /// A value or number.
+    pub fn judge(&mut self, item: Judged) -> Result<(), AllocError>
+        ensures { OnOk result (self.new ≡ joined self.old (judging (judged_of item ∷ []))) }
+    {
+        self.kinds.push(item)?;
+        Ok(())
+    }
+
+    /// A name after `parent`.
+    pub fn refine(&mut self, program: usize, id: Id) -> Result<(), AllocError>
+        ensures { OnOk result (self.new ≡ joined self.old (refining (record { program = program; id = id } ∷ []))) }
+    {
+        self.parents.push(ParentName { program, id })?;
+        Ok(())
+    }
+}
+
+fn put_names(scope: &Scope, e: &Term, into: &mut Vec<Use>) -> Result<(), AllocError>
+    ensures { OnOk result (into.new.items ≡ into.old.items ++ map (use_in scope.now) (names_of (expr_of e.now))) }
+{
+    match e {
+        Term::Int { .. } | Term::Bool { .. } => {}
+        Term::Named { id } => put_name(scope, id, into)?,
+        Term::Unary { e, .. } => put_names(scope, e, into)?,
+        Term::Binary { l, r, .. } => {
+            put_names(scope, l, into)?;
+            put_names(scope, r, into)?;
+        }
+        Term::Choose { c, a, b, .. } => {
+            put_names(scope, c, into)?;
+            put_names(scope, a, into)?;
+            put_names(scope, b, into)?;
+        }
+    }
+    Ok(())
+}
+
+fn put_name(scope: &Scope, id: &Id, into: &mut Vec<Use>) -> Result<(), AllocError>
+    ensures { OnOk result (into.new.items ≡ into.old.items ++ use_in scope.now id.now ∷ []) }
+{
+    into.push(Use {
+        key: Key {
+            space: scope.space,
+            program: scope.program,
+            module: scope.module,
+            item: scope.item,
+            name: id.name,
+        },
+        below: scope.below,
+        token: id.token,
+    })?;
+    Ok(())
+}
