@@ -55,15 +55,6 @@ impl Model for SMach {
     ghost invariant = { λ m. (m.count ≤ 128) × (m.start ≤ 1000000000) × (m.time ≤ 4294967295) };
 }
 
-const NO_JOB: Job = Job {
-    present: false,
-    inv: 0,
-    release: 0,
-    end: 0,
-    worst: 0,
-    preds: 0,
-};
-
 impl SMach {
     /// A machine without a round.
     pub fn new() -> SMach
@@ -74,7 +65,7 @@ impl SMach {
             running: false,
             start: 0,
             count: 0,
-            jobs: [NO_JOB; MAX_POSITIONS],
+            jobs: [Job::ABSENT; MAX_POSITIONS],
             lengths: [0; MAX_POSITIONS],
             released: [false; MAX_POSITIONS],
             place: 0,

@@ -25,7 +25,7 @@ pub record IsFollowedTo (jobs : List Job) (s : List SInstr) (k : ℕ) (x : Point
   pub done : (p : ℕ) → p < length jobs → get_or x.left p 0 ≡ 0 → finish (walk jobs (worst_cases jobs) s) p ≡ Some (get_or finishes p 0)
   pub in_time : (p : ℕ) → p < length jobs → get_or x.left p 0 ≡ 0 → get_or finishes p 0 ≤ (job_at jobs p).end
 
-work_at : (jobs : List Job) → All HasWork jobs → (p : ℕ) → p < length jobs → 0 < get_or (work jobs (worst_cases jobs)) p 0
+pub work_at : (jobs : List Job) → All HasWork jobs → (p : ℕ) → p < length jobs → 0 < get_or (work jobs (worst_cases jobs)) p 0
 work_at jobs all p h =
     let at : slice_get jobs p ≡ Some (get_or jobs p (job_at jobs p)) = slice_get-get_or jobs p (job_at jobs p) h in
     let j = get_or jobs p (job_at jobs p) in

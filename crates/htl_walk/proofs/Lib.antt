@@ -7,11 +7,11 @@ pub mod Following
 pub mod JobExamples
 pub mod JobLaws
 pub mod Masks
+pub mod PendingLaws
 pub mod Predecessors
 pub mod SameJobs
 pub mod SampleFits
 pub mod Slices
-pub mod Standing
 pub mod Steps
 pub mod Unreleased
 pub mod Waiting

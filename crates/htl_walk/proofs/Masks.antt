@@ -1,5 +1,5 @@
 -- Predecessors as numbers by their bits.
-use Rattle.std.proofs.Common.{◌≡◌, ℕ, zero, suc, ◌+◌, ◌*◌, ◌/◌, ◌%◌, ◌<◌, Bool, true, false, ◌&&◌, eqb, ltb, List, [], ◌∷◌, ◌++◌, length, map, take, set, get_or, add-one, Option, Some, None, refl, sym, ap, ◌∙◌, arith, inl, inr}
+use Rattle.std.proofs.Common.{◌≡◌, ℕ, zero, suc, ◌+◌, ◌*◌, ◌/◌, ◌%◌, ◌<◌, ◌≤◌, Bool, true, false, ◌&&◌, eqb, ltb, List, [], ◌∷◌, ◌++◌, length, map, take, set, get_or, add-one, Option, Some, None, refl, sym, ap, ◌∙◌, arith, inl, inr}
 use Rattle.std.specs.Prelude.{slice_get}
 use Rattle.std.specs.Int.{bit_at}
 use Rattle.std.specs.List.{list_any}
@@ -15,7 +15,7 @@ use Rattle.htl_model.specs.PortTable.{writes_to, is_from}
 use Rattle.htl_model.specs.Ranges.{AreInRange}
 use Rattle.htl_model.specs.Tables.{Tables, task_worst, release, window_end}
 use Rattle.htl_model.proofs.BitLaws.{same_row, has_no_bit}
-use Rattle.htl_model.proofs.PortTableLaws.{row_by_reads, row_of_none}
+use Rattle.htl_model.proofs.PortTableLaws.{row_of_reads, row_of_none}
 use Rattle.htl_walk.specs.declared.job.Job.{Job}
 use Rattle.htl_walk.specs.Jobs.{is_fed_by, mask, absent_job, job_of}
 use Rattle.htl_walk.specs.Writers.{inv_of, reads_of, AreWriters, job_with}
@@ -72,14 +72,14 @@ writers_all t standing n table is says p r within = says p r within ∙ elim (ei
 abbrev made : Tables → ℕ → Inv → ℕ → Job
 made t k i preds = record { present = true; inv = k; release = release t i; end = window_end t i; worst = task_worst t i.task; preds = preds }
 
-module _ (t : Tables) (standing : List (Option ℕ)) (table : List ℕ) (r : AreInRange t) (len : length table ≡ 4096) (writers : AreWriters t standing table) where
+module _ (t : Tables) (standing : List (Option ℕ)) (table : List ℕ) (r : AreInRange t) (len : length t.ports ≤ length table) (writers : AreWriters t standing table) where
   -- a position is a predecessor where its invocation feeds the other
   row_is : (k : ℕ) (i : Inv) → slice_get t.invs k ≡ Some i → (q : ℕ) → list_any (is_from table q) i.reads ≡ is_fed_by t k (get_or standing q None)
   row_is k i at q = by_standing (get_or standing q None) refl
     where
       by_inv : (n : ℕ) (o : Option Inv) → get_or standing q None ≡ Some n → slice_get t.invs n ≡ o → list_any (is_from table q) i.reads ≡ feeds_at o (slice_get t.invs k)
       by_inv n (Some x) stands here =
-          row_by_reads t r x i n k here at table q len (λ p within. writers p q within ∙ ap (λ o. writes_to (inv_of t o) p) stands ∙ ap (λ o. writes_to o p) here)
+          row_of_reads t r x i n k here at table q len (λ p within. writers p q within ∙ ap (λ o. writes_to (inv_of t o) p) stands ∙ ap (λ o. writes_to o p) here)
           ∙ ap (λ o. feeds_at (Some x) o) (sym at)
       by_inv n None stands none =
           row_of_none t r i k at table q len (λ p within. writers p q within ∙ ap (λ o. writes_to (inv_of t o) p) stands ∙ ap (λ o. writes_to o p) none)

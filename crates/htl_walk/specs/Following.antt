@@ -1,5 +1,6 @@
 -- What one instruction of the worst-case walk does, as it is followed.
-use Rattle.std.specs.Prelude.{◌≡◌, ℕ, ◌≤◌, ◌<◌, ◌⊎◌, true, List, length, get_or}
+use Rattle.std.specs.Prelude.{◌≡◌, ℕ, ◌≤◌, ◌<◌, ◌⊎◌, true, ltb, List, length, get_or}
+use Rattle.htl_model.specs.Bits.{has_bit}
 use Rattle.htl_walk.specs.declared.job.Job.{Job}
 use Rattle.htl_walk.specs.declared.miss.Miss.{Miss}
 use Rattle.htl_walk.specs.declared.miss.Miss.TheVariants as miss
@@ -7,6 +8,10 @@ use Rattle.htl_walk.specs.declared.schedule.SInstr.{SInstr}
 use Rattle.htl_walk.specs.declared.schedule.SInstr.TheVariants.{Dispatch, Idle, End}
 use Rattle.htl_walk.specs.Jobs.{precedes}
 use Rattle.htl_walk.specs.Walk.{Point, job_at, next_point, AreDone}
+
+-- the row has a bit for each position with work left
+abbrev pub ArePending : ℕ → List ℕ → Type 0
+ArePending row left = (q : ℕ) → has_bit row q ≡ ltb 0 (get_or left q 0)
 
 -- the position of a dispatch is one of so many
 abbrev pub IsKnown : ℕ → SInstr → Type 0

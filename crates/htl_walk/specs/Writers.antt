@@ -1,9 +1,11 @@
 -- What the invocations at the positions write, as the code collects it.
-use Rattle.std.specs.Prelude.{◌≡◌, ◌<◌, ℕ, true, List, [], length, get_or, slice_get, Option, Some, None}
+use Rattle.std.specs.Prelude.{◌≡◌, ◌<◌, ℕ, Bool, true, List, [], length, get_or, slice_get, Option, Some, None}
 use Rattle.htl_model.specs.declared.parts.Inv.{Inv}
 use Rattle.htl_model.specs.declared.parts.End.{End}
 use Rattle.htl_model.specs.Bits.{cell}
+use Rattle.htl_model.specs.Lists.{places_from}
 use Rattle.htl_model.specs.PortTable.{writes_to}
+use Rattle.htl_model.specs.Selected.{is_running}
 use Rattle.htl_model.specs.Tables.{Tables, task_worst, release, window_end}
 use Rattle.htl_walk.specs.declared.job.Job.{Job}
 use Rattle.htl_walk.specs.Jobs.{absent_job}
@@ -29,3 +31,11 @@ job_with t (Some k) preds =
       | None ↦ absent_job
       | Some i ↦ record { present = true; inv = k; release = release t i; end = window_end t i; worst = task_worst t i.task; preds = preds }
     ]
+
+-- whether an invocation stands where the root modules are in these modes
+abbrev pub stands : Tables → List (Option ℕ) → Inv → Bool
+stands t modes i = is_running t modes i.mode
+
+-- the invocations that stand, in their order
+abbrev pub standing_in : Tables → List (Option ℕ) → List ℕ
+standing_in t modes = places_from (stands t modes) 0 t.invs

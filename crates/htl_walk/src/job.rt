@@ -17,3 +17,15 @@ pub struct Job {
     /// Bit p says that position p is a predecessor: one whose port the job reads.
     pub preds: u128,
 }
+
+impl Job {
+    /// The job of a position for which no invocation stands.
+    pub const ABSENT: Job = Job {
+        present: false,
+        inv: 0,
+        release: 0,
+        end: 0,
+        worst: 0,
+        preds: 0,
+    };
+}

@@ -7,6 +7,7 @@ mod job;
 mod jobs;
 pub mod laws;
 mod miss;
+mod pending;
 mod schedule;
 mod step;
 mod worst_case;

@@ -1,37 +1,21 @@
 // One instruction of the worst-case walk.
-ghost use Rattle.std.specs.Prelude.{◌≡◌, ◌<◌, ◌≤◌, ◌+◌, ℕ, length, true, max, get_or, IfSome, IfNone, IfOk, IfErr};
+ghost use Rattle.std.specs.Prelude.{◌≡◌, ◌<◌, ◌≤◌, ℕ, length, IfOk, IfErr};
 ghost use Rattle.htl_walk.specs.declared.schedule.SInstr.TheVariants as instr;
-ghost use Rattle.htl_walk.specs.Jobs.{precedes as precedes_of};
-ghost use Rattle.htl_walk.specs.Walk.{Point, dispatched, job_at, AreDone};
-ghost use Rattle.htl_walk.specs.Following.{IsKnown, IsFollowed, IsMissAt};
+ghost use Rattle.htl_walk.specs.Walk.{dispatched, job_at, AreDone};
+ghost use Rattle.htl_walk.specs.Following.{ArePending, IsKnown, IsFollowed, IsMissAt};
 
 use crate::dispatch::dispatch;
+use crate::pending::{pending_predecessor, still_pending};
 use crate::{Job, Miss, SInstr};
 use htl_base::Time;
-use htl_model::bits::has_bit;
 
-/// Whether position `p` is a predecessor of the job.
-pub fn precedes(p: usize, job: &Job) -> bool
-    requires { p < 128 }
-    ensures { result ≡ precedes_of p job.now }
-{
-    has_bit(job.preds, p as u32)
-}
-
-/// The lowest predecessor of a job that has work left.
-pub fn open_predecessor(job: &Job, left: &[Time]) -> Option<u16>
-    requires { length left.now ≤ 128 }
-    ensures none { IfNone result ((q : ℕ) → precedes_of q job.now ≡ true → get_or left.now q 0 ≡ 0) }
-    ensures waits { IfSome result (λ q. precedes_of q job.now ≡ true) }
-    ensures left { IfSome result (λ q. 0 < get_or left.now q 0) }
-    ensures lowest { IfSome result (λ q. (r : ℕ) → r < q → precedes_of r job.now ≡ true → get_or left.now r 0 ≡ 0) }
-{
-    for q in 0..left.len() {
-        if left[q] > 0 && precedes(q, job) {
-            return Some(q as u16);
-        }
-    }
-    None
+/// Where a walk stands: the time, and the positions with work left as a row of bits.
+#[derive(Clone, Copy)]
+pub struct Moment {
+    /// The time, an offset in the round.
+    pub time: Time,
+    /// Bit p says that position p has work left.
+    pub pending: u128,
 }
 
 // Dispatches a position: the time after it, and the work left in place.
@@ -77,34 +61,46 @@ fn run(
     Ok(end)
 }
 
-/// Does the instruction at place `at`: the time after it, with the work left and the finish offsets in place.
+/// Does the instruction at place `at`: the moment after it, with the work left and the finish offsets in place. It takes
+/// the same time for any number of positions.
 pub fn step(
     jobs: &[Job],
     instr: SInstr,
     at: u32,
-    time: Time,
+    now: Moment,
     left: &mut [Time],
     finish: &mut [Time],
-) -> Result<Time, Miss>
+) -> Result<Moment, Miss>
     requires known { IsKnown (length jobs.now) instr }
     requires few { length jobs.now ≤ 128 }
     requires same { length left.old ≡ length jobs.now }
     requires finishes { length finish.old ≡ length jobs.now }
-    ensures followed { IfOk result (λ t. IsFollowed jobs.now instr (record { time = time; left = left.old }) (record { time = t; left = left.new }) finish.old finish.new) }
-    ensures missed { IfErr result (λ m. IsMissAt jobs.now instr at (record { time = time; left = left.old }) m) }
+    requires pending { ArePending now.pending left.old }
+    ensures followed { IfOk result (λ m. IsFollowed jobs.now instr (record { time = now.time; left = left.old }) (record { time = m.time; left = left.new }) finish.old finish.new) }
+    ensures pending { IfOk result (λ m. ArePending m.pending left.new) }
+    ensures missed { IfErr result (λ m. IsMissAt jobs.now instr at (record { time = now.time; left = left.old }) m) }
 {
     match instr {
         SInstr::Dispatch { position, until } => {
-            if let Some(predecessor) = open_predecessor(&jobs[position as usize], left) {
+            if let Some(predecessor) = pending_predecessor(&jobs[position as usize], now.pending) {
                 return Err(Miss::Before {
                     position,
                     predecessor,
                     at,
                 });
             }
-            run(jobs, position, until, time, left, finish)
+            match run(jobs, position, until, now.time, left, finish) {
+                Ok(time) => Ok(Moment {
+                    time,
+                    pending: still_pending(now.pending, position, left[position as usize]),
+                }),
+                Err(miss) => Err(miss),
+            }
         }
-        SInstr::Idle { until } => Ok(time.max(until as u64)),
-        SInstr::End => Ok(time),
+        SInstr::Idle { until } => Ok(Moment {
+            time: now.time.max(until as u64),
+            pending: now.pending,
+        }),
+        SInstr::End => Ok(now),
     }
 }

@@ -1,24 +1,31 @@
 // The worst-case walk of a schedule.
 ghost use Rattle.std.specs.Prelude.{◌≡◌, ◌≤◌, ◌<◌, ℕ, length, get_or, All, Some, IfSome, IfErr, IfNone, OnOk, OnErr};
 ghost use Rattle.htl_walk.specs.Walk.{InForm, IsAccepted, work, worst_cases, walk, finish as finish_of};
+ghost use Rattle.htl_walk.specs.Following.{ArePending};
 ghost use Rattle.htl_walk.specs.Misses.{IsFirstMiss};
 ghost use Rattle.htl_walk.specs.Refinement.{HasWork};
 
 use crate::departure::first_departure;
-use crate::step::step;
+use crate::step::{Moment, step};
 use crate::{Job, Miss, SInstr, Schedule};
 use htl_base::Time;
 use htl_base::limits::MAX_POSITIONS;
+use htl_model::bits::with_bit;
 
-// The work of present jobs with their worst cases.
-fn fill_worst(jobs: &[Job], left: &mut [Time])
+// The work of present jobs with their worst cases: the positions with work left.
+fn fill_worst(jobs: &[Job], left: &mut [Time]) -> u128
+    requires few { length jobs.now ≤ 128 }
     requires same { length left.old ≡ length jobs.now }
     requires present { All HasWork jobs.now }
-    ensures { left.new ≡ work jobs.now (worst_cases jobs.now) }
+    ensures work { left.new ≡ work jobs.now (worst_cases jobs.now) }
+    ensures pending { ArePending result left.new }
 {
+    let mut pending = 0u128;
     for p in 0..jobs.len() {
         left[p] = jobs[p].worst;
+        pending = with_bit(pending, p as u32);
     }
+    pending
 }
 
 // The lowest position that has work left.
@@ -55,11 +62,11 @@ fn follow(
     ensures missed { IfErr result (λ m. IsFirstMiss jobs.now period instrs.now m) }
     ensures refused { OnErr result (IsAccepted jobs.now period instrs.now → ⊥) }
 {
-    fill_worst(jobs, left);
-    let mut time = 0;
+    let pending = fill_worst(jobs, left);
+    let mut now = Moment { time: 0, pending };
     for k in 0..instrs.len() {
-        match step(jobs, instrs[k], k as u32, time, left, finish) {
-            Ok(next) => time = next,
+        match step(jobs, instrs[k], k as u32, now, left, finish) {
+            Ok(next) => now = next,
             Err(miss) => return Err(miss),
         }
     }
@@ -84,6 +91,8 @@ fn follow(
 /// front of the last place, or the length where `End` lacks. In the order of the walk then come `Before`, with the lowest
 /// predecessor that isn't done at a dispatch, and `Late`, for a position that finishes after its window. At the end of
 /// the list comes `Unfinished`, for the lowest position that has work left.
+///
+/// Two passes over the instructions and one over the jobs; an instruction takes the same time for any number of jobs.
 pub fn worst(jobs: &[Job], s: &Schedule, period: Time, finish: &mut [Time]) -> Result<(), Miss>
     requires few { length jobs.now ≤ 128 }
     requires present { All HasWork jobs.now }

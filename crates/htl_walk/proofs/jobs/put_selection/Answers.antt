@@ -1,12 +1,17 @@
-use Rattle.std.proofs.Common.{arith, take}
-use Rattle.htl_walk.proofs.Standing.{front_step, count_more}
+use Rattle.std.proofs.Common.{◌≡◌, ◌∙◌, sym, ap, arith, length, map, ℕ, List, Some}
+use Rattle.htl_model.proofs.RootModeLaws.{positions_met}
 use Rattle.htl_walk.proofs.jobs.put_selection.Goals as goal
 
-pub loop-k-preserved : goal.loop-k-preserved
-loop-k-preserved c =
-    record {
-      front = front_step c.args.t.now c.args.selection c.loop-k.k c.as_slice-modules.result.now c.index-modules-k.result (take c.loop-k.n c.loop-k.standing) _ _ (omega arith) c.index-modules-k.is
-          c.put_module-n.ensures.front c.loop-k.invariant.front;
-      count = count_more c.args.t.now c.args.selection c.loop-k.k c.as_slice-modules.result.now c.index-modules-k.result c.loop-k.n c.put_module-n.result _ (omega arith) c.index-modules-k.is
-          c.put_module-n.ensures.count c.loop-k.invariant.count;
-    }
+pub put_standing-requires : goal.put_standing-requires
+put_standing-requires c =
+    let met = positions_met c.args.t.now c.args.selection c.root_modes-modes.result c.keeps_ranges.ensures.ranges c.root_modes-modes.ensures in
+    omega (arith, ap length met, c.requires)
+
+pub returns-clause-front : goal.returns-clause-front
+returns-clause-front c =
+    c.put_standing.ensures.front
+    ∙ sym (ap (map (λ (k : ℕ). Some k)) (positions_met c.args.t.now c.args.selection c.root_modes-modes.result c.keeps_ranges.ensures.ranges c.root_modes-modes.ensures))
+
+pub returns-clause-count : goal.returns-clause-count
+returns-clause-count c =
+    c.put_standing.ensures.count ∙ sym (ap length (positions_met c.args.t.now c.args.selection c.root_modes-modes.result c.keeps_ranges.ensures.ranges c.root_modes-modes.ensures))

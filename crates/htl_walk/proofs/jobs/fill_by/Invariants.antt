@@ -1,6 +1,6 @@
 use Rattle.std.proofs.Common.{◌≡◌, take, drop, map, length}
 use Rattle.htl_walk.specs.Jobs.{job_of}
-use Rattle.htl_walk.proofs.jobs.fill_jobs.Given as goal
+use Rattle.htl_walk.proofs.jobs.fill_by.Given as goal
 
 abbrev pub invariant-loop-p : goal.invariant-loop-p
 invariant-loop-p l =

@@ -1,0 +1,125 @@
+-- The row of the positions with work left.
+use Rattle.std.proofs.Common.{◌≡◌, ◌≢◌, ℕ, zero, suc, ◌+◌, ◌||◌, ◌*◌, ◌%◌, ◌^◌, ◌≤◌, ◌<◌, ◌⊎◌, Bool, true, false, cond, ◌&&◌, eqb, ltb, List, length, get_or, set, min, refl, sym, ap, ◌∙◌, subst, arith, inl, inr}
+use Rattle.std.specs.Int.{bit_at, bit_not, trailing_zeros, w128}
+use Rattle.std.specs.Int.Bits.{bit_and}
+use Rattle.std.specs.List.{All}
+use Rattle.std.proofs.lemmas.Bool.{lt-ltb, le-ltb, ltb-true, ltb-false}
+use Rattle.std.proofs.lemmas.Bool.Decides.{nat_tests}
+use Rattle.std.proofs.lemmas.List.{get_or_past, get_or-set_same, get_or-set_other}
+use Rattle.std.proofs.lemmas.Nat.{and_le_r}
+use Rattle.std.proofs.lemmas.Nat.Bits.{bit_at_and, bit_at-lt, bit_at_above, bit_at_clear_same, bit_at_clear_other}
+use Rattle.htl_model.specs.Bits.{has_bit}
+use Rattle.htl_walk.specs.declared.job.Job.{Job}
+use Rattle.htl_walk.specs.Following.{ArePending}
+use Rattle.htl_walk.specs.Refinement.{HasWork}
+use Rattle.htl_walk.specs.Walk.{work, work_after, worst_cases}
+use Rattle.htl_walk.proofs.Following.{work_at}
+
+pub work_left : (row : ℕ) (left : List ℕ) (q : ℕ) → ArePending row left → has_bit row q ≡ true → 0 < get_or left q 0
+work_left row left q are e = ltb-true 0 (get_or left q 0) (sym (are q) ∙ e)
+
+pub none_left : (row : ℕ) (left : List ℕ) (q : ℕ) → ArePending row left → has_bit row q ≡ false → get_or left q 0 ≡ 0
+none_left row left q are e = let none = ltb-false 0 (get_or left q 0) (sym (are q) ∙ e) in omega (arith, none)
+
+-- ---- the lowest bit of both
+
+both : (a b q : ℕ) → has_bit (bit_and a b) q ≡ (has_bit a q && has_bit b q)
+both a b q = ap (λ x. eqb x 1) (bit_at_and a b q) ∙ least (bit_at a q) (bit_at b q) (bit_at-lt a q) (bit_at-lt b q)
+  where
+    least : (x y : ℕ) → x < 2 → y < 2 → eqb (min x y) 1 ≡ (eqb x 1 && eqb y 1)
+    least x y h k = grind (arith, nat_tests)
+
+pub both_fit : (a b : ℕ) → b < 2 ^ 128 → bit_and a b < 2 ^ 128
+both_fit a b h = omega (arith, and_le_r a b)
+
+pub both_set : (a b q : ℕ) → bit_at (bit_and a b) q ≡ 1 → (has_bit a q ≡ true) × (has_bit b q ≡ true)
+both_set a b q e = by (has_bit a q) (has_bit b q) refl refl (sym (both a b q) ∙ ap (λ x. eqb x 1) e)
+  where
+    by : (x y : Bool) → has_bit a q ≡ x → has_bit b q ≡ y → (has_bit a q && has_bit b q) ≡ true → (has_bit a q ≡ true) × (has_bit b q ≡ true)
+    by true true f g h = (f, g)
+    by true false f g h = cc
+    by false y f g h = cc
+
+pub not_both : (a b q : ℕ) → bit_at (bit_and a b) q ≡ 0 → has_bit a q ≡ true → has_bit b q ≡ false
+not_both a b q e f = by (has_bit b q) refl (sym (both a b q) ∙ ap (λ x. eqb x 1) e)
+  where
+    by : (y : Bool) → has_bit b q ≡ y → (has_bit a q && has_bit b q) ≡ false → has_bit b q ≡ false
+    by true g h = cc
+    by false g h = g
+
+-- ---- a bit cleared
+
+order : (a b : ℕ) → (a < b) ⊎ (b ≤ a)
+order a b = grind arith
+
+pub cleared : (row p q : ℕ) → p < 128 → row < 2 ^ 128 → has_bit (bit_and row (bit_not w128 (1 * 2 ^ p % 2 ^ 128))) q ≡ cond (eqb q p) false (has_bit row q)
+cleared row p q room most = by (eqb q p) refl
+  where
+    none : (x : ℕ) → min 0 x ≡ 0
+    none x = omega arith
+
+    by : (b : Bool) → eqb q p ≡ b → has_bit (bit_and row (bit_not w128 (1 * 2 ^ p % 2 ^ 128))) q ≡ cond b false (has_bit row q)
+    by true e =
+        let is : q ≡ p = grind (arith, nat_tests) in
+        ap (λ x. has_bit (bit_and row (bit_not w128 (1 * 2 ^ p % 2 ^ 128))) x) is ∙ ap (λ x. eqb x 1) (bit_at_clear_same w128 row p room)
+    by false e =
+        let apart : q ≢ p = grind (arith, nat_tests) in
+        elim (order q 128) [
+          | inl h ↦ ap (λ x. eqb x 1) (bit_at_clear_other w128 row p room q h apart)
+          | inr h ↦
+              ap (λ x. eqb x 1) (bit_at_and row (bit_not w128 (1 * 2 ^ p % 2 ^ 128)) q ∙ ap (λ x. min x (bit_at (bit_not w128 (1 * 2 ^ p % 2 ^ 128)) q)) (bit_at_above row 128 q most h) ∙ none _)
+              ∙ sym (ap (λ x. eqb x 1) (bit_at_above row 128 q most h))
+        ]
+
+pub kept_pending : (row p q left : ℕ) → 0 < left → has_bit row q ≡ cond (eqb q p) (has_bit row p && ltb 0 left) (has_bit row q)
+kept_pending row p q left some = by (eqb q p) refl
+  where
+    with_true : (a : Bool) → a ≡ (a && true)
+    with_true true = refl
+    with_true false = refl
+
+    by : (b : Bool) → eqb q p ≡ b → has_bit row q ≡ cond b (has_bit row p && ltb 0 left) (has_bit row q)
+    by true e = let is : q ≡ p = grind (arith, nat_tests) in ap (has_bit row) is ∙ with_true (has_bit row p) ∙ ap (λ b. has_bit row p && b) (sym (lt-ltb 0 left some))
+    by false e = refl
+
+pub not_kept : (row p q left new : ℕ) → left ≡ 0 → has_bit new q ≡ cond (eqb q p) false (has_bit row q) → has_bit new q ≡ cond (eqb q p) (has_bit row p && ltb 0 left) (has_bit row q)
+not_kept row p q left new none e = e ∙ ap (λ b. cond (eqb q p) b (has_bit row q)) (with_false (has_bit row p) ∙ ap (λ b. has_bit row p && b) (sym (le-ltb 0 left (omega arith))))
+  where
+    with_false : (a : Bool) → false ≡ (a && false)
+    with_false true = refl
+    with_false false = refl
+
+-- ---- after a dispatch, and at the start
+
+pub pending_after : (row new p now : ℕ) (left after : List ℕ) → ArePending row left → p < length left → after ≡ set left p now → now ≤ get_or left p 0
+    → ((q : ℕ) → has_bit new q ≡ cond (eqb q p) (has_bit row p && ltb 0 (get_or after p 0)) (has_bit row q)) → ArePending new after
+pending_after row new p now left after are room is less bits q = bits q ∙ by (eqb q p) refl
+  where
+    here : get_or after p 0 ≡ now
+    here = ap (λ (z : List ℕ). get_or z p 0) is ∙ get_or-set_same left p now 0 room
+
+    both_ways : (a b : ℕ) → b ≤ a → (ltb 0 a && ltb 0 b) ≡ ltb 0 b
+    both_ways a b h = grind (arith, nat_tests)
+
+    by : (b : Bool) → eqb q p ≡ b → cond b (has_bit row p && ltb 0 (get_or after p 0)) (has_bit row q) ≡ ltb 0 (get_or after q 0)
+    by true e =
+        let same : q ≡ p = grind (arith, nat_tests) in
+        ap (λ b. b && ltb 0 (get_or after p 0)) (are p) ∙ both_ways (get_or left p 0) (get_or after p 0) (omega (arith, here, less)) ∙ ap (λ i. ltb 0 (get_or after i 0)) (sym same)
+    by false e =
+        let apart : q ≢ p = grind (arith, nat_tests) in
+        are q ∙ ap (ltb 0) (sym (get_or-set_other left p q now 0 apart) ∙ sym (ap (λ (z : List ℕ). get_or z q 0) is))
+
+pub pending_first : (jobs : List Job) (row n : ℕ) (left : List ℕ) → All HasWork jobs → left ≡ work jobs (worst_cases jobs) → length left ≡ length jobs → n ≡ length jobs
+    → ((q : ℕ) → has_bit row q ≡ ltb q n) → ArePending row left
+pending_first jobs row n left all is len count bits q = elim (order q n) [
+  | inl h ↦
+      let some = work_at jobs all q (omega arith) in
+      bits q ∙ lt-ltb q n h ∙ sym (lt-ltb 0 (get_or left q 0) (omega (arith, some, ap (λ (z : List ℕ). get_or z q 0) is)))
+  | inr h ↦ bits q ∙ le-ltb q n h ∙ sym (le-ltb 0 (get_or left q 0) (omega (arith, get_or_past left q 0 (omega (arith, len, count)))))
+]
+
+pub one_pending_more : (row new p q : ℕ) → has_bit row q ≡ ltb q p → has_bit new q ≡ (has_bit row q || eqb q p) → has_bit new q ≡ ltb q (p + 1)
+one_pending_more row new p q e f = f ∙ ap (λ b. b || eqb q p) e ∙ by q p
+  where
+    by : (q p : ℕ) → (ltb q p || eqb q p) ≡ ltb q (p + 1)
+    by q p = grind (arith, nat_tests)

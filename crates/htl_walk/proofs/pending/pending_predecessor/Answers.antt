@@ -1,0 +1,26 @@
+use Rattle.std.proofs.Common.{◌≡◌, ◌<◌, ◌^◌, arith, ap, ◌∙◌}
+use Rattle.std.specs.Int.{bit_at, w128}
+use Rattle.std.specs.Int.Bits.{bit_and}
+use Rattle.std.proofs.lemmas.Nat.Bits.{bit_at-trailing_zeros, bit_at-zero}
+use Rattle.htl_walk.proofs.PendingLaws.{both_set, not_both, both_fit}
+use Rattle.htl_walk.proofs.pending.pending_predecessor.Goals as goal
+
+pub returns-then-waiting-eq0-clause-none : goal.returns-then-waiting-eq0-clause-none
+returns-then-waiting-eq0-clause-none c =
+    let none : bit_and c.args.job.now.preds c.args.pending ≡ 0 = omega (arith, c.if-waiting-eq0.true) in
+    λ q w. not_both c.args.job.now.preds c.args.pending q (ap (λ n. bit_at n q) none ∙ bit_at-zero q) w
+
+pub returns-else-waiting-eq0-clause-waits : goal.returns-else-waiting-eq0-clause-waits
+returns-else-waiting-eq0-clause-waits c =
+    let low = bit_at-trailing_zeros w128 (bit_and c.args.job.now.preds c.args.pending) (omega (arith, c.if-waiting-eq0.false)) (both_fit c.args.job.now.preds c.args.pending (omega (arith, c.ranges.pending.fits))) in
+    (both_set c.args.job.now.preds c.args.pending _ low.1).0
+
+pub returns-else-waiting-eq0-clause-pending : goal.returns-else-waiting-eq0-clause-pending
+returns-else-waiting-eq0-clause-pending c =
+    let low = bit_at-trailing_zeros w128 (bit_and c.args.job.now.preds c.args.pending) (omega (arith, c.if-waiting-eq0.false)) (both_fit c.args.job.now.preds c.args.pending (omega (arith, c.ranges.pending.fits))) in
+    (both_set c.args.job.now.preds c.args.pending _ low.1).1
+
+pub returns-else-waiting-eq0-clause-lowest : goal.returns-else-waiting-eq0-clause-lowest
+returns-else-waiting-eq0-clause-lowest c =
+    let low = bit_at-trailing_zeros w128 (bit_and c.args.job.now.preds c.args.pending) (omega (arith, c.if-waiting-eq0.false)) (both_fit c.args.job.now.preds c.args.pending (omega (arith, c.ranges.pending.fits))) in
+    λ r less w. not_both c.args.job.now.preds c.args.pending r (low.2 r less) w
