@@ -1,3 +1,4 @@
+pub mod BitRows
 pub mod Bounds
 pub mod BySlices
 pub mod Counting

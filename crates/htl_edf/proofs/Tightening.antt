@@ -118,6 +118,21 @@ tight_is j o =
       due_is = λ p l. rw (end_at_is j o p l) (least_is (λ q. j.before p q) (λ q. d q -ℤ pos (j.worst q)) (pos (j.end p)) j.count);
     }
 
+-- positions that don't pass change nothing
+pub greatest_skipped : (s : ℕ → Bool) (f : ℕ → ℕ) (z m n : ℕ) → m ≤ n → ((x : ℕ) → m ≤ x → x < n → s x ≡ false) → greatest_below s f z n ≡ greatest_below s f z m
+greatest_skipped s f z m zero l h = let e : m ≡ 0 = omega arith in ap (greatest_below s f z) (sym e)
+greatest_skipped s f z m (suc n) l h = ⊎_elim
+    (λ (b : n < m). let e : m ≡ suc n = omega arith in ap (greatest_below s f z) (sym e))
+    (λ (b : m ≤ n). let here : s n ≡ false = h n b (omega arith) in rw here (greatest_skipped s f z m n b (λ x k i. h x k (omega arith))))
+    (cases_lt n m)
+
+pub least_skipped : (s : ℕ → Bool) (f : ℕ → ℤ) (z : ℤ) (m n : ℕ) → m ≤ n → ((x : ℕ) → m ≤ x → x < n → s x ≡ false) → least_below s f z n ≡ least_below s f z m
+least_skipped s f z m zero l h = let e : m ≡ 0 = omega arith in ap (least_below s f z) (sym e)
+least_skipped s f z m (suc n) l h = ⊎_elim
+    (λ (b : n < m). let e : m ≡ suc n = omega arith in ap (least_below s f z) (sym e))
+    (λ (b : m ≤ n). let here : s n ≡ false = h n b (omega arith) in rw here (least_skipped s f z m n b (λ x k i. h x k (omega arith))))
+    (cases_lt n m)
+
 -- one more position, as a loop counts them
 pub greatest_more_yes : (s : ℕ → Bool) (f : ℕ → ℕ) (z n : ℕ) → s n ≡ true → greatest_below s f z (n + 1) ≡ max (greatest_below s f z n) (f n)
 greatest_more_yes s f z n e = rw (add-one, e)

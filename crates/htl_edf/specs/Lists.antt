@@ -1,6 +1,7 @@
 -- Jobs of a list, by position, and what is asked of them.
 use Rattle.std.specs.Prelude.{◌≡◌, ℕ, ◌<◌, ◌≤◌, true, List, length, get_or, pos}
 use Rattle.std.specs.List.{All}
+use Rattle.htl_model.specs.Bits.{cell}
 use Rattle.htl_walk.specs.declared.job.Job.{Job}
 use Rattle.htl_walk.specs.Jobs.{absent_job, precedes}
 use Rattle.htl_edf.specs.declared.rounds.Tight.{Tight}
@@ -20,6 +21,10 @@ jobs_of js = record {
 -- the tightened windows of the jobs
 abbrev pub tightened : List Job → Windows
 tightened js = tight (jobs_of js)
+
+-- the rows have for each position a bit for each position that waits for it
+abbrev pub AreSuccessors : List Job → List ℕ → Type 0
+AreSuccessors js rows = (p q : ℕ) → p < length js → q < length js → cell rows p q ≡ (jobs_of js).before p q
 
 -- a present job with some work and a window of at least one tick, and numbers of at most a million
 pub record IsWellFormed (j : Job) : Type 0 where

@@ -5,7 +5,7 @@ ghost use Rattle.htl_edf.specs.Lists.{HoldsAfter, LeftAt};
 ghost use Rattle.htl_edf.specs.Code.{closed_of, open_of, edf_schedule};
 
 use crate::Tight;
-use crate::events::advance;
+use crate::events::{advance, horizon};
 use htl_base::Time;
 use htl_walk::{Job, SInstr};
 use std::alloc::{AllocError, Global};
@@ -28,7 +28,8 @@ fn record_run(
     Ok(Some((p, event)))
 }
 
-/// A dispatch for each maximal slice up to the period, and `End`; the positions have their worst cases left.
+/// A dispatch for each maximal slice up to the period, and `End`; the positions have their worst cases left. At each event
+/// the positions are gone over once for the one that runs, and once more for the next release where one was reached.
 pub fn run_all(
     alloc: Global,
     jobs: &[Job],
@@ -47,8 +48,10 @@ pub fn run_all(
     let mut instrs = Vec::new(alloc);
     let mut last = None;
     let mut t = 0;
+    let mut until = 0;
     while t < period {
-        let (runs, event) = advance(jobs, windows, left, t, period);
+        until = horizon(jobs, windows, t, until, period);
+        let (runs, event) = advance(jobs, windows, left, t, until);
         if let Some(p) = runs {
             last = record_run(&mut instrs, last, p as u16, t as u32, event as u32)?;
         }

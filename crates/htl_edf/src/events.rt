@@ -76,27 +76,49 @@ fn next_release(jobs: &[Job], windows: &[Tight], t: Time, limit: Time) -> Time
     next
 }
 
-/// Runs from t to the next event: the position that ran, if any, and when the event is.
+/// The first release after t, or `limit` where none comes before it; `known` is that of an earlier time, and is looked for
+/// anew only once it is reached.
+pub fn horizon(jobs: &[Job], windows: &[Tight], t: Time, known: Time, limit: Time) -> Time
+    requires at { HoldsAfter jobs.now windows.now (length jobs.now) }
+    requires same { length windows.now ≡ length jobs.now }
+    requires early { t < limit }
+    requires limit { limit ≤ 1000000 }
+    requires known { known ≤ limit }
+    requires quiet { QuietFrom jobs.now t known }
+    ensures later { t < result }
+    ensures within { result ≤ limit }
+    ensures quiet { QuietFrom jobs.now t result }
+{
+    if t < known {
+        known
+    } else {
+        next_release(jobs, windows, t, limit)
+    }
+}
+
+/// Runs from t to the next event: the position that ran, if any, and when the event is. No position is released between t
+/// and `until`.
 pub fn advance(
     jobs: &[Job],
     windows: &[Tight],
     left: &mut [Time],
     t: Time,
-    limit: Time,
+    until: Time,
 ) -> (Option<usize>, Time)
     requires at { HoldsAfter jobs.now windows.now (length jobs.now) }
     requires same { length windows.now ≡ length jobs.now }
     requires left_same { length left.old ≡ length jobs.now }
-    requires early { t < limit }
-    requires limit { limit ≤ 1000000 }
+    requires early { t < until }
+    requires limit { until ≤ 1000000 }
+    requires quiet { QuietFrom jobs.now t until }
     requires lefts { LeftAt jobs.now left.old t }
     ensures later { t < result.1 }
-    ensures within { result.1 ≤ limit }
+    ensures within { result.1 ≤ until }
     ensures in_range { IfSome result.0 (λ p. p < length jobs.now) }
     ensures runs { (i : ℕ) → t + i < result.1 → edf_at (tightened jobs.now) (t + i) ≡ result.0 }
     ensures lefts { LeftAt jobs.now left.new result.1 }
+    ensures quiet { QuietFrom jobs.now result.1 until }
 {
-    let until = next_release(jobs, windows, t, limit);
     match choose(jobs, windows, left, t) {
         None => (None, until),
         Some(p) => {

@@ -1,6 +1,7 @@
 //! Earliest deadline first on tightened windows, and exact refusal.
 #![tactic(auto)]
 
+mod bits;
 mod dispatches;
 mod events;
 pub mod laws;

@@ -11,7 +11,7 @@ use htl_walk::Job;
 
 /// An overloaded interval, as offsets from the round's start in ticks, and the sum of the worst cases in it.
 #[derive(Clone, Copy)]
-pub struct Interval {
+pub struct Overload {
     pub from: Time,
     pub to: Time,
     pub demand: u64,
@@ -115,7 +115,7 @@ fn first_release(jobs: &[Job], windows: &[Tight], q: usize) -> Option<usize>
 
 /// The overloaded interval with the greatest end, and of those the one with the least release; None exactly where no
 /// interval is overloaded.
-pub fn find_overload(jobs: &[Job], windows: &[Tight]) -> Option<Interval>
+pub fn find_overload(jobs: &[Job], windows: &[Tight]) -> Option<Overload>
     requires jobs { AreWellFormed jobs.now }
     requires order { NoCycle (jobs_of jobs.now) }
     requires at { HoldsAfter jobs.now windows.now (length jobs.now) }
@@ -124,7 +124,7 @@ pub fn find_overload(jobs: &[Job], windows: &[Tight]) -> Option<Interval>
 {
     let q = last_end(jobs, windows)?;
     let p = first_release(jobs, windows, q)?;
-    Some(Interval {
+    Some(Overload {
         from: windows[p].release as Time,
         to: windows[q].end as Time,
         demand: demand(jobs, windows, p, q),

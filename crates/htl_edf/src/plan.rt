@@ -36,14 +36,7 @@ fn plan(alloc: Global, t: &Tables, selection: u32, period: Time) -> Result<Sched
     ensures planned { IfOk result (λ s. IsPlanned t.now selection s) }
     ensures fault { IfErr result (λ e. IsOverloadOf t.now selection e) }
 {
-    let mut jobs = [Job {
-        present: false,
-        inv: 0,
-        release: 0,
-        end: 0,
-        worst: 0,
-        preds: 0,
-    }; MAX_POSITIONS];
+    let mut jobs = [Job::ABSENT; MAX_POSITIONS];
     let count = abstract_jobs(t, selection, &mut jobs);
     match edf(alloc, &jobs[..count], period) {
         Ok(schedule) => Ok(schedule),

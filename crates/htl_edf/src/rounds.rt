@@ -1,10 +1,11 @@
 // Tightened windows.
-ghost use Rattle.std.specs.Prelude.{◌≡◌, ◌≤◌, ◌<◌, suc, true, length, pos};
+ghost use Rattle.std.specs.Prelude.{◌≡◌, ◌≤◌, ◌<◌, ℕ, suc, true, false, length, pos};
+ghost use Rattle.htl_model.specs.Bits.{cell};
 ghost use Rattle.htl_edf.specs.Tight.{release_at, end_at};
-ghost use Rattle.htl_edf.specs.Lists.{jobs_of, AreWellFormed, HoldsAfter, AgreeBelow, AreTightened};
+ghost use Rattle.htl_edf.specs.Lists.{jobs_of, AreWellFormed, AreSuccessors, HoldsAfter, AgreeBelow, AreTightened};
 
+use crate::bits::{next_bit, note_in_rows};
 use htl_base::limits::MAX_POSITIONS;
-use htl_model::bits::has_bit;
 use htl_walk::Job;
 
 /// The tightened window of a position: each schedule that meets all windows, after all predecessors, gives the position
@@ -17,13 +18,17 @@ pub struct Tight {
     pub end: i64,
 }
 
-/// Whether position q waits for position p.
-pub fn waits(jobs: &[Job], p: usize, q: usize) -> bool
-    requires q_in { q < length jobs.now }
-    requires p_in { p < 128 }
-    ensures { result ≡ (jobs_of jobs.now).before p q }
+// Notes for each position the positions that wait for it.
+fn fill_successors(jobs: &[Job], successors: &mut [u128])
+    requires few { length successors.old ≤ 128 }
+    requires room { length jobs.now ≤ length successors.old }
+    requires empty { (p q : ℕ) → cell successors.old p q ≡ false }
+    ensures successors { AreSuccessors jobs.now successors.new }
+    ensures len { length successors.new ≡ length successors.old }
 {
-    has_bit(jobs[q].preds, p as u32)
+    for q in 0..jobs.len() {
+        note_in_rows(jobs[q].preds, q as u32, successors);
+    }
 }
 
 // The release of q after its predecessors, whose windows are those of `so_far`.
@@ -36,20 +41,19 @@ fn released(jobs: &[Job], so_far: &[Tight], q: usize, k: usize) -> i64
     ensures { result ≡ pos (release_at (jobs_of jobs.now) (suc k) q) }
 {
     let mut latest = jobs[q].release as i64;
-    for p in 0..jobs.len() {
-        if waits(jobs, p, q) {
-            let after = so_far[p].release + jobs[p].worst as i64;
-            if after > latest {
-                latest = after;
-            }
-        }
+    let mut p = next_bit(jobs[q].preds, 0, jobs.len());
+    while p < jobs.len() {
+        latest = latest.max(so_far[p].release + jobs[p].worst as i64);
+        p = next_bit(jobs[q].preds, p + 1, jobs.len());
     }
     latest
 }
 
 // The end of p before its successors, whose windows are those of `so_far`.
-fn ended(jobs: &[Job], so_far: &[Tight], p: usize, k: usize) -> i64
+fn ended(jobs: &[Job], successors: &[u128], so_far: &[Tight], p: usize, k: usize) -> i64
     requires jobs { AreWellFormed jobs.now }
+    requires successors { AreSuccessors jobs.now successors.now }
+    requires rows { length jobs.now ≤ length successors.now }
     requires same { length so_far.now ≡ length jobs.now }
     requires p_in { p < length jobs.now }
     requires rounds { k ≤ 128 }
@@ -57,20 +61,19 @@ fn ended(jobs: &[Job], so_far: &[Tight], p: usize, k: usize) -> i64
     ensures { result ≡ end_at (jobs_of jobs.now) (suc k) p }
 {
     let mut earliest = jobs[p].end as i64;
-    for q in 0..jobs.len() {
-        if waits(jobs, p, q) {
-            let before = so_far[q].end - jobs[q].worst as i64;
-            if before < earliest {
-                earliest = before;
-            }
-        }
+    let mut q = next_bit(successors[p], 0, jobs.len());
+    while q < jobs.len() {
+        earliest = earliest.min(so_far[q].end - jobs[q].worst as i64);
+        q = next_bit(successors[p], q + 1, jobs.len());
     }
     earliest
 }
 
 // One round: each window from those of the round before.
-fn round(jobs: &[Job], so_far: &[Tight], next: &mut [Tight], k: usize)
+fn round(jobs: &[Job], successors: &[u128], so_far: &[Tight], next: &mut [Tight], k: usize)
     requires jobs { AreWellFormed jobs.now }
+    requires successors { AreSuccessors jobs.now successors.now }
+    requires rows { length jobs.now ≤ length successors.now }
     requires same { length so_far.now ≡ length jobs.now }
     requires next_same { length next.old ≡ length jobs.now }
     requires rounds { k ≤ 128 }
@@ -80,7 +83,7 @@ fn round(jobs: &[Job], so_far: &[Tight], next: &mut [Tight], k: usize)
     for q in 0..jobs.len() {
         next[q] = Tight {
             release: released(jobs, so_far, q, k),
-            end: ended(jobs, so_far, q, k),
+            end: ended(jobs, successors, so_far, q, k),
         };
     }
 }
@@ -121,17 +124,22 @@ fn are_same(a: &[Tight], b: &[Tight]) -> bool
 /// All jobs are present, with `release < end <= 1,000,000` and `1 <= worst <= 1,000,000`. Predecessors that make a cycle
 /// have no tightened windows; what is written then means nothing. A bit of `preds` at the number of jobs or above names no
 /// position and is passed over.
+///
+/// A round goes over the positions and over the pairs of a position and a direct predecessor, and there are as many rounds
+/// as the longest chain of predecessors has positions, and one more.
 pub fn tighten(jobs: &[Job], out: &mut [Tight])
     requires jobs { AreWellFormed jobs.now }
     requires same { length out.old ≡ length jobs.now }
     ensures { AreTightened jobs.now out.new }
 {
+    let mut successors = [0u128; MAX_POSITIONS];
+    fill_successors(jobs, &mut successors);
     let mut last = [Tight { release: 0, end: 0 }; MAX_POSITIONS];
     fill(jobs, out);
     for k in 0..jobs.len() {
         let before = &mut last[..jobs.len()];
         before.copy_from_slice(out);
-        round(jobs, before, out, k);
+        round(jobs, &successors, before, out, k);
         if are_same(before, out) {
             return;
         }

@@ -3,8 +3,8 @@ ghost use Rattle.std.specs.Prelude.{◌≡◌, ◌≤◌, ◌<◌, ℕ, length, 
 ghost use Rattle.htl_edf.specs.Tight.{NoCycle};
 ghost use Rattle.htl_edf.specs.Lists.{jobs_of, IsWellFormed, AreWellFormed, EndWithin};
 
-use crate::rounds::waits;
 use crate::{EdfFault, Tight, edf, tighten};
+use htl_model::bits::has_bit;
 use htl_walk::{Job, SInstr};
 use std::alloc::{AllocError, Global};
 use std::test::Fail;
@@ -59,6 +59,15 @@ pub fn end_within(jobs: &[Job], period: u64) -> bool
         }
     }
     true
+}
+
+// Whether position q waits for position p.
+fn waits(jobs: &[Job], p: usize, q: usize) -> bool
+    requires q_in { q < length jobs.now }
+    requires p_in { p < 128 }
+    ensures { result ≡ (jobs_of jobs.now).before p q }
+{
+    has_bit(jobs[q].preds, p as u32)
 }
 
 // Whether q has a place, and each of its predecessors a lower one.

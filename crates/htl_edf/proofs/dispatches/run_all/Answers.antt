@@ -13,6 +13,8 @@ loop-t-init c =
       long = c.requires.left_same;
       lefts = c.requires.lefts;
       within = omega arith;
+      until = omega arith;
+      quiet = record { quiet = λ q below after. omega arith };
       closed = rw e search rules;
       last = rw e refl;
     }
@@ -25,7 +27,9 @@ loop-t-preserved c =
     record {
       long = c.advance-runs.auto.left ∙ c.loop-t.invariant.long;
       lefts = m.lefts;
-      within = m.within;
+      within = omega (arith, m.within, c.horizon-until.ensures.within);
+      until = c.horizon-until.ensures.within;
+      quiet = m.quiet;
       closed = rw e c.loop-t.invariant.closed;
       last = rw e c.loop-t.invariant.last;
     }
@@ -39,7 +43,9 @@ loop-t-preserved-in_ok-last c =
     record {
       long = c.advance-runs.auto.left ∙ c.loop-t.invariant.long;
       lefts = m.lefts;
-      within = m.within;
+      within = omega (arith, m.within, c.horizon-until.ensures.within);
+      until = c.horizon-until.ensures.within;
+      quiet = m.quiet;
       closed = rw e r.1;
       last = rw e r.0;
     }

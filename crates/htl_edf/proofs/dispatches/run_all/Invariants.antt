@@ -1,5 +1,5 @@
 use Rattle.std.proofs.Common.{◌≡◌, ◌≤◌, ◌-◌, length}
-use Rattle.htl_edf.specs.Lists.{jobs_of, LeftAt}
+use Rattle.htl_edf.specs.Lists.{jobs_of, LeftAt, QuietFrom}
 use Rattle.htl_edf.specs.Tight.{tight}
 use Rattle.htl_edf.specs.Edf.{edf, slices}
 use Rattle.htl_edf.specs.Code.{closed_of, open_of}
@@ -10,6 +10,8 @@ invariant-loop-t l = record {
   long : length l.left ≡ length l.jobs;
   lefts : LeftAt l.jobs l.left l.t;
   within : l.t ≤ l.period;
+  until : l.until ≤ l.period;
+  quiet : QuietFrom l.jobs l.t l.until;
   closed : l.instrs.items ≡ closed_of (slices (edf (tight (jobs_of l.jobs))) l.t);
   last : l.last ≡ open_of (slices (edf (tight (jobs_of l.jobs))) l.t);
 }

@@ -1,15 +1,33 @@
-use Rattle.std.proofs.Common.{arith, sym, ℕ, pos, ◌-ℤ◌}
+use Rattle.std.proofs.Common.{◌≡◌, ◌∙◌, arith, sym, ap, ℕ, ◌+◌, pos, ◌-ℤ◌, length}
 use Rattle.std.proofs.lemmas.Int.{ints, clamps}
 use Rattle.htl_walk.specs.Jobs.{absent_job}
 use Rattle.htl_edf.specs.Lists.{jobs_of}
 use Rattle.htl_edf.specs.Tight.{end_at}
 use Rattle.htl_edf.proofs.Bounds.{end_at-small}
-use Rattle.htl_edf.proofs.Tightening.{least_more_yes, least_more_no}
+use Rattle.htl_edf.proofs.Tightening.{least_more_yes, least_skipped}
 use Rattle.htl_edf.proofs.rounds.ended.Goals as goal
-use Rattle.htl_edf.proofs.rounds.ended.Goals.{then-waits+then-before-earliest, then-waits+else-before-earliest, else-waits}
 
-pub overflow_sub-before : goal.overflow_sub-before
-overflow_sub-before c =
+pub loop-q-init : goal.loop-q-init
+loop-q-init c =
+    let js = c.args.jobs.now in
+    let j = jobs_of js in
+    let p = c.args.p in
+    let first = c.next_bit-q.ensures in
+    let well = c.requires.jobs.each p absent_job c.requires.p_in in
+    record {
+      within = first.most;
+      found = λ h. sym (c.requires.successors p c.next_bit-q.result c.requires.p_in h) ∙ first.found h;
+      earliest = omega (
+        arith,
+        ints,
+        well.small,
+        least_skipped (λ x. j.before p x) (λ x. end_at j c.args.k x -ℤ pos (j.worst x)) (pos (j.end p)) 0 c.next_bit-q.result (omega arith)
+            (λ x k h. sym (c.requires.successors p x c.requires.p_in (omega (arith, h, first.most))) ∙ first.skipped x k h),
+      );
+    }
+
+pub overflow_sub-so_far : goal.overflow_sub-so_far
+overflow_sub-so_far c =
     let js = c.args.jobs.now in
     let q = c.loop-q.q in
     let e = c.requires.at.ends q (omega arith) in
@@ -21,15 +39,20 @@ pub loop-q-preserved : goal.loop-q-preserved
 loop-q-preserved c =
     let js = c.args.jobs.now in
     let j = jobs_of js in
+    let p = c.args.p in
     let q = c.loop-q.q in
-    let s = λ (x : ℕ). j.before c.args.p x in
+    let s = λ (x : ℕ). j.before p x in
     let f = λ (x : ℕ). end_at j c.args.k x -ℤ pos (j.worst x) in
-    let z = pos (j.end c.args.p) in
+    let z = pos (j.end p) in
     let e = c.requires.at.ends q (omega arith) in
     let b = end_at-small js c.requires.jobs c.args.k q (omega arith) in
     let k = (c.requires.jobs.each q absent_job (omega arith)).most in
-    elim c.if-waits.branch [
-      | then-waits+then-before-earliest w ↦ omega (arith, ints, clamps, w.earliest-is, w.if-before-earliest.true, e, b, k, c.requires.rounds, c.loop-q.invariant, least_more_yes s f z q (sym w.if-waits.ensures))
-      | then-waits+else-before-earliest w ↦ omega (arith, ints, clamps, w.earliest-is, w.if-before-earliest.false, e, b, k, c.requires.rounds, c.loop-q.invariant, least_more_yes s f z q (sym w.if-waits.ensures))
-      | else-waits w ↦ omega (arith, ints, w.earliest-is, c.loop-q.invariant, least_more_no s f z q (sym w.if-waits.ensures))
-    ]
+    let next = c.next_bit-q-in-loop-q.ensures in
+    let more = least_more_yes s f z q (c.loop-q.invariant.found (omega arith)) in
+    let rest = least_skipped s f z (q + 1) c.next_bit-q-in-loop-q.result next.least
+    (λ x m h. sym (c.requires.successors p x c.requires.p_in (omega (arith, h, next.most))) ∙ next.skipped x m h) in
+    record {
+      within = next.most;
+      found = λ h. sym (c.requires.successors p c.next_bit-q-in-loop-q.result c.requires.p_in h) ∙ next.found h;
+      earliest = omega (arith, ints, clamps, c.min-earliest.ensures.value, c.loop-q.earliest-is, e, b, k, c.requires.rounds, c.loop-q.invariant.earliest, more, rest);
+    }

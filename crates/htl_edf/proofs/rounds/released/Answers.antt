@@ -1,15 +1,26 @@
-use Rattle.std.proofs.Common.{arith, sym, ℕ, ◌+◌}
-use Rattle.std.proofs.lemmas.Int.{ints}
+use Rattle.std.proofs.Common.{◌≡◌, ◌∙◌, arith, sym, ap, ℕ, ◌+◌, pos, length}
+use Rattle.std.proofs.lemmas.Int.{ints, clamps}
 use Rattle.htl_walk.specs.Jobs.{absent_job}
 use Rattle.htl_edf.specs.Lists.{jobs_of}
 use Rattle.htl_edf.specs.Tight.{release_at}
 use Rattle.htl_edf.proofs.Bounds.{release_at-small}
-use Rattle.htl_edf.proofs.Tightening.{greatest_more_yes, greatest_more_no}
+use Rattle.htl_edf.proofs.Tightening.{greatest_more_yes, greatest_skipped}
 use Rattle.htl_edf.proofs.rounds.released.Goals as goal
-use Rattle.htl_edf.proofs.rounds.released.Goals.{then-waits+then-after-latest, then-waits+else-after-latest, else-waits}
 
-pub overflow_add-after : goal.overflow_add-after
-overflow_add-after c =
+pub loop-p-init : goal.loop-p-init
+loop-p-init c =
+    let js = c.args.jobs.now in
+    let j = jobs_of js in
+    let first = c.next_bit-p.ensures in
+    let well = c.requires.jobs.each c.args.q absent_job c.requires.q_in in
+    record {
+      within = first.most;
+      found = first.found;
+      latest = omega (arith, ints, well.window, well.small, greatest_skipped (λ x. j.before x c.args.q) (λ x. release_at j c.args.k x + j.worst x) (j.release c.args.q) 0 c.next_bit-p.result (omega arith) first.skipped);
+    }
+
+pub overflow_add-so_far : goal.overflow_add-so_far
+overflow_add-so_far c =
     let js = c.args.jobs.now in
     let p = c.loop-p.p in
     let e = c.requires.at.releases p (omega arith) in
@@ -28,8 +39,11 @@ loop-p-preserved c =
     let e = c.requires.at.releases p (omega arith) in
     let b = release_at-small js c.requires.jobs c.args.k p (omega arith) in
     let k = (c.requires.jobs.each p absent_job (omega arith)).most in
-    elim c.if-waits.branch [
-      | then-waits+then-after-latest w ↦ omega (arith, ints, w.latest-is, w.if-after-latest.true, e, b, k, c.requires.rounds, c.loop-p.invariant, greatest_more_yes s f z p (sym w.if-waits.ensures))
-      | then-waits+else-after-latest w ↦ omega (arith, ints, w.latest-is, w.if-after-latest.false, e, b, k, c.requires.rounds, c.loop-p.invariant, greatest_more_yes s f z p (sym w.if-waits.ensures))
-      | else-waits w ↦ omega (arith, ints, w.latest-is, c.loop-p.invariant, greatest_more_no s f z p (sym w.if-waits.ensures))
-    ]
+    let next = c.next_bit-p-in-loop-p.ensures in
+    let more = greatest_more_yes s f z p (c.loop-p.invariant.found (omega arith)) in
+    let rest = greatest_skipped s f z (p + 1) c.next_bit-p-in-loop-p.result next.least next.skipped in
+    record {
+      within = next.most;
+      found = next.found;
+      latest = omega (arith, ints, clamps, c.max-latest.ensures.value, c.loop-p.latest-is, e, b, k, c.requires.rounds, c.loop-p.invariant.latest, more, rest);
+    }

@@ -4,7 +4,11 @@ use Rattle.htl_edf.specs.declared.rounds.Tight.{Tight}
 use Rattle.htl_edf.specs.Lists.{HoldsAfter}
 use Rattle.htl_edf.proofs.Jumps.{are_tightened}
 use Rattle.htl_edf.proofs.Rest.{rested, agreed}
+use Rattle.htl_model.proofs.BitLaws.{no_bits}
 use Rattle.htl_edf.proofs.rounds.tighten.Goals as goal
+
+pub fill_successors-requires-clause-empty : goal.fill_successors-requires-clause-empty
+fill_successors-requires-clause-empty c = λ p q. no_bits 128 p q
 
 pub returns : goal.returns
 returns c =
