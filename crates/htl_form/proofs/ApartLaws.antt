@@ -21,7 +21,7 @@ use Rattle.htl_form.proofs.Places.{all_at, filled_at}
 use Rattle.htl_form.proofs.TestLaws.{either, on_left, on_right, not_both, equal, last}
 use Rattle.htl_form.proofs.WriterLaws.{writes_before}
 use Rattle.htl_form.specs.Apart.{key, end_keys, keys_in, inv_keys, keys_from, is_comm, takes, is_taken, AreTaken, is_taken_end, IsApart, AreApart}
-use Rattle.htl_form.specs.First.{or_else, first_from}
+use Rattle.htl_model.specs.First.{or_else, first_from}
 use Rattle.htl_form.specs.Rows.{IsRangeOf}
 use Rattle.htl_form.specs.WriterFaults.{stand_together, rivals, outputs_before, writer_before}
 

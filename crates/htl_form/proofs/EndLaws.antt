@@ -10,8 +10,8 @@ use Rattle.htl_model.specs.declared.parts.End.{End}
 use Rattle.htl_model.specs.declared.parts.End.TheVariants as E
 use Rattle.htl_model.specs.Tables.{Tables, mode_period, comm_period, task_worst, release, window_end, is_concrete}
 use Rattle.htl_model.specs.EndRules.{ReadLate, WriteOutside, CountsDiffer, TypeDiffers, WindowEmpty, WorstLong, AbstractRead, SensorWritten, input_types, output_types, type_number, end_type, is_sensor}
-use Rattle.htl_form.specs.First.{or_else}
-use Rattle.htl_form.specs.Found.{Found, unless}
+use Rattle.htl_model.specs.First.{or_else}
+use Rattle.htl_model.specs.Found.{Found, unless}
 use Rattle.htl_form.specs.AbstractWriters.{is_abstractly_written}
 use Rattle.htl_form.specs.EndFaults.{read_offset_fault, write_offset_fault, unless_equal, count_fault, unless_same, type_fault, abstract_read_fault, sensor_fault}
 use Rattle.htl_form.specs.WindowFaults.{window_fault, worst_case_fault}

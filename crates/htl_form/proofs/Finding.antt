@@ -1,6 +1,6 @@
 -- A test finds exactly what a relation says.
 use Rattle.std.proofs.Common.{◌≡◌, ℕ, Bool, true, false, Some, None, refl, subst}
-use Rattle.htl_form.specs.Found.{Found, unless}
+use Rattle.htl_model.specs.Found.{Found, unless}
 
 -- what is found is what the relation holds of
 pub record Finds (o : Found) (P : ℕ → ℕ → Type 0) : Type 0 where

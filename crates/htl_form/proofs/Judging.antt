@@ -9,7 +9,8 @@ use Rattle.htl_model.specs.Ranges.{AreInRange}
 use Rattle.htl_model.specs.EndRules.{input_types, output_types}
 use Rattle.htl_model.specs.Broken.{Breach, breach}
 use Rattle.htl_form.specs.Rules.{law_of}
-use Rattle.htl_form.specs.Tests.{Tests, tests}
+use Rattle.htl_model.specs.Search.{Tests}
+use Rattle.htl_form.specs.Tests.{tests}
 use Rattle.htl_form.specs.declared.rule.Rule.{Rule}
 use Rattle.htl_form.specs.declared.rule.Rule.TheVariants as R
 use Rattle.htl_form.proofs.Finding.{Finds, finds_nothing}

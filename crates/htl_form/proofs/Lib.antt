@@ -3,7 +3,6 @@ pub mod ApartLaws
 pub mod CycleLaws
 pub mod EndLaws
 pub mod Finding
-pub mod FirstLaws
 pub mod Judging
 pub mod OneFault
 pub mod PartLaws

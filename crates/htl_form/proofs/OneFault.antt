@@ -9,9 +9,10 @@ use Rattle.htl_model.specs.Tables.{Tables, mode_module}
 use Rattle.htl_model.specs.Ranges.{AreInRange}
 use Rattle.htl_model.specs.FormRules.{FormRule, number_of, Part, Itself, Input, Output, Test, Site, PartBefore, InvBefore, SiteBefore, ComesBefore}
 use Rattle.htl_model.specs.Broken.{Breach, breach, PartBreaks, ModeBreaks, BreaksAt, Broken, site_of, IsFirstBroken}
-use Rattle.htl_form.specs.Found.{Found}
+use Rattle.htl_model.specs.Found.{Found}
 use Rattle.htl_form.specs.Rules.{law_of, all_rules}
-use Rattle.htl_form.specs.Tests.{Tests, tests}
+use Rattle.htl_model.specs.Search.{Tests}
+use Rattle.htl_form.specs.Tests.{tests}
 use Rattle.htl_form.specs.declared.rule.Rule.{Rule}
 use Rattle.htl_form.proofs.Finding.{Finds}
 use Rattle.htl_form.proofs.Judging.{Judges, judges}

@@ -8,11 +8,10 @@ use Rattle.htl_model.specs.declared.parts.Switch.{Switch}
 use Rattle.htl_model.specs.Tables.{Tables}
 use Rattle.htl_model.specs.FormRules.{Part, Itself, Input, Output, Test, PartBefore}
 use Rattle.htl_model.specs.Broken.{Breach, PartBreaks, ModeBreaks}
-use Rattle.htl_form.specs.First.{first_from}
-use Rattle.htl_form.specs.Found.{Found}
-use Rattle.htl_form.specs.Tests.{Tests}
-use Rattle.htl_form.specs.Search.{at_inv, at_read, at_switch, at_mode}
-use Rattle.htl_form.proofs.FirstLaws.{or_else_some, or_else_none, none_at, found_at, IsFirstAt}
+use Rattle.htl_model.specs.First.{first_from}
+use Rattle.htl_model.specs.Found.{Found}
+use Rattle.htl_model.specs.Search.{Tests, at_inv, at_read, at_switch, at_mode}
+use Rattle.htl_model.proofs.FirstLaws.{or_else_some, or_else_none, none_at, found_at, IsFirstAt}
 use Rattle.htl_form.proofs.Finding.{Finds}
 use Rattle.htl_form.proofs.Judging.{Judges}
 

@@ -9,7 +9,7 @@ use Rattle.htl_model.specs.Tables.{Tables, mode_period, comm_period}
 use Rattle.htl_model.specs.Ranges.{parent_of}
 use Rattle.htl_model.specs.Selections.{root_period}
 use Rattle.htl_model.specs.PeriodRules.{asked_period, first_mode, PeriodDiffers, RootPeriodDiffers, NotDivided, EndNotDivided}
-use Rattle.htl_form.specs.Found.{Found, unless}
+use Rattle.htl_model.specs.Found.{Found, unless}
 use Rattle.htl_form.specs.PeriodFaults.{unless_asked, module_period_fault, matches_number, is_first_of_root, root_period_fault, divides, divides_fault, end_divides_fault}
 use Rattle.htl_form.proofs.Finding.{Finds, finds_nothing, finds_unless}
 

@@ -14,10 +14,10 @@ use Rattle.htl_model.specs.PortWriters.{is_port, port_uses, writers_in, port_wri
 use Rattle.htl_model.specs.Ranges.{AreInRange, IsInvInRange, IsEndInRange}
 use Rattle.htl_model.specs.Tables.{Tables}
 use Rattle.htl_form.proofs.Finding.{Finds, finds_nothing, finds_unless}
-use Rattle.htl_form.proofs.FirstLaws.{IsFirstAt, found_at, none_at}
+use Rattle.htl_model.proofs.FirstLaws.{IsFirstAt, found_at, none_at}
 use Rattle.htl_form.proofs.Places.{taken_at, take_at, all_at}
-use Rattle.htl_form.specs.First.{or_else, first_from}
-use Rattle.htl_form.specs.Found.{Found, unless}
+use Rattle.htl_model.specs.First.{or_else, first_from}
+use Rattle.htl_model.specs.Found.{Found, unless}
 use Rattle.htl_form.specs.PortFaults.{port_writer, first_port_writer, is_below, unwritten_fault, rewritten_fault, writers_before}
 
 -- ---- where a port is written

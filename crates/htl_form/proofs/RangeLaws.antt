@@ -7,25 +7,12 @@ use Rattle.std.proofs.lemmas.List.Sums.{count_by_more_yes, sum_by-take-le}
 use Rattle.std.proofs.lemmas.Option.{slice_get_within, get_or_from_slice_get}
 use Rattle.htl_model.specs.declared.parts.Inv.{Inv}
 use Rattle.htl_model.specs.Ranges.{AreInRange}
+use Rattle.htl_model.specs.Starts.{IsStartOf}
 use Rattle.htl_model.specs.Tables.{Tables}
 use Rattle.htl_form.proofs.Places.{item_at}
 use Rattle.htl_form.proofs.TestLaws.{equal}
 use Rattle.htl_form.specs.Cycles.{precedes_itself}
-use Rattle.htl_form.specs.Rows.{IsRangeOf, IsStartOf, AreMarked}
-
--- the modes of invocations don't fall
-pub modes_rise : (t : Tables) (p q : ℕ) (i j : Inv) → AreInRange t → slice_get t.invs p ≡ Some i → slice_get t.invs q ≡ Some j → p ≤ q → i.mode ≤ j.mode
-modes_rise t p q i j r at_p at_q le =
-    let below_q : q < length t.invs = slice_get_within t.invs q j at_q in
-    let below_p : p < length t.invs = slice_get_within t.invs p i at_p in
-    let rise : get_or (map (λ (x : Inv). x.mode) t.invs) p 0 ≤ get_or (map (λ (x : Inv). x.mode) t.invs) q 0 = r.invs_by_mode p q 0 le (simp length-map below_q) in
-    let is_p : get_or (map (λ (x : Inv). x.mode) t.invs) p 0 ≡ i.mode = get_or-map (λ (x : Inv). x.mode) t.invs p i 0 below_p ∙ ap (λ (x : Inv). x.mode) (get_or_from_slice_get t.invs p i i at_p) in
-    let is_q : get_or (map (λ (x : Inv). x.mode) t.invs) q 0 ≡ j.mode = get_or-map (λ (x : Inv). x.mode) t.invs q j 0 below_q ∙ ap (λ (x : Inv). x.mode) (get_or_from_slice_get t.invs q j j at_q) in
-    omega arith
-
--- where an invocation of mode m or a later one stands, all behind it are such
-pub rise_above : (t : Tables) (m k : ℕ) (x : Inv) → AreInRange t → slice_get t.invs k ≡ Some x → m ≤ x.mode → (q : ℕ) (i : Inv) → k ≤ q → slice_get t.invs q ≡ Some i → m ≤ i.mode
-rise_above t m k x r at h q i le at_q = omega (arith, modes_rise t k q x i r at at_q le)
+use Rattle.htl_form.specs.Rows.{IsRangeOf, AreMarked}
 
 -- the starts don't fall
 pub starts_rise : (t : Tables) (m b e : ℕ) → IsStartOf t m b → IsStartOf t (m + 1) e → b ≤ e

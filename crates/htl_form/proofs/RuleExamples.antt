@@ -11,7 +11,8 @@ use Rattle.htl_model.specs.declared.parts.End.{End}
 use Rattle.htl_model.specs.declared.parts.End.TheVariants as E
 use Rattle.htl_model.specs.Tables.{Tables}
 use Rattle.htl_model.proofs.Sources.{plain, sensor, mode, module_named, task, call, switch, int_one}
-use Rattle.htl_form.specs.Search.{told, of_rule}
+use Rattle.htl_model.specs.Search.{told}
+use Rattle.htl_form.specs.Search.{of_rule}
 use Rattle.htl_form.specs.declared.rule.Rule.TheVariants as R
 
 -- what nine of the rules tell, each by itself: 1 to 7, 10, 11

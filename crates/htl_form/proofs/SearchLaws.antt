@@ -10,7 +10,7 @@ use Rattle.htl_form.specs.Rules.{law_of, rule_number, all_rules}
 use Rattle.htl_form.specs.Tests.{tests}
 use Rattle.htl_form.specs.Search.{of_rule, first_fault}
 use Rattle.htl_form.specs.declared.rule.Rule.{Rule}
-use Rattle.htl_form.proofs.FirstLaws.{none_at, found_at, IsFirstAt}
+use Rattle.htl_model.proofs.FirstLaws.{none_at, found_at, IsFirstAt}
 use Rattle.htl_form.proofs.Judging.{judges}
 use Rattle.htl_form.proofs.RuleOrder.{place_of, number_at}
 use Rattle.htl_form.proofs.SiteLaws.{rule_none, rule_first, IsFirstOfRule}

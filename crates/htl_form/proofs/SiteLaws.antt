@@ -7,11 +7,10 @@ use Rattle.htl_model.specs.declared.form_fault.FormFault.{FormFault}
 use Rattle.htl_model.specs.Tables.{Tables, mode_module}
 use Rattle.htl_model.specs.FormRules.{FormRule, Part, Site, InvBefore, SiteBefore}
 use Rattle.htl_model.specs.Broken.{Breach, breach, PartBreaks, BreaksAt, Broken, site_of}
-use Rattle.htl_form.specs.First.{first_from}
-use Rattle.htl_form.specs.Found.{Found}
-use Rattle.htl_form.specs.Tests.{Tests}
-use Rattle.htl_form.specs.Search.{at_inv, at_mode, told, inv_in_mode, in_mode}
-use Rattle.htl_form.proofs.FirstLaws.{or_else_some, or_else_none, none_at, found_at, IsFirstAt}
+use Rattle.htl_model.specs.First.{first_from}
+use Rattle.htl_model.specs.Found.{Found}
+use Rattle.htl_model.specs.Search.{Tests, at_inv, at_mode, told, inv_in_mode, in_mode}
+use Rattle.htl_model.proofs.FirstLaws.{or_else_some, or_else_none, none_at, found_at, IsFirstAt}
 use Rattle.htl_form.proofs.Judging.{Judges}
 use Rattle.htl_form.proofs.PartLaws.{none_some, eqb_is, eqb_same, taken, inv_none, inv_first, IsFirstPart, mode_none, mode_first, IsFirstOfMode}
 

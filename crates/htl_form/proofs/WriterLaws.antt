@@ -14,7 +14,7 @@ use Rattle.htl_model.specs.SecondWriters.{AreSameWrite, WritesBefore, SecondWrit
 use Rattle.htl_model.specs.Tables.{Tables, is_concrete}
 use Rattle.htl_form.proofs.PortLaws.{given, not_given}
 use Rattle.htl_form.proofs.Finding.{Finds, finds_nothing}
-use Rattle.htl_form.proofs.FirstLaws.{found_at, none_at}
+use Rattle.htl_model.proofs.FirstLaws.{found_at, none_at}
 use Rattle.htl_form.proofs.PathLaws.{together_true, true_together}
 use Rattle.htl_form.proofs.Places.{taken_at, take_at}
 use Rattle.htl_form.proofs.TestLaws.{either, on_left, on_right, equal, same_number, other_number}

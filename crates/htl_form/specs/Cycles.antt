@@ -4,7 +4,7 @@ use Rattle.htl_model.specs.declared.parts.Inv.{Inv}
 use Rattle.htl_model.proofs.PortChains.{leads_below, count_below}
 use Rattle.htl_model.specs.PortOrder.{feeds}
 use Rattle.htl_model.specs.Tables.{Tables}
-use Rattle.htl_form.specs.Found.{Found, unless}
+use Rattle.htl_model.specs.Found.{Found, unless}
 
 -- whether an invocation precedes itself by the ports
 unfoldable pub precedes_itself : Tables → ℕ → Bool

@@ -7,8 +7,8 @@ use Rattle.htl_model.specs.declared.parts.End.TheVariants as E
 use Rattle.htl_model.specs.Tables.{Tables, mode_period, comm_period, is_concrete}
 use Rattle.htl_model.specs.EndRules.{input_types, output_types, type_number, end_type, is_sensor}
 use Rattle.htl_form.specs.AbstractWriters.{is_abstractly_written}
-use Rattle.htl_form.specs.First.{or_else}
-use Rattle.htl_form.specs.Found.{Found, unless}
+use Rattle.htl_model.specs.First.{or_else}
+use Rattle.htl_model.specs.Found.{Found, unless}
 
 abbrev pub read_offset_fault : Tables → Inv → End → Found
 read_offset_fault t i (E.Comm c n) = unless (ltb (n * comm_period t c) (mode_period t i.mode)) (n * comm_period t c) (mode_period t i.mode)

@@ -2,8 +2,6 @@ pub mod AbstractWriters
 pub mod Apart
 pub mod Cycles
 pub mod EndFaults
-pub mod First
-pub mod Found
 pub mod Overviews
 pub mod PeriodFaults
 pub mod PortFaults

@@ -8,7 +8,7 @@ use Rattle.htl_model.specs.Tables.{Tables, mode_period, comm_period}
 use Rattle.htl_model.specs.Ranges.{parent_of}
 use Rattle.htl_model.specs.Selections.{root_period}
 use Rattle.htl_model.specs.PeriodRules.{asked_period, first_mode}
-use Rattle.htl_form.specs.Found.{Found, unless}
+use Rattle.htl_model.specs.Found.{Found, unless}
 
 -- nothing where the number is the one that is asked, or none is asked
 abbrev pub unless_asked : ℕ → Option ℕ → Found

@@ -6,8 +6,8 @@ use Rattle.htl_model.specs.declared.parts.End.{End}
 use Rattle.htl_model.specs.declared.parts.End.TheVariants as E
 use Rattle.htl_model.specs.PortWriters.{is_port, port_uses, writers_in, port_writers}
 use Rattle.htl_model.specs.Tables.{Tables}
-use Rattle.htl_form.specs.First.{first_from}
-use Rattle.htl_form.specs.Found.{Found, unless}
+use Rattle.htl_model.specs.First.{first_from}
+use Rattle.htl_model.specs.Found.{Found, unless}
 
 -- the number of an invocation that writes the port
 abbrev pub port_writer : ℕ → ℕ → Inv → Option ℕ

@@ -15,12 +15,6 @@ pub record IsRangeOf (t : Tables) (m base n : ℕ) : Type 0 where
   pub inside : (q : ℕ) (i : Inv) → q < n → slice_get t.invs (base + q) ≡ Some i → i.mode ≡ m
   pub outside : (k : ℕ) (i : Inv) → slice_get t.invs k ≡ Some i → i.mode ≡ m → (base ≤ k) × (k < base + n)
 
--- the invocations of mode m and of later modes are those from number k on
-pub record IsStartOf (t : Tables) (m k : ℕ) : Type 0 where
-  pub within : k ≤ length t.invs
-  pub below : (q : ℕ) (i : Inv) → q < k → slice_get t.invs q ≡ Some i → i.mode < m
-  pub above : (q : ℕ) (i : Inv) → k ≤ q → slice_get t.invs q ≡ Some i → m ≤ i.mode
-
 -- ---- rows that are widened
 
 -- a row, with another row where it has bit k

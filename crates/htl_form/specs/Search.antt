@@ -1,47 +1,15 @@
--- The first that the tests find, going over rules, modes, invocations and ends in order.
-use Rattle.std.specs.Prelude.{ℕ, cond, eqb, List, Option, Some, None}
-use Rattle.htl_model.specs.declared.parts.Mode.{Mode}
-use Rattle.htl_model.specs.declared.parts.Inv.{Inv}
-use Rattle.htl_model.specs.declared.parts.Switch.{Switch}
+-- The first fault of the rules.
+use Rattle.std.specs.Prelude.{ℕ, List, Option}
 use Rattle.htl_model.specs.declared.form_fault.FormFault.{FormFault}
+use Rattle.htl_model.specs.Search as search
 use Rattle.htl_model.specs.Tables.{Tables}
-use Rattle.htl_form.specs.First.{or_else, first_from}
-use Rattle.htl_form.specs.Found.{Found}
 use Rattle.htl_form.specs.Rules.{rule_number}
-use Rattle.htl_form.specs.Tests.{Tests, tests}
+use Rattle.htl_form.specs.Tests.{tests}
 use Rattle.htl_form.specs.declared.rule.Rule.{Rule}
 
--- at an invocation: itself, its inputs, its outputs
-abbrev pub at_inv : Tests → ℕ → Inv → Found
-at_inv f k i = or_else (f.inv k i) (or_else (first_from (f.input k i) 0 i.reads) (first_from (f.output k i) 0 i.writes))
-
-abbrev pub at_read : Tests → ℕ → ℕ → ℕ → Found
-at_read f m j c = f.test m c
-
--- at a switch, where it is one of the mode: what it reads
-abbrev pub at_switch : Tests → ℕ → ℕ → Switch → Found
-at_switch f m l w = cond (eqb w.mode m) (first_from (at_read f m) 0 w.reads) None
-
--- at a mode: itself, its switches
-abbrev pub at_mode : Tests → Tables → ℕ → Mode → Found
-at_mode f t m x = or_else (f.mode m x) (first_from (at_switch f m) 0 t.switches)
-
--- a fault told with its rule and site
-abbrev pub told : ℕ → ℕ → ℕ → Option ℕ → Found → Option FormFault
-told n u m k None = None
-told n u m k (Some p) = Some (record { rule = n; «module» = u; mode = m; inv = k; have = p.0; need = p.1 })
-
--- at an invocation, where it is one of the mode
-abbrev pub inv_in_mode : Tests → ℕ → ℕ → ℕ → ℕ → Inv → Option FormFault
-inv_in_mode f n u m k i = cond (eqb i.mode m) (told n u m (Some k) (at_inv f k i)) None
-
--- in a mode: its invocations, then itself and its switches
-abbrev pub in_mode : Tests → ℕ → Tables → ℕ → Mode → Option FormFault
-in_mode f n t m x = or_else (first_from (inv_in_mode f n x.«module» m) 0 t.invs) (told n x.«module» m None (at_mode f t m x))
-
 abbrev pub of_rule : Tables → ℕ → Rule → Option FormFault
-of_rule t place r = first_from (in_mode (tests t r) (rule_number r) t) 0 t.modes
+of_rule = search.of_rule tests rule_number
 
 -- the first fault of the rules, in their order
 abbrev pub first_fault : Tables → List Rule → Option FormFault
-first_fault t rules = first_from (of_rule t) 0 rules
+first_fault = search.first_fault tests rule_number

@@ -1,12 +1,7 @@
--- What the tests of each rule find: at a mode, at an invocation as a whole, at an input or output of one, at a communicator that a
--- switch of a mode reads.
-use Rattle.std.specs.Prelude.{ℕ, None}
-use Rattle.htl_model.specs.declared.parts.Mode.{Mode}
-use Rattle.htl_model.specs.declared.parts.Inv.{Inv}
-use Rattle.htl_model.specs.declared.parts.End.{End}
+-- What the tests of each rule find.
+use Rattle.htl_model.specs.Search.{Tests, silent}
 use Rattle.htl_model.specs.Tables.{Tables}
 use Rattle.htl_model.specs.EndRules.{input_types, output_types}
-use Rattle.htl_form.specs.Found.{Found}
 use Rattle.htl_form.specs.PeriodFaults.{module_period_fault, root_period_fault, divides_fault, end_divides_fault}
 use Rattle.htl_form.specs.EndFaults.{read_offset_fault, write_offset_fault, count_fault, type_fault, abstract_read_fault, sensor_fault}
 use Rattle.htl_form.specs.WindowFaults.{window_fault, worst_case_fault}
@@ -15,17 +10,6 @@ use Rattle.htl_form.specs.Cycles.{cycle_fault}
 use Rattle.htl_form.specs.WriterFaults.{writer_fault}
 use Rattle.htl_form.specs.declared.rule.Rule.{Rule}
 use Rattle.htl_form.specs.declared.rule.Rule.TheVariants as R
-
-pub record Tests : Type 0 where
-  pub mode : ℕ → Mode → Found
-  pub inv : ℕ → Inv → Found
-  pub input : ℕ → Inv → ℕ → End → Found
-  pub output : ℕ → Inv → ℕ → End → Found
-  pub test : ℕ → ℕ → Found
-
--- tests that find nothing
-abbrev pub silent : Tests
-silent = record { mode = λ m x. None; inv = λ k i. None; input = λ k i j e. None; output = λ k i j e. None; test = λ m c. None }
 
 abbrev pub tests : Tables → Rule → Tests
 tests t R.ModulePeriod = record silent { mode = λ m x. module_period_fault t x }

@@ -2,7 +2,7 @@
 use Rattle.std.specs.Prelude.{not, ltb}
 use Rattle.htl_model.specs.declared.parts.Inv.{Inv}
 use Rattle.htl_model.specs.Tables.{Tables, mode_period, task_worst, release, window_end}
-use Rattle.htl_form.specs.Found.{Found, unless}
+use Rattle.htl_model.specs.Found.{Found, unless}
 
 abbrev pub window_fault : Tables → Inv → Found
 window_fault t i = unless (ltb (release t i) (window_end t i)) (release t i) (window_end t i)

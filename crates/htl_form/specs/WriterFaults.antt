@@ -6,8 +6,8 @@ use Rattle.htl_model.specs.declared.parts.End.{End}
 use Rattle.htl_model.specs.declared.parts.End.TheVariants as E
 use Rattle.htl_model.specs.SecondWriters.{parent_mode}
 use Rattle.htl_model.specs.Tables.{Tables, mode_module, is_concrete}
-use Rattle.htl_form.specs.First.{first_from}
-use Rattle.htl_form.specs.Found.{Found}
+use Rattle.htl_model.specs.First.{first_from}
+use Rattle.htl_model.specs.Found.{Found}
 
 -- the mode, and the modes above it, at most so many
 abbrev pub path : ℕ → Tables → ℕ → List ℕ

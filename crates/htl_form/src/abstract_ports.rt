@@ -6,16 +6,17 @@ ghost use Rattle.htl_model.specs.PortWriters.{is_port};
 ghost use Rattle.htl_form.specs.AbstractWriters.{is_abstractly_written, MarksPorts};
 ghost use Rattle.htl_form.specs.EndFaults.{abstract_read_fault as abstract_read_fault_of};
 
+use htl_base::limits::MAX_PORTS;
 use htl_model::lookup::is_concrete;
 use htl_model::{End, Inv, Tables};
 
 /// Whether an abstract invocation writes a port, for each port that tables can have.
 #[derive(Drop)]
 pub struct AbstractPorts {
-    pub marks: [bool; 4096],
+    pub marks: [bool; MAX_PORTS],
 }
 
-fn mark(marks: &mut [bool; 4096], end: End)
+fn mark(marks: &mut [bool; MAX_PORTS], end: End)
     ensures { (p : ℕ) → p < 4096 → get_or marks.new p false ≡ (get_or marks.old p false || is_port p end) }
 {
     if let End::Port { port } = end {
@@ -26,7 +27,7 @@ fn mark(marks: &mut [bool; 4096], end: End)
 }
 
 // Marks the ports among the ends.
-fn mark_all(marks: &mut [bool; 4096], ends: &[End])
+fn mark_all(marks: &mut [bool; MAX_PORTS], ends: &[End])
     ensures { (p : ℕ) → p < 4096 → get_or marks.new p false ≡ (get_or marks.old p false || list_any (is_port p) ends.now) }
 {
     for k in 0..ends.len() {
@@ -40,7 +41,7 @@ impl AbstractPorts {
         ensures { MarksPorts (is_abstractly_written t.now) result.marks }
     {
         let invs = t.parts().invs.as_slice();
-        let mut marks = [false; 4096];
+        let mut marks = [false; MAX_PORTS];
         for k in 0..invs.len() {
             let inv = &invs[k];
             if !is_concrete(t, inv) {

@@ -4,11 +4,12 @@ ghost use Rattle.std.specs.List.{IsDistinct};
 ghost use Rattle.htl_form.specs.Apart.{keys_from, AreTaken, IsApart, AreApart};
 ghost use Rattle.htl_form.specs.Rows.{IsRangeOf};
 
-use crate::instances::are_written_once;
-use crate::items::{inv_at, mode_count};
-use crate::ranges::range_of;
+use crate::instances::{MOST_WRITES, are_written_once};
+use crate::ranges::count_from;
 use crate::taken::{mark_taken, some_taken};
+use htl_base::limits::MAX_COMMUNICATORS;
 use htl_model::Tables;
+use htl_model::items::{inv_at, mode_count};
 
 // Whether invocation `q` of a mode, those `n` from `base` on, writes nothing that an earlier one does.
 // Where the whole mode writes no instance twice, neither do those up to it.
@@ -20,35 +21,48 @@ fn is_apart(
     q: usize,
     taken: &[bool],
     once: bool,
+    room: &mut [u64],
 ) -> bool
     requires range { IsRangeOf t.now mode base n }
     requires within { q < n }
     requires len { length taken.now ≡ 1024 }
     requires taken { AreTaken t.now mode base taken.now }
     requires once { once ≡ true → IsDistinct eqb (keys_from t.now base n) }
-    ensures { result ≡ true → IsApart t.now (base + q) }
+    requires room { length room.old ≡ 32768 }
+    ensures apart { result ≡ true → IsApart t.now (base + q) }
+    ensures room { length room.new ≡ 32768 }
 {
     t.keeps_ranges();
     let inv = inv_at(t, base + q);
     if some_taken(inv.writes.as_slice(), taken) {
         return false;
     }
-    once || are_written_once(t, base, q + 1)
+    once || are_written_once(t, base, q + 1, room)
 }
 
 // Marks those invocations of a mode, the `n` from `base` on, that are apart, and answers whether the mode
 // writes each instance once.
-fn mark_mode(t: &Tables, mode: u16, base: usize, n: usize, marks: &mut [bool]) -> bool
+fn mark_mode(
+    t: &Tables,
+    mode: u16,
+    base: usize,
+    n: usize,
+    room: &mut [u64],
+    marks: &mut [bool],
+) -> bool
     requires range { IsRangeOf t.now mode base n }
     requires room { base + n ≤ length marks.old }
     requires marks { AreApart t.now marks.old }
-    ensures { AreApart t.now marks.new }
+    requires keys { length room.old ≡ 32768 }
+    ensures apart { AreApart t.now marks.new }
+    ensures len { length marks.new ≡ length marks.old }
+    ensures keys { length room.new ≡ 32768 }
 {
-    let mut taken = [false; 1024];
+    let mut taken = [false; MAX_COMMUNICATORS];
     mark_taken(t, mode, base, &mut taken);
-    let once = are_written_once(t, base, n);
+    let once = are_written_once(t, base, n, room);
     for q in 0..n {
-        marks[base + q] = is_apart(t, mode, base, n, q, &taken, once);
+        marks[base + q] = is_apart(t, mode, base, n, q, &taken, once, room);
     }
     once
 }
@@ -60,10 +74,14 @@ pub fn mark_apart(t: &Tables, marks: &mut [bool])
     ensures { AreApart t.now marks.new }
 {
     let modes = mode_count(t);
+    let mut room = [0u64; MOST_WRITES];
+    let mut base = 0;
     for m in 0..modes {
-        let range = range_of(t, m as u16);
-        if !mark_mode(t, m as u16, range.base, range.count, marks) {
+        let mode = m as u16;
+        let n = count_from(t, mode, base);
+        if !mark_mode(t, mode, base, n, &mut room, marks) {
             return;
         }
+        base += n;
     }
 }

@@ -5,11 +5,12 @@ ghost use Rattle.htl_form.specs.Rows.{IsRangeOf, AreMarked};
 ghost use Rattle.htl_model.specs.Bits.{cell};
 ghost use Rattle.htl_form.specs.Surveys.{AreCycleMarks, IsSurveyOf};
 
-use crate::items::{inv_at, inv_count, mode_count};
-use crate::ranges::range_of;
-use crate::rows::{fill_rows, fill_writers, through_all};
+use crate::ranges::count_from;
+use crate::rows::{clear_writers, fill_rows, fill_writers, through_all};
 use crate::survey::Survey;
+use htl_base::limits::{MAX_MODE_INVOCATIONS, MAX_PORTS};
 use htl_model::bits::has_bit;
+use htl_model::items::{inv_at, inv_count, mode_count};
 use htl_model::{Inv, Tables};
 
 // Marks for each of the `n` invocations from `base` on whether its row has its own bit.
@@ -27,29 +28,41 @@ fn mark_diagonal(rows: &[u128], base: usize, n: usize, marks: &mut [bool])
 }
 
 // Marks for each invocation of a mode, the `n` from `base` on, whether it precedes itself.
-fn mark_mode(t: &Tables, mode: u16, base: usize, n: usize, marks: &mut [bool])
+// The table of writers is lent: it is empty before and after.
+fn mark_mode(t: &Tables, mode: u16, base: usize, n: usize, writers: &mut [u128], marks: &mut [bool])
     requires range { IsRangeOf t.now mode base n }
     requires room { base + n ≤ length marks.old }
-    ensures { AreMarked t.now base n marks.old marks.new }
+    requires ports { length writers.old ≡ 4096 }
+    requires empty { (p q : ℕ) → cell writers.old p q ≡ false }
+    ensures marked { AreMarked t.now base n marks.old marks.new }
+    ensures len { length marks.new ≡ length marks.old }
+    ensures ports { length writers.new ≡ 4096 }
+    ensures empty { (p q : ℕ) → cell writers.new p q ≡ false }
 {
-    let mut writers = [0u128; 4096];
-    fill_writers(t, base, n, &mut writers);
-    let mut rows = [0u128; 128];
-    fill_rows(t, mode, base, n, &writers, &mut rows);
-    through_all(&mut rows, n);
-    mark_diagonal(&rows, base, n, marks);
+    fill_writers(t, base, n, writers);
+    let mut room = [0u128; MAX_MODE_INVOCATIONS];
+    let rows = &mut room[..n];
+    fill_rows(t, mode, base, n, writers, rows);
+    clear_writers(t, base, n, writers);
+    through_all(rows, n);
+    mark_diagonal(rows, base, n, marks);
 }
 
-/// Marks for each invocation whether it precedes itself.
+/// Marks for each invocation whether it precedes itself: a pass over the ends, and for each mode as many steps as the
+/// square of its invocations.
 pub fn mark_cycles(t: &Tables, marks: &mut [bool])
     requires { length t.now.invs ≤ length marks.old }
     ensures { AreCycleMarks t.now marks.new }
 {
     t.keeps_ranges();
     let modes = mode_count(t);
+    let mut writers = [0u128; MAX_PORTS];
+    let mut base = 0;
     for m in 0..modes {
-        let range = range_of(t, m as u16);
-        mark_mode(t, m as u16, range.base, range.count, marks);
+        let mode = m as u16;
+        let n = count_from(t, mode, base);
+        mark_mode(t, mode, base, n, &mut writers, marks);
+        base += n;
     }
 }
 

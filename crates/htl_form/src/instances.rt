@@ -4,12 +4,13 @@ ghost use Rattle.std.specs.List.{IsDistinct};
 ghost use Rattle.std.specs.List.Sorted.{IsStrictlyIncreasing};
 ghost use Rattle.htl_form.specs.Apart.{end_keys, keys_in, inv_keys, keys_from, IsFilled};
 
-use crate::items::inv_at;
+use htl_base::limits::{MAX_ENDS, MAX_MODE_INVOCATIONS};
+use htl_model::items::inv_at;
 use htl_model::lookup::is_concrete;
 use htl_model::{End, Inv, Tables};
 
 /// As many instances as the invocations of a mode can write.
-const MOST_WRITES: usize = 32768;
+pub const MOST_WRITES: usize = MAX_MODE_INVOCATIONS * MAX_ENDS;
 
 // Adds an end to the first `len` keys, where it is an instance, and answers how many there are then.
 fn add_end(end: End, keys: &mut [u64], len: usize) -> usize
@@ -85,13 +86,15 @@ fn are_different(keys: &mut [u64]) -> bool
     is_rising(keys)
 }
 
-/// Whether the concrete ones of the `n` invocations from `base` on, at most 128, write no instance twice.
-pub fn are_written_once(t: &Tables, base: usize, n: usize) -> bool
+/// Whether the concrete ones of the `n` invocations from `base` on, at most 128, write no instance twice: n log n steps
+/// in the number of their outputs. The room for these is lent, and what it holds means nothing.
+pub fn are_written_once(t: &Tables, base: usize, n: usize, room: &mut [u64]) -> bool
     requires within { base + n ≤ length t.now.invs }
     requires few { n ≤ 128 }
-    ensures { IsTrue result ↔ IsDistinct eqb (keys_from t.now base n) }
+    requires room { length room.old ≡ 32768 }
+    ensures once { IsTrue result ↔ IsDistinct eqb (keys_from t.now base n) }
+    ensures room { length room.new ≡ 32768 }
 {
-    let mut keys = [0u64; MOST_WRITES];
-    let len = collect(t, base, n, &mut keys);
-    are_different(&mut keys[..len])
+    let len = collect(t, base, n, room);
+    are_different(&mut room[..len])
 }

@@ -7,7 +7,6 @@ mod apart;
 mod cycles;
 mod ends;
 mod instances;
-mod items;
 mod overview;
 mod paths;
 mod periods;
@@ -15,11 +14,11 @@ mod ports;
 pub mod ranges;
 pub mod rows;
 mod rule;
-mod search;
 mod survey;
 mod taken;
 #[cfg(test)]
 mod tests;
+mod trial;
 mod windows;
 mod writers;
 

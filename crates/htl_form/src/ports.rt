@@ -1,7 +1,7 @@
 // Form rule 8: a port that is read has exactly one writer, and any port at most one.
 ghost use Rattle.std.specs.Prelude.{◌≡◌, ◌≤◌, ◌<◌, ◌+◌, ℕ, length, get_or, slice_get, cond, ltb, Some, None};
 ghost use Rattle.std.specs.List.{list_any};
-ghost use Rattle.htl_form.specs.First.{or_else};
+ghost use Rattle.htl_model.specs.First.{or_else};
 ghost use Rattle.htl_form.specs.PortFaults.{unwritten_fault as unwritten_fault_of, rewritten_fault as rewritten_fault_of, writers_before as writers_before_of, first_port_writer, is_below as is_below_of};
 ghost use Rattle.htl_form.specs.Surveys.{IsSurveyOf};
 ghost use Rattle.htl_model.specs.PortWriters.{is_port as is_port_of, port_uses, port_writers};

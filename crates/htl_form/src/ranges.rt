@@ -1,39 +1,17 @@
-//! Where the invocations of a mode stand in the list.
-ghost use Rattle.htl_form.specs.Rows.{IsRangeOf, IsStartOf};
+//! How many invocations of each mode stand in the list, mode by mode.
+ghost use Rattle.std.specs.Prelude.{◌+◌};
+ghost use Rattle.htl_form.specs.Rows.{IsRangeOf};
+ghost use Rattle.htl_model.specs.Starts.{IsStartOf};
 
-use crate::items::{inv_at, inv_count};
 use htl_model::Tables;
+use htl_model::items::next_start;
 
-/// The invocations of a mode: `count` from number `base` on.
-#[derive(Clone, Copy)]
-pub struct ModeRange {
-    pub base: usize,
-    pub count: usize,
-}
-
-// The number of the first invocation of a mode or a later one.
-fn start_of(t: &Tables, mode: usize) -> usize
-    ensures { IsStartOf t.now mode result }
+/// How many invocations a mode has, whose first has number `base`: as many steps.
+pub fn count_from(t: &Tables, mode: u16, base: usize) -> usize
+    requires { IsStartOf t.now mode base }
+    ensures range { IsRangeOf t.now mode base result }
+    ensures next { IsStartOf t.now (mode + 1) (base + result) }
 {
     t.keeps_ranges();
-    let count = inv_count(t);
-    for k in 0..count {
-        if mode <= inv_at(t, k).mode as usize {
-            return k;
-        }
-    }
-    count
-}
-
-/// The invocations of a mode.
-pub fn range_of(t: &Tables, mode: u16) -> ModeRange
-    ensures { IsRangeOf t.now mode result.base result.count }
-{
-    t.keeps_ranges();
-    let base = start_of(t, mode as usize);
-    let end = start_of(t, mode as usize + 1);
-    ModeRange {
-        base,
-        count: end - base,
-    }
+    next_start(t, mode, base) - base
 }

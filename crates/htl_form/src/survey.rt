@@ -4,19 +4,20 @@ ghost use Rattle.htl_form.specs.Surveys.{IsSurveyOf};
 use crate::apart::mark_apart;
 use crate::cycles::mark_cycles;
 use crate::ports::{count_writers, note_first_writers};
+use htl_base::limits::{MAX_INVOCATIONS, MAX_PORTS};
 use htl_model::Tables;
 
 /// Counts over the whole tables, so that each end is judged in a few steps.
 #[derive(Drop)]
 pub struct Survey {
     /// For each port how many outputs write it.
-    pub writers: [u32; 4096],
+    pub writers: [u32; MAX_PORTS],
     /// For each port the first invocation that writes it.
-    pub first_writers: [Option<u16>; 4096],
+    pub first_writers: [Option<u16>; MAX_PORTS],
     /// For each invocation whether it precedes itself by the ports.
-    pub on_cycle: [bool; 2048],
+    pub on_cycle: [bool; MAX_INVOCATIONS],
     /// For each invocation whether it surely writes nothing that an earlier concrete one writes.
-    pub apart: [bool; 2048],
+    pub apart: [bool; MAX_INVOCATIONS],
 }
 
 impl Survey {
@@ -25,13 +26,13 @@ impl Survey {
         ensures { IsSurveyOf t.now result }
     {
         t.keeps_ranges();
-        let mut writers = [0u32; 4096];
+        let mut writers = [0u32; MAX_PORTS];
         count_writers(t, &mut writers);
-        let mut first_writers = [None; 4096];
+        let mut first_writers = [None; MAX_PORTS];
         note_first_writers(t, &mut first_writers);
-        let mut on_cycle = [false; 2048];
+        let mut on_cycle = [false; MAX_INVOCATIONS];
         mark_cycles(t, &mut on_cycle);
-        let mut apart = [false; 2048];
+        let mut apart = [false; MAX_INVOCATIONS];
         mark_apart(t, &mut apart);
         Survey {
             writers,

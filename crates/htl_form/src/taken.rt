@@ -3,8 +3,8 @@ ghost use Rattle.std.specs.Prelude.{◌≡◌, ◌≤◌, ◌<◌, ◌||◌, ℕ
 ghost use Rattle.std.specs.List.{list_any};
 ghost use Rattle.htl_form.specs.Apart.{is_comm, is_taken_end as is_taken_end_of, AreTaken};
 
-use crate::items::inv_at;
 use crate::paths::stand_together;
+use htl_model::items::inv_at;
 use htl_model::lookup::is_concrete;
 use htl_model::{End, Tables};
 
@@ -29,15 +29,21 @@ fn take_ends(ends: &[End], taken: &mut [bool])
 }
 
 /// Notes the communicators that concrete invocations below number `base` write whose modes can stand
-/// together with a mode.
+/// together with a mode. Each of these modes is judged once.
 pub fn mark_taken(t: &Tables, mode: u16, base: usize, taken: &mut [bool])
     requires empty { (c : ℕ) → get_or taken.old c false ≡ false }
     requires within { base ≤ length t.now.invs }
     ensures { AreTaken t.now mode base taken.new }
 {
+    let mut last = mode;
+    let mut together = stand_together(t, mode, mode);
     for l in 0..base {
         let x = inv_at(t, l);
-        if is_concrete(t, x) && stand_together(t, x.mode, mode) {
+        if x.mode != last {
+            last = x.mode;
+            together = stand_together(t, last, mode);
+        }
+        if is_concrete(t, x) && together {
             take_ends(x.writes.as_slice(), taken);
         }
     }

@@ -5,9 +5,9 @@ ghost use Rattle.std.specs.List.{list_any};
 ghost use Rattle.htl_form.specs.Surveys.{IsSurveyOf};
 ghost use Rattle.htl_form.specs.WriterFaults.{hits as hits_of, outputs_before, rivals as rivals_of, writer_before as writer_before_of, first_writer as first_writer_of, writer_fault as writer_fault_of};
 
-use crate::items::{inv_at, inv_count};
 use crate::paths::stand_together;
 use crate::survey::Survey;
+use htl_model::items::{inv_at, inv_count};
 use htl_model::lookup::is_concrete;
 use htl_model::{End, Inv, Tables};
 

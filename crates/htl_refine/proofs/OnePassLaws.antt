@@ -16,7 +16,7 @@ use Rattle.htl_model.specs.Selections.{is_root, root_modules, inv_of_mode, invs_
 use Rattle.htl_model.specs.Tables.{Tables, mode_module}
 use Rattle.htl_form.proofs.PartLaws.{none_some}
 use Rattle.htl_form.proofs.Places.{all_at, item_at}
-use Rattle.htl_form.proofs.RangeLaws.{modes_rise}
+use Rattle.htl_model.proofs.StartLaws.{modes_rise}
 use Rattle.htl_form.proofs.TestLaws.{both, equal, same_number}
 use Rattle.htl_refine.specs.ConcreteJobs.{running_invs, running_positions}
 use Rattle.htl_refine.specs.OnePass.{has_position, positions_met}

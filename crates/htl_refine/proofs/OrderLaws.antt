@@ -8,7 +8,7 @@ use Rattle.htl_model.specs.declared.parts.End.{End}
 use Rattle.htl_model.specs.declared.parts.End.TheVariants as E
 use Rattle.htl_model.specs.Ranges.{AreInRange, IsInvInRange, IsEndInRange}
 use Rattle.htl_model.specs.Tables.{Tables}
-use Rattle.htl_form.specs.First.{or_else}
+use Rattle.htl_model.specs.First.{or_else}
 use Rattle.htl_form.specs.Rows.{IsRangeOf, through_all, AreSteps, follows}
 use Rattle.htl_form.proofs.CycleLaws.{leads_same}
 use Rattle.htl_form.proofs.Places.{all_at, filled_at}

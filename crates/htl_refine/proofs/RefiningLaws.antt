@@ -14,12 +14,12 @@ use Rattle.htl_model.specs.PortOrder.{Leads, feeds}
 use Rattle.htl_model.specs.PortWriters.{is_port}
 use Rattle.htl_model.specs.RefinementRules.{IsRefined, StandsUnrefined, IsAbstractIn, ParentFault, ParentWrong, SharesParent, SecondChild, AsksMore, Exceeds, IsWriterOf, Unordered}
 use Rattle.htl_model.specs.SecondWriters.{parent_mode}
-use Rattle.htl_form.specs.First.{or_else}
-use Rattle.htl_form.specs.Found.{unless}
+use Rattle.htl_model.specs.First.{or_else}
+use Rattle.htl_model.specs.Found.{unless}
 use Rattle.htl_form.proofs.AbstractLaws.{some_place, place_some}
 use Rattle.htl_form.proofs.EndLaws.{finds_or_else}
 use Rattle.htl_form.proofs.Finding.{Finds, finds_nothing, finds_unless}
-use Rattle.htl_form.proofs.FirstLaws.{none_at, found_at, to_none, to_found}
+use Rattle.htl_model.proofs.FirstLaws.{none_at, found_at, to_none, to_found}
 use Rattle.htl_form.proofs.PartLaws.{none_some, taken}
 use Rattle.htl_form.proofs.TestLaws.{both, equal, same_number, not_both}
 use Rattle.std.proofs.lemmas.Option.{slice_get_within}

@@ -3,17 +3,14 @@ use Rattle.std.proofs.Common.{◌≡◌, ℕ, suc, ◌+◌, ◌≤◌, ◌<◌, 
 use Rattle.std.specs.Prelude.{slice_get}
 use Rattle.htl_model.specs.declared.form_fault.FormFault.{FormFault}
 use Rattle.htl_model.specs.declared.parts.Inv.{Inv}
+use Rattle.htl_model.specs.declared.parts.End.{End}
 use Rattle.htl_model.specs.declared.parts.Mode.{Mode}
 use Rattle.htl_model.specs.Tables.{Tables}
 use Rattle.htl_model.specs.Ranges.{AreInRange}
 use Rattle.htl_model.specs.FormRules.{FormRule, number_of, Site, ComesBefore}
 use Rattle.htl_model.specs.Broken.{Broken, KeptTo, site_of, IsFirstBroken, breach}
-use Rattle.htl_form.specs.First.{or_else, first_from}
-use Rattle.htl_form.specs.Found.{Found}
-use Rattle.htl_form.specs.Search.{at_inv, at_read, at_switch, at_mode, told, inv_in_mode, in_mode}
-use Rattle.htl_form.specs.Tests.{Tests}
 use Rattle.htl_form.proofs.Finding.{finds_nothing}
-use Rattle.htl_form.proofs.FirstLaws.{none_at, found_at, IsFirstAt}
+use Rattle.htl_model.proofs.FirstLaws.{none_at, found_at, IsFirstAt}
 use Rattle.htl_form.proofs.Judging.{Judges}
 use Rattle.htl_form.proofs.SiteLaws.{rule_none, rule_first, IsFirstOfRule}
 use Rattle.htl_refine.specs.Rules.{law_of, rule_number, all_rules, judges_inputs}
@@ -25,58 +22,29 @@ use Rattle.htl_refine.proofs.RuleOrder.{place_of, number_at}
 
 -- ---- what isn't judged
 
-nothing_first : {A B : Type 0} (f : ℕ → A → Option B) (k : ℕ) (xs : List A) → ((j : ℕ) (x : A) → f j x ≡ None) → first_from f k xs ≡ None
-nothing_first f k [] h = refl
-nothing_first f k (x ∷ xs) h = ap (λ o. or_else o (first_from f (suc k) xs)) (h k x) ∙ nothing_first f (suc k) xs h
+pub input_silent : (t : Tables) (r : Rule) → judges_inputs r ≡ false → (k : ℕ) (i : Inv) (j : ℕ) (e : End) → (tests t r).input k i j e ≡ None
+input_silent t R.AbstractPlaces h k i j e = refl
+input_silent t R.Parents h k i j e = refl
+input_silent t R.SharedParents h k i j e = refl
+input_silent t R.Inheritance h k i j e = cc
 
-no_more : (o : Found) → or_else o None ≡ o
-no_more (Some p) = refl
-no_more None = refl
+pub output_silent : (t : Tables) (r : Rule) (k : ℕ) (i : Inv) (j : ℕ) (e : End) → (tests t r).output k i j e ≡ None
+output_silent t R.AbstractPlaces k i j e = refl
+output_silent t R.Parents k i j e = refl
+output_silent t R.SharedParents k i j e = refl
+output_silent t R.Inheritance k i j e = refl
 
-no_more_faults : (o : Option FormFault) → or_else o None ≡ o
-no_more_faults (Some p) = refl
-no_more_faults None = refl
+pub mode_silent : (t : Tables) (r : Rule) (m : ℕ) (x : Mode) → (tests t r).mode m x ≡ None
+mode_silent t R.AbstractPlaces m x = refl
+mode_silent t R.Parents m x = refl
+mode_silent t R.SharedParents m x = refl
+mode_silent t R.Inheritance m x = refl
 
-left : (b : Bool) (o : Found) → o ≡ None → cond b o None ≡ None
-left true o e = e
-left false o e = refl
-
--- a rule that judges no outputs finds nothing there
-at_inv_is : (f : Tests) (k : ℕ) (i : Inv) → ((j : ℕ) → f.output k i j ≡ λ e. None) → at_inv f k i ≡ or_else (f.inv k i) (first_from (f.input k i) 0 i.reads)
-at_inv_is f k i h =
-    ap (λ o. or_else (f.inv k i) (or_else (first_from (f.input k i) 0 i.reads) o)) (nothing_first (f.output k i) 0 i.writes (λ j e. ap (λ g. g e) (h j)))
-    ∙ ap (or_else (f.inv k i)) (no_more (first_from (f.input k i) 0 i.reads))
-
-pub inv_parts : (t : Tables) (r : Rule) (k : ℕ) (i : Inv) → at_inv (tests t r) k i ≡ or_else ((tests t r).inv k i) (first_from ((tests t r).input k i) 0 i.reads)
-inv_parts t R.AbstractPlaces k i = at_inv_is (tests t R.AbstractPlaces) k i (λ j. refl)
-inv_parts t R.Parents k i = at_inv_is (tests t R.Parents) k i (λ j. refl)
-inv_parts t R.SharedParents k i = at_inv_is (tests t R.SharedParents) k i (λ j. refl)
-inv_parts t R.Inheritance k i = at_inv_is (tests t R.Inheritance) k i (λ j. refl)
-
--- what is found at the invocation as a whole, or else at its inputs
-pub inv_whole : (t : Tables) (r : Rule) (k : ℕ) (i : Inv) (y : ℕ × ℕ) → (tests t r).inv k i ≡ Some y → Some y ≡ at_inv (tests t r) k i
-inv_whole t r k i y e = sym (inv_parts t r k i ∙ ap (λ o. or_else o (first_from ((tests t r).input k i) 0 i.reads)) e)
-
-pub inv_inputs : (t : Tables) (r : Rule) (k : ℕ) (i : Inv) → (tests t r).inv k i ≡ None → first_from ((tests t r).input k i) 0 i.reads ≡ at_inv (tests t r) k i
-inv_inputs t r k i e = sym (inv_parts t r k i ∙ ap (λ o. or_else o (first_from ((tests t r).input k i) 0 i.reads)) e)
-
-pub no_input : (t : Tables) (r : Rule) (k : ℕ) (i : Inv) → judges_inputs r ≡ false → first_from ((tests t r).input k i) 0 i.reads ≡ None
-no_input t R.AbstractPlaces k i h = nothing_first ((tests t R.AbstractPlaces).input k i) 0 i.reads (λ j e. refl)
-no_input t R.Parents k i h = nothing_first ((tests t R.Parents).input k i) 0 i.reads (λ j e. refl)
-no_input t R.SharedParents k i h = nothing_first ((tests t R.SharedParents).input k i) 0 i.reads (λ j e. refl)
-no_input t R.Inheritance k i h = cc
-
--- nothing is found at a mode itself and its switches
-mode_silent : (t : Tables) (r : Rule) (m : ℕ) (x : Mode) → at_mode (tests t r) t m x ≡ None
-mode_silent t R.AbstractPlaces m x = nothing_first (at_switch (tests t R.AbstractPlaces) m) 0 t.switches (λ l w. left _ _ (nothing_first (at_read (tests t R.AbstractPlaces) m) 0 w.reads (λ j c. refl)))
-mode_silent t R.Parents m x = nothing_first (at_switch (tests t R.Parents) m) 0 t.switches (λ l w. left _ _ (nothing_first (at_read (tests t R.Parents) m) 0 w.reads (λ j c. refl)))
-mode_silent t R.SharedParents m x = nothing_first (at_switch (tests t R.SharedParents) m) 0 t.switches (λ l w. left _ _ (nothing_first (at_read (tests t R.SharedParents) m) 0 w.reads (λ j c. refl)))
-mode_silent t R.Inheritance m x = nothing_first (at_switch (tests t R.Inheritance) m) 0 t.switches (λ l w. left _ _ (nothing_first (at_read (tests t R.Inheritance) m) 0 w.reads (λ j c. refl)))
-
-pub mode_parts : (t : Tables) (r : Rule) (m : ℕ) (x : Mode) → in_mode (tests t r) (rule_number r) t m x ≡ first_from (inv_in_mode (tests t r) (rule_number r) x.«module» m) 0 t.invs
-mode_parts t r m x =
-    ap (λ o. or_else (first_from (inv_in_mode (tests t r) (rule_number r) x.«module» m) 0 t.invs) (told (rule_number r) x.«module» m None o)) (mode_silent t r m x)
-    ∙ no_more_faults (first_from (inv_in_mode (tests t r) (rule_number r) x.«module» m) 0 t.invs)
+pub test_silent : (t : Tables) (r : Rule) (m c : ℕ) → (tests t r).test m c ≡ None
+test_silent t R.AbstractPlaces m c = refl
+test_silent t R.Parents m c = refl
+test_silent t R.SharedParents m c = refl
+test_silent t R.Inheritance m c = refl
 
 -- ---- each rule's tests find exactly what breaks it
 

@@ -10,8 +10,8 @@ use Rattle.htl_model.specs.PortOrder.{feeds}
 use Rattle.htl_model.specs.PortWriters.{is_port}
 use Rattle.htl_model.specs.SecondWriters.{parent_mode}
 use Rattle.htl_model.specs.Tables.{Tables, mode_module, is_concrete, task_worst, release, window_end}
-use Rattle.htl_form.specs.First.{or_else, first_from, first_to}
-use Rattle.htl_form.specs.Found.{Found, unless}
+use Rattle.htl_model.specs.First.{or_else, first_from, first_to}
+use Rattle.htl_model.specs.Found.{Found, unless}
 use Rattle.htl_model.specs.Selected.{is_at}
 
 -- ---- 13

@@ -3,16 +3,15 @@
 
 mod answer;
 mod derived;
-mod items;
 pub mod laws;
 mod order;
 mod refining;
 mod roots;
 mod rule;
-mod search;
 mod selection;
 #[cfg(test)]
 mod tests;
+mod trial;
 
 pub use answer::refine;
 pub use derived::derive;

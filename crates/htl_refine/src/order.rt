@@ -1,28 +1,29 @@
 // What precedes what by ports, and the parents of the ports' writers.
-ghost use Rattle.std.specs.Prelude.{◌≡◌, ◌≤◌, ◌<◌, ◌+◌, ℕ, Option, Some, None, cond, length, get_or, slice_get};
+ghost use Rattle.std.specs.Prelude.{◌≡◌, ◌≤◌, ◌<◌, ◌+◌, ℕ, false, Option, Some, None, cond, length, get_or, slice_get};
 ghost use Rattle.std.specs.List.{list_any};
 ghost use Rattle.htl_model.specs.PortWriters.{is_port};
-ghost use Rattle.htl_form.specs.First.{or_else};
+ghost use Rattle.htl_model.specs.First.{or_else};
 ghost use Rattle.htl_form.specs.Rows.{IsRangeOf};
 ghost use Rattle.htl_model.specs.Bits.{cell};
 ghost use Rattle.htl_refine.specs.Refining.{precedes as precedes_of, writer_parent as writer_parent_of};
 ghost use Rattle.htl_refine.specs.Orders.{AreRowsBelow, ArePlaces, AreParents, IsPut, IsOrderOf};
 
-use crate::items::{inv_at, inv_count, mode_count};
-use htl_form::ranges::range_of;
-use htl_form::rows::{fill_rows, fill_writers, through_all};
+use htl_base::limits::{MAX_INVOCATIONS, MAX_MODE_INVOCATIONS, MAX_PORTS};
+use htl_form::ranges::count_from;
+use htl_form::rows::{clear_writers, fill_rows, fill_writers, through_all};
 use htl_model::bits::has_bit;
+use htl_model::items::{inv_at, inv_count, mode_count};
 use htl_model::{End, Tables};
 
 /// What is noted once over the tables, so that each input is judged in a few steps.
 #[derive(Drop)]
 pub struct Order {
     /// For each invocation a bit for each one of its mode that precedes it by the ports, by place in the mode.
-    pub rows: [u128; 2048],
+    pub rows: [u128; MAX_INVOCATIONS],
     /// For each invocation its place in its mode.
-    pub places: [u8; 2048],
+    pub places: [u8; MAX_INVOCATIONS],
     /// For each port the parent of the invocation that writes it.
-    pub parents: [Option<u16>; 4096],
+    pub parents: [Option<u16>; MAX_PORTS],
 }
 
 // ---- rows
@@ -51,20 +52,37 @@ fn put_places(base: usize, n: usize, places: &mut [u8])
     }
 }
 
-// The rows of the `n` invocations of a mode from `base` on, closed.
-fn mode_rows(t: &Tables, mode: u16, base: usize, n: usize, rows: &mut [u128; 128])
+// The rows of the `n` invocations of a mode from `base` on, closed. The table of writers is lent: it is empty before and after.
+fn mode_rows(t: &Tables, mode: u16, base: usize, n: usize, writers: &mut [u128], rows: &mut [u128])
     requires range { IsRangeOf t.now mode base n }
-    ensures { (b a : ℕ) → b < n → a < n → cell rows.new b a ≡ precedes_of t.now (base + a) (base + b) }
+    requires room { n ≤ length rows.old }
+    requires ports { length writers.old ≡ 4096 }
+    requires empty { (p q : ℕ) → cell writers.old p q ≡ false }
+    ensures closed { (b a : ℕ) → b < n → a < n → cell rows.new b a ≡ precedes_of t.now (base + a) (base + b) }
+    ensures len { length rows.new ≡ length rows.old }
+    ensures ports { length writers.new ≡ 4096 }
+    ensures empty { (p q : ℕ) → cell writers.new p q ≡ false }
 {
     t.keeps_ranges();
-    let mut writers = [0u128; 4096];
-    fill_writers(t, base, n, &mut writers);
-    fill_rows(t, mode, base, n, &writers, rows);
+    fill_writers(t, base, n, writers);
+    fill_rows(t, mode, base, n, writers, rows);
+    clear_writers(t, base, n, writers);
     through_all(rows, n);
 }
 
-// Notes the rows and places of one mode.
-fn note_mode(t: &Tables, mode: u16, rows: &mut [u128], places: &mut [u8])
+// Notes the rows and places of one mode, the `n` invocations from `base` on.
+fn note_mode(
+    t: &Tables,
+    mode: u16,
+    base: usize,
+    n: usize,
+    writers: &mut [u128],
+    rows: &mut [u128],
+    places: &mut [u8],
+)
+    requires range { IsRangeOf t.now mode base n }
+    requires ports { length writers.old ≡ 4096 }
+    requires empty { (p q : ℕ) → cell writers.old p q ≡ false }
     requires rows { length rows.old ≡ 2048 }
     requires places { length places.old ≡ 2048 }
     requires before { AreRowsBelow t.now mode rows.old places.old }
@@ -73,13 +91,15 @@ fn note_mode(t: &Tables, mode: u16, rows: &mut [u128], places: &mut [u8])
     ensures few { ArePlaces places.new }
     ensures len { length rows.new ≡ 2048 }
     ensures len_places { length places.new ≡ 2048 }
+    ensures ports { length writers.new ≡ 4096 }
+    ensures empty { (p q : ℕ) → cell writers.new p q ≡ false }
 {
     t.keeps_ranges();
-    let range = range_of(t, mode);
-    let mut closed = [0u128; 128];
-    mode_rows(t, mode, range.base, range.count, &mut closed);
-    put_rows(&closed, range.base, range.count, rows);
-    put_places(range.base, range.count, places);
+    let mut room = [0u128; MAX_MODE_INVOCATIONS];
+    let closed = &mut room[..n];
+    mode_rows(t, mode, base, n, writers, closed);
+    put_rows(closed, base, n, rows);
+    put_places(base, n, places);
 }
 
 // Notes them for all modes.
@@ -92,8 +112,13 @@ fn note_modes(t: &Tables, rows: &mut [u128], places: &mut [u8])
 {
     t.keeps_ranges();
     let modes = mode_count(t);
+    let mut writers = [0u128; MAX_PORTS];
+    let mut base = 0;
     for m in 0..modes {
-        note_mode(t, m as u16, rows, places);
+        let mode = m as u16;
+        let n = count_from(t, mode, base);
+        note_mode(t, mode, base, n, &mut writers, rows, places);
+        base += n;
     }
 }
 
@@ -140,10 +165,10 @@ impl Order {
     pub fn of(t: &Tables) -> Order
         ensures { IsOrderOf t.now result }
     {
-        let mut rows = [0u128; 2048];
-        let mut places = [0u8; 2048];
+        let mut rows = [0u128; MAX_INVOCATIONS];
+        let mut places = [0u8; MAX_INVOCATIONS];
         note_modes(t, &mut rows, &mut places);
-        let mut parents = [None; 4096];
+        let mut parents = [None; MAX_PORTS];
         note_parents(t, &mut parents);
         Order {
             rows,

@@ -1,7 +1,7 @@
 // The tests of the rules on refinement.
 ghost use Rattle.std.specs.Prelude.{◌≡◌, ◌≤◌, ◌<◌, ℕ, Some, length, slice_get};
 ghost use Rattle.std.specs.List.{list_any};
-ghost use Rattle.htl_form.specs.Found.{unless};
+ghost use Rattle.htl_model.specs.Found.{unless};
 ghost use Rattle.htl_refine.specs.Orders.{IsOrderOf};
 ghost use Rattle.htl_refine.specs.Refining.{refines as refines_of, is_refined as is_refined_of, place_fault as place_fault_of, is_abstract_at, parent_fault as parent_fault_of, clashes as clashes_of, clash_before as clash_before_of, first_clash as first_clash_of, shared_fault as shared_fault_of, unless_more as unless_more_of, unless_less as unless_less_of, excess as excess_of, excess_fault as excess_fault_of, order_fault as order_fault_of};
 ghost use Rattle.htl_model.specs.SecondWriters.{parent_mode as parent_mode_of};

@@ -4,14 +4,14 @@ use Rattle.htl_form.specs.Apart.{is_taken_end}
 use Rattle.htl_form.proofs.ApartLaws.{apart_is}
 use Rattle.htl_form.proofs.apart.is_apart.Goals as goal
 
-pub returns-then-once : goal.returns-then-once
-returns-then-once c = λ once.
+pub returns-then-once-clause-apart : goal.returns-then-once-clause-apart
+returns-then-once-clause-apart c = λ once.
     apart_is c.args.t.now c.args.mode c.args.base c.args.n c.args.n c.args.q c.args.taken.now c.keeps_ranges.ensures.ranges c.requires.range c.requires.within c.requires.within
     (c.requires.once once) c.requires.len c.requires.taken c.inv_at-inv.result.now c.inv_at-inv.ensures
     (ap (λ ends. list_any (is_taken_end c.args.taken.now) ends) (sym c.as_slice.ensures) ∙ sym c.some_taken.ensures ∙ c.if-some_taken.false)
 
-pub returns-else-once : goal.returns-else-once
-returns-else-once c = λ once.
+pub returns-else-once-clause-apart : goal.returns-else-once-clause-apart
+returns-else-once-clause-apart c = λ once.
     apart_is c.args.t.now c.args.mode c.args.base c.args.n (c.args.q + 1) c.args.q c.args.taken.now c.keeps_ranges.ensures.ranges c.requires.range c.requires.within (omega arith)
-    (c.are_written_once.ensures.0 once) c.requires.len c.requires.taken c.inv_at-inv.result.now c.inv_at-inv.ensures
+    (c.are_written_once.ensures.once.0 once) c.requires.len c.requires.taken c.inv_at-inv.result.now c.inv_at-inv.ensures
     (ap (λ ends. list_any (is_taken_end c.args.taken.now) ends) (sym c.as_slice.ensures) ∙ sym c.some_taken.ensures ∙ c.if-some_taken.false)

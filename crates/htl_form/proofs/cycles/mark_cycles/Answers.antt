@@ -1,15 +1,24 @@
-use Rattle.std.proofs.Common.{arith, rules}
+use Rattle.std.proofs.Common.{arith, rules, refl}
 use Rattle.htl_model.specs.Ranges.{IsInvInRange}
+use Rattle.htl_model.proofs.BitLaws.{no_bits}
+use Rattle.htl_model.proofs.StartLaws.{first_start}
 use Rattle.htl_form.proofs.Places.{all_at}
 use Rattle.htl_form.proofs.RangeLaws.{marked_more}
 use Rattle.htl_form.proofs.cycles.mark_cycles.Goals as goal
+
+pub loop-m-init : goal.loop-m-init
+loop-m-init c =
+    record { len = refl; start = first_start c.args.t.now; ports = search rules; empty = λ p q. no_bits 4096 p q; marked = λ k i at below. absurd (omega arith) }
 
 pub loop-m-preserved : goal.loop-m-preserved
 loop-m-preserved c =
     record {
       len = search rules;
-      marked = marked_more c.args.t.now c.loop-m.m c.range_of-range.result.base c.range_of-range.result.count c.loop-m.marks c.mark_mode.new.marks c.range_of-range.ensures
-          c.mark_mode.ensures c.loop-m.invariant.marked;
+      start = c.count_from-n.ensures.next;
+      ports = c.mark_mode.ensures.ports;
+      empty = c.mark_mode.ensures.empty;
+      marked = marked_more c.args.t.now c.loop-m.m c.loop-m.base c.count_from-n.result c.loop-m.marks c.mark_mode.new.marks c.count_from-n.ensures.range
+          c.mark_mode.ensures.marked c.loop-m.invariant.marked;
     }
 
 pub returns : goal.returns

@@ -1,7 +1,7 @@
 use Rattle.std.proofs.Common.{◌<◌, sym, ◌∙◌, arith, length}
 use Rattle.std.proofs.lemmas.Option.{get_or_from_slice_get}
 use Rattle.htl_form.specs.WriterFaults.{writer_before}
-use Rattle.htl_form.proofs.FirstLaws.{first_hit, first_miss}
+use Rattle.htl_model.proofs.FirstLaws.{first_hit, first_miss}
 use Rattle.htl_form.proofs.Places.{item_at}
 use Rattle.htl_form.proofs.writers.first_writer.Goals as goal
 

@@ -1,8 +1,0 @@
-use Rattle.std.proofs.Common.{◌≡◌, drop}
-use Rattle.htl_form.specs.First.{first_from}
-use Rattle.htl_form.specs.Search.{at_switch}
-use Rattle.htl_form.specs.Tests.{tests}
-use Rattle.htl_form.proofs.search.first_switch.Given as goal
-
-abbrev pub invariant-loop-l : goal.invariant-loop-l
-invariant-loop-l l = first_from (at_switch (tests l.t l.rule) l.m) l.l (drop l.l l.switches) ≡ first_from (at_switch (tests l.t l.rule) l.m) 0 l.switches
