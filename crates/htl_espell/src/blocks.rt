@@ -3,9 +3,11 @@ ghost use Rattle.std.specs.Prelude.{◌≡◌, ◌≤◌, ◌+◌, length, IfSom
 ghost use Rattle.htl_ecode.specs.Offsets.{OffsetsFit};
 ghost use Rattle.htl_ecode.specs.Departure.{fault_of};
 ghost use Rattle.htl_espell.specs.Checks.{block_of as block_of_both, block_read, begin_read, phase_departure};
+ghost use Rattle.htl_espell.specs.Slides.{AreSlides};
 
 use crate::calls::need_calls;
 use crate::needs::{need, turn, wait_for};
+use crate::slides::Slides;
 use htl_base::Time;
 use htl_ecode::offsets::{READS, WRITES, next_offset};
 use htl_ecode::{EFault, EInstr};
@@ -19,13 +21,16 @@ pub fn check_begin(
     t: &Tables,
     mode: u16,
     decide: u32,
+    known: &mut Slides,
 ) -> Result<(Option<u32>, Option<u32>), EFault>
-    requires { length code.now ≤ 4294967295 }
-    ensures { result ≡ begin_read code.now t.now decide mode at }
+    requires code { length code.now ≤ 4294967295 }
+    requires known { AreSlides code.now known.old.cells }
+    ensures targets { result ≡ begin_read code.now t.now decide mode at }
+    ensures known { AreSlides code.now known.new.cells }
 {
     let (place, writes) = wait_for(code, at, 0, WRITES, next_offset(t, mode, WRITES, 0))?;
     let (place, reads) = wait_for(code, place, 0, READS, next_offset(t, mode, READS, 0))?;
-    let place = turn(code, place, mode_period(t, mode) as Time, decide)?;
+    let place = turn(code, place, mode_period(t, mode) as Time, decide, known)?;
     need(code, place, EInstr::Return)?;
     Ok((writes, reads))
 }

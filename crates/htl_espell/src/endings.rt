@@ -3,9 +3,11 @@ ghost use Rattle.std.specs.Prelude.{◌≡◌, ◌≤◌, length};
 ghost use Rattle.htl_ecode.specs.Chains.{test_of, tests_of, asks_of};
 ghost use Rattle.htl_ecode.specs.Departure.{fault_of};
 ghost use Rattle.htl_espell.specs.Checks.{next_of, decide_read};
+ghost use Rattle.htl_espell.specs.Slides.{AreSlides};
 
 use crate::landing::arrive;
 use crate::needs::{ask, test};
+use crate::slides::Slides;
 use htl_ecode::decisions::{led, parent_of};
 use htl_ecode::{EFault, EInstr};
 use htl_model::lookup::mode_module;
@@ -31,12 +33,15 @@ fn need_test(
     mode: u16,
     k: u16,
     switch: &Switch,
+    known: &mut Slides,
 ) -> Result<u32, EFault>
-    requires { length code.now ≤ 4294967295 }
-    ensures { result ≡ next_of code.now at (test_of begin enters.now mode (k, switch.now)) }
+    requires code { length code.now ≤ 4294967295 }
+    requires known { AreSlides code.now known.old.cells }
+    ensures next { result ≡ next_of code.now at (test_of begin enters.now mode (k, switch.now)) }
+    ensures known { AreSlides code.now known.new.cells }
 {
     if switch.mode == mode {
-        test(code, at, k, led(begin, enters, mode, switch.target))
+        test(code, at, k, led(begin, enters, mode, switch.target), known)
     } else {
         Ok(at)
     }
@@ -50,15 +55,18 @@ fn need_tests(
     begin: u32,
     enters: &[u32],
     mode: u16,
+    known: &mut Slides,
 ) -> Result<u32, EFault>
-    requires { length code.now ≤ 4294967295 }
-    ensures { result ≡ next_of code.now at (tests_of t.now begin enters.now mode) }
+    requires code { length code.now ≤ 4294967295 }
+    requires known { AreSlides code.now known.old.cells }
+    ensures next { result ≡ next_of code.now at (tests_of t.now begin enters.now mode) }
+    ensures known { AreSlides code.now known.new.cells }
 {
     let switches = t.parts().switches.as_slice();
     let mut place = at;
     for k in 0..switches.len() {
         let switch = &switches[k];
-        place = need_test(code, place, begin, enters, mode, k as u16, switch)?;
+        place = need_test(code, place, begin, enters, mode, k as u16, switch, known)?;
     }
     Ok(place)
 }
@@ -71,11 +79,14 @@ pub fn check_decide(
     begin: u32,
     enters: &[u32],
     mode: u16,
+    known: &mut Slides,
 ) -> Result<(), EFault>
-    requires { length code.now ≤ 4294967295 }
-    ensures { fault_of result ≡ fault_of (decide_read code.now t.now begin enters.now mode at) }
+    requires code { length code.now ≤ 4294967295 }
+    requires known { AreSlides code.now known.old.cells }
+    ensures fault { fault_of result ≡ fault_of (decide_read code.now t.now begin enters.now mode at) }
+    ensures known { AreSlides code.now known.new.cells }
 {
     let place = need_asks(code, at, t, mode)?;
-    let end = need_tests(code, place, t, begin, enters, mode)?;
-    arrive(code, end, begin, end)
+    let end = need_tests(code, place, t, begin, enters, mode, known)?;
+    arrive(code, end, begin, end, known)
 }

@@ -4,9 +4,11 @@ ghost use Rattle.htl_model.specs.Lists.{joined, numbered};
 ghost use Rattle.htl_ecode.specs.Departure.{fault_of};
 ghost use Rattle.htl_espell.specs.Checks.{next_of, enter_read};
 ghost use Rattle.htl_espell.specs.Parts.{child_wants};
+ghost use Rattle.htl_espell.specs.Slides.{AreSlides};
 
 use crate::landing::arrive;
 use crate::needs::need;
+use crate::slides::Slides;
 use htl_ecode::modes::is_child;
 use htl_ecode::{EFault, EInstr};
 use htl_model::{Module, Tables};
@@ -44,11 +46,14 @@ pub fn check_enter(
     t: &Tables,
     mode: u16,
     begin: u32,
+    known: &mut Slides,
 ) -> Result<(), EFault>
-    requires { length code.now ≤ 4294967295 }
-    ensures { fault_of result ≡ fault_of (enter_read code.now t.now begin mode at) }
+    requires code { length code.now ≤ 4294967295 }
+    requires known { AreSlides code.now known.old.cells }
+    ensures fault { fault_of result ≡ fault_of (enter_read code.now t.now begin mode at) }
+    ensures known { AreSlides code.now known.new.cells }
 {
     let place = need(code, at, EInstr::Enter { mode })?;
     let end = need_children(code, place, t, mode)?;
-    arrive(code, end, begin, end)
+    arrive(code, end, begin, end, known)
 }

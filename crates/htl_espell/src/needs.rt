@@ -5,8 +5,10 @@ ghost use Rattle.htl_ecode.specs.Instructions.{target_in as target_in_of, delay_
 ghost use Rattle.htl_ecode.specs.Steps.{reach, met_by, leaving};
 ghost use Rattle.htl_ecode.specs.Departure.{fault_of};
 ghost use Rattle.htl_espell.specs.Checks.{next_of, ends_of, waited, next_met, ends_met};
+ghost use Rattle.htl_espell.specs.Slides.{AreSlides};
 
 use crate::landing::{arrive, land};
+use crate::slides::Slides;
 use htl_base::Time;
 use htl_ecode::offsets::SWITCHES;
 use htl_ecode::{EFault, EInstr, EKind};
@@ -109,9 +111,18 @@ pub fn wait_for(
 }
 
 // Whether the instruction at a place sets the trigger of a round's end, and its target arrives at the anchor: the address after it.
-fn turn_at(code: &[EInstr], place: u32, i: EInstr, delay: Time, anchor: u32) -> Result<u32, EFault>
-    requires { place < 4294967295 }
-    ensures { result ≡ next_met (met_by code.now (Turns delay anchor) place i) }
+fn turn_at(
+    code: &[EInstr],
+    place: u32,
+    i: EInstr,
+    delay: Time,
+    anchor: u32,
+    known: &mut Slides,
+) -> Result<u32, EFault>
+    requires place { place < 4294967295 }
+    requires known { AreSlides code.now known.old.cells }
+    ensures next { result ≡ next_met (met_by code.now (Turns delay anchor) place i) }
+    ensures known { AreSlides code.now known.new.cells }
 {
     let target = target_in(i);
     let round = delay_in(i);
@@ -127,38 +138,63 @@ fn turn_at(code: &[EInstr], place: u32, i: EInstr, delay: Time, anchor: u32) -> 
             kind: EKind::Delay,
         });
     }
-    arrive(code, place, anchor, target)?;
+    arrive(code, place, anchor, target, known)?;
     Ok(next)
 }
 
 /// Reads the trigger of a round's end, whose target arrives at an anchor: the address after it.
-pub fn turn(code: &[EInstr], at: u32, delay: Time, anchor: u32) -> Result<u32, EFault>
-    requires { length code.now ≤ 4294967295 }
-    ensures { result ≡ next_of code.now at (Turns delay anchor ∷ []) }
+pub fn turn(
+    code: &[EInstr],
+    at: u32,
+    delay: Time,
+    anchor: u32,
+    known: &mut Slides,
+) -> Result<u32, EFault>
+    requires code { length code.now ≤ 4294967295 }
+    requires known { AreSlides code.now known.old.cells }
+    ensures next { result ≡ next_of code.now at (Turns delay anchor ∷ []) }
+    ensures known { AreSlides code.now known.new.cells }
 {
     let place = land(code, at)?;
-    turn_at(code, place, code[place as usize], delay, anchor)
+    turn_at(code, place, code[place as usize], delay, anchor, known)
 }
 
 // Whether the instruction at a place is the jump of a switch, and its target arrives at the anchor: the address after it.
-fn test_at(code: &[EInstr], place: u32, i: EInstr, switch: u16, anchor: u32) -> Result<u32, EFault>
-    requires { place < 4294967295 }
-    ensures { result ≡ next_met (met_by code.now (Tests switch 0 anchor) place i) }
+fn test_at(
+    code: &[EInstr],
+    place: u32,
+    i: EInstr,
+    switch: u16,
+    anchor: u32,
+    known: &mut Slides,
+) -> Result<u32, EFault>
+    requires place { place < 4294967295 }
+    requires known { AreSlides code.now known.old.cells }
+    ensures next { result ≡ next_met (met_by code.now (Tests switch 0 anchor) place i) }
+    ensures known { AreSlides code.now known.new.cells }
 {
     let target = target_in(i);
     let want = EInstr::JumpIf { switch, target };
     let next = need_at(place, i, want)?;
-    arrive(code, place, anchor, target)?;
+    arrive(code, place, anchor, target, known)?;
     Ok(next)
 }
 
 /// Reads the jump of a switch, whose target arrives at an anchor: the address after it.
-pub fn test(code: &[EInstr], at: u32, switch: u16, anchor: u32) -> Result<u32, EFault>
-    requires { length code.now ≤ 4294967295 }
-    ensures { result ≡ next_of code.now at (Tests switch 0 anchor ∷ []) }
+pub fn test(
+    code: &[EInstr],
+    at: u32,
+    switch: u16,
+    anchor: u32,
+    known: &mut Slides,
+) -> Result<u32, EFault>
+    requires code { length code.now ≤ 4294967295 }
+    requires known { AreSlides code.now known.old.cells }
+    ensures next { result ≡ next_of code.now at (Tests switch 0 anchor ∷ []) }
+    ensures known { AreSlides code.now known.new.cells }
 {
     let place = land(code, at)?;
-    test_at(code, place, code[place as usize], switch, anchor)
+    test_at(code, place, code[place as usize], switch, anchor, known)
 }
 
 // Whether `Leave` and `Return` are read from an address.

@@ -13,7 +13,7 @@ returns-in_err-check_mode c =
     let departs : c.from_residual.result ≡ Err c.in_err-check_mode.field-0.0 = search rules in
     ap fault_of departs
     ∙ mode_departs c.args.t.now c.args.code.now c.in_err-check_mode.field-0.0 c.loop-m.m (mode_below c.args.t.now c.parts.result.now c.as_slice-modes.result.now c.loop-m.m c.parts.ensures.value c.as_slice-modes.ensures c.loop-m-test.true)
-    c.loop-m.invariant c.in_err-check_mode.ensures
+    c.loop-m.invariant.kept c.in_err-check_mode.ensures.fault
 
 pub loop-m-preserved : goal.loop-m-preserved
-loop-m-preserved c = modes_more c.args.t.now c.args.code.now c.loop-m.m c.loop-m.invariant c.in_ok-check_mode.ensures
+loop-m-preserved c = record { kept = modes_more c.args.t.now c.args.code.now c.loop-m.m c.loop-m.invariant.kept c.in_ok-check_mode.ensures.fault; known = c.in_ok-check_mode.ensures.known }

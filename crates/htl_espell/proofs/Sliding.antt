@@ -1,0 +1,104 @@
+-- Chains of plain jumps of which it is known where they lead.
+use Rattle.std.proofs.Common.{◌≡◌, ◌<◌, ◌≤◌, ◌⊎◌, ◌+◌, ◌-◌, arith, length, ℕ, zero, suc, Bool, true, false, eqb, List, Option, Some, None, get_or, set, replicate, refl, sym, ap, subst, ◌∙◌, inl, inr}
+use Rattle.std.specs.Prelude.{slice_get}
+use Rattle.std.proofs.lemmas.Bool.{eqb-true, eq-eqb}
+use Rattle.std.proofs.lemmas.List.{get_or-set_same, get_or-set_other}
+use Rattle.std.proofs.lemmas.Option.{slice_get-get_or, slice_get_within, get_or_from_slice_get}
+use Rattle.htl_ecode.specs.declared.instr.EInstr.{EInstr}
+use Rattle.htl_ecode.specs.declared.instr.EInstr.TheVariants as I
+use Rattle.htl_ecode.specs.Jumps.{jump_to, arrive}
+use Rattle.htl_ecode.specs.Departure.{fault_of}
+use Rattle.htl_espell.specs.declared.slides.Slide.{Slide}
+use Rattle.htl_espell.specs.Slides.{jump_at, slid, no_slide, AreSlides}
+use Rattle.htl_espell.proofs.Jumping.{arrived, arrive_by_jump}
+
+jumps_to : (code : List EInstr) (at target : ℕ) (d : EInstr) → get_or code at d ≡ I.Jump target → at < length code → jump_at code at ≡ Some target
+jumps_to code at target d is h =
+    ap (λ (o : Option EInstr). elim o as (λ _. Option ℕ) [ Some i ↦ jump_to i | None ↦ None ]) (slice_get-get_or code at d h ∙ ap (λ i. Some i) is)
+
+-- one jump less
+pub slid_on : (code : List EInstr) (at target left anchor : ℕ) (d : EInstr) → get_or code at d ≡ I.Jump target → at < length code → 0 < left
+    → slid code at left ≡ Some anchor → slid code target (left - 1) ≡ Some anchor
+slid_on code at target zero anchor d is h some e = absurd (omega arith)
+slid_on code at target (suc n) anchor d is h some e =
+    let less : suc n - 1 ≡ n = omega arith in
+    ap (slid code target) less ∙ sym (ap (λ (o : Option ℕ). elim o as (λ _. Option ℕ) [ Some x ↦ slid code x n | None ↦ None ]) (jumps_to code at target d is h)) ∙ e
+
+-- one chain behind another
+pub slid_joined : (code : List EInstr) (n m from at anchor : ℕ) → slid code from n ≡ Some at → slid code at m ≡ Some anchor → slid code from (n + m) ≡ Some anchor
+slid_joined code zero m from at anchor e f =
+    let same : from ≡ at = cc in
+    let count : m ≡ zero + m = omega arith in
+    subst (λ k. slid code from k ≡ Some anchor) count (ap (λ x. slid code x m) same ∙ f)
+slid_joined code (suc n) m from at anchor e f =
+    let count : suc (n + m) ≡ suc n + m = omega arith in
+    subst (λ k. slid code from k ≡ Some anchor) count (by (jump_at code from) e (λ x g. slid_joined code n m x at anchor g f))
+  where
+    by : (o : Option ℕ) → elim o as (λ _. Option ℕ) [ Some x ↦ slid code x n | None ↦ None ] ≡ Some at → ((x : ℕ) → slid code x n ≡ Some at → slid code x (n + m) ≡ Some anchor)
+        → elim o as (λ _. Option ℕ) [ Some x ↦ slid code x (n + m) | None ↦ None ] ≡ Some anchor
+    by (Some x) g later = later x g
+    by None g later = cc
+
+-- one jump more at the end
+pub slid_more : (code : List EInstr) (n from at target : ℕ) (d : EInstr) → slid code from n ≡ Some at → get_or code at d ≡ I.Jump target → at < length code → slid code from (n + 1) ≡ Some target
+slid_more code n from at target d e is h =
+    slid_joined code n 1 from at target e (ap (λ (o : Option ℕ). elim o as (λ _. Option ℕ) [ Some x ↦ slid code x 0 | None ↦ None ]) (jumps_to code at target d is h))
+
+-- where at most as many jumps lead to an anchor as may come, it is arrived at
+pub slides_in : (code : List EInstr) (asker anchor from n left at : ℕ) → slid code at n ≡ Some anchor → n ≤ left → None ≡ fault_of (arrive code asker anchor from left at)
+slides_in code asker anchor from zero left at e few = arrived code asker anchor from left at (let same : at ≡ anchor = cc in same)
+slides_in code asker anchor from (suc n) left at e few = by_test (eqb at anchor) refl (λ x g. slides_in code asker anchor from n (left - 1) x g (omega arith))
+  where
+    by_jump : (o : Option EInstr) → slice_get code at ≡ o → (at ≡ anchor → ⊥) → ((x : ℕ) → slid code x n ≡ Some anchor → None ≡ fault_of (arrive code asker anchor from (left - 1) x))
+        → elim (elim o as (λ _. Option ℕ) [ Some i ↦ jump_to i | None ↦ None ]) as (λ _. Option ℕ) [ Some x ↦ slid code x n | None ↦ None ] ≡ Some anchor
+        → None ≡ fault_of (arrive code asker anchor from left at)
+    by_jump None there away later g = cc
+    by_jump (Some (I.Jump x)) there away later g =
+        later x g
+        ∙ arrive_by_jump code asker anchor from left at x (I.Jump x) away (get_or_from_slice_get code at (I.Jump x) (I.Jump x) there) (slice_get_within code at (I.Jump x) there) (omega arith)
+    by_jump (Some (I.CallWrite a b)) there away later g = cc
+    by_jump (Some (I.CallRead a b)) there away later g = cc
+    by_jump (Some (I.Release a)) there away later g = cc
+    by_jump (Some (I.Future a b c)) there away later g = cc
+    by_jump (Some (I.JumpIf a b)) there away later g = cc
+    by_jump (Some (I.IfMode a b)) there away later g = cc
+    by_jump (Some (I.Enter a)) there away later g = cc
+    by_jump (Some I.Leave) there away later g = cc
+    by_jump (Some (I.Fork a)) there away later g = cc
+    by_jump (Some I.Return) there away later g = cc
+
+    other : eqb at anchor ≡ false → at ≡ anchor → ⊥
+    other e same = let no : true ≡ false = sym (eq-eqb at anchor same) ∙ e in cc
+
+    by_test : (b : Bool) → eqb at anchor ≡ b → ((x : ℕ) → slid code x n ≡ Some anchor → None ≡ fault_of (arrive code asker anchor from (left - 1) x))
+        → None ≡ fault_of (arrive code asker anchor from left at)
+    by_test true g later = arrived code asker anchor from left at (eqb-true at anchor g)
+    by_test false g later = by_jump (slice_get code at) refl (other g) later e
+
+-- ---- what is held
+
+-- one more is held
+pub slide_put : (code : List EInstr) (cells : List Slide) (k : ℕ) (s : Slide) → AreSlides code cells → k < length cells → slid code s.place s.jumps ≡ Some s.anchor → AreSlides code (set cells k s)
+slide_put code cells k s all within holds j = by (order j k)
+  where
+    order : (j k : ℕ) → (j ≡ k) ⊎ ((j ≡ k) → ⊥)
+    order j k = by_eqb (eqb j k) refl
+      where
+        by_eqb : (b : Bool) → eqb j k ≡ b → (j ≡ k) ⊎ ((j ≡ k) → ⊥)
+        by_eqb true e = inl (eqb-true j k e)
+        by_eqb false e = inr (λ same. (let no : true ≡ false = sym (eq-eqb j k same) ∙ e in cc))
+
+    by : (j ≡ k) ⊎ ((j ≡ k) → ⊥) → slid code (get_or (set cells k s) j no_slide).place (get_or (set cells k s) j no_slide).jumps ≡ Some (get_or (set cells k s) j no_slide).anchor
+    by (inl same) =
+        let there : get_or (set cells k s) j no_slide ≡ s = ap (λ i. get_or (set cells k s) i no_slide) same ∙ get_or-set_same cells k s no_slide within in
+        subst (λ (x : Slide). slid code x.place x.jumps ≡ Some x.anchor) (sym there) holds
+    by (inr apart) = subst (λ (x : Slide). slid code x.place x.jumps ≡ Some x.anchor) (sym (get_or-set_other cells k j s no_slide apart)) (all j)
+
+-- nothing is held
+pub no_slides : (code : List EInstr) (n : ℕ) → AreSlides code (replicate n no_slide)
+no_slides code n j = subst (λ (x : Slide). slid code x.place x.jumps ≡ Some x.anchor) (sym (filled n j)) refl
+  where
+    filled : (n j : ℕ) → get_or (replicate n no_slide) j no_slide ≡ no_slide
+    filled zero j = refl
+    filled (suc n) zero = refl
+    filled (suc n) (suc j) = filled n j
