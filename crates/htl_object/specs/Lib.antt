@@ -9,6 +9,7 @@ pub mod Laws
 pub mod Lists
 pub mod Modes
 pub mod Modules
+pub mod Notes
 pub mod Objects
 pub mod Ports
 pub mod Ranges

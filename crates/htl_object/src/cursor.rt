@@ -168,7 +168,7 @@ impl<'a> Cursor<'a> {
         ensures { Gives (λ x. x) (option_at self.old) self.new result }
     {
         let n = self.u16()?;
-        if n == 65_535 { Ok(None) } else { Ok(Some(n)) }
+        if n == u16::MAX { Ok(None) } else { Ok(Some(n)) }
     }
 
     /// Just this text.

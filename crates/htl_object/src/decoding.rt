@@ -8,9 +8,10 @@ ghost use Rattle.htl_object.specs.declared.object.Object.{Object};
 use crate::assembly::assemble;
 use crate::code_reader::e_code;
 use crate::cursor::{Cursor, bad};
-use crate::items::items;
+use crate::items::{items, noted_items};
 use crate::lists::{Counts, Lists};
 use crate::malformed::{Bad, MalKind, Malformed, Stop};
+use crate::notes::InvNotes;
 use crate::object::Object;
 use crate::selections::{function_count, is_selections};
 use crate::table_reader::{
@@ -99,7 +100,8 @@ fn lists(alloc: Global, cursor: &mut Cursor<'_>) -> Result<Lists, Stop>
         tasks: &tasks,
         ports: &ports,
     };
-    let invs = items(alloc, cursor, &around, n.invs as usize)?;
+    let mut noted = InvNotes::new();
+    let invs = noted_items(alloc, cursor, &around, &mut noted, n.invs as usize)?;
     let around = SwitchAround {
         alloc,
         comms: n.comms,
@@ -162,7 +164,8 @@ fn read(alloc: Global, bytes: &[u8]) -> Result<Lists, DecodeFault>
 }
 
 /// The object in range that has these bytes. Malformed exactly where none has them: the first bad field, with the offset
-/// of its first byte. Want of memory may stand in place of either.
+/// of its first byte. Want of memory may stand in place of either. One pass over the bytes; a name is compared with those of its
+/// list that come before, and the positions of each mode are counted over all invocations.
 pub fn decode(alloc: Global, bytes: &[u8]) -> Result<Object, DecodeFault>
     ensures found { IfOk result (λ o. IsObject o × (bytes.now ≡ object_bytes o)) }
     ensures exact { IsDecoded bytes.now result }

@@ -11,6 +11,7 @@ mod items;
 pub mod laws;
 mod lists;
 mod malformed;
+mod notes;
 mod object;
 mod selections;
 mod table_reader;

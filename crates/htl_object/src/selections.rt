@@ -35,7 +35,9 @@ fn selections(modes: &[Mode], modules: &[Module]) -> u64
     let mut found = 1u64;
     for k in 0..modules.len() {
         if is_root(modules, k) {
-            found = found.saturating_mul(mode_count(modes, k) as u64).min(1_025);
+            found = found
+                .saturating_mul(mode_count(modes, k) as u64)
+                .min(MAX_SELECTIONS as u64 + 1);
         }
     }
     found
@@ -72,7 +74,9 @@ fn positions(modes: &[Mode], modules: &[Module], invs: &[Inv]) -> usize
     let mut found = 0usize;
     for k in 0..modules.len() {
         if is_root(modules, k) {
-            found = found.saturating_add(widest(modes, invs, k)).min(129);
+            found = found
+                .saturating_add(widest(modes, invs, k))
+                .min(MAX_POSITIONS + 1);
         }
     }
     found

@@ -1,5 +1,5 @@
 // Items of tables out of bytes, each read by what stands before it.
-ghost use Rattle.std.specs.Prelude.{◌≡◌, ◌==◌, ◌&&◌};
+ghost use Rattle.std.specs.Prelude.{◌≡◌, ◌<◌, ◌≤◌, ◌==◌, ◌&&◌, true, count_by};
 ghost use Rattle.std.specs.List.{list_any};
 ghost use Rattle.std.specs.Str.{bytes_eq};
 ghost use Rattle.htl_object.specs.Reading.{Gives};
@@ -9,11 +9,13 @@ ghost use Rattle.htl_object.specs.Modules.{is_named_module, is_mode_of, is_withi
 ghost use Rattle.htl_object.specs.Ports.{last_mode, is_named_port, last_owner, is_named_task};
 ghost use Rattle.htl_object.specs.Invocations.{is_port_of, last_inv_mode, is_inv_mode, is_inv_task, is_parent, last_switch_mode, is_target, is_read};
 ghost use Rattle.htl_object.specs.Fields.{is_owner};
+ghost use Rattle.htl_object.specs.Notes.{MarksRead, CountsMode, IsNoted};
 
 use crate::cursor::{Cursor, bad};
-use crate::items::{Item, list};
+use crate::items::{Item, NotedItem, list, noted_list};
 use crate::malformed::{MalKind, Stop};
-use htl_base::limits::{MAX_ARGUMENTS, MAX_ENDS, MAX_MODE_INVOCATIONS, MAX_PERIOD};
+use crate::notes::{InvNotes, ReadMarks};
+use htl_base::limits::{MAX_ARGUMENTS, MAX_ENDS, MAX_LEVELS, MAX_MODE_INVOCATIONS, MAX_PERIOD};
 use htl_base::{Name, Seq, Ty};
 use htl_model::{Comm, End, Inv, Mode, Module, Port, Switch, Task};
 use std::alloc::Global;
@@ -153,7 +155,7 @@ impl<'a> Item<ModuleAround<'a>> for Module {
         }
         let left = cursor.left();
         let parent = cursor.option()?;
-        if !is_within(7, around.modes, before, parent) {
+        if !is_within(MAX_LEVELS as u8 - 1, around.modes, before, parent) {
             return Err(bad(MalKind::Index, left));
         }
         let left = cursor.left();
@@ -328,28 +330,50 @@ fn last_inv_mode(before: &[Inv]) -> u16
     }
 }
 
+// How many invocations before are of the mode, where none is of a later one.
+fn count_in(noted: &InvNotes, before: &[Inv], mode: u16) -> usize
+    requires noted { CountsMode noted.now before.now }
+    requires later { noted.now.mode ≤ mode }
+    ensures { result ≡ count_by (λ i. i.mode == mode) before.now }
+{
+    if mode == noted.mode { noted.count } else { 0 }
+}
+
 // The mode may have one more invocation behind those before.
-fn is_inv_mode(modes: usize, before: &[Inv], mode: u16) -> bool
-    ensures { result ≡ is_inv_mode modes before.now mode }
+fn is_inv_mode(modes: usize, noted: &InvNotes, before: &[Inv], mode: u16) -> bool
+    requires { IsNoted noted.now before.now }
+    ensures holds { result ≡ is_inv_mode modes before.now mode }
+    ensures later { result ≡ true → noted.now.mode ≤ mode }
+    ensures few { result ≡ true → count_by (λ i. i.mode == mode) before.now < 128 }
 {
     (mode as usize) < modes
-        && last_inv_mode(before) <= mode
-        && before.iter().filter(|i| i.mode == mode).count() < MAX_MODE_INVOCATIONS
+        && noted.mode <= mode
+        && count_in(noted, before, mode) < MAX_MODE_INVOCATIONS
 }
 
-fn is_invoked(before: &[Inv], mode: u16, task: u16) -> bool
-    ensures { result ≡ list_any (λ i. (i.mode == mode) && (i.task == task)) before.now }
+fn is_invoked(noted: &InvNotes, before: &[Inv], task: u16) -> bool
+    requires { CountsMode noted.now before.now }
+    ensures { result ≡ list_any (λ i. (i.mode == noted.now.mode) && (i.task == task)) before.now }
 {
-    before.iter().any(|i| i.mode == mode && i.task == task)
+    if (task as usize) < noted.invoked.len() {
+        noted.invoked[task as usize]
+    } else {
+        before
+            .iter()
+            .any(|i| i.mode == noted.mode && i.task == task)
+    }
 }
 
-fn is_inv_task(modes: &[Mode], tasks: &[Task], before: &[Inv], mode: u16, task: u16) -> bool
-    ensures { result ≡ is_inv_task modes.now tasks.now before.now mode task }
+// The task is one of the mode's module, and the mode doesn't invoke it yet.
+fn is_inv_task(modes: &[Mode], tasks: &[Task], noted: &InvNotes, before: &[Inv], task: u16) -> bool
+    requires { CountsMode noted.now before.now }
+    ensures { result ≡ is_inv_task modes.now tasks.now before.now noted.now.mode task }
 {
     match tasks.get(task as usize) {
         None => false,
         Some(t) => {
-            is_mode_of(modes, t.module as usize, mode as usize) && !is_invoked(before, mode, task)
+            is_mode_of(modes, t.module as usize, noted.mode as usize)
+                && !is_invoked(noted, before, task)
         }
     }
 }
@@ -374,20 +398,29 @@ pub struct InvAround<'a> {
     pub ports: &'a [Port],
 }
 
-impl<'a> Item<InvAround<'a>> for Inv {
+impl<'a> NotedItem<InvAround<'a>, InvNotes> for Inv {
     ghost use Rattle.htl_object.specs.Invocations.{inv_at};
+    ghost use Rattle.htl_object.specs.Notes.{IsNoted};
 
     ghost item_at = { λ around. inv_at around.comms around.invs around.modes.now around.tasks.now around.ports.now };
 
-    fn read(cursor: &mut Cursor<'_>, around: &InvAround<'a>, before: &[Inv]) -> Result<Inv, Stop> {
+    ghost notes = { IsNoted };
+
+    fn read(
+        cursor: &mut Cursor<'_>,
+        around: &InvAround<'a>,
+        before: &[Inv],
+        noted: &mut InvNotes,
+    ) -> Result<Inv, Stop> {
         let left = cursor.left();
         let mode = cursor.u16()?;
-        if !is_inv_mode(around.modes.len(), before, mode) {
+        if !is_inv_mode(around.modes.len(), noted, before, mode) {
             return Err(bad(MalKind::Index, left));
         }
+        noted.turn_to(before, mode);
         let left = cursor.left();
         let task = cursor.u16()?;
-        if !is_inv_task(around.modes, around.tasks, before, mode, task) {
+        if !is_inv_task(around.modes, around.tasks, noted, before, task) {
             return Err(bad(MalKind::Index, left));
         }
         let left = cursor.left();
@@ -402,6 +435,7 @@ impl<'a> Item<InvAround<'a>> for Inv {
         };
         let reads = list(around.alloc, cursor, MAX_ENDS, &ends)?;
         let writes = list(around.alloc, cursor, MAX_ENDS, &ends)?;
+        noted.add(task);
         Ok(Inv {
             mode,
             task,
@@ -433,24 +467,31 @@ fn is_target(modes: &[Mode], mode: u16, target: u16) -> bool
     }
 }
 
-fn is_already_read(before: &[u16], comm: u16) -> bool
+fn is_already_read(noted: &ReadMarks, before: &[u16], comm: u16) -> bool
+    requires { MarksRead noted.now.marks before.now }
     ensures { result ≡ list_any (λ c. c == comm) before.now }
 {
-    before.iter().any(|c| *c == comm)
+    if (comm as usize) < noted.marks.len() {
+        noted.marks[comm as usize]
+    } else {
+        before.iter().any(|c| *c == comm)
+    }
 }
 
-fn is_read(comms: u16, before: &[u16], comm: u16) -> bool
+fn is_read(comms: u16, noted: &ReadMarks, before: &[u16], comm: u16) -> bool
+    requires { MarksRead noted.now.marks before.now }
     ensures { result ≡ is_read comms before.now comm }
 {
-    comm < comms && !is_already_read(before, comm)
+    comm < comms && !is_already_read(noted, before, comm)
 }
 
 /// How many communicators there are.
 #[derive(Drop)]
 pub struct CommCount(pub u16);
 
-impl Item<CommCount> for u16 {
+impl NotedItem<CommCount, ReadMarks> for u16 {
     ghost use Rattle.std.specs.Prelude.{ℕ};
+    ghost use Rattle.htl_object.specs.Notes.{MarksRead};
     ghost use Rattle.std.specs.Int.{w16};
     ghost use Rattle.htl_object.specs.declared.malformed.MalKind.TheVariants.{Index};
     ghost use Rattle.htl_object.specs.Reading.{field_at, number_at};
@@ -458,12 +499,20 @@ impl Item<CommCount> for u16 {
 
     ghost item_at = { λ around before. field_at Index (is_read around.0 before) (number_at w16) };
 
-    fn read(cursor: &mut Cursor<'_>, around: &CommCount, before: &[u16]) -> Result<u16, Stop> {
+    ghost notes = { λ noted before. MarksRead noted.marks before };
+
+    fn read(
+        cursor: &mut Cursor<'_>,
+        around: &CommCount,
+        before: &[u16],
+        noted: &mut ReadMarks,
+    ) -> Result<u16, Stop> {
         let left = cursor.left();
         let n = cursor.u16()?;
-        if !is_read(around.0, before, n) {
+        if !is_read(around.0, noted, before, n) {
             return Err(bad(MalKind::Index, left));
         }
+        noted.mark(n);
         Ok(n)
     }
 }
@@ -493,11 +542,13 @@ impl<'a> Item<SwitchAround<'a>> for Switch {
         if !is_target(around.modes, mode, target) {
             return Err(bad(MalKind::Index, left));
         }
-        let reads = list(
+        let mut noted = ReadMarks::new();
+        let reads = noted_list(
             around.alloc,
             cursor,
             MAX_ARGUMENTS,
             &CommCount(around.comms),
+            &mut noted,
         )?;
         Ok(Switch {
             mode,

@@ -118,7 +118,7 @@ pub fn put_option(out: &mut Vec<u8>, n: Option<u16>) -> Result<(), AllocError>
     ensures { OnOk result (out.new.items ≡ out.old.items ++ option_bytes n) }
 {
     match n {
-        None => put16(out, 65_535),
+        None => put16(out, u16::MAX),
         Some(n) => put16(out, n),
     }
 }
