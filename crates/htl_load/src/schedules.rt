@@ -23,14 +23,7 @@ fn walk(t: &Tables, selection: u32, s: &Schedule, period: Time) -> Result<(), Mi
     ensures accepted { OnOk result (IsAccepted (abstract_jobs_of t.now selection) (round_length t.now) s.now.instrs) }
     ensures missed { IfErr result (λ m. IsFirstMiss (abstract_jobs_of t.now selection) (round_length t.now) s.now.instrs m) }
 {
-    let mut jobs = [Job {
-        present: false,
-        inv: 0,
-        release: 0,
-        end: 0,
-        worst: 0,
-        preds: 0,
-    }; MAX_POSITIONS];
+    let mut jobs = [Job::ABSENT; MAX_POSITIONS];
     let count = abstract_jobs(t, selection, &mut jobs);
     let mut finish = [0; MAX_POSITIONS];
     worst(&jobs[..count], s, period, &mut finish[..count])
