@@ -3,7 +3,7 @@ use Rattle.std.proofs.Common.{◌≡◌, ◌⊎◌, ℕ, List, Result, Ok, Err, 
 use Rattle.htl_compile.proofs.Completeness.{back_only_memory, compile_only_memory, one_back_fault, one_compile_fault}
 use Rattle.htl_compile.proofs.SourceLaws.{tables_unique, typed_or_fault, fault_unique}
 use Rattle.htl_compile.specs.Building.{IsBackFault, IsCompileFault, IsCompiledTo}
-use Rattle.htl_compile.specs.Built.{built, AreSchedulable, CanBuild}
+use Rattle.htl_compile.specs.Built.{built, AreSchedulable}
 use Rattle.htl_compile.specs.Coded.{coded, AreTyped}
 use Rattle.htl_compile.specs.Sources.{IsTablesOf, IsFrontFault, IsRead}
 use Rattle.htl_compile.specs.declared.building.BackFault.{BackFault}
@@ -53,10 +53,10 @@ back_refused t f told is range (Err e) formed free h = one_of_back t f e.1 range
 
 -- ---- compile
 
-pub compile_only : {V : Type 0} (items : V → List ℕ) (bytes : List ℕ) (t : Tables) → IsTablesOf bytes t → CanBuild t → (r : Result V CompileFault)
+pub compile_only : {V : Type 0} (items : V → List ℕ) (bytes : List ℕ) (t : Tables) → IsTablesOf bytes t → AreTyped t → Formed t → AreSchedulable t → (r : Result V CompileFault)
     → IfOk r (λ v. IsCompiledTo bytes (items v)) → IfErr r (IsCompileFault bytes) → MatchResult r (λ v. items v ≡ object_bytes (built t)) (λ f. f ≡ compile.Memory)
-compile_only items bytes t source can (Ok v) h i = h.is ∙ ap (λ (u : Tables). object_bytes (built u)) (tables_unique bytes h.tables t h.of source)
-compile_only items bytes t source can (Err e) h i = compile_only_memory bytes t e source can i
+compile_only items bytes t source typed formed free (Ok v) h i = h.is ∙ ap (λ (u : Tables). object_bytes (built u)) (tables_unique bytes h.tables t h.of source)
+compile_only items bytes t source typed formed free (Err e) h i = compile_only_memory bytes t e source typed formed free i
 
 one_of_compile : (bytes : List ℕ) (f g : CompileFault) → (f ≡ compile.Memory → ⊥) → IsCompileFault bytes f → IsCompileFault bytes g → (g ≡ f) ⊎ (g ≡ compile.Memory)
 one_of_compile bytes f (compile.Source g) told is other = inl (one_compile_fault bytes (compile.Source g) f (λ e. cc) told other is)
@@ -66,5 +66,5 @@ one_of_compile bytes f compile.Memory told is other = inr refl
 
 pub compile_refused : {V : Type 0} (items : V → List ℕ) (bytes : List ℕ) (f : CompileFault) → (f ≡ compile.Memory → ⊥) → IsCompileFault bytes f → (r : Result V CompileFault)
     → IfOk r (λ v. IsCompiledTo bytes (items v)) → IfErr r (IsCompileFault bytes) → MatchResult r (λ _. ⊥) (λ g. (g ≡ f) ⊎ (g ≡ compile.Memory))
-compile_refused items bytes f told is (Ok v) h i = told (compile_only_memory bytes h.tables f h.of h.can is)
+compile_refused items bytes f told is (Ok v) h i = told (compile_only_memory bytes h.tables f h.of h.can.can.typed h.can.formed h.can.schedulable is)
 compile_refused items bytes f told is (Err e) h i = one_of_compile bytes f e told is i

@@ -1,7 +1,8 @@
 -- What has no fault but want of memory, and that there is one fault at most.
 use Rattle.std.proofs.Common.{◌≡◌, ◌<◌, ◌≤◌, ◌⊎◌, ℕ, List, refl, sym, ◌∙◌, ap, subst, arith, pos, inl, inr}
 use Rattle.htl_compile.proofs.SourceLaws.{tables_unique, typed_or_fault, fault_unique}
-use Rattle.htl_compile.specs.Building.{IsBackFault, HasBackFault, unbuilt_of}
+use Rattle.htl_compile.proofs.SourceTables.{source_tables_fit}
+use Rattle.htl_compile.specs.Building.{IsBackFault, IsFirstOverload, HasBackFault, unbuilt_of}
 use Rattle.htl_compile.specs.Laws.{FrontOnlyMemory, BackOnlyMemory, CompileOnlyMemory, OneFrontFault, OneBackFault, OneCompileFault}
 use Rattle.htl_compile.specs.Sources.{IsTablesOf, IsSourceFault}
 use Rattle.htl_compile.specs.declared.source_fault.SourceFault.{SourceFault}
@@ -11,10 +12,8 @@ use Rattle.htl_compile.specs.declared.compiling.CompileFault.TheVariants as comp
 use Rattle.htl_compile.specs.declared.source.FrontFault.TheVariants as front
 use Rattle.htl_edf.proofs.Kept.{one_report}
 use Rattle.htl_edf.specs.Lists.{tightened}
-use Rattle.htl_edf.specs.Plan.{ExplainsPlan}
 use Rattle.htl_edf.specs.Windows.{Reported}
 use Rattle.htl_form.proofs.OneFault.{one_form_fault}
-use Rattle.htl_edf.specs.declared.plan.PlanFault.TheVariants.{Overload}
 use Rattle.htl_model.specs.Broken.{KeptTo, IsFirstBroken, site_of}
 use Rattle.htl_model.specs.Ranges.{AreInRange}
 use Rattle.htl_model.specs.Tables.{Tables}
@@ -30,7 +29,7 @@ front_only_memory bytes t front.Memory source typed h = refl
 
 pub back_only_memory : BackOnlyMemory
 back_only_memory t (back.IllFormed f) formed free h = absurd (formed h.law (site_of f h.part) f.have f.need h.broken)
-back_only_memory t (back.Unschedulable sel a b demand) formed free h = absurd (free sel h.1.0 a (pos b) demand h.1.2.here.over)
+back_only_memory t (back.Unschedulable sel a b demand) formed free h = absurd (free sel h.1.there a (pos b) demand h.1.here.over)
 back_only_memory t back.Memory formed free h = refl
 
 -- a fault of the source's tables is a fault of these tables
@@ -38,13 +37,13 @@ of_these : (bytes : List ℕ) (t : Tables) (f : BackFault) → IsTablesOf bytes 
 of_these bytes t f source h = subst (λ (u : Tables). IsBackFault u f) (tables_unique bytes h.tables t h.of source) h.fault
 
 pub compile_only_memory : CompileOnlyMemory
-compile_only_memory bytes t (compile.Source f) source can h = absurd (typed_or_fault bytes t f source can.can.typed h)
-compile_only_memory bytes t (compile.IllFormed f) source can h =
-    absurd (let no : back.IllFormed f ≡ back.Memory = back_only_memory t (back.IllFormed f) can.formed can.schedulable (of_these bytes t (back.IllFormed f) source h) in cc)
-compile_only_memory bytes t (compile.Unschedulable sel a b demand) source can h =
+compile_only_memory bytes t (compile.Source f) source typed formed free h = absurd (typed_or_fault bytes t f source typed h)
+compile_only_memory bytes t (compile.IllFormed f) source typed formed free h =
+    absurd (let no : back.IllFormed f ≡ back.Memory = back_only_memory t (back.IllFormed f) formed free (of_these bytes t (back.IllFormed f) source h) in cc)
+compile_only_memory bytes t (compile.Unschedulable sel a b demand) source typed formed free h =
     let f : BackFault = back.Unschedulable sel a b demand in
-    absurd (let no : back.Unschedulable sel a b demand ≡ back.Memory = back_only_memory t f can.formed can.schedulable (of_these bytes t f source h) in cc)
-compile_only_memory bytes t compile.Memory source can h = refl
+    absurd (let no : back.Unschedulable sel a b demand ≡ back.Memory = back_only_memory t f formed free (of_these bytes t f source h) in cc)
+compile_only_memory bytes t compile.Memory source typed formed free h = refl
 
 -- ---- one fault
 
@@ -77,16 +76,16 @@ order : (a b : ℕ) → (a < b) ⊎ (a ≡ b) ⊎ (b < a)
 order a b = grind arith
 
 -- a first overload is one
-one_overload : (t : Tables) (j k a c b d m n : ℕ) → ExplainsPlan t (Overload j a b m) → ExplainsPlan t (Overload k c d n)
+one_overload : (t : Tables) (j k a c b d m n : ℕ) → IsFirstOverload t j a b m → IsFirstOverload t k c d n
     → ◌≡◌ {A = BackFault} (back.Unschedulable j a b m) (back.Unschedulable k c d n)
 one_overload t j k a c b d m n p q = by (order j k)
   where
     by : (j < k) ⊎ (j ≡ k) ⊎ (k < j) → ◌≡◌ {A = BackFault} (back.Unschedulable j a b m) (back.Unschedulable k c d n)
-    by (inl less) = absurd (q.1 j less a (pos b) m p.2.here.over)
-    by (inr (inr more)) = absurd (p.1 k more c (pos d) n q.2.here.over)
+    by (inl less) = absurd (q.free j less a (pos b) m p.here.over)
+    by (inr (inr more)) = absurd (p.free k more c (pos d) n q.here.over)
     by (inr (inl same)) =
-        let other : Reported (tightened (abstract_jobs t j)) c (pos d) n = subst (λ (s : ℕ). Reported (tightened (abstract_jobs t s)) c (pos d) n) (sym same) q.2.here in
-        let one = one_report (tightened (abstract_jobs t j)) a c (pos b) (pos d) m n p.2.here other in
+        let other : Reported (tightened (abstract_jobs t j)) c (pos d) n = subst (λ (s : ℕ). Reported (tightened (abstract_jobs t s)) c (pos d) n) (sym same) q.here in
+        let one = one_report (tightened (abstract_jobs t j)) a c (pos b) (pos d) m n p.here other in
         let from : a ≡ c = one.0 in
         let to : pos b ≡ pos d = one.1 in
         let demand : m ≡ n = one.2 in
@@ -105,11 +104,11 @@ one_back_fault t back.Memory g range p q h i = absurd (p refl)
 
 -- a fault of its tables is no fault of a source
 not_both : (bytes : List ℕ) (f : SourceFault) (g : BackFault) → IsSourceFault bytes f → HasBackFault bytes g → ⊥
-not_both bytes f g h i = typed_or_fault bytes i.tables f i.of i.can.typed h
+not_both bytes f g h i = typed_or_fault bytes i.tables f i.of i.typed h
 
 -- two faults of a source's tables
 two_faults : (bytes : List ℕ) (f g : BackFault) → (f ≡ back.Memory → ⊥) → (g ≡ back.Memory → ⊥) → HasBackFault bytes f → HasBackFault bytes g → f ≡ g
-two_faults bytes f g p q h i = one_back_fault i.tables f g i.can.tables.ranges p q (of_these bytes i.tables f i.of h) i.fault
+two_faults bytes f g p q h i = one_back_fault i.tables f g (source_tables_fit bytes i.tables i.short i.of).ranges p q (of_these bytes i.tables f i.of h) i.fault
 
 ill_formed_told : (f : FormFault) → back.IllFormed f ≡ back.Memory → ⊥
 ill_formed_told f e = cc

@@ -1,5 +1,5 @@
 -- From what the tables with code say to what their source says.
-use Rattle.std.proofs.Common.{◌≡◌, List, ℕ, Result, Ok, Err, OnOk, ◌∙◌, ap, subst}
+use Rattle.std.proofs.Common.{◌≡◌, ◌≤◌, List, ℕ, length, Result, Ok, Err, OnOk, ◌∙◌, ap, subst}
 use Rattle.htl_compile.proofs.CodedLaws.{first_coded}
 use Rattle.htl_compile.proofs.PlanLaws.{overload_same, free_same}
 use Rattle.htl_compile.specs.Building.{IsBackFault, IsCompileFault, IsCompiledTo, unbuilt_of}
@@ -21,16 +21,17 @@ formed_after t (Ok x) kept = formed t kept
 formed_after t (Err e) h = h
 
 -- a fault of the tables with code is one of the source's tables
-pub back_of_source : (bytes : List ℕ) (u : Tables) (f : BackFault) → IsFront bytes u → IsBackFault u f → IsCompileFault bytes (unbuilt_of f)
-back_of_source bytes u f h i = by f (subst (λ (v : Tables). IsBackFault v f) h.is i)
+pub back_of_source : (bytes : List ℕ) (u : Tables) (f : BackFault) → length bytes ≤ 1048576 → IsFront bytes u → IsBackFault u f → IsCompileFault bytes (unbuilt_of f)
+back_of_source bytes u f short h i = by f (subst (λ (v : Tables). IsBackFault v f) h.is i)
   where
     by : (g : BackFault) → IsBackFault (coded h.tables) g → IsCompileFault bytes (unbuilt_of g)
-    by (back.IllFormed g) x = record { tables = h.tables; of = h.source; can = h.can; fault = first_coded h.tables g x }
+    by (back.IllFormed g) x = record { short = short; tables = h.tables; of = h.source; typed = h.can.typed; fault = first_coded h.tables g x }
     by (back.Unschedulable sel a b demand) x =
         record {
+          short = short;
           tables = h.tables;
           of = h.source;
-          can = h.can;
+          typed = h.can.typed;
           fault = (formed_same h.tables (codes h.tables) h.tables.functions x.0, overload_same h.tables (codes h.tables) sel a b demand x.1);
         }
     by back.Memory x = tt

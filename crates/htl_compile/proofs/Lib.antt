@@ -9,4 +9,5 @@ pub mod FunctionTokens
 pub mod PhaseLaws
 pub mod PlanLaws
 pub mod SourceLaws
+pub mod SourceTables
 pub mod TokenPlaces

@@ -2,10 +2,9 @@
 use Rattle.std.proofs.Common.{◌≡◌, ◌<◌, ℕ, suc, List, [], ◌∷◌, length, slice_get, Some, refl, sym, ◌∙◌, ap, subst, arith, pos}
 use Rattle.std.proofs.lemmas.Option.{slice_get_within}
 use Rattle.htl_compile.proofs.CodedLaws.{list_to_at}
-use Rattle.htl_compile.specs.Building.{IsBackFault, unplanned_of}
+use Rattle.htl_compile.specs.Building.{IsBackFault, IsFirstOverload, unplanned_of}
 use Rattle.htl_compile.specs.Built.{schedule_of, schedules, AreSchedulable}
 use Rattle.htl_compile.specs.declared.building.BackFault.{BackFault}
-use Rattle.htl_edf.specs.Faults.{NoneIsAccepted}
 use Rattle.htl_edf.specs.Lists.{tightened}
 use Rattle.htl_edf.specs.Plan.{ArePlanned, ExplainsPlan}
 use Rattle.htl_edf.specs.Windows.{Reported, NoOverload}
@@ -15,7 +14,7 @@ use Rattle.htl_model.proofs.Listed.{length-list_to}
 use Rattle.htl_model.proofs.SameRanges.{selection_count_same}
 use Rattle.htl_model.specs.Broken.{Formed}
 use Rattle.htl_model.specs.Exchanged.{with_functions}
-use Rattle.htl_model.specs.Selections.{selection_count, round_length}
+use Rattle.htl_model.specs.Selections.{selection_count}
 use Rattle.htl_model.specs.Tables.{Tables, Fun}
 use Rattle.htl_walk.proofs.SameJobs.{abstract_jobs_same}
 use Rattle.htl_walk.specs.Jobs.{abstract_jobs}
@@ -48,7 +47,8 @@ planned_free t ss p = λ sel less. (p.each sel less).2.fits
 
 -- an overload of tables that keep the form rules is a fault of theirs
 pub unplanned_is : (t : Tables) (e : PlanFault) (f : BackFault) → Formed t → ExplainsPlan t e → f ≡ unplanned_of e → IsBackFault t f
-unplanned_is t (Overload sel a b demand) f formed h is = subst (IsBackFault t) (sym is) (formed, h)
+unplanned_is t (Overload sel a b demand) f formed h is =
+    subst (IsBackFault t) (sym is) (formed, record { there = h.0; free = h.1; here = h.2.here })
 unplanned_is t PlanMemory f formed h is = subst (IsBackFault t) (sym is) tt
 
 -- ---- whatever the functions are
@@ -58,14 +58,12 @@ free_same t fs free = λ sel less.
     subst (λ (js : List Job). NoOverload (tightened js)) (sym (abstract_jobs_same t fs sel))
     (free sel (subst (λ (n : ℕ). sel < n) (selection_count_same t fs) less))
 
-pub overload_same : (t : Tables) (fs : List Fun) (sel a b demand : ℕ) → ExplainsPlan (with_functions t fs) (Overload sel a b demand) → ExplainsPlan t (Overload sel a b demand)
+pub overload_same : (t : Tables) (fs : List Fun) (sel a b demand : ℕ) → IsFirstOverload (with_functions t fs) sel a b demand → IsFirstOverload t sel a b demand
 overload_same t fs sel a b demand h =
     let jobs : (k : ℕ) → abstract_jobs (with_functions t fs) k ≡ abstract_jobs t k = λ k. sym (abstract_jobs_same t fs k) in
-    let count : selection_count (with_functions t fs) ≡ selection_count t = sym (selection_count_same t fs) in (
-      omega (arith, count, h.0),
-      λ k less. subst (λ (js : List Job). NoOverload (tightened js)) (jobs k) (h.1 k less),
-      record {
-        here = subst (λ (js : List Job). Reported (tightened js) a (pos b) demand) (jobs sel) h.2.here;
-        refused = subst (λ (js : List Job). NoneIsAccepted js (round_length t)) (jobs sel) h.2.refused;
-      },
-    )
+    let count : selection_count (with_functions t fs) ≡ selection_count t = sym (selection_count_same t fs) in
+    record {
+      there = omega (arith, count, h.there);
+      free = λ k less. subst (λ (js : List Job). NoOverload (tightened js)) (jobs k) (h.free k less);
+      here = subst (λ (js : List Job). Reported (tightened js) a (pos b) demand) (jobs sel) h.here;
+    }

@@ -1,11 +1,11 @@
 -- The tables and the fault of a source.
-use Rattle.std.proofs.Common.{◌≡◌, ℕ, List, slice_get, Some, refl, sym, ◌∙◌, ap, subst}
+use Rattle.std.proofs.Common.{◌≡◌, ℕ, List, [], ◌∷◌, ◌++◌, slice_get, Some, refl, sym, ◌∙◌, ap, subst}
 use Rattle.htl_base.proofs.Firsts.{first-unique}
 use Rattle.htl_compile.proofs.FunctionTokens.{IsTold, not_all_typed, one_function_fault}
 use Rattle.htl_compile.specs.Coded.{AreTyped}
 use Rattle.htl_compile.specs.FunctionFaults.{IsFirstFault}
 use Rattle.htl_compile.specs.Laws.{OneTables}
-use Rattle.htl_compile.specs.Sources.{Reads, BeginsAt, IsTablesOf, IsNameFaultOf, IsFunctionFaultOf, IsSourceFault}
+use Rattle.htl_compile.specs.Sources.{Reads, BeginsAt, BeginsOrEndsAt, IsTablesOf, IsNameFaultOf, IsFunctionFaultOf, IsSourceFault}
 use Rattle.htl_compile.specs.declared.source_fault.SourceFault.{SourceFault}
 use Rattle.htl_compile.specs.declared.source_fault.SourceFault.TheVariants as fault
 use Rattle.htl_func.specs.declared.compiler.FnFault.{FnFault}
@@ -17,7 +17,8 @@ use Rattle.htl_names.specs.NameRules.{IsFirstNameFault, AreNamesRight}
 use Rattle.htl_names.specs.declared.fault.NameFault.{NameFault}
 use Rattle.htl_names.specs.declared.fault.NameFault.TheVariants as name
 use Rattle.htl_parse.proofs.Whole.{one_tree-law}
-use Rattle.htl_parse.specs.Answers.{Spell}
+use Rattle.htl_parse.proofs.Stopping.{misfit-unique}
+use Rattle.htl_parse.specs.Answers.{Spell, IsMisfit}
 use Rattle.htl_parse.specs.Runs.{IsLong, IsFirstLong}
 use Rattle.htl_text.proofs.FirstFault.{Tokens-sound, Faults-unique}
 use Rattle.htl_text.proofs.OneCut.{Tokens-unique}
@@ -57,7 +58,7 @@ abbrev of_text : LexFault → SourceFault
 of_text (lex.Char at) = fault.Char at
 of_text (lex.Number at) = fault.Number at
 of_text (lex.NameLong at) = fault.NameLong at
-of_text lex.Memory = fault.Syntax
+of_text lex.Memory = fault.Syntax 0
 
 -- a broken name rule, as a fault of a source with these tokens
 abbrev IsOfNames : TokenList → NameFault → SourceFault → Type 0
@@ -83,7 +84,7 @@ told t fn_fault.Memory f h = h
 data Stage (bytes : List ℕ) (f : SourceFault) : Type 0 where
   text : (l : LexFault) → Faults bytes l → of_text l ≡ f → Stage bytes f
   long : (at : ℕ) → IsSourceFault bytes (fault.Long at) → fault.Long at ≡ f → Stage bytes f
-  tree : IsSourceFault bytes fault.Syntax → fault.Syntax ≡ f → Stage bytes f
+  tree : (at : ℕ) → IsSourceFault bytes (fault.Syntax at) → fault.Syntax at ≡ f → Stage bytes f
   names : (t : TokenList) (n : NameFault) → IsNameFaultOf bytes t n → IsOfNames t n f → Stage bytes f
   functions : (t : TokenList) (e : FnFault) → IsFunctionFaultOf bytes t e → IsOfFunctions t e f → Stage bytes f
 
@@ -93,7 +94,7 @@ stage bytes (fault.Char at) p = text (lex.Char at) p refl
 stage bytes (fault.Number at) p = text (lex.Number at) p refl
 stage bytes (fault.NameLong at) p = text (lex.NameLong at) p refl
 stage bytes (fault.Long at) p = long at p refl
-stage bytes fault.Syntax p = tree p refl
+stage bytes (fault.Syntax at) p = tree at p refl
 stage bytes (fault.Twice at) p = names p.0 (name.Twice p.1) p.2 (at, p.3, refl)
 stage bytes (fault.Unknown at) p = names p.0 (name.Unknown p.1) p.2 (at, p.3, refl)
 stage bytes (fault.Kind at) p = names p.0 (name.Kind p.1) p.2 (at, p.3, refl)
@@ -112,8 +113,8 @@ no_long bytes a t p reads =
     let same : p.0 ≡ t = Tokens-unique bytes p.0 t p.1 reads.tokens in
     reads.short p.2 (subst (λ (v : TokenList). IsFirstLong v.tokens p.2) same p.3).long
 
-no_syntax : (bytes : List ℕ) (t : TokenList) (ps : List PlainProgram) → IsSourceFault bytes fault.Syntax → Reads bytes t → Spell t.tokens ps → ⊥
-no_syntax bytes t ps p reads spelled =
+no_syntax : (bytes : List ℕ) (at : ℕ) (t : TokenList) (ps : List PlainProgram) → IsSourceFault bytes (fault.Syntax at) → Reads bytes t → Spell t.tokens ps → ⊥
+no_syntax bytes at t ps p reads spelled =
     let same : t ≡ p.0 = Tokens-unique bytes t p.0 reads.tokens p.1.tokens in
     p.2 ps (subst (λ (v : TokenList). Spell v.tokens ps) same spelled)
 
@@ -135,7 +136,7 @@ typed_or_fault bytes t f p typed q = by (stage bytes f q)
     by : Stage bytes f → ⊥
     by (text l faults e) = no_text bytes l p.list faults p.reads.tokens
     by (long at is e) = no_long bytes at p.list is p.reads
-    by (tree is e) = no_syntax bytes p.list p.programs is p.reads p.spelled
+    by (tree at is e) = no_syntax bytes at p.list p.programs is p.reads p.spelled
     by (names u n is e) = no_names bytes u p.list n p.programs is p.reads p.spelled p.named
     by (functions u e is of) = no_functions bytes u e t (told u e f of) is p typed
 
@@ -146,6 +147,13 @@ one_long bytes a b p q =
     let same : q.0 ≡ p.0 = Tokens-unique bytes q.0 p.0 q.1 p.1 in
     let second = subst (λ (v : TokenList). IsFirstLong v.tokens q.2 × BeginsAt v q.2 b) same (q.3, q.4) in
     begins_once p.0 p.2 q.2 a b (first-unique (IsLong p.0.tokens) p.2 q.2 p.3.long second.0.long p.3.first second.0.first) p.4 second.1
+
+one_syntax : (bytes : List ℕ) (a b : ℕ) → IsSourceFault bytes (fault.Syntax a) → IsSourceFault bytes (fault.Syntax b) → a ≡ b
+one_syntax bytes a b p q =
+    let same : q.0 ≡ p.0 = same_list bytes p.0 q.0 p.1 q.1 in
+    let second = subst (λ (v : TokenList). IsMisfit v.tokens q.3 × BeginsOrEndsAt v q.3 b) same (q.4, q.5) in
+    let place : p.3 ≡ q.3 = misfit-unique p.0.tokens p.3 q.3 p.4 second.0 in
+    let both : Some a ≡ Some b = sym p.5 ∙ ap (slice_get (p.0.offsets ++ p.0.end ∷ [])) place ∙ second.1 in cc
 
 one_of_names : (t : TokenList) (n : NameFault) (f g : SourceFault) → IsOfNames t n f → IsOfNames t n g → f ≡ g
 one_of_names t (name.Twice k) f g p q = sym p.2 ∙ ap fault.Twice (begins_once t k k p.0 q.0 refl p.1 q.1) ∙ q.2
@@ -180,27 +188,27 @@ fault_unique bytes f g p q = by (stage bytes f p) (stage bytes g q)
     by : Stage bytes f → Stage bytes g → f ≡ g
     by (text l is e) (text m other d) = sym e ∙ ap of_text (Faults-unique bytes l m is other) ∙ d
     by (text l is e) (long at other d) = absurd (no_text bytes l other.0 is other.1)
-    by (text l is e) (tree other d) = absurd (no_text bytes l other.0 is other.1.tokens)
+    by (text l is e) (tree b other d) = absurd (no_text bytes l other.0 is other.1.tokens)
     by (text l is e) (names t n other d) = absurd (no_text bytes l t is other.reads.tokens)
     by (long at is e) (text l other d) = absurd (no_text bytes l is.0 other is.1)
     by (long at is e) (long other also d) = sym e ∙ ap fault.Long (one_long bytes at other is also) ∙ d
-    by (long at is e) (tree other d) = absurd (no_long bytes at other.0 is other.1)
+    by (long at is e) (tree b other d) = absurd (no_long bytes at other.0 is other.1)
     by (long at is e) (names t n other d) = absurd (no_long bytes at t is other.reads)
-    by (tree is e) (text l other d) = absurd (no_text bytes l is.0 other is.1.tokens)
-    by (tree is e) (long at other d) = absurd (no_long bytes at is.0 other is.1)
-    by (tree is e) (tree other d) = sym e ∙ d
-    by (tree is e) (names t n other d) = absurd (no_syntax bytes t other.programs is other.reads other.spelled)
+    by (tree at is e) (text l other d) = absurd (no_text bytes l is.0 other is.1.tokens)
+    by (tree at is e) (long b other d) = absurd (no_long bytes b is.0 other is.1)
+    by (tree at is e) (tree b also d) = sym e ∙ ap fault.Syntax (one_syntax bytes at b is also) ∙ d
+    by (tree at is e) (names t n other d) = absurd (no_syntax bytes at t other.programs is other.reads other.spelled)
     by (names t n is e) (text l other d) = absurd (no_text bytes l t other is.reads.tokens)
     by (names t n is e) (long at other d) = absurd (no_long bytes at t other is.reads)
-    by (names t n is e) (tree other d) = absurd (no_syntax bytes t is.programs other is.reads is.spelled)
+    by (names t n is e) (tree b other d) = absurd (no_syntax bytes b t is.programs other is.reads is.spelled)
     by (names t n is e) (names u m other d) = one_names bytes t u n m f g is other e d
     by (text l is e) (functions t n other d) = absurd (no_text bytes l t is other.reads.tokens)
     by (long at is e) (functions t n other d) = absurd (no_long bytes at t is other.reads)
-    by (tree is e) (functions t n other d) = absurd (no_syntax bytes t other.programs is other.reads other.spelled)
+    by (tree at is e) (functions t n other d) = absurd (no_syntax bytes at t other.programs is other.reads other.spelled)
     by (names t n is e) (functions u m other d) = absurd (no_names bytes t u n other.programs is other.reads other.spelled other.named)
     by (functions t n is e) (text l other d) = absurd (no_text bytes l t other is.reads.tokens)
     by (functions t n is e) (long at other d) = absurd (no_long bytes at t other is.reads)
-    by (functions t n is e) (tree other d) = absurd (no_syntax bytes t is.programs other is.reads is.spelled)
+    by (functions t n is e) (tree b other d) = absurd (no_syntax bytes b t is.programs other is.reads is.spelled)
     by (functions t n is e) (names u m other d) = absurd (no_names bytes u t m is.programs other is.reads is.spelled is.named)
     by (functions t n is e) (functions u m other d) = one_functions bytes t u n m f g is other e d
 

@@ -1,18 +1,22 @@
 -- Why no object is built of tables, and why none is compiled of a source.
-use Rattle.std.specs.Prelude.{◌≡◌, ℕ, List}
+use Rattle.std.specs.Prelude.{◌≡◌, ◌<◌, ◌≤◌, ℕ, List, length, pos}
+use Rattle.htl_base.specs.declared.limits.TheConstants.{MAX_SOURCE}
 use Rattle.htl_compile.specs.Built.{built, CanBuild}
-use Rattle.htl_compile.specs.Coded.{CanCode}
+use Rattle.htl_compile.specs.Coded.{AreTyped}
 use Rattle.htl_compile.specs.Sources.{IsTablesOf, IsSourceFault}
 use Rattle.htl_compile.specs.declared.building.BackFault.{BackFault}
 use Rattle.htl_compile.specs.declared.building.BackFault.TheVariants as back
 use Rattle.htl_compile.specs.declared.compiling.CompileFault.{CompileFault}
 use Rattle.htl_compile.specs.declared.compiling.CompileFault.TheVariants as compile
-use Rattle.htl_edf.specs.Plan.{ExplainsPlan}
+use Rattle.htl_edf.specs.Lists.{tightened}
+use Rattle.htl_edf.specs.Windows.{Reported, NoOverload}
 use Rattle.htl_edf.specs.declared.plan.PlanFault.{PlanFault}
 use Rattle.htl_edf.specs.declared.plan.PlanFault.TheVariants.{Overload, Memory as PlanMemory}
 use Rattle.htl_model.specs.Broken.{Formed, IsFirstBroken}
+use Rattle.htl_model.specs.Selections.{selection_count}
 use Rattle.htl_model.specs.Tables.{Tables}
 use Rattle.htl_object.specs.Objects.{IsObject, object_bytes}
+use Rattle.htl_walk.specs.Jobs.{abstract_jobs}
 
 -- ---- of tables
 
@@ -21,10 +25,17 @@ abbrev pub unplanned_of : PlanFault → BackFault
 unplanned_of (Overload sel a b demand) = back.Unschedulable sel a b demand
 unplanned_of PlanMemory = back.Memory
 
+-- This root selection is the first that is overloaded, and of its overloaded intervals this is the one that is told. That no
+-- schedule whatever is accepted for it is the law NoneForOverloaded.
+pub record IsFirstOverload (t : Tables) (sel a b demand : ℕ) : Type 0 where
+  pub there : sel < selection_count t
+  pub free : (k : ℕ) → k < sel → NoOverload (tightened (abstract_jobs t k))
+  pub here : Reported (tightened (abstract_jobs t sel)) a (pos b) demand
+
 -- the first form rule that is broken; where none is, the first root selection that is overloaded; want of memory is free
 abbrev pub IsBackFault : Tables → BackFault → Type 0
 IsBackFault t (back.IllFormed f) = IsFirstBroken t f
-IsBackFault t (back.Unschedulable sel a b demand) = Formed t × ExplainsPlan t (Overload sel a b demand)
+IsBackFault t (back.Unschedulable sel a b demand) = Formed t × IsFirstOverload t sel a b demand
 IsBackFault t back.Memory = Unit {0}
 
 -- ---- of a source
@@ -37,11 +48,12 @@ pub record IsCompiledTo (source bytes : List ℕ) : Type 0 where
   pub object : IsObject (built tables)
   pub is : bytes ≡ object_bytes (built tables)
 
--- the source has tables with typed functions, and this is their fault
+-- the source isn't too long and has tables with typed functions, and this is their fault
 pub record HasBackFault (source : List ℕ) (f : BackFault) : Type 0 where
+  pub short : length source ≤ MAX_SOURCE
   pub tables : Tables
   pub of : IsTablesOf source tables
-  pub can : CanCode tables
+  pub typed : AreTyped tables
   pub fault : IsBackFault tables f
 
 -- the source's fault; where it has none, that of its tables; want of memory is free

@@ -1,8 +1,9 @@
 -- The laws of compiling.
-use Rattle.std.specs.Prelude.{◌≡◌, ℕ, List}
+use Rattle.std.specs.Prelude.{◌≡◌, ◌<◌, ◌≤◌, ℕ, ℤ, List, length}
+use Rattle.htl_base.specs.declared.limits.TheConstants.{MAX_SOURCE}
 use Rattle.htl_compile.specs.Built.{built, AreSchedulable, CanBuild}
 use Rattle.htl_compile.specs.Building.{IsBackFault, IsCompileFault}
-use Rattle.htl_compile.specs.Coded.{coded, AreTyped}
+use Rattle.htl_compile.specs.Coded.{coded, AreTyped, AreSourceTables}
 use Rattle.htl_compile.specs.Sources.{IsTablesOf, IsFrontFault}
 use Rattle.htl_compile.specs.declared.building.BackFault.{BackFault}
 use Rattle.htl_compile.specs.declared.building.BackFault.TheVariants as back
@@ -10,11 +11,16 @@ use Rattle.htl_compile.specs.declared.compiling.CompileFault.{CompileFault}
 use Rattle.htl_compile.specs.declared.compiling.CompileFault.TheVariants as compile
 use Rattle.htl_compile.specs.declared.source.FrontFault.{FrontFault}
 use Rattle.htl_compile.specs.declared.source.FrontFault.TheVariants as front
-use Rattle.htl_model.specs.Broken.{Formed}
+use Rattle.htl_edf.specs.Faults.{NoneIsAccepted}
+use Rattle.htl_edf.specs.Lists.{tightened}
+use Rattle.htl_edf.specs.Windows.{Overloaded}
+use Rattle.htl_model.specs.Broken.{Formed, KeepsLimits}
 use Rattle.htl_model.specs.Exchanged.{SameRuns}
 use Rattle.htl_model.specs.Ranges.{AreInRange}
+use Rattle.htl_model.specs.Selections.{selection_count, round_length}
 use Rattle.htl_model.specs.Tables.{Tables}
 use Rattle.htl_object.specs.Accepted.{IsAccepted}
+use Rattle.htl_walk.specs.Jobs.{abstract_jobs}
 
 -- what is built is accepted
 abbrev pub BuiltIsAccepted : Type 0
@@ -27,6 +33,16 @@ CodedRunsTheSame = (t : Tables) → AreInRange t → SameRuns t (coded t)
 -- a source has one list of tables at most
 abbrev pub OneTables : Type 0
 OneTables = (bytes : List ℕ) (t u : Tables) → IsTablesOf bytes t → IsTablesOf bytes u → t ≡ u
+
+-- the tables of a source that isn't too long are in range and keep the limits, and their functions can be compiled
+abbrev pub SourceTablesFit : Type 0
+SourceTablesFit = (bytes : List ℕ) (t : Tables) → length bytes ≤ MAX_SOURCE → IsTablesOf bytes t → AreSourceTables t
+
+-- no S code whatever is accepted for a root selection that is overloaded
+abbrev pub NoneForOverloaded : Type 0
+NoneForOverloaded =
+    (t : Tables) (sel a : ℕ) (b : ℤ) (demand : ℕ) → AreInRange t → KeepsLimits t → Formed t → sel < selection_count t
+    → Overloaded (tightened (abstract_jobs t sel)) a b demand → NoneIsAccepted (abstract_jobs t sel) (round_length t)
 
 -- ---- completeness
 
@@ -41,7 +57,7 @@ BackOnlyMemory = (t : Tables) (f : BackFault) → Formed t → AreSchedulable t 
 -- nor has a source with such tables
 abbrev pub CompileOnlyMemory : Type 0
 CompileOnlyMemory =
-    (bytes : List ℕ) (t : Tables) (f : CompileFault) → IsTablesOf bytes t → CanBuild t → IsCompileFault bytes f → f ≡ compile.Memory
+    (bytes : List ℕ) (t : Tables) (f : CompileFault) → IsTablesOf bytes t → AreTyped t → Formed t → AreSchedulable t → IsCompileFault bytes f → f ≡ compile.Memory
 
 -- ---- one fault
 

@@ -1,5 +1,5 @@
 -- The tables of a source, and its one fault where it has none or their functions aren't compiled.
-use Rattle.std.specs.Prelude.{ℕ, ◌≡◌, Some, List, slice_get, Result, Ok, Err}
+use Rattle.std.specs.Prelude.{ℕ, ◌≡◌, Some, List, [], ◌∷◌, ◌++◌, slice_get, Result, Ok, Err}
 use Rattle.htl_compile.specs.Coded.{CanCode, coded}
 use Rattle.htl_compile.specs.FunctionFaults.{IsFirstFault}
 use Rattle.htl_compile.specs.declared.source.FrontFault.{FrontFault}
@@ -13,7 +13,7 @@ use Rattle.htl_names.specs.Flat.{tables_of_tree}
 use Rattle.htl_names.specs.NameRules.{AreNamesRight, IsFirstNameFault}
 use Rattle.htl_names.specs.declared.fault.NameFault.{NameFault}
 use Rattle.htl_names.specs.declared.fault.NameFault.TheVariants as name
-use Rattle.htl_parse.specs.Answers.{Spell, SpellNone}
+use Rattle.htl_parse.specs.Answers.{Spell, SpellNone, IsMisfit}
 use Rattle.htl_parse.specs.Runs.{AreShort, IsFirstLong}
 use Rattle.htl_text.specs.TokenLists.{TokenList}
 use Rattle.htl_text.specs.Spans.{Tokens, Faults}
@@ -28,6 +28,10 @@ pub record Reads (bytes : List ℕ) (t : TokenList) : Type 0 where
 -- the token of this number begins at this byte
 abbrev pub BeginsAt : TokenList → ℕ → ℕ → Type 0
 BeginsAt t k at = slice_get t.offsets k ≡ Some at
+
+-- the token of this number begins at this byte; behind the last token, the source ends there
+abbrev pub BeginsOrEndsAt : TokenList → ℕ → ℕ → Type 0
+BeginsOrEndsAt t k at = slice_get (t.offsets ++ t.end ∷ []) k ≡ Some at
 
 -- ---- tables
 
@@ -79,7 +83,7 @@ IsSourceFault bytes (fault.Char at) = Faults bytes (lex.Char at)
 IsSourceFault bytes (fault.Number at) = Faults bytes (lex.Number at)
 IsSourceFault bytes (fault.NameLong at) = Faults bytes (lex.NameLong at)
 IsSourceFault bytes (fault.Long at) = (t : TokenList) × Tokens bytes t × (k : ℕ) × IsFirstLong t.tokens k × BeginsAt t k at
-IsSourceFault bytes fault.Syntax = (t : TokenList) × Reads bytes t × SpellNone t.tokens
+IsSourceFault bytes (fault.Syntax at) = (t : TokenList) × Reads bytes t × SpellNone t.tokens × (k : ℕ) × IsMisfit t.tokens k × BeginsOrEndsAt t k at
 IsSourceFault bytes (fault.Twice at) = IsNameFaultAt bytes (λ token. name.Twice token) at
 IsSourceFault bytes (fault.Unknown at) = IsNameFaultAt bytes (λ token. name.Unknown token) at
 IsSourceFault bytes (fault.Kind at) = IsNameFaultAt bytes (λ token. name.Kind token) at

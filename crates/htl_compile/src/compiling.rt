@@ -2,9 +2,11 @@
 ghost use Rattle.std.specs.Prelude.{◌≡◌, ◌⊎◌, ◌≤◌, length, IfOk, IfErr, MatchResult};
 ghost use Rattle.htl_base.specs.declared.limits.TheConstants as limit;
 ghost use Rattle.htl_compile.specs.Building.{IsCompiledTo, IsCompileFault, unbuilt_of};
-ghost use Rattle.htl_compile.specs.Built.{CanBuild, built};
+ghost use Rattle.htl_compile.specs.Built.{AreSchedulable, built};
+ghost use Rattle.htl_compile.specs.Coded.{AreTyped};
 ghost use Rattle.htl_compile.specs.Sources.{IsTablesOf};
 ghost use Rattle.htl_compile.specs.declared.compiling.CompileFault.{CompileFault as FaultOf};
+ghost use Rattle.htl_model.specs.Broken.{Formed};
 ghost use Rattle.htl_model.specs.Tables.{Tables as TablesOf};
 ghost use Rattle.htl_object.specs.Objects.{object_bytes};
 
@@ -87,7 +89,7 @@ pub fn compile(alloc: Global, bytes: &[u8]) -> Result<Vec<u8>, CompileFault>
     requires { length bytes.now ≤ limit.MAX_SOURCE }
     ensures compiled { IfOk result (λ v. IsCompiledTo bytes.now v.items) }
     ensures fault { IfErr result (IsCompileFault bytes.now) }
-    ensures only { (t : TablesOf) → IsTablesOf bytes.now t → CanBuild t
+    ensures only { (t : TablesOf) → IsTablesOf bytes.now t → AreTyped t → Formed t → AreSchedulable t
         → MatchResult result (λ v. v.items ≡ object_bytes (built t)) (λ f. f ≡ CompileFault.Memory) }
     ensures refused { (f : FaultOf) → (f ≡ CompileFault.Memory → ⊥) → IsCompileFault bytes.now f
         → MatchResult result (λ _. ⊥) (λ g. (g ≡ f) ⊎ (g ≡ CompileFault.Memory)) }

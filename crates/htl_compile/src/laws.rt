@@ -1,5 +1,5 @@
 //! The laws of compiling, which crates above build on. Each is a statement that the check has proved; there is nothing to run.
-ghost use Rattle.htl_compile.specs.Laws.{BuiltIsAccepted, CodedRunsTheSame, OneTables, FrontOnlyMemory, BackOnlyMemory, CompileOnlyMemory, OneFrontFault, OneBackFault, OneCompileFault};
+ghost use Rattle.htl_compile.specs.Laws.{BuiltIsAccepted, CodedRunsTheSame, OneTables, SourceTablesFit, NoneForOverloaded, FrontOnlyMemory, BackOnlyMemory, CompileOnlyMemory, OneFrontFault, OneBackFault, OneCompileFault};
 
 /// The object of tables in range that keep the limits and the form rules, whose functions are typed, and of whose root
 /// selections none is overloaded, is accepted.
@@ -17,6 +17,17 @@ pub fn one_tables()
     ensures { OneTables }
 {}
 
+/// The tables of a source of at most 1,048,576 bytes are in range and keep the limits on root selections and positions, and each of
+/// their functions is an expression of at most 512 nodes over at most 256 arguments that are there.
+pub fn source_tables_fit()
+    ensures { SourceTablesFit }
+{}
+
+/// Where a root selection of tables that keep the limits and the form rules is overloaded, no S code whatever is accepted for it.
+pub fn none_for_overloaded()
+    ensures { NoneForOverloaded }
+{}
+
 /// A source with tables whose functions are typed has no fault, but that memory may run out.
 pub fn front_only_memory()
     ensures { FrontOnlyMemory }
@@ -27,7 +38,8 @@ pub fn back_only_memory()
     ensures { BackOnlyMemory }
 {}
 
-/// A source with tables of which an accepted object is built is compiled, but that memory may run out.
+/// A source has no fault, but that memory may run out, where it has tables whose functions are typed, that break no form rule and
+/// have no overloaded root selection.
 pub fn compile_only_memory()
     ensures { CompileOnlyMemory }
 {}

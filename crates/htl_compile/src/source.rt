@@ -75,7 +75,10 @@ fn read_tokens(alloc: Global, tokens: &Tokens) -> Result<Tables, FrontFault>
 {
     match parse(alloc, tokens) {
         Ok(tree) => read_tree(alloc, tokens, &tree),
-        Err(ParseFault::Syntax) => Err(FrontFault::Source(SourceFault::Syntax)),
+        Err(ParseFault::Syntax { token }) => {
+            let at = tokens.offset(token as usize);
+            Err(FrontFault::Source(SourceFault::Syntax { at }))
+        }
         Err(ParseFault::Memory) => Err(FrontFault::Memory),
         Err(ParseFault::Long { token }) => {
             let at = tokens.offset(token as usize);

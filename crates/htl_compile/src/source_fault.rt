@@ -28,8 +28,12 @@ pub enum SourceFault {
         /// The first byte of the 513th of them.
         at: u64,
     },
-    /// No tree spells the tokens.
-    Syntax,
+    /// The grammar has no such source.
+    Syntax {
+        /// The first byte of the first token that doesn't fit, or the source's length where its tokens end too
+        /// early. What stands before it begins some source, and with that token it begins none.
+        at: u64,
+    },
     /// A name repeats an earlier one of its space: a program, a communicator, a module of the source; a task or mode
     /// of the module; a port of the mode; a parameter of the task; a task invoked twice in the mode.
     Twice {

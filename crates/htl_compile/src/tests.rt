@@ -52,8 +52,11 @@ fn is_code(f: &Function) -> bool {
 
 // Texts with their faults.
 const FAULTS: &[(&str, SourceFault)] = &[
-    ("", SourceFault::Syntax),
-    ("program P { module M start m { }", SourceFault::Syntax),
+    ("", SourceFault::Syntax { at: 0 }),
+    (
+        "program P { module M start m { }",
+        SourceFault::Syntax { at: 32 },
+    ),
     ("program P { #", SourceFault::Char { at: 12 }),
     ("program P { } & &", SourceFault::Char { at: 14 }),
     ("9223372036854775808", SourceFault::Number { at: 0 }),

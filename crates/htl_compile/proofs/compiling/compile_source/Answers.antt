@@ -5,7 +5,7 @@ use Rattle.htl_compile.proofs.compiling.compile_source.Goals as goal
 
 pub returns-in-Err-clause-fault : goal.returns-in-Err-clause-fault
 returns-in-Err-clause-fault c =
-    subst (IsCompileFault c.args.bytes.now) (sym c.unbuilt.ensures) (back_of_source c.args.bytes.now c.in-Ok.tables c.in-Err.fault c.in-Ok.ensures.read c.in-Err.ensures.fault.1)
+    subst (IsCompileFault c.args.bytes.now) (sym c.unbuilt.ensures) (back_of_source c.args.bytes.now c.in-Ok.tables c.in-Err.fault c.requires c.in-Ok.ensures.read c.in-Err.ensures.fault.1)
 
 pub returns-in-Ok-encode-clause-compiled : goal.returns-in-Ok-encode-clause-compiled
 returns-in-Ok-encode-clause-compiled c =

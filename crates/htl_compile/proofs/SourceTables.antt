@@ -1,0 +1,64 @@
+-- What the tables of a source keep, and that nothing is accepted for a root selection that is overloaded.
+use Rattle.std.proofs.Common.{arith, ◌≡◌, ◌≤◌, ◌+◌, ℕ, List, [], ◌∷◌, ◌++◌, length, sym, ap, subst, length-append}
+use Rattle.std.specs.List.{zip}
+use Rattle.htl_compile.specs.Coded.{AreSourceTables}
+use Rattle.htl_compile.specs.Laws.{SourceTablesFit, NoneForOverloaded}
+use Rattle.htl_compile.specs.Sources.{IsTablesOf}
+use Rattle.htl_edf.proofs.Plannable.{plannable}
+use Rattle.htl_edf.proofs.Walks.{no_schedule}
+use Rattle.htl_model.specs.Broken.{KeptTo}
+use Rattle.htl_model.specs.Selections.{round_length}
+use Rattle.htl_model.specs.Tables.{Tables}
+use Rattle.htl_names.proofs.InRange.{names-in-range}
+use Rattle.htl_names.proofs.KeepsLimits.{names-keep-limits}
+use Rattle.htl_names.proofs.SmallFunctions.{functions_small}
+use Rattle.htl_names.proofs.TreeBounds.{bounded_tree}
+use Rattle.htl_names.specs.Conditions.{MeetsBounds}
+use Rattle.htl_parse.proofs.Bounded.{tree-bounded}
+use Rattle.htl_text.proofs.OneCut.{span-some}
+use Rattle.htl_text.proofs.Spellable.{tokens-spellable}
+use Rattle.htl_text.specs.Spans.{Cuts, Tokens}
+use Rattle.htl_text.specs.TokenLists.{TokenList}
+use Rattle.htl_text.specs.declared.token.Token.{Token}
+use Rattle.htl_walk.specs.Jobs.{abstract_jobs}
+
+-- ---- a text has no more tokens than bytes
+
+few_tokens : (ts : List Token) (os : List ℕ) (at : ℕ) (bytes : List ℕ) (end : ℕ) (rest : List ℕ) → length os ≡ length ts → Cuts at bytes (zip ts os) end rest → length ts ≤ length bytes
+few_tokens [] os at bytes end rest e p = omega arith
+few_tokens (t ∷ ts) [] at bytes end rest e p = absurd (omega (arith, e))
+few_tokens (t ∷ ts) (o ∷ os) at bytes end rest e p =
+    let some = span-some p.1 p.2 p.5 in
+    let later = few_tokens ts os (at + length p.0 + length p.1) p.2 end rest (omega (arith, e)) p.8 in
+    let whole : length bytes ≡ length (p.0 ++ (p.1 ++ p.2)) = ap length p.3 in
+    omega (arith, some, later, whole, length-append p.0 (p.1 ++ p.2), length-append p.1 p.2)
+
+tokens_fit : (bytes : List ℕ) (t : TokenList) → Tokens bytes t → length t.tokens ≤ length bytes
+tokens_fit bytes t h = let p = h.cut in few_tokens t.tokens t.offsets 0 bytes p.0 p.1 h.paired p.3
+
+-- ---- the tables of a source
+
+-- its programs meet the conditions under which names are resolved
+programs_fit : (bytes : List ℕ) (t : Tables) → length bytes ≤ 1048576 → (h : IsTablesOf bytes t) → MeetsBounds h.programs
+programs_fit bytes t short h =
+    bounded_tree h.programs
+    (tree-bounded h.list.tokens h.programs (omega (arith, short, tokens_fit bytes h.list h.reads.tokens)) (tokens-spellable bytes h.list h.reads.tokens) h.reads.short h.spelled)
+
+pub source_tables_fit : SourceTablesFit
+source_tables_fit bytes t short h =
+    let fits = programs_fit bytes t short h in
+    let ranges = names-in-range h.programs fits h.named in
+    subst AreSourceTables (sym h.is)
+    (record {
+      ranges = ranges;
+      limits = names-keep-limits h.programs fits h.named;
+      small = functions_small h.programs fits h.named ranges;
+    })
+
+-- ---- an overloaded root selection
+
+pub none_for_overloaded : NoneForOverloaded
+none_for_overloaded t sel a b demand ranges limits formed less over =
+    let kept : KeptTo t 12 = λ r s have need small h. formed r s have need h in
+    let plan = (plannable t ranges kept limits).each sel less in
+    no_schedule (abstract_jobs t sel) plan.jobs plan.order a b demand over (round_length t)
