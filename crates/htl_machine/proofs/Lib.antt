@@ -45,6 +45,9 @@ pub mod Placed
 pub mod Telling
 pub mod TellingLines
 pub mod TellingText
+pub mod LineBytes
+pub mod JobLines
+pub mod JobTimes
 pub mod Loaded
 pub mod Accepted
 pub mod Calling

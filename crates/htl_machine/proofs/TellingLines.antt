@@ -67,7 +67,7 @@ all_left : (time release until w : ℕ) → until ≡ 0 → work_after time (suc
 all_left time release until w e = omega (arith, e)
 
 -- a record that is left at offset 0 has no slice, and finishes nothing
-silent : (jobs : List Job) (is : List SInstr) (x : Point) (k : ℕ) (l : walks.Left) → slice_get (walk_from jobs is x) k ≡ Some l → l.at ≡ 0 → (l.slice ≡ None) × (l.finished ≡ false)
+pub silent : (jobs : List Job) (is : List SInstr) (x : Point) (k : ℕ) (l : walks.Left) → slice_get (walk_from jobs is x) k ≡ Some l → l.at ≡ 0 → (l.slice ≡ None) × (l.finished ≡ false)
 silent jobs [] x k l at first = absurd (none_some l at)
 silent jobs (i ∷ is) x (suc k) l at first = silent jobs is (next_point jobs i x) k l at first
 silent jobs (Idle until ∷ is) x zero l at first =

@@ -1,5 +1,6 @@
 -- The laws of a run, over definitions alone.
-use Rattle.std.specs.Prelude.{◌≡◌, ◌≤◌, ◌<◌, ℕ, List, [], ◌∷◌, ◌++◌, Some}
+use Rattle.std.specs.Prelude.{◌≡◌, ◌≤◌, ◌<◌, ℕ, true, List, [], ◌∷◌, ◌++◌, map, Some}
+use Rattle.std.specs.List.{filter}
 use Rattle.htl_model.specs.declared.event.Event.{Event}
 use Rattle.htl_model.specs.declared.event.Event.TheVariants as V
 use Rattle.htl_model.specs.Lines.{lines_text}
@@ -11,10 +12,13 @@ use Rattle.htl_object.specs.Accepted.{IsAccepted}
 use Rattle.htl_refine.specs.Records.{AreTookWithin}
 use Rattle.htl_console.specs.declared.shown.Shown.{Shown}
 use Rattle.htl_console.specs.declared.shown.Shown.TheVariants.{Values}
+use Rattle.htl_console.specs.Shows.{shows_jobs}
 use Rattle.htl_machine.specs.Follows.{reading_of, IsLoaded}
 use Rattle.htl_machine.specs.Rounds.{plan_of}
 use Rattle.htl_machine.specs.Served.{AllServed}
-use Rattle.htl_machine.specs.Programs.{schedules_of, before_of}
+use Rattle.htl_machine.specs.JobLines.{printed, job_lines_to, ShowsJobs, begins_as_job, text_lines, HasNames}
+use Rattle.htl_machine.specs.JobTimes.{AllToldInTime}
+use Rattle.htl_machine.specs.Programs.{schedules_of, before_of, text_of}
 
 -- of an accepted object every round is sound: its jobs are those of the invocations that stand, and it meets
 abbrev pub AcceptedIsLoaded : Type 0
@@ -51,3 +55,24 @@ abbrev pub LaterEventsLeaveText : Type 0
 LaterEventsLeaveText =
     (o : Object) (es later : List Event) (show : Shown) (now : ℕ) → IsAccepted o → AreTookWithin o.tables (es ++ later) → AreReadFrom now (reading_of 0 es) later
     → before_of o (es ++ later) show now ≡ before_of o es show now
+
+-- where jobs are shown, the text of a run is printed line by line, and its j and d lines are those of the records: in order, a j line of
+-- each slice that a record closes, and a d line of each job that one finishes
+abbrev pub JobLinesAreRecords : Type 0
+JobLinesAreRecords =
+    (o : Object) (es : List Event) (show : Shown) (end : ℕ) → shows_jobs show ≡ true
+    → ShowsJobs o.tables (text_of o es show end) (job_lines_to o.tables (schedules_of o) es end)
+
+-- so a reader finds these and no others who cuts the text behind each line feed and takes the lines that begin with `j` or `d`
+abbrev pub JobLinesAreFound : Type 0
+JobLinesAreFound =
+    (o : Object) (es : List Event) (show : Shown) (end : ℕ) → HasNames o.tables → shows_jobs show ≡ true
+    → filter begins_as_job (text_lines (text_of o es show end)) ≡ map (printed o.tables) (job_lines_to o.tables (schedules_of o) es end)
+
+-- of an accepted object, whatever the sensors show and however long the jobs take within their worst cases: of each job of each round
+-- whose window ended by the end of the run there is one d line, no later than the end of its window, and its j lines lie in the window
+-- and have as many ticks as it takes
+abbrev pub EveryJobToldInTime : Type 0
+EveryJobToldInTime =
+    (o : Object) (es : List Event) (period end : ℕ) → IsAccepted o → AreTookWithin o.tables es → root_period o.tables ≡ Some period
+    → AllToldInTime (plan_of o.tables (schedules_of o) es) period end (job_lines_to o.tables (schedules_of o) es end)

@@ -19,6 +19,8 @@ pub mod Going
 pub mod Served
 pub mod Lines
 pub mod Programs
+pub mod JobLines
+pub mod JobTimes
 pub mod Laws
 pub mod Counts
 pub mod Changing

@@ -1,5 +1,5 @@
 //! The laws of a run, over the definitions alone. Each is a statement that the check has proved; there is nothing to run.
-ghost use Rattle.htl_machine.specs.Laws.{AcceptedIsLoaded, EveryJobInTime, ValuesAreTheMeaning, SensorsDecide, LaterEventsLeaveText};
+ghost use Rattle.htl_machine.specs.Laws.{AcceptedIsLoaded, EveryJobInTime, ValuesAreTheMeaning, SensorsDecide, LaterEventsLeaveText, JobLinesAreRecords, JobLinesAreFound, EveryJobToldInTime};
 
 /// Of an accepted object every round is sound, whatever the events within the worst cases: its jobs are those of the invocations that
 /// stand, and its schedule does each of them in its window, after its predecessors.
@@ -28,4 +28,23 @@ pub fn sensors_decide()
 /// The text before an instant depends on no value and no length that is read at that instant or later.
 pub fn later_events_leave_text()
     ensures { LaterEventsLeaveText }
+{}
+
+/// Where jobs are shown, the text of a run is line after line, and its j and d lines are those of the records up to its end, in order:
+/// a j line of each slice that a record closes, with its invocation, and a d line of each job that a record finishes.
+pub fn job_lines_are_records()
+    ensures { JobLinesAreRecords }
+{}
+
+/// So they are what a reader finds who cuts the bytes of the text behind each line feed and takes the lines that begin with `j` or
+/// `d`, for all tables whose names are identifiers.
+pub fn job_lines_are_found()
+    ensures { JobLinesAreFound }
+{}
+
+/// Of an accepted object, whatever the sensors show and however long the jobs take within their worst cases: of each job of each round
+/// whose window ended by the end of the run the text has one d line, no later than the end of its window, and its j lines lie in the
+/// window and have as many ticks as the job takes.
+pub fn every_job_is_told_in_time()
+    ensures { EveryJobToldInTime }
 {}

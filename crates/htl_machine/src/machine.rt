@@ -84,15 +84,6 @@ impl<'a> Model for Machine<'a> {
     ghost invariant = { λ m. IsFitted m.loaded.now m.spent m.shows m.takes m.values m.modes.modes m.selected.modes m.jobs m.count m.desk m.idle.instrs };
 }
 
-const NO_JOB: Job = Job {
-    present: false,
-    inv: 0,
-    release: 0,
-    end: 0,
-    worst: 0,
-    preds: 0,
-};
-
 impl<'a> Machine<'a> {
     /// Stands before instant 0, with reading 0, and has followed no event. All memory of the run is taken here; want of it is the one
     /// refusal.
@@ -141,7 +132,7 @@ impl<'a> Machine<'a> {
                 e: 0,
                 s: 0,
             },
-            jobs: [NO_JOB; MAX_POSITIONS],
+            jobs: [Job::ABSENT; MAX_POSITIONS],
             count: 0,
             idle: Schedule {
                 instrs: Seq::new(Vec::new(alloc)),
