@@ -4,7 +4,8 @@ use Rattle.std.specs.Prelude.{◌↔◌}
 use Rattle.std.specs.Io.KnownBytes.{append_known}
 use Rattle.htl_base.specs.declared.limits.TheConstants.{MAX_SOURCE, MAX_OBJECT}
 use Rattle.htl_compile.specs.Building.{IsCompileFault}
-use Rattle.htl_compile.specs.Built.{built, CanBuild}
+use Rattle.htl_compile.specs.Built.{built, AreSchedulable}
+use Rattle.htl_compile.specs.Coded.{AreTyped}
 use Rattle.htl_compile.specs.Sources.{IsTablesOf}
 use Rattle.htl_compile.specs.declared.compiling.CompileFault.{CompileFault}
 use Rattle.htl_compile.specs.declared.compiling.CompileFault.TheVariants as compile
@@ -15,6 +16,7 @@ use Rattle.htl_edge.specs.Causes.{Rose}
 use Rattle.htl_edge.specs.Content.{AppendsPrefix, none_left}
 use Rattle.htl_load.specs.Loading.{RefusesBytes}
 use Rattle.htl_load.specs.declared.fault.ObjectFault.{ObjectFault}
+use Rattle.htl_model.specs.Broken.{Formed}
 use Rattle.htl_model.specs.Tables.{Tables}
 use Rattle.htl_model.specs.declared.event.Event.{Event}
 use Rattle.htl_object.specs.declared.object.Object.{Object}
@@ -288,9 +290,10 @@ module _ (shelf : Files) (old new : Streams) where
       compiling.faulty_input old new bytes told few f known fault outcome (compiles command outcome is call) quiet
 
   pub compile_complete : (command : Option Command) (outcome : Outcome) → IsCall command shelf old new outcome → command ≡ Some Compile → (bytes : List ℕ) → old.rest ≡ Some bytes
-      → length bytes ≤ 1048576 → (t : Tables) → IsTablesOf bytes t → CanBuild t → (Rose old.read_faults new.read_faults → ⊥) → (Rose old.write_faults new.write_faults → ⊥)
-      → IsOrMemory outcome Done
-  compile_complete command outcome call is bytes told few t of can quiet still = compiling.complete old new bytes told few t of can outcome (compiles command outcome is call) quiet still
+      → length bytes ≤ 1048576 → (t : Tables) → IsTablesOf bytes t → AreTyped t → Formed t → AreSchedulable t
+      → (Rose old.read_faults new.read_faults → ⊥) → (Rose old.write_faults new.write_faults → ⊥) → IsOrMemory outcome Done
+  compile_complete command outcome call is bytes told few t of typed formed free quiet still =
+      compiling.complete old new bytes told few t of typed formed free outcome (compiles command outcome is call) quiet still
 
   -- ---- of an object that is named
 

@@ -4,13 +4,15 @@ use Rattle.std.specs.Prelude.{IfSome}
 use Rattle.std.specs.Io.KnownBytes.{append_known}
 use Rattle.htl_compile.proofs.Completeness.{compile_only_memory, one_compile_fault}
 use Rattle.htl_compile.specs.Building.{IsCompiledTo, IsCompileFault}
-use Rattle.htl_compile.specs.Built.{CanBuild}
+use Rattle.htl_compile.specs.Built.{AreSchedulable}
+use Rattle.htl_compile.specs.Coded.{AreTyped}
 use Rattle.htl_compile.specs.Sources.{IsTablesOf}
 use Rattle.htl_compile.specs.declared.compiling.CompileFault.{CompileFault}
 use Rattle.htl_compile.specs.declared.compiling.CompileFault.TheVariants as compile
 use Rattle.htl_compile.specs.declared.source_fault.SourceFault.TheVariants as source
 use Rattle.htl_edge.specs.Causes.{Rose}
 use Rattle.htl_edge.specs.Content.{AppendsPrefix, none_left}
+use Rattle.htl_model.specs.Broken.{Formed}
 use Rattle.htl_model.specs.Tables.{Tables}
 use Rattle.htl_top.specs.Answers.{Streams, IsBeforeRun}
 use Rattle.htl_top.specs.Causes.{IsOrMemory}
@@ -115,7 +117,8 @@ module _ (old new : Streams) where
 
       no_program : (Fact : Tables → Type 0) → IsInputProgram old.rest Fact → ⊥
       no_program Fact p =
-          known (compile_only_memory p.bytes p.has.tables f p.has.of p.has.can (subst (λ (bs : List ℕ). IsCompileFault bs f) (sym (same_bytes p.bytes p.input)) is))
+          known
+          (compile_only_memory p.bytes p.has.tables f p.has.of p.has.can.can.typed p.has.can.formed p.has.can.schedulable (subst (λ (bs : List ℕ). IsCompileFault bs f) (sym (same_bytes p.bytes p.input)) is))
 
       pub faulty_input : (outcome : Outcome) → IsCompiling old new outcome → (Rose old.read_faults new.read_faults → ⊥) → IsOrMemory outcome (answer_of f)
       faulty_input Done compiling quiet = absurd (no_program (λ t. new.written ≡ append_known old.written (compiled_bytes t)) compiling.1)
@@ -131,10 +134,10 @@ module _ (old new : Streams) where
       faulty_input (Shelf cause) compiling quiet = absurd compiling
 
     -- an object is built of it
-    module _ (few : length bytes ≤ 1048576) (t : Tables) (of : IsTablesOf bytes t) (can : CanBuild t) where
+    module _ (few : length bytes ≤ 1048576) (t : Tables) (of : IsTablesOf bytes t) (typed : AreTyped t) (formed : Formed t) (free : AreSchedulable t) where
       no_fault : (g : CompileFault) → (g ≡ compile.Memory → ⊥) → IsInputFault old.rest g → ⊥
       no_fault g other (inl l) = omega (arith, few, is_long g l)
-      no_fault g other (inr p) = other (compile_only_memory bytes t g of can (fault_of g p))
+      no_fault g other (inr p) = other (compile_only_memory bytes t g of typed formed free (fault_of g p))
 
       pub complete : (outcome : Outcome) → IsCompiling old new outcome → (Rose old.read_faults new.read_faults → ⊥) → (Rose old.write_faults new.write_faults → ⊥) → IsOrMemory outcome Done
       complete Done compiling quiet still = inl refl

@@ -213,7 +213,10 @@ module _ (name : Option (List ℕ)) (shelf : Files) (old new : Streams) where
 
       pub faulty_source : (outcome : Outcome) → IsGoing name shelf old new outcome → IsOrMemory outcome (answer_of f)
       faulty_source outcome going = elim going [
-        | inl p ↦ absurd (told (compile_only_memory p.bytes p.has.tables f p.has.of p.has.can (subst (λ (bs : List ℕ). IsCompileFault bs f) (sym (same_bytes p.bytes p.source)) is)))
+        | inl p ↦
+            absurd
+            (told
+            (compile_only_memory p.bytes p.has.tables f p.has.of p.has.can.can.typed p.has.can.formed p.has.can.schedulable (subst (λ (bs : List ℕ). IsCompileFault bs f) (sym (same_bytes p.bytes p.source)) is)))
         | inr s ↦ faulty_stopped outcome s.0
       ]
 
@@ -221,7 +224,7 @@ module _ (name : Option (List ℕ)) (shelf : Files) (old new : Streams) where
 
   module _ (t : Tables) (ready : IsReadySource name shelf.holds shelf.before shelf.after t) where
     none_of : (f : CompileFault) → (f ≡ compile.Memory → ⊥) → IsFaultyProgram name shelf.holds f → ⊥
-    none_of f told p = told (compile_only_memory ready.bytes t f ready.of ready.can (fault_of ready.bytes ready.given f p))
+    none_of f told p = told (compile_only_memory ready.bytes t f ready.of ready.typed ready.formed ready.schedulable (fault_of ready.bytes ready.given f p))
 
     ready_stopped : (outcome : Outcome) → IsUncompiled name shelf outcome → outcome ≡ Memory
     ready_stopped (Source g) s = absurd (none_of (compile.Source g) (λ e. cc) s)

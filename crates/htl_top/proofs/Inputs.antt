@@ -1,8 +1,9 @@
 -- The input, read piece by piece.
-use Rattle.std.proofs.Common.{arith, ◌≡◌, ◌≤◌, ◌<◌, ℕ, List, [], ◌++◌, length, Option, None, Some, refl, sym, ap, ◌∙◌, subst, length-append, append_assoc, append-nil}
+use Rattle.std.proofs.Common.{arith, ◌≡◌, ◌≤◌, ◌<◌, ◌+◌, ℕ, List, [], ◌++◌, length, Option, None, Some, refl, sym, ap, ◌∙◌, subst, length-append, append_assoc, append-nil}
 use Rattle.std.specs.Prelude.{IfSome}
 use Rattle.std.specs.Io.KnownBytes.{prepend_known, IsAtEnd}
 use Rattle.htl_edge.specs.Content.{none_left}
+use Rattle.htl_script.specs.Reading.{LosesFront}
 use Rattle.htl_top.specs.Sources.{IsInput}
 
 -- these bytes were read
@@ -33,3 +34,19 @@ pub read_long : (bytes : List ℕ) (initial rest : Option (List ℕ)) → AreRea
 read_long bytes initial None are long = subst (λ (o : Option (List ℕ)). IfSome o (λ given. 1048576 < length given)) (sym are) tt
 read_long bytes initial (Some later) are long =
     subst (λ (o : Option (List ℕ)). IfSome o (λ given. 1048576 < length given)) (sym are) (omega (arith, long, length-append bytes later))
+
+-- ---- how much was taken
+
+-- nothing
+pub taken_none : (most : ℕ) (rest : Option (List ℕ)) → LosesFront most rest rest
+taken_none most rest = ([], omega arith, sym (read_start rest))
+
+-- what was read
+pub taken_read : (bytes : List ℕ) (most : ℕ) (initial rest left : Option (List ℕ)) → AreRead bytes initial rest → length bytes ≤ most → left ≡ rest → LosesFront most initial left
+taken_read bytes most initial rest left are few same = (bytes, few, ap (prepend_known bytes) same ∙ sym are)
+
+-- and a piece more
+pub taken_more : (bytes piece : List ℕ) (few most : ℕ) (initial rest left : Option (List ℕ)) → AreRead bytes initial rest → prepend_known piece left ≡ rest → length bytes ≤ few
+    → few + length piece ≤ most → LosesFront most initial left
+taken_more bytes piece few most initial rest left are is short fits =
+    (bytes ++ piece, omega (arith, short, fits, length-append bytes piece), sym (read_more bytes piece initial rest left are is))

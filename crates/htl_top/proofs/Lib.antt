@@ -4,6 +4,7 @@ pub mod EarlierReadings
 pub mod Executing
 pub mod Going
 pub mod Inputs
+pub mod JobMeaning
 mod LineExamples
 pub mod LineTelling
 pub mod Meaning

@@ -3,6 +3,7 @@ use Rattle.std.proofs.Common.{◌≡◌, ℕ, List, Option, Some, refl, sym, ap,
 use Rattle.std.specs.Prelude.{IfSome}
 use Rattle.htl_edge.specs.Causes.{Rose}
 use Rattle.htl_object.specs.declared.object.Object.{Object}
+use Rattle.htl_script.specs.Reading.{OfScript}
 use Rattle.htl_script.specs.declared.fault.ScriptFault.{ScriptFault}
 use Rattle.htl_script.specs.declared.fault.ScriptKind.{ScriptKind}
 use Rattle.htl_top.proofs.ObjectAnswering.{IsWork, IsOfWork}
@@ -58,8 +59,10 @@ same_fault i f g p q =
     fields line other kind another e = (cc, cc)
 
 module _ (o : Object) (old new : Streams) (script : List ℕ) where
-  given : (P : List ℕ → Type 0) → old.rest ≡ Some script → IfSome old.rest P → P script
-  given P told is = subst (λ (rest : Option (List ℕ)). IfSome rest P) told is
+  given : (P : List ℕ → Type 0) → old.rest ≡ Some script → OfScript old.rest P → P script
+  given P told is =
+      let same : script ≡ is.0 = subst (λ (rest : Option (List ℕ)). IfSome rest (λ bytes. bytes ≡ is.0)) told is.1 in
+      subst P (sym same) is.2
 
   pub bad_input : (f : ScriptFault) → old.rest ≡ Some script → input_of o.tables script ≡ Bad f.line f.kind → (Rose old.read_faults new.read_faults → ⊥)
       → (Rose old.write_faults new.write_faults → ⊥) → (outcome : Outcome) → IsPlanned o old new outcome → IsOrMemory outcome (Script f)

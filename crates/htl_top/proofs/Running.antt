@@ -1,5 +1,5 @@
 -- What a run answers, by its script.
-use Rattle.std.proofs.Common.{◌≡◌, ℕ, List, Option, None, Some, refl, sym, ap, ◌∙◌, subst, inl, inr}
+use Rattle.std.proofs.Common.{◌≡◌, ℕ, List, Option, Some, refl, sym, ap, ◌∙◌, subst, inl, inr}
 use Rattle.std.specs.Prelude.{IfSome}
 use Rattle.htl_compile.specs.Coded.{coded, codes}
 use Rattle.htl_console.specs.declared.shown.Shown.{Shown}
@@ -10,6 +10,7 @@ use Rattle.htl_model.specs.Tables.{Tables}
 use Rattle.htl_model.specs.declared.event.Event.{Event}
 use Rattle.htl_object.specs.declared.object.Object.{Object}
 use Rattle.htl_script.proofs.SameScript.{script_same}
+use Rattle.htl_script.specs.Reading.{OfScript}
 use Rattle.htl_script.specs.Script.{Script, Whole, Bad, script_of}
 use Rattle.htl_script.specs.declared.fault.ScriptFault.{ScriptFault}
 use Rattle.htl_script.specs.declared.fault.ScriptKind.{ScriptKind}
@@ -43,7 +44,7 @@ IsRun-whole show t o old new events shown outcome same told left written =
 
 -- the lines before a fault were written
 pub IsRun-faulty : (show : Shown) (t : Tables) (o : Object) (old new : Streams) (events shown : List Event) (fault : ScriptFault) (outcome : Outcome) → shown ≡ events
-    → IfSome old.rest (λ script. IsBad t script fault events)
+    → OfScript old.rest (λ script. IsBad t script fault events)
     → IsWritten (text_before_fault o show shown) (Faulty fault) old.written new.written old.write_faults new.write_faults outcome
     → IsRun show t o old new outcome
 IsRun-faulty show t o old new events shown fault outcome same bad written =
@@ -67,16 +68,15 @@ module _ (show s : Shown) (t : Tables) (o p : Object) (shows : s ≡ show) (runs
       → IsRun show o.tables o old new outcome
   run_told is left written = run_here (IsRun-whole s t p old new events told outcome same is left written)
 
-  pub run_faulty : (fault : ScriptFault) → IfSome old.rest (λ script. IsBad t script fault events)
+  pub run_faulty : (fault : ScriptFault) → OfScript old.rest (λ script. IsBad t script fault events)
       → IsWritten (text_before_fault p s told) (Faulty fault) old.written new.written old.write_faults new.write_faults outcome
       → IsRun show o.tables o old new outcome
   run_faulty fault bad written = run_here (IsRun-faulty s t p old new events told fault outcome same bad written)
 
 -- ---- tables and their functions
 
-told_alike : (rest : Option (List ℕ)) (P Q : List ℕ → Type 0) → ((script : List ℕ) → P script → Q script) → IfSome rest P → IfSome rest Q
-told_alike None P Q f h = tt
-told_alike (Some script) P Q f h = f script h
+told_alike : (rest : Option (List ℕ)) (P Q : List ℕ → Type 0) → ((script : List ℕ) → P script → Q script) → OfScript rest P → OfScript rest Q
+told_alike rest P Q f h = (h.0, h.1, f h.0 h.2)
 
 -- a script for tables with code is one for the tables
 pub IsRun-source : (show : Shown) (t : Tables) (o : Object) (old new : Streams) (outcome : Outcome) → IsRun show (coded t) o old new outcome → IsRun show t o old new outcome
@@ -160,8 +160,10 @@ one_bad i f g events others bad also =
     ap (λ (line : ℕ). make line f.kind) same.0 ∙ ap (λ (kind : ScriptKind). make g.line kind) same.1
 
 module _ (show : Shown) (t : Tables) (o : Object) (old new : Streams) (script : List ℕ) (told : old.rest ≡ Some script) where
-  given : (P : List ℕ → Type 0) → IfSome old.rest P → P script
-  given P is = subst (λ (rest : Option (List ℕ)). IfSome rest P) told is
+  given : (P : List ℕ → Type 0) → OfScript old.rest P → P script
+  given P is =
+      let same : script ≡ is.0 = subst (λ (rest : Option (List ℕ)). IfSome rest (λ bytes. bytes ≡ is.0)) told is.1 in
+      subst P (sym same) is.2
 
   pub bad_run : (f : ScriptFault) (events : List Event) → IsBad t script f events → (Rose old.read_faults new.read_faults → ⊥)
       → (Rose old.write_faults new.write_faults → ⊥) → (outcome : Outcome) → IsRun show t o old new outcome → IsOrMemory outcome (Faulty f)

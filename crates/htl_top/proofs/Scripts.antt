@@ -1,6 +1,6 @@
 -- What the reader of a script gives a run.
-use Rattle.std.proofs.Common.{◌≡◌, ◌≤◌, ℕ, List, [], Option, None, Some, Result, Ok, Err, sym, subst}
-use Rattle.std.specs.Prelude.{IfSome, OnOk}
+use Rattle.std.proofs.Common.{◌≤◌, ℕ, List, [], Option, None, Result, Ok, Err, sym, subst}
+use Rattle.std.specs.Prelude.{OnOk}
 use Rattle.htl_model.specs.Tables.{Tables}
 use Rattle.htl_model.specs.declared.event.Event.{Event}
 use Rattle.htl_script.proofs.Ending.{whole_end, end_in_time}
@@ -22,11 +22,6 @@ AreGained t old new r = Grows old new (λ gained. AreEvents t None gained × OnO
 pub AreEvents-read : {T : Type 0} (t : Tables) (new : List Event) (r : Result T WholeStop) → AreGained t [] new r → AreEvents t None new
 AreEvents-read t new r gained = subst (λ (es : List Event). AreEvents t None es) (sym gained.1) gained.2.0
 
--- what holds of the script holds of what is told
-told_where : (rest : Option (List ℕ)) (script : List ℕ) (Fact : List ℕ → Type 0) → IfSome rest (λ bytes. bytes ≡ script) → Fact script → IfSome rest Fact
-told_where None script Fact same fact = tt
-told_where (Some bytes) script Fact same fact = subst Fact (sym same) fact
-
 IsTold-read : {T : Type 0} (t : Tables) (rest : Option (List ℕ)) (new : List Event) (done : T)
     → OfScript rest (IsScript t [] new (Ok done)) → AreGained t [] new (Ok done) → IsTold t rest new
 IsTold-read t rest new done script events =
@@ -36,7 +31,7 @@ IsTold-read t rest new done script events =
     let same = whole_end t script.0 new script.2.2.0 events.2.1.0 whole last in
     record {
       end = script.2.2.0;
-      script = told_where rest script.0 (λ bytes. IsWhole t bytes new script.2.2.0) script.1 whole;
+      script = (script.0, script.1, whole);
       ends = record {
         last = subst (λ (n : ℕ). EndWith new n) (sym same) last;
         in_time = subst (λ (n : ℕ). n ≤ 1000000000) (sym same)
@@ -49,6 +44,6 @@ pub IsScriptRead-read : {T : Type 0} (t : Tables) (rest : Option (List ℕ)) (ne
 IsScriptRead-read t rest new (Ok done) script events = IsTold-read t rest new done script events
 IsScriptRead-read {T = T} t rest new (Err (stop.Script fault)) script events =
     let bad = subst (λ (es : List Event). IsScriptAnswer {T = T} (script_of t script.0) (Err (stop.Script fault)) es) (sym script.2.1) script.2.2 in
-    told_where rest script.0 (λ bytes. IsScriptAnswer {T = T} (script_of t bytes) (Err (stop.Script fault)) new) script.1 bad
+    (script.0, script.1, bad)
 IsScriptRead-read t rest new (Err stop.Read) script events = tt
 IsScriptRead-read t rest new (Err stop.Memory) script events = tt

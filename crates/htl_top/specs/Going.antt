@@ -1,11 +1,13 @@
 -- What `go` answers: a source is compiled, and its object is run.
 use Rattle.std.specs.Prelude.{◌≡◌, ◌≤◌, ◌⊎◌, ℕ, Option, List, length}
 use Rattle.htl_base.specs.declared.limits.TheConstants.{MAX_SOURCE}
-use Rattle.htl_compile.specs.Built.{built, CanBuild}
+use Rattle.htl_compile.specs.Built.{built, AreSchedulable}
+use Rattle.htl_compile.specs.Coded.{AreTyped}
 use Rattle.htl_compile.specs.Sources.{IsTablesOf}
 use Rattle.htl_compile.specs.declared.compiling.CompileFault.TheVariants as compile
 use Rattle.htl_console.specs.declared.shown.Shown.TheVariants.{Jobs}
 use Rattle.htl_edge.specs.Holdings.{Holdings}
+use Rattle.htl_model.specs.Broken.{Formed}
 use Rattle.htl_model.specs.Tables.{Tables}
 use Rattle.htl_top.specs.Answers.{Files, Streams, IsUntouched}
 use Rattle.htl_top.specs.Causes.{IsFaultOf, IsLongFile, IsGiven}
@@ -43,11 +45,13 @@ IsBytesGoing source old new outcome =
     HasTables source (λ t. IsRun Jobs t (built t) old new outcome)
     ⊎ ((s : SourceStop) × IsNotCompiled source s × (outcome ≡ outcome_of s) × IsUntouched old new)
 
--- The words name a source of at most 1,048,576 bytes, the shelf tells that it holds it, counted no fault of it, and an
--- accepted object is built of its tables.
+-- The words name a source of at most 1,048,576 bytes, the shelf tells that it holds it and counted no fault of it. Its tables
+-- have typed functions, break no form rule and have no overloaded root selection.
 pub record IsReadySource (name : Option (List ℕ)) (holds : Option Holdings) (before after : List ℕ → ℕ) (t : Tables) : Type 0 where
   pub bytes : List ℕ
   pub given : IsGiven name holds before after bytes
   pub short : length bytes ≤ MAX_SOURCE
   pub of : IsTablesOf bytes t
-  pub can : CanBuild t
+  pub typed : AreTyped t
+  pub formed : Formed t
+  pub schedulable : AreSchedulable t

@@ -4,6 +4,7 @@ pub mod Causes
 pub mod Checked
 pub mod Compiling
 pub mod Going
+pub mod JobLaws
 pub mod Laws
 pub mod Objects
 pub mod Planned

@@ -1,5 +1,5 @@
 -- What `plan` answers of an accepted object.
-use Rattle.std.specs.Prelude.{ℕ, ◌≡◌, ◌+◌, Bool, true, false, cond, List, [], ◌∷◌, ◌++◌, length, slice_get, Option, Some, None, IfSome}
+use Rattle.std.specs.Prelude.{ℕ, ◌≡◌, ◌+◌, Bool, true, false, cond, List, [], ◌∷◌, ◌++◌, length, slice_get, Option, Some, None}
 use Rattle.std.specs.Io.KnownBytes.{append_known}
 use Rattle.std.specs.List.{flat_map}
 use Rattle.htl_console.specs.Lines.{slice_line, done_line, plan_line}
@@ -11,6 +11,7 @@ use Rattle.htl_model.specs.Tables.{Tables}
 use Rattle.htl_object.specs.declared.object.Object.{Object}
 use Rattle.htl_refine.specs.ConcreteJobs.{concrete_jobs}
 use Rattle.htl_refine.specs.Roots.{selection_of}
+use Rattle.htl_script.specs.Reading.{OfScript}
 use Rattle.htl_script.specs.declared.fault.ScriptFault.{ScriptFault}
 use Rattle.htl_walk.specs.declared.job.Job.{Job}
 use Rattle.htl_walk.specs.declared.schedule.SInstr.{SInstr}
@@ -67,9 +68,9 @@ plan_text t schedules modes = elim (root_period t) [
 
 -- ---- the answers
 
--- The input says this selection of running modes, where it is told.
+-- The input says this selection of running modes: it is some bytes that do, and where it tells what it has left, it is that.
 pub record IsSelected (t : Tables) (rest : Option (List ℕ)) (modes : List (Option ℕ)) : Type 0 where
-  pub told : IfSome rest (λ bytes. input_of t bytes ≡ Whole modes)
+  pub told : OfScript rest (λ bytes. input_of t bytes ≡ Whole modes)
   pub selection : IsSelection t modes
 
 -- The input had a whole selection, which was read to its end, and the plan of it was written.
@@ -87,7 +88,7 @@ pub record IsCutPlan (o : Object) (rest old new : Option (List ℕ)) : Type 0 wh
 
 -- This is the first fault of the input.
 abbrev pub IsBadSelection : Object → Option (List ℕ) → ScriptFault → Type 0
-IsBadSelection o rest f = IfSome rest (λ bytes. input_of o.tables bytes ≡ Bad f.line f.kind)
+IsBadSelection o rest f = OfScript rest (λ bytes. input_of o.tables bytes ≡ Bad f.line f.kind)
 
 -- the selection is read, and its plan is written
 abbrev pub IsPlanned : Work

@@ -1,6 +1,6 @@
 -- A run of an accepted object with the input as script, answer by answer. The script is one for the tables `t`: those of
--- the object, or of the source of which it was built.
-use Rattle.std.specs.Prelude.{ℕ, ◌≡◌, Option, List, IfSome}
+-- the object, or of the source of which it was built. It is some bytes, and where the input tells what it has left, it is that.
+use Rattle.std.specs.Prelude.{ℕ, ◌≡◌, Option, List}
 use Rattle.std.specs.Io.KnownBytes.{append_known}
 use Rattle.htl_console.specs.declared.shown.Shown.{Shown}
 use Rattle.htl_edge.specs.Causes.{Rose}
@@ -9,6 +9,7 @@ use Rattle.htl_machine.specs.Programs.{text_of}
 use Rattle.htl_model.specs.Tables.{Tables}
 use Rattle.htl_model.specs.declared.event.Event.{Event}
 use Rattle.htl_object.specs.declared.object.Object.{Object}
+use Rattle.htl_script.specs.Reading.{OfScript}
 use Rattle.htl_script.specs.Script.{Script, script_of}
 use Rattle.htl_script.specs.declared.fault.ScriptFault.{ScriptFault}
 use Rattle.htl_top.specs.Answers.{Streams}
@@ -21,7 +22,7 @@ use Rattle.htl_top.specs.declared.outcome.Outcome.TheVariants.{Done, Usage, Sour
 pub record IsWholeRun (show : Shown) (t : Tables) (o : Object) (rest left old new : Option (List ℕ)) : Type 0 where
   pub events : List Event
   pub end : ℕ
-  pub script : IfSome rest (λ script. IsWhole t script events end)
+  pub script : OfScript rest (λ script. IsWhole t script events end)
   pub read : left ≡ none_left rest
   pub written : new ≡ append_known old (text_of o events show end)
 
@@ -29,13 +30,13 @@ pub record IsWholeRun (show : Shown) (t : Tables) (o : Object) (rest left old ne
 -- written.
 pub record IsFaultyRun (show : Shown) (t : Tables) (o : Object) (rest old new : Option (List ℕ)) (fault : ScriptFault) : Type 0 where
   pub events : List Event
-  pub script : IfSome rest (λ script. IsBad t script fault events)
+  pub script : OfScript rest (λ script. IsBad t script fault events)
   pub written : new ≡ append_known old (text_before_fault o show events)
 
 -- A prefix was written of the text that the input as a script for the tables makes a run write.
 pub record IsCutRun (show : Shown) (t : Tables) (o : Object) (rest old new : Option (List ℕ)) : Type 0 where
   pub given : Script
-  pub script : IfSome rest (λ script. script_of t script ≡ given)
+  pub script : OfScript rest (λ script. script_of t script ≡ given)
   pub written : AppendsPrefix old new (text_of_script o show given)
 
 -- the object is run with the input as script

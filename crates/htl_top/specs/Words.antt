@@ -1,8 +1,9 @@
 -- The words of a command.
-use Rattle.std.specs.Prelude.{ℕ, Option, None, Some, List, [], ◌∷◌, codes, map, if◌then◌else◌}
+use Rattle.std.specs.Prelude.{ℕ, ◌+◌, Option, None, Some, List, [], ◌∷◌, codes, map, if◌then◌else◌}
 use Rattle.std.specs.Borrow.{Bor}
 use Rattle.std.specs.Option.{option_map}
 use Rattle.std.specs.Str.{bytes_eq}
+use Rattle.htl_base.specs.declared.limits.TheConstants.{MAX_SOURCE, MAX_SCRIPT}
 use Rattle.htl_console.specs.declared.shown.Shown.{Shown}
 use Rattle.htl_console.specs.declared.shown.Shown.TheVariants.{Values, Jobs}
 use Rattle.htl_top.specs.declared.words.Asked.{Asked}
@@ -77,6 +78,18 @@ source_in words = source_of (command_in words)
 
 abbrev pub object_in : List (Bor (List ℕ)) → Option (List ℕ)
 object_in words = object_of (command_in words)
+
+-- ---- the input
+
+-- how many bytes of the input a command takes at most: those of the longest source or script, and one piece of 4,096
+abbrev pub most_taken : Option Command → ℕ
+most_taken (Some (Go name)) = MAX_SCRIPT + 4096
+most_taken (Some Compile) = MAX_SOURCE + 4096
+most_taken (Some (Run show name)) = MAX_SCRIPT + 4096
+most_taken (Some (Check name)) = 0
+most_taken (Some (Plan name)) = MAX_SCRIPT + 4096
+most_taken (Some (Show name)) = 0
+most_taken None = 0
 
 -- ---- the words as they were read
 

@@ -1,6 +1,7 @@
 // The command `compile`: the source that the input is, as the bytes of its object.
-ghost use Rattle.std.specs.Prelude.{◌≡◌, ◌≤◌, length};
+ghost use Rattle.std.specs.Prelude.{◌≡◌, ◌≤◌, ◌+◌, length};
 ghost use Rattle.htl_base.specs.declared.limits.TheConstants as limit;
+ghost use Rattle.htl_script.specs.Reading.{LosesFront};
 ghost use Rattle.htl_top.specs.Answers.{streams, IsWritten};
 ghost use Rattle.htl_top.specs.Compiling.{IsCompiling, IsBytesCompiled};
 ghost use Rattle.htl_top.specs.Sources.{HasTypedTables, IsTypedInput};
@@ -21,6 +22,7 @@ pub fn compile_input<R: Source, W: Sink>(alloc: Global, input: &mut R, out: &mut
         (streams R.rest R.faults W.written W.faults input.old out.old) (streams R.rest R.faults W.written W.faults input.new out.new)
         result.outcome }
     ensures tables { SpeaksOf (IsTypedInput (R.rest input.old)) (λ fact. ⊥) result.outcome result.tables }
+    ensures taken { LosesFront (limit.MAX_SOURCE + 4096) (R.rest input.old) (R.rest input.new) }
 {
     match read_input(alloc, input) {
         Ok(bytes) => compile(alloc, bytes.as_slice(), out),

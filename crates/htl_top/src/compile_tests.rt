@@ -42,7 +42,9 @@ const FAULTY: &[(&str, u8, &str)] = &[
         3,
         "htl: source name-long 8\n",
     ),
-    ("", 3, "htl: source syntax\n"),
+    ("", 3, "htl: source syntax 0\n"),
+    ("program P ;", 3, "htl: source syntax 10\n"),
+    ("program P {", 3, "htl: source syntax 11\n"),
     (
         "program P { module M start m { } }",
         3,
@@ -225,8 +227,40 @@ fn sources_end_at_their_limits(rt: HostRuntime) -> Result<(), Fail> {
     let told = "htl: source limit 10 count 1025\n";
     assert!(rt; is_refused(alloc, text.as_str(), 3, told)?);
     // 1,048,576 bytes, and one more
-    assert!(rt; compiles_blanks(alloc, 1_048_576, "htl: source syntax\n")?);
+    assert!(rt; compiles_blanks(alloc, 1_048_576, "htl: source syntax 1048576\n")?);
     assert!(rt; compiles_blanks(alloc, 1_048_577, "htl: source too-long 1048577\n")?);
+    Ok(())
+}
+
+// Sources with a blank between each two tokens, which have each production of the grammar, and the byte from which on they
+// are cut.
+const PRODUCTIONS: [(&str, usize); 2] = [
+    (
+        "program P { communicator int u period 10 init - 7 ; sensor bool s period 10 init true ; module M start m { task t input ( int x , bool y ) output ( int z = if ( ! y , x * - 3 , ( 2 + x ) ) , bool w = y && x < 2 || y ) worst 3 ; abstract task a input ( ) output ( int v ) worst 4 ; mode m period 10 program Q { port int p ; invoke t input ( ( u , 0 ) , p ) output ( p , ( u , 1 ) ) parent a ; switch ( s || u >= 3 , m ) ; } } }",
+        0,
+    ),
+    ("program P { } program Q { }", 14),
+];
+
+// Whether a source that is cut at this byte has its fault there.
+fn ends_too_early(alloc: Global, source: &[u8], at: usize) -> Result<bool, Fail> {
+    if at > source.len() {
+        return Ok(false);
+    }
+    let told = format!(in alloc; "htl: source syntax {at}\n")?;
+    let want = (3, b"".as_slice(), told.as_str());
+    compiles(alloc, &source[..at], &Setting::of(""), want)
+}
+
+#[test]
+fn cut_sources_have_their_fault_at_the_end(rt: HostRuntime) -> Result<(), Fail> {
+    for (source, from) in PRODUCTIONS {
+        for (at, byte) in source.as_bytes().iter().enumerate() {
+            if at >= from && *byte == b' ' {
+                assert!(rt; ends_too_early(rt.alloc(), source.as_bytes(), at)?, "{at}");
+            }
+        }
+    }
     Ok(())
 }
 

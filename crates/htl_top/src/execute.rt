@@ -1,11 +1,13 @@
 // An accepted object, run with the input as script.
-ghost use Rattle.std.specs.Prelude.{◌≡◌, ℕ, [], None, Err, OnOk};
+ghost use Rattle.std.specs.Prelude.{◌≡◌, ◌+◌, ℕ, [], None, Err, OnOk};
+ghost use Rattle.htl_base.specs.declared.limits.TheConstants as limit;
 ghost use Rattle.htl_edge.specs.Causes.{Rose};
 ghost use Rattle.htl_edge.specs.Content.{Puts, none_left};
 ghost use Rattle.htl_machine.specs.Calls.{Follows};
 ghost use Rattle.htl_machine.specs.Programs.{text_of};
 ghost use Rattle.htl_object.specs.Accepted.{IsAccepted};
 ghost use Rattle.htl_script.specs.Events.{AreEvents};
+ghost use Rattle.htl_script.specs.Reading.{LosesFront};
 ghost use Rattle.htl_top.specs.Answers.{streams, IsWritten};
 ghost use Rattle.htl_top.specs.Runs.{IsRun};
 ghost use Rattle.htl_top.specs.Scripts.{EndsAt, IsScriptRead};
@@ -30,9 +32,10 @@ pub fn execute<R: Source, W: Sink>(
     input: &mut R,
     out: &mut W,
 ) -> Outcome
-    ensures { IsRun show l.now.tables l.now
+    ensures answer { IsRun show l.now.tables l.now
         (streams R.rest R.faults W.written W.faults input.old out.old) (streams R.rest R.faults W.written W.faults input.new out.new)
         result }
+    ensures taken { LosesFront (limit.MAX_SCRIPT + 4096) (R.rest input.old) (R.rest input.new) }
 {
     let Ok(mut machine) = Machine::new(alloc, l, show) else {
         return Outcome::Memory;
@@ -57,6 +60,7 @@ fn read<R: Source>(
     ensures script { IsScriptRead tables.now (R.rest input.old) events.new.items result }
     ensures events { AreEvents tables.now None events.new.items }
     ensures left { OnOk result (R.rest input.new ≡ none_left (R.rest input.old)) }
+    ensures taken { LosesFront (limit.MAX_SCRIPT + 4096) (R.rest input.old) (R.rest input.new) }
     ensures read { result ≡ Err WholeStop.Read → Rose (R.faults input.old) (R.faults input.new) }
 {
     read_script(alloc, input, tables, events)

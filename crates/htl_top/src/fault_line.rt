@@ -57,7 +57,7 @@ fn source_line(fault: &SourceFault) -> LineBuffer
         SourceFault::Number { at } => numbered_line(b"htl: source number ", *at),
         SourceFault::NameLong { at } => numbered_line(b"htl: source name-long ", *at),
         SourceFault::Long { at } => numbered_line(b"htl: source long ", *at),
-        SourceFault::Syntax => plain_line(b"htl: source syntax\n"),
+        SourceFault::Syntax { at } => numbered_line(b"htl: source syntax ", *at),
         SourceFault::Twice { at } => numbered_line(b"htl: source twice ", *at),
         SourceFault::Unknown { at } => numbered_line(b"htl: source unknown ", *at),
         SourceFault::Kind { at } => numbered_line(b"htl: source kind ", *at),

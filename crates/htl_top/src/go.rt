@@ -1,9 +1,10 @@
 // The command `go`: a source, compiled, loaded and run.
-ghost use Rattle.std.specs.Prelude.{◌≡◌, ◌≤◌, List, ℕ, Some, length};
+ghost use Rattle.std.specs.Prelude.{◌≡◌, ◌≤◌, ◌+◌, List, ℕ, Some, length};
 ghost use Rattle.htl_base.specs.declared.limits.TheConstants as limit;
 ghost use Rattle.htl_compile.specs.Building.{IsCompiledTo};
 ghost use Rattle.htl_compile.specs.Built.{built};
 ghost use Rattle.htl_console.specs.declared.shown.Shown.TheVariants as shown;
+ghost use Rattle.htl_script.specs.Reading.{LosesFront};
 ghost use Rattle.htl_top.specs.Answers.{files, streams};
 ghost use Rattle.htl_top.specs.Going.{IsGoing, IsBytesGoing};
 ghost use Rattle.htl_top.specs.Runs.{IsRun};
@@ -33,6 +34,7 @@ pub fn go_file<S: Shelf, R: Source, W: Sink>(
         (streams R.rest R.faults W.written W.faults input.old out.old) (streams R.rest R.faults W.written W.faults input.new out.new)
         result.outcome }
     ensures tables { SpeaksOf (IsTypedProgram (Some name.now) (S.holds shelf.old)) (λ fact. ⊥) result.outcome result.tables }
+    ensures taken { LosesFront (limit.MAX_SCRIPT + 4096) (R.rest input.old) (R.rest input.new) }
     ensures shelf { S.holds shelf.new ≡ S.holds shelf.old }
 {
     match shelf.fetch(alloc, name, MAX_SOURCE) {
@@ -52,6 +54,7 @@ fn go<R: Source, W: Sink>(alloc: Global, bytes: &[u8], input: &mut R, out: &mut 
         (streams R.rest R.faults W.written W.faults input.old out.old) (streams R.rest R.faults W.written W.faults input.new out.new)
         result.outcome }
     ensures tables { SpeaksOf (HasTypedTables bytes.now) (λ fact. ⊥) result.outcome result.tables }
+    ensures taken { LosesFront (limit.MAX_SCRIPT + 4096) (R.rest input.old) (R.rest input.new) }
 {
     match compile_source(alloc, bytes) {
         Ok(object) => Answer::plain(run_compiled(alloc, object.as_slice(), input, out)),
@@ -67,9 +70,10 @@ fn run_compiled<R: Source, W: Sink>(
     out: &mut W,
 ) -> Outcome
     requires { (source : List ℕ) × IsCompiledTo source object.now }
-    ensures { (source : List ℕ) (compiled : IsCompiledTo source object.now) → IsRun shown.Jobs compiled.tables (built compiled.tables)
+    ensures answer { (source : List ℕ) (compiled : IsCompiledTo source object.now) → IsRun shown.Jobs compiled.tables (built compiled.tables)
         (streams R.rest R.faults W.written W.faults input.old out.old) (streams R.rest R.faults W.written W.faults input.new out.new)
         result }
+    ensures taken { LosesFront (limit.MAX_SCRIPT + 4096) (R.rest input.old) (R.rest input.new) }
 {
     match load(alloc, object) {
         Ok(loaded) => execute(alloc, &loaded, Shown::Jobs, input, out),

@@ -1,5 +1,6 @@
 // What the values and lines of a run depend on, and what `go` shows of a source. Each law is a statement that the check has
 // proved; there is nothing to run.
+ghost use Rattle.htl_top.specs.JobLaws.{GoShowsJobLines, GoTellsJobsInTime};
 ghost use Rattle.htl_top.specs.Laws.{SensorsDecideLines, EarlierReadingsDecideValues, EarlierReadingsDecideTexts, GoShowsTheMeaning, GoKeepsDeadlines};
 
 /// Two scripts with the same sensor values up to an instant give the same lines of values and modes up to
@@ -28,4 +29,16 @@ pub fn go_shows_the_meaning()
 /// is done once, within its window, in slices of its own that begin no earlier than its predecessors are done.
 pub fn go_keeps_deadlines()
     ensures { GoKeepsDeadlines }
+{}
+
+/// At each instant of a run of a source's object, what `go` shows is the j and d lines of the records that are left then, and the lines
+/// of values and modes, and nothing else.
+pub fn go_shows_job_lines()
+    ensures { GoShowsJobLines }
+{}
+
+/// In a run of a source's object with a whole script for its tables, of each job of each round whose window ended by the end of the run
+/// the text has one d line, no later than the end of its window, and its j lines lie in the window and have as many ticks as it takes.
+pub fn go_tells_jobs_in_time()
+    ensures { GoTellsJobsInTime }
 {}

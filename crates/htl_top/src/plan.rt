@@ -1,7 +1,9 @@
 // The command `plan`: the round of the jobs at a selection of running modes.
-ghost use Rattle.std.specs.Prelude.{◌≡◌, Some, None, IfOk, length};
+ghost use Rattle.std.specs.Prelude.{◌≡◌, ◌+◌, Some, None, IfOk, length};
+ghost use Rattle.htl_base.specs.declared.limits.TheConstants as limit;
 ghost use Rattle.htl_edge.specs.Content.{Puts};
 ghost use Rattle.htl_model.specs.Selected.{IsSelection};
+ghost use Rattle.htl_script.specs.Reading.{LosesFront};
 ghost use Rattle.htl_top.specs.Answers.{files, streams};
 ghost use Rattle.htl_top.specs.Objects.{IsOnObject, IsObjectTables};
 ghost use Rattle.htl_top.specs.Planned.{plan_text, IsPlanned};
@@ -43,14 +45,7 @@ fn write_plan<W: Sink>(out: &mut W, l: &Loaded, s: &Selection) -> Result<(), Fai
     let Some(period) = t.period() else {
         return line_plan(out, 0, 0, 0);
     };
-    let mut jobs = [Job {
-        present: false,
-        inv: 0,
-        release: 0,
-        end: 0,
-        worst: 0,
-        preds: 0,
-    }; MAX_POSITIONS];
+    let mut jobs = [Job::ABSENT; MAX_POSITIONS];
     let count = derive(t, s, &mut jobs);
     let schedule = &l.schedules()[selection_of(t, s) as usize];
     write_round(out, t, &jobs[..count], schedule.instrs.as_slice(), period)
@@ -58,9 +53,10 @@ fn write_plan<W: Sink>(out: &mut W, l: &Loaded, s: &Selection) -> Result<(), Fai
 
 // Reads a selection of running modes, and writes its plan.
 fn plan<R: Source, W: Sink>(alloc: Global, l: &Loaded, input: &mut R, out: &mut W) -> Outcome
-    ensures { IsPlanned l.now
+    ensures answer { IsPlanned l.now
         (streams R.rest R.faults W.written W.faults input.old out.old) (streams R.rest R.faults W.written W.faults input.new out.new)
         result }
+    ensures taken { LosesFront (limit.MAX_SCRIPT + 4096) (R.rest input.old) (R.rest input.new) }
 {
     let Ok(mut selection) = no_modes(alloc, l.tables()) else {
         return Outcome::Memory;
@@ -87,6 +83,7 @@ pub fn plan_file<S: Shelf, R: Source, W: Sink>(
         (streams R.rest R.faults W.written W.faults input.old out.old) (streams R.rest R.faults W.written W.faults input.new out.new)
         result.outcome }
     ensures tables { SpeaksOf (λ fact. ⊥) (IsObjectTables (Some name.now) (S.holds shelf.old)) result.outcome result.tables }
+    ensures taken { LosesFront (limit.MAX_SCRIPT + 4096) (R.rest input.old) (R.rest input.new) }
     ensures shelf { S.holds shelf.new ≡ S.holds shelf.old }
 {
     match open(alloc, name, shelf) {

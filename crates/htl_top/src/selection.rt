@@ -1,6 +1,8 @@
 // The reader of a plan's input.
-ghost use Rattle.std.specs.Prelude.{◌≡◌, ◌≤◌, ◌+◌, length, ℕ, List, OnOk, IfSome};
+ghost use Rattle.std.specs.Prelude.{◌≡◌, ◌≤◌, ◌+◌, length, ℕ, List, OnOk};
+ghost use Rattle.htl_base.specs.declared.limits.TheConstants as limit;
 ghost use Rattle.htl_edge.specs.Content.{none_left};
+ghost use Rattle.htl_script.specs.Reading.{OfScript, LosesFront};
 ghost use Rattle.htl_top.specs.declared.selection.ScriptStop.TheVariants as stop;
 ghost use Rattle.htl_top.specs.SelectionInput.{input_of};
 ghost use Rattle.htl_top.specs.SelectionReaders.{Takes, Finishes, IsAnswer, HasReadCause};
@@ -83,9 +85,10 @@ fn read_entries<R: Source>(
     modes: &mut Seq<Option<u16>>,
 ) -> Result<(), ScriptStop>
     requires { length modes.old ≡ length t.now.modules }
-    ensures input { IfSome (R.rest src.old) (λ bytes. IsAnswer (input_of t.now bytes) modes.new result) }
+    ensures input { OfScript (R.rest src.old) (λ bytes. IsAnswer (input_of t.now bytes) modes.new result) }
     ensures selection { OnOk result (IsSelection t.now modes.new) }
     ensures whole { OnOk result (R.rest src.new ≡ none_left (R.rest src.old)) }
+    ensures taken { LosesFront (limit.MAX_SCRIPT + 4096) (R.rest src.old) (R.rest src.new) }
     ensures cause { HasReadCause (R.faults src.old) (R.faults src.new) result }
 {
     let _parts = t.parts();
@@ -106,16 +109,18 @@ fn read_entries<R: Source>(
 
 /// Reads the input of a plan to its end, and writes what it says to `s`, which has one entry for each module. On Ok `s` is a selection of
 /// running modes. `Script` comes exactly at the input's first fault, and `Read` only where the source counted a fault; after both the
-/// entries of `s` may have changed. It takes no memory.
+/// entries of `s` may have changed. At most 1,073,745,920 bytes are read: those of the longest input, and one piece of 4,096. It takes no
+/// memory.
 pub fn read_selection<R: Source>(
     src: &mut R,
     t: &Tables,
     s: &mut Selection,
 ) -> Result<(), ScriptStop>
     requires { length s.old.modes ≡ length t.now.modules }
-    ensures input { IfSome (R.rest src.old) (λ bytes. IsAnswer (input_of t.now bytes) s.new.modes result) }
+    ensures input { OfScript (R.rest src.old) (λ bytes. IsAnswer (input_of t.now bytes) s.new.modes result) }
     ensures selection { OnOk result (IsSelection t.now s.new.modes) }
     ensures whole { OnOk result (R.rest src.new ≡ none_left (R.rest src.old)) }
+    ensures taken { LosesFront (limit.MAX_SCRIPT + 4096) (R.rest src.old) (R.rest src.new) }
     ensures cause { HasReadCause (R.faults src.old) (R.faults src.new) result }
 {
     read_entries(src, t, &mut s.modes)

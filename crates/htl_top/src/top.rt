@@ -2,8 +2,9 @@
 ghost use Rattle.std.specs.Prelude.{◌≡◌, ◌≤◌, ◌<◌, ◌↔◌, ◌⊎◌, ℕ, List, Option, Some, None, length};
 ghost use Rattle.std.specs.Io.KnownBytes.{append_known};
 ghost use Rattle.htl_base.specs.declared.limits.TheConstants as limit;
-ghost use Rattle.htl_compile.specs.Built.{built, CanBuild};
+ghost use Rattle.htl_compile.specs.Built.{built, AreSchedulable};
 ghost use Rattle.htl_compile.specs.Building.{IsCompileFault};
+ghost use Rattle.htl_compile.specs.Coded.{AreTyped};
 ghost use Rattle.htl_compile.specs.Sources.{IsTablesOf};
 ghost use Rattle.htl_compile.specs.declared.compiling.CompileFault.{CompileFault};
 ghost use Rattle.htl_compile.specs.declared.compiling.CompileFault.TheVariants as failing;
@@ -15,10 +16,12 @@ ghost use Rattle.htl_edge.specs.Causes.{Rose};
 ghost use Rattle.htl_edge.specs.Content.{AppendsPrefix, none_left};
 ghost use Rattle.htl_load.specs.Loading.{RefusesBytes};
 ghost use Rattle.htl_load.specs.declared.fault.ObjectFault.{ObjectFault};
+ghost use Rattle.htl_model.specs.Broken.{Formed};
 ghost use Rattle.htl_model.specs.Tables.{Tables};
 ghost use Rattle.htl_model.specs.declared.event.Event.{Event};
 ghost use Rattle.htl_model.specs.declared.form_fault.FormFault.{FormFault};
 ghost use Rattle.htl_object.specs.declared.object.Object.{Object};
+ghost use Rattle.htl_script.specs.Reading.{LosesFront};
 ghost use Rattle.htl_script.specs.declared.fault.ScriptFault.{ScriptFault};
 ghost use Rattle.htl_top.specs.Answers.{files, streams, IsBeforeScript, IsBeforeRun, Tells};
 ghost use Rattle.htl_top.specs.Calls.{IsCall, HasSource, HasObject};
@@ -34,7 +37,7 @@ ghost use Rattle.htl_top.specs.SelectionInput.{Whole, Bad, input_of};
 ghost use Rattle.htl_top.specs.Shown.{show_text};
 ghost use Rattle.htl_top.specs.Sources.{IsProgram, IsInputProgram, answer_of};
 ghost use Rattle.htl_top.specs.Telling.{SpeaksOf, IsLineTold};
-ghost use Rattle.htl_top.specs.Words.{Go, Compile, Run, Check, Plan, Show, asked_for, command_in, source_in, object_in, with_file};
+ghost use Rattle.htl_top.specs.Words.{Go, Compile, Run, Check, Plan, Show, asked_for, command_in, source_in, object_in, most_taken, with_file};
 ghost use Rattle.htl_top.specs.declared.outcome.ShelfCause.TheVariants as cause;
 
 use crate::Outcome;
@@ -73,6 +76,9 @@ use std::alloc::Global;
 /// With the words `plan OBJ` the object is tested likewise, `input` is read to its end as a line `mode MODULE MODE` for each module, and
 /// the slices and finishes of the jobs at these modes with their worst cases go to `out`, with a last line. The first of these is the
 /// answer: `Shelf`; `Object`; line by line `Read` and `Script`, after which nothing was written; `Write`; `Done`.
+///
+/// A command takes no more of the input than a front of at most 1,073,745,920 bytes, or 1,052,672 for `compile`: the longest script, or
+/// source, and one piece of 4,096 bytes.
 ///
 /// Other words are `Usage`. Want of memory may stand in place of any answer but `Usage`, before the first byte is written. A line on
 /// `err` tells of every answer but `Done`; a failing `err` changes nothing else.
@@ -133,7 +139,7 @@ pub fn htl<S: Shelf, R: Source, W: Sink, E: Sink>(
     ensures faulty_input { command_in words.now ≡ Some Compile → (bytes : List ℕ) → R.rest input.old ≡ Some bytes → length bytes ≤ limit.MAX_SOURCE
         → (fault : CompileFault) → (fault ≡ failing.Memory → ⊥) → IsCompileFault bytes fault → (Rose (R.faults input.old) (R.faults input.new) → ⊥) → IsOrMemory result (answer_of fault) }
     ensures compile_complete { command_in words.now ≡ Some Compile → (bytes : List ℕ) → R.rest input.old ≡ Some bytes → length bytes ≤ limit.MAX_SOURCE
-        → (t : Tables) → IsTablesOf bytes t → CanBuild t
+        → (t : Tables) → IsTablesOf bytes t → AreTyped t → Formed t → AreSchedulable t
         → (Rose (R.faults input.old) (R.faults input.new) → ⊥) → (Rose (W.faults out.old) (W.faults out.new) → ⊥) → IsOrMemory result Outcome.Done }
 
     // The object of the other commands: its faults, and where this must be the answer, or Memory.
@@ -199,10 +205,11 @@ pub fn htl<S: Shelf, R: Source, W: Sink, E: Sink>(
         → (script : List ℕ) (modes : List (Option ℕ)) → R.rest input.old ≡ Some script → input_of o.tables script ≡ Whole modes
         → (Rose (R.faults input.old) (R.faults input.new) → ⊥) → (Rose (W.faults out.old) (W.faults out.new) → ⊥) → IsOrMemory result Outcome.Done }
 
-    // What stays as it was.
+    // What stays as it was, and how much of the input was taken.
     ensures memory { result ≡ Outcome.Memory → W.written out.new ≡ W.written out.old }
     ensures unwritten { IsBeforeRun result → W.written out.new ≡ W.written out.old }
     ensures unread { (command_in words.now ≡ Some Compile → ⊥) → IsBeforeScript result → R.rest input.new ≡ R.rest input.old }
+    ensures taken { LosesFront (most_taken (command_in words.now)) (R.rest input.old) (R.rest input.new) }
     ensures shelf { S.holds shelf.new ≡ S.holds shelf.old }
 
     // What tells of the answer.
@@ -234,6 +241,7 @@ fn answer_to<S: Shelf, R: Source, W: Sink>(
         (streams R.rest R.faults W.written W.faults input.old out.old) (streams R.rest R.faults W.written W.faults input.new out.new)
         result.outcome }
     ensures tables { SpeaksOf (HasSource (command_in words.now) (S.holds shelf.old) (R.rest input.old)) (HasObject (command_in words.now) (S.holds shelf.old)) result.outcome result.tables }
+    ensures taken { LosesFront (most_taken (command_in words.now)) (R.rest input.old) (R.rest input.new) }
     ensures shelf { S.holds shelf.new ≡ S.holds shelf.old }
 {
     match read_words(words) {
@@ -255,6 +263,7 @@ fn answered<S: Shelf, R: Source, W: Sink>(
         (streams R.rest R.faults W.written W.faults input.old out.old) (streams R.rest R.faults W.written W.faults input.new out.new)
         result.outcome }
     ensures tables { SpeaksOf (HasSource (Some (asked_for asked.entry)) (S.holds shelf.old) (R.rest input.old)) (HasObject (Some (asked_for asked.entry)) (S.holds shelf.old)) result.outcome result.tables }
+    ensures taken { LosesFront (most_taken (Some (asked_for asked.entry))) (R.rest input.old) (R.rest input.new) }
     ensures shelf { S.holds shelf.new ≡ S.holds shelf.old }
 {
     match asked {
@@ -277,6 +286,7 @@ fn about_file<S: Shelf, R: Source, W: Sink>(
         (streams R.rest R.faults W.written W.faults input.old out.old) (streams R.rest R.faults W.written W.faults input.new out.new)
         result.outcome }
     ensures tables { SpeaksOf (HasSource (Some (with_file verb name.now)) (S.holds shelf.old) (R.rest input.old)) (HasObject (Some (with_file verb name.now)) (S.holds shelf.old)) result.outcome result.tables }
+    ensures taken { LosesFront (most_taken (Some (with_file verb name.now))) (R.rest input.old) (R.rest input.new) }
     ensures shelf { S.holds shelf.new ≡ S.holds shelf.old }
 {
     match verb {

@@ -7,6 +7,7 @@ use Rattle.htl_top.proofs.Stopping.{of_answer}
 use Rattle.htl_top.specs.Answers.{streams}
 use Rattle.htl_top.specs.Sources.{HasTypedTables}
 use Rattle.htl_top.specs.Telling.{SpeaksOf}
+use Rattle.htl_top.proofs.Inputs.{taken_none}
 use Rattle.htl_top.proofs.go.go.Goals as goal
 
 pub returns-in-Ok-clause-answer : goal.returns-in-Ok-clause-answer
@@ -14,7 +15,7 @@ returns-in-Ok-clause-answer g c =
     let side = streams g.R.Source.rest g.R.Source.faults g.W.Sink.written g.W.Sink.faults in
     inl (
     bytes_run c.args.bytes.now c.in-Ok.object.items c.as_slice.result.now (side c.args.input.now c.args.out.now) (side c.run_compiled.new.input c.run_compiled.new.out)
-    c.plain.result.outcome c.run_compiled.result c.as_slice.ensures.value c.plain.ensures.outcome c.in-Ok.ensures.compiled c.run_compiled.ensures
+    c.plain.result.outcome c.run_compiled.result c.as_slice.ensures.value c.plain.ensures.outcome c.in-Ok.ensures.compiled c.run_compiled.ensures.answer
     )
 
 pub returns-in-Ok-clause-tables : goal.returns-in-Ok-clause-tables
@@ -24,10 +25,13 @@ returns-in-Ok-clause-tables g c =
     let new = side c.run_compiled.new.input c.run_compiled.new.out in
     let has =
     bytes_run c.args.bytes.now c.in-Ok.object.items c.as_slice.result.now old new
-    c.plain.result.outcome c.run_compiled.result c.as_slice.ensures.value c.plain.ensures.outcome c.in-Ok.ensures.compiled c.run_compiled.ensures in
+    c.plain.result.outcome c.run_compiled.result c.as_slice.ensures.value c.plain.ensures.outcome c.in-Ok.ensures.compiled c.run_compiled.ensures.answer in
     SpeaksOf-run (HasTypedTables c.args.bytes.now) (λ fact. ⊥) Jobs has.tables (built has.tables) old new c.plain.result.outcome c.plain.result.tables has.fact
 
 pub returns-in-Err-clause-tables : goal.returns-in-Err-clause-tables
 returns-in-Err-clause-tables g c =
     of_answer (SpeaksOf (HasTypedTables c.args.bytes.now) (λ fact. ⊥)) c.in-Err.stop c.answer.result.outcome c.answer.result.tables c.answer.ensures.outcome c.answer.ensures.tables
     (SpeaksOf-stop (λ fact. ⊥) c.args.bytes.now c.in-Err.stop c.in-Err.ensures.fault)
+
+pub returns-in-Err-clause-taken : goal.returns-in-Err-clause-taken
+returns-in-Err-clause-taken g c = taken_none 1073745920 (g.R.Source.rest c.args.input.now)

@@ -2,6 +2,7 @@ use Rattle.std.proofs.Common.{List, ℕ, Some, refl, subst}
 use Rattle.htl_top.proofs.Going.{IsGoing-bytes}
 use Rattle.htl_top.specs.Answers.{files, streams}
 use Rattle.htl_top.specs.Going.{IsBytesGoing}
+use Rattle.htl_top.proofs.Inputs.{taken_none}
 use Rattle.htl_top.proofs.go.go_file.Goals as goal
 
 pub returns-in-Ok-clause-answer : goal.returns-in-Ok-clause-answer
@@ -12,3 +13,12 @@ returns-in-Ok-clause-answer g c =
     IsGoing-bytes (Some c.args.name.now) (files g.S.Shelf.holds g.S.Shelf.faults c.args.shelf.now c.fetch.new.self) old new c.in-Ok.bytes.items c.go.result.outcome
     (record { word = c.args.name.now; named = refl; held = c.in-Ok.ensures.bytes; short = c.in-Ok.ensures.short })
     (subst (λ (bs : List ℕ). IsBytesGoing bs old new c.go.result.outcome) c.as_slice.ensures.value c.go.ensures.answer)
+
+pub returns-in-Err-Failed-clause-taken : goal.returns-in-Err-Failed-clause-taken
+returns-in-Err-Failed-clause-taken g c = taken_none 1073745920 (g.R.Source.rest c.args.input.now)
+
+pub returns-in-Err-TooLong-clause-taken : goal.returns-in-Err-TooLong-clause-taken
+returns-in-Err-TooLong-clause-taken g c = taken_none 1073745920 (g.R.Source.rest c.args.input.now)
+
+pub returns-in-Err-Memory-clause-taken : goal.returns-in-Err-Memory-clause-taken
+returns-in-Err-Memory-clause-taken g c = taken_none 1073745920 (g.R.Source.rest c.args.input.now)

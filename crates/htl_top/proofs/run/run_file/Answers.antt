@@ -2,10 +2,14 @@ use Rattle.std.proofs.Common.{Some}
 use Rattle.htl_top.proofs.ObjectAnswering.{IsOnObject-opened}
 use Rattle.htl_top.specs.Answers.{files, streams}
 use Rattle.htl_top.specs.Runs.{IsRun}
+use Rattle.htl_top.proofs.Inputs.{taken_none}
 use Rattle.htl_top.proofs.run.run_file.Goals as goal
 
 pub returns-in-Ok-clause-answer : goal.returns-in-Ok-clause-answer
 returns-in-Ok-clause-answer g c =
     let side = streams g.R.Source.rest g.R.Source.faults g.W.Sink.written g.W.Sink.faults in
     IsOnObject-opened (λ o. IsRun c.args.show o.tables o) (Some c.args.name.now) (files g.S.Shelf.holds g.S.Shelf.faults c.args.shelf.now c.open.new.shelf) (side c.args.input.now c.args.out.now)
-    (side c.execute.new.input c.execute.new.out) c.in-Ok.loaded c.execute.result c.plain.result.outcome c.plain.ensures.outcome c.in-Ok.ensures.opened c.execute.ensures
+    (side c.execute.new.input c.execute.new.out) c.in-Ok.loaded c.execute.result c.plain.result.outcome c.plain.ensures.outcome c.in-Ok.ensures.opened c.execute.ensures.answer
+
+pub returns-in-Err-clause-taken : goal.returns-in-Err-clause-taken
+returns-in-Err-clause-taken g c = taken_none 1073745920 (g.R.Source.rest c.args.input.now)

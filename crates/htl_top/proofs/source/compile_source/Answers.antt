@@ -4,7 +4,7 @@ use Rattle.htl_top.proofs.source.compile_source.Goals as goal
 
 pub returns-in-Err-clause-fault : goal.returns-in-Err-clause-fault
 returns-in-Err-clause-fault c =
-    IsNotCompiled-stopped c.args.bytes.now c.in-Ok.tables c.in-Err.tables c.in-Err.fault c.stopped.result c.stopped.ensures c.in-Err.ensures.fault.0 c.in-Ok.ensures.read c.in-Err.ensures.fault.1
+    IsNotCompiled-stopped c.args.bytes.now c.in-Ok.tables c.in-Err.tables c.in-Err.fault c.stopped.result c.requires c.stopped.ensures c.in-Err.ensures.fault.0 c.in-Ok.ensures.read c.in-Err.ensures.fault.1
 
 pub returns-in-Ok-encode-clause-compiled : goal.returns-in-Ok-encode-clause-compiled
 returns-in-Ok-encode-clause-compiled c =

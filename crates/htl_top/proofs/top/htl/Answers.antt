@@ -66,6 +66,7 @@ returns g c =
       memory = λ e. calling.unwritten shelf old new command Memory (subst Answered e answer) tt;
       unwritten = calling.unwritten shelf old new command outcome answer;
       unread = calling.unread shelf old new command outcome answer;
+      taken = c.answer_to-answer.ensures.taken;
       shelf = c.answer_to-answer.ensures.shelf;
       told =
           telling.IsLineTold-report command shelf.holds old.rest
