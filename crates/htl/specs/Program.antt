@@ -28,10 +28,6 @@ pub record EndsWordless (old new : Streams) (Told : List ℕ → Type 0) (status
 abbrev pub Ends : List (List ℕ) → Files → Streams → Streams → (List ℕ → Type 0) → Type 0 → ℕ → Type 0
 Ends words shelf old new Told Quiet status = EndsWith words shelf old new Told Quiet status ⊎ EndsWordless old new Told status
 
--- the same, for some words
-abbrev pub EndsSomehow : Files → Streams → Streams → (List ℕ → Type 0) → Type 0 → ℕ → Type 0
-EndsSomehow shelf old new Told Quiet status = (words : List (List ℕ)) × Ends words shelf old new Told Quiet status
-
 -- ---- the real files and streams, which tell their counts of faults alone
 
 abbrev pub untold : Option (List ℕ)
@@ -43,8 +39,8 @@ counted_files before after = record { holds = None; before = λ name. before; af
 abbrev pub counted_streams : ℕ → ℕ → Streams
 counted_streams read_faults write_faults = record { rest = untold; read_faults = read_faults; written = untold; write_faults = write_faults }
 
--- the same over real files and streams that counted no fault before, for some words and some counts afterwards
-abbrev pub EndsFresh : ℕ → Type 0
-EndsFresh status =
+-- the same over real files and streams that counted no fault before, for some counts afterwards
+abbrev pub EndsFresh : List (List ℕ) → ℕ → Type 0
+EndsFresh words status =
     (seen read_faults write_faults told_faults : ℕ)
-    × EndsSomehow (counted_files 0 seen) (counted_streams 0 0) (counted_streams read_faults write_faults) (Tells untold untold 0 told_faults) (untold ≡ untold) status
+    × Ends words (counted_files 0 seen) (counted_streams 0 0) (counted_streams read_faults write_faults) (Tells untold untold 0 told_faults) (untold ≡ untold) status

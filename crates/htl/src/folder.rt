@@ -1,38 +1,79 @@
 // Sources from the files of the machine.
-ghost use Rattle.std.specs.Prelude.{None, IfOk, IfErr, length, ◌≤◌, ◌≡◌, []};
+ghost use Rattle.std.specs.Prelude.{None, Some, ℕ, List, Option, IfOk, IfErr, IfSome, length, ◌≤◌, ◌≡◌, []};
 ghost use Rattle.htl_edge.specs.Causes.{Rose};
 ghost use Rattle.htl_edge.specs.Holdings.{IsTooLong};
 
 use htl_edge::{Shelf, ShelfFault};
 use std::alloc::Global;
-use std::fs;
 use std::io::Read;
 use std::rt::Files;
+use std::{fs, io};
 
-/// A shelf over files by name, with one count of faults for all names. A file that can't be opened or read is a
-/// fault. It tells no content.
-#[derive(Drop)]
-pub struct Folder<'a, F> {
-    rt: &'a F,
-    faults: u64,
+/// Files that are opened by name, which may tell what a file holds.
+pub trait Open {
+    type File: Read + Drop;
+
+    ghost held: { Self → List ℕ → Option (List ℕ) };
+
+    fn open(&self, name: &str) -> io::Result<Self::File>
+        ensures { IfOk result (λ file. IfSome (held self.now name.now) (λ bytes. Self.File.remaining file ≡ Some bytes)) };
 }
 
-impl<'a, F: Files> Folder<'a, F> {
-    /// A shelf over the files of a runtime, with no fault counted.
-    pub fn new(rt: &'a F) -> Folder<'a, F>
-        ensures { result.faults ≡ 0 }
-    {
-        Folder { rt, faults: 0 }
+/// The files of a runtime, which tell nothing.
+#[derive(Drop)]
+pub struct Disk<'a, F> {
+    rt: &'a F,
+}
+
+impl<'a, F: Files> Disk<'a, F> {
+    /// The files of a runtime.
+    pub fn new(rt: &'a F) -> Disk<'a, F> {
+        Disk { rt }
     }
 }
 
-impl<'a, F: Files> Shelf for Folder<'a, F> {
+impl<'a, F: Files> Open for Disk<'a, F> {
+    type File = F::File;
+
+    ghost held = { λ _ _. None };
+
+    fn open(&self, name: &str) -> io::Result<F::File> {
+        fs::open(self.rt, name)
+    }
+}
+
+/// A shelf over files by name, with one count of faults for all names. A file that can't be opened or read is a
+/// fault. As a shelf it tells no content; where the files tell what they hold, a fetch gives that of the name.
+#[derive(Drop)]
+pub struct Folder<F> {
+    files: F,
+    faults: u64,
+}
+
+impl<F: Open> Folder<F> {
+    /// A shelf over these files, with no fault counted.
+    pub fn new(files: F) -> Folder<F>
+        ensures files { result.files ≡ files }
+        ensures fresh { result.faults ≡ 0 }
+    {
+        Folder { files, faults: 0 }
+    }
+}
+
+impl<F: Open> Shelf for Folder<F> {
     ghost holds = { λ _. None };
 
     ghost faults = { λ s _. s.faults };
 
-    fn fetch(&mut self, alloc: Global, name: &str, limit: u64) -> Result<Vec<u8>, ShelfFault> {
-        match fs::open(self.rt, name) {
+    fn fetch(&mut self, alloc: Global, name: &str, limit: u64) -> Result<Vec<u8>, ShelfFault>
+        ensures short { IfOk result (λ bytes. length bytes.items ≤ limit) }
+        ensures long { IfErr result (IsTooLong None name.now limit) }
+        ensures failed { result ≡ Err ShelfFault.Failed → Rose self.old.faults self.new.faults }
+        ensures counts { self.old.faults ≤ self.new.faults }
+        ensures whole { IfOk result (λ bytes. IfSome (F.held self.old.files name.now) (λ held. bytes.items ≡ held)) }
+        ensures files { self.new.files ≡ self.old.files }
+    {
+        match self.files.open(name) {
             Ok(mut file) => read_up_to(alloc, &mut file, limit, &mut self.faults),
             Err(_) => {
                 self.faults = self.faults.saturating_add(1);
@@ -42,7 +83,7 @@ impl<'a, F: Files> Shelf for Folder<'a, F> {
     }
 }
 
-// The whole of a file of at most `limit` bytes. A longer one is read no further than the limit was passed.
+// The whole of a file of at most `limit` bytes.
 pub fn read_up_to<R: Read>(
     alloc: Global,
     file: &mut R,
@@ -50,6 +91,7 @@ pub fn read_up_to<R: Read>(
     faults: &mut u64,
 ) -> Result<Vec<u8>, ShelfFault>
     ensures short { IfOk result (λ bytes. length bytes.items ≤ limit) }
+    ensures whole { IfOk result (λ bytes. IfSome (R.remaining file.old) (λ all. bytes.items ≡ all)) }
     ensures long { IfErr result (IsTooLong None [] limit) }
     ensures failed { result ≡ Err ShelfFault.Failed → Rose faults.old faults.new }
     ensures counts { faults.old ≤ faults.new }

@@ -9,10 +9,12 @@ mod program;
 mod program_tests;
 #[cfg(test)]
 mod tests;
+mod words;
 
 use program::ended;
+use std::env;
 use std::process::ExitCode;
 
 fn main(rt: HostRuntime) -> ExitCode {
-    ended(&rt)
+    ended(env::args(&rt), &rt)
 }

@@ -1,33 +1,34 @@
 // What the program does with its words, files and streams, and the status with which it ends.
-ghost use Rattle.std.specs.Prelude.{◌≡◌, drop, map, string_bytes, IfOk, None};
+ghost use Rattle.std.specs.Prelude.{◌≡◌, map, string_bytes, None};
 ghost use Rattle.htl_top.specs.Answers.{files, streams, Tells};
 ghost use Rattle.htl_top.specs.Status.{fault_line, status_of};
 ghost use Rattle.htl_top.specs.declared.outcome.Outcome.TheVariants.{Memory as NoMemory};
 ghost use Rattle.std.specs.Process.{exit_status};
-ghost use Rattle.htl.specs.Program.{Ends, EndsFresh, EndsSomehow, counted_files, counted_streams, untold};
+ghost use Rattle.htl.specs.Program.{Ends, EndsFresh, counted_files, counted_streams, untold};
+ghost use Rattle.htl.specs.Words.{words_of};
 
-use crate::folder::Folder;
+use crate::folder::{Disk, Folder};
 use crate::input::Input;
 use crate::output::Output;
+use crate::words::{after_name, held, lent};
 use htl_base::Memory;
 use htl_edge::{Shelf, Sink, Source};
 use htl_top::{Outcome, htl, report, status};
 use std::alloc::Global;
 use std::env::Args;
+use std::io;
 use std::io::{Stderr, StdinLock, Stdout};
 use std::process::ExitCode;
-use std::{env, io};
 
-/// All that the program does. Its files and streams count no fault before, and it ends with the status of what `htl`
-/// answers.
-pub fn ended(rt: &HostRuntime) -> ExitCode
-    ensures { EndsFresh (exit_status result) }
+/// All that the program does with its arguments. Its files and streams count no fault before, and it ends with the
+/// status of what `htl` answers to the words that follow its name.
+pub fn ended(args: io::Result<Args>, rt: &HostRuntime) -> ExitCode
+    ensures { EndsFresh (words_of args) (exit_status result) }
 {
-    let mut shelf = Folder::new(rt);
+    let mut shelf = Folder::new(Disk::new(rt));
     let mut input = Input::new(rt.reader());
     let mut out = Output::new(rt.stdout());
     let mut err = Output::new(rt.stderr());
-    let args = env::args(rt);
     let status = program(args, rt.alloc(), &mut shelf, &mut input, &mut out, &mut err);
     ExitCode::from(status)
 }
@@ -36,12 +37,12 @@ pub fn ended(rt: &HostRuntime) -> ExitCode
 fn program(
     args: io::Result<Args>,
     alloc: Global,
-    shelf: &mut Folder<'_, HostRuntime>,
+    shelf: &mut Folder<Disk<'_, HostRuntime>>,
     input: &mut Input<StdinLock<'_>>,
     out: &mut Output<Stdout>,
     err: &mut Output<Stderr>,
 ) -> u8
-    ensures { EndsSomehow (counted_files shelf.old.faults shelf.new.faults) (counted_streams input.old.faults out.old.faults) (counted_streams input.new.faults out.new.faults)
+    ensures { Ends (words_of args) (counted_files shelf.old.faults shelf.new.faults) (counted_streams input.old.faults out.old.faults) (counted_streams input.new.faults out.new.faults)
         (Tells untold untold err.old.faults err.new.faults) (untold ≡ untold) result }
 {
     command(args, alloc, shelf, input, out, err)
@@ -58,35 +59,13 @@ pub fn command<S: Shelf, R: Source, W: Sink, E: Sink>(
     out: &mut W,
     err: &mut E,
 ) -> u8
-    ensures { EndsSomehow (files S.holds S.faults shelf.old shelf.new)
+    ensures { Ends (words_of args) (files S.holds S.faults shelf.old shelf.new)
         (streams R.rest R.faults W.written W.faults input.old out.old) (streams R.rest R.faults W.written W.faults input.new out.new)
         (Tells (E.written err.old) (E.written err.new) (E.faults err.old) (E.faults err.new)) (E.written err.new ≡ E.written err.old) result }
 {
     match held(alloc, args) {
         Ok(args) => perform(alloc, after_name(args.as_slice()), shelf, input, out, err),
         Err(Memory) => refuse(err),
-    }
-}
-
-// The arguments; none where one isn't text.
-fn held(alloc: Global, args: io::Result<Args>) -> Result<Vec<String>, Memory> {
-    match args {
-        Ok(args) => match args.collect::<Vec<String>>(alloc) {
-            Ok(args) => Ok(args),
-            Err(_) => Err(Memory),
-        },
-        Err(error) if error.kind() == io::ErrorKind::OutOfMemory => Err(Memory),
-        Err(_) => Ok(Vec::new(alloc)),
-    }
-}
-
-// What follows the program's name.
-fn after_name(args: &[String]) -> &[String]
-    ensures { result.now ≡ drop 1 args.now }
-{
-    match args {
-        [_, words @ ..] => words,
-        [] => &[],
     }
 }
 
@@ -107,19 +86,6 @@ fn perform<S: Shelf, R: Source, W: Sink, E: Sink>(
         Ok(words) => status(&htl(alloc, words.as_slice(), shelf, input, out, err)),
         Err(Memory) => refuse(err),
     }
-}
-
-// The words, lent.
-fn lent(alloc: Global, words: &[String]) -> Result<Vec<&str>, Memory>
-    ensures { IfOk result (λ lent. map (λ w. w.now) lent.items ≡ map string_bytes words.now) }
-{
-    let mut lent = Vec::new(alloc);
-    for word in words {
-        if lent.push(word.as_str()).is_err() {
-            return Err(Memory);
-        }
-    }
-    Ok(lent)
 }
 
 // There was no memory for the words.

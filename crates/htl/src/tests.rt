@@ -1,5 +1,5 @@
 // Readers and writers that fail, and files.
-use crate::folder::{Folder, read_up_to};
+use crate::folder::{Disk, Folder, read_up_to};
 use crate::input::Input;
 use crate::output::Output;
 use htl_edge::{Failed, Shelf, ShelfFault, Sink, Source};
@@ -104,7 +104,7 @@ fn files_are_read_up_to_a_limit(rt: HostRuntime) -> Result<(), Fail> {
     let name = format!(in alloc; "/tmp/htl_adapter_test_{}", process::id(rt.process()))?;
     let path = name.as_str();
     fs::write(&rt, path, "12345")?;
-    let mut folder = Folder::new(&rt);
+    let mut folder = Folder::new(Disk::new(&rt));
     let held = folder.fetch(alloc, path, 5);
     assert!(rt; matches!(held, Ok(ref bytes) if bytes.as_slice() == b"12345".as_slice()));
     assert!(rt;
