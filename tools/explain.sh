@@ -30,17 +30,6 @@ at_byte() {
 	excerpt "$1" "$2" "$5"
 }
 
-# A fault of the grammar, which tells no place: the first token with which no source can go on.
-in_grammar() {
-	place=$(od -An -v -tu1 <"$1" | LC_ALL=C awk -f "$tools/syntax.awk" -f "$tools/source.awk" 2>/dev/null)
-	if [ -n "$place" ]; then
-		meaning="The grammar has no such source: here it wants ${place#* }."
-		at_byte "$1" "${place%% *}"
-	else
-		echo "$shown: $meaning"
-	fi
-}
-
 # A fault of a mode or an invocation, MODULE.MODE or MODULE.MODE.TASK.
 at_item() {
 	line=$(outline "$1" | awk -v place="$2" '
@@ -91,7 +80,6 @@ explain_fault() {
 			;;
 		'htl: source not-a-tree '*) at_program "$2" "${1##* }" ;;
 		'htl: source limit '* | 'htl: source too-long '*) echo "$shown: $meaning" ;;
-		'htl: source syntax') in_grammar "$2" ;;
 		'htl: source '*' '[0-9]*) at_byte "$2" "${1##* }" ;;
 		'htl: ill-formed '*)
 			item=${1#* at }

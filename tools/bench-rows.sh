@@ -1,0 +1,96 @@
+# The rows of tools/bench: each makes its inputs, where it is chosen, and measures a run, less another where it says so.
+
+# Whether the label $1 has all words that were given.
+is_chosen() {
+	for word in $chosen; do
+		case " $1 " in *" $word "*) ;; *) return 1 ;; esac
+	done
+}
+
+# A source: $1 its label, $2 its kind, $3 its bytes.
+source_row() {
+	label=$1 kind=$2 size=$3
+	is_chosen "$label" || return 0
+	input=$room/source
+	make "$kind" "size=$size"
+	row "$label" byte bytes "$input" 0 compile
+}
+
+# A source of 100 KB of the kind $1, whose work ends early.
+stage_rows() {
+	for stage in lexed parsed named; do
+		label="text $1 $stage"
+		is_chosen "$label" || continue
+		input=$room/source
+		case $stage in
+		lexed) make "$1" size=100000 && echo '@' >>"$input" ;;
+		parsed) make "$1" size=100000 && echo ';' >>"$input" ;;
+		named) make "$1" size=100000 fault=type ;;
+		esac
+		row "$label" byte bytes "$input" 0 compile
+	done
+}
+
+# A plant, $1 its name, $2 its selections, then awk variables: compiled and checked.
+plant_rows() {
+	name=$1 selections=$2
+	shift 2
+	is_chosen "compile $name" || is_chosen "check $name" || return 0
+	input=$room/source
+	make "$@"
+	! is_chosen "compile $name" || row "compile $name" selection "$selections" "$input" 0 compile
+	is_chosen "check $name" || return 0
+	"$program" compile <"$input" >"$room/object" 2>/dev/null
+	input=/dev/null
+	row "check $name" selection "$selections" "$room/object" 0 check "$room/object"
+}
+
+# The object of a plant, whose awk variables are the words, and in `base` the instructions of its run that ends at 0.
+plant_object() {
+	input=$room/source
+	make "$@"
+	"$program" compile <"$input" >"$room/object" 2>"$room/err" || {
+		echo "tools/bench: the plant $* doesn't compile: $(cat "$room/err")" >&2
+		return 1
+	}
+	input=$room/none
+	printf 'at 0\nend 0\n' >"$input"
+	least=0
+	base=$(instructions run "$room/object")
+}
+
+# A script: $1 its label, $2 its kind, $3 how many names it goes over, then the plant.
+script_row() {
+	label=$1 of=$2 names=$3
+	shift 3
+	is_chosen "$label" || return 0
+	plant_object "$@" || return 0
+	input=$room/script
+	make "$of" lines=1000000 "names=$names"
+	row "$label" line 1000000 "$input" "$base" run "$room/object"
+}
+
+# A run: $1 its label, $2 the word, $3 its rounds, $4 its last instant, then the plant.
+run_row() {
+	label=$1 command=$2 rounds=$3 last=$4
+	shift 4
+	is_chosen "$label" || return 0
+	plant_object "$@" || return 0
+	input=$room/script
+	printf 'at 0\nend %d\n' "$last" >"$input"
+	row "$label" round "$rounds" "$room/object" "$base" "$command" "$room/object"
+}
+
+# An object that no compiler writes: $1 its label, $2 how far its 4,096 jumps land from one another.
+jumps_row() {
+	label=$1
+	is_chosen "$label" || return 0
+	if [ "$(awk 'BEGIN { printf "%c%c", 0, 200 }' | od -An -tu1 | tr -s ' ')" != ' 0 200' ]; then
+		echo "$label: left out, since this awk writes no bytes"
+		return
+	fi
+	input=$room/object
+	make jumps size=3270000 "apart=$2"
+	input=/dev/null
+	row "$label" byte bytes "$room/object" 0 check "$room/object"
+}
