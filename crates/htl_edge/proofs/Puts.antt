@@ -25,30 +25,32 @@ AppendsPrefix-more old mid new first second later before part =
 
 -- the second of two texts fails or is written
 pub Puts-second : {T : Type 0} {E : Type 0} (old mid new : Option (List ℕ)) (before between now : ℕ) (first second : List ℕ) (result : Result T E)
-    → mid ≡ append_known old first → before ≤ between → Puts mid new between now second result → Puts old new before now (first ++ second) result
-Puts-second old mid new before between now first second (Ok x) was later puts = record {
+    → mid ≡ append_known old first → between ≡ before → Puts mid new between now second result → Puts old new before now (first ++ second) result
+Puts-second old mid new before between now first second (Ok x) was same puts = record {
   whole = append_known-more old mid new first second was puts.whole;
   part = tt;
-  cause = record { later = omega (arith, later, puts.cause.later); refused = tt };
+  cause = record { later = omega (arith, same, puts.cause.later); kept = puts.cause.kept ∙ same; refused = tt };
 }
-Puts-second old mid new before between now first second (Err e) was later puts = record {
+Puts-second old mid new before between now first second (Err e) was same puts = record {
   whole = tt;
   part = subst (λ (xs : List ℕ). AppendsPrefix old new (first ++ xs)) (append-nil second) (AppendsPrefix-more old mid new first second [] was puts.part);
   cause = record {
-    later = omega (arith, later, puts.cause.later);
-    refused = omega (arith, later, puts.cause.refused);
+    later = omega (arith, same, puts.cause.later);
+    kept = tt;
+    refused = omega (arith, same, puts.cause.refused);
   };
 }
 
 -- a text in the middle fails
 pub Puts-failed : {T S E F : Type 0} (old mid new : Option (List ℕ)) (before between now : ℕ) (first second later : List ℕ) (e : E) (f : F)
-    → mid ≡ append_known old first → before ≤ between → Puts {T = S} mid new between now second (Err e)
+    → mid ≡ append_known old first → between ≡ before → Puts {T = S} mid new between now second (Err e)
     → Puts {T = T} old new before now (first ++ (second ++ later)) (Err f)
-Puts-failed old mid new before between now first second later e f was le puts = record {
+Puts-failed old mid new before between now first second later e f was same puts = record {
   whole = tt;
   part = AppendsPrefix-more old mid new first second later was puts.part;
   cause = record {
-    later = omega (arith, le, puts.cause.later);
-    refused = omega (arith, le, puts.cause.refused);
+    later = omega (arith, same, puts.cause.later);
+    kept = tt;
+    refused = omega (arith, same, puts.cause.refused);
   };
 }

@@ -1,5 +1,6 @@
 -- What a shelf holds, where it tells it.
-use Rattle.std.specs.Prelude.{ℕ, ◌≡◌, ◌<◌, Option, Some, List, length, IfSome}
+use Rattle.std.specs.Prelude.{ℕ, ◌≡◌, ◌<◌, Option, Some, Ok, Err, List, length, IfSome}
+use Rattle.std.specs.declared.result.Result.{Result}
 use Rattle.std.specs.Ordering.{nat_cmp}
 use Rattle.std.specs.Cmp.Lexicographic.{slice_cmp}
 use Rattle.std.specs.FinMap.{FinMap, get, from_entries}
@@ -24,3 +25,10 @@ IsTooLong holds name limit (TooLong seen) =
     (limit < seen) × IfSome holds (λ held. (bytes : List ℕ) × (get held name ≡ Some bytes) × (seen ≡ length bytes))
 IsTooLong holds name limit Failed = Unit {0}
 IsTooLong holds name limit Memory = Unit {0}
+
+-- A count of faults stands where it stood, unless the answer is a failed fetch.
+abbrev pub IsKept : {T : Type 0} → ℕ → ℕ → Result T ShelfFault → Type 0
+IsKept before now (Ok bytes) = now ≡ before
+IsKept before now (Err (TooLong seen)) = now ≡ before
+IsKept before now (Err Memory) = now ≡ before
+IsKept before now (Err Failed) = Unit {0}

@@ -1,7 +1,7 @@
 // A shelf in memory.
 ghost use Rattle.std.specs.Prelude.{◌≡◌, ◌≤◌, ℕ, List, IfOk, IfErr, Some, Err, length};
 ghost use Rattle.htl_edge.specs.Fakes.{IsDrawerFetch, drawer_after};
-ghost use Rattle.htl_edge.specs.Holdings.{HoldsUnder, IsTooLong, holdings_of};
+ghost use Rattle.htl_edge.specs.Holdings.{HoldsUnder, IsTooLong, IsKept, holdings_of};
 ghost use Rattle.htl_edge.specs.Causes.{Rose};
 ghost use Rattle.htl_edge.specs.Entries.{entries_of, have_different_names, bytes_under, IsCopy};
 ghost use Rattle.std.specs.Prelude.{IsTrue};
@@ -65,6 +65,7 @@ impl Shelf for Drawer {
         ensures failed { result ≡ Err ShelfFault.Failed → Rose self.old.faults self.new.faults }
         ensures same { Some (holdings_of self.new.entries) ≡ Some (holdings_of self.old.entries) }
         ensures counts { (other : List ℕ) → self.old.faults ≤ self.new.faults }
+        ensures kept { (other : List ℕ) → IsKept self.old.faults self.new.faults result }
         ensures fetch { IsDrawerFetch self.old name.now limit result }
         ensures state { self.new ≡ drawer_after self.old result }
     {
