@@ -66,5 +66,17 @@ pub const MAX_LINE: usize = 255;
 /// Bytes of a script.
 pub const MAX_SCRIPT: u64 = 1_073_741_824;
 
+/// Ticks of a frame: of the least common multiple of the root periods.
+pub const MAX_FRAME: u64 = 1_000_000;
+
+/// Starts of a frame.
+pub const MAX_STARTS: usize = 32;
+
+/// Rounds of a frame: one for each module and start at most.
+pub const MAX_ROUNDS: usize = 2_048;
+
+/// Paths through a frame.
+pub const MAX_PATHS: u32 = 1_024;
+
 /// An instant of a run, in ticks.
 pub const MAX_INSTANT: u64 = 1_000_000_000;

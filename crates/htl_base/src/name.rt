@@ -39,16 +39,26 @@ impl Name {
         ensures value { IfSome result (λ name. name ≡ bytes.now) }
         ensures exact { is_some result ≡ is_name bytes.now }
     {
-        if !is_name(bytes) {
-            return None;
+        if is_name(bytes) {
+            Some(Name::from_known(bytes))
+        } else {
+            None
         }
+    }
+
+    /// The name that these bytes spell, where they are known to spell one: an identifier of 1 to 48 bytes that is
+    /// no reserved word. They are copied, and not tested again.
+    pub fn from_known(bytes: &[u8]) -> Name
+        requires { IsTrue (is_name bytes.now) }
+        ensures { result ≡ bytes.now }
+    {
         let mut held = [0u8; MAX_NAME];
         let len = bytes.len();
         held[..len].copy_from_slice(bytes);
-        Some(Name {
+        Name {
             len: len as u8,
             bytes: held,
-        })
+        }
     }
 
     /// The bytes of the name, 1 to 48 of them.

@@ -33,6 +33,15 @@ fn names_are_told_apart(rt: HostRuntime) -> Result<(), Fail> {
 }
 
 #[test]
+fn known_names_are_the_same(rt: HostRuntime) -> Result<(), Fail> {
+    let bytes = b"level_3";
+    let name = Name::from_known(bytes);
+    assert_eq!(rt; name.as_bytes(), bytes.as_slice());
+    assert!(rt; Name::new(bytes) == Some(name));
+    Ok(())
+}
+
+#[test]
 fn lists_keep_their_items(rt: HostRuntime) -> Result<(), Fail> {
     let mut list = Seq::new(vec![in rt.alloc(); 1u32, 2, 3]?);
     list.set(1, 7);
