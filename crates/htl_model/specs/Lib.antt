@@ -6,6 +6,9 @@ pub mod Exchanged
 pub mod First
 pub mod FormRules
 pub mod Found
+pub mod FrameRules
+pub mod FrameTables
+pub mod Frames
 pub mod FunctionTypes
 pub mod Functions
 pub mod Lines
@@ -18,8 +21,8 @@ pub mod PortWriters
 pub mod Ranges
 pub mod RefinementRules
 pub mod RootModes
-pub mod SecondWriters
 pub mod Search
+pub mod SecondWriters
 pub mod Selected
 pub mod Selections
 pub mod Small

@@ -1,0 +1,8 @@
+use Rattle.std.proofs.Common.{◌≡◌, ◌+◌, ◌≤◌, length, drop}
+use Rattle.htl_model.specs.Lists.{places_from}
+use Rattle.htl_model.specs.Selections.{inv_of_mode}
+use Rattle.htl_model.proofs.frame_limits.invs_in.Given as goal
+
+abbrev pub invariant-loop-k : goal.invariant-loop-k
+invariant-loop-k l =
+    (l.n + length (places_from (inv_of_mode l.mode) l.k (drop l.k l.invs)) ≡ length (places_from (inv_of_mode l.mode) 0 l.invs)) × (l.n ≤ l.k)

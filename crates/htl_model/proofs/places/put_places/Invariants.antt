@@ -1,0 +1,12 @@
+use Rattle.std.proofs.Common.{◌≡◌, ◌+◌, ◌++◌, length, take, drop}
+use Rattle.htl_model.specs.Lists.{places_from}
+use Rattle.htl_model.specs.Selections.{inv_of_mode, invs_of}
+use Rattle.htl_model.specs.Frames.{places_of}
+use Rattle.htl_model.proofs.places.put_places.Given as goal
+
+abbrev pub invariant-loop-k : goal.invariant-loop-k
+invariant-loop-k l = record {
+  front : take l.end l.out ++ places_of l.at (places_from (inv_of_mode l.mode) l.k (drop l.k l.invs)) ≡ take l.n l.initial.out ++ places_of l.at (invs_of l.t l.mode);
+  count : l.end + length (places_of l.at (places_from (inv_of_mode l.mode) l.k (drop l.k l.invs))) ≡ l.n + length (places_of l.at (invs_of l.t l.mode));
+  len : length l.out ≡ length l.initial.out;
+}
