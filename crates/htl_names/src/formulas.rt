@@ -89,17 +89,17 @@ pub fn formula<A: Arguments>(alloc: Global, arguments: &A, e: &Term) -> Result<E
             op: *op,
             e: Box::new(alloc, formula(alloc, arguments, e)?)?,
         }),
-        Term::Binary { token, op, l, r } => Ok(Expr::Binary {
+        Term::Binary { token, op, both } => Ok(Expr::Binary {
             token: *token,
             op: *op,
-            l: Box::new(alloc, formula(alloc, arguments, l)?)?,
-            r: Box::new(alloc, formula(alloc, arguments, r)?)?,
+            l: Box::new(alloc, formula(alloc, arguments, &both.l)?)?,
+            r: Box::new(alloc, formula(alloc, arguments, &both.r)?)?,
         }),
-        Term::Choose { token, c, a, b } => Ok(Expr::Choose {
+        Term::Choose { token, choice } => Ok(Expr::Choose {
             token: *token,
-            c: Box::new(alloc, formula(alloc, arguments, c)?)?,
-            a: Box::new(alloc, formula(alloc, arguments, a)?)?,
-            b: Box::new(alloc, formula(alloc, arguments, b)?)?,
+            c: Box::new(alloc, formula(alloc, arguments, &choice.c)?)?,
+            a: Box::new(alloc, formula(alloc, arguments, &choice.a)?)?,
+            b: Box::new(alloc, formula(alloc, arguments, &choice.b)?)?,
         }),
     }
 }

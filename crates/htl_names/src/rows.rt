@@ -145,14 +145,14 @@ fn put_names(scope: &Scope, e: &Term, into: &mut Vec<Use>) -> Result<(), AllocEr
         Term::Int { .. } | Term::Bool { .. } => {}
         Term::Named { id } => put_name(scope, id, into)?,
         Term::Unary { e, .. } => put_names(scope, e, into)?,
-        Term::Binary { l, r, .. } => {
-            put_names(scope, l, into)?;
-            put_names(scope, r, into)?;
+        Term::Binary { both, .. } => {
+            put_names(scope, &both.l, into)?;
+            put_names(scope, &both.r, into)?;
         }
-        Term::Choose { c, a, b, .. } => {
-            put_names(scope, c, into)?;
-            put_names(scope, a, into)?;
-            put_names(scope, b, into)?;
+        Term::Choose { choice, .. } => {
+            put_names(scope, &choice.c, into)?;
+            put_names(scope, &choice.a, into)?;
+            put_names(scope, &choice.b, into)?;
         }
     }
     Ok(())

@@ -152,14 +152,14 @@ fn put_comms(layout: &Layout, e: &Term, comms: &mut Vec<u16>) -> Result<(), Allo
         Term::Int { .. } | Term::Bool { .. } => {}
         Term::Named { id } => put_comm(comm_place(layout, id.name) as u16, comms)?,
         Term::Unary { e, .. } => put_comms(layout, e, comms)?,
-        Term::Binary { l, r, .. } => {
-            put_comms(layout, l, comms)?;
-            put_comms(layout, r, comms)?;
+        Term::Binary { both, .. } => {
+            put_comms(layout, &both.l, comms)?;
+            put_comms(layout, &both.r, comms)?;
         }
-        Term::Choose { c, a, b, .. } => {
-            put_comms(layout, c, comms)?;
-            put_comms(layout, a, comms)?;
-            put_comms(layout, b, comms)?;
+        Term::Choose { choice, .. } => {
+            put_comms(layout, &choice.c, comms)?;
+            put_comms(layout, &choice.a, comms)?;
+            put_comms(layout, &choice.b, comms)?;
         }
     }
     Ok(())

@@ -1,18 +1,12 @@
 -- Operands: where no prefix operator stands next, and what each level leaves.
-use Rattle.std.proofs.Common.{arith, ◌≡◌, ◌<◌, ℕ, List, ◌∷◌, length, Option, None, Some, Ok, refl, sym, ap, ◌∙◌}
-use Rattle.htl_base.specs.declared.operator.BinOp.{BinOp}
+use Rattle.std.proofs.Common.{◌≡◌, List, ◌∷◌, None, refl, sym, ap}
 use Rattle.htl_text.specs.Placed.{Placed, Put}
-use Rattle.htl_text.specs.Expressions.{Expr, expr_of, Infix}
 use Rattle.htl_text.specs.Grammar.{prefix_of, And, Compare, Product, Unary}
-use Rattle.htl_parse.specs.Reading.{Read, Reader, ◌>>=◌}
-use Rattle.htl_parse.specs.ReadingExpressions.{further, grown, atom_by, unary_by, product_by, compare_by, and_by, read_expr}
-use Rattle.htl_parse.proofs.Complete.{IsFree, tail-done}
-use Rattle.htl_parse.proofs.Fixed.{Shrinks, shrinks, further-is, read_expr-sound}
+use Rattle.htl_parse.specs.ReadingExpressions.{atom_by, unary_by, product_by, compare_by, and_by, read_expr}
+use Rattle.htl_parse.proofs.Fixed.{Shrinks, shrinks, read_expr-sound}
 use Rattle.htl_parse.proofs.Sound.{unary-sound, product-sound, compare-sound, and-sound}
 use Rattle.htl_text.specs.declared.token.Token.TheVariants as token
-use Rattle.htl_text.specs.declared.token.Sign.{Sign}
 use Rattle.htl_text.specs.declared.token.Sign.TheVariants as sign
-use Rattle.htl_text.specs.declared.tree.Term.{Term}
 use Rattle.htl_parse.specs.Cursors.{PassesOperator}
 
 -- no prefix operator stands next

@@ -1,9 +1,11 @@
 pub mod Basics
 pub mod Bounded
+pub mod BoundedRuns
 pub mod Climbing
 pub mod Coding
 pub mod Complete
 pub mod Descent
+mod Examples
 pub mod Fixed
 pub mod Fronts
 pub mod Items

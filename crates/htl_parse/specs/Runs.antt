@@ -1,5 +1,5 @@
 -- Statements that are too long.
-use Rattle.std.specs.Prelude.{ℕ, Bool, true, false, cond, ◌≡◌, ◌+◌, ◌<◌, List, [], ◌∷◌, ◌++◌, length}
+use Rattle.std.specs.Prelude.{ℕ, Bool, true, false, ◌≡◌, ◌+◌, ◌<◌, Some, List, [], ◌∷◌, ◌++◌, length, slice_get}
 use Rattle.htl_text.specs.declared.token.Token.{Token}
 use Rattle.htl_text.specs.declared.token.Token.TheVariants as token
 use Rattle.htl_text.specs.declared.token.Sign.TheVariants as sign
@@ -35,6 +35,8 @@ pub record IsFirstLong (ts : List Token) (k : ℕ) : Type 0 where
   pub long : IsLong ts k
   pub first : (j : ℕ) → j < k → IsLong ts j → ⊥
 
--- how long the run is behind a token, where it was n before
-abbrev pub run_after : ℕ → Token → ℕ
-run_after n t = cond (ends_run t) 0 (n + 1)
+-- a token stands at this place, and whether it ends a run is as said
+pub record TellsEnd (ts : List Token) (place : ℕ) (ends : Bool) : Type 0 where
+  pub t : Token
+  pub is : slice_get ts place ≡ Some t
+  pub tells : ends_run t ≡ ends

@@ -9,38 +9,31 @@ use crate::cursor::Cursor;
 use crate::operator::{COMPARISON, OPERAND};
 use crate::stop::Stop;
 use htl_base::BinOp;
-use htl_text::{Sign, Term, Word};
+use htl_text::{Choice, Operands, Sign, Term, Word};
 use std::alloc::{AllocError, Global};
 
 /// expr = conj { "||" conj }, where conj = cmp { "&&" cmp }
 pub fn expr(alloc: Global, cursor: &mut Cursor<'_>) -> Result<Term, Stop>
     ensures { Gives expr_of result cursor.new (read_expr cursor.old) }
 {
-    let found = whole(alloc, cursor)?;
-    Ok(Box::into_inner(found))
+    whole(alloc, cursor)
 }
 
 // A whole expression, from the loosest level on.
 #[cycle(expr)]
-fn whole(alloc: Global, cursor: &mut Cursor<'_>) -> Result<Box<Term>, Stop>
-    ensures reads { Gives (λ e. expr_of e.value) result cursor.new (read_expr cursor.old) }
+fn whole(alloc: Global, cursor: &mut Cursor<'_>) -> Result<Term, Stop>
+    ensures reads { Gives expr_of result cursor.new (read_expr cursor.old) }
     ensures less { Lessens result cursor.old cursor.new }
 {
     binary(alloc, cursor, 0)
 }
 
 // An operator with its operands.
-fn infix(
-    alloc: Global,
-    token: u32,
-    op: BinOp,
-    l: Box<Term>,
-    r: Box<Term>,
-) -> Result<Box<Term>, AllocError>
-    ensures { IfOk result (λ e. expr_of e.value ≡ Infix token op (expr_of l.value) (expr_of r.value)) }
+fn infix(alloc: Global, token: u32, op: BinOp, l: Term, r: Term) -> Result<Term, AllocError>
+    ensures { IfOk result (λ e. expr_of e ≡ Infix token op (expr_of l) (expr_of r)) }
 {
-    let both = Box::new(alloc, Term::Binary { token, op, l, r })?;
-    Ok(both)
+    let both = Box::new(alloc, Operands { l, r })?;
+    Ok(Term::Binary { token, op, both })
 }
 
 // Below which level the operators are that may follow an operator of this level and its right operand.
@@ -60,9 +53,9 @@ fn limit_behind(level: u8) -> u8
 // sum = prod { ( "+" | "-" ) prod }
 // prod = unary { ( "*" | "/" | "%" ) unary }
 #[cycle(expr)]
-fn binary(alloc: Global, cursor: &mut Cursor<'_>, loosest: u8) -> Result<Box<Term>, Stop>
+fn binary(alloc: Global, cursor: &mut Cursor<'_>, loosest: u8) -> Result<Term, Stop>
     requires { loosest ≤ 5 }
-    ensures reads { Gives (λ e. expr_of e.value) result cursor.new (level_by read_expr loosest cursor.old) }
+    ensures reads { Gives expr_of result cursor.new (level_by read_expr loosest cursor.old) }
     ensures less { Lessens result cursor.old cursor.new }
 {
     let mut left = unary(alloc, cursor)?;
@@ -77,26 +70,25 @@ fn binary(alloc: Global, cursor: &mut Cursor<'_>, loosest: u8) -> Result<Box<Ter
 
 // unary = ( "-" | "!" ) unary | atom
 #[cycle(expr)]
-fn unary(alloc: Global, cursor: &mut Cursor<'_>) -> Result<Box<Term>, Stop>
-    ensures reads { Gives (λ e. expr_of e.value) result cursor.new (unary_by read_expr cursor.old) }
+fn unary(alloc: Global, cursor: &mut Cursor<'_>) -> Result<Term, Stop>
+    ensures reads { Gives expr_of result cursor.new (unary_by read_expr cursor.old) }
     ensures less { Lessens result cursor.old cursor.new }
 {
     let Some((token, op)) = cursor.prefix_operator() else {
         return atom(alloc, cursor);
     };
-    let e = unary(alloc, cursor)?;
-    let whole = Box::new(alloc, Term::Unary { token, op, e })?;
-    Ok(whole)
+    let operand = unary(alloc, cursor)?;
+    let e = Box::new(alloc, operand)?;
+    Ok(Term::Unary { token, op, e })
 }
 
 // atom = number | "true" | "false" | name | "(" expr ")" | "if" "(" expr "," expr "," expr ")"
 #[cycle(expr)]
-fn atom(alloc: Global, cursor: &mut Cursor<'_>) -> Result<Box<Term>, Stop>
-    ensures reads { Gives (λ e. expr_of e.value) result cursor.new (atom_by read_expr cursor.old) }
+fn atom(alloc: Global, cursor: &mut Cursor<'_>) -> Result<Term, Stop>
+    ensures reads { Gives expr_of result cursor.new (atom_by read_expr cursor.old) }
     ensures less { Lessens result cursor.old cursor.new }
 {
     if let Some(found) = cursor.simple() {
-        let found = Box::new(alloc, found)?;
         return Ok(found);
     }
     if let Some(_) = cursor.sign(Sign::OpenParen) {
@@ -110,8 +102,8 @@ fn atom(alloc: Global, cursor: &mut Cursor<'_>) -> Result<Box<Term>, Stop>
 
 // What stands behind an opening bracket.
 #[cycle(expr)]
-fn bracketed(alloc: Global, cursor: &mut Cursor<'_>) -> Result<Box<Term>, Stop>
-    ensures reads { Gives (λ e. expr_of e.value) result cursor.new (bracketed read_expr cursor.old) }
+fn bracketed(alloc: Global, cursor: &mut Cursor<'_>) -> Result<Term, Stop>
+    ensures reads { Gives expr_of result cursor.new (bracketed read_expr cursor.old) }
     ensures less { Lessens result cursor.old cursor.new }
 {
     let e = whole(alloc, cursor)?;
@@ -121,8 +113,8 @@ fn bracketed(alloc: Global, cursor: &mut Cursor<'_>) -> Result<Box<Term>, Stop>
 
 // What stands behind an `if`.
 #[cycle(expr)]
-fn choice(alloc: Global, cursor: &mut Cursor<'_>, token: u32) -> Result<Box<Term>, Stop>
-    ensures reads { Gives (λ e. expr_of e.value) result cursor.new (chosen read_expr token cursor.old) }
+fn choice(alloc: Global, cursor: &mut Cursor<'_>, token: u32) -> Result<Term, Stop>
+    ensures reads { Gives expr_of result cursor.new (chosen read_expr token cursor.old) }
     ensures less { Lessens result cursor.old cursor.new }
 {
     cursor.expect(Sign::OpenParen)?;
@@ -132,6 +124,6 @@ fn choice(alloc: Global, cursor: &mut Cursor<'_>, token: u32) -> Result<Box<Term
     cursor.expect(Sign::Comma)?;
     let b = whole(alloc, cursor)?;
     cursor.expect(Sign::CloseParen)?;
-    let whole = Box::new(alloc, Term::Choose { token, c, a, b })?;
-    Ok(whole)
+    let choice = Box::new(alloc, Choice { c, a, b })?;
+    Ok(Term::Choose { token, choice })
 }

@@ -36,12 +36,15 @@ pub enum ParseFault {
     },
 }
 
-/// The tree that the tokens spell; at most one tree does. `Long` comes exactly where a run of tokens without
-/// `;`, `{` and `}` has more than 512, and is tried first; `Syntax` where no tree spells the tokens, with
-/// the first token that doesn't fit: those before it begin some source, and with it they begin none, or it is
-/// the number of all. `Memory` comes only where no memory was left. The depth of the recursion is bounded by the length of such a run. The tree
-/// has at most 1,048,576 programs and items of any kind, at most 256 in each list of parameters or ends, at
-/// most 512 nodes in each expression, at most 256 names in each switch condition, and no negative literal.
+/// The tree that the tokens spell; at most one tree does.
+///
+/// `Long` comes exactly where a run of tokens without `;`, `{` and `}` has more than 512, and is tried first;
+/// `Syntax` where no tree spells the tokens, with the first token that doesn't fit: those before it begin some
+/// source, and with it they begin none, or it is the number of all. `Memory` comes only where no memory was left.
+///
+/// The tree has at most 1,048,576 programs and items of any kind, at most 256 in each list of parameters or
+/// ends, at most 512 nodes in each expression, at most 256 names in each switch condition, and no negative
+/// literal. Linear in the tokens; the depth of the recursion is bounded by the length of a run.
 pub fn parse(alloc: Global, tokens: &Tokens) -> Result<Tree, ParseFault>
     ensures answer { IsParsed tokens.now.tokens result }
     ensures tree { TellsTree tokens.now.tokens result }

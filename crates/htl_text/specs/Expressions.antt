@@ -20,5 +20,5 @@ expr_of (Int t x) = Number t x
 expr_of (Truth t x) = Flag t x
 expr_of (Named id) = Variable id
 expr_of (Unary' t op p e) = Prefix t op (expr_of e)
-expr_of (Binary' t op p l q r) = Infix t op (expr_of l) (expr_of r)
-expr_of (Choose' t p c q a r b) = Choice t (expr_of c) (expr_of a) (expr_of b)
+expr_of (Binary' t op p l r) = Infix t op (expr_of l) (expr_of r)
+expr_of (Choose' t p c a b) = Choice t (expr_of c) (expr_of a) (expr_of b)

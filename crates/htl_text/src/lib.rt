@@ -17,8 +17,8 @@ pub use printing::print;
 pub use token::{Kind, Sign, Token, Word};
 pub use tokens::Tokens;
 pub use tree::{
-    CommNode, ConstNode, EndNode, Id, InvokeNode, ModeNode, ModuleNode, Num, OutNode, OutNodes,
-    ParamNode, ProgramNode, SwitchNode, TaskNode, Term, Tree,
+    Choice, CommNode, ConstNode, EndNode, Id, InvokeNode, ModeNode, ModuleNode, Num, Operands,
+    OutNode, OutNodes, ParamNode, ProgramNode, SwitchNode, TaskNode, Term, Tree,
 };
 
 #[cfg(test)]

@@ -300,20 +300,20 @@ fn term(e: &Term, out: &mut Printer) -> Result<(), Memory>
             term(e, out)?;
             out.tokens(&[Token::Sign(Sign::CloseParen)])
         }
-        Term::Binary { op, l, r, .. } => {
+        Term::Binary { op, both, .. } => {
             out.tokens(&[Token::Sign(Sign::OpenParen)])?;
-            term(l, out)?;
+            term(&both.l, out)?;
             op.print(out)?;
-            term(r, out)?;
+            term(&both.r, out)?;
             out.tokens(&[Token::Sign(Sign::CloseParen)])
         }
-        Term::Choose { c, a, b, .. } => {
+        Term::Choose { choice, .. } => {
             out.tokens(&[Token::Word(Word::If), Token::Sign(Sign::OpenParen)])?;
-            term(c, out)?;
+            term(&choice.c, out)?;
             out.tokens(&[Token::Sign(Sign::Comma)])?;
-            term(a, out)?;
+            term(&choice.a, out)?;
             out.tokens(&[Token::Sign(Sign::Comma)])?;
-            term(b, out)?;
+            term(&choice.b, out)?;
             out.tokens(&[Token::Sign(Sign::CloseParen)])
         }
     }

@@ -1,5 +1,5 @@
 // What stands at one place of a text.
-ghost use Rattle.std.specs.Prelude.{◌≡◌, ◌≤◌, true, false, get_or, length, slice_index};
+ghost use Rattle.std.specs.Prelude.{◌≡◌, ◌≤◌, ◌+◌, ◌&&◌, true, false, get_or, length, slice_index};
 ghost use Rattle.std.specs.Char.{is_ascii_digit};
 ghost use Rattle.std.specs.List.{prefix_len};
 ghost use Rattle.htl_base.specs.Names.{is_letter, is_word_byte};
@@ -27,12 +27,6 @@ fn is_blank(b: u8) -> bool
     ensures { result ≡ is_blank b }
 {
     b == b' ' || b == b'\t' || b == b'\r' || b == b'\n'
-}
-
-fn is_letter(b: u8) -> bool
-    ensures { result ≡ is_letter b }
-{
-    b.is_ascii_alphabetic() || b == b'_'
 }
 
 // Which bytes are letters, digits or `_`.
@@ -120,16 +114,46 @@ pub fn read_front(text: &[u8]) -> Front
     ensures { IsFront text.now result }
 {
     match text {
-        [b, ..] if is_letter(*b) => word_front(text),
+        [] => Front::Nothing,
+        [b, ..] if !is_word_byte(*b) => sign_front(text),
         [b, ..] if b.is_ascii_digit() => number_front(text),
-        _ => sign_front(text),
+        [_, ..] => word_front(text),
     }
 }
 
+// How many bytes of a word stand first.
 fn word_len(text: &[u8]) -> usize
     ensures { result ≡ prefix_len is_word_byte text.now }
 {
+    let rest = behind_fours(text);
+    text.len() - (rest.len() - word_end(rest))
+}
+
+fn word_end(text: &[u8]) -> usize
+    ensures { result ≡ prefix_len is_word_byte text.now }
+{
     text.iter().take_while(|b| is_word_byte(**b)).count()
+}
+
+// What is left of a text where bytes of a word were passed, four at a time, which takes fewer steps for each.
+fn behind_fours(text: &[u8]) -> &[u8]
+    ensures same { prefix_len is_word_byte text.now + length result.now ≡ length text.now + prefix_len is_word_byte result.now }
+    ensures short { length result.now ≤ length text.now }
+{
+    let mut rest = text;
+    while let [first, second, third, fourth, more @ ..] = rest {
+        if !are_word_bytes(*first, *second, *third, *fourth) {
+            break;
+        }
+        rest = more;
+    }
+    rest
+}
+
+fn are_word_bytes(first: u8, second: u8, third: u8, fourth: u8) -> bool
+    ensures { result ≡ is_word_byte first && (is_word_byte second && (is_word_byte third && is_word_byte fourth)) }
+{
+    is_word_byte(first) && is_word_byte(second) && is_word_byte(third) && is_word_byte(fourth)
 }
 
 fn digits_len(text: &[u8]) -> usize

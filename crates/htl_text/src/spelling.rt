@@ -1,5 +1,5 @@
 // Numbers, reserved words and signs, and their texts.
-ghost use Rattle.std.specs.Prelude.{◌≡◌, true, [], ◌∷◌, find, map};
+ghost use Rattle.std.specs.Prelude.{◌≡◌, true, [], ◌∷◌, Some, find, is_some, map};
 ghost use Rattle.std.specs.Option.{option_map};
 ghost use Rattle.std.specs.Str.{bytes_eq};
 ghost use Rattle.htl_text.specs.PrintedBytes.{sign_text, word_text};
@@ -27,6 +27,19 @@ pub fn number_of(digits: &[u8]) -> Option<Value>
         return None;
     }
     Some(x as Value)
+}
+
+/// The number that digits write, where it is known to be below 2^63.
+pub fn known_number(digits: &[u8]) -> Value
+    requires digits { is_numeral digits.now ≡ true }
+    requires fits { is_some (number_of digits.now) ≡ true }
+    ensures { number_of digits.now ≡ Some result }
+{
+    let mut x = 0u64;
+    for b in digits {
+        x = x * 10 + (*b - b'0') as u64;
+    }
+    x as Value
 }
 
 /// The reserved word that a text spells. No word but those with its first byte is compared with it.

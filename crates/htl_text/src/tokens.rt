@@ -8,7 +8,7 @@ ghost use Rattle.htl_text.specs.declared.token.Kind.TheVariants as kind;
 ghost use Rattle.htl_text.specs.declared.token.Token.TheVariants as token;
 
 use crate::entry::Entry;
-use crate::spelling::number_of;
+use crate::spelling::known_number;
 use crate::token::{Kind, Token};
 use htl_base::{Name, Value};
 use std::marker::Model;
@@ -86,7 +86,7 @@ impl Tokens {
         kind_at(self.entries.as_slice(), place)
     }
 
-    /// The name at a place, where `kind` is Ident. It is tested and copied: at most 48 bytes.
+    /// The name at a place, where `kind` is Ident. It is copied: at most 48 bytes.
     #[tactic(auto, using(crate::proofs::AtPlaces::at_places))]
     pub fn name(&self, place: usize) -> Name
         requires { option_map kind_of (slice_get self.now.tokens place) ≡ Some kind.Ident }
@@ -158,10 +158,7 @@ fn name_in(source: &[u8], entry: Entry) -> Name
     requires kind { entry.kind ≡ kind.Ident }
     ensures { token_in source.now entry ≡ token.Ident result }
 {
-    match Name::new(text_in(source, entry)) {
-        Some(name) => name,
-        None => unreachable!(),
-    }
+    Name::from_known(text_in(source, entry))
 }
 
 // The number that stands there.
@@ -170,8 +167,5 @@ fn number_in(source: &[u8], entry: Entry) -> Value
     requires kind { entry.kind ≡ kind.Number }
     ensures { token_in source.now entry ≡ token.Number result }
 {
-    match number_of(text_in(source, entry)) {
-        Some(x) => x,
-        None => unreachable!(),
-    }
+    known_number(text_in(source, entry))
 }

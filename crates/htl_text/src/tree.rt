@@ -196,6 +196,7 @@ pub struct SwitchNode {
 }
 
 /// An expression. Brackets leave no mark in it, and repeated operators group to the left.
+#[cycle(expression)]
 #[derive(Drop)]
 pub enum Term {
     /// A number.
@@ -232,20 +233,36 @@ pub enum Term {
         token: u32,
         /// The operator.
         op: BinOp,
-        /// The left operand.
-        l: Box<Term>,
-        /// The right operand.
-        r: Box<Term>,
+        /// The operands.
+        both: Box<Operands>,
     },
     /// `if ( CONDITION , CHOICE , CHOICE )`
     Choose {
         /// The number of the token `if`.
         token: u32,
-        /// The condition.
-        c: Box<Term>,
-        /// The value where the condition is true.
-        a: Box<Term>,
-        /// The value where it is false.
-        b: Box<Term>,
+        /// The condition and the values.
+        choice: Box<Choice>,
     },
+}
+
+/// What stands to the left and to the right of an operator.
+#[cycle(expression)]
+#[derive(Drop)]
+pub struct Operands {
+    /// The left operand.
+    pub l: Term,
+    /// The right operand.
+    pub r: Term,
+}
+
+/// The parts of an expression with `if`.
+#[cycle(expression)]
+#[derive(Drop)]
+pub struct Choice {
+    /// The condition.
+    pub c: Term,
+    /// The value where the condition is true.
+    pub a: Term,
+    /// The value where it is false.
+    pub b: Term,
 }

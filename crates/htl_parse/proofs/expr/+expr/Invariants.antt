@@ -21,7 +21,7 @@ abbrev pub decreases-whole : goal.decreases-whole
 decreases-whole l = length l.cursor.now * 16 + 4
 
 abbrev pub invariant-binary-loop-token : goal.invariant-binary-loop-token
-invariant-binary-loop-token l = IsClimbing l.fn.loosest l.fn.cursor l.cursor l.limit l.left.value
+invariant-binary-loop-token l = IsClimbing l.fn.loosest l.fn.cursor l.cursor l.limit l.left
 
 abbrev pub decreases-binary-loop-token : goal.decreases-binary-loop-token
 decreases-binary-loop-token l = length l.cursor

@@ -1,6 +1,6 @@
-use Rattle.std.proofs.Common.{ℕ, List, [], ◌≡◌, Ok, map, sym, subst}
-use Rattle.htl_text.specs.Nodes.{PlainProgram, program_of}
-use Rattle.htl_text.specs.Placed.{Placed, numbered}
+use Rattle.std.proofs.Common.{ℕ, List, [], ◌≡◌, map, sym, subst}
+use Rattle.htl_text.specs.Nodes.{program_of}
+use Rattle.htl_text.specs.Placed.{Placed}
 use Rattle.htl_text.specs.Statements.{SpellsSource}
 use Rattle.htl_parse.specs.Answers.{SpellNone, IsMisfit}
 use Rattle.htl_parse.specs.Reading.{left_of}

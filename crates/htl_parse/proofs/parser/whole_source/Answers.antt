@@ -1,8 +1,7 @@
 use Rattle.std.proofs.Common.{map}
-use Rattle.std.proofs.lemmas.Result.{err_from_is_err_and}
 use Rattle.htl_text.specs.Nodes.{program_of}
 use Rattle.htl_parse.specs.ReadingStatements.{source_at}
-use Rattle.htl_parse.proofs.Whole.{whole-stopped, whole-ended, whole-more}
+use Rattle.htl_parse.proofs.Whole.{whole-ended, whole-more}
 use Rattle.htl_parse.proofs.parser.whole_source.Goals as goal
 
 pub returns-then-is_done : goal.returns-then-is_done
