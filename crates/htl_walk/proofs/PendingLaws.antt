@@ -1,6 +1,6 @@
 -- The row of the positions with work left.
-use Rattle.std.proofs.Common.{◌≡◌, ◌≢◌, ℕ, zero, suc, ◌+◌, ◌||◌, ◌*◌, ◌%◌, ◌^◌, ◌≤◌, ◌<◌, ◌⊎◌, Bool, true, false, cond, ◌&&◌, eqb, ltb, List, length, get_or, set, min, refl, sym, ap, ◌∙◌, subst, arith, inl, inr}
-use Rattle.std.specs.Int.{bit_at, bit_not, trailing_zeros, w128}
+use Rattle.std.proofs.Common.{◌≡◌, ◌≢◌, ℕ, ◌+◌, ◌||◌, ◌*◌, ◌%◌, ◌^◌, ◌≤◌, ◌<◌, ◌⊎◌, Bool, true, false, cond, ◌&&◌, eqb, ltb, List, length, get_or, set, min, refl, sym, ap, ◌∙◌, arith, inl, inr}
+use Rattle.std.specs.Int.{bit_at, bit_not, w128}
 use Rattle.std.specs.Int.Bits.{bit_and}
 use Rattle.std.specs.List.{All}
 use Rattle.std.proofs.lemmas.Bool.{lt-ltb, le-ltb, ltb-true, ltb-false}
@@ -12,7 +12,7 @@ use Rattle.htl_model.specs.Bits.{has_bit}
 use Rattle.htl_walk.specs.declared.job.Job.{Job}
 use Rattle.htl_walk.specs.Following.{ArePending}
 use Rattle.htl_walk.specs.Refinement.{HasWork}
-use Rattle.htl_walk.specs.Walk.{work, work_after, worst_cases}
+use Rattle.htl_walk.specs.Walk.{work, worst_cases}
 use Rattle.htl_walk.proofs.Following.{work_at}
 
 pub work_left : (row : ℕ) (left : List ℕ) (q : ℕ) → ArePending row left → has_bit row q ≡ true → 0 < get_or left q 0

@@ -1,4 +1,4 @@
-use Rattle.std.proofs.Common.{◌≡◌, ◌∙◌, sym, ap, arith, length, map, ℕ, List, Some}
+use Rattle.std.proofs.Common.{◌∙◌, sym, ap, arith, length, map, ℕ, Some}
 use Rattle.htl_model.proofs.RootModeLaws.{positions_met}
 use Rattle.htl_walk.proofs.jobs.put_selection.Goals as goal
 

@@ -1,0 +1,14 @@
+use Rattle.std.proofs.Common.{◌≡◌, ◌∙◌, sym, ap, subst, take}
+use Rattle.std.specs.List.{All}
+use Rattle.htl_model.specs.Frames.{places_in, path_places}
+use Rattle.htl_walk.specs.PathJobs.{placed_jobs, path_jobs}
+use Rattle.htl_walk.specs.Placing.{HasTimes}
+use Rattle.htl_walk.proofs.Placing.{formed_times}
+use Rattle.htl_walk.proofs.placed.frame_jobs.Goals as goal
+
+pub placed_jobs-requires-clause-times : goal.placed_jobs-requires-clause-times
+placed_jobs-requires-clause-times c =
+    let t = c.args.t.now in
+    let path = c.args.path in
+    let e : take c.fill_places-count.result c.fill_places-count.new.out ≡ path_places t path = c.fill_places-count.ensures.places ∙ ap (places_in t path) c.requires.frame.rounds in
+    subst (λ xs. All HasTimes (placed_jobs t xs)) (sym e) (formed_times (path_jobs t path) c.requires.jobs)

@@ -1,0 +1,7 @@
+use Rattle.std.proofs.Common.{◌≡◌, ℕ, take}
+use Rattle.htl_model.specs.Bits.{has_bit}
+use Rattle.htl_walk.specs.Placing.{begins_with}
+use Rattle.htl_walk.proofs.placed.mates.Given as goal
+
+abbrev pub invariant-loop-q : goal.invariant-loop-q
+invariant-loop-q l = (r : ℕ) → has_bit l.row r ≡ begins_with l.at (take l.q l.places) r

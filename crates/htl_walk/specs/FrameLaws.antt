@@ -1,0 +1,41 @@
+-- The laws of frames.
+use Rattle.std.specs.Prelude.{◌≡◌, ℕ, suc, ◌<◌, List, [], ◌∷◌, drop, get_or, length}
+use Rattle.htl_model.specs.Tables.{Tables}
+use Rattle.htl_model.specs.Selections.{root_modules}
+use Rattle.htl_walk.specs.declared.job.Job.{Job}
+use Rattle.htl_model.specs.Frames.{frame_of, starts, paths, nodes, node, known_by, path_places}
+use Rattle.htl_walk.specs.Paths.{Leg, AreChained}
+use Rattle.htl_walk.specs.Fronts.{KnowReleased, IsRoundFront, ShareFront}
+use Rattle.htl_walk.specs.PathJobs.{path_jobs, legs, next_of}
+
+-- what is known in each leg is a front of whole rounds, and what isn't is released at the leg's end or later
+abbrev pub AreFronts : List Job → List Leg → Type 0
+AreFronts js [] = Unit {0}
+AreFronts js (g ∷ gs) = IsRoundFront js g.known g.to × AreFronts js gs
+
+-- the legs of a path follow one another over the frame
+abbrev pub LegsFollow : Type 0
+LegsFollow = (t : Tables) (path : ℕ) → 0 < length (root_modules t) → 0 < frame_of t → AreChained 0 (frame_of t) (length (path_jobs t path)) (legs t path)
+
+abbrev pub LegsKnow : Type 0
+LegsKnow = (t : Tables) (path : ℕ) → KnowReleased (path_jobs t path) (legs t path)
+
+abbrev pub LegsAreFronts : Type 0
+LegsAreFronts = (t : Tables) (path : ℕ) → AreFronts (path_jobs t path) (legs t path)
+
+-- at start j the leg of a path: from the start to the next one or the frame's end
+abbrev pub start_at : Tables → ℕ → ℕ
+start_at t j = get_or (starts t) j 0
+
+abbrev pub end_at : Tables → ℕ → ℕ
+end_at t j = next_of (frame_of t) (drop (suc j) (starts t))
+
+-- paths through one node have the same jobs as far as these have begun there
+abbrev pub NodesShare : Type 0
+NodesShare =
+    (t : Tables) (p q j : ℕ) → p < paths t → q < paths t → j < length (starts t) → node t p j ≡ node t q j
+    → (known_by (start_at t j) (path_places t p) ≡ known_by (start_at t j) (path_places t q)) × ShareFront (path_jobs t p) (path_jobs t q) (known_by (start_at t j) (path_places t p)) (end_at t j)
+
+-- a path's nodes are among those that there are
+abbrev pub NodesWithin : Type 0
+NodesWithin = (t : Tables) (p j : ℕ) → p < paths t → j < length (starts t) → node t p j < nodes t
