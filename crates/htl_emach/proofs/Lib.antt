@@ -26,3 +26,7 @@ pub mod Safely
 pub mod SafeCalls
 pub mod Earliest
 pub mod Quiet
+pub mod Roots
+pub mod FirstDue
+pub mod IndexedPorts
+pub mod PortEntries

@@ -1,0 +1,147 @@
+// Where the tables' ports and functions stand.
+ghost use Rattle.std.specs.Prelude.{◌≡◌, ◌<◌, ◌≤◌, length, slice_get, All, IfOk, IfSome};
+ghost use Rattle.htl_base.specs.declared.limits.TheConstants as limit;
+ghost use Rattle.htl_model.specs.Lists.{list_to};
+ghost use Rattle.htl_model.specs.Tables.{count_before, function_count, output_function, switch_function};
+ghost use Rattle.htl_model.specs.Meaning.{writer_from};
+ghost use Rattle.htl_emach.specs.Indices.{first_functions, is_own, index_of};
+
+use crate::writers::port_writers;
+use htl_base::Seq;
+use htl_model::lookup::{function_count, functions_before};
+use htl_model::port_ends::port_writer;
+use htl_model::{Tables, Task};
+use std::alloc::{AllocError, Global};
+use std::marker::Model;
+
+/// The first function of each task, how many functions the tasks have, and the writer of each port in its mode.
+#[derive(Drop)]
+pub struct Index {
+    firsts: Seq<u32>,
+    count: u32,
+    writers: Seq<Option<(u16, u16)>>,
+}
+
+impl Model for Index {
+    ghost use Rattle.htl_emach.specs.Indices.{Indices};
+
+    ghost Value = { Indices };
+
+    ghost view = { λ i. record { firsts = i.firsts; count = i.count; writers = i.writers } };
+}
+
+impl Index {
+    /// The index of these tables. All memory is taken here.
+    pub fn new(alloc: Global, t: &Tables) -> Result<Index, AllocError>
+        ensures { IfOk result (λ i. i ≡ index_of t.now) }
+    {
+        let firsts = firsts(alloc, t)?;
+        let writers = port_writers(alloc, t)?;
+        Ok(Index {
+            firsts: Seq::new(firsts),
+            count: count(t),
+            writers,
+        })
+    }
+
+    // The first function of a task, which is in range.
+    fn first(&self, t: &Tables, task: u16) -> u32
+        requires known { task < length t.now.tasks }
+        requires index { self.now ≡ index_of t.now }
+        ensures value { result ≡ count_before task t.now.tasks }
+        ensures few { result ≤ 1048576 }
+    {
+        t.keeps_ranges();
+        self.firsts.as_slice()[task as usize]
+    }
+
+    // How many functions the tasks have.
+    fn task_functions(&self, t: &Tables) -> u32
+        requires index { self.now ≡ index_of t.now }
+        ensures value { result ≡ count_before (length t.now.tasks) t.now.tasks }
+        ensures few { result ≤ 1048576 }
+    {
+        t.keeps_ranges();
+        self.count
+    }
+
+    /// The number of the function of an output of a concrete task; both are in range.
+    pub fn output_function(&self, t: &Tables, task: u16, output: u16) -> u32
+        requires index { self.now ≡ index_of t.now }
+        requires task { task < length t.now.tasks }
+        requires output { IfSome (slice_get t.now.tasks task) (λ k. output < function_count k) }
+        ensures value { result ≡ output_function t.now task output }
+        ensures within { result < length t.now.functions }
+    {
+        t.keeps_ranges();
+        self.first(t, task) + output as u32
+    }
+
+    /// The number of the function of a switch, which is in range.
+    pub fn switch_function(&self, t: &Tables, switch: u16) -> u32
+        requires index { self.now ≡ index_of t.now }
+        requires known { switch < length t.now.switches }
+        ensures value { result ≡ switch_function t.now switch }
+        ensures within { result < length t.now.functions }
+    {
+        t.keeps_ranges();
+        self.task_functions(t) + switch as u32
+    }
+
+    /// The writer of a port in a mode, and the place of its output. It is at hand where the mode is the port's own.
+    pub fn writer(&self, t: &Tables, mode: u16, port: u16) -> Option<(u16, u16)>
+        requires index { self.now ≡ index_of t.now }
+        ensures { result ≡ writer_from mode port 0 t.now.invs }
+    {
+        if is_own(t, mode, port) {
+            self.writers.as_slice()[port as usize]
+        } else {
+            t.keeps_ranges();
+            port_writer(mode, port, t.parts().invs.as_slice())
+        }
+    }
+}
+
+// Whether a port is one of a mode.
+fn is_own(t: &Tables, mode: u16, port: u16) -> bool
+    ensures { result ≡ is_own t.now mode port }
+{
+    let ports = t.parts().ports.as_slice();
+    if (port as usize) < ports.len() {
+        ports[port as usize].mode == mode
+    } else {
+        false
+    }
+}
+
+// The first function of each task.
+fn firsts(alloc: Global, t: &Tables) -> Result<Vec<u32>, AllocError>
+    ensures { IfOk result (λ xs. xs.items ≡ first_functions t.now) }
+{
+    t.keeps_ranges();
+    sums(alloc, t.parts().tasks.as_slice())
+}
+
+// How many functions the tasks below each place have.
+fn sums(alloc: Global, tasks: &[Task]) -> Result<Vec<u32>, AllocError>
+    requires few { length tasks.now ≤ limit.MAX_TASKS }
+    requires outputs { All (λ k. length k.outputs ≤ limit.MAX_ENDS) tasks.now }
+    ensures { IfOk result (λ xs. xs.items ≡ list_to (λ k. count_before k tasks.now) (length tasks.now)) }
+{
+    let mut list = Vec::new(alloc);
+    let mut sum = 0u32;
+    for k in 0..tasks.len() {
+        list.push(sum)?;
+        sum += function_count(&tasks[k]);
+    }
+    Ok(list)
+}
+
+// How many functions the tasks have.
+fn count(t: &Tables) -> u32
+    ensures { result ≡ count_before (length t.now.tasks) t.now.tasks }
+{
+    t.keeps_ranges();
+    let tasks = t.parts().tasks.as_slice();
+    functions_before(tasks, tasks.len())
+}
