@@ -4,7 +4,7 @@ ghost use Rattle.htl_walk.specs.declared.schedule.SInstr.{SInstr as Instr};
 ghost use Rattle.htl_walk.specs.Walk.{job_at, work};
 ghost use Rattle.htl_walk.specs.Refinement.{HaveLengths, AreWithinWorst};
 ghost use Rattle.htl_smach.specs.declared.state.PosState.TheVariants as states;
-ghost use Rattle.htl_smach.specs.Rounds.{Round, no_round, begun, shifted, records, given, next_left, after, one_more, state_by, state_of, finish_so_far, Stands, IsInForm, IsTold};
+ghost use Rattle.htl_smach.specs.Rounds.{Round, no_round, begun, shifted, records, given, next_left, after, one_more, state_by, state_of, finish_so_far, Stands, IsInForm, IsTold, IsNext};
 ghost use Rattle.htl_smach.specs.Order.{left_by_then, IsWholeWhenOver, IsBy};
 ghost use Rattle.htl_smach.specs.Steps.{point_of};
 
@@ -189,6 +189,29 @@ impl SMach {
         };
         self.leave(&step, instrs.len());
         Some(left)
+    }
+
+    /// The instant at which the next instruction is left, as long as no position that is Pending gets another length; None
+    /// exactly where the round is over.
+    ///
+    /// The schedule keeps its form, has at most 4,294,967,295 instructions and is the same in all calls of one round.
+    pub fn next(&self, s: &Schedule) -> Option<Time>
+        requires form { self.now.running ≡ true → IsInForm self.now s.now.instrs }
+        requires instrs { length s.now.instrs ≤ 4294967295 }
+        requires same { Stands self.now s.now.instrs }
+        ensures { IsNext self.now s.now.instrs result }
+    {
+        if !self.running {
+            return None;
+        }
+        let instrs = s.instrs.as_slice();
+        let place = self.place as usize;
+        if place >= instrs.len() {
+            return None;
+        }
+        let jobs = &self.jobs[..self.count];
+        let step = next_step(jobs, &self.left[..self.count], self.time, instrs[place]);
+        Some(self.start + step.time)
     }
 
     // Leaves an instruction of so many.
