@@ -3,26 +3,24 @@ use Rattle.std.proofs.Common.{◌≡◌, ◌<◌, ◌≤◌, ◌⊎◌, ◌+◌,
 use Rattle.std.specs.Prelude.{slice_get}
 use Rattle.std.proofs.lemmas.Bool.{eqb-true, eq-eqb}
 use Rattle.std.proofs.lemmas.List.{get_or-set_same, get_or-set_other}
-use Rattle.std.proofs.lemmas.Option.{slice_get-get_or, slice_get_within, get_or_from_slice_get}
 use Rattle.htl_ecode.specs.declared.instr.EInstr.{EInstr}
 use Rattle.htl_ecode.specs.declared.instr.EInstr.TheVariants as I
-use Rattle.htl_ecode.specs.Jumps.{jump_to, arrive}
+use Rattle.htl_ecode.specs.Jumps.{jump_to, land, lands, arrive}
 use Rattle.htl_ecode.specs.Departure.{fault_of}
 use Rattle.htl_espell.specs.declared.slides.Slide.{Slide}
 use Rattle.htl_espell.specs.Slides.{jump_at, slid, no_slide, AreSlides}
-use Rattle.htl_espell.proofs.Jumping.{arrived, arrive_by_jump}
+use Rattle.htl_espell.specs.Checks.{place_of}
+use Rattle.htl_espell.proofs.Jumping.{arrived, arrive_by_jump, land_by_jump}
 
-jumps_to : (code : List EInstr) (at target : ℕ) (d : EInstr) → get_or code at d ≡ I.Jump target → at < length code → jump_at code at ≡ Some target
-jumps_to code at target d is h =
-    ap (λ (o : Option EInstr). elim o as (λ _. Option ℕ) [ Some i ↦ jump_to i | None ↦ None ]) (slice_get-get_or code at d h ∙ ap (λ i. Some i) is)
+jumps_to : (code : List EInstr) (at target : ℕ) → slice_get code at ≡ Some (I.Jump target) → jump_at code at ≡ Some target
+jumps_to code at target there = ap (λ (o : Option EInstr). elim o as (λ _. Option ℕ) [ Some i ↦ jump_to i | None ↦ None ]) there
 
 -- one jump less
-pub slid_on : (code : List EInstr) (at target left anchor : ℕ) (d : EInstr) → get_or code at d ≡ I.Jump target → at < length code → 0 < left
-    → slid code at left ≡ Some anchor → slid code target (left - 1) ≡ Some anchor
-slid_on code at target zero anchor d is h some e = absurd (omega arith)
-slid_on code at target (suc n) anchor d is h some e =
+pub slid_on : (code : List EInstr) (at target left anchor : ℕ) → slice_get code at ≡ Some (I.Jump target) → 0 < left → slid code at left ≡ Some anchor → slid code target (left - 1) ≡ Some anchor
+slid_on code at target zero anchor there some e = absurd (omega arith)
+slid_on code at target (suc n) anchor there some e =
     let less : suc n - 1 ≡ n = omega arith in
-    ap (slid code target) less ∙ sym (ap (λ (o : Option ℕ). elim o as (λ _. Option ℕ) [ Some x ↦ slid code x n | None ↦ None ]) (jumps_to code at target d is h)) ∙ e
+    ap (slid code target) less ∙ sym (ap (λ (o : Option ℕ). elim o as (λ _. Option ℕ) [ Some x ↦ slid code x n | None ↦ None ]) (jumps_to code at target there)) ∙ e
 
 -- one chain behind another
 pub slid_joined : (code : List EInstr) (n m from at anchor : ℕ) → slid code from n ≡ Some at → slid code at m ≡ Some anchor → slid code from (n + m) ≡ Some anchor
@@ -40,9 +38,43 @@ slid_joined code (suc n) m from at anchor e f =
     by None g later = cc
 
 -- one jump more at the end
-pub slid_more : (code : List EInstr) (n from at target : ℕ) (d : EInstr) → slid code from n ≡ Some at → get_or code at d ≡ I.Jump target → at < length code → slid code from (n + 1) ≡ Some target
-slid_more code n from at target d e is h =
-    slid_joined code n 1 from at target e (ap (λ (o : Option ℕ). elim o as (λ _. Option ℕ) [ Some x ↦ slid code x 0 | None ↦ None ]) (jumps_to code at target d is h))
+pub slid_more : (code : List EInstr) (n from at target : ℕ) → slid code from n ≡ Some at → slice_get code at ≡ Some (I.Jump target) → slid code from (n + 1) ≡ Some target
+slid_more code n from at target e there =
+    slid_joined code n 1 from at target e (ap (λ (o : Option ℕ). elim o as (λ _. Option ℕ) [ Some x ↦ slid code x 0 | None ↦ None ]) (jumps_to code at target there))
+
+-- jumps that are passed over at once
+pub land_skipped : (code : List EInstr) (from n left at place : ℕ) → slid code at n ≡ Some place → n ≤ left → place_of (land code from (left - n) place) ≡ place_of (land code from left at)
+land_skipped code from zero left at place e few =
+    let same : at ≡ place = cc in
+    let all : left - 0 ≡ left = omega arith in
+    ap (λ k. place_of (land code from k place)) all ∙ ap (λ a. place_of (land code from left a)) (sym same)
+land_skipped code from (suc n) zero at place e few = absurd (omega arith)
+land_skipped code from (suc n) (suc left) at place e few = by (slice_get code at) refl e (λ x g. land_skipped code from n left x place g (omega arith))
+  where
+    by_jump : (i : EInstr) (j : Option ℕ) → slice_get code at ≡ Some i → jump_to i ≡ j → elim j as (λ _. Option ℕ) [ Some x ↦ slid code x n | None ↦ None ] ≡ Some place
+        → ((x : ℕ) → slid code x n ≡ Some place → place_of (land code from (left - n) place) ≡ place_of (land code from left x)) → place_of (land code from (suc left - suc n) place) ≡ place_of (land code from (suc left) at)
+    by_jump i None there leads e later = cc
+    by_jump i (Some x) there leads e later =
+        let less : suc left - suc n ≡ left - n = omega arith in
+        ap (λ k. place_of (land code from k place)) less ∙ later x e ∙ land_by_jump code from left at x i there leads
+
+    by : (o : Option EInstr) → slice_get code at ≡ o
+        → elim (elim o as (λ _. Option ℕ) [ Some i ↦ jump_to i | None ↦ None ]) as (λ _. Option ℕ) [ Some x ↦ slid code x n | None ↦ None ] ≡ Some place
+        → ((x : ℕ) → slid code x n ≡ Some place → place_of (land code from (left - n) place) ≡ place_of (land code from left x)) → place_of (land code from (suc left - suc n) place) ≡ place_of (land code from (suc left) at)
+    by None there e later = cc
+    by (Some i) there e later = by_jump i (jump_to i) there refl e later
+
+-- the same in the middle of a chain
+pub land_passed : (code : List EInstr) (from left rest at place : ℕ) → rest ≤ left → slid code at (left - rest) ≡ Some place → place_of (land code from left at) ≡ place_of (lands code from)
+    → place_of (land code from rest place) ≡ place_of (lands code from)
+land_passed code from left rest at place few slides is =
+    let back : rest ≡ left - (left - rest) = omega arith in
+    ap (λ k. place_of (land code from k place)) back ∙ land_skipped code from (left - rest) left at place slides (omega arith) ∙ is
+
+pub slid_passed : (code : List EInstr) (from n left rest at place : ℕ) → left ≤ n → rest ≤ left → slid code from (n - left) ≡ Some at → slid code at (left - rest) ≡ Some place → slid code from (n - rest) ≡ Some place
+slid_passed code from n left rest at place most few before after =
+    let sum : (n - left) + (left - rest) ≡ n - rest = omega arith in
+    subst (λ k. slid code from k ≡ Some place) sum (slid_joined code (n - left) (left - rest) from at place before after)
 
 -- where at most as many jumps lead to an anchor as may come, it is arrived at
 pub slides_in : (code : List EInstr) (asker anchor from n left at : ℕ) → slid code at n ≡ Some anchor → n ≤ left → None ≡ fault_of (arrive code asker anchor from left at)
@@ -55,7 +87,7 @@ slides_in code asker anchor from (suc n) left at e few = by_test (eqb at anchor)
     by_jump None there away later g = cc
     by_jump (Some (I.Jump x)) there away later g =
         later x g
-        ∙ arrive_by_jump code asker anchor from left at x (I.Jump x) away (get_or_from_slice_get code at (I.Jump x) (I.Jump x) there) (slice_get_within code at (I.Jump x) there) (omega arith)
+        ∙ arrive_by_jump code asker anchor from left at x away there (omega arith)
     by_jump (Some (I.CallWrite a b)) there away later g = cc
     by_jump (Some (I.CallRead a b)) there away later g = cc
     by_jump (Some (I.Release a)) there away later g = cc

@@ -1,8 +1,10 @@
 -- Chains of plain jumps of which it is known where they lead.
-use Rattle.std.specs.Prelude.{ℕ, zero, suc, ◌≡◌, List, get_or, slice_get, Option, Some, None}
+use Rattle.std.specs.Prelude.{ℕ, zero, suc, ◌≡◌, false, List, get_or, slice_get, Option, Some, None, Result, Ok, Err}
 use Rattle.htl_ecode.specs.declared.instr.EInstr.{EInstr}
 use Rattle.htl_ecode.specs.Jumps.{jump_to}
+use Rattle.htl_ecode.specs.declared.fault.EFault.{EFault}
 use Rattle.htl_espell.specs.declared.slides.Slide.{Slide}
+use Rattle.htl_espell.specs.declared.landing.Followed.{Followed}
 
 abbrev pub jump_at : List EInstr → ℕ → Option ℕ
 jump_at code a = elim (slice_get code a) [ Some i ↦ jump_to i | None ↦ None ]
@@ -13,8 +15,13 @@ slid code a zero = Some a
 slid code a (suc n) = elim (jump_at code a) [ Some x ↦ slid code x n | None ↦ None ]
 
 abbrev pub no_slide : Slide
-no_slide = record { anchor = 0; place = 0; jumps = 0 }
+no_slide = record { anchor = 0; place = 0; jumps = 0; lands = false }
 
 -- what each of these says of the code holds
 abbrev pub AreSlides : List EInstr → List Slide → Type 0
 AreSlides code cells = (k : ℕ) → slid code (get_or cells k no_slide).place (get_or cells k no_slide).jumps ≡ Some (get_or cells k no_slide).anchor
+
+-- where a chain leads that was followed
+abbrev pub anchor_of : Result Followed EFault → Result ℕ EFault
+anchor_of (Ok f) = Ok f.chain.anchor
+anchor_of (Err e) = Err e

@@ -3,11 +3,10 @@ ghost use Rattle.std.specs.Prelude.{◌≡◌, ◌≤◌, ◌+◌, length, IfSom
 ghost use Rattle.htl_ecode.specs.Offsets.{OffsetsFit};
 ghost use Rattle.htl_ecode.specs.Departure.{fault_of};
 ghost use Rattle.htl_espell.specs.Checks.{block_of as block_of_both, block_read, begin_read, phase_departure};
-ghost use Rattle.htl_espell.specs.Slides.{AreSlides};
 
-use crate::calls::need_calls;
+use crate::calls::{Block, need_calls};
 use crate::needs::{need, turn, wait_for};
-use crate::slides::Slides;
+use crate::slides::Instrs;
 use htl_base::Time;
 use htl_ecode::offsets::{READS, WRITES, next_offset};
 use htl_ecode::{EFault, EInstr};
@@ -16,41 +15,37 @@ use htl_model::lookup::mode_period;
 
 // Reads the start of a round, which ends at the address `decide`: where its first triggers of writes and of reads lead.
 pub fn check_begin(
-    code: &[EInstr],
+    code: &mut Instrs<'_>,
     at: u32,
     t: &Tables,
     mode: u16,
     decide: u32,
-    known: &mut Slides,
 ) -> Result<(Option<u32>, Option<u32>), EFault>
-    requires code { length code.now ≤ 4294967295 }
-    requires known { AreSlides code.now known.old.cells }
-    ensures targets { result ≡ begin_read code.now t.now decide mode at }
-    ensures known { AreSlides code.now known.new.cells }
+    requires code { length code.old ≤ 4294967295 }
+    ensures targets { result ≡ begin_read code.old t.now decide mode at }
+    ensures same { code.new ≡ code.old }
 {
     let (place, writes) = wait_for(code, at, 0, WRITES, next_offset(t, mode, WRITES, 0))?;
     let (place, reads) = wait_for(code, place, 0, READS, next_offset(t, mode, READS, 0))?;
-    let place = turn(code, place, mode_period(t, mode) as Time, decide, known)?;
+    let place = turn(code, place, mode_period(t, mode) as Time, decide)?;
     need(code, place, EInstr::Return)?;
     Ok((writes, reads))
 }
 
-// Reads the block at an offset, where `next` is the next offset: where its trigger leads.
+// Reads a block, where `next` is the next offset: where its trigger leads.
 fn check_block(
-    code: &[EInstr],
+    code: &mut Instrs<'_>,
     at: u32,
-    t: &Tables,
-    mode: u16,
-    phase: u8,
-    offset: Time,
+    block: &Block<'_>,
     next: Option<Time>,
 ) -> Result<Option<u32>, EFault>
-    requires code { length code.now ≤ 4294967295 }
-    requires later { IfSome next (λ o. offset ≤ o) }
-    ensures { result ≡ block_read code.now t.now mode phase offset next at }
+    requires code { length code.old ≤ 4294967295 }
+    requires later { IfSome next (λ o. block.now.offset ≤ o) }
+    ensures read { result ≡ block_read code.old block.now.t.now block.now.mode block.now.phase block.now.offset next at }
+    ensures same { code.new ≡ code.old }
 {
-    let place = need_calls(code, at, t, mode, phase, offset)?;
-    let (end, target) = wait_for(code, place, offset, phase, next)?;
+    let place = need_calls(code, at, block)?;
+    let (end, target) = wait_for(code, place, block.offset, block.phase, next)?;
     need(code, end, EInstr::Return)?;
     Ok(target)
 }
@@ -67,20 +62,27 @@ fn block_of(next: Option<Time>, at: Option<u32>) -> Option<(Time, u32)>
 
 /// Reads the blocks of a phase from the first on, which the start of a round names.
 pub fn check_phase(
-    code: &[EInstr],
+    code: &mut Instrs<'_>,
     t: &Tables,
     mode: u16,
     phase: u8,
     first: Option<u32>,
 ) -> Result<(), EFault>
-    requires code { length code.now ≤ 4294967295 }
+    requires code { length code.old ≤ 4294967295 }
     requires offsets { OffsetsFit t.now }
-    ensures { fault_of result ≡ phase_departure t.now code.now mode phase first }
+    ensures fault { fault_of result ≡ phase_departure t.now code.old mode phase first }
+    ensures same { code.new ≡ code.old }
 {
     let mut block = block_of(next_offset(t, mode, phase, 0), first);
     while let Some((offset, at)) = block {
         let next = next_offset(t, mode, phase, offset + 1);
-        let target = check_block(code, at, t, mode, phase, offset, next)?;
+        let here = Block {
+            t,
+            mode,
+            phase,
+            offset,
+        };
+        let target = check_block(code, at, &here, next)?;
         block = block_of(next, target);
     }
     Ok(())

@@ -6,6 +6,7 @@ ghost use Rattle.htl_espell.specs.Checks.{next_of};
 ghost use Rattle.htl_espell.specs.Parts.{end_wants, call_wants, release_wants};
 
 use crate::needs::need;
+use crate::slides::Instrs;
 use htl_base::Time;
 use htl_ecode::calls::call;
 use htl_ecode::offsets::{WRITES, counts, ends_in, meets};
@@ -13,22 +14,31 @@ use htl_ecode::{EFault, EInstr};
 use htl_model::window::release;
 use htl_model::{End, Inv, Tables};
 
+/// What is done at an offset in a phase of the rounds of a mode.
+#[derive(Clone, Copy)]
+pub struct Block<'a> {
+    pub t: &'a Tables,
+    pub mode: u16,
+    pub phase: u8,
+    /// From the start of a round, in ticks.
+    pub offset: Time,
+}
+
 // Reads the call of an end of an invocation, where it meets a communicator at the offset: the address after it.
 fn need_end(
-    code: &[EInstr],
+    code: &mut Instrs<'_>,
     at: u32,
-    t: &Tables,
-    phase: u8,
+    block: &Block<'_>,
     inv: u16,
     k: u16,
     end: End,
-    offset: Time,
 ) -> Result<u32, EFault>
-    requires { length code.now ≤ 4294967295 }
-    ensures { result ≡ next_of code.now at (end_wants t.now phase offset inv (k, end)) }
+    requires { length code.old ≤ 4294967295 }
+    ensures read { result ≡ next_of code.old at (end_wants block.now.t.now block.now.phase block.now.offset inv (k, end)) }
+    ensures same { code.new ≡ code.old }
 {
-    if meets(t, offset, end) {
-        need(code, at, call(phase, inv, k))
+    if meets(block.t, block.offset, end) {
+        need(code, at, call(block.phase, inv, k))
     } else {
         Ok(at)
     }
@@ -36,82 +46,72 @@ fn need_end(
 
 // Reads the calls of some ends.
 fn need_ends(
-    code: &[EInstr],
+    code: &mut Instrs<'_>,
     at: u32,
-    t: &Tables,
-    phase: u8,
+    block: &Block<'_>,
     inv: u16,
     ends: &[End],
-    offset: Time,
 ) -> Result<u32, EFault>
-    requires code { length code.now ≤ 4294967295 }
+    requires code { length code.old ≤ 4294967295 }
     requires few { length ends.now ≤ 256 }
-    ensures { result ≡ next_of code.now at (joined (end_wants t.now phase offset inv) (numbered 0 ends.now)) }
+    ensures read { result ≡ next_of code.old at (joined (end_wants block.now.t.now block.now.phase block.now.offset inv) (numbered 0 ends.now)) }
+    ensures same { code.new ≡ code.old }
 {
     let mut place = at;
     for k in 0..ends.len() {
-        place = need_end(code, place, t, phase, inv, k as u16, ends[k], offset)?;
+        place = need_end(code, place, block, inv, k as u16, ends[k])?;
     }
     Ok(place)
 }
 
 // Reads the calls of an invocation.
 fn need_inv(
-    code: &[EInstr],
+    code: &mut Instrs<'_>,
     at: u32,
-    t: &Tables,
-    mode: u16,
-    phase: u8,
+    block: &Block<'_>,
     k: u16,
     inv: &Inv,
-    offset: Time,
 ) -> Result<u32, EFault>
-    requires code { length code.now ≤ 4294967295 }
+    requires code { length code.old ≤ 4294967295 }
     requires reads { length inv.now.reads ≤ 256 }
     requires writes { length inv.now.writes ≤ 256 }
-    ensures { result ≡ next_of code.now at (call_wants t.now mode phase offset (k, inv.now)) }
+    ensures read { result ≡ next_of code.old at (call_wants block.now.t.now block.now.mode block.now.phase block.now.offset (k, inv.now)) }
+    ensures same { code.new ≡ code.old }
 {
-    if !counts(t, mode, inv) {
+    if !counts(block.t, block.mode, inv) {
         return Ok(at);
     }
-    need_ends(code, at, t, phase, k, ends_in(inv, phase), offset)
+    need_ends(code, at, block, k, ends_in(inv, block.phase))
 }
 
 // Reads the calls of all invocations.
-fn need_invs(
-    code: &[EInstr],
-    at: u32,
-    t: &Tables,
-    mode: u16,
-    phase: u8,
-    offset: Time,
-) -> Result<u32, EFault>
-    requires { length code.now ≤ 4294967295 }
-    ensures { result ≡ next_of code.now at (joined (call_wants t.now mode phase offset) (numbered 0 t.now.invs)) }
+fn need_invs(code: &mut Instrs<'_>, at: u32, block: &Block<'_>) -> Result<u32, EFault>
+    requires { length code.old ≤ 4294967295 }
+    ensures read { result ≡ next_of code.old at (joined (call_wants block.now.t.now block.now.mode block.now.phase block.now.offset) (numbered 0 block.now.t.now.invs)) }
+    ensures same { code.new ≡ code.old }
 {
-    let invs = t.parts().invs.as_slice();
+    let invs = block.t.parts().invs.as_slice();
     let mut place = at;
     for k in 0..invs.len() {
         let inv = &invs[k];
-        place = need_inv(code, place, t, mode, phase, k as u16, inv, offset)?;
+        place = need_inv(code, place, block, k as u16, inv)?;
     }
     Ok(place)
 }
 
 // Reads the release of an invocation, where it is at the offset.
 fn need_release(
-    code: &[EInstr],
+    code: &mut Instrs<'_>,
     at: u32,
-    t: &Tables,
-    mode: u16,
+    block: &Block<'_>,
     k: u16,
     inv: &Inv,
-    offset: Time,
 ) -> Result<u32, EFault>
-    requires { length code.now ≤ 4294967295 }
-    ensures { result ≡ next_of code.now at (release_wants t.now mode offset (k, inv.now)) }
+    requires { length code.old ≤ 4294967295 }
+    ensures read { result ≡ next_of code.old at (release_wants block.now.t.now block.now.mode block.now.offset (k, inv.now)) }
+    ensures same { code.new ≡ code.old }
 {
-    if counts(t, mode, inv) && release(t, inv) == offset {
+    if counts(block.t, block.mode, inv) && release(block.t, inv) == block.offset {
         need(code, at, EInstr::Release { inv: k })
     } else {
         Ok(at)
@@ -119,41 +119,30 @@ fn need_release(
 }
 
 // Reads the releases at an offset.
-fn need_releases(
-    code: &[EInstr],
-    at: u32,
-    t: &Tables,
-    mode: u16,
-    offset: Time,
-) -> Result<u32, EFault>
-    requires { length code.now ≤ 4294967295 }
-    ensures { result ≡ next_of code.now at (joined (release_wants t.now mode offset) (numbered 0 t.now.invs)) }
+fn need_releases(code: &mut Instrs<'_>, at: u32, block: &Block<'_>) -> Result<u32, EFault>
+    requires { length code.old ≤ 4294967295 }
+    ensures read { result ≡ next_of code.old at (joined (release_wants block.now.t.now block.now.mode block.now.offset) (numbered 0 block.now.t.now.invs)) }
+    ensures same { code.new ≡ code.old }
 {
-    let invs = t.parts().invs.as_slice();
+    let invs = block.t.parts().invs.as_slice();
     let mut place = at;
     for k in 0..invs.len() {
         let inv = &invs[k];
-        place = need_release(code, place, t, mode, k as u16, inv, offset)?;
+        place = need_release(code, place, block, k as u16, inv)?;
     }
     Ok(place)
 }
 
 /// Reads what is done at an offset in a phase: the address after it.
-pub fn need_calls(
-    code: &[EInstr],
-    at: u32,
-    t: &Tables,
-    mode: u16,
-    phase: u8,
-    offset: Time,
-) -> Result<u32, EFault>
-    requires { length code.now ≤ 4294967295 }
-    ensures { result ≡ next_of code.now at (all_do (calls_at t.now mode phase offset)) }
+pub fn need_calls(code: &mut Instrs<'_>, at: u32, block: &Block<'_>) -> Result<u32, EFault>
+    requires { length code.old ≤ 4294967295 }
+    ensures read { result ≡ next_of code.old at (all_do (calls_at block.now.t.now block.now.mode block.now.phase block.now.offset)) }
+    ensures same { code.new ≡ code.old }
 {
-    let place = need_invs(code, at, t, mode, phase, offset)?;
-    if phase == WRITES {
+    let place = need_invs(code, at, block)?;
+    if block.phase == WRITES {
         Ok(place)
     } else {
-        need_releases(code, place, t, mode, offset)
+        need_releases(code, place, block)
     }
 }

@@ -4,19 +4,25 @@ ghost use Rattle.htl_model.specs.Lists.{joined, numbered};
 ghost use Rattle.htl_ecode.specs.Departure.{fault_of};
 ghost use Rattle.htl_espell.specs.Checks.{next_of, enter_read};
 ghost use Rattle.htl_espell.specs.Parts.{child_wants};
-ghost use Rattle.htl_espell.specs.Slides.{AreSlides};
 
 use crate::landing::arrive;
 use crate::needs::need;
-use crate::slides::Slides;
+use crate::slides::Instrs;
 use htl_ecode::modes::is_child;
 use htl_ecode::{EFault, EInstr};
 use htl_model::{Module, Tables};
 
 // Reads the start of a module, where it belongs to the mode's refinement: the address after it.
-fn need_child(code: &[EInstr], at: u32, mode: u16, k: u16, module: &Module) -> Result<u32, EFault>
-    requires { length code.now ≤ 4294967295 }
-    ensures { result ≡ next_of code.now at (child_wants mode (k, «module».now)) }
+fn need_child(
+    code: &mut Instrs<'_>,
+    at: u32,
+    mode: u16,
+    k: u16,
+    module: &Module,
+) -> Result<u32, EFault>
+    requires { length code.old ≤ 4294967295 }
+    ensures read { result ≡ next_of code.old at (child_wants mode (k, «module».now)) }
+    ensures same { code.new ≡ code.old }
 {
     if is_child(mode, module) {
         need(code, at, EInstr::Fork { module: k })
@@ -26,9 +32,10 @@ fn need_child(code: &[EInstr], at: u32, mode: u16, k: u16, module: &Module) -> R
 }
 
 // Reads the starts of the modules of a mode's refinement.
-fn need_children(code: &[EInstr], at: u32, t: &Tables, mode: u16) -> Result<u32, EFault>
-    requires { length code.now ≤ 4294967295 }
-    ensures { result ≡ next_of code.now at (joined (child_wants mode) (numbered 0 t.now.modules)) }
+fn need_children(code: &mut Instrs<'_>, at: u32, t: &Tables, mode: u16) -> Result<u32, EFault>
+    requires { length code.old ≤ 4294967295 }
+    ensures read { result ≡ next_of code.old at (joined (child_wants mode) (numbered 0 t.now.modules)) }
+    ensures same { code.new ≡ code.old }
 {
     let modules = t.parts().modules.as_slice();
     let mut place = at;
@@ -41,19 +48,17 @@ fn need_children(code: &[EInstr], at: u32, t: &Tables, mode: u16) -> Result<u32,
 
 /// Reads what enters a mode, whose rounds begin at the address `begin`.
 pub fn check_enter(
-    code: &[EInstr],
+    code: &mut Instrs<'_>,
     at: u32,
     t: &Tables,
     mode: u16,
     begin: u32,
-    known: &mut Slides,
 ) -> Result<(), EFault>
-    requires code { length code.now ≤ 4294967295 }
-    requires known { AreSlides code.now known.old.cells }
-    ensures fault { fault_of result ≡ fault_of (enter_read code.now t.now begin mode at) }
-    ensures known { AreSlides code.now known.new.cells }
+    requires code { length code.old ≤ 4294967295 }
+    ensures fault { fault_of result ≡ fault_of (enter_read code.old t.now begin mode at) }
+    ensures same { code.new ≡ code.old }
 {
     let place = need(code, at, EInstr::Enter { mode })?;
     let end = need_children(code, place, t, mode)?;
-    arrive(code, end, begin, end, known)
+    arrive(code, end, begin, end)
 }

@@ -5,10 +5,9 @@ ghost use Rattle.htl_ecode.specs.Instructions.{target_in as target_in_of, delay_
 ghost use Rattle.htl_ecode.specs.Steps.{reach, met_by, leaving};
 ghost use Rattle.htl_ecode.specs.Departure.{fault_of};
 ghost use Rattle.htl_espell.specs.Checks.{next_of, ends_of, waited, next_met, ends_met};
-ghost use Rattle.htl_espell.specs.Slides.{AreSlides};
 
 use crate::landing::{arrive, land};
-use crate::slides::Slides;
+use crate::slides::Instrs;
 use htl_base::Time;
 use htl_ecode::offsets::SWITCHES;
 use htl_ecode::{EFault, EInstr, EKind};
@@ -50,12 +49,13 @@ fn need_at(place: u32, i: EInstr, want: EInstr) -> Result<u32, EFault>
 }
 
 /// Reads one required instruction: the address after it.
-pub fn need(code: &[EInstr], at: u32, want: EInstr) -> Result<u32, EFault>
-    requires { length code.now ≤ 4294967295 }
-    ensures { result ≡ next_of code.now at (Does want ∷ []) }
+pub fn need(code: &mut Instrs<'_>, at: u32, want: EInstr) -> Result<u32, EFault>
+    requires { length code.old ≤ 4294967295 }
+    ensures read { result ≡ next_of code.old at (Does want ∷ []) }
+    ensures same { code.new ≡ code.old }
 {
     let place = land(code, at)?;
-    need_at(place, code[place as usize], want)
+    need_at(place, code.at(place), want)
 }
 
 // Whether the instruction at a place sets a trigger of the phase with this delay: the address after it, and its target.
@@ -81,25 +81,27 @@ fn wait_at(place: u32, i: EInstr, delay: Time, phase: u8) -> Result<(u32, u32), 
 }
 
 // Reads a trigger of a phase with a delay: the address after it, and its target.
-fn wait(code: &[EInstr], at: u32, delay: Time, phase: u8) -> Result<(u32, u32), EFault>
-    requires { length code.now ≤ 4294967295 }
-    ensures { result ≡ ends_of (reach code.now at (Waits delay phase)) }
+fn wait(code: &mut Instrs<'_>, at: u32, delay: Time, phase: u8) -> Result<(u32, u32), EFault>
+    requires { length code.old ≤ 4294967295 }
+    ensures read { result ≡ ends_of (reach code.old at (Waits delay phase)) }
+    ensures same { code.new ≡ code.old }
 {
     let place = land(code, at)?;
-    wait_at(place, code[place as usize], delay, phase)
+    wait_at(place, code.at(place), delay, phase)
 }
 
 /// Reads the trigger for a further offset, where there is one: the address after it, and its target.
 pub fn wait_for(
-    code: &[EInstr],
+    code: &mut Instrs<'_>,
     at: u32,
     from: Time,
     phase: u8,
     next: Option<Time>,
 ) -> Result<(u32, Option<u32>), EFault>
-    requires code { length code.now ≤ 4294967295 }
+    requires code { length code.old ≤ 4294967295 }
     requires later { IfSome next (λ o. from ≤ o) }
-    ensures { result ≡ waited code.now at from phase next }
+    ensures read { result ≡ waited code.old at from phase next }
+    ensures same { code.new ≡ code.old }
 {
     match next {
         Some(o) => {
@@ -112,17 +114,15 @@ pub fn wait_for(
 
 // Whether the instruction at a place sets the trigger of a round's end, and its target arrives at the anchor: the address after it.
 fn turn_at(
-    code: &[EInstr],
+    code: &mut Instrs<'_>,
     place: u32,
     i: EInstr,
     delay: Time,
     anchor: u32,
-    known: &mut Slides,
 ) -> Result<u32, EFault>
     requires place { place < 4294967295 }
-    requires known { AreSlides code.now known.old.cells }
-    ensures next { result ≡ next_met (met_by code.now (Turns delay anchor) place i) }
-    ensures known { AreSlides code.now known.new.cells }
+    ensures next { result ≡ next_met (met_by code.old (Turns delay anchor) place i) }
+    ensures same { code.new ≡ code.old }
 {
     let target = target_in(i);
     let round = delay_in(i);
@@ -138,69 +138,56 @@ fn turn_at(
             kind: EKind::Delay,
         });
     }
-    arrive(code, place, anchor, target, known)?;
+    arrive(code, place, anchor, target)?;
     Ok(next)
 }
 
 /// Reads the trigger of a round's end, whose target arrives at an anchor: the address after it.
-pub fn turn(
-    code: &[EInstr],
-    at: u32,
-    delay: Time,
-    anchor: u32,
-    known: &mut Slides,
-) -> Result<u32, EFault>
-    requires code { length code.now ≤ 4294967295 }
-    requires known { AreSlides code.now known.old.cells }
-    ensures next { result ≡ next_of code.now at (Turns delay anchor ∷ []) }
-    ensures known { AreSlides code.now known.new.cells }
+pub fn turn(code: &mut Instrs<'_>, at: u32, delay: Time, anchor: u32) -> Result<u32, EFault>
+    requires code { length code.old ≤ 4294967295 }
+    ensures next { result ≡ next_of code.old at (Turns delay anchor ∷ []) }
+    ensures same { code.new ≡ code.old }
 {
     let place = land(code, at)?;
-    turn_at(code, place, code[place as usize], delay, anchor, known)
+    let i = code.at(place);
+    turn_at(code, place, i, delay, anchor)
 }
 
 // Whether the instruction at a place is the jump of a switch, and its target arrives at the anchor: the address after it.
 fn test_at(
-    code: &[EInstr],
+    code: &mut Instrs<'_>,
     place: u32,
     i: EInstr,
     switch: u16,
     anchor: u32,
-    known: &mut Slides,
 ) -> Result<u32, EFault>
     requires place { place < 4294967295 }
-    requires known { AreSlides code.now known.old.cells }
-    ensures next { result ≡ next_met (met_by code.now (Tests switch 0 anchor) place i) }
-    ensures known { AreSlides code.now known.new.cells }
+    ensures next { result ≡ next_met (met_by code.old (Tests switch 0 anchor) place i) }
+    ensures same { code.new ≡ code.old }
 {
     let target = target_in(i);
     let want = EInstr::JumpIf { switch, target };
     let next = need_at(place, i, want)?;
-    arrive(code, place, anchor, target, known)?;
+    arrive(code, place, anchor, target)?;
     Ok(next)
 }
 
 /// Reads the jump of a switch, whose target arrives at an anchor: the address after it.
-pub fn test(
-    code: &[EInstr],
-    at: u32,
-    switch: u16,
-    anchor: u32,
-    known: &mut Slides,
-) -> Result<u32, EFault>
-    requires code { length code.now ≤ 4294967295 }
-    requires known { AreSlides code.now known.old.cells }
-    ensures next { result ≡ next_of code.now at (Tests switch 0 anchor ∷ []) }
-    ensures known { AreSlides code.now known.new.cells }
+pub fn test(code: &mut Instrs<'_>, at: u32, switch: u16, anchor: u32) -> Result<u32, EFault>
+    requires code { length code.old ≤ 4294967295 }
+    ensures next { result ≡ next_of code.old at (Tests switch 0 anchor ∷ []) }
+    ensures same { code.new ≡ code.old }
 {
     let place = land(code, at)?;
-    test_at(code, place, code[place as usize], switch, anchor, known)
+    let i = code.at(place);
+    test_at(code, place, i, switch, anchor)
 }
 
 // Whether `Leave` and `Return` are read from an address.
-fn leave(code: &[EInstr], at: u32) -> Result<(), EFault>
-    requires { length code.now ≤ 4294967295 }
-    ensures { fault_of result ≡ fault_of (leaving code.now at) }
+fn leave(code: &mut Instrs<'_>, at: u32) -> Result<(), EFault>
+    requires { length code.old ≤ 4294967295 }
+    ensures read { fault_of result ≡ fault_of (leaving code.old at) }
+    ensures same { code.new ≡ code.old }
 {
     let after = need(code, at, EInstr::Leave)?;
     need(code, after, EInstr::Return)?;
@@ -208,10 +195,11 @@ fn leave(code: &[EInstr], at: u32) -> Result<(), EFault>
 }
 
 // Whether the instruction at a place is the jump where a mode runs, with `Leave` and `Return` behind it: its target.
-fn ask_at(code: &[EInstr], place: u32, i: EInstr, mode: u16) -> Result<u32, EFault>
-    requires code { length code.now ≤ 4294967295 }
+fn ask_at(code: &mut Instrs<'_>, place: u32, i: EInstr, mode: u16) -> Result<u32, EFault>
+    requires code { length code.old ≤ 4294967295 }
     requires place { place < 4294967295 }
-    ensures { result ≡ next_met (met_by code.now (Asks mode) place i) }
+    ensures read { result ≡ next_met (met_by code.old (Asks mode) place i) }
+    ensures same { code.new ≡ code.old }
 {
     let target = target_in(i);
     let want = EInstr::IfMode { mode, target };
@@ -221,10 +209,12 @@ fn ask_at(code: &[EInstr], place: u32, i: EInstr, mode: u16) -> Result<u32, EFau
 }
 
 /// Reads the jump where a mode runs, and behind it `Leave` and `Return`: its target.
-pub fn ask(code: &[EInstr], at: u32, mode: u16) -> Result<u32, EFault>
-    requires { length code.now ≤ 4294967295 }
-    ensures { result ≡ next_of code.now at (Asks mode ∷ []) }
+pub fn ask(code: &mut Instrs<'_>, at: u32, mode: u16) -> Result<u32, EFault>
+    requires { length code.old ≤ 4294967295 }
+    ensures read { result ≡ next_of code.old at (Asks mode ∷ []) }
+    ensures same { code.new ≡ code.old }
 {
     let place = land(code, at)?;
-    ask_at(code, place, code[place as usize], mode)
+    let i = code.at(place);
+    ask_at(code, place, i, mode)
 }

@@ -1,9 +1,11 @@
 // Long chains of plain jumps of which it is known where they lead, so that none is followed again and again.
-ghost use Rattle.std.specs.Prelude.{◌≡◌, ◌≤◌, ◌<◌, List, length, IfSome, Some};
+ghost use Rattle.std.specs.Prelude.{◌≡◌, ◌≤◌, ◌<◌, ◌-◌, List, length, get_or, slice_get, IfSome, Some};
 ghost use Rattle.htl_ecode.specs.declared.instr.EInstr.{EInstr as Instr};
+ghost use Rattle.htl_ecode.specs.declared.instr.EInstr.TheVariants.{CallWrite};
 ghost use Rattle.htl_espell.specs.Slides.{slid, AreSlides};
 
 use htl_ecode::EInstr;
+use std::marker::Model;
 
 /// From `place`, so many plain jumps lead to `anchor`.
 #[derive(Clone, Copy)]
@@ -11,11 +13,20 @@ pub struct Slide {
     pub anchor: u32,
     pub place: u32,
     pub jumps: usize,
+    /// Whether the chain ends at `anchor`, where an instruction stands that is no plain jump.
+    pub lands: bool,
 }
 
 impl Slide {
-    fn is_below(&self, anchor: u32, place: u32) -> bool {
-        self.anchor < anchor || self.anchor == anchor && self.place < place
+    // Chains to anchors come first, in the order of anchors and places, then those that end, in the order of places.
+    fn is_below(&self, other: &Slide) -> bool {
+        if self.lands != other.lands {
+            return other.lands;
+        }
+        if !self.lands && self.anchor != other.anchor {
+            return self.anchor < other.anchor;
+        }
+        self.place < other.place
     }
 }
 
@@ -23,82 +34,63 @@ const NO_SLIDE: Slide = Slide {
     anchor: 0,
     place: 0,
     jumps: 0,
+    lands: false,
 };
 
 // How many are held.
 const ROOM: usize = 2_048;
 
 // How many jumps apart the places of a chain are that are held. An object of 16 MB has no more than 3,355,443 jumps of five bytes, so
-// that the places on all ways to one anchor find room.
+// that the places on all ways to one anchor, and those on all ways to their ends, find room.
 const APART: usize = 4_096;
 
 // A place that has no mark by its lowest bits is not held.
 const MARKS: usize = 16_384;
 
-/// What is known, in the order of anchors and places.
+/// The instructions of E code, and what is known of the chains of plain jumps among them; contracts see the instructions.
 #[derive(Drop)]
-pub struct Slides {
-    pub cells: [Slide; ROOM],
-    pub len: usize,
-    pub marks: [bool; MARKS],
+pub struct Instrs<'a> {
+    instrs: &'a [EInstr],
+    cells: [Slide; ROOM],
+    len: usize,
+    marks: [bool; MARKS],
 }
 
-impl Slides {
-    /// Nothing is known.
-    pub fn new() -> Slides
-        ensures { (code : List Instr) → AreSlides code result.cells }
-    {
-        Slides {
-            cells: [NO_SLIDE; ROOM],
-            len: 0,
-            marks: [false; MARKS],
-        }
-    }
+impl<'a> Model for Instrs<'a> {
+    ghost use Rattle.std.specs.Prelude.{List};
+    ghost use Rattle.htl_ecode.specs.declared.instr.EInstr.{EInstr};
+    ghost use Rattle.htl_espell.specs.Slides.{AreSlides};
 
-    // The place of the first of the first `len` that isn't below an anchor and a place.
-    fn position(&self, len: usize, anchor: u32, place: u32) -> usize
-        requires { len ≤ 2048 }
-        ensures { result ≤ len }
-    {
-        let mut low = 0;
-        let mut high = len;
-        while low < high {
-            let middle = low + (high - low) / 2;
-            if self.cells[middle].is_below(anchor, place) {
-                low = middle + 1;
-            } else {
-                high = middle;
-            }
-        }
-        low
-    }
+    ghost Value = { List EInstr };
+
+    ghost view = { λ c. c.instrs.now };
+
+    ghost invariant = { λ c. AreSlides c.instrs.now c.cells };
 }
 
-/// How many plain jumps lead from a place to an anchor, where that is known and they are at most so many.
-pub fn rest_of(
-    code: &[EInstr],
-    known: &Slides,
-    anchor: u32,
-    place: u32,
-    most: usize,
-) -> Option<usize>
-    requires { AreSlides code.now known.now.cells }
-    ensures slid { IfSome result (λ n. slid code.now place n ≡ Some anchor) }
-    ensures few { IfSome result (λ n. n ≤ most) }
+// Nothing is known.
+fn no_cells() -> [Slide; ROOM]
+    ensures { (code : List Instr) → AreSlides code result }
 {
-    if !known.marks[place as usize % MARKS] || known.len > ROOM {
-        return None;
+    [NO_SLIDE; ROOM]
+}
+
+// The place of the first of the first `len` that isn't below another.
+fn position(cells: &[Slide], len: usize, other: &Slide) -> usize
+    requires { len ≤ length cells.now }
+    ensures { result ≤ len }
+{
+    let mut low = 0;
+    let mut high = len;
+    while low < high {
+        let middle = low + (high - low) / 2;
+        if cells[middle].is_below(other) {
+            low = middle + 1;
+        } else {
+            high = middle;
+        }
     }
-    let k = known.position(known.len, anchor, place);
-    if k >= ROOM {
-        return None;
-    }
-    let cell = known.cells[k];
-    if cell.anchor == anchor && cell.place == place && cell.jumps <= most {
-        Some(cell.jumps)
-    } else {
-        None
-    }
+    low
 }
 
 // Moves those from place `at` up to `len` one place up.
@@ -115,57 +107,143 @@ fn make_room(code: &[EInstr], cells: &mut [Slide], at: usize, len: usize)
     }
 }
 
-// Adds one; where there is no room, all others are let go.
-fn insert(code: &[EInstr], known: &mut Slides, slide: Slide)
-    requires known { AreSlides code.now known.old.cells }
-    requires slid { slid code.now slide.place slide.jumps ≡ Some slide.anchor }
-    ensures { AreSlides code.now known.new.cells }
-{
-    let len = if known.len < ROOM { known.len } else { 0 };
-    let at = known.position(len, slide.anchor, slide.place);
-    make_room(code, &mut known.cells, at, len);
-    known.cells[at] = slide;
-    known.len = len + 1;
-    known.marks[slide.place as usize % MARKS] = true;
-}
-
-/// Notes places on the first `walked` of the jumps that lead from an address to an anchor, where they are many.
-pub fn note(
-    code: &[EInstr],
-    known: &mut Slides,
-    anchor: u32,
-    from: u32,
-    walked: usize,
-    jumps: usize,
-)
-    requires known { AreSlides code.now known.old.cells }
-    requires slid { slid code.now from jumps ≡ Some anchor }
-    ensures { AreSlides code.now known.new.cells }
-{
-    if walked < 2 * APART {
-        return;
-    }
-    let mut at = from;
-    let mut left = jumps;
-    for k in 0..walked {
-        if k % APART == 0 {
-            insert(
-                code,
-                known,
-                Slide {
-                    anchor,
-                    place: at,
-                    jumps: left,
-                },
-            );
+impl<'a> Instrs<'a> {
+    /// Of these nothing is known.
+    pub fn new(instrs: &'a [EInstr]) -> Instrs<'a>
+        ensures { result ≡ instrs.now }
+    {
+        let cells = no_cells();
+        let marks = [false; MARKS];
+        Instrs {
+            instrs,
+            cells,
+            len: 0,
+            marks,
         }
-        if at as usize >= code.len() || left == 0 {
+    }
+
+    /// How many there are.
+    pub fn len(&self) -> usize
+        ensures { result ≡ length self.now }
+    {
+        self.instrs.len()
+    }
+
+    /// The instruction at an address, if any.
+    pub fn get(&self, at: u32) -> Option<EInstr>
+        ensures { result ≡ slice_get self.now at }
+    {
+        self.instrs.get(at as usize).copied()
+    }
+
+    /// The instruction at an address that has one.
+    pub fn at(&self, place: u32) -> EInstr
+        requires { place < length self.now }
+        ensures { result ≡ get_or self.now place (CallWrite 0 0) }
+    {
+        self.instrs[place as usize]
+    }
+
+    // What is held of a place and an anchor, or of a place and the end of its chain, where at most so many jumps lead there.
+    fn held(&self, wanted: &Slide) -> Option<Slide>
+        ensures slid { IfSome result (λ s. slid self.now s.place s.jumps ≡ Some s.anchor) }
+        ensures place { IfSome result (λ s. s.place ≡ wanted.now.place) }
+        ensures few { IfSome result (λ s. s.jumps ≤ wanted.now.jumps) }
+    {
+        if !self.marks[wanted.place as usize % MARKS] || self.len > ROOM {
+            return None;
+        }
+        let k = position(&self.cells, self.len, wanted);
+        if k >= ROOM {
+            return None;
+        }
+        let found = self.cells[k];
+        if found.place == wanted.place
+            && found.lands == wanted.lands
+            && found.jumps <= wanted.jumps
+        {
+            Some(found)
+        } else {
+            None
+        }
+    }
+
+    /// How many plain jumps lead from a place to an anchor, where that is known and they are at most so many.
+    pub fn rest_to(&self, anchor: u32, place: u32, most: usize) -> Option<usize>
+        ensures slid { IfSome result (λ n. slid self.now place n ≡ Some anchor) }
+        ensures few { IfSome result (λ n. n ≤ most) }
+    {
+        let wanted = Slide {
+            anchor,
+            place,
+            jumps: most,
+            lands: false,
+        };
+        match self.held(&wanted) {
+            Some(found) => if found.anchor == anchor {
+                Some(found.jumps)
+            } else {
+                None
+            },
+            None => None,
+        }
+    }
+
+    /// Where the chain from a place ends, and how many jumps are left of `most`, where that is known; else the place itself.
+    pub fn skip(&self, place: u32, most: usize) -> (u32, usize)
+        ensures few { result.1 ≤ most }
+        ensures slid { slid self.now place (most - result.1) ≡ Some result.0 }
+    {
+        let wanted = Slide {
+            anchor: 0,
+            place,
+            jumps: most,
+            lands: true,
+        };
+        match self.held(&wanted) {
+            Some(found) => (found.anchor, most - found.jumps),
+            None => (place, most),
+        }
+    }
+
+    // Adds one; where there is no room, all others are let go.
+    fn insert(&mut self, slide: Slide)
+        requires { slid self.old slide.place slide.jumps ≡ Some slide.anchor }
+        ensures { self.new ≡ self.old }
+    {
+        let len = if self.len < ROOM { self.len } else { 0 };
+        let at = position(&self.cells, len, &slide);
+        make_room(self.instrs, &mut self.cells, at, len);
+        self.cells[at] = slide;
+        self.len = len + 1;
+        self.marks[slide.place as usize % MARKS] = true;
+    }
+
+    /// Notes places on the first `walked` jumps of a chain, where they are many.
+    pub fn note(&mut self, chain: Slide, walked: usize)
+        requires { slid self.old chain.place chain.jumps ≡ Some chain.anchor }
+        ensures { self.new ≡ self.old }
+    {
+        if walked < 2 * APART {
             return;
         }
-        match code[at as usize] {
-            EInstr::Jump { target } => at = target,
-            _ => return,
+        let mut rest = chain;
+        for k in 0..walked {
+            if k % APART == 0 {
+                self.insert(rest);
+            }
+            match self.get(rest.place) {
+                Some(EInstr::Jump { target }) => if rest.jumps > 0 {
+                    rest = Slide {
+                        place: target,
+                        jumps: rest.jumps - 1,
+                        ..rest
+                    };
+                } else {
+                    return;
+                },
+                _ => return,
+            }
         }
-        left -= 1;
     }
 }

@@ -1,9 +1,11 @@
+use Rattle.std.proofs.Common.{◌≡◌}
 use Rattle.htl_espell.specs.Checks.{phase_departure}
 use Rattle.htl_espell.proofs.PhaseBlocks.{IsChecking, left_of}
 use Rattle.htl_espell.proofs.blocks.check_phase.Given as goal
 
 abbrev pub invariant-loop-block : goal.invariant-loop-block
-invariant-loop-block l = IsChecking l.t l.code l.mode l.phase (phase_departure l.t l.code l.mode l.phase l.fn.first) l.block
+invariant-loop-block l =
+    record { same : l.code ≡ l.fn.code; checks : IsChecking l.t l.fn.code l.mode l.phase (phase_departure l.t l.fn.code l.mode l.phase l.fn.first) l.block }
 
 abbrev pub decreases-loop-block : goal.decreases-loop-block
 decreases-loop-block l = left_of l.t l.mode l.phase l.block

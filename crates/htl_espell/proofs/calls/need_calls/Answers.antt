@@ -1,20 +1,28 @@
-use Rattle.std.proofs.Common.{true, false, refl, ◌≡◌, ◌∙◌, Ok, Err, eqb, rules}
+use Rattle.std.proofs.Common.{true, false, refl, ◌≡◌, ◌∙◌, Ok, Err, List, eqb, ap, rules}
 use Rattle.std.proofs.lemmas.Bool.{eq-eqb}
+use Rattle.htl_model.specs.Lists.{joined, numbered}
+use Rattle.htl_ecode.specs.declared.instr.EInstr.{EInstr}
+use Rattle.htl_espell.specs.Checks.{next_of}
+use Rattle.htl_espell.specs.Parts.{release_wants}
 use Rattle.htl_espell.proofs.Jumping.{apart}
 use Rattle.htl_espell.proofs.Chaining.{calls_read}
 use Rattle.htl_espell.proofs.calls.need_calls.Goals as goal
 
-pub returns-then-phase-eq-WRITES : goal.returns-then-phase-eq-WRITES
-returns-then-phase-eq-WRITES c =
-    calls_read c.args.code.now c.args.t.now c.args.mode c.args.phase c.args.offset c.args.at (Ok c.in_ok-place.place) true (eq-eqb c.args.phase 1 c.if-phase-eq-WRITES.true) c.in_ok-place.ensures
+pub returns-then-block-eq-WRITES-clause-read : goal.returns-then-block-eq-WRITES-clause-read
+returns-then-block-eq-WRITES-clause-read c =
+    let block = c.args.block.now in
+    calls_read c.args.code.now block.t.now block.mode block.phase block.offset c.args.at (Ok c.in_ok-place.place) true (eq-eqb block.phase 1 c.if-block-eq-WRITES.true) c.in_ok-place.ensures.read
 
-pub returns-else-phase-eq-WRITES : goal.returns-else-phase-eq-WRITES
-returns-else-phase-eq-WRITES c =
-    c.need_releases.ensures
-    ∙ calls_read c.args.code.now c.args.t.now c.args.mode c.args.phase c.args.offset c.args.at (Ok c.in_ok-place.place) false (apart c.args.phase 1 c.if-phase-eq-WRITES.false) c.in_ok-place.ensures
+pub returns-else-block-eq-WRITES-clause-read : goal.returns-else-block-eq-WRITES-clause-read
+returns-else-block-eq-WRITES-clause-read c =
+    let block = c.args.block.now in
+    c.need_releases.ensures.read
+    ∙ ap (λ (z : List EInstr). next_of z c.in_ok-place.place (joined (release_wants block.t.now block.mode block.offset) (numbered 0 block.t.now.invs))) c.in_ok-place.ensures.same
+    ∙ calls_read c.args.code.now block.t.now block.mode block.phase block.offset c.args.at (Ok c.in_ok-place.place) false (apart block.phase 1 c.if-block-eq-WRITES.false) c.in_ok-place.ensures.read
 
-pub returns-in_err-place : goal.returns-in_err-place
-returns-in_err-place c =
+pub returns-in_err-place-clause-read : goal.returns-in_err-place-clause-read
+returns-in_err-place-clause-read c =
+    let block = c.args.block.now in
     let departs : c.from_residual.result ≡ Err c.in_err-place.field-0.0 = search rules in
     departs
-    ∙ calls_read c.args.code.now c.args.t.now c.args.mode c.args.phase c.args.offset c.args.at (Err c.in_err-place.field-0.0) (eqb c.args.phase 1) refl c.in_err-place.ensures
+    ∙ calls_read c.args.code.now block.t.now block.mode block.phase block.offset c.args.at (Err c.in_err-place.field-0.0) (eqb block.phase 1) refl c.in_err-place.ensures.read

@@ -1,16 +1,25 @@
-use Rattle.std.proofs.Common.{arith, rules, Err, ◌≡◌, ◌∙◌}
+use Rattle.std.proofs.Common.{arith, rules, Err, List, ◌≡◌, ◌∙◌, ap}
+use Rattle.htl_ecode.specs.declared.instr.EInstr.{EInstr}
 use Rattle.htl_espell.specs.Parts.{call_wants}
+use Rattle.htl_espell.specs.Checks.{next_of}
 use Rattle.htl_espell.proofs.Chaining.{item_read, item_departs}
 use Rattle.htl_espell.proofs.calls.need_invs.Goals as goal
 
 pub loop-k-preserved : goal.loop-k-preserved
 loop-k-preserved c =
-    item_read (call_wants c.args.t.now c.args.mode c.args.phase c.args.offset) c.args.code.now c.loop-k.k c.as_slice-invs.result.now c.index-invs-k.result c.loop-k.place (omega arith) c.index-invs-k.is
-    _ _ c.in_ok-place.ensures c.loop-k.invariant
+    let wants = call_wants c.args.block.now.t.now c.args.block.now.mode c.args.block.now.phase c.args.block.now.offset in
+    let k = c.loop-k.k in
+    record {
+      same = c.in_ok-place.ensures.same ∙ c.loop-k.invariant.same;
+      read = item_read wants c.args.code.now k c.as_slice-invs.result.now c.index-invs-k.result c.loop-k.place (omega arith) c.index-invs-k.is _ _
+          (c.in_ok-place.ensures.read ∙ ap (λ (z : List EInstr). next_of z c.loop-k.place (wants (k, c.index-invs-k.result))) c.loop-k.invariant.same) c.loop-k.invariant.read;
+    }
 
-pub returns-in_err-place : goal.returns-in_err-place
-returns-in_err-place c =
+pub returns-in_err-place-clause-read : goal.returns-in_err-place-clause-read
+returns-in_err-place-clause-read c =
+    let wants = call_wants c.args.block.now.t.now c.args.block.now.mode c.args.block.now.phase c.args.block.now.offset in
+    let k = c.loop-k.k in
     let departs : c.from_residual.result ≡ Err c.in_err-place.field-0.0 = search rules in
     departs
-    ∙ item_departs (call_wants c.args.t.now c.args.mode c.args.phase c.args.offset) c.args.code.now c.loop-k.k c.as_slice-invs.result.now c.index-invs-k.result c.loop-k.place (omega arith)
-    c.index-invs-k.is _ _ c.in_err-place.ensures c.loop-k.invariant
+    ∙ item_departs wants c.args.code.now k c.as_slice-invs.result.now c.index-invs-k.result c.loop-k.place (omega arith) c.index-invs-k.is _ _
+    (c.in_err-place.ensures.read ∙ ap (λ (z : List EInstr). next_of z c.loop-k.place (wants (k, c.index-invs-k.result))) c.loop-k.invariant.same) c.loop-k.invariant.read

@@ -1,15 +1,25 @@
-use Rattle.std.proofs.Common.{arith, rules, Err, ◌≡◌, ◌∙◌}
+use Rattle.std.proofs.Common.{arith, rules, Err, List, ◌≡◌, ◌∙◌, ap}
+use Rattle.htl_ecode.specs.declared.instr.EInstr.{EInstr}
 use Rattle.htl_espell.specs.Parts.{child_wants}
+use Rattle.htl_espell.specs.Checks.{next_of}
 use Rattle.htl_espell.proofs.Chaining.{item_read, item_departs}
 use Rattle.htl_espell.proofs.entries.need_children.Goals as goal
 
 pub loop-k-preserved : goal.loop-k-preserved
 loop-k-preserved c =
-    item_read (child_wants c.args.mode) c.args.code.now c.loop-k.k c.as_slice-modules.result.now c.index-modules-k.result c.loop-k.place (omega arith) c.index-modules-k.is _ _ c.in_ok-place.ensures c.loop-k.invariant
+    let wants = child_wants c.args.mode in
+    let k = c.loop-k.k in
+    record {
+      same = c.in_ok-place.ensures.same ∙ c.loop-k.invariant.same;
+      read = item_read wants c.args.code.now k c.as_slice-modules.result.now c.index-modules-k.result c.loop-k.place (omega arith) c.index-modules-k.is _ _
+          (c.in_ok-place.ensures.read ∙ ap (λ (z : List EInstr). next_of z c.loop-k.place (wants (k, c.index-modules-k.result))) c.loop-k.invariant.same) c.loop-k.invariant.read;
+    }
 
-pub returns-in_err-place : goal.returns-in_err-place
-returns-in_err-place c =
+pub returns-in_err-place-clause-read : goal.returns-in_err-place-clause-read
+returns-in_err-place-clause-read c =
+    let wants = child_wants c.args.mode in
+    let k = c.loop-k.k in
     let departs : c.from_residual.result ≡ Err c.in_err-place.field-0.0 = search rules in
     departs
-    ∙ item_departs (child_wants c.args.mode) c.args.code.now c.loop-k.k c.as_slice-modules.result.now c.index-modules-k.result c.loop-k.place (omega arith) c.index-modules-k.is _ _
-    c.in_err-place.ensures c.loop-k.invariant
+    ∙ item_departs wants c.args.code.now k c.as_slice-modules.result.now c.index-modules-k.result c.loop-k.place (omega arith) c.index-modules-k.is _ _
+    (c.in_err-place.ensures.read ∙ ap (λ (z : List EInstr). next_of z c.loop-k.place (wants (k, c.index-modules-k.result))) c.loop-k.invariant.same) c.loop-k.invariant.read

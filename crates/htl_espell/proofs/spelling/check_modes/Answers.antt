@@ -16,4 +16,4 @@ returns-in_err-check_mode c =
     c.loop-m.invariant.kept c.in_err-check_mode.ensures.fault
 
 pub loop-m-preserved : goal.loop-m-preserved
-loop-m-preserved c = record { kept = modes_more c.args.t.now c.args.code.now c.loop-m.m c.loop-m.invariant.kept c.in_ok-check_mode.ensures.fault; known = c.in_ok-check_mode.ensures.known }
+loop-m-preserved c = record { kept = modes_more c.args.t.now c.args.code.now c.loop-m.m c.loop-m.invariant.kept c.in_ok-check_mode.ensures.fault; same = c.in_ok-check_mode.ensures.same ∙ c.loop-m.invariant.same }
