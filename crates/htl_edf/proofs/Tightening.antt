@@ -70,14 +70,14 @@ least_is s f z (suc n) =
 
 -- ---- the recursion has come to rest
 
-release_at-same : (j : Jobs) (o : NoCycle j) (k m q : ℕ) → q < j.count → o.rank q < k → o.rank q < m → release_at j k q ≡ release_at j m q
+pub release_at-same : (j : Jobs) (o : NoCycle j) (k m q : ℕ) → q < j.count → o.rank q < k → o.rank q < m → release_at j k q ≡ release_at j m q
 release_at-same j o zero m q l a b = absurd (omega arith)
 release_at-same j o (suc k) zero q l a b = absurd (omega arith)
 release_at-same j o (suc k) (suc m) q l a b =
     greatest-same (λ p. j.before p q) (λ p. release_at j k p + j.worst p) (λ p. release_at j m p + j.worst p) (j.release q) j.count
     (λ p h e. let r = o.rises p q h l e in ap (λ x. x + j.worst p) (release_at-same j o k m p h (omega arith) (omega arith)))
 
-end_at-same : (j : Jobs) (o : NoCycle j) (k m p : ℕ) → p < j.count → j.count ≤ k + o.rank p → j.count ≤ m + o.rank p → end_at j k p ≡ end_at j m p
+pub end_at-same : (j : Jobs) (o : NoCycle j) (k m p : ℕ) → p < j.count → j.count ≤ k + o.rank p → j.count ≤ m + o.rank p → end_at j k p ≡ end_at j m p
 end_at-same j o zero m p l a b = absurd (omega (arith, o.below p l))
 end_at-same j o (suc k) zero p l a b = absurd (omega (arith, o.below p l))
 end_at-same j o (suc k) (suc m) p l a b =

@@ -3,10 +3,15 @@ pub mod Edf
 pub mod Faults
 pub mod Laws
 pub mod Lists
+pub mod NodePlans
+pub mod PartLaws
+pub mod Parts
 pub mod Plan
+pub mod Ready
 pub mod Samples
 pub mod Search
 pub mod Slices
 pub mod Sums
 pub mod Tight
+pub mod Turns
 pub mod Windows

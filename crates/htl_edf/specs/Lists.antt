@@ -26,23 +26,6 @@ tightened js = tight (jobs_of js)
 abbrev pub AreSuccessors : List Job → List ℕ → Type 0
 AreSuccessors js rows = (p q : ℕ) → p < length js → q < length js → cell rows p q ≡ (jobs_of js).before p q
 
--- a present job with some work and a window of at least one tick, and numbers of at most a million
-pub record IsWellFormed (j : Job) : Type 0 where
-  pub present : j.present ≡ true
-  pub window : j.release < j.end
-  pub small : j.end ≤ 1000000
-  pub some : 1 ≤ j.worst
-  pub most : j.worst ≤ 1000000
-
--- at most 128 such jobs
-pub record AreWellFormed (js : List Job) : Type 0 where
-  pub few : length js ≤ 128
-  pub each : All IsWellFormed js
-
--- each window lies within the period
-abbrev pub EndWithin : List Job → ℕ → Type 0
-EndWithin js period = All (λ j. j.end ≤ period) js
-
 abbrev pub no_window : Tight
 no_window = record { release = pos 0; end = pos 0 }
 

@@ -1,5 +1,5 @@
 // The bits of a row, one after the other.
-ghost use Rattle.std.specs.Prelude.{◌≡◌, ◌<◌, ◌≤◌, ◌||◌, ◌&&◌, ℕ, true, false, eqb, length};
+ghost use Rattle.std.specs.Prelude.{◌≡◌, ◌<◌, ◌≤◌, ◌||◌, ◌&&◌, ℕ, true, false, cond, eqb, length};
 ghost use Rattle.htl_model.specs.Bits.{has_bit, cell};
 
 use htl_model::bits::with_bit;
@@ -35,4 +35,12 @@ pub fn note_in_rows(row: u128, q: u32, rows: &mut [u128])
         rows[p] = with_bit(rows[p], q);
         p = next_bit(row, p + 1, rows.len());
     }
+}
+
+/// A row without one of its bits.
+pub fn without_bit(row: u128, k: u32) -> u128
+    requires { k < 128 }
+    ensures { (q : ℕ) → has_bit result q ≡ cond (eqb q k) false (has_bit row q) }
+{
+    row & !(1 << k)
 }

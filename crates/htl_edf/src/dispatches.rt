@@ -1,17 +1,17 @@
 // The slices of earliest deadline first as instructions.
-ghost use Rattle.std.specs.Prelude.{◌≡◌, ◌≤◌, ◌<◌, ℕ, List, length, IfOk};
+ghost use Rattle.std.specs.Prelude.{◌≡◌, ◌≤◌, ◌<◌, List, length, IfOk};
 ghost use Rattle.htl_edf.specs.Edf.{Slice, run_for};
 ghost use Rattle.htl_edf.specs.Lists.{HoldsAfter, LeftAt};
 ghost use Rattle.htl_edf.specs.Code.{closed_of, open_of, edf_schedule};
 
 use crate::Tight;
-use crate::events::{advance, horizon};
+use crate::events::{Ahead, advance, horizon};
 use htl_base::Time;
 use htl_walk::{Job, SInstr};
 use std::alloc::{AllocError, Global};
 
 // Adds that p runs from t to an event. The last slice stays open, since p may go on.
-fn record_run(
+pub fn record_run(
     instrs: &mut Vec<SInstr>,
     last: Option<(u16, u32)>,
     p: u16,
@@ -29,7 +29,8 @@ fn record_run(
 }
 
 /// A dispatch for each maximal slice up to the period, and `End`; the positions have their worst cases left. At each event
-/// the positions are gone over once for the one that runs, and once more for the next release where one was reached.
+/// the positions that are released and have work left are gone over once for the one that runs, and where a release was
+/// reached, all positions for those that are released and for the next release.
 pub fn run_all(
     alloc: Global,
     jobs: &[Job],
@@ -48,10 +49,10 @@ pub fn run_all(
     let mut instrs = Vec::new(alloc);
     let mut last = None;
     let mut t = 0;
-    let mut until = 0;
+    let mut ahead = Ahead { until: 0, ready: 0 };
     while t < period {
-        until = horizon(jobs, windows, t, until, period);
-        let (runs, event) = advance(jobs, windows, left, t, until);
+        ahead = horizon(jobs, windows, left, t, ahead, period);
+        let (runs, event) = advance(jobs, windows, left, &mut ahead, t);
         if let Some(p) = runs {
             last = record_run(&mut instrs, last, p as u16, t as u32, event as u32)?;
         }

@@ -4,12 +4,17 @@
 mod bits;
 mod dispatches;
 mod events;
+mod in_order;
 pub mod laws;
+pub mod nodes;
 mod overload;
+pub mod parts;
 mod plan;
 mod rounds;
 mod scheduler;
+mod turns;
 
+pub use nodes::edf_nodes;
 pub use plan::{PlanFault, edf_all};
 pub use rounds::{Tight, tighten};
 pub use scheduler::{EdfFault, edf};

@@ -2,7 +2,8 @@
 ghost use Rattle.std.specs.Prelude.{◌≡◌, ◌≤◌, ◌<◌, length, pos, IfSome, MatchOption};
 ghost use Rattle.htl_edf.specs.Windows.{NoOverload, Reported};
 ghost use Rattle.htl_edf.specs.Tight.{NoCycle};
-ghost use Rattle.htl_edf.specs.Lists.{jobs_of, tightened, AreWellFormed, HoldsAfter};
+ghost use Rattle.htl_walk.specs.WellFormed.{AreWellFormed};
+ghost use Rattle.htl_edf.specs.Lists.{jobs_of, tightened, HoldsAfter};
 ghost use Rattle.htl_edf.specs.Search.{demand_below, over, any_below, last_of, first_of_end};
 
 use crate::Tight;

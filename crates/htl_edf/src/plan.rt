@@ -1,8 +1,7 @@
 // A schedule for each root selection.
-ghost use Rattle.std.specs.Prelude.{◌≡◌, ◌≤◌, ◌<◌, ◌^◌, ℕ, IfOk, IfErr, MatchOption, pos};
+ghost use Rattle.std.specs.Prelude.{◌≡◌, ◌≤◌, ◌<◌, IfOk, IfErr};
 ghost use Rattle.htl_model.specs.Broken.{KeptTo, KeepsLimits};
 ghost use Rattle.htl_model.specs.Selections.{selection_count, round_length};
-ghost use Rattle.htl_walk.specs.Jobs.{abstract_jobs as abstract_jobs_of};
 ghost use Rattle.htl_edf.specs.Plan.{IsPlannable, IsPlanned, ArePlanned, ExplainsPlan, IsOverloadOf};
 
 use crate::{EdfFault, edf};
@@ -57,6 +56,7 @@ fn plan(alloc: Global, t: &Tables, selection: u32, period: Time) -> Result<Sched
 ///
 /// Each schedule is accepted by the worst-case walk of its selection. `Overload` comes exactly where a selection is
 /// overloaded, and names the first; no S code whatever is accepted for it. Want of memory may come first.
+/// The cost is that of the jobs and of `edf` for each selection.
 pub fn edf_all(alloc: Global, t: &Tables) -> Result<Vec<Schedule>, PlanFault>
     requires formed { KeptTo t.now 12 }
     requires limits { KeepsLimits t.now }

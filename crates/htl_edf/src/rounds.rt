@@ -1,10 +1,12 @@
 // Tightened windows.
-ghost use Rattle.std.specs.Prelude.{◌≡◌, ◌≤◌, ◌<◌, ℕ, suc, true, false, length, pos};
+ghost use Rattle.std.specs.Prelude.{◌≡◌, ◌≤◌, ◌<◌, ℕ, suc, true, false, length, get_or, pos};
 ghost use Rattle.htl_model.specs.Bits.{cell};
 ghost use Rattle.htl_edf.specs.Tight.{release_at, end_at};
-ghost use Rattle.htl_edf.specs.Lists.{jobs_of, AreWellFormed, AreSuccessors, HoldsAfter, AgreeBelow, AreTightened};
+ghost use Rattle.htl_edf.specs.Lists.{jobs_of, AreSuccessors, HoldsAfter, AgreeBelow, AreTightened, no_window};
+ghost use Rattle.htl_walk.specs.WellFormed.{AreWellFormed};
 
 use crate::bits::{next_bit, note_in_rows};
+use crate::in_order::{fill_predecessors, tighten_in_order};
 use htl_base::limits::MAX_POSITIONS;
 use htl_walk::Job;
 
@@ -31,13 +33,13 @@ fn fill_successors(jobs: &[Job], successors: &mut [u128])
     }
 }
 
-// The release of q after its predecessors, whose windows are those of `so_far`.
-fn released(jobs: &[Job], so_far: &[Tight], q: usize, k: usize) -> i64
+/// The release of q after its predecessors, whose releases are those of `so_far`, over chains of at most k of them.
+pub fn released(jobs: &[Job], so_far: &[Tight], q: usize, k: usize) -> i64
     requires jobs { AreWellFormed jobs.now }
     requires same { length so_far.now ≡ length jobs.now }
     requires q_in { q < length jobs.now }
     requires rounds { k ≤ 128 }
-    requires at { HoldsAfter jobs.now so_far.now k }
+    requires at { (p : ℕ) → p < length jobs.now → (jobs_of jobs.now).before p q ≡ true → (get_or so_far.now p no_window).release ≡ pos (release_at (jobs_of jobs.now) k p) }
     ensures { result ≡ pos (release_at (jobs_of jobs.now) (suc k) q) }
 {
     let mut latest = jobs[q].release as i64;
@@ -49,15 +51,15 @@ fn released(jobs: &[Job], so_far: &[Tight], q: usize, k: usize) -> i64
     latest
 }
 
-// The end of p before its successors, whose windows are those of `so_far`.
-fn ended(jobs: &[Job], successors: &[u128], so_far: &[Tight], p: usize, k: usize) -> i64
+/// The end of p before its successors, whose ends are those of `so_far`, over chains of at most k of them.
+pub fn ended(jobs: &[Job], successors: &[u128], so_far: &[Tight], p: usize, k: usize) -> i64
     requires jobs { AreWellFormed jobs.now }
     requires successors { AreSuccessors jobs.now successors.now }
     requires rows { length jobs.now ≤ length successors.now }
     requires same { length so_far.now ≡ length jobs.now }
     requires p_in { p < length jobs.now }
     requires rounds { k ≤ 128 }
-    requires at { HoldsAfter jobs.now so_far.now k }
+    requires at { (q : ℕ) → q < length jobs.now → (jobs_of jobs.now).before p q ≡ true → (get_or so_far.now q no_window).end ≡ end_at (jobs_of jobs.now) k q }
     ensures { result ≡ end_at (jobs_of jobs.now) (suc k) p }
 {
     let mut earliest = jobs[p].end as i64;
@@ -115,6 +117,26 @@ fn are_same(a: &[Tight], b: &[Tight]) -> bool
     true
 }
 
+// Writes the windows round by round, until a round changes none.
+fn tighten_in_rounds(jobs: &[Job], successors: &[u128], out: &mut [Tight])
+    requires jobs { AreWellFormed jobs.now }
+    requires successors { AreSuccessors jobs.now successors.now }
+    requires rows { length jobs.now ≤ length successors.now }
+    requires same { length out.old ≡ length jobs.now }
+    ensures { AreTightened jobs.now out.new }
+{
+    let mut last = [Tight { release: 0, end: 0 }; MAX_POSITIONS];
+    fill(jobs, out);
+    for k in 0..jobs.len() {
+        let before = &mut last[..jobs.len()];
+        before.copy_from_slice(out);
+        round(jobs, successors, before, out, k);
+        if are_same(before, out) {
+            return;
+        }
+    }
+}
+
 /// Writes the tightened windows of at most 128 jobs to `out`, which is as long as `jobs`. A release is the greatest of the
 /// job's own and, over its direct predecessors, their tightened releases and worst cases together; an end is the least of
 /// the job's own and, over its direct successors, their tightened ends less their worst cases (Blazewicz 1976; Chetto,
@@ -125,23 +147,18 @@ fn are_same(a: &[Tight], b: &[Tight]) -> bool
 /// have no tightened windows; what is written then means nothing. A bit of `preds` at the number of jobs or above names no
 /// position and is passed over.
 ///
-/// A round goes over the positions and over the pairs of a position and a direct predecessor, and there are as many rounds
-/// as the longest chain of predecessors has positions, and one more.
+/// Each way one pass over the positions and over the pairs of a position and a direct predecessor. Only with a cycle there
+/// are such passes up to the number of jobs.
 pub fn tighten(jobs: &[Job], out: &mut [Tight])
     requires jobs { AreWellFormed jobs.now }
     requires same { length out.old ≡ length jobs.now }
     ensures { AreTightened jobs.now out.new }
 {
+    let mut predecessors = [0u128; MAX_POSITIONS];
     let mut successors = [0u128; MAX_POSITIONS];
+    fill_predecessors(jobs, &mut predecessors);
     fill_successors(jobs, &mut successors);
-    let mut last = [Tight { release: 0, end: 0 }; MAX_POSITIONS];
-    fill(jobs, out);
-    for k in 0..jobs.len() {
-        let before = &mut last[..jobs.len()];
-        before.copy_from_slice(out);
-        round(jobs, &successors, before, out, k);
-        if are_same(before, out) {
-            return;
-        }
+    if !tighten_in_order(jobs, &predecessors, &successors, out) {
+        tighten_in_rounds(jobs, &successors, out);
     }
 }

@@ -3,7 +3,8 @@ ghost use Rattle.std.specs.Prelude.{◌≡◌, ◌≤◌, ◌+◌, ℕ, length, 
 ghost use Rattle.htl_walk.specs.Walk.{IsAccepted};
 ghost use Rattle.htl_edf.specs.Windows.{NoOverload};
 ghost use Rattle.htl_edf.specs.Tight.{NoCycle};
-ghost use Rattle.htl_edf.specs.Lists.{jobs_of, tightened, AreWellFormed, EndWithin, HoldsAfter};
+ghost use Rattle.htl_walk.specs.WellFormed.{AreWellFormed, EndWithin};
+ghost use Rattle.htl_edf.specs.Lists.{jobs_of, tightened, HoldsAfter};
 ghost use Rattle.htl_edf.specs.Code.{edf_schedule};
 ghost use Rattle.htl_edf.specs.Faults.{Explains};
 
@@ -91,6 +92,11 @@ fn schedule(
 ///
 /// `worst` accepts the schedule. `Overload` comes exactly where an interval is overloaded, which is exactly where no S
 /// code whatever is accepted for these jobs; want of memory comes only where there is a schedule.
+///
+/// Beside the cost of `tighten` it goes from event to event, an event being a release or the end of a position's work: at
+/// each over the positions that are released and have work left, and at each release over all positions. The walk takes as
+/// long as there are dispatches. Only where there is no schedule is the interval searched for, in up to the cube of the
+/// number of jobs.
 pub fn edf(alloc: Global, jobs: &[Job], period: Time) -> Result<Schedule, EdfFault>
     requires jobs { AreWellFormed jobs.now }
     requires order { NoCycle (jobs_of jobs.now) }

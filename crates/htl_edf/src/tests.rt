@@ -1,7 +1,8 @@
 // Schedules and overloaded intervals that were worked out tick by tick, outside this program.
 ghost use Rattle.std.specs.Prelude.{◌≡◌, ◌≤◌, ◌<◌, ℕ, length, get_or, true};
 ghost use Rattle.htl_edf.specs.Tight.{NoCycle};
-ghost use Rattle.htl_edf.specs.Lists.{jobs_of, IsWellFormed, AreWellFormed, EndWithin};
+ghost use Rattle.htl_edf.specs.Lists.{jobs_of};
+ghost use Rattle.htl_walk.specs.WellFormed.{IsWellFormed, AreWellFormed, EndWithin};
 
 use crate::{EdfFault, Tight, edf, tighten};
 use htl_model::bits::has_bit;

@@ -1,5 +1,5 @@
-use Rattle.std.proofs.Common.{arith, rules, ◌∙◌, refl}
-use Rattle.htl_edf.specs.Lists.{jobs_of}
+use Rattle.std.proofs.Common.{arith, rules, ◌∙◌, ℕ, sym, subst, refl}
+use Rattle.htl_edf.specs.Lists.{jobs_of, QuietFrom}
 use Rattle.htl_edf.specs.Tight.{tight}
 use Rattle.htl_edf.specs.Edf.{edf, slices}
 use Rattle.htl_edf.proofs.Ticks.{slices_none}
@@ -15,6 +15,7 @@ loop-t-init c =
       within = omega arith;
       until = omega arith;
       quiet = record { quiet = λ q below after. omega arith };
+      ready = λ before. absurd (omega (arith, before));
       closed = rw e search rules;
       last = rw e refl;
     }
@@ -27,9 +28,10 @@ loop-t-preserved c =
     record {
       long = c.advance-runs.auto.left ∙ c.loop-t.invariant.long;
       lefts = m.lefts;
-      within = omega (arith, m.within, c.horizon-until.ensures.within);
-      until = c.horizon-until.ensures.within;
-      quiet = m.quiet;
+      within = omega (arith, m.within, c.horizon-ahead.ensures.within);
+      until = omega (arith, m.until, c.horizon-ahead.ensures.within);
+      quiet = subst (λ (u : ℕ). QuietFrom c.args.jobs.now c.advance-runs.result.1 u) (sym m.until) m.quiet;
+      ready = λ before. m.ready (omega (arith, before, m.until));
       closed = rw e c.loop-t.invariant.closed;
       last = rw e c.loop-t.invariant.last;
     }
@@ -43,9 +45,10 @@ loop-t-preserved-in_ok-last c =
     record {
       long = c.advance-runs.auto.left ∙ c.loop-t.invariant.long;
       lefts = m.lefts;
-      within = omega (arith, m.within, c.horizon-until.ensures.within);
-      until = c.horizon-until.ensures.within;
-      quiet = m.quiet;
+      within = omega (arith, m.within, c.horizon-ahead.ensures.within);
+      until = omega (arith, m.until, c.horizon-ahead.ensures.within);
+      quiet = subst (λ (u : ℕ). QuietFrom c.args.jobs.now c.advance-runs.result.1 u) (sym m.until) m.quiet;
+      ready = λ before. m.ready (omega (arith, before, m.until));
       closed = rw e r.1;
       last = rw e r.0;
     }

@@ -1,8 +1,9 @@
-use Rattle.std.proofs.Common.{◌≡◌, ◌≤◌, ◌-◌, length}
+use Rattle.std.proofs.Common.{◌≡◌, ◌≤◌, ◌<◌, ◌-◌, length}
 use Rattle.htl_edf.specs.Lists.{jobs_of, LeftAt, QuietFrom}
 use Rattle.htl_edf.specs.Tight.{tight}
 use Rattle.htl_edf.specs.Edf.{edf, slices}
 use Rattle.htl_edf.specs.Code.{closed_of, open_of}
+use Rattle.htl_edf.specs.Ready.{IsReadyRow}
 use Rattle.htl_edf.proofs.dispatches.run_all.Given as goal
 
 abbrev pub invariant-loop-t : goal.invariant-loop-t
@@ -10,8 +11,9 @@ invariant-loop-t l = record {
   long : length l.left ≡ length l.jobs;
   lefts : LeftAt l.jobs l.left l.t;
   within : l.t ≤ l.period;
-  until : l.until ≤ l.period;
-  quiet : QuietFrom l.jobs l.t l.until;
+  until : l.ahead.until ≤ l.period;
+  quiet : QuietFrom l.jobs l.t l.ahead.until;
+  ready : l.t < l.ahead.until → IsReadyRow l.jobs l.left l.t l.ahead.ready;
   closed : l.instrs.items ≡ closed_of (slices (edf (tight (jobs_of l.jobs))) l.t);
   last : l.last ≡ open_of (slices (edf (tight (jobs_of l.jobs))) l.t);
 }

@@ -30,7 +30,7 @@ pub overflow_sub-so_far : goal.overflow_sub-so_far
 overflow_sub-so_far c =
     let js = c.args.jobs.now in
     let q = c.loop-q.q in
-    let e = c.requires.at.ends q (omega arith) in
+    let e = c.requires.at q (omega arith) (c.loop-q.invariant.found (omega arith)) in
     let b = end_at-small js c.requires.jobs c.args.k q (omega arith) in
     let w = (c.requires.jobs.each q absent_job (omega arith)).most in
     omega (arith, ints, e, b, w, c.requires.rounds)
@@ -44,7 +44,7 @@ loop-q-preserved c =
     let s = λ (x : ℕ). j.before p x in
     let f = λ (x : ℕ). end_at j c.args.k x -ℤ pos (j.worst x) in
     let z = pos (j.end p) in
-    let e = c.requires.at.ends q (omega arith) in
+    let e = c.requires.at q (omega arith) (c.loop-q.invariant.found (omega arith)) in
     let b = end_at-small js c.requires.jobs c.args.k q (omega arith) in
     let k = (c.requires.jobs.each q absent_job (omega arith)).most in
     let next = c.next_bit-q-in-loop-q.ensures in

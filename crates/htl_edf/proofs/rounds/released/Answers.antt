@@ -23,7 +23,7 @@ pub overflow_add-so_far : goal.overflow_add-so_far
 overflow_add-so_far c =
     let js = c.args.jobs.now in
     let p = c.loop-p.p in
-    let e = c.requires.at.releases p (omega arith) in
+    let e = c.requires.at p (omega arith) (c.loop-p.invariant.found (omega arith)) in
     let b = release_at-small js c.requires.jobs c.args.k p (omega arith) in
     let w = (c.requires.jobs.each p absent_job (omega arith)).most in
     omega (arith, ints, e, b, w, c.requires.rounds)
@@ -36,7 +36,7 @@ loop-p-preserved c =
     let s = λ (x : ℕ). j.before x c.args.q in
     let f = λ (x : ℕ). release_at j c.args.k x + j.worst x in
     let z = j.release c.args.q in
-    let e = c.requires.at.releases p (omega arith) in
+    let e = c.requires.at p (omega arith) (c.loop-p.invariant.found (omega arith)) in
     let b = release_at-small js c.requires.jobs c.args.k p (omega arith) in
     let k = (c.requires.jobs.each p absent_job (omega arith)).most in
     let next = c.next_bit-p-in-loop-p.ensures in

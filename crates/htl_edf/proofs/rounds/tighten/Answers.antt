@@ -1,26 +1,9 @@
-use Rattle.std.proofs.Common.{◌≡◌, List, arith, sym, subst, length}
-use Rattle.std.proofs.lemmas.List.{length-take}
-use Rattle.htl_edf.specs.declared.rounds.Tight.{Tight}
-use Rattle.htl_edf.specs.Lists.{HoldsAfter}
-use Rattle.htl_edf.proofs.Jumps.{are_tightened}
-use Rattle.htl_edf.proofs.Rest.{rested, agreed}
 use Rattle.htl_model.proofs.BitLaws.{no_bits}
+use Rattle.htl_edf.proofs.Jumps.{are_tightened}
 use Rattle.htl_edf.proofs.rounds.tighten.Goals as goal
 
 pub fill_successors-requires-clause-empty : goal.fill_successors-requires-clause-empty
 fill_successors-requires-clause-empty c = λ p q. no_bits 128 p q
 
-pub returns : goal.returns
-returns c =
-    let e : c.loop-k.k ≡ length c.args.jobs.now = omega arith in
-    are_tightened c.args.jobs.now _ (rw e at c.loop-k.invariant.holds)
-
-pub returns-then-are_same : goal.returns-then-are_same
-returns-then-are_same c =
-    let js = c.args.jobs.now in
-    let k = c.loop-k.k in
-    let old = c.copy_from_slice.new.self in
-    rested js c.round.new.next k (omega arith)
-    (agreed js old c.round.new.next (length old) k (omega (arith, c.copy_from_slice.ensures.len, length-take (length js) c.loop-k.last, c.loop-k.invariant.room, c.requires.jobs.few)) (c.are_same.ensures c.if-are_same.true)
-    (subst (λ (ts : List Tight). HoldsAfter js ts k) (sym c.copy_from_slice.ensures.after) c.loop-k.invariant.holds))
-    c.round.ensures
+pub returns-else-not-tighten_in_order : goal.returns-else-not-tighten_in_order
+returns-else-not-tighten_in_order c = are_tightened c.args.jobs.now c.tighten_in_order.new.out (c.tighten_in_order.ensures.holds c.if-not-tighten_in_order.false)

@@ -1,0 +1,165 @@
+-- The lists of all nodes, as the code makes them.
+use Rattle.std.proofs.Common.{◌≡◌, ◌≢◌, ℕ, zero, suc, ◌+◌, ◌-◌, ◌*◌, ◌/◌, ◌%◌, ◌≤◌, ◌<◌, List, [], ◌∷◌, ◌++◌, length, drop, take, map, set, get_or, add-one, refl, sym, ap, ◌∙◌, subst, arith, inl, inr}
+use Rattle.std.proofs.lemmas.Bool.{cases_lt}
+use Rattle.std.proofs.lemmas.List.{length-map}
+use Rattle.htl_model.specs.declared.frame.Frame.{Frame}
+use Rattle.htl_model.specs.FrameTables.{IsFrame}
+use Rattle.htl_model.specs.Tables.{Tables}
+use Rattle.htl_model.specs.Frames.{frame_of, root_periods, unit_period, rounds_at, choices, starts, paths, nodes, node, node_of, nodes_of, radices, ways, KeepsFrames}
+use Rattle.htl_model.specs.Selections.{root_modules}
+use Rattle.htl_model.proofs.FrameSteps.{room_for, begins_zero}
+use Rattle.htl_walk.specs.declared.job.Job.{Job}
+use Rattle.htl_walk.specs.declared.schedule.SInstr.{SInstr}
+use Rattle.htl_walk.specs.declared.schedule.Schedule.{Schedule}
+use Rattle.htl_walk.specs.PathJobs.{path_jobs, next_of}
+use Rattle.htl_walk.specs.FrameLaws.{start_at, end_at}
+use Rattle.htl_walk.specs.Feasible.{AreFeasible}
+use Rattle.htl_walk.specs.NodeWalks.{ShareNodes, instrs_of}
+use Rattle.htl_walk.proofs.Steps.{apart}
+use Rattle.htl_walk.proofs.Starts.{Rises, starts_rise}
+use Rattle.htl_walk.proofs.Nodes.{places_same, product_some, node_below, nodes_within, paths_are, leg_at}
+use Rattle.htl_walk.proofs.CodeWalk.{start_read, end_read}
+use Rattle.htl_edf.specs.Windows.{NoOverload, Reported}
+use Rattle.htl_edf.specs.Lists.{tightened}
+use Rattle.htl_edf.specs.Parts.{part}
+use Rattle.htl_edf.specs.NodePlans.{AreReady, AreNodeLists, HasPart, HaveParts}
+use Rattle.htl_edf.proofs.NodeLists.{one_list_of_node, nodes_accepted, nodes_refused}
+
+-- ---- the end of the frame
+
+behind : (xs : List ℕ) (h n : ℕ) → n ≡ length xs → get_or (xs ++ h ∷ []) n 0 ≡ h
+behind [] h zero e = refl
+behind [] h (suc n) e = absurd (omega (arith, e))
+behind (x ∷ xs) h zero e = absurd (omega (arith, e))
+behind (x ∷ xs) h (suc n) e = behind xs h n (omega (arith, e))
+
+front_get : (n : ℕ) (xs : List ℕ) (p : ℕ) → p < n → get_or (take n xs) p 0 ≡ get_or xs p 0
+front_get zero xs p l = absurd (omega (arith, l))
+front_get (suc n) [] p l = refl
+front_get (suc n) (x ∷ xs) zero l = refl
+front_get (suc n) (x ∷ xs) (suc p) l = front_get n xs p (omega (arith, l))
+
+pub frame_end : (t : Tables) (f : Frame) → IsFrame t f → get_or f.starts f.count 0 ≡ frame_of t
+frame_end t f s = sym (front_get (f.count + 1) f.starts f.count (omega arith)) ∙ ap (λ xs. get_or xs f.count 0) s.starts ∙ behind (starts t) (frame_of t) f.count s.count
+
+-- ---- nodes of different starts
+
+depth_same : (cs : List ℕ) (p q j i : ℕ) → 0 < ways cs → j < length cs → i < length cs → node_of cs p j ≡ node_of cs q i → j ≡ i
+depth_same [] p q j i h l k e = absurd (omega (arith, l))
+depth_same (c ∷ cs) p q zero zero h l k e = refl
+depth_same (c ∷ cs) p q zero (suc i) h l k e =
+    let some = product_some c (ways cs) h in
+    let n = suc (nodes_of cs) in
+    let inner : suc (node_of cs q i) < n = omega (arith, node_below cs q i some.1 (omega (arith, k))) in
+    absurd (omega (arith, (places_same (p / ways cs % c) (q / ways cs % c) n 0 (suc (node_of cs q i)) (omega arith) inner (omega (arith, e))).1))
+depth_same (c ∷ cs) p q (suc j) zero h l k e =
+    let some = product_some c (ways cs) h in
+    let n = suc (nodes_of cs) in
+    let inner : suc (node_of cs p j) < n = omega (arith, node_below cs p j some.1 (omega (arith, l))) in
+    absurd (omega (arith, (places_same (p / ways cs % c) (q / ways cs % c) n (suc (node_of cs p j)) 0 inner (omega arith) (omega (arith, e))).1))
+depth_same (c ∷ cs) p q (suc j) (suc i) h l k e =
+    let some = product_some c (ways cs) h in
+    let n = suc (nodes_of cs) in
+    let a : suc (node_of cs p j) < n = omega (arith, node_below cs p j some.1 (omega (arith, l))) in
+    let b : suc (node_of cs q i) < n = omega (arith, node_below cs q i some.1 (omega (arith, k))) in
+    ap suc (depth_same cs p q j i some.1 (omega (arith, l)) (omega (arith, k)) (omega (arith, (places_same (p / ways cs % c) (q / ways cs % c) n (suc (node_of cs p j)) (suc (node_of cs q i)) a b e).1)))
+
+node_depth : (t : Tables) (p q j i : ℕ) → p < paths t → j < length (starts t) → i < length (starts t) → node t p j ≡ node t q i → j ≡ i
+node_depth t p q j i h l k e =
+    let n = length-map (starts t) (λ (a : ℕ). choices t (rounds_at t a)) in
+    depth_same (radices t) p q j i (omega (arith, h, paths_are t p h)) (omega (arith, l, n)) (omega (arith, k, n)) e
+
+-- ---- one list more
+
+set_other : (xs : List Schedule) (n m : ℕ) (s : Schedule) → n ≢ m → get_or (instrs_of (set xs n s)) m [] ≡ get_or (instrs_of xs) m []
+set_other [] n m s e = refl
+set_other (x ∷ xs) zero zero s e = absurd (e refl)
+set_other (x ∷ xs) zero (suc m) s e = refl
+set_other (x ∷ xs) (suc n) zero s e = refl
+set_other (x ∷ xs) (suc n) (suc m) s e = set_other xs n m s (λ f. e (ap suc f))
+
+set_same : (xs : List Schedule) (n : ℕ) (s : Schedule) → n < length xs → get_or (instrs_of (set xs n s)) n [] ≡ s.instrs
+set_same [] n s l = absurd (omega (arith, l))
+set_same (x ∷ xs) zero s l = refl
+set_same (x ∷ xs) (suc n) s l = set_same xs n s (omega (arith, l))
+
+module _ (t : Tables) (ready : AreReady t) where
+  -- the part of a node, of whatever path
+  same_part : (p q j : ℕ) → p < paths t → q < paths t → j < length (starts t) → node t p j ≡ node t q j → part (path_jobs t p) (start_at t j) (end_at t j) ≡ part (path_jobs t q) (start_at t j) (end_at t j)
+  same_part p q j hp hq l e = one_list_of_node t p q j (ready.each p hp).order (ready.each q hq).order hp hq l e
+
+  -- a list that is put where its node is takes no other one away
+  pub put_part : (xs : List Schedule) (p j n : ℕ) (s : Schedule) → p < paths t → j < length (starts t) → length xs ≡ nodes t → n ≡ node t p j → s.instrs ≡ part (path_jobs t p) (start_at t j) (end_at t j)
+      → (q i : ℕ) → q < paths t → i < length (starts t) → HasPart t (instrs_of xs) q i → HasPart t (instrs_of (set xs n s)) q i
+  put_part xs p j n s hp l count is part_is q i hq k has = elim (apart n (node t q i)) [
+    | inl e ↦
+        let same : node t p j ≡ node t q i = sym is ∙ e in
+        let depth : j ≡ i = node_depth t p q j i hp l k same in
+        let same' : node t p j ≡ node t q j = same ∙ ap (node t q) (sym depth) in
+        ap (λ m. get_or (instrs_of (set xs n s)) m []) (sym e) ∙ set_same xs n s (omega (arith, count, is, nodes_within t p j hp l)) ∙ part_is ∙ same_part p q j hp hq l same'
+        ∙ ap (λ m. part (path_jobs t q) (start_at t m) (end_at t m)) depth
+    | inr e ↦ set_other xs n (node t q i) s e ∙ has
+  ]
+
+  pub here_part : (xs : List Schedule) (p j n : ℕ) (s : Schedule) → p < paths t → j < length (starts t) → length xs ≡ nodes t → n ≡ node t p j → s.instrs ≡ part (path_jobs t p) (start_at t j) (end_at t j)
+      → HasPart t (instrs_of (set xs n s)) p j
+  here_part xs p j n s hp l count is part_is =
+      ap (λ m. get_or (instrs_of (set xs n s)) m []) (sym is) ∙ set_same xs n s (omega (arith, count, is, nodes_within t p j hp l)) ∙ part_is
+
+  pub parts_more : (xs : List Schedule) (p j n : ℕ) (s : Schedule) → p < paths t → j < length (starts t) → length xs ≡ nodes t → n ≡ node t p j → s.instrs ≡ part (path_jobs t p) (start_at t j) (end_at t j)
+      → ((i : ℕ) → i < j → HasPart t (instrs_of xs) p i) → (i : ℕ) → i < j + 1 → HasPart t (instrs_of (set xs n s)) p i
+  parts_more xs p j n s hp l count is part_is has i b = elim (cases_lt i j) [
+    | inl k ↦ put_part xs p j n s hp l count is part_is p i hp (omega (arith, k, l)) (has i k)
+    | inr k ↦ let e : j ≡ i = omega (arith, b, k) in subst (λ m. HasPart t (instrs_of (set xs n s)) p m) e (here_part xs p j n s hp l count is part_is)
+  ]
+
+  pub before_more : (xs : List Schedule) (p j n : ℕ) (s : Schedule) → p < paths t → j < length (starts t) → length xs ≡ nodes t → n ≡ node t p j → s.instrs ≡ part (path_jobs t p) (start_at t j) (end_at t j)
+      → HaveParts t (instrs_of xs) p → HaveParts t (instrs_of (set xs n s)) p
+  before_more xs p j n s hp l count is part_is has q i b k = put_part xs p j n s hp l count is part_is q i (omega (arith, b, hp)) k (has q i b k)
+
+  -- the next path has the lists of the nodes that it shares
+  pub shared_parts : (lists : List (List SInstr)) (path d : ℕ) → 0 < path → path < paths t → d ≤ length (starts t) → ShareNodes t (path - 1) (path - 1 + 1) d → HaveParts t lists path
+      → (i : ℕ) → i < d → HasPart t lists path i
+  shared_parts lists path d some h l share has i b =
+      let e : path - 1 + 1 ≡ path = omega (arith, some) in
+      let same : node t (path - 1) i ≡ node t path i = share i b ∙ ap (λ p. node t p i) e in
+      ap (λ m. get_or lists m []) (sym same) ∙ has (path - 1) i (omega (arith, some)) (omega (arith, b, l)) ∙ same_part (path - 1) path i (omega (arith, h)) h (omega (arith, b, l)) same
+
+  pub parts_path : (lists : List (List SInstr)) (path : ℕ) → HaveParts t lists path → ((i : ℕ) → i < length (starts t) → HasPart t lists path i) → HaveParts t lists (path + 1)
+  parts_path lists path has here q i b k = elim (cases_lt q path) [
+    | inl c ↦ has q i c k
+    | inr c ↦ let e : path ≡ q = omega (arith, b, c) in subst (λ p. HasPart t lists p i) e (here i k)
+  ]
+
+-- ---- starts in the frame
+
+rises_within : (ps : List ℕ) (h j : ℕ) (xs : List ℕ) → Rises ps h xs → j < length xs → (get_or xs j 0 < h) × (next_of h (drop (suc j) xs) ≤ h)
+rises_within ps h j [] r l = absurd (omega (arith, l))
+rises_within ps h zero (x ∷ []) r l = (r.1, omega arith)
+rises_within ps h zero (x ∷ y ∷ xs) r l = let later = rises_within ps h zero (y ∷ xs) r.3 (omega arith) in (omega (arith, r.1, later.0), omega (arith, later.0))
+rises_within ps h (suc j) (x ∷ xs) r l = rises_within ps h j xs r.3 (omega (arith, l))
+
+pub leg_within : (t : Tables) (f : Frame) (j : ℕ) → IsFrame t f → j < length (starts t) → (get_or f.starts j 0 ≤ get_or f.starts (j + 1) 0) × (get_or f.starts (j + 1) 0 ≤ 1000000)
+leg_within t f j s l =
+    let rise = starts_rise (root_periods t) (frame_of t) in
+    let leg = leg_at (root_periods t) (frame_of t) j (starts t) rise l in
+    let in_frame = rises_within (root_periods t) (frame_of t) j (starts t) rise l in
+    (omega (arith, start_read t f j s l, end_read t f j s l, leg.0), omega (arith, end_read t f j s l, in_frame.1, s.limits.frame))
+
+pub some_starts : (t : Tables) → 0 < length (root_modules t) → 0 < frame_of t → 0 < length (starts t)
+some_starts t some long = omega (arith, room_for (root_periods t) 0 (frame_of t) (begins_zero (unit_period t) (root_modules t) some) long)
+
+pub begin_within : (t : Tables) (f : Frame) (j : ℕ) → IsFrame t f → 0 < length (starts t) → j ≤ length (starts t) → get_or f.starts j 0 ≤ 1000000
+begin_within t f zero s some l = let leg = leg_within t f 0 s some in omega (arith, leg.0, leg.1)
+begin_within t f (suc j) s some l = let e : suc j ≡ j + 1 = sym (add-one j) in omega (arith, ap (λ n. get_or f.starts n 0) e, (leg_within t f j s (omega (arith, l))).1)
+
+pub part_read : (t : Tables) (f : Frame) (path j : ℕ) (js : List Job) (is : List SInstr) → IsFrame t f → j < length (starts t) → js ≡ path_jobs t path → is ≡ part js (get_or f.starts j 0) (get_or f.starts (j + 1) 0)
+    → is ≡ part (path_jobs t path) (start_at t j) (end_at t j)
+part_read t f path j js is s l e p =
+    p ∙ ap (λ ks. part ks (get_or f.starts j 0) (get_or f.starts (j + 1) 0)) e ∙ ap (λ a. part (path_jobs t path) a (get_or f.starts (j + 1) 0)) (start_read t f j s l)
+    ∙ ap (part (path_jobs t path) (start_at t j)) (end_read t f j s l)
+
+-- ---- what the answers say
+
+pub all_parts : (t : Tables) (lists : List (List SInstr)) (n : ℕ) → paths t ≤ n → HaveParts t lists n → AreNodeLists t lists
+all_parts t lists n l has q i h k = has q i (omega (arith, h, l)) k

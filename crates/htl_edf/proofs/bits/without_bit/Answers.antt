@@ -1,0 +1,6 @@
+use Rattle.std.proofs.Common.{arith}
+use Rattle.htl_walk.proofs.PendingLaws.{cleared}
+use Rattle.htl_edf.proofs.bits.without_bit.Goals as goal
+
+pub returns : goal.returns
+returns c = λ q. cleared c.args.row c.args.k q c.requires (omega (arith, c.ranges.row.fits))

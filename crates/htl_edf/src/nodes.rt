@@ -1,0 +1,223 @@
+// A schedule for each node of a frame.
+ghost use Rattle.std.specs.Prelude.{◌≡◌, ◌≤◌, ◌<◌, ℕ, length, pos, None, IfOk, OnOk, IfErr, MatchOption};
+ghost use Rattle.htl_model.specs.Frames.{frame_limit, starts as starts_of, paths as paths_of, nodes as nodes_of_frame};
+ghost use Rattle.htl_model.specs.FrameRules.{KeptApart};
+ghost use Rattle.htl_model.specs.FrameTables.{IsFrame};
+ghost use Rattle.htl_walk.specs.PathJobs.{path_jobs as path_jobs_of};
+ghost use Rattle.htl_walk.specs.Feasible.{AreFeasible};
+ghost use Rattle.htl_walk.specs.NodeWalks.{instrs_of as lists_in};
+ghost use Rattle.htl_edf.specs.Windows.{NoOverload, Reported};
+ghost use Rattle.htl_edf.specs.Lists.{tightened, HoldsAfter, LeftAt};
+ghost use Rattle.htl_edf.specs.NodePlans.{AreReady, HasPart, HaveParts, AreNodeLists, ExplainsNodes};
+
+use crate::events::{Ahead, advance, horizon, start};
+use crate::overload::Overload;
+use crate::parts::run_part;
+use crate::{EdfFault, PlanFault, Tight, edf, tighten};
+use htl_base::limits::MAX_POSITIONS;
+use htl_base::{Seq, Time};
+use htl_model::Tables;
+use htl_model::frame::Frame;
+use htl_walk::node_walk::{fork, node};
+use htl_walk::{Job, Schedule, frame_jobs};
+use std::alloc::{AllocError, Global};
+
+// Runs from one instant to another.
+fn run_until(jobs: &[Job], windows: &[Tight], left: &mut [Time], from: Time, to: Time)
+    requires few { length jobs.now ≤ 128 }
+    requires at { HoldsAfter jobs.now windows.now (length jobs.now) }
+    requires same { length windows.now ≡ length jobs.now }
+    requires left_same { length left.old ≡ length jobs.now }
+    requires lefts { LeftAt jobs.now left.old from }
+    requires order { from ≤ to }
+    requires to { to ≤ 1000000 }
+    ensures left_same { length left.new ≡ length left.old }
+    ensures lefts { LeftAt jobs.now left.new to }
+{
+    let mut t = from;
+    let mut ahead = Ahead {
+        until: from,
+        ready: 0,
+    };
+    while t < to {
+        ahead = horizon(jobs, windows, left, t, ahead, to);
+        let (_, event) = advance(jobs, windows, left, &mut ahead, t);
+        t = event;
+    }
+}
+
+// The overloaded interval of a path. It is searched for only where the schedule of earliest deadline first misses.
+fn path_overload(alloc: Global, t: &Tables, f: &Frame, path: u32) -> Option<Overload>
+    requires frame { IsFrame t.now f.now }
+    requires ready { AreReady t.now }
+    requires path { path < paths_of t.now }
+    ensures { MatchOption result (NoOverload (tightened (path_jobs_of t.now path))) (λ i. Reported (tightened (path_jobs_of t.now path)) i.from (pos i.to) i.demand) }
+{
+    let mut jobs = [Job::ABSENT; MAX_POSITIONS];
+    let count = frame_jobs(t, f, path, &mut jobs);
+    match edf(alloc, &jobs[..count], f.starts[f.count]) {
+        Ok(_) => None,
+        Err(EdfFault::Memory) => None,
+        Err(EdfFault::Overload { from, to, demand }) => Some(Overload { from, to, demand }),
+    }
+}
+
+// Makes the lists of a path, whose jobs these are, from list `first` on.
+fn plan_lists(
+    alloc: Global,
+    t: &Tables,
+    f: &Frame,
+    path: u32,
+    first: usize,
+    jobs: &[Job],
+    windows: &mut [Tight],
+    left: &mut [Time],
+    v: &mut Vec<Schedule>,
+) -> Result<(), AllocError>
+    requires frame { IsFrame t.now f.now }
+    requires ready { AreReady t.now }
+    requires path { path < paths_of t.now }
+    requires first { first ≤ length (starts_of t.now) }
+    requires jobs { jobs.now ≡ path_jobs_of t.now path }
+    requires same { length windows.old ≡ length jobs.now }
+    requires left_same { length left.old ≡ length jobs.now }
+    requires count { length v.old.items ≡ nodes_of_frame t.now }
+    requires shared { (i : ℕ) → i < first → HasPart t.now (lists_in v.old.items) path i }
+    requires before { HaveParts t.now (lists_in v.old.items) path }
+    ensures parts { OnOk result ((i : ℕ) → i < length (starts_of t.now) → HasPart t.now (lists_in v.new.items) path i) }
+    ensures before { OnOk result (HaveParts t.now (lists_in v.new.items) path) }
+    ensures count { OnOk result (length v.new.items ≡ nodes_of_frame t.now) }
+{
+    tighten(jobs, windows);
+    start(jobs, left);
+    run_until(jobs, windows, left, 0, f.starts[first]);
+    for j in first..f.count {
+        let instrs = run_part(alloc, jobs, windows, left, f.starts[j], f.starts[j + 1])?;
+        v[node(t, f, path, j) as usize] = Schedule {
+            instrs: Seq::new(instrs),
+        };
+    }
+    Ok(())
+}
+
+// Makes the lists of a path from list `first` on.
+fn plan_path(
+    alloc: Global,
+    t: &Tables,
+    f: &Frame,
+    path: u32,
+    first: usize,
+    v: &mut Vec<Schedule>,
+) -> Result<(), AllocError>
+    requires frame { IsFrame t.now f.now }
+    requires ready { AreReady t.now }
+    requires path { path < paths_of t.now }
+    requires first { first ≤ length (starts_of t.now) }
+    requires count { length v.old.items ≡ nodes_of_frame t.now }
+    requires shared { (i : ℕ) → i < first → HasPart t.now (lists_in v.old.items) path i }
+    requires before { HaveParts t.now (lists_in v.old.items) path }
+    ensures parts { OnOk result ((i : ℕ) → i < length (starts_of t.now) → HasPart t.now (lists_in v.new.items) path i) }
+    ensures before { OnOk result (HaveParts t.now (lists_in v.new.items) path) }
+    ensures count { OnOk result (length v.new.items ≡ nodes_of_frame t.now) }
+{
+    let mut jobs = [Job::ABSENT; MAX_POSITIONS];
+    let count = frame_jobs(t, f, path, &mut jobs);
+    let mut windows = [Tight { release: 0, end: 0 }; MAX_POSITIONS];
+    let mut left = [0; MAX_POSITIONS];
+    plan_lists(
+        alloc,
+        t,
+        f,
+        path,
+        first,
+        &jobs[..count],
+        &mut windows[..count],
+        &mut left[..count],
+        v,
+    )
+}
+
+// As many empty schedules.
+fn empty_lists(alloc: Global, n: u32) -> Result<Vec<Schedule>, AllocError>
+    ensures { IfOk result (λ v. length v.items ≡ n) }
+{
+    let mut v = Vec::new(alloc);
+    let mut k = 0;
+    while k < n {
+        v.push(Schedule {
+            instrs: Seq::new(Vec::new(alloc)),
+        })?;
+        k += 1;
+    }
+    Ok(v)
+}
+
+// The first overloaded path.
+fn first_overload(alloc: Global, t: &Tables, f: &Frame) -> Option<(u32, Overload)>
+    requires frame { IsFrame t.now f.now }
+    requires ready { AreReady t.now }
+    ensures { MatchOption result ((k : ℕ) → k < paths_of t.now → NoOverload (tightened (path_jobs_of t.now k)))
+        (λ o. (o.0 < paths_of t.now) × ((k : ℕ) → k < o.0 → NoOverload (tightened (path_jobs_of t.now k))) × Reported (tightened (path_jobs_of t.now o.0)) o.1.from (pos o.1.to) o.1.demand) }
+{
+    for path in 0..f.paths {
+        if let Some(interval) = path_overload(alloc, t, f, path) {
+            return Some((path, interval));
+        }
+    }
+    None
+}
+
+// The lists of all nodes.
+fn plan_nodes(alloc: Global, t: &Tables) -> Result<Vec<Schedule>, PlanFault>
+    requires limits { frame_limit t.now ≡ None }
+    requires ready { AreReady t.now }
+    ensures count { IfOk result (λ v. length v.items ≡ nodes_of_frame t.now) }
+    ensures lists { IfOk result (λ v. AreNodeLists t.now (lists_in v.items)) }
+    ensures accepted { IfOk result (λ v. AreFeasible t.now (lists_in v.items)) }
+    ensures fits { OnOk result ((path : ℕ) → path < paths_of t.now → NoOverload (tightened (path_jobs_of t.now path))) }
+    ensures fault { IfErr result (λ e. ExplainsNodes t.now e) }
+{
+    let f = Frame::survey(t);
+    if let Some((selection, i)) = first_overload(alloc, t, &f) {
+        return Err(PlanFault::Overload {
+            selection,
+            from: i.from,
+            to: i.to,
+            demand: i.demand,
+        });
+    }
+    let Ok(mut v) = empty_lists(alloc, f.nodes) else {
+        return Err(PlanFault::Memory);
+    };
+    for path in 0..f.paths {
+        let first = if path == 0 { 0 } else { fork(t, &f, path - 1) };
+        if plan_path(alloc, t, &f, path, first, &mut v).is_err() {
+            return Err(PlanFault::Memory);
+        }
+    }
+    Ok(v)
+}
+
+/// The schedules of earliest deadline first for the nodes, in their order. The tables keep the form rules 1 and 3 to 12 and
+/// the limits of frames.
+///
+/// A node has the part of `edf`'s schedule of the jobs of each path through it, from its start to the next one or to the
+/// frame's end, with intervals cut at the starts; all these paths give the same part. Every path accepts the lists of its
+/// nodes. `Overload` comes exactly where a path is overloaded, and names the first; then no lists whatever are accepted.
+/// Want of memory comes only where none is.
+///
+/// For each path it makes the jobs and one schedule of the whole frame as `edf` does, which tells whether the path is
+/// overloaded; the interval is searched for at one path at most. Then each path is run up to where it leaves the path
+/// before it, and the list of each of its further nodes is made once. Memory is taken for lists alone.
+pub fn edf_nodes(alloc: Global, t: &Tables) -> Result<Vec<Schedule>, PlanFault>
+    requires limits { frame_limit t.now ≡ None }
+    requires formed { KeptApart t.now 12 }
+    ensures count { IfOk result (λ v. length v.items ≡ nodes_of_frame t.now) }
+    ensures lists { IfOk result (λ v. AreNodeLists t.now (lists_in v.items)) }
+    ensures accepted { IfOk result (λ v. AreFeasible t.now (lists_in v.items)) }
+    ensures fits { OnOk result ((path : ℕ) → path < paths_of t.now → NoOverload (tightened (path_jobs_of t.now path))) }
+    ensures fault { IfErr result (λ e. ExplainsNodes t.now e) }
+{
+    t.keeps_ranges();
+    plan_nodes(alloc, t)
+}
