@@ -14,6 +14,7 @@ pub mod Limits
 pub mod Widest
 pub mod Listed
 pub mod FileRanges
+pub mod Naming
 pub mod Noting
 pub mod ObjectLaws
 pub mod ObjectRange

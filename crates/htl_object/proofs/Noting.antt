@@ -14,6 +14,11 @@ nothing_marked zero k = refl
 nothing_marked (suc n) zero = refl
 nothing_marked (suc n) (suc k) = nothing_marked n k
 
+pub none_filled : (n k : ℕ) → ◌≡◌ {A = ℕ} (get_or (replicate n 0) k 0) 0
+none_filled zero k = refl
+none_filled (suc n) zero = refl
+none_filled (suc n) (suc k) = none_filled n k
+
 -- one item more of which a test is asked
 pub any_more : {A : Type 0} (p : A → Bool) (xs : List A) (x : A) → list_any p (xs ++ x ∷ []) ≡ (list_any p xs || p x)
 any_more p [] x = by (p x)

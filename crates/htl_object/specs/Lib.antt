@@ -9,8 +9,10 @@ pub mod Laws
 pub mod Lists
 pub mod Modes
 pub mod Modules
+pub mod Names
 pub mod Notes
 pub mod Objects
 pub mod Ports
 pub mod Ranges
 pub mod Reading
+pub mod SameNames

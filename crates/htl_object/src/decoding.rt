@@ -8,15 +8,14 @@ ghost use Rattle.htl_object.specs.declared.object.Object.{Object};
 use crate::assembly::assemble;
 use crate::code_reader::e_code;
 use crate::cursor::{Cursor, bad};
+use crate::declaration_reader::{ModeCount, ModuleAround, ModuleCount, TaskAround, named_items};
+use crate::invocation_reader::{InvAround, SwitchAround};
 use crate::items::{items, noted_items};
 use crate::lists::{Counts, Lists};
 use crate::malformed::{Bad, MalKind, Malformed, Stop};
 use crate::notes::InvNotes;
 use crate::object::Object;
 use crate::selections::{function_count, is_selections};
-use crate::table_reader::{
-    InvAround, ModeCount, ModuleAround, ModuleCount, SwitchAround, TaskAround,
-};
 use htl_base::Seq;
 use htl_base::limits::{
     MAX_COMMUNICATORS, MAX_INVOCATIONS, MAX_MODES, MAX_MODULES, MAX_PORTS, MAX_SWITCHES, MAX_TASKS,
@@ -82,16 +81,16 @@ fn lists(alloc: Global, cursor: &mut Cursor<'_>) -> Result<Lists, Stop>
     cursor.text(MalKind::Magic, b"HTLO")?;
     cursor.version()?;
     let n = counts(cursor)?;
-    let comms = items(alloc, cursor, &(), n.comms as usize)?;
-    let modes = items(alloc, cursor, &ModuleCount(n.modules), n.modes as usize)?;
+    let comms = named_items(alloc, cursor, &(), n.comms)?;
+    let modes = named_items(alloc, cursor, &ModuleCount(n.modules), n.modes)?;
     let around = ModuleAround { modes: &modes };
-    let modules = items(alloc, cursor, &around, n.modules as usize)?;
-    let ports = items(alloc, cursor, &ModeCount(n.modes), n.ports as usize)?;
+    let modules = named_items(alloc, cursor, &around, n.modules)?;
+    let ports = named_items(alloc, cursor, &ModeCount(n.modes), n.ports)?;
     let around = TaskAround {
         alloc,
         modules: n.modules,
     };
-    let tasks = items(alloc, cursor, &around, n.tasks as usize)?;
+    let tasks = named_items(alloc, cursor, &around, n.tasks)?;
     let around = InvAround {
         alloc,
         comms: n.comms,
@@ -164,8 +163,8 @@ fn read(alloc: Global, bytes: &[u8]) -> Result<Lists, DecodeFault>
 }
 
 /// The object in range that has these bytes. Malformed exactly where none has them: the first bad field, with the offset
-/// of its first byte. Want of memory may stand in place of either. One pass over the bytes; a name is compared with those of its
-/// list that come before, and the positions of each mode are counted over all invocations.
+/// of its first byte. Want of memory may stand in place of either. One pass over the bytes; a name is looked up
+/// once among those of its list, and the invocations of all modes are counted in one pass.
 pub fn decode(alloc: Global, bytes: &[u8]) -> Result<Object, DecodeFault>
     ensures found { IfOk result (λ o. IsObject o × (bytes.now ≡ object_bytes o)) }
     ensures exact { IsDecoded bytes.now result }

@@ -77,7 +77,7 @@ fn encoded(alloc: Global, o: &Object) -> Result<Vec<u8>, AllocError>
 }
 
 /// The one spelling of an object in range. It says this object: decoded, it is this object again, or want of memory. Memory
-/// where no memory was left.
+/// where no memory was left. One pass over the object, in the time of the bytes that it writes.
 pub fn encode(alloc: Global, o: &Object) -> Result<Vec<u8>, Memory>
     requires { IsInRange o.now }
     ensures spelled { IfOk result (λ bytes. bytes.items ≡ object_bytes o.now) }

@@ -1,10 +1,10 @@
 // How many functions and selections the tables ask for.
-ghost use Rattle.std.specs.Prelude.{◌≡◌, ◌<◌, ◌≤◌, ◌^◌, ◌+◌, ◌==◌, min, length, cond, count_by, sum_by};
+ghost use Rattle.std.specs.Prelude.{◌≡◌, ◌<◌, ◌≤◌, ◌^◌, ◌+◌, ◌==◌, ℕ, min, length, get_or, cond, count_by, sum_by};
 ghost use Rattle.htl_object.specs.Modules.{is_mode_of};
 ghost use Rattle.htl_object.specs.Files.{is_root, selections_to, widest_to, positions_to, is_selections, function_count};
 
-use crate::table_reader::is_mode_of;
-use htl_base::limits::{MAX_POSITIONS, MAX_SELECTIONS};
+use crate::declaration_reader::is_mode_of;
+use htl_base::limits::{MAX_MODES, MAX_POSITIONS, MAX_SELECTIONS};
 use htl_model::{Inv, Mode, Module, Task};
 
 fn is_root(modules: &[Module], k: usize) -> bool
@@ -22,10 +22,29 @@ fn mode_count(modes: &[Mode], k: usize) -> usize
     modes.iter().filter(|q| q.module as usize == k).count()
 }
 
-fn inv_count(invs: &[Inv], mode: usize) -> usize
+// Counts the invocations of each mode.
+fn count_invs(invs: &[Inv], counts: &mut [usize])
+    requires { (m : ℕ) → get_or counts.old m 0 ≡ 0 }
+    ensures counts { (m : ℕ) → m < length counts.new → get_or counts.new m 0 ≡ count_by (λ i. i.mode == m) invs.now }
+    ensures len { length counts.new ≡ length counts.old }
+{
+    for k in 0..invs.len() {
+        let mode = invs[k].mode as usize;
+        if mode < counts.len() {
+            counts[mode] += 1;
+        }
+    }
+}
+
+fn inv_count(counts: &[usize], invs: &[Inv], mode: usize) -> usize
+    requires { (m : ℕ) → m < length counts.now → get_or counts.now m 0 ≡ count_by (λ i. i.mode == m) invs.now }
     ensures { result ≡ count_by (λ i. i.mode == mode) invs.now }
 {
-    invs.iter().filter(|i| i.mode as usize == mode).count()
+    if mode < counts.len() {
+        counts[mode]
+    } else {
+        invs.iter().filter(|i| i.mode as usize == mode).count()
+    }
 }
 
 // The number of selections, up to 1,025.
@@ -55,13 +74,14 @@ fn count(modes: &[Mode], modules: &[Module]) -> u64
 }
 
 // The most invocations of a mode of the module.
-fn widest(modes: &[Mode], invs: &[Inv], k: usize) -> usize
+fn widest(modes: &[Mode], counts: &[usize], invs: &[Inv], k: usize) -> usize
+    requires { (m : ℕ) → m < length counts.now → get_or counts.now m 0 ≡ count_by (λ i. i.mode == m) invs.now }
     ensures { result ≡ widest_to modes.now invs.now k (length modes.now) }
 {
     let mut found = 0;
     for q in 0..modes.len() {
         if is_mode_of(modes, k, q) {
-            found = inv_count(invs, q).max(found);
+            found = inv_count(counts, invs, q).max(found);
         }
     }
     found
@@ -71,11 +91,13 @@ fn widest(modes: &[Mode], invs: &[Inv], k: usize) -> usize
 fn positions(modes: &[Mode], modules: &[Module], invs: &[Inv]) -> usize
     ensures { result ≡ min (positions_to modes.now modules.now invs.now (length modules.now)) 129 }
 {
+    let mut counts = [0usize; MAX_MODES];
+    count_invs(invs, &mut counts);
     let mut found = 0usize;
     for k in 0..modules.len() {
         if is_root(modules, k) {
             found = found
-                .saturating_add(widest(modes, invs, k))
+                .saturating_add(widest(modes, &counts, invs, k))
                 .min(MAX_POSITIONS + 1);
         }
     }

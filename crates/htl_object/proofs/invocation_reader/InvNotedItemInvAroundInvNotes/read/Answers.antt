@@ -1,7 +1,7 @@
 use Rattle.std.proofs.Common.{sym}
 use Rattle.htl_model.specs.declared.parts.Inv.{Inv}
 use Rattle.htl_object.proofs.Noting.{inv_more}
-use Rattle.htl_object.proofs.table_reader.InvNotedItemInvAroundInvNotes.read.Goals as goal
+use Rattle.htl_object.proofs.invocation_reader.InvNotedItemInvAroundInvNotes.read.Goals as goal
 
 pub returns-clause-noted : goal.returns-clause-noted
 returns-clause-noted c =

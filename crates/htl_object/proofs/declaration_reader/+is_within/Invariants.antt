@@ -1,4 +1,4 @@
-use Rattle.htl_object.proofs.table_reader.+is_within.Given as goal
+use Rattle.htl_object.proofs.declaration_reader.+is_within.Given as goal
 
 abbrev pub decreases-is_within : goal.decreases-is_within
 decreases-is_within l = l.steps

@@ -1,0 +1,8 @@
+use Rattle.htl_model.specs.declared.parts.Mode.{Mode}
+use Rattle.htl_object.specs.Names.{owned, same_name}
+use Rattle.htl_object.proofs.Naming.{differs_mapped}
+use Rattle.htl_object.proofs.declaration_reader.note_mode.Goals as goal
+
+pub returns-clause-differs : goal.returns-clause-differs
+returns-clause-differs c =
+    differs_mapped (same_name (owned c.args.«module» c.args.name)) (λ (x : Mode). owned x.«module» x.name) c.args._before.now c.args.noted.now c.add.result c.requires c.add.ensures.differs

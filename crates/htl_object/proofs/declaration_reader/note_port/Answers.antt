@@ -1,0 +1,8 @@
+use Rattle.htl_model.specs.declared.parts.Port.{Port}
+use Rattle.htl_object.specs.Names.{owned, same_name}
+use Rattle.htl_object.proofs.Naming.{differs_mapped}
+use Rattle.htl_object.proofs.declaration_reader.note_port.Goals as goal
+
+pub returns-clause-differs : goal.returns-clause-differs
+returns-clause-differs c =
+    differs_mapped (same_name (owned c.args.mode c.args.name)) (λ (x : Port). owned x.mode x.name) c.args._before.now c.args.noted.now c.add.result c.requires c.add.ensures.differs
