@@ -3,6 +3,7 @@ pub mod ApartLaws
 pub mod CycleLaws
 pub mod EndLaws
 pub mod Finding
+pub mod FrameSampleFits
 pub mod Judging
 pub mod OneFault
 pub mod PartLaws

@@ -2,6 +2,8 @@ pub mod AbstractWriters
 pub mod Apart
 pub mod Cycles
 pub mod EndFaults
+pub mod FrameFaults
+pub mod FrameSamples
 pub mod Overviews
 pub mod PeriodFaults
 pub mod PortFaults

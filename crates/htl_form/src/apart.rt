@@ -11,33 +11,32 @@ use htl_base::limits::MAX_COMMUNICATORS;
 use htl_model::Tables;
 use htl_model::items::{inv_at, mode_count};
 
-// Whether invocation `q` of a mode, those `n` from `base` on, writes nothing that an earlier one does.
-// Where the whole mode writes no instance twice, neither do those up to it.
-fn is_apart(
-    t: &Tables,
+// The invocations of a mode: the `count` from `base` on.
+#[derive(Clone, Copy)]
+struct Run {
     mode: u16,
     base: usize,
-    n: usize,
-    q: usize,
-    taken: &[bool],
-    once: bool,
-    room: &mut [u64],
-) -> bool
-    requires range { IsRangeOf t.now mode base n }
-    requires within { q < n }
+    count: usize,
+}
+
+// Whether the invocation `q` of a mode writes nothing that an earlier one does. Where the whole mode writes no instance twice,
+// neither do those up to it.
+fn is_apart(t: &Tables, run: Run, q: usize, taken: &[bool], once: bool, room: &mut [u64]) -> bool
+    requires range { IsRangeOf t.now run.mode run.base run.count }
+    requires within { q < run.count }
     requires len { length taken.now ≡ 1024 }
-    requires taken { AreTaken t.now mode base taken.now }
-    requires once { once ≡ true → IsDistinct eqb (keys_from t.now base n) }
+    requires taken { AreTaken t.now run.mode run.base taken.now }
+    requires once { once ≡ true → IsDistinct eqb (keys_from t.now run.base run.count) }
     requires room { length room.old ≡ 32768 }
-    ensures apart { result ≡ true → IsApart t.now (base + q) }
+    ensures apart { result ≡ true → IsApart t.now (run.base + q) }
     ensures room { length room.new ≡ 32768 }
 {
     t.keeps_ranges();
-    let inv = inv_at(t, base + q);
+    let inv = inv_at(t, run.base + q);
     if some_taken(inv.writes.as_slice(), taken) {
         return false;
     }
-    once || are_written_once(t, base, q + 1, room)
+    once || are_written_once(t, run.base, q + 1, room)
 }
 
 // Marks those invocations of a mode, the `n` from `base` on, that are apart, and answers whether the mode
@@ -61,8 +60,13 @@ fn mark_mode(
     let mut taken = [false; MAX_COMMUNICATORS];
     mark_taken(t, mode, base, &mut taken);
     let once = are_written_once(t, base, n, room);
+    let run = Run {
+        mode,
+        base,
+        count: n,
+    };
     for q in 0..n {
-        marks[base + q] = is_apart(t, mode, base, n, q, &taken, once, room);
+        marks[base + q] = is_apart(t, run, q, &taken, once, room);
     }
     once
 }

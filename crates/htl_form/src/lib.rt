@@ -6,6 +6,9 @@ mod answer;
 mod apart;
 mod cycles;
 mod ends;
+mod frame_rule;
+#[cfg(test)]
+mod frame_tests;
 mod instances;
 mod overview;
 mod paths;
@@ -23,3 +26,4 @@ mod windows;
 mod writers;
 
 pub use answer::form;
+pub use frame_rule::frames;

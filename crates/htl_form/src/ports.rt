@@ -7,6 +7,7 @@ ghost use Rattle.htl_form.specs.Surveys.{IsSurveyOf};
 ghost use Rattle.htl_model.specs.PortWriters.{is_port as is_port_of, port_uses, port_writers};
 
 use crate::survey::Survey;
+use htl_base::limits::MAX_PORTS;
 use htl_model::{End, Inv, Tables};
 
 /// How many ends are the port.
@@ -99,7 +100,7 @@ fn writers(t: &Tables, survey: &Survey, port: u16) -> u32
     ensures { result ≡ port_writers t.now port }
 {
     t.keeps_ranges();
-    if port < 4096 {
+    if (port as usize) < MAX_PORTS {
         survey.writers[port as usize]
     } else {
         0
@@ -112,7 +113,7 @@ fn first_writer(t: &Tables, survey: &Survey, port: u16) -> Option<u16>
     ensures { result ≡ first_port_writer t.now port }
 {
     t.keeps_ranges();
-    if port < 4096 {
+    if (port as usize) < MAX_PORTS {
         survey.first_writers[port as usize]
     } else {
         None

@@ -2,5 +2,5 @@ use Rattle.std.proofs.Common.{sym}
 use Rattle.htl_form.proofs.PortLaws.{no_first}
 use Rattle.htl_form.proofs.ports.first_writer.Goals as goal
 
-pub returns-else-port-lt4096 : goal.returns-else-port-lt4096
-returns-else-port-lt4096 c = sym (no_first c.args.t.now c.args.port c.keeps_ranges.ensures.ranges c.if-port-lt4096.false)
+pub returns-else-port-lt-MAX_PORTS : goal.returns-else-port-lt-MAX_PORTS
+returns-else-port-lt-MAX_PORTS c = sym (no_first c.args.t.now c.args.port c.keeps_ranges.ensures.ranges c.if-port-lt-MAX_PORTS.false)
