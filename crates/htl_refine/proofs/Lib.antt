@@ -1,3 +1,7 @@
+pub mod AlongPath
+pub mod AlongServing
+pub mod BegunPlaces
+pub mod BegunTimes
 pub mod Chains
 pub mod Exact
 mod Examples
@@ -8,6 +12,8 @@ pub mod OneFault
 pub mod OnePassLaws
 pub mod OneSelection
 pub mod OrderLaws
+pub mod PathDerived
+pub mod PathServing
 pub mod Positions
 pub mod PrecedenceLaws
 pub mod RefiningLaws

@@ -72,14 +72,14 @@ same_rising (x ∷ xs) (y ∷ ys) p q to from =
         by (inl e) = absurd (omega (arith, q.0 a h, heads, e))
         by (inr k) = k
 
-joined_rise : (xs ys : List ℕ) → AreRising xs → AreRising ys → ((a b : ℕ) → Has xs a → Has ys b → a < b) → AreRising (xs ++ ys)
+pub joined_rise : (xs ys : List ℕ) → AreRising xs → AreRising ys → ((a b : ℕ) → Has xs a → Has ys b → a < b) → AreRising (xs ++ ys)
 joined_rise [] ys p q cross = q
 joined_rise (x ∷ xs) ys p q cross = (above, joined_rise xs ys p.1 q (λ a b h k. cross a b (suc h.0, h.1) k))
   where
     above : (a : ℕ) → Has (xs ++ ys) a → x < a
     above a h = elim (of_joined xs ys h.0 a h.1) [ inl e ↦ p.0 a (h.0, e) | inr k ↦ cross x a (0, refl) k ]
 
-places_rise : {A : Type 0} (test : A → Bool) (k : ℕ) (xs : List A) → AreRising (places_from test k xs)
+pub places_rise : {A : Type 0} (test : A → Bool) (k : ℕ) (xs : List A) → AreRising (places_from test k xs)
 places_rise test k [] = tt
 places_rise test k (x ∷ xs) = by (test x) (places_rise test (suc k) xs)
   where

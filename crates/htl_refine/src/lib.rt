@@ -3,6 +3,7 @@
 
 mod answer;
 mod derived;
+mod derived_path;
 pub mod laws;
 mod order;
 mod refining;
@@ -15,5 +16,6 @@ mod trial;
 
 pub use answer::refine;
 pub use derived::derive;
+pub use derived_path::{derive_in_frame, derive_path};
 pub use roots::selection_of;
 pub use selection::{Selection, is_selection};
