@@ -69,7 +69,8 @@ OfScript known fits = (script : List ℕ) × IfSome known (λ bytes. bytes ≡ s
 abbrev pub LosesFront : ℕ → Option (List ℕ) → Option (List ℕ) → Type 0
 LosesFront most old new = (front : List ℕ) × (length front ≤ most) × (prepend_known front new ≡ old)
 
--- A count of faults doesn't fall, and rose where the reader stopped at a fault of its source.
+-- A count of faults doesn't fall. It rose where the reader stopped at a fault of its source, and else stands where it stood.
 pub record HasReadCause {T : Type 0} (before now : ℕ) (result : Result T WholeStop) : Type 0 where
   pub later : before ≤ now
+  pub kept : (result ≡ Err stop.Read → ⊥) → now ≡ before
   pub read : result ≡ Err stop.Read → Rose before now

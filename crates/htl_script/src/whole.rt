@@ -17,7 +17,7 @@ use std::alloc::Global;
 
 /// Reads a script to its end and appends its events, up to the first fault. `Script` comes exactly at the
 /// script's first fault; then the events before it were appended. `Read` comes only where the source
-/// counted a fault; then, and after `Memory`, a front of the events was appended. At most 1,073,745,920
+/// counted a fault; then, and after `Memory`, a front of the events was appended. No other answer counts one. At most 1,073,745,920
 /// bytes are read: those of the longest script, and one piece of 4,096.
 pub fn read_script<R: Source>(
     _alloc: Global,

@@ -1,4 +1,4 @@
-use Rattle.std.proofs.Common.{◌+◌, ◌<◌, length, take, ap, arith, refl, length-take-le, Err}
+use Rattle.std.proofs.Common.{◌∙◌, ◌+◌, ◌<◌, length, take, ap, arith, refl, length-take-le, Err}
 use Rattle.htl_script.specs.declared.fault.WholeStop.TheVariants as stop
 use Rattle.htl_script.specs.Readers.{Here}
 use Rattle.htl_script.proofs.Answering.{IsReading-start, IsReading-step, answer_read, answer_stop, answer_end, LosesFront-piece, LosesFront-same}
@@ -8,7 +8,7 @@ use Rattle.htl_script.proofs.whole.read_script.Goals as goal
 pub chunks-init : goal.chunks-init
 chunks-init g c = (
   IsReading-start c.args.t.now c.new-reader.result (g.R.Source.rest c.args.src.now) c.args.into.now.items c.new-reader.ensures,
-  omega arith,
+  refl,
   refl,
   omega (arith, ap (λ (h : Here). h.start + length h.line) c.new-reader.ensures),
 )
@@ -86,7 +86,7 @@ chunks-preserved g c = (
       c.args.into.now.items c.chunks.into.items c.take_all.new.into.items (take c.in-Ok.count c.read.new.buf) tt
       c.chunks.invariant.0 c.in-Ok.ensures.bytes.0
       (omega (arith, c.in_default-take_all.ensures.count, length-take-le c.in-Ok.count c.read.new.buf c.in-Ok.ensures.bound)) c.in_default-take_all.ensures.events,
-  omega (arith, c.chunks.invariant.1, c.in-Ok.ensures.cause.later),
+  c.in-Ok.ensures.cause.kept ∙ c.chunks.invariant.1,
   omega (arith, c.read.auto.buf, c.chunks.invariant.2),
   c.in_default-take_all.ensures.bound c.chunks.invariant.3,
 )
