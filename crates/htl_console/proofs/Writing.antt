@@ -37,10 +37,10 @@ follows f k (suc n) h =
 -- the lines of the places below k were written
 pub record IsWriting {X : Type 0} (line : ℕ → X → List ℕ) (xs : List X) (k : ℕ) (old now : Option (List ℕ)) (before between : ℕ) : Type 0 where
   pub written : now ≡ append_known old (up_to (line_at line xs) k)
-  pub later : before ≤ between
+  pub kept : between ≡ before
 
 pub IsWriting-start : {X : Type 0} (line : ℕ → X → List ℕ) (xs : List X) (old : Option (List ℕ)) (before : ℕ) → IsWriting line xs 0 old old before before
-IsWriting-start line xs old before = record { written = append_known-start old; later = omega arith }
+IsWriting-start line xs old before = record { written = append_known-start old; kept = refl }
 
 abbrev line_of : {X : Type 0} → (ℕ → X → List ℕ) → ℕ → Option X → List ℕ
 line_of line k (Some x) = line k x
@@ -59,7 +59,7 @@ IsWriting-step line xs k x old mid new before between now u inside is h puts = r
   written =
       append_known-more old mid new (up_to (line_at line xs) k) (line k x) h.written puts.whole
       ∙ ap (λ (bs : List ℕ). append_known old (up_to (line_at line xs) k ++ bs)) (sym (line_here line xs k x inside is));
-  later = omega (arith, h.later, puts.cause.later);
+  kept = puts.cause.kept ∙ h.kept;
 }
 
 -- all were written
@@ -68,7 +68,7 @@ pub IsWriting-all : {X T E : Type 0} (line : ℕ → X → List ℕ) (xs : List 
 IsWriting-all line xs k old now before between u e h = record {
   whole = h.written ∙ ap (λ (m : ℕ). append_known old (up_to (line_at line xs) m)) e;
   part = tt;
-  cause = record { later = h.later; refused = tt };
+  cause = record { later = omega (arith, h.kept); kept = h.kept; refused = tt };
 }
 
 -- the line of a place failed
@@ -80,7 +80,7 @@ IsWriting-cut {T = T} {F = F} line xs k x old mid new before between now e d ins
     let rest = follows f k (length xs) inside in
     subst (λ (bs : List ℕ). Puts {T = T} {E = F} old new before now bs (Err d))
     (sym (rest.1 ∙ ap (λ (bs : List ℕ). up_to f k ++ (bs ++ rest.0)) (line_here line xs k x inside is)))
-    (Puts-failed old mid new before between now (up_to f k) (line k x) rest.0 e d h.written h.later puts)
+    (Puts-failed old mid new before between now (up_to f k) (line k x) rest.0 e d h.written h.kept puts)
 
 -- an item of a list that is seen another way
 pub seen-at : {A X : Type 0} (see : A → X) (ys : List A) (k : ℕ) (a : A) → k < length ys → a ≡ get_or ys k a → see a ≡ get_or (map see ys) k (see a)
@@ -94,28 +94,28 @@ seen-inside see ys k inside = subst (λ (n : ℕ). k < n) (sym (length-map ys se
 -- a text was written
 pub record WasPut (old now : Option (List ℕ)) (before between : ℕ) (text : List ℕ) : Type 0 where
   pub written : now ≡ append_known old text
-  pub later : before ≤ between
+  pub kept : between ≡ before
 
 pub WasPut-first : {E : Type 0} (old now : Option (List ℕ)) (before between : ℕ) (text : List ℕ) (u : Unit {0}) → Puts {T = Unit {0}} {E = E} old now before between text (Ok u) → WasPut old now before between text
-WasPut-first old now before between text u puts = record { written = puts.whole; later = puts.cause.later }
+WasPut-first old now before between text u puts = record { written = puts.whole; kept = puts.cause.kept }
 
 pub WasPut-more : {E : Type 0} (old mid new : Option (List ℕ)) (before between now : ℕ) (first second : List ℕ) (u : Unit {0})
     → WasPut old mid before between first → Puts {T = Unit {0}} {E = E} mid new between now second (Ok u) → WasPut old new before now (first ++ second)
 WasPut-more old mid new before between now first second u was puts = record {
   written = append_known-more old mid new first second was.written puts.whole;
-  later = omega (arith, was.later, puts.cause.later);
+  kept = puts.cause.kept ∙ was.kept;
 }
 
 -- a text that follows is written or fails
 pub WasPut-last : {E : Type 0} (old mid new : Option (List ℕ)) (before between now : ℕ) (first second : List ℕ) (result : Result (Unit {0}) E)
     → WasPut old mid before between first → Puts mid new between now second result → Puts old new before now (first ++ second) result
-WasPut-last old mid new before between now first second result was puts = Puts-second old mid new before between now first second result was.written was.later puts
+WasPut-last old mid new before between now first second result was puts = Puts-second old mid new before between now first second result was.written was.kept puts
 
 -- a text failed, and what follows it was not begun
 pub Puts-cut : {E : Type 0} (old new : Option (List ℕ)) (before now : ℕ) (text later : List ℕ) (e : E)
     → Puts {T = Unit {0}} old new before now text (Err e) → Puts {T = Unit {0}} old new before now (text ++ later) (Err e)
 Puts-cut old new before now text later e puts =
-    Puts-failed {T = Unit {0}} {S = Unit {0}} old old new before before now [] text later e e (append_known-start old) (omega arith) puts
+    Puts-failed {T = Unit {0}} {S = Unit {0}} old old new before before now [] text later e e (append_known-start old) refl puts
 
 -- ---- two texts side by side in a buffer
 
