@@ -100,20 +100,20 @@ first_told t schedules es show steps at sel modes r w0 w f0 f result same e is w
 
 -- what failed, with what would have followed
 pub then_more : {T S E F : Type 0} (a b : List ℕ) (w0 w : Option (List ℕ)) (f0 f : ℕ) (x : E) (y : F) → Puts {T = T} {E = E} w0 w f0 f a (Err x) → Puts {T = S} {E = F} w0 w f0 f (a ++ b) (Err y)
-then_more a b w0 w f0 f x y puts = Puts-failed w0 w0 w f0 f0 f [] a b x y (append_known-start w0) (omega arith) puts
+then_more a b w0 w f0 f x y puts = Puts-failed w0 w0 w f0 f0 f [] a b x y (append_known-start w0) refl puts
 
 pub fails_so : {T S E F : Type 0} (a : List ℕ) (w0 w : Option (List ℕ)) (f0 f : ℕ) (x : E) (y : F) → Puts {T = T} {E = E} w0 w f0 f a (Err x) → Puts {T = S} {E = F} w0 w f0 f a (Err y)
 fails_so a w0 w f0 f x y puts = record {
   whole = tt;
   part = puts.part;
-  cause = record { later = puts.cause.later; refused = puts.cause.refused };
+  cause = record { later = puts.cause.later; kept = tt; refused = puts.cause.refused };
 }
 
 pub ends_so : {T S E F : Type 0} (a : List ℕ) (w0 w : Option (List ℕ)) (f0 f : ℕ) (x : T) (y : S) → Puts {T = T} {E = E} w0 w f0 f a (Ok x) → Puts {T = S} {E = F} w0 w f0 f a (Ok y)
 ends_so a w0 w f0 f x y puts = record {
   whole = puts.whole;
   part = tt;
-  cause = record { later = puts.cause.later; refused = tt };
+  cause = record { later = puts.cause.later; kept = puts.cause.kept; refused = tt };
 }
 
 pub began_last : {T S R E F G : Type 0} (t : Tables) (code : ECode) (schedules : List (List SInstr)) (es : List Event) (show : Shown) (at : ℕ) (w0 w1 w2 w : Option (List ℕ)) (f0 f1 f2 f : ℕ) (u : S) (v : R) (result : Result T E)
@@ -121,4 +121,4 @@ pub began_last : {T S R E F G : Type 0} (t : Tables) (code : ECode) (schedules :
     → Puts w2 w f2 f (beginning_text t schedules es show at) result → Puts w0 w f0 f (closing_text t code es show at ++ beginning_text t schedules es show at) result
 began_last {R = R} {G = G} t code schedules es show at w0 w1 w2 w f0 f1 f2 f u v result first second third =
     let closed : Puts {T = R} {E = G} w0 w2 f0 f2 (closing_text t code es show at) (Ok v) = reads_second t code es show at w0 w1 w2 f0 f1 f2 u (Ok v) first second in
-    Puts-second w0 w2 w f0 f2 f (closing_text t code es show at) (beginning_text t schedules es show at) result closed.whole closed.cause.later third
+    Puts-second w0 w2 w f0 f2 f (closing_text t code es show at) (beginning_text t schedules es show at) result closed.whole closed.cause.kept third

@@ -35,19 +35,19 @@ modes_known t code es now c range b k =
 pub switches_fail : {T S E F : Type 0} (t : Tables) (code : ECode) (es : List Event) (show : Shown) (at : ℕ) (w0 w : Option (List ℕ)) (f0 f : ℕ) (x : E) (y : F)
     → Puts {T = T} {E = E} w0 w f0 f (path_lines t code show at (phase_path t code es at 2)) (Err x) → Puts {T = S} {E = F} w0 w f0 f (closing_text t code es show at) (Err y)
 switches_fail t code es show at w0 w f0 f x y puts =
-    Puts-failed w0 w0 w f0 f0 f [] (path_lines t code show at (phase_path t code es at 2)) (reading_text t code es show at) x y (append_known-start w0) (omega arith) puts
+    Puts-failed w0 w0 w f0 f0 f [] (path_lines t code show at (phase_path t code es at 2)) (reading_text t code es show at) x y (append_known-start w0) refl puts
 
 -- the reads follow the switches
 pub reads_second : {T S E G : Type 0} (t : Tables) (code : ECode) (es : List Event) (show : Shown) (at : ℕ) (w0 w1 w : Option (List ℕ)) (f0 f1 f : ℕ) (u : S) (result : Result T E)
     → Puts {T = S} {E = G} w0 w1 f0 f1 (path_lines t code show at (phase_path t code es at 2)) (Ok u) → Puts w1 w f1 f (reading_text t code es show at) result → Puts w0 w f0 f (closing_text t code es show at) result
 reads_second t code es show at w0 w1 w f0 f1 f u result first second =
-    Puts-second w0 w1 w f0 f1 f (path_lines t code show at (phase_path t code es at 2)) (reading_text t code es show at) result first.whole first.cause.later second
+    Puts-second w0 w1 w f0 f1 f (path_lines t code show at (phase_path t code es at 2)) (reading_text t code es show at) result first.whole first.cause.kept second
 
 -- the read phase fails
 pub reads_fail : {T S E F : Type 0} (t : Tables) (code : ECode) (es : List Event) (show : Shown) (at : ℕ) (w0 w : Option (List ℕ)) (f0 f : ℕ) (x : E) (y : F)
     → Puts {T = T} {E = E} w0 w f0 f (path_lines t code show at (phase_path t code es at 3)) (Err x) → Puts {T = S} {E = F} w0 w f0 f (reading_text t code es show at) (Err y)
 reads_fail t code es show at w0 w f0 f x y puts =
-    Puts-failed w0 w0 w f0 f0 f [] (path_lines t code show at (phase_path t code es at 3)) (cond (shows_values show) (lines_text t (value_lines t es at)) []) x y (append_known-start w0) (omega arith) puts
+    Puts-failed w0 w0 w f0 f0 f [] (path_lines t code show at (phase_path t code es at 3)) (cond (shows_values show) (lines_text t (value_lines t es at)) []) x y (append_known-start w0) refl puts
 
 -- the lines of what changed come last
 pub changes_last : {T S E G : Type 0} (t : Tables) (code : ECode) (es : List Event) (show : Shown) (at : ℕ) (w1 w2 w : Option (List ℕ)) (f1 f2 f : ℕ) (v : S) (result : Result T E) (old new : List ℤ) (was : List (Option ℕ)) (c : Calendar)
@@ -58,7 +58,7 @@ changes_last t code es show at w1 w2 w f1 f2 f v result old new was c range seco
     let lines = cond (shows_values show) (lines_text t (value_lines t es at)) [] in
     let same : change_lines t show at old new was c.modes ≡ lines =
     ap (λ (ls : List Line). cond (shows_values show) (lines_text t ls) []) (changes_are t es at old new was c.modes a b d (modes_closed t code es at c range between)) in
-    Puts-second w1 w2 w f1 f2 f (path_lines t code show at (phase_path t code es at 3)) lines result second.whole second.cause.later (subst (λ z. Puts w2 w f2 f z result) same puts)
+    Puts-second w1 w2 w f1 f2 f (path_lines t code show at (phase_path t code es at 3)) lines result second.whole second.cause.kept (subst (λ z. Puts w2 w f2 f z result) same puts)
 
 -- phase follows phase
 pub to_switch : (t : Tables) (code : ECode) (es : List Event) (now : ℕ) (m : Standing) → Onward t code es now 1 m (phase_path t code es now 1) [] None → Midway t code es now 2 m [] (phase_path t code es now 2)

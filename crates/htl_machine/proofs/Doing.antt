@@ -88,7 +88,7 @@ pub doing_start : (t : Tables) (code : ECode) (es : List Event) (at phase : ℕ)
 doing_start t code es at phase show m w r w0 f0 n midway safe shaped =
     record {
       running = record { done = []; rest = phase_path t code es at phase; midway = midway; safe = safe; shaped = shaped; content = refl; values = λ two. refl };
-      later = omega arith;
+      kept = refl;
       text = append_known-start w0 ∙ ap (append_known w0) (sym (no_lines t code show at));
       count = refl;
       desk = told_none phase code r;
@@ -106,7 +106,7 @@ doing_on t code es at phase show m next w after first r0 r r1 w0 w1 w2 f0 f g n0
     let same = sym (running_done t code es at phase m next w after first d h.running safe shaped on is) in
     record {
       running = running_on t code es at phase m next w after first d h.running safe shaped on is;
-      later = omega (arith, h.later, puts.cause.later);
+      kept = puts.cause.kept ∙ h.kept;
       text =
           append_known-more w0 w1 w2 (path_lines t code show at done) (instr_lines t show at d.address d.instr) h.text puts.whole
           ∙ ap (append_known w0) (sym (lines_more t code show at done d on.2))
@@ -129,7 +129,7 @@ doing_cut {S = S} {F = F} t code es at phase show m next w first r0 r w0 w1 w2 f
     let done = h.running.done in
     let whole : phase_path t code es at phase ≡ done ++ done_of d ∷ on.0 = h.running.midway.path ∙ ap (λ zs. done ++ zs) on.1 in
     subst (λ z. Puts {T = S} {E = F} w0 w2 f0 g z (Err y)) (sym (lines_cut t code show at done on.0 d on.2) ∙ ap (path_lines t code show at) (sym whole))
-    (Puts-failed w0 w1 w2 f0 f g (path_lines t code show at done) (instr_lines t show at d.address d.instr) (path_lines t code show at on.0) x y h.text h.later puts)
+    (Puts-failed w0 w1 w2 f0 f g (path_lines t code show at done) (instr_lines t show at d.address d.instr) (path_lines t code show at on.0) x y h.text h.kept puts)
 
 -- all are done
 all_done : (t : Tables) (code : ECode) (es : List Event) (at phase : ℕ) (m next : Standing) (w first : Content) → (h : IsRunning t code es at phase m w first) → Onward t code es at phase next h.done h.rest None
@@ -143,7 +143,7 @@ doing_end t code es at phase show m next w first r0 r w0 w1 f0 f n0 n x h on =
     record {
       whole = h.text ∙ ap (λ z. append_known w0 (path_lines t code show at z)) (all_done t code es at phase m next w first h.running on);
       part = tt;
-      cause = record { later = h.later; refused = tt };
+      cause = record { later = omega (arith, h.kept); kept = h.kept; refused = tt };
     }
 
 pub doing_counted : (t : Tables) (code : ECode) (es : List Event) (at phase : ℕ) (show : Shown) (m next : Standing) (w first : Content) (r0 r : Round) (w0 w1 : Option (List ℕ)) (f0 f : ℕ) (n0 n : Tally)

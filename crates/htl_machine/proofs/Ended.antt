@@ -56,7 +56,7 @@ module _ (m : Seen) (es : List Event) (now : ℕ) (accepted : IsAccepted m.objec
     closed {S = S} {F = F} new w0 w1 w f0 f1 f x result is opens puts =
         let a = opens r.plan r.start r.place r.offset r.same r.past r.few r.was in
         subst (λ z. Puts {T = S} {E = F} w0 w f0 f z result) (lines_are_composed m es now accepted read u steps r new is)
-        (Puts-second w0 w1 w f0 f1 f first (closing_text t code es m.show now ++ new) result a.whole a.cause.later puts)
+        (Puts-second w0 w1 w f0 f1 f first (closing_text t code es m.show now ++ new) result a.whole a.cause.kept puts)
 
     pub going_closed : {T S E F : Type 0} (w0 w1 w : Option (List ℕ)) (f0 f1 f : ℕ) (x : T) (result : Result S F) → begins m.object.tables now ≡ false
         → Opens {T = T} {E = E} m.object.tables m.object.ecode es m.show (number_by m.selection) m.held.desk steps now w0 w1 f0 f1 (Ok x)

@@ -78,3 +78,5 @@ pub mod Positions
 pub mod ToBegin
 pub mod Ready
 pub mod After
+pub mod Idle
+pub mod Quiet

@@ -13,7 +13,7 @@ use Rattle.htl_machine.specs.Passing.{IsPassing}
 use Rattle.htl_machine.specs.Programs.{lines_of}
 
 -- a list that is joined in two parts
-up_to_more : {A : Type 0} (f : ℕ → List A) (k j : ℕ) → up_to f (k + j) ≡ up_to f k ++ up_to (λ n. f (k + n)) j
+pub up_to_more : {A : Type 0} (f : ℕ → List A) (k j : ℕ) → up_to f (k + j) ≡ up_to f k ++ up_to (λ n. f (k + n)) j
 up_to_more f k zero = ap (up_to f) (let z : k + 0 ≡ k = omega arith in z) ∙ sym (append-nil (up_to f k))
 up_to_more f k (suc j) =
     ap (up_to f) (let z : k + suc j ≡ suc (k + j) = omega arith in z) ∙ ap (λ z. z ++ f (k + j)) (up_to_more f k j) ∙ append_assoc (up_to f k) (up_to (λ n. f (k + n)) j) (f (k + j))
@@ -46,7 +46,7 @@ passing_start m es from w faults b =
       same = record { object = refl; show = refl };
       read = refl;
       text = append_known-start w ∙ ap (append_known w) (sym (ap (up_to (λ n. lines_of m.object es m.show (from + n))) (let z : from - from ≡ 0 = omega arith in z)));
-      later = omega arith;
+      kept = refl;
     }
 
 pub passing_on : {T E : Type 0} (m0 m m1 : Seen) (es : List Event) (from at : ℕ) (w0 w w1 : Option (List ℕ)) (f0 f f1 : ℕ) (x : T) → from ≤ at → IsPassing m0 m es from at w0 w f0 f
@@ -61,7 +61,7 @@ passing_on m0 m m1 es from at w0 w w1 f0 f f1 x begun p puts next same read =
       text =
           append_known-more w0 w w1 (text_between m0.object es m0.show from at) (lines_of m0.object es m0.show at) p.text (puts.whole ∙ ap (append_known w) lines)
           ∙ ap (append_known w0) (sym (between_next m0.object es m0.show from at begun));
-      later = omega (arith, p.later, puts.cause.later);
+      kept = puts.cause.kept ∙ p.kept;
     }
 
 pub passing_failed : {T S E : Type 0} (m0 m : Seen) (es : List Event) (from at to : ℕ) (w0 w w1 : Option (List ℕ)) (f0 f f1 : ℕ) (e g : E) → from ≤ at → at < to → IsPassing m0 m es from at w0 w f0 f
@@ -71,7 +71,7 @@ passing_failed {T = T} {S = S} {E = E} m0 m es from at to w0 w w1 f0 f f1 e g be
     ap (λ o. lines_of o es m.show at) p.same.object ∙ ap (λ s. lines_of m0.object es s at) p.same.show in
     let cut = between_cut m0.object es m0.show from at begun to less in
     subst (λ z. Puts {T = T} {E = E} w0 w1 f0 f1 z (Err g)) (sym cut.1)
-    (Puts-failed w0 w w1 f0 f f1 (text_between m0.object es m0.show from at) (lines_of m0.object es m0.show at) cut.0 e g p.text p.later (subst (λ z. Puts {T = S} {E = E} w w1 f f1 z (Err e)) lines puts))
+    (Puts-failed w0 w w1 f0 f f1 (text_between m0.object es m0.show from at) (lines_of m0.object es m0.show at) cut.0 e g p.text p.kept (subst (λ z. Puts {T = S} {E = E} w w1 f f1 z (Err e)) lines puts))
 
 pub passing_whole : {T E : Type 0} (m0 m : Seen) (es : List Event) (from at to : ℕ) (w0 w : Option (List ℕ)) (f0 f : ℕ) (x : T) → at ≡ to → IsPassing m0 m es from at w0 w f0 f
     → Puts {T = T} {E = E} w0 w f0 f (text_between m0.object es m0.show from to) (Ok x)
@@ -79,5 +79,5 @@ passing_whole m0 m es from at to w0 w f0 f x all p =
     record {
       whole = p.text ∙ ap (λ z. append_known w0 (text_between m0.object es m0.show from z)) all;
       part = tt;
-      cause = record { later = p.later; refused = tt };
+      cause = record { later = omega (arith, p.kept); kept = p.kept; refused = tt };
     }

@@ -30,28 +30,28 @@ use Rattle.htl_machine.proofs.Desking.{next_some, next_none, told_get}
 -- ---- the lines of one record
 
 pub job_told : {T E : Type 0} (t : Tables) (show : Shown) (jobs : List Job) (l : Left) (i : ℕ) (b : Bool) (old mid new : Option (List ℕ)) (before between now : ℕ) (result : Result T E)
-    → b ≡ shows_jobs show → b ≡ true → i ≡ inv_at jobs l.position → mid ≡ append_known old (slice_lines t i l.slice) → before ≤ between
+    → b ≡ shows_jobs show → b ≡ true → i ≡ inv_at jobs l.position → mid ≡ append_known old (slice_lines t i l.slice) → between ≡ before
     → Puts mid new between now (cond l.finished (done_line t l.at i) []) result → Puts old new before now (job_lines t show jobs l) result
-job_told t show jobs l i b old mid new before between now result is shows inv was le puts =
+job_told t show jobs l i b old mid new before between now result is shows inv was kept puts =
     let lines : ℕ → List ℕ = λ i. slice_lines t i l.slice ++ cond l.finished (done_line t l.at i) [] in
     subst (λ z. Puts old new before now z result)
     (ap lines inv ∙ sym (ap (λ z. cond z (lines (inv_at jobs l.position)) []) (sym is ∙ shows)))
-    (Puts-second old mid new before between now (slice_lines t i l.slice) (cond l.finished (done_line t l.at i) []) result was le puts)
+    (Puts-second old mid new before between now (slice_lines t i l.slice) (cond l.finished (done_line t l.at i) []) result was kept puts)
 
 -- nothing is to be written
 pub nothing_put : {T E : Type 0} (old : Option (List ℕ)) (before : ℕ) (text : List ℕ) (u : T) → text ≡ [] → Puts {T = T} {E = E} old old before before text (Ok u)
 nothing_put old before text u e = record {
   whole = append_known-start old ∙ ap (append_known old) (sym e);
   part = tt;
-  cause = record { later = omega arith; refused = tt };
+  cause = record { later = omega arith; kept = refl; refused = tt };
 }
 
 -- nothing was written
-pub nothing_written : {T E : Type 0} (old new : Option (List ℕ)) (before now : ℕ) (u : T) → new ≡ old → before ≤ now → Puts {T = T} {E = E} old new before now [] (Ok u)
-nothing_written old new before now u e later = record {
+pub nothing_written : {T E : Type 0} (old new : Option (List ℕ)) (before now : ℕ) (u : T) → new ≡ old → now ≡ before → Puts {T = T} {E = E} old new before now [] (Ok u)
+nothing_written old new before now u e kept = record {
   whole = e ∙ append_known-start old;
   part = tt;
-  cause = record { later = later; refused = tt };
+  cause = record { later = omega (arith, kept); kept = kept; refused = tt };
 }
 
 -- a round that doesn't run has no answer
@@ -133,7 +133,7 @@ all_given p s m d at r code same past few was e = elim (order m (due_by p s at) 
 pub printing_start : (t : Tables) (show : Shown) (sel : ℕ) (r : Round) (code : List SInstr) (at : ℕ) (w : Option (List ℕ)) (f : ℕ) (n : Tally) → IsPrinting t show sel r r code at w w f f n n
 printing_start t show sel r code at w f n =
     record {
-      later = omega arith;
+      kept = refl;
       text = λ p s k d same past few was. append_known-start w ∙ ap (λ m. append_known w (joined (record_text t show p sel) (some_records p s k m))) (none k was.place);
       count = λ p s k d same past few was. ap (λ m. with_records (some_records p s k m) n) (none k was.place);
     }
@@ -151,7 +151,7 @@ pub printing_step : {T E : Type 0} (t : Tables) (show : Shown) (sel : ℕ) (r0 r
 printing_step t show sel r0 r n u0 u jobs code at l w0 w v f0 f g n0 m m' x h i e next count puts =
     let place : n.place ≡ suc r.place = ap (λ (z : Round). z.place) next in
     record {
-      later = omega (arith, i.later, puts.cause.later);
+      kept = puts.cause.kept ∙ i.kept;
       text = λ p s k d same past few was.
           let go = h.goes p s k d same past few was in
           let is = next_is p s k go.0 d at r code l same past go.1 go.2 go.3 e in
@@ -188,7 +188,7 @@ printing_cut {S = S} {F = F} t show sel r0 r u0 u jobs code at l w0 w v f0 f g n
     ∙ sym (joined-append text front (l ∷ rest))
     ∙ ap (joined text) (sym (cut zs (r.place - k) (due_by p s at - k) l is.there (omega (arith, is.less, is.past)))) in
     subst (λ z. Puts {T = S} {E = F} w0 v f0 g z (Err y)) whole
-    (Puts-failed w0 w v f0 f g (joined text front) (record_lines t show jobs code sel l) (joined text rest) x y (i.text p s k d same past few was) i.later puts)
+    (Puts-failed w0 w v f0 f g (joined text front) (record_lines t show jobs code sel l) (joined text rest) x y (i.text p s k d same past few was) i.kept puts)
 
 pub printing_end : {T E : Type 0} (t : Tables) (show : Shown) (sel : ℕ) (r0 r : Round) (u0 u : Content) (jobs : List Job) (code : List SInstr) (at : ℕ) (w0 w : Option (List ℕ)) (f0 f : ℕ) (n0 m : Tally) (x : T)
     → IsRecording t r0 u0 r u jobs code at → IsPrinting t show sel r0 r code at w0 w f0 f n0 m → next_left r code at ≡ None → Prints {T = T} {E = E} t show sel r0 code at w0 w f0 f (Ok x)
@@ -198,7 +198,7 @@ printing_end t show sel r0 r u0 u jobs code at w0 w f0 f n0 m x h i e =
     record {
       whole = i.text p s k d same past few was ∙ ap (λ z. append_known w0 (joined (record_text t show p sel) (some_records p s k (z - k)))) (all_given p s go.0 d at r code same past go.2 go.3 e);
       part = tt;
-      cause = record { later = i.later; refused = tt };
+      cause = record { later = omega (arith, i.kept); kept = i.kept; refused = tt };
     }
 
 pub printing_counted : (t : Tables) (show : Shown) (sel : ℕ) (r0 r : Round) (u0 u : Content) (jobs : List Job) (code : List SInstr) (at : ℕ) (w0 w : Option (List ℕ)) (f0 f : ℕ) (n0 m : Tally)

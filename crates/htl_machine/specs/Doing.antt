@@ -1,5 +1,5 @@
 -- The instructions of a phase while they are done: their lines, their number, and the releases that the S machine is told.
-use Rattle.std.specs.Prelude.{◌≡◌, ◌≤◌, ℕ, cond, eqb, List, [], length, Option}
+use Rattle.std.specs.Prelude.{◌≡◌, ℕ, cond, eqb, List, [], length, Option}
 use Rattle.std.specs.Io.KnownBytes.{append_known}
 use Rattle.htl_model.specs.declared.event.Event.{Event}
 use Rattle.htl_model.specs.Lists.{joined}
@@ -35,7 +35,7 @@ told_in_phase phase code ds r = cond (eqb phase 3) (desk_replay code ds r) r
 
 pub record IsDoing (t : Tables) (code : ECode) (es : List Event) (at phase : ℕ) (show : Shown) (m : Standing) (w first : Content) (r0 r : Round) (w0 w1 : Option (List ℕ)) (f0 f : ℕ) (n0 n : Tally) : Type 0 where
   pub running : IsRunning t code es at phase m w first
-  pub later : f0 ≤ f
+  pub kept : f ≡ f0
   pub text : w1 ≡ append_known w0 (path_lines t code show at running.done)
   pub count : n ≡ with_instrs (length running.done) n0
   pub desk : r ≡ told_in_phase phase code running.done r0

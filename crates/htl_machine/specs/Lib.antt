@@ -27,6 +27,7 @@ pub mod Changing
 pub mod Doing
 pub mod Opening
 pub mod Printing
+pub mod Quiet
 pub mod Starting
 pub mod RecordLines
 pub mod Calls

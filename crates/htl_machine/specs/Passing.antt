@@ -1,5 +1,5 @@
 -- The machine while it goes from instant to instant.
-use Rattle.std.specs.Prelude.{◌≡◌, ◌≤◌, ℕ, List, Option}
+use Rattle.std.specs.Prelude.{◌≡◌, ℕ, List, Option}
 use Rattle.std.specs.Io.KnownBytes.{append_known}
 use Rattle.htl_model.specs.declared.event.Event.{Event}
 use Rattle.htl_machine.specs.Calls.{Seen, IsUpTo, IsSameRun, text_between}
@@ -10,4 +10,4 @@ pub record IsPassing (first now : Seen) (es : List Event) (from at : ℕ) (w0 w 
   pub same : IsSameRun first now
   pub read : now.held.reading ≡ first.held.reading
   pub text : w ≡ append_known w0 (text_between first.object es first.show from at)
-  pub later : f0 ≤ f
+  pub kept : f ≡ f0

@@ -28,6 +28,6 @@ Counted old code at n0 n =
 
 -- those that the S machine has left are written and counted
 pub record IsPrinting (t : Tables) (show : Shown) (sel : ℕ) (old now : Round) (code : List SInstr) (at : ℕ) (w0 w : Option (List ℕ)) (f0 f : ℕ) (n0 n : Tally) : Type 0 where
-  pub later : f0 ≤ f
+  pub kept : f ≡ f0
   pub text : (p : Plan) (s k d : ℕ) → p.schedule ≡ code → s ≤ at → k ≤ due_by p s at → DeskAt p s k d old → w ≡ append_known w0 (joined (record_text t show p sel) (some_records p s k (now.place - k)))
   pub count : (p : Plan) (s k d : ℕ) → p.schedule ≡ code → s ≤ at → k ≤ due_by p s at → DeskAt p s k d old → n ≡ with_records (some_records p s k (now.place - k)) n0

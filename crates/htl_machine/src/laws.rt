@@ -1,5 +1,6 @@
 //! The laws of a run, over the definitions alone. Each is a statement that the check has proved; there is nothing to run.
 ghost use Rattle.htl_machine.specs.Laws.{AcceptedIsLoaded, EveryJobInTime, ValuesAreTheMeaning, SensorsDecide, LaterEventsLeaveText, JobLinesAreRecords, JobLinesAreFound, EveryJobToldInTime};
+ghost use Rattle.htl_machine.specs.Quiet.{QuietInstantsPass};
 
 /// Of an accepted object every round is sound, whatever the events within the worst cases: its jobs are those of the invocations that
 /// stand, and its schedule does each of them in its window, after its predecessors.
@@ -47,4 +48,10 @@ pub fn job_lines_are_found()
 /// window and have as many ticks as the job takes.
 pub fn every_job_is_told_in_time()
     ensures { EveryJobToldInTime }
+{}
+
+/// Over instants at which nothing is due, whatever their number, what a machine follows carries over unchanged, and at none of them is
+/// there an E instruction, a record or a line.
+pub fn quiet_instants_pass()
+    ensures { QuietInstantsPass }
 {}

@@ -7,12 +7,15 @@ ghost use Rattle.htl_model.specs.declared.event.Event.TheVariants as event;
 ghost use Rattle.htl_machine.specs.Calls.{Follows, IsSensorValue, IsLength, IsSameRun, IsFinished, IsUpTo, first_seen, number_by, schedule_by, text_between};
 ghost use Rattle.htl_machine.specs.Follows.{shown_as, taken_as};
 ghost use Rattle.htl_machine.specs.Programs.{lines_of};
+ghost use Rattle.htl_machine.specs.Quiet.{AreQuiet};
+ghost use Rattle.htl_object.specs.Accepted.{IsAccepted};
 
 use crate::beginning::close_and_begin;
 use crate::close::close_instant;
 use crate::lengths::take;
 use crate::memory::{note_values, seen_values, worst_cases};
 use crate::open::open_instant;
+use crate::sensors::next_shown;
 use crate::starting::note_modes;
 use crate::tally::Tally;
 use crate::timing::round_begins;
@@ -227,12 +230,43 @@ impl<'a> Machine<'a> {
         ensures same { IsSameRun self.old self.new }
         ensures reading { self.new.held.reading ≡ self.old.held.reading }
     {
-        for at in from..to {
+        let mut at = from;
+        'instants: loop {
+            at = self.next_due(at, to);
+            if at == to {
+                return Ok(());
+            }
             if let Err(failed) = self.instant(at, sink) {
                 return Err(failed);
             }
+            at += 1;
         }
-        Ok(())
+    }
+
+    // The first instant, from one on, at which something is due: a trigger, an instruction that is left, or a sensor that is shown
+    // another value than it has; `to` where there is none before. At instant 0 something always is.
+    fn next_due(&self, from: Time, to: Time) -> Time
+        ghost es: { List Told }
+        requires before { IsUpTo self.now es from }
+        requires read { self.now.held.reading ≤ from }
+        requires order { from ≤ to }
+        requires to { to ≤ limit.MAX_INSTANT + 1 }
+        ensures low { from ≤ result }
+        ensures high { result ≤ to }
+        ensures quiet { AreQuiet self.now from result }
+        ensures accepted { IsAccepted self.now.object }
+    {
+        let l = self.loaded;
+        if from == 0 {
+            return 0;
+        }
+        let shown = next_shown(&self.world, l.tables(), self.shows.as_slice(), from, to);
+        let triggered = sooner(self.emach.next(), from, shown);
+        sooner(
+            self.desk.next(schedule_of(l, &self.idle, self.selection)),
+            from,
+            triggered,
+        )
     }
 
     // Does one instant: the records that are due, the writes and the sensors; then the switches, a round where one begins, the
@@ -365,6 +399,19 @@ impl<'a> Machine<'a> {
         ensures { result.now ≡ self.now.held.world }
     {
         &self.world
+    }
+}
+
+// The sooner of two instants, but none before `from`.
+fn sooner(next: Option<Time>, from: Time, to: Time) -> Time
+    requires { from ≤ to }
+    ensures low { from ≤ result }
+    ensures high { result ≤ to }
+    ensures before { IfSome next (λ n. (at : ℕ) → from ≤ at → at < result → at < n) }
+{
+    match next {
+        Some(n) => n.max(from).min(to),
+        None => to,
     }
 }
 

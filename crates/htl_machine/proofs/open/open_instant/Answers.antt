@@ -41,11 +41,11 @@ returns-in-Err-clause-idle_text g c = λ over.
 
 pub returns-in-Err-do_instrs-clause-idle_text : goal.returns-in-Err-do_instrs-clause-idle_text
 returns-in-Err-do_instrs-clause-idle_text g c = λ over.
-    let first = c.in_default.ensures.idle_text over in Puts-second _ _ _ _ _ _ [] _ _ first.whole first.cause.later c.in-Err-do_instrs.ensures.text
+    let first = c.in_default.ensures.idle_text over in Puts-second _ _ _ _ _ _ [] _ _ first.whole first.cause.kept c.in-Err-do_instrs.ensures.text
 
 pub returns-clause-idle_text : goal.returns-clause-idle_text
 returns-clause-idle_text g c = λ over.
-    let first = c.in_default.ensures.idle_text over in Puts-second _ _ _ _ _ _ [] _ _ first.whole first.cause.later c.in_default-do_instrs.ensures.text
+    let first = c.in_default.ensures.idle_text over in Puts-second _ _ _ _ _ _ [] _ _ first.whole first.cause.kept c.in_default-do_instrs.ensures.text
 
 pub returns-clause-idle : goal.returns-clause-idle
 returns-clause-idle g c = λ over.

@@ -53,7 +53,7 @@ returns-in-Err-clause-idle_text g c = λ over.
     absurd (never c.args.desk.now c.loop-left.desk (c.loop-left.invariant.idle over).0 over (is_running c.loop-left.desk c.args.code.now.instrs c.args.at c.in-Some.left (sym c.run_to.ensures.left ∙ c.in-Some.is)))
 
 pub returns-clause-idle_text : goal.returns-clause-idle_text
-returns-clause-idle_text g c = λ over. nothing_written _ _ _ _ _ (c.loop-left.invariant.idle over).3 c.loop-left.invariant.printing.later
+returns-clause-idle_text g c = λ over. nothing_written _ _ _ _ _ (c.loop-left.invariant.idle over).3 c.loop-left.invariant.printing.kept
 
 pub returns-clause-idle : goal.returns-clause-idle
 returns-clause-idle g c = λ over.

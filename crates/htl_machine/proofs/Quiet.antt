@@ -1,0 +1,388 @@
+-- Over instants at which nothing is due a machine goes on as it stands.
+use Rattle.std.proofs.Common.{◌≡◌, ℕ, zero, suc, ◌+◌, ◌-◌, ◌*◌, ◌/◌, ◌%◌, ◌<◌, ◌≤◌, Bool, true, false, cond, ◌&&◌, ◌||◌, not, eqb, List, [], ◌∷◌, ◌++◌, length, get_or, slice_get, map, take, Option, Some, None, IfSome, ℤ, pos, negsuc, refl, sym, ap, ap₂, ◌∙◌, subst, arith, ◌⊎◌, inl, inr}
+use Rattle.std.proofs.lemmas.Bool.Decides.{nat_tests}
+use Rattle.std.specs.Io.KnownBytes.{append_known}
+use Rattle.std.proofs.lemmas.List.{append-nil}
+use Rattle.std.proofs.lemmas.Option.{slice_get_within}
+use Rattle.htl_model.specs.declared.event.Event.{Event}
+use Rattle.htl_model.specs.declared.line.Line.{Line}
+use Rattle.htl_model.specs.declared.line.Line.TheVariants.{ValueLine, ModeLine}
+use Rattle.htl_model.specs.declared.parts.Comm.{Comm}
+use Rattle.htl_model.specs.declared.state.State.{State}
+use Rattle.htl_model.specs.declared.state.Stay.{Stay}
+use Rattle.htl_model.specs.Functions.{same}
+use Rattle.htl_model.specs.Lines.{lines_text}
+use Rattle.htl_model.specs.Lists.{joined, up_to}
+use Rattle.htl_model.specs.Meaning.{state, before, stay_of, value_in, mode_in, value_line, mode_line, value_lines, same_mode}
+use Rattle.htl_model.specs.Ranges.{AreInRange, IsModeThat, parent_of}
+use Rattle.htl_model.specs.Selections.{root_period}
+use Rattle.htl_model.specs.Tables.{Tables, mode_period}
+use Rattle.htl_walk.specs.declared.schedule.SInstr.{SInstr}
+use Rattle.htl_smach.specs.declared.left.Left.{Left}
+use Rattle.htl_smach.specs.Rounds as rounds
+use Rattle.htl_smach.specs.Rounds.{next_left}
+use Rattle.htl_ecode.specs.declared.ecode.ECode.{ECode}
+use Rattle.htl_ecode.specs.Paths.{Done, e_path}
+use Rattle.htl_ecode.proofs.Spelled.{ModeReads}
+use Rattle.htl_ecode.proofs.SpellingLaws.{spelled_departs_not}
+use Rattle.htl_emach.specs.declared.trigger.Block.{Block}
+use Rattle.htl_emach.specs.Calendars.{list_at}
+use Rattle.htl_emach.specs.Contents.{Content}
+use Rattle.htl_emach.specs.Due.{IsDueAt, IsNext, IsNextOf}
+use Rattle.htl_emach.specs.Following.{phase_path}
+use Rattle.htl_emach.proofs.Instants.{roots_run}
+use Rattle.htl_emach.proofs.Soundness.{sound}
+use Rattle.htl_emach.proofs.States.{module_at, parent_at, new_stays}
+use Rattle.htl_emach.proofs.Switching.{Sound}
+use Rattle.htl_object.specs.declared.object.Object.{Object}
+use Rattle.htl_object.specs.Accepted.{IsAccepted}
+use Rattle.htl_refine.specs.Records.{records}
+use Rattle.htl_console.specs.declared.shown.Shown.{Shown}
+use Rattle.htl_console.specs.Shows.{shows_code, shows_values}
+use Rattle.htl_machine.specs.declared.tally.Tally.{Tally}
+use Rattle.htl_machine.specs.Calls.{Seen, IsUpTo, number_by, schedule_by, text_between}
+use Rattle.htl_machine.specs.Doing.{path_lines}
+use Rattle.htl_machine.specs.Follows.{IsLoaded, period_or}
+use Rattle.htl_machine.specs.Instant.{IsReadyAt}
+use Rattle.htl_machine.specs.Leaving.{due_by}
+use Rattle.htl_machine.specs.Opening.{IsOpened, closing_text}
+use Rattle.htl_machine.specs.Plans.{AreRegular, round_start}
+use Rattle.htl_machine.specs.Passing.{IsPassing}
+use Rattle.htl_machine.specs.Programs.{lines_of, schedules_of}
+use Rattle.htl_machine.specs.Recording.{Records}
+use Rattle.htl_machine.specs.Running.{replay}
+use Rattle.htl_machine.specs.Readiness.{desk_replay}
+use Rattle.htl_machine.specs.Sensors.{AreShown, ShowsNothing}
+use Rattle.htl_machine.specs.Texts.{e_line, record_text, records_of, round_texts, some_records}
+use Rattle.htl_machine.specs.Timing.{begins}
+use Rattle.htl_machine.specs.Values.{values_before}
+use Rattle.htl_machine.proofs.Accepted.{accepted_is_loaded}
+use Rattle.htl_machine.proofs.After.{beginning, begins_some, closed_values, desk_goes_on, lines_are_composed, next_up_to, passed_of, records_go_on, selection_goes_on, text_goes_on}
+use Rattle.htl_machine.proofs.Agreeing.{modes_open}
+use Rattle.htl_machine.proofs.Composing.{counts_after}
+use Rattle.htl_machine.proofs.Passing.{up_to_more}
+use Rattle.htl_machine.proofs.Periods.{goes_on}
+use Rattle.htl_machine.proofs.Plain.{apart, down}
+use Rattle.htl_machine.proofs.Ready.{ready}
+use Rattle.htl_machine.proofs.Recording.{recording_start, recording_end}
+use Rattle.htl_machine.proofs.Telling.{up_to_none}
+use Rattle.htl_machine.proofs.TellingLoaded.{loaded_rounds}
+use Rattle.htl_machine.proofs.TellingText.{records_are}
+use Rattle.htl_machine.proofs.Wholly.{modes_read}
+use Rattle.htl_machine.specs.Quiet.{IsQuiet, AreQuiet, IsEmpty, PassOver}
+use Rattle.htl_machine.proofs.Idle.{IsIdle, idle, round_ends}
+
+-- ---- where nothing changes there are no lines
+
+same_self : (x : ℤ) → same x x ≡ true
+same_self (pos a) = eqb_self a
+  where
+    eqb_self : (n : ℕ) → eqb n n ≡ true
+    eqb_self n = grind (arith, nat_tests)
+same_self (negsuc a) = eqb_self a
+  where
+    eqb_self : (n : ℕ) → eqb n n ≡ true
+    eqb_self n = grind (arith, nat_tests)
+
+same_mode_self : (o : Option ℕ) → same_mode o o ≡ true
+same_mode_self None = refl
+same_mode_self (Some n) = eqb_self n
+  where
+    eqb_self : (n : ℕ) → eqb n n ≡ true
+    eqb_self n = grind (arith, nat_tests)
+
+no_lines : (t : Tables) (es : List Event) (n : ℕ) → (state t es (suc n)).values ≡ (state t es n).values → ((k : ℕ) → k < length t.modules → mode_in (state t es (suc n)) k ≡ mode_in (state t es n) k)
+    → value_lines t es (suc n) ≡ []
+no_lines t es n values modes =
+    ap₂ (λ (a b : List Line). a ++ b) (up_to_none (value_line (suc n) (state t es n) (state t es (suc n))) (length t.comms) (λ c less. value c))
+    (up_to_none (mode_line (suc n) (state t es n) (state t es (suc n))) (length t.modules) (λ k less. mode k less))
+  where
+    not_first : (k : ℕ) → eqb (suc k) 0 ≡ false
+    not_first k = grind (arith, nat_tests)
+
+    value : (c : ℕ) → value_line (suc n) (state t es n) (state t es (suc n)) c ≡ []
+    value c =
+        let is : same (value_in (state t es n) c) (value_in (state t es (suc n)) c) ≡ true =
+        ap (λ (vs : List ℤ). same (value_in (state t es n) c) (get_or vs c (pos 0))) values ∙ same_self (value_in (state t es n) c) in
+        let line : Line = ValueLine (suc n) c (value_in (state t es (suc n)) c) in
+        ap (λ (b : Bool). cond (eqb (suc n) 0 || not b) (line ∷ []) []) is ∙ ap (λ (b : Bool). cond (b || false) (line ∷ []) []) (not_first n)
+
+    mode : (k : ℕ) → k < length t.modules → mode_line (suc n) (state t es n) (state t es (suc n)) k ≡ []
+    mode k less =
+        let is : same_mode (mode_in (state t es n) k) (mode_in (state t es (suc n)) k) ≡ true =
+        ap (λ (o : Option ℕ). same_mode (mode_in (state t es n) k) o) (modes k less) ∙ same_mode_self (mode_in (state t es n) k) in
+        let line : Line = ModeLine (suc n) k (mode_in (state t es (suc n)) k) in
+        ap (λ (b : Bool). cond b [] (line ∷ [])) is
+
+no_path_lines : (t : Tables) (code : ECode) (show : Shown) (at : ℕ) (ds : List Done) → ds ≡ [] → path_lines t code show at ds ≡ []
+no_path_lines t code show at ds none = ap (path_lines t code show at) none ∙ by (shows_code show)
+  where
+    by : (b : Bool) → cond b (joined (e_line t code at) []) [] ≡ []
+    by true = refl
+    by false = refl
+
+no_change_lines : (t : Tables) (b : Bool) (ls : List Line) → ls ≡ [] → cond b (lines_text t ls) [] ≡ []
+no_change_lines t true ls none = ap (lines_text t) none
+no_change_lines t false ls none = refl
+
+no_items : {A B : Type 0} (f : A → B) (xs : List A) → map f xs ≡ [] → xs ≡ []
+no_items f [] e = refl
+no_items f (x ∷ xs) e = absurd (let z : ⊥ = cc in z)
+
+-- ---- sensors
+
+sensors_stay : (t : Tables) (shows : List ℤ) (at : ℕ) (w : Content) → length w.values ≡ length t.comms
+    → ((c : ℕ) (x : Comm) → slice_get t.comms c ≡ Some x → x.sensor ≡ true → eqb (at % x.period) 0 ≡ true → get_or shows c (pos 0) ≡ get_or w.values c (pos 0)) → AreShown t shows w.values at w w
+sensors_stay t shows at w long same =
+    record { only = refl; long = long; below = λ c x less is. by c x is x.sensor refl (eqb (at % x.period) 0) refl; above = λ c past. refl }
+  where
+    by : (c : ℕ) (x : Comm) → slice_get t.comms c ≡ Some x → (b : Bool) → x.sensor ≡ b → (d : Bool) → eqb (at % x.period) 0 ≡ d
+        → get_or w.values c (pos 0) ≡ cond x.sensor (cond (eqb (at % x.period) 0) (get_or shows c (pos 0)) (get_or w.values c (pos 0))) (get_or w.values c (pos 0))
+    by c x is false e d f = sym (ap (λ (b : Bool). cond b (cond (eqb (at % x.period) 0) (get_or shows c (pos 0)) (get_or w.values c (pos 0))) (get_or w.values c (pos 0))) e)
+    by c x is true e true f =
+        sym (ap (λ (b : Bool). cond b (cond (eqb (at % x.period) 0) (get_or shows c (pos 0)) (get_or w.values c (pos 0))) (get_or w.values c (pos 0))) e
+        ∙ ap (λ (b : Bool). cond b (get_or shows c (pos 0)) (get_or w.values c (pos 0))) f ∙ same c x is e f)
+    by c x is true e false f =
+        sym (ap (λ (b : Bool). cond b (cond (eqb (at % x.period) 0) (get_or shows c (pos 0)) (get_or w.values c (pos 0))) (get_or w.values c (pos 0))) e
+        ∙ ap (λ (b : Bool). cond b (get_or shows c (pos 0)) (get_or w.values c (pos 0))) f)
+
+-- ---- no round begins where no trigger is due
+
+-- the first module is a root module
+first_root : (t : Tables) → AreInRange t → 0 < length t.modules → parent_of t 0 ≡ None
+first_root t r inside =
+    let x = module_at t 0 inside in
+    parent_at t 0 x.0 x.1 ∙ by_parent x.0.parent (r.modules 0 x.0 x.1).parent
+  where
+    by_parent : (o : Option ℕ) → IfSome o (IsModeThat t (λ owner. owner < 0)) → o ≡ None
+    by_parent None h = refl
+    by_parent (Some m) h = let less = h.2 in absurd (omega (arith, less))
+
+module _ (m : Seen) (es : List Event) (n : ℕ) (accepted : IsAccepted m.object) (read : m.held.reading ≤ suc n) (u : IsUpTo m es (suc n)) (q : IsQuiet m (suc n)) where
+  abbrev t : Tables
+  t = m.object.tables
+
+  abbrev code : ECode
+  code = m.object.ecode
+
+  abbrev schedules : List (List SInstr)
+  schedules = schedules_of m.object
+
+  abbrev steps : List SInstr
+  steps = schedule_by m.object [] m.selection
+
+  loaded : IsLoaded m.object.tables (schedules_of m.object)
+  loaded = accepted_is_loaded m.object accepted
+
+  reads : (k : ℕ) → k < length m.object.tables.modes → ModeReads m.object.tables m.object.ecode k
+  reads = modes_read t code schedules loaded accepted.spelled.code m.show
+
+  is_sound : Sound m.object.tables m.object.ecode
+  is_sound = sound t code 12 (omega arith) loaded.range loaded.kept (spelled_departs_not t code accepted.spelled.code)
+
+  still : IsIdle m.object.tables m.object.ecode es (suc n) m.standing
+  still = idle t code es (suc n) m.standing is_sound u.before.values.triggers q.triggers
+
+  never : begins m.object.tables (suc n) ≡ true → ⊥
+  never b =
+      let h = beginning t code schedules loaded reads es u.kept.within (suc n) b in
+      let p = h.0 in
+      let regular : AreRegular t es p = subst (AreRegular t es) (ap period_or h.1) (loaded.rounds es u.kept.within).regular in
+      let inside = begins_some m es (suc n) accepted read u b in
+      let ends : suc n ≡ round_start p n + p = elim (apart (suc n) (p * (n / p) + p)) [
+        | inl e ↦ e
+        | inr d ↦ absurd (omega (arith, h.2, goes_on p n regular.some d, down p n))
+      ] in
+      by p regular inside ends (stay_of (state t es n).stays 0) refl
+    where
+      by : (p : ℕ) → AreRegular t es p → 0 < length t.modules → suc n ≡ round_start p n + p → (o : Option Stay) → stay_of (state t es n).stays 0 ≡ o → ⊥
+      by p regular inside ends None e = roots_run t es n loaded.range 0 inside (first_root t loaded.range inside) e
+      by p regular inside ends (Some y) e =
+          let s = new_stays t es n 0 y loaded.range inside e in
+          let due = q.triggers (y.start + mode_period t y.mode) (round_ends t code es (suc n) m.standing u.before.values.triggers 0 y inside e) in
+          omega (arith, due, regular.starts n 0 y e, regular.modes y.mode s.mode, ends)
+
+  none_begins : begins m.object.tables (suc n) ≡ false
+  none_begins = by (begins t (suc n)) refl
+    where
+      by : (b : Bool) → begins t (suc n) ≡ b → begins t (suc n) ≡ false
+      by false e = e
+      by true e = absurd (never e)
+
+  is_ready : IsReadyAt m es (suc n) (schedule_by m.object [] m.selection)
+  is_ready = ready m es (suc n) [] accepted u read refl
+
+  recorded : Records m.object.tables m.held.desk m.held.world m.held.desk m.held.world (schedule_by m.object [] m.selection) (suc n)
+  recorded =
+      recording_end t m.held.desk m.held.desk m.held.desk m.held.world m.held.world m.held.desk.jobs steps (suc n)
+      (recording_start t m.held.desk m.held.world m.held.desk.jobs steps (suc n) is_ready.form is_ready.stands is_ready.told refl u.before.values.shaped) q.leaves refl
+
+  -- no record is due
+  none_due : due_by is_ready.plan is_ready.start (suc n) - is_ready.place ≡ 0
+  none_due =
+      let all = (recorded is_ready.plan is_ready.start is_ready.place is_ready.offset is_ready.same is_ready.past is_ready.few is_ready.was).0 in
+      let one : is_ready.place ≡ due_by is_ready.plan is_ready.start (suc n) = sym is_ready.was.place ∙ all.place in
+      omega (arith, one)
+
+  opened : IsOpened m.object.tables m.object.ecode es (suc n) (schedule_by m.object [] m.selection) m.held.shows m.held.world.values m.held.desk m.held.world m.held.desk m.held.world
+  opened =
+      record {
+        w1 = m.held.world;
+        w2 = m.held.world;
+        records = recorded;
+        writes = sym (ap (λ (ds : List Done). replay t code ds m.held.world) still.writes);
+        sensors = sensors_stay t m.held.shows (suc n) m.held.world u.before.values.shaped.values.count q.sensors;
+      }
+
+  world_same : m.held.world
+      ≡ replay m.object.tables m.object.ecode (phase_path m.object.tables m.object.ecode es (suc n) 3) (replay m.object.tables m.object.ecode (phase_path m.object.tables m.object.ecode es (suc n) 2) m.held.world)
+  world_same =
+      sym (ap (λ (ds : List Done). replay t code ds (replay t code (phase_path t code es (suc n) 2) m.held.world)) still.reads ∙ ap (λ (ds : List Done). replay t code ds m.held.world) still.switches)
+
+  desk_same : m.held.desk ≡ desk_replay m.object.ecode (phase_path m.object.tables m.object.ecode es (suc n) 3) m.held.desk
+  desk_same = sym (ap (λ (ds : List Done). desk_replay code ds m.held.desk) still.reads)
+
+  abbrev tally : Tally
+  tally = record { jobs = m.jobs; e = m.e; s = m.s }
+
+  none_left : records_of m.object.tables (schedules_of m.object) es (root_period m.object.tables) (suc n) ≡ []
+  none_left =
+      records_go_on m es (suc n) accepted read u steps [] refl refl is_ready none_begins
+      ∙ ap (λ k. some_records is_ready.plan is_ready.start is_ready.place k ++ []) none_due
+
+  pub goes_on_so : IsUpTo m es (suc (suc n))
+  goes_on_so =
+      next_up_to m es (suc n) accepted read u m.held.world m.held.desk m.standing m.selection [] [] tally tally
+      (passed_of m es (suc n) accepted read u steps is_ready m.held.world.values u.before.values.values.values m.held.desk m.held.world opened m.held.world m.standing world_same still.ends u.before.values.safe u.before.values.shaped)
+      (desk_goes_on m es (suc n) accepted read u steps [] refl refl is_ready m.held.desk m.held.desk m.held.world none_begins recorded desk_same is_ready.stands)
+      (selection_goes_on m es (suc n) accepted read u none_begins)
+      none_left
+      refl
+      count_same
+    where
+      count_same : tally
+          ≡ counts_after [] [] (length (phase_path m.object.tables m.object.ecode es (suc n) 1)) (length (phase_path m.object.tables m.object.ecode es (suc n) 2)) (length (phase_path m.object.tables m.object.ecode es (suc n) 3)) tally
+      count_same =
+          sym
+          (ap (λ (ds : List Done). counts_after [] [] (length ds) (length (phase_path t code es (suc n) 2)) (length (phase_path t code es (suc n) 3)) tally) still.writes
+          ∙ ap (λ (ds : List Done). counts_after [] [] 0 (length ds) (length (phase_path t code es (suc n) 3)) tally) still.switches
+          ∙ ap (λ (ds : List Done). counts_after [] [] 0 0 (length ds) tally) still.reads)
+
+  values_same : (state m.object.tables es (suc n)).values ≡ (state m.object.tables es n).values
+  values_same =
+      sym (closed_values m es (suc n) accepted read u steps is_ready m.held.world.values u.before.values.values.values m.held.desk m.held.world opened)
+      ∙ ap (λ (w : Content). w.values) (sym world_same) ∙ u.before.values.values.values
+
+  modes_same : (k : ℕ) → k < length m.object.tables.modules → mode_in (state m.object.tables es (suc n)) k ≡ mode_in (state m.object.tables es n) k
+  modes_same k less =
+      sym (modes_open t code es (suc (suc n)) m.standing.calendar still.later.calendar k less) ∙ modes_open t code es (suc n) m.standing.calendar u.before.values.triggers.calendar k less
+
+  none_written : value_lines m.object.tables es (suc n) ≡ []
+  none_written = no_lines t es n values_same modes_same
+
+  pub no_text : lines_of m.object es m.show (suc n) ≡ []
+  no_text =
+      sym (lines_are_composed m es (suc n) accepted read u steps is_ready [] (text_goes_on m es (suc n) accepted read u none_begins))
+      ∙ ap (λ k. (joined (record_text t m.show is_ready.plan (number_by m.selection)) (some_records is_ready.plan is_ready.start is_ready.place k) ++ path_lines t code m.show (suc n) (phase_path t code es (suc n) 1)) ++ (closing_text t code es m.show (suc n) ++ [])) none_due
+      ∙ ap (λ (ls : List ℕ). ls ++ (closing_text t code es m.show (suc n) ++ [])) (no_path_lines t code m.show (suc n) (phase_path t code es (suc n) 1) still.writes)
+      ∙ append-nil (closing_text t code es m.show (suc n))
+      ∙ ap (λ (ls : List ℕ). ls ++ (path_lines t code m.show (suc n) (phase_path t code es (suc n) 3) ++ cond (shows_values m.show) (lines_text t (value_lines t es (suc n))) [])) (no_path_lines t code m.show (suc n) (phase_path t code es (suc n) 2) still.switches)
+      ∙ ap (λ (ls : List ℕ). ls ++ cond (shows_values m.show) (lines_text t (value_lines t es (suc n))) []) (no_path_lines t code m.show (suc n) (phase_path t code es (suc n) 3) still.reads)
+      ∙ no_change_lines t (shows_values m.show) (value_lines t es (suc n)) none_written
+
+  pub no_records : records m.object.tables (schedules_of m.object) es (suc n) ≡ []
+  no_records = no_items _ (records t schedules es (suc n)) (records_are t schedules es (loaded_rounds t schedules es loaded u.kept.within) (suc n) ∙ none_left)
+
+  pub no_path : e_path m.object.tables m.object.ecode es (suc n) ≡ []
+  no_path = still.path
+
+-- ---- one instant, and any number
+
+step : (m : Seen) (es : List Event) (now : ℕ) → IsAccepted m.object → m.held.reading ≤ now → IsUpTo m es now → IsQuiet m now → IsUpTo m es (suc now)
+step m es zero accepted read u q = absurd (omega (arith, q.later))
+step m es (suc n) accepted read u q = goes_on_so m es n accepted read u q
+
+-- whatever is shown
+shown_up_to : (m : Seen) (es : List Event) (now : ℕ) (show : Shown) → IsUpTo m es now → IsUpTo (record m { show = show }) es now
+shown_up_to m es now show u = record { kept = u.kept; before = record { values = u.before.values; records = u.before.records } }
+
+shown_quiet : (m : Seen) (now : ℕ) (show : Shown) → IsQuiet m now → IsQuiet (record m { show = show }) now
+shown_quiet m now show q = record { later = q.later; triggers = q.triggers; leaves = q.leaves; sensors = q.sensors }
+
+nothing : (m : Seen) (es : List Event) (now : ℕ) → IsAccepted m.object → m.held.reading ≤ now → IsUpTo m es now → IsQuiet m now → IsEmpty m.object es now
+nothing m es zero accepted read u q = absurd (omega (arith, q.later))
+nothing m es (suc n) accepted read u q =
+    record {
+      path = no_path m es n accepted read u q;
+      records = no_records m es n accepted read u q;
+      lines = λ show. no_text (record m { show = show }) es n accepted read (shown_up_to m es (suc n) show u) (shown_quiet m (suc n) show q);
+    }
+
+pub pass_over : (m : Seen) (es : List Event) (from to : ℕ) → IsAccepted m.object → IsUpTo m es from → m.held.reading ≤ from → from ≤ to → AreQuiet m from to → PassOver m es from to
+pass_over m es from to accepted u read order q =
+    record {
+      follows = subst (IsUpTo m es) (let z : from + (to - from) ≡ to = omega (arith, order) in z) (follow (to - from) (omega (arith, order)));
+      empty = empty;
+      text = λ show. up_to_none (λ k. lines_of m.object es show (from + k)) (to - from) (λ k less. (empty (from + k) (omega arith) (omega (arith, less))).lines show);
+    }
+  where
+    follow : (d : ℕ) → from + d ≤ to → IsUpTo m es (from + d)
+    follow zero within = subst (IsUpTo m es) (let z : from ≡ from + 0 = omega arith in z) u
+    follow (suc d) within =
+        subst (IsUpTo m es) (let z : suc (from + d) ≡ from + suc d = omega arith in z)
+        (step m es (from + d) accepted (omega (arith, read)) (follow d (omega (arith, within))) (q (from + d) (omega arith) (omega (arith, within))))
+
+    empty : (at : ℕ) → from ≤ at → at < to → IsEmpty m.object es at
+    empty at past less =
+        nothing m es at accepted (omega (arith, read, past))
+        (subst (IsUpTo m es) (let z : from + (at - from) ≡ at = omega (arith, past) in z) (follow (at - from) (omega (arith, past, less)))) (q at past less)
+
+-- ---- what the code knows
+
+-- from an instant on nothing is due up to the first trigger, the first instruction that is left and the first sensor that is shown another value
+pub quiet_from : (m : Seen) (from shown triggered due : ℕ) (e s : Option ℕ) → 0 < from → m.standing.running ≡ None → IsNext m.standing e → rounds.IsNext m.held.desk (schedule_by m.object [] m.selection) s
+    → ShowsNothing m.object.tables m.held.shows m.held.world.values (length m.object.tables.comms) from shown
+    → triggered ≤ shown → IfSome e (λ n. (at : ℕ) → from ≤ at → at < triggered → at < n) → due ≤ triggered → IfSome s (λ n. (at : ℕ) → from ≤ at → at < due → at < n) → AreQuiet m from due
+quiet_from m from shown triggered due e s some idle next leaves same sooner before_e soonest before_s = λ at past less.
+    record {
+      later = omega (arith, some, past);
+      triggers = triggers e m.standing.running idle next before_e at past (omega (arith, less, soonest));
+      leaves = leaves_none s leaves before_s at past less;
+      sensors = λ c x is sensor divides. same at past (omega (arith, less, soonest, sooner)) c x (slice_get_within m.object.tables.comms c x is) is sensor divides;
+    }
+  where
+    triggers : (e : Option ℕ) (r : Option Block) → r ≡ None → IsNextOf m.standing.calendar r e → IfSome e (λ n. (at : ℕ) → from ≤ at → at < triggered → at < n) → (at : ℕ) → from ≤ at → at < triggered
+        → (other : ℕ) → IsDueAt m.standing.calendar other → at < other
+    triggers e (Some b) is h before at past less other due = absurd (let z : ⊥ = cc in z)
+    triggers None None is h before at past less other due = absurd (h other due)
+    triggers (Some n) None is h before at past less other due = omega (arith, before at past less, h.1 other due)
+
+    leaves_none : (s : Option ℕ) → rounds.IsNext m.held.desk (schedule_by m.object [] m.selection) s → IfSome s (λ n. (at : ℕ) → from ≤ at → at < due → at < n) → (at : ℕ) → from ≤ at → at < due
+        → next_left m.held.desk (schedule_by m.object [] m.selection) at ≡ None
+    leaves_none None h before at past less = h at
+    leaves_none (Some n) h before at past less = h.1 at (before at past less)
+
+-- what was written up to an instant is what is written up to a later one, where nothing is due between
+pub passing_quiet : (m0 m : Seen) (es : List Event) (from at to : ℕ) (w0 w : Option (List ℕ)) (f0 f : ℕ) → IsAccepted m.object → m.held.reading ≤ at → from ≤ at → at ≤ to → AreQuiet m at to
+    → IsPassing m0 m es from at w0 w f0 f → IsPassing m0 m es from to w0 w f0 f
+passing_quiet m0 m es from at to w0 w f0 f accepted read begun order q p =
+    let over = pass_over m es at to accepted p.before read order q in
+    record {
+      before = over.follows;
+      same = p.same;
+      read = p.read;
+      text = p.text ∙ ap (append_known w0) (sym (both over));
+      kept = p.kept;
+    }
+  where
+    none : PassOver m es at to → (k : ℕ) → k < to - at → lines_of m0.object es m0.show (from + (at - from + k)) ≡ []
+    none over k less =
+        ap (lines_of m0.object es m0.show) (let z : from + (at - from + k) ≡ at + k = omega (arith, begun) in z)
+        ∙ sym (ap (λ (o : Object). lines_of o es m0.show (at + k)) p.same.object) ∙ (over.empty (at + k) (omega arith) (omega (arith, less))).lines m0.show
+
+    both : PassOver m es at to → text_between m0.object es m0.show from to ≡ text_between m0.object es m0.show from at
+    both over =
+        ap (up_to (λ n. lines_of m0.object es m0.show (from + n))) (let z : to - from ≡ (at - from) + (to - at) = omega (arith, begun, order) in z)
+        ∙ up_to_more (λ n. lines_of m0.object es m0.show (from + n)) (at - from) (to - at)
+        ∙ ap (λ (ls : List ℕ). up_to (λ n. lines_of m0.object es m0.show (from + n)) (at - from) ++ ls) (up_to_none (λ k. lines_of m0.object es m0.show (from + (at - from + k))) (to - at) (none over))
+        ∙ append-nil (up_to (λ n. lines_of m0.object es m0.show (from + n)) (at - from))
