@@ -55,7 +55,7 @@ module _ (o : Object) (show : Shown) (events : List Event) where
   pub run_failed : {T S : Type 0} (w w1 : Option (List ℕ)) (f f1 : ℕ) (x y : Failed) → Puts {T = S} {E = Failed} w w1 f f1 (text_before_fault o show events) (Err x)
       → (end : ℕ) → EndsAt events end → Puts {T = T} {E = Failed} w w1 f f1 (text_of o events show end) (Err y)
   run_failed {T = T} {S = S} w w1 f f1 x y puts end ends =
-      Puts-failed {T = T} w w w1 f f f1 [] (before_of o events show (suc end)) (totals_of o events end) x y (append_known-start w) (omega arith)
+      Puts-failed {T = T} w w w1 f f f1 [] (before_of o events show (suc end)) (totals_of o events end) x y (append_known-start w) refl
       (subst (λ (bs : List ℕ). Puts {T = S} {E = Failed} w w1 f f1 bs (Err x)) (told_whole o show events end ends) puts)
 
   pub run_put : {S T : Type 0} (m : Seen) (n : Totals) (w w1 w2 : Option (List ℕ)) (f f1 f2 : ℕ) (x : S) (r : Result T Failed) → m.object ≡ o → AreTotals m n
@@ -66,7 +66,7 @@ module _ (o : Object) (show : Shown) (events : List Event) where
       let line : totals_line n.at n.jobs n.e n.s ≡ totals_of o events end =
       totals_are m events end n ends (done ends.last.0 end ends.last.1) are ∙ ap (λ (p : Object). totals_of p events end) same in
       Puts-second w w1 w2 f f1 f2 (before_of o events show (suc end)) (totals_of o events end) r
-      (first.whole ∙ ap (append_known w) (told_whole o show events end ends)) first.cause.later (subst (λ (bs : List ℕ). Puts w1 w2 f1 f2 bs r) line second)
+      (first.whole ∙ ap (append_known w) (told_whole o show events end ends)) first.cause.kept (subst (λ (bs : List ℕ). Puts w1 w2 f1 f2 bs r) line second)
 
 -- ---- what is answered
 

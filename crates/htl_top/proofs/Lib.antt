@@ -1,5 +1,6 @@
 pub mod Calling
 pub mod Compiling
+pub mod Counts
 pub mod EarlierReadings
 pub mod Executing
 pub mod Going
@@ -20,6 +21,7 @@ pub mod SelectionEntries
 pub mod SelectionFields
 pub mod SelectionLines
 pub mod SelectionReading
+pub mod SourceNames
 pub mod Stopping
 pub mod Telling
 pub mod Totals

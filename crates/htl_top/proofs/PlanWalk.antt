@@ -55,7 +55,7 @@ module _ (t : Tables) (jobs : List Job) (instrs : List SInstr) where
     pub front : List ℕ
     pub text : walk_text t jobs (walk jobs (worst_cases jobs) instrs) ≡ front ++ walk_text t jobs (walk_from jobs (drop k instrs) x)
     pub written : now ≡ append_known old front
-    pub later : before ≤ between
+    pub kept : between ≡ before
     pub count : finishes (walk jobs (worst_cases jobs) instrs) ≡ done + finishes (walk_from jobs (drop k instrs) x)
     pub few : done ≤ k
 
@@ -63,7 +63,7 @@ module _ (t : Tables) (jobs : List Job) (instrs : List SInstr) where
       → IsPlanning 0 (record { time = 0; left = left }) 0 old old before before
   IsPlanning-start left old before is =
       subst (λ (ns : List ℕ). IsPlanning 0 (record { time = 0; left = ns }) 0 old old before before) (sym is)
-      (record { front = []; text = refl; written = append_known-start old; later = omega arith; count = no_more (finishes (walk jobs (worst_cases jobs) instrs)); few = omega arith })
+      (record { front = []; text = refl; written = append_known-start old; kept = refl; count = no_more (finishes (walk jobs (worst_cases jobs) instrs)); few = omega arith })
 
   -- the instruction at k
   here : (k : ℕ) (i : SInstr) (x : Point) → slice_get instrs k ≡ Some i → walk_from jobs (drop k instrs) x ≡ left_by jobs i x (next_point jobs i x) ∷ walk_from jobs (drop (suc k) instrs) (next_point jobs i x)
@@ -94,7 +94,7 @@ module _ (t : Tables) (jobs : List Job) (instrs : List SInstr) where
         front = p.front ++ left_text t jobs l;
         text = text_here k i x done old mid before between is p ∙ sym (append_assoc p.front (left_text t jobs l) (walk_text t jobs rest));
         written = append_known-more old mid new p.front (left_text t jobs l) p.written puts.whole;
-        later = omega (arith, p.later, puts.cause.later);
+        kept = puts.cause.kept ∙ p.kept;
         count = omega (arith, counted, one);
         few = omega (arith, p.few, small);
       })
@@ -109,7 +109,7 @@ module _ (t : Tables) (jobs : List Job) (instrs : List SInstr) where
   IsPlanning-cut {T = T} {F = F} k i x done old mid new before between now e d is p puts =
       subst (λ (bs : List ℕ). Puts {T = T} {E = F} old new before now bs (Err d)) (sym (text_here k i x done old mid before between is p))
       (Puts-failed old mid new before between now p.front (left_text t jobs (left_by jobs i x (next_point jobs i x)))
-      (walk_text t jobs (walk_from jobs (drop (suc k) instrs) (next_point jobs i x))) e d p.written p.later puts)
+      (walk_text t jobs (walk_from jobs (drop (suc k) instrs) (next_point jobs i x))) e d p.written p.kept puts)
 
   nothing_left : (k : ℕ) (x : Point) → k ≡ length instrs → walk_from jobs (drop k instrs) x ≡ []
   nothing_left k x e = ap (λ (is : List SInstr). walk_from jobs is x) (drop_all k instrs (omega (arith, e)))
@@ -118,7 +118,7 @@ module _ (t : Tables) (jobs : List Job) (instrs : List SInstr) where
       → Puts {T = T} {E = E} old now before between (walk_text t jobs (walk jobs (worst_cases jobs) instrs)) (Ok u)
   IsPlanning-all k x done old now before between u e p =
       let text = p.text ∙ ap (λ (ls : List Left). p.front ++ walk_text t jobs ls) (nothing_left k x e) ∙ append-nil p.front in
-      record { whole = p.written ∙ ap (append_known old) (sym text); part = tt; cause = record { later = p.later; refused = tt } }
+      record { whole = p.written ∙ ap (append_known old) (sym text); part = tt; cause = record { later = omega (arith, p.kept); kept = p.kept; refused = tt } }
 
   pub IsPlanning-count : (k : ℕ) (x : Point) (done : ℕ) (old now : Option (List ℕ)) (before between : ℕ) → k ≡ length instrs → IsPlanning k x done old now before between
       → done ≡ finishes (walk jobs (worst_cases jobs) instrs)
@@ -131,12 +131,12 @@ module _ (t : Tables) (jobs : List Job) (instrs : List SInstr) where
 pub Puts-same : {T S E : Type 0} (old new : Option (List ℕ)) (before now : ℕ) (text other : List ℕ) (u : S) (v : T) → text ≡ other
     → Puts {T = S} {E = E} old new before now text (Ok u) → Puts {T = T} {E = E} old new before now other (Ok v)
 Puts-same old new before now text other u v same puts =
-    record { whole = puts.whole ∙ ap (append_known old) same; part = tt; cause = record { later = puts.cause.later; refused = tt } }
+    record { whole = puts.whole ∙ ap (append_known old) same; part = tt; cause = record { later = puts.cause.later; kept = puts.cause.kept; refused = tt } }
 
 pub Puts-same_cut : {T S E : Type 0} (old new : Option (List ℕ)) (before now : ℕ) (text other : List ℕ) (e d : E) → text ≡ other
     → Puts {T = S} {E = E} old new before now text (Err e) → Puts {T = T} {E = E} old new before now other (Err d)
 Puts-same_cut old new before now text other e d same puts =
-    record { whole = tt; part = subst (λ (bs : List ℕ). AppendsPrefix old new bs) same puts.part; cause = record { later = puts.cause.later; refused = puts.cause.refused } }
+    record { whole = tt; part = subst (λ (bs : List ℕ). AppendsPrefix old new bs) same puts.part; cause = record { later = puts.cause.later; kept = tt; refused = puts.cause.refused } }
 
 -- ---- a dispatch
 
@@ -177,14 +177,14 @@ Puts-round {T = T} {E = E} t jobs instrs period done count old mid new before be
     ap (λ (n : ℕ). plan_line period n count) finished
     ∙ ap (λ (n : ℕ). plan_line period (finishes all) n) (counted ∙ sym (length-walk jobs instrs (first_point jobs (worst_cases jobs)))) in
     subst (λ (bs : List ℕ). Puts {T = T} {E = E} old new before now (walk_text t jobs all ++ bs) result) line
-    (Puts-second old mid new before between now (walk_text t jobs all) (plan_line period done count) result first.whole first.cause.later second)
+    (Puts-second old mid new before between now (walk_text t jobs all) (plan_line period done count) result first.whole first.cause.kept second)
 
 pub Puts-round_cut : {T S E F : Type 0} (t : Tables) (jobs : List Job) (instrs : List SInstr) (period : ℕ) (old new : Option (List ℕ)) (before now : ℕ) (e : F) (d : E)
     → Puts {T = S} old new before now (walk_text t jobs (walk jobs (worst_cases jobs) instrs)) (Err e)
     → Puts {T = T} old new before now (round_text t period jobs (walk jobs (worst_cases jobs) instrs)) (Err d)
 Puts-round_cut {T = T} {S = S} t jobs instrs period old new before now e d puts =
     let all = walk jobs (worst_cases jobs) instrs in
-    Puts-failed {T = T} {S = S} old old new before before now [] (walk_text t jobs all) (plan_line period (finishes all) (length all)) e d (append_known-start old) (omega arith) puts
+    Puts-failed {T = T} {S = S} old old new before before now [] (walk_text t jobs all) (plan_line period (finishes all) (length all)) e d (append_known-start old) refl puts
 
 -- ---- the plan
 

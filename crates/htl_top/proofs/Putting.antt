@@ -1,5 +1,5 @@
 -- Texts that are written one after another.
-use Rattle.std.proofs.Common.{◌≡◌, ℕ, List, [], Option, Result, Ok, Err, sym, ap, ◌∙◌, subst, arith, inl, inr}
+use Rattle.std.proofs.Common.{◌≡◌, ℕ, List, [], Option, Result, Ok, Err, refl, sym, ap, ◌∙◌, subst, arith, inl, inr}
 use Rattle.std.specs.Io.KnownBytes.{append_known}
 use Rattle.htl_edge.specs.Content.{AppendsPrefix, Puts}
 use Rattle.htl_edge.proofs.Puts.{append_known-start}
@@ -10,7 +10,7 @@ pub Puts-none : {T E : Type 0} (old : Option (List ℕ)) (before : ℕ) (text : 
 Puts-none old before text u e = record {
   whole = append_known-start old ∙ ap (append_known old) (sym e);
   part = tt;
-  cause = record { later = omega arith; refused = tt };
+  cause = record { later = omega arith; kept = refl; refused = tt };
 }
 
 -- what was put is told

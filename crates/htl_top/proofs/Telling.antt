@@ -71,10 +71,10 @@ pub record IsTelling (m0 m : Seen) (events : List Event) (k : ℕ) (w0 w : Optio
   pub follows : Follows m (take k events)
   pub same : IsSameRun m0 m
   pub text : w ≡ append_known w0 (text_of_told m0.object m0.show (take k events))
-  pub later : f0 ≤ f
+  pub kept : f ≡ f0
 
 pub telling_start : (m : Seen) (events : List Event) (w : Option (List ℕ)) (f : ℕ) → Follows m [] → IsTelling m m events 0 w w f f
-telling_start m events w f follows = record { follows = follows; same = record { object = refl; show = refl }; text = append_known-start w; later = omega arith }
+telling_start m events w f follows = record { follows = follows; same = record { object = refl; show = refl }; text = append_known-start w; kept = refl }
 
 -- the event at k may be told
 pub telling_next : (m0 m : Seen) (events : List Event) (k : ℕ) (d e : Event) (w0 w : Option (List ℕ)) (f0 f : ℕ) → AreOpen m0.object.tables events → k < length events → e ≡ get_or events k d
@@ -101,7 +101,7 @@ telling_on m0 m m1 events k d e w0 w w1 f0 f f1 x accepted going less is t puts 
           (puts.whole ∙ ap (append_known w) (more_same m0 m (take k events) e t.same))
           ∙ ap (append_known w0)
           (sym (ap (text_of_told m0.object m0.show) front ∙ one_more m0.object m0.show accepted (take k events) e (drop (suc k) events) (subst (AreOpen m0.object.tables) all going)));
-      later = omega (arith, t.later, puts.cause.later);
+      kept = puts.cause.kept ∙ t.kept;
     }
 
 pub telling_failed : {T S E : Type 0} (m0 m : Seen) (events : List Event) (k : ℕ) (d e : Event) (w0 w w1 : Option (List ℕ)) (f0 f f1 : ℕ) (x y : E) → IsAccepted m0.object → AreOpen m0.object.tables events
@@ -111,7 +111,7 @@ telling_failed {T = T} {S = S} {E = E} m0 m events k d e w0 w w1 f0 f f1 x y acc
     let all : events ≡ take k events ++ e ∷ drop (suc k) events = split_at events k d less ∙ ap (λ (z : Event). take k events ++ z ∷ drop (suc k) events) (sym is) in
     let rest = cut m0.object m0.show accepted (take k events) e (drop (suc k) events) (subst (AreOpen m0.object.tables) all going) in
     subst (λ (bs : List ℕ). Puts {T = T} {E = E} w0 w1 f0 f1 bs (Err y)) (sym (ap (text_of_told m0.object m0.show) all ∙ rest.1))
-    (Puts-failed w0 w w1 f0 f f1 (text_of_told m0.object m0.show (take k events)) (text_more m0.object m0.show (take k events) e) rest.0 x y t.text t.later
+    (Puts-failed w0 w w1 f0 f f1 (text_of_told m0.object m0.show (take k events)) (text_more m0.object m0.show (take k events) e) rest.0 x y t.text t.kept
     (subst (λ (bs : List ℕ). Puts {T = S} {E = E} w w1 f f1 bs (Err x)) (more_same m0 m (take k events) e t.same) puts))
 
 take_whole : (events : List Event) (k : ℕ) → k ≡ length events → take k events ≡ events
@@ -120,7 +120,7 @@ take_whole events k is = take_all k events (omega (arith, is))
 pub telling_whole : {T E : Type 0} (m0 m : Seen) (events : List Event) (k : ℕ) (w0 w : Option (List ℕ)) (f0 f : ℕ) (x : T) → k ≡ length events → IsTelling m0 m events k w0 w f0 f
     → Puts {T = T} {E = E} w0 w f0 f (text_of_told m0.object m0.show events) (Ok x)
 telling_whole m0 m events k w0 w f0 f x all t =
-    record { whole = t.text ∙ ap (λ (es : List Event). append_known w0 (text_of_told m0.object m0.show es)) (take_whole events k all); part = tt; cause = record { later = t.later; refused = tt } }
+    record { whole = t.text ∙ ap (λ (es : List Event). append_known w0 (text_of_told m0.object m0.show es)) (take_whole events k all); part = tt; cause = record { later = omega (arith, t.kept); kept = t.kept; refused = tt } }
 
 pub telling_follows : (m0 m : Seen) (events : List Event) (k : ℕ) (w0 w : Option (List ℕ)) (f0 f : ℕ) → k ≡ length events → IsTelling m0 m events k w0 w f0 f → Follows m events
 telling_follows m0 m events k w0 w f0 f all t = subst (Follows m) (take_whole events k all) t.follows
@@ -153,10 +153,10 @@ module _ (o : Object) (show : Shown) (accepted : IsAccepted o) (events es : List
   pub play_failed : {T S E : Type 0} (end : Option ℕ) (w w1 : Option (List ℕ)) (f f1 : ℕ) (x y : E) → IsCutOff events es end → Puts {T = S} {E = E} w w1 f f1 (text_of_told o show es) (Err x)
       → Puts {T = T} {E = E} w w1 f f1 (text_before_fault o show events) (Err y)
   play_failed {T = T} {S = S} {E = E} None w w1 f f1 x y cut puts =
-      let more = Puts-failed {T = T} w w w1 f f f1 [] (text_of_told o show es) [] x y (append_known-start w) (omega arith) puts in
+      let more = Puts-failed {T = T} w w w1 f f f1 [] (text_of_told o show es) [] x y (append_known-start w) refl puts in
       subst (λ (bs : List ℕ). Puts {T = T} {E = E} w w1 f f1 bs (Err y)) (append-nil (text_of_told o show es) ∙ text_told cut) more
   play_failed {T = T} {S = S} {E = E} (Some end) w w1 f f1 x y cut puts =
-      let more = Puts-failed {T = T} w w w1 f f f1 [] (text_of_told o show es) (text_between o es show (reading_of 0 es) (suc end)) x y (append_known-start w) (omega arith) puts in
+      let more = Puts-failed {T = T} w w w1 f f f1 [] (text_of_told o show es) (text_between o es show (reading_of 0 es) (suc end)) x y (append_known-start w) refl puts in
       subst (λ (bs : List ℕ). Puts {T = T} {E = E} w w1 f f1 bs (Err y)) (sym (text_whole end cut)) more
 
   pub play_ended : {S T E : Type 0} (m : Seen) (end : ℕ) (w w1 w2 : Option (List ℕ)) (f f1 f2 : ℕ) (x : S) (r : Result T E) → (m.object ≡ o) × (m.show ≡ show)
@@ -166,5 +166,5 @@ module _ (o : Object) (show : Shown) (accepted : IsAccepted o) (events es : List
       let between : text_between m.object es m.show (reading_of 0 es) (suc end) ≡ text_between o es show (reading_of 0 es) (suc end) =
       ap (λ (p : Object). text_between p es m.show (reading_of 0 es) (suc end)) same.0 ∙ ap (λ (s : Shown). text_between o es s (reading_of 0 es) (suc end)) same.1 in
       subst (λ (bs : List ℕ). Puts w w2 f f2 bs r) (sym (text_whole end cut))
-      (Puts-second w w1 w2 f f1 f2 (text_of_told o show es) (text_between o es show (reading_of 0 es) (suc end)) r first.whole first.cause.later
+      (Puts-second w w1 w2 f f1 f2 (text_of_told o show es) (text_between o es show (reading_of 0 es) (suc end)) r first.whole first.cause.kept
       (subst (λ (bs : List ℕ). Puts w1 w2 f1 f2 bs r) between second))

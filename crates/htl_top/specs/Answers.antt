@@ -5,6 +5,7 @@ use Rattle.htl_edge.specs.Causes.{Rose}
 use Rattle.htl_edge.specs.Content.{AppendsPrefix}
 use Rattle.htl_edge.specs.Holdings.{Holdings}
 use Rattle.htl_top.specs.declared.outcome.Outcome.{Outcome}
+use Rattle.htl_top.specs.declared.outcome.ShelfCause.TheVariants.{Failed}
 use Rattle.htl_top.specs.declared.outcome.Outcome.TheVariants.{Done, Usage, Source, IllFormed, Unschedulable, Object, Script, Shelf, Read, Write, Memory}
 
 -- the input and the output at one moment: what is left, what was written, and the counts of faults
@@ -67,6 +68,20 @@ IsBeforeRun Memory = Unit {0}
 IsBeforeRun Done = ⊥
 IsBeforeRun (Script fault) = ⊥
 IsBeforeRun Write = ⊥
+
+-- ---- the counts of faults
+
+-- The counts of the shelf, the input and the output stand where they stood.
+pub record AreCountsKept (shelf : Files) (old new : Streams) : Type 0 where
+  pub files : (file : List ℕ) → shelf.after file ≡ shelf.before file
+  pub read : new.read_faults ≡ old.read_faults
+  pub write : new.write_faults ≡ old.write_faults
+
+-- Each of these counts stands where it stood, unless the answer is the one of which it is the cause.
+pub record KeepsCounts (shelf : Files) (old new : Streams) (outcome : Outcome) : Type 0 where
+  pub files : (outcome ≡ Shelf Failed → ⊥) → (file : List ℕ) → shelf.after file ≡ shelf.before file
+  pub read : (outcome ≡ Read → ⊥) → new.read_faults ≡ old.read_faults
+  pub write : (outcome ≡ Write → ⊥) → new.write_faults ≡ old.write_faults
 
 -- ---- what tells of an answer
 

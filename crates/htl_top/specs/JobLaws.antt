@@ -1,8 +1,10 @@
 -- What `go` shows of the jobs of a source, down to the lines.
-use Rattle.std.specs.Prelude.{◌≡◌, ℕ, List, ◌++◌, Some}
+use Rattle.std.specs.Prelude.{◌≡◌, ℕ, List, ◌++◌, map, Some}
+use Rattle.std.specs.List.{filter}
 use Rattle.htl_compile.specs.Built.{built, CanBuild}
+use Rattle.htl_compile.specs.Sources.{IsTablesOf}
 use Rattle.htl_console.specs.declared.shown.Shown.TheVariants.{Jobs}
-use Rattle.htl_machine.specs.JobLines.{printed, job_lines_at, job_lines_to, ShowsJobs}
+use Rattle.htl_machine.specs.JobLines.{printed, job_lines_at, job_lines_to, ShowsJobs, begins_as_job, text_lines}
 use Rattle.htl_machine.specs.JobTimes.{AllToldInTime}
 use Rattle.htl_machine.specs.Programs.{lines_of, text_of, schedules_of}
 use Rattle.htl_machine.specs.Rounds.{plan_of}
@@ -28,3 +30,10 @@ GoTellsJobsInTime =
     (t : Tables) (script : List ℕ) (events : List Event) (period end : ℕ) → CanBuild t → IsWhole t script events end → root_period t ≡ Some period
     → let lines = job_lines_to (built t).tables (schedules_of (built t)) events end in
     ShowsJobs (built t).tables (text_of (built t) events Jobs end) lines × AllToldInTime (plan_of (built t).tables (schedules_of (built t)) events) period end lines
+
+-- a reader who cuts the bytes of the text behind each line feed and takes the lines that begin with `j` or `d` finds, in order, a j line of
+-- each slice that a record closes and a d line of each job that one finishes, and no other; the source is any that has tables
+abbrev pub GoJobLinesAreFound : Type 0
+GoJobLinesAreFound =
+    (source : List ℕ) (t : Tables) (events : List Event) (end : ℕ) → IsTablesOf source t
+    → filter begins_as_job (text_lines (text_of (built t) events Jobs end)) ≡ map (printed (built t).tables) (job_lines_to (built t).tables (schedules_of (built t)) events end)

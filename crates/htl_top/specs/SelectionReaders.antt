@@ -56,7 +56,8 @@ Finishes t old modes entries (Ok done) = rest_of t old modes [] ≡ Whole entrie
 Finishes t old modes entries (Err (stop.Script fault)) = rest_of t old modes [] ≡ Bad fault.line fault.kind
 Finishes t old modes entries (Err stop.Read) = ⊥
 
--- a count of faults doesn't fall, and rose where the reader stopped at a fault of its source
+-- A count of faults doesn't fall. It rose where the reader stopped at a fault of its source, and else stands where it stood.
 pub record HasReadCause {T : Type 0} (before now : ℕ) (result : Result T ScriptStop) : Type 0 where
   pub later : before ≤ now
+  pub kept : (result ≡ Err stop.Read → ⊥) → now ≡ before
   pub read : result ≡ Err stop.Read → Rose before now

@@ -1,5 +1,5 @@
 // The command `check`: what is told of an accepted object.
-ghost use Rattle.std.specs.Prelude.{◌≡◌, ◌++◌, Some, None, codes, decimal};
+ghost use Rattle.std.specs.Prelude.{◌≡◌, ◌++◌, ℕ, List, Some, None, codes, decimal};
 ghost use Rattle.htl_edge.specs.Content.{Puts};
 ghost use Rattle.htl_model.specs.Broken.{KeepsLimits};
 ghost use Rattle.htl_model.specs.Selections.{selection_count};
@@ -7,6 +7,7 @@ ghost use Rattle.htl_top.specs.Answers.{files, IsWritten};
 ghost use Rattle.htl_top.specs.Checked.{most_positions as most_positions_of, check_text};
 ghost use Rattle.htl_top.specs.Objects.{IsTextOnObject, IsObjectTables};
 ghost use Rattle.htl_top.specs.Telling.{SpeaksOf};
+ghost use Rattle.htl_top.specs.declared.outcome.ShelfCause.TheVariants as cause;
 
 use crate::Outcome;
 use crate::answer::Answer;
@@ -60,7 +61,8 @@ fn write_check<W: Sink>(out: &mut W, t: &Tables) -> Result<(), Failed>
 // Tells of an accepted object, by its tables.
 fn check<W: Sink>(out: &mut W, t: &Tables) -> Outcome
     requires { KeepsLimits t.now }
-    ensures { IsWritten (check_text t.now) Outcome.Done (W.written out.old) (W.written out.new) (W.faults out.old) (W.faults out.new) result }
+    ensures text { IsWritten (check_text t.now) Outcome.Done (W.written out.old) (W.written out.new) (W.faults out.old) (W.faults out.new) result }
+    ensures write_count { (result ≡ Outcome.Write → ⊥) → W.faults out.new ≡ W.faults out.old }
 {
     match write_check(out, t) {
         Ok(()) => Outcome::Done,
@@ -79,6 +81,8 @@ pub fn check_file<S: Shelf, W: Sink>(
         (W.written out.old) (W.written out.new) (W.faults out.old) (W.faults out.new) result.outcome }
     ensures tables { SpeaksOf (λ fact. ⊥) (IsObjectTables (Some name.now) (S.holds shelf.old)) result.outcome result.tables }
     ensures shelf { S.holds shelf.new ≡ S.holds shelf.old }
+    ensures shelf_count { (result.outcome ≡ Outcome.Shelf cause.Failed → ⊥) → (file : List ℕ) → S.faults shelf.new file ≡ S.faults shelf.old file }
+    ensures write_count { (result.outcome ≡ Outcome.Write → ⊥) → W.faults out.new ≡ W.faults out.old }
 {
     match open(alloc, name, shelf) {
         Ok(loaded) => Answer::plain(check(out, loaded.tables())),

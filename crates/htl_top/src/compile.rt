@@ -23,6 +23,8 @@ pub fn compile_input<R: Source, W: Sink>(alloc: Global, input: &mut R, out: &mut
         result.outcome }
     ensures tables { SpeaksOf (IsTypedInput (R.rest input.old)) (λ fact. ⊥) result.outcome result.tables }
     ensures taken { LosesFront (limit.MAX_SOURCE + 4096) (R.rest input.old) (R.rest input.new) }
+    ensures read_count { (result.outcome ≡ Outcome.Read → ⊥) → R.faults input.new ≡ R.faults input.old }
+    ensures write_count { (result.outcome ≡ Outcome.Write → ⊥) → W.faults out.new ≡ W.faults out.old }
 {
     match read_input(alloc, input) {
         Ok(bytes) => compile(alloc, bytes.as_slice(), out),
@@ -39,6 +41,7 @@ fn compile<W: Sink>(alloc: Global, bytes: &[u8], out: &mut W) -> Answer
     requires { length bytes.now ≤ limit.MAX_SOURCE }
     ensures answer { IsBytesCompiled bytes.now (W.written out.old) (W.written out.new) (W.faults out.old) (W.faults out.new) result.outcome }
     ensures tables { SpeaksOf (HasTypedTables bytes.now) (λ fact. ⊥) result.outcome result.tables }
+    ensures write_count { (result.outcome ≡ Outcome.Write → ⊥) → W.faults out.new ≡ W.faults out.old }
 {
     match compile_source(alloc, bytes) {
         Ok(object) => Answer::plain(write_object(out, object.as_slice())),
@@ -48,7 +51,8 @@ fn compile<W: Sink>(alloc: Global, bytes: &[u8], out: &mut W) -> Answer
 
 // Writes the bytes of an object.
 fn write_object<W: Sink>(out: &mut W, object: &[u8]) -> Outcome
-    ensures { IsWritten object.now Outcome.Done (W.written out.old) (W.written out.new) (W.faults out.old) (W.faults out.new) result }
+    ensures text { IsWritten object.now Outcome.Done (W.written out.old) (W.written out.new) (W.faults out.old) (W.faults out.new) result }
+    ensures write_count { (result ≡ Outcome.Write → ⊥) → W.faults out.new ≡ W.faults out.old }
 {
     match put_all(out, object) {
         Ok(()) => Outcome::Done,

@@ -36,6 +36,8 @@ pub fn execute<R: Source, W: Sink>(
         (streams R.rest R.faults W.written W.faults input.old out.old) (streams R.rest R.faults W.written W.faults input.new out.new)
         result }
     ensures taken { LosesFront (limit.MAX_SCRIPT + 4096) (R.rest input.old) (R.rest input.new) }
+    ensures read_count { (result ≡ Outcome.Read → ⊥) → R.faults input.new ≡ R.faults input.old }
+    ensures write_count { (result ≡ Outcome.Write → ⊥) → W.faults out.new ≡ W.faults out.old }
 {
     let Ok(mut machine) = Machine::new(alloc, l, show) else {
         return Outcome::Memory;
@@ -62,6 +64,7 @@ fn read<R: Source>(
     ensures left { OnOk result (R.rest input.new ≡ none_left (R.rest input.old)) }
     ensures taken { LosesFront (limit.MAX_SCRIPT + 4096) (R.rest input.old) (R.rest input.new) }
     ensures read { result ≡ Err WholeStop.Read → Rose (R.faults input.old) (R.faults input.new) }
+    ensures count { (result ≡ Err WholeStop.Read → ⊥) → R.faults input.new ≡ R.faults input.old }
 {
     read_script(alloc, input, tables, events)
 }
@@ -72,8 +75,9 @@ fn write_whole<W: Sink>(machine: &mut Machine<'_>, events: &[Event], out: &mut W
     requires accepted { IsAccepted machine.old.object }
     requires events { AreEvents machine.old.object.tables None events.now }
     requires ended { (end : ℕ) × EndsAt events.now end }
-    ensures { (end : ℕ) → EndsAt events.now end →
+    ensures text { (end : ℕ) → EndsAt events.now end →
         IsWritten (text_of machine.old.object events.now machine.old.show end) Outcome.Done (W.written out.old) (W.written out.new) (W.faults out.old) (W.faults out.new) result }
+    ensures write_count { (result ≡ Outcome.Write → ⊥) → W.faults out.new ≡ W.faults out.old }
 {
     match write_run(machine, events, out) {
         Ok(()) => Outcome::Done,
@@ -111,7 +115,8 @@ fn write_faulty<W: Sink>(
     requires follows { Follows machine.old [] }
     requires accepted { IsAccepted machine.old.object }
     requires events { AreEvents machine.old.object.tables None events.now }
-    ensures { IsWritten (text_before_fault machine.old.object machine.old.show events.now) (Outcome.Script fault) (W.written out.old) (W.written out.new) (W.faults out.old) (W.faults out.new) result }
+    ensures text { IsWritten (text_before_fault machine.old.object machine.old.show events.now) (Outcome.Script fault) (W.written out.old) (W.written out.new) (W.faults out.old) (W.faults out.new) result }
+    ensures write_count { (result ≡ Outcome.Write → ⊥) → W.faults out.new ≡ W.faults out.old }
 {
     match play(machine, events, out) {
         Ok(()) => Outcome::Script(fault),

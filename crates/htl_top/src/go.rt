@@ -10,6 +10,7 @@ ghost use Rattle.htl_top.specs.Going.{IsGoing, IsBytesGoing};
 ghost use Rattle.htl_top.specs.Runs.{IsRun};
 ghost use Rattle.htl_top.specs.Sources.{HasTypedTables, IsTypedProgram};
 ghost use Rattle.htl_top.specs.Telling.{SpeaksOf};
+ghost use Rattle.htl_top.specs.declared.outcome.ShelfCause.TheVariants as cause;
 
 use crate::answer::Answer;
 use crate::execute::execute;
@@ -36,6 +37,9 @@ pub fn go_file<S: Shelf, R: Source, W: Sink>(
     ensures tables { SpeaksOf (IsTypedProgram (Some name.now) (S.holds shelf.old)) (λ fact. ⊥) result.outcome result.tables }
     ensures taken { LosesFront (limit.MAX_SCRIPT + 4096) (R.rest input.old) (R.rest input.new) }
     ensures shelf { S.holds shelf.new ≡ S.holds shelf.old }
+    ensures shelf_count { (result.outcome ≡ Outcome.Shelf cause.Failed → ⊥) → (file : List ℕ) → S.faults shelf.new file ≡ S.faults shelf.old file }
+    ensures read_count { (result.outcome ≡ Outcome.Read → ⊥) → R.faults input.new ≡ R.faults input.old }
+    ensures write_count { (result.outcome ≡ Outcome.Write → ⊥) → W.faults out.new ≡ W.faults out.old }
 {
     match shelf.fetch(alloc, name, MAX_SOURCE) {
         Ok(bytes) => go(alloc, bytes.as_slice(), input, out),
@@ -55,6 +59,8 @@ fn go<R: Source, W: Sink>(alloc: Global, bytes: &[u8], input: &mut R, out: &mut 
         result.outcome }
     ensures tables { SpeaksOf (HasTypedTables bytes.now) (λ fact. ⊥) result.outcome result.tables }
     ensures taken { LosesFront (limit.MAX_SCRIPT + 4096) (R.rest input.old) (R.rest input.new) }
+    ensures read_count { (result.outcome ≡ Outcome.Read → ⊥) → R.faults input.new ≡ R.faults input.old }
+    ensures write_count { (result.outcome ≡ Outcome.Write → ⊥) → W.faults out.new ≡ W.faults out.old }
 {
     match compile_source(alloc, bytes) {
         Ok(object) => Answer::plain(run_compiled(alloc, object.as_slice(), input, out)),
@@ -74,6 +80,8 @@ fn run_compiled<R: Source, W: Sink>(
         (streams R.rest R.faults W.written W.faults input.old out.old) (streams R.rest R.faults W.written W.faults input.new out.new)
         result }
     ensures taken { LosesFront (limit.MAX_SCRIPT + 4096) (R.rest input.old) (R.rest input.new) }
+    ensures read_count { (result ≡ Outcome.Read → ⊥) → R.faults input.new ≡ R.faults input.old }
+    ensures write_count { (result ≡ Outcome.Write → ⊥) → W.faults out.new ≡ W.faults out.old }
 {
     match load(alloc, object) {
         Ok(loaded) => execute(alloc, &loaded, Shown::Jobs, input, out),

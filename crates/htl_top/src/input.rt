@@ -29,6 +29,7 @@ pub fn read_input<R: Source>(alloc: Global, input: &mut R) -> Result<Vec<u8>, In
     ensures taken { LosesFront (limit.MAX_SOURCE + 4096) (R.rest input.old) (R.rest input.new) }
     ensures long { result ≡ Err InputStop.TooLong → IfSome (R.rest input.old) (λ given. limit.MAX_SOURCE < length given) }
     ensures failed { result ≡ Err InputStop.Read → Rose (R.faults input.old) (R.faults input.new) }
+    ensures count { (result ≡ Err InputStop.Read → ⊥) → R.faults input.new ≡ R.faults input.old }
 {
     let mut bytes = Vec::new(alloc);
     let mut buf = [0u8; 4096];

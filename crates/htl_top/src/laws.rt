@@ -1,6 +1,6 @@
 // What the values and lines of a run depend on, and what `go` shows of a source. Each law is a statement that the check has
 // proved; there is nothing to run.
-ghost use Rattle.htl_top.specs.JobLaws.{GoShowsJobLines, GoTellsJobsInTime};
+ghost use Rattle.htl_top.specs.JobLaws.{GoShowsJobLines, GoTellsJobsInTime, GoJobLinesAreFound};
 ghost use Rattle.htl_top.specs.Laws.{SensorsDecideLines, EarlierReadingsDecideValues, EarlierReadingsDecideTexts, GoShowsTheMeaning, GoKeepsDeadlines};
 
 /// Two scripts with the same sensor values up to an instant give the same lines of values and modes up to
@@ -41,4 +41,11 @@ pub fn go_shows_job_lines()
 /// the text has one d line, no later than the end of its window, and its j lines lie in the window and have as many ticks as it takes.
 pub fn go_tells_jobs_in_time()
     ensures { GoTellsJobsInTime }
+{}
+
+/// In the text of a run of a source's object a reader who cuts its bytes behind each line feed, and takes the lines that begin with `j`
+/// or `d`, finds those of the records and no others: a j line of each slice that a record closes, with its invocation, and a d line of
+/// each job that a record finishes.
+pub fn go_job_lines_are_found()
+    ensures { GoJobLinesAreFound }
 {}

@@ -56,8 +56,9 @@ mod words;
 pub use fault_line::report;
 pub use htl_compile::SourceFault;
 pub use laws::{
-    earlier_readings_decide_texts, earlier_readings_decide_values, go_keeps_deadlines,
-    go_shows_the_meaning, sensors_decide_lines,
+    earlier_readings_decide_texts, earlier_readings_decide_values, go_job_lines_are_found,
+    go_keeps_deadlines, go_shows_job_lines, go_shows_the_meaning, go_tells_jobs_in_time,
+    sensors_decide_lines,
 };
 pub use outcome::{Outcome, ShelfCause, status};
 pub use selection::{ScriptStop, read_selection};

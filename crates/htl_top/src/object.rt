@@ -1,11 +1,12 @@
 // Files as accepted objects.
-ghost use Rattle.std.specs.Prelude.{◌≡◌, IfOk, IfErr, Some, None};
+ghost use Rattle.std.specs.Prelude.{◌≡◌, ℕ, List, IfOk, IfErr, Some, None};
 ghost use Rattle.htl_load.specs.Faults.{IsRefused};
 ghost use Rattle.htl_object.specs.Accepted.{IsAccepted};
 ghost use Rattle.htl_object.specs.Ranges.{IsInRange};
 ghost use Rattle.htl_top.specs.Answers.{files};
 ghost use Rattle.htl_top.specs.Objects.{IsObjectRead, IsAcceptedFile, IsObjectTables, IsStopped};
 ghost use Rattle.htl_top.specs.Telling.{SpeaksOf};
+ghost use Rattle.htl_top.specs.declared.outcome.ShelfCause.TheVariants as cause;
 
 use crate::answer::Answer;
 use crate::{Outcome, ShelfCause};
@@ -79,6 +80,8 @@ pub fn open<S: Shelf>(alloc: Global, name: &str, shelf: &mut S) -> Result<Loaded
     ensures stopped { IfErr result (λ a. IsStopped (Some name.now) (files S.holds S.faults shelf.old shelf.new) a.outcome) }
     ensures tables { IfErr result (λ a. SpeaksOf (λ fact. ⊥) (IsObjectTables (Some name.now) (S.holds shelf.old)) a.outcome a.tables) }
     ensures shelf { S.holds shelf.new ≡ S.holds shelf.old }
+    ensures opened_count { IfOk result (λ l. (file : List ℕ) → S.faults shelf.new file ≡ S.faults shelf.old file) }
+    ensures stopped_count { IfErr result (λ a. (a.outcome ≡ Outcome.Shelf cause.Failed → ⊥) → (file : List ℕ) → S.faults shelf.new file ≡ S.faults shelf.old file) }
 {
     let bytes = match shelf.fetch(alloc, name, MAX_OBJECT) {
         Ok(bytes) => bytes,

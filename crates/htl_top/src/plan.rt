@@ -1,5 +1,5 @@
 // The command `plan`: the round of the jobs at a selection of running modes.
-ghost use Rattle.std.specs.Prelude.{◌≡◌, ◌+◌, Some, None, IfOk, length};
+ghost use Rattle.std.specs.Prelude.{◌≡◌, ◌+◌, ℕ, List, Some, None, IfOk, length};
 ghost use Rattle.htl_base.specs.declared.limits.TheConstants as limit;
 ghost use Rattle.htl_edge.specs.Content.{Puts};
 ghost use Rattle.htl_model.specs.Selected.{IsSelection};
@@ -8,6 +8,7 @@ ghost use Rattle.htl_top.specs.Answers.{files, streams};
 ghost use Rattle.htl_top.specs.Objects.{IsOnObject, IsObjectTables};
 ghost use Rattle.htl_top.specs.Planned.{plan_text, IsPlanned};
 ghost use Rattle.htl_top.specs.Telling.{SpeaksOf};
+ghost use Rattle.htl_top.specs.declared.outcome.ShelfCause.TheVariants as cause;
 
 use crate::Outcome;
 use crate::answer::Answer;
@@ -57,6 +58,8 @@ fn plan<R: Source, W: Sink>(alloc: Global, l: &Loaded, input: &mut R, out: &mut 
         (streams R.rest R.faults W.written W.faults input.old out.old) (streams R.rest R.faults W.written W.faults input.new out.new)
         result }
     ensures taken { LosesFront (limit.MAX_SCRIPT + 4096) (R.rest input.old) (R.rest input.new) }
+    ensures read_count { (result ≡ Outcome.Read → ⊥) → R.faults input.new ≡ R.faults input.old }
+    ensures write_count { (result ≡ Outcome.Write → ⊥) → W.faults out.new ≡ W.faults out.old }
 {
     let Ok(mut selection) = no_modes(alloc, l.tables()) else {
         return Outcome::Memory;
@@ -85,6 +88,9 @@ pub fn plan_file<S: Shelf, R: Source, W: Sink>(
     ensures tables { SpeaksOf (λ fact. ⊥) (IsObjectTables (Some name.now) (S.holds shelf.old)) result.outcome result.tables }
     ensures taken { LosesFront (limit.MAX_SCRIPT + 4096) (R.rest input.old) (R.rest input.new) }
     ensures shelf { S.holds shelf.new ≡ S.holds shelf.old }
+    ensures shelf_count { (result.outcome ≡ Outcome.Shelf cause.Failed → ⊥) → (file : List ℕ) → S.faults shelf.new file ≡ S.faults shelf.old file }
+    ensures read_count { (result.outcome ≡ Outcome.Read → ⊥) → R.faults input.new ≡ R.faults input.old }
+    ensures write_count { (result.outcome ≡ Outcome.Write → ⊥) → W.faults out.new ≡ W.faults out.old }
 {
     match open(alloc, name, shelf) {
         Ok(loaded) => Answer::plain(plan(alloc, &loaded, input, out)),

@@ -1,10 +1,11 @@
 // The command `show`: the listing of an accepted object.
-ghost use Rattle.std.specs.Prelude.{◌≡◌, Some, None};
+ghost use Rattle.std.specs.Prelude.{◌≡◌, ℕ, List, Some, None};
 ghost use Rattle.htl_edge.specs.Content.{Puts};
 ghost use Rattle.htl_top.specs.Answers.{files, IsWritten};
 ghost use Rattle.htl_top.specs.Objects.{IsTextOnObject, IsObjectTables};
 ghost use Rattle.htl_top.specs.Shown.{show_text};
 ghost use Rattle.htl_top.specs.Telling.{SpeaksOf};
+ghost use Rattle.htl_top.specs.declared.outcome.ShelfCause.TheVariants as cause;
 
 use crate::Outcome;
 use crate::answer::Answer;
@@ -23,7 +24,8 @@ fn write_listing<W: Sink>(out: &mut W, l: &Loaded) -> Result<(), Failed>
 
 // Lists an accepted object.
 fn list<W: Sink>(out: &mut W, l: &Loaded) -> Outcome
-    ensures { IsWritten (show_text l.now) Outcome.Done (W.written out.old) (W.written out.new) (W.faults out.old) (W.faults out.new) result }
+    ensures text { IsWritten (show_text l.now) Outcome.Done (W.written out.old) (W.written out.new) (W.faults out.old) (W.faults out.new) result }
+    ensures write_count { (result ≡ Outcome.Write → ⊥) → W.faults out.new ≡ W.faults out.old }
 {
     match write_listing(out, l) {
         Ok(()) => Outcome::Done,
@@ -37,6 +39,8 @@ pub fn show_file<S: Shelf, W: Sink>(alloc: Global, name: &str, shelf: &mut S, ou
         (W.written out.old) (W.written out.new) (W.faults out.old) (W.faults out.new) result.outcome }
     ensures tables { SpeaksOf (λ fact. ⊥) (IsObjectTables (Some name.now) (S.holds shelf.old)) result.outcome result.tables }
     ensures shelf { S.holds shelf.new ≡ S.holds shelf.old }
+    ensures shelf_count { (result.outcome ≡ Outcome.Shelf cause.Failed → ⊥) → (file : List ℕ) → S.faults shelf.new file ≡ S.faults shelf.old file }
+    ensures write_count { (result.outcome ≡ Outcome.Write → ⊥) → W.faults out.new ≡ W.faults out.old }
 {
     match open(alloc, name, shelf) {
         Ok(loaded) => Answer::plain(list(out, &loaded)),

@@ -23,7 +23,7 @@ ghost use Rattle.htl_model.specs.declared.form_fault.FormFault.{FormFault};
 ghost use Rattle.htl_object.specs.declared.object.Object.{Object};
 ghost use Rattle.htl_script.specs.Reading.{LosesFront};
 ghost use Rattle.htl_script.specs.declared.fault.ScriptFault.{ScriptFault};
-ghost use Rattle.htl_top.specs.Answers.{files, streams, IsBeforeScript, IsBeforeRun, Tells};
+ghost use Rattle.htl_top.specs.Answers.{files, streams, IsBeforeScript, IsBeforeRun, AreCountsKept, KeepsCounts, Tells};
 ghost use Rattle.htl_top.specs.Calls.{IsCall, HasSource, HasObject};
 ghost use Rattle.htl_top.specs.Causes.{IsFaultOf, IsLongFile, IsGiven, IsOrMemory};
 ghost use Rattle.htl_top.specs.Checked.{check_text};
@@ -212,6 +212,15 @@ pub fn htl<S: Shelf, R: Source, W: Sink, E: Sink>(
     ensures taken { LosesFront (most_taken (command_in words.now)) (R.rest input.old) (R.rest input.new) }
     ensures shelf { S.holds shelf.new ≡ S.holds shelf.old }
 
+    // The counts of faults: each stands where it stood but for the answer of which it is the cause, and all three after Done.
+    ensures counts { KeepsCounts
+        (files S.holds S.faults shelf.old shelf.new)
+        (streams R.rest R.faults W.written W.faults input.old out.old) (streams R.rest R.faults W.written W.faults input.new out.new)
+        result }
+    ensures kept { result ≡ Outcome.Done → AreCountsKept
+        (files S.holds S.faults shelf.old shelf.new)
+        (streams R.rest R.faults W.written W.faults input.old out.old) (streams R.rest R.faults W.written W.faults input.new out.new) }
+
     // What tells of the answer.
     ensures told { IsLineTold (HasSource (command_in words.now) (S.holds shelf.old) (R.rest input.old)) (HasObject (command_in words.now) (S.holds shelf.old))
         (Tells (E.written err.old) (E.written err.new) (E.faults err.old) (E.faults err.new)) result }
@@ -243,6 +252,9 @@ fn answer_to<S: Shelf, R: Source, W: Sink>(
     ensures tables { SpeaksOf (HasSource (command_in words.now) (S.holds shelf.old) (R.rest input.old)) (HasObject (command_in words.now) (S.holds shelf.old)) result.outcome result.tables }
     ensures taken { LosesFront (most_taken (command_in words.now)) (R.rest input.old) (R.rest input.new) }
     ensures shelf { S.holds shelf.new ≡ S.holds shelf.old }
+    ensures shelf_count { (result.outcome ≡ Outcome.Shelf cause.Failed → ⊥) → (file : List ℕ) → S.faults shelf.new file ≡ S.faults shelf.old file }
+    ensures read_count { (result.outcome ≡ Outcome.Read → ⊥) → R.faults input.new ≡ R.faults input.old }
+    ensures write_count { (result.outcome ≡ Outcome.Write → ⊥) → W.faults out.new ≡ W.faults out.old }
 {
     match read_words(words) {
         Some(asked) => answered(alloc, asked, shelf, input, out),
@@ -265,6 +277,9 @@ fn answered<S: Shelf, R: Source, W: Sink>(
     ensures tables { SpeaksOf (HasSource (Some (asked_for asked.entry)) (S.holds shelf.old) (R.rest input.old)) (HasObject (Some (asked_for asked.entry)) (S.holds shelf.old)) result.outcome result.tables }
     ensures taken { LosesFront (most_taken (Some (asked_for asked.entry))) (R.rest input.old) (R.rest input.new) }
     ensures shelf { S.holds shelf.new ≡ S.holds shelf.old }
+    ensures shelf_count { (result.outcome ≡ Outcome.Shelf cause.Failed → ⊥) → (file : List ℕ) → S.faults shelf.new file ≡ S.faults shelf.old file }
+    ensures read_count { (result.outcome ≡ Outcome.Read → ⊥) → R.faults input.new ≡ R.faults input.old }
+    ensures write_count { (result.outcome ≡ Outcome.Write → ⊥) → W.faults out.new ≡ W.faults out.old }
 {
     match asked {
         Asked::Compile => compile_input(alloc, input, out),
@@ -288,6 +303,9 @@ fn about_file<S: Shelf, R: Source, W: Sink>(
     ensures tables { SpeaksOf (HasSource (Some (with_file verb name.now)) (S.holds shelf.old) (R.rest input.old)) (HasObject (Some (with_file verb name.now)) (S.holds shelf.old)) result.outcome result.tables }
     ensures taken { LosesFront (most_taken (Some (with_file verb name.now))) (R.rest input.old) (R.rest input.new) }
     ensures shelf { S.holds shelf.new ≡ S.holds shelf.old }
+    ensures shelf_count { (result.outcome ≡ Outcome.Shelf cause.Failed → ⊥) → (file : List ℕ) → S.faults shelf.new file ≡ S.faults shelf.old file }
+    ensures read_count { (result.outcome ≡ Outcome.Read → ⊥) → R.faults input.new ≡ R.faults input.old }
+    ensures write_count { (result.outcome ≡ Outcome.Write → ⊥) → W.faults out.new ≡ W.faults out.old }
 {
     match verb {
         Verb::Go => go_file(alloc, name, shelf, input, out),

@@ -1,4 +1,4 @@
-use Rattle.std.proofs.Common.{List, ℕ, Some, refl, subst}
+use Rattle.std.proofs.Common.{◌≡◌, List, ℕ, Some, refl, subst}
 use Rattle.htl_top.proofs.Going.{IsGoing-bytes}
 use Rattle.htl_top.specs.Answers.{files, streams}
 use Rattle.htl_top.specs.Going.{IsBytesGoing}
@@ -22,3 +22,13 @@ returns-in-Err-TooLong-clause-taken g c = taken_none 1073745920 (g.R.Source.rest
 
 pub returns-in-Err-Memory-clause-taken : goal.returns-in-Err-Memory-clause-taken
 returns-in-Err-Memory-clause-taken g c = taken_none 1073745920 (g.R.Source.rest c.args.input.now)
+
+pub returns-in-Err-TooLong-clause-shelf_count : goal.returns-in-Err-TooLong-clause-shelf_count
+returns-in-Err-TooLong-clause-shelf_count g c =
+    let kept : (other : List ℕ) → g.S.Shelf.faults c.fetch.new.self other ≡ g.S.Shelf.faults c.args.shelf.now other = rw c.in-Err-TooLong.field-0-is at c.in-Err-TooLong.ensures.kept in
+    λ long file. kept file
+
+pub returns-in-Err-Memory-clause-shelf_count : goal.returns-in-Err-Memory-clause-shelf_count
+returns-in-Err-Memory-clause-shelf_count g c =
+    let kept : (other : List ℕ) → g.S.Shelf.faults c.fetch.new.self other ≡ g.S.Shelf.faults c.args.shelf.now other = rw c.in-Err-Memory.field-0-is at c.in-Err-Memory.ensures.kept in
+    λ none file. kept file

@@ -6,7 +6,7 @@ pub pieces-init : goal.pieces-init
 pieces-init g c =
     let rest = g.R.Source.rest c.args.input.now in (
       subst (λ (bs : List ℕ). AreRead bs rest rest) (sym c.new-bytes.ensures.items) (read_start rest),
-      omega arith,
+      refl,
       refl,
       omega (arith, ap (λ (bs : List ℕ). length bs) c.new-bytes.ensures.items),
     )

@@ -6,4 +6,4 @@ pub returns-in-Err : goal.returns-in-Err
 returns-in-Err g c = Puts-cut _ _ _ _ _ _ _ c.in-Err.ensures
 
 pub returns : goal.returns
-returns g c = Puts-second _ _ _ _ _ _ _ _ _ c.in_default.ensures.whole c.in_default.ensures.cause.later c.write_done.ensures
+returns g c = Puts-second _ _ _ _ _ _ _ _ _ c.in_default.ensures.whole c.in_default.ensures.cause.kept c.write_done.ensures

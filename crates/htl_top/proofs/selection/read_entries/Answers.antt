@@ -11,7 +11,7 @@ returns-then-count-eq0-clause-selection g c =
 pub chunks-init : goal.chunks-init
 chunks-init g c = (
   reading_start c.args.t.now c.new-reader.result c.args.modes.now (g.R.Source.rest c.args.src.now) c.new-reader.ensures,
-  omega arith,
+  refl,
   refl,
   omega (arith, ap (λ (p : Place). p.start + length p.line) c.new-reader.ensures),
   c.requires,
@@ -55,7 +55,7 @@ chunks-preserved g c = (
   reading_step c.args.t.now c.chunks.reader c.take_all.new.reader c.chunks.modes c.take_all.new.modes (g.R.Source.rest c.args.src.now) (g.R.Source.rest c.chunks.src)
       (g.R.Source.rest c.read.new.self) (take c.in-Ok.count c.read.new.buf) c.chunks.invariant.0 c.in-Ok.ensures.bytes.0
       (omega (arith, c.in_default-take_all.ensures.count, length-take-le c.in-Ok.count c.read.new.buf c.in-Ok.ensures.bound)) c.in_default-take_all.ensures.takes,
-  omega (arith, c.chunks.invariant.1, c.in-Ok.ensures.cause.later),
+  c.in-Ok.ensures.cause.kept ∙ c.chunks.invariant.1,
   omega (arith, c.read.auto.buf, c.chunks.invariant.2),
   c.in_default-take_all.ensures.bound c.chunks.invariant.3,
   c.take_all.ensures.len ∙ c.chunks.invariant.4,

@@ -8,4 +8,4 @@ pub returns-in-Ok-clause-answer : goal.returns-in-Ok-clause-answer
 returns-in-Ok-clause-answer g c =
     IsTextOnObject-opened show_text (Some c.args.name.now) (files g.S.Shelf.holds g.S.Shelf.faults c.args.shelf.now c.open.new.shelf)
     (g.W.Sink.written c.args.out.now) (g.W.Sink.written c.list.new.out) (g.W.Sink.faults c.args.out.now) (g.W.Sink.faults c.list.new.out) c.in-Ok.loaded
-    (show_text c.in-Ok.loaded) refl c.list.result c.plain.result.outcome c.plain.ensures.outcome c.in-Ok.ensures.opened c.list.ensures
+    (show_text c.in-Ok.loaded) refl c.list.result c.plain.result.outcome c.plain.ensures.outcome c.in-Ok.ensures.opened c.list.ensures.text

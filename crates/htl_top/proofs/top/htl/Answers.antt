@@ -1,4 +1,5 @@
 use Rattle.htl_top.proofs.Calling as calling
+use Rattle.htl_top.proofs.Counts as counts
 use Rattle.htl_top.proofs.LineTelling as telling
 use Rattle.std.proofs.Common.{subst}
 use Rattle.htl_compile.specs.declared.compiling.CompileFault.TheVariants as compile
@@ -68,6 +69,8 @@ returns g c =
       unread = calling.unread shelf old new command outcome answer;
       taken = c.answer_to-answer.ensures.taken;
       shelf = c.answer_to-answer.ensures.shelf;
+      counts = counts.kept_unless shelf old new outcome c.answer_to-answer.ensures.shelf_count c.answer_to-answer.ensures.read_count c.answer_to-answer.ensures.write_count;
+      kept = λ e. counts.kept_done shelf old new outcome e c.answer_to-answer.ensures.shelf_count c.answer_to-answer.ensures.read_count c.answer_to-answer.ensures.write_count;
       told =
           telling.IsLineTold-report command shelf.holds old.rest
           (Tells (g.E.Sink.written c.args.err.now) (g.E.Sink.written c.report.new.err) (g.E.Sink.faults c.args.err.now) (g.E.Sink.faults c.report.new.err))
