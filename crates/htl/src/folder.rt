@@ -1,7 +1,7 @@
 // Sources from the files of the machine.
 ghost use Rattle.std.specs.Prelude.{None, Some, ℕ, List, Option, IfOk, IfErr, IfSome, length, ◌≤◌, ◌≡◌, []};
 ghost use Rattle.htl_edge.specs.Causes.{Rose};
-ghost use Rattle.htl_edge.specs.Holdings.{IsTooLong};
+ghost use Rattle.htl_edge.specs.Holdings.{IsTooLong, IsKept};
 
 use htl_edge::{Shelf, ShelfFault};
 use std::alloc::Global;
@@ -70,6 +70,7 @@ impl<F: Open> Shelf for Folder<F> {
         ensures long { IfErr result (IsTooLong None name.now limit) }
         ensures failed { result ≡ Err ShelfFault.Failed → Rose self.old.faults self.new.faults }
         ensures counts { self.old.faults ≤ self.new.faults }
+        ensures kept { IsKept self.old.faults self.new.faults result }
         ensures whole { IfOk result (λ bytes. IfSome (F.held self.old.files name.now) (λ held. bytes.items ≡ held)) }
         ensures files { self.new.files ≡ self.old.files }
     {
@@ -95,6 +96,7 @@ pub fn read_up_to<R: Read>(
     ensures long { IfErr result (IsTooLong None [] limit) }
     ensures failed { result ≡ Err ShelfFault.Failed → Rose faults.old faults.new }
     ensures counts { faults.old ≤ faults.new }
+    ensures kept { IsKept faults.old faults.new result }
 {
     let mut bytes = Vec::new(alloc);
     let mut buf = [0u8; 4096];

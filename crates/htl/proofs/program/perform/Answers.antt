@@ -11,4 +11,4 @@ returns-in-Ok g c =
     inl (EndsWith-same _ _ (files g.S.Shelf.holds g.S.Shelf.faults c.args.shelf.now c.htl.new.shelf) (side c.args.input.now c.args.out.now) (side c.htl.new.input c.htl.new.out)
     (Tells (g.E.Sink.written c.args.err.now) (g.E.Sink.written c.htl.new.err) (g.E.Sink.faults c.args.err.now) (g.E.Sink.faults c.htl.new.err))
     (g.E.Sink.written c.htl.new.err ≡ g.E.Sink.written c.args.err.now) c.status.result same
-    (record { outcome = c.htl.result; is = c.status.ensures; answer = c.htl.ensures.answer; told = c.htl.ensures.told; quiet = c.htl.ensures.quiet }))
+    (record { outcome = c.htl.result; is = c.status.ensures; answer = c.htl.ensures.answer; counts = c.htl.ensures.counts; told = c.htl.ensures.told; quiet = c.htl.ensures.quiet }))
