@@ -7,6 +7,7 @@ pub mod Standing
 pub mod Laying
 pub mod LayoutLaw
 pub mod Soonest
+pub mod ModeInvLaws
 pub mod Putting
 pub mod Phases
 pub mod Deciding

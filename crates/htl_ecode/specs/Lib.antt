@@ -6,6 +6,7 @@ pub mod Instructions
 pub mod Jumps
 pub mod Laws
 pub mod Layout
+pub mod ModeInvs
 pub mod Offsets
 pub mod Paths
 pub mod Spelling

@@ -4,9 +4,11 @@ ghost use Rattle.htl_ecode.specs.Offsets.{OffsetsFit, next_offset as next_offset
 ghost use Rattle.htl_ecode.specs.Chains.{block_chain};
 ghost use Rattle.htl_ecode.specs.Layout.{block_code, phase_code as phase_code_of};
 ghost use Rattle.htl_ecode.specs.Generation.{trigger, IsLater, end_size};
+ghost use Rattle.htl_ecode.specs.ModeInvs.{AreInvsOf};
 
 use crate::EInstr;
 use crate::calls::put_calls;
+use crate::mode_invs::ModeInvs;
 use crate::offsets::next_offset;
 use htl_base::Time;
 use htl_model::Tables;
@@ -55,41 +57,43 @@ pub fn size_of_end(next: Option<Time>) -> u32
 fn put_block(
     instrs: &mut Vec<EInstr>,
     t: &Tables,
-    mode: u16,
+    run: ModeInvs,
     phase: u8,
     offset: Time,
     next: Option<Time>,
     base: u32,
 ) -> Result<(), AllocError>
+    requires invs { AreInvsOf t.now run }
     requires later { IsLater offset next }
-    requires next { next ≡ next_offset_of t.now mode phase (offset + 1) }
-    requires room { base + length instrs.old.items + length (block_chain t.now mode phase offset) ≤ 4294967295 }
-    ensures { OnOk result (instrs.new.items ≡ instrs.old.items ++ block_code t.now mode phase (base + length instrs.old.items) offset) }
+    requires next { next ≡ next_offset_of t.now run.mode phase (offset + 1) }
+    requires room { base + length instrs.old.items + length (block_chain t.now run.mode phase offset) ≤ 4294967295 }
+    ensures { OnOk result (instrs.new.items ≡ instrs.old.items ++ block_code t.now run.mode phase (base + length instrs.old.items) offset) }
 {
-    put_calls(instrs, t, mode, phase, offset)?;
+    put_calls(instrs, t, run, phase, offset)?;
     let behind = base + address(instrs) + size_of_end(next);
     put_trigger(instrs, offset, phase, next, behind)?;
     instrs.push(EInstr::Return)?;
     Ok(())
 }
 
-/// The blocks of a phase of a mode, to stand at the address `base`.
+/// The blocks of a phase of the mode with these invocations, to stand at the address `base`.
 pub fn phase_code(
     alloc: Global,
     t: &Tables,
-    mode: u16,
+    run: ModeInvs,
     phase: u8,
     base: u32,
 ) -> Result<Vec<EInstr>, AllocError>
+    requires invs { AreInvsOf t.now run }
     requires offsets { OffsetsFit t.now }
-    requires room { base + length (phase_code_of t.now mode phase base) ≤ 4294967295 }
-    ensures { IfOk result (λ v. v.items ≡ phase_code_of t.now mode phase base) }
+    requires room { base + length (phase_code_of t.now run.mode phase base) ≤ 4294967295 }
+    ensures { IfOk result (λ v. v.items ≡ phase_code_of t.now run.mode phase base) }
 {
     let mut instrs = Vec::new(alloc);
-    let mut at = next_offset(t, mode, phase, 0);
+    let mut at = next_offset(t, run, phase, 0);
     while let Some(offset) = at {
-        let next = next_offset(t, mode, phase, offset + 1);
-        put_block(&mut instrs, t, mode, phase, offset, next, base)?;
+        let next = next_offset(t, run, phase, offset + 1);
+        put_block(&mut instrs, t, run, phase, offset, next, base)?;
         at = next;
     }
     Ok(instrs)

@@ -6,6 +6,7 @@ ghost use Rattle.htl_ecode.specs.Spelling.{Spells};
 ghost use Rattle.htl_ecode.specs.Layout.{enter_places, layout as layout_of};
 
 use crate::blocks::address;
+use crate::mode_invs::mode_invs;
 use crate::modes::mode_code;
 use crate::{ECode, EInstr};
 use htl_base::{Memory, Seq};
@@ -20,10 +21,13 @@ fn mode_places(alloc: Global, t: &Tables) -> Result<Vec<u32>, AllocError>
     let modes = t.parts().modes.as_slice();
     let mut enters = Vec::new(alloc);
     let mut place = 0u32;
+    let mut start = 0;
     for m in 0..modes.len() {
         enters.push(place)?;
-        let code = mode_code(alloc, t, m as u16, enters.as_slice(), place)?;
+        let run = mode_invs(t, m as u16, start);
+        let code = mode_code(alloc, t, run, enters.as_slice(), place)?;
         place += address(&code.instrs);
+        start = run.end;
     }
     Ok(enters)
 }
@@ -38,11 +42,14 @@ fn layout(alloc: Global, t: &Tables) -> Result<ECode, AllocError>
     let mut begins = Vec::new(alloc);
     let mut decides = Vec::new(alloc);
     let mut instrs: Vec<EInstr> = Vec::new(alloc);
+    let mut start = 0;
     for m in 0..modes.len() {
-        let code = mode_code(alloc, t, m as u16, enters.as_slice(), address(&instrs))?;
+        let run = mode_invs(t, m as u16, start);
+        let code = mode_code(alloc, t, run, enters.as_slice(), address(&instrs))?;
         begins.push(code.begin)?;
         decides.push(code.decide)?;
         instrs.extend_from_slice(code.instrs.as_slice())?;
+        start = run.end;
     }
     Ok(ECode {
         enter: Seq::new(enters),

@@ -9,6 +9,7 @@ mod fault;
 mod instr;
 pub mod laws;
 mod layout;
+pub mod mode_invs;
 pub mod modes;
 pub mod offsets;
 

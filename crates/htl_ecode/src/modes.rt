@@ -6,10 +6,12 @@ ghost use Rattle.htl_ecode.specs.Chains.{children, enter_calls, begin_chain};
 ghost use Rattle.htl_ecode.specs.Chains as chains;
 ghost use Rattle.htl_ecode.specs.Layout.{laid, first_block, mode_code as mode_code_of};
 ghost use Rattle.htl_ecode.specs.Generation.{IsModeCode};
+ghost use Rattle.htl_ecode.specs.ModeInvs.{AreInvsOf};
 
 use crate::EInstr;
 use crate::blocks::{address, phase_code, put_trigger, size_of_end};
 use crate::decisions::put_decide;
+use crate::mode_invs::ModeInvs;
 use crate::offsets::{READS, SWITCHES, WRITES, next_offset};
 use htl_base::Time;
 use htl_model::lookup::mode_period;
@@ -82,28 +84,30 @@ fn put_enter(instrs: &mut Vec<EInstr>, t: &Tables, mode: u16) -> Result<(), Allo
     put_children(instrs, t, mode)
 }
 
-/// The code of a mode, to stand at the address `base`; `enters` has the addresses at which modes are entered, and 0 stands in
-/// for those that it lacks.
+/// The code of the mode with these invocations, to stand at the address `base`; `enters` has the addresses at which modes
+/// are entered, and 0 stands in for those that it lacks.
 pub(crate) fn mode_code(
     alloc: Global,
     t: &Tables,
-    mode: u16,
+    run: ModeInvs,
     enters: &[u32],
     base: u32,
 ) -> Result<ModeCode, AllocError>
+    requires invs { AreInvsOf t.now run }
     requires offsets { OffsetsFit t.now }
-    requires room { base + length (mode_code_of t.now enters.now base mode) + 3 ≤ 4294967295 }
-    ensures { IfOk result (λ x. IsModeCode t.now enters.now base mode x.begin x.decide x.instrs.items) }
+    requires room { base + length (mode_code_of t.now enters.now base run.mode) + 3 ≤ 4294967295 }
+    ensures { IfOk result (λ x. IsModeCode t.now enters.now base run.mode x.begin x.decide x.instrs.items) }
 {
-    let first_write = next_offset(t, mode, WRITES, 0);
-    let first_read = next_offset(t, mode, READS, 0);
+    let mode = run.mode;
+    let first_write = next_offset(t, run, WRITES, 0);
+    let first_read = next_offset(t, run, READS, 0);
     let mut instrs = Vec::new(alloc);
     put_enter(&mut instrs, t, mode)?;
     let begin = base + address(&instrs);
     let at_writes = begin + size_of_end(first_write) + size_of_end(first_read);
-    let writes = phase_code(alloc, t, mode, WRITES, at_writes)?;
+    let writes = phase_code(alloc, t, run, WRITES, at_writes)?;
     let at_reads = at_writes + address(&writes);
-    let reads = phase_code(alloc, t, mode, READS, at_reads)?;
+    let reads = phase_code(alloc, t, run, READS, at_reads)?;
     let decide = at_reads + address(&reads);
     put_begin(
         &mut instrs,

@@ -1,9 +1,10 @@
 -- A chain read item by item.
-use Rattle.std.proofs.Common.{◌≡◌, ℕ, suc, ◌+◌, ◌<◌, Bool, true, false, cond, eqb, List, [], ◌∷◌, ◌++◌, length, get_or, drop, drop-cons, add-one, map, Result, Ok, Err, refl, sym, ap, ◌∙◌}
+use Rattle.std.proofs.Common.{◌≡◌, ℕ, suc, ◌+◌, ◌<◌, ◌≤◌, Bool, true, false, cond, eqb, List, [], ◌∷◌, ◌++◌, length, get_or, drop, drop-cons, add-one, map, Result, Ok, Err, refl, sym, ap, ◌∙◌}
 use Rattle.htl_model.specs.declared.parts.Inv.{Inv}
 use Rattle.htl_model.specs.declared.parts.End.{End}
 use Rattle.htl_model.specs.declared.parts.Module.{Module}
 use Rattle.htl_model.specs.Lists.{joined, numbered, places_from}
+use Rattle.htl_model.specs.Starts.{IsStartOf}
 use Rattle.htl_model.specs.Tables.{Tables}
 use Rattle.htl_ecode.specs.declared.instr.EInstr.{EInstr}
 use Rattle.htl_ecode.specs.declared.instr.EInstr.TheVariants as I
@@ -12,6 +13,7 @@ use Rattle.htl_ecode.specs.Offsets.{meets, counts, ends_in, places_at}
 use Rattle.htl_ecode.specs.Chains.{Want, Does, all_do, is_child, children, call_of, calls_of, release_of, releases, calls}
 use Rattle.htl_ecode.specs.Jumps.{bind}
 use Rattle.htl_ecode.specs.Steps.{Reached, reach}
+use Rattle.htl_ecode.proofs.ModeInvLaws.{IsOfMode, calls_of_mode, releases_of_mode, found_from_start, nothing_later}
 use Rattle.htl_espell.specs.Checks.{next_of}
 use Rattle.htl_espell.specs.Parts.{end_wants, call_wants, release_wants, child_wants}
 
@@ -98,6 +100,24 @@ calls_read code t m phase o a r b is e =
     by_phase false (Ok c) = ap (next_of code c) (sym (do_joined (release_of t m o) (numbered 0 t.invs)))
     by_phase true (Err f) = refl
     by_phase false (Err f) = refl
+
+-- ---- the invocations of a mode
+
+pub calls_wanted_of_mode : (t : Tables) (m phase o : ℕ) → IsOfMode m (call_wants t m phase o)
+calls_wanted_of_mode t m phase o k x e = ap (λ js. all_do js) (calls_of_mode t m phase o k x e)
+
+pub releases_wanted_of_mode : (t : Tables) (m o : ℕ) → IsOfMode m (release_wants t m o)
+releases_wanted_of_mode t m o k x e = ap (λ js. all_do js) (releases_of_mode t m o k x e)
+
+-- nothing is read for invocations before those of the mode
+pub read_from_start : (code : List EInstr) (a : ℕ) (t : Tables) (xs : List Inv) (m s : ℕ) (f : ℕ × Inv → List Want) → xs ≡ t.invs → IsOfMode m f → IsStartOf t m s →
+    next_of code a (joined f (numbered s (drop s xs))) ≡ next_of code a (joined f (numbered 0 t.invs))
+read_from_start code a t xs m s f is h start = ap (next_of code a) (found_from_start t xs m s f is h start)
+
+-- nor for those behind
+pub all_read : (code : List EInstr) (a : ℕ) (t : Tables) (xs : List Inv) (m e k : ℕ) (f : ℕ × Inv → List Want) (whole : Result ℕ EFault) → xs ≡ t.invs → IsOfMode m f → IsStartOf t (m + 1) e → e ≤ k →
+    next_of code a (joined f (numbered k (drop k xs))) ≡ whole → Ok a ≡ whole
+all_read code a t xs m e k f whole is h end past going = sym (ap (next_of code a) (nothing_later t xs m e k f is h end past)) ∙ going
 
 -- ---- the modules of a refinement
 

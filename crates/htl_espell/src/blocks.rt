@@ -2,12 +2,14 @@
 ghost use Rattle.std.specs.Prelude.{◌≡◌, ◌≤◌, ◌+◌, length, IfSome};
 ghost use Rattle.htl_ecode.specs.Offsets.{OffsetsFit};
 ghost use Rattle.htl_ecode.specs.Departure.{fault_of};
+ghost use Rattle.htl_ecode.specs.ModeInvs.{AreInvsOf};
 ghost use Rattle.htl_espell.specs.Checks.{block_of as block_of_both, block_read, begin_read, phase_departure};
 
 use crate::calls::{Block, need_calls};
 use crate::needs::{need, turn, wait_for};
 use crate::slides::Instrs;
 use htl_base::Time;
+use htl_ecode::mode_invs::ModeInvs;
 use htl_ecode::offsets::{READS, WRITES, next_offset};
 use htl_ecode::{EFault, EInstr};
 use htl_model::Tables;
@@ -18,16 +20,17 @@ pub fn check_begin(
     code: &mut Instrs<'_>,
     at: u32,
     t: &Tables,
-    mode: u16,
+    run: ModeInvs,
     decide: u32,
 ) -> Result<(Option<u32>, Option<u32>), EFault>
+    requires invs { AreInvsOf t.now run }
     requires code { length code.old ≤ 4294967295 }
-    ensures targets { result ≡ begin_read code.old t.now decide mode at }
+    ensures targets { result ≡ begin_read code.old t.now decide run.mode at }
     ensures same { code.new ≡ code.old }
 {
-    let (place, writes) = wait_for(code, at, 0, WRITES, next_offset(t, mode, WRITES, 0))?;
-    let (place, reads) = wait_for(code, place, 0, READS, next_offset(t, mode, READS, 0))?;
-    let place = turn(code, place, mode_period(t, mode) as Time, decide)?;
+    let (place, writes) = wait_for(code, at, 0, WRITES, next_offset(t, run, WRITES, 0))?;
+    let (place, reads) = wait_for(code, place, 0, READS, next_offset(t, run, READS, 0))?;
+    let place = turn(code, place, mode_period(t, run.mode) as Time, decide)?;
     need(code, place, EInstr::Return)?;
     Ok((writes, reads))
 }
@@ -39,9 +42,10 @@ fn check_block(
     block: &Block<'_>,
     next: Option<Time>,
 ) -> Result<Option<u32>, EFault>
+    requires invs { AreInvsOf block.now.t.now block.now.run }
     requires code { length code.old ≤ 4294967295 }
     requires later { IfSome next (λ o. block.now.offset ≤ o) }
-    ensures read { result ≡ block_read code.old block.now.t.now block.now.mode block.now.phase block.now.offset next at }
+    ensures read { result ≡ block_read code.old block.now.t.now block.now.run.mode block.now.phase block.now.offset next at }
     ensures same { code.new ≡ code.old }
 {
     let place = need_calls(code, at, block)?;
@@ -64,21 +68,22 @@ fn block_of(next: Option<Time>, at: Option<u32>) -> Option<(Time, u32)>
 pub fn check_phase(
     code: &mut Instrs<'_>,
     t: &Tables,
-    mode: u16,
+    run: ModeInvs,
     phase: u8,
     first: Option<u32>,
 ) -> Result<(), EFault>
+    requires invs { AreInvsOf t.now run }
     requires code { length code.old ≤ 4294967295 }
     requires offsets { OffsetsFit t.now }
-    ensures fault { fault_of result ≡ phase_departure t.now code.old mode phase first }
+    ensures fault { fault_of result ≡ phase_departure t.now code.old run.mode phase first }
     ensures same { code.new ≡ code.old }
 {
-    let mut block = block_of(next_offset(t, mode, phase, 0), first);
+    let mut block = block_of(next_offset(t, run, phase, 0), first);
     while let Some((offset, at)) = block {
-        let next = next_offset(t, mode, phase, offset + 1);
+        let next = next_offset(t, run, phase, offset + 1);
         let here = Block {
             t,
-            mode,
+            run,
             phase,
             offset,
         };

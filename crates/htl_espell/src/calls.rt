@@ -2,6 +2,7 @@
 ghost use Rattle.std.specs.Prelude.{◌≡◌, ◌≤◌, length};
 ghost use Rattle.htl_model.specs.Lists.{joined, numbered};
 ghost use Rattle.htl_ecode.specs.Chains.{all_do, calls_of, release_of, calls as calls_at};
+ghost use Rattle.htl_ecode.specs.ModeInvs.{AreInvsOf};
 ghost use Rattle.htl_espell.specs.Checks.{next_of};
 ghost use Rattle.htl_espell.specs.Parts.{end_wants, call_wants, release_wants};
 
@@ -9,6 +10,7 @@ use crate::needs::need;
 use crate::slides::Instrs;
 use htl_base::Time;
 use htl_ecode::calls::call;
+use htl_ecode::mode_invs::ModeInvs;
 use htl_ecode::offsets::{WRITES, counts, ends_in, meets};
 use htl_ecode::{EFault, EInstr};
 use htl_model::window::release;
@@ -18,7 +20,8 @@ use htl_model::{End, Inv, Tables};
 #[derive(Clone, Copy)]
 pub struct Block<'a> {
     pub t: &'a Tables,
-    pub mode: u16,
+    /// The invocations of the mode.
+    pub run: ModeInvs,
     pub phase: u8,
     /// From the start of a round, in ticks.
     pub offset: Time,
@@ -75,24 +78,25 @@ fn need_inv(
     requires code { length code.old ≤ 4294967295 }
     requires reads { length inv.now.reads ≤ 256 }
     requires writes { length inv.now.writes ≤ 256 }
-    ensures read { result ≡ next_of code.old at (call_wants block.now.t.now block.now.mode block.now.phase block.now.offset (k, inv.now)) }
+    ensures read { result ≡ next_of code.old at (call_wants block.now.t.now block.now.run.mode block.now.phase block.now.offset (k, inv.now)) }
     ensures same { code.new ≡ code.old }
 {
-    if !counts(block.t, block.mode, inv) {
+    if !counts(block.t, block.run.mode, inv) {
         return Ok(at);
     }
     need_ends(code, at, block, k, ends_in(inv, block.phase))
 }
 
-// Reads the calls of all invocations.
+// Reads the calls of all invocations of the mode.
 fn need_invs(code: &mut Instrs<'_>, at: u32, block: &Block<'_>) -> Result<u32, EFault>
-    requires { length code.old ≤ 4294967295 }
-    ensures read { result ≡ next_of code.old at (joined (call_wants block.now.t.now block.now.mode block.now.phase block.now.offset) (numbered 0 block.now.t.now.invs)) }
+    requires invs { AreInvsOf block.now.t.now block.now.run }
+    requires code { length code.old ≤ 4294967295 }
+    ensures read { result ≡ next_of code.old at (joined (call_wants block.now.t.now block.now.run.mode block.now.phase block.now.offset) (numbered 0 block.now.t.now.invs)) }
     ensures same { code.new ≡ code.old }
 {
     let invs = block.t.parts().invs.as_slice();
     let mut place = at;
-    for k in 0..invs.len() {
+    for k in block.run.start..block.run.end {
         let inv = &invs[k];
         place = need_inv(code, place, block, k as u16, inv)?;
     }
@@ -108,10 +112,10 @@ fn need_release(
     inv: &Inv,
 ) -> Result<u32, EFault>
     requires { length code.old ≤ 4294967295 }
-    ensures read { result ≡ next_of code.old at (release_wants block.now.t.now block.now.mode block.now.offset (k, inv.now)) }
+    ensures read { result ≡ next_of code.old at (release_wants block.now.t.now block.now.run.mode block.now.offset (k, inv.now)) }
     ensures same { code.new ≡ code.old }
 {
-    if counts(block.t, block.mode, inv) && release(block.t, inv) == block.offset {
+    if counts(block.t, block.run.mode, inv) && release(block.t, inv) == block.offset {
         need(code, at, EInstr::Release { inv: k })
     } else {
         Ok(at)
@@ -120,13 +124,14 @@ fn need_release(
 
 // Reads the releases at an offset.
 fn need_releases(code: &mut Instrs<'_>, at: u32, block: &Block<'_>) -> Result<u32, EFault>
-    requires { length code.old ≤ 4294967295 }
-    ensures read { result ≡ next_of code.old at (joined (release_wants block.now.t.now block.now.mode block.now.offset) (numbered 0 block.now.t.now.invs)) }
+    requires invs { AreInvsOf block.now.t.now block.now.run }
+    requires code { length code.old ≤ 4294967295 }
+    ensures read { result ≡ next_of code.old at (joined (release_wants block.now.t.now block.now.run.mode block.now.offset) (numbered 0 block.now.t.now.invs)) }
     ensures same { code.new ≡ code.old }
 {
     let invs = block.t.parts().invs.as_slice();
     let mut place = at;
-    for k in 0..invs.len() {
+    for k in block.run.start..block.run.end {
         let inv = &invs[k];
         place = need_release(code, place, block, k as u16, inv)?;
     }
@@ -135,8 +140,9 @@ fn need_releases(code: &mut Instrs<'_>, at: u32, block: &Block<'_>) -> Result<u3
 
 /// Reads what is done at an offset in a phase: the address after it.
 pub fn need_calls(code: &mut Instrs<'_>, at: u32, block: &Block<'_>) -> Result<u32, EFault>
-    requires { length code.old ≤ 4294967295 }
-    ensures read { result ≡ next_of code.old at (all_do (calls_at block.now.t.now block.now.mode block.now.phase block.now.offset)) }
+    requires invs { AreInvsOf block.now.t.now block.now.run }
+    requires code { length code.old ≤ 4294967295 }
+    ensures read { result ≡ next_of code.old at (all_do (calls_at block.now.t.now block.now.run.mode block.now.phase block.now.offset)) }
     ensures same { code.new ≡ code.old }
 {
     let place = need_invs(code, at, block)?;

@@ -3,12 +3,14 @@ ghost use Rattle.std.specs.Prelude.{◌≡◌, ◌↔◌, ◌≤◌, ◌<◌, le
 ghost use Rattle.htl_ecode.specs.Conditions.{KeepsOffsets};
 ghost use Rattle.htl_ecode.specs.Offsets.{OffsetsFit};
 ghost use Rattle.htl_ecode.specs.Departure.{fault_of, entered, begun, decided, mode_fault, departure};
+ghost use Rattle.htl_ecode.specs.ModeInvs.{AreInvsOf};
 ghost use Rattle.htl_ecode.specs.Spelling.{Spells};
 
 use crate::blocks::{check_begin, check_phase};
 use crate::endings::{Rounds, check_decide};
 use crate::entries::check_enter;
 use crate::slides::Instrs;
+use htl_ecode::mode_invs::{ModeInvs, mode_invs};
 use htl_ecode::offsets::{READS, WRITES};
 use htl_ecode::{ECode, EFault};
 use htl_model::Tables;
@@ -26,24 +28,25 @@ fn check_mode(
     t: &Tables,
     code: &ECode,
     instrs: &mut Instrs<'_>,
-    mode: u16,
+    run: ModeInvs,
     at: Addresses,
 ) -> Result<(), EFault>
+    requires invs { AreInvsOf t.now run }
     requires instrs { instrs.old ≡ code.now.instrs }
     requires code { length code.now.instrs ≤ 4294967295 }
     requires offsets { OffsetsFit t.now }
-    requires enter { at.enter ≡ entered code.now mode }
-    requires begin { at.begin ≡ begun code.now mode }
-    requires decide { at.decide ≡ decided code.now mode }
-    ensures fault { fault_of result ≡ mode_fault t.now code.now mode }
+    requires enter { at.enter ≡ entered code.now run.mode }
+    requires begin { at.begin ≡ begun code.now run.mode }
+    requires decide { at.decide ≡ decided code.now run.mode }
+    ensures fault { fault_of result ≡ mode_fault t.now code.now run.mode }
     ensures same { instrs.new ≡ instrs.old }
 {
-    check_enter(instrs, at.enter, t, mode, at.begin)?;
-    let (writes, reads) = check_begin(instrs, at.begin, t, mode, at.decide)?;
-    check_phase(instrs, t, mode, WRITES, writes)?;
-    check_phase(instrs, t, mode, READS, reads)?;
+    check_enter(instrs, at.enter, t, run.mode, at.begin)?;
+    let (writes, reads) = check_begin(instrs, at.begin, t, run, at.decide)?;
+    check_phase(instrs, t, run, WRITES, writes)?;
+    check_phase(instrs, t, run, READS, reads)?;
     let rounds = Rounds {
-        mode,
+        mode: run.mode,
         begin: at.begin,
         enters: code.enter.as_slice(),
     };
@@ -64,13 +67,16 @@ fn check_modes(t: &Tables, code: &ECode) -> Result<(), EFault>
     let begin = code.begin.as_slice();
     let decide = code.decide.as_slice();
     let mut instrs = Instrs::new(code.instrs.as_slice());
+    let mut start = 0;
     for m in 0..modes.len() {
         let at = Addresses {
             enter: enter[m],
             begin: begin[m],
             decide: decide[m],
         };
-        check_mode(t, code, &mut instrs, m as u16, at)?;
+        let run = mode_invs(t, m as u16, start);
+        check_mode(t, code, &mut instrs, run, at)?;
+        start = run.end;
     }
     Ok(())
 }

@@ -1,7 +1,7 @@
 use Rattle.std.proofs.Common.{arith, ◌≡◌, ◌-◌, ◌+◌, ℕ, suc, Some, length, refl, sym, ap, subst, ◌∙◌}
 use Rattle.std.specs.Prelude.{slice_get}
 use Rattle.std.proofs.lemmas.Option.{slice_get_within}
-use Rattle.htl_ecode.specs.Jumps.{land, lands}
+use Rattle.htl_ecode.specs.Jumps.{land}
 use Rattle.htl_ecode.specs.declared.instr.EInstr.TheVariants.{Jump}
 use Rattle.htl_espell.specs.Checks.{place_of}
 use Rattle.htl_espell.specs.Slides.{slid}

@@ -1,6 +1,7 @@
 use Rattle.std.proofs.Common.{◌≡◌, None}
+use Rattle.htl_model.specs.Starts.{IsStartOf}
 use Rattle.htl_ecode.specs.Departure.{departure_before}
 use Rattle.htl_espell.proofs.spelling.check_modes.Given as goal
 
 abbrev pub invariant-loop-m : goal.invariant-loop-m
-invariant-loop-m l = record { kept : departure_before l.t l.code l.m ≡ None; same : l.instrs ≡ l.code.instrs }
+invariant-loop-m l = record { kept : departure_before l.t l.code l.m ≡ None; same : l.instrs ≡ l.code.instrs; start : IsStartOf l.t l.m l.start }
