@@ -30,12 +30,12 @@ found_at row from low count one less =
 
 -- ---- a number noted in the rows of the bits
 
-or_none : (a b : Bool) → a ≡ (a || (b && false))
+pub or_none : (a b : Bool) → a ≡ (a || (b && false))
 or_none true b = refl
 or_none false true = refl
 or_none false false = refl
 
-and_true : (a : Bool) → a ≡ (a && true)
+pub and_true : (a : Bool) → a ≡ (a && true)
 and_true true = refl
 and_true false = refl
 

@@ -1,12 +1,12 @@
 pub mod BitRows
 pub mod Bounds
 pub mod BySlices
-pub mod Choosing
 pub mod Counting
 pub mod Cutting
 pub mod FormedWindows
 pub mod Found
 pub mod FrameRows
+pub mod FrameSampleFits
 pub mod Fronts
 pub mod Jumps
 pub mod Kept
@@ -18,6 +18,8 @@ pub mod PartRuns
 pub mod PathOrder
 pub mod Plannable
 pub mod Plans
+pub mod Ranking
+pub mod ReadyRanks
 pub mod Refusal
 pub mod Reporting
 pub mod Rest

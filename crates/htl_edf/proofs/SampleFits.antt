@@ -14,7 +14,7 @@ use Rattle.htl_model.specs.Ranges.{AreInRange, IsSpan, IsCommInRange, IsModeInRa
 use Rattle.htl_edf.specs.Samples.{sample_mode, sample_task, sample_inv, sample_modes, sample_modules, sample_tasks, sample_invs, sample_of, sample}
 
 -- a test of rising
-rises : List ℕ → Bool
+unfoldable pub rises : List ℕ → Bool
 rises [] = true
 rises (x ∷ []) = true
 rises (x ∷ y ∷ ys) = leb x y && rises (y ∷ ys)
@@ -32,7 +32,7 @@ unfolding rises
 tail_rises x [] e = refl
 tail_rises x (y ∷ ys) e = (and_parts (leb x y) (rises (y ∷ ys)) e).1
 
-rising : (xs : List ℕ) → rises xs ≡ true → IsNonDecreasing xs
+pub rising : (xs : List ℕ) → rises xs ≡ true → IsNonDecreasing xs
 rising [] e i j d l b = absurd (omega arith)
 rising (x ∷ xs) e zero zero d l b = omega arith
 rising (x ∷ xs) e zero (suc j) d l b = least_first x xs j d e (omega arith)

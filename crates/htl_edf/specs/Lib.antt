@@ -1,13 +1,14 @@
 pub mod Code
 pub mod Edf
 pub mod Faults
+pub mod FrameSamples
 pub mod Laws
 pub mod Lists
 pub mod NodePlans
 pub mod PartLaws
 pub mod Parts
 pub mod Plan
-pub mod Ready
+pub mod Ranks
 pub mod Samples
 pub mod Search
 pub mod Slices

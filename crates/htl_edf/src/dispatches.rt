@@ -1,13 +1,14 @@
 // The slices of earliest deadline first as instructions.
 ghost use Rattle.std.specs.Prelude.{◌≡◌, ◌≤◌, ◌<◌, List, length, IfOk};
 ghost use Rattle.htl_edf.specs.Edf.{Slice, run_for};
-ghost use Rattle.htl_edf.specs.Lists.{HoldsAfter, LeftAt};
+ghost use Rattle.htl_edf.specs.Lists.{LeftAt};
+ghost use Rattle.htl_edf.specs.Ranks.{AreRanked};
 ghost use Rattle.htl_edf.specs.Code.{closed_of, open_of, edf_schedule};
 
-use crate::Tight;
 use crate::events::{Ahead, advance, horizon};
+use crate::ranks::Ranks;
 use htl_base::Time;
-use htl_walk::{Job, SInstr};
+use htl_walk::SInstr;
 use std::alloc::{AllocError, Global};
 
 // Adds that p runs from t to an event. The last slice stays open, since p may go on.
@@ -28,31 +29,27 @@ pub fn record_run(
     Ok(Some((p, event)))
 }
 
-/// A dispatch for each maximal slice up to the period, and `End`; the positions have their worst cases left. At each event
-/// the positions that are released and have work left are gone over once for the one that runs, and where a release was
-/// reached, all positions for those that are released and for the next release.
+/// A dispatch for each maximal slice up to the period, and `End`; the positions have their worst cases left. An event
+/// costs the same however many positions there are; besides, each position is released once.
 pub fn run_all(
     alloc: Global,
-    jobs: &[Job],
-    windows: &[Tight],
+    ranks: Ranks<'_>,
     left: &mut [Time],
     period: Time,
 ) -> Result<Vec<SInstr>, AllocError>
-    requires few { length jobs.now ≤ 128 }
-    requires at { HoldsAfter jobs.now windows.now (length jobs.now) }
-    requires same { length windows.now ≡ length jobs.now }
-    requires left_same { length left.old ≡ length jobs.now }
-    requires lefts { LeftAt jobs.now left.old 0 }
+    requires ranked { AreRanked ranks.jobs.now ranks.by_end.now ranks.by_release.now }
+    requires left_same { length left.old ≡ length ranks.jobs.now }
+    requires lefts { LeftAt ranks.jobs.now left.old 0 }
     requires period { period ≤ 1000000 }
-    ensures { IfOk result (λ v. v.items ≡ edf_schedule jobs.now period) }
+    ensures { IfOk result (λ v. v.items ≡ edf_schedule ranks.entry.jobs.now period) }
 {
-    let mut instrs = Vec::new(alloc);
+    let mut instrs = Vec::with_capacity(alloc, ranks.jobs.len() + 1)?;
     let mut last = None;
     let mut t = 0;
-    let mut ahead = Ahead { until: 0, ready: 0 };
+    let mut ahead = Ahead::START;
     while t < period {
-        ahead = horizon(jobs, windows, left, t, ahead, period);
-        let (runs, event) = advance(jobs, windows, left, &mut ahead, t);
+        ahead = horizon(ranks, left, t, ahead, period);
+        let (runs, event) = advance(ranks, left, &mut ahead, t);
         if let Some(p) = runs {
             last = record_run(&mut instrs, last, p as u16, t as u32, event as u32)?;
         }

@@ -1,13 +1,12 @@
 // The scheduler goes from event to event: a position's last tick, or a release.
-ghost use Rattle.std.specs.Prelude.{◌≡◌, ℕ, ◌+◌, ◌<◌, ◌≤◌, length, slice_index, get_or, cond, eqb, leb, ltb, ◌&&◌, ◌||◌, IfSome};
+ghost use Rattle.std.specs.Prelude.{◌≡◌, ℕ, ◌+◌, ◌<◌, ◌≤◌, length, cond, eqb, ltb, ◌&&◌, ◌||◌, IfSome};
 ghost use Rattle.htl_model.specs.Bits.{has_bit};
-ghost use Rattle.htl_edf.specs.Tight.{release_at, end_at};
-ghost use Rattle.htl_edf.specs.Edf.{edf as edf_at, earliest, better as better_of};
-ghost use Rattle.htl_edf.specs.Lists.{jobs_of, tightened, HoldsAfter, LeftAt, QuietFrom, no_window};
-ghost use Rattle.htl_edf.specs.Ready.{IsReadyRow};
+ghost use Rattle.htl_edf.specs.Edf.{edf as edf_at};
+ghost use Rattle.htl_edf.specs.Lists.{tightened, LeftAt, QuietFrom};
+ghost use Rattle.htl_edf.specs.Ranks.{AreRanked, IsAhead, IsReleased};
 
-use crate::Tight;
 use crate::bits::{next_bit, without_bit};
+use crate::ranks::Ranks;
 use htl_base::Time;
 use htl_model::bits::with_bit;
 use htl_walk::Job;
@@ -17,8 +16,19 @@ use htl_walk::Job;
 pub struct Ahead {
     /// The next release, or the limit where none comes before it.
     pub until: Time,
-    /// A bit for each position that is released and has work left.
+    /// A bit for each rank whose position is released and has work left.
     pub ready: u128,
+    /// How many positions are released.
+    pub released: usize,
+}
+
+impl Ahead {
+    /// Before any release is looked for.
+    pub const START: Ahead = Ahead {
+        until: 0,
+        ready: 0,
+        released: 0,
+    };
 }
 
 /// Writes the ticks that each position has left at 0.
@@ -31,52 +41,6 @@ pub fn start(jobs: &[Job], left: &mut [Time])
     }
 }
 
-// Whether position q is released at t and has work left.
-fn is_ready(jobs: &[Job], windows: &[Tight], left: &[Time], t: Time, q: usize) -> bool
-    requires at { HoldsAfter jobs.now windows.now (length jobs.now) }
-    requires same { length windows.now ≡ length jobs.now }
-    requires left_same { length left.now ≡ length jobs.now }
-    requires q_in { q < length jobs.now }
-    requires early { t ≤ 1000000 }
-    ensures { result ≡ (leb (release_at (jobs_of jobs.now) (length jobs.now) q) t && ltb 0 (slice_index left.now q)) }
-{
-    windows[q].release <= t as i64 && left[q] > 0
-}
-
-// Of two positions, the second with the higher number, the one with the lesser end; the first where they end together.
-fn better(windows: &[Tight], best: Option<usize>, q: usize) -> Option<usize>
-    requires within { q < length windows.now }
-    requires best { IfSome best (λ p. p < length windows.now) }
-    ensures is { result ≡ better_of (λ p. (get_or windows.now p no_window).end) best q }
-    ensures within { IfSome result (λ p. p < length windows.now) }
-{
-    match best {
-        None => Some(q),
-        Some(p) => if windows[q].end < windows[p].end {
-            Some(q)
-        } else {
-            Some(p)
-        },
-    }
-}
-
-// The position that runs: of those that are ready the one with the least end, of several the lowest.
-fn choose(jobs: &[Job], windows: &[Tight], ready: u128) -> Option<usize>
-    requires few { length jobs.now ≤ 128 }
-    requires at { HoldsAfter jobs.now windows.now (length jobs.now) }
-    requires same { length windows.now ≡ length jobs.now }
-    ensures is { result ≡ earliest (has_bit ready) (end_at (jobs_of jobs.now) (length jobs.now)) (length jobs.now) }
-    ensures within { IfSome result (λ p. p < length jobs.now) }
-{
-    let mut best = None;
-    let mut q = next_bit(ready, 0, jobs.len());
-    while q < jobs.len() {
-        best = better(windows, best, q);
-        q = next_bit(ready, q + 1, jobs.len());
-    }
-    best
-}
-
 // A row with one bit more, if so.
 fn with_bit_if(row: u128, q: u32, is_more: bool) -> u128
     requires { q < 128 }
@@ -85,125 +49,101 @@ fn with_bit_if(row: u128, q: u32, is_more: bool) -> u128
     if is_more { with_bit(row, q) } else { row }
 }
 
-// The positions that are released at t and have work left.
-fn ready_at(jobs: &[Job], windows: &[Tight], left: &[Time], t: Time) -> u128
-    requires few { length jobs.now ≤ 128 }
-    requires at { HoldsAfter jobs.now windows.now (length jobs.now) }
-    requires same { length windows.now ≡ length jobs.now }
-    requires left_same { length left.now ≡ length jobs.now }
-    requires early { t ≤ 1000000 }
-    ensures { IsReadyRow jobs.now left.now t result }
+// What is known once the positions that are released by t count as such; the next release isn't looked for.
+fn release_by(ranks: Ranks<'_>, left: &[Time], t: Time, known: Ahead) -> Ahead
+    requires ranked { AreRanked ranks.jobs.now ranks.by_end.now ranks.by_release.now }
+    requires left_same { length left.now ≡ length ranks.jobs.now }
+    requires known { IsAhead ranks.jobs.now ranks.by_end.now ranks.by_release.now left.now t known.until known.ready known.released }
+    ensures { IsReleased ranks.entry.jobs.now ranks.entry.by_end.now ranks.entry.by_release.now left.now t result.ready result.released }
 {
-    let mut row = 0u128;
-    for q in 0..jobs.len() {
-        row = with_bit_if(row, q as u32, is_ready(jobs, windows, left, t, q));
+    let mut ready = known.ready;
+    let mut n = known.released;
+    while n < ranks.jobs.len() && ranks.release(n) <= t {
+        let rank = ranks.rank_released(n);
+        ready = with_bit_if(ready, rank as u32, left[ranks.position(rank)] > 0);
+        n += 1;
     }
-    row
-}
-
-// The first release after t, or `limit` where none comes before it.
-fn next_release(jobs: &[Job], windows: &[Tight], t: Time, limit: Time) -> Time
-    requires at { HoldsAfter jobs.now windows.now (length jobs.now) }
-    requires same { length windows.now ≡ length jobs.now }
-    requires early { t < limit }
-    requires limit { limit ≤ 1000000 }
-    ensures later { t < result }
-    ensures within { result ≤ limit }
-    ensures quiet { QuietFrom jobs.now t result }
-{
-    let mut next = limit;
-    for q in 0..jobs.len() {
-        let release = windows[q].release;
-        if (t as i64) < release && release < next as i64 {
-            next = release as Time;
-        }
+    Ahead {
+        until: known.until,
+        ready,
+        released: n,
     }
-    next
 }
 
 /// The first release after t, or `limit` where none comes before it, and the positions that are ready at t. `known` is that
-/// of an earlier time with what ran since, and is looked for anew only once its release is reached.
-pub fn horizon(
-    jobs: &[Job],
-    windows: &[Tight],
-    left: &[Time],
-    t: Time,
-    known: Ahead,
-    limit: Time,
-) -> Ahead
-    requires few { length jobs.now ≤ 128 }
-    requires at { HoldsAfter jobs.now windows.now (length jobs.now) }
-    requires same { length windows.now ≡ length jobs.now }
-    requires left_same { length left.now ≡ length jobs.now }
+/// of an earlier time with what ran since, and is looked for anew only once its release is reached; then the positions that
+/// are released by t and were not before are gone over.
+pub fn horizon(ranks: Ranks<'_>, left: &[Time], t: Time, known: Ahead, limit: Time) -> Ahead
+    requires ranked { AreRanked ranks.jobs.now ranks.by_end.now ranks.by_release.now }
+    requires left_same { length left.now ≡ length ranks.jobs.now }
     requires early { t < limit }
-    requires limit { limit ≤ 1000000 }
-    requires known { known.until ≤ limit }
-    requires quiet { QuietFrom jobs.now t known.until }
-    requires ready { t < known.until → IsReadyRow jobs.now left.now t known.ready }
+    requires known_within { known.until ≤ limit }
+    requires known { IsAhead ranks.jobs.now ranks.by_end.now ranks.by_release.now left.now t known.until known.ready known.released }
     ensures later { t < result.until }
     ensures within { result.until ≤ limit }
-    ensures quiet { QuietFrom jobs.now t result.until }
-    ensures ready { IsReadyRow jobs.now left.now t result.ready }
+    ensures ahead { IsAhead ranks.entry.jobs.now ranks.entry.by_end.now ranks.entry.by_release.now left.now t result.until result.ready result.released }
 {
     if t < known.until {
-        known
+        return known;
+    }
+    let now = release_by(ranks, left, t, known);
+    let until = if now.released < ranks.jobs.len() {
+        ranks.release(now.released).min(limit)
     } else {
-        Ahead {
-            until: next_release(jobs, windows, t, limit),
-            ready: ready_at(jobs, windows, left, t),
-        }
+        limit
+    };
+    Ahead {
+        until,
+        ready: now.ready,
+        released: now.released,
     }
 }
 
-// Which positions are ready after p ran, which has these ticks left.
-fn after_run(ready: u128, p: u32, left: Time) -> u128
-    requires { p < 128 }
-    ensures { (q : ℕ) → has_bit result q ≡ cond (eqb q p) (has_bit ready p && ltb 0 left) (has_bit ready q) }
+// Which ranks are ready after that of k ran, which has these ticks left.
+fn after_run(ready: u128, k: u32, left: Time) -> u128
+    requires { k < 128 }
+    ensures { (r : ℕ) → has_bit result r ≡ cond (eqb r k) (has_bit ready k && ltb 0 left) (has_bit ready r) }
 {
     if left > 0 {
         ready
     } else {
-        without_bit(ready, p)
+        without_bit(ready, k)
     }
 }
 
-/// Runs from t to the next event: the position that ran, if any, and when the event is. No position is released between t
-/// and `ahead.until`.
+/// Runs from t to the next event: the position that ran, if any, and when the event is. The position is that of the lowest
+/// rank that is ready.
 pub fn advance(
-    jobs: &[Job],
-    windows: &[Tight],
+    ranks: Ranks<'_>,
     left: &mut [Time],
     ahead: &mut Ahead,
     t: Time,
 ) -> (Option<usize>, Time)
-    requires few { length jobs.now ≤ 128 }
-    requires at { HoldsAfter jobs.now windows.now (length jobs.now) }
-    requires same { length windows.now ≡ length jobs.now }
-    requires left_same { length left.old ≡ length jobs.now }
+    requires ranked { AreRanked ranks.jobs.now ranks.by_end.now ranks.by_release.now }
+    requires left_same { length left.old ≡ length ranks.jobs.now }
     requires early { t < ahead.old.until }
     requires limit { ahead.old.until ≤ 1000000 }
-    requires quiet { QuietFrom jobs.now t ahead.old.until }
-    requires lefts { LeftAt jobs.now left.old t }
-    requires ready { IsReadyRow jobs.now left.old t ahead.old.ready }
+    requires lefts { LeftAt ranks.jobs.now left.old t }
+    requires ahead { IsAhead ranks.jobs.now ranks.by_end.now ranks.by_release.now left.old t ahead.old.until ahead.old.ready ahead.old.released }
     ensures later { t < result.1 }
     ensures within { result.1 ≤ ahead.old.until }
-    ensures in_range { IfSome result.0 (λ p. p < length jobs.now) }
-    ensures runs { (i : ℕ) → t + i < result.1 → edf_at (tightened jobs.now) (t + i) ≡ result.0 }
-    ensures lefts { LeftAt jobs.now left.new result.1 }
-    ensures quiet { QuietFrom jobs.now result.1 ahead.old.until }
+    ensures in_range { IfSome result.0 (λ p. p < length ranks.entry.jobs.now) }
+    ensures runs { (i : ℕ) → t + i < result.1 → edf_at (tightened ranks.entry.jobs.now) (t + i) ≡ result.0 }
+    ensures left_same { length left.new ≡ length left.old }
+    ensures lefts { LeftAt ranks.entry.jobs.now left.new result.1 }
     ensures until { ahead.new.until ≡ ahead.old.until }
-    ensures ready { result.1 < ahead.old.until → IsReadyRow jobs.now left.new result.1 ahead.new.ready }
+    ensures ahead { IsAhead ranks.entry.jobs.now ranks.entry.by_end.now ranks.entry.by_release.now left.new result.1 ahead.new.until ahead.new.ready ahead.new.released }
 {
     let until = ahead.until;
-    match choose(jobs, windows, ahead.ready) {
-        None => (None, until),
-        Some(p) => {
-            let work = left[p];
-            let event = if until - t < work { until } else { t + work };
-            let rest = work - (event - t);
-            left[p] = rest;
-            ahead.ready = after_run(ahead.ready, p as u32, rest);
-            (Some(p), event)
-        }
+    let rank = next_bit(ahead.ready, 0, ranks.jobs.len());
+    if rank == ranks.jobs.len() {
+        return (None, until);
     }
+    let p = ranks.position(rank);
+    let work = left[p];
+    let event = if until - t < work { until } else { t + work };
+    let rest = work - (event - t);
+    left[p] = rest;
+    ahead.ready = after_run(ahead.ready, rank as u32, rest);
+    (Some(p), event)
 }

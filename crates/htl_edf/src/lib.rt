@@ -10,6 +10,7 @@ pub mod nodes;
 mod overload;
 pub mod parts;
 mod plan;
+mod ranks;
 mod rounds;
 mod scheduler;
 mod turns;
@@ -19,6 +20,8 @@ pub use plan::{PlanFault, edf_all};
 pub use rounds::{Tight, tighten};
 pub use scheduler::{EdfFault, edf};
 
+#[cfg(test)]
+mod frame_tests;
 #[cfg(test)]
 mod plan_tests;
 #[cfg(test)]

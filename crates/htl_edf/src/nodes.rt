@@ -7,12 +7,14 @@ ghost use Rattle.htl_walk.specs.PathJobs.{path_jobs as path_jobs_of};
 ghost use Rattle.htl_walk.specs.Feasible.{AreFeasible};
 ghost use Rattle.htl_walk.specs.NodeWalks.{instrs_of as lists_in};
 ghost use Rattle.htl_edf.specs.Windows.{NoOverload, Reported};
-ghost use Rattle.htl_edf.specs.Lists.{tightened, HoldsAfter, LeftAt};
+ghost use Rattle.htl_edf.specs.Lists.{tightened, LeftAt};
+ghost use Rattle.htl_edf.specs.Ranks.{AreRanked};
 ghost use Rattle.htl_edf.specs.NodePlans.{AreReady, HasPart, HaveParts, AreNodeLists, ExplainsNodes};
 
 use crate::events::{Ahead, advance, horizon, start};
 use crate::overload::Overload;
 use crate::parts::run_part;
+use crate::ranks::{Ranks, rank};
 use crate::{EdfFault, PlanFault, Tight, edf, tighten};
 use htl_base::limits::MAX_POSITIONS;
 use htl_base::{Seq, Time};
@@ -23,25 +25,20 @@ use htl_walk::{Job, Schedule, frame_jobs};
 use std::alloc::{AllocError, Global};
 
 // Runs from one instant to another.
-fn run_until(jobs: &[Job], windows: &[Tight], left: &mut [Time], from: Time, to: Time)
-    requires few { length jobs.now ≤ 128 }
-    requires at { HoldsAfter jobs.now windows.now (length jobs.now) }
-    requires same { length windows.now ≡ length jobs.now }
-    requires left_same { length left.old ≡ length jobs.now }
-    requires lefts { LeftAt jobs.now left.old from }
+fn run_until(ranks: Ranks<'_>, left: &mut [Time], from: Time, to: Time)
+    requires ranked { AreRanked ranks.jobs.now ranks.by_end.now ranks.by_release.now }
+    requires left_same { length left.old ≡ length ranks.jobs.now }
+    requires lefts { LeftAt ranks.jobs.now left.old from }
     requires order { from ≤ to }
     requires to { to ≤ 1000000 }
     ensures left_same { length left.new ≡ length left.old }
-    ensures lefts { LeftAt jobs.now left.new to }
+    ensures lefts { LeftAt ranks.entry.jobs.now left.new to }
 {
     let mut t = from;
-    let mut ahead = Ahead {
-        until: from,
-        ready: 0,
-    };
+    let mut ahead = Ahead::START;
     while t < to {
-        ahead = horizon(jobs, windows, left, t, ahead, to);
-        let (_, event) = advance(jobs, windows, left, &mut ahead, t);
+        ahead = horizon(ranks, left, t, ahead, to);
+        let (_, event) = advance(ranks, left, &mut ahead, t);
         t = event;
     }
 }
@@ -62,38 +59,43 @@ fn path_overload(alloc: Global, t: &Tables, f: &Frame, path: u32) -> Option<Over
     }
 }
 
-// Makes the lists of a path, whose jobs these are, from list `first` on.
+// A path of a frame.
+#[derive(Clone, Copy)]
+struct Path<'a> {
+    tables: &'a Tables,
+    frame: &'a Frame,
+    number: u32,
+}
+
+// Makes the lists of a path, whose jobs these are and have their worst cases left, from list `first` on.
 fn plan_lists(
     alloc: Global,
-    t: &Tables,
-    f: &Frame,
-    path: u32,
+    path: Path<'_>,
     first: usize,
-    jobs: &[Job],
-    windows: &mut [Tight],
+    ranks: Ranks<'_>,
     left: &mut [Time],
     v: &mut Vec<Schedule>,
 ) -> Result<(), AllocError>
-    requires frame { IsFrame t.now f.now }
-    requires ready { AreReady t.now }
-    requires path { path < paths_of t.now }
-    requires first { first ≤ length (starts_of t.now) }
-    requires jobs { jobs.now ≡ path_jobs_of t.now path }
-    requires same { length windows.old ≡ length jobs.now }
-    requires left_same { length left.old ≡ length jobs.now }
-    requires count { length v.old.items ≡ nodes_of_frame t.now }
-    requires shared { (i : ℕ) → i < first → HasPart t.now (lists_in v.old.items) path i }
-    requires before { HaveParts t.now (lists_in v.old.items) path }
-    ensures parts { OnOk result ((i : ℕ) → i < length (starts_of t.now) → HasPart t.now (lists_in v.new.items) path i) }
-    ensures before { OnOk result (HaveParts t.now (lists_in v.new.items) path) }
-    ensures count { OnOk result (length v.new.items ≡ nodes_of_frame t.now) }
+    requires frame { IsFrame path.tables.now path.frame.now }
+    requires ready { AreReady path.tables.now }
+    requires path { path.number < paths_of path.tables.now }
+    requires first { first ≤ length (starts_of path.tables.now) }
+    requires count { length v.old.items ≡ nodes_of_frame path.tables.now }
+    requires shared { (i : ℕ) → i < first → HasPart path.tables.now (lists_in v.old.items) path.number i }
+    requires before { HaveParts path.tables.now (lists_in v.old.items) path.number }
+    requires jobs { ranks.jobs.now ≡ path_jobs_of path.tables.now path.number }
+    requires ranked { AreRanked ranks.jobs.now ranks.by_end.now ranks.by_release.now }
+    requires left_same { length left.old ≡ length ranks.jobs.now }
+    requires lefts { LeftAt ranks.jobs.now left.old 0 }
+    ensures parts { OnOk result ((i : ℕ) → i < length (starts_of path.entry.tables.now) → HasPart path.entry.tables.now (lists_in v.new.items) path.entry.number i) }
+    ensures before { OnOk result (HaveParts path.entry.tables.now (lists_in v.new.items) path.entry.number) }
+    ensures count { OnOk result (length v.new.items ≡ nodes_of_frame path.entry.tables.now) }
 {
-    tighten(jobs, windows);
-    start(jobs, left);
-    run_until(jobs, windows, left, 0, f.starts[first]);
-    for j in first..f.count {
-        let instrs = run_part(alloc, jobs, windows, left, f.starts[j], f.starts[j + 1])?;
-        v[node(t, f, path, j) as usize] = Schedule {
+    let starts = path.frame.starts;
+    run_until(ranks, left, 0, starts[first]);
+    for j in first..path.frame.count {
+        let instrs = run_part(alloc, ranks, left, starts[j], starts[j + 1])?;
+        v[node(path.tables, path.frame, path.number, j) as usize] = Schedule {
             instrs: Seq::new(instrs),
         };
     }
@@ -103,38 +105,40 @@ fn plan_lists(
 // Makes the lists of a path from list `first` on.
 fn plan_path(
     alloc: Global,
-    t: &Tables,
-    f: &Frame,
-    path: u32,
+    path: Path<'_>,
     first: usize,
     v: &mut Vec<Schedule>,
 ) -> Result<(), AllocError>
-    requires frame { IsFrame t.now f.now }
-    requires ready { AreReady t.now }
-    requires path { path < paths_of t.now }
-    requires first { first ≤ length (starts_of t.now) }
-    requires count { length v.old.items ≡ nodes_of_frame t.now }
-    requires shared { (i : ℕ) → i < first → HasPart t.now (lists_in v.old.items) path i }
-    requires before { HaveParts t.now (lists_in v.old.items) path }
-    ensures parts { OnOk result ((i : ℕ) → i < length (starts_of t.now) → HasPart t.now (lists_in v.new.items) path i) }
-    ensures before { OnOk result (HaveParts t.now (lists_in v.new.items) path) }
-    ensures count { OnOk result (length v.new.items ≡ nodes_of_frame t.now) }
+    requires frame { IsFrame path.tables.now path.frame.now }
+    requires ready { AreReady path.tables.now }
+    requires path { path.number < paths_of path.tables.now }
+    requires first { first ≤ length (starts_of path.tables.now) }
+    requires count { length v.old.items ≡ nodes_of_frame path.tables.now }
+    requires shared { (i : ℕ) → i < first → HasPart path.tables.now (lists_in v.old.items) path.number i }
+    requires before { HaveParts path.tables.now (lists_in v.old.items) path.number }
+    ensures parts { OnOk result ((i : ℕ) → i < length (starts_of path.entry.tables.now) → HasPart path.entry.tables.now (lists_in v.new.items) path.entry.number i) }
+    ensures before { OnOk result (HaveParts path.entry.tables.now (lists_in v.new.items) path.entry.number) }
+    ensures count { OnOk result (length v.new.items ≡ nodes_of_frame path.entry.tables.now) }
 {
-    let mut jobs = [Job::ABSENT; MAX_POSITIONS];
-    let count = frame_jobs(t, f, path, &mut jobs);
+    let mut room = [Job::ABSENT; MAX_POSITIONS];
+    let count = frame_jobs(path.tables, path.frame, path.number, &mut room);
+    let jobs = &room[..count];
     let mut windows = [Tight { release: 0, end: 0 }; MAX_POSITIONS];
     let mut left = [0; MAX_POSITIONS];
-    plan_lists(
-        alloc,
-        t,
-        f,
-        path,
-        first,
-        &jobs[..count],
-        &mut windows[..count],
-        &mut left[..count],
-        v,
-    )
+    let mut ends = [0; MAX_POSITIONS];
+    let mut releases = [0; MAX_POSITIONS];
+    let tight = &mut windows[..count];
+    let by_end = &mut ends[..count];
+    let by_release = &mut releases[..count];
+    tighten(jobs, tight);
+    rank(jobs, tight, by_end, by_release);
+    let ranks = Ranks {
+        jobs,
+        by_end,
+        by_release,
+    };
+    start(jobs, &mut left[..count]);
+    plan_lists(alloc, path, first, ranks, &mut left[..count], v)
 }
 
 // As many empty schedules.
@@ -191,7 +195,12 @@ fn plan_nodes(alloc: Global, t: &Tables) -> Result<Vec<Schedule>, PlanFault>
     };
     for path in 0..f.paths {
         let first = if path == 0 { 0 } else { fork(t, &f, path - 1) };
-        if plan_path(alloc, t, &f, path, first, &mut v).is_err() {
+        let path = Path {
+            tables: t,
+            frame: &f,
+            number: path,
+        };
+        if plan_path(alloc, path, first, &mut v).is_err() {
             return Err(PlanFault::Memory);
         }
     }

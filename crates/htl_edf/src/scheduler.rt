@@ -11,6 +11,7 @@ ghost use Rattle.htl_edf.specs.Faults.{Explains};
 use crate::dispatches::run_all;
 use crate::events::start;
 use crate::overload::find_overload;
+use crate::ranks::{Ranks, rank};
 use crate::{Tight, tighten};
 use htl_base::limits::MAX_POSITIONS;
 use htl_base::{Seq, Time};
@@ -71,7 +72,17 @@ fn schedule(
 {
     tighten(jobs, windows);
     start(jobs, left);
-    let Ok(instrs) = run_all(alloc, jobs, windows, left, period) else {
+    let mut ends = [0; MAX_POSITIONS];
+    let mut releases = [0; MAX_POSITIONS];
+    let by_end = &mut ends[..jobs.len()];
+    let by_release = &mut releases[..jobs.len()];
+    rank(jobs, windows, by_end, by_release);
+    let ranks = Ranks {
+        jobs,
+        by_end,
+        by_release,
+    };
+    let Ok(instrs) = run_all(alloc, ranks, left, period) else {
         return Err(refusal(jobs, windows));
     };
     let s = Schedule {
@@ -93,8 +104,8 @@ fn schedule(
 /// `worst` accepts the schedule. `Overload` comes exactly where an interval is overloaded, which is exactly where no S
 /// code whatever is accepted for these jobs; want of memory comes only where there is a schedule.
 ///
-/// Beside the cost of `tighten` it goes from event to event, an event being a release or the end of a position's work: at
-/// each over the positions that are released and have work left, and at each release over all positions. The walk takes as
+/// Beside the cost of `tighten` it sorts the positions by end and by release. Then it goes from event to event, an event
+/// being a release or the end of a position's work, at a cost that doesn't depend on the number of jobs. The walk takes as
 /// long as there are dispatches. Only where there is no schedule is the interval searched for, in up to the cube of the
 /// number of jobs.
 pub fn edf(alloc: Global, jobs: &[Job], period: Time) -> Result<Schedule, EdfFault>

@@ -1,57 +1,55 @@
-use Rattle.std.proofs.Common.{arith, rules, ◌∙◌, ◌-◌, ℕ, sym, subst, refl}
-use Rattle.htl_edf.specs.Lists.{jobs_of, QuietFrom}
+use Rattle.std.proofs.Common.{arith, rules, ◌∙◌, ◌-◌, refl}
+use Rattle.htl_edf.specs.Lists.{jobs_of}
 use Rattle.htl_edf.specs.Tight.{tight}
 use Rattle.htl_edf.specs.Edf.{edf}
 use Rattle.htl_edf.specs.Parts.{slices_from}
 use Rattle.htl_edf.proofs.PartRuns.{part_some, part_idle, part_none}
+use Rattle.htl_edf.proofs.ReadyRanks.{ahead_start}
 use Rattle.htl_edf.proofs.parts.run_part.Goals as goal
 
 pub loop-t-init : goal.loop-t-init
 loop-t-init c =
-    let e = part_none (edf (tight (jobs_of c.args.jobs.now))) c.args.from in
+    let e = part_none (edf (tight (jobs_of c.args.ranks.jobs.now))) c.args.from in
     record {
       long = c.requires.left_same;
       lefts = c.requires.lefts;
       past = omega arith;
       within = c.requires.order;
-      until = c.requires.order;
-      quiet = record { quiet = λ q below after. omega arith };
-      ready = λ before. absurd (omega (arith, before));
+      until = omega arith;
+      ahead = ahead_start c.args.ranks.jobs.now c.args.ranks.by_end.now c.args.ranks.by_release.now c.requires.ranked c.args.left.now c.args.from;
       closed = rw e search rules;
       last = rw e refl;
     }
 
 pub loop-t-preserved : goal.loop-t-preserved
 loop-t-preserved c =
-    let run = edf (tight (jobs_of c.args.jobs.now)) in
+    let run = edf (tight (jobs_of c.args.ranks.jobs.now)) in
     let m = c.advance-runs.ensures in
     let e = part_idle run c.args.from c.loop-t.t c.advance-runs.result.1 c.loop-t.invariant.past m.later (λ i l. m.runs i l ∙ c.in_default.is) in
     record {
-      long = c.advance-runs.auto.left ∙ c.loop-t.invariant.long;
+      long = m.left_same ∙ c.loop-t.invariant.long;
       lefts = m.lefts;
       past = omega (arith, c.loop-t.invariant.past, m.later);
       within = omega (arith, m.within, c.horizon-ahead.ensures.within);
       until = omega (arith, m.until, c.horizon-ahead.ensures.within);
-      quiet = subst (λ (u : ℕ). QuietFrom c.args.jobs.now c.advance-runs.result.1 u) (sym m.until) m.quiet;
-      ready = λ before. m.ready (omega (arith, before, m.until));
+      ahead = m.ahead;
       closed = rw e c.loop-t.invariant.closed;
       last = rw e c.loop-t.invariant.last;
     }
 
 pub loop-t-preserved-in_ok-last : goal.loop-t-preserved-in_ok-last
 loop-t-preserved-in_ok-last c =
-    let run = edf (tight (jobs_of c.args.jobs.now)) in
+    let run = edf (tight (jobs_of c.args.ranks.jobs.now)) in
     let m = c.advance-runs.ensures in
     let e = part_some run c.args.from c.loop-t.t c.advance-runs.result.1 c.in-Some.p c.loop-t.invariant.past m.later (λ i l. m.runs i l ∙ c.in-Some.is) in
     let r = c.in_ok-last.ensures (slices_from run c.args.from (c.loop-t.t - c.args.from)) c.loop-t.invariant.closed c.loop-t.invariant.last in
     record {
-      long = c.advance-runs.auto.left ∙ c.loop-t.invariant.long;
+      long = m.left_same ∙ c.loop-t.invariant.long;
       lefts = m.lefts;
       past = omega (arith, c.loop-t.invariant.past, m.later);
       within = omega (arith, m.within, c.horizon-ahead.ensures.within);
       until = omega (arith, m.until, c.horizon-ahead.ensures.within);
-      quiet = subst (λ (u : ℕ). QuietFrom c.args.jobs.now c.advance-runs.result.1 u) (sym m.until) m.quiet;
-      ready = λ before. m.ready (omega (arith, before, m.until));
+      ahead = m.ahead;
       closed = rw e r.1;
       last = rw e r.0;
     }

@@ -1,23 +1,22 @@
 use Rattle.std.proofs.Common.{◌≡◌, ◌≤◌, ◌<◌, ◌-◌, length}
-use Rattle.htl_edf.specs.Lists.{jobs_of, LeftAt, QuietFrom}
+use Rattle.htl_edf.specs.Lists.{jobs_of, LeftAt}
 use Rattle.htl_edf.specs.Tight.{tight}
 use Rattle.htl_edf.specs.Edf.{edf}
 use Rattle.htl_edf.specs.Code.{closed_of, open_of}
 use Rattle.htl_edf.specs.Parts.{slices_from}
-use Rattle.htl_edf.specs.Ready.{IsReadyRow}
+use Rattle.htl_edf.specs.Ranks.{IsAhead}
 use Rattle.htl_edf.proofs.parts.run_part.Given as goal
 
 abbrev pub invariant-loop-t : goal.invariant-loop-t
 invariant-loop-t l = record {
-  long : length l.left ≡ length l.jobs;
-  lefts : LeftAt l.jobs l.left l.t;
+  long : length l.left ≡ length l.ranks.jobs.now;
+  lefts : LeftAt l.ranks.jobs.now l.left l.t;
   past : l.from ≤ l.t;
   within : l.t ≤ l.to;
   until : l.ahead.until ≤ l.to;
-  quiet : QuietFrom l.jobs l.t l.ahead.until;
-  ready : l.t < l.ahead.until → IsReadyRow l.jobs l.left l.t l.ahead.ready;
-  closed : l.instrs.items ≡ closed_of (slices_from (edf (tight (jobs_of l.jobs))) l.from (l.t - l.from));
-  last : l.last ≡ open_of (slices_from (edf (tight (jobs_of l.jobs))) l.from (l.t - l.from));
+  ahead : IsAhead l.ranks.jobs.now l.ranks.by_end.now l.ranks.by_release.now l.left l.t l.ahead.until l.ahead.ready l.ahead.released;
+  closed : l.instrs.items ≡ closed_of (slices_from (edf (tight (jobs_of l.ranks.jobs.now))) l.from (l.t - l.from));
+  last : l.last ≡ open_of (slices_from (edf (tight (jobs_of l.ranks.jobs.now))) l.from (l.t - l.from));
 }
 
 abbrev pub decreases-loop-t : goal.decreases-loop-t

@@ -4,8 +4,8 @@ use Rattle.htl_edf.proofs.Walking.{schedule_short}
 use Rattle.htl_edf.proofs.Walks.{no_schedule}
 use Rattle.htl_edf.proofs.scheduler.schedule.Goals as goal
 
-pub run_all-requires-clause-at : goal.run_all-requires-clause-at
-run_all-requires-clause-at c = holds_all c.args.jobs.now _ c.tighten.ensures
+pub rank-requires-clause-at : goal.rank-requires-clause-at
+rank-requires-clause-at c = holds_all c.args.jobs.now _ c.tighten.ensures
 
 pub refusal-requires-clause-at : goal.refusal-requires-clause-at
 refusal-requires-clause-at c = holds_all c.args.jobs.now _ c.tighten.ensures
