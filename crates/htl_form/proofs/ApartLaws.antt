@@ -20,8 +20,9 @@ use Rattle.htl_form.proofs.PathLaws.{true_together}
 use Rattle.htl_form.proofs.Places.{all_at, filled_at}
 use Rattle.htl_form.proofs.TestLaws.{either, on_left, on_right, not_both, equal, last}
 use Rattle.htl_form.proofs.WriterLaws.{writes_before}
-use Rattle.htl_form.specs.Apart.{key, end_keys, keys_in, inv_keys, keys_from, is_comm, takes, is_taken, AreTaken, is_taken_end, IsApart, AreApart}
+use Rattle.htl_form.specs.Apart.{key, instance_of, AreNear, end_keys, keys_in, inv_keys, keys_from, is_comm, takes, is_taken, is_taken_end, IsApart, AreApart}
 use Rattle.htl_model.specs.First.{or_else, first_from}
+use Rattle.htl_form.specs.Owners.{AreNoted}
 use Rattle.htl_form.specs.Rows.{IsRangeOf}
 use Rattle.htl_form.specs.WriterFaults.{stand_together, rivals, outputs_before, writer_before}
 
@@ -74,6 +75,14 @@ rising_once_sorted old new moved sorted once =
     IsStrictlyIncreasing-from_distinct new (IsNonDecreasingBy-from_sort (λ (x : ℕ). x) new sorted) (IsDistinct-IsPermutation eqb flips old new moved once)
 
 -- ---- one mode
+
+-- what an invocation writes has numbers up to a million
+pub near : (t : Tables) (k : ℕ) (x : Inv) → AreInRange t → slice_get t.invs k ≡ Some x → AreNear x.writes
+near t k x range at = λ j d within. by (get_or x.writes j d) ((all_at (IsInvInRange t) t.invs k x range.invs at).writes j d within)
+  where
+    by : (e : End) → IsEndInRange t x.mode e → instance_of e ≤ 1000000
+    by (E.Comm c n) h = h.1
+    by (E.Port p) h = omega arith
 
 key_here : (c n : ℕ) → list_any (eqb (key c n)) (end_keys (E.Comm c n)) ≡ true
 key_here c n = on_left (eqb (key c n) (key c n)) false (equal (key c n) (key c n) refl)
@@ -161,8 +170,8 @@ none_first f k (x ∷ xs) h =
 
 -- invocation base + q of mode m repeats no instance of its mode, and writes no communicator that is taken
 pub apart_is : (t : Tables) (m base n upto q : ℕ) (taken : List Bool) → AreInRange t → IsRangeOf t m base n → q < n → q < upto → IsDistinct eqb (keys_from t base upto)
-    → length taken ≡ 1024 → AreTaken t m base taken → (i : Inv) → slice_get t.invs (base + q) ≡ Some i → list_any (is_taken_end taken) i.writes ≡ false → IsApart t (base + q)
-apart_is t m base n upto q taken r w is_q upto_q d len tk i at free = λ y j c o at_y out conc.
+    → AreNoted t m base n taken → (i : Inv) → slice_get t.invs (base + q) ≡ Some i → list_any (is_taken_end taken) i.writes ≡ false → IsApart t (base + q)
+apart_is t m base n upto q taken r w is_q upto_q d noted i at free = λ y j c o at_y out conc.
     none_first (writer_before t (base + q) y j c o) 0 t.invs
     (λ l x at_x. (let start : l ≡ 0 + l = omega arith in subst (λ z. writer_before t (base + q) y j c o z x ≡ None) start (each y j c o at_y out conc l x at_x (rivals t y c o x (outputs_before (base + q) j l x)) refl)))
   where
@@ -188,18 +197,19 @@ apart_is t m base n upto q taken r w is_q upto_q d len tk i at free = λ y j c o
         (subst (λ (z : Inv). slice_get z.writes place ≡ Some (E.Comm c o)) is wrote) out
 
     -- an output of an earlier mode
-    other : (y : Inv) (j c o : ℕ) → slice_get t.invs (base + q) ≡ Some y → slice_get y.writes j ≡ Some (E.Comm c o)
+    other : (y : Inv) (j c o : ℕ) → slice_get t.invs (base + q) ≡ Some y → slice_get y.writes j ≡ Some (E.Comm c o) → is_concrete t y ≡ true
         → (l place p : ℕ) (x : Inv) → slice_get t.invs l ≡ Some x → is_concrete t x ≡ true → OutputBefore l place (base + q) j → slice_get x.writes place ≡ Some (E.Comm c p)
         → x.mode ≢ m → StandTogether t x.mode m → ⊥
-    other y j c o at_y out l place p x at_x conc_x (inr same) wrote apart stand =
+    other y j c o at_y out conc l place p x at_x conc_x (inr same) wrote apart stand =
         apart (same_mode x (ap (slice_get t.invs) (sym same.0) ∙ at_x))
-    other y j c o at_y out l place p x at_x conc_x (inl less) wrote apart stand =
+    other y j c o at_y out conc l place p x at_x conc_x (inl less) wrote apart stand =
         let item : Some y ≡ Some i = sym at_y ∙ at in
         let is : y ≡ i = cc in
         let few = r.few_comms in
         let within = all_at (IsEndInRange t y.mode) y.writes j (E.Comm c o) (all_at (IsInvInRange t) t.invs (base + q) y r.invs at_y).writes out in
         let taken_c : get_or taken c false ≡ true =
-        tk c (omega (arith, within.0)) ∙ taken_below t m base c l (before l x at_x less apart) (takes_true t m c l place p x at_x conc_x (true_together t x.mode m stand) wrote) in
+        noted q c y is_q (omega (arith, within.0)) at_y conc (any_passes_from_place (is_comm c) y.writes j (E.Comm c o) out (equal c c refl))
+        (taken_below t m base c l (before l x at_x less apart) (takes_true t m c l place p x at_x conc_x (true_together t x.mode m stand) wrote)) in
         let hit : list_any (is_taken_end taken) y.writes ≡ true = any_passes_from_place (is_taken_end taken) y.writes j (E.Comm c o) out taken_c in
         not_both (list_any (is_taken_end taken) i.writes) (subst (λ (z : Inv). list_any (is_taken_end taken) z.writes ≡ true) is hit) free
       where
@@ -228,7 +238,7 @@ apart_is t m base n upto q taken r w is_q upto_q d len tk i at free = λ y j c o
                 own y j c o at_y out conc l b.3 b.0 b.1 b.2 b.5 (subst (λ (z : ℕ). slice_get b.0.writes b.3 ≡ Some (E.Comm c z)) s.1 b.6) (s.0 ∙ same_mode y at_y)
             by (inr s) =
                 let is : y.mode ≡ m = same_mode y at_y in
-                other y j c o at_y out l b.3 b.4 b.0 b.1 b.2 b.5 b.6 (λ e. s.0 (e ∙ sym is)) (subst (λ z. StandTogether t b.0.mode z) is s.1)
+                other y j c o at_y out conc l b.3 b.4 b.0 b.1 b.2 b.5 b.6 (λ e. s.0 (e ∙ sym is)) (subst (λ z. StandTogether t b.0.mode z) is s.1)
 
 -- where nothing is marked, each marked invocation is apart
 pub none_marked : (t : Tables) (n : ℕ) → AreApart t (replicate n false)

@@ -1,11 +1,13 @@
 pub mod AbstractLaws
 pub mod ApartLaws
+pub mod CommonMultiples
 pub mod CycleLaws
 pub mod EndLaws
 pub mod Finding
 pub mod FrameSampleFits
 pub mod Judging
 pub mod OneFault
+pub mod OwnerLaws
 pub mod PartLaws
 pub mod PathLaws
 pub mod PeriodLaws

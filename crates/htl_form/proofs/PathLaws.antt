@@ -82,3 +82,9 @@ true_together t a b h = by (list_any (has_rival t (path 8 t b)) (path 8 t a)) re
         let y = passes_path t (are_rivals t x.0) 8 b x.2 in
         let rival = true_rivals t x.0 y.0 y.2 in
         absurd (rival.1 (h x.0 y.0 x.1 y.1 rival.0))
+
+-- two different modes of one module can't
+pub rivals_apart : (t : Tables) (a b : ℕ) → mode_module t a ≡ mode_module t b → a ≢ b → stand_together t a b ≡ true → ⊥
+unfolding stand_together
+rivals_apart t a b same apart h =
+    off _ h (on_left (has_rival t (path 8 t b) a) _ (on_left (are_rivals t a b) _ (rivals_true t a b same apart)))

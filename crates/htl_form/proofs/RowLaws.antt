@@ -1,10 +1,13 @@
 -- What precedes what among the invocations of one mode, as rows of bits.
-use Rattle.std.proofs.Common.{◌≡◌, ◌≢◌, ◌<◌, ◌≤◌, ◌⊎◌, ℕ, zero, suc, ◌+◌, ◌-◌, Bool, true, false, ◌&&◌, ◌||◌, cond, eqb, ltb, List, [], ◌∷◌, ◌++◌, length, get_or, set, take, drop, map, Option, Some, None, refl, sym, ◌∙◌, ap, subst, arith, inl, inr}
+use Rattle.std.proofs.Common.{◌≡◌, ◌≢◌, ◌<◌, ◌≤◌, ◌⊎◌, ℕ, zero, suc, ◌+◌, ◌-◌, ◌*◌, ◌^◌, Bool, true, false, ◌&&◌, ◌||◌, cond, eqb, ltb, List, [], ◌∷◌, ◌++◌, length, get_or, set, take, drop, map, Option, Some, None, refl, sym, ◌∙◌, ap, subst, arith, inl, inr}
 use Rattle.std.specs.Prelude.{slice_get}
-use Rattle.std.specs.Int.Bits.{bit_or}
+use Rattle.std.specs.Int.{bit_at}
+use Rattle.std.specs.Int.Bits.{bit_and, bit_or, or_zero_r}
 use Rattle.std.specs.List.{list_any}
 use Rattle.std.proofs.lemmas.Bool.Decides.{nat_tests}
 use Rattle.std.proofs.lemmas.List.{length-map, get_or-set_same, get_or-set_other}
+use Rattle.std.proofs.lemmas.Nat.{pow_pos}
+use Rattle.std.proofs.lemmas.Nat.Bits.{and_pow, bit_at-lt}
 use Rattle.std.proofs.lemmas.Option.{slice_get-get_or}
 use Rattle.htl_model.proofs.BitLaws.{has_bit_or}
 use Rattle.htl_model.proofs.PortChains.{leads_below, leads_from, leads_within}
@@ -41,6 +44,39 @@ widened_bit other k row b = by (has_bit row k)
 one_cell : (rows : List ℕ) (k a b : ℕ) → a < length rows → cell (through_one rows k) a b ≡ (cell rows a b || (cell rows a k && cell rows k b))
 one_cell rows k a b h =
     ap (λ r. has_bit r b) (get_map (widened (get_or rows k 0) k) rows a h) ∙ widened_bit (get_or rows k 0) k (get_or rows a 0) b
+
+-- a row stands where it shares nothing with the number that has bit k alone
+pub widened_apart : (other bit k row : ℕ) → bit ≡ 2 ^ k → bit_and row bit ≡ 0 → row ≡ widened other k row
+widened_apart other bit k row alone none = by (bit_at row k) refl
+  where
+    by : (b : ℕ) → bit_at row k ≡ b → row ≡ cond (eqb b 1) (bit_or row other) row
+    by zero e = refl
+    by (suc zero) e = absurd (lone (sym none ∙ ap (bit_and row) alone ∙ and_pow row k ∙ ap (λ b. b * 2 ^ k) e))
+      where
+        lone : 0 ≡ 1 * 2 ^ k → ⊥
+        lone h = omega (arith, h, pow_pos k)
+    by (suc (suc b)) e = absurd (let less = bit_at-lt row k in omega (arith, less, e))
+
+-- and else is joined with the other
+pub widened_shared : (other bit k row : ℕ) → bit ≡ 2 ^ k → bit_and row bit ≢ 0 → bit_or row other ≡ widened other k row
+widened_shared other bit k row alone some = by (bit_at row k) refl
+  where
+    by : (b : ℕ) → bit_at row k ≡ b → bit_or row other ≡ cond (eqb b 1) (bit_or row other) row
+    by zero e = absurd (some (ap (bit_and row) alone ∙ and_pow row k ∙ ap (λ b. b * 2 ^ k) e ∙ omega arith))
+    by (suc zero) e = refl
+    by (suc (suc b)) e = absurd (let less = bit_at-lt row k in omega (arith, less, e))
+
+-- an empty row widens none
+pub through_empty : (rows : List ℕ) (k : ℕ) → get_or rows k 0 ≡ 0 → through_one rows k ≡ rows
+through_empty rows k h = ap (λ other. map (widened other k) rows) h ∙ all_stand rows
+  where
+    stands : (row : ℕ) (test : Bool) → cond test (bit_or row 0) row ≡ row
+    stands row true = or_zero_r row
+    stands row false = refl
+
+    all_stand : (xs : List ℕ) → map (widened 0 k) xs ≡ xs
+    all_stand [] = refl
+    all_stand (x ∷ xs) = ap (λ y. y ∷ map (widened 0 k) xs) (stands x (has_bit x k)) ∙ ap (λ ys. x ∷ ys) (all_stand xs)
 
 pub length_through : (rows : List ℕ) (k : ℕ) → length (through_all k rows) ≡ length rows
 length_through rows zero = refl

@@ -14,6 +14,10 @@ pub on_right : (a b : Bool) → b ≡ true → (a || b) ≡ true
 on_right true b h = refl
 on_right false b h = h
 
+pub neither : (a b : Bool) → (a || b) ≡ false → (a ≡ false) × (b ≡ false)
+neither true b h = cc
+neither false b h = (refl, h)
+
 pub both : (a b : Bool) → (a && b) ≡ true → (a ≡ true) × (b ≡ true)
 both true b h = (refl, h)
 both false b h = cc

@@ -1,5 +1,5 @@
 -- Which invocations write nothing that an earlier concrete invocation writes.
-use Rattle.std.specs.Prelude.{◌≡◌, ◌<◌, ◌≤◌, ℕ, zero, suc, ◌+◌, ◌*◌, Bool, true, false, cond, eqb, ◌&&◌, ◌||◌, List, [], ◌∷◌, ◌++◌, length, get_or, slice_get, take, Option, Some, None}
+use Rattle.std.specs.Prelude.{◌≡◌, ◌<◌, ◌≤◌, ℕ, zero, suc, ◌+◌, ◌*◌, Bool, true, false, cond, eqb, ◌&&◌, ◌||◌, List, [], ◌∷◌, ◌++◌, length, get_or, slice_get, take, All, Option, Some, None}
 use Rattle.std.specs.List.{flat_map, list_any}
 use Rattle.htl_model.specs.declared.parts.Inv.{Inv}
 use Rattle.htl_model.specs.declared.parts.End.{End}
@@ -11,7 +11,16 @@ use Rattle.htl_form.specs.WriterFaults.{stand_together, first_writer}
 
 -- an instance as one number
 abbrev pub key : ℕ → ℕ → ℕ
-key c n = n * 65536 + c
+key c n = n * 1024 + c
+
+-- the number of the instance that an end is
+abbrev pub instance_of : End → ℕ
+instance_of (E.Comm c n) = n
+instance_of (E.Port p) = 0
+
+-- all instances have numbers up to a million
+abbrev pub AreNear : List End → Type 0
+AreNear ends = All (λ e. instance_of e ≤ 1000000) ends
 
 abbrev pub end_keys : End → List ℕ
 end_keys (E.Comm c n) = key c n ∷ []

@@ -5,6 +5,7 @@ pub mod EndFaults
 pub mod FrameFaults
 pub mod FrameSamples
 pub mod Overviews
+pub mod Owners
 pub mod PeriodFaults
 pub mod PortFaults
 pub mod Rows

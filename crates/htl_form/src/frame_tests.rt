@@ -109,6 +109,18 @@ fn at_most_32_starts(rt: HostRuntime) -> Result<(), Fail> {
 }
 
 #[test]
+fn a_frame_of_32_starts(rt: HostRuntime) -> Result<(), Fail> {
+    let t = tables(rt.alloc(), 320, 10).expect(&rt, "tables");
+    assert_eq!(rt; frames(&t), Ok(()));
+    if let Ok(()) = t.frame_limits() {
+        assert_eq!(rt; t.hyper(), Some(320));
+        assert_eq!(rt; t.starts(), 32);
+        assert_eq!(rt; t.paths(), 2);
+    }
+    Ok(())
+}
+
+#[test]
 fn at_most_1024_paths(rt: HostRuntime) -> Result<(), Fail> {
     let t = tables(rt.alloc(), 10, 110).expect(&rt, "tables");
     assert_eq!(rt; frames(&t), Err(exceeded(2_048, 1_024)));

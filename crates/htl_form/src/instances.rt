@@ -2,7 +2,7 @@
 ghost use Rattle.std.specs.Prelude.{◌≡◌, ◌≤◌, ◌<◌, ◌+◌, ◌*◌, ◌↔◌, IsTrue, eqb, length, Some};
 ghost use Rattle.std.specs.List.{IsDistinct};
 ghost use Rattle.std.specs.List.Sorted.{IsStrictlyIncreasing};
-ghost use Rattle.htl_form.specs.Apart.{end_keys, keys_in, inv_keys, keys_from, IsFilled};
+ghost use Rattle.htl_form.specs.Apart.{instance_of, AreNear, end_keys, keys_in, inv_keys, keys_from, IsFilled};
 
 use htl_base::limits::{MAX_ENDS, MAX_MODE_INVOCATIONS};
 use htl_model::items::inv_at;
@@ -13,22 +13,24 @@ use htl_model::{End, Inv, Tables};
 pub const MOST_WRITES: usize = MAX_MODE_INVOCATIONS * MAX_ENDS;
 
 // Adds an end to the first `len` keys, where it is an instance, and answers how many there are then.
-fn add_end(end: End, keys: &mut [u64], len: usize) -> usize
-    requires { len < length keys.old }
+fn add_end(end: End, keys: &mut [u32], len: usize) -> usize
+    requires room { len < length keys.old }
+    requires near { instance_of end ≤ 1000000 }
     ensures filled { IsFilled keys.old len keys.new result (end_keys end) }
     ensures few { result ≤ len + 1 }
 {
     match end {
         End::Comm { comm, instance } => {
-            keys[len] = instance as u64 * 65536 + comm as u64;
+            keys[len] = instance * 1024 + comm as u32;
             len + 1
         }
         End::Port { .. } => len,
     }
 }
 
-fn add_ends(ends: &[End], keys: &mut [u64], len: usize) -> usize
-    requires { len + length ends.now ≤ length keys.old }
+fn add_ends(ends: &[End], keys: &mut [u32], len: usize) -> usize
+    requires room { len + length ends.now ≤ length keys.old }
+    requires near { AreNear ends.now }
     ensures filled { IsFilled keys.old len keys.new result (keys_in ends.now) }
     ensures few { result ≤ len + length ends.now }
 {
@@ -39,8 +41,9 @@ fn add_ends(ends: &[End], keys: &mut [u64], len: usize) -> usize
     n
 }
 
-fn add_inv(t: &Tables, inv: &Inv, keys: &mut [u64], len: usize) -> usize
-    requires { len + length inv.now.writes ≤ length keys.old }
+fn add_inv(t: &Tables, inv: &Inv, keys: &mut [u32], len: usize) -> usize
+    requires room { len + length inv.now.writes ≤ length keys.old }
+    requires near { AreNear inv.now.writes }
     ensures filled { IsFilled keys.old len keys.new result (inv_keys t.now (Some inv.now)) }
     ensures few { result ≤ len + length inv.now.writes }
 {
@@ -52,7 +55,7 @@ fn add_inv(t: &Tables, inv: &Inv, keys: &mut [u64], len: usize) -> usize
 }
 
 // What the `n` invocations from `base` on write, in the first keys; answers how many they are.
-fn collect(t: &Tables, base: usize, n: usize, keys: &mut [u64]) -> usize
+fn collect(t: &Tables, base: usize, n: usize, keys: &mut [u32]) -> usize
     requires within { base + n ≤ length t.now.invs }
     requires room { n * 256 ≤ length keys.old }
     ensures { IsFilled keys.old 0 keys.new result (keys_from t.now base n) }
@@ -67,7 +70,7 @@ fn collect(t: &Tables, base: usize, n: usize, keys: &mut [u64]) -> usize
 }
 
 // Whether each key is above the one before it.
-fn is_rising(keys: &[u64]) -> bool
+fn is_rising(keys: &[u32]) -> bool
     ensures { IsTrue result ↔ IsStrictlyIncreasing keys.now }
 {
     for k in 1..keys.len() {
@@ -79,7 +82,7 @@ fn is_rising(keys: &[u64]) -> bool
 }
 
 // Whether no key is there twice.
-fn are_different(keys: &mut [u64]) -> bool
+fn are_different(keys: &mut [u32]) -> bool
     ensures { IsTrue result ↔ IsDistinct eqb keys.old }
 {
     keys.sort_unstable();
@@ -88,7 +91,7 @@ fn are_different(keys: &mut [u64]) -> bool
 
 /// Whether the concrete ones of the `n` invocations from `base` on, at most 128, write no instance twice: n log n steps
 /// in the number of their outputs. The room for these is lent, and what it holds means nothing.
-pub fn are_written_once(t: &Tables, base: usize, n: usize, room: &mut [u64]) -> bool
+pub fn are_written_once(t: &Tables, base: usize, n: usize, room: &mut [u32]) -> bool
     requires within { base + n ≤ length t.now.invs }
     requires few { n ≤ 128 }
     requires room { length room.old ≡ 32768 }

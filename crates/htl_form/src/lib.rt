@@ -11,6 +11,7 @@ mod frame_rule;
 mod frame_tests;
 mod instances;
 mod overview;
+mod owners;
 mod paths;
 mod periods;
 mod ports;

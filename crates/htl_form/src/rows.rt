@@ -1,11 +1,10 @@
 //! Rows of bits: which invocations of a mode write each port, and which precede which by the ports.
-ghost use Rattle.std.specs.Prelude.{◌≡◌, ◌≤◌, ◌<◌, ◌+◌, ℕ, true, false, length};
+ghost use Rattle.std.specs.Prelude.{◌≡◌, ◌≤◌, ◌<◌, ◌+◌, ◌^◌, ℕ, true, false, length};
 ghost use Rattle.std.specs.List.{list_any};
 ghost use Rattle.htl_model.specs.PortWriters.{is_port};
 ghost use Rattle.htl_model.specs.Bits.{cell};
 ghost use Rattle.htl_form.specs.Rows.{widened as widened_of, through_one as through_one_of, through_all as through_all_of, AreWriters, AreSteps, IsRangeOf};
 
-use htl_model::bits::has_bit;
 use htl_model::items::inv_at;
 use htl_model::port_table::{mark_ends, row_of};
 use htl_model::{End, Tables};
@@ -85,14 +84,14 @@ pub fn fill_rows(t: &Tables, mode: u16, base: usize, n: usize, table: &[u128], r
 
 // ---- the closure
 
-fn widened(other: u128, k: u32, row: u128) -> u128
-    requires { k < 128 }
-    ensures { result ≡ widened_of other k row }
+// A row with another where it has the bit that is set alone in `bit`.
+fn widened(other: u128, bit: u128, row: u128) -> u128
+    ensures { (k : ℕ) → bit ≡ 2 ^ k → result ≡ widened_of other k row }
 {
-    if has_bit(row, k) { row | other } else { row }
+    if row & bit == 0 { row } else { row | other }
 }
 
-// Widens each row that has bit `k` by row `k`.
+// Widens each row that has bit `k` by row `k`: one step where that is empty.
 fn through_one(rows: &mut [u128], k: usize)
     requires within { k < length rows.old }
     requires few { k < 128 }
@@ -100,12 +99,17 @@ fn through_one(rows: &mut [u128], k: usize)
     ensures len { length rows.new ≡ length rows.old }
 {
     let other = rows[k];
+    if other == 0 {
+        return;
+    }
+    let bit = 1u128 << k;
     for i in 0..rows.len() {
-        rows[i] = widened(other, k as u32, rows[i]);
+        rows[i] = widened(other, bit, rows[i]);
     }
 }
 
-/// Widens the rows until each of the first `n` has a bit for all to which it leads among these.
+/// Widens the rows until each of the first `n` has a bit for all to which it leads among these: `n` steps for each of the
+/// first `n` rows that isn't empty.
 pub fn through_all(rows: &mut [u128], n: usize)
     requires within { n ≤ length rows.old }
     requires few { n ≤ 128 }

@@ -26,19 +26,16 @@ impl Survey {
         ensures { IsSurveyOf t.now result }
     {
         t.keeps_ranges();
-        let mut writers = [0u32; MAX_PORTS];
-        count_writers(t, &mut writers);
-        let mut first_writers = [None; MAX_PORTS];
-        note_first_writers(t, &mut first_writers);
-        let mut on_cycle = [false; MAX_INVOCATIONS];
-        mark_cycles(t, &mut on_cycle);
-        let mut apart = [false; MAX_INVOCATIONS];
-        mark_apart(t, &mut apart);
-        Survey {
-            writers,
-            first_writers,
-            on_cycle,
-            apart,
-        }
+        let mut survey = Survey {
+            writers: [0; MAX_PORTS],
+            first_writers: [None; MAX_PORTS],
+            on_cycle: [false; MAX_INVOCATIONS],
+            apart: [false; MAX_INVOCATIONS],
+        };
+        count_writers(t, &mut survey.writers);
+        note_first_writers(t, &mut survey.first_writers);
+        mark_cycles(t, &mut survey.on_cycle);
+        mark_apart(t, &mut survey.apart);
+        survey
     }
 }

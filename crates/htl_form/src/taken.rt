@@ -33,7 +33,8 @@ fn take_ends(ends: &[End], taken: &mut [bool])
 pub fn mark_taken(t: &Tables, mode: u16, base: usize, taken: &mut [bool])
     requires empty { (c : ℕ) → get_or taken.old c false ≡ false }
     requires within { base ≤ length t.now.invs }
-    ensures { AreTaken t.now mode base taken.new }
+    ensures taken { AreTaken t.now mode base taken.new }
+    ensures len { length taken.new ≡ length taken.old }
 {
     let mut last = mode;
     let mut together = stand_together(t, mode, mode);

@@ -1,17 +1,22 @@
 -- The tables of the tests are within their ranges and keep the limits.
-use Rattle.std.proofs.Common.{eqb, codes, ◌≡◌, ◌∙◌, ℕ, zero, suc, ◌≤◌, ◌<◌, true, false, List, [], ◌∷◌, length, Some, None, refl, ap, subst, arith}
+use Rattle.std.proofs.Common.{eqb, codes, ◌≡◌, ◌∙◌, ℕ, zero, suc, ◌≤◌, ◌<◌, ◌+◌, true, false, List, [], ◌∷◌, length, get_or, Some, None, refl, sym, ap, subst, arith, inl, inr}
 use Rattle.std.specs.Prelude.{slice_get}
 use Rattle.std.specs.List.{count_by}
 use Rattle.std.specs.List.Sorted.{IsNonDecreasing}
 use Rattle.std.proofs.lemmas.List.Elements.{All-nil, All-cons}
 use Rattle.std.proofs.lemmas.List.Sums.{count_by-le-length}
+use Rattle.std.proofs.lemmas.Option.{get_or_from_slice_get, slice_get-get_or}
 use Rattle.htl_model.specs.declared.parts.Mode.{Mode}
 use Rattle.htl_model.specs.declared.parts.Module.{Module}
 use Rattle.htl_model.specs.declared.parts.Task.{Task}
 use Rattle.htl_model.specs.declared.parts.Inv.{Inv}
 use Rattle.htl_model.specs.Broken.{KeepsLimits}
 use Rattle.htl_model.specs.Ranges.{AreInRange, IsSpan, IsCommInRange, IsModeInRange, IsModuleInRange, IsPortInRange, IsTaskInRange, IsInvInRange, IsSwitchInRange, IsFunInRange, IsEndInRange}
+use Rattle.htl_model.specs.Selected.{IsSelection}
 use Rattle.htl_model.specs.Selections.{positions}
+use Rattle.htl_model.specs.Tables.{Tables}
+use Rattle.htl_form.proofs.TestLaws.{last}
+use Rattle.htl_refine.specs.declared.selection.Selection.{Selection}
 use Rattle.htl_refine.specs.Samples.{sample_mode, sample_task, sample_inv, sample_modes, sample_modules, sample_tasks, sample_invs, sample_of, sample}
 
 nothing_falls : IsNonDecreasing []
@@ -123,3 +128,14 @@ pub sample_is : (worst : ℕ) (ms : List Mode) (us : List Module) (ks : List Tas
 sample_is worst ms us ks is m u k i =
     ap (λ (xs : List Mode). sample_of xs us ks is) m ∙ ap (λ (xs : List Module). sample_of sample_modes xs ks is) u
     ∙ ap (λ (xs : List Task). sample_of sample_modes sample_modules xs is) k ∙ ap (λ (xs : List Inv). sample_of sample_modes sample_modules (sample_tasks worst) xs) i
+
+-- selections up to a place, and one more
+pub one_more : (t : Tables) (sels : List Selection) (k : ℕ) (x : Selection) → k < length sels → x ≡ get_or sels k x → IsSelection t x.modes
+    → ((n : ℕ) (d : Selection) → n < k → IsSelection t (get_or sels n d).modes) → (n : ℕ) (d : Selection) → n < k + 1 → IsSelection t (get_or sels n d).modes
+one_more t sels k x within at is before n d less =
+    elim (last n k (omega (arith, less))) [
+      | inl below ↦ before n d below
+      | inr same ↦
+          subst (λ z. IsSelection t (get_or sels z d).modes) (sym same)
+          (subst (λ (y : Selection). IsSelection t y.modes) (sym (get_or_from_slice_get sels k x d (slice_get-get_or sels k x within ∙ ap (λ (y : Selection). Some y) (sym at)))) is)
+    ]

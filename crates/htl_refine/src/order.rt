@@ -1,6 +1,7 @@
 // What precedes what by ports, and the parents of the ports' writers.
 ghost use Rattle.std.specs.Prelude.{◌≡◌, ◌≤◌, ◌<◌, ◌+◌, ℕ, false, Option, Some, None, cond, length, get_or, slice_get};
 ghost use Rattle.std.specs.List.{list_any};
+ghost use Rattle.htl_base.specs.declared.limits.TheConstants as limit;
 ghost use Rattle.htl_model.specs.PortWriters.{is_port};
 ghost use Rattle.htl_model.specs.First.{or_else};
 ghost use Rattle.htl_form.specs.Rows.{IsRangeOf};
@@ -42,7 +43,7 @@ fn put_rows(from: &[u128], base: usize, n: usize, rows: &mut [u128])
 
 // Numbers `n` places from `base` on.
 fn put_places(base: usize, n: usize, places: &mut [u8])
-    requires few { n ≤ 128 }
+    requires few { n ≤ limit.MAX_MODE_INVOCATIONS }
     requires room { base + n ≤ length places.old }
     ensures put { IsPut base n (λ q. q) places.old places.new }
     ensures len { length places.new ≡ length places.old }
@@ -56,11 +57,11 @@ fn put_places(base: usize, n: usize, places: &mut [u8])
 fn mode_rows(t: &Tables, mode: u16, base: usize, n: usize, writers: &mut [u128], rows: &mut [u128])
     requires range { IsRangeOf t.now mode base n }
     requires room { n ≤ length rows.old }
-    requires ports { length writers.old ≡ 4096 }
+    requires ports { length writers.old ≡ limit.MAX_PORTS }
     requires empty { (p q : ℕ) → cell writers.old p q ≡ false }
     ensures closed { (b a : ℕ) → b < n → a < n → cell rows.new b a ≡ precedes_of t.now (base + a) (base + b) }
     ensures len { length rows.new ≡ length rows.old }
-    ensures ports { length writers.new ≡ 4096 }
+    ensures ports { length writers.new ≡ limit.MAX_PORTS }
     ensures empty { (p q : ℕ) → cell writers.new p q ≡ false }
 {
     t.keeps_ranges();
@@ -81,17 +82,17 @@ fn note_mode(
     places: &mut [u8],
 )
     requires range { IsRangeOf t.now mode base n }
-    requires ports { length writers.old ≡ 4096 }
+    requires ports { length writers.old ≡ limit.MAX_PORTS }
     requires empty { (p q : ℕ) → cell writers.old p q ≡ false }
-    requires rows { length rows.old ≡ 2048 }
-    requires places { length places.old ≡ 2048 }
+    requires rows { length rows.old ≡ limit.MAX_INVOCATIONS }
+    requires places { length places.old ≡ limit.MAX_INVOCATIONS }
     requires before { AreRowsBelow t.now mode rows.old places.old }
     requires few { ArePlaces places.old }
     ensures rows { AreRowsBelow t.now (mode + 1) rows.new places.new }
     ensures few { ArePlaces places.new }
-    ensures len { length rows.new ≡ 2048 }
-    ensures len_places { length places.new ≡ 2048 }
-    ensures ports { length writers.new ≡ 4096 }
+    ensures len { length rows.new ≡ limit.MAX_INVOCATIONS }
+    ensures len_places { length places.new ≡ limit.MAX_INVOCATIONS }
+    ensures ports { length writers.new ≡ limit.MAX_PORTS }
     ensures empty { (p q : ℕ) → cell writers.new p q ≡ false }
 {
     t.keeps_ranges();
@@ -104,10 +105,10 @@ fn note_mode(
 
 // Notes them for all modes.
 fn note_modes(t: &Tables, rows: &mut [u128], places: &mut [u8])
-    requires rows { length rows.old ≡ 2048 }
-    requires places { length places.old ≡ 2048 }
+    requires rows { length rows.old ≡ limit.MAX_INVOCATIONS }
+    requires places { length places.old ≡ limit.MAX_INVOCATIONS }
     requires few { ArePlaces places.old }
-    ensures rows { AreRowsBelow t.now 256 rows.new places.new }
+    ensures rows { AreRowsBelow t.now limit.MAX_MODES rows.new places.new }
     ensures few { ArePlaces places.new }
 {
     t.keeps_ranges();
@@ -150,7 +151,7 @@ fn note_ends(ends: &[End], parent: Option<u16>, parents: &mut [Option<u16>])
 // Notes for each port the parent of the first invocation with one that writes it.
 fn note_parents(t: &Tables, parents: &mut [Option<u16>])
     requires none { (p : ℕ) → get_or parents.old p None ≡ None }
-    requires len { length parents.old ≡ 4096 }
+    requires len { length parents.old ≡ limit.MAX_PORTS }
     ensures { AreParents t.now parents.new }
 {
     let count = inv_count(t);
@@ -165,16 +166,14 @@ impl Order {
     pub fn of(t: &Tables) -> Order
         ensures { IsOrderOf t.now result }
     {
-        let mut rows = [0u128; MAX_INVOCATIONS];
-        let mut places = [0u8; MAX_INVOCATIONS];
-        note_modes(t, &mut rows, &mut places);
-        let mut parents = [None; MAX_PORTS];
-        note_parents(t, &mut parents);
-        Order {
-            rows,
-            places,
-            parents,
-        }
+        let mut order = Order {
+            rows: [0; MAX_INVOCATIONS],
+            places: [0; MAX_INVOCATIONS],
+            parents: [None; MAX_PORTS],
+        };
+        note_modes(t, &mut order.rows, &mut order.places);
+        note_parents(t, &mut order.parents);
+        order
     }
 }
 

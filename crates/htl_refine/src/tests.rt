@@ -1,13 +1,15 @@
 // The rules, the selections and the jobs of tables that are made by hand: an abstract invocation, and a refinement of two modes, of
 // which the second has a child of it.
-ghost use Rattle.std.specs.Prelude.{◌≡◌, ◌<◌, OnOk, IfSome, length};
+ghost use Rattle.std.specs.Prelude.{◌≡◌, ◌<◌, true, OnOk, IfSome, length};
+ghost use Rattle.std.specs.List.{All};
 ghost use Rattle.htl_model.specs.Broken.{KeptTo, KeepsLimits};
 ghost use Rattle.htl_model.specs.Ranges.{AreInRange, IsSpan};
+ghost use Rattle.htl_model.specs.Selected.{IsSelection};
 ghost use Rattle.htl_refine.specs.Samples.{sample_mode, sample_task, sample_inv, sample_modes, sample_modules, sample_tasks, sample_invs, sample_of};
 
-use crate::{Selection, derive, is_selection, refine, selection_of};
+use crate::{Selection, derive, derive_path, is_selection, refine, selection_of};
 use htl_base::{Name, Seq};
-use htl_form::form;
+use htl_form::{form, frames};
 use htl_model::{FormFault, Inv, Mode, Module, Parts, Tables, Task};
 use htl_walk::Job;
 use std::alloc::Global;
@@ -153,12 +155,49 @@ fn round(t: &Tables, s: &Selection, jobs: &mut [Job; 128]) -> Option<(u32, usize
     }
 }
 
+// Whether all are selections.
+fn are_selections(t: &Tables, sels: &[Selection]) -> bool
+    ensures { result ≡ true → All (λ s. IsSelection t.now s.modes) sels.now }
+{
+    for k in 0..sels.len() {
+        if !is_selection(t, &sels[k]) {
+            return false;
+        }
+    }
+    true
+}
+
+// The number of positions of a path as far as its rounds have begun.
+fn path(t: &Tables, sels: &[Selection], jobs: &mut [Job; 128]) -> Option<usize> {
+    if let Err(_) = judge(t) {
+        return None;
+    }
+    if let Err(_) = frames(t) {
+        return None;
+    }
+    if sels.len() <= t.starts() && are_selections(t, sels) {
+        Some(derive_path(t, sels, jobs))
+    } else {
+        None
+    }
+}
+
 const NO_JOB: Job = Job {
     present: false,
     inv: 0,
     release: 0,
     end: 0,
     worst: 0,
+    preds: 0,
+};
+
+// The job of the concrete invocation.
+const FAST: Job = Job {
+    present: true,
+    inv: 1,
+    release: 0,
+    end: 10,
+    worst: 3,
     preds: 0,
 };
 
@@ -202,5 +241,24 @@ fn rules_selections_and_jobs(rt: HostRuntime) -> Result<(), Fail> {
     assert_eq!(rt; jobs[0], fast);
     let left = selection(alloc, None).expect(&rt, "selection");
     assert_eq!(rt; round(&t, &left, &mut jobs), None);
+    Ok(())
+}
+
+#[test]
+fn jobs_of_a_path(rt: HostRuntime) -> Result<(), Fail> {
+    let alloc = rt.alloc();
+    let t = tables(alloc, 3).expect(&rt, "tables");
+    let mut jobs = [FAST; 128];
+    assert_eq!(rt; path(&t, &[], &mut jobs), Some(0));
+    assert_eq!(rt; jobs[0], FAST);
+    let off = selection(alloc, Some(1)).expect(&rt, "selection");
+    assert_eq!(rt; path(&t, &[off], &mut jobs), Some(1));
+    assert_eq!(rt; jobs[0], NO_JOB);
+    assert_eq!(rt; jobs[1], FAST);
+    let on = selection(alloc, Some(2)).expect(&rt, "selection");
+    assert_eq!(rt; path(&t, &[on], &mut jobs), Some(1));
+    assert_eq!(rt; jobs[0], FAST);
+    let left = selection(alloc, None).expect(&rt, "selection");
+    assert_eq!(rt; path(&t, &[left], &mut jobs), None);
     Ok(())
 }

@@ -1,7 +1,16 @@
 use Rattle.std.proofs.Common.{◌≡◌, length}
 use Rattle.htl_model.specs.Starts.{IsStartOf}
 use Rattle.htl_form.specs.Apart.{AreApart}
+use Rattle.htl_form.specs.Owners.{AreOwners}
 use Rattle.htl_form.proofs.apart.mark_apart.Given as goal
 
 abbrev pub invariant-loop-m : goal.invariant-loop-m
-invariant-loop-m l = record { len : length l.marks ≡ length l.initial.marks; start : IsStartOf l.t l.m l.base; keys : length l.room ≡ 32768; apart : AreApart l.t l.marks }
+invariant-loop-m l =
+    record {
+      len : length l.marks ≡ length l.initial.marks;
+      start : IsStartOf l.t l.m l.base;
+      keys : length l.room ≡ 32768;
+      noted : length l.owners ≡ 1024;
+      owners : AreOwners l.t l.base l.owners;
+      apart : AreApart l.t l.marks;
+    }
