@@ -46,7 +46,6 @@ mod RepeatLaws
 mod ResolveLaws
 mod RowLaws
 mod RuleLaws
-mod SampleFits
 pub mod SmallFunctions
 mod StackLaws
 mod SwitchRanges

@@ -24,7 +24,6 @@ pub mod Refined
 pub mod Repeats
 pub mod Rows
 pub mod SameKeys
-pub mod Samples
 pub mod Stack
 pub mod Tallies
 pub mod Told

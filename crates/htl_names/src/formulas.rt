@@ -1,7 +1,6 @@
 // Expressions with places of arguments for names.
 ghost use Rattle.std.specs.Prelude.{◌≡◌, ◌≤◌, ℕ, eqb, length, IfOk};
 ghost use Rattle.htl_model.specs.Functions.{term_of};
-ghost use Rattle.htl_text.specs.Expressions.{expr_of};
 ghost use Rattle.htl_text.specs.declared.tree.Id.{Id as AnId};
 ghost use Rattle.htl_names.specs.Lists.{place_in};
 ghost use Rattle.htl_names.specs.Flat.{term_by, input_place, read_place};
@@ -9,7 +8,7 @@ ghost use Rattle.htl_names.specs.Flat.{term_by, input_place, read_place};
 use crate::layout::Layout;
 use crate::meanings::{comm_place, param_place};
 use htl_model::Expr;
-use htl_text::{Id, Term};
+use htl_text::{Id, Operand, Part};
 use std::alloc::{AllocError, Global};
 
 /// What the names of an expression stand for.
@@ -67,39 +66,37 @@ fn place_in(comm: usize, comms: &[u16]) -> usize
 }
 
 /// The expression with the places of its names.
-pub fn formula<A: Arguments>(alloc: Global, arguments: &A, e: &Term) -> Result<Expr, AllocError>
+pub fn formula<A: Arguments>(
+    alloc: Global,
+    arguments: &A,
+    e: &Operand<'_>,
+) -> Result<Expr, AllocError>
     requires { (id : AnId) → A.place arguments.now id ≤ 4097 }
-    ensures { IfOk result (λ x. term_of x ≡ term_by (A.place arguments.now) (expr_of e.now)) }
+    ensures { IfOk result (λ x. term_of x ≡ term_by (A.place arguments.now) e.now) }
 {
-    match e {
-        Term::Int { token, x } => Ok(Expr::Int {
-            token: *token,
-            x: *x,
-        }),
-        Term::Bool { token, x } => Ok(Expr::Bool {
-            token: *token,
-            x: *x,
-        }),
-        Term::Named { id } => Ok(Expr::Arg {
+    match e.part() {
+        Part::Int { token, x } => Ok(Expr::Int { token, x }),
+        Part::Bool { token, x } => Ok(Expr::Bool { token, x }),
+        Part::Named { id } => Ok(Expr::Arg {
             token: id.token,
-            k: arguments.place(id),
+            k: arguments.place(&id),
         }),
-        Term::Unary { token, op, e } => Ok(Expr::Unary {
-            token: *token,
-            op: *op,
-            e: Box::new(alloc, formula(alloc, arguments, e)?)?,
+        Part::Unary { token, op, e } => Ok(Expr::Unary {
+            token,
+            op,
+            e: Box::new(alloc, formula(alloc, arguments, &e)?)?,
         }),
-        Term::Binary { token, op, both } => Ok(Expr::Binary {
-            token: *token,
-            op: *op,
-            l: Box::new(alloc, formula(alloc, arguments, &both.l)?)?,
-            r: Box::new(alloc, formula(alloc, arguments, &both.r)?)?,
+        Part::Binary { token, op, l, r } => Ok(Expr::Binary {
+            token,
+            op,
+            l: Box::new(alloc, formula(alloc, arguments, &l)?)?,
+            r: Box::new(alloc, formula(alloc, arguments, &r)?)?,
         }),
-        Term::Choose { token, choice } => Ok(Expr::Choose {
-            token: *token,
-            c: Box::new(alloc, formula(alloc, arguments, &choice.c)?)?,
-            a: Box::new(alloc, formula(alloc, arguments, &choice.a)?)?,
-            b: Box::new(alloc, formula(alloc, arguments, &choice.b)?)?,
+        Part::Choose { token, c, a, b } => Ok(Expr::Choose {
+            token,
+            c: Box::new(alloc, formula(alloc, arguments, &c)?)?,
+            a: Box::new(alloc, formula(alloc, arguments, &a)?)?,
+            b: Box::new(alloc, formula(alloc, arguments, &b)?)?,
         }),
     }
 }

@@ -97,6 +97,6 @@ fn output_function(
 {
     Ok(Function::Expr {
         first: out.first,
-        e: formula(alloc, inputs, &out.value)?,
+        e: formula(alloc, inputs, &out.value.whole())?,
     })
 }

@@ -32,8 +32,6 @@ mod switches;
 mod symbols;
 mod tally;
 mod tasks;
-#[cfg(test)]
-mod tests;
 mod uses;
 mod walk;
 

@@ -1,7 +1,6 @@
 // What one walk over a source leaves for the name rules.
 ghost use Rattle.std.specs.Prelude.{◌≡◌, ◌≤◌, ◌^◌, ◌-◌, ◌∷◌, [], ◌++◌, OnOk, length, map};
 ghost use Rattle.htl_text.specs.Bounds.{names_of};
-ghost use Rattle.htl_text.specs.Expressions.{expr_of};
 ghost use Rattle.htl_names.specs.Entries.{entry};
 ghost use Rattle.htl_names.specs.Rows.{joined, declaring, using, judging, refining, judged_of};
 ghost use Rattle.htl_names.specs.Uses.{usage};
@@ -9,7 +8,7 @@ ghost use Rattle.htl_names.specs.Unknowns.{use_in};
 
 use crate::key::{Entry, Key, Space, Use};
 use htl_base::Ty;
-use htl_text::{ConstNode, Id, Num, Term};
+use htl_text::{ConstNode, Expression, Id, Node, Num};
 use std::alloc::{AllocError, Global};
 use std::marker::Model;
 
@@ -115,8 +114,8 @@ impl Rows {
     }
 
     /// The names of an expression.
-    pub fn mention_all(&mut self, scope: &Scope, e: &Term) -> Result<(), AllocError>
-        ensures { OnOk result (self.new ≡ joined self.old (using (map (use_in scope.now) (names_of (expr_of e.now))))) }
+    pub fn mention_all(&mut self, scope: &Scope, e: &Expression) -> Result<(), AllocError>
+        ensures { OnOk result (self.new ≡ joined self.old (using (map (use_in scope.now) (names_of e.now)))) }
     {
         put_names(scope, e, &mut self.uses)
     }
@@ -138,21 +137,13 @@ impl Rows {
     }
 }
 
-fn put_names(scope: &Scope, e: &Term, into: &mut Vec<Use>) -> Result<(), AllocError>
-    ensures { OnOk result (into.new.items ≡ into.old.items ++ map (use_in scope.now) (names_of (expr_of e.now))) }
+fn put_names(scope: &Scope, e: &Expression, into: &mut Vec<Use>) -> Result<(), AllocError>
+    ensures { OnOk result (into.new.items ≡ into.old.items ++ map (use_in scope.now) (names_of e.now)) }
 {
-    match e {
-        Term::Int { .. } | Term::Bool { .. } => {}
-        Term::Named { id } => put_name(scope, id, into)?,
-        Term::Unary { e, .. } => put_names(scope, e, into)?,
-        Term::Binary { both, .. } => {
-            put_names(scope, &both.l, into)?;
-            put_names(scope, &both.r, into)?;
-        }
-        Term::Choose { choice, .. } => {
-            put_names(scope, &choice.c, into)?;
-            put_names(scope, &choice.a, into)?;
-            put_names(scope, &choice.b, into)?;
+    let nodes = e.nodes();
+    for k in 0..nodes.len() {
+        if let Node::Named { id } = &nodes[k] {
+            put_name(scope, id, into)?;
         }
     }
     Ok(())

@@ -3,7 +3,6 @@ ghost use Rattle.std.specs.Prelude.{◌≡◌, ◌++◌, ◌∷◌, ◌≤◌, [
 ghost use Rattle.std.specs.List.{flat_map};
 ghost use Rattle.htl_model.specs.Tables.{fun_of};
 ghost use Rattle.htl_text.specs.Bounds.{names_of};
-ghost use Rattle.htl_text.specs.Expressions.{expr_of};
 ghost use Rattle.htl_text.specs.Nodes.{tree_of, switch_of};
 ghost use Rattle.htl_text.specs.declared.tree.Id.{Id as AnId};
 ghost use Rattle.htl_names.specs.declared.key.Key.{Key as AKey};
@@ -21,7 +20,7 @@ use crate::numbers::{modes_before, module_number};
 use crate::place::ModeAt;
 use htl_base::Seq;
 use htl_model::{Function, Switch};
-use htl_text::{SwitchNode, Term, Tree};
+use htl_text::{Expression, Node, SwitchNode, Tree};
 use std::alloc::{AllocError, Global};
 
 /// The switches, with functions of which the last are theirs.
@@ -122,20 +121,20 @@ fn switch_function(
     node: &SwitchNode,
 ) -> Result<Function, AllocError>
     requires meanings { (key : AKey) → meaning layout.now key ≤ 4096 }
-    requires comms { comms.now ≡ comms_in layout.now (expr_of node.now.cond) }
+    requires comms { comms.now ≡ comms_in layout.now node.now.cond }
     ensures { IfOk result (λ f. fun_of f ≡ switch_function layout.now (switch_of node.now)) }
 {
     let reads = Reads { layout, comms };
     Ok(Function::Expr {
         first: node.first,
-        e: formula(alloc, &reads, &node.cond)?,
+        e: formula(alloc, &reads, &node.cond.whole())?,
     })
 }
 
 /// The communicators of a condition, each once, in the order of their first occurrence.
-fn comms_in(alloc: Global, layout: &Layout, e: &Term) -> Result<Vec<u16>, AllocError>
+fn comms_in(alloc: Global, layout: &Layout, e: &Expression) -> Result<Vec<u16>, AllocError>
     requires { (key : AKey) → meaning layout.now key ≤ 4096 }
-    ensures { IfOk result (λ v. v.items ≡ comms_in layout.now (expr_of e.now)) }
+    ensures { IfOk result (λ v. v.items ≡ comms_in layout.now e.now) }
 {
     let mut comms = Vec::new(alloc);
     put_comms(layout, e, &mut comms)?;
@@ -143,23 +142,15 @@ fn comms_in(alloc: Global, layout: &Layout, e: &Term) -> Result<Vec<u16>, AllocE
 }
 
 // Puts those of an expression behind the others, but for those that are there.
-fn put_comms(layout: &Layout, e: &Term, comms: &mut Vec<u16>) -> Result<(), AllocError>
+fn put_comms(layout: &Layout, e: &Expression, comms: &mut Vec<u16>) -> Result<(), AllocError>
     requires { (key : AKey) → meaning layout.now key ≤ 4096 }
     ensures { OnOk result (comms.new.items
-        ≡ fold with_new comms.old.items (map (λ (id : AnId). meaning layout.now (comm_key id.name)) (names_of (expr_of e.now)))) }
+        ≡ fold with_new comms.old.items (map (λ (id : AnId). meaning layout.now (comm_key id.name)) (names_of e.now))) }
 {
-    match e {
-        Term::Int { .. } | Term::Bool { .. } => {}
-        Term::Named { id } => put_comm(comm_place(layout, id.name) as u16, comms)?,
-        Term::Unary { e, .. } => put_comms(layout, e, comms)?,
-        Term::Binary { both, .. } => {
-            put_comms(layout, &both.l, comms)?;
-            put_comms(layout, &both.r, comms)?;
-        }
-        Term::Choose { choice, .. } => {
-            put_comms(layout, &choice.c, comms)?;
-            put_comms(layout, &choice.a, comms)?;
-            put_comms(layout, &choice.b, comms)?;
+    let nodes = e.nodes();
+    for k in 0..nodes.len() {
+        if let Node::Named { id } = &nodes[k] {
+            put_comm(comm_place(layout, id.name) as u16, comms)?;
         }
     }
     Ok(())

@@ -3,13 +3,13 @@ use Rattle.std.proofs.Common.{arith, ◌≡◌, ◌≤◌, ◌<◌, ◌+◌, ◌
 use Rattle.std.specs.Prelude.{◌==◌, ◌⊎◌}
 use Rattle.htl_base.specs.declared.operator.BinOp.{BinOp}
 use Rattle.htl_text.specs.Placed.{Placed, Put}
-use Rattle.htl_text.specs.Expressions.{Expr, expr_of, Infix}
+use Rattle.htl_text.specs.Expressions.{Expr, Infix}
+use Rattle.htl_text.specs.declared.expression.Node.{Node}
 use Rattle.htl_text.specs.Grammar.{or_of, and_of, compare_of, sum_of, product_of}
 use Rattle.htl_text.specs.declared.token.Token.TheVariants as token
 use Rattle.htl_text.specs.declared.token.Sign.{Sign}
 use Rattle.htl_text.specs.declared.token.Sign.TheVariants as sign
-use Rattle.htl_text.specs.declared.tree.Term.{Term}
-use Rattle.htl_parse.specs.Cursors.{PassesBinary, Gives}
+use Rattle.htl_parse.specs.Cursors.{PassesBinary, Puts}
 use Rattle.htl_parse.specs.declared.stop.Stop.{Stop}
 use Rattle.htl_parse.specs.declared.stop.Stop.TheVariants as stop
 use Rattle.htl_parse.specs.Levels.{level_of, operator_at, level_by, limit_behind}
@@ -170,14 +170,14 @@ after-climb low m (suc (suc (suc (suc (suc n))))) f us same below = absurd (omeg
 -- ---- the loop
 
 -- the loop of a level has come to e, and goes on with what is left, where operators of levels below limit may follow
-pub record IsClimbing (low : ℕ) (old left : List Placed) (limit : ℕ) (e : Term) : Type 0 where
+pub record IsClimbing (low : ℕ) (old left : List Placed) (limit : ℕ) (e : Expr) : Type 0 where
   pub d : ℕ
   pub at : low + d ≡ limit
   pub below : limit ≤ 5
-  pub reads : level_by read_expr low old ≡ climb low d (expr_of e) left
+  pub reads : level_by read_expr low old ≡ climb low d e left
   pub less : length left < length old
 
-pub climbing-start : (low : ℕ) (old left : List Placed) (e : Term) → low ≤ 5 → unary_by read_expr old ≡ Ok (expr_of e, left) → length left < length old → IsClimbing low old left 5 e
+pub climbing-start : (low : ℕ) (old left : List Placed) (e : Expr) → low ≤ 5 → unary_by read_expr old ≡ Ok (e, left) → length left < length old → IsClimbing low old left 5 e
 climbing-start low old left e below reads less =
     let same : low + (5 - low) ≡ 5 = omega (arith, below) in
     record {
@@ -191,7 +191,7 @@ climbing-start low old left e below reads less =
       less = less;
     }
 
-module _ (low : ℕ) (old left : List Placed) (limit : ℕ) (e : Term) (so : IsClimbing low old left limit e) where
+module _ (low : ℕ) (old left : List Placed) (limit : ℕ) (e : Expr) (so : IsClimbing low old left limit e) where
   none-above : (k : ℕ) (s : Sign) (mid : List Placed) (level : ℕ) → left ≡ Put k (token.Sign s) ∷ mid → level_of s ≡ level → (l : ℕ) → suc level ≤ l → IsNoneOf l left
   none-above k s mid level is at l from =
       subst (IsNoneOf l) (sym is) (operator-none l s (λ same. absurd (omega (arith, same, at, from))))
@@ -199,7 +199,7 @@ module _ (low : ℕ) (old left : List Placed) (limit : ℕ) (e : Term) (so : IsC
   -- behind an operator a right operand is read, and then the loop goes on
   climbing-on : (mid : List Placed) (k level : ℕ) (op : BinOp) → PassesBinary low limit left mid (Some (k, level, op))
       → level_by read_expr low old
-      ≡ (level_by read_expr (level + 1) mid >>= λ x. after level (Infix k op (expr_of e) x.0) x.1 >>= λ y. climb low (level - low) y.0 y.1)
+      ≡ (level_by read_expr (level + 1) mid >>= λ x. after level (Infix k op e x.0) x.1 >>= λ y. climb low (level - low) y.0 y.1)
   climbing-on mid k level op passes =
       let s = passes.0 in
       let at : level ≡ level_of s = passes.1 in
@@ -213,15 +213,15 @@ module _ (low : ℕ) (old left : List Placed) (limit : ℕ) (e : Term) (so : IsC
       let tighter : suc level ≡ level + 1 = omega arith in
       let whole : so.d ≡ suc m + n = omega (arith, there, from, under) in
       so.reads
-      ∙ ap (λ (d : ℕ). climb low d (expr_of e) left) whole
-      ∙ climb-none low (suc m) n (expr_of e) left (λ l above under. none-above k s mid level is (sym at) l (omega (arith, above, here)))
-      ∙ ap (climb low (suc m) (expr_of e)) is
-      ∙ climb-op low m (expr_of e) k s mid op (subst (λ (l : ℕ). operator_at l s ≡ Some op) (sym here) passes.2)
-      ∙ ap (λ (l : ℕ). level_by read_expr (suc l) mid >>= λ x. after l (Infix k op (expr_of e) x.0) x.1 >>= λ y. climb low m y.0 y.1) here
-      ∙ ap (λ (l : ℕ). level_by read_expr l mid >>= λ x. after level (Infix k op (expr_of e) x.0) x.1 >>= λ y. climb low m y.0 y.1) tighter
+      ∙ ap (λ (d : ℕ). climb low d e left) whole
+      ∙ climb-none low (suc m) n e left (λ l above under. none-above k s mid level is (sym at) l (omega (arith, above, here)))
+      ∙ ap (climb low (suc m) e) is
+      ∙ climb-op low m e k s mid op (subst (λ (l : ℕ). operator_at l s ≡ Some op) (sym here) passes.2)
+      ∙ ap (λ (l : ℕ). level_by read_expr (suc l) mid >>= λ x. after l (Infix k op e x.0) x.1 >>= λ y. climb low m y.0 y.1) here
+      ∙ ap (λ (l : ℕ). level_by read_expr l mid >>= λ x. after level (Infix k op e x.0) x.1 >>= λ y. climb low m y.0 y.1) tighter
 
-  pub climbing-more : (mid new : List Placed) (k level : ℕ) (op : BinOp) (r f : Term) → PassesBinary low limit left mid (Some (k, level, op))
-      → level_by read_expr (level + 1) mid ≡ Ok (expr_of r, new) → length new < length mid → expr_of f ≡ Infix k op (expr_of e) (expr_of r)
+  pub climbing-more : (mid new : List Placed) (k level : ℕ) (op : BinOp) (r f : Expr) → PassesBinary low limit left mid (Some (k, level, op))
+      → level_by read_expr (level + 1) mid ≡ Ok (r, new) → length new < length mid → f ≡ Infix k op e r
       → IsClimbing low old new (limit_behind level) f
   climbing-more mid new k level op r f passes right less made =
       let from : low ≤ level = passes.3 in
@@ -230,14 +230,14 @@ module _ (low : ℕ) (old left : List Placed) (limit : ℕ) (e : Term) (so : IsC
       let below = so.below in
       let m : ℕ = level - low in
       let here : low + m ≡ level = omega (arith, from) in
-      let done = after-climb low m level (expr_of f) new here (omega (arith, under, below)) in
+      let done = after-climb low m level f new here (omega (arith, under, below)) in
       record {
         d = done.0;
         at = done.1;
         below = limit-fits level (omega (arith, under, below));
         reads =
             climbing-on mid k level op passes
-            ∙ ap (λ (q : Read Expr). q >>= λ x. after level (Infix k op (expr_of e) x.0) x.1 >>= λ y. climb low m y.0 y.1) right
+            ∙ ap (λ (q : Read Expr). q >>= λ x. after level (Infix k op e x.0) x.1 >>= λ y. climb low m y.0 y.1) right
             ∙ ap (λ (x : Expr). after level x new >>= λ y. climb low m y.0 y.1) (sym made)
             ∙ done.2;
         less = let longer : length left ≡ length (Put k (token.Sign passes.0) ∷ mid) = ap length is in let before = so.less in omega (arith, before, less, longer);
@@ -251,11 +251,11 @@ module _ (low : ℕ) (old left : List Placed) (limit : ℕ) (e : Term) (so : IsC
           by false = omega (arith, under)
 
   -- where no right operand is read, nothing is
-  pub climbing-stopped : {X : Type 0} (view : X → Expr) (mid new : List Placed) (k level : ℕ) (op : BinOp) (stopped : Stop) → PassesBinary low limit left mid (Some (k, level, op))
-      → Gives view (Err stopped) new (level_by read_expr (level + 1) mid) → Gives view (Err stopped) new (level_by read_expr low old)
-  climbing-stopped view mid new k level op stop.Syntax passes right =
-      climbing-on mid k level op passes ∙ ap (λ (q : Read Expr). q >>= λ x. after level (Infix k op (expr_of e) x.0) x.1 >>= λ y. climb low (level - low) y.0 y.1) right
-  climbing-stopped view mid new k level op stop.Memory passes right = tt
+  pub climbing-stopped : (first one last two : List Node) (mid new : List Placed) (k level : ℕ) (op : BinOp) (stopped : Stop) → PassesBinary low limit left mid (Some (k, level, op))
+      → Puts (Err stopped) first one new (level_by read_expr (level + 1) mid) → Puts (Err stopped) last two new (level_by read_expr low old)
+  climbing-stopped first one last two mid new k level op stop.Syntax passes right =
+      climbing-on mid k level op passes ∙ ap (λ (q : Read Expr). q >>= λ x. after level (Infix k op e x.0) x.1 >>= λ y. climb low (level - low) y.0 y.1) right
+  climbing-stopped first one last two mid new k level op stop.Memory passes right = tt
 
   none-within : (us : List Placed) → ((k : ℕ) (s : Sign) (rest : List Placed) → us ≡ Put k (token.Sign s) ∷ rest → (level_of s < low) ⊎ (limit ≤ level_of s))
       → (l : ℕ) → low ≤ l → l < limit → IsNoneOf l us
@@ -266,10 +266,10 @@ module _ (low : ℕ) (old left : List Placed) (limit : ℕ) (e : Term) (so : IsC
       apart (inr h) same = absurd (omega (arith, h, same, under))
   none-within us outside l from under = tt
 
-  pub climbing-done : (new : List Placed) → PassesBinary low limit left new None → level_by read_expr low old ≡ Ok (expr_of e, new)
+  pub climbing-done : (new : List Placed) → PassesBinary low limit left new None → level_by read_expr low old ≡ Ok (e, new)
   climbing-done new passes =
       let at = so.at in
       so.reads
-      ∙ ap (λ (d : ℕ). climb low d (expr_of e) left) (omega arith)
-      ∙ climb-none low 0 so.d (expr_of e) left (λ l from under. none-within left passes.1 l (omega (arith, from)) (omega (arith, under, at)))
-      ∙ ap (λ (us : List Placed). Ok (expr_of e, us)) (sym passes.0)
+      ∙ ap (λ (d : ℕ). climb low d e left) (omega arith)
+      ∙ climb-none low 0 so.d e left (λ l from under. none-within left passes.1 l (omega (arith, from)) (omega (arith, under, at)))
+      ∙ ap (λ (us : List Placed). Ok (e, us)) (sym passes.0)

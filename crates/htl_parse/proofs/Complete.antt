@@ -93,7 +93,7 @@ pub compared-done : (next : Reader Expr) (e : Expr) (us : List Placed) → IsFre
 compared-done next e (Put k (token.Sign s) ∷ us) free = ap (grown (λ f ts. Ok (f, ts)) next k e (Put k (token.Sign s) ∷ us) us) free
 compared-done next e us free = refl
 
-prefix-done : (nested : Reader Expr) (k : ℕ) (ts : List Placed) (e : Expr) (rest : List Placed) (op : UnOp) (s : Sign) → prefix_of s ≡ Some op
+pub prefix-done : (nested : Reader Expr) (k : ℕ) (ts : List Placed) (e : Expr) (rest : List Placed) (op : UnOp) (s : Sign) → prefix_of s ≡ Some op
     → unary_by nested ts ≡ Ok (e, rest) → unary_by nested (Put k (token.Sign s) ∷ ts) ≡ Ok (Prefix k op e, rest)
 prefix-done nested k ts e rest op sign.Minus is h =
     let same : un.Neg ≡ op = cc in

@@ -17,6 +17,7 @@ pub mod Locality
 pub mod LongRuns
 pub mod Parts
 pub mod Reparsing
+pub mod Pushing
 pub mod Repeating
 pub mod Repeats
 pub mod Sound

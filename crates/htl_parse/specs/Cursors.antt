@@ -1,8 +1,9 @@
 -- What the steps of a reader say of the tokens that are left.
-use Rattle.std.specs.Prelude.{Bool, true, false, ℕ, ℤ, ◌≡◌, ◌<◌, ◌≤◌, ◌⊎◌, Option, None, Some, Result, Ok, Err, List, [], ◌∷◌, length}
+use Rattle.std.specs.Prelude.{Bool, true, false, ℕ, ℤ, ◌≡◌, ◌<◌, ◌≤◌, ◌⊎◌, Option, None, Some, Result, Ok, Err, List, [], ◌∷◌, ◌++◌, length}
 use Rattle.htl_text.specs.Placed.{Placed, Put}
 use Rattle.htl_base.specs.declared.operator.BinOp.{BinOp}
-use Rattle.htl_text.specs.Expressions.{Expr, expr_of}
+use Rattle.htl_text.specs.Expressions.{Expr, Number, Flag, Variable}
+use Rattle.htl_text.specs.Postfix.{nodes_of}
 use Rattle.htl_text.specs.Kinds.{kind_of}
 use Rattle.htl_text.specs.declared.token.Kind.{Kind}
 use Rattle.htl_text.specs.declared.token.Kind.TheVariants as kind
@@ -12,7 +13,8 @@ use Rattle.htl_parse.specs.ReadingExpressions.{simple_at}
 use Rattle.htl_text.specs.declared.token.Token.{Token}
 use Rattle.htl_text.specs.declared.token.Token.TheVariants as token
 use Rattle.htl_text.specs.declared.token.Sign.{Sign}
-use Rattle.htl_text.specs.declared.tree.Term.{Term}
+use Rattle.htl_text.specs.declared.expression.Node.{Node}
+use Rattle.htl_text.specs.declared.expression.Node.TheVariants as node
 use Rattle.htl_parse.specs.declared.stop.Stop.{Stop}
 use Rattle.htl_parse.specs.declared.stop.Stop.TheVariants as stop
 
@@ -52,14 +54,17 @@ PassesBinary loosest limit old new (Some x) =
 PassesBinary loosest limit old new None =
     (new ≡ old) × ((k : ℕ) (s : Sign) (rest : List Placed) → old ≡ Put k (token.Sign s) ∷ rest → (level_of s < loosest) ⊎ (limit ≤ level_of s))
 
--- what a reader of expressions has found
-abbrev pub gives : Option Term → List Placed → Read Expr
-gives (Some e) left = Ok (expr_of e, left)
-gives None left = Err left
+-- the expression of a node without operands
+abbrev pub leaf_of : Node → Expr
+leaf_of (node.Int k x) = Number k x
+leaf_of (node.Bool k x) = Flag k x
+leaf_of (node.Named id) = Variable id
+leaf_of n = Flag 0 false
 
--- a number, a truth value or a name
-abbrev pub IsSimple : List Placed → List Placed → Option Term → Type 0
-IsSimple old new found = gives found new ≡ simple_at old
+-- a number, a truth value or a name was passed, or none stands next
+abbrev pub IsSimple : List Placed → List Placed → Option Node → Type 0
+IsSimple old new (Some n) = (simple_at old ≡ Ok (leaf_of n, new)) × (nodes_of (leaf_of n) ≡ n ∷ [])
+IsSimple old new None = simple_at old ≡ Err new
 
 -- a token that must stand here
 abbrev pub Stands : {X : Type 0} → Result X Stop → List Placed → Result (List Placed) (List Placed) → Type 0
@@ -73,6 +78,13 @@ abbrev pub Gives : {X Y : Type 0} → (X → Y) → Result X Stop → List Place
 Gives view (Ok x) new read = read ≡ Ok (view x, new)
 Gives view (Err stop.Memory) new read = Unit {0}
 Gives view (Err stop.Syntax) new read = read ≡ Err new
+
+-- A call puts the nodes of the expression that reading gives behind those that stand, unless memory ran out. Where
+-- reading met a token that doesn't fit, that token stands next.
+abbrev pub Puts : Result (Unit {0}) Stop → List Node → List Node → List Placed → Read Expr → Type 0
+Puts (Ok x) before after new read = (e : Expr) × (read ≡ Ok (e, new)) × (after ≡ before ++ nodes_of e)
+Puts (Err stop.Memory) before after new read = Unit {0}
+Puts (Err stop.Syntax) before after new read = read ≡ Err new
 
 -- The same of a reader behind which nothing may stand.
 abbrev pub GivesWhole : {X Y : Type 0} → (X → Y) → Result X Stop → List Placed → Read Y → Type 0

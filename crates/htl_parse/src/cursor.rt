@@ -11,7 +11,7 @@ ghost use Rattle.htl_text.specs.declared.token.Token.TheVariants as token;
 use crate::operator::{binary_of, prefix_of};
 use crate::stop::Stop;
 use htl_base::{BinOp, Name, Ty, UnOp, Value};
-use htl_text::{ConstNode, Id, Kind, Num, Sign, Term, Tokens, Word};
+use htl_text::{ConstNode, Id, Kind, Node, Num, Sign, Tokens, Word};
 use std::marker::Model;
 
 /// Where a reader stands among the tokens of a source; contracts see what is left, each token with its
@@ -181,28 +181,28 @@ impl<'a> Cursor<'a> {
     }
 
     /// A number, a truth value or a name.
-    pub fn simple(&mut self) -> Option<Term>
+    pub fn simple(&mut self) -> Option<Node>
         ensures { IsSimple self.old self.new result }
     {
         match self.next() {
             Some(Kind::Number) => {
                 let x = self.next_number();
                 let token = self.pass();
-                Some(Term::Int { token, x })
+                Some(Node::Int { token, x })
             }
             Some(Kind::Word(Word::True)) => {
                 let token = self.pass();
-                Some(Term::Bool { token, x: true })
+                Some(Node::Bool { token, x: true })
             }
             Some(Kind::Word(Word::False)) => {
                 let token = self.pass();
-                Some(Term::Bool { token, x: false })
+                Some(Node::Bool { token, x: false })
             }
             Some(Kind::Ident) => {
                 let name = self.next_name();
                 let token = self.pass();
                 let id = Id { name, token };
-                Some(Term::Named { id })
+                Some(Node::Named { id })
             }
             _ => None,
         }

@@ -1,39 +1,31 @@
 // Expressions: operands, and the operators between them by their levels.
-ghost use Rattle.std.specs.Prelude.{◌≡◌, ◌<◌, ◌≤◌, IfOk};
-ghost use Rattle.htl_text.specs.Expressions.{expr_of, Infix};
+ghost use Rattle.std.specs.Prelude.{◌≡◌, ◌<◌, ◌≤◌};
 ghost use Rattle.htl_parse.specs.ReadingExpressions.{read_expr, bracketed, chosen, atom_by, unary_by};
 ghost use Rattle.htl_parse.specs.Levels.{level_by, limit_behind};
-ghost use Rattle.htl_parse.specs.Cursors.{Gives, Lessens};
+ghost use Rattle.htl_parse.specs.Cursors.{Gives, Puts, Lessens};
 
 use crate::cursor::Cursor;
 use crate::operator::{COMPARISON, OPERAND};
 use crate::stop::Stop;
-use htl_base::BinOp;
-use htl_text::{Choice, Operands, Sign, Term, Word};
-use std::alloc::{AllocError, Global};
+use htl_text::{Expression, Node, Sign, Word};
+use std::alloc::Global;
 
 /// expr = conj { "||" conj }, where conj = cmp { "&&" cmp }
-pub fn expr(alloc: Global, cursor: &mut Cursor<'_>) -> Result<Term, Stop>
-    ensures { Gives expr_of result cursor.new (read_expr cursor.old) }
+pub fn expr(alloc: Global, cursor: &mut Cursor<'_>) -> Result<Expression, Stop>
+    ensures { Gives (λ e. e) result cursor.new (read_expr cursor.old) }
 {
-    whole(alloc, cursor)
+    let mut nodes = Vec::new(alloc);
+    whole(cursor, &mut nodes)?;
+    Ok(Expression::new(nodes))
 }
 
-// A whole expression, from the loosest level on.
+// Puts the nodes of a whole expression, from the loosest level on, behind those that stand.
 #[cycle(expr)]
-fn whole(alloc: Global, cursor: &mut Cursor<'_>) -> Result<Term, Stop>
-    ensures reads { Gives expr_of result cursor.new (read_expr cursor.old) }
+fn whole(cursor: &mut Cursor<'_>, nodes: &mut Vec<Node>) -> Result<(), Stop>
+    ensures reads { Puts result nodes.old.items nodes.new.items cursor.new (read_expr cursor.old) }
     ensures less { Lessens result cursor.old cursor.new }
 {
-    binary(alloc, cursor, 0)
-}
-
-// An operator with its operands.
-fn infix(alloc: Global, token: u32, op: BinOp, l: Term, r: Term) -> Result<Term, AllocError>
-    ensures { IfOk result (λ e. expr_of e ≡ Infix token op (expr_of l) (expr_of r)) }
-{
-    let both = Box::new(alloc, Operands { l, r })?;
-    Ok(Term::Binary { token, op, both })
+    binary(cursor, nodes, 0)
 }
 
 // Below which level the operators are that may follow an operator of this level and its right operand.
@@ -53,77 +45,86 @@ fn limit_behind(level: u8) -> u8
 // sum = prod { ( "+" | "-" ) prod }
 // prod = unary { ( "*" | "/" | "%" ) unary }
 #[cycle(expr)]
-fn binary(alloc: Global, cursor: &mut Cursor<'_>, loosest: u8) -> Result<Term, Stop>
+fn binary(cursor: &mut Cursor<'_>, nodes: &mut Vec<Node>, loosest: u8) -> Result<(), Stop>
     requires { loosest ≤ 5 }
-    ensures reads { Gives expr_of result cursor.new (level_by read_expr loosest cursor.old) }
+    ensures reads { Puts result nodes.old.items nodes.new.items cursor.new (level_by read_expr loosest cursor.old) }
     ensures less { Lessens result cursor.old cursor.new }
 {
-    let mut left = unary(alloc, cursor)?;
+    unary(cursor, nodes)?;
     let mut limit = OPERAND;
     while let Some((token, level, op)) = cursor.binary_operator(loosest, limit) {
-        let right = binary(alloc, cursor, level + 1)?;
-        left = infix(alloc, token, op, left, right)?;
+        let before = nodes.len();
+        binary(cursor, nodes, level + 1)?;
+        let right = nodes.len() - before;
+        nodes.push(Node::Binary { token, op, right })?;
         limit = limit_behind(level);
     }
-    Ok(left)
+    Ok(())
 }
 
 // unary = ( "-" | "!" ) unary | atom
 #[cycle(expr)]
-fn unary(alloc: Global, cursor: &mut Cursor<'_>) -> Result<Term, Stop>
-    ensures reads { Gives expr_of result cursor.new (unary_by read_expr cursor.old) }
+fn unary(cursor: &mut Cursor<'_>, nodes: &mut Vec<Node>) -> Result<(), Stop>
+    ensures reads { Puts result nodes.old.items nodes.new.items cursor.new (unary_by read_expr cursor.old) }
     ensures less { Lessens result cursor.old cursor.new }
 {
     let Some((token, op)) = cursor.prefix_operator() else {
-        return atom(alloc, cursor);
+        return atom(cursor, nodes);
     };
-    let operand = unary(alloc, cursor)?;
-    let e = Box::new(alloc, operand)?;
-    Ok(Term::Unary { token, op, e })
+    unary(cursor, nodes)?;
+    nodes.push(Node::Unary { token, op })?;
+    Ok(())
 }
 
 // atom = number | "true" | "false" | name | "(" expr ")" | "if" "(" expr "," expr "," expr ")"
 #[cycle(expr)]
-fn atom(alloc: Global, cursor: &mut Cursor<'_>) -> Result<Term, Stop>
-    ensures reads { Gives expr_of result cursor.new (atom_by read_expr cursor.old) }
+fn atom(cursor: &mut Cursor<'_>, nodes: &mut Vec<Node>) -> Result<(), Stop>
+    ensures reads { Puts result nodes.old.items nodes.new.items cursor.new (atom_by read_expr cursor.old) }
     ensures less { Lessens result cursor.old cursor.new }
 {
     if let Some(found) = cursor.simple() {
-        return Ok(found);
+        nodes.push(found)?;
+        return Ok(());
     }
     if let Some(_) = cursor.sign(Sign::OpenParen) {
-        return bracketed(alloc, cursor);
+        return bracketed(cursor, nodes);
     }
     if let Some(token) = cursor.word(Word::If) {
-        return choice(alloc, cursor, token);
+        return choice(cursor, nodes, token);
     }
     Err(Stop::Syntax)
 }
 
 // What stands behind an opening bracket.
 #[cycle(expr)]
-fn bracketed(alloc: Global, cursor: &mut Cursor<'_>) -> Result<Term, Stop>
-    ensures reads { Gives expr_of result cursor.new (bracketed read_expr cursor.old) }
+fn bracketed(cursor: &mut Cursor<'_>, nodes: &mut Vec<Node>) -> Result<(), Stop>
+    ensures reads { Puts result nodes.old.items nodes.new.items cursor.new (bracketed read_expr cursor.old) }
     ensures less { Lessens result cursor.old cursor.new }
 {
-    let e = whole(alloc, cursor)?;
+    whole(cursor, nodes)?;
     cursor.expect(Sign::CloseParen)?;
-    Ok(e)
+    Ok(())
 }
 
 // What stands behind an `if`.
 #[cycle(expr)]
-fn choice(alloc: Global, cursor: &mut Cursor<'_>, token: u32) -> Result<Term, Stop>
-    ensures reads { Gives expr_of result cursor.new (chosen read_expr token cursor.old) }
+fn choice(cursor: &mut Cursor<'_>, nodes: &mut Vec<Node>, token: u32) -> Result<(), Stop>
+    ensures reads { Puts result nodes.old.items nodes.new.items cursor.new (chosen read_expr token cursor.old) }
     ensures less { Lessens result cursor.old cursor.new }
 {
     cursor.expect(Sign::OpenParen)?;
-    let c = whole(alloc, cursor)?;
+    whole(cursor, nodes)?;
     cursor.expect(Sign::Comma)?;
-    let a = whole(alloc, cursor)?;
+    let one = nodes.len();
+    whole(cursor, nodes)?;
     cursor.expect(Sign::Comma)?;
-    let b = whole(alloc, cursor)?;
+    let two = nodes.len();
+    whole(cursor, nodes)?;
     cursor.expect(Sign::CloseParen)?;
-    let choice = Box::new(alloc, Choice { c, a, b })?;
-    Ok(Term::Choose { token, choice })
+    nodes.push(Node::Choose {
+        token,
+        first: two - one,
+        second: nodes.len() - two,
+    })?;
+    Ok(())
 }

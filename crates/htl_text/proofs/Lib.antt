@@ -8,6 +8,7 @@ pub mod Keeping
 pub mod Lengths
 pub mod Numbers
 pub mod OneCut
+pub mod Parts
 pub mod Reprinted
 pub mod Sizes
 pub mod Skipping

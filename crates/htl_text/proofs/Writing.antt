@@ -1,12 +1,10 @@
 -- Writing tokens one after another.
-use Rattle.std.proofs.Common.{arith, ◌+◌, ◌≡◌, ◌<◌, ℕ, suc, List, [], ◌∷◌, ◌++◌, length, take, refl, sym, subst, ap, ◌∙◌, append_assoc, append-nil}
+use Rattle.std.proofs.Common.{arith, ◌+◌, ◌≡◌, ◌<◌, ℕ, suc, List, [], ◌∷◌, ◌++◌, length, take, refl, sym, ap, ◌∙◌, append_assoc, append-nil}
 use Rattle.std.specs.Prelude.{get_or, OnOk, Result, Ok, Err, map}
 use Rattle.std.proofs.Math.Seq.{take-suc}
-use Rattle.htl_text.specs.PrintedTokens.{Spelling, each, after_commas, in_brackets, expr_tokens}
-use Rattle.htl_text.specs.Expressions.{expr_of}
+use Rattle.htl_text.specs.PrintedTokens.{Spelling, each, after_commas, in_brackets}
 use Rattle.htl_text.specs.PrintedBytes.{Adds, printed_bytes, token_bytes}
 use Rattle.htl_text.specs.declared.token.Token.{Token}
-use Rattle.htl_text.specs.declared.tree.Term.{Term}
 use Rattle.htl_text.specs.declared.token.Token.TheVariants as token
 use Rattle.htl_text.specs.declared.token.Sign.TheVariants as sign
 
@@ -88,9 +86,6 @@ Adds-each_of view item xs old new so more = so more ∙ ap (λ (ts : List Token)
 pub Adds-brackets_of : {X Y : Type 0} (view : X → Y) (item : Spelling Y) (xs : List X) (old new : List ℕ) → Adds (in_brackets (λ x. item (view x)) xs) old new
     → Adds (in_brackets item (map view xs)) old new
 Adds-brackets_of view item xs old new so more = so more ∙ ap (λ (ts : List Token). old ++ printed_bytes ts) (brackets-map view item xs more)
-
-pub Adds-term : (e f : Term) (old new : List ℕ) → e ≡ f → Adds (expr_tokens (expr_of e)) old new → Adds (expr_tokens (expr_of f)) old new
-Adds-term e f old new same so = subst (λ (g : Term). Adds (expr_tokens (expr_of g)) old new) same so
 
 -- all that was written since the start
 pub Adds-whole : (tokens : List Token → List Token) (old new bytes : List ℕ) → old ≡ [] → Adds tokens old new → bytes ≡ new → bytes ≡ printed_bytes (tokens [])

@@ -6,7 +6,9 @@ pub mod Grammar
 pub mod Kinds
 pub mod Laws
 pub mod Nodes
+pub mod Parts
 pub mod Placed
+pub mod Postfix
 pub mod PrintedBytes
 pub mod PrintedTokens
 pub mod Scanning

@@ -1,7 +1,7 @@
--- The tree without the places where its expressions lie in memory. Each record has the fields of the node
--- of that name; parameters, communicators and invocations hold no expression and stand as they are.
+-- The tree as plain records. Each has the fields of the node of that name; parameters, communicators and
+-- invocations hold no expression and stand as they are.
 use Rattle.std.specs.Prelude.{ℕ, Option, List, map}
-use Rattle.htl_text.specs.Expressions.{Expr, expr_of}
+use Rattle.htl_text.specs.Expressions.{Expr}
 use Rattle.htl_text.specs.declared.tree.Id.{Id}
 use Rattle.htl_text.specs.declared.tree.Num.{Num}
 use Rattle.htl_text.specs.declared.tree.Tree.{Tree}
@@ -59,7 +59,7 @@ pub record PlainProgram : Type 0 where
   pub modules : List PlainModule
 
 abbrev pub out_of : OutNode → PlainOut
-out_of o = record { param = o.param; first = o.first; value = expr_of o.value }
+out_of o = record { param = o.param; first = o.first; value = o.value }
 
 abbrev pub outs_of : OutNodes → PlainOuts
 outs_of (outs.Concrete xs) = Concrete (map out_of xs)
@@ -69,7 +69,7 @@ abbrev pub task_of : TaskNode → PlainTask
 task_of t = record { name = t.name; inputs = t.inputs; outputs = outs_of t.outputs; worst = t.worst }
 
 abbrev pub switch_of : SwitchNode → PlainSwitch
-switch_of s = record { first = s.first; cond = expr_of s.cond; target = s.target }
+switch_of s = record { first = s.first; cond = s.cond; target = s.target }
 
 abbrev pub mode_of : ModeNode → PlainMode
 mode_of m = record {

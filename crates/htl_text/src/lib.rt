@@ -2,6 +2,7 @@
 #![tactic(auto)]
 
 mod entry;
+mod expression;
 pub mod laws;
 mod lexer;
 mod printer;
@@ -12,13 +13,14 @@ mod token;
 mod tokens;
 mod tree;
 
+pub use expression::{Expression, Node, Operand, Part};
 pub use lexer::{LexFault, lex};
 pub use printing::print;
 pub use token::{Kind, Sign, Token, Word};
 pub use tokens::Tokens;
 pub use tree::{
-    Choice, CommNode, ConstNode, EndNode, Id, InvokeNode, ModeNode, ModuleNode, Num, Operands,
-    OutNode, OutNodes, ParamNode, ProgramNode, SwitchNode, TaskNode, Term, Tree,
+    CommNode, ConstNode, EndNode, Id, InvokeNode, ModeNode, ModuleNode, Num, OutNode, OutNodes,
+    ParamNode, ProgramNode, SwitchNode, TaskNode, Tree,
 };
 
 #[cfg(test)]

@@ -1,15 +1,15 @@
 // The printed form of a tree.
 ghost use Rattle.std.specs.Prelude.{◌≡◌, OnOk, IfOk};
-ghost use Rattle.htl_text.specs.Expressions.{expr_of};
 ghost use Rattle.htl_text.specs.Nodes.{out_of, outs_of, task_of, switch_of, mode_of, module_of, program_of, tree_of};
 ghost use Rattle.htl_text.specs.PrintedBytes.{Adds, printed_bytes};
 ghost use Rattle.htl_text.specs.PrintedTokens.{abstract_tokens, clause_tokens, comm_tokens, const_tokens, end_tokens, expr_tokens, infix_sign, invoke_tokens, mode_tokens, module_tokens, out_tokens, outs_tokens, param_tokens, port_tokens, prefix_sign, program_tokens, source_tokens, switch_tokens, task_tokens, truth_tokens, type_tokens, kind_tokens, minus_tokens, number_tokens, prefix_tokens, infix_tokens, each};
 
+use crate::expression::{Operand, Part};
 use crate::printer::{Print, Printer, each, in_brackets};
 use crate::token::{Sign, Token, Word};
 use crate::tree::{
     CommNode, ConstNode, EndNode, Id, InvokeNode, ModeNode, ModuleNode, OutNode, OutNodes,
-    ParamNode, ProgramNode, SwitchNode, TaskNode, Term, Tree,
+    ParamNode, ProgramNode, SwitchNode, TaskNode, Tree,
 };
 use htl_base::{BinOp, Memory, Seq, Ty, UnOp, Value};
 use std::alloc::Global;
@@ -191,7 +191,7 @@ impl Print for OutNode {
     fn print(&self, out: &mut Printer) -> Result<(), Memory> {
         self.param.print(out)?;
         out.tokens(&[Token::Sign(Sign::Assign)])?;
-        term(&self.value, out)
+        term(&self.value.whole(), out)
     }
 }
 
@@ -276,7 +276,7 @@ impl Print for SwitchNode {
 
     fn print(&self, out: &mut Printer) -> Result<(), Memory> {
         out.tokens(&[Token::Word(Word::Switch), Token::Sign(Sign::OpenParen)])?;
-        term(&self.cond, out)?;
+        term(&self.cond.whole(), out)?;
         out.tokens(&[
             Token::Sign(Sign::Comma),
             Token::Ident(self.target.name),
@@ -287,33 +287,33 @@ impl Print for SwitchNode {
 }
 
 // An expression. It calls itself once for each level of operators.
-fn term(e: &Term, out: &mut Printer) -> Result<(), Memory>
-    ensures { OnOk result (Adds (expr_tokens (expr_of e.now)) out.old out.new) }
+fn term(e: &Operand<'_>, out: &mut Printer) -> Result<(), Memory>
+    ensures { OnOk result (Adds (expr_tokens e.now) out.old out.new) }
 {
-    match e {
-        Term::Int { x, .. } => x.print(out),
-        Term::Bool { x, .. } => truth(*x, out),
-        Term::Named { id } => out.tokens(&[Token::Ident(id.name)]),
-        Term::Unary { op, e, .. } => {
+    match e.part() {
+        Part::Int { x, .. } => x.print(out),
+        Part::Bool { x, .. } => truth(x, out),
+        Part::Named { id } => out.tokens(&[Token::Ident(id.name)]),
+        Part::Unary { op, e, .. } => {
             out.tokens(&[Token::Sign(Sign::OpenParen)])?;
             op.print(out)?;
-            term(e, out)?;
+            term(&e, out)?;
             out.tokens(&[Token::Sign(Sign::CloseParen)])
         }
-        Term::Binary { op, both, .. } => {
+        Part::Binary { op, l, r, .. } => {
             out.tokens(&[Token::Sign(Sign::OpenParen)])?;
-            term(&both.l, out)?;
+            term(&l, out)?;
             op.print(out)?;
-            term(&both.r, out)?;
+            term(&r, out)?;
             out.tokens(&[Token::Sign(Sign::CloseParen)])
         }
-        Term::Choose { choice, .. } => {
+        Part::Choose { c, a, b, .. } => {
             out.tokens(&[Token::Word(Word::If), Token::Sign(Sign::OpenParen)])?;
-            term(&choice.c, out)?;
+            term(&c, out)?;
             out.tokens(&[Token::Sign(Sign::Comma)])?;
-            term(&choice.a, out)?;
+            term(&a, out)?;
             out.tokens(&[Token::Sign(Sign::Comma)])?;
-            term(&choice.b, out)?;
+            term(&b, out)?;
             out.tokens(&[Token::Sign(Sign::CloseParen)])
         }
     }

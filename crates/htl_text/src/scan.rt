@@ -26,7 +26,7 @@ pub enum Front {
 fn is_blank(b: u8) -> bool
     ensures { result ≡ is_blank b }
 {
-    b == b' ' || b == b'\t' || b == b'\r' || b == b'\n'
+    b <= b' ' && (b == b' ' || b == b'\n' || b == b'\t' || b == b'\r')
 }
 
 // Which bytes are letters, digits or `_`.

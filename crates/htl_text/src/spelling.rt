@@ -47,6 +47,7 @@ pub fn word_of(text: &[u8]) -> Option<Word>
     ensures { result ≡ word_of text.now }
 {
     match text {
+        [_] => None,
         [b'a', ..] => word_in(&[("abstract", Word::Abstract)], text),
         [b'b', ..] => word_in(&[("bool", Word::Bool)], text),
         [b'c', ..] => word_in(&[("communicator", Word::Communicator)], text),
@@ -99,8 +100,28 @@ fn find_word(words: &[(&str, Word)], text: &[u8]) -> Option<Word>
 {
     words
         .iter()
-        .find(|entry| entry.0.as_bytes() == text)
+        .find(|entry| is_text(entry.0.as_bytes(), text))
         .map(|entry| entry.1)
+}
+
+// Whether a word has the bytes of a text. Words are short, and most texts differ from a word in the first bytes: so
+// they are compared one by one.
+fn is_text(word: &[u8], text: &[u8]) -> bool
+    ensures { result ≡ bytes_eq word.now text.now }
+{
+    let mut letters = word;
+    let mut bytes = text;
+    while let [letter, more @ ..] = letters {
+        let [b, rest @ ..] = bytes else {
+            return false;
+        };
+        if *letter != *b {
+            return false;
+        }
+        letters = more;
+        bytes = rest;
+    }
+    bytes.is_empty()
 }
 
 /// The sign that one byte spells.

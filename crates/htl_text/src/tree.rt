@@ -1,6 +1,7 @@
 // The tree of a source. Each name, literal and operator keeps the number of its token; tokens are counted
 // from 0 over the whole source.
-use htl_base::{BinOp, Name, Seq, Ty, UnOp, Value};
+use crate::expression::Expression;
+use htl_base::{Name, Seq, Ty, Value};
 
 /// A name where it stands in the source.
 #[derive(Clone, Copy)]
@@ -132,7 +133,7 @@ pub struct OutNode {
     /// The number of the expression's first token, brackets counted.
     pub first: u32,
     /// The expression, over the task's inputs.
-    pub value: Term,
+    pub value: Expression,
 }
 
 /// `mode NAME period NUMBER { PORTS INVOCATIONS SWITCHES }`, with `program NAME` before the brace where a
@@ -190,79 +191,7 @@ pub struct SwitchNode {
     /// The number of the condition's first token, brackets counted.
     pub first: u32,
     /// The condition, over communicators.
-    pub cond: Term,
+    pub cond: Expression,
     /// The mode to which the module then switches.
     pub target: Id,
-}
-
-/// An expression. Brackets leave no mark in it, and repeated operators group to the left.
-#[cycle(expression)]
-#[derive(Drop)]
-pub enum Term {
-    /// A number.
-    Int {
-        /// The number of its token.
-        token: u32,
-        /// The number, from 0 to 9,223,372,036,854,775,807.
-        x: Value,
-    },
-    /// `true` or `false`.
-    Bool {
-        /// The number of its token.
-        token: u32,
-        /// Which of the two it is.
-        x: bool,
-    },
-    /// A name: of an input in an output's expression, of a communicator in a switch.
-    Named {
-        /// The name.
-        id: Id,
-    },
-    /// An operator before its operand.
-    Unary {
-        /// The number of the operator's token.
-        token: u32,
-        /// The operator.
-        op: UnOp,
-        /// The operand.
-        e: Box<Term>,
-    },
-    /// An operator between its operands.
-    Binary {
-        /// The number of the operator's token.
-        token: u32,
-        /// The operator.
-        op: BinOp,
-        /// The operands.
-        both: Box<Operands>,
-    },
-    /// `if ( CONDITION , CHOICE , CHOICE )`
-    Choose {
-        /// The number of the token `if`.
-        token: u32,
-        /// The condition and the values.
-        choice: Box<Choice>,
-    },
-}
-
-/// What stands to the left and to the right of an operator.
-#[cycle(expression)]
-#[derive(Drop)]
-pub struct Operands {
-    /// The left operand.
-    pub l: Term,
-    /// The right operand.
-    pub r: Term,
-}
-
-/// The parts of an expression with `if`.
-#[cycle(expression)]
-#[derive(Drop)]
-pub struct Choice {
-    /// The condition.
-    pub c: Term,
-    /// The value where the condition is true.
-    pub a: Term,
-    /// The value where it is false.
-    pub b: Term,
 }

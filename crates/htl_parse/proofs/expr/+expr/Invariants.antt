@@ -1,4 +1,6 @@
-use Rattle.std.proofs.Common.{◌+◌, ◌*◌, length}
+use Rattle.std.proofs.Common.{◌≡◌, ◌+◌, ◌*◌, ◌++◌, length}
+use Rattle.htl_text.specs.Expressions.{Expr}
+use Rattle.htl_text.specs.Postfix.{nodes_of}
 use Rattle.htl_parse.proofs.Climbing.{IsClimbing}
 use Rattle.htl_parse.proofs.expr.+expr.Given as goal
 
@@ -21,7 +23,8 @@ abbrev pub decreases-whole : goal.decreases-whole
 decreases-whole l = length l.cursor.now * 16 + 4
 
 abbrev pub invariant-binary-loop-token : goal.invariant-binary-loop-token
-invariant-binary-loop-token l = IsClimbing l.fn.loosest l.fn.cursor l.cursor l.limit l.left
+invariant-binary-loop-token l =
+    (e : Expr) × IsClimbing l.fn.loosest l.fn.cursor l.cursor l.limit e × (l.nodes.items ≡ l.fn.nodes.items ++ nodes_of e)
 
 abbrev pub decreases-binary-loop-token : goal.decreases-binary-loop-token
 decreases-binary-loop-token l = length l.cursor
