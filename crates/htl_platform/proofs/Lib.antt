@@ -1,0 +1,10 @@
+pub mod Examples
+pub mod KeyLaws
+pub mod NameTexts
+pub mod SampleFits
+pub mod ShapeLaws
+pub mod SpanLaws
+pub mod TableLaws
+pub mod TextLaws
+pub mod WorstLaws
+pub mod WorstRanges

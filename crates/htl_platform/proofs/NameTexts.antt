@@ -1,0 +1,26 @@
+-- Names, and keys of names, are text.
+use Rattle.std.proofs.Common.{◌≡◌, ◌<◌, ℕ, true, ◌&&◌, not, nat_lt, length, List, ◌∷◌, ◌++◌, get_or, arith}
+use Rattle.std.specs.Prelude.{IsUtf8, slice_index}
+use Rattle.std.specs.List.{list_all}
+use Rattle.std.specs.Str.{IsAscii}
+use Rattle.std.proofs.lemmas.Bool.{and_parts}
+use Rattle.std.proofs.lemmas.Bool.Decides.{nat_tests}
+use Rattle.std.proofs.lemmas.List.Sums.{AllPass-from_list_all}
+use Rattle.std.proofs.lemmas.Str.{IsUtf8-from_ascii, IsAscii-append}
+use Rattle.std.proofs.lemmas.Str.Ascii.{IsAscii-cons, IsAscii-from_all}
+use Rattle.htl_base.specs.Names.{is_name, is_identifier, is_reserved, is_letter, is_word_byte}
+
+word_byte : (b : ℕ) → is_word_byte b ≡ true → b < 128
+word_byte b e = grind (arith, nat_tests)
+
+pub IsAscii-name : (bytes : List ℕ) → is_name bytes ≡ true → IsAscii bytes
+IsAscii-name bytes e =
+    let short = nat_lt (length bytes) 49 in
+    let plain = (and_parts (short && is_identifier bytes) (not (is_reserved bytes)) e).0 in
+    let word = (and_parts short (is_identifier bytes) plain).1 in
+    let all = (and_parts (is_letter (slice_index bytes 0)) (list_all is_word_byte bytes) word).1 in
+    IsAscii-from_all bytes (λ k d below. word_byte (get_or bytes k d) (AllPass-from_list_all is_word_byte bytes all k d below))
+
+pub IsUtf8-dotted : (front back : List ℕ) → is_name front ≡ true → is_name back ≡ true → IsUtf8 (front ++ 46 ∷ back)
+IsUtf8-dotted front back f b =
+    IsUtf8-from_ascii _ (IsAscii-append front (46 ∷ back) (IsAscii-name front f) (IsAscii-cons 46 back (omega arith) (IsAscii-name back b)))

@@ -1,0 +1,16 @@
+-- A table in memory and its entries.
+use Rattle.std.proofs.Common.{◌≡◌, ℕ, Bool, suc, List, [], ◌∷◌, length, refl, ap, ◌∙◌}
+use Rattle.toml.specs.Data.{Members}
+use Rattle.toml.specs.View.{members_view}
+use Rattle.toml.proofs.Views.{Entry as Held}
+use Rattle.htl_platform.specs.Entries.{Entry, entries_of}
+use Rattle.htl_platform.specs.Faults.{first_failing}
+
+pub length-entries : (es : List Held) → length es ≡ length (entries_of (members_view es))
+length-entries [] = refl
+length-entries (e ∷ es) = ap suc (length-entries es)
+
+-- equal tables, counted from equal numbers, have the same first entry that fails
+pub first_failing-equal : (test : Entry → Bool) {k n : ℕ} {ms rs : Members} → k ≡ n → ms ≡ rs → first_failing test k (entries_of ms) ≡ first_failing test n (entries_of rs)
+first_failing-equal test {k} {n} {ms} {rs} counted found =
+    ap (λ (m : ℕ). first_failing test m (entries_of ms)) counted ∙ ap (λ (us : Members). first_failing test n (entries_of us)) found

@@ -1,0 +1,11 @@
+use Rattle.std.proofs.Common.{◌≡◌, Some, Option, ◌∙◌, ap}
+use Rattle.std.specs.Prelude.{codes, option_and_then}
+use Rattle.toml.specs.Data.{Data, get_member, as_table}
+use Rattle.toml.specs.View.{view, table_view}
+use Rattle.htl_platform.specs.Entries.{members_or}
+use Rattle.htl_platform.proofs.table.worst_table.Goals as goal
+
+pub returns-in-Some : goal.returns-in-Some
+returns-in-Some c =
+    let found : Some (view c.in-Some.value.now) ≡ get_member (codes "worst") (table_view c.args.table.now) = rw c.in-Some.is at c.value_at.ensures in
+    ap members_or c.as_table.ensures ∙ ap (λ (o : Option Data). members_or (option_and_then as_table o)) found
