@@ -8,8 +8,6 @@ mod functions;
 pub mod laws;
 mod source;
 mod source_fault;
-#[cfg(test)]
-mod tests;
 
 pub use building::{BackFault, back};
 pub use compiling::{CompileFault, compile};

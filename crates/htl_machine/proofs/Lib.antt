@@ -63,6 +63,7 @@ pub mod Staying
 pub mod Opening
 pub mod Deciding
 pub mod Examples
+mod LineExamples
 pub mod Alone
 pub mod Composing
 pub mod Putting

@@ -20,8 +20,3 @@ mod timing;
 
 pub use machine::{Machine, Totals};
 pub use tally::Tally;
-
-#[cfg(test)]
-mod samples;
-#[cfg(test)]
-mod tests;

@@ -18,8 +18,6 @@ mod notes;
 mod object;
 mod selections;
 mod table_writer;
-#[cfg(test)]
-mod tests;
 mod writer;
 
 pub use decoding::{DecodeFault, decode};

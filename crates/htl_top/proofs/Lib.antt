@@ -14,6 +14,7 @@ mod PlanExamples
 pub mod Planning
 pub mod PlanWalk
 pub mod Playing
+pub mod PositionCounts
 pub mod Putting
 pub mod Running
 pub mod Scripts

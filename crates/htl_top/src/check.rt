@@ -4,7 +4,7 @@ ghost use Rattle.htl_edge.specs.Content.{Puts};
 ghost use Rattle.htl_model.specs.Broken.{KeepsLimits};
 ghost use Rattle.htl_model.specs.Selections.{selection_count};
 ghost use Rattle.htl_top.specs.Answers.{files, IsWritten};
-ghost use Rattle.htl_top.specs.Checked.{most_positions as most_positions_of, check_text};
+ghost use Rattle.htl_top.specs.Checked.{check_text};
 ghost use Rattle.htl_top.specs.Objects.{IsTextOnObject, IsObjectTables};
 ghost use Rattle.htl_top.specs.Telling.{SpeaksOf};
 ghost use Rattle.htl_top.specs.declared.outcome.ShelfCause.TheVariants as cause;
@@ -12,6 +12,7 @@ ghost use Rattle.htl_top.specs.declared.outcome.ShelfCause.TheVariants as cause;
 use crate::Outcome;
 use crate::answer::Answer;
 use crate::object::open;
+use crate::positions::most_positions;
 use htl_edge::{Failed, LineBuffer, Shelf, Sink, put_all};
 use htl_model::Tables;
 use std::alloc::Global;
@@ -22,18 +23,6 @@ fn selections(t: &Tables) -> u32
     ensures { result ≡ selection_count t.now }
 {
     t.selections()
-}
-
-// The greatest number of positions of a selection; 0 without one.
-fn most_positions(t: &Tables) -> usize
-    requires { KeepsLimits t.now }
-    ensures { result ≡ most_positions_of t.now (selection_count t.now) }
-{
-    let mut most = 0;
-    for selection in 0..t.selections() {
-        most = most.max(t.positions(selection));
-    }
-    most
 }
 
 // The line of an accepted object.

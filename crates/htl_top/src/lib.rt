@@ -8,6 +8,8 @@ mod check_tests;
 mod compile;
 #[cfg(test)]
 mod compile_tests;
+#[cfg(test)]
+mod compiler_tests;
 mod execute;
 mod fault_line;
 #[cfg(test)]
@@ -19,11 +21,15 @@ mod input;
 mod laws;
 mod lookups;
 #[cfg(test)]
+mod machine_tests;
+#[cfg(test)]
 mod names_tests;
 mod object;
 #[cfg(test)]
 mod object_bytes;
 mod object_line;
+#[cfg(test)]
+mod object_tests;
 mod outcome;
 mod place;
 mod plan;
@@ -31,6 +37,7 @@ mod plan;
 mod plan_tests;
 mod plan_walk;
 mod play;
+mod positions;
 mod run;
 #[cfg(test)]
 mod run_tests;

@@ -53,6 +53,21 @@ const ONE_DOUBLING_TASK: Source = Source {
     functions: 1,
 };
 
+const NO_TASK: Source = Source {
+    text: "program P {
+  communicator int u period 2 init -7;
+  module M start m { mode m period 10 { } }
+}",
+    comms: &[("u", Ty::Int, false, 2, -7)],
+    modules: &[("M", None, 0)],
+    modes: &[("m", 0, 10)],
+    ports: &[],
+    tasks: &[],
+    invs: &[],
+    switches: &[],
+    functions: 0,
+};
+
 const PREEMPTION: Source = Source {
     text: samples::TWO_JOBS,
     comms: &[
@@ -455,6 +470,11 @@ fn first_unlike(alloc: Global, want: &Source) -> Option<&'static str> {
 #[test]
 fn one_doubling_task_has_its_tables(rt: HostRuntime) {
     assert_eq!(rt; first_unlike(rt.alloc(), &ONE_DOUBLING_TASK), None);
+}
+
+#[test]
+fn no_task_has_its_tables(rt: HostRuntime) {
+    assert_eq!(rt; first_unlike(rt.alloc(), &NO_TASK), None);
 }
 
 #[test]

@@ -1,6 +1,6 @@
 use Rattle.std.proofs.Common.{◌≡◌, take}
 use Rattle.htl_machine.specs.Calls.{Follows}
-use Rattle.htl_machine.proofs.tests.play.Given as goal
+use Rattle.htl_top.proofs.machine_tests.play.Given as goal
 
 abbrev pub invariant-loop-k : goal.invariant-loop-k
 invariant-loop-k l = record {

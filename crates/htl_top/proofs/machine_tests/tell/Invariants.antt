@@ -1,4 +1,4 @@
-use Rattle.htl_machine.proofs.tests.tell.Given as goal
+use Rattle.htl_top.proofs.machine_tests.tell.Given as goal
 
 abbrev pub ghost-advance : goal.ghost-advance
 ghost-advance g a = g.es

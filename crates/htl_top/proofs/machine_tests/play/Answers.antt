@@ -1,7 +1,7 @@
 use Rattle.std.proofs.Common.{sym, subst, add-one}
 use Rattle.std.proofs.Math.Seq.{take-suc}
 use Rattle.htl_machine.specs.Calls.{Follows}
-use Rattle.htl_machine.proofs.tests.play.Goals as goal
+use Rattle.htl_top.proofs.machine_tests.play.Goals as goal
 
 pub loop-k-preserved : goal.loop-k-preserved
 loop-k-preserved c =

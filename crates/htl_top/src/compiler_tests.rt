@@ -1,6 +1,6 @@
 // Sources with their faults and with their objects.
-use crate::{BackFault, CompileFault, FrontFault, SourceFault, back, compile, front};
 use htl_base::limits::MAX_SOURCE;
+use htl_compile::{BackFault, CompileFault, FrontFault, SourceFault, back, compile, front};
 use htl_model::{FormFault, Function, Tables};
 use htl_object::Object;
 use std::alloc::{AllocError, Global};

@@ -1,16 +1,18 @@
-// Runs of accepted objects, with all their lines.
+// Runs of accepted objects by the calls of a machine, with all their lines.
 ghost use Rattle.std.specs.Prelude.{◌≡◌, ◌≤◌, ◌++◌, ◌∷◌, [], List, length, true};
 ghost use Rattle.htl_base.specs.declared.limits.TheConstants as limit;
 ghost use Rattle.htl_model.specs.declared.event.Event.{Event as Told};
 ghost use Rattle.htl_machine.specs.Calls.{Follows, IsSensorValue, IsLength};
 
-use crate::Machine;
-use crate::samples::{DOUBLING, PORT, REFINED, RESTARTED, SOMETIMES, TANKS, TWO_JOBS, TWO_MODES};
+use crate::object_bytes::{
+    DOUBLING, PORT, REFINED, RESTARTED, SOMETIMES, TANKS, TWO_JOBS, TWO_MODES,
+};
 use htl_base::limits::MAX_INSTANT;
 use htl_base::{Time, Ty, Value};
 use htl_console::{Shown, line_end};
 use htl_edge::Page;
 use htl_load::{Loaded, load};
+use htl_machine::Machine;
 use htl_model::lookup::{is_concrete, task_worst};
 use htl_model::{Event, Tables};
 use std::alloc::Global;

@@ -1,7 +1,7 @@
 // A worked object with each kind of item, its bad fields, and objects with many selections.
 ghost use Rattle.std.specs.Prelude.{◌≤◌};
 
-use crate::{DecodeFault, MalKind, Malformed, decode, encode};
+use htl_object::{DecodeFault, MalKind, Malformed, decode, encode};
 use std::alloc::{AllocError, Global};
 use std::test::Fail;
 
