@@ -104,9 +104,18 @@ fn find_word(words: &[(&str, Word)], text: &[u8]) -> Option<Word>
         .map(|entry| entry.1)
 }
 
-// Whether a word has the bytes of a text. Words are short, and most texts differ from a word in the first bytes: so
-// they are compared one by one.
+// Whether a word has the bytes of a text. Most texts that a word is compared with have another length.
 fn is_text(word: &[u8], text: &[u8]) -> bool
+    ensures { result ≡ bytes_eq word.now text.now }
+{
+    if word.len() != text.len() {
+        return false;
+    }
+    are_same(word, text)
+}
+
+// Whether two texts have the same bytes. Words are short, so they are compared one by one.
+fn are_same(word: &[u8], text: &[u8]) -> bool
     ensures { result ≡ bytes_eq word.now text.now }
 {
     let mut letters = word;

@@ -1,6 +1,6 @@
 use Rattle.std.proofs.Common.{◌≡◌, length}
 use Rattle.std.specs.Str.{bytes_eq}
-use Rattle.htl_text.proofs.spelling.is_text.Given as goal
+use Rattle.htl_text.proofs.spelling.are_same.Given as goal
 
 abbrev pub invariant-loop-letters : goal.invariant-loop-letters
 invariant-loop-letters l = bytes_eq l.letters l.bytes ≡ bytes_eq l.word l.text
