@@ -7,12 +7,13 @@ ghost use Rattle.htl_script.specs.Judging.{past_after, at_first, judged_text, ju
 ghost use Rattle.htl_script.specs.Numbers.{number_of, signed_of};
 ghost use Rattle.htl_script.specs.Statements.{statement_of, instant_statement, named_statement, At, End, Sense, Took};
 
+use crate::ScriptKind;
 use crate::field::cut;
+use crate::lookup::Names;
 use crate::number::{number, signed};
-use crate::{ScriptKind, lookup};
 use htl_base::limits::MAX_INSTANT;
 use htl_base::{Time, Ty, Value};
-use htl_model::{Event, Tables};
+use htl_model::Event;
 
 /// What the events before a line leave.
 #[derive(Clone, Copy)]
@@ -53,8 +54,8 @@ impl Past {
 }
 
 // The event of a line of at most 255 bytes; None where it is passed over.
-pub fn judge(past: Past, t: &Tables, text: &[u8]) -> Result<Option<Event>, ScriptKind>
-    ensures { result ≡ judged_text t.now past text.now }
+pub fn judge(past: Past, names: &Names<'_>, text: &[u8]) -> Result<Option<Event>, ScriptKind>
+    ensures { result ≡ judged_text names.now past text.now }
 {
     if text.is_empty() || text[0] == b'#' {
         return Ok(None);
@@ -62,42 +63,42 @@ pub fn judge(past: Past, t: &Tables, text: &[u8]) -> Result<Option<Event>, Scrip
     if past.end.is_some() {
         return Err(ScriptKind::After);
     }
-    match statement(past, t, text) {
+    match statement(past, names, text) {
         Ok(event) => Ok(Some(event)),
         Err(kind) => Err(kind),
     }
 }
 
-fn statement(past: Past, t: &Tables, text: &[u8]) -> Result<Event, ScriptKind>
-    ensures { result ≡ judged_statement t.now past (statement_of text.now) }
+fn statement(past: Past, names: &Names<'_>, text: &[u8]) -> Result<Event, ScriptKind>
+    ensures { result ≡ judged_statement names.now past (statement_of text.now) }
 {
     let Some((word, rest)) = cut(text) else {
         return Err(ScriptKind::Form);
     };
     let Some((name, digits)) = cut(rest) else {
-        return instant(past, t, word, rest);
+        return instant(past, names, word, rest);
     };
     match cut(digits) {
         Some(_) => Err(ScriptKind::Form),
-        None => named(past, t, word, name, digits),
+        None => named(past, names, word, name, digits),
     }
 }
 
 // `at T` or `end T`.
-fn instant(past: Past, t: &Tables, word: &[u8], digits: &[u8]) -> Result<Event, ScriptKind>
-    ensures { result ≡ judged_statement t.now past (instant_statement word.now digits.now) }
+fn instant(past: Past, names: &Names<'_>, word: &[u8], digits: &[u8]) -> Result<Event, ScriptKind>
+    ensures { result ≡ judged_statement names.now past (instant_statement word.now digits.now) }
 {
     if word == "at".as_bytes() {
-        at(past, t, digits)
+        at(past, names, digits)
     } else if word == "end".as_bytes() {
-        end(past, t, digits)
+        end(past, names, digits)
     } else {
         Err(ScriptKind::Form)
     }
 }
 
-fn at(past: Past, t: &Tables, digits: &[u8]) -> Result<Event, ScriptKind>
-    ensures { result ≡ judged_statement t.now past (option_map At (number_of digits.now)) }
+fn at(past: Past, names: &Names<'_>, digits: &[u8]) -> Result<Event, ScriptKind>
+    ensures { result ≡ judged_statement names.now past (option_map At (number_of digits.now)) }
 {
     let Some(instant) = number(digits) else {
         return Err(ScriptKind::Form);
@@ -111,8 +112,8 @@ fn at(past: Past, t: &Tables, digits: &[u8]) -> Result<Event, ScriptKind>
     Ok(Event::At(instant))
 }
 
-fn end(past: Past, t: &Tables, digits: &[u8]) -> Result<Event, ScriptKind>
-    ensures { result ≡ judged_statement t.now past (option_map End (number_of digits.now)) }
+fn end(past: Past, names: &Names<'_>, digits: &[u8]) -> Result<Event, ScriptKind>
+    ensures { result ≡ judged_statement names.now past (option_map End (number_of digits.now)) }
 {
     let Some(instant) = number(digits) else {
         return Err(ScriptKind::Form);
@@ -149,35 +150,35 @@ fn is_below(instant: Time, reading: Option<Time>) -> bool
 // `sense NAME X` or `took NAME N`.
 fn named(
     past: Past,
-    t: &Tables,
+    names: &Names<'_>,
     word: &[u8],
     name: &[u8],
     digits: &[u8],
 ) -> Result<Event, ScriptKind>
-    ensures { result ≡ judged_statement t.now past (named_statement word.now name.now digits.now) }
+    ensures { result ≡ judged_statement names.now past (named_statement word.now name.now digits.now) }
 {
     if name.is_empty() {
         return Err(ScriptKind::Form);
     }
     if word == "sense".as_bytes() {
-        sense(past, t, name, digits)
+        sense(past, names, name, digits)
     } else if word == "took".as_bytes() {
-        took(past, t, name, digits)
+        took(past, names, name, digits)
     } else {
         Err(ScriptKind::Form)
     }
 }
 
-fn sense(past: Past, t: &Tables, name: &[u8], digits: &[u8]) -> Result<Event, ScriptKind>
-    ensures { result ≡ judged_statement t.now past (option_map (Sense name.now) (signed_of digits.now)) }
+fn sense(past: Past, names: &Names<'_>, name: &[u8], digits: &[u8]) -> Result<Event, ScriptKind>
+    ensures { result ≡ judged_statement names.now past (option_map (Sense name.now) (signed_of digits.now)) }
 {
     let Some((minus, size)) = signed(digits) else {
         return Err(ScriptKind::Form);
     };
-    let Some(comm) = lookup::sensor(t, name) else {
+    let Some(comm) = names.sensor(name) else {
         return Err(ScriptKind::Unknown);
     };
-    let Some(x) = value_of(lookup::type_of(t, comm), minus, size) else {
+    let Some(x) = value_of(names.type_of(comm), minus, size) else {
         return Err(ScriptKind::Range);
     };
     if past.reading.is_none() {
@@ -192,13 +193,13 @@ fn sensed(comm: u16, x: Value) -> Event
     Event::Sense { comm, x }
 }
 
-fn took(past: Past, t: &Tables, name: &[u8], digits: &[u8]) -> Result<Event, ScriptKind>
-    ensures { result ≡ judged_statement t.now past (option_map (Took name.now) (number_of digits.now)) }
+fn took(past: Past, names: &Names<'_>, name: &[u8], digits: &[u8]) -> Result<Event, ScriptKind>
+    ensures { result ≡ judged_statement names.now past (option_map (Took name.now) (number_of digits.now)) }
 {
     let Some(length) = number(digits) else {
         return Err(ScriptKind::Form);
     };
-    let Some(inv) = lookup::invocation(t, name) else {
+    let Some(inv) = names.invocation(name) else {
         return Err(ScriptKind::Unknown);
     };
     if length == 0 || length > MAX_LENGTH {
@@ -207,7 +208,7 @@ fn took(past: Past, t: &Tables, name: &[u8], digits: &[u8]) -> Result<Event, Scr
     if past.reading.is_none() {
         return Err(ScriptKind::Order);
     }
-    let worst = lookup::worst(t, inv);
+    let worst = names.worst(inv);
     if length > worst {
         return Err(ScriptKind::Overrun {
             took: length,

@@ -1,98 +1,72 @@
-// The reader of a script, event by event.
-ghost use Rattle.std.specs.Prelude.{◌≡◌, ◌≤◌, ◌<◌, ◌+◌, [], length, IfOk, IfSome, OnOk, None, Some, Ok, Err};
+// A script, event by event.
+ghost use Rattle.std.specs.Prelude.{◌≡◌, ◌≤◌, ◌<◌, ◌+◌, IfOk, IfSome, true, false, Err};
 ghost use Rattle.htl_base.specs.declared.limits.TheConstants as limit;
 ghost use Rattle.htl_edge.specs.Causes.{Rose};
 ghost use Rattle.htl_script.specs.declared.fault.ScriptStop.TheVariants as stop;
-ghost use Rattle.htl_script.specs.Streaming.{Told, IsAnswer, IsEnd, Goes, at_start};
+ghost use Rattle.htl_script.specs.Orders.{IsIndex};
+ghost use Rattle.htl_script.specs.Streaming.{Told, IsAnswer, Goes, at_start};
 
-use crate::chunk::Chunk;
-use crate::reader::Reader;
-use crate::{ScriptFault, ScriptKind, ScriptStop};
+use crate::ScriptStop;
+use crate::index::Index;
+use crate::lookup::Names;
+use crate::stream::Stream;
 use htl_edge::Source;
 use htl_model::{Event, Tables};
-use std::marker::Model;
 
-/// Reads a script event by event, over a buffer of 256 bytes. It takes no memory. Contracts see where it is and what it has read
-/// ahead.
+/// Reads a script event by event, over a buffer of 256 bytes, and finds names by halves in an index of its own. It takes no
+/// memory.
 #[derive(Drop)]
 pub struct Script {
-    reader: Reader,
-    chunk: Chunk,
-}
-
-impl Model for Script {
-    ghost use Rattle.htl_script.specs.Streaming.{Ahead};
-
-    ghost Value = { Ahead };
-
-    ghost view = { λ s. record { here = s.reader; bytes = s.chunk } };
+    stream: Stream,
+    // that of the tables, once it is ready
+    index: Index,
+    ready: bool,
 }
 
 impl Script {
     /// A reader at the beginning of a script.
     pub fn new() -> Script
-        ensures { result ≡ at_start }
+        ensures stream { result.stream ≡ at_start }
+        ensures ready { result.ready ≡ false }
     {
         Script {
-            reader: Reader::new(),
-            chunk: Chunk::new(),
+            stream: Stream::new(),
+            index: Index::empty(),
+            ready: false,
         }
     }
 
     /// The next event; None exactly where the input has ended after an `end` line. `Script` comes exactly at the script's first
     /// fault, `Read` only where the source counted a fault. Each call is handed the tables of the first, and its source with what
     /// the call before left. After a stop or None it isn't used again. At most 1,073,741,825 events are given.
+    ///
+    /// The first call puts the names of the tables in order; then a line costs its own bytes.
     pub fn next<R: Source>(&mut self, src: &mut R, t: &Tables) -> Result<Option<Event>, ScriptStop>
-        ensures answer { Told (R.rest src.old) (R.rest src.new) (IsAnswer t.now self.old self.new result) }
-        ensures event { Goes t.now self.old.here.past self.new.here.past result }
-        ensures lines { IfOk result (λ o. IfSome o (λ e. self.old.here.number < self.new.here.number)) }
-        ensures few { IfOk result (λ o. self.new.here.number ≤ limit.MAX_SCRIPT + 1) }
+        requires same { self.old.ready ≡ true → IsIndex t.now self.old.index }
+        ensures ready { self.new.ready ≡ true }
+        ensures index { IsIndex t.now self.new.index }
+        ensures answer { Told (R.rest src.old) (R.rest src.new) (IsAnswer t.now self.old.stream self.new.stream result) }
+        ensures event { Goes t.now self.old.stream.here.past self.new.stream.here.past result }
+        ensures lines { IfOk result (λ o. IfSome o (λ e. self.old.stream.here.number < self.new.stream.here.number)) }
+        ensures few { IfOk result (λ o. self.new.stream.here.number ≤ limit.MAX_SCRIPT + 1) }
         ensures later { R.faults src.old ≤ R.faults src.new }
         ensures kept { (result ≡ Err stop.Read → ⊥) → R.faults src.new ≡ R.faults src.old }
         ensures read { result ≡ Err stop.Read → Rose (R.faults src.old) (R.faults src.new) }
     {
-        'bytes: loop {
-            let b = match self.chunk.byte(src) {
-                Ok(Some(b)) => b,
-                Ok(None) => return self.end(t),
-                Err(_) => return Err(ScriptStop::Read),
-            };
-            match self.reader.take(t, b) {
-                Ok(Some(event)) => return Ok(Some(event)),
-                Ok(None) => {}
-                Err(kind) => return Err(self.fault(kind)),
-            }
-        }
+        self.prepare(t);
+        self.stream.next(src, &Names::new(t, &self.index))
     }
 
-    // The event of a last line without a line feed; None behind it, where an `end` line was read.
-    fn end(&mut self, t: &Tables) -> Result<Option<Event>, ScriptStop>
-        requires { self.old.bytes ≡ [] }
-        ensures answer { IsEnd t.now self.old self.new result }
-        ensures event { Goes t.now self.old.here.past self.new.here.past result }
-        ensures lines { IfOk result (λ o. IfSome o (λ e. self.old.here.number < self.new.here.number)) }
-        ensures few { IfOk result (λ o. self.new.here.number ≤ limit.MAX_SCRIPT + 1) }
-        ensures bytes { self.new.bytes ≡ [] }
-        ensures read { result ≡ Err stop.Read → ⊥ }
+    // Puts the names in order, if that isn't done.
+    fn prepare(&mut self, t: &Tables)
+        requires { self.old.ready ≡ true → IsIndex t.now self.old.index }
+        ensures ready { self.new.ready ≡ true }
+        ensures index { IsIndex t.now self.new.index }
+        ensures stream { self.new.stream ≡ self.old.stream }
     {
-        match self.reader.take_end(t) {
-            Ok(Some(event)) => Ok(Some(event)),
-            Ok(None) => if self.reader.is_ended() {
-                Ok(None)
-            } else {
-                Err(self.fault(ScriptKind::NoEnd))
-            },
-            Err(kind) => Err(self.fault(kind)),
+        if !self.ready {
+            self.index = Index::new(t);
+            self.ready = true;
         }
-    }
-
-    // A fault of the line that is being read.
-    fn fault(&self, kind: ScriptKind) -> ScriptStop
-        ensures { result ≡ stop.Script (record { line = self.now.here.number; kind = kind }) }
-    {
-        ScriptStop::Script(ScriptFault {
-            line: self.reader.number(),
-            kind,
-        })
     }
 }

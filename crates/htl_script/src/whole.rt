@@ -8,6 +8,8 @@ ghost use Rattle.htl_script.specs.Reading.{Grows, IsScriptAnswer, OfScript, Lose
 ghost use Rattle.htl_script.specs.Readers.{Takes, Finishes};
 ghost use Rattle.htl_script.specs.Script.{script_of, listed};
 
+use crate::index::Index;
+use crate::lookup::Names;
 use crate::reader::Reader;
 use crate::{ScriptFault, ScriptKind, WholeStop};
 use htl_base::Memory;
@@ -31,6 +33,8 @@ pub fn read_script<R: Source>(
     ensures left { LosesFront (limit.MAX_SCRIPT + 4096) (R.rest src.old) (R.rest src.new) }
     ensures cause { HasReadCause (R.faults src.old) (R.faults src.new) result }
 {
+    let index = Index::new(t);
+    let names = Names::new(t, &index);
     let mut reader = Reader::new();
     let mut buf = [0u8; 4096];
     'chunks: loop {
@@ -38,9 +42,9 @@ pub fn read_script<R: Source>(
             return Err(WholeStop::Read);
         };
         if count == 0 {
-            return finish(&mut reader, t, into);
+            return finish(&mut reader, &names, into);
         }
-        if let Err(stop) = take_all(&mut reader, t, &buf[..count], into) {
+        if let Err(stop) = take_all(&mut reader, &names, &buf[..count], into) {
             return Err(stop);
         }
     }
@@ -49,16 +53,16 @@ pub fn read_script<R: Source>(
 // Takes each of the bytes, and appends the events of the lines that they end.
 fn take_all(
     reader: &mut Reader,
-    t: &Tables,
+    names: &Names<'_>,
     bytes: &[u8],
     into: &mut Vec<Event>,
 ) -> Result<(), WholeStop>
-    ensures events { Grows into.old.items into.new.items (λ gained. Takes t.now reader.old reader.new bytes.now result gained) }
+    ensures events { Grows into.old.items into.new.items (λ gained. Takes names.now reader.old reader.new bytes.now result gained) }
     ensures count { OnOk result (reader.new.start + length reader.new.line ≡ reader.old.start + length reader.old.line + length bytes.now) }
     ensures bound { reader.old.start + length reader.old.line ≤ limit.MAX_SCRIPT → OnOk result (reader.new.start + length reader.new.line ≤ limit.MAX_SCRIPT) }
 {
     for b in bytes {
-        match reader.take(t, *b) {
+        match reader.take(names, *b) {
             Ok(event) => {
                 if let Err(Memory) = put(into, event) {
                     return Err(WholeStop::Memory);
@@ -71,10 +75,10 @@ fn take_all(
 }
 
 // Takes the end of the script, and appends the event of a last line without a line feed.
-fn finish(reader: &mut Reader, t: &Tables, into: &mut Vec<Event>) -> Result<(), WholeStop>
-    ensures { Grows into.old.items into.new.items (λ gained. Finishes t.now reader.old result gained) }
+fn finish(reader: &mut Reader, names: &Names<'_>, into: &mut Vec<Event>) -> Result<(), WholeStop>
+    ensures { Grows into.old.items into.new.items (λ gained. Finishes names.now reader.old result gained) }
 {
-    match reader.take_end(t) {
+    match reader.take_end(names) {
         Ok(event) => {
             if let Err(Memory) = put(into, event) {
                 return Err(WholeStop::Memory);

@@ -9,4 +9,4 @@ returns-in-Some-cut-2 c =
     let field = c.in-Some-cut-2.field-0 in
     let many = statement_of-many c.args.text.now c.in-Some.rest.now c.in-Some-cut.digits.now c.in-Some.word.now c.in-Some-cut.name.now
     field.0.now field.1.now c.in-Some.ensures c.in-Some-cut.ensures c.in-Some-cut-2.ensures in
-    ap (λ (s : Option Statement). judged_statement c.args.t.now c.args.past s) (sym many)
+    ap (λ (s : Option Statement). judged_statement c.args.names.now c.args.past s) (sym many)

@@ -1,6 +1,8 @@
-use Rattle.std.proofs.Common.{◌∙◌, ◌+◌, ◌<◌, length, take, ap, arith, refl, length-take-le, Err}
+use Rattle.std.proofs.Common.{subst, ◌∙◌, ◌+◌, ◌<◌, length, take, ap, arith, refl, length-take-le, Err}
 use Rattle.htl_script.specs.declared.fault.WholeStop.TheVariants as stop
-use Rattle.htl_script.specs.Readers.{Here}
+use Rattle.htl_model.specs.Tables.{Tables}
+use Rattle.htl_script.specs.Reading.{Grows}
+use Rattle.htl_script.specs.Readers.{Here, Takes}
 use Rattle.htl_script.proofs.Answering.{IsReading-start, IsReading-step, answer_read, answer_stop, answer_end, LosesFront-piece, LosesFront-same}
 use Rattle.htl_script.proofs.Fitting.{grown-events}
 use Rattle.htl_script.proofs.whole.read_script.Goals as goal
@@ -29,7 +31,7 @@ returns-then-count-eq0-clause-script g c =
     let room : 0 < length c.read.new.buf = omega (arith, c.read.auto.buf, c.chunks.invariant.2) in
     answer_end (Unit {0}) c.args.t.now c.chunks.reader (g.R.Source.rest c.args.src.now) (g.R.Source.rest c.chunks.src)
     c.args.into.now.items c.chunks.into.items c.finish.new.into.items c.finish.result c.chunks.invariant.0
-    (c.in-Ok.ensures.bytes.1 c.if-count-eq0.true room) c.finish.ensures
+    (c.in-Ok.ensures.bytes.1 c.if-count-eq0.true room) (rw c.new-names.ensures at c.finish.ensures)
 
 pub returns-then-count-eq0-clause-events : goal.returns-then-count-eq0-clause-events
 returns-then-count-eq0-clause-events g c =
@@ -37,20 +39,26 @@ returns-then-count-eq0-clause-events g c =
     grown-events (Unit {0}) c.args.t.now (g.R.Source.rest c.args.src.now) c.args.into.now.items c.finish.new.into.items c.finish.result
     (answer_end (Unit {0}) c.args.t.now c.chunks.reader (g.R.Source.rest c.args.src.now) (g.R.Source.rest c.chunks.src)
     c.args.into.now.items c.chunks.into.items c.finish.new.into.items c.finish.result c.chunks.invariant.0
-    (c.in-Ok.ensures.bytes.1 c.if-count-eq0.true room) c.finish.ensures)
+    (c.in-Ok.ensures.bytes.1 c.if-count-eq0.true room) (rw c.new-names.ensures at c.finish.ensures))
 
 pub returns-in-Err-clause-script : goal.returns-in-Err-clause-script
 returns-in-Err-clause-script g c =
     answer_stop (Unit {0}) c.args.t.now c.chunks.reader c.take_all.new.reader (g.R.Source.rest c.args.src.now) (g.R.Source.rest c.chunks.src) (g.R.Source.rest c.read.new.self)
     c.args.into.now.items c.chunks.into.items c.take_all.new.into.items (take c.in-Ok.count c.read.new.buf) c.in-Err.stop
-    c.chunks.invariant.0 c.in-Ok.ensures.bytes.0 c.in-Err.ensures.events
+    c.chunks.invariant.0 c.in-Ok.ensures.bytes.0 (
+    subst (λ (z : Tables). Grows c.chunks.into.items c.take_all.new.into.items (λ gained. Takes {T = Unit {0}} z c.chunks.reader c.take_all.new.reader (take c.in-Ok.count c.read.new.buf) (Err c.in-Err.stop) gained))
+    c.new-names.ensures c.in-Err.ensures.events
+    )
 
 pub returns-in-Err-clause-events : goal.returns-in-Err-clause-events
 returns-in-Err-clause-events g c =
     grown-events (Unit {0}) c.args.t.now (g.R.Source.rest c.args.src.now) c.args.into.now.items c.take_all.new.into.items (Err c.in-Err.stop)
     (answer_stop (Unit {0}) c.args.t.now c.chunks.reader c.take_all.new.reader (g.R.Source.rest c.args.src.now) (g.R.Source.rest c.chunks.src) (g.R.Source.rest c.read.new.self)
     c.args.into.now.items c.chunks.into.items c.take_all.new.into.items (take c.in-Ok.count c.read.new.buf) c.in-Err.stop
-    c.chunks.invariant.0 c.in-Ok.ensures.bytes.0 c.in-Err.ensures.events)
+    c.chunks.invariant.0 c.in-Ok.ensures.bytes.0 (
+    subst (λ (z : Tables). Grows c.chunks.into.items c.take_all.new.into.items (λ gained. Takes {T = Unit {0}} z c.chunks.reader c.take_all.new.reader (take c.in-Ok.count c.read.new.buf) (Err c.in-Err.stop) gained))
+    c.new-names.ensures c.in-Err.ensures.events
+    ))
 
 pub returns-in-Err-clause-left : goal.returns-in-Err-clause-left
 returns-in-Err-clause-left g c =
@@ -85,7 +93,7 @@ chunks-preserved g c = (
   IsReading-step (Unit {0}) c.args.t.now c.chunks.reader c.take_all.new.reader (g.R.Source.rest c.args.src.now) (g.R.Source.rest c.chunks.src) (g.R.Source.rest c.read.new.self)
       c.args.into.now.items c.chunks.into.items c.take_all.new.into.items (take c.in-Ok.count c.read.new.buf) tt
       c.chunks.invariant.0 c.in-Ok.ensures.bytes.0
-      (omega (arith, c.in_default-take_all.ensures.count, length-take-le c.in-Ok.count c.read.new.buf c.in-Ok.ensures.bound)) c.in_default-take_all.ensures.events,
+      (omega (arith, c.in_default-take_all.ensures.count, length-take-le c.in-Ok.count c.read.new.buf c.in-Ok.ensures.bound)) (rw c.new-names.ensures at c.in_default-take_all.ensures.events),
   c.in-Ok.ensures.cause.kept ∙ c.chunks.invariant.1,
   omega (arith, c.read.auto.buf, c.chunks.invariant.2),
   c.in_default-take_all.ensures.bound c.chunks.invariant.3,

@@ -1,0 +1,136 @@
+-- The first item with a name, found among names in order.
+use Rattle.std.proofs.Common.{inl, inr, ◌≡◌, ◌≢◌, ◌+◌, ◌<◌, ◌≤◌, ℕ, zero, suc, Bool, true, false, ◌&&◌, not, cond, List, [], ◌∷◌, ◌++◌, length, get_or, Option, Some, None, Ok, Err, refl, sym, ap, ◌∙◌, subst, arith}
+use Rattle.std.specs.Prelude.{slice_get}
+use Rattle.std.specs.List.{position_from}
+use Rattle.std.specs.Str.{bytes_eq}
+use Rattle.std.proofs.lemmas.Bool.{cases_Bool}
+use Rattle.std.proofs.lemmas.Option.{none-some, same_Some, slice_get_within}
+use Rattle.std.proofs.lemmas.Slice.Eq.{bytes_eq-Decides}
+use Rattle.htl_model.specs.declared.parts.Comm.{Comm}
+use Rattle.htl_model.specs.declared.parts.Inv.{Inv}
+use Rattle.htl_model.specs.declared.parts.Mode.{Mode}
+use Rattle.htl_model.specs.declared.parts.Module.{Module}
+use Rattle.htl_model.specs.declared.parts.Task.{Task}
+use Rattle.htl_model.specs.Tables.{Tables}
+use Rattle.htl_script.specs.Judging.{is_sensor, is_invocation, sensor_of, invocation_of}
+use Rattle.htl_script.specs.Naming.{dotted, sensor_name, through, name_of, count_of, number_named}
+use Rattle.htl_script.specs.Orders.{AreOrdered, IsPlace}
+use Rattle.htl_script.specs.declared.naming.Named.{Named}
+use Rattle.htl_script.specs.declared.naming.Named.TheVariants.{Sensor, Invocation}
+use Rattle.htl_script.proofs.Orders.{no_earlier, none_named}
+
+-- ---- the first item that passes a test
+
+first_is : {A : Type 0} (test : A → Bool) (items : List A) (k i : ℕ) (x : A) → slice_get items i ≡ Some x → test x ≡ true
+    → ((q : ℕ) (y : A) → q < i → slice_get items q ≡ Some y → test y ≡ false) → position_from test k items ≡ Some (k + i)
+first_is test [] k i x at hit missed = absurd (none-some x at)
+first_is test (y ∷ ys) k zero x at hit missed =
+    ap (λ b. cond b (Some k) (position_from test (k + 1) ys)) (ap test (same_Some y x at) ∙ hit) ∙ ap (λ n. Some n) (let e : k ≡ k + 0 = omega arith in e)
+first_is test (y ∷ ys) k (suc i) x at hit missed =
+    ap (λ b. cond b (Some k) (position_from test (k + 1) ys)) (missed 0 y (omega arith) refl)
+    ∙ first_is test ys (k + 1) i x at hit (λ q z less e. missed (suc q) z (omega arith) e) ∙ ap (λ n. Some n) (let e : k + 1 + i ≡ k + suc i = omega arith in e)
+
+none_is : {A : Type 0} (test : A → Bool) (items : List A) (k : ℕ) → ((q : ℕ) (y : A) → slice_get items q ≡ Some y → test y ≡ false) → position_from test k items ≡ None
+none_is test [] k missed = refl
+none_is test (y ∷ ys) k missed =
+    ap (λ b. cond b (Some k) (position_from test (k + 1) ys)) (missed 0 y refl) ∙ none_is test ys (k + 1) (λ q z e. missed (suc q) z e)
+
+-- ---- a name that is asked for
+
+abbrev tested : Option (List ℕ) → List ℕ → Bool
+tested (Some own) text = bytes_eq own text
+tested None text = false
+
+hit_is : (o : Option (List ℕ)) (text : List ℕ) → o ≡ Some text → tested o text ≡ true
+hit_is None text e = absurd (none-some text e)
+hit_is (Some own) text e = (bytes_eq-Decides own text).1 (same_Some own text e)
+
+missed_is : (o : Option (List ℕ)) (text : List ℕ) → o ≢ Some text → tested o text ≡ false
+missed_is None text n = refl
+missed_is (Some own) text n = elim (cases_Bool (bytes_eq own text)) [
+  | inl same ↦ absurd (n (ap (λ z. Some z) ((bytes_eq-Decides own text).0 same)))
+  | inr other ↦ other
+]
+
+-- ---- items with names
+
+module _ {A : Type 0} (own : A → Option (List ℕ)) (test : A → Bool) (items : List A) (xs text : List ℕ) (each : (x : A) → test x ≡ tested (own x) text) (o : AreOrdered (λ n. through own (slice_get items n)) (length items) xs) where
+  item : (q : ℕ) (r : Option A) → slice_get items q ≡ r → through own r ≡ Some text → (x : A) × (slice_get items q ≡ Some x) × (own x ≡ Some text)
+  item q (Some x) e f = (x, e, f)
+  item q None e f = absurd (none-some text f)
+
+  miss : (q : ℕ) (y : A) → through own (slice_get items q) ≢ Some text → slice_get items q ≡ Some y → test y ≡ false
+  miss q y n at = each y ∙ missed_is (own y) text (λ e. n (ap (through own) at ∙ e))
+
+  found : (i : ℕ) → IsPlace (λ n. through own (slice_get items n)) xs text (Ok i) → position_from test 0 items ≡ Some (get_or xs i 0)
+  found i at =
+      let x = item (get_or xs i 0) (slice_get items (get_or xs i 0)) refl at.1 in
+      first_is test items 0 (get_or xs i 0) x.0 x.1 (each x.0 ∙ hit_is (own x.0) text x.2)
+      (λ q y less e. miss q y (no_earlier (λ n. through own (slice_get items n)) (length items) xs text o i at q less) e)
+      ∙ ap (λ n. Some n) (let e : 0 + get_or xs i 0 ≡ get_or xs i 0 = omega arith in e)
+
+  missing : (p : ℕ) → IsPlace (λ n. through own (slice_get items n)) xs text (Err p) → position_from test 0 items ≡ None
+  missing p at =
+      none_is test items 0 (λ q y e. miss q y (none_named (λ n. through own (slice_get items n)) (length items) xs text o p at q (slice_get_within items q y e)) e)
+
+-- ---- sensors and invocations
+
+sensor_test : (text : List ℕ) (c : Comm) → is_sensor text c ≡ tested (sensor_name c) text
+sensor_test text c = by c.sensor
+  where
+    by : (b : Bool) → (b && bytes_eq c.name text) ≡ tested (cond b (Some c.name) None) text
+    by true = refl
+    by false = refl
+
+invocation_test : (t : Tables) (text : List ℕ) (i : Inv) → is_invocation t text i ≡ tested (dotted t i) text
+invocation_test t text i = by_task (slice_get t.tasks i.task)
+  where
+    by_abstract : (b : Bool) (a : List ℕ) → (not b && bytes_eq a text) ≡ tested (cond b None (Some a)) text
+    by_abstract true a = refl
+    by_abstract false a = refl
+
+    by_module : (k : Task) (m : Mode) (o : Option Module)
+        → elim o [ Some u ↦ not k.is_abstract && bytes_eq (u.name ++ 46 ∷ (m.name ++ 46 ∷ k.name)) text | None ↦ false ]
+        ≡ tested (elim o [ Some u ↦ cond k.is_abstract None (Some (u.name ++ 46 ∷ (m.name ++ 46 ∷ k.name))) | None ↦ None ]) text
+    by_module k m (Some u) = by_abstract k.is_abstract (u.name ++ 46 ∷ (m.name ++ 46 ∷ k.name))
+    by_module k m None = refl
+
+    by_mode : (k : Task) (o : Option Mode)
+        → elim o [
+          | Some m ↦ elim (slice_get t.modules m.«module») [ Some u ↦ not k.is_abstract && bytes_eq (u.name ++ 46 ∷ (m.name ++ 46 ∷ k.name)) text | None ↦ false ]
+          | None ↦ false
+        ]
+        ≡ tested (elim o [
+          | Some m ↦ elim (slice_get t.modules m.«module») [ Some u ↦ cond k.is_abstract None (Some (u.name ++ 46 ∷ (m.name ++ 46 ∷ k.name))) | None ↦ None ]
+          | None ↦ None
+        ]) text
+    by_mode k (Some m) = by_module k m (slice_get t.modules m.«module»)
+    by_mode k None = refl
+
+    by_task : (o : Option Task)
+        → elim o [
+          | Some k ↦ elim (slice_get t.modes i.mode) [
+            | Some m ↦ elim (slice_get t.modules m.«module») [ Some u ↦ not k.is_abstract && bytes_eq (u.name ++ 46 ∷ (m.name ++ 46 ∷ k.name)) text | None ↦ false ]
+            | None ↦ false
+          ]
+          | None ↦ false
+        ]
+        ≡ tested (elim o [
+          | Some k ↦ elim (slice_get t.modes i.mode) [
+            | Some m ↦ elim (slice_get t.modules m.«module») [ Some u ↦ cond k.is_abstract None (Some (u.name ++ 46 ∷ (m.name ++ 46 ∷ k.name))) | None ↦ None ]
+            | None ↦ None
+          ]
+          | None ↦ None
+        ]) text
+    by_task (Some k) = by_mode k (slice_get t.modes i.mode)
+    by_task None = refl
+
+pub found_named : (t : Tables) (kind : Named) (xs text : List ℕ) (i : ℕ) → AreOrdered (name_of t kind) (count_of t kind) xs → IsPlace (name_of t kind) xs text (Ok i)
+    → number_named t kind text ≡ Some (get_or xs i 0)
+found_named t Sensor xs text i o at = found sensor_name (is_sensor text) t.comms xs text (sensor_test text) o i at
+found_named t Invocation xs text i o at = found (dotted t) (is_invocation t text) t.invs xs text (invocation_test t text) o i at
+
+pub none_found : (t : Tables) (kind : Named) (xs text : List ℕ) (p : ℕ) → AreOrdered (name_of t kind) (count_of t kind) xs → IsPlace (name_of t kind) xs text (Err p)
+    → number_named t kind text ≡ None
+none_found t Sensor xs text p o at = missing sensor_name (is_sensor text) t.comms xs text (sensor_test text) o p at
+none_found t Invocation xs text p o at = missing (dotted t) (is_invocation t text) t.invs xs text (invocation_test t text) o p at

@@ -1,0 +1,15 @@
+use Rattle.std.proofs.Common.{◌≡◌, ◌≤◌, ◌<◌, ◌-◌, ℕ, length, Some}
+use Rattle.std.specs.declared.cmp.Ordering.TheVariants.{Less, Greater}
+use Rattle.htl_model.specs.Tables.{tables_of}
+use Rattle.htl_script.specs.Naming.{name_of}
+use Rattle.htl_script.specs.Orders.{compared}
+use Rattle.htl_script.proofs.index.NameOrder.place.Given as goal
+
+abbrev pub invariant-halves : goal.invariant-halves
+invariant-halves l =
+    (l.low ≤ l.high) × (l.high ≤ length l.numbers)
+    × ((j : ℕ) → j < l.low → compared (name_of (tables_of l.parts) l.kind) l.numbers l.text j ≡ Some Less)
+    × ((j : ℕ) → l.high ≤ j → j < length l.numbers → compared (name_of (tables_of l.parts) l.kind) l.numbers l.text j ≡ Some Greater)
+
+abbrev pub decreases-halves : goal.decreases-halves
+decreases-halves l = l.high - l.low

@@ -1,0 +1,39 @@
+-- Numbers in the order of their names.
+use Rattle.std.specs.Prelude.{◌≡◌, ℕ, ◌≤◌, ◌<◌, List, length, get_or, Option, Some, None, IsSome, Ok, Err}
+use Rattle.std.specs.Option.{option_map}
+use Rattle.std.specs.declared.cmp.Ordering.{Ordering}
+use Rattle.std.specs.declared.cmp.Ordering.TheVariants.{Less, Greater}
+use Rattle.std.specs.Ordering.{nat_cmp}
+use Rattle.std.specs.Cmp.Lexicographic.{slice_cmp}
+use Rattle.std.specs.declared.result.Result.{Result}
+use Rattle.htl_model.specs.Tables.{Tables}
+use Rattle.htl_script.specs.Naming.{name_of, count_of}
+use Rattle.htl_script.specs.declared.index.Index.{Index}
+use Rattle.htl_script.specs.declared.naming.Named.TheVariants.{Sensor, Invocation}
+
+-- each of the numbers has a name, and the names rise
+pub record AreRising (name : ℕ → Option (List ℕ)) (numbers : List ℕ) : Type 0 where
+  pub named : (i : ℕ) → i < length numbers → IsSome (name (get_or numbers i 0))
+  pub rising : (i j : ℕ) (a b : List ℕ) → i < j → j < length numbers → name (get_or numbers i 0) ≡ Some a → name (get_or numbers j 0) ≡ Some b → slice_cmp nat_cmp a b ≡ Less
+
+-- and each name below the count is that of one of them, the first number with this name
+pub record AreOrdered (name : ℕ → Option (List ℕ)) (count : ℕ) (numbers : List ℕ) : Type 0 where
+  pub rising : AreRising name numbers
+  pub below : (i : ℕ) → i < length numbers → get_or numbers i 0 < count
+  pub whole : (n : ℕ) (a : List ℕ) → n < count → name n ≡ Some a → (i : ℕ) × (i < length numbers) × (name (get_or numbers i 0) ≡ Some a) × (get_or numbers i 0 ≤ n)
+
+-- how the name at a place compares with a text
+abbrev pub compared : (ℕ → Option (List ℕ)) → List ℕ → List ℕ → ℕ → Option Ordering
+compared name numbers text i = option_map (λ own. slice_cmp nat_cmp own text) (name (get_or numbers i 0))
+
+-- the place of a text among the names, or where it would stand
+abbrev pub IsPlace : (ℕ → Option (List ℕ)) → List ℕ → List ℕ → Result ℕ ℕ → Type 0
+IsPlace name numbers text (Ok i) = (i < length numbers) × (name (get_or numbers i 0) ≡ Some text)
+IsPlace name numbers text (Err i) =
+    (i ≤ length numbers) × ((j : ℕ) → j < i → compared name numbers text j ≡ Some Less)
+    × ((j : ℕ) → i ≤ j → j < length numbers → compared name numbers text j ≡ Some Greater)
+
+-- the numbers of all sensors and of all concrete invocations
+pub record IsIndex (t : Tables) (x : Index) : Type 0 where
+  pub sensors : AreOrdered (name_of t Sensor) (count_of t Sensor) x.sensors
+  pub invocations : AreOrdered (name_of t Invocation) (count_of t Invocation) x.invocations

@@ -1,0 +1,100 @@
+// The reader of a script, event by event, where the names are in order.
+ghost use Rattle.std.specs.Prelude.{◌≡◌, ◌≤◌, ◌<◌, ◌+◌, [], length, IfOk, IfSome, OnOk, None, Some, Ok, Err};
+ghost use Rattle.htl_base.specs.declared.limits.TheConstants as limit;
+ghost use Rattle.htl_edge.specs.Causes.{Rose};
+ghost use Rattle.htl_script.specs.declared.fault.ScriptStop.TheVariants as stop;
+ghost use Rattle.htl_script.specs.Streaming.{Told, IsAnswer, IsEnd, Goes, at_start};
+
+use crate::chunk::Chunk;
+use crate::lookup::Names;
+use crate::reader::Reader;
+use crate::{ScriptFault, ScriptKind, ScriptStop};
+use htl_edge::Source;
+use htl_model::Event;
+use std::marker::Model;
+
+/// Reads a script event by event, over a buffer of 256 bytes. Contracts see where it is and what it has read ahead.
+#[derive(Drop)]
+pub struct Stream {
+    reader: Reader,
+    chunk: Chunk,
+}
+
+impl Model for Stream {
+    ghost use Rattle.htl_script.specs.Streaming.{Ahead};
+
+    ghost Value = { Ahead };
+
+    ghost view = { λ s. record { here = s.reader; bytes = s.chunk } };
+}
+
+impl Stream {
+    /// A reader at the beginning of a script.
+    pub fn new() -> Stream
+        ensures { result ≡ at_start }
+    {
+        Stream {
+            reader: Reader::new(),
+            chunk: Chunk::new(),
+        }
+    }
+
+    /// The next event; None where the input has ended after an `end` line.
+    pub fn next<R: Source>(
+        &mut self,
+        src: &mut R,
+        names: &Names<'_>,
+    ) -> Result<Option<Event>, ScriptStop>
+        ensures answer { Told (R.rest src.old) (R.rest src.new) (IsAnswer names.now self.old self.new result) }
+        ensures event { Goes names.now self.old.here.past self.new.here.past result }
+        ensures lines { IfOk result (λ o. IfSome o (λ e. self.old.here.number < self.new.here.number)) }
+        ensures few { IfOk result (λ o. self.new.here.number ≤ limit.MAX_SCRIPT + 1) }
+        ensures later { R.faults src.old ≤ R.faults src.new }
+        ensures kept { (result ≡ Err stop.Read → ⊥) → R.faults src.new ≡ R.faults src.old }
+        ensures read { result ≡ Err stop.Read → Rose (R.faults src.old) (R.faults src.new) }
+    {
+        'bytes: loop {
+            let b = match self.chunk.byte(src) {
+                Ok(Some(b)) => b,
+                Ok(None) => return self.end(names),
+                Err(_) => return Err(ScriptStop::Read),
+            };
+            match self.reader.take(names, b) {
+                Ok(Some(event)) => return Ok(Some(event)),
+                Ok(None) => {}
+                Err(kind) => return Err(self.fault(kind)),
+            }
+        }
+    }
+
+    // The event of a last line without a line feed; None behind it, where an `end` line was read.
+    fn end(&mut self, names: &Names<'_>) -> Result<Option<Event>, ScriptStop>
+        requires { self.old.bytes ≡ [] }
+        ensures answer { IsEnd names.now self.old self.new result }
+        ensures event { Goes names.now self.old.here.past self.new.here.past result }
+        ensures lines { IfOk result (λ o. IfSome o (λ e. self.old.here.number < self.new.here.number)) }
+        ensures few { IfOk result (λ o. self.new.here.number ≤ limit.MAX_SCRIPT + 1) }
+        ensures bytes { self.new.bytes ≡ [] }
+        ensures read { result ≡ Err stop.Read → ⊥ }
+    {
+        match self.reader.take_end(names) {
+            Ok(Some(event)) => Ok(Some(event)),
+            Ok(None) => if self.reader.is_ended() {
+                Ok(None)
+            } else {
+                Err(self.fault(ScriptKind::NoEnd))
+            },
+            Err(kind) => Err(self.fault(kind)),
+        }
+    }
+
+    // A fault of the line that is being read.
+    fn fault(&self, kind: ScriptKind) -> ScriptStop
+        ensures { result ≡ stop.Script (record { line = self.now.here.number; kind = kind }) }
+    {
+        ScriptStop::Script(ScriptFault {
+            line: self.reader.number(),
+            kind,
+        })
+    }
+}
