@@ -1,74 +1,72 @@
 -- What a tree holds, its entries tell.
-use Rattle.std.proofs.Common.{◌≡◌, ℕ, suc, ◌+◌, List, length, take, slice_get, Some, refl, sym, ◌∙◌, ap, arith}
+use Rattle.std.proofs.Common.{◌≡◌, ℕ, zero, suc, ◌+◌, List, [], ◌∷◌, length, take, slice_get, Some, subst, arith, length-append}
+use Rattle.std.proofs.lemmas.Option.{none-some, same_Some}
 use Rattle.htl_text.specs.Bounds.{comms_of}
 use Rattle.htl_text.specs.Nodes.{PlainProgram, PlainModule, PlainMode, PlainTask}
 use Rattle.htl_names.specs.declared.key.Entry.{Entry}
-use Rattle.htl_names.specs.Entries.{entry, params_of, param_entry, task_entries, port_entry, invoke_entry, mode_entries, module_entries, comm_entry, entries}
-use Rattle.htl_names.specs.Keys.{program_key, module_key, task_key, mode_key}
+use Rattle.htl_names.specs.Entries.{params_of, param_entry, task_entries, port_entry, invoke_entry, mode_entries, module_entries, comm_entry, program_entries, entries_from, entries}
 use Rattle.htl_names.specs.Lists.{flat_map_at, map_at}
 use Rattle.htl_names.specs.Order.{module_at, tasks_at, modes_at}
-use Rattle.htl_names.proofs.FlatMaps.{get_front, get_back, at_part_0, flat_part, to_map_at}
-use Rattle.htl_names.proofs.Members.{In}
-use Rattle.htl_names.proofs.Origins.{Origin, of_program, of_comm, of_module, of_task, of_param, of_mode, of_port, of_invoke, in_source}
+use Rattle.htl_names.proofs.FlatMaps.{flat_part}
+use Rattle.htl_names.proofs.Members.{In, Each, each_front, each_back, each_part_at, each_mapped_at, each_in}
+use Rattle.htl_names.proofs.Origins.{Origin, of_program, of_comm, of_module, of_task, of_param, of_mode, of_port, of_invoke}
 use Rattle.htl_names.proofs.Places.{program_of_module, module_of_task, module_of_mode}
 
--- ---- the entries of a module, a task, a mode
+-- ---- the entries of a program, a module, a task, a mode
 
-pub in_module : (ps : List PlainProgram) (p u n : ℕ) (y : PlainModule) (e : Entry) → module_at ps p u ≡ Some y → slice_get (module_entries p u y) n ≡ Some e → In e (entries ps)
-in_module ps p u n y e there at =
+abbrev IsThere : List PlainProgram → Entry → Type 0
+IsThere ps e = In e (entries ps)
+
+part_of_source : (P : Entry → Type 0) (p first : ℕ) (xs : List PlainProgram) (i q c : ℕ) (x : PlainProgram) → q ≡ p + i → c ≡ first + length (comms_of (take i xs))
+    → slice_get xs i ≡ Some x → Each P (entries_from p first xs) → Each P (program_entries q c x)
+part_of_source P p first [] i q c x is start there h = absurd (none-some x there)
+part_of_source P p first (y ∷ xs) zero q c x is start there h =
+    let one : p ≡ q = omega (arith, is) in
+    let two : first ≡ c = omega (arith, start) in
+    subst (λ (n : ℕ). Each P (program_entries n c x)) one (subst (λ (n : ℕ). Each P (program_entries p n x)) two
+    (subst (λ (z : PlainProgram). Each P (program_entries p first z)) (same_Some y x there) (each_front P (program_entries p first y) (entries_from (suc p) (first + length y.comms) xs) h)))
+part_of_source P p first (y ∷ xs) (suc i) q c x is start there h =
+    let size = length-append y.comms (comms_of (take i xs)) in
+    part_of_source P (suc p) (first + length y.comms) xs i q c x (omega (arith, is)) (omega (arith, start, size)) there
+    (each_back P (program_entries p first y) (entries_from (suc p) (first + length y.comms) xs) h)
+
+in_program : (ps : List PlainProgram) (p : ℕ) (x : PlainProgram) → slice_get ps p ≡ Some x → Each (IsThere ps) (program_entries p (length (comms_of (take p ps))) x)
+in_program ps p x there =
+    part_of_source (IsThere ps) 0 0 ps p p (length (comms_of (take p ps))) x (omega arith) (omega arith) there (each_in (entries ps))
+
+in_module : (ps : List PlainProgram) (p u : ℕ) (y : PlainModule) → module_at ps p u ≡ Some y → Each (IsThere ps) (module_entries p u y)
+in_module ps p u y there =
     let o = program_of_module ps p u y there in
-    let x = o.0 in
-    let first = length (comms_of (take p ps)) in
-    let part = at_part_0 (module_entries p) x.modules u n y e o.2 at in
-    let comms = map_at comm_entry first x.comms in
-    let rest = flat_map_at (module_entries p) 0 x.modules in
-    let place = length (flat_map_at (module_entries p) 0 (take u x.modules)) + n in
-    in_source ps p (suc (length comms + place)) x e o.1 (get_back comms rest place ∙ part)
+    each_part_at (IsThere ps) (module_entries p) 0 o.0.modules u u y (omega arith) o.2
+    (each_back (IsThere ps) (map_at comm_entry (length (comms_of (take p ps))) o.0.comms) (flat_map_at (module_entries p) 0 o.0.modules) (in_program ps p o.0 o.1).1)
 
-pub in_task : (ps : List PlainProgram) (p u k n : ℕ) (t : PlainTask) (e : Entry) → slice_get (tasks_at ps p u) k ≡ Some t → slice_get (task_entries p u k t) n ≡ Some e → In e (entries ps)
-in_task ps p u k n t e there at =
+in_task : (ps : List PlainProgram) (p u k : ℕ) (t : PlainTask) → slice_get (tasks_at ps p u) k ≡ Some t → Each (IsThere ps) (task_entries p u k t)
+in_task ps p u k t there =
     let o = module_of_task ps p u k t there in
-    let y = o.0 in
-    let part = at_part_0 (task_entries p u) y.tasks k n t e o.2 at in
-    let tasks = flat_map_at (task_entries p u) 0 y.tasks in
-    let modes = flat_map_at (mode_entries p u) 0 y.modes in
-    in_module ps p u (suc (length (flat_map_at (task_entries p u) 0 (take k y.tasks)) + n)) y e o.1 (get_front tasks modes _ e part)
+    each_part_at (IsThere ps) (task_entries p u) 0 o.0.tasks k k t (omega arith) o.2
+    (each_front (IsThere ps) (flat_map_at (task_entries p u) 0 o.0.tasks) (flat_map_at (mode_entries p u) 0 o.0.modes) (in_module ps p u o.0 o.1).1)
 
-pub in_mode : (ps : List PlainProgram) (p u m n : ℕ) (x : PlainMode) (e : Entry) → slice_get (modes_at ps p u) m ≡ Some x → slice_get (mode_entries p u m x) n ≡ Some e → In e (entries ps)
-in_mode ps p u m n x e there at =
+in_mode : (ps : List PlainProgram) (p u m : ℕ) (x : PlainMode) → slice_get (modes_at ps p u) m ≡ Some x → Each (IsThere ps) (mode_entries p u m x)
+in_mode ps p u m x there =
     let o = module_of_mode ps p u m x there in
-    let y = o.0 in
-    let part = at_part_0 (mode_entries p u) y.modes m n x e o.2 at in
-    let tasks = flat_map_at (task_entries p u) 0 y.tasks in
-    let modes = flat_map_at (mode_entries p u) 0 y.modes in
-    let place = length (flat_map_at (mode_entries p u) 0 (take m y.modes)) + n in
-    in_module ps p u (suc (length tasks + place)) y e o.1 (get_back tasks modes place ∙ part)
+    each_part_at (IsThere ps) (mode_entries p u) 0 o.0.modes m m x (omega arith) o.2
+    (each_back (IsThere ps) (flat_map_at (task_entries p u) 0 o.0.tasks) (flat_map_at (mode_entries p u) 0 o.0.modes) (in_module ps p u o.0 o.1).1)
 
 -- ---- each item is declared
 
 pub declared : (ps : List PlainProgram) (e : Entry) → Origin ps e → In e (entries ps)
-declared ps e (of_program p x there) = in_source ps p 0 x (entry (program_key x.name.name) p x.name) there refl
+declared ps e (of_program p x there) = (in_program ps p x there).0
 declared ps e (of_comm c x there) =
     let r = flat_part (λ (q : PlainProgram). q.comms) ps c x there in
-    let first = length (comms_of (take r.part ps)) in
-    let at = to_map_at comm_entry first r.owner.comms r.place x r.item in
-    let is : first + r.place ≡ c = sym r.number in
-    let own : slice_get (map_at comm_entry first r.owner.comms) r.place ≡ Some (comm_entry c x) = at ∙ ap (λ (n : ℕ). Some (comm_entry n x)) is in
-    in_source ps r.part (suc r.place) r.owner (comm_entry c x) r.there
-    (get_front (map_at comm_entry first r.owner.comms) (flat_map_at (module_entries r.part) 0 r.owner.modules) r.place (comm_entry c x) own)
-declared ps e (of_module p u x there) = in_module ps p u 0 x (entry (module_key x.name.name) u x.name) there refl
-declared ps e (of_task p u k t there) = in_task ps p u k 0 t (entry (task_key p u t.name.name) k t.name) there refl
-declared ps e (of_param p u k t there j x at) =
-    let same : 0 + j ≡ j = omega arith in
-    in_task ps p u k (suc j) t (param_entry p u k j x) there (to_map_at (param_entry p u k) 0 (params_of t) j x at ∙ ap (λ (n : ℕ). Some (param_entry p u k n x)) same)
-declared ps e (of_mode p u m x there) = in_mode ps p u m 0 x (entry (mode_key p u x.name.name) m x.name) there refl
+    each_mapped_at (IsThere ps) comm_entry (length (comms_of (take r.part ps))) r.owner.comms c r.place x r.number r.item
+    (each_front (IsThere ps) (map_at comm_entry (length (comms_of (take r.part ps))) r.owner.comms) (flat_map_at (module_entries r.part) 0 r.owner.modules) (in_program ps r.part r.owner r.there).1)
+declared ps e (of_module p u x there) = (in_module ps p u x there).0
+declared ps e (of_task p u k t there) = (in_task ps p u k t there).0
+declared ps e (of_param p u k t there j x at) = each_mapped_at (IsThere ps) (param_entry p u k) 0 (params_of t) j j x (omega arith) at (in_task ps p u k t there).1
+declared ps e (of_mode p u m x there) = (in_mode ps p u m x there).0
 declared ps e (of_port p u m x there j y at) =
-    let same : 0 + j ≡ j = omega arith in
-    let own = to_map_at (port_entry p u m) 0 x.ports j y at ∙ ap (λ (n : ℕ). Some (port_entry p u m n y)) same in
-    in_mode ps p u m (suc j) x (port_entry p u m j y) there (get_front (map_at (port_entry p u m) 0 x.ports) (map_at (invoke_entry p u m) 0 x.invokes) j (port_entry p u m j y) own)
+    each_mapped_at (IsThere ps) (port_entry p u m) 0 x.ports j j y (omega arith) at
+    (each_front (IsThere ps) (map_at (port_entry p u m) 0 x.ports) (map_at (invoke_entry p u m) 0 x.invokes) (in_mode ps p u m x there).1)
 declared ps e (of_invoke p u m x there j y at) =
-    let same : 0 + j ≡ j = omega arith in
-    let ports = map_at (port_entry p u m) 0 x.ports in
-    let invokes = map_at (invoke_entry p u m) 0 x.invokes in
-    let own = to_map_at (invoke_entry p u m) 0 x.invokes j y at ∙ ap (λ (n : ℕ). Some (invoke_entry p u m n y)) same in
-    in_mode ps p u m (suc (length ports + j)) x (invoke_entry p u m j y) there (get_back ports invokes j ∙ own)
+    each_mapped_at (IsThere ps) (invoke_entry p u m) 0 x.invokes j j y (omega arith) at
+    (each_back (IsThere ps) (map_at (port_entry p u m) 0 x.ports) (map_at (invoke_entry p u m) 0 x.invokes) (in_mode ps p u m x there).1)

@@ -84,7 +84,7 @@ of_distinct P acc (x ∷ xs) a b y at = of_distinct P (with_new acc x) xs (step 
 abbrev AreMet : (List ℕ → ℕ) → List (List ℕ) → List ℕ → Type 0
 AreMet g names numbers = (n : List ℕ) → list_any (bytes_eq n) names ≡ true → list_any (eqb (g n)) numbers ≡ true
 
-any_end : {A : Type 0} (p : A → Bool) (xs : List A) (x : A) → list_any p (xs ++ x ∷ []) ≡ (list_any p xs || p x)
+pub any_end : {A : Type 0} (p : A → Bool) (xs : List A) (x : A) → list_any p (xs ++ x ∷ []) ≡ (list_any p xs || p x)
 any_end p xs x = list_any-append p xs (x ∷ []) ∙ ap (λ b. list_any p xs || b) (or-false (p x))
 
 few_by : (g : List ℕ → ℕ) (ids : List Id) (names : List (List ℕ)) (numbers : List ℕ) → AreMet g names numbers → length numbers ≤ length names

@@ -1,6 +1,6 @@
 -- Small sources and the name rules that they break, worked out by the definitions.
 use Rattle.std.specs.Prelude.{◌≡◌, ◌+◌, ◌∷◌, ℕ, List, [], Some, None, pos, refl}
-use Rattle.std.proofs.Common.{arith, inl}
+use Rattle.std.proofs.Common.{arith}
 use Rattle.htl_base.specs.declared.Ty.TheVariants as ty
 use Rattle.htl_model.specs.Lists.{first_some}
 use Rattle.htl_text.specs.Expressions.{Variable}
@@ -90,4 +90,4 @@ abbrev still : List PlainProgram
 still = program a_name 1 (module_with 4 [] (mode 25 0 [] ∷ []) ∷ []) ∷ []
 
 no_period : NameBroken still WrongKind 0 (fault.Kind 27)
-no_period = (Span (number 0 27), refl, inl (omega arith), refl)
+no_period = (Span (number 0 27), refl, refl, refl)

@@ -1,59 +1,50 @@
 -- The search through the limits finds the first that is exceeded.
-use Rattle.std.proofs.Common.{◌≡◌, ◌≤◌, ◌<◌, ◌+◌, ◌-◌, ◌^◌, ℕ, zero, suc, Bool, true, false, cond, ltb, min, List, [], ◌∷◌, ◌++◌, length, Option, Some, None, refl, sym, ◌∙◌, ap, subst, arith}
+use Rattle.std.proofs.Common.{◌≡◌, ◌≤◌, ◌<◌, ◌+◌, ◌-◌, ◌^◌, ℕ, zero, suc, Bool, true, false, cond, ltb, leb, leb-true, min, map, List, [], ◌∷◌, ◌++◌, length, Option, Some, None, refl, sym, ◌∙◌, ap, subst, arith}
 use Rattle.std.specs.Prelude.{MatchOption, slice_get}
+use Rattle.std.specs.List.{list_all}
 use Rattle.std.proofs.lemmas.Bool.Decides.{nat_tests}
 use Rattle.htl_names.specs.declared.limits.Excess.{Excess}
 use Rattle.htl_names.specs.Excess.{IsFirstExcess}
 use Rattle.htl_names.specs.Excesses.{excess, or_else, excess_from, capped}
 use Rattle.htl_names.specs.Limits.{limits}
+use Rattle.htl_names.proofs.Deciding.{both}
 
--- ---- counts under a cap
+-- ---- counts under a cap, which is far above the limits
 
--- the counts agree up to the greatest number, and the limits are far below it
-abbrev pub AreAlike : List ℕ → List ℕ → List ℕ → Type 0
-AreAlike (d ∷ ds) (c ∷ cs) (m ∷ ms) = (capped d ≡ capped c) × (m ≤ 4096) × AreAlike ds cs ms
-AreAlike [] [] [] = Unit {0}
-AreAlike [] [] (m ∷ ms) = ⊥
-AreAlike [] (c ∷ cs) [] = ⊥
-AreAlike [] (c ∷ cs) (m ∷ ms) = ⊥
-AreAlike (d ∷ ds) [] [] = ⊥
-AreAlike (d ∷ ds) [] (m ∷ ms) = ⊥
-AreAlike (d ∷ ds) (c ∷ cs) [] = ⊥
-
-same_test : (d c m cap : ℕ) → min d cap ≡ min c cap → m < cap → ltb m d ≡ ltb m c
-same_test d c m cap e small = by (ltb m d) (ltb m c) refl refl
+capped_test : (c m cap : ℕ) → m < cap → ltb m (min c cap) ≡ ltb m c
+capped_test c m cap small = by (ltb m (min c cap)) (ltb m c) refl refl
   where
-    by : (a b : Bool) → ltb m d ≡ a → ltb m c ≡ b → a ≡ b
+    by : (a b : Bool) → ltb m (min c cap) ≡ a → ltb m c ≡ b → a ≡ b
     by true true p q = refl
     by false false p q = refl
     by true false p q = absurd (clash (grind (arith, nat_tests)) (grind (arith, nat_tests)))
       where
-        clash : m < d → c ≤ m → ⊥
+        clash : m < min c cap → c ≤ m → ⊥
         clash u v = omega arith
     by false true p q = absurd (clash (grind (arith, nat_tests)) (grind (arith, nat_tests)))
       where
-        clash : d ≤ m → m < c → ⊥
+        clash : min c cap ≤ m → m < c → ⊥
         clash u v = omega arith
 
-same_told : (d c top cap : ℕ) → min d cap ≡ min c cap → top ≤ cap → min d top ≡ min c top
-same_told d c top cap e small = omega arith
+capped_told : (c top cap : ℕ) → top ≤ cap → min (min c cap) top ≡ min c top
+capped_told c top cap small = omega arith
 
-excess-alike : (which d c m : ℕ) → capped d ≡ capped c → m ≤ 4096 → excess which d m ≡ excess which c m
-excess-alike which d c m e small =
-    ap (λ (b : Bool). cond b (Some (record { which = which; count = min d (2 ^ 32 - 1) })) None) (same_test d c m (2 ^ 64 - 1) e (omega arith))
-    ∙ ap (λ (n : ℕ). cond (ltb m c) (Some (record { which = which; count = n })) None) (same_told d c (2 ^ 32 - 1) (2 ^ 64 - 1) e (omega arith))
+excess-capped : (which c m : ℕ) → m ≤ 4096 → excess which (capped c) m ≡ excess which c m
+excess-capped which c m small =
+    ap (λ (b : Bool). cond b (Some (record { which = which; count = min (capped c) (2 ^ 32 - 1) })) None) (capped_test c m (2 ^ 64 - 1) (omega arith))
+    ∙ ap (λ (n : ℕ). cond (ltb m c) (Some (record { which = which; count = n })) None) (capped_told c (2 ^ 32 - 1) (2 ^ 64 - 1) (omega arith))
 
-pub excess_from-alike : (which : ℕ) (ds cs ms : List ℕ) → AreAlike ds cs ms → excess_from which ds ms ≡ excess_from which cs ms
-excess_from-alike which [] [] [] h = refl
-excess_from-alike which [] [] (m ∷ ms) h = elim h [ ]
-excess_from-alike which [] (c ∷ cs) [] h = elim h [ ]
-excess_from-alike which [] (c ∷ cs) (m ∷ ms) h = elim h [ ]
-excess_from-alike which (d ∷ ds) [] [] h = elim h [ ]
-excess_from-alike which (d ∷ ds) [] (m ∷ ms) h = elim h [ ]
-excess_from-alike which (d ∷ ds) (c ∷ cs) [] h = elim h [ ]
-excess_from-alike which (d ∷ ds) (c ∷ cs) (m ∷ ms) h =
-    ap (λ (o : Option Excess). or_else o (excess_from (suc which) ds ms)) (excess-alike which d c m h.0 h.1)
-    ∙ ap (or_else (excess which c m)) (excess_from-alike (suc which) ds cs ms h.2)
+excess_from-capped : (which : ℕ) (cs ms : List ℕ) → list_all (λ m. leb m 4096) ms ≡ true → excess_from which (map capped cs) ms ≡ excess_from which cs ms
+excess_from-capped which [] ms small = refl
+excess_from-capped which (c ∷ cs) [] small = refl
+excess_from-capped which (c ∷ cs) (m ∷ ms) small =
+    let parts = both (leb m 4096) (list_all (λ n. leb n 4096) ms) small in
+    ap (λ (o : Option Excess). or_else o (excess_from (suc which) (map capped cs) ms)) (excess-capped which c m (leb-true m 4096 parts.0))
+    ∙ ap (or_else (excess which c m)) (excess_from-capped (suc which) cs ms parts.1)
+
+pub excess_from-alike : (which : ℕ) (ds cs ms : List ℕ) → list_all (λ m. leb m 4096) ms ≡ true → map capped ds ≡ map capped cs → excess_from which ds ms ≡ excess_from which cs ms
+excess_from-alike which ds cs ms small alike =
+    sym (excess_from-capped which ds ms small) ∙ ap (λ (xs : List ℕ). excess_from which xs ms) alike ∙ excess_from-capped which cs ms small
 
 -- ---- one search after another
 

@@ -1,38 +1,43 @@
--- The first value along a list, by its place.
-use Rattle.std.proofs.Common.{◌≡◌, ◌<◌, ℕ, zero, suc, List, [], ◌∷◌, slice_get, Option, Some, None, refl, sym, ◌∙◌, ap, arith}
+-- The first item of a list that a test tells of, by its place.
+use Rattle.std.proofs.Common.{◌≡◌, ◌<◌, ℕ, zero, suc, List, [], ◌∷◌, slice_get, Option, Some, None, refl, sym, ap, subst, arith}
+use Rattle.std.specs.Prelude.{MatchOption}
+use Rattle.std.proofs.lemmas.Option.{none-some}
 use Rattle.htl_model.specs.Lists.{first_some}
+use Rattle.htl_names.specs.declared.fault.NameFault.{NameFault}
 
--- the function gives this value at place k, and none before
-pub record IsFirstAt {A B : Type 0} (f : A → Option B) (xs : List A) (y : B) : Type 0 where
-  pub place : ℕ
-  pub item : A
-  pub there : slice_get xs place ≡ Some item
-  pub gives : f item ≡ Some y
-  pub before : (j : ℕ) (z : A) → j < place → slice_get xs j ≡ Some z → f z ≡ None
+-- the item at place k is bad, and told by this fault
+abbrev pub IsBadAt : {A : Type 0} → (A → Type 0) → (A → NameFault) → List A → ℕ → NameFault → Type 0
+IsBadAt {A} Bad fault xs k f = (x : A) × (slice_get xs k ≡ Some x) × Bad x × (f ≡ fault x)
 
-later : {A B : Type 0} (f : A → Option B) (x : A) (xs : List A) (y : B) → f x ≡ None → IsFirstAt f xs y → IsFirstAt f (x ∷ xs) y
-later {A} f x xs y nothing h =
-    record { place = suc h.place; item = h.item; there = h.there; gives = h.gives; before = before }
+-- a test of items gives the tokens of the bad ones, and only theirs
+abbrev pub Tells : {A : Type 0} → (A → Type 0) → (A → ℕ) → (A → Option ℕ) → A → Type 0
+Tells Bad token test x = MatchOption (test x) (Bad x → ⊥) (λ t. Bad x × (t ≡ token x))
+
+-- none is bad; or the first bad one has this token
+abbrev pub IsFirstBad : {A : Type 0} → (A → Type 0) → (A → ℕ) → (ℕ → NameFault) → List A → Option ℕ → Type 0
+IsFirstBad {A} Bad token fault xs o =
+    MatchOption o ((k : ℕ) (f : NameFault) → IsBadAt Bad (λ x. fault (token x)) xs k f → ⊥)
+    (λ t. (place : ℕ) × IsBadAt Bad (λ x. fault (token x)) xs place (fault t)
+    × ((k : ℕ) (f : NameFault) → k < place → IsBadAt Bad (λ x. fault (token x)) xs k f → ⊥))
+
+pub first_bad : {A : Type 0} (Bad : A → Type 0) (token : A → ℕ) (fault : ℕ → NameFault) (test : A → Option ℕ) (xs : List A)
+    → ((k : ℕ) (x : A) → slice_get xs k ≡ Some x → Tells Bad token test x) → IsFirstBad Bad token fault xs (first_some test xs)
+first_bad {A} Bad token fault test [] tells = λ k f at. none-some at.0 at.1
+first_bad {A} Bad token fault test (y ∷ ys) tells = by (test y) (tells 0 y refl) (first_some test ys) (first_bad Bad token fault test ys (λ k x there. tells (suc k) x there))
   where
-    before : (j : ℕ) (z : A) → j < suc h.place → slice_get (x ∷ xs) j ≡ Some z → f z ≡ None
-    before zero z less there = let same : x ≡ z = cc in ap f (sym same) ∙ nothing
-    before (suc j) z less there = h.before j z (omega (arith, less)) there
+    here : (x : A) → slice_get (y ∷ ys) 0 ≡ Some x → y ≡ x
+    here x there = cc
 
-by_head : {A B : Type 0} (f : A → Option B) (x : A) (xs : List A) (y : B) (o : Option B) → f x ≡ o → (first_some f xs ≡ Some y → IsFirstAt f xs y)
-    → ◌≡◌ {A = Option B} (elim o as (λ _. Option B) [ Some v ↦ Some v | None ↦ first_some f xs ]) (Some y) → IsFirstAt f (x ∷ xs) y
-by_head f x xs y (Some v) is rest h = record { place = 0; item = x; there = refl; gives = is ∙ h; before = λ j z less there. absurd (omega arith) }
-by_head f x xs y None is rest h = later f x xs y is (rest h)
-
-pub first_at : {A B : Type 0} (f : A → Option B) (xs : List A) (y : B) → first_some f xs ≡ Some y → IsFirstAt f xs y
-first_at f [] y h = absurd cc
-first_at f (x ∷ xs) y h = by_head f x xs y (f x) refl (λ e. first_at f xs y e) h
-
-none_head : {B : Type 0} (o rest : Option B) → ◌≡◌ {A = Option B} (elim o as (λ _. Option B) [ Some v ↦ Some v | None ↦ rest ]) None → (o ≡ None) × (rest ≡ None)
-none_head (Some v) rest h = absurd cc
-none_head None rest h = (refl, h)
-
-pub none_at : {A B : Type 0} (f : A → Option B) (xs : List A) → first_some f xs ≡ None → (k : ℕ) (x : A) → slice_get xs k ≡ Some x → f x ≡ None
-none_at f [] h k x there = absurd cc
-none_at f (y ∷ ys) h zero x there =
-    let same : y ≡ x = cc in ap f (sym same) ∙ (none_head (f y) (first_some f ys) h).0
-none_at f (y ∷ ys) h (suc k) x there = none_at f ys (none_head (f y) (first_some f ys) h).1 k x there
+    by : (o : Option ℕ) → MatchOption o (Bad y → ⊥) (λ t. Bad y × (t ≡ token y)) → (rest : Option ℕ) → IsFirstBad Bad token fault ys rest
+        → IsFirstBad Bad token fault (y ∷ ys) (elim o as (λ _. Option ℕ) [ Some t ↦ Some t | None ↦ rest ])
+    by (Some t) bad rest later = (0, (y, refl, bad.0, ap fault bad.1), λ k f less at. absurd (omega (arith, less)))
+    by None good None later = all
+      where
+        all : (k : ℕ) (f : NameFault) → IsBadAt Bad (λ x. fault (token x)) (y ∷ ys) k f → ⊥
+        all zero f at = good (subst Bad (sym (here at.0 at.1)) at.2)
+        all (suc k) f at = later k f at
+    by None good (Some t) later = (suc later.0, later.1, before)
+      where
+        before : (k : ℕ) (f : NameFault) → k < suc later.0 → IsBadAt Bad (λ x. fault (token x)) (y ∷ ys) k f → ⊥
+        before zero f less at = good (subst Bad (sym (here at.0 at.1)) at.2)
+        before (suc k) f less at = later.2 k f (omega (arith, less)) at

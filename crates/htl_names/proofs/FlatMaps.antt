@@ -1,11 +1,11 @@
 -- Where the items of lists and of their parts stand.
-use Rattle.std.proofs.Common.{◌≡◌, ℕ, zero, suc, ◌+◌, ◌<◌, ◌≤◌, ◌⊎◌, inl, inr, List, [], ◌∷◌, ◌++◌, length, take, slice_get, Some, refl, sym, ◌∙◌, ap, subst, arith, length-append, eq-or-lt_of_le, drop, take-append-drop}
+use Rattle.std.proofs.Common.{◌≡◌, ℕ, zero, suc, ◌+◌, ◌<◌, ◌≤◌, ◌⊎◌, inl, inr, List, [], ◌∷◌, ◌++◌, length, take, slice_get, Some, None, refl, sym, ◌∙◌, ap, subst, arith, length-append, eq-or-lt_of_le, drop, take-append-drop}
 use Rattle.std.specs.List.{flat_map}
 use Rattle.std.proofs.lemmas.Option.{slice_get_within, same_Some}
 use Rattle.std.proofs.lemmas.Grind.{flat_map-append}
 use Rattle.htl_model.specs.Lists.{list_to}
 use Rattle.htl_model.proofs.Listed.{length-list_to}
-use Rattle.htl_names.specs.Lists.{flat_map_at, map_at}
+use Rattle.htl_names.specs.Lists.{flat_map_at}
 
 -- ---- the front and the back of a list
 
@@ -26,6 +26,12 @@ get_either [] ys k x e = inr (k, omega arith, e)
 get_either (z ∷ xs) ys zero x e = inl e
 get_either (z ∷ xs) ys (suc k) x e =
     elim (get_either xs ys k x e) [ inl a ↦ inl a | inr b ↦ inr (b.0, omega (arith, b.1), b.2) ]
+
+-- no item stands at the places from the length on
+pub past : {A : Type 0} (xs : List A) (k : ℕ) → slice_get xs k ≡ None → length xs ≤ k
+past [] k e = omega arith
+past (x ∷ xs) zero e = cc
+past (x ∷ xs) (suc k) e = omega (arith, past xs k e)
 
 -- an item stands at each place below the length
 pub there_is : {A : Type 0} (xs : List A) (k : ℕ) → k < length xs → (x : A) × (slice_get xs k ≡ Some x)
@@ -209,16 +215,3 @@ flat_part f xs n y e =
       item = p.item;
       number = subst (λ (ys : _). n ≡ length ys + p.place) (flat_map_is f 0 (take p.part xs)) p.number;
     }
-
--- ---- values with their places
-
-pub of_map_at : {A B : Type 0} (f : ℕ → A → B) (k : ℕ) (xs : List A) (j : ℕ) (y : B) → slice_get (map_at f k xs) j ≡ Some y → (x : A) × (slice_get xs j ≡ Some x) × (f (k + j) x ≡ y)
-of_map_at f k [] j y e = absurd cc
-of_map_at f k (x ∷ xs) zero y e = let own : f k x ≡ y = cc in (x, refl, (let same : k + 0 ≡ k = omega arith in ap (λ (n : ℕ). f n x) same ∙ own))
-of_map_at f k (x ∷ xs) (suc j) y e =
-    let r = of_map_at f (suc k) xs j y e in (r.0, r.1, (let same : k + suc j ≡ suc k + j = omega arith in ap (λ (n : ℕ). f n r.0) same ∙ r.2))
-
-pub to_map_at : {A B : Type 0} (f : ℕ → A → B) (k : ℕ) (xs : List A) (j : ℕ) (x : A) → slice_get xs j ≡ Some x → slice_get (map_at f k xs) j ≡ Some (f (k + j) x)
-to_map_at f k [] j x e = absurd cc
-to_map_at f k (y ∷ ys) zero x e = let is : y ≡ x = cc in (let same : k ≡ k + 0 = omega arith in ap (λ z. Some (f k z)) is ∙ ap (λ (n : ℕ). Some (f n x)) same)
-to_map_at f k (y ∷ ys) (suc j) x e = let same : suc k + j ≡ k + suc j = omega arith in to_map_at f (suc k) ys j x e ∙ ap (λ (n : ℕ). Some (f n x)) same

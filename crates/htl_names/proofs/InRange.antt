@@ -1,5 +1,5 @@
 -- The tables of a tree whose names are right are in range.
-use Rattle.std.proofs.Common.{◌≡◌, ℕ, List, map, length, slice_get, Some, refl, sym, ap, subst, arith}
+use Rattle.std.proofs.Common.{◌≡◌, ℕ, List, map, length, slice_get, Some, refl, subst, arith}
 use Rattle.std.proofs.lemmas.List.{length-map}
 use Rattle.htl_model.specs.declared.parts.Comm.{Comm}
 use Rattle.htl_model.specs.declared.parts.Mode.{Mode}
@@ -13,19 +13,18 @@ use Rattle.htl_model.specs.Ranges.{IsCommInRange, IsModeInRange, IsPortInRange, 
 use Rattle.htl_text.specs.Bounds.{comms_of}
 use Rattle.htl_text.specs.Nodes.{PlainProgram}
 use Rattle.htl_names.specs.Conditions.{MeetsBounds}
-use Rattle.htl_names.specs.declared.place.ModuleAt.{ModuleAt}
-use Rattle.htl_names.specs.Flat.{layout, symbols_of, comm_item, comm_items, mode_items, module_mode_items, module_items, port_item, mode_port_items, port_items, task_item, module_task_items, task_items, invoke_item, mode_invoke_items, invoke_items, switch_item, mode_switch_items, switch_items, tables_of_tree}
+use Rattle.htl_names.specs.Flat.{layout, symbols_of, comm_item, comm_items, mode_item, mode_items, module_mode_items, module_items, port_item, mode_port_items, port_items, task_item, module_task_items, task_items, invoke_item, mode_invoke_items, invoke_items, switch_item, mode_switch_items, switch_items, tables_of_tree}
 use Rattle.htl_names.specs.NameRules.{AreNamesRight}
-use Rattle.htl_names.specs.Order.{order, tasks_at, ports_at, invokes_at, switches_at}
+use Rattle.htl_names.specs.Order.{order, ports_at, invokes_at, switches_at}
 use Rattle.htl_names.specs.Ordered.{IsOrdered}
-use Rattle.htl_names.proofs.FlatMaps.{same_length}
 use Rattle.htl_names.proofs.InvokeRanges.{port_in_range, invoke_in_range}
 use Rattle.htl_names.proofs.Kindly.{comm_period_span, initial_fits}
+use Rattle.htl_names.proofs.Listings.{counted, owned}
 use Rattle.htl_names.proofs.ModuleRanges.{modules_exist, mode_in_range, module_in_range, task_in_range}
-use Rattle.htl_names.proofs.NameRanges.{comm_names_apart, module_names_apart, mode_names_apart, task_names_apart, port_names_apart, invoked_once, modes_owned, tasks_owned, ports_owned, invokes_owned}
-use Rattle.htl_names.proofs.Numbered.{mode_count, module_count}
+use Rattle.htl_names.proofs.NameRanges.{comm_names_apart, module_names_apart, mode_names_apart, task_names_apart, port_names_apart, invoked_once}
+use Rattle.htl_names.proofs.Numbered.{modes_in, tasks_in, mode_count, module_count}
 use Rattle.htl_names.proofs.Ordering.{kept_limit, names-ordered}
-use Rattle.htl_names.proofs.Owners.{IsOwned, of_map, few_owned, non_decreasing}
+use Rattle.htl_names.proofs.Owners.{of_map, few_owned, non_decreasing}
 use Rattle.htl_names.proofs.SwitchRanges.{switch_in_range, function_in_range, functions_counted}
 use Rattle.htl_names.proofs.Members.{All-from_places}
 
@@ -38,9 +37,6 @@ comm_in_range ps right k y e =
 
 -- ---- all of them
 
-switches_owned : (ps : List PlainProgram) → IsOwned (mode_switch_items (layout ps) ps) (λ (w : Switch). w.mode)
-switches_owned ps m a j y e = let x = of_map (switch_item (layout ps) ps m a) (switches_at ps a) j y e in sym (ap (λ (w : Switch). w.mode) x.2)
-
 in_range_by_order : (ps : List PlainProgram) → MeetsBounds ps → AreNamesRight ps → IsOrdered (symbols_of ps) ps (order (symbols_of ps) ps) → AreInRange (tables_of_tree ps)
 in_range_by_order ps small right ordered =
     let l = layout ps in
@@ -49,10 +45,11 @@ in_range_by_order ps small right ordered =
     let few_comms = kept_limit ps right 0 (length (comms_of ps)) 1024 refl refl in
     let modules = module_count l ps (modules_exist ps ordered) in
     let modes = mode_count l ps refl in
-    let ports = same_length (mode_port_items ps) (ports_at ps) (λ n a. length-map (ports_at ps a) (port_item n)) 0 l.modes in
-    let tasks = same_length (module_task_items ps) (λ (s : ModuleAt). tasks_at ps s.program s.«module») (λ n s. length-map (tasks_at ps s.program s.«module») (task_item n)) 0 l.modules in
-    let invs = same_length (mode_invoke_items l ps) (invokes_at ps) (λ n a. length-map (invokes_at ps a) (invoke_item l ps n a)) 0 l.modes in
-    let switches = same_length (mode_switch_items l ps) (switches_at ps) (λ n a. length-map (switches_at ps a) (switch_item l ps n a)) 0 l.modes in
+    let ports = counted (λ m a. port_item m) (ports_at ps) l.modes in
+    let tasks = counted (λ k s. task_item k) (tasks_in ps) l.modules in
+    let invs = counted (invoke_item l ps) (invokes_at ps) l.modes in
+    let switches = counted (switch_item l ps) (switches_at ps) l.modes in
+    let invoked = owned (invoke_item l ps) (invokes_at ps) (λ (i : Inv). i.mode) (λ m a i. refl) in
     record {
       few_comms = omega (arith, comms, few_comms);
       few_modules = omega (arith, modules, ordered.few_modules);
@@ -61,7 +58,7 @@ in_range_by_order ps small right ordered =
       few_tasks = omega (arith, tasks, ordered.few_tasks);
       few_invs = omega (arith, invs, ordered.few_invokes);
       few_switches = omega (arith, switches, ordered.few_switches);
-      few_in_mode = λ m. few_owned (mode_invoke_items l ps) (λ (i : Inv). i.mode) m 128 (invokes_owned l ps) l.modes (λ n a.
+      few_in_mode = λ m. few_owned (mode_invoke_items l ps) (λ (i : Inv). i.mode) m 128 invoked l.modes (λ n a.
           let size = length-map (invokes_at ps a) (invoke_item l ps n a) in
           let few = ordered.few_in_mode a in
           omega (arith, size, few));
@@ -71,11 +68,11 @@ in_range_by_order ps small right ordered =
       port_names = different_owned (map (λ (q : Port). (q.mode, q.name)) (port_items l ps)) (port_names_apart ps right);
       task_names = different_owned (map (λ (k : Task). (k.«module», k.name)) (task_items l ps)) (task_names_apart ps right);
       invoked_once = different_pairs (map (λ (i : Inv). (i.mode, i.task)) (invoke_items l ps)) (invoked_once ps right);
-      modes_by_module = non_decreasing (module_mode_items ps) (λ (m : Mode). m.«module») (modes_owned ps) 0 l.modules;
-      ports_by_mode = non_decreasing (mode_port_items ps) (λ (q : Port). q.mode) (ports_owned ps) 0 l.modes;
-      tasks_by_module = non_decreasing (module_task_items ps) (λ (k : Task). k.«module») (tasks_owned ps) 0 l.modules;
-      invs_by_mode = non_decreasing (mode_invoke_items l ps) (λ (i : Inv). i.mode) (invokes_owned l ps) 0 l.modes;
-      switches_by_mode = non_decreasing (mode_switch_items l ps) (λ (w : Switch). w.mode) (switches_owned ps) 0 l.modes;
+      modes_by_module = non_decreasing (module_mode_items ps) (λ (m : Mode). m.«module») (owned (λ k s. mode_item k) (modes_in ps) (λ (m : Mode). m.«module») (λ k s x. refl)) 0 l.modules;
+      ports_by_mode = non_decreasing (mode_port_items ps) (λ (q : Port). q.mode) (owned (λ m a. port_item m) (ports_at ps) (λ (q : Port). q.mode) (λ m a x. refl)) 0 l.modes;
+      tasks_by_module = non_decreasing (module_task_items ps) (λ (k : Task). k.«module») (owned (λ k s. task_item k) (tasks_in ps) (λ (k : Task). k.«module») (λ k s x. refl)) 0 l.modules;
+      invs_by_mode = non_decreasing (mode_invoke_items l ps) (λ (i : Inv). i.mode) invoked 0 l.modes;
+      switches_by_mode = non_decreasing (mode_switch_items l ps) (λ (w : Switch). w.mode) (owned (switch_item l ps) (switches_at ps) (λ (w : Switch). w.mode) (λ m a x. refl)) 0 l.modes;
       comms = All-from_places IsCommInRange (comm_items ps) (comm_in_range ps right);
       modes = All-from_places (IsModeInRange t) (mode_items l ps) (mode_in_range ps right ordered);
       modules = module_in_range ps right ordered;

@@ -1,5 +1,5 @@
 -- The ports, invocations and switches of a tree's tables are in range.
-use Rattle.std.proofs.Common.{◌≡◌, ◌<◌, ◌≤◌, ◌+◌, ℕ, zero, suc, List, [], ◌∷◌, map, length, slice_get, Some, None, refl, sym, ◌∙◌, ap, subst, arith}
+use Rattle.std.proofs.Common.{◌≡◌, ◌<◌, ◌+◌, ℕ, zero, suc, List, [], ◌∷◌, map, length, slice_get, Some, None, refl, sym, ◌∙◌, ap, subst, arith}
 use Rattle.std.specs.Prelude.{Option, IfSome, All}
 use Rattle.std.proofs.lemmas.List.{length-map}
 use Rattle.std.proofs.lemmas.Option.{slice_get_within}
@@ -11,26 +11,27 @@ use Rattle.htl_model.specs.Tables.{mode_module}
 use Rattle.htl_text.specs.Bounds.{comms_of, modules_of, modes_of, invokes_of}
 use Rattle.htl_text.specs.Nodes.{PlainProgram, PlainMode}
 use Rattle.htl_text.specs.declared.tree.Id.{Id}
-use Rattle.htl_text.specs.declared.tree.ParamNode.{ParamNode}
 use Rattle.htl_text.specs.declared.tree.EndNode.{EndNode}
 use Rattle.htl_text.specs.declared.tree.EndNode.TheVariants as end
 use Rattle.htl_text.specs.declared.tree.InvokeNode.{InvokeNode}
 use Rattle.htl_names.specs.Conditions.{MeetsBounds, MeetsInvokeBounds}
 use Rattle.htl_names.specs.declared.fault.NameFault.TheVariants as fault
 use Rattle.htl_names.specs.declared.place.ModeAt.{ModeAt}
-use Rattle.htl_names.specs.Flat.{Layout, layout, symbols_of, meaning, module_number, modes_before, tasks_before, ports_before, mode_number, task_item, task_items, port_item, mode_port_items, port_items, end_item, refined_mode, parent_number, invoke_item, mode_invoke_items, invoke_items, comm_item, tables_of_tree, size_of}
+use Rattle.htl_names.specs.Flat.{Layout, layout, symbols_of, meaning, module_number, modes_before, tasks_before, ports_before, mode_number, task_item, task_items, port_item, port_items, end_item, refined_mode, parent_number, invoke_item, invoke_items, comm_item, tables_of_tree}
 use Rattle.htl_names.specs.Keys.{look_up, comm_key, task_key, port_key, invoke_key}
 use Rattle.htl_names.specs.NameRules.{AreNamesRight, ParentName}
+use Rattle.htl_names.specs.Narrow.{IsNarrowEnd, IsNarrowInvoke}
 use Rattle.htl_names.specs.Order.{order, tasks_at, modes_at, mode_at, ports_at, invokes_at}
 use Rattle.htl_names.specs.Ordered.{IsOrdered, StandsBefore}
 use Rattle.htl_names.specs.Parents.{ParentUse, parents, IsOrphan, parent_in, invoke_parent, mode_parents, module_parents, program_parents}
 use Rattle.htl_names.specs.Programs.{refined_by}
 use Rattle.htl_names.specs.Uses.{uses, usage, comm_use, end_use}
-use Rattle.htl_names.proofs.FlatMaps.{at_part_0, at_flat, part_of_0}
-use Rattle.htl_names.proofs.Kindly.{read_instance, write_instance}
+use Rattle.htl_names.proofs.FlatMaps.{at_part_0, at_flat}
+use Rattle.htl_names.proofs.Listings.{from, stands}
 use Rattle.htl_names.proofs.Meant.{comm_means, task_means, port_means, invoke_means}
 use Rattle.htl_names.proofs.ModuleRanges.{modules_once, meaning_is}
-use Rattle.htl_names.proofs.Numbered.{ModeOf, mode_of_number, mode_count, module_number_is, mode_numbered, task_stands, port_stands, invoke_stands}
+use Rattle.htl_names.proofs.Numbered.{ModeOf, mode_of_number, mode_count, module_number_is, mode_numbered, tasks_in}
+use Rattle.htl_names.proofs.Narrowing.{instances}
 use Rattle.htl_names.proofs.Members.{In, All-from_places, All-at}
 use Rattle.htl_names.proofs.Owners.{of_map}
 use Rattle.htl_names.proofs.Used.{known, task_used, read_used, write_used}
@@ -51,57 +52,14 @@ number_of ps ordered m a f = module_number_is (layout ps) f.number f.«module» 
 
 -- ---- ports
 
-pub record PortFrom (ps : List PlainProgram) (n : ℕ) (y : Port) : Type 0 where
-  pub number : ℕ
-  pub mode : ModeAt
-  pub there : slice_get (layout ps).modes number ≡ Some mode
-  pub place : ℕ
-  pub node : ParamNode
-  pub its : slice_get (ports_at ps mode) place ≡ Some node
-  pub is : port_item number node ≡ y
-
-pub port_from : (ps : List PlainProgram) (n : ℕ) (y : Port) → slice_get (port_items (layout ps) ps) n ≡ Some y → PortFrom ps n y
-port_from ps n y e =
-    let p = part_of_0 (mode_port_items ps) (layout ps).modes n y e in
-    let x = of_map (port_item p.part) (ports_at ps p.owner) p.place y p.item in
-    record { number = p.part; mode = p.owner; there = p.there; place = p.place; node = x.0; its = x.1; is = x.2 }
-
 pub port_in_range : (ps : List PlainProgram) (n : ℕ) (y : Port) → slice_get (port_items (layout ps) ps) n ≡ Some y → IsPortInRange (tables_of_tree ps) y
 port_in_range ps n y e =
-    let f = port_from ps n y e in
-    let within = slice_get_within (layout ps).modes f.number f.mode f.there in
+    let f = from (λ m a. port_item m) (ports_at ps) (layout ps).modes n y e in
+    let within = slice_get_within (layout ps).modes f.number f.owner f.there in
     let size = mode_count (layout ps) ps refl in
     subst (IsPortInRange (tables_of_tree ps)) f.is (omega (arith, within, size))
 
 -- ---- invocations
-
-pub record InvokeFrom (ps : List PlainProgram) (y : Inv) : Type 0 where
-  pub number : ℕ
-  pub mode : ModeAt
-  pub there : slice_get (layout ps).modes number ≡ Some mode
-  pub owner : ModeOf (layout ps) ps number mode
-  pub place : ℕ
-  pub node : InvokeNode
-  pub its : slice_get owner.node.invokes place ≡ Some node
-  pub is : invoke_item (layout ps) ps number mode node ≡ y
-
-pub invoke_from : (ps : List PlainProgram) (n : ℕ) (y : Inv) → slice_get (invoke_items (layout ps) ps) n ≡ Some y → InvokeFrom ps y
-invoke_from ps n y e =
-    let l = layout ps in
-    let p = part_of_0 (mode_invoke_items l ps) l.modes n y e in
-    let a = p.owner in
-    let f = mode_of_number l ps refl p.part a p.there in
-    let x = of_map (invoke_item l ps p.part a) (invokes_at ps a) p.place y p.item in
-    record {
-      number = p.part;
-      mode = a;
-      there = p.there;
-      owner = f;
-      place = p.place;
-      node = x.0;
-      its = sym (ap (λ is. slice_get is p.place) (of_mode ps a f.node (λ z. z.invokes) f.its)) ∙ x.1;
-      is = x.2;
-    }
 
 task_in_module : (ps : List PlainProgram) → AreNamesRight ps → IsOrdered (symbols_of ps) ps (order (symbols_of ps) ps) → (m : ℕ) (a : ModeAt) (f : ModeOf (layout ps) ps m a) (j : ℕ) (i : InvokeNode)
     → slice_get f.node.invokes j ≡ Some i
@@ -119,7 +77,7 @@ task_in_module ps right ordered m a f j i its =
       task_item f.number t.0,
       ap (λ (k : ℕ). slice_get (task_items l ps) (tasks_before l ps k + meaning l key)) number
           ∙ ap (λ (k : ℕ). slice_get (task_items l ps) (tasks_before l ps f.number + k)) same
-          ∙ task_stands l ps f.number n.0 f.«module» t.0 f.there own,
+          ∙ stands (λ k s. task_item k) (tasks_in ps) l.modules f.number n.0 f.«module» t.0 f.there own,
       sym (owner_of ps m a f),
     )
 
@@ -128,12 +86,8 @@ task_in_module ps right ordered m a f j i its =
 abbrev IsUsed : List PlainProgram → ℕ → ℕ → ℕ → EndNode → Type 0
 IsUsed ps p u m e = In (end_use p u m e) (uses ps)
 
-abbrev HasInstance : EndNode → Type 0
-HasInstance (end.Comm comm instance) = size_of instance.x ≤ 1000000
-HasInstance (end.Port port) = Unit {0}
-
 end_in_range : (ps : List PlainProgram) → AreNamesRight ps → (m : ℕ) (a : ModeAt) (f : ModeOf (layout ps) ps m a) → slice_get (layout ps).modes m ≡ Some a
-    → (e : EndNode) → IsUsed ps a.program a.«module» a.mode e → HasInstance e → IsEndInRange (tables_of_tree ps) m (end_item (layout ps) ps m a e)
+    → (e : EndNode) → IsUsed ps a.program a.«module» a.mode e → IsNarrowEnd e → IsEndInRange (tables_of_tree ps) m (end_item (layout ps) ps m a e)
 end_in_range ps right m a f there (end.Comm comm instance) used few =
     let key = comm_key comm.name in
     let n = known ps right (comm_use comm) used in
@@ -149,31 +103,15 @@ end_in_range ps right m a f there (end.Port port) used few =
     let x = port_means ps a.program a.«module» a.mode port.name n.0 n.1 in
     let same = meaning_is ps key n.0 n.1 in
     let own : slice_get (ports_at ps a) n.0 ≡ Some x.2 = ap (λ qs. slice_get qs n.0) (of_mode ps a x.0 (λ z. z.ports) x.1) ∙ x.3 in
-    (port_item m x.2, ap (λ (k : ℕ). slice_get (port_items l ps) (ports_before l ps m + k)) same ∙ port_stands l ps m n.0 a x.2 there own, refl)
+    (port_item m x.2, ap (λ (k : ℕ). slice_get (port_items l ps) (ports_before l ps m + k)) same ∙ stands (λ m a. port_item m) (ports_at ps) l.modes m n.0 a x.2 there own, refl)
 
-reads_in_range : (ps : List PlainProgram) → AreNamesRight ps → (m : ℕ) (a : ModeAt) (f : ModeOf (layout ps) ps m a) → slice_get (layout ps).modes m ≡ Some a → (j : ℕ) (i : InvokeNode)
-    → slice_get f.node.invokes j ≡ Some i → All (IsEndInRange (tables_of_tree ps) m) (map (end_item (layout ps) ps m a) i.reads)
-reads_in_range ps right m a f there j i its =
-    All-from_places (IsEndInRange (tables_of_tree ps) m) (map (end_item (layout ps) ps m a) i.reads) (λ n y e.
-    let x = of_map (end_item (layout ps) ps m a) i.reads n y e in
-    subst (IsEndInRange (tables_of_tree ps) m) x.2
-    (end_in_range ps right m a f there x.0 (read_used ps a.program a.«module» a.mode j f.node i n x.0 f.its its x.1) (has x.0 n x.1)))
-  where
-    has : (e : EndNode) (n : ℕ) → slice_get i.reads n ≡ Some e → HasInstance e
-    has (end.Comm comm instance) n at = read_instance ps right a.program a.«module» a.mode j n f.node i comm instance f.its its at
-    has (end.Port port) n at = tt
-
-writes_in_range : (ps : List PlainProgram) → AreNamesRight ps → (m : ℕ) (a : ModeAt) (f : ModeOf (layout ps) ps m a) → slice_get (layout ps).modes m ≡ Some a → (j : ℕ) (i : InvokeNode)
-    → slice_get f.node.invokes j ≡ Some i → All (IsEndInRange (tables_of_tree ps) m) (map (end_item (layout ps) ps m a) i.writes)
-writes_in_range ps right m a f there j i its =
-    All-from_places (IsEndInRange (tables_of_tree ps) m) (map (end_item (layout ps) ps m a) i.writes) (λ n y e.
-    let x = of_map (end_item (layout ps) ps m a) i.writes n y e in
-    subst (IsEndInRange (tables_of_tree ps) m) x.2
-    (end_in_range ps right m a f there x.0 (write_used ps a.program a.«module» a.mode j f.node i n x.0 f.its its x.1) (has x.0 n x.1)))
-  where
-    has : (e : EndNode) (n : ℕ) → slice_get i.writes n ≡ Some e → HasInstance e
-    has (end.Comm comm instance) n at = write_instance ps right a.program a.«module» a.mode j n f.node i comm instance f.its its at
-    has (end.Port port) n at = tt
+ends_in_range : (ps : List PlainProgram) → AreNamesRight ps → (m : ℕ) (a : ModeAt) (f : ModeOf (layout ps) ps m a) → slice_get (layout ps).modes m ≡ Some a → (es : List EndNode)
+    → ((n : ℕ) (e : EndNode) → slice_get es n ≡ Some e → IsUsed ps a.program a.«module» a.mode e × IsNarrowEnd e) → All (IsEndInRange (tables_of_tree ps) m) (map (end_item (layout ps) ps m a) es)
+ends_in_range ps right m a f there es holds =
+    All-from_places (IsEndInRange (tables_of_tree ps) m) (map (end_item (layout ps) ps m a) es) (λ n y e.
+    let x = of_map (end_item (layout ps) ps m a) es n y e in
+    let h = holds n x.0 x.1 in
+    subst (IsEndInRange (tables_of_tree ps) m) x.2 (end_in_range ps right m a f there x.0 h.0 h.1))
 
 -- ---- parents
 
@@ -242,8 +180,8 @@ parent_within ps right ordered m a f j i its (Some id) is = by f.«module».pare
         let key = invoke_key b.program b.«module» b.mode id.name in
         let y = invoke_means ps b.program b.«module» b.mode id.name n.0 n.1 in
         let own : slice_get (invokes_at ps b) n.0 ≡ Some y.2 = ap (λ is. slice_get is n.0) (of_mode ps b y.0 (λ z. z.invokes) y.1) ∙ y.3 in
-        let stands = invoke_stands (layout ps) ps (mode_number (layout ps) ps b) n.0 b y.2 (mode_there ps ordered f.number b before) own in
-        let within = slice_get_within (invoke_items (layout ps) ps) _ _ stands in
+        let found = stands (invoke_item (layout ps) ps) (invokes_at ps) (layout ps).modes (mode_number (layout ps) ps b) n.0 b y.2 (mode_there ps ordered f.number b before) own in
+        let within = slice_get_within (invoke_items (layout ps) ps) _ _ found in
         let same = meaning_is ps key n.0 n.1 in
         subst (λ (o : Option ModeAt). IfSome (parent_number (layout ps) ps o id) (λ p. p < length (invoke_items (layout ps) ps))) (sym (refined_is ∙ some)) (omega (arith, within, same))
 
@@ -257,22 +195,29 @@ invoke_small ps small p u m j x i there its =
 pub invoke_in_range : (ps : List PlainProgram) → MeetsBounds ps → AreNamesRight ps → IsOrdered (symbols_of ps) ps (order (symbols_of ps) ps) → (n : ℕ) (y : Inv)
     → slice_get (invoke_items (layout ps) ps) n ≡ Some y → IsInvInRange (tables_of_tree ps) y
 invoke_in_range ps small right ordered n y e =
-    let g = invoke_from ps n y e in
-    let f = g.owner in
-    let a = g.mode in
+    let l = layout ps in
+    let g = from (invoke_item l ps) (invokes_at ps) l.modes n y e in
+    let a = g.owner in
     let i = g.node in
-    let within = slice_get_within (layout ps).modes g.number a g.there in
-    let size = mode_count (layout ps) ps refl in
-    let few = invoke_small ps small a.program a.«module» a.mode g.place f.node i f.its g.its in
-    let reads = length-map i.reads (end_item (layout ps) ps g.number a) in
-    let writes = length-map i.writes (end_item (layout ps) ps g.number a) in
+    let f = mode_of_number l ps refl g.number a g.there in
+    let its : slice_get f.node.invokes g.place ≡ Some i = sym (ap (λ is. slice_get is g.place) (of_mode ps a f.node (λ z. z.invokes) f.its)) ∙ g.its in
+    let within = slice_get_within l.modes g.number a g.there in
+    let size = mode_count l ps refl in
+    let few = invoke_small ps small a.program a.«module» a.mode g.place f.node i f.its its in
+    let narrow = All-at IsNarrowInvoke (invokes_at ps a) g.place i (instances ps right a) g.its in
+    let reads = length-map i.reads (end_item l ps g.number a) in
+    let writes = length-map i.writes (end_item l ps g.number a) in
     subst (IsInvInRange (tables_of_tree ps)) g.is
     (record {
       owner = omega (arith, within, size);
-      task = task_in_module ps right ordered g.number a f g.place i g.its;
-      parent = parent_within ps right ordered g.number a f g.place i g.its i.parent refl;
-      reads = reads_in_range ps right g.number a f g.there g.place i g.its;
-      writes = writes_in_range ps right g.number a f g.there g.place i g.its;
+      task = task_in_module ps right ordered g.number a f g.place i its;
+      parent = parent_within ps right ordered g.number a f g.place i its i.parent refl;
+      reads =
+          ends_in_range ps right g.number a f g.there i.reads
+          (λ k x at. (read_used ps a.program a.«module» a.mode g.place f.node i k x f.its its at, All-at IsNarrowEnd i.reads k x narrow.reads at));
+      writes =
+          ends_in_range ps right g.number a f g.there i.writes
+          (λ k x at. (write_used ps a.program a.«module» a.mode g.place f.node i k x f.its its at, All-at IsNarrowEnd i.writes k x narrow.writes at));
       few_reads = omega (arith, reads, few.reads);
       few_writes = omega (arith, writes, few.writes);
     })

@@ -26,8 +26,8 @@ use Rattle.htl_names.specs.declared.place.ModeAt.{ModeAt}
 use Rattle.htl_names.specs.declared.place.ModuleAt.{ModuleAt}
 use Rattle.htl_names.proofs.InRange.{names-in-range}
 use Rattle.htl_names.proofs.ModuleRanges.{modules_exist}
-use Rattle.htl_names.proofs.NameRanges.{modes_owned, invokes_owned}
-use Rattle.htl_names.proofs.Numbered.{AreModules, mode_count, module_count, mode_of_number, one_module}
+use Rattle.htl_names.proofs.Listings.{owned}
+use Rattle.htl_names.proofs.Numbered.{AreModules, modes_in, mode_count, module_count, mode_of_number, one_module}
 use Rattle.htl_names.proofs.Ordering.{kept_limit, names-ordered}
 use Rattle.htl_names.proofs.Owners.{owned_count, to_map}
 use Rattle.htl_names.proofs.Totals.{greatest_at, map_places}
@@ -50,10 +50,6 @@ kept_product true f s ss = refl
 kept_product false f s ss = omega arith
 
 -- ---- the root modules of a source
-
--- the modes of the module of a module
-abbrev modes_in : List PlainProgram → ModuleAt → List PlainMode
-modes_in ps s = modes_at ps s.program s.«module»
 
 root_modules_are : (ps : List PlainProgram) → modules_at ps 0 ≡ tree.root_modules ps
 root_modules_are [] = refl
@@ -81,13 +77,13 @@ root_item ps k s x = by s.parent
 modes_counted : (ps : List PlainProgram) (k : ℕ) (s : ModuleAt) → slice_get (layout ps).modules k ≡ Some s → length (modes_of (tables_of_tree ps) k) ≡ length (modes_in ps s)
 modes_counted ps k s there =
     length-places (mode_of_module k) 0 (tables_of_tree ps).modes
-    ∙ owned_count (module_mode_items ps) (λ (m : Mode). m.«module») k (modes_owned ps) 0 (layout ps).modules k s (omega arith) there
+    ∙ owned_count (module_mode_items ps) (λ (m : Mode). m.«module») k (owned (λ k s. mode_item k) (modes_in ps) (λ (m : Mode). m.«module») (λ k s x. refl)) 0 (layout ps).modules k s (omega arith) there
     ∙ length-map (modes_in ps s) (mode_item k)
 
 invokes_counted : (ps : List PlainProgram) (m : ℕ) (a : ModeAt) → slice_get (layout ps).modes m ≡ Some a → length (invs_of (tables_of_tree ps) m) ≡ length (invokes_at ps a)
 invokes_counted ps m a there =
     length-places (inv_of_mode m) 0 (tables_of_tree ps).invs
-    ∙ owned_count (mode_invoke_items (layout ps) ps) (λ (i : Inv). i.mode) m (invokes_owned (layout ps) ps) 0 (layout ps).modes m a (omega arith) there
+    ∙ owned_count (mode_invoke_items (layout ps) ps) (λ (i : Inv). i.mode) m (owned (invoke_item (layout ps) ps) (invokes_at ps) (λ (i : Inv). i.mode) (λ m a x. refl)) 0 (layout ps).modes m a (omega arith) there
     ∙ length-map (invokes_at ps a) (invoke_item (layout ps) ps m a)
 
 -- ---- along the modules

@@ -1,15 +1,35 @@
 -- Levels by the table of refined modes.
-use Rattle.std.proofs.Common.{◌≡◌, ◌<◌, ◌+◌, ◌-◌, ℕ, zero, suc, max, List, [], ◌∷◌, ◌++◌, length, Option, Some, None, refl, sym, ◌∙◌, ap, arith, add-one}
+use Rattle.std.proofs.Common.{◌≡◌, ◌<◌, ◌+◌, ◌-◌, ℕ, zero, suc, max, Bool, true, false, eqb, List, [], ◌∷◌, ◌++◌, length, Option, Some, None, refl, sym, ◌∙◌, ap, subst, arith, add-one}
 use Rattle.htl_model.specs.Lists.{list_to}
 use Rattle.htl_model.specs.Tables.{greatest}
 use Rattle.htl_model.proofs.Listed.{length-list_to, get_list_to}
-use Rattle.std.proofs.lemmas.Option.{slice_get-get_or}
+use Rattle.std.proofs.lemmas.Option.{slice_get-get_or, slice_get_within, none-some, same_Some}
 use Rattle.htl_text.specs.Nodes.{PlainProgram}
 use Rattle.htl_names.specs.declared.key.Key.{Key}
 use Rattle.htl_names.specs.declared.place.ModeAt.{ModeAt}
 use Rattle.htl_names.specs.LevelTable.{above, program_above, level_by, levels_by}
-use Rattle.htl_names.specs.Programs.{Naming, naming, refined_in, refined_by, level, levels}
-use Rattle.htl_names.proofs.NamingPlaces.{refined-is-below}
+use Rattle.htl_names.specs.Programs.{Naming, program_naming, naming, refined_in, refined_by, level, levels}
+use Rattle.htl_names.proofs.Members.{Each, each_flat_map_at, each_weaker, at_place}
+use Rattle.htl_names.proofs.Naming.{Names, row_names}
+
+-- ---- a mode that names a program stands in a program of the source
+
+naming_below : (symbols : List (Key × ℕ)) (ps : List PlainProgram) → Each (λ (x : Naming). x.0.program < length ps) (naming symbols ps)
+naming_below symbols ps =
+    each_flat_map_at (λ (x : Naming). x.0.program < length ps) (program_naming symbols) 0 ps (λ p j x is there.
+    let within = slice_get_within ps j x there in
+    each_weaker (λ (y : Naming). (y.0.program ≡ p) × Names symbols ps y.0 y.1) (λ (y : Naming). y.0.program < length ps) (λ y own. let same = own.0 in omega (arith, is, within, same))
+    (program_naming symbols p x) (row_names symbols ps p x (at_place ps p j x is there)))
+
+refined_below : (n q : ℕ) (a : ModeAt) (xs : List Naming) → Each (λ (x : Naming). x.0.program < n) xs → refined_in q xs ≡ Some a → a.program < n
+refined_below n q a [] h e = absurd (none-some {A = ModeAt} a e)
+refined_below n q a (x ∷ xs) h e = by (λ f. refined_below n q a xs h.1 f) (eqb x.1 q) e
+  where
+    by : (refined_in q xs ≡ Some a → a.program < n) → (b : Bool) → ◌≡◌ {A = Option ModeAt} (elim b [ true ↦ Some x.0 | false ↦ refined_in q xs ]) (Some a) → a.program < n
+    by later true f = subst (λ (y : ModeAt). y.program < n) (same_Some {A = ModeAt} x.0 a f) h.0
+    by later false f = later f
+
+-- ---- steps of the search
 
 pub greatest-push : (x : ℕ) (xs : List ℕ) (y : ℕ) → greatest x (xs ++ y ∷ []) ≡ max (greatest x xs) y
 greatest-push x [] y = refl
@@ -61,7 +81,7 @@ table-level : (symbols : List (Key × ℕ)) (ps : List PlainProgram) (n p : ℕ)
 table-level symbols ps zero p small = refl
 table-level symbols ps (suc n) p small =
     above-level (naming symbols ps) (list_to (refined_by symbols ps) (length ps)) n p (table-above (refined_by symbols ps) (length ps) p small)
-    (λ a e. table-level symbols ps n a.program (refined-is-below symbols ps p a e))
+    (λ a e. table-level symbols ps n a.program (refined_below (length ps) p a (naming symbols ps) (naming_below symbols ps) e))
 
 pub table-levels : (symbols : List (Key × ℕ)) (ps : List PlainProgram) (refined : List (Option ModeAt))
     → refined ≡ list_to (refined_by symbols ps) (length ps) → levels_by refined ≡ levels symbols ps

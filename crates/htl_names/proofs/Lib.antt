@@ -10,7 +10,6 @@ mod Examples
 mod ExcessLaws
 mod FirstLaws
 mod FlatMaps
-mod Homes
 pub mod InRange
 mod InvokeRanges
 pub mod KeepsLimits
@@ -22,12 +21,12 @@ mod LevelLaws
 mod Leveled
 mod LimitLaws
 mod Meant
+mod Listings
 pub mod Members
 mod ModulePlaces
 mod ModuleRanges
 mod NameRanges
 mod Naming
-mod NamingPlaces
 mod Narrowing
 mod Numbered
 pub mod OneFault

@@ -1,5 +1,5 @@
 -- What a name means: an item of its list, with that name.
-use Rattle.std.proofs.Common.{◌≡◌, ℕ, zero, suc, Bool, true, false, cond, List, [], ◌∷◌, map, slice_get, Some, refl, sym, ◌∙◌, ap, subst, arith, ◌<◌, ◌⊎◌, inl, inr}
+use Rattle.std.proofs.Common.{◌≡◌, ℕ, zero, suc, Bool, true, false, cond, List, [], ◌∷◌, map, slice_get, Some, refl, sym, ◌∙◌, ap, subst, ◌<◌, ◌⊎◌, inl, inr}
 use Rattle.htl_text.specs.Bounds.{comms_of}
 use Rattle.htl_text.specs.Nodes.{PlainProgram, PlainMode, PlainTask}
 use Rattle.htl_text.specs.declared.tree.CommNode.{CommNode}
@@ -8,9 +8,11 @@ use Rattle.htl_text.specs.declared.tree.InvokeNode.{InvokeNode}
 use Rattle.htl_names.specs.declared.fault.NameFault.TheVariants as fault
 use Rattle.htl_names.specs.declared.key.Entry.{Entry}
 use Rattle.htl_names.specs.declared.key.Key.{Key}
+use Rattle.htl_names.specs.declared.key.Space.{Space}
+use Rattle.htl_names.specs.declared.key.Space.TheVariants as space
 use Rattle.htl_names.specs.Entries.{entries}
 use Rattle.htl_names.specs.Flat.{symbols_of}
-use Rattle.htl_names.specs.Keys.{space_code, same_key, look_up, pair_of, comm_key, task_key, mode_key, port_key, invoke_key}
+use Rattle.htl_names.specs.Keys.{same_key, look_up, pair_of, comm_key, task_key, mode_key, port_key, invoke_key}
 use Rattle.htl_names.specs.NameRules.{AreNamesRight, RepeatedName}
 use Rattle.htl_names.specs.Order.{tasks_at, modes_at}
 use Rattle.htl_names.specs.SameKeys.{same_key_decides}
@@ -60,88 +62,47 @@ some (x ∷ xs) k e at = by (same_key e.key x.key) refl k at (some xs)
         absurd cc
     by false is (suc k) at later = let r = later k e at in (r.0, ap (λ b. cond b (Some x.number) (look_up e.key (map pair_of xs))) is ∙ r.1)
 
--- it is found with its number
-pub finds : (ps : List PlainProgram) → AreNamesRight ps → (e : Entry) → In e (entries ps) → look_up e.key (symbols_of ps) ≡ Some e.number
-finds ps right e a =
-    let s = some (entries ps) a.0 e a.1 in
-    let f = found e.key (entries ps) s.0 s.1 in
-    let same = one_entry ps right f.0 e f.1 a f.2 in
-    s.1 ∙ ap Some (sym f.3 ∙ ap (λ (d : Entry). d.number) same)
-
 -- ---- what is found stands in its list
 
-code_of : (a b : Key) → a ≡ b → space_code a.space ≡ space_code b.space
-code_of a b e = ap (λ (k : Key). space_code k.space) e
+-- the item with the key's name at place n of the key's list
+abbrev Stands : List PlainProgram → Space → Key → ℕ → Type 0
+Stands ps space.Programs key n = Unit {0}
+Stands ps space.Comms key n = (x : CommNode) × (slice_get (comms_of ps) n ≡ Some x) × (x.name.name ≡ key.name)
+Stands ps space.Modules key n = Unit {0}
+Stands ps space.Tasks key n = (t : PlainTask) × (slice_get (tasks_at ps key.program key.«module») n ≡ Some t) × (t.name.name ≡ key.name)
+Stands ps space.Modes key n = (x : PlainMode) × (slice_get (modes_at ps key.program key.«module») n ≡ Some x) × (x.name.name ≡ key.name)
+Stands ps space.Params key n = Unit {0}
+Stands ps space.Ports key n =
+    (x : PlainMode) × (slice_get (modes_at ps key.program key.«module») key.item ≡ Some x) × (y : ParamNode) × (slice_get x.ports n ≡ Some y) × (y.name.name ≡ key.name)
+Stands ps space.Invokes key n =
+    (x : PlainMode) × (slice_get (modes_at ps key.program key.«module») key.item ≡ Some x) × (y : InvokeNode) × (slice_get x.invokes n ≡ Some y) × (y.task.name ≡ key.name)
 
-moved_tasks : (ps : List PlainProgram) (q v i p u k : ℕ) (t : PlainTask) → q ≡ p → v ≡ u → i ≡ k → slice_get (tasks_at ps q v) i ≡ Some t → slice_get (tasks_at ps p u) k ≡ Some t
-moved_tasks ps q v i p u k t a b c e =
-    subst (λ (n : ℕ). slice_get (tasks_at ps n u) k ≡ Some t) a (subst (λ (n : ℕ). slice_get (tasks_at ps q n) k ≡ Some t) b (subst (λ (n : ℕ). slice_get (tasks_at ps q v) n ≡ Some t) c e))
+stands : (ps : List PlainProgram) (e : Entry) → Origin ps e → Stands ps e.key.space e.key e.number
+stands ps e (of_program p x there) = tt
+stands ps e (of_comm c x there) = (x, there, refl)
+stands ps e (of_module p u x there) = tt
+stands ps e (of_task p u k t there) = (t, there, refl)
+stands ps e (of_param p u k t there j x at) = tt
+stands ps e (of_mode p u m x there) = (x, there, refl)
+stands ps e (of_port p u m x there j y at) = (x, there, y, at, refl)
+stands ps e (of_invoke p u m x there j y at) = (x, there, y, at, refl)
 
-moved_modes : (ps : List PlainProgram) (q v i p u k : ℕ) (x : PlainMode) → q ≡ p → v ≡ u → i ≡ k → slice_get (modes_at ps q v) i ≡ Some x → slice_get (modes_at ps p u) k ≡ Some x
-moved_modes ps q v i p u k x a b c e =
-    subst (λ (n : ℕ). slice_get (modes_at ps n u) k ≡ Some x) a (subst (λ (n : ℕ). slice_get (modes_at ps q n) k ≡ Some x) b (subst (λ (n : ℕ). slice_get (modes_at ps q v) n ≡ Some x) c e))
-
-comm_of : (ps : List PlainProgram) (n : List ℕ) (k : ℕ) (e : Entry) → Origin ps e → e.key ≡ comm_key n → e.number ≡ k → (x : CommNode) × (slice_get (comms_of ps) k ≡ Some x) × (x.name.name ≡ n)
-comm_of ps n k e (of_program q x there) same is = let code : space_code e.key.space ≡ 1 = ap (λ (a : Key). space_code a.space) same in absurd (omega (arith, code))
-comm_of ps n k e (of_comm c x there) same is = let number : c ≡ k = is in (x, sym (ap (slice_get (comms_of ps)) number) ∙ there, ap (λ (a : Key). a.name) same)
-comm_of ps n k e (of_module q v x there) same is = let code : space_code e.key.space ≡ 1 = ap (λ (a : Key). space_code a.space) same in absurd (omega (arith, code))
-comm_of ps n k e (of_task q v i t there) same is = let code : space_code e.key.space ≡ 1 = ap (λ (a : Key). space_code a.space) same in absurd (omega (arith, code))
-comm_of ps n k e (of_param q v i t there j x at) same is = let code : space_code e.key.space ≡ 1 = ap (λ (a : Key). space_code a.space) same in absurd (omega (arith, code))
-comm_of ps n k e (of_mode q v i x there) same is = let code : space_code e.key.space ≡ 1 = ap (λ (a : Key). space_code a.space) same in absurd (omega (arith, code))
-comm_of ps n k e (of_port q v i x there j y at) same is = let code : space_code e.key.space ≡ 1 = ap (λ (a : Key). space_code a.space) same in absurd (omega (arith, code))
-comm_of ps n k e (of_invoke q v i x there j y at) same is = let code : space_code e.key.space ≡ 1 = ap (λ (a : Key). space_code a.space) same in absurd (omega (arith, code))
+means : (ps : List PlainProgram) (key : Key) (k : ℕ) → look_up key (symbols_of ps) ≡ Some k → Stands ps key.space key k
+means ps key k got =
+    let f = found key (entries ps) k got in
+    subst (λ (n : ℕ). Stands ps key.space key n) f.3 (subst (λ (a : Key). Stands ps a.space a f.0.number) f.2 (stands ps f.0 (origin ps f.1.0 f.0 f.1.1)))
 
 pub comm_means : (ps : List PlainProgram) (n : List ℕ) (k : ℕ) → look_up (comm_key n) (symbols_of ps) ≡ Some k → (x : CommNode) × (slice_get (comms_of ps) k ≡ Some x) × (x.name.name ≡ n)
-comm_means ps n k got = let f = found (comm_key n) (entries ps) k got in comm_of ps n k f.0 (origin ps f.1.0 f.0 f.1.1) f.2 f.3
-
-task_of : (ps : List PlainProgram) (p u : ℕ) (n : List ℕ) (k : ℕ) (e : Entry) → Origin ps e → e.key ≡ task_key p u n → e.number ≡ k → (t : PlainTask) × (slice_get (tasks_at ps p u) k ≡ Some t) × (t.name.name ≡ n)
-task_of ps p u n k e (of_program q x there) same is = let code : space_code e.key.space ≡ 3 = ap (λ (a : Key). space_code a.space) same in absurd (omega (arith, code))
-task_of ps p u n k e (of_comm c x there) same is = let code : space_code e.key.space ≡ 3 = ap (λ (a : Key). space_code a.space) same in absurd (omega (arith, code))
-task_of ps p u n k e (of_module q v x there) same is = let code : space_code e.key.space ≡ 3 = ap (λ (a : Key). space_code a.space) same in absurd (omega (arith, code))
-task_of ps p u n k e (of_task q v i t there) same is = (t, moved_tasks ps q v i p u k t (ap (λ (a : Key). a.program) same) (ap (λ (a : Key). a.«module») same) is there, ap (λ (a : Key). a.name) same)
-task_of ps p u n k e (of_param q v i t there j x at) same is = let code : space_code e.key.space ≡ 3 = ap (λ (a : Key). space_code a.space) same in absurd (omega (arith, code))
-task_of ps p u n k e (of_mode q v i x there) same is = let code : space_code e.key.space ≡ 3 = ap (λ (a : Key). space_code a.space) same in absurd (omega (arith, code))
-task_of ps p u n k e (of_port q v i x there j y at) same is = let code : space_code e.key.space ≡ 3 = ap (λ (a : Key). space_code a.space) same in absurd (omega (arith, code))
-task_of ps p u n k e (of_invoke q v i x there j y at) same is = let code : space_code e.key.space ≡ 3 = ap (λ (a : Key). space_code a.space) same in absurd (omega (arith, code))
+comm_means ps n k got = means ps (comm_key n) k got
 
 pub task_means : (ps : List PlainProgram) (p u : ℕ) (n : List ℕ) (k : ℕ) → look_up (task_key p u n) (symbols_of ps) ≡ Some k → (t : PlainTask) × (slice_get (tasks_at ps p u) k ≡ Some t) × (t.name.name ≡ n)
-task_means ps p u n k got = let f = found (task_key p u n) (entries ps) k got in task_of ps p u n k f.0 (origin ps f.1.0 f.0 f.1.1) f.2 f.3
-
-mode_of : (ps : List PlainProgram) (p u : ℕ) (n : List ℕ) (k : ℕ) (e : Entry) → Origin ps e → e.key ≡ mode_key p u n → e.number ≡ k → (x : PlainMode) × (slice_get (modes_at ps p u) k ≡ Some x) × (x.name.name ≡ n)
-mode_of ps p u n k e (of_program q x there) same is = let code : space_code e.key.space ≡ 4 = ap (λ (a : Key). space_code a.space) same in absurd (omega (arith, code))
-mode_of ps p u n k e (of_comm c x there) same is = let code : space_code e.key.space ≡ 4 = ap (λ (a : Key). space_code a.space) same in absurd (omega (arith, code))
-mode_of ps p u n k e (of_module q v x there) same is = let code : space_code e.key.space ≡ 4 = ap (λ (a : Key). space_code a.space) same in absurd (omega (arith, code))
-mode_of ps p u n k e (of_task q v i t there) same is = let code : space_code e.key.space ≡ 4 = ap (λ (a : Key). space_code a.space) same in absurd (omega (arith, code))
-mode_of ps p u n k e (of_param q v i t there j x at) same is = let code : space_code e.key.space ≡ 4 = ap (λ (a : Key). space_code a.space) same in absurd (omega (arith, code))
-mode_of ps p u n k e (of_mode q v i x there) same is = (x, moved_modes ps q v i p u k x (ap (λ (a : Key). a.program) same) (ap (λ (a : Key). a.«module») same) is there, ap (λ (a : Key). a.name) same)
-mode_of ps p u n k e (of_port q v i x there j y at) same is = let code : space_code e.key.space ≡ 4 = ap (λ (a : Key). space_code a.space) same in absurd (omega (arith, code))
-mode_of ps p u n k e (of_invoke q v i x there j y at) same is = let code : space_code e.key.space ≡ 4 = ap (λ (a : Key). space_code a.space) same in absurd (omega (arith, code))
+task_means ps p u n k got = means ps (task_key p u n) k got
 
 pub mode_means : (ps : List PlainProgram) (p u : ℕ) (n : List ℕ) (k : ℕ) → look_up (mode_key p u n) (symbols_of ps) ≡ Some k → (x : PlainMode) × (slice_get (modes_at ps p u) k ≡ Some x) × (x.name.name ≡ n)
-mode_means ps p u n k got = let f = found (mode_key p u n) (entries ps) k got in mode_of ps p u n k f.0 (origin ps f.1.0 f.0 f.1.1) f.2 f.3
-
-port_of : (ps : List PlainProgram) (p u m : ℕ) (n : List ℕ) (k : ℕ) (e : Entry) → Origin ps e → e.key ≡ port_key p u m n → e.number ≡ k → (x : PlainMode) × (slice_get (modes_at ps p u) m ≡ Some x) × (y : ParamNode) × (slice_get x.ports k ≡ Some y) × (y.name.name ≡ n)
-port_of ps p u m n k e (of_program q x there) same is = let code : space_code e.key.space ≡ 6 = ap (λ (a : Key). space_code a.space) same in absurd (omega (arith, code))
-port_of ps p u m n k e (of_comm c x there) same is = let code : space_code e.key.space ≡ 6 = ap (λ (a : Key). space_code a.space) same in absurd (omega (arith, code))
-port_of ps p u m n k e (of_module q v x there) same is = let code : space_code e.key.space ≡ 6 = ap (λ (a : Key). space_code a.space) same in absurd (omega (arith, code))
-port_of ps p u m n k e (of_task q v i t there) same is = let code : space_code e.key.space ≡ 6 = ap (λ (a : Key). space_code a.space) same in absurd (omega (arith, code))
-port_of ps p u m n k e (of_param q v i t there j x at) same is = let code : space_code e.key.space ≡ 6 = ap (λ (a : Key). space_code a.space) same in absurd (omega (arith, code))
-port_of ps p u m n k e (of_mode q v i x there) same is = let code : space_code e.key.space ≡ 6 = ap (λ (a : Key). space_code a.space) same in absurd (omega (arith, code))
-port_of ps p u m n k e (of_port q v i x there j y at) same is = (x, moved_modes ps q v i p u m x (ap (λ (a : Key). a.program) same) (ap (λ (a : Key). a.«module») same) (ap (λ (a : Key). a.item) same) there, y, sym (ap (slice_get x.ports) is) ∙ at, ap (λ (a : Key). a.name) same)
-port_of ps p u m n k e (of_invoke q v i x there j y at) same is = let code : space_code e.key.space ≡ 6 = ap (λ (a : Key). space_code a.space) same in absurd (omega (arith, code))
+mode_means ps p u n k got = means ps (mode_key p u n) k got
 
 pub port_means : (ps : List PlainProgram) (p u m : ℕ) (n : List ℕ) (k : ℕ) → look_up (port_key p u m n) (symbols_of ps) ≡ Some k → (x : PlainMode) × (slice_get (modes_at ps p u) m ≡ Some x) × (y : ParamNode) × (slice_get x.ports k ≡ Some y) × (y.name.name ≡ n)
-port_means ps p u m n k got = let f = found (port_key p u m n) (entries ps) k got in port_of ps p u m n k f.0 (origin ps f.1.0 f.0 f.1.1) f.2 f.3
-
-invoke_of : (ps : List PlainProgram) (p u m : ℕ) (n : List ℕ) (k : ℕ) (e : Entry) → Origin ps e → e.key ≡ invoke_key p u m n → e.number ≡ k → (x : PlainMode) × (slice_get (modes_at ps p u) m ≡ Some x) × (y : InvokeNode) × (slice_get x.invokes k ≡ Some y) × (y.task.name ≡ n)
-invoke_of ps p u m n k e (of_program q x there) same is = let code : space_code e.key.space ≡ 7 = ap (λ (a : Key). space_code a.space) same in absurd (omega (arith, code))
-invoke_of ps p u m n k e (of_comm c x there) same is = let code : space_code e.key.space ≡ 7 = ap (λ (a : Key). space_code a.space) same in absurd (omega (arith, code))
-invoke_of ps p u m n k e (of_module q v x there) same is = let code : space_code e.key.space ≡ 7 = ap (λ (a : Key). space_code a.space) same in absurd (omega (arith, code))
-invoke_of ps p u m n k e (of_task q v i t there) same is = let code : space_code e.key.space ≡ 7 = ap (λ (a : Key). space_code a.space) same in absurd (omega (arith, code))
-invoke_of ps p u m n k e (of_param q v i t there j x at) same is = let code : space_code e.key.space ≡ 7 = ap (λ (a : Key). space_code a.space) same in absurd (omega (arith, code))
-invoke_of ps p u m n k e (of_mode q v i x there) same is = let code : space_code e.key.space ≡ 7 = ap (λ (a : Key). space_code a.space) same in absurd (omega (arith, code))
-invoke_of ps p u m n k e (of_port q v i x there j y at) same is = let code : space_code e.key.space ≡ 7 = ap (λ (a : Key). space_code a.space) same in absurd (omega (arith, code))
-invoke_of ps p u m n k e (of_invoke q v i x there j y at) same is = (x, moved_modes ps q v i p u m x (ap (λ (a : Key). a.program) same) (ap (λ (a : Key). a.«module») same) (ap (λ (a : Key). a.item) same) there, y, sym (ap (slice_get x.invokes) is) ∙ at, ap (λ (a : Key). a.name) same)
+port_means ps p u m n k got = means ps (port_key p u m n) k got
 
 pub invoke_means : (ps : List PlainProgram) (p u m : ℕ) (n : List ℕ) (k : ℕ) → look_up (invoke_key p u m n) (symbols_of ps) ≡ Some k → (x : PlainMode) × (slice_get (modes_at ps p u) m ≡ Some x) × (y : InvokeNode) × (slice_get x.invokes k ≡ Some y) × (y.task.name ≡ n)
-invoke_means ps p u m n k got = let f = found (invoke_key p u m n) (entries ps) k got in invoke_of ps p u m n k f.0 (origin ps f.1.0 f.0 f.1.1) f.2 f.3
+invoke_means ps p u m n k got = means ps (invoke_key p u m n) k got

@@ -6,7 +6,7 @@ use Rattle.std.proofs.lemmas.List.Elements.{All-nil, All-cons, All-get_or}
 use Rattle.std.proofs.lemmas.List.Sums.{sum_by-cons, sum_by-append}
 use Rattle.std.proofs.lemmas.Option.{none-some, same_Some, slice_get_within, slice_get-get_or, get_or_from_slice_get}
 use Rattle.htl_model.specs.Lists.{list_to}
-use Rattle.htl_names.specs.Lists.{flat_map_at}
+use Rattle.htl_names.specs.Lists.{flat_map_at, map_at}
 
 -- P holds of each item
 abbrev pub Each : {A : Type 0} → (A → Type 0) → List A → Type 0
@@ -16,6 +16,9 @@ Each P (x ∷ xs) = P x × Each P xs
 -- y is an item
 abbrev pub In : {A : Type 0} → A → List A → Type 0
 In y xs = (k : ℕ) × (slice_get xs k ≡ Some y)
+
+pub at_place : {B : Type 0} (xs : List B) (i j : ℕ) (x : B) → i ≡ 0 + j → slice_get xs j ≡ Some x → slice_get xs i ≡ Some x
+at_place xs i j x is there = let same : i ≡ j = omega (arith, is) in ap (slice_get xs) same ∙ there
 
 -- ---- each item
 
@@ -33,6 +36,10 @@ module _ {A : Type 0} (P : A → Type 0) where
   each_all [] h = All-nil P
   each_all (x ∷ xs) h = All-cons P x xs h.0 (each_all xs h.1)
 
+  pub each_always : (xs : List A) → ((x : A) → P x) → Each P xs
+  each_always [] h = tt
+  each_always (x ∷ xs) h = (h x, each_always xs h)
+
   pub each_list_to : (f : ℕ → A) (n : ℕ) → ((k : ℕ) → k < n → P (f k)) → Each P (list_to f n)
   each_list_to f zero h = tt
   each_list_to f (suc n) h = each_append (list_to f n) (f n ∷ []) (each_list_to f n (λ k lt. h k (omega arith))) (h n (omega arith), tt)
@@ -47,6 +54,46 @@ module _ {A : Type 0} (P : A → Type 0) where
   each_flat_map_at f k (x ∷ xs) h =
       each_append (f k x) (flat_map_at f (suc k) xs) (h k 0 x (omega arith) refl)
       (each_flat_map_at f (suc k) xs (λ i j y e s. h i (suc j) y (omega (arith, e)) s))
+
+  -- ---- from all to one
+
+  pub each_of_places : (xs : List A) → ((k : ℕ) (x : A) → slice_get xs k ≡ Some x → P x) → Each P xs
+  each_of_places [] h = tt
+  each_of_places (x ∷ xs) h = (h 0 x refl, each_of_places xs (λ k y e. h (suc k) y e))
+
+  pub each_front : (xs ys : List A) → Each P (xs ++ ys) → Each P xs
+  each_front [] ys h = tt
+  each_front (x ∷ xs) ys h = (h.0, each_front xs ys h.1)
+
+  pub each_back : (xs ys : List A) → Each P (xs ++ ys) → Each P ys
+  each_back [] ys h = h
+  each_back (x ∷ xs) ys h = each_back xs ys h.1
+
+  pub each_part : {B : Type 0} (f : B → List A) (xs : List B) (i : ℕ) (x : B) → slice_get xs i ≡ Some x → Each P (flat_map f xs) → Each P (f x)
+  each_part f [] i x e h = absurd (none-some x e)
+  each_part f (y ∷ xs) zero x e h = subst (λ z. Each P (f z)) (same_Some y x e) (each_front (f y) (flat_map f xs) h)
+  each_part f (y ∷ xs) (suc i) x e h = each_part f xs i x e (each_back (f y) (flat_map f xs) h)
+
+  pub each_part_at : {B : Type 0} (f : ℕ → B → List A) (k : ℕ) (xs : List B) (i j : ℕ) (x : B) → i ≡ k + j → slice_get xs j ≡ Some x → Each P (flat_map_at f k xs) → Each P (f i x)
+  each_part_at f k [] i j x is e h = absurd (none-some x e)
+  each_part_at f k (y ∷ xs) i zero x is e h =
+      let same : k ≡ i = omega (arith, is) in
+      subst (λ n. Each P (f n x)) same (subst (λ z. Each P (f k z)) (same_Some y x e) (each_front (f k y) (flat_map_at f (suc k) xs) h))
+  each_part_at f k (y ∷ xs) i (suc j) x is e h = each_part_at f (suc k) xs i j x (omega (arith, is)) e (each_back (f k y) (flat_map_at f (suc k) xs) h)
+
+  pub each_mapped : {B : Type 0} (f : B → A) (xs : List B) (i : ℕ) (x : B) → slice_get xs i ≡ Some x → Each P (map f xs) → P (f x)
+  each_mapped f [] i x e h = absurd (none-some x e)
+  each_mapped f (y ∷ xs) zero x e h = subst (λ z. P (f z)) (same_Some y x e) h.0
+  each_mapped f (y ∷ xs) (suc i) x e h = each_mapped f xs i x e h.1
+
+  pub each_mapped_at : {B : Type 0} (f : ℕ → B → A) (k : ℕ) (xs : List B) (i j : ℕ) (x : B) → i ≡ k + j → slice_get xs j ≡ Some x → Each P (map_at f k xs) → P (f i x)
+  each_mapped_at f k [] i j x is e h = absurd (none-some x e)
+  each_mapped_at f k (y ∷ xs) i zero x is e h =
+      let same : k ≡ i = omega (arith, is) in subst (λ n. P (f n x)) same (subst (λ z. P (f k z)) (same_Some y x e) h.0)
+  each_mapped_at f k (y ∷ xs) i (suc j) x is e h = each_mapped_at f (suc k) xs i j x (omega (arith, is)) e h.1
+
+pub each_in : {A : Type 0} (xs : List A) → Each (λ x. In x xs) xs
+each_in xs = each_of_places (λ x. In x xs) xs (λ k x e. (k, e))
 
 pub each_weaker : {A : Type 0} (P Q : A → Type 0) → ((x : A) → P x → Q x) → (xs : List A) → Each P xs → Each Q xs
 each_weaker P Q f [] h = tt

@@ -13,18 +13,18 @@ use Rattle.htl_text.specs.Nodes.{PlainProgram, PlainModule, PlainMode, PlainTask
 use Rattle.htl_names.specs.Conditions.{MeetsBounds, MeetsTaskBounds}
 use Rattle.htl_names.specs.declared.place.ModeAt.{ModeAt}
 use Rattle.htl_names.specs.declared.place.ModuleAt.{ModuleAt}
-use Rattle.htl_names.specs.Flat.{layout, symbols_of, meaning, modes_before, mode_number, mode_item, module_mode_items, mode_items, module_item, module_items, task_item, module_task_items, task_items, tables_of_tree}
+use Rattle.htl_names.specs.Flat.{layout, symbols_of, meaning, modes_before, mode_number, mode_item, mode_items, module_item, module_items, task_item, task_items, tables_of_tree}
 use Rattle.htl_names.specs.Keys.{look_up, mode_key}
 use Rattle.htl_names.specs.NameRules.{AreNamesRight}
 use Rattle.htl_names.specs.Order.{order, module_at, tasks_at, modes_at}
 use Rattle.htl_names.specs.Ordered.{IsOrdered, Exists, StandsBefore}
 use Rattle.htl_names.specs.Programs.{naming, level, refined_in}
 use Rattle.htl_names.specs.Uses.{usage}
-use Rattle.htl_names.proofs.FlatMaps.{part_of_0, there_is}
+use Rattle.htl_names.proofs.FlatMaps.{there_is}
 use Rattle.htl_names.proofs.Kindly.{worst_span, mode_period_span}
 use Rattle.htl_names.proofs.Meant.{mode_means}
-use Rattle.htl_names.proofs.Numbered.{AreModules, AreOnce, module_number_is, mode_stands, module_count, module_stands}
-use Rattle.htl_names.proofs.Owners.{of_map}
+use Rattle.htl_names.proofs.Numbered.{AreModules, AreOnce, module_number_is, modes_in, tasks_in, mode_stands, module_count, module_stands}
+use Rattle.htl_names.proofs.Listings.{from}
 use Rattle.htl_names.proofs.Used.{known, start_used}
 use Rattle.htl_names.proofs.Places.{program_of_module, task_in_source}
 use Rattle.htl_names.proofs.Members.{All-at}
@@ -43,31 +43,14 @@ meaning_is ps key n e = ap (λ o. elim o [ Some n ↦ n | None ↦ 0 ]) e
 
 -- ---- modes
 
--- the modes of the tables, one by one
-pub record ModeFrom (ps : List PlainProgram) (y : Mode) : Type 0 where
-  pub number : ℕ
-  pub «module» : ModuleAt
-  pub there : slice_get (layout ps).modules number ≡ Some «module»
-  pub place : ℕ
-  pub node : PlainMode
-  pub its : slice_get (modes_at ps «module».program «module».«module») place ≡ Some node
-  pub is : mode_item number node ≡ y
-
-pub mode_from : (ps : List PlainProgram) (n : ℕ) (y : Mode) → slice_get (mode_items (layout ps) ps) n ≡ Some y → ModeFrom ps y
-mode_from ps n y e =
-    let p = part_of_0 (module_mode_items ps) (layout ps).modules n y e in
-    let s = p.owner in
-    let x = of_map (mode_item p.part) (modes_at ps s.program s.«module») p.place y p.item in
-    record { number = p.part; «module» = s; there = p.there; place = p.place; node = x.0; its = x.1; is = x.2 }
-
 pub mode_in_range : (ps : List PlainProgram) → AreNamesRight ps → IsOrdered (symbols_of ps) ps (order (symbols_of ps) ps) → (n : ℕ) (y : Mode)
     → slice_get (mode_items (layout ps) ps) n ≡ Some y → IsModeInRange (tables_of_tree ps) y
 mode_in_range ps right ordered n y e =
-    let f = mode_from ps n y e in
-    let within = slice_get_within (layout ps).modules f.number f.«module» f.there in
+    let f = from (λ k s. mode_item k) (modes_in ps) (layout ps).modules n y e in
+    let within = slice_get_within (layout ps).modules f.number f.owner f.there in
     let size = module_count (layout ps) ps (modules_exist ps ordered) in
     subst (IsModeInRange (tables_of_tree ps)) f.is
-    (record { owner = omega (arith, within, size); period = mode_period_span ps right f.«module».program f.«module».«module» f.place f.node f.its })
+    (record { owner = omega (arith, within, size); period = mode_period_span ps right f.owner.program f.owner.«module» f.place f.node f.its })
 
 -- mode m of module k is a mode of module k
 pub its_mode : (ps : List PlainProgram) (k m : ℕ) (s : ModuleAt) (x : PlainMode) (P : ℕ → Type 0) → P k → slice_get (layout ps).modules k ≡ Some s
@@ -189,35 +172,19 @@ task_small ps small p u k t e =
     let n = task_in_source ps p u k t e in
     All-at MeetsTaskBounds (tasks_of (modules_of ps)) (n.0 + k) t small.tasks n.1
 
-pub record TaskFrom (ps : List PlainProgram) (y : Task) : Type 0 where
-  pub number : ℕ
-  pub «module» : ModuleAt
-  pub there : slice_get (layout ps).modules number ≡ Some «module»
-  pub place : ℕ
-  pub node : PlainTask
-  pub its : slice_get (tasks_at ps «module».program «module».«module») place ≡ Some node
-  pub is : task_item number node ≡ y
-
-pub task_from : (ps : List PlainProgram) (n : ℕ) (y : Task) → slice_get (task_items (layout ps) ps) n ≡ Some y → TaskFrom ps y
-task_from ps n y e =
-    let p = part_of_0 (module_task_items ps) (layout ps).modules n y e in
-    let s = p.owner in
-    let x = of_map (task_item p.part) (tasks_at ps s.program s.«module») p.place y p.item in
-    record { number = p.part; «module» = s; there = p.there; place = p.place; node = x.0; its = x.1; is = x.2 }
-
 pub task_in_range : (ps : List PlainProgram) → MeetsBounds ps → AreNamesRight ps → IsOrdered (symbols_of ps) ps (order (symbols_of ps) ps) → (n : ℕ) (y : Task)
     → slice_get (task_items (layout ps) ps) n ≡ Some y → IsTaskInRange (tables_of_tree ps) y
 task_in_range ps small right ordered n y e =
-    let f = task_from ps n y e in
-    let within = slice_get_within (layout ps).modules f.number f.«module» f.there in
+    let f = from (λ k s. task_item k) (tasks_in ps) (layout ps).modules n y e in
+    let within = slice_get_within (layout ps).modules f.number f.owner f.there in
     let size = module_count (layout ps) ps (modules_exist ps ordered) in
-    let few = task_small ps small f.«module».program f.«module».«module» f.place f.node f.its in
+    let few = task_small ps small f.owner.program f.owner.«module» f.place f.node f.its in
     let inputs = length-map f.node.inputs (λ x. x.ty) in
     let outputs = length-map (out_params f.node.outputs) (λ x. x.ty) in
     subst (IsTaskInRange (tables_of_tree ps)) f.is
     (record {
       owner = omega (arith, within, size);
-      worst = worst_span ps right f.«module».program f.«module».«module» f.place f.node f.its;
+      worst = worst_span ps right f.owner.program f.owner.«module» f.place f.node f.its;
       few_inputs = omega (arith, inputs, few.inputs);
       few_outputs = omega (arith, outputs, few.outputs);
     })

@@ -12,19 +12,20 @@ use Rattle.htl_text.specs.Bounds.{comms_of}
 use Rattle.htl_text.specs.Nodes.{PlainProgram, PlainModule, PlainTask}
 use Rattle.htl_names.specs.declared.key.Entry.{Entry}
 use Rattle.htl_names.specs.Entries.{entry, module_entries, comm_entry, program_entries, entries, port_entry, invoke_entry}
-use Rattle.htl_names.specs.Flat.{Layout, layout, symbols_of, comm_item, comm_items, mode_item, module_mode_items, mode_items, module_items, port_item, mode_port_items, port_items, task_item, module_task_items, task_items, invoke_item, mode_invoke_items, invoke_items}
+use Rattle.htl_names.specs.Flat.{layout, symbols_of, comm_item, comm_items, mode_item, mode_items, module_items, port_item, port_items, task_item, task_items, invoke_item, invoke_items}
 use Rattle.htl_names.specs.Keys.{look_up, comm_key, module_key, task_key, mode_key, port_key, invoke_key}
 use Rattle.htl_names.specs.Lists.{flat_map_at, map_at}
 use Rattle.htl_names.specs.NameRules.{AreNamesRight}
-use Rattle.htl_names.specs.Order.{order, module_at, tasks_at, modes_at, ports_at, invokes_at}
+use Rattle.htl_names.specs.Order.{order, module_at, tasks_at, ports_at, invokes_at}
 use Rattle.htl_names.specs.Ordered.{IsOrdered}
 use Rattle.htl_names.specs.Uses.{usage}
 use Rattle.htl_names.proofs.Declared.{declared}
 use Rattle.htl_names.proofs.FlatMaps.{get_back, at_part_0, part_of_0, part_before}
 use Rattle.htl_names.proofs.InvokeRanges.{of_mode}
+use Rattle.htl_names.proofs.Listings.{given, owned}
 use Rattle.htl_names.proofs.Meant.{one_place, one_entry, task_means}
 use Rattle.htl_names.proofs.ModuleRanges.{module_of_program, meaning_is}
-use Rattle.htl_names.proofs.Numbered.{mode_of_number}
+use Rattle.htl_names.proofs.Numbered.{modes_in, tasks_in, mode_of_number}
 use Rattle.htl_names.proofs.Origins.{Origin, of_comm, of_task, of_mode as mode_origin, of_port, of_invoke, first_entry, in_source_at, entries_before}
 use Rattle.htl_names.proofs.Owners.{of_map, IsOwned}
 use Rattle.htl_names.proofs.Used.{known, task_used}
@@ -151,7 +152,7 @@ module_names_apart ps right ordered j k n less p q =
 -- ---- names of an owner
 
 -- Where an item of a part is known by what it is called, items differ by owner and what they are called.
-pub owned_apart : {A B N : Type 0} (f : ℕ → A → List B) (own : B → ℕ) (called : B → N) (xs : List A) → IsOwned f own
+owned_apart : {A B N : Type 0} (f : ℕ → A → List B) (own : B → ℕ) (called : B → N) (xs : List A) → IsOwned f own
     → ((k : ℕ) (x : A) → slice_get xs k ≡ Some x → (i j : ℕ) (y z : B) → slice_get (f k x) i ≡ Some y → slice_get (f k x) j ≡ Some z → called y ≡ called z → i ≡ j)
     → AreApart {A = ℕ × N} (map (λ y. (own y, called y)) (flat_map_at f 0 xs))
 owned_apart {B = B} {N = N} f own called xs owned known_by j k n less p q =
@@ -175,50 +176,39 @@ owned_apart {B = B} {N = N} f own called xs owned known_by j k n less p q =
     let starts = ap (λ (m : ℕ). length (flat_map_at f 0 (take m xs))) part in
     omega (arith, less, r.number, s.number, place, starts)
 
-pub modes_owned : (ps : List PlainProgram) → IsOwned (module_mode_items ps) (λ (m : Mode). m.«module»)
-modes_owned ps k s j y e = let x = of_map (mode_item k) (modes_at ps s.program s.«module») j y e in sym (ap (λ (m : Mode). m.«module») x.2)
+-- the same where the nodes of an owner give an item each
+named_apart : {A N B C : Type 0} (item : ℕ → A → N → B) (nodes : A → List N) (own : B → ℕ) (called : B → C) (xs : List A) → ((k : ℕ) (x : A) (n : N) → own (item k x n) ≡ k)
+    → ((k : ℕ) (x : A) → slice_get xs k ≡ Some x → (i j : ℕ) (n m : N) → slice_get (nodes x) i ≡ Some n → slice_get (nodes x) j ≡ Some m → called (item k x n) ≡ called (item k x m) → i ≡ j)
+    → AreApart {A = ℕ × C} (map (λ y. (own y, called y)) (flat_map_at (given item nodes) 0 xs))
+named_apart item nodes own called xs is known_by =
+    owned_apart (given item nodes) own called xs (owned item nodes own is) (λ k x there i j y z a b names.
+    let v = of_map (item k x) (nodes x) i y a in
+    let w = of_map (item k x) (nodes x) j z b in
+    known_by k x there i j v.0 w.0 v.1 w.1 (ap called v.2 ∙ names ∙ sym (ap called w.2)))
 
 pub mode_names_apart : (ps : List PlainProgram) → AreNamesRight ps → AreApart {A = ℕ × List ℕ} (map (λ (m : Mode). (m.«module», m.name)) (mode_items (layout ps) ps))
 mode_names_apart ps right =
-    owned_apart (module_mode_items ps) (λ (m : Mode). m.«module») (λ (m : Mode). m.name) (layout ps).modules (modes_owned ps) (λ k s there i j y z a b names.
+    named_apart (λ k s. mode_item k) (modes_in ps) (λ (m : Mode). m.«module») (λ (m : Mode). m.name) (layout ps).modules (λ k s x. refl) (λ k s there i j x w a b names.
     let p = s.program in
     let u = s.«module» in
-    let x = of_map (mode_item k) (modes_at ps p u) i y a in
-    let w = of_map (mode_item k) (modes_at ps p u) j z b in
-    let same : x.0.name.name ≡ w.0.name.name = ap (λ (m : Mode). m.name) x.2 ∙ names ∙ sym (ap (λ (m : Mode). m.name) w.2) in
-    same_number ps right (entry (mode_key p u x.0.name.name) i x.0.name) (entry (mode_key p u w.0.name.name) j w.0.name) (mode_origin p u i x.0 x.1) (mode_origin p u j w.0 w.1) (ap (λ (m : List ℕ). mode_key p u m) same))
-
-pub tasks_owned : (ps : List PlainProgram) → IsOwned (module_task_items ps) (λ (t : Task). t.«module»)
-tasks_owned ps k s j y e = let x = of_map (task_item k) (tasks_at ps s.program s.«module») j y e in sym (ap (λ (t : Task). t.«module») x.2)
+    same_number ps right (entry (mode_key p u x.name.name) i x.name) (entry (mode_key p u w.name.name) j w.name) (mode_origin p u i x a) (mode_origin p u j w b) (ap (λ (m : List ℕ). mode_key p u m) names))
 
 pub task_names_apart : (ps : List PlainProgram) → AreNamesRight ps → AreApart {A = ℕ × List ℕ} (map (λ (t : Task). (t.«module», t.name)) (task_items (layout ps) ps))
 task_names_apart ps right =
-    owned_apart (module_task_items ps) (λ (t : Task). t.«module») (λ (t : Task). t.name) (layout ps).modules (tasks_owned ps) (λ k s there i j y z a b names.
+    named_apart (λ k s. task_item k) (tasks_in ps) (λ (t : Task). t.«module») (λ (t : Task). t.name) (layout ps).modules (λ k s x. refl) (λ k s there i j x w a b names.
     let p = s.program in
     let u = s.«module» in
-    let x = of_map (task_item k) (tasks_at ps p u) i y a in
-    let w = of_map (task_item k) (tasks_at ps p u) j z b in
-    let same : x.0.name.name ≡ w.0.name.name = ap (λ (t : Task). t.name) x.2 ∙ names ∙ sym (ap (λ (t : Task). t.name) w.2) in
-    same_number ps right (entry (task_key p u x.0.name.name) i x.0.name) (entry (task_key p u w.0.name.name) j w.0.name) (of_task p u i x.0 x.1) (of_task p u j w.0 w.1) (ap (λ (m : List ℕ). task_key p u m) same))
-
-pub ports_owned : (ps : List PlainProgram) → IsOwned (mode_port_items ps) (λ (q : Port). q.mode)
-ports_owned ps m a j y e = let x = of_map (port_item m) (ports_at ps a) j y e in sym (ap (λ (q : Port). q.mode) x.2)
+    same_number ps right (entry (task_key p u x.name.name) i x.name) (entry (task_key p u w.name.name) j w.name) (of_task p u i x a) (of_task p u j w b) (ap (λ (m : List ℕ). task_key p u m) names))
 
 pub port_names_apart : (ps : List PlainProgram) → AreNamesRight ps → AreApart {A = ℕ × List ℕ} (map (λ (q : Port). (q.mode, q.name)) (port_items (layout ps) ps))
 port_names_apart ps right =
-    owned_apart (mode_port_items ps) (λ (q : Port). q.mode) (λ (q : Port). q.name) (layout ps).modes (ports_owned ps) (λ m a there i j y z p q names.
+    named_apart (λ m a. port_item m) (ports_at ps) (λ (q : Port). q.mode) (λ (q : Port). q.name) (layout ps).modes (λ m a x. refl) (λ m a there i j x w p q names.
     let f = mode_of_number (layout ps) ps refl m a there in
     let ports = of_mode ps a f.node (λ z. z.ports) f.its in
-    let x = of_map (port_item m) (ports_at ps a) i y p in
-    let w = of_map (port_item m) (ports_at ps a) j z q in
-    let same : x.0.name.name ≡ w.0.name.name = ap (λ (q : Port). q.name) x.2 ∙ names ∙ sym (ap (λ (q : Port). q.name) w.2) in
-    same_number ps right (port_entry a.program a.«module» a.mode i x.0) (port_entry a.program a.«module» a.mode j w.0)
-    (of_port a.program a.«module» a.mode f.node f.its i x.0 (sym (ap (λ qs. slice_get qs i) ports) ∙ x.1))
-    (of_port a.program a.«module» a.mode f.node f.its j w.0 (sym (ap (λ qs. slice_get qs j) ports) ∙ w.1))
-    (ap (λ (n : List ℕ). port_key a.program a.«module» a.mode n) same))
-
-pub invokes_owned : (l : Layout) (ps : List PlainProgram) → IsOwned (mode_invoke_items l ps) (λ (i : Inv). i.mode)
-invokes_owned l ps m a j y e = let x = of_map (invoke_item l ps m a) (invokes_at ps a) j y e in sym (ap (λ (i : Inv). i.mode) x.2)
+    same_number ps right (port_entry a.program a.«module» a.mode i x) (port_entry a.program a.«module» a.mode j w)
+    (of_port a.program a.«module» a.mode f.node f.its i x (sym (ap (λ qs. slice_get qs i) ports) ∙ p))
+    (of_port a.program a.«module» a.mode f.node f.its j w (sym (ap (λ qs. slice_get qs j) ports) ∙ q))
+    (ap (λ (n : List ℕ). port_key a.program a.«module» a.mode n) names))
 
 -- a task's place tells its name
 task_name_is : (ps : List PlainProgram) → AreNamesRight ps → (p u : ℕ) (n m : List ℕ) (i j : ℕ) → look_up (task_key p u n) (symbols_of ps) ≡ Some i → look_up (task_key p u m) (symbols_of ps) ≡ Some j → i ≡ j → n ≡ m
@@ -231,23 +221,18 @@ task_name_is ps right p u n m i j a b same =
 
 pub invoked_once : (ps : List PlainProgram) → AreNamesRight ps → AreApart {A = ℕ × ℕ} (map (λ (i : Inv). (i.mode, i.task)) (invoke_items (layout ps) ps))
 invoked_once ps right =
-    owned_apart (mode_invoke_items (layout ps) ps) (λ (i : Inv). i.mode) (λ (i : Inv). i.task) (layout ps).modes (invokes_owned (layout ps) ps) (λ m a there i j y z p q tasks.
-    let l = layout ps in
-    let f = mode_of_number l ps refl m a there in
+    named_apart (invoke_item (layout ps) ps) (invokes_at ps) (λ (i : Inv). i.mode) (λ (i : Inv). i.task) (layout ps).modes (λ m a x. refl) (λ m a there i j x w p q tasks.
+    let f = mode_of_number (layout ps) ps refl m a there in
     let invokes = of_mode ps a f.node (λ z. z.invokes) f.its in
-    let x = of_map (invoke_item l ps m a) (invokes_at ps a) i y p in
-    let w = of_map (invoke_item l ps m a) (invokes_at ps a) j z q in
-    let own = sym (ap (λ qs. slice_get qs i) invokes) ∙ x.1 in
-    let other = sym (ap (λ qs. slice_get qs j) invokes) ∙ w.1 in
-    let one = known ps right (usage (task_key a.program a.«module» x.0.task.name) x.0.task) (task_used ps a.program a.«module» a.mode i f.node x.0 f.its own) in
-    let two = known ps right (usage (task_key a.program a.«module» w.0.task.name) w.0.task) (task_used ps a.program a.«module» a.mode j f.node w.0 f.its other) in
-    let first = meaning_is ps (task_key a.program a.«module» x.0.task.name) one.0 one.1 in
-    let second = meaning_is ps (task_key a.program a.«module» w.0.task.name) two.0 two.1 in
-    let left = ap (λ (v : Inv). v.task) x.2 in
-    let right_side = ap (λ (v : Inv). v.task) w.2 in
-    let same : one.0 ≡ two.0 = omega (arith, first, second, left, right_side, tasks) in
-    let names = task_name_is ps right a.program a.«module» x.0.task.name w.0.task.name one.0 two.0 one.1 two.1 same in
-    same_number ps right (invoke_entry a.program a.«module» a.mode i x.0) (invoke_entry a.program a.«module» a.mode j w.0)
-    (of_invoke a.program a.«module» a.mode f.node f.its i x.0 own)
-    (of_invoke a.program a.«module» a.mode f.node f.its j w.0 other)
+    let own = sym (ap (λ qs. slice_get qs i) invokes) ∙ p in
+    let other = sym (ap (λ qs. slice_get qs j) invokes) ∙ q in
+    let one = known ps right (usage (task_key a.program a.«module» x.task.name) x.task) (task_used ps a.program a.«module» a.mode i f.node x f.its own) in
+    let two = known ps right (usage (task_key a.program a.«module» w.task.name) w.task) (task_used ps a.program a.«module» a.mode j f.node w f.its other) in
+    let first = meaning_is ps (task_key a.program a.«module» x.task.name) one.0 one.1 in
+    let second = meaning_is ps (task_key a.program a.«module» w.task.name) two.0 two.1 in
+    let same : one.0 ≡ two.0 = omega (arith, first, second, tasks) in
+    let names = task_name_is ps right a.program a.«module» x.task.name w.task.name one.0 two.0 one.1 two.1 same in
+    same_number ps right (invoke_entry a.program a.«module» a.mode i x) (invoke_entry a.program a.«module» a.mode j w)
+    (of_invoke a.program a.«module» a.mode f.node f.its i x own)
+    (of_invoke a.program a.«module» a.mode f.node f.its j w other)
     (ap (λ (n : List ℕ). invoke_key a.program a.«module» a.mode n) names))

@@ -1,8 +1,7 @@
 -- The modes that name programs: the links between programs and the refined modes tell the same.
-use Rattle.std.proofs.Common.{◌≡◌, ℕ, zero, suc, ◌≤◌, ◌<◌, Bool, true, false, cond, ◌||◌, eqb, List, [], ◌∷◌, map, length, slice_get, Option, Some, None, refl, sym, ◌∙◌, ap, subst, arith, eqb-true, eq-eqb, ◌+◌, min, get_or, fold, take}
+use Rattle.std.proofs.Common.{◌≡◌, ℕ, zero, suc, ◌≤◌, ◌<◌, Bool, true, false, cond, ◌||◌, eqb, List, [], ◌∷◌, map, length, slice_get, Option, Some, None, refl, sym, ◌∙◌, ap, subst, arith, eqb-true, eq-eqb, ◌+◌, min, get_or, fold}
 use Rattle.std.specs.List.{flat_map, list_any, sum_by, count_by}
 use Rattle.std.proofs.lemmas.List.Sums.{sum_by-cons}
-use Rattle.std.proofs.lemmas.List.Folds.{list_any-append}
 use Rattle.std.proofs.lemmas.Bool.Decides.{nat_tests}
 use Rattle.std.proofs.lemmas.Option.{slice_get_within, get_or_from_slice_get, none-some, same_Some}
 use Rattle.std.specs.Prelude.{slice_get}
@@ -15,9 +14,10 @@ use Rattle.htl_names.specs.declared.place.ModeAt.{ModeAt}
 use Rattle.htl_names.specs.Order.{mode_at}
 use Rattle.htl_names.specs.Programs.{named_program, mode_links, module_links, program_links, links, named_by, namings, Naming, mode_naming, module_naming, program_naming, naming, refined_in, refined_by, Graph}
 use Rattle.htl_names.specs.Namings.{counted_at, counted, counted_all, CountsNamings}
-use Rattle.htl_names.specs.Lists.{flat_map_at}
-use Rattle.htl_names.proofs.FlatMaps.{at_part_0}
-use Rattle.htl_names.proofs.Members.{In, map_flat_map_at, sum_by_map, sum_by_flat_map}
+use Rattle.htl_names.specs.Graph.{graph_by}
+use Rattle.htl_names.specs.Lists.{map_at}
+use Rattle.htl_names.proofs.FlatMaps.{past}
+use Rattle.htl_names.proofs.Members.{In, Each, each_in, each_part_at, each_flat_map_at, at_place, map_flat_map_at, sum_by_map, sum_by_flat_map}
 use Rattle.htl_names.proofs.Places.{program_of_module, module_of_mode, module_there, modes_there}
 
 -- ---- the mode that names a program
@@ -31,21 +31,15 @@ pub record Names (symbols : List (Key × ℕ)) (ps : List PlainProgram) (a : Mod
 abbrev place_of : ℕ → ℕ → ℕ → ModeAt
 place_of p u m = record { program = p; «module» = u; mode = m }
 
-in_mode : (symbols : List (Key × ℕ)) (p u m q : ℕ) (x : PlainMode) → named_program symbols x ≡ Some q → In {A = Naming} (place_of p u m, q) (mode_naming symbols p u m x)
-in_mode symbols p u m q x h =
-    subst (λ (o : Option ℕ). In {A = Naming} (place_of p u m, q) (elim o [ Some r ↦ (place_of p u m, r) ∷ [] | None ↦ [] ])) (sym h) (0, refl)
-
-in_part : {A : Type 0} (f : ℕ → A → List Naming) (xs : List A) (i : ℕ) (x : A) (y : Naming) → slice_get xs i ≡ Some x → In y (f i x) → In y (flat_map_at f 0 xs)
-in_part f xs i x y e h = (length (flat_map_at f 0 (take i xs)) + h.0, at_part_0 f xs i h.0 x y e h.1)
-
 pub in_naming : (symbols : List (Key × ℕ)) (ps : List PlainProgram) (a : ModeAt) (q : ℕ) → Names symbols ps a q → In {A = Naming} (a, q) (naming symbols ps)
 in_naming symbols ps a q h =
+    let P : Naming → Type 0 = λ y. In y (naming symbols ps) in
     let o = module_of_mode ps a.program a.«module» a.mode h.mode h.there in
     let x = program_of_module ps a.program a.«module» o.0 o.1 in
-    let one = in_mode symbols a.program a.«module» a.mode q h.mode h.named in
-    let two = in_part (mode_naming symbols a.program a.«module») o.0.modes a.mode h.mode (a, q) o.2 one in
-    let three = in_part (module_naming symbols a.program) x.0.modules a.«module» o.0 (a, q) x.2 two in
-    in_part (program_naming symbols) ps a.program x.0 (a, q) x.1 three
+    let row = each_part_at P (mode_naming symbols a.program a.«module») 0 o.0.modes a.mode a.mode h.mode (omega arith) o.2
+    (each_part_at P (module_naming symbols a.program) 0 x.0.modules a.«module» a.«module» o.0 (omega arith) x.2
+    (each_part_at P (program_naming symbols) 0 ps a.program a.program x.0 (omega arith) x.1 (each_in (naming symbols ps)))) in
+    (subst (λ (n : Option ℕ). Each P (elim n [ Some r ↦ (a, r) ∷ [] | None ↦ [] ])) h.named row).0
 
 -- ---- how often a program is named
 
@@ -56,13 +50,18 @@ mode_seconds symbols p u m x = by (named_program symbols x)
     by None = refl
     by (Some q) = refl
 
-naming_seconds : (symbols : List (Key × ℕ)) (ps : List PlainProgram) → map (λ (y : Naming). y.1) (naming symbols ps) ≡ flat_map (program_links symbols) ps
-naming_seconds symbols ps =
-    map_flat_map_at (λ (y : Naming). y.1) (program_naming symbols) (program_links symbols)
-    (λ p x. map_flat_map_at (λ (y : Naming). y.1) (module_naming symbols p) (module_links symbols)
+program_seconds : (symbols : List (Key × ℕ)) (p : ℕ) (x : PlainProgram) → map (λ (y : Naming). y.1) (program_naming symbols p x) ≡ program_links symbols x
+program_seconds symbols p x =
+    map_flat_map_at (λ (y : Naming). y.1) (module_naming symbols p) (module_links symbols)
     (λ u y. map_flat_map_at (λ (y : Naming). y.1) (mode_naming symbols p u) (mode_links symbols) (λ m z. mode_seconds symbols p u m z) 0 y.modes)
-    0 x.modules)
-    0 ps
+    0 x.modules
+
+naming_seconds : (symbols : List (Key × ℕ)) (ps : List PlainProgram) → map (λ (y : Naming). y.1) (naming symbols ps) ≡ flat_map (program_links symbols) ps
+naming_seconds symbols ps = map_flat_map_at (λ (y : Naming). y.1) (program_naming symbols) (program_links symbols) (program_seconds symbols) 0 ps
+
+pub graph_is : (symbols : List (Key × ℕ)) (k : ℕ) (ps : List PlainProgram) → graph_by (map_at (program_naming symbols) k ps) ≡ links symbols ps
+graph_is symbols k [] = refl
+graph_is symbols k (x ∷ ps) = ap (λ (r : List ℕ). r ∷ graph_by (map_at (program_naming symbols) (suc k) ps)) (program_seconds symbols k x) ∙ ap (λ (g : Graph). program_links symbols x ∷ g) (graph_is symbols (suc k) ps)
 
 pub naming_count : (symbols : List (Key × ℕ)) (ps : List PlainProgram) (q : ℕ) → count_by (λ (x : Naming). eqb q x.1) (naming symbols ps) ≡ namings (links symbols ps) q
 naming_count symbols ps q =
@@ -137,58 +136,48 @@ refined_none symbols ps q c = along (naming symbols ps) (naming_count symbols ps
 
 -- ---- links are modes
 
-any_flat_map : {A : Type 0} (q : ℕ) (f : A → List ℕ) (xs : List A) → list_any (eqb q) (flat_map f xs) ≡ true
-    → (k : ℕ) × (x : A) × (slice_get xs k ≡ Some x) × (list_any (eqb q) (f x) ≡ true)
-any_flat_map q f [] h = cc
-any_flat_map {A} q f (x ∷ xs) h = by (any_flat_map q f xs) (list_any (eqb q) (f x)) refl (sym (list_any-append (eqb q) (f x) (flat_map f xs)) ∙ h)
-  where
-    Found : List A → Type 0
-    Found ys = (k : ℕ) × (y : A) × (slice_get ys k ≡ Some y) × (list_any (eqb q) (f y) ≡ true)
-
-    by : (list_any (eqb q) (flat_map f xs) ≡ true → Found xs) → (b : Bool) → list_any (eqb q) (f x) ≡ b → (b || list_any (eqb q) (flat_map f xs)) ≡ true → Found (x ∷ xs)
-    by later true e g = (0, x, refl, e)
-    by later false e g = let r = later g in (suc r.0, r.1, r.2, r.3)
-
 named_at : (symbols : List (Key × ℕ)) (ps : List PlainProgram) (p q : ℕ) → list_any (eqb q) (named_by (links symbols ps) p) ≡ true
     → (x : PlainProgram) × (slice_get ps p ≡ Some x) × (list_any (eqb q) (program_links symbols x) ≡ true)
 named_at symbols [] p q h = cc
 named_at symbols (x ∷ ps) zero q h = (x, refl, h)
 named_at symbols (x ∷ ps) (suc p) q h = named_at symbols ps p q h
 
-mode_named : (symbols : List (Key × ℕ)) (q : ℕ) (z : PlainMode) → list_any (eqb q) (mode_links symbols z) ≡ true → named_program symbols z ≡ Some q
-mode_named symbols q z h = by (named_program symbols z) h
+-- each mode of a program's row names its program
+pub row_names : (symbols : List (Key × ℕ)) (ps : List PlainProgram) (p : ℕ) (x : PlainProgram) → slice_get ps p ≡ Some x
+    → Each (λ (y : Naming). (y.0.program ≡ p) × Names symbols ps y.0 y.1) (program_naming symbols p x)
+row_names symbols ps p x there =
+    each_flat_map_at P (module_naming symbols p) 0 x.modules (λ u i y is its.
+    each_flat_map_at P (mode_naming symbols p u) 0 y.modes (λ m j z at own.
+    let «module» = module_there ps p u x y there (at_place x.modules u i y is its) in
+    one u m z (ap (λ ms. slice_get ms m) (modes_there ps p u y «module») ∙ at_place y.modes m j z at own) (named_program symbols z) refl))
   where
-    one : (r : ℕ) → list_any (eqb q) (r ∷ []) ≡ true → r ≡ q
-    one r h = grind (arith, nat_tests)
+    P : Naming → Type 0
+    P y = (y.0.program ≡ p) × Names symbols ps y.0 y.1
 
-    by : (o : Option ℕ) → list_any (eqb q) (elim o [ Some r ↦ r ∷ [] | None ↦ [] ]) ≡ true → o ≡ Some q
-    by None h = cc
-    by (Some r) h = ap Some (one r h)
+    one : (u m : ℕ) (z : PlainMode) → mode_at ps (place_of p u m) ≡ Some z → (o : Option ℕ) → named_program symbols z ≡ o
+        → Each P (elim o [ Some q ↦ (place_of p u m, q) ∷ [] | None ↦ [] ])
+    one u m z at (Some q) is = ((refl, record { mode = z; there = at; named = is }), tt)
+    one u m z at None is = tt
+
+target_of : (P : Naming → Type 0) (q : ℕ) (row : List Naming) → Each P row → list_any (eqb q) (map (λ (y : Naming). y.1) row) ≡ true → (y : Naming) × P y × (y.1 ≡ q)
+target_of P q [] h e = cc
+target_of P q (y ∷ row) h e = by (eqb q y.1) refl e (target_of P q row h.1)
+  where
+    by : (b : Bool) → eqb q y.1 ≡ b → (b || list_any (eqb q) (map (λ (z : Naming). z.1) row)) ≡ true
+        → (list_any (eqb q) (map (λ (z : Naming). z.1) row) ≡ true → (z : Naming) × P z × (z.1 ≡ q)) → (z : Naming) × P z × (z.1 ≡ q)
+    by true is e later = (y, h.0, sym (eqb-true q y.1 is))
+    by false is e later = later e
 
 -- what a program names, one of its modes names
 pub link_names : (symbols : List (Key × ℕ)) (ps : List PlainProgram) (p q : ℕ) → list_any (eqb q) (named_by (links symbols ps) p) ≡ true
     → (p < length ps) × (a : ModeAt) × (a.program ≡ p) × Names symbols ps a q
 link_names symbols ps p q h =
     let one = named_at symbols ps p q h in
-    let two = any_flat_map q (module_links symbols) one.0.modules one.2 in
-    let three = any_flat_map q (mode_links symbols) two.1.modes two.3 in
-    let «module» = module_there ps p two.0 one.0 two.1 one.1 two.2 in
-    let at : mode_at ps (place_of p two.0 three.0) ≡ Some three.1 = ap (λ ms. slice_get ms three.0) (modes_there ps p two.0 two.1 «module») ∙ three.2 in (
-      slice_get_within ps p one.0 one.1,
-      place_of p two.0 three.0,
-      refl,
-      record { mode = three.1; there = at; named = mode_named symbols q three.1 three.3 },
-    )
+    let found = target_of (λ (y : Naming). (y.0.program ≡ p) × Names symbols ps y.0 y.1) q (program_naming symbols p one.0) (row_names symbols ps p one.0 one.1)
+    (ap (list_any (eqb q)) (program_seconds symbols p one.0) ∙ one.2) in
+    (slice_get_within ps p one.0 one.1, found.0.0, found.1.0, subst (λ (n : ℕ). Names symbols ps found.0.0 n) found.2 found.1.1)
 
 -- ---- a table that counts namings up to 255
-
-past : (xs : List ℕ) (k : ℕ) → slice_get xs k ≡ None → length xs ≤ k
-past [] k e = omega arith
-past (x ∷ xs) zero e = cc
-past (x ∷ xs) (suc k) e = omega (arith, past xs k e)
-
-same : (p q : ℕ) → eqb p q ≡ true → p ≡ q
-same p q e = grind (arith, nat_tests)
 
 differ : (p q : ℕ) → eqb p q ≡ false → p ≡ q → ⊥
 differ p q e h = grind (arith, nat_tests)
@@ -204,10 +193,10 @@ counted-get : (counts : List ℕ) (p q : ℕ) → p < length counts → min (get
 counted-get counts p q small = by (slice_get counts q) refl (eqb p q) refl
   where
     by : (o : Option ℕ) → slice_get counts q ≡ o → (b : Bool) → eqb p q ≡ b → min (get_or (counted_at counts q o) p 0) 255 ≡ min (get_or counts p 0 + cond b 1 0) 255
-    by None at true e = absurd (omega (arith, past counts q at, same p q e))
+    by None at true e = absurd (omega (arith, past counts q at, eqb-true p q e))
     by None at false e = omega arith
     by (Some n) at true e =
-        let is = same p q e in
+        let is = eqb-true p q e in
         let within = slice_get_within counts q n at in
         let new : get_or (set counts q (min (n + 1) 255)) p 0 ≡ min (n + 1) 255 = get_or-set_at counts q p (min (n + 1) 255) 0 is within in
         let old : get_or counts p 0 ≡ n = ap (λ k. get_or counts k 0) is ∙ get_or_from_slice_get counts q n 0 at in

@@ -59,16 +59,16 @@ module _ (ps : List PlainProgram) (right : AreNamesRight ps) where
   module _ (a : ModeAt) (x : PlainMode) (there : mode_at ps a ≡ Some x) (k : ℕ) (i : InvokeNode) (its : slice_get x.invokes k ≡ Some i) where
     narrow_read : (n : ℕ) (e : EndNode) → slice_get i.reads n ≡ Some e → IsNarrowEnd e
     narrow_read n (end.Comm comm instance) at = read_instance ps right a.program a.«module» a.mode k n x i comm instance there its at
-    narrow_read n (end.Port port) at = tt
+    narrow_read n (end.Port port) at = omega arith
 
     narrow_write : (n : ℕ) (e : EndNode) → slice_get i.writes n ≡ Some e → IsNarrowEnd e
     narrow_write n (end.Comm comm instance) at = write_instance ps right a.program a.«module» a.mode k n x i comm instance there its at
-    narrow_write n (end.Port port) at = tt
+    narrow_write n (end.Port port) at = omega arith
 
     narrow_invoke : IsNarrowInvoke i
     narrow_invoke = record { reads = All-from_places IsNarrowEnd i.reads narrow_read; writes = All-from_places IsNarrowEnd i.writes narrow_write }
 
-  instances : (a : ModeAt) → All IsNarrowInvoke (invokes_at ps a)
+  pub instances : (a : ModeAt) → All IsNarrowInvoke (invokes_at ps a)
   instances a = by (mode_at ps a) refl
     where
       by : (o : Option PlainMode) → mode_at ps a ≡ o → All IsNarrowInvoke (elim o [ Some x ↦ x.invokes | None ↦ [] ])
@@ -79,7 +79,7 @@ module _ (ps : List PlainProgram) (right : AreNamesRight ps) where
   parent_narrow s h = by s.parent h.parent
     where
       by : (o : Option ModeAt) → IsParent (symbols_of ps) ps o s.program → IsNarrowParent o
-      by None n = tt
+      by None n = omega arith
       by (Some a) n =
           let m = mode_in_source ps a.program a.«module» a.mode n.mode n.there in
           let within = slice_get_within (modes_of (modules_of ps)) (m.0 + a.mode) n.mode m.1 in

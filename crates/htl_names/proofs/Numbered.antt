@@ -2,19 +2,17 @@
 use Rattle.std.proofs.Common.{◌≡◌, ◌<◌, ◌+◌, ℕ, zero, suc, Bool, true, false, cond, List, [], ◌∷◌, length, take, slice_get, Some, None, refl, sym, ◌∙◌, ap, subst, arith, length-append}
 use Rattle.std.specs.List.{flat_map}
 use Rattle.std.proofs.lemmas.Bool.Decides.{nat_tests}
-use Rattle.std.proofs.lemmas.List.{length-map, length-take-le}
+use Rattle.std.proofs.lemmas.List.{length-take-le}
 use Rattle.std.proofs.lemmas.Option.{slice_get_within}
 use Rattle.htl_text.specs.Nodes.{PlainProgram, PlainModule, PlainMode, PlainTask}
-use Rattle.htl_text.specs.declared.tree.ParamNode.{ParamNode}
-use Rattle.htl_text.specs.declared.tree.InvokeNode.{InvokeNode}
 use Rattle.htl_names.specs.declared.place.ModeAt.{ModeAt}
 use Rattle.htl_names.specs.declared.place.ModuleAt.{ModuleAt}
-use Rattle.htl_names.specs.Flat.{Layout, is_module, module_number, modes_before, tasks_before, ports_before, invokes_before, mode_item, module_mode_items, mode_items, module_item, module_items_at, module_items, port_item, mode_port_items, port_items, task_item, module_task_items, task_items, invoke_item, mode_invoke_items, invoke_items}
+use Rattle.htl_names.specs.Flat.{Layout, is_module, module_number, modes_before, mode_item, mode_items, module_item, module_items_at, module_items}
 use Rattle.htl_names.specs.Lists.{flat_map_at, place_in}
-use Rattle.htl_names.specs.Order.{module_at, tasks_at, modes_at, ports_at, invokes_at, module_modes, mode_order}
+use Rattle.htl_names.specs.Order.{module_at, tasks_at, modes_at, module_modes, mode_order}
 use Rattle.htl_names.specs.Ordered.{Exists}
-use Rattle.htl_names.proofs.FlatMaps.{at_part_0, at_flat, same_length, flat_part, there_is, list_to_at, of_list_to}
-use Rattle.htl_names.proofs.Owners.{to_map}
+use Rattle.htl_names.proofs.FlatMaps.{at_part_0, at_flat, flat_part, there_is, list_to_at, of_list_to}
+use Rattle.htl_names.proofs.Listings.{counted, stands}
 use Rattle.htl_model.proofs.Listed.{length-list_to}
 
 -- ---- first places
@@ -49,43 +47,15 @@ module_number_is l k s p u once there a b =
 
 -- ---- modes and tasks of a module
 
-mode_parts : (l : Layout) (ps : List PlainProgram) (k : ℕ) → length (flat_map_at (module_mode_items ps) 0 (take k l.modules)) ≡ modes_before l ps k
-mode_parts l ps k = same_length (module_mode_items ps) (λ (s : ModuleAt). modes_at ps s.program s.«module») (λ n s. length-map (modes_at ps s.program s.«module») (mode_item n)) 0 (take k l.modules)
+abbrev pub modes_in : List PlainProgram → ModuleAt → List PlainMode
+modes_in ps s = modes_at ps s.program s.«module»
 
-pub mode_stands : (l : Layout) (ps : List PlainProgram) (k m : ℕ) (s : ModuleAt) (x : PlainMode) → slice_get l.modules k ≡ Some s → slice_get (modes_at ps s.program s.«module») m ≡ Some x
+abbrev pub tasks_in : List PlainProgram → ModuleAt → List PlainTask
+tasks_in ps s = tasks_at ps s.program s.«module»
+
+pub mode_stands : (l : Layout) (ps : List PlainProgram) (k m : ℕ) (s : ModuleAt) (x : PlainMode) → slice_get l.modules k ≡ Some s → slice_get (modes_in ps s) m ≡ Some x
     → slice_get (mode_items l ps) (modes_before l ps k + m) ≡ Some (mode_item k x)
-mode_stands l ps k m s x there its =
-    subst (λ (n : ℕ). slice_get (mode_items l ps) (n + m) ≡ Some (mode_item k x)) (mode_parts l ps k)
-    (at_part_0 (module_mode_items ps) l.modules k m s (mode_item k x) there (to_map (mode_item k) (modes_at ps s.program s.«module») m x its))
-
-task_parts : (l : Layout) (ps : List PlainProgram) (k : ℕ) → length (flat_map_at (module_task_items ps) 0 (take k l.modules)) ≡ tasks_before l ps k
-task_parts l ps k = same_length (module_task_items ps) (λ (s : ModuleAt). tasks_at ps s.program s.«module») (λ n s. length-map (tasks_at ps s.program s.«module») (task_item n)) 0 (take k l.modules)
-
-pub task_stands : (l : Layout) (ps : List PlainProgram) (k m : ℕ) (s : ModuleAt) (t : PlainTask) → slice_get l.modules k ≡ Some s → slice_get (tasks_at ps s.program s.«module») m ≡ Some t
-    → slice_get (task_items l ps) (tasks_before l ps k + m) ≡ Some (task_item k t)
-task_stands l ps k m s t there its =
-    subst (λ (n : ℕ). slice_get (task_items l ps) (n + m) ≡ Some (task_item k t)) (task_parts l ps k)
-    (at_part_0 (module_task_items ps) l.modules k m s (task_item k t) there (to_map (task_item k) (tasks_at ps s.program s.«module») m t its))
-
--- ---- ports and invocations of a mode
-
-port_parts : (l : Layout) (ps : List PlainProgram) (m : ℕ) → length (flat_map_at (mode_port_items ps) 0 (take m l.modes)) ≡ ports_before l ps m
-port_parts l ps m = same_length (mode_port_items ps) (ports_at ps) (λ n a. length-map (ports_at ps a) (port_item n)) 0 (take m l.modes)
-
-pub port_stands : (l : Layout) (ps : List PlainProgram) (m j : ℕ) (a : ModeAt) (x : ParamNode) → slice_get l.modes m ≡ Some a → slice_get (ports_at ps a) j ≡ Some x
-    → slice_get (port_items l ps) (ports_before l ps m + j) ≡ Some (port_item m x)
-port_stands l ps m j a x there its =
-    subst (λ (n : ℕ). slice_get (port_items l ps) (n + j) ≡ Some (port_item m x)) (port_parts l ps m)
-    (at_part_0 (mode_port_items ps) l.modes m j a (port_item m x) there (to_map (port_item m) (ports_at ps a) j x its))
-
-invoke_parts : (l : Layout) (ps : List PlainProgram) (m : ℕ) → length (flat_map_at (mode_invoke_items l ps) 0 (take m l.modes)) ≡ invokes_before l ps m
-invoke_parts l ps m = same_length (mode_invoke_items l ps) (invokes_at ps) (λ n a. length-map (invokes_at ps a) (invoke_item l ps n a)) 0 (take m l.modes)
-
-pub invoke_stands : (l : Layout) (ps : List PlainProgram) (m j : ℕ) (a : ModeAt) (i : InvokeNode) → slice_get l.modes m ≡ Some a → slice_get (invokes_at ps a) j ≡ Some i
-    → slice_get (invoke_items l ps) (invokes_before l ps m + j) ≡ Some (invoke_item l ps m a i)
-invoke_stands l ps m j a i there its =
-    subst (λ (n : ℕ). slice_get (invoke_items l ps) (n + j) ≡ Some (invoke_item l ps m a i)) (invoke_parts l ps m)
-    (at_part_0 (mode_invoke_items l ps) l.modes m j a (invoke_item l ps m a i) there (to_map (invoke_item l ps m a) (invokes_at ps a) j i its))
+mode_stands l ps = stands (λ k s. mode_item k) (modes_in ps) l.modules
 
 -- ---- modes by their numbers
 
@@ -106,9 +76,7 @@ abbrev pub IsLaid : Layout → List PlainProgram → Type 0
 IsLaid l ps = l.modes ≡ mode_order ps l.modules
 
 pub mode_count : (l : Layout) (ps : List PlainProgram) → IsLaid l ps → length (mode_items l ps) ≡ length l.modes
-mode_count l ps laid =
-    same_length (module_mode_items ps) (λ (s : ModuleAt). modes_at ps s.program s.«module») (λ n s. length-map (modes_at ps s.program s.«module») (mode_item n)) 0 l.modules
-    ∙ sym (module_mode_parts ps l.modules) ∙ sym (ap length laid)
+mode_count l ps laid = counted (λ k s. mode_item k) (modes_in ps) l.modules ∙ sym (module_mode_parts ps l.modules) ∙ sym (ap length laid)
 
 pub mode_numbered : (l : Layout) (ps : List PlainProgram) → IsLaid l ps → (k m : ℕ) (s : ModuleAt) → slice_get l.modules k ≡ Some s → m < length (modes_at ps s.program s.«module»)
     → slice_get l.modes (modes_before l ps k + m) ≡ Some (at_mode s m)

@@ -1,29 +1,9 @@
 -- A source has one first name fault at most.
-use Rattle.std.proofs.Common.{◌≡◌, ℕ, zero, suc, ◌<◌, ◌⊎◌, inl, inr, List, refl, sym, ◌∙◌, ap, subst, arith}
+use Rattle.std.proofs.Common.{◌≡◌, ℕ, ◌<◌, ◌⊎◌, inl, inr, List, sym, ◌∙◌, subst, arith}
 use Rattle.htl_text.specs.Nodes.{PlainProgram}
 use Rattle.htl_names.specs.NameRules.{NameRule, RepeatedName, UnknownName, WrongKind, ProgramTree, ParentName, Limits, order_of, NameBroken, TriedBefore, IsFirstNameFault}
 use Rattle.htl_names.specs.declared.fault.NameFault.{NameFault}
-
--- the rule with a place in the order
-abbrev rule_at : ℕ → NameRule
-rule_at zero = RepeatedName
-rule_at (suc zero) = RepeatedName
-rule_at (suc (suc zero)) = UnknownName
-rule_at (suc (suc (suc zero))) = WrongKind
-rule_at (suc (suc (suc (suc zero)))) = ProgramTree
-rule_at (suc (suc (suc (suc (suc zero))))) = ParentName
-rule_at (suc (suc (suc (suc (suc (suc n)))))) = Limits
-
-rule_back : (r : NameRule) → rule_at (order_of r) ≡ r
-rule_back RepeatedName = refl
-rule_back UnknownName = refl
-rule_back WrongKind = refl
-rule_back ProgramTree = refl
-rule_back ParentName = refl
-rule_back Limits = refl
-
-same_rule : (r s : NameRule) → order_of r ≡ order_of s → r ≡ s
-same_rule r s e = sym (rule_back r) ∙ ap rule_at e ∙ rule_back s
+use Rattle.htl_names.proofs.ResolveLaws.{same_rule}
 
 three : (a b : ℕ) → (a < b) ⊎ (a ≡ b) ⊎ (b < a)
 three a b = grind arith

@@ -1,5 +1,5 @@
 -- Where the names that a source declares stand in its tree.
-use Rattle.std.proofs.Common.{◌≡◌, ℕ, zero, suc, ◌+◌, ◌<◌, ◌≤◌, ◌⊎◌, inl, inr, List, [], ◌∷◌, ◌++◌, length, take, slice_get, Some, refl, sym, ◌∙◌, ap, subst, arith, length-append}
+use Rattle.std.proofs.Common.{◌≡◌, ℕ, zero, suc, ◌+◌, ◌<◌, ◌≤◌, List, [], ◌∷◌, ◌++◌, length, take, slice_get, Some, refl, sym, ◌∙◌, ap, subst, arith, length-append}
 use Rattle.htl_text.specs.Bounds.{comms_of}
 use Rattle.htl_text.specs.Nodes.{PlainProgram, PlainModule, PlainMode, PlainTask}
 use Rattle.htl_text.specs.declared.tree.CommNode.{CommNode}
@@ -10,8 +10,8 @@ use Rattle.htl_names.specs.Entries.{entry, params_of, param_entry, task_entries,
 use Rattle.htl_names.specs.Keys.{program_key, module_key, task_key, mode_key}
 use Rattle.htl_names.specs.Lists.{flat_map_at, map_at}
 use Rattle.htl_names.specs.Order.{module_at, tasks_at, modes_at}
-use Rattle.htl_names.proofs.FlatMaps.{get_front, get_back, get_either, part_of_0, at_flat, of_map_at}
-use Rattle.htl_names.proofs.Members.{In}
+use Rattle.htl_names.proofs.FlatMaps.{get_front, get_back, at_flat}
+use Rattle.htl_names.proofs.Members.{at_place, Each, each_at, each_append, each_flat_map_at}
 use Rattle.htl_names.proofs.Places.{module_there, tasks_there, modes_there}
 
 -- where an entry comes from
@@ -27,100 +27,59 @@ pub data Origin (ps : List PlainProgram) : Entry → Type 0 where
 
 -- ---- from an entry to its place
 
-pub record InProgram (p first : ℕ) (xs : List PlainProgram) (e : Entry) : Type 0 where
-  pub place : ℕ
-  pub program : PlainProgram
-  pub there : slice_get xs place ≡ Some program
-  pub item : ℕ
-  pub is : slice_get (program_entries (p + place) (first + length (comms_of (take place xs))) program) item ≡ Some e
+each_program : (P : Entry → Type 0) (p first : ℕ) (xs : List PlainProgram)
+    → ((i q c : ℕ) (x : PlainProgram) → q ≡ p + i → c ≡ first + length (comms_of (take i xs)) → slice_get xs i ≡ Some x → Each P (program_entries q c x))
+    → Each P (entries_from p first xs)
+each_program P p first [] h = tt
+each_program P p first (x ∷ xs) h =
+    each_append P (program_entries p first x) (entries_from (suc p) (first + length x.comms) xs) (h 0 p first x (omega arith) (omega arith) refl)
+    (each_program P (suc p) (first + length x.comms) xs (λ i q c y is start there.
+    let size = length-append x.comms (comms_of (take i xs)) in h (suc i) q c y (omega (arith, is)) (omega (arith, start, size)) there))
 
-pub in_program : (p first : ℕ) (xs : List PlainProgram) (n : ℕ) (e : Entry) → slice_get (entries_from p first xs) n ≡ Some e → InProgram p first xs e
-in_program p first [] n e at = absurd cc
-in_program p first (x ∷ xs) n e at =
-    by (get_either (program_entries p first x) (entries_from (suc p) (first + length x.comms) xs) n e at) (in_program (suc p) (first + length x.comms) xs)
-  where
-    by : (slice_get (program_entries p first x) n ≡ Some e) ⊎ ((j : ℕ) × (n ≡ length (program_entries p first x) + j) × (slice_get (entries_from (suc p) (first + length x.comms) xs) j ≡ Some e))
-        → ((n : ℕ) (e : Entry) → slice_get (entries_from (suc p) (first + length x.comms) xs) n ≡ Some e → InProgram (suc p) (first + length x.comms) xs e) → InProgram p first (x ∷ xs) e
-    by (inl own) later =
-        let one : p ≡ p + 0 = omega arith in
-        let two : first ≡ first + 0 = omega arith in
-        record {
-          place = 0;
-          program = x;
-          there = refl;
-          item = n;
-          is = subst (λ (q : ℕ). slice_get (program_entries q (first + 0) x) n ≡ Some e) one (subst (λ (c : ℕ). slice_get (program_entries p c x) n ≡ Some e) two own);
-        }
-    by (inr b) later =
-        let r = later b.0 e b.2 in
-        let one : suc p + r.place ≡ p + suc r.place = omega arith in
-        let size = length-append x.comms (comms_of (take r.place xs)) in
-        let two : first + length x.comms + length (comms_of (take r.place xs)) ≡ first + length (x.comms ++ comms_of (take r.place xs)) = omega (arith, size) in
-        record {
-          place = suc r.place;
-          program = r.program;
-          there = r.there;
-          item = r.item;
-          is = subst (λ (q : ℕ). slice_get (program_entries q (first + length (x.comms ++ comms_of (take r.place xs))) r.program) r.item ≡ Some e) one
-              (subst (λ (c : ℕ). slice_get (program_entries (suc p + r.place) c r.program) r.item ≡ Some e) two r.is);
-        }
+each_map_at : {B : Type 0} (P : Entry → Type 0) (f : ℕ → B → Entry) (k : ℕ) (xs : List B) → ((i j : ℕ) (x : B) → i ≡ k + j → slice_get xs j ≡ Some x → P (f i x))
+    → Each P (map_at f k xs)
+each_map_at P f k [] h = tt
+each_map_at P f k (x ∷ xs) h = (h k 0 x (omega arith) refl, each_map_at P f (suc k) xs (λ i j y is there. h i (suc j) y (omega (arith, is)) there))
 
-origin_in_task : (ps : List PlainProgram) (p u k : ℕ) (t : PlainTask) (n : ℕ) (e : Entry) → slice_get (tasks_at ps p u) k ≡ Some t → slice_get (task_entries p u k t) n ≡ Some e → Origin ps e
-origin_in_task ps p u k t zero e there at = let is : entry (task_key p u t.name.name) k t.name ≡ e = cc in subst (Origin ps) is (of_task p u k t there)
-origin_in_task ps p u k t (suc n) e there at =
-    let r = of_map_at (param_entry p u k) 0 (params_of t) n e at in
-    let same : n ≡ 0 + n = omega arith in
-    subst (Origin ps) (ap (λ (j : ℕ). param_entry p u k j r.0) same ∙ r.2) (of_param p u k t there n r.0 r.1)
+in_task : (ps : List PlainProgram) (p u k : ℕ) (t : PlainTask) → slice_get (tasks_at ps p u) k ≡ Some t → Each (Origin ps) (task_entries p u k t)
+in_task ps p u k t there = (
+  of_task p u k t there,
+  each_map_at (Origin ps) (param_entry p u k) 0 (params_of t) (λ i j x is its. of_param p u k t there i x (at_place (params_of t) i j x is its)),
+)
 
-origin_in_mode : (ps : List PlainProgram) (p u m : ℕ) (x : PlainMode) (n : ℕ) (e : Entry) → slice_get (modes_at ps p u) m ≡ Some x → slice_get (mode_entries p u m x) n ≡ Some e → Origin ps e
-origin_in_mode ps p u m x zero e there at = let is : entry (mode_key p u x.name.name) m x.name ≡ e = cc in subst (Origin ps) is (of_mode p u m x there)
-origin_in_mode ps p u m x (suc n) e there at =
-    elim (get_either (map_at (port_entry p u m) 0 x.ports) (map_at (invoke_entry p u m) 0 x.invokes) n e at) [
-      | inl a ↦
-          let r = of_map_at (port_entry p u m) 0 x.ports n e a in
-          let same : n ≡ 0 + n = omega arith in
-          subst (Origin ps) (ap (λ (j : ℕ). port_entry p u m j r.0) same ∙ r.2) (of_port p u m x there n r.0 r.1)
-      | inr b ↦
-          let r = of_map_at (invoke_entry p u m) 0 x.invokes b.0 e b.2 in
-          let same : b.0 ≡ 0 + b.0 = omega arith in
-          subst (Origin ps) (ap (λ (j : ℕ). invoke_entry p u m j r.0) same ∙ r.2) (of_invoke p u m x there b.0 r.0 r.1)
-    ]
+in_mode : (ps : List PlainProgram) (p u m : ℕ) (x : PlainMode) → slice_get (modes_at ps p u) m ≡ Some x → Each (Origin ps) (mode_entries p u m x)
+in_mode ps p u m x there = (
+  of_mode p u m x there,
+  each_append (Origin ps) (map_at (port_entry p u m) 0 x.ports) (map_at (invoke_entry p u m) 0 x.invokes)
+      (each_map_at (Origin ps) (port_entry p u m) 0 x.ports (λ i j y is its. of_port p u m x there i y (at_place x.ports i j y is its)))
+      (each_map_at (Origin ps) (invoke_entry p u m) 0 x.invokes (λ i j y is its. of_invoke p u m x there i y (at_place x.invokes i j y is its))),
+)
 
-origin_in_module : (ps : List PlainProgram) (p u : ℕ) (x : PlainModule) (n : ℕ) (e : Entry) → module_at ps p u ≡ Some x → slice_get (module_entries p u x) n ≡ Some e → Origin ps e
-origin_in_module ps p u x zero e there at = let is : entry (module_key x.name.name) u x.name ≡ e = cc in subst (Origin ps) is (of_module p u x there)
-origin_in_module ps p u x (suc n) e there at =
-    elim (get_either (flat_map_at (task_entries p u) 0 x.tasks) (flat_map_at (mode_entries p u) 0 x.modes) n e at) [
-      | inl a ↦
-          let r = part_of_0 (task_entries p u) x.tasks n e a in
-          origin_in_task ps p u r.part r.owner r.place e (ap (λ ts. slice_get ts r.part) (tasks_there ps p u x there) ∙ r.there) r.item
-      | inr b ↦
-          let r = part_of_0 (mode_entries p u) x.modes b.0 e b.2 in
-          origin_in_mode ps p u r.part r.owner r.place e (ap (λ ms. slice_get ms r.part) (modes_there ps p u x there) ∙ r.there) r.item
-    ]
+in_module : (ps : List PlainProgram) (p u : ℕ) (x : PlainModule) → module_at ps p u ≡ Some x → Each (Origin ps) (module_entries p u x)
+in_module ps p u x there = (
+  of_module p u x there,
+  each_append (Origin ps) (flat_map_at (task_entries p u) 0 x.tasks) (flat_map_at (mode_entries p u) 0 x.modes)
+      (each_flat_map_at (Origin ps) (task_entries p u) 0 x.tasks (λ k j t is its.
+      in_task ps p u k t (ap (λ ts. slice_get ts k) (tasks_there ps p u x there) ∙ at_place x.tasks k j t is its)))
+      (each_flat_map_at (Origin ps) (mode_entries p u) 0 x.modes (λ m j y is its.
+      in_mode ps p u m y (ap (λ ms. slice_get ms m) (modes_there ps p u x there) ∙ at_place x.modes m j y is its))),
+)
 
-origin_in_program : (ps : List PlainProgram) (p : ℕ) (x : PlainProgram) (n : ℕ) (e : Entry) → slice_get ps p ≡ Some x
-    → slice_get (program_entries p (length (comms_of (take p ps))) x) n ≡ Some e → Origin ps e
-origin_in_program ps p x zero e there at = let is : entry (program_key x.name.name) p x.name ≡ e = cc in subst (Origin ps) is (of_program p x there)
-origin_in_program ps p x (suc n) e there at =
-    let first = length (comms_of (take p ps)) in
-    elim (get_either (map_at comm_entry first x.comms) (flat_map_at (module_entries p) 0 x.modules) n e at) [
-      | inl a ↦
-          let r = of_map_at comm_entry first x.comms n e a in
-          subst (Origin ps) r.2 (of_comm (first + n) r.0 (at_flat (λ (q : PlainProgram). q.comms) ps p n x r.0 there r.1))
-      | inr b ↦
-          let r = part_of_0 (module_entries p) x.modules b.0 e b.2 in
-          origin_in_module ps p r.part r.owner r.place e (module_there ps p r.part x r.owner there r.there) r.item
-    ]
+origins : (ps : List PlainProgram) → Each (Origin ps) (entries ps)
+origins ps =
+    each_program (Origin ps) 0 0 ps (λ i p c x is start its.
+    let there = at_place ps p i x is its in (
+      of_program p x there,
+      each_append (Origin ps) (map_at comm_entry c x.comms) (flat_map_at (module_entries p) 0 x.modules)
+          (each_map_at (Origin ps) comm_entry c x.comms (λ n j y e own.
+          let place : n ≡ length (comms_of (take i ps)) + j = omega (arith, e, start) in
+          of_comm n y (ap (slice_get (comms_of ps)) place ∙ at_flat (λ (q : PlainProgram). q.comms) ps i j x y its own)))
+          (each_flat_map_at (Origin ps) (module_entries p) 0 x.modules (λ u j y e own. in_module ps p u y (module_there ps p u x y there (at_place x.modules u j y e own)))),
+    ))
 
 -- each entry comes from somewhere
 pub origin : (ps : List PlainProgram) (n : ℕ) (e : Entry) → slice_get (entries ps) n ≡ Some e → Origin ps e
-origin ps n e at =
-    let r = in_program 0 0 ps n e at in
-    let one : 0 + r.place ≡ r.place = omega arith in
-    let two : 0 + length (comms_of (take r.place ps)) ≡ length (comms_of (take r.place ps)) = omega arith in
-    origin_in_program ps r.place r.program r.item e r.there
-    (subst (λ (q : ℕ). slice_get (program_entries q (length (comms_of (take r.place ps))) r.program) r.item ≡ Some e) one
-    (subst (λ (c : ℕ). slice_get (program_entries (0 + r.place) c r.program) r.item ≡ Some e) two r.is))
+origin ps n e at = each_at (Origin ps) (entries ps) n e (origins ps) at
 
 -- ---- from a place to its entry
 
@@ -164,10 +123,6 @@ in_source_at ps p n x e there at =
     at_program 0 0 ps p n x e there
     (subst (λ (q : ℕ). slice_get (program_entries q (0 + length (comms_of (take p ps))) x) n ≡ Some e) one
     (subst (λ (c : ℕ). slice_get (program_entries p c x) n ≡ Some e) two at))
-
-pub in_source : (ps : List PlainProgram) (p n : ℕ) (x : PlainProgram) (e : Entry) → slice_get ps p ≡ Some x
-    → slice_get (program_entries p (length (comms_of (take p ps))) x) n ≡ Some e → In e (entries ps)
-in_source ps p n x e there at = (first_entry ps p + n, in_source_at ps p n x e there at)
 
 -- the entries of a program end where those of a later one begin, or before
 pub entries_before : (p first : ℕ) (xs : List PlainProgram) (i j : ℕ) (x : PlainProgram) → i < j → slice_get xs i ≡ Some x

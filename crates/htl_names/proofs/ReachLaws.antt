@@ -8,12 +8,9 @@ use Rattle.std.proofs.lemmas.Cmp.{nat_eq_equiv}
 use Rattle.std.proofs.lemmas.Map.Steps.{length-le_from_distinct_below}
 use Rattle.std.proofs.lemmas.Option.{slice_get_past, slice_get_within}
 use Rattle.std.proofs.lemmas.Bool.Decides.{nat_tests}
+use Rattle.htl_names.proofs.FlatMaps.{get_front, past}
 use Rattle.htl_names.specs.Programs.{Graph, named_by, Reached, root, below}
 use Rattle.htl_names.specs.Reach.{is_in, met, met_by, found_after, IsMarked, MarksReached}
-
-bool : (b : Bool) → (b ≡ true) ⊎ (b ≡ false)
-bool true = inl refl
-bool false = inr refl
 
 either : (a b : Bool) → (a || b) ≡ true → (a ≡ true) ⊎ (b ≡ true)
 either true b h = inl refl
@@ -46,11 +43,6 @@ grown_more xs ys zs a b = (a.0 ++ b.0, b.1 ∙ ap (λ l. l ++ b.0) a.1 ∙ appen
 
 grown_has : (xs ys : List ℕ) (q : ℕ) → Grown xs ys → is_in xs q ≡ true → is_in ys q ≡ true
 grown_has xs ys q g h = ap (λ l. is_in l q) g.1 ∙ list_any-append (eqb q) xs g.0 ∙ left (is_in xs q) _ h
-
-grown_at : (xs more : List ℕ) (j p : ℕ) → slice_get xs j ≡ Some p → slice_get (xs ++ more) j ≡ Some p
-grown_at [] more j p h = cc
-grown_at (x ∷ xs) more zero p h = h
-grown_at (x ∷ xs) more (suc j) p h = grown_at xs more j p h
 
 met_grows : (n : ℕ) (queue : List ℕ) (q : ℕ) → Grown queue (met n queue q)
 met_grows n queue q = by (ltb q n && not (is_in queue q))
@@ -192,16 +184,11 @@ stood g j d p h = by (slice_get (found_after j g) j) refl
     none_some : (y : ℕ) → ◌≡◌ {A = Option ℕ} None (Some y) → ⊥
     none_some y e = cc
 
-    past : (xs : List ℕ) (k : ℕ) → slice_get xs k ≡ None → length xs ≤ k
-    past [] k e = omega arith
-    past (x ∷ xs) zero e = cc
-    past (x ∷ xs) (suc k) e = omega (arith, past xs k e)
-
     by : (o : Option ℕ) → slice_get (found_after j g) j ≡ o → slice_get (found_after j g) j ≡ Some p
     by None e = absurd (none_some p (sym e ∙ ap (λ xs. slice_get xs j) (sym (stalls g j d (past (found_after j g) j e))) ∙ h))
     by (Some x) e =
         let grows = found_grows g j d in
-        let later : slice_get (found_after (d + j) g) j ≡ Some x = ap (λ xs. slice_get xs j) grows.1 ∙ grown_at (found_after j g) grows.0 j x e in
+        let later : slice_get (found_after (d + j) g) j ≡ Some x = ap (λ xs. slice_get xs j) grows.1 ∙ get_front (found_after j g) grows.0 j x e in
         e ∙ sym later ∙ h
 
 place_of : (xs : List ℕ) (q : ℕ) → is_in xs q ≡ true → (j : ℕ) × (slice_get xs j ≡ Some q)

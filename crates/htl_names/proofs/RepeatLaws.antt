@@ -1,56 +1,37 @@
 -- A name that repeats, by a table of symbols.
-use Rattle.std.proofs.Common.{◌≡◌, ◌<◌, ◌≤◌, ◌+◌, ◌++◌, get_or, ℕ, zero, suc, Bool, true, false, cond, List, [], ◌∷◌, take, map, slice_get, Option, Some, None, refl, sym, ◌∙◌, ap, arith, length, inl, inr}
+use Rattle.std.proofs.Common.{◌≡◌, ◌<◌, ◌≤◌, ◌+◌, ◌++◌, get_or, ℕ, zero, suc, List, [], ◌∷◌, take, map, slice_get, Some, None, sym, ◌∙◌, ap, arith, length, inl, inr}
 use Rattle.std.proofs.Math.Nat.{eq-or-lt_of_le}
 use Rattle.std.proofs.lemmas.List.{map-append, take_more}
 use Rattle.std.proofs.Math.Seq.{take-length}
-use Rattle.std.proofs.lemmas.Option.{slice_get_within}
+use Rattle.std.proofs.lemmas.Option.{none-some, slice_get_within}
 use Rattle.htl_names.specs.declared.key.Key.{Key}
 use Rattle.htl_names.specs.declared.key.Entry.{Entry}
 use Rattle.htl_names.specs.Entries.{Repeats}
-use Rattle.htl_names.specs.Keys.{same_key, look_up, pair_of}
+use Rattle.htl_names.specs.Keys.{look_up, pair_of}
 use Rattle.htl_names.specs.Repeats.{AreApartTo, AreApart}
-use Rattle.htl_names.specs.SameKeys.{same_key_decides}
+use Rattle.htl_names.proofs.Meant.{found, some}
 
--- an entry below place k has the key
-abbrev pub StandsBelow : List Entry → ℕ → Key → Type 0
-StandsBelow es k key = (j : ℕ) × (d : Entry) × (j < k) × (slice_get es j ≡ Some d) × (d.key ≡ key)
+-- ---- the entries before place k
 
-later : (e : Entry) (es : List Entry) (k : ℕ) (key : Key) → StandsBelow es k key → StandsBelow (e ∷ es) (suc k) key
-later e es k key h = let below = h.2 in (suc h.0, h.1, omega (arith, below), h.3, h.4)
+in_front : (es : List Entry) (k j : ℕ) (d : Entry) → slice_get (take k es) j ≡ Some d → (j < k) × (slice_get es j ≡ Some d)
+in_front es zero j d e = absurd (none-some {A = Entry} d e)
+in_front [] (suc k) j d e = absurd (none-some {A = Entry} d e)
+in_front (x ∷ es) (suc k) zero d e = (omega arith, e)
+in_front (x ∷ es) (suc k) (suc j) d e = let r = in_front es k j d e in let below = r.0 in (omega (arith, below), r.1)
 
-by_test : (b : Bool) (e : Entry) (es : List Entry) (k : ℕ) (key : Key) (rest : Option ℕ) (n : ℕ) → same_key key e.key ≡ b
-    → ((m : ℕ) → rest ≡ Some m → StandsBelow es k key) → cond b (Some e.number) rest ≡ Some n → StandsBelow (e ∷ es) (suc k) key
-by_test true e es k key rest n is ih h = (0, e, omega arith, refl, sym ((same_key_decides key e.key).0 is))
-by_test false e es k key rest n is ih h = later e es k key (ih n h)
-
-pub found : (es : List Entry) (k : ℕ) (key : Key) (n : ℕ) → look_up key (map pair_of (take k es)) ≡ Some n → StandsBelow es k key
-found [] zero key n h = absurd cc
-found (e ∷ es) zero key n h = absurd cc
-found [] (suc k) key n h = absurd cc
-found (e ∷ es) (suc k) key n h =
-    by_test (same_key key e.key) e es k key (look_up key (map pair_of (take k es))) n refl (λ m is. found es k key m is) h
-
-rest_none : (b : Bool) (x : ℕ) (rest : Option ℕ) → cond b (Some x) rest ≡ None → (b ≡ false) × (rest ≡ None)
-rest_none true x rest h = absurd cc
-rest_none false x rest h = (refl, h)
-
-pub missing : (es : List Entry) (k : ℕ) (key : Key) → look_up key (map pair_of (take k es)) ≡ None → StandsBelow es k key → ⊥
-missing es zero key h at = let below = at.2 in omega (arith, below)
-missing [] (suc k) key h at = let is = at.3 in absurd cc
-missing (e ∷ es) (suc k) key h at =
-    let parts = rest_none (same_key key e.key) e.number (look_up key (map pair_of (take k es))) h in
-    place at.0 at.1 at.2 at.3 at.4 parts.0 (λ there. missing es k key parts.1 there)
-  where
-    place : (j : ℕ) (d : Entry) → j < suc k → slice_get (e ∷ es) j ≡ Some d → d.key ≡ key → same_key key e.key ≡ false → (StandsBelow es k key → ⊥) → ⊥
-    place zero d below is same test rest =
-        let same_entry : e ≡ d = cc in
-        let yes_test = (same_key_decides key e.key).1 (sym (ap (λ (x : Entry). x.key) same_entry ∙ same)) in absurd cc
-    place (suc j) d below is same test rest = rest (j, d, omega (arith, below), is, same)
+at_front : (es : List Entry) (k j : ℕ) (d : Entry) → j < k → slice_get es j ≡ Some d → slice_get (take k es) j ≡ Some d
+at_front es zero j d below e = absurd (omega (arith, below))
+at_front [] (suc k) j d below e = absurd (none-some {A = Entry} d e)
+at_front (x ∷ es) (suc k) zero d below e = e
+at_front (x ∷ es) (suc k) (suc j) d below e = at_front es k j d (omega (arith, below)) e
 
 -- ---- in the words of the definition
 
 pub repeats_here : (es : List Entry) (k : ℕ) (e : Entry) (seen : List (Key × ℕ)) (n : ℕ) → seen ≡ map pair_of (take k es) → Some n ≡ look_up e.key seen → Repeats es k e
-repeats_here es k e seen n are is = found es k e.key n (ap (look_up e.key) (sym are) ∙ sym is)
+repeats_here es k e seen n are is =
+    let f = found e.key (take k es) n (ap (look_up e.key) (sym are) ∙ sym is) in
+    let place = in_front es k f.1.0 f.0 f.1.1 in
+    (f.1.0, f.0, place.0, place.1, f.2)
 
 pub apart_here : (es : List Entry) (k : ℕ) (e : Entry) (seen : List (Key × ℕ)) → seen ≡ map pair_of (take k es) → look_up e.key seen ≡ None
     → slice_get es k ≡ Some e → AreApartTo k es → AreApartTo (suc k) es
@@ -60,8 +41,10 @@ apart_here es k e seen are is here apart j d below there repeats = place j d (om
     at_last j d same there repeats =
         let there_too : slice_get es k ≡ Some d = ap (slice_get es) (sym same) ∙ there in
         let same_entry : e ≡ d = cc in
-        missing es k e.key (ap (look_up e.key) (sym are) ∙ is)
-        (repeats.0, repeats.1, (let before = repeats.2 in omega (arith, before, same)), repeats.3, repeats.4 ∙ ap (λ (x : Entry). x.key) (sym same_entry))
+        let before = repeats.2 in
+        let keys : repeats.1.key ≡ e.key = repeats.4 ∙ ap (λ (x : Entry). x.key) (sym same_entry) in
+        let there_is = some (take k es) repeats.0 repeats.1 (at_front es k repeats.0 repeats.1 (omega (arith, before, same)) repeats.3) in
+        none-some {A = ℕ} there_is.0 (sym is ∙ ap (look_up e.key) are ∙ ap (λ (key : Key). look_up key (map pair_of (take k es))) (sym keys) ∙ there_is.1)
 
     place : (j : ℕ) (d : Entry) → j < suc k → slice_get es j ≡ Some d → Repeats es j d → ⊥
     place j d below there repeats =

@@ -2,21 +2,19 @@
 use Rattle.std.proofs.Common.{refl, ◌≡◌, ◌+◌, ◌≤◌, ℕ, suc, List, [], ◌∷◌, ◌++◌, length, Result, Ok, Err, OnOk, sym, ◌∙◌, ap, append_assoc, arith, length-append}
 use Rattle.std.proofs.lemmas.List.Concat.{flat_map-cons}
 use Rattle.htl_text.specs.Nodes.{PlainProgram, PlainOut}
+use Rattle.htl_names.proofs.Walking.{length-map_at}
 use Rattle.htl_names.specs.Entries.{program_entries, comm_entry, module_entries, param_entry}
 use Rattle.htl_names.specs.Kinds.{Judged, program_kinds}
 use Rattle.htl_names.specs.Lists.{map_at, flat_map_at}
 use Rattle.htl_names.specs.Parents.{ParentUse}
-use Rattle.htl_names.specs.Rows.{Rows, joined, declaring, using, outs_rows, program_rows, programs_rows}
+use Rattle.htl_names.specs.Rows.{Rows, rows_with, joined, declaring, using, outs_rows, program_rows, programs_rows}
 use Rattle.htl_names.specs.Uses.{output_uses}
 use Rattle.htl_names.specs.declared.key.Entry.{Entry}
 use Rattle.htl_names.specs.declared.key.Use.{Use}
 
-abbrev make : List Entry → List Use → List Judged → List ParentUse → Rows
-make es us js ps = record { entries = es; uses = us; kinds = js; parents = ps }
-
-pub same_rows : (es fs : List Entry) (us vs : List Use) (js ks : List Judged) (ps qs : List ParentUse) → es ≡ fs → us ≡ vs → js ≡ ks → ps ≡ qs → make es us js ps ≡ make fs vs ks qs
+pub same_rows : (es fs : List Entry) (us vs : List Use) (js ks : List Judged) (ps qs : List ParentUse) → es ≡ fs → us ≡ vs → js ≡ ks → ps ≡ qs → rows_with es us js ps ≡ rows_with fs vs ks qs
 same_rows es fs us vs js ks ps qs a b c d =
-    ap (λ x. make x us js ps) a ∙ ap (λ x. make fs x js ps) b ∙ ap (λ x. make fs vs x ps) c ∙ ap (λ x. make fs vs ks x) d
+    ap (λ x. rows_with x us js ps) a ∙ ap (λ x. rows_with fs x js ps) b ∙ ap (λ x. rows_with fs vs x ps) c ∙ ap (λ x. rows_with fs vs ks x) d
 
 pub alike : (a b : Rows) → a.entries ≡ b.entries → a.uses ≡ b.uses → a.kinds ≡ b.kinds → a.parents ≡ b.parents → a ≡ b
 alike a b p q r s = same_rows a.entries b.entries a.uses b.uses a.kinds b.kinds a.parents b.parents p q r s
@@ -63,10 +61,6 @@ pub programs_step : (p first : ℕ) (x : PlainProgram) (xs : List PlainProgram)
 programs_step p first x xs = alike _ _ refl refl (flat_map-cons program_kinds x xs) refl
 
 -- ---- communicators are numbered over all programs
-
-pub length-map_at : {A B : Type 0} (g : ℕ → A → B) (k : ℕ) (xs : List A) → length (map_at g k xs) ≡ length xs
-length-map_at g k [] = refl
-length-map_at g k (x ∷ xs) = ap suc (length-map_at g (suc k) xs)
 
 pub few_more : (p first after : ℕ) (x : PlainProgram) (old new : Rows) → after ≡ first + length x.comms
     → new ≡ joined old (program_rows p first x) → first ≤ length old.entries → after ≤ length new.entries

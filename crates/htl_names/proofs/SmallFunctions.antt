@@ -1,7 +1,7 @@
 -- The functions of a source have few nodes, and arguments that are there.
-use Rattle.std.proofs.Common.{◌≡◌, ◌≤◌, ◌<◌, ◌+◌, ◌||◌, ℕ, zero, suc, Bool, true, false, cond, eqb, fold, List, [], ◌∷◌, ◌++◌, length, map, take, slice_get, Option, Some, None, refl, sym, ◌∙◌, ap, ap₂, subst, arith, inl, inr}
+use Rattle.std.proofs.Common.{◌≡◌, ◌≤◌, ◌<◌, ◌+◌, ◌||◌, ℕ, zero, suc, Bool, true, false, cond, eqb, fold, List, [], ◌∷◌, ◌++◌, length, map, take, slice_get, Option, Some, None, refl, sym, ◌∙◌, ap, ap₂, eq-eqb, subst, arith, inl, inr}
 use Rattle.std.specs.List.{flat_map, list_any, All}
-use Rattle.std.proofs.lemmas.Bool.Decides.{nat_tests}
+use Rattle.std.proofs.Math.Bool.{or-true}
 use Rattle.std.proofs.lemmas.Grind.{flat_map-append}
 use Rattle.std.proofs.lemmas.List.{map-append, length-map}
 use Rattle.htl_model.specs.FunctionTypes.{FunctionType, output_type, task_types, switch_type, comm_type, function_types}
@@ -10,12 +10,14 @@ use Rattle.htl_names.proofs.Paired.{Paired, paired_append, paired_at}
 use Rattle.htl_model.specs.Ranges.{AreInRange, IsTaskInRange, IsSwitchInRange}
 use Rattle.htl_model.specs.Tables.{Tables, Fun, Formula, Compiled}
 use Rattle.htl_model.specs.declared.parts.Task.{Task}
+use Rattle.htl_names.proofs.Distinct.{any_end}
 use Rattle.htl_names.proofs.FlatMaps.{get_front, get_back, get_either, flat_part, at_flat}
 use Rattle.htl_names.proofs.Members.{All-at}
+use Rattle.htl_names.proofs.ModuleRanges.{task_small}
 use Rattle.htl_names.proofs.Owners.{to_map, of_map}
-use Rattle.htl_names.proofs.Places.{task_in_source, part_in_source}
+use Rattle.htl_names.proofs.Places.{part_in_source}
 use Rattle.htl_names.proofs.Used.{known, in_task}
-use Rattle.htl_names.specs.Conditions.{MeetsBounds, MeetsTaskBounds, MeetsSwitchBounds}
+use Rattle.htl_names.specs.Conditions.{MeetsBounds, MeetsSwitchBounds}
 use Rattle.htl_names.specs.Flat.{Layout, layout, meaning, term_by, types_of, is_abstract, task_item, module_task_items, input_place, output_function, outs_functions, task_functions, module_functions, comms_in, switch_item, mode_switch_items, read_place, switch_function, mode_functions, tables_of_tree}
 use Rattle.htl_names.specs.Keys.{comm_key}
 use Rattle.htl_names.specs.Lists.{flat_map_at, place_in, with_new}
@@ -25,7 +27,7 @@ use Rattle.htl_names.specs.Uses.{input_use, output_uses, outputs_uses, task_uses
 use Rattle.htl_names.specs.declared.key.Use.{Use}
 use Rattle.htl_names.specs.declared.place.ModeAt.{ModeAt}
 use Rattle.htl_names.specs.declared.place.ModuleAt.{ModuleAt}
-use Rattle.htl_text.specs.Bounds.{names_of, out_params, out_values, modules_of, modes_of, tasks_of, switches_of, tree_nodes}
+use Rattle.htl_text.specs.Bounds.{names_of, out_params, out_values, modules_of, modes_of, switches_of, tree_nodes}
 use Rattle.htl_text.specs.Expressions.{Expr, Number, Flag, Variable, Prefix, Infix, Choice}
 use Rattle.htl_text.specs.Nodes.{PlainProgram, PlainMode, PlainTask, PlainOut, PlainOuts, PlainSwitch, Concrete, Abstract}
 use Rattle.htl_text.specs.declared.tree.Id.{Id}
@@ -65,9 +67,6 @@ near_by f first n place e same few h = (omega (arith, nodes_same place e, few), 
 -- ---- outputs
 
 module _ (ps : List PlainProgram) (small : MeetsBounds ps) (right : AreNamesRight ps) where
-  task_small : (p u n : ℕ) (t : PlainTask) → slice_get (tasks_at ps p u) n ≡ Some t → MeetsTaskBounds t
-  task_small p u n t at = let s = task_in_source ps p u n t at in All-at MeetsTaskBounds (tasks_of (modules_of ps)) (s.0 + n) t small.tasks s.1
-
   input_below : (p u n : ℕ) (t : PlainTask) (os : List PlainOut) (i j : ℕ) (o : PlainOut) (id : Id) → slice_get (tasks_at ps p u) n ≡ Some t → t.outputs ≡ Concrete os → slice_get os i ≡ Some o
       → slice_get (names_of o.value) j ≡ Some id → input_place (layout ps) p u n id < length t.inputs
   input_below p u n t os i j o id at is its named =
@@ -97,7 +96,7 @@ module _ (ps : List PlainProgram) (small : MeetsBounds ps) (right : AreNamesRigh
       by (Abstract xs) e = tt
       by (Concrete os) e =
           let values : All (λ (v : Expr). tree_nodes v ≤ 512) (map (λ (o : PlainOut). o.value) os) =
-          subst (λ (x : PlainOuts). All (λ (v : Expr). tree_nodes v ≤ 512) (out_values x)) e (task_small p u n t at).values in
+          subst (λ (x : PlainOuts). All (λ (v : Expr). tree_nodes v ≤ 512) (out_values x)) e (task_small ps small p u n t at).values in
           outs_paired p u n t os (λ i o its. (
             All-at (λ (v : Expr). tree_nodes v ≤ 512) (map (λ (y : PlainOut). y.value) os) i o.value values (to_map (λ (y : PlainOut). y.value) os i o its),
             λ j id named. input_below p u n t os i j o id at e its named,
@@ -133,20 +132,10 @@ place_less x (y ∷ xs) h = by (eqb x y) h (place_less x xs)
     by false h later = let r : place_in (eqb x) xs < length xs = later h in omega arith
 
 any_front : (x y : ℕ) (xs : List ℕ) → list_any (eqb x) xs ≡ true → list_any (eqb x) (xs ++ y ∷ []) ≡ true
-any_front x y [] h = cc
-any_front x y (z ∷ xs) h = by (eqb x z) h (any_front x y xs)
-  where
-    by : (b : Bool) → (b || list_any (eqb x) xs) ≡ true → (list_any (eqb x) xs ≡ true → list_any (eqb x) (xs ++ y ∷ []) ≡ true) → (b || list_any (eqb x) (xs ++ y ∷ [])) ≡ true
-    by true h later = refl
-    by false h later = later h
+any_front x y xs h = any_end (eqb x) xs y ∙ ap (λ (b : Bool). b || eqb x y) h
 
 any_last : (x : ℕ) (xs : List ℕ) → list_any (eqb x) (xs ++ x ∷ []) ≡ true
-any_last x [] = let same : eqb x x ≡ true = grind (arith, nat_tests) in ap (λ (b : Bool). b || false) same
-any_last x (z ∷ xs) = by (eqb x z) (any_last x xs)
-  where
-    by : (b : Bool) → list_any (eqb x) (xs ++ x ∷ []) ≡ true → (b || list_any (eqb x) (xs ++ x ∷ [])) ≡ true
-    by true h = refl
-    by false h = h
+any_last x xs = any_end (eqb x) xs x ∙ ap (λ (b : Bool). list_any (eqb x) xs || b) (eq-eqb x x refl) ∙ or-true (list_any (eqb x) xs)
 
 kept_one : (x y : ℕ) (acc : List ℕ) → list_any (eqb x) acc ≡ true → list_any (eqb x) (with_new acc y) ≡ true
 kept_one x y acc h = by (list_any (eqb y) acc)

@@ -24,6 +24,7 @@ use Rattle.htl_names.specs.Ordered.{IsOrdered}
 use Rattle.htl_names.specs.Uses.{usage, comm_use}
 use Rattle.htl_names.proofs.FlatMaps.{flat_part, part_of_0, get_either, same_length}
 use Rattle.htl_names.proofs.InvokeRanges.{of_mode, owner_of, number_of}
+use Rattle.htl_names.proofs.Listings.{from}
 use Rattle.htl_names.proofs.Meant.{comm_means, mode_means}
 use Rattle.htl_names.proofs.ModuleRanges.{meaning_is, its_mode}
 use Rattle.htl_names.proofs.Numbered.{ModeOf, mode_of_number, mode_count}
@@ -79,22 +80,22 @@ pub switch_in_range : (ps : List PlainProgram) → MeetsBounds ps → AreNamesRi
     → slice_get (switch_items (layout ps) ps) n ≡ Some y → IsSwitchInRange (tables_of_tree ps) y
 switch_in_range ps small right ordered n y e =
     let l = layout ps in
-    let p = part_of_0 (mode_switch_items l ps) l.modes n y e in
+    let p = from (switch_item l ps) (switches_at ps) l.modes n y e in
     let a = p.owner in
-    let f = mode_of_number l ps refl p.part a p.there in
-    let s = of_map (switch_item l ps p.part a) (switches_at ps a) p.place y p.item in
-    let its : slice_get f.node.switches p.place ≡ Some s.0 = sym (ap (λ ss. slice_get ss p.place) (of_mode ps a f.node (λ z. z.switches) f.its)) ∙ s.1 in
-    let within = slice_get_within l.modes p.part a p.there in
+    let s = p.node in
+    let f = mode_of_number l ps refl p.number a p.there in
+    let its : slice_get f.node.switches p.place ≡ Some s = sym (ap (λ ss. slice_get ss p.place) (of_mode ps a f.node (λ z. z.switches) f.its)) ∙ p.its in
+    let within = slice_get_within l.modes p.number a p.there in
     let size = mode_count l ps refl in
-    let few = switch_small ps small a.program a.«module» a.mode p.place f.node s.0 f.its its in
-    let fewer = few_reads ps s.0.cond in
+    let few = switch_small ps small a.program a.«module» a.mode p.place f.node s f.its its in
+    let fewer = few_reads ps s.cond in
     let names = few.names in
-    subst (IsSwitchInRange (tables_of_tree ps)) s.2
+    subst (IsSwitchInRange (tables_of_tree ps)) p.is
     (record {
       owner = omega (arith, within, size);
-      target = target_in_range ps right ordered p.part a f p.place s.0 its;
-      reads = comms_in_range ps right p.part a f p.place s.0 its;
-      different = different_numbers (comms_in l s.0.cond) (distinct_apart [] (map (λ (id : Id). meaning l (comm_key id.name)) (names_of s.0.cond)) (λ j k x less p q. absurd (omega (arith, slice_get_within [] j x p))));
+      target = target_in_range ps right ordered p.number a f p.place s its;
+      reads = comms_in_range ps right p.number a f p.place s its;
+      different = different_numbers (comms_in l s.cond) (distinct_apart [] (map (λ (id : Id). meaning l (comm_key id.name)) (names_of s.cond)) (λ j k x less p q. absurd (omega (arith, slice_get_within [] j x p))));
       few_reads = omega (arith, fewer, names);
     })
 

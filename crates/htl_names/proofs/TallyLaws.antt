@@ -15,7 +15,7 @@ use Rattle.htl_names.specs.Tallies.{no_tally, with_mode, with_sizes, with_module
 
 -- ---- sums over lists
 
-twice : (a cap : ℕ) → min (min a cap) cap ≡ min a cap
+pub twice : (a cap : ℕ) → min (min a cap) cap ≡ min a cap
 twice a cap = omega arith
 
 -- what is added item by item, under a cap

@@ -1,5 +1,5 @@
 -- The names that a tree uses are known where no name rule is broken.
-use Rattle.std.proofs.Common.{◌≡◌, ◌<◌, ◌≤◌, ◌+◌, ℕ, suc, List, [], ◌∷◌, ◌++◌, map, length, take, slice_get, Some, None, refl, sym, ◌∙◌, subst}
+use Rattle.std.proofs.Common.{◌≡◌, ◌<◌, ◌≤◌, ◌+◌, ℕ, List, ◌++◌, map, slice_get, Some, None, refl, sym, subst, arith}
 use Rattle.std.specs.Prelude.{Option, MatchOption}
 use Rattle.std.specs.List.{flat_map}
 use Rattle.htl_text.specs.Bounds.{names_of}
@@ -15,9 +15,7 @@ use Rattle.htl_names.specs.Lists.{flat_map_at}
 use Rattle.htl_names.specs.NameRules.{AreNamesRight, UnknownName}
 use Rattle.htl_names.specs.Order.{module_at, tasks_at, modes_at}
 use Rattle.htl_names.specs.Uses.{usage, task_uses, comm_use, end_use, invoke_uses, switch_uses, program_use, mode_uses, module_uses, program_uses, uses, IsUnknown}
-use Rattle.htl_names.proofs.FlatMaps.{get_front, get_back, at_part_0, at_flat}
-use Rattle.htl_names.proofs.Members.{In}
-use Rattle.htl_names.proofs.Owners.{to_map}
+use Rattle.htl_names.proofs.Members.{In, Each, each_at, each_front, each_back, each_part, each_part_at, each_mapped, each_in}
 use Rattle.htl_names.proofs.Places.{program_of_module, module_of_task, module_of_mode}
 use Rattle.htl_names.proofs.Deciding.{not_below}
 
@@ -45,83 +43,68 @@ known ps right u at = by (look_up u.key (symbols_of ps)) refl
 
 -- ---- the uses of a module, a task, a mode, an invocation, a switch
 
-pub in_module : (ps : List PlainProgram) (p v n : ℕ) (y : PlainModule) (u : Use) → module_at ps p v ≡ Some y → slice_get (module_uses p v y) n ≡ Some u → In u (uses ps)
-in_module ps p v n y u there at =
+abbrev IsUsed : List PlainProgram → Use → Type 0
+IsUsed ps u = In u (uses ps)
+
+in_module : (ps : List PlainProgram) (p v : ℕ) (y : PlainModule) → module_at ps p v ≡ Some y → Each (IsUsed ps) (module_uses p v y)
+in_module ps p v y there =
     let o = program_of_module ps p v y there in
-    let x = o.0 in
-    let inner = at_part_0 (module_uses p) x.modules v n y u o.2 at in
-    let place = length (flat_map_at (module_uses p) 0 (take v x.modules)) + n in
-    (length (flat_map_at program_uses 0 (take p ps)) + place, at_part_0 program_uses ps p place x u o.1 inner)
+    each_part_at (IsUsed ps) (module_uses p) 0 o.0.modules v v y (omega arith) o.2
+    (each_part_at (IsUsed ps) program_uses 0 ps p p o.0 (omega arith) o.1 (each_in (uses ps)))
+
+task_uses_used : (ps : List PlainProgram) (p v k : ℕ) (t : PlainTask) → slice_get (tasks_at ps p v) k ≡ Some t → Each (IsUsed ps) (task_uses p v k t)
+task_uses_used ps p v k t there =
+    let o = module_of_task ps p v k t there in
+    each_part_at (IsUsed ps) (task_uses p v) 0 o.0.tasks k k t (omega arith) o.2
+    (each_front (IsUsed ps) (flat_map_at (task_uses p v) 0 o.0.tasks) (flat_map_at (mode_uses p v) 0 o.0.modes) (in_module ps p v o.0 o.1).1)
 
 pub in_task : (ps : List PlainProgram) (p v k n : ℕ) (t : PlainTask) (u : Use) → slice_get (tasks_at ps p v) k ≡ Some t → slice_get (task_uses p v k t) n ≡ Some u → In u (uses ps)
-in_task ps p v k n t u there at =
-    let o = module_of_task ps p v k t there in
-    let y = o.0 in
-    let inner = at_part_0 (task_uses p v) y.tasks k n t u o.2 at in
-    let place = length (flat_map_at (task_uses p v) 0 (take k y.tasks)) + n in
-    in_module ps p v (suc place) y u o.1 (get_front (flat_map_at (task_uses p v) 0 y.tasks) (flat_map_at (mode_uses p v) 0 y.modes) place u inner)
+in_task ps p v k n t u there at = each_at (IsUsed ps) (task_uses p v k t) n u (task_uses_used ps p v k t there) at
 
-pub in_mode : (ps : List PlainProgram) (p v m n : ℕ) (x : PlainMode) (u : Use) → slice_get (modes_at ps p v) m ≡ Some x → slice_get (mode_uses p v m x) n ≡ Some u → In u (uses ps)
-in_mode ps p v m n x u there at =
+in_mode : (ps : List PlainProgram) (p v m : ℕ) (x : PlainMode) → slice_get (modes_at ps p v) m ≡ Some x
+    → Each (IsUsed ps) (flat_map (invoke_uses p v m) x.invokes ++ flat_map (switch_uses p v) x.switches)
+in_mode ps p v m x there =
     let o = module_of_mode ps p v m x there in
-    let y = o.0 in
-    let inner = at_part_0 (mode_uses p v) y.modes m n x u o.2 at in
-    let place = length (flat_map_at (mode_uses p v) 0 (take m y.modes)) + n in
-    let tasks = flat_map_at (task_uses p v) 0 y.tasks in
-    in_module ps p v (suc (length tasks + place)) y u o.1 (get_back tasks (flat_map_at (mode_uses p v) 0 y.modes) place ∙ inner)
+    each_back (IsUsed ps) (program_use x.program) _
+    (each_part_at (IsUsed ps) (mode_uses p v) 0 o.0.modes m m x (omega arith) o.2
+    (each_back (IsUsed ps) (flat_map_at (task_uses p v) 0 o.0.tasks) (flat_map_at (mode_uses p v) 0 o.0.modes) (in_module ps p v o.0 o.1).1))
 
-pub in_invoke : (ps : List PlainProgram) (p v m j n : ℕ) (x : PlainMode) (i : InvokeNode) (u : Use) → slice_get (modes_at ps p v) m ≡ Some x → slice_get x.invokes j ≡ Some i
-    → slice_get (invoke_uses p v m i) n ≡ Some u → In u (uses ps)
-in_invoke ps p v m j n x i u there its at =
-    let inner = at_flat (invoke_uses p v m) x.invokes j n i u its at in
-    let place = length (flat_map (invoke_uses p v m) (take j x.invokes)) + n in
-    let front = program_use x.program in
-    let invokes = flat_map (invoke_uses p v m) x.invokes in
-    let switches = flat_map (switch_uses p v) x.switches in
-    in_mode ps p v m (length front + place) x u there (get_back front (invokes ++ switches) place ∙ get_front invokes switches place u inner)
+in_invoke : (ps : List PlainProgram) (p v m j : ℕ) (x : PlainMode) (i : InvokeNode) → slice_get (modes_at ps p v) m ≡ Some x → slice_get x.invokes j ≡ Some i
+    → Each (IsUsed ps) (invoke_uses p v m i)
+in_invoke ps p v m j x i there its =
+    each_part (IsUsed ps) (invoke_uses p v m) x.invokes j i its
+    (each_front (IsUsed ps) (flat_map (invoke_uses p v m) x.invokes) (flat_map (switch_uses p v) x.switches) (in_mode ps p v m x there))
 
-pub in_switch : (ps : List PlainProgram) (p v m j n : ℕ) (x : PlainMode) (s : PlainSwitch) (u : Use) → slice_get (modes_at ps p v) m ≡ Some x → slice_get x.switches j ≡ Some s
-    → slice_get (switch_uses p v s) n ≡ Some u → In u (uses ps)
-in_switch ps p v m j n x s u there its at =
-    let inner = at_flat (switch_uses p v) x.switches j n s u its at in
-    let place = length (flat_map (switch_uses p v) (take j x.switches)) + n in
-    let front = program_use x.program in
-    let invokes = flat_map (invoke_uses p v m) x.invokes in
-    let switches = flat_map (switch_uses p v) x.switches in
-    in_mode ps p v m (length front + (length invokes + place)) x u there
-    (get_back front (invokes ++ switches) (length invokes + place) ∙ get_back invokes switches place ∙ inner)
+in_switch : (ps : List PlainProgram) (p v m j : ℕ) (x : PlainMode) (s : PlainSwitch) → slice_get (modes_at ps p v) m ≡ Some x → slice_get x.switches j ≡ Some s
+    → Each (IsUsed ps) (switch_uses p v s)
+in_switch ps p v m j x s there its =
+    each_part (IsUsed ps) (switch_uses p v) x.switches j s its
+    (each_back (IsUsed ps) (flat_map (invoke_uses p v m) x.invokes) (flat_map (switch_uses p v) x.switches) (in_mode ps p v m x there))
 
 -- ---- each kind of use
 
 pub start_used : (ps : List PlainProgram) (p v : ℕ) (y : PlainModule) → module_at ps p v ≡ Some y → In (usage (mode_key p v y.start.name) y.start) (uses ps)
-start_used ps p v y there = in_module ps p v 0 y (usage (mode_key p v y.start.name) y.start) there refl
+start_used ps p v y there = (in_module ps p v y there).0
 
 pub task_used : (ps : List PlainProgram) (p v m j : ℕ) (x : PlainMode) (i : InvokeNode) → slice_get (modes_at ps p v) m ≡ Some x → slice_get x.invokes j ≡ Some i
     → In (usage (task_key p v i.task.name) i.task) (uses ps)
-task_used ps p v m j x i there its = in_invoke ps p v m j 0 x i (usage (task_key p v i.task.name) i.task) there its refl
+task_used ps p v m j x i there its = (in_invoke ps p v m j x i there its).0
 
 pub read_used : (ps : List PlainProgram) (p v m j : ℕ) (x : PlainMode) (i : InvokeNode) (n : ℕ) (e : EndNode) → slice_get (modes_at ps p v) m ≡ Some x → slice_get x.invokes j ≡ Some i
     → slice_get i.reads n ≡ Some e → In (end_use p v m e) (uses ps)
 read_used ps p v m j x i n e there its at =
-    in_invoke ps p v m j (suc n) x i (end_use p v m e) there its
-    (get_front (map (end_use p v m) i.reads) (map (end_use p v m) i.writes) n (end_use p v m e) (to_map (end_use p v m) i.reads n e at))
+    each_mapped (IsUsed ps) (end_use p v m) i.reads n e at (each_front (IsUsed ps) (map (end_use p v m) i.reads) (map (end_use p v m) i.writes) (in_invoke ps p v m j x i there its).1)
 
 pub write_used : (ps : List PlainProgram) (p v m j : ℕ) (x : PlainMode) (i : InvokeNode) (n : ℕ) (e : EndNode) → slice_get (modes_at ps p v) m ≡ Some x → slice_get x.invokes j ≡ Some i
     → slice_get i.writes n ≡ Some e → In (end_use p v m e) (uses ps)
 write_used ps p v m j x i n e there its at =
-    let reads = map (end_use p v m) i.reads in
-    in_invoke ps p v m j (suc (length reads + n)) x i (end_use p v m e) there its
-    (get_back reads (map (end_use p v m) i.writes) n ∙ to_map (end_use p v m) i.writes n e at)
+    each_mapped (IsUsed ps) (end_use p v m) i.writes n e at (each_back (IsUsed ps) (map (end_use p v m) i.reads) (map (end_use p v m) i.writes) (in_invoke ps p v m j x i there its).1)
 
 pub tested_used : (ps : List PlainProgram) (p v m j : ℕ) (x : PlainMode) (s : PlainSwitch) (n : ℕ) (id : Id) → slice_get (modes_at ps p v) m ≡ Some x → slice_get x.switches j ≡ Some s
     → slice_get (names_of s.cond) n ≡ Some id → In (comm_use id) (uses ps)
 tested_used ps p v m j x s n id there its at =
-    in_switch ps p v m j n x s (comm_use id) there its
-    (get_front (map comm_use (names_of s.cond)) (usage (mode_key p v s.target.name) s.target ∷ []) n (comm_use id) (to_map comm_use (names_of s.cond) n id at))
+    each_mapped (IsUsed ps) comm_use (names_of s.cond) n id at (each_front (IsUsed ps) (map comm_use (names_of s.cond)) _ (in_switch ps p v m j x s there its))
 
 pub target_used : (ps : List PlainProgram) (p v m j : ℕ) (x : PlainMode) (s : PlainSwitch) → slice_get (modes_at ps p v) m ≡ Some x → slice_get x.switches j ≡ Some s
     → In (usage (mode_key p v s.target.name) s.target) (uses ps)
-target_used ps p v m j x s there its =
-    let front = map comm_use (names_of s.cond) in
-    in_switch ps p v m j (length front + 0) x s (usage (mode_key p v s.target.name) s.target) there its
-    (get_back front (usage (mode_key p v s.target.name) s.target ∷ []) 0)
+target_used ps p v m j x s there its = (each_back (IsUsed ps) (map comm_use (names_of s.cond)) _ (in_switch ps p v m j x s there its)).0

@@ -160,10 +160,15 @@ end_item l ps m a (end.Port port) = E.Port (ports_before l ps m + meaning l (por
 abbrev pub refined_mode : Layout → ℕ → ℕ → Option ModeAt
 refined_mode l p u = elim (slice_get l.modules (module_number l p u)) [ Some s ↦ s.parent | None ↦ None ]
 
+-- the number of the first invocation of the mode that a program refines; 0 where it refines none
+abbrev pub first_parent : Layout → List PlainProgram → Option ModeAt → ℕ
+first_parent l ps None = 0
+first_parent l ps (Some b) = invokes_before l ps (mode_number l ps b)
+
 -- the number of the invocation that a name after `parent` means, in the refined mode
 abbrev pub parent_number : Layout → List PlainProgram → Option ModeAt → Id → Option ℕ
 parent_number l ps None id = None
-parent_number l ps (Some b) id = Some (invokes_before l ps (mode_number l ps b) + meaning l (invoke_key b.program b.«module» b.mode id.name))
+parent_number l ps (Some b) id = Some (first_parent l ps (Some b) + meaning l (invoke_key b.program b.«module» b.mode id.name))
 
 abbrev pub invoke_item : Layout → List PlainProgram → ℕ → ModeAt → InvokeNode → Inv
 invoke_item l ps m a i =

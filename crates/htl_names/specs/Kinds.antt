@@ -1,5 +1,5 @@
 -- The values and numbers of a source that have to be of a kind, in source order.
-use Rattle.std.specs.Prelude.{ℕ, ℤ, pos, negsuc, ◌<◌, ◌⊎◌, ◌∷◌, ◌++◌, List, [], map}
+use Rattle.std.specs.Prelude.{ℕ, ℤ, pos, negsuc, ◌≡◌, Bool, true, false, cond, leb, ◌&&◌, ◌∷◌, ◌++◌, List, [], map, Option, Some, None}
 use Rattle.std.specs.List.{flat_map}
 use Rattle.htl_base.specs.declared.Ty.{Ty}
 use Rattle.htl_base.specs.declared.Ty.TheVariants as ty
@@ -27,27 +27,34 @@ token_of (Span n) = n.token
 token_of (Instance n) = n.token
 token_of (Initial wanted c) = const_token c
 
--- a number outside 1 to 1,000,000
-abbrev pub IsNoSpan : ℤ → Type 0
-IsNoSpan (pos n) = (n < 1) ⊎ (1000000 < n)
-IsNoSpan (negsuc n) = Unit {0}
+-- a number from 1 to 1,000,000
+abbrev pub is_span : ℤ → Bool
+is_span (pos n) = leb 1 n && leb n 1000000
+is_span (negsuc n) = false
 
--- a number outside 0 to 1,000,000
-abbrev pub IsNoInstance : ℤ → Type 0
-IsNoInstance (pos n) = 1000000 < n
-IsNoInstance (negsuc n) = Unit {0}
+-- a number from 0 to 1,000,000
+abbrev pub is_instance : ℤ → Bool
+is_instance (pos n) = leb n 1000000
+is_instance (negsuc n) = false
 
--- a constant of the other type
-abbrev pub IsOtherType : Ty → ConstNode → Type 0
-IsOtherType ty.Int (const.Int token minus x) = ⊥
-IsOtherType ty.Int (const.Bool token x) = Unit {0}
-IsOtherType ty.Bool (const.Int token minus x) = Unit {0}
-IsOtherType ty.Bool (const.Bool token x) = ⊥
+-- a constant of a type
+abbrev pub has_type : Ty → ConstNode → Bool
+has_type ty.Int (const.Int token minus x) = true
+has_type ty.Int (const.Bool token x) = false
+has_type ty.Bool (const.Int token minus x) = false
+has_type ty.Bool (const.Bool token x) = true
+
+abbrev pub is_kind : Judged → Bool
+is_kind (Span n) = is_span n.x
+is_kind (Instance n) = is_instance n.x
+is_kind (Initial wanted c) = has_type wanted c
 
 abbrev pub IsWrongKind : Judged → Type 0
-IsWrongKind (Span n) = IsNoSpan n.x
-IsWrongKind (Instance n) = IsNoInstance n.x
-IsWrongKind (Initial wanted c) = IsOtherType wanted c
+IsWrongKind j = is_kind j ≡ false
+
+-- the token of what is not of its kind
+abbrev pub wrong_token : Judged → Option ℕ
+wrong_token j = cond (is_kind j) None (Some (token_of j))
 
 -- ---- in source order
 

@@ -1,5 +1,4 @@
 pub mod Conditions
-pub mod Ends
 pub mod Entries
 pub mod Excess
 pub mod Excesses
@@ -29,4 +28,3 @@ pub mod Tallies
 pub mod Told
 pub mod Unknowns
 pub mod Uses
-pub mod WrongKinds

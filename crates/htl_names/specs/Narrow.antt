@@ -11,17 +11,25 @@ use Rattle.htl_names.specs.declared.place.ModuleAt.{ModuleAt}
 use Rattle.htl_names.specs.Flat.{Layout, meaning, modes_before, tasks_before, ports_before, invokes_before, size_of}
 use Rattle.htl_names.specs.Order.{modes_at, tasks_at, invokes_at}
 
+-- the instance of an end; 0 at a port
+abbrev pub instance_of : EndNode → ℕ
+instance_of (end.Comm comm instance) = size_of instance.x
+instance_of (end.Port port) = 0
+
 abbrev pub IsNarrowEnd : EndNode → Type 0
-IsNarrowEnd (end.Comm comm instance) = size_of instance.x ≤ 1000000
-IsNarrowEnd (end.Port port) = Unit {0}
+IsNarrowEnd e = instance_of e ≤ 1000000
 
 pub record IsNarrowInvoke (i : InvokeNode) : Type 0 where
   pub reads : All IsNarrowEnd i.reads
   pub writes : All IsNarrowEnd i.writes
 
+-- the place of the mode that a module refines; 0 where it refines none
+abbrev pub refined_place : Option ModeAt → ℕ
+refined_place None = 0
+refined_place (Some a) = a.mode
+
 abbrev pub IsNarrowParent : Option ModeAt → Type 0
-IsNarrowParent None = Unit {0}
-IsNarrowParent (Some a) = a.mode ≤ 256
+IsNarrowParent o = refined_place o ≤ 256
 
 pub record IsNarrow (l : Layout) (ps : List PlainProgram) : Type 0 where
   pub meanings : (key : Key) → meaning l key ≤ 4096

@@ -38,149 +38,84 @@ parent_use_of n = record { program = n.program; id = n.id }
 
 -- ---- rows of one list, and rows behind rows
 
+abbrev pub rows_with : List Entry → List Use → List Judged → List ParentUse → Rows
+rows_with es us js ps = record { entries = es; uses = us; kinds = js; parents = ps }
+
 abbrev pub declaring : List Entry → Rows
-declaring es = record { entries = es; uses = []; kinds = []; parents = [] }
+declaring es = rows_with es [] [] []
 
 abbrev pub using : List Use → Rows
-using us = record { entries = []; uses = us; kinds = []; parents = [] }
+using us = rows_with [] us [] []
 
 abbrev pub judging : List Judged → Rows
-judging js = record { entries = []; uses = []; kinds = js; parents = [] }
+judging js = rows_with [] [] js []
 
 abbrev pub refining : List ParentUse → Rows
-refining ps = record { entries = []; uses = []; kinds = []; parents = ps }
+refining ps = rows_with [] [] [] ps
 
 abbrev pub joined : Rows → Rows → Rows
-joined a b =
-    record { entries = a.entries ++ b.entries; uses = a.uses ++ b.uses; kinds = a.kinds ++ b.kinds; parents = a.parents ++ b.parents }
+joined a b = rows_with (a.entries ++ b.entries) (a.uses ++ b.uses) (a.kinds ++ b.kinds) (a.parents ++ b.parents)
 
 -- ---- what each part of a source gives; p, u, k and m are the places of the program, the module, the task and the mode
 
 abbrev pub comm_rows : ℕ → CommNode → Rows
-comm_rows c x = record { entries = entries.comm_entry c x ∷ []; uses = []; kinds = kinds.comm_kinds x; parents = [] }
+comm_rows c x = rows_with (entries.comm_entry c x ∷ []) [] (kinds.comm_kinds x) []
 
 abbrev pub comms_rows : ℕ → List CommNode → Rows
-comms_rows c xs = record { entries = map_at entries.comm_entry c xs; uses = []; kinds = flat_map kinds.comm_kinds xs; parents = [] }
+comms_rows c xs = rows_with (map_at entries.comm_entry c xs) [] (flat_map kinds.comm_kinds xs) []
 
 abbrev pub params_rows : ℕ → ℕ → ℕ → ℕ → List ParamNode → Rows
 params_rows p u k j xs = declaring (map_at (entries.param_entry p u k) j xs)
 
 -- outputs with expressions over inputs of this number, the first of the outputs behind them at place j
 abbrev pub outs_rows : ℕ → ℕ → ℕ → ℕ → ℕ → List PlainOut → Rows
-outs_rows p u k inputs j xs =
-    record {
-      entries = map_at (entries.param_entry p u k) j (map (λ (o : PlainOut). o.param) xs);
-      uses = flat_map (uses.output_uses p u k inputs) xs;
-      kinds = [];
-      parents = [];
-    }
+outs_rows p u k inputs j xs = rows_with (map_at (entries.param_entry p u k) j (map (λ (o : PlainOut). o.param) xs)) (flat_map (uses.output_uses p u k inputs) xs) [] []
 
 abbrev pub outputs_rows : ℕ → ℕ → ℕ → ℕ → PlainOuts → Rows
-outputs_rows p u k inputs xs =
-    record {
-      entries = map_at (entries.param_entry p u k) inputs (out_params xs);
-      uses = uses.outputs_uses p u k inputs xs;
-      kinds = [];
-      parents = [];
-    }
+outputs_rows p u k inputs xs = rows_with (map_at (entries.param_entry p u k) inputs (out_params xs)) (uses.outputs_uses p u k inputs xs) [] []
 
 abbrev pub task_rows : ℕ → ℕ → ℕ → PlainTask → Rows
-task_rows p u k t =
-    record { entries = entries.task_entries p u k t; uses = uses.task_uses p u k t; kinds = kinds.task_kind t ∷ []; parents = [] }
+task_rows p u k t = rows_with (entries.task_entries p u k t) (uses.task_uses p u k t) (kinds.task_kind t ∷ []) []
 
 abbrev pub tasks_rows : ℕ → ℕ → ℕ → List PlainTask → Rows
-tasks_rows p u k xs =
-    record {
-      entries = flat_map_at (entries.task_entries p u) k xs;
-      uses = flat_map_at (uses.task_uses p u) k xs;
-      kinds = map kinds.task_kind xs;
-      parents = [];
-    }
+tasks_rows p u k xs = rows_with (flat_map_at (entries.task_entries p u) k xs) (flat_map_at (uses.task_uses p u) k xs) (map kinds.task_kind xs) []
 
 abbrev pub ports_rows : ℕ → ℕ → ℕ → ℕ → List ParamNode → Rows
 ports_rows p u m j xs = declaring (map_at (entries.port_entry p u m) j xs)
 
 abbrev pub end_rows : ℕ → ℕ → ℕ → EndNode → Rows
-end_rows p u m x = record { entries = []; uses = uses.end_use p u m x ∷ []; kinds = kinds.end_kinds x; parents = [] }
+end_rows p u m x = rows_with [] (uses.end_use p u m x ∷ []) (kinds.end_kinds x) []
 
 abbrev pub ends_rows : ℕ → ℕ → ℕ → List EndNode → Rows
-ends_rows p u m xs = record { entries = []; uses = map (uses.end_use p u m) xs; kinds = flat_map kinds.end_kinds xs; parents = [] }
+ends_rows p u m xs = rows_with [] (map (uses.end_use p u m) xs) (flat_map kinds.end_kinds xs) []
 
 abbrev pub invoke_rows : ℕ → ℕ → ℕ → ℕ → InvokeNode → Rows
-invoke_rows p u m j x =
-    record {
-      entries = entries.invoke_entry p u m j x ∷ [];
-      uses = uses.invoke_uses p u m x;
-      kinds = kinds.invoke_kinds x;
-      parents = parents.invoke_parent p x;
-    }
+invoke_rows p u m j x = rows_with (entries.invoke_entry p u m j x ∷ []) (uses.invoke_uses p u m x) (kinds.invoke_kinds x) (parents.invoke_parent p x)
 
 abbrev pub invokes_rows : ℕ → ℕ → ℕ → ℕ → List InvokeNode → Rows
-invokes_rows p u m j xs =
-    record {
-      entries = map_at (entries.invoke_entry p u m) j xs;
-      uses = flat_map (uses.invoke_uses p u m) xs;
-      kinds = flat_map kinds.invoke_kinds xs;
-      parents = flat_map (parents.invoke_parent p) xs;
-    }
+invokes_rows p u m j xs = rows_with (map_at (entries.invoke_entry p u m) j xs) (flat_map (uses.invoke_uses p u m) xs) (flat_map kinds.invoke_kinds xs) (flat_map (parents.invoke_parent p) xs)
 
 abbrev pub switches_rows : ℕ → ℕ → List PlainSwitch → Rows
 switches_rows p u xs = using (flat_map (uses.switch_uses p u) xs)
 
 abbrev pub mode_rows : ℕ → ℕ → ℕ → PlainMode → Rows
-mode_rows p u m x =
-    record {
-      entries = entries.mode_entries p u m x;
-      uses = uses.mode_uses p u m x;
-      kinds = kinds.mode_kinds x;
-      parents = parents.mode_parents p x;
-    }
+mode_rows p u m x = rows_with (entries.mode_entries p u m x) (uses.mode_uses p u m x) (kinds.mode_kinds x) (parents.mode_parents p x)
 
 abbrev pub modes_rows : ℕ → ℕ → ℕ → List PlainMode → Rows
-modes_rows p u m xs =
-    record {
-      entries = flat_map_at (entries.mode_entries p u) m xs;
-      uses = flat_map_at (uses.mode_uses p u) m xs;
-      kinds = flat_map kinds.mode_kinds xs;
-      parents = flat_map (parents.mode_parents p) xs;
-    }
+modes_rows p u m xs = rows_with (flat_map_at (entries.mode_entries p u) m xs) (flat_map_at (uses.mode_uses p u) m xs) (flat_map kinds.mode_kinds xs) (flat_map (parents.mode_parents p) xs)
 
 abbrev pub module_rows : ℕ → ℕ → PlainModule → Rows
-module_rows p u x =
-    record {
-      entries = entries.module_entries p u x;
-      uses = uses.module_uses p u x;
-      kinds = kinds.module_kinds x;
-      parents = parents.module_parents p x;
-    }
+module_rows p u x = rows_with (entries.module_entries p u x) (uses.module_uses p u x) (kinds.module_kinds x) (parents.module_parents p x)
 
 abbrev pub modules_rows : ℕ → ℕ → List PlainModule → Rows
-modules_rows p u xs =
-    record {
-      entries = flat_map_at (entries.module_entries p) u xs;
-      uses = flat_map_at (uses.module_uses p) u xs;
-      kinds = flat_map kinds.module_kinds xs;
-      parents = flat_map (parents.module_parents p) xs;
-    }
+modules_rows p u xs = rows_with (flat_map_at (entries.module_entries p) u xs) (flat_map_at (uses.module_uses p) u xs) (flat_map kinds.module_kinds xs) (flat_map (parents.module_parents p) xs)
 
 -- the first communicator of the program has this number
 abbrev pub program_rows : ℕ → ℕ → PlainProgram → Rows
-program_rows p first x =
-    record {
-      entries = entries.program_entries p first x;
-      uses = uses.program_uses p x;
-      kinds = kinds.program_kinds x;
-      parents = parents.program_parents p x;
-    }
+program_rows p first x = rows_with (entries.program_entries p first x) (uses.program_uses p x) (kinds.program_kinds x) (parents.program_parents p x)
 
 abbrev pub programs_rows : ℕ → ℕ → List PlainProgram → Rows
-programs_rows p first xs =
-    record {
-      entries = entries.entries_from p first xs;
-      uses = flat_map_at uses.program_uses p xs;
-      kinds = flat_map kinds.program_kinds xs;
-      parents = flat_map_at parents.program_parents p xs;
-    }
+programs_rows p first xs = rows_with (entries.entries_from p first xs) (flat_map_at uses.program_uses p xs) (flat_map kinds.program_kinds xs) (flat_map_at parents.program_parents p xs)
 
 abbrev pub rows : List PlainProgram → Rows
-rows ps = record { entries = entries.entries ps; uses = uses.uses ps; kinds = kinds.kinds ps; parents = parents.parents ps }
+rows ps = rows_with (entries.entries ps) (uses.uses ps) (kinds.kinds ps) (parents.parents ps)

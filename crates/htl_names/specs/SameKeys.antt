@@ -1,9 +1,9 @@
 -- The test of keys is true exactly where they are the same.
-use Rattle.std.specs.Prelude.{◌≡◌, ◌∷◌, ◌++◌, ◌+◌, ◌*◌, ◌%◌, ◌^◌, ℕ, zero, suc, Bool, true, false, ◌&&◌, eqb, List, [], IsTrue}
+use Rattle.std.specs.Prelude.{◌≡◌, ◌∷◌, ◌++◌, ◌+◌, ◌*◌, ◌%◌, ◌^◌, ℕ, zero, suc, List, [], IsTrue}
 use Rattle.std.specs.Bool.{Decides}
 use Rattle.std.specs.Hash as fed
-use Rattle.std.specs.Str.{bytes_eq}
-use Rattle.std.proofs.Common.{refl, sym, ◌∙◌, ap, subst, eqb-true, eq-eqb}
+use Rattle.std.proofs.Common.{refl, sym, ◌∙◌, ap}
+use Rattle.std.proofs.lemmas.Bool.Decides.{Decides-and, Decides-eqb}
 use Rattle.std.proofs.lemmas.Slice.Eq.{bytes_eq-Decides}
 use Rattle.htl_names.specs.declared.key.Key.{Key}
 use Rattle.htl_names.specs.declared.key.Space.{Space}
@@ -34,17 +34,6 @@ space_back space.Invokes = refl
 same_space : (a b : Space) → space_code a ≡ space_code b → a ≡ b
 same_space a b e = sym (space_back a) ∙ ap space_at e ∙ space_back b
 
--- both tests passed
-both : (a b : Bool) → (a && b) ≡ true → (a ≡ true) × (b ≡ true)
-both true b h = (refl, h)
-both false true h = (h, refl)
-both false false h = (h, h)
-
-all : (a b c d e : Bool) → a ≡ true → b ≡ true → c ≡ true → d ≡ true → e ≡ true → (a && b && c && d && e) ≡ true
-all a b c d e p q r s t =
-    ap (λ x. x && b && c && d && e) p ∙ ap (λ x. true && x && c && d && e) q ∙ ap (λ x. true && true && x && d && e) r
-    ∙ ap (λ x. true && true && true && x && e) s ∙ t
-
 abbrev make : Space → ℕ → ℕ → ℕ → List ℕ → Key
 make s p u i n = record { space = s; program = p; «module» = u; item = i; name = n }
 
@@ -58,21 +47,15 @@ made a b s p u i n =
 
 pub same_key_decides : (a b : Key) → Decides (same_key a b) (a ≡ b)
 same_key_decides a b = (
-  λ h.
-      let one = eqb (space_code a.space) (space_code b.space) in
-      let two = eqb a.program b.program in
-      let three = eqb a.«module» b.«module» in
-      let four = eqb a.item b.item in
-      let five = bytes_eq a.name b.name in
-      let p = both (one && two && three && four) five h in
-      let q = both (one && two && three) four p.0 in
-      let r = both (one && two) three q.0 in
-      let s = both one two r.0 in
-      made a b (same_space a.space b.space (eqb-true _ _ s.0)) (eqb-true _ _ s.1) (eqb-true _ _ r.1) (eqb-true _ _ q.1) ((bytes_eq-Decides a.name b.name).0 p.1),
-  λ e. subst (λ (c : Key). same_key a c ≡ true) e
-      (all (eqb (space_code a.space) (space_code a.space)) (eqb a.program a.program) (eqb a.«module» a.«module») (eqb a.item a.item) (bytes_eq a.name a.name)
-      (eq-eqb _ _ refl) (eq-eqb _ _ refl) (eq-eqb _ _ refl) (eq-eqb _ _ refl) ((bytes_eq-Decides a.name a.name).1 refl)),
+  λ h. let p = tests.0 h in made a b (same_space a.space b.space p.0.0.0.0) p.0.0.0.1 p.0.0.1 p.0.1 p.1,
+  λ e.
+      tests.1 ((((ap (λ (k : Key). space_code k.space) e, ap (λ (k : Key). k.program) e), ap (λ (k : Key). k.«module») e), ap (λ (k : Key). k.item) e), ap (λ (k : Key). k.name) e),
 )
+  where
+    tests : Decides (same_key a b) (((((space_code a.space ≡ space_code b.space) × (a.program ≡ b.program)) × (a.«module» ≡ b.«module»)) × (a.item ≡ b.item)) × (a.name ≡ b.name))
+    tests =
+        Decides-and _ _ (Decides-and _ _ (Decides-and _ _ (Decides-and _ _ (Decides-eqb (space_code a.space) (space_code b.space)) (Decides-eqb a.program b.program))
+        (Decides-eqb a.«module» b.«module»)) (Decides-eqb a.item b.item)) (bytes_eq-Decides a.name b.name)
 
 -- the list of a key as one number
 abbrev pub mixed : ℕ → ℕ → ℕ

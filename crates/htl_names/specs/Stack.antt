@@ -1,12 +1,12 @@
 -- Modules that are still to come, as a stack.
-use Rattle.std.specs.Prelude.{ℕ, zero, suc, List, [], map, reverse, Option, Some, None}
+use Rattle.std.specs.Prelude.{ℕ, zero, suc, List, [], map, reverse, Option}
 use Rattle.std.specs.List.{flat_map}
 use Rattle.htl_text.specs.Nodes.{PlainProgram}
 use Rattle.htl_names.specs.declared.key.Key.{Key}
 use Rattle.htl_names.specs.declared.order.Frame.{Frame}
 use Rattle.htl_names.specs.declared.place.ModeAt.{ModeAt}
 use Rattle.htl_names.specs.declared.place.ModuleAt.{ModuleAt}
-use Rattle.htl_names.specs.Order.{modules_in, kids, below}
+use Rattle.htl_names.specs.Order.{kids, below}
 
 abbrev pub nth_module : ℕ → Option ModeAt → ℕ → ModuleAt
 nth_module program parent u = record { program = program; «module» = u; parent = parent }
@@ -17,11 +17,6 @@ mode_in s m = record { program = s.program; «module» = s.«module»; mode = m 
 -- a module, and how many levels may lie below it
 abbrev pub frame : ℕ → ModuleAt → Frame
 frame steps s = record { «module» = s; steps = steps }
-
--- the modules of the program that refines mode a, where there is one
-abbrev pub modules_named : List PlainProgram → ModeAt → Option ℕ → List ModuleAt
-modules_named ps a (Some q) = modules_in ps (Some a) q
-modules_named ps a None = []
 
 -- what comes in the place of a module that was taken
 abbrev pub kid_frames : ℕ → List (Key × ℕ) → List PlainProgram → ModuleAt → List Frame

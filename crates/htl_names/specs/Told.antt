@@ -1,26 +1,24 @@
 -- What the test of one name rule tells.
-use Rattle.std.specs.Prelude.{ℕ, ◌≡◌, ◌<◌, ◌⊎◌, List, MatchResult, Result}
+use Rattle.std.specs.Prelude.{ℕ, ◌≡◌, ◌<◌, ◌⊎◌, List, MatchOption, MatchResult, Option, Result}
 use Rattle.htl_text.specs.Nodes.{PlainProgram}
 use Rattle.htl_names.specs.declared.fault.NameFault.{NameFault}
 use Rattle.htl_names.specs.declared.fault.NameFault.TheVariants as fault
 use Rattle.htl_names.specs.NameRules.{NameRule, NameBroken, AreNamesRight, IsFirstNameFault}
 
 -- the rule is broken nowhere
-pub record IsKept (ps : List PlainProgram) (rule : NameRule) : Type 0 where
-  pub nowhere : (k : ℕ) (f : NameFault) → NameBroken ps rule k f → ⊥
+abbrev pub IsKept : List PlainProgram → NameRule → Type 0
+IsKept ps rule = (k : ℕ) (f : NameFault) → NameBroken ps rule k f → ⊥
 
 -- the fault tells of the rule's first place at which it is broken
-pub record IsFirstOf (ps : List PlainProgram) (rule : NameRule) (f : NameFault) : Type 0 where
-  pub place : ℕ
-  pub broken : NameBroken ps rule place f
-  pub first : (k : ℕ) (g : NameFault) → k < place → NameBroken ps rule k g → ⊥
+abbrev pub IsFirstOf : List PlainProgram → NameRule → NameFault → Type 0
+IsFirstOf ps rule f = (place : ℕ) × NameBroken ps rule place f × ((k : ℕ) (g : NameFault) → k < place → NameBroken ps rule k g → ⊥)
+
+-- a search for the first place of a rule: what it finds is told by a fault
+abbrev pub IsSearched : {A : Type 0} → List PlainProgram → NameRule → (A → NameFault) → Option A → Type 0
+IsSearched ps rule fault o = MatchOption o (IsKept ps rule) (λ x. IsFirstOf ps rule (fault x))
 
 abbrev pub IsTold : List PlainProgram → NameRule → NameFault → Type 0
 IsTold ps rule f = (f ≡ fault.Memory) ⊎ IsFirstOf ps rule f
-
--- a test of a rule
-abbrev pub IsTested : List PlainProgram → NameRule → Result (Unit {0}) NameFault → Type 0
-IsTested ps rule r = MatchResult r (λ _. IsKept ps rule) (IsTold ps rule)
 
 abbrev pub IsRefusal : List PlainProgram → NameFault → Type 0
 IsRefusal ps f = (f ≡ fault.Memory) ⊎ IsFirstNameFault ps f

@@ -6,11 +6,11 @@ ghost use Rattle.htl_names.specs.Flat.{tables_by};
 ghost use Rattle.htl_names.specs.Narrow.{IsNarrow};
 
 use crate::functions::outputs;
-use crate::invocations::invocations;
-use crate::items::{comms, modes, modules, ports};
+use crate::items::{comms, modules as module_items};
 use crate::layout::Layout;
+use crate::listing::listed;
+use crate::source::Source;
 use crate::switches::switches;
-use crate::tasks::tasks;
 use htl_base::Seq;
 use htl_model::Parts;
 use htl_text::Tree;
@@ -21,15 +21,22 @@ pub(crate) fn parts_of(alloc: Global, tree: &Tree, layout: &Layout) -> Result<Pa
     requires { IsNarrow layout.now (tree_of tree.now) }
     ensures { IfOk result (λ parts. tables_of parts ≡ tables_by layout.now (tree_of tree.now)) }
 {
-    let outputs = outputs(alloc, tree, layout)?;
-    let switches = switches(alloc, tree, layout, outputs)?;
+    let source = Source {
+        alloc,
+        tree,
+        layout,
+    };
+    let modules = layout.modules.as_slice();
+    let modes = layout.modes.as_slice();
+    let outputs = outputs(&source)?;
+    let switches = switches(&source, outputs)?;
     Ok(Parts {
-        comms: Seq::new(comms(alloc, tree)?),
-        modes: Seq::new(modes(alloc, tree, layout)?),
-        modules: Seq::new(modules(alloc, tree, layout)?),
-        ports: Seq::new(ports(alloc, tree, layout)?),
-        tasks: Seq::new(tasks(alloc, tree, layout)?),
-        invs: Seq::new(invocations(alloc, tree, layout)?),
+        comms: Seq::new(comms(&source)?),
+        modes: Seq::new(listed(alloc, &source, modules)?),
+        modules: Seq::new(module_items(&source)?),
+        ports: Seq::new(listed(alloc, &source, modes)?),
+        tasks: Seq::new(listed(alloc, &source, modules)?),
+        invs: Seq::new(listed(alloc, &source, modes)?),
         switches: Seq::new(switches.items),
         functions: Seq::new(switches.functions),
     })

@@ -1,12 +1,13 @@
 // Expressions with places of arguments for names.
-ghost use Rattle.std.specs.Prelude.{◌≡◌, ◌≤◌, ℕ, eqb, length, IfOk};
+ghost use Rattle.std.specs.Prelude.{◌≡◌, ◌≤◌, ℕ, eqb, IfOk};
 ghost use Rattle.htl_model.specs.Functions.{term_of};
 ghost use Rattle.htl_text.specs.declared.tree.Id.{Id as AnId};
 ghost use Rattle.htl_names.specs.Lists.{place_in};
 ghost use Rattle.htl_names.specs.Flat.{term_by, input_place, read_place};
 
-use crate::layout::Layout;
-use crate::meanings::{comm_place, param_place};
+use crate::place::ModuleAt;
+use crate::source::Source;
+use crate::spaces::{comm_key, param_key};
 use htl_model::Expr;
 use htl_text::{Id, Operand, Part};
 use std::alloc::{AllocError, Global};
@@ -24,32 +25,33 @@ pub trait Arguments {
 /// The inputs of a task.
 #[derive(Drop)]
 pub struct Inputs<'a> {
-    pub layout: &'a Layout,
-    pub program: usize,
-    pub module: usize,
+    pub source: Source<'a>,
+    pub at: ModuleAt,
     pub task: usize,
 }
 
 impl Arguments for Inputs<'_> {
-    ghost place = { λ s. input_place s.layout.now s.program s.«module» s.task };
+    ghost place = { λ s. input_place s.source.layout.now s.at.program s.at.«module» s.task };
 
     fn place(&self, id: &Id) -> u16 {
-        param_place(self.layout, self.program, self.module, self.task, id.name) as u16
+        let key = param_key(self.at.program, self.at.module, self.task, id.name);
+        self.source.layout.meaning(&key) as u16
     }
 }
 
 /// The communicators that a switch reads.
 #[derive(Drop)]
 pub struct Reads<'a> {
-    pub layout: &'a Layout,
+    pub source: Source<'a>,
     pub comms: &'a [u16],
 }
 
 impl Arguments for Reads<'_> {
-    ghost place = { λ s. read_place s.layout.now s.comms.now };
+    ghost place = { λ s. read_place s.source.layout.now s.comms.now };
 
     fn place(&self, id: &Id) -> u16 {
-        place_in(comm_place(self.layout, id.name), self.comms) as u16
+        let comm = self.source.layout.meaning(&comm_key(id.name));
+        place_in(comm, self.comms) as u16
     }
 }
 

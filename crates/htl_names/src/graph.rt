@@ -1,15 +1,22 @@
-// The programs that the modes of a source name.
+// The modes of a source that name programs.
 ghost use Rattle.std.specs.Prelude.{◌≡◌, ◌++◌, OnOk, IfOk};
 ghost use Rattle.htl_text.specs.Nodes.{mode_of, module_of, program_of, tree_of};
-ghost use Rattle.htl_names.specs.Programs.{named_program as program_of_mode, mode_links, module_links, program_links, links, mode_naming, module_naming, program_naming, naming};
-ghost use Rattle.htl_names.specs.Graph.{program_named, named_alone, named_from};
+ghost use Rattle.htl_names.specs.Programs.{named_program as program_of_mode, mode_naming, module_naming, program_naming};
+ghost use Rattle.htl_names.specs.Graph.{program_named, named_from, naming_rows};
 
+use crate::Done;
 use crate::place::ModeAt;
 use crate::spaces::program_key;
 use crate::symbols::Symbols;
 use htl_base::Seq;
 use htl_text::{Id, ModeNode, ModuleNode, ProgramNode, Tree};
 use std::alloc::{AllocError, Global};
+
+/// A mode, and the number of the program that it names.
+pub(crate) type Naming = (ModeAt, usize);
+
+/// The modes of a program that name programs, in source order.
+pub(crate) type NamingRow = Seq<Naming>;
 
 /// The number of the program of this name.
 fn number_of(name: Option<Id>, symbols: &Symbols) -> Option<usize>
@@ -28,80 +35,7 @@ pub(crate) fn named_program(mode: &ModeNode, symbols: &Symbols) -> Option<usize>
     number_of(mode.program, symbols)
 }
 
-// ---- of each program the programs that its modes name
-
-fn push_some(found: Option<usize>, into: &mut Vec<usize>) -> Result<(), AllocError>
-    ensures { OnOk result (into.new.items ≡ into.old.items ++ named_alone found) }
-{
-    if let Some(q) = found {
-        into.push(q)?;
-    }
-    Ok(())
-}
-
-fn push_mode_links(
-    mode: &ModeNode,
-    symbols: &Symbols,
-    into: &mut Vec<usize>,
-) -> Result<(), AllocError>
-    ensures { OnOk result (into.new.items ≡ into.old.items ++ mode_links symbols.now (mode_of mode.now)) }
-{
-    push_some(named_program(mode, symbols), into)
-}
-
-fn push_module_links(
-    module: &ModuleNode,
-    symbols: &Symbols,
-    into: &mut Vec<usize>,
-) -> Result<(), AllocError>
-    ensures { OnOk result (into.new.items ≡ into.old.items ++ module_links symbols.now (module_of «module».now)) }
-{
-    let modes = module.modes.as_slice();
-    for k in 0..modes.len() {
-        push_mode_links(&modes[k], symbols, into)?;
-    }
-    Ok(())
-}
-
-fn program_links(
-    alloc: Global,
-    program: &ProgramNode,
-    symbols: &Symbols,
-) -> Result<Vec<usize>, AllocError>
-    ensures { IfOk result (λ v. v.items ≡ program_links symbols.now (program_of program.now)) }
-{
-    let mut found = Vec::new(alloc);
-    let modules = program.modules.as_slice();
-    for k in 0..modules.len() {
-        push_module_links(&modules[k], symbols, &mut found)?;
-    }
-    Ok(found)
-}
-
-/// Of each program the programs that its modes name, in order.
-pub(crate) fn links_of(
-    alloc: Global,
-    tree: &Tree,
-    symbols: &Symbols,
-) -> Result<Vec<Seq<usize>>, AllocError>
-    ensures { IfOk result (λ v. v.items ≡ links symbols.now (tree_of tree.now)) }
-{
-    let mut found = Vec::new(alloc);
-    let programs = tree.programs.as_slice();
-    for k in 0..programs.len() {
-        let row = program_links(alloc, &programs[k], symbols)?;
-        found.push(Seq::new(row))?;
-    }
-    Ok(found)
-}
-
-// ---- the modes that name programs
-
-fn push_placed(
-    place: ModeAt,
-    found: Option<usize>,
-    into: &mut Vec<(ModeAt, usize)>,
-) -> Result<(), AllocError>
+fn push_placed(place: ModeAt, found: Option<usize>, into: &mut Vec<Naming>) -> Done
     ensures { OnOk result (into.new.items ≡ into.old.items ++ named_from place found) }
 {
     if let Some(q) = found {
@@ -110,15 +44,10 @@ fn push_placed(
     Ok(())
 }
 
-fn push_mode_naming(
-    place: ModeAt,
-    mode: &ModeNode,
-    symbols: &Symbols,
-    into: &mut Vec<(ModeAt, usize)>,
-) -> Result<(), AllocError>
-    ensures { OnOk result (into.new.items ≡ into.old.items ++ mode_naming symbols.now place.program place.«module» place.mode (mode_of mode.now)) }
+fn push_mode_naming(at: ModeAt, mode: &ModeNode, symbols: &Symbols, into: &mut Vec<Naming>) -> Done
+    ensures { OnOk result (into.new.items ≡ into.old.items ++ mode_naming symbols.now at.program at.«module» at.mode (mode_of mode.now)) }
 {
-    push_placed(place, named_program(mode, symbols), into)
+    push_placed(at, named_program(mode, symbols), into)
 }
 
 fn push_module_naming(
@@ -126,8 +55,8 @@ fn push_module_naming(
     module: usize,
     node: &ModuleNode,
     symbols: &Symbols,
-    into: &mut Vec<(ModeAt, usize)>,
-) -> Result<(), AllocError>
+    into: &mut Vec<Naming>,
+) -> Done
     ensures { OnOk result (into.new.items ≡ into.old.items ++ module_naming symbols.now program «module» (module_of node.now)) }
 {
     let modes = node.modes.as_slice();
@@ -142,33 +71,35 @@ fn push_module_naming(
     Ok(())
 }
 
-fn push_program_naming(
+fn program_naming(
+    alloc: Global,
     program: usize,
     node: &ProgramNode,
     symbols: &Symbols,
-    into: &mut Vec<(ModeAt, usize)>,
-) -> Result<(), AllocError>
-    ensures { OnOk result (into.new.items ≡ into.old.items ++ program_naming symbols.now program (program_of node.now)) }
+) -> Result<Vec<Naming>, AllocError>
+    ensures { IfOk result (λ v. v.items ≡ program_naming symbols.now program (program_of node.now)) }
 {
+    let mut row = Vec::new(alloc);
     let modules = node.modules.as_slice();
     for k in 0..modules.len() {
-        push_module_naming(program, k, &modules[k], symbols, into)?;
+        push_module_naming(program, k, &modules[k], symbols, &mut row)?;
     }
-    Ok(())
+    Ok(row)
 }
 
-/// The modes that name a program, in source order, each with the program's number.
-pub(crate) fn naming_of(
+/// The modes that name programs, by the program that they stand in.
+pub(crate) fn naming_rows(
     alloc: Global,
     tree: &Tree,
     symbols: &Symbols,
-) -> Result<Vec<(ModeAt, usize)>, AllocError>
-    ensures { IfOk result (λ v. v.items ≡ naming symbols.now (tree_of tree.now)) }
+) -> Result<Vec<NamingRow>, AllocError>
+    ensures { IfOk result (λ v. v.items ≡ naming_rows symbols.now (tree_of tree.now)) }
 {
-    let mut found = Vec::new(alloc);
+    let mut rows = Vec::new(alloc);
     let programs = tree.programs.as_slice();
     for k in 0..programs.len() {
-        push_program_naming(k, &programs[k], symbols, &mut found)?;
+        let row = program_naming(alloc, k, &programs[k], symbols)?;
+        rows.push(Seq::new(row))?;
     }
-    Ok(found)
+    Ok(rows)
 }

@@ -1,190 +1,130 @@
 // The list of invocations.
-ghost use Rattle.std.specs.Prelude.{◌≡◌, ◌++◌, ◌≤◌, ℕ, None, Some, OnOk, IfOk, All, length, map};
+ghost use Rattle.std.specs.Prelude.{◌≡◌, ◌≤◌, None, Some, IfOk, All, map};
 ghost use Rattle.htl_text.specs.Nodes.{tree_of};
-ghost use Rattle.htl_names.specs.declared.key.Key.{Key as AKey};
-ghost use Rattle.htl_names.specs.Ends.{end_by, invoke_by, parent_by, home_of, refined_of, IsNarrowHome, IsNarrowRefined};
-ghost use Rattle.htl_names.specs.Flat.{meaning, mode_invoke_items, invoke_items};
-ghost use Rattle.htl_names.specs.Narrow.{IsNarrow, IsNarrowEnd, IsNarrowInvoke, IsNarrowParent};
+ghost use Rattle.htl_names.specs.Flat.{module_number, tasks_before, ports_before, refined_mode, first_parent, end_item, parent_number, invoke_item, mode_invoke_items};
+ghost use Rattle.htl_names.specs.Narrow.{IsNarrowEnd, IsNarrowInvoke, IsNarrowParent};
 
 use crate::at::invokes_at;
-use crate::layout::Layout;
+use crate::listing::Listing;
 use crate::literals::size_of;
-use crate::meanings::{comm_place, invoke_place, port_place, task_place};
 use crate::numbers::{
     invokes_before, mode_number, module_number, ports_before, refined_mode, tasks_before,
 };
 use crate::place::ModeAt;
+use crate::source::Source;
+use crate::spaces::{comm_key, invoke_key, port_key, task_key};
 use htl_base::Seq;
 use htl_model::{End, Inv};
-use htl_text::{EndNode, Id, InvokeNode, Tree};
-use std::alloc::{AllocError, Global};
-
-/// The invocations: by mode, then in source order.
-pub fn invocations(alloc: Global, tree: &Tree, layout: &Layout) -> Result<Vec<Inv>, AllocError>
-    requires { IsNarrow layout.now (tree_of tree.now) }
-    ensures { IfOk result (λ v. v.items ≡ invoke_items layout.now (tree_of tree.now)) }
-{
-    let mut into = Vec::new(alloc);
-    let modes = layout.modes.as_slice();
-    for k in 0..modes.len() {
-        push_invocations(alloc, tree, layout, k, modes[k], &mut into)?;
-    }
-    Ok(into)
-}
-
-/// A mode that is refined, and the number of its first invocation.
-#[derive(Clone, Copy)]
-struct Refined {
-    at: ModeAt,
-    first: usize,
-}
+use htl_text::{EndNode, Id, InvokeNode};
+use std::alloc::AllocError;
 
 /// A mode with its number, the numbers of its first port and of the first task of its module, and the mode that its
-/// program refines.
-#[derive(Clone, Copy)]
-struct Home {
+/// program refines, with the number of the first invocation of that.
+#[derive(Drop)]
+struct Home<'a> {
+    source: Source<'a>,
     mode: usize,
     at: ModeAt,
     port: usize,
     task: usize,
-    refined: Option<Refined>,
+    refined: Option<ModeAt>,
+    parent: usize,
+    ghost few: { mode ≤ 256 },
+    ghost ports: { port ≡ ports_before source.layout.now (tree_of source.tree.now) mode },
+    ghost tasks: { task ≡ tasks_before source.layout.now (tree_of source.tree.now) (module_number source.layout.now at.program at.«module») },
+    ghost refines: { refined ≡ refined_mode source.layout.now at.program at.«module» },
+    ghost parents: { parent ≡ first_parent source.layout.now (tree_of source.tree.now) refined },
 }
 
-fn home_at(tree: &Tree, layout: &Layout, mode: usize, at: ModeAt) -> Home
-    requires narrow { IsNarrow layout.now (tree_of tree.now) }
-    requires mode { mode ≤ 256 }
-    ensures value { result ≡ home_of layout.now (tree_of tree.now) mode at }
-    ensures narrow { IsNarrowHome result }
-{
-    Home {
-        mode,
-        at,
-        port: ports_before(tree, layout, mode),
-        task: tasks_before(tree, layout, module_number(layout, at.program, at.module)),
-        refined: refined_from(tree, layout, refined_mode(layout, at.program, at.module)),
-    }
-}
+/// The invocations of a mode.
+impl Listing<ModeAt, Inv> for Source<'_> {
+    ghost items_of = { λ s. mode_invoke_items s.layout.now (tree_of s.tree.now) };
 
-fn refined_from(tree: &Tree, layout: &Layout, mode: Option<ModeAt>) -> Option<Refined>
-    requires narrow { IsNarrow layout.now (tree_of tree.now) }
-    requires mode { IsNarrowParent mode }
-    ensures value { result ≡ refined_of layout.now (tree_of tree.now) mode }
-    ensures narrow { IsNarrowRefined result }
-{
-    match mode {
-        Some(at) => Some(Refined {
+    fn items_of(&self, number: usize, at: ModeAt) -> Result<Vec<Inv>, AllocError> {
+        let module = module_number(self.layout, at.program, at.module);
+        let refined = refined_mode(self, at.program, at.module);
+        let home = Home {
+            source: *self,
+            mode: number,
             at,
-            first: invokes_before(tree, layout, mode_number(tree, layout, at)),
-        }),
-        None => None,
+            port: ports_before(self, number),
+            task: tasks_before(self, module),
+            refined,
+            parent: first_parent(self, refined),
+        };
+        let nodes = invokes_at(self.tree, at);
+        let mut found = Vec::new(self.alloc);
+        for k in 0..nodes.len() {
+            found.push(invocation(&home, &nodes[k])?)?;
+        }
+        Ok(found)
     }
 }
 
-// Those of a mode: its number, and where it stands.
-fn push_invocations(
-    alloc: Global,
-    tree: &Tree,
-    layout: &Layout,
-    mode: usize,
-    at: ModeAt,
-    into: &mut Vec<Inv>,
-) -> Result<(), AllocError>
-    requires narrow { IsNarrow layout.now (tree_of tree.now) }
-    requires mode { mode ≤ 256 }
-    ensures { OnOk result (into.new.items ≡ into.old.items ++ mode_invoke_items layout.now (tree_of tree.now) mode at) }
+fn first_parent(source: &Source<'_>, refined: Option<ModeAt>) -> usize
+    requires { IsNarrowParent refined }
+    ensures { result ≡ first_parent source.now.layout.now (tree_of source.now.tree.now) refined }
 {
-    let home = home_at(tree, layout, mode, at);
-    push_each(alloc, layout, &home, invokes_at(tree, at), into)
-}
-
-fn push_each(
-    alloc: Global,
-    layout: &Layout,
-    home: &Home,
-    nodes: &[InvokeNode],
-    into: &mut Vec<Inv>,
-) -> Result<(), AllocError>
-    requires meanings { (key : AKey) → meaning layout.now key ≤ 4096 }
-    requires home { IsNarrowHome home.now }
-    requires ends { All IsNarrowInvoke nodes.now }
-    ensures { OnOk result (into.new.items ≡ into.old.items ++ map (invoke_by layout.now home.now) nodes.now) }
-{
-    for k in 0..nodes.len() {
-        into.push(invocation(alloc, layout, home, &nodes[k])?)?;
+    match refined {
+        Some(at) => invokes_before(source, mode_number(source, at)),
+        None => 0,
     }
-    Ok(())
 }
 
-fn invocation(
-    alloc: Global,
-    layout: &Layout,
-    home: &Home,
-    node: &InvokeNode,
-) -> Result<Inv, AllocError>
-    requires meanings { (key : AKey) → meaning layout.now key ≤ 4096 }
-    requires home { IsNarrowHome home.now }
-    requires ends { IsNarrowInvoke node.now }
-    ensures { IfOk result (λ i. i ≡ invoke_by layout.now home.now node.now) }
+fn invocation(home: &Home<'_>, node: &InvokeNode) -> Result<Inv, AllocError>
+    requires { IsNarrowInvoke node.now }
+    ensures { IfOk result (λ i. i ≡ invoke_item home.now.source.layout.now (tree_of home.now.source.tree.now) home.now.mode home.now.at node.now) }
 {
-    let at = home.at;
-    let task = home.task + task_place(layout, at.program, at.module, node.task.name);
+    let task = task_key(home.at.program, home.at.module, node.task.name);
     Ok(Inv {
         mode: home.mode as u16,
-        task: task as u16,
-        parent: parent(layout, home.refined, node.parent),
-        reads: Seq::new(ends(alloc, layout, at, home.port, node.reads.as_slice())?),
-        writes: Seq::new(ends(alloc, layout, at, home.port, node.writes.as_slice())?),
+        task: (home.task + home.source.layout.meaning(&task)) as u16,
+        parent: parent(home, node.parent),
+        reads: Seq::new(ends(home, node.reads.as_slice())?),
+        writes: Seq::new(ends(home, node.writes.as_slice())?),
     })
 }
 
 // The number of the invocation that an invocation refines.
-fn parent(layout: &Layout, refined: Option<Refined>, name: Option<Id>) -> Option<u16>
-    requires meanings { (key : AKey) → meaning layout.now key ≤ 4096 }
-    requires refined { IsNarrowRefined refined }
-    ensures { result ≡ parent_by layout.now refined name }
+fn parent(home: &Home<'_>, name: Option<Id>) -> Option<u16>
+    ensures { result ≡ elim name [ Some id ↦ parent_number home.now.source.layout.now (tree_of home.now.source.tree.now) home.now.refined id | None ↦ None ] }
 {
-    match (refined, name) {
-        (Some(r), Some(id)) => Some((r.first + invoke_place(layout, r.at, id.name)) as u16),
+    match (home.refined, name) {
+        (Some(b), Some(id)) => {
+            let key = invoke_key(b.program, b.module, b.mode, id.name);
+            Some((home.parent + home.source.layout.meaning(&key)) as u16)
+        }
         (None, Some(_)) => None,
         (Some(_), None) => None,
         (None, None) => None,
     }
 }
 
-// Where the inputs of an invocation come from, or its outputs go to. `first` is the number of the
-// first port of the mode.
-fn ends(
-    alloc: Global,
-    layout: &Layout,
-    at: ModeAt,
-    first: usize,
-    nodes: &[EndNode],
-) -> Result<Vec<End>, AllocError>
-    requires meanings { (key : AKey) → meaning layout.now key ≤ 4096 }
-    requires port { first ≤ 4096 }
-    requires ends { All IsNarrowEnd nodes.now }
-    ensures { IfOk result (λ v. v.items ≡ map (end_by layout.now at first) nodes.now) }
+// Where the inputs of an invocation come from, or its outputs go to.
+fn ends(home: &Home<'_>, nodes: &[EndNode]) -> Result<Vec<End>, AllocError>
+    requires { All IsNarrowEnd nodes.now }
+    ensures { IfOk result (λ v. v.items ≡ map (end_item home.now.source.layout.now (tree_of home.now.source.tree.now) home.now.mode home.now.at) nodes.now) }
 {
-    let mut into = Vec::new(alloc);
-    for k in 0..nodes.len() {
-        into.push(end(layout, at, first, &nodes[k]))?;
-    }
-    Ok(into)
+    nodes
+        .iter()
+        .map(|node| end(home, node))
+        .collect(home.source.alloc)
 }
 
-fn end(layout: &Layout, at: ModeAt, first: usize, node: &EndNode) -> End
-    requires meanings { (key : AKey) → meaning layout.now key ≤ 4096 }
-    requires port { first ≤ 4096 }
-    requires end { IsNarrowEnd node.now }
-    ensures { result ≡ end_by layout.now at first node.now }
+fn end(home: &Home<'_>, node: &EndNode) -> End
+    requires { IsNarrowEnd node.now }
+    ensures { result ≡ end_item home.now.source.layout.now (tree_of home.now.source.tree.now) home.now.mode home.now.at node.now }
 {
+    let layout = home.source.layout;
     match node {
         EndNode::Comm { comm, instance } => End::Comm {
-            comm: comm_place(layout, comm.name) as u16,
+            comm: layout.meaning(&comm_key(comm.name)) as u16,
             instance: size_of(instance.x),
         },
-        EndNode::Port { port } => End::Port {
-            port: (first + port_place(layout, at, port.name)) as u16,
-        },
+        EndNode::Port { port } => {
+            let key = port_key(home.at.program, home.at.module, home.at.mode, port.name);
+            let port = (home.port + layout.meaning(&key)) as u16;
+            End::Port { port }
+        }
     }
 }

@@ -33,16 +33,7 @@ impl Space {
     fn code(self) -> u8
         ensures { result ≡ space_code self }
     {
-        match self {
-            Space::Programs => 0,
-            Space::Comms => 1,
-            Space::Modules => 2,
-            Space::Tasks => 3,
-            Space::Modes => 4,
-            Space::Params => 5,
-            Space::Ports => 6,
-            Space::Invokes => 7,
-        }
+        self as u8
     }
 }
 

@@ -1,4 +1,8 @@
 // The meanings of names, and the order of the tables.
+ghost use Rattle.std.specs.Prelude.{◌≡◌};
+ghost use Rattle.htl_names.specs.Flat.{meaning};
+
+use crate::key::Key;
 use crate::place::{ModeAt, ModuleAt};
 use crate::symbols::Symbols;
 use std::marker::Model;
@@ -17,4 +21,13 @@ impl Model for Layout {
     ghost Value = { Plain };
 
     ghost view = { λ l. record { symbols = l.symbols; modules = l.modules.items; modes = l.modes.items } };
+}
+
+impl Layout {
+    /// The place of the item that a name means in its list; 0 for a name that means nothing.
+    pub fn meaning(&self, key: &Key) -> usize
+        ensures { result ≡ meaning self.now key.now }
+    {
+        self.symbols.get(key).unwrap_or(0)
+    }
 }

@@ -15,8 +15,8 @@ mod laws;
 mod layout;
 mod levels;
 mod limits;
+mod listing;
 mod literals;
-mod meanings;
 mod numbers;
 mod order;
 mod parents;
@@ -27,6 +27,7 @@ mod repeats;
 mod resolving;
 mod rows;
 mod selections;
+mod source;
 mod spaces;
 mod switches;
 mod symbols;
@@ -38,3 +39,7 @@ mod walk;
 pub use fault::NameFault;
 pub use laws::source_trees_meet_bounds;
 pub use resolving::resolve;
+use std::alloc::AllocError;
+
+/// What fails where no memory is left, and gives nothing.
+type Done = Result<(), AllocError>;

@@ -1,9 +1,9 @@
 // The first limit that a source exceeds.
-ghost use Rattle.std.specs.Prelude.{◌≡◌, ◌≤◌, length, take};
+ghost use Rattle.std.specs.Prelude.{◌≡◌, ◌≤◌, ◌+◌, [], ◌∷◌, length, take, drop};
 ghost use Rattle.htl_model.specs.Lists.{list_to};
 ghost use Rattle.htl_text.specs.Nodes.{tree_of};
 ghost use Rattle.htl_names.specs.Excess.{IsFirstExcess};
-ghost use Rattle.htl_names.specs.Excesses.{excess, excess_from, or_else, capped};
+ghost use Rattle.htl_names.specs.Excesses.{excess, excess_from, capped};
 ghost use Rattle.htl_names.specs.LevelTable.{levels_by};
 ghost use Rattle.htl_names.specs.Limits.{counts, limits, selections, most_positions};
 ghost use Rattle.htl_names.specs.Programs.{refined_by};
@@ -43,16 +43,18 @@ fn excess_over(which: u8, count: usize, limit: usize) -> Option<Excess>
     }
 }
 
-/// The first excess of counts over their limits, which are numbered from 1.
-fn first_excess(counts: &[usize], limits: &[usize]) -> Option<Excess>
-    requires few { length counts.now ≤ 11 }
+/// The first excess of counts over their limits, which are numbered from `first` on.
+fn first_excess(first: u8, counts: &[usize], limits: &[usize]) -> Option<Excess>
+    requires few { first + length counts.now ≤ 20 }
     requires paired { length counts.now ≡ length limits.now }
-    ensures { result ≡ excess_from 1 counts.now limits.now }
+    ensures { result ≡ excess_from first counts.now limits.now }
 {
+    let mut which = first;
     for k in 0..counts.len() {
-        if let Some(found) = excess_over(k as u8 + 1, counts[k], limits[k]) {
+        if let Some(found) = excess_over(which, counts[k], limits[k]) {
             return Some(found);
         }
+        which += 1;
     }
     None
 }
@@ -82,20 +84,16 @@ fn counted_excess(tree: &Tree) -> Option<Excess>
         MAX_SWITCHES,
         MAX_MODE_INVOCATIONS,
     ];
-    first_excess(&counts, &limits)
+    first_excess(1, &counts, &limits)
 }
 
 /// The first excess of levels, root selections and positions, limits 9 to 11.
 fn shape_excess(tree: &Tree, refined: &[Option<ModeAt>]) -> Option<Excess>
-    ensures { result ≡ or_else (excess 9 (levels_by refined.now) 8) (or_else (excess 10 (capped (selections (tree_of tree.now))) 1024) (excess 11 (capped (most_positions (tree_of tree.now))) 128)) }
+    ensures { result ≡ excess_from 9 (levels_by refined.now ∷ capped (selections (tree_of tree.now)) ∷ capped (most_positions (tree_of tree.now)) ∷ []) (drop 8 limits) }
 {
-    if let Some(found) = excess_over(9, levels(refined), MAX_LEVELS) {
-        return Some(found);
-    }
-    if let Some(found) = excess_over(10, selections(tree), MAX_SELECTIONS as usize) {
-        return Some(found);
-    }
-    excess_over(11, most_positions(tree), MAX_POSITIONS)
+    let counts = [levels(refined), selections(tree), most_positions(tree)];
+    let limits = [MAX_LEVELS, MAX_SELECTIONS as usize, MAX_POSITIONS];
+    first_excess(9, &counts, &limits)
 }
 
 /// The first limit that is exceeded. `refined` has of each program the mode that it refines.

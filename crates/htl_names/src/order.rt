@@ -3,7 +3,7 @@ ghost use Rattle.std.specs.Prelude.{◌≡◌, ◌++◌, OnOk, IfOk, map, revers
 ghost use Rattle.htl_text.specs.Nodes.{mode_of, tree_of};
 ghost use Rattle.htl_names.specs.Flat.{layout_by};
 ghost use Rattle.htl_names.specs.Order.{modules_in, mode_kids, kids as kids_of_module, order, module_modes, mode_order};
-ghost use Rattle.htl_names.specs.Stack.{frame, modules_named, kid_frames};
+ghost use Rattle.htl_names.specs.Stack.{frame, kid_frames};
 
 use crate::at::{modes_at, modules_at};
 use crate::graph::named_program;
@@ -44,21 +44,6 @@ fn push_modules(
     Ok(())
 }
 
-fn push_named_modules(
-    tree: &Tree,
-    place: ModeAt,
-    found: Option<usize>,
-    steps: usize,
-    into: &mut Vec<Frame>,
-) -> Result<(), AllocError>
-    ensures { OnOk result (into.new.items ≡ into.old.items ++ map (frame steps) (modules_named (tree_of tree.now) place found)) }
-{
-    match found {
-        Some(q) => push_modules(tree, Some(place), q, steps, into),
-        None => Ok(()),
-    }
-}
-
 /// Puts the modules of the program that refines a mode behind others.
 fn push_mode_kids(
     tree: &Tree,
@@ -70,7 +55,10 @@ fn push_mode_kids(
 ) -> Result<(), AllocError>
     ensures { OnOk result (into.new.items ≡ into.old.items ++ map (frame steps) (mode_kids symbols.now (tree_of tree.now) place.program place.«module» place.mode (mode_of mode.now))) }
 {
-    push_named_modules(tree, place, named_program(mode, symbols), steps, into)
+    match named_program(mode, symbols) {
+        Some(q) => push_modules(tree, Some(place), q, steps, into),
+        None => Ok(()),
+    }
 }
 
 /// The modules of the programs that refine the modes of a module.
@@ -96,17 +84,6 @@ fn kids(
     Ok(found)
 }
 
-/// Puts frames on the stack, the first of them on top.
-fn push_reversed(frames: Vec<Frame>, stack: &mut Vec<Frame>) -> Result<(), AllocError>
-    ensures { OnOk result (stack.new.items ≡ stack.old.items ++ reverse frames.items) }
-{
-    let mut left = frames;
-    while let Some(frame) = left.pop() {
-        stack.push(frame)?;
-    }
-    Ok(())
-}
-
 /// Puts what comes below a module on the stack.
 fn push_kids(
     alloc: Global,
@@ -120,8 +97,9 @@ fn push_kids(
     if top.steps == 0 {
         return Ok(());
     }
-    let next = kids(alloc, tree, symbols, top.module, top.steps - 1)?;
-    push_reversed(next, stack)
+    let mut next = kids(alloc, tree, symbols, top.module, top.steps - 1)?;
+    next.reverse();
+    stack.append(&mut next)
 }
 
 /// The modules of a source: a root module, then for each of its modes in order the modules of its refinement with theirs,
@@ -134,10 +112,9 @@ fn ordered_modules(
 ) -> Result<Vec<ModuleAt>, AllocError>
     ensures { IfOk result (λ v. v.items ≡ order symbols.now (tree_of tree.now)) }
 {
-    let mut roots = Vec::new(alloc);
-    push_modules(tree, None, 0, tree.programs.as_slice().len(), &mut roots)?;
     let mut stack = Vec::new(alloc);
-    push_reversed(roots, &mut stack)?;
+    push_modules(tree, None, 0, tree.programs.as_slice().len(), &mut stack)?;
+    stack.reverse();
     let mut modules = Vec::new(alloc);
     while let Some(top) = stack.pop() {
         modules.push(top.module)?;

@@ -1,7 +1,7 @@
 // Names after `parent` that stand for nothing.
 ghost use Rattle.std.specs.Prelude.{◌≡◌, map, get_or, Some, None};
 ghost use Rattle.htl_model.specs.Lists.{first_some};
-ghost use Rattle.htl_names.specs.Orphans.{orphan_at, orphan_token, absent};
+ghost use Rattle.htl_names.specs.Orphans.{orphan_at, orphan_token};
 ghost use Rattle.htl_names.specs.Parents.{parent_in};
 ghost use Rattle.htl_names.specs.Rows.{parent_use_of};
 
@@ -36,14 +36,8 @@ fn orphan(p: usize, id: &Id, symbols: &Symbols, refined: &[Option<ModeAt>]) -> O
     if p == 0 {
         return Some(id.token);
     }
-    absent(place_in(refined_at(p, refined), id, symbols), id.token)
-}
-
-fn absent(place: Option<usize>, token: u32) -> Option<u32>
-    ensures { result ≡ absent place token }
-{
-    match place {
-        None => Some(token),
+    match place_in(refined_at(p, refined), id, symbols) {
+        None => Some(id.token),
         Some(_) => None,
     }
 }

@@ -25,13 +25,12 @@ pub(crate) enum Declared {
 pub(crate) fn declare(alloc: Global, entries: &[Entry]) -> Result<Declared, AllocError>
     ensures { IfOk result (λ d. IsDeclared entries.now d) }
 {
-    let mut symbols = Symbols::new(alloc);
+    let mut symbols = Symbols::with_capacity(alloc, entries.len())?;
     for k in 0..entries.len() {
         let e = entries[k];
-        if let Some(_) = symbols.get(&e.key) {
+        if let Some(_) = symbols.add(e.key, e.number)? {
             return Ok(Declared::Repeated { token: e.token });
         }
-        symbols.add(e.key, e.number)?;
     }
     Ok(Declared::Apart { symbols })
 }

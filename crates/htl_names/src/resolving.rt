@@ -1,23 +1,21 @@
 // From the tree of a source to its tables.
-ghost use Rattle.std.specs.Prelude.{◌≡◌, List, MatchResult, length, IfOk};
+ghost use Rattle.std.specs.Prelude.{◌≡◌, MatchResult, IfOk};
 ghost use Rattle.htl_model.specs.Broken.{KeepsLimits};
-ghost use Rattle.htl_model.specs.Lists.{list_to};
 ghost use Rattle.htl_model.specs.Small.{AreSmall};
-ghost use Rattle.htl_text.specs.Nodes.{PlainProgram, tree_of};
+ghost use Rattle.htl_text.specs.Nodes.{tree_of};
 ghost use Rattle.htl_names.specs.Conditions.{MeetsBounds};
 ghost use Rattle.htl_names.specs.Flat.{symbols_of};
-ghost use Rattle.htl_names.specs.NameRules.{RepeatedName, UnknownName, WrongKind, ProgramTree, ParentName, Limits, AreNamesRight, IsResolved};
-ghost use Rattle.htl_names.specs.Programs.{refined_by};
+ghost use Rattle.htl_names.specs.NameRules.{RepeatedName, AreNamesRight, IsResolved};
 ghost use Rattle.htl_names.specs.Rows.{rows as rows_in};
-ghost use Rattle.htl_names.specs.Told.{IsKept, IsTold, IsTested, IsJudged};
+ghost use Rattle.htl_names.specs.Told.{IsKept, IsTold, IsJudged};
 
 use crate::fault::NameFault;
 use crate::flat::parts_of;
+use crate::graph::naming_rows;
 use crate::kinds::first_wrong_kind;
-use crate::limits::first_exceeded;
+use crate::limits::{Excess, first_exceeded};
 use crate::order::layout_of;
 use crate::parents::first_orphan;
-use crate::place::ModeAt;
 use crate::programs::{first_misplaced, refined_modes};
 use crate::repeats::{Declared, declare};
 use crate::rows::Rows;
@@ -79,71 +77,24 @@ fn check(alloc: Global, tree: &Tree, rows: &Rows, symbols: &Symbols) -> Result<(
     requires apart { IsKept (tree_of tree.now) RepeatedName }
     ensures { IsJudged (tree_of tree.now) result }
 {
-    check_uses(rows, symbols)?;
-    check_kinds(rows)?;
-    check_programs(alloc, tree, symbols)?;
-    let refined = refined_modes(alloc, tree, symbols)?;
-    check_parents(rows, symbols, refined.as_slice())?;
-    check_limits(tree, symbols, refined.as_slice())
-}
-
-// The rows are those of a source.
-fn check_uses(rows: &Rows, symbols: &Symbols) -> Result<(), NameFault>
-    ensures { (ps : List PlainProgram) → rows.now ≡ rows_in ps → symbols.now ≡ symbols_of ps → IsTested ps UnknownName result }
-{
-    match first_unknown(rows.uses.as_slice(), symbols) {
-        None => Ok(()),
-        Some(token) => Err(NameFault::Unknown { token }),
+    if let Some(token) = first_unknown(rows.uses.as_slice(), symbols) {
+        return Err(NameFault::Unknown { token });
     }
-}
-
-fn check_kinds(rows: &Rows) -> Result<(), NameFault>
-    ensures { (ps : List PlainProgram) → rows.now ≡ rows_in ps → IsTested ps WrongKind result }
-{
-    match first_wrong_kind(rows.kinds.as_slice()) {
-        None => Ok(()),
-        Some(token) => Err(NameFault::Kind { token }),
+    if let Some(token) = first_wrong_kind(rows.kinds.as_slice()) {
+        return Err(NameFault::Kind { token });
     }
-}
-
-fn check_programs(alloc: Global, tree: &Tree, symbols: &Symbols) -> Result<(), NameFault>
-    requires bounds { MeetsBounds (tree_of tree.now) }
-    requires symbols { symbols.now ≡ symbols_of (tree_of tree.now) }
-    ensures { IsTested (tree_of tree.now) ProgramTree result }
-{
-    match first_misplaced(alloc, tree, symbols)? {
-        None => Ok(()),
-        Some(program) => Err(NameFault::NotATree { program }),
+    let namings = naming_rows(alloc, tree, symbols)?;
+    if let Some(program) = first_misplaced(alloc, namings.as_slice())? {
+        return Err(NameFault::NotATree { program });
     }
-}
-
-fn check_parents(
-    rows: &Rows,
-    symbols: &Symbols,
-    refined: &[Option<ModeAt>],
-) -> Result<(), NameFault>
-    ensures { (ps : List PlainProgram) → rows.now ≡ rows_in ps → symbols.now ≡ symbols_of ps
-        → refined.now ≡ list_to (refined_by symbols.now ps) (length ps) → IsTested ps ParentName result }
-{
-    match first_orphan(rows.parents.as_slice(), symbols, refined) {
-        None => Ok(()),
-        Some(token) => Err(NameFault::Unknown { token }),
+    let refined = refined_modes(alloc, namings.as_slice())?;
+    if let Some(token) = first_orphan(rows.parents.as_slice(), symbols, refined.as_slice()) {
+        return Err(NameFault::Unknown { token });
     }
-}
-
-fn check_limits(tree: &Tree, symbols: &Symbols, refined: &[Option<ModeAt>]) -> Result<(), NameFault>
-    requires symbols { symbols.now ≡ symbols_of (tree_of tree.now) }
-    requires refined { refined.now ≡ list_to (refined_by symbols.now (tree_of tree.now)) (length (tree_of tree.now)) }
-    requires placed { IsKept (tree_of tree.now) ProgramTree }
-    ensures { IsTested (tree_of tree.now) Limits result }
-{
-    match first_exceeded(tree, symbols, refined) {
-        None => Ok(()),
-        Some(excess) => Err(NameFault::Limit {
-            which: excess.which,
-            count: excess.count,
-        }),
+    if let Some(Excess { which, count }) = first_exceeded(tree, symbols, refined.as_slice()) {
+        return Err(NameFault::Limit { which, count });
     }
+    Ok(())
 }
 
 // The tables of a source whose names keep the rules.

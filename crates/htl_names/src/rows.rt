@@ -6,10 +6,11 @@ ghost use Rattle.htl_names.specs.Rows.{joined, declaring, using, judging, refini
 ghost use Rattle.htl_names.specs.Uses.{usage};
 ghost use Rattle.htl_names.specs.Unknowns.{use_in};
 
+use crate::Done;
 use crate::key::{Entry, Key, Space, Use};
 use htl_base::Ty;
 use htl_text::{ConstNode, Expression, Id, Node, Num};
-use std::alloc::{AllocError, Global};
+use std::alloc::Global;
 use std::marker::Model;
 
 /// A value or number that has to be of a kind.
@@ -89,7 +90,7 @@ impl Rows {
     }
 
     /// A name that is declared, and its place in its list.
-    pub fn declare(&mut self, key: Key, number: usize, id: &Id) -> Result<(), AllocError>
+    pub fn declare(&mut self, key: Key, number: usize, id: &Id) -> Done
         ensures rows { OnOk result (self.new ≡ joined self.old (declaring (entry key number id.now ∷ []))) }
         ensures few { OnOk result (length self.new.entries ≤ 2 ^ 63 - 1) }
     {
@@ -102,7 +103,7 @@ impl Rows {
     }
 
     /// A name that is used for any item of its list.
-    pub fn mention(&mut self, key: Key, id: &Id) -> Result<(), AllocError>
+    pub fn mention(&mut self, key: Key, id: &Id) -> Done
         ensures { OnOk result (self.new ≡ joined self.old (using (usage key id.now ∷ []))) }
     {
         self.uses.push(Use {
@@ -114,14 +115,14 @@ impl Rows {
     }
 
     /// The names of an expression.
-    pub fn mention_all(&mut self, scope: &Scope, e: &Expression) -> Result<(), AllocError>
+    pub fn mention_all(&mut self, scope: &Scope, e: &Expression) -> Done
         ensures { OnOk result (self.new ≡ joined self.old (using (map (use_in scope.now) (names_of e.now)))) }
     {
         put_names(scope, e, &mut self.uses)
     }
 
     /// A value or number.
-    pub fn judge(&mut self, item: Judged) -> Result<(), AllocError>
+    pub fn judge(&mut self, item: Judged) -> Done
         ensures { OnOk result (self.new ≡ joined self.old (judging (judged_of item ∷ []))) }
     {
         self.kinds.push(item)?;
@@ -129,7 +130,7 @@ impl Rows {
     }
 
     /// A name after `parent`.
-    pub fn refine(&mut self, program: usize, id: Id) -> Result<(), AllocError>
+    pub fn refine(&mut self, program: usize, id: Id) -> Done
         ensures { OnOk result (self.new ≡ joined self.old (refining (record { program = program; id = id } ∷ []))) }
     {
         self.parents.push(ParentName { program, id })?;
@@ -137,7 +138,7 @@ impl Rows {
     }
 }
 
-fn put_names(scope: &Scope, e: &Expression, into: &mut Vec<Use>) -> Result<(), AllocError>
+fn put_names(scope: &Scope, e: &Expression, into: &mut Vec<Use>) -> Done
     ensures { OnOk result (into.new.items ≡ into.old.items ++ map (use_in scope.now) (names_of e.now)) }
 {
     let nodes = e.nodes();
@@ -149,7 +150,7 @@ fn put_names(scope: &Scope, e: &Expression, into: &mut Vec<Use>) -> Result<(), A
     Ok(())
 }
 
-fn put_name(scope: &Scope, id: &Id, into: &mut Vec<Use>) -> Result<(), AllocError>
+fn put_name(scope: &Scope, id: &Id, into: &mut Vec<Use>) -> Done
     ensures { OnOk result (into.new.items ≡ into.old.items ++ use_in scope.now id.now ∷ []) }
 {
     into.push(Use {

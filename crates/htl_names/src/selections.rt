@@ -2,19 +2,10 @@
 ghost use Rattle.std.specs.Prelude.{◌≡◌, map};
 ghost use Rattle.htl_text.specs.Nodes.{mode_of, module_of, tree_of};
 ghost use Rattle.htl_names.specs.Excesses.{capped};
-ghost use Rattle.htl_names.specs.Limits.{root_modules, choices, selections, most_invokes, most_positions};
+ghost use Rattle.htl_names.specs.Limits.{choices, selections, most_invokes, most_positions};
 
+use crate::at::modules_at;
 use htl_text::{ModuleNode, Tree};
-
-/// The modules of the root program.
-fn root_modules(tree: &Tree) -> &[ModuleNode]
-    ensures { map module_of result.now ≡ root_modules (tree_of tree.now) }
-{
-    match tree.programs.as_slice().first() {
-        Some(root) => root.modules.as_slice(),
-        None => &[],
-    }
-}
 
 /// How many choices of one mode for each module there are, at most `usize::MAX`.
 fn choices(modules: &[ModuleNode]) -> usize
@@ -31,7 +22,7 @@ fn choices(modules: &[ModuleNode]) -> usize
 pub(crate) fn selections(tree: &Tree) -> usize
     ensures { result ≡ capped (selections (tree_of tree.now)) }
 {
-    let modules = root_modules(tree);
+    let modules = modules_at(tree, 0);
     if modules.is_empty() {
         0
     } else {
@@ -55,7 +46,7 @@ fn most_invokes(module: &ModuleNode) -> usize
 pub(crate) fn most_positions(tree: &Tree) -> usize
     ensures { result ≡ capped (most_positions (tree_of tree.now)) }
 {
-    let modules = root_modules(tree);
+    let modules = modules_at(tree, 0);
     let mut sum = 0usize;
     for k in 0..modules.len() {
         sum = sum.saturating_add(most_invokes(&modules[k]));

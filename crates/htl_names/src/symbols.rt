@@ -1,5 +1,5 @@
 // A table of symbols, which contracts see as the list of its entries.
-ghost use Rattle.std.specs.Prelude.{◌≡◌, ◌++◌, ◌∷◌, [], OnOk, None};
+ghost use Rattle.std.specs.Prelude.{◌≡◌, ◌++◌, ◌∷◌, [], IfOk, None};
 ghost use Rattle.htl_names.specs.Keys.{look_up};
 
 use crate::key::Key;
@@ -23,13 +23,12 @@ impl Model for Symbols {
 }
 
 impl Symbols {
-    /// No names.
-    pub fn new(alloc: Global) -> Symbols
-        ensures { result ≡ [] }
+    /// No names, with room for `n`.
+    pub fn with_capacity(alloc: Global, n: usize) -> Result<Symbols, AllocError>
+        ensures { IfOk result (λ s. s ≡ []) }
     {
-        Symbols {
-            map: IndexMap::new(alloc),
-        }
+        let map = IndexMap::with_capacity(alloc, n)?;
+        Ok(Symbols { map })
     }
 
     /// The place of the first entry with this key.
@@ -39,12 +38,12 @@ impl Symbols {
         self.map.get(key).copied()
     }
 
-    /// Puts a new key behind the others.
-    pub fn add(&mut self, key: Key, number: usize) -> Result<(), AllocError>
-        requires { look_up key self.old ≡ None }
-        ensures { OnOk result (self.new ≡ self.old ++ (key, number) ∷ []) }
+    /// Puts a key behind the others, unless it is there: then its place is returned.
+    pub fn add(&mut self, key: Key, number: usize) -> Result<Option<usize>, AllocError>
+        ensures old { IfOk result (λ old. old ≡ look_up key self.old) }
+        ensures added { IfOk result (λ old. old ≡ None → self.new ≡ self.old ++ (key, number) ∷ []) }
     {
-        self.map.insert(key, number)?;
-        Ok(())
+        let old = self.map.insert(key, number)?;
+        Ok(old)
     }
 }

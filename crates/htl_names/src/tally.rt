@@ -1,12 +1,12 @@
 // How many items of each kind a source has.
 ghost use Rattle.std.specs.Prelude.{◌≡◌};
 ghost use Rattle.htl_text.specs.Nodes.{mode_of, module_of, program_of, tree_of};
-ghost use Rattle.htl_names.specs.Tallies.{no_tally, with_mode, with_sizes, with_module, with_items, with_program, tally};
+ghost use Rattle.htl_names.specs.Tallies.{with_mode, with_module, with_program, tally};
 
 use htl_text::{ModeNode, ModuleNode, ProgramNode, Tree};
 
 /// How many items of each kind there are, and the most invocations in one mode. Each stops at `usize::MAX`.
-#[derive(Clone, Copy)]
+#[derive(Clone, Copy, Default)]
 pub(crate) struct Tally {
     pub comms: usize,
     pub modules: usize,
@@ -16,21 +16,6 @@ pub(crate) struct Tally {
     pub invokes: usize,
     pub switches: usize,
     pub most_invokes: usize,
-}
-
-fn none() -> Tally
-    ensures { result ≡ no_tally }
-{
-    Tally {
-        comms: 0,
-        modules: 0,
-        modes: 0,
-        ports: 0,
-        tasks: 0,
-        invokes: 0,
-        switches: 0,
-        most_invokes: 0,
-    }
 }
 
 fn with_mode(t: Tally, mode: &ModeNode) -> Tally
@@ -46,46 +31,30 @@ fn with_mode(t: Tally, mode: &ModeNode) -> Tally
     }
 }
 
-fn with_sizes(t: Tally, modes: usize, tasks: usize) -> Tally
-    ensures { result ≡ with_sizes t modes tasks }
-{
-    Tally {
-        modes: t.modes.saturating_add(modes),
-        tasks: t.tasks.saturating_add(tasks),
-        ..t
-    }
-}
-
 fn with_module(t: Tally, module: &ModuleNode) -> Tally
     ensures { result ≡ with_module t (module_of «module».now) }
 {
     let modes = module.modes.as_slice();
-    let mut sum = with_sizes(t, modes.len(), module.tasks.as_slice().len());
-    for k in 0..modes.len() {
-        sum = with_mode(sum, &modes[k]);
-    }
-    sum
-}
-
-fn with_items(t: Tally, comms: usize, modules: usize) -> Tally
-    ensures { result ≡ with_items t comms modules }
-{
-    Tally {
-        comms: t.comms.saturating_add(comms),
-        modules: t.modules.saturating_add(modules),
+    let start = Tally {
+        modes: t.modes.saturating_add(modes.len()),
+        tasks: t.tasks.saturating_add(module.tasks.as_slice().len()),
         ..t
-    }
+    };
+    modes.iter().fold(start, |sum, mode| with_mode(sum, mode))
 }
 
 fn with_program(t: Tally, program: &ProgramNode) -> Tally
     ensures { result ≡ with_program t (program_of program.now) }
 {
     let modules = program.modules.as_slice();
-    let mut sum = with_items(t, program.comms.as_slice().len(), modules.len());
-    for k in 0..modules.len() {
-        sum = with_module(sum, &modules[k]);
-    }
-    sum
+    let start = Tally {
+        comms: t.comms.saturating_add(program.comms.as_slice().len()),
+        modules: t.modules.saturating_add(modules.len()),
+        ..t
+    };
+    modules
+        .iter()
+        .fold(start, |sum, module| with_module(sum, module))
 }
 
 /// The counts of a whole source.
@@ -93,9 +62,5 @@ pub(crate) fn tally_of(tree: &Tree) -> Tally
     ensures { result ≡ tally (tree_of tree.now) }
 {
     let programs = tree.programs.as_slice();
-    let mut sum = none();
-    for k in 0..programs.len() {
-        sum = with_program(sum, &programs[k]);
-    }
-    sum
+    programs.iter().fold(Tally::default(), |sum, program| with_program(sum, program))
 }

@@ -1,7 +1,7 @@
 // Names that stand for nothing.
 ghost use Rattle.std.specs.Prelude.{◌≡◌};
 ghost use Rattle.htl_model.specs.Lists.{first_some};
-ghost use Rattle.htl_names.specs.Unknowns.{unknown_token, above};
+ghost use Rattle.htl_names.specs.Unknowns.{unknown_token};
 
 use crate::key::Use;
 use crate::symbols::Symbols;
@@ -22,17 +22,9 @@ pub(crate) fn first_unknown(uses: &[Use], symbols: &Symbols) -> Option<u32>
 fn unknown_token(symbols: &Symbols, used: &Use) -> Option<u32>
     ensures { result ≡ unknown_token symbols.now used.now }
 {
-    match symbols.get(&used.key) {
-        None => Some(used.token),
-        Some(n) => at_least(n, used.below, used.token),
-    }
-}
-
-fn at_least(n: usize, below: Option<usize>, token: u32) -> Option<u32>
-    ensures { result ≡ above n below token }
-{
-    match below {
-        None => None,
-        Some(bound) => if bound <= n { Some(token) } else { None },
+    match (symbols.get(&used.key), used.below) {
+        (None, _) => Some(used.token),
+        (Some(_), None) => None,
+        (Some(n), Some(bound)) => if bound <= n { Some(used.token) } else { None },
     }
 }

@@ -6,6 +6,7 @@ ghost use Rattle.htl_names.specs.Rows as rows;
 ghost use Rattle.htl_names.specs.Rows.{joined, declaring, using, refining};
 ghost use Rattle.htl_names.specs.Uses.{program_use, switch_uses};
 
+use crate::Done;
 use crate::key::Space;
 use crate::rows::{Judged, Rows, Scope};
 use crate::spaces::{
@@ -27,7 +28,7 @@ pub(crate) fn rows_of(alloc: Global, tree: &Tree) -> Result<Rows, AllocError>
 }
 
 // Communicators are numbered over the whole source.
-fn add_programs(programs: &[ProgramNode], into: &mut Rows) -> Result<(), AllocError>
+fn add_programs(programs: &[ProgramNode], into: &mut Rows) -> Done
     requires { into.old ≡ declaring [] }
     ensures { OnOk result (into.new ≡ rows.rows (map program_of programs.now)) }
 {
@@ -40,12 +41,7 @@ fn add_programs(programs: &[ProgramNode], into: &mut Rows) -> Result<(), AllocEr
     Ok(())
 }
 
-fn add_program(
-    p: usize,
-    first: usize,
-    program: &ProgramNode,
-    into: &mut Rows,
-) -> Result<(), AllocError>
+fn add_program(p: usize, first: usize, program: &ProgramNode, into: &mut Rows) -> Done
     requires { first ≤ length into.old.entries }
     ensures rows { OnOk result (into.new ≡ joined into.old (rows.program_rows p first (program_of program.now))) }
     ensures few { OnOk result (first ≤ 2 ^ 63 - 1) }
@@ -55,7 +51,7 @@ fn add_program(
     add_modules(p, program.modules.as_slice(), into)
 }
 
-fn add_comms(first: usize, comms: &[CommNode], into: &mut Rows) -> Result<(), AllocError>
+fn add_comms(first: usize, comms: &[CommNode], into: &mut Rows) -> Done
     requires { first + length comms.now ≤ 2 ^ 64 - 1 }
     ensures { OnOk result (into.new ≡ joined into.old (rows.comms_rows first comms.now)) }
 {
@@ -65,7 +61,7 @@ fn add_comms(first: usize, comms: &[CommNode], into: &mut Rows) -> Result<(), Al
     Ok(())
 }
 
-fn add_comm(c: usize, comm: &CommNode, into: &mut Rows) -> Result<(), AllocError>
+fn add_comm(c: usize, comm: &CommNode, into: &mut Rows) -> Done
     ensures { OnOk result (into.new ≡ joined into.old (rows.comm_rows c comm.now)) }
 {
     into.declare(comm_key(comm.name.name), c, &comm.name)?;
@@ -76,7 +72,7 @@ fn add_comm(c: usize, comm: &CommNode, into: &mut Rows) -> Result<(), AllocError
     })
 }
 
-fn add_modules(p: usize, modules: &[ModuleNode], into: &mut Rows) -> Result<(), AllocError>
+fn add_modules(p: usize, modules: &[ModuleNode], into: &mut Rows) -> Done
     ensures { OnOk result (into.new ≡ joined into.old (rows.modules_rows p 0 (map module_of modules.now))) }
 {
     for u in 0..modules.len() {
@@ -85,7 +81,7 @@ fn add_modules(p: usize, modules: &[ModuleNode], into: &mut Rows) -> Result<(), 
     Ok(())
 }
 
-fn add_module(p: usize, u: usize, module: &ModuleNode, into: &mut Rows) -> Result<(), AllocError>
+fn add_module(p: usize, u: usize, module: &ModuleNode, into: &mut Rows) -> Done
     ensures { OnOk result (into.new ≡ joined into.old (rows.module_rows p u (module_of «module».now))) }
 {
     into.declare(module_key(module.name.name), u, &module.name)?;
@@ -96,7 +92,7 @@ fn add_module(p: usize, u: usize, module: &ModuleNode, into: &mut Rows) -> Resul
 
 // ---- tasks
 
-fn add_tasks(p: usize, u: usize, tasks: &[TaskNode], into: &mut Rows) -> Result<(), AllocError>
+fn add_tasks(p: usize, u: usize, tasks: &[TaskNode], into: &mut Rows) -> Done
     ensures { OnOk result (into.new ≡ joined into.old (rows.tasks_rows p u 0 (map task_of tasks.now))) }
 {
     for k in 0..tasks.len() {
@@ -105,13 +101,7 @@ fn add_tasks(p: usize, u: usize, tasks: &[TaskNode], into: &mut Rows) -> Result<
     Ok(())
 }
 
-fn add_task(
-    p: usize,
-    u: usize,
-    k: usize,
-    task: &TaskNode,
-    into: &mut Rows,
-) -> Result<(), AllocError>
+fn add_task(p: usize, u: usize, k: usize, task: &TaskNode, into: &mut Rows) -> Done
     ensures { OnOk result (into.new ≡ joined into.old (rows.task_rows p u k (task_of task.now))) }
 {
     let inputs = task.inputs.as_slice();
@@ -129,7 +119,7 @@ fn add_params(
     first: usize,
     params: &[ParamNode],
     into: &mut Rows,
-) -> Result<(), AllocError>
+) -> Done
     requires { first ≤ 2 ^ 63 - 1 }
     ensures { OnOk result (into.new ≡ joined into.old (rows.params_rows p u k first params.now)) }
 {
@@ -148,7 +138,7 @@ fn add_outputs(
     inputs: usize,
     outputs: &OutNodes,
     into: &mut Rows,
-) -> Result<(), AllocError>
+) -> Done
     requires { inputs ≤ 2 ^ 63 - 1 }
     ensures { OnOk result (into.new ≡ joined into.old (rows.outputs_rows p u k inputs (outs_of outputs.now))) }
 {
@@ -159,14 +149,7 @@ fn add_outputs(
 }
 
 // An output's expression uses the inputs of its task.
-fn add_outs(
-    p: usize,
-    u: usize,
-    k: usize,
-    inputs: usize,
-    outs: &[OutNode],
-    into: &mut Rows,
-) -> Result<(), AllocError>
+fn add_outs(p: usize, u: usize, k: usize, inputs: usize, outs: &[OutNode], into: &mut Rows) -> Done
     requires { inputs ≤ 2 ^ 63 - 1 }
     ensures { OnOk result (into.new ≡ joined into.old (rows.outs_rows p u k inputs inputs (map out_of outs.now))) }
 {
@@ -188,7 +171,7 @@ fn add_outs(
 
 // ---- modes
 
-fn add_modes(p: usize, u: usize, modes: &[ModeNode], into: &mut Rows) -> Result<(), AllocError>
+fn add_modes(p: usize, u: usize, modes: &[ModeNode], into: &mut Rows) -> Done
     ensures { OnOk result (into.new ≡ joined into.old (rows.modes_rows p u 0 (map mode_of modes.now))) }
 {
     for m in 0..modes.len() {
@@ -197,13 +180,7 @@ fn add_modes(p: usize, u: usize, modes: &[ModeNode], into: &mut Rows) -> Result<
     Ok(())
 }
 
-fn add_mode(
-    p: usize,
-    u: usize,
-    m: usize,
-    mode: &ModeNode,
-    into: &mut Rows,
-) -> Result<(), AllocError>
+fn add_mode(p: usize, u: usize, m: usize, mode: &ModeNode, into: &mut Rows) -> Done
     ensures { OnOk result (into.new ≡ joined into.old (rows.mode_rows p u m (mode_of mode.now))) }
 {
     into.declare(mode_key(p, u, mode.name.name), m, &mode.name)?;
@@ -215,7 +192,7 @@ fn add_mode(
 }
 
 // The program in the head of a mode.
-fn add_head(program: &Option<Id>, into: &mut Rows) -> Result<(), AllocError>
+fn add_head(program: &Option<Id>, into: &mut Rows) -> Done
     ensures { OnOk result (into.new ≡ joined into.old (using (program_use program.now))) }
 {
     match program {
@@ -224,13 +201,7 @@ fn add_head(program: &Option<Id>, into: &mut Rows) -> Result<(), AllocError>
     }
 }
 
-fn add_ports(
-    p: usize,
-    u: usize,
-    m: usize,
-    ports: &[ParamNode],
-    into: &mut Rows,
-) -> Result<(), AllocError>
+fn add_ports(p: usize, u: usize, m: usize, ports: &[ParamNode], into: &mut Rows) -> Done
     ensures { OnOk result (into.new ≡ joined into.old (rows.ports_rows p u m 0 ports.now)) }
 {
     for j in 0..ports.len() {
@@ -240,13 +211,7 @@ fn add_ports(
     Ok(())
 }
 
-fn add_invokes(
-    p: usize,
-    u: usize,
-    m: usize,
-    invokes: &[InvokeNode],
-    into: &mut Rows,
-) -> Result<(), AllocError>
+fn add_invokes(p: usize, u: usize, m: usize, invokes: &[InvokeNode], into: &mut Rows) -> Done
     ensures { OnOk result (into.new ≡ joined into.old (rows.invokes_rows p u m 0 invokes.now)) }
 {
     for j in 0..invokes.len() {
@@ -255,14 +220,7 @@ fn add_invokes(
     Ok(())
 }
 
-fn add_invoke(
-    p: usize,
-    u: usize,
-    m: usize,
-    j: usize,
-    invoke: &InvokeNode,
-    into: &mut Rows,
-) -> Result<(), AllocError>
+fn add_invoke(p: usize, u: usize, m: usize, j: usize, invoke: &InvokeNode, into: &mut Rows) -> Done
     ensures { OnOk result (into.new ≡ joined into.old (rows.invoke_rows p u m j invoke.now)) }
 {
     let name = invoke.task.name;
@@ -273,7 +231,7 @@ fn add_invoke(
     add_parent(p, invoke, into)
 }
 
-fn add_parent(p: usize, invoke: &InvokeNode, into: &mut Rows) -> Result<(), AllocError>
+fn add_parent(p: usize, invoke: &InvokeNode, into: &mut Rows) -> Done
     ensures { OnOk result (into.new ≡ joined into.old (refining (invoke_parent p invoke.now))) }
 {
     match invoke.parent {
@@ -282,13 +240,7 @@ fn add_parent(p: usize, invoke: &InvokeNode, into: &mut Rows) -> Result<(), Allo
     }
 }
 
-fn add_ends(
-    p: usize,
-    u: usize,
-    m: usize,
-    ends: &[EndNode],
-    into: &mut Rows,
-) -> Result<(), AllocError>
+fn add_ends(p: usize, u: usize, m: usize, ends: &[EndNode], into: &mut Rows) -> Done
     ensures { OnOk result (into.new ≡ joined into.old (rows.ends_rows p u m ends.now)) }
 {
     for j in 0..ends.len() {
@@ -297,7 +249,7 @@ fn add_ends(
     Ok(())
 }
 
-fn add_end(p: usize, u: usize, m: usize, end: &EndNode, into: &mut Rows) -> Result<(), AllocError>
+fn add_end(p: usize, u: usize, m: usize, end: &EndNode, into: &mut Rows) -> Done
     ensures { OnOk result (into.new ≡ joined into.old (rows.end_rows p u m end.now)) }
 {
     match end {
@@ -309,12 +261,7 @@ fn add_end(p: usize, u: usize, m: usize, end: &EndNode, into: &mut Rows) -> Resu
     }
 }
 
-fn add_switches(
-    p: usize,
-    u: usize,
-    switches: &[SwitchNode],
-    into: &mut Rows,
-) -> Result<(), AllocError>
+fn add_switches(p: usize, u: usize, switches: &[SwitchNode], into: &mut Rows) -> Done
     ensures { OnOk result (into.new ≡ joined into.old (rows.switches_rows p u (map switch_of switches.now))) }
 {
     for j in 0..switches.len() {
@@ -324,7 +271,7 @@ fn add_switches(
 }
 
 // A condition uses communicators.
-fn add_switch(p: usize, u: usize, switch: &SwitchNode, into: &mut Rows) -> Result<(), AllocError>
+fn add_switch(p: usize, u: usize, switch: &SwitchNode, into: &mut Rows) -> Done
     ensures { OnOk result (into.new ≡ joined into.old (using (switch_uses p u (switch_of switch.now)))) }
 {
     let comms = Scope {

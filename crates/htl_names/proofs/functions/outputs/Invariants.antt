@@ -6,4 +6,4 @@ use Rattle.htl_names.specs.Flat.{module_functions}
 use Rattle.htl_names.proofs.functions.outputs.Given as goal
 
 abbrev pub invariant-loop-k : goal.invariant-loop-k
-invariant-loop-k l = map fun_of l.into.items ++ flat_map (module_functions l.layout (tree_of l.tree)) (drop l.k l.modules) ≡ flat_map (module_functions l.layout (tree_of l.tree)) l.modules
+invariant-loop-k l = map fun_of l.into.items ++ flat_map (module_functions l.source.layout.now (tree_of l.source.tree.now)) (drop l.k l.modules) ≡ flat_map (module_functions l.source.layout.now (tree_of l.source.tree.now)) l.modules

@@ -5,4 +5,4 @@ use Rattle.htl_names.specs.Flat.{output_function}
 use Rattle.htl_names.proofs.functions.put_outs.Given as goal
 
 abbrev pub invariant-loop-k : goal.invariant-loop-k
-invariant-loop-k l = map fun_of l.into.items ++ map (output_function l.inputs.layout.now l.inputs.program l.inputs.«module» l.inputs.task) (map out_of (drop l.k l.outs)) ≡ map fun_of l.initial.into.items ++ map (output_function l.inputs.layout.now l.inputs.program l.inputs.«module» l.inputs.task) (map out_of l.outs)
+invariant-loop-k l = map fun_of l.into.items ++ map (output_function l.inputs.source.layout.now l.inputs.at.program l.inputs.at.«module» l.inputs.task) (map out_of (drop l.k l.outs)) ≡ map fun_of l.initial.into.items ++ map (output_function l.inputs.source.layout.now l.inputs.at.program l.inputs.at.«module» l.inputs.task) (map out_of l.outs)

@@ -5,5 +5,5 @@ use Rattle.htl_names.proofs.graph.push_mode_naming.Goals as goal
 
 pub returns : goal.returns
 returns c =
-    subst (λ (o : Option ℕ). OnOk c.push_placed.result (c.push_placed.new.into.items ≡ c.args.into.now.items ++ named_from c.args.place o))
+    subst (λ (o : Option ℕ). OnOk c.push_placed.result (c.push_placed.new.into.items ≡ c.args.into.now.items ++ named_from c.args.at o))
     c.named_program.ensures c.push_placed.ensures

@@ -8,13 +8,13 @@ use Rattle.htl_names.specs.Flat.{size_of}
 use Rattle.htl_names.proofs.AllOf.{all_part}
 use Rattle.htl_names.proofs.items.comms.Goals as goal
 
-pub push_comms-requires : goal.push_comms-requires
-push_comms-requires c =
+pub program_comms-requires : goal.program_comms-requires
+program_comms-requires c =
     let fits : CommNode → Type 0 = λ x. size_of x.period.x ≤ 1000000 in
-    let programs = c.args.tree.now.programs in
+    let programs = c.args.source.now.tree.now.programs in
     let slice = c.as_slice-programs.ensures in
     let comms : ProgramNode → List CommNode = λ p. p.comms in
-    let all = subst (All fits) (flat_map-map (λ (p : PlainProgram). p.comms) program_of programs) c.requires in
+    let all = subst (All fits) (flat_map-map (λ (p : PlainProgram). p.comms) program_of programs) c.args.source.now.narrow.comm_periods in
     subst (All fits) (sym c.as_slice.ensures)
     (all_part fits comms c.as_slice-programs.result.now c.loop-k.k c.index-programs-k.result c.loop-k-test.true
     (subst (λ xs. All fits (flat_map comms xs)) (sym slice) all))

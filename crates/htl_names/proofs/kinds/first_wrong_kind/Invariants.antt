@@ -1,6 +1,6 @@
 use Rattle.std.proofs.Common.{◌≡◌, map, drop}
 use Rattle.htl_model.specs.Lists.{first_some}
-use Rattle.htl_names.specs.WrongKinds.{wrong_token}
+use Rattle.htl_names.specs.Kinds.{wrong_token}
 use Rattle.htl_names.specs.Rows.{judged_of}
 use Rattle.htl_names.proofs.kinds.first_wrong_kind.Given as goal
 

@@ -1,27 +1,19 @@
 use Rattle.std.proofs.Common.{◌∙◌, Option, Some, ap}
 use Rattle.htl_text.specs.Nodes.{tree_of}
 use Rattle.htl_names.specs.declared.limits.Excess.{Excess}
-use Rattle.htl_names.specs.Excesses.{excess, or_else, capped}
-use Rattle.htl_names.specs.LevelTable.{levels_by}
-use Rattle.htl_names.specs.Limits.{selections, most_positions}
-use Rattle.htl_names.proofs.LimitLaws.{first_exceeded_is}
+use Rattle.htl_names.specs.Excesses.{or_else}
+use Rattle.htl_names.proofs.LimitLaws.{shape_excess, first_exceeded_is}
 use Rattle.htl_names.proofs.limits.first_exceeded.Goals as goal
 
 pub returns-in-Some : goal.returns-in-Some
 returns-in-Some c =
     let ps = tree_of c.args.tree.now in
-    first_exceeded_is c.args.symbols.now ps c.args.refined.now (Some c.in-Some.found) c.requires
-    (ap
-    (λ (o : Option Excess). or_else o
-    (or_else (excess 9 (levels_by c.args.refined.now) 8) (or_else (excess 10 (capped (selections ps)) 1024) (excess 11 (capped (most_positions ps)) 128))))
-    c.in-Some.ensures)
+    let shape : Option Excess = shape_excess c.args.refined.now ps in
+    first_exceeded_is c.args.symbols.now ps c.args.refined.now (Some c.in-Some.found) c.requires (ap (λ (o : Option Excess). or_else o shape) c.in-Some.ensures)
 
 pub returns-in-None : goal.returns-in-None
 returns-in-None c =
     let ps = tree_of c.args.tree.now in
+    let shape : Option Excess = shape_excess c.args.refined.now ps in
     first_exceeded_is c.args.symbols.now ps c.args.refined.now c.shape_excess.result c.requires
-    (c.shape_excess.ensures
-    ∙ ap
-    (λ (o : Option Excess). or_else o
-    (or_else (excess 9 (levels_by c.args.refined.now) 8) (or_else (excess 10 (capped (selections ps)) 1024) (excess 11 (capped (most_positions ps)) 128))))
-    c.in-None.ensures)
+    (c.shape_excess.ensures ∙ ap (λ (o : Option Excess). or_else o shape) c.in-None.ensures)

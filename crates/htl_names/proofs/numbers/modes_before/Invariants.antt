@@ -4,4 +4,4 @@ use Rattle.htl_names.specs.Flat.{modes_before}
 use Rattle.htl_names.proofs.numbers.modes_before.Given as goal
 
 abbrev pub invariant-loop-k : goal.invariant-loop-k
-invariant-loop-k l = l.count ≡ modes_before l.layout (tree_of l.tree) l.k
+invariant-loop-k l = l.count ≡ modes_before l.source.layout.now (tree_of l.source.tree.now) l.k

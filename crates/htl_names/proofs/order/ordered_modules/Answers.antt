@@ -1,4 +1,4 @@
-use Rattle.std.proofs.Common.{◌++◌, ◌∙◌, ap, sym, reverse, map, length, List, None}
+use Rattle.std.proofs.Common.{◌++◌, ◌∙◌, ap, sym, map, length, List, None}
 use Rattle.std.proofs.lemmas.List.{length-map}
 use Rattle.htl_text.specs.Nodes.{program_of, tree_of}
 use Rattle.htl_names.specs.declared.order.Frame.{Frame}
@@ -12,11 +12,11 @@ pub loop-top-init : goal.loop-top-init
 loop-top-init c =
     let ps = tree_of c.args.tree.now in
     let n = length c.as_slice.result.now in
-    ap (λ (xs : List ModuleAt). xs ++ coming_from c.args.symbols.now ps c.push_reversed.new.stack.items) c.new-modules.ensures.items
-    ∙ order-start c.args.symbols.now ps c.push_reversed.new.stack.items c.push_modules.new.into.items n
+    ap (λ (xs : List ModuleAt). xs ++ coming_from c.args.symbols.now ps c.reverse.new.self.items) c.new-modules.ensures.items
+    ∙ order-start c.args.symbols.now ps c.reverse.new.self.items c.push_modules.new.into.items n
     (ap length c.as_slice.ensures ∙ sym (length-map c.args.tree.now.programs program_of))
-    (c.in_ok-push_modules.ensures ∙ ap (λ (xs : List Frame). xs ++ map (frame n) (modules_in ps None 0)) c.new-roots.ensures.items)
-    (c.in_ok-push_reversed.ensures ∙ ap (λ (xs : List Frame). xs ++ reverse c.push_modules.new.into.items) c.new-stack.ensures.items)
+    (c.in_ok-push_modules.ensures ∙ ap (λ (xs : List Frame). xs ++ map (frame n) (modules_in ps None 0)) c.new-stack.ensures.items)
+    c.reverse.ensures.items
 
 pub loop-top-smaller : goal.loop-top-smaller
 loop-top-smaller c =

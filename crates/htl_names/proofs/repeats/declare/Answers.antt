@@ -10,7 +10,7 @@ returns-in-Some c =
     let k = c.loop-k.k in
     let e = c.index-entries-k.result in
     let here = slice_get_read es (length es) k e refl c.loop-k-test.true c.index-entries-k.is in
-    let repeats = repeats_here es k e c.loop-k.symbols c.in-Some.field-0 c.loop-k.invariant.seen c.in-Some.ensures in
+    let repeats = repeats_here es k e c.loop-k.symbols c.in-Some.field-0 c.loop-k.invariant.seen (sym c.in-Some.is ∙ c.in_ok-add.ensures.old) in
     (k, e, here, repeats, refl, c.loop-k.invariant.apart)
 
 pub loop-k-preserved : goal.loop-k-preserved
@@ -20,9 +20,10 @@ loop-k-preserved c =
     let e = c.index-entries-k.result in
     let here = slice_get_read es (length es) k e refl c.loop-k-test.true c.index-entries-k.is in
     record {
-      seen = seen_more es k e c.loop-k.symbols c.add.new.self c.loop-k-test.true c.index-entries-k.is c.loop-k.invariant.seen c.in_ok-add.ensures;
+      seen = seen_more es k e c.loop-k.symbols c.add.new.self c.loop-k-test.true c.index-entries-k.is c.loop-k.invariant.seen
+          (c.in_ok-add.ensures.added c.in_default.is);
       apart = subst (λ (n : ℕ). AreApartTo n es) (sym (add-one k))
-          (apart_here es k e c.loop-k.symbols c.loop-k.invariant.seen (sym c.get.ensures ∙ c.in_default.is) here c.loop-k.invariant.apart);
+          (apart_here es k e c.loop-k.symbols c.loop-k.invariant.seen (sym c.in_ok-add.ensures.old ∙ c.in_default.is) here c.loop-k.invariant.apart);
     }
 
 pub returns : goal.returns

@@ -1,47 +1,103 @@
-use Rattle.std.proofs.Common.{◌∙◌}
+use Rattle.std.proofs.Common.{◌∙◌, ap, arith, subst, length, map, List}
 use Rattle.htl_text.specs.Nodes.{tree_of}
-use Rattle.htl_names.specs.NameRules.{UnknownName, WrongKind, ProgramTree, ParentName}
-use Rattle.htl_names.proofs.ResolveLaws.{refusal, judged_err, judged_last, kept_below2, kept_below3, kept_below4, kept_below5}
+use Rattle.htl_names.specs.declared.fault.NameFault.TheVariants as fault
+use Rattle.htl_names.specs.declared.limits.Excess.{Excess}
+use Rattle.htl_names.specs.NameRules.{RepeatedName, UnknownName, WrongKind, ProgramTree, ParentName, Limits}
+use Rattle.htl_names.specs.Graph.{graph_by}
+use Rattle.htl_names.specs.Misplaced.{IsFirstMisplaced}
+use Rattle.htl_names.specs.Programs.{Naming, program_naming}
+use Rattle.htl_names.specs.Rows.{Rows, judged_of, parent_use_of}
+use Rattle.htl_names.proofs.KindLaws.{kinds_searched}
+use Rattle.htl_names.proofs.OrphanLaws.{parents_searched}
+use Rattle.htl_names.proofs.ResolveLaws.{none_below, kept_next, found, passed, all_right}
+use Rattle.htl_names.proofs.RuleLaws.{tree_searched, limits_searched}
+use Rattle.htl_names.proofs.Walking.{length-map_at}
+use Rattle.htl_names.proofs.UnknownLaws.{uses_searched}
 use Rattle.htl_names.proofs.resolving.check.Goals as goal
 
-pub returns-in_err-check_uses : goal.returns-in_err-check_uses
-returns-in_err-check_uses c =
-    let ps = tree_of c.args.tree.now in
-    let rows = c.requires.rows in
-    let symbols = c.requires.symbols in
-    let f = c.in_err-check_uses.field-0.0 in
-    judged_err ps c.from_residual.result f c.from_residual.ensures.1 (refusal ps UnknownName f (kept_below2 ps c.requires.apart) (c.in_err-check_uses.ensures ps rows symbols))
+pub first_misplaced-requires : goal.first_misplaced-requires
+first_misplaced-requires c =
+    let size = ap length (c.as_slice-3.ensures.value ∙ c.in_ok-namings.ensures) ∙ length-map_at (program_naming c.args.symbols.now) 0 (tree_of c.args.tree.now) in
+    record { small = omega (arith, size, c.requires.bounds.programs) }
 
-pub returns-in_err-check_kinds : goal.returns-in_err-check_kinds
-returns-in_err-check_kinds c =
+pub returns-in-Some : goal.returns-in-Some
+returns-in-Some c =
     let ps = tree_of c.args.tree.now in
-    let rows = c.requires.rows in
-    let symbols = c.requires.symbols in
-    let f = c.in_err-check_kinds.field-0.0 in
-    judged_err ps c.from_residual-in_err-check_kinds.result f c.from_residual-in_err-check_kinds.ensures.1 (refusal ps WrongKind f (kept_below3 ps c.requires.apart (c.in_ok-check_uses.ensures ps rows symbols)) (c.in_err-check_kinds.ensures ps rows))
+    let names = c.args.symbols.now in
+    let rows = c.rows.view_is ∙ c.requires.rows in
+    let one = kept_next ps RepeatedName (none_below ps) c.requires.apart in
+    let uses = uses_searched ps names c.as_slice.result.now c.first_unknown.result c.requires.symbols (c.as_slice.ensures.value ∙ ap (λ (r : Rows). r.uses) rows) c.first_unknown.ensures in
+    found ps UnknownName (λ t. fault.Unknown t) c.first_unknown.result c.in-Some.token one uses c.in-Some.is
 
-pub returns-in_err-check_programs : goal.returns-in_err-check_programs
-returns-in_err-check_programs c =
+pub returns-in-Some-first_wrong_kind : goal.returns-in-Some-first_wrong_kind
+returns-in-Some-first_wrong_kind c =
     let ps = tree_of c.args.tree.now in
-    let rows = c.requires.rows in
-    let symbols = c.requires.symbols in
-    let f = c.in_err-check_programs.field-0.0 in
-    judged_err ps c.from_residual-in_err-check_programs.result f c.from_residual-in_err-check_programs.ensures.1 (refusal ps ProgramTree f (kept_below4 ps c.requires.apart (c.in_ok-check_uses.ensures ps rows symbols) (c.in_ok-check_kinds.ensures ps rows)) c.in_err-check_programs.ensures)
+    let names = c.args.symbols.now in
+    let rows = c.rows.view_is ∙ c.requires.rows in
+    let one = kept_next ps RepeatedName (none_below ps) c.requires.apart in
+    let uses = uses_searched ps names c.as_slice.result.now c.first_unknown.result c.requires.symbols (c.as_slice.ensures.value ∙ ap (λ (r : Rows). r.uses) rows) c.first_unknown.ensures in
+    let two = passed ps UnknownName (λ t. fault.Unknown t) c.first_unknown.result one uses c.in_default.is in
+    let kinds = kinds_searched ps (map judged_of c.as_slice-2.result.now) c.first_wrong_kind.result (ap (map judged_of) c.as_slice-2.ensures.value ∙ ap (λ (r : Rows). r.kinds) rows) c.first_wrong_kind.ensures in
+    found ps WrongKind (λ t. fault.Kind t) c.first_wrong_kind.result c.in-Some-first_wrong_kind.token two kinds c.in-Some-first_wrong_kind.is
 
-pub returns-in_err-check_parents : goal.returns-in_err-check_parents
-returns-in_err-check_parents c =
+pub returns-in-Some-2 : goal.returns-in-Some-2
+returns-in-Some-2 c =
     let ps = tree_of c.args.tree.now in
-    let rows = c.requires.rows in
-    let symbols = c.requires.symbols in
-    let refined = c.as_slice.ensures.value ∙ c.in_ok-refined.ensures in
-    let f = c.in_err-check_parents.field-0.0 in
-    judged_err ps c.from_residual-in_err-check_parents.result f c.from_residual-in_err-check_parents.ensures.1 (refusal ps ParentName f (kept_below5 ps c.requires.apart (c.in_ok-check_uses.ensures ps rows symbols) (c.in_ok-check_kinds.ensures ps rows) c.in_ok-check_programs.ensures) (c.in_err-check_parents.ensures ps rows symbols refined))
+    let names = c.args.symbols.now in
+    let rows = c.rows.view_is ∙ c.requires.rows in
+    let one = kept_next ps RepeatedName (none_below ps) c.requires.apart in
+    let uses = uses_searched ps names c.as_slice.result.now c.first_unknown.result c.requires.symbols (c.as_slice.ensures.value ∙ ap (λ (r : Rows). r.uses) rows) c.first_unknown.ensures in
+    let two = passed ps UnknownName (λ t. fault.Unknown t) c.first_unknown.result one uses c.in_default.is in
+    let kinds = kinds_searched ps (map judged_of c.as_slice-2.result.now) c.first_wrong_kind.result (ap (map judged_of) c.as_slice-2.ensures.value ∙ ap (λ (r : Rows). r.kinds) rows) c.first_wrong_kind.ensures in
+    let three = passed ps WrongKind (λ t. fault.Kind t) c.first_wrong_kind.result two kinds c.in_default-first_wrong_kind.is in
+    let tree = tree_searched ps names c.in_ok-namings.namings.items c.in_ok-program.field-0 c.requires.symbols c.in_ok-namings.ensures (subst (λ (rs : List (List Naming)). IsFirstMisplaced (graph_by rs) c.in_ok-program.field-0) c.as_slice-3.ensures.value c.in_ok-program.ensures) in
+    found ps ProgramTree (λ p. fault.NotATree p) c.in_ok-program.field-0 c.in-Some-2.program three tree c.in-Some-2.is
+
+pub returns-in-Some-first_orphan : goal.returns-in-Some-first_orphan
+returns-in-Some-first_orphan c =
+    let ps = tree_of c.args.tree.now in
+    let names = c.args.symbols.now in
+    let rows = c.rows.view_is ∙ c.requires.rows in
+    let one = kept_next ps RepeatedName (none_below ps) c.requires.apart in
+    let uses = uses_searched ps names c.as_slice.result.now c.first_unknown.result c.requires.symbols (c.as_slice.ensures.value ∙ ap (λ (r : Rows). r.uses) rows) c.first_unknown.ensures in
+    let two = passed ps UnknownName (λ t. fault.Unknown t) c.first_unknown.result one uses c.in_default.is in
+    let kinds = kinds_searched ps (map judged_of c.as_slice-2.result.now) c.first_wrong_kind.result (ap (map judged_of) c.as_slice-2.ensures.value ∙ ap (λ (r : Rows). r.kinds) rows) c.first_wrong_kind.ensures in
+    let three = passed ps WrongKind (λ t. fault.Kind t) c.first_wrong_kind.result two kinds c.in_default-first_wrong_kind.is in
+    let tree = tree_searched ps names c.in_ok-namings.namings.items c.in_ok-program.field-0 c.requires.symbols c.in_ok-namings.ensures (subst (λ (rs : List (List Naming)). IsFirstMisplaced (graph_by rs) c.in_ok-program.field-0) c.as_slice-3.ensures.value c.in_ok-program.ensures) in
+    let four = passed ps ProgramTree (λ p. fault.NotATree p) c.in_ok-program.field-0 three tree c.in_default-2.is in
+    let parents = parents_searched ps names c.as_slice-6.result.now (map parent_use_of c.as_slice-5.result.now) c.first_orphan.result c.requires.symbols (c.as_slice-6.ensures.value ∙ c.in_ok-refined.ensures names ps (c.as_slice-4.ensures.value ∙ c.in_ok-namings.ensures)) (ap (map parent_use_of) c.as_slice-5.ensures.value ∙ ap (λ (r : Rows). r.parents) rows) c.first_orphan.ensures in
+    found ps ParentName (λ t. fault.Unknown t) c.first_orphan.result c.in-Some-first_orphan.token four parents c.in-Some-first_orphan.is
+
+pub returns-in-Some-first_exceeded : goal.returns-in-Some-first_exceeded
+returns-in-Some-first_exceeded c =
+    let ps = tree_of c.args.tree.now in
+    let names = c.args.symbols.now in
+    let rows = c.rows.view_is ∙ c.requires.rows in
+    let one = kept_next ps RepeatedName (none_below ps) c.requires.apart in
+    let uses = uses_searched ps names c.as_slice.result.now c.first_unknown.result c.requires.symbols (c.as_slice.ensures.value ∙ ap (λ (r : Rows). r.uses) rows) c.first_unknown.ensures in
+    let two = passed ps UnknownName (λ t. fault.Unknown t) c.first_unknown.result one uses c.in_default.is in
+    let kinds = kinds_searched ps (map judged_of c.as_slice-2.result.now) c.first_wrong_kind.result (ap (map judged_of) c.as_slice-2.ensures.value ∙ ap (λ (r : Rows). r.kinds) rows) c.first_wrong_kind.ensures in
+    let three = passed ps WrongKind (λ t. fault.Kind t) c.first_wrong_kind.result two kinds c.in_default-first_wrong_kind.is in
+    let tree = tree_searched ps names c.in_ok-namings.namings.items c.in_ok-program.field-0 c.requires.symbols c.in_ok-namings.ensures (subst (λ (rs : List (List Naming)). IsFirstMisplaced (graph_by rs) c.in_ok-program.field-0) c.as_slice-3.ensures.value c.in_ok-program.ensures) in
+    let four = passed ps ProgramTree (λ p. fault.NotATree p) c.in_ok-program.field-0 three tree c.in_default-2.is in
+    let parents = parents_searched ps names c.as_slice-6.result.now (map parent_use_of c.as_slice-5.result.now) c.first_orphan.result c.requires.symbols (c.as_slice-6.ensures.value ∙ c.in_ok-refined.ensures names ps (c.as_slice-4.ensures.value ∙ c.in_ok-namings.ensures)) (ap (map parent_use_of) c.as_slice-5.ensures.value ∙ ap (λ (r : Rows). r.parents) rows) c.first_orphan.ensures in
+    let five = passed ps ParentName (λ t. fault.Unknown t) c.first_orphan.result four parents c.in_default-first_orphan.is in
+    let limits = limits_searched ps names c.first_exceeded.result c.requires.symbols c.first_exceeded.ensures in
+    found ps Limits (λ (e : Excess). fault.Limit e.which e.count) c.first_exceeded.result c.in-Some-first_exceeded.field-0 five limits c.in-Some-first_exceeded.is
 
 pub returns : goal.returns
 returns c =
     let ps = tree_of c.args.tree.now in
-    let rows = c.requires.rows in
-    let symbols = c.requires.symbols in
-    let refined = c.as_slice.ensures.value ∙ c.in_ok-refined.ensures in
-    judged_last ps c.check_limits.result c.requires.apart (c.in_ok-check_uses.ensures ps rows symbols) (c.in_ok-check_kinds.ensures ps rows) c.in_ok-check_programs.ensures
-    (c.in_ok-check_parents.ensures ps rows symbols refined) c.check_limits.ensures
+    let names = c.args.symbols.now in
+    let rows = c.rows.view_is ∙ c.requires.rows in
+    let one = kept_next ps RepeatedName (none_below ps) c.requires.apart in
+    let uses = uses_searched ps names c.as_slice.result.now c.first_unknown.result c.requires.symbols (c.as_slice.ensures.value ∙ ap (λ (r : Rows). r.uses) rows) c.first_unknown.ensures in
+    let two = passed ps UnknownName (λ t. fault.Unknown t) c.first_unknown.result one uses c.in_default.is in
+    let kinds = kinds_searched ps (map judged_of c.as_slice-2.result.now) c.first_wrong_kind.result (ap (map judged_of) c.as_slice-2.ensures.value ∙ ap (λ (r : Rows). r.kinds) rows) c.first_wrong_kind.ensures in
+    let three = passed ps WrongKind (λ t. fault.Kind t) c.first_wrong_kind.result two kinds c.in_default-first_wrong_kind.is in
+    let tree = tree_searched ps names c.in_ok-namings.namings.items c.in_ok-program.field-0 c.requires.symbols c.in_ok-namings.ensures (subst (λ (rs : List (List Naming)). IsFirstMisplaced (graph_by rs) c.in_ok-program.field-0) c.as_slice-3.ensures.value c.in_ok-program.ensures) in
+    let four = passed ps ProgramTree (λ p. fault.NotATree p) c.in_ok-program.field-0 three tree c.in_default-2.is in
+    let parents = parents_searched ps names c.as_slice-6.result.now (map parent_use_of c.as_slice-5.result.now) c.first_orphan.result c.requires.symbols (c.as_slice-6.ensures.value ∙ c.in_ok-refined.ensures names ps (c.as_slice-4.ensures.value ∙ c.in_ok-namings.ensures)) (ap (map parent_use_of) c.as_slice-5.ensures.value ∙ ap (λ (r : Rows). r.parents) rows) c.first_orphan.ensures in
+    let five = passed ps ParentName (λ t. fault.Unknown t) c.first_orphan.result four parents c.in_default-first_orphan.is in
+    let limits = limits_searched ps names c.first_exceeded.result c.requires.symbols c.first_exceeded.ensures in
+    all_right ps (passed ps Limits (λ (e : Excess). fault.Limit e.which e.count) c.first_exceeded.result five limits c.in_default-first_exceeded.is)

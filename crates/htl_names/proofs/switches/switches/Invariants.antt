@@ -9,7 +9,7 @@ use Rattle.htl_names.proofs.switches.switches.Given as goal
 abbrev pub invariant-loop-k : goal.invariant-loop-k
 invariant-loop-k l =
     record {
-      items : l.into.items.items ++ flat_map_at (mode_switch_items l.layout (tree_of l.tree)) l.k (drop l.k l.modes) ≡ flat_map_at (mode_switch_items l.layout (tree_of l.tree)) 0 l.modes;
-      functions : map fun_of l.into.functions.items ++ flat_map (mode_functions l.layout (tree_of l.tree)) (drop l.k l.modes)
-          ≡ map fun_of l.fn.functions.items ++ flat_map (mode_functions l.layout (tree_of l.tree)) l.modes;
+      items : l.into.items.items ++ flat_map_at (mode_switch_items l.source.layout.now (tree_of l.source.tree.now)) l.k (drop l.k l.modes) ≡ flat_map_at (mode_switch_items l.source.layout.now (tree_of l.source.tree.now)) 0 l.modes;
+      functions : map fun_of l.into.functions.items ++ flat_map (mode_functions l.source.layout.now (tree_of l.source.tree.now)) (drop l.k l.modes)
+          ≡ map fun_of l.fn.functions.items ++ flat_map (mode_functions l.source.layout.now (tree_of l.source.tree.now)) l.modes;
     }
