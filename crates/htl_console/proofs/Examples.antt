@@ -82,11 +82,16 @@ one_comm =
       functions = [];
     }
 
-one_comm_listed : listing one_comm (layout one_comm) [] ≡ codes "comm u int period 10 init 7\n"
+one_comm_listed : listing None one_comm (layout one_comm) [] ≡ codes "comm u int period 10 init 7\n"
 unfolding digits
 one_comm_listed = refl
 
-doubling_listed : listing doubling_coded (layout doubling_coded) one_dispatch
+-- the same, compiled for a platform
+platform_listed : listing (Some (codes "fast")) one_comm (layout one_comm) [] ≡ codes "platform fast\ncomm u int period 10 init 7\n"
+unfolding digits
+platform_listed = refl
+
+doubling_listed : listing None doubling_coded (layout doubling_coded) one_dispatch
     ≡ codes "sensor s int period 10 init 0\ncomm u int period 10 init 7\nmodule M start m\nmode M.m period 20\ninv M.m.dbl worst 4 window 0 10\nfn 0 instrs 3\nE 0 enter M.m\nE 1 future 10 write 5\nE 2 future 0 read 7\nE 3 future 20 switch 10\nE 4 return\nE 5 call write M.m.dbl 0\nE 6 return\nE 7 call read M.m.dbl 0\nE 8 release M.m.dbl\nE 9 return\nE 10 jump 1\nS 0:0 dispatch 0 until 4\nS 0:1 end\n"
 unfolding digits
 doubling_listed = refl

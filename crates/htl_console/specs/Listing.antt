@@ -1,4 +1,4 @@
--- The listing of tables with their E code and S code: a line for each item, in the order of the tables.
+-- The listing of an object: its platform, then a line for each item of its tables in their order, its E code and its S code.
 use Rattle.std.specs.Prelude.{ℕ, cond, List, [], ◌++◌, length, slice_get, Option, Some, None, codes, decimal}
 use Rattle.std.specs.Fmt.{signed_decimal}
 use Rattle.htl_base.specs.declared.Ty.{Ty}
@@ -18,6 +18,10 @@ use Rattle.htl_console.specs.Names.{full_inv, inv_name, mode_text}
 use Rattle.htl_console.specs.Instrs.{instr_text, step_text}
 
 -- ---- the lines
+
+-- `platform NAME`
+abbrev pub platform_line : List ℕ → List ℕ
+platform_line name = codes "platform " ++ name ++ codes "\n"
 
 abbrev pub type_word : Ty → List ℕ
 type_word ty.Int = codes "int"
@@ -85,5 +89,11 @@ tables_lines t =
     all_lines (λ k c. comm_line c) t.comms ++ all_lines (λ k x. module_line t x) t.modules ++ all_lines (λ k m. mode_line t m) t.modes
     ++ all_lines (λ k i. inv_line t i) t.invs ++ all_lines function_line t.functions
 
-abbrev pub listing : Tables → ECode → List Schedule → List ℕ
-listing t code schedules = tables_lines t ++ all_lines (code_line t) code.instrs ++ all_lines schedule_lines schedules
+-- nothing where no platform is named
+abbrev pub platform_lines : Option (List ℕ) → List ℕ
+platform_lines (Some name) = platform_line name
+platform_lines None = []
+
+abbrev pub listing : Option (List ℕ) → Tables → ECode → List Schedule → List ℕ
+listing platform t code schedules =
+    platform_lines platform ++ tables_lines t ++ all_lines (code_line t) code.instrs ++ all_lines schedule_lines schedules

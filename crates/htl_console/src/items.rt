@@ -3,12 +3,12 @@ ghost use Rattle.std.specs.Prelude.{◌≡◌, ◌≤◌, ◌+◌, [], ◌++◌,
 ghost use Rattle.htl_base.specs.declared.limits.TheConstants as limit;
 ghost use Rattle.htl_edge.specs.Content.{Puts};
 ghost use Rattle.htl_model.specs.Tables.{fun_of, task_is_abstract};
-ghost use Rattle.htl_console.specs.Listing.{type_word as type_word_of, parent_mode, parent_inv, comm_line, module_line, mode_line, inv_line, function_line, code_line, schedule_line};
+ghost use Rattle.htl_console.specs.Listing.{type_word as type_word_of, parent_mode, parent_inv, platform_line, comm_line, module_line, mode_line, inv_line, function_line, code_line, schedule_line};
 
 use crate::instrs::{put_instr, put_step};
 use crate::names::{mode_name, module_name, put_full_inv, put_inv, put_mode};
-use htl_base::Ty;
 use htl_base::limits::MAX_LINE;
+use htl_base::{Name, Ty};
 use htl_ecode::EInstr;
 use htl_edge::{Failed, LineBuffer, Sink, put_all};
 use htl_model::lookup::{is_concrete, task_worst};
@@ -31,6 +31,17 @@ fn comm_word(sensor: bool) -> &'static [u8]
     ensures short { length result.now ≤ 7 }
 {
     if sensor { b"sensor " } else { b"comm " }
+}
+
+/// Writes the line of the platform.
+pub fn show_platform<W: Sink>(sink: &mut W, name: &Name) -> Result<(), Failed>
+    ensures { Puts (W.written sink.old) (W.written sink.new) (W.faults sink.old) (W.faults sink.new) (platform_line name.now) result }
+{
+    let mut line = LineBuffer::new();
+    line.text(b"platform ");
+    line.text(name.as_bytes());
+    line.text(b"\n");
+    put_all(sink, line.as_bytes())
 }
 
 /// Writes the line of a communicator.

@@ -1,29 +1,36 @@
 // The listing of an object: its sections in their order.
 ghost use Rattle.std.specs.Prelude.{map};
+ghost use Rattle.std.specs.Option.{option_copied};
 ghost use Rattle.htl_edge.specs.Content.{Puts};
 ghost use Rattle.htl_model.specs.Tables.{fun_of};
-ghost use Rattle.htl_console.specs.Listing.{all_lines, comm_line, module_line, mode_line, inv_line, function_line, code_line, schedule_line, schedule_lines, tables_lines, listing};
+ghost use Rattle.htl_console.specs.Listing.{all_lines, comm_line, module_line, mode_line, inv_line, function_line, code_line, schedule_line, schedule_lines, tables_lines, platform_lines, listing};
 
 use crate::items::{
-    show_comm, show_function, show_instr, show_inv, show_mode, show_module, show_step,
+    show_comm, show_function, show_instr, show_inv, show_mode, show_module, show_platform,
+    show_step,
 };
+use htl_base::Name;
 use htl_ecode::{ECode, EInstr};
 use htl_edge::{Failed, Sink};
 use htl_model::{Comm, Function, Inv, Mode, Module, Tables};
 use htl_walk::{SInstr, Schedule};
 
-/// Writes the listing of tables whose functions are code, with their E code and the schedules of the selections: a line for each
-/// communicator, module, mode, invocation, function, E instruction and S instruction, in this order, each in one piece. It
-/// takes no memory. After `Failed`, which comes only where the sink counted a fault, a prefix was written. A number in E code that
+/// Writes the listing of tables whose functions are code, with their E code and the schedules of the selections: the line
+/// `platform NAME` where there is a platform, and then a line for each communicator, module, mode, invocation, function, E
+/// instruction and S instruction, in this order, each in one piece. It takes no memory. After `Failed`, which comes only where the sink counted a fault, a prefix was written. A number in E code that
 /// names no item is written as it is; a function that is no code has no line.
 pub fn show<W: Sink>(
     sink: &mut W,
+    platform: Option<&Name>,
     t: &Tables,
     code: &ECode,
     schedules: &[Schedule],
 ) -> Result<(), Failed>
-    ensures { Puts (W.written sink.old) (W.written sink.new) (W.faults sink.old) (W.faults sink.new) (listing t.now code.now schedules.now) result }
+    ensures { Puts (W.written sink.old) (W.written sink.new) (W.faults sink.old) (W.faults sink.new) (listing (option_copied platform.entry) t.now code.now schedules.now) result }
 {
+    if let Err(failed) = show_head(sink, platform) {
+        return Err(failed);
+    }
     if let Err(failed) = show_tables(sink, t) {
         return Err(failed);
     }
@@ -31,6 +38,16 @@ pub fn show<W: Sink>(
         return Err(failed);
     }
     show_schedules(sink, schedules)
+}
+
+// The platform, where there is one.
+fn show_head<W: Sink>(sink: &mut W, platform: Option<&Name>) -> Result<(), Failed>
+    ensures { Puts (W.written sink.old) (W.written sink.new) (W.faults sink.old) (W.faults sink.new) (platform_lines (option_copied platform.entry)) result }
+{
+    match platform {
+        Some(name) => show_platform(sink, name),
+        None => Ok(()),
+    }
 }
 
 // The sections of the tables.

@@ -268,7 +268,7 @@ fn an_object_is_listed(rt: HostRuntime) -> Result<(), Fail> {
     let code = code(alloc)?;
     let schedules = [schedule(alloc)?];
     let mut page = Page::new(alloc, 1000, &[])?;
-    assert_eq!(rt; show(&mut page, &t, &code, &schedules), Ok(()));
+    assert_eq!(rt; show(&mut page, None, &t, &code, &schedules), Ok(()));
     let text = b"sensor s int period 10 init 0
 comm u int period 10 init 7
 module M start m
@@ -294,12 +294,24 @@ S 0:1 end
 }
 
 #[test]
+fn a_platform_is_named_first(rt: HostRuntime) -> Result<(), Fail> {
+    let alloc = rt.alloc();
+    let t = tables(alloc).expect(&rt, "tables");
+    let code = code(alloc)?;
+    let name = Name::new(b"fast").expect(&rt, "name");
+    let mut page = Page::new(alloc, 30, &[])?;
+    assert_eq!(rt; show(&mut page, Some(&name), &t, &code, &[]), Err(Failed));
+    assert_eq!(rt; page.bytes(), b"platform fast\nsensor s int pe".as_slice());
+    Ok(())
+}
+
+#[test]
 fn a_page_that_is_too_short(rt: HostRuntime) -> Result<(), Fail> {
     let alloc = rt.alloc();
     let t = tables(alloc).expect(&rt, "tables");
     let code = code(alloc)?;
     let mut page = Page::new(alloc, 40, &[])?;
-    assert_eq!(rt; show(&mut page, &t, &code, &[]), Err(Failed));
+    assert_eq!(rt; show(&mut page, None, &t, &code, &[]), Err(Failed));
     assert_eq!(rt;
         page.bytes(),
         b"sensor s int period 10 init 0\ncomm u int".as_slice()

@@ -9,6 +9,7 @@ ghost use Rattle.htl_object.specs.Ranges.{IsInRange};
 use crate::ObjectFault;
 use crate::functions::first_unfit;
 use crate::schedules::first_infeasible;
+use htl_base::Name;
 use htl_ecode::ECode;
 use htl_espell::spells;
 use htl_fcode::Verified;
@@ -152,6 +153,13 @@ impl Loaded {
         ensures { result.now ≡ self.now.schedules }
     {
         self.object.schedules.as_slice()
+    }
+
+    /// The platform that the object names, if it names one. It takes no memory.
+    pub fn platform(&self) -> Option<Name>
+        ensures { result ≡ self.now.platform }
+    {
+        self.object.platform
     }
 
     /// The code of a function, whose number is in range.

@@ -1,5 +1,6 @@
 // Objects that are accepted, and the first faults of changed ones.
 use crate::{LoadFault, Loaded, ObjectFault, load};
+use htl_base::Name;
 use htl_ecode::{EFault, EKind};
 use htl_model::{FormFault, Tables};
 use htl_object::{MalKind, Malformed};
@@ -461,6 +462,21 @@ fn what_is_loaded_is_handed_out(rt: HostRuntime) -> Result<(), Fail> {
         .ok()
         .expect(&rt, "an accepted object");
     assert_eq!(rt; sizes(&loaded), Some((18, 4, 3)));
+    Ok(())
+}
+
+// The platform that what is loaded names.
+fn platform(alloc: Global, bytes: &[u8]) -> Option<Name> {
+    load(alloc, bytes).ok()?.platform()
+}
+
+#[test]
+fn a_platform_is_handed_out(rt: HostRuntime) -> Result<(), Fail> {
+    let mut named = Vec::new(rt.alloc());
+    named.extend_from_slice(b"HTLO\x00\x02\x04fast")?;
+    named.extend_from_slice(&NO_MODULE[6..])?;
+    assert!(rt; platform(rt.alloc(), &named) == Name::new(b"fast"));
+    assert!(rt; platform(rt.alloc(), &NO_MODULE).is_none());
     Ok(())
 }
 

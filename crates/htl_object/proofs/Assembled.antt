@@ -15,10 +15,10 @@ assembled l fs e =
     ap make (sym e)
 
 pub whole : (l : Lists) (t : Tables) (a b c : List ℕ) → t ≡ tables_of_lists l → a ≡ map (λ (x : Anchors). x.enter) l.anchors → b ≡ map (λ (x : Anchors). x.begin) l.anchors → c ≡ map (λ (x : Anchors). x.decide) l.anchors
-    → ◌≡◌ {A = Object} (record { tables = t; ecode = record { enter = a; begin = b; decide = c; instrs = l.instrs }; schedules = l.schedules }) (object_of_lists l)
+    → ◌≡◌ {A = Object} (record { tables = t; ecode = record { enter = a; begin = b; decide = c; instrs = l.instrs }; schedules = l.schedules; platform = l.platform }) (object_of_lists l)
 whole l t a b c p q r s =
     let code : List ℕ → List ℕ → List ℕ → ECode = λ x y z. record { enter = x; begin = y; decide = z; instrs = l.instrs } in
-    let make : Tables → ECode → Object = λ v e. record { tables = v; ecode = e; schedules = l.schedules } in
+    let make : Tables → ECode → Object = λ v e. record { tables = v; ecode = e; schedules = l.schedules; platform = l.platform } in
     ap (λ (v : Tables). make v (code a b c)) p
     ∙ ap (λ x. make (tables_of_lists l) (code x b c)) q
     ∙ ap (λ y. make (tables_of_lists l) (code (map (λ (x : Anchors). x.enter) l.anchors) y c)) r

@@ -55,6 +55,7 @@ of_one_comm =
       };
       ecode = record { enter = []; begin = []; decide = []; instrs = [] };
       schedules = [];
+      platform = None;
     }
 
 spelled : object_bytes of_one_comm ≡ one_comm
@@ -72,7 +73,11 @@ one_more = refl
 wrong_text : first_bad (with_byte 0 73) ≡ Some (record { offset = 0; kind = Magic })
 wrong_text = refl
 
-later_version : first_bad (with_byte 5 2) ≡ Some (record { offset = 4; kind = Version })
+-- the counts' first byte is no platform's name
+no_platform : first_bad (with_byte 5 2) ≡ Some (record { offset = 6; kind = Spelling })
+no_platform = refl
+
+later_version : first_bad (with_byte 5 3) ≡ Some (record { offset = 4; kind = Version })
 later_version = refl
 
 no_name : first_bad (with_byte 21 49) ≡ Some (record { offset = 20; kind = Spelling })
@@ -83,6 +88,20 @@ no_type = refl
 
 no_period : first_bad (with_byte 27 0) ≡ Some (record { offset = 24; kind = Index })
 no_period = refl
+
+-- ---- the same for a platform
+
+abbrev of_platform : Object
+of_platform = record of_one_comm { platform = Some (codes "fast") }
+
+abbrev with_platform : List ℕ
+with_platform = codes "HTLO" ++ (0 ∷ 2 ∷ 4 ∷ (codes "fast" ++ drop 6 one_comm))
+
+platform_spelled : object_bytes of_platform ≡ with_platform
+platform_spelled = refl
+
+platform_said : object_in with_platform ≡ Ok of_platform
+platform_said = refl
 
 -- ---- a repeated name waits for its owner; what is no name doesn't
 

@@ -1,14 +1,11 @@
 -- The two laws of objects, and that what is written is read again.
-use Rattle.std.proofs.Common.{◌≡◌, ℕ, ◌==◌, true, List, [], ◌++◌, length, take, drop, None, Ok, Err, refl, sym, ap, subst, ◌∙◌, ◌↔◌, arith}
-use Rattle.std.specs.Prelude.{codes, nat_le}
+use Rattle.std.proofs.Common.{◌≡◌, ℕ, ◌==◌, true, List, [], ◌++◌, length, Option, None, Ok, Err, refl, sym, ap, subst, ◌∙◌, ◌↔◌, arith}
+use Rattle.std.specs.Prelude.{nat_le}
 use Rattle.std.specs.Int.{w16, w32, to_be_bytes}
 use Rattle.std.specs.List.{flat_map}
-use Rattle.std.specs.Str.{bytes_eq}
-use Rattle.std.proofs.lemmas.Bool.{eqb-true, le-leb}
-use Rattle.std.proofs.lemmas.List.{append-nil, nil_from_length, take_at, drop_at, take-append-drop, length-append}
-use Rattle.std.proofs.lemmas.Slice.Eq.{bytes_eq-Decides}
-use Rattle.htl_object.specs.declared.malformed.MalKind.{MalKind}
-use Rattle.htl_object.specs.declared.malformed.MalKind.TheVariants.{Magic, Version, Index, Trailing}
+use Rattle.std.proofs.lemmas.Bool.{eqb-true}
+use Rattle.std.proofs.lemmas.List.{append-nil, nil_from_length}
+use Rattle.htl_object.specs.declared.malformed.MalKind.TheVariants.{Index, Trailing}
 use Rattle.htl_model.specs.declared.parts.Comm.{Comm}
 use Rattle.htl_model.specs.declared.parts.Mode.{Mode}
 use Rattle.htl_model.specs.declared.parts.Module.{Module}
@@ -18,24 +15,25 @@ use Rattle.htl_model.specs.declared.parts.Inv.{Inv}
 use Rattle.htl_model.specs.declared.parts.Switch.{Switch}
 use Rattle.htl_model.specs.declared.function.Code.{Code}
 use Rattle.htl_ecode.specs.declared.instr.EInstr.{EInstr}
-use Rattle.htl_walk.specs.declared.schedule.SInstr.{SInstr}
 use Rattle.htl_walk.specs.declared.schedule.Schedule.{Schedule}
 use Rattle.htl_object.specs.declared.lists.Anchors.{Anchors}
 use Rattle.htl_object.specs.declared.lists.Counts.{Counts}
 use Rattle.htl_object.specs.declared.lists.Lists.{Lists}
-use Rattle.htl_object.specs.Reading.{IsBytes, Read, ◌>>=◌, bad_at, short, need, count_at}
+use Rattle.htl_object.specs.Reading.{IsBytes, Read, ◌>>=◌, bad_at, need, count_at}
 use Rattle.htl_object.specs.Comms.{comm_bytes}
 use Rattle.htl_object.specs.Modes.{mode_bytes}
 use Rattle.htl_object.specs.Modules.{module_bytes}
 use Rattle.htl_object.specs.Ports.{port_bytes, task_bytes}
 use Rattle.htl_object.specs.Invocations.{inv_bytes, switch_bytes}
 use Rattle.htl_object.specs.Instructions.{code_bytes, s_bytes}
-use Rattle.htl_object.specs.Items.{Fits16, Is32, Every, IsSInstr}
-use Rattle.htl_object.specs.Files.{counts_of, counts_bytes, counts_at, AreCounts, anchors_bytes, anchors_at, AreAnchors, is_selections, e_code_bytes, e_code_at, IsECode, s_code_at, schedule_bytes, schedule_at, IsSchedule, schedules_bytes, function_count, text_at, version_at, file_bytes, file_at, IsFile, IsFileInRange, whole_at, fault_of, first_bad}
+use Rattle.htl_object.specs.Items.{Fits16}
+use Rattle.htl_object.specs.Files.{counts_of, counts_bytes, counts_at, AreCounts, anchors_bytes, anchors_at, AreAnchors, is_selections, e_code_bytes, e_code_at, IsECode, function_count, file_bytes, file_at, IsFile, IsFileInRange, whole_at, fault_of, first_bad}
+use Rattle.htl_object.specs.Versions.{head_bytes, tail_bytes}
+use Rattle.htl_object.proofs.VersionLaws.{head, tail}
 use Rattle.htl_object.proofs.Lawful.{IsCodec, Taken, given-value, needed, bound, field, last, checked, counted, items, whole}
 use Rattle.htl_object.proofs.FieldLaws.{number16, number32}
 use Rattle.htl_object.proofs.ItemLaws.{comm, mode, unit, port, task, inv, switch}
-use Rattle.htl_object.proofs.InstructionLaws.{code, e_instr, s_instr}
+use Rattle.htl_object.proofs.InstructionLaws.{code, e_instr}
 
 -- ---- parts
 
@@ -65,42 +63,6 @@ anchors =
 e_code : IsCodec e_code_bytes IsECode e_code_at
 e_code = counted number32 (λ _. e_instr)
 
-s_code : IsCodec (λ is. to_be_bytes w32 (length is) ++ flat_map s_bytes is) (λ is. Is32 (length is) × Every IsSInstr is) s_code_at
-s_code = counted number32 (λ _. s_instr)
-
-abbrev make_schedule : List SInstr → Schedule
-make_schedule is = record { instrs = is }
-
-schedule : IsCodec schedule_bytes IsSchedule schedule_at
-schedule = whole make_schedule (λ s. s.instrs) schedule_bytes IsSchedule (last {make = make_schedule} s_code) (λ s f. (refl, refl, f)) (λ is f. (refl, f))
-
-version : IsCodec (to_be_bytes w16) (Fits16 (λ n. n == 1)) version_at
-version = checked Version (λ n. n == 1) number16
-
-text : (kind : MalKind) (t : List ℕ) → IsCodec (λ x. x) (λ x. x ≡ t) (text_at kind t)
-text kind t = record { again = again; takes = takes }
-  where
-    again : (x rest : List ℕ) → x ≡ t → text_at kind t (x ++ rest) ≡ Ok (x, rest)
-    again x rest e =
-        let long : nat_le (length t) (length (t ++ rest)) ≡ true = le-leb _ _ (omega (arith, length-append t rest)) in
-        let same : bytes_eq t t ≡ true = (bytes_eq-Decides t t).1 refl in
-        let one : text_at kind t (t ++ rest) ≡ Ok (t, rest) = rw (long, take_at t rest (length t) refl, drop_at t rest (length t) refl, same) refl in
-        ap (λ (y : List ℕ). text_at kind t (y ++ rest)) e ∙ one ∙ ap (λ (y : List ℕ). Ok (y, rest)) (sym e)
-
-    takes : (bytes x rest : List ℕ) → IsBytes bytes → text_at kind t bytes ≡ Ok (x, rest) → Taken (λ x. x) (λ x. x) (λ x. x ≡ t) bytes x rest
-    takes bytes x rest are e =
-        let front = take (length t) bytes in
-        let a = needed (nat_le (length t) (length bytes)) short (need (bytes_eq front t) (bad_at kind bytes) (Ok (t, drop (length t) bytes))) x rest e in
-        let b = needed (bytes_eq front t) (bad_at kind bytes) (Ok (t, drop (length t) bytes)) x rest a.1 in
-        let g = given-value t x (drop (length t) bytes) rest b.1 in
-        let same : front ≡ t = (bytes_eq-Decides front t).0 b.0 in
-        record {
-          part = t;
-          made = g.0;
-          spelled = sym (take-append-drop (length t) bytes) ∙ ap (λ (y : List ℕ). y ++ drop (length t) bytes) same ∙ ap (λ (y : List ℕ). t ++ y) g.1;
-          fit = refl;
-        }
-
 -- ---- the whole
 
 counts-same : (n : Counts) (a b c d e f g : ℕ) → a ≡ n.comms → b ≡ n.modes → c ≡ n.modules → d ≡ n.ports → e ≡ n.tasks → f ≡ n.invs → g ≡ n.switches
@@ -115,18 +77,18 @@ counts-same n a b c d e f g ea eb ec ed ee ef eg =
     ∙ ap (λ (x : ℕ). make_counts (a, (b, (c, (d, (e, (f, x))))))) (sym eg)
 
 abbrev Parts : Type 0
-Parts = List ℕ × (ℕ × (Counts × (List Comm × (List Mode × (List Module × (List Port × (List Task × (List Inv × (List Switch × (List Code × (List Anchors × (List EInstr × List Schedule))))))))))))
+Parts = Option (List ℕ) × (Counts × (List Comm × (List Mode × (List Module × (List Port × (List Task × (List Inv × (List Switch × (List Code × (List Anchors × (List EInstr × List Schedule)))))))))))
 
 abbrev make_lists : Parts → Lists
-make_lists p = record { comms = p.1.1.1.0; modes = p.1.1.1.1.0; modules = p.1.1.1.1.1.0; ports = p.1.1.1.1.1.1.0; tasks = p.1.1.1.1.1.1.1.0; invs = p.1.1.1.1.1.1.1.1.0; switches = p.1.1.1.1.1.1.1.1.1.0; functions = p.1.1.1.1.1.1.1.1.1.1.0; anchors = p.1.1.1.1.1.1.1.1.1.1.1.0; instrs = p.1.1.1.1.1.1.1.1.1.1.1.1.0; schedules = p.1.1.1.1.1.1.1.1.1.1.1.1.1 }
+make_lists p = record { comms = p.1.1.0; modes = p.1.1.1.0; modules = p.1.1.1.1.0; ports = p.1.1.1.1.1.0; tasks = p.1.1.1.1.1.1.0; invs = p.1.1.1.1.1.1.1.0; switches = p.1.1.1.1.1.1.1.1.0; functions = p.1.1.1.1.1.1.1.1.1.0; anchors = p.1.1.1.1.1.1.1.1.1.1.0; instrs = p.1.1.1.1.1.1.1.1.1.1.1.0; schedules = p.1.1.1.1.1.1.1.1.1.1.1.1; platform = p.0 }
 
 abbrev parts_of : Lists → Parts
-parts_of o = (codes "HTLO", (1, (counts_of o, (o.comms, (o.modes, (o.modules, (o.ports, (o.tasks, (o.invs, (o.switches, (o.functions, (o.anchors, (o.instrs, o.schedules)))))))))))))
+parts_of o = (o.platform, (counts_of o, (o.comms, (o.modes, (o.modules, (o.ports, (o.tasks, (o.invs, (o.switches, (o.functions, (o.anchors, (o.instrs, o.schedules))))))))))))
 
 object : IsCodec file_bytes IsFileInRange file_at
 object =
     whole make_lists parts_of file_bytes IsFileInRange
-    (field (text Magic (codes "HTLO")) (λ _ _. field version (λ _ _. field counts (λ _ n.
+    (field head (λ _ platform. field counts (λ _ n.
     field (items comm n.comms []) (λ _ _.
     field (items (mode n.modules) n.modes []) (λ _ modes.
     field (items (unit modes) n.modules []) (λ _ modules.
@@ -137,20 +99,16 @@ object =
     field (items (λ _. code) (function_count tasks n.switches) []) (λ _ _.
     field (items (λ _. anchors) n.modes []) (λ _ _.
     field e_code (λ _ _.
-    last (counted (checked Index (is_selections modes modules invs) number16) (λ _. schedule))))))))))))))))
-    (λ o f. let one : Fits16 (λ n. n == 1) 1 = (omega arith, refl) in (refl, refl, (refl, (one, (f.counts, ((refl, f.comms), ((refl, f.modes), ((refl, f.modules), ((refl, f.ports), ((refl, f.tasks), ((refl, f.invs), ((refl, f.switches), ((f.function_count, f.functions), ((f.anchor_count, f.anchors), (f.instrs, (f.schedule_count, f.schedules))))))))))))))))
+    last (tail platform (is_selections modes modules invs)))))))))))))))
+    (λ o f. (refl, refl, (f.platform, (f.counts, ((refl, f.comms), ((refl, f.modes), ((refl, f.modules), ((refl, f.ports), ((refl, f.tasks), ((refl, f.invs), ((refl, f.switches), ((f.function_count, f.functions), ((f.anchor_count, f.anchors), (f.instrs, (f.schedule_count, f.schedules)))))))))))))))
     (λ p f.
-    let n = p.1.1.0 in
+    let n = p.1.0 in
     let o = make_lists p in
     let same : n ≡ counts_of o = counts-same n (length o.comms) (length o.modes) (length o.modules) (length o.ports) (length o.tasks) (length o.invs) (length o.switches)
-    f.1.1.1.0.0 f.1.1.1.1.0.0 f.1.1.1.1.1.0.0 f.1.1.1.1.1.1.0.0 f.1.1.1.1.1.1.1.0.0 f.1.1.1.1.1.1.1.1.0.0 f.1.1.1.1.1.1.1.1.1.0.0 in
-    let is : IsFile n o = record { counts = f.1.1.0; comms = f.1.1.1.0.1; modes = f.1.1.1.1.0.1; modules = f.1.1.1.1.1.0.1; ports = f.1.1.1.1.1.1.0.1; tasks = f.1.1.1.1.1.1.1.0.1; invs = f.1.1.1.1.1.1.1.1.0.1; switches = f.1.1.1.1.1.1.1.1.1.0.1; function_count = f.1.1.1.1.1.1.1.1.1.1.0.0; functions = f.1.1.1.1.1.1.1.1.1.1.0.1; anchor_count = f.1.1.1.1.1.1.1.1.1.1.1.0.0; anchors = f.1.1.1.1.1.1.1.1.1.1.1.0.1; instrs = f.1.1.1.1.1.1.1.1.1.1.1.1.0; schedule_count = f.1.1.1.1.1.1.1.1.1.1.1.1.1.0; schedules = f.1.1.1.1.1.1.1.1.1.1.1.1.1.1 } in
-    let rest = flat_map comm_bytes o.comms ++ (flat_map mode_bytes o.modes ++ (flat_map module_bytes o.modules ++ (flat_map port_bytes o.ports ++ (flat_map task_bytes o.tasks ++ (flat_map inv_bytes o.invs ++ (flat_map switch_bytes o.switches ++ (flat_map code_bytes o.functions ++ (flat_map anchors_bytes o.anchors ++ (e_code_bytes o.instrs ++ schedules_bytes o.schedules))))))))) in (
-      ap (λ (m : Counts). codes "HTLO" ++ (to_be_bytes w16 1 ++ (counts_bytes m ++ rest))) (sym same)
-          ∙ ap (λ (v : ℕ). codes "HTLO" ++ (to_be_bytes w16 v ++ (counts_bytes n ++ rest))) (sym (eqb-true _ 1 f.1.0.1))
-          ∙ ap (λ (t : List ℕ). t ++ (to_be_bytes w16 p.1.0 ++ (counts_bytes n ++ rest))) (sym f.0),
-      subst (λ (m : Counts). IsFile m o) same is,
-    ))
+    f.1.1.0.0 f.1.1.1.0.0 f.1.1.1.1.0.0 f.1.1.1.1.1.0.0 f.1.1.1.1.1.1.0.0 f.1.1.1.1.1.1.1.0.0 f.1.1.1.1.1.1.1.1.0.0 in
+    let is : IsFile n o = record { counts = f.1.0; comms = f.1.1.0.1; modes = f.1.1.1.0.1; modules = f.1.1.1.1.0.1; ports = f.1.1.1.1.1.0.1; tasks = f.1.1.1.1.1.1.0.1; invs = f.1.1.1.1.1.1.1.0.1; switches = f.1.1.1.1.1.1.1.1.0.1; function_count = f.1.1.1.1.1.1.1.1.1.0.0; functions = f.1.1.1.1.1.1.1.1.1.0.1; anchor_count = f.1.1.1.1.1.1.1.1.1.1.0.0; anchors = f.1.1.1.1.1.1.1.1.1.1.0.1; instrs = f.1.1.1.1.1.1.1.1.1.1.1.0; schedule_count = f.1.1.1.1.1.1.1.1.1.1.1.1.0; schedules = f.1.1.1.1.1.1.1.1.1.1.1.1.1; platform = f.0 } in
+    let rest = flat_map comm_bytes o.comms ++ (flat_map mode_bytes o.modes ++ (flat_map module_bytes o.modules ++ (flat_map port_bytes o.ports ++ (flat_map task_bytes o.tasks ++ (flat_map inv_bytes o.invs ++ (flat_map switch_bytes o.switches ++ (flat_map code_bytes o.functions ++ (flat_map anchors_bytes o.anchors ++ (e_code_bytes o.instrs ++ tail_bytes o.platform o.schedules))))))))) in
+    (ap (λ (m : Counts). head_bytes o.platform ++ (counts_bytes m ++ rest)) (sym same), subst (λ (m : Counts). IsFile m o) same is))
 
 -- what is spelled is all read
 pub whole-again : (o : Lists) → IsFileInRange o → whole_at (file_bytes o) ≡ Ok (o, [])

@@ -37,7 +37,7 @@ use Rattle.htl_object.proofs.Listed.{all_codes}
 use Rattle.htl_object.proofs.Widest.{most_few}
 use Rattle.htl_object.specs.Comms.{is_named_comm}
 use Rattle.htl_object.specs.Fields.{is_span, is_owner, is_of}
-use Rattle.htl_object.specs.Files.{AreAnchors, IsSchedule, IsFileInRange, selections_to, positions_to, is_selections}
+use Rattle.htl_object.specs.Files.{AreAnchors, IsFileInRange, selections_to, positions_to, is_selections}
 use Rattle.htl_object.specs.Invocations.{is_parent, is_read, last_inv_mode, last_switch_mode}
 use Rattle.htl_object.specs.Items.{Each, Fits16, IsComm, IsMode, IsOption, IsModule, IsPort, AreTypes, IsTask, IsEnd, AreEnds, IsInv, IsSwitch, IsCode, IsEInstr, IsSInstr, IsFInstr}
 use Rattle.htl_object.specs.Lists.{codes_of, anchors_of, lists_of}
@@ -46,6 +46,7 @@ use Rattle.htl_object.specs.Modules.{is_named_module, is_mode_of, is_within as i
 use Rattle.htl_object.specs.Objects.{HasWidths, KeepsFunction, IsObject}
 use Rattle.htl_object.specs.Ports.{is_named_port, is_named_task, last_mode, last_owner}
 use Rattle.htl_object.specs.Ranges.{IsPhased, IsShort}
+use Rattle.htl_object.specs.Schedules.{IsSchedule}
 use Rattle.htl_object.specs.declared.lists.Anchors.{Anchors}
 use Rattle.htl_object.specs.declared.object.Object.{Object}
 use Rattle.htl_walk.specs.declared.schedule.Schedule.{Schedule}
@@ -377,4 +378,5 @@ module _ (o : Object) (h : IsObject o) where
         instrs = (omega (arith, h.ranges.few_instrs), each_of (λ _. IsEInstr) o.ecode.instrs (λ k i at. instr_fits i (all_at HasWidths o.ecode.instrs k i h.types.instrs at) (all_at IsPhased o.ecode.instrs k i h.ranges.phases at)));
         schedule_count = schedule_count;
         schedules = each_of (λ _. IsSchedule) o.schedules (λ k s at. let short : length s.instrs ≤ 4294967295 = all_at IsShort o.schedules k s h.ranges.short at in (omega (arith, short), every IsSInstr s.instrs (all_at (λ (y : Schedule). All IsSInstr y.instrs) o.schedules k s h.types.schedules at)));
+        platform = h.types.platform;
       }

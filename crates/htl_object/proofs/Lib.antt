@@ -4,6 +4,11 @@ pub mod Tagged
 pub mod FieldLaws
 pub mod ItemLaws
 pub mod InstructionLaws
+pub mod BlockLaws
+pub mod BlockSpellings
+pub mod ScheduleLaws
+pub mod BlockReading
+pub mod VersionLaws
 pub mod FileLaws
 pub mod Sizes
 pub mod Appends
@@ -21,3 +26,4 @@ pub mod ObjectRange
 pub mod Assembled
 pub mod FunctionPlaces
 pub mod Examples
+pub mod VersionExamples

@@ -85,7 +85,7 @@ anchors_again xs instrs n size = listed (anchors_of code) xs none n size (λ k l
 
 pub lists_again : (l : Lists) → IsFileInRange l → lists_of (object_of_lists l) ≡ l
 lists_again l h =
-    let make : List Code → List Anchors → Lists = λ cs anchors. record { comms = l.comms; modes = l.modes; modules = l.modules; ports = l.ports; tasks = l.tasks; invs = l.invs; switches = l.switches; functions = cs; anchors = anchors; instrs = l.instrs; schedules = l.schedules } in
+    let make : List Code → List Anchors → Lists = λ cs anchors. record { comms = l.comms; modes = l.modes; modules = l.modules; ports = l.ports; tasks = l.tasks; invs = l.invs; switches = l.switches; functions = cs; anchors = anchors; instrs = l.instrs; schedules = l.schedules; platform = l.platform } in
     ap (λ cs. make cs (list_to (anchors_of (object_of_lists l).ecode) (length l.modes))) (codes_again l.functions)
     ∙ ap (λ anchors. make l.functions anchors) (anchors_again l.anchors l.instrs (length l.modes) h.anchor_count)
 
@@ -95,7 +95,7 @@ object_again o h =
     let e = o.ecode in
     let n = length t.modes in
     let tables : List Fun → Tables = λ fs. record { comms = t.comms; modes = t.modes; modules = t.modules; ports = t.ports; tasks = t.tasks; invs = t.invs; switches = t.switches; functions = fs } in
-    let make : List Fun → List ℕ → List ℕ → List ℕ → Object = λ fs a b d. record { tables = tables fs; ecode = record { enter = a; begin = b; decide = d; instrs = e.instrs }; schedules = o.schedules } in
+    let make : List Fun → List ℕ → List ℕ → List ℕ → Object = λ fs a b d. record { tables = tables fs; ecode = record { enter = a; begin = b; decide = d; instrs = e.instrs }; schedules = o.schedules; platform = o.platform } in
     let anchors = list_to (anchors_of e) n in
     let enter : map (λ (a : Anchors). a.enter) anchors ≡ e.enter = map_listed (λ (a : Anchors). a.enter) (anchors_of e) n ∙ numbers_listed e.enter n h.enter in
     let begin : map (λ (a : Anchors). a.begin) anchors ≡ e.begin = map_listed (λ (a : Anchors). a.begin) (anchors_of e) n ∙ numbers_listed e.begin n h.begin in

@@ -19,11 +19,12 @@ use Rattle.htl_object.proofs.FileLaws.{whole-again, whole-takes, one-file, no-ba
 use Rattle.htl_object.proofs.FileRanges.{file_in_range}
 use Rattle.htl_object.proofs.Listed.{lists_again, object_again}
 use Rattle.htl_object.proofs.ObjectRange.{lists_are_object}
-use Rattle.htl_object.specs.Files.{AreAnchors, IsSchedule, IsFileInRange, file_bytes, whole_at}
+use Rattle.htl_object.specs.Files.{AreAnchors, IsFileInRange, file_bytes, whole_at}
+use Rattle.htl_object.specs.Schedules.{IsSchedule}
 use Rattle.htl_object.specs.Items.{Is32, IsComm, IsMode, IsModule, IsPort, IsTask, IsCode, IsEInstr, IsSInstr, IsFInstr}
 use Rattle.htl_object.specs.Laws.{OneSpelling, OneObject, NoBadField, SaysItself}
 use Rattle.htl_object.specs.Lists.{object_of_lists, lists_of}
-use Rattle.htl_object.specs.Objects.{HasWidths, KeepsFunction, KeepsTypes, IsObject, object_bytes, object_or, IsRead, IsReadAs}
+use Rattle.htl_object.specs.Objects.{HasWidths, KeepsFunction, KeepsTypes, IsObject, object_bytes, object_or, object_in, lists_or, IsRead, IsReadAs}
 use Rattle.htl_object.specs.Reading.{IsBytes, Read}
 use Rattle.htl_object.specs.declared.decoding.DecodeFault.{DecodeFault}
 use Rattle.htl_object.specs.declared.decoding.DecodeFault.TheVariants as fault
@@ -61,6 +62,7 @@ keeps_types l h =
       decide = All-map Is32 (λ (a : Anchors). a.decide) l.anchors (all_of (λ _. AreAnchors) (λ (a : Anchors). Is32 a.decide) l.anchors (λ b a f. f.decide) h.anchors);
       instrs = all_of (λ _. IsEInstr) HasWidths l.instrs (λ b i f. has_widths i f) h.instrs.1;
       schedules = all_of (λ _. IsSchedule) (λ (s : Schedule). All IsSInstr s.instrs) l.schedules (λ b s f. all_of (λ _. IsSInstr) IsSInstr s.instrs (λ b i g. g) f.1) h.schedules;
+      platform = h.platform;
     }
 
 -- the object of lists in range is in range, and has their bytes
@@ -98,6 +100,14 @@ no_bad_field bytes are = (
 
 none-some : (m : Malformed) → ◌≡◌ {A = Option Malformed} None (Some m) → ⊥
 none-some m e = cc
+
+-- an object of lists that bytes say is the one that they say
+pub object_said : (bytes : List ℕ) (l : Lists) (o : Object) → lists_or bytes (whole_at bytes) ≡ Ok l → o ≡ object_of_lists l → object_in bytes ≡ Ok o
+object_said bytes l o e is = by (whole_at bytes) e
+  where
+    by : (r : Read Lists) → lists_or bytes r ≡ Ok l → object_or bytes r ≡ Ok o
+    by (Ok x) said = let same : x.0 ≡ l = cc in ap (λ (y : Lists). Ok (object_of_lists y)) same ∙ ap (λ (p : Object). Ok p) (sym is)
+    by (Err bad) said = absurd cc
 
 -- the bytes of an object in range are refused only for want of memory
 pub not_refused : (bytes : List ℕ) (f : DecodeFault) → IsBytes bytes → IsRead bytes (Err f) → (o : Object) → IsObject o → bytes ≡ object_bytes o → IsReadAs o (Err f)

@@ -3,7 +3,8 @@ use Rattle.std.proofs.Common.{◌∙◌, arith}
 use Rattle.std.specs.Prelude.{nat_le}
 use Rattle.std.proofs.lemmas.List.{length-map}
 use Rattle.std.proofs.lemmas.List.Elements.{All-map}
-use Rattle.htl_object.specs.Files.{IsFileInRange, IsSchedule}
+use Rattle.htl_object.specs.Files.{IsFileInRange}
+use Rattle.htl_object.specs.Schedules.{IsSchedule}
 use Rattle.htl_object.specs.Items.{IsEInstr}
 use Rattle.htl_object.specs.declared.lists.Anchors.{Anchors}
 use Rattle.htl_object.specs.declared.lists.Lists.{Lists}

@@ -32,7 +32,7 @@ final {P = P} {ra = ra} make h = record {
       subst P (given-value (make b.value) y b.rest rest b.then).0 (h.all bytes b.value b.rest b.first);
 }
 
-items-length : {X : Type 0} (read : List X → List ℕ → Read X) (n : ℕ) (before : List X) (bytes : List ℕ) (xs : List X) (rest : List ℕ)
+pub items-length : {X : Type 0} (read : List X → List ℕ → Read X) (n : ℕ) (before : List X) (bytes : List ℕ) (xs : List X) (rest : List ℕ)
     → items_at read n before bytes ≡ Ok (xs, rest) → length xs ≡ length before + n
 items-length {X} read zero before bytes xs rest e = let g = given-value before xs bytes rest e in omega (arith, ap (λ (l : List X). length l) g.0)
 items-length {X} read (suc n) before bytes xs rest e =

@@ -1,11 +1,9 @@
 -- The lists of a file: their one spelling, their ranges, and the first bad field of bytes.
-use Rattle.std.specs.Prelude.{◌≡◌, ℕ, zero, suc, ◌+◌, ◌-◌, ◌*◌, max, ◌==◌, ◌&&◌, Bool, false, cond, slice_get, is_none, List, [], ◌++◌, length, take, drop, Option, Some, None, Ok, Err, nat_le, codes, count_by, sum_by}
+use Rattle.std.specs.Prelude.{◌≡◌, ℕ, zero, suc, ◌+◌, ◌-◌, ◌*◌, max, ◌==◌, ◌&&◌, Bool, false, cond, slice_get, is_none, List, [], ◌++◌, length, Option, Some, None, Ok, Err, nat_le, count_by, sum_by}
 use Rattle.std.specs.Int.{w16, w32, to_be_bytes}
 use Rattle.std.specs.List.{flat_map}
-use Rattle.std.specs.Str.{bytes_eq}
 use Rattle.htl_base.specs.declared.limits.TheConstants.{MAX_COMMUNICATORS, MAX_MODULES, MAX_MODES, MAX_PORTS, MAX_TASKS, MAX_INVOCATIONS, MAX_SWITCHES, MAX_SELECTIONS, MAX_POSITIONS}
-use Rattle.htl_object.specs.declared.malformed.MalKind.{MalKind}
-use Rattle.htl_object.specs.declared.malformed.MalKind.TheVariants.{Magic, Version, Index, Trailing}
+use Rattle.htl_object.specs.declared.malformed.MalKind.TheVariants.{Trailing}
 use Rattle.htl_object.specs.declared.malformed.Malformed.{Malformed}
 use Rattle.htl_object.specs.declared.malformed.Bad.{Bad}
 use Rattle.htl_model.specs.declared.parts.Mode.{Mode}
@@ -13,19 +11,19 @@ use Rattle.htl_model.specs.declared.parts.Module.{Module}
 use Rattle.htl_model.specs.declared.parts.Task.{Task}
 use Rattle.htl_model.specs.declared.parts.Inv.{Inv}
 use Rattle.htl_ecode.specs.declared.instr.EInstr.{EInstr}
-use Rattle.htl_walk.specs.declared.schedule.SInstr.{SInstr}
-use Rattle.htl_walk.specs.declared.schedule.Schedule.{Schedule}
 use Rattle.htl_object.specs.declared.lists.Anchors.{Anchors}
 use Rattle.htl_object.specs.declared.lists.Counts.{Counts}
 use Rattle.htl_object.specs.declared.lists.Lists.{Lists}
-use Rattle.htl_object.specs.Reading.{Read, ◌>>=◌, bad_at, short, need, field_at, items_at, number_at, count_at}
+use Rattle.htl_object.specs.Reading.{Read, ◌>>=◌, bad_at, need, items_at, number_at, count_at}
 use Rattle.htl_object.specs.Comms.{comm_bytes, comm_at}
 use Rattle.htl_object.specs.Modes.{mode_bytes, mode_at}
 use Rattle.htl_object.specs.Modules.{module_bytes, module_at, is_mode_of}
 use Rattle.htl_object.specs.Ports.{port_bytes, port_at, task_bytes, task_at}
 use Rattle.htl_object.specs.Invocations.{inv_bytes, inv_at, switch_bytes, switch_at}
-use Rattle.htl_object.specs.Instructions.{code_bytes, code_at, e_bytes, e_instr_at, s_bytes, s_instr_at}
-use Rattle.htl_object.specs.Items.{Each, Every, Fits16, Is32, IsComm, IsMode, IsModule, IsPort, IsTask, IsInv, IsSwitch, IsCode, IsEInstr, IsSInstr}
+use Rattle.htl_object.specs.Instructions.{code_bytes, code_at, e_bytes, e_instr_at}
+use Rattle.htl_object.specs.Schedules.{IsSchedule}
+use Rattle.htl_object.specs.Versions.{head_bytes, head_at, IsPlatformName, tail_bytes, tail_at}
+use Rattle.htl_object.specs.Items.{Each, Every, Fits16, Is32, IsComm, IsMode, IsModule, IsPort, IsTask, IsInv, IsSwitch, IsCode, IsEInstr}
 
 -- ---- counts
 
@@ -125,47 +123,18 @@ e_code_at bytes = number_at w32 bytes >>= λ n rest. items_at (λ _. e_instr_at)
 abbrev pub IsECode : List EInstr → Type 0
 IsECode xs = Is32 (length xs) × Every IsEInstr xs
 
-abbrev pub schedule_bytes : Schedule → List ℕ
-schedule_bytes s = to_be_bytes w32 (length s.instrs) ++ flat_map s_bytes s.instrs
-
-abbrev pub s_code_at : List ℕ → Read (List SInstr)
-s_code_at bytes = number_at w32 bytes >>= λ n rest. items_at (λ _. s_instr_at) n [] rest
-
-abbrev pub schedule_at : List ℕ → Read Schedule
-schedule_at bytes = s_code_at bytes >>= λ instrs rest. Ok (record { instrs = instrs }, rest)
-
-abbrev pub IsSchedule : Schedule → Type 0
-IsSchedule s = Is32 (length s.instrs) × Every IsSInstr s.instrs
-
-abbrev pub schedules_bytes : List Schedule → List ℕ
-schedules_bytes ss = to_be_bytes w16 (length ss) ++ flat_map schedule_bytes ss
-
-abbrev pub schedules_at : (ℕ → Bool) → List ℕ → Read (List Schedule)
-schedules_at test bytes = field_at Index test (number_at w16) bytes >>= λ n rest. items_at (λ _. schedule_at) n [] rest
-
 -- ---- the whole
-
--- just these bytes
-abbrev pub text_at : MalKind → List ℕ → List ℕ → Read (List ℕ)
-text_at kind text bytes =
-    need (nat_le (length text) (length bytes)) short
-    (need (bytes_eq (take (length text) bytes) text) (bad_at kind bytes) (Ok (text, drop (length text) bytes)))
-
-abbrev pub version_at : List ℕ → Read ℕ
-version_at = field_at Version (λ n. n == 1) (number_at w16)
 
 abbrev pub file_bytes : Lists → List ℕ
 file_bytes o =
-    codes "HTLO" ++ (to_be_bytes w16 1 ++ (counts_bytes (counts_of o)
-    ++ (flat_map comm_bytes o.comms ++ (flat_map mode_bytes o.modes ++ (flat_map module_bytes o.modules
+    head_bytes o.platform ++ (counts_bytes (counts_of o) ++ (flat_map comm_bytes o.comms ++ (flat_map mode_bytes o.modes ++ (flat_map module_bytes o.modules
     ++ (flat_map port_bytes o.ports ++ (flat_map task_bytes o.tasks ++ (flat_map inv_bytes o.invs
     ++ (flat_map switch_bytes o.switches ++ (flat_map code_bytes o.functions ++ (flat_map anchors_bytes o.anchors
-    ++ (e_code_bytes o.instrs ++ schedules_bytes o.schedules))))))))))))
+    ++ (e_code_bytes o.instrs ++ tail_bytes o.platform o.schedules)))))))))))
 
 abbrev pub file_at : List ℕ → Read Lists
 file_at bytes =
-    text_at Magic (codes "HTLO") bytes >>= λ magic rest.
-    version_at rest >>= λ version rest.
+    head_at bytes >>= λ platform rest.
     counts_at rest >>= λ n rest.
     items_at comm_at n.comms [] rest >>= λ comms rest.
     items_at (mode_at n.modules) n.modes [] rest >>= λ modes rest.
@@ -177,7 +146,7 @@ file_at bytes =
     items_at (λ _. code_at) (function_count tasks n.switches) [] rest >>= λ functions rest.
     items_at (λ _. anchors_at) n.modes [] rest >>= λ anchors rest.
     e_code_at rest >>= λ instrs rest.
-    schedules_at (is_selections modes modules invs) rest >>= λ schedules rest.
+    tail_at platform (is_selections modes modules invs) rest >>= λ schedules rest.
     Ok (
       record {
         comms = comms;
@@ -191,6 +160,7 @@ file_at bytes =
         anchors = anchors;
         instrs = instrs;
         schedules = schedules;
+        platform = platform;
       },
       rest,
     )
@@ -212,6 +182,7 @@ pub record IsFile (n : Counts) (o : Lists) : Type 0 where
   pub instrs : IsECode o.instrs
   pub schedule_count : Fits16 (is_selections o.modes o.modules o.invs) (length o.schedules)
   pub schedules : Every IsSchedule o.schedules
+  pub platform : IsPlatformName o.platform
 
 abbrev pub IsFileInRange : Lists → Type 0
 IsFileInRange o = IsFile (counts_of o) o

@@ -1,4 +1,5 @@
 pub mod Accepted
+pub mod Blocks
 pub mod Comms
 pub mod Fields
 pub mod Files
@@ -16,3 +17,5 @@ pub mod Ports
 pub mod Ranges
 pub mod Reading
 pub mod SameNames
+pub mod Schedules
+pub mod Versions

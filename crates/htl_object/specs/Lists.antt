@@ -24,7 +24,7 @@ tables_of_lists l =
       functions = map (λ c. Compiled c) l.functions;
     }
 
--- tables with code, three lists of addresses for one by mode, and schedules
+-- tables with code, three lists of addresses for one by mode, schedules, and the platform
 abbrev pub object_of_lists : Lists → Object
 object_of_lists l =
     record {
@@ -36,6 +36,7 @@ object_of_lists l =
         instrs = l.instrs;
       };
       schedules = l.schedules;
+      platform = l.platform;
     }
 
 -- ---- the lists of an object
@@ -77,4 +78,5 @@ lists_of o =
       anchors = list_to (anchors_of o.ecode) (length o.tables.modes);
       instrs = o.ecode.instrs;
       schedules = o.schedules;
+      platform = o.platform;
     }

@@ -10,6 +10,7 @@ use Rattle.htl_object.specs.Items.{Is16, Is32, IsFInstr, IsSInstr}
 use Rattle.htl_object.specs.Lists.{lists_of, object_of_lists}
 use Rattle.htl_object.specs.Ranges.{IsInRange}
 use Rattle.htl_object.specs.Reading.{Read}
+use Rattle.htl_object.specs.Versions.{IsPlatformName}
 use Rattle.htl_object.specs.declared.decoding.DecodeFault.{DecodeFault}
 use Rattle.htl_object.specs.declared.decoding.DecodeFault.TheVariants as fault
 use Rattle.htl_object.specs.declared.lists.Lists.{Lists}
@@ -53,6 +54,7 @@ pub record KeepsTypes (o : Object) : Type 0 where
   pub decide : All Is32 o.ecode.decide
   pub instrs : All HasWidths o.ecode.instrs
   pub schedules : All (λ s. All IsSInstr s.instrs) o.schedules
+  pub platform : IsPlatformName o.platform
 
 -- an object in range
 pub record IsObject (o : Object) : Type 0 where

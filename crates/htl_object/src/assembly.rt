@@ -80,5 +80,6 @@ pub fn assemble(alloc: Global, l: Lists) -> Result<Object, AllocError>
             instrs: l.instrs,
         },
         schedules: l.schedules,
+        platform: l.platform,
     })
 }

@@ -179,7 +179,7 @@ impl Item<()> for SInstr {
 }
 
 impl Item<Global> for Schedule {
-    ghost use Rattle.htl_object.specs.Files.{schedule_at};
+    ghost use Rattle.htl_object.specs.Schedules.{schedule_at};
 
     ghost item_at = { λ _ _. schedule_at };
 

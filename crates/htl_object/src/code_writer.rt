@@ -193,7 +193,7 @@ impl Spelled for SInstr {
 }
 
 impl Spelled for Schedule {
-    ghost use Rattle.htl_object.specs.Files.{schedule_bytes};
+    ghost use Rattle.htl_object.specs.Schedules.{schedule_bytes};
     ghost use Rattle.std.specs.Prelude.{All};
     ghost use Rattle.htl_object.specs.Items.{IsSInstr};
 

@@ -3,7 +3,7 @@ ghost use Rattle.std.specs.Prelude.{◌≡◌, ◌≤◌, IfOk, length};
 ghost use Rattle.std.specs.Int.{w16, w32};
 ghost use Rattle.htl_object.specs.Reading.{Gives, byte_at, number_at, count_at};
 ghost use Rattle.htl_object.specs.Fields.{name_at, type_at, flag_at, value_at, span_at, place_at, owner_at, option_at, init_at};
-ghost use Rattle.htl_object.specs.Files.{text_at, version_at};
+ghost use Rattle.htl_object.specs.Versions.{text_at, version_at, head_at};
 ghost use Rattle.htl_object.specs.Instructions.{phase_at};
 
 use crate::malformed::{Bad, MalKind, Stop};
@@ -43,6 +43,13 @@ impl<'a> Cursor<'a> {
         ensures { result ≡ length self.now }
     {
         self.left.len()
+    }
+
+    /// The bytes that are left.
+    pub fn rest(&self) -> &'a [u8]
+        ensures { result.now ≡ self.now }
+    {
+        self.left
     }
 
     /// One byte.
@@ -187,16 +194,28 @@ impl<'a> Cursor<'a> {
         Ok(())
     }
 
-    /// The number of this version.
-    pub fn version(&mut self) -> Result<(), Stop>
-        ensures { Gives (λ _. 1) (version_at self.old) self.new result }
+    /// The number of a version: 1 or 2.
+    pub fn version(&mut self) -> Result<u16, Stop>
+        ensures { Gives (λ x. x) (version_at self.old) self.new result }
     {
         let left = self.left.len();
         let n = self.u16()?;
-        if n != 1 {
+        if n != 1 && n != 2 {
             return Err(bad(MalKind::Version, left));
         }
-        Ok(())
+        Ok(n)
+    }
+
+    /// The head: the file's text, its version, and from version 2 on the name of a platform.
+    pub fn head(&mut self) -> Result<Option<Name>, Stop>
+        ensures { Gives (λ x. x) (head_at self.old) self.new result }
+    {
+        self.text(MalKind::Magic, b"HTLO")?;
+        let version = self.version()?;
+        if version == 1 {
+            return Ok(None);
+        }
+        Ok(Some(self.name()?))
     }
 
     /// A count up to a limit.

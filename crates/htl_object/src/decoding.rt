@@ -1,11 +1,13 @@
 // Bytes to an object, or their first bad field.
 ghost use Rattle.std.specs.Prelude.{◌≡◌, ◌≤◌, List, ℕ, IfOk};
 ghost use Rattle.htl_object.specs.Reading.{Gives};
-ghost use Rattle.htl_object.specs.Files.{counts_at, file_at, schedules_at, is_selections, whole_at, malformed_at, IsFileInRange, file_bytes};
+ghost use Rattle.htl_object.specs.Files.{counts_at, file_at, is_selections, whole_at, malformed_at, IsFileInRange, file_bytes};
+ghost use Rattle.htl_object.specs.Versions.{schedules_at, tail_at};
 ghost use Rattle.htl_object.specs.Objects.{object_bytes, IsObject, IsDecoded, IsReadAs, IsRead};
 ghost use Rattle.htl_object.specs.declared.object.Object.{Object};
 
 use crate::assembly::assemble;
+use crate::block_reader::blocks;
 use crate::code_reader::e_code;
 use crate::cursor::{Cursor, bad};
 use crate::declaration_reader::{ModeCount, ModuleAround, ModuleCount, TaskAround, named_items};
@@ -16,10 +18,10 @@ use crate::malformed::{Bad, MalKind, Malformed, Stop};
 use crate::notes::InvNotes;
 use crate::object::Object;
 use crate::selections::{function_count, is_selections};
-use htl_base::Seq;
 use htl_base::limits::{
     MAX_COMMUNICATORS, MAX_INVOCATIONS, MAX_MODES, MAX_MODULES, MAX_PORTS, MAX_SWITCHES, MAX_TASKS,
 };
+use htl_base::{Name, Seq};
 use htl_model::{Inv, Mode, Module};
 use htl_walk::Schedule;
 use std::alloc::Global;
@@ -56,30 +58,45 @@ fn counts(cursor: &mut Cursor<'_>) -> Result<Counts, Stop>
     })
 }
 
-// The schedules, as many as the tables have selections.
+// So many schedules, one by one, or equal ones once where the file names a platform.
 fn schedules(
     alloc: Global,
     cursor: &mut Cursor<'_>,
+    platform: &Option<Name>,
+    count: u16,
+) -> Result<Vec<Schedule>, Stop>
+    ensures { Gives (λ x. x.items) (schedules_at platform.now count cursor.old) cursor.new result }
+{
+    match platform {
+        None => items(alloc, cursor, &alloc, count as usize),
+        Some(_) => blocks(alloc, cursor, count),
+    }
+}
+
+// The schedules, as many as the tables have selections.
+fn tail(
+    alloc: Global,
+    cursor: &mut Cursor<'_>,
+    platform: &Option<Name>,
     modes: &[Mode],
     modules: &[Module],
     invs: &[Inv],
 ) -> Result<Vec<Schedule>, Stop>
-    ensures { Gives (λ x. x.items) (schedules_at (is_selections modes.now modules.now invs.now) cursor.old) cursor.new result }
+    ensures { Gives (λ x. x.items) (tail_at platform.now (is_selections modes.now modules.now invs.now) cursor.old) cursor.new result }
 {
     let left = cursor.left();
     let count = cursor.u16()?;
     if !is_selections(modes, modules, invs, count) {
         return Err(bad(MalKind::Index, left));
     }
-    items(alloc, cursor, &alloc, count as usize)
+    schedules(alloc, cursor, platform, count)
 }
 
 // The lists of a file, item by item.
 fn lists(alloc: Global, cursor: &mut Cursor<'_>) -> Result<Lists, Stop>
     ensures { Gives (λ x. x) (file_at cursor.old) cursor.new result }
 {
-    cursor.text(MalKind::Magic, b"HTLO")?;
-    cursor.version()?;
+    let platform = cursor.head()?;
     let n = counts(cursor)?;
     let comms = named_items(alloc, cursor, &(), n.comms)?;
     let modes = named_items(alloc, cursor, &ModuleCount(n.modules), n.modes)?;
@@ -111,7 +128,7 @@ fn lists(alloc: Global, cursor: &mut Cursor<'_>) -> Result<Lists, Stop>
     let functions = items(alloc, cursor, &alloc, count)?;
     let anchors = items(alloc, cursor, &(), n.modes as usize)?;
     let instrs = e_code(alloc, cursor)?;
-    let schedules = schedules(alloc, cursor, &modes, &modules, &invs)?;
+    let schedules = tail(alloc, cursor, &platform, &modes, &modules, &invs)?;
     Ok(Lists {
         comms: Seq::new(comms),
         modes: Seq::new(modes),
@@ -124,6 +141,7 @@ fn lists(alloc: Global, cursor: &mut Cursor<'_>) -> Result<Lists, Stop>
         anchors: Seq::new(anchors),
         instrs: Seq::new(instrs),
         schedules: Seq::new(schedules),
+        platform,
     })
 }
 
@@ -164,7 +182,9 @@ fn read(alloc: Global, bytes: &[u8]) -> Result<Lists, DecodeFault>
 
 /// The object in range that has these bytes. Malformed exactly where none has them: the first bad field, with the offset
 /// of its first byte. Want of memory may stand in place of either. One pass over the bytes; a name is looked up
-/// once among those of its list, and the invocations of all modes are counted in one pass.
+/// once among those of its list, and the invocations of all modes are counted in one pass. Where a platform is named,
+/// each block is looked up once by its bytes among those before, and each schedule is a copy of its block: it takes
+/// memory for each root selection, though the block stands once in the bytes.
 pub fn decode(alloc: Global, bytes: &[u8]) -> Result<Object, DecodeFault>
     ensures found { IfOk result (λ o. IsObject o × (bytes.now ≡ object_bytes o)) }
     ensures exact { IsDecoded bytes.now result }

@@ -6,15 +6,52 @@ ghost use Rattle.htl_model.specs.Lists.{list_to};
 ghost use Rattle.htl_object.specs.Files.{counts_bytes, anchors_bytes, AreAnchors};
 ghost use Rattle.htl_object.specs.Lists.{anchors_of, counts_in};
 ghost use Rattle.htl_object.specs.Objects.{object_bytes, object_in, KeepsTypes, IsObject};
-ghost use Rattle.htl_object.specs.Ranges.{IsInRange};
+ghost use Rattle.htl_object.specs.Items.{IsSInstr};
+ghost use Rattle.htl_object.specs.Ranges.{IsInRange, IsShort};
+ghost use Rattle.htl_object.specs.Versions.{head_bytes, tail_bytes, IsPlatformName};
 
+use crate::block_writer::put_blocks;
 use crate::lists::Anchors;
 use crate::object::Object;
-use crate::writer::{Spelled, put_all, put_count, put_list, put_long_list, put16};
-use htl_base::Memory;
+use crate::writer::{Spelled, put_all, put_count, put_long_list, put_name, put16};
+use htl_base::{Memory, Name};
 use htl_ecode::ECode;
 use htl_model::Parts;
+use htl_walk::Schedule;
 use std::alloc::{AllocError, Global};
+
+// The file's text, its version, and the name of a platform where there is one.
+fn put_head(out: &mut Vec<u8>, platform: &Option<Name>) -> Result<(), AllocError>
+    ensures spelled { OnOk result (out.new.items ≡ out.old.items ++ head_bytes platform.now) }
+    ensures types { OnOk result (IsPlatformName platform.now) }
+{
+    out.extend_from_slice(b"HTLO")?;
+    match platform {
+        None => put16(out, 1),
+        Some(name) => {
+            put16(out, 2)?;
+            put_name(out, name)
+        }
+    }
+}
+
+// The schedules one by one, or equal ones once where the object names a platform.
+fn put_tail(
+    alloc: Global,
+    out: &mut Vec<u8>,
+    platform: &Option<Name>,
+    schedules: &[Schedule],
+) -> Result<(), AllocError>
+    requires { All IsShort schedules.now }
+    ensures spelled { OnOk result (out.new.items ≡ out.old.items ++ tail_bytes platform.now schedules.now) }
+    ensures types { OnOk result (All (λ s. All IsSInstr s.instrs) schedules.now) }
+{
+    put_count(out, schedules.len())?;
+    match platform {
+        None => put_all(out, schedules),
+        Some(_) => put_blocks(alloc, out, schedules),
+    }
+}
 
 // The number of items of each list.
 fn put_counts(out: &mut Vec<u8>, parts: &Parts) -> Result<(), AllocError>
@@ -59,8 +96,7 @@ fn encoded(alloc: Global, o: &Object) -> Result<Vec<u8>, AllocError>
 {
     let mut out = Vec::new(alloc);
     let parts = o.tables.parts();
-    out.extend_from_slice(b"HTLO")?;
-    put16(&mut out, 1)?;
+    put_head(&mut out, &o.platform)?;
     put_counts(&mut out, parts)?;
     put_all(&mut out, parts.comms.as_slice())?;
     put_all(&mut out, parts.modes.as_slice())?;
@@ -72,12 +108,13 @@ fn encoded(alloc: Global, o: &Object) -> Result<Vec<u8>, AllocError>
     put_all(&mut out, parts.functions.as_slice())?;
     put_anchors(&mut out, &o.ecode, parts.modes.as_slice().len())?;
     put_long_list(&mut out, o.ecode.instrs.as_slice())?;
-    put_list(&mut out, o.schedules.as_slice())?;
+    put_tail(alloc, &mut out, &o.platform, o.schedules.as_slice())?;
     Ok(out)
 }
 
 /// The one spelling of an object in range. It says this object: decoded, it is this object again, or want of memory. Memory
-/// where no memory was left. One pass over the object, in the time of the bytes that it writes.
+/// where no memory was left. One pass over the object, in the time of the bytes that it writes; where a platform is named,
+/// in that of the bytes of all schedules, also of those that are written once.
 pub fn encode(alloc: Global, o: &Object) -> Result<Vec<u8>, Memory>
     requires { IsInRange o.now }
     ensures spelled { IfOk result (λ bytes. bytes.items ≡ object_bytes o.now) }

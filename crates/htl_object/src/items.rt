@@ -78,7 +78,8 @@ pub fn noted_items<A, N, T: NotedItem<A, N>>(
     count: usize,
 ) -> Result<Vec<T>, Stop>
     requires { T.notes noted.old [] }
-    ensures { Gives (λ x. x.items) (items_at (T.item_at around.now) count [] cursor.old) cursor.new result }
+    ensures gives { Gives (λ x. x.items) (items_at (T.item_at around.now) count [] cursor.old) cursor.new result }
+    ensures noted { IfOk result (λ x. T.notes noted.new x.items) }
 {
     let mut found = Vec::new(alloc);
     for _ in 0..count {

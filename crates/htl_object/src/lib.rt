@@ -2,6 +2,8 @@
 #![tactic(auto)]
 
 mod assembly;
+mod block_reader;
+mod block_writer;
 mod code_reader;
 mod code_writer;
 mod cursor;

@@ -1,5 +1,5 @@
 // What a file holds: plain lists, before they are tables.
-use htl_base::Seq;
+use htl_base::{Name, Seq};
 use htl_ecode::EInstr;
 use htl_model::{Code, Comm, Inv, Mode, Module, Port, Switch, Task};
 use htl_walk::Schedule;
@@ -39,4 +39,5 @@ pub struct Lists {
     pub anchors: Seq<Anchors>,
     pub instrs: Seq<EInstr>,
     pub schedules: Seq<Schedule>,
+    pub platform: Option<Name>,
 }

@@ -1,5 +1,5 @@
 // Objects: what a compiler makes and a loader is handed.
-use htl_base::Seq;
+use htl_base::{Name, Seq};
 use htl_ecode::ECode;
 use htl_model::Tables;
 use htl_walk::Schedule;
@@ -13,4 +13,6 @@ pub struct Object {
     pub ecode: ECode,
     /// One for each root selection, in the order of the selections.
     pub schedules: Seq<Schedule>,
+    /// The platform whose worst cases the tables have, where the file names one.
+    pub platform: Option<Name>,
 }

@@ -1,7 +1,9 @@
-use Rattle.std.proofs.Common.{◌≡◌, Err, subst}
+use Rattle.std.proofs.Common.{◌≡◌, Err, sym, subst}
 use Rattle.htl_load.proofs.Refusals.{accepted_is_not_refused}
 use Rattle.htl_load.proofs.Telling.{bad_field_told, accepted_bytes, fault_told}
 use Rattle.htl_load.specs.Faults.{IsRefused}
+use Rattle.htl_load.specs.Loading.{HasBytes}
+use Rattle.htl_object.specs.Accepted.{IsAccepted}
 use Rattle.htl_object.specs.Objects.{IsDecoded, IsReadAs}
 use Rattle.htl_object.specs.declared.decoding.DecodeFault.{DecodeFault}
 use Rattle.htl_object.specs.declared.decoding.DecodeFault.TheVariants as decode
@@ -20,6 +22,11 @@ returns-in-Err-Malformed-clause-refused c =
     let is : c.in-Err-Malformed.field-0 ≡ fault = c.in-Err-Malformed.field-0-is in
     bad_field_told bytes c.in-Err-Malformed.bad (subst (λ (e : DecodeFault). IsDecoded bytes (Err e)) is c.in-Err-Malformed.ensures.exact)
     (λ p has. subst (λ (e : DecodeFault). IsReadAs p (Err e)) is (c.in-Err-Malformed.ensures.only p has.object has.spelled))
+
+pub returns-in-Ok-tested-clause-loaded : goal.returns-in-Ok-tested-clause-loaded
+returns-in-Ok-tested-clause-loaded c =
+    subst (λ (x : Object). HasBytes c.args.bytes.now x × IsAccepted x) (sym c.in-Ok-tested.ensures.accepted.0)
+    (record { object = c.in-Ok.ensures.found.0; spelled = c.in-Ok.ensures.found.1 }, c.in-Ok-tested.ensures.accepted.1)
 
 pub returns-in-Ok-tested-clause-refused : goal.returns-in-Ok-tested-clause-refused
 returns-in-Ok-tested-clause-refused c =

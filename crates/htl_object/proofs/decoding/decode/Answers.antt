@@ -1,5 +1,5 @@
 use Rattle.std.proofs.Common.{sym, ◌∙◌, arith}
-use Rattle.htl_object.proofs.ObjectLaws.{object_found, one_object, not_refused}
+use Rattle.htl_object.proofs.ObjectLaws.{object_found, object_said, one_object, not_refused}
 use Rattle.htl_object.proofs.decoding.decode.Goals as goal
 
 pub returns-in-Err-clause-only : goal.returns-in-Err-clause-only
@@ -12,3 +12,6 @@ pub returns-in-Ok-assemble-clause-only : goal.returns-in-Ok-assemble-clause-only
 returns-in-Ok-assemble-clause-only c = λ o h e.
     let f = object_found c.args.bytes.now c.in-Ok.lists c.in-Ok-assemble.o c.in-Ok.ensures.found.0 c.in-Ok.ensures.found.1 c.in-Ok-assemble.ensures in
     one_object c.in-Ok-assemble.o o f.0 h (sym f.1 ∙ e)
+
+pub returns-in-Ok-assemble-clause-exact : goal.returns-in-Ok-assemble-clause-exact
+returns-in-Ok-assemble-clause-exact c = object_said c.args.bytes.now c.in-Ok.lists c.in-Ok-assemble.o c.in-Ok.ensures.exact c.in-Ok-assemble.ensures

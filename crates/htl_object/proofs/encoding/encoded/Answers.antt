@@ -1,6 +1,4 @@
 use Rattle.std.proofs.Common.{◌≡◌, ℕ, List, [], ◌++◌, map, length, sym, ap, subst, ◌∙◌}
-use Rattle.std.specs.Prelude.{codes}
-use Rattle.std.specs.Int.{w16, to_be_bytes}
 use Rattle.std.specs.List.{flat_map}
 use Rattle.std.proofs.lemmas.List.Elements.{All-map}
 use Rattle.htl_model.specs.Lists.{list_to}
@@ -9,7 +7,7 @@ use Rattle.htl_object.proofs.Appends.{appends}
 use Rattle.htl_object.proofs.Spelled.{functions_spelled, enter_kept, begin_kept, decide_kept}
 use Rattle.htl_object.proofs.encoding.encoded.Goals as goal
 use Rattle.htl_object.specs.Comms.{comm_bytes}
-use Rattle.htl_object.specs.Files.{counts_bytes, anchors_bytes, e_code_bytes, schedules_bytes}
+use Rattle.htl_object.specs.Files.{counts_bytes, anchors_bytes, e_code_bytes}
 use Rattle.htl_object.specs.Instructions.{code_bytes}
 use Rattle.htl_object.specs.Invocations.{inv_bytes, switch_bytes}
 use Rattle.htl_object.specs.Lists.{anchors_of, codes_of, counts_in}
@@ -17,14 +15,14 @@ use Rattle.htl_object.specs.Modes.{mode_bytes}
 use Rattle.htl_object.specs.Modules.{module_bytes}
 use Rattle.htl_object.specs.Objects.{KeepsFunction, KeepsTypes, object_bytes}
 use Rattle.htl_object.specs.Ports.{port_bytes, task_bytes}
+use Rattle.htl_object.specs.Versions.{head_bytes, tail_bytes}
 
 pub returns-clause-spelled : goal.returns-clause-spelled
 returns-clause-spelled c =
     let o = c.args.o.now in
     let p = c.parts-parts.result.now in
     let t = tables_of p in
-    let o1 = c.extend_from_slice.new.self.items in
-    let o2 = c.put16.new.out.items in
+    let o2 = c.put_head.new.out.items in
     let o3 = c.put_counts.new.out.items in
     let o4 = c.put_all.new.out.items in
     let o5 = c.put_all-2.new.out.items in
@@ -36,9 +34,9 @@ returns-clause-spelled c =
     let o11 = c.put_all-8.new.out.items in
     let o12 = c.put_anchors.new.out.items in
     let o13 = c.put_long_list.new.out.items in
-    let o14 = c.put_list.new.out.items in
+    let o14 = c.put_tail.new.out.items in
     let ms = length p.modes in
-    let t14 = schedules_bytes o.schedules in
+    let t14 = tail_bytes o.platform o.schedules in
     let t13 = e_code_bytes o.ecode.instrs ++ t14 in
     let t12 = flat_map anchors_bytes (list_to (anchors_of o.ecode) ms) ++ t13 in
     let t11 = flat_map code_bytes (codes_of (map fun_of p.functions)) ++ t12 in
@@ -50,8 +48,6 @@ returns-clause-spelled c =
     let t5 = flat_map mode_bytes p.modes ++ t6 in
     let t4 = flat_map comm_bytes p.comms ++ t5 in
     let t3 = counts_bytes (counts_in t) ++ t4 in
-    let t2 = to_be_bytes w16 1 ++ t3 in
-    let f2 : o2 ≡ o1 ++ (to_be_bytes w16 1) = c.in_ok-put16.ensures.spelled in
     let f3 : o3 ≡ o2 ++ (counts_bytes (counts_in t)) = c.in_ok-put_counts.ensures in
     let f4 : o4 ≡ o3 ++ (flat_map comm_bytes p.comms) = (rw c.as_slice.ensures at c.in_ok-put_all.ensures.spelled) in
     let f5 : o5 ≡ o4 ++ (flat_map mode_bytes p.modes) = (rw c.as_slice-2.ensures at c.in_ok-put_all-2.ensures.spelled) in
@@ -63,7 +59,7 @@ returns-clause-spelled c =
     let f11 : o11 ≡ o10 ++ (flat_map code_bytes (codes_of (map fun_of p.functions))) = (rw c.as_slice-8.ensures at c.in_ok-put_all-8.ensures.spelled) ∙ ap (λ (x : List ℕ). o10 ++ x) (functions_spelled p.functions) in
     let f12 : o12 ≡ o11 ++ (flat_map anchors_bytes (list_to (anchors_of o.ecode) ms)) = (rw c.as_slice-9.ensures at c.in_ok-put_anchors.ensures.spelled) in
     let f13 : o13 ≡ o12 ++ (e_code_bytes o.ecode.instrs) = (rw c.as_slice-10.ensures at c.in_ok-put_long_list.ensures.spelled) in
-    let f14 : o14 ≡ o13 ++ (schedules_bytes o.schedules) = (rw c.as_slice-11.ensures at c.in_ok-put_list.ensures.spelled) in
+    let f14 : o14 ≡ o13 ++ (tail_bytes o.platform o.schedules) = (rw c.as_slice-11.ensures at c.in_ok-put_tail.ensures.spelled) in
     let e14 : o14 ≡ o13 ++ t14 = f14 in
     let e13 : o14 ≡ o12 ++ t13 = appends o12 o13 o14 (e_code_bytes o.ecode.instrs) t14 f13 e14 in
     let e12 : o14 ≡ o11 ++ t12 = appends o11 o12 o14 (flat_map anchors_bytes (list_to (anchors_of o.ecode) ms)) t13 f12 e13 in
@@ -76,16 +72,15 @@ returns-clause-spelled c =
     let e5 : o14 ≡ o4 ++ t5 = appends o4 o5 o14 (flat_map mode_bytes p.modes) t6 f5 e6 in
     let e4 : o14 ≡ o3 ++ t4 = appends o3 o4 o14 (flat_map comm_bytes p.comms) t5 f4 e5 in
     let e3 : o14 ≡ o2 ++ t3 = appends o2 o3 o14 (counts_bytes (counts_in t)) t4 f3 e4 in
-    let e2 : o14 ≡ o1 ++ t2 = appends o1 o2 o14 (to_be_bytes w16 1) t3 f2 e3 in
-    let start : o1 ≡ [] ++ codes "HTLO" = c.in_ok-extend_from_slice.ensures.items ∙ ap (λ (x : List ℕ). x ++ codes "HTLO") c.new-out.ensures.items in
-    appends [] o1 o14 (codes "HTLO") t2 start e2
-    ∙ ap (λ (x : Tables). object_bytes (record { tables = x; ecode = o.ecode; schedules = o.schedules })) (sym c.parts-parts.ensures.value)
+    let start : o2 ≡ [] ++ head_bytes o.platform = c.in_ok-put_head.ensures.spelled ∙ ap (λ (x : List ℕ). x ++ head_bytes o.platform) c.new-out.ensures.items in
+    appends [] o2 o14 (head_bytes o.platform) t3 start e3
+    ∙ ap (λ (x : Tables). object_bytes (record { tables = x; ecode = o.ecode; schedules = o.schedules; platform = o.platform })) (sym c.parts-parts.ensures.value)
 
 pub returns-clause-types : goal.returns-clause-types
 returns-clause-types c =
     let o = c.args.o.now in
     let p = c.parts-parts.result.now in
-    let typed : KeepsTypes (record { tables = tables_of p; ecode = o.ecode; schedules = o.schedules }) = (
+    let typed : KeepsTypes (record { tables = tables_of p; ecode = o.ecode; schedules = o.schedules; platform = o.platform }) = (
     let n = length p.modes in
     let anchors = rw c.as_slice-9.ensures at c.in_ok-put_anchors.ensures.types in
     let same : length o.tables.modes ≡ n = ap (λ (x : Tables). length x.modes) c.parts-parts.ensures.value in
@@ -100,7 +95,8 @@ returns-clause-types c =
       begin = begin_kept o.ecode n (c.requires.begin ∙ same) anchors;
       decide = decide_kept o.ecode n (c.requires.decide ∙ same) anchors;
       instrs = rw c.as_slice-10.ensures at c.in_ok-put_long_list.ensures.types;
-      schedules = rw c.as_slice-11.ensures at c.in_ok-put_list.ensures.types;
+      schedules = rw c.as_slice-11.ensures at c.in_ok-put_tail.ensures.types;
+      platform = c.in_ok-put_head.ensures.types;
     }
     ) in
-    subst (λ (x : Tables). KeepsTypes (record { tables = x; ecode = o.ecode; schedules = o.schedules })) (sym c.parts-parts.ensures.value) typed
+    subst (λ (x : Tables). KeepsTypes (record { tables = x; ecode = o.ecode; schedules = o.schedules; platform = o.platform })) (sym c.parts-parts.ensures.value) typed

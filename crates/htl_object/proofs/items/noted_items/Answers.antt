@@ -4,8 +4,8 @@ use Rattle.htl_object.specs.Reading.{items_at}
 use Rattle.htl_object.proofs.Loops.{goes_on, stops}
 use Rattle.htl_object.proofs.items.noted_items.Goals as goal
 
-pub returns-in_err-item : goal.returns-in_err-item
-returns-in_err-item g c =
+pub returns-in_err-item-clause-gives : goal.returns-in_err-item-clause-gives
+returns-in_err-item-clause-gives g c =
     let read = g.T.NotedItem.item_at c.args.around.now in
     let p = err_from_is_err_and c.from_residual.result c.from_residual.ensures.1 in
     let e = rw c.deref.ensures.value at c.in_err-item.ensures.gives in

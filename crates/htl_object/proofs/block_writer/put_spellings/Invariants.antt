@@ -1,0 +1,6 @@
+use Rattle.std.proofs.Common.{◌≡◌, ◌++◌, take}
+use Rattle.std.specs.List.{flat_map}
+use Rattle.htl_object.proofs.block_writer.put_spellings.Given as goal
+
+abbrev pub invariant-loop-spelling : goal.invariant-loop-spelling
+invariant-loop-spelling l = l.out.items ≡ l.fn.out.items ++ flat_map (λ s. s.items) (take l.spelling-index l.spellings)

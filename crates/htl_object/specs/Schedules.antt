@@ -1,0 +1,21 @@
+-- One schedule.
+use Rattle.std.specs.Prelude.{ℕ, List, [], ◌++◌, length, Ok}
+use Rattle.std.specs.Int.{w32, to_be_bytes}
+use Rattle.std.specs.List.{flat_map}
+use Rattle.htl_object.specs.Instructions.{s_bytes, s_instr_at}
+use Rattle.htl_object.specs.Items.{Every, Is32, IsSInstr}
+use Rattle.htl_object.specs.Reading.{Read, ◌>>=◌, items_at, number_at}
+use Rattle.htl_walk.specs.declared.schedule.SInstr.{SInstr}
+use Rattle.htl_walk.specs.declared.schedule.Schedule.{Schedule}
+
+abbrev pub schedule_bytes : Schedule → List ℕ
+schedule_bytes s = to_be_bytes w32 (length s.instrs) ++ flat_map s_bytes s.instrs
+
+abbrev pub s_code_at : List ℕ → Read (List SInstr)
+s_code_at bytes = number_at w32 bytes >>= λ n rest. items_at (λ _. s_instr_at) n [] rest
+
+abbrev pub schedule_at : List ℕ → Read Schedule
+schedule_at bytes = s_code_at bytes >>= λ instrs rest. Ok (record { instrs = instrs }, rest)
+
+abbrev pub IsSchedule : Schedule → Type 0
+IsSchedule s = Is32 (length s.instrs) × Every IsSInstr s.instrs
