@@ -1,9 +1,9 @@
 -- What is built is accepted.
-use Rattle.std.proofs.Common.{◌≡◌, ◌≤◌, ◌<◌, ℕ, List, length, get_or, Some, All, sym, ◌∙◌, subst, arith}
+use Rattle.std.proofs.Common.{◌≡◌, ◌≤◌, ◌<◌, ℕ, List, length, get_or, Option, Some, All, sym, ◌∙◌, subst, arith}
 use Rattle.std.proofs.lemmas.Option.{slice_get-get_or}
 use Rattle.htl_compile.proofs.CodedLaws.{coded_fit, coded_in_range, codes_are_code, list_to_at}
 use Rattle.htl_compile.proofs.PhaseLaws.{layout_phased}
-use Rattle.htl_compile.specs.Built.{schedule_of, schedules, object_of, AreSchedulable}
+use Rattle.htl_compile.specs.Built.{schedule_of, schedules, object_for, AreSchedulable}
 use Rattle.htl_compile.specs.Coded.{codes, coded}
 use Rattle.htl_compile.specs.Laws.{BuiltIsAccepted}
 use Rattle.htl_ecode.proofs.LayoutLaw.{layout_departs_not, modes_length}
@@ -62,12 +62,12 @@ few_instrs t r =
     let n = length t.modes in
     omega (arith, modes_length t (enter_places t n) n, place_room t n r (omega arith))
 
-pub object_accepted : (t : Tables) → AreInRange t → KeepsLimits t → Formed t → FitPlaces t → All IsCode t.functions → AreSchedulable t → IsAccepted (object_of t)
-object_accepted t r limits formed fit code free =
+pub object_accepted : (platform : Option (List ℕ)) (t : Tables) → AreInRange t → KeepsLimits t → Formed t → FitPlaces t → All IsCode t.functions → AreSchedulable t → IsAccepted (object_for platform t)
+object_accepted platform t r limits formed fit code free =
     let n = length t.modes in
     let plan = plannable t r (kept_12 t formed) limits in
     let spells : Spells t (layout t) = (spells_or_departs t (layout t)).1 (layout_departs_not t) in
-    let ranges : IsInRange (object_of t) =
+    let ranges : IsInRange (object_for platform t) =
     record {
       tables = r;
       limits = limits;
@@ -93,7 +93,7 @@ schedulable_same t free = λ sel less.
     (free sel (subst (λ (n : ℕ). sel < n) (sym (selection_count_same t (codes t))) less))
 
 pub built_accepted : BuiltIsAccepted
-built_accepted t h =
+built_accepted platform t h =
     let s = h.can.tables in
-    object_accepted (coded t) (coded_in_range t s.ranges s.small h.can.typed) (limits_same t (codes t) s.limits) (formed_same t t.functions (codes t) h.formed)
+    object_accepted platform (coded t) (coded_in_range t s.ranges s.small h.can.typed) (limits_same t (codes t) s.limits) (formed_same t t.functions (codes t) h.formed)
     (coded_fit t s.ranges s.small h.can.typed) (codes_are_code t s.ranges s.small h.can.typed) (schedulable_same t h.schedulable)

@@ -6,8 +6,10 @@ mod Examples
 pub mod FromSource
 pub mod FunctionLaws
 pub mod FunctionTokens
+pub mod OnPlatform
 pub mod PhaseLaws
 pub mod PlanLaws
+pub mod PlatformTables
 pub mod SourceLaws
 pub mod SourceTables
 pub mod TokenPlaces

@@ -1,13 +1,15 @@
 -- Why no object is built of tables, and why none is compiled of a source.
-use Rattle.std.specs.Prelude.{◌≡◌, ◌<◌, ◌≤◌, ℕ, List, length, pos}
+use Rattle.std.specs.Prelude.{◌≡◌, ◌<◌, ◌≤◌, ℕ, Option, List, length, pos}
 use Rattle.htl_base.specs.declared.limits.TheConstants.{MAX_SOURCE}
-use Rattle.htl_compile.specs.Built.{built, CanBuild}
+use Rattle.htl_compile.specs.Built.{object_for, built, AreSchedulable, CanBuild}
 use Rattle.htl_compile.specs.Coded.{AreTyped}
 use Rattle.htl_compile.specs.Sources.{IsTablesOf, IsSourceFault}
 use Rattle.htl_compile.specs.declared.building.BackFault.{BackFault}
 use Rattle.htl_compile.specs.declared.building.BackFault.TheVariants as back
 use Rattle.htl_compile.specs.declared.compiling.CompileFault.{CompileFault}
 use Rattle.htl_compile.specs.declared.compiling.CompileFault.TheVariants as compile
+use Rattle.htl_compile.specs.declared.source.FrontFault.{FrontFault}
+use Rattle.htl_compile.specs.declared.source.FrontFault.TheVariants as front
 use Rattle.htl_edf.specs.Lists.{tightened}
 use Rattle.htl_edf.specs.Windows.{Reported, NoOverload}
 use Rattle.htl_edf.specs.declared.plan.PlanFault.{PlanFault}
@@ -37,6 +39,13 @@ abbrev pub IsBackFault : Tables → BackFault → Type 0
 IsBackFault t (back.IllFormed f) = IsFirstBroken t f
 IsBackFault t (back.Unschedulable sel a b demand) = Formed t × IsFirstOverload t sel a b demand
 IsBackFault t back.Memory = Unit {0}
+
+-- The tables with code break no form rule and have no overloaded root selection, and the bytes are those of their object.
+pub record IsObjectOf (platform : Option (List ℕ)) (t : Tables) (bytes : List ℕ) : Type 0 where
+  pub formed : Formed t
+  pub schedulable : AreSchedulable t
+  pub object : IsObject (object_for platform t)
+  pub is : bytes ≡ object_bytes (object_for platform t)
 
 -- ---- of a source
 
@@ -68,3 +77,14 @@ abbrev pub unbuilt_of : BackFault → CompileFault
 unbuilt_of (back.IllFormed f) = compile.IllFormed f
 unbuilt_of (back.Unschedulable sel a b demand) = compile.Unschedulable sel a b demand
 unbuilt_of back.Memory = compile.Memory
+
+-- a fault of the tables, as one of compiling
+pub record IsUnbuilt (t : Tables) (f : CompileFault) : Type 0 where
+  pub of : BackFault
+  pub fault : IsBackFault t of
+  pub is : f ≡ unbuilt_of of
+
+-- a fault of the source alone, as one of compiling
+abbrev pub unread_of : FrontFault → CompileFault
+unread_of (front.Source f) = compile.Source f
+unread_of front.Memory = compile.Memory

@@ -1,5 +1,5 @@
 -- The object of tables.
-use Rattle.std.specs.Prelude.{◌<◌, ℕ, List}
+use Rattle.std.specs.Prelude.{◌<◌, ℕ, List, Option, None}
 use Rattle.htl_compile.specs.Coded.{coded, CanCode}
 use Rattle.htl_ecode.specs.Layout.{layout}
 use Rattle.htl_edf.specs.Code.{edf_schedule}
@@ -20,13 +20,20 @@ schedule_of t sel = record { instrs = edf_schedule (abstract_jobs t sel) (round_
 abbrev pub schedules : Tables → List Schedule
 schedules t = list_to (schedule_of t) (selection_count t)
 
--- tables with code, their E code in the generated layout, and their schedules
+-- tables with code, their E code in the generated layout, and their schedules, for a platform where one is named
+abbrev pub object_for : Option (List ℕ) → Tables → Object
+object_for platform t = record { tables = t; ecode = layout t; schedules = schedules t; platform = platform }
+
 abbrev pub object_of : Tables → Object
-object_of t = record { tables = t; ecode = layout t; schedules = schedules t }
+object_of t = object_for None t
 
 -- the object of tables: their functions in postfix form, the generated layout and the schedules
+abbrev pub built_with : Option (List ℕ) → Tables → Object
+built_with platform t = object_for platform (coded t)
+
+-- and no platform
 abbrev pub built : Tables → Object
-built t = object_of (coded t)
+built t = built_with None t
 
 -- no interval of any root selection is overloaded
 abbrev pub AreSchedulable : Tables → Type 0

@@ -1,7 +1,7 @@
 -- The laws of compiling.
-use Rattle.std.specs.Prelude.{◌≡◌, ◌<◌, ◌≤◌, ℕ, ℤ, List, length}
+use Rattle.std.specs.Prelude.{◌≡◌, ◌<◌, ◌≤◌, ℕ, ℤ, Option, List, length}
 use Rattle.htl_base.specs.declared.limits.TheConstants.{MAX_SOURCE}
-use Rattle.htl_compile.specs.Built.{built, AreSchedulable, CanBuild}
+use Rattle.htl_compile.specs.Built.{built_with, AreSchedulable, CanBuild}
 use Rattle.htl_compile.specs.Building.{IsBackFault, IsCompileFault}
 use Rattle.htl_compile.specs.Coded.{coded, AreTyped, AreSourceTables}
 use Rattle.htl_compile.specs.Sources.{IsTablesOf, IsFrontFault}
@@ -22,9 +22,9 @@ use Rattle.htl_model.specs.Tables.{Tables}
 use Rattle.htl_object.specs.Accepted.{IsAccepted}
 use Rattle.htl_walk.specs.Jobs.{abstract_jobs}
 
--- what is built is accepted
+-- what is built is accepted, also with a platform's name
 abbrev pub BuiltIsAccepted : Type 0
-BuiltIsAccepted = (t : Tables) → CanBuild t → IsAccepted (built t)
+BuiltIsAccepted = (platform : Option (List ℕ)) (t : Tables) → CanBuild t → IsAccepted (built_with platform t)
 
 -- with code in the place of functions, tables have the same states, values, modes and lines
 abbrev pub CodedRunsTheSame : Type 0

@@ -1,13 +1,13 @@
 // From tables with code to the object.
 ghost use Rattle.std.specs.Prelude.{◌≡◌, ◌⊎◌, IfOk, IfErr, OnOk, MatchResult};
 ghost use Rattle.htl_compile.specs.Building.{IsBackFault, unplanned_of};
-ghost use Rattle.htl_compile.specs.Built.{object_of, AreSchedulable};
+ghost use Rattle.htl_compile.specs.Built.{object_of, object_for, AreSchedulable};
 ghost use Rattle.htl_compile.specs.declared.building.BackFault.{BackFault as FaultOf};
 ghost use Rattle.htl_model.specs.Broken.{Formed, KeepsLimits, IsFirstBroken};
 ghost use Rattle.htl_model.specs.FunctionTypes.{FitPlaces};
 ghost use Rattle.htl_object.specs.Accepted.{IsAccepted};
 
-use htl_base::{Memory, Seq, Time};
+use htl_base::{Memory, Name, Seq, Time};
 use htl_ecode::generate_e;
 use htl_edf::{PlanFault, edf_all};
 use htl_form::form;
@@ -66,11 +66,15 @@ fn unplanned(fault: PlanFault) -> BackFault
     }
 }
 
-// The object of tables, or their first fault.
-fn build(alloc: Global, t: Tables) -> Result<Object, (Tables, BackFault)>
+/// The object of tables, for a platform where one is named; else as `back`.
+pub fn back_for(
+    alloc: Global,
+    t: Tables,
+    platform: Option<Name>,
+) -> Result<Object, (Tables, BackFault)>
     requires functions { FitPlaces t }
     requires limits { KeepsLimits t }
-    ensures built { IfOk result (λ o. o ≡ object_of t) }
+    ensures built { IfOk result (λ o. o ≡ object_for platform t) }
     ensures formed { IfOk result (λ _. Formed t) }
     ensures schedulable { IfOk result (λ _. AreSchedulable t) }
     ensures accepted { IfOk result (λ o. IsAccepted o) }
@@ -89,13 +93,14 @@ fn build(alloc: Global, t: Tables) -> Result<Object, (Tables, BackFault)>
             tables: t,
             ecode,
             schedules: Seq::new(schedules),
+            platform,
         }),
         Err(Memory) => Err((t, BackFault::Memory)),
     }
 }
 
 /// The object of tables: the tables themselves, their E code in the generated layout, and for each root selection the schedule
-/// of earliest deadline first. The functions are verified code of the types of their places, and the tables keep the limits
+/// of earliest deadline first; it names no platform. The functions are verified code of the types of their places, and the tables keep the limits
 /// on root selections and positions.
 ///
 /// The object is accepted, so it can be loaded. A refusal comes exactly where a form rule is broken, with the first, or else
@@ -114,5 +119,5 @@ pub fn back(alloc: Global, t: Tables) -> Result<Object, (Tables, BackFault)>
         → MatchResult result (λ _. ⊥) (λ e. (e.1 ≡ f) ⊎ (e.1 ≡ BackFault.Memory)) }
 {
     t.keeps_ranges();
-    build(alloc, t)
+    back_for(alloc, t, None)
 }

@@ -1,20 +1,21 @@
 // From a source to the bytes of its object.
 ghost use Rattle.std.specs.Prelude.{◌≡◌, ◌⊎◌, ◌≤◌, length, IfOk, IfErr, MatchResult};
 ghost use Rattle.htl_base.specs.declared.limits.TheConstants as limit;
-ghost use Rattle.htl_compile.specs.Building.{IsCompiledTo, IsCompileFault, unbuilt_of};
+ghost use Rattle.htl_compile.specs.Building.{IsObjectOf, IsUnbuilt, IsCompiledTo, IsCompileFault, unbuilt_of, unread_of};
 ghost use Rattle.htl_compile.specs.Built.{AreSchedulable, built};
 ghost use Rattle.htl_compile.specs.Coded.{AreTyped};
 ghost use Rattle.htl_compile.specs.Sources.{IsTablesOf};
 ghost use Rattle.htl_compile.specs.declared.compiling.CompileFault.{CompileFault as FaultOf};
-ghost use Rattle.htl_model.specs.Broken.{Formed};
+ghost use Rattle.htl_model.specs.Broken.{Formed, KeepsLimits};
+ghost use Rattle.htl_model.specs.FunctionTypes.{FitPlaces};
 ghost use Rattle.htl_model.specs.Tables.{Tables as TablesOf};
 ghost use Rattle.htl_object.specs.Objects.{object_bytes};
 
-use crate::building::{BackFault, back};
+use crate::building::{BackFault, back_for};
 use crate::source::{FrontFault, front};
 use crate::source_fault::SourceFault;
-use htl_base::{Memory, Time};
-use htl_model::FormFault;
+use htl_base::{Memory, Name, Time};
+use htl_model::{FormFault, Tables};
 use htl_object::encode;
 use std::alloc::Global;
 
@@ -61,24 +62,46 @@ fn unbuilt(fault: BackFault) -> CompileFault
     }
 }
 
-// The bytes of a source's object, or its first fault.
-fn compile_source(alloc: Global, bytes: &[u8]) -> Result<Vec<u8>, CompileFault>
-    requires { length bytes.now ≤ limit.MAX_SOURCE }
-    ensures compiled { IfOk result (λ v. IsCompiledTo bytes.now v.items) }
-    ensures fault { IfErr result (IsCompileFault bytes.now) }
+// A fault of a source alone, as a fault of compiling it.
+pub(crate) fn unread(fault: FrontFault) -> CompileFault
+    ensures { result ≡ unread_of fault }
 {
-    let tables = match front(alloc, bytes) {
-        Ok(tables) => tables,
-        Err(FrontFault::Source(fault)) => return Err(CompileFault::Source(fault)),
-        Err(FrontFault::Memory) => return Err(CompileFault::Memory),
-    };
-    let object = match back(alloc, tables) {
+    match fault {
+        FrontFault::Source(fault) => CompileFault::Source(fault),
+        FrontFault::Memory => CompileFault::Memory,
+    }
+}
+
+// The bytes of the object of tables, for a platform where one is named; or the fault of the tables.
+pub(crate) fn compile_tables(
+    alloc: Global,
+    tables: Tables,
+    platform: Option<Name>,
+) -> Result<Vec<u8>, CompileFault>
+    requires functions { FitPlaces tables }
+    requires limits { KeepsLimits tables }
+    ensures object { IfOk result (λ v. IsObjectOf platform tables v.items) }
+    ensures fault { IfErr result (IsUnbuilt tables) }
+{
+    let object = match back_for(alloc, tables, platform) {
         Ok(object) => object,
         Err((_tables, fault)) => return Err(unbuilt(fault)),
     };
     match encode(alloc, &object) {
         Ok(bytes) => Ok(bytes),
         Err(Memory) => Err(CompileFault::Memory),
+    }
+}
+
+// The bytes of a source's object, or its first fault.
+fn compile_source(alloc: Global, bytes: &[u8]) -> Result<Vec<u8>, CompileFault>
+    requires { length bytes.now ≤ limit.MAX_SOURCE }
+    ensures compiled { IfOk result (λ v. IsCompiledTo bytes.now v.items) }
+    ensures fault { IfErr result (IsCompileFault bytes.now) }
+{
+    match front(alloc, bytes) {
+        Ok(tables) => compile_tables(alloc, tables, None),
+        Err(fault) => Err(unread(fault)),
     }
 }
 

@@ -2,7 +2,7 @@
 ghost use Rattle.htl_compile.specs.Laws.{BuiltIsAccepted, CodedRunsTheSame, OneTables, SourceTablesFit, NoneForOverloaded, FrontOnlyMemory, BackOnlyMemory, CompileOnlyMemory, OneFrontFault, OneBackFault, OneCompileFault};
 
 /// The object of tables in range that keep the limits and the form rules, whose functions are typed, and of whose root
-/// selections none is overloaded, is accepted.
+/// selections none is overloaded, is accepted, for whatever platform it is named.
 pub fn built_is_accepted()
     ensures { BuiltIsAccepted }
 {}

@@ -1,15 +1,17 @@
 //! The compiler: from a source to tables with function code, from these to an object, and from a source to the bytes of
-//! its object.
+//! its object, also on a platform.
 #![tactic(auto)]
 
 mod building;
 mod compiling;
+mod compiling_on;
 mod functions;
 pub mod laws;
 mod source;
 mod source_fault;
 
-pub use building::{BackFault, back};
+pub use building::{BackFault, back, back_for};
 pub use compiling::{CompileFault, compile};
+pub use compiling_on::{WithFault, compile_with, on_platform};
 pub use source::{FrontFault, front};
 pub use source_fault::SourceFault;

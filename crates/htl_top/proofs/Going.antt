@@ -1,5 +1,5 @@
 -- What `go` answers, by its source.
-use Rattle.std.proofs.Common.{arith, ◌≡◌, ◌≤◌, ◌<◌, ◌⊎◌, ℕ, List, length, Option, Some, Ok, Err, refl, sym, ap, ◌∙◌, subst, inl, inr}
+use Rattle.std.proofs.Common.{arith, ◌≡◌, ◌≤◌, ◌<◌, ◌⊎◌, ℕ, List, length, Option, None, Some, Ok, Err, refl, sym, ap, ◌∙◌, subst, inl, inr}
 use Rattle.std.specs.FinMap.{get}
 use Rattle.htl_base.specs.declared.limits.TheConstants.{MAX_SOURCE}
 use Rattle.htl_compile.proofs.BuiltLaws.{built_accepted}
@@ -57,13 +57,13 @@ pub not_refused : (source bytes : List ℕ) (e : LoadFault) (f : ObjectFault) (c
     → e ≡ load.Refused f → ⊥
 not_refused source bytes e f compiled only is =
     subst (λ (g : LoadFault). IsLoadedAs (built compiled.tables) (Err g)) is
-    (only (built compiled.tables) (made source bytes compiled) (built_accepted compiled.tables compiled.can))
+    (only (built compiled.tables) (made source bytes compiled) (built_accepted None compiled.tables compiled.can))
 
 -- and their object is run
 pub run_made : (bytes : List ℕ) (l : ObjectOf) (old new : Streams) (outcome : Outcome) → ((o : ObjectOf) → HasBytes bytes o → IsAccepted o → IsLoadedAs o (Ok l))
     → IsRun Jobs l.tables l old new outcome → (source : List ℕ) (compiled : IsCompiledTo source bytes) → IsRun Jobs compiled.tables (built compiled.tables) old new outcome
 run_made bytes l old new outcome only run source compiled =
-    let same : l ≡ built compiled.tables = only (built compiled.tables) (made source bytes compiled) (built_accepted compiled.tables compiled.can) in
+    let same : l ≡ built compiled.tables = only (built compiled.tables) (made source bytes compiled) (built_accepted None compiled.tables compiled.can) in
     IsRun-source Jobs compiled.tables (built compiled.tables) old new outcome (subst (λ (o : ObjectOf). IsRun Jobs o.tables o old new outcome) same run)
 
 pub bytes_run : (bytes object slice : List ℕ) (old new : Streams) (outcome result : Outcome) → slice ≡ object → outcome ≡ result → IsCompiledTo bytes object

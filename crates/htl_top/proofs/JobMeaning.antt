@@ -1,5 +1,5 @@
 -- What `go` shows of the jobs of a source, down to the lines.
-use Rattle.std.proofs.Common.{◌≡◌, ℕ, List, ◌++◌, refl, sym, ap, ◌∙◌}
+use Rattle.std.proofs.Common.{◌≡◌, ℕ, List, ◌++◌, None, refl, sym, ap, ◌∙◌}
 use Rattle.htl_compile.proofs.BuiltLaws.{built_accepted}
 use Rattle.htl_compile.specs.Built.{built}
 use Rattle.htl_compile.specs.Coded.{coded, codes}
@@ -26,7 +26,7 @@ go_job_lines t es now can =
 
 pub go_in_time : GoTellsJobsInTime
 go_in_time t script events period end can whole root =
-    let loaded = accepted_is_loaded (built t) (built_accepted t can) in
+    let loaded = accepted_is_loaded (built t) (built_accepted None t can) in
     let are = (whole-script (coded t) script events end (sym (script_same t (codes t) script) ∙ whole)).0 in (
       run_shows (coded t) (schedules_of (built t)) events (built t).ecode Jobs refl end,
       told_in_time (coded t) (schedules_of (built t)) loaded events (took_within (coded t) events are) period end root,

@@ -23,7 +23,7 @@ use Rattle.htl_walk.specs.declared.schedule.SInstr.TheVariants.{Dispatch, End}
 -- `sensor int s period 10 init 0; communicator int u period 10 init 7;` and a module `M` whose mode `m` has the period 20 and invokes a
 -- task `dbl` of 4 ticks: it reads `s` at 0 and writes twice that to `u` at 10
 abbrev object : Object
-object = record { tables = doubling; ecode = layout doubling; schedules = (record { instrs = Dispatch 0 4 ∷ End ∷ [] }) ∷ [] }
+object = record { tables = doubling; ecode = layout doubling; schedules = (record { instrs = Dispatch 0 4 ∷ End ∷ [] }) ∷ []; platform = None }
 
 no_end : script_of doubling (codes "at 0\nsense s 3\nat 10\nsense s 5\n")
     ≡ Bad 5 kind.NoEnd (event.At 0 ∷ event.Sense 0 (pos 3) ∷ event.At 10 ∷ event.Sense 0 (pos 5) ∷ [])

@@ -53,6 +53,6 @@ go_shows t es now can =
 
 pub go_keeps : GoKeepsDeadlines
 go_keeps t script events period end can whole root =
-    let loaded = accepted_is_loaded (built t) (built_accepted t can) in
+    let loaded = accepted_is_loaded (built t) (built_accepted None t can) in
     let are = (whole-script (coded t) script events end (sym (script_same t (codes t) script) ∙ whole)).0 in
     all_served (coded t) (schedules_of (built t)) loaded events (took_within (coded t) events are) period end root

@@ -6,7 +6,7 @@ use Rattle.htl_top.specs.Objects.{Work, IsTextAnswer}
 
 -- the listing of an object
 abbrev pub show_text : Object → List ℕ
-show_text o = listing o.tables o.ecode o.schedules
+show_text o = listing o.platform o.tables o.ecode o.schedules
 
 -- the listing is written
 abbrev pub IsShown : Work

@@ -35,7 +35,7 @@ fn accepted_objects_are_told(rt: HostRuntime) -> Result<(), Fail> {
 // Bytes that are no object, and tables that break a form rule.
 #[test]
 fn bytes_and_forms_are_refused(rt: HostRuntime) -> Result<(), Fail> {
-    let table: [(&[u8], usize, &[u8], bool, &str); 9] = [
+    let table: [(&[u8], usize, &[u8], bool, &str); 10] = [
         // its last byte is missing
         (
             &NO_MODULE,
@@ -64,9 +64,17 @@ fn bytes_and_forms_are_refused(rt: HostRuntime) -> Result<(), Fail> {
         (
             &NO_MODULE,
             5,
-            &[2],
+            &[3],
             true,
             "htl: object malformed version 4\n",
+        ),
+        // no platform's name
+        (
+            &NO_MODULE,
+            5,
+            &[2],
+            true,
+            "htl: object malformed spelling 6\n",
         ),
         // no name
         (

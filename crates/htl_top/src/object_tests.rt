@@ -67,7 +67,8 @@ fn bad_fields_are_told(rt: HostRuntime) -> Result<(), Fail> {
     // A byte's place, its new value, and the bad field.
     let table = [
         (0, 73, MalKind::Magic, 0), // magic
-        (5, 2, MalKind::Version, 4), // version
+        (5, 3, MalKind::Version, 4), // version
+        (5, 2, MalKind::Spelling, 6), // platform: no name
         (6, 255, MalKind::Index, 6), // count of comms
         (8, 255, MalKind::Index, 8), // count of modes
         (10, 255, MalKind::Index, 10), // count of modules

@@ -19,7 +19,8 @@ use std::alloc::Global;
 fn write_listing<W: Sink>(out: &mut W, l: &Loaded) -> Result<(), Failed>
     ensures { Puts (W.written out.old) (W.written out.new) (W.faults out.old) (W.faults out.new) (show_text l.now) result }
 {
-    show(out, l.tables(), l.ecode(), l.schedules())
+    let platform = l.platform();
+    show(out, platform.as_ref(), l.tables(), l.ecode(), l.schedules())
 }
 
 // Lists an accepted object.

@@ -7,7 +7,7 @@ use Rattle.htl_model.specs.FormRules.{Offsets}
 use Rattle.htl_object.specs.Accepted.{IsAccepted}
 use Rattle.htl_object.specs.declared.object.Object.{Object}
 use Rattle.htl_walk.specs.declared.schedule.Schedule.{Schedule}
-use Rattle.htl_compile.proofs.building.build.Goals as goal
+use Rattle.htl_compile.proofs.building.back_for.Goals as goal
 
 pub edf_all-requires-clause-formed : goal.edf_all-requires-clause-formed
 edf_all-requires-clause-formed c = kept_12 c.args.t c.in_default.ensures.formed
@@ -21,7 +21,7 @@ returns-in-Err-edf_all-clause-fault c =
 
 pub returns-in-Ok-generate_e-clause-built : goal.returns-in-Ok-generate_e-clause-built
 returns-in-Ok-generate_e-clause-built c =
-    let make : ECode → List Schedule → Object = λ code ss. record { tables = c.args.t; ecode = code; schedules = ss } in
+    let make : ECode → List Schedule → Object = λ code ss. record { tables = c.args.t; ecode = code; schedules = ss; platform = c.args.platform } in
     ap₂ make c.in-Ok-generate_e.ensures.layout (c.new.ensures ∙ planned_is c.args.t c.in-Ok.schedules.items c.in-Ok.ensures.planned)
 
 pub returns-in-Ok-generate_e-clause-schedulable : goal.returns-in-Ok-generate_e-clause-schedulable
@@ -29,8 +29,8 @@ returns-in-Ok-generate_e-clause-schedulable c = planned_free c.args.t c.in-Ok.sc
 
 pub returns-in-Ok-generate_e-clause-accepted : goal.returns-in-Ok-generate_e-clause-accepted
 returns-in-Ok-generate_e-clause-accepted c =
-    let make : ECode → List Schedule → Object = λ code ss. record { tables = c.args.t; ecode = code; schedules = ss } in
+    let make : ECode → List Schedule → Object = λ code ss. record { tables = c.args.t; ecode = code; schedules = ss; platform = c.args.platform } in
     let is = ap₂ make c.in-Ok-generate_e.ensures.layout (c.new.ensures ∙ planned_is c.args.t c.in-Ok.schedules.items c.in-Ok.ensures.planned) in
     subst (λ (o : Object). IsAccepted o) (sym is)
-    (object_accepted c.args.t c.keeps_ranges.ensures.ranges c.requires.limits c.in_default.ensures.formed c.requires.functions
+    (object_accepted c.args.platform c.args.t c.keeps_ranges.ensures.ranges c.requires.limits c.in_default.ensures.formed c.requires.functions
     (fitting_are_code c.args.t c.keeps_ranges.ensures.ranges c.requires.functions) (planned_free c.args.t c.in-Ok.schedules.items c.in-Ok.ensures.planned))

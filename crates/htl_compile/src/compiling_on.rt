@@ -1,0 +1,95 @@
+// From a source and a platform file to the bytes of the source's object on the platform.
+ghost use Rattle.std.specs.Prelude.{◌≡◌, ◌⊎◌, ◌≤◌, length, Ok, IfOk, IfErr, MatchResult};
+ghost use Rattle.htl_base.specs.declared.limits.TheConstants as limit;
+ghost use Rattle.htl_compile.specs.Built.{AreSchedulable};
+ghost use Rattle.htl_compile.specs.Coded.{AreTyped};
+ghost use Rattle.htl_compile.specs.OnPlatform.{built_on, IsOn, IsNoPlatform, IsCompiledOn, IsWithFault};
+ghost use Rattle.htl_compile.specs.Sources.{IsTablesOf};
+ghost use Rattle.htl_compile.specs.declared.compiling.CompileFault.TheVariants as failing;
+ghost use Rattle.htl_compile.specs.declared.compiling_on.WithFault.{WithFault as FaultOf};
+ghost use Rattle.htl_model.specs.Broken.{Formed, KeepsLimits};
+ghost use Rattle.htl_model.specs.FunctionTypes.{FitPlaces};
+ghost use Rattle.htl_model.specs.Tables.{Tables as TablesOf};
+ghost use Rattle.htl_object.specs.Objects.{object_bytes};
+ghost use Rattle.htl_platform.specs.Applied.{with_worst};
+ghost use Rattle.htl_platform.specs.Platforms.{platform_of};
+ghost use Rattle.htl_platform.specs.declared.platform.Platform.{Platform as PlatformOf};
+
+use crate::compiling::{CompileFault, compile_tables, unread};
+use crate::source::front;
+use htl_base::Name;
+use htl_model::Tables;
+use htl_platform::{PlatformFault, PlatformStop, apply, read_platform};
+use std::alloc::Global;
+
+/// Why a source isn't compiled for a platform.
+#[derive(Clone, Copy, PartialEq, Eq, Debug)]
+pub enum WithFault {
+    /// The source has a fault; or neither the source nor the platform file has one, and the tables with the platform's worst
+    /// cases break a form rule or have an overloaded root selection; or no memory was left.
+    Compile(CompileFault),
+    /// The source has no fault, and this is the platform file's first.
+    Platform(PlatformFault),
+}
+
+/// Tables with the worst cases of the platform that a file says, and the platform's name; or the file's first fault for these
+/// tables. They keep the types of functions and the limits. The cost is that of reading the file.
+pub fn on_platform(
+    alloc: Global,
+    t: Tables,
+    platform: &[u8],
+) -> Result<(Tables, Name), PlatformStop>
+    requires functions { FitPlaces t }
+    requires limits { KeepsLimits t }
+    ensures on { IfOk result (λ u. IsOn t platform.now u.0 u.1) }
+    ensures functions { IfOk result (λ u. FitPlaces u.0) }
+    ensures limits { IfOk result (λ u. KeepsLimits u.0) }
+    ensures refused { IfErr result (IsNoPlatform t platform.now) }
+{
+    match read_platform(alloc, platform, &t) {
+        Ok(read) => Ok((apply(t, &read), read.name)),
+        Err(stop) => Err(stop),
+    }
+}
+
+// The bytes of a source's object on a platform, or the first fault.
+fn compile_on(alloc: Global, bytes: &[u8], platform: &[u8]) -> Result<Vec<u8>, WithFault>
+    requires { length bytes.now ≤ limit.MAX_SOURCE }
+    ensures compiled { IfOk result (λ v. IsCompiledOn bytes.now platform.now v.items) }
+    ensures fault { IfErr result (IsWithFault bytes.now platform.now) }
+{
+    let tables = match front(alloc, bytes) {
+        Ok(tables) => tables,
+        Err(fault) => return Err(WithFault::Compile(unread(fault))),
+    };
+    let (tables, name) = match on_platform(alloc, tables, platform) {
+        Ok(placed) => placed,
+        Err(PlatformStop::Refused(fault)) => return Err(WithFault::Platform(fault)),
+        Err(PlatformStop::Memory) => return Err(WithFault::Compile(CompileFault::Memory)),
+    };
+    match compile_tables(alloc, tables, Some(name)) {
+        Ok(bytes) => Ok(bytes),
+        Err(fault) => Err(WithFault::Compile(fault)),
+    }
+}
+
+/// The bytes of the object of a source on the platform that a file says: the object of the source's tables with the platform's
+/// worst cases, which names the platform. Source and file have at most 1,048,576 bytes each. The object is accepted, so loading
+/// the bytes gives it back, or want of memory.
+///
+/// It is refused exactly where the source has a fault, else where the file has one for the source's tasks, else where the tables
+/// with the platform's worst cases break a form rule or have an overloaded root selection; with the first of these. `TooLong` is
+/// never the answer. Want of memory, `CompileFault::Memory`, may stand in place of any answer.
+pub fn compile_with(alloc: Global, bytes: &[u8], platform: &[u8]) -> Result<Vec<u8>, WithFault>
+    requires source { length bytes.now ≤ limit.MAX_SOURCE }
+    requires platform { length platform.now ≤ limit.MAX_SOURCE }
+    ensures compiled { IfOk result (λ v. IsCompiledOn bytes.now platform.now v.items) }
+    ensures fault { IfErr result (IsWithFault bytes.now platform.now) }
+    ensures only { (t : TablesOf) (p : PlatformOf) → IsTablesOf bytes.now t → AreTyped t → platform_of t platform.now ≡ Ok p
+        → Formed (with_worst t p.worst) → AreSchedulable (with_worst t p.worst)
+        → MatchResult result (λ v. v.items ≡ object_bytes (built_on p t)) (λ f. f ≡ WithFault.Compile failing.Memory) }
+    ensures refused { (f : FaultOf) → (f ≡ WithFault.Compile failing.Memory → ⊥) → IsWithFault bytes.now platform.now f
+        → MatchResult result (λ _. ⊥) (λ g. (g ≡ f) ⊎ (g ≡ WithFault.Compile failing.Memory)) }
+{
+    compile_on(alloc, bytes, platform)
+}
