@@ -1,4 +1,4 @@
-# Behind lines.awk: a timeline of the run as SVG. A long run is drawn in several rows, each of which has every lane:
+# Behind lines.awk, with svg-signs.awk: a timeline of the run as SVG. A long run is drawn in several rows, each of which has every lane:
 # the modes of each module as bands, each communicator as steps, the slices and finishes of each invocation.
 
 function escaped(text) {
@@ -29,10 +29,12 @@ function lane(name, height,    n) {
 	printf "<path class=\"grid\" d=\"M8 %sH%s\"/>\n", y + height, right
 }
 
-# Skips the label where the one before it reaches so far, or where it would leave the picture. Sets `free`, where labels end.
+# Skips the label where the one before it reaches so far; one that would leave the picture stands before its place, where
+# there is room. Sets `free`, where labels end.
 function label(x, height, class, content, room,    wide) {
 	wide = 6.1 * length(content)
-	if (x < free || x + wide > right + 16 || wide > room) return
+	if (x + wide > right + 16) x = right + 16 - wide
+	if (x < free || wide > room) return
 	text(x, height, class, content)
 	free = x + wide + 5
 }
@@ -85,7 +87,7 @@ function job_lane(j,    k, a, b, x) {
 	for (k = 1; k <= finishes[j]; k++) {
 		a = done[j, k]
 		if (a < begin || a > finish || a == begin && begin > 0) continue
-		printf "<path class=\"done\" d=\"M%s %sv20m-4 -20h8l-4 6z\"><title>%s is done at %s</title></path>\n", x_of(a), y + 3, name_j[j], a
+		printf "<path class=\"done\" d=\"M%s %sm-4 0h8l-4 6z\"><title>%s is done at %s</title></path>\n", x_of(a), y + 1, name_j[j], a
 	}
 	y += 26
 }
@@ -98,18 +100,6 @@ function axis(height,    time) {
 		if (time >= begin) label(x_of(time) - 3 * length(time), y + 12, "axis", time "", 1000)
 	}
 	y += 20
-}
-
-function style() {
-	print "<style>"
-	print "text{font:10px ui-monospace,Menlo,Consolas,\"DejaVu Sans Mono\",monospace;fill:#1f2328}.title{font-size:13px}.name{text-anchor:end}"
-	print ".axis{fill:#59636e}.back{fill:#fff}.grid{stroke:#d8dee4;stroke-width:.7;fill:none}.step{stroke:#0550ae;stroke-width:1.6;fill:none}"
-	print ".dot{fill:#0550ae}.slice{fill:#1a7f37}.done{stroke:#b3261e;fill:#b3261e;stroke-width:1.2}.mode{stroke:#fff;stroke-width:.8}"
-	print ".h0{fill:#cfe3ff}.h1{fill:#ffe2b8}.h2{fill:#d3f2d6}.h3{fill:#eedcff}.h4{fill:#ffd9dd}.h5{fill:#d2f0f2}"
-	print "@media (prefers-color-scheme:dark){text{fill:#e6edf3}.axis{fill:#9198a1}.back{fill:#0d1117}.grid{stroke:#30363d}"
-	print ".step{stroke:#79c0ff}.dot{fill:#79c0ff}.slice{fill:#3fb950}.done{stroke:#ff8a80;fill:#ff8a80}.mode{stroke:#0d1117}"
-	print ".h0{fill:#1c3f6e}.h1{fill:#6b4310}.h2{fill:#1d5a2a}.h3{fill:#51317a}.h4{fill:#7a2a33}.h5{fill:#155e63}}"
-	print "</style>"
 }
 
 END {
@@ -132,7 +122,9 @@ END {
 	printf "<svg xmlns=\"http://www.w3.org/2000/svg\" viewBox=\"0 0 %s %s\" width=\"%s\" height=\"%s\">\n", right + 24, 36 + rows * (height + 38), right + 24, 36 + rows * (height + 38)
 	style()
 	printf "<rect class=\"back\" width=\"100%%\" height=\"100%%\"/>\n"
-	text(8, 22, "title", totals == "" ? "lines of a run up to " last ", without its totals" : totals)
+	title = totals == "" ? "lines of a run up to " last ", without its totals" : totals
+	text(8, 22, "title", title)
+	legend(8 + 7.9 * length(title) + 24)
 	y = 36
 	for (row = 0; row < rows; row++) {
 		begin = row * span

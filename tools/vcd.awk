@@ -1,6 +1,7 @@
 # Behind lines.awk: the run as a Value Change Dump. A communicator whose values are 0 and 1 alone is a wire, another an
 # integer of 64 bits; each mode is a wire, and each module has its mode's name as a string too, as GTKWave takes them; each
-# invocation is a wire that is 1 while it runs, with an event where it is done. One time unit of the dump is one tick.
+# invocation is a wire that is 1 while it runs, with an event where it is done. One time unit of the dump is one tick,
+# of the length `unit`.
 
 # A short name of printable signs for the signal of that number, from 1.
 function code(number,    text) {
@@ -114,7 +115,7 @@ function runs(    j, k, id) {
 
 END {
 	print "$comment the lines of a run of htl; one unit of time is one tick $end"
-	print "$timescale 1 ms $end"
+	print "$timescale " (unit + 0) " " substr(unit, length(unit + 0 "") + 1) " $end"
 	values()
 	modes()
 	runs()

@@ -1,0 +1,3 @@
+" Comments, for commands that make or join them.
+setlocal commentstring=//\ %s comments=://
+let b:undo_ftplugin = "setlocal commentstring< comments<"
