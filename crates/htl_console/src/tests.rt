@@ -301,7 +301,7 @@ fn a_platform_is_named_first(rt: HostRuntime) -> Result<(), Fail> {
     let name = Name::new(b"fast").expect(&rt, "name");
     let mut page = Page::new(alloc, 30, &[])?;
     assert_eq!(rt; show(&mut page, Some(&name), &t, &code, &[]), Err(Failed));
-    assert_eq!(rt; page.bytes(), b"platform fast\nsensor s int pe".as_slice());
+    assert_eq!(rt; page.bytes(), b"platform fast\nsensor s int per".as_slice());
     Ok(())
 }
 

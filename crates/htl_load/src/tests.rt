@@ -309,7 +309,7 @@ fn objects_and_their_first_faults(rt: HostRuntime) -> Result<(), Fail> {
         // another text
         (&NO_MODULE, 0, &[73], true, bad_field(0, MalKind::Magic)),
         // another version
-        (&NO_MODULE, 5, &[2], true, bad_field(4, MalKind::Version)),
+        (&NO_MODULE, 5, &[3], true, bad_field(4, MalKind::Version)),
         // no name
         (
             &NO_MODULE,
