@@ -44,6 +44,7 @@ first_desk r none st =
       start = ap (λ (z : Round). z.start) none;
       jobs = ap (λ (z : Round). z.jobs) none;
       lengths = ap (λ (z : Round). z.lengths) none;
+      first = ap (λ (z : Round). z.first) none;
       place = ap (λ (z : Round). z.place) none;
       running = ap (λ (z : Round). z.running) none;
       released = ap (λ (z : Round). z.released) none;
