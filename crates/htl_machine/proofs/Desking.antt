@@ -5,7 +5,7 @@ use Rattle.std.proofs.lemmas.Bool.Decides.{nat_tests}
 use Rattle.htl_walk.specs.declared.job.Job.{Job}
 use Rattle.htl_walk.specs.declared.schedule.SInstr.{SInstr}
 use Rattle.htl_walk.specs.declared.schedule.SInstr.TheVariants.{Dispatch, Idle, End}
-use Rattle.htl_walk.specs.Walk.{Point, Left, job_at, time_after, next_point, walk_from, walk, first_point, InForm}
+use Rattle.htl_walk.specs.Walk.{Point, Left, job_at, time_after, next_point, walk_from, first_point, InForm}
 use Rattle.htl_smach.specs.Rounds as rounds
 use Rattle.htl_smach.specs.Rounds.{Round, begun, told, told_from, records, next_left, left_until, moved}
 use Rattle.htl_machine.specs.Turns.{count_before}

@@ -7,7 +7,7 @@ use Rattle.htl_walk.specs.declared.schedule.SInstr.{SInstr}
 use Rattle.htl_walk.specs.Walk.{job_at}
 use Rattle.htl_walk.proofs.Work.{job_there}
 use Rattle.htl_smach.specs.Rounds as rounds
-use Rattle.htl_smach.specs.Rounds.{Round, IsTold, state_of, no_round}
+use Rattle.htl_smach.specs.Rounds.{Round, IsTold, no_round}
 use Rattle.htl_smach.proofs.Telling.{pending_is}
 use Rattle.htl_refine.specs.Records.{Round as Plan}
 use Rattle.htl_emach.specs.Contents.{Content}

@@ -4,7 +4,7 @@ use Rattle.std.proofs.lemmas.Bool.Decides.{nat_tests}
 use Rattle.htl_walk.specs.declared.job.Job.{Job}
 use Rattle.htl_walk.specs.declared.schedule.SInstr.{SInstr}
 use Rattle.htl_walk.specs.Walk as walks
-use Rattle.htl_walk.specs.Walk.{Point, job_at, next_point, left_by, walk_from, last_point, point_at, first_point, work, finish}
+use Rattle.htl_walk.specs.Walk.{Point, job_at, next_point, left_by, walk_from, last_point, first_point, work, finish}
 use Rattle.htl_walk.specs.Refinement.{HaveLengths, AreWithinWorst}
 use Rattle.htl_walk.proofs.Steps.{left_falls, apart, either}
 use Rattle.htl_walk.proofs.Acceptance.{point_step, left_falls_to}
