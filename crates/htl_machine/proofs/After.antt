@@ -18,6 +18,7 @@ use Rattle.htl_walk.specs.declared.schedule.Schedule.{Schedule}
 use Rattle.htl_walk.specs.declared.schedule.SInstr.{SInstr}
 use Rattle.htl_walk.specs.Refinement.{HaveLengths, AreWithinWorst}
 use Rattle.htl_walk.specs.Walk.{InForm, Meets, walk}
+use Rattle.htl_walk.proofs.Work.{work_some}
 use Rattle.htl_smach.specs.declared.left.Left.{Left}
 use Rattle.htl_smach.specs.Rounds as rounds
 use Rattle.htl_smach.specs.Rounds.{Round, begun, no_round, told_from}
@@ -303,7 +304,7 @@ module _ (t : Tables) (code : ECode) (schedules : List (List SInstr)) (loaded : 
     told =
         let opens : DeskAt p now 0 0 first = desk_begins p now (some_steps (length p.jobs) q p.schedule in_form) (stands_begun now p.jobs p.lengths p.schedule some worst) in
         let flagged : desk_replay code (phase_path t code es now 3) first ≡ with_flags first flags = read_phase_tells t code loaded.range loaded.kept reads es p now 0 0 now first cast meets opens (omega arith) (omega arith) in
-        let st : rounds.Stands (with_flags first flags) p.schedule = record { point = refl; first = refl; lengths = some; worst = worst; pending = λ k z. omega arith } in
+        let st : rounds.Stands (with_flags first flags) p.schedule = record { point = refl; work = λ k z. work_some p.jobs p.lengths k z; lengths = some; worst = worst; pending = λ k z. omega arith } in
         subst (DeskAt p now 0 (suc now - now)) (sym flagged)
         (desk_told t (state t es now).stays now p now 0 now first (standing_at t loaded.range es now) (omega arith) (omega arith) cast
         (subst (λ d. DeskAt p now 0 d first) (let z : 0 ≡ now - now = omega arith in z) opens) st)

@@ -1,5 +1,5 @@
 -- Tables without modules: no round ever begins, so an instant leaves no record.
-use Rattle.std.proofs.Common.{◌≡◌, ℕ, zero, suc, ◌-◌, ◌<◌, Bool, false, cond, List, [], ◌∷◌, ◌++◌, length, get_or, slice_get, set, take, map, Option, Some, None, refl, sym, ap, ap₂, ◌∙◌, subst, arith}
+use Rattle.std.proofs.Common.{◌≡◌, ℕ, zero, suc, ◌-◌, ◌<◌, Bool, false, cond, List, [], ◌∷◌, ◌++◌, length, get_or, slice_get, set, take, map, Option, Some, None, refl, sym, ap, ◌∙◌, subst, arith}
 use Rattle.std.specs.List.{flat_map}
 use Rattle.htl_model.specs.declared.event.Event.{Event}
 use Rattle.htl_model.specs.declared.parts.Module.{Module}
@@ -73,7 +73,7 @@ stands_nowhere d r at =
     let make : Bool → ℕ → List Job → List ℕ → List Bool → ℕ → Point → Point → Round =
     λ running start jobs lengths released place first point. record { running = running; start = start; jobs = jobs; lengths = lengths; released = released; place = place; first = first; point = point } in
     let nil : Point = record { time = 0; left = [] } in
-    let first : r.first ≡ nil = at.stands.first ∙ ap₂ first_point at.jobs at.lengths in
+    let first : r.first ≡ nil = at.first in
     let point : r.point ≡ nil = at.stands.point ∙ ap (λ n. last_point r.jobs (take n []) r.first) at.place ∙ first in
     ap (λ z. make z r.start r.jobs r.lengths r.released r.place r.first r.point) at.running
     ∙ ap (λ z. make false z r.jobs r.lengths r.released r.place r.first r.point) at.start

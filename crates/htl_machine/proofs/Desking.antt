@@ -5,7 +5,7 @@ use Rattle.std.proofs.lemmas.Bool.Decides.{nat_tests}
 use Rattle.htl_walk.specs.declared.job.Job.{Job}
 use Rattle.htl_walk.specs.declared.schedule.SInstr.{SInstr}
 use Rattle.htl_walk.specs.declared.schedule.SInstr.TheVariants.{Dispatch, Idle, End}
-use Rattle.htl_walk.specs.Walk.{Point, Left, job_at, time_after, next_point, walk_from, walk, first_point, InForm}
+use Rattle.htl_walk.specs.Walk.{Point, Left, job_at, time_after, next_point, walk_from, first_point, InForm}
 use Rattle.htl_smach.specs.Rounds as rounds
 use Rattle.htl_smach.specs.Rounds.{Round, begun, told, told_from, records, next_left, left_until, moved}
 use Rattle.htl_machine.specs.Turns.{count_before}
@@ -43,8 +43,7 @@ module _ (p : Plan) (s now d : ℕ) (past : s ≤ now) where
 
   record_of : (k : ℕ) (r : Round) → DeskAt p s k d r → slice_get (records r p.schedule) r.place ≡ option_map (told s k) (slice_get ls k)
   record_of k r at =
-      ap (λ (x : Point). slice_get (told_from r.start 0 (walk_from r.jobs p.schedule x)) r.place) at.stands.first
-      ∙ ap₂ (λ (js : List Job) (ns : List ℕ). slice_get (told_from r.start 0 (walk js ns p.schedule)) r.place) at.jobs at.lengths
+      ap₂ (λ (js : List Job) (x : Point). slice_get (told_from r.start 0 (walk_from js p.schedule x)) r.place) at.jobs at.first
       ∙ told_get r.start 0 ls r.place
       ∙ ap₂ (λ a b. option_map (told a (0 + b)) (slice_get ls b)) at.start at.place
       ∙ ap (λ z. option_map (told s z) (slice_get ls k)) (let e : 0 + k ≡ k = omega arith in e)
@@ -85,6 +84,7 @@ module _ (p : Plan) (s now d : ℕ) (past : s ≤ now) where
         start = at.start;
         jobs = at.jobs;
         lengths = at.lengths;
+        first = at.first;
         place = ap suc at.place;
         running = ap (λ z. ltb (suc z) (length p.schedule)) at.place;
         released = at.released;
@@ -98,6 +98,7 @@ desk_opens p s now r f =
       start = f.start;
       jobs = f.jobs;
       lengths = f.lengths;
+      first = f.first;
       place = f.place;
       running = f.running ∙ ap (λ z. ltb z (length p.schedule)) f.place;
       released = f.released;
@@ -111,6 +112,7 @@ desk_closes p s now r at =
       start = at.start;
       jobs = at.jobs;
       lengths = at.lengths;
+      first = at.first;
       place = at.place;
       running = at.running ∙ ap (λ z. ltb z (length p.schedule)) (sym at.place);
       released = at.released;
@@ -166,6 +168,7 @@ desk_begins p s some st =
       start = refl;
       jobs = refl;
       lengths = refl;
+      first = refl;
       place = refl;
       running = sym (lt-ltb 0 (length p.schedule) some);
       released = none_released p.jobs;

@@ -41,6 +41,7 @@ desk_told t stays n p s k now r standing past begun cast at st =
       start = at.start;
       jobs = at.jobs;
       lengths = at.lengths;
+      first = at.first;
       place = at.place;
       running = at.running;
       released = ap (tell_all p.jobs (all_reads t now stays)) at.released ∙ flags_after t stays n now s p.jobs standing past begun cast;

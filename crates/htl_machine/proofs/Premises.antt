@@ -7,7 +7,7 @@ use Rattle.htl_walk.specs.declared.schedule.SInstr.{SInstr}
 use Rattle.htl_walk.specs.Walk.{job_at}
 use Rattle.htl_walk.proofs.Work.{job_there}
 use Rattle.htl_smach.specs.Rounds as rounds
-use Rattle.htl_smach.specs.Rounds.{Round, IsTold, state_of, no_round}
+use Rattle.htl_smach.specs.Rounds.{Round, IsTold, no_round}
 use Rattle.htl_smach.proofs.Telling.{pending_is}
 use Rattle.htl_refine.specs.Records.{Round as Plan}
 use Rattle.htl_emach.specs.Contents.{Content}
@@ -44,6 +44,7 @@ first_desk r none st =
       start = ap (λ (z : Round). z.start) none;
       jobs = ap (λ (z : Round). z.jobs) none;
       lengths = ap (λ (z : Round). z.lengths) none;
+      first = ap (λ (z : Round). z.first) none;
       place = ap (λ (z : Round). z.place) none;
       running = ap (λ (z : Round). z.running) none;
       released = ap (λ (z : Round). z.released) none;

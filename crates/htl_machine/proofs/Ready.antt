@@ -48,7 +48,7 @@ stands_none : Stands no_round []
 stands_none =
     record {
       point = refl;
-      first = refl;
+      work = λ p e. absurd (omega (arith, e));
       lengths = λ p j e f. none_some j e;
       worst = λ p j e f. none_some j e;
       pending = λ p e. absurd (let z : ⊥ = cc in z);

@@ -7,11 +7,11 @@ use Rattle.htl_model.specs.Broken.{KeptTo}
 use Rattle.htl_walk.specs.declared.job.Job.{Job}
 use Rattle.htl_walk.specs.declared.schedule.SInstr.{SInstr}
 use Rattle.htl_walk.specs.Walk as walks
-use Rattle.htl_walk.specs.Walk.{Point, job_at, first_point, walk_from, walk}
-use Rattle.htl_walk.proofs.Work.{work_some, job_there}
+use Rattle.htl_walk.specs.Walk.{job_at, walk_from}
+use Rattle.htl_walk.proofs.Work.{job_there}
 use Rattle.htl_smach.specs.declared.left.Left.{Left}
 use Rattle.htl_smach.specs.Rounds as rounds
-use Rattle.htl_smach.specs.Rounds.{Round, Stands, IsInForm, IsTold, next_left, moved, after, records, told, left_until}
+use Rattle.htl_smach.specs.Rounds.{Round, Stands, IsInForm, IsTold, next_left, moved, after, told}
 use Rattle.htl_smach.proofs.Answering.{answer_is}
 use Rattle.htl_emach.specs.Contents.{Content, completed}
 use Rattle.htl_emach.specs.Shapes.{IsShaped}
@@ -34,28 +34,27 @@ run_more t jobs ls (suc n) k w =
     run_more t jobs ls n (suc k) (complete_by t jobs (slice_get ls k) w)
     ∙ ap (λ z. complete_by t jobs (slice_get ls z) (run_records t jobs ls n (suc k) (complete_by t jobs (slice_get ls k) w))) (let e : suc k + n ≡ k + suc n = omega arith in e)
 
--- what an answer says of the round's own walk
+-- what an answer says of the walk of the round's list
 record IsAnswer (r : Round) (code : List SInstr) (l : Left) : Type 0 where
   record_of : walks.Left
-  at : slice_get (walk r.jobs r.lengths code) r.place ≡ Some record_of
+  at : slice_get (walk_from r.jobs code r.first) r.place ≡ Some record_of
   is : l ≡ told r.start r.place record_of
 
-answer_of : (r : Round) (code : List SInstr) (at : ℕ) (l : Left) → Stands r code → next_left r code at ≡ Some l → IsAnswer r code l
-answer_of r code at l st e =
-    by_record (slice_get (walk r.jobs r.lengths code) r.place) refl
-    (sym (told_get r.start 0 (walk r.jobs r.lengths code) r.place) ∙ sym (ap (λ (x : Point). slice_get (rounds.told_from r.start 0 (walk_from r.jobs code x)) r.place) st.first) ∙ answer_is r code at l e)
+answer_of : (r : Round) (code : List SInstr) (at : ℕ) (l : Left) → next_left r code at ≡ Some l → IsAnswer r code l
+answer_of r code at l e =
+    by_record (slice_get (walk_from r.jobs code r.first) r.place) refl (sym (told_get r.start 0 (walk_from r.jobs code r.first) r.place) ∙ answer_is r code at l e)
   where
-    by_record : (o : Option walks.Left) → slice_get (walk r.jobs r.lengths code) r.place ≡ o → option_map (told r.start (0 + r.place)) o ≡ Some l → IsAnswer r code l
+    by_record : (o : Option walks.Left) → slice_get (walk_from r.jobs code r.first) r.place ≡ o → option_map (told r.start (0 + r.place)) o ≡ Some l → IsAnswer r code l
     by_record None f g = none_some l g
     by_record (Some x) f g = record { record_of = x; at = f; is = sym (some_same _ _ g) ∙ ap (λ z. told r.start z x) (let h : 0 + r.place ≡ r.place = omega arith in h) }
 
 -- who is done stands at its position
 pub finished_job : (r : Round) (code : List SInstr) (at p : ℕ) (l : Left) → Stands r code → next_left r code at ≡ Some l → l.finished ≡ true → l.position ≡ Some p → (slice_get r.jobs p ≡ Some (job_at r.jobs p)) × ((job_at r.jobs p).present ≡ true)
 finished_job r code at p l st e fin pos =
-    let a = answer_of r code at l st e in
+    let a = answer_of r code at l e in
     let x = a.record_of in
-    let last = last_is r.jobs p code (first_point r.jobs r.lengths) r.place x a.at (ap (λ (z : Left). z.position) (sym a.is) ∙ pos) (ap (λ (z : Left). z.finished) (sym a.is) ∙ fin) in
-    let here : (job_at r.jobs p).present ≡ true = work_some r.jobs r.lengths p last.some in
+    let last = last_is r.jobs p code r.first r.place x a.at (ap (λ (z : Left). z.position) (sym a.is) ∙ pos) (ap (λ (z : Left). z.finished) (sym a.is) ∙ fin) in
+    let here : (job_at r.jobs p).present ≡ true = st.work p last.some in
     (job_there r.jobs p here, here)
 
 -- what the code does with an answer

@@ -20,6 +20,7 @@ use Rattle.htl_walk.proofs.Work.{work_present}
 use Rattle.htl_smach.specs.Rounds as rounds
 use Rattle.htl_smach.specs.Rounds.{Round, state_of, state_by}
 use Rattle.htl_smach.proofs.Finishing.{finished_where_none, walk-take}
+use Rattle.htl_smach.proofs.Lengths.{with_work, first_with, some_below}
 use Rattle.htl_emach.specs.Shapes.{HasValues, IsShaped}
 use Rattle.htl_emach.specs.Contents.{Content}
 use Rattle.htl_machine.specs.Values.{ValuesFollow}
@@ -225,6 +226,7 @@ module _ (t : Tables) (schedules : List (List SInstr)) (loaded : IsLoaded t sche
           start = f.start;
           jobs = f.jobs ∙ jobs_are;
           lengths = f.lengths ∙ sym e;
+          first = f.first ∙ ap₂ first_point jobs_are (sym e);
           place = f.place ∙ count_taken;
           running = f.running ∙ ap (λ (c : List SInstr). ltb r.place (length c)) code_is;
           released = f.released ∙ ap (released_before (now - s)) jobs_are;
@@ -232,13 +234,18 @@ module _ (t : Tables) (schedules : List (List SInstr)) (loaded : IsLoaded t sche
         }
 
     -- or with the length set
-    desk_set : (r : Round) (d : ℕ) → DeskStands (plan_of t schedules es s) s now r → (plan_of t schedules fs s).lengths ≡ set (plan_of t schedules es s).lengths d n → rounds.Stands (with_length r d n) (plan_of t schedules es s).schedule
+    desk_set : (r : Round) (d : ℕ) → DeskStands (plan_of t schedules es s) s now r → (job_at (plan_of t schedules es s).jobs d).present ≡ true → d < length (plan_of t schedules es s).lengths
+        → (plan_of t schedules fs s).lengths ≡ set (plan_of t schedules es s).lengths d n → rounds.Stands (with_length r d n) (plan_of t schedules es s).schedule
         → DeskStands (plan_of t schedules fs s) s now (with_length r d n)
-    desk_set r d f e st =
+    desk_set r d f here below e st =
         record {
           start = f.start;
           jobs = f.jobs ∙ jobs_are;
           lengths = ap (λ ns. set ns d n) f.lengths ∙ sym e;
+          first =
+              ap (with_work d n) f.first
+              ∙ sym (first_with (plan_of t schedules es s).jobs (plan_of t schedules es s).lengths d n here below)
+              ∙ ap₂ first_point jobs_are (sym e);
           place = f.place ∙ count_taken;
           running = f.running ∙ ap (λ (c : List SInstr). ltb r.place (length c)) code_is;
           released = f.released ∙ ap (released_before (now - s)) jobs_are;
@@ -254,7 +261,7 @@ module _ (t : Tables) (schedules : List (List SInstr)) (loaded : IsLoaded t sche
         let x = first_point jobs ns in
         let has : 1 ≤ get_or ns d 0 = have_lengths t (modes_at t es s) es s loaded.range within d j at here in
         let some : 0 < get_or x.left d 0 = omega (arith, has, work_present jobs ns d j at here) in
-        let point : r.point ≡ point_at jobs ns c r.place = f.stands.point ∙ ap (last_point r.jobs (take r.place c)) f.stands.first ∙ ap₂ (λ (js : List Job) (ms : List ℕ). point_at js ms c r.place) f.jobs f.lengths in
+        let point : r.point ≡ point_at jobs ns c r.place = f.stands.point ∙ ap₂ (λ (js : List Job) (y : Point). last_point js (take r.place c) y) f.jobs f.first in
         let done : done_by (walk jobs ns c) r.place d ≡ true =
         ap (λ (z : List Left). is_some (finish z d)) (walk-take jobs c x r.place) ∙ sym (finished_where_none jobs (take r.place c) x d some)
         ∙ ap (λ (z : Point). eqb (get_or z.left d 0) 0) (sym point) ∙ e in
@@ -263,6 +270,12 @@ module _ (t : Tables) (schedules : List (List SInstr)) (loaded : IsLoaded t sche
         let meets' = subst (λ z. Meets (plan_of t schedules es z).jobs (plan_of t schedules es z).lengths (plan_of t schedules es z).schedule) (sym whole.1) meets in
         let late = (finish_late t loaded.range loaded.kept (state t es s).stays s jobs ns c cast meets' d g.0 g.1).0 in
         omega (arith, late, ap (λ (z : Job). z.release) (job_is jobs d j at), g.2)
+
+    -- a job that is present has its length
+    below : (d : ℕ) (j : Job) → slice_get (plan_of t schedules es s).jobs d ≡ Some j → j.present ≡ true → d < length (plan_of t schedules es s).lengths
+    below d j at here =
+        let has : 1 ≤ get_or (plan_of t schedules es s).lengths d 0 = have_lengths t (modes_at t es s) es s loaded.range within d j at here in
+        some_below (plan_of t schedules es s).lengths d (omega (arith, has))
 
     -- whatever its state, the S machine follows on
     pub desk_taken : (r : Round) → DeskStands (plan_of t schedules es s) s now r → rounds.Stands (desk_taking i n r) (plan_of t schedules es s).schedule → DeskStands (plan_of t schedules fs s) s now (desk_taking i n r)
@@ -306,7 +319,7 @@ module _ (t : Tables) (schedules : List (List SInstr)) (loaded : IsLoaded t sche
                 second false b e = absurd (let z : ⊥ = cc in z)
             by_state d j at here is told true x false eb false ec st =
                 let late : ltb j.release (now - s) ≡ false = sym (ap (λ b. b && ltb j.release (now - s)) here) ∙ sym told ∙ ec in
-                desk_set r d f (lengths_set d j at here is (let z : now - s ≤ j.release = ltb-false j.release (now - s) late in omega arith)) st
+                desk_set r d f (ap (λ (z : Job). z.present) (job_is (plan_of t schedules es s).jobs d j at) ∙ here) (below d j at here) (lengths_set d j at here is (let z : now - s ≤ j.release = ltb-false j.release (now - s) late in omega arith)) st
 
   finished_all : (n' : ℕ) → now ≡ suc n' → (k : ℕ) → finished_before (plan_of t schedules es) (period_or (root_period t)) now k ≡ finished_before (plan_of t schedules fs) (period_or (root_period t)) now k
   finished_all n' e k =

@@ -1,5 +1,5 @@
 -- The releases of an instant: who is released now isn't done yet, so the read phase tells exactly the flags that the round asks for.
-use Rattle.std.proofs.Common.{◌≡◌, ◌≢◌, ℕ, zero, suc, ◌+◌, ◌-◌, ◌≤◌, ◌<◌, Bool, true, false, cond, ◌&&◌, eqb, is_some, IsSome, List, [], ◌∷◌, length, get_or, slice_get, set, take, Option, Some, None, refl, sym, ap, ◌∙◌, arith, inl, inr}
+use Rattle.std.proofs.Common.{◌≡◌, ◌≢◌, ℕ, zero, suc, ◌+◌, ◌-◌, ◌≤◌, ◌<◌, Bool, true, false, cond, ◌&&◌, eqb, is_some, IsSome, List, [], ◌∷◌, length, get_or, slice_get, set, take, Option, Some, None, refl, sym, ap, ap₂, ◌∙◌, arith, inl, inr}
 use Rattle.std.proofs.lemmas.List.{set-get_or}
 use Rattle.htl_model.specs.declared.event.Event.{Event}
 use Rattle.htl_model.specs.declared.state.Stay.{Stay}
@@ -8,10 +8,10 @@ use Rattle.htl_model.specs.Ranges.{AreInRange}
 use Rattle.htl_model.specs.Broken.{KeptTo}
 use Rattle.htl_model.specs.Meaning.{state}
 use Rattle.htl_walk.specs.declared.job.Job.{Job}
-use Rattle.htl_walk.specs.Walk.{Point, Left, job_at, walk_from, walk, finish, is_position, Meets}
+use Rattle.htl_walk.specs.Walk.{Point, Left, job_at, walk_from, walk, first_point, finish, is_position, Meets}
 use Rattle.htl_smach.specs.declared.state.PosState.TheVariants.{Done as Finished}
 use Rattle.htl_smach.specs.Rounds.{Round, state_by, state_of, finish_so_far}
-use Rattle.htl_smach.proofs.Telling.{done_is}
+use Rattle.htl_smach.proofs.Telling.{done_first}
 use Rattle.htl_ecode.specs.declared.ecode.ECode.{ECode}
 use Rattle.htl_ecode.specs.declared.instr.EInstr.TheVariants as I
 use Rattle.htl_ecode.specs.Chains.{Want, Does, Waits, Turns, Tests, Asks, Arrives}
@@ -110,9 +110,10 @@ module _ (t : Tables) (range : AreInRange t) (kept : KeptTo t 12) (stays : List 
     (at : DeskAt p s k d r) (few : k ≤ due_by p s now) (past : s ≤ now) where
   not_done : (q : ℕ) → s + (job_at p.jobs q).release ≡ now → state_of r q ≢ Finished
   not_done q when done =
-      let one = some_there (finish_so_far r p.schedule q) ((done_is r p.schedule q at.stands).0 done) in
+      let own : r.first ≡ first_point r.jobs r.lengths = at.first ∙ sym (ap₂ first_point at.jobs at.lengths) in
+      let one = some_there (finish_so_far r p.schedule q) ((done_first r p.schedule q at.stands own).0 done) in
       let there : finish (take k (walk_of p)) q ≡ Some one.0 =
-      sym (ap (λ (x : Point). finish (take r.place (walk_from r.jobs p.schedule x)) q) at.stands.first ∙ ap (λ n. finish (take n (walk r.jobs r.lengths p.schedule)) q) at.place ∙ ap (λ js. finish (take k (walk js r.lengths p.schedule)) q) at.jobs ∙ ap (λ ns. finish (take k (walk p.jobs ns p.schedule)) q) at.lengths) ∙ one.1 in
+      sym (ap (λ (x : Point). finish (take r.place (walk_from r.jobs p.schedule x)) q) own ∙ ap (λ n. finish (take n (walk r.jobs r.lengths p.schedule)) q) at.place ∙ ap (λ js. finish (take k (walk js r.lengths p.schedule)) q) at.jobs ∙ ap (λ ns. finish (take k (walk p.jobs ns p.schedule)) q) at.lengths) ∙ one.1 in
       let by_now : done_by (walk_of p) (count_before (suc now - s) (walk_of p)) q ≡ true = ap is_some (front_more (walk_of p) k (count_before (suc now - s) (walk_of p)) q one.0 few there) in
       let f = turning.done_is (suc now - s) (walk_of p) q by_now in
       let late = finish_late t range kept stays s p.jobs p.lengths p.schedule cast meets q f.0 f.1 in

@@ -7,7 +7,7 @@ use Rattle.htl_model.specs.Tables.{Tables}
 use Rattle.htl_model.specs.Meaning.{sense}
 use Rattle.htl_walk.specs.declared.job.Job.{Job}
 use Rattle.htl_walk.specs.declared.schedule.SInstr.{SInstr}
-use Rattle.htl_walk.specs.Walk.{InForm}
+use Rattle.htl_walk.specs.Walk.{InForm, first_point}
 use Rattle.htl_emach.specs.Shapes.{HasValues, IsShaped}
 use Rattle.htl_smach.specs.Rounds as rounds
 use Rattle.htl_smach.specs.Rounds.{Round, no_round, state_of}
@@ -53,6 +53,8 @@ pub record DeskStands (p : Plan) (s now : ℕ) (r : Round) : Type 0 where
   pub start : r.start ≡ s
   pub jobs : r.jobs ≡ p.jobs
   pub lengths : r.lengths ≡ p.lengths
+  -- its walk begins with the work of its jobs
+  pub first : r.first ≡ first_point p.jobs p.lengths
   pub place : r.place ≡ count_before (now - s) (walk_of p)
   pub running : r.running ≡ ltb r.place (length p.schedule)
   pub released : r.released ≡ released_before (now - s) p.jobs
@@ -97,6 +99,8 @@ pub record DeskAt (p : Plan) (s k d : ℕ) (r : Round) : Type 0 where
   pub start : r.start ≡ s
   pub jobs : r.jobs ≡ p.jobs
   pub lengths : r.lengths ≡ p.lengths
+  -- its walk begins with the work of its jobs
+  pub first : r.first ≡ first_point p.jobs p.lengths
   pub place : r.place ≡ k
   pub running : r.running ≡ ltb k (length p.schedule)
   pub released : r.released ≡ released_before d p.jobs

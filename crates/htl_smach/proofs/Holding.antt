@@ -1,19 +1,27 @@
 -- The fields of a machine and its round.
-use Rattle.std.proofs.Common.{◌≡◌, ℕ, zero, suc, ◌+◌, ◌≤◌, ◌<◌, Bool, true, false, cond, List, [], ◌∷◌, ◌++◌, length, get_or, set, take, replicate, Option, Some, None, IfSome, refl, sym, ap, ap₂, ◌∙◌, arith, inl, inr, ltb, eqb, add-one, get_or-set_same, get_or-set_other}
-use Rattle.std.proofs.lemmas.List.{length-take, ext_get_or, get_or-take, length-replicate}
-use Rattle.std.proofs.lemmas.Option.{slice_get-get_or}
-use Rattle.htl_walk.proofs.Work.{job_is}
+use Rattle.std.proofs.Common.{◌≡◌, ℕ, zero, suc, ◌+◌, ◌-◌, ◌≤◌, ◌<◌, Bool, true, false, cond, not, List, [], ◌∷◌, ◌++◌, length, get_or, set, take, replicate, Option, Some, None, IfSome, refl, sym, ap, ap₂, ◌∙◌, arith, inl, inr, ltb, eqb, add-one, get_or-set_same, get_or-set_other}
+use Rattle.std.proofs.lemmas.Bool.{cases_lt}
+use Rattle.std.proofs.lemmas.Bool.Decides.{nat_tests}
+use Rattle.std.proofs.lemmas.List.{length-take, ext_get_or, get_or-take}
+use Rattle.htl_walk.proofs.Work.{job_there, work_present}
 use Rattle.std.proofs.Math.ListN.{length-set}
 use Rattle.htl_walk.proofs.Steps.{apart}
 use Rattle.std.proofs.Math.Seq.{take-set-lt, take-append_seam}
+use Rattle.htl_model.specs.Bits.{has_bit}
 use Rattle.htl_walk.specs.declared.job.Job.{Job}
 use Rattle.htl_walk.specs.Walk.{job_at, work}
+use Rattle.htl_walk.specs.Refinement.{HaveLengths}
 use Rattle.htl_smach.specs.declared.machine.SMach.TheInside.{Inside}
 use Rattle.htl_smach.specs.declared.step.Step.{Step}
 use Rattle.htl_smach.specs.Fields.{inside_round}
-use Rattle.htl_smach.specs.Rounds.{Round, begun, state_by, state_of}
+use Rattle.htl_smach.specs.Rounds.{Round, added_from, state_by, state_of}
+use Rattle.htl_smach.specs.Adding.{IsEven}
+use Rattle.htl_smach.specs.States.{flags, IsPut, state_in, HaveBegun, AreStates}
+use Rattle.htl_smach.specs.declared.position_states.PositionStates.{PositionStates}
 use Rattle.htl_smach.specs.Steps.{put_work, point_of}
-use Rattle.htl_smach.proofs.Telling.{with_length, with_release}
+use Rattle.htl_smach.proofs.Flags.{flag_at, length-flags, flags_put, flags_more}
+use Rattle.htl_smach.proofs.Joined.{job_left, job_right, get_left, get_right, behind, job_taken}
+use Rattle.htl_smach.proofs.Telling.{with_length, with_release, absent_idle}
 
 pub below_count : {X : Type 0} (n : ℕ) (xs : List X) (p : ℕ) → p < length (take n xs) → p < n
 below_count n xs p h = omega (arith, length-take n xs)
@@ -35,19 +43,20 @@ holds_length m p n ys zs fs h k l =
     ∙ ap (λ (ws : List ℕ). record (inside_round m) { lengths = set (take m.count m.lengths) p n; first = record { time = m.from; left = ws }; point = record { time = m.time; left = set (take m.count m.left) p n } })
     (set_front m.count p n m.first fs l)
 
-pub holds_release : (m : Inside) (p : ℕ) → p < m.count → inside_round (record m { released = set m.released p true }) ≡ with_release (inside_round m) p
-holds_release m p h = ap (λ (bs : List Bool). record (inside_round m) { released = bs }) (take-set-lt m.count m.released p true h)
+pub holds_release : (m : Inside) (x : PositionStates) (p : ℕ) → p < m.count → IsPut m.states.released x.released p true → inside_round (record m { states = x }) ≡ with_release (inside_round m) p
+holds_release m x p h put = ap (λ (bs : List Bool). record (inside_round m) { released = bs }) (flags_put m.count m.states.released x.released p h put)
 
 pub take-put_work : (n : ℕ) (left : List ℕ) (o : Option ℕ) (rest : ℕ) → IfSome o (λ p. p < length (take n left)) → take n (put_work left o rest) ≡ put_work (take n left) o rest
 take-put_work n left None rest h = refl
 take-put_work n left (Some p) rest h = take-set-lt n left p rest (below_count n left p h)
 
-pub holds_left : (m n : Inside) (x : Step) (len : ℕ) → n ≡ record m { left = put_work m.left x.position x.rest }
+pub holds_left : (m n : Inside) (y : PositionStates) (x : Step) (len : ℕ) → n ≡ record m { left = put_work m.left x.position x.rest; states = y } → y.released ≡ m.states.released
     → IfSome x.position (λ p. p < length (take m.count m.left))
     → inside_round (record n { running = ltb (n.place + 1) len; place = n.place + 1; time = x.time })
     ≡ record (inside_round m) { running = ltb (suc m.place) len; place = suc m.place; point = point_of (take m.count m.left) x }
-holds_left m n x len e h =
+holds_left m n y x len e same h =
     ap (λ (z : Inside). inside_round (record z { running = ltb (z.place + 1) len; place = z.place + 1; time = x.time })) e
+    ∙ ap (λ row. record (inside_round m) { running = ltb (m.place + 1) len; place = m.place + 1; released = flags m.count row; point = record { time = x.time; left = take m.count (put_work m.left x.position x.rest) } }) same
     ∙ ap₂ (λ (k : ℕ) (ws : List ℕ). record (inside_round m) { running = ltb k len; place = k; point = record { time = x.time; left = ws } })
     (add-one m.place) (take-put_work m.count m.left x.position x.rest h)
 
@@ -85,45 +94,140 @@ work_here js ns p d h k e = work_at js ns p d h (omega arith) ∙ ap (λ b. cond
 pub work_absent : (js : List Job) (ns : List ℕ) (p : ℕ) (d : Job) → p < length js → length ns ≡ length js → (get_or js p d).present ≡ false → get_or (work js ns) p 0 ≡ 0
 work_absent js ns p d h k e = work_at js ns p d h (omega arith) ∙ ap (λ b. cond b (get_or ns p 0) 0) e
 
-pub job_at_is : (js : List Job) (p : ℕ) (d : Job) → p < length js → job_at js p ≡ get_or js p d
-job_at_is js p d h = job_is js p (get_or js p d) (slice_get-get_or js p d h)
+some_work : (n : ℕ) → 1 ≤ n → eqb n 0 ≡ false
+some_work n h = grind (arith, nat_tests)
 
-pub holds_state : (m : Inside) (p : ℕ) (d : Job) → p < length (take m.count m.jobs)
-    → state_by (get_or (take m.count m.jobs) p d).present (eqb (get_or m.left p 0) 0) (get_or m.released p false) ≡ state_of (inside_round m) p
-holds_state m p d h =
-    let below : p < m.count = below_count m.count m.jobs p h in
-    ap (λ (j : Job). state_by j.present (eqb (get_or m.left p 0) 0) (get_or m.released p false)) (sym (job_at_is (take m.count m.jobs) p d h))
-    ∙ ap₂ (λ (w : ℕ) (b : Bool). state_by (job_at (take m.count m.jobs) p).present (eqb w 0) b)
-    (sym (get_or-take m.count m.left p 0 below)) (sym (get_or-take m.count m.released p false below))
+no_work : (n : ℕ) → n ≡ 0 → eqb n 0 ≡ true
+no_work n h = grind (arith, nat_tests)
 
--- what is written over the front of an array
-front : {X : Type 0} (n : ℕ) (xs ys zs : List X) → xs ≡ zs → length zs ≡ n → take n (xs ++ ys) ≡ zs
-front n xs ys zs e l = ap (λ a. take n (a ++ ys)) e ∙ ap (λ k. take k (zs ++ ys)) (sym l) ∙ take-append_seam zs ys
+pub holds_state : (m : Inside) (p : ℕ) → AreStates m.states m.count m.jobs m.left → p < m.count → state_in m.states p ≡ state_of (inside_round m) p
+holds_state m p are below =
+    ap₂ (λ (a b : Bool). state_by a b (has_bit m.states.released p))
+    (are.present p below ∙ ap (λ (j : Job). j.present) (sym (job_taken m.count m.jobs p below)))
+    (are.done p below ∙ ap (λ w. eqb w 0) (sym (get_or-take m.count m.left p 0 below)))
+    ∙ ap (λ b. state_by (job_at (take m.count m.jobs) p).present (eqb (get_or (take m.count m.left) p 0) 0) b) (sym (flag_at m.count m.states.released p below))
 
-pub holds_begun : (at : ℕ) (jobs js more_jobs : List Job) (lengths ls more_lengths : List ℕ) (bs more_bools : List Bool) (ws more_work fs more_first : List ℕ)
-    → js ≡ jobs → ls ≡ lengths → bs ≡ replicate (length jobs) false → ws ≡ work jobs lengths → fs ≡ work jobs lengths → length lengths ≡ length jobs
-    → inside_round (record {
-      running = true;
-      start = at;
-      count = length jobs;
-      jobs = js ++ more_jobs;
-      lengths = ls ++ more_lengths;
-      released = bs ++ more_bools;
-      place = 0;
-      from = 0;
-      first = fs ++ more_first;
-      time = 0;
-      left = ws ++ more_work;
-    }) ≡ begun at jobs lengths
-holds_begun at jobs js more_jobs lengths ls more_lengths bs more_bools ws more_work fs more_first js_is ls_is bs_is ws_is fs_is same =
-    let make : List Job → List ℕ → List Bool → List ℕ → List ℕ → Round =
-    λ a b d e f. record { running = true; start = at; jobs = a; lengths = b; released = d; place = 0; first = record { time = 0; left = f }; point = record { time = 0; left = e } } in
-    let n = length jobs in
-    ap₂ (λ (a : List Job) (b : List ℕ). make a b (take n (bs ++ more_bools)) (take n (ws ++ more_work)) (take n (fs ++ more_first)))
-    (front n js more_jobs jobs js_is refl) (front n ls more_lengths lengths ls_is same)
-    ∙ ap₂ (λ (d : List Bool) (e : List ℕ). make jobs lengths d e (take n (fs ++ more_first)))
-    (front n bs more_bools (replicate n false) bs_is (length-replicate n false)) (front n ws more_work (work jobs lengths) ws_is (length-work jobs lengths))
-    ∙ ap (λ (f : List ℕ). make jobs lengths (replicate n false) (work jobs lengths) f) (front n fs more_first (work jobs lengths) fs_is (length-work jobs lengths))
+-- a machine's round is even
+pub holds_even : (m : Inside) → m.count ≤ length m.jobs → m.count ≤ length m.lengths → m.count ≤ length m.left → IsEven (inside_round m)
+holds_even m a b d =
+    record {
+      lengths = omega (arith, length-take m.count m.lengths, length-take m.count m.jobs);
+      released = omega (arith, length-flags m.count m.states.released, length-take m.count m.jobs);
+      left = omega (arith, length-take m.count m.left, length-take m.count m.jobs);
+    }
 
-pub filled : (n : ℕ) (old new : List Bool) → n ≤ length old → new ≡ replicate (length (take n old)) false → new ≡ replicate n false
-filled n old new h e = e ∙ ap (λ k. replicate k false) (let z : length (take n old) ≡ n = omega (arith, length-take n old) in z)
+-- ---- a list that begins
+
+module _ (m : Inside) (x : PositionStates) (jobs js more_jobs : List Job) (lengths ls more_lengths ws more_work : List ℕ) (a : m.count ≤ length m.jobs) (b : m.count ≤ length m.lengths) (d : m.count ≤ length m.left)
+    (js_is : js ≡ jobs) (ls_is : ls ≡ lengths) (ws_is : ws ≡ work jobs lengths) (same : length lengths ≡ length jobs) (begun : HaveBegun m.states x m.count (length jobs) jobs) where
+  abbrev pub all_left : List ℕ
+  all_left = take m.count m.left ++ (ws ++ more_work)
+
+  left_is : take (m.count + length jobs) all_left ≡ take m.count m.left ++ work jobs lengths
+  left_is = behind m.count (length jobs) m.left ws more_work (work jobs lengths) d ws_is (length-work jobs lengths)
+
+  pub holds_added : (offset : ℕ) (firsts : List ℕ) → take (m.count + length jobs) firsts ≡ take (m.count + length jobs) all_left
+      → inside_round (record {
+        running = true;
+        start = m.start;
+        count = m.count + length jobs;
+        jobs = take m.count m.jobs ++ (js ++ more_jobs);
+        lengths = take m.count m.lengths ++ (ls ++ more_lengths);
+        states = x;
+        place = 0;
+        from = offset;
+        first = firsts;
+        time = offset;
+        left = all_left;
+      }) ≡ added_from (inside_round m) offset jobs lengths
+  holds_added offset firsts firsts_are =
+      let n = length jobs in
+      let whole : List ℕ = take m.count m.left ++ work jobs lengths in
+      let make : List Job → List ℕ → List Bool → List ℕ → List ℕ → Round =
+      λ y z f v w. record { running = true; start = m.start; jobs = y; lengths = z; released = f; place = 0; first = record { time = offset; left = v }; point = record { time = offset; left = w } } in
+      ap₂ (λ (y : List Job) (z : List ℕ). make y z (flags (m.count + n) x.released) (take (m.count + n) firsts) (take (m.count + n) all_left))
+      (behind m.count n m.jobs js more_jobs jobs a js_is refl) (behind m.count n m.lengths ls more_lengths lengths b ls_is same)
+      ∙ ap₂ (λ (f : List Bool) (w : List ℕ). make (take m.count m.jobs ++ jobs) (take m.count m.lengths ++ lengths) f (take (m.count + n) firsts) w)
+      (flags_more m.count n m.states.released x.released begun.before_released begun.released) left_is
+      ∙ ap (λ (v : List ℕ). make (take m.count m.jobs ++ jobs) (take m.count m.lengths ++ lengths) (flags m.count m.states.released ++ replicate n false) v whole)
+      (firsts_are ∙ left_is)
+
+  -- the sets are those of all the positions
+  pub are_added : AreStates m.states m.count m.jobs m.left → HaveLengths jobs lengths
+      → AreStates x (m.count + length jobs) (take m.count m.jobs ++ (js ++ more_jobs)) all_left
+  are_added are least = record { present = present; done = done }
+    where
+      jobs_long : length (take m.count m.jobs) ≡ m.count
+      jobs_long = omega (arith, length-take m.count m.jobs)
+
+      left_long : length (take m.count m.left) ≡ m.count
+      left_long = omega (arith, length-take m.count m.left)
+
+      present : (p : ℕ) → p < m.count + length jobs → has_bit x.present p ≡ (job_at (take m.count m.jobs ++ (js ++ more_jobs)) p).present
+      present p h = elim (cases_lt p m.count) [
+        | inl l ↦
+            begun.before_present p l ∙ are.present p l
+            ∙ ap (λ (j : Job). j.present) (sym (job_left (take m.count m.jobs) (js ++ more_jobs) p (omega (arith, jobs_long)) ∙ job_taken m.count m.jobs p l))
+        | inr l ↦
+            let k = p - m.count in
+            let is : m.count + k ≡ p = omega arith in
+            let isj : length (take m.count m.jobs) + k ≡ p = omega (arith, jobs_long) in
+            ap (has_bit x.present) (sym is) ∙ begun.present k (omega arith)
+            ∙ ap (λ (j : Job). j.present) (ap (λ (z : List Job). job_at z k) (sym js_is) ∙ sym (job_left js more_jobs k (omega (arith, ap length js_is))) ∙ sym (job_right (take m.count m.jobs) (js ++ more_jobs) k)
+            ∙ ap (job_at (take m.count m.jobs ++ (js ++ more_jobs))) isj)
+      ]
+
+      none : (b : Bool) (k : ℕ) → (job_at jobs k).present ≡ b → not b ≡ eqb (get_or (work jobs lengths) k 0) 0
+      none true k e =
+          let has : 1 ≤ get_or lengths k 0 = least k (job_at jobs k) (job_there jobs k e) e in
+          sym (some_work (get_or (work jobs lengths) k 0) (omega (arith, has, work_present jobs lengths k (job_at jobs k) (job_there jobs k e) e)))
+      none false k e = sym (no_work (get_or (work jobs lengths) k 0) (absent_idle jobs lengths k e))
+
+      done : (p : ℕ) → p < m.count + length jobs → has_bit x.done p ≡ eqb (get_or all_left p 0) 0
+      done p h = elim (cases_lt p m.count) [
+        | inl l ↦
+            begun.before_done p l ∙ are.done p l
+            ∙ ap (λ w. eqb w 0) (sym (get_left (take m.count m.left) (ws ++ more_work) p 0 (omega (arith, left_long)) ∙ get_or-take m.count m.left p 0 l))
+        | inr l ↦
+            let k = p - m.count in
+            let is : m.count + k ≡ p = omega arith in
+            let isl : length (take m.count m.left) + k ≡ p = omega (arith, left_long) in
+            let long : length ws ≡ length jobs = ap length ws_is ∙ length-work jobs lengths in
+            ap (has_bit x.done) (sym is) ∙ begun.done k (omega arith) ∙ none (job_at jobs k).present k refl
+            ∙ ap (λ w. eqb w 0) (ap (λ (z : List ℕ). get_or z k 0) (sym ws_is) ∙ sym (get_left ws more_work k 0 (omega (arith, long))) ∙ sym (get_right (take m.count m.left) (ws ++ more_work) k 0)
+            ∙ ap (λ q. get_or all_left q 0) isl)
+      ]
+
+-- ---- a length that is set, and an instruction that is left
+
+-- who has work isn't done
+pub are_set : (m : Inside) (p n : ℕ) (ys : List ℕ) → m.count ≤ length m.left → AreStates m.states m.count m.jobs m.left → p < m.count → has_bit m.states.done p ≡ false → 1 ≤ n
+    → AreStates m.states m.count m.jobs (set (take m.count m.left) p n ++ ys)
+are_set m p n ys long are below busy some = record {
+  present = are.present;
+  done = λ q h. elim (apart q p) [
+    | inl e ↦ ap (has_bit m.states.done) e ∙ busy ∙ sym (ap (λ w. eqb w 0) (at_front q h ∙ ap (λ k. get_or (set (take m.count m.left) p n) k 0) e ∙ get_or-set_same (take m.count m.left) p n 0 (omega (arith, length-take m.count m.left))) ∙ some_work n some)
+    | inr d ↦ are.done q h ∙ ap (λ w. eqb w 0) (sym (at_front q h ∙ get_or-set_other (take m.count m.left) p q n 0 d ∙ get_or-take m.count m.left q 0 h))
+  ];
+}
+  where
+    at_front : (q : ℕ) → q < m.count → get_or (set (take m.count m.left) p n ++ ys) q 0 ≡ get_or (set (take m.count m.left) p n) q 0
+    at_front q h = get_left (set (take m.count m.left) p n) ys q 0 (omega (arith, length-set-take m.count p n m.left long))
+
+pub are_left : (m : Inside) (y : PositionStates) (p rest : ℕ) → m.count ≤ length m.left → AreStates m.states m.count m.jobs m.left → p < m.count → IsPut m.states.done y.done p (eqb rest 0) → y.present ≡ m.states.present
+    → AreStates y m.count m.jobs (set m.left p rest)
+are_left m y p rest long are below put same = record {
+  present = λ q h. ap (λ row. has_bit row q) same ∙ are.present q h;
+  done = λ q h. put q ∙ by_test q h (eqb q p) refl;
+}
+  where
+    by_test : (q : ℕ) → q < m.count → (b : Bool) → eqb q p ≡ b → cond b (eqb rest 0) (has_bit m.states.done q) ≡ eqb (get_or (set m.left p rest) q 0) 0
+    by_test q h true e =
+        let is : q ≡ p = grind (arith, nat_tests) in
+        sym (ap (λ w. eqb w 0) (ap (λ k. get_or (set m.left p rest) k 0) is ∙ get_or-set_same m.left p rest 0 (omega arith)))
+    by_test q h false e =
+        are.done q h ∙ sym (ap (λ w. eqb w 0) (get_or-set_other m.left p q rest 0 (λ f. let z : ⊥ = grind (arith, nat_tests) in z)))
+
+-- no position has a state that stands wrong where there is none
+pub are_none : (x : PositionStates) (jobs : List Job) (left : List ℕ) → AreStates x 0 jobs left
+are_none x jobs left = record { present = λ p h. absurd (omega arith); done = λ p h. absurd (omega arith) }

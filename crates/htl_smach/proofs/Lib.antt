@@ -1,7 +1,11 @@
+pub mod Adding
 pub mod Answering
+pub mod Begun
 pub mod Finishing
+pub mod Flags
 pub mod Going
 pub mod Holding
+pub mod Joined
 pub mod Lengths
 pub mod Telling
 pub mod Timely

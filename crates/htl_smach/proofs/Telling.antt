@@ -1,10 +1,10 @@
 -- The records of a round, one by one.
-use Rattle.std.proofs.Common.{◌≡◌, ℕ, zero, suc, ◌+◌, ◌≤◌, ◌<◌, Bool, true, false, cond, eqb, leb, ltb, List, [], ◌∷◌, ◌++◌, length, get_or, slice_get, set, take, Option, Some, None, is_some, IsSome, ◌↔◌, refl, sym, ap, ap₂, ◌∙◌, subst, arith, inl, inr, get_or-set_same, get_or-set_other}
+use Rattle.std.proofs.Common.{◌≡◌, ℕ, zero, suc, ◌+◌, ◌≤◌, ◌<◌, ◌⊎◌, Bool, true, false, cond, ◌&&◌, eqb, leb, ltb, List, [], ◌∷◌, ◌++◌, length, get_or, slice_get, set, take, Option, Some, None, is_some, IsSome, ◌↔◌, refl, sym, ap, ap₂, ◌∙◌, subst, arith, inl, inr, get_or-set_same, get_or-set_other}
 use Rattle.std.proofs.lemmas.Bool.Decides.{nat_tests}
 use Rattle.htl_walk.specs.declared.job.Job.{Job}
 use Rattle.htl_walk.specs.declared.schedule.SInstr.{SInstr}
 use Rattle.htl_walk.specs.Walk as walks
-use Rattle.htl_walk.specs.Walk.{Point, job_at, next_point, left_by, walk_from, last_point, point_at, first_point, work, finish}
+use Rattle.htl_walk.specs.Walk.{Point, job_at, next_point, left_by, walk_from, last_point, first_point, work, finish}
 use Rattle.htl_walk.specs.Refinement.{HaveLengths, AreWithinWorst}
 use Rattle.htl_walk.proofs.Steps.{left_falls, apart, either}
 use Rattle.htl_walk.proofs.Acceptance.{point_step, left_falls_to}
@@ -12,8 +12,8 @@ use Rattle.htl_walk.proofs.Finishes.{some_same}
 use Rattle.htl_walk.proofs.Work.{job_there, job_is, work_present, work_some}
 use Rattle.htl_smach.specs.declared.left.Left.{Left}
 use Rattle.htl_smach.specs.declared.state.PosState.TheVariants.{Pending, Ready, Done}
-use Rattle.htl_smach.specs.Rounds.{Round, begun, told, told_from, records, given, left_until, next_left, moved, state_by, state_of, finish_so_far, Stands, IsTold}
-use Rattle.htl_smach.proofs.Lengths.{with_work, SameWalk, same_walk, first_with, some_below}
+use Rattle.htl_smach.specs.Rounds.{Round, begun, told, told_from, records, given, left_until, next_left, moved, state_by, state_of, finish_so_far, was_finished, IsFinished, Stands, IsTold}
+use Rattle.htl_smach.proofs.Lengths.{with_work, SameWalk, same_walk, some_below}
 use Rattle.htl_smach.proofs.Finishing.{walk-take, finished_where_none, never_finished}
 
 -- ---- the records as a list
@@ -81,7 +81,7 @@ pub pending_below : (r : Round) (p : ℕ) → state_of r p ≡ Pending → p < l
 pending_below r p e = job_below r.jobs p (pending_is r p e).present
 
 -- what isn't present has no work
-absent_idle : (js : List Job) (ns : List ℕ) (p : ℕ) → (job_at js p).present ≡ false → get_or (work js ns) p 0 ≡ 0
+pub absent_idle : (js : List Job) (ns : List ℕ) (p : ℕ) → (job_at js p).present ≡ false → get_or (work js ns) p 0 ≡ 0
 absent_idle js ns p e =
     elim (either 0 (get_or (work js ns) p 0)) [
       | inl some ↦ let here : (job_at js p).present ≡ true = work_some js ns p some in absurd (let z : ⊥ = cc in z)
@@ -111,7 +111,7 @@ stands_next r s until i st e told by =
     let is : last_point r.jobs (take (suc r.place) s) r.first ≡ y = next_point_is r s st i e in
     record {
       point = refl;
-      first = st.first;
+      work = st.work;
       lengths = st.lengths;
       worst = st.worst;
       pending = λ p z.
@@ -176,7 +176,10 @@ module _ (r : Round) (s : List SInstr) (p n : ℕ) (st : Stands r s) (pending : 
   stands_set =
       record {
         point = sym (same.point ∙ ap (with_work p n) (sym st.point));
-        first = ap (with_work p n) st.first ∙ sym (first_with r.jobs r.lengths p n is.present within);
+        work = λ q some. elim (apart q p) [
+          | inl e ↦ ap (λ m. (job_at r.jobs m).present) e ∙ is.present
+          | inr d ↦ st.work q (omega (arith, some, get_or-set_other r.first.left p q n 0 d))
+        ];
         lengths = set_lengths r.jobs r.lengths p n (λ m j. 1 ≤ m) within st.lengths some;
         worst = set_lengths r.jobs r.lengths p n (λ m j. m ≤ j.worst) within st.worst worst;
         pending = λ q z. st.pending q (was q z);
@@ -215,7 +218,7 @@ pub stands_released : (r : Round) (s : List SInstr) (p : ℕ) → state_of r p �
 stands_released r s p here st =
     record {
       point = st.point;
-      first = st.first;
+      work = st.work;
       lengths = st.lengths;
       worst = st.worst;
       pending = λ q z. st.pending q (pending_released r p q here z);
@@ -232,28 +235,74 @@ absent_never : {X : Type 0} (b c : Bool) (o : Option X) → o ≡ None → (stat
 absent_never b c None e = (λ z. cc, λ h. cc)
 absent_never b c (Some x) e = cc
 
+-- who had no work where the list began is done exactly where it is present
+idle_done : (a b c : Bool) {X : Type 0} (o : Option X) → b ≡ true → o ≡ None → (state_by a b c ≡ Done) ↔ (((a && true) ≡ true) ⊎ IsSome o)
+idle_done true true c o e n = (λ _. inl refl, λ _. refl)
+idle_done false true c None e n = (λ z. cc, λ z. elim z [ inl f ↦ cc | inr f ↦ cc ])
+idle_done false true c (Some x) e n = absurd (let z : ⊥ = cc in z)
+idle_done a false c o e n = absurd (let z : ⊥ = cc in z)
+
 -- a position is done exactly where an instruction left so far finished it
-pub done_is : (r : Round) (s : List SInstr) (p : ℕ) → Stands r s → (state_of r p ≡ Done) ↔ IsSome (finish_so_far r s p)
-done_is r s p st = by_present (job_at r.jobs p).present refl
+pub done_is : (r : Round) (s : List SInstr) (p : ℕ) → Stands r s → (state_of r p ≡ Done) ↔ IsFinished r s p
+done_is r s p st =
+    elim (either 0 (get_or r.first.left p 0)) [ inl some ↦ working some | inr none ↦ idle (omega arith) ]
   where
+    present : Bool
+    present = (job_at r.jobs p).present
+
+    told_so : Bool
+    told_so = get_or r.released p false
+
     front : finish (walk_from r.jobs (take r.place s) r.first) p ≡ finish_so_far r s p
     front = ap (λ (z : List walks.Left). finish z p) (sym (walk-take r.jobs s r.first r.place))
 
-    work_is : get_or r.first.left p 0 ≡ get_or (work r.jobs r.lengths) p 0
-    work_is = ap (λ (z : Point). get_or z.left p 0) st.first
+    some_work : (n : ℕ) → 0 < n → eqb n 0 ≡ false
+    some_work n h = grind (arith, nat_tests)
 
-    by_present : (b : Bool) → (job_at r.jobs p).present ≡ b
-        → (state_by b (eqb (get_or r.point.left p 0) 0) (get_or r.released p false) ≡ Done) ↔ IsSome (finish_so_far r s p)
-    by_present false e =
-        absent_never (eqb (get_or r.point.left p 0) 0) (get_or r.released p false) (finish_so_far r s p)
-        (sym front ∙ never_finished r.jobs (take r.place s) r.first p (work_is ∙ absent_idle r.jobs r.lengths p e))
+    no_work : (n : ℕ) → n ≡ 0 → eqb n 0 ≡ true
+    no_work n h = grind (arith, nat_tests)
+
+    working : 0 < get_or r.first.left p 0 → (state_of r p ≡ Done) ↔ IsFinished r s p
+    working some =
+        let d : (state_by true (eqb (get_or r.point.left p 0) 0) told_so ≡ Done) ↔ IsSome (finish_so_far r s p) =
+        done_by (eqb (get_or r.point.left p 0) 0) told_so (finish_so_far r s p)
+        (ap (λ (z : Point). eqb (get_or z.left p 0) 0) st.point ∙ finished_where_none r.jobs (take r.place s) r.first p some ∙ ap is_some front) in
+        let e : present ≡ true = st.work p some in
+        let here : state_of r p ≡ state_by true (eqb (get_or r.point.left p 0) 0) told_so = ap (λ b. state_by b (eqb (get_or r.point.left p 0) 0) told_so) e in
+        let never : was_finished r p ≡ false = ap₂ (λ a b. a && b) e (some_work (get_or r.first.left p 0) some) in (
+          λ h. inr (d.0 (sym here ∙ h)),
+          λ z. elim z [ inl f ↦ absurd (let w : ⊥ = cc in w) | inr f ↦ here ∙ d.1 f ],
+        )
+
+    idle : get_or r.first.left p 0 ≡ 0 → (state_of r p ≡ Done) ↔ IsFinished r s p
+    idle none =
+        let e : get_or r.point.left p 0 ≡ get_or (last_point r.jobs (take r.place s) r.first).left p 0 = ap (λ (z : Point). get_or z.left p 0) st.point in
+        let still : get_or r.point.left p 0 ≡ 0 = omega (arith, e, left_falls_to r.jobs (take r.place s) r.first p) in
+        subst (λ b. (state_of r p ≡ Done) ↔ (((present && b) ≡ true) ⊎ IsSome (finish_so_far r s p))) (sym (no_work (get_or r.first.left p 0) none))
+        (idle_done present (eqb (get_or r.point.left p 0) 0) told_so (finish_so_far r s p) (no_work (get_or r.point.left p 0) still)
+        (sym front ∙ never_finished r.jobs (take r.place s) r.first p none))
+
+-- in the first list no position was finished before it
+pub none_before : (r : Round) (s : List SInstr) (p : ℕ) → Stands r s → r.first ≡ first_point r.jobs r.lengths → was_finished r p ≡ false
+none_before r s p st first = by_present (job_at r.jobs p).present refl
+  where
+    some_work : (n : ℕ) → 0 < n → eqb n 0 ≡ false
+    some_work n h = grind (arith, nat_tests)
+
+    by_present : (b : Bool) → (job_at r.jobs p).present ≡ b → (b && eqb (get_or r.first.left p 0) 0) ≡ false
+    by_present false e = refl
     by_present true e =
         let its : 1 ≤ get_or r.lengths p 0 = st.lengths p (job_at r.jobs p) (job_there r.jobs p e) e in
+        let work_is : get_or r.first.left p 0 ≡ get_or (work r.jobs r.lengths) p 0 = ap (λ (z : Point). get_or z.left p 0) first in
         let length_is : get_or (work r.jobs r.lengths) p 0 ≡ get_or r.lengths p 0 = work_present r.jobs r.lengths p (job_at r.jobs p) (job_there r.jobs p e) e in
-        done_by (eqb (get_or r.point.left p 0) 0) (get_or r.released p false) (finish_so_far r s p) (
-        ap (λ (z : Point). eqb (get_or z.left p 0) 0) st.point
-        ∙ finished_where_none r.jobs (take r.place s) r.first p (omega (arith, work_is)) ∙ ap is_some front
-        )
+        some_work (get_or r.first.left p 0) (omega (arith, its, work_is, length_is))
+
+-- there a position is done exactly where an instruction of the list finished it
+pub done_first : (r : Round) (s : List SInstr) (p : ℕ) → Stands r s → r.first ≡ first_point r.jobs r.lengths → (state_of r p ≡ Done) ↔ IsSome (finish_so_far r s p)
+done_first r s p st first =
+    let d = done_is r s p st in
+    let never : was_finished r p ≡ false = none_before r s p st first in
+    (λ h. elim (d.0 h) [ inl f ↦ absurd (let w : ⊥ = cc in w) | inr f ↦ f ], λ f. d.1 (inr f))
 
 -- ---- what a call answers
 
@@ -298,4 +347,4 @@ moved_is r s i st e =
 
 -- a round that begins
 pub stands_begun : (at : ℕ) (jobs : List Job) (lengths : List ℕ) (s : List SInstr) → HaveLengths jobs lengths → AreWithinWorst jobs lengths → Stands (begun at jobs lengths) s
-stands_begun at jobs lengths s some worst = record { point = refl; first = refl; lengths = some; worst = worst; pending = λ p z. omega arith }
+stands_begun at jobs lengths s some worst = record { point = refl; work = λ p h. work_some jobs lengths p h; lengths = some; worst = worst; pending = λ p z. omega arith }

@@ -13,7 +13,7 @@ use Rattle.htl_smach.specs.Order.{left_by_then, RecordsOfLengths, NoneLeftOut}
 use Rattle.htl_smach.proofs.Telling.{next_record_is}
 
 pub records_of_lengths : RecordsOfLengths
-records_of_lengths r s st = ap (λ (x : Point). told_from r.start 0 (walk_from r.jobs s x)) st.first
+records_of_lengths r s st first = ap (λ (x : Point). told_from r.start 0 (walk_from r.jobs s x)) first
 
 in_time : (a until : ℕ) → a ≤ until → leb a until ≡ true
 in_time a until h = grind (arith, nat_tests)

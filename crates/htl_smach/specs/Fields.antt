@@ -1,6 +1,7 @@
 -- The round that a machine's fields hold.
 use Rattle.std.specs.Prelude.{take}
 use Rattle.htl_smach.specs.Rounds.{Round}
+use Rattle.htl_smach.specs.States.{flags}
 use Rattle.htl_smach.specs.declared.machine.SMach.TheInside.{Inside}
 
 abbrev pub inside_round : Inside → Round
@@ -10,7 +11,7 @@ inside_round m =
       start = m.start;
       jobs = take m.count m.jobs;
       lengths = take m.count m.lengths;
-      released = take m.count m.released;
+      released = flags m.count m.states.released;
       place = m.place;
       first = record { time = m.from; left = take m.count m.first };
       point = record { time = m.time; left = take m.count m.left };

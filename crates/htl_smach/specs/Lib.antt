@@ -1,4 +1,6 @@
+pub mod Adding
 pub mod Fields
 pub mod Order
 pub mod Rounds
+pub mod States
 pub mod Steps

@@ -1,13 +1,15 @@
 // The S machine.
-ghost use Rattle.std.specs.Prelude.{◌≡◌, ltb, ◌<◌, ◌≤◌, ◌+◌, ◌++◌, ℕ, suc, Bool, true, false, List, [], length, set, ◌↔◌, IsSome, Option, Some, None, IfSome};
+ghost use Rattle.std.specs.Prelude.{◌≡◌, ltb, ◌<◌, ◌≤◌, ◌+◌, ◌-◌, ◌++◌, ℕ, suc, Bool, true, false, List, [], length, set, take, ◌↔◌, IsSome, Option, Some, None, IfSome};
 ghost use Rattle.htl_walk.specs.declared.schedule.SInstr.{SInstr as Instr};
 ghost use Rattle.htl_walk.specs.Walk.{job_at, work};
 ghost use Rattle.htl_walk.specs.Refinement.{HaveLengths, AreWithinWorst};
 ghost use Rattle.htl_smach.specs.declared.state.PosState.TheVariants as states;
-ghost use Rattle.htl_smach.specs.Rounds.{Round, no_round, begun, shifted, records, given, next_left, after, one_more, state_by, state_of, finish_so_far, Stands, IsInForm, IsTold, IsNext};
+ghost use Rattle.htl_smach.specs.Adding.{CanBegin};
+ghost use Rattle.htl_smach.specs.Rounds.{Round, no_round, begun, added, added_from, shifted, records, given, next_left, after, one_more, state_of, IsFinished, Stands, IsInForm, IsTold, IsNext};
 ghost use Rattle.htl_smach.specs.Order.{left_by_then, IsWholeWhenOver, IsBy};
 ghost use Rattle.htl_smach.specs.Steps.{point_of};
 
+use crate::position_states::PositionStates;
 use crate::step::{Step, next_step};
 use crate::{Left, PosState};
 use htl_base::Time;
@@ -15,12 +17,12 @@ use htl_base::limits::MAX_POSITIONS;
 use htl_walk::{Job, Schedule};
 use std::marker::Model;
 
-/// Leaves the instructions of a round's S code one by one, as time goes on (schedule-carrying code: Henzinger, Kirsch,
+/// Leaves the instructions of S code one by one, as time goes on, list by list (schedule-carrying code: Henzinger, Kirsch,
 /// Matic, EMSOFT 2003). It takes no memory and refuses nothing.
 ///
 /// It stands between two instructions: one that isn't left yet has changed nothing. Contracts see the round: its start,
-/// jobs and lengths as last set, the positions whose release was told, how many instructions were left, and the offset
-/// and the work left after them.
+/// jobs and lengths as last set, the positions whose release was told, how many instructions of the list were left, and
+/// the offset and the work left where the list began and now.
 #[derive(Drop)]
 pub struct SMach {
     running: bool,
@@ -30,10 +32,10 @@ pub struct SMach {
     jobs: [Job; MAX_POSITIONS],
     // as last set
     lengths: [Time; MAX_POSITIONS],
-    released: [bool; MAX_POSITIONS],
+    states: PositionStates,
     // the next instruction
     place: u32,
-    // the offset at which the walk begins, and the work left then
+    // the offset at which the list began, and the work left then
     from: Time,
     first: [Time; MAX_POSITIONS],
     // when the instruction before it was left
@@ -52,7 +54,9 @@ impl Model for SMach {
 
     ghost view = { inside_round };
 
-    ghost invariant = { λ m. (m.count ≤ 128) × (m.start ≤ 1000000000) × (m.time ≤ 4294967295) };
+    ghost use Rattle.htl_smach.specs.States.{AreStates};
+
+    ghost invariant = { λ m. (m.count ≤ 128) × (m.start ≤ 1000000000) × (m.time ≤ 4294967295) × AreStates m.states m.count m.jobs m.left };
 }
 
 impl SMach {
@@ -67,7 +71,7 @@ impl SMach {
             count: 0,
             jobs: [Job::ABSENT; MAX_POSITIONS],
             lengths: [0; MAX_POSITIONS],
-            released: [false; MAX_POSITIONS],
+            states: PositionStates::NONE,
             place: 0,
             from: 0,
             first: [0; MAX_POSITIONS],
@@ -76,7 +80,7 @@ impl SMach {
         }
     }
 
-    /// Begins a round at an instant of at most 1,000,000,000, once the round before is over. There are at most 128 jobs
+    /// Begins the first list at an instant of at most 1,000,000,000, once the list before is over. There are at most 128 jobs
     /// and as many lengths; that of each present job is from 1 to its worst case.
     pub fn start(&mut self, at: Time, jobs: &[Job], lengths: &[Time])
         requires over { self.old.running ≡ false }
@@ -88,18 +92,50 @@ impl SMach {
         ensures round { self.new ≡ begun at jobs.now lengths.now }
         ensures stands { (s : List Instr) → Stands self.new s }
     {
-        let count = jobs.len();
-        self.jobs[..count].copy_from_slice(jobs);
-        self.lengths[..count].copy_from_slice(lengths);
-        fill_work(jobs, lengths, &mut self.left[..count]);
-        fill_work(jobs, lengths, &mut self.first[..count]);
-        self.released[..count].fill(false);
-        self.running = true;
+        self.count = 0;
         self.start = at;
-        self.count = count;
+        self.begin_list(0, jobs, lengths);
+    }
+
+    /// Goes on to the next list at an instant of at most 1,000,000,000, once the list before is over, with further
+    /// positions, at most 128 in all; the jobs are given as offsets from the instant of `start`. The length of each present
+    /// job is from 1 to its worst case. No release falls before the instant that hasn't been told, nor any of the new ones.
+    /// It costs what it has to copy.
+    pub fn add(&mut self, at: Time, jobs: &[Job], lengths: &[Time])
+        requires over { self.old.running ≡ false }
+        requires later { self.old.start ≤ at }
+        requires at { at ≤ 1000000000 }
+        requires few { length self.old.jobs + length jobs.now ≤ 128 }
+        requires can { CanBegin self.old (at - self.old.start) jobs.now lengths.now }
+        ensures round { self.new ≡ added self.old at jobs.now lengths.now }
+        ensures states { (p : ℕ) → p < length self.old.jobs → state_of self.new p ≡ state_of self.old p }
+        ensures stands { (s t : List Instr) → Stands self.old s → Stands self.new t }
+    {
+        let offset = at - self.start;
+        self.begin_list(offset, jobs, lengths);
+    }
+
+    // Begins a list at an offset, with further positions.
+    fn begin_list(&mut self, offset: Time, jobs: &[Job], lengths: &[Time])
+        requires offset { offset ≤ 1000000000 }
+        requires few { length self.old.jobs + length jobs.now ≤ 128 }
+        requires same { length lengths.now ≡ length jobs.now }
+        requires lengths { HaveLengths jobs.now lengths.now }
+        ensures { self.new ≡ added_from self.old offset jobs.now lengths.now }
+    {
+        let count = self.count;
+        let more = count + jobs.len();
+        self.jobs[count..more].copy_from_slice(jobs);
+        self.lengths[count..more].copy_from_slice(lengths);
+        fill_work(jobs, lengths, &mut self.left[count..more]);
+        let left = &self.left;
+        copy_front(left, &mut self.first, more);
+        self.states.begin(count, jobs);
+        self.running = true;
+        self.count = more;
         self.place = 0;
-        self.from = 0;
-        self.time = 0;
+        self.from = offset;
+        self.time = offset;
     }
 
     /// Tells the release of a position that is Pending, which makes it Ready. It changes no record, even where it is
@@ -111,7 +147,7 @@ impl SMach {
         ensures records { (s : List Instr) → records self.new s ≡ records self.old s }
         ensures stands { (s : List Instr) → Stands self.old s → Stands self.new s }
     {
-        self.released[position] = true;
+        self.states.release(position);
     }
 
     /// Gives a position that is Pending another length, from 1 to its worst case. From then on the records are those
@@ -138,22 +174,17 @@ impl SMach {
     pub fn state(&self, position: usize) -> PosState
         requires known { position < length self.now.jobs }
         ensures state { result ≡ state_of self.now position }
-        ensures done { (s : List Instr) → Stands self.now s → (result ≡ states.Done) ↔ IsSome (finish_so_far self.now s position) }
+        ensures done { (s : List Instr) → Stands self.now s → (result ≡ states.Done) ↔ IsFinished self.now s position }
     {
-        let jobs = &self.jobs[..self.count];
-        state_by(
-            jobs[position].present,
-            self.left[position] == 0,
-            self.released[position],
-        )
+        self.states.state(position)
     }
 
     /// Goes on to the next instruction that is left at or before the instant `until`, and tells of it. None exactly
-    /// where no instruction is left by then or the round is over; then nothing has changed, and the records given are
+    /// where no instruction is left by then or the list is over; then nothing has changed, and the records given are
     /// exactly those of the instructions left by then, where none given before was left later.
     ///
-    /// The schedule keeps its form, has at most 4,294,967,295 instructions and is the same in all calls of one round, and
-    /// no release falls before `until` that hasn't been told.
+    /// The schedule is the list that runs, keeps its form, has at most 4,294,967,295 instructions and is the same in all
+    /// calls of one list, and no release falls before `until` that hasn't been told.
     pub fn run_to(&mut self, s: &Schedule, until: Time) -> Option<Left>
         requires form { self.old.running ≡ true → IsInForm self.old s.now.instrs }
         requires instrs { length s.now.instrs ≤ 4294967295 }
@@ -192,9 +223,10 @@ impl SMach {
     }
 
     /// The instant at which the next instruction is left, as long as no position that is Pending gets another length; None
-    /// exactly where the round is over.
+    /// exactly where the list is over.
     ///
-    /// The schedule keeps its form, has at most 4,294,967,295 instructions and is the same in all calls of one round.
+    /// The schedule is the list that runs, keeps its form, has at most 4,294,967,295 instructions and is the same in all
+    /// calls of one list.
     pub fn next(&self, s: &Schedule) -> Option<Time>
         requires form { self.now.running ≡ true → IsInForm self.now s.now.instrs }
         requires instrs { length s.now.instrs ≤ 4294967295 }
@@ -223,25 +255,11 @@ impl SMach {
     {
         if let Some(position) = step.position {
             self.left[position as usize] = step.rest;
+            self.states.leave(position as usize, step.rest == 0);
         }
         self.time = step.time;
         self.place += 1;
         self.running = (self.place as usize) < len;
-    }
-}
-
-// The state of a position.
-fn state_by(present: bool, idle: bool, released: bool) -> PosState
-    ensures { result ≡ state_by present idle released }
-{
-    if !present {
-        PosState::Absent
-    } else if idle {
-        PosState::Done
-    } else if released {
-        PosState::Ready
-    } else {
-        PosState::Pending
     }
 }
 
@@ -255,6 +273,14 @@ fn shifted(start: Time, slice: Option<(Time, Time)>) -> Option<(Time, Time)>
         Some((from, to)) => Some((start + from, start + to)),
         None => None,
     }
+}
+
+// Copies so many entries.
+fn copy_front(from: &[Time; MAX_POSITIONS], to: &mut [Time; MAX_POSITIONS], count: usize)
+    requires { count ≤ 128 }
+    ensures { take count to.new ≡ take count from.now }
+{
+    to[..count].copy_from_slice(&from[..count]);
 }
 
 // The work of each position: nothing where no job stands for it.

@@ -1,9 +1,21 @@
-use Rattle.std.proofs.Common.{◌≡◌, drop, sym, ap, ◌∙◌, subst, arith}
-use Rattle.htl_smach.specs.Rounds.{Round, Stands, given}
+use Rattle.std.proofs.Common.{◌≡◌, ◌<◌, false, eqb, drop, sym, ap, ◌∙◌, subst, arith}
+use Rattle.std.proofs.lemmas.List.{get_or-take}
+use Rattle.htl_model.specs.Bits.{has_bit}
+use Rattle.htl_smach.specs.declared.state.PosState.TheVariants.{Pending}
+use Rattle.htl_smach.specs.Rounds.{Round, Stands, given, state_of}
 use Rattle.htl_smach.specs.Fields.{inside_round}
-use Rattle.htl_smach.proofs.Telling.{with_length, given_stays, stands_set}
-use Rattle.htl_smach.proofs.Holding.{holds_length}
+use Rattle.htl_smach.proofs.Telling.{with_length, given_stays, stands_set, pending_is, pending_below}
+use Rattle.htl_smach.proofs.Holding.{holds_length, are_set, below_count}
 use Rattle.htl_smach.proofs.machine.SMach.set_length.Goals as goal
+
+pub invariant_of-self : goal.invariant_of-self
+invariant_of-self c =
+    let m = c.self.inside in
+    let p = c.args.position in
+    let pending : state_of (inside_round m) p ≡ Pending = subst (λ (r : Round). state_of r p ≡ Pending) (sym c.self.view_is) c.requires.pending in
+    let below : p < m.count = below_count m.count m.jobs p (pending_below (inside_round m) p pending) in
+    let busy : has_bit m.states.done p ≡ false = c.self.invariant.3.done p below ∙ ap (λ w. eqb w 0) (sym (get_or-take m.count m.left p 0 below)) ∙ (pending_is (inside_round m) p pending).left in
+    (omega arith, omega arith, omega arith, are_set m p c.args.length (drop m.count m.left) (omega arith) c.self.invariant.3 below busy c.requires.some)
 
 pub returns-clause-round : goal.returns-clause-round
 returns-clause-round c =

@@ -2,15 +2,20 @@ use Rattle.std.proofs.Common.{◌≡◌, ◌<◌, length, take, sym, ap, ◌∙�
 use Rattle.htl_smach.specs.Rounds.{Round, state_of}
 use Rattle.htl_smach.specs.Fields.{inside_round}
 use Rattle.htl_smach.proofs.Telling.{done_is}
-use Rattle.htl_smach.proofs.Holding.{holds_state}
+use Rattle.htl_smach.proofs.Holding.{holds_state, below_count}
 use Rattle.htl_smach.proofs.machine.SMach.state.Goals as goal
 
-pub returns-clause-done : goal.returns-clause-done
-returns-clause-done c = λ s st.
+pub returns-clause-state : goal.returns-clause-state
+returns-clause-state c =
     let m = c.self.inside in
     let p = c.args.position in
     let v : inside_round m ≡ c.args.self.now = c.self.view_is in
     let known : p < length (take m.count m.jobs) = subst (λ (r : Round). p < length r.jobs) (sym v) c.requires.known in
-    let e : c.state_by.result ≡ state_of c.args.self.now p = c.state_by.ensures ∙ holds_state m p _ known ∙ ap (λ (r : Round). state_of r p) v in
+    c.state.ensures ∙ holds_state m p c.self.invariant.3 (below_count m.count m.jobs p known) ∙ ap (λ (r : Round). state_of r p) v
+
+pub returns-clause-done : goal.returns-clause-done
+returns-clause-done c = λ s st.
+    let p = c.args.position in
     let d = done_is c.args.self.now s p st in
+    let e = returns-clause-state c in
     (λ h. d.0 (sym e ∙ h), λ h. e ∙ d.1 h)
