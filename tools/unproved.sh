@@ -73,7 +73,7 @@ if [ "$form" = file ]; then
 	{ [ ! -d "$2" ] && head -c 16781312 <"$2" >"$room/file"; } 2>/dev/null || answer 8 'htl: shelf failed'
 fi
 need_rt
-about="half a minute or more, with nothing proved"
+about="about a minute, two or three on a busy machine, with nothing proved"
 case ${unproved:+asked}$(state) in
 asked*) say "running the unproved build: $about" ;;
 *none) say "no proved program stands, so this is the unproved build, slower and checked as it runs ($about); bin/htl --prove makes the proved one" ;;
