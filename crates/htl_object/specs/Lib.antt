@@ -13,6 +13,7 @@ pub mod Modules
 pub mod Names
 pub mod Notes
 pub mod Objects
+pub mod Pieces
 pub mod Ports
 pub mod Ranges
 pub mod Reading

@@ -1,6 +1,7 @@
 // Schedules of which equal ones are written once, out of bytes.
 ghost use Rattle.std.specs.Prelude.{◌≡◌, ◌<◌, ◌≤◌, ◌-◌, ◌++◌, ◌∷◌, [], not, length, take, map, All, IfOk};
 ghost use Rattle.std.specs.List.{list_any};
+ghost use Rattle.htl_object.specs.Pieces.{piece_writes, hashed_alike};
 ghost use Rattle.std.specs.Str.{bytes_eq};
 ghost use Rattle.htl_object.specs.Reading.{IsBytes, Gives, items_at};
 ghost use Rattle.htl_object.specs.Blocks.{block_at, blocks_at, schedules_of, with_block, AreSpelled};
@@ -12,6 +13,7 @@ use htl_base::Seq;
 use htl_walk::Schedule;
 use indexmap::IndexSet;
 use std::alloc::{AllocError, Global};
+use std::hash::{Hash, Hasher};
 
 // How many blocks the numbers so far say.
 #[derive(Drop)]
@@ -45,12 +47,28 @@ impl NotedItem<(), BlockCount> for u16 {
     }
 }
 
+/// A piece of bytes as a key; it is hashed as a whole.
+#[derive(Clone, Copy, PartialEq, Eq)]
+pub struct Piece<'a> {
+    pub bytes: &'a [u8],
+}
+
+impl<'a> Hash for Piece<'a> {
+    ghost hash_input = { piece_writes };
+
+    ghost respects_eq = { hashed_alike };
+
+    fn hash<H: Hasher>(&self, state: &mut H) {
+        state.write(self.bytes);
+    }
+}
+
 // Puts a piece among those that stand; false where it is there.
-fn add<'a>(pieces: &mut IndexSet<&'a [u8]>, piece: &'a [u8]) -> Result<bool, AllocError>
-    ensures added { IfOk result (λ new. new ≡ not (list_any (bytes_eq piece.now) (map (λ p. p.now) pieces.old.keys))) }
-    ensures pieces { IfOk result (λ new. map (λ p. p.now) pieces.new.keys ≡ with_block bytes_eq (map (λ p. p.now) pieces.old.keys) piece.now) }
+fn add<'a>(pieces: &mut IndexSet<Piece<'a>>, piece: &'a [u8]) -> Result<bool, AllocError>
+    ensures added { IfOk result (λ new. new ≡ not (list_any (bytes_eq piece.now) (map (λ p. p.bytes.now) pieces.old.keys))) }
+    ensures pieces { IfOk result (λ new. map (λ p. p.bytes.now) pieces.new.keys ≡ with_block bytes_eq (map (λ p. p.bytes.now) pieces.old.keys) piece.now) }
 {
-    Ok(pieces.insert(piece)?)
+    Ok(pieces.insert(Piece { bytes: piece })?)
 }
 
 // What was read of bytes of which so many are left.
@@ -69,11 +87,11 @@ fn block<'a>(
     alloc: Global,
     cursor: &mut Cursor<'a>,
     before: &[Schedule],
-    pieces: &mut IndexSet<&'a [u8]>,
+    pieces: &mut IndexSet<Piece<'a>>,
 ) -> Result<Schedule, Stop>
-    requires { AreSpelled (map (λ p. p.now) pieces.old.keys) before.now }
+    requires { AreSpelled (map (λ p. p.bytes.now) pieces.old.keys) before.now }
     ensures gives { Gives (λ x. x) (block_at before.now cursor.old) cursor.new result }
-    ensures spelled { IfOk result (λ s. AreSpelled (map (λ p. p.now) pieces.new.keys) (before.now ++ s ∷ [])) }
+    ensures spelled { IfOk result (λ s. AreSpelled (map (λ p. p.bytes.now) pieces.new.keys) (before.now ++ s ∷ [])) }
 {
     let bytes = cursor.rest();
     let schedule = Schedule::read(cursor, &alloc, before)?;
@@ -92,7 +110,7 @@ fn distinct_blocks<'a>(
 ) -> Result<Vec<Schedule>, Stop>
     ensures { Gives (λ x. x.items) (items_at block_at count [] cursor.old) cursor.new result }
 {
-    let mut pieces: IndexSet<&'a [u8]> = IndexSet::new(alloc);
+    let mut pieces: IndexSet<Piece<'a>> = IndexSet::new(alloc);
     let mut found = Vec::new(alloc);
     for _ in 0..count {
         let block = block(alloc, cursor, &found, &mut pieces)?;

@@ -25,6 +25,8 @@ pub enum Verb {
 pub enum Asked<'a> {
     /// Compiles the source that the input is.
     Compile,
+    /// Compiles it for the platform that a file says.
+    CompileWith { platform: &'a str },
     /// A verb and the name of a file.
     File { verb: Verb, name: &'a str },
 }
@@ -50,12 +52,16 @@ fn verb_of(word: &str) -> Option<Verb>
     }
 }
 
-/// The command that words ask for; None where they are none: `compile` alone, or a verb and the name of a file.
+/// The command that words ask for; None where they are none: `compile` alone, `compile with` and the name of a platform file, or a
+/// verb and the name of a file.
 pub fn read_words<'a>(words: &[&'a str]) -> Option<Asked<'a>>
     ensures { command_in words.now ≡ option_map asked_for result }
 {
     match words {
         [word] if *word == "compile" => Some(Asked::Compile),
+        [first, second, platform] if *first == "compile" && *second == "with" => {
+            Some(Asked::CompileWith { platform })
+        }
         [word, name] => match verb_of(word) {
             Some(verb) => Some(Asked::File { verb, name }),
             None => None,

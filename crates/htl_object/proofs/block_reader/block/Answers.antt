@@ -16,7 +16,7 @@ pub returns-then-not-branch-clause-gives : goal.returns-then-not-branch-clause-g
 returns-then-not-branch-clause-gives c =
     let s = c.in_ok-schedule.schedule in
     let piece = piece_read c.rest-bytes.result.now c.args.cursor.now c.taken-piece.result.now c.left.result s c.read.new.cursor c.taken-piece.ensures.bytes c.rest-bytes.ensures c.left.ensures c.taken-piece.ensures.front c.in_ok-schedule.ensures in
-    let pieces = map (λ p. p.now) c.args.pieces.now.keys in
+    let pieces = map (λ p. p.bytes.now) c.args.pieces.now.keys in
     let new = new_piece pieces c.args.before.now c.taken-piece.result.now s c.in_ok-add.field-0 c.requires piece c.in_ok-add.ensures.added in
     let refused = block_refused c.args.before.now c.args.cursor.now s c.read.new.cursor c.in_ok-schedule.ensures (new ∙ c.if-not-branch.true) in
     subst (λ (e : Stop). Fails e (block_at c.args.before.now c.args.cursor.now)) (sym c.bad.ensures) (refused ∙ ap (λ (b : List ℕ). Err (bad_at Spelling b)) (sym c.rest-bytes.ensures))
@@ -25,7 +25,7 @@ pub returns-clause-gives : goal.returns-clause-gives
 returns-clause-gives c =
     let s = c.in_ok-schedule.schedule in
     let piece = piece_read c.rest-bytes.result.now c.args.cursor.now c.taken-piece.result.now c.left.result s c.read.new.cursor c.taken-piece.ensures.bytes c.rest-bytes.ensures c.left.ensures c.taken-piece.ensures.front c.in_ok-schedule.ensures in
-    let pieces = map (λ p. p.now) c.args.pieces.now.keys in
+    let pieces = map (λ p. p.bytes.now) c.args.pieces.now.keys in
     let new = new_piece pieces c.args.before.now c.taken-piece.result.now s c.in_ok-add.field-0 c.requires piece c.in_ok-add.ensures.added in
     block_given c.args.before.now c.args.cursor.now s c.read.new.cursor c.in_ok-schedule.ensures (new ∙ c.if-not-branch.false)
 
@@ -33,6 +33,6 @@ pub returns-clause-spelled : goal.returns-clause-spelled
 returns-clause-spelled c =
     let s = c.in_ok-schedule.schedule in
     let piece = piece_read c.rest-bytes.result.now c.args.cursor.now c.taken-piece.result.now c.left.result s c.read.new.cursor c.taken-piece.ensures.bytes c.rest-bytes.ensures c.left.ensures c.taken-piece.ensures.front c.in_ok-schedule.ensures in
-    let pieces = map (λ p. p.now) c.args.pieces.now.keys in
+    let pieces = map (λ p. p.bytes.now) c.args.pieces.now.keys in
     let new = new_piece pieces c.args.before.now c.taken-piece.result.now s c.in_ok-add.field-0 c.requires piece c.in_ok-add.ensures.added in
-    pieces_more pieces (map (λ p. p.now) c.add.new.pieces.keys) c.args.before.now c.taken-piece.result.now s c.requires piece (new ∙ c.if-not-branch.false) c.in_ok-add.ensures.pieces
+    pieces_more pieces (map (λ p. p.bytes.now) c.add.new.pieces.keys) c.args.before.now c.taken-piece.result.now s c.requires piece (new ∙ c.if-not-branch.false) c.in_ok-add.ensures.pieces

@@ -8,5 +8,5 @@ abbrev pub invariant-loop : goal.invariant-loop
 invariant-loop l =
     record {
       read : items_at block_at (l.count - l.counter) l.found.items l.cursor ≡ items_at block_at l.count [] l.fn.cursor;
-      spelled : AreSpelled (map (λ p. p.now) l.pieces.keys) l.found.items;
+      spelled : AreSpelled (map (λ p. p.bytes.now) l.pieces.keys) l.found.items;
     }
