@@ -92,8 +92,8 @@ use std::alloc::Global;
 /// the slices and finishes of the jobs at these modes with their worst cases go to `out`, with a last line. The first of these is the
 /// answer: `Shelf`; `Object`; line by line `Read` and `Script`, after which nothing was written; `Write`; `Done`.
 ///
-/// A command takes no more of the input than a front of at most 1,073,745,920 bytes, or 1,052,672 for both forms of `compile`: the longest script, or
-/// source, and one piece of 4,096 bytes.
+/// A command takes no more of the input than a front of at most 1,073,745,920 bytes, or 1,052,672 for both forms of `compile`: the
+/// longest script, or source, and one piece of 4,096 bytes.
 ///
 /// Other words are `Usage`. Want of memory may stand in place of any answer but `Usage`, before the first byte is written. A line on
 /// `err` tells of every answer but `Done`; a failing `err` changes nothing else.
