@@ -5,11 +5,10 @@ use Rattle.std.proofs.lemmas.List.Sums.{prefix_len-drop_yes}
 use Rattle.std.proofs.lemmas.List.{length-drop}
 use Rattle.std.proofs.Math.Seq.{take-length}
 use Rattle.std.proofs.lemmas.List.FromFn.{get_or-map-range_with_len}
-use Rattle.htl_base.specs.Names.{is_word_byte}
 
-pub word-bytes : (table : List Bool) → table ≡ map is_word_byte (range_with_len 0 256) → (b : ℕ) → b < 256 → get_or table b false ≡ is_word_byte b
-word-bytes table e b below =
-    ap (λ (t : List Bool). get_or t b false) e ∙ get_or-map-range_with_len is_word_byte 0 256 b b false below (omega arith)
+pub marked-bytes : (p : ℕ → Bool) (table : List Bool) → table ≡ map p (range_with_len 0 256) → (b : ℕ) → b < 256 → get_or table b false ≡ p b
+marked-bytes p table e b below =
+    ap (λ (t : List Bool). get_or t b false) e ∙ get_or-map-range_with_len p 0 256 b b false below (omega arith)
 
 -- four elements that pass stand before those of the rest
 pub record IsBehindFour (p : ℕ → Bool) (xs rest : List ℕ) : Type 0 where

@@ -23,10 +23,34 @@ pub enum Front {
     LongName,
 }
 
+// Which bytes are blanks: space, tab, carriage return and line feed.
+const BLANKS: [bool; 256] = [
+    false, false, false, false, false, false, false, false, false, true, true, false, false, true,
+    false, false, false, false, false, false, false, false, false, false, false, false, false,
+    false, false, false, false, false, true, false, false, false, false, false, false, false, false,
+    false, false, false, false, false, false, false, false, false, false, false, false, false,
+    false, false, false, false, false, false, false, false, false, false, false, false, false,
+    false, false, false, false, false, false, false, false, false, false, false, false, false,
+    false, false, false, false, false, false, false, false, false, false, false, false, false,
+    false, false, false, false, false, false, false, false, false, false, false, false, false,
+    false, false, false, false, false, false, false, false, false, false, false, false, false,
+    false, false, false, false, false, false, false, false, false, false, false, false, false,
+    false, false, false, false, false, false, false, false, false, false, false, false, false,
+    false, false, false, false, false, false, false, false, false, false, false, false, false,
+    false, false, false, false, false, false, false, false, false, false, false, false, false,
+    false, false, false, false, false, false, false, false, false, false, false, false, false,
+    false, false, false, false, false, false, false, false, false, false, false, false, false,
+    false, false, false, false, false, false, false, false, false, false, false, false, false,
+    false, false, false, false, false, false, false, false, false, false, false, false, false,
+    false, false, false, false, false, false, false, false, false, false, false, false, false,
+    false, false, false, false, false, false, false, false, false, false, false, false, false,
+    false, false, false, false, false, false, false,
+];
+
 fn is_blank(b: u8) -> bool
     ensures { result ≡ is_blank b }
 {
-    b <= b' ' && (b == b' ' || b == b'\n' || b == b'\t' || b == b'\r')
+    is_marked(&BLANKS, b)
 }
 
 // Which bytes are letters, digits or `_`.
@@ -129,7 +153,27 @@ fn word_len(text: &[u8]) -> usize
     text.len() - (rest.len() - word_end(rest))
 }
 
+// How many bytes of a word stand first, where there are most often less than four.
 fn word_end(text: &[u8]) -> usize
+    ensures { result ≡ prefix_len is_word_byte text.now }
+{
+    let [first, second, third, fourth, ..] = text else {
+        return last_word_len(text);
+    };
+    if !is_word_byte(*first) {
+        0
+    } else if !is_word_byte(*second) {
+        1
+    } else if !is_word_byte(*third) {
+        2
+    } else if !is_word_byte(*fourth) {
+        3
+    } else {
+        last_word_len(text)
+    }
+}
+
+fn last_word_len(text: &[u8]) -> usize
     ensures { result ≡ prefix_len is_word_byte text.now }
 {
     text.iter().take_while(|b| is_word_byte(**b)).count()

@@ -71,7 +71,7 @@ const I_WORDS: [(&str, Word); 5] = [
     ("if", Word::If),
 ];
 
-const M_WORDS: [(&str, Word); 2] = [("module", Word::Module), ("mode", Word::Mode)];
+const M_WORDS: [(&str, Word); 2] = [("mode", Word::Mode), ("module", Word::Module)];
 
 const P_WORDS: [(&str, Word); 4] = [
     ("program", Word::Program),
