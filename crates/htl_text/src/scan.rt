@@ -27,7 +27,7 @@ pub enum Front {
 const BLANKS: [bool; 256] = [
     false, false, false, false, false, false, false, false, false, true, true, false, false, true,
     false, false, false, false, false, false, false, false, false, false, false, false, false,
-    false, false, false, false, false, true, false, false, false, false, false, false, false, false,
+    false, false, false, false, false, true, false, false, false, false, false, false, false,
     false, false, false, false, false, false, false, false, false, false, false, false, false,
     false, false, false, false, false, false, false, false, false, false, false, false, false,
     false, false, false, false, false, false, false, false, false, false, false, false, false,
@@ -44,7 +44,7 @@ const BLANKS: [bool; 256] = [
     false, false, false, false, false, false, false, false, false, false, false, false, false,
     false, false, false, false, false, false, false, false, false, false, false, false, false,
     false, false, false, false, false, false, false, false, false, false, false, false, false,
-    false, false, false, false, false, false, false,
+    false, false, false, false, false, false, false, false,
 ];
 
 fn is_blank(b: u8) -> bool
