@@ -1,4 +1,4 @@
-use Rattle.std.proofs.Common.{◌≡◌, List, ℕ, Some, refl, subst}
+use Rattle.std.proofs.Common.{◌≡◌, List, ℕ, Some, refl, sym, subst}
 use Rattle.htl_top.proofs.Inputs.{taken_none}
 use Rattle.htl_top.specs.Answers.{files, streams}
 use Rattle.htl_top.specs.Causes.{IsSource}
@@ -10,7 +10,7 @@ returns-in-Ok-clause-answer g c =
     let held : IsSource (Some c.args.platform.now) shelf.holds c.in-Ok.bytes.items =
     record { word = c.args.platform.now; named = refl; held = c.in-Ok.ensures.bytes; short = c.in-Ok.ensures.short } in
     c.compile_input_on.ensures.answer (Some c.args.platform.now) shelf
-    (subst (λ (bs : List ℕ). IsSource (Some c.args.platform.now) shelf.holds bs) c.as_slice.ensures.value held)
+    (subst (λ (bs : List ℕ). IsSource (Some c.args.platform.now) shelf.holds bs) (sym c.as_slice.ensures.value) held)
 
 pub returns-in-Ok-clause-tables : goal.returns-in-Ok-clause-tables
 returns-in-Ok-clause-tables g c =
@@ -18,7 +18,7 @@ returns-in-Ok-clause-tables g c =
     let held : IsSource (Some c.args.platform.now) holds c.in-Ok.bytes.items =
     record { word = c.args.platform.now; named = refl; held = c.in-Ok.ensures.bytes; short = c.in-Ok.ensures.short } in
     c.compile_input_on.ensures.tables (Some c.args.platform.now) holds
-    (subst (λ (bs : List ℕ). IsSource (Some c.args.platform.now) holds bs) c.as_slice.ensures.value held)
+    (subst (λ (bs : List ℕ). IsSource (Some c.args.platform.now) holds bs) (sym c.as_slice.ensures.value) held)
 
 pub returns-in-Err-Failed-clause-taken : goal.returns-in-Err-Failed-clause-taken
 returns-in-Err-Failed-clause-taken g c = taken_none 1052672 (g.R.Source.rest c.args.input.now)

@@ -1,4 +1,6 @@
+use Rattle.std.proofs.Common.{sym, subst}
 use Rattle.htl_compile.proofs.OnPlatform.{compiled_on, no_platform_on}
+use Rattle.htl_compile.specs.OnPlatform.{HasPlatformFault}
 use Rattle.htl_top.proofs.Stopping.{IsNotCompiledOn-unread, IsNotCompiledOn-unbuilt}
 use Rattle.htl_top.proofs.source.compile_source_on.Goals as goal
 
@@ -7,7 +9,8 @@ returns-in-Err-clause-fault c = IsNotCompiledOn-unread c.args.bytes.now c.args.p
 
 pub returns-in-Err-Refused-clause-fault : goal.returns-in-Err-Refused-clause-fault
 returns-in-Err-Refused-clause-fault c =
-    no_platform_on c.args.bytes.now c.args.platform.now c.in-Ok.tables c.in-Err-Refused.fault c.requires c.in-Ok.ensures.read (rw c.in-Err-Refused.field-0-is at c.in-Err-Refused.ensures.refused)
+    subst (HasPlatformFault c.args.bytes.now c.args.platform.now) (sym c.in-Err-Refused.fault-is)
+    (no_platform_on c.args.bytes.now c.args.platform.now c.in-Ok.tables c.in-Err-Refused.fault c.requires c.in-Ok.ensures.read (rw c.in-Err-Refused.field-0-is at c.in-Err-Refused.ensures.refused))
 
 pub returns-in-Ok-object_of_tables-clause-compiled : goal.returns-in-Ok-object_of_tables-clause-compiled
 returns-in-Ok-object_of_tables-clause-compiled c =
