@@ -15,7 +15,7 @@ function name_of(text,    w, n, i) {
 	if (w == "object" && part[2] != "function") return w " " part[2] " " part[4]
 	if (w == "object") return w " " part[2]
 	if (w == "script") return w " " part[3]
-	if (w == "shelf") return w " " part[2]
+	if (w == "shelf" || w == "platform") return w " " part[2]
 	return w
 }
 

@@ -14,8 +14,18 @@ _htl() {
 	'')
 		local answers=
 		[ "$before" = --explain ] && answers="usage char number name-long long syntax twice unknown kind not-a-tree limit type deep too-long
-			ill-formed unschedulable object form range order overrun no-end after size failed read write memory"
+			ill-formed unschedulable platform text shape object form range order overrun no-end after size failed read write memory"
 		COMPREPLY=($(compgen -W "$commands --explain --unproved $answers --prove --svg --vcd --help --version" -- "$word"))
+		;;
+	compile)
+		case $before in
+		compile) COMPREPLY=($(compgen -W with -- "$word")) ;;
+		with)
+			compopt -o filenames 2>/dev/null
+			local IFS=$'\n'
+			COMPREPLY=($(compgen -d -- "$word") $(compgen -f -X '!*.toml' -- "$word" | while read -r i; do [ -d "$i" ] || printf '%s\n' "$i"; done))
+			;;
+		esac
 		;;
 	go | jobs | run | check | show | plan)
 		[ "$before" = "$command" ] || return

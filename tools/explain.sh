@@ -6,6 +6,8 @@ case $form in
 file) shown=$2 ;;
 *) shown="(standard input)" ;;
 esac
+platform=
+[ "$form" != platform ] || platform=$3
 
 outline() { LC_ALL=C awk -f "$tools/outline.awk" <"$1" 2>/dev/null; }
 
@@ -66,6 +68,17 @@ at_script_line() {
 	fi
 }
 
+# A fault of the platform file, at the entry of this number where there is one: its line and its key.
+at_entry() {
+	shown=$platform
+	entry=$(LC_ALL=C awk -v number="$1" -f "$tools/entries.awk" <"$platform" 2>/dev/null)
+	if [ -n "$entry" ]; then
+		numbered_line "$platform" "${entry%% *}" "${entry#* }: $meaning"
+	else
+		echo "$shown: $meaning"
+	fi
+}
+
 # $1 the fault line, empty where there is none; $2 the source and $3 the script, where they are known.
 explain_fault() {
 	[ -n "$1" ] || return 0
@@ -94,6 +107,9 @@ explain_fault() {
 			esac
 			;;
 		'htl: unschedulable '*) overload "$2" ${1#htl: unschedulable } ;;
+		'htl: platform text') echo "$platform: $meaning" ;;
+		'htl: platform '*) at_entry "${1##* }" ;;
+		'htl: shelf '*) echo "${platform:-$shown}: $meaning" ;;
 		'htl: script '*)
 			number=${1#htl: script }
 			kind=${number#* }

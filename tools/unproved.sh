@@ -54,11 +54,11 @@ why_not() {
 run_unproved() {
 	word=$1
 	shift
-	if [ "$form" = file ]; then
-		set -- --data "FILE=$room/file" -- "$word" FILE
-	else
-		set -- -- "$word" "$@"
-	fi
+	case $form in
+	file) set -- --data "FILE=$room/file" -- "$word" FILE ;;
+	platform) set -- --data "FILE=$room/file" -- "$word" with FILE ;;
+	*) set -- -- "$word" "$@" ;;
+	esac
 	(cd "$crate" && exec rt try --seconds "$seconds" "$@") <"$room/in" >"$room/out" 2>"$room/log" &
 	child=$!
 	watch_child "building and running with nothing proved"
@@ -68,9 +68,14 @@ make_room
 judge_words "$@"
 . "$tools/explain.sh"
 [ "$form" != wrong ] || answer 2 'htl: usage'
-if [ "$form" = file ]; then
+case $form in
+file) file=$2 ;;
+platform) file=$3 ;;
+*) file= ;;
+esac
+if [ "$form" = file ] || [ "$form" = platform ]; then
 	# The greatest file that is read is an object of 16 MiB; one block more tells that a file is longer.
-	{ [ ! -d "$2" ] && head -c 16781312 <"$2" >"$room/file"; } 2>/dev/null || answer 8 'htl: shelf failed'
+	{ [ ! -d "$file" ] && head -c 16781312 <"$file" >"$room/file"; } 2>/dev/null || answer 8 'htl: shelf failed'
 fi
 need_rt
 about="about a minute, two or three on a busy machine, with nothing proved"

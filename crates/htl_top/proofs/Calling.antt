@@ -1,14 +1,17 @@
 -- From the answer of a command to each clause of the top call.
-use Rattle.std.proofs.Common.{◌≡◌, ◌≤◌, ◌<◌, ◌⊎◌, ℕ, List, length, Option, None, Some, refl, subst, inl, inr}
+use Rattle.std.proofs.Common.{◌≡◌, ◌≤◌, ◌<◌, ◌⊎◌, ℕ, List, length, Option, None, Some, Ok, refl, subst, inl, inr}
 use Rattle.std.specs.Prelude.{◌↔◌}
 use Rattle.std.specs.Io.KnownBytes.{append_known}
 use Rattle.htl_base.specs.declared.limits.TheConstants.{MAX_SOURCE, MAX_OBJECT}
 use Rattle.htl_compile.specs.Building.{IsCompileFault}
+use Rattle.htl_compile.specs.OnPlatform.{IsWithFault}
 use Rattle.htl_compile.specs.Built.{built, AreSchedulable}
 use Rattle.htl_compile.specs.Coded.{AreTyped}
 use Rattle.htl_compile.specs.Sources.{IsTablesOf}
 use Rattle.htl_compile.specs.declared.compiling.CompileFault.{CompileFault}
 use Rattle.htl_compile.specs.declared.compiling.CompileFault.TheVariants as compile
+use Rattle.htl_compile.specs.declared.compiling_on.WithFault.{WithFault}
+use Rattle.htl_compile.specs.declared.compiling_on.WithFault.TheVariants as on
 use Rattle.htl_compile.specs.declared.source_fault.SourceFault.TheVariants as source
 use Rattle.htl_console.specs.declared.shown.Shown.{Shown}
 use Rattle.htl_console.specs.declared.shown.Shown.TheVariants.{Jobs}
@@ -20,8 +23,13 @@ use Rattle.htl_model.specs.Broken.{Formed}
 use Rattle.htl_model.specs.Tables.{Tables}
 use Rattle.htl_model.specs.declared.event.Event.{Event}
 use Rattle.htl_object.specs.declared.object.Object.{Object}
+use Rattle.htl_platform.specs.Applied.{with_worst}
+use Rattle.htl_platform.specs.Platforms.{platform_of}
+use Rattle.htl_platform.specs.declared.fault.PlatformFault.{PlatformFault}
+use Rattle.htl_platform.specs.declared.platform.Platform.{Platform as PlatformOf}
 use Rattle.htl_script.specs.declared.fault.ScriptFault.{ScriptFault}
 use Rattle.htl_top.proofs.Compiling as compiling
+use Rattle.htl_top.proofs.CompilingOn as platforms
 use Rattle.htl_top.proofs.Going as going
 use Rattle.htl_top.proofs.ObjectAnswering as objects
 use Rattle.htl_top.proofs.ObjectAnswering.{IsWork, text_is_work}
@@ -31,7 +39,8 @@ use Rattle.htl_top.specs.Answers.{Files, Streams, IsBeforeScript, IsBeforeRun}
 use Rattle.htl_top.specs.Calls.{IsCall}
 use Rattle.htl_top.specs.Causes.{IsFaultOf, IsLongFile, IsGiven, IsOrMemory}
 use Rattle.htl_top.specs.Checked.{check_text, IsChecked}
-use Rattle.htl_top.specs.Compiling.{IsCompileCause, IsCompiling, compiled_bytes}
+use Rattle.htl_top.specs.Compiling.{IsCompiling, compiled_bytes}
+use Rattle.htl_top.specs.CompilingOn.{IsCompileCause, IsPlatformCause, IsCompilingOn, compiled_on}
 use Rattle.htl_top.specs.Going.{IsGoing, IsReadySource}
 use Rattle.htl_top.specs.Objects.{IsRefusedFile, IsAcceptedFile, IsOnObject, IsReadyObject, IsStopped, IsTextAnswer, Work}
 use Rattle.htl_top.specs.Planned.{IsPlanned, IsWholePlan, IsCutPlan, IsBadSelection}
@@ -40,9 +49,11 @@ use Rattle.htl_top.specs.Scripts.{IsWhole, IsBad}
 use Rattle.htl_top.specs.SelectionInput.{Whole, Bad, input_of}
 use Rattle.htl_top.specs.Shown.{show_text, IsShown}
 use Rattle.htl_top.specs.Sources.{IsProgram, IsInputProgram, answer_of}
-use Rattle.htl_top.specs.Words.{Command, Go, Compile, Run, Check, Plan, Show, source_of, object_of}
+use Rattle.htl_top.specs.SourcesOn.{IsProgramOn, answer_on}
+use Rattle.htl_top.specs.Words.{Command, Go, Compile, CompileWith, Run, Check, Plan, Show, source_of, platform_file, object_of}
 use Rattle.htl_top.specs.declared.outcome.Outcome.{Outcome}
-use Rattle.htl_top.specs.declared.outcome.Outcome.TheVariants.{Done, Usage, Source, Object as Refused, Script, Shelf, Read, Write, Memory}
+use Rattle.htl_top.specs.declared.outcome.Outcome.TheVariants.{Done, Usage, Source, Platform, Object as Refused, Script, Shelf, Read, Write, Memory}
+use Rattle.htl_top.specs.declared.outcome.ShelfCause.{ShelfCause}
 use Rattle.htl_top.specs.declared.outcome.ShelfCause.TheVariants.{Failed, TooLong}
 
 abbrev RunOf : Shown → Work
@@ -78,6 +89,9 @@ long_usage seen e = cc
 refused_usage : (f : ObjectFault) → Refused f ≡ Usage → ⊥
 refused_usage f e = cc
 
+platform_usage : (f : PlatformFault) → Platform f ≡ Usage → ⊥
+platform_usage f e = cc
+
 fault_usage : (f : CompileFault) → answer_of f ≡ Usage → ⊥
 fault_usage (compile.Source f) e = cc
 fault_usage (compile.IllFormed f) e = cc
@@ -95,6 +109,7 @@ module _ (shelf : Files) (old new : Streams) where
   usage (Some (Go name)) outcome call =
       not_asked (Go name) (outcome ≡ Usage) (λ e. going.no_usage (Some name) shelf old new (subst (λ o. IsGoing (Some name) shelf old new o) e call))
   usage (Some Compile) outcome call = not_asked Compile (outcome ≡ Usage) (λ e. subst (λ o. IsCompiling old new o) e call)
+  usage (Some (CompileWith file)) outcome call = not_asked (CompileWith file) (outcome ≡ Usage) (λ e. subst (λ o. IsCompilingOn (Some file) shelf old new o) e call)
   usage (Some (Run show name)) outcome call =
       not_asked (Run show name) (outcome ≡ Usage)
       (λ e. objects.no_usage (RunOf show) (running show) (Some name) shelf old new (subst (λ o. IsOnObject (RunOf show) (Some name) shelf old new o) e call))
@@ -108,24 +123,26 @@ module _ (shelf : Files) (old new : Streams) where
   -- ---- of an answer
 
   pub shelf_failed : (command : Option Command) → IsCall command shelf old new (Shelf Failed)
-      → IsFaultOf (source_of command) shelf.before shelf.after ⊎ IsFaultOf (object_of command) shelf.before shelf.after
+      → IsFaultOf (source_of command) shelf.before shelf.after ⊎ IsFaultOf (object_of command) shelf.before shelf.after ⊎ IsFaultOf (platform_file command) shelf.before shelf.after
   shelf_failed None call = absurd (failed_usage call.0)
   shelf_failed (Some (Go name)) call = inl (going.shelf_failed (Some name) shelf old new call)
   shelf_failed (Some Compile) call = absurd call
-  shelf_failed (Some (Run show name)) call = inr (objects.shelf_failed (RunOf show) (running show) (Some name) shelf old new call)
-  shelf_failed (Some (Check name)) call = inr (objects.shelf_failed IsChecked checking (Some name) shelf old new call)
-  shelf_failed (Some (Plan name)) call = inr (objects.shelf_failed IsPlanned planning (Some name) shelf old new call)
-  shelf_failed (Some (Show name)) call = inr (objects.shelf_failed IsShown showing (Some name) shelf old new call)
+  shelf_failed (Some (CompileWith file)) call = inr (inr call.0)
+  shelf_failed (Some (Run show name)) call = inr (inl (objects.shelf_failed (RunOf show) (running show) (Some name) shelf old new call))
+  shelf_failed (Some (Check name)) call = inr (inl (objects.shelf_failed IsChecked checking (Some name) shelf old new call))
+  shelf_failed (Some (Plan name)) call = inr (inl (objects.shelf_failed IsPlanned planning (Some name) shelf old new call))
+  shelf_failed (Some (Show name)) call = inr (inl (objects.shelf_failed IsShown showing (Some name) shelf old new call))
 
   pub shelf_long : (command : Option Command) (seen : ℕ) → IsCall command shelf old new (Shelf (TooLong seen))
-      → IsLongFile MAX_SOURCE (source_of command) shelf.holds seen ⊎ IsLongFile MAX_OBJECT (object_of command) shelf.holds seen
+      → IsLongFile MAX_SOURCE (source_of command) shelf.holds seen ⊎ IsLongFile MAX_OBJECT (object_of command) shelf.holds seen ⊎ IsLongFile MAX_SOURCE (platform_file command) shelf.holds seen
   shelf_long None seen call = absurd (long_usage seen call.0)
   shelf_long (Some (Go name)) seen call = inl (going.shelf_long (Some name) shelf old new seen call)
   shelf_long (Some Compile) seen call = absurd call
-  shelf_long (Some (Run show name)) seen call = inr (objects.shelf_long (RunOf show) (running show) (Some name) shelf old new seen call)
-  shelf_long (Some (Check name)) seen call = inr (objects.shelf_long IsChecked checking (Some name) shelf old new seen call)
-  shelf_long (Some (Plan name)) seen call = inr (objects.shelf_long IsPlanned planning (Some name) shelf old new seen call)
-  shelf_long (Some (Show name)) seen call = inr (objects.shelf_long IsShown showing (Some name) shelf old new seen call)
+  shelf_long (Some (CompileWith file)) seen call = inr (inr call.0)
+  shelf_long (Some (Run show name)) seen call = inr (inl (objects.shelf_long (RunOf show) (running show) (Some name) shelf old new seen call))
+  shelf_long (Some (Check name)) seen call = inr (inl (objects.shelf_long IsChecked checking (Some name) shelf old new seen call))
+  shelf_long (Some (Plan name)) seen call = inr (inl (objects.shelf_long IsPlanned planning (Some name) shelf old new seen call))
+  shelf_long (Some (Show name)) seen call = inr (inl (objects.shelf_long IsShown showing (Some name) shelf old new seen call))
 
   -- no object has an answer of a source
   of_no_work : (f : CompileFault) → (f ≡ compile.Memory → ⊥) → objects.IsOfWork (answer_of f) → ⊥
@@ -147,15 +164,31 @@ module _ (shelf : Files) (old new : Streams) where
   cause None f told call = fault_usage f call.0
   cause (Some (Go name)) f told call = going.cause (Some name) shelf old new f told call
   cause (Some Compile) f told call = compiling.cause old new f told call
+  cause (Some (CompileWith file)) f told call = platforms.cause (Some file) shelf old new f told call
   cause (Some (Run show name)) f told call = no_source (RunOf show) (running show) name f told call
   cause (Some (Check name)) f told call = no_source IsChecked checking name f told call
   cause (Some (Plan name)) f told call = no_source IsPlanned planning name f told call
   cause (Some (Show name)) f told call = no_source IsShown showing name f told call
 
+  -- no run has an answer of a platform file
+  no_platform : (Does : Work) (work : IsWork Does) (name : List ℕ) (f : PlatformFault) → IsOnObject Does (Some name) shelf old new (Platform f) → ⊥
+  no_platform Does work name f on = objects.stopped Does work (Some name) shelf old new (Platform f) on (λ w. w)
+
+  pub platform : (command : Option Command) (f : PlatformFault) → IsCall command shelf old new (Platform f) → IsPlatformCause command shelf.holds old.rest f
+  platform None f call = absurd (platform_usage f call.0)
+  platform (Some (Go name)) f call = absurd (going.no_platform (Some name) shelf old new f call)
+  platform (Some Compile) f call = absurd call
+  platform (Some (CompileWith file)) f call = call.0
+  platform (Some (Run show name)) f call = absurd (no_platform (RunOf show) (running show) name f call)
+  platform (Some (Check name)) f call = absurd (no_platform IsChecked checking name f call)
+  platform (Some (Plan name)) f call = absurd (no_platform IsPlanned planning name f call)
+  platform (Some (Show name)) f call = absurd (no_platform IsShown showing name f call)
+
   pub object : (command : Option Command) (f : ObjectFault) → IsCall command shelf old new (Refused f) → IsRefusedFile (object_of command) shelf.holds f
   object None f call = absurd (refused_usage f call.0)
   object (Some (Go name)) f call = absurd (going.no_object (Some name) shelf old new f call)
   object (Some Compile) f call = absurd call
+  object (Some (CompileWith file)) f call = absurd call
   object (Some (Run show name)) f call = objects.object (RunOf show) (running show) (Some name) shelf old new f call
   object (Some (Check name)) f call = objects.object IsChecked checking (Some name) shelf old new f call
   object (Some (Plan name)) f call = objects.object IsPlanned planning (Some name) shelf old new f call
@@ -163,19 +196,36 @@ module _ (shelf : Files) (old new : Streams) where
 
   -- ---- what stays as it was
 
-  pub unread : (command : Option Command) (outcome : Outcome) → IsCall command shelf old new outcome → (command ≡ Some Compile → ⊥) → IsBeforeScript outcome → new.rest ≡ old.rest
-  unread None outcome call other early = call.1.rest
-  unread (Some (Go name)) outcome call other early = going.unread (Some name) shelf old new outcome call early
-  unread (Some Compile) outcome call other early = absurd (other refl)
-  unread (Some (Run show name)) outcome call other early = objects.unread (RunOf show) (running show) (Some name) shelf old new outcome call early
-  unread (Some (Check name)) outcome call other early = objects.unread IsChecked checking (Some name) shelf old new outcome call early
-  unread (Some (Plan name)) outcome call other early = objects.unread IsPlanned planning (Some name) shelf old new outcome call early
-  unread (Some (Show name)) outcome call other early = objects.unread IsShown showing (Some name) shelf old new outcome call early
+  pub unread : (command : Option Command) (outcome : Outcome) → IsCall command shelf old new outcome → (command ≡ Some Compile → ⊥) → ((file : List ℕ) → command ≡ Some (CompileWith file) → ⊥)
+      → IsBeforeScript outcome → new.rest ≡ old.rest
+  unread None outcome call other apart early = call.1.rest
+  unread (Some (Go name)) outcome call other apart early = going.unread (Some name) shelf old new outcome call early
+  unread (Some Compile) outcome call other apart early = absurd (other refl)
+  unread (Some (CompileWith file)) outcome call other apart early = absurd (apart file refl)
+  unread (Some (Run show name)) outcome call other apart early = objects.unread (RunOf show) (running show) (Some name) shelf old new outcome call early
+  unread (Some (Check name)) outcome call other apart early = objects.unread IsChecked checking (Some name) shelf old new outcome call early
+  unread (Some (Plan name)) outcome call other apart early = objects.unread IsPlanned planning (Some name) shelf old new outcome call early
+  unread (Some (Show name)) outcome call other apart early = objects.unread IsShown showing (Some name) shelf old new outcome call early
+
+  pub unfetched : (command : Option Command) (outcome : Outcome) → IsCall command shelf old new outcome → (why : ShelfCause) → outcome ≡ Shelf why → new.rest ≡ old.rest
+  unfetched command outcome call why is = by command why (subst (λ (o : Outcome). IsCall command shelf old new o) is call)
+    where
+      by : (command : Option Command) (why : ShelfCause) → IsCall command shelf old new (Shelf why) → new.rest ≡ old.rest
+      by None why call = call.1.rest
+      by (Some (Go name)) why call = going.unread (Some name) shelf old new (Shelf why) call tt
+      by (Some Compile) why call = absurd call
+      by (Some (CompileWith file)) Failed call = call.1.rest
+      by (Some (CompileWith file)) (TooLong seen) call = call.1.rest
+      by (Some (Run show name)) why call = objects.unread (RunOf show) (running show) (Some name) shelf old new (Shelf why) call tt
+      by (Some (Check name)) why call = objects.unread IsChecked checking (Some name) shelf old new (Shelf why) call tt
+      by (Some (Plan name)) why call = objects.unread IsPlanned planning (Some name) shelf old new (Shelf why) call tt
+      by (Some (Show name)) why call = objects.unread IsShown showing (Some name) shelf old new (Shelf why) call tt
 
   pub unwritten : (command : Option Command) (outcome : Outcome) → IsCall command shelf old new outcome → IsBeforeRun outcome → new.written ≡ old.written
   unwritten None outcome call early = call.1.written
   unwritten (Some (Go name)) outcome call early = going.unwritten (Some name) shelf old new outcome call early
   unwritten (Some Compile) outcome call early = compiling.unwritten old new outcome call early
+  unwritten (Some (CompileWith file)) outcome call early = platforms.unwritten (Some file) shelf old new outcome call early
   unwritten (Some (Run show name)) outcome call early = objects.unwritten (RunOf show) (running show) (Some name) shelf old new outcome call early
   unwritten (Some (Check name)) outcome call early = objects.unwritten IsChecked checking (Some name) shelf old new outcome call early
   unwritten (Some (Plan name)) outcome call early = objects.unwritten IsPlanned planning (Some name) shelf old new outcome call early
@@ -188,6 +238,7 @@ module _ (shelf : Files) (old new : Streams) where
   of_source None word outcome named call = absurd (some_not_none (List ℕ) None word named refl)
   of_source (Some (Go name)) word outcome named call = call
   of_source (Some Compile) word outcome named call = absurd (some_not_none (List ℕ) None word named refl)
+  of_source (Some (CompileWith file)) word outcome named call = absurd (some_not_none (List ℕ) None word named refl)
   of_source (Some (Run show name)) word outcome named call = absurd (some_not_none (List ℕ) None word named refl)
   of_source (Some (Check name)) word outcome named call = absurd (some_not_none (List ℕ) None word named refl)
   of_source (Some (Plan name)) word outcome named call = absurd (some_not_none (List ℕ) None word named refl)
@@ -295,6 +346,63 @@ module _ (shelf : Files) (old new : Streams) where
   compile_complete command outcome call is bytes told few t of typed formed free quiet still =
       compiling.complete old new bytes told few t of typed formed free outcome (compiles command outcome is call) quiet still
 
+  -- ---- `compile with`
+
+  adapts : (command : Option Command) (file : List ℕ) (outcome : Outcome) → command ≡ Some (CompileWith file) → IsCall command shelf old new outcome → IsCompilingOn (Some file) shelf old new outcome
+  adapts command file outcome is call = subst (λ (c : Option Command). IsCall c shelf old new outcome) is call
+
+  adapted_as : (command : Option Command) (outcome other : Outcome) → IsCall command shelf old new outcome → (file : List ℕ) → command ≡ Some (CompileWith file) → outcome ≡ other
+      → IsCompilingOn (Some file) shelf old new other
+  adapted_as command outcome other call file is same = subst (λ (o : Outcome). IsCompilingOn (Some file) shelf old new o) same (adapts command file outcome is call)
+
+  pub on_done : (command : Option Command) (outcome : Outcome) → IsCall command shelf old new outcome → (file : List ℕ) → command ≡ Some (CompileWith file) → outcome ≡ Done
+      → (new.rest ≡ none_left old.rest) × IsProgramOn (Some file) shelf.holds old.rest (λ p t. new.written ≡ append_known old.written (compiled_on p t))
+  on_done command outcome call file is same = adapted_as command outcome Done call file is same
+
+  pub on_cut : (command : Option Command) (outcome : Outcome) → IsCall command shelf old new outcome → (file : List ℕ) → command ≡ Some (CompileWith file) → outcome ≡ Write
+      → Rose old.write_faults new.write_faults × IsProgramOn (Some file) shelf.holds old.rest (λ p t. AppendsPrefix old.written new.written (compiled_on p t))
+  on_cut command outcome call file is same = adapted_as command outcome Write call file is same
+
+  pub on_read : (command : Option Command) (outcome : Outcome) → IsCall command shelf old new outcome → (file : List ℕ) → command ≡ Some (CompileWith file) → outcome ≡ Read
+      → Rose old.read_faults new.read_faults × (new.written ≡ old.written)
+  on_read command outcome call file is same = let read = adapted_as command outcome Read call file is same in (read.1, read.2)
+
+  -- the command names the platform file that is given
+  of_platform : (command : Option Command) (word : List ℕ) (outcome : Outcome) → platform_file command ≡ Some word → IsCall command shelf old new outcome
+      → IsCompilingOn (platform_file command) shelf old new outcome
+  of_platform None word outcome named call = absurd (some_not_none (List ℕ) None word named refl)
+  of_platform (Some (Go name)) word outcome named call = absurd (some_not_none (List ℕ) None word named refl)
+  of_platform (Some Compile) word outcome named call = absurd (some_not_none (List ℕ) None word named refl)
+  of_platform (Some (CompileWith file)) word outcome named call = call
+  of_platform (Some (Run show name)) word outcome named call = absurd (some_not_none (List ℕ) None word named refl)
+  of_platform (Some (Check name)) word outcome named call = absurd (some_not_none (List ℕ) None word named refl)
+  of_platform (Some (Plan name)) word outcome named call = absurd (some_not_none (List ℕ) None word named refl)
+  of_platform (Some (Show name)) word outcome named call = absurd (some_not_none (List ℕ) None word named refl)
+
+  pub long_platform : (command : Option Command) (outcome : Outcome) → IsCall command shelf old new outcome → (file : List ℕ)
+      → IsGiven (platform_file command) shelf.holds shelf.before shelf.after file → 1048576 < length file → IsOrMemory outcome (Shelf (TooLong (length file)))
+  long_platform command outcome call file given long =
+      platforms.long_platform (platform_file command) shelf old new file given long outcome (of_platform command given.word outcome given.named call)
+
+  pub long_input_on : (command : Option Command) (outcome : Outcome) → IsCall command shelf old new outcome → (file : List ℕ)
+      → IsGiven (platform_file command) shelf.holds shelf.before shelf.after file → length file ≤ 1048576 → (bytes : List ℕ) → old.rest ≡ Some bytes → 1048576 < length bytes
+      → (Rose old.read_faults new.read_faults → ⊥) → IsOrMemory outcome (Source (source.TooLong 1048577))
+  long_input_on command outcome call file given small bytes told long quiet =
+      platforms.long_input (platform_file command) shelf old new file given small bytes told long outcome (of_platform command given.word outcome given.named call) quiet
+
+  pub faulty_on : (command : Option Command) (outcome : Outcome) → IsCall command shelf old new outcome → (file : List ℕ)
+      → IsGiven (platform_file command) shelf.holds shelf.before shelf.after file → length file ≤ 1048576 → (bytes : List ℕ) → old.rest ≡ Some bytes → length bytes ≤ 1048576
+      → (f : WithFault) → (f ≡ on.Compile compile.Memory → ⊥) → IsWithFault bytes file f → (Rose old.read_faults new.read_faults → ⊥) → IsOrMemory outcome (answer_on f)
+  faulty_on command outcome call file given small bytes told few f known fault quiet =
+      platforms.faulty_on (platform_file command) shelf old new file given small bytes told few f known fault outcome (of_platform command given.word outcome given.named call) quiet
+
+  pub on_complete : (command : Option Command) (outcome : Outcome) → IsCall command shelf old new outcome → (file : List ℕ)
+      → IsGiven (platform_file command) shelf.holds shelf.before shelf.after file → length file ≤ 1048576 → (bytes : List ℕ) → old.rest ≡ Some bytes → length bytes ≤ 1048576
+      → (t : Tables) (p : PlatformOf) → IsTablesOf bytes t → AreTyped t → platform_of t file ≡ Ok p → Formed (with_worst t p.worst) → AreSchedulable (with_worst t p.worst)
+      → (Rose old.read_faults new.read_faults → ⊥) → (Rose old.write_faults new.write_faults → ⊥) → IsOrMemory outcome Done
+  on_complete command outcome call file given small bytes told few t p of typed says formed free quiet still =
+      platforms.complete (platform_file command) shelf old new file given small bytes told few t p of typed says formed free outcome (of_platform command given.word outcome given.named call) quiet still
+
   -- ---- of an object that is named
 
   pub long_object : (command : Option Command) (bytes : List ℕ) (outcome : Outcome) → IsGiven (object_of command) shelf.holds shelf.before shelf.after bytes
@@ -302,6 +410,7 @@ module _ (shelf : Files) (old new : Streams) where
   long_object None bytes outcome given call long = absurd (some_not_none (List ℕ) None given.word given.named refl)
   long_object (Some (Go name)) bytes outcome given call long = absurd (some_not_none (List ℕ) None given.word given.named refl)
   long_object (Some Compile) bytes outcome given call long = absurd (some_not_none (List ℕ) None given.word given.named refl)
+  long_object (Some (CompileWith file)) bytes outcome given call long = absurd (some_not_none (List ℕ) None given.word given.named refl)
   long_object (Some (Run show name)) bytes outcome given call long = objects.long_object (RunOf show) (running show) (Some name) shelf old new bytes given outcome call long
   long_object (Some (Check name)) bytes outcome given call long = objects.long_object IsChecked checking (Some name) shelf old new bytes given outcome call long
   long_object (Some (Plan name)) bytes outcome given call long = objects.long_object IsPlanned planning (Some name) shelf old new bytes given outcome call long
@@ -312,6 +421,7 @@ module _ (shelf : Files) (old new : Streams) where
   faulty_object None bytes outcome given call f short refused = absurd (some_not_none (List ℕ) None given.word given.named refl)
   faulty_object (Some (Go name)) bytes outcome given call f short refused = absurd (some_not_none (List ℕ) None given.word given.named refl)
   faulty_object (Some Compile) bytes outcome given call f short refused = absurd (some_not_none (List ℕ) None given.word given.named refl)
+  faulty_object (Some (CompileWith file)) bytes outcome given call f short refused = absurd (some_not_none (List ℕ) None given.word given.named refl)
   faulty_object (Some (Run show name)) bytes outcome given call f short refused =
       objects.faulty_object (RunOf show) (running show) (Some name) shelf old new bytes given outcome call f short refused
   faulty_object (Some (Check name)) bytes outcome given call f short refused =

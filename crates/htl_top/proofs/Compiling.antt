@@ -19,7 +19,7 @@ use Rattle.htl_top.specs.Causes.{IsOrMemory}
 use Rattle.htl_top.specs.Compiling.{IsCompiling, IsBytesCompiled, compiled_bytes}
 use Rattle.htl_top.specs.Sources.{IsInput, IsInputProgram, IsFaultyInput, IsLongInput, IsInputFault, IsNotCompiled, answer_of, outcome_of}
 use Rattle.htl_top.specs.declared.outcome.Outcome.{Outcome}
-use Rattle.htl_top.specs.declared.outcome.Outcome.TheVariants.{Done, Usage, Source, IllFormed, Unschedulable, Object as Refused, Script, Shelf, Read, Write, Memory}
+use Rattle.htl_top.specs.declared.outcome.Outcome.TheVariants.{Done, Usage, Source, IllFormed, Unschedulable, Platform, Object as Refused, Script, Shelf, Read, Write, Memory}
 use Rattle.htl_top.specs.declared.source.SourceStop.{SourceStop}
 use Rattle.htl_top.specs.declared.source.SourceStop.TheVariants as stop
 
@@ -34,6 +34,7 @@ uncompiled : (old new : Streams) (bytes : List ℕ) (s : SourceStop) → IsInput
 uncompiled old new bytes (stop.Fault f) input same is = (inr (record { bytes = bytes; input = input; fault = is }), same)
 uncompiled old new bytes (stop.IllFormed f u) input same is = (inr (record { bytes = bytes; input = input; fault = is.0 }), same)
 uncompiled old new bytes (stop.Unschedulable sel a b demand) input same is = (inr (record { bytes = bytes; input = input; fault = is }), same)
+uncompiled old new bytes (stop.Platform f) input same is = absurd is
 uncompiled old new bytes stop.Memory input same is = same
 
 pub IsCompiling-bytes : (old new : Streams) (bytes : List ℕ) (outcome : Outcome) → IsInput old.rest bytes → new.rest ≡ none_left old.rest
@@ -68,6 +69,7 @@ module _ (old new : Streams) where
   unwritten (Unschedulable sel a b demand) compiling early = compiling.1
   unwritten Memory compiling early = compiling
   unwritten Usage compiling early = absurd compiling
+  unwritten (Platform f) compiling early = absurd compiling
   unwritten (Refused f) compiling early = absurd compiling
   unwritten (Script f) compiling early = absurd compiling
   unwritten (Shelf cause) compiling early = absurd compiling
@@ -105,6 +107,7 @@ module _ (old new : Streams) where
     long_input (Unschedulable sel a b demand) compiling long quiet = inl (long_fault (compile.Unschedulable sel a b demand) long compiling.0)
     long_input Memory compiling long quiet = inr refl
     long_input Usage compiling long quiet = absurd compiling
+    long_input (Platform f) compiling long quiet = absurd compiling
     long_input (Refused f) compiling long quiet = absurd compiling
     long_input (Script f) compiling long quiet = absurd compiling
     long_input (Shelf cause) compiling long quiet = absurd compiling
@@ -129,6 +132,7 @@ module _ (old new : Streams) where
       faulty_input (Unschedulable sel a b demand) compiling quiet = inl (this (compile.Unschedulable sel a b demand) (λ e. cc) compiling.0)
       faulty_input Memory compiling quiet = inr refl
       faulty_input Usage compiling quiet = absurd compiling
+      faulty_input (Platform f) compiling quiet = absurd compiling
       faulty_input (Refused g) compiling quiet = absurd compiling
       faulty_input (Script g) compiling quiet = absurd compiling
       faulty_input (Shelf cause) compiling quiet = absurd compiling
@@ -148,6 +152,7 @@ module _ (old new : Streams) where
       complete (Unschedulable sel a b demand) compiling quiet still = absurd (no_fault (compile.Unschedulable sel a b demand) (λ e. cc) compiling.0)
       complete Memory compiling quiet still = inr refl
       complete Usage compiling quiet still = absurd compiling
+      complete (Platform f) compiling quiet still = absurd compiling
       complete (Refused g) compiling quiet still = absurd compiling
       complete (Script g) compiling quiet still = absurd compiling
       complete (Shelf cause) compiling quiet still = absurd compiling

@@ -21,13 +21,14 @@ use Rattle.htl_object.specs.Accepted.{IsAccepted}
 use Rattle.htl_object.specs.declared.object.Object.{Object as ObjectOf}
 use Rattle.htl_top.proofs.ObjectAnswering.{IsOfWork}
 use Rattle.htl_top.proofs.Running.{IsRun-source, run_only, run_unwritten}
+use Rattle.htl_platform.specs.declared.fault.PlatformFault.{PlatformFault}
 use Rattle.htl_top.specs.Answers.{Files, Streams, IsBeforeScript, IsBeforeRun}
 use Rattle.htl_top.specs.Causes.{IsFaultOf, IsLongFile, IsSource, IsGiven, IsOrMemory}
 use Rattle.htl_top.specs.Going.{IsUncompiled, IsGoing, IsBytesGoing, IsReadySource}
 use Rattle.htl_top.specs.Runs.{IsRun}
 use Rattle.htl_top.specs.Sources.{HasTables, IsProgram, IsFaultyProgram, IsNotCompiled, answer_of, outcome_of}
 use Rattle.htl_top.specs.declared.outcome.Outcome.{Outcome}
-use Rattle.htl_top.specs.declared.outcome.Outcome.TheVariants.{Done, Usage, Source, IllFormed, Unschedulable, Object as Refused, Script, Shelf, Read, Write, Memory}
+use Rattle.htl_top.specs.declared.outcome.Outcome.TheVariants.{Done, Usage, Source, IllFormed, Unschedulable, Platform, Object as Refused, Script, Shelf, Read, Write, Memory}
 use Rattle.htl_top.specs.declared.outcome.ShelfCause.TheVariants.{Failed, TooLong}
 use Rattle.htl_top.specs.declared.source.SourceStop.{SourceStop}
 use Rattle.htl_top.specs.declared.source.SourceStop.TheVariants as stop
@@ -38,6 +39,7 @@ uncompiled : (name : Option (List ℕ)) (shelf : Files) (bytes : List ℕ) (s : 
 uncompiled name shelf bytes (stop.Fault f) source is = record { bytes = bytes; source = source; fault = is }
 uncompiled name shelf bytes (stop.IllFormed f u) source is = record { bytes = bytes; source = source; fault = is.0 }
 uncompiled name shelf bytes (stop.Unschedulable sel a b demand) source is = record { bytes = bytes; source = source; fault = is }
+uncompiled name shelf bytes (stop.Platform f) source is = absurd is
 uncompiled name shelf bytes stop.Memory source is = tt
 
 pub IsGoing-bytes : (name : Option (List ℕ)) (shelf : Files) (old new : Streams) (bytes : List ℕ) (outcome : Outcome)
@@ -79,6 +81,7 @@ uncompiled_before : (name : Option (List ℕ)) (shelf : Files) (outcome : Outcom
 uncompiled_before name shelf Memory s work = refl
 uncompiled_before name shelf Done s work = absurd s
 uncompiled_before name shelf Usage s work = absurd s
+uncompiled_before name shelf (Platform f) s work = absurd s
 uncompiled_before name shelf (Source f) s work = absurd work
 uncompiled_before name shelf (IllFormed f) s work = absurd work
 uncompiled_before name shelf (Unschedulable sel a b demand) s work = absurd work
@@ -91,6 +94,7 @@ uncompiled_before name shelf Write s work = absurd s
 early_work : (outcome : Outcome) → IsBeforeScript outcome → IsOfWork outcome → ⊥
 early_work Done early work = early
 early_work Usage early work = work
+early_work (Platform f) early work = work
 early_work (Source f) early work = work
 early_work (IllFormed f) early work = work
 early_work (Unschedulable sel a b demand) early work = work
@@ -113,6 +117,9 @@ module _ (name : Option (List ℕ)) (shelf : Files) (old new : Streams) where
 
   pub no_usage : IsGoing name shelf old new Usage → ⊥
   no_usage going = stopped Usage going (λ w. w)
+
+  pub no_platform : (f : PlatformFault) → IsGoing name shelf old new (Platform f) → ⊥
+  no_platform f going = stopped (Platform f) going (λ w. w)
 
   pub no_object : (f : ObjectFault) → IsGoing name shelf old new (Refused f) → ⊥
   no_object f going = stopped (Refused f) going (λ w. w)
@@ -184,6 +191,7 @@ module _ (name : Option (List ℕ)) (shelf : Files) (old new : Streams) where
     long_stopped Memory long s = inr refl
     long_stopped Done long s = absurd s
     long_stopped Usage long s = absurd s
+    long_stopped (Platform f) long s = absurd s
     long_stopped (Refused f) long s = absurd s
     long_stopped (Script f) long s = absurd s
     long_stopped Read long s = absurd s
@@ -206,6 +214,7 @@ module _ (name : Option (List ℕ)) (shelf : Files) (old new : Streams) where
       faulty_stopped Memory s = inr refl
       faulty_stopped Done s = absurd s
       faulty_stopped Usage s = absurd s
+      faulty_stopped (Platform f) s = absurd s
       faulty_stopped (Refused g) s = absurd s
       faulty_stopped (Script g) s = absurd s
       faulty_stopped Read s = absurd s
@@ -235,6 +244,7 @@ module _ (name : Option (List ℕ)) (shelf : Files) (old new : Streams) where
     ready_stopped Memory s = refl
     ready_stopped Done s = absurd s
     ready_stopped Usage s = absurd s
+    ready_stopped (Platform f) s = absurd s
     ready_stopped (Refused g) s = absurd s
     ready_stopped (Script g) s = absurd s
     ready_stopped Read s = absurd s

@@ -1,5 +1,6 @@
 pub mod Calling
 pub mod Compiling
+pub mod CompilingOn
 pub mod Counts
 pub mod EarlierReadings
 pub mod Executing

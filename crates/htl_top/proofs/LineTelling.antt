@@ -8,17 +8,19 @@ use Rattle.htl_load.specs.declared.fault.ObjectFault.TheVariants as fault
 use Rattle.htl_model.specs.Tables.{Tables}
 use Rattle.htl_model.specs.declared.form_fault.FormFault.{FormFault}
 use Rattle.htl_object.specs.declared.object.Object.{Object as ObjectOf}
+use Rattle.htl_platform.specs.Applied.{with_worst}
 use Rattle.htl_top.specs.Answers.{Streams}
 use Rattle.htl_top.specs.Calls.{HasSource, HasObject}
 use Rattle.htl_top.specs.Causes.{IsSource}
 use Rattle.htl_top.specs.Objects.{HasObjectTables, IsObjectFile, IsObjectTables, SpeaksOfObject}
 use Rattle.htl_top.specs.Runs.{IsRun}
 use Rattle.htl_top.specs.Sources.{HasTypedTables, IsInput, IsNotCompiled, IsTypedInput, IsTypedProgram, outcome_of, tables_of}
+use Rattle.htl_top.specs.SourcesOn.{HasTypedOn, IsTypedOn, IsNotCompiledOn}
 use Rattle.htl_top.specs.Status.{fault_line}
 use Rattle.htl_top.specs.Telling.{SpeaksOf, IsFaultTold, IsLineTold}
-use Rattle.htl_top.specs.Words.{Command, Go, Compile, Run, Check, Plan, Show}
+use Rattle.htl_top.specs.Words.{Command, Go, Compile, CompileWith, Run, Check, Plan, Show}
 use Rattle.htl_top.specs.declared.outcome.Outcome.{Outcome}
-use Rattle.htl_top.specs.declared.outcome.Outcome.TheVariants.{Done, Usage, Source, IllFormed, Unschedulable, Object, Script, Shelf, Read, Write, Memory}
+use Rattle.htl_top.specs.declared.outcome.Outcome.TheVariants.{Done, Usage, Source, IllFormed, Unschedulable, Platform, Object, Script, Shelf, Read, Write, Memory}
 use Rattle.htl_top.specs.declared.source.SourceStop.{SourceStop}
 use Rattle.htl_top.specs.declared.source.SourceStop.TheVariants as stop
 
@@ -27,6 +29,7 @@ pub SpeaksOf-run : (Sources Objects : (Tables → Type 0) → Type 0) (show : Sh
     → IsRun show t o old new outcome → SpeaksOf Sources Objects outcome told
 SpeaksOf-run Sources Objects show t o old new Done told run = tt
 SpeaksOf-run Sources Objects show t o old new Usage told run = tt
+SpeaksOf-run Sources Objects show t o old new (Platform f) told run = tt
 SpeaksOf-run Sources Objects show t o old new (Source f) told run = tt
 SpeaksOf-run Sources Objects show t o old new (IllFormed f) told run = absurd run
 SpeaksOf-run Sources Objects show t o old new (Unschedulable sel a b demand) told run = tt
@@ -43,13 +46,23 @@ SpeaksOf-stop Objects bytes (stop.Fault f) is = tt
 SpeaksOf-stop Objects bytes (stop.IllFormed f u) is =
     let t = is.1 in record { tables = t.tables; of = t.of; can = t.can; fact = ap Some t.fact }
 SpeaksOf-stop Objects bytes (stop.Unschedulable sel a b demand) is = tt
+SpeaksOf-stop Objects bytes (stop.Platform f) is = tt
 SpeaksOf-stop Objects bytes stop.Memory is = tt
+
+pub SpeaksOf-stop-on : (Objects : (Tables → Type 0) → Type 0) (bytes file : List ℕ) (s : SourceStop) → IsNotCompiledOn bytes file s → SpeaksOf (HasTypedOn bytes file) Objects (outcome_of s) (tables_of s)
+SpeaksOf-stop-on Objects bytes file (stop.Fault f) is = tt
+SpeaksOf-stop-on Objects bytes file (stop.Platform f) is = tt
+SpeaksOf-stop-on Objects bytes file (stop.IllFormed f u) is =
+    let t = is.1 in record { tables = t.tables; of = t.of; platform = t.platform; says = t.says; can = t.can; fact = ap Some t.fact }
+SpeaksOf-stop-on Objects bytes file (stop.Unschedulable sel a b demand) is = tt
+SpeaksOf-stop-on Objects bytes file stop.Memory is = tt
 
 -- the source is another way to say the same
 pub SpeaksOf-source : (Sources Others Objects : (Tables → Type 0) → Type 0) (outcome : Outcome) (told : Option Tables) → ((Fact : Tables → Type 0) → Sources Fact → Others Fact)
     → SpeaksOf Sources Objects outcome told → SpeaksOf Others Objects outcome told
 SpeaksOf-source Sources Others Objects Done told map speaks = tt
 SpeaksOf-source Sources Others Objects Usage told map speaks = tt
+SpeaksOf-source Sources Others Objects (Platform f) told map speaks = tt
 SpeaksOf-source Sources Others Objects (Source f) told map speaks = tt
 SpeaksOf-source Sources Others Objects (IllFormed f) told map speaks = map (λ t. told ≡ Some (coded t)) speaks
 SpeaksOf-source Sources Others Objects (Unschedulable sel a b demand) told map speaks = tt
@@ -65,6 +78,10 @@ in_file name holds bytes source Fact has = record { bytes = bytes; source = sour
 
 pub in_input : (rest : Option (List ℕ)) (bytes : List ℕ) → IsInput rest bytes → (Fact : Tables → Type 0) → HasTypedTables bytes Fact → IsTypedInput rest Fact
 in_input rest bytes input Fact has = record { bytes = bytes; input = input; has = has }
+
+pub in_files : (name : Option (List ℕ)) (holds : Option Holdings) (rest : Option (List ℕ)) (file bytes : List ℕ) → IsSource name holds file → IsInput rest bytes
+    → (Fact : Tables → Type 0) → HasTypedOn bytes file Fact → IsTypedOn name holds rest Fact
+in_files name holds rest file bytes held input Fact has = record { file = file; held = held; bytes = bytes; input = input; has = has }
 
 -- the object is that of the words
 pub SpeaksOfObject-file : (name : Option (List ℕ)) (holds : Option Holdings) (bytes : List ℕ) (f : ObjectFault) (told : Option Tables)
@@ -89,6 +106,23 @@ input_maps : (rest : Option (List ℕ)) → Maps (IsTypedInput rest)
 input_maps rest Fact Other f p =
     record { bytes = p.bytes; input = p.input; has = record { tables = p.has.tables; of = p.has.of; can = p.has.can; fact = f p.has.tables p.has.fact } }
 
+platform_maps : (name : Option (List ℕ)) (holds : Option Holdings) (rest : Option (List ℕ)) → Maps (IsTypedOn name holds rest)
+platform_maps name holds rest Fact Other f p =
+    record {
+      file = p.file;
+      held = p.held;
+      bytes = p.bytes;
+      input = p.input;
+      has = record {
+        tables = p.has.tables;
+        of = p.has.of;
+        platform = p.has.platform;
+        says = p.has.says;
+        can = p.has.can;
+        fact = f (with_worst p.has.tables p.has.platform.worst) p.has.fact;
+      };
+    }
+
 object_maps : (name : Option (List ℕ)) (holds : Option Holdings) → Maps (IsObjectTables name holds)
 object_maps name holds Fact Other f t =
     record { bytes = t.bytes; file = t.file; has = record { object = t.has.object; has = t.has.has; fact = f t.has.object.tables t.has.fact } }
@@ -97,6 +131,7 @@ source_of_maps : (command : Option Command) (holds : Option Holdings) (rest : Op
 source_of_maps None holds rest Fact Other f h = h
 source_of_maps (Some (Go name)) holds rest Fact Other f h = program_maps (Some name) holds Fact Other f h
 source_of_maps (Some Compile) holds rest Fact Other f h = input_maps rest Fact Other f h
+source_of_maps (Some (CompileWith file)) holds rest Fact Other f h = platform_maps (Some file) holds rest Fact Other f h
 source_of_maps (Some (Run show name)) holds rest Fact Other f h = h
 source_of_maps (Some (Check name)) holds rest Fact Other f h = h
 source_of_maps (Some (Plan name)) holds rest Fact Other f h = h
@@ -106,6 +141,7 @@ object_of_maps : (command : Option Command) (holds : Option Holdings) → Maps (
 object_of_maps None holds Fact Other f h = h
 object_of_maps (Some (Go name)) holds Fact Other f h = h
 object_of_maps (Some Compile) holds Fact Other f h = h
+object_of_maps (Some (CompileWith file)) holds Fact Other f h = h
 object_of_maps (Some (Run show name)) holds Fact Other f h = object_maps (Some name) holds Fact Other f h
 object_of_maps (Some (Check name)) holds Fact Other f h = object_maps (Some name) holds Fact Other f h
 object_of_maps (Some (Plan name)) holds Fact Other f h = object_maps (Some name) holds Fact Other f h
@@ -129,6 +165,7 @@ module _ (command : Option Command) (holds : Option Holdings) (rest : Option (Li
       → IsLineTold (HasSource command holds rest) (HasObject command holds) Told outcome
   IsLineTold-report Done speaks told = told
   IsLineTold-report Usage speaks told = told
+  IsLineTold-report (Platform f) speaks told = told
   IsLineTold-report (Source f) speaks told = told
   IsLineTold-report (IllFormed f) speaks told =
       source_of_maps command holds rest (λ t. tables ≡ Some (coded t)) (λ t. Told (fault_line (Some t) (IllFormed f)))

@@ -20,7 +20,7 @@ use Rattle.htl_top.specs.Answers.{Files, Streams, IsWritten, IsBeforeScript, IsB
 use Rattle.htl_top.specs.Causes.{IsFaultOf, IsLongFile, IsGiven, IsOrMemory}
 use Rattle.htl_top.specs.Objects.{IsObjectFile, IsRefusedFile, IsAcceptedFile, IsStopped, IsOnObject, IsTextAnswer, IsTextOnObject, IsReadyObject, Work}
 use Rattle.htl_top.specs.declared.outcome.Outcome.{Outcome}
-use Rattle.htl_top.specs.declared.outcome.Outcome.TheVariants.{Done, Usage, Source, IllFormed, Unschedulable, Object as Refused, Script, Shelf, Read, Write, Memory}
+use Rattle.htl_top.specs.declared.outcome.Outcome.TheVariants.{Done, Usage, Source, IllFormed, Unschedulable, Platform, Object as Refused, Script, Shelf, Read, Write, Memory}
 use Rattle.htl_top.specs.declared.outcome.ShelfCause.TheVariants.{Failed, TooLong}
 
 -- ---- bytes have one object, or one fault
@@ -109,6 +109,7 @@ IsOfWork Read = Unit {0}
 IsOfWork Write = Unit {0}
 IsOfWork Memory = Unit {0}
 IsOfWork Usage = ⊥
+IsOfWork (Platform f) = ⊥
 IsOfWork (Source f) = ⊥
 IsOfWork (IllFormed f) = ⊥
 IsOfWork (Unschedulable sel a b demand) = ⊥
@@ -124,6 +125,7 @@ text_only : (text : List ℕ) (old new : Streams) (outcome : Outcome) → IsText
 text_only text old new Done answer = tt
 text_only text old new Write answer = tt
 text_only text old new Usage answer = absurd answer
+text_only text old new (Platform f) answer = absurd answer
 text_only text old new (Source f) answer = absurd answer
 text_only text old new (IllFormed f) answer = absurd answer
 text_only text old new (Unschedulable sel a b demand) answer = absurd answer
@@ -137,6 +139,7 @@ text_unwritten : (text : List ℕ) (old new : Streams) (outcome : Outcome) → I
 text_unwritten text old new Done answer early = absurd early
 text_unwritten text old new Write answer early = absurd early
 text_unwritten text old new Usage answer early = absurd answer
+text_unwritten text old new (Platform f) answer early = absurd answer
 text_unwritten text old new (Source f) answer early = absurd answer
 text_unwritten text old new (IllFormed f) answer early = absurd answer
 text_unwritten text old new (Unschedulable sel a b demand) answer early = absurd answer
@@ -157,6 +160,7 @@ pub text_unread : (text : List ℕ) (old new : Streams) (outcome : Outcome) → 
 text_unread text old new Done answer = answer.0
 text_unread text old new Write answer = answer.0
 text_unread text old new Usage answer = absurd answer
+text_unread text old new (Platform f) answer = absurd answer
 text_unread text old new (Source f) answer = absurd answer
 text_unread text old new (IllFormed f) answer = absurd answer
 text_unread text old new (Unschedulable sel a b demand) answer = absurd answer
@@ -171,6 +175,7 @@ pub text_done : (text : List ℕ) (old new : Streams) (outcome : Outcome) → Is
 text_done text old new Done answer still = inl refl
 text_done text old new Write answer still = absurd (still answer.1)
 text_done text old new Usage answer still = absurd answer
+text_done text old new (Platform f) answer still = absurd answer
 text_done text old new (Source f) answer still = absurd answer
 text_done text old new (IllFormed f) answer still = absurd answer
 text_done text old new (Unschedulable sel a b demand) answer still = absurd answer
@@ -187,6 +192,7 @@ stopped_before : (name : Option (List ℕ)) (shelf : Files) (outcome : Outcome) 
 stopped_before name shelf Memory stopped work = refl
 stopped_before name shelf Done stopped work = absurd stopped
 stopped_before name shelf Usage stopped work = absurd stopped
+stopped_before name shelf (Platform f) stopped work = absurd stopped
 stopped_before name shelf (Source f) stopped work = absurd stopped
 stopped_before name shelf (IllFormed f) stopped work = absurd stopped
 stopped_before name shelf (Unschedulable sel a b demand) stopped work = absurd stopped
@@ -199,6 +205,7 @@ stopped_before name shelf Write stopped work = absurd stopped
 early_work : (outcome : Outcome) → IsBeforeScript outcome → IsOfWork outcome → ⊥
 early_work Done early work = early
 early_work Usage early work = work
+early_work (Platform f) early work = work
 early_work (Source f) early work = work
 early_work (IllFormed f) early work = work
 early_work (Unschedulable sel a b demand) early work = work
@@ -272,6 +279,7 @@ module _ (Does : Work) (work : IsWork Does) (name : Option (List ℕ)) (shelf : 
     long_stopped Memory long s = inr refl
     long_stopped Done long s = absurd s
     long_stopped Usage long s = absurd s
+    long_stopped (Platform f) long s = absurd s
     long_stopped (Source f) long s = absurd s
     long_stopped (IllFormed f) long s = absurd s
     long_stopped (Unschedulable sel a b demand) long s = absurd s
@@ -294,6 +302,7 @@ module _ (Does : Work) (work : IsWork Does) (name : Option (List ℕ)) (shelf : 
     faulty_stopped Memory f short refused s = inr refl
     faulty_stopped Done f short refused s = absurd s
     faulty_stopped Usage f short refused s = absurd s
+    faulty_stopped (Platform g) f short refused s = absurd s
     faulty_stopped (Source g) f short refused s = absurd s
     faulty_stopped (IllFormed g) f short refused s = absurd s
     faulty_stopped (Unschedulable sel a b demand) f short refused s = absurd s
@@ -316,6 +325,7 @@ module _ (Does : Work) (work : IsWork Does) (name : Option (List ℕ)) (shelf : 
     ready_stopped Memory o short has accepted s = refl
     ready_stopped Done o short has accepted s = absurd s
     ready_stopped Usage o short has accepted s = absurd s
+    ready_stopped (Platform f) o short has accepted s = absurd s
     ready_stopped (Source g) o short has accepted s = absurd s
     ready_stopped (IllFormed g) o short has accepted s = absurd s
     ready_stopped (Unschedulable sel a b demand) o short has accepted s = absurd s

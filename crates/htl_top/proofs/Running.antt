@@ -21,7 +21,7 @@ use Rattle.htl_top.specs.Runs.{IsRun}
 use Rattle.htl_top.specs.Scripts.{IsWhole, IsBad, EndsAt, IsTold}
 use Rattle.htl_top.specs.Texts.{text_before_fault}
 use Rattle.htl_top.specs.declared.outcome.Outcome.{Outcome}
-use Rattle.htl_top.specs.declared.outcome.Outcome.TheVariants.{Done, Usage, Source, IllFormed, Unschedulable, Object as Refused, Script as Faulty, Shelf, Read, Write, Memory}
+use Rattle.htl_top.specs.declared.outcome.Outcome.TheVariants.{Done, Usage, Source, IllFormed, Unschedulable, Platform, Object as Refused, Script as Faulty, Shelf, Read, Write, Memory}
 
 -- ---- from the parts to the whole
 
@@ -103,6 +103,7 @@ IsRun-source show t o old new Write run = (
 )
 IsRun-source show t o old new Memory run = run
 IsRun-source show t o old new Usage run = absurd run
+IsRun-source show t o old new (Platform f) run = absurd run
 IsRun-source show t o old new (Source f) run = absurd run
 IsRun-source show t o old new (IllFormed f) run = absurd run
 IsRun-source show t o old new (Unschedulable sel a b demand) run = absurd run
@@ -118,6 +119,7 @@ run_only show t o old new Read run = tt
 run_only show t o old new Write run = tt
 run_only show t o old new Memory run = tt
 run_only show t o old new Usage run = absurd run
+run_only show t o old new (Platform f) run = absurd run
 run_only show t o old new (Source f) run = absurd run
 run_only show t o old new (IllFormed f) run = absurd run
 run_only show t o old new (Unschedulable sel a b demand) run = absurd run
@@ -131,6 +133,7 @@ run_unwritten show t o old new Read run early = run.1
 run_unwritten show t o old new Write run early = absurd early
 run_unwritten show t o old new Memory run early = run
 run_unwritten show t o old new Usage run early = absurd run
+run_unwritten show t o old new (Platform f) run early = absurd run
 run_unwritten show t o old new (Source f) run early = absurd run
 run_unwritten show t o old new (IllFormed f) run early = absurd run
 run_unwritten show t o old new (Unschedulable sel a b demand) run early = absurd run
@@ -175,6 +178,7 @@ module _ (show : Shown) (t : Tables) (o : Object) (old new : Streams) (script : 
   bad_run f events bad quiet still Write run = absurd (still run.0)
   bad_run f events bad quiet still Memory run = inr refl
   bad_run f events bad quiet still Usage run = absurd run
+  bad_run f events bad quiet still (Platform g) run = absurd run
   bad_run f events bad quiet still (Source g) run = absurd run
   bad_run f events bad quiet still (IllFormed g) run = absurd run
   bad_run f events bad quiet still (Unschedulable sel a b demand) run = absurd run
@@ -190,6 +194,7 @@ module _ (show : Shown) (t : Tables) (o : Object) (old new : Streams) (script : 
   whole_run events end whole quiet still Write run = absurd (still run.0)
   whole_run events end whole quiet still Memory run = inr refl
   whole_run events end whole quiet still Usage run = absurd run
+  whole_run events end whole quiet still (Platform f) run = absurd run
   whole_run events end whole quiet still (Source g) run = absurd run
   whole_run events end whole quiet still (IllFormed g) run = absurd run
   whole_run events end whole quiet still (Unschedulable sel a b demand) run = absurd run

@@ -1,14 +1,23 @@
 -- A fault of tables with code is one of their source.
-use Rattle.std.proofs.Common.{◌≡◌, ◌≤◌, ℕ, List, length, Option, sym, subst}
+use Rattle.std.proofs.Common.{◌≡◌, ◌≤◌, ℕ, List, length, Option, Some, Ok, sym, ap, subst}
 use Rattle.htl_compile.proofs.FromSource.{back_of_source}
+use Rattle.htl_compile.proofs.OnPlatform.{placed, says, by_back, can_code_on, no_platform_on}
 use Rattle.htl_compile.specs.Building.{IsBackFault}
-use Rattle.htl_compile.specs.Sources.{IsFront}
+use Rattle.htl_compile.specs.Coded.{coded}
+use Rattle.htl_compile.specs.OnPlatform.{IsOn, IsWithFault}
+use Rattle.htl_compile.specs.Sources.{IsFront, IsRead}
 use Rattle.htl_compile.specs.declared.building.BackFault.{BackFault}
 use Rattle.htl_compile.specs.declared.building.BackFault.TheVariants as back
 use Rattle.htl_model.specs.Tables.{Tables}
-use Rattle.htl_top.specs.Sources.{IsNotCompiled, outcome_of, stop_of, tables_of}
+use Rattle.htl_platform.specs.Platforms.{platform_of}
+use Rattle.htl_platform.specs.declared.fault.PlatformFault.{PlatformFault}
+use Rattle.htl_top.specs.Sources.{IsNotCompiled, IsUnread, IsUnbuilt, outcome_of, stop_of, tables_of}
+use Rattle.htl_top.specs.SourcesOn.{IsNotCompiledOn}
 use Rattle.htl_top.specs.declared.outcome.Outcome.{Outcome}
 use Rattle.htl_top.specs.declared.source.SourceStop.{SourceStop}
+use Rattle.htl_top.specs.declared.source.SourceStop.TheVariants as stop
+
+-- ---- for no platform
 
 by_fault : (bytes : List ℕ) (u : Tables) (f : BackFault) → length bytes ≤ 1048576 → IsFront bytes u → IsBackFault u f → IsNotCompiled bytes (stop_of u f)
 by_fault bytes u (back.IllFormed f) short front is =
@@ -16,9 +25,45 @@ by_fault bytes u (back.IllFormed f) short front is =
 by_fault bytes u (back.Unschedulable sel a b demand) short front is = back_of_source bytes u (back.Unschedulable sel a b demand) short front is
 by_fault bytes u back.Memory short front is = tt
 
-pub IsNotCompiled-stopped : (bytes : List ℕ) (u given : Tables) (f : BackFault) (s : SourceStop) → length bytes ≤ 1048576 → s ≡ stop_of given f → given ≡ u → IsFront bytes u → IsBackFault u f → IsNotCompiled bytes s
-IsNotCompiled-stopped bytes u given f s short is same front fault =
-    subst (IsNotCompiled bytes) (sym is) (subst (λ (t : Tables). IsNotCompiled bytes (stop_of t f)) (sym same) (by_fault bytes u f short front fault))
+pub IsNotCompiled-unbuilt : (bytes : List ℕ) (u : Tables) (s : SourceStop) → length bytes ≤ 1048576 → IsFront bytes u → IsUnbuilt u s → IsNotCompiled bytes s
+IsNotCompiled-unbuilt bytes u s short front h = subst (IsNotCompiled bytes) (sym h.is) (by_fault bytes u h.fault short front h.has)
+
+pub IsNotCompiled-unread : (bytes : List ℕ) (s : SourceStop) → IsUnread bytes s → IsNotCompiled bytes s
+IsNotCompiled-unread bytes (stop.Fault f) h = h
+IsNotCompiled-unread bytes (stop.Platform f) h = h
+IsNotCompiled-unread bytes (stop.IllFormed f tables) h = absurd h
+IsNotCompiled-unread bytes (stop.Unschedulable sel a b demand) h = absurd h
+IsNotCompiled-unread bytes stop.Memory h = tt
+
+-- ---- for a platform
+
+pub IsNotCompiledOn-unread : (bytes file : List ℕ) (s : SourceStop) → IsUnread bytes s → IsNotCompiledOn bytes file s
+IsNotCompiledOn-unread bytes file (stop.Fault f) h = h
+IsNotCompiledOn-unread bytes file (stop.Platform f) h = absurd h
+IsNotCompiledOn-unread bytes file (stop.IllFormed f tables) h = absurd h
+IsNotCompiledOn-unread bytes file (stop.Unschedulable sel a b demand) h = absurd h
+IsNotCompiledOn-unread bytes file stop.Memory h = tt
+
+module _ (bytes file : List ℕ) (u v : Tables) (name : List ℕ) (short : length bytes ≤ 1048576) (front : IsFront bytes u) (on : IsOn u file v name) where
+  by_fault_on : (f : BackFault) → IsBackFault v f → IsNotCompiledOn bytes file (stop_of v f)
+  by_fault_on (back.IllFormed f) is = (
+    by_back bytes file u v name short front on (back.IllFormed f) is,
+    record {
+      tables = front.tables;
+      of = front.source;
+      platform = on.platform;
+      says = says bytes file u v name short front on;
+      can = can_code_on bytes file u v name short front on;
+      fact = placed bytes file u v name short front on;
+    },
+  )
+  by_fault_on (back.Unschedulable sel a b demand) is = by_back bytes file u v name short front on (back.Unschedulable sel a b demand) is
+  by_fault_on back.Memory is = tt
+
+  pub IsNotCompiledOn-unbuilt : (s : SourceStop) → IsUnbuilt v s → IsNotCompiledOn bytes file s
+  IsNotCompiledOn-unbuilt s h = subst (IsNotCompiledOn bytes file) (sym h.is) (by_fault_on h.fault h.has)
+
+-- ---- answers
 
 -- a fact of what stops a source is one of its answer
 pub of_answer : (Fact : Outcome → Option Tables → Type 0) (s : SourceStop) (outcome : Outcome) (tables : Option Tables) → outcome ≡ outcome_of s → tables ≡ tables_of s

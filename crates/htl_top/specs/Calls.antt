@@ -5,13 +5,15 @@ use Rattle.htl_model.specs.Tables.{Tables}
 use Rattle.htl_top.specs.Answers.{Files, Streams, IsUntouched}
 use Rattle.htl_top.specs.Checked.{IsChecked}
 use Rattle.htl_top.specs.Compiling.{IsCompiling}
+use Rattle.htl_top.specs.CompilingOn.{IsCompilingOn}
 use Rattle.htl_top.specs.Going.{IsGoing}
 use Rattle.htl_top.specs.Objects.{IsOnObject, IsObjectTables}
 use Rattle.htl_top.specs.Planned.{IsPlanned}
 use Rattle.htl_top.specs.Runs.{IsRun}
 use Rattle.htl_top.specs.Shown.{IsShown}
 use Rattle.htl_top.specs.Sources.{IsTypedProgram, IsTypedInput}
-use Rattle.htl_top.specs.Words.{Command, Go, Compile, Run, Check, Plan, Show}
+use Rattle.htl_top.specs.SourcesOn.{IsTypedOn}
+use Rattle.htl_top.specs.Words.{Command, Go, Compile, CompileWith, Run, Check, Plan, Show}
 use Rattle.htl_top.specs.declared.outcome.Outcome.{Outcome}
 use Rattle.htl_top.specs.declared.outcome.Outcome.TheVariants.{Usage}
 
@@ -20,16 +22,19 @@ abbrev pub IsCall : Option Command → Files → Streams → Streams → Outcome
 IsCall None shelf old new outcome = (outcome ≡ Usage) × IsUntouched old new
 IsCall (Some (Go name)) shelf old new outcome = IsGoing (Some name) shelf old new outcome
 IsCall (Some Compile) shelf old new outcome = IsCompiling old new outcome
+IsCall (Some (CompileWith platform)) shelf old new outcome = IsCompilingOn (Some platform) shelf old new outcome
 IsCall (Some (Run show name)) shelf old new outcome = IsOnObject (λ o. IsRun show o.tables o) (Some name) shelf old new outcome
 IsCall (Some (Check name)) shelf old new outcome = IsOnObject IsChecked (Some name) shelf old new outcome
 IsCall (Some (Plan name)) shelf old new outcome = IsOnObject IsPlanned (Some name) shelf old new outcome
 IsCall (Some (Show name)) shelf old new outcome = IsOnObject IsShown (Some name) shelf old new outcome
 
--- The source that a command compiles has tables whose functions are typed, and the fact holds of them.
+-- The source that a command compiles has tables whose functions are typed, and the fact holds of them, with the worst cases of the
+-- platform where one is named.
 abbrev pub HasSource : Option Command → Option Holdings → Option (List ℕ) → (Tables → Type 0) → Type 0
 HasSource None holds rest Fact = ⊥
 HasSource (Some (Go name)) holds rest Fact = IsTypedProgram (Some name) holds Fact
 HasSource (Some Compile) holds rest Fact = IsTypedInput rest Fact
+HasSource (Some (CompileWith platform)) holds rest Fact = IsTypedOn (Some platform) holds rest Fact
 HasSource (Some (Run show name)) holds rest Fact = ⊥
 HasSource (Some (Check name)) holds rest Fact = ⊥
 HasSource (Some (Plan name)) holds rest Fact = ⊥
@@ -40,6 +45,7 @@ abbrev pub HasObject : Option Command → Option Holdings → (Tables → Type 0
 HasObject None holds Fact = ⊥
 HasObject (Some (Go name)) holds Fact = ⊥
 HasObject (Some Compile) holds Fact = ⊥
+HasObject (Some (CompileWith platform)) holds Fact = ⊥
 HasObject (Some (Run show name)) holds Fact = IsObjectTables (Some name) holds Fact
 HasObject (Some (Check name)) holds Fact = IsObjectTables (Some name) holds Fact
 HasObject (Some (Plan name)) holds Fact = IsObjectTables (Some name) holds Fact

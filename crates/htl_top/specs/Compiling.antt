@@ -13,9 +13,8 @@ use Rattle.htl_object.specs.Objects.{object_bytes}
 use Rattle.htl_top.specs.Answers.{Streams, IsWritten}
 use Rattle.htl_top.specs.Sources.{IsInputProgram, IsInputFault, IsFaultyProgram, IsNotCompiled, outcome_of}
 use Rattle.htl_top.specs.declared.source.SourceStop.{SourceStop}
-use Rattle.htl_top.specs.Words.{Command, Go, Compile, Run, Check, Plan, Show}
 use Rattle.htl_top.specs.declared.outcome.Outcome.{Outcome}
-use Rattle.htl_top.specs.declared.outcome.Outcome.TheVariants.{Done, Usage, Source, IllFormed, Unschedulable, Object, Script, Shelf, Read, Write, Memory}
+use Rattle.htl_top.specs.declared.outcome.Outcome.TheVariants.{Done, Usage, Source, IllFormed, Unschedulable, Platform, Object, Script, Shelf, Read, Write, Memory}
 
 -- the bytes of the object of tables
 abbrev pub compiled_bytes : Tables → List ℕ
@@ -39,16 +38,7 @@ IsCompiling old new (IllFormed f) = IsInputFault old.rest (compile.IllFormed f) 
 IsCompiling old new (Unschedulable sel a b demand) = IsInputFault old.rest (compile.Unschedulable sel a b demand) × (new.written ≡ old.written)
 IsCompiling old new Memory = new.written ≡ old.written
 IsCompiling old new Usage = ⊥
+IsCompiling old new (Platform f) = ⊥
 IsCompiling old new (Object f) = ⊥
 IsCompiling old new (Script f) = ⊥
 IsCompiling old new (Shelf cause) = ⊥
-
--- Why no object is built of the source that a command compiles: it is that of a file, or the input.
-abbrev pub IsCompileCause : Option Command → Option Holdings → Option (List ℕ) → CompileFault → Type 0
-IsCompileCause None holds rest f = ⊥
-IsCompileCause (Some (Go name)) holds rest f = IsFaultyProgram (Some name) holds f
-IsCompileCause (Some Compile) holds rest f = IsInputFault rest f
-IsCompileCause (Some (Run show name)) holds rest f = ⊥
-IsCompileCause (Some (Check name)) holds rest f = ⊥
-IsCompileCause (Some (Plan name)) holds rest f = ⊥
-IsCompileCause (Some (Show name)) holds rest f = ⊥

@@ -3,6 +3,7 @@ pub mod Calls
 pub mod Causes
 pub mod Checked
 pub mod Compiling
+pub mod CompilingOn
 pub mod Going
 pub mod JobLaws
 pub mod Laws
@@ -15,6 +16,7 @@ pub mod SelectionInput
 pub mod SelectionReaders
 pub mod Shown
 pub mod Sources
+pub mod SourcesOn
 pub mod Status
 pub mod Telling
 pub mod Texts

@@ -17,7 +17,7 @@ use Rattle.htl_top.specs.Causes.{IsFaultOf, IsLongFile, IsGiven}
 use Rattle.htl_top.specs.declared.object.ObjectStop.{ObjectStop}
 use Rattle.htl_top.specs.declared.object.ObjectStop.TheVariants as stop
 use Rattle.htl_top.specs.declared.outcome.Outcome.{Outcome}
-use Rattle.htl_top.specs.declared.outcome.Outcome.TheVariants.{Done, Usage, Source, IllFormed, Unschedulable, Object as Refused, Script, Shelf, Read, Write, Memory}
+use Rattle.htl_top.specs.declared.outcome.Outcome.TheVariants.{Done, Usage, Source, IllFormed, Unschedulable, Platform, Object as Refused, Script, Shelf, Read, Write, Memory}
 use Rattle.htl_top.specs.declared.outcome.ShelfCause.TheVariants.{Failed, TooLong}
 
 -- ---- reading bytes
@@ -82,6 +82,7 @@ IsStopped name shelf (Shelf (TooLong seen)) = IsLongFile MAX_OBJECT name shelf.h
 IsStopped name shelf Memory = Unit {0}
 IsStopped name shelf Done = ⊥
 IsStopped name shelf Usage = ⊥
+IsStopped name shelf (Platform f) = ⊥
 IsStopped name shelf (Source f) = ⊥
 IsStopped name shelf (IllFormed f) = ⊥
 IsStopped name shelf (Unschedulable sel a b demand) = ⊥
@@ -103,6 +104,7 @@ abbrev pub IsTextAnswer : List ℕ → Streams → Streams → Outcome → Type 
 IsTextAnswer text old new Done = (new.rest ≡ old.rest) × (new.written ≡ append_known old.written text)
 IsTextAnswer text old new Write = (new.rest ≡ old.rest) × Rose old.write_faults new.write_faults × AppendsPrefix old.written new.written text
 IsTextAnswer text old new Usage = ⊥
+IsTextAnswer text old new (Platform f) = ⊥
 IsTextAnswer text old new (Source f) = ⊥
 IsTextAnswer text old new (IllFormed f) = ⊥
 IsTextAnswer text old new (Unschedulable sel a b demand) = ⊥

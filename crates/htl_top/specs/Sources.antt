@@ -1,10 +1,10 @@
 -- The source that a command compiles: where its tables are had, and why no object is built of it.
 use Rattle.std.specs.Prelude.{ℕ, ◌≡◌, ◌≤◌, ◌<◌, ◌+◌, ◌⊎◌, Option, Some, None, IfSome, List, length}
 use Rattle.htl_base.specs.declared.limits.TheConstants.{MAX_SOURCE}
-use Rattle.htl_compile.specs.Building.{IsCompileFault}
+use Rattle.htl_compile.specs.Building.{IsBackFault, IsCompileFault}
 use Rattle.htl_compile.specs.Built.{CanBuild}
 use Rattle.htl_compile.specs.Coded.{CanCode, coded}
-use Rattle.htl_compile.specs.Sources.{IsTablesOf}
+use Rattle.htl_compile.specs.Sources.{IsTablesOf, IsSourceFault}
 use Rattle.htl_compile.specs.declared.building.BackFault.{BackFault}
 use Rattle.htl_compile.specs.declared.building.BackFault.TheVariants as back
 use Rattle.htl_compile.specs.declared.compiling.CompileFault.{CompileFault}
@@ -14,7 +14,7 @@ use Rattle.htl_edge.specs.Holdings.{Holdings}
 use Rattle.htl_model.specs.Tables.{Tables}
 use Rattle.htl_top.specs.Causes.{IsSource}
 use Rattle.htl_top.specs.declared.outcome.Outcome.{Outcome}
-use Rattle.htl_top.specs.declared.outcome.Outcome.TheVariants.{Source, IllFormed, Unschedulable, Memory}
+use Rattle.htl_top.specs.declared.outcome.Outcome.TheVariants.{Source, IllFormed, Unschedulable, Platform, Memory}
 use Rattle.htl_top.specs.declared.source.SourceStop.{SourceStop}
 use Rattle.htl_top.specs.declared.source.SourceStop.TheVariants as stop
 
@@ -41,12 +41,13 @@ pub record HasTypedTables (bytes : List ℕ) (Fact : Tables → Type 0) : Type 0
   pub can : CanCode tables
   pub fact : Fact tables
 
--- Why no object is built of a source: its first fault. With a broken form rule come the tables that break it, with their
+-- Why no object is built of a source, for no platform: its first fault. With a broken form rule come the tables that break it, with their
 -- functions as code.
 abbrev pub IsNotCompiled : List ℕ → SourceStop → Type 0
 IsNotCompiled bytes (stop.Fault f) = IsCompileFault bytes (compile.Source f)
 IsNotCompiled bytes (stop.IllFormed f tables) = IsCompileFault bytes (compile.IllFormed f) × HasTypedTables bytes (λ t. tables ≡ coded t)
 IsNotCompiled bytes (stop.Unschedulable sel a b demand) = IsCompileFault bytes (compile.Unschedulable sel a b demand)
+IsNotCompiled bytes (stop.Platform f) = ⊥
 IsNotCompiled bytes stop.Memory = Unit {0}
 
 -- a fault of tables with code, as what stops their source
@@ -55,17 +56,33 @@ stop_of u (back.IllFormed f) = stop.IllFormed f u
 stop_of u (back.Unschedulable sel a b demand) = stop.Unschedulable sel a b demand
 stop_of u back.Memory = stop.Memory
 
+-- what stops a source alone
+abbrev pub IsUnread : List ℕ → SourceStop → Type 0
+IsUnread bytes (stop.Fault f) = IsSourceFault bytes f
+IsUnread bytes (stop.Platform f) = ⊥
+IsUnread bytes (stop.IllFormed f tables) = ⊥
+IsUnread bytes (stop.Unschedulable sel a b demand) = ⊥
+IsUnread bytes stop.Memory = Unit {0}
+
+-- what stops tables with code is a fault of theirs
+pub record IsUnbuilt (u : Tables) (s : SourceStop) : Type 0 where
+  pub fault : BackFault
+  pub has : IsBackFault u fault
+  pub is : s ≡ stop_of u fault
+
 -- what stops a source, as an answer, and the tables that its line speaks of
 abbrev pub outcome_of : SourceStop → Outcome
 outcome_of (stop.Fault f) = Source f
 outcome_of (stop.IllFormed f u) = IllFormed f
 outcome_of (stop.Unschedulable sel a b demand) = Unschedulable sel a b demand
+outcome_of (stop.Platform f) = Platform f
 outcome_of stop.Memory = Memory
 
 abbrev pub tables_of : SourceStop → Option Tables
 tables_of (stop.Fault f) = None
 tables_of (stop.IllFormed f u) = Some u
 tables_of (stop.Unschedulable sel a b demand) = None
+tables_of (stop.Platform f) = None
 tables_of stop.Memory = None
 
 -- ---- of a file

@@ -12,10 +12,12 @@ use Rattle.htl_script.specs.declared.fault.ScriptKind.{ScriptKind}
 use Rattle.htl_script.specs.declared.fault.ScriptKind.TheVariants as kind
 use Rattle.htl_object.specs.declared.malformed.MalKind.{MalKind}
 use Rattle.htl_object.specs.declared.malformed.MalKind.TheVariants as field
+use Rattle.htl_platform.specs.declared.fault.PlatformFault.{PlatformFault}
+use Rattle.htl_platform.specs.declared.fault.PlatformFault.TheVariants as platform
 use Rattle.htl_walk.specs.declared.miss.Miss.{Miss}
 use Rattle.htl_walk.specs.declared.miss.Miss.TheVariants as miss
 use Rattle.htl_top.specs.declared.outcome.Outcome.{Outcome}
-use Rattle.htl_top.specs.declared.outcome.Outcome.TheVariants.{Done, Usage, Source, IllFormed, Unschedulable, Object, Script, Shelf, Read, Write, Memory}
+use Rattle.htl_top.specs.declared.outcome.Outcome.TheVariants.{Done, Usage, Source, IllFormed, Unschedulable, Platform, Object, Script, Shelf, Read, Write, Memory}
 use Rattle.htl_top.specs.declared.outcome.ShelfCause.{ShelfCause}
 use Rattle.htl_top.specs.declared.outcome.ShelfCause.TheVariants.{Failed, TooLong}
 use Rattle.htl_compile.specs.declared.source_fault.SourceFault.{SourceFault}
@@ -33,6 +35,7 @@ status_of (Shelf cause) = 8
 status_of Read = 9
 status_of Write = 10
 status_of Memory = 11
+status_of (Platform fault) = 12
 
 abbrev pub source_line : SourceFault → List ℕ
 source_line (LongSource seen) = codes "htl: source too-long " ++ decimal seen ++ codes "\n"
@@ -140,6 +143,13 @@ abbrev pub shelf_line : ShelfCause → List ℕ
 shelf_line Failed = codes "htl: shelf failed\n"
 shelf_line (TooLong seen) = codes "htl: shelf too-long " ++ decimal seen ++ codes "\n"
 
+-- the entries of a platform file are numbered
+abbrev pub platform_line : PlatformFault → List ℕ
+platform_line platform.Text = codes "htl: platform text\n"
+platform_line (platform.Shape entry) = codes "htl: platform shape " ++ decimal entry ++ codes "\n"
+platform_line (platform.Unknown entry) = codes "htl: platform unknown " ++ decimal entry ++ codes "\n"
+platform_line (platform.Range entry) = codes "htl: platform range " ++ decimal entry ++ codes "\n"
+
 -- The line that tells of an answer; none tells of Done. Those of a broken form rule name its place by tables.
 abbrev pub fault_line : Option Tables → Outcome → List ℕ
 fault_line tables Done = []
@@ -153,3 +163,4 @@ fault_line tables (Shelf cause) = shelf_line cause
 fault_line tables Read = codes "htl: read\n"
 fault_line tables Write = codes "htl: write\n"
 fault_line tables Memory = codes "htl: memory\n"
+fault_line tables (Platform fault) = platform_line fault

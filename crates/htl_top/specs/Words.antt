@@ -15,6 +15,7 @@ use Rattle.htl_top.specs.declared.words.Verb.TheVariants as verb
 pub data Command : Type 0 where
   Go : (name : List ℕ) → Command
   Compile : Command
+  CompileWith : (platform : List ℕ) → Command
   Run : (show : Shown) (name : List ℕ) → Command
   Check : (name : List ℕ) → Command
   Plan : (name : List ℕ) → Command
@@ -40,10 +41,16 @@ with_file verb.Check name = Check name
 with_file verb.Plan name = Plan name
 with_file verb.Show name = Show name
 
--- a verb and the name of a file, or `compile` alone; other words are no command
+-- `compile with` and the name of a platform file
+abbrev pub compile_with : List ℕ → List ℕ → List ℕ → Option Command
+compile_with first second platform =
+    if bytes_eq first (codes "compile") then (if bytes_eq second (codes "with") then Some (CompileWith platform) else None) else None
+
+-- a verb and the name of a file, `compile` alone, or that with a platform; other words are no command
 abbrev pub command_of : List (List ℕ) → Option Command
 command_of (word ∷ name ∷ []) = option_map (λ (v : Verb). with_file v name) (verb_of word)
-command_of (word ∷ name ∷ other ∷ others) = None
+command_of (first ∷ second ∷ platform ∷ []) = compile_with first second platform
+command_of (first ∷ second ∷ third ∷ other ∷ others) = None
 command_of (word ∷ []) = if bytes_eq word (codes "compile") then Some Compile else None
 command_of [] = None
 
@@ -51,12 +58,13 @@ command_of [] = None
 abbrev pub command_in : List (Bor (List ℕ)) → Option Command
 command_in words = command_of (map (λ (word : Bor (List ℕ)). word.now) words)
 
--- ---- the file
+-- ---- the files
 
 -- the source in a file that a command runs
 abbrev pub source_of : Option Command → Option (List ℕ)
 source_of (Some (Go name)) = Some name
 source_of (Some Compile) = None
+source_of (Some (CompileWith platform)) = None
 source_of (Some (Run show name)) = None
 source_of (Some (Check name)) = None
 source_of (Some (Plan name)) = None
@@ -67,11 +75,23 @@ source_of None = None
 abbrev pub object_of : Option Command → Option (List ℕ)
 object_of (Some (Go name)) = None
 object_of (Some Compile) = None
+object_of (Some (CompileWith platform)) = None
 object_of (Some (Run show name)) = Some name
 object_of (Some (Check name)) = Some name
 object_of (Some (Plan name)) = Some name
 object_of (Some (Show name)) = Some name
 object_of None = None
+
+-- the platform file that a command compiles for
+abbrev pub platform_file : Option Command → Option (List ℕ)
+platform_file (Some (Go name)) = None
+platform_file (Some Compile) = None
+platform_file (Some (CompileWith platform)) = Some platform
+platform_file (Some (Run show name)) = None
+platform_file (Some (Check name)) = None
+platform_file (Some (Plan name)) = None
+platform_file (Some (Show name)) = None
+platform_file None = None
 
 abbrev pub source_in : List (Bor (List ℕ)) → Option (List ℕ)
 source_in words = source_of (command_in words)
@@ -79,12 +99,16 @@ source_in words = source_of (command_in words)
 abbrev pub object_in : List (Bor (List ℕ)) → Option (List ℕ)
 object_in words = object_of (command_in words)
 
+abbrev pub platform_in : List (Bor (List ℕ)) → Option (List ℕ)
+platform_in words = platform_file (command_in words)
+
 -- ---- the input
 
 -- how many bytes of the input a command takes at most: those of the longest source or script, and one piece of 4,096
 abbrev pub most_taken : Option Command → ℕ
 most_taken (Some (Go name)) = MAX_SCRIPT + 4096
 most_taken (Some Compile) = MAX_SOURCE + 4096
+most_taken (Some (CompileWith platform)) = MAX_SOURCE + 4096
 most_taken (Some (Run show name)) = MAX_SCRIPT + 4096
 most_taken (Some (Check name)) = 0
 most_taken (Some (Plan name)) = MAX_SCRIPT + 4096
@@ -96,4 +120,5 @@ most_taken None = 0
 -- what was asked for
 abbrev pub asked_for : Asked → Command
 asked_for ask.Compile = Compile
+asked_for (ask.CompileWith platform) = CompileWith platform.now
 asked_for (ask.File v name) = with_file v name.now

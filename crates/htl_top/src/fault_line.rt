@@ -2,7 +2,7 @@
 ghost use Rattle.std.specs.Prelude.{◌≡◌, ◌++◌, ◌+◌, ◌≤◌, codes, decimal, length};
 ghost use Rattle.std.specs.Option.{option_copied};
 ghost use Rattle.htl_top.specs.Answers.{Tells};
-ghost use Rattle.htl_top.specs.Status.{fault_line as line_of, source_line, form_line, form_text, overload_line, place_in, kind_text, script_line, shelf_line};
+ghost use Rattle.htl_top.specs.Status.{fault_line as line_of, source_line, form_line, form_text, overload_line, place_in, kind_text, script_line, shelf_line, platform_line};
 
 use crate::object_line::object_line;
 use crate::place::place;
@@ -10,6 +10,7 @@ use crate::{Outcome, ShelfCause, SourceFault};
 use htl_base::Time;
 use htl_edge::{LineBuffer, Sink, put_all};
 use htl_model::{FormFault, Tables};
+use htl_platform::PlatformFault;
 use htl_script::{ScriptFault, ScriptKind};
 
 /// Tells of an answer other than Done, by its line. The line of a broken form rule has its names from `tables`.
@@ -45,6 +46,7 @@ fn fault_line(tables: Option<&Tables>, outcome: &Outcome) -> LineBuffer
         Outcome::Read => plain_line(b"htl: read\n"),
         Outcome::Write => plain_line(b"htl: write\n"),
         Outcome::Memory => plain_line(b"htl: memory\n"),
+        Outcome::Platform(fault) => platform_line(fault),
     }
 }
 
@@ -182,6 +184,17 @@ fn shelf_line(cause: &ShelfCause) -> LineBuffer
     match cause {
         ShelfCause::Failed => plain_line(b"htl: shelf failed\n"),
         ShelfCause::TooLong { seen } => numbered_line(b"htl: shelf too-long ", *seen),
+    }
+}
+
+fn platform_line(fault: &PlatformFault) -> LineBuffer
+    ensures { result ≡ platform_line fault.now }
+{
+    match fault {
+        PlatformFault::Text => plain_line(b"htl: platform text\n"),
+        PlatformFault::Shape { entry } => numbered_line(b"htl: platform shape ", *entry as u64),
+        PlatformFault::Unknown { entry } => numbered_line(b"htl: platform unknown ", *entry as u64),
+        PlatformFault::Range { entry } => numbered_line(b"htl: platform range ", *entry as u64),
     }
 }
 

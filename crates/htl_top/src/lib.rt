@@ -36,6 +36,8 @@ mod plan;
 #[cfg(test)]
 mod plan_tests;
 mod plan_walk;
+#[cfg(test)]
+mod platform_tests;
 mod play;
 mod positions;
 mod run;
@@ -62,6 +64,7 @@ mod words;
 
 pub use fault_line::report;
 pub use htl_compile::SourceFault;
+pub use htl_platform::PlatformFault;
 pub use laws::{
     earlier_readings_decide_texts, earlier_readings_decide_values, go_job_lines_are_found,
     go_keeps_deadlines, go_shows_job_lines, go_shows_the_meaning, go_tells_jobs_in_time,

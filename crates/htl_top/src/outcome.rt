@@ -6,6 +6,7 @@ use htl_base::Time;
 use htl_compile::SourceFault;
 use htl_load::ObjectFault;
 use htl_model::FormFault;
+use htl_platform::PlatformFault;
 use htl_script::ScriptFault;
 
 /// Why the shelf didn't give a file.
@@ -13,7 +14,7 @@ use htl_script::ScriptFault;
 pub enum ShelfCause {
     /// It failed, and counted it as a fault of the name; so it does where it has no such file.
     Failed,
-    /// The file has too many bytes: more than 1,048,576 for a source, more than 16,777,216 for an object.
+    /// The file has too many bytes: more than 1,048,576 for a source or a platform file, more than 16,777,216 for an object.
     TooLong {
         /// How many bytes were seen: all of them, where the shelf tells what it holds.
         seen: u64,
@@ -54,10 +55,12 @@ pub enum Outcome {
     Write,
     /// No memory was left.
     Memory,
+    /// The platform file has a fault for the tables of the source.
+    Platform(PlatformFault),
 }
 
 /// The status with which the program ends: 0 for Done, 2 Usage, 3 Source, 4 IllFormed, 5 Unschedulable, 6 Object, 7
-/// Script, 8 Shelf, 9 Read, 10 Write and 11 Memory.
+/// Script, 8 Shelf, 9 Read, 10 Write, 11 Memory and 12 Platform.
 pub fn status(o: &Outcome) -> u8
     ensures { result ≡ status_of o.now }
 {
@@ -73,5 +76,6 @@ pub fn status(o: &Outcome) -> u8
         Outcome::Read => 9,
         Outcome::Write => 10,
         Outcome::Memory => 11,
+        Outcome::Platform(_) => 12,
     }
 }

@@ -143,6 +143,19 @@ pub fn compiled(alloc: Global, source: &str) -> Result<Vec<u8>, Fail> {
     Ok(Vec::from_slice(alloc, called.out.bytes())?)
 }
 
+// What `compile with` writes of a source on the platform that a file says.
+pub fn compiled_on(alloc: Global, source: &str, file: &str) -> Result<Vec<u8>, Fail> {
+    let mut shelf = drawer(alloc, Vec::from_slice(alloc, file.as_bytes())?)?;
+    let called = call(
+        alloc,
+        &["compile", "with", "A"],
+        &mut shelf,
+        source.as_bytes(),
+        &Setting::of(""),
+    )?;
+    Ok(Vec::from_slice(alloc, called.out.bytes())?)
+}
+
 // A text with another piece in place of its first piece of this kind.
 pub fn edited(alloc: Global, text: &str, from: &str, to: &str) -> Result<String, AllocError> {
     let Some((front, back)) = text.split_once(from) else {
@@ -595,6 +608,9 @@ const UNSERVED: &[(&[&str], u8, &str)] = &[
     (&["plan"], 2, "htl: usage\n"),
     (&["show"], 2, "htl: usage\n"),
     (&["compile", "x"], 2, "htl: usage\n"),
+    (&["compile", "with"], 2, "htl: usage\n"),
+    (&["compile", "for", "A"], 2, "htl: usage\n"),
+    (&["compile", "with", "A", "A"], 2, "htl: usage\n"),
     (&["code", "A"], 2, "htl: usage\n"),
     (&["bulk", "0"], 2, "htl: usage\n"),
     (&["bulk", "1"], 2, "htl: usage\n"),
@@ -610,7 +626,13 @@ const UNSERVED: &[(&[&str], u8, &str)] = &[
     (&["jobs", "X"], 8, "htl: shelf failed\n"),
     (&["plan", "X"], 8, "htl: shelf failed\n"),
     (&["show", "X"], 8, "htl: shelf failed\n"),
+    (&["compile", "with", "X"], 8, "htl: shelf failed\n"),
     (&["go", "A"], 8, "htl: shelf too-long 1048577\n"),
+    (
+        &["compile", "with", "A"],
+        8,
+        "htl: shelf too-long 1048577\n",
+    ),
     (&["run", "A"], 6, "htl: object malformed magic 0\n"),
 ];
 

@@ -1,13 +1,16 @@
 // The top call.
-ghost use Rattle.std.specs.Prelude.{◌≡◌, ◌≤◌, ◌<◌, ◌↔◌, ◌⊎◌, ℕ, List, Option, Some, None, length};
+ghost use Rattle.std.specs.Prelude.{◌≡◌, ◌≤◌, ◌<◌, ◌↔◌, ◌⊎◌, ℕ, List, Option, Some, None, Ok, length};
 ghost use Rattle.std.specs.Io.KnownBytes.{append_known};
 ghost use Rattle.htl_base.specs.declared.limits.TheConstants as limit;
 ghost use Rattle.htl_compile.specs.Built.{built, AreSchedulable};
 ghost use Rattle.htl_compile.specs.Building.{IsCompileFault};
+ghost use Rattle.htl_compile.specs.OnPlatform.{IsWithFault};
 ghost use Rattle.htl_compile.specs.Coded.{AreTyped};
 ghost use Rattle.htl_compile.specs.Sources.{IsTablesOf};
 ghost use Rattle.htl_compile.specs.declared.compiling.CompileFault.{CompileFault};
 ghost use Rattle.htl_compile.specs.declared.compiling.CompileFault.TheVariants as failing;
+ghost use Rattle.htl_compile.specs.declared.compiling_on.WithFault.{WithFault};
+ghost use Rattle.htl_compile.specs.declared.compiling_on.WithFault.TheVariants as on;
 ghost use Rattle.htl_compile.specs.declared.source_fault.SourceFault.{SourceFault};
 ghost use Rattle.htl_compile.specs.declared.source_fault.SourceFault.TheVariants as fault_of;
 ghost use Rattle.htl_console.specs.declared.shown.Shown.{Shown};
@@ -21,13 +24,18 @@ ghost use Rattle.htl_model.specs.Tables.{Tables};
 ghost use Rattle.htl_model.specs.declared.event.Event.{Event};
 ghost use Rattle.htl_model.specs.declared.form_fault.FormFault.{FormFault};
 ghost use Rattle.htl_object.specs.declared.object.Object.{Object};
+ghost use Rattle.htl_platform.specs.Applied.{with_worst};
+ghost use Rattle.htl_platform.specs.Platforms.{platform_of};
+ghost use Rattle.htl_platform.specs.declared.fault.PlatformFault.{PlatformFault};
+ghost use Rattle.htl_platform.specs.declared.platform.Platform.{Platform};
 ghost use Rattle.htl_script.specs.Reading.{LosesFront};
 ghost use Rattle.htl_script.specs.declared.fault.ScriptFault.{ScriptFault};
 ghost use Rattle.htl_top.specs.Answers.{files, streams, IsBeforeScript, IsBeforeRun, AreCountsKept, KeepsCounts, Tells};
 ghost use Rattle.htl_top.specs.Calls.{IsCall, HasSource, HasObject};
 ghost use Rattle.htl_top.specs.Causes.{IsFaultOf, IsLongFile, IsGiven, IsOrMemory};
 ghost use Rattle.htl_top.specs.Checked.{check_text};
-ghost use Rattle.htl_top.specs.Compiling.{compiled_bytes, IsCompileCause};
+ghost use Rattle.htl_top.specs.Compiling.{compiled_bytes};
+ghost use Rattle.htl_top.specs.CompilingOn.{compiled_on, IsCompileCause, IsPlatformCause};
 ghost use Rattle.htl_top.specs.Going.{IsReadySource};
 ghost use Rattle.htl_top.specs.Objects.{IsRefusedFile, IsAcceptedFile, IsReadyObject};
 ghost use Rattle.htl_top.specs.Planned.{IsWholePlan, IsCutPlan, IsBadSelection};
@@ -36,14 +44,16 @@ ghost use Rattle.htl_top.specs.Scripts.{IsWhole, IsBad};
 ghost use Rattle.htl_top.specs.SelectionInput.{Whole, Bad, input_of};
 ghost use Rattle.htl_top.specs.Shown.{show_text};
 ghost use Rattle.htl_top.specs.Sources.{IsProgram, IsInputProgram, answer_of};
+ghost use Rattle.htl_top.specs.SourcesOn.{IsProgramOn, answer_on};
 ghost use Rattle.htl_top.specs.Telling.{SpeaksOf, IsLineTold};
-ghost use Rattle.htl_top.specs.Words.{Go, Compile, Run, Check, Plan, Show, asked_for, command_in, source_in, object_in, most_taken, with_file};
+ghost use Rattle.htl_top.specs.Words.{Go, Compile, CompileWith, Run, Check, Plan, Show, asked_for, command_in, source_in, platform_in, object_in, most_taken, with_file};
+ghost use Rattle.htl_top.specs.declared.outcome.ShelfCause.{ShelfCause};
 ghost use Rattle.htl_top.specs.declared.outcome.ShelfCause.TheVariants as cause;
 
 use crate::Outcome;
 use crate::answer::Answer;
 use crate::check::check_file;
-use crate::compile::compile_input;
+use crate::compile::{compile_for_file, compile_input};
 use crate::fault_line::report;
 use crate::go::go_file;
 use crate::plan::plan_file;
@@ -69,6 +79,11 @@ use std::alloc::Global;
 /// answer: `Read`; `Source`, also for more than 1,048,576 bytes; `IllFormed`; `Unschedulable`; `Write`; `Done`. Nothing is written before
 /// all is judged.
 ///
+/// With the words `compile with PLATFORM` the file that `shelf` holds under PLATFORM, of at most 1,048,576 bytes, says the worst cases
+/// of tasks, by TOML: a text `name`, and a table `worst` from `"module.task"` to whole numbers. What goes to `out` is the object of the
+/// source with these worst cases, which names the platform. The first of these is the answer: `Shelf`; `Read`; `Source`; `Platform`;
+/// `IllFormed`; `Unschedulable`; `Write`; `Done`.
+///
 /// With the words `check OBJ` the object is tested, and one line goes to `out`: the number of root selections, and the greatest number of
 /// positions of one. With the words `show OBJ` its listing goes to `out` in place of that line. Nothing is read. The first of these is
 /// the answer: `Shelf`; `Object`; `Write`; `Done`.
@@ -77,8 +92,8 @@ use std::alloc::Global;
 /// the slices and finishes of the jobs at these modes with their worst cases go to `out`, with a last line. The first of these is the
 /// answer: `Shelf`; `Object`; line by line `Read` and `Script`, after which nothing was written; `Write`; `Done`.
 ///
-/// A command takes no more of the input than a front of at most 1,073,745,920 bytes, or 1,052,672 for `compile`: the longest script, or
-/// source, and one piece of 4,096 bytes.
+/// A command takes no more of the input than a front of at most 1,073,745,920 bytes, or 1,052,672 for both forms of `compile`: the
+/// longest script, or source, and one piece of 4,096 bytes.
 ///
 /// Other words are `Usage`. Want of memory may stand in place of any answer but `Usage`, before the first byte is written. A line on
 /// `err` tells of every answer but `Done`; a failing `err` changes nothing else.
@@ -90,20 +105,25 @@ pub fn htl<S: Shelf, R: Source, W: Sink, E: Sink>(
     out: &mut W,
     err: &mut E,
 ) -> Outcome
-    // The words, and the file that they name.
+    // The words, and the file that they name: a source, an object or a platform file.
     ensures usage { (result ≡ Outcome.Usage) ↔ (command_in words.now ≡ None) }
     ensures shelf_failed { result ≡ Outcome.Shelf cause.Failed →
-        IsFaultOf (source_in words.now) (S.faults shelf.old) (S.faults shelf.new) ⊎ IsFaultOf (object_in words.now) (S.faults shelf.old) (S.faults shelf.new) }
+        IsFaultOf (source_in words.now) (S.faults shelf.old) (S.faults shelf.new) ⊎ IsFaultOf (object_in words.now) (S.faults shelf.old) (S.faults shelf.new)
+        ⊎ IsFaultOf (platform_in words.now) (S.faults shelf.old) (S.faults shelf.new) }
     ensures shelf_long { (seen : ℕ) → result ≡ Outcome.Shelf (cause.TooLong seen) →
-        IsLongFile limit.MAX_SOURCE (source_in words.now) (S.holds shelf.old) seen ⊎ IsLongFile limit.MAX_OBJECT (object_in words.now) (S.holds shelf.old) seen }
+        IsLongFile limit.MAX_SOURCE (source_in words.now) (S.holds shelf.old) seen ⊎ IsLongFile limit.MAX_OBJECT (object_in words.now) (S.holds shelf.old) seen
+        ⊎ IsLongFile limit.MAX_SOURCE (platform_in words.now) (S.holds shelf.old) seen }
 
-    // The faults of a source, in a file for `go` and as the input for `compile`.
+    // The faults of a source, in a file for `go` and as the input for `compile`; and of a platform file.
     ensures source { (fault : SourceFault) → result ≡ Outcome.Source fault →
         IsCompileCause (command_in words.now) (S.holds shelf.old) (R.rest input.old) (failing.Source fault) }
     ensures ill_formed { (fault : FormFault) → result ≡ Outcome.IllFormed fault →
         IsCompileCause (command_in words.now) (S.holds shelf.old) (R.rest input.old) (failing.IllFormed fault) }
     ensures unschedulable { (sel a b demand : ℕ) → result ≡ Outcome.Unschedulable sel a b demand →
         IsCompileCause (command_in words.now) (S.holds shelf.old) (R.rest input.old) (failing.Unschedulable sel a b demand) }
+
+    ensures platform { (fault : PlatformFault) → result ≡ Outcome.Platform fault →
+        IsPlatformCause (command_in words.now) (S.holds shelf.old) (R.rest input.old) fault }
 
     // `go`: each other answer and its cause. `done` is the headline: the text is that of the object of the source's tables.
     ensures script { (name : List ℕ) → command_in words.now ≡ Some (Go name) → (fault : ScriptFault) → result ≡ Outcome.Script fault →
@@ -140,6 +160,26 @@ pub fn htl<S: Shelf, R: Source, W: Sink, E: Sink>(
         → (fault : CompileFault) → (fault ≡ failing.Memory → ⊥) → IsCompileFault bytes fault → (Rose (R.faults input.old) (R.faults input.new) → ⊥) → IsOrMemory result (answer_of fault) }
     ensures compile_complete { command_in words.now ≡ Some Compile → (bytes : List ℕ) → R.rest input.old ≡ Some bytes → length bytes ≤ limit.MAX_SOURCE
         → (t : Tables) → IsTablesOf bytes t → AreTyped t → Formed t → AreSchedulable t
+        → (Rose (R.faults input.old) (R.faults input.new) → ⊥) → (Rose (W.faults out.old) (W.faults out.new) → ⊥) → IsOrMemory result Outcome.Done }
+
+    // `compile with`: each other answer and its cause, and where this must be the answer, or Memory.
+    ensures compiled_on { (file : List ℕ) → command_in words.now ≡ Some (CompileWith file) → result ≡ Outcome.Done → (R.rest input.new ≡ none_left (R.rest input.old))
+        × IsProgramOn (Some file) (S.holds shelf.old) (R.rest input.old) (λ p t. W.written out.new ≡ append_known (W.written out.old) (compiled_on p t)) }
+    ensures compile_on_cut { (file : List ℕ) → command_in words.now ≡ Some (CompileWith file) → result ≡ Outcome.Write → Rose (W.faults out.old) (W.faults out.new)
+        × IsProgramOn (Some file) (S.holds shelf.old) (R.rest input.old) (λ p t. AppendsPrefix (W.written out.old) (W.written out.new) (compiled_on p t)) }
+    ensures compile_on_read { (file : List ℕ) → command_in words.now ≡ Some (CompileWith file) → result ≡ Outcome.Read → Rose (R.faults input.old) (R.faults input.new)
+        × (W.written out.new ≡ W.written out.old) }
+    ensures long_platform { (bytes : List ℕ) → IsGiven (platform_in words.now) (S.holds shelf.old) (S.faults shelf.old) (S.faults shelf.new) bytes
+        → limit.MAX_SOURCE < length bytes → IsOrMemory result (Outcome.Shelf (cause.TooLong (length bytes))) }
+    ensures long_input_on { (file : List ℕ) → IsGiven (platform_in words.now) (S.holds shelf.old) (S.faults shelf.old) (S.faults shelf.new) file → length file ≤ limit.MAX_SOURCE
+        → (bytes : List ℕ) → R.rest input.old ≡ Some bytes → limit.MAX_SOURCE < length bytes
+        → (Rose (R.faults input.old) (R.faults input.new) → ⊥) → IsOrMemory result (Outcome.Source (fault_of.TooLong 1048577)) }
+    ensures faulty_on { (file : List ℕ) → IsGiven (platform_in words.now) (S.holds shelf.old) (S.faults shelf.old) (S.faults shelf.new) file → length file ≤ limit.MAX_SOURCE
+        → (bytes : List ℕ) → R.rest input.old ≡ Some bytes → length bytes ≤ limit.MAX_SOURCE
+        → (fault : WithFault) → (fault ≡ on.Compile failing.Memory → ⊥) → IsWithFault bytes file fault → (Rose (R.faults input.old) (R.faults input.new) → ⊥) → IsOrMemory result (answer_on fault) }
+    ensures compile_on_complete { (file : List ℕ) → IsGiven (platform_in words.now) (S.holds shelf.old) (S.faults shelf.old) (S.faults shelf.new) file → length file ≤ limit.MAX_SOURCE
+        → (bytes : List ℕ) → R.rest input.old ≡ Some bytes → length bytes ≤ limit.MAX_SOURCE
+        → (t : Tables) (p : Platform) → IsTablesOf bytes t → AreTyped t → platform_of t file ≡ Ok p → Formed (with_worst t p.worst) → AreSchedulable (with_worst t p.worst)
         → (Rose (R.faults input.old) (R.faults input.new) → ⊥) → (Rose (W.faults out.old) (W.faults out.new) → ⊥) → IsOrMemory result Outcome.Done }
 
     // The object of the other commands: its faults, and where this must be the answer, or Memory.
@@ -208,7 +248,9 @@ pub fn htl<S: Shelf, R: Source, W: Sink, E: Sink>(
     // What stays as it was, and how much of the input was taken.
     ensures memory { result ≡ Outcome.Memory → W.written out.new ≡ W.written out.old }
     ensures unwritten { IsBeforeRun result → W.written out.new ≡ W.written out.old }
-    ensures unread { (command_in words.now ≡ Some Compile → ⊥) → IsBeforeScript result → R.rest input.new ≡ R.rest input.old }
+    ensures unread { (command_in words.now ≡ Some Compile → ⊥) → ((file : List ℕ) → command_in words.now ≡ Some (CompileWith file) → ⊥)
+        → IsBeforeScript result → R.rest input.new ≡ R.rest input.old }
+    ensures unfetched { (why : ShelfCause) → result ≡ Outcome.Shelf why → R.rest input.new ≡ R.rest input.old }
     ensures taken { LosesFront (most_taken (command_in words.now)) (R.rest input.old) (R.rest input.new) }
     ensures shelf { S.holds shelf.new ≡ S.holds shelf.old }
 
@@ -283,6 +325,7 @@ fn answered<S: Shelf, R: Source, W: Sink>(
 {
     match asked {
         Asked::Compile => compile_input(alloc, input, out),
+        Asked::CompileWith { platform } => compile_for_file(alloc, platform, shelf, input, out),
         Asked::File { verb, name } => about_file(alloc, verb, name, shelf, input, out),
     }
 }

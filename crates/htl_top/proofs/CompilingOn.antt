@@ -1,0 +1,247 @@
+-- What `compile with` answers, by its platform file and its input.
+use Rattle.std.proofs.Common.{arith, ◌≡◌, ◌≤◌, ◌<◌, ℕ, List, length, Option, Some, Ok, refl, sym, ◌∙◌, ap, subst, inl, inr}
+use Rattle.std.specs.FinMap.{get}
+use Rattle.std.specs.Prelude.{IfSome}
+use Rattle.std.specs.Io.KnownBytes.{append_known}
+use Rattle.htl_base.specs.declared.limits.TheConstants.{MAX_SOURCE}
+use Rattle.htl_compile.proofs.OnPlatform.{only_memory, one_with_fault}
+use Rattle.htl_compile.specs.Built.{AreSchedulable}
+use Rattle.htl_compile.specs.Coded.{AreTyped}
+use Rattle.htl_compile.specs.OnPlatform.{IsCompiledOn, IsWithFault}
+use Rattle.htl_compile.specs.Sources.{IsTablesOf}
+use Rattle.htl_compile.specs.declared.compiling.CompileFault.{CompileFault}
+use Rattle.htl_compile.specs.declared.compiling.CompileFault.TheVariants as compile
+use Rattle.htl_compile.specs.declared.compiling_on.WithFault.{WithFault}
+use Rattle.htl_compile.specs.declared.compiling_on.WithFault.TheVariants as on
+use Rattle.htl_compile.specs.declared.source_fault.SourceFault.TheVariants as source
+use Rattle.htl_edge.specs.Causes.{Rose}
+use Rattle.htl_edge.specs.Content.{AppendsPrefix, none_left}
+use Rattle.htl_edge.specs.Holdings.{Holdings, HoldsUnder}
+use Rattle.htl_model.specs.Broken.{Formed}
+use Rattle.htl_model.specs.Tables.{Tables}
+use Rattle.htl_platform.specs.Applied.{with_worst}
+use Rattle.htl_platform.specs.Platforms.{platform_of}
+use Rattle.htl_platform.specs.declared.fault.PlatformFault.{PlatformFault}
+use Rattle.htl_platform.specs.declared.platform.Platform.{Platform as PlatformOf}
+use Rattle.htl_top.specs.Answers.{Files, Streams, IsBeforeRun}
+use Rattle.htl_top.specs.Causes.{IsFaultOf, IsLongFile, IsSource, IsGiven, IsOrMemory}
+use Rattle.htl_top.specs.CompilingOn.{IsCompilingOn, IsBytesCompiledOn, compiled_on}
+use Rattle.htl_top.specs.Sources.{IsInput, IsLongInput, answer_of, outcome_of}
+use Rattle.htl_top.specs.SourcesOn.{IsProgramOn, IsFaultyOn, IsLongOn, IsInputFaultOn, IsNotCompiledOn, answer_on}
+use Rattle.htl_top.specs.declared.outcome.Outcome.{Outcome}
+use Rattle.htl_top.specs.declared.outcome.Outcome.TheVariants.{Done, Usage, Source, IllFormed, Unschedulable, Platform, Object as Refused, Script, Shelf, Read, Write, Memory}
+use Rattle.htl_top.specs.declared.outcome.ShelfCause.TheVariants.{Failed, TooLong}
+use Rattle.htl_top.specs.declared.source.SourceStop.{SourceStop}
+use Rattle.htl_top.specs.declared.source.SourceStop.TheVariants as stop
+
+-- ---- from source and platform file to the words and the input
+
+module _ (name : Option (List ℕ)) (shelf : Files) (old new : Streams) (file bytes : List ℕ) (held : IsSource name shelf.holds file) (input : IsInput old.rest bytes) where
+  program : (object : List ℕ) (Fact : List ℕ → Type 0) → IsCompiledOn bytes file object → Fact object → IsProgramOn name shelf.holds old.rest (λ p t. Fact (compiled_on p t))
+  program object Fact c fact =
+      record {
+        file = file;
+        held = held;
+        bytes = bytes;
+        input = input;
+        tables = c.tables;
+        of = c.of;
+        typed = c.typed;
+        platform = c.platform;
+        says = c.says;
+        can = c.can;
+        fact = subst Fact c.is fact;
+      }
+
+  faulty : (f : WithFault) → IsWithFault bytes file f → IsFaultyOn name shelf.holds old.rest f
+  faulty f is = record { file = file; held = held; bytes = bytes; input = input; fault = is }
+
+  uncompiled : (s : SourceStop) → new.written ≡ old.written → IsNotCompiledOn bytes file s → IsCompilingOn name shelf old new (outcome_of s)
+  uncompiled (stop.Fault f) same is = (inr (faulty (on.Compile (compile.Source f)) is), same)
+  uncompiled (stop.Platform f) same is = (faulty (on.Platform f) is, same)
+  uncompiled (stop.IllFormed f u) same is = (inr (faulty (on.Compile (compile.IllFormed f)) is.0), same)
+  uncompiled (stop.Unschedulable sel a b demand) same is = (inr (faulty (on.Compile (compile.Unschedulable sel a b demand)) is), same)
+  uncompiled stop.Memory same is = same
+
+  pub IsCompilingOn-bytes : (outcome : Outcome) → new.rest ≡ none_left old.rest
+      → IsBytesCompiledOn bytes file old.written new.written old.write_faults new.write_faults outcome → IsCompilingOn name shelf old new outcome
+  IsCompilingOn-bytes outcome left compiled = elim compiled [
+    | inl c ↦ elim c.2 [
+      | inl w ↦
+          subst (λ (o : Outcome). IsCompilingOn name shelf old new o) (sym w.0)
+          (left, program c.0 (λ (object : List ℕ). new.written ≡ append_known old.written object) c.1 w.1)
+      | inr w ↦
+          subst (λ (o : Outcome). IsCompilingOn name shelf old new o) (sym w.0)
+          (w.1, program c.0 (λ (object : List ℕ). AppendsPrefix old.written new.written object) c.1 w.2)
+    ]
+    | inr s ↦ subst (λ (o : Outcome). IsCompilingOn name shelf old new o) (sym s.2) (uncompiled s.0 s.3 s.1)
+  ]
+
+-- ---- the clauses
+
+module _ (name : Option (List ℕ)) (shelf : Files) (old new : Streams) where
+  pub cause : (f : CompileFault) → (f ≡ compile.Memory → ⊥) → IsCompilingOn name shelf old new (answer_of f) → IsInputFaultOn name shelf.holds old.rest (on.Compile f)
+  cause (compile.Source f) told compiling = compiling.0
+  cause (compile.IllFormed f) told compiling = compiling.0
+  cause (compile.Unschedulable sel a b demand) told compiling = compiling.0
+  cause compile.Memory told compiling = absurd (told refl)
+
+  pub unwritten : (outcome : Outcome) → IsCompilingOn name shelf old new outcome → IsBeforeRun outcome → new.written ≡ old.written
+  unwritten Done compiling early = absurd early
+  unwritten Write compiling early = absurd early
+  unwritten Read compiling early = compiling.2
+  unwritten (Source f) compiling early = compiling.1
+  unwritten (Platform f) compiling early = compiling.1
+  unwritten (IllFormed f) compiling early = compiling.1
+  unwritten (Unschedulable sel a b demand) compiling early = compiling.1
+  unwritten (Shelf Failed) compiling early = compiling.1.written
+  unwritten (Shelf (TooLong seen)) compiling early = compiling.1.written
+  unwritten Memory compiling early = compiling
+  unwritten Usage compiling early = absurd compiling
+  unwritten (Refused f) compiling early = absurd compiling
+  unwritten (Script f) compiling early = absurd compiling
+
+  -- ---- of a platform file that is given
+
+  module _ (file : List ℕ) (given : IsGiven name shelf.holds shelf.before shelf.after file) where
+    same_file : (others : List ℕ) → IsSource name shelf.holds others → others ≡ file
+    same_file others held =
+        let same : held.word ≡ given.word = let p = held.named in let q = given.named in cc in
+        let told : get given.held held.word ≡ Some others = subst (λ (holds : Option Holdings). HoldsUnder holds held.word others) given.told held.held in
+        let other = given.file in
+        cc
+
+    short_file : (others : List ℕ) → IsSource name shelf.holds others → length file ≤ 1048576
+    short_file others held = subst (λ (bs : List ℕ). length bs ≤ 1048576) (same_file others held) held.short
+
+    seen_long : (seen : ℕ) → IsLongFile MAX_SOURCE name shelf.holds seen → (1048576 < length file) × (seen ≡ length file)
+    seen_long seen is =
+        let long : IsLongFile MAX_SOURCE (Some given.word) (Some given.held) seen =
+        subst (λ (o : Option (List ℕ)). IsLongFile MAX_SOURCE o (Some given.held) seen) given.named (subst (λ (holds : Option Holdings). IsLongFile MAX_SOURCE name holds seen) given.told is) in
+        let same : long.1.0 ≡ file = let p = long.1.1 in let q = given.file in cc in
+        let length_seen : seen ≡ length file = long.1.2 ∙ ap length same in
+        (omega (arith, long.0, length_seen), length_seen)
+
+    no_fault : IsFaultOf name shelf.before shelf.after → ⊥
+    no_fault is = given.no_fault (subst (λ (o : Option (List ℕ)). IsFaultOf o shelf.before shelf.after) given.named is)
+
+    -- the file is too long
+    module _ (long : 1048576 < length file) where
+      no_file : (others : List ℕ) → IsSource name shelf.holds others → ⊥
+      no_file others held = omega (arith, long, short_file others held)
+
+      no_input_fault : (f : WithFault) → IsInputFaultOn name shelf.holds old.rest f → ⊥
+      no_input_fault f (inl l) = no_file l.file l.held
+      no_input_fault f (inr p) = no_file p.file p.held
+
+      pub long_platform : (outcome : Outcome) → IsCompilingOn name shelf old new outcome → IsOrMemory outcome (Shelf (TooLong (length file)))
+      long_platform Done compiling = absurd (no_file compiling.1.file compiling.1.held)
+      long_platform Write compiling = absurd (no_file compiling.1.file compiling.1.held)
+      long_platform Read compiling = absurd (no_file compiling.0.0 compiling.0.1)
+      long_platform (Source f) compiling = absurd (no_input_fault (on.Compile (compile.Source f)) compiling.0)
+      long_platform (Platform f) compiling = absurd (no_file compiling.0.file compiling.0.held)
+      long_platform (IllFormed f) compiling = absurd (no_input_fault (on.Compile (compile.IllFormed f)) compiling.0)
+      long_platform (Unschedulable sel a b demand) compiling = absurd (no_input_fault (on.Compile (compile.Unschedulable sel a b demand)) compiling.0)
+      long_platform (Shelf Failed) compiling = absurd (no_fault compiling.0)
+      long_platform (Shelf (TooLong seen)) compiling = inl (ap (λ (n : ℕ). Shelf (TooLong n)) (seen_long seen compiling.0).1)
+      long_platform Memory compiling = inr refl
+      long_platform Usage compiling = absurd compiling
+      long_platform (Refused f) compiling = absurd compiling
+      long_platform (Script f) compiling = absurd compiling
+
+    -- ---- and of an input that is told
+
+    module _ (small : length file ≤ 1048576) (bytes : List ℕ) (told : old.rest ≡ Some bytes) where
+      of_input : (P : List ℕ → Type 0) → IfSome old.rest P → P bytes
+      of_input P is = subst (λ (rest : Option (List ℕ)). IfSome rest P) told is
+
+      same_bytes : (others : List ℕ) → IsInput old.rest others → others ≡ bytes
+      same_bytes others input = sym (of_input (λ bs. bs ≡ others) input.told)
+
+      short : (others : List ℕ) → IsInput old.rest others → length bytes ≤ 1048576
+      short others input = subst (λ (bs : List ℕ). length bs ≤ 1048576) (same_bytes others input) input.short
+
+      fault_of : (f : WithFault) → IsFaultyOn name shelf.holds old.rest f → IsWithFault bytes file f
+      fault_of f p = subst (λ (bs : List ℕ). IsWithFault bs file f) (same_bytes p.bytes p.input) (subst (λ (other : List ℕ). IsWithFault p.bytes other f) (same_file p.file p.held) p.fault)
+
+      -- the input is too long
+      module _ (long : 1048576 < length bytes) where
+        no_input : (others : List ℕ) → IsInput old.rest others → ⊥
+        no_input others input = omega (arith, long, short others input)
+
+        long_fault : (f : CompileFault) → IsInputFaultOn name shelf.holds old.rest (on.Compile f) → answer_of f ≡ Source (source.TooLong 1048577)
+        long_fault f (inl l) = let same : f ≡ l.fault = (let e = l.is in cc) in ap answer_of same ∙ ap answer_of l.long.is
+        long_fault f (inr p) = absurd (no_input p.bytes p.input)
+
+        pub long_input : (outcome : Outcome) → IsCompilingOn name shelf old new outcome → (Rose old.read_faults new.read_faults → ⊥) → IsOrMemory outcome (Source (source.TooLong 1048577))
+        long_input Done compiling quiet = absurd (no_input compiling.1.bytes compiling.1.input)
+        long_input Write compiling quiet = absurd (no_input compiling.1.bytes compiling.1.input)
+        long_input Read compiling quiet = absurd (quiet compiling.1)
+        long_input (Source f) compiling quiet = inl (long_fault (compile.Source f) compiling.0)
+        long_input (Platform f) compiling quiet = absurd (no_input compiling.0.bytes compiling.0.input)
+        long_input (IllFormed f) compiling quiet = inl (long_fault (compile.IllFormed f) compiling.0)
+        long_input (Unschedulable sel a b demand) compiling quiet = inl (long_fault (compile.Unschedulable sel a b demand) compiling.0)
+        long_input (Shelf Failed) compiling quiet = absurd (no_fault compiling.0)
+        long_input (Shelf (TooLong seen)) compiling quiet = absurd (omega (arith, small, (seen_long seen compiling.0).0))
+        long_input Memory compiling quiet = inr refl
+        long_input Usage compiling quiet = absurd compiling
+        long_input (Refused f) compiling quiet = absurd compiling
+        long_input (Script f) compiling quiet = absurd compiling
+
+      -- it isn't, so its fault is none of length
+      module _ (few : length bytes ≤ 1048576) where
+        fault_told : (f : WithFault) → IsInputFaultOn name shelf.holds old.rest f → IsWithFault bytes file f
+        fault_told f (inl l) = absurd (omega (arith, few, of_input (λ bs. 1048576 < length bs) l.long.long))
+        fault_told f (inr p) = fault_of f p
+
+        -- there is a fault
+        module _ (f : WithFault) (known : f ≡ on.Compile compile.Memory → ⊥) (is : IsWithFault bytes file f) where
+          this : (g : WithFault) → (g ≡ on.Compile compile.Memory → ⊥) → IsWithFault bytes file g → answer_on g ≡ answer_on f
+          this g other h = ap answer_on (one_with_fault bytes file f g known other is h)
+
+          no_program : (Fact : PlatformOf → Tables → Type 0) → IsProgramOn name shelf.holds old.rest Fact → ⊥
+          no_program Fact p =
+              let bytes_are = same_bytes p.bytes p.input in
+              let file_is = same_file p.file p.held in
+              let of : IsTablesOf bytes p.tables = subst (λ (bs : List ℕ). IsTablesOf bs p.tables) bytes_are p.of in
+              let says : platform_of p.tables file ≡ Ok p.platform = subst (λ (other : List ℕ). platform_of p.tables other ≡ Ok p.platform) file_is p.says in
+              known (only_memory bytes file p.tables p.platform of says p.typed p.can.formed p.can.schedulable f is)
+
+          pub faulty_on : (outcome : Outcome) → IsCompilingOn name shelf old new outcome → (Rose old.read_faults new.read_faults → ⊥) → IsOrMemory outcome (answer_on f)
+          faulty_on Done compiling quiet = absurd (no_program (λ p t. new.written ≡ append_known old.written (compiled_on p t)) compiling.1)
+          faulty_on Write compiling quiet = absurd (no_program (λ p t. AppendsPrefix old.written new.written (compiled_on p t)) compiling.1)
+          faulty_on Read compiling quiet = absurd (quiet compiling.1)
+          faulty_on (Source g) compiling quiet = inl (this (on.Compile (compile.Source g)) (λ e. cc) (fault_told (on.Compile (compile.Source g)) compiling.0))
+          faulty_on (Platform g) compiling quiet = inl (this (on.Platform g) (λ e. cc) (fault_of (on.Platform g) compiling.0))
+          faulty_on (IllFormed g) compiling quiet = inl (this (on.Compile (compile.IllFormed g)) (λ e. cc) (fault_told (on.Compile (compile.IllFormed g)) compiling.0))
+          faulty_on (Unschedulable sel a b demand) compiling quiet =
+              inl (this (on.Compile (compile.Unschedulable sel a b demand)) (λ e. cc) (fault_told (on.Compile (compile.Unschedulable sel a b demand)) compiling.0))
+          faulty_on (Shelf Failed) compiling quiet = absurd (no_fault compiling.0)
+          faulty_on (Shelf (TooLong seen)) compiling quiet = absurd (omega (arith, small, (seen_long seen compiling.0).0))
+          faulty_on Memory compiling quiet = inr refl
+          faulty_on Usage compiling quiet = absurd compiling
+          faulty_on (Refused g) compiling quiet = absurd compiling
+          faulty_on (Script g) compiling quiet = absurd compiling
+
+        -- an object is built of it on the platform
+        module _ (t : Tables) (p : PlatformOf) (of : IsTablesOf bytes t) (typed : AreTyped t) (says : platform_of t file ≡ Ok p)
+            (formed : Formed (with_worst t p.worst)) (free : AreSchedulable (with_worst t p.worst)) where
+          none_of : (g : WithFault) → (g ≡ on.Compile compile.Memory → ⊥) → IsWithFault bytes file g → ⊥
+          none_of g other h = other (only_memory bytes file t p of says typed formed free g h)
+
+          pub complete : (outcome : Outcome) → IsCompilingOn name shelf old new outcome → (Rose old.read_faults new.read_faults → ⊥) → (Rose old.write_faults new.write_faults → ⊥)
+              → IsOrMemory outcome Done
+          complete Done compiling quiet still = inl refl
+          complete Write compiling quiet still = absurd (still compiling.0)
+          complete Read compiling quiet still = absurd (quiet compiling.1)
+          complete (Source g) compiling quiet still = absurd (none_of (on.Compile (compile.Source g)) (λ e. cc) (fault_told (on.Compile (compile.Source g)) compiling.0))
+          complete (Platform g) compiling quiet still = absurd (none_of (on.Platform g) (λ e. cc) (fault_of (on.Platform g) compiling.0))
+          complete (IllFormed g) compiling quiet still = absurd (none_of (on.Compile (compile.IllFormed g)) (λ e. cc) (fault_told (on.Compile (compile.IllFormed g)) compiling.0))
+          complete (Unschedulable sel a b demand) compiling quiet still =
+              absurd (none_of (on.Compile (compile.Unschedulable sel a b demand)) (λ e. cc) (fault_told (on.Compile (compile.Unschedulable sel a b demand)) compiling.0))
+          complete (Shelf Failed) compiling quiet still = absurd (no_fault compiling.0)
+          complete (Shelf (TooLong seen)) compiling quiet still = absurd (omega (arith, small, (seen_long seen compiling.0).0))
+          complete Memory compiling quiet still = inr refl
+          complete Usage compiling quiet still = absurd compiling
+          complete (Refused g) compiling quiet still = absurd compiling
+          complete (Script g) compiling quiet still = absurd compiling

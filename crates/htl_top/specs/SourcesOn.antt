@@ -1,0 +1,98 @@
+-- The source that a command compiles for a platform: where its tables are had, and why no object is built of it.
+use Rattle.std.specs.Prelude.{ℕ, ◌≡◌, ◌⊎◌, Option, Some, None, List, Ok}
+use Rattle.htl_compile.specs.Built.{CanBuild}
+use Rattle.htl_compile.specs.Coded.{AreTyped, CanCode, coded}
+use Rattle.htl_compile.specs.OnPlatform.{IsWithFault}
+use Rattle.htl_compile.specs.Sources.{IsTablesOf}
+use Rattle.htl_compile.specs.declared.compiling.CompileFault.{CompileFault}
+use Rattle.htl_compile.specs.declared.compiling.CompileFault.TheVariants as compile
+use Rattle.htl_compile.specs.declared.compiling_on.WithFault.{WithFault}
+use Rattle.htl_compile.specs.declared.compiling_on.WithFault.TheVariants as on
+use Rattle.htl_compile.specs.declared.source_fault.SourceFault.TheVariants as source
+use Rattle.htl_edge.specs.Holdings.{Holdings}
+use Rattle.htl_model.specs.Tables.{Tables}
+use Rattle.htl_platform.specs.Applied.{with_worst}
+use Rattle.htl_platform.specs.Platforms.{platform_of}
+use Rattle.htl_platform.specs.declared.platform.Platform.{Platform as PlatformOf}
+use Rattle.htl_top.specs.Causes.{IsSource}
+use Rattle.htl_top.specs.Sources.{IsInput, IsLongInput, answer_of}
+use Rattle.htl_top.specs.declared.outcome.Outcome.{Outcome}
+use Rattle.htl_top.specs.declared.outcome.Outcome.TheVariants.{Platform}
+use Rattle.htl_top.specs.declared.source.SourceStop.{SourceStop}
+use Rattle.htl_top.specs.declared.source.SourceStop.TheVariants as stop
+
+-- a fault of compiling for a platform, as an answer
+abbrev pub answer_on : WithFault → Outcome
+answer_on (on.Compile f) = answer_of f
+answer_on (on.Platform f) = Platform f
+
+-- ---- of bytes
+
+-- The bytes are a source with tables whose functions are typed, the file says a platform for them, and the fact holds of the
+-- tables with its worst cases.
+pub record HasTypedOn (bytes file : List ℕ) (Fact : Tables → Type 0) : Type 0 where
+  pub tables : Tables
+  pub of : IsTablesOf bytes tables
+  pub platform : PlatformOf
+  pub says : platform_of tables file ≡ Ok platform
+  pub can : CanCode (with_worst tables platform.worst)
+  pub fact : Fact (with_worst tables platform.worst)
+
+-- Why no object is built of a source for a platform: the first fault. With a broken form rule come the tables that break it, with
+-- the platform's worst cases and with their functions as code.
+abbrev pub IsNotCompiledOn : List ℕ → List ℕ → SourceStop → Type 0
+IsNotCompiledOn bytes file (stop.Fault f) = IsWithFault bytes file (on.Compile (compile.Source f))
+IsNotCompiledOn bytes file (stop.Platform f) = IsWithFault bytes file (on.Platform f)
+IsNotCompiledOn bytes file (stop.IllFormed f tables) = IsWithFault bytes file (on.Compile (compile.IllFormed f)) × HasTypedOn bytes file (λ t. tables ≡ coded t)
+IsNotCompiledOn bytes file (stop.Unschedulable sel a b demand) = IsWithFault bytes file (on.Compile (compile.Unschedulable sel a b demand))
+IsNotCompiledOn bytes file stop.Memory = Unit {0}
+
+-- ---- of a platform file and the input
+
+-- the words name a platform file
+abbrev pub HasFile : Option (List ℕ) → Option Holdings → Type 0
+HasFile name holds = (file : List ℕ) × IsSource name holds file
+
+-- The words name a platform file, the input is a source with tables of which an accepted object is built on the platform, and the
+-- fact holds of the platform and the tables.
+pub record IsProgramOn (name : Option (List ℕ)) (holds : Option Holdings) (rest : Option (List ℕ)) (Fact : PlatformOf → Tables → Type 0) : Type 0 where
+  pub file : List ℕ
+  pub held : IsSource name holds file
+  pub bytes : List ℕ
+  pub input : IsInput rest bytes
+  pub tables : Tables
+  pub of : IsTablesOf bytes tables
+  pub typed : AreTyped tables
+  pub platform : PlatformOf
+  pub says : platform_of tables file ≡ Ok platform
+  pub can : CanBuild (with_worst tables platform.worst)
+  pub fact : Fact platform tables
+
+-- The words name a platform file, the input is a source with tables whose functions are typed, and the fact holds of the tables with
+-- the platform's worst cases.
+pub record IsTypedOn (name : Option (List ℕ)) (holds : Option Holdings) (rest : Option (List ℕ)) (Fact : Tables → Type 0) : Type 0 where
+  pub file : List ℕ
+  pub held : IsSource name holds file
+  pub bytes : List ℕ
+  pub input : IsInput rest bytes
+  pub has : HasTypedOn bytes file Fact
+
+-- The words name a platform file, and no object is built of the input for it, for this fault.
+pub record IsFaultyOn (name : Option (List ℕ)) (holds : Option Holdings) (rest : Option (List ℕ)) (f : WithFault) : Type 0 where
+  pub file : List ℕ
+  pub held : IsSource name holds file
+  pub bytes : List ℕ
+  pub input : IsInput rest bytes
+  pub fault : IsWithFault bytes file f
+
+-- The words name a platform file, and the input has more than 1,048,576 bytes, of which one more than that was seen.
+pub record IsLongOn (name : Option (List ℕ)) (holds : Option Holdings) (rest : Option (List ℕ)) (f : WithFault) : Type 0 where
+  pub file : List ℕ
+  pub held : IsSource name holds file
+  pub fault : CompileFault
+  pub is : f ≡ on.Compile fault
+  pub long : IsLongInput rest fault
+
+-- no object is built of the input for a platform, for this fault: it is too long, or there is the fault
+abbrev pub IsInputFaultOn : Option (List ℕ) → Option Holdings → Option (List ℕ) → WithFault → Type 0
+IsInputFaultOn name holds rest f = IsLongOn name holds rest f ⊎ IsFaultyOn name holds rest f
