@@ -7,6 +7,7 @@ pub mod Moving
 pub mod Outs
 pub mod Casting
 pub mod Going
+pub mod Short
 pub mod Due
 pub mod Periods
 pub mod Valued
