@@ -8,7 +8,7 @@ use Rattle.htl_model.specs.declared.event.Event.{Event}
 use Rattle.htl_model.specs.Lists.{up_to}
 use Rattle.htl_object.specs.declared.object.Object.{Object}
 use Rattle.htl_console.specs.declared.shown.Shown.{Shown}
-use Rattle.htl_machine.specs.Calls.{Seen, IsUpTo, IsSameRun, text_between}
+use Rattle.htl_machine.specs.Calls.{Seen, Follows, IsUpTo, IsSameRun, text_between}
 use Rattle.htl_machine.specs.Passing.{IsPassing, ArePassing}
 use Rattle.htl_machine.specs.Programs.{lines_of}
 
@@ -81,6 +81,10 @@ passing_whole m0 m es from at to w0 w f0 f x all p =
       part = tt;
       cause = record { later = omega (arith, p.kept); kept = p.kept; refused = tt };
     }
+
+-- a machine stands before the instant of its reading, however that is named
+pub up_to_reading : (m : Seen) (es : List Event) (n : ℕ) → n ≡ m.held.reading → Follows m es → IsUpTo m es n
+up_to_reading m es n read f = subst (λ k. IsUpTo m es k) (sym read) (record { kept = f.kept; before = f.before })
 
 -- ---- for every list of events that the machine followed at first
 
