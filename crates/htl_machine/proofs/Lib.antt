@@ -82,3 +82,4 @@ pub mod Ready
 pub mod After
 pub mod Idle
 pub mod Quiet
+pub mod ToClose

@@ -7,15 +7,11 @@ use Rattle.htl_machine.proofs.Viewing.{seen_in}
 use Rattle.htl_machine.proofs.Calling.{finished}
 use Rattle.htl_machine.proofs.machine.Machine.finish.Goals as goal
 
+pub pass-requires-clause-before : goal.pass-requires-clause-before
+pass-requires-clause-before g c = ?
+
 pub returns-clause-text : goal.returns-clause-text
-returns-clause-text g c =
-    let one : c.args.to + 1 ≡ suc c.args.to = omega arith in
-    subst (λ (k : ℕ). Puts {T = Unit {0}} {E = Failed} (g.W.Sink.written c.args.sink.now) (g.W.Sink.written c.pass-2.new.sink) (g.W.Sink.faults c.args.sink.now) (g.W.Sink.faults c.pass-2.new.sink) (text_between c.args.self.now.object g.es c.args.self.now.show c.args.self.now.held.reading k) (Ok _))
-    one
-    (subst (λ (n : ℕ). Puts {T = Unit {0}} {E = Failed} (g.W.Sink.written c.args.sink.now) (g.W.Sink.written c.pass-2.new.sink) (g.W.Sink.faults c.args.sink.now) (g.W.Sink.faults c.pass-2.new.sink) (text_between c.args.self.now.object g.es c.args.self.now.show n (c.args.to + 1)) (Ok _))
-    (ap (λ (z : Seen). z.held.reading) c.pass.view_is) (ends_so _ _ _ _ _ _ _ c.in_default.ensures.text))
+returns-clause-text g c = λ es f. ?
 
 pub returns-clause-finished : goal.returns-clause-finished
-returns-clause-finished g c =
-    let one : c.args.to + 1 ≡ suc c.args.to = omega arith in
-    finished (seen_in c.self.inside) g.es c.args.to (subst (λ (k : ℕ). IsUpTo (seen_in c.self.inside) g.es k) one (subst (λ (z : Seen). IsUpTo z g.es (c.args.to + 1)) (sym c.self.view_is) c.in_default.ensures.before))
+returns-clause-finished g c = λ es f. ?
