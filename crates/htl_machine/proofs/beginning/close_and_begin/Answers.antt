@@ -115,6 +115,11 @@ tell_records-requires-clause-instrs g c =
     (sym (schedule_is t c.args.schedules.now es c.args.at c.begin_round-begun.result.selection c.do_instrs.new.m.calendar.modes c.index-schedules-begun.result ms c.begin_round-begun.ensures.selection c.begin_round-begun.ensures.known c.requires.schedules c.index-schedules-begun.is))
     h.short
 
+pub tell_records-requires-clause-stands : goal.tell_records-requires-clause-stands
+tell_records-requires-clause-stands g c =
+    let steps = c.index-schedules-begun.result.instrs in
+    c.in_default-read_instant.ensures.stands steps (c.begin_round-begun.ensures.stands steps)
+
 pub tell_records-requires-clause-told : goal.tell_records-requires-clause-told
 tell_records-requires-clause-told g c = λ p pend.
     let es = c.requires.begins.0 in

@@ -1,4 +1,5 @@
 use Rattle.std.proofs.Common.{◌∙◌, refl}
+use Rattle.htl_emach.proofs.Overdue.{nothing_overdue}
 use Rattle.htl_machine.proofs.Going.{phase_replayed, phase_ends}
 use Rattle.htl_machine.proofs.Doing.{doing_start, doing_on, doing_cut, doing_end, doing_counted, doing_told}
 use Rattle.htl_machine.proofs.Short.{fewer_then, midway_start}
@@ -13,6 +14,12 @@ loop-done-init g c = record {
   stands = λ s st. st;
   jobs = refl;
 }
+
+pub instant-requires-clause-order : goal.instant-requires-clause-order
+instant-requires-clause-order g c =
+    let w = c.requires.starts in
+    let here = (c.loop-done.invariant.doing w.0 w.1).running in
+    nothing_overdue c.args.t.now c.args.code.now w.0 c.args.at c.args.phase c.loop-done.m here.done here.rest c.parts-parts.ensures.ranges here.midway
 
 pub returns-in-Err-clause-text : goal.returns-in-Err-clause-text
 returns-in-Err-clause-text g c = λ es s.
