@@ -351,6 +351,34 @@ invariant_of-self-in_default-close_instant g c =
       empty = kept.empty;
     }
 
+pub invariant_of-self-in-Ok : goal.invariant_of-self-in-Ok
+invariant_of-self-in-Ok g c =
+    let w = c.requires.before in
+    let later = subst (λ (z : Seen). z.held.reading ≤ c.args.at) (sym c.self.view_is) c.requires.read in
+    let m = seen_in c.self.inside in
+    let ok = c.self.invariant.accepted in
+    let u = subst (λ (z : Seen). IsUpTo z w.0 c.args.at) (sym c.self.view_is) w.1 in
+    let r = ready m w.0 c.args.at c.self.inside.idle.instrs ok u later c.self.invariant.empty in
+    let f = follows_at m.object w.0 c.args.at c.tables-t.result.now c.ecode-code.result.now m.standing c.tables-t.ensures.value c.ecode-code.ensures u.before.values.triggers in
+    let opened = rw (c.tables-t.ensures.value, c.ecode-code.ensures, c.schedule_of.ensures, c.as_slice.ensures, c.as_slice-2.ensures) at (c.in_default.ensures.world w.0 f) in
+    let b = sym (rw c.tables-t.ensures.value at c.round_begins.ensures) ∙ c.if-round_begins.true in
+    let z = to_close m w.0 c.args.at c.tables-t.result.now c.ecode-code.result.now c.tables-t.ensures.value c.ecode-code.ensures ok later u _ r c.note_values.new.values c.note_values.ensures _ _ opened _ (c.as_slice-then-round_begins-2.ensures ∙ c.note_values.ensures) _ (c.as_slice-then-round_begins-3.ensures ∙ c.note_modes.ensures) _ (c.in_default.ensures.writes w.0 f) in
+    let q = to_close_and_begin m w.0 c.args.at c.tables-t.result.now c.ecode-code.result.now c.schedules.result.now _ c.tables-t.ensures.value c.ecode-code.ensures c.schedules.ensures c.as_slice-then-round_begins.ensures ok later u b _ _ _ _ z in
+    let noted = noted_of m w.0 c.args.at m.object.tables c.note_values.new.values c.note_modes.new.modes.modes u refl c.note_values.ensures c.note_modes.ensures in
+    let kept = c.self.invariant in
+    let desk = c.in-Ok.ensures.desk w.0 q in
+    record {
+      accepted = kept.accepted;
+      all_shows = kept.all_shows;
+      all_takes = kept.all_takes;
+      all_values = noted.few;
+      all_modes = noted.modules;
+      few = c.in-Ok.ensures.few;
+      all_selected = λ free. c.in-Ok.ensures.room ∙ ap (λ z. length z.modules) c.tables-t.ensures.value;
+      are = λ free. c.in-Ok.ensures.jobs w.0 q ∙ sym desk.jobs;
+      empty = kept.empty;
+    }
+
 pub returns-in-Ok-clause-text : goal.returns-in-Ok-clause-text
 returns-in-Ok-clause-text g c = λ es before.
     let later = subst (λ (z : Seen). z.held.reading ≤ c.args.at) (sym c.self.view_is) c.requires.read in
