@@ -72,8 +72,8 @@ use std::alloc::Global;
 /// line is written; `Write`; `Script`, after the lines of all instants before the last reading, or, where the fault stands behind the
 /// `end` line, all lines but the totals; `Done`.
 ///
-/// With the words `run OBJ` and `jobs OBJ` the object that `shelf` holds under OBJ, of at most 16,777,216 bytes, is tested and run in the
-/// same way; `run` shows values and modes, `jobs` the jobs too. The first of these is the answer: `Shelf`; `Object`; then as for `go`.
+/// With the words `run OBJ`, `jobs OBJ` and `code OBJ` the object that `shelf` holds under OBJ, of at most 16,777,216 bytes, is tested and
+/// run in the same way; `run` shows values and modes, `jobs` the jobs too, `code` each instruction of both machines too. The first of these is the answer: `Shelf`; `Object`; then as for `go`.
 ///
 /// With the word `compile` the source is what `input` has left, and the bytes of its object go to `out`. The first of these is the
 /// answer: `Read`; `Source`, also for more than 1,048,576 bytes; `IllFormed`; `Unschedulable`; `Write`; `Done`. Nothing is written before
@@ -354,6 +354,7 @@ fn about_file<S: Shelf, R: Source, W: Sink>(
         Verb::Go => go_file(alloc, name, shelf, input, out),
         Verb::Run => run_file(alloc, name, Shown::Values, shelf, input, out),
         Verb::Jobs => run_file(alloc, name, Shown::Jobs, shelf, input, out),
+        Verb::Code => run_file(alloc, name, Shown::Code, shelf, input, out),
         Verb::Check => check_file(alloc, name, shelf, out),
         Verb::Plan => plan_file(alloc, name, shelf, input, out),
         Verb::Show => show_file(alloc, name, shelf, out),
