@@ -5,14 +5,18 @@ pub mod BegunTimes
 pub mod Chains
 pub mod Exact
 mod Examples
+mod FrameExamples
 pub mod Inherit
 pub mod Kept
 pub mod Members
+pub mod NodeRead
 pub mod OneFault
+pub mod OneFrame
 pub mod OnePassLaws
 pub mod OneSelection
 pub mod OrderLaws
 pub mod PathDerived
+pub mod PathRead
 pub mod PathServing
 pub mod Positions
 pub mod PrecedenceLaws
