@@ -5,6 +5,7 @@ pub mod BegunTimes
 pub mod Chains
 pub mod Exact
 mod Examples
+pub mod FinishingRecords
 mod FrameExamples
 pub mod Inherit
 pub mod Kept
@@ -20,6 +21,7 @@ pub mod PathRead
 pub mod PathServing
 pub mod Positions
 pub mod PrecedenceLaws
+pub mod RecordOrder
 pub mod RefiningLaws
 pub mod RootSelection
 pub mod RoundLaws
@@ -27,4 +29,8 @@ pub mod RuleOrder
 pub mod SampleFits
 pub mod SearchLaws
 pub mod SelectedLaws
+pub mod ServedFrames
+pub mod ServedJobs
+pub mod SliceOrder
+pub mod SliceSums
 pub mod StateLaws
