@@ -7,6 +7,7 @@ pub mod Exact
 mod Examples
 pub mod FinishingRecords
 mod FrameExamples
+pub mod FramesAgree
 pub mod Inherit
 pub mod Kept
 pub mod Members
@@ -25,6 +26,7 @@ pub mod RecordOrder
 pub mod RefiningLaws
 pub mod RootSelection
 pub mod RoundLaws
+pub mod RoundOrder
 pub mod RuleOrder
 pub mod SampleFits
 pub mod SearchLaws
@@ -34,3 +36,4 @@ pub mod ServedJobs
 pub mod SliceOrder
 pub mod SliceSums
 pub mod StateLaws
+pub mod WalksAgree
