@@ -20,6 +20,7 @@ pub mod OrderLaws
 pub mod PathDerived
 pub mod PathRead
 pub mod PathServing
+pub mod PlaceOrder
 pub mod Positions
 pub mod PrecedenceLaws
 pub mod RecordOrder
