@@ -1,5 +1,6 @@
 pub mod AlongPath
 pub mod AlongServing
+pub mod BeginningsEnd
 pub mod BegunPlaces
 pub mod BegunTimes
 pub mod Chains
@@ -17,6 +18,8 @@ pub mod OneFrame
 pub mod OnePassLaws
 pub mod OneSelection
 pub mod OrderLaws
+pub mod OwnPeriods
+pub mod OwnRounds
 pub mod PathDerived
 pub mod PathRead
 pub mod PathServing
@@ -36,5 +39,6 @@ pub mod ServedFrames
 pub mod ServedJobs
 pub mod SliceOrder
 pub mod SliceSums
+pub mod Standing
 pub mod StateLaws
 pub mod WalksAgree
