@@ -1,5 +1,5 @@
 -- Where a round of a root module begins, its round before ends.
-use Rattle.std.proofs.Common.{◌≡◌, ◌<◌, ◌≤◌, ◌⊎◌, ℕ, zero, suc, ◌+◌, ◌*◌, ◌/◌, ◌%◌, Bool, true, false, ◌||◌, eqb, eqb-true, List, [], ◌∷◌, length, map, slice_get, Option, Some, None, refl, sym, ◌∙◌, ap, subst, arith, inl, inr}
+use Rattle.std.proofs.Common.{◌≡◌, ◌<◌, ◌≤◌, ◌⊎◌, ℕ, suc, ◌+◌, ◌*◌, ◌/◌, ◌%◌, Bool, true, false, ◌||◌, eqb, eqb-true, List, [], ◌∷◌, length, map, slice_get, Option, Some, None, refl, sym, ◌∙◌, ap, subst, arith, inl, inr}
 use Rattle.std.proofs.Math.Nat.{div-add-mod, mod-lt}
 use Rattle.std.proofs.lemmas.Option.{slice_get_within}
 use Rattle.htl_model.specs.declared.parts.Mode.{Mode}

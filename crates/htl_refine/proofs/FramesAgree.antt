@@ -1,5 +1,5 @@
 -- Frames of two runs whose modes agree so far.
-use Rattle.std.proofs.Common.{◌≡◌, ◌<◌, ◌≤◌, ◌⊎◌, ℕ, zero, suc, ◌+◌, ◌*◌, Bool, true, false, ◌&&◌, eqb, leb, le-leb, List, [], ◌∷◌, ◌++◌, length, get_or, map, slice_get, take, Option, Some, None, refl, sym, ◌∙◌, ap, ap₂, subst, arith, inl, inr}
+use Rattle.std.proofs.Common.{◌≡◌, ◌<◌, ◌≤◌, ◌⊎◌, ℕ, zero, suc, ◌+◌, ◌*◌, Bool, false, ◌&&◌, eqb, leb, le-leb, List, [], ◌∷◌, ◌++◌, length, get_or, map, slice_get, take, Option, Some, None, refl, sym, ◌∙◌, ap, ap₂, subst, arith, inl, inr}
 use Rattle.std.proofs.lemmas.Bool.{cases_lt, ne_eqb}
 use Rattle.htl_model.specs.declared.event.Event.{Event}
 use Rattle.htl_model.specs.declared.frame.Place.{Place}
@@ -12,15 +12,14 @@ use Rattle.htl_model.specs.Lists.{list_to}
 use Rattle.htl_model.specs.Ranges.{AreInRange}
 use Rattle.htl_model.specs.Tables.{Tables}
 use Rattle.htl_walk.specs.declared.job.Job.{Job}
-use Rattle.htl_walk.specs.declared.schedule.SInstr.{SInstr}
 use Rattle.htl_walk.specs.Jobs.{is_fed_by, mask}
 use Rattle.htl_walk.specs.PathJobs.{job_in, placed, placed_job, placed_jobs, next_of, legs_of}
 use Rattle.htl_walk.specs.Paths.{Leg}
-use Rattle.htl_refine.specs.AgreeingRuns.{AreAlike, begun_by, FramesAgree}
+use Rattle.htl_refine.specs.AgreeingRuns.{FramesAgree}
 use Rattle.htl_refine.specs.ConcreteJobs.{running_invs}
 use Rattle.htl_refine.specs.DerivedPaths.{derived_place}
 use Rattle.htl_refine.specs.FramePlaces.{standing_places}
-use Rattle.htl_refine.specs.FrameRuns.{frame_modes, path_of, running_places, frame_places, frame_jobs, frame_at}
+use Rattle.htl_refine.specs.FrameRuns.{frame_modes, path_of, running_places, frame_places, frame_jobs}
 use Rattle.htl_refine.proofs.AlongPath.{known_append, known_none}
 use Rattle.htl_refine.proofs.NodeRead.{nodes_read, nodes_agree}
 use Rattle.htl_refine.proofs.RecordOrder.{not_some}

@@ -1,5 +1,5 @@
 -- Where all root modules have one period, a frame is a round.
-use Rattle.std.proofs.Common.{◌≡◌, ℕ, zero, suc, ◌+◌, ◌-◌, ◌*◌, ◌/◌, ◌%◌, ◌≤◌, ◌<◌, Bool, true, false, cond, ◌&&◌, eqb, ltb, List, [], ◌∷◌, ◌++◌, length, map, get_or, slice_get, Option, Some, None, refl, sym, ap, ap₂, ◌∙◌, subst, arith, append-nil, inl, inr}
+use Rattle.std.proofs.Common.{◌≡◌, ℕ, zero, suc, ◌+◌, ◌-◌, ◌*◌, ◌/◌, ◌%◌, ◌≤◌, ◌<◌, Bool, true, false, cond, ◌&&◌, eqb, List, [], ◌∷◌, ◌++◌, length, map, get_or, slice_get, Option, Some, None, refl, sym, ap, ap₂, ◌∙◌, arith, append-nil}
 use Rattle.std.specs.List.{flat_map, filter}
 use Rattle.std.proofs.lemmas.Bool.{eqb-true, eqb-false, eq-eqb, ne_eqb, lt-ltb}
 use Rattle.std.proofs.Math.Nat.{div-add-mod, mul-div-le}
@@ -13,8 +13,7 @@ use Rattle.htl_model.specs.Selections.{is_root, root_modules, modes_of, choices_
 use Rattle.htl_model.specs.Tables.{Tables, release, window_end, task_worst}
 use Rattle.htl_walk.specs.declared.job.Job.{Job}
 use Rattle.htl_walk.specs.declared.schedule.SInstr.{SInstr}
-use Rattle.htl_walk.specs.Jobs.{absent_job, is_fed_by, mask, job_of, jobs_of}
-use Rattle.htl_walk.specs.Walk.{Left}
+use Rattle.htl_walk.specs.Jobs.{absent_job, is_fed_by, mask, job_of}
 use Rattle.htl_refine.specs.ConcreteJobs.{running_invs, standing, concrete_jobs}
 use Rattle.htl_refine.specs.Records.{lengths_of, modes_at, rounds_before, round_at, left_at}
 use Rattle.htl_refine.specs.Records as by_rounds

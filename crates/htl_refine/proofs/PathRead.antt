@@ -1,10 +1,9 @@
 -- The modes that run in a frame make one path, whose positions are those of the modes.
-use Rattle.std.proofs.Common.{◌≡◌, ℕ, zero, suc, ◌+◌, ◌*◌, ◌/◌, ◌%◌, ◌≤◌, ◌<◌, Bool, true, false, cond, eqb, List, [], ◌∷◌, ◌++◌, length, get_or, slice_get, Option, Some, None, refl, sym, ap, ap₂, ◌∙◌, subst, arith}
+use Rattle.std.proofs.Common.{◌≡◌, ℕ, suc, ◌+◌, ◌*◌, ◌/◌, ◌%◌, ◌≤◌, ◌<◌, List, [], ◌∷◌, ◌++◌, length, get_or, Option, Some, None, refl, sym, ap, ap₂, ◌∙◌, arith}
 use Rattle.std.proofs.lemmas.Nat.{div-mul-add}
 use Rattle.std.proofs.Math.Nat.{mod-eq_of_lt}
-use Rattle.htl_model.specs.declared.parts.Module.{Module}
-use Rattle.htl_model.specs.Selected.{entry, IsSelection}
-use Rattle.htl_model.specs.Selections.{is_root, root_modules, modes_of, invs_of}
+use Rattle.htl_model.specs.Selected.{IsSelection}
+use Rattle.htl_model.specs.Selections.{modes_of, invs_of}
 use Rattle.htl_model.specs.Tables.{Tables}
 use Rattle.htl_refine.specs.ConcreteJobs.{running_invs}
 use Rattle.htl_refine.specs.Roots.{entry_place}

@@ -1,5 +1,5 @@
 -- Lists that are accepted for all paths serve every frame of every run.
-use Rattle.std.proofs.Common.{◌≡◌, ℕ, suc, ◌+◌, ◌*◌, ◌≤◌, ◌<◌, true, List, [], ◌∷◌, length, get_or, map, slice_get, take, Option, Some, refl, sym, ap, ◌∙◌, subst, arith}
+use Rattle.std.proofs.Common.{◌≡◌, ℕ, ◌+◌, ◌*◌, ◌≤◌, ◌<◌, true, List, [], ◌∷◌, length, get_or, map, slice_get, take, Option, Some, refl, sym, ap, ◌∙◌, subst, arith}
 use Rattle.std.proofs.lemmas.List.{length-map}
 use Rattle.std.proofs.lemmas.Option.{get_or_from_slice_get}
 use Rattle.htl_model.specs.declared.event.Event.{Event}
@@ -21,7 +21,7 @@ use Rattle.htl_walk.proofs.Starts.{legs_follow}
 use Rattle.htl_refine.specs.DerivedPaths.{derived_place, derived_jobs}
 use Rattle.htl_refine.specs.FrameRuns.{frame_modes, path_of, frame_places, Frame, frame_at}
 use Rattle.htl_refine.specs.Records.{inv_worst, took, lengths_of, AreTookWithin}
-use Rattle.htl_refine.specs.ServedFrames.{IsServing, IsFeasibleRun, FramesAreServed, EveryJobInTime}
+use Rattle.htl_refine.specs.ServedFrames.{IsServing, FramesAreServed, EveryJobInTime}
 use Rattle.htl_refine.proofs.Inherit.{mapped, map_at}
 use Rattle.htl_refine.proofs.PathDerived.{placed_present, path_refinement}
 use Rattle.htl_refine.proofs.PathRead.{paths_read}
