@@ -13,6 +13,7 @@ pub mod FramesAgree
 pub mod Fronts
 pub mod Inherit
 pub mod Kept
+pub mod LengthsLater
 pub mod ListCounts
 pub mod ListWalks
 pub mod ListsFollow

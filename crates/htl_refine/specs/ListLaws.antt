@@ -5,8 +5,10 @@ use Rattle.htl_model.specs.Frames.{starts}
 use Rattle.htl_model.specs.Tables.{Tables}
 use Rattle.htl_walk.specs.declared.job.Job.{Job}
 use Rattle.htl_walk.specs.declared.schedule.SInstr.{SInstr}
-use Rattle.htl_walk.specs.Paths.{AreInForm}
-use Rattle.htl_walk.specs.Walk.{last_point, work}
+use Rattle.htl_walk.specs.Laws.{AgreeBefore}
+use Rattle.htl_walk.specs.Paths.{AreInForm, AreChained}
+use Rattle.htl_walk.specs.Refinement.{HaveLengths}
+use Rattle.htl_walk.specs.Walk.{last_point, work, earlier}
 use Rattle.htl_refine.specs.FrameRuns.{Frame, frame_at, walks_of, walk_of}
 use Rattle.htl_refine.specs.ListPlans.{leg_at, list_plan, list_walk, records_before}
 use Rattle.htl_refine.specs.RecordCounts.{count_before, done_by}
@@ -48,3 +50,10 @@ pub record IsFollowed (f : Frame) (j : ℕ) : Type 0 where
 -- so do the lists of each frame of a run
 abbrev pub ListsFollow : Type 0
 ListsFollow = (t : Tables) (lists : List (List SInstr)) (es : List Event) (f j : ℕ) → IsFeasibleRun t lists es → suc j < length (starts t) → IsFollowed (frame_at t lists es f) j
+
+-- other lengths of jobs that are released at t or later change nothing that is left before t of a list that began before it
+abbrev pub LengthsLater : Type 0
+LengthsLater =
+    (f : Frame) (ms : List ℕ) (h t j : ℕ) → AreInForm f.lists f.legs → AreChained 0 h (length f.jobs) f.legs → j < length f.legs → (leg_at f j).from < t
+    → HaveLengths f.jobs f.lengths → HaveLengths f.jobs ms → AgreeBefore t f.jobs f.lengths ms
+    → earlier t (list_walk (list_plan f j)) ≡ earlier t (list_walk (list_plan (record f { lengths = ms }) j))
