@@ -1,22 +1,21 @@
 -- Other lengths of jobs that aren't released yet change nothing of what is left of the lists that have begun.
-use Rattle.std.proofs.Common.{◌≡◌, ◌≢◌, ℕ, zero, suc, ◌+◌, ◌-◌, ◌≤◌, ◌<◌, ◌⊎◌, max, min, true, List, [], ◌∷◌, length, get_or, slice_get, Some, refl, sym, ap, ap₂, ◌∙◌, subst, arith, inl, inr}
+use Rattle.std.proofs.Common.{◌≡◌, ◌≢◌, ℕ, zero, suc, ◌≤◌, ◌<◌, ◌⊎◌, max, true, List, [], ◌∷◌, length, get_or, refl, sym, ap, ap₂, ◌∙◌, arith, inl, inr}
 use Rattle.htl_walk.specs.declared.job.Job.{Job}
 use Rattle.htl_walk.specs.declared.schedule.SInstr.{SInstr}
 use Rattle.htl_walk.specs.declared.schedule.SInstr.TheVariants.{Dispatch, Idle, End}
 use Rattle.htl_walk.specs.Laws.{AgreeBefore}
 use Rattle.htl_walk.specs.Paths.{Leg, begun, AreInForm, AreChained, path_point}
 use Rattle.htl_walk.specs.Refinement.{HaveLengths}
-use Rattle.htl_walk.specs.Walk.{Point, job_at, begins, time_after, work_after, next_point, walk_from, last_point, first_point, work, earlier}
-use Rattle.htl_walk.proofs.Finishes.{some_same}
+use Rattle.htl_walk.specs.Walk.{Point, job_at, time_after, work_after, next_point, last_point, first_point, work, earlier}
 use Rattle.htl_walk.proofs.Joining.{stays}
 use Rattle.htl_walk.proofs.Steps.{left_same, left_other, apart, either, time_rises}
 use Rattle.htl_walk.proofs.Unreleased.{Alike, alike_walks}
 use Rattle.htl_walk.proofs.Work.{job_there, work_present, present_or_idle}
 use Rattle.htl_refine.specs.FrameRuns.{Frame}
 use Rattle.htl_refine.specs.ListLaws.{LengthsLater}
-use Rattle.htl_refine.specs.ListPlans.{no_leg, point_at, list_plan, list_walk}
+use Rattle.htl_refine.specs.ListPlans.{no_leg, point_at}
 use Rattle.htl_refine.proofs.ListCounts.{chain_to}
-use Rattle.htl_refine.proofs.ListWalks.{walk_at, list_walks}
+use Rattle.htl_refine.proofs.ListWalks.{list_is}
 
 -- ---- one dispatch of a job that isn't released
 
@@ -138,9 +137,6 @@ path_alike jobs t (s ∷ ss) (g ∷ gs) a h n (suc j) x y f c l e k =
     let later : g.to ≤ (get_or gs j no_leg).from = chain_to g.to h n j gs c.3 (omega arith) in
     path_alike jobs t ss gs g.to h n j (last_point jobs s v) (last_point jobs s w) f.1 c.3 (omega arith) e
     (list_alike jobs t s v w (begun_alike jobs t g.from x y k) (omega (arith, ends, later, e)))
-
-list_is : (f : Frame) (j : ℕ) → AreInForm f.lists f.legs → j < length f.legs → list_walk (list_plan f j) ≡ walk_from f.jobs (get_or f.lists j []) (point_at f j)
-list_is f j forms l = some_same _ _ (sym (list_walks f j forms l) ∙ walk_at f.jobs f.lists f.legs j (first_point f.jobs f.lengths) forms l)
 
 -- ---- the lengths at first
 

@@ -32,6 +32,7 @@ pub mod PathServing
 pub mod PlaceOrder
 pub mod Positions
 pub mod PrecedenceLaws
+pub mod RecordLists
 pub mod RecordOrder
 pub mod RefiningLaws
 pub mod RootSelection

@@ -48,3 +48,7 @@ walk_is f j forms l = get_of (walks_of f) j (list_walk (list_plan f j)) (list_wa
     get_of [] k y e = absurd (let z : ⊥ = cc in z)
     get_of (x ∷ xs) zero y e = some_same x y e
     get_of (x ∷ xs) (suc k) y e = get_of xs k y e
+
+-- so it is the walk of the frame from the point at which the list begins
+pub list_is : (f : Frame) (j : ℕ) → AreInForm f.lists f.legs → j < length f.legs → list_walk (list_plan f j) ≡ walk_from f.jobs (get_or f.lists j []) (point_at f j)
+list_is f j forms l = some_same _ _ (sym (list_walks f j forms l) ∙ walk_at f.jobs f.lists f.legs j (first_point f.jobs f.lengths) forms l)

@@ -39,7 +39,7 @@ begins_by t (v ∷ us) (suc j) u a e g = right (eqb (a % unit_period t v) 0) (be
 
 -- ---- starts
 
-rises_next : (ps : List ℕ) (h : ℕ) (from : List ℕ) (j : ℕ) → Rises ps h from → suc j < length from → get_or from j 0 < get_or from (suc j) 0
+pub rises_next : (ps : List ℕ) (h : ℕ) (from : List ℕ) (j : ℕ) → Rises ps h from → suc j < length from → get_or from j 0 < get_or from (suc j) 0
 rises_next ps h [] j r l = absurd (omega arith)
 rises_next ps h (a ∷ []) j r l = absurd (omega arith)
 rises_next ps h (a ∷ b ∷ later) zero r l = r.1
@@ -51,7 +51,7 @@ rises_gap ps h (c ∷ []) j x r l a b = absurd (omega arith)
 rises_gap ps h (c ∷ d ∷ later) zero x r l a b = r.2 x a b
 rises_gap ps h (c ∷ d ∷ later) (suc j) x r l a b = rises_gap ps h (d ∷ later) j x r.3 (omega (arith, l)) a b
 
-rises_up : (ps : List ℕ) (h : ℕ) (from : List ℕ) (i j : ℕ) → Rises ps h from → i ≤ j → j < length from → get_or from i 0 ≤ get_or from j 0
+pub rises_up : (ps : List ℕ) (h : ℕ) (from : List ℕ) (i j : ℕ) → Rises ps h from → i ≤ j → j < length from → get_or from i 0 ≤ get_or from j 0
 rises_up ps h from i zero r l m = let is : i ≡ 0 = omega (arith, l) in ap_le from i 0 is
   where
     ap_le : (from : List ℕ) (i j : ℕ) → i ≡ j → get_or from i 0 ≤ get_or from j 0
@@ -70,11 +70,11 @@ rises_up ps h from i (suc j) r l m = by (order i j l) (λ e. rises_up ps h from 
 
 -- ---- legs
 
-legs_many : (h : ℕ) (xs : List Place) (from : List ℕ) → length (legs_of h xs from) ≡ length from
+pub legs_many : (h : ℕ) (xs : List Place) (from : List ℕ) → length (legs_of h xs from) ≡ length from
 legs_many h xs [] = refl
 legs_many h xs (a ∷ later) = ap (λ n. suc n) (legs_many h xs later)
 
-leg_from : (h : ℕ) (xs : List Place) (from : List ℕ) (j : ℕ) → j < length from → (get_or (legs_of h xs from) j no_leg).from ≡ get_or from j 0
+pub leg_from : (h : ℕ) (xs : List Place) (from : List ℕ) (j : ℕ) → j < length from → (get_or (legs_of h xs from) j no_leg).from ≡ get_or from j 0
 leg_from h xs [] j l = absurd (omega arith)
 leg_from h xs (a ∷ later) zero l = refl
 leg_from h xs (a ∷ later) (suc j) l = leg_from h xs later j (omega (arith, l))
