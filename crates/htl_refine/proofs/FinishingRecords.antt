@@ -9,8 +9,9 @@ use Rattle.htl_walk.specs.Walk.{Point, Left, job_at, begins, time_after, work_af
 use Rattle.htl_walk.proofs.Acceptance.{no_finish, left_falls_to}
 use Rattle.htl_walk.proofs.Finishes.{some_same}
 use Rattle.htl_walk.proofs.Steps.{left_falls, left_same}
-use Rattle.htl_refine.specs.RecordCounts.{done_by}
-use Rattle.htl_refine.proofs.RecordOrder.{not_some, Rises, walk_rises, get_in, get_past}
+use Rattle.htl_refine.specs.ListPlans.{no_leg}
+use Rattle.htl_refine.specs.RecordCounts.{Rises, done_by}
+use Rattle.htl_refine.proofs.RecordOrder.{not_some, walk_rises, get_in, get_past}
 use Rattle.htl_refine.proofs.SliceOrder.{slice_from}
 
 -- ---- one record more
@@ -217,10 +218,6 @@ listed (l ∷ ls) p k s e = by (is_position l.position p) l.slice refl k e (λ j
     by true None is k e ih = more (ih k e)
     by true (Some u) is zero e ih = (0, l, refl, is ∙ e)
     by true (Some u) is (suc k) e ih = more (ih k e)
-
--- where there is no leg
-abbrev pub no_leg : Leg
-no_leg = record { from = 0; to = 0; known = 0 }
 
 -- what a finishing record says: the job has work at first and isn't done before it; where only rounds that have begun are known, so is it
 pub record IsFinishing (jobs : List Job) (w : List Left) (gs : List Leg) (x : Point) (k p : ℕ) (l : Left) : Type 0 where

@@ -21,27 +21,10 @@ use Rattle.htl_refine.specs.DerivedPaths.{derived_place}
 use Rattle.htl_refine.specs.FramePlaces.{standing_places}
 use Rattle.htl_refine.specs.FrameRuns.{frame_modes, path_of, running_places, frame_places, frame_jobs}
 use Rattle.htl_refine.proofs.AlongPath.{known_append, known_none}
+use Rattle.htl_refine.proofs.Fronts.{front_there, map_same, take_map}
 use Rattle.htl_refine.proofs.NodeRead.{nodes_read, nodes_agree}
-use Rattle.htl_refine.proofs.RecordOrder.{not_some}
 use Rattle.htl_refine.proofs.RoundOrder.{Sorted, RoundLess, ByStart, sorted_rounds, least_first, run_of, frame_by_start, standing_by_start, begun_known, known_begun, known_same}
 use Rattle.htl_refine.proofs.StateLaws.{states_are_selections}
-
--- ---- fronts of lists
-
-pub front_there : {A : Type 0} (m : ℕ) (xs : List A) (p : ℕ) (x : A) → slice_get (take m xs) p ≡ Some x → (slice_get xs p ≡ Some x) × (p < m)
-front_there zero xs p x e = not_some x e
-front_there (suc m) [] p x e = not_some x e
-front_there (suc m) (y ∷ xs) zero x e = (e, omega arith)
-front_there (suc m) (y ∷ xs) (suc p) x e = let r = front_there m xs p x e in (r.0, omega (arith, r.1))
-
-pub map_same : {A B : Type 0} (f g : A → B) (xs : List A) → ((q : ℕ) (x : A) → slice_get xs q ≡ Some x → f x ≡ g x) → map f xs ≡ map g xs
-map_same f g [] h = refl
-map_same f g (x ∷ xs) h = ap₂ (λ y ys. y ∷ ys) (h 0 x refl) (map_same f g xs (λ q y e. h (suc q) y e))
-
-pub take_map : {A B : Type 0} (f : A → B) (n : ℕ) (xs : List A) → take n (map f xs) ≡ map f (take n xs)
-take_map f zero xs = refl
-take_map f (suc n) [] = refl
-take_map f (suc n) (x ∷ xs) = ap (λ ys. f x ∷ ys) (take_map f n xs)
 
 -- ---- the places so far
 

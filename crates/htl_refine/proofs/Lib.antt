@@ -4,13 +4,19 @@ pub mod BeginningsEnd
 pub mod BegunPlaces
 pub mod BegunTimes
 pub mod Chains
+pub mod DoneRecords
 pub mod Exact
 mod Examples
 pub mod FinishingRecords
 mod FrameExamples
 pub mod FramesAgree
+pub mod Fronts
 pub mod Inherit
 pub mod Kept
+pub mod LengthsLater
+pub mod ListCounts
+pub mod ListWalks
+pub mod ListsFollow
 pub mod Members
 pub mod NodeRead
 pub mod OneFault
@@ -26,6 +32,7 @@ pub mod PathServing
 pub mod PlaceOrder
 pub mod Positions
 pub mod PrecedenceLaws
+pub mod RecordLists
 pub mod RecordOrder
 pub mod RefiningLaws
 pub mod RootSelection
@@ -37,8 +44,10 @@ pub mod SearchLaws
 pub mod SelectedLaws
 pub mod ServedFrames
 pub mod ServedJobs
+pub mod ServedSoFar
 pub mod SliceOrder
 pub mod SliceSums
 pub mod Standing
 pub mod StateLaws
 pub mod WalksAgree
+pub mod WorkDone

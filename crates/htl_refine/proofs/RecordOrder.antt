@@ -8,16 +8,11 @@ use Rattle.htl_walk.specs.Paths.{Leg, begun, walks_from, end_to_end, AreInForm, 
 use Rattle.htl_walk.specs.Walk.{Point, Left, job_at, time_after, next_point, walk_from, last_point, InForm}
 use Rattle.htl_walk.proofs.Finishes.{some_same}
 use Rattle.htl_walk.proofs.Steps.{time_rises}
-use Rattle.htl_refine.specs.RecordCounts.{count_before}
+use Rattle.htl_refine.specs.RecordCounts.{Rises, count_before}
 
 -- nothing is not something
 pub not_some : {A : Type 0} {P : Type 0} (a : A) → ◌≡◌ {A = Option A} None (Some a) → P
 not_some a e = absurd (let z : ⊥ = cc in z)
-
--- records in order of time, from a on
-abbrev pub Rises : ℕ → List Left → Type 0
-Rises a [] = Unit {0}
-Rises a (l ∷ ls) = (a ≤ l.at) × Rises l.at ls
 
 pub walk_rises : (jobs : List Job) (is : List SInstr) (x : Point) → Rises x.time (walk_from jobs is x)
 walk_rises jobs [] x = tt

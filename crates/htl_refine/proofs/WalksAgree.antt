@@ -1,10 +1,7 @@
 -- Where the modes of two runs agree so far, and the jobs take the same, so do the records of their lists.
-use Rattle.std.proofs.Common.{◌≡◌, ◌<◌, ◌≤◌, ℕ, zero, suc, ◌+◌, Bool, true, false, cond, leb, List, [], ◌∷◌, get_or, map, take, refl, sym, ◌∙◌, ap, ap₂, arith}
-use Rattle.std.proofs.lemmas.Bool.{le-leb, leb-true}
+use Rattle.std.proofs.Common.{◌≡◌, ℕ, zero, suc, ◌+◌, List, [], ◌∷◌, get_or, map, take, refl, sym, ◌∙◌, ap, ap₂, arith}
 use Rattle.std.proofs.lemmas.Option.{get_or_from_slice_get}
-use Rattle.htl_model.specs.declared.frame.Place.{Place}
 use Rattle.htl_model.specs.Frames.{frame_of, starts, known_by}
-use Rattle.htl_model.specs.Functions.{of_bool}
 use Rattle.htl_walk.specs.declared.job.Job.{Job}
 use Rattle.htl_walk.specs.declared.schedule.SInstr.{SInstr}
 use Rattle.htl_walk.specs.Paths.{Leg, begun, walks_from, AreInForm}
@@ -14,7 +11,8 @@ use Rattle.htl_refine.specs.AgreeingRuns.{FrontsAlike, WalksAgree}
 use Rattle.htl_refine.specs.FrameRuns.{frame_modes, frame_places, frame_jobs, frame_at}
 use Rattle.htl_refine.specs.Records.{took, lengths_of}
 use Rattle.htl_refine.proofs.AlongPath.{legs_within}
-use Rattle.htl_refine.proofs.FramesAgree.{front_there, map_same, take_map, frames_agree}
+use Rattle.htl_refine.proofs.FramesAgree.{frames_agree}
+use Rattle.htl_refine.proofs.Fronts.{front_there, map_same, take_map, job_front, get_front, take_work, known_grow}
 
 -- ---- the first lists
 
@@ -41,38 +39,6 @@ fronts_alike f g k n jobs point forms within lists legs =
     ∙ take_walks g.jobs k g.lists g.legs y
 
 -- ---- the first positions
-
-pub job_front : (n : ℕ) (js : List Job) (p : ℕ) → p < n → job_at (take n js) p ≡ job_at js p
-job_front zero js p h = absurd (omega arith)
-job_front (suc n) [] p h = refl
-job_front (suc n) (j ∷ js) zero h = refl
-job_front (suc n) (j ∷ js) (suc p) h = job_front n js p (omega arith)
-
-pub get_front : (n : ℕ) (xs : List ℕ) (p : ℕ) → p < n → get_or (take n xs) p 0 ≡ get_or xs p 0
-get_front zero xs p h = absurd (omega arith)
-get_front (suc n) [] p h = refl
-get_front (suc n) (x ∷ xs) zero h = refl
-get_front (suc n) (x ∷ xs) (suc p) h = get_front n xs p (omega arith)
-
-pub take_work : (n : ℕ) (js : List Job) (ns : List ℕ) → work (take n js) (take n ns) ≡ take n (work js ns)
-take_work zero js ns = refl
-take_work (suc n) [] ns = refl
-take_work (suc n) (j ∷ js) [] = ap (λ ws. 0 ∷ ws) (ap (work (take n js)) (none n) ∙ take_work n js [])
-  where
-    none : (n : ℕ) → ◌≡◌ {A = List ℕ} [] (take n [])
-    none zero = refl
-    none (suc n) = refl
-take_work (suc n) (j ∷ js) (m ∷ ns) = ap (λ ws. cond j.present m 0 ∷ ws) (take_work n js ns)
-
-bit_grow : (b c : Bool) (m n : ℕ) → (b ≡ true → c ≡ true) → m ≤ n → of_bool b + m ≤ of_bool c + n
-bit_grow true true m n h l = omega (arith, l)
-bit_grow true false m n h l = absurd (let z : false ≡ true = h refl in cc)
-bit_grow false true m n h l = omega (arith, l)
-bit_grow false false m n h l = omega (arith, l)
-
-pub known_grow : (a b : ℕ) (xs : List Place) → a ≤ b → known_by a xs ≤ known_by b xs
-known_grow a b [] l = omega arith
-known_grow a b (x ∷ xs) l = bit_grow (leb x.at a) (leb x.at b) (known_by a xs) (known_by b xs) (λ e. le-leb x.at b (omega (arith, leb-true x.at a e, l))) (known_grow a b xs l)
 
 pub walks_agree : WalksAgree
 walks_agree t lists es fs f d k range alike form takes =
