@@ -73,6 +73,10 @@ module _ (F S U : Type 0) (first : Ahead) (here : Here) (old new : Pending) (kno
 
 -- ---- more than one call
 
+-- what it gives doesn't matter
+pub taken_on : {T U E F : Type 0} (a b : Ahead) (known rest : Option (List ℕ)) (x : T) (y : U) → LosesPiece {T = T} {E = E} a b known rest (Ok x) → LosesPiece {T = U} {E = F} a b known rest (Ok y)
+taken_on a b known rest x y h = record { front = h.front; lost = h.lost; few = h.few; counted = h.counted }
+
 -- what a call takes behind those before it
 pub taken_more : {T U E F : Type 0} (a b c : Ahead) (known rest left : Option (List ℕ)) (u : U) (r : Result T E) → LosesPiece {T = U} {E = F} a b known rest (Ok u)
     → LosesPiece {T = T} {E = E} b c rest left r → LosesPiece {T = T} {E = E} a c known left r
