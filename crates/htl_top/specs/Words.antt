@@ -104,6 +104,17 @@ object_in words = object_of (command_in words)
 abbrev pub platform_in : List (Bor (List ℕ)) → Option (List ℕ)
 platform_in words = platform_file (command_in words)
 
+-- the commands that run an object
+abbrev pub RunsObject : Option Command → Type 0
+RunsObject (Some (Go name)) = Unit {0}
+RunsObject (Some Compile) = ⊥
+RunsObject (Some (CompileWith platform)) = ⊥
+RunsObject (Some (Run show name)) = Unit {0}
+RunsObject (Some (Check name)) = ⊥
+RunsObject (Some (Plan name)) = ⊥
+RunsObject (Some (Show name)) = ⊥
+RunsObject None = ⊥
+
 -- ---- the input
 
 -- how many bytes of the input a command takes at most: those of the longest source or script, and one piece of 4,096

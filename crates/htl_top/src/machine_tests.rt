@@ -48,11 +48,10 @@ fn is_reading(m: &Machine<'_>, at: Time) -> bool
 }
 
 // Tells a machine one event, behind those told; false where it isn't allowed or the page is full.
-fn tell(m: &mut Machine<'_>, t: &Tables, told: &[Event], event: &Event, page: &mut Page) -> bool
-    ghost es: { List Told }
-    requires follows { Follows m.old es }
+fn tell(m: &mut Machine<'_>, t: &Tables, event: &Event, page: &mut Page) -> bool
+    requires follows { (es : List Told) × Follows m.old es }
     requires tables { m.old.object.tables ≡ t.now }
-    ensures follows { result ≡ true → Follows m.new (es ++ event.now ∷ []) }
+    ensures follows { (es : List Told) → Follows m.old es → result ≡ true → Follows m.new (es ++ event.now ∷ []) }
     ensures tables { m.new.object.tables ≡ t.now }
 {
     match *event {
@@ -81,9 +80,8 @@ fn tell(m: &mut Machine<'_>, t: &Tables, told: &[Event], event: &Event, page: &m
 }
 
 // Ends a run behind the events told and writes its numbers.
-fn end(m: &mut Machine<'_>, told: &[Event], at: Time, page: &mut Page) -> bool
-    ghost es: { List Told }
-    requires { Follows m.old es }
+fn end(m: &mut Machine<'_>, at: Time, page: &mut Page) -> bool
+    requires { (es : List Told) × Follows m.old es }
 {
     if !is_reading(m, at) || m.finish(at, page).is_err() {
         return false;
@@ -98,11 +96,11 @@ fn play(m: &mut Machine<'_>, t: &Tables, events: &[Event], to: Time, page: &mut 
     requires tables { m.old.object.tables ≡ t.now }
 {
     for k in 0..events.len() {
-        if !tell(m, t, &events[..k], &events[k], page) {
+        if !tell(m, t, &events[k], page) {
             return false;
         }
     }
-    end(m, events, to, page)
+    end(m, to, page)
 }
 
 // The page behind a run; None where there is no memory, the object isn't accepted or an event isn't allowed.

@@ -247,9 +247,10 @@ fn failing_streams_are_told_of_runs(rt: HostRuntime) -> Result<(), Fail> {
         assert!(rt; runs(alloc, "run", change, &setting, want)?, "write {k}");
     }
     let mut setting = Setting::of(READINGS);
-    for read in [1, 2, 3, 4, 5, 6, 7] {
+    for (read, count) in [(1, 0), (2, 0), (3, 0), (4, 3), (5, 3), (6, 3), (7, 5)] {
         setting.read = read;
-        let want = (9, b"".as_slice(), "htl: read\n");
+        let written = first_lines(alloc, &LINES, count)?;
+        let want = (9, written.as_slice(), "htl: read\n");
         assert!(rt; runs(alloc, "run", change, &setting, want)?, "read {read}");
     }
     Ok(())

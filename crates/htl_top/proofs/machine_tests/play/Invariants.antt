@@ -7,9 +7,3 @@ invariant-loop-k l = record {
   follows : Follows l.m (take l.k l.events);
   tables : l.m.object.tables ≡ l.t;
 }
-
-abbrev pub ghost-tell : goal.ghost-tell
-ghost-tell a = a.told.now
-
-abbrev pub ghost-end : goal.ghost-end
-ghost-end a = a.told.now
