@@ -81,6 +81,17 @@ run_row() {
 	row "$label" round "$rounds" "$room/object" "$base" "$command" "$room/object"
 }
 
+# Triggers: $1 the label, $2 the modules, $3 the rounds. The modules have no jobs, so in each round each does one block,
+# and sets its next trigger.
+trigger_row() {
+	label=$1 modules=$2 rounds=$3
+	is_chosen "$label" || return 0
+	plant_object plant "modules=$modules" period=1 || return 0
+	input=$room/script
+	printf 'at 0\nend %d\n' "$rounds" >"$input"
+	row "$label" trigger $((modules * rounds)) "$room/object" "$base" run "$room/object"
+}
+
 # An object that no compiler writes: $1 its label, $2 how far its 4,096 jumps land from one another.
 jumps_row() {
 	label=$1

@@ -11,8 +11,8 @@ use Rattle.htl_ecode.specs.Departure.{entered}
 use Rattle.htl_ecode.specs.Paths.{Done}
 use Rattle.htl_emach.specs.declared.trigger.Trigger.{Trigger}
 use Rattle.htl_emach.specs.declared.trigger.Block.{Block}
-use Rattle.htl_emach.specs.Calendars.{Calendar, Standing, list_at}
-use Rattle.htl_emach.specs.Due.{IsDueAt, IsEarliest, IsNext, IsNextOf, LacksModules, earlier, earliest, earliest_of}
+use Rattle.htl_emach.specs.Calendars.{Calendar, Standing, list_at, triggers_of}
+use Rattle.htl_emach.specs.Due.{IsDueAt, IsEarliest, IsNext, IsNextOf, IsUpToNext, LacksModules, NoneBefore, earlier, earliest, earliest_of}
 use Rattle.htl_emach.specs.Pending.{Entry, entry_at, entry_before, entry_after, opening, written, switched, closed, turning, is_called, entering, ending, old_stay, new_stay, Between}
 use Rattle.htl_emach.specs.Following.{Stands}
 use Rattle.htl_emach.proofs.States.{module_at, parent_at}
@@ -131,6 +131,29 @@ earliest_is c = by_result (earliest_of c) refl
 -- where no block runs the earliest trigger is next
 pub next_is : (m : Standing) (o : Option ℕ) → m.running ≡ None → o ≡ earliest_of m.calendar → IsNext m o
 next_is m o none e = subst (λ b. IsNextOf m.calendar b o) (sym none) (subst (IsEarliest m.calendar) (sym e) (earliest_is m.calendar))
+
+-- at an instant that is no later no trigger was due before
+pub none_before : (m : Standing) (phase at : ℕ) → m.running ≡ None → IsUpToNext at m → NoneBefore at (triggers_of phase m.calendar)
+none_before m phase at idle order = by_result (earliest_of m.calendar) refl
+  where
+    by_result : (o : Option ℕ) → o ≡ earliest_of m.calendar → NoneBefore at (triggers_of phase m.calendar)
+    by_result None e = λ k x is. (let none = subst (IsEarliest m.calendar) (sym e) (earliest_is m.calendar) in absurd (none x.at (phase, k, x, is, refl)))
+    by_result (Some n) e =
+        λ k x is.
+        (let first = subst (IsEarliest m.calendar) (sym e) (earliest_is m.calendar) in
+         let low = order n (next_is m (Some n) idle e) in
+         let late = first.1 x.at (phase, k, x, is, refl) in
+         omega (arith, low, late))
+
+-- an instant that is no later than what is next
+pub up_to_next : (m : Standing) (o : Option ℕ) (at : ℕ) → IsNext m o → IfSome o (λ n. at ≤ n) → IsUpToNext at m
+up_to_next m o at is late = by_running m.running o is late
+  where
+    by_running : (b : Option Block) (o : Option ℕ) → IsNextOf m.calendar b o → IfSome o (λ n. at ≤ n) → (next : ℕ) → IsNextOf m.calendar b (Some next) → at ≤ next
+    by_running (Some b) None is late next other = absurd (none_some b.at is)
+    by_running (Some b) (Some n) is late next other = let same : n ≡ b.at = some_same n b.at is in let also : next ≡ b.at = some_same next b.at other in omega (arith, same, also, late)
+    by_running None None is late next other = absurd (is next other.0)
+    by_running None (Some n) is late next other = let less = is.1 next other.0 in omega (arith, less, late)
 
 -- ---- a module has a trigger of the switch phase
 

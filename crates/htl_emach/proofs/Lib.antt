@@ -30,3 +30,4 @@ pub mod Roots
 pub mod FirstDue
 pub mod IndexedPorts
 pub mod PortEntries
+pub mod Overdue

@@ -27,6 +27,14 @@ IsNextOf c None o = IsEarliest c o
 abbrev pub IsNext : Standing → Option ℕ → Type 0
 IsNext m o = IsNextOf m.calendar m.running o
 
+-- an instant is no later than the next of a machine, where it has one
+abbrev pub IsUpToNext : ℕ → Standing → Type 0
+IsUpToNext at m = (next : ℕ) → IsNext m (Some next) → at ≤ next
+
+-- no trigger is due before an instant
+abbrev pub NoneBefore : ℕ → List (Option Trigger) → Type 0
+NoneBefore at xs = (k : ℕ) (x : Trigger) → list_at xs k ≡ Some x → at ≤ x.at
+
 -- wherever this machine stands in a phase of an instant of a run, the tables have no module
 abbrev pub LacksModules : Standing → Type 0
 LacksModules m =

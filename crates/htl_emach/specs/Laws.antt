@@ -8,6 +8,7 @@ use Rattle.htl_ecode.specs.declared.ecode.ECode.{ECode}
 use Rattle.htl_ecode.specs.Paths.{Done, e_path}
 use Rattle.htl_ecode.specs.Spelling.{Spells}
 use Rattle.htl_emach.specs.Calendars.{Standing}
+use Rattle.htl_emach.specs.Due.{IsUpToNext}
 use Rattle.htl_emach.specs.Following.{Midway, Onward, Follows, phase_path}
 
 -- a machine goes from phase to phase of an instant, and to the next instant
@@ -26,3 +27,8 @@ pub record PassesInstant (t : Tables) (code : ECode) (es : List Event) (now : �
 abbrev pub InstantsFollow : Type 0
 InstantsFollow =
     (t : Tables) (code : ECode) (es : List Event) (now : ℕ) → AreInRange t → KeptTo t 12 → Spells t code → PassesInstant t code es now
+
+-- where a machine stands in a phase of an instant of a run, nothing of any phase was to be done before the instant
+abbrev pub NothingOverdue : Type 0
+NothingOverdue =
+    (t : Tables) (code : ECode) (es : List Event) (now phase : ℕ) (m : Standing) (done rest : List Done) → AreInRange t → Midway t code es now phase m done rest → IsUpToNext now m

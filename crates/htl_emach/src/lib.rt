@@ -12,7 +12,6 @@ mod first_world;
 mod index;
 mod jobs;
 pub mod laws;
-mod pending;
 mod tournament;
 mod trigger;
 mod world;

@@ -1,10 +1,11 @@
 // A run of a source with one invocation.
-ghost use Rattle.std.specs.Prelude.{◌≡◌, ◌≤◌, ◌<◌, ◌∷◌, [], length, map, IfSome};
+ghost use Rattle.std.specs.Prelude.{◌≡◌, ◌≤◌, ◌<◌, ◌∷◌, [], length, map, true, IfSome};
 ghost use Rattle.htl_base.specs.declared.limits.TheConstants as limit;
 ghost use Rattle.htl_model.specs.declared.parts.End.TheVariants as ends;
 ghost use Rattle.htl_model.specs.Ranges.{AreInRange};
 ghost use Rattle.htl_model.specs.Tables.{fun_of, Compiled};
 ghost use Rattle.htl_ecode.specs.Spelling.{Spells};
+ghost use Rattle.htl_emach.specs.Due.{IsUpToNext};
 ghost use Rattle.htl_emach.specs.Samples.{
   sample_comm,
   sample_comms,
@@ -167,6 +168,16 @@ fn tables(alloc: Global) -> Option<Tables>
     Some(tables_of(alloc, comms, modes, modules, tasks, invs, functions))
 }
 
+// Whether an instant is no later than the machine's next.
+fn is_up_to_next(m: &EMach, at: Time) -> bool
+    ensures { result ≡ true → IsUpToNext at m.now }
+{
+    match m.next() {
+        Some(next) => at <= next,
+        None => true,
+    }
+}
+
 // All that is due in a phase of an instant; each instruction is told with the instant and its address.
 fn do_phase(
     m: &mut EMach,
@@ -183,6 +194,9 @@ fn do_phase(
     ensures { CanRun t.now code.now m.new world.new }
 {
     for _ in 0..100 {
+        if !is_up_to_next(m, at) {
+            return None;
+        }
         let Some(d) = m.instant(t, code, world, phase, at) else {
             return Some(());
         };

@@ -6,7 +6,6 @@ use Rattle.htl_model.specs.Tables.{Tables}
 use Rattle.htl_walk.specs.declared.job.Job.{Job}
 use Rattle.htl_walk.specs.declared.schedule.SInstr.{SInstr}
 use Rattle.htl_emach.specs.Calendars.{list_at}
-use Rattle.htl_emach.proofs.Instants.{follows_writes}
 use Rattle.htl_emach.specs.Shapes.{HasValues}
 use Rattle.htl_ecode.specs.declared.ecode.ECode.{ECode}
 use Rattle.htl_emach.specs.Contents.{Content}
@@ -63,7 +62,7 @@ to_open m es at jobs steps values u r are noted =
       slots = r.short;
       stands = r.stands;
       told = r.told;
-      starts = follows_writes m.object.tables m.object.ecode es at m.standing u.before.values.triggers;
+      follows = u.before.values.triggers;
       shows_fit = u.kept.fits;
       values_fit = subst (HasValues m.object.tables) (sym noted) u.before.values.shaped.values;
     }
@@ -79,8 +78,11 @@ noted_of m es at t values modes u same noted are =
     (record {
       few = ap length noted ∙ u.before.values.shaped.values.count;
       modules = ap length are ∙ u.before.values.triggers.calendar.sized.modes;
-      values_are = λ some. noted ∙ u.before.values.values.values ∙ values_were m.object.tables es at some;
-      modes_are = λ k less. ap (λ z. list_at z k) are ∙ modes_open m.object.tables m.object.ecode es at m.standing.calendar u.before.values.triggers.calendar k less;
+      noted =
+          record {
+            values_are = λ some. noted ∙ u.before.values.values.values ∙ values_were m.object.tables es at some;
+            modes_are = λ k less. ap (λ z. list_at z k) are ∙ modes_open m.object.tables m.object.ecode es at m.standing.calendar u.before.values.triggers.calendar k less;
+          };
     })
 
 -- what holds of the object's parts holds of parts that are named otherwise

@@ -1,16 +1,11 @@
 -- A phase goes on by one instruction, and ends.
-use Rattle.std.proofs.Common.{◌≡◌, ℕ, suc, ◌+◌, ◌<◌, ◌≤◌, List, [], ◌∷◌, ◌++◌, length, slice_get, Option, Some, None, refl, sym, ap, ◌∙◌, subst, arith, length-append}
+use Rattle.std.proofs.Common.{◌≡◌, ℕ, List, [], ◌∷◌, ◌++◌, slice_get, Option, Some, None, refl, sym, ap, ◌∙◌, subst}
 use Rattle.std.proofs.lemmas.List.{append-nil}
 use Rattle.htl_model.specs.declared.event.Event.{Event}
-use Rattle.htl_model.specs.Ranges.{AreInRange}
-use Rattle.htl_model.specs.Broken.{KeptTo}
-use Rattle.htl_model.specs.Meaning.{state}
 use Rattle.htl_model.specs.Tables.{Tables}
 use Rattle.htl_ecode.specs.declared.ecode.ECode.{ECode}
 use Rattle.htl_ecode.specs.declared.instr.EInstr.{EInstr}
-use Rattle.htl_ecode.specs.Spelling.{Spells}
 use Rattle.htl_ecode.specs.Paths.{Done}
-use Rattle.htl_ecode.proofs.SpellingLaws.{spells_or_departs}
 use Rattle.htl_emach.specs.declared.trigger.EDone.{EDone}
 use Rattle.htl_emach.specs.Contents.{Content}
 use Rattle.htl_emach.specs.Shapes.{IsShaped}
@@ -18,9 +13,7 @@ use Rattle.htl_emach.specs.Calendars.{Standing, content_after}
 use Rattle.htl_emach.specs.Safety.{StandsSafely}
 use Rattle.htl_emach.specs.Following.{Onward, phase_path, done_of}
 use Rattle.htl_emach.specs.Leading.{IsAllowed}
-use Rattle.htl_emach.proofs.Soundness.{sound, phase_is}
 use Rattle.htl_emach.proofs.Keeping.{switch_quiet}
-use Rattle.htl_emach.proofs.Instants.{steps, steps_are}
 use Rattle.htl_machine.specs.Running.{IsRunning, replay}
 use Rattle.htl_machine.specs.Running.{effect_at}
 
@@ -46,21 +39,6 @@ pub running_done : (t : Tables) (code : ECode) (es : List Event) (at phase : ℕ
     (on : Onward t code es at phase next h.done h.rest (Some d)) → (is : after ≡ content_after t w (Some d)) → (running_on t code es at phase m next w after first d h safe shaped on is).done ≡ h.done ++ done_of d ∷ []
 unfolding running_on
 running_done t code es at phase m next w after first d h safe shaped on is = refl
-
--- fewer are left
-pub fewer_left : (t : Tables) (code : ECode) (es : List Event) (at phase : ℕ) (m next : Standing) (w first : Content) (d : EDone) → AreInRange t → KeptTo t 12 → Spells t code → (1 ≤ phase) × (phase ≤ 3) →
-    (h : IsRunning t code es at phase m w first) → Onward t code es at phase next h.done h.rest (Some d) →
-    steps (length (phase_path t code es at phase)) t code (state t es at).values phase at next < steps (length (phase_path t code es at phase)) t code (state t es at).values phase at m
-fewer_left t code es at phase m next w first d r kept spelled p h on =
-    let s = sound t code 12 (omega arith) r kept ((spells_or_departs t code).0 spelled) in
-    let n : ℕ = length (phase_path t code es at phase) in
-    let whole : length (phase_path t code es at phase) ≡ length h.done + length h.rest = ap length h.midway.path ∙ length-append h.done h.rest in
-    let one : length h.rest ≡ suc (length on.0) = ap length on.1 in
-    let a : steps (length (phase_path t code es at phase)) t code (state t es at).values phase at m ≡ length h.rest =
-    steps_are t code es at phase (length (phase_path t code es at phase)) m h.done h.rest s (phase_is phase p) (omega (arith, whole)) h.midway in
-    let b : steps (length (phase_path t code es at phase)) t code (state t es at).values phase at next ≡ length on.0 =
-    steps_are t code es at phase (length (phase_path t code es at phase)) next (h.done ++ done_of d ∷ []) on.0 s (phase_is phase p) (omega (arith, whole, one)) on.4 in
-    omega (arith, a, b, one)
 
 -- nothing is left
 pub phase_replayed : (t : Tables) (code : ECode) (es : List Event) (at phase : ℕ) (m next : Standing) (w after first : Content) → (h : IsRunning t code es at phase m w first) → Onward t code es at phase next h.done h.rest None → after ≡ content_after t w None →

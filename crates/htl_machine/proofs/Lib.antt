@@ -7,6 +7,7 @@ pub mod Moving
 pub mod Outs
 pub mod Casting
 pub mod Going
+pub mod Short
 pub mod Due
 pub mod Periods
 pub mod Valued
@@ -81,3 +82,4 @@ pub mod Ready
 pub mod After
 pub mod Idle
 pub mod Quiet
+pub mod ToClose

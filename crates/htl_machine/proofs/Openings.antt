@@ -9,14 +9,15 @@ use Rattle.htl_walk.specs.declared.schedule.SInstr.{SInstr}
 use Rattle.htl_smach.specs.Rounds.{Round}
 use Rattle.htl_ecode.specs.declared.ecode.ECode.{ECode}
 use Rattle.htl_emach.specs.Contents.{Content}
-use Rattle.htl_emach.specs.Following.{phase_path}
+use Rattle.htl_emach.specs.Calendars.{Standing}
+use Rattle.htl_emach.specs.Following.{Follows, phase_path}
 use Rattle.htl_machine.specs.Running.{replay}
 use Rattle.htl_console.specs.declared.shown.Shown.{Shown}
 use Rattle.htl_machine.specs.Leaving.{due_by}
 use Rattle.htl_machine.specs.Recording.{Records}
 use Rattle.htl_machine.specs.Sensors.{AreShown}
 use Rattle.htl_machine.specs.Printing.{Prints}
-use Rattle.htl_machine.specs.Doing.{path_lines, told_in_phase}
+use Rattle.htl_machine.specs.Doing.{IsStarting, path_lines, told_in_phase}
 use Rattle.htl_machine.specs.Opening.{Opens, IsOpened}
 use Rattle.htl_machine.specs.Texts.{record_text, some_records}
 
@@ -43,3 +44,11 @@ opened t code es at steps shows values r0 r1 n w0 w1 w2 w3 records desk writes s
       writes = writes;
       sensors = sensors;
     }
+
+-- before an instant the writes come next
+pub writes_start : (t : Tables) (code : ECode) (es : List Event) (at : ℕ) (m : Standing) (w : Content) → Follows t code es at m → IsStarting t code es at 1 m w
+writes_start t code es at m w h = record {
+  values = λ two. absurd (omega (arith, two));
+  idle = h.idle;
+  calendar = h.calendar;
+}

@@ -8,8 +8,8 @@ use Rattle.htl_model.specs.declared.event.Event.{Event}
 use Rattle.htl_model.specs.Lists.{up_to}
 use Rattle.htl_object.specs.declared.object.Object.{Object}
 use Rattle.htl_console.specs.declared.shown.Shown.{Shown}
-use Rattle.htl_machine.specs.Calls.{Seen, IsUpTo, IsSameRun, text_between}
-use Rattle.htl_machine.specs.Passing.{IsPassing}
+use Rattle.htl_machine.specs.Calls.{Seen, Follows, IsUpTo, IsSameRun, text_between}
+use Rattle.htl_machine.specs.Passing.{IsPassing, ArePassing}
 use Rattle.htl_machine.specs.Programs.{lines_of}
 
 -- a list that is joined in two parts
@@ -80,4 +80,23 @@ passing_whole m0 m es from at to w0 w f0 f x all p =
       whole = p.text ∙ ap (λ z. append_known w0 (text_between m0.object es m0.show from z)) all;
       part = tt;
       cause = record { later = omega (arith, p.kept); kept = p.kept; refused = tt };
+    }
+
+-- a machine stands before the instant of its reading, however that is named
+pub up_to_reading : (m : Seen) (es : List Event) (n : ℕ) → n ≡ m.held.reading → Follows m es → IsUpTo m es n
+up_to_reading m es n read f = subst (λ k. IsUpTo m es k) (sym read) (record { kept = f.kept; before = f.before })
+
+-- ---- for every list of events that the machine followed at first
+
+pub all_start : (m : Seen) (from : ℕ) (w : Option (List ℕ)) (faults : ℕ) → ArePassing m m from from w w faults faults
+all_start m from w faults = record { passing = λ es b. passing_start m es from w faults b; same = record { object = refl; show = refl }; read = refl }
+
+pub all_on : {T E : Type 0} (m0 m m1 : Seen) (from at : ℕ) (w0 w w1 : Option (List ℕ)) (f0 f f1 : ℕ) (x : T) → from ≤ at → ArePassing m0 m from at w0 w f0 f
+    → ((es : List Event) → IsUpTo m es at → Puts {T = T} {E = E} w w1 f f1 (lines_of m.object es m.show at) (Ok x)) → ((es : List Event) → IsUpTo m es at → IsUpTo m1 es (suc at))
+    → IsSameRun m m1 → m1.held.reading ≡ m.held.reading → ArePassing m0 m1 from (suc at) w0 w1 f0 f1
+all_on {T = T} {E = E} m0 m m1 from at w0 w w1 f0 f f1 x begun p puts next same read =
+    record {
+      passing = λ es b. (let q = p.passing es b in passing_on {T = T} {E = E} m0 m m1 es from at w0 w w1 f0 f f1 x begun q (puts es q.before) (next es q.before) same read);
+      same = record { object = same.object ∙ p.same.object; show = same.show ∙ p.same.show };
+      read = read ∙ p.read;
     }

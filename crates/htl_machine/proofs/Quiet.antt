@@ -47,7 +47,7 @@ use Rattle.htl_machine.specs.Instant.{IsReadyAt}
 use Rattle.htl_machine.specs.Leaving.{due_by}
 use Rattle.htl_machine.specs.Opening.{IsOpened, closing_text}
 use Rattle.htl_machine.specs.Plans.{AreRegular, round_start}
-use Rattle.htl_machine.specs.Passing.{IsPassing}
+use Rattle.htl_machine.specs.Passing.{IsPassing, ArePassing}
 use Rattle.htl_machine.specs.Programs.{lines_of, schedules_of}
 use Rattle.htl_machine.specs.Recording.{Records}
 use Rattle.htl_machine.specs.Running.{replay}
@@ -386,3 +386,8 @@ passing_quiet m0 m es from at to w0 w f0 f accepted read begun order q p =
         ∙ up_to_more (λ n. lines_of m0.object es m0.show (from + n)) (at - from) (to - at)
         ∙ ap (λ (ls : List ℕ). up_to (λ n. lines_of m0.object es m0.show (from + n)) (at - from) ++ ls) (up_to_none (λ k. lines_of m0.object es m0.show (from + (at - from + k))) (to - at) (none over))
         ∙ append-nil (up_to (λ n. lines_of m0.object es m0.show (from + n)) (at - from))
+
+pub all_quiet : (m0 m : Seen) (from at to : ℕ) (w0 w : Option (List ℕ)) (f0 f : ℕ) → IsAccepted m.object → m.held.reading ≤ at → from ≤ at → at ≤ to → AreQuiet m at to
+    → ArePassing m0 m from at w0 w f0 f → ArePassing m0 m from to w0 w f0 f
+all_quiet m0 m from at to w0 w f0 f accepted read begun order q p =
+    record { passing = λ es b. passing_quiet m0 m es from at to w0 w f0 f accepted read begun order q (p.passing es b); same = p.same; read = p.read }

@@ -1,9 +1,9 @@
 -- What the parts of an instant ask for, of a machine that stands before it.
-use Rattle.std.specs.Prelude.{◌≡◌, ◌≤◌, ◌<◌, ℕ, true, List, [], length, ℤ, Option}
+use Rattle.std.specs.Prelude.{◌≡◌, ◌≤◌, ◌<◌, ℕ, true, List, [], length, ℤ, Option, None}
 use Rattle.htl_model.specs.declared.event.Event.{Event}
 use Rattle.htl_model.specs.Broken.{KeptTo, KeepsLimits}
 use Rattle.htl_model.specs.FunctionTypes.{FitPlaces}
-use Rattle.htl_model.specs.Meaning.{before, mode_in}
+use Rattle.htl_model.specs.Meaning.{state, before, mode_in}
 use Rattle.htl_model.specs.Selections.{selection_count}
 use Rattle.htl_walk.specs.declared.job.Job.{Job}
 use Rattle.htl_model.specs.Tables.{Tables}
@@ -12,12 +12,16 @@ use Rattle.htl_walk.specs.declared.schedule.Schedule.{Schedule}
 use Rattle.htl_ecode.specs.declared.ecode.ECode.{ECode}
 use Rattle.htl_smach.specs.Rounds.{Stands, IsInForm, IsTold}
 use Rattle.htl_ecode.specs.Spelling.{Spells}
-use Rattle.htl_emach.specs.Calendars.{list_at}
-use Rattle.htl_emach.specs.Following.{Midway, phase_path}
+use Rattle.htl_emach.specs.Calendars.{Standing, list_at}
+use Rattle.htl_emach.specs.Contents.{Content}
+use Rattle.htl_emach.specs.Following as machines
+use Rattle.htl_emach.specs.Following.{Onward, phase_path}
 use Rattle.htl_emach.specs.Safety.{StandsSafely}
 use Rattle.htl_emach.specs.Shapes.{HasValues, IsShaped}
 use Rattle.htl_machine.specs.Calls.{Seen}
 use Rattle.htl_machine.specs.Recording.{AreOf}
+use Rattle.htl_machine.specs.Running.{replay}
+use Rattle.htl_machine.specs.Starting.{IsToBegin}
 
 -- of the object
 pub record IsSound (t : Tables) (code : ECode) (schedules : List Schedule) : Type 0 where
@@ -39,13 +43,37 @@ pub record IsToOpen (m : Seen) (es : List Event) (at : ℕ) (jobs : List Job) (s
   pub slots : length steps ≤ 4294967295
   pub stands : Stands m.held.desk steps
   pub told : IsTold m.held.desk at
-  pub starts : Midway m.object.tables m.object.ecode es at 1 m.standing [] (phase_path m.object.tables m.object.ecode es at 1)
+  pub follows : machines.Follows m.object.tables m.object.ecode es at m.standing
   pub shows_fit : HasValues m.object.tables shows
   pub values_fit : HasValues m.object.tables values
+
+-- the values and the modes that were noted are those before the instant
+pub record AreBefore (t : Tables) (es : List Event) (at : ℕ) (values : List ℤ) (modes : List (Option ℕ)) : Type 0 where
+  pub values_are : 0 < at → values ≡ (before t es at).values
+  pub modes_are : (k : ℕ) → k < length t.modules → list_at modes k ≡ mode_in (before t es at) k
 
 -- of what was noted before it
 pub record IsNoted (t : Tables) (es : List Event) (at : ℕ) (values : List ℤ) (modes : List (Option ℕ)) : Type 0 where
   pub few : length values ≡ length t.comms
   pub modules : length modes ≡ length t.modules
-  pub values_are : 0 < at → values ≡ (before t es at).values
-  pub modes_are : (k : ℕ) → k < length t.modules → list_at modes k ≡ mode_in (before t es at) k
+  pub noted : AreBefore t es at values modes
+
+-- ---- of the events
+
+-- the reads come next: the switches are done, and once the reads are too the values are those of the instant
+pub record IsToRead (t : Tables) (code : ECode) (es : List Event) (at : ℕ) (m : Standing) (w : Content) (values : List ℤ) (modes : List (Option ℕ)) : Type 0 where
+  pub switches : Onward t code es at 2 m (phase_path t code es at 2) [] None
+  pub noted : AreBefore t es at values modes
+  pub reads : (replay t code (phase_path t code es at 3) w).values ≡ (state t es at).values
+
+-- the switches come next: the writes and the sensors are done, so that the values are those of the instant, and the reads keep them
+pub record IsToClose (t : Tables) (code : ECode) (es : List Event) (at : ℕ) (m : Standing) (w : Content) (values : List ℤ) (modes : List (Option ℕ)) : Type 0 where
+  pub writes : Onward t code es at 1 m (phase_path t code es at 1) [] None
+  pub now : w.values ≡ (state t es at).values
+  pub noted : AreBefore t es at values modes
+  pub reads : (replay t code (phase_path t code es at 3) (replay t code (phase_path t code es at 2) w)).values ≡ (state t es at).values
+
+-- the same, where a round begins
+pub record IsToCloseAndBegin (t : Tables) (code : ECode) (schedules : List (List SInstr)) (es : List Event) (at : ℕ) (takes : List ℕ) (m : Standing) (w : Content) (values : List ℤ) (modes : List (Option ℕ)) : Type 0 where
+  pub closes : IsToClose t code es at m w values modes
+  pub begins : IsToBegin t code schedules es at takes

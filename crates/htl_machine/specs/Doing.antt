@@ -1,5 +1,5 @@
 -- The instructions of a phase while they are done: their lines, their number, and the releases that the S machine is told.
-use Rattle.std.specs.Prelude.{◌≡◌, ℕ, cond, eqb, List, [], length, Option}
+use Rattle.std.specs.Prelude.{◌≡◌, ℕ, cond, eqb, List, [], length, Option, None}
 use Rattle.std.specs.Io.KnownBytes.{append_known}
 use Rattle.htl_model.specs.declared.event.Event.{Event}
 use Rattle.htl_model.specs.Lists.{joined}
@@ -12,6 +12,10 @@ use Rattle.htl_ecode.specs.declared.instr.EInstr.{EInstr}
 use Rattle.htl_ecode.specs.Paths as paths
 use Rattle.htl_emach.specs.Contents.{Content}
 use Rattle.htl_emach.specs.Calendars.{Standing}
+use Rattle.htl_emach.specs.Pending.{Between}
+use Rattle.htl_emach.specs.Safety.{StandsSafely}
+use Rattle.htl_emach.specs.Shapes.{IsShaped}
+use Rattle.htl_model.specs.Meaning.{state}
 use Rattle.htl_machine.specs.Running.{IsRunning}
 use Rattle.htl_console.specs.declared.shown.Shown.{Shown}
 use Rattle.htl_console.specs.Lines.{instr_line}
@@ -40,3 +44,19 @@ pub record IsDoing (t : Tables) (code : ECode) (es : List Event) (at phase : ℕ
   pub count : n ≡ with_instrs (length running.done) n0
   pub desk : r ≡ told_in_phase phase code running.done r0
   pub stands : (s : List SInstr) → rounds.Stands r0 s → rounds.Stands r s
+
+-- a phase begins, by the meaning of these events: no block runs, the calendar is that before its blocks, and in the switch phase the values are
+-- those of the instant
+pub record IsStarting (t : Tables) (code : ECode) (es : List Event) (at phase : ℕ) (m : Standing) (w : Content) : Type 0 where
+  pub values : phase ≡ 2 → w.values ≡ (state t es at).values
+  pub idle : m.running ≡ None
+  pub calendar : Between t code es at phase m.calendar 0
+
+-- the phase is being done, for every list of events by whose meaning it began
+pub record IsDoingAll (t : Tables) (code : ECode) (at phase : ℕ) (show : Shown) (m0 m : Standing) (w first : Content) (r0 r : Round) (w0 w1 : Option (List ℕ)) (f0 f : ℕ) (n0 n : Tally) : Type 0 where
+  pub doing : (es : List Event) → IsStarting t code es at phase m0 first → IsDoing t code es at phase show m w first r0 r w0 w1 f0 f n0 n
+  pub safe : StandsSafely t code m
+  pub shaped : IsShaped t w
+  pub values : phase ≡ 2 → w.values ≡ first.values
+  pub stands : (s : List SInstr) → rounds.Stands r0 s → rounds.Stands r s
+  pub jobs : r.jobs ≡ r0.jobs

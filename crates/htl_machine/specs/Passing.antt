@@ -11,3 +11,9 @@ pub record IsPassing (first now : Seen) (es : List Event) (from at : ℕ) (w0 w 
   pub read : now.held.reading ≡ first.held.reading
   pub text : w ≡ append_known w0 (text_between first.object es first.show from at)
   pub kept : f ≡ f0
+
+-- the same for every list of events that the machine followed at first
+pub record ArePassing (first now : Seen) (from at : ℕ) (w0 w : Option (List ℕ)) (f0 f : ℕ) : Type 0 where
+  pub passing : (es : List Event) → IsUpTo first es from → IsPassing first now es from at w0 w f0 f
+  pub same : IsSameRun first now
+  pub read : now.held.reading ≡ first.held.reading

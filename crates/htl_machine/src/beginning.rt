@@ -1,24 +1,23 @@
 // The last part of an instant at which a round begins.
-ghost use Rattle.std.specs.Prelude.{◌≡◌, ◌≤◌, ◌<◌, ◌++◌, ◌-◌, ℕ, suc, List, [], length, take, false, None, OnOk, IfOk};
+ghost use Rattle.std.specs.Prelude.{◌≡◌, ◌≤◌, ◌<◌, ◌++◌, ◌-◌, suc, List, [], length, take, false, None, OnOk, IfOk};
 ghost use Rattle.htl_edge.specs.Content.{Puts};
 ghost use Rattle.htl_model.specs.declared.event.Event.{Event};
-ghost use Rattle.htl_model.specs.Meaning.{state, before, mode_in};
 ghost use Rattle.htl_model.specs.Broken.{KeptTo, KeepsLimits};
 ghost use Rattle.htl_model.specs.Selections.{selection_count};
 ghost use Rattle.htl_ecode.specs.Spelling.{Spells};
 ghost use Rattle.htl_model.specs.FunctionTypes.{FitPlaces};
 ghost use Rattle.htl_emach.specs.Shapes.{IsShaped};
 ghost use Rattle.htl_emach.specs.Safety.{StandsSafely};
-ghost use Rattle.htl_emach.specs.Calendars.{list_at};
 ghost use Rattle.htl_emach.specs.Following.{Onward, phase_path};
 ghost use Rattle.htl_refine.specs.Records.{modes_at};
 ghost use Rattle.htl_refine.specs.Roots.{selection_of as selection_of_modes};
 ghost use Rattle.htl_machine.specs.Running.{replay};
+ghost use Rattle.htl_machine.specs.Asking.{IsToCloseAndBegin};
 ghost use Rattle.htl_machine.specs.Counts.{with_instrs, with_records};
 ghost use Rattle.htl_machine.specs.Rounds.{plan_of};
 ghost use Rattle.htl_machine.specs.Follows.{DeskAt};
 ghost use Rattle.htl_machine.specs.Leaving.{due_by};
-ghost use Rattle.htl_machine.specs.Starting.{instrs_of, IsToBegin};
+ghost use Rattle.htl_machine.specs.Starting.{instrs_of};
 ghost use Rattle.htl_machine.specs.Opening.{closing_text, first_records, beginning_text};
 
 use crate::close::read_instant;
@@ -57,7 +56,6 @@ pub fn close_and_begin<W: Sink>(
     modes: &[Option<u16>],
     at: Time,
 ) -> Result<Begun, Failed>
-    ghost es: { List Event }
     requires form { KeptTo t.now 16 }
     requires limits { KeepsLimits t.now }
     requires some { 0 < length t.now.modules }
@@ -72,25 +70,20 @@ pub fn close_and_begin<W: Sink>(
     requires over { desk.old.running ≡ false }
     requires room { length kept.old.modes ≡ length t.now.modules }
     requires schedules { length schedules.now ≡ selection_count t.now }
-    requires begins { IsToBegin t.now code.now (instrs_of schedules.now) es at takes.now }
-    requires now { world.old.values ≡ (state t.now es at).values }
-    requires writes { Onward t.now code.now es at 1 m.old (phase_path t.now code.now es at 1) [] None }
     requires few { length values.now ≡ length t.now.comms }
     requires modules { length modes.now ≡ length t.now.modules }
-    requires values { 0 < at → values.now ≡ (before t.now es at).values }
-    requires modes { (k : ℕ) → k < length t.now.modules → list_at modes.now k ≡ mode_in (before t.now es at) k }
-    requires reads { (replay t.now code.now (phase_path t.now code.now es at 3) (replay t.now code.now (phase_path t.now code.now es at 2) world.old)).values ≡ (state t.now es at).values }
-    ensures text { Puts (W.written sink.old) (W.written sink.new) (W.faults sink.old) (W.faults sink.new) (closing_text t.now code.now es show at ++ beginning_text t.now (instrs_of schedules.now) es show at) result }
-    ensures counts { OnOk result (tally.new ≡ with_records (first_records t.now (instrs_of schedules.now) es at) (with_instrs (length (phase_path t.now code.now es at 3)) (with_instrs (length (phase_path t.now code.now es at 2)) tally.old))) }
-    ensures world { OnOk result (world.new ≡ replay t.now code.now (phase_path t.now code.now es at 3) (replay t.now code.now (phase_path t.now code.now es at 2) world.old)) }
+    requires begins { (es : List Event) × IsToCloseAndBegin t.now code.now (instrs_of schedules.now) es at takes.now m.old world.old values.now modes.now }
+    ensures text { (es : List Event) → IsToCloseAndBegin t.now code.now (instrs_of schedules.now) es at takes.now m.old world.old values.now modes.now → Puts (W.written sink.old) (W.written sink.new) (W.faults sink.old) (W.faults sink.new) (closing_text t.now code.now es show at ++ beginning_text t.now (instrs_of schedules.now) es show at) result }
+    ensures counts { (es : List Event) → IsToCloseAndBegin t.now code.now (instrs_of schedules.now) es at takes.now m.old world.old values.now modes.now → OnOk result (tally.new ≡ with_records (first_records t.now (instrs_of schedules.now) es at) (with_instrs (length (phase_path t.now code.now es at 3)) (with_instrs (length (phase_path t.now code.now es at 2)) tally.old))) }
+    ensures world { (es : List Event) → IsToCloseAndBegin t.now code.now (instrs_of schedules.now) es at takes.now m.old world.old values.now modes.now → OnOk result (world.new ≡ replay t.now code.now (phase_path t.now code.now es at 3) (replay t.now code.now (phase_path t.now code.now es at 2) world.old)) }
     ensures safe { OnOk result (StandsSafely t.now code.now m.new) }
     ensures shaped { OnOk result (IsShaped t.now world.new) }
-    ensures desk { OnOk result (DeskAt (plan_of t.now (instrs_of schedules.now) es at) at (due_by (plan_of t.now (instrs_of schedules.now) es at) at at) (suc at - at) desk.new) }
-    ensures jobs { IfOk result (λ b. take b.positions jobs.new ≡ (plan_of t.now (instrs_of schedules.now) es at).jobs) }
+    ensures desk { (es : List Event) → IsToCloseAndBegin t.now code.now (instrs_of schedules.now) es at takes.now m.old world.old values.now modes.now → OnOk result (DeskAt (plan_of t.now (instrs_of schedules.now) es at) at (due_by (plan_of t.now (instrs_of schedules.now) es at) at at) (suc at - at) desk.new) }
+    ensures jobs { (es : List Event) → IsToCloseAndBegin t.now code.now (instrs_of schedules.now) es at takes.now m.old world.old values.now modes.now → IfOk result (λ b. take b.positions jobs.new ≡ (plan_of t.now (instrs_of schedules.now) es at).jobs) }
     ensures few { IfOk result (λ b. b.positions ≤ 128) }
-    ensures selection { IfOk result (λ b. b.selection ≡ selection_of_modes t.now (modes_at t.now es at)) }
+    ensures selection { (es : List Event) → IsToCloseAndBegin t.now code.now (instrs_of schedules.now) es at takes.now m.old world.old values.now modes.now → IfOk result (λ b. b.selection ≡ selection_of_modes t.now (modes_at t.now es at)) }
     ensures room { OnOk result (length kept.new.modes ≡ length t.now.modules) }
-    ensures reads { OnOk result (Onward t.now code.now es at 3 m.new (phase_path t.now code.now es at 3) [] None) }
+    ensures reads { (es : List Event) → IsToCloseAndBegin t.now code.now (instrs_of schedules.now) es at takes.now m.old world.old values.now modes.now → OnOk result (Onward t.now code.now es at 3 m.new (phase_path t.now code.now es at 3) [] None) }
 {
     let _parts = t.parts();
     if let Err(failed) = do_instrs(

@@ -1,30 +1,20 @@
 // The last part of an instant: switches, reads, releases, what changed, and the first records of a round that begins.
-ghost use Rattle.std.specs.Prelude.{◌≡◌, ◌≤◌, ◌<◌, ◌++◌, ◌-◌, ℕ, suc, List, [], length, map, take, false, None, OnOk, IfOk};
+ghost use Rattle.std.specs.Prelude.{◌≡◌, ◌≤◌, List, [], length, None, OnOk};
 ghost use Rattle.htl_edge.specs.Content.{Puts};
 ghost use Rattle.htl_model.specs.declared.event.Event.{Event};
-ghost use Rattle.htl_model.specs.Meaning.{state, before, mode_in};
-ghost use Rattle.htl_model.specs.Broken.{KeptTo, KeepsLimits};
+ghost use Rattle.htl_model.specs.Broken.{KeptTo};
 ghost use Rattle.htl_walk.specs.declared.schedule.SInstr.{SInstr as Instr};
-ghost use Rattle.htl_walk.specs.declared.schedule.Schedule.{Schedule as Timetable};
-ghost use Rattle.htl_walk.specs.Refinement.{HaveLengths, AreWithinWorst};
-ghost use Rattle.htl_smach.specs.Rounds.{Round as Desk, Stands, IsInForm, begun};
+ghost use Rattle.htl_smach.specs.Rounds.{Stands};
 ghost use Rattle.htl_ecode.specs.Spelling.{Spells};
 ghost use Rattle.htl_model.specs.FunctionTypes.{FitPlaces};
-ghost use Rattle.htl_refine.specs.Records.{walk_of};
 ghost use Rattle.htl_emach.specs.Shapes.{IsShaped};
 ghost use Rattle.htl_emach.specs.Safety.{StandsSafely};
-ghost use Rattle.htl_emach.specs.Calendars.{list_at};
 ghost use Rattle.htl_emach.specs.Following.{Onward, phase_path};
 ghost use Rattle.htl_machine.specs.Running.{replay};
 ghost use Rattle.htl_machine.specs.Readiness.{desk_replay};
-ghost use Rattle.htl_machine.specs.Counts.{with_instrs, with_records};
-ghost use Rattle.htl_machine.specs.Plans.{run_records};
-ghost use Rattle.htl_machine.specs.Rounds.{plan_of};
-ghost use Rattle.htl_machine.specs.Follows.{DeskAt};
-ghost use Rattle.htl_machine.specs.Leaving.{due_by};
-ghost use Rattle.htl_machine.specs.Recording.{AreOf};
-ghost use Rattle.htl_machine.specs.Starting.{kept_lengths};
-ghost use Rattle.htl_machine.specs.Opening.{reading_text, closing_text, first_records, beginning_text};
+ghost use Rattle.htl_machine.specs.Asking.{IsToRead, IsToClose};
+ghost use Rattle.htl_machine.specs.Counts.{with_instrs};
+ghost use Rattle.htl_machine.specs.Opening.{reading_text, closing_text};
 
 use crate::changes::put_changes;
 use crate::starting::{Begun, begin_round};
@@ -57,7 +47,6 @@ pub fn read_instant<W: Sink>(
     modes: &[Option<u16>],
     at: Time,
 ) -> Result<(), Failed>
-    ghost es: { List Event }
     requires form { KeptTo t.now 12 }
     requires spells { Spells t.now code.now }
     requires at { at ≤ 1000000000 }
@@ -66,21 +55,18 @@ pub fn read_instant<W: Sink>(
     requires shaped { IsShaped t.now world.old }
     requires safe { StandsSafely t.now code.now m.old }
     requires jobs { desk.old.jobs ≡ jobs.now }
-    requires switches { Onward t.now code.now es at 2 m.old (phase_path t.now code.now es at 2) [] None }
     requires few { length values.now ≡ length t.now.comms }
     requires modules { length modes.now ≡ length t.now.modules }
-    requires values { 0 < at → values.now ≡ (before t.now es at).values }
-    requires modes { (k : ℕ) → k < length t.now.modules → list_at modes.now k ≡ mode_in (before t.now es at) k }
-    requires reads { (replay t.now code.now (phase_path t.now code.now es at 3) world.old).values ≡ (state t.now es at).values }
-    ensures text { Puts (W.written sink.old) (W.written sink.new) (W.faults sink.old) (W.faults sink.new) (reading_text t.now code.now es show at) result }
-    ensures counts { OnOk result (tally.new ≡ with_instrs (length (phase_path t.now code.now es at 3)) tally.old) }
-    ensures world { OnOk result (world.new ≡ replay t.now code.now (phase_path t.now code.now es at 3) world.old) }
+    requires reads { (es : List Event) × IsToRead t.now code.now es at m.old world.old values.now modes.now }
+    ensures text { (es : List Event) → IsToRead t.now code.now es at m.old world.old values.now modes.now → Puts (W.written sink.old) (W.written sink.new) (W.faults sink.old) (W.faults sink.new) (reading_text t.now code.now es show at) result }
+    ensures counts { (es : List Event) → IsToRead t.now code.now es at m.old world.old values.now modes.now → OnOk result (tally.new ≡ with_instrs (length (phase_path t.now code.now es at 3)) tally.old) }
+    ensures world { (es : List Event) → IsToRead t.now code.now es at m.old world.old values.now modes.now → OnOk result (world.new ≡ replay t.now code.now (phase_path t.now code.now es at 3) world.old) }
     ensures safe { OnOk result (StandsSafely t.now code.now m.new) }
     ensures shaped { OnOk result (IsShaped t.now world.new) }
-    ensures desk { OnOk result (desk.new ≡ desk_replay code.now (phase_path t.now code.now es at 3) desk.old) }
+    ensures desk { (es : List Event) → IsToRead t.now code.now es at m.old world.old values.now modes.now → OnOk result (desk.new ≡ desk_replay code.now (phase_path t.now code.now es at 3) desk.old) }
     ensures jobs { OnOk result (desk.new.jobs ≡ desk.old.jobs) }
     ensures stands { OnOk result ((s : List Instr) → Stands desk.old s → Stands desk.new s) }
-    ensures reads { OnOk result (Onward t.now code.now es at 3 m.new (phase_path t.now code.now es at 3) [] None) }
+    ensures reads { (es : List Event) → IsToRead t.now code.now es at m.old world.old values.now modes.now → OnOk result (Onward t.now code.now es at 3 m.new (phase_path t.now code.now es at 3) [] None) }
 {
     let _parts = t.parts();
     if let Err(failed) = do_instrs(sink, m, world, desk, tally, t, code, jobs, show, 3, at) {
@@ -105,7 +91,6 @@ pub fn close_instant<W: Sink>(
     modes: &[Option<u16>],
     at: Time,
 ) -> Result<(), Failed>
-    ghost es: { List Event }
     requires form { KeptTo t.now 12 }
     requires spells { Spells t.now code.now }
     requires at { at ≤ 1000000000 }
@@ -114,21 +99,17 @@ pub fn close_instant<W: Sink>(
     requires shaped { IsShaped t.now world.old }
     requires safe { StandsSafely t.now code.now m.old }
     requires jobs { desk.old.jobs ≡ jobs.now }
-    requires now { world.old.values ≡ (state t.now es at).values }
-    requires writes { Onward t.now code.now es at 1 m.old (phase_path t.now code.now es at 1) [] None }
     requires few { length values.now ≡ length t.now.comms }
     requires modules { length modes.now ≡ length t.now.modules }
-    requires values { 0 < at → values.now ≡ (before t.now es at).values }
-    requires modes { (k : ℕ) → k < length t.now.modules → list_at modes.now k ≡ mode_in (before t.now es at) k }
-    requires reads { (replay t.now code.now (phase_path t.now code.now es at 3) (replay t.now code.now (phase_path t.now code.now es at 2) world.old)).values ≡ (state t.now es at).values }
-    ensures text { Puts (W.written sink.old) (W.written sink.new) (W.faults sink.old) (W.faults sink.new) (closing_text t.now code.now es show at) result }
-    ensures counts { OnOk result (tally.new ≡ with_instrs (length (phase_path t.now code.now es at 3)) (with_instrs (length (phase_path t.now code.now es at 2)) tally.old)) }
-    ensures world { OnOk result (world.new ≡ replay t.now code.now (phase_path t.now code.now es at 3) (replay t.now code.now (phase_path t.now code.now es at 2) world.old)) }
+    requires closes { (es : List Event) × IsToClose t.now code.now es at m.old world.old values.now modes.now }
+    ensures text { (es : List Event) → IsToClose t.now code.now es at m.old world.old values.now modes.now → Puts (W.written sink.old) (W.written sink.new) (W.faults sink.old) (W.faults sink.new) (closing_text t.now code.now es show at) result }
+    ensures counts { (es : List Event) → IsToClose t.now code.now es at m.old world.old values.now modes.now → OnOk result (tally.new ≡ with_instrs (length (phase_path t.now code.now es at 3)) (with_instrs (length (phase_path t.now code.now es at 2)) tally.old)) }
+    ensures world { (es : List Event) → IsToClose t.now code.now es at m.old world.old values.now modes.now → OnOk result (world.new ≡ replay t.now code.now (phase_path t.now code.now es at 3) (replay t.now code.now (phase_path t.now code.now es at 2) world.old)) }
     ensures safe { OnOk result (StandsSafely t.now code.now m.new) }
     ensures shaped { OnOk result (IsShaped t.now world.new) }
-    ensures desk { OnOk result (desk.new ≡ desk_replay code.now (phase_path t.now code.now es at 3) desk.old) }
+    ensures desk { (es : List Event) → IsToClose t.now code.now es at m.old world.old values.now modes.now → OnOk result (desk.new ≡ desk_replay code.now (phase_path t.now code.now es at 3) desk.old) }
     ensures stands { OnOk result ((s : List Instr) → Stands desk.old s → Stands desk.new s) }
-    ensures reads { OnOk result (Onward t.now code.now es at 3 m.new (phase_path t.now code.now es at 3) [] None) }
+    ensures reads { (es : List Event) → IsToClose t.now code.now es at m.old world.old values.now modes.now → OnOk result (Onward t.now code.now es at 3 m.new (phase_path t.now code.now es at 3) [] None) }
 {
     if let Err(failed) = do_instrs(sink, m, world, desk, tally, t, code, jobs, show, 2, at) {
         return Err(failed);

@@ -153,10 +153,9 @@ impl<'a> Machine<'a> {
     /// What a sensor shows from the last reading on: it is taken at the sensor's next instance. The machine isn't spent, the
     /// communicator is a sensor, and the value is of its type.
     pub fn sense(&mut self, comm: u16, x: Value)
-        ghost es: { List Told }
-        requires follows { Follows self.old es }
+        requires follows { (es : List Told) × Follows self.old es }
         requires sensor { IsSensorValue self.old.object.tables comm x }
-        ensures follows { Follows self.new (es ++ event.Sense comm x ∷ []) }
+        ensures follows { (es : List Told) → Follows self.old es → Follows self.new (es ++ event.Sense comm x ∷ []) }
         ensures seen { self.new ≡ record self.old { held = shown_as comm x self.old.held } }
     {
         self.shows.set(comm as usize, x);
@@ -165,10 +164,9 @@ impl<'a> Machine<'a> {
     /// How many ticks jobs of an invocation take that are released at the last reading or later. The machine isn't spent, the
     /// invocation is concrete, and the length is from 1 to its worst case.
     pub fn took(&mut self, inv: u16, length: Time)
-        ghost es: { List Told }
-        requires follows { Follows self.old es }
+        requires follows { (es : List Told) × Follows self.old es }
         requires length { IsLength self.old.object.tables inv length }
-        ensures follows { Follows self.new (es ++ event.Took inv length ∷ []) }
+        ensures follows { (es : List Told) → Follows self.old es → Follows self.new (es ++ event.Took inv length ∷ []) }
         ensures seen { self.new ≡ record self.old { held = taken_as inv length self.old.held } }
     {
         self.takes.set(inv as usize, length);
@@ -179,12 +177,11 @@ impl<'a> Machine<'a> {
     /// from the reading to 1,000,000,000. `Failed` comes only where the sink's count rose: then a prefix of the lines was written,
     /// and the machine is spent.
     pub fn advance<W: Sink>(&mut self, to: Time, sink: &mut W) -> Result<(), Failed>
-        ghost es: { List Told }
-        requires follows { Follows self.old es }
+        requires follows { (es : List Told) × Follows self.old es }
         requires order { self.old.held.reading ≤ to }
         requires at { to ≤ limit.MAX_INSTANT }
-        ensures text { Puts (W.written sink.old) (W.written sink.new) (W.faults sink.old) (W.faults sink.new) (text_between self.old.object es self.old.show self.old.held.reading to) result }
-        ensures follows { OnOk result (Follows self.new (es ++ event.At to ∷ [])) }
+        ensures text { (es : List Told) → Follows self.old es → Puts (W.written sink.old) (W.written sink.new) (W.faults sink.old) (W.faults sink.new) (text_between self.old.object es self.old.show self.old.held.reading to) result }
+        ensures follows { (es : List Told) → Follows self.old es → OnOk result (Follows self.new (es ++ event.At to ∷ [])) }
         ensures spent { OnErr result (self.new.held.spent ≡ true) }
         ensures same { IsSameRun self.old self.new }
     {
@@ -200,12 +197,11 @@ impl<'a> Machine<'a> {
     /// 1,000,000,000. `Failed` comes only where the sink's count rose: then a prefix of the lines was written, and the machine is
     /// spent.
     pub fn finish<W: Sink>(&mut self, to: Time, sink: &mut W) -> Result<(), Failed>
-        ghost es: { List Told }
-        requires follows { Follows self.old es }
+        requires follows { (es : List Told) × Follows self.old es }
         requires order { self.old.held.reading ≤ to }
         requires at { to ≤ limit.MAX_INSTANT }
-        ensures text { Puts (W.written sink.old) (W.written sink.new) (W.faults sink.old) (W.faults sink.new) (text_between self.old.object es self.old.show self.old.held.reading (suc to)) result }
-        ensures finished { OnOk result (IsFinished self.new es to) }
+        ensures text { (es : List Told) → Follows self.old es → Puts (W.written sink.old) (W.written sink.new) (W.faults sink.old) (W.faults sink.new) (text_between self.old.object es self.old.show self.old.held.reading (suc to)) result }
+        ensures finished { (es : List Told) → Follows self.old es → OnOk result (IsFinished self.new es to) }
         ensures spent { OnErr result (self.new.held.spent ≡ true) }
         ensures same { IsSameRun self.old self.new }
     {
@@ -219,13 +215,12 @@ impl<'a> Machine<'a> {
 
     // Does the instants from `from` up to before `to`.
     fn pass<W: Sink>(&mut self, from: Time, to: Time, sink: &mut W) -> Result<(), Failed>
-        ghost es: { List Told }
-        requires before { IsUpTo self.old es from }
+        requires before { (es : List Told) × IsUpTo self.old es from }
         requires read { self.old.held.reading ≤ from }
         requires order { from ≤ to }
         requires at { to ≤ limit.MAX_INSTANT + 1 }
-        ensures text { Puts (W.written sink.old) (W.written sink.new) (W.faults sink.old) (W.faults sink.new) (text_between self.old.object es self.old.show from to) result }
-        ensures before { OnOk result (IsUpTo self.new es to) }
+        ensures text { (es : List Told) → IsUpTo self.old es from → Puts (W.written sink.old) (W.written sink.new) (W.faults sink.old) (W.faults sink.new) (text_between self.old.object es self.old.show from to) result }
+        ensures before { (es : List Told) → IsUpTo self.old es from → OnOk result (IsUpTo self.new es to) }
         ensures spent { OnErr result (self.new.held.spent ≡ true) }
         ensures same { IsSameRun self.old self.new }
         ensures reading { self.new.held.reading ≡ self.old.held.reading }
@@ -246,8 +241,7 @@ impl<'a> Machine<'a> {
     // The first instant, from one on, at which something is due: a trigger, an instruction that is left, or a sensor that is shown
     // another value than it has; `to` where there is none before. At instant 0 something always is.
     fn next_due(&self, from: Time, to: Time) -> Time
-        ghost es: { List Told }
-        requires before { IsUpTo self.now es from }
+        requires before { (es : List Told) × IsUpTo self.now es from }
         requires read { self.now.held.reading ≤ from }
         requires order { from ≤ to }
         requires to { to ≤ limit.MAX_INSTANT + 1 }
@@ -272,12 +266,11 @@ impl<'a> Machine<'a> {
     // Does one instant: the records that are due, the writes and the sensors; then the switches, a round where one begins, the
     // reads with the releases, and what changed.
     fn instant<W: Sink>(&mut self, at: Time, sink: &mut W) -> Result<(), Failed>
-        ghost es: { List Told }
-        requires before { IsUpTo self.old es at }
+        requires before { (es : List Told) × IsUpTo self.old es at }
         requires read { self.old.held.reading ≤ at }
         requires at { at ≤ limit.MAX_INSTANT }
-        ensures text { Puts (W.written sink.old) (W.written sink.new) (W.faults sink.old) (W.faults sink.new) (lines_of self.old.object es self.old.show at) result }
-        ensures before { OnOk result (IsUpTo self.new es (suc at)) }
+        ensures text { (es : List Told) → IsUpTo self.old es at → Puts (W.written sink.old) (W.written sink.new) (W.faults sink.old) (W.faults sink.new) (lines_of self.old.object es self.old.show at) result }
+        ensures before { (es : List Told) → IsUpTo self.old es at → OnOk result (IsUpTo self.new es (suc at)) }
         ensures spent { OnErr result (self.new.held.spent ≡ true) }
         ensures same { IsSameRun self.old self.new }
         ensures reading { self.new.held.reading ≡ self.old.held.reading }

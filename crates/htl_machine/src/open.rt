@@ -6,7 +6,7 @@ ghost use Rattle.htl_ecode.specs.Spelling.{Spells};
 ghost use Rattle.htl_model.specs.FunctionTypes.{FitPlaces};
 ghost use Rattle.htl_emach.specs.Shapes.{HasValues, IsShaped};
 ghost use Rattle.htl_emach.specs.Safety.{StandsSafely};
-ghost use Rattle.htl_emach.specs.Following.{Midway, Onward, phase_path};
+ghost use Rattle.htl_emach.specs.Following.{Follows, Onward, phase_path};
 ghost use Rattle.htl_smach.specs.Rounds.{Stands, IsInForm, IsTold};
 ghost use Rattle.htl_machine.specs.Recording.{AreOf};
 ghost use Rattle.htl_machine.specs.Opening.{Opens, AreCounted, IsOpened, IsOpenedIdle};
@@ -44,7 +44,6 @@ pub fn open_instant<W: Sink>(
     values: &[Value],
     at: Time,
 ) -> Result<(), Failed>
-    ghost es: { List Event }
     requires form { KeptTo t.now 12 }
     requires spells { Spells t.now code.now }
     requires at { at ≤ 1000000000 }
@@ -58,19 +57,19 @@ pub fn open_instant<W: Sink>(
     requires slots { length schedule.now.instrs ≤ 4294967295 }
     requires stands { Stands desk.old schedule.now.instrs }
     requires told { IsTold desk.old at }
-    requires starts { Midway t.now code.now es at 1 m.old [] (phase_path t.now code.now es at 1) }
     requires shows { HasValues t.now shows.now }
     requires values { HasValues t.now values.now }
-    ensures text { Opens t.now code.now es show selection desk.old schedule.now.instrs at (W.written sink.old) (W.written sink.new) (W.faults sink.old) (W.faults sink.new) result }
-    ensures counts { OnOk result (AreCounted t.now code.now es desk.old schedule.now.instrs at tally.old tally.new) }
-    ensures world { OnOk result (IsOpened t.now code.now es at schedule.now.instrs shows.now values.now desk.old world.old desk.new world.new) }
-    ensures idle_text { desk.old.running ≡ false → Puts (W.written sink.old) (W.written sink.new) (W.faults sink.old) (W.faults sink.new) (path_lines t.now code.now show at (phase_path t.now code.now es at 1)) result }
-    ensures idle { OnOk result (desk.old.running ≡ false → IsOpenedIdle t.now code.now es at shows.now values.now desk.old world.old tally.old desk.new world.new tally.new) }
+    requires follows { (es : List Event) × Follows t.now code.now es at m.old }
+    ensures text { (es : List Event) → Follows t.now code.now es at m.old → Opens t.now code.now es show selection desk.old schedule.now.instrs at (W.written sink.old) (W.written sink.new) (W.faults sink.old) (W.faults sink.new) result }
+    ensures counts { (es : List Event) → Follows t.now code.now es at m.old → OnOk result (AreCounted t.now code.now es desk.old schedule.now.instrs at tally.old tally.new) }
+    ensures world { (es : List Event) → Follows t.now code.now es at m.old → OnOk result (IsOpened t.now code.now es at schedule.now.instrs shows.now values.now desk.old world.old desk.new world.new) }
+    ensures idle_text { (es : List Event) → Follows t.now code.now es at m.old → desk.old.running ≡ false → Puts (W.written sink.old) (W.written sink.new) (W.faults sink.old) (W.faults sink.new) (path_lines t.now code.now show at (phase_path t.now code.now es at 1)) result }
+    ensures idle { (es : List Event) → Follows t.now code.now es at m.old → OnOk result (desk.old.running ≡ false → IsOpenedIdle t.now code.now es at shows.now values.now desk.old world.old tally.old desk.new world.new tally.new) }
     ensures safe { OnOk result (StandsSafely t.now code.now m.new) }
     ensures shaped { OnOk result (IsShaped t.now world.new) }
     ensures jobs { OnOk result (desk.new.jobs ≡ desk.old.jobs) }
     ensures stands { OnOk result (Stands desk.new schedule.now.instrs) }
-    ensures writes { OnOk result (Onward t.now code.now es at 1 m.new (phase_path t.now code.now es at 1) [] None) }
+    ensures writes { (es : List Event) → Follows t.now code.now es at m.old → OnOk result (Onward t.now code.now es at 1 m.new (phase_path t.now code.now es at 1) [] None) }
 {
     if let Err(failed) = tell_records(
         sink, world, desk, tally, t, jobs, schedule, selection, show, at,

@@ -2,7 +2,6 @@
 ghost use Rattle.std.specs.Prelude.{◌≡◌, ◌≤◌, cond, eqb, List, [], length, None, OnOk};
 ghost use Rattle.htl_edge.specs.Content.{Puts};
 ghost use Rattle.htl_model.specs.declared.event.Event.{Event};
-ghost use Rattle.htl_model.specs.Meaning.{state};
 ghost use Rattle.htl_model.specs.Broken.{KeptTo};
 ghost use Rattle.htl_walk.specs.declared.schedule.SInstr.{SInstr as Instr};
 ghost use Rattle.htl_smach.specs.Rounds.{Stands};
@@ -10,11 +9,11 @@ ghost use Rattle.htl_ecode.specs.Spelling.{Spells};
 ghost use Rattle.htl_model.specs.FunctionTypes.{FitPlaces};
 ghost use Rattle.htl_emach.specs.Shapes.{IsShaped};
 ghost use Rattle.htl_emach.specs.Safety.{StandsSafely};
-ghost use Rattle.htl_emach.specs.Following.{Midway, Onward, phase_path};
+ghost use Rattle.htl_emach.specs.Following.{Onward, phase_path};
 ghost use Rattle.htl_machine.specs.Running.{replay};
 ghost use Rattle.htl_machine.specs.Counts.{with_instrs};
 ghost use Rattle.htl_machine.specs.Readiness.{desk_does};
-ghost use Rattle.htl_machine.specs.Doing.{instr_lines, path_lines, told_in_phase};
+ghost use Rattle.htl_machine.specs.Doing.{IsStarting, instr_lines, path_lines, told_in_phase};
 
 use crate::lengths::position;
 use crate::tally::Tally;
@@ -74,7 +73,7 @@ fn release_in(desk: &mut SMach, jobs: &[Job], phase: u8, instr: EInstr)
     }
 }
 
-/// Does a whole phase of an instant, for events that the machine follows: writes and counts its instructions, and in the
+/// Does a whole phase of an instant, for every list of events that the machine follows: writes and counts its instructions, and in the
 /// read phase tells the S machine of releases. After `Failed` a prefix of the lines was written.
 pub fn do_instrs<W: Sink>(
     sink: &mut W,
@@ -89,7 +88,6 @@ pub fn do_instrs<W: Sink>(
     phase: u8,
     at: Time,
 ) -> Result<(), Failed>
-    ghost es: { List Event }
     requires form { KeptTo t.now 12 }
     requires spells { Spells t.now code.now }
     requires phase { (1 ≤ phase) × (phase ≤ 3) }
@@ -98,19 +96,18 @@ pub fn do_instrs<W: Sink>(
     requires code { FitPlaces t.now }
     requires shaped { IsShaped t.now world.old }
     requires jobs { desk.old.jobs ≡ jobs.now }
-    requires values { phase ≡ 2 → world.old.values ≡ (state t.now es at).values }
     requires safe { StandsSafely t.now code.now m.old }
-    requires starts { Midway t.now code.now es at phase m.old [] (phase_path t.now code.now es at phase) }
-    ensures text { Puts (W.written sink.old) (W.written sink.new) (W.faults sink.old) (W.faults sink.new) (path_lines t.now code.now show at (phase_path t.now code.now es at phase)) result }
-    ensures counts { OnOk result (tally.new ≡ with_instrs (length (phase_path t.now code.now es at phase)) tally.old) }
-    ensures desk { OnOk result (desk.new ≡ told_in_phase phase code.now (phase_path t.now code.now es at phase) desk.old) }
+    requires starts { (es : List Event) × IsStarting t.now code.now es at phase m.old world.old }
+    ensures text { (es : List Event) → IsStarting t.now code.now es at phase m.old world.old → Puts (W.written sink.old) (W.written sink.new) (W.faults sink.old) (W.faults sink.new) (path_lines t.now code.now show at (phase_path t.now code.now es at phase)) result }
+    ensures counts { (es : List Event) → IsStarting t.now code.now es at phase m.old world.old → OnOk result (tally.new ≡ with_instrs (length (phase_path t.now code.now es at phase)) tally.old) }
+    ensures desk { (es : List Event) → IsStarting t.now code.now es at phase m.old world.old → OnOk result (desk.new ≡ told_in_phase phase code.now (phase_path t.now code.now es at phase) desk.old) }
     ensures jobs { OnOk result (desk.new.jobs ≡ desk.old.jobs) }
     ensures stands { OnOk result ((s : List Instr) → Stands desk.old s → Stands desk.new s) }
     ensures safe { OnOk result (StandsSafely t.now code.now m.new) }
     ensures shaped { OnOk result (IsShaped t.now world.new) }
-    ensures world { OnOk result (world.new ≡ replay t.now code.now (phase_path t.now code.now es at phase) world.old) }
+    ensures world { (es : List Event) → IsStarting t.now code.now es at phase m.old world.old → OnOk result (world.new ≡ replay t.now code.now (phase_path t.now code.now es at phase) world.old) }
     ensures values { OnOk result (phase ≡ 2 → world.new.values ≡ world.old.values) }
-    ensures ends { OnOk result (Onward t.now code.now es at phase m.new (phase_path t.now code.now es at phase) [] None) }
+    ensures ends { (es : List Event) → IsStarting t.now code.now es at phase m.old world.old → OnOk result (Onward t.now code.now es at phase m.new (phase_path t.now code.now es at phase) [] None) }
 {
     let _parts = t.parts();
     loop {

@@ -1,67 +1,53 @@
-use Rattle.std.proofs.Common.{ap, ◌∙◌, arith}
-use Rattle.htl_emach.specs.Contents.{Content}
+use Rattle.std.proofs.Common.{length, ap, ◌∙◌}
+use Rattle.std.proofs.lemmas.Result.{on_ok_weaker}
 use Rattle.htl_emach.specs.Following.{phase_path}
+use Rattle.htl_machine.specs.Counts.{with_instrs}
+use Rattle.htl_machine.specs.Readiness.{desk_replay}
 use Rattle.htl_machine.specs.Running.{replay}
-use Rattle.htl_machine.proofs.Closings.{switches_fail, reads_second, to_switch}
+use Rattle.htl_machine.proofs.Closings.{switches_fail, reads_second, switches_start, closes_reads}
 use Rattle.htl_machine.proofs.close.close_instant.Goals as goal
 
-pub do_instrs-requires : goal.do_instrs-requires
-do_instrs-requires g c =
-    let r = c.requires.1 in
-    let q = r.1.1.1.1.1 in
-    λ κs lives. (lives, (r.0, (r.1.0, ((omega arith, omega arith), (r.1.1.0, (r.1.1.1.0, (r.1.1.1.1.0, (q.0, (q.1.1.0, ((λ two. q.1.1.1.0), (q.1.0, to_switch c.args.t.now c.args.code.now g.es c.args.at c.args.m.now q.1.1.1.1.0)))))))))))
+pub do_instrs-requires-clause-starts : goal.do_instrs-requires-clause-starts
+do_instrs-requires-clause-starts g c =
+    let w = c.requires.closes in
+    (w.0, switches_start c.args.t.now c.args.code.now w.0 c.args.at c.args.m.now c.args.world.now w.1.now w.1.writes)
 
 pub returns-in-Err-clause-text : goal.returns-in-Err-clause-text
-returns-in-Err-clause-text g c = switches_fail c.args.t.now c.args.code.now g.es c.args.show c.args.at _ _ _ _ _ _ c.in-Err.ensures.text
+returns-in-Err-clause-text g c = λ es q.
+    switches_fail c.args.t.now c.args.code.now es c.args.show c.args.at _ _ _ _ _ _ (c.in-Err.ensures.text es (switches_start c.args.t.now c.args.code.now es c.args.at c.args.m.now c.args.world.now q.now q.writes))
 
-pub read_instant-requires : goal.read_instant-requires
-read_instant-requires g c =
-    let r = c.requires.1 in
-    let q = r.1.1.1.1.1 in
-    let p = q.1.1.1.1.1 in
-    λ κs lives. (
-      lives,
-      (
-        r.0,
-        (
-          r.1.0,
-          (
-            r.1.1.0,
-            (
-              r.1.1.1.0,
-              (
-                r.1.1.1.1.0,
-                (
-                  c.in_default.ensures.shaped,
-                  (
-                    c.in_default.ensures.safe,
-                    (
-                      c.in_default.ensures.jobs ∙ q.1.1.0,
-                      (
-                        c.in_default.ensures.ends,
-                        (
-                          p.0,
-                          (
-                            p.1.0,
-                            (
-                              p.1.1.0,
-                              (
-                                p.1.1.1.0,
-                                ap (λ (z : Content). (replay c.args.t.now c.args.code.now (phase_path c.args.t.now c.args.code.now g.es c.args.at 3) z).values) c.in_default.ensures.world ∙ p.1.1.1.1,
-                              ),
-                            ),
-                          ),
-                        ),
-                      ),
-                    ),
-                  ),
-                ),
-              ),
-            ),
-          ),
-        ),
-      ),
-    )
+pub read_instant-requires-clause-reads : goal.read_instant-requires-clause-reads
+read_instant-requires-clause-reads g c =
+    let w = c.requires.closes in
+    let s = switches_start c.args.t.now c.args.code.now w.0 c.args.at c.args.m.now c.args.world.now w.1.now w.1.writes in
+    (w.0, closes_reads c.args.t.now c.args.code.now w.0 c.args.at c.args.m.now c.do_instrs.new.m c.args.world.now c.do_instrs.new.world c.args.values.now c.args.modes.now w.1 (c.in_default.ensures.ends w.0 s) (c.in_default.ensures.world w.0 s))
 
 pub returns-clause-text : goal.returns-clause-text
-returns-clause-text g c = reads_second c.args.t.now c.args.code.now g.es c.args.show c.args.at _ _ _ _ _ _ _ _ c.in_default.ensures.text c.read_instant.ensures.text
+returns-clause-text g c = λ es q.
+    let s = switches_start c.args.t.now c.args.code.now es c.args.at c.args.m.now c.args.world.now q.now q.writes in
+    let r = closes_reads c.args.t.now c.args.code.now es c.args.at c.args.m.now c.do_instrs.new.m c.args.world.now c.do_instrs.new.world c.args.values.now c.args.modes.now q (c.in_default.ensures.ends es s) (c.in_default.ensures.world es s) in
+    reads_second c.args.t.now c.args.code.now es c.args.show c.args.at _ _ _ _ _ _ _ _ (c.in_default.ensures.text es s) (c.read_instant.ensures.text es r)
+
+pub returns-clause-counts : goal.returns-clause-counts
+returns-clause-counts g c = λ es q.
+    let s = switches_start c.args.t.now c.args.code.now es c.args.at c.args.m.now c.args.world.now q.now q.writes in
+    let r = closes_reads c.args.t.now c.args.code.now es c.args.at c.args.m.now c.do_instrs.new.m c.args.world.now c.do_instrs.new.world c.args.values.now c.args.modes.now q (c.in_default.ensures.ends es s) (c.in_default.ensures.world es s) in
+    on_ok_weaker c.read_instant.result (λ z. z ∙ ap (with_instrs (length (phase_path c.args.t.now c.args.code.now es c.args.at 3))) (c.in_default.ensures.counts es s)) (c.read_instant.ensures.counts es r)
+
+pub returns-clause-world : goal.returns-clause-world
+returns-clause-world g c = λ es q.
+    let s = switches_start c.args.t.now c.args.code.now es c.args.at c.args.m.now c.args.world.now q.now q.writes in
+    let r = closes_reads c.args.t.now c.args.code.now es c.args.at c.args.m.now c.do_instrs.new.m c.args.world.now c.do_instrs.new.world c.args.values.now c.args.modes.now q (c.in_default.ensures.ends es s) (c.in_default.ensures.world es s) in
+    on_ok_weaker c.read_instant.result (λ z. z ∙ ap (replay c.args.t.now c.args.code.now (phase_path c.args.t.now c.args.code.now es c.args.at 3)) (c.in_default.ensures.world es s)) (c.read_instant.ensures.world es r)
+
+pub returns-clause-desk : goal.returns-clause-desk
+returns-clause-desk g c = λ es q.
+    let s = switches_start c.args.t.now c.args.code.now es c.args.at c.args.m.now c.args.world.now q.now q.writes in
+    let r = closes_reads c.args.t.now c.args.code.now es c.args.at c.args.m.now c.do_instrs.new.m c.args.world.now c.do_instrs.new.world c.args.values.now c.args.modes.now q (c.in_default.ensures.ends es s) (c.in_default.ensures.world es s) in
+    on_ok_weaker c.read_instant.result (λ z. z ∙ ap (desk_replay c.args.code.now (phase_path c.args.t.now c.args.code.now es c.args.at 3)) (c.in_default.ensures.desk es s)) (c.read_instant.ensures.desk es r)
+
+pub returns-clause-reads : goal.returns-clause-reads
+returns-clause-reads g c = λ es q.
+    let s = switches_start c.args.t.now c.args.code.now es c.args.at c.args.m.now c.args.world.now q.now q.writes in
+    let r = closes_reads c.args.t.now c.args.code.now es c.args.at c.args.m.now c.do_instrs.new.m c.args.world.now c.do_instrs.new.world c.args.values.now c.args.modes.now q (c.in_default.ensures.ends es s) (c.in_default.ensures.world es s) in
+    c.read_instant.ensures.reads es r

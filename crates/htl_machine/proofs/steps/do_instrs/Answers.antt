@@ -1,64 +1,88 @@
 use Rattle.std.proofs.Common.{◌∙◌, refl}
-use Rattle.htl_machine.proofs.Going.{fewer_left, phase_replayed, phase_ends}
+use Rattle.htl_emach.proofs.Overdue.{nothing_overdue}
+use Rattle.htl_machine.proofs.Going.{phase_replayed, phase_ends}
 use Rattle.htl_machine.proofs.Doing.{doing_start, doing_on, doing_cut, doing_end, doing_counted, doing_told}
+use Rattle.htl_machine.proofs.Short.{fewer_then, midway_start}
 use Rattle.htl_machine.proofs.steps.do_instrs.Goals as goal
 
 pub loop-done-init : goal.loop-done-init
 loop-done-init g c = record {
-  doing = doing_start c.args.t.now c.args.code.now g.es c.args.at c.args.phase c.args.show c.args.m.now c.args.world.now c.args.desk.now _ _ _ c.requires.1.1.1.1.1.1.1.1.1.1.1 c.requires.1.1.1.1.1.1.1.1.1.1.0 c.requires.1.1.1.1.1.1.1.0;
+  doing = λ es s. doing_start c.args.t.now c.args.code.now es c.args.at c.args.phase c.args.show c.args.m.now c.args.world.now c.args.desk.now _ _ _ (midway_start c.args.t.now c.args.code.now es c.args.at c.args.phase c.args.m.now s.idle s.calendar) c.requires.safe c.requires.shaped;
+  safe = c.requires.safe;
+  shaped = c.requires.shaped;
+  values = λ two. refl;
+  stands = λ s st. st;
   jobs = refl;
 }
 
+pub instant-requires-clause-order : goal.instant-requires-clause-order
+instant-requires-clause-order g c =
+    let w = c.requires.starts in
+    let here = (c.loop-done.invariant.doing w.0 w.1).running in
+    nothing_overdue c.args.t.now c.args.code.now w.0 c.args.at c.args.phase c.loop-done.m here.done here.rest c.parts-parts.ensures.ranges here.midway
+
 pub returns-in-Err-clause-text : goal.returns-in-Err-clause-text
-returns-in-Err-clause-text g c =
-    let here = c.loop-done.invariant.doing in
-    doing_cut c.args.t.now c.args.code.now g.es c.args.at c.args.phase c.args.show c.loop-done.m c.instant.new.self c.loop-done.world c.args.world.now c.args.desk.now c.loop-done.desk _ _ _ _ _ _ _ _ c.in-Some.done _ _ here
-    (c.in-Some.ensures.onward g.es here.running.done here.running.rest (λ two. here.running.values two ∙ c.requires.1.1.1.1.1.1.1.1.1.0 two) here.running.midway) c.in-Err.ensures
+returns-in-Err-clause-text g c = λ es s.
+    let here = c.loop-done.invariant.doing es s in
+    doing_cut c.args.t.now c.args.code.now es c.args.at c.args.phase c.args.show c.loop-done.m c.instant.new.self c.loop-done.world c.args.world.now c.args.desk.now c.loop-done.desk _ _ _ _ _ _ _ _ c.in-Some.done _ _ here
+    (c.in-Some.ensures.onward es here.running.done here.running.rest (λ two. here.running.values two ∙ s.values two) here.running.midway) c.in-Err.ensures
 
 pub loop-done-smaller : goal.loop-done-smaller
 loop-done-smaller g c =
-    let here = c.loop-done.invariant.doing in
-    fewer_left c.args.t.now c.args.code.now g.es c.args.at c.args.phase c.loop-done.m c.instant.new.self c.loop-done.world c.args.world.now c.in-Some.done c.parts-parts.ensures.ranges c.requires.1.0 c.requires.1.1.0 c.requires.1.1.1.0
-    here.running (c.in-Some.ensures.onward g.es here.running.done here.running.rest (λ two. here.running.values two ∙ c.requires.1.1.1.1.1.1.1.1.1.0 two) here.running.midway)
+    let w = c.requires.starts in
+    let here = c.loop-done.invariant.doing w.0 w.1 in
+    fewer_then c.args.t.now c.args.code.now w.0 c.args.at c.args.phase c.args.world.now.values c.loop-done.m c.instant.new.self c.in-Some.done here.running.done here.running.rest c.args.m.now.calendar c.parts-parts.ensures.ranges
+    c.requires.form c.requires.spells c.requires.phase w.1.values w.1.calendar here.running.midway
+    (c.in-Some.ensures.onward w.0 here.running.done here.running.rest (λ two. here.running.values two ∙ w.1.values two) here.running.midway)
 
 pub loop-done-preserved : goal.loop-done-preserved
 loop-done-preserved g c =
-    let here = c.loop-done.invariant.doing in
+    let w = c.requires.starts in
+    let now = c.loop-done.invariant.doing w.0 w.1 in
+    let one = doing_on c.args.t.now c.args.code.now w.0 c.args.at c.args.phase c.args.show c.loop-done.m c.instant.new.self c.loop-done.world c.instant.new.world c.args.world.now c.args.desk.now c.loop-done.desk c.release_in.new.desk _ _ _ _ _ _ _ _ _
+    c.in-Some.done _ now c.in-Some.ensures.safe c.in-Some.ensures.shaped
+    (c.in-Some.ensures.onward w.0 now.running.done now.running.rest (λ two. now.running.values two ∙ w.1.values two) now.running.midway) c.in-Some.ensures.world
+    c.instr.ensures c.release_in.ensures.desk c.release_in.ensures.stands c.in_default.ensures in
     record {
-      doing =
-          doing_on c.args.t.now c.args.code.now g.es c.args.at c.args.phase c.args.show c.loop-done.m c.instant.new.self c.loop-done.world c.instant.new.world c.args.world.now c.args.desk.now c.loop-done.desk c.release_in.new.desk _ _ _ _ _ _ _ _ _
+      doing = λ es s.
+          let here = c.loop-done.invariant.doing es s in
+          doing_on c.args.t.now c.args.code.now es c.args.at c.args.phase c.args.show c.loop-done.m c.instant.new.self c.loop-done.world c.instant.new.world c.args.world.now c.args.desk.now c.loop-done.desk c.release_in.new.desk _ _ _ _ _ _ _ _ _
           c.in-Some.done _ here c.in-Some.ensures.safe c.in-Some.ensures.shaped
-          (c.in-Some.ensures.onward g.es here.running.done here.running.rest (λ two. here.running.values two ∙ c.requires.1.1.1.1.1.1.1.1.1.0 two) here.running.midway) c.in-Some.ensures.world
+          (c.in-Some.ensures.onward es here.running.done here.running.rest (λ two. here.running.values two ∙ s.values two) here.running.midway) c.in-Some.ensures.world
           c.instr.ensures c.release_in.ensures.desk c.release_in.ensures.stands c.in_default.ensures;
+      safe = c.in-Some.ensures.safe;
+      shaped = c.in-Some.ensures.shaped;
+      values = one.running.values;
+      stands = λ s st. c.release_in.ensures.stands s (c.loop-done.invariant.stands s st);
       jobs = c.release_in.ensures.jobs ∙ c.loop-done.invariant.jobs;
     }
 
 pub returns-in-None-clause-ends : goal.returns-in-None-clause-ends
-returns-in-None-clause-ends g c =
-    let here = c.loop-done.invariant.doing.running in
-    phase_ends c.args.t.now c.args.code.now g.es c.args.at c.args.phase c.loop-done.m c.instant.new.self c.loop-done.world c.args.world.now here
-    (c.in-None.ensures.onward g.es here.done here.rest (λ two. here.values two ∙ c.requires.1.1.1.1.1.1.1.1.1.0 two) here.midway)
+returns-in-None-clause-ends g c = λ es s.
+    let here = (c.loop-done.invariant.doing es s).running in
+    phase_ends c.args.t.now c.args.code.now es c.args.at c.args.phase c.loop-done.m c.instant.new.self c.loop-done.world c.args.world.now here
+    (c.in-None.ensures.onward es here.done here.rest (λ two. here.values two ∙ s.values two) here.midway)
 
 pub returns-in-None-clause-text : goal.returns-in-None-clause-text
-returns-in-None-clause-text g c =
-    let here = c.loop-done.invariant.doing in
-    doing_end c.args.t.now c.args.code.now g.es c.args.at c.args.phase c.args.show c.loop-done.m c.instant.new.self c.loop-done.world c.args.world.now c.args.desk.now c.loop-done.desk _ _ _ _ _ _ _ here
-    (c.in-None.ensures.onward g.es here.running.done here.running.rest (λ two. here.running.values two ∙ c.requires.1.1.1.1.1.1.1.1.1.0 two) here.running.midway)
+returns-in-None-clause-text g c = λ es s.
+    let here = c.loop-done.invariant.doing es s in
+    doing_end c.args.t.now c.args.code.now es c.args.at c.args.phase c.args.show c.loop-done.m c.instant.new.self c.loop-done.world c.args.world.now c.args.desk.now c.loop-done.desk _ _ _ _ _ _ _ here
+    (c.in-None.ensures.onward es here.running.done here.running.rest (λ two. here.running.values two ∙ s.values two) here.running.midway)
 
 pub returns-in-None-clause-counts : goal.returns-in-None-clause-counts
-returns-in-None-clause-counts g c =
-    let here = c.loop-done.invariant.doing in
-    doing_counted c.args.t.now c.args.code.now g.es c.args.at c.args.phase c.args.show c.loop-done.m c.instant.new.self c.loop-done.world c.args.world.now c.args.desk.now c.loop-done.desk _ _ _ _ _ _ here
-    (c.in-None.ensures.onward g.es here.running.done here.running.rest (λ two. here.running.values two ∙ c.requires.1.1.1.1.1.1.1.1.1.0 two) here.running.midway)
+returns-in-None-clause-counts g c = λ es s.
+    let here = c.loop-done.invariant.doing es s in
+    doing_counted c.args.t.now c.args.code.now es c.args.at c.args.phase c.args.show c.loop-done.m c.instant.new.self c.loop-done.world c.args.world.now c.args.desk.now c.loop-done.desk _ _ _ _ _ _ here
+    (c.in-None.ensures.onward es here.running.done here.running.rest (λ two. here.running.values two ∙ s.values two) here.running.midway)
 
 pub returns-in-None-clause-desk : goal.returns-in-None-clause-desk
-returns-in-None-clause-desk g c =
-    let here = c.loop-done.invariant.doing in
-    doing_told c.args.t.now c.args.code.now g.es c.args.at c.args.phase c.args.show c.loop-done.m c.instant.new.self c.loop-done.world c.args.world.now c.args.desk.now c.loop-done.desk _ _ _ _ _ _ here
-    (c.in-None.ensures.onward g.es here.running.done here.running.rest (λ two. here.running.values two ∙ c.requires.1.1.1.1.1.1.1.1.1.0 two) here.running.midway)
+returns-in-None-clause-desk g c = λ es s.
+    let here = c.loop-done.invariant.doing es s in
+    doing_told c.args.t.now c.args.code.now es c.args.at c.args.phase c.args.show c.loop-done.m c.instant.new.self c.loop-done.world c.args.world.now c.args.desk.now c.loop-done.desk _ _ _ _ _ _ here
+    (c.in-None.ensures.onward es here.running.done here.running.rest (λ two. here.running.values two ∙ s.values two) here.running.midway)
 
 pub returns-in-None-clause-world : goal.returns-in-None-clause-world
-returns-in-None-clause-world g c =
-    let here = c.loop-done.invariant.doing.running in
-    phase_replayed c.args.t.now c.args.code.now g.es c.args.at c.args.phase c.loop-done.m c.instant.new.self c.loop-done.world c.instant.new.world c.args.world.now here
-    (c.in-None.ensures.onward g.es here.done here.rest (λ two. here.values two ∙ c.requires.1.1.1.1.1.1.1.1.1.0 two) here.midway) c.in-None.ensures.world
+returns-in-None-clause-world g c = λ es s.
+    let here = (c.loop-done.invariant.doing es s).running in
+    phase_replayed c.args.t.now c.args.code.now es c.args.at c.args.phase c.loop-done.m c.instant.new.self c.loop-done.world c.instant.new.world c.args.world.now here
+    (c.in-None.ensures.onward es here.done here.rest (λ two. here.values two ∙ s.values two) here.midway) c.in-None.ensures.world

@@ -2,112 +2,343 @@ use Rattle.std.proofs.Common.{◌≤◌, ◌<◌, ◌∙◌, [], length, Err, Ok
 use Rattle.htl_edge.specs.Content.{Puts}
 use Rattle.htl_smach.specs.Rounds.{Round}
 use Rattle.htl_emach.specs.Following.{phase_path}
+use Rattle.htl_emach.specs.Shapes.{HasValues}
 use Rattle.htl_refine.specs.Records.{modes_at}
 use Rattle.htl_refine.specs.Roots.{selection_of}
 use Rattle.htl_machine.specs.Calls.{Seen, IsUpTo}
 use Rattle.htl_machine.specs.Counts.{with_instrs, with_records}
 use Rattle.htl_machine.specs.Opening.{first_records}
+use Rattle.htl_machine.specs.Recording.{AreOf}
 use Rattle.htl_machine.specs.Programs.{lines_of, schedules_of}
 use Rattle.htl_machine.specs.declared.tally.Tally.{Tally}
-use Rattle.htl_machine.proofs.After.{opened_values, closed_values, passed_of, next_up_to, desk_goes_on, selection_goes_on, over, begins_some, to_begin, desk_begins_so, selection_begins, records_go_on, records_begin}
-use Rattle.htl_machine.proofs.Asking.{sound_of, to_open, noted_of, values_at, reads_at, begins_at, begun_at, counts_at}
+use Rattle.htl_machine.proofs.After.{passed_of, next_up_to, desk_goes_on, selection_goes_on, over, begins_some, desk_begins_so, selection_begins, records_go_on, records_begin}
+use Rattle.htl_machine.proofs.Asking.{sound_of, noted_of, begun_at, counts_at}
 use Rattle.htl_machine.proofs.Beginnings.{ends_so, fails_so}
 use Rattle.htl_machine.proofs.Ended.{open_failed, going_closed, begun_closed_at}
 use Rattle.htl_machine.proofs.Readying.{replay_only}
 use Rattle.htl_machine.proofs.Ready.{ready, selection_known}
+use Rattle.htl_machine.proofs.ToClose.{follows_at, to_close, to_close_and_begin}
 use Rattle.htl_machine.proofs.Viewing.{seen_in}
 use Rattle.htl_machine.proofs.machine.Machine.instant.Goals as goal
 
 pub schedule_of-requires : goal.schedule_of-requires
 schedule_of-requires g c =
-    selection_known (seen_in c.self.inside) g.es c.args.at c.self.invariant.accepted (subst (λ (z : Seen). IsUpTo z g.es c.args.at) (sym c.self.view_is) c.requires.1.0)
-
-pub open_instant-requires : goal.open_instant-requires
-open_instant-requires g c κs within =
-    let fresh = ap (λ (z : Seen). z.held.spent) c.self.view_is ∙ c.requires.1.0.kept.fresh in
-    let later = subst (λ (z : Seen). z.held.reading ≤ c.args.at) (sym c.self.view_is) c.requires.1.1.0 in
+    let w = c.requires.before in
     let m = seen_in c.self.inside in
     let ok = c.self.invariant.accepted in
-    let u = subst (λ (z : Seen). IsUpTo z g.es c.args.at) (sym c.self.view_is) c.requires.1.0 in
-    let r = ready m g.es c.args.at c.self.inside.idle.instrs ok u later c.self.invariant.empty in
-    let s = sound_of m m.object.tables m.object.ecode m.object.schedules refl refl refl ok in
-    let a = to_open m g.es c.args.at _ _ c.note_values.new.values u r (sym (c.self.invariant.are fresh)) c.note_values.ensures in
-    rw (c.tables-t.ensures.value, c.ecode-code.ensures, c.schedule_of.ensures, c.as_slice.ensures, c.as_slice-2.ensures)
-    (within, (s.form, (s.spells, (c.requires.1.1.1, (s.instrs, (s.places, (a.shaped, (a.safe, (a.jobs_are, (a.of, (a.round, (a.slots, (a.stands, (a.told, (a.starts, (a.shows_fit, a.values_fit))))))))))))))))
+    let u = subst (λ (z : Seen). IsUpTo z w.0 c.args.at) (sym c.self.view_is) w.1 in
+    selection_known m w.0 c.args.at ok u
+
+pub open_instant-requires-clause-form : goal.open_instant-requires-clause-form
+open_instant-requires-clause-form g c =
+    let s = sound_of (seen_in c.self.inside) c.tables-t.result.now c.ecode-code.result.now c.self.inside.loaded.now.schedules c.tables-t.ensures.value c.ecode-code.ensures refl c.self.invariant.accepted in
+    s.form
+
+pub open_instant-requires-clause-spells : goal.open_instant-requires-clause-spells
+open_instant-requires-clause-spells g c =
+    let s = sound_of (seen_in c.self.inside) c.tables-t.result.now c.ecode-code.result.now c.self.inside.loaded.now.schedules c.tables-t.ensures.value c.ecode-code.ensures refl c.self.invariant.accepted in
+    s.spells
+
+pub open_instant-requires-clause-instrs : goal.open_instant-requires-clause-instrs
+open_instant-requires-clause-instrs g c =
+    let s = sound_of (seen_in c.self.inside) c.tables-t.result.now c.ecode-code.result.now c.self.inside.loaded.now.schedules c.tables-t.ensures.value c.ecode-code.ensures refl c.self.invariant.accepted in
+    s.instrs
+
+pub open_instant-requires-clause-code : goal.open_instant-requires-clause-code
+open_instant-requires-clause-code g c =
+    let s = sound_of (seen_in c.self.inside) c.tables-t.result.now c.ecode-code.result.now c.self.inside.loaded.now.schedules c.tables-t.ensures.value c.ecode-code.ensures refl c.self.invariant.accepted in
+    s.places
+
+pub open_instant-requires-clause-shaped : goal.open_instant-requires-clause-shaped
+open_instant-requires-clause-shaped g c =
+    let w = c.requires.before in
+    let m = seen_in c.self.inside in
+    let ok = c.self.invariant.accepted in
+    let u = subst (λ (z : Seen). IsUpTo z w.0 c.args.at) (sym c.self.view_is) w.1 in
+    rw c.tables-t.ensures.value u.before.values.shaped
+
+pub open_instant-requires-clause-safe : goal.open_instant-requires-clause-safe
+open_instant-requires-clause-safe g c =
+    let w = c.requires.before in
+    let m = seen_in c.self.inside in
+    let ok = c.self.invariant.accepted in
+    let u = subst (λ (z : Seen). IsUpTo z w.0 c.args.at) (sym c.self.view_is) w.1 in
+    rw (c.tables-t.ensures.value, c.ecode-code.ensures) u.before.values.safe
+
+pub open_instant-requires-clause-jobs : goal.open_instant-requires-clause-jobs
+open_instant-requires-clause-jobs g c =
+    let w = c.requires.before in
+    let fresh = ap (λ (z : Seen). z.held.spent) c.self.view_is ∙ w.1.kept.fresh in
+    sym (c.self.invariant.are fresh)
+
+pub open_instant-requires-clause-of : goal.open_instant-requires-clause-of
+open_instant-requires-clause-of g c =
+    let w = c.requires.before in
+    let later = subst (λ (z : Seen). z.held.reading ≤ c.args.at) (sym c.self.view_is) c.requires.read in
+    let m = seen_in c.self.inside in
+    let ok = c.self.invariant.accepted in
+    let u = subst (λ (z : Seen). IsUpTo z w.0 c.args.at) (sym c.self.view_is) w.1 in
+    let r = ready m w.0 c.args.at c.self.inside.idle.instrs ok u later c.self.invariant.empty in
+    let fresh = ap (λ (z : Seen). z.held.spent) c.self.view_is ∙ w.1.kept.fresh in
+    rw c.tables-t.ensures.value (subst (AreOf m.object.tables) (sym (c.self.invariant.are fresh)) r.of)
+
+pub open_instant-requires-clause-round : goal.open_instant-requires-clause-round
+open_instant-requires-clause-round g c =
+    let w = c.requires.before in
+    let later = subst (λ (z : Seen). z.held.reading ≤ c.args.at) (sym c.self.view_is) c.requires.read in
+    let m = seen_in c.self.inside in
+    let ok = c.self.invariant.accepted in
+    let u = subst (λ (z : Seen). IsUpTo z w.0 c.args.at) (sym c.self.view_is) w.1 in
+    let r = ready m w.0 c.args.at c.self.inside.idle.instrs ok u later c.self.invariant.empty in
+    rw c.schedule_of.ensures r.form
+
+pub open_instant-requires-clause-slots : goal.open_instant-requires-clause-slots
+open_instant-requires-clause-slots g c =
+    let w = c.requires.before in
+    let later = subst (λ (z : Seen). z.held.reading ≤ c.args.at) (sym c.self.view_is) c.requires.read in
+    let m = seen_in c.self.inside in
+    let ok = c.self.invariant.accepted in
+    let u = subst (λ (z : Seen). IsUpTo z w.0 c.args.at) (sym c.self.view_is) w.1 in
+    let r = ready m w.0 c.args.at c.self.inside.idle.instrs ok u later c.self.invariant.empty in
+    rw c.schedule_of.ensures r.short
+
+pub open_instant-requires-clause-stands : goal.open_instant-requires-clause-stands
+open_instant-requires-clause-stands g c =
+    let w = c.requires.before in
+    let later = subst (λ (z : Seen). z.held.reading ≤ c.args.at) (sym c.self.view_is) c.requires.read in
+    let m = seen_in c.self.inside in
+    let ok = c.self.invariant.accepted in
+    let u = subst (λ (z : Seen). IsUpTo z w.0 c.args.at) (sym c.self.view_is) w.1 in
+    let r = ready m w.0 c.args.at c.self.inside.idle.instrs ok u later c.self.invariant.empty in
+    rw c.schedule_of.ensures r.stands
+
+pub open_instant-requires-clause-told : goal.open_instant-requires-clause-told
+open_instant-requires-clause-told g c =
+    let w = c.requires.before in
+    let later = subst (λ (z : Seen). z.held.reading ≤ c.args.at) (sym c.self.view_is) c.requires.read in
+    let m = seen_in c.self.inside in
+    let ok = c.self.invariant.accepted in
+    let u = subst (λ (z : Seen). IsUpTo z w.0 c.args.at) (sym c.self.view_is) w.1 in
+    let r = ready m w.0 c.args.at c.self.inside.idle.instrs ok u later c.self.invariant.empty in
+    r.told
+
+pub open_instant-requires-clause-shows : goal.open_instant-requires-clause-shows
+open_instant-requires-clause-shows g c =
+    let w = c.requires.before in
+    let m = seen_in c.self.inside in
+    let ok = c.self.invariant.accepted in
+    let u = subst (λ (z : Seen). IsUpTo z w.0 c.args.at) (sym c.self.view_is) w.1 in
+    rw (c.tables-t.ensures.value, c.as_slice.ensures) u.kept.fits
+
+pub open_instant-requires-clause-values : goal.open_instant-requires-clause-values
+open_instant-requires-clause-values g c =
+    let w = c.requires.before in
+    let m = seen_in c.self.inside in
+    let ok = c.self.invariant.accepted in
+    let u = subst (λ (z : Seen). IsUpTo z w.0 c.args.at) (sym c.self.view_is) w.1 in
+    rw (c.tables-t.ensures.value, c.as_slice-2.ensures) (subst (HasValues m.object.tables) (sym c.note_values.ensures) u.before.values.shaped.values)
+
+pub open_instant-requires-clause-follows : goal.open_instant-requires-clause-follows
+open_instant-requires-clause-follows g c =
+    let w = c.requires.before in
+    let m = seen_in c.self.inside in
+    let ok = c.self.invariant.accepted in
+    let u = subst (λ (z : Seen). IsUpTo z w.0 c.args.at) (sym c.self.view_is) w.1 in
+    (w.0, follows_at m.object w.0 c.args.at c.tables-t.result.now c.ecode-code.result.now m.standing c.tables-t.ensures.value c.ecode-code.ensures u.before.values.triggers)
 
 pub returns-in-Err-clause-text : goal.returns-in-Err-clause-text
-returns-in-Err-clause-text g c =
-    let later = subst (λ (z : Seen). z.held.reading ≤ c.args.at) (sym c.self.view_is) c.requires.1.1.0 in
+returns-in-Err-clause-text g c = λ es before.
+    let later = subst (λ (z : Seen). z.held.reading ≤ c.args.at) (sym c.self.view_is) c.requires.read in
     let m = seen_in c.self.inside in
     let ok = c.self.invariant.accepted in
-    let u = subst (λ (z : Seen). IsUpTo z g.es c.args.at) (sym c.self.view_is) c.requires.1.0 in
-    let r = ready m g.es c.args.at c.self.inside.idle.instrs ok u later c.self.invariant.empty in
-    let text = rw (c.tables-t.ensures.value, c.ecode-code.ensures, c.schedule_of.ensures, c.number_of.ensures) at c.in-Err.ensures.text in
-    subst (λ (z : Seen). Puts (g.W.Sink.written c.args.sink.now) (g.W.Sink.written c.open_instant.new.sink) (g.W.Sink.faults c.args.sink.now) (g.W.Sink.faults c.open_instant.new.sink) (lines_of z.object g.es z.show c.args.at) (Err c.in-Err.failed))
-    c.self.view_is (open_failed m g.es c.args.at ok later u _ r _ _ _ _ _ _ text)
+    let u = subst (λ (z : Seen). IsUpTo z es c.args.at) (sym c.self.view_is) before in
+    let r = ready m es c.args.at c.self.inside.idle.instrs ok u later c.self.invariant.empty in
+    let f = follows_at m.object es c.args.at c.tables-t.result.now c.ecode-code.result.now m.standing c.tables-t.ensures.value c.ecode-code.ensures u.before.values.triggers in
+    let text = rw (c.tables-t.ensures.value, c.ecode-code.ensures, c.schedule_of.ensures, c.number_of.ensures) at (c.in-Err.ensures.text es f) in
+    subst (λ (z : Seen). Puts (g.W.Sink.written c.args.sink.now) (g.W.Sink.written c.open_instant.new.sink) (g.W.Sink.faults c.args.sink.now) (g.W.Sink.faults c.open_instant.new.sink) (lines_of z.object es z.show c.args.at) (Err c.in-Err.failed))
+    c.self.view_is (open_failed m es c.args.at ok later u _ r _ _ _ _ _ _ text)
 
-pub close_and_begin-requires : goal.close_and_begin-requires
-close_and_begin-requires g c κs within =
-    let fresh = ap (λ (z : Seen). z.held.spent) c.self.view_is ∙ c.requires.1.0.kept.fresh in
-    let later = subst (λ (z : Seen). z.held.reading ≤ c.args.at) (sym c.self.view_is) c.requires.1.1.0 in
+pub close_and_begin-requires-clause-form : goal.close_and_begin-requires-clause-form
+close_and_begin-requires-clause-form g c =
+    let s = sound_of (seen_in c.self.inside) c.tables-t.result.now c.ecode-code.result.now c.schedules.result.now c.tables-t.ensures.value c.ecode-code.ensures c.schedules.ensures c.self.invariant.accepted in
+    s.kept
+
+pub close_and_begin-requires-clause-limits : goal.close_and_begin-requires-clause-limits
+close_and_begin-requires-clause-limits g c =
+    let s = sound_of (seen_in c.self.inside) c.tables-t.result.now c.ecode-code.result.now c.schedules.result.now c.tables-t.ensures.value c.ecode-code.ensures c.schedules.ensures c.self.invariant.accepted in
+    s.limits
+
+pub close_and_begin-requires-clause-spells : goal.close_and_begin-requires-clause-spells
+close_and_begin-requires-clause-spells g c =
+    let s = sound_of (seen_in c.self.inside) c.tables-t.result.now c.ecode-code.result.now c.schedules.result.now c.tables-t.ensures.value c.ecode-code.ensures c.schedules.ensures c.self.invariant.accepted in
+    s.spells
+
+pub close_and_begin-requires-clause-instrs : goal.close_and_begin-requires-clause-instrs
+close_and_begin-requires-clause-instrs g c =
+    let s = sound_of (seen_in c.self.inside) c.tables-t.result.now c.ecode-code.result.now c.schedules.result.now c.tables-t.ensures.value c.ecode-code.ensures c.schedules.ensures c.self.invariant.accepted in
+    s.instrs
+
+pub close_and_begin-requires-clause-code : goal.close_and_begin-requires-clause-code
+close_and_begin-requires-clause-code g c =
+    let s = sound_of (seen_in c.self.inside) c.tables-t.result.now c.ecode-code.result.now c.schedules.result.now c.tables-t.ensures.value c.ecode-code.ensures c.schedules.ensures c.self.invariant.accepted in
+    s.places
+
+pub close_and_begin-requires-clause-schedules : goal.close_and_begin-requires-clause-schedules
+close_and_begin-requires-clause-schedules g c =
+    let s = sound_of (seen_in c.self.inside) c.tables-t.result.now c.ecode-code.result.now c.schedules.result.now c.tables-t.ensures.value c.ecode-code.ensures c.schedules.ensures c.self.invariant.accepted in
+    s.all
+
+pub close_and_begin-requires-clause-some : goal.close_and_begin-requires-clause-some
+close_and_begin-requires-clause-some g c =
+    let w = c.requires.before in
+    let later = subst (λ (z : Seen). z.held.reading ≤ c.args.at) (sym c.self.view_is) c.requires.read in
     let m = seen_in c.self.inside in
     let ok = c.self.invariant.accepted in
-    let u = subst (λ (z : Seen). IsUpTo z g.es c.args.at) (sym c.self.view_is) c.requires.1.0 in
-    let r = ready m g.es c.args.at c.self.inside.idle.instrs ok u later c.self.invariant.empty in
-    let opened = rw (c.tables-t.ensures.value, c.ecode-code.ensures, c.schedule_of.ensures, c.as_slice.ensures, c.as_slice-2.ensures) at c.in_default.ensures.world in
-    let same = c.note_values.ensures ∙ u.before.values.values.values in
+    let u = subst (λ (z : Seen). IsUpTo z w.0 c.args.at) (sym c.self.view_is) w.1 in
     let b = sym (rw c.tables-t.ensures.value at c.round_begins.ensures) ∙ c.if-round_begins.true in
-    let s = sound_of m c.tables-t.result.now c.ecode-code.result.now c.schedules.result.now c.tables-t.ensures.value c.ecode-code.ensures c.schedules.ensures ok in
-    let noted = noted_of m g.es c.args.at c.tables-t.result.now _ _ u c.tables-t.ensures.value (c.as_slice-then-round_begins-2.ensures ∙ c.note_values.ensures) (c.as_slice-then-round_begins-3.ensures ∙ c.note_modes.ensures) in
-    let fits = c.in_default.ensures in
-    let jobs = fits.jobs ∙ sym (c.self.invariant.are fresh) in
-    let now = values_at m.object g.es c.args.at c.tables-t.result.now c.open_instant.new.world.values c.tables-t.ensures.value (opened_values m g.es c.args.at ok later u _ r c.note_values.new.values same _ _ opened) in
-    let reads = reads_at m.object g.es c.args.at c.tables-t.result.now c.ecode-code.result.now c.open_instant.new.world c.tables-t.ensures.value c.ecode-code.ensures (closed_values m g.es c.args.at ok later u _ r c.note_values.new.values same _ _ opened) in
-    let begins = begins_at m.object g.es c.args.at c.tables-t.result.now c.ecode-code.result.now c.schedules.result.now _ m.held.takes c.tables-t.ensures.value c.ecode-code.ensures c.schedules.ensures c.as_slice-then-round_begins.ensures (to_begin m g.es c.args.at ok later u b) in
-    let some = subst (λ z. 0 < length z.modules) (sym c.tables-t.ensures.value) (begins_some m g.es c.args.at ok later u b) in
-    let room = c.self.invariant.all_selected fresh ∙ ap (λ z. length z.modules) (sym c.tables-t.ensures.value) in
-    (within, (s.kept, (s.limits, (some, (s.spells, (c.requires.1.1.1, (s.instrs, (s.places, (fits.shaped, (fits.safe, (c.self.invariant.few, (jobs, (over m g.es c.args.at ok later u _ c.self.inside.idle.instrs refl c.self.invariant.empty r _ _ b opened.records, (room, (s.all, (begins, (now, (fits.writes, (noted.few, (noted.modules, (noted.values_are, (noted.modes_are, reads))))))))))))))))))))))
+    subst (λ z. 0 < length z.modules) (sym c.tables-t.ensures.value) (begins_some m w.0 c.args.at ok later u b)
 
-pub close_instant-requires : goal.close_instant-requires
-close_instant-requires g c κs within =
-    let fresh = ap (λ (z : Seen). z.held.spent) c.self.view_is ∙ c.requires.1.0.kept.fresh in
-    let later = subst (λ (z : Seen). z.held.reading ≤ c.args.at) (sym c.self.view_is) c.requires.1.1.0 in
+pub close_and_begin-requires-clause-jobs : goal.close_and_begin-requires-clause-jobs
+close_and_begin-requires-clause-jobs g c =
+    let w = c.requires.before in
+    let fresh = ap (λ (z : Seen). z.held.spent) c.self.view_is ∙ w.1.kept.fresh in
+    c.in_default.ensures.jobs ∙ sym (c.self.invariant.are fresh)
+
+pub close_and_begin-requires-clause-over : goal.close_and_begin-requires-clause-over
+close_and_begin-requires-clause-over g c =
+    let w = c.requires.before in
+    let later = subst (λ (z : Seen). z.held.reading ≤ c.args.at) (sym c.self.view_is) c.requires.read in
     let m = seen_in c.self.inside in
     let ok = c.self.invariant.accepted in
-    let u = subst (λ (z : Seen). IsUpTo z g.es c.args.at) (sym c.self.view_is) c.requires.1.0 in
-    let r = ready m g.es c.args.at c.self.inside.idle.instrs ok u later c.self.invariant.empty in
-    let opened = rw (c.tables-t.ensures.value, c.ecode-code.ensures, c.schedule_of.ensures, c.as_slice.ensures, c.as_slice-2.ensures) at c.in_default.ensures.world in
-    let same = c.note_values.ensures ∙ u.before.values.values.values in
-    let s = sound_of m c.tables-t.result.now c.ecode-code.result.now m.object.schedules c.tables-t.ensures.value c.ecode-code.ensures refl ok in
-    let noted = noted_of m g.es c.args.at c.tables-t.result.now _ _ u c.tables-t.ensures.value (c.as_slice-else-round_begins.ensures ∙ c.note_values.ensures) (c.as_slice-else-round_begins-2.ensures ∙ c.note_modes.ensures) in
-    let fits = c.in_default.ensures in
-    let jobs = fits.jobs ∙ sym (c.self.invariant.are fresh) in
-    let now = values_at m.object g.es c.args.at c.tables-t.result.now c.open_instant.new.world.values c.tables-t.ensures.value (opened_values m g.es c.args.at ok later u _ r c.note_values.new.values same _ _ opened) in
-    let reads = reads_at m.object g.es c.args.at c.tables-t.result.now c.ecode-code.result.now c.open_instant.new.world c.tables-t.ensures.value c.ecode-code.ensures (closed_values m g.es c.args.at ok later u _ r c.note_values.new.values same _ _ opened) in
-    (within, (s.form, (s.spells, (c.requires.1.1.1, (s.instrs, (s.places, (fits.shaped, (fits.safe, (jobs, (now, (fits.writes, (noted.few, (noted.modules, (noted.values_are, (noted.modes_are, reads)))))))))))))))
+    let u = subst (λ (z : Seen). IsUpTo z w.0 c.args.at) (sym c.self.view_is) w.1 in
+    let r = ready m w.0 c.args.at c.self.inside.idle.instrs ok u later c.self.invariant.empty in
+    let f = follows_at m.object w.0 c.args.at c.tables-t.result.now c.ecode-code.result.now m.standing c.tables-t.ensures.value c.ecode-code.ensures u.before.values.triggers in
+    let opened = rw (c.tables-t.ensures.value, c.ecode-code.ensures, c.schedule_of.ensures, c.as_slice.ensures, c.as_slice-2.ensures) at (c.in_default.ensures.world w.0 f) in
+    let b = sym (rw c.tables-t.ensures.value at c.round_begins.ensures) ∙ c.if-round_begins.true in
+    over m w.0 c.args.at ok later u _ c.self.inside.idle.instrs refl c.self.invariant.empty r _ _ b opened.records
+
+pub close_and_begin-requires-clause-room : goal.close_and_begin-requires-clause-room
+close_and_begin-requires-clause-room g c =
+    let w = c.requires.before in
+    let fresh = ap (λ (z : Seen). z.held.spent) c.self.view_is ∙ w.1.kept.fresh in
+    c.self.invariant.all_selected fresh ∙ ap (λ z. length z.modules) (sym c.tables-t.ensures.value)
+
+pub close_and_begin-requires-clause-few : goal.close_and_begin-requires-clause-few
+close_and_begin-requires-clause-few g c =
+    let w = c.requires.before in
+    let m = seen_in c.self.inside in
+    let ok = c.self.invariant.accepted in
+    let u = subst (λ (z : Seen). IsUpTo z w.0 c.args.at) (sym c.self.view_is) w.1 in
+    (noted_of m w.0 c.args.at c.tables-t.result.now _ _ u c.tables-t.ensures.value (c.as_slice-then-round_begins-2.ensures ∙ c.note_values.ensures) (c.as_slice-then-round_begins-3.ensures ∙ c.note_modes.ensures)).few
+
+pub close_and_begin-requires-clause-modules : goal.close_and_begin-requires-clause-modules
+close_and_begin-requires-clause-modules g c =
+    let w = c.requires.before in
+    let m = seen_in c.self.inside in
+    let ok = c.self.invariant.accepted in
+    let u = subst (λ (z : Seen). IsUpTo z w.0 c.args.at) (sym c.self.view_is) w.1 in
+    (noted_of m w.0 c.args.at c.tables-t.result.now _ _ u c.tables-t.ensures.value (c.as_slice-then-round_begins-2.ensures ∙ c.note_values.ensures) (c.as_slice-then-round_begins-3.ensures ∙ c.note_modes.ensures)).modules
+
+pub close_and_begin-requires-clause-begins : goal.close_and_begin-requires-clause-begins
+close_and_begin-requires-clause-begins g c =
+    let w = c.requires.before in
+    let later = subst (λ (z : Seen). z.held.reading ≤ c.args.at) (sym c.self.view_is) c.requires.read in
+    let m = seen_in c.self.inside in
+    let ok = c.self.invariant.accepted in
+    let u = subst (λ (z : Seen). IsUpTo z w.0 c.args.at) (sym c.self.view_is) w.1 in
+    let r = ready m w.0 c.args.at c.self.inside.idle.instrs ok u later c.self.invariant.empty in
+    let f = follows_at m.object w.0 c.args.at c.tables-t.result.now c.ecode-code.result.now m.standing c.tables-t.ensures.value c.ecode-code.ensures u.before.values.triggers in
+    let opened = rw (c.tables-t.ensures.value, c.ecode-code.ensures, c.schedule_of.ensures, c.as_slice.ensures, c.as_slice-2.ensures) at (c.in_default.ensures.world w.0 f) in
+    let b = sym (rw c.tables-t.ensures.value at c.round_begins.ensures) ∙ c.if-round_begins.true in
+    let z = to_close m w.0 c.args.at c.tables-t.result.now c.ecode-code.result.now c.tables-t.ensures.value c.ecode-code.ensures ok later u _ r c.note_values.new.values c.note_values.ensures _ _ opened _ (c.as_slice-then-round_begins-2.ensures ∙ c.note_values.ensures) _ (c.as_slice-then-round_begins-3.ensures ∙ c.note_modes.ensures) _ (c.in_default.ensures.writes w.0 f) in
+    let q = to_close_and_begin m w.0 c.args.at c.tables-t.result.now c.ecode-code.result.now c.schedules.result.now _ c.tables-t.ensures.value c.ecode-code.ensures c.schedules.ensures c.as_slice-then-round_begins.ensures ok later u b _ _ _ _ z in
+    (w.0, q)
+
+pub close_instant-requires-clause-form : goal.close_instant-requires-clause-form
+close_instant-requires-clause-form g c =
+    let s = sound_of (seen_in c.self.inside) c.tables-t.result.now c.ecode-code.result.now c.self.inside.loaded.now.schedules c.tables-t.ensures.value c.ecode-code.ensures refl c.self.invariant.accepted in
+    s.form
+
+pub close_instant-requires-clause-spells : goal.close_instant-requires-clause-spells
+close_instant-requires-clause-spells g c =
+    let s = sound_of (seen_in c.self.inside) c.tables-t.result.now c.ecode-code.result.now c.self.inside.loaded.now.schedules c.tables-t.ensures.value c.ecode-code.ensures refl c.self.invariant.accepted in
+    s.spells
+
+pub close_instant-requires-clause-instrs : goal.close_instant-requires-clause-instrs
+close_instant-requires-clause-instrs g c =
+    let s = sound_of (seen_in c.self.inside) c.tables-t.result.now c.ecode-code.result.now c.self.inside.loaded.now.schedules c.tables-t.ensures.value c.ecode-code.ensures refl c.self.invariant.accepted in
+    s.instrs
+
+pub close_instant-requires-clause-code : goal.close_instant-requires-clause-code
+close_instant-requires-clause-code g c =
+    let s = sound_of (seen_in c.self.inside) c.tables-t.result.now c.ecode-code.result.now c.self.inside.loaded.now.schedules c.tables-t.ensures.value c.ecode-code.ensures refl c.self.invariant.accepted in
+    s.places
+
+pub close_instant-requires-clause-jobs : goal.close_instant-requires-clause-jobs
+close_instant-requires-clause-jobs g c =
+    let w = c.requires.before in
+    let fresh = ap (λ (z : Seen). z.held.spent) c.self.view_is ∙ w.1.kept.fresh in
+    c.in_default.ensures.jobs ∙ sym (c.self.invariant.are fresh)
+
+pub close_instant-requires-clause-few : goal.close_instant-requires-clause-few
+close_instant-requires-clause-few g c =
+    let w = c.requires.before in
+    let m = seen_in c.self.inside in
+    let ok = c.self.invariant.accepted in
+    let u = subst (λ (z : Seen). IsUpTo z w.0 c.args.at) (sym c.self.view_is) w.1 in
+    (noted_of m w.0 c.args.at c.tables-t.result.now _ _ u c.tables-t.ensures.value (c.as_slice-else-round_begins.ensures ∙ c.note_values.ensures) (c.as_slice-else-round_begins-2.ensures ∙ c.note_modes.ensures)).few
+
+pub close_instant-requires-clause-modules : goal.close_instant-requires-clause-modules
+close_instant-requires-clause-modules g c =
+    let w = c.requires.before in
+    let m = seen_in c.self.inside in
+    let ok = c.self.invariant.accepted in
+    let u = subst (λ (z : Seen). IsUpTo z w.0 c.args.at) (sym c.self.view_is) w.1 in
+    (noted_of m w.0 c.args.at c.tables-t.result.now _ _ u c.tables-t.ensures.value (c.as_slice-else-round_begins.ensures ∙ c.note_values.ensures) (c.as_slice-else-round_begins-2.ensures ∙ c.note_modes.ensures)).modules
+
+pub close_instant-requires-clause-closes : goal.close_instant-requires-clause-closes
+close_instant-requires-clause-closes g c =
+    let w = c.requires.before in
+    let later = subst (λ (z : Seen). z.held.reading ≤ c.args.at) (sym c.self.view_is) c.requires.read in
+    let m = seen_in c.self.inside in
+    let ok = c.self.invariant.accepted in
+    let u = subst (λ (z : Seen). IsUpTo z w.0 c.args.at) (sym c.self.view_is) w.1 in
+    let r = ready m w.0 c.args.at c.self.inside.idle.instrs ok u later c.self.invariant.empty in
+    let f = follows_at m.object w.0 c.args.at c.tables-t.result.now c.ecode-code.result.now m.standing c.tables-t.ensures.value c.ecode-code.ensures u.before.values.triggers in
+    let opened = rw (c.tables-t.ensures.value, c.ecode-code.ensures, c.schedule_of.ensures, c.as_slice.ensures, c.as_slice-2.ensures) at (c.in_default.ensures.world w.0 f) in
+    let q = to_close m w.0 c.args.at c.tables-t.result.now c.ecode-code.result.now c.tables-t.ensures.value c.ecode-code.ensures ok later u _ r c.note_values.new.values c.note_values.ensures _ _ opened _ (c.as_slice-else-round_begins.ensures ∙ c.note_values.ensures) _ (c.as_slice-else-round_begins-2.ensures ∙ c.note_modes.ensures) _ (c.in_default.ensures.writes w.0 f) in
+    (w.0, q)
 
 pub returns-in-Err-close_instant-clause-text : goal.returns-in-Err-close_instant-clause-text
-returns-in-Err-close_instant-clause-text g c =
-    let later = subst (λ (z : Seen). z.held.reading ≤ c.args.at) (sym c.self.view_is) c.requires.1.1.0 in
+returns-in-Err-close_instant-clause-text g c = λ es before.
+    let later = subst (λ (z : Seen). z.held.reading ≤ c.args.at) (sym c.self.view_is) c.requires.read in
     let m = seen_in c.self.inside in
     let ok = c.self.invariant.accepted in
-    let u = subst (λ (z : Seen). IsUpTo z g.es c.args.at) (sym c.self.view_is) c.requires.1.0 in
-    let r = ready m g.es c.args.at c.self.inside.idle.instrs ok u later c.self.invariant.empty in
+    let u = subst (λ (z : Seen). IsUpTo z es c.args.at) (sym c.self.view_is) before in
+    let r = ready m es c.args.at c.self.inside.idle.instrs ok u later c.self.invariant.empty in
+    let f = follows_at m.object es c.args.at c.tables-t.result.now c.ecode-code.result.now m.standing c.tables-t.ensures.value c.ecode-code.ensures u.before.values.triggers in
+    let opened = rw (c.tables-t.ensures.value, c.ecode-code.ensures, c.schedule_of.ensures, c.as_slice.ensures, c.as_slice-2.ensures) at (c.in_default.ensures.world es f) in
     let b = sym (rw c.tables-t.ensures.value at c.round_begins.ensures) ∙ c.if-round_begins.false in
-    let text = rw (c.tables-t.ensures.value, c.ecode-code.ensures, c.schedule_of.ensures, c.number_of.ensures) at c.in_default.ensures.text in
-    let rest = rw (c.tables-t.ensures.value, c.ecode-code.ensures) at c.in-Err-close_instant.ensures.text in
-    subst (λ (z : Seen). Puts (g.W.Sink.written c.args.sink.now) (g.W.Sink.written c.close_instant.new.sink) (g.W.Sink.faults c.args.sink.now) (g.W.Sink.faults c.close_instant.new.sink) (lines_of z.object g.es z.show c.args.at) (Err c.in-Err-close_instant.failed))
-    c.self.view_is (going_closed m g.es c.args.at ok later u _ r _ _ _ _ _ _ _ _ b text (fails_so _ _ _ _ _ _ c.in-Err-close_instant.failed rest))
+    let q = to_close m es c.args.at c.tables-t.result.now c.ecode-code.result.now c.tables-t.ensures.value c.ecode-code.ensures ok later u _ r c.note_values.new.values c.note_values.ensures _ _ opened _ (c.as_slice-else-round_begins.ensures ∙ c.note_values.ensures) _ (c.as_slice-else-round_begins-2.ensures ∙ c.note_modes.ensures) _ (c.in_default.ensures.writes es f) in
+    let text = rw (c.tables-t.ensures.value, c.ecode-code.ensures, c.schedule_of.ensures, c.number_of.ensures) at (c.in_default.ensures.text es f) in
+    let rest = rw (c.tables-t.ensures.value, c.ecode-code.ensures) at (c.in-Err-close_instant.ensures.text es q) in
+    subst (λ (z : Seen). Puts (g.W.Sink.written c.args.sink.now) (g.W.Sink.written c.close_instant.new.sink) (g.W.Sink.faults c.args.sink.now) (g.W.Sink.faults c.close_instant.new.sink) (lines_of z.object es z.show c.args.at) (Err c.in-Err-close_instant.failed))
+    c.self.view_is (going_closed m es c.args.at ok later u _ r _ _ _ _ _ _ _ _ b text (fails_so _ _ _ _ _ _ c.in-Err-close_instant.failed rest))
 
 pub invariant_of-self-in_default-close_instant : goal.invariant_of-self-in_default-close_instant
 invariant_of-self-in_default-close_instant g c =
-    let fresh = ap (λ (z : Seen). z.held.spent) c.self.view_is ∙ c.requires.1.0.kept.fresh in
-    let later = subst (λ (z : Seen). z.held.reading ≤ c.args.at) (sym c.self.view_is) c.requires.1.1.0 in
+    let w = c.requires.before in
+    let later = subst (λ (z : Seen). z.held.reading ≤ c.args.at) (sym c.self.view_is) c.requires.read in
     let m = seen_in c.self.inside in
     let ok = c.self.invariant.accepted in
-    let u = subst (λ (z : Seen). IsUpTo z g.es c.args.at) (sym c.self.view_is) c.requires.1.0 in
-    let noted = noted_of m g.es c.args.at m.object.tables c.note_values.new.values c.note_modes.new.modes.modes u refl c.note_values.ensures c.note_modes.ensures in
+    let u = subst (λ (z : Seen). IsUpTo z w.0 c.args.at) (sym c.self.view_is) w.1 in
+    let r = ready m w.0 c.args.at c.self.inside.idle.instrs ok u later c.self.invariant.empty in
+    let f = follows_at m.object w.0 c.args.at c.tables-t.result.now c.ecode-code.result.now m.standing c.tables-t.ensures.value c.ecode-code.ensures u.before.values.triggers in
+    let opened = rw (c.tables-t.ensures.value, c.ecode-code.ensures, c.schedule_of.ensures, c.as_slice.ensures, c.as_slice-2.ensures) at (c.in_default.ensures.world w.0 f) in
+    let q = to_close m w.0 c.args.at c.tables-t.result.now c.ecode-code.result.now c.tables-t.ensures.value c.ecode-code.ensures ok later u _ r c.note_values.new.values c.note_values.ensures _ _ opened _ (c.as_slice-else-round_begins.ensures ∙ c.note_values.ensures) _ (c.as_slice-else-round_begins-2.ensures ∙ c.note_modes.ensures) _ (c.in_default.ensures.writes w.0 f) in
+    let noted = noted_of m w.0 c.args.at m.object.tables c.note_values.new.values c.note_modes.new.modes.modes u refl c.note_values.ensures c.note_modes.ensures in
     let kept = c.self.invariant in
+    let desk = c.in_default-close_instant.ensures.desk w.0 q in
     record {
       accepted = kept.accepted;
       all_shows = kept.all_shows;
@@ -116,101 +347,117 @@ invariant_of-self-in_default-close_instant g c =
       all_modes = noted.modules;
       few = kept.few;
       all_selected = kept.all_selected;
-      are = λ free. kept.are free ∙ sym (ap (λ (z : Round). z.jobs) c.in_default-close_instant.ensures.desk ∙ (replay_only c.ecode-code.result.now (phase_path c.tables-t.result.now c.ecode-code.result.now g.es c.args.at 3) c.open_instant.new.desk).0 ∙ c.in_default.ensures.jobs);
+      are = λ free. kept.are free ∙ sym (ap (λ (z : Round). z.jobs) desk ∙ (replay_only c.ecode-code.result.now (phase_path c.tables-t.result.now c.ecode-code.result.now w.0 c.args.at 3) c.open_instant.new.desk).0 ∙ c.in_default.ensures.jobs);
       empty = kept.empty;
     }
 
 pub returns-in-Ok-clause-text : goal.returns-in-Ok-clause-text
-returns-in-Ok-clause-text g c =
-    let later = subst (λ (z : Seen). z.held.reading ≤ c.args.at) (sym c.self.view_is) c.requires.1.1.0 in
+returns-in-Ok-clause-text g c = λ es before.
+    let later = subst (λ (z : Seen). z.held.reading ≤ c.args.at) (sym c.self.view_is) c.requires.read in
     let m = seen_in c.self.inside in
     let ok = c.self.invariant.accepted in
-    let u = subst (λ (z : Seen). IsUpTo z g.es c.args.at) (sym c.self.view_is) c.requires.1.0 in
-    let r = ready m g.es c.args.at c.self.inside.idle.instrs ok u later c.self.invariant.empty in
+    let u = subst (λ (z : Seen). IsUpTo z es c.args.at) (sym c.self.view_is) before in
+    let r = ready m es c.args.at c.self.inside.idle.instrs ok u later c.self.invariant.empty in
+    let f = follows_at m.object es c.args.at c.tables-t.result.now c.ecode-code.result.now m.standing c.tables-t.ensures.value c.ecode-code.ensures u.before.values.triggers in
+    let opened = rw (c.tables-t.ensures.value, c.ecode-code.ensures, c.schedule_of.ensures, c.as_slice.ensures, c.as_slice-2.ensures) at (c.in_default.ensures.world es f) in
     let b = sym (rw c.tables-t.ensures.value at c.round_begins.ensures) ∙ c.if-round_begins.true in
-    let text = rw (c.tables-t.ensures.value, c.ecode-code.ensures, c.schedule_of.ensures, c.number_of.ensures) at c.in_default.ensures.text in
-    subst (λ (z : Seen). Puts (g.W.Sink.written c.args.sink.now) (g.W.Sink.written c.close_and_begin.new.sink) (g.W.Sink.faults c.args.sink.now) (g.W.Sink.faults c.close_and_begin.new.sink) (lines_of z.object g.es z.show c.args.at) (Ok _))
-    c.self.view_is (begun_closed_at m g.es c.args.at ok later u _ r c.tables-t.result.now c.ecode-code.result.now c.schedules.result.now _ _ _ _ _ _ _ _ c.tables-t.ensures.value c.ecode-code.ensures c.schedules.ensures b text (ends_so _ _ _ _ _ _ _ c.in-Ok.ensures.text))
+    let z = to_close m es c.args.at c.tables-t.result.now c.ecode-code.result.now c.tables-t.ensures.value c.ecode-code.ensures ok later u _ r c.note_values.new.values c.note_values.ensures _ _ opened _ (c.as_slice-then-round_begins-2.ensures ∙ c.note_values.ensures) _ (c.as_slice-then-round_begins-3.ensures ∙ c.note_modes.ensures) _ (c.in_default.ensures.writes es f) in
+    let q = to_close_and_begin m es c.args.at c.tables-t.result.now c.ecode-code.result.now c.schedules.result.now _ c.tables-t.ensures.value c.ecode-code.ensures c.schedules.ensures c.as_slice-then-round_begins.ensures ok later u b _ _ _ _ z in
+    let text = rw (c.tables-t.ensures.value, c.ecode-code.ensures, c.schedule_of.ensures, c.number_of.ensures) at (c.in_default.ensures.text es f) in
+    subst (λ (z : Seen). Puts (g.W.Sink.written c.args.sink.now) (g.W.Sink.written c.close_and_begin.new.sink) (g.W.Sink.faults c.args.sink.now) (g.W.Sink.faults c.close_and_begin.new.sink) (lines_of z.object es z.show c.args.at) (Ok _))
+    c.self.view_is (begun_closed_at m es c.args.at ok later u _ r c.tables-t.result.now c.ecode-code.result.now c.schedules.result.now _ _ _ _ _ _ _ _ c.tables-t.ensures.value c.ecode-code.ensures c.schedules.ensures b text (ends_so _ _ _ _ _ _ _ (c.in-Ok.ensures.text es q)))
 
 pub returns-in-Ok-clause-before : goal.returns-in-Ok-clause-before
-returns-in-Ok-clause-before g c =
-    let later = subst (λ (z : Seen). z.held.reading ≤ c.args.at) (sym c.self.view_is) c.requires.1.1.0 in
+returns-in-Ok-clause-before g c = λ es before.
+    let later = subst (λ (z : Seen). z.held.reading ≤ c.args.at) (sym c.self.view_is) c.requires.read in
     let m = seen_in c.self.inside in
     let ok = c.self.invariant.accepted in
-    let u = subst (λ (z : Seen). IsUpTo z g.es c.args.at) (sym c.self.view_is) c.requires.1.0 in
-    let r = ready m g.es c.args.at c.self.inside.idle.instrs ok u later c.self.invariant.empty in
-    let opened = rw (c.tables-t.ensures.value, c.ecode-code.ensures, c.schedule_of.ensures, c.as_slice.ensures, c.as_slice-2.ensures) at c.in_default.ensures.world in
+    let u = subst (λ (z : Seen). IsUpTo z es c.args.at) (sym c.self.view_is) before in
+    let r = ready m es c.args.at c.self.inside.idle.instrs ok u later c.self.invariant.empty in
+    let f = follows_at m.object es c.args.at c.tables-t.result.now c.ecode-code.result.now m.standing c.tables-t.ensures.value c.ecode-code.ensures u.before.values.triggers in
+    let opened = rw (c.tables-t.ensures.value, c.ecode-code.ensures, c.schedule_of.ensures, c.as_slice.ensures, c.as_slice-2.ensures) at (c.in_default.ensures.world es f) in
     let same = c.note_values.ensures ∙ u.before.values.values.values in
     let b = sym (rw c.tables-t.ensures.value at c.round_begins.ensures) ∙ c.if-round_begins.true in
-    let counts = rw (c.tables-t.ensures.value, c.ecode-code.ensures, c.schedule_of.ensures) at c.in_default.ensures.counts in
-    let more = counts_at m.object g.es c.args.at c.tables-t.result.now c.ecode-code.result.now c.schedules.result.now c.close_and_begin.new.tally c.open_instant.new.tally c.tables-t.ensures.value c.ecode-code.ensures c.schedules.ensures c.in-Ok.ensures.counts in
-    let world = rw (c.tables-t.ensures.value, c.ecode-code.ensures) at c.in-Ok.ensures.world in
+    let z = to_close m es c.args.at c.tables-t.result.now c.ecode-code.result.now c.tables-t.ensures.value c.ecode-code.ensures ok later u _ r c.note_values.new.values c.note_values.ensures _ _ opened _ (c.as_slice-then-round_begins-2.ensures ∙ c.note_values.ensures) _ (c.as_slice-then-round_begins-3.ensures ∙ c.note_modes.ensures) _ (c.in_default.ensures.writes es f) in
+    let q = to_close_and_begin m es c.args.at c.tables-t.result.now c.ecode-code.result.now c.schedules.result.now _ c.tables-t.ensures.value c.ecode-code.ensures c.schedules.ensures c.as_slice-then-round_begins.ensures ok later u b _ _ _ _ z in
+    let counts = rw (c.tables-t.ensures.value, c.ecode-code.ensures, c.schedule_of.ensures) at (c.in_default.ensures.counts es f) in
+    let more = counts_at m.object es c.args.at c.tables-t.result.now c.ecode-code.result.now c.schedules.result.now c.close_and_begin.new.tally c.open_instant.new.tally c.tables-t.ensures.value c.ecode-code.ensures c.schedules.ensures (c.in-Ok.ensures.counts es q) in
+    let world = rw (c.tables-t.ensures.value, c.ecode-code.ensures) at (c.in-Ok.ensures.world es q) in
     let safe = rw (c.tables-t.ensures.value, c.ecode-code.ensures) at c.in-Ok.ensures.safe in
     let shaped = rw c.tables-t.ensures.value at c.in-Ok.ensures.shaped in
-    let reads = rw (c.tables-t.ensures.value, c.ecode-code.ensures) at c.in-Ok.ensures.reads in
-    let desk = begun_at m.object g.es c.args.at c.tables-t.result.now c.schedules.result.now c.close_and_begin.new.desk c.tables-t.ensures.value c.schedules.ensures c.in-Ok.ensures.desk in
-    let goes = c.in-Ok.ensures.selection ∙ ap (λ z. selection_of z (modes_at z g.es c.args.at)) c.tables-t.ensures.value in
+    let reads = rw (c.tables-t.ensures.value, c.ecode-code.ensures) at (c.in-Ok.ensures.reads es q) in
+    let desk = begun_at m.object es c.args.at c.tables-t.result.now c.schedules.result.now c.close_and_begin.new.desk c.tables-t.ensures.value c.schedules.ensures (c.in-Ok.ensures.desk es q) in
+    let goes = c.in-Ok.ensures.selection es q ∙ ap (λ z. selection_of z (modes_at z es c.args.at)) c.tables-t.ensures.value in
     let t = m.object.tables in
     let code = m.object.ecode in
-    let tail : Tally → Tally = λ n. with_records (first_records t (schedules_of m.object) g.es c.args.at) (with_instrs (length (phase_path t code g.es c.args.at 3)) (with_instrs (length (phase_path t code g.es c.args.at 2)) n)) in
-    next_up_to m g.es c.args.at ok later u c.close_and_begin.new.world c.close_and_begin.new.desk c.close_and_begin.new.m _ _ (first_records t (schedules_of m.object) g.es c.args.at) c.self.inside.tally c.close_and_begin.new.tally
-    (passed_of m g.es c.args.at ok later u _ r c.note_values.new.values same _ _ opened _ _ world reads safe shaped)
-    (desk_begins_so m g.es c.args.at ok later u _ b desk)
-    (selection_begins m g.es c.args.at ok later u _ b goes)
-    (records_begin m g.es c.args.at ok later u _ c.self.inside.idle.instrs refl c.self.invariant.empty r b)
+    let tail : Tally → Tally = λ n. with_records (first_records t (schedules_of m.object) es c.args.at) (with_instrs (length (phase_path t code es c.args.at 3)) (with_instrs (length (phase_path t code es c.args.at 2)) n)) in
+    next_up_to m es c.args.at ok later u c.close_and_begin.new.world c.close_and_begin.new.desk c.close_and_begin.new.m _ _ (first_records t (schedules_of m.object) es c.args.at) c.self.inside.tally c.close_and_begin.new.tally
+    (passed_of m es c.args.at ok later u _ r c.note_values.new.values same _ _ opened _ _ world reads safe shaped)
+    (desk_begins_so m es c.args.at ok later u _ b desk)
+    (selection_begins m es c.args.at ok later u _ b goes)
+    (records_begin m es c.args.at ok later u _ c.self.inside.idle.instrs refl c.self.invariant.empty r b)
     refl
     (more ∙ ap tail (counts r.plan r.start r.place r.offset r.same r.past r.few r.was))
 
 pub returns-in-Err-close_and_begin-clause-text : goal.returns-in-Err-close_and_begin-clause-text
-returns-in-Err-close_and_begin-clause-text g c =
-    let later = subst (λ (z : Seen). z.held.reading ≤ c.args.at) (sym c.self.view_is) c.requires.1.1.0 in
+returns-in-Err-close_and_begin-clause-text g c = λ es before.
+    let later = subst (λ (z : Seen). z.held.reading ≤ c.args.at) (sym c.self.view_is) c.requires.read in
     let m = seen_in c.self.inside in
     let ok = c.self.invariant.accepted in
-    let u = subst (λ (z : Seen). IsUpTo z g.es c.args.at) (sym c.self.view_is) c.requires.1.0 in
-    let r = ready m g.es c.args.at c.self.inside.idle.instrs ok u later c.self.invariant.empty in
+    let u = subst (λ (z : Seen). IsUpTo z es c.args.at) (sym c.self.view_is) before in
+    let r = ready m es c.args.at c.self.inside.idle.instrs ok u later c.self.invariant.empty in
+    let f = follows_at m.object es c.args.at c.tables-t.result.now c.ecode-code.result.now m.standing c.tables-t.ensures.value c.ecode-code.ensures u.before.values.triggers in
+    let opened = rw (c.tables-t.ensures.value, c.ecode-code.ensures, c.schedule_of.ensures, c.as_slice.ensures, c.as_slice-2.ensures) at (c.in_default.ensures.world es f) in
     let b = sym (rw c.tables-t.ensures.value at c.round_begins.ensures) ∙ c.if-round_begins.true in
-    let text = rw (c.tables-t.ensures.value, c.ecode-code.ensures, c.schedule_of.ensures, c.number_of.ensures) at c.in_default.ensures.text in
-    subst (λ (z : Seen). Puts (g.W.Sink.written c.args.sink.now) (g.W.Sink.written c.close_and_begin.new.sink) (g.W.Sink.faults c.args.sink.now) (g.W.Sink.faults c.close_and_begin.new.sink) (lines_of z.object g.es z.show c.args.at) (Err c.in-Err-close_and_begin.failed))
-    c.self.view_is (begun_closed_at m g.es c.args.at ok later u _ r c.tables-t.result.now c.ecode-code.result.now c.schedules.result.now _ _ _ _ _ _ _ _ c.tables-t.ensures.value c.ecode-code.ensures c.schedules.ensures b text (fails_so _ _ _ _ _ _ c.in-Err-close_and_begin.failed c.in-Err-close_and_begin.ensures.text))
+    let z = to_close m es c.args.at c.tables-t.result.now c.ecode-code.result.now c.tables-t.ensures.value c.ecode-code.ensures ok later u _ r c.note_values.new.values c.note_values.ensures _ _ opened _ (c.as_slice-then-round_begins-2.ensures ∙ c.note_values.ensures) _ (c.as_slice-then-round_begins-3.ensures ∙ c.note_modes.ensures) _ (c.in_default.ensures.writes es f) in
+    let q = to_close_and_begin m es c.args.at c.tables-t.result.now c.ecode-code.result.now c.schedules.result.now _ c.tables-t.ensures.value c.ecode-code.ensures c.schedules.ensures c.as_slice-then-round_begins.ensures ok later u b _ _ _ _ z in
+    let text = rw (c.tables-t.ensures.value, c.ecode-code.ensures, c.schedule_of.ensures, c.number_of.ensures) at (c.in_default.ensures.text es f) in
+    subst (λ (z : Seen). Puts (g.W.Sink.written c.args.sink.now) (g.W.Sink.written c.close_and_begin.new.sink) (g.W.Sink.faults c.args.sink.now) (g.W.Sink.faults c.close_and_begin.new.sink) (lines_of z.object es z.show c.args.at) (Err c.in-Err-close_and_begin.failed))
+    c.self.view_is (begun_closed_at m es c.args.at ok later u _ r c.tables-t.result.now c.ecode-code.result.now c.schedules.result.now _ _ _ _ _ _ _ _ c.tables-t.ensures.value c.ecode-code.ensures c.schedules.ensures b text (fails_so _ _ _ _ _ _ c.in-Err-close_and_begin.failed (c.in-Err-close_and_begin.ensures.text es q)))
 
 pub returns-in_default-close_instant-clause-text : goal.returns-in_default-close_instant-clause-text
-returns-in_default-close_instant-clause-text g c =
-    let later = subst (λ (z : Seen). z.held.reading ≤ c.args.at) (sym c.self.view_is) c.requires.1.1.0 in
+returns-in_default-close_instant-clause-text g c = λ es before.
+    let later = subst (λ (z : Seen). z.held.reading ≤ c.args.at) (sym c.self.view_is) c.requires.read in
     let m = seen_in c.self.inside in
     let ok = c.self.invariant.accepted in
-    let u = subst (λ (z : Seen). IsUpTo z g.es c.args.at) (sym c.self.view_is) c.requires.1.0 in
-    let r = ready m g.es c.args.at c.self.inside.idle.instrs ok u later c.self.invariant.empty in
+    let u = subst (λ (z : Seen). IsUpTo z es c.args.at) (sym c.self.view_is) before in
+    let r = ready m es c.args.at c.self.inside.idle.instrs ok u later c.self.invariant.empty in
+    let f = follows_at m.object es c.args.at c.tables-t.result.now c.ecode-code.result.now m.standing c.tables-t.ensures.value c.ecode-code.ensures u.before.values.triggers in
+    let opened = rw (c.tables-t.ensures.value, c.ecode-code.ensures, c.schedule_of.ensures, c.as_slice.ensures, c.as_slice-2.ensures) at (c.in_default.ensures.world es f) in
     let b = sym (rw c.tables-t.ensures.value at c.round_begins.ensures) ∙ c.if-round_begins.false in
-    let text = rw (c.tables-t.ensures.value, c.ecode-code.ensures, c.schedule_of.ensures, c.number_of.ensures) at c.in_default.ensures.text in
-    let rest = rw (c.tables-t.ensures.value, c.ecode-code.ensures) at c.in_default-close_instant.ensures.text in
-    subst (λ (z : Seen). Puts (g.W.Sink.written c.args.sink.now) (g.W.Sink.written c.close_instant.new.sink) (g.W.Sink.faults c.args.sink.now) (g.W.Sink.faults c.close_instant.new.sink) (lines_of z.object g.es z.show c.args.at) (Ok _))
-    c.self.view_is (going_closed m g.es c.args.at ok later u _ r _ _ _ _ _ _ _ _ b text (ends_so _ _ _ _ _ _ _ rest))
+    let q = to_close m es c.args.at c.tables-t.result.now c.ecode-code.result.now c.tables-t.ensures.value c.ecode-code.ensures ok later u _ r c.note_values.new.values c.note_values.ensures _ _ opened _ (c.as_slice-else-round_begins.ensures ∙ c.note_values.ensures) _ (c.as_slice-else-round_begins-2.ensures ∙ c.note_modes.ensures) _ (c.in_default.ensures.writes es f) in
+    let text = rw (c.tables-t.ensures.value, c.ecode-code.ensures, c.schedule_of.ensures, c.number_of.ensures) at (c.in_default.ensures.text es f) in
+    let rest = rw (c.tables-t.ensures.value, c.ecode-code.ensures) at (c.in_default-close_instant.ensures.text es q) in
+    subst (λ (z : Seen). Puts (g.W.Sink.written c.args.sink.now) (g.W.Sink.written c.close_instant.new.sink) (g.W.Sink.faults c.args.sink.now) (g.W.Sink.faults c.close_instant.new.sink) (lines_of z.object es z.show c.args.at) (Ok _))
+    c.self.view_is (going_closed m es c.args.at ok later u _ r _ _ _ _ _ _ _ _ b text (ends_so _ _ _ _ _ _ _ rest))
 
 pub returns-in_default-close_instant-clause-before : goal.returns-in_default-close_instant-clause-before
-returns-in_default-close_instant-clause-before g c =
-    let later = subst (λ (z : Seen). z.held.reading ≤ c.args.at) (sym c.self.view_is) c.requires.1.1.0 in
+returns-in_default-close_instant-clause-before g c = λ es before.
+    let later = subst (λ (z : Seen). z.held.reading ≤ c.args.at) (sym c.self.view_is) c.requires.read in
     let m = seen_in c.self.inside in
     let ok = c.self.invariant.accepted in
-    let u = subst (λ (z : Seen). IsUpTo z g.es c.args.at) (sym c.self.view_is) c.requires.1.0 in
-    let r = ready m g.es c.args.at c.self.inside.idle.instrs ok u later c.self.invariant.empty in
-    let opened = rw (c.tables-t.ensures.value, c.ecode-code.ensures, c.schedule_of.ensures, c.as_slice.ensures, c.as_slice-2.ensures) at c.in_default.ensures.world in
+    let u = subst (λ (z : Seen). IsUpTo z es c.args.at) (sym c.self.view_is) before in
+    let r = ready m es c.args.at c.self.inside.idle.instrs ok u later c.self.invariant.empty in
+    let f = follows_at m.object es c.args.at c.tables-t.result.now c.ecode-code.result.now m.standing c.tables-t.ensures.value c.ecode-code.ensures u.before.values.triggers in
+    let opened = rw (c.tables-t.ensures.value, c.ecode-code.ensures, c.schedule_of.ensures, c.as_slice.ensures, c.as_slice-2.ensures) at (c.in_default.ensures.world es f) in
     let same = c.note_values.ensures ∙ u.before.values.values.values in
     let b = sym (rw c.tables-t.ensures.value at c.round_begins.ensures) ∙ c.if-round_begins.false in
-    let counts = rw (c.tables-t.ensures.value, c.ecode-code.ensures, c.schedule_of.ensures) at c.in_default.ensures.counts in
-    let more = rw (c.tables-t.ensures.value, c.ecode-code.ensures) at c.in_default-close_instant.ensures.counts in
-    let world = rw (c.tables-t.ensures.value, c.ecode-code.ensures) at c.in_default-close_instant.ensures.world in
+    let q = to_close m es c.args.at c.tables-t.result.now c.ecode-code.result.now c.tables-t.ensures.value c.ecode-code.ensures ok later u _ r c.note_values.new.values c.note_values.ensures _ _ opened _ (c.as_slice-else-round_begins.ensures ∙ c.note_values.ensures) _ (c.as_slice-else-round_begins-2.ensures ∙ c.note_modes.ensures) _ (c.in_default.ensures.writes es f) in
+    let counts = rw (c.tables-t.ensures.value, c.ecode-code.ensures, c.schedule_of.ensures) at (c.in_default.ensures.counts es f) in
+    let more = rw (c.tables-t.ensures.value, c.ecode-code.ensures) at (c.in_default-close_instant.ensures.counts es q) in
+    let world = rw (c.tables-t.ensures.value, c.ecode-code.ensures) at (c.in_default-close_instant.ensures.world es q) in
     let safe = rw (c.tables-t.ensures.value, c.ecode-code.ensures) at c.in_default-close_instant.ensures.safe in
     let shaped = rw c.tables-t.ensures.value at c.in_default-close_instant.ensures.shaped in
-    let reads = rw (c.tables-t.ensures.value, c.ecode-code.ensures) at c.in_default-close_instant.ensures.reads in
-    let desk = rw (c.tables-t.ensures.value, c.ecode-code.ensures) at c.in_default-close_instant.ensures.desk in
+    let reads = rw (c.tables-t.ensures.value, c.ecode-code.ensures) at (c.in_default-close_instant.ensures.reads es q) in
+    let desk = rw (c.tables-t.ensures.value, c.ecode-code.ensures) at (c.in_default-close_instant.ensures.desk es q) in
     let stands = c.in_default-close_instant.ensures.stands _ (rw c.schedule_of.ensures at c.in_default.ensures.stands) in
     let t = m.object.tables in
     let code = m.object.ecode in
-    let tail : Tally → Tally = λ n. with_instrs (length (phase_path t code g.es c.args.at 3)) (with_instrs (length (phase_path t code g.es c.args.at 2)) n) in
-    next_up_to m g.es c.args.at ok later u c.close_instant.new.world c.close_instant.new.desk c.close_instant.new.m _ _ [] c.self.inside.tally c.close_instant.new.tally
-    (passed_of m g.es c.args.at ok later u _ r c.note_values.new.values same _ _ opened _ _ world reads safe shaped)
-    (desk_goes_on m g.es c.args.at ok later u _ c.self.inside.idle.instrs refl c.self.invariant.empty r _ _ _ b opened.records desk stands)
-    (selection_goes_on m g.es c.args.at ok later u b)
-    (records_go_on m g.es c.args.at ok later u _ c.self.inside.idle.instrs refl c.self.invariant.empty r b)
+    let tail : Tally → Tally = λ n. with_instrs (length (phase_path t code es c.args.at 3)) (with_instrs (length (phase_path t code es c.args.at 2)) n) in
+    next_up_to m es c.args.at ok later u c.close_instant.new.world c.close_instant.new.desk c.close_instant.new.m _ _ [] c.self.inside.tally c.close_instant.new.tally
+    (passed_of m es c.args.at ok later u _ r c.note_values.new.values same _ _ opened _ _ world reads safe shaped)
+    (desk_goes_on m es c.args.at ok later u _ c.self.inside.idle.instrs refl c.self.invariant.empty r _ _ _ b opened.records desk stands)
+    (selection_goes_on m es c.args.at ok later u b)
+    (records_go_on m es c.args.at ok later u _ c.self.inside.idle.instrs refl c.self.invariant.empty r b)
     refl
     (more ∙ ap tail (counts r.plan r.start r.place r.offset r.same r.past r.few r.was))

@@ -8,17 +8,18 @@ use Rattle.htl_machine.proofs.Calling.{position_worst, took_follows}
 use Rattle.htl_machine.proofs.machine.Machine.took.Goals as goal
 
 pub take-requires-clause-worst : goal.take-requires-clause-worst
-take-requires-clause-worst g c =
-    subst (λ (js : List Job). (p : ℕ) → position_from 0 js c.args.inv ≡ Some p → c.args.length ≤ (job_at js p).worst) (sym (c.self.invariant.are (ap (λ (z : Seen). z.held.spent) c.self.view_is ∙ c.requires.0.kept.fresh)))
+take-requires-clause-worst c =
+    let w = c.requires.follows in
+    subst (λ (js : List Job). (p : ℕ) → position_from 0 js c.args.inv ≡ Some p → c.args.length ≤ (job_at js p).worst) (sym (c.self.invariant.are (ap (λ (z : Seen). z.held.spent) c.self.view_is ∙ w.1.kept.fresh)))
     (λ p found.
-    position_worst _ g.es c.args.inv c.args.length p c.self.invariant.accepted
-    (subst (λ (z : Seen). IsLength z.object.tables c.args.inv c.args.length) (sym c.self.view_is) c.requires.1)
-    (subst (λ (z : Seen). Follows z g.es) (sym c.self.view_is) c.requires.0) found)
+    position_worst _ w.0 c.args.inv c.args.length p c.self.invariant.accepted
+    (subst (λ (z : Seen). IsLength z.object.tables c.args.inv c.args.length) (sym c.self.view_is) c.requires.length)
+    (subst (λ (z : Seen). Follows z w.0) (sym c.self.view_is) w.1) found)
 
 pub returns-clause-follows : goal.returns-clause-follows
-returns-clause-follows g c =
+returns-clause-follows c = λ es f.
     rw (c.set.ensures, c.take.ensures.desk)
-    (took_follows _ g.es c.args.inv c.args.length c.self.invariant.accepted
-    (subst (λ (z : Seen). IsLength z.object.tables c.args.inv c.args.length) (sym c.self.view_is) c.requires.1)
+    (took_follows _ es c.args.inv c.args.length c.self.invariant.accepted
+    (subst (λ (z : Seen). IsLength z.object.tables c.args.inv c.args.length) (sym c.self.view_is) c.requires.length)
     (λ s h. subst (λ (r : Round). Stands r s) c.take.ensures.desk (c.take.ensures.stands s h))
-    (subst (λ (z : Seen). Follows z g.es) (sym c.self.view_is) c.requires.0))
+    (subst (λ (z : Seen). Follows z es) (sym c.self.view_is) f))

@@ -1,0 +1,44 @@
+-- What the last part of an instant asks for, once the first is done.
+use Rattle.std.proofs.Common.{◌≡◌, ◌≤◌, ℕ, true, List, [], ℤ, Option, None, sym, subst, ◌∙◌}
+use Rattle.htl_model.specs.declared.event.Event.{Event}
+use Rattle.htl_model.specs.Tables.{Tables}
+use Rattle.htl_walk.specs.declared.schedule.SInstr.{SInstr}
+use Rattle.htl_walk.specs.declared.schedule.Schedule.{Schedule}
+use Rattle.htl_ecode.specs.declared.ecode.ECode.{ECode}
+use Rattle.htl_smach.specs.Rounds.{Round}
+use Rattle.htl_emach.specs.Calendars.{Standing}
+use Rattle.htl_emach.specs.Contents.{Content}
+use Rattle.htl_emach.specs.Following.{Follows, Onward, phase_path}
+use Rattle.htl_object.specs.declared.object.Object.{Object}
+use Rattle.htl_object.specs.Accepted.{IsAccepted}
+use Rattle.htl_machine.specs.Asking.{IsToClose, IsToCloseAndBegin}
+use Rattle.htl_machine.specs.Calls.{Seen, IsUpTo}
+use Rattle.htl_machine.specs.Instant.{IsReadyAt}
+use Rattle.htl_machine.specs.Opening.{IsOpened}
+use Rattle.htl_machine.specs.Timing.{begins}
+use Rattle.htl_machine.specs.Starting.{instrs_of}
+use Rattle.htl_machine.proofs.After.{opened_values, closed_values, to_begin}
+use Rattle.htl_machine.proofs.Asking.{noted_of, values_at, reads_at, begins_at}
+
+-- the same, where the tables and the code are named otherwise
+pub follows_at : (o : Object) (es : List Event) (at : ℕ) (t : Tables) (code : ECode) (m : Standing) → t ≡ o.tables → code ≡ o.ecode → Follows o.tables o.ecode es at m → Follows t code es at m
+follows_at o es at t code m same same_code f = subst (λ z. Follows z code es at m) (sym same) (subst (λ z. Follows o.tables z es at m) (sym same_code) f)
+
+pub to_close : (m : Seen) (es : List Event) (at : ℕ) (t : Tables) (code : ECode) → t ≡ m.object.tables → code ≡ m.object.ecode → IsAccepted m.object → m.held.reading ≤ at → IsUpTo m es at
+    → (steps : List SInstr) → IsReadyAt m es at steps → (seen : List ℤ) → seen ≡ m.held.world.values → (d1 : Round) (w3 : Content)
+    → IsOpened m.object.tables m.object.ecode es at steps m.held.shows seen m.held.desk m.held.world d1 w3 → (values : List ℤ) → values ≡ m.held.world.values
+    → (modes : List (Option ℕ)) → modes ≡ m.standing.calendar.modes → (m1 : Standing) → Onward t code es at 1 m1 (phase_path t code es at 1) [] None → IsToClose t code es at m1 w3 values modes
+to_close m es at t code same same_code ok later u steps r seen before d1 w3 opened values values_are modes modes_are m1 writes =
+    let were = before ∙ u.before.values.values.values in
+    record {
+      writes = writes;
+      now = values_at m.object es at t w3.values same (opened_values m es at ok later u steps r seen were d1 w3 opened);
+      noted = (noted_of m es at t values modes u same values_are modes_are).noted;
+      reads = reads_at m.object es at t code w3 same same_code (closed_values m es at ok later u steps r seen were d1 w3 opened);
+    }
+
+pub to_close_and_begin : (m : Seen) (es : List Event) (at : ℕ) (t : Tables) (code : ECode) (ss : List Schedule) (takes : List ℕ) → t ≡ m.object.tables → code ≡ m.object.ecode → ss ≡ m.object.schedules
+    → takes ≡ m.held.takes → IsAccepted m.object → m.held.reading ≤ at → IsUpTo m es at → begins m.object.tables at ≡ true → (m1 : Standing) (w3 : Content) (values : List ℤ) (modes : List (Option ℕ))
+    → IsToClose t code es at m1 w3 values modes → IsToCloseAndBegin t code (instrs_of ss) es at takes m1 w3 values modes
+to_close_and_begin m es at t code ss takes same same_code same_schedules are ok later u b m1 w3 values modes q =
+    record { closes = q; begins = begins_at m.object es at t code ss takes m.held.takes same same_code same_schedules are (to_begin m es at ok later u b) }

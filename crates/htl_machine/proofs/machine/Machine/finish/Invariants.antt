@@ -1,4 +1,0 @@
-use Rattle.htl_machine.proofs.machine.Machine.finish.Given as goal
-
-abbrev pub ghost-pass : goal.ghost-pass
-ghost-pass g a = g.es
