@@ -115,8 +115,7 @@ returns-in-Err-write_totals-clause-answer g c =
     let h =
     over t m0 m c.requires.tables a b known rest left w0 w c.events.invariant.0
     (subst (λ (o : Option Event). Gives a.ahead.over b.ahead.over rest left (IsAnswer t a b (Ok o))) c.in-Ok-None.field-0-is c.in-Ok-None.ensures.answer)
-    (subst (λ (o : Option Event). Goes t a.here.past b.here.past (Ok o)) c.in-Ok-None.field-0-is c.in-Ok-None.ensures.event) in
-    (
+    (subst (λ (o : Option Event). Goes t a.here.past b.here.past (Ok o)) c.in-Ok-None.field-0-is c.in-Ok-None.ensures.event) in (
       rose_since (g.W.Sink.faults c.args.out.now) (g.W.Sink.faults c.events.out) (g.W.Sink.faults c.write_totals.new.out) c.events.invariant.2 c.in-Err-write_totals.ensures.cause.refused,
       over_cut m0 m known left w0 w (g.W.Sink.written c.write_totals.new.out) (g.W.Sink.faults c.events.out) (g.W.Sink.faults c.write_totals.new.out) h c.in-Err-write_totals.field-0
           c.in-Err-write_totals.ensures,
@@ -148,8 +147,7 @@ returns-in-Err-Read-clause-answer g c =
     let w0 = g.W.Sink.written c.args.out.now in
     let w = g.W.Sink.written c.events.out in
     let a = c.events.script.stream in
-    let b = c.next.new.self.stream in
-    (
+    let b = c.next.new.self.stream in (
       rose_since (g.R.Source.faults c.args.input.now) (g.R.Source.faults c.events.input) (g.R.Source.faults c.next.new.src) c.events.invariant.1
           (c.in-Err-Read.ensures.read (ap (λ (s : ScriptStop). Err s) c.in-Err-Read.field-0-is)),
       read_cut t m0 m c.requires.accepted c.requires.tables a b known rest left w0 w c.events.invariant.0,
