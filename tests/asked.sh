@@ -84,6 +84,7 @@ ask_unproved() {
 ask_for_all() {
 	cp "$root"/examples/*.htl .
 	true_htl compile <tanks.htl >tanks.object 2>/dev/null
+	true_htl compile <motor.htl >motor.object 2>/dev/null
 	size=$(wc -c <tanks.object)
 	head -c $((size - 1)) tanks.object >cut.object
 	# The first dispatch ends at 200 in place of 220.
@@ -104,6 +105,8 @@ ask_for_all() {
 	ask show-tanks /dev/null show tanks.object
 	ask show-small /dev/null show small.object
 	for it in jobs run; do ask $it-tanks "$root/examples/tanks.script" $it tanks.object; done
+	ask code-motor "$root/examples/motor.script" code motor.object
+	ask show-motor /dev/null show motor.object
 	ask jobs-short-of-time "$root/examples/tanks.script" jobs short-of-time.object
 	lines 'at 0' 'sense h1 250' 'at 200' 'took C1.p.prop 61'
 	ask jobs-overrun lines jobs tanks.object

@@ -2,7 +2,7 @@
 
 _htl() {
 	local word=${COMP_WORDS[COMP_CWORD]} before=${COMP_WORDS[COMP_CWORD - 1]} i command=
-	local commands="go compile jobs run check show plan"
+	local commands="go compile jobs run code check show plan"
 	COMPREPLY=()
 	for ((i = 1; i < COMP_CWORD; i++)); do
 		case ${COMP_WORDS[i]} in
@@ -27,7 +27,7 @@ _htl() {
 			;;
 		esac
 		;;
-	go | jobs | run | check | show | plan)
+	go | jobs | run | code | check | show | plan)
 		[ "$before" = "$command" ] || return
 		compopt -o filenames 2>/dev/null
 		local IFS=$'\n' pattern='*'

@@ -31,7 +31,7 @@ are_text() {
 judge_words() {
 	form=wrong input=none
 	case $#:${1-} in
-	2:go | 2:jobs | 2:run) form=file input=script ;;
+	2:go | 2:jobs | 2:run | 2:code) form=file input=script ;;
 	2:plan) form=file input=modes ;;
 	2:check | 2:show) form=file ;;
 	1:compile) form=plain input=source ;;

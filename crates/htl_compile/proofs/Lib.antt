@@ -1,5 +1,6 @@
 pub mod Answering
 pub mod BuiltLaws
+pub mod BulkNames
 pub mod CodedLaws
 pub mod Completeness
 mod Examples

@@ -1,4 +1,5 @@
 pub mod Building
+pub mod BulkTree
 pub mod Built
 pub mod Coded
 pub mod FunctionFaults

@@ -3,6 +3,7 @@
 #![tactic(auto)]
 
 mod building;
+mod bulk;
 mod compiling;
 mod compiling_on;
 mod functions;
@@ -11,6 +12,7 @@ mod source;
 mod source_fault;
 
 pub use building::{BackFault, back, back_for};
+pub use bulk::bulk_source;
 pub use compiling::{CompileFault, compile};
 pub use compiling_on::{WithFault, compile_with, on_platform};
 pub use source::{FrontFault, front};

@@ -141,9 +141,9 @@ none_before m phase at idle order = by_result (earliest_of m.calendar) refl
     by_result (Some n) e =
         λ k x is.
         (let first = subst (IsEarliest m.calendar) (sym e) (earliest_is m.calendar) in
-         let low = order n (next_is m (Some n) idle e) in
-         let late = first.1 x.at (phase, k, x, is, refl) in
-         omega (arith, low, late))
+        let low = order n (next_is m (Some n) idle e) in
+        let late = first.1 x.at (phase, k, x, is, refl) in
+        omega (arith, low, late))
 
 -- an instant that is no later than what is next
 pub up_to_next : (m : Standing) (o : Option ℕ) (at : ℕ) → IsNext m o → IfSome o (λ n. at ≤ n) → IsUpToNext at m

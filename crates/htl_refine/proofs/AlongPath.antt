@@ -242,7 +242,7 @@ module _ (t : Tables) (path : ℕ) (sels : List (List (Option ℕ))) (few : leng
 
 -- ---- the legs that the selections reach know no further positions
 
-known_append : (a : ℕ) (xs ys : List Place) → known_by a (xs ++ ys) ≡ known_by a xs + known_by a ys
+pub known_append : (a : ℕ) (xs ys : List Place) → known_by a (xs ++ ys) ≡ known_by a xs + known_by a ys
 known_append a [] ys = omega arith
 known_append a (x ∷ xs) ys = omega (arith, known_append a xs ys)
 
@@ -254,7 +254,7 @@ known_few a (x ∷ xs) = omega (arith, one (leb x.at a), known_few a xs)
     one true = omega arith
     one false = omega arith
 
-known_none : (a : ℕ) (xs : List Place) → ((p : ℕ) (x : Place) → slice_get xs p ≡ Some x → a < x.at) → known_by a xs ≡ 0
+pub known_none : (a : ℕ) (xs : List Place) → ((p : ℕ) (x : Place) → slice_get xs p ≡ Some x → a < x.at) → known_by a xs ≡ 0
 known_none a [] h = refl
 known_none a (x ∷ xs) h = omega (arith, ap of_bool (lt-leb x.at a (h 0 x refl)), known_none a xs (λ p y e. h (suc p) y e))
 
@@ -265,7 +265,7 @@ placed_start t path (r ∷ rs) p x e = elim (of_joined (places_of r.at (invs_of 
   | inr f ↦ let g = placed_start t path rs f.0 x f.1 in (suc g.0, g.1, g.2, g.3)
 ]
 
-legs_within : (h n k : ℕ) (xs : List Place) (as' : List ℕ) → ((j a : ℕ) → j < k → slice_get as' j ≡ Some a → known_by a xs ≤ n) → AreWithin n (take k (legs_of h xs as'))
+pub legs_within : (h n k : ℕ) (xs : List Place) (as' : List ℕ) → ((j a : ℕ) → j < k → slice_get as' j ≡ Some a → known_by a xs ≤ n) → AreWithin n (take k (legs_of h xs as'))
 legs_within h n zero xs as' l = tt
 legs_within h n (suc k) xs [] l = tt
 legs_within h n (suc k) xs (a ∷ as') l = (l 0 a (omega arith) refl, legs_within h n k xs as' (λ j b less e. l (suc j) b (omega (arith, less)) e))

@@ -29,7 +29,7 @@ use Rattle.htl_refine.proofs.Inherit.{mapped, map_at, present_worst, inheritance
 use Rattle.htl_refine.proofs.RootSelection.{below_count, is_of_selection}
 use Rattle.htl_refine.proofs.StateLaws.{states_are_selections}
 
-took_within : (t : Tables) (i u r x : ℕ) (es : List Event) → AreTookWithin t es → 1 ≤ x → x ≤ inv_worst t i → (1 ≤ last_took i u r x es) × (last_took i u r x es ≤ inv_worst t i)
+pub took_within : (t : Tables) (i u r x : ℕ) (es : List Event) → AreTookWithin t es → 1 ≤ x → x ≤ inv_worst t i → (1 ≤ last_took i u r x es) × (last_took i u r x es ≤ inv_worst t i)
 took_within t i u r x [] h a b = (a, b)
 took_within t i u r x (V.At n ∷ es) h a b = took_within t i u n x es h.1 a b
 took_within t i u r x (V.Sense d y ∷ es) h a b = took_within t i u r x es h.1 a b
@@ -43,7 +43,7 @@ took_within t i u r x (V.Took j n ∷ es) h a b = by (eqb i j) (leb r u) refl (�
     by false q e later = later x a b
 
 -- an invocation takes at least one tick in its worst case
-worst_some : (t : Tables) (k : ℕ) (i : Inv) → AreInRange t → slice_get t.invs k ≡ Some i → (1 ≤ inv_worst t k) × (inv_worst t k ≡ task_worst t i.task)
+pub worst_some : (t : Tables) (k : ℕ) (i : Inv) → AreInRange t → slice_get t.invs k ≡ Some i → (1 ≤ inv_worst t k) × (inv_worst t k ≡ task_worst t i.task)
 worst_some t k i range at =
     let inv = (all_at (IsInvInRange t) t.invs k i range.invs at).task in
     let worst = (all_at (IsTaskInRange t) t.tasks i.task inv.0 range.tasks inv.1).worst in

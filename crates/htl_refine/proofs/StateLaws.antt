@@ -19,21 +19,21 @@ use Rattle.htl_form.proofs.TestLaws.{both, same_number, not_both}
 use Rattle.htl_refine.specs.Records.{modes_at}
 use Rattle.htl_refine.proofs.SelectedLaws.{active_is}
 
-length-stays : (t : Tables) (v : List ℤ) (now : ℕ) (old : List (Option Stay)) (k : ℕ) → length (stays_to t v now old k) ≡ k
+pub length-stays : (t : Tables) (v : List ℤ) (now : ℕ) (old : List (Option Stay)) (k : ℕ) → length (stays_to t v now old k) ≡ k
 length-stays t v now old zero = refl
 length-stays t v now old (suc k) = length-append (stays_to t v now old k) (next_stay_at t v now (stays_to t v now old k) k (stay_of old k) ∷ []) ∙ omega (arith, length-stays t v now old k)
 
 abbrev pub mode_in : Option Stay → Option ℕ
 mode_in o = option_map (λ (y : Stay). y.mode) o
 
-entry_is : (stays : List (Option Stay)) (u : ℕ) → entry (map (λ (o : Option Stay). mode_in o) stays) u ≡ mode_in (stay_of stays u)
+pub entry_is : (stays : List (Option Stay)) (u : ℕ) → entry (map (λ (o : Option Stay). mode_in o) stays) u ≡ mode_in (stay_of stays u)
 entry_is [] u = refl
 entry_is (x ∷ xs) zero = refl
 entry_is (x ∷ xs) (suc u) = entry_is xs u
 
 module _ (t : Tables) (range : AreInRange t) where
   -- the mode of a stay is one of the module
-  abbrev IsOwn : ℕ → Option Stay → Type 0
+  abbrev pub IsOwn : ℕ → Option Stay → Type 0
   IsOwn u (Some y) = IsModeOf t u y.mode
   IsOwn u None = Unit {0}
 
@@ -136,7 +136,7 @@ module _ (t : Tables) (range : AreInRange t) where
     }
 
   -- at each instant
-  state_own : (es : List Event) (now u : ℕ) → u < length t.modules → IsOwn u (place t es u now)
+  pub state_own : (es : List Event) (now u : ℕ) → u < length t.modules → IsOwn u (place t es u now)
   unfolding stays
   state_own es zero u within = let x = item_at t.modules u within in (stay_right (state t es 0).values 0 [] (λ w h. tt) u x.0 x.1).0
   state_own es (suc n) u within =

@@ -2,17 +2,14 @@
 use Rattle.std.specs.Prelude.{ℕ, min, ◌+◌, ◌-◌, ◌*◌, ◌^◌, ◌≡◌, List, [], ◌∷◌, ◌++◌, Option, Some, None, Ok, Err, IfSome, ◌≤◌, length}
 use Rattle.std.specs.declared.result.Result.{Result}
 use Rattle.std.specs.Io.KnownBytes.{prepend_known}
-use Rattle.htl_edge.specs.Causes.{Rose}
 use Rattle.htl_model.specs.declared.event.Event.{Event}
 use Rattle.htl_model.specs.Tables.{Tables}
 use Rattle.htl_script.specs.declared.fault.ScriptKind.{ScriptKind}
 use Rattle.htl_script.specs.declared.fault.ScriptKind.TheVariants as kind
-use Rattle.htl_script.specs.declared.fault.WholeStop.{WholeStop}
-use Rattle.htl_script.specs.declared.fault.WholeStop.TheVariants as stop
 use Rattle.htl_script.specs.Lines.{ScriptLine, size_of}
 use Rattle.htl_script.specs.Judging.{past_after, judged}
 use Rattle.htl_script.specs.declared.judge.Past.{Past}
-use Rattle.htl_script.specs.Script.{Script, Whole, Bad, events_of, listed}
+use Rattle.htl_script.specs.Script.{Script, Whole, Bad, listed}
 
 -- a number and one more digit, where the number stands still at the end of 64 bits
 abbrev pub with_digit_capped : ℕ → ℕ → ℕ
@@ -45,22 +42,6 @@ abbrev pub answered : ℕ → Result (Option Event) ScriptKind → Script → Sc
 answered line (Ok e) later = behind (listed e) later
 answered line (Err k) later = Bad line k []
 
--- a list begins with another
-abbrev pub HasFront : List Event → List Event → Type 0
-HasFront all front = (back : List Event) × (all ≡ front ++ back)
-
--- a list grew by others
-abbrev pub Grows : List Event → List Event → (List Event → Type 0) → Type 0
-Grows old new fits = (gained : List Event) × (new ≡ old ++ gained) × fits gained
-
--- The events of a whole script, or those before its first fault; a front of them where the source failed or no
--- memory was left.
-abbrev pub IsScriptAnswer : {T : Type 0} → Script → Result T WholeStop → List Event → Type 0
-IsScriptAnswer script (Ok done) gained = (end : ℕ) × (script ≡ Whole gained end)
-IsScriptAnswer script (Err (stop.Script fault)) gained = script ≡ Bad fault.line fault.kind gained
-IsScriptAnswer script (Err stop.Read) gained = HasFront (events_of script) gained
-IsScriptAnswer script (Err stop.Memory) gained = HasFront (events_of script) gained
-
 -- There is a script, namely the one that is known where it is, of which something holds.
 abbrev pub OfScript : Option (List ℕ) → (List ℕ → Type 0) → Type 0
 OfScript known fits = (script : List ℕ) × IfSome known (λ bytes. bytes ≡ script) × fits script
@@ -68,9 +49,3 @@ OfScript known fits = (script : List ℕ) × IfSome known (λ bytes. bytes ≡ s
 -- A source lost a front of what was left, of at most so many bytes, and whether that is told doesn't change.
 abbrev pub LosesFront : ℕ → Option (List ℕ) → Option (List ℕ) → Type 0
 LosesFront most old new = (front : List ℕ) × (length front ≤ most) × (prepend_known front new ≡ old)
-
--- A count of faults doesn't fall. It rose where the reader stopped at a fault of its source, and else stands where it stood.
-pub record HasReadCause {T : Type 0} (before now : ℕ) (result : Result T WholeStop) : Type 0 where
-  pub later : before ≤ now
-  pub kept : (result ≡ Err stop.Read → ⊥) → now ≡ before
-  pub read : result ≡ Err stop.Read → Rose before now

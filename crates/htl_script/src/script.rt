@@ -4,7 +4,7 @@ ghost use Rattle.htl_base.specs.declared.limits.TheConstants as limit;
 ghost use Rattle.htl_edge.specs.Causes.{Rose};
 ghost use Rattle.htl_script.specs.declared.fault.ScriptStop.TheVariants as stop;
 ghost use Rattle.htl_script.specs.Orders.{IsIndex};
-ghost use Rattle.htl_script.specs.Streaming.{Told, IsAnswer, Goes, at_start};
+ghost use Rattle.htl_script.specs.Streaming.{Gives, IsAnswer, Goes, LosesPiece, at_start};
 
 use crate::ScriptStop;
 use crate::index::Index;
@@ -38,14 +38,16 @@ impl Script {
 
     /// The next event; None exactly where the input has ended after an `end` line. `Script` comes exactly at the script's first
     /// fault, `Read` only where the source counted a fault. Each call is handed the tables of the first, and its source with what
-    /// the call before left. After a stop or None it isn't used again. At most 1,073,741,825 events are given.
+    /// the call before left. After a stop or None it isn't used again. At most 1,073,741,825 events are given, and all
+    /// calls together take at most 1,073,742,080 bytes: those of the longest script, and one piece of 256.
     ///
     /// The first call puts the names of the tables in order; then a line costs its own bytes.
     pub fn next<R: Source>(&mut self, src: &mut R, t: &Tables) -> Result<Option<Event>, ScriptStop>
         requires same { self.old.ready ≡ true → IsIndex t.now self.old.index }
         ensures ready { self.new.ready ≡ true }
         ensures index { IsIndex t.now self.new.index }
-        ensures answer { Told (R.rest src.old) (R.rest src.new) (IsAnswer t.now self.old.stream self.new.stream result) }
+        ensures answer { Gives self.old.stream.ahead.over self.new.stream.ahead.over (R.rest src.old) (R.rest src.new) (IsAnswer t.now self.old.stream self.new.stream result) }
+        ensures taken { LosesPiece self.old.stream self.new.stream (R.rest src.old) (R.rest src.new) result }
         ensures event { Goes t.now self.old.stream.here.past self.new.stream.here.past result }
         ensures lines { IfOk result (λ o. IfSome o (λ e. self.old.stream.here.number < self.new.stream.here.number)) }
         ensures few { IfOk result (λ o. self.new.stream.here.number ≤ limit.MAX_SCRIPT + 1) }

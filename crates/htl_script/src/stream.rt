@@ -3,7 +3,7 @@ ghost use Rattle.std.specs.Prelude.{◌≡◌, ◌≤◌, ◌<◌, ◌+◌, [], 
 ghost use Rattle.htl_base.specs.declared.limits.TheConstants as limit;
 ghost use Rattle.htl_edge.specs.Causes.{Rose};
 ghost use Rattle.htl_script.specs.declared.fault.ScriptStop.TheVariants as stop;
-ghost use Rattle.htl_script.specs.Streaming.{Told, IsAnswer, IsEnd, Goes, at_start};
+ghost use Rattle.htl_script.specs.Streaming.{Gives, IsAnswer, IsEnd, Goes, LosesPiece, at_start, taken_of};
 
 use crate::chunk::Chunk;
 use crate::lookup::Names;
@@ -25,7 +25,7 @@ impl Model for Stream {
 
     ghost Value = { Ahead };
 
-    ghost view = { λ s. record { here = s.reader; bytes = s.chunk } };
+    ghost view = { λ s. record { here = s.reader; ahead = s.chunk } };
 }
 
 impl Stream {
@@ -45,7 +45,8 @@ impl Stream {
         src: &mut R,
         names: &Names<'_>,
     ) -> Result<Option<Event>, ScriptStop>
-        ensures answer { Told (R.rest src.old) (R.rest src.new) (IsAnswer names.now self.old self.new result) }
+        ensures answer { Gives self.old.ahead.over self.new.ahead.over (R.rest src.old) (R.rest src.new) (IsAnswer names.now self.old self.new result) }
+        ensures taken { LosesPiece self.old self.new (R.rest src.old) (R.rest src.new) result }
         ensures event { Goes names.now self.old.here.past self.new.here.past result }
         ensures lines { IfOk result (λ o. IfSome o (λ e. self.old.here.number < self.new.here.number)) }
         ensures few { IfOk result (λ o. self.new.here.number ≤ limit.MAX_SCRIPT + 1) }
@@ -69,12 +70,13 @@ impl Stream {
 
     // The event of a last line without a line feed; None behind it, where an `end` line was read.
     fn end(&mut self, names: &Names<'_>) -> Result<Option<Event>, ScriptStop>
-        requires { self.old.bytes ≡ [] }
+        requires { self.old.ahead.bytes ≡ [] }
         ensures answer { IsEnd names.now self.old self.new result }
         ensures event { Goes names.now self.old.here.past self.new.here.past result }
         ensures lines { IfOk result (λ o. IfSome o (λ e. self.old.here.number < self.new.here.number)) }
         ensures few { IfOk result (λ o. self.new.here.number ≤ limit.MAX_SCRIPT + 1) }
-        ensures bytes { self.new.bytes ≡ [] }
+        ensures bytes { self.new.ahead ≡ self.old.ahead }
+        ensures taken { IfOk result (λ o. taken_of self.new ≡ taken_of self.old) }
         ensures read { result ≡ Err stop.Read → ⊥ }
     {
         match self.reader.take_end(names) {

@@ -13,7 +13,7 @@ ghost use Rattle.htl_script.specs.Samples.{
   sample_of,
 };
 
-use crate::{ScriptFault, ScriptKind, WholeStop, read_script};
+use crate::{Script, ScriptFault, ScriptKind, ScriptStop};
 use htl_base::{Memory, Name, Seq, Ty};
 use htl_edge::Tape;
 use htl_model::{Comm, Event, Inv, Mode, Module, Parts, Tables, Task};
@@ -151,14 +151,24 @@ fn tables_of(
 fn read(
     alloc: Global,
     t: &Tables,
-    script: &[u8],
+    bytes: &[u8],
     step: usize,
     fails: &[u64],
-) -> Result<(Vec<Event>, Result<(), WholeStop>), Memory> {
-    let mut tape = Tape::new(alloc, script, step.max(1), fails)?;
+) -> Result<(Vec<Event>, Result<(), ScriptStop>), Memory> {
+    let mut tape = Tape::new(alloc, bytes, step.max(1), fails)?;
+    let mut script = Script::new();
     let mut events = Vec::new(alloc);
-    let answer = read_script(alloc, &mut tape, t, &mut events);
-    Ok((events, answer))
+    'events: loop {
+        match script.next(&mut tape, t) {
+            Ok(Some(event)) => {
+                if events.push(event).is_err() {
+                    return Err(Memory);
+                }
+            }
+            Ok(None) => return Ok((events, Ok(()))),
+            Err(stop) => return Ok((events, Err(stop))),
+        }
+    }
 }
 
 const REFUSED: [(&[u8], u64, ScriptKind); 10] = [
@@ -185,7 +195,7 @@ fn the_first_fault_is_named(rt: HostRuntime) -> Result<(), Fail> {
     for (script, line, kind) in REFUSED {
         for step in [1usize, 7, 4096] {
             let (_, answer) = read(alloc, &t, script, step, &[])?;
-            assert_eq!(rt; answer, Err(WholeStop::Script(ScriptFault { line, kind })));
+            assert_eq!(rt; answer, Err(ScriptStop::Script(ScriptFault { line, kind })));
         }
     }
     Ok(())
@@ -203,7 +213,7 @@ fn long_lines_are_refused(rt: HostRuntime) -> Result<(), Fail> {
             line: 1,
             kind: ScriptKind::Long,
         };
-        assert_eq!(rt; answer, Err(WholeStop::Script(fault)));
+        assert_eq!(rt; answer, Err(ScriptStop::Script(fault)));
         let (events, answer) = read(alloc, &t, &script[1..], step, &[])?;
         assert_eq!(rt; answer, Ok(()));
         assert_eq!(rt; events.as_slice(), [Event::End(5)].as_slice());
@@ -250,7 +260,7 @@ fn a_fault_of_the_source_is_told(rt: HostRuntime) -> Result<(), Fail> {
     // The script comes in 16 pieces of 7 bytes, and one more call meets its end.
     for call in 1..18u64 {
         let (events, answer) = read(alloc, &t, WHOLE, 7, &[call])?;
-        assert_eq!(rt; answer, Err(WholeStop::Read));
+        assert_eq!(rt; answer, Err(ScriptStop::Read));
         assert_eq!(rt; events.as_slice(), &EVENTS[..events.len().min(7)]);
     }
     let (_, answer) = read(alloc, &t, WHOLE, 7, &[18])?;

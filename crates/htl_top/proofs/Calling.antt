@@ -50,7 +50,7 @@ use Rattle.htl_top.specs.SelectionInput.{Whole, Bad, input_of}
 use Rattle.htl_top.specs.Shown.{show_text, IsShown}
 use Rattle.htl_top.specs.Sources.{IsProgram, IsInputProgram, answer_of}
 use Rattle.htl_top.specs.SourcesOn.{IsProgramOn, answer_on}
-use Rattle.htl_top.specs.Words.{Command, Go, Compile, CompileWith, Run, Check, Plan, Show, source_of, platform_file, object_of}
+use Rattle.htl_top.specs.Words.{Command, Go, Compile, CompileWith, Run, Check, Plan, Show, RunsObject, source_of, platform_file, object_of}
 use Rattle.htl_top.specs.declared.outcome.Outcome.{Outcome}
 use Rattle.htl_top.specs.declared.outcome.Outcome.TheVariants.{Done, Usage, Source, Platform, Object as Refused, Script, Shelf, Read, Write, Memory}
 use Rattle.htl_top.specs.declared.outcome.ShelfCause.{ShelfCause}
@@ -231,6 +231,17 @@ module _ (shelf : Files) (old new : Streams) where
   unwritten (Some (Plan name)) outcome call early = objects.unwritten IsPlanned planning (Some name) shelf old new outcome call early
   unwritten (Some (Show name)) outcome call early = objects.unwritten IsShown showing (Some name) shelf old new outcome call early
 
+  -- want of memory comes before the first byte of a script is read
+  pub memory_unread : (command : Option Command) → IsCall command shelf old new Memory → RunsObject command → new.rest ≡ old.rest
+  memory_unread None call runs = absurd runs
+  memory_unread (Some (Go name)) call runs = going.memory_unread (Some name) shelf old new call
+  memory_unread (Some Compile) call runs = absurd runs
+  memory_unread (Some (CompileWith file)) call runs = absurd runs
+  memory_unread (Some (Run show name)) call runs = elim call [ inl a ↦ a.fact.rest | inr s ↦ s.1.rest ]
+  memory_unread (Some (Check name)) call runs = absurd runs
+  memory_unread (Some (Plan name)) call runs = absurd runs
+  memory_unread (Some (Show name)) call runs = absurd runs
+
   -- ---- of a source that is named
 
   pub of_source : (command : Option Command) (word : List ℕ) (outcome : Outcome) → source_of command ≡ Some word → IsCall command shelf old new outcome
@@ -274,11 +285,11 @@ module _ (shelf : Files) (old new : Streams) where
   script command outcome call name is f same = went command outcome (Script f) call name is same tt (script_memory f)
 
   pub read : (command : Option Command) (outcome : Outcome) → IsCall command shelf old new outcome → (name : List ℕ) → command ≡ Some (Go name) → outcome ≡ Read
-      → Rose old.read_faults new.read_faults × IsProgram (Some name) shelf.holds (λ t. new.written ≡ old.written)
+      → Rose old.read_faults new.read_faults × IsProgram (Some name) shelf.holds (λ t. IsCutRun Jobs t (built t) old.rest old.written new.written)
   read command outcome call name is same =
       let p = went command outcome Read call name is same tt read_memory in (
         p.has.fact.0,
-        going.IsProgram-map (Some name) shelf.holds (λ t. IsRun Jobs t (built t) old new Read) (λ t. new.written ≡ old.written) (λ t r. r.1) p,
+        going.IsProgram-map (Some name) shelf.holds (λ t. IsRun Jobs t (built t) old new Read) (λ t. IsCutRun Jobs t (built t) old.rest old.written new.written) (λ t r. r.1) p,
       )
 
   pub write : (command : Option Command) (outcome : Outcome) → IsCall command shelf old new outcome → (name : List ℕ) → command ≡ Some (Go name) → outcome ≡ Write
@@ -453,8 +464,12 @@ module _ (shelf : Files) (old new : Streams) where
   run_fault command outcome call show name is f same = ran_as command outcome (Script f) call show name is same tt (script_memory f)
 
   pub run_read : (command : Option Command) (outcome : Outcome) → IsCall command shelf old new outcome → (show : Shown) (name : List ℕ) → command ≡ Some (Run show name) → outcome ≡ Read
-      → Rose old.read_faults new.read_faults × (new.written ≡ old.written)
-  run_read command outcome call show name is same = let a = ran_as command outcome Read call show name is same tt read_memory in a.fact
+      → Rose old.read_faults new.read_faults × IsAcceptedFile (Some name) shelf.holds (λ o. IsCutRun show o.tables o old.rest old.written new.written)
+  run_read command outcome call show name is same =
+      let a = ran_as command outcome Read call show name is same tt read_memory in (
+        a.fact.0,
+        objects.IsAcceptedFile-map (Some name) shelf.holds (λ o. IsRun show o.tables o old new Read) (λ o. IsCutRun show o.tables o old.rest old.written new.written) (λ o r. r.1) a,
+      )
 
   pub run_cut : (command : Option Command) (outcome : Outcome) → IsCall command shelf old new outcome → (show : Shown) (name : List ℕ) → command ≡ Some (Run show name) → outcome ≡ Write
       → Rose old.write_faults new.write_faults × IsAcceptedFile (Some name) shelf.holds (λ o. IsCutRun show o.tables o old.rest old.written new.written)

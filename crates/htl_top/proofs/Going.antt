@@ -148,6 +148,10 @@ module _ (name : Option (List ℕ)) (shelf : Files) (old new : Streams) where
     | inr s ↦ s.1.written
   ]
 
+  -- for want of memory nothing was read
+  pub memory_unread : IsGoing name shelf old new Memory → new.rest ≡ old.rest
+  memory_unread going = elim going [ inl p ↦ p.has.fact.rest | inr s ↦ s.1.rest ]
+
   -- what was run
   pub ran : (outcome : Outcome) → IsGoing name shelf old new outcome → IsOfWork outcome → (outcome ≡ Memory → ⊥)
       → IsProgram name shelf.holds (λ t. IsRun Jobs t (built t) old new outcome)

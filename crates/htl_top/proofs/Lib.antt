@@ -18,12 +18,11 @@ pub mod Playing
 pub mod PositionCounts
 pub mod Putting
 pub mod Running
-pub mod Scripts
 pub mod SelectionEntries
 pub mod SelectionFields
 pub mod SelectionLines
 pub mod SelectionReading
 pub mod SourceNames
 pub mod Stopping
-pub mod Telling
+pub mod Streaming
 pub mod Totals

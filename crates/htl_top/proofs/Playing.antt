@@ -21,7 +21,7 @@ use Rattle.htl_refine.specs.Records.{AreTookWithin}
 use Rattle.htl_script.specs.Events.{AreEvents}
 use Rattle.htl_script.specs.Judging.{past_after, past_after_all, past_of}
 use Rattle.htl_script.specs.declared.judge.Past.{Past}
-use Rattle.htl_top.specs.Playing.{AreOpen, HaveNoEnd, IsCutOff, IsNext, text_more}
+use Rattle.htl_top.specs.Playing.{HaveNoEnd, IsNext, text_more}
 use Rattle.htl_top.specs.Texts.{text_to, text_before_fault}
 
 -- ---- what comes next
@@ -55,8 +55,8 @@ next_behind t last reading (event.Sense c x ∷ es) e later is are endless = nex
 next_behind t last reading (event.Took i n ∷ es) e later is are endless = next_behind t last reading es e later is are.2 endless
 next_behind t last reading (event.End to ∷ es) e later is are endless = absurd endless
 
-pub next : (t : Tables) (es : List Event) (e : Event) (later : List Event) → AreOpen t (es ++ e ∷ later) → IsNext t (reading_of 0 es) e
-next t es e later go = next_behind t None 0 es e later refl go.are go.endless
+pub next : (t : Tables) (es : List Event) (e : Event) (later : List Event) → AreEvents t None (es ++ e ∷ later) → HaveNoEnd (es ++ e ∷ later) → IsNext t (reading_of 0 es) e
+next t es e later are endless = next_behind t None 0 es e later refl are endless
 
 -- ---- lengths are within the worst cases
 
@@ -69,10 +69,6 @@ took_behind t last (event.End to ∷ es) are = (tt, subst (AreTookWithin t) (sym
 
 pub took_within : (t : Tables) (es : List Event) → AreEvents t None es → AreTookWithin t es
 took_within t es are = took_behind t None es are
-
-pub front_within : (t : Tables) (es later : List Event) → AreTookWithin t (es ++ later) → AreTookWithin t es
-front_within t [] later h = tt
-front_within t (e ∷ es) later h = (h.0, front_within t es later h.1)
 
 -- ---- what is written
 
@@ -92,17 +88,17 @@ module _ (o : Object) (show : Shown) (accepted : IsAccepted o) where
   stays : (es later : List Event) (now : ℕ) → AreTookWithin o.tables (es ++ later) → AreReadFrom now (reading_of 0 es) later → before_of o (es ++ later) show now ≡ before_of o es show now
   stays es later now within from = later_leave o.tables o.ecode (schedules_of o) show now (accepted_is_loaded o accepted) es later within from
 
-  pub text_next : (es : List Event) (e : Event) → AreTookWithin o.tables (es ++ e ∷ []) → IsNext o.tables (reading_of 0 es) e
+  pub text_next : (es : List Event) (e : Event) → AreTookWithin o.tables (es ++ e ∷ []) → HaveNoEnd (e ∷ []) → IsNext o.tables (reading_of 0 es) e
       → before_of o (es ++ e ∷ []) show (reading_of 0 (es ++ e ∷ [])) ≡ before_of o es show (reading_of 0 es) ++ text_more o show es e
-  text_next es (event.At to) within is =
+  text_next es (event.At to) within none is =
       ap (before_of o (es ++ event.At to ∷ []) show) (reading_more 0 es (event.At to)) ∙ stays es (event.At to ∷ []) to within tt ∙ on es (reading_of 0 es) to is.0
-  text_next es (event.Sense c x) within is =
+  text_next es (event.Sense c x) within none is =
       ap (before_of o (es ++ event.Sense c x ∷ []) show) (reading_more 0 es (event.Sense c x)) ∙ stays es (event.Sense c x ∷ []) (reading_of 0 es) within (omega arith, tt)
       ∙ sym (append-nil (before_of o es show (reading_of 0 es)))
-  text_next es (event.Took i n) within is =
+  text_next es (event.Took i n) within none is =
       ap (before_of o (es ++ event.Took i n ∷ []) show) (reading_more 0 es (event.Took i n)) ∙ stays es (event.Took i n ∷ []) (reading_of 0 es) within (omega arith, tt)
       ∙ sym (append-nil (before_of o es show (reading_of 0 es)))
-  text_next es (event.End to) within is = absurd is
+  text_next es (event.End to) within none is = absurd none
 
   -- up to and including the end
   pub text_end : (es : List Event) (end : ℕ) → AreTookWithin o.tables (es ++ event.End end ∷ []) → reading_of 0 es ≤ end
@@ -124,15 +120,7 @@ last_same (x ∷ es) (y ∷ fs) d e is =
     let heads : x ≡ y = cc in
     let rest = last_same es fs d e (cc) in (ap (λ (z : Event). z ∷ es) heads ∙ ap (λ (gs : List Event). y ∷ gs) rest.0, rest.1)
 
--- events whose last is no end have none
-endless : (t : Tables) (last : Option ℕ) (es : List Event) → AreEvents t last es → ((fs : List Event) (end : ℕ) → es ≡ fs ++ event.End end ∷ [] → ⊥) → HaveNoEnd es
-endless t last [] are none = tt
-endless t last (event.At to ∷ es) are none = endless t (Some to) es are.2 (λ fs end is. none (event.At to ∷ fs) end (ap (λ (gs : List Event). event.At to ∷ gs) is))
-endless t last (event.Sense c x ∷ es) are none = endless t last es are.2 (λ fs end is. none (event.Sense c x ∷ fs) end (ap (λ (gs : List Event). event.Sense c x ∷ gs) is))
-endless t last (event.Took i n ∷ es) are none = endless t last es are.2 (λ fs end is. none (event.Took i n ∷ fs) end (ap (λ (gs : List Event). event.Took i n ∷ gs) is))
-endless t last (event.End to ∷ es) are none = absurd (none [] to (ap (λ (gs : List Event). event.End to ∷ gs) are.2))
-
--- and none stands before an end, which isn't below the last reading and is an instant of a run
+-- events before an end have none; it isn't below the last reading and is an instant of a run
 record IsFront (t : Tables) (last : Option ℕ) (reading : ℕ) (es : List Event) (end : ℕ) : Type 0 where
   are : AreEvents t last es
   none : HaveNoEnd es
@@ -153,19 +141,13 @@ front t last reading (event.Took i n ∷ es) end is are =
     let h = front t last reading es end is are.2 in record { are = (are.0, are.1, h.are); none = h.none; order = h.order; in_time = h.in_time }
 front t last reading (event.End to ∷ es) end is are = absurd (no_items es (event.End end) are.2)
 
-pub open_front : (t : Tables) (events es : List Event) (end : Option ℕ) → AreEvents t None events → IsCutOff events es end → AreOpen t es
-open_front t events es (Some end) are cut =
-    let h = front t None 0 es end refl (subst (λ (xs : List Event). AreEvents t None xs) cut are) in record { are = h.are; endless = h.none }
-open_front t events es None are cut =
-    subst (AreOpen t) cut.0 (record { are = are; endless = endless t None events are cut.1 })
-
 pub end_after : (t : Tables) (events es : List Event) (end : ℕ) → AreEvents t None events → events ≡ es ++ event.End end ∷ [] → (reading_of 0 es ≤ end) × (end ≤ 1000000000)
 end_after t events es end are cut =
     let h = front t None 0 es end refl (subst (λ (xs : List Event). AreEvents t None xs) cut are) in (h.order, h.in_time)
 
 -- ---- what events leave
 
-past_more : (p : Past) (es : List Event) (e : Event) → past_after_all p (es ++ e ∷ []) ≡ past_after (past_after_all p es) e
+pub past_more : (p : Past) (es : List Event) (e : Event) → past_after_all p (es ++ e ∷ []) ≡ past_after (past_after_all p es) e
 past_more p [] e = refl
 past_more p (x ∷ es) e = past_more (past_after p x) es e
 

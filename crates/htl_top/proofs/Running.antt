@@ -4,8 +4,6 @@ use Rattle.std.specs.Prelude.{IfSome}
 use Rattle.htl_compile.specs.Coded.{coded, codes}
 use Rattle.htl_console.specs.declared.shown.Shown.{Shown}
 use Rattle.htl_edge.specs.Causes.{Rose}
-use Rattle.htl_edge.specs.Content.{none_left}
-use Rattle.htl_machine.specs.Programs.{text_of}
 use Rattle.htl_model.specs.Tables.{Tables}
 use Rattle.htl_model.specs.declared.event.Event.{Event}
 use Rattle.htl_object.specs.declared.object.Object.{Object}
@@ -15,68 +13,31 @@ use Rattle.htl_script.specs.Script.{Script, Whole, Bad, script_of}
 use Rattle.htl_script.specs.declared.fault.ScriptFault.{ScriptFault}
 use Rattle.htl_script.specs.declared.fault.ScriptKind.{ScriptKind}
 use Rattle.htl_top.proofs.ObjectAnswering.{IsOfWork, IsWork}
-use Rattle.htl_top.specs.Answers.{Streams, IsWritten, IsBeforeRun}
+use Rattle.htl_top.specs.Answers.{Streams, IsBeforeRun}
 use Rattle.htl_top.specs.Causes.{IsOrMemory}
-use Rattle.htl_top.specs.Runs.{IsRun}
-use Rattle.htl_top.specs.Scripts.{IsWhole, IsBad, EndsAt, IsTold}
-use Rattle.htl_top.specs.Texts.{text_before_fault}
+use Rattle.htl_top.specs.Runs.{IsRun, IsCutRun}
+use Rattle.htl_top.specs.Scripts.{IsWhole, IsBad}
 use Rattle.htl_top.specs.declared.outcome.Outcome.{Outcome}
 use Rattle.htl_top.specs.declared.outcome.Outcome.TheVariants.{Done, Usage, Source, IllFormed, Unschedulable, Platform, Object as Refused, Script as Faulty, Shelf, Read, Write, Memory}
 
--- ---- from the parts to the whole
+-- ---- the machine and its object
 
--- a whole script was run
-pub IsRun-whole : (show : Shown) (t : Tables) (o : Object) (old new : Streams) (events shown : List Event) (outcome : Outcome) → shown ≡ events → IsTold t old.rest events
-    → new.rest ≡ none_left old.rest
-    → ((end : ℕ) → EndsAt shown end → IsWritten (text_of o shown show end) Done old.written new.written old.write_faults new.write_faults outcome)
-    → IsRun show t o old new outcome
-IsRun-whole show t o old new events shown outcome same told left written =
-    let Written : List Event → Type 0 = λ es.
-    (end : ℕ) → EndsAt es end → IsWritten (text_of o es show end) Done old.written new.written old.write_faults new.write_faults outcome in
-    elim (subst Written same written told.end told.ends) [
-      | inl w ↦
-          subst (λ (answer : Outcome). IsRun show t o old new answer) (sym w.0)
-          (record { events = events; end = told.end; script = told.script; read = left; written = w.1 })
-      | inr w ↦
-          subst (λ (answer : Outcome). IsRun show t o old new answer) (sym w.0)
-          (w.1, record { given = Whole events told.end; script = told.script; written = w.2 })
-    ]
-
--- the lines before a fault were written
-pub IsRun-faulty : (show : Shown) (t : Tables) (o : Object) (old new : Streams) (events shown : List Event) (fault : ScriptFault) (outcome : Outcome) → shown ≡ events
-    → OfScript old.rest (λ script. IsBad t script fault events)
-    → IsWritten (text_before_fault o show shown) (Faulty fault) old.written new.written old.write_faults new.write_faults outcome
-    → IsRun show t o old new outcome
-IsRun-faulty show t o old new events shown fault outcome same bad written =
-    let Written : List Event → Type 0 = λ es.
-    IsWritten (text_before_fault o show es) (Faulty fault) old.written new.written old.write_faults new.write_faults outcome in
-    elim (subst Written same written) [
-      | inl w ↦ subst (λ (answer : Outcome). IsRun show t o old new answer) (sym w.0) (record { events = events; script = bad; written = w.1 })
-      | inr w ↦
-          subst (λ (answer : Outcome). IsRun show t o old new answer) (sym w.0)
-          (w.1, record { given = Bad fault.line fault.kind events; script = bad; written = w.2 })
-    ]
-
--- the same of a machine that runs this object and shows this
-module _ (show s : Shown) (t : Tables) (o p : Object) (shows : s ≡ show) (runs : p ≡ o) (has : t ≡ o.tables) (old new : Streams) (events told : List Event) (outcome : Outcome) (same : told ≡ events) where
-  run_here : IsRun s t p old new outcome → IsRun show o.tables o old new outcome
-  run_here run =
-      subst (λ (x : Tables). IsRun show x o old new outcome) has (subst (λ (x : Object). IsRun show t x old new outcome) runs (subst (λ (x : Shown). IsRun x t p old new outcome) shows run))
-
-  pub run_told : IsTold t old.rest events → new.rest ≡ none_left old.rest
-      → ((end : ℕ) → EndsAt told end → IsWritten (text_of p told s end) Done old.written new.written old.write_faults new.write_faults outcome)
-      → IsRun show o.tables o old new outcome
-  run_told is left written = run_here (IsRun-whole s t p old new events told outcome same is left written)
-
-  pub run_faulty : (fault : ScriptFault) → OfScript old.rest (λ script. IsBad t script fault events)
-      → IsWritten (text_before_fault p s told) (Faulty fault) old.written new.written old.write_faults new.write_faults outcome
-      → IsRun show o.tables o old new outcome
-  run_faulty fault bad written = run_here (IsRun-faulty s t p old new events told fault outcome same bad written)
+-- a run of a machine that runs this object and shows this
+pub run_here : (show s : Shown) (o p : Object) (old new : Streams) (outcome : Outcome) → s ≡ show → p ≡ o → IsRun s p.tables p old new outcome → IsRun show o.tables o old new outcome
+run_here show s o p old new outcome shows runs run =
+    subst (λ (x : Object). IsRun show x.tables x old new outcome) runs (subst (λ (x : Shown). IsRun x p.tables p old new outcome) shows run)
 
 -- ---- tables and their functions
 
 told_alike : (rest : Option (List ℕ)) (P Q : List ℕ → Type 0) → ((script : List ℕ) → P script → Q script) → OfScript rest P → OfScript rest Q
 told_alike rest P Q f h = (h.0, h.1, f h.0 h.2)
+
+cut_source : (show : Shown) (t : Tables) (o : Object) (old new : Streams) → IsCutRun show (coded t) o old.rest old.written new.written → IsCutRun show t o old.rest old.written new.written
+cut_source show t o old new cut = record {
+  given = cut.given;
+  script = told_alike old.rest (λ s. script_of (coded t) s ≡ cut.given) (λ s. script_of t s ≡ cut.given) (λ s h. script_same t (codes t) s ∙ h) cut.script;
+  written = cut.written;
+}
 
 -- a script for tables with code is one for the tables
 pub IsRun-source : (show : Shown) (t : Tables) (o : Object) (old new : Streams) (outcome : Outcome) → IsRun show (coded t) o old new outcome → IsRun show t o old new outcome
@@ -92,15 +53,8 @@ IsRun-source show t o old new (Faulty fault) run = record {
   script = told_alike old.rest (λ s. IsBad (coded t) s fault run.events) (λ s. IsBad t s fault run.events) (λ s h. script_same t (codes t) s ∙ h) run.script;
   written = run.written;
 }
-IsRun-source show t o old new Read run = run
-IsRun-source show t o old new Write run = (
-  run.0,
-  record {
-    given = run.1.given;
-    script = told_alike old.rest (λ s. script_of (coded t) s ≡ run.1.given) (λ s. script_of t s ≡ run.1.given) (λ s h. script_same t (codes t) s ∙ h) run.1.script;
-    written = run.1.written;
-  },
-)
+IsRun-source show t o old new Read run = (run.0, cut_source show t o old new run.1)
+IsRun-source show t o old new Write run = (run.0, cut_source show t o old new run.1)
 IsRun-source show t o old new Memory run = run
 IsRun-source show t o old new Usage run = absurd run
 IsRun-source show t o old new (Platform f) run = absurd run
@@ -129,9 +83,9 @@ run_only show t o old new (Shelf cause) run = absurd run
 pub run_unwritten : (show : Shown) (t : Tables) (o : Object) (old new : Streams) (outcome : Outcome) → IsRun show t o old new outcome → IsBeforeRun outcome → new.written ≡ old.written
 run_unwritten show t o old new Done run early = absurd early
 run_unwritten show t o old new (Faulty f) run early = absurd early
-run_unwritten show t o old new Read run early = run.1
+run_unwritten show t o old new Read run early = absurd early
 run_unwritten show t o old new Write run early = absurd early
-run_unwritten show t o old new Memory run early = run
+run_unwritten show t o old new Memory run early = run.written
 run_unwritten show t o old new Usage run early = absurd run
 run_unwritten show t o old new (Platform f) run early = absurd run
 run_unwritten show t o old new (Source f) run early = absurd run

@@ -56,7 +56,7 @@ IsBeforeScript Read = ⊥
 IsBeforeScript Write = ⊥
 IsBeforeScript Memory = ⊥
 
--- answers after which nothing was written
+-- answers after which nothing was written, whatever the command
 abbrev pub IsBeforeRun : Outcome → Type 0
 IsBeforeRun Usage = Unit {0}
 IsBeforeRun (Platform f) = Unit {0}
@@ -65,10 +65,10 @@ IsBeforeRun (Source fault) = Unit {0}
 IsBeforeRun (IllFormed fault) = Unit {0}
 IsBeforeRun (Unschedulable sel a b demand) = Unit {0}
 IsBeforeRun (Object fault) = Unit {0}
-IsBeforeRun Read = Unit {0}
 IsBeforeRun Memory = Unit {0}
 IsBeforeRun Done = ⊥
 IsBeforeRun (Script fault) = ⊥
+IsBeforeRun Read = ⊥
 IsBeforeRun Write = ⊥
 
 -- ---- the counts of faults

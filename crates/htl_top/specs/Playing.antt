@@ -1,28 +1,41 @@
 -- The events of a script, as a machine is told them one by one.
-use Rattle.std.specs.Prelude.{ℕ, ◌≡◌, ◌≤◌, List, [], ◌∷◌, ◌++◌, Option, None, Some}
+use Rattle.std.specs.Prelude.{ℕ, suc, ◌≡◌, ◌≤◌, false, List, [], ◌∷◌, ◌++◌, Option, None, Some}
+use Rattle.std.specs.Io.KnownBytes.{append_known}
 use Rattle.htl_base.specs.declared.limits.TheConstants.{MAX_INSTANT}
 use Rattle.htl_console.specs.declared.shown.Shown.{Shown}
-use Rattle.htl_machine.specs.Calls.{IsSensorValue, IsLength, text_between}
+use Rattle.htl_machine.specs.Calls.{Seen, Follows, IsFinished, IsSensorValue, IsLength, IsSameRun, text_between}
 use Rattle.htl_machine.specs.Follows.{reading_of}
 use Rattle.htl_model.specs.Tables.{Tables}
 use Rattle.htl_model.specs.declared.event.Event.{Event}
 use Rattle.htl_model.specs.declared.event.Event.TheVariants as event
 use Rattle.htl_object.specs.declared.object.Object.{Object}
 use Rattle.htl_script.specs.Events.{AreEvents}
+use Rattle.htl_script.specs.Judging.{past_of}
+use Rattle.htl_script.specs.Reading.{behind}
+use Rattle.htl_script.specs.Script.{script_of}
+use Rattle.htl_script.specs.Streaming.{Ahead, Gives, still}
+use Rattle.htl_top.specs.Texts.{text_before_fault}
 
--- what a machine may be told next, whose last reading is this: no end
+-- what a machine may be told next, whose last reading is this
 abbrev pub IsNext : Tables → ℕ → Event → Type 0
 IsNext t reading (event.At to) = (reading ≤ to) × (to ≤ MAX_INSTANT)
 IsNext t reading (event.Sense c x) = IsSensorValue t c x
 IsNext t reading (event.Took i n) = IsLength t i n
-IsNext t reading (event.End to) = ⊥
+IsNext t reading (event.End to) = (reading ≤ to) × (to ≤ MAX_INSTANT)
 
 -- what is written then
 abbrev pub text_more : Object → Shown → List Event → Event → List ℕ
 text_more o show told (event.At to) = text_between o told show (reading_of 0 told) to
 text_more o show told (event.Sense c x) = []
 text_more o show told (event.Took i n) = []
-text_more o show told (event.End to) = []
+text_more o show told (event.End to) = text_between o told show (reading_of 0 told) (suc to)
+
+-- the machine behind an event: it follows one more, or it is finished
+abbrev pub IsBehind : Seen → List Event → Event → Type 0
+IsBehind m told (event.At to) = Follows m (told ++ event.At to ∷ [])
+IsBehind m told (event.Sense c x) = Follows m (told ++ event.Sense c x ∷ [])
+IsBehind m told (event.Took i n) = Follows m (told ++ event.Took i n ∷ [])
+IsBehind m told (event.End to) = IsFinished m told to
 
 -- none of the events is an end
 abbrev pub HaveNoEnd : List Event → Type 0
@@ -32,12 +45,20 @@ HaveNoEnd (event.Sense c x ∷ es) = HaveNoEnd es
 HaveNoEnd (event.Took i n ∷ es) = HaveNoEnd es
 HaveNoEnd (event.End to ∷ es) = ⊥
 
--- events of a script that has no end yet
-pub record AreOpen (t : Tables) (events : List Event) : Type 0 where
-  pub are : AreEvents t None events
-  pub endless : HaveNoEnd events
+-- ---- a run as it goes
 
--- the events before the end, and the end; all where the last event is no end
-abbrev pub IsCutOff : List Event → List Event → Option ℕ → Type 0
-IsCutOff events front (Some end) = events ≡ front ++ event.End end ∷ []
-IsCutOff events front None = (events ≡ front) × ((es : List Event) (end : ℕ) → events ≡ es ++ event.End end ∷ [] → ⊥)
+-- the machine behind the events told: it follows them, or it is finished where the last is the end
+abbrev pub IsTold : Seen → List Event → Option ℕ → Type 0
+IsTold m told None = HaveNoEnd told × Follows m told
+IsTold m told (Some end) = (front : List Event) × (told ≡ front ++ event.End end ∷ []) × IsFinished m front end
+
+-- These events were read and told, all lines of the instants past by then are written, and what is still to come of the script stands
+-- behind them.
+pub record IsPlaying (t : Tables) (first now : Seen) (a : Ahead) (known rest old new : Option (List ℕ)) : Type 0 where
+  pub told : List Event
+  pub are : AreEvents t None told
+  pub past : a.here.past ≡ past_of told
+  pub machine : IsTold now told (past_of told).end
+  pub same : IsSameRun first now
+  pub text : new ≡ append_known old (text_before_fault first.object first.show told)
+  pub script : Gives false a.ahead.over known rest (λ bytes later. script_of t bytes ≡ behind told (still t a later))

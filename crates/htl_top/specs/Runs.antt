@@ -12,7 +12,7 @@ use Rattle.htl_object.specs.declared.object.Object.{Object}
 use Rattle.htl_script.specs.Reading.{OfScript}
 use Rattle.htl_script.specs.Script.{Script, script_of}
 use Rattle.htl_script.specs.declared.fault.ScriptFault.{ScriptFault}
-use Rattle.htl_top.specs.Answers.{Streams}
+use Rattle.htl_top.specs.Answers.{Streams, IsUntouched}
 use Rattle.htl_top.specs.Scripts.{IsWhole, IsBad}
 use Rattle.htl_top.specs.Texts.{text_before_fault, text_of_script}
 use Rattle.htl_top.specs.declared.outcome.Outcome.{Outcome}
@@ -39,13 +39,13 @@ pub record IsCutRun (show : Shown) (t : Tables) (o : Object) (rest old new : Opt
   pub script : OfScript rest (λ script. script_of t script ≡ given)
   pub written : AppendsPrefix old new (text_of_script o show given)
 
--- the object is run with the input as script
+-- The object is run with the input as script, which is told event by event as it is read. For want of memory nothing is read.
 abbrev pub IsRun : Shown → Tables → Object → Streams → Streams → Outcome → Type 0
 IsRun show t o old new Done = IsWholeRun show t o old.rest new.rest old.written new.written
 IsRun show t o old new (Faulty fault) = IsFaultyRun show t o old.rest old.written new.written fault
-IsRun show t o old new Read = Rose old.read_faults new.read_faults × (new.written ≡ old.written)
+IsRun show t o old new Read = Rose old.read_faults new.read_faults × IsCutRun show t o old.rest old.written new.written
 IsRun show t o old new Write = Rose old.write_faults new.write_faults × IsCutRun show t o old.rest old.written new.written
-IsRun show t o old new Memory = new.written ≡ old.written
+IsRun show t o old new Memory = IsUntouched old new
 IsRun show t o old new Usage = ⊥
 IsRun show t o old new (Platform f) = ⊥
 IsRun show t o old new (Source fault) = ⊥

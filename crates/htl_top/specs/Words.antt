@@ -5,7 +5,7 @@ use Rattle.std.specs.Option.{option_map}
 use Rattle.std.specs.Str.{bytes_eq}
 use Rattle.htl_base.specs.declared.limits.TheConstants.{MAX_SOURCE, MAX_SCRIPT}
 use Rattle.htl_console.specs.declared.shown.Shown.{Shown}
-use Rattle.htl_console.specs.declared.shown.Shown.TheVariants.{Values, Jobs}
+use Rattle.htl_console.specs.declared.shown.Shown.TheVariants.{Values, Jobs, Code}
 use Rattle.htl_top.specs.declared.words.Asked.{Asked}
 use Rattle.htl_top.specs.declared.words.Asked.TheVariants as ask
 use Rattle.htl_top.specs.declared.words.Verb.{Verb}
@@ -27,16 +27,18 @@ verb_of word =
     if bytes_eq word (codes "go") then Some verb.Go
     else if bytes_eq word (codes "run") then Some verb.Run
     else if bytes_eq word (codes "jobs") then Some verb.Jobs
+    else if bytes_eq word (codes "code") then Some verb.Code
     else if bytes_eq word (codes "check") then Some verb.Check
     else if bytes_eq word (codes "plan") then Some verb.Plan
     else if bytes_eq word (codes "show") then Some verb.Show
     else None
 
--- `run` shows values and modes, `jobs` the jobs too
+-- `run` shows values and modes, `jobs` the jobs too, `code` the instructions of both machines too
 abbrev pub with_file : Verb → List ℕ → Command
 with_file verb.Go name = Go name
 with_file verb.Run name = Run Values name
 with_file verb.Jobs name = Run Jobs name
+with_file verb.Code name = Run Code name
 with_file verb.Check name = Check name
 with_file verb.Plan name = Plan name
 with_file verb.Show name = Show name
@@ -101,6 +103,17 @@ object_in words = object_of (command_in words)
 
 abbrev pub platform_in : List (Bor (List ℕ)) → Option (List ℕ)
 platform_in words = platform_file (command_in words)
+
+-- the commands that run an object
+abbrev pub RunsObject : Option Command → Type 0
+RunsObject (Some (Go name)) = Unit {0}
+RunsObject (Some Compile) = ⊥
+RunsObject (Some (CompileWith platform)) = ⊥
+RunsObject (Some (Run show name)) = Unit {0}
+RunsObject (Some (Check name)) = ⊥
+RunsObject (Some (Plan name)) = ⊥
+RunsObject (Some (Show name)) = ⊥
+RunsObject None = ⊥
 
 -- ---- the input
 

@@ -1,84 +1,70 @@
-// The events of a script, told to a machine.
-ghost use Rattle.std.specs.Prelude.{◌≡◌, ◌≤◌, ◌++◌, ◌∷◌, [], List, ℕ, suc, None, OnOk};
+// The events of a script, told to a machine as they are read.
+ghost use Rattle.std.specs.Prelude.{◌≡◌, ◌+◌, [], List, ℕ, OnOk};
 ghost use Rattle.htl_base.specs.declared.limits.TheConstants as limit;
 ghost use Rattle.htl_edge.specs.Content.{Puts};
-ghost use Rattle.htl_machine.specs.Calls.{Follows, IsFinished, IsSameRun, text_between};
+ghost use Rattle.htl_machine.specs.Calls.{Follows, IsSameRun};
 ghost use Rattle.htl_machine.specs.Follows.{reading_of};
-ghost use Rattle.htl_machine.specs.Programs.{before_of};
+ghost use Rattle.htl_model.specs.Lines.{totals_line};
 ghost use Rattle.htl_model.specs.declared.event.Event.{Event as Told};
-ghost use Rattle.htl_model.specs.declared.event.Event.TheVariants as event;
 ghost use Rattle.htl_object.specs.Accepted.{IsAccepted};
-ghost use Rattle.htl_script.specs.Events.{AreEvents};
-ghost use Rattle.htl_top.specs.Playing.{AreOpen, IsNext, IsCutOff, text_more};
-ghost use Rattle.htl_top.specs.Texts.{text_before_fault};
+ghost use Rattle.htl_script.specs.Reading.{LosesFront};
+ghost use Rattle.htl_top.specs.Answers.{streams};
+ghost use Rattle.htl_top.specs.Playing.{IsNext, IsBehind, text_more};
+ghost use Rattle.htl_top.specs.Runs.{IsRun};
 
-use htl_base::Time;
-use htl_edge::{Failed, Sink};
+use crate::Outcome;
+use htl_console::line_end;
+use htl_edge::{Failed, Sink, Source};
 use htl_machine::Machine;
-use htl_model::Event;
+use htl_model::{Event, Tables};
+use htl_script::{Script, ScriptStop};
 
-/// Tells a machine that stands before instant 0 the events of a script, with its end, where they have one, and writes the
-/// lines of all instants that are past by then.
-pub fn play<W: Sink>(machine: &mut Machine<'_>, events: &[Event], out: &mut W) -> Result<(), Failed>
+/// Runs a machine that stands before instant 0 with what the input has left as script: each event is told as it is read, and the
+/// lines are written as the run goes. It takes no memory.
+pub fn play<R: Source, W: Sink>(
+    machine: &mut Machine<'_>,
+    t: &Tables,
+    input: &mut R,
+    out: &mut W,
+) -> Outcome
     requires follows { Follows machine.old [] }
     requires accepted { IsAccepted machine.old.object }
-    requires events { AreEvents machine.old.object.tables None events.now }
-    ensures text { Puts (W.written out.old) (W.written out.new) (W.faults out.old) (W.faults out.new) (text_before_fault machine.old.object machine.old.show events.now) result }
-    ensures finished { OnOk result ((front : List Told) (end : ℕ) → events.now ≡ front ++ event.End end ∷ [] → IsFinished machine.new front end) }
-    ensures same { IsSameRun machine.old machine.new }
+    requires tables { t.now ≡ machine.old.object.tables }
+    ensures answer { IsRun machine.old.show machine.old.object.tables machine.old.object
+        (streams R.rest R.faults W.written W.faults input.old out.old) (streams R.rest R.faults W.written W.faults input.new out.new)
+        result }
+    ensures taken { LosesFront (limit.MAX_SCRIPT + 4096) (R.rest input.old) (R.rest input.new) }
+    ensures read_count { (result ≡ Outcome.Read → ⊥) → R.faults input.new ≡ R.faults input.old }
+    ensures write_count { (result ≡ Outcome.Write → ⊥) → W.faults out.new ≡ W.faults out.old }
 {
-    let (front, end) = cut_off(events);
-    if let Err(failed) = tell_all(machine, front, out) {
-        return Err(failed);
-    }
-    match end {
-        Some(end) => finish(machine, front, end, out),
-        None => Ok(()),
-    }
-}
-
-// The events before the end, and the end, where there is one.
-fn cut_off(events: &[Event]) -> (&[Event], Option<Time>)
-    ensures { IsCutOff events.now result.0.now result.1 }
-{
-    match events.split_last() {
-        Some((Event::End(end), front)) => (front, Some(*end)),
-        _ => (events, None),
-    }
-}
-
-// Tells a machine events, none of which is the end.
-fn tell_all<W: Sink>(machine: &mut Machine<'_>, events: &[Event], out: &mut W) -> Result<(), Failed>
-    requires follows { Follows machine.old [] }
-    requires accepted { IsAccepted machine.old.object }
-    requires events { AreOpen machine.old.object.tables events.now }
-    ensures text { Puts (W.written out.old) (W.written out.new) (W.faults out.old) (W.faults out.new) (before_of machine.old.object events.now machine.old.show (reading_of 0 events.now)) result }
-    ensures follows { OnOk result (Follows machine.new events.now) }
-    ensures same { IsSameRun machine.old machine.new }
-{
-    for k in 0..events.len() {
-        if let Err(failed) = tell(machine, &events[..k], &events[k], out) {
-            return Err(failed);
+    let mut script = Script::new();
+    'events: loop {
+        match script.next(input, t) {
+            Ok(Some(event)) => {
+                if let Err(_) = tell(machine, event, out) {
+                    return Outcome::Write;
+                }
+            }
+            Ok(None) => {
+                return match write_totals(machine, out) {
+                    Ok(()) => Outcome::Done,
+                    Err(_) => Outcome::Write,
+                };
+            }
+            Err(ScriptStop::Script(fault)) => return Outcome::Script(fault),
+            Err(ScriptStop::Read) => return Outcome::Read,
         }
     }
-    Ok(())
 }
 
-// Tells a machine one event behind those told, which isn't the end.
-fn tell<W: Sink>(
-    machine: &mut Machine<'_>,
-    told: &[Event],
-    event: &Event,
-    out: &mut W,
-) -> Result<(), Failed>
-    ghost es: { List Told }
-    requires follows { Follows machine.old es }
-    requires next { IsNext machine.old.object.tables (reading_of 0 es) event.now }
-    ensures text { Puts (W.written out.old) (W.written out.new) (W.faults out.old) (W.faults out.new) (text_more machine.old.object machine.old.show es event.now) result }
-    ensures follows { OnOk result (Follows machine.new (es ++ event.now ∷ [])) }
+// Tells a machine one event behind those told, and writes the lines of the instants that are past by then.
+fn tell<W: Sink>(machine: &mut Machine<'_>, event: Event, out: &mut W) -> Result<(), Failed>
+    requires { (es : List Told) × Follows machine.old es × IsNext machine.old.object.tables (reading_of 0 es) event }
+    ensures text { (es : List Told) → Follows machine.old es → Puts (W.written out.old) (W.written out.new) (W.faults out.old) (W.faults out.new) (text_more machine.old.object machine.old.show es event) result }
+    ensures behind { (es : List Told) → Follows machine.old es → OnOk result (IsBehind machine.new es event) }
     ensures same { IsSameRun machine.old machine.new }
 {
-    match *event {
+    match event {
         Event::At(to) => machine.advance(to, out),
         Event::Sense { comm, x } => {
             machine.sense(comm, x);
@@ -88,24 +74,14 @@ fn tell<W: Sink>(
             machine.took(inv, length);
             Ok(())
         }
-        Event::End(_) => unreachable!(),
+        Event::End(to) => machine.finish(to, out),
     }
 }
 
-// Tells a machine the end of the run behind the events told.
-fn finish<W: Sink>(
-    machine: &mut Machine<'_>,
-    told: &[Event],
-    end: Time,
-    out: &mut W,
-) -> Result<(), Failed>
-    ghost es: { List Told }
-    requires follows { Follows machine.old es }
-    requires order { reading_of 0 es ≤ end }
-    requires end { end ≤ limit.MAX_INSTANT }
-    ensures text { Puts (W.written out.old) (W.written out.new) (W.faults out.old) (W.faults out.new) (text_between machine.old.object es machine.old.show (reading_of 0 es) (suc end)) result }
-    ensures finished { OnOk result (IsFinished machine.new es end) }
-    ensures same { IsSameRun machine.old machine.new }
+// Writes the numbers of a run.
+fn write_totals<W: Sink>(machine: &Machine<'_>, out: &mut W) -> Result<(), Failed>
+    ensures { Puts (W.written out.old) (W.written out.new) (W.faults out.old) (W.faults out.new) (totals_line machine.now.held.reading machine.now.jobs machine.now.e machine.now.s) result }
 {
-    machine.finish(end, out)
+    let totals = machine.totals();
+    line_end(out, totals.at, totals.jobs, totals.e, totals.s)
 }

@@ -1,4 +1,4 @@
-// The commands `run` and `jobs`: an object, run.
+// The commands `run`, `jobs` and `code`: an object, run.
 ghost use Rattle.std.specs.Prelude.{◌≡◌, ◌+◌, ℕ, List, Some};
 ghost use Rattle.htl_base.specs.declared.limits.TheConstants as limit;
 ghost use Rattle.htl_script.specs.Reading.{LosesFront};

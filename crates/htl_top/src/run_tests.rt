@@ -1,4 +1,4 @@
-// `run` and `jobs` over objects in memory.
+// `run`, `jobs` and `code` over objects in memory.
 use crate::object_bytes::{DOUBLING, IDLING, NO_MODULE, TWO_JOBS, changed};
 use crate::samples::{DOUBLED_BEFORE, READINGS};
 use crate::tests::{Setting, answers, first_lines};
@@ -22,6 +22,29 @@ fn runs(
 const VALUES: &str = "v 0 s 3
 v 0 u 7
 m 0 M m
+v 10 s 5
+v 10 u 6
+end 10 jobs 1 e 10 s 2
+";
+
+// Each instruction of both machines in its place.
+const INSTRUCTIONS: &str = "e 0 0 enter M.m
+e 0 1 future 10 write 5
+e 0 2 future 0 read 7
+e 0 3 future 20 switch 10
+e 0 4 return
+e 0 7 call read M.m.dbl 0
+e 0 8 release M.m.dbl
+e 0 9 return
+v 0 s 3
+v 0 u 7
+m 0 M m
+j 0 4 M.m.dbl
+d 4 M.m.dbl
+s 4 0:0 dispatch 0 until 4
+s 4 0:1 end
+e 10 5 call write M.m.dbl 0
+e 10 6 return
 v 10 s 5
 v 10 u 6
 end 10 jobs 1 e 10 s 2
@@ -88,7 +111,7 @@ end 10 jobs 2 e 26 s 5
 #[test]
 fn objects_are_run(rt: HostRuntime) -> Result<(), Fail> {
     let alloc = rt.alloc();
-    let table: [(&str, (&[u8], usize, &[u8], bool), &'static str, &str); 6] = [
+    let table: [(&str, (&[u8], usize, &[u8], bool), &'static str, &str); 7] = [
         (
             "run",
             (&NO_MODULE, 0, &[], true),
@@ -96,6 +119,7 @@ fn objects_are_run(rt: HostRuntime) -> Result<(), Fail> {
             "v 0 u 7\nend 0 jobs 0 e 0 s 0\n",
         ),
         ("run", (&DOUBLING, 0, &[], true), READINGS, VALUES),
+        ("code", (&DOUBLING, 0, &[], true), READINGS, INSTRUCTIONS),
         ("jobs", (&DOUBLING, 138, &JUMPING, false), READINGS, JUMPED),
         ("jobs", (&DOUBLING, 198, &IDLING, false), READINGS, IDLED),
         (
@@ -223,9 +247,10 @@ fn failing_streams_are_told_of_runs(rt: HostRuntime) -> Result<(), Fail> {
         assert!(rt; runs(alloc, "run", change, &setting, want)?, "write {k}");
     }
     let mut setting = Setting::of(READINGS);
-    for read in [1, 2, 3, 4, 5, 6, 7] {
+    for (read, count) in [(1, 0), (2, 0), (3, 0), (4, 3), (5, 3), (6, 3), (7, 5)] {
         setting.read = read;
-        let want = (9, b"".as_slice(), "htl: read\n");
+        let written = first_lines(alloc, &LINES, count)?;
+        let want = (9, written.as_slice(), "htl: read\n");
         assert!(rt; runs(alloc, "run", change, &setting, want)?, "read {read}");
     }
     Ok(())

@@ -504,6 +504,13 @@ const RUNS: &[(&str, &str, usize, &str)] = &[
         7,
         "m 0 M m\nend 0 jobs 0 e 3 s 1\n",
     ),
+    // the longest run, in which 1,001 instants have something to do
+    (
+        "program P { module M start m { mode m period 1000000 { } } }",
+        "end 1000000000\n",
+        7,
+        "m 0 M m\nend 1000000000 jobs 0 e 3003 s 1001\n",
+    ),
     (DOUBLING, READINGS, 1, DOUBLED),
     (DOUBLING, READINGS, 7, DOUBLED),
     (DOUBLING, READINGS, 4096, DOUBLED),
@@ -530,6 +537,7 @@ const RUNS: &[(&str, &str, usize, &str)] = &[
     (PORT, "at 0\ntook M.m.p 1\nend 10\n", 7, PASSED_ON),
     (SOMETIMES, "at 10\nsense g 1\nend 20\n", 1, SWITCHED_ON),
     (SOMETIMES, "at 10\nsense g 1\nend 20\n", 7, SWITCHED_ON),
+    (SOMETIMES, "at 10\nsense g 1\nend 20\n", 255, SWITCHED_ON),
     (SOMETIMES, "at 10\nsense g 1\nend 20\n", 4096, SWITCHED_ON),
     (
         SOMETIMES,
@@ -829,11 +837,12 @@ fn failing_streams_are_told(rt: HostRuntime) -> Result<(), Fail> {
             assert!(rt; goes(alloc, DOUBLING, &setting, want)?, "write {k}");
         }
     }
-    // Seven reads of at most seven bytes, of which the last finds the end.
+    // Seven reads of at most seven bytes: the third gives the second reading, the sixth the end of the run, the last no more.
     let mut setting = Setting::of(READINGS);
-    for read in [1, 2, 3, 4, 5, 6, 7] {
+    for (read, count) in [(1, 0), (2, 0), (3, 0), (4, 5), (5, 5), (6, 5), (7, 7)] {
         setting.read = read;
-        let want = (9, b"".as_slice(), "htl: read\n");
+        let written = first_lines(alloc, &LINES, count)?;
+        let want = (9, written.as_slice(), "htl: read\n");
         assert!(rt; goes(alloc, DOUBLING, &setting, want)?, "read {read}");
     }
     let mut setting = Setting::of(READINGS);

@@ -46,7 +46,7 @@ ghost use Rattle.htl_top.specs.Shown.{show_text};
 ghost use Rattle.htl_top.specs.Sources.{IsProgram, IsInputProgram, answer_of};
 ghost use Rattle.htl_top.specs.SourcesOn.{IsProgramOn, answer_on};
 ghost use Rattle.htl_top.specs.Telling.{SpeaksOf, IsLineTold};
-ghost use Rattle.htl_top.specs.Words.{Go, Compile, CompileWith, Run, Check, Plan, Show, asked_for, command_in, source_in, platform_in, object_in, most_taken, with_file};
+ghost use Rattle.htl_top.specs.Words.{Go, Compile, CompileWith, Run, Check, Plan, Show, asked_for, command_in, source_in, platform_in, object_in, most_taken, with_file, RunsObject};
 ghost use Rattle.htl_top.specs.declared.outcome.ShelfCause.{ShelfCause};
 ghost use Rattle.htl_top.specs.declared.outcome.ShelfCause.TheVariants as cause;
 
@@ -67,13 +67,13 @@ use std::alloc::Global;
 /// Does what the words of a command line say.
 ///
 /// With the words `go SRC` the source that `shelf` holds under SRC, of at most 1,048,576 bytes, is compiled, its object is loaded, and
-/// it is run with what `input` has left as its script; what the run writes goes to `out`: values, modes, jobs and totals. The first of
-/// these is the answer: `Shelf`; `Source`; `IllFormed`; `Unschedulable`; `Read`, for which the whole script is read before the first
-/// line is written; `Write`; `Script`, after the lines of all instants before the last reading, or, where the fault stands behind the
-/// `end` line, all lines but the totals; `Done`.
+/// it is run with what `input` has left as its script, which is read as the run goes; what the run writes goes to `out`: values, modes,
+/// jobs and totals. The first of these is the answer: `Shelf`; `Source`; `IllFormed`; `Unschedulable`; then, line by line of the script,
+/// `Read`, after a prefix of the lines; `Script`, after the lines of all instants before the last reading, or, where the fault stands
+/// behind the `end` line, all lines but the totals; and `Write`, after a prefix of the lines; `Done`.
 ///
-/// With the words `run OBJ` and `jobs OBJ` the object that `shelf` holds under OBJ, of at most 16,777,216 bytes, is tested and run in the
-/// same way; `run` shows values and modes, `jobs` the jobs too. The first of these is the answer: `Shelf`; `Object`; then as for `go`.
+/// With the words `run OBJ`, `jobs OBJ` and `code OBJ` the object that `shelf` holds under OBJ, of at most 16,777,216 bytes, is tested and
+/// run in the same way; `run` shows values and modes, `jobs` the jobs too, `code` each instruction of both machines too. The first of these is the answer: `Shelf`; `Object`; then as for `go`.
 ///
 /// With the word `compile` the source is what `input` has left, and the bytes of its object go to `out`. The first of these is the
 /// answer: `Read`; `Source`, also for more than 1,048,576 bytes; `IllFormed`; `Unschedulable`; `Write`; `Done`. Nothing is written before
@@ -95,8 +95,9 @@ use std::alloc::Global;
 /// A command takes no more of the input than a front of at most 1,073,745,920 bytes, or 1,052,672 for both forms of `compile`: the
 /// longest script, or source, and one piece of 4,096 bytes.
 ///
-/// Other words are `Usage`. Want of memory may stand in place of any answer but `Usage`, before the first byte is written. A line on
-/// `err` tells of every answer but `Done`; a failing `err` changes nothing else.
+/// Other words are `Usage`. Want of memory may stand in place of any answer but `Usage`, before the first byte is written; for `go`,
+/// `run`, `jobs` and `code` before the first is read. A line on `err` tells of every answer but `Done`; a failing `err` changes nothing
+/// else.
 pub fn htl<S: Shelf, R: Source, W: Sink, E: Sink>(
     alloc: Global,
     words: &[&str],
@@ -129,7 +130,7 @@ pub fn htl<S: Shelf, R: Source, W: Sink, E: Sink>(
     ensures script { (name : List ℕ) → command_in words.now ≡ Some (Go name) → (fault : ScriptFault) → result ≡ Outcome.Script fault →
         IsProgram (Some name) (S.holds shelf.old) (λ t. IsFaultyRun shown.Jobs t (built t) (R.rest input.old) (W.written out.old) (W.written out.new) fault) }
     ensures read { (name : List ℕ) → command_in words.now ≡ Some (Go name) → result ≡ Outcome.Read → Rose (R.faults input.old) (R.faults input.new)
-        × IsProgram (Some name) (S.holds shelf.old) (λ t. W.written out.new ≡ W.written out.old) }
+        × IsProgram (Some name) (S.holds shelf.old) (λ t. IsCutRun shown.Jobs t (built t) (R.rest input.old) (W.written out.old) (W.written out.new)) }
     ensures write { (name : List ℕ) → command_in words.now ≡ Some (Go name) → result ≡ Outcome.Write → Rose (W.faults out.old) (W.faults out.new)
         × IsProgram (Some name) (S.holds shelf.old) (λ t. IsCutRun shown.Jobs t (built t) (R.rest input.old) (W.written out.old) (W.written out.new)) }
     ensures done { (name : List ℕ) → command_in words.now ≡ Some (Go name) → result ≡ Outcome.Done →
@@ -189,13 +190,13 @@ pub fn htl<S: Shelf, R: Source, W: Sink, E: Sink>(
     ensures faulty_object { (bytes : List ℕ) → IsGiven (object_in words.now) (S.holds shelf.old) (S.faults shelf.old) (S.faults shelf.new) bytes
         → (fault : ObjectFault) → length bytes ≤ limit.MAX_OBJECT → RefusesBytes bytes fault → IsOrMemory result (Outcome.Object fault) }
 
-    // `run` and `jobs`: each other answer and its cause, and where this must be the answer, or Memory.
+    // `run`, `jobs` and `code`: each other answer and its cause, and where this must be the answer, or Memory.
     ensures ran { (show : Shown) (name : List ℕ) → command_in words.now ≡ Some (Run show name) → result ≡ Outcome.Done →
         IsAcceptedFile (Some name) (S.holds shelf.old) (λ o. IsWholeRun show o.tables o (R.rest input.old) (R.rest input.new) (W.written out.old) (W.written out.new)) }
     ensures run_fault { (show : Shown) (name : List ℕ) → command_in words.now ≡ Some (Run show name) → (fault : ScriptFault) → result ≡ Outcome.Script fault →
         IsAcceptedFile (Some name) (S.holds shelf.old) (λ o. IsFaultyRun show o.tables o (R.rest input.old) (W.written out.old) (W.written out.new) fault) }
-    ensures run_read { (show : Shown) (name : List ℕ) → command_in words.now ≡ Some (Run show name) → result ≡ Outcome.Read →
-        Rose (R.faults input.old) (R.faults input.new) × (W.written out.new ≡ W.written out.old) }
+    ensures run_read { (show : Shown) (name : List ℕ) → command_in words.now ≡ Some (Run show name) → result ≡ Outcome.Read → Rose (R.faults input.old) (R.faults input.new)
+        × IsAcceptedFile (Some name) (S.holds shelf.old) (λ o. IsCutRun show o.tables o (R.rest input.old) (W.written out.old) (W.written out.new)) }
     ensures run_cut { (show : Shown) (name : List ℕ) → command_in words.now ≡ Some (Run show name) → result ≡ Outcome.Write → Rose (W.faults out.old) (W.faults out.new)
         × IsAcceptedFile (Some name) (S.holds shelf.old) (λ o. IsCutRun show o.tables o (R.rest input.old) (W.written out.old) (W.written out.new)) }
     ensures run_bad_script { (show : Shown) (name : List ℕ) (o : Object) → command_in words.now ≡ Some (Run show name)
@@ -247,6 +248,7 @@ pub fn htl<S: Shelf, R: Source, W: Sink, E: Sink>(
 
     // What stays as it was, and how much of the input was taken.
     ensures memory { result ≡ Outcome.Memory → W.written out.new ≡ W.written out.old }
+    ensures memory_unread { RunsObject (command_in words.now) → result ≡ Outcome.Memory → R.rest input.new ≡ R.rest input.old }
     ensures unwritten { IsBeforeRun result → W.written out.new ≡ W.written out.old }
     ensures unread { (command_in words.now ≡ Some Compile → ⊥) → ((file : List ℕ) → command_in words.now ≡ Some (CompileWith file) → ⊥)
         → IsBeforeScript result → R.rest input.new ≡ R.rest input.old }
@@ -354,6 +356,7 @@ fn about_file<S: Shelf, R: Source, W: Sink>(
         Verb::Go => go_file(alloc, name, shelf, input, out),
         Verb::Run => run_file(alloc, name, Shown::Values, shelf, input, out),
         Verb::Jobs => run_file(alloc, name, Shown::Jobs, shelf, input, out),
+        Verb::Code => run_file(alloc, name, Shown::Code, shelf, input, out),
         Verb::Check => check_file(alloc, name, shelf, out),
         Verb::Plan => plan_file(alloc, name, shelf, input, out),
         Verb::Show => show_file(alloc, name, shelf, out),

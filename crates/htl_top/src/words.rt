@@ -12,6 +12,8 @@ pub enum Verb {
     Run,
     /// Runs an object, and shows the jobs too.
     Jobs,
+    /// Runs an object, and shows the instructions of both machines too.
+    Code,
     /// Tests an object.
     Check,
     /// Writes the round of an object at a selection of running modes.
@@ -41,6 +43,8 @@ fn verb_of(word: &str) -> Option<Verb>
         Some(Verb::Run)
     } else if word == "jobs" {
         Some(Verb::Jobs)
+    } else if word == "code" {
+        Some(Verb::Code)
     } else if word == "check" {
         Some(Verb::Check)
     } else if word == "plan" {

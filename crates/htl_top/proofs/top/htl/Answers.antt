@@ -73,6 +73,7 @@ returns g c =
       bad_selection = calling.bad_selection shelf old new command outcome answer;
       plan_complete = calling.plan_complete shelf old new command outcome answer;
       memory = λ e. calling.unwritten shelf old new command Memory (subst Answered e answer) tt;
+      memory_unread = λ runs e. calling.memory_unread shelf old new command (subst Answered e answer) runs;
       unwritten = calling.unwritten shelf old new command outcome answer;
       unread = calling.unread shelf old new command outcome answer;
       unfetched = calling.unfetched shelf old new command outcome answer;

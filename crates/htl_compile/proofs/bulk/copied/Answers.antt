@@ -1,0 +1,11 @@
+use Rattle.std.proofs.Common.{◌∷◌, ◌∙◌, [], ap}
+use Rattle.htl_text.proofs.Parts.{is_expr, in_expr}
+use Rattle.htl_text.specs.declared.expression.Node.TheVariants as node
+use Rattle.htl_compile.specs.BulkTree.{copied}
+use Rattle.htl_compile.proofs.bulk.copied.Goals as goal
+
+pub new-requires : goal.new-requires
+new-requires c = is_expr copied _ (c.in_ok-nodes.ensures.items ∙ ap (λ id. node.Named id ∷ []) c.named.ensures)
+
+pub returns : goal.returns
+returns c = c.new.ensures ∙ in_expr copied _ (c.in_ok-nodes.ensures.items ∙ ap (λ id. node.Named id ∷ []) c.named.ensures)

@@ -1,0 +1,8 @@
+use Rattle.std.proofs.Common.{◌≡◌, map}
+use Rattle.htl_compile.specs.BulkTree.{bulk_module}
+use Rattle.htl_model.specs.Lists.{list_to}
+use Rattle.htl_text.specs.Nodes.{module_of}
+use Rattle.htl_compile.proofs.bulk.modules.Given as goal
+
+abbrev pub invariant-loop-k : goal.invariant-loop-k
+invariant-loop-k l = record { modules : map module_of l.modules.items ≡ list_to (bulk_module l.n) l.k }

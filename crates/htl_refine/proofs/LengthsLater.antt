@@ -1,0 +1,178 @@
+-- Other lengths of jobs that aren't released yet change nothing of what is left of the lists that have begun.
+use Rattle.std.proofs.Common.{◌≡◌, ◌≢◌, ℕ, zero, suc, ◌≤◌, ◌<◌, ◌⊎◌, max, true, List, [], ◌∷◌, length, get_or, refl, sym, ap, ap₂, ◌∙◌, arith, inl, inr}
+use Rattle.htl_walk.specs.declared.job.Job.{Job}
+use Rattle.htl_walk.specs.declared.schedule.SInstr.{SInstr}
+use Rattle.htl_walk.specs.declared.schedule.SInstr.TheVariants.{Dispatch, Idle, End}
+use Rattle.htl_walk.specs.Laws.{AgreeBefore}
+use Rattle.htl_walk.specs.Paths.{Leg, begun, AreInForm, AreChained, path_point}
+use Rattle.htl_walk.specs.Refinement.{HaveLengths}
+use Rattle.htl_walk.specs.Walk.{Point, job_at, time_after, work_after, next_point, last_point, first_point, work, earlier}
+use Rattle.htl_walk.proofs.Joining.{stays}
+use Rattle.htl_walk.proofs.Steps.{left_same, left_other, apart, either, time_rises}
+use Rattle.htl_walk.proofs.Unreleased.{Alike, alike_walks}
+use Rattle.htl_walk.proofs.Work.{job_there, work_present, present_or_idle}
+use Rattle.htl_refine.specs.FrameRuns.{Frame}
+use Rattle.htl_refine.specs.ListLaws.{LengthsLater}
+use Rattle.htl_refine.specs.ListPlans.{no_leg, point_at}
+use Rattle.htl_refine.proofs.ListCounts.{chain_to}
+use Rattle.htl_refine.proofs.ListWalks.{list_is}
+
+-- ---- one dispatch of a job that isn't released
+
+-- what ends before t has waited, and no more
+waits : (now w r until t : ℕ) → t ≤ r → 0 < w → time_after now w r until < t → until < t
+waits now zero r until t late some early = absurd (omega (arith, some))
+waits now (suc w) r until t late some early = omega (arith, late, early)
+
+waited : (now w r until t : ℕ) → t ≤ r → 0 < w → until < t → (time_after now w r until ≡ max now until) × (work_after now w r until ≡ w)
+waited now zero r until t late some early = absurd (omega (arith, some))
+waited now (suc w) r until t late some early = (omega (arith, late, early), omega (arith, late, early))
+
+nothing : (now w r until : ℕ) → w ≡ 0 → (time_after now w r until ≡ now) × (work_after now w r until ≡ 0)
+nothing now zero r until e = (refl, omega arith)
+nothing now (suc w) r until e = absurd (omega (arith, e))
+
+-- ---- instructions that end before t keep points alike
+
+module _ (jobs : List Job) (t p until : ℕ) (x y : Point) (a : Alike jobs t x y) where
+  -- the work of the position that is dispatched, and of the others
+  here_x : (q : ℕ) → p ≡ q → get_or (next_point jobs (Dispatch p until) x).left q 0 ≡ work_after x.time (get_or x.left p 0) (job_at jobs p).release until
+  here_x q e = ap (λ z. get_or (next_point jobs (Dispatch p until) x).left z 0) (sym e) ∙ left_same x.left p x.time (job_at jobs p).release until
+
+  here_y : (q : ℕ) → p ≡ q → get_or (next_point jobs (Dispatch p until) y).left q 0 ≡ work_after y.time (get_or y.left p 0) (job_at jobs p).release until
+  here_y q e = ap (λ z. get_or (next_point jobs (Dispatch p until) y).left z 0) (sym e) ∙ left_same y.left p y.time (job_at jobs p).release until
+
+  else_x : (q : ℕ) → p ≢ q → get_or (next_point jobs (Dispatch p until) x).left q 0 ≡ get_or x.left q 0
+  else_x q n = left_other x.left p q (work_after x.time (get_or x.left p 0) (job_at jobs p).release until) n
+
+  else_y : (q : ℕ) → p ≢ q → get_or (next_point jobs (Dispatch p until) y).left q 0 ≡ get_or y.left q 0
+  else_y q n = left_other y.left p q (work_after y.time (get_or y.left p 0) (job_at jobs p).release until) n
+
+  -- a job that is released: the same is done
+  released_alike : (job_at jobs p).release < t → Alike jobs t (next_point jobs (Dispatch p until) x) (next_point jobs (Dispatch p until) y)
+  released_alike soon =
+      let w = a.released p soon in
+      record {
+        time = ap₂ (λ n v. time_after n v (job_at jobs p).release until) a.time w;
+        released = λ q b. elim (apart p q) [
+          | inl e ↦ here_x q e ∙ ap₂ (λ n v. work_after n v (job_at jobs p).release until) a.time w ∙ sym (here_y q e)
+          | inr n ↦ else_x q n ∙ a.released q b ∙ sym (else_y q n)
+        ];
+        unreleased = λ q b.
+            let n : p ≢ q = λ e. let same : (job_at jobs p).release ≡ (job_at jobs q).release = ap (λ z. (job_at jobs z).release) e in omega (arith, same, soon, b) in
+            others q n (a.unreleased q b);
+      }
+    where
+      others : (q : ℕ) → p ≢ q → ((get_or x.left q 0 ≡ 0) × (get_or y.left q 0 ≡ 0)) ⊎ ((0 < get_or x.left q 0) × (0 < get_or y.left q 0))
+          → ((get_or (next_point jobs (Dispatch p until) x).left q 0 ≡ 0) × (get_or (next_point jobs (Dispatch p until) y).left q 0 ≡ 0))
+          ⊎ ((0 < get_or (next_point jobs (Dispatch p until) x).left q 0) × (0 < get_or (next_point jobs (Dispatch p until) y).left q 0))
+      others q n (inl z) = inl (else_x q n ∙ z.0, else_y q n ∙ z.1)
+      others q n (inr z) = inr (omega (arith, else_x q n, z.0), omega (arith, else_y q n, z.1))
+
+  -- a job that isn't: nothing is done
+  kept_alike : t ≤ (job_at jobs p).release → (next_point jobs (Dispatch p until) x).time ≡ (next_point jobs (Dispatch p until) y).time
+      → work_after x.time (get_or x.left p 0) (job_at jobs p).release until ≡ get_or x.left p 0 → work_after y.time (get_or y.left p 0) (job_at jobs p).release until ≡ get_or y.left p 0
+      → Alike jobs t (next_point jobs (Dispatch p until) x) (next_point jobs (Dispatch p until) y)
+  kept_alike late time one two =
+      record {
+        time = time;
+        released = λ q b. all_x q ∙ a.released q b ∙ sym (all_y q);
+        unreleased = λ q b. elim (a.unreleased q b) [
+          | inl z ↦ inl (all_x q ∙ z.0, all_y q ∙ z.1)
+          | inr z ↦ inr (omega (arith, all_x q, z.0), omega (arith, all_y q, z.1))
+        ];
+      }
+    where
+      all_x : (q : ℕ) → get_or (next_point jobs (Dispatch p until) x).left q 0 ≡ get_or x.left q 0
+      all_x q = elim (apart p q) [ inl e ↦ here_x q e ∙ one ∙ ap (λ z. get_or x.left z 0) e | inr n ↦ else_x q n ]
+
+      all_y : (q : ℕ) → get_or (next_point jobs (Dispatch p until) y).left q 0 ≡ get_or y.left q 0
+      all_y q = elim (apart p q) [ inl e ↦ here_y q e ∙ two ∙ ap (λ z. get_or y.left z 0) e | inr n ↦ else_y q n ]
+
+  dispatch_alike : (next_point jobs (Dispatch p until) x).time < t → Alike jobs t (next_point jobs (Dispatch p until) x) (next_point jobs (Dispatch p until) y)
+  dispatch_alike early = elim (either (job_at jobs p).release t) [ inl soon ↦ released_alike soon | inr late ↦ by late (a.unreleased p late) ]
+    where
+      by : t ≤ (job_at jobs p).release → ((get_or x.left p 0 ≡ 0) × (get_or y.left p 0 ≡ 0)) ⊎ ((0 < get_or x.left p 0) × (0 < get_or y.left p 0))
+          → Alike jobs t (next_point jobs (Dispatch p until) x) (next_point jobs (Dispatch p until) y)
+      by late (inl none) =
+          let one = nothing x.time (get_or x.left p 0) (job_at jobs p).release until none.0 in
+          let two = nothing y.time (get_or y.left p 0) (job_at jobs p).release until none.1 in
+          kept_alike late (one.0 ∙ a.time ∙ sym two.0) (one.1 ∙ sym none.0) (two.1 ∙ sym none.1)
+      by late (inr some) =
+          let soon : until < t = waits x.time (get_or x.left p 0) (job_at jobs p).release until t late some.0 early in
+          let one = waited x.time (get_or x.left p 0) (job_at jobs p).release until t late some.0 soon in
+          let two = waited y.time (get_or y.left p 0) (job_at jobs p).release until t late some.1 soon in
+          kept_alike late (one.0 ∙ ap (λ n. max n until) a.time ∙ sym two.0) one.1 two.1
+
+step_alike : (jobs : List Job) (t : ℕ) (i : SInstr) (x y : Point) → Alike jobs t x y → (next_point jobs i x).time < t → Alike jobs t (next_point jobs i x) (next_point jobs i y)
+step_alike jobs t (Dispatch p until) x y a early = dispatch_alike jobs t p until x y a early
+step_alike jobs t (Idle until) x y a early = record { time = ap (λ n. max n until) a.time; released = a.released; unreleased = a.unreleased }
+step_alike jobs t End x y a early = a
+
+last_later : (jobs : List Job) (is : List SInstr) (x : Point) → x.time ≤ (last_point jobs is x).time
+last_later jobs [] x = omega arith
+last_later jobs (i ∷ is) x = omega (arith, time_rises jobs i x, last_later jobs is (next_point jobs i x))
+
+list_alike : (jobs : List Job) (t : ℕ) (is : List SInstr) (x y : Point) → Alike jobs t x y → (last_point jobs is x).time < t → Alike jobs t (last_point jobs is x) (last_point jobs is y)
+list_alike jobs t [] x y a early = a
+list_alike jobs t (i ∷ is) x y a early =
+    let soon : (next_point jobs i x).time < t = omega (arith, last_later jobs is (next_point jobs i x), early) in
+    list_alike jobs t is (next_point jobs i x) (next_point jobs i y) (step_alike jobs t i x y a soon) early
+
+-- ---- the lists
+
+begun_alike : (jobs : List Job) (t b : ℕ) (x y : Point) → Alike jobs t x y → Alike jobs t (begun b x) (begun b y)
+begun_alike jobs t b x y a = record { time = refl; released = a.released; unreleased = a.unreleased }
+
+path_alike : (jobs : List Job) (t : ℕ) (ss : List (List SInstr)) (gs : List Leg) (a h n j : ℕ) (x y : Point) → AreInForm ss gs → AreChained a h n gs → j < length gs → (get_or gs j no_leg).from < t
+    → Alike jobs t x y → Alike jobs t (path_point jobs ss gs j 0 x) (path_point jobs ss gs j 0 y)
+path_alike jobs t [] [] a h n j x y f c l e k = absurd (omega arith)
+path_alike jobs t [] (g ∷ gs) a h n j x y f c l e k = absurd f
+path_alike jobs t (s ∷ ss) [] a h n j x y f c l e k = absurd f
+path_alike jobs t (s ∷ ss) (g ∷ gs) a h n zero x y f c l e k = begun_alike jobs t g.from x y k
+path_alike jobs t (s ∷ ss) (g ∷ gs) a h n (suc j) x y f c l e k =
+    let v = begun g.from x in
+    let w = begun g.from y in
+    let ends : (last_point jobs s v).time ≤ g.to = stays jobs g.known g.to s v f.0 c.1 in
+    let later : g.to ≤ (get_or gs j no_leg).from = chain_to g.to h n j gs c.3 (omega arith) in
+    path_alike jobs t ss gs g.to h n j (last_point jobs s v) (last_point jobs s w) f.1 c.3 (omega arith) e
+    (list_alike jobs t s v w (begun_alike jobs t g.from x y k) (omega (arith, ends, later, e)))
+
+-- ---- the lengths at first
+
+module _ (jobs : List Job) (ns ms : List ℕ) (t : ℕ) (some_ns : HaveLengths jobs ns) (some_ms : HaveLengths jobs ms) (agree : AgreeBefore t jobs ns ms) where
+  present_work : (ls : List ℕ) (q : ℕ) → (job_at jobs q).present ≡ true → get_or (work jobs ls) q 0 ≡ get_or ls q 0
+  present_work ls q e = work_present jobs ls q (job_at jobs q) (job_there jobs q e) e
+
+  -- who isn't present has nothing, whatever the lengths
+  either_way : (q : ℕ) → ((job_at jobs q).present ≡ true) ⊎ ((get_or (work jobs ns) q 0 ≡ 0) × (get_or (work jobs ms) q 0 ≡ 0))
+  either_way q = elim (present_or_idle jobs ns q) [
+    | inl e ↦ inl e
+    | inr z ↦ elim (present_or_idle jobs ms q) [ inl e ↦ inl e | inr y ↦ inr (z, y) ]
+  ]
+
+  first_alike : Alike jobs t (first_point jobs ns) (first_point jobs ms)
+  first_alike =
+      record {
+        time = refl;
+        released = λ q soon. elim (either_way q) [
+          | inl e ↦ present_work ns q e ∙ agree q (job_at jobs q) (job_there jobs q e) e soon ∙ sym (present_work ms q e)
+          | inr z ↦ z.0 ∙ sym z.1
+        ];
+        unreleased = λ q late. elim (either_way q) [
+          | inl e ↦
+              inr (
+                omega (arith, present_work ns q e, some_ns q (job_at jobs q) (job_there jobs q e) e),
+                omega (arith, present_work ms q e, some_ms q (job_at jobs q) (job_there jobs q e) e),
+              )
+          | inr z ↦ inl z
+        ];
+      }
+
+pub lengths_later : LengthsLater
+lengths_later f ms h t i forms chain l early some_ns some_ms agree =
+    let g : Frame = record f { lengths = ms } in
+    ap (earlier t) (list_is f i forms l)
+    ∙ alike_walks f.jobs t (get_or f.lists i []) (point_at f i) (point_at g i)
+    (path_alike f.jobs t f.lists f.legs 0 h (length f.jobs) i (first_point f.jobs f.lengths) (first_point f.jobs ms) forms chain l early (first_alike f.jobs f.lengths ms t some_ns some_ms agree))
+    ∙ sym (ap (earlier t) (list_is g i forms l))

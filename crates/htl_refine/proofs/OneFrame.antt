@@ -1,0 +1,240 @@
+-- Where all root modules have one period, a frame is a round.
+use Rattle.std.proofs.Common.{◌≡◌, ℕ, zero, suc, ◌+◌, ◌-◌, ◌*◌, ◌/◌, ◌%◌, ◌≤◌, ◌<◌, Bool, true, false, cond, ◌&&◌, eqb, List, [], ◌∷◌, ◌++◌, length, map, get_or, slice_get, Option, Some, None, refl, sym, ap, ap₂, ◌∙◌, arith, append-nil}
+use Rattle.std.specs.List.{flat_map, filter}
+use Rattle.std.proofs.lemmas.Bool.{eqb-true, eqb-false, eq-eqb, ne_eqb, lt-ltb}
+use Rattle.std.proofs.Math.Nat.{div-add-mod, mul-div-le}
+use Rattle.htl_model.specs.declared.event.Event.{Event}
+use Rattle.htl_model.specs.declared.parts.Inv.{Inv}
+use Rattle.htl_model.specs.declared.parts.Module.{Module}
+use Rattle.htl_model.specs.Chosen.{chosen}
+use Rattle.htl_model.specs.Lists.{joined, list_to, places_from, up_to}
+use Rattle.htl_model.specs.Ranges.{AreInRange}
+use Rattle.htl_model.specs.Selections.{is_root, root_modules, modes_of, choices_from, selection_count, root_period}
+use Rattle.htl_model.specs.Tables.{Tables, release, window_end, task_worst}
+use Rattle.htl_walk.specs.declared.job.Job.{Job}
+use Rattle.htl_walk.specs.declared.schedule.SInstr.{SInstr}
+use Rattle.htl_walk.specs.Jobs.{absent_job, is_fed_by, mask, job_of}
+use Rattle.htl_refine.specs.ConcreteJobs.{running_invs, standing, concrete_jobs}
+use Rattle.htl_refine.specs.Records.{lengths_of, modes_at, rounds_before, round_at, left_at}
+use Rattle.htl_refine.specs.Records as by_rounds
+use Rattle.htl_refine.specs.Roots.{entry_place, selection_from, selection_of}
+use Rattle.htl_refine.proofs.RootSelection.{below_count}
+use Rattle.htl_refine.proofs.StateLaws.{states_are_selections}
+use Rattle.htl_model.specs.declared.frame.Round.{Round}
+use Rattle.htl_model.specs.declared.frame.Place.{Place}
+use Rattle.htl_model.specs.Frames.{hyper, frame_of, unit_period, starts, rounds_of, rounds_at, rounds, choices, node, places_of, known_by}
+use Rattle.htl_walk.specs.Paths.{Leg}
+use Rattle.htl_walk.specs.PathJobs.{job_in, placed_job, placed_jobs, legs_of}
+use Rattle.htl_walk.specs.EqualPeriods.{HasOnePeriod}
+use Rattle.htl_refine.specs.DerivedPaths.{derived_place}
+use Rattle.htl_walk.proofs.OnePeriod.{one_period}
+use Rattle.htl_refine.specs.FrameLaws.{OneFrameRecords}
+use Rattle.htl_refine.specs.FrameRecords.{RunningList, lists_from, lists_at, left_in, begun_before, begins_at, in_frame, old_records_by, new_records_by}
+use Rattle.htl_refine.specs.FrameRuns.{frame_modes, path_in, path_of, running_places, frame_places, frame_jobs, Frame, frame_at, walks_of}
+
+-- ---- the rounds of the one start
+
+abbrev first_round : ℕ → Round
+first_round u = record { at = 0; unit = u }
+
+rounds_first : (t : Tables) (us : List ℕ) → rounds_of t 0 us ≡ map first_round us
+rounds_first t [] = refl
+rounds_first t (u ∷ us) = let e : 0 % unit_period t u ≡ 0 = omega arith in rw e (ap (λ rs. first_round u ∷ rs) (rounds_first t us))
+
+choices_first : (t : Tables) (k : ℕ) (ms : List Module) → choices t (map first_round (places_from is_root k ms)) ≡ choices_from t k ms
+choices_first t k [] = refl
+choices_first t k (m ∷ ms) = by (is_root m) (choices_first t (suc k) ms)
+  where
+    by : (b : Bool) → choices t (map first_round (places_from is_root (suc k) ms)) ≡ choices_from t (suc k) ms
+        → choices t (map first_round (cond b (k ∷ places_from is_root (suc k) ms) (places_from is_root (suc k) ms)))
+        ≡ cond b (length (modes_of t k)) 1 * choices_from t (suc k) ms
+    by true ih = ap (λ n. length (modes_of t k) * n) ih
+    by false ih = ih ∙ (let z : choices_from t (suc k) ms ≡ 1 * choices_from t (suc k) ms = omega arith in z)
+
+places_join : (ks ls : List ℕ) → places_of 0 ks ++ places_of 0 ls ≡ places_of 0 (ks ++ ls)
+places_join [] ls = refl
+places_join (k ∷ ks) ls = ap (λ xs. record { inv = Some k; at = 0 } ∷ xs) (places_join ks ls)
+
+-- ---- the path
+
+path_is : (t : Tables) (modes : ℕ → List (Option ℕ)) (k : ℕ) (ms : List Module) → path_in t modes (map first_round (places_from is_root k ms)) ≡ selection_from t (modes 0) k ms
+path_is t modes k [] = refl
+path_is t modes k (m ∷ ms) = by (is_root m) refl (path_is t modes (suc k) ms)
+  where
+    by : (b : Bool) → is_root m ≡ b → path_in t modes (map first_round (places_from is_root (suc k) ms)) ≡ selection_from t (modes 0) (suc k) ms
+        → path_in t modes (map first_round (cond b (k ∷ places_from is_root (suc k) ms) (places_from is_root (suc k) ms)))
+        ≡ cond b (entry_place t (modes 0) k * choices_from t (suc k) ms) 0 + selection_from t (modes 0) (suc k) ms
+    by true e ih = ap₂ (λ c r. entry_place t (modes 0) k * c + r) (choices_first t (suc k) ms) ih
+    by false e ih = ih ∙ (let z : selection_from t (modes 0) (suc k) ms ≡ 0 + selection_from t (modes 0) (suc k) ms = omega arith in z)
+
+-- ---- the positions
+
+places_are : (t : Tables) (modes : ℕ → List (Option ℕ)) (us : List ℕ) → running_places t modes (map first_round us) ≡ places_of 0 (flat_map (running_invs t (modes 0)) us)
+places_are t modes [] = refl
+places_are t modes (u ∷ us) =
+    ap (λ xs. places_of 0 (running_invs t (modes 0) u) ++ xs) (places_are t modes us)
+    ∙ places_join (running_invs t (modes 0) u) (flat_map (running_invs t (modes 0)) us)
+
+abbrev at_first : List (Option ℕ) → List Place
+at_first os = map (λ o. record { inv = o; at = 0 }) os
+
+derived_are : (t : Tables) (modes : ℕ → List (Option ℕ)) (ks : List ℕ) → map (derived_place t modes) (places_of 0 ks) ≡ at_first (map (chosen t (modes 0)) ks)
+derived_are t modes [] = refl
+derived_are t modes (k ∷ ks) = ap (λ (xs : List Place). record { inv = chosen t (modes 0) k; at = 0 } ∷ xs) (derived_are t modes ks)
+
+tests_are : (t : Tables) (k : ℕ) (os : List (Option ℕ)) → map (λ (y : Place). eqb y.at 0 && is_fed_by t k y.inv) (at_first os) ≡ map (is_fed_by t k) os
+tests_are t k [] = refl
+tests_are t k (o ∷ os) = ap (λ bs. is_fed_by t k o ∷ bs) (tests_are t k os)
+
+job_is : (t : Tables) (os : List (Option ℕ)) (o : Option ℕ) → placed_job t (at_first os) (record { inv = o; at = 0 }) ≡ job_of t os o
+job_is t os None = refl
+job_is t os (Some k) = go (slice_get t.invs k)
+  where
+    none : (n : ℕ) → 0 + n ≡ n
+    none n = omega arith
+
+    go : (o : Option Inv) → job_in t (at_first os) 0 k o
+        ≡ elim o [
+          | None ↦ absent_job
+          | Some i ↦
+              record {
+                present = true;
+                inv = k;
+                release = release t i;
+                end = window_end t i;
+                worst = task_worst t i.task;
+                preds = mask (map (is_fed_by t k) os);
+              }
+        ]
+    go None = refl
+    go (Some i) =
+        ap (λ (n : ℕ). let j : Job = record { present = true; inv = k; release = 0 + release t i; end = 0 + window_end t i; worst = task_worst t i.task; preds = n } in j) (ap mask (tests_are t k os))
+        ∙ ap (λ (n : ℕ). let j : Job = record { present = true; inv = k; release = n; end = 0 + window_end t i; worst = task_worst t i.task; preds = mask (map (is_fed_by t k) os) } in j) (none (release t i))
+        ∙ ap (λ (n : ℕ). let j : Job = record { present = true; inv = k; release = release t i; end = n; worst = task_worst t i.task; preds = mask (map (is_fed_by t k) os) } in j) (none (window_end t i))
+
+jobs_are : (t : Tables) (all os : List (Option ℕ)) → map (placed_job t (at_first all)) (at_first os) ≡ map (job_of t all) os
+jobs_are t all [] = refl
+jobs_are t all (o ∷ os) = ap₂ (λ j js. j ∷ js) (job_is t all o) (jobs_are t all os)
+
+-- ---- a frame
+
+modules_there : (ms : List Module) → 0 < length (places_from is_root 0 ms) → 0 < length ms
+modules_there [] h = absurd (omega arith)
+modules_there (m ∷ ms) h = omega arith
+
+module _ (t : Tables) (period : ℕ) (lists : List (List SInstr)) (es : List Event) (range : AreInRange t) (one : HasOnePeriod t period) where
+  rounds_are : rounds t ≡ map first_round (root_modules t)
+  rounds_are = ap (flat_map (rounds_at t)) (one_period t period one).one_start ∙ append-nil (rounds_at t 0) ∙ rounds_first t (root_modules t)
+
+  module _ (f : ℕ) where
+    here : f + 0 ≡ f
+    here = omega arith
+
+    path_same : path_of t (frame_modes t es f) ≡ selection_of t (modes_at t es f)
+    path_same =
+        ap (path_in t (frame_modes t es f)) rounds_are ∙ path_is t (frame_modes t es f) 0 t.modules
+        ∙ ap (λ n. selection_of t (modes_at t es n)) here
+
+    few : selection_of t (modes_at t es f) < selection_count t
+    few = below_count t (modes_at t es f) range (states_are_selections t range es f) (modules_there t.modules one.some)
+
+    jobs_same : frame_jobs t (frame_modes t es f) ≡ concrete_jobs t (modes_at t es f)
+    jobs_same =
+        ap (λ rs. placed_jobs t (map (derived_place t (frame_modes t es f)) (running_places t (frame_modes t es f) rs))) rounds_are
+        ∙ ap (λ xs. placed_jobs t (map (derived_place t (frame_modes t es f)) xs)) (places_are t (frame_modes t es f) (root_modules t))
+        ∙ ap (placed_jobs t) (derived_are t (frame_modes t es f) (flat_map (running_invs t (frame_modes t es f 0)) (root_modules t)))
+        ∙ jobs_are t (standing t (modes_at t es (f + 0))) (standing t (modes_at t es (f + 0)))
+        ∙ ap (λ n. concrete_jobs t (modes_at t es n)) here
+
+    node_same : node t (path_of t (frame_modes t es f)) 0 ≡ selection_of t (modes_at t es f)
+    node_same = ap (λ p. node t p 0) path_same ∙ (one_period t period one).node (selection_of t (modes_at t es f)) few
+
+    lists_same : list_to (λ j. get_or lists (node t (path_of t (frame_modes t es f)) j) []) (length (starts t)) ≡ get_or lists (selection_of t (modes_at t es f)) [] ∷ []
+    lists_same =
+        ap (λ (xs : List ℕ). list_to (λ j. get_or lists (node t (path_of t (frame_modes t es f)) j) []) (length xs)) (one_period t period one).one_start
+        ∙ ap (λ n. get_or lists n [] ∷ []) node_same
+
+    legs_same : legs_of (frame_of t) (frame_places t (frame_modes t es f)) (starts t) ≡ record { from = 0; to = frame_of t; known = known_by 0 (frame_places t (frame_modes t es f)) } ∷ []
+    legs_same = ap (legs_of (frame_of t) (frame_places t (frame_modes t es f))) (one_period t period one).one_start
+
+    frame_same : frame_at t lists es f
+        ≡ record {
+          jobs = (round_at t lists es f).jobs;
+          lengths = (round_at t lists es f).lengths;
+          lists = (round_at t lists es f).schedule ∷ [];
+          legs = record { from = 0; to = frame_of t; known = known_by 0 (frame_places t (frame_modes t es f)) } ∷ [];
+        }
+    frame_same =
+        let make : List Job → List (List SInstr) → List Leg → Frame = λ js ss gs. record { jobs = js; lengths = lengths_of t es f js; lists = ss; legs = gs } in
+        let ss = list_to (λ j. get_or lists (node t (path_of t (frame_modes t es f)) j) []) (length (starts t)) in
+        let gs = legs_of (frame_of t) (frame_places t (frame_modes t es f)) (starts t) in
+        ap (λ js. make js ss gs) jobs_same
+        ∙ ap (λ zs. make (concrete_jobs t (modes_at t es f)) zs gs) lists_same
+        ∙ ap (λ hs. make (concrete_jobs t (modes_at t es f)) (get_or lists (selection_of t (modes_at t es f)) [] ∷ []) hs) legs_same
+
+    pub lists_running : lists_at t lists es f ≡ record { from = f + 0; node = node t (path_of t (frame_modes t es f)) 0; code = (round_at t lists es f).schedule; walk = by_rounds.walk_of (round_at t lists es f) } ∷ []
+    lists_running = ap (λ (p : Frame). lists_from (node t (path_of t (frame_modes t es f))) f 0 p.lists p.legs (walks_of p)) frame_same
+
+    -- the records of the one list
+    pub in_one : (which : RunningList → Bool) (now : ℕ) (b : Bool)
+        → which (record { from = f + 0; node = node t (path_of t (frame_modes t es f)) 0; code = (round_at t lists es f).schedule; walk = by_rounds.walk_of (round_at t lists es f) }) ≡ b
+        → in_frame t lists es which now f ≡ cond b (left_at t lists es f now) []
+    in_one which now b e =
+        ap (λ rs. joined (left_in now f) (filter which rs)) lists_running
+        ∙ by b e
+      where
+        by : (b : Bool) → which (record { from = f + 0; node = node t (path_of t (frame_modes t es f)) 0; code = (round_at t lists es f).schedule; walk = by_rounds.walk_of (round_at t lists es f) }) ≡ b
+            → joined (left_in now f) (filter which (record { from = f + 0; node = node t (path_of t (frame_modes t es f)) 0; code = (round_at t lists es f).schedule; walk = by_rounds.walk_of (round_at t lists es f) } ∷ [])) ≡ cond b (left_at t lists es f now) []
+        by true e = rw e (append-nil (left_at t lists es f now))
+        by false e = rw e refl
+
+-- ---- the records
+
+up_to_same : {A : Type 0} (f g : ℕ → List A) (m : ℕ) → ((k : ℕ) → k < m → f k ≡ g k) → up_to f m ≡ up_to g m
+up_to_same f g zero h = refl
+up_to_same f g (suc m) h = ap₂ (λ xs ys. xs ++ ys) (up_to_same f g m (λ k l. h k (omega arith))) (h m (omega arith))
+
+begun_below : (h now k : ℕ) → 0 < h → k < rounds_before h now → k * h + 0 < now
+begun_below h now k some less =
+    let whole : h * ((now + h - 1) / h) ≤ now + h - 1 = mul-div-le (now + h - 1) h in
+    let below : h * (suc k) ≤ h * ((now + h - 1) / h) = more h (suc k) ((now + h - 1) / h) (omega arith) in
+    let is : k * h + h ≡ h * (suc k) = grind arith in
+    omega (arith, whole, below, is, some)
+  where
+    more : (p a b : ℕ) → a ≤ b → p * a ≤ p * b
+    more p a b h = grind arith
+
+pub one_frame_records : OneFrameRecords
+one_frame_records t period lists es now range one root = (old, new)
+  where
+    h_is : hyper t ≡ Some period
+    h_is = (one_period t period one).frame
+
+    old : old_records_by t lists es now (hyper t) ≡ by_rounds.old_records_by t lists es now (root_period t)
+    old =
+        ap (old_records_by t lists es now) h_is
+        ∙ up_to_same (λ k. in_frame t lists es (begun_before now) now (k * period)) (λ k. left_at t lists es (k * period) now) (rounds_before period now)
+        (λ k less. in_one t period lists es range one (k * period) (begun_before now) now true (lt-ltb (k * period + 0) now (begun_below period now k one.positive less)))
+        ∙ sym (ap (by_rounds.old_records_by t lists es now) root)
+
+    new : new_records_by t lists es now (hyper t) ≡ by_rounds.new_records_by t lists es now (root_period t)
+    new =
+        ap (new_records_by t lists es now) h_is
+        ∙ by (eqb (now % period) 0) refl
+        ∙ sym (ap (by_rounds.new_records_by t lists es now) root)
+      where
+        f : ℕ
+        f = period * (now / period)
+
+        whole : period * (now / period) + now % period ≡ now
+        whole = div-add-mod now period
+
+        by : (b : Bool) → eqb (now % period) 0 ≡ b → in_frame t lists es (begins_at now) now (period * (now / period)) ≡ cond b (left_at t lists es now now) []
+        by true e =
+            let z : now % period ≡ 0 = eqb-true (now % period) 0 e in
+            let same : period * (now / period) ≡ now = omega (arith, whole, z) in
+            in_one t period lists es range one (period * (now / period)) (begins_at now) now true (eq-eqb (period * (now / period) + 0) now (omega (arith, same)))
+            ∙ ap (λ a. left_at t lists es a now) same
+        by false e =
+            let d = eqb-false (now % period) 0 e in
+            in_one t period lists es range one (period * (now / period)) (begins_at now) now false (ne_eqb (period * (now / period) + 0) now (λ z. d (omega (arith, whole, z))))

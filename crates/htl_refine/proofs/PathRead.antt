@@ -1,0 +1,73 @@
+-- The modes that run in a frame make one path, whose positions are those of the modes.
+use Rattle.std.proofs.Common.{◌≡◌, ℕ, suc, ◌+◌, ◌*◌, ◌/◌, ◌%◌, ◌≤◌, ◌<◌, List, [], ◌∷◌, ◌++◌, length, get_or, Option, Some, None, refl, sym, ap, ap₂, ◌∙◌, arith}
+use Rattle.std.proofs.lemmas.Nat.{div-mul-add}
+use Rattle.std.proofs.Math.Nat.{mod-eq_of_lt}
+use Rattle.htl_model.specs.Selected.{IsSelection}
+use Rattle.htl_model.specs.Selections.{modes_of, invs_of}
+use Rattle.htl_model.specs.Tables.{Tables}
+use Rattle.htl_refine.specs.ConcreteJobs.{running_invs}
+use Rattle.htl_refine.specs.Roots.{entry_place}
+use Rattle.htl_refine.proofs.PathDerived.{AreRootRounds, path_rounds}
+use Rattle.htl_refine.proofs.RootSelection.{root_place, later_digit}
+use Rattle.htl_model.specs.declared.frame.Round.{Round}
+use Rattle.htl_model.specs.Frames.{rounds, choices, mode_in, places_of, places_in}
+use Rattle.htl_refine.specs.FrameRuns.{path_in, path_of, running_places}
+use Rattle.htl_refine.specs.FrameLaws.{PathsRead}
+
+-- ---- numbers in mixed radix
+
+digits : (p c l r : ℕ) → p < l → r < c → p * c + r < l * c
+digits p c l r a b =
+    let most : suc p * c ≤ l * c = grow (suc p) l c a in
+    let one : suc p * c ≡ p * c + c = succ p c in
+    omega (arith, most, one, b)
+  where
+    grow : (a b c : ℕ) → a ≤ b → a * c ≤ b * c
+    grow a b c h = grind arith
+
+    succ : (p c : ℕ) → suc p * c ≡ p * c + c
+    succ p c = omega arith
+
+first_digit : (p c l r : ℕ) → p < l → r < c → (p * c + r) / c % l ≡ p
+first_digit p c l r a b = ap (λ n. n % l) (div-mul-add p c r b) ∙ mod-eq_of_lt a
+
+regroup : (d l c e q : ℕ) → d * (l * c) + (e * c + q) ≡ (d * l + e) * c + q
+regroup d l c e q = grind arith
+
+one_more : (d l c r : ℕ) → d * (l * c) + r ≡ d * (1 * l * c) + r
+one_more d l c r = grind arith
+
+-- ---- the path
+
+module _ (t : Tables) (modes : ℕ → List (Option ℕ)) (selections : (a : ℕ) → IsSelection t (modes a)) where
+  pub below : (rs : List Round) → AreRootRounds t rs → path_in t modes rs < choices t rs
+  below [] h = omega arith
+  below (r ∷ rs) h =
+      let x = h 0 r refl in
+      digits (entry_place t (modes r.at) r.unit) (choices t rs) (length (modes_of t r.unit)) (path_in t modes rs)
+      (root_place t (modes r.at) (selections r.at) r.unit x.0 x.1 x.2).0 (below rs (λ p z e. h (suc p) z e))
+
+  -- whatever comes before these rounds
+  read : (rs : List Round) (d : ℕ) → AreRootRounds t rs → places_in t (d * choices t rs + path_in t modes rs) rs ≡ running_places t modes rs
+  read [] d h = refl
+  read (r ∷ rs) d h =
+      let x = h 0 r refl in
+      let l = length (modes_of t r.unit) in
+      let c = choices t rs in
+      let e = entry_place t (modes r.at) r.unit in
+      let q = path_in t modes rs in
+      let place = root_place t (modes r.at) (selections r.at) r.unit x.0 x.1 x.2 in
+      let later = below rs (λ p z f. h (suc p) z f) in
+      let digit : (d * (l * c) + (e * c + q)) / c % l ≡ e =
+      ap (λ n. n / c % l) (one_more d l c (e * c + q)) ∙ later_digit t (modes r.at) d 1 l c (e * c + q) (omega (arith, later)) ∙ first_digit e c l q place.0 later in
+      let invs : invs_of t (mode_in t (d * (l * c) + (e * c + q)) r rs) ≡ running_invs t (modes r.at) r.unit =
+      ap (λ n. invs_of t (get_or (modes_of t r.unit) n 0)) digit ∙ sym (ap (λ (o : Option ℕ). elim o [ Some m ↦ invs_of t m | None ↦ [] ]) place.1) in
+      ap₂ (λ ks xs. places_of r.at ks ++ xs) invs
+      (ap (λ n. places_in t n rs) (regroup d l c e q) ∙ read rs (d * l + e) (λ p z f. h (suc p) z f))
+
+pub paths_read : PathsRead
+paths_read t modes selections =
+    record {
+      below = below t modes selections (rounds t) (path_rounds t);
+      places = sym (read t modes selections (rounds t) 0 (path_rounds t)) ∙ ap (λ n. places_in t n (rounds t)) (let z : 0 * choices t (rounds t) + path_of t modes ≡ path_of t modes = omega arith in z);
+    }

@@ -1,0 +1,288 @@
+-- The records of an instant are those of the list that ran up to it, and of the list that begins at it.
+use Rattle.std.proofs.Common.{◌≡◌, ◌≢◌, ℕ, zero, suc, ◌+◌, ◌-◌, ◌*◌, ◌/◌, ◌≤◌, ◌<◌, ◌⊎◌, Bool, true, false, cond, eqb, ltb, List, [], ◌∷◌, ◌++◌, length, get_or, map, slice_get, Option, Some, None, refl, sym, ap, ap₂, ◌∙◌, subst, arith, append-nil, inl, inr}
+use Rattle.std.specs.List.{filter}
+use Rattle.std.proofs.lemmas.Bool.{eqb-true, eq-eqb, ne_eqb, lt-ltb, ltb-true}
+use Rattle.std.proofs.lemmas.Option.{slice_get-get_or}
+use Rattle.std.proofs.Math.Nat.{add-mul-div_left, div-eq_of_lt}
+use Rattle.htl_model.specs.declared.event.Event.{Event}
+use Rattle.htl_model.specs.Frames.{hyper, frame_of, root_periods, starts, node}
+use Rattle.htl_model.specs.Lists.{joined, numbered, up_to}
+use Rattle.htl_model.specs.Tables.{Tables}
+use Rattle.htl_walk.specs.declared.job.Job.{Job}
+use Rattle.htl_walk.specs.declared.schedule.SInstr.{SInstr}
+use Rattle.htl_walk.specs.Paths.{Leg, begun, walks_from, AreInForm, AreChained, path_point}
+use Rattle.htl_walk.specs.Walk.{Point, Left, walk_from, last_point, first_point}
+use Rattle.htl_walk.proofs.Finishes.{some_same}
+use Rattle.htl_walk.proofs.Starts.{Rises, starts_rise}
+use Rattle.htl_refine.specs.FrameRecords.{RunningList, lists_from, lists_at, left_in, begun_before, begins_at, in_frame, old_records_by, new_records_by}
+use Rattle.htl_refine.specs.FrameRuns.{frame_modes, path_of, frame_places, frame_at, walks_of}
+use Rattle.htl_refine.specs.ListPlans.{no_leg, leg_at, point_at}
+use Rattle.htl_refine.specs.RecordLists.{list_at, ListsRun, OldRecords, NoOldRecords, NewRecords, NoNewRecords}
+use Rattle.htl_refine.specs.Records.{shifted, rounds_before}
+use Rattle.htl_refine.specs.ServedFrames.{IsServing, IsFeasibleRun}
+use Rattle.htl_refine.proofs.BegunTimes.{start_below}
+use Rattle.htl_refine.proofs.ListCounts.{chain_to}
+use Rattle.htl_refine.proofs.ListWalks.{form_at, list_is}
+use Rattle.htl_refine.proofs.ListsFollow.{rises_next, rises_up, legs_many, leg_from}
+use Rattle.htl_refine.proofs.RecordOrder.{not_some, times_within, chain_ends}
+use Rattle.htl_refine.proofs.ServedFrames.{frames_are_served}
+
+-- ---- lists end to end, of which at most one gives something
+
+joined_none : {A B : Type 0} (g : A → List B) (test : A → Bool) (xs : List A) → ((i : ℕ) (y : A) → slice_get xs i ≡ Some y → test y ≡ true → g y ≡ []) → joined g (filter test xs) ≡ []
+joined_none g test [] h = refl
+joined_none {A} {B} g test (x ∷ xs) h = by (test x) refl (joined_none g test xs (λ i y e. h (suc i) y e))
+  where
+    by : (b : Bool) → test x ≡ b → joined g (filter test xs) ≡ [] → joined g (cond b (x ∷ filter test xs) (filter test xs)) ≡ []
+    by true e ih = ap (λ (zs : List B). zs ++ joined g (filter test xs)) (h 0 x refl e) ∙ ih
+    by false e ih = ih
+
+joined_one : {A B : Type 0} (g : A → List B) (test : A → Bool) (xs : List A) (j : ℕ) (x : A) → slice_get xs j ≡ Some x → test x ≡ true
+    → ((i : ℕ) (y : A) → i ≢ j → slice_get xs i ≡ Some y → test y ≡ true → g y ≡ []) → joined g (filter test xs) ≡ g x
+joined_one g test [] j x at pass h = not_some x at
+joined_one {A} {B} g test (y ∷ ys) zero x at pass h =
+    let same : y ≡ x = some_same y x at in
+    let rest : joined g (filter test ys) ≡ [] = joined_none g test ys (λ i z e. h (suc i) z (λ q. omega (arith, q)) e) in
+    ap (λ (z : A). joined g (filter test (z ∷ ys))) same
+    ∙ ap (λ (b : Bool). joined g (cond b (x ∷ filter test ys) (filter test ys))) pass
+    ∙ ap (λ (zs : List B). g x ++ zs) rest ∙ append-nil (g x)
+joined_one {A} {B} g test (y ∷ ys) (suc j) x at pass h = by (test y) refl (joined_one g test ys j x at pass (λ i z n e. h (suc i) z (λ q. n (let same : i ≡ j = omega (arith, q) in same)) e))
+  where
+    by : (b : Bool) → test y ≡ b → joined g (filter test ys) ≡ g x → joined g (cond b (y ∷ filter test ys) (filter test ys)) ≡ g x
+    by true e ih = ap (λ (zs : List B). zs ++ joined g (filter test ys)) (h 0 y (λ q. omega (arith, q)) refl e) ∙ ih
+    by false e ih = ih
+
+up_to_none : {A : Type 0} (g : ℕ → List A) (m : ℕ) → ((k : ℕ) → k < m → g k ≡ []) → up_to g m ≡ []
+up_to_none g zero h = refl
+up_to_none g (suc m) h = ap₂ (λ xs ys. xs ++ ys) (up_to_none g m (λ k less. h k (omega (arith, less)))) (h m (omega arith))
+
+-- ---- records that are left at another time
+
+none_left : (now f k : ℕ) (ls : List Left) → ((i : ℕ) (l : Left) → slice_get ls i ≡ Some l → f + l.at ≢ now) → filter (λ (l : ℕ × Left). eqb l.1.at now) (numbered k (map (shifted f) ls)) ≡ []
+none_left now f k [] h = refl
+none_left now f k (l ∷ ls) h = by (eqb (f + l.at) now) (ne_eqb (f + l.at) now (h 0 l refl)) (none_left now f (suc k) ls (λ i m e. h (suc i) m e))
+  where
+    by : (b : Bool) → b ≡ false → filter (λ (l : ℕ × Left). eqb l.1.at now) (numbered (suc k) (map (shifted f) ls)) ≡ []
+        → cond b ((k, shifted f l) ∷ filter (λ (l : ℕ × Left). eqb l.1.at now) (numbered (suc k) (map (shifted f) ls))) (filter (λ (l : ℕ × Left). eqb l.1.at now) (numbered (suc k) (map (shifted f) ls))) ≡ []
+    by true e ih = absurd (let z : ⊥ = cc in z)
+    by false e ih = ih
+
+-- ---- the lists of a frame
+
+lists_there : (jobs : List Job) (number : ℕ → ℕ) (f n m : ℕ) (ss : List (List SInstr)) (gs : List Leg) (x : Point) (j : ℕ) → AreInForm ss gs → j < length gs → m ≡ n + j
+    → slice_get (lists_from number f n ss gs (walks_from jobs ss gs x)) j
+    ≡ Some (record { from = f + (get_or gs j no_leg).from; node = number m; code = get_or ss j []; walk = walk_from jobs (get_or ss j []) (path_point jobs ss gs j 0 x) })
+lists_there jobs number f n m [] [] x j form l e = absurd (omega (arith, l))
+lists_there jobs number f n m [] (g ∷ gs) x j form l e = absurd form
+lists_there jobs number f n m (s ∷ ss) [] x j form l e = absurd form
+lists_there jobs number f n m (s ∷ ss) (g ∷ gs) x zero form l e =
+    ap (λ (z : ℕ). let r : RunningList = record { from = f + g.from; node = number z; code = s; walk = walk_from jobs s (begun g.from x) } in Some r) (let z : n ≡ m = omega (arith, e) in z)
+lists_there jobs number f n m (s ∷ ss) (g ∷ gs) x (suc j) form l e =
+    lists_there jobs number f (suc n) m ss gs (last_point jobs s (begun g.from x)) j form.1 (omega (arith, l)) (omega (arith, e))
+
+lists_within : (number : ℕ → ℕ) (f n : ℕ) (ss : List (List SInstr)) (gs : List Leg) (ws : List (List Left)) (i : ℕ) (y : RunningList) → slice_get (lists_from number f n ss gs ws) i ≡ Some y → i < length gs
+lists_within number f n [] gs ws i y e = not_some y e
+lists_within number f n (s ∷ ss) [] ws i y e = not_some y e
+lists_within number f n (s ∷ ss) (g ∷ gs) [] i y e = not_some y e
+lists_within number f n (s ∷ ss) (g ∷ gs) (w ∷ ws) zero y e = omega arith
+lists_within number f n (s ∷ ss) (g ∷ gs) (w ∷ ws) (suc i) y e = let r = lists_within number f (suc n) ss gs ws i y e in omega (arith, r)
+
+-- a list begins at its leg's start
+point_time : (jobs : List Job) (ss : List (List SInstr)) (gs : List Leg) (j : ℕ) (x : Point) → AreInForm ss gs → j < length gs → (path_point jobs ss gs j 0 x).time ≡ (get_or gs j no_leg).from
+point_time jobs [] [] j x f h = absurd (omega arith)
+point_time jobs [] (g ∷ gs) j x f h = absurd f
+point_time jobs (s ∷ ss) [] j x f h = absurd f
+point_time jobs (s ∷ ss) (g ∷ gs) zero x f h = refl
+point_time jobs (s ∷ ss) (g ∷ gs) (suc j) x f h = point_time jobs ss gs j (last_point jobs s (begun g.from x)) f.1 (omega arith)
+
+leg_order : (a h n j : ℕ) (gs : List Leg) → AreChained a h n gs → j < length gs → (get_or gs j no_leg).from ≤ (get_or gs j no_leg).to
+leg_order a h n j [] c l = absurd (omega (arith, l))
+leg_order a h n zero (g ∷ gs) c l = c.1
+leg_order a h n (suc j) (g ∷ gs) c l = leg_order g.to h n j gs c.3 (omega (arith, l))
+
+leg_end : (a h n j : ℕ) (gs : List Leg) → AreChained a h n gs → j < length gs → (get_or gs j no_leg).to ≤ h
+leg_end a h n j [] c l = absurd (omega (arith, l))
+leg_end a h n zero (g ∷ gs) c l = chain_ends g.to h n gs c.3
+leg_end a h n (suc j) (g ∷ gs) c l = leg_end g.to h n j gs c.3 (omega (arith, l))
+
+legs_order : (a h n i j : ℕ) (gs : List Leg) → AreChained a h n gs → i < j → j < length gs → (get_or gs i no_leg).to ≤ (get_or gs j no_leg).from
+legs_order a h n i j [] c less l = absurd (omega (arith, l))
+legs_order a h n i zero (g ∷ gs) c less l = absurd (omega (arith, less))
+legs_order a h n zero (suc j) (g ∷ gs) c less l = chain_to g.to h n j gs c.3 (omega (arith, l))
+legs_order a h n (suc i) (suc j) (g ∷ gs) c less l = legs_order g.to h n i j gs c.3 (omega (arith, less)) (omega (arith, l))
+
+-- ---- frames
+
+frames_begun : (h k now : ℕ) → 0 < h → k * h < now → now ≤ k * h + h → rounds_before h now ≡ suc k
+frames_begun h k now some began upto =
+    let d = now - k * h - 1 in
+    let times : h * suc k ≡ k * h + h = grind arith in
+    let is : now + h - 1 ≡ (now - k * h - 1) + h * suc k = omega (arith, times, began, some) in
+    let less : now - k * h - 1 < h = omega (arith, began, upto, some) in
+    ap (λ z. z / h) is ∙ add-mul-div_left (now - k * h - 1) (suc k) some ∙ ap (λ z. z + suc k) (div-eq_of_lt less) ∙ (let e : 0 + suc k ≡ suc k = omega arith in e)
+
+frame_is : (h k a : ℕ) → 0 < h → a < h → h * ((k * h + a) / h) ≡ k * h
+frame_is h k a some less =
+    let is : k * h + a ≡ a + h * k = grind arith in
+    let turn : h * k ≡ k * h = grind arith in
+    ap (λ z. h * (z / h)) is ∙ ap (λ z. h * z) (add-mul-div_left a k some ∙ ap (λ z. z + k) (div-eq_of_lt less) ∙ (let e : 0 + k ≡ k = omega arith in e)) ∙ turn
+
+frame_before : (h i k : ℕ) → i < k → i * h + h ≤ k * h
+frame_before h i k less =
+    let more : suc i * h ≤ k * h = grow h (suc i) k (omega (arith, less)) in
+    let is : suc i * h ≡ i * h + h = grind arith in
+    omega (arith, more, is)
+  where
+    grow : (h a b : ℕ) → a ≤ b → a * h ≤ b * h
+    grow h a b l = grind arith
+
+three : (i j : ℕ) → (i < j) ⊎ ((i ≡ j) ⊎ (j < i))
+three i j = grind arith
+
+-- ---- in a run
+
+module _ (t : Tables) (lists : List (List SInstr)) (es : List Event) (run : IsFeasibleRun t lists es) where
+  hyper_is : hyper t ≡ Some (frame_of t)
+  hyper_is = by (hyper t) run.ticks
+    where
+      by : (o : Option ℕ) → 0 < elim o as (λ _. ℕ) [ Some h ↦ h | None ↦ 0 ] → o ≡ Some (elim o as (λ _. ℕ) [ Some h ↦ h | None ↦ 0 ])
+      by None h = absurd (omega (arith, h))
+      by (Some h) p = refl
+
+  serving : (f : ℕ) → IsServing (frame_at t lists es f) (frame_of t)
+  serving f = frames_are_served t lists es f run
+
+  known_leg : (f j : ℕ) → j < length (starts t) → j < length (frame_at t lists es f).legs
+  known_leg f j l = let many = legs_many (frame_of t) (frame_places t (frame_modes t es f)) (starts t) in omega (arith, many, l)
+
+  there : (f j : ℕ) → j < length (starts t) → slice_get (lists_at t lists es f) j ≡ Some (list_at t lists es f j)
+  there f j l =
+      let p = frame_at t lists es f in
+      let number = node t (path_of t (frame_modes t es f)) in
+      lists_there p.jobs number f 0 j p.lists p.legs (first_point p.jobs p.lengths) j (serving f).forms (known_leg f j l) (omega arith)
+      ∙ ap (λ (w : List Left). let r : RunningList = record { from = f + (leg_at p j).from; node = number j; code = get_or p.lists j []; walk = w } in Some r)
+      (sym (list_is p j (serving f).forms (known_leg f j l)))
+
+  only : (f i : ℕ) (y : RunningList) → slice_get (lists_at t lists es f) i ≡ Some y → (i < length (starts t)) × (list_at t lists es f i ≡ y)
+  only f i y e =
+      let p = frame_at t lists es f in
+      let l : i < length p.legs = lists_within (node t (path_of t (frame_modes t es f))) f 0 p.lists p.legs (walks_of p) i y e in
+      let many = legs_many (frame_of t) (frame_places t (frame_modes t es f)) (starts t) in
+      let few : i < length (starts t) = omega (arith, many, l) in
+      (few, some_same _ _ (sym (there f i few) ∙ e))
+
+  -- a list leaves nothing after its leg
+  times : (f i k : ℕ) (l : Left) → i < length (starts t) → slice_get (list_at t lists es f i).walk k ≡ Some l → l.at ≤ (leg_at (frame_at t lists es f) i).to
+  times f i k l few at =
+      let p = frame_at t lists es f in
+      let s = serving f in
+      let m = known_leg f i few in
+      let time : (point_at p i).time ≡ (leg_at p i).from = point_time p.jobs p.lists p.legs i (first_point p.jobs p.lengths) s.forms m in
+      let order : (leg_at p i).from ≤ (leg_at p i).to = leg_order 0 (frame_of t) (length p.jobs) i p.legs s.chain m in
+      times_within p.jobs (leg_at p i).known (leg_at p i).to (get_or p.lists i []) (point_at p i) (form_at p.lists p.legs i s.forms m) (omega (arith, time, order)) k l
+      (ap (λ (ls : List Left). slice_get ls k) (sym (list_is p i s.forms m)) ∙ at)
+
+  -- of the lists of a frame
+  in_last : (f j now : ℕ) → j < length (starts t) → (list_at t lists es f j).from < now → now ≤ f + (leg_at (frame_at t lists es f) j).to
+      → in_frame t lists es (begun_before now) now f ≡ left_in now f (list_at t lists es f j)
+  in_last f j now l began upto =
+      joined_one (left_in now f) (begun_before now) (lists_at t lists es f) j (list_at t lists es f j) (there f j l) (lt-ltb (list_at t lists es f j).from now began)
+      (λ i y other at pass.
+      let o = only f i y at in
+      subst (λ (z : RunningList). left_in now f z ≡ []) o.1 (by i o.0 other (ltb-true (list_at t lists es f i).from now (subst (λ (z : RunningList). ltb z.from now ≡ true) (sym o.1) pass)) (three i j)))
+    where
+      by : (i : ℕ) → i < length (starts t) → i ≢ j → (list_at t lists es f i).from < now → (i < j) ⊎ ((i ≡ j) ⊎ (j < i)) → left_in now f (list_at t lists es f i) ≡ []
+      by i few other start (inl less) =
+          let p = frame_at t lists es f in
+          let order : (leg_at p i).to ≤ (leg_at p j).from = legs_order 0 (frame_of t) (length p.jobs) i j p.legs (serving f).chain less (known_leg f j l) in
+          none_left now f 0 (list_at t lists es f i).walk (λ q m e same. let last = times f i q m few e in omega (arith, last, order, began, same))
+      by i few other start (inr (inl same)) = absurd (other same)
+      by i few other start (inr (inr more)) =
+          let p = frame_at t lists es f in
+          let order : (leg_at p j).to ≤ (leg_at p i).from = legs_order 0 (frame_of t) (length p.jobs) j i p.legs (serving f).chain more (known_leg f i few) in
+          absurd (omega (arith, order, upto, start))
+
+  in_earlier : (f now : ℕ) → f + frame_of t < now → in_frame t lists es (begun_before now) now f ≡ []
+  in_earlier f now past =
+      joined_none (left_in now f) (begun_before now) (lists_at t lists es f) (λ i y at pass.
+      let o = only f i y at in
+      let p = frame_at t lists es f in
+      let most : (leg_at p i).to ≤ frame_of t = leg_end 0 (frame_of t) (length p.jobs) i p.legs (serving f).chain (known_leg f i o.0) in
+      subst (λ (z : RunningList). left_in now f z ≡ []) o.1 (none_left now f 0 (list_at t lists es f i).walk (λ q m e same. let last = times f i q m o.0 e in omega (arith, last, most, past, same))))
+
+  old_is : (k j now : ℕ) → j < length (starts t) → (list_at t lists es (k * frame_of t) j).from < now → now ≤ k * frame_of t + (leg_at (frame_at t lists es (k * frame_of t)) j).to
+      → old_records_by t lists es now (hyper t) ≡ left_in now (k * frame_of t) (list_at t lists es (k * frame_of t) j)
+  old_is k j now l began upto =
+      let h = frame_of t in
+      let p = frame_at t lists es (k * h) in
+      let g = λ (i : ℕ). in_frame t lists es (begun_before now) now (i * h) in
+      let most : (leg_at p j).to ≤ h = leg_end 0 h (length p.jobs) j p.legs (serving (k * h)).chain (known_leg (k * h) j l) in
+      let count : rounds_before h now ≡ suc k = frames_begun h k now run.ticks (omega (arith, began)) (omega (arith, upto, most)) in
+      let before : up_to g k ≡ [] = up_to_none g k (λ i less. in_earlier (i * h) now (let end = frame_before h i k less in omega (arith, end, began))) in
+      ap (old_records_by t lists es now) hyper_is ∙ ap (up_to g) count ∙ ap (λ (xs : List (ℕ × Left)). xs ++ g k) before ∙ in_last (k * h) j now l began upto
+
+  -- ---- the list that begins
+
+  start_of : (f j : ℕ) → j < length (starts t) → (leg_at (frame_at t lists es f) j).from ≡ get_or (starts t) j 0
+  start_of f j l = leg_from (frame_of t) (frame_places t (frame_modes t es f)) (starts t) j l
+
+  strict : (i j : ℕ) → i < j → j < length (starts t) → get_or (starts t) i 0 < get_or (starts t) j 0
+  strict i zero less l = absurd (omega (arith, less))
+  strict i (suc j) less l =
+      let rise : Rises (root_periods t) (frame_of t) (starts t) = starts_rise (root_periods t) (frame_of t) in
+      let up = rises_up (root_periods t) (frame_of t) (starts t) i j rise (omega (arith, less)) (omega (arith, l)) in
+      let next = rises_next (root_periods t) (frame_of t) (starts t) j rise l in
+      omega (arith, up, next)
+
+  one_start : (i j : ℕ) → i < length (starts t) → j < length (starts t) → get_or (starts t) i 0 ≡ get_or (starts t) j 0 → i ≢ j → ⊥
+  one_start i j l m same other = elim (three i j) [
+    | inl less ↦ let s = strict i j less m in omega (arith, s, same)
+    | inr (inl e) ↦ other e
+    | inr (inr more) ↦ let s = strict j i more l in omega (arith, s, same)
+  ]
+
+  new_is : (k j : ℕ) → j < length (starts t) → new_records_by t lists es (list_at t lists es (k * frame_of t) j).from (hyper t) ≡ left_in (list_at t lists es (k * frame_of t) j).from (k * frame_of t) (list_at t lists es (k * frame_of t) j)
+  new_is k j l =
+      let h = frame_of t in
+      let f = k * h in
+      let r = list_at t lists es f j in
+      let below : get_or (starts t) j 0 < h = start_below (root_periods t) h j (get_or (starts t) j 0) (slice_get-get_or (starts t) j 0 l) in
+      let start = start_of f j l in
+      let less : (leg_at (frame_at t lists es f) j).from < h = omega (arith, below, start) in
+      ap (new_records_by t lists es r.from) hyper_is
+      ∙ ap (in_frame t lists es (begins_at r.from) r.from) (frame_is h k (leg_at (frame_at t lists es f) j).from run.ticks less)
+      ∙ joined_one (left_in r.from f) (begins_at r.from) (lists_at t lists es f) j r (there f j l) (eq-eqb r.from r.from refl)
+      (λ i y other at pass.
+      let o = only f i y at in
+      let same : (list_at t lists es f i).from ≡ r.from = ap (λ (z : RunningList). z.from) o.1 ∙ eqb-true y.from r.from pass in
+      absurd (one_start i j o.0 l (let a = start_of f i o.0 in omega (arith, a, start, same)) other))
+
+  none_new : (now : ℕ) → ((j : ℕ) → j < length (starts t) → frame_of t * (now / frame_of t) + get_or (starts t) j 0 ≢ now) → new_records_by t lists es now (hyper t) ≡ []
+  none_new now away =
+      let f = frame_of t * (now / frame_of t) in
+      ap (new_records_by t lists es now) hyper_is
+      ∙ joined_none (left_in now f) (begins_at now) (lists_at t lists es f) (λ i y at pass.
+      let o = only f i y at in
+      let same : (list_at t lists es f i).from ≡ now = ap (λ (z : RunningList). z.from) o.1 ∙ eqb-true y.from now pass in
+      absurd (away i o.0 (let a = start_of f i o.0 in omega (arith, a, same))))
+
+  none_old : old_records_by t lists es 0 (hyper t) ≡ []
+  none_old = ap (old_records_by t lists es 0) hyper_is ∙ ap (up_to (λ (i : ℕ). in_frame t lists es (begun_before 0) 0 (i * frame_of t))) (first (frame_of t) run.ticks)
+    where
+      first : (h : ℕ) → 0 < h → rounds_before h 0 ≡ 0
+      first h some = grind arith
+
+pub lists_run : ListsRun
+lists_run t lists es f j run l = there t lists es run f j l
+
+pub old_records : OldRecords
+old_records t lists es k j now run l began upto = old_is t lists es run k j now l began upto
+
+pub no_old_records : NoOldRecords
+no_old_records t lists es run = none_old t lists es run
+
+pub new_records : NewRecords
+new_records t lists es k j run l = new_is t lists es run k j l
+
+pub no_new_records : NoNewRecords
+no_new_records t lists es now run away = none_new t lists es run now away

@@ -1,0 +1,98 @@
+-- A frame whose lists meet serves each job once, in its window, in slices that are its own.
+use Rattle.std.proofs.Common.{◌≡◌, ℕ, zero, suc, ◌-◌, ◌*◌, ◌≤◌, ◌<◌, ◌⊎◌, Bool, true, false, cond, ◌&&◌, ◌||◌, eqb, is_some, List, [], ◌∷◌, length, take, Option, Some, None, refl, sym, ap, ◌∙◌, arith, inl, inr}
+use Rattle.std.proofs.lemmas.Bool.{eq-eqb}
+use Rattle.htl_walk.specs.declared.job.Job.{Job}
+use Rattle.htl_walk.specs.declared.schedule.SInstr.{SInstr}
+use Rattle.htl_walk.specs.Paths.{Leg, walks_from, end_to_end, AreInForm}
+use Rattle.htl_walk.specs.Walk.{Point, Left, first_point, is_position, finish}
+use Rattle.htl_walk.proofs.Finishes.{some_same}
+use Rattle.htl_walk.proofs.Joining.{joined, show_joined}
+use Rattle.htl_walk.proofs.Work.{work_present}
+use Rattle.htl_refine.specs.FrameRuns.{Frame, walk_of}
+use Rattle.htl_refine.specs.RecordCounts.{done_by}
+use Rattle.htl_refine.specs.ServedFrames.{IsServing, FramesServe}
+use Rattle.htl_refine.specs.ServedJobs.{spent, Finishes, Serves}
+use Rattle.htl_refine.proofs.FinishingRecords.{done_more, finish_record, finishing}
+use Rattle.htl_refine.proofs.RecordOrder.{not_some, path_rises, path_within, counted}
+use Rattle.htl_refine.proofs.SliceOrder.{path_apart}
+use Rattle.htl_refine.proofs.SliceSums.{spent_is}
+
+-- ---- once
+
+done_stays : (ls : List Left) (k m p : ℕ) → k ≤ m → done_by ls k p ≡ true → done_by ls m p ≡ true
+done_stays [] zero m p h e = absurd (let z : ⊥ = cc in z)
+done_stays [] (suc k) m p h e = absurd (let z : ⊥ = cc in z)
+done_stays (l ∷ ls) zero m p h e = absurd (let z : ⊥ = cc in z)
+done_stays (l ∷ ls) (suc k) zero p h e = absurd (omega arith)
+done_stays (l ∷ ls) (suc k) (suc m) p h e = by_test (is_position l.position p && l.finished) e (λ g. done_stays ls k m p (omega arith) g)
+  where
+    by_test : (b : Bool) → is_some (cond b (Some l.at) (finish (take k ls) p)) ≡ true → (is_some (finish (take k ls) p) ≡ true → is_some (finish (take m ls) p) ≡ true) → is_some (cond b (Some l.at) (finish (take m ls) p)) ≡ true
+    by_test true g ih = refl
+    by_test false g ih = ih g
+
+order : (a b : ℕ) → (a < b) ⊎ ((b < a) ⊎ (a ≡ b))
+order a b = grind arith
+
+-- after the record the job is done
+done_after : (ls : List Left) (p k f : ℕ) → Finishes ls p k f → done_by ls (suc k) p ≡ true
+done_after ls p k f r = done_more ls k p r.0 r.1 ∙ or_right (done_by ls k p) (is_position r.0.position p && r.0.finished) (here r.0.position r.0.finished r.2 r.3)
+  where
+    or_right : (a b : Bool) → b ≡ true → (a || b) ≡ true
+    or_right a b e = grind arith
+
+    here : (o : Option ℕ) (b : Bool) → o ≡ Some p → b ≡ true → (is_position o p && b) ≡ true
+    here None b e f = not_some p e
+    here (Some q) b e f = let same : q ≡ p = some_same _ _ e in all_true (eqb q p) b (eq-eqb q p same) f
+      where
+        all_true : (a b : Bool) → a ≡ true → b ≡ true → (a && b) ≡ true
+        all_true a b e f = grind arith
+
+module _ (jobs : List Job) (ss : List (List SInstr)) (gs : List Leg) (x : Point) (f : AreInForm ss gs) (p : ℕ) where
+  not_before : (k m d e : ℕ) → k < m → Finishes (end_to_end (walks_from jobs ss gs x)) p k d → Finishes (end_to_end (walks_from jobs ss gs x)) p m e → ⊥
+  not_before k m d e h a b =
+      let w = end_to_end (walks_from jobs ss gs x) in
+      let open_yet : done_by w m p ≡ false = (finishing jobs ss gs x m p b.0 f b.1 b.2 b.3).open_yet in
+      let done : done_by w m p ≡ true = done_stays w (suc k) m p (omega arith) (done_after w p k d a) in
+      let z : true ≡ false = sym done ∙ open_yet in cc
+
+  pub finish_once : (k m d e : ℕ) → Finishes (end_to_end (walks_from jobs ss gs x)) p k d → Finishes (end_to_end (walks_from jobs ss gs x)) p m e → k ≡ m
+  finish_once k m d e a b = elim (order k m) [ inl h ↦ absurd (not_before k m d e h a b) | inr (inl h) ↦ absurd (not_before m k e d h b a) | inr (inr z) ↦ z ]
+
+pub frame_serves : (f : Frame) (h : ℕ) → IsServing f h → Serves f.jobs f.lengths (walk_of f)
+frame_serves f h serving =
+    let x = first_point f.jobs f.lengths in
+    record {
+      each = λ p j at here.
+          let met = serving.meets p j at here in
+          let r = finish_record (walk_of f) p met.finishes.0 met.finishes.1 in
+          let done : Finishes (walk_of f) p r.0 met.finishes.0 = (r.1, r.2, r.3, r.4, r.5) in
+          let same = show_joined f.jobs f.lists f.legs 0 h (length f.jobs) x p serving.forms serving.chain (omega arith) in
+          record {
+            finish_at = met.finishes.0;
+            record_at = r.0;
+            done = done;
+            once = λ k g a. finish_once f.jobs f.lists f.legs x serving.forms p k r.0 g met.finishes.0 a done;
+            in_time = met.finishes.2;
+            within = met.within;
+            whole = ap spent same.slices ∙ spent_is f.jobs (joined f.lists f.legs) x p met.finishes.0 (sym same.finish ∙ met.finishes.1) ∙ work_present f.jobs f.lengths p j at here;
+            after = met.after;
+          };
+      apart = path_apart f.jobs f.lists f.legs 0 h (length f.jobs) x serving.forms serving.chain;
+    }
+
+-- ---- by the end of a run
+
+pub frames_serve : FramesServe
+frames_serve frames h end serving =
+    record {
+      jobs = λ k q j at here late.
+          let s = k * h in
+          let f = frames s in
+          let v = (frame_serves f h (serving k)).each q j at here in
+          record {
+            served = v;
+            told = counted 0 (suc end - s) (walk_of f) v.record_at v.done.0 (path_rises f.jobs f.lists f.legs 0 h (length f.jobs) (first_point f.jobs f.lengths) (serving k).forms (serving k).chain) v.done.1 (omega (arith, v.done.4, v.in_time, late));
+          };
+      apart = λ k. (frame_serves (frames (k * h)) h (serving k)).apart;
+      inside = λ k i l at. let f = frames (k * h) in path_within f.jobs f.lists f.legs 0 h (length f.jobs) (first_point f.jobs f.lengths) i l (serving k).forms (serving k).chain at;
+    }

@@ -1,0 +1,62 @@
+-- Where the modes of two runs agree so far, and the jobs take the same, so do the records of their lists.
+use Rattle.std.proofs.Common.{◌≡◌, ℕ, zero, suc, ◌+◌, List, [], ◌∷◌, get_or, map, take, refl, sym, ◌∙◌, ap, ap₂, arith}
+use Rattle.std.proofs.lemmas.Option.{get_or_from_slice_get}
+use Rattle.htl_model.specs.Frames.{frame_of, starts, known_by}
+use Rattle.htl_walk.specs.declared.job.Job.{Job}
+use Rattle.htl_walk.specs.declared.schedule.SInstr.{SInstr}
+use Rattle.htl_walk.specs.Paths.{Leg, begun, walks_from, AreInForm}
+use Rattle.htl_walk.specs.Walk.{Point, job_at, walk_from, last_point, first_point, work}
+use Rattle.htl_walk.proofs.Locality.{locality}
+use Rattle.htl_refine.specs.AgreeingRuns.{FrontsAlike, WalksAgree}
+use Rattle.htl_refine.specs.FrameRuns.{frame_modes, frame_places, frame_jobs, frame_at}
+use Rattle.htl_refine.specs.Records.{took, lengths_of}
+use Rattle.htl_refine.proofs.AlongPath.{legs_within}
+use Rattle.htl_refine.proofs.FramesAgree.{frames_agree}
+use Rattle.htl_refine.proofs.Fronts.{front_there, map_same, take_map, job_front, get_front, take_work, known_grow}
+
+-- ---- the first lists
+
+take_walks : (jobs : List Job) (k : ℕ) (ss : List (List SInstr)) (gs : List Leg) (x : Point) → walks_from jobs (take k ss) (take k gs) x ≡ take k (walks_from jobs ss gs x)
+take_walks jobs zero ss gs x = refl
+take_walks jobs (suc k) [] gs x = refl
+take_walks jobs (suc k) (s ∷ ss) [] x = refl
+take_walks jobs (suc k) (s ∷ ss) (g ∷ gs) x = ap (λ ls. walk_from jobs s (begun g.from x) ∷ ls) (take_walks jobs k ss gs (last_point jobs s (begun g.from x)))
+
+take_forms : (k : ℕ) (ss : List (List SInstr)) (gs : List Leg) → AreInForm ss gs → AreInForm (take k ss) (take k gs)
+take_forms zero ss gs f = tt
+take_forms (suc k) [] [] f = tt
+take_forms (suc k) [] (g ∷ gs) f = absurd f
+take_forms (suc k) (s ∷ ss) [] f = absurd f
+take_forms (suc k) (s ∷ ss) (g ∷ gs) f = (f.0, take_forms k ss gs f.1)
+
+pub fronts_alike : FrontsAlike
+fronts_alike f g k n jobs point forms within lists legs =
+    let x = first_point f.jobs f.lengths in
+    let y = first_point g.jobs g.lengths in
+    sym (take_walks f.jobs k f.lists f.legs x)
+    ∙ locality n f.jobs g.jobs (take k f.lists) (take k f.legs) x y jobs point (take_forms k f.lists f.legs forms) within
+    ∙ ap₂ (λ ss gs. walks_from g.jobs ss gs y) lists legs
+    ∙ take_walks g.jobs k g.lists g.legs y
+
+-- ---- the first positions
+
+pub walks_agree : WalksAgree
+walks_agree t lists es fs f d k range alike form takes =
+    let one = frame_modes t es f in
+    let two = frame_modes t fs f in
+    let xs = frame_places t one in
+    let m = known_by d xs in
+    let ps = frame_jobs t one in
+    let qs = frame_jobs t two in
+    let is = frames_agree t lists es fs f d k range alike in
+    let lengths : take m (lengths_of t es f ps) ≡ take m (lengths_of t fs f qs) =
+    take_map (λ (j : Job). took t es j.inv (f + j.release)) m ps
+    ∙ map_same (λ (j : Job). took t es j.inv (f + j.release)) (λ (j : Job). took t fs j.inv (f + j.release)) (take m ps) (λ q j e. let r = front_there m ps q j e in takes q j r.1 r.0)
+    ∙ ap (map (λ (j : Job). took t fs j.inv (f + j.release))) is.jobs
+    ∙ sym (take_map (λ (j : Job). took t fs j.inv (f + j.release)) m qs) in
+    let left : take m (work ps (lengths_of t es f ps)) ≡ take m (work qs (lengths_of t fs f qs)) =
+    sym (take_work m ps (lengths_of t es f ps)) ∙ ap₂ work is.jobs lengths ∙ take_work m qs (lengths_of t fs f qs) in
+    fronts_alike (frame_at t lists es f) (frame_at t lists fs f) k m
+    (λ p l. sym (job_front m ps p l) ∙ ap (λ js. job_at js p) is.jobs ∙ job_front m qs p l)
+    (record { time = refl; left = λ p l. sym (get_front m (work ps (lengths_of t es f ps)) p l) ∙ ap (λ ws. get_or ws p 0) left ∙ get_front m (work qs (lengths_of t fs f qs)) p l })
+    form (legs_within (frame_of t) m k xs (starts t) (λ j a l at. known_grow a d xs (omega (arith, get_or_from_slice_get (starts t) j a 0 at, alike.lists j l)))) is.lists is.legs

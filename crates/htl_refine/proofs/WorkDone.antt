@@ -1,0 +1,126 @@
+-- Who has no work left is done by a record so far.
+use Rattle.std.proofs.Common.{◌≡◌, ℕ, zero, suc, ◌+◌, ◌≤◌, ◌<◌, ◌⊎◌, Bool, true, false, cond, ◌&&◌, is_some, List, [], ◌∷◌, ◌++◌, length, get_or, slice_get, take, Option, Some, None, refl, sym, ap, ◌∙◌, arith, inl, inr, append_assoc}
+use Rattle.htl_walk.specs.declared.job.Job.{Job}
+use Rattle.htl_walk.specs.declared.schedule.SInstr.{SInstr}
+use Rattle.htl_walk.specs.Paths.{Leg, begun, walks_from, end_to_end, AreInForm, path_point}
+use Rattle.htl_walk.specs.Walk.{Point, Left, next_point, left_by, walk_from, last_point, first_point, is_position, finish}
+use Rattle.htl_walk.proofs.Finishes.{some_same, ends, finish_now, finish_later}
+use Rattle.htl_refine.specs.FrameRuns.{walks_of}
+use Rattle.htl_refine.specs.ListLaws.{WorkDone}
+use Rattle.htl_refine.specs.ListPlans.{leg_at, point_at, list_plan, list_walk, records_before}
+use Rattle.htl_refine.specs.RecordCounts.{done_by}
+use Rattle.htl_refine.proofs.FinishingRecords.{done_past}
+use Rattle.htl_refine.proofs.Fronts.{get_front}
+use Rattle.htl_refine.proofs.ListCounts.{done_front}
+use Rattle.htl_refine.proofs.ListWalks.{list_walks}
+use Rattle.htl_refine.proofs.RecordOrder.{not_some}
+
+-- ---- one list
+
+-- who has work and none after the list is finished by it
+done_there : (jobs : List Job) (is : List SInstr) (x : Point) (p : ℕ) → 0 < get_or x.left p 0 → get_or (last_point jobs is x).left p 0 ≡ 0 → (g : ℕ) × (finish (walk_from jobs is x) p ≡ Some g)
+done_there jobs [] x p some none = absurd (omega (arith, some, none))
+done_there jobs (i ∷ is) x p some none =
+    let y = next_point jobs i x in
+    elim (ends (get_or x.left p 0) (get_or y.left p 0)) [
+      | inl q ↦ (y.time, finish_now jobs i is x p q.0 q.1)
+      | inr c ↦ elim c [
+        | inl z ↦ absurd (omega (arith, some, z))
+        | inr more ↦ let r = done_there jobs is y p more none in (r.0, finish_later jobs i is x p (inr more) ∙ r.1)
+      ]
+    ]
+
+-- the records of the first instructions
+walk_take : (jobs : List Job) (is : List SInstr) (x : Point) (k : ℕ) → take k (walk_from jobs is x) ≡ walk_from jobs (take k is) x
+walk_take jobs is x zero = refl
+walk_take jobs [] x (suc k) = refl
+walk_take jobs (i ∷ is) x (suc k) = ap (λ z. left_by jobs i x (next_point jobs i x) ∷ z) (walk_take jobs is (next_point jobs i x) k)
+
+-- ---- lists of records
+
+split_at : (ws : List (List Left)) (j : ℕ) (x : List Left) → slice_get ws j ≡ Some x → (b : List Left) × (end_to_end ws ≡ end_to_end (take j ws) ++ (x ++ b))
+split_at [] j x e = not_some x e
+split_at (w ∷ ws) zero x e = (end_to_end ws, ap (λ z. z ++ end_to_end ws) (some_same _ _ e))
+split_at (w ∷ ws) (suc j) x e =
+    let r = split_at ws j x e in
+    (r.0, ap (λ z. w ++ z) r.1 ∙ sym (append_assoc w (end_to_end (take j ws)) (x ++ r.0)))
+
+take_in : (xs ys : List Left) (k : ℕ) → k ≤ length xs → take k (xs ++ ys) ≡ take k xs
+take_in xs ys zero h = refl
+take_in [] ys (suc k) h = absurd (omega arith)
+take_in (x ∷ xs) ys (suc k) h = ap (λ z. x ∷ z) (take_in xs ys k (omega arith))
+
+length-walk : (jobs : List Job) (is : List SInstr) (x : Point) → length (walk_from jobs is x) ≡ length is
+length-walk jobs [] x = refl
+length-walk jobs (i ∷ is) x = ap suc (length-walk jobs is (next_point jobs i x))
+
+join_some : (xs ys : List Left) (p g : ℕ) → finish xs p ≡ Some g → (q : ℕ) × (finish (xs ++ ys) p ≡ Some q)
+join_some [] ys p g e = not_some g e
+join_some (x ∷ xs) ys p g e = by (is_position x.position p && x.finished) e (λ f. join_some xs ys p g f)
+  where
+    by : (b : Bool) → cond b (Some x.at) (finish xs p) ≡ Some g → (finish xs p ≡ Some g → (q : ℕ) × (finish (xs ++ ys) p ≡ Some q)) → (q : ℕ) × (cond b (Some x.at) (finish (xs ++ ys) p) ≡ Some q)
+    by true f ih = (x.at, refl)
+    by false f ih = ih f
+
+join_later : (xs ys : List Left) (p g : ℕ) → finish ys p ≡ Some g → (q : ℕ) × (finish (xs ++ ys) p ≡ Some q)
+join_later [] ys p g e = (g, e)
+join_later (x ∷ xs) ys p g e = by (is_position x.position p && x.finished) (join_later xs ys p g e)
+  where
+    by : (b : Bool) → (q : ℕ) × (finish (xs ++ ys) p ≡ Some q) → (q : ℕ) × (cond b (Some x.at) (finish (xs ++ ys) p) ≡ Some q)
+    by true r = (x.at, refl)
+    by false r = r
+
+-- ---- no work left where a list begins
+
+amount : (n : ℕ) → (0 < n) ⊎ (n ≡ 0)
+amount n = grind arith
+
+path_done : (jobs : List Job) (ss : List (List SInstr)) (gs : List Leg) (j p : ℕ) (x : Point) → AreInForm ss gs → j < length gs → 0 < get_or x.left p 0 → get_or (path_point jobs ss gs j 0 x).left p 0 ≡ 0
+    → (g : ℕ) × (finish (end_to_end (take j (walks_from jobs ss gs x))) p ≡ Some g)
+path_done jobs [] [] j p x f l some none = absurd (omega arith)
+path_done jobs [] (g ∷ gs) j p x f l some none = absurd f
+path_done jobs (s ∷ ss) [] j p x f l some none = absurd f
+path_done jobs (s ∷ ss) (g ∷ gs) zero p x f l some none = absurd (omega (arith, some, none))
+path_done jobs (s ∷ ss) (g ∷ gs) (suc j) p x f l some none =
+    by (amount (get_or (last_point jobs s (begun g.from x)).left p 0)) (λ more. path_done jobs ss gs j p (last_point jobs s (begun g.from x)) f.1 (omega arith) more none)
+  where
+    by : (0 < get_or (last_point jobs s (begun g.from x)).left p 0) ⊎ (get_or (last_point jobs s (begun g.from x)).left p 0 ≡ 0)
+        → (0 < get_or (last_point jobs s (begun g.from x)).left p 0 → (q : ℕ) × (finish (end_to_end (take j (walks_from jobs ss gs (last_point jobs s (begun g.from x))))) p ≡ Some q))
+        → (q : ℕ) × (finish (walk_from jobs s (begun g.from x) ++ end_to_end (take j (walks_from jobs ss gs (last_point jobs s (begun g.from x))))) p ≡ Some q)
+    by (inl more) ih =
+        let r = ih more in
+        join_later (walk_from jobs s (begun g.from x)) (end_to_end (take j (walks_from jobs ss gs (last_point jobs s (begun g.from x))))) p r.0 r.1
+    by (inr e) ih =
+        let y = begun g.from x in
+        let r = done_there jobs s y p some e in
+        join_some (walk_from jobs s y) (end_to_end (take j (walks_from jobs ss gs (last_point jobs s y)))) p r.0 r.1
+
+-- ---- the law
+
+pub work_done : WorkDone
+work_done f h j k p serving l few long some none =
+    ap (λ w. done_by w (records_before f j + k) p) cut.1 ∙ by (amount (get_or (list_plan f j).first.left p 0)) (finish (end_to_end (take j (walks_of f))) p) refl
+  where
+    cut : (b : List Left) × (end_to_end (walks_of f) ≡ end_to_end (take j (walks_of f)) ++ (list_walk (list_plan f j) ++ b))
+    cut = split_at (walks_of f) j (list_walk (list_plan f j)) (list_walks f j serving.forms l)
+
+    -- in the list
+    own : 0 < get_or (list_plan f j).first.left p 0 → (g : ℕ) × (finish (take k (list_walk (list_plan f j))) p ≡ Some g)
+    own more =
+        let q = list_plan f j in
+        let r = done_there q.jobs (take k q.schedule) q.first p more none in
+        (r.0, ap (λ ls. finish ls p) (walk_take q.jobs q.schedule q.first k) ∙ r.1)
+
+    by : (0 < get_or (list_plan f j).first.left p 0) ⊎ (get_or (list_plan f j).first.left p 0 ≡ 0) → (o : Option ℕ) → finish (end_to_end (take j (walks_of f))) p ≡ o
+        → done_by (end_to_end (take j (walks_of f)) ++ (list_walk (list_plan f j) ++ cut.0)) (length (end_to_end (take j (walks_of f))) + k) p ≡ true
+    by m (Some g) e = done_front (end_to_end (take j (walks_of f))) (list_walk (list_plan f j) ++ cut.0) k p g e
+    by (inl more) None e =
+        let ls = list_walk (list_plan f j) in
+        let r = own more in
+        done_past (end_to_end (take j (walks_of f))) (ls ++ cut.0) k p e
+        ∙ ap (λ zs. is_some (finish zs p)) (take_in ls cut.0 k (omega (arith, long, length-walk (list_plan f j).jobs (list_plan f j).schedule (list_plan f j).first)))
+        ∙ ap is_some r.1
+    by (inr zero_left) None e =
+        let before : get_or (point_at f j).left p 0 ≡ 0 = sym (get_front (leg_at f j).known (point_at f j).left p few) ∙ zero_left in
+        let r = path_done f.jobs f.lists f.legs j p (first_point f.jobs f.lengths) serving.forms l some before in
+        not_some r.0 (sym e ∙ r.1)

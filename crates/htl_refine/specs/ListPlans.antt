@@ -1,0 +1,42 @@
+-- One list of a frame: the positions so far, and the point at which the list begins.
+use Rattle.std.specs.Prelude.{ℕ, List, [], length, take, get_or}
+use Rattle.htl_walk.specs.declared.job.Job.{Job}
+use Rattle.htl_walk.specs.declared.schedule.SInstr.{SInstr}
+use Rattle.htl_walk.specs.Paths.{Leg, end_to_end, path_point_at}
+use Rattle.htl_walk.specs.Walk.{Point, Left, walk_from}
+use Rattle.htl_refine.specs.FrameRuns.{Frame, walks_of}
+
+-- where there is no leg
+abbrev pub no_leg : Leg
+no_leg = record { from = 0; to = 0; known = 0 }
+
+-- the leg of list j
+abbrev pub leg_at : Frame → ℕ → Leg
+leg_at f j = get_or f.legs j no_leg
+
+-- the point of the frame's walk at which list j begins
+abbrev pub point_at : Frame → ℕ → Point
+point_at f j = path_point_at f.jobs f.lengths f.lists f.legs j 0
+
+-- of the first n positions
+abbrev pub front_of : ℕ → Point → Point
+front_of n x = record { time = x.time; left = take n x.left }
+
+-- what the processor knows of a list: the positions whose rounds have begun, and no further ones
+pub record ListPlan : Type 0 where
+  pub jobs : List Job
+  pub lengths : List ℕ
+  pub first : Point
+  pub schedule : List SInstr
+
+abbrev pub list_plan : Frame → ℕ → ListPlan
+list_plan f j =
+    let n = (leg_at f j).known in
+    record { jobs = take n f.jobs; lengths = take n f.lengths; first = front_of n (point_at f j); schedule = get_or f.lists j [] }
+
+abbrev pub list_walk : ListPlan → List Left
+list_walk p = walk_from p.jobs p.schedule p.first
+
+-- how many records the lists before list j have
+abbrev pub records_before : Frame → ℕ → ℕ
+records_before f j = length (end_to_end (take j (walks_of f)))

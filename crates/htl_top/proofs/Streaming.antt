@@ -1,0 +1,365 @@
+-- From event to event of a script that is read as the run goes: what the machine follows, what is written, and what is still to come.
+use Rattle.std.proofs.Common.{arith, ◌≡◌, Bool, true, false, ℕ, suc, ◌+◌, ◌≤◌, List, [], ◌∷◌, ◌++◌, Option, Some, None, Result, Ok, Err, is_some, refl, sym, ap, ◌∙◌, subst}
+use Rattle.std.specs.Io.KnownBytes.{append_known}
+use Rattle.std.proofs.lemmas.List.{append_assoc, append-nil}
+use Rattle.htl_console.specs.declared.shown.Shown.{Shown}
+use Rattle.htl_edge.specs.Causes.{Rose}
+use Rattle.htl_edge.specs.Content.{AppendsPrefix, Puts, none_left}
+use Rattle.htl_edge.specs.declared.Failed.{Failed}
+use Rattle.htl_edge.proofs.Puts.{append_known-start, append_known-more, AppendsPrefix-more}
+use Rattle.htl_machine.specs.Calls.{Seen, Follows, IsFinished, IsSameRun, text_between}
+use Rattle.htl_machine.specs.Follows.{reading_of}
+use Rattle.htl_machine.specs.Programs.{before_of}
+use Rattle.htl_model.specs.Lines.{totals_line}
+use Rattle.htl_model.specs.Tables.{Tables}
+use Rattle.htl_model.specs.declared.event.Event.{Event}
+use Rattle.htl_model.specs.declared.event.Event.TheVariants as event
+use Rattle.htl_object.specs.Accepted.{IsAccepted}
+use Rattle.htl_object.specs.declared.object.Object.{Object}
+use Rattle.htl_script.specs.Events.{AreEvents, EndWith}
+use Rattle.htl_script.specs.Judging.{at_first, past_after, past_after_all, past_of}
+use Rattle.htl_script.specs.Reading.{OfScript, behind}
+use Rattle.htl_script.specs.Script.{Script, Whole, Bad, events_of, script_of}
+use Rattle.htl_script.specs.Streaming.{Ahead, Gives, still, at_start, IsAnswer, IsEventAfter, Goes}
+use Rattle.htl_script.specs.declared.fault.ScriptFault.{ScriptFault}
+use Rattle.htl_script.specs.declared.fault.ScriptStop.TheVariants as stop
+use Rattle.htl_script.specs.declared.judge.Past.{Past}
+use Rattle.htl_script.proofs.Behind.{behind-nil, behind-append, events_of-behind, script_of-rest}
+use Rattle.htl_script.proofs.Fitting.{script-events, whole-script, AreEvents-front}
+use Rattle.htl_script.proofs.Streaming.{gives_start, gives_more, given_script, given_all, told_of}
+use Rattle.htl_top.specs.Playing.{HaveNoEnd, IsBehind, IsNext, IsPlaying, IsTold, text_more}
+use Rattle.htl_top.specs.Runs.{IsCutRun, IsFaultyRun, IsWholeRun}
+use Rattle.htl_top.specs.Scripts.{EndsAt}
+use Rattle.htl_top.specs.Texts.{text_before_fault, text_of_script}
+use Rattle.htl_top.proofs.Executing.{run_put, totals_of}
+use Rattle.htl_top.proofs.Playing.{end_after, last_same, next, past_more, text_end, text_ended, text_next, text_open, took_within}
+
+-- ---- events behind others
+
+no_items : (es : List Event) (e : Event) (later : List Event) → es ++ e ∷ later ≡ [] → ⊥
+no_items [] e later h = cc
+no_items (x ∷ es) e later h = cc
+
+-- no end stands before another event
+no_end_before : (t : Tables) (last : Option ℕ) (es : List Event) (e : Event) (later : List Event) → AreEvents t last (es ++ e ∷ later) → HaveNoEnd es
+no_end_before t last [] e later are = tt
+no_end_before t last (event.At to ∷ es) e later are = no_end_before t (Some to) es e later are.2
+no_end_before t last (event.Sense c x ∷ es) e later are = no_end_before t last es e later are.2
+no_end_before t last (event.Took i n ∷ es) e later are = no_end_before t last es e later are.2
+no_end_before t last (event.End to ∷ es) e later are = absurd (no_items es e later are.2)
+
+no_end_more : (es : List Event) (e : Event) → HaveNoEnd es → HaveNoEnd (e ∷ []) → HaveNoEnd (es ++ e ∷ [])
+no_end_more [] e a b = b
+no_end_more (event.At to ∷ es) e a b = no_end_more es e a b
+no_end_more (event.Sense c x ∷ es) e a b = no_end_more es e a b
+no_end_more (event.Took i n ∷ es) e a b = no_end_more es e a b
+no_end_more (event.End to ∷ es) e a b = absurd a
+
+-- none of them leaves an end
+none_ended : (p : Past) (es : List Event) → HaveNoEnd es → (past_after_all p es).end ≡ p.end
+none_ended p [] none = refl
+none_ended p (event.At to ∷ es) none = none_ended (past_after p (event.At to)) es none
+none_ended p (event.Sense c x ∷ es) none = none_ended p es none
+none_ended p (event.Took i n ∷ es) none = none_ended p es none
+none_ended p (event.End to ∷ es) none = absurd none
+
+-- one event more
+are_more : (t : Tables) (p : Past) (es : List Event) (e : Event) → AreEvents t p.reading es → HaveNoEnd es → AreEvents t (past_after_all p es).reading (e ∷ []) → AreEvents t p.reading (es ++ e ∷ [])
+are_more t p [] e are none one = one
+are_more t p (event.At to ∷ es) e are none one = (are.0, are.1, are_more t (past_after p (event.At to)) es e are.2 none one)
+are_more t p (event.Sense c x ∷ es) e are none one = (are.0, are.1, are_more t p es e are.2 none one)
+are_more t p (event.Took i n ∷ es) e are none one = (are.0, are.1, are_more t p es e are.2 none one)
+are_more t p (event.End to ∷ es) e are none one = absurd none
+
+-- it may be told
+may_come : (t : Tables) (told : List Event) (e : Event) → AreEvents t None (told ++ e ∷ []) → HaveNoEnd told → IsNext t (reading_of 0 told) e
+may_come t told (event.At to) are none = next t told (event.At to) [] are (no_end_more told (event.At to) none tt)
+may_come t told (event.Sense c x) are none = next t told (event.Sense c x) [] are (no_end_more told (event.Sense c x) none tt)
+may_come t told (event.Took i n) are none = next t told (event.Took i n) [] are (no_end_more told (event.Took i n) none tt)
+may_come t told (event.End to) are none = end_after t (told ++ event.End to ∷ []) told to are refl
+
+-- ---- what is written
+
+module _ (o : Object) (show : Shown) (accepted : IsAccepted o) where
+  -- one event more, of events that go on
+  goes : (es : List Event) (e : Event) → AreEvents o.tables None (es ++ e ∷ []) → HaveNoEnd es → HaveNoEnd (e ∷ []) → text_before_fault o show (es ++ e ∷ []) ≡ text_before_fault o show es ++ text_more o show es e
+  goes es e are none one =
+      let more = no_end_more es e none one in
+      sym (text_open o show (es ++ e ∷ []) more) ∙ text_next o show accepted es e (took_within o.tables (es ++ e ∷ []) are) one (next o.tables es e [] are more)
+      ∙ ap (λ (bs : List ℕ). bs ++ text_more o show es e) (text_open o show es none)
+
+  ends : (es : List Event) (end : ℕ) → AreEvents o.tables None (es ++ event.End end ∷ []) → HaveNoEnd es
+      → text_before_fault o show (es ++ event.End end ∷ []) ≡ text_before_fault o show es ++ text_between o es show (reading_of 0 es) (suc end)
+  ends es end are none =
+      sym (text_ended o show es end)
+      ∙ text_end o show accepted es end (took_within o.tables (es ++ event.End end ∷ []) are) (end_after o.tables (es ++ event.End end ∷ []) es end are refl).0
+      ∙ ap (λ (bs : List ℕ). bs ++ text_between o es show (reading_of 0 es) (suc end)) (text_open o show es none)
+
+  text_on : (es : List Event) (e : Event) → AreEvents o.tables None (es ++ e ∷ []) → HaveNoEnd es → text_before_fault o show (es ++ e ∷ []) ≡ text_before_fault o show es ++ text_more o show es e
+  text_on es (event.At to) are none = goes es (event.At to) are none tt
+  text_on es (event.Sense c x) are none = goes es (event.Sense c x) are none tt
+  text_on es (event.Took i n) are none = goes es (event.Took i n) are none tt
+  text_on es (event.End to) are none = ends es to are none
+
+  -- more events write on
+  grows : (told more : List Event) → AreEvents o.tables None (told ++ more) → (back : List ℕ) × (text_before_fault o show (told ++ more) ≡ text_before_fault o show told ++ back)
+  grows told [] are = ([], ap (text_before_fault o show) (append-nil told) ∙ sym (append-nil (text_before_fault o show told)))
+  grows told (e ∷ more) are =
+      let same : (told ++ e ∷ []) ++ more ≡ told ++ e ∷ more = append_assoc told (e ∷ []) more in
+      let all = subst (AreEvents o.tables None) (sym same) are in
+      let rest = grows (told ++ e ∷ []) more all in (
+        text_more o show told e ++ rest.0,
+        ap (text_before_fault o show) (sym same) ∙ rest.1
+            ∙ ap (λ (bs : List ℕ). bs ++ rest.0) (text_on told e (AreEvents-front o.tables None (told ++ e ∷ []) more all) (no_end_before o.tables None told e more are))
+            ∙ append_assoc (text_before_fault o show told) (text_more o show told e) rest.0,
+      )
+
+  -- what a script makes a run write begins with what is written before a fault behind its events
+  begins : (given : Script) → ((events : List Event) (end : ℕ) → given ≡ Whole events end → EndWith events end) → (back : List ℕ) × (text_of_script o show given ≡ text_before_fault o show (events_of given) ++ back)
+  begins (Bad line kind events) last = ([], sym (append-nil (text_before_fault o show events)))
+  begins (Whole events end) last =
+      let w = last events end refl in
+      let told : before_of o events show (suc end) ≡ text_before_fault o show events =
+      ap (λ (es : List Event). before_of o es show (suc end)) w.1 ∙ text_ended o show w.0 end ∙ sym (ap (text_before_fault o show) w.1) in
+      (totals_of o events end, ap (λ (bs : List ℕ). bs ++ totals_of o events end) told)
+
+  -- a prefix of what the events told make a run write is one of what the script does
+  cut_run : (told : List Event) (n : Bool) (a : Ahead) (known rest old new : Option (List ℕ)) → Gives false n known rest (λ bytes later. script_of o.tables bytes ≡ behind told (still o.tables a later))
+      → AppendsPrefix old new (text_before_fault o show told) → IsCutRun show o.tables o known old new
+  cut_run told n a known rest old new given part =
+      let t = o.tables in
+      let script = given_script n known rest (λ bytes later. script_of t bytes ≡ behind told (still t a later)) given in
+      let later = still t a (told_of rest) in
+      let events : events_of (script_of t script.0) ≡ told ++ events_of later = ap events_of script.2 ∙ events_of-behind told later in
+      let grown = grows told (events_of later) (subst (AreEvents t None) events (script-events t script.0)) in
+      let whole = begins (script_of t script.0) (λ es end e. (whole-script t script.0 es end e).1) in
+      let text : text_of_script o show (script_of t script.0) ≡ text_before_fault o show told ++ (grown.0 ++ whole.0) =
+      whole.1 ∙ ap (λ (es : List Event). text_before_fault o show es ++ whole.0) events ∙ ap (λ (bs : List ℕ). bs ++ whole.0) grown.1
+      ∙ append_assoc (text_before_fault o show told) grown.0 whole.0 in
+      record {
+        given = script_of t script.0;
+        script = (script.0, script.1, refl);
+        written = (
+          part.0,
+          (
+            part.1.0 ++ (grown.0 ++ whole.0),
+            text ∙ ap (λ (bs : List ℕ). bs ++ (grown.0 ++ whole.0)) part.1.1 ∙ append_assoc part.0 part.1.0 (grown.0 ++ whole.0),
+          ),
+          part.2,
+        );
+      }
+
+-- ---- what one call writes
+
+pub text_at : {T E : Type 0} (m : Seen) (es : List Event) (e : Event) (to : ℕ) (w w1 : Option (List ℕ)) (f f1 : ℕ) (r : Result T E) → Follows m es → e ≡ event.At to
+    → Puts w w1 f f1 (text_between m.object es m.show m.held.reading to) r → Puts w w1 f f1 (text_more m.object m.show es e) r
+text_at m es e to w w1 f f1 r follows is puts =
+    subst (λ (x : Event). Puts w w1 f f1 (text_more m.object m.show es x) r) (sym is)
+    (subst (λ (from : ℕ). Puts w w1 f f1 (text_between m.object es m.show from to) r) follows.kept.reading puts)
+
+pub text_last : {T E : Type 0} (m : Seen) (es : List Event) (e : Event) (to : ℕ) (w w1 : Option (List ℕ)) (f f1 : ℕ) (r : Result T E) → Follows m es → e ≡ event.End to
+    → Puts w w1 f f1 (text_between m.object es m.show m.held.reading (suc to)) r → Puts w w1 f f1 (text_more m.object m.show es e) r
+text_last m es e to w w1 f f1 r follows is puts =
+    subst (λ (x : Event). Puts w w1 f f1 (text_more m.object m.show es x) r) (sym is)
+    (subst (λ (from : ℕ). Puts w w1 f f1 (text_between m.object es m.show from (suc to)) r) follows.kept.reading puts)
+
+-- ---- the loop
+
+pub playing_start : (t : Tables) (m : Seen) (a : Ahead) (known w : Option (List ℕ)) → Follows m [] → a ≡ at_start → IsPlaying t m m a known known w w
+playing_start t m a known w follows at = subst (λ (z : Ahead). IsPlaying t m m z known known w w) (sym at) (record {
+  told = [];
+  are = tt;
+  past = refl;
+  machine = (tt, follows);
+  same = record { object = refl; show = refl };
+  text = append_known-start w;
+  script = record {
+    front = [];
+    lost = (gives_start t at_start known).lost;
+    ends = λ was now. was now;
+    kept = λ over. (refl, over);
+    fact = λ later ok. script_of-rest t later ∙ sym (behind-nil (still t at_start later));
+  };
+})
+
+-- an event was read
+pub record IsHeard (t : Tables) (m0 m : Seen) (b : Ahead) (known rest w0 w : Option (List ℕ)) (e : Event) : Type 0 where
+  pub told : List Event
+  pub none : HaveNoEnd told
+  pub follows : Follows m told
+  pub may : IsNext m.object.tables (reading_of 0 told) e
+  pub are : AreEvents t None (told ++ e ∷ [])
+  pub past : b.here.past ≡ past_of (told ++ e ∷ [])
+  pub same : IsSameRun m0 m
+  pub text : w ≡ append_known w0 (text_before_fault m0.object m0.show told)
+  pub script : Gives false b.ahead.over known rest (λ bytes later. script_of t bytes ≡ behind (told ++ e ∷ []) (still t b later))
+
+module _ (t : Tables) (m0 m : Seen) (accepted : IsAccepted m0.object) (tables : t ≡ m0.object.tables) (a b : Ahead) (known rest left w0 w : Option (List ℕ)) where
+  pub heard : (e : Event) → IsPlaying t m0 m a known rest w0 w → Gives a.ahead.over b.ahead.over rest left (IsAnswer t a b (Ok (Some e))) → Goes t a.here.past b.here.past (Ok (Some e))
+      → IsHeard t m0 m b known left w0 w e
+  heard e p answer goes =
+      let running : (past_of p.told).end ≡ None = sym (ap (λ (z : Past). z.end) p.past) ∙ goes.0.running in
+      let open_told : HaveNoEnd p.told × Follows m p.told = by (past_of p.told).end p.told running p.machine in
+      let are : AreEvents t None (p.told ++ e ∷ []) =
+      are_more t at_first p.told e p.are open_told.0 (subst (λ (z : Past). AreEvents t z.reading (e ∷ [])) p.past goes.0.are) in
+      record {
+        told = p.told;
+        none = open_told.0;
+        follows = open_told.1;
+        may = subst (λ (z : Tables). IsNext z (reading_of 0 p.told) e) (tables ∙ ap (λ (o : Object). o.tables) (sym p.same.object)) (may_come t p.told e are open_told.0);
+        are = are;
+        past = goes.1 ∙ ap (λ (z : Past). past_after z e) p.past ∙ sym (past_more at_first p.told e);
+        same = p.same;
+        text = p.text;
+        script =
+            gives_more false a.ahead.over b.ahead.over known rest left (λ bytes later. script_of t bytes ≡ behind p.told (still t a later)) (IsAnswer t a b (Ok (Some e)))
+            (λ bytes later. script_of t bytes ≡ behind (p.told ++ e ∷ []) (still t b later))
+            (λ bytes middle later was now. was ∙ ap (behind p.told) now ∙ behind-append p.told (e ∷ []) (still t b later)) p.script answer;
+      }
+    where
+      by : (o : Option ℕ) (told : List Event) → o ≡ None → IsTold m told o → HaveNoEnd told × Follows m told
+      by None told e h = h
+      by (Some end) told e h = absurd (let z : ⊥ = cc in z)
+
+  -- the input failed
+  pub read_cut : IsPlaying t m0 m a known rest w0 w → IsCutRun m0.show m0.object.tables m0.object known w0 w
+  read_cut p =
+      cut_run m0.object m0.show accepted p.told a.ahead.over a known rest w0 w
+      (subst (λ (z : Tables). Gives false a.ahead.over known rest (λ bytes later. script_of z bytes ≡ behind p.told (still z a later))) tables p.script)
+      (text_before_fault m0.object m0.show p.told, ([], sym (append-nil (text_before_fault m0.object m0.show p.told))), p.text)
+
+  -- a line has a fault
+  pub faulty : (fault : ScriptFault) → IsPlaying t m0 m a known rest w0 w → Gives a.ahead.over b.ahead.over rest left (IsAnswer t a b (Err (stop.Script fault)))
+      → IsFaultyRun m0.show m0.object.tables m0.object known w0 w fault
+  faulty fault p answer =
+      let Says : List ℕ → List ℕ → Type 0 = λ bytes later. script_of t bytes ≡ Bad fault.line fault.kind p.told in
+      let all : Gives false b.ahead.over known left Says =
+      gives_more false a.ahead.over b.ahead.over known rest left (λ bytes later. script_of t bytes ≡ behind p.told (still t a later)) (IsAnswer t a b (Err (stop.Script fault))) Says
+      (λ bytes middle later was now. was ∙ ap (behind p.told) now ∙ ap (λ (es : List Event). Bad fault.line fault.kind es) (append-nil p.told)) p.script answer in
+      record {
+        events = p.told;
+        script = subst (λ (z : Tables). OfScript known (λ script. script_of z script ≡ Bad fault.line fault.kind p.told)) tables (given_script b.ahead.over known left Says all);
+        written = p.text;
+      }
+
+-- ---- an event is told
+
+module _ (t : Tables) (m0 m : Seen) (accepted : IsAccepted m0.object) (tables : t ≡ m0.object.tables) (b : Ahead) (known rest w0 w w1 : Option (List ℕ)) (f f1 : ℕ) (e : Event)
+    (h : IsHeard t m0 m b known rest w0 w e) where
+  are_here : AreEvents m0.object.tables None (h.told ++ e ∷ [])
+  are_here = subst (λ (z : Tables). AreEvents z None (h.told ++ e ∷ [])) tables h.are
+
+  same_text : text_more m.object m.show h.told e ≡ text_more m0.object m0.show h.told e
+  same_text = ap (λ (p : Object). text_more p m.show h.told e) h.same.object ∙ ap (λ (s : Shown). text_more m0.object s h.told e) h.same.show
+
+  more_text : text_before_fault m0.object m0.show (h.told ++ e ∷ []) ≡ text_before_fault m0.object m0.show h.told ++ text_more m0.object m0.show h.told e
+  more_text = text_on m0.object m0.show accepted h.told e are_here h.none
+
+  pub told_on : {T E : Type 0} (m1 : Seen) (x : T) → Puts {T = T} {E = E} w w1 f f1 (text_more m.object m.show h.told e) (Ok x) → IsBehind m1 h.told e → IsSameRun m m1
+      → IsPlaying t m0 m1 b known rest w0 w1
+  told_on m1 x puts behind_it same =
+      record {
+        told = h.told ++ e ∷ [];
+        are = h.are;
+        past = h.past;
+        machine = subst (IsTold m1 (h.told ++ e ∷ [])) (sym (ap (λ (z : Past). z.end) (past_more at_first h.told e))) (by e behind_it);
+        same = record { object = same.object ∙ h.same.object; show = same.show ∙ h.same.show };
+        text =
+            append_known-more w0 w w1 (text_before_fault m0.object m0.show h.told) (text_more m0.object m0.show h.told e) h.text (puts.whole ∙ ap (append_known w) same_text)
+            ∙ ap (append_known w0) (sym more_text);
+        script = h.script;
+      }
+    where
+      open_end : (past_of h.told).end ≡ None
+      open_end = none_ended at_first h.told h.none
+
+      by : (e : Event) → IsBehind m1 h.told e → IsTold m1 (h.told ++ e ∷ []) (past_after (past_of h.told) e).end
+      by (event.At to) is = subst (IsTold m1 (h.told ++ event.At to ∷ [])) (sym open_end) (no_end_more h.told (event.At to) h.none tt, is)
+      by (event.Sense c y) is = subst (IsTold m1 (h.told ++ event.Sense c y ∷ [])) (sym open_end) (no_end_more h.told (event.Sense c y) h.none tt, is)
+      by (event.Took i n) is = subst (IsTold m1 (h.told ++ event.Took i n ∷ [])) (sym open_end) (no_end_more h.told (event.Took i n) h.none tt, is)
+      by (event.End to) is = (h.told, refl, is)
+
+  -- in part: the output failed
+  pub told_cut : {T E : Type 0} (x : E) → Puts {T = T} {E = E} w w1 f f1 (text_more m.object m.show h.told e) (Err x) → IsCutRun m0.show m0.object.tables m0.object known w0 w1
+  told_cut x puts =
+      let o = m0.object in
+      let part : AppendsPrefix w0 w1 (text_before_fault o m0.show h.told ++ (text_more o m0.show h.told e ++ [])) =
+      AppendsPrefix-more w0 w w1 (text_before_fault o m0.show h.told) (text_more o m0.show h.told e) [] h.text (subst (AppendsPrefix w w1) same_text puts.part) in
+      let whole : text_before_fault o m0.show h.told ++ (text_more o m0.show h.told e ++ []) ≡ text_before_fault o m0.show (h.told ++ e ∷ []) =
+      ap (λ (bs : List ℕ). text_before_fault o m0.show h.told ++ bs) (append-nil (text_more o m0.show h.told e)) ∙ sym more_text in
+      cut_run o m0.show accepted (h.told ++ e ∷ []) b.ahead.over b known rest w0 w1
+      (subst (λ (z : Tables). Gives false b.ahead.over known rest (λ bytes later. script_of z bytes ≡ behind (h.told ++ e ∷ []) (still z b later))) tables h.script)
+      (subst (AppendsPrefix w0 w1) whole part)
+
+-- ---- the end
+
+-- the input has ended: the machine is finished
+pub record IsOver (m0 m : Seen) (known left w0 w : Option (List ℕ)) : Type 0 where
+  pub told : List Event
+  pub end : ℕ
+  pub last : EndsAt told end
+  pub done : (front : List Event) (to : ℕ) → told ≡ front ++ event.End to ∷ [] → IsFinished m front to
+  pub same : IsSameRun m0 m
+  pub text : w ≡ append_known w0 (text_before_fault m0.object m0.show told)
+  pub script : OfScript known (λ script. script_of m0.object.tables script ≡ Whole told end)
+  pub read : left ≡ none_left known
+
+-- lists that end in the end of a run end it at once
+one_end : (es fs gs : List Event) (from to : ℕ) → gs ≡ es ++ event.End from ∷ [] → gs ≡ fs ++ event.End to ∷ [] → (es ≡ fs) × (from ≡ to)
+one_end es fs gs from to p q =
+    let same = last_same es fs (event.End from) (event.End to) (sym p ∙ q) in
+    (same.0, (let ends = same.1 in cc))
+
+module _ (t : Tables) (m0 m : Seen) (tables : t ≡ m0.object.tables) (a b : Ahead) (known rest left w0 w : Option (List ℕ)) (p : IsPlaying t m0 m a known rest w0 w)
+    (answer : Gives a.ahead.over b.ahead.over rest left (IsAnswer t a b (Ok None))) where
+  Ended : List ℕ → List ℕ → Type 0
+  Ended bytes later = (b.ahead.over ≡ true) × ((to : ℕ) × (script_of t bytes ≡ Whole p.told to))
+
+  all : Gives false b.ahead.over known left Ended
+  all =
+      gives_more false a.ahead.over b.ahead.over known rest left (λ bytes later. script_of t bytes ≡ behind p.told (still t a later)) (IsAnswer t a b (Ok None)) Ended
+      (λ bytes middle later was now. (now.0, (now.1.0, was ∙ ap (behind p.told) now.1.1 ∙ ap (λ (es : List Event). Whole es now.1.0) (append-nil p.told)))) p.script answer
+
+  given : OfScript known (λ bytes. Ended bytes (told_of left))
+  given = given_script b.ahead.over known left Ended all
+
+  pub over : Goes t a.here.past b.here.past (Ok None) → IsOver m0 m known left w0 w
+  over goes = by (past_of p.told).end (subst (λ (z : Past). is_some z.end ≡ true) (goes.0 ∙ p.past) goes.1) p.machine
+    where
+      by : (o : Option ℕ) → is_some o ≡ true → IsTold m p.told o → IsOver m0 m known left w0 w
+      by None some h = absurd (let z : ⊥ = cc in z)
+      by (Some end) some h =
+          let is = end_after t p.told h.0 end p.are h.1 in
+          let last = (whole-script t given.0 p.told given.2.1.0 given.2.1.1).1 in
+          let same : given.2.1.0 ≡ end = (one_end last.0 h.0 p.told given.2.1.0 end last.1 h.1).1 in
+          record {
+            told = p.told;
+            end = end;
+            last = record { last = (h.0, h.1); in_time = is.1 };
+            done = λ front to cut.
+                let one = one_end h.0 front p.told end to h.1 cut in
+                subst (λ (fs : List Event). IsFinished m fs to) one.0 (subst (IsFinished m h.0) one.1 h.2);
+            same = p.same;
+            text = p.text;
+            script = (given.0, given.1, subst (λ (z : Tables). script_of z given.0 ≡ Whole p.told end) tables (given.2.1.1 ∙ ap (Whole p.told) same));
+            read = given_all b.ahead.over known left Ended all given.2.0;
+          }
+
+-- the totals were written, or a part of them
+module _ (m0 m : Seen) (known left w0 w w1 : Option (List ℕ)) (f f1 : ℕ) (h : IsOver m0 m known left w0 w) where
+  text_put : {T : Type 0} (r : Result T Failed) → Puts w w1 f f1 (totals_line m.held.reading m.jobs m.e m.s) r → Puts w0 w1 f f1 (text_of_script m0.object m0.show (Whole h.told h.end)) r
+  text_put r puts =
+      let first : Puts {T = Unit {0}} {E = Failed} w0 w f f (text_before_fault m0.object m0.show h.told) (Ok tt) = record { whole = h.text; part = tt; cause = record { later = omega arith; kept = refl; refused = tt } } in
+      run_put m0.object m0.show h.told {S = Unit {0}} m w0 w w1 f f f1 tt r h.same.object first h.done puts h.end h.last
+
+  pub over_done : {T : Type 0} (x : T) → Puts {T = T} {E = Failed} w w1 f f1 (totals_line m.held.reading m.jobs m.e m.s) (Ok x)
+      → IsWholeRun m0.show m0.object.tables m0.object known left w0 w1
+  over_done x puts = record { events = h.told; end = h.end; script = h.script; read = h.read; written = (text_put (Ok x) puts).whole }
+
+  pub over_cut : {T : Type 0} (x : Failed) → Puts {T = T} {E = Failed} w w1 f f1 (totals_line m.held.reading m.jobs m.e m.s) (Err x)
+      → IsCutRun m0.show m0.object.tables m0.object known w0 w1
+  over_cut {T = T} x puts = record { given = Whole h.told h.end; script = h.script; written = (text_put {T = T} (Err x) puts).part }
+
+-- a count that stood until then
+pub rose_since : (first before now : ℕ) → before ≡ first → Rose before now → Rose first now
+rose_since first before now same rose = subst (λ (n : ℕ). Rose n now) same rose
