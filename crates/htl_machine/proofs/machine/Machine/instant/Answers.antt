@@ -1,5 +1,6 @@
 use Rattle.std.proofs.Common.{◌≤◌, ◌<◌, ◌∙◌, [], length, Err, Ok, refl, sym, ap, subst}
 use Rattle.htl_edge.specs.Content.{Puts}
+use Rattle.htl_edge.specs.declared.Failed.{Failed}
 use Rattle.htl_smach.specs.Rounds.{Round}
 use Rattle.htl_emach.specs.Following.{phase_path}
 use Rattle.htl_emach.specs.Shapes.{HasValues}
@@ -155,7 +156,7 @@ returns-in-Err-clause-text g c = λ es before.
     let r = ready m es c.args.at c.self.inside.idle.instrs ok u later c.self.invariant.empty in
     let f = follows_at m.object es c.args.at c.tables-t.result.now c.ecode-code.result.now m.standing c.tables-t.ensures.value c.ecode-code.ensures u.before.values.triggers in
     let text = rw (c.tables-t.ensures.value, c.ecode-code.ensures, c.schedule_of.ensures, c.number_of.ensures) at (c.in-Err.ensures.text es f) in
-    subst (λ (z : Seen). Puts (g.W.Sink.written c.args.sink.now) (g.W.Sink.written c.open_instant.new.sink) (g.W.Sink.faults c.args.sink.now) (g.W.Sink.faults c.open_instant.new.sink) (lines_of z.object es z.show c.args.at) (Err c.in-Err.failed))
+    subst (λ (z : Seen). Puts {T = Unit {0}} {E = Failed} (g.W.Sink.written c.args.sink.now) (g.W.Sink.written c.open_instant.new.sink) (g.W.Sink.faults c.args.sink.now) (g.W.Sink.faults c.open_instant.new.sink) (lines_of z.object es z.show c.args.at) (Err c.in-Err.failed))
     c.self.view_is (open_failed m es c.args.at ok later u _ r _ _ _ _ _ _ text)
 
 pub close_and_begin-requires-clause-form : goal.close_and_begin-requires-clause-form
@@ -322,7 +323,7 @@ returns-in-Err-close_instant-clause-text g c = λ es before.
     let q = to_close m es c.args.at c.tables-t.result.now c.ecode-code.result.now c.tables-t.ensures.value c.ecode-code.ensures ok later u _ r c.note_values.new.values c.note_values.ensures _ _ opened _ (c.as_slice-else-round_begins.ensures ∙ c.note_values.ensures) _ (c.as_slice-else-round_begins-2.ensures ∙ c.note_modes.ensures) _ (c.in_default.ensures.writes es f) in
     let text = rw (c.tables-t.ensures.value, c.ecode-code.ensures, c.schedule_of.ensures, c.number_of.ensures) at (c.in_default.ensures.text es f) in
     let rest = rw (c.tables-t.ensures.value, c.ecode-code.ensures) at (c.in-Err-close_instant.ensures.text es q) in
-    subst (λ (z : Seen). Puts (g.W.Sink.written c.args.sink.now) (g.W.Sink.written c.close_instant.new.sink) (g.W.Sink.faults c.args.sink.now) (g.W.Sink.faults c.close_instant.new.sink) (lines_of z.object es z.show c.args.at) (Err c.in-Err-close_instant.failed))
+    subst (λ (z : Seen). Puts {T = Unit {0}} {E = Failed} (g.W.Sink.written c.args.sink.now) (g.W.Sink.written c.close_instant.new.sink) (g.W.Sink.faults c.args.sink.now) (g.W.Sink.faults c.close_instant.new.sink) (lines_of z.object es z.show c.args.at) (Err c.in-Err-close_instant.failed))
     c.self.view_is (going_closed m es c.args.at ok later u _ r _ _ _ _ _ _ _ _ b text (fails_so _ _ _ _ _ _ c.in-Err-close_instant.failed rest))
 
 pub invariant_of-self-in_default-close_instant : goal.invariant_of-self-in_default-close_instant
@@ -392,7 +393,7 @@ returns-in-Ok-clause-text g c = λ es before.
     let z = to_close m es c.args.at c.tables-t.result.now c.ecode-code.result.now c.tables-t.ensures.value c.ecode-code.ensures ok later u _ r c.note_values.new.values c.note_values.ensures _ _ opened _ (c.as_slice-then-round_begins-2.ensures ∙ c.note_values.ensures) _ (c.as_slice-then-round_begins-3.ensures ∙ c.note_modes.ensures) _ (c.in_default.ensures.writes es f) in
     let q = to_close_and_begin m es c.args.at c.tables-t.result.now c.ecode-code.result.now c.schedules.result.now _ c.tables-t.ensures.value c.ecode-code.ensures c.schedules.ensures c.as_slice-then-round_begins.ensures ok later u b _ _ _ _ z in
     let text = rw (c.tables-t.ensures.value, c.ecode-code.ensures, c.schedule_of.ensures, c.number_of.ensures) at (c.in_default.ensures.text es f) in
-    subst (λ (z : Seen). Puts (g.W.Sink.written c.args.sink.now) (g.W.Sink.written c.close_and_begin.new.sink) (g.W.Sink.faults c.args.sink.now) (g.W.Sink.faults c.close_and_begin.new.sink) (lines_of z.object es z.show c.args.at) (Ok _))
+    subst (λ (z : Seen). Puts {T = Unit {0}} {E = Failed} (g.W.Sink.written c.args.sink.now) (g.W.Sink.written c.close_and_begin.new.sink) (g.W.Sink.faults c.args.sink.now) (g.W.Sink.faults c.close_and_begin.new.sink) (lines_of z.object es z.show c.args.at) (Ok _))
     c.self.view_is (begun_closed_at m es c.args.at ok later u _ r c.tables-t.result.now c.ecode-code.result.now c.schedules.result.now _ _ _ _ _ _ _ _ c.tables-t.ensures.value c.ecode-code.ensures c.schedules.ensures b text (ends_so _ _ _ _ _ _ _ (c.in-Ok.ensures.text es q)))
 
 pub returns-in-Ok-clause-before : goal.returns-in-Ok-clause-before
@@ -440,7 +441,7 @@ returns-in-Err-close_and_begin-clause-text g c = λ es before.
     let z = to_close m es c.args.at c.tables-t.result.now c.ecode-code.result.now c.tables-t.ensures.value c.ecode-code.ensures ok later u _ r c.note_values.new.values c.note_values.ensures _ _ opened _ (c.as_slice-then-round_begins-2.ensures ∙ c.note_values.ensures) _ (c.as_slice-then-round_begins-3.ensures ∙ c.note_modes.ensures) _ (c.in_default.ensures.writes es f) in
     let q = to_close_and_begin m es c.args.at c.tables-t.result.now c.ecode-code.result.now c.schedules.result.now _ c.tables-t.ensures.value c.ecode-code.ensures c.schedules.ensures c.as_slice-then-round_begins.ensures ok later u b _ _ _ _ z in
     let text = rw (c.tables-t.ensures.value, c.ecode-code.ensures, c.schedule_of.ensures, c.number_of.ensures) at (c.in_default.ensures.text es f) in
-    subst (λ (z : Seen). Puts (g.W.Sink.written c.args.sink.now) (g.W.Sink.written c.close_and_begin.new.sink) (g.W.Sink.faults c.args.sink.now) (g.W.Sink.faults c.close_and_begin.new.sink) (lines_of z.object es z.show c.args.at) (Err c.in-Err-close_and_begin.failed))
+    subst (λ (z : Seen). Puts {T = Unit {0}} {E = Failed} (g.W.Sink.written c.args.sink.now) (g.W.Sink.written c.close_and_begin.new.sink) (g.W.Sink.faults c.args.sink.now) (g.W.Sink.faults c.close_and_begin.new.sink) (lines_of z.object es z.show c.args.at) (Err c.in-Err-close_and_begin.failed))
     c.self.view_is (begun_closed_at m es c.args.at ok later u _ r c.tables-t.result.now c.ecode-code.result.now c.schedules.result.now _ _ _ _ _ _ _ _ c.tables-t.ensures.value c.ecode-code.ensures c.schedules.ensures b text (fails_so _ _ _ _ _ _ c.in-Err-close_and_begin.failed (c.in-Err-close_and_begin.ensures.text es q)))
 
 pub returns-in_default-close_instant-clause-text : goal.returns-in_default-close_instant-clause-text
@@ -456,7 +457,7 @@ returns-in_default-close_instant-clause-text g c = λ es before.
     let q = to_close m es c.args.at c.tables-t.result.now c.ecode-code.result.now c.tables-t.ensures.value c.ecode-code.ensures ok later u _ r c.note_values.new.values c.note_values.ensures _ _ opened _ (c.as_slice-else-round_begins.ensures ∙ c.note_values.ensures) _ (c.as_slice-else-round_begins-2.ensures ∙ c.note_modes.ensures) _ (c.in_default.ensures.writes es f) in
     let text = rw (c.tables-t.ensures.value, c.ecode-code.ensures, c.schedule_of.ensures, c.number_of.ensures) at (c.in_default.ensures.text es f) in
     let rest = rw (c.tables-t.ensures.value, c.ecode-code.ensures) at (c.in_default-close_instant.ensures.text es q) in
-    subst (λ (z : Seen). Puts (g.W.Sink.written c.args.sink.now) (g.W.Sink.written c.close_instant.new.sink) (g.W.Sink.faults c.args.sink.now) (g.W.Sink.faults c.close_instant.new.sink) (lines_of z.object es z.show c.args.at) (Ok _))
+    subst (λ (z : Seen). Puts {T = Unit {0}} {E = Failed} (g.W.Sink.written c.args.sink.now) (g.W.Sink.written c.close_instant.new.sink) (g.W.Sink.faults c.args.sink.now) (g.W.Sink.faults c.close_instant.new.sink) (lines_of z.object es z.show c.args.at) (Ok _))
     c.self.view_is (going_closed m es c.args.at ok later u _ r _ _ _ _ _ _ _ _ b text (ends_so _ _ _ _ _ _ _ rest))
 
 pub returns-in_default-close_instant-clause-before : goal.returns-in_default-close_instant-clause-before
