@@ -2,9 +2,11 @@ use Rattle.std.proofs.Common.{◌≡◌, Option, Ok, Err, refl, sym, ap, ◌∙�
 use Rattle.htl_model.specs.declared.event.Event.{Event}
 use Rattle.htl_script.proofs.Taken.{taken_none, taken_on, taken_more, taken_all}
 use Rattle.htl_script.specs.Streaming.{Gives, Goes, IsAnswer, LosesPiece, at_start}
+use Rattle.htl_script.specs.declared.fault.ScriptFault.{ScriptFault}
 use Rattle.htl_script.specs.declared.fault.ScriptStop.{ScriptStop}
 use Rattle.htl_script.specs.declared.fault.ScriptStop.TheVariants as stop
 use Rattle.htl_top.proofs.Streaming.{playing_start, heard, told_on, told_cut, read_cut, faulty, over, over_done, over_cut, rose_since}
+use Rattle.htl_top.specs.Runs.{IsFaultyRun}
 use Rattle.htl_top.proofs.play.play.Goals as goal
 
 pub events-init : goal.events-init
@@ -115,8 +117,7 @@ returns-in-Err-write_totals-clause-answer g c =
     let h =
     over t m0 m c.requires.tables a b known rest left w0 w c.events.invariant.0
     (subst (λ (o : Option Event). Gives a.ahead.over b.ahead.over rest left (IsAnswer t a b (Ok o))) c.in-Ok-None.field-0-is c.in-Ok-None.ensures.answer)
-    (subst (λ (o : Option Event). Goes t a.here.past b.here.past (Ok o)) c.in-Ok-None.field-0-is c.in-Ok-None.ensures.event) in
-    (
+    (subst (λ (o : Option Event). Goes t a.here.past b.here.past (Ok o)) c.in-Ok-None.field-0-is c.in-Ok-None.ensures.event) in (
       rose_since (g.W.Sink.faults c.args.out.now) (g.W.Sink.faults c.events.out) (g.W.Sink.faults c.write_totals.new.out) c.events.invariant.2 c.in-Err-write_totals.ensures.cause.refused,
       over_cut m0 m known left w0 w (g.W.Sink.written c.write_totals.new.out) (g.W.Sink.faults c.events.out) (g.W.Sink.faults c.write_totals.new.out) h c.in-Err-write_totals.field-0
           c.in-Err-write_totals.ensures,
@@ -134,8 +135,9 @@ returns-in-Err-Script-clause-answer g c =
     let w = g.W.Sink.written c.events.out in
     let a = c.events.script.stream in
     let b = c.next.new.self.stream in
-    faulty t m0 m c.requires.accepted c.requires.tables a b known rest left w0 w c.in-Err-Script.fault c.events.invariant.0
-    (subst (λ (s : ScriptStop). Gives a.ahead.over b.ahead.over rest left (IsAnswer t a b (Err s))) c.in-Err-Script.field-0-is c.in-Err-Script.ensures.answer)
+    subst (λ (f : ScriptFault). IsFaultyRun m0.show m0.object.tables m0.object known w0 w f) (sym c.in-Err-Script.fault-is)
+    (faulty t m0 m c.requires.accepted c.requires.tables a b known rest left w0 w c.in-Err-Script.fault c.events.invariant.0
+    (subst (λ (s : ScriptStop). Gives a.ahead.over b.ahead.over rest left (IsAnswer t a b (Err s))) c.in-Err-Script.field-0-is c.in-Err-Script.ensures.answer))
 
 pub returns-in-Err-Read-clause-answer : goal.returns-in-Err-Read-clause-answer
 returns-in-Err-Read-clause-answer g c =
@@ -148,8 +150,7 @@ returns-in-Err-Read-clause-answer g c =
     let w0 = g.W.Sink.written c.args.out.now in
     let w = g.W.Sink.written c.events.out in
     let a = c.events.script.stream in
-    let b = c.next.new.self.stream in
-    (
+    let b = c.next.new.self.stream in (
       rose_since (g.R.Source.faults c.args.input.now) (g.R.Source.faults c.events.input) (g.R.Source.faults c.next.new.src) c.events.invariant.1
           (c.in-Err-Read.ensures.read (ap (λ (s : ScriptStop). Err s) c.in-Err-Read.field-0-is)),
       read_cut t m0 m c.requires.accepted c.requires.tables a b known rest left w0 w c.events.invariant.0,
