@@ -5,7 +5,7 @@ use Rattle.htl_script.specs.Reading.{LosesFront}
 use Rattle.htl_script.specs.Readers.{Here}
 use Rattle.htl_script.specs.Streaming.{Ahead, Pending, GivesByte, LosesPiece, at_start, taken_of}
 
-prepend_known-nil : (known : Option (List ℕ)) → prepend_known [] known ≡ known
+pub prepend_known-nil : (known : Option (List ℕ)) → prepend_known [] known ≡ known
 prepend_known-nil None = refl
 prepend_known-nil (Some xs) = refl
 

@@ -26,7 +26,8 @@ use Rattle.htl_script.specs.declared.fault.ScriptStop.TheVariants as stop
 use Rattle.htl_script.specs.declared.judge.Past.{Past}
 use Rattle.htl_script.proofs.Behind.{behind-nil, behind-append, events_of-behind, script_of-rest}
 use Rattle.htl_script.proofs.Fitting.{script-events, whole-script, AreEvents-front}
-use Rattle.htl_script.proofs.Streaming.{gives_start, gives_more, given_script, given_all, told_of}
+use Rattle.htl_script.proofs.Streaming.{gives_more, given_script, given_all, told_of}
+use Rattle.htl_script.proofs.Taken.{prepend_known-nil}
 use Rattle.htl_top.specs.Playing.{HaveNoEnd, IsBehind, IsNext, IsPlaying, IsTold, text_more}
 use Rattle.htl_top.specs.Runs.{IsCutRun, IsFaultyRun, IsWholeRun}
 use Rattle.htl_top.specs.Scripts.{EndsAt}
@@ -175,7 +176,7 @@ playing_start t m a known w follows at = subst (λ (z : Ahead). IsPlaying t m m 
   text = append_known-start w;
   script = record {
     front = [];
-    lost = (gives_start t at_start known).lost;
+    lost = prepend_known-nil known;
     ends = λ was now. was now;
     kept = λ over. (refl, over);
     fact = λ later ok. script_of-rest t later ∙ sym (behind-nil (still t at_start later));
@@ -312,7 +313,7 @@ one_end es fs gs from to p q =
 
 module _ (t : Tables) (m0 m : Seen) (tables : t ≡ m0.object.tables) (a b : Ahead) (known rest left w0 w : Option (List ℕ)) (p : IsPlaying t m0 m a known rest w0 w)
     (answer : Gives a.ahead.over b.ahead.over rest left (IsAnswer t a b (Ok None))) where
-  Ended : List ℕ → List ℕ → Type 0
+  abbrev Ended : List ℕ → List ℕ → Type 0
   Ended bytes later = (b.ahead.over ≡ true) × ((to : ℕ) × (script_of t bytes ≡ Whole p.told to))
 
   all : Gives false b.ahead.over known left Ended

@@ -3,7 +3,7 @@ use Rattle.htl_script.specs.Orders.{IsIndex}
 use Rattle.htl_script.proofs.tests.read.Given as goal
 
 abbrev pub invariant-events : goal.invariant-events
-invariant-events g l = l.script.ready ≡ true → IsIndex l.fn.t l.script.index
+invariant-events l = l.script.ready ≡ true → IsIndex l.fn.t l.script.index
 
 abbrev pub decreases-events : goal.decreases-events
-decreases-events g l = 1073741826 - l.script.stream.here.number
+decreases-events l = 1073741826 - l.script.stream.here.number

@@ -2,9 +2,11 @@ use Rattle.std.proofs.Common.{◌≡◌, Option, Ok, Err, refl, sym, ap, ◌∙�
 use Rattle.htl_model.specs.declared.event.Event.{Event}
 use Rattle.htl_script.proofs.Taken.{taken_none, taken_on, taken_more, taken_all}
 use Rattle.htl_script.specs.Streaming.{Gives, Goes, IsAnswer, LosesPiece, at_start}
+use Rattle.htl_script.specs.declared.fault.ScriptFault.{ScriptFault}
 use Rattle.htl_script.specs.declared.fault.ScriptStop.{ScriptStop}
 use Rattle.htl_script.specs.declared.fault.ScriptStop.TheVariants as stop
 use Rattle.htl_top.proofs.Streaming.{playing_start, heard, told_on, told_cut, read_cut, faulty, over, over_done, over_cut, rose_since}
+use Rattle.htl_top.specs.Runs.{IsFaultyRun}
 use Rattle.htl_top.proofs.play.play.Goals as goal
 
 pub events-init : goal.events-init
@@ -133,8 +135,9 @@ returns-in-Err-Script-clause-answer g c =
     let w = g.W.Sink.written c.events.out in
     let a = c.events.script.stream in
     let b = c.next.new.self.stream in
-    faulty t m0 m c.requires.accepted c.requires.tables a b known rest left w0 w c.in-Err-Script.fault c.events.invariant.0
-    (subst (λ (s : ScriptStop). Gives a.ahead.over b.ahead.over rest left (IsAnswer t a b (Err s))) c.in-Err-Script.field-0-is c.in-Err-Script.ensures.answer)
+    subst (λ (f : ScriptFault). IsFaultyRun m0.show m0.object.tables m0.object known w0 w f) (sym c.in-Err-Script.fault-is)
+    (faulty t m0 m c.requires.accepted c.requires.tables a b known rest left w0 w c.in-Err-Script.fault c.events.invariant.0
+    (subst (λ (s : ScriptStop). Gives a.ahead.over b.ahead.over rest left (IsAnswer t a b (Err s))) c.in-Err-Script.field-0-is c.in-Err-Script.ensures.answer))
 
 pub returns-in-Err-Read-clause-answer : goal.returns-in-Err-Read-clause-answer
 returns-in-Err-Read-clause-answer g c =
