@@ -3,7 +3,7 @@ use Rattle.htl_top.proofs.Running.{run_here}
 use Rattle.htl_top.specs.Answers.{streams}
 use Rattle.htl_top.proofs.execute.execute.Goals as goal
 
-pub returns-clause-answer : goal.returns-in-Ok-clause-answer
+pub returns-clause-answer : goal.returns-clause-answer
 returns-clause-answer g c =
     let side = streams g.R.Source.rest g.R.Source.faults g.W.Sink.written g.W.Sink.faults in
     run_here c.args.show c.in-Ok.machine.show c.args.l.now c.in-Ok.machine.object (side c.args.input.now c.args.out.now) (side c.play.new.input c.play.new.out) c.play.result c.in-Ok.ensures.show
