@@ -15,4 +15,4 @@ loop-k-preserved c =
     }
 
 pub end-requires : goal.end-requires
-end-requires c = (take c.loop-k-done.k c.args.events.now, c.loop-k-done.invariant.follows)
+end-requires c = (take c.loop-k.k c.args.events.now, c.loop-k.invariant.follows)
