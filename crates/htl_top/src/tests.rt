@@ -619,7 +619,7 @@ const UNSERVED: &[(&[&str], u8, &str)] = &[
     (&["compile", "with"], 2, "htl: usage\n"),
     (&["compile", "for", "A"], 2, "htl: usage\n"),
     (&["compile", "with", "A", "A"], 2, "htl: usage\n"),
-    (&["code", "A"], 2, "htl: usage\n"),
+    (&["code"], 2, "htl: usage\n"),
     (&["bulk", "0"], 2, "htl: usage\n"),
     (&["bulk", "1"], 2, "htl: usage\n"),
     (&["bulk", "65"], 2, "htl: usage\n"),
