@@ -4,12 +4,12 @@ ghost use Rattle.std.specs.Option.{option_map};
 ghost use Rattle.std.specs.Ordering.{nat_cmp};
 ghost use Rattle.std.specs.Cmp.Lexicographic.{slice_cmp};
 ghost use Rattle.htl_model.specs.Tables.{tables_of};
-ghost use Rattle.htl_script.specs.Naming.{name_of, count_of, number_named};
+ghost use Rattle.htl_script.specs.Naming.{name_of, count_of, number_named, sensor_name};
 ghost use Rattle.htl_script.specs.Orders.{AreRising, AreOrdered, IsPlace, IsIndex};
 
 use crate::naming::{Named, count, name};
 use htl_base::limits::MAX_INVOCATIONS;
-use htl_model::{Parts, Tables};
+use htl_model::{Comm, Parts, Tables};
 use std::cmp::Ordering;
 use std::marker::Model;
 
@@ -144,8 +144,22 @@ fn compare(parts: &Parts, kind: Named, number: u16, text: &[u8]) -> Ordering
     requires { IsSome (name_of (tables_of parts.now) kind number) }
     ensures { option_map (λ own. slice_cmp nat_cmp own text.now) (name_of (tables_of parts.now) kind number) ≡ Some result }
 {
-    match name(parts, kind, number) {
-        Some(own) => own.as_bytes().cmp(text),
-        None => Ordering::Equal,
+    match kind {
+        Named::Sensor => match parts.comms.as_slice().get(number as usize) {
+            Some(comm) => compare_sensor(comm, text),
+            None => Ordering::Equal,
+        },
+        Named::Invocation => match name(parts, kind, number) {
+            Some(own) => own.as_bytes().cmp(text),
+            None => Ordering::Equal,
+        },
     }
+}
+
+// How the name of a sensor compares with a text; it is not copied.
+fn compare_sensor(comm: &Comm, text: &[u8]) -> Ordering
+    requires { IsSome (sensor_name comm.now) }
+    ensures { option_map (λ own. slice_cmp nat_cmp own text.now) (sensor_name comm.now) ≡ Some result }
+{
+    comm.name.as_bytes().cmp(text)
 }
