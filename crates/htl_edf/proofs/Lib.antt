@@ -7,9 +7,13 @@ pub mod FormedWindows
 pub mod Found
 pub mod FrameRows
 pub mod FrameSampleFits
+pub mod FrameTasks
 pub mod Fronts
+pub mod Greatest
+pub mod GreatestRows
 pub mod Jumps
 pub mod Kept
+pub mod MoreWork
 pub mod NodeCode
 pub mod NodeLists
 pub mod NodeParts
@@ -20,6 +24,7 @@ pub mod Plannable
 pub mod Plans
 pub mod Ranking
 pub mod ReadyRanks
+pub mod ReadyTasks
 pub mod Refusal
 pub mod Reporting
 pub mod Rest

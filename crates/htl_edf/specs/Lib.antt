@@ -2,8 +2,10 @@ pub mod Code
 pub mod Edf
 pub mod Faults
 pub mod FrameSamples
+pub mod Greatest
 pub mod Laws
 pub mod Lists
+pub mod MoreWork
 pub mod NodePlans
 pub mod PartLaws
 pub mod Parts

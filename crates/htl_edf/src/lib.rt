@@ -15,7 +15,7 @@ mod rounds;
 mod scheduler;
 mod turns;
 
-pub use nodes::edf_nodes;
+pub use nodes::{edf_nodes, first_overload, plan_nodes};
 pub use plan::{PlanFault, edf_all};
 pub use rounds::{Tight, tighten};
 pub use scheduler::{EdfFault, edf};

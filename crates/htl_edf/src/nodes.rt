@@ -12,7 +12,7 @@ ghost use Rattle.htl_edf.specs.Ranks.{AreRanked};
 ghost use Rattle.htl_edf.specs.NodePlans.{AreReady, HasPart, HaveParts, AreNodeLists, ExplainsNodes};
 
 use crate::events::{Ahead, advance, horizon, start};
-use crate::overload::Overload;
+pub use crate::overload::Overload;
 use crate::parts::run_part;
 use crate::ranks::{Ranks, rank};
 use crate::{EdfFault, PlanFault, Tight, edf, tighten};
@@ -156,8 +156,15 @@ fn empty_lists(alloc: Global, n: u32) -> Result<Vec<Schedule>, AllocError>
     Ok(v)
 }
 
-// The first overloaded path.
-fn first_overload(alloc: Global, t: &Tables, f: &Frame) -> Option<(u32, Overload)>
+/// The first path that is overloaded, with the interval that `edf` reports for its jobs; None where none is.
+///
+/// The numbers are those of the tables' frame, and the jobs of every path are as the scheduler asks: windows of some ticks
+/// within the frame, small numbers, and predecessors without a cycle. So they are where the form rules are kept, by the law
+/// `ready`, and then with any worst case of a task, by the law `ready_with_worst`.
+///
+/// For each path up to the one that is found it makes the jobs and one schedule of the whole frame as `edf` does. Want of
+/// memory for that schedule doesn't change the answer.
+pub fn first_overload(alloc: Global, t: &Tables, f: &Frame) -> Option<(u32, Overload)>
     requires frame { IsFrame t.now f.now }
     requires ready { AreReady t.now }
     ensures { MatchOption result ((k : ℕ) → k < paths_of t.now → NoOverload (tightened (path_jobs_of t.now k)))
@@ -171,8 +178,9 @@ fn first_overload(alloc: Global, t: &Tables, f: &Frame) -> Option<(u32, Overload
     None
 }
 
-// The lists of all nodes.
-fn plan_nodes(alloc: Global, t: &Tables) -> Result<Vec<Schedule>, PlanFault>
+/// The schedules of earliest deadline first for the nodes, as `edf_nodes` gives them, of tables that keep the limits of
+/// frames and whose jobs are as `first_overload` asks.
+pub fn plan_nodes(alloc: Global, t: &Tables) -> Result<Vec<Schedule>, PlanFault>
     requires limits { frame_limit t.now ≡ None }
     requires ready { AreReady t.now }
     ensures count { IfOk result (λ v. length v.items ≡ nodes_of_frame t.now) }
