@@ -1,5 +1,5 @@
 -- The worst case of a task reaches nothing of the frame.
-use Rattle.std.proofs.Common.{◌≡◌, ◌≤◌, ℕ, ◌+◌, min, cond, ltb, refl, sym, ap, ◌∙◌, subst, List, [], ◌∷◌, length, map, max, Option, Some, None}
+use Rattle.std.proofs.Common.{◌≡◌, ◌≤◌, ℕ, ◌+◌, min, cond, ltb, refl, ap, ◌∙◌, subst, List, [], ◌∷◌, length, map, max, Option, Some, None}
 use mathlib.Core.Path.{fun_ext}
 use Rattle.htl_model.specs.declared.parts.Task.{Task}
 use Rattle.htl_model.specs.declared.frame.Frame.{Frame}
@@ -7,7 +7,7 @@ use Rattle.htl_model.specs.declared.frame.Round.{Round}
 use Rattle.htl_model.specs.declared.frame.Place.{Place}
 use Rattle.htl_model.specs.Tables.{Tables}
 use Rattle.htl_model.specs.Selections.{root_modules, modes_of, invs_of}
-use Rattle.htl_model.specs.Frames.{frame_of, starts, unit_period, common_multiple, rounds_at, rounds, choices, paths, radices, nodes_of, nodes, most_invs, most_positions, too_long, last_of, exceeds, first_of, frame_limit, path_places, KeepsFrames}
+use Rattle.htl_model.specs.Frames.{starts, unit_period, common_multiple, rounds_at, rounds, choices, radices, nodes_of, most_invs, most_positions, too_long, last_of, exceeds, first_of, frame_limit, KeepsFrames}
 use Rattle.htl_model.specs.FrameTables.{IsFrame}
 use Rattle.htl_edf.specs.Greatest.{worst_in, LimitsWithWorst, FrameWithWorst}
 use Rattle.htl_edf.proofs.Greatest.{with_tasks, rounds_of_same, rounds_same, choices_same, paths_same, path_places_same}
