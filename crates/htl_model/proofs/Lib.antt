@@ -2,6 +2,7 @@ pub mod Apart
 pub mod BitLaws
 pub mod ChoiceLaws
 pub mod ChosenLaws
+pub mod CodeLaws
 pub mod Divisors
 pub mod Examples
 pub mod FirstLaws

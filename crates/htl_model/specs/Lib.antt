@@ -9,6 +9,7 @@ pub mod Found
 pub mod FrameRules
 pub mod FrameTables
 pub mod Frames
+pub mod FunctionCode
 pub mod FunctionTypes
 pub mod Functions
 pub mod Lines

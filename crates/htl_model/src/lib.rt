@@ -5,6 +5,7 @@
 mod accessors;
 pub mod bits;
 pub mod choice;
+mod copying;
 pub mod eval;
 mod event;
 pub mod exchange;
