@@ -114,10 +114,10 @@ passes_0 test j p xs e =
 
 -- ---- the modes of a root module
 
-record IsRootAt (t : Tables) (u : ℕ) : Type 0 where
-  owner : Module
-  at : slice_get t.modules u ≡ Some owner
-  root : is_root owner ≡ true
+pub record IsRootAt (t : Tables) (u : ℕ) : Type 0 where
+  pub owner : Module
+  pub at : slice_get t.modules u ≡ Some owner
+  pub root : is_root owner ≡ true
 
 no_parent : (x : Module) (o : Option ℕ) → x.parent ≡ o → is_root x ≡ true → o ≡ None
 no_parent x None e h = refl
@@ -146,7 +146,7 @@ as_first t u m x r kept root at own =
     ]
 
 -- so each has the module's period
-as_unit : (t : Tables) (u m : ℕ) (x : Mode) → AreInRange t → KeptApart t 12 → IsRootAt t u → slice_get t.modes m ≡ Some x → x.«module» ≡ u → mode_period t m ≡ unit_period t u
+pub as_unit : (t : Tables) (u m : ℕ) (x : Mode) → AreInRange t → KeptApart t 12 → IsRootAt t u → slice_get t.modes m ≡ Some x → x.«module» ≡ u → mode_period t m ≡ unit_period t u
 as_unit t u m x r kept root at own =
     let begin = (r.modules u root.owner root.at).start in
     let start : unit_start t u ≡ root.owner.start = ap (λ (o : Option Module). elim o as (λ _. ℕ) [ Some y ↦ y.start | None ↦ 0 ]) root.at in
