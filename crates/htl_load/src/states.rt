@@ -1,6 +1,7 @@
 // The typed states of an object: each keeps what was tested of it.
 ghost use Rattle.std.specs.Prelude.{◌≡◌, ◌<◌, length, slice_get, Some, IfOk, OnOk, IfErr};
 ghost use Rattle.htl_object.specs.Accepted.{IsFormed, IsSpelled, IsAccepted};
+ghost use Rattle.htl_load.specs.Alike.{AskTheSame};
 ghost use Rattle.htl_load.specs.Faults.{IsFormFault, IsSpellingFault, IsScheduleFault};
 ghost use Rattle.htl_model.specs.Broken.{Formed, IsFirstBroken};
 ghost use Rattle.htl_model.specs.Tables.{Compiled};
@@ -80,6 +81,16 @@ impl Model for Loaded {
     ghost invariant = { λ s. IsAccepted s.object };
 }
 
+impl FormedObject {
+    /// An object in range of which it is known that its tables break no form rule. It takes no memory.
+    pub fn of(o: Object) -> FormedObject
+        requires { IsFormed o }
+        ensures { result ≡ o }
+    {
+        FormedObject { object: o }
+    }
+}
+
 // The first form rule that tables break.
 fn first_broken(t: &Tables) -> Result<(), FormFault>
     ensures formed { OnOk result (Formed t.now) }
@@ -132,7 +143,27 @@ pub fn scheduled(s: SpelledObject) -> Result<Loaded, (Object, ObjectFault)>
     }
 }
 
+/// The object as accepted under the schedules of another that is: its schedules are those, and its tables ask the processor for the
+/// same, apart from the numbers of invocations. It walks no schedule, takes no memory, and has no refusal.
+pub fn inherit(s: SpelledObject, from: &Loaded) -> Loaded
+    requires schedules { s.schedules ≡ from.now.schedules }
+    requires same { AskTheSame s.tables from.now.tables }
+    ensures loaded { result ≡ s }
+    ensures accepted { IsAccepted s }
+{
+    let _from = from.object();
+    Loaded { object: s.object }
+}
+
 impl Loaded {
+    /// The whole object. It takes no memory.
+    pub fn object(&self) -> &Object
+        ensures value { result.now ≡ self.now }
+        ensures accepted { IsAccepted result.now }
+    {
+        &self.object
+    }
+
     /// The tables.
     pub fn tables(&self) -> &Tables
         ensures value { result.now ≡ self.now.tables }

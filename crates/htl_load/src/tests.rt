@@ -441,8 +441,8 @@ fn objects_and_their_first_faults(rt: HostRuntime) -> Result<(), Fail> {
     Ok(())
 }
 
-// The numbers of instructions of the E code, of the last schedule and of the first function.
-fn sizes(loaded: &Loaded) -> Option<(usize, usize, usize)> {
+// The numbers of instructions of the E code, of the last schedule and of the first function, and of schedules.
+fn sizes(loaded: &Loaded) -> Option<(usize, usize, usize, usize)> {
     let functions = loaded.tables().parts().functions.as_slice().len();
     let schedule = loaded.schedules().last()?;
     if functions == 0 {
@@ -453,6 +453,7 @@ fn sizes(loaded: &Loaded) -> Option<(usize, usize, usize)> {
         loaded.ecode().instrs.as_slice().len(),
         schedule.instrs.as_slice().len(),
         code.instrs.as_slice().len(),
+        loaded.object().schedules.as_slice().len(),
     ))
 }
 
@@ -461,7 +462,7 @@ fn what_is_loaded_is_handed_out(rt: HostRuntime) -> Result<(), Fail> {
     let loaded = load(rt.alloc(), &TWO_JOBS)
         .ok()
         .expect(&rt, "an accepted object");
-    assert_eq!(rt; sizes(&loaded), Some((18, 4, 3)));
+    assert_eq!(rt; sizes(&loaded), Some((18, 4, 3, 1)));
     Ok(())
 }
 

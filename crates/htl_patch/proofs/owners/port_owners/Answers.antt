@@ -1,0 +1,29 @@
+use Rattle.std.proofs.Common.{◌≡◌, ◌≤◌, length, sym, ◌∙◌, ap, subst, refl, arith}
+use Rattle.std.proofs.lemmas.Bool.Decides.{nat_tests}
+use Rattle.std.specs.List.Sorted.{IsNonDecreasing}
+use Rattle.htl_model.specs.declared.parts.Port.{Port}
+use Rattle.htl_patch.specs.United.{graft, donor_port}
+use Rattle.htl_patch.proofs.BothOwners.{both_owners, ports_rise, ports_few}
+use Rattle.htl_patch.proofs.owners.port_owners.Goals as goal
+
+pub returns-clause-owners : goal.returns-clause-owners
+returns-clause-owners c =
+    let g = graft c.args.g.now.host.now c.args.g.now.donor.now c.args.g.now.into c.args.g.now.from in
+    let back = ap length c.ports-back.ensures.value in
+    both_owners (λ (x : Port). x.mode) (donor_port g) (length g.host.modes) g.host.ports g.donor.ports c.loop-k.k c.loop-k.found.items (grind (arith, nat_tests, c.loop-k-test.false, back)) c.loop-k.invariant (λ x. refl)
+
+pub returns-clause-rising : goal.returns-clause-rising
+returns-clause-rising c =
+    let g = graft c.args.g.now.host.now c.args.g.now.donor.now c.args.g.now.into c.args.g.now.from in
+    let back = ap length c.ports-back.ensures.value in
+    let is = both_owners (λ (x : Port). x.mode) (donor_port g) (length g.host.modes) g.host.ports g.donor.ports c.loop-k.k c.loop-k.found.items (grind (arith, nat_tests, c.loop-k-test.false, back)) c.loop-k.invariant (λ x. refl) in
+    subst IsNonDecreasing (sym is) (ports_rise g c.modes.ensures.ranges c.ports-back.ensures.ranges)
+
+pub returns-clause-few : goal.returns-clause-few
+returns-clause-few c =
+    let g = graft c.args.g.now.host.now c.args.g.now.donor.now c.args.g.now.into c.args.g.now.from in
+    let back = ap length c.ports-back.ensures.value in
+    let is = both_owners (λ (x : Port). x.mode) (donor_port g) (length g.host.modes) g.host.ports g.donor.ports c.loop-k.k c.loop-k.found.items (grind (arith, nat_tests, c.loop-k-test.false, back)) c.loop-k.invariant (λ x. refl) in
+    let size = ap length is in
+    let few = ports_few g c.modes.ensures.ranges c.ports-back.ensures.ranges in
+    omega (arith, size, few)

@@ -1,0 +1,29 @@
+use Rattle.std.proofs.Common.{◌≡◌, ◌≤◌, length, sym, ◌∙◌, ap, subst, refl, arith}
+use Rattle.std.proofs.lemmas.Bool.Decides.{nat_tests}
+use Rattle.std.specs.List.Sorted.{IsNonDecreasing}
+use Rattle.htl_model.specs.declared.parts.Switch.{Switch}
+use Rattle.htl_patch.specs.United.{graft, donor_switch}
+use Rattle.htl_patch.proofs.BothOwners.{both_owners, switches_rise, switches_few}
+use Rattle.htl_patch.proofs.owners.switch_owners.Goals as goal
+
+pub returns-clause-owners : goal.returns-clause-owners
+returns-clause-owners c =
+    let g = graft c.args.g.now.host.now c.args.g.now.donor.now c.args.g.now.into c.args.g.now.from in
+    let back = ap length c.switches-back.ensures.value in
+    both_owners (λ (x : Switch). x.mode) (donor_switch g) (length g.host.modes) g.host.switches g.donor.switches c.loop-k.k c.loop-k.found.items (grind (arith, nat_tests, c.loop-k-test.false, back)) c.loop-k.invariant (λ x. refl)
+
+pub returns-clause-rising : goal.returns-clause-rising
+returns-clause-rising c =
+    let g = graft c.args.g.now.host.now c.args.g.now.donor.now c.args.g.now.into c.args.g.now.from in
+    let back = ap length c.switches-back.ensures.value in
+    let is = both_owners (λ (x : Switch). x.mode) (donor_switch g) (length g.host.modes) g.host.switches g.donor.switches c.loop-k.k c.loop-k.found.items (grind (arith, nat_tests, c.loop-k-test.false, back)) c.loop-k.invariant (λ x. refl) in
+    subst IsNonDecreasing (sym is) (switches_rise g c.modes.ensures.ranges c.switches-back.ensures.ranges)
+
+pub returns-clause-few : goal.returns-clause-few
+returns-clause-few c =
+    let g = graft c.args.g.now.host.now c.args.g.now.donor.now c.args.g.now.into c.args.g.now.from in
+    let back = ap length c.switches-back.ensures.value in
+    let is = both_owners (λ (x : Switch). x.mode) (donor_switch g) (length g.host.modes) g.host.switches g.donor.switches c.loop-k.k c.loop-k.found.items (grind (arith, nat_tests, c.loop-k-test.false, back)) c.loop-k.invariant (λ x. refl) in
+    let size = ap length is in
+    let few = switches_few g c.modes.ensures.ranges c.switches-back.ensures.ranges in
+    omega (arith, size, few)

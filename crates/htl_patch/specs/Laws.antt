@@ -1,0 +1,22 @@
+-- What holds of replaced refinements.
+use Rattle.std.specs.Prelude.{◌≡◌, ℕ, List}
+use Rattle.htl_object.specs.Accepted.{IsAccepted}
+use Rattle.htl_object.specs.Ranges.{IsInRange}
+use Rattle.htl_object.specs.declared.object.Object.{Object}
+use Rattle.htl_patch.specs.Object.{patched_object, CanPatch}
+use Rattle.htl_patch.specs.Stops.{IsPatchFault}
+use Rattle.htl_patch.specs.United.{Graft}
+use Rattle.htl_patch.specs.declared.fault.PatchFault.{PatchFault}
+
+-- an accepted object whose refinement is replaced by one that keeps the form rules and has right functions is accepted
+abbrev pub PatchedIsAccepted : Type 0
+PatchedIsAccepted = (o donor : Object) (unit mode : List ℕ) (g : Graft) → IsAccepted o → IsInRange donor → CanPatch o donor unit mode g → IsAccepted (patched_object o g)
+
+-- what can be patched has no fault
+abbrev pub PatchableIsNotRefused : Type 0
+PatchableIsNotRefused = (o donor : Object) (unit mode : List ℕ) (g : Graft) (f : PatchFault) → CanPatch o donor unit mode g → IsPatchFault o donor unit mode f → ⊥
+
+-- there is one first fault at most
+abbrev pub OneFault : Type 0
+OneFault =
+    (o donor : Object) (unit mode : List ℕ) → IsAccepted o → IsInRange donor → (f h : PatchFault) → IsPatchFault o donor unit mode f → IsPatchFault o donor unit mode h → f ≡ h

@@ -1,0 +1,10 @@
+pub mod Joining
+pub mod Laws
+pub mod Numbers
+pub mod Object
+pub mod Owners
+pub mod Patched
+pub mod Renumbered
+pub mod Stack
+pub mod Stops
+pub mod United

@@ -1,0 +1,92 @@
+-- Why a refinement isn't replaced.
+use Rattle.std.specs.Prelude.{◌≡◌, ◌≢◌, ◌⊎◌, ℕ, min, List, Option, Some, None, Result, Ok, Err, ◌^◌, ◌-◌}
+use Rattle.htl_ecode.specs.Layout.{layout}
+use Rattle.htl_load.specs.Unfit.{IsFirstUnfit}
+use Rattle.htl_load.specs.declared.fault.ObjectFault.{ObjectFault}
+use Rattle.htl_load.specs.declared.fault.ObjectFault.TheVariants as object_fault
+use Rattle.htl_model.specs.Broken.{Formed, IsFirstBroken}
+use Rattle.htl_model.specs.FunctionTypes.{FitPlaces}
+use Rattle.htl_model.specs.Tables.{Tables}
+use Rattle.htl_object.specs.declared.object.Object.{Object}
+use Rattle.htl_patch.specs.Joining.{graft_of, IsFirstDifference, first_stray, first_twice, first_limit, Joins}
+use Rattle.htl_patch.specs.Object.{patched_object, CanPatch}
+use Rattle.htl_patch.specs.Patched.{patched}
+use Rattle.htl_patch.specs.United.{Graft}
+use Rattle.htl_patch.specs.declared.fault.PatchFault.{PatchFault}
+use Rattle.htl_patch.specs.declared.fault.PatchFault.TheVariants as fault
+use Rattle.htl_patch.specs.declared.fault.PatchStop.{PatchStop}
+use Rattle.htl_patch.specs.declared.fault.PatchStop.TheVariants as stop
+
+-- ---- the first fault of a graft
+
+-- why the refinement isn't taken over: the first cause, each presupposing that none of those before it stands
+abbrev pub IsGraftFault : Graft → PatchFault → Type 0
+IsGraftFault g (fault.Comms place) = IsFirstDifference g.host.comms g.donor.comms place
+IsGraftFault g (fault.Parent inv) = (g.host.comms ≡ g.donor.comms) × (first_stray g ≡ Some inv)
+IsGraftFault g (fault.Twice unit) = (g.host.comms ≡ g.donor.comms) × (first_stray g ≡ None) × (first_twice g ≡ Some unit)
+IsGraftFault g (fault.Limit which count) =
+    (g.host.comms ≡ g.donor.comms) × (first_stray g ≡ None) × (first_twice g ≡ None) × (first_limit (patched g) ≡ Some (which, count))
+IsGraftFault g (fault.IllFormed f) = Joins g × IsFirstBroken (patched g) f
+IsGraftFault g (fault.Function k) = Joins g × Formed (patched g) × IsFirstUnfit (patched g) k
+IsGraftFault g fault.Mode = ⊥
+IsGraftFault g (fault.Malformed m) = ⊥
+
+-- one of the two has no mode of these names, or both have one and this is the first fault
+abbrev pub IsFaultBy : Option Graft → PatchFault → Type 0
+IsFaultBy None f = f ≡ fault.Mode
+IsFaultBy (Some g) f = IsGraftFault g f
+
+abbrev pub IsPatchFault : Object → Object → List ℕ → List ℕ → PatchFault → Type 0
+IsPatchFault o donor unit mode f = IsFaultBy (graft_of o.tables donor.tables unit mode) f
+
+-- the new tables come with the form rule that they break, and with nothing else
+abbrev pub IsHandedBack : Tables → PatchFault → Option Tables → Type 0
+IsHandedBack t (fault.IllFormed f) o = o ≡ Some t
+IsHandedBack t (fault.Function k) o = o ≡ None
+IsHandedBack t (fault.Comms place) o = o ≡ None
+IsHandedBack t (fault.Parent inv) o = o ≡ None
+IsHandedBack t (fault.Twice unit) o = o ≡ None
+IsHandedBack t (fault.Limit which count) o = o ≡ None
+IsHandedBack t fault.Mode o = o ≡ None
+IsHandedBack t (fault.Malformed m) o = o ≡ None
+
+-- ---- the new tables
+
+-- the object of tables, with another's schedules and platform
+abbrev pub object_with : Object → Tables → Object
+object_with o t = record { tables = t; ecode = layout t; schedules = o.schedules; platform = o.platform }
+
+abbrev pub IsTablesFault : Tables → PatchFault → Option Tables → Type 0
+IsTablesFault t (fault.IllFormed f) o = IsFirstBroken t f × (o ≡ Some t)
+IsTablesFault t (fault.Function k) o = Formed t × IsFirstUnfit t k × (o ≡ None)
+IsTablesFault t (fault.Comms place) o = ⊥
+IsTablesFault t (fault.Parent inv) o = ⊥
+IsTablesFault t (fault.Twice unit) o = ⊥
+IsTablesFault t (fault.Limit which count) o = ⊥
+IsTablesFault t fault.Mode o = ⊥
+IsTablesFault t (fault.Malformed m) o = ⊥
+
+-- the first form rule that the tables break, or else the first function that doesn't fit its place; want of memory is free
+abbrev pub IsTablesStop : Tables → PatchStop → Type 0
+IsTablesStop t (stop.Refused f o) = IsTablesFault t f o
+IsTablesStop t stop.Memory = Unit {0}
+
+-- tables that are accepted with another's schedules
+abbrev pub IsAcceptedWith : Object → Tables → Object → Type 0
+IsAcceptedWith o t l = (l ≡ object_with o t) × Formed t × FitPlaces t
+
+-- ---- a fault of the loader's
+
+abbrev pub IsMisfit : ObjectFault → Type 0
+IsMisfit (object_fault.Function k) = Unit {0}
+IsMisfit (object_fault.Malformed m) = ⊥
+IsMisfit (object_fault.IllFormed f) = ⊥
+IsMisfit (object_fault.ECode e) = ⊥
+IsMisfit (object_fault.Schedule sel m) = ⊥
+
+abbrev pub misfit_of : ObjectFault → PatchFault
+misfit_of (object_fault.Function k) = fault.Function k
+misfit_of (object_fault.Malformed m) = fault.Mode
+misfit_of (object_fault.IllFormed f) = fault.Mode
+misfit_of (object_fault.ECode e) = fault.Mode
+misfit_of (object_fault.Schedule sel m) = fault.Mode

@@ -1,0 +1,99 @@
+// The old numbers of the items in the new order, and the new numbers of the old.
+ghost use Rattle.std.specs.Prelude.{◌≡◌, ◌<◌, ◌≤◌, ℕ, All, length, get_or, IfOk};
+ghost use Rattle.std.specs.List.{flat_map};
+ghost use Rattle.htl_model.specs.Selections.{modes_of, invs_of};
+ghost use Rattle.htl_patch.specs.Patched.{order as order_of, new_numbers};
+ghost use Rattle.htl_patch.specs.Numbers.{numbering_of};
+ghost use Rattle.htl_patch.specs.Renumbered.{place_among, ports_of, tasks_of, switches_of};
+ghost use Rattle.htl_patch.specs.United.{graft, united};
+
+use crate::graft::{Graft, mode_count, module_count};
+use crate::order::order;
+use crate::owned::owned;
+use crate::owners::{inv_owners, mode_owners, port_owners, switch_owners, task_owners};
+use std::alloc::{AllocError, Global};
+
+/// The old numbers of the modules that are taken, and of all that they own, in the new order.
+#[derive(Drop)]
+pub(crate) struct OldNumbers {
+    pub units: Vec<u16>,
+    pub modes: Vec<u16>,
+    pub ports: Vec<u16>,
+    pub tasks: Vec<u16>,
+    pub invs: Vec<u16>,
+    pub switches: Vec<u16>,
+}
+
+// The modes of modules, by module.
+fn modes_in(alloc: Global, g: &Graft<'_>, units: &[u16]) -> Result<Vec<u16>, AllocError>
+    requires { All (λ x. x < length (united (graft g.now.host.now g.now.donor.now g.now.into g.now.from)).modules) units.now }
+    ensures { IfOk result (λ v. v.items ≡ flat_map (modes_of (united (graft g.now.host.now g.now.donor.now g.now.into g.now.from))) units.now) }
+{
+    let owners = mode_owners(alloc, g)?;
+    let count = module_count(g);
+    owned(alloc, owners.as_slice(), count, units)
+}
+
+// The ports of modes, by mode.
+fn ports_in(alloc: Global, g: &Graft<'_>, modes: &[u16]) -> Result<Vec<u16>, AllocError>
+    requires { All (λ x. x < length (united (graft g.now.host.now g.now.donor.now g.now.into g.now.from)).modes) modes.now }
+    ensures { IfOk result (λ v. v.items ≡ flat_map (ports_of (united (graft g.now.host.now g.now.donor.now g.now.into g.now.from))) modes.now) }
+{
+    let owners = port_owners(alloc, g)?;
+    let count = mode_count(g);
+    owned(alloc, owners.as_slice(), count, modes)
+}
+
+// The tasks of modules, by module.
+fn tasks_in(alloc: Global, g: &Graft<'_>, units: &[u16]) -> Result<Vec<u16>, AllocError>
+    requires { All (λ x. x < length (united (graft g.now.host.now g.now.donor.now g.now.into g.now.from)).modules) units.now }
+    ensures { IfOk result (λ v. v.items ≡ flat_map (tasks_of (united (graft g.now.host.now g.now.donor.now g.now.into g.now.from))) units.now) }
+{
+    let owners = task_owners(alloc, g)?;
+    let count = module_count(g);
+    owned(alloc, owners.as_slice(), count, units)
+}
+
+// The invocations of modes, by mode.
+fn invs_in(alloc: Global, g: &Graft<'_>, modes: &[u16]) -> Result<Vec<u16>, AllocError>
+    requires { All (λ x. x < length (united (graft g.now.host.now g.now.donor.now g.now.into g.now.from)).modes) modes.now }
+    ensures { IfOk result (λ v. v.items ≡ flat_map (invs_of (united (graft g.now.host.now g.now.donor.now g.now.into g.now.from))) modes.now) }
+{
+    let owners = inv_owners(alloc, g)?;
+    let count = mode_count(g);
+    owned(alloc, owners.as_slice(), count, modes)
+}
+
+// The switches of modes, by mode.
+fn switches_in(alloc: Global, g: &Graft<'_>, modes: &[u16]) -> Result<Vec<u16>, AllocError>
+    requires { All (λ x. x < length (united (graft g.now.host.now g.now.donor.now g.now.into g.now.from)).modes) modes.now }
+    ensures { IfOk result (λ v. v.items ≡ flat_map (switches_of (united (graft g.now.host.now g.now.donor.now g.now.into g.now.from))) modes.now) }
+{
+    let owners = switch_owners(alloc, g)?;
+    let count = mode_count(g);
+    owned(alloc, owners.as_slice(), count, modes)
+}
+
+/// The old numbers in the new order. The time is linear in both programs.
+pub(crate) fn old_numbers(alloc: Global, g: &Graft<'_>) -> Result<OldNumbers, AllocError>
+    requires into { g.now.into < length g.now.host.now.modes }
+    requires from { g.now.from < length g.now.donor.now.modes }
+    ensures { IfOk result (λ n. numbering_of n ≡ new_numbers (graft g.now.host.now g.now.donor.now g.now.into g.now.from)) }
+{
+    g.host.keeps_ranges();
+    g.donor.keeps_ranges();
+    let units = order(alloc, g)?;
+    let modes = modes_in(alloc, g, units.as_slice())?;
+    let ports = ports_in(alloc, g, modes.as_slice())?;
+    let tasks = tasks_in(alloc, g, units.as_slice())?;
+    let invs = invs_in(alloc, g, modes.as_slice())?;
+    let switches = switches_in(alloc, g, modes.as_slice())?;
+    Ok(OldNumbers {
+        units,
+        modes,
+        ports,
+        tasks,
+        invs,
+        switches,
+    })
+}
