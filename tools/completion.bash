@@ -27,7 +27,7 @@ _htl() {
 			;;
 		esac
 		;;
-	go | jobs | run | code | check | show | plan)
+	go | jobs | run | code | check | show | plan | --svg)
 		[ "$before" = "$command" ] || return
 		compopt -o filenames 2>/dev/null
 		local IFS=$'\n' pattern='*'
