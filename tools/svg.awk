@@ -68,7 +68,7 @@ function divide() {
 
 # What is said in words below the title.
 function remarks() {
-	if (rows > 1) remark[++remarked] = "cut by time into " rows " rows of " span " ticks each"
+	if (rows > 1) remark[++remarked] = "cut by time into " rows " rows of at most " span " ticks"
 	if (least_left != "") remark[++remarked] = "least ticks left: " name_j[least_of] ", " how_near(least_of, least_at)
 	if (outside) remark[++remarked] = "slices outside the windows of the listing: " outside "; it may be of another object"
 }
