@@ -27,12 +27,18 @@ _htl() {
 			;;
 		esac
 		;;
-	go | jobs | run | code | check | show | plan | --svg)
+	go | jobs | run | code | check | show | plan)
 		[ "$before" = "$command" ] || return
 		compopt -o filenames 2>/dev/null
 		local IFS=$'\n' pattern='*'
 		[ "$command" = go ] && pattern='*.htl'
 		COMPREPLY=($(compgen -d -- "$word") $(compgen -f -X "!$pattern" -- "$word" | while read -r i; do [ -d "$i" ] || printf '%s\n' "$i"; done))
+		;;
+	--svg)
+		[ "$before" = --svg ] || return
+		compopt -o filenames 2>/dev/null
+		local IFS=$'\n'
+		COMPREPLY=($(compgen -f -- "$word"))
 		;;
 	esac
 }
