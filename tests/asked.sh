@@ -1,5 +1,6 @@
 # What the true program answers to many words, asked once and kept in $work/asked: by the proved program where it stands,
-# else by one unproved build for all of them. `asked NAME` gives an answer again: its output, its fault line, its status.
+# else by one unproved build for all of them, after one that makes the objects. `asked NAME` gives an answer again: its
+# output, its fault line, its status.
 
 asked() {
 	[ -d "$work/asked" ] || ask_all
@@ -38,11 +39,25 @@ ask_output() {
 
 ask_all() {
 	mkdir -p "$work/asked/cases" "$work/asked/data"
-	(cd "$work/asked/data" && ask_for_all)
 	case $("$root/bin/htl" --version) in
-	*'is proved'*) ask_proved ;;
-	*) ask_unproved ;;
+	*'is proved'*) : >"$work/asked/proved" ;;
 	esac
+	for it in tanks motor; do ask compile-$it "$root/examples/$it.htl" compile; done
+	ask_page
+	answer_all
+	for it in tanks motor; do cp "$work/asked/compile-$it.out" "$work/asked/data/$it.object"; done
+	(cd "$work/asked/data" && ask_for_all)
+	ask_page
+	answer_all
+}
+
+# What the page of the tutorial asks, as far as answers that it goes on from are known.
+ask_page() { [ -f "$work/asked/proved" ] || follow_page all >/dev/null 2>&1; }
+
+# Has all answered that was put down, and keeps it no longer.
+answer_all() {
+	[ -f "$work/asked/proved" ] && ask_proved || ask_unproved
+	rm -f "$work"/asked/cases/*
 }
 
 ask_proved() {
@@ -53,7 +68,7 @@ ask_proved() {
 	done
 }
 
-# rt try prints what each case wrote behind `== NAME`; behind what it told stands `case=NAME run=ended status=N ..`.
+# Behind what rt try told of a case stands `case=NAME run=ended status=N ..`.
 ask_unproved() {
 	for it in "$work"/asked/cases/*.args; do
 		answer=$work/asked/$(basename "$it" .args)
@@ -61,12 +76,12 @@ ask_unproved() {
 		: >"$answer.err"
 	done
 	set --
-	for it in "$work"/asked/data/*; do set -- "$@" --data "$(basename "$it")=$it"; done
+	for it in "$work"/asked/data/*; do [ ! -f "$it" ] || set -- "$@" --data "$(basename "$it")=$it"; done
 	(
 		PATH=${PATH#"$work/tools:"}
 		cd "$root/crates/htl" && rt try --seconds 3600 "$@" --cases "$work/asked/cases"
 	) </dev/null >"$work/asked/printed" 2>"$work/asked/told"
-	awk -v folder="$work/asked/" '/^== / { name = $2; next } { print >(folder name ".out") }' "$work/asked/printed"
+	python3 "$root/tests/split.py" "$work/asked" "$work/asked/printed"
 	awk -v folder="$work/asked/" '
 	/^case=[^ ]* run=ended status=[0-9]+ / {
 		split($0, part, /[= ]/)
@@ -83,8 +98,6 @@ ask_unproved() {
 # All that is asked, in the folder of the files that the words name.
 ask_for_all() {
 	cp "$root"/examples/*.htl .
-	true_htl compile <tanks.htl >tanks.object 2>/dev/null
-	true_htl compile <motor.htl >motor.object 2>/dev/null
 	size=$(wc -c <tanks.object)
 	head -c $((size - 1)) tanks.object >cut.object
 	# The first dispatch ends at 200 in place of 220.

@@ -1,12 +1,13 @@
 # Over answers.txt (status, answer, meaning, what helps; %4A stands for word 4 of the fault line, or else A).
 # With -v line='htl: ...' prints the meaning and then the help of that answer, each with its tag in front.
 # With -v word='WORDS' prints each answer that these words name: some of its words in a row, or its status.
-# With -v word='' lists the answers. Ends with 1 where there is none.
+# With -v word='' lists the answers. Ends with 1 where there is none. A form rule that an object breaks is explained as that of a
+# source; `of_object` says that it is an object's.
 
 # The answer's name in the table, and `part`, the words of its line from the answer's own on.
 function name_of(text,    w, n, i) {
 	sub(/^htl: /, "", text)
-	if (text ~ /^object ill-formed /) sub(/^object /, "", text)
+	if (text ~ /^object ill-formed /) of_object = sub(/^object /, "", text)
 	n = split(text, part, " ")
 	w = part[1]
 	if (w == "source") return "source " part[2] (part[2] == "limit" ? " " part[3] : "")
@@ -39,6 +40,7 @@ BEGIN {
 	else {
 		sub(/^htl: /, "", word)
 		gsub(/[ \t]+/, " ", word)
+		if (word ~ /^object ill-formed/) of_object = sub(/^object /, "", word)
 		asked = ""
 	}
 }
@@ -52,7 +54,7 @@ line != "" && $2 == asked {
 line == "" && (asked != "" ? $2 == asked : word == "" || is_asked($2, $1)) {
 	found = 1
 	if (word == "") printf "%2d  %s\n", $1, $2
-	else printf "%shtl: %s (status %d)\n  %s\n  %s\n", many++ ? "\n" : "", $2, $1, filled($3), filled($4)
+	else printf "%shtl: %s (status %d)\n  %s\n  %s\n", many++ ? "\n" : "", of_object ? "object " $2 : $2, of_object ? 6 : $1, filled($3), filled($4)
 }
 
 END { exit !found }

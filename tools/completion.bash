@@ -34,6 +34,12 @@ _htl() {
 		[ "$command" = go ] && pattern='*.htl'
 		COMPREPLY=($(compgen -d -- "$word") $(compgen -f -X "!$pattern" -- "$word" | while read -r i; do [ -d "$i" ] || printf '%s\n' "$i"; done))
 		;;
+	--svg)
+		[ "$before" = --svg ] || return
+		compopt -o filenames 2>/dev/null
+		local IFS=$'\n'
+		COMPREPLY=($(compgen -f -- "$word"))
+		;;
 	esac
 }
 complete -F _htl htl bin/htl ./bin/htl

@@ -29,7 +29,7 @@ numbered_line() {
 at_byte() {
 	set -- "$1" "$2" $(line_and_column "$1" "$2")
 	echo "$shown:$3:$4: $meaning"
-	excerpt "$1" "$2" "$5"
+	if [ ! -f "$1" ] || [ -s "$1" ]; then excerpt "$1" "$2" "$5"; else echo "    (the source is empty)"; fi
 }
 
 # A fault of a mode or an invocation, MODULE.MODE or MODULE.MODE.TASK.

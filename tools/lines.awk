@@ -1,9 +1,10 @@
 # Reads the lines of a run. Of communicator c: name_c[c], its changes at[c, k] to value[c, k], k from 1 to changes[c], least[c],
 # greatest[c]. Of module m: name_m[m], moves[m], when[m, k], mode[m, k]. Of invocation j: name_j[j], slices[j], from[j, k],
 # upto[j, k], finishes[j], done[j, k]. instants: how many distinct ones; last: the last; totals: the totals line.
+# Lines of instructions, which `code` adds, are passed over. `reading` is run, or listing for the file of listing.awk.
 
 function refuse(why) {
-	if (!failed) print "bin/htl: line " NR " of the run " why | "cat 1>&2"
+	if (!failed) print "bin/htl: line " FNR " of the " reading " " why | "cat 1>&2"
 	failed = 1
 	exit 1
 }

@@ -1,5 +1,5 @@
-# Behind lines.awk, with svg-signs.awk: a timeline of the run as SVG. A long run is drawn in several rows, each of which has every lane:
-# the modes of each module as bands, each communicator as steps, the slices and finishes of each invocation.
+# Behind lines.awk and windows.awk, with svg-lanes.awk and svg-signs.awk: a timeline of the run as SVG. A long run is cut into
+# rows by time, each of which has every lane: modules, communicators, invocations.
 
 function escaped(text) {
 	gsub(/&/, "\\&amp;", text)
@@ -18,15 +18,13 @@ function x_of(time) { return sprintf("%.2f", gutter + (time - begin) * scale) + 
 
 function text(x, y, class, content) { printf "<text x=\"%s\" y=\"%s\" class=\"%s\">%s</text>\n", x, y, class, escaped(content) }
 
-function box(class, x, y, width, height, title) {
+# A box from one instant to another, which is cut at the ends of the row and is seen however short the time is.
+function box(class, a, b, y, height, title,    x, width) {
+	x = x_of(a < begin ? begin : a)
+	width = sprintf("%.2f", x_of(b > finish ? finish : b) - x) + 0
+	if (width < 1.5) width = 1.5
+	if (x + width > right) x = right - width
 	printf "<rect class=\"%s\" x=\"%s\" y=\"%s\" width=\"%s\" height=\"%s\"><title>%s</title></rect>\n", class, x, y, width, height, escaped(title)
-}
-
-# The name of a lane, cut in the middle where the gutter is too narrow, and the line below the lane.
-function lane(name, height,    n) {
-	n = length(name)
-	text(gutter - 10, y + height / 2 + 4, "name", n <= 34 ? name : substr(name, 1, 14) ".." substr(name, n - 17))
-	printf "<path class=\"grid\" d=\"M8 %sH%s\"/>\n", y + height, right
 }
 
 # Skips the label where the one before it reaches so far; one that would leave the picture stands before its place, where
@@ -39,59 +37,6 @@ function label(x, height, class, content, room,    wide) {
 	free = x + wide + 5
 }
 
-function mode_lane(m,    k, a, b, title) {
-	lane(name_m[m], 24)
-	for (k = 1; k <= moves[m]; k++) {
-		a = when[m, k]
-		b = k < moves[m] ? when[m, k + 1] : last
-		if (mode[m, k] == "-" || b < begin || a > finish || b == begin && begin > 0 || a == finish && finish < last) continue
-		title = name_m[m] "." mode[m, k] " from " a " to " b
-		if (a < begin) a = begin
-		if (b > finish) b = finish
-		if (!((m, mode[m, k]) in hue)) hue[m, mode[m, k]] = hues[m]++ % 6
-		box("mode h" hue[m, mode[m, k]], x_of(a), y + 3, x_of(b) - x_of(a) > 1.5 ? x_of(b) - x_of(a) : 1.5, 18, title)
-		free = 0
-		label(x_of(a) + 4, y + 16, "label", mode[m, k], x_of(b) - x_of(a) - 6)
-	}
-	y += 24
-}
-
-# Steps: a value holds from its change to the next. Its label stands above, where there is room.
-function value_lane(c,    k, a, b, level, path, marks) {
-	lane(name_c[c], 42)
-	free = 0
-	for (k = 1; k <= changes[c]; k++) {
-		a = at[c, k]
-		b = k < changes[c] ? at[c, k + 1] : last
-		if (b < begin || a > finish || b == begin && begin > 0 && k < changes[c]) continue
-		level = greatest[c] > least[c] ? (value[c, k] - least[c]) / (greatest[c] - least[c]) : 0.5
-		level = sprintf("%.2f", y + 38 - 20 * level) + 0
-		path = path (path == "" ? "M" x_of(a < begin ? begin : a) " " : "H" x_of(a) "V") level
-		if (path ~ /^M[^HV]*$/) path = path "H" x_of(a < begin ? begin : a)
-		label(x_of(a < begin ? begin : a) + 1, y + 12, "label", value[c, k], 1000)
-		if (a >= begin) marks = marks sprintf("<circle class=\"dot\" cx=\"%s\" cy=\"%s\" r=\"2.2\"><title>%s is %s from %s on</title></circle>\n", x_of(a), level, name_c[c], value[c, k], a)
-	}
-	if (path != "") printf "<path class=\"step\" d=\"%sH%s\"/>\n%s", path, x_of(last < finish ? last : finish), marks
-	y += 42
-}
-
-function job_lane(j,    k, a, b, x) {
-	lane(name_j[j], 26)
-	for (k = 1; k <= slices[j]; k++) {
-		a = from[j, k]
-		b = upto[j, k]
-		if (b <= begin || a >= finish) continue
-		x = x_of(a < begin ? begin : a)
-		box("slice", x, y + 8, x_of(b > finish ? finish : b) - x, 12, name_j[j] " runs from " a " to " b)
-	}
-	for (k = 1; k <= finishes[j]; k++) {
-		a = done[j, k]
-		if (a < begin || a > finish || a == begin && begin > 0) continue
-		printf "<path class=\"done\" d=\"M%s %sm-4 0h8l-4 6z\"><title>%s is done at %s</title></path>\n", x_of(a), y + 1, name_j[j], a
-	}
-	y += 26
-}
-
 # Lines of the grid behind the lanes, and the axis with its numbers above them.
 function axis(height,    time) {
 	free = 0
@@ -102,15 +47,16 @@ function axis(height,    time) {
 	y += 20
 }
 
-END {
-	gutter = 60
-	for (m = 1; m <= items["m"]; m++) if (length(name_m[m]) * 6.1 + 20 > gutter) gutter = length(name_m[m]) * 6.1 + 20
-	for (c = 1; c <= items["v"]; c++) if (length(name_c[c]) * 6.1 + 20 > gutter) gutter = length(name_c[c]) * 6.1 + 20
-	for (j = 1; j <= items["j"]; j++) if (length(name_j[j]) * 6.1 + 20 > gutter) gutter = length(name_j[j]) * 6.1 + 20
+# Makes room for a lane's name on the left.
+function fit(name) {
+	if (length(name) * 6.1 + 20 > gutter) gutter = length(name) * 6.1 + 20
 	if (gutter > 228) gutter = 228
-	right = gutter + 940
+}
+
+# How many rows there are, and how much time each has.
+function divide() {
 	rows = int((instants * 16 + 939) / 940)
-	if (rows > 60) rows = 60
+	if (rows > 200) rows = 200
 	if (rows < 1) rows = 1
 	tick = nice((last ? last : 1) / rows / 10)
 	span = tick * int(((last ? last : 1) / rows + tick - 1) / tick)
@@ -118,21 +64,40 @@ END {
 	rows = int((last + span - 1) / span)
 	if (rows < 1) rows = 1
 	scale = 940 / (rows > 1 || !last ? span : last)
-	height = 24 * items["m"] + 42 * items["v"] + 26 * items["j"]
-	printf "<svg xmlns=\"http://www.w3.org/2000/svg\" viewBox=\"0 0 %s %s\" width=\"%s\" height=\"%s\">\n", right + 24, 36 + rows * (height + 38), right + 24, 36 + rows * (height + 38)
+}
+
+# What is said in words below the title.
+function remarks() {
+	if (rows > 1) remark[++remarked] = "cut by time into " rows " rows of at most " span " ticks"
+	if (least_left != "") remark[++remarked] = "least ticks left: " name_j[least_of] ", " how_near(least_of, least_at)
+	if (outside) remark[++remarked] = "slices outside the windows of the listing: " outside "; it may be of another object"
+}
+
+END {
+	gutter = 60
+	for (m = 1; m <= items["m"]; m++) fit(name_m[m])
+	for (c = 1; c <= items["v"]; c++) fit(name_c[c])
+	for (i = 1; i <= lanes; i++) fit(name_j[lane[i]])
+	right = gutter + 940
+	divide()
+	remarks()
+	lane_height = listed ? 36 : 26
+	height = 24 * items["m"] + 42 * items["v"] + lane_height * lanes
+	y = 36 + 16 * remarked
+	printf "<svg xmlns=\"http://www.w3.org/2000/svg\" viewBox=\"0 0 %s %s\" width=\"%s\" height=\"%s\">\n", right + 24, y + rows * (height + 38), right + 24, y + rows * (height + 38)
 	style()
 	printf "<rect class=\"back\" width=\"100%%\" height=\"100%%\"/>\n"
 	title = totals == "" ? "lines of a run up to " last ", without its totals" : totals
 	text(8, 22, "title", title)
 	legend(8 + 7.9 * length(title) + 24)
-	y = 36
+	for (i = 1; i <= remarked; i++) text(8, 24 + 16 * i, "axis", remark[i])
 	for (row = 0; row < rows; row++) {
 		begin = row * span
 		finish = begin + span < last || rows == 1 && last == 0 ? begin + span : last
 		axis(height)
 		for (m = 1; m <= items["m"]; m++) mode_lane(m)
 		for (c = 1; c <= items["v"]; c++) value_lane(c)
-		for (j = 1; j <= items["j"]; j++) job_lane(j)
+		for (i = 1; i <= lanes; i++) job_lane(lane[i])
 		y += 18
 	}
 	print "</svg>"

@@ -1,11 +1,12 @@
-# A run of a thousand lines, for the pictures: two communicators, a module of three modes, two invocations.
+# A run of a thousand lines, or of -v lines=N, for the pictures: two communicators, a module of three modes, two invocations.
 BEGIN {
+	if (!lines) lines = 999
 	print "v 0 level 0"
 	print "v 0 alarm 0"
 	print "m 0 Tank fill"
 	print "m 0 Watch -"
 	printed = 4
-	for (t = 0; printed < 999; t += 100) {
+	for (t = 0; printed < lines; t += 100) {
 		print "j " t " " t + 30 " Tank.fill.control"
 		print "j " t + 30 " " t + 45 + t % 7 " Tank.fill.log"
 		print "d " t + 45 + t % 7 " Tank.fill.log"
