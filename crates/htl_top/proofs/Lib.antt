@@ -1,3 +1,4 @@
+pub mod Bulking
 pub mod Calling
 pub mod Compiling
 pub mod CompilingOn
@@ -17,6 +18,7 @@ pub mod PlanWalk
 pub mod Playing
 pub mod PositionCounts
 pub mod Putting
+pub mod Rounds
 pub mod Running
 pub mod SelectionEntries
 pub mod SelectionFields

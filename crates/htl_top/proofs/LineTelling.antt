@@ -18,7 +18,7 @@ use Rattle.htl_top.specs.Sources.{HasTypedTables, IsInput, IsNotCompiled, IsType
 use Rattle.htl_top.specs.SourcesOn.{HasTypedOn, IsTypedOn, IsNotCompiledOn}
 use Rattle.htl_top.specs.Status.{fault_line}
 use Rattle.htl_top.specs.Telling.{SpeaksOf, IsFaultTold, IsLineTold}
-use Rattle.htl_top.specs.Words.{Command, Go, Compile, CompileWith, Run, Check, Plan, Show}
+use Rattle.htl_top.specs.Words.{Command, Go, Compile, CompileWith, Run, Check, Plan, Show, Bulk}
 use Rattle.htl_top.specs.declared.outcome.Outcome.{Outcome}
 use Rattle.htl_top.specs.declared.outcome.Outcome.TheVariants.{Done, Usage, Source, IllFormed, Unschedulable, Platform, Object, Script, Shelf, Read, Write, Memory}
 use Rattle.htl_top.specs.declared.source.SourceStop.{SourceStop}
@@ -136,6 +136,7 @@ source_of_maps (Some (Run show name)) holds rest Fact Other f h = h
 source_of_maps (Some (Check name)) holds rest Fact Other f h = h
 source_of_maps (Some (Plan name)) holds rest Fact Other f h = h
 source_of_maps (Some (Show name)) holds rest Fact Other f h = h
+source_of_maps (Some (Bulk n)) holds rest Fact Other f h = h
 
 object_of_maps : (command : Option Command) (holds : Option Holdings) → Maps (HasObject command holds)
 object_of_maps None holds Fact Other f h = h
@@ -146,6 +147,7 @@ object_of_maps (Some (Run show name)) holds Fact Other f h = object_maps (Some n
 object_of_maps (Some (Check name)) holds Fact Other f h = object_maps (Some name) holds Fact Other f h
 object_of_maps (Some (Plan name)) holds Fact Other f h = object_maps (Some name) holds Fact Other f h
 object_of_maps (Some (Show name)) holds Fact Other f h = object_maps (Some name) holds Fact Other f h
+object_of_maps (Some (Bulk n)) holds Fact Other f h = h
 
 -- the names of tables with code are those of the tables
 names_of : (t : Tables) (f : FormFault) → fault_line (Some (coded t)) (IllFormed f) ≡ fault_line (Some t) (IllFormed f)

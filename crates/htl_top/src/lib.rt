@@ -2,6 +2,7 @@
 #![tactic(auto)]
 
 mod answer;
+mod bulk;
 mod check;
 #[cfg(test)]
 mod check_tests;

@@ -1,0 +1,181 @@
+// The command `bulk`: a generated program, run on generated readings.
+ghost use Rattle.std.specs.Prelude.{◌≡◌, ◌≤◌, ◌*◌, ◌⊎◌, ℕ, ℤ, List, [], length, true, IfOk, OnOk};
+ghost use Rattle.htl_base.specs.declared.limits.TheConstants as limit;
+ghost use Rattle.htl_compile.specs.Building.{IsCompiledTo};
+ghost use Rattle.htl_compile.specs.BulkTree.{bulk_bytes};
+ghost use Rattle.htl_console.specs.declared.shown.Shown.TheVariants as shown;
+ghost use Rattle.htl_edge.specs.Content.{Puts};
+ghost use Rattle.htl_machine.specs.Calls.{Follows, IsFinished, IsSameRun, IsSensorValue};
+ghost use Rattle.htl_top.specs.Bulk.{readings_of, object_text, bulk_text, seen_text, value_seen, IsPut, IsBulkPut};
+ghost use Rattle.htl_model.specs.Lines.{lines_text};
+ghost use Rattle.htl_model.specs.Lists.{up_to};
+
+use crate::Outcome;
+use crate::play::write_totals;
+use crate::source::compile_source;
+use htl_base::limits::MAX_SOURCE;
+use htl_base::{Memory, Time, Ty, Value};
+use htl_compile::bulk_source;
+use htl_console::{Shown, line_v};
+use htl_edge::{Failed, Sink};
+use htl_load::{LoadFault, Loaded, load};
+use htl_machine::Machine;
+use htl_model::Tables;
+use std::alloc::Global;
+
+// The rounds that are run, and the ticks of one.
+const ROUNDS: Time = 100;
+const ROUND: Time = 1_000;
+
+// The sensor of the generated program.
+const SENSOR: u16 = 0;
+
+/// Runs the generated program of so many modules, 1 to 64, for 100 rounds of 1,000 ticks, and writes the values of its communicators at
+/// the end and the totals line. In round `r` the sensor shows `r` from the round's start on. All memory is taken before the first byte
+/// is written; the events are told one by one, and no list of them is kept.
+pub fn bulk<W: Sink>(alloc: Global, modules: u32, out: &mut W) -> Outcome
+    requires some { 1 ≤ modules }
+    requires few { modules ≤ limit.MAX_MODULES }
+    ensures answer { IsBulkPut modules (W.written out.old) (W.written out.new) (W.faults out.old) (W.faults out.new) result }
+    ensures write_count { (result ≡ Outcome.Write → ⊥) → W.faults out.new ≡ W.faults out.old }
+{
+    match generated_object(alloc, modules) {
+        Ok(object) => run_generated(alloc, object.as_slice(), out),
+        Err(Memory) => Outcome::Memory,
+    }
+}
+
+// The bytes of the generated program's object. That its source isn't too long and has no fault is tested and not proved: that needs
+// the name rules, the form rules and the schedules of the tree of every size. Want of memory is the one refusal that the command has,
+// so it stands for a fault too.
+fn generated_object(alloc: Global, modules: u32) -> Result<Vec<u8>, Memory>
+    requires some { 1 ≤ modules }
+    requires few { modules ≤ limit.MAX_MODULES }
+    ensures { IfOk result (λ object. IsCompiledTo (bulk_bytes modules) object.items) }
+{
+    let source = match bulk_source(alloc, modules) {
+        Ok(source) => source,
+        Err(Memory) => return Err(Memory),
+    };
+    if source.len() as u64 > MAX_SOURCE {
+        return Err(Memory);
+    }
+    match compile_source(alloc, source.as_slice()) {
+        Ok(object) => Ok(object),
+        Err(_) => Err(Memory),
+    }
+}
+
+// Loads the bytes of a compiled source, which are accepted, and runs the object.
+fn run_generated<W: Sink>(alloc: Global, object: &[u8], out: &mut W) -> Outcome
+    requires { (source : List ℕ) × IsCompiledTo source object.now }
+    ensures answer { (source : List ℕ) (compiled : IsCompiledTo source object.now) →
+        IsPut (bulk_text compiled.tables) (W.written out.old) (W.written out.new) (W.faults out.old) (W.faults out.new) result }
+    ensures write_count { (result ≡ Outcome.Write → ⊥) → W.faults out.new ≡ W.faults out.old }
+{
+    match load(alloc, object) {
+        Ok(loaded) => measure(alloc, &loaded, ROUNDS, out),
+        Err(LoadFault::Refused(_)) => unreachable!(),
+        Err(LoadFault::Memory) => Outcome::Memory,
+    }
+}
+
+// Whether the first communicator is a sensor of type int.
+fn has_int_sensor(t: &Tables) -> bool
+    ensures { result ≡ true → (x : ℤ) → IsSensorValue t.now 0 x }
+{
+    match t.parts().comms.as_slice().first() {
+        Some(comm) => comm.sensor && comm.ty == Ty::Int,
+        None => false,
+    }
+}
+
+// Runs an object for so many rounds, and writes the values and the totals at their end. The generated program's first communicator is a
+// sensor of type int, which is tested and not proved; want of memory stands for another.
+fn measure<W: Sink>(alloc: Global, l: &Loaded, rounds: Time, out: &mut W) -> Outcome
+    requires { rounds ≤ 1000000 }
+    ensures answer { IsPut (object_text rounds l.now) (W.written out.old) (W.written out.new) (W.faults out.old) (W.faults out.new) result }
+    ensures write_count { (result ≡ Outcome.Write → ⊥) → W.faults out.new ≡ W.faults out.old }
+{
+    let t = l.tables();
+    if !has_int_sensor(t) {
+        return Outcome::Memory;
+    }
+    let Ok(mut machine) = Machine::new(alloc, l, Shown::Nothing) else {
+        return Outcome::Memory;
+    };
+    match write_measured(&mut machine, t, rounds, out) {
+        Ok(()) => Outcome::Done,
+        Err(_) => Outcome::Write,
+    }
+}
+
+// Runs a machine for so many rounds, and writes what it has then.
+fn write_measured<W: Sink>(
+    machine: &mut Machine<'_>,
+    t: &Tables,
+    rounds: Time,
+    out: &mut W,
+) -> Result<(), Failed>
+    requires follows { Follows machine.old [] }
+    requires show { machine.old.show ≡ shown.Nothing }
+    requires sensor { (x : ℤ) → IsSensorValue machine.old.object.tables 0 x }
+    requires tables { t.now ≡ machine.old.object.tables }
+    requires rounds { rounds ≤ 1000000 }
+    ensures { Puts (W.written out.old) (W.written out.new) (W.faults out.old) (W.faults out.new) (object_text rounds machine.old.object) result }
+{
+    if let Err(failed) = run_rounds(machine, rounds, out) {
+        return Err(failed);
+    }
+    write_state(machine, t, out)
+}
+
+// Tells a machine the readings of so many rounds and their end. It shows nothing.
+fn run_rounds<W: Sink>(
+    machine: &mut Machine<'_>,
+    rounds: Time,
+    out: &mut W,
+) -> Result<(), Failed>
+    requires follows { Follows machine.old [] }
+    requires show { machine.old.show ≡ shown.Nothing }
+    requires sensor { (x : ℤ) → IsSensorValue machine.old.object.tables 0 x }
+    requires rounds { rounds ≤ 1000000 }
+    ensures text { Puts (W.written out.old) (W.written out.new) (W.faults out.old) (W.faults out.new) [] result }
+    ensures finished { OnOk result (IsFinished machine.new (readings_of rounds) (1000 * rounds)) }
+    ensures same { IsSameRun machine.old machine.new }
+{
+    for round in 0..rounds {
+        if let Err(failed) = machine.advance(ROUND * round, out) {
+            return Err(failed);
+        }
+        machine.sense(SENSOR, round as Value);
+    }
+    machine.finish(ROUND * rounds, out)
+}
+
+// Writes the values of a machine and its numbers.
+fn write_state<W: Sink>(machine: &Machine<'_>, t: &Tables, out: &mut W) -> Result<(), Failed>
+    requires { length machine.now.held.world.values ≡ length t.now.comms }
+    ensures { Puts (W.written out.old) (W.written out.new) (W.faults out.old) (W.faults out.new) (seen_text t.now machine.now) result }
+{
+    if let Err(failed) = write_values(machine, t, out) {
+        return Err(failed);
+    }
+    write_totals(machine, out)
+}
+
+// Writes the value of each communicator, at the last reading.
+fn write_values<W: Sink>(machine: &Machine<'_>, t: &Tables, out: &mut W) -> Result<(), Failed>
+    requires { length machine.now.held.world.values ≡ length t.now.comms }
+    ensures { Puts (W.written out.old) (W.written out.new) (W.faults out.old) (W.faults out.new) (lines_text t.now (up_to (value_seen machine.now) (length t.now.comms))) result }
+{
+    t.keeps_ranges();
+    let at = machine.reading();
+    for c in 0..t.parts().comms.as_slice().len() {
+        let comm = c as u16;
+        if let Err(failed) = line_v(out, t, at, comm, machine.value(comm)) {
+            return Err(failed);
+        }
+    }
+    Ok(())
+}
