@@ -15,7 +15,7 @@ use Rattle.htl_edge.specs.Causes.{Rose}
 use Rattle.htl_edge.specs.Content.{AppendsPrefix}
 use Rattle.htl_load.specs.Loading.{HasBytes, IsLoadedAs}
 use Rattle.htl_machine.proofs.Events.{sense_end}
-use Rattle.htl_machine.specs.Calls.{Seen, IsFinished}
+use Rattle.htl_machine.specs.Calls.{Seen, IsFinished, IsSensorValue}
 use Rattle.htl_model.specs.Lines.{lines_text, line_text}
 use Rattle.htl_model.specs.Lists.{up_to}
 use Rattle.htl_model.specs.Meaning.{History, history, newest, sense, state, val}
@@ -29,6 +29,7 @@ use Rattle.htl_object.specs.Accepted.{IsAccepted}
 use Rattle.htl_object.specs.declared.object.Object.{Object as ObjectOf}
 use Rattle.std.specs.List.{flat_map}
 use Rattle.htl_top.proofs.Executing.{finished_totals}
+use Rattle.htl_top.proofs.Generated.{sensor_first}
 use Rattle.htl_top.proofs.Meaning.{line_same}
 use Rattle.htl_top.specs.Answers.{Streams, IsBeforeRun, IsWritten}
 use Rattle.htl_top.specs.Bulk.{bulk_events, readings_of, value_at, values_text, totals_text, object_text, rounds_text, bulk_text, value_seen, seen_text, IsPut, IsBulkPut, IsBulked}
@@ -80,18 +81,28 @@ built_text rounds t can =
     ap (λ (bs : List ℕ). bs ++ totals_text (built t) (bulk_events rounds) (1000 * rounds)) (values_same t (bulk_events rounds) (1000 * rounds) can)
 
 -- the object that was loaded is that of the source's tables
+pub loaded_is : (source bytes : List ℕ) (l : ObjectOf) (compiled : IsCompiledTo source bytes) → ((o : ObjectOf) → HasBytes bytes o → IsAccepted o → IsLoadedAs o (Ok l)) → l ≡ built compiled.tables
+loaded_is source bytes l compiled only =
+    only (built compiled.tables) (record { object = compiled.object; spelled = compiled.is }) (built_accepted None compiled.tables compiled.can)
+
+-- so its sensor is the first communicator
+pub loaded_sensor : (n : ℕ) (bytes : List ℕ) (l : ObjectOf) (compiled : IsCompiledTo (bulk_bytes n) bytes) → n ≤ 64 → ((o : ObjectOf) → HasBytes bytes o → IsAccepted o → IsLoadedAs o (Ok l))
+    → (x : ℤ) → IsSensorValue l.tables 0 x
+loaded_sensor n bytes l compiled few only x =
+    subst (λ (o : ObjectOf). IsSensorValue o.tables 0 x) (sym (loaded_is (bulk_bytes n) bytes l compiled only)) (sensor_first n compiled.tables few compiled.of x)
+
+-- and its text is theirs
 pub put_built : (bytes : List ℕ) (l : ObjectOf) (old new : Option (List ℕ)) (before now : ℕ) (outcome : Outcome) → ((o : ObjectOf) → HasBytes bytes o → IsAccepted o → IsLoadedAs o (Ok l))
     → IsPut (object_text 100 l) old new before now outcome → (source : List ℕ) (compiled : IsCompiledTo source bytes) → IsPut (bulk_text compiled.tables) old new before now outcome
 put_built bytes l old new before now outcome only put source compiled =
-    let same : l ≡ built compiled.tables =
-    only (built compiled.tables) (record { object = compiled.object; spelled = compiled.is }) (built_accepted None compiled.tables compiled.can) in
+    let same = loaded_is source bytes l compiled only in
     subst (λ (bs : List ℕ). IsPut bs old new before now outcome) (ap (object_text 100) same ∙ built_text 100 compiled.tables compiled.can) put
 
 pub bulk_put : (n : ℕ) (object slice : List ℕ) (old new : Option (List ℕ)) (before now : ℕ) (outcome : Outcome) → slice ≡ object → IsCompiledTo (bulk_bytes n) object
-    → ((source : List ℕ) (compiled : IsCompiledTo source slice) → IsPut (bulk_text compiled.tables) old new before now outcome) → IsBulkPut n old new before now outcome
+    → ((k : ℕ) (compiled : IsCompiledTo (bulk_bytes k) slice) → IsPut (bulk_text compiled.tables) old new before now outcome) → IsBulkPut n old new before now outcome
 bulk_put n object slice old new before now outcome same compiled put =
     let here : IsCompiledTo (bulk_bytes n) slice = subst (IsCompiledTo (bulk_bytes n)) (sym same) compiled in
-    elim (put (bulk_bytes n) here) [
+    elim (put n here) [
       | inl written ↦ inl (record { tables = here.tables; of = here.of; can = here.can; fact = written })
       | inr none ↦ inr none
     ]

@@ -5,6 +5,7 @@ pub mod CompilingOn
 pub mod Counts
 pub mod EarlierReadings
 pub mod Executing
+pub mod Generated
 pub mod Going
 pub mod Inputs
 pub mod JobMeaning

@@ -1,5 +1,5 @@
 // The command `bulk`: a generated program, run on generated readings.
-ghost use Rattle.std.specs.Prelude.{◌≡◌, ◌≤◌, ◌*◌, ◌⊎◌, ℕ, ℤ, List, [], length, true, IfOk, OnOk};
+ghost use Rattle.std.specs.Prelude.{◌≡◌, ◌≤◌, ◌*◌, ◌⊎◌, ℕ, ℤ, List, [], length, IfOk, OnOk};
 ghost use Rattle.htl_base.specs.declared.limits.TheConstants as limit;
 ghost use Rattle.htl_compile.specs.Building.{IsCompiledTo};
 ghost use Rattle.htl_compile.specs.BulkTree.{bulk_bytes};
@@ -14,7 +14,7 @@ use crate::Outcome;
 use crate::play::write_totals;
 use crate::source::compile_source;
 use htl_base::limits::MAX_SOURCE;
-use htl_base::{Memory, Time, Ty, Value};
+use htl_base::{Memory, Time, Value};
 use htl_compile::bulk_source;
 use htl_console::{Shown, line_v};
 use htl_edge::{Failed, Sink};
@@ -66,10 +66,10 @@ fn generated_object(alloc: Global, modules: u32) -> Result<Vec<u8>, Memory>
     }
 }
 
-// Loads the bytes of a compiled source, which are accepted, and runs the object.
+// Loads the bytes of the generated program's object, which are accepted, and runs it.
 fn run_generated<W: Sink>(alloc: Global, object: &[u8], out: &mut W) -> Outcome
-    requires { (source : List ℕ) × IsCompiledTo source object.now }
-    ensures answer { (source : List ℕ) (compiled : IsCompiledTo source object.now) →
+    requires { (n : ℕ) × (n ≤ limit.MAX_MODULES) × IsCompiledTo (bulk_bytes n) object.now }
+    ensures answer { (n : ℕ) (compiled : IsCompiledTo (bulk_bytes n) object.now) →
         IsPut (bulk_text compiled.tables) (W.written out.old) (W.written out.new) (W.faults out.old) (W.faults out.new) result }
     ensures write_count { (result ≡ Outcome.Write → ⊥) → W.faults out.new ≡ W.faults out.old }
 {
@@ -80,31 +80,17 @@ fn run_generated<W: Sink>(alloc: Global, object: &[u8], out: &mut W) -> Outcome
     }
 }
 
-// Whether the first communicator is a sensor of type int.
-fn has_int_sensor(t: &Tables) -> bool
-    ensures { result ≡ true → (x : ℤ) → IsSensorValue t.now 0 x }
-{
-    match t.parts().comms.as_slice().first() {
-        Some(comm) => comm.sensor && comm.ty == Ty::Int,
-        None => false,
-    }
-}
-
-// Runs an object for so many rounds, and writes the values and the totals at their end. The generated program's first communicator is a
-// sensor of type int, which is tested and not proved; want of memory stands for another.
+// Runs an object whose first communicator is a sensor of type int for so many rounds, and writes the values and the totals at their end.
 fn measure<W: Sink>(alloc: Global, l: &Loaded, rounds: Time, out: &mut W) -> Outcome
-    requires { rounds ≤ 1000000 }
+    requires sensor { (x : ℤ) → IsSensorValue l.now.tables 0 x }
+    requires rounds { rounds ≤ 1000000 }
     ensures answer { IsPut (object_text rounds l.now) (W.written out.old) (W.written out.new) (W.faults out.old) (W.faults out.new) result }
     ensures write_count { (result ≡ Outcome.Write → ⊥) → W.faults out.new ≡ W.faults out.old }
 {
-    let t = l.tables();
-    if !has_int_sensor(t) {
-        return Outcome::Memory;
-    }
     let Ok(mut machine) = Machine::new(alloc, l, Shown::Nothing) else {
         return Outcome::Memory;
     };
-    match write_measured(&mut machine, t, rounds, out) {
+    match write_measured(&mut machine, l.tables(), rounds, out) {
         Ok(()) => Outcome::Done,
         Err(_) => Outcome::Write,
     }

@@ -3,6 +3,8 @@
 
 mod answer;
 mod bulk;
+#[cfg(test)]
+mod bulk_tests;
 mod check;
 #[cfg(test)]
 mod check_tests;
