@@ -1,6 +1,6 @@
 -- What `bulk` writes and answers.
-use Rattle.std.proofs.Common.{arith, ◌≡◌, ◌≤◌, ◌⊎◌, ℕ, zero, suc, ◌*◌, List, [], ◌∷◌, ◌++◌, length, get_or, Option, None, Some, Ok, Err, ℤ, refl, sym, ap, ap₂, ◌∙◌, subst, inl, inr}
-use Rattle.std.specs.Prelude.{pos}
+use Rattle.std.proofs.Common.{arith, ◌≡◌, ◌≤◌, ◌⊎◌, ℕ, zero, suc, ◌*◌, List, [], ◌∷◌, ◌++◌, length, get_or, Option, None, Some, Result, Ok, Err, ℤ, refl, sym, ap, ap₂, ◌∙◌, subst, inl, inr}
+use Rattle.std.specs.Prelude.{pos, slice_get}
 use Rattle.std.specs.Io.KnownBytes.{append_known}
 use mathlib.Core.Path.{fun_ext}
 use Rattle.htl_compile.proofs.BuiltLaws.{built_accepted}
@@ -12,13 +12,15 @@ use Rattle.htl_compile.specs.Coded.{coded}
 use Rattle.htl_compile.specs.declared.compiling.CompileFault.{CompileFault}
 use Rattle.htl_compile.specs.declared.compiling.CompileFault.TheVariants as compile
 use Rattle.htl_edge.specs.Causes.{Rose}
-use Rattle.htl_edge.specs.Content.{AppendsPrefix}
+use Rattle.htl_edge.specs.Content.{AppendsPrefix, Puts}
+use Rattle.htl_machine.proofs.Putting.{one_line}
 use Rattle.htl_load.specs.Loading.{HasBytes, IsLoadedAs}
 use Rattle.htl_machine.proofs.Events.{sense_end}
 use Rattle.htl_machine.specs.Calls.{Seen, IsFinished, IsSensorValue}
+use Rattle.htl_model.proofs.Listed.{length-list_to}
 use Rattle.htl_model.specs.Lines.{lines_text, line_text}
 use Rattle.htl_model.specs.Lists.{up_to}
-use Rattle.htl_model.specs.Meaning.{History, history, newest, sense, state, val}
+use Rattle.htl_model.specs.Meaning.{History, first_value, history, newest, next_value, past, sense, state}
 use Rattle.htl_model.specs.Tables.{Tables}
 use Rattle.htl_model.specs.declared.event.Event.{Event}
 use Rattle.htl_model.specs.declared.event.Event.TheVariants as event
@@ -63,8 +65,22 @@ seen_behind m t o rounds same tables done =
     ap (λ (u : Tables). seen_text u m) (tables ∙ ap (λ (p : ObjectOf). p.tables) (sym same)) ∙ seen_is m (readings_of rounds) (1000 * rounds) done
     ∙ ap (λ (p : ObjectOf). values_text p.tables (bulk_events rounds) (1000 * rounds) ++ totals_text p (bulk_events rounds) (1000 * rounds)) same
 
-pub values_count : (m : Seen) (es : List Event) (end : ℕ) → IsFinished m es end → length m.held.world.values ≡ length m.object.tables.comms
-values_count m es end done = ?
+-- each communicator has a value
+state_count : (t : Tables) (es : List Event) (now : ℕ) → length (state t es now).values ≡ length t.comms
+state_count t es zero = length-list_to (λ c. first_value (sense t es) c (slice_get t.comms c)) (length t.comms)
+state_count t es (suc n) =
+    let h = history t (sense t es) n in
+    length-list_to (λ c. next_value t (sense t es) (past h) (newest h).stays (newest h).values (suc n) c (slice_get t.comms c)) (length t.comms)
+
+pub values_count : (m : Seen) (t : Tables) (es : List Event) (end : ℕ) → t ≡ m.object.tables → IsFinished m es end → length m.held.world.values ≡ length t.comms
+values_count m t es end tables done =
+    ap (λ (vs : List ℤ). length vs) done.values ∙ state_count m.object.tables es end ∙ ap (λ (u : Tables). length u.comms) (sym tables)
+
+-- the line of a value
+pub value_put : {T E : Type 0} (t : Tables) (m : Seen) (c : ℕ) (w w1 : Option (List ℕ)) (f f1 : ℕ) (r : Result T E)
+    → Puts w w1 f f1 (line_text t (ValueLine m.held.reading c (get_or m.held.world.values c (pos 0)))) r → Puts w w1 f f1 (lines_text t (value_seen m c)) r
+value_put t m c w w1 f f1 r puts =
+    subst (λ (bs : List ℕ). Puts w w1 f f1 bs r) (sym (one_line t (ValueLine m.held.reading c (get_or m.held.world.values c (pos 0))))) puts
 
 -- ---- the object of a source
 

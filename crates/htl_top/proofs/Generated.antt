@@ -83,7 +83,7 @@ module_name k few = name_with 77 k refl few
 abbrev IsSpelled : {X : Type 0} → Spelling X → X → Type 0
 IsSpelled item x = (more : List Token) → AreSpellable more → AreSpellable (item x more)
 
-each-append : {X : Type 0} (item : Spelling X) (xs ys : List X) (more : List Token) → each item (xs ++ ys) more ≡ each item xs (each item ys more)
+pub each-append : {X : Type 0} (item : Spelling X) (xs ys : List X) (more : List Token) → each item (xs ++ ys) more ≡ each item xs (each item ys more)
 each-append item [] ys more = refl
 each-append item (x ∷ xs) ys more = ap (item x) (each-append item xs ys more)
 
@@ -139,7 +139,7 @@ module_spelled n k few less more h =
     let modes = mode_tokens (bulk_mode n k) tail in
     w (module_name k small, w (refl, w (scaling_spelled k small (task_tokens copying_task modes) (copying_spelled modes (mode_spelled n k (before_few n k few less) small tail (w h))))))
 
-tree_spelled : (n : ℕ) → n ≤ 64 → AreSpellable (source_tokens (bulk_tree n))
+pub tree_spelled : (n : ℕ) → n ≤ 64 → AreSpellable (source_tokens (bulk_tree n))
 tree_spelled n few =
     let tail = token.Sign sign.CloseBrace ∷ [] in
     let modules : AreSpellable (each module_tokens (list_to (bulk_module n) n) tail) = each_spelled module_tokens (bulk_module n) n (λ k less. module_spelled n k few less) tail (w tt) in

@@ -6,6 +6,7 @@ pub mod Counts
 pub mod EarlierReadings
 pub mod Executing
 pub mod Generated
+pub mod GeneratedLength
 pub mod Going
 pub mod Inputs
 pub mod JobMeaning
@@ -14,6 +15,7 @@ pub mod LineTelling
 pub mod Meaning
 pub mod ObjectAnswering
 mod PlanExamples
+pub mod ModuleNumbers
 pub mod Planning
 pub mod PlanWalk
 pub mod Playing

@@ -10,6 +10,7 @@ use Rattle.htl_model.specs.declared.form_fault.FormFault.{FormFault}
 use Rattle.htl_object.specs.declared.object.Object.{Object as ObjectOf}
 use Rattle.htl_platform.specs.Applied.{with_worst}
 use Rattle.htl_top.specs.Answers.{Streams}
+use Rattle.htl_top.specs.Bulk.{IsBulked}
 use Rattle.htl_top.specs.Calls.{HasSource, HasObject}
 use Rattle.htl_top.specs.Causes.{IsSource}
 use Rattle.htl_top.specs.Objects.{HasObjectTables, IsObjectFile, IsObjectTables, SpeaksOfObject}
@@ -39,6 +40,22 @@ SpeaksOf-run Sources Objects show t o old new (Shelf cause) told run = tt
 SpeaksOf-run Sources Objects show t o old new Read told run = tt
 SpeaksOf-run Sources Objects show t o old new Write told run = tt
 SpeaksOf-run Sources Objects show t o old new Memory told run = tt
+
+-- nor does a generated program
+pub SpeaksOf-bulk : (Sources Objects : (Tables → Type 0) → Type 0) (n : ℕ) (old new : Streams) (outcome : Outcome) (told : Option Tables)
+    → IsBulked n old new outcome → SpeaksOf Sources Objects outcome told
+SpeaksOf-bulk Sources Objects n old new Done told b = tt
+SpeaksOf-bulk Sources Objects n old new Usage told b = tt
+SpeaksOf-bulk Sources Objects n old new (Platform f) told b = tt
+SpeaksOf-bulk Sources Objects n old new (Source f) told b = tt
+SpeaksOf-bulk Sources Objects n old new (IllFormed f) told b = absurd b
+SpeaksOf-bulk Sources Objects n old new (Unschedulable sel from to demand) told b = tt
+SpeaksOf-bulk Sources Objects n old new (Object f) told b = absurd b
+SpeaksOf-bulk Sources Objects n old new (Script f) told b = tt
+SpeaksOf-bulk Sources Objects n old new (Shelf cause) told b = tt
+SpeaksOf-bulk Sources Objects n old new Read told b = tt
+SpeaksOf-bulk Sources Objects n old new Write told b = tt
+SpeaksOf-bulk Sources Objects n old new Memory told b = tt
 
 -- what stops a source speaks of its tables
 pub SpeaksOf-stop : (Objects : (Tables → Type 0) → Type 0) (bytes : List ℕ) (s : SourceStop) → IsNotCompiled bytes s → SpeaksOf (HasTypedTables bytes) Objects (outcome_of s) (tables_of s)

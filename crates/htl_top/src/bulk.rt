@@ -1,19 +1,21 @@
 // The command `bulk`: a generated program, run on generated readings.
-ghost use Rattle.std.specs.Prelude.{◌≡◌, ◌≤◌, ◌*◌, ◌⊎◌, ℕ, ℤ, List, [], length, IfOk, OnOk};
+ghost use Rattle.std.specs.Prelude.{◌≡◌, ◌≤◌, ◌<◌, ◌*◌, ◌++◌, ◌∷◌, ◌⊎◌, ℕ, ℤ, List, [], get_or, length, pos, IfOk, OnOk};
 ghost use Rattle.htl_base.specs.declared.limits.TheConstants as limit;
 ghost use Rattle.htl_compile.specs.Building.{IsCompiledTo};
 ghost use Rattle.htl_compile.specs.BulkTree.{bulk_bytes};
 ghost use Rattle.htl_console.specs.declared.shown.Shown.TheVariants as shown;
 ghost use Rattle.htl_edge.specs.Content.{Puts};
 ghost use Rattle.htl_machine.specs.Calls.{Follows, IsFinished, IsSameRun, IsSensorValue};
-ghost use Rattle.htl_top.specs.Bulk.{readings_of, object_text, bulk_text, seen_text, value_seen, IsPut, IsBulkPut};
-ghost use Rattle.htl_model.specs.Lines.{lines_text};
+ghost use Rattle.htl_model.specs.Lines.{line_text, lines_text};
 ghost use Rattle.htl_model.specs.Lists.{up_to};
+ghost use Rattle.htl_model.specs.declared.event.Event.{Event as Told};
+ghost use Rattle.htl_model.specs.declared.event.Event.TheVariants as event;
+ghost use Rattle.htl_model.specs.declared.line.Line.TheVariants.{ValueLine};
+ghost use Rattle.htl_top.specs.Bulk.{readings_of, object_text, bulk_text, seen_text, value_seen, IsPut, IsBulkPut};
 
 use crate::Outcome;
 use crate::play::write_totals;
 use crate::source::compile_source;
-use htl_base::limits::MAX_SOURCE;
 use htl_base::{Memory, Time, Value};
 use htl_compile::bulk_source;
 use htl_console::{Shown, line_v};
@@ -45,9 +47,9 @@ pub fn bulk<W: Sink>(alloc: Global, modules: u32, out: &mut W) -> Outcome
     }
 }
 
-// The bytes of the generated program's object. That its source isn't too long and has no fault is tested and not proved: that needs
-// the name rules, the form rules and the schedules of the tree of every size. Want of memory is the one refusal that the command has,
-// so it stands for a fault too.
+// The bytes of the generated program's object. That its source has no fault is tested and not proved: that needs the name rules, the
+// form rules and the schedules of the tree of every size. Want of memory is the one refusal that the command has, so it stands for a
+// fault too.
 fn generated_object(alloc: Global, modules: u32) -> Result<Vec<u8>, Memory>
     requires some { 1 ≤ modules }
     requires few { modules ≤ limit.MAX_MODULES }
@@ -57,9 +59,6 @@ fn generated_object(alloc: Global, modules: u32) -> Result<Vec<u8>, Memory>
         Ok(source) => source,
         Err(Memory) => return Err(Memory),
     };
-    if source.len() as u64 > MAX_SOURCE {
-        return Err(Memory);
-    }
     match compile_source(alloc, source.as_slice()) {
         Ok(object) => Ok(object),
         Err(_) => Err(Memory),
@@ -134,9 +133,20 @@ fn run_rounds<W: Sink>(
         if let Err(failed) = machine.advance(ROUND * round, out) {
             return Err(failed);
         }
-        machine.sense(SENSOR, round as Value);
+        sense_round(machine, round);
     }
     machine.finish(ROUND * rounds, out)
+}
+
+// Tells a machine what the sensor shows in a round: its number.
+fn sense_round(machine: &mut Machine<'_>, round: Time)
+    requires follows { (es : List Told) × Follows machine.old es }
+    requires sensor { (x : ℤ) → IsSensorValue machine.old.object.tables 0 x }
+    requires round { round ≤ 1000000 }
+    ensures follows { (es : List Told) → Follows machine.old es → Follows machine.new (es ++ event.Sense 0 (pos round) ∷ []) }
+    ensures same { IsSameRun machine.old machine.new }
+{
+    machine.sense(SENSOR, round as Value);
 }
 
 // Writes the values of a machine and its numbers.
@@ -150,18 +160,31 @@ fn write_state<W: Sink>(machine: &Machine<'_>, t: &Tables, out: &mut W) -> Resul
     write_totals(machine, out)
 }
 
-// Writes the value of each communicator, at the last reading.
+// Writes the value of each communicator.
 fn write_values<W: Sink>(machine: &Machine<'_>, t: &Tables, out: &mut W) -> Result<(), Failed>
     requires { length machine.now.held.world.values ≡ length t.now.comms }
     ensures { Puts (W.written out.old) (W.written out.new) (W.faults out.old) (W.faults out.new) (lines_text t.now (up_to (value_seen machine.now) (length t.now.comms))) result }
 {
     t.keeps_ranges();
-    let at = machine.reading();
     for c in 0..t.parts().comms.as_slice().len() {
-        let comm = c as u16;
-        if let Err(failed) = line_v(out, t, at, comm, machine.value(comm)) {
+        if let Err(failed) = write_value(machine, t, c as u16, out) {
             return Err(failed);
         }
     }
     Ok(())
+}
+
+// Writes the value of a communicator, at the last reading.
+fn write_value<W: Sink>(
+    machine: &Machine<'_>,
+    t: &Tables,
+    comm: u16,
+    out: &mut W,
+) -> Result<(), Failed>
+    requires known { comm < length t.now.comms }
+    requires value { comm < length machine.now.held.world.values }
+    ensures { Puts (W.written out.old) (W.written out.new) (W.faults out.old) (W.faults out.new)
+        (line_text t.now (ValueLine machine.now.held.reading comm (get_or machine.now.held.world.values comm (pos 0)))) result }
+{
+    line_v(out, t, machine.reading(), comm, machine.value(comm))
 }

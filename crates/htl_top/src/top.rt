@@ -329,7 +329,7 @@ fn answered<S: Shelf, R: Source, W: Sink>(
     input: &mut R,
     out: &mut W,
 ) -> Answer
-    requires { AreFewModules asked.entry }
+    requires { AreFewModules asked }
     ensures answer { IsCall (Some (asked_for asked.entry))
         (files S.holds S.faults shelf.old shelf.new)
         (streams R.rest R.faults W.written W.faults input.old out.old) (streams R.rest R.faults W.written W.faults input.new out.new)
