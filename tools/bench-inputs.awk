@@ -1,5 +1,6 @@
-# Inputs for tools/bench, by `kind`: a source, a plant or readers, by the files beside this one; or
+# Inputs for tools/bench, by `kind`: a source, a plant, readers or generated, by the files beside this one; or
 # at, sense, took: a script of `lines` lines, of the first of `names` sensors or invocations, or of each in turn;
+# rounds: the script of `bulk`;
 # open, braces, word, digits, blanks, comments, comment, dense: hostile text of `size` bytes;
 # jumps: an object whose mode has 4,096 switches that jump into one chain of `size` plain jumps, `apart` jumps from one
 # another; its bytes are written as they are.
@@ -12,6 +13,12 @@ function script(    i) {
 		else printf "took module_00.mode_000.job_%04d 1\n", i % names
 	}
 	print "end " (kind == "at" ? lines - 1 : 0)
+}
+
+# The readings of 100 rounds of 1,000 ticks, in each of which the sensor s shows the round's number.
+function rounds(    r) {
+	for (r = 0; r < 100; r++) printf "at %d\nsense s %d\n", 1000 * r, r
+	print "end 100000"
 }
 
 # `size` bytes of one text over and over.
@@ -61,6 +68,8 @@ BEGIN {
 	if (kind == "plant") plant()
 	else if (kind == "readers") readers()
 	else if (kind == "at" || kind == "sense" || kind == "took") script()
+	else if (kind == "generated") generated()
+	else if (kind == "rounds") rounds()
 	else if (kind == "jumps") jumps()
 	else if (kind == "open") filled("(")
 	else if (kind == "braces") filled("{")

@@ -3,6 +3,7 @@
 # one; a mode has `jobs` invocations, with `chain` each reads a port of the one before, and `switches` that never hold;
 # `tasks` more tasks, `sensors`, a round of `period` ticks; with `counts` each output grows from round to round.
 # Readers is a source with 20 invocations that write 60 ports and 100 that read 56 of them each.
+# Generated is the program of `bulk`, with `modules` modules.
 
 function plant(    m, k, j, s) {
 	add(0, "program Plant {\n")
@@ -58,4 +59,18 @@ function readers(    j, k, parameters, ports) {
 	}
 	add(2, "    }\n  }\n}\n")
 	put(0, 2)
+}
+
+function generated(    k) {
+	add(0, "program Bulk {\n  sensor int s period 10 init 0;\n")
+	for (k = 0; k < modules; k++) {
+		add(0, sprintf("  communicator int c%d period 100 init %d;\n", k, k))
+		add(1, sprintf("  module M%d start m {\n", k))
+		add(1, sprintf("    task a input (int x, int y) output (int z = x * %d + y) worst 5;\n", k + 1))
+		add(1, "    task b input (int x) output (int y = x) worst 5;\n    mode m period 1000 {\n      port int p;\n")
+		add(1, sprintf("      invoke a input ((s, 0), (c%d, 0)) output (p);\n", (k + modules - 1) % modules))
+		add(1, sprintf("      invoke b input (p) output ((c%d, 10));\n    }\n  }\n", k))
+	}
+	add(1, "}\n")
+	put(0, 1)
 }

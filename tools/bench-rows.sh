@@ -92,6 +92,24 @@ trigger_row() {
 	row "$label" trigger $((modules * rounds)) "$room/object" "$base" run "$room/object"
 }
 
+# The generated program of $1 modules: by `bulk`, which generates, compiles and runs it; its source compiled; and its object
+# by `jobs`, with the events that `bulk` tells.
+bulk_rows() {
+	label="bulk $1"
+	modules=$1
+	input=/dev/null
+	! is_chosen "$label" || row "$label" round 100 /dev/null 0 bulk "$modules"
+	is_chosen "$label compile" || is_chosen "$label jobs" || return 0
+	input=$room/source
+	make generated "modules=$modules"
+	! is_chosen "bulk $modules compile" || row "bulk $modules compile" byte bytes "$input" 0 compile
+	is_chosen "bulk $modules jobs" || return 0
+	"$program" compile <"$input" >"$room/object" 2>/dev/null
+	input=$room/script
+	make rounds
+	row "bulk $modules jobs" round 100 "$room/object" 0 jobs "$room/object"
+}
+
 # An object that no compiler writes: $1 its label, $2 how far its 4,096 jumps land from one another.
 jumps_row() {
 	label=$1

@@ -2,7 +2,7 @@
 
 _htl() {
 	local word=${COMP_WORDS[COMP_CWORD]} before=${COMP_WORDS[COMP_CWORD - 1]} i command=
-	local commands="go compile jobs run code check show plan"
+	local commands="go compile jobs run code check show plan bulk"
 	COMPREPLY=()
 	for ((i = 1; i < COMP_CWORD; i++)); do
 		case ${COMP_WORDS[i]} in
@@ -27,6 +27,7 @@ _htl() {
 			;;
 		esac
 		;;
+	bulk) [ "$before" != bulk ] || COMPREPLY=($(compgen -W "1 2 4 8 16 32 64" -- "$word")) ;;
 	go | jobs | run | code | check | show | plan)
 		[ "$before" = "$command" ] || return
 		compopt -o filenames 2>/dev/null

@@ -1,5 +1,5 @@
 # Judges words before any build. Sets `form`: wrong, file (the second word is a file), platform (the third word is one), or
-# plain; and `input`: script, modes, source, or none where standard input is not read.
+# plain; and `input`: script, modes, source, or none where standard input is not read. The number of `bulk` is judged too.
 
 # Whether the bytes of the words are UTF-8: htl takes no others for text. (Some awks fail where an output is closed.)
 are_text() {
@@ -35,6 +35,7 @@ judge_words() {
 	2:plan) form=file input=modes ;;
 	2:check | 2:show) form=file ;;
 	1:compile) form=plain input=source ;;
+	2:bulk) case $2 in [1-9] | [1-5][0-9] | 6[0-4]) form=plain ;; esac ;;
 	3:compile) [ "$2" != with ] || form=platform input=source ;;
 	esac
 	[ "$form" = wrong ] || are_text "$@" || form=wrong

@@ -5,6 +5,7 @@ use Rattle.std.specs.Io.KnownBytes.{append_known}
 use Rattle.htl_base.specs.declared.limits.TheConstants.{MAX_SOURCE, MAX_OBJECT}
 use Rattle.htl_compile.specs.Building.{IsCompileFault}
 use Rattle.htl_compile.specs.OnPlatform.{IsWithFault}
+use Rattle.htl_compile.specs.BulkTree.{bulk_bytes}
 use Rattle.htl_compile.specs.Built.{built, AreSchedulable}
 use Rattle.htl_compile.specs.Coded.{AreTyped}
 use Rattle.htl_compile.specs.Sources.{IsTablesOf}
@@ -28,6 +29,7 @@ use Rattle.htl_platform.specs.Platforms.{platform_of}
 use Rattle.htl_platform.specs.declared.fault.PlatformFault.{PlatformFault}
 use Rattle.htl_platform.specs.declared.platform.Platform.{Platform as PlatformOf}
 use Rattle.htl_script.specs.declared.fault.ScriptFault.{ScriptFault}
+use Rattle.htl_top.proofs.Bulking as bulking
 use Rattle.htl_top.proofs.Compiling as compiling
 use Rattle.htl_top.proofs.CompilingOn as platforms
 use Rattle.htl_top.proofs.Going as going
@@ -36,6 +38,7 @@ use Rattle.htl_top.proofs.ObjectAnswering.{IsWork, text_is_work}
 use Rattle.htl_top.proofs.Planning.{planning, bad_input, whole_input}
 use Rattle.htl_top.proofs.Running.{running, bad_run, whole_run}
 use Rattle.htl_top.specs.Answers.{Files, Streams, IsBeforeScript, IsBeforeRun}
+use Rattle.htl_top.specs.Bulk.{bulk_text, IsBulked}
 use Rattle.htl_top.specs.Calls.{IsCall}
 use Rattle.htl_top.specs.Causes.{IsFaultOf, IsLongFile, IsGiven, IsOrMemory}
 use Rattle.htl_top.specs.Checked.{check_text, IsChecked}
@@ -48,9 +51,9 @@ use Rattle.htl_top.specs.Runs.{IsRun, IsWholeRun, IsFaultyRun, IsCutRun}
 use Rattle.htl_top.specs.Scripts.{IsWhole, IsBad}
 use Rattle.htl_top.specs.SelectionInput.{Whole, Bad, input_of}
 use Rattle.htl_top.specs.Shown.{show_text, IsShown}
-use Rattle.htl_top.specs.Sources.{IsProgram, IsInputProgram, answer_of}
+use Rattle.htl_top.specs.Sources.{HasTables, IsProgram, IsInputProgram, answer_of}
 use Rattle.htl_top.specs.SourcesOn.{IsProgramOn, answer_on}
-use Rattle.htl_top.specs.Words.{Command, Go, Compile, CompileWith, Run, Check, Plan, Show, RunsObject, source_of, platform_file, object_of}
+use Rattle.htl_top.specs.Words.{Command, Go, Compile, CompileWith, Run, Check, Plan, Show, Bulk, RunsObject, source_of, platform_file, object_of}
 use Rattle.htl_top.specs.declared.outcome.Outcome.{Outcome}
 use Rattle.htl_top.specs.declared.outcome.Outcome.TheVariants.{Done, Usage, Source, Platform, Object as Refused, Script, Shelf, Read, Write, Memory}
 use Rattle.htl_top.specs.declared.outcome.ShelfCause.{ShelfCause}
@@ -119,6 +122,7 @@ module _ (shelf : Files) (old new : Streams) where
       not_asked (Plan name) (outcome ≡ Usage) (λ e. objects.no_usage IsPlanned planning (Some name) shelf old new (subst (λ o. IsOnObject IsPlanned (Some name) shelf old new o) e call))
   usage (Some (Show name)) outcome call =
       not_asked (Show name) (outcome ≡ Usage) (λ e. objects.no_usage IsShown showing (Some name) shelf old new (subst (λ o. IsOnObject IsShown (Some name) shelf old new o) e call))
+  usage (Some (Bulk n)) outcome call = not_asked (Bulk n) (outcome ≡ Usage) (λ e. subst (λ o. IsBulked n old new o) e call)
 
   -- ---- of an answer
 
@@ -132,6 +136,7 @@ module _ (shelf : Files) (old new : Streams) where
   shelf_failed (Some (Check name)) call = inr (inl (objects.shelf_failed IsChecked checking (Some name) shelf old new call))
   shelf_failed (Some (Plan name)) call = inr (inl (objects.shelf_failed IsPlanned planning (Some name) shelf old new call))
   shelf_failed (Some (Show name)) call = inr (inl (objects.shelf_failed IsShown showing (Some name) shelf old new call))
+  shelf_failed (Some (Bulk n)) call = absurd call
 
   pub shelf_long : (command : Option Command) (seen : ℕ) → IsCall command shelf old new (Shelf (TooLong seen))
       → IsLongFile MAX_SOURCE (source_of command) shelf.holds seen ⊎ IsLongFile MAX_OBJECT (object_of command) shelf.holds seen ⊎ IsLongFile MAX_SOURCE (platform_file command) shelf.holds seen
@@ -143,6 +148,7 @@ module _ (shelf : Files) (old new : Streams) where
   shelf_long (Some (Check name)) seen call = inr (inl (objects.shelf_long IsChecked checking (Some name) shelf old new seen call))
   shelf_long (Some (Plan name)) seen call = inr (inl (objects.shelf_long IsPlanned planning (Some name) shelf old new seen call))
   shelf_long (Some (Show name)) seen call = inr (inl (objects.shelf_long IsShown showing (Some name) shelf old new seen call))
+  shelf_long (Some (Bulk n)) seen call = absurd call
 
   -- no object has an answer of a source
   of_no_work : (f : CompileFault) → (f ≡ compile.Memory → ⊥) → objects.IsOfWork (answer_of f) → ⊥
@@ -169,6 +175,7 @@ module _ (shelf : Files) (old new : Streams) where
   cause (Some (Check name)) f told call = no_source IsChecked checking name f told call
   cause (Some (Plan name)) f told call = no_source IsPlanned planning name f told call
   cause (Some (Show name)) f told call = no_source IsShown showing name f told call
+  cause (Some (Bulk n)) f told call = bulking.no_cause n old new f told call
 
   -- no run has an answer of a platform file
   no_platform : (Does : Work) (work : IsWork Does) (name : List ℕ) (f : PlatformFault) → IsOnObject Does (Some name) shelf old new (Platform f) → ⊥
@@ -183,6 +190,7 @@ module _ (shelf : Files) (old new : Streams) where
   platform (Some (Check name)) f call = absurd (no_platform IsChecked checking name f call)
   platform (Some (Plan name)) f call = absurd (no_platform IsPlanned planning name f call)
   platform (Some (Show name)) f call = absurd (no_platform IsShown showing name f call)
+  platform (Some (Bulk n)) f call = absurd call
 
   pub object : (command : Option Command) (f : ObjectFault) → IsCall command shelf old new (Refused f) → IsRefusedFile (object_of command) shelf.holds f
   object None f call = absurd (refused_usage f call.0)
@@ -193,6 +201,7 @@ module _ (shelf : Files) (old new : Streams) where
   object (Some (Check name)) f call = objects.object IsChecked checking (Some name) shelf old new f call
   object (Some (Plan name)) f call = objects.object IsPlanned planning (Some name) shelf old new f call
   object (Some (Show name)) f call = objects.object IsShown showing (Some name) shelf old new f call
+  object (Some (Bulk n)) f call = absurd call
 
   -- ---- what stays as it was
 
@@ -206,6 +215,7 @@ module _ (shelf : Files) (old new : Streams) where
   unread (Some (Check name)) outcome call other apart early = objects.unread IsChecked checking (Some name) shelf old new outcome call early
   unread (Some (Plan name)) outcome call other apart early = objects.unread IsPlanned planning (Some name) shelf old new outcome call early
   unread (Some (Show name)) outcome call other apart early = objects.unread IsShown showing (Some name) shelf old new outcome call early
+  unread (Some (Bulk n)) outcome call other apart early = bulking.unread n old new outcome call
 
   pub unfetched : (command : Option Command) (outcome : Outcome) → IsCall command shelf old new outcome → (why : ShelfCause) → outcome ≡ Shelf why → new.rest ≡ old.rest
   unfetched command outcome call why is = by command why (subst (λ (o : Outcome). IsCall command shelf old new o) is call)
@@ -220,6 +230,7 @@ module _ (shelf : Files) (old new : Streams) where
       by (Some (Check name)) why call = objects.unread IsChecked checking (Some name) shelf old new (Shelf why) call tt
       by (Some (Plan name)) why call = objects.unread IsPlanned planning (Some name) shelf old new (Shelf why) call tt
       by (Some (Show name)) why call = objects.unread IsShown showing (Some name) shelf old new (Shelf why) call tt
+      by (Some (Bulk n)) why call = absurd call
 
   pub unwritten : (command : Option Command) (outcome : Outcome) → IsCall command shelf old new outcome → IsBeforeRun outcome → new.written ≡ old.written
   unwritten None outcome call early = call.1.written
@@ -230,6 +241,7 @@ module _ (shelf : Files) (old new : Streams) where
   unwritten (Some (Check name)) outcome call early = objects.unwritten IsChecked checking (Some name) shelf old new outcome call early
   unwritten (Some (Plan name)) outcome call early = objects.unwritten IsPlanned planning (Some name) shelf old new outcome call early
   unwritten (Some (Show name)) outcome call early = objects.unwritten IsShown showing (Some name) shelf old new outcome call early
+  unwritten (Some (Bulk n)) outcome call early = bulking.unwritten n old new outcome call early
 
   -- want of memory comes before the first byte of a script is read
   pub memory_unread : (command : Option Command) → IsCall command shelf old new Memory → RunsObject command → new.rest ≡ old.rest
@@ -241,6 +253,7 @@ module _ (shelf : Files) (old new : Streams) where
   memory_unread (Some (Check name)) call runs = absurd runs
   memory_unread (Some (Plan name)) call runs = absurd runs
   memory_unread (Some (Show name)) call runs = absurd runs
+  memory_unread (Some (Bulk n)) call runs = absurd runs
 
   -- ---- of a source that is named
 
@@ -254,6 +267,7 @@ module _ (shelf : Files) (old new : Streams) where
   of_source (Some (Check name)) word outcome named call = absurd (some_not_none (List ℕ) None word named refl)
   of_source (Some (Plan name)) word outcome named call = absurd (some_not_none (List ℕ) None word named refl)
   of_source (Some (Show name)) word outcome named call = absurd (some_not_none (List ℕ) None word named refl)
+  of_source (Some (Bulk n)) word outcome named call = absurd (some_not_none (List ℕ) None word named refl)
 
   pub long_file : (command : Option Command) (bytes : List ℕ) (outcome : Outcome) → IsGiven (source_of command) shelf.holds shelf.before shelf.after bytes
       → IsCall command shelf old new outcome → 1048576 < length bytes → IsOrMemory outcome (Shelf (TooLong (length bytes)))
@@ -389,6 +403,7 @@ module _ (shelf : Files) (old new : Streams) where
   of_platform (Some (Check name)) word outcome named call = absurd (some_not_none (List ℕ) None word named refl)
   of_platform (Some (Plan name)) word outcome named call = absurd (some_not_none (List ℕ) None word named refl)
   of_platform (Some (Show name)) word outcome named call = absurd (some_not_none (List ℕ) None word named refl)
+  of_platform (Some (Bulk n)) word outcome named call = absurd (some_not_none (List ℕ) None word named refl)
 
   pub long_platform : (command : Option Command) (outcome : Outcome) → IsCall command shelf old new outcome → (file : List ℕ)
       → IsGiven (platform_file command) shelf.holds shelf.before shelf.after file → 1048576 < length file → IsOrMemory outcome (Shelf (TooLong (length file)))
@@ -426,6 +441,7 @@ module _ (shelf : Files) (old new : Streams) where
   long_object (Some (Check name)) bytes outcome given call long = objects.long_object IsChecked checking (Some name) shelf old new bytes given outcome call long
   long_object (Some (Plan name)) bytes outcome given call long = objects.long_object IsPlanned planning (Some name) shelf old new bytes given outcome call long
   long_object (Some (Show name)) bytes outcome given call long = objects.long_object IsShown showing (Some name) shelf old new bytes given outcome call long
+  long_object (Some (Bulk n)) bytes outcome given call long = absurd (some_not_none (List ℕ) None given.word given.named refl)
 
   pub faulty_object : (command : Option Command) (bytes : List ℕ) (outcome : Outcome) → IsGiven (object_of command) shelf.holds shelf.before shelf.after bytes
       → IsCall command shelf old new outcome → (f : ObjectFault) → length bytes ≤ 16777216 → RefusesBytes bytes f → IsOrMemory outcome (Refused f)
@@ -441,6 +457,7 @@ module _ (shelf : Files) (old new : Streams) where
       objects.faulty_object IsPlanned planning (Some name) shelf old new bytes given outcome call f short refused
   faulty_object (Some (Show name)) bytes outcome given call f short refused =
       objects.faulty_object IsShown showing (Some name) shelf old new bytes given outcome call f short refused
+  faulty_object (Some (Bulk n)) bytes outcome given call f short refused = absurd (some_not_none (List ℕ) None given.word given.named refl)
 
   -- ---- `run` and `jobs`
 
@@ -568,6 +585,27 @@ module _ (shelf : Files) (old new : Streams) where
       → IsReadyObject (Some name) shelf.holds shelf.before shelf.after o → (Rose old.write_faults new.write_faults → ⊥) → IsOrMemory outcome Done
   show_complete command outcome call name o is ready still =
       text_complete IsShown showing (λ o. show_text o) (λ o a w. w) name o outcome ready still (shows command name outcome is call)
+
+  -- ---- `bulk`
+
+  -- what it came to
+  bulked_as : (command : Option Command) (outcome other : Outcome) → IsCall command shelf old new outcome → (n : ℕ) → command ≡ Some (Bulk n) → outcome ≡ other → IsBulked n old new other
+  bulked_as command outcome other call n is same = subst (λ (o : Outcome). IsBulked n old new o) same (subst (λ (c : Option Command). IsCall c shelf old new outcome) is call)
+
+  pub bulked : (command : Option Command) (outcome : Outcome) → IsCall command shelf old new outcome → (n : ℕ) → command ≡ Some (Bulk n) → outcome ≡ Done
+      → HasTables (bulk_bytes n) (λ t. new.written ≡ append_known old.written (bulk_text t))
+  bulked command outcome call n is done = (bulked_as command outcome Done call n is done).1
+
+  pub bulk_cut : (command : Option Command) (outcome : Outcome) → IsCall command shelf old new outcome → (n : ℕ) → command ≡ Some (Bulk n) → outcome ≡ Write
+      → Rose old.write_faults new.write_faults × HasTables (bulk_bytes n) (λ t. AppendsPrefix old.written new.written (bulk_text t))
+  bulk_cut command outcome call n is cut = let b = bulked_as command outcome Write call n is cut in (b.1, b.2)
+
+  pub bulk_unread : (command : Option Command) (outcome : Outcome) → IsCall command shelf old new outcome → (n : ℕ) → command ≡ Some (Bulk n) → new.rest ≡ old.rest
+  bulk_unread command outcome call n is = bulking.unread n old new outcome (bulked_as command outcome outcome call n is refl)
+
+  pub bulk_complete : (command : Option Command) (outcome : Outcome) → IsCall command shelf old new outcome → (n : ℕ) → command ≡ Some (Bulk n)
+      → (Rose old.write_faults new.write_faults → ⊥) → IsOrMemory outcome Done
+  bulk_complete command outcome call n is still = bulking.complete n old new outcome still (bulked_as command outcome outcome call n is refl)
 
   -- ---- `plan`
 

@@ -14,12 +14,9 @@ use Rattle.htl_model.specs.declared.event.Event.TheVariants as event
 use Rattle.htl_object.specs.declared.object.Object.{Object}
 use Rattle.htl_top.proofs.Playing.{text_ended}
 use Rattle.htl_top.proofs.Totals.{totals_end}
+use Rattle.htl_top.specs.Bulk.{totals_text}
 use Rattle.htl_top.specs.Scripts.{EndsAt}
 use Rattle.htl_top.specs.Texts.{text_before_fault}
-
-abbrev pub totals_of : Object → List Event → ℕ → List ℕ
-totals_of o es end =
-    totals_line end (jobs_done o.tables (schedules_of o) es (suc end)) (e_done o.tables o.ecode es (suc end)) (s_done o.tables (schedules_of o) es (suc end))
 
 -- a whole script makes all instants up to its end
 told_whole : (o : Object) (show : Shown) (events : List Event) (end : ℕ) → EndsAt events end → text_before_fault o show events ≡ before_of o events show (suc end)
@@ -31,12 +28,16 @@ line_is : (at to j k e f s u : ℕ) → at ≡ to → j ≡ k → e ≡ f → s 
 line_is at to j k e f s u a b c d =
     ap (λ (n : ℕ). totals_line n j e s) a ∙ ap (λ (n : ℕ). totals_line to n e s) b ∙ ap (λ (n : ℕ). totals_line to k n s) c ∙ ap (totals_line to k f) d
 
+pub finished_totals : (m : Seen) (es : List Event) (end : ℕ) → IsFinished m es end → totals_line m.held.reading m.jobs m.e m.s ≡ totals_text m.object (es ++ event.End end ∷ []) end
+finished_totals m es end done =
+    line_is m.held.reading end m.jobs (jobs_done m.object.tables (schedules_of m.object) es (suc end)) m.e (e_done m.object.tables m.object.ecode es (suc end)) m.s
+    (s_done m.object.tables (schedules_of m.object) es (suc end)) done.reading done.jobs done.e done.s
+    ∙ totals_end m.object.tables m.object.ecode (schedules_of m.object) es end (suc end)
+
 totals_are : (m : Seen) (events : List Event) (end : ℕ) (ends : EndsAt events end) → IsFinished m ends.last.0 end
-    → totals_line m.held.reading m.jobs m.e m.s ≡ totals_of m.object events end
+    → totals_line m.held.reading m.jobs m.e m.s ≡ totals_text m.object events end
 totals_are m events end ends done =
-    line_is m.held.reading end m.jobs (jobs_done m.object.tables (schedules_of m.object) ends.last.0 (suc end)) m.e (e_done m.object.tables m.object.ecode ends.last.0 (suc end)) m.s
-    (s_done m.object.tables (schedules_of m.object) ends.last.0 (suc end)) done.reading done.jobs done.e done.s
-    ∙ totals_end m.object.tables m.object.ecode (schedules_of m.object) ends.last.0 end (suc end) ∙ sym (ap (λ (es : List Event). totals_of m.object es end) ends.last.1)
+    finished_totals m ends.last.0 end done ∙ sym (ap (λ (es : List Event). totals_text m.object es end) ends.last.1)
 
 -- ---- what is put
 
@@ -46,7 +47,7 @@ module _ (o : Object) (show : Shown) (events : List Event) where
       → ((front : List Event) (end : ℕ) → events ≡ front ++ event.End end ∷ [] → IsFinished m front end)
       → Puts w1 w2 f1 f2 (totals_line m.held.reading m.jobs m.e m.s) r → (end : ℕ) → EndsAt events end → Puts w w2 f f2 (text_of o events show end) r
   run_put {S = S} {T = T} m w w1 w2 f f1 f2 x r same first done second end ends =
-      let line : totals_line m.held.reading m.jobs m.e m.s ≡ totals_of o events end =
-      totals_are m events end ends (done ends.last.0 end ends.last.1) ∙ ap (λ (p : Object). totals_of p events end) same in
-      Puts-second w w1 w2 f f1 f2 (before_of o events show (suc end)) (totals_of o events end) r
+      let line : totals_line m.held.reading m.jobs m.e m.s ≡ totals_text o events end =
+      totals_are m events end ends (done ends.last.0 end ends.last.1) ∙ ap (λ (p : Object). totals_text p events end) same in
+      Puts-second w w1 w2 f f1 f2 (before_of o events show (suc end)) (totals_text o events end) r
       (first.whole ∙ ap (append_known w) (told_whole o show events end ends)) first.cause.kept (subst (λ (bs : List ℕ). Puts w1 w2 f1 f2 bs r) line second)

@@ -1,9 +1,12 @@
+pub mod Bulking
 pub mod Calling
 pub mod Compiling
 pub mod CompilingOn
 pub mod Counts
 pub mod EarlierReadings
 pub mod Executing
+pub mod Generated
+pub mod GeneratedLength
 pub mod Going
 pub mod Inputs
 pub mod JobMeaning
@@ -12,11 +15,13 @@ pub mod LineTelling
 pub mod Meaning
 pub mod ObjectAnswering
 mod PlanExamples
+pub mod ModuleNumbers
 pub mod Planning
 pub mod PlanWalk
 pub mod Playing
 pub mod PositionCounts
 pub mod Putting
+pub mod Rounds
 pub mod Running
 pub mod SelectionEntries
 pub mod SelectionFields

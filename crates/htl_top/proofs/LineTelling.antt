@@ -10,6 +10,7 @@ use Rattle.htl_model.specs.declared.form_fault.FormFault.{FormFault}
 use Rattle.htl_object.specs.declared.object.Object.{Object as ObjectOf}
 use Rattle.htl_platform.specs.Applied.{with_worst}
 use Rattle.htl_top.specs.Answers.{Streams}
+use Rattle.htl_top.specs.Bulk.{IsBulked}
 use Rattle.htl_top.specs.Calls.{HasSource, HasObject}
 use Rattle.htl_top.specs.Causes.{IsSource}
 use Rattle.htl_top.specs.Objects.{HasObjectTables, IsObjectFile, IsObjectTables, SpeaksOfObject}
@@ -18,7 +19,7 @@ use Rattle.htl_top.specs.Sources.{HasTypedTables, IsInput, IsNotCompiled, IsType
 use Rattle.htl_top.specs.SourcesOn.{HasTypedOn, IsTypedOn, IsNotCompiledOn}
 use Rattle.htl_top.specs.Status.{fault_line}
 use Rattle.htl_top.specs.Telling.{SpeaksOf, IsFaultTold, IsLineTold}
-use Rattle.htl_top.specs.Words.{Command, Go, Compile, CompileWith, Run, Check, Plan, Show}
+use Rattle.htl_top.specs.Words.{Command, Go, Compile, CompileWith, Run, Check, Plan, Show, Bulk}
 use Rattle.htl_top.specs.declared.outcome.Outcome.{Outcome}
 use Rattle.htl_top.specs.declared.outcome.Outcome.TheVariants.{Done, Usage, Source, IllFormed, Unschedulable, Platform, Object, Script, Shelf, Read, Write, Memory}
 use Rattle.htl_top.specs.declared.source.SourceStop.{SourceStop}
@@ -39,6 +40,22 @@ SpeaksOf-run Sources Objects show t o old new (Shelf cause) told run = tt
 SpeaksOf-run Sources Objects show t o old new Read told run = tt
 SpeaksOf-run Sources Objects show t o old new Write told run = tt
 SpeaksOf-run Sources Objects show t o old new Memory told run = tt
+
+-- nor does a generated program
+pub SpeaksOf-bulk : (Sources Objects : (Tables → Type 0) → Type 0) (n : ℕ) (old new : Streams) (outcome : Outcome) (told : Option Tables)
+    → IsBulked n old new outcome → SpeaksOf Sources Objects outcome told
+SpeaksOf-bulk Sources Objects n old new Done told b = tt
+SpeaksOf-bulk Sources Objects n old new Usage told b = tt
+SpeaksOf-bulk Sources Objects n old new (Platform f) told b = tt
+SpeaksOf-bulk Sources Objects n old new (Source f) told b = tt
+SpeaksOf-bulk Sources Objects n old new (IllFormed f) told b = absurd b
+SpeaksOf-bulk Sources Objects n old new (Unschedulable sel from to demand) told b = tt
+SpeaksOf-bulk Sources Objects n old new (Object f) told b = absurd b
+SpeaksOf-bulk Sources Objects n old new (Script f) told b = tt
+SpeaksOf-bulk Sources Objects n old new (Shelf cause) told b = tt
+SpeaksOf-bulk Sources Objects n old new Read told b = tt
+SpeaksOf-bulk Sources Objects n old new Write told b = tt
+SpeaksOf-bulk Sources Objects n old new Memory told b = tt
 
 -- what stops a source speaks of its tables
 pub SpeaksOf-stop : (Objects : (Tables → Type 0) → Type 0) (bytes : List ℕ) (s : SourceStop) → IsNotCompiled bytes s → SpeaksOf (HasTypedTables bytes) Objects (outcome_of s) (tables_of s)
@@ -136,6 +153,7 @@ source_of_maps (Some (Run show name)) holds rest Fact Other f h = h
 source_of_maps (Some (Check name)) holds rest Fact Other f h = h
 source_of_maps (Some (Plan name)) holds rest Fact Other f h = h
 source_of_maps (Some (Show name)) holds rest Fact Other f h = h
+source_of_maps (Some (Bulk n)) holds rest Fact Other f h = h
 
 object_of_maps : (command : Option Command) (holds : Option Holdings) → Maps (HasObject command holds)
 object_of_maps None holds Fact Other f h = h
@@ -146,6 +164,7 @@ object_of_maps (Some (Run show name)) holds Fact Other f h = object_maps (Some n
 object_of_maps (Some (Check name)) holds Fact Other f h = object_maps (Some name) holds Fact Other f h
 object_of_maps (Some (Plan name)) holds Fact Other f h = object_maps (Some name) holds Fact Other f h
 object_of_maps (Some (Show name)) holds Fact Other f h = object_maps (Some name) holds Fact Other f h
+object_of_maps (Some (Bulk n)) holds Fact Other f h = h
 
 -- the names of tables with code are those of the tables
 names_of : (t : Tables) (f : FormFault) → fault_line (Some (coded t)) (IllFormed f) ≡ fault_line (Some t) (IllFormed f)

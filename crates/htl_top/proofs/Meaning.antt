@@ -25,7 +25,7 @@ use Rattle.htl_top.proofs.Playing.{took_within}
 use Rattle.htl_top.specs.Laws.{GoShowsTheMeaning, GoKeepsDeadlines}
 
 -- the names in a line are those of the tables, whatever their functions are
-line_same : (t : Tables) (x : Line) → line_text (coded t) x ≡ line_text t x
+pub line_same : (t : Tables) (x : Line) → line_text (coded t) x ≡ line_text t x
 line_same t (ValueLine at c x) = refl
 line_same t (ModeLine at k (Some m)) = refl
 line_same t (ModeLine at k None) = refl

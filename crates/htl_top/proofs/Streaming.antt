@@ -28,11 +28,12 @@ use Rattle.htl_script.proofs.Behind.{behind-nil, behind-append, events_of-behind
 use Rattle.htl_script.proofs.Fitting.{script-events, whole-script, AreEvents-front}
 use Rattle.htl_script.proofs.Streaming.{gives_more, given_script, given_all, told_of}
 use Rattle.htl_script.proofs.Taken.{prepend_known-nil}
+use Rattle.htl_top.specs.Bulk.{totals_text}
 use Rattle.htl_top.specs.Playing.{HaveNoEnd, IsBehind, IsNext, IsPlaying, IsTold, text_more}
 use Rattle.htl_top.specs.Runs.{IsCutRun, IsFaultyRun, IsWholeRun}
 use Rattle.htl_top.specs.Scripts.{EndsAt}
 use Rattle.htl_top.specs.Texts.{text_before_fault, text_of_script}
-use Rattle.htl_top.proofs.Executing.{run_put, totals_of}
+use Rattle.htl_top.proofs.Executing.{run_put}
 use Rattle.htl_top.proofs.Playing.{end_after, last_same, next, past_more, text_end, text_ended, text_next, text_open, took_within}
 
 -- ---- events behind others
@@ -122,7 +123,7 @@ module _ (o : Object) (show : Shown) (accepted : IsAccepted o) where
       let w = last events end refl in
       let told : before_of o events show (suc end) ≡ text_before_fault o show events =
       ap (λ (es : List Event). before_of o es show (suc end)) w.1 ∙ text_ended o show w.0 end ∙ sym (ap (text_before_fault o show) w.1) in
-      (totals_of o events end, ap (λ (bs : List ℕ). bs ++ totals_of o events end) told)
+      (totals_text o events end, ap (λ (bs : List ℕ). bs ++ totals_text o events end) told)
 
   -- a prefix of what the events told make a run write is one of what the script does
   cut_run : (told : List Event) (n : Bool) (a : Ahead) (known rest old new : Option (List ℕ)) → Gives false n known rest (λ bytes later. script_of o.tables bytes ≡ behind told (still o.tables a later))

@@ -3,6 +3,7 @@ use Rattle.std.specs.Prelude.{◌≡◌, Option, None, Some, List, ℕ}
 use Rattle.htl_edge.specs.Holdings.{Holdings}
 use Rattle.htl_model.specs.Tables.{Tables}
 use Rattle.htl_top.specs.Answers.{Files, Streams, IsUntouched}
+use Rattle.htl_top.specs.Bulk.{IsBulked}
 use Rattle.htl_top.specs.Checked.{IsChecked}
 use Rattle.htl_top.specs.Compiling.{IsCompiling}
 use Rattle.htl_top.specs.CompilingOn.{IsCompilingOn}
@@ -13,7 +14,7 @@ use Rattle.htl_top.specs.Runs.{IsRun}
 use Rattle.htl_top.specs.Shown.{IsShown}
 use Rattle.htl_top.specs.Sources.{IsTypedProgram, IsTypedInput}
 use Rattle.htl_top.specs.SourcesOn.{IsTypedOn}
-use Rattle.htl_top.specs.Words.{Command, Go, Compile, CompileWith, Run, Check, Plan, Show}
+use Rattle.htl_top.specs.Words.{Command, Go, Compile, CompileWith, Run, Check, Plan, Show, Bulk}
 use Rattle.htl_top.specs.declared.outcome.Outcome.{Outcome}
 use Rattle.htl_top.specs.declared.outcome.Outcome.TheVariants.{Usage}
 
@@ -27,6 +28,7 @@ IsCall (Some (Run show name)) shelf old new outcome = IsOnObject (λ o. IsRun sh
 IsCall (Some (Check name)) shelf old new outcome = IsOnObject IsChecked (Some name) shelf old new outcome
 IsCall (Some (Plan name)) shelf old new outcome = IsOnObject IsPlanned (Some name) shelf old new outcome
 IsCall (Some (Show name)) shelf old new outcome = IsOnObject IsShown (Some name) shelf old new outcome
+IsCall (Some (Bulk n)) shelf old new outcome = IsBulked n old new outcome
 
 -- The source that a command compiles has tables whose functions are typed, and the fact holds of them, with the worst cases of the
 -- platform where one is named.
@@ -39,6 +41,7 @@ HasSource (Some (Run show name)) holds rest Fact = ⊥
 HasSource (Some (Check name)) holds rest Fact = ⊥
 HasSource (Some (Plan name)) holds rest Fact = ⊥
 HasSource (Some (Show name)) holds rest Fact = ⊥
+HasSource (Some (Bulk n)) holds rest Fact = ⊥
 
 -- The object that a command is about has tables of which the fact holds.
 abbrev pub HasObject : Option Command → Option Holdings → (Tables → Type 0) → Type 0
@@ -50,3 +53,4 @@ HasObject (Some (Run show name)) holds Fact = IsObjectTables (Some name) holds F
 HasObject (Some (Check name)) holds Fact = IsObjectTables (Some name) holds Fact
 HasObject (Some (Plan name)) holds Fact = IsObjectTables (Some name) holds Fact
 HasObject (Some (Show name)) holds Fact = IsObjectTables (Some name) holds Fact
+HasObject (Some (Bulk n)) holds Fact = ⊥

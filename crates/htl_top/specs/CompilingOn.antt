@@ -17,7 +17,7 @@ use Rattle.htl_top.specs.Answers.{Files, Streams, IsUntouched, IsWritten}
 use Rattle.htl_top.specs.Causes.{IsFaultOf, IsLongFile}
 use Rattle.htl_top.specs.Sources.{IsInputFault, IsFaultyProgram, outcome_of}
 use Rattle.htl_top.specs.SourcesOn.{HasFile, IsProgramOn, IsInputFaultOn, IsFaultyOn, IsNotCompiledOn}
-use Rattle.htl_top.specs.Words.{Command, Go, Compile, CompileWith, Run, Check, Plan, Show, platform_file}
+use Rattle.htl_top.specs.Words.{Command, Go, Compile, CompileWith, Run, Check, Plan, Show, Bulk, platform_file}
 use Rattle.htl_top.specs.declared.outcome.Outcome.{Outcome}
 use Rattle.htl_top.specs.declared.outcome.Outcome.TheVariants.{Done, Usage, Source, IllFormed, Unschedulable, Platform, Object, Script, Shelf, Read, Write, Memory}
 use Rattle.htl_top.specs.declared.outcome.ShelfCause.TheVariants.{Failed, TooLong}
@@ -67,6 +67,7 @@ IsCompileCause (Some (Run show name)) holds rest f = ⊥
 IsCompileCause (Some (Check name)) holds rest f = ⊥
 IsCompileCause (Some (Plan name)) holds rest f = ⊥
 IsCompileCause (Some (Show name)) holds rest f = ⊥
+IsCompileCause (Some (Bulk n)) holds rest f = ⊥
 
 -- The first fault of the platform file that a command compiles for: the source has none.
 abbrev pub IsPlatformCause : Option Command → Option Holdings → Option (List ℕ) → PlatformFault → Type 0

@@ -1,9 +1,10 @@
 -- The words of a command.
-use Rattle.std.specs.Prelude.{ℕ, ◌+◌, Option, None, Some, List, [], ◌∷◌, codes, map, if◌then◌else◌}
+use Rattle.std.specs.Prelude.{ℕ, zero, suc, ◌+◌, ◌≤◌, Option, None, Some, List, [], ◌∷◌, codes, map, if◌then◌else◌}
 use Rattle.std.specs.Borrow.{Bor}
+use Rattle.std.specs.Fmt.{decimal}
 use Rattle.std.specs.Option.{option_map}
 use Rattle.std.specs.Str.{bytes_eq}
-use Rattle.htl_base.specs.declared.limits.TheConstants.{MAX_SOURCE, MAX_SCRIPT}
+use Rattle.htl_base.specs.declared.limits.TheConstants.{MAX_MODULES, MAX_SOURCE, MAX_SCRIPT}
 use Rattle.htl_console.specs.declared.shown.Shown.{Shown}
 use Rattle.htl_console.specs.declared.shown.Shown.TheVariants.{Values, Jobs, Code}
 use Rattle.htl_top.specs.declared.words.Asked.{Asked}
@@ -20,6 +21,7 @@ pub data Command : Type 0 where
   Check : (name : List ℕ) → Command
   Plan : (name : List ℕ) → Command
   Show : (name : List ℕ) → Command
+  Bulk : (modules : ℕ) → Command
 
 -- the verbs that a file's name follows
 abbrev pub verb_of : List ℕ → Option Verb
@@ -48,9 +50,25 @@ abbrev pub compile_with : List ℕ → List ℕ → List ℕ → Option Command
 compile_with first second platform =
     if bytes_eq first (codes "compile") then (if bytes_eq second (codes "with") then Some (CompileWith platform) else None) else None
 
--- a verb and the name of a file, `compile` alone, or that with a platform; other words are no command
+-- the number from 1 to a bound whose decimal digits a word is
+abbrev pub decimal_to : ℕ → List ℕ → Option ℕ
+decimal_to zero word = None
+decimal_to (suc n) word =
+    elim (decimal_to n word) [ Some k ↦ Some k | None ↦ if bytes_eq word (decimal (suc n)) then Some (suc n) else None ]
+
+-- how many modules a word asks for, 1 to 64, by its decimal digits
+unfoldable pub modules_in : List ℕ → Option ℕ
+modules_in word = decimal_to 64 word
+
+-- a verb and the name of a file, or `bulk` and a number of modules
+abbrev pub of_two : List ℕ → List ℕ → Option Command
+of_two word other =
+    if bytes_eq word (codes "bulk") then option_map (λ (n : ℕ). Bulk n) (modules_in other)
+    else option_map (λ (v : Verb). with_file v other) (verb_of word)
+
+-- a verb and the name of a file, `compile` alone, or that with a platform, or `bulk` and a number of modules; other words are no command
 abbrev pub command_of : List (List ℕ) → Option Command
-command_of (word ∷ name ∷ []) = option_map (λ (v : Verb). with_file v name) (verb_of word)
+command_of (word ∷ other ∷ []) = of_two word other
 command_of (first ∷ second ∷ platform ∷ []) = compile_with first second platform
 command_of (first ∷ second ∷ third ∷ other ∷ others) = None
 command_of (word ∷ []) = if bytes_eq word (codes "compile") then Some Compile else None
@@ -71,6 +89,7 @@ source_of (Some (Run show name)) = None
 source_of (Some (Check name)) = None
 source_of (Some (Plan name)) = None
 source_of (Some (Show name)) = None
+source_of (Some (Bulk n)) = None
 source_of None = None
 
 -- the object that a command is about
@@ -82,6 +101,7 @@ object_of (Some (Run show name)) = Some name
 object_of (Some (Check name)) = Some name
 object_of (Some (Plan name)) = Some name
 object_of (Some (Show name)) = Some name
+object_of (Some (Bulk n)) = None
 object_of None = None
 
 -- the platform file that a command compiles for
@@ -93,6 +113,7 @@ platform_file (Some (Run show name)) = None
 platform_file (Some (Check name)) = None
 platform_file (Some (Plan name)) = None
 platform_file (Some (Show name)) = None
+platform_file (Some (Bulk n)) = None
 platform_file None = None
 
 abbrev pub source_in : List (Bor (List ℕ)) → Option (List ℕ)
@@ -113,6 +134,7 @@ RunsObject (Some (Run show name)) = Unit {0}
 RunsObject (Some (Check name)) = ⊥
 RunsObject (Some (Plan name)) = ⊥
 RunsObject (Some (Show name)) = ⊥
+RunsObject (Some (Bulk n)) = ⊥
 RunsObject None = ⊥
 
 -- ---- the input
@@ -126,6 +148,7 @@ most_taken (Some (Run show name)) = MAX_SCRIPT + 4096
 most_taken (Some (Check name)) = 0
 most_taken (Some (Plan name)) = MAX_SCRIPT + 4096
 most_taken (Some (Show name)) = 0
+most_taken (Some (Bulk n)) = 0
 most_taken None = 0
 
 -- ---- the words as they were read
@@ -135,3 +158,11 @@ abbrev pub asked_for : Asked → Command
 asked_for ask.Compile = Compile
 asked_for (ask.CompileWith platform) = CompileWith platform.now
 asked_for (ask.File v name) = with_file v name.now
+asked_for (ask.Bulk n) = Bulk n
+
+-- the modules that are asked for, where they are, are 1 to 64
+abbrev pub AreFewModules : Asked → Type 0
+AreFewModules ask.Compile = Unit {0}
+AreFewModules (ask.CompileWith platform) = Unit {0}
+AreFewModules (ask.File v name) = Unit {0}
+AreFewModules (ask.Bulk n) = (1 ≤ n) × (n ≤ MAX_MODULES)

@@ -2,6 +2,9 @@
 #![tactic(auto)]
 
 mod answer;
+mod bulk;
+#[cfg(test)]
+mod bulk_tests;
 mod check;
 #[cfg(test)]
 mod check_tests;

@@ -2,6 +2,7 @@
 ghost use Rattle.std.specs.Prelude.{◌≡◌, ◌≤◌, ◌<◌, ◌↔◌, ◌⊎◌, ℕ, List, Option, Some, None, Ok, length};
 ghost use Rattle.std.specs.Io.KnownBytes.{append_known};
 ghost use Rattle.htl_base.specs.declared.limits.TheConstants as limit;
+ghost use Rattle.htl_compile.specs.BulkTree.{bulk_bytes};
 ghost use Rattle.htl_compile.specs.Built.{built, AreSchedulable};
 ghost use Rattle.htl_compile.specs.Building.{IsCompileFault};
 ghost use Rattle.htl_compile.specs.OnPlatform.{IsWithFault};
@@ -31,6 +32,7 @@ ghost use Rattle.htl_platform.specs.declared.platform.Platform.{Platform};
 ghost use Rattle.htl_script.specs.Reading.{LosesFront};
 ghost use Rattle.htl_script.specs.declared.fault.ScriptFault.{ScriptFault};
 ghost use Rattle.htl_top.specs.Answers.{files, streams, IsBeforeScript, IsBeforeRun, AreCountsKept, KeepsCounts, Tells};
+ghost use Rattle.htl_top.specs.Bulk.{bulk_text};
 ghost use Rattle.htl_top.specs.Calls.{IsCall, HasSource, HasObject};
 ghost use Rattle.htl_top.specs.Causes.{IsFaultOf, IsLongFile, IsGiven, IsOrMemory};
 ghost use Rattle.htl_top.specs.Checked.{check_text};
@@ -43,15 +45,16 @@ ghost use Rattle.htl_top.specs.Runs.{IsWholeRun, IsFaultyRun, IsCutRun};
 ghost use Rattle.htl_top.specs.Scripts.{IsWhole, IsBad};
 ghost use Rattle.htl_top.specs.SelectionInput.{Whole, Bad, input_of};
 ghost use Rattle.htl_top.specs.Shown.{show_text};
-ghost use Rattle.htl_top.specs.Sources.{IsProgram, IsInputProgram, answer_of};
+ghost use Rattle.htl_top.specs.Sources.{HasTables, IsProgram, IsInputProgram, answer_of};
 ghost use Rattle.htl_top.specs.SourcesOn.{IsProgramOn, answer_on};
 ghost use Rattle.htl_top.specs.Telling.{SpeaksOf, IsLineTold};
-ghost use Rattle.htl_top.specs.Words.{Go, Compile, CompileWith, Run, Check, Plan, Show, asked_for, command_in, source_in, platform_in, object_in, most_taken, with_file, RunsObject};
+ghost use Rattle.htl_top.specs.Words.{Go, Compile, CompileWith, Run, Check, Plan, Show, Bulk, asked_for, command_in, source_in, platform_in, object_in, most_taken, with_file, AreFewModules, RunsObject};
 ghost use Rattle.htl_top.specs.declared.outcome.ShelfCause.{ShelfCause};
 ghost use Rattle.htl_top.specs.declared.outcome.ShelfCause.TheVariants as cause;
 
 use crate::Outcome;
 use crate::answer::Answer;
+use crate::bulk::bulk;
 use crate::check::check_file;
 use crate::compile::{compile_for_file, compile_input};
 use crate::fault_line::report;
@@ -91,6 +94,10 @@ use std::alloc::Global;
 /// With the words `plan OBJ` the object is tested likewise, `input` is read to its end as a line `mode MODULE MODE` for each module, and
 /// the slices and finishes of the jobs at these modes with their worst cases go to `out`, with a last line. The first of these is the
 /// answer: `Shelf`; `Object`; line by line `Read` and `Script`, after which nothing was written; `Write`; `Done`.
+///
+/// With the words `bulk N`, N from 1 to 64 in decimal with no zero before it, a program with N modules is generated, compiled and run for
+/// 100 rounds of 1,000 ticks; its sensor shows the number of the round. What goes to `out` is the value of each communicator at instant
+/// 100,000 and the totals. Nothing is read and no file is named. The first of these is the answer: `Write`; `Done`.
 ///
 /// A command takes no more of the input than a front of at most 1,073,745,920 bytes, or 1,052,672 for both forms of `compile`: the
 /// longest script, or source, and one piece of 4,096 bytes.
@@ -228,6 +235,14 @@ pub fn htl<S: Shelf, R: Source, W: Sink, E: Sink>(
         → IsReadyObject (Some name) (S.holds shelf.old) (S.faults shelf.old) (S.faults shelf.new) o
         → (Rose (W.faults out.old) (W.faults out.new) → ⊥) → IsOrMemory result Outcome.Done }
 
+    // `bulk` writes the last values and the totals of its generated program, and reads nothing.
+    ensures bulked { (n : ℕ) → command_in words.now ≡ Some (Bulk n) → result ≡ Outcome.Done →
+        HasTables (bulk_bytes n) (λ t. W.written out.new ≡ append_known (W.written out.old) (bulk_text t)) }
+    ensures bulk_cut { (n : ℕ) → command_in words.now ≡ Some (Bulk n) → result ≡ Outcome.Write → Rose (W.faults out.old) (W.faults out.new)
+        × HasTables (bulk_bytes n) (λ t. AppendsPrefix (W.written out.old) (W.written out.new) (bulk_text t)) }
+    ensures bulk_unread { (n : ℕ) → command_in words.now ≡ Some (Bulk n) → R.rest input.new ≡ R.rest input.old }
+    ensures bulk_complete { (n : ℕ) → command_in words.now ≡ Some (Bulk n) → (Rose (W.faults out.old) (W.faults out.new) → ⊥) → IsOrMemory result Outcome.Done }
+
     // `plan` reads a selection of running modes to its end, and writes its plan.
     ensures planned { (name : List ℕ) → command_in words.now ≡ Some (Plan name) → result ≡ Outcome.Done →
         IsAcceptedFile (Some name) (S.holds shelf.old) (λ o. IsWholePlan o (R.rest input.old) (R.rest input.new) (W.written out.old) (W.written out.new)) }
@@ -314,6 +329,7 @@ fn answered<S: Shelf, R: Source, W: Sink>(
     input: &mut R,
     out: &mut W,
 ) -> Answer
+    requires { AreFewModules asked }
     ensures answer { IsCall (Some (asked_for asked.entry))
         (files S.holds S.faults shelf.old shelf.new)
         (streams R.rest R.faults W.written W.faults input.old out.old) (streams R.rest R.faults W.written W.faults input.new out.new)
@@ -329,6 +345,7 @@ fn answered<S: Shelf, R: Source, W: Sink>(
         Asked::Compile => compile_input(alloc, input, out),
         Asked::CompileWith { platform } => compile_for_file(alloc, platform, shelf, input, out),
         Asked::File { verb, name } => about_file(alloc, verb, name, shelf, input, out),
+        Asked::Bulk { modules } => Answer::plain(bulk(alloc, modules, out)),
     }
 }
 

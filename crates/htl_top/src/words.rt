@@ -1,7 +1,13 @@
 // The words of a command.
-ghost use Rattle.std.specs.Prelude.{◌≡◌, Option, None, Some, List, ℕ};
+ghost use Rattle.std.specs.Prelude.{◌≡◌, ◌≤◌, Option, None, Some, IfSome, List, ℕ};
+ghost use Rattle.std.specs.Fmt.{decimal};
 ghost use Rattle.std.specs.Option.{option_map};
-ghost use Rattle.htl_top.specs.Words.{verb_of as verb_of_of, command_in, compile_with, asked_for};
+ghost use Rattle.std.specs.Str.{bytes_eq};
+ghost use Rattle.htl_base.specs.declared.limits.TheConstants as limit;
+ghost use Rattle.htl_top.specs.Words.{verb_of as verb_of_of, command_in, compile_with, modules_in, of_two, asked_for, AreFewModules};
+
+use htl_base::limits::MAX_MODULES;
+use itoa::Buffer;
 
 /// What a command does with the file that it names.
 #[derive(Clone, Copy, PartialEq, Eq, Debug)]
@@ -31,6 +37,8 @@ pub enum Asked<'a> {
     CompileWith { platform: &'a str },
     /// A verb and the name of a file.
     File { verb: Verb, name: &'a str },
+    /// Runs the generated program of so many modules, 1 to 64.
+    Bulk { modules: u32 },
 }
 
 // The verb that a word names.
@@ -58,7 +66,8 @@ fn verb_of(word: &str) -> Option<Verb>
 
 // What is asked for by two words and the name of a platform file.
 fn read_compile_with<'a>(first: &str, second: &str, platform: &'a str) -> Option<Asked<'a>>
-    ensures { compile_with first.now second.now platform.now ≡ option_map asked_for result }
+    ensures command { compile_with first.now second.now platform.now ≡ option_map asked_for result }
+    ensures few { IfSome result AreFewModules }
 {
     if first == "compile" {
         if second == "with" {
@@ -71,18 +80,55 @@ fn read_compile_with<'a>(first: &str, second: &str, platform: &'a str) -> Option
     }
 }
 
-/// The command that words ask for; None where they are none: `compile` alone, `compile with` and the name of a platform file, or a
-/// verb and the name of a file.
+// Whether a word is the decimal digits of a number.
+fn is_decimal(word: &str, n: u32) -> bool
+    ensures { result ≡ bytes_eq word.now (decimal n) }
+{
+    let mut buffer = Buffer::new();
+    word == buffer.format(n)
+}
+
+// How many modules a word asks for: its decimal digits are those of a number from 1 to 64.
+fn modules_in(word: &str) -> Option<u32>
+    ensures number { result ≡ modules_in word.now }
+    ensures few { IfSome result (λ n. (1 ≤ n) × (n ≤ limit.MAX_MODULES)) }
+{
+    for k in 0..MAX_MODULES as u32 {
+        if is_decimal(word, k + 1) {
+            return Some(k + 1);
+        }
+    }
+    None
+}
+
+// What is asked for by two words: `bulk` and a number of modules, or a verb and the name of a file.
+fn read_two<'a>(word: &str, other: &'a str) -> Option<Asked<'a>>
+    ensures command { of_two word.now other.now ≡ option_map asked_for result }
+    ensures few { IfSome result AreFewModules }
+{
+    if word == "bulk" {
+        match modules_in(other) {
+            Some(modules) => Some(Asked::Bulk { modules }),
+            None => None,
+        }
+    } else {
+        match verb_of(word) {
+            Some(verb) => Some(Asked::File { verb, name: other }),
+            None => None,
+        }
+    }
+}
+
+/// The command that words ask for; None where they are none: `compile` alone, `compile with` and the name of a platform file, a verb
+/// and the name of a file, or `bulk` and a number of modules from 1 to 64, in decimal with no zero before it.
 pub fn read_words<'a>(words: &[&'a str]) -> Option<Asked<'a>>
-    ensures { command_in words.now ≡ option_map asked_for result }
+    ensures command { command_in words.now ≡ option_map asked_for result }
+    ensures few { IfSome result AreFewModules }
 {
     match words {
         [word] if *word == "compile" => Some(Asked::Compile),
         [first, second, platform] => read_compile_with(first, second, platform),
-        [word, name] => match verb_of(word) {
-            Some(verb) => Some(Asked::File { verb, name }),
-            None => None,
-        },
+        [word, other] => read_two(word, other),
         _ => None,
     }
 }

@@ -1,0 +1,14 @@
+use Rattle.std.proofs.Common.{length}
+use Rattle.htl_edge.proofs.Puts.{Puts-second}
+use Rattle.htl_model.specs.Lines.{lines_text, totals_line}
+use Rattle.htl_model.specs.Lists.{up_to}
+use Rattle.htl_top.specs.Bulk.{value_seen}
+use Rattle.htl_top.proofs.bulk.write_state.Goals as goal
+
+pub returns : goal.returns
+returns g c =
+    let t = c.args.t.now in
+    let m = c.args.machine.now in
+    Puts-second (g.W.Sink.written c.args.out.now) (g.W.Sink.written c.write_values.new.out) (g.W.Sink.written c.write_totals.new.out) (g.W.Sink.faults c.args.out.now)
+    (g.W.Sink.faults c.write_values.new.out) (g.W.Sink.faults c.write_totals.new.out) (lines_text t (up_to (value_seen m) (length t.comms))) (totals_line m.held.reading m.jobs m.e m.s)
+    c.write_totals.result c.in_default.ensures.whole c.in_default.ensures.cause.kept c.write_totals.ensures

@@ -1,0 +1,32 @@
+use Rattle.std.proofs.Common.{Some, refl, sym, subst}
+use Rattle.htl_top.proofs.Bulking.{bulked_of}
+use Rattle.htl_top.proofs.Inputs.{taken_none}
+use Rattle.htl_top.proofs.LineTelling.{SpeaksOf-bulk}
+use Rattle.htl_top.specs.Answers.{files, streams}
+use Rattle.htl_top.specs.Bulk.{IsBulked, IsBulkPut}
+use Rattle.htl_top.specs.Calls.{IsCall, HasSource, HasObject}
+use Rattle.htl_top.specs.Words.{asked_for, most_taken}
+use Rattle.htl_top.specs.declared.outcome.Outcome.{Outcome}
+use Rattle.htl_top.specs.declared.words.Asked.{Asked}
+use Rattle.htl_top.proofs.top.answered.Goals as goal
+
+pub returns-in-Bulk-clause-answer : goal.returns-in-Bulk-clause-answer
+returns-in-Bulk-clause-answer g c =
+    let side = streams g.R.Source.rest g.R.Source.faults g.W.Sink.written g.W.Sink.faults in
+    let old = side c.args.input.now c.args.out.now in
+    let new = side c.args.input.now c.bulk.new.out in
+    let done = subst (IsBulked c.in-Bulk.modules old new) (sym c.plain.ensures.outcome) (bulked_of c.in-Bulk.modules old new c.bulk.result refl c.bulk.ensures.answer) in
+    subst (λ (a : Asked). IsCall (Some (asked_for a)) (files g.S.Shelf.holds g.S.Shelf.faults c.args.shelf.now c.args.shelf.now) old new c.plain.result.outcome) (sym c.in-Bulk.is) done
+
+pub returns-in-Bulk-clause-tables : goal.returns-in-Bulk-clause-tables
+returns-in-Bulk-clause-tables g c =
+    let side = streams g.R.Source.rest g.R.Source.faults g.W.Sink.written g.W.Sink.faults in
+    let old = side c.args.input.now c.args.out.now in
+    let new = side c.args.input.now c.bulk.new.out in
+    let done = subst (IsBulked c.in-Bulk.modules old new) (sym c.plain.ensures.outcome) (bulked_of c.in-Bulk.modules old new c.bulk.result refl c.bulk.ensures.answer) in
+    let command = Some (asked_for c.args.asked) in
+    SpeaksOf-bulk (HasSource command (g.S.Shelf.holds c.args.shelf.now) (g.R.Source.rest c.args.input.now)) (HasObject command (g.S.Shelf.holds c.args.shelf.now)) c.in-Bulk.modules old new
+    c.plain.result.outcome c.plain.result.tables done
+
+pub returns-in-Bulk-clause-taken : goal.returns-in-Bulk-clause-taken
+returns-in-Bulk-clause-taken g c = taken_none (most_taken (Some (asked_for c.args.asked))) (g.R.Source.rest c.args.input.now)
