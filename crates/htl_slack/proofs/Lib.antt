@@ -1,0 +1,5 @@
+pub mod Ranges
+pub mod RootTasks
+pub mod SampleFits
+pub mod Searching
+pub mod WorstAt

@@ -1,0 +1,3 @@
+pub mod RootTasks
+pub mod Samples
+pub mod Slack
