@@ -1,9 +1,12 @@
+pub mod Calls
 pub mod Joining
 pub mod Laws
+pub mod Levels
 pub mod Numbers
 pub mod Object
 pub mod Owners
 pub mod Patched
+pub mod Placed
 pub mod Renumbered
 pub mod Stack
 pub mod Stops
