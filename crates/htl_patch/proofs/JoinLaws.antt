@@ -72,7 +72,7 @@ unit_within t m r less = by (slice_get t.modes m) refl
 
 -- ---- the invocations that stand for others
 
-get_list_to : {A : Type 0} (f : ℕ → A) (n k : ℕ) (d : A) → k < n → get_or (list_to f n) k d ≡ f k
+pub get_list_to : {A : Type 0} (f : ℕ → A) (n k : ℕ) (d : A) → k < n → get_or (list_to f n) k d ≡ f k
 get_list_to f zero k d less = absurd (omega (arith, less))
 get_list_to {A} f (suc n) k d less = by (side k n (omega (arith, less))) (λ l. get_list_to f n k d l)
   where

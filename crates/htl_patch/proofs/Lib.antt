@@ -1,11 +1,15 @@
 pub mod Accepting
 pub mod BothOwners
 pub mod CountLaws
+pub mod Counting
 pub mod Covering
 pub mod Embedded
 pub mod Examples
 pub mod Forest
+pub mod FunctionLists
+pub mod FunctionParts
 pub mod Grafting
+pub mod InRange
 pub mod JoinLaws
 pub mod KidLaws
 pub mod LevelLaws

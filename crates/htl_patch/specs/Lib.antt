@@ -1,4 +1,5 @@
 pub mod Calls
+pub mod Firsts
 pub mod Joining
 pub mod Laws
 pub mod Levels

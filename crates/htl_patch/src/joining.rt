@@ -1,15 +1,18 @@
 // What a donor must keep so that its refinement can be taken over: parents and names.
-ghost use Rattle.std.specs.Prelude.{◌≡◌, ◌<◌, ◌≤◌, ◌+◌, length, ◌&&◌, ltb, Some};
+ghost use Rattle.std.specs.Prelude.{◌≡◌, ◌<◌, ◌≤◌, ◌+◌, length, ◌&&◌, ltb, Some, MatchOption};
 ghost use Rattle.std.specs.Str.{bytes_eq};
 ghost use Rattle.htl_model.specs.Ranges.{IsInvInRange};
 ghost use Rattle.htl_patch.specs.Calls.{calls_for};
 ghost use Rattle.htl_patch.specs.Joining.{is_taken as is_taken_of, is_stray_parent as is_stray_parent_of, is_stray as is_stray_of, first_stray as first_stray_of, is_kept_name as is_kept_name_of, module_name, first_twice as first_twice_of};
 ghost use Rattle.htl_patch.specs.Patched.{order};
 ghost use Rattle.htl_patch.specs.Placed.{ArePlacesOf};
+ghost use Rattle.htl_patch.specs.Stops.{AreMet, IsJoinFault};
 ghost use Rattle.htl_patch.specs.United.{graft, united};
 
+use crate::fault::PatchFault;
+use crate::finding::first_difference;
 use crate::graft::Graft;
-use crate::lists::{invs, modules};
+use crate::lists::{comms, invs, modules};
 use htl_base::Name;
 use htl_model::{Inv, Tables};
 use htl_model::lookup::mode_module;
@@ -133,4 +136,23 @@ pub(crate) fn first_twice(g: &Graft<'_>, taken: &Taken<'_>) -> Option<u16>
         }
     }
     None
+}
+
+/// The first fault of communicators, parents and names.
+pub(crate) fn join_fault(g: &Graft<'_>, taken: &Taken<'_>, calls: &[Option<u16>]) -> Option<PatchFault>
+    requires units { taken.now.units.now ≡ order (graft g.now.host.now g.now.donor.now g.now.into g.now.from) }
+    requires places { ArePlacesOf (length (united (graft g.now.host.now g.now.donor.now g.now.into g.now.from)).modules) (order (graft g.now.host.now g.now.donor.now g.now.into g.now.from)) taken.now.places.now }
+    requires calls { calls.now ≡ calls_for (graft g.now.host.now g.now.donor.now g.now.into g.now.from) }
+    ensures { MatchOption result (AreMet (graft g.now.host.now g.now.donor.now g.now.into g.now.from)) (IsJoinFault (graft g.now.host.now g.now.donor.now g.now.into g.now.from)) }
+{
+    if let Some(place) = first_difference(comms(g.host), comms(g.donor)) {
+        return Some(PatchFault::Comms { place });
+    }
+    if let Some(inv) = first_stray(g, taken, calls) {
+        return Some(PatchFault::Parent { inv });
+    }
+    match first_twice(g, taken) {
+        Some(module) => Some(PatchFault::Twice { module }),
+        None => None,
+    }
 }

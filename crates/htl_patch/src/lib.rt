@@ -5,6 +5,7 @@ mod calls;
 mod fault;
 mod finding;
 mod finishing;
+mod functions;
 mod graft;
 mod joining;
 pub mod laws;
