@@ -20,7 +20,7 @@ use Rattle.htl_patch.proofs.BothOwners.{modes_few, tasks_few, ports_few, invs_fe
 use Rattle.htl_patch.proofs.CountLaws.{few_apart}
 use Rattle.htl_patch.proofs.Grafting.{CanGraft, host_root, kid_there, order_apart}
 use Rattle.htl_patch.proofs.Members.{Has, none, some_eq, of_flat, get_front, places_map}
-use Rattle.htl_patch.proofs.Ranging.{all_from}
+use Rattle.htl_patch.proofs.Counting.{all_from}
 use Rattle.htl_patch.proofs.Renumbering.{mode_there, task_there, port_there, inv_there, switch_there, modes_apart, tasks_apart, ports_apart, invs_apart, switches_apart}
 
 flat_on : {A : Type 0} (f g : ℕ → List A) (xs : List ℕ) → ((x : ℕ) → f x ≡ g x) → flat_map f xs ≡ flat_map g xs

@@ -1,9 +1,13 @@
+pub mod Calls
+pub mod Firsts
 pub mod Joining
 pub mod Laws
+pub mod Levels
 pub mod Numbers
 pub mod Object
 pub mod Owners
 pub mod Patched
+pub mod Placed
 pub mod Renumbered
 pub mod Stack
 pub mod Stops

@@ -31,6 +31,23 @@ IsGraftFault g (fault.Function k) = Joins g × Formed (patched g) × IsFirstUnfi
 IsGraftFault g fault.Mode = ⊥
 IsGraftFault g (fault.Malformed m) = ⊥
 
+-- communicators, parents and names have no fault
+pub record AreMet (g : Graft) : Type 0 where
+  pub comms : g.host.comms ≡ g.donor.comms
+  pub parents : first_stray g ≡ None
+  pub names : first_twice g ≡ None
+
+-- the first fault of them
+abbrev pub IsJoinFault : Graft → PatchFault → Type 0
+IsJoinFault g (fault.Comms place) = IsGraftFault g (fault.Comms place)
+IsJoinFault g (fault.Parent inv) = IsGraftFault g (fault.Parent inv)
+IsJoinFault g (fault.Twice unit) = IsGraftFault g (fault.Twice unit)
+IsJoinFault g (fault.Limit which count) = ⊥
+IsJoinFault g (fault.IllFormed f) = ⊥
+IsJoinFault g (fault.Function k) = ⊥
+IsJoinFault g fault.Mode = ⊥
+IsJoinFault g (fault.Malformed m) = ⊥
+
 -- one of the two has no mode of these names, or both have one and this is the first fault
 abbrev pub IsFaultBy : Option Graft → PatchFault → Type 0
 IsFaultBy None f = f ≡ fault.Mode

@@ -1,16 +1,22 @@
 //! The refinement of one mode replaced by another: the patched program keeps the deadlines of the old one.
 #![tactic(auto)]
 
+mod calls;
 mod fault;
 mod finding;
 mod finishing;
+mod functions;
 mod graft;
+mod joining;
 pub mod laws;
+mod limits;
 mod lists;
+mod mode_items;
 mod numbers;
 mod order;
 mod owned;
 mod owners;
 mod places;
+mod unit_items;
 
 pub use fault::{PatchFault, PatchStop};

@@ -2,7 +2,7 @@
 ghost use Rattle.std.specs.Prelude.{◌≡◌};
 ghost use Rattle.htl_model.specs.Ranges.{AreInRange};
 
-use htl_model::{Inv, Mode, Module, Port, Switch, Tables, Task};
+use htl_model::{Comm, Inv, Mode, Module, Port, Switch, Tables, Task};
 
 pub(crate) fn modules(t: &Tables) -> &[Module]
     ensures value { result.now ≡ t.now.modules }
@@ -44,4 +44,11 @@ pub(crate) fn switches(t: &Tables) -> &[Switch]
     ensures ranges { AreInRange t.now }
 {
     t.parts().switches.as_slice()
+}
+
+pub(crate) fn comms(t: &Tables) -> &[Comm]
+    ensures value { result.now ≡ t.now.comms }
+    ensures ranges { AreInRange t.now }
+{
+    t.parts().comms.as_slice()
 }

@@ -4,13 +4,16 @@ ghost use Rattle.std.specs.List.{flat_map};
 ghost use Rattle.htl_model.specs.Selections.{modes_of, invs_of};
 ghost use Rattle.htl_patch.specs.Patched.{order as order_of, new_numbers};
 ghost use Rattle.htl_patch.specs.Numbers.{numbering_of};
+ghost use Rattle.htl_patch.specs.Placed.{ArePlaces};
 ghost use Rattle.htl_patch.specs.Renumbered.{place_among, ports_of, tasks_of, switches_of};
 ghost use Rattle.htl_patch.specs.United.{graft, united};
 
 use crate::graft::{Graft, mode_count, module_count};
+use crate::lists::{invs, ports, tasks};
 use crate::order::order;
 use crate::owned::owned;
 use crate::owners::{inv_owners, mode_owners, port_owners, switch_owners, task_owners};
+use crate::places::places;
 use std::alloc::{AllocError, Global};
 
 /// The old numbers of the modules that are taken, and of all that they own, in the new order.
@@ -22,6 +25,16 @@ pub(crate) struct OldNumbers {
     pub tasks: Vec<u16>,
     pub invs: Vec<u16>,
     pub switches: Vec<u16>,
+}
+
+/// The new numbers by the old ones; of what isn't taken a number that no item has.
+#[derive(Drop)]
+pub(crate) struct NewNumbers {
+    pub units: Vec<u16>,
+    pub modes: Vec<u16>,
+    pub ports: Vec<u16>,
+    pub tasks: Vec<u16>,
+    pub invs: Vec<u16>,
 }
 
 // The modes of modules, by module.
@@ -95,5 +108,31 @@ pub(crate) fn old_numbers(alloc: Global, g: &Graft<'_>) -> Result<OldNumbers, Al
         tasks,
         invs,
         switches,
+    })
+}
+
+/// The new numbers of what has these old ones. The time is linear in both programs.
+pub(crate) fn renumber(alloc: Global, g: &Graft<'_>, n: &OldNumbers) -> Result<NewNumbers, AllocError>
+    requires into { g.now.into < length g.now.host.now.modes }
+    requires from { g.now.from < length g.now.donor.now.modes }
+    requires numbers { numbering_of n.now ≡ new_numbers (graft g.now.host.now g.now.donor.now g.now.into g.now.from) }
+    ensures { IfOk result (ArePlaces (united (graft g.now.host.now g.now.donor.now g.now.into g.now.from)) (new_numbers (graft g.now.host.now g.now.donor.now g.now.into g.now.from))) }
+{
+    g.host.keeps_ranges();
+    g.donor.keeps_ranges();
+    let units = places(alloc, n.units.as_slice(), module_count(g))?;
+    let modes = places(alloc, n.modes.as_slice(), mode_count(g))?;
+    let count = ports(g.host).len() + ports(g.donor).len();
+    let ports = places(alloc, n.ports.as_slice(), count)?;
+    let count = tasks(g.host).len() + tasks(g.donor).len();
+    let tasks = places(alloc, n.tasks.as_slice(), count)?;
+    let count = invs(g.host).len() + invs(g.donor).len();
+    let invs = places(alloc, n.invs.as_slice(), count)?;
+    Ok(NewNumbers {
+        units,
+        modes,
+        ports,
+        tasks,
+        invs,
     })
 }

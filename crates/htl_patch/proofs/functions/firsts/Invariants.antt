@@ -1,0 +1,8 @@
+use Rattle.std.proofs.Common.{◌≡◌, ◌≤◌, ◌*◌}
+use Rattle.htl_model.specs.Lists.{list_to}
+use Rattle.htl_model.specs.Tables.{count_before}
+use Rattle.htl_patch.specs.Firsts.{first_function}
+use Rattle.htl_patch.proofs.functions.firsts.Given as goal
+
+abbrev pub invariant-loop-k : goal.invariant-loop-k
+invariant-loop-k l = (l.found.items ≡ list_to (first_function l.t) l.k) × (l.sum ≡ count_before l.k l.t.tasks) × (l.sum ≤ 256 * l.k)

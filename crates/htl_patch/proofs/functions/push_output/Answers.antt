@@ -1,0 +1,26 @@
+use Rattle.std.proofs.Common.{◌≡◌, ◌≤◌, ◌<◌, ◌++◌, ◌-◌, ℕ, List, length, length-append, map, ap, subst, sym, ◌∙◌, OnOk, arith}
+use Rattle.std.proofs.lemmas.Bool.Decides.{nat_tests}
+use Rattle.htl_model.specs.Tables.{Fun, fun_of}
+use Rattle.htl_patch.specs.Renumbered.{functions_of}
+use Rattle.htl_patch.specs.United.{graft, united}
+use Rattle.htl_patch.proofs.FunctionParts.{of_front, of_back, back_within}
+use Rattle.htl_patch.proofs.functions.push_output.Goals as goal
+
+pub push_of_task-requires-clause-within : goal.push_of_task-requires-clause-within
+push_of_task-requires-clause-within c = let size = ap length c.tasks-front.ensures.value in grind (arith, nat_tests, c.if-k-front.true, size)
+
+pub returns-then-k-front : goal.returns-then-k-front
+returns-then-k-front c =
+    let g = graft c.args.g.now.host.now c.args.g.now.donor.now c.args.g.now.into c.args.g.now.from in
+    let size = ap length c.tasks-front.ensures.value in
+    subst (λ (xs : List Fun). OnOk c.push_of_task.result (map fun_of c.push_of_task.new.into.items ≡ map fun_of c.args.into.now.items ++ xs))
+    (of_front g c.keeps_ranges.ensures.ranges c.keeps_ranges-2.ensures.ranges c.args.k (grind (arith, nat_tests, c.if-k-front.true, size))) c.push_of_task.ensures
+
+pub returns-else-k-front : goal.returns-else-k-front
+returns-else-k-front c =
+    let g = graft c.args.g.now.host.now c.args.g.now.donor.now c.args.g.now.into c.args.g.now.from in
+    let size = ap length c.tasks-front.ensures.value in
+    let most : length g.host.tasks ≤ c.args.k = grind (arith, nat_tests, c.if-k-front.false, size) in
+    let place = ap (λ (n : ℕ). functions_of g.donor (c.args.k - n)) size in
+    subst (λ (xs : List Fun). OnOk c.push_of_task-else-k-front.result (map fun_of c.push_of_task-else-k-front.new.into.items ≡ map fun_of c.args.into.now.items ++ xs))
+    (place ∙ of_back g c.keeps_ranges.ensures.ranges c.keeps_ranges-2.ensures.ranges c.args.k most c.requires.within) c.push_of_task-else-k-front.ensures

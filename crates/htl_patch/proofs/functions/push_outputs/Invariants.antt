@@ -1,0 +1,11 @@
+use Rattle.std.proofs.Common.{◌≡◌, ◌++◌, map, take}
+use Rattle.std.specs.List.{flat_map}
+use Rattle.htl_model.specs.Tables.{fun_of}
+use Rattle.htl_patch.specs.Renumbered.{functions_of}
+use Rattle.htl_patch.specs.United.{graft, united}
+use Rattle.htl_patch.proofs.functions.push_outputs.Given as goal
+
+abbrev pub invariant-loop-k : goal.invariant-loop-k
+invariant-loop-k l =
+    let g = graft l.g.host.now l.g.donor.now l.g.into l.g.from in
+    map fun_of l.into.items ≡ map fun_of l.initial.into.items ++ flat_map (functions_of (united g)) (take l.k l.keys)

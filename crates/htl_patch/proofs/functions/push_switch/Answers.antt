@@ -1,0 +1,26 @@
+use Rattle.std.proofs.Common.{◌≡◌, ◌≤◌, ◌<◌, ◌++◌, ◌-◌, ◌∷◌, [], ℕ, List, length, map, ap, subst, ◌∙◌, OnOk, arith}
+use Rattle.std.proofs.lemmas.Bool.Decides.{nat_tests}
+use Rattle.htl_model.specs.Tables.{Fun, fun_of}
+use Rattle.htl_patch.specs.Renumbered.{function_of_switch}
+use Rattle.htl_patch.specs.United.{graft}
+use Rattle.htl_patch.proofs.FunctionParts.{switch_front, switch_back, switch_within}
+use Rattle.htl_patch.proofs.functions.push_switch.Goals as goal
+
+pub push_of_switch-requires-clause-within : goal.push_of_switch-requires-clause-within
+push_of_switch-requires-clause-within c = let size = ap length c.switches-front.ensures.value in grind (arith, nat_tests, c.if-k-front.true, size)
+
+pub returns-then-k-front : goal.returns-then-k-front
+returns-then-k-front c =
+    let g = graft c.args.g.now.host.now c.args.g.now.donor.now c.args.g.now.into c.args.g.now.from in
+    let size = ap length c.switches-front.ensures.value in
+    subst (λ (f : Fun). OnOk c.push_of_switch.result (map fun_of c.push_of_switch.new.into.items ≡ map fun_of c.args.into.now.items ++ f ∷ []))
+    (switch_front g c.keeps_ranges.ensures.ranges c.keeps_ranges-2.ensures.ranges c.args.k (grind (arith, nat_tests, c.if-k-front.true, size))) c.push_of_switch.ensures
+
+pub returns-else-k-front : goal.returns-else-k-front
+returns-else-k-front c =
+    let g = graft c.args.g.now.host.now c.args.g.now.donor.now c.args.g.now.into c.args.g.now.from in
+    let size = ap length c.switches-front.ensures.value in
+    let most : length g.host.switches ≤ c.args.k = grind (arith, nat_tests, c.if-k-front.false, size) in
+    let place = ap (λ (n : ℕ). function_of_switch g.donor (c.args.k - n)) size in
+    subst (λ (f : Fun). OnOk c.push_of_switch-else-k-front.result (map fun_of c.push_of_switch-else-k-front.new.into.items ≡ map fun_of c.args.into.now.items ++ f ∷ []))
+    (place ∙ switch_back g c.keeps_ranges.ensures.ranges c.keeps_ranges-2.ensures.ranges c.args.k most) c.push_of_switch-else-k-front.ensures

@@ -1,0 +1,10 @@
+use Rattle.std.proofs.Common.{◌≡◌, drop}
+use Rattle.htl_model.specs.Lists.{places_from}
+use Rattle.htl_patch.specs.Joining.{first, is_stray, first_stray}
+use Rattle.htl_patch.specs.United.{graft}
+use Rattle.htl_patch.proofs.joining.first_stray.Given as goal
+
+abbrev pub invariant-loop-k : goal.invariant-loop-k
+invariant-loop-k l =
+    let g = graft l.g.host.now l.g.donor.now l.g.into l.g.from in
+    first (places_from (is_stray g) l.k (drop l.k l.all)) ≡ first_stray g

@@ -1,0 +1,9 @@
+use Rattle.std.proofs.Common.{◌≡◌, ◌≤◌}
+use Rattle.htl_model.specs.Lists.{list_to}
+use Rattle.htl_model.specs.Tables.{greatest}
+use Rattle.htl_patch.specs.Joining.{level}
+use Rattle.htl_patch.specs.Levels.{upright}
+use Rattle.htl_patch.proofs.limits.levels.Given as goal
+
+abbrev pub invariant-loop-unit : goal.invariant-loop-unit
+invariant-loop-unit l = (l.most ≤ 17) × (l.most ≡ greatest 0 (list_to (level l.steps (upright l.modules l.modes)) l.unit))

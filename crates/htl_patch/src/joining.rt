@@ -1,0 +1,158 @@
+// What a donor must keep so that its refinement can be taken over: parents and names.
+ghost use Rattle.std.specs.Prelude.{◌≡◌, ◌<◌, ◌≤◌, ◌+◌, length, ◌&&◌, ltb, Some, MatchOption};
+ghost use Rattle.std.specs.Str.{bytes_eq};
+ghost use Rattle.htl_model.specs.Ranges.{IsInvInRange};
+ghost use Rattle.htl_patch.specs.Calls.{calls_for};
+ghost use Rattle.htl_patch.specs.Joining.{is_taken as is_taken_of, is_stray_parent as is_stray_parent_of, is_stray as is_stray_of, first_stray as first_stray_of, is_kept_name as is_kept_name_of, module_name, first_twice as first_twice_of};
+ghost use Rattle.htl_patch.specs.Patched.{order};
+ghost use Rattle.htl_patch.specs.Placed.{ArePlacesOf};
+ghost use Rattle.htl_patch.specs.Stops.{AreMet, IsJoinFault};
+ghost use Rattle.htl_patch.specs.United.{graft, united};
+
+use crate::fault::PatchFault;
+use crate::finding::first_difference;
+use crate::graft::Graft;
+use crate::lists::{comms, invs, modules};
+use htl_base::Name;
+use htl_model::{Inv, Tables};
+use htl_model::lookup::mode_module;
+
+/// The modules that are taken in the new order, and the place of each module among them.
+#[derive(Clone, Copy)]
+pub(crate) struct Taken<'a> {
+    pub units: &'a [u16],
+    pub places: &'a [u16],
+}
+
+// Whether a module of the donor is taken over.
+fn is_taken(g: &Graft<'_>, taken: &Taken<'_>, unit: usize) -> bool
+    requires units { taken.now.units.now ≡ order (graft g.now.host.now g.now.donor.now g.now.into g.now.from) }
+    requires places { ArePlacesOf (length (united (graft g.now.host.now g.now.donor.now g.now.into g.now.from)).modules) (order (graft g.now.host.now g.now.donor.now g.now.into g.now.from)) taken.now.places.now }
+    requires unit { unit < length g.now.donor.now.modules }
+    ensures { result ≡ is_taken_of (graft g.now.host.now g.now.donor.now g.now.into g.now.from) unit }
+{
+    let place = taken.places[modules(g.host).len() + unit] as usize;
+    place < taken.units.len()
+}
+
+// Whether a parent in the donor isn't taken over, and none of the host's mode stands for it.
+fn is_stray_parent(g: &Graft<'_>, taken: &Taken<'_>, calls: &[Option<u16>], p: usize) -> bool
+    requires units { taken.now.units.now ≡ order (graft g.now.host.now g.now.donor.now g.now.into g.now.from) }
+    requires places { ArePlacesOf (length (united (graft g.now.host.now g.now.donor.now g.now.into g.now.from)).modules) (order (graft g.now.host.now g.now.donor.now g.now.into g.now.from)) taken.now.places.now }
+    requires calls { calls.now ≡ calls_for (graft g.now.host.now g.now.donor.now g.now.into g.now.from) }
+    requires p { p < length g.now.donor.now.invs }
+    ensures { result ≡ is_stray_parent_of (graft g.now.host.now g.now.donor.now g.now.into g.now.from) (Some p) }
+{
+    let unit = mode_module(g.donor, invs(g.donor)[p].mode) as usize;
+    match calls[p] {
+        Some(_) => false,
+        None => !is_taken(g, taken, unit),
+    }
+}
+
+// Whether an invocation of the donor is taken over, and its parent strays.
+fn is_stray(g: &Graft<'_>, taken: &Taken<'_>, calls: &[Option<u16>], x: &Inv) -> bool
+    requires units { taken.now.units.now ≡ order (graft g.now.host.now g.now.donor.now g.now.into g.now.from) }
+    requires places { ArePlacesOf (length (united (graft g.now.host.now g.now.donor.now g.now.into g.now.from)).modules) (order (graft g.now.host.now g.now.donor.now g.now.into g.now.from)) taken.now.places.now }
+    requires calls { calls.now ≡ calls_for (graft g.now.host.now g.now.donor.now g.now.into g.now.from) }
+    requires range { IsInvInRange g.now.donor.now x.now }
+    ensures { result ≡ is_stray_of (graft g.now.host.now g.now.donor.now g.now.into g.now.from) x.now }
+{
+    g.donor.keeps_ranges();
+    let unit = mode_module(g.donor, x.mode) as usize;
+    match x.parent {
+        Some(p) => is_taken(g, taken, unit) && is_stray_parent(g, taken, calls, p as usize),
+        None => false,
+    }
+}
+
+/// The first invocation of the donor that is taken over, and whose parent neither is nor has one of the host's mode that stands for it.
+pub(crate) fn first_stray(g: &Graft<'_>, taken: &Taken<'_>, calls: &[Option<u16>]) -> Option<u16>
+    requires units { taken.now.units.now ≡ order (graft g.now.host.now g.now.donor.now g.now.into g.now.from) }
+    requires places { ArePlacesOf (length (united (graft g.now.host.now g.now.donor.now g.now.into g.now.from)).modules) (order (graft g.now.host.now g.now.donor.now g.now.into g.now.from)) taken.now.places.now }
+    requires calls { calls.now ≡ calls_for (graft g.now.host.now g.now.donor.now g.now.into g.now.from) }
+    ensures { result ≡ first_stray_of (graft g.now.host.now g.now.donor.now g.now.into g.now.from) }
+{
+    let all = invs(g.donor);
+    for k in 0..all.len() {
+        if is_stray(g, taken, calls, &all[k]) {
+            return Some(k as u16);
+        }
+    }
+    None
+}
+
+// Whether a module has the name.
+fn has_name(t: &Tables, unit: usize, name: &Name) -> bool
+    requires { unit < length t.now.modules }
+    ensures { result ≡ bytes_eq (module_name t.now unit) name.now }
+{
+    modules(t)[unit].name.as_bytes() == name.as_bytes()
+}
+
+// Whether a module of both is one of the host's, and has the name.
+fn has_host_name(g: &Graft<'_>, unit: u16, name: &Name) -> bool
+    ensures { result ≡ (ltb unit (length g.now.host.now.modules) && bytes_eq (module_name g.now.host.now unit) name.now) }
+{
+    if (unit as usize) < modules(g.host).len() {
+        has_name(g.host, unit as usize, name)
+    } else {
+        false
+    }
+}
+
+// Whether a module of the host that stays has the name.
+fn is_kept_name(g: &Graft<'_>, units: &[u16], name: &Name) -> bool
+    requires { units.now ≡ order (graft g.now.host.now g.now.donor.now g.now.into g.now.from) }
+    ensures { result ≡ is_kept_name_of (graft g.now.host.now g.now.donor.now g.now.into g.now.from) name.now }
+{
+    units.iter().any(|unit| has_host_name(g, *unit, name))
+}
+
+// Whether a module of the donor is taken over, and has the name of one of the host's that stays.
+fn is_twice(g: &Graft<'_>, taken: &Taken<'_>, unit: usize) -> bool
+    requires units { taken.now.units.now ≡ order (graft g.now.host.now g.now.donor.now g.now.into g.now.from) }
+    requires places { ArePlacesOf (length (united (graft g.now.host.now g.now.donor.now g.now.into g.now.from)).modules) (order (graft g.now.host.now g.now.donor.now g.now.into g.now.from)) taken.now.places.now }
+    requires unit { unit < length g.now.donor.now.modules }
+    ensures { result ≡ (is_taken_of (graft g.now.host.now g.now.donor.now g.now.into g.now.from) unit && is_kept_name_of (graft g.now.host.now g.now.donor.now g.now.into g.now.from) (module_name g.now.donor.now unit)) }
+{
+    if is_taken(g, taken, unit) {
+        is_kept_name(g, taken.units, &modules(g.donor)[unit].name)
+    } else {
+        false
+    }
+}
+
+/// The first module of the donor that is taken over, and has the name of one of the host's that stays.
+pub(crate) fn first_twice(g: &Graft<'_>, taken: &Taken<'_>) -> Option<u16>
+    requires units { taken.now.units.now ≡ order (graft g.now.host.now g.now.donor.now g.now.into g.now.from) }
+    requires places { ArePlacesOf (length (united (graft g.now.host.now g.now.donor.now g.now.into g.now.from)).modules) (order (graft g.now.host.now g.now.donor.now g.now.into g.now.from)) taken.now.places.now }
+    ensures { result ≡ first_twice_of (graft g.now.host.now g.now.donor.now g.now.into g.now.from) }
+{
+    let all = modules(g.donor);
+    for k in 0..all.len() {
+        if is_twice(g, taken, k) {
+            return Some(k as u16);
+        }
+    }
+    None
+}
+
+/// The first fault of communicators, parents and names.
+pub(crate) fn join_fault(g: &Graft<'_>, taken: &Taken<'_>, calls: &[Option<u16>]) -> Option<PatchFault>
+    requires units { taken.now.units.now ≡ order (graft g.now.host.now g.now.donor.now g.now.into g.now.from) }
+    requires places { ArePlacesOf (length (united (graft g.now.host.now g.now.donor.now g.now.into g.now.from)).modules) (order (graft g.now.host.now g.now.donor.now g.now.into g.now.from)) taken.now.places.now }
+    requires calls { calls.now ≡ calls_for (graft g.now.host.now g.now.donor.now g.now.into g.now.from) }
+    ensures { MatchOption result (AreMet (graft g.now.host.now g.now.donor.now g.now.into g.now.from)) (IsJoinFault (graft g.now.host.now g.now.donor.now g.now.into g.now.from)) }
+{
+    if let Some(place) = first_difference(comms(g.host), comms(g.donor)) {
+        return Some(PatchFault::Comms { place });
+    }
+    if let Some(inv) = first_stray(g, taken, calls) {
+        return Some(PatchFault::Parent { inv });
+    }
+    match first_twice(g, taken) {
+        Some(module) => Some(PatchFault::Twice { module }),
+        None => None,
+    }
+}
