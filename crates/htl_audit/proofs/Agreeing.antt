@@ -1,0 +1,178 @@
+-- Rounds that agree before an instant judge the lines that end by it alike.
+use Rattle.std.proofs.Common.{◌≡◌, ℕ, suc, ◌+◌, ◌-◌, ◌≤◌, ◌<◌, ◌⊎◌, inl, inr, Bool, true, false, cond, not, ◌&&◌, ◌||◌, eqb, leb, ltb, List, [], ◌∷◌, ◌++◌, Some, refl, sym, ◌∙◌, ap, ap₂, subst, arith}
+use Rattle.std.specs.Prelude.{slice_get}
+use Rattle.std.specs.List.{list_all}
+use Rattle.std.proofs.lemmas.Bool.Decides.{nat_tests}
+use Rattle.htl_model.specs.Lists.{numbered}
+use Rattle.htl_walk.specs.declared.job.Job.{Job}
+use Rattle.htl_walk.specs.Jobs.{precedes}
+use Rattle.htl_audit.specs.declared.slice.Slice.{Slice}
+use Rattle.htl_audit.specs.declared.slice.LogKind.TheVariants as kind
+use Rattle.htl_audit.specs.Jobs.{Round}
+use Rattle.htl_audit.specs.Legal.{lies_in, ticks, length_at, is_done, is_free, is_over, is_short, any_job, any_short, last_end, is_out_of_order, line_fault}
+use Rattle.htl_audit.specs.Agreeing.{Matches, Agree, AreEarly}
+use Rattle.htl_audit.proofs.Tests.{same_truth, both, all_at_0, all_pass_0, job_found, job_there}
+use Rattle.htl_audit.proofs.Judging.{lies, rest}
+
+-- ticks depend on a round by its start alone
+lies_start : (r s : Round) (j : Job) (x : Slice) → r.start ≡ s.start → lies_in r j x ≡ lies_in s j x
+lies_start r s j x e = ap (λ n. j.present && eqb x.inv j.inv && leb (n + j.release) x.from && leb x.to (n + j.end)) e
+
+ticks_start : (r s : Round) (j : Job) (log : List Slice) → r.start ≡ s.start → ticks r j log ≡ ticks s j log
+ticks_start r s j [] e = refl
+ticks_start r s j (x ∷ xs) e = ap₂ (λ b n. cond b (x.to - x.from) 0 + n) (lies_start r s j x e) (ticks_start r s j xs e)
+
+-- a job that is released at `now` or later has no ticks before
+no_ticks : (now : ℕ) (r : Round) (j : Job) (log : List Slice) → AreEarly now log → now ≤ r.start + j.release → ticks r j log ≡ 0
+no_ticks now r j [] early h = refl
+no_ticks now r j (x ∷ xs) early h =
+    let rest : ticks r j xs ≡ 0 = no_ticks now r j xs (λ i y at. early (suc i) y at) h in
+    ap₂ (λ b n. cond b (x.to - x.from) 0 + n) (out (lies_in r j x) refl) rest
+  where
+    out : (b : Bool) → lies_in r j x ≡ b → lies_in r j x ≡ false
+    out false e = e
+    out true e = absurd (omega (arith, (lies r j x e).from, early 0 x refl, h))
+
+order : (a b : ℕ) → (a < b) ⊎ (b ≤ a)
+order a b = grind arith
+
+module _ (now : ℕ) (log : List Slice) (early : AreEarly now log) where
+  -- whether a job's slices add up
+  done_alike : (r s : Round) (p : ℕ) (j : Job) → Matches now r s → slice_get r.jobs p ≡ Some j → j.present ≡ true → is_done r log (p, j) ≡ is_done s log (p, j)
+  done_alike r s p j m at here = elim (order (r.start + j.release) now) [
+    | inl h ↦ ap₂ (λ a b. eqb a b) (ticks_start r s j log m.start) (m.lengths p j at here h)
+    | inr h ↦
+        let a : ticks r j log ≡ 0 = no_ticks now r j log early h in
+        let b : ticks s j log ≡ 0 = sym (ticks_start r s j log m.start) ∙ a in
+        let c = m.some p j at here in
+        ap (λ z. eqb z (length_at r p)) a ∙ zero_not (length_at r p) c.0 ∙ sym (ap (λ z. eqb z (length_at s p)) b ∙ zero_not (length_at s p) c.1)
+  ]
+    where
+      zero_not : (n : ℕ) → 1 ≤ n → eqb 0 n ≡ false
+      zero_not n h = grind (arith, nat_tests)
+
+  free_alike : (r s : Round) (j : Job) → Matches now r s → is_free r log j ≡ is_free s log j
+  free_alike r s j m =
+      subst (λ js. is_free r log j ≡ list_all (λ (k : ℕ × Job). not (precedes k.0 j && k.1.present) || is_done s log k) (numbered 0 js)) m.jobs
+      (same_truth _ _
+      (λ e. all_pass_0 (λ (k : ℕ × Job). not (precedes k.0 j && k.1.present) || is_done s log k) r.jobs (λ q h at. to (precedes q j) h.present (is_done r log (q, h)) (is_done s log (q, h)) (done_alike r s q h m at)
+      (all_at_0 (λ (k : ℕ × Job). not (precedes k.0 j && k.1.present) || is_done r log k) r.jobs e q h at)))
+      (λ e. all_pass_0 (λ (k : ℕ × Job). not (precedes k.0 j && k.1.present) || is_done r log k) r.jobs (λ q h at. to (precedes q j) h.present (is_done s log (q, h)) (is_done r log (q, h)) (λ z. sym (done_alike r s q h m at z))
+      (all_at_0 (λ (k : ℕ × Job). not (precedes k.0 j && k.1.present) || is_done s log k) r.jobs e q h at))))
+    where
+      to : (a b c d : Bool) → (b ≡ true → c ≡ d) → (not (a && b) || c) ≡ true → (not (a && b) || d) ≡ true
+      to true true c d f e = sym (f refl) ∙ e
+      to true false c d f e = refl
+      to false b c d f e = refl
+
+  module _ (rounds later : List Round) (agree : Agree now rounds later) (x : Slice) (soon : x.from < now) where
+    any_same : (test other : Round → ℕ × Job → Bool) → ((r s : Round) (p : ℕ) (j : Job) → Matches now r s → slice_get r.jobs p ≡ Some j → test r (p, j) ≡ other s (p, j))
+        → ((s : Round) (p : ℕ) (j : Job) → other s (p, j) ≡ true → lies_in s j x ≡ true) → any_job test rounds ≡ any_job other later
+    any_same test other matched lying = same_truth _ _ there back
+      where
+        there : any_job test rounds ≡ true → any_job other later ≡ true
+        there e =
+            let f = job_found test rounds e in
+            let m = agree.there f.is.number f.round f.is.at in
+            job_there other later m.round f.position f.job (record { number = m.number; at = m.at; job = ap (λ js. slice_get js f.position) (sym m.same.jobs) ∙ f.is.job })
+            (sym (matched f.round m.round f.position f.job m.same f.is.job) ∙ f.passes)
+
+        back : any_job other later ≡ true → any_job test rounds ≡ true
+        back e =
+            let f = job_found other later e in
+            elim (agree.back f.is.number f.round f.is.at) [
+              | inl m ↦
+                  let at : slice_get m.round.jobs f.position ≡ Some f.job = ap (λ js. slice_get js f.position) m.same.jobs ∙ f.is.job in
+                  job_there test rounds m.round f.position f.job (record { number = m.number; at = m.at; job = at }) (matched m.round f.round f.position f.job m.same at ∙ f.passes)
+              | inr h ↦ absurd (omega (arith, h, (lies f.round f.job x (lying f.round f.position f.job f.passes)).from, soon))
+            ]
+
+    -- a test of the jobs in whose windows the slice lies
+    with_test : (test other : Round → ℕ × Job → Bool) → ((r s : Round) (p : ℕ) (j : Job) → Matches now r s → slice_get r.jobs p ≡ Some j → lies_in r j x ≡ true → test r (p, j) ≡ other s (p, j))
+        → any_job (λ r j. lies_in r j.1 x && test r j) rounds ≡ any_job (λ r j. lies_in r j.1 x && other r j) later
+    with_test test other same =
+        any_same (λ r j. lies_in r j.1 x && test r j) (λ r j. lies_in r j.1 x && other r j)
+        (λ r s p j m at. by (lies_in r j x) (lies_in s j x) (test r (p, j)) (other s (p, j)) (lies_start r s j x m.start) (same r s p j m at))
+        (λ s p j e. (both (lies_in s j x) (other s (p, j)) e).0)
+      where
+        by : (a b c d : Bool) → a ≡ b → (a ≡ true → c ≡ d) → (a && c) ≡ (b && d)
+        by true b c d e f = ap₂ (λ u v. u && v) e (f refl)
+        by false b c d e f = ap (λ u. u && d) e
+
+    over_alike : any_job (λ r j. lies_in r j.1 x && is_over r (log ++ x ∷ []) j) rounds ≡ any_job (λ r j. lies_in r j.1 x && is_over r (log ++ x ∷ []) j) later
+    over_alike =
+        with_test (λ r j. is_over r (log ++ x ∷ []) j) (λ r j. is_over r (log ++ x ∷ []) j)
+        (λ r s p j m at e. let l = lies r j x e in ap₂ (λ a b. ltb a b) (m.lengths p j at l.present (omega (arith, l.from, soon))) (ticks_start r s j (log ++ x ∷ []) m.start))
+
+    rest_alike : rest (any_job (λ r j. lies_in r j.1 x) rounds) (any_job (λ r j. lies_in r j.1 x && is_over r (log ++ x ∷ []) j) rounds) (any_job (λ r j. lies_in r j.1 x && not (is_free r log j.1)) rounds)
+        ≡ rest (any_job (λ r j. lies_in r j.1 x) later) (any_job (λ r j. lies_in r j.1 x && is_over r (log ++ x ∷ []) j) later) (any_job (λ r j. lies_in r j.1 x && not (is_free r log j.1)) later)
+    rest_alike =
+        ap₂ (λ a b. rest a b (any_job (λ r j. lies_in r j.1 x && not (is_free r log j.1)) rounds))
+        (any_same (λ r j. lies_in r j.1 x) (λ r j. lies_in r j.1 x) (λ r s p j m at. lies_start r s j x m.start) (λ s p j e. e)) over_alike
+        ∙ ap (λ c. rest (any_job (λ r j. lies_in r j.1 x) later) (any_job (λ r j. lies_in r j.1 x && is_over r (log ++ x ∷ []) j) later) c)
+        (with_test (λ r j. not (is_free r log j.1)) (λ r j. not (is_free r log j.1)) (λ r s p j m at e. ap not (free_alike r s j m)))
+
+  -- a line that ends by `now`, and before the instant at which it is judged, is judged alike, also at a later instant
+  pub fault_alike : (rounds later : List Round) (first then : ℕ) (x : Slice) → Agree now rounds later → first ≤ then → x.to ≤ now → x.to < first → line_fault rounds first log x ≡ line_fault later then log x
+  fault_alike rounds later first then x agree h by_now soon = by (leb x.to x.from) refl
+    where
+      large : (a b : ℕ) → b < a → leb a b ≡ false
+      large a b h = grind (arith, nat_tests)
+
+      less : (a b : ℕ) → leb a b ≡ false → b < a
+      less a b e = grind (arith, nat_tests)
+
+      sorted : is_out_of_order first log x ≡ is_out_of_order then log x
+      sorted = ap (λ b. leb x.to x.from || ltb x.from (last_end log) || b) (large first x.to soon ∙ sym (large then x.to (omega (arith, h, soon))))
+
+      by : (b : Bool) → leb x.to x.from ≡ b → line_fault rounds first log x ≡ line_fault later then log x
+      by false e = ap₂ (λ p q. cond p (Some kind.Order) q) sorted (rest_alike rounds later agree x (omega (arith, less x.to x.from e, by_now)))
+      by true e =
+          let a : is_out_of_order first log x ≡ true = ap (λ z. z || ltb x.from (last_end log) || leb first x.to) e in
+          let b : is_out_of_order then log x ≡ true = sym sorted ∙ a in
+          let one : line_fault rounds first log x ≡ Some kind.Order =
+          ap (λ z. cond z (Some kind.Order) (rest (any_job (λ r j. lies_in r j.1 x) rounds) (any_job (λ r j. lies_in r j.1 x && is_over r (log ++ x ∷ []) j) rounds) (any_job (λ r j. lies_in r j.1 x && not (is_free r log j.1)) rounds))) a in
+          let two : line_fault later then log x ≡ Some kind.Order =
+          ap (λ z. cond z (Some kind.Order) (rest (any_job (λ r j. lies_in r j.1 x) later) (any_job (λ r j. lies_in r j.1 x && is_over r (log ++ x ∷ []) j) later) (any_job (λ r j. lies_in r j.1 x && not (is_free r log j.1)) later))) b in
+          one ∙ sym two
+
+  -- and so is whether a job fell short whose window ended before
+  pub short_alike : (rounds later : List Round) → Agree now rounds later → any_short rounds now log ≡ any_short later now log
+  short_alike rounds later agree = same_truth _ _ there back
+    where
+      small : (a b : ℕ) → ltb a b ≡ true → a < b
+      small a b e = grind (arith, nat_tests)
+
+      same : (r s : Round) (p : ℕ) (j : Job) → Matches now r s → slice_get r.jobs p ≡ Some j → is_short now r log (p, j) ≡ is_short now s log (p, j)
+      same r s p j m at = by (j.present) (ltb (r.start + j.end) now) refl refl
+        where
+          by : (a b : Bool) → j.present ≡ a → ltb (r.start + j.end) now ≡ b → is_short now r log (p, j) ≡ is_short now s log (p, j)
+          by false b e f =
+              ap (λ z. z && ltb (r.start + j.end) now && ltb (ticks r j log) (length_at r p)) e
+              ∙ sym (ap (λ z. z && ltb (s.start + j.end) now && ltb (ticks s j log) (length_at s p)) e)
+          by true false e f =
+              let g : ltb (s.start + j.end) now ≡ false = ap (λ n. ltb (n + j.end) now) (sym m.start) ∙ f in
+              ap₂ (λ y z. y && z && ltb (ticks r j log) (length_at r p)) e f ∙ sym (ap₂ (λ y z. y && z && ltb (ticks s j log) (length_at s p)) e g)
+          by true true e f =
+              ap₂ (λ n w. j.present && ltb (n + j.end) now && w) m.start
+              (ap₂ (λ a b. ltb a b) (ticks_start r s j log m.start) (m.lengths p j at e (omega (arith, m.window p j at e, small (r.start + j.end) now f))))
+
+      there : any_short rounds now log ≡ true → any_short later now log ≡ true
+      there e =
+          let f = job_found (λ r j. is_short now r log j) rounds e in
+          let m = agree.there f.is.number f.round f.is.at in
+          job_there (λ r j. is_short now r log j) later m.round f.position f.job (record { number = m.number; at = m.at; job = ap (λ js. slice_get js f.position) (sym m.same.jobs) ∙ f.is.job })
+          (sym (same f.round m.round f.position f.job m.same f.is.job) ∙ f.passes)
+
+      back : any_short later now log ≡ true → any_short rounds now log ≡ true
+      back e =
+          let f = job_found (λ r j. is_short now r log j) later e in
+          elim (agree.back f.is.number f.round f.is.at) [
+            | inl m ↦
+                let at : slice_get m.round.jobs f.position ≡ Some f.job = ap (λ js. slice_get js f.position) m.same.jobs ∙ f.is.job in
+                job_there (λ r j. is_short now r log j) rounds m.round f.position f.job (record { number = m.number; at = m.at; job = at }) (same m.round f.round f.position f.job m.same at ∙ f.passes)
+            | inr h ↦
+                let two = both (f.job.present && ltb (f.round.start + f.job.end) now) (ltb (ticks f.round f.job log) (length_at f.round f.position)) f.passes in
+                let one = both f.job.present (ltb (f.round.start + f.job.end) now) two.0 in
+                absurd (omega (arith, h, small (f.round.start + f.job.end) now one.1))
+          ]

@@ -1,0 +1,228 @@
+-- The auditor judges the next line by what it keeps as the definition does by all lines before.
+use Rattle.std.proofs.Common.{◌≡◌, ℕ, zero, suc, ◌+◌, ◌-◌, ◌≤◌, ◌<◌, inl, inr, Bool, true, false, cond, not, ◌&&◌, ◌||◌, eqb, leb, ltb, List, [], ◌∷◌, ◌++◌, Option, Some, None, refl, sym, ◌∙◌, ap, ap₂, subst, arith}
+use Rattle.std.specs.Prelude.{slice_get}
+use Rattle.std.proofs.lemmas.Bool.{eqb-true, leb-true}
+use Rattle.std.proofs.lemmas.Bool.Decides.{nat_tests}
+use Rattle.htl_form.proofs.PartLaws.{none_some}
+use Rattle.htl_model.specs.declared.parts.Inv.{Inv}
+use Rattle.htl_model.specs.PortOrder.{feeds, feeds_at}
+use Rattle.htl_model.specs.Tables.{Tables}
+use Rattle.htl_walk.specs.declared.job.Job.{Job}
+use Rattle.htl_walk.specs.Jobs.{precedes}
+use Rattle.htl_audit.specs.declared.slice.Slice.{Slice}
+use Rattle.htl_audit.specs.declared.slice.LogKind.{LogKind}
+use Rattle.htl_audit.specs.declared.slice.LogKind.TheVariants as kind
+use Rattle.htl_audit.specs.Jobs.{Round}
+use Rattle.htl_audit.specs.Legal as rules
+use Rattle.htl_audit.specs.Legal.{lies_in, ticks, is_done, is_free, is_over, any_job, last_end, is_out_of_order, line_fault}
+use Rattle.htl_audit.specs.Keeping.{Roster, Kept, has_job, sum_at, length_at, start_at, release_at, end_at, is_inside, is_full, is_clear_of, is_free_from, is_free_at, ticks_of, kind_of}
+use Rattle.htl_audit.specs.Rosters.{IsIn, IsCurrent, AreKept, AreSummed}
+use Rattle.htl_audit.proofs.Tests.{same_truth, both, neither, and_true, all_at_0, all_pass_0, IsJobOf, job_found, job_there}
+
+-- ---- one job and one slice
+
+-- what a slice in a window says
+pub record Lies (r : Round) (j : Job) (x : Slice) : Type 0 where
+  pub present : j.present ≡ true
+  pub inv : x.inv ≡ j.inv
+  pub from : r.start + j.release ≤ x.from
+  pub to : x.to ≤ r.start + j.end
+
+pub lies : (r : Round) (j : Job) (x : Slice) → lies_in r j x ≡ true → Lies r j x
+lies r j x e =
+    let a = both (j.present && eqb x.inv j.inv && leb (r.start + j.release) x.from) (leb x.to (r.start + j.end)) e in
+    let b = both (j.present && eqb x.inv j.inv) (leb (r.start + j.release) x.from) a.0 in
+    let c = both j.present (eqb x.inv j.inv) b.0 in
+    record { present = c.0; inv = eqb-true x.inv j.inv c.1; from = leb-true (r.start + j.release) x.from b.1; to = leb-true x.to (r.start + j.end) a.1 }
+
+-- the first broken rule behind that of order
+abbrev pub rest : Bool → Bool → Bool → Option LogKind
+rest a b c = cond (not a) (Some kind.Outside) (cond b (Some kind.Over) (cond c (Some kind.Before) None))
+
+-- what a job waits for, by positions
+abbrev waits_for : Round → List Slice → Job → ℕ × Job → Bool
+waits_for r log j h = not (precedes h.0 j && h.1.present) || is_done r log h
+
+-- the test of the invocations, as a test of each
+free_pass : (t : Tables) (o : Roster) (sums : List ℕ) (i n : ℕ) (xs : List Inv) → ((d : ℕ) (y : Inv) → slice_get xs d ≡ Some y → is_clear_of t o sums i (n + d) ≡ true) → is_free_from t o sums i n xs ≡ true
+free_pass t o sums i n [] h = refl
+free_pass t o sums i n (x ∷ xs) h =
+    and_true (is_clear_of t o sums i n) (is_free_from t o sums i (suc n) xs) (subst (λ z. is_clear_of t o sums i z ≡ true) (let z : n + 0 ≡ n = omega arith in z) (h 0 x refl))
+    (free_pass t o sums i (suc n) xs (λ d y at. subst (λ z. is_clear_of t o sums i z ≡ true) (let z : n + suc d ≡ suc n + d = omega arith in z) (h (suc d) y at)))
+
+free_all : (t : Tables) (o : Roster) (sums : List ℕ) (i n : ℕ) (xs : List Inv) → is_free_from t o sums i n xs ≡ true → (d : ℕ) (y : Inv) → slice_get xs d ≡ Some y → is_clear_of t o sums i (n + d) ≡ true
+free_all t o sums i n [] e d y at = absurd (none_some y at)
+free_all t o sums i n (x ∷ xs) e zero y at =
+    subst (λ z. is_clear_of t o sums i z ≡ true) (let z : n ≡ n + 0 = omega arith in z) (both (is_clear_of t o sums i n) (is_free_from t o sums i (suc n) xs) e).0
+free_all t o sums i n (x ∷ xs) e (suc d) y at =
+    subst (λ z. is_clear_of t o sums i z ≡ true) (let z : suc n + d ≡ n + suc d = omega arith in z) (free_all t o sums i (suc n) xs (both (is_clear_of t o sums i n) (is_free_from t o sums i (suc n) xs) e).1 d y at)
+
+free_at : (t : Tables) (o : Roster) (sums : List ℕ) (i : ℕ) (xs : List Inv) → is_free_from t o sums i 0 xs ≡ true → (d : ℕ) (y : Inv) → slice_get xs d ≡ Some y → is_clear_of t o sums i d ≡ true
+free_at t o sums i xs e d y at = subst (λ z. is_clear_of t o sums i z ≡ true) (let z : 0 + d ≡ d = omega arith in z) (free_all t o sums i 0 xs e d y at)
+
+implied : (a b : Bool) → (a ≡ true → b ≡ true) → (not a || b) ≡ true
+implied true b f = f refl
+implied false b f = refl
+
+applied : (a b : Bool) → (not a || b) ≡ true → a ≡ true → b ≡ true
+applied true b e f = e
+applied false b e f = absurd (let z : ⊥ = cc in z)
+
+-- the ticks with one slice more
+pub ticks_more : (r : Round) (j : Job) (log : List Slice) (x : Slice) → ticks r j (log ++ x ∷ []) ≡ ticks r j log + cond (lies_in r j x) (x.to - x.from) 0
+ticks_more r j [] x = omega arith
+ticks_more r j (y ∷ ys) x = omega (arith, ticks_more r j ys x)
+
+module _ (t : Tables) (rounds : List Round) (o : Roster) (kept : AreKept t rounds o) (x : Slice) (later : start_at o x.inv < x.to) where
+  -- a job in whose window the slice lies is current
+  pub lies_current : (r : Round) (p : ℕ) (j : Job) → IsJobOf rounds r p j → lies_in r j x ≡ true → IsIn rounds r p j × IsCurrent t o r p j
+  lies_current r p j is e =
+      let l = lies r j x e in
+      let i : IsIn rounds r p j = record { number = is.number; at = is.at; job = is.job; present = l.present } in
+      elim (kept.only r p j i) [
+        | inl c ↦ (i, c)
+        | inr past ↦ absurd (omega (arith, past, l.to, later, ap (start_at o) l.inv))
+      ]
+
+  -- the slice lies in the window of a current job exactly where it does in that of its invocation
+  pub lies_inside : (r : Round) (p : ℕ) (j : Job) → IsIn rounds r p j → IsCurrent t o r p j → x.inv ≡ j.inv → lies_in r j x ≡ is_inside t o x
+  lies_inside r p j i c e =
+      let a : (j.present && eqb x.inv j.inv) ≡ has_job o x.inv =
+      and_true j.present (eqb x.inv j.inv) i.present (same_number x.inv j.inv e) ∙ sym (ap (has_job o) e ∙ c.stands) in
+      let b : leb (r.start + j.release) x.from ≡ leb (start_at o x.inv + release_at t x.inv) x.from =
+      ap₂ (λ m n. leb (m + n) x.from) (c.start ∙ ap (start_at o) (sym e)) (c.release ∙ ap (release_at t) (sym e)) in
+      let d : leb x.to (r.start + j.end) ≡ leb x.to (start_at o x.inv + end_at t x.inv) =
+      ap₂ (λ m n. leb x.to (m + n)) (c.start ∙ ap (start_at o) (sym e)) (c.end ∙ ap (end_at t) (sym e)) in
+      ap₂ (λ m n. m && n) (ap₂ (λ m n. m && n) a b) d
+    where
+      same_number : (a b : ℕ) → a ≡ b → eqb a b ≡ true
+      same_number a b e = grind (arith, nat_tests)
+
+  inside_is : any_job (λ r j. lies_in r j.1 x) rounds ≡ is_inside t o x
+  inside_is = same_truth _ _ there back
+    where
+      there : any_job (λ r j. lies_in r j.1 x) rounds ≡ true → is_inside t o x ≡ true
+      there e =
+          let f = job_found (λ r j. lies_in r j.1 x) rounds e in
+          let c = lies_current f.round f.position f.job f.is f.passes in
+          sym (lies_inside f.round f.position f.job c.0 c.1 (lies f.round f.job x f.passes).inv) ∙ f.passes
+
+      back : is_inside t o x ≡ true → any_job (λ r j. lies_in r j.1 x) rounds ≡ true
+      back e =
+          let s = (both (has_job o x.inv) (leb (start_at o x.inv + release_at t x.inv) x.from) (both (has_job o x.inv && leb (start_at o x.inv + release_at t x.inv) x.from) (leb x.to (start_at o x.inv + end_at t x.inv)) e).0).0 in
+          let h = kept.has x.inv s in
+          job_there (λ r j. lies_in r j.1 x) rounds h.round h.position h.job (record { number = h.is.number; at = h.is.at; job = h.is.job })
+          (lies_inside h.round h.position h.job h.is h.current (sym h.inv) ∙ e)
+
+  -- where it lies in a window, a test of the jobs in whose windows it lies is a test of the invocation's job
+  tested : (test : Round → ℕ × Job → Bool) (b : Bool) → is_inside t o x ≡ true → ((r : Round) (p : ℕ) (j : Job) → IsIn rounds r p j → IsCurrent t o r p j → x.inv ≡ j.inv → test r (p, j) ≡ b)
+      → any_job (λ r j. lies_in r j.1 x && test r j) rounds ≡ b
+  tested test b e same = same_truth _ _ there back
+    where
+      there : any_job (λ r j. lies_in r j.1 x && test r j) rounds ≡ true → b ≡ true
+      there g =
+          let f = job_found (λ r j. lies_in r j.1 x && test r j) rounds g in
+          let two = both (lies_in f.round f.job x) (test f.round (f.position, f.job)) f.passes in
+          let c = lies_current f.round f.position f.job f.is two.0 in
+          sym (same f.round f.position f.job c.0 c.1 (lies f.round f.job x two.0).inv) ∙ two.1
+
+      back : b ≡ true → any_job (λ r j. lies_in r j.1 x && test r j) rounds ≡ true
+      back g =
+          let s = (both (has_job o x.inv) (leb (start_at o x.inv + release_at t x.inv) x.from) (both (has_job o x.inv && leb (start_at o x.inv + release_at t x.inv) x.from) (leb x.to (start_at o x.inv + end_at t x.inv)) e).0).0 in
+          let h = kept.has x.inv s in
+          job_there (λ r j. lies_in r j.1 x && test r j) rounds h.round h.position h.job (record { number = h.is.number; at = h.is.at; job = h.is.job })
+          (and_true (lies_in h.round h.job x) (test h.round (h.position, h.job)) (lies_inside h.round h.position h.job h.is h.current (sym h.inv) ∙ e)
+          (same h.round h.position h.job h.is h.current (sym h.inv) ∙ g))
+
+  module _ (log : List Slice) (sums : List ℕ) (ticked : (r : Round) (p : ℕ) (j : Job) → IsIn rounds r p j → IsCurrent t o r p j → ticks r j log ≡ sum_at sums j.inv) where
+    over_is : is_inside t o x ≡ true → any_job (λ r j. lies_in r j.1 x && is_over r (log ++ x ∷ []) j) rounds ≡ ltb (length_at o x.inv) (sum_at sums x.inv + ticks_of x)
+    over_is e = tested (λ r j. is_over r (log ++ x ∷ []) j) (ltb (length_at o x.inv) (sum_at sums x.inv + ticks_of x)) e same
+      where
+        same : (r : Round) (p : ℕ) (j : Job) → IsIn rounds r p j → IsCurrent t o r p j → x.inv ≡ j.inv → ltb (rules.length_at r p) (ticks r j (log ++ x ∷ [])) ≡ ltb (length_at o x.inv) (sum_at sums x.inv + ticks_of x)
+        same r p j i c g =
+            ap₂ (λ m n. ltb m n) (c.length ∙ ap (length_at o) (sym g))
+            (ticks_more r j log x ∙ ap₂ (λ m b. m + cond b (x.to - x.from) 0) (ticked r p j i c ∙ ap (sum_at sums) (sym g)) (lies_inside r p j i c g ∙ e))
+
+    -- a job's slices add up to what it takes, by the rounds and by what is kept
+    full_is : (r : Round) (p : ℕ) (j : Job) → IsIn rounds r p j → IsCurrent t o r p j → is_done r log (p, j) ≡ is_full o sums j.inv
+    full_is r p j i c = ap₂ (λ m n. eqb m n) (ticked r p j i c) c.length
+
+    free_is : (r : Round) (p : ℕ) (j : Job) → IsIn rounds r p j → IsCurrent t o r p j → is_free r log j ≡ is_free_at t o sums j.inv
+    free_is r p j i c = same_truth _ _ there back
+      where
+        there : is_free r log j ≡ true → is_free_at t o sums j.inv ≡ true
+        there e = free_pass t o sums j.inv 0 t.invs (λ n y at. implied (has_job o (0 + n) && feeds t (0 + n) j.inv) (is_full o sums (0 + n)) (λ g. one (0 + n) (both (has_job o (0 + n)) (feeds t (0 + n) j.inv) g)))
+          where
+            one : (n : ℕ) → (has_job o n ≡ true) × (feeds t n j.inv ≡ true) → is_full o sums n ≡ true
+            one n two =
+                let m = kept.mates r p j n i c two.0 two.1 in
+                let h = m.1 in
+                let d = kept.together r p m.0 j h i m.3 c in
+                let pre : precedes m.0 j ≡ true = kept.before r p m.0 j h i m.3 ∙ ap (λ z. feeds t z j.inv) m.2 ∙ two.1 in
+                let done : is_done r log (m.0, h) ≡ true = applied (precedes m.0 j && h.present) (is_done r log (m.0, h)) (all_at_0 (waits_for r log j) r.jobs e m.0 h m.3.job) (and_true (precedes m.0 j) h.present pre m.3.present) in
+                ap (is_full o sums) (sym m.2) ∙ sym (full_is r m.0 h m.3 d) ∙ done
+
+        back : is_free_at t o sums j.inv ≡ true → is_free r log j ≡ true
+        back e = all_pass_0 (waits_for r log j) r.jobs (λ q h at. implied (precedes q j && h.present) (is_done r log (q, h)) (λ g. one q h at (both (precedes q j) h.present g)))
+          where
+            full : (n : ℕ) → has_job o n ≡ true → feeds t n j.inv ≡ true → is_full o sums n ≡ true
+            full n s f = by (slice_get t.invs n) refl
+              where
+                by : (y : Option Inv) → slice_get t.invs n ≡ y → is_full o sums n ≡ true
+                by (Some y) at = applied (has_job o n && feeds t n j.inv) (is_full o sums n) (free_at t o sums j.inv t.invs e n y at) (and_true (has_job o n) (feeds t n j.inv) s f)
+                by None at = absurd (let z : false ≡ true = sym (ap (λ (y : Option Inv). feeds_at y (slice_get t.invs j.inv)) at) ∙ f in cc)
+
+            one : (q : ℕ) (h : Job) → slice_get r.jobs q ≡ Some h → (precedes q j ≡ true) × (h.present ≡ true) → is_done r log (q, h) ≡ true
+            one q h at two =
+                let m : IsIn rounds r q h = record { number = i.number; at = i.at; job = at; present = two.1 } in
+                let d = kept.together r p q j h i m c in
+                let fed : feeds t h.inv j.inv ≡ true = sym (kept.before r p q j h i m) ∙ two.0 in
+                full_is r q h m d ∙ full h.inv d.stands fed
+
+    before_is : is_inside t o x ≡ true → any_job (λ r j. lies_in r j.1 x && not (is_free r log j.1)) rounds ≡ not (is_free_at t o sums x.inv)
+    before_is e = tested (λ r j. not (is_free r log j.1)) (not (is_free_at t o sums x.inv)) e (λ r p j i c g. ap not (free_is r p j i c ∙ ap (is_free_at t o sums) (sym g)))
+
+    rest_is : rest (any_job (λ r j. lies_in r j.1 x) rounds) (any_job (λ r j. lies_in r j.1 x && is_over r (log ++ x ∷ []) j) rounds) (any_job (λ r j. lies_in r j.1 x && not (is_free r log j.1)) rounds)
+        ≡ rest (is_inside t o x) (ltb (length_at o x.inv) (sum_at sums x.inv + ticks_of x)) (not (is_free_at t o sums x.inv))
+    rest_is = by_inside (is_inside t o x) refl
+      where
+        by_inside : (a : Bool) → is_inside t o x ≡ a
+            → rest (any_job (λ r j. lies_in r j.1 x) rounds) (any_job (λ r j. lies_in r j.1 x && is_over r (log ++ x ∷ []) j) rounds) (any_job (λ r j. lies_in r j.1 x && not (is_free r log j.1)) rounds)
+            ≡ rest (is_inside t o x) (ltb (length_at o x.inv) (sum_at sums x.inv + ticks_of x)) (not (is_free_at t o sums x.inv))
+        by_inside true e =
+            ap (λ a. rest a (any_job (λ r j. lies_in r j.1 x && is_over r (log ++ x ∷ []) j) rounds) (any_job (λ r j. lies_in r j.1 x && not (is_free r log j.1)) rounds)) inside_is
+            ∙ ap₂ (λ b c. rest (is_inside t o x) b c) (over_is e) (before_is e)
+        by_inside false e =
+            let over = any_job (λ r j. lies_in r j.1 x && is_over r (log ++ x ∷ []) j) rounds in
+            let early = any_job (λ r j. lies_in r j.1 x && not (is_free r log j.1)) rounds in
+            ap (λ a. rest a over early) (inside_is ∙ e) ∙ sym (ap (λ a. rest a (ltb (length_at o x.inv) (sum_at sums x.inv + ticks_of x)) (not (is_free_at t o sums x.inv))) e)
+
+-- the line breaks the same rule, if any
+pub kind_is : (t : Tables) (rounds : List Round) (now : ℕ) (log : List Slice) (k : Kept) (x : Slice) → AreSummed t rounds log k → (x.from < x.to → k.end ≤ x.from → start_at k.roster x.inv < x.to)
+    → line_fault rounds now log x ≡ kind_of t now k x
+kind_is t rounds now log k x s later = by (is_out_of_order now log x) refl
+  where
+    sorted : is_out_of_order now log x ≡ (leb x.to x.from || ltb x.from k.end || leb now x.to)
+    sorted = ap (λ z. leb x.to x.from || ltb x.from z || leb now x.to) (sym s.end)
+
+    broken : is_out_of_order now log x ≡ true → line_fault rounds now log x ≡ Some kind.Order
+    broken g =
+        ap (λ z. cond z (Some kind.Order) (rest (any_job (λ r j. lies_in r j.1 x) rounds) (any_job (λ r j. lies_in r j.1 x && is_over r (log ++ x ∷ []) j) rounds) (any_job (λ r j. lies_in r j.1 x && not (is_free r log j.1)) rounds))) g
+
+    broken_too : (leb x.to x.from || ltb x.from k.end || leb now x.to) ≡ true → kind_of t now k x ≡ Some kind.Order
+    broken_too g =
+        ap (λ z. cond z (Some kind.Order) (rest (is_inside t k.roster x) (ltb (length_at k.roster x.inv) (sum_at k.sums x.inv + ticks_of x)) (not (is_free_at t k.roster k.sums x.inv)))) g
+
+    lt : (a b : ℕ) → leb a b ≡ false → b < a
+    lt a b e = grind (arith, nat_tests)
+
+    le : (a b : ℕ) → ltb a b ≡ false → b ≤ a
+    le a b e = grind (arith, nat_tests)
+
+    by : (b : Bool) → is_out_of_order now log x ≡ b → line_fault rounds now log x ≡ kind_of t now k x
+    by true e = broken e ∙ sym (broken_too (sym sorted ∙ e))
+    by false e =
+        let two = neither (leb x.to x.from || ltb x.from (last_end log)) (leb now x.to) e in
+        let ends = neither (leb x.to x.from) (ltb x.from (last_end log)) two.0 in
+        ap₂ (λ p q. cond p (Some kind.Order) q) sorted
+        (rest_is t rounds k.roster s.kept x (later (lt x.to x.from ends.0) (le x.from k.end (ap (ltb x.from) s.end ∙ ends.1))) log k.sums s.sums)

@@ -1,0 +1,79 @@
+-- The lines of a log, one by one.
+use Rattle.std.proofs.Common.{◌≡◌, ◌+◌, ◌≤◌, ℕ, suc, true, false, List, [], ◌∷◌, ◌++◌, length, take, drop, Some, None, Result, Ok, Err, refl, sym, ap, ◌∙◌, subst, arith}
+use Rattle.std.specs.List.{slice_split, position_from, position_or_len}
+use Rattle.std.proofs.lemmas.List.{append_assoc, append-nil}
+use Rattle.std.proofs.lemmas.List.Quantifiers.{position-Some}
+use Rattle.std.proofs.lemmas.List.Sums.{position_or_len_is}
+use Rattle.std.proofs.lemmas.List.Splits.{slice_split_first, length-slice_split}
+use Rattle.std.proofs.lemmas.Iterator.Adapters.{position_from-zero}
+use Rattle.htl_model.specs.Tables.{Tables}
+use Rattle.htl_script.specs.Lines.{ScriptLine, is_line_feed, lines_of_parts, lines_of}
+use Rattle.htl_script.specs.Statements.{is_space, fields_of}
+use Rattle.htl_script.proofs.Places.{none_found}
+use Rattle.htl_script.proofs.Splitting.{lines_of-last}
+use Rattle.htl_audit.specs.declared.slice.Slice.{Slice}
+use Rattle.htl_audit.specs.declared.slice.LogKind.{LogKind}
+use Rattle.htl_audit.specs.declared.slice.LogKind.TheVariants as kind
+use Rattle.htl_audit.specs.Logs.{Log, Read, Refused, in_front, line_of_fields, line_of, log_of_lines, behind, IsFirstLine}
+
+-- five fields or more
+pub many_fields : (t : Tables) (text a b name word from to more last : List ℕ) → fields_of text ≡ word ∷ fields_of a → fields_of a ≡ from ∷ fields_of b → fields_of b ≡ to ∷ fields_of name → fields_of name ≡ more ∷ fields_of last
+    → line_of t text ≡ Err kind.Form
+many_fields t text a b name word from to more last first second third fourth =
+    let all : fields_of text ≡ word ∷ from ∷ to ∷ more ∷ fields_of last =
+    first ∙ ap (λ (fs : List (List ℕ)). word ∷ fs) (second ∙ ap (λ (fs : List (List ℕ)). from ∷ fs) (third ∙ ap (λ (fs : List (List ℕ)). to ∷ fs) fourth)) in
+    ap (line_of_fields t) all ∙ five (fields_of last) (omega (arith, length-slice_split is_space last))
+  where
+    five : (fields : List (List ℕ)) → 1 ≤ length fields → line_of_fields t (word ∷ from ∷ to ∷ more ∷ fields) ≡ Err kind.Form
+    five [] some = absurd (omega (arith, some))
+    five (field ∷ fields) some = refl
+
+-- ---- the first line
+
+pub fed_line : (bytes : List ℕ) (i : ℕ) → position_from is_line_feed 0 bytes ≡ Some i → lines_of bytes ≡ record { text = take i bytes; fed = true } ∷ lines_of (drop (i + 1) bytes)
+fed_line bytes i e =
+    let found = position-Some is_line_feed bytes i 0 (position_from-zero is_line_feed bytes ∙ e) in
+    let at : position_or_len is_line_feed bytes ≡ i = position_or_len_is is_line_feed bytes i 0 (omega (arith, found.0)) found.2 (λ below. found.1) in
+    let parts : slice_split is_line_feed bytes ≡ take i bytes ∷ slice_split is_line_feed (drop (i + 1) bytes) =
+    subst (λ (n : ℕ). slice_split is_line_feed bytes ≡ take n bytes ∷ slice_split is_line_feed (drop (n + 1) bytes)) at (slice_split_first is_line_feed bytes 0 (omega (arith, found.0))) in
+    ap lines_of_parts parts ∙ two (slice_split is_line_feed (drop (i + 1) bytes)) (omega (arith, length-slice_split is_line_feed (drop (i + 1) bytes)))
+  where
+    two : (ps : List (List ℕ)) → 1 ≤ length ps → lines_of_parts (take i bytes ∷ ps) ≡ record { text = take i bytes; fed = true } ∷ lines_of_parts ps
+    two [] some = absurd (omega (arith, some))
+    two (p ∷ ps) some = refl
+
+pub last_line : (bytes : List ℕ) → position_from is_line_feed 0 bytes ≡ None → 1 ≤ length bytes → lines_of bytes ≡ record { text = bytes; fed = false } ∷ []
+last_line bytes e some = lines_of-last bytes (none_found is_line_feed bytes e) some
+
+pub is_fed : (bytes rest : List ℕ) (i : ℕ) → position_from is_line_feed 0 bytes ≡ Some i → rest ≡ drop (i + 1) bytes → IsFirstLine bytes (take i bytes) rest
+is_fed bytes rest i e same = record { fed = true; lines = fed_line bytes i e ∙ ap (λ z. record { text = take i bytes; fed = true } ∷ lines_of z) (sym same) }
+
+pub is_last : (bytes rest : List ℕ) → position_from is_line_feed 0 bytes ≡ None → 1 ≤ length bytes → length rest ≡ 0 → IsFirstLine bytes bytes rest
+is_last bytes [] e some none = record { fed = false; lines = last_line bytes e some }
+is_last bytes (b ∷ rest) e some none = absurd (omega (arith, none))
+
+-- ---- reading on
+
+behind_more : (xs : List Slice) (x : Slice) (l : Log) → behind xs (in_front x l) ≡ behind (xs ++ x ∷ []) l
+behind_more xs x (Read ys) = ap Read (sym (append_assoc xs (x ∷ []) ys))
+behind_more xs x (Refused n k) = refl
+
+abbrev judged_line : Tables → ℕ → List ScriptLine → Result Slice LogKind → Log
+judged_line t n xs r = elim r [ Ok s ↦ in_front s (log_of_lines t (suc n) xs) | Err k ↦ Refused n k ]
+
+first_is : (t : Tables) (n : ℕ) (left text rest : List ℕ) (r : Result Slice LogKind) → IsFirstLine left text rest → r ≡ line_of t text → log_of_lines t n (lines_of left) ≡ judged_line t n (lines_of rest) r
+first_is t n left text rest r f e = ap (log_of_lines t n) f.lines ∙ ap (judged_line t n (lines_of rest)) (sym e)
+
+pub read_end : (t : Tables) (n : ℕ) (xs : List Slice) (left : List ℕ) (whole : Log) → length left ≡ 0 → whole ≡ behind xs (log_of_lines t n (lines_of left)) → whole ≡ Read xs
+read_end t n xs [] whole none e = e ∙ ap Read (append-nil xs)
+read_end t n xs (b ∷ left) whole none e = absurd (omega (arith, none))
+
+pub read_refused : (t : Tables) (n : ℕ) (xs : List Slice) (left text rest : List ℕ) (k : LogKind) (whole : Log) → IsFirstLine left text rest → Err k ≡ line_of t text
+    → whole ≡ behind xs (log_of_lines t n (lines_of left)) → whole ≡ Refused n k
+read_refused t n xs left text rest k whole f e w = w ∙ ap (behind xs) (first_is t n left text rest (Err k) f e)
+
+pub read_step : (t : Tables) (n : ℕ) (xs : List Slice) (left text rest : List ℕ) (s : Slice) (whole : Log) → IsFirstLine left text rest → Ok s ≡ line_of t text
+    → whole ≡ behind xs (log_of_lines t n (lines_of left)) → whole ≡ behind (xs ++ s ∷ []) (log_of_lines t (n + 1) (lines_of rest))
+read_step t n xs left text rest s whole f e w =
+    w ∙ ap (behind xs) (first_is t n left text rest (Ok s) f e) ∙ behind_more xs s (log_of_lines t (suc n) (lines_of rest))
+    ∙ ap (λ m. behind (xs ++ s ∷ []) (log_of_lines t m (lines_of rest))) (let z : suc n ≡ n + 1 = omega arith in z)

@@ -1,0 +1,81 @@
+-- One step of the loops over invocations and lines.
+use Rattle.std.proofs.Common.{◌≡◌, ℕ, zero, suc, ◌+◌, ◌≤◌, ◌<◌, Bool, true, false, cond, ◌&&◌, ltb, List, [], ◌∷◌, length, drop, get_or, Option, Some, None, is_some, refl, sym, ◌∙◌, ap, arith}
+use Rattle.std.proofs.lemmas.Bool.Decides.{nat_tests}
+use Rattle.htl_model.specs.declared.parts.Inv.{Inv}
+use Rattle.htl_model.specs.Tables.{Tables}
+use Rattle.htl_audit.specs.declared.slice.Slice.{Slice}
+use Rattle.htl_audit.specs.declared.slice.LogFault.{LogFault}
+use Rattle.htl_audit.specs.declared.slice.LogKind.{LogKind}
+use Rattle.htl_audit.specs.Keeping.{Roster, Kept, is_clear_of, is_free_from, kind_of, with_kind, judged, judged_to}
+
+drop_suc : {A : Type 0} (d : A) (xs : List A) (n : ℕ) → n < length xs → drop n xs ≡ get_or xs n d ∷ drop (suc n) xs
+drop_suc d [] n h = absurd (omega arith)
+drop_suc d (x ∷ xs) zero h = refl
+drop_suc d (x ∷ xs) (suc n) h = drop_suc d xs n (omega (arith, h))
+
+drop_at : {A : Type 0} (d : A) (xs : List A) (n : ℕ) → n < length xs → drop n xs ≡ get_or xs n d ∷ drop (n + 1) xs
+drop_at d xs n h = drop_suc d xs n h ∙ ap (λ m. get_or xs n d ∷ drop m xs) (let z : suc n ≡ n + 1 = omega arith in z)
+
+next_free : (t : Tables) (o : Roster) (sums : List ℕ) (i n : ℕ) (xs : List Inv) → n < length xs → is_free_from t o sums i n (drop n xs) ≡ (is_clear_of t o sums i n && is_free_from t o sums i (n + 1) (drop (n + 1) xs))
+next_free t o sums i n [] h = absurd (omega arith)
+next_free t o sums i n (x ∷ xs) h =
+    ap (is_free_from t o sums i n) (drop_at x (x ∷ xs) n h) ∙ ap (λ m. is_clear_of t o sums i n && is_free_from t o sums i m (drop (n + 1) (x ∷ xs))) (let z : suc n ≡ n + 1 = omega arith in z)
+
+pub free_stop : (t : Tables) (o : Roster) (sums : List ℕ) (i n : ℕ) (xs : List Inv) (whole : Bool) → n < length xs → is_clear_of t o sums i n ≡ false → is_free_from t o sums i n (drop n xs) ≡ whole → false ≡ whole
+free_stop t o sums i n xs whole h off e = sym (ap (λ b. b && is_free_from t o sums i (n + 1) (drop (n + 1) xs)) off) ∙ sym (next_free t o sums i n xs h) ∙ e
+
+pub free_go : (t : Tables) (o : Roster) (sums : List ℕ) (i n : ℕ) (xs : List Inv) (whole : Bool) → n < length xs → is_clear_of t o sums i n ≡ true → is_free_from t o sums i n (drop n xs) ≡ whole
+    → is_free_from t o sums i (n + 1) (drop (n + 1) xs) ≡ whole
+free_go t o sums i n xs whole h on e = sym (ap (λ b. b && is_free_from t o sums i (n + 1) (drop (n + 1) xs)) on) ∙ sym (next_free t o sums i n xs h) ∙ e
+
+-- ---- lines
+
+-- behind a fault nothing is judged
+pub judged_stopped : (t : Tables) (now : ℕ) (xs : List Slice) (k : Kept) → is_some k.fault ≡ true → judged_to t now xs k ≡ k
+judged_stopped t now [] k e = refl
+judged_stopped t now (x ∷ xs) k e = by k.fault e
+  where
+    by : (o : Option LogFault) → is_some o ≡ true → elim o as (λ _. Kept) [ Some g ↦ k | None ↦ cond (ltb x.to now) (judged_to t now xs (judged t now x k)) k ] ≡ k
+    by (Some f) e = refl
+    by None e = absurd (let z : ⊥ = cc in z)
+
+-- nor where the next line doesn't end before the instant
+pub judged_late : (t : Tables) (now n : ℕ) (d : Slice) (log : List Slice) (k : Kept) → n < length log → now ≤ (get_or log n d).to → judged_to t now (drop n log) k ≡ k
+judged_late t now n d log k h late = ap (λ xs. judged_to t now xs k) (drop_at d log n h) ∙ by k.fault
+  where
+    x : Slice
+    x = get_or log n d
+
+    large : (a b : ℕ) → b ≤ a → ltb a b ≡ false
+    large a b h = grind (arith, nat_tests)
+
+    by : (o : Option LogFault) → elim o as (λ _. Kept) [ Some g ↦ k | None ↦ cond (ltb (get_or log n d).to now) (judged_to t now (drop (n + 1) log) (judged t now (get_or log n d) k)) k ] ≡ k
+    by (Some f) = refl
+    by None = ap (λ b. cond b (judged_to t now (drop (n + 1) log) (judged t now (get_or log n d) k)) k) (large (get_or log n d).to now late)
+
+pub judged_next : (t : Tables) (now n : ℕ) (d : Slice) (log : List Slice) (k : Kept) → n < length log → is_some k.fault ≡ false → (get_or log n d).to < now
+    → judged_to t now (drop n log) k ≡ judged_to t now (drop (n + 1) log) (judged t now (get_or log n d) k)
+judged_next t now n d log k h fresh early = ap (λ xs. judged_to t now xs k) (drop_at d log n h) ∙ by k.fault fresh
+  where
+    small : (a b : ℕ) → a < b → ltb a b ≡ true
+    small a b h = grind (arith, nat_tests)
+
+    by : (o : Option LogFault) → is_some o ≡ false
+        → elim o as (λ _. Kept) [ Some g ↦ k | None ↦ cond (ltb (get_or log n d).to now) (judged_to t now (drop (n + 1) log) (judged t now (get_or log n d) k)) k ] ≡ judged_to t now (drop (n + 1) log) (judged t now (get_or log n d) k)
+    by (Some f) e = absurd (let z : ⊥ = cc in z)
+    by None e = ap (λ b. cond b (judged_to t now (drop (n + 1) log) (judged t now (get_or log n d) k)) k) (small (get_or log n d).to now early)
+
+-- judging a line leaves the roster, and passes one line at most
+pub judged_roster : (t : Tables) (now : ℕ) (x : Slice) (k : Kept) → (judged t now x k).roster ≡ k.roster
+judged_roster t now x k = by (kind_of t now k x)
+  where
+    by : (o : Option LogKind) → (with_kind x o k).roster ≡ k.roster
+    by (Some c) = refl
+    by None = refl
+
+pub judged_place : (t : Tables) (now : ℕ) (x : Slice) (k : Kept) → (judged t now x k).place ≤ k.place + 1
+judged_place t now x k = by (kind_of t now k x)
+  where
+    by : (o : Option LogKind) → (with_kind x o k).place ≤ k.place + 1
+    by (Some c) = omega arith
+    by None = omega arith
