@@ -1,5 +1,5 @@
 -- Functions in memory are code where those of the tables are.
-use Rattle.std.proofs.Common.{ℕ, zero, suc, ◌<◌, List, [], ◌∷◌, length, map, All, arith}
+use Rattle.std.proofs.Common.{zero, suc, List, [], ◌∷◌, map, All, arith}
 use Rattle.htl_model.specs.declared.function.Function.{Function}
 use Rattle.htl_model.specs.FunctionCode.{IsCode, HoldsCode}
 use Rattle.htl_model.specs.Tables.{fun_of}

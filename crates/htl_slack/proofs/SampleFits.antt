@@ -9,7 +9,6 @@ use Rattle.htl_model.specs.declared.parts.Comm.{Comm}
 use Rattle.htl_model.specs.declared.parts.Module.{Module}
 use Rattle.htl_model.specs.declared.parts.Task.{Task}
 use Rattle.htl_model.specs.declared.parts.Inv.{Inv}
-use Rattle.htl_model.specs.declared.parts.End.{End}
 use Rattle.htl_model.specs.declared.parts.End.TheVariants as E
 use Rattle.htl_model.specs.Broken.{KeptTo}
 use Rattle.htl_model.specs.FrameRules.{KeptApart}
@@ -19,7 +18,7 @@ use Rattle.htl_model.specs.Ranges.{AreInRange, IsSpan, IsCommInRange, IsModeInRa
 use Rattle.htl_model.specs.Tables.{Tables, Fun, count_before}
 use Rattle.htl_walk.proofs.Finishes.{some_same}
 use Rattle.htl_edf.proofs.SampleFits.{rising, rises}
-use Rattle.htl_slack.specs.Samples.{row_comm, row_modes, row_modules, row_task, row_inv, row_function, row_tables, single_comms, single_tasks, single_invs, single, pair_comms, pair_tasks, pair_invs, pair, IsFormed}
+use Rattle.htl_slack.specs.Samples.{row_comm, row_modules, row_task, row_inv, row_function, row_tables, single_comms, single_tasks, single_invs, single, pair_comms, pair_tasks, pair_invs, pair, IsFormed}
 
 -- rule 2 aside, rules that are kept are kept
 kept_apart : (t : Tables) → KeptTo t 12 → KeptApart t 12

@@ -1,7 +1,6 @@
 -- The tables of the tests: one module M with one mode m, which invokes tasks of one input and one output.
 use Rattle.std.specs.Prelude.{◌≡◌, ℕ, Bool, true, false, List, [], ◌∷◌, None, codes, pos}
 use Rattle.htl_base.specs.declared.Ty.TheVariants as ty
-use Rattle.htl_model.specs.declared.function.Code.{Code}
 use Rattle.htl_model.specs.declared.function.FInstr.TheVariants as I
 use Rattle.htl_model.specs.declared.parts.Comm.{Comm}
 use Rattle.htl_model.specs.declared.parts.Mode.{Mode}

@@ -1,4 +1,4 @@
-use Rattle.std.proofs.Common.{◌≡◌, ◌≤◌, ◌<◌, ℕ, length, sym, ◌∙◌, ap, subst, arith}
+use Rattle.std.proofs.Common.{◌≡◌, ◌≤◌, ◌<◌, length, sym, ◌∙◌, ap, subst, arith}
 use Rattle.htl_model.specs.Frames.{frame_limit, nodes}
 use Rattle.htl_model.specs.Tables.{Tables, task_worst}
 use Rattle.htl_edf.specs.Greatest.{with_worst}
