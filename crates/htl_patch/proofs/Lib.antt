@@ -13,6 +13,7 @@ pub mod InRange
 pub mod JoinLaws
 pub mod KidLaws
 pub mod LevelLaws
+pub mod LimitLaws
 pub mod Limiting
 pub mod ListLaws
 pub mod Members
@@ -31,3 +32,4 @@ pub mod StackLaws
 pub mod Stopping
 pub mod Taking
 pub mod Uniting
+pub mod Widths
