@@ -17,6 +17,7 @@ mod order;
 mod owned;
 mod owners;
 mod places;
+mod tables;
 mod unit_items;
 
 pub use fault::{PatchFault, PatchStop};
