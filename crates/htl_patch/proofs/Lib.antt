@@ -1,4 +1,5 @@
 pub mod Accepting
+pub mod Answering
 pub mod Assembling
 pub mod BothOwners
 pub mod CountLaws
