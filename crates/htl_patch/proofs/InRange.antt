@@ -23,6 +23,7 @@ use Rattle.htl_patch.specs.Joining.{level}
 use Rattle.htl_patch.specs.Renumbered.{place_among, tasks_of, ports_of, switches_of, task_of_module, port_of_mode, switch_of_mode, Numbering, numbering, mode_at, module_at, port_at, task_at, inv_at, switch_at, new_mode, new_module, new_port, new_task, new_inv, new_switch, new_end, functions_of, function_of_switch, renumbered}
 use Rattle.htl_patch.proofs.Members.{Has, none, some_eq, same_or, differ, has_either, of_flat, in_flat, get_front, get_map, of_map, get_some, of_places_0, in_places_0, place_get, place_below, place_at, place_one, places_passing_0, places_nothing}
 use Rattle.htl_patch.proofs.Renumbering.{mode_there, mode_owner, inv_there, inv_owner, task_there, task_owner, port_there, port_owner, switch_there, switch_owner, modes_apart, tasks_apart, ports_apart, invs_apart, switches_apart, modes_new, invs_new, mode_new, module_new, task_new, inv_new}
+use Rattle.htl_patch.proofs.Widths.{widths}
 use Rattle.htl_patch.proofs.Sound.{mode_key, port_key, task_key, inv_key, IsSound, IsSoundTask, IsSoundInv, IsSoundSwitch, IsOrder}
 use Rattle.htl_patch.proofs.Counting.{all_from, all_map, apart_image, one_key, owners_rise, length_places, map_fuse, total, count_total, count_within, take_length, has_take, has_drop, within}
 use Rattle.htl_patch.proofs.Ranging.{AreParentsTaken, AreFew, mode_of, inv_of, task_of, switch_of, mode_below, inv_below, mode_taken, mode_owner_place, mode_owner_at, modes, modes_rise, modules, module_names, mode_names, ports, mode_place_at, ports_rise, port_names, tasks, tasks_rise, task_names}
@@ -124,26 +125,7 @@ module _ (u : Tables) (units : List ℕ) (sound : IsSound u) (order : IsOrder u 
       key_at m h = ap (λ (x : Inv). inv_key (new_inv n x)) ((inv_of u units sound order parents few) m h).5
 
   few_in_mode : (m : ℕ) → count_by (λ i. eqb i.mode m) t.invs ≤ MAX_MODE_INVOCATIONS
-  few_in_mode m = by (slice_get n.modes m) refl
-    where
-      by : (o : Option ℕ) → slice_get n.modes m ≡ o → count_by (λ i. eqb i.mode m) t.invs ≤ MAX_MODE_INVOCATIONS
-      by (Some x) e =
-          let at = (mode_place_at u units sound order parents few) m x e in
-          let new = ap length (invs_new u units apart x (m, e)) in
-          let size = length-map (invs_of u x) (λ k. place_among k n.invs) in
-          let here = length_places (inv_of_mode (place_among x n.modes)) 0 t.invs in
-          let there = length_places (inv_of_mode x) 0 u.invs in
-          let few = sound.few_in_mode x in
-          subst (λ (k : ℕ). count_by (λ i. eqb i.mode k) t.invs ≤ MAX_MODE_INVOCATIONS) at (omega (arith, new, size, here, there, few))
-      by None e =
-          let here = length_places (inv_of_mode m) 0 t.invs in
-          let nothing : places_from (inv_of_mode m) 0 t.invs ≡ [] =
-          places_nothing (inv_of_mode m) 0 t.invs (λ i h. (let r = of_map (λ (k : ℕ). new_inv n (inv_at u k)) n.invs h.0 i h.1 in
-          let s = (inv_of u units sound order parents few) r.0 (h.0, r.1) in
-          let mode : i.mode ≡ place_among s.0 n.modes = ap (λ (x : Inv). x.mode) (sym r.2) ∙ ap (λ (x : Inv). place_among x.mode n.modes) s.5 ∙ ap (λ (y : ℕ). place_among y n.modes) s.4 in
-          differ i.mode m (λ same. (let f : None ≡ Some s.0 = sym e ∙ ap (slice_get n.modes) (sym same ∙ mode) ∙ place_get n.modes s.0 s.1 in absurd cc)))) in
-          let zero = ap length nothing in
-          omega (arith, here, zero)
+  few_in_mode = widths u units sound order.apart
 
   -- ---- switches
 

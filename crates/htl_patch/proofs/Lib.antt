@@ -1,4 +1,6 @@
 pub mod Accepting
+pub mod Answering
+pub mod Assembling
 pub mod BothOwners
 pub mod CountLaws
 pub mod Counting
@@ -13,6 +15,7 @@ pub mod InRange
 pub mod JoinLaws
 pub mod KidLaws
 pub mod LevelLaws
+pub mod LimitLaws
 pub mod Limiting
 pub mod ListLaws
 pub mod Members
@@ -31,3 +34,4 @@ pub mod StackLaws
 pub mod Stopping
 pub mod Taking
 pub mod Uniting
+pub mod Widths

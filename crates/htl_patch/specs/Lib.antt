@@ -1,3 +1,4 @@
+pub mod Answering
 pub mod Calls
 pub mod Firsts
 pub mod Joining

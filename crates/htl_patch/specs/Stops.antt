@@ -48,6 +48,17 @@ IsJoinFault g (fault.Function k) = ⊥
 IsJoinFault g fault.Mode = ⊥
 IsJoinFault g (fault.Malformed m) = ⊥
 
+-- the first fault, where it comes before the form rules
+abbrev pub IsEarlyFault : Graft → PatchFault → Type 0
+IsEarlyFault g (fault.Comms place) = IsGraftFault g (fault.Comms place)
+IsEarlyFault g (fault.Parent inv) = IsGraftFault g (fault.Parent inv)
+IsEarlyFault g (fault.Twice unit) = IsGraftFault g (fault.Twice unit)
+IsEarlyFault g (fault.Limit which count) = IsGraftFault g (fault.Limit which count)
+IsEarlyFault g (fault.IllFormed f) = ⊥
+IsEarlyFault g (fault.Function k) = ⊥
+IsEarlyFault g fault.Mode = ⊥
+IsEarlyFault g (fault.Malformed m) = ⊥
+
 -- one of the two has no mode of these names, or both have one and this is the first fault
 abbrev pub IsFaultBy : Option Graft → PatchFault → Type 0
 IsFaultBy None f = f ≡ fault.Mode

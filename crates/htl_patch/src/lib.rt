@@ -16,7 +16,10 @@ mod numbers;
 mod order;
 mod owned;
 mod owners;
+mod patching;
 mod places;
+mod tables;
 mod unit_items;
 
 pub use fault::{PatchFault, PatchStop};
+pub use patching::patch;

@@ -4,8 +4,11 @@ ghost use Rattle.htl_model.specs.Lists.{list_to};
 ghost use Rattle.htl_model.specs.Ranges.{parent_of};
 ghost use Rattle.htl_model.specs.Tables.{mode_module, greatest};
 ghost use Rattle.htl_patch.specs.Joining.{level as level_of, exceeded as exceeded_of};
-ghost use Rattle.htl_patch.specs.Levels.{upright};
+ghost use Rattle.htl_patch.specs.Levels.{upright, sizes_of, AreFewNumbers};
+ghost use Rattle.htl_patch.specs.Numbers.{numbering_of};
 
+use crate::numbers::OldNumbers;
+use htl_base::limits::{MAX_INVOCATIONS, MAX_LEVELS, MAX_MODES, MAX_MODE_INVOCATIONS, MAX_MODULES, MAX_PORTS, MAX_SWITCHES, MAX_TASKS};
 use htl_model::{Mode, Module};
 
 fn parent(modules: &[Module], modes: &[Mode], unit: usize) -> Option<u16>
@@ -71,4 +74,22 @@ pub(crate) fn exceeded(sizes: &[(u32, u32)]) -> Option<(u8, u32)>
         }
     }
     None
+}
+
+/// The first limit that the patched tables exceed, by their number of levels.
+pub(crate) fn first_limit(n: &OldNumbers, levels: u32) -> Option<(u8, u32)>
+    requires { AreFewNumbers (numbering_of n.now) }
+    ensures { result ≡ exceeded_of 2 (sizes_of (numbering_of n.now) levels) }
+{
+    let sizes = [
+        (n.units.len() as u32, MAX_MODULES as u32),
+        (n.modes.len() as u32, MAX_MODES as u32),
+        (n.ports.len() as u32, MAX_PORTS as u32),
+        (n.tasks.len() as u32, MAX_TASKS as u32),
+        (n.invs.len() as u32, MAX_INVOCATIONS as u32),
+        (n.switches.len() as u32, MAX_SWITCHES as u32),
+        (0, MAX_MODE_INVOCATIONS as u32),
+        (levels, MAX_LEVELS as u32),
+    ];
+    exceeded(&sizes)
 }

@@ -1,0 +1,52 @@
+-- From the parts of the patched tables to the answer.
+use Rattle.std.proofs.Common.{◌≡◌, ◌<◌, ℕ, List, length, Option, Some, None, Result, Ok, Err, IfOk, IfErr, MatchResult, refl, sym, ◌∙◌, ap, subst}
+use Rattle.htl_model.specs.Tables.{Tables, Fun}
+use Rattle.htl_model.specs.declared.parts.Comm.{Comm}
+use Rattle.htl_model.specs.declared.parts.Inv.{Inv}
+use Rattle.htl_model.specs.declared.parts.Mode.{Mode}
+use Rattle.htl_model.specs.declared.parts.Module.{Module}
+use Rattle.htl_model.specs.declared.parts.Port.{Port}
+use Rattle.htl_model.specs.declared.parts.Switch.{Switch}
+use Rattle.htl_model.specs.declared.parts.Task.{Task}
+use Rattle.htl_object.specs.Accepted.{IsAccepted}
+use Rattle.htl_object.specs.Ranges.{IsInRange}
+use Rattle.htl_object.specs.declared.object.Object.{Object}
+use Rattle.htl_patch.specs.Joining.{graft_of, first_stray, first_twice, first_limit, Joins}
+use Rattle.htl_patch.specs.Object.{patched_object, CanPatch}
+use Rattle.htl_patch.specs.Patched.{patched}
+use Rattle.htl_patch.specs.Stops.{AreMet, IsJoinFault, IsEarlyFault, IsGraftFault, IsFaultBy, IsPatchFault, IsHandedBack}
+use Rattle.htl_patch.specs.United.{Graft}
+use Rattle.htl_patch.specs.declared.fault.PatchFault.{PatchFault}
+use Rattle.htl_patch.specs.declared.fault.PatchFault.TheVariants as fault
+
+abbrev made : List Comm → List Mode → List Module → List Port → List Task → List Inv → List Switch → List Fun → Tables
+made comms modes units ports tasks invs switches functions =
+    record { comms = comms; modes = modes; modules = units; ports = ports; tasks = tasks; invs = invs; switches = switches; functions = functions }
+
+pub same_tables : {a a' : List Comm} {b b' : List Mode} {c c' : List Module} {d d' : List Port} {e e' : List Task} {f f' : List Inv} {s s' : List Switch} {k k' : List Fun}
+    → a ≡ a' → b ≡ b' → c ≡ c' → d ≡ d' → e ≡ e' → f ≡ f' → s ≡ s' → k ≡ k' → made a b c d e f s k ≡ made a' b' c' d' e' f' s' k'
+same_tables {a} {a'} {b} {b'} {c} {c'} {d} {d'} {e} {e'} {f} {f'} {s} {s'} {k} {k'} p q r t u v w x =
+    ap (λ (z : List Comm). made z b c d e f s k) p
+    ∙ ap (λ (z : List Mode). made a' z c d e f s k) q
+    ∙ ap (λ (z : List Module). made a' b' z d e f s k) r
+    ∙ ap (λ (z : List Port). made a' b' c' z e f s k) t
+    ∙ ap (λ (z : List Task). made a' b' c' d' z f s k) u
+    ∙ ap (λ (z : List Inv). made a' b' c' d' e' z s k) v
+    ∙ ap (λ (z : List Switch). made a' b' c' d' e' f' z k) w
+    ∙ ap (λ (z : List Fun). made a' b' c' d' e' f' s' z) x
+
+pub joined : (g : Graft) → AreMet g → first_limit (patched g) ≡ None → Joins g
+joined g m e = record { comms = m.comms; parents = m.parents; names = m.names; limits = e }
+
+pub early : (g : Graft) (f : PatchFault) → IsJoinFault g f → IsEarlyFault g f
+early g (fault.Comms place) h = h
+early g (fault.Parent inv) h = h
+early g (fault.Twice unit) h = h
+early g (fault.Limit which count) h = absurd h
+early g (fault.IllFormed f) h = absurd h
+early g (fault.Function k) h = absurd h
+early g fault.Mode h = absurd h
+early g (fault.Malformed m) h = absurd h
+
+pub limited : (g : Graft) (which count : ℕ) → AreMet g → first_limit (patched g) ≡ Some (which, count) → IsEarlyFault g (fault.Limit which count)
+limited g which count m e = (m.comms, m.parents, m.names, e)

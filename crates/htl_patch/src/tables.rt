@@ -1,0 +1,124 @@
+// The patched tables.
+ghost use Rattle.std.specs.Prelude.{◌≡◌, ◌<◌, All, length, IfOk, MatchResult};
+ghost use Rattle.htl_model.specs.Broken.{Formed};
+ghost use Rattle.htl_model.specs.Ranges.{AreInRange};
+ghost use Rattle.htl_object.specs.Ranges.{IsCode};
+ghost use Rattle.htl_patch.specs.Calls.{calls_for as calls_for_of};
+ghost use Rattle.htl_patch.specs.Joining.{Joins};
+ghost use Rattle.htl_patch.specs.Numbers.{numbering_of};
+ghost use Rattle.htl_patch.specs.Patched.{new_numbers, patched};
+ghost use Rattle.htl_patch.specs.Placed.{ArePlaces};
+ghost use Rattle.htl_patch.specs.Stops.{IsEarlyFault};
+ghost use Rattle.htl_patch.specs.United.{graft, united};
+
+use crate::calls::calls_for;
+use crate::fault::PatchFault;
+use crate::functions::new_functions;
+use crate::graft::Graft;
+use crate::joining::{Taken, join_fault};
+use crate::limits::{first_limit, levels};
+use crate::lists::comms;
+use crate::mode_items::{new_invs, new_ports, new_switches};
+use crate::numbers::{NewNumbers, OldNumbers, old_numbers, renumber};
+use crate::unit_items::{new_modes, new_modules, new_tasks};
+use htl_base::Seq;
+use htl_model::{Comm, Mode, Module, Parts, Tables};
+use std::alloc::{AllocError, Global};
+
+fn copied_comms(alloc: Global, comms: &[Comm]) -> Result<Vec<Comm>, AllocError>
+    ensures { IfOk result (λ v. v.items ≡ comms.now) }
+{
+    let mut found = Vec::new(alloc);
+    for x in comms {
+        found.push(Comm {
+            name: x.name,
+            ty: x.ty,
+            sensor: x.sensor,
+            period: x.period,
+            init: x.init,
+        })?;
+    }
+    Ok(found)
+}
+
+// The modules and modes of the patched tables.
+#[derive(Drop)]
+struct Heads {
+    modules: Vec<Module>,
+    modes: Vec<Mode>,
+}
+
+fn heads_of(alloc: Global, g: &Graft<'_>, n: &OldNumbers, p: &NewNumbers) -> Result<Heads, AllocError>
+    requires into { g.now.into < length g.now.host.now.modes }
+    requires from { g.now.from < length g.now.donor.now.modes }
+    requires numbers { numbering_of n.now ≡ new_numbers (graft g.now.host.now g.now.donor.now g.now.into g.now.from) }
+    requires places { ArePlaces (united (graft g.now.host.now g.now.donor.now g.now.into g.now.from)) (new_numbers (graft g.now.host.now g.now.donor.now g.now.into g.now.from)) p.now }
+    ensures modules { IfOk result (λ h. h.modules.items ≡ (patched (graft g.now.host.now g.now.donor.now g.now.into g.now.from)).modules) }
+    ensures modes { IfOk result (λ h. h.modes.items ≡ (patched (graft g.now.host.now g.now.donor.now g.now.into g.now.from)).modes) }
+{
+    g.host.keeps_ranges();
+    g.donor.keeps_ranges();
+    let modules = new_modules(alloc, g, p, n.units.as_slice())?;
+    let modes = new_modes(alloc, g, p, n.modes.as_slice())?;
+    Ok(Heads { modules, modes })
+}
+
+// The patched tables, of which it is known that they are in range.
+fn assembled(alloc: Global, g: &Graft<'_>, n: &OldNumbers, p: &NewNumbers, calls: &[Option<u16>], heads: Heads) -> Result<Tables, AllocError>
+    requires numbers { numbering_of n.now ≡ new_numbers (graft g.now.host.now g.now.donor.now g.now.into g.now.from) }
+    requires places { ArePlaces (united (graft g.now.host.now g.now.donor.now g.now.into g.now.from)) (new_numbers (graft g.now.host.now g.now.donor.now g.now.into g.now.from)) p.now }
+    requires calls { calls.now ≡ calls_for_of (graft g.now.host.now g.now.donor.now g.now.into g.now.from) }
+    requires coded { All IsCode g.now.host.now.functions }
+    requires donor_coded { All IsCode g.now.donor.now.functions }
+    requires modules { heads.modules.items ≡ (patched (graft g.now.host.now g.now.donor.now g.now.into g.now.from)).modules }
+    requires modes { heads.modes.items ≡ (patched (graft g.now.host.now g.now.donor.now g.now.into g.now.from)).modes }
+    requires ranges { AreInRange (patched (graft g.now.host.now g.now.donor.now g.now.into g.now.from)) }
+    ensures { IfOk result (λ t. t ≡ patched (graft g.now.host.now g.now.donor.now g.now.into g.now.from)) }
+{
+    let comms = copied_comms(alloc, comms(g.host))?;
+    let ports = new_ports(alloc, g, p, n.ports.as_slice())?;
+    let tasks = new_tasks(alloc, g, p, n.tasks.as_slice())?;
+    let invs = new_invs(alloc, g, p, calls, n.invs.as_slice())?;
+    let switches = new_switches(alloc, g, p, n.switches.as_slice())?;
+    let functions = new_functions(alloc, g, n)?;
+    Ok(Tables::new(Parts {
+        comms: Seq::new(comms),
+        modes: Seq::new(heads.modes),
+        modules: Seq::new(heads.modules),
+        ports: Seq::new(ports),
+        tasks: Seq::new(tasks),
+        invs: Seq::new(invs),
+        switches: Seq::new(switches),
+        functions: Seq::new(functions),
+    }))
+}
+
+/// The tables in which the refinement of the host's mode is the donor's, or the first fault for which it isn't taken over.
+pub(crate) fn grafted(alloc: Global, g: &Graft<'_>) -> Result<Result<Tables, PatchFault>, AllocError>
+    requires into { g.now.into < length g.now.host.now.modes }
+    requires from { g.now.from < length g.now.donor.now.modes }
+    requires formed { Formed g.now.host.now }
+    requires coded { All IsCode g.now.host.now.functions }
+    requires donor_coded { All IsCode g.now.donor.now.functions }
+    ensures { IfOk result (λ r. MatchResult r (λ t. (t ≡ patched (graft g.now.host.now g.now.donor.now g.now.into g.now.from)) × Joins (graft g.now.host.now g.now.donor.now g.now.into g.now.from)) (IsEarlyFault (graft g.now.host.now g.now.donor.now g.now.into g.now.from))) }
+{
+    g.host.keeps_ranges();
+    g.donor.keeps_ranges();
+    let n = old_numbers(alloc, g)?;
+    let p = renumber(alloc, g, &n)?;
+    let calls = calls_for(alloc, g)?;
+    let taken = Taken {
+        units: n.units.as_slice(),
+        places: p.units.as_slice(),
+    };
+    if let Some(fault) = join_fault(g, &taken, calls.as_slice()) {
+        return Ok(Err(fault));
+    }
+    let heads = heads_of(alloc, g, &n, &p)?;
+    let count = levels(heads.modules.as_slice(), heads.modes.as_slice(), 16);
+    if let Some((which, count)) = first_limit(&n, count) {
+        return Ok(Err(PatchFault::Limit { which, count }));
+    }
+    let tables = assembled(alloc, g, &n, &p, calls.as_slice(), heads)?;
+    Ok(Ok(tables))
+}
