@@ -1,7 +1,6 @@
 -- What `bulk` writes and answers.
-use Rattle.std.proofs.Common.{arith, ◌≡◌, ◌≤◌, ◌⊎◌, ℕ, zero, suc, ◌*◌, List, [], ◌∷◌, ◌++◌, length, get_or, Option, None, Some, Result, Ok, Err, ℤ, refl, sym, ap, ap₂, ◌∙◌, subst, inl, inr}
+use Rattle.std.proofs.Common.{◌≡◌, ◌≤◌, ℕ, zero, suc, ◌*◌, List, [], ◌∷◌, ◌++◌, length, get_or, Option, None, Result, Ok, ℤ, refl, sym, ap, ap₂, ◌∙◌, subst, inl, inr}
 use Rattle.std.specs.Prelude.{pos, slice_get}
-use Rattle.std.specs.Io.KnownBytes.{append_known}
 use mathlib.Core.Path.{fun_ext}
 use Rattle.htl_compile.proofs.BuiltLaws.{built_accepted}
 use Rattle.htl_compile.proofs.CodedLaws.{coded_runs}
@@ -12,7 +11,7 @@ use Rattle.htl_compile.specs.Coded.{coded}
 use Rattle.htl_compile.specs.declared.compiling.CompileFault.{CompileFault}
 use Rattle.htl_compile.specs.declared.compiling.CompileFault.TheVariants as compile
 use Rattle.htl_edge.specs.Causes.{Rose}
-use Rattle.htl_edge.specs.Content.{AppendsPrefix, Puts}
+use Rattle.htl_edge.specs.Content.{Puts}
 use Rattle.htl_machine.proofs.Putting.{one_line}
 use Rattle.htl_load.specs.Loading.{HasBytes, IsLoadedAs}
 use Rattle.htl_machine.proofs.Events.{sense_end}

@@ -21,13 +21,12 @@ use Rattle.htl_model.specs.Broken.{Formed}
 use Rattle.htl_model.specs.Tables.{Tables}
 use Rattle.htl_platform.specs.Applied.{with_worst}
 use Rattle.htl_platform.specs.Platforms.{platform_of}
-use Rattle.htl_platform.specs.declared.fault.PlatformFault.{PlatformFault}
 use Rattle.htl_platform.specs.declared.platform.Platform.{Platform as PlatformOf}
 use Rattle.htl_top.specs.Answers.{Files, Streams, IsBeforeRun}
 use Rattle.htl_top.specs.Causes.{IsFaultOf, IsLongFile, IsSource, IsGiven, IsOrMemory}
 use Rattle.htl_top.specs.CompilingOn.{IsCompilingOn, IsBytesCompiledOn, compiled_on}
-use Rattle.htl_top.specs.Sources.{IsInput, IsLongInput, answer_of, outcome_of}
-use Rattle.htl_top.specs.SourcesOn.{IsProgramOn, IsFaultyOn, IsLongOn, IsInputFaultOn, IsNotCompiledOn, answer_on}
+use Rattle.htl_top.specs.Sources.{IsInput, answer_of, outcome_of}
+use Rattle.htl_top.specs.SourcesOn.{IsProgramOn, IsFaultyOn, IsInputFaultOn, IsNotCompiledOn, answer_on}
 use Rattle.htl_top.specs.declared.outcome.Outcome.{Outcome}
 use Rattle.htl_top.specs.declared.outcome.Outcome.TheVariants.{Done, Usage, Source, IllFormed, Unschedulable, Platform, Object as Refused, Script, Shelf, Read, Write, Memory}
 use Rattle.htl_top.specs.declared.outcome.ShelfCause.TheVariants.{Failed, TooLong}

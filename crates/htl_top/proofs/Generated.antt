@@ -5,7 +5,7 @@ use Rattle.std.proofs.lemmas.List.{map-append}
 use Rattle.std.proofs.lemmas.List.Concat.{flat_map-cons}
 use Rattle.htl_compile.proofs.BulkNames.{one_digit, two_digits}
 use Rattle.htl_text.specs.Placed.{numbered}
-use Rattle.std.specs.Prelude.{pos, codes, slice_get, Some}
+use Rattle.std.specs.Prelude.{pos, slice_get, Some}
 use Rattle.std.specs.Fmt.{decimal}
 use Rattle.std.specs.List.{flat_map}
 use Rattle.htl_base.specs.Names.{is_name}
@@ -19,9 +19,8 @@ use Rattle.htl_parse.specs.Bare.{bare_comm, bare_const, bare_program, AreAlike}
 use Rattle.htl_text.proofs.OneCut.{Tokens-unique}
 use Rattle.htl_text.proofs.Reprinted.{printed-tokens}
 use Rattle.htl_text.specs.Bounds.{IsLiteral}
-use Rattle.htl_text.specs.Nodes.{PlainProgram, PlainModule, PlainMode, PlainTask}
+use Rattle.htl_text.specs.Nodes.{PlainProgram}
 use Rattle.htl_text.specs.PrintedTokens.{Spelling, each, source_tokens, comm_tokens, module_tokens, task_tokens, mode_tokens, invoke_tokens}
-use Rattle.htl_text.specs.PrintedBytes.{printed_bytes}
 use Rattle.htl_text.specs.Spans.{Tokens}
 use Rattle.htl_text.specs.Spellable.{AreSpellable}
 use Rattle.htl_text.specs.TokenLists.{TokenList}

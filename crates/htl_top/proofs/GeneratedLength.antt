@@ -1,10 +1,10 @@
 -- The printed form of the generated program is no longer than a source may be.
-use Rattle.std.proofs.Common.{arith, ◌≡◌, ◌<◌, ◌≤◌, ◌+◌, ◌*◌, ◌^◌, ◌++◌, ◌∷◌, ◌&&◌, Bool, true, false, ℕ, zero, suc, List, [], length, refl, sym, ap, ◌∙◌, subst, length-append}
-use Rattle.std.specs.Prelude.{pos, nat_lt, not}
+use Rattle.std.proofs.Common.{arith, ◌≡◌, ◌≤◌, ◌+◌, ◌*◌, ◌∷◌, ◌&&◌, Bool, true, false, ℕ, zero, suc, List, [], length, refl, sym, ap, subst, length-append}
+use Rattle.std.specs.Prelude.{nat_lt, not}
 use Rattle.std.specs.Fmt.{decimal}
 use Rattle.std.proofs.lemmas.Bool.Decides.{nat_tests}
 use Rattle.std.proofs.lemmas.Fmt.{length-decimal-le}
-use Rattle.htl_base.specs.Names.{is_name, is_identifier, is_reserved}
+use Rattle.htl_base.specs.Names.{is_identifier, is_reserved}
 use Rattle.htl_model.specs.Lists.{list_to}
 use Rattle.htl_text.proofs.Writing.{printed_bytes-cons, printed_bytes-nil}
 use Rattle.htl_text.specs.PrintedBytes.{printed_bytes, token_bytes, token_text, word_text, sign_text, separator}

@@ -1,5 +1,5 @@
 -- What `go` shows of the jobs of a source, down to the lines.
-use Rattle.std.proofs.Common.{◌≡◌, ℕ, List, ◌++◌, None, refl, sym, ap, ◌∙◌}
+use Rattle.std.proofs.Common.{ℕ, List, ◌++◌, None, refl, sym, ap, ◌∙◌}
 use Rattle.htl_compile.proofs.BuiltLaws.{built_accepted}
 use Rattle.htl_compile.specs.Built.{built}
 use Rattle.htl_compile.specs.Coded.{coded, codes}

@@ -1,7 +1,6 @@
 -- A machine on the readings of rounds: what it follows, and that nothing is shown.
-use Rattle.std.proofs.Common.{arith, ◌≡◌, ◌≤◌, ℕ, zero, suc, ◌*◌, ◌%◌, ◌-◌, ◌+◌, Bool, true, false, cond, eqb, List, [], ◌∷◌, ◌++◌, Option, None, Some, Result, Ok, Err, refl, sym, ap, ap₂, ◌∙◌, subst}
+use Rattle.std.proofs.Common.{arith, ◌≡◌, ◌≤◌, ℕ, zero, suc, ◌*◌, ◌%◌, ◌-◌, ◌+◌, Bool, true, false, cond, eqb, List, [], ◌∷◌, ◌++◌, Option, None, Some, Result, Ok, refl, sym, ap, ap₂, ◌∙◌, subst}
 use Rattle.std.specs.Prelude.{pos}
-use Rattle.std.specs.Io.KnownBytes.{append_known}
 use Rattle.std.proofs.lemmas.List.{append_assoc}
 use Rattle.htl_console.specs.declared.shown.Shown.{Shown}
 use Rattle.htl_console.specs.declared.shown.Shown.TheVariants.{Nothing}

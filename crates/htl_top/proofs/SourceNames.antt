@@ -6,15 +6,10 @@ use Rattle.htl_compile.specs.Coded.{coded}
 use Rattle.htl_compile.specs.Sources.{IsTablesOf}
 use Rattle.htl_machine.specs.JobLines.{HasNames}
 use Rattle.htl_model.specs.Tables.{Tables}
-use Rattle.htl_model.specs.declared.parts.Comm.{Comm}
-use Rattle.htl_model.specs.declared.parts.Mode.{Mode}
-use Rattle.htl_model.specs.declared.parts.Module.{Module}
-use Rattle.htl_model.specs.declared.parts.Task.{Task}
 use Rattle.htl_names.proofs.Members.{Each, each_at, each_all, each_flat_map, each_flat_map_at, each_weaker}
 use Rattle.htl_names.specs.Flat.{Layout, layout, comm_item, comm_items, mode_item, module_mode_items, mode_items, module_item, module_items_at, module_items, task_item, module_task_items, task_items, tables_of_tree}
-use Rattle.htl_names.specs.Order.{modules_at, module_at, tasks_at, modes_at}
+use Rattle.htl_names.specs.Order.{modules_at, module_at}
 use Rattle.htl_names.specs.declared.place.ModuleAt.{ModuleAt}
-use Rattle.htl_parse.specs.Answers.{Spell}
 use Rattle.htl_text.proofs.Spellable.{tokens-spellable}
 use Rattle.htl_text.specs.Expressions.{Expr}
 use Rattle.htl_text.specs.Grammar.{Level, Spells, conj, or, cmp, and, sum, compare, prod, add, unary, multiply, atom, prefix, number, true_word, false_word, name, brackets, choice}

@@ -1,16 +1,13 @@
 -- A fault of tables with code is one of their source.
-use Rattle.std.proofs.Common.{◌≡◌, ◌≤◌, ℕ, List, length, Option, Some, Ok, sym, ap, subst}
+use Rattle.std.proofs.Common.{◌≡◌, ◌≤◌, ℕ, List, length, Option, sym, subst}
 use Rattle.htl_compile.proofs.FromSource.{back_of_source}
-use Rattle.htl_compile.proofs.OnPlatform.{placed, says, by_back, can_code_on, no_platform_on}
+use Rattle.htl_compile.proofs.OnPlatform.{placed, says, by_back, can_code_on}
 use Rattle.htl_compile.specs.Building.{IsBackFault}
-use Rattle.htl_compile.specs.Coded.{coded}
-use Rattle.htl_compile.specs.OnPlatform.{IsOn, IsWithFault}
-use Rattle.htl_compile.specs.Sources.{IsFront, IsRead}
+use Rattle.htl_compile.specs.OnPlatform.{IsOn}
+use Rattle.htl_compile.specs.Sources.{IsFront}
 use Rattle.htl_compile.specs.declared.building.BackFault.{BackFault}
 use Rattle.htl_compile.specs.declared.building.BackFault.TheVariants as back
 use Rattle.htl_model.specs.Tables.{Tables}
-use Rattle.htl_platform.specs.Platforms.{platform_of}
-use Rattle.htl_platform.specs.declared.fault.PlatformFault.{PlatformFault}
 use Rattle.htl_top.specs.Sources.{IsNotCompiled, IsUnread, IsUnbuilt, outcome_of, stop_of, tables_of}
 use Rattle.htl_top.specs.SourcesOn.{IsNotCompiledOn}
 use Rattle.htl_top.specs.declared.outcome.Outcome.{Outcome}

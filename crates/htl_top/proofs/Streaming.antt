@@ -1,5 +1,5 @@
 -- From event to event of a script that is read as the run goes: what the machine follows, what is written, and what is still to come.
-use Rattle.std.proofs.Common.{arith, ◌≡◌, Bool, true, false, ℕ, suc, ◌+◌, ◌≤◌, List, [], ◌∷◌, ◌++◌, Option, Some, None, Result, Ok, Err, is_some, refl, sym, ap, ◌∙◌, subst}
+use Rattle.std.proofs.Common.{arith, ◌≡◌, Bool, true, false, ℕ, suc, List, [], ◌∷◌, ◌++◌, Option, Some, None, Result, Ok, Err, is_some, refl, sym, ap, ◌∙◌, subst}
 use Rattle.std.specs.Io.KnownBytes.{append_known}
 use Rattle.std.proofs.lemmas.List.{append_assoc, append-nil}
 use Rattle.htl_console.specs.declared.shown.Shown.{Shown}
@@ -20,7 +20,7 @@ use Rattle.htl_script.specs.Events.{AreEvents, EndWith}
 use Rattle.htl_script.specs.Judging.{at_first, past_after, past_after_all, past_of}
 use Rattle.htl_script.specs.Reading.{OfScript, behind}
 use Rattle.htl_script.specs.Script.{Script, Whole, Bad, events_of, script_of}
-use Rattle.htl_script.specs.Streaming.{Ahead, Gives, still, at_start, IsAnswer, IsEventAfter, Goes}
+use Rattle.htl_script.specs.Streaming.{Ahead, Gives, still, at_start, IsAnswer, Goes}
 use Rattle.htl_script.specs.declared.fault.ScriptFault.{ScriptFault}
 use Rattle.htl_script.specs.declared.fault.ScriptStop.TheVariants as stop
 use Rattle.htl_script.specs.declared.judge.Past.{Past}

@@ -1,5 +1,5 @@
 -- The source that a command compiles for a platform: where its tables are had, and why no object is built of it.
-use Rattle.std.specs.Prelude.{ℕ, ◌≡◌, ◌⊎◌, Option, Some, None, List, Ok}
+use Rattle.std.specs.Prelude.{ℕ, ◌≡◌, ◌⊎◌, Option, List, Ok}
 use Rattle.htl_compile.specs.Built.{CanBuild}
 use Rattle.htl_compile.specs.Coded.{AreTyped, CanCode, coded}
 use Rattle.htl_compile.specs.OnPlatform.{IsWithFault}
@@ -8,7 +8,6 @@ use Rattle.htl_compile.specs.declared.compiling.CompileFault.{CompileFault}
 use Rattle.htl_compile.specs.declared.compiling.CompileFault.TheVariants as compile
 use Rattle.htl_compile.specs.declared.compiling_on.WithFault.{WithFault}
 use Rattle.htl_compile.specs.declared.compiling_on.WithFault.TheVariants as on
-use Rattle.htl_compile.specs.declared.source_fault.SourceFault.TheVariants as source
 use Rattle.htl_edge.specs.Holdings.{Holdings}
 use Rattle.htl_model.specs.Tables.{Tables}
 use Rattle.htl_platform.specs.Applied.{with_worst}

@@ -1,4 +1,4 @@
-use Rattle.std.proofs.Common.{arith, ◌≡◌, ℕ, suc, ◌*◌, ◌++◌, ◌∷◌, [], Err, refl, add-one}
+use Rattle.std.proofs.Common.{arith, suc, ◌*◌, ◌++◌, ◌∷◌, [], Err, refl, add-one}
 use Rattle.htl_model.specs.declared.event.Event.TheVariants as event
 use Rattle.htl_top.proofs.Rounds.{running_start, still_in_order, put_nothing, running_on}
 use Rattle.htl_top.specs.Bulk.{readings_of}

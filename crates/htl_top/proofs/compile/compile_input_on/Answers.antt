@@ -1,4 +1,4 @@
-use Rattle.std.proofs.Common.{List, ℕ, subst, refl}
+use Rattle.std.proofs.Common.{List, ℕ, subst}
 use Rattle.htl_top.proofs.CompilingOn.{IsCompilingOn-bytes}
 use Rattle.htl_top.proofs.LineTelling.{SpeaksOf-source, in_files}
 use Rattle.htl_top.specs.Answers.{streams}

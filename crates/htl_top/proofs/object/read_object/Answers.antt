@@ -1,4 +1,4 @@
-use Rattle.std.proofs.Common.{◌≡◌, sym, subst}
+use Rattle.std.proofs.Common.{sym, subst}
 use Rattle.htl_load.specs.Loading.{HasBytes}
 use Rattle.htl_object.specs.Accepted.{IsAccepted}
 use Rattle.htl_object.specs.declared.object.Object.{Object}

@@ -3,10 +3,9 @@ use Rattle.htl_top.proofs.Bulking.{bulked_of}
 use Rattle.htl_top.proofs.Inputs.{taken_none}
 use Rattle.htl_top.proofs.LineTelling.{SpeaksOf-bulk}
 use Rattle.htl_top.specs.Answers.{files, streams}
-use Rattle.htl_top.specs.Bulk.{IsBulked, IsBulkPut}
+use Rattle.htl_top.specs.Bulk.{IsBulked}
 use Rattle.htl_top.specs.Calls.{IsCall, HasSource, HasObject}
 use Rattle.htl_top.specs.Words.{asked_for, most_taken}
-use Rattle.htl_top.specs.declared.outcome.Outcome.{Outcome}
 use Rattle.htl_top.specs.declared.words.Asked.{Asked}
 use Rattle.htl_top.proofs.top.answered.Goals as goal
 

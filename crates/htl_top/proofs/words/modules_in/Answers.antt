@@ -1,4 +1,4 @@
-use Rattle.std.proofs.Common.{arith, ◌≡◌, ◌+◌, ℕ, suc, sym, ◌∙◌}
+use Rattle.std.proofs.Common.{arith, ◌≡◌, ◌+◌, suc, sym, ◌∙◌}
 use Rattle.htl_top.proofs.ModuleNumbers.{found, none_found}
 use Rattle.htl_top.proofs.words.modules_in.Goals as goal
 
