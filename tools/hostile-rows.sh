@@ -39,6 +39,7 @@ TEXT
 	printf 'at 0\nsense s 3\nat 10\nsense s 5\nend 10\n' >"$room/readings"
 	printf 'at 10\nsense g 1\nend 20\n' >"$room/switching"
 	printf 'mode M m\nmode N on\n' >"$room/modes"
+	: >"$room/nothing"
 }
 
 write_outputs() {
@@ -94,6 +95,7 @@ v 20 w 2
 end 20 jobs 3 e 54 s 6
 TEXT
 	printf 'j 0 3 N.on.fast\nd 3 N.on.fast\nj 3 5 M.m.fix\nd 5 M.m.fix\nplan 10 jobs 2 s 3\n' >"$room/planned"
+	printf 'v 100000 s 99\nv 100000 c0 4950\nend 100000 jobs 200 e 1210 s 300\n' >"$room/generated"
 }
 
 # Each row: the calls that fail, its input and its output, and its words.
@@ -104,4 +106,5 @@ rows() {
 	row streams switching switched go "$room/sometimes.htl"
 	row memory readings instructions code "$room/doubling.obj"
 	row memory modes planned plan "$room/sometimes.obj"
+	# where the program serves it: row memory nothing generated bulk 1
 }
