@@ -23,7 +23,7 @@ const NO_MODULE: [u8; 42] = [
 ];
 
 // One invocation in one mode.
-const DOUBLING: [u8; 210] = [
+pub const DOUBLING: [u8; 210] = [
     // the text and the version
     72, 84, 76, 79, 0, 1,
     // seven counts
@@ -221,7 +221,7 @@ const REFINED: [u8; 574] = [
 ];
 
 // The numbers of root selections and of positions in the widest, or the fault.
-type Answer = Result<(u32, usize), ObjectFault>;
+pub type Answer = Result<(u32, usize), ObjectFault>;
 
 const LONG: FormFault = FormFault {
     rule: 7,
@@ -241,7 +241,7 @@ const LONGER_THAN_REFINED: FormFault = FormFault {
     need: 4,
 };
 
-fn bad_field(offset: u64, kind: MalKind) -> Answer {
+pub fn bad_field(offset: u64, kind: MalKind) -> Answer {
     Err(ObjectFault::Malformed(Malformed { offset, kind }))
 }
 
@@ -257,7 +257,7 @@ fn misses(selection: u32, miss: Miss) -> Answer {
 }
 
 // The object with other bytes from a place on; what lies behind them is kept, or left out.
-fn changed(
+pub fn changed(
     alloc: Global,
     object: &[u8],
     at: usize,
@@ -283,7 +283,7 @@ fn extent(t: &Tables) -> (u32, usize) {
 }
 
 // What loading answers; None without memory.
-fn answer(alloc: Global, bytes: &[u8]) -> Option<Answer> {
+pub fn answer(alloc: Global, bytes: &[u8]) -> Option<Answer> {
     match load(alloc, bytes) {
         Ok(loaded) => Some(Ok(extent(loaded.tables()))),
         Err(LoadFault::Refused(fault)) => Some(Err(fault)),

@@ -17,4 +17,6 @@ pub use platform::Platform;
 pub use reading::read_platform;
 
 #[cfg(test)]
+mod cut_tests;
+#[cfg(test)]
 mod tests;

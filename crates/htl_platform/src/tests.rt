@@ -65,7 +65,7 @@ fn tasks(alloc: Global) -> Option<Vec<Task>>
     vec![in alloc; task(alloc, a, 7), task(alloc, b, 3)].ok()
 }
 
-fn tables(alloc: Global) -> Option<Tables> {
+pub fn tables(alloc: Global) -> Option<Tables> {
     let modes = modes(alloc)?;
     let modules = modules(alloc)?;
     let tasks = tasks(alloc)?;

@@ -14,6 +14,8 @@ mod compile_tests;
 #[cfg(test)]
 mod compiler_tests;
 mod execute;
+#[cfg(test)]
+mod failing_tests;
 mod fault_line;
 #[cfg(test)]
 mod fault_line_tests;

@@ -1,6 +1,8 @@
 // Platform files: what `compile with` answers of them, and what is said of the objects that it writes.
 use crate::samples::TWO_JOBS;
 use crate::tests::{Setting, answers, compiled_on, drawer, is_answered_on};
+use htl_base::limits::MAX_SOURCE;
+use htl_compile::compile_with;
 use std::alloc::Global;
 use std::test::Fail;
 
@@ -106,6 +108,23 @@ fn objects_for_platforms_are_used(rt: HostRuntime) -> Result<(), Fail> {
             "{verb}"
         );
     }
+    Ok(())
+}
+
+// What one call makes of a source on the platform that a file says; None where they are too long or it is refused.
+fn made_on(alloc: Global, source: &[u8], file: &[u8]) -> Option<Vec<u8>> {
+    if source.len() > MAX_SOURCE as usize || file.len() > MAX_SOURCE as usize {
+        return None;
+    }
+    compile_with(alloc, source, file).ok()
+}
+
+#[test]
+fn one_call_makes_the_object_for_a_platform(rt: HostRuntime) -> Result<(), Fail> {
+    let alloc = rt.alloc();
+    let object = compiled_on(alloc, TWO_JOBS, FAST)?;
+    let made = made_on(alloc, TWO_JOBS.as_bytes(), FAST.as_bytes());
+    assert!(rt; made.is_some_and(|bytes| bytes == object));
     Ok(())
 }
 
