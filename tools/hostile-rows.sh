@@ -106,5 +106,5 @@ rows() {
 	row streams switching switched go "$room/sometimes.htl"
 	row memory readings instructions code "$room/doubling.obj"
 	row memory modes planned plan "$room/sometimes.obj"
-	# where the program serves it: row memory nothing generated bulk 1
+	row memory nothing generated bulk 1
 }
