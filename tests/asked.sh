@@ -133,6 +133,7 @@ ask_for_all() {
 	ask plan-small /dev/null plan small.object
 	lines 'mode M m'
 	ask plan-after lines plan small.object
+	for it in filter control guard none; do ask slack-$it /dev/null slack motor.object Drive.$it; done
 	for it in 1 2 64; do ask bulk-$it /dev/null bulk $it; done
 	for it in 0 65 01 +1; do ask bulk-wrong-$it /dev/null bulk $it; done
 

@@ -2,7 +2,7 @@
 
 _htl() {
 	local word=${COMP_WORDS[COMP_CWORD]} before=${COMP_WORDS[COMP_CWORD - 1]} i command=
-	local commands="go compile jobs run code check show plan bulk"
+	local commands="go compile jobs run code check show plan slack bulk"
 	COMPREPLY=()
 	for ((i = 1; i < COMP_CWORD; i++)); do
 		case ${COMP_WORDS[i]} in
@@ -14,7 +14,7 @@ _htl() {
 	'')
 		local answers=
 		[ "$before" = --explain ] && answers="usage char number name-long long syntax twice unknown kind not-a-tree limit type deep too-long
-			ill-formed unschedulable platform text shape object form range order overrun no-end after size failed read write memory"
+			ill-formed unschedulable platform text shape object form range order overrun no-end after size failed read write memory task"
 		COMPREPLY=($(compgen -W "$commands --explain --unproved $answers --prove --svg --vcd --help --version" -- "$word"))
 		;;
 	compile)
@@ -28,7 +28,7 @@ _htl() {
 		esac
 		;;
 	bulk) [ "$before" != bulk ] || COMPREPLY=($(compgen -W "1 2 4 8 16 32 64" -- "$word")) ;;
-	go | jobs | run | code | check | show | plan)
+	go | jobs | run | code | check | show | plan | slack)
 		[ "$before" = "$command" ] || return
 		compopt -o filenames 2>/dev/null
 		local IFS=$'\n' pattern='*'

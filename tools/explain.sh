@@ -79,6 +79,19 @@ at_entry() {
 	fi
 }
 
+# The tasks that `slack` takes, by the listing of the object; nothing where no proved program stands.
+root_tasks() {
+	[ "$now" = proved ] || return 0
+	"$program" show "$shown" 2>/dev/null | awk '
+	$1 == "module" && NF == 4 { root[$2] = 1 }
+	$1 == "inv" {
+		split($2, part, ".")
+		task = part[1] "." part[3]
+		if (part[1] in root && !(task in told)) print "    " task
+		told[task] = 1
+	}'
+}
+
 # $1 the fault line, empty where there is none; $2 the source and $3 the script, where they are known.
 explain_fault() {
 	[ -n "$1" ] || return 0
@@ -107,6 +120,10 @@ explain_fault() {
 			esac
 			;;
 		'htl: unschedulable '*) overload "$2" ${1#htl: unschedulable } ;;
+		'htl: task')
+			echo "$shown: $meaning"
+			root_tasks
+			;;
 		'htl: platform text') echo "$platform: $meaning" ;;
 		'htl: platform '*) at_entry "${1##* }" ;;
 		'htl: shelf '*) echo "${platform:-$shown}: $meaning" ;;

@@ -55,7 +55,10 @@ run_unproved() {
 	word=$1
 	shift
 	case $form in
-	file) set -- --data "FILE=$room/file" -- "$word" FILE ;;
+	file)
+		shift
+		set -- --data "FILE=$room/file" -- "$word" FILE "$@"
+		;;
 	platform) set -- --data "FILE=$room/file" -- "$word" with FILE ;;
 	*) set -- -- "$word" "$@" ;;
 	esac

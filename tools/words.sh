@@ -1,5 +1,6 @@
 # Judges words before any build. Sets `form`: wrong, file (the second word is a file), platform (the third word is one), or
-# plain; and `input`: script, modes, source, or none where standard input is not read. The number of `bulk` is judged too.
+# plain; and `input`: script, modes, source, or none where standard input is not read. The number of `bulk` and the task of
+# `slack` are judged too.
 
 # Whether the bytes of the words are UTF-8: htl takes no others for text. (Some awks fail where an output is closed.)
 are_text() {
@@ -28,6 +29,25 @@ are_text() {
 	END { exit bad || left }' >/dev/null 2>&1
 }
 
+# Whether a word is a name: an identifier of 1 to 48 bytes that isn't reserved.
+is_name() (
+	LC_ALL=C
+	case $1 in
+	'' | [!A-Za-z_]* | *[!A-Za-z0-9_]*) exit 1 ;;
+	program | communicator | sensor | module | start | abstract | task | input | output | worst | mode) exit 1 ;;
+	period | port | invoke | parent | switch | init | int | bool | true | false | if) exit 1 ;;
+	esac
+	[ ${#1} -le 48 ]
+)
+
+# Whether a word is two names, joined by one dot.
+is_task() {
+	case $1 in
+	*.*) is_name "${1%%.*}" && is_name "${1#*.}" ;;
+	*) false ;;
+	esac
+}
+
 judge_words() {
 	form=wrong input=none
 	case $#:${1-} in
@@ -36,6 +56,7 @@ judge_words() {
 	2:check | 2:show) form=file ;;
 	1:compile) form=plain input=source ;;
 	2:bulk) case $2 in [1-9] | [1-5][0-9] | 6[0-4]) form=plain ;; esac ;;
+	3:slack) ! is_task "$3" || form=file ;;
 	3:compile) [ "$2" != with ] || form=platform input=source ;;
 	esac
 	[ "$form" = wrong ] || are_text "$@" || form=wrong

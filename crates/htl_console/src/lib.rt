@@ -14,5 +14,5 @@ mod shown;
 mod tests;
 
 pub use lines::{line_d, line_e, line_end, line_j, line_m, line_plan, line_s, line_v};
-pub use listing::show;
+pub use listing::{show, show_schedules};
 pub use shown::Shown;

@@ -147,7 +147,9 @@ fn show_schedule<W: Sink>(sink: &mut W, selection: usize, instrs: &[SInstr]) -> 
     Ok(())
 }
 
-fn show_schedules<W: Sink>(sink: &mut W, schedules: &[Schedule]) -> Result<(), Failed>
+/// Writes the lines `S NUMBER:PLACE TEXT` of schedules, each with its number from 0: those that end a listing. It takes no memory.
+/// After `Failed`, which comes only where the sink counted a fault, a prefix was written.
+pub fn show_schedules<W: Sink>(sink: &mut W, schedules: &[Schedule]) -> Result<(), Failed>
     ensures { Puts (W.written sink.old) (W.written sink.new) (W.faults sink.old) (W.faults sink.new) (all_lines schedule_lines schedules.now) result }
 {
     for k in 0..schedules.len() {

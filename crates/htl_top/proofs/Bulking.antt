@@ -37,7 +37,7 @@ use Rattle.htl_top.specs.Bulk.{bulk_events, readings_of, value_at, values_text, 
 use Rattle.htl_top.specs.Causes.{IsOrMemory}
 use Rattle.htl_top.specs.Sources.{HasTables, answer_of}
 use Rattle.htl_top.specs.declared.outcome.Outcome.{Outcome}
-use Rattle.htl_top.specs.declared.outcome.Outcome.TheVariants.{Done, Usage, Source, IllFormed, Unschedulable, Platform, Object as Refused, Script, Shelf, Read, Write, Memory}
+use Rattle.htl_top.specs.declared.outcome.Outcome.TheVariants.{Done, Usage, Source, IllFormed, Unschedulable, Platform, Task, Object as Refused, Script, Shelf, Read, Write, Memory}
 
 -- ---- what a finished machine has
 
@@ -149,6 +149,7 @@ module _ (n : ℕ) (old new : Streams) where
   unread Memory b = b.rest
   unread Usage b = absurd b
   unread (Platform f) b = absurd b
+  unread Task b = absurd b
   unread (Source f) b = absurd b
   unread (IllFormed f) b = absurd b
   unread (Unschedulable sel from to demand) b = absurd b
@@ -163,6 +164,7 @@ module _ (n : ℕ) (old new : Streams) where
   unwritten Memory b early = b.written
   unwritten Usage b early = absurd b
   unwritten (Platform f) b early = absurd b
+  unwritten Task b early = absurd b
   unwritten (Source f) b early = absurd b
   unwritten (IllFormed f) b early = absurd b
   unwritten (Unschedulable sel from to demand) b early = absurd b
@@ -177,6 +179,7 @@ module _ (n : ℕ) (old new : Streams) where
   complete Memory still b = inr refl
   complete Usage still b = absurd b
   complete (Platform f) still b = absurd b
+  complete Task still b = absurd b
   complete (Source f) still b = absurd b
   complete (IllFormed f) still b = absurd b
   complete (Unschedulable sel from to demand) still b = absurd b

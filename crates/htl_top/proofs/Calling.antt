@@ -37,6 +37,7 @@ use Rattle.htl_top.proofs.ObjectAnswering as objects
 use Rattle.htl_top.proofs.ObjectAnswering.{IsWork, text_is_work}
 use Rattle.htl_top.proofs.Planning.{planning, bad_input, whole_input}
 use Rattle.htl_top.proofs.Running.{running, bad_run, whole_run}
+use Rattle.htl_top.proofs.Slacking.{slacking}
 use Rattle.htl_top.specs.Answers.{Files, Streams, IsBeforeScript, IsBeforeRun}
 use Rattle.htl_top.specs.Bulk.{bulk_text, IsBulked}
 use Rattle.htl_top.specs.Calls.{IsCall}
@@ -51,9 +52,10 @@ use Rattle.htl_top.specs.Runs.{IsRun, IsWholeRun, IsFaultyRun, IsCutRun}
 use Rattle.htl_top.specs.Scripts.{IsWhole, IsBad}
 use Rattle.htl_top.specs.SelectionInput.{Whole, Bad, input_of}
 use Rattle.htl_top.specs.Shown.{show_text, IsShown}
+use Rattle.htl_top.specs.Slacked.{IsSlacked}
 use Rattle.htl_top.specs.Sources.{HasTables, IsProgram, IsInputProgram, answer_of}
 use Rattle.htl_top.specs.SourcesOn.{IsProgramOn, answer_on}
-use Rattle.htl_top.specs.Words.{Command, Go, Compile, CompileWith, Run, Check, Plan, Show, Bulk, RunsObject, source_of, platform_file, object_of}
+use Rattle.htl_top.specs.Words.{Command, Go, Compile, CompileWith, Run, Check, Plan, Show, Bulk, Slack, RunsObject, source_of, platform_file, object_of}
 use Rattle.htl_top.specs.declared.outcome.Outcome.{Outcome}
 use Rattle.htl_top.specs.declared.outcome.Outcome.TheVariants.{Done, Usage, Source, Platform, Object as Refused, Script, Shelf, Read, Write, Memory}
 use Rattle.htl_top.specs.declared.outcome.ShelfCause.{ShelfCause}
@@ -122,6 +124,8 @@ module _ (shelf : Files) (old new : Streams) where
       not_asked (Plan name) (outcome ≡ Usage) (λ e. objects.no_usage IsPlanned planning (Some name) shelf old new (subst (λ o. IsOnObject IsPlanned (Some name) shelf old new o) e call))
   usage (Some (Show name)) outcome call =
       not_asked (Show name) (outcome ≡ Usage) (λ e. objects.no_usage IsShown showing (Some name) shelf old new (subst (λ o. IsOnObject IsShown (Some name) shelf old new o) e call))
+  usage (Some (Slack name owner task)) outcome call =
+      not_asked (Slack name owner task) (outcome ≡ Usage) (λ e. objects.no_usage (IsSlacked owner task) (slacking owner task) (Some name) shelf old new (subst (λ o. IsOnObject (IsSlacked owner task) (Some name) shelf old new o) e call))
   usage (Some (Bulk n)) outcome call = not_asked (Bulk n) (outcome ≡ Usage) (λ e. subst (λ o. IsBulked n old new o) e call)
 
   -- ---- of an answer
@@ -136,6 +140,7 @@ module _ (shelf : Files) (old new : Streams) where
   shelf_failed (Some (Check name)) call = inr (inl (objects.shelf_failed IsChecked checking (Some name) shelf old new call))
   shelf_failed (Some (Plan name)) call = inr (inl (objects.shelf_failed IsPlanned planning (Some name) shelf old new call))
   shelf_failed (Some (Show name)) call = inr (inl (objects.shelf_failed IsShown showing (Some name) shelf old new call))
+  shelf_failed (Some (Slack name owner task)) call = inr (inl (objects.shelf_failed (IsSlacked owner task) (slacking owner task) (Some name) shelf old new call))
   shelf_failed (Some (Bulk n)) call = absurd call
 
   pub shelf_long : (command : Option Command) (seen : ℕ) → IsCall command shelf old new (Shelf (TooLong seen))
@@ -148,6 +153,7 @@ module _ (shelf : Files) (old new : Streams) where
   shelf_long (Some (Check name)) seen call = inr (inl (objects.shelf_long IsChecked checking (Some name) shelf old new seen call))
   shelf_long (Some (Plan name)) seen call = inr (inl (objects.shelf_long IsPlanned planning (Some name) shelf old new seen call))
   shelf_long (Some (Show name)) seen call = inr (inl (objects.shelf_long IsShown showing (Some name) shelf old new seen call))
+  shelf_long (Some (Slack name owner task)) seen call = inr (inl (objects.shelf_long (IsSlacked owner task) (slacking owner task) (Some name) shelf old new seen call))
   shelf_long (Some (Bulk n)) seen call = absurd call
 
   -- no object has an answer of a source
@@ -175,6 +181,7 @@ module _ (shelf : Files) (old new : Streams) where
   cause (Some (Check name)) f told call = no_source IsChecked checking name f told call
   cause (Some (Plan name)) f told call = no_source IsPlanned planning name f told call
   cause (Some (Show name)) f told call = no_source IsShown showing name f told call
+  cause (Some (Slack name owner task)) f told call = no_source (IsSlacked owner task) (slacking owner task) name f told call
   cause (Some (Bulk n)) f told call = bulking.no_cause n old new f told call
 
   -- no run has an answer of a platform file
@@ -190,6 +197,7 @@ module _ (shelf : Files) (old new : Streams) where
   platform (Some (Check name)) f call = absurd (no_platform IsChecked checking name f call)
   platform (Some (Plan name)) f call = absurd (no_platform IsPlanned planning name f call)
   platform (Some (Show name)) f call = absurd (no_platform IsShown showing name f call)
+  platform (Some (Slack name owner task)) f call = absurd (no_platform (IsSlacked owner task) (slacking owner task) name f call)
   platform (Some (Bulk n)) f call = absurd call
 
   pub object : (command : Option Command) (f : ObjectFault) → IsCall command shelf old new (Refused f) → IsRefusedFile (object_of command) shelf.holds f
@@ -201,6 +209,7 @@ module _ (shelf : Files) (old new : Streams) where
   object (Some (Check name)) f call = objects.object IsChecked checking (Some name) shelf old new f call
   object (Some (Plan name)) f call = objects.object IsPlanned planning (Some name) shelf old new f call
   object (Some (Show name)) f call = objects.object IsShown showing (Some name) shelf old new f call
+  object (Some (Slack name owner task)) f call = objects.object (IsSlacked owner task) (slacking owner task) (Some name) shelf old new f call
   object (Some (Bulk n)) f call = absurd call
 
   -- ---- what stays as it was
@@ -215,6 +224,7 @@ module _ (shelf : Files) (old new : Streams) where
   unread (Some (Check name)) outcome call other apart early = objects.unread IsChecked checking (Some name) shelf old new outcome call early
   unread (Some (Plan name)) outcome call other apart early = objects.unread IsPlanned planning (Some name) shelf old new outcome call early
   unread (Some (Show name)) outcome call other apart early = objects.unread IsShown showing (Some name) shelf old new outcome call early
+  unread (Some (Slack name owner task)) outcome call other apart early = objects.unread (IsSlacked owner task) (slacking owner task) (Some name) shelf old new outcome call early
   unread (Some (Bulk n)) outcome call other apart early = bulking.unread n old new outcome call
 
   pub unfetched : (command : Option Command) (outcome : Outcome) → IsCall command shelf old new outcome → (why : ShelfCause) → outcome ≡ Shelf why → new.rest ≡ old.rest
@@ -230,6 +240,7 @@ module _ (shelf : Files) (old new : Streams) where
       by (Some (Check name)) why call = objects.unread IsChecked checking (Some name) shelf old new (Shelf why) call tt
       by (Some (Plan name)) why call = objects.unread IsPlanned planning (Some name) shelf old new (Shelf why) call tt
       by (Some (Show name)) why call = objects.unread IsShown showing (Some name) shelf old new (Shelf why) call tt
+      by (Some (Slack name owner task)) why call = objects.unread (IsSlacked owner task) (slacking owner task) (Some name) shelf old new (Shelf why) call tt
       by (Some (Bulk n)) why call = absurd call
 
   pub unwritten : (command : Option Command) (outcome : Outcome) → IsCall command shelf old new outcome → IsBeforeRun outcome → new.written ≡ old.written
@@ -241,6 +252,7 @@ module _ (shelf : Files) (old new : Streams) where
   unwritten (Some (Check name)) outcome call early = objects.unwritten IsChecked checking (Some name) shelf old new outcome call early
   unwritten (Some (Plan name)) outcome call early = objects.unwritten IsPlanned planning (Some name) shelf old new outcome call early
   unwritten (Some (Show name)) outcome call early = objects.unwritten IsShown showing (Some name) shelf old new outcome call early
+  unwritten (Some (Slack name owner task)) outcome call early = objects.unwritten (IsSlacked owner task) (slacking owner task) (Some name) shelf old new outcome call early
   unwritten (Some (Bulk n)) outcome call early = bulking.unwritten n old new outcome call early
 
   -- want of memory comes before the first byte of a script is read
@@ -253,6 +265,7 @@ module _ (shelf : Files) (old new : Streams) where
   memory_unread (Some (Check name)) call runs = absurd runs
   memory_unread (Some (Plan name)) call runs = absurd runs
   memory_unread (Some (Show name)) call runs = absurd runs
+  memory_unread (Some (Slack name owner task)) call runs = absurd runs
   memory_unread (Some (Bulk n)) call runs = absurd runs
 
   -- ---- of a source that is named
@@ -267,6 +280,7 @@ module _ (shelf : Files) (old new : Streams) where
   of_source (Some (Check name)) word outcome named call = absurd (some_not_none (List ℕ) None word named refl)
   of_source (Some (Plan name)) word outcome named call = absurd (some_not_none (List ℕ) None word named refl)
   of_source (Some (Show name)) word outcome named call = absurd (some_not_none (List ℕ) None word named refl)
+  of_source (Some (Slack name owner task)) word outcome named call = absurd (some_not_none (List ℕ) None word named refl)
   of_source (Some (Bulk n)) word outcome named call = absurd (some_not_none (List ℕ) None word named refl)
 
   pub long_file : (command : Option Command) (bytes : List ℕ) (outcome : Outcome) → IsGiven (source_of command) shelf.holds shelf.before shelf.after bytes
@@ -403,6 +417,7 @@ module _ (shelf : Files) (old new : Streams) where
   of_platform (Some (Check name)) word outcome named call = absurd (some_not_none (List ℕ) None word named refl)
   of_platform (Some (Plan name)) word outcome named call = absurd (some_not_none (List ℕ) None word named refl)
   of_platform (Some (Show name)) word outcome named call = absurd (some_not_none (List ℕ) None word named refl)
+  of_platform (Some (Slack name owner task)) word outcome named call = absurd (some_not_none (List ℕ) None word named refl)
   of_platform (Some (Bulk n)) word outcome named call = absurd (some_not_none (List ℕ) None word named refl)
 
   pub long_platform : (command : Option Command) (outcome : Outcome) → IsCall command shelf old new outcome → (file : List ℕ)
@@ -441,6 +456,7 @@ module _ (shelf : Files) (old new : Streams) where
   long_object (Some (Check name)) bytes outcome given call long = objects.long_object IsChecked checking (Some name) shelf old new bytes given outcome call long
   long_object (Some (Plan name)) bytes outcome given call long = objects.long_object IsPlanned planning (Some name) shelf old new bytes given outcome call long
   long_object (Some (Show name)) bytes outcome given call long = objects.long_object IsShown showing (Some name) shelf old new bytes given outcome call long
+  long_object (Some (Slack name owner task)) bytes outcome given call long = objects.long_object (IsSlacked owner task) (slacking owner task) (Some name) shelf old new bytes given outcome call long
   long_object (Some (Bulk n)) bytes outcome given call long = absurd (some_not_none (List ℕ) None given.word given.named refl)
 
   pub faulty_object : (command : Option Command) (bytes : List ℕ) (outcome : Outcome) → IsGiven (object_of command) shelf.holds shelf.before shelf.after bytes
@@ -457,6 +473,8 @@ module _ (shelf : Files) (old new : Streams) where
       objects.faulty_object IsPlanned planning (Some name) shelf old new bytes given outcome call f short refused
   faulty_object (Some (Show name)) bytes outcome given call f short refused =
       objects.faulty_object IsShown showing (Some name) shelf old new bytes given outcome call f short refused
+  faulty_object (Some (Slack name owner task)) bytes outcome given call f short refused =
+      objects.faulty_object (IsSlacked owner task) (slacking owner task) (Some name) shelf old new bytes given outcome call f short refused
   faulty_object (Some (Bulk n)) bytes outcome given call f short refused = absurd (some_not_none (List ℕ) None given.word given.named refl)
 
   -- ---- `run` and `jobs`

@@ -19,7 +19,7 @@ use Rattle.htl_top.specs.Causes.{IsOrMemory}
 use Rattle.htl_top.specs.Compiling.{IsCompiling, IsBytesCompiled, compiled_bytes}
 use Rattle.htl_top.specs.Sources.{IsInput, IsInputProgram, IsFaultyInput, IsLongInput, IsInputFault, IsNotCompiled, answer_of, outcome_of}
 use Rattle.htl_top.specs.declared.outcome.Outcome.{Outcome}
-use Rattle.htl_top.specs.declared.outcome.Outcome.TheVariants.{Done, Usage, Source, IllFormed, Unschedulable, Platform, Object as Refused, Script, Shelf, Read, Write, Memory}
+use Rattle.htl_top.specs.declared.outcome.Outcome.TheVariants.{Done, Usage, Source, IllFormed, Unschedulable, Platform, Task, Object as Refused, Script, Shelf, Read, Write, Memory}
 use Rattle.htl_top.specs.declared.source.SourceStop.{SourceStop}
 use Rattle.htl_top.specs.declared.source.SourceStop.TheVariants as stop
 
@@ -70,6 +70,7 @@ module _ (old new : Streams) where
   unwritten Memory compiling early = compiling
   unwritten Usage compiling early = absurd compiling
   unwritten (Platform f) compiling early = absurd compiling
+  unwritten Task compiling early = absurd compiling
   unwritten (Refused f) compiling early = absurd compiling
   unwritten (Script f) compiling early = absurd compiling
   unwritten (Shelf cause) compiling early = absurd compiling
@@ -108,6 +109,7 @@ module _ (old new : Streams) where
     long_input Memory compiling long quiet = inr refl
     long_input Usage compiling long quiet = absurd compiling
     long_input (Platform f) compiling long quiet = absurd compiling
+    long_input Task compiling long quiet = absurd compiling
     long_input (Refused f) compiling long quiet = absurd compiling
     long_input (Script f) compiling long quiet = absurd compiling
     long_input (Shelf cause) compiling long quiet = absurd compiling
@@ -133,6 +135,7 @@ module _ (old new : Streams) where
       faulty_input Memory compiling quiet = inr refl
       faulty_input Usage compiling quiet = absurd compiling
       faulty_input (Platform f) compiling quiet = absurd compiling
+      faulty_input Task compiling quiet = absurd compiling
       faulty_input (Refused g) compiling quiet = absurd compiling
       faulty_input (Script g) compiling quiet = absurd compiling
       faulty_input (Shelf cause) compiling quiet = absurd compiling
@@ -153,6 +156,7 @@ module _ (old new : Streams) where
       complete Memory compiling quiet still = inr refl
       complete Usage compiling quiet still = absurd compiling
       complete (Platform f) compiling quiet still = absurd compiling
+      complete Task compiling quiet still = absurd compiling
       complete (Refused g) compiling quiet still = absurd compiling
       complete (Script g) compiling quiet still = absurd compiling
       complete (Shelf cause) compiling quiet still = absurd compiling

@@ -28,7 +28,7 @@ use Rattle.htl_top.specs.Going.{IsUncompiled, IsGoing, IsBytesGoing, IsReadySour
 use Rattle.htl_top.specs.Runs.{IsRun}
 use Rattle.htl_top.specs.Sources.{HasTables, IsProgram, IsFaultyProgram, IsNotCompiled, answer_of, outcome_of}
 use Rattle.htl_top.specs.declared.outcome.Outcome.{Outcome}
-use Rattle.htl_top.specs.declared.outcome.Outcome.TheVariants.{Done, Usage, Source, IllFormed, Unschedulable, Platform, Object as Refused, Script, Shelf, Read, Write, Memory}
+use Rattle.htl_top.specs.declared.outcome.Outcome.TheVariants.{Done, Usage, Source, IllFormed, Unschedulable, Platform, Task, Object as Refused, Script, Shelf, Read, Write, Memory}
 use Rattle.htl_top.specs.declared.outcome.ShelfCause.TheVariants.{Failed, TooLong}
 use Rattle.htl_top.specs.declared.source.SourceStop.{SourceStop}
 use Rattle.htl_top.specs.declared.source.SourceStop.TheVariants as stop
@@ -82,6 +82,7 @@ uncompiled_before name shelf Memory s work = refl
 uncompiled_before name shelf Done s work = absurd s
 uncompiled_before name shelf Usage s work = absurd s
 uncompiled_before name shelf (Platform f) s work = absurd s
+uncompiled_before name shelf Task s work = absurd s
 uncompiled_before name shelf (Source f) s work = absurd work
 uncompiled_before name shelf (IllFormed f) s work = absurd work
 uncompiled_before name shelf (Unschedulable sel a b demand) s work = absurd work
@@ -91,19 +92,20 @@ uncompiled_before name shelf (Shelf cause) s work = absurd work
 uncompiled_before name shelf Read s work = absurd s
 uncompiled_before name shelf Write s work = absurd s
 
-early_work : (outcome : Outcome) → IsBeforeScript outcome → IsOfWork outcome → ⊥
-early_work Done early work = early
-early_work Usage early work = work
-early_work (Platform f) early work = work
-early_work (Source f) early work = work
-early_work (IllFormed f) early work = work
-early_work (Unschedulable sel a b demand) early work = work
-early_work (Refused f) early work = work
-early_work (Script f) early work = early
-early_work (Shelf cause) early work = work
-early_work Read early work = early
-early_work Write early work = early
-early_work Memory early work = early
+early_work : (outcome : Outcome) → IsBeforeScript outcome → IsOfWork outcome → outcome ≡ Task
+early_work Done early work = absurd early
+early_work Usage early work = absurd work
+early_work (Platform f) early work = absurd work
+early_work Task early work = refl
+early_work (Source f) early work = absurd work
+early_work (IllFormed f) early work = absurd work
+early_work (Unschedulable sel a b demand) early work = absurd work
+early_work (Refused f) early work = absurd work
+early_work (Script f) early work = absurd early
+early_work (Shelf cause) early work = absurd work
+early_work Read early work = absurd early
+early_work Write early work = absurd early
+early_work Memory early work = absurd early
 
 pub IsProgram-map : (name : Option (List ℕ)) (holds : Option Holdings) (Fact Other : Tables → Type 0) → ((t : Tables) → Fact t → Other t)
     → IsProgram name holds Fact → IsProgram name holds Other
@@ -138,7 +140,9 @@ module _ (name : Option (List ℕ)) (shelf : Files) (old new : Streams) where
 
   pub unread : (outcome : Outcome) → IsGoing name shelf old new outcome → IsBeforeScript outcome → new.rest ≡ old.rest
   unread outcome going early = elim going [
-    | inl p ↦ absurd (early_work outcome early (run_only Jobs p.has.tables (built p.has.tables) old new outcome p.has.fact))
+    | inl p ↦
+        let task = early_work outcome early (run_only Jobs p.has.tables (built p.has.tables) old new outcome p.has.fact) in
+        absurd (subst (λ (o : Outcome). IsRun Jobs p.has.tables (built p.has.tables) old new o) task p.has.fact)
     | inr s ↦ s.1.rest
   ]
 
@@ -196,6 +200,7 @@ module _ (name : Option (List ℕ)) (shelf : Files) (old new : Streams) where
     long_stopped Done long s = absurd s
     long_stopped Usage long s = absurd s
     long_stopped (Platform f) long s = absurd s
+    long_stopped Task long s = absurd s
     long_stopped (Refused f) long s = absurd s
     long_stopped (Script f) long s = absurd s
     long_stopped Read long s = absurd s
@@ -219,6 +224,7 @@ module _ (name : Option (List ℕ)) (shelf : Files) (old new : Streams) where
       faulty_stopped Done s = absurd s
       faulty_stopped Usage s = absurd s
       faulty_stopped (Platform f) s = absurd s
+      faulty_stopped Task s = absurd s
       faulty_stopped (Refused g) s = absurd s
       faulty_stopped (Script g) s = absurd s
       faulty_stopped Read s = absurd s
@@ -249,6 +255,7 @@ module _ (name : Option (List ℕ)) (shelf : Files) (old new : Streams) where
     ready_stopped Done s = absurd s
     ready_stopped Usage s = absurd s
     ready_stopped (Platform f) s = absurd s
+    ready_stopped Task s = absurd s
     ready_stopped (Refused g) s = absurd s
     ready_stopped (Script g) s = absurd s
     ready_stopped Read s = absurd s

@@ -31,3 +31,6 @@ pub mod SourceNames
 pub mod Stopping
 pub mod Streaming
 pub mod Totals
+pub mod EqualRounds
+pub mod Slacking
+pub mod SlackCalling

@@ -19,9 +19,9 @@ use Rattle.htl_top.specs.Sources.{HasTypedTables, IsInput, IsNotCompiled, IsType
 use Rattle.htl_top.specs.SourcesOn.{HasTypedOn, IsTypedOn, IsNotCompiledOn}
 use Rattle.htl_top.specs.Status.{fault_line}
 use Rattle.htl_top.specs.Telling.{SpeaksOf, IsFaultTold, IsLineTold}
-use Rattle.htl_top.specs.Words.{Command, Go, Compile, CompileWith, Run, Check, Plan, Show, Bulk}
+use Rattle.htl_top.specs.Words.{Command, Go, Compile, CompileWith, Run, Check, Plan, Show, Bulk, Slack}
 use Rattle.htl_top.specs.declared.outcome.Outcome.{Outcome}
-use Rattle.htl_top.specs.declared.outcome.Outcome.TheVariants.{Done, Usage, Source, IllFormed, Unschedulable, Platform, Object, Script, Shelf, Read, Write, Memory}
+use Rattle.htl_top.specs.declared.outcome.Outcome.TheVariants.{Done, Usage, Source, IllFormed, Unschedulable, Platform, Task, Object, Script, Shelf, Read, Write, Memory}
 use Rattle.htl_top.specs.declared.source.SourceStop.{SourceStop}
 use Rattle.htl_top.specs.declared.source.SourceStop.TheVariants as stop
 
@@ -31,6 +31,7 @@ pub SpeaksOf-run : (Sources Objects : (Tables → Type 0) → Type 0) (show : Sh
 SpeaksOf-run Sources Objects show t o old new Done told run = tt
 SpeaksOf-run Sources Objects show t o old new Usage told run = tt
 SpeaksOf-run Sources Objects show t o old new (Platform f) told run = tt
+SpeaksOf-run Sources Objects show t o old new Task told run = tt
 SpeaksOf-run Sources Objects show t o old new (Source f) told run = tt
 SpeaksOf-run Sources Objects show t o old new (IllFormed f) told run = absurd run
 SpeaksOf-run Sources Objects show t o old new (Unschedulable sel a b demand) told run = tt
@@ -47,6 +48,7 @@ pub SpeaksOf-bulk : (Sources Objects : (Tables → Type 0) → Type 0) (n : ℕ)
 SpeaksOf-bulk Sources Objects n old new Done told b = tt
 SpeaksOf-bulk Sources Objects n old new Usage told b = tt
 SpeaksOf-bulk Sources Objects n old new (Platform f) told b = tt
+SpeaksOf-bulk Sources Objects n old new Task told b = tt
 SpeaksOf-bulk Sources Objects n old new (Source f) told b = tt
 SpeaksOf-bulk Sources Objects n old new (IllFormed f) told b = absurd b
 SpeaksOf-bulk Sources Objects n old new (Unschedulable sel from to demand) told b = tt
@@ -80,6 +82,7 @@ pub SpeaksOf-source : (Sources Others Objects : (Tables → Type 0) → Type 0) 
 SpeaksOf-source Sources Others Objects Done told map speaks = tt
 SpeaksOf-source Sources Others Objects Usage told map speaks = tt
 SpeaksOf-source Sources Others Objects (Platform f) told map speaks = tt
+SpeaksOf-source Sources Others Objects Task told map speaks = tt
 SpeaksOf-source Sources Others Objects (Source f) told map speaks = tt
 SpeaksOf-source Sources Others Objects (IllFormed f) told map speaks = map (λ t. told ≡ Some (coded t)) speaks
 SpeaksOf-source Sources Others Objects (Unschedulable sel a b demand) told map speaks = tt
@@ -154,6 +157,7 @@ source_of_maps (Some (Check name)) holds rest Fact Other f h = h
 source_of_maps (Some (Plan name)) holds rest Fact Other f h = h
 source_of_maps (Some (Show name)) holds rest Fact Other f h = h
 source_of_maps (Some (Bulk n)) holds rest Fact Other f h = h
+source_of_maps (Some (Slack name owner task)) holds rest Fact Other f h = h
 
 object_of_maps : (command : Option Command) (holds : Option Holdings) → Maps (HasObject command holds)
 object_of_maps None holds Fact Other f h = h
@@ -165,6 +169,7 @@ object_of_maps (Some (Check name)) holds Fact Other f h = object_maps (Some name
 object_of_maps (Some (Plan name)) holds Fact Other f h = object_maps (Some name) holds Fact Other f h
 object_of_maps (Some (Show name)) holds Fact Other f h = object_maps (Some name) holds Fact Other f h
 object_of_maps (Some (Bulk n)) holds Fact Other f h = h
+object_of_maps (Some (Slack name owner task)) holds Fact Other f h = object_maps (Some name) holds Fact Other f h
 
 -- the names of tables with code are those of the tables
 names_of : (t : Tables) (f : FormFault) → fault_line (Some (coded t)) (IllFormed f) ≡ fault_line (Some t) (IllFormed f)
@@ -185,6 +190,7 @@ module _ (command : Option Command) (holds : Option Holdings) (rest : Option (Li
   IsLineTold-report Done speaks told = told
   IsLineTold-report Usage speaks told = told
   IsLineTold-report (Platform f) speaks told = told
+  IsLineTold-report Task speaks told = told
   IsLineTold-report (Source f) speaks told = told
   IsLineTold-report (IllFormed f) speaks told =
       source_of_maps command holds rest (λ t. tables ≡ Some (coded t)) (λ t. Told (fault_line (Some t) (IllFormed f)))

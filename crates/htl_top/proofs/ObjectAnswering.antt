@@ -20,7 +20,7 @@ use Rattle.htl_top.specs.Answers.{Files, Streams, IsWritten, IsBeforeScript, IsB
 use Rattle.htl_top.specs.Causes.{IsFaultOf, IsLongFile, IsGiven, IsOrMemory}
 use Rattle.htl_top.specs.Objects.{IsObjectFile, IsRefusedFile, IsAcceptedFile, IsStopped, IsOnObject, IsTextAnswer, IsTextOnObject, IsReadyObject, Work}
 use Rattle.htl_top.specs.declared.outcome.Outcome.{Outcome}
-use Rattle.htl_top.specs.declared.outcome.Outcome.TheVariants.{Done, Usage, Source, IllFormed, Unschedulable, Platform, Object as Refused, Script, Shelf, Read, Write, Memory}
+use Rattle.htl_top.specs.declared.outcome.Outcome.TheVariants.{Done, Usage, Source, IllFormed, Unschedulable, Platform, Task, Object as Refused, Script, Shelf, Read, Write, Memory}
 use Rattle.htl_top.specs.declared.outcome.ShelfCause.TheVariants.{Failed, TooLong}
 
 -- ---- bytes have one object, or one fault
@@ -110,6 +110,7 @@ IsOfWork Write = Unit {0}
 IsOfWork Memory = Unit {0}
 IsOfWork Usage = ⊥
 IsOfWork (Platform f) = ⊥
+IsOfWork Task = Unit {0}
 IsOfWork (Source f) = ⊥
 IsOfWork (IllFormed f) = ⊥
 IsOfWork (Unschedulable sel a b demand) = ⊥
@@ -120,12 +121,14 @@ IsOfWork (Shelf cause) = ⊥
 pub record IsWork (Does : Work) : Type 0 where
   pub only : (o : Object) (old new : Streams) (outcome : Outcome) → Does o old new outcome → IsOfWork outcome
   pub unwritten : (o : Object) (old new : Streams) (outcome : Outcome) → Does o old new outcome → IsBeforeRun outcome → new.written ≡ old.written
+  pub unread : (o : Object) (old new : Streams) → Does o old new Task → new.rest ≡ old.rest
 
 text_only : (text : List ℕ) (old new : Streams) (outcome : Outcome) → IsTextAnswer text old new outcome → IsOfWork outcome
 text_only text old new Done answer = tt
 text_only text old new Write answer = tt
 text_only text old new Usage answer = absurd answer
 text_only text old new (Platform f) answer = absurd answer
+text_only text old new Task answer = absurd answer
 text_only text old new (Source f) answer = absurd answer
 text_only text old new (IllFormed f) answer = absurd answer
 text_only text old new (Unschedulable sel a b demand) answer = absurd answer
@@ -140,6 +143,7 @@ text_unwritten text old new Done answer early = absurd early
 text_unwritten text old new Write answer early = absurd early
 text_unwritten text old new Usage answer early = absurd answer
 text_unwritten text old new (Platform f) answer early = absurd answer
+text_unwritten text old new Task answer early = absurd answer
 text_unwritten text old new (Source f) answer early = absurd answer
 text_unwritten text old new (IllFormed f) answer early = absurd answer
 text_unwritten text old new (Unschedulable sel a b demand) answer early = absurd answer
@@ -153,6 +157,7 @@ pub text_is_work : (text : Object → List ℕ) → IsWork (λ o old new outcome
 text_is_work text = record {
   only = λ o old new outcome answer. text_only (text o) old new outcome answer;
   unwritten = λ o old new outcome answer early. text_unwritten (text o) old new outcome answer early;
+  unread = λ o old new answer. absurd answer;
 }
 
 -- nothing is read for a text
@@ -161,6 +166,7 @@ text_unread text old new Done answer = answer.0
 text_unread text old new Write answer = answer.0
 text_unread text old new Usage answer = absurd answer
 text_unread text old new (Platform f) answer = absurd answer
+text_unread text old new Task answer = absurd answer
 text_unread text old new (Source f) answer = absurd answer
 text_unread text old new (IllFormed f) answer = absurd answer
 text_unread text old new (Unschedulable sel a b demand) answer = absurd answer
@@ -176,6 +182,7 @@ text_done text old new Done answer still = inl refl
 text_done text old new Write answer still = absurd (still answer.1)
 text_done text old new Usage answer still = absurd answer
 text_done text old new (Platform f) answer still = absurd answer
+text_done text old new Task answer still = absurd answer
 text_done text old new (Source f) answer still = absurd answer
 text_done text old new (IllFormed f) answer still = absurd answer
 text_done text old new (Unschedulable sel a b demand) answer still = absurd answer
@@ -193,6 +200,7 @@ stopped_before name shelf Memory stopped work = refl
 stopped_before name shelf Done stopped work = absurd stopped
 stopped_before name shelf Usage stopped work = absurd stopped
 stopped_before name shelf (Platform f) stopped work = absurd stopped
+stopped_before name shelf Task stopped work = absurd stopped
 stopped_before name shelf (Source f) stopped work = absurd stopped
 stopped_before name shelf (IllFormed f) stopped work = absurd stopped
 stopped_before name shelf (Unschedulable sel a b demand) stopped work = absurd stopped
@@ -202,19 +210,20 @@ stopped_before name shelf (Shelf cause) stopped work = absurd work
 stopped_before name shelf Read stopped work = absurd stopped
 stopped_before name shelf Write stopped work = absurd stopped
 
-early_work : (outcome : Outcome) → IsBeforeScript outcome → IsOfWork outcome → ⊥
-early_work Done early work = early
-early_work Usage early work = work
-early_work (Platform f) early work = work
-early_work (Source f) early work = work
-early_work (IllFormed f) early work = work
-early_work (Unschedulable sel a b demand) early work = work
-early_work (Refused f) early work = work
-early_work (Script f) early work = early
-early_work (Shelf cause) early work = work
-early_work Read early work = early
-early_work Write early work = early
-early_work Memory early work = early
+early_work : (outcome : Outcome) → IsBeforeScript outcome → IsOfWork outcome → outcome ≡ Task
+early_work Done early work = absurd early
+early_work Usage early work = absurd work
+early_work (Platform f) early work = absurd work
+early_work Task early work = refl
+early_work (Source f) early work = absurd work
+early_work (IllFormed f) early work = absurd work
+early_work (Unschedulable sel a b demand) early work = absurd work
+early_work (Refused f) early work = absurd work
+early_work (Script f) early work = absurd early
+early_work (Shelf cause) early work = absurd work
+early_work Read early work = absurd early
+early_work Write early work = absurd early
+early_work Memory early work = absurd early
 
 module _ (Does : Work) (work : IsWork Does) (name : Option (List ℕ)) (shelf : Files) (old new : Streams) where
   -- an answer that no work has
@@ -235,7 +244,9 @@ module _ (Does : Work) (work : IsWork Does) (name : Option (List ℕ)) (shelf : 
 
   pub unread : (outcome : Outcome) → IsOnObject Does name shelf old new outcome → IsBeforeScript outcome → new.rest ≡ old.rest
   unread outcome on early = elim on [
-    | inl a ↦ absurd (early_work outcome early (work.only a.object old new outcome a.fact))
+    | inl a ↦
+        let task = early_work outcome early (work.only a.object old new outcome a.fact) in
+        work.unread a.object old new (subst (λ (o : Outcome). Does a.object old new o) task a.fact)
     | inr s ↦ s.1.rest
   ]
 
@@ -280,6 +291,7 @@ module _ (Does : Work) (work : IsWork Does) (name : Option (List ℕ)) (shelf : 
     long_stopped Done long s = absurd s
     long_stopped Usage long s = absurd s
     long_stopped (Platform f) long s = absurd s
+    long_stopped Task long s = absurd s
     long_stopped (Source f) long s = absurd s
     long_stopped (IllFormed f) long s = absurd s
     long_stopped (Unschedulable sel a b demand) long s = absurd s
@@ -303,6 +315,7 @@ module _ (Does : Work) (work : IsWork Does) (name : Option (List ℕ)) (shelf : 
     faulty_stopped Done f short refused s = absurd s
     faulty_stopped Usage f short refused s = absurd s
     faulty_stopped (Platform g) f short refused s = absurd s
+    faulty_stopped Task f short refused s = absurd s
     faulty_stopped (Source g) f short refused s = absurd s
     faulty_stopped (IllFormed g) f short refused s = absurd s
     faulty_stopped (Unschedulable sel a b demand) f short refused s = absurd s
@@ -326,6 +339,7 @@ module _ (Does : Work) (work : IsWork Does) (name : Option (List ℕ)) (shelf : 
     ready_stopped Done o short has accepted s = absurd s
     ready_stopped Usage o short has accepted s = absurd s
     ready_stopped (Platform f) o short has accepted s = absurd s
+    ready_stopped Task o short has accepted s = absurd s
     ready_stopped (Source g) o short has accepted s = absurd s
     ready_stopped (IllFormed g) o short has accepted s = absurd s
     ready_stopped (Unschedulable sel a b demand) o short has accepted s = absurd s

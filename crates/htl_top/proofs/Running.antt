@@ -18,7 +18,7 @@ use Rattle.htl_top.specs.Causes.{IsOrMemory}
 use Rattle.htl_top.specs.Runs.{IsRun, IsCutRun}
 use Rattle.htl_top.specs.Scripts.{IsWhole, IsBad}
 use Rattle.htl_top.specs.declared.outcome.Outcome.{Outcome}
-use Rattle.htl_top.specs.declared.outcome.Outcome.TheVariants.{Done, Usage, Source, IllFormed, Unschedulable, Platform, Object as Refused, Script as Faulty, Shelf, Read, Write, Memory}
+use Rattle.htl_top.specs.declared.outcome.Outcome.TheVariants.{Done, Usage, Source, IllFormed, Unschedulable, Platform, Task, Object as Refused, Script as Faulty, Shelf, Read, Write, Memory}
 
 -- ---- the machine and its object
 
@@ -58,6 +58,7 @@ IsRun-source show t o old new Write run = (run.0, cut_source show t o old new ru
 IsRun-source show t o old new Memory run = run
 IsRun-source show t o old new Usage run = absurd run
 IsRun-source show t o old new (Platform f) run = absurd run
+IsRun-source show t o old new Task run = absurd run
 IsRun-source show t o old new (Source f) run = absurd run
 IsRun-source show t o old new (IllFormed f) run = absurd run
 IsRun-source show t o old new (Unschedulable sel a b demand) run = absurd run
@@ -74,6 +75,7 @@ run_only show t o old new Write run = tt
 run_only show t o old new Memory run = tt
 run_only show t o old new Usage run = absurd run
 run_only show t o old new (Platform f) run = absurd run
+run_only show t o old new Task run = absurd run
 run_only show t o old new (Source f) run = absurd run
 run_only show t o old new (IllFormed f) run = absurd run
 run_only show t o old new (Unschedulable sel a b demand) run = absurd run
@@ -88,6 +90,7 @@ run_unwritten show t o old new Write run early = absurd early
 run_unwritten show t o old new Memory run early = run.written
 run_unwritten show t o old new Usage run early = absurd run
 run_unwritten show t o old new (Platform f) run early = absurd run
+run_unwritten show t o old new Task run early = absurd run
 run_unwritten show t o old new (Source f) run early = absurd run
 run_unwritten show t o old new (IllFormed f) run early = absurd run
 run_unwritten show t o old new (Unschedulable sel a b demand) run early = absurd run
@@ -98,6 +101,7 @@ pub running : (show : Shown) → IsWork (λ o. IsRun show o.tables o)
 running show = record {
   only = λ o old new outcome run. run_only show o.tables o old new outcome run;
   unwritten = λ o old new outcome run early. run_unwritten show o.tables o old new outcome run early;
+  unread = λ o old new run. absurd run;
 }
 
 -- ---- of a script that is given
@@ -133,6 +137,7 @@ module _ (show : Shown) (t : Tables) (o : Object) (old new : Streams) (script : 
   bad_run f events bad quiet still Memory run = inr refl
   bad_run f events bad quiet still Usage run = absurd run
   bad_run f events bad quiet still (Platform g) run = absurd run
+  bad_run f events bad quiet still Task run = absurd run
   bad_run f events bad quiet still (Source g) run = absurd run
   bad_run f events bad quiet still (IllFormed g) run = absurd run
   bad_run f events bad quiet still (Unschedulable sel a b demand) run = absurd run
@@ -149,6 +154,7 @@ module _ (show : Shown) (t : Tables) (o : Object) (old new : Streams) (script : 
   whole_run events end whole quiet still Memory run = inr refl
   whole_run events end whole quiet still Usage run = absurd run
   whole_run events end whole quiet still (Platform f) run = absurd run
+  whole_run events end whole quiet still Task run = absurd run
   whole_run events end whole quiet still (Source g) run = absurd run
   whole_run events end whole quiet still (IllFormed g) run = absurd run
   whole_run events end whole quiet still (Unschedulable sel a b demand) run = absurd run

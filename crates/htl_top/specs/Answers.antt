@@ -6,7 +6,7 @@ use Rattle.htl_edge.specs.Content.{AppendsPrefix}
 use Rattle.htl_edge.specs.Holdings.{Holdings}
 use Rattle.htl_top.specs.declared.outcome.Outcome.{Outcome}
 use Rattle.htl_top.specs.declared.outcome.ShelfCause.TheVariants.{Failed}
-use Rattle.htl_top.specs.declared.outcome.Outcome.TheVariants.{Done, Usage, Source, IllFormed, Unschedulable, Platform, Object, Script, Shelf, Read, Write, Memory}
+use Rattle.htl_top.specs.declared.outcome.Outcome.TheVariants.{Done, Usage, Source, IllFormed, Unschedulable, Platform, Task, Object, Script, Shelf, Read, Write, Memory}
 
 -- the input and the output at one moment: what is left, what was written, and the counts of faults
 pub record Streams : Type 0 where
@@ -45,6 +45,7 @@ IsWritten text whole old new before now result =
 abbrev pub IsBeforeScript : Outcome → Type 0
 IsBeforeScript Usage = Unit {0}
 IsBeforeScript (Platform f) = Unit {0}
+IsBeforeScript Task = Unit {0}
 IsBeforeScript (Shelf cause) = Unit {0}
 IsBeforeScript (Source fault) = Unit {0}
 IsBeforeScript (IllFormed fault) = Unit {0}
@@ -60,6 +61,7 @@ IsBeforeScript Memory = ⊥
 abbrev pub IsBeforeRun : Outcome → Type 0
 IsBeforeRun Usage = Unit {0}
 IsBeforeRun (Platform f) = Unit {0}
+IsBeforeRun Task = Unit {0}
 IsBeforeRun (Shelf cause) = Unit {0}
 IsBeforeRun (Source fault) = Unit {0}
 IsBeforeRun (IllFormed fault) = Unit {0}

@@ -12,9 +12,10 @@ use Rattle.htl_top.specs.Objects.{IsOnObject, IsObjectTables}
 use Rattle.htl_top.specs.Planned.{IsPlanned}
 use Rattle.htl_top.specs.Runs.{IsRun}
 use Rattle.htl_top.specs.Shown.{IsShown}
+use Rattle.htl_top.specs.Slacked.{IsSlacked}
 use Rattle.htl_top.specs.Sources.{IsTypedProgram, IsTypedInput}
 use Rattle.htl_top.specs.SourcesOn.{IsTypedOn}
-use Rattle.htl_top.specs.Words.{Command, Go, Compile, CompileWith, Run, Check, Plan, Show, Bulk}
+use Rattle.htl_top.specs.Words.{Command, Go, Compile, CompileWith, Run, Check, Plan, Show, Bulk, Slack}
 use Rattle.htl_top.specs.declared.outcome.Outcome.{Outcome}
 use Rattle.htl_top.specs.declared.outcome.Outcome.TheVariants.{Usage}
 
@@ -29,6 +30,7 @@ IsCall (Some (Check name)) shelf old new outcome = IsOnObject IsChecked (Some na
 IsCall (Some (Plan name)) shelf old new outcome = IsOnObject IsPlanned (Some name) shelf old new outcome
 IsCall (Some (Show name)) shelf old new outcome = IsOnObject IsShown (Some name) shelf old new outcome
 IsCall (Some (Bulk n)) shelf old new outcome = IsBulked n old new outcome
+IsCall (Some (Slack name owner task)) shelf old new outcome = IsOnObject (IsSlacked owner task) (Some name) shelf old new outcome
 
 -- The source that a command compiles has tables whose functions are typed, and the fact holds of them, with the worst cases of the
 -- platform where one is named.
@@ -42,6 +44,7 @@ HasSource (Some (Check name)) holds rest Fact = ⊥
 HasSource (Some (Plan name)) holds rest Fact = ⊥
 HasSource (Some (Show name)) holds rest Fact = ⊥
 HasSource (Some (Bulk n)) holds rest Fact = ⊥
+HasSource (Some (Slack name owner task)) holds rest Fact = ⊥
 
 -- The object that a command is about has tables of which the fact holds.
 abbrev pub HasObject : Option Command → Option Holdings → (Tables → Type 0) → Type 0
@@ -54,3 +57,4 @@ HasObject (Some (Check name)) holds Fact = IsObjectTables (Some name) holds Fact
 HasObject (Some (Plan name)) holds Fact = IsObjectTables (Some name) holds Fact
 HasObject (Some (Show name)) holds Fact = IsObjectTables (Some name) holds Fact
 HasObject (Some (Bulk n)) holds Fact = ⊥
+HasObject (Some (Slack name owner task)) holds Fact = IsObjectTables (Some name) holds Fact

@@ -12,7 +12,7 @@ use Rattle.htl_top.specs.Answers.{Streams, IsWritten}
 use Rattle.htl_top.specs.Sources.{IsInputProgram, IsInputFault, IsNotCompiled, outcome_of}
 use Rattle.htl_top.specs.declared.source.SourceStop.{SourceStop}
 use Rattle.htl_top.specs.declared.outcome.Outcome.{Outcome}
-use Rattle.htl_top.specs.declared.outcome.Outcome.TheVariants.{Done, Usage, Source, IllFormed, Unschedulable, Platform, Object, Script, Shelf, Read, Write, Memory}
+use Rattle.htl_top.specs.declared.outcome.Outcome.TheVariants.{Done, Usage, Source, IllFormed, Unschedulable, Platform, Task, Object, Script, Shelf, Read, Write, Memory}
 
 -- the bytes of the object of tables
 abbrev pub compiled_bytes : Tables → List ℕ
@@ -37,6 +37,7 @@ IsCompiling old new (Unschedulable sel a b demand) = IsInputFault old.rest (comp
 IsCompiling old new Memory = new.written ≡ old.written
 IsCompiling old new Usage = ⊥
 IsCompiling old new (Platform f) = ⊥
+IsCompiling old new Task = ⊥
 IsCompiling old new (Object f) = ⊥
 IsCompiling old new (Script f) = ⊥
 IsCompiling old new (Shelf cause) = ⊥

@@ -16,6 +16,7 @@ pub mod Scripts
 pub mod SelectionInput
 pub mod SelectionReaders
 pub mod Shown
+pub mod Slacked
 pub mod Sources
 pub mod SourcesOn
 pub mod Status

@@ -17,7 +17,7 @@ use Rattle.htl_platform.specs.declared.fault.PlatformFault.TheVariants as platfo
 use Rattle.htl_walk.specs.declared.miss.Miss.{Miss}
 use Rattle.htl_walk.specs.declared.miss.Miss.TheVariants as miss
 use Rattle.htl_top.specs.declared.outcome.Outcome.{Outcome}
-use Rattle.htl_top.specs.declared.outcome.Outcome.TheVariants.{Done, Usage, Source, IllFormed, Unschedulable, Platform, Object, Script, Shelf, Read, Write, Memory}
+use Rattle.htl_top.specs.declared.outcome.Outcome.TheVariants.{Done, Usage, Source, IllFormed, Unschedulable, Platform, Task, Object, Script, Shelf, Read, Write, Memory}
 use Rattle.htl_top.specs.declared.outcome.ShelfCause.{ShelfCause}
 use Rattle.htl_top.specs.declared.outcome.ShelfCause.TheVariants.{Failed, TooLong}
 use Rattle.htl_compile.specs.declared.source_fault.SourceFault.{SourceFault}
@@ -36,6 +36,7 @@ status_of Read = 9
 status_of Write = 10
 status_of Memory = 11
 status_of (Platform fault) = 12
+status_of Task = 15
 
 abbrev pub source_line : SourceFault → List ℕ
 source_line (LongSource seen) = codes "htl: source too-long " ++ decimal seen ++ codes "\n"
@@ -164,3 +165,4 @@ fault_line tables Read = codes "htl: read\n"
 fault_line tables Write = codes "htl: write\n"
 fault_line tables Memory = codes "htl: memory\n"
 fault_line tables (Platform fault) = platform_line fault
+fault_line tables Task = codes "htl: task\n"

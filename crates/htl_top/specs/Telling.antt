@@ -7,7 +7,7 @@ use Rattle.htl_model.specs.Tables.{Tables}
 use Rattle.htl_top.specs.Objects.{SpeaksOfObject}
 use Rattle.htl_top.specs.Status.{fault_line}
 use Rattle.htl_top.specs.declared.outcome.Outcome.{Outcome}
-use Rattle.htl_top.specs.declared.outcome.Outcome.TheVariants.{Done, Usage, Source, IllFormed, Unschedulable, Platform, Object, Script, Shelf, Read, Write, Memory}
+use Rattle.htl_top.specs.declared.outcome.Outcome.TheVariants.{Done, Usage, Source, IllFormed, Unschedulable, Platform, Task, Object, Script, Shelf, Read, Write, Memory}
 
 -- The tables that the line of an answer speaks of: those of the source, with code, or of the object, where they break a form rule.
 abbrev pub SpeaksOf : ((Tables → Type 0) → Type 0) → ((Tables → Type 0) → Type 0) → Outcome → Option Tables → Type 0
@@ -16,6 +16,7 @@ SpeaksOf HasSource HasObject (Object f) tables = SpeaksOfObject HasObject f tabl
 SpeaksOf HasSource HasObject Done tables = Unit {0}
 SpeaksOf HasSource HasObject Usage tables = Unit {0}
 SpeaksOf HasSource HasObject (Platform f) tables = Unit {0}
+SpeaksOf HasSource HasObject Task tables = Unit {0}
 SpeaksOf HasSource HasObject (Source f) tables = Unit {0}
 SpeaksOf HasSource HasObject (Unschedulable sel a b demand) tables = Unit {0}
 SpeaksOf HasSource HasObject (Script f) tables = Unit {0}
@@ -40,6 +41,7 @@ IsLineTold HasSource HasObject Told (Object f) = IsFaultTold HasObject Told f
 IsLineTold HasSource HasObject Told Done = Told (fault_line None Done)
 IsLineTold HasSource HasObject Told Usage = Told (fault_line None Usage)
 IsLineTold HasSource HasObject Told (Platform f) = Told (fault_line None (Platform f))
+IsLineTold HasSource HasObject Told Task = Told (fault_line None Task)
 IsLineTold HasSource HasObject Told (Source f) = Told (fault_line None (Source f))
 IsLineTold HasSource HasObject Told (Unschedulable sel a b demand) = Told (fault_line None (Unschedulable sel a b demand))
 IsLineTold HasSource HasObject Told (Script f) = Told (fault_line None (Script f))

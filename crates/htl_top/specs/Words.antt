@@ -1,9 +1,11 @@
 -- The words of a command.
-use Rattle.std.specs.Prelude.{ℕ, zero, suc, ◌+◌, ◌≤◌, Option, None, Some, List, [], ◌∷◌, codes, map, if◌then◌else◌}
+use Rattle.std.specs.Prelude.{ℕ, zero, suc, ◌+◌, ◌≤◌, ◌==◌, Bool, cond, ◌&&◌, Option, None, Some, List, [], ◌∷◌, codes, map, take, drop, if◌then◌else◌}
 use Rattle.std.specs.Borrow.{Bor}
 use Rattle.std.specs.Fmt.{decimal}
+use Rattle.std.specs.List.{position_from}
 use Rattle.std.specs.Option.{option_map}
 use Rattle.std.specs.Str.{bytes_eq}
+use Rattle.htl_base.specs.Names.{is_name}
 use Rattle.htl_base.specs.declared.limits.TheConstants.{MAX_MODULES, MAX_SOURCE, MAX_SCRIPT}
 use Rattle.htl_console.specs.declared.shown.Shown.{Shown}
 use Rattle.htl_console.specs.declared.shown.Shown.TheVariants.{Values, Jobs, Code}
@@ -12,7 +14,7 @@ use Rattle.htl_top.specs.declared.words.Asked.TheVariants as ask
 use Rattle.htl_top.specs.declared.words.Verb.{Verb}
 use Rattle.htl_top.specs.declared.words.Verb.TheVariants as verb
 
--- what the words ask for, with the name of the file that they name
+-- what the words ask for, with the name of the file that they name; `slack` asks for the task of a module, both by name
 pub data Command : Type 0 where
   Go : (name : List ℕ) → Command
   Compile : Command
@@ -22,6 +24,7 @@ pub data Command : Type 0 where
   Plan : (name : List ℕ) → Command
   Show : (name : List ℕ) → Command
   Bulk : (modules : ℕ) → Command
+  Slack : (name owner task : List ℕ) → Command
 
 -- the verbs that a file's name follows
 abbrev pub verb_of : List ℕ → Option Verb
@@ -66,10 +69,30 @@ of_two word other =
     if bytes_eq word (codes "bulk") then option_map (λ (n : ℕ). Bulk n) (modules_in other)
     else option_map (λ (v : Verb). with_file v other) (verb_of word)
 
--- a verb and the name of a file, `compile` alone, or that with a platform, or `bulk` and a number of modules; other words are no command
+abbrev pub is_dot : ℕ → Bool
+is_dot b = b == 46
+
+-- the names of a module and of a task
+abbrev pub both_names : List ℕ → List ℕ → Option (List ℕ × List ℕ)
+both_names owner task = cond (is_name owner && is_name task) (Some (owner, task)) None
+
+-- `MODULE.TASK`: two names, joined by one dot; no name has one
+abbrev pub task_word : List ℕ → Option (List ℕ × List ℕ)
+task_word word = elim (position_from is_dot 0 word) [ Some at ↦ both_names (take at word) (drop (at + 1) word) | None ↦ None ]
+
+-- the slack of a task of an object
+abbrev pub slack_of : List ℕ → List ℕ → Option Command
+slack_of name word = option_map (λ (names : List ℕ × List ℕ). Slack name names.0 names.1) (task_word word)
+
+-- `slack`, the name of an object file and a task, or `compile with` and the name of a platform file
+abbrev pub of_three : List ℕ → List ℕ → List ℕ → Option Command
+of_three first second third = if bytes_eq first (codes "slack") then slack_of second third else compile_with first second third
+
+-- a verb and the name of a file, `compile` alone, or that with a platform, `bulk` and a number of modules, or `slack`, the name of a file
+-- and a task; other words are no command
 abbrev pub command_of : List (List ℕ) → Option Command
 command_of (word ∷ other ∷ []) = of_two word other
-command_of (first ∷ second ∷ platform ∷ []) = compile_with first second platform
+command_of (first ∷ second ∷ third ∷ []) = of_three first second third
 command_of (first ∷ second ∷ third ∷ other ∷ others) = None
 command_of (word ∷ []) = if bytes_eq word (codes "compile") then Some Compile else None
 command_of [] = None
@@ -90,6 +113,7 @@ source_of (Some (Check name)) = None
 source_of (Some (Plan name)) = None
 source_of (Some (Show name)) = None
 source_of (Some (Bulk n)) = None
+source_of (Some (Slack name owner task)) = None
 source_of None = None
 
 -- the object that a command is about
@@ -102,6 +126,7 @@ object_of (Some (Check name)) = Some name
 object_of (Some (Plan name)) = Some name
 object_of (Some (Show name)) = Some name
 object_of (Some (Bulk n)) = None
+object_of (Some (Slack name owner task)) = Some name
 object_of None = None
 
 -- the platform file that a command compiles for
@@ -114,6 +139,7 @@ platform_file (Some (Check name)) = None
 platform_file (Some (Plan name)) = None
 platform_file (Some (Show name)) = None
 platform_file (Some (Bulk n)) = None
+platform_file (Some (Slack name owner task)) = None
 platform_file None = None
 
 abbrev pub source_in : List (Bor (List ℕ)) → Option (List ℕ)
@@ -135,6 +161,7 @@ RunsObject (Some (Check name)) = ⊥
 RunsObject (Some (Plan name)) = ⊥
 RunsObject (Some (Show name)) = ⊥
 RunsObject (Some (Bulk n)) = ⊥
+RunsObject (Some (Slack name owner task)) = ⊥
 RunsObject None = ⊥
 
 -- ---- the input
@@ -149,6 +176,7 @@ most_taken (Some (Check name)) = 0
 most_taken (Some (Plan name)) = MAX_SCRIPT + 4096
 most_taken (Some (Show name)) = 0
 most_taken (Some (Bulk n)) = 0
+most_taken (Some (Slack name owner task)) = 0
 most_taken None = 0
 
 -- ---- the words as they were read
@@ -159,6 +187,7 @@ asked_for ask.Compile = Compile
 asked_for (ask.CompileWith platform) = CompileWith platform.now
 asked_for (ask.File v name) = with_file v name.now
 asked_for (ask.Bulk n) = Bulk n
+asked_for (ask.Slack name owner task) = Slack name.now owner task
 
 -- the modules that are asked for, where they are, are 1 to 64
 abbrev pub AreFewModules : Asked → Type 0
@@ -166,3 +195,4 @@ AreFewModules ask.Compile = Unit {0}
 AreFewModules (ask.CompileWith platform) = Unit {0}
 AreFewModules (ask.File v name) = Unit {0}
 AreFewModules (ask.Bulk n) = (1 ≤ n) × (n ≤ MAX_MODULES)
+AreFewModules (ask.Slack name owner task) = Unit {0}

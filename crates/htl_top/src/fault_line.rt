@@ -47,6 +47,7 @@ fn fault_line(tables: Option<&Tables>, outcome: &Outcome) -> LineBuffer
         Outcome::Write => plain_line(b"htl: write\n"),
         Outcome::Memory => plain_line(b"htl: memory\n"),
         Outcome::Platform(fault) => platform_line(fault),
+        Outcome::Task => plain_line(b"htl: task\n"),
     }
 }
 

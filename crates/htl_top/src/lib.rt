@@ -57,6 +57,7 @@ mod selection_reader;
 mod show;
 #[cfg(test)]
 mod show_tests;
+mod slack;
 mod source;
 #[cfg(test)]
 mod tables_tests;

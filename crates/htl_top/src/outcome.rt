@@ -57,10 +57,12 @@ pub enum Outcome {
     Memory,
     /// The platform file has a fault for the tables of the source.
     Platform(PlatformFault),
+    /// The names are those of no task that is invoked in a root module.
+    Task,
 }
 
 /// The status with which the program ends: 0 for Done, 2 Usage, 3 Source, 4 IllFormed, 5 Unschedulable, 6 Object, 7
-/// Script, 8 Shelf, 9 Read, 10 Write, 11 Memory and 12 Platform.
+/// Script, 8 Shelf, 9 Read, 10 Write, 11 Memory, 12 Platform and 15 Task.
 pub fn status(o: &Outcome) -> u8
     ensures { result ≡ status_of o.now }
 {
@@ -77,5 +79,6 @@ pub fn status(o: &Outcome) -> u8
         Outcome::Write => 10,
         Outcome::Memory => 11,
         Outcome::Platform(_) => 12,
+        Outcome::Task => 15,
     }
 }

@@ -45,10 +45,11 @@ ghost use Rattle.htl_top.specs.Runs.{IsWholeRun, IsFaultyRun, IsCutRun};
 ghost use Rattle.htl_top.specs.Scripts.{IsWhole, IsBad};
 ghost use Rattle.htl_top.specs.SelectionInput.{Whole, Bad, input_of};
 ghost use Rattle.htl_top.specs.Shown.{show_text};
+ghost use Rattle.htl_top.specs.Slacked.{HasSlack, IsRootNamed, NamesNoTask, IsTaskCause};
 ghost use Rattle.htl_top.specs.Sources.{HasTables, IsProgram, IsInputProgram, answer_of};
 ghost use Rattle.htl_top.specs.SourcesOn.{IsProgramOn, answer_on};
 ghost use Rattle.htl_top.specs.Telling.{SpeaksOf, IsLineTold};
-ghost use Rattle.htl_top.specs.Words.{Go, Compile, CompileWith, Run, Check, Plan, Show, Bulk, asked_for, command_in, source_in, platform_in, object_in, most_taken, with_file, AreFewModules, RunsObject};
+ghost use Rattle.htl_top.specs.Words.{Go, Compile, CompileWith, Run, Check, Plan, Show, Bulk, Slack, asked_for, command_in, source_in, platform_in, object_in, most_taken, with_file, AreFewModules, RunsObject};
 ghost use Rattle.htl_top.specs.declared.outcome.ShelfCause.{ShelfCause};
 ghost use Rattle.htl_top.specs.declared.outcome.ShelfCause.TheVariants as cause;
 
@@ -62,6 +63,7 @@ use crate::go::go_file;
 use crate::plan::plan_file;
 use crate::run::run_file;
 use crate::show::show_file;
+use crate::slack::slack_file;
 use crate::words::{Asked, Verb, read_words};
 use htl_console::Shown;
 use htl_edge::{Shelf, Sink, Source};
@@ -98,6 +100,11 @@ use std::alloc::Global;
 /// With the words `bulk N`, N from 1 to 64 in decimal with no zero before it, a program with N modules is generated, compiled and run for
 /// 100 rounds of 1,000 ticks; its sensor shows the number of the round. What goes to `out` is the value of each communicator at instant
 /// 100,000 and the totals. Nothing is read and no file is named. The first of these is the answer: `Write`; `Done`.
+///
+/// With the words `slack OBJ MODULE.TASK`, two names joined by one dot, the object is tested likewise. What goes to `out` is the greatest
+/// worst case of the task, up to the period of its module, for which no path of root modes is overloaded; then what one tick more
+/// overloads, or that period; and then the schedules of earliest deadline first for the greatest. Nothing is read. The first of these is
+/// the answer: `Shelf`; `Object`; `Task`, where no task that is invoked in a root module has the names; `Write`; `Done`.
 ///
 /// A command takes no more of the input than a front of at most 1,073,745,920 bytes, or 1,052,672 for both forms of `compile`: the
 /// longest script, or source, and one piece of 4,096 bytes.
@@ -243,6 +250,20 @@ pub fn htl<S: Shelf, R: Source, W: Sink, E: Sink>(
     ensures bulk_unread { (n : ℕ) → command_in words.now ≡ Some (Bulk n) → R.rest input.new ≡ R.rest input.old }
     ensures bulk_complete { (n : ℕ) → command_in words.now ≡ Some (Bulk n) → (Rose (W.faults out.old) (W.faults out.new) → ⊥) → IsOrMemory result Outcome.Done }
 
+    // `slack` writes how far the worst case of a task can be raised, and reads nothing. `Task` comes where no task that is invoked in a
+    // root module has the names.
+    ensures slacked { (name owner task : List ℕ) → command_in words.now ≡ Some (Slack name owner task) → result ≡ Outcome.Done →
+        IsAcceptedFile (Some name) (S.holds shelf.old) (λ o. HasSlack o.tables owner task (λ text. W.written out.new ≡ append_known (W.written out.old) text)) }
+    ensures slack_cut { (name owner task : List ℕ) → command_in words.now ≡ Some (Slack name owner task) → result ≡ Outcome.Write → Rose (W.faults out.old) (W.faults out.new)
+        × IsAcceptedFile (Some name) (S.holds shelf.old) (λ o. HasSlack o.tables owner task (λ text. AppendsPrefix (W.written out.old) (W.written out.new) text)) }
+    ensures slack_unread { (name owner task : List ℕ) → command_in words.now ≡ Some (Slack name owner task) → R.rest input.new ≡ R.rest input.old }
+    ensures no_task { result ≡ Outcome.Task → IsTaskCause (command_in words.now) (S.holds shelf.old) }
+    ensures unknown_task { (name owner task : List ℕ) (o : Object) → command_in words.now ≡ Some (Slack name owner task)
+        → IsReadyObject (Some name) (S.holds shelf.old) (S.faults shelf.old) (S.faults shelf.new) o → NamesNoTask o.tables owner task → IsOrMemory result Outcome.Task }
+    ensures slack_complete { (name owner task : List ℕ) (o : Object) → command_in words.now ≡ Some (Slack name owner task)
+        → IsReadyObject (Some name) (S.holds shelf.old) (S.faults shelf.old) (S.faults shelf.new) o → (k : ℕ) → IsRootNamed o.tables owner task k
+        → (Rose (W.faults out.old) (W.faults out.new) → ⊥) → IsOrMemory result Outcome.Done }
+
     // `plan` reads a selection of running modes to its end, and writes its plan.
     ensures planned { (name : List ℕ) → command_in words.now ≡ Some (Plan name) → result ≡ Outcome.Done →
         IsAcceptedFile (Some name) (S.holds shelf.old) (λ o. IsWholePlan o (R.rest input.old) (R.rest input.new) (W.written out.old) (W.written out.new)) }
@@ -346,6 +367,7 @@ fn answered<S: Shelf, R: Source, W: Sink>(
         Asked::CompileWith { platform } => compile_for_file(alloc, platform, shelf, input, out),
         Asked::File { verb, name } => about_file(alloc, verb, name, shelf, input, out),
         Asked::Bulk { modules } => Answer::plain(bulk(alloc, modules, out)),
+        Asked::Slack { name, owner, task } => slack_file(alloc, name, &owner, &task, shelf, out),
     }
 }
 

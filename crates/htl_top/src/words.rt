@@ -1,11 +1,13 @@
 // The words of a command.
-ghost use Rattle.std.specs.Prelude.{◌≡◌, ◌≤◌, Option, None, Some, IfSome, List, ℕ};
+ghost use Rattle.std.specs.Prelude.{◌≡◌, ◌≤◌, ◌<◌, Option, None, Some, IfSome, List, ℕ, length};
 ghost use Rattle.std.specs.Fmt.{decimal};
+ghost use Rattle.std.specs.List.{position_from};
 ghost use Rattle.std.specs.Option.{option_map};
 ghost use Rattle.std.specs.Str.{bytes_eq};
 ghost use Rattle.htl_base.specs.declared.limits.TheConstants as limit;
-ghost use Rattle.htl_top.specs.Words.{verb_of as verb_of_of, command_in, compile_with, modules_in, of_two, asked_for, AreFewModules};
+ghost use Rattle.htl_top.specs.Words.{verb_of as verb_of_of, command_in, compile_with, modules_in, of_two, of_three, slack_of, is_dot, both_names as both_names_of, task_word as task_word_of, asked_for, AreFewModules};
 
+use htl_base::Name;
 use htl_base::limits::MAX_MODULES;
 use itoa::Buffer;
 
@@ -39,6 +41,12 @@ pub enum Asked<'a> {
     File { verb: Verb, name: &'a str },
     /// Runs the generated program of so many modules, 1 to 64.
     Bulk { modules: u32 },
+    /// Tells how far the worst case of a task of an object can be raised.
+    Slack {
+        name: &'a str,
+        owner: Name,
+        task: Name,
+    },
 }
 
 // The verb that a word names.
@@ -61,6 +69,56 @@ fn verb_of(word: &str) -> Option<Verb>
         Some(Verb::Show)
     } else {
         None
+    }
+}
+
+// The names of a module and of a task.
+fn both_names(owner: &[u8], task: &[u8]) -> Option<(Name, Name)>
+    ensures { both_names_of owner.now task.now ≡ option_map (λ (names : Name × Name). (names.0, names.1)) result }
+{
+    let owner = Name::new(owner)?;
+    let task = Name::new(task)?;
+    Some((owner, task))
+}
+
+// The place of the first dot.
+fn first_dot(bytes: &[u8]) -> Option<usize>
+    ensures first { result ≡ position_from is_dot 0 bytes.now }
+    ensures bound { IfSome result (λ place. place < length bytes.now) }
+{
+    bytes.iter().position(|b| *b == b'.')
+}
+
+// The two names of a word that are joined by one dot.
+fn task_word(word: &[u8]) -> Option<(Name, Name)>
+    ensures { task_word_of word.now ≡ option_map (λ (names : Name × Name). (names.0, names.1)) result }
+{
+    match first_dot(word) {
+        Some(at) => both_names(&word[..at], &word[at + 1..]),
+        None => None,
+    }
+}
+
+// What is asked for by the name of an object file and a task.
+fn read_slack<'a>(name: &'a str, word: &str) -> Option<Asked<'a>>
+    ensures command { slack_of name.now word.now ≡ option_map asked_for result }
+    ensures few { IfSome result AreFewModules }
+{
+    match task_word(word.as_bytes()) {
+        Some((owner, task)) => Some(Asked::Slack { name, owner, task }),
+        None => None,
+    }
+}
+
+// What is asked for by three words: `slack`, the name of an object file and a task, or `compile with` and a platform file.
+fn read_three<'a>(first: &str, second: &'a str, third: &'a str) -> Option<Asked<'a>>
+    ensures command { of_three first.now second.now third.now ≡ option_map asked_for result }
+    ensures few { IfSome result AreFewModules }
+{
+    if first == "slack" {
+        read_slack(second, third)
+    } else {
+        read_compile_with(first, second, third)
     }
 }
 
@@ -120,14 +178,15 @@ fn read_two<'a>(word: &str, other: &'a str) -> Option<Asked<'a>>
 }
 
 /// The command that words ask for; None where they are none: `compile` alone, `compile with` and the name of a platform file, a verb
-/// and the name of a file, or `bulk` and a number of modules from 1 to 64, in decimal with no zero before it.
+/// and the name of a file, `bulk` and a number of modules from 1 to 64, in decimal with no zero before it, or `slack`, the name of a
+/// file, and the names of a module and a task with one dot between them.
 pub fn read_words<'a>(words: &[&'a str]) -> Option<Asked<'a>>
     ensures command { command_in words.now ≡ option_map asked_for result }
     ensures few { IfSome result AreFewModules }
 {
     match words {
         [word] if *word == "compile" => Some(Asked::Compile),
-        [first, second, platform] => read_compile_with(first, second, platform),
+        [first, second, third] => read_three(first, second, third),
         [word, other] => read_two(word, other),
         _ => None,
     }

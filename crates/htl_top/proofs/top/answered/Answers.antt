@@ -2,9 +2,11 @@ use Rattle.std.proofs.Common.{Some, refl, sym, subst}
 use Rattle.htl_top.proofs.Bulking.{bulked_of}
 use Rattle.htl_top.proofs.Inputs.{taken_none}
 use Rattle.htl_top.proofs.LineTelling.{SpeaksOf-bulk}
+use Rattle.htl_top.proofs.Slacking.{IsOnObject-slack}
 use Rattle.htl_top.specs.Answers.{files, streams}
 use Rattle.htl_top.specs.Bulk.{IsBulked}
 use Rattle.htl_top.specs.Calls.{IsCall, HasSource, HasObject}
+use Rattle.htl_top.specs.Telling.{SpeaksOf}
 use Rattle.htl_top.specs.Words.{asked_for, most_taken}
 use Rattle.htl_top.specs.declared.words.Asked.{Asked}
 use Rattle.htl_top.proofs.top.answered.Goals as goal
@@ -29,3 +31,22 @@ returns-in-Bulk-clause-tables g c =
 
 pub returns-in-Bulk-clause-taken : goal.returns-in-Bulk-clause-taken
 returns-in-Bulk-clause-taken g c = taken_none (most_taken (Some (asked_for c.args.asked))) (g.R.Source.rest c.args.input.now)
+
+pub returns-in-Slack-clause-answer : goal.returns-in-Slack-clause-answer
+returns-in-Slack-clause-answer g c =
+    let side = streams g.R.Source.rest g.R.Source.faults g.W.Sink.written g.W.Sink.faults in
+    let old = side c.args.input.now c.args.out.now in
+    let new = side c.args.input.now c.slack_file.new.out in
+    let shelf = files g.S.Shelf.holds g.S.Shelf.faults c.args.shelf.now c.slack_file.new.shelf in
+    let done = IsOnObject-slack c.in-Slack.owner c.in-Slack.task (Some c.in-Slack.name.now) shelf old new c.slack_file.result.outcome refl c.slack_file.ensures.answer in
+    subst (λ (a : Asked). IsCall (Some (asked_for a)) shelf old new c.slack_file.result.outcome) (sym c.in-Slack.is) done
+
+pub returns-in-Slack-clause-tables : goal.returns-in-Slack-clause-tables
+returns-in-Slack-clause-tables g c =
+    let holds = g.S.Shelf.holds c.args.shelf.now in
+    let rest = g.R.Source.rest c.args.input.now in
+    let result = c.slack_file.result in
+    subst (λ (a : Asked). SpeaksOf (HasSource (Some (asked_for a)) holds rest) (HasObject (Some (asked_for a)) holds) result.outcome result.tables) (sym c.in-Slack.is) c.slack_file.ensures.tables
+
+pub returns-in-Slack-clause-taken : goal.returns-in-Slack-clause-taken
+returns-in-Slack-clause-taken g c = taken_none (most_taken (Some (asked_for c.args.asked))) (g.R.Source.rest c.args.input.now)

@@ -1,6 +1,7 @@
 use Rattle.htl_top.proofs.Calling as calling
 use Rattle.htl_top.proofs.Counts as counts
 use Rattle.htl_top.proofs.LineTelling as telling
+use Rattle.htl_top.proofs.SlackCalling as slacks
 use Rattle.std.proofs.Common.{subst}
 use Rattle.htl_compile.specs.declared.compiling.CompileFault.TheVariants as compile
 use Rattle.htl_top.specs.Answers.{files, streams, Tells}
@@ -70,6 +71,12 @@ returns g c =
       bulk_cut = calling.bulk_cut shelf old new command outcome answer;
       bulk_unread = calling.bulk_unread shelf old new command outcome answer;
       bulk_complete = calling.bulk_complete shelf old new command outcome answer;
+      slacked = slacks.slacked shelf old new command outcome answer;
+      slack_cut = slacks.slack_cut shelf old new command outcome answer;
+      slack_unread = slacks.slack_unread shelf old new command outcome answer;
+      no_task = λ e. slacks.task_cause shelf old new command (subst Answered e answer);
+      unknown_task = slacks.unknown_task shelf old new command outcome answer;
+      slack_complete = slacks.slack_complete shelf old new command outcome answer;
       planned = calling.planned shelf old new command outcome answer;
       plan_cut = calling.plan_cut shelf old new command outcome answer;
       plan_fault = calling.plan_fault shelf old new command outcome answer;
