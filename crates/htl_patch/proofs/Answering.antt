@@ -85,8 +85,7 @@ module _ (o d : Object) (unit mode : List ℕ) (g : Graft) (is : graft_of o.tabl
   -- what accepting them asks for
   pub given : (t : Tables) → t ≡ patched g → Joins g → IsAccepted o → IsInRange d → KeepsLimits t × All IsCode t.functions × AskTheSame t o.tables
   given t same j accepted range =
-      let graft_of_both = graft_is o.tables d.tables unit mode g is in
-      (
+      let graft_of_both = graft_is o.tables d.tables unit mode g is in (
         subst KeepsLimits (sym same) (tables_keep_limits o d accepted range g graft_of_both j),
         subst (λ (u : Tables). All IsCode u.functions) (sym same) (tables_are_code o d accepted range g graft_of_both j),
         subst (λ (u : Tables). AskTheSame u o.tables) (sym same) (ask_the_same o d accepted range g graft_of_both j),

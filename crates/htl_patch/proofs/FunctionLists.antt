@@ -79,8 +79,7 @@ task_functions t firsts k count r is less many =
     let there : slice_get t.tasks k ≡ Some x = slice_get-get_or t.tasks k (record { name = []; «module» = 0; is_abstract = false; worst = 0; inputs = []; outputs = [] }) less in
     let fits = count_within t.tasks k x there in
     let here = ap count_at there in
-    let all = r.function_count in
-    (
+    let all = r.function_count in (
       omega (arith, first, fits, here, many, all),
       ap (λ (n : ℕ). take n (drop (get_or firsts k 0) t.functions)) many ∙ ap (λ (n : ℕ). take (count_at (slice_get t.tasks k)) (drop n t.functions)) first,
     )

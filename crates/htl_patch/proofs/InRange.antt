@@ -57,8 +57,7 @@ module _ (u : Tables) (units : List ℕ) (sound : IsSound u) (order : IsOrder u 
   end_range m h (E.Comm c k) r = r
   end_range m h (E.Port p) r =
       let has = port_taken m h p r.0 r.1 r.2 in
-      let is : port_at u p ≡ r.0 = get_some u.ports p r.0 _ r.1 in
-      (
+      let is : port_at u p ≡ r.0 = get_some u.ports p r.0 _ r.1 in (
         new_port n (port_at u p),
         get_map (λ (k : ℕ). new_port n (port_at u k)) n.ports (place_among p n.ports) p (place_get n.ports p has),
         ap (λ (x : Port). place_among x.mode n.modes) is ∙ ap (λ (y : ℕ). place_among y n.modes) r.2,
@@ -170,11 +169,11 @@ module _ (u : Tables) (units : List ℕ) (sound : IsSound u) (order : IsOrder u 
   new_functions P all =
       all_from P t.functions (λ f h. elim (has_either (flat_map (functions_of u) n.tasks) (map (function_of_switch u) n.switches) f h) [
         | inl a ↦ (let r = of_flat (functions_of u) n.tasks f a in
-        let s = has_drop (count_before r.0 u.tasks) u.functions f (has_take (count_at (slice_get u.tasks r.0)) (drop (count_before r.0 u.tasks) u.functions) f r.2) in
-        all s.0 f s.1)
+            let s = has_drop (count_before r.0 u.tasks) u.functions f (has_take (count_at (slice_get u.tasks r.0)) (drop (count_before r.0 u.tasks) u.functions) f r.2) in
+            all s.0 f s.1)
         | inr b ↦ (let r = of_map (function_of_switch u) n.switches b.0 f b.1 in
-        let less = switch_within r.0 (b.0, r.1) in
-        all (switch_function u r.0) f (slice_get-get_or u.functions (switch_function u r.0) _ less ∙ ap (λ (x : Fun). Some x) r.2))
+            let less = switch_within r.0 (b.0, r.1) in
+            all (switch_function u r.0) f (slice_get-get_or u.functions (switch_function u r.0) _ less ∙ ap (λ (x : Fun). Some x) r.2))
       ])
 
   task_functions : (k : ℕ) → Has n.tasks k → length (functions_of u k) ≡ function_count (new_task n (task_at u k))

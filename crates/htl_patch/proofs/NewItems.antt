@@ -61,8 +61,7 @@ module _ (g : Graft) (host : AreInRange g.host) (donor : AreInRange g.donor) (n 
       let it = here g.host.modes (map (donor_mode g) g.donor.modes) front k x none same less is in
       let own : x.«module» < h = (all_at (IsModeInRange g.host) g.host.modes k x host.modes it.0).owner in
       let size = units_size g host donor n p are in
-      let view = ap length are_places in
-      (
+      let view = ap length are_places in (
         omega (arith, own, size, view),
         ap (λ (ps : List ℕ). placed_mode ps 0 x) are_places ∙ host_mode g host donor n p are x own ∙ ap (new_mode n) (sym it.1),
       )
@@ -75,8 +74,7 @@ module _ (g : Graft) (host : AreInRange g.host) (donor : AreInRange g.donor) (n 
       let it = there (donor_mode g) g.host.modes front g.donor.modes back k x none same other le less is in
       let own : x.«module» < length g.donor.modules = (all_at (IsModeInRange g.donor) g.donor.modes (k - length front) x donor.modes it.0).owner in
       let size = units_size g host donor n p are in
-      let view = ap length are_places in
-      (
+      let view = ap length are_places in (
         omega (arith, own, size, view, begins),
         ap (λ (ps : List ℕ). placed_mode ps before x) are_places
             ∙ ap (λ (b : ℕ). placed_mode p.units.items b x) begins
@@ -91,8 +89,7 @@ module _ (g : Graft) (host : AreInRange g.host) (donor : AreInRange g.donor) (n 
       let it = here g.host.tasks (map (donor_task g) g.donor.tasks) front k x none same less is in
       let own : x.«module» < h = (all_at (IsTaskInRange g.host) g.host.tasks k x host.tasks it.0).owner in
       let size = units_size g host donor n p are in
-      let view = ap length are_places in
-      (
+      let view = ap length are_places in (
         omega (arith, own, size, view),
         ap (λ (ps : List ℕ). placed_task ps 0 x) are_places ∙ host_task g host donor n p are x own ∙ ap (new_task n) (sym it.1),
       )
@@ -105,8 +102,7 @@ module _ (g : Graft) (host : AreInRange g.host) (donor : AreInRange g.donor) (n 
       let it = there (donor_task g) g.host.tasks front g.donor.tasks back k x none same other le less is in
       let own : x.«module» < length g.donor.modules = (all_at (IsTaskInRange g.donor) g.donor.tasks (k - length front) x donor.tasks it.0).owner in
       let size = units_size g host donor n p are in
-      let view = ap length are_places in
-      (
+      let view = ap length are_places in (
         omega (arith, own, size, view, begins),
         ap (λ (ps : List ℕ). placed_task ps before x) are_places
             ∙ ap (λ (b : ℕ). placed_task p.units.items b x) begins
@@ -121,8 +117,7 @@ module _ (g : Graft) (host : AreInRange g.host) (donor : AreInRange g.donor) (n 
       let it = here g.host.ports (map (donor_port g) g.donor.ports) front k x none same less is in
       let own : x.mode < hm = all_at (IsPortInRange g.host) g.host.ports k x host.ports it.0 in
       let size = modes_size g host donor n p are in
-      let view = ap length are_places in
-      (
+      let view = ap length are_places in (
         omega (arith, own, size, view),
         ap (λ (ps : List ℕ). placed_port ps 0 x) are_places ∙ host_port g host donor n p are x own ∙ ap (new_port n) (sym it.1),
       )
@@ -135,8 +130,7 @@ module _ (g : Graft) (host : AreInRange g.host) (donor : AreInRange g.donor) (n 
       let it = there (donor_port g) g.host.ports front g.donor.ports back k x none same other le less is in
       let own : x.mode < length g.donor.modes = all_at (IsPortInRange g.donor) g.donor.ports (k - length front) x donor.ports it.0 in
       let size = modes_size g host donor n p are in
-      let view = ap length are_places in
-      (
+      let view = ap length are_places in (
         omega (arith, own, size, view, begins),
         ap (λ (ps : List ℕ). placed_port ps before x) are_places
             ∙ ap (λ (b : ℕ). placed_port p.modes.items b x) begins
@@ -152,8 +146,7 @@ module _ (g : Graft) (host : AreInRange g.host) (donor : AreInRange g.donor) (n 
       let r = all_at (IsSwitchInRange g.host) g.host.switches k x host.switches it.0 in
       let target = slice_get_within g.host.modes x.target r.target.0 r.target.1 in
       let size = modes_size g host donor n p are in
-      let view = ap length are_places in
-      (
+      let view = ap length are_places in (
         omega (arith, r.owner, size, view),
         omega (arith, target, size, view),
         ap (λ (ps : List ℕ). placed_switch ps 0 x) are_places ∙ host_switch g host donor n p are x r.owner target ∙ ap (new_switch n) (sym it.1),
@@ -168,8 +161,7 @@ module _ (g : Graft) (host : AreInRange g.host) (donor : AreInRange g.donor) (n 
       let r = all_at (IsSwitchInRange g.donor) g.donor.switches (k - length front) x donor.switches it.0 in
       let target = slice_get_within g.donor.modes x.target r.target.0 r.target.1 in
       let size = modes_size g host donor n p are in
-      let view = ap length are_places in
-      (
+      let view = ap length are_places in (
         omega (arith, r.owner, size, view, begins),
         omega (arith, target, size, view, begins),
         ap (λ (ps : List ℕ). placed_switch ps before x) are_places
@@ -195,8 +187,7 @@ module _ (g : Graft) (host : AreInRange g.host) (donor : AreInRange g.donor) (n 
       let start = slice_get_within g.host.modes x.start r.start.0 r.start.1 in
       let parent = parent_in g.host (λ owner. owner < k) x.parent r.parent in
       let size = modes_size g host donor n p are in
-      let view = ap length are_places in
-      (
+      let view = ap length are_places in (
         omega (arith, start, size, view),
         wide x.parent hm (length places) (omega (arith, size, view)) parent,
         ap (λ (ps : List ℕ). placed_module ps 0 x.parent x) are_places ∙ host_module g host donor n p are x start parent ∙ ap (new_module n) (sym it.1),
@@ -223,8 +214,7 @@ module _ (g : Graft) (host : AreInRange g.host) (donor : AreInRange g.donor) (n 
       let size = are.modes.size in
       let sizes = modes_size g host donor n p are in
       let view = ap length are_places in
-      let within = refined_within g host donor n p are x.parent into above in
-      (
+      let within = refined_within g host donor n p are x.parent into above in (
         omega (arith, start, sizes, view, begins),
         subst (λ (o : Option ℕ). IfSome o (λ k. k < length places)) (sym refined)
             (wide (option_map (refined_mode g) x.parent) (length (united g).modes) (length places) (omega (arith, size, view)) within),
@@ -259,8 +249,7 @@ module _ (g : Graft) (host : AreInRange g.host) (donor : AreInRange g.donor) (n 
       let it = there (donor_inv g) g.host.invs front g.donor.invs back k x none same other le less is in
       let r = all_at (IsInvInRange g.donor) g.donor.invs (k - length front) x donor.invs it.0 in
       let up = option_map (donor_parent g) x.parent in
-      let has = guest_has_places g host donor n p are x r in
-      (
+      let has = guest_has_places g host donor n p are x r in (
         subst (λ (a : ℕ). HasPlaces p a tasks ports parent x) (sym begin_modes)
             (subst (λ (a : ℕ). HasPlaces p hm a ports parent x) (sym begin_tasks)
             (subst (λ (a : ℕ). HasPlaces p hm (length g.host.tasks) a parent x) (sym begin_ports)

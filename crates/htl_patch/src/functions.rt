@@ -43,7 +43,13 @@ fn copied_function(alloc: Global, f: &Function) -> Result<Function, AllocError>
 }
 
 // Puts so many functions, from a place on, behind others.
-fn push_functions(alloc: Global, t: &Tables, first: usize, count: usize, into: &mut Vec<Function>) -> Result<(), AllocError>
+fn push_functions(
+    alloc: Global,
+    t: &Tables,
+    first: usize,
+    count: usize,
+    into: &mut Vec<Function>,
+) -> Result<(), AllocError>
     requires coded { All IsCode t.now.functions }
     requires within { first + count ≤ length t.now.functions }
     ensures { OnOk result (map fun_of into.new.items ≡ map fun_of into.old.items ++ take count (drop first t.now.functions)) }
@@ -81,7 +87,13 @@ pub(crate) fn firsts(alloc: Global, t: &Tables) -> Result<Vec<u32>, AllocError>
 }
 
 /// Puts the functions of a task's outputs behind others.
-pub(crate) fn push_of_task(alloc: Global, t: &Tables, firsts: &[u32], k: usize, into: &mut Vec<Function>) -> Result<(), AllocError>
+pub(crate) fn push_of_task(
+    alloc: Global,
+    t: &Tables,
+    firsts: &[u32],
+    k: usize,
+    into: &mut Vec<Function>,
+) -> Result<(), AllocError>
     requires coded { All IsCode t.now.functions }
     requires firsts { firsts.now ≡ firsts_of t.now }
     requires within { k < length t.now.tasks }
@@ -101,7 +113,13 @@ pub(crate) struct FirstFunctions<'a> {
 }
 
 // Puts the functions of a task of both programs behind others.
-fn push_output(alloc: Global, g: &Graft<'_>, firsts: &FirstFunctions<'_>, k: usize, into: &mut Vec<Function>) -> Result<(), AllocError>
+fn push_output(
+    alloc: Global,
+    g: &Graft<'_>,
+    firsts: &FirstFunctions<'_>,
+    k: usize,
+    into: &mut Vec<Function>,
+) -> Result<(), AllocError>
     requires coded { All IsCode g.now.host.now.functions }
     requires donor_coded { All IsCode g.now.donor.now.functions }
     requires firsts { firsts.now.host.now ≡ firsts_of g.now.host.now }
@@ -120,7 +138,13 @@ fn push_output(alloc: Global, g: &Graft<'_>, firsts: &FirstFunctions<'_>, k: usi
 }
 
 // Puts the functions of tasks behind others, task by task.
-fn push_outputs(alloc: Global, g: &Graft<'_>, firsts: &FirstFunctions<'_>, keys: &[u16], into: &mut Vec<Function>) -> Result<(), AllocError>
+fn push_outputs(
+    alloc: Global,
+    g: &Graft<'_>,
+    firsts: &FirstFunctions<'_>,
+    keys: &[u16],
+    into: &mut Vec<Function>,
+) -> Result<(), AllocError>
     requires coded { All IsCode g.now.host.now.functions }
     requires donor_coded { All IsCode g.now.donor.now.functions }
     requires firsts { firsts.now.host.now ≡ firsts_of g.now.host.now }
@@ -145,7 +169,12 @@ fn switch_function(t: &Tables, k: usize) -> usize
 }
 
 // Puts the function of a switch behind others.
-fn push_of_switch(alloc: Global, t: &Tables, k: usize, into: &mut Vec<Function>) -> Result<(), AllocError>
+fn push_of_switch(
+    alloc: Global,
+    t: &Tables,
+    k: usize,
+    into: &mut Vec<Function>,
+) -> Result<(), AllocError>
     requires coded { All IsCode t.now.functions }
     requires within { k < length t.now.switches }
     ensures { OnOk result (map fun_of into.new.items ≡ map fun_of into.old.items ++ function_of_switch t.now k ∷ []) }
@@ -156,7 +185,12 @@ fn push_of_switch(alloc: Global, t: &Tables, k: usize, into: &mut Vec<Function>)
 }
 
 // Puts the function of a switch of both programs behind others.
-fn push_switch(alloc: Global, g: &Graft<'_>, k: usize, into: &mut Vec<Function>) -> Result<(), AllocError>
+fn push_switch(
+    alloc: Global,
+    g: &Graft<'_>,
+    k: usize,
+    into: &mut Vec<Function>,
+) -> Result<(), AllocError>
     requires coded { All IsCode g.now.host.now.functions }
     requires donor_coded { All IsCode g.now.donor.now.functions }
     requires within { k < length (united (graft g.now.host.now g.now.donor.now g.now.into g.now.from)).switches }
@@ -173,7 +207,12 @@ fn push_switch(alloc: Global, g: &Graft<'_>, k: usize, into: &mut Vec<Function>)
 }
 
 // Puts the functions of switches behind others.
-fn push_switches(alloc: Global, g: &Graft<'_>, keys: &[u16], into: &mut Vec<Function>) -> Result<(), AllocError>
+fn push_switches(
+    alloc: Global,
+    g: &Graft<'_>,
+    keys: &[u16],
+    into: &mut Vec<Function>,
+) -> Result<(), AllocError>
     requires coded { All IsCode g.now.host.now.functions }
     requires donor_coded { All IsCode g.now.donor.now.functions }
     requires within { All (λ x. x < length (united (graft g.now.host.now g.now.donor.now g.now.into g.now.from)).switches) keys.now }
@@ -186,7 +225,11 @@ fn push_switches(alloc: Global, g: &Graft<'_>, keys: &[u16], into: &mut Vec<Func
 }
 
 /// The functions of the patched tables: of each task that is taken those of its outputs, then of each switch its own.
-pub(crate) fn new_functions(alloc: Global, g: &Graft<'_>, n: &OldNumbers) -> Result<Vec<Function>, AllocError>
+pub(crate) fn new_functions(
+    alloc: Global,
+    g: &Graft<'_>,
+    n: &OldNumbers,
+) -> Result<Vec<Function>, AllocError>
     requires coded { All IsCode g.now.host.now.functions }
     requires donor_coded { All IsCode g.now.donor.now.functions }
     requires numbers { numbering_of n.now ≡ new_numbers (graft g.now.host.now g.now.donor.now g.now.into g.now.from) }

@@ -14,8 +14,8 @@ use crate::finding::first_difference;
 use crate::graft::Graft;
 use crate::lists::{comms, invs, modules};
 use htl_base::Name;
-use htl_model::{Inv, Tables};
 use htl_model::lookup::mode_module;
+use htl_model::{Inv, Tables};
 
 /// The modules that are taken in the new order, and the place of each module among them.
 #[derive(Clone, Copy)]
@@ -139,7 +139,11 @@ pub(crate) fn first_twice(g: &Graft<'_>, taken: &Taken<'_>) -> Option<u16>
 }
 
 /// The first fault of communicators, parents and names.
-pub(crate) fn join_fault(g: &Graft<'_>, taken: &Taken<'_>, calls: &[Option<u16>]) -> Option<PatchFault>
+pub(crate) fn join_fault(
+    g: &Graft<'_>,
+    taken: &Taken<'_>,
+    calls: &[Option<u16>],
+) -> Option<PatchFault>
     requires units { taken.now.units.now ≡ order (graft g.now.host.now g.now.donor.now g.now.into g.now.from) }
     requires places { ArePlacesOf (length (united (graft g.now.host.now g.now.donor.now g.now.into g.now.from)).modules) (order (graft g.now.host.now g.now.donor.now g.now.into g.now.from)) taken.now.places.now }
     requires calls { calls.now ≡ calls_for (graft g.now.host.now g.now.donor.now g.now.into g.now.from) }

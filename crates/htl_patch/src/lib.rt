@@ -23,3 +23,6 @@ mod unit_items;
 
 pub use fault::{PatchFault, PatchStop};
 pub use patching::patch;
+
+#[cfg(test)]
+mod tests;

@@ -8,7 +8,10 @@ ghost use Rattle.htl_patch.specs.Levels.{upright, sizes_of, AreFewNumbers};
 ghost use Rattle.htl_patch.specs.Numbers.{numbering_of};
 
 use crate::numbers::OldNumbers;
-use htl_base::limits::{MAX_INVOCATIONS, MAX_LEVELS, MAX_MODES, MAX_MODE_INVOCATIONS, MAX_MODULES, MAX_PORTS, MAX_SWITCHES, MAX_TASKS};
+use htl_base::limits::{
+    MAX_INVOCATIONS, MAX_LEVELS, MAX_MODE_INVOCATIONS, MAX_MODES, MAX_MODULES, MAX_PORTS,
+    MAX_SWITCHES, MAX_TASKS,
+};
 use htl_model::{Mode, Module};
 
 fn parent(modules: &[Module], modes: &[Mode], unit: usize) -> Option<u16>

@@ -43,7 +43,12 @@ fn new_port(g: &Graft<'_>, p: &NewNumbers, k: usize) -> Port
 }
 
 /// The ports with these old numbers, with their new numbers.
-pub(crate) fn new_ports(alloc: Global, g: &Graft<'_>, p: &NewNumbers, keys: &[u16]) -> Result<Vec<Port>, AllocError>
+pub(crate) fn new_ports(
+    alloc: Global,
+    g: &Graft<'_>,
+    p: &NewNumbers,
+    keys: &[u16],
+) -> Result<Vec<Port>, AllocError>
     requires places { ArePlaces (united (graft g.now.host.now g.now.donor.now g.now.into g.now.from)) (new_numbers (graft g.now.host.now g.now.donor.now g.now.into g.now.from)) p.now }
     requires within { All (λ x. x < length (united (graft g.now.host.now g.now.donor.now g.now.into g.now.from)).ports) keys.now }
     ensures { IfOk result (λ v. v.items ≡ map (λ x. new_port_of (new_numbers (graft g.now.host.now g.now.donor.now g.now.into g.now.from)) (port_at (united (graft g.now.host.now g.now.donor.now g.now.into g.now.from)) x)) keys.now) }
@@ -68,7 +73,12 @@ fn copied_end(x: &End, ports: &[u16], before: usize) -> End
     }
 }
 
-fn copied_ends(alloc: Global, ends: &[End], ports: &[u16], before: usize) -> Result<Vec<End>, AllocError>
+fn copied_ends(
+    alloc: Global,
+    ends: &[End],
+    ports: &[u16],
+    before: usize,
+) -> Result<Vec<End>, AllocError>
     requires { All (HasPlace (length ports.now) before) ends.now }
     ensures { IfOk result (λ v. v.items ≡ map (placed_end ports.now before) ends.now) }
 {
@@ -88,7 +98,13 @@ struct Before {
 }
 
 // An invocation with new numbers, in the place of the given one.
-fn copied_inv(alloc: Global, x: &Inv, parent: Option<u16>, p: &NewNumbers, before: Before) -> Result<Inv, AllocError>
+fn copied_inv(
+    alloc: Global,
+    x: &Inv,
+    parent: Option<u16>,
+    p: &NewNumbers,
+    before: Before,
+) -> Result<Inv, AllocError>
     requires { HasPlaces p.now before.modes before.tasks before.ports parent x.now }
     ensures { IfOk result (λ y. y ≡ placed_inv p.now before.modes before.tasks before.ports parent x.now) }
 {
@@ -139,7 +155,13 @@ fn moved_parent(g: &Graft<'_>, calls: &[Option<u16>], parent: Option<u16>) -> Op
     }
 }
 
-fn new_inv(alloc: Global, g: &Graft<'_>, p: &NewNumbers, calls: &[Option<u16>], k: usize) -> Result<Inv, AllocError>
+fn new_inv(
+    alloc: Global,
+    g: &Graft<'_>,
+    p: &NewNumbers,
+    calls: &[Option<u16>],
+    k: usize,
+) -> Result<Inv, AllocError>
     requires places { ArePlaces (united (graft g.now.host.now g.now.donor.now g.now.into g.now.from)) (new_numbers (graft g.now.host.now g.now.donor.now g.now.into g.now.from)) p.now }
     requires calls { calls.now ≡ calls_for (graft g.now.host.now g.now.donor.now g.now.into g.now.from) }
     requires within { k < length (united (graft g.now.host.now g.now.donor.now g.now.into g.now.from)).invs }
@@ -167,7 +189,13 @@ fn new_inv(alloc: Global, g: &Graft<'_>, p: &NewNumbers, calls: &[Option<u16>], 
 }
 
 /// The invs with these old numbers, with their new numbers.
-pub(crate) fn new_invs(alloc: Global, g: &Graft<'_>, p: &NewNumbers, calls: &[Option<u16>], keys: &[u16]) -> Result<Vec<Inv>, AllocError>
+pub(crate) fn new_invs(
+    alloc: Global,
+    g: &Graft<'_>,
+    p: &NewNumbers,
+    calls: &[Option<u16>],
+    keys: &[u16],
+) -> Result<Vec<Inv>, AllocError>
     requires places { ArePlaces (united (graft g.now.host.now g.now.donor.now g.now.into g.now.from)) (new_numbers (graft g.now.host.now g.now.donor.now g.now.into g.now.from)) p.now }
     requires calls { calls.now ≡ calls_for (graft g.now.host.now g.now.donor.now g.now.into g.now.from) }
     requires within { All (λ x. x < length (united (graft g.now.host.now g.now.donor.now g.now.into g.now.from)).invs) keys.now }
@@ -181,7 +209,12 @@ pub(crate) fn new_invs(alloc: Global, g: &Graft<'_>, p: &NewNumbers, calls: &[Op
 }
 
 // A switch with the new numbers of its modes.
-fn copied_switch(alloc: Global, x: &Switch, modes: &[u16], before: usize) -> Result<Switch, AllocError>
+fn copied_switch(
+    alloc: Global,
+    x: &Switch,
+    modes: &[u16],
+    before: usize,
+) -> Result<Switch, AllocError>
     requires mode { before + x.now.mode < length modes.now }
     requires target { before + x.now.target < length modes.now }
     ensures { IfOk result (λ y. y ≡ placed_switch modes.now before x.now) }
@@ -211,7 +244,12 @@ fn new_switch(alloc: Global, g: &Graft<'_>, p: &NewNumbers, k: usize) -> Result<
 }
 
 /// The switches with these old numbers, with their new numbers.
-pub(crate) fn new_switches(alloc: Global, g: &Graft<'_>, p: &NewNumbers, keys: &[u16]) -> Result<Vec<Switch>, AllocError>
+pub(crate) fn new_switches(
+    alloc: Global,
+    g: &Graft<'_>,
+    p: &NewNumbers,
+    keys: &[u16],
+) -> Result<Vec<Switch>, AllocError>
     requires places { ArePlaces (united (graft g.now.host.now g.now.donor.now g.now.into g.now.from)) (new_numbers (graft g.now.host.now g.now.donor.now g.now.into g.now.from)) p.now }
     requires within { All (λ x. x < length (united (graft g.now.host.now g.now.donor.now g.now.into g.now.from)).switches) keys.now }
     ensures { IfOk result (λ v. v.items ≡ map (λ x. new_switch_of (new_numbers (graft g.now.host.now g.now.donor.now g.now.into g.now.from)) (switch_at (united (graft g.now.host.now g.now.donor.now g.now.into g.now.from)) x)) keys.now) }

@@ -112,7 +112,11 @@ pub(crate) fn old_numbers(alloc: Global, g: &Graft<'_>) -> Result<OldNumbers, Al
 }
 
 /// The new numbers of what has these old ones. The time is linear in both programs.
-pub(crate) fn renumber(alloc: Global, g: &Graft<'_>, n: &OldNumbers) -> Result<NewNumbers, AllocError>
+pub(crate) fn renumber(
+    alloc: Global,
+    g: &Graft<'_>,
+    n: &OldNumbers,
+) -> Result<NewNumbers, AllocError>
     requires into { g.now.into < length g.now.host.now.modes }
     requires from { g.now.from < length g.now.donor.now.modes }
     requires numbers { numbering_of n.now ≡ new_numbers (graft g.now.host.now g.now.donor.now g.now.into g.now.from) }

@@ -25,7 +25,12 @@ fn push_owned(owners: &[u16], m: u16, first: usize, into: &mut Vec<u16>) -> Resu
 
 /// The places of what each of these owners owns, end to end; owners don't fall and have numbers below `count`. The time is
 /// linear in the lists.
-pub(crate) fn owned(alloc: Global, owners: &[u16], count: usize, keys: &[u16]) -> Result<Vec<u16>, AllocError>
+pub(crate) fn owned(
+    alloc: Global,
+    owners: &[u16],
+    count: usize,
+    keys: &[u16],
+) -> Result<Vec<u16>, AllocError>
     requires few { length owners.now ≤ 16384 }
     requires rising { IsNonDecreasing owners.now }
     requires count { count ≤ 16384 }

@@ -15,7 +15,10 @@ pub(crate) fn mode_owners(alloc: Global, g: &Graft<'_>) -> Result<Vec<u16>, Allo
     ensures few { IfOk result (λ v. length v.items ≤ 16384) }
 {
     let before = modules(g.host).len() as u16;
-    let mut found = modes(g.host).iter().map(|x| x.module).collect::<Vec<u16>>(alloc)?;
+    let mut found = modes(g.host)
+        .iter()
+        .map(|x| x.module)
+        .collect::<Vec<u16>>(alloc)?;
     let back = modes(g.donor);
     for k in 0..back.len() {
         found.push(before + back[k].module)?;
@@ -30,7 +33,10 @@ pub(crate) fn port_owners(alloc: Global, g: &Graft<'_>) -> Result<Vec<u16>, Allo
     ensures few { IfOk result (λ v. length v.items ≤ 16384) }
 {
     let before = modes(g.host).len() as u16;
-    let mut found = ports(g.host).iter().map(|x| x.mode).collect::<Vec<u16>>(alloc)?;
+    let mut found = ports(g.host)
+        .iter()
+        .map(|x| x.mode)
+        .collect::<Vec<u16>>(alloc)?;
     let back = ports(g.donor);
     for k in 0..back.len() {
         found.push(before + back[k].mode)?;
@@ -45,7 +51,10 @@ pub(crate) fn task_owners(alloc: Global, g: &Graft<'_>) -> Result<Vec<u16>, Allo
     ensures few { IfOk result (λ v. length v.items ≤ 16384) }
 {
     let before = modules(g.host).len() as u16;
-    let mut found = tasks(g.host).iter().map(|x| x.module).collect::<Vec<u16>>(alloc)?;
+    let mut found = tasks(g.host)
+        .iter()
+        .map(|x| x.module)
+        .collect::<Vec<u16>>(alloc)?;
     let back = tasks(g.donor);
     for k in 0..back.len() {
         found.push(before + back[k].module)?;
@@ -60,7 +69,10 @@ pub(crate) fn inv_owners(alloc: Global, g: &Graft<'_>) -> Result<Vec<u16>, Alloc
     ensures few { IfOk result (λ v. length v.items ≤ 16384) }
 {
     let before = modes(g.host).len() as u16;
-    let mut found = invs(g.host).iter().map(|x| x.mode).collect::<Vec<u16>>(alloc)?;
+    let mut found = invs(g.host)
+        .iter()
+        .map(|x| x.mode)
+        .collect::<Vec<u16>>(alloc)?;
     let back = invs(g.donor);
     for k in 0..back.len() {
         found.push(before + back[k].mode)?;
@@ -75,7 +87,10 @@ pub(crate) fn switch_owners(alloc: Global, g: &Graft<'_>) -> Result<Vec<u16>, Al
     ensures few { IfOk result (λ v. length v.items ≤ 16384) }
 {
     let before = modes(g.host).len() as u16;
-    let mut found = switches(g.host).iter().map(|x| x.mode).collect::<Vec<u16>>(alloc)?;
+    let mut found = switches(g.host)
+        .iter()
+        .map(|x| x.mode)
+        .collect::<Vec<u16>>(alloc)?;
     let back = switches(g.donor);
     for k in 0..back.len() {
         found.push(before + back[k].mode)?;

@@ -19,7 +19,13 @@ use htl_object::Object;
 use std::alloc::Global;
 
 // The patched object, or the first fault.
-fn replaced(alloc: Global, o: &Loaded, unit: &Name, mode: &Name, donor: &Object) -> Result<Loaded, PatchStop>
+fn replaced(
+    alloc: Global,
+    o: &Loaded,
+    unit: &Name,
+    mode: &Name,
+    donor: &Object,
+) -> Result<Loaded, PatchStop>
     requires { IsInRange donor.now }
     ensures patched { IfOk result (IsPatched o.now donor.now unit.now mode.now) }
     ensures accepted { IfOk result IsAccepted }
@@ -58,7 +64,13 @@ fn replaced(alloc: Global, o: &Loaded, unit: &Name, mode: &Name, donor: &Object)
 /// limit; they break a form rule, and are handed back; one of their functions isn't verified code of the types of its place. Want of
 /// memory may stand in place of any. The time is linear in the two objects, but for names and the rules themselves; each kept item is
 /// copied once.
-pub fn patch(alloc: Global, o: &Loaded, unit: &Name, mode: &Name, donor: &Object) -> Result<Loaded, PatchStop>
+pub fn patch(
+    alloc: Global,
+    o: &Loaded,
+    unit: &Name,
+    mode: &Name,
+    donor: &Object,
+) -> Result<Loaded, PatchStop>
     requires { IsInRange donor.now }
     ensures patched { IfOk result (IsPatched o.now donor.now unit.now mode.now) }
     ensures accepted { IfOk result IsAccepted }

@@ -48,7 +48,12 @@ struct Heads {
     modes: Vec<Mode>,
 }
 
-fn heads_of(alloc: Global, g: &Graft<'_>, n: &OldNumbers, p: &NewNumbers) -> Result<Heads, AllocError>
+fn heads_of(
+    alloc: Global,
+    g: &Graft<'_>,
+    n: &OldNumbers,
+    p: &NewNumbers,
+) -> Result<Heads, AllocError>
     requires into { g.now.into < length g.now.host.now.modes }
     requires from { g.now.from < length g.now.donor.now.modes }
     requires numbers { numbering_of n.now ≡ new_numbers (graft g.now.host.now g.now.donor.now g.now.into g.now.from) }
@@ -64,7 +69,14 @@ fn heads_of(alloc: Global, g: &Graft<'_>, n: &OldNumbers, p: &NewNumbers) -> Res
 }
 
 // The patched tables, of which it is known that they are in range.
-fn assembled(alloc: Global, g: &Graft<'_>, n: &OldNumbers, p: &NewNumbers, calls: &[Option<u16>], heads: Heads) -> Result<Tables, AllocError>
+fn assembled(
+    alloc: Global,
+    g: &Graft<'_>,
+    n: &OldNumbers,
+    p: &NewNumbers,
+    calls: &[Option<u16>],
+    heads: Heads,
+) -> Result<Tables, AllocError>
     requires numbers { numbering_of n.now ≡ new_numbers (graft g.now.host.now g.now.donor.now g.now.into g.now.from) }
     requires places { ArePlaces (united (graft g.now.host.now g.now.donor.now g.now.into g.now.from)) (new_numbers (graft g.now.host.now g.now.donor.now g.now.into g.now.from)) p.now }
     requires calls { calls.now ≡ calls_for_of (graft g.now.host.now g.now.donor.now g.now.into g.now.from) }
@@ -94,7 +106,10 @@ fn assembled(alloc: Global, g: &Graft<'_>, n: &OldNumbers, p: &NewNumbers, calls
 }
 
 /// The tables in which the refinement of the host's mode is the donor's, or the first fault for which it isn't taken over.
-pub(crate) fn grafted(alloc: Global, g: &Graft<'_>) -> Result<Result<Tables, PatchFault>, AllocError>
+pub(crate) fn grafted(
+    alloc: Global,
+    g: &Graft<'_>,
+) -> Result<Result<Tables, PatchFault>, AllocError>
     requires into { g.now.into < length g.now.host.now.modes }
     requires from { g.now.from < length g.now.donor.now.modes }
     requires formed { Formed g.now.host.now }

@@ -41,7 +41,12 @@ fn new_mode(g: &Graft<'_>, p: &NewNumbers, k: usize) -> Mode
 }
 
 /// The modes with these old numbers, with their new numbers.
-pub(crate) fn new_modes(alloc: Global, g: &Graft<'_>, p: &NewNumbers, keys: &[u16]) -> Result<Vec<Mode>, AllocError>
+pub(crate) fn new_modes(
+    alloc: Global,
+    g: &Graft<'_>,
+    p: &NewNumbers,
+    keys: &[u16],
+) -> Result<Vec<Mode>, AllocError>
     requires places { ArePlaces (united (graft g.now.host.now g.now.donor.now g.now.into g.now.from)) (new_numbers (graft g.now.host.now g.now.donor.now g.now.into g.now.from)) p.now }
     requires within { All (λ x. x < length (united (graft g.now.host.now g.now.donor.now g.now.into g.now.from)).modes) keys.now }
     ensures { IfOk result (λ v. v.items ≡ map (λ x. new_mode_of (new_numbers (graft g.now.host.now g.now.donor.now g.now.into g.now.from)) (mode_at (united (graft g.now.host.now g.now.donor.now g.now.into g.now.from)) x)) keys.now) }
@@ -111,7 +116,12 @@ fn new_module(g: &Graft<'_>, p: &NewNumbers, k: usize) -> Module
 }
 
 /// The modules with these old numbers, with their new numbers.
-pub(crate) fn new_modules(alloc: Global, g: &Graft<'_>, p: &NewNumbers, keys: &[u16]) -> Result<Vec<Module>, AllocError>
+pub(crate) fn new_modules(
+    alloc: Global,
+    g: &Graft<'_>,
+    p: &NewNumbers,
+    keys: &[u16],
+) -> Result<Vec<Module>, AllocError>
     requires places { ArePlaces (united (graft g.now.host.now g.now.donor.now g.now.into g.now.from)) (new_numbers (graft g.now.host.now g.now.donor.now g.now.into g.now.from)) p.now }
     requires into { g.now.into < length g.now.host.now.modes }
     requires within { All (λ x. x < length (united (graft g.now.host.now g.now.donor.now g.now.into g.now.from)).modules) keys.now }
@@ -158,7 +168,12 @@ fn new_task(alloc: Global, g: &Graft<'_>, p: &NewNumbers, k: usize) -> Result<Ta
 }
 
 /// The tasks with these old numbers, with their new numbers.
-pub(crate) fn new_tasks(alloc: Global, g: &Graft<'_>, p: &NewNumbers, keys: &[u16]) -> Result<Vec<Task>, AllocError>
+pub(crate) fn new_tasks(
+    alloc: Global,
+    g: &Graft<'_>,
+    p: &NewNumbers,
+    keys: &[u16],
+) -> Result<Vec<Task>, AllocError>
     requires places { ArePlaces (united (graft g.now.host.now g.now.donor.now g.now.into g.now.from)) (new_numbers (graft g.now.host.now g.now.donor.now g.now.into g.now.from)) p.now }
     requires within { All (λ x. x < length (united (graft g.now.host.now g.now.donor.now g.now.into g.now.from)).tasks) keys.now }
     ensures { IfOk result (λ v. v.items ≡ map (λ x. new_task_of (new_numbers (graft g.now.host.now g.now.donor.now g.now.into g.now.from)) (task_at (united (graft g.now.host.now g.now.donor.now g.now.into g.now.from)) x)) keys.now) }

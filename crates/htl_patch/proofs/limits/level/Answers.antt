@@ -11,8 +11,7 @@ loop-left-init c = (omega arith, level_start (upright c.args.modules.now c.args.
 pub loop-left-preserved : goal.loop-left-preserved
 loop-left-preserved c =
     let t = upright c.args.modules.now c.args.modes.now in
-    let some : 0 < c.loop-left.left = grind (arith, nat_tests, c.loop-left-test.true) in
-    (
+    let some : 0 < c.loop-left.left = grind (arith, nat_tests, c.loop-left-test.true) in (
       omega (arith, c.loop-left.invariant.0),
       level_more t c.args.steps c.loop-left.left c.loop-left.here c.in-Some.mode c.module_of-here.result (level c.args.steps t c.args.unit) c.loop-left.invariant.0 some c.in-Some.ensures c.module_of-here.ensures
           c.loop-left.invariant.1,

@@ -11,10 +11,13 @@ loop-init c =
 
 pub loop-preserved : goal.loop-preserved
 loop-preserved c =
-    let items = c.in_ok-push.ensures.items in
-    (omega (arith, c.in_ok-push.ensures.len, c.loop.invariant.0), grind (arith, nat_tests, c.loop-test.true, c.loop.invariant.1), λ k less.
-    subst (λ (xs : List ℕ). get_or xs k 0 ≡ length c.args.keys.now) (sym items)
-    (get_push c.loop.found.items (length c.args.keys.now) k (length c.args.keys.now) c.loop.invariant.2 refl (omega (arith, less, c.in_ok-push.ensures.len))))
+    let items = c.in_ok-push.ensures.items in (
+      omega (arith, c.in_ok-push.ensures.len, c.loop.invariant.0),
+      grind (arith, nat_tests, c.loop-test.true, c.loop.invariant.1),
+      λ k less.
+          subst (λ (xs : List ℕ). get_or xs k 0 ≡ length c.args.keys.now) (sym items)
+          (get_push c.loop.found.items (length c.args.keys.now) k (length c.args.keys.now) c.loop.invariant.2 refl (omega (arith, less, c.in_ok-push.ensures.len))),
+    )
 
 pub loop-place-init : goal.loop-place-init
 loop-place-init c =
