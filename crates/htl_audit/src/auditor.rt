@@ -11,7 +11,7 @@ ghost use Rattle.htl_audit.specs.Verdicts.{verdict_of};
 
 use crate::ledger::Ledger;
 use crate::{LogFault, LogKind, Slice};
-use htl_base::{Time, Value};
+use htl_base::{Seq, Time, Value};
 use htl_machine::Machine;
 use std::marker::Model;
 
@@ -31,6 +31,7 @@ pub struct AuditTotals {
 pub struct Auditor<'a> {
     machine: Machine<'a>,
     log: &'a [Slice],
+    takes: Seq<Time>,
     ledger: Ledger,
 }
 
@@ -44,7 +45,7 @@ impl<'a> Model for Auditor<'a> {
 
     ghost coded = { Prim.hlevel (codes, object_row.the_row.coded) };
 
-    ghost view = { λ a. record { machine = a.machine; log = a.log.now; kept = a.ledger } };
+    ghost view = { λ a. record { machine = a.machine; log = a.log.now; takes = a.takes; kept = a.ledger } };
 
     ghost invariant = { λ a. HaveRounds a.machine.object.tables };
 }
