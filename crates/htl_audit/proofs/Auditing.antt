@@ -54,15 +54,14 @@ module _ (t : Tables) (es : List Event) (end : ℕ) (log : List Slice) (k : Kept
 
 -- ---- a sensor
 
-pub sense_follows : (a : Audit) (es : List Event) (c : ℕ) (x : ℤ) (m : machines.Seen) → HaveRounds a.machine.object.tables → m ≡ record a.machine { held = shown_as c x a.machine.held } → machines.Follows m (es ++ V.Sense c x ∷ []) → Follows a es
+pub sense_follows : (a : Audit) (es : List Event) (c : ℕ) (x : ℤ) (m : machines.Seen) → m ≡ record a.machine { held = shown_as c x a.machine.held } → machines.Follows m (es ++ V.Sense c x ∷ []) → Follows a es
     → Follows (record a { machine = m }) (es ++ V.Sense c x ∷ [])
-sense_follows a es c x m rounds is machine f =
+sense_follows a es c x m is machine f =
     subst (λ z. Follows (record a { machine = z }) fs) (sym is)
     (record {
       machine = subst (λ z. machines.Follows z fs) is machine;
       shown = f.shown;
       takes = λ i u known later. took_sense t es c i u x ∙ f.takes i u known later;
-      count = f.count;
       log = subst (λ rs. LogFollows t rs a.machine.held.reading a.log a.kept) (rounds_same t es fs a.machine.held.reading senses (λ i u. sym (took_sense t es c i u x))) f.log;
     })
   where

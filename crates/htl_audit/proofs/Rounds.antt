@@ -16,7 +16,7 @@ use Rattle.htl_model.specs.FormRules.{Offsets, Output, Site, Part}
 use Rattle.htl_model.specs.FrameRules.{KeptApart}
 use Rattle.htl_model.specs.Frames.{root_periods, begins, unit_start, unit_period}
 use Rattle.htl_model.specs.Lists.{places_from}
-use Rattle.htl_model.specs.Ranges.{AreInRange, IsInvInRange}
+use Rattle.htl_model.specs.Ranges.{AreInRange, IsInvInRange, IsModeInRange}
 use Rattle.htl_model.specs.Selections.{is_root, modes_of, root_modules, root_period}
 use Rattle.htl_model.specs.Tables.{Tables, mode_period, comm_period, window_end, offsets, least_or}
 use Rattle.htl_model.proofs.SelectionLaws.{all_places_below}
@@ -122,7 +122,7 @@ pub tables_have_rounds : (t : Tables) → AreInRange t → KeptTo t 12 → HaveR
 tables_have_rounds t range kept =
     record {
       windows = λ i x at. ((window_small t i x range apart at).0, window_within t i x range apart at);
-      some = λ p e. (some_period t p range e).0;
+      some = λ p e. ((some_period t p range e).0, most p e);
       starts = starts;
       none = λ n e. ap (λ us. list_any (λ q. eqb (n % q) 0) (map (unit_period t) us)) (no_roots t range kept e);
       whole = λ n e. by n e (root_period t) refl;
@@ -131,6 +131,15 @@ tables_have_rounds t range kept =
   where
     apart : KeptApart t 12
     apart = kept_apart t 12 kept
+
+    some_mode : (p : ℕ) → root_period t ≡ Some p → 0 < length t.modes
+    some_mode p e = let x = item_at t.modules 0 (some_period t p range e).1 in let start = (range.modules 0 x.0 x.1).start in omega (arith, slice_get_within t.modes x.0.start start.0 start.1)
+
+    most : (p : ℕ) → root_period t ≡ Some p → p ≤ 1000000
+    most p e =
+        let x = item_at t.modes 0 (some_mode p e) in
+        let is : mode_period t 0 ≡ x.0.period = ap (λ (o : Option Mode). elim o as (λ _. ℕ) [ Some y ↦ y.period | None ↦ 0 ]) x.1 in
+        omega (arith, is, mode_periods t range kept p e 0 (some_mode p e), (all_at (IsModeInRange t) t.modes range.modes 0 x.0 x.1).period.most)
 
     starts : (p n : ℕ) → root_period t ≡ Some p → begins (root_periods t) n ≡ eqb (n % p) 0
     starts p n e = any_begin t p n (root_modules t) (one_period t range kept p e) (some_roots (root_modules t) refl)

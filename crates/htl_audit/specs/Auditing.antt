@@ -1,9 +1,13 @@
 -- What contracts see of an auditor, what it follows, and its verdict.
-use Rattle.std.specs.Prelude.{◌≡◌, ◌≤◌, ◌<◌, ℕ, suc, List, length, get_or}
+use Rattle.std.specs.Prelude.{◌≡◌, ◌≤◌, ◌<◌, ℕ, suc, true, false, List, [], ◌∷◌, ◌++◌, length, get_or, Option, Some, None, All}
 use Rattle.htl_model.specs.declared.event.Event.{Event}
 use Rattle.htl_console.specs.declared.shown.Shown.TheVariants.{Values}
 use Rattle.htl_machine.specs.Calls as machines
-use Rattle.htl_refine.specs.Records.{took}
+use Rattle.htl_model.specs.declared.event.Event.TheVariants as V
+use Rattle.htl_model.specs.Frames.{root_periods, begins}
+use Rattle.htl_model.specs.Tables.{Tables}
+use Rattle.htl_object.specs.declared.object.Object.{Object}
+use Rattle.htl_refine.specs.Records.{took, AreTookWithin}
 use Rattle.htl_audit.specs.declared.slice.Slice.{Slice}
 use Rattle.htl_audit.specs.Jobs.{all_rounds}
 use Rattle.htl_audit.specs.Keeping.{Kept}
@@ -27,10 +31,39 @@ pub record Follows (a : Audit) (es : List Event) : Type 0 where
   pub machine : machines.Follows a.machine es
   pub shown : a.machine.show ≡ Values
   pub takes : (i u : ℕ) → i < length a.machine.object.tables.invs → a.machine.held.reading ≤ u → took a.machine.object.tables es i u ≡ get_or a.takes i 0
-  pub count : length a.takes ≡ length a.machine.object.tables.invs
   pub log : IsLogUpTo a es a.machine.held.reading
 
 -- the run ended at `to`: values are those of the meaning there, and the lines are judged that end by then
 pub record IsAudited (a : Audit) (es : List Event) (to : ℕ) : Type 0 where
   pub machine : machines.IsFinished a.machine es to
   pub log : LogEnds (all_rounds a.machine.object.tables es (suc to)) (suc to) a.log a.kept
+
+-- what holds of all that an auditor keeps
+pub record IsAuditor (o : Object) (m : machines.Seen) (takes : List ℕ) (log : List Slice) (k : Kept) : Type 0 where
+  pub object : m.object ≡ o
+  pub rows : length k.roster.stands ≡ length o.tables.invs
+  pub starts : length k.roster.starts ≡ length o.tables.invs
+  pub lengths : length k.roster.lengths ≡ length o.tables.invs
+  pub sums : length k.sums ≡ length o.tables.invs
+  pub count : length takes ≡ length o.tables.invs
+  pub small : (i : ℕ) → get_or takes i 0 ≤ 1000000
+  pub lines : All (λ (x : Slice). x.inv < length o.tables.invs) log
+  pub place : k.place ≤ length log
+
+-- the first start of rounds from an instant on; none without modules
+abbrev pub IsNextStart : Tables → ℕ → Option ℕ → Type 0
+IsNextStart t at None = (n : ℕ) → begins (root_periods t) n ≡ false
+IsNextStart t at (Some s) = (at ≤ s) × (begins (root_periods t) s ≡ true) × ((n : ℕ) → at ≤ n → n < s → begins (root_periods t) n ≡ false)
+
+-- all before the reading of the machine is done, which was told these events and that reading
+pub record IsStopped (a : Audit) (es : List Event) : Type 0 where
+  pub machine : machines.Follows a.machine (es ++ V.At a.machine.held.reading ∷ [])
+  pub within : AreTookWithin a.machine.object.tables es
+  pub shown : a.machine.show ≡ Values
+  pub takes : (i u : ℕ) → i < length a.machine.object.tables.invs → a.machine.held.reading ≤ u → took a.machine.object.tables es i u ≡ get_or a.takes i 0
+  pub log : IsLogUpTo a es a.machine.held.reading
+
+-- no call changes the object, what is shown and the log
+pub record IsSameAudit (old new : Audit) : Type 0 where
+  pub run : machines.IsSameRun old.machine new.machine
+  pub log : new.log ≡ old.log

@@ -1,5 +1,5 @@
 -- What an auditor keeps of a log, by invocation, and how it judges the next line.
-use Rattle.std.specs.Prelude.{zero, ℕ, suc, ◌+◌, ◌-◌, Bool, true, false, cond, not, ◌&&◌, ◌||◌, eqb, leb, ltb, List, [], ◌∷◌, get_or, length, slice_get, set, Option, Some, None}
+use Rattle.std.specs.Prelude.{zero, ℕ, suc, ◌+◌, ◌-◌, Bool, true, false, cond, not, ◌&&◌, ◌||◌, eqb, leb, ltb, List, [], ◌∷◌, get_or, length, replicate, slice_get, set, Option, Some, None}
 use Rattle.htl_model.specs.declared.parts.Inv.{Inv}
 use Rattle.htl_model.specs.Functions.{of_bool}
 use Rattle.htl_model.specs.PortOrder.{feeds}
@@ -160,3 +160,16 @@ abbrev pub taken : Tables → ℕ → ℕ → ℕ → Kept → Kept
 taken t now i n k =
     cond (leb now (start_at k.roster i + release_at t i))
     (record k { roster = record { stands = k.roster.stands; starts = k.roster.starts; lengths = set k.roster.lengths i n } }) k
+
+-- before any round, of so many invocations
+abbrev pub first_kept : ℕ → Kept
+first_kept n =
+    record {
+      place = 0;
+      fault = None;
+      end = 0;
+      roster = record { stands = replicate n false; starts = replicate n 0; lengths = replicate n 0 };
+      sums = replicate n 0;
+      done = 0;
+      short = false;
+    }

@@ -1,18 +1,25 @@
 // The auditor: a machine for the values, and what is kept of a log.
-ghost use Rattle.std.specs.Prelude.{◌≡◌, ◌++◌, ◌∷◌, [], ◌≤◌, ◌<◌, ℕ, suc, List, length, Some, None, Ok, Err, IfOk, IfErr};
+ghost use Rattle.std.specs.Prelude.{◌≡◌, ◌++◌, ◌∷◌, [], ◌≤◌, ◌<◌, ℕ, suc, List, length, Some, None, Ok, Err, IfOk, IfErr, All, map, drop, ◌%◌, true, false, OnOk, OnErr};
 ghost use Rattle.htl_model.specs.declared.event.Event.{Event as Told};
 ghost use Rattle.htl_model.specs.declared.event.Event.TheVariants as event;
-ghost use Rattle.htl_machine.specs.Calls.{IsSensorValue};
+ghost use Rattle.htl_machine.specs.Calls.{IsSensorValue, IsLength, text_between};
+ghost use Rattle.htl_model.specs.Tables.{task_worst as task_worst_of};
 ghost use Rattle.htl_machine.specs.Follows.{shown_as};
-ghost use Rattle.htl_audit.specs.Auditing.{Follows, IsAudited};
+ghost use Rattle.htl_audit.specs.Auditing.{Follows, IsAudited, IsStopped, IsSameAudit, IsNextStart};
+ghost use Rattle.htl_audit.specs.Keeping.{passed, begun};
 ghost use Rattle.htl_audit.specs.Jobs.{all_rounds};
 ghost use Rattle.htl_audit.specs.Legal.{first_fault, jobs_done};
 ghost use Rattle.htl_audit.specs.Verdicts.{verdict_of};
 
 use crate::ledger::Ledger;
 use crate::{LogFault, LogKind, Slice};
-use htl_base::{Seq, Time, Value};
+use htl_base::{Memory, Seq, Time, Value};
+use htl_console::Shown;
+use htl_load::Loaded;
 use htl_machine::Machine;
+use htl_model::Tables;
+use htl_model::lookup::task_worst;
+use std::alloc::{AllocError, Global};
 use std::marker::Model;
 
 /// The numbers of a legal log.
@@ -26,9 +33,11 @@ pub struct AuditTotals {
     pub slices: u64,
 }
 
-/// An accepted object and a job log. It follows events as a machine does.
+/// An accepted object and a job log. It follows events as a machine does: its values and modes are those of a machine that it holds,
+/// whatever the log says, and it judges the lines of the log against the jobs of the rounds.
 #[derive(Drop)]
 pub struct Auditor<'a> {
+    loaded: &'a Loaded,
     machine: Machine<'a>,
     log: &'a [Slice],
     takes: Seq<Time>,
@@ -36,8 +45,7 @@ pub struct Auditor<'a> {
 }
 
 impl<'a> Model for Auditor<'a> {
-    ghost use Rattle.htl_audit.specs.Auditing.{Audit};
-    ghost use Rattle.htl_audit.specs.Growing.{HaveRounds};
+    ghost use Rattle.htl_audit.specs.Auditing.{Audit, IsAuditor};
     ghost use Rattle.htl_object.specs.contracts.object.Object as object_row;
     ghost use Rattle.std.specs.Coded.{codes};
 
@@ -47,19 +55,117 @@ impl<'a> Model for Auditor<'a> {
 
     ghost view = { λ a. record { machine = a.machine; log = a.log.now; takes = a.takes; kept = a.ledger } };
 
-    ghost invariant = { λ a. HaveRounds a.machine.object.tables };
+    ghost invariant = { λ a. IsAuditor a.loaded.now a.machine a.takes a.log.now a.ledger };
+}
+
+// The worst cases of the invocations, in ticks.
+fn worst_cases(alloc: Global, t: &Tables) -> Result<Vec<Time>, AllocError>
+    ensures { IfOk result (λ v. v.items ≡ map (λ x. task_worst_of t.now x.task) t.now.invs) }
+{
+    let invs = t.parts().invs.as_slice();
+    let mut worst = Vec::new(alloc);
+    for k in 0..invs.len() {
+        worst.push(task_worst(t, invs[k].task) as u64)?;
+    }
+    Ok(worst)
+}
+
+// The first multiple of a period from an instant on.
+fn next_multiple(at: Time, period: Time) -> Time
+    requires some { 1 ≤ period }
+    requires small { period ≤ 1000000 }
+    requires at { at ≤ 1000000000 }
+    ensures low { at ≤ result }
+    ensures whole { result % period ≡ 0 }
+    ensures first { (n : ℕ) → at ≤ n → n < result → n % period ≡ 0 → ⊥ }
+{
+    let over = at % period;
+    if over == 0 { at } else { at + (period - over) }
 }
 
 impl<'a> Auditor<'a> {
+    /// Stands before instant 0 and has followed no event. Each line of the log is of an invocation of the object. All memory of the
+    /// audit is taken here; want of it is the one refusal.
+    pub fn new(alloc: Global, l: &'a Loaded, log: &'a [Slice]) -> Result<Auditor<'a>, Memory>
+        requires lines { All (λ x. x.inv < length l.now.tables.invs) log.now }
+        ensures follows { IfOk result (λ a. Follows a []) }
+        ensures object { IfOk result (λ a. a.machine.object ≡ l.now) }
+        ensures log { IfOk result (λ a. a.log ≡ log.now) }
+    {
+        let t = l.tables();
+        let machine = Machine::new(alloc, l, Shown::Values)?;
+        let Ok(takes) = worst_cases(alloc, t) else {
+            return Err(Memory);
+        };
+        let Ok(ledger) = Ledger::new(alloc, t) else {
+            return Err(Memory);
+        };
+        Ok(Auditor {
+            loaded: l,
+            machine,
+            log,
+            takes: Seq::new(takes),
+            ledger,
+        })
+    }
+
     /// What a sensor shows from the last reading on. The machine isn't spent, the communicator is a sensor, and the value is of its
     /// type.
     pub fn sense(&mut self, comm: u16, x: Value)
         requires follows { (es : List Told) × Follows self.old es }
         requires sensor { IsSensorValue self.old.machine.object.tables comm x }
         ensures follows { (es : List Told) → Follows self.old es → Follows self.new (es ++ event.Sense comm x ∷ []) }
-        ensures kept { self.new.kept ≡ self.old.kept }
+        ensures same { IsSameAudit self.old self.new }
     {
         self.machine.sense(comm, x);
+    }
+
+    /// How many ticks jobs of an invocation take that are released at the last reading or later. The machine isn't spent, the
+    /// invocation is concrete, and the length is from 1 to its worst case.
+    pub fn took(&mut self, inv: u16, ticks: Time)
+        requires follows { (es : List Told) × Follows self.old es }
+        requires ticks { IsLength self.old.machine.object.tables inv ticks }
+        ensures follows { (es : List Told) → Follows self.old es → Follows self.new (es ++ event.Took inv ticks ∷ []) }
+        ensures same { IsSameAudit self.old self.new }
+    {
+        let now = self.machine.reading();
+        self.ledger.take(self.loaded.tables(), now, inv, ticks);
+        self.takes.set(inv as usize, ticks);
+        self.machine.took(inv, ticks);
+    }
+
+    // Judges the lines that end before the instant, and the jobs whose windows do.
+    fn pass(&mut self, now: Time)
+        requires { now ≤ 1000000001 }
+        ensures { self.new ≡ record self.old { kept = passed self.old.machine.object.tables now (drop self.old.kept.place self.old.log) self.old.kept } }
+    {
+        let t = self.loaded.tables();
+        t.keeps_ranges();
+        self.ledger.judge_to(t, now, self.log);
+        self.ledger.settle(t, now);
+    }
+
+    // Begins the rounds of an instant, in the modes of the machine.
+    fn begin(&mut self, at: Time)
+        ensures { self.new ≡ record self.old { kept = begun self.old.machine.object.tables self.old.machine.standing.calendar.modes self.old.takes at self.old.kept } }
+    {
+        self.ledger.begin(
+            self.loaded.tables(),
+            &self.machine,
+            self.takes.as_slice(),
+            at,
+        );
+    }
+
+    // The first start of rounds from the last reading on.
+    fn next_start(&self) -> Option<Time>
+        requires { self.now.machine.held.reading ≤ 1000000000 }
+        ensures { IsNextStart self.now.machine.object.tables self.now.machine.held.reading result }
+    {
+        match self.loaded.tables().period() {
+            Some(period) => Some(next_multiple(self.machine.reading(), period)),
+            None => None,
+        }
     }
 
     /// The numbers of the log, or its first fault, once the run has ended.

@@ -1,10 +1,10 @@
 // What is kept of a log while its run goes on.
-ghost use Rattle.std.specs.Prelude.{◌≡◌, ◌<◌, ◌≤◌, ◌+◌, ◌-◌, ◌^◌, leb, ltb, ℕ, get_or, length, drop, None, All};
+ghost use Rattle.std.specs.Prelude.{◌≡◌, ◌<◌, ◌≤◌, ◌+◌, ◌-◌, ◌^◌, leb, ltb, ℕ, get_or, length, drop, None, All, IfOk};
 ghost use Rattle.htl_emach.specs.Calendars.{list_at};
 ghost use Rattle.htl_model.specs.Selected.{is_at};
 ghost use Rattle.htl_audit.specs.Saying.{Says};
 ghost use Rattle.htl_audit.specs.Verdicts.{verdict_of};
-ghost use Rattle.htl_audit.specs.Keeping.{is_between, is_inside as is_inside_of, kind_of as kind_of_line, judged, judged_to, is_clear_of as is_clear_of_job, is_free_from, is_free_at, with_slice, sum_at, length_at, ticks_of, with_kind, fell_short as fell_short_of, any_fell_short as any_fell_short_of, settled, renewed, begun, taken, runs_in};
+ghost use Rattle.htl_audit.specs.Keeping.{is_between, is_inside as is_inside_of, kind_of as kind_of_line, judged, judged_to, is_clear_of as is_clear_of_job, is_free_from, is_free_at, with_slice, sum_at, length_at, ticks_of, with_kind, fell_short as fell_short_of, any_fell_short as any_fell_short_of, settled, renewed, begun, taken, runs_in, first_kept};
 
 use crate::auditor::AuditTotals;
 use crate::ports::feeds;
@@ -13,6 +13,7 @@ use htl_base::{Seq, Time};
 use htl_machine::Machine;
 use htl_model::Tables;
 use htl_model::lookup::{is_concrete, mode_module};
+use std::alloc::{AllocError, Global};
 use std::marker::Model;
 
 /// The lines that were judged and the jobs of the rounds that began last, by invocation.
@@ -82,6 +83,28 @@ fn runs(t: &Tables, machine: &Machine<'_>, i: usize) -> bool
 }
 
 impl Ledger {
+    /// Keeps nothing yet of the invocations of tables. Want of memory is the one refusal.
+    pub fn new(alloc: Global, t: &Tables) -> Result<Ledger, AllocError>
+        ensures { IfOk result (λ l. l ≡ first_kept (length t.now.invs)) }
+    {
+        let count = t.parts().invs.as_slice().len();
+        let stands = vec![in alloc; false; count]?;
+        let starts = vec![in alloc; 0; count]?;
+        let lengths = vec![in alloc; 0; count]?;
+        let sums = vec![in alloc; 0; count]?;
+        Ok(Ledger {
+            place: 0,
+            fault: None,
+            end: 0,
+            stands: Seq::new(stands),
+            starts: Seq::new(starts),
+            lengths: Seq::new(lengths),
+            sums: Seq::new(sums),
+            done: 0,
+            short: false,
+        })
+    }
+
     // Whether the slice, which isn't empty, lies in the window of its invocation's job.
     fn is_inside(&self, t: &Tables, x: Slice) -> bool
         requires inv { x.inv < length t.now.invs }

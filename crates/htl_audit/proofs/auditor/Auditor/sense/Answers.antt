@@ -13,4 +13,4 @@ returns-clause-follows c = λ es f.
     let g : Follows inner es = subst (λ (z : Audit). Follows z es) (sym c.self.view_is) f in
     let seen : c.sense.new.self ≡ record c.self.inside.machine { held = shown_as c.args.comm c.args.x c.self.inside.machine.held } = search rules in
     let follows : (fs : List Event) → machines.Follows c.self.inside.machine fs → machines.Follows c.sense.new.self (fs ++ event.Sense c.args.comm c.args.x ∷ []) = search rules in
-    sense_follows inner es c.args.comm c.args.x c.sense.new.self c.self.invariant seen (follows es g.machine) g
+    sense_follows inner es c.args.comm c.args.x c.sense.new.self seen (follows es g.machine) g
