@@ -27,9 +27,9 @@ use Rattle.htl_audit.specs.Growing.{HaveRounds}
 use Rattle.htl_audit.specs.Jobs.{Round, beginning, jobs_from, round_of, starts_before, all_rounds}
 use Rattle.htl_audit.specs.Legal as rules
 use Rattle.htl_audit.specs.Keeping.{Kept, has_job, length_at, start_at, release_at, end_at, runs_in, begun}
-use Rattle.htl_audit.specs.Rosters.{IsIn, IsCurrent, HasJob, AreKept}
+use Rattle.htl_audit.specs.Rosters.{IsIn, IsCurrent, HasJob, AreKept, IsSized}
 use Rattle.htl_audit.proofs.Growing.{in_two, in_back, in_front, start_is, round_is, round_job, length_is, placed}
-use Rattle.htl_audit.proofs.Renewing.{IsSized, IsNew, all_new, runs_is, runs_of}
+use Rattle.htl_audit.proofs.Renewing.{IsNew, all_new, runs_is, runs_of}
 use Rattle.htl_audit.proofs.Settling.{stands_within}
 
 either : (a b : ℕ) → (a < b) ⊎ (b ≤ a)

@@ -23,13 +23,13 @@ use Rattle.htl_audit.specs.Keeping.{Kept, sum_at, start_at, begun}
 use Rattle.htl_audit.specs.Legal as rules
 use Rattle.htl_audit.specs.Legal.{ticks, line_fault, is_short, any_short, how_many, jobs_done}
 use Rattle.htl_audit.specs.Lines.{IsNext, IsLast, AreJudged, BeganBefore}
-use Rattle.htl_audit.specs.Rosters.{IsIn, IsCurrent, AreKept, AreSummed}
+use Rattle.htl_audit.specs.Rosters.{IsIn, IsCurrent, AreKept, AreSummed, IsSized}
 use Rattle.htl_audit.specs.Verdicts.{LogFollows, LogEnds}
 use Rattle.htl_audit.proofs.Agreeing.{fault_alike, no_ticks}
 use Rattle.htl_audit.proofs.Beginning.{grown, split, fresh, has_fresh, is_new, current, never_old, kept_new}
 use Rattle.htl_audit.proofs.Growing.{in_two, in_front, rounds_agree, rounds_still}
 use Rattle.htl_audit.proofs.Onward.{early, kept_then}
-use Rattle.htl_audit.proofs.Renewing.{IsSized, renewed_sized, renewed_else, start_past}
+use Rattle.htl_audit.proofs.Renewing.{renewed_sized, renewed_else, start_past}
 use Rattle.htl_audit.proofs.Summing.{passes}
 use Rattle.htl_audit.proofs.Tests.{same_truth, both, IsJobOf, job_found, job_there}
 

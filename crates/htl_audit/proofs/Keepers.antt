@@ -33,7 +33,7 @@ use Rattle.htl_audit.specs.Auditing.{Audit, Follows, IsAuditor, IsNextStart}
 use Rattle.htl_audit.specs.Growing.{HaveRounds}
 use Rattle.htl_audit.specs.Jobs.{all_rounds}
 use Rattle.htl_audit.specs.Keeping.{Kept, has_job, start_at, judged_to, judged, with_kind, kind_of, passed, begun, taken, first_kept}
-use Rattle.htl_audit.specs.Rosters.{AreKept, AreSummed}
+use Rattle.htl_audit.specs.Rosters.{AreKept, AreSummed, IsSized}
 use Rattle.htl_audit.specs.Verdicts.{LogFollows}
 use Rattle.htl_audit.proofs.Passing.{judged_leaves}
 use Rattle.htl_audit.proofs.Renewing.{renewed_sized, renewed_else}
@@ -75,6 +75,11 @@ judged_sums t now (x ∷ xs) k = by k.fault (ltb x.to now) (judged_sums t now xs
     by (Some f) b h = refl
     by None false h = refl
     by None true h = h ∙ one (kind_of t now k x)
+
+pub passed_sized : (n : ℕ) (t : Tables) (now : ℕ) (xs : List Slice) (k : Kept) → IsSized n k → IsSized n (passed t now xs k)
+passed_sized n t now xs k z =
+    let r = (judged_leaves t now xs k).roster in
+    record { stands = ap (λ o. length o.stands) r ∙ z.stands; starts = ap (λ o. length o.starts) r ∙ z.starts; lengths = ap (λ o. length o.lengths) r ∙ z.lengths; sums = judged_sums t now xs k ∙ z.sums }
 
 pub passed_auditor : (o : Object) (m : machines.Seen) (takes : List ℕ) (log : List Slice) (k : Kept) (t : Tables) (now : ℕ) → IsAuditor o m takes log k → IsAuditor o m takes log (passed t now (drop k.place log) k)
 passed_auditor o m takes log k t now i =

@@ -11,14 +11,8 @@ use Rattle.htl_model.specs.Selected.{entry, is_at, Runs}
 use Rattle.htl_model.specs.Tables.{Tables, is_concrete, mode_module}
 use Rattle.htl_audit.specs.declared.slice.LogFault.{LogFault}
 use Rattle.htl_audit.specs.Keeping.{Kept, has_job, sum_at, length_at, start_at, runs_in, renewed, renewed_to}
+use Rattle.htl_audit.specs.Rosters.{IsSized}
 use Rattle.htl_audit.proofs.Tests.{both, and_true}
-
--- every list of what is kept by invocation has so many entries
-pub record IsSized (n : ℕ) (k : Kept) : Type 0 where
-  pub stands : length k.roster.stands ≡ n
-  pub starts : length k.roster.starts ≡ n
-  pub lengths : length k.roster.lengths ≡ n
-  pub sums : length k.sums ≡ n
 
 -- ---- whose mode runs
 

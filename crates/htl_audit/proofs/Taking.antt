@@ -31,13 +31,12 @@ use Rattle.htl_audit.specs.Keeping.{Kept, has_job, sum_at, length_at, start_at, 
 use Rattle.htl_audit.specs.Legal as rules
 use Rattle.htl_audit.specs.Legal.{ticks, line_fault, any_short, how_many, jobs_done}
 use Rattle.htl_audit.specs.Lines.{IsNext, BeganBefore}
-use Rattle.htl_audit.specs.Rosters.{IsIn, IsCurrent, HasJob, AreKept, AreSummed}
+use Rattle.htl_audit.specs.Rosters.{IsIn, IsCurrent, HasJob, AreKept, AreSummed, IsSized}
 use Rattle.htl_audit.specs.Verdicts.{LogFollows}
 use Rattle.htl_audit.proofs.Agreeing.{fault_alike, short_alike, done_alike, ticks_start}
 use Rattle.htl_audit.proofs.Begun.{some_took}
 use Rattle.htl_audit.proofs.Growing.{start_is, round_is, round_job, length_is, matched, rounds_agree}
 use Rattle.htl_audit.proofs.Onward.{early, kept_then}
-use Rattle.htl_audit.proofs.Renewing.{IsSized}
 use Rattle.htl_audit.proofs.Summing.{passes, count_same}
 
 -- ---- what is kept

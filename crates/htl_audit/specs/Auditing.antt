@@ -1,8 +1,11 @@
 -- What contracts see of an auditor, what it follows, and its verdict.
-use Rattle.std.specs.Prelude.{◌≡◌, ◌≤◌, ◌<◌, ℕ, suc, true, false, List, [], ◌∷◌, ◌++◌, length, get_or, Option, Some, None, All}
+use Rattle.std.specs.Prelude.{◌≡◌, ◌≤◌, ◌<◌, ℕ, suc, true, false, List, [], ◌∷◌, ◌++◌, length, get_or, Option, Some, None, All, Ok, Err}
 use Rattle.htl_model.specs.declared.event.Event.{Event}
 use Rattle.htl_console.specs.declared.shown.Shown.TheVariants.{Values}
 use Rattle.htl_machine.specs.Calls as machines
+use Rattle.htl_machine.specs.Calls.{text_between}
+use Rattle.htl_edge.specs.Content.{Puts}
+use Rattle.std.specs.declared.result.Result.{Result}
 use Rattle.htl_model.specs.declared.event.Event.TheVariants as V
 use Rattle.htl_model.specs.Frames.{root_periods, begins}
 use Rattle.htl_model.specs.Tables.{Tables}
@@ -11,6 +14,7 @@ use Rattle.htl_refine.specs.Records.{took, AreTookWithin}
 use Rattle.htl_audit.specs.declared.slice.Slice.{Slice}
 use Rattle.htl_audit.specs.Jobs.{all_rounds}
 use Rattle.htl_audit.specs.Keeping.{Kept}
+use Rattle.htl_audit.specs.Rosters.{IsSized}
 use Rattle.htl_audit.specs.Verdicts.{LogFollows, LogEnds}
 
 pub record Audit : Type 0 where
@@ -67,3 +71,16 @@ pub record IsStopped (a : Audit) (es : List Event) : Type 0 where
 pub record IsSameAudit (old new : Audit) : Type 0 where
   pub run : machines.IsSameRun old.machine new.machine
   pub log : new.log ≡ old.log
+
+-- what is kept has an entry for each invocation
+abbrev pub AreSized : Audit → Type 0
+AreSized a = IsSized (length a.machine.object.tables.invs) a.kept
+
+-- a call that goes on to `to` wrote the text up to where it stands, or a prefix of the whole
+abbrev pub IsGone : {T E : Type 0} → Audit → Audit → List Event → ℕ → Option (List ℕ) → Option (List ℕ) → ℕ → ℕ → Result T E → Type 0
+IsGone {T} {E} old new es to w w1 f f1 (Ok x) = Puts {T = T} {E = E} w w1 f f1 (text_between old.machine.object es Values old.machine.held.reading new.machine.held.reading) (Ok x)
+IsGone {T} {E} old new es to w w1 f f1 (Err x) = Puts {T = T} {E = E} w w1 f f1 (text_between old.machine.object es Values old.machine.held.reading to) (Err x)
+
+-- no round begins from the reading on before `to`
+abbrev pub AreNone : Audit → ℕ → Type 0
+AreNone a to = (n : ℕ) → a.machine.held.reading ≤ n → n < to → begins (root_periods a.machine.object.tables) n ≡ false

@@ -5,7 +5,13 @@ ghost use Rattle.htl_model.specs.declared.event.Event.TheVariants as event;
 ghost use Rattle.htl_machine.specs.Calls.{IsSensorValue, IsLength, text_between};
 ghost use Rattle.htl_model.specs.Tables.{task_worst as task_worst_of};
 ghost use Rattle.htl_machine.specs.Follows.{shown_as};
-ghost use Rattle.htl_audit.specs.Auditing.{Follows, IsAudited, IsStopped, IsSameAudit, IsNextStart};
+ghost use Rattle.htl_base.specs.declared.limits.TheConstants as limit;
+ghost use Rattle.htl_console.specs.declared.shown.Shown.TheVariants.{Values};
+ghost use Rattle.htl_edge.specs.Content.{Puts};
+ghost use Rattle.htl_machine.specs.Calls as machines;
+ghost use Rattle.htl_model.specs.Frames.{root_periods, begins};
+ghost use Rattle.htl_object.specs.Accepted.{IsAccepted};
+ghost use Rattle.htl_audit.specs.Auditing.{AreSized, Follows, IsAudited, IsStopped, IsSameAudit, IsNextStart};
 ghost use Rattle.htl_audit.specs.Keeping.{passed, begun};
 ghost use Rattle.htl_audit.specs.Jobs.{all_rounds};
 ghost use Rattle.htl_audit.specs.Legal.{first_fault, jobs_done};
@@ -15,6 +21,7 @@ use crate::ledger::Ledger;
 use crate::{LogFault, LogKind, Slice};
 use htl_base::{Memory, Seq, Time, Value};
 use htl_console::Shown;
+use htl_edge::{Failed, Sink};
 use htl_load::Loaded;
 use htl_machine::Machine;
 use htl_model::Tables;
@@ -137,7 +144,9 @@ impl<'a> Auditor<'a> {
     // Judges the lines that end before the instant, and the jobs whose windows do.
     fn pass(&mut self, now: Time)
         requires { now ≤ 1000000001 }
-        ensures { self.new ≡ record self.old { kept = passed self.old.machine.object.tables now (drop self.old.kept.place self.old.log) self.old.kept } }
+        ensures kept { self.new ≡ record self.old { kept = passed self.old.machine.object.tables now (drop self.old.kept.place self.old.log) self.old.kept } }
+        ensures accepted { IsAccepted self.old.machine.object }
+        ensures sized { AreSized self.old }
     {
         let t = self.loaded.tables();
         t.keeps_ranges();
@@ -155,6 +164,55 @@ impl<'a> Auditor<'a> {
             self.takes.as_slice(),
             at,
         );
+    }
+
+    // Lets the machine do all instants before `to`.
+    fn step<W: Sink>(&mut self, to: Time, sink: &mut W) -> Result<(), Failed>
+        requires follows { (es : List Told) × machines.Follows self.old.machine es }
+        requires order { self.old.machine.held.reading ≤ to }
+        requires at { to ≤ limit.MAX_INSTANT }
+        ensures text { (es : List Told) → machines.Follows self.old.machine es → Puts (W.written sink.old) (W.written sink.new) (W.faults sink.old) (W.faults sink.new) (text_between self.old.machine.object es self.old.machine.show self.old.machine.held.reading to) result }
+        ensures follows { (es : List Told) → machines.Follows self.old.machine es → OnOk result (machines.Follows self.new.machine (es ++ event.At to ∷ [])) }
+        ensures spent { OnErr result (self.new.machine.held.spent ≡ true) }
+        ensures run { machines.IsSameRun self.old.machine self.new.machine }
+        ensures rest { self.new ≡ record self.old { machine = self.new.machine } }
+    {
+        self.machine.advance(to, sink)
+    }
+
+    // Lets the machine do all instants up to and including `to`.
+    fn last<W: Sink>(&mut self, to: Time, sink: &mut W) -> Result<(), Failed>
+        requires follows { (es : List Told) × machines.Follows self.old.machine es }
+        requires order { self.old.machine.held.reading ≤ to }
+        requires at { to ≤ limit.MAX_INSTANT }
+        ensures text { (es : List Told) → machines.Follows self.old.machine es → Puts (W.written sink.old) (W.written sink.new) (W.faults sink.old) (W.faults sink.new) (text_between self.old.machine.object es self.old.machine.show self.old.machine.held.reading (suc to)) result }
+        ensures finished { (es : List Told) → machines.Follows self.old.machine es → OnOk result (machines.IsFinished self.new.machine es to) }
+        ensures spent { OnErr result (self.new.machine.held.spent ≡ true) }
+        ensures run { machines.IsSameRun self.old.machine self.new.machine }
+        ensures rest { self.new ≡ record self.old { machine = self.new.machine } }
+    {
+        self.machine.finish(to, sink)
+    }
+
+    // Goes over an instant at which rounds begin, where none begins before.
+    fn turn<W: Sink>(&mut self, at: Time, sink: &mut W) -> Result<(), Failed>
+        requires stopped { (es : List Told) × IsStopped self.old es }
+        requires order { self.old.machine.held.reading ≤ at }
+        requires at { at < limit.MAX_INSTANT }
+        requires start { begins (root_periods self.old.machine.object.tables) at ≡ true }
+        requires none { (n : ℕ) → self.old.machine.held.reading ≤ n → n < at → begins (root_periods self.old.machine.object.tables) n ≡ false }
+        ensures text { (es : List Told) → IsStopped self.old es → Puts (W.written sink.old) (W.written sink.new) (W.faults sink.old) (W.faults sink.new) (text_between self.old.machine.object es Values self.old.machine.held.reading (suc at)) result }
+        ensures stopped { (es : List Told) → IsStopped self.old es → OnOk result (IsStopped self.new es) }
+        ensures reading { OnOk result (self.new.machine.held.reading ≡ suc at) }
+        ensures spent { OnErr result (self.new.machine.held.spent ≡ true) }
+        ensures same { IsSameAudit self.old self.new }
+    {
+        self.pass(at + 1);
+        if let Err(failed) = self.step(at + 1, sink) {
+            return Err(failed);
+        }
+        self.begin(at);
+        Ok(())
     }
 
     // The first start of rounds from the last reading on.
