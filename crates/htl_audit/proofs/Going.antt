@@ -1,5 +1,5 @@
 -- An auditor goes from one start of rounds to the next, and on to a reading or to the end.
-use Rattle.std.proofs.Common.{◌≡◌, ℕ, suc, ◌+◌, ◌-◌, ◌≤◌, ◌<◌, true, false, List, [], ◌∷◌, ◌++◌, length, get_or, drop, map, Option, Some, None, Result, refl, sym, ◌∙◌, ap, subst, arith}
+use Rattle.std.proofs.Common.{◌≡◌, ℕ, suc, ◌+◌, ◌-◌, ◌≤◌, ◌<◌, true, false, List, [], ◌∷◌, ◌++◌, length, get_or, drop, map, Option, Some, None, Result, Ok, Err, OnOk, refl, sym, ◌∙◌, ap, subst, arith}
 use mathlib.Core.Path.{fun_ext}
 use Rattle.htl_model.specs.declared.event.Event.{Event}
 use Rattle.htl_model.specs.declared.event.Event.TheVariants as V
@@ -13,6 +13,8 @@ use Rattle.htl_object.specs.Accepted.{IsAccepted}
 use Rattle.htl_console.specs.declared.shown.Shown.{Shown}
 use Rattle.htl_console.specs.declared.shown.Shown.TheVariants.{Values}
 use Rattle.htl_edge.specs.Content.{Puts}
+use Rattle.htl_edge.proofs.Puts.{append_known-start, Puts-second, Puts-failed}
+use Rattle.std.specs.Io.KnownBytes.{append_known}
 use Rattle.htl_refine.specs.Records.{modes_at, took, AreTookWithin}
 use Rattle.htl_machine.specs.Calls as machines
 use Rattle.htl_machine.specs.Calls.{text_between}
@@ -187,3 +189,62 @@ finish_done a a1 a2 es n to accepted sized e1 e2 same low none run step f =
     subst (λ z. IsAudited z es to) (sym (e2 ∙ ap (λ (z : Audit). record z { machine = a2.machine }) (e1 ∙ ap (λ m. record a { kept = passed a.machine.object.tables m (drop a.kept.place a.log) a.kept }) same)))
     (stop_ends a es accepted sized f to a2.machine low none (subst (λ (z : Audit). machines.IsSameRun z.machine a2.machine) e1 run)
     (step (es ++ V.At a.machine.held.reading ∷ []) (subst (λ (z : Audit). machines.Follows z.machine (es ++ V.At a.machine.held.reading ∷ [])) (sym e1) f.machine)))
+
+-- ---- from start to start
+
+-- gone so far from a0 to a
+pub record IsGoing (a0 a : Audit) (es : List Event) (w0 w : Option (List ℕ)) (f0 f : ℕ) : Type 0 where
+  pub stopped : IsStopped a es
+  pub text : w ≡ append_known w0 (text_between a0.machine.object es Values a0.machine.held.reading a.machine.held.reading)
+  pub count : f ≡ f0
+
+pub going_start : (a : Audit) (es : List Event) (w : Option (List ℕ)) (f : ℕ) → IsStopped a es → IsGoing a a es w w f f
+going_start a es w f s =
+    record {
+      stopped = s;
+      text = append_known-start w ∙ ap (append_known w) (sym (ap (up_to (lines_behind a.machine.object es Values a.machine.held.reading)) (let z : a.machine.held.reading - a.machine.held.reading ≡ 0 = omega arith in z)));
+      count = refl;
+    }
+
+pub going_text : {T E : Type 0} (a0 a : Audit) (es : List Event) (to : ℕ) (w0 w w1 : Option (List ℕ)) (f0 f f1 : ℕ) (x : Result T E) → a0.machine.held.reading ≤ a.machine.held.reading → a.machine.held.reading ≤ to → machines.IsSameRun a0.machine a.machine → IsGoing a0 a es w0 w f0 f
+    → Puts w w1 f f1 (text_between a.machine.object es Values a.machine.held.reading to) x → Puts w0 w1 f0 f1 (text_between a0.machine.object es Values a0.machine.held.reading to) x
+going_text a0 a es to w0 w w1 f0 f f1 x low high same g p =
+    subst (λ z. Puts w0 w1 f0 f1 z x) (sym (text_more a0.machine.object es Values a0.machine.held.reading a.machine.held.reading to low high))
+    (Puts-second w0 w w1 f0 f f1 (text_between a0.machine.object es Values a0.machine.held.reading a.machine.held.reading) (text_between a0.machine.object es Values a.machine.held.reading to) x g.text g.count
+    (subst (λ (o : Object). Puts w w1 f f1 (text_between o es Values a.machine.held.reading to) x) same.object p))
+
+-- a refusal on the way leaves a prefix of the whole
+pub going_failed : {S T E F : Type 0} (a0 a : Audit) (es : List Event) (mid to : ℕ) (w0 w w1 : Option (List ℕ)) (f0 f f1 : ℕ) (x : E) (y : F) → a0.machine.held.reading ≤ a.machine.held.reading → a.machine.held.reading ≤ mid → mid ≤ to → machines.IsSameRun a0.machine a.machine
+    → IsGoing a0 a es w0 w f0 f → Puts {T = S} {E = E} w w1 f f1 (text_between a.machine.object es Values a.machine.held.reading mid) (Err x) → Puts {T = T} {E = F} w0 w1 f0 f1 (text_between a0.machine.object es Values a0.machine.held.reading to) (Err y)
+going_failed {S} {T} {E} {F} a0 a es mid to w0 w w1 f0 f f1 x y low high rest same g p =
+    subst (λ z. Puts {T = T} {E = F} w0 w1 f0 f1 z (Err y))
+    (sym (text_more a0.machine.object es Values a0.machine.held.reading a.machine.held.reading to low (omega (arith, high, rest)) ∙ ap (λ z. text_between a0.machine.object es Values a0.machine.held.reading a.machine.held.reading ++ z) (text_more a0.machine.object es Values a.machine.held.reading mid to high rest)))
+    (Puts-failed w0 w w1 f0 f f1 (text_between a0.machine.object es Values a0.machine.held.reading a.machine.held.reading) (text_between a0.machine.object es Values a.machine.held.reading mid) (text_between a0.machine.object es Values mid to) x y g.text g.count
+    (subst (λ (o : Object). Puts {T = S} {E = E} w w1 f f1 (text_between o es Values a.machine.held.reading mid) (Err x)) same.object p))
+
+-- one start further
+pub going_on : {T E : Type 0} (a0 a a1 : Audit) (es : List Event) (at : ℕ) (w0 w w1 : Option (List ℕ)) (f0 f f1 : ℕ) (x : T) → a0.machine.held.reading ≤ a.machine.held.reading → a.machine.held.reading ≤ suc at → machines.IsSameRun a0.machine a.machine → IsGoing a0 a es w0 w f0 f
+    → Puts {T = T} {E = E} w w1 f f1 (text_between a.machine.object es Values a.machine.held.reading (suc at)) (Ok x) → IsStopped a1 es → a1.machine.held.reading ≡ suc at → IsGoing a0 a1 es w0 w1 f0 f1
+going_on a0 a a1 es at w0 w w1 f0 f f1 x low high same g p st read =
+    let q = going_text a0 a es (suc at) w0 w w1 f0 f f1 (Ok x) low high same g p in
+    record {
+      stopped = st;
+      text = q.whole ∙ ap (λ n. append_known w0 (text_between a0.machine.object es Values a0.machine.held.reading n)) (sym read);
+      count = q.cause.kept;
+    }
+
+-- all starts are behind
+pub going_gone : {T E : Type 0} (a0 a : Audit) (es : List Event) (w0 w : Option (List ℕ)) (f0 f : ℕ) (x : T) → Puts {T = T} {E = E} w0 w f0 f (text_between a0.machine.object es Values a0.machine.held.reading a.machine.held.reading) (Ok x) → IsStopped a es → IsGoing a0 a es w0 w f0 f
+going_gone a0 a es w0 w f0 f x p st = record { stopped = st; text = p.whole; count = p.cause.kept }
+
+pub advance_all : {T E : Type 0} (r : Result T E) (a a1 a2 : Audit) (es : List Event) (to : ℕ) → IsAccepted a.machine.object → AreSized a → a1 ≡ record a { kept = passed a.machine.object.tables to (drop a.kept.place a.log) a.kept } → a2 ≡ record a1 { machine = a2.machine }
+    → a.machine.held.reading ≤ to → ((n : ℕ) → a.machine.held.reading ≤ n → n < to → begins (root_periods a.machine.object.tables) n ≡ false) → machines.IsSameRun a1.machine a2.machine
+    → ((gs : List Event) → machines.Follows a1.machine gs → OnOk r (machines.Follows a2.machine (gs ++ V.At to ∷ []))) → IsStopped a es → OnOk r (Follows a2 (es ++ V.At to ∷ []))
+advance_all (Ok x) a a1 a2 es to accepted sized e1 e2 low none run step f = advance_done a a1 a2 es to accepted sized e1 e2 low none run (λ gs g. step gs g) f
+advance_all (Err x) a a1 a2 es to accepted sized e1 e2 low none run step f = tt
+
+pub finish_all : {T E : Type 0} (r : Result T E) (a a1 a2 : Audit) (es : List Event) (n to : ℕ) → IsAccepted a.machine.object → AreSized a → a1 ≡ record a { kept = passed a.machine.object.tables n (drop a.kept.place a.log) a.kept } → a2 ≡ record a1 { machine = a2.machine } → n ≡ suc to
+    → a.machine.held.reading ≤ to → ((n : ℕ) → a.machine.held.reading ≤ n → n < to → begins (root_periods a.machine.object.tables) n ≡ false) → machines.IsSameRun a1.machine a2.machine
+    → ((gs : List Event) → machines.Follows a1.machine gs → OnOk r (machines.IsFinished a2.machine gs to)) → IsStopped a es → OnOk r (IsAudited a2 es to)
+finish_all (Ok x) a a1 a2 es n to accepted sized e1 e2 same low none run step f = finish_done a a1 a2 es n to accepted sized e1 e2 same low none run (λ gs g. step gs g) f
+finish_all (Err x) a a1 a2 es n to accepted sized e1 e2 same low none run step f = tt

@@ -11,7 +11,7 @@ ghost use Rattle.htl_edge.specs.Content.{Puts};
 ghost use Rattle.htl_machine.specs.Calls as machines;
 ghost use Rattle.htl_model.specs.Frames.{root_periods, begins};
 ghost use Rattle.htl_object.specs.Accepted.{IsAccepted};
-ghost use Rattle.htl_audit.specs.Auditing.{AreSized, Follows, IsAudited, IsStopped, IsSameAudit, IsNextStart};
+ghost use Rattle.htl_audit.specs.Auditing.{AreSized, AreNone, IsGone, Follows, IsAudited, IsStopped, IsSameAudit, IsNextStart};
 ghost use Rattle.htl_audit.specs.Keeping.{passed, begun};
 ghost use Rattle.htl_audit.specs.Jobs.{all_rounds};
 ghost use Rattle.htl_audit.specs.Legal.{first_fault, jobs_done};
@@ -224,6 +224,95 @@ impl<'a> Auditor<'a> {
             Some(period) => Some(next_multiple(self.machine.reading(), period)),
             None => None,
         }
+    }
+
+    // The first start of rounds from the last reading on, or `to` where none comes before.
+    fn next_stop(&self, to: Time) -> Time
+        requires order { self.now.machine.held.reading ≤ to }
+        requires at { to ≤ limit.MAX_INSTANT }
+        ensures low { self.now.machine.held.reading ≤ result }
+        ensures high { result ≤ to }
+        ensures start { result < to → begins (root_periods self.now.machine.object.tables) result ≡ true }
+        ensures none { AreNone self.now result }
+    {
+        if let Some(at) = self.next_start() {
+            if at < to {
+                return at;
+            }
+        }
+        to
+    }
+
+    // Goes over all instants before `to` at which rounds begin.
+    fn go<W: Sink>(&mut self, to: Time, sink: &mut W) -> Result<(), Failed>
+        requires stopped { (es : List Told) × IsStopped self.old es }
+        requires order { self.old.machine.held.reading ≤ to }
+        requires at { to ≤ limit.MAX_INSTANT }
+        ensures text { (es : List Told) → IsStopped self.old es → IsGone self.old self.new es to (W.written sink.old) (W.written sink.new) (W.faults sink.old) (W.faults sink.new) result }
+        ensures stopped { (es : List Told) → IsStopped self.old es → OnOk result (IsStopped self.new es) }
+        ensures low { OnOk result (self.old.machine.held.reading ≤ self.new.machine.held.reading) }
+        ensures high { OnOk result (self.new.machine.held.reading ≤ to) }
+        ensures none { OnOk result (AreNone self.new to) }
+        ensures spent { OnErr result (self.new.machine.held.spent ≡ true) }
+        ensures same { IsSameAudit self.old self.new }
+    {
+        'starts: loop {
+            let at = self.next_stop(to);
+            if at == to {
+                return Ok(());
+            }
+            if let Err(failed) = self.turn(at, sink) {
+                return Err(failed);
+            }
+        }
+    }
+
+    /// Does all instants before `to`, in ticks, writes their v and m lines, and makes `to` the reading; judges the lines of the log
+    /// that end before it. The machine isn't spent, and `to` is from the reading to 1,000,000,000. `Failed` comes only where the sink's
+    /// count rose: then a prefix of the lines was written, and the auditor is spent. Beside the instants at which something is due it
+    /// goes over those at which rounds begin.
+    pub fn advance<W: Sink>(&mut self, to: Time, sink: &mut W) -> Result<(), Failed>
+        requires follows { (es : List Told) × Follows self.old es }
+        requires order { self.old.machine.held.reading ≤ to }
+        requires at { to ≤ limit.MAX_INSTANT }
+        ensures text { (es : List Told) → Follows self.old es → Puts (W.written sink.old) (W.written sink.new) (W.faults sink.old) (W.faults sink.new) (text_between self.old.machine.object es Values self.old.machine.held.reading to) result }
+        ensures follows { (es : List Told) → Follows self.old es → OnOk result (Follows self.new (es ++ event.At to ∷ [])) }
+        ensures spent { OnErr result (self.new.machine.held.spent ≡ true) }
+        ensures same { IsSameAudit self.old self.new }
+    {
+        self.stop();
+        if let Err(failed) = self.go(to, sink) {
+            return Err(failed);
+        }
+        self.pass(to);
+        self.step(to, sink)
+    }
+
+    /// Does all instants up to and including `to`, in ticks, writes their v and m lines, and spends the auditor; judges the lines of the
+    /// log that end by then. The machine isn't spent, and `to` is from the reading to 1,000,000,000. `Failed` comes only where the
+    /// sink's count rose: then a prefix of the lines was written, and the auditor is spent.
+    pub fn finish<W: Sink>(&mut self, to: Time, sink: &mut W) -> Result<(), Failed>
+        requires follows { (es : List Told) × Follows self.old es }
+        requires order { self.old.machine.held.reading ≤ to }
+        requires at { to ≤ limit.MAX_INSTANT }
+        ensures text { (es : List Told) → Follows self.old es → Puts (W.written sink.old) (W.written sink.new) (W.faults sink.old) (W.faults sink.new) (text_between self.old.machine.object es Values self.old.machine.held.reading (suc to)) result }
+        ensures audited { (es : List Told) → Follows self.old es → OnOk result (IsAudited self.new es to) }
+        ensures spent { OnErr result (self.new.machine.held.spent ≡ true) }
+        ensures same { IsSameAudit self.old self.new }
+    {
+        self.stop();
+        if let Err(failed) = self.go(to, sink) {
+            return Err(failed);
+        }
+        self.pass(to + 1);
+        self.last(to, sink)
+    }
+
+    // States that what was read is a stop; there is nothing to run.
+    fn stop(&self)
+        ensures accepted { IsAccepted self.now.machine.object }
+    {
+        self.loaded.tables();
     }
 
     /// The numbers of the log, or its first fault, once the run has ended.
