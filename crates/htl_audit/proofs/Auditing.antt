@@ -12,7 +12,6 @@ use Rattle.htl_audit.specs.declared.auditor.AuditTotals.{AuditTotals}
 use Rattle.htl_audit.specs.declared.slice.Slice.{Slice}
 use Rattle.htl_audit.specs.declared.slice.LogFault.{LogFault}
 use Rattle.htl_audit.specs.Auditing.{Audit, Follows, IsAudited}
-use Rattle.htl_audit.specs.Growing.{HaveRounds}
 use Rattle.htl_audit.specs.Jobs.{all_rounds}
 use Rattle.htl_audit.specs.Keeping.{Kept}
 use Rattle.htl_audit.specs.Legal.{first_fault, jobs_done}

@@ -1,5 +1,5 @@
 -- Where rounds begin, what is kept by invocation are the jobs of the new rounds; the windows of all others have ended.
-use Rattle.std.proofs.Common.{◌≡◌, ℕ, zero, suc, ◌+◌, ◌-◌, ◌*◌, ◌/◌, ◌%◌, ◌≤◌, ◌<◌, ◌⊎◌, inl, inr, Bool, true, false, cond, eqb, List, [], ◌∷◌, ◌++◌, length, get_or, map, Option, Some, None, refl, sym, ◌∙◌, ap, ap₂, subst, arith}
+use Rattle.std.proofs.Common.{◌≡◌, ℕ, zero, suc, ◌+◌, ◌-◌, ◌*◌, ◌/◌, ◌%◌, ◌≤◌, ◌<◌, ◌⊎◌, inl, inr, true, false, cond, List, [], ◌∷◌, ◌++◌, length, get_or, map, Option, Some, None, refl, sym, ◌∙◌, ap, subst, arith}
 use Rattle.std.specs.Prelude.{slice_get}
 use Rattle.std.proofs.lemmas.Bool.{eqb-true}
 use Rattle.std.proofs.lemmas.List.{map-append}
@@ -14,7 +14,7 @@ use Rattle.htl_model.specs.PortOrder.{feeds}
 use Rattle.htl_model.specs.Ranges.{AreInRange}
 use Rattle.htl_model.specs.Selected.{Runs, IsSelection}
 use Rattle.htl_model.specs.Selections.{root_period}
-use Rattle.htl_model.specs.Tables.{Tables, is_concrete, release, window_end, mode_period}
+use Rattle.htl_model.specs.Tables.{Tables, is_concrete, release, window_end}
 use Rattle.htl_walk.specs.declared.job.Job.{Job}
 use Rattle.htl_walk.specs.Jobs.{absent_job, is_fed_by, job_of, precedes}
 use Rattle.htl_walk.proofs.JobLaws.{preds_of}
@@ -26,9 +26,9 @@ use Rattle.htl_machine.proofs.Climbing.{has_standing, standing_runs, one_standin
 use Rattle.htl_audit.specs.Growing.{HaveRounds}
 use Rattle.htl_audit.specs.Jobs.{Round, beginning, jobs_from, round_of, starts_before, all_rounds}
 use Rattle.htl_audit.specs.Legal as rules
-use Rattle.htl_audit.specs.Keeping.{Kept, has_job, length_at, start_at, release_at, end_at, runs_in, begun}
+use Rattle.htl_audit.specs.Keeping.{Kept, has_job, start_at, release_at, end_at, runs_in, begun}
 use Rattle.htl_audit.specs.Rosters.{IsIn, IsCurrent, HasJob, AreKept, IsSized}
-use Rattle.htl_audit.proofs.Growing.{in_two, in_back, in_front, start_is, round_is, round_job, length_is, placed}
+use Rattle.htl_audit.proofs.Growing.{in_two, in_back, start_is, round_is, round_job, length_is, placed}
 use Rattle.htl_audit.proofs.Renewing.{IsNew, all_new, runs_is, runs_of}
 use Rattle.htl_audit.proofs.Settling.{stands_within}
 

@@ -1,9 +1,8 @@
 -- What an auditor follows of a log, over an instant at which rounds begin.
-use Rattle.std.proofs.Common.{◌≡◌, ℕ, zero, suc, ◌+◌, ◌≤◌, ◌<◌, ◌⊎◌, inl, inr, Bool, true, false, cond, ◌&&◌, eqb, ltb, List, [], ◌∷◌, ◌++◌, length, get_or, take, Option, Some, None, IfSome, refl, sym, ◌∙◌, ap, ap₂, subst, arith}
+use Rattle.std.proofs.Common.{◌≡◌, ℕ, suc, ◌+◌, ◌≤◌, ◌<◌, ◌⊎◌, inl, inr, Bool, true, false, cond, ◌&&◌, eqb, ltb, List, [], ◌∷◌, ◌++◌, length, get_or, take, Option, Some, None, IfSome, refl, sym, ◌∙◌, ap, ap₂, subst, arith}
 use Rattle.std.specs.Prelude.{slice_get}
 use Rattle.std.proofs.lemmas.Bool.Decides.{nat_tests}
 use Rattle.std.proofs.lemmas.Option.{slice_get_within}
-use Rattle.htl_form.proofs.PartLaws.{none_some}
 use Rattle.htl_model.specs.declared.event.Event.{Event}
 use Rattle.htl_model.specs.declared.parts.Inv.{Inv}
 use Rattle.htl_model.specs.Broken.{KeptTo}
@@ -19,19 +18,19 @@ use Rattle.htl_audit.specs.declared.slice.LogFault.{LogFault}
 use Rattle.htl_audit.specs.Agreeing.{Agree, AreEarly}
 use Rattle.htl_audit.specs.Growing.{AgreeBefore, HaveRounds}
 use Rattle.htl_audit.specs.Jobs.{Round, round_of, all_rounds}
-use Rattle.htl_audit.specs.Keeping.{Kept, sum_at, start_at, begun}
+use Rattle.htl_audit.specs.Keeping.{Kept, sum_at, begun}
 use Rattle.htl_audit.specs.Legal as rules
 use Rattle.htl_audit.specs.Legal.{ticks, line_fault, is_short, any_short, how_many, jobs_done}
-use Rattle.htl_audit.specs.Lines.{IsNext, IsLast, AreJudged, BeganBefore}
-use Rattle.htl_audit.specs.Rosters.{IsIn, IsCurrent, AreKept, AreSummed, IsSized}
+use Rattle.htl_audit.specs.Lines.{IsNext, IsLast, BeganBefore}
+use Rattle.htl_audit.specs.Rosters.{IsIn, IsCurrent, AreSummed, IsSized}
 use Rattle.htl_audit.specs.Verdicts.{LogFollows, LogEnds}
 use Rattle.htl_audit.proofs.Agreeing.{fault_alike, no_ticks}
-use Rattle.htl_audit.proofs.Beginning.{grown, split, fresh, has_fresh, is_new, current, never_old, kept_new}
-use Rattle.htl_audit.proofs.Growing.{in_two, in_front, rounds_agree, rounds_still}
+use Rattle.htl_audit.proofs.Beginning.{grown, split, fresh, is_new, never_old, kept_new}
+use Rattle.htl_audit.proofs.Growing.{in_front, rounds_agree, rounds_still}
 use Rattle.htl_audit.proofs.Onward.{early, kept_then}
 use Rattle.htl_audit.proofs.Renewing.{renewed_sized, renewed_else, start_past}
 use Rattle.htl_audit.proofs.Summing.{passes}
-use Rattle.htl_audit.proofs.Tests.{same_truth, both, IsJobOf, job_found, job_there}
+use Rattle.htl_audit.proofs.Tests.{same_truth, both, job_found, job_there}
 
 -- a job takes at least one tick
 pub some_took : (t : Tables) → AreInRange t → (es : List Event) → AreTookWithin t es → (i u : ℕ) (x : Inv) → slice_get t.invs i ≡ Some x → 1 ≤ took t es i u

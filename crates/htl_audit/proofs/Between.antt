@@ -8,7 +8,7 @@ use Rattle.htl_model.specs.declared.state.State.{State}
 use Rattle.htl_model.specs.Lists.{numbered}
 use Rattle.htl_model.specs.Selections.{root_period}
 use Rattle.htl_model.specs.Tables.{Tables}
-use Rattle.htl_model.specs.Meaning.{sense, state, before, stay_of, mode_of}
+use Rattle.htl_model.specs.Meaning.{sense, state, stay_of, mode_of}
 use Rattle.htl_model.proofs.Locality.{up_to_same}
 use Rattle.htl_walk.specs.declared.schedule.SInstr.{SInstr}
 use Rattle.htl_walk.specs.Walk.{Left}

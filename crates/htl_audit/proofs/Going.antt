@@ -1,5 +1,5 @@
 -- An auditor goes from one start of rounds to the next, and on to a reading or to the end.
-use Rattle.std.proofs.Common.{◌≡◌, ℕ, suc, ◌+◌, ◌-◌, ◌≤◌, ◌<◌, true, false, List, [], ◌∷◌, ◌++◌, length, get_or, drop, map, Option, Some, None, Result, Ok, Err, OnOk, refl, sym, ◌∙◌, ap, subst, arith}
+use Rattle.std.proofs.Common.{◌≡◌, ℕ, suc, ◌+◌, ◌-◌, ◌≤◌, ◌<◌, true, false, List, [], ◌∷◌, ◌++◌, length, drop, map, Option, Result, Ok, Err, OnOk, refl, sym, ◌∙◌, ap, subst, arith}
 use mathlib.Core.Path.{fun_ext}
 use Rattle.htl_model.specs.declared.event.Event.{Event}
 use Rattle.htl_model.specs.declared.event.Event.TheVariants as V
@@ -18,15 +18,12 @@ use Rattle.std.specs.Io.KnownBytes.{append_known}
 use Rattle.htl_refine.specs.Records.{modes_at, took, AreTookWithin}
 use Rattle.htl_machine.specs.Calls as machines
 use Rattle.htl_machine.specs.Calls.{text_between}
-use Rattle.htl_machine.specs.Follows.{reading_of}
 use Rattle.htl_machine.specs.Programs.{lines_of}
 use Rattle.htl_machine.proofs.Events.{state_same, reading_more, sense_at, took_at}
 use Rattle.htl_machine.proofs.Passing.{up_to_more}
-use Rattle.htl_audit.specs.declared.slice.Slice.{Slice}
 use Rattle.htl_audit.specs.Auditing.{Audit, Follows, IsStopped, IsAudited, AreSized}
 use Rattle.htl_audit.specs.Jobs.{all_rounds}
 use Rattle.htl_audit.specs.Keeping.{Kept, passed, begun}
-use Rattle.htl_audit.specs.Rosters.{IsSized}
 use Rattle.htl_audit.specs.Verdicts.{LogFollows, LogEnds}
 use Rattle.htl_audit.proofs.Begun.{agrees, begun_follows, ends}
 use Rattle.htl_audit.proofs.Between.{text_same, passes_between, reads_again, ends_between, modes_before}

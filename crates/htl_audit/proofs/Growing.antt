@@ -12,16 +12,15 @@ use Rattle.htl_model.specs.declared.state.Stay.{Stay}
 use Rattle.htl_model.specs.declared.state.State.{State}
 use Rattle.htl_model.specs.Chosen.{chosen}
 use Rattle.htl_model.specs.Frames.{root_periods, begins, starts_below}
-use Rattle.htl_model.specs.Meaning.{sense, state, newest}
+use Rattle.htl_model.specs.Meaning.{sense, newest}
 use Rattle.htl_model.specs.Tables.{Tables, release, task_worst, window_end}
 use Rattle.htl_model.proofs.Locality.{history_local}
 use Rattle.htl_walk.specs.declared.job.Job.{Job}
-use Rattle.htl_walk.specs.Jobs.{absent_job, is_fed_by, job_of, jobs_of, mask}
+use Rattle.htl_walk.specs.Jobs.{absent_job, is_fed_by, job_of, mask}
 use Rattle.htl_refine.specs.ConcreteJobs.{running_invs}
 use Rattle.htl_refine.specs.Records.{took, lengths_of, modes_at}
 use Rattle.htl_refine.proofs.Inherit.{mapped, map_at}
 use Rattle.htl_audit.specs.Jobs.{Round, beginning, jobs_from, round_of, starts_before, all_rounds}
-use Rattle.htl_audit.specs.Legal.{length_at}
 use Rattle.htl_audit.specs.Agreeing.{Matches, HasMatch, IsMatched, Agree}
 use Rattle.htl_audit.specs.Growing.{AgreeBefore, HaveRounds}
 

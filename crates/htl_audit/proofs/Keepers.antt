@@ -1,23 +1,22 @@
 -- What holds of all that an auditor keeps, from call to call.
-use Rattle.std.proofs.Common.{◌≡◌, ◌≢◌, ℕ, zero, suc, ◌+◌, ◌-◌, ◌%◌, ◌≤◌, ◌<◌, ◌⊎◌, inl, inr, Bool, true, false, cond, ◌&&◌, eqb, leb, ltb, List, [], ◌∷◌, ◌++◌, length, get_or, set, map, drop, replicate, Option, Some, None, IfSome, All, refl, sym, ◌∙◌, ap, ap₂, subst, arith}
+use Rattle.std.proofs.Common.{◌≡◌, ℕ, zero, suc, ◌%◌, ◌≤◌, ◌<◌, inr, Bool, true, false, cond, ◌&&◌, eqb, leb, ltb, List, [], ◌∷◌, ◌++◌, length, get_or, set, map, drop, replicate, Option, Some, None, IfSome, All, refl, sym, ◌∙◌, ap, ap₂, subst, arith}
 use Rattle.std.specs.Prelude.{slice_get}
 use Rattle.std.proofs.lemmas.Bool.{ne_eqb, eqb-true}
 use Rattle.std.proofs.lemmas.Bool.Decides.{nat_tests}
 use Rattle.std.proofs.lemmas.List.{get_or-set_same, get_or-set_other, length-set, length-drop}
-use Rattle.std.proofs.lemmas.Option.{get_or_from_slice_get, slice_get_within}
+use Rattle.std.proofs.lemmas.Option.{get_or_from_slice_get}
 use Rattle.htl_form.proofs.PartLaws.{none_some}
 use Rattle.htl_form.proofs.Places.{item_at}
 use Rattle.htl_model.specs.declared.event.Event.{Event}
 use Rattle.htl_model.specs.declared.event.Event.TheVariants as V
 use Rattle.htl_model.specs.declared.parts.Inv.{Inv}
 use Rattle.htl_model.specs.declared.parts.Task.{Task}
-use Rattle.htl_model.specs.Frames.{root_periods, begins}
 use Rattle.htl_model.specs.Ranges.{AreInRange, IsInvInRange, IsTaskInRange}
 use Rattle.htl_model.specs.Selections.{root_period}
 use Rattle.htl_model.specs.Tables.{Tables, task_worst}
 use Rattle.htl_object.specs.declared.object.Object.{Object}
 use Rattle.htl_object.specs.Accepted.{IsAccepted}
-use Rattle.htl_refine.specs.Records.{took, inv_worst, IsTookWithin}
+use Rattle.htl_refine.specs.Records.{took, IsTookWithin}
 use Rattle.htl_refine.proofs.Inherit.{map_at}
 use Rattle.htl_refine.proofs.RoundLaws.{worst_some}
 use Rattle.htl_walk.proofs.Work.{all_at}
@@ -32,7 +31,7 @@ use Rattle.htl_audit.specs.declared.slice.LogFault.{LogFault}
 use Rattle.htl_audit.specs.Auditing.{Audit, Follows, IsAuditor, IsNextStart}
 use Rattle.htl_audit.specs.Growing.{HaveRounds}
 use Rattle.htl_audit.specs.Jobs.{all_rounds}
-use Rattle.htl_audit.specs.Keeping.{Kept, has_job, start_at, judged_to, judged, with_kind, kind_of, passed, begun, taken, first_kept}
+use Rattle.htl_audit.specs.Keeping.{Kept, judged_to, judged, with_kind, kind_of, passed, begun, taken, first_kept}
 use Rattle.htl_audit.specs.Rosters.{AreKept, AreSummed, IsSized}
 use Rattle.htl_audit.specs.Verdicts.{LogFollows}
 use Rattle.htl_audit.proofs.Passing.{judged_leaves}

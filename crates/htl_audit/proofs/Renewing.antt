@@ -1,15 +1,13 @@
 -- What is kept of the invocations whose rounds begin.
-use Rattle.std.proofs.Common.{◌≡◌, ◌≢◌, ℕ, zero, suc, ◌+◌, ◌≤◌, ◌<◌, ◌⊎◌, inl, inr, Bool, true, false, ◌&&◌, eqb, List, [], ◌∷◌, length, get_or, set, Option, Some, None, refl, sym, ◌∙◌, ap, ap₂, subst, arith}
+use Rattle.std.proofs.Common.{◌≡◌, ◌≢◌, ℕ, zero, suc, ◌≤◌, ◌<◌, ◌⊎◌, inl, inr, true, false, ◌&&◌, eqb, List, [], ◌∷◌, length, get_or, Option, Some, None, refl, sym, ◌∙◌, ap, subst, arith}
 use Rattle.std.specs.Prelude.{slice_get}
 use Rattle.std.proofs.lemmas.Bool.{eqb-true}
 use Rattle.std.proofs.lemmas.Bool.Decides.{nat_tests}
 use Rattle.std.proofs.lemmas.List.{get_or-set_same, get_or-set_other, length-set}
-use Rattle.htl_form.proofs.PartLaws.{none_some}
 use Rattle.htl_emach.specs.Calendars.{list_at}
 use Rattle.htl_model.specs.declared.parts.Inv.{Inv}
-use Rattle.htl_model.specs.Selected.{entry, is_at, Runs}
+use Rattle.htl_model.specs.Selected.{is_at, Runs}
 use Rattle.htl_model.specs.Tables.{Tables, is_concrete, mode_module}
-use Rattle.htl_audit.specs.declared.slice.LogFault.{LogFault}
 use Rattle.htl_audit.specs.Keeping.{Kept, has_job, sum_at, length_at, start_at, runs_in, renewed, renewed_to}
 use Rattle.htl_audit.specs.Rosters.{IsSized}
 use Rattle.htl_audit.proofs.Tests.{both, and_true}

@@ -1,8 +1,7 @@
 -- The rounds of an accepted object: windows have room and lie in their rounds, and all rounds begin together.
-use Rattle.std.proofs.Common.{◌≡◌, ℕ, zero, suc, ◌*◌, ◌%◌, ◌≤◌, ◌<◌, ◌⊎◌, inl, inr, Bool, true, false, cond, ◌||◌, eqb, min, List, [], ◌∷◌, length, map, Option, Some, None, refl, sym, ◌∙◌, ap, ap₂, subst, arith}
+use Rattle.std.proofs.Common.{◌≡◌, ℕ, suc, ◌*◌, ◌%◌, ◌≤◌, ◌<◌, ◌⊎◌, inl, inr, Bool, true, false, cond, ◌||◌, eqb, min, List, [], ◌∷◌, length, map, Option, Some, None, refl, sym, ◌∙◌, ap, ap₂, subst, arith}
 use Rattle.std.specs.Prelude.{slice_get}
 use Rattle.std.specs.List.{filter, list_any}
-use Rattle.std.proofs.lemmas.Bool.{eqb-true}
 use Rattle.std.proofs.lemmas.Option.{get_or_from_slice_get, slice_get_cases, slice_get_within}
 use Rattle.htl_form.proofs.PartLaws.{none_some}
 use Rattle.htl_form.proofs.Places.{item_at}
@@ -12,7 +11,7 @@ use Rattle.htl_model.specs.declared.parts.Inv.{Inv}
 use Rattle.htl_model.specs.declared.parts.Mode.{Mode}
 use Rattle.htl_model.specs.declared.parts.Module.{Module}
 use Rattle.htl_model.specs.Broken.{KeptTo}
-use Rattle.htl_model.specs.FormRules.{Offsets, Output, Site, Part}
+use Rattle.htl_model.specs.FormRules.{Offsets, Output}
 use Rattle.htl_model.specs.FrameRules.{KeptApart}
 use Rattle.htl_model.specs.Frames.{root_periods, begins, unit_start, unit_period}
 use Rattle.htl_model.specs.Lists.{places_from}

@@ -1,8 +1,7 @@
 -- A job falls short at the end of its window: by what is kept exactly where it does by the lines.
-use Rattle.std.proofs.Common.{◌≡◌, ℕ, zero, suc, ◌+◌, ◌-◌, ◌≤◌, ◌<◌, ◌⊎◌, inl, inr, Bool, true, false, cond, ◌&&◌, ◌||◌, leb, ltb, eqb, List, [], ◌∷◌, ◌++◌, length, get_or, Option, Some, None, refl, sym, ◌∙◌, ap, ap₂, subst, arith}
+use Rattle.std.proofs.Common.{◌≡◌, ℕ, zero, suc, ◌+◌, ◌-◌, ◌≤◌, ◌<◌, ◌⊎◌, inl, inr, Bool, true, false, cond, ◌&&◌, ◌||◌, ltb, List, [], ◌∷◌, ◌++◌, length, get_or, Some, refl, sym, ◌∙◌, ap, ap₂, subst, arith}
 use Rattle.std.specs.Prelude.{slice_get}
 use Rattle.std.proofs.lemmas.Bool.Decides.{nat_tests}
-use Rattle.htl_form.proofs.PartLaws.{none_some}
 use Rattle.htl_model.specs.declared.parts.Inv.{Inv}
 use Rattle.htl_model.specs.Tables.{Tables}
 use Rattle.htl_walk.specs.declared.job.Job.{Job}
@@ -11,9 +10,9 @@ use Rattle.htl_audit.specs.Jobs.{Round}
 use Rattle.htl_audit.specs.Legal as rules
 use Rattle.htl_audit.specs.Legal.{lies_in, ticks, is_short, any_short}
 use Rattle.htl_audit.specs.Agreeing.{Agree}
-use Rattle.htl_audit.specs.Keeping.{Roster, Kept, has_job, sum_at, length_at, start_at, end_at, fell_short, any_fell_short_from, any_fell_short}
+use Rattle.htl_audit.specs.Keeping.{Kept, has_job, sum_at, length_at, start_at, end_at, fell_short, any_fell_short_from, any_fell_short}
 use Rattle.htl_audit.specs.Lines.{BeganBefore}
-use Rattle.htl_audit.specs.Rosters.{IsIn, IsCurrent, HasJob, AreKept, AreSummed}
+use Rattle.htl_audit.specs.Rosters.{IsIn, IsCurrent, AreSummed}
 use Rattle.htl_audit.proofs.Judging.{lies}
 use Rattle.htl_audit.proofs.Tests.{same_truth, both, and_true, or_left, or_right, IsFound, job_found, job_there}
 

@@ -1,17 +1,13 @@
 -- What an auditor follows of a log, where a length comes for the jobs that are released from now on.
-use Rattle.std.proofs.Common.{◌≡◌, ◌≢◌, ℕ, zero, suc, ◌+◌, ◌≤◌, ◌<◌, ◌⊎◌, inl, inr, Bool, true, false, cond, ◌&&◌, eqb, leb, List, [], ◌∷◌, ◌++◌, length, get_or, map, set, take, Option, Some, None, IfSome, refl, sym, ◌∙◌, ap, ap₂, subst, arith}
+use Rattle.std.proofs.Common.{◌≡◌, ℕ, suc, ◌+◌, ◌≤◌, ◌<◌, ◌⊎◌, inl, inr, Bool, true, false, cond, ◌&&◌, eqb, leb, List, [], ◌∷◌, ◌++◌, length, get_or, map, set, take, Option, Some, None, IfSome, refl, sym, ◌∙◌, ap, ap₂, subst, arith}
 use Rattle.std.specs.Prelude.{slice_get}
 use Rattle.std.proofs.lemmas.Bool.{eqb-true}
 use Rattle.std.proofs.lemmas.Bool.Decides.{nat_tests}
 use Rattle.std.proofs.lemmas.List.{get_or-set_same, get_or-set_other, length-set}
-use Rattle.std.proofs.lemmas.Option.{slice_get_within}
-use Rattle.htl_form.proofs.PartLaws.{none_some}
 use Rattle.htl_model.specs.declared.event.Event.{Event}
 use Rattle.htl_model.specs.declared.event.Event.TheVariants as V
-use Rattle.htl_model.specs.declared.parts.Inv.{Inv}
 use Rattle.htl_model.specs.Frames.{root_periods}
 use Rattle.htl_model.specs.Lists.{numbered}
-use Rattle.htl_model.specs.Meaning.{sense}
 use Rattle.htl_model.specs.PortOrder.{feeds}
 use Rattle.htl_model.specs.Ranges.{AreInRange}
 use Rattle.htl_model.specs.Tables.{Tables}
@@ -27,11 +23,11 @@ use Rattle.htl_audit.specs.declared.slice.LogFault.{LogFault}
 use Rattle.htl_audit.specs.Agreeing.{Agree, AreEarly, Matches}
 use Rattle.htl_audit.specs.Growing.{AgreeBefore, HaveRounds}
 use Rattle.htl_audit.specs.Jobs.{Round, beginning, round_of, starts_before, all_rounds}
-use Rattle.htl_audit.specs.Keeping.{Kept, has_job, sum_at, length_at, start_at, release_at, end_at, taken}
+use Rattle.htl_audit.specs.Keeping.{Kept, has_job, sum_at, length_at, start_at, release_at, taken}
 use Rattle.htl_audit.specs.Legal as rules
 use Rattle.htl_audit.specs.Legal.{ticks, line_fault, any_short, how_many, jobs_done}
-use Rattle.htl_audit.specs.Lines.{IsNext, BeganBefore}
-use Rattle.htl_audit.specs.Rosters.{IsIn, IsCurrent, HasJob, AreKept, AreSummed, IsSized}
+use Rattle.htl_audit.specs.Lines.{IsNext}
+use Rattle.htl_audit.specs.Rosters.{IsIn, IsCurrent, HasJob, AreKept, AreSummed}
 use Rattle.htl_audit.specs.Verdicts.{LogFollows}
 use Rattle.htl_audit.proofs.Agreeing.{fault_alike, short_alike, done_alike, ticks_start}
 use Rattle.htl_audit.proofs.Begun.{some_took}

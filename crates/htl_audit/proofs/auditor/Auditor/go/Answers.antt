@@ -1,4 +1,4 @@
-use Rattle.std.proofs.Common.{◌≡◌, ◌≤◌, ◌<◌, suc, Err, ◌∙◌, arith}
+use Rattle.std.proofs.Common.{◌≤◌, suc, ◌∙◌, arith}
 use Rattle.htl_audit.proofs.Going.{going_failed, going_on}
 use Rattle.htl_audit.proofs.auditor.Auditor.go.Goals as goal
 

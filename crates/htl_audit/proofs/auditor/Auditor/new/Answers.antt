@@ -1,4 +1,4 @@
-use Rattle.std.proofs.Common.{◌≡◌, ◌∙◌, [], length, map, ap, sym, subst}
+use Rattle.std.proofs.Common.{◌∙◌, length, map, ap, sym}
 use Rattle.htl_model.specs.declared.parts.Inv.{Inv}
 use Rattle.htl_model.specs.Tables.{Tables, task_worst}
 use Rattle.htl_object.specs.declared.object.Object.{Object}

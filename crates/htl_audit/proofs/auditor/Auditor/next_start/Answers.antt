@@ -1,9 +1,7 @@
-use Rattle.std.proofs.Common.{◌≡◌, ◌∙◌, ◌≤◌, ◌<◌, ℕ, Option, Some, None, ap, sym, subst}
+use Rattle.std.proofs.Common.{◌≡◌, ◌∙◌, ℕ, Some, ap, sym, subst}
 use Rattle.htl_model.specs.Selections.{root_period}
-use Rattle.htl_model.specs.Tables.{Tables}
 use Rattle.htl_object.specs.declared.object.Object.{Object}
 use Rattle.htl_audit.specs.Auditing.{Audit, IsNextStart}
-use Rattle.htl_audit.specs.Growing.{HaveRounds}
 use Rattle.htl_audit.proofs.Keepers.{next_some}
 use Rattle.htl_audit.proofs.Rounds.{have_rounds}
 use Rattle.htl_audit.proofs.auditor.Auditor.next_start.Goals as goal

@@ -1,4 +1,4 @@
-use Rattle.std.proofs.Common.{◌≡◌, ◌∙◌, length, drop, ap, sym, subst}
+use Rattle.std.proofs.Common.{◌∙◌, length, drop, ap, sym, subst}
 use Rattle.htl_model.specs.Tables.{Tables}
 use Rattle.htl_audit.specs.Auditing.{IsAuditor}
 use Rattle.htl_audit.specs.Keeping.{Kept, settled}

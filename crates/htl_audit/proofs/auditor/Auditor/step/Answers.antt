@@ -1,5 +1,4 @@
 use Rattle.std.proofs.Common.{sym, subst}
-use Rattle.std.specs.Prelude.{suc}
 use Rattle.htl_edge.specs.Content.{Puts}
 use Rattle.htl_machine.specs.Calls as machines
 use Rattle.htl_machine.specs.Calls.{text_between}

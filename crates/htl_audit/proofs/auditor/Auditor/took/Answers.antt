@@ -1,11 +1,11 @@
-use Rattle.std.proofs.Common.{◌≡◌, ◌∙◌, ◌<◌, ◌≤◌, [], ◌∷◌, ◌++◌, length, set, ap, sym, subst, arith}
+use Rattle.std.proofs.Common.{◌≡◌, ◌∙◌, ◌<◌, ◌≤◌, [], ◌∷◌, ◌++◌, length, ap, sym, subst, arith}
 use Rattle.std.proofs.lemmas.Option.{slice_get_within}
 use Rattle.htl_model.specs.declared.event.Event.TheVariants as V
 use Rattle.htl_object.specs.declared.object.Object.{Object}
 use Rattle.htl_object.specs.Accepted.{IsAccepted}
 use Rattle.htl_machine.specs.Calls as machines
 use Rattle.htl_audit.specs.Auditing.{Audit, Follows, IsAuditor}
-use Rattle.htl_audit.specs.Keeping.{Kept, taken}
+use Rattle.htl_audit.specs.Keeping.{taken}
 use Rattle.htl_audit.proofs.Keepers.{length_small, taken_auditor, took_follows}
 use Rattle.htl_audit.proofs.auditor.Auditor.took.Goals as goal
 
