@@ -18,12 +18,12 @@ use Rattle.htl_audit.proofs.Judging.{lies, rest}
 lies_start : (r s : Round) (j : Job) (x : Slice) → r.start ≡ s.start → lies_in r j x ≡ lies_in s j x
 lies_start r s j x e = ap (λ n. j.present && eqb x.inv j.inv && leb (n + j.release) x.from && leb x.to (n + j.end)) e
 
-ticks_start : (r s : Round) (j : Job) (log : List Slice) → r.start ≡ s.start → ticks r j log ≡ ticks s j log
+pub ticks_start : (r s : Round) (j : Job) (log : List Slice) → r.start ≡ s.start → ticks r j log ≡ ticks s j log
 ticks_start r s j [] e = refl
 ticks_start r s j (x ∷ xs) e = ap₂ (λ b n. cond b (x.to - x.from) 0 + n) (lies_start r s j x e) (ticks_start r s j xs e)
 
 -- a job that is released at `now` or later has no ticks before
-no_ticks : (now : ℕ) (r : Round) (j : Job) (log : List Slice) → AreEarly now log → now ≤ r.start + j.release → ticks r j log ≡ 0
+pub no_ticks : (now : ℕ) (r : Round) (j : Job) (log : List Slice) → AreEarly now log → now ≤ r.start + j.release → ticks r j log ≡ 0
 no_ticks now r j [] early h = refl
 no_ticks now r j (x ∷ xs) early h =
     let rest : ticks r j xs ≡ 0 = no_ticks now r j xs (λ i y at. early (suc i) y at) h in
@@ -38,7 +38,7 @@ order a b = grind arith
 
 module _ (now : ℕ) (log : List Slice) (early : AreEarly now log) where
   -- whether a job's slices add up
-  done_alike : (r s : Round) (p : ℕ) (j : Job) → Matches now r s → slice_get r.jobs p ≡ Some j → j.present ≡ true → is_done r log (p, j) ≡ is_done s log (p, j)
+  pub done_alike : (r s : Round) (p : ℕ) (j : Job) → Matches now r s → slice_get r.jobs p ≡ Some j → j.present ≡ true → is_done r log (p, j) ≡ is_done s log (p, j)
   done_alike r s p j m at here = elim (order (r.start + j.release) now) [
     | inl h ↦ ap₂ (λ a b. eqb a b) (ticks_start r s j log m.start) (m.lengths p j at here h)
     | inr h ↦

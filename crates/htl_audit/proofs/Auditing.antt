@@ -12,24 +12,23 @@ use Rattle.htl_audit.specs.declared.auditor.AuditTotals.{AuditTotals}
 use Rattle.htl_audit.specs.declared.slice.Slice.{Slice}
 use Rattle.htl_audit.specs.declared.slice.LogFault.{LogFault}
 use Rattle.htl_audit.specs.Auditing.{Audit, Follows, IsAudited}
-use Rattle.htl_audit.specs.Growing.{HaveRounds}
 use Rattle.htl_audit.specs.Jobs.{all_rounds}
 use Rattle.htl_audit.specs.Keeping.{Kept}
 use Rattle.htl_audit.specs.Legal.{first_fault, jobs_done}
 use Rattle.htl_audit.specs.Saying.{Says}
-use Rattle.htl_audit.specs.Verdicts.{LogFollows, Numbers, verdict_of, fault_in}
+use Rattle.htl_audit.specs.Verdicts.{LogFollows, LogEnds, Numbers, verdict_of, fault_in}
 use Rattle.htl_audit.proofs.Growing.{rounds_same}
 use Rattle.htl_audit.proofs.Verdicts.{verdict_is, numbers_are}
 
 -- ---- the verdict
 
-module _ (t : Tables) (es : List Event) (end : ℕ) (log : List Slice) (k : Kept) (f : LogFollows t (all_rounds t es (suc end)) (suc end) log k) where
+module _ (t : Tables) (es : List Event) (end : ℕ) (log : List Slice) (k : Kept) (f : LogEnds (all_rounds t es (suc end)) (suc end) log k) where
   pub says_fault : (r : Result AuditTotals LogFault) (at : ℕ) → Says (verdict_of k (length log)) at r → IfErr r (λ g. first_fault t es end log ≡ Some g)
   says_fault r at s = by (verdict_of k (length log)) refl r s
     where
       by : (v : Result Numbers LogFault) → verdict_of k (length log) ≡ v → (r : Result AuditTotals LogFault) → Says v at r → IfErr r (λ g. first_fault t es end log ≡ Some g)
       by (Ok n) e (Ok m) s = tt
-      by (Err g) e (Err h) s = verdict_is t (all_rounds t es (suc end)) (suc end) log k f ∙ ap fault_in e ∙ ap (λ z. Some z) (sym s)
+      by (Err g) e (Err h) s = verdict_is (all_rounds t es (suc end)) (suc end) log k f ∙ ap fault_in e ∙ ap (λ z. Some z) (sym s)
       by (Ok n) e (Err h) s = absurd s
       by (Err g) e (Ok m) s = absurd s
 
@@ -40,8 +39,8 @@ module _ (t : Tables) (es : List Event) (end : ℕ) (log : List Slice) (k : Kept
       by : (v : Result Numbers LogFault) → verdict_of k (length log) ≡ v → (r : Result AuditTotals LogFault) → Says v at r
           → IfOk r (λ m. (first_fault t es end log ≡ None) × (m.at ≡ at) × (m.jobs ≡ jobs_done (all_rounds t es (suc end)) log) × (m.slices ≡ length log))
       by (Ok n) e (Ok m) s =
-          let legal : first_fault t es end log ≡ None = verdict_is t (all_rounds t es (suc end)) (suc end) log k f ∙ ap fault_in e in
-          let numbers = numbers_are t (all_rounds t es (suc end)) (suc end) log k f legal in
+          let legal : first_fault t es end log ≡ None = verdict_is (all_rounds t es (suc end)) (suc end) log k f ∙ ap fault_in e in
+          let numbers = numbers_are (all_rounds t es (suc end)) (suc end) log k f legal in
           let one : Ok n ≡ Ok (record { jobs = k.done; slices = length log }) = sym e ∙ numbers.1 in
           let same : n ≡ record { jobs = k.done; slices = length log } = same_ok n (record { jobs = k.done; slices = length log }) one in
           (legal, s.0, s.1 ∙ ap (λ (z : Numbers). z.jobs) same ∙ numbers.0, s.2 ∙ ap (λ (z : Numbers). z.slices) same)
@@ -54,14 +53,15 @@ module _ (t : Tables) (es : List Event) (end : ℕ) (log : List Slice) (k : Kept
 
 -- ---- a sensor
 
-pub sense_follows : (a : Audit) (es : List Event) (c : ℕ) (x : ℤ) (m : machines.Seen) → HaveRounds a.machine.object.tables → m ≡ record a.machine { held = shown_as c x a.machine.held } → machines.Follows m (es ++ V.Sense c x ∷ []) → Follows a es
+pub sense_follows : (a : Audit) (es : List Event) (c : ℕ) (x : ℤ) (m : machines.Seen) → m ≡ record a.machine { held = shown_as c x a.machine.held } → machines.Follows m (es ++ V.Sense c x ∷ []) → Follows a es
     → Follows (record a { machine = m }) (es ++ V.Sense c x ∷ [])
-sense_follows a es c x m rounds is machine f =
+sense_follows a es c x m is machine f =
     subst (λ z. Follows (record a { machine = z }) fs) (sym is)
     (record {
       machine = subst (λ z. machines.Follows z fs) is machine;
       shown = f.shown;
-      log = subst (λ rs. LogFollows t rs a.machine.held.reading a.log a.kept) (rounds_same t rounds es fs a.machine.held.reading senses (λ i u. sym (took_sense t es c i u x))) f.log;
+      takes = λ i u known later. took_sense t es c i u x ∙ f.takes i u known later;
+      log = subst (λ rs. LogFollows t rs a.machine.held.reading a.log a.kept) (rounds_same t es fs a.machine.held.reading senses (λ i u. sym (took_sense t es c i u x))) f.log;
     })
   where
     t : Tables

@@ -1,5 +1,5 @@
 -- A machine that follows events follows others that tell the same: a reading between two others changes nothing.
-use Rattle.std.proofs.Common.{◌≡◌, ℕ, zero, suc, ◌-◌, ◌*◌, ◌%◌, cond, eqb, List, [], ◌∷◌, ◌++◌, length, map, Option, Some, None, refl, sym, ap, ap₂, ◌∙◌, subst, arith}
+use Rattle.std.proofs.Common.{◌≡◌, ℕ, zero, suc, ◌-◌, ◌*◌, ◌%◌, cond, eqb, List, [], ◌∷◌, ◌++◌, length, map, Option, Some, None, refl, sym, ap, ap₂, ◌∙◌, subst, arith, get_or, ◌+◌}
 use Rattle.std.specs.List.{filter, count_by}
 use mathlib.Core.Path.{fun_ext}
 use Rattle.htl_model.specs.declared.event.Event.{Event}
@@ -8,7 +8,7 @@ use Rattle.htl_model.specs.declared.state.State.{State}
 use Rattle.htl_model.specs.Lists.{numbered}
 use Rattle.htl_model.specs.Selections.{root_period}
 use Rattle.htl_model.specs.Tables.{Tables}
-use Rattle.htl_model.specs.Meaning.{sense, state}
+use Rattle.htl_model.specs.Meaning.{sense, state, stay_of, mode_of}
 use Rattle.htl_model.proofs.Locality.{up_to_same}
 use Rattle.htl_walk.specs.declared.schedule.SInstr.{SInstr}
 use Rattle.htl_walk.specs.Walk.{Left}
@@ -17,11 +17,11 @@ use Rattle.htl_ecode.specs.declared.ecode.ECode.{ECode}
 use Rattle.htl_ecode.specs.Paths.{e_path, instant_path}
 use Rattle.htl_object.specs.Accepted.{IsAccepted}
 use Rattle.htl_refine.specs.Records.{Round as Plan, took, AreTookWithin, shifted, walk_of, left_at, rounds_before, old_records_by, new_records_by, records}
-use Rattle.htl_machine.specs.Calls.{Seen, Follows, GoesBy}
+use Rattle.htl_machine.specs.Calls.{Seen, Follows, GoesBy, IsFinished, text_between}
 use Rattle.htl_machine.specs.Follows.{reading_of, period_or, DeskStands, DeskFollows, IsLoaded}
 use Rattle.htl_machine.specs.Lines.{all_records, e_done}
 use Rattle.htl_machine.specs.Plans.{round_start, finished_before}
-use Rattle.htl_machine.specs.Programs.{schedules_of}
+use Rattle.htl_machine.specs.Programs.{schedules_of, before_of, lines_of}
 use Rattle.htl_machine.specs.Rounds.{plan_of, selection_of}
 use Rattle.htl_machine.specs.Texts.{capped}
 use Rattle.htl_machine.specs.Turns.{count_before, done_by, finished_in}
@@ -29,16 +29,31 @@ use Rattle.htl_machine.specs.Values.{ValuesFollow}
 use Rattle.htl_machine.proofs.Accepted.{accepted_is_loaded}
 use Rattle.htl_machine.proofs.Events.{Alike, state_same, before_same, values_alike, reading_more, sense_at, took_at}
 use Rattle.htl_machine.proofs.Following.{plan_same, all_read, within_more}
+use Rattle.htl_model.specs.declared.state.Stay.{Stay}
+use Rattle.htl_model.specs.Ranges.{AreInRange}
+use Rattle.htl_emach.specs.Calendars.{Calendar, list_at}
+use Rattle.htl_emach.specs.Pending.{Between as Pending, Entry}
+use Rattle.htl_refine.specs.Records.{modes_at}
+use Rattle.htl_refine.proofs.StateLaws.{states_are_selections}
+use Rattle.htl_console.specs.declared.shown.Shown.{Shown}
+use Rattle.htl_machine.proofs.TellingLater.{later_leave}
+use Rattle.htl_object.specs.declared.object.Object.{Object}
+use Rattle.std.proofs.lemmas.List.{append_cancel_left, ext_get_or}
+use Rattle.std.specs.Prelude.{option_map}
 use Rattle.htl_machine.proofs.Waking.{triggers_alike}
 
 -- the same sensors and lengths
-pub record TellSame (t : Tables) (es fs : List Event) : Type 0 where
+pub record TellAlike (t : Tables) (es fs : List Event) : Type 0 where
   pub senses : (c u : ℕ) → sense t es c u ≡ sense t fs c u
   pub tooks : (i u : ℕ) → took t es i u ≡ took t fs i u
+
+-- and the same last reading
+pub record TellSame (t : Tables) (es fs : List Event) : Type 0 where
+  pub told : TellAlike t es fs
   pub reading : reading_of 0 es ≡ reading_of 0 fs
   pub within : AreTookWithin t fs
 
-module _ (t : Tables) (schedules : List (List SInstr)) (es fs : List Event) (same : TellSame t es fs) where
+module _ (t : Tables) (schedules : List (List SInstr)) (es fs : List Event) (same : TellAlike t es fs) where
   alike : (now : ℕ) → Alike t es fs now
   alike now c u h = same.senses c u
 
@@ -93,8 +108,8 @@ same_follows m es fs accepted same f =
             reading = f.kept.reading ∙ same.reading;
             within = same.within;
             fits = f.kept.fits;
-            shows = λ c u k h. sym (same.senses c u) ∙ f.kept.shows c u k (omega (arith, h, same.reading));
-            takes = λ i u k h. sym (same.tooks i u) ∙ f.kept.takes i u k (omega (arith, h, same.reading));
+            shows = λ c u k h. sym (same.told.senses c u) ∙ f.kept.shows c u k (omega (arith, h, same.reading));
+            takes = λ i u k h. sym (same.told.tooks i u) ∙ f.kept.takes i u k (omega (arith, h, same.reading));
             count = f.kept.count;
           };
       before =
@@ -103,16 +118,16 @@ same_follows m es fs accepted same f =
                 record {
                   values = values;
                   shaped = f.before.values.shaped;
-                  triggers = triggers_alike t loaded.range now m.object.ecode es fs (alike t schedules es fs same now) m.standing f.before.values.triggers;
+                  triggers = triggers_alike t loaded.range now m.object.ecode es fs (alike t schedules es fs same.told now) m.standing f.before.values.triggers;
                   safe = f.before.values.safe;
-                  count = f.before.values.count ∙ path_same t schedules es fs same m.object.ecode now;
+                  count = f.before.values.count ∙ path_same t schedules es fs same.told m.object.ecode now;
                 };
             records =
                 record {
-                  desk = desk_same t schedules es fs same (root_period t) now m.held.desk f.before.records.desk;
-                  goes = goes_same t schedules es fs same (root_period t) now m.selection f.before.records.goes;
-                  jobs_are = f.before.records.jobs_are ∙ ap (λ ls. capped (count_by (λ (l : ℕ × Left). l.1.finished) ls)) (records_same t schedules es fs same now);
-                  s_are = f.before.records.s_are ∙ ap (λ (ls : List (ℕ × Left)). capped (length ls)) (records_same t schedules es fs same now);
+                  desk = desk_same t schedules es fs same.told (root_period t) now m.held.desk f.before.records.desk;
+                  goes = goes_same t schedules es fs same.told (root_period t) now m.selection f.before.records.goes;
+                  jobs_are = f.before.records.jobs_are ∙ ap (λ ls. capped (count_by (λ (l : ℕ × Left). l.1.finished) ls)) (records_same t schedules es fs same.told now);
+                  s_are = f.before.records.s_are ∙ ap (λ (ls : List (ℕ × Left)). capped (length ls)) (records_same t schedules es fs same.told now);
                 };
           };
     }
@@ -131,19 +146,104 @@ same_follows m es fs accepted same f =
 
     values : ValuesFollow t fs now (finished_before (plan_of t schedules fs) (period_or (root_period t)) now) m.held.world
     values =
-        subst (λ z. ValuesFollow t fs now z m.held.world) (fun_ext (λ i. finished_same t schedules es fs same (period_or (root_period t)) now i))
-        (values_alike t loaded.range loaded.kept es fs now (finished_before (plan_of t schedules es) (period_or (root_period t)) now) m.held.world (alike t schedules es fs same now)
+        subst (λ z. ValuesFollow t fs now z m.held.world) (fun_ext (λ i. finished_same t schedules es fs same.told (period_or (root_period t)) now i))
+        (values_alike t loaded.range loaded.kept es fs now (finished_before (plan_of t schedules es) (period_or (root_period t)) now) m.held.world (alike t schedules es fs same.told now)
         (λ i x s st fin. all_read t schedules loaded es f.kept.within now i x s st fin) f.before.values.values)
 
 -- a reading between two others changes nothing
 between : (t : Tables) (es : List Event) (a to : ℕ) → AreTookWithin t es → TellSame t (es ++ V.At a ∷ [] ++ V.At to ∷ []) (es ++ V.At to ∷ [])
 between t es a to within =
     record {
-      senses = λ c u. sense_at t (es ++ V.At a ∷ []) to c u ∙ sense_at t es a c u ∙ sym (sense_at t es to c u);
-      tooks = λ i u. took_at t (es ++ V.At a ∷ []) to i u ∙ took_at t es a i u ∙ sym (took_at t es to i u);
+      told = record {
+        senses = λ c u. sense_at t (es ++ V.At a ∷ []) to c u ∙ sense_at t es a c u ∙ sym (sense_at t es to c u);
+        tooks = λ i u. took_at t (es ++ V.At a ∷ []) to i u ∙ took_at t es a i u ∙ sym (took_at t es to i u);
+      };
       reading = reading_more 0 (es ++ V.At a ∷ []) (V.At to) ∙ sym (reading_more 0 es (V.At to));
       within = within_more t es (V.At to) within tt;
     }
 
 pub passes_between : (m : Seen) (es : List Event) (a to : ℕ) → IsAccepted m.object → AreTookWithin m.object.tables es → Follows m (es ++ V.At a ∷ [] ++ V.At to ∷ []) → Follows m (es ++ V.At to ∷ [])
 passes_between m es a to accepted within f = same_follows m (es ++ V.At a ∷ [] ++ V.At to ∷ []) (es ++ V.At to ∷ []) accepted (between m.object.tables es a to within) f
+
+-- a reading that is the last one already changes nothing
+pub reads_again : (m : Seen) (es : List Event) → IsAccepted m.object → Follows m es → Follows m (es ++ V.At m.held.reading ∷ [])
+reads_again m es accepted f =
+    same_follows m es (es ++ V.At m.held.reading ∷ []) accepted
+    (record {
+      told = record { senses = λ c u. sym (sense_at m.object.tables es m.held.reading c u); tooks = λ i u. sym (took_at m.object.tables es m.held.reading i u) };
+      reading = sym f.kept.reading ∙ sym (reading_more 0 es (V.At m.held.reading));
+      within = within_more m.object.tables es (V.At m.held.reading) f.kept.within tt;
+    })
+    f
+
+-- the same once the run has ended
+pub ends_between : (m : Seen) (es : List Event) (a to : ℕ) → IsFinished m (es ++ V.At a ∷ []) to → IsFinished m es to
+ends_between m es a to f =
+    record {
+      spent = f.spent;
+      reading = f.reading;
+      values = f.values ∙ ap (λ (z : State). z.values) (states t schedules later es same to);
+      jobs = f.jobs ∙ ap (λ ls. capped (count_by (λ (l : ℕ × Left). l.1.finished) ls)) (records_same t schedules later es same (suc to));
+      e = f.e ∙ path_same t schedules later es same m.object.ecode (suc to);
+      s = f.s ∙ ap (λ (ls : List (ℕ × Left)). capped (length ls)) (records_same t schedules later es same (suc to));
+    }
+  where
+    t : Tables
+    t = m.object.tables
+
+    schedules : List (List SInstr)
+    schedules = schedules_of m.object
+
+    later : List Event
+    later = es ++ V.At a ∷ []
+
+    same : TellAlike t later es
+    same = record { senses = λ c u. sense_at t es a c u; tooks = λ i u. took_at t es a i u }
+
+-- ---- the text
+
+-- the text knows readings only by what is told with them
+pub text_same : (o : Object) (es : List Event) (a : ℕ) (show : Shown) (from to : ℕ) → IsAccepted o → AreTookWithin o.tables es → text_between o (es ++ V.At a ∷ []) show from to ≡ text_between o es show from to
+text_same o es a show from to accepted within =
+    up_to_same (λ n. lines_of o (es ++ V.At a ∷ []) show (from + n)) (λ n. lines_of o es show (from + n)) (to - from) (λ n h. line_same (from + n))
+  where
+    later : List Event
+    later = V.At a ∷ []
+
+    text : (n : ℕ) → before_of o (es ++ later) show n ≡ before_of o es show n
+    text n = later_leave o.tables o.ecode (schedules_of o) show n (accepted_is_loaded o accepted) es later (within_more o.tables es (V.At a) within tt) tt
+
+    line_same : (n : ℕ) → lines_of o (es ++ later) show n ≡ lines_of o es show n
+    line_same n =
+        append_cancel_left (before_of o es show n) (lines_of o (es ++ later) show n) (lines_of o es show n)
+        (ap (λ z. z ++ lines_of o (es ++ later) show n) (sym (text n)) ∙ text (suc n))
+
+-- ---- the modes
+
+-- before the instant after n the E machine's modes are those of n
+pub modes_before : (m : Seen) (es : List Event) (n : ℕ) → IsAccepted m.object → Follows m es → m.held.reading ≡ suc n → m.standing.calendar.modes ≡ modes_at m.object.tables es n
+modes_before m es n accepted f read =
+    ext_get_or None c.modes (modes_at t es n) (b.sized.modes ∙ sym (states_are_selections t range es n).same) (λ k h. list_get c.modes k ∙ ap (λ (e : Entry). e.mode) (b.above k (omega arith) (omega (arith, h, b.sized.modes))) ∙ mode_there (state t es n).stays k)
+  where
+    t : Tables
+    t = m.object.tables
+
+    c : Calendar
+    c = m.standing.calendar
+
+    range : AreInRange t
+    range = accepted.spelled.formed.ranges.tables
+
+    b : Pending t m.object.ecode es (suc n) 1 c 0
+    b = subst (λ now. Pending t m.object.ecode es now 1 c 0) read f.before.values.triggers.calendar
+
+    list_get : (xs : List (Option ℕ)) (k : ℕ) → get_or xs k None ≡ list_at xs k
+    list_get [] k = refl
+    list_get (x ∷ xs) zero = refl
+    list_get (x ∷ xs) (suc k) = list_get xs k
+
+    mode_there : (ys : List (Option Stay)) (k : ℕ) → mode_of (stay_of ys k) ≡ get_or (map (λ (o : Option Stay). option_map (λ y. y.mode) o) ys) k None
+    mode_there [] k = refl
+    mode_there (None ∷ ys) zero = refl
+    mode_there (Some y ∷ ys) zero = refl
+    mode_there (y ∷ ys) (suc k) = mode_there ys k

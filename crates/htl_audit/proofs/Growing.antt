@@ -1,96 +1,82 @@
 -- Later rounds and later events: the rounds agree for all that is judged before.
-use Rattle.std.proofs.Common.{◌≡◌, ℕ, zero, suc, ◌+◌, ◌-◌, ◌*◌, ◌≤◌, ◌<◌, ◌⊎◌, inl, inr, true, false, List, [], ◌∷◌, ◌++◌, get_or, map, Option, Some, None, refl, sym, ap, ap₂, ◌∙◌, subst, arith}
+use Rattle.std.proofs.Common.{◌≡◌, ℕ, zero, suc, ◌+◌, ◌-◌, ◌≤◌, ◌<◌, ◌⊎◌, inl, inr, Bool, true, false, cond, List, [], ◌∷◌, ◌++◌, length, get_or, map, Option, Some, None, refl, sym, ap, ap₂, ◌∙◌, subst, arith}
 use Rattle.std.specs.Prelude.{slice_get, option_map}
 use Rattle.std.specs.List.{flat_map}
+use Rattle.std.proofs.lemmas.List.{append-nil}
 use Rattle.std.proofs.lemmas.Option.{get_or_from_slice_get}
 use mathlib.Core.Path.{fun_ext}
-use Rattle.std.proofs.Math.Nat.{le-div_iff_mul-le}
 use Rattle.htl_form.proofs.PartLaws.{none_some}
 use Rattle.htl_model.specs.declared.event.Event.{Event}
 use Rattle.htl_model.specs.declared.parts.Inv.{Inv}
 use Rattle.htl_model.specs.declared.state.Stay.{Stay}
 use Rattle.htl_model.specs.declared.state.State.{State}
 use Rattle.htl_model.specs.Chosen.{chosen}
-use Rattle.htl_model.specs.Lists.{list_to}
+use Rattle.htl_model.specs.Frames.{root_periods, begins, starts_below}
 use Rattle.htl_model.specs.Meaning.{sense, newest}
-use Rattle.htl_model.specs.Selections.{root_modules}
 use Rattle.htl_model.specs.Tables.{Tables, release, task_worst, window_end}
 use Rattle.htl_model.proofs.Locality.{history_local}
 use Rattle.htl_walk.specs.declared.job.Job.{Job}
 use Rattle.htl_walk.specs.Jobs.{absent_job, is_fed_by, job_of, mask}
 use Rattle.htl_refine.specs.ConcreteJobs.{running_invs}
-use Rattle.htl_refine.specs.Records.{took, lengths_of, modes_at, rounds_before}
+use Rattle.htl_refine.specs.Records.{took, lengths_of, modes_at}
 use Rattle.htl_refine.proofs.Inherit.{mapped, map_at}
-use Rattle.htl_audit.specs.Jobs.{Round, module_period, module_jobs, round_of, rounds_of, all_rounds}
+use Rattle.htl_audit.specs.Jobs.{Round, beginning, jobs_from, round_of, starts_before, all_rounds}
 use Rattle.htl_audit.specs.Agreeing.{Matches, HasMatch, IsMatched, Agree}
 use Rattle.htl_audit.specs.Growing.{AgreeBefore, HaveRounds}
 
 -- ---- items of lists that are put together
 
-in_two : {A : Type 0} (xs ys : List A) (n : ℕ) (r : A) → slice_get (xs ++ ys) n ≡ Some r → ((m : ℕ) × (slice_get xs m ≡ Some r)) ⊎ ((m : ℕ) × (slice_get ys m ≡ Some r))
-in_two [] ys n r e = inr (n, e)
-in_two (x ∷ xs) ys zero r e = inl (0, e)
-in_two (x ∷ xs) ys (suc n) r e = elim (in_two xs ys n r e) [ inl h ↦ inl (suc h.0, h.1) | inr h ↦ inr h ]
+pub in_two : {A : Type 0} (xs ys : List A) (n : ℕ) (r : A) → slice_get (xs ++ ys) n ≡ Some r → (slice_get xs n ≡ Some r) ⊎ ((m : ℕ) × (n ≡ length xs + m) × (slice_get ys m ≡ Some r))
+in_two [] ys n r e = inr (n, omega arith, e)
+in_two (x ∷ xs) ys zero r e = inl e
+in_two (x ∷ xs) ys (suc n) r e = elim (in_two xs ys n r e) [ inl h ↦ inl h | inr h ↦ inr (h.0, omega (arith, h.1), h.2) ]
 
-in_front : {A : Type 0} (xs ys : List A) (m : ℕ) (r : A) → slice_get xs m ≡ Some r → (n : ℕ) × (slice_get (xs ++ ys) n ≡ Some r)
+pub in_front : {A : Type 0} (xs ys : List A) (m : ℕ) (r : A) → slice_get xs m ≡ Some r → slice_get (xs ++ ys) m ≡ Some r
 in_front [] ys m r e = absurd (none_some r e)
-in_front (x ∷ xs) ys zero r e = (0, e)
-in_front (x ∷ xs) ys (suc m) r e = let h = in_front xs ys m r e in (suc h.0, h.1)
+in_front (x ∷ xs) ys zero r e = e
+in_front (x ∷ xs) ys (suc m) r e = in_front xs ys m r e
 
-in_back : {A : Type 0} (xs ys : List A) (m : ℕ) (r : A) → slice_get ys m ≡ Some r → (n : ℕ) × (slice_get (xs ++ ys) n ≡ Some r)
-in_back [] ys m r e = (m, e)
-in_back (x ∷ xs) ys m r e = let h = in_back xs ys m r e in (suc h.0, h.1)
+pub in_back : {A : Type 0} (xs ys : List A) (m : ℕ) (r : A) → slice_get ys m ≡ Some r → slice_get (xs ++ ys) (length xs + m) ≡ Some r
+in_back [] ys m r e = ap (slice_get ys) (let z : 0 + m ≡ m = omega arith in z) ∙ e
+in_back (x ∷ xs) ys m r e = ap (slice_get (x ∷ xs ++ ys)) (let z : suc (length xs) + m ≡ suc (length xs + m) = omega arith in z) ∙ in_back xs ys m r e
 
-pub in_flat : {A B : Type 0} (f : A → List B) (xs : List A) (n : ℕ) (r : B) → slice_get (flat_map f xs) n ≡ Some r → (a : ℕ) × (x : A) × (slice_get xs a ≡ Some x) × (m : ℕ) × (slice_get (f x) m ≡ Some r)
-in_flat f [] n r e = absurd (none_some r e)
-in_flat {A} {B} f (x ∷ xs) n r e = by (in_two (f x) (flat_map f xs) n r e) (λ m g. in_flat f xs m r g)
+-- ---- the instants at which rounds begin
+
+pub start_is : (ps : List ℕ) (n m s : ℕ) → slice_get (starts_below ps n) m ≡ Some s → (s < n) × (begins ps s ≡ true)
+start_is ps zero m s e = absurd (none_some s e)
+start_is ps (suc n) m s e = by (in_two (starts_below ps n) (cond (begins ps n) (n ∷ []) []) m s e) (λ q g. start_is ps n q s g)
   where
-    by : ((m : ℕ) × (slice_get (f x) m ≡ Some r)) ⊎ ((m : ℕ) × (slice_get (flat_map f xs) m ≡ Some r))
-        → ((m : ℕ) → slice_get (flat_map f xs) m ≡ Some r → (a : ℕ) × (y : A) × (slice_get xs a ≡ Some y) × (m : ℕ) × (slice_get (f y) m ≡ Some r))
-        → (a : ℕ) × (y : A) × (slice_get (x ∷ xs) a ≡ Some y) × (m : ℕ) × (slice_get (f y) m ≡ Some r)
-    by (inl h) later = (0, x, refl, h.0, h.1)
-    by (inr h) later = let g = later h.0 h.1 in (suc g.0, g.1, g.2, g.3, g.4)
+    last : (b : Bool) (q : ℕ) → begins ps n ≡ b → slice_get (cond b (n ∷ []) []) q ≡ Some s → (s < suc n) × (begins ps s ≡ true)
+    last true zero is g = let one : n ≡ s = cc in (omega (arith, one), subst (λ z. begins ps z ≡ true) one is)
+    last true (suc q) is g = absurd (none_some s g)
+    last false q is g = absurd (none_some s g)
 
-pub at_flat : {A B : Type 0} (f : A → List B) (xs : List A) (a : ℕ) (x : A) (m : ℕ) (r : B) → slice_get xs a ≡ Some x → slice_get (f x) m ≡ Some r → (n : ℕ) × (slice_get (flat_map f xs) n ≡ Some r)
-at_flat f [] a x m r e g = absurd (none_some x e)
-at_flat f (y ∷ xs) zero x m r e g = let one : y ≡ x = cc in in_front (f y) (flat_map f xs) m r (ap (λ z. slice_get (f z) m) one ∙ g)
-at_flat f (y ∷ xs) (suc a) x m r e g = let h = at_flat f xs a x m r e g in in_back (f y) (flat_map f xs) h.0 r h.1
+    by : (slice_get (starts_below ps n) m ≡ Some s) ⊎ ((q : ℕ) × (m ≡ length (starts_below ps n) + q) × (slice_get (cond (begins ps n) (n ∷ []) []) q ≡ Some s))
+        → ((q : ℕ) → slice_get (starts_below ps n) q ≡ Some s → (s < n) × (begins ps s ≡ true)) → (s < suc n) × (begins ps s ≡ true)
+    by (inl h) later = let g = later m h in (omega (arith, g.0), g.1)
+    by (inr h) later = last (begins ps n) h.0 refl h.2
 
-in_list : {A : Type 0} (f : ℕ → A) (n m : ℕ) (r : A) → slice_get (list_to f n) m ≡ Some r → (k : ℕ) × (k < n) × (f k ≡ r)
-in_list f zero m r e = absurd (none_some r e)
-in_list {A} f (suc n) m r e = by (in_two (list_to f n) (f n ∷ []) m r e) (λ q g. in_list f n q r g)
+order : (a b : ℕ) → a < suc b → (a < b) ⊎ (a ≡ b)
+order a b h = grind arith
+
+pub start_there : (ps : List ℕ) (n s : ℕ) → s < n → begins ps s ≡ true → (m : ℕ) × (slice_get (starts_below ps n) m ≡ Some s)
+start_there ps zero s h is = absurd (omega (arith, h))
+start_there ps (suc n) s h is = by (order s n h) (λ g. start_there ps n s g is)
   where
-    last : (q : ℕ) → slice_get (f n ∷ []) q ≡ Some r → f n ≡ r
-    last zero g = cc
-    last (suc q) g = absurd (none_some r g)
+    by : (s < n) ⊎ (s ≡ n) → (s < n → (m : ℕ) × (slice_get (starts_below ps n) m ≡ Some s)) → (m : ℕ) × (slice_get (starts_below ps n ++ cond (begins ps n) (n ∷ []) []) m ≡ Some s)
+    by (inl g) later = let q = later g in (q.0, in_front (starts_below ps n) (cond (begins ps n) (n ∷ []) []) q.0 s q.1)
+    by (inr g) later =
+        let here : begins ps n ≡ true = subst (λ z. begins ps z ≡ true) g is in
+        let at : slice_get (cond (begins ps n) (n ∷ []) []) 0 ≡ Some s = ap (λ b. slice_get (cond b (n ∷ []) []) 0) here ∙ ap (λ z. Some z) (sym g) in
+        (length (starts_below ps n) + 0, in_back (starts_below ps n) (cond (begins ps n) (n ∷ []) []) 0 s at)
 
-    by : ((m : ℕ) × (slice_get (list_to f n) m ≡ Some r)) ⊎ ((m : ℕ) × (slice_get (f n ∷ []) m ≡ Some r)) → ((q : ℕ) → slice_get (list_to f n) q ≡ Some r → (k : ℕ) × (k < n) × (f k ≡ r)) → (k : ℕ) × (k < suc n) × (f k ≡ r)
-    by (inl h) later = let g = later h.0 h.1 in (g.0, omega (arith, g.1), g.2)
-    by (inr h) later = (n, omega arith, last h.0 h.1)
-
-at_list : {A : Type 0} (f : ℕ → A) (n k : ℕ) → k < n → (m : ℕ) × (slice_get (list_to f n) m ≡ Some (f k))
-at_list f zero k h = absurd (omega (arith, h))
-at_list {A} f (suc n) k h = by (split k n h) (λ g. at_list f n k g)
-  where
-    split : (k n : ℕ) → k < suc n → (k < n) ⊎ (k ≡ n)
-    split k n h = grind arith
-
-    by : (k < n) ⊎ (k ≡ n) → (k < n → (m : ℕ) × (slice_get (list_to f n) m ≡ Some (f k))) → (m : ℕ) × (slice_get (list_to f (suc n)) m ≡ Some (f k))
-    by (inl g) later = let q = later g in in_front (list_to f n) (f n ∷ []) q.0 (f k) q.1
-    by (inr g) later = in_back (list_to f n) (f n ∷ []) 0 (f k) (ap (λ z. Some (f z)) (sym g))
-
--- ---- how many rounds begin before an instant
-
-begins_before : (p now k : ℕ) → 1 ≤ p → k < rounds_before p now → k * p < now
-begins_before p now k some h =
-    let a : suc k * p ≤ now + p - 1 = (le-div_iff_mul-le {k = p} {x = suc k} {y = now + p - 1} some).0 h in
-    let b : suc k * p ≡ k * p + p = grind arith in
-    omega (arith, a, b, some)
-
-before_begins : (p now k : ℕ) → 1 ≤ p → k * p < now → k < rounds_before p now
-before_begins p now k some h =
-    let b : suc k * p ≡ k * p + p = grind arith in
-    (le-div_iff_mul-le {k = p} {x = suc k} {y = now + p - 1} some).1 (omega (arith, b, h, some))
+-- where no round begins from one instant up to another, the starts before them are the same
+pub starts_still : (ps : List ℕ) (a d : ℕ) → ((n : ℕ) → a ≤ n → n < a + d → begins ps n ≡ false) → starts_below ps a ≡ starts_below ps (a + d)
+starts_still ps a zero none = ap (starts_below ps) (let z : a ≡ a + 0 = omega arith in z)
+starts_still ps a (suc d) none =
+    let e : begins ps (a + d) ≡ false = none (a + d) (omega arith) (omega arith) in
+    starts_still ps a d (λ n h g. none n h (omega (arith, g))) ∙ sym (ap (λ b. starts_below ps (a + d) ++ cond b ((a + d) ∷ []) []) e ∙ append-nil (starts_below ps (a + d)))
+    ∙ ap (starts_below ps) (let z : suc (a + d) ≡ a + suc d = omega arith in z)
 
 -- ---- the job of a position
 
@@ -111,94 +97,83 @@ job_parts t standing (Some k) j e here = by (slice_get t.invs k) refl
         (x, subst (λ n. slice_get t.invs n ≡ Some x) (ap (λ (z : Job). z.inv) is) at, sym (ap (λ (z : Job). z.release) is), sym (ap (λ (z : Job). z.end) is))
 
 -- a job of a round
-pub round_job : (t : Tables) (modes : List (Option ℕ)) (u p : ℕ) (j : Job) → slice_get (module_jobs t modes u) p ≡ Some j → j.present ≡ true
+pub round_job : (t : Tables) (modes : List (Option ℕ)) (us : List ℕ) (p : ℕ) (j : Job) → slice_get (jobs_from t modes us) p ≡ Some j → j.present ≡ true
     → (x : Inv) × (slice_get t.invs j.inv ≡ Some x) × (j.release ≡ release t x) × (j.end ≡ window_end t x)
-round_job t modes u p j at here =
-    let standing = map (chosen t modes) (running_invs t modes u) in
+round_job t modes us p j at here =
+    let standing = map (chosen t modes) (flat_map (running_invs t modes) us) in
     let o = mapped (job_of t standing) standing p j at in
     job_parts t standing o.0 j o.2 here
 
 -- how long it takes
-length_is : (t : Tables) (es : List Event) (start p : ℕ) (js : List Job) (j : Job) → slice_get js p ≡ Some j → get_or (lengths_of t es start js) p 0 ≡ took t es j.inv (start + j.release)
+pub length_is : (t : Tables) (es : List Event) (start p : ℕ) (js : List Job) (j : Job) → slice_get js p ≡ Some j → get_or (lengths_of t es start js) p 0 ≡ took t es j.inv (start + j.release)
 length_is t es start p js j at =
     let f = λ (j : Job). took t es j.inv (start + j.release) in
     get_or_from_slice_get (map f js) p (f j) 0 (map_at f js p j at)
 
 -- ---- the rounds agree
 
-module _ (t : Tables) (rounds : HaveRounds t) (es fs : List Event) (now later : ℕ) (order : now ≤ later) (agree : AgreeBefore t es fs now) where
+-- a round, and the instant at which it begins
+pub round_is : (t : Tables) (es : List Event) (now m : ℕ) (r : Round) → slice_get (all_rounds t es now) m ≡ Some r → (s : ℕ) × (slice_get (starts_before t now) m ≡ Some s) × (round_of t es s ≡ r)
+round_is t es now m r at = mapped (round_of t es) (starts_before t now) m r at
+
+module _ (t : Tables) (rounds : HaveRounds t) (es fs : List Event) (now : ℕ) (agree : AgreeBefore t es fs now) where
   modes_same : (s : ℕ) → s < now → modes_at t es s ≡ modes_at t fs s
   modes_same s h =
       ap (λ (z : State). map (λ (o : Option Stay). option_map (λ (y : Stay). y.mode) o) z.stays) (ap newest (history_local t (sense t es) (sense t fs) s (λ c u g. agree.senses c u (omega (arith, g, h)))))
 
-  matched : (u s : ℕ) → s < now → Matches now (round_of t es u s) (round_of t fs u s)
-  matched u s h =
-      let jobs : module_jobs t (modes_at t es s) u ≡ module_jobs t (modes_at t fs s) u = ap (λ m. module_jobs t m u) (modes_same s h) in
+  pub matched : (s : ℕ) → s < now → Matches now (round_of t es s) (round_of t fs s)
+  matched s h =
+      let us = beginning t s in
+      let jobs : jobs_from t (modes_at t es s) us ≡ jobs_from t (modes_at t fs s) us = ap (λ m. jobs_from t m us) (modes_same s h) in
       record {
         start = refl;
         jobs = jobs;
         lengths = λ p j at here early.
-            length_is t es s p (module_jobs t (modes_at t es s) u) j at ∙ agree.tooks j.inv (s + j.release) early
-            ∙ sym (length_is t fs s p (module_jobs t (modes_at t fs s) u) j (ap (λ js. slice_get js p) (sym jobs) ∙ at));
+            length_is t es s p (jobs_from t (modes_at t es s) us) j at ∙ agree.tooks j.inv (s + j.release) early
+            ∙ sym (length_is t fs s p (jobs_from t (modes_at t fs s) us) j (ap (λ js. slice_get js p) (sym jobs) ∙ at));
         some = λ p j at here.
-            let x = round_job t (modes_at t es s) u p j at here in
+            let x = round_job t (modes_at t es s) us p j at here in
             let two = agree.some j.inv (s + j.release) x.0 x.1 in (
-              omega (arith, length_is t es s p (module_jobs t (modes_at t es s) u) j at, two.0),
-              omega (arith, length_is t fs s p (module_jobs t (modes_at t fs s) u) j (ap (λ js. slice_get js p) (sym jobs) ∙ at), two.1),
+              omega (arith, length_is t es s p (jobs_from t (modes_at t es s) us) j at, two.0),
+              omega (arith, length_is t fs s p (jobs_from t (modes_at t fs s) us) j (ap (λ js. slice_get js p) (sym jobs) ∙ at), two.1),
             );
-        window = λ p j at here. let x = round_job t (modes_at t es s) u p j at here in omega (arith, x.2, x.3, rounds.windows j.inv x.0 x.1);
+        window = λ p j at here. let x = round_job t (modes_at t es s) us p j at here in omega (arith, x.2, x.3, (rounds.windows j.inv x.0 x.1).0);
       }
 
-  pub rounds_agree : Agree now (all_rounds t es now) (all_rounds t fs later)
-  rounds_agree = record { there = there; back = back }
+  pub rounds_agree : (later : ℕ) → now ≤ later → Agree now (all_rounds t es now) (all_rounds t fs later)
+  rounds_agree later h = record { there = there; back = back }
     where
       there : (n : ℕ) (r : Round) → slice_get (all_rounds t es now) n ≡ Some r → IsMatched now (all_rounds t fs later) r
       there n r at =
-          let a = in_flat (rounds_of t es now) (root_modules t) n r at in
-          let u = a.1 in
-          let period = module_period t u in
-          let some = rounds.periods a.0 u a.2 in
-          let k = in_list (λ k. round_of t es u (k * period)) (rounds_before period now) a.3 r a.4 in
-          let early : k.0 * period < now = begins_before period now k.0 some k.1 in
-          let m = at_list (λ k. round_of t fs u (k * period)) (rounds_before period later) k.0 (before_begins period later k.0 some (omega (arith, early, order))) in
-          let g = at_flat (rounds_of t fs later) (root_modules t) a.0 u m.0 (round_of t fs u (k.0 * period)) a.2 m.1 in
-          record { round = round_of t fs u (k.0 * period); number = g.0; at = g.1; same = subst (λ z. Matches now z (round_of t fs u (k.0 * period))) k.2 (matched u (k.0 * period) early) }
+          let s = round_is t es now n r at in
+          let is = start_is (root_periods t) now n s.0 s.1 in
+          let m = start_there (root_periods t) later s.0 (omega (arith, is.0, h)) is.1 in
+          record { round = round_of t fs s.0; number = m.0; at = map_at (round_of t fs) (starts_before t later) m.0 s.0 m.1; same = subst (λ z. Matches now z (round_of t fs s.0)) s.2 (matched s.0 is.0) }
 
-      back : (n : ℕ) (s : Round) → slice_get (all_rounds t fs later) n ≡ Some s → HasMatch now (all_rounds t es now) s ⊎ (now ≤ s.start)
-      back n s at =
-          let a = in_flat (rounds_of t fs later) (root_modules t) n s at in
-          let u = a.1 in
-          let period = module_period t u in
-          let some = rounds.periods a.0 u a.2 in
-          let k = in_list (λ k. round_of t fs u (k * period)) (rounds_before period later) a.3 s a.4 in
-          elim (less (k.0 * period) now) [
+      less : (a b : ℕ) → (a < b) ⊎ (b ≤ a)
+      less a b = grind arith
+
+      back : (n : ℕ) (r : Round) → slice_get (all_rounds t fs later) n ≡ Some r → HasMatch now (all_rounds t es now) r ⊎ (now ≤ r.start)
+      back n r at =
+          let s = round_is t fs later n r at in
+          let is = start_is (root_periods t) later n s.0 s.1 in
+          elim (less s.0 now) [
             | inl early ↦
-                let m = at_list (λ k. round_of t es u (k * period)) (rounds_before period now) k.0 (before_begins period now k.0 some early) in
-                let g = at_flat (rounds_of t es now) (root_modules t) a.0 u m.0 (round_of t es u (k.0 * period)) a.2 m.1 in
-                inl (record { round = round_of t es u (k.0 * period); number = g.0; at = g.1; same = subst (λ z. Matches now (round_of t es u (k.0 * period)) z) k.2 (matched u (k.0 * period) early) })
-            | inr late ↦ inr (omega (arith, late, ap (λ (r : Round). r.start) k.2))
+                let m = start_there (root_periods t) now s.0 early is.1 in
+                inl (record { round = round_of t es s.0; number = m.0; at = map_at (round_of t es) (starts_before t now) m.0 s.0 m.1; same = subst (λ z. Matches now (round_of t es s.0) z) s.2 (matched s.0 early) })
+            | inr late ↦ inr (omega (arith, late, ap (λ (z : Round). z.start) s.2))
           ]
-        where
-          less : (a b : ℕ) → (a < b) ⊎ (b ≤ a)
-          less a b = grind arith
 
 -- ---- events after which the rounds are the very same
 
-flat_same : {A B : Type 0} (f g : A → List B) (xs : List A) → ((a : ℕ) (x : A) → slice_get xs a ≡ Some x → f x ≡ g x) → flat_map f xs ≡ flat_map g xs
-flat_same f g [] h = refl
-flat_same f g (x ∷ xs) h = ap₂ (λ a b. a ++ b) (h 0 x refl) (flat_same f g xs (λ a y at. h (suc a) y at))
-
-list_same : {A : Type 0} (f g : ℕ → A) (n : ℕ) → ((k : ℕ) → k < n → f k ≡ g k) → list_to f n ≡ list_to g n
-list_same f g zero h = refl
-list_same f g (suc n) h = ap₂ (λ a b. a ++ b ∷ []) (list_same f g n (λ k p. h k (omega (arith, p)))) (h n (omega arith))
+map_same : {A B : Type 0} (f g : A → B) (xs : List A) → ((n : ℕ) (x : A) → slice_get xs n ≡ Some x → f x ≡ g x) → map f xs ≡ map g xs
+map_same f g [] h = refl
+map_same f g (x ∷ xs) h = ap₂ (λ a b. a ∷ b) (h 0 x refl) (map_same f g xs (λ n y at. h (suc n) y at))
 
 -- the sensors show the same before `now`, and all jobs take the same time
-pub rounds_same : (t : Tables) → HaveRounds t → (es fs : List Event) (now : ℕ) → ((c u : ℕ) → u < now → sense t es c u ≡ sense t fs c u) → ((i u : ℕ) → took t es i u ≡ took t fs i u)
+pub rounds_same : (t : Tables) (es fs : List Event) (now : ℕ) → ((c u : ℕ) → u < now → sense t es c u ≡ sense t fs c u) → ((i u : ℕ) → took t es i u ≡ took t fs i u)
     → all_rounds t es now ≡ all_rounds t fs now
-rounds_same t rounds es fs now senses tooks =
-    flat_same (rounds_of t es now) (rounds_of t fs now) (root_modules t)
-    (λ a u at. list_same (λ k. round_of t es u (k * module_period t u)) (λ k. round_of t fs u (k * module_period t u)) (rounds_before (module_period t u) now)
-    (λ k h. one u (k * module_period t u) (begins_before (module_period t u) now k (rounds.periods a u at) h)))
+rounds_same t es fs now senses tooks = map_same (round_of t es) (round_of t fs) (starts_before t now) (λ n s at. one s (start_is (root_periods t) now n s at).0)
   where
     modes_are : (s : ℕ) → s < now → modes_at t es s ≡ modes_at t fs s
     modes_are s h =
@@ -207,14 +182,15 @@ rounds_same t rounds es fs now senses tooks =
     lengths_are : (s : ℕ) (js : List Job) → lengths_of t es s js ≡ lengths_of t fs s js
     lengths_are s js = ap (λ f. map f js) (fun_ext (λ (j : Job). tooks j.inv (s + j.release)))
 
-    one : (u s : ℕ) → s < now → round_of t es u s ≡ round_of t fs u s
-    one u s h =
+    one : (s : ℕ) → s < now → round_of t es s ≡ round_of t fs s
+    one s h =
+        let us = beginning t s in
         let make : List Job → List ℕ → Round = λ js ns. record { start = s; jobs = js; lengths = ns } in
-        ap (make (module_jobs t (modes_at t es s) u)) (lengths_are s (module_jobs t (modes_at t es s) u))
-        ∙ ap (λ m. make (module_jobs t m u) (lengths_of t fs s (module_jobs t m u))) (modes_are s h)
+        ap (make (jobs_from t (modes_at t es s) us)) (lengths_are s (jobs_from t (modes_at t es s) us))
+        ∙ ap (λ m. make (jobs_from t m us) (lengths_of t fs s (jobs_from t m us))) (modes_are s h)
 
--- where no round begins between two instants, the rounds are the same
-pub rounds_still : (t : Tables) (es : List Event) (now later : ℕ) → ((a u : ℕ) → slice_get (root_modules t) a ≡ Some u → rounds_before (module_period t u) now ≡ rounds_before (module_period t u) later)
-    → all_rounds t es now ≡ all_rounds t es later
-rounds_still t es now later still =
-    flat_same (rounds_of t es now) (rounds_of t es later) (root_modules t) (λ a u at. ap (list_to (λ k. round_of t es u (k * module_period t u))) (still a u at))
+-- where no round begins from one instant up to another, the rounds are the same
+pub rounds_still : (t : Tables) (es : List Event) (now later : ℕ) → now ≤ later → ((n : ℕ) → now ≤ n → n < later → begins (root_periods t) n ≡ false) → all_rounds t es now ≡ all_rounds t es later
+rounds_still t es now later h none =
+    let whole : now + (later - now) ≡ later = omega (arith, h) in
+    ap (map (round_of t es)) (starts_still (root_periods t) now (later - now) (λ n g k. none n g (omega (arith, k, h))) ∙ ap (starts_before t) whole)

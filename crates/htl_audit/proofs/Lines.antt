@@ -56,7 +56,7 @@ module _ (t : Tables) (rounds : List Round) (now bound : ℕ) where
       (by (ltb x.to now) refl (λ s' fresh' late'. lines_judged (log ++ x ∷ []) xs (with_slice x k) s' fresh' began late'))
     where
       later : x.from < x.to → k.end ≤ x.from → start_at k.roster x.inv < x.to
-      later some order = elim late [ inl h ↦ omega (arith, h, began x.inv) | inr h ↦ omega (arith, h, began x.inv, some, order) ]
+      later some order = elim (began x.inv) [ inl b ↦ elim late [ inl h ↦ omega (arith, h, b) | inr h ↦ omega (arith, h, b, some, order) ] | inr z ↦ omega (arith, z, some) ]
 
       kind : line_fault rounds now log x ≡ kind_of t now k x
       kind = kind_is t rounds now log k x s later

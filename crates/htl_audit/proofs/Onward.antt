@@ -20,7 +20,7 @@ use Rattle.htl_audit.proofs.Lines.{lines_judged}
 
 -- ---- lists
 
-take_both : (xs : List Slice) (n d : ℕ) → take (n + d) xs ≡ take n xs ++ take d (drop n xs)
+pub take_both : (xs : List Slice) (n d : ℕ) → take (n + d) xs ≡ take n xs ++ take d (drop n xs)
 take_both xs zero d = ap (λ m. take m xs) (let z : 0 + d ≡ d = omega arith in z)
 take_both [] (suc n) d = ap (λ m. take {A = Slice} m []) (let z : suc n + d ≡ suc (n + d) = omega arith in z) ∙ sym (none d)
   where
@@ -29,19 +29,19 @@ take_both [] (suc n) d = ap (λ m. take {A = Slice} m []) (let z : suc n + d ≡
     none (suc d) = refl
 take_both (x ∷ xs) (suc n) d = ap (λ m. take m (x ∷ xs)) (let z : suc n + d ≡ suc (n + d) = omega arith in z) ∙ ap (λ z. x ∷ z) (take_both xs n d)
 
-get_drop : (xs : List Slice) (n d : ℕ) → slice_get (drop n xs) d ≡ slice_get xs (n + d)
+pub get_drop : (xs : List Slice) (n d : ℕ) → slice_get (drop n xs) d ≡ slice_get xs (n + d)
 get_drop xs zero d = ap (slice_get xs) (let z : d ≡ 0 + d = omega arith in z)
 get_drop [] (suc n) d = refl
 get_drop (x ∷ xs) (suc n) d = get_drop xs n d ∙ ap (slice_get (x ∷ xs)) (let z : suc (n + d) ≡ suc n + d = omega arith in z)
 
-in_front : (xs : List Slice) (n i : ℕ) (x : Slice) → slice_get (take n xs) i ≡ Some x → (i < n) × (slice_get xs i ≡ Some x)
+pub in_front : (xs : List Slice) (n i : ℕ) (x : Slice) → slice_get (take n xs) i ≡ Some x → (i < n) × (slice_get xs i ≡ Some x)
 in_front xs zero i x e = absurd (none_some x e)
 in_front [] (suc n) i x e = absurd (none_some x e)
 in_front (y ∷ xs) (suc n) zero x e = (omega arith, e)
 in_front (y ∷ xs) (suc n) (suc i) x e = let h = in_front xs n i x e in (omega (arith, h.0), h.1)
 
 -- a line that keeps the rules isn't empty
-is_some_slice : (rounds : List Round) (now : ℕ) (log : List Slice) (x : Slice) → line_fault rounds now log x ≡ None → x.from < x.to
+pub is_some_slice : (rounds : List Round) (now : ℕ) (log : List Slice) (x : Slice) → line_fault rounds now log x ≡ None → x.from < x.to
 is_some_slice rounds now log x e = by (leb x.to x.from) refl
   where
     less : (a b : ℕ) → leb a b ≡ false → b < a
@@ -58,14 +58,14 @@ is_some_slice rounds now log x e = by (leb x.to x.from) refl
 -- the lines were judged that end before `now`, by the rounds that begin before it or, where a round begins just then, before `at`
 module _ (t : Tables) (rounds : List Round) (now at : ℕ) (near : now ≤ suc at) (log : List Slice) (k : Kept) (f : AreJudged t rounds now [] log k) (others : List Round) (later : ℕ) (agree : Agree at rounds others)
     (order : now ≤ later) where
-  early : (n : ℕ) → n ≤ f.count → AreEarly at (take n log)
+  pub early : (n : ℕ) → n ≤ f.count → AreEarly at (take n log)
   early n h i x here =
       let g = in_front log n i x here in
       let two = f.keep i x (omega (arith, g.0, h)) g.1 in
       omega (arith, is_some_slice rounds now ([] ++ take i log) x two.0, two.1, near)
 
   -- the lines that were judged keep the rules then too
-  kept_then : (i : ℕ) (x : Slice) → i < f.count → slice_get log i ≡ Some x → (line_fault others later ([] ++ take i log) x ≡ None) × (x.to < later)
+  pub kept_then : (i : ℕ) (x : Slice) → i < f.count → slice_get log i ≡ Some x → (line_fault others later ([] ++ take i log) x ≡ None) × (x.to < later)
   kept_then i x below here =
       let two = f.keep i x below here in
       (sym (fault_alike at (take i log) (early i (omega (arith, below))) rounds others now later x agree order (omega (arith, two.1, near)) two.1) ∙ two.0, omega (arith, two.1, order))
@@ -85,19 +85,22 @@ module _ (t : Tables) (rounds : List Round) (now at : ℕ) (near : now ≤ suc a
 
   -- without one, the lines between are judged behind those that were
   pub lines_between : (bound : ℕ) → AreSummed t others (take f.count log) k → k.fault ≡ None → BeganBefore bound k → IsLate bound k (drop f.count log)
-      → AreJudged t others later [] log (judged_to t later (drop f.count log) k)
+      → (j : AreJudged t others later [] log (judged_to t later (drop f.count log) k)) × (f.count ≤ j.count)
   lines_between bound s fresh began late = joined (lines_judged t others later bound (take f.count log) (drop f.count log) k s fresh began late)
     where
-      joined : AreJudged t others later (take f.count log) (drop f.count log) (judged_to t later (drop f.count log) k) → AreJudged t others later [] log (judged_to t later (drop f.count log) k)
-      joined j =
-          record {
-            count = f.count + j.count;
-            few = omega (arith, j.few, f.few, length-drop f.count log);
-            keep = λ i x below here. by i x below here (split i f.count);
-            next =
-                subst (λ o. IsNext t others later ([] ++ take (f.count + j.count) log) o (judged_to t later (drop f.count log) k) (judged_to t later (drop f.count log) k).fault) (get_drop log f.count j.count)
-                (subst (λ z. IsNext t others later z (slice_get (drop f.count log) j.count) (judged_to t later (drop f.count log) k) (judged_to t later (drop f.count log) k).fault) (sym (take_both log f.count j.count)) j.next);
-          }
+      joined : AreJudged t others later (take f.count log) (drop f.count log) (judged_to t later (drop f.count log) k)
+          → (j : AreJudged t others later [] log (judged_to t later (drop f.count log) k)) × (f.count ≤ j.count)
+      joined j = (
+        record {
+          count = f.count + j.count;
+          few = omega (arith, j.few, f.few, length-drop f.count log);
+          keep = λ i x below here. by i x below here (split i f.count);
+          next =
+              subst (λ o. IsNext t others later ([] ++ take (f.count + j.count) log) o (judged_to t later (drop f.count log) k) (judged_to t later (drop f.count log) k).fault) (get_drop log f.count j.count)
+              (subst (λ z. IsNext t others later z (slice_get (drop f.count log) j.count) (judged_to t later (drop f.count log) k) (judged_to t later (drop f.count log) k).fault) (sym (take_both log f.count j.count)) j.next);
+        },
+        (let z : f.count ≤ f.count + j.count = omega arith in z),
+      )
         where
           split : (i n : ℕ) → (i < n) ⊎ (n ≤ i)
           split i n = grind arith

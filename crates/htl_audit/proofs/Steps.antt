@@ -1,12 +1,12 @@
 -- One step of the loops over invocations and lines.
-use Rattle.std.proofs.Common.{◌≡◌, ℕ, zero, suc, ◌+◌, ◌≤◌, ◌<◌, Bool, true, false, cond, ◌&&◌, ltb, List, [], ◌∷◌, length, drop, get_or, Option, Some, None, is_some, refl, sym, ◌∙◌, ap, arith}
+use Rattle.std.proofs.Common.{◌≡◌, ℕ, zero, suc, ◌+◌, ◌≤◌, ◌<◌, Bool, true, false, cond, ◌&&◌, ltb, List, [], ◌∷◌, length, drop, get_or, Option, Some, None, is_some, refl, sym, ◌∙◌, ap, arith, ◌||◌}
 use Rattle.std.proofs.lemmas.Bool.Decides.{nat_tests}
 use Rattle.htl_model.specs.declared.parts.Inv.{Inv}
 use Rattle.htl_model.specs.Tables.{Tables}
 use Rattle.htl_audit.specs.declared.slice.Slice.{Slice}
 use Rattle.htl_audit.specs.declared.slice.LogFault.{LogFault}
 use Rattle.htl_audit.specs.declared.slice.LogKind.{LogKind}
-use Rattle.htl_audit.specs.Keeping.{Roster, Kept, is_clear_of, is_free_from, kind_of, with_kind, judged, judged_to}
+use Rattle.htl_audit.specs.Keeping.{Roster, Kept, is_clear_of, is_free_from, kind_of, with_kind, judged, judged_to, fell_short, any_fell_short_from}
 
 drop_suc : {A : Type 0} (d : A) (xs : List A) (n : ℕ) → n < length xs → drop n xs ≡ get_or xs n d ∷ drop (suc n) xs
 drop_suc d [] n h = absurd (omega arith)
@@ -79,3 +79,29 @@ judged_place t now x k = by (kind_of t now k x)
     by : (o : Option LogKind) → (with_kind x o k).place ≤ k.place + 1
     by (Some c) = omega arith
     by None = omega arith
+
+-- ---- jobs that fell short
+
+next_short : (t : Tables) (now : ℕ) (k : Kept) (n : ℕ) (xs : List Inv) → n < length xs → any_fell_short_from t now k n (drop n xs) ≡ (fell_short t now k n || any_fell_short_from t now k (n + 1) (drop (n + 1) xs))
+next_short t now k n [] h = absurd (omega arith)
+next_short t now k n (x ∷ xs) h =
+    ap (any_fell_short_from t now k n) (drop_at x (x ∷ xs) n h) ∙ ap (λ m. fell_short t now k n || any_fell_short_from t now k m (drop (n + 1) (x ∷ xs))) (let z : suc n ≡ n + 1 = omega arith in z)
+
+pub short_stop : (t : Tables) (now : ℕ) (k : Kept) (n : ℕ) (xs : List Inv) (whole : Bool) → n < length xs → fell_short t now k n ≡ true → any_fell_short_from t now k n (drop n xs) ≡ whole → true ≡ whole
+short_stop t now k n xs whole h on e = sym (ap (λ b. b || any_fell_short_from t now k (n + 1) (drop (n + 1) xs)) on) ∙ sym (next_short t now k n xs h) ∙ e
+
+pub short_go : (t : Tables) (now : ℕ) (k : Kept) (n : ℕ) (xs : List Inv) (whole : Bool) → n < length xs → fell_short t now k n ≡ false → any_fell_short_from t now k n (drop n xs) ≡ whole
+    → any_fell_short_from t now k (n + 1) (drop (n + 1) xs) ≡ whole
+short_go t now k n xs whole h off e = sym (ap (λ b. b || any_fell_short_from t now k (n + 1) (drop (n + 1) xs)) off) ∙ sym (next_short t now k n xs h) ∙ e
+
+-- ---- where a judged line leaves the place
+
+pub judged_within : (t : Tables) (now : ℕ) (xs : List Slice) (k : Kept) → (judged_to t now xs k).place ≤ k.place + length xs
+judged_within t now [] k = omega arith
+judged_within t now (x ∷ xs) k = by k.fault (ltb x.to now) (judged_within t now xs (judged t now x k))
+  where
+    by : (o : Option LogFault) (b : Bool) → (judged_to t now xs (judged t now x k)).place ≤ (judged t now x k).place + length xs
+        → (elim o as (λ _. Kept) [ Some f ↦ k | None ↦ cond b (judged_to t now xs (judged t now x k)) k ]).place ≤ k.place + length (x ∷ xs)
+    by (Some f) b h = omega arith
+    by None false h = omega arith
+    by None true h = omega (arith, h, judged_place t now x k)

@@ -22,7 +22,7 @@ use Rattle.htl_audit.proofs.Judging.{lies, ticks_more, lies_current, lies_inside
 -- ---- counts
 
 -- a count of items with places, where one item's test changes to b and all others stay
-count_same : {A : Type 0} (f g : ℕ × A → Bool) (q : ℕ) (js : List A) → ((d : ℕ) (j : A) → slice_get js d ≡ Some j → f (q + d, j) ≡ g (q + d, j)) → how_many f (numbered q js) ≡ how_many g (numbered q js)
+pub count_same : {A : Type 0} (f g : ℕ × A → Bool) (q : ℕ) (js : List A) → ((d : ℕ) (j : A) → slice_get js d ≡ Some j → f (q + d, j) ≡ g (q + d, j)) → how_many f (numbered q js) ≡ how_many g (numbered q js)
 count_same f g q [] h = refl
 count_same f g q (j ∷ js) h =
     let here : f (q, j) ≡ g (q, j) = subst (λ z. f (z, j) ≡ g (z, j)) (let z : q + 0 ≡ q = omega arith in z) (h 0 j refl) in
@@ -58,10 +58,10 @@ count_one f g b q (h ∷ js) (suc d) j at off on same =
     down e d z = omega (arith, z)
 
 -- the same over rounds
-abbrev passes : List Slice → Round → ℕ × Job → Bool
+abbrev pub passes : List Slice → Round → ℕ × Job → Bool
 passes log r j = j.1.present && is_done r log j
 
-done_same : (rounds : List Round) (log new : List Slice) → ((n : ℕ) (r : Round) (p : ℕ) (j : Job) → slice_get rounds n ≡ Some r → slice_get r.jobs p ≡ Some j → passes log r (p, j) ≡ passes new r (p, j))
+pub done_same : (rounds : List Round) (log new : List Slice) → ((n : ℕ) (r : Round) (p : ℕ) (j : Job) → slice_get rounds n ≡ Some r → slice_get r.jobs p ≡ Some j → passes log r (p, j) ≡ passes new r (p, j))
     → jobs_done rounds log ≡ jobs_done rounds new
 done_same [] log new h = refl
 done_same (r ∷ rs) log new h =
@@ -93,7 +93,7 @@ done_one (x ∷ rs) log new b (suc n) r p j at is off on same =
 
 -- ---- one more line
 
-last_more : (log : List Slice) (x : Slice) → last_end (log ++ x ∷ []) ≡ x.to
+pub last_more : (log : List Slice) (x : Slice) → last_end (log ++ x ∷ []) ≡ x.to
 last_more [] x = refl
 last_more (y ∷ []) x = refl
 last_more (y ∷ z ∷ ys) x = last_more (z ∷ ys) x

@@ -5,38 +5,34 @@ use Rattle.std.specs.declared.result.Result.{Result}
 use Rattle.std.proofs.lemmas.Bool.Decides.{nat_tests}
 use Rattle.std.proofs.lemmas.Option.{slice_get_within}
 use Rattle.htl_form.proofs.PartLaws.{none_some}
-use Rattle.htl_model.specs.Tables.{Tables}
 use Rattle.htl_audit.specs.declared.slice.Slice.{Slice}
 use Rattle.htl_audit.specs.declared.slice.LogKind.TheVariants as kind
 use Rattle.htl_audit.specs.declared.slice.LogFault.{LogFault}
 use Rattle.htl_audit.specs.Jobs.{Round}
 use Rattle.htl_audit.specs.Legal.{line_fault, any_short, fault_at, first_fault_in, jobs_done, last_end, any_job, lies_in, is_over, is_free}
 use Rattle.htl_audit.specs.Keeping.{Kept}
-use Rattle.htl_audit.specs.Lines.{IsNext, AreJudged}
-use Rattle.htl_audit.specs.Verdicts.{LogFollows, Numbers, ended, verdict_of, fault_in}
+use Rattle.htl_audit.specs.Lines.{IsLast}
+use Rattle.htl_audit.specs.Verdicts.{LogEnds, Numbers, ended, verdict_of, fault_in}
 use Rattle.htl_audit.proofs.FaultLaws.{is_fault, is_legal}
 use Rattle.htl_audit.proofs.Judging.{rest}
 
-whole_take : (xs : List Slice) (n : ℕ) → length xs ≤ n → take n xs ≡ xs
+pub whole_take : (xs : List Slice) (n : ℕ) → length xs ≤ n → take n xs ≡ xs
 whole_take [] zero h = refl
 whole_take [] (suc n) h = refl
 whole_take (x ∷ xs) zero h = absurd (omega arith)
 whole_take (x ∷ xs) (suc n) h = ap (λ z. x ∷ z) (whole_take xs n (omega (arith, h)))
 
-length_take : (xs : List Slice) (n : ℕ) → n ≤ length xs → length (take n xs) ≡ n
+pub length_take : (xs : List Slice) (n : ℕ) → n ≤ length xs → length (take n xs) ≡ n
 length_take xs zero h = refl
 length_take [] (suc n) h = absurd (omega arith)
 length_take (x ∷ xs) (suc n) h = ap suc (length_take xs n (omega (arith, h)))
 
-there : (xs : List Slice) (n : ℕ) → n < length xs → (x : Slice) × (slice_get xs n ≡ Some x)
+pub there : (xs : List Slice) (n : ℕ) → n < length xs → (x : Slice) × (slice_get xs n ≡ Some x)
 there [] n h = absurd (omega arith)
 there (x ∷ xs) zero h = (x, refl)
 there (x ∷ xs) (suc n) h = there xs n (omega (arith, h))
 
-module _ (t : Tables) (rounds : List Round) (now : ℕ) (log : List Slice) (k : Kept) (f : LogFollows t rounds now log k) where
-  j : AreJudged t rounds now [] log k
-  j = f.judged
-
+module _ (rounds : List Round) (now : ℕ) (log : List Slice) (k : Kept) (f : LogEnds rounds now log k) where
   -- a line that doesn't end before `now` is out of order
   late : (before : List Slice) (x : Slice) → now ≤ x.to → line_fault rounds now before x ≡ Some kind.Order
   late before x h = ap (λ b. cond b (Some kind.Order) (rest (any_job (λ r j. lies_in r j.1 x) rounds) (any_job (λ r j. lies_in r j.1 x && is_over r (before ++ x ∷ []) j) rounds) (any_job (λ r j. lies_in r j.1 x && not (is_free r before j.1)) rounds))) (or_last (leb x.to x.from || ltb x.from (last_end before)) (leb now x.to) (below now x.to h))
@@ -48,14 +44,14 @@ module _ (t : Tables) (rounds : List Round) (now : ℕ) (log : List Slice) (k : 
       below : (a b : ℕ) → a ≤ b → leb a b ≡ true
       below a b h = grind (arith, nat_tests)
 
-  found : (o : Option LogFault) → k.fault ≡ o → IsNext t rounds now ([] ++ take f.judged.count log) (slice_get log f.judged.count) k o → first_fault_in rounds now log ≡ fault_in (elim o as (λ _. Result Numbers LogFault) [ Some g ↦ Err g | None ↦ ended k (length log) ])
+  found : (o : Option LogFault) → k.fault ≡ o → IsLast rounds now (take f.judged.count log) (slice_get log f.judged.count) k o → first_fault_in rounds now log ≡ fault_in (elim o as (λ _. Result Numbers LogFault) [ Some g ↦ Err g | None ↦ ended k (length log) ])
   found (Some g) e n =
       is_fault rounds now log g
       (inl (record { place = f.judged.count; slice = n.0; at = n.1; earlier = λ i x below at. (f.judged.keep i x below at).0; kind = n.3; line = n.4 ∙ ap suc (length_take log f.judged.count f.judged.few) }))
   found None e n = by (ltb k.place (length log)) refl
     where
       placed : k.place ≡ f.judged.count
-      placed = n.0.place ∙ length_take log f.judged.count f.judged.few
+      placed = n.0 ∙ length_take log f.judged.count f.judged.few
 
       small : (a b : ℕ) → ltb a b ≡ true → a < b
       small a b e = grind (arith, nat_tests)
@@ -76,7 +72,7 @@ module _ (t : Tables) (rounds : List Round) (now : ℕ) (log : List Slice) (k : 
           → first_fault_in rounds now log ≡ fault_in (cond b (Err (fault_at (suc k.place) kind.Order)) (cond k.short (Err (fault_at (suc (length log)) kind.Short)) (Ok (record { jobs = k.done; slices = length log }))))
       by true g =
           let x = there log f.judged.count (omega (arith, small k.place (length log) g, placed)) in
-          let last : now ≤ x.0.to = subst (λ o. IfSome o (λ y. now ≤ y.to)) x.1 n.1 in
+          let last : now ≤ x.0.to = subst (λ o. IfSome o (λ y. now ≤ y.to)) x.1 n.2 in
           is_fault rounds now log (fault_at (suc k.place) kind.Order)
           (inl (record { place = f.judged.count; slice = x.0; at = x.1; earlier = λ i y below at. (f.judged.keep i y below at).0; kind = late (take f.judged.count log) x.0 last; line = ap suc placed }))
       by false g = by_short (omega (arith, large k.place (length log) g, placed)) k.short refl
@@ -89,7 +85,7 @@ module _ (t : Tables) (rounds : List Round) (now : ℕ) (log : List Slice) (k : 
   pub numbers_are : first_fault_in rounds now log ≡ None → (k.done ≡ jobs_done rounds log) × (verdict_of k (length log) ≡ Ok (record { jobs = k.done; slices = length log }))
   numbers_are legal = by k.fault refl f.judged.next (sym verdict_is ∙ legal)
     where
-      by : (o : Option LogFault) → k.fault ≡ o → IsNext t rounds now ([] ++ take f.judged.count log) (slice_get log f.judged.count) k o
+      by : (o : Option LogFault) → k.fault ≡ o → IsLast rounds now (take f.judged.count log) (slice_get log f.judged.count) k o
           → fault_in (elim o as (λ _. Result Numbers LogFault) [ Some g ↦ Err g | None ↦ ended k (length log) ]) ≡ None
           → (k.done ≡ jobs_done rounds log) × (elim o as (λ _. Result Numbers LogFault) [ Some g ↦ Err g | None ↦ ended k (length log) ] ≡ Ok (record { jobs = k.done; slices = length log }))
       by (Some g) e n h = absurd (none_some g (sym h))
@@ -104,5 +100,5 @@ module _ (t : Tables) (rounds : List Round) (now : ℕ) (log : List Slice) (k : 
           all true c g h = absurd (none_some (fault_at (suc k.place) kind.Order) (sym h))
           all false true g h = absurd (none_some (fault_at (suc (length log)) kind.Short) (sym h))
           all false false g h =
-              let end : length log ≤ f.judged.count = omega (arith, large k.place (length log) g, n.0.place, length_take log f.judged.count f.judged.few) in
-              (n.0.done ∙ ap (jobs_done rounds) (whole_take log f.judged.count end), refl)
+              let end : length log ≤ f.judged.count = omega (arith, large k.place (length log) g, n.0, length_take log f.judged.count f.judged.few) in
+              (n.1 ∙ ap (jobs_done rounds) (whole_take log f.judged.count end), refl)

@@ -1,9 +1,11 @@
 -- What an auditor keeps of a log, by invocation, and how it judges the next line.
-use Rattle.std.specs.Prelude.{ℕ, suc, ◌+◌, ◌-◌, Bool, true, false, cond, not, ◌&&◌, ◌||◌, eqb, leb, ltb, List, [], ◌∷◌, get_or, slice_get, set, Option, Some, None}
+use Rattle.std.specs.Prelude.{zero, ℕ, suc, ◌+◌, ◌-◌, Bool, true, false, cond, not, ◌&&◌, ◌||◌, eqb, leb, ltb, List, [], ◌∷◌, get_or, length, replicate, slice_get, set, Option, Some, None}
 use Rattle.htl_model.specs.declared.parts.Inv.{Inv}
 use Rattle.htl_model.specs.Functions.{of_bool}
 use Rattle.htl_model.specs.PortOrder.{feeds}
-use Rattle.htl_model.specs.Tables.{Tables, release, window_end}
+use Rattle.htl_model.specs.Selected.{is_at}
+use Rattle.htl_model.specs.Tables.{Tables, is_concrete, mode_module, release, window_end}
+use Rattle.htl_emach.specs.Calendars.{list_at}
 use Rattle.htl_audit.specs.declared.slice.Slice.{Slice}
 use Rattle.htl_audit.specs.declared.slice.LogKind.{LogKind}
 use Rattle.htl_audit.specs.declared.slice.LogKind.TheVariants as kind
@@ -111,3 +113,63 @@ judged_to t now (x ∷ xs) k =
       | Some f ↦ k
       | None ↦ cond (ltb x.to now) (judged_to t now xs (judged t now x k)) k
     ]
+
+-- ---- windows that end, and rounds that begin
+
+-- the window of the invocation's job ended before the instant, and the job has fewer ticks than it takes
+abbrev pub fell_short : Tables → ℕ → Kept → ℕ → Bool
+fell_short t now k i = has_job k.roster i && ltb (start_at k.roster i + end_at t i) now && ltb (sum_at k.sums i) (length_at k.roster i)
+
+-- that is so of some of the invocations from number n on
+abbrev pub any_fell_short_from : Tables → ℕ → Kept → ℕ → List Inv → Bool
+any_fell_short_from t now k n [] = false
+any_fell_short_from t now k n (x ∷ xs) = fell_short t now k n || any_fell_short_from t now k (suc n) xs
+
+abbrev pub any_fell_short : Tables → ℕ → Kept → Bool
+any_fell_short t now k = any_fell_short_from t now k 0 t.invs
+
+abbrev pub settled : Tables → ℕ → Kept → Kept
+settled t now k = record k { short = k.short || any_fell_short t now k }
+
+-- the lines are judged that end before the instant, and so are the jobs whose windows ended before it
+abbrev pub passed : Tables → ℕ → List Slice → Kept → Kept
+passed t now lines k = settled t now (judged_to t now lines k)
+
+-- the invocation is concrete and its mode runs, where the modules are in these modes
+abbrev pub runs_in : Tables → List (Option ℕ) → ℕ → Bool
+runs_in t modes i = elim (slice_get t.invs i) [ Some x ↦ is_concrete t x && is_at (list_at modes (mode_module t x.mode)) x.mode | None ↦ false ]
+
+-- a round of the invocation begins at s, in which a job takes n ticks
+abbrev pub renewed : Tables → List (Option ℕ) → ℕ → ℕ → ℕ → Kept → Kept
+renewed t modes s n i k =
+    record k {
+      roster = record { stands = set k.roster.stands i (runs_in t modes i); starts = set k.roster.starts i s; lengths = set k.roster.lengths i n };
+      sums = set k.sums i 0;
+    }
+
+-- rounds of the invocations below number n begin
+abbrev pub renewed_to : Tables → List (Option ℕ) → List ℕ → ℕ → ℕ → Kept → Kept
+renewed_to t modes takes s zero k = k
+renewed_to t modes takes s (suc n) k = renewed t modes s (get_or takes n 0) n (renewed_to t modes takes s n k)
+
+abbrev pub begun : Tables → List (Option ℕ) → List ℕ → ℕ → Kept → Kept
+begun t modes takes s k = renewed_to t modes takes s (length t.invs) k
+
+-- the job of the invocation takes n ticks, where it is released at `now` or later
+abbrev pub taken : Tables → ℕ → ℕ → ℕ → Kept → Kept
+taken t now i n k =
+    cond (leb now (start_at k.roster i + release_at t i))
+    (record k { roster = record { stands = k.roster.stands; starts = k.roster.starts; lengths = set k.roster.lengths i n } }) k
+
+-- before any round, of so many invocations
+abbrev pub first_kept : ℕ → Kept
+first_kept n =
+    record {
+      place = 0;
+      fault = None;
+      end = 0;
+      roster = record { stands = replicate n false; starts = replicate n 0; lengths = replicate n 0 };
+      sums = replicate n 0;
+      done = 0;
+      short = false;
+    }

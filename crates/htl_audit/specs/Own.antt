@@ -7,12 +7,8 @@ use Rattle.htl_model.specs.Tables.{Tables}
 use Rattle.htl_walk.specs.declared.job.Job.{Job}
 use Rattle.htl_walk.specs.declared.schedule.SInstr.{SInstr}
 use Rattle.htl_walk.specs.Walk.{Left, job_at}
-use Rattle.htl_refine.specs.Records.{AreTookWithin, round_at, left_at, rounds_before}
-use Rattle.htl_object.specs.declared.object.Object.{Object}
-use Rattle.htl_object.specs.Accepted.{IsAccepted}
-use Rattle.htl_machine.specs.Programs.{schedules_of}
+use Rattle.htl_refine.specs.Records.{round_at, left_at, rounds_before}
 use Rattle.htl_audit.specs.declared.slice.Slice.{Slice}
-use Rattle.htl_audit.specs.Legal.{IsLegal}
 
 -- the slice of a record, if it has one
 abbrev pub own_slice : List Job → ℕ × Left → Option Slice
@@ -34,7 +30,3 @@ own_at t schedules es (Some period) now = up_to (λ k. own_of t schedules es (k 
 -- the slices that close by the end of the run
 abbrev pub own_log : Tables → List (List SInstr) → List Event → ℕ → List Slice
 own_log t schedules es end = up_to (own_at t schedules es (root_period t)) (suc end)
-
--- the job lines of an accepted object's own run make a legal log
-abbrev pub OwnLogIsLegal : Type 0
-OwnLogIsLegal = (o : Object) (es : List Event) (end : ℕ) → IsAccepted o → AreTookWithin o.tables es → IsLegal o.tables es end (own_log o.tables (schedules_of o) es end)

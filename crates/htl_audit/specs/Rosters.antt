@@ -55,3 +55,10 @@ pub record AreSummed (t : Tables) (rounds : List Round) (log : List Slice) (k : 
   pub room : length k.sums ≡ length k.roster.stands
   pub sums : (r : Round) (p : ℕ) (j : Job) → IsIn rounds r p j → IsCurrent t k.roster r p j → ticks r j log ≡ sum_at k.sums j.inv
   pub done : k.done ≡ jobs_done rounds log
+
+-- every list of what is kept by invocation has so many entries
+pub record IsSized (n : ℕ) (k : Kept) : Type 0 where
+  pub stands : length k.roster.stands ≡ n
+  pub starts : length k.roster.starts ≡ n
+  pub lengths : length k.roster.lengths ≡ n
+  pub sums : length k.sums ≡ n

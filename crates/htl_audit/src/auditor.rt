@@ -1,18 +1,32 @@
 // The auditor: a machine for the values, and what is kept of a log.
-ghost use Rattle.std.specs.Prelude.{◌≡◌, ◌++◌, ◌∷◌, [], ◌≤◌, ◌<◌, ℕ, suc, List, length, Some, None, Ok, Err, IfOk, IfErr};
+ghost use Rattle.std.specs.Prelude.{◌≡◌, ◌++◌, ◌∷◌, [], ◌≤◌, ◌<◌, ℕ, suc, List, length, Some, None, Ok, Err, IfOk, IfErr, All, map, drop, ◌%◌, true, false, OnOk, OnErr};
 ghost use Rattle.htl_model.specs.declared.event.Event.{Event as Told};
 ghost use Rattle.htl_model.specs.declared.event.Event.TheVariants as event;
-ghost use Rattle.htl_machine.specs.Calls.{IsSensorValue};
+ghost use Rattle.htl_machine.specs.Calls.{IsSensorValue, IsLength, text_between};
+ghost use Rattle.htl_model.specs.Tables.{task_worst as task_worst_of};
 ghost use Rattle.htl_machine.specs.Follows.{shown_as};
-ghost use Rattle.htl_audit.specs.Auditing.{Follows, IsAudited};
+ghost use Rattle.htl_base.specs.declared.limits.TheConstants as limit;
+ghost use Rattle.htl_console.specs.declared.shown.Shown.TheVariants.{Values};
+ghost use Rattle.htl_edge.specs.Content.{Puts};
+ghost use Rattle.htl_machine.specs.Calls as machines;
+ghost use Rattle.htl_model.specs.Frames.{root_periods, begins};
+ghost use Rattle.htl_object.specs.Accepted.{IsAccepted};
+ghost use Rattle.htl_audit.specs.Auditing.{AreSized, AreNone, IsGone, Follows, IsAudited, IsStopped, IsSameAudit, IsNextStart};
+ghost use Rattle.htl_audit.specs.Keeping.{passed, begun};
 ghost use Rattle.htl_audit.specs.Jobs.{all_rounds};
 ghost use Rattle.htl_audit.specs.Legal.{first_fault, jobs_done};
 ghost use Rattle.htl_audit.specs.Verdicts.{verdict_of};
 
 use crate::ledger::Ledger;
 use crate::{LogFault, LogKind, Slice};
-use htl_base::{Time, Value};
+use htl_base::{Memory, Seq, Time, Value};
+use htl_console::Shown;
+use htl_edge::{Failed, Sink};
+use htl_load::Loaded;
 use htl_machine::Machine;
+use htl_model::Tables;
+use htl_model::lookup::task_worst;
+use std::alloc::{AllocError, Global};
 use std::marker::Model;
 
 /// The numbers of a legal log.
@@ -26,17 +40,19 @@ pub struct AuditTotals {
     pub slices: u64,
 }
 
-/// An accepted object and a job log. It follows events as a machine does.
+/// An accepted object and a job log. It follows events as a machine does: its values and modes are those of a machine that it holds,
+/// whatever the log says, and it judges the lines of the log against the jobs of the rounds.
 #[derive(Drop)]
 pub struct Auditor<'a> {
+    loaded: &'a Loaded,
     machine: Machine<'a>,
     log: &'a [Slice],
+    takes: Seq<Time>,
     ledger: Ledger,
 }
 
 impl<'a> Model for Auditor<'a> {
-    ghost use Rattle.htl_audit.specs.Auditing.{Audit};
-    ghost use Rattle.htl_audit.specs.Growing.{HaveRounds};
+    ghost use Rattle.htl_audit.specs.Auditing.{Audit, IsAuditor};
     ghost use Rattle.htl_object.specs.contracts.object.Object as object_row;
     ghost use Rattle.std.specs.Coded.{codes};
 
@@ -44,21 +60,259 @@ impl<'a> Model for Auditor<'a> {
 
     ghost coded = { Prim.hlevel (codes, object_row.the_row.coded) };
 
-    ghost view = { λ a. record { machine = a.machine; log = a.log.now; kept = a.ledger } };
+    ghost view = { λ a. record { machine = a.machine; log = a.log.now; takes = a.takes; kept = a.ledger } };
 
-    ghost invariant = { λ a. HaveRounds a.machine.object.tables };
+    ghost invariant = { λ a. IsAuditor a.loaded.now a.machine a.takes a.log.now a.ledger };
+}
+
+// The worst cases of the invocations, in ticks.
+fn worst_cases(alloc: Global, t: &Tables) -> Result<Vec<Time>, AllocError>
+    ensures { IfOk result (λ v. v.items ≡ map (λ x. task_worst_of t.now x.task) t.now.invs) }
+{
+    let invs = t.parts().invs.as_slice();
+    let mut worst = Vec::new(alloc);
+    for k in 0..invs.len() {
+        worst.push(task_worst(t, invs[k].task) as u64)?;
+    }
+    Ok(worst)
+}
+
+// The first multiple of a period from an instant on.
+fn next_multiple(at: Time, period: Time) -> Time
+    requires some { 1 ≤ period }
+    requires small { period ≤ 1000000 }
+    requires at { at ≤ 1000000000 }
+    ensures low { at ≤ result }
+    ensures whole { result % period ≡ 0 }
+    ensures first { (n : ℕ) → at ≤ n → n < result → n % period ≡ 0 → ⊥ }
+{
+    let over = at % period;
+    if over == 0 { at } else { at + (period - over) }
 }
 
 impl<'a> Auditor<'a> {
+    /// Stands before instant 0 and has followed no event. Each line of the log is of an invocation of the object. All memory of the
+    /// audit is taken here; want of it is the one refusal.
+    pub fn new(alloc: Global, l: &'a Loaded, log: &'a [Slice]) -> Result<Auditor<'a>, Memory>
+        requires lines { All (λ x. x.inv < length l.now.tables.invs) log.now }
+        ensures follows { IfOk result (λ a. Follows a []) }
+        ensures object { IfOk result (λ a. a.machine.object ≡ l.now) }
+        ensures log { IfOk result (λ a. a.log ≡ log.now) }
+    {
+        let t = l.tables();
+        let machine = Machine::new(alloc, l, Shown::Values)?;
+        let Ok(takes) = worst_cases(alloc, t) else {
+            return Err(Memory);
+        };
+        let Ok(ledger) = Ledger::new(alloc, t) else {
+            return Err(Memory);
+        };
+        Ok(Auditor {
+            loaded: l,
+            machine,
+            log,
+            takes: Seq::new(takes),
+            ledger,
+        })
+    }
+
     /// What a sensor shows from the last reading on. The machine isn't spent, the communicator is a sensor, and the value is of its
     /// type.
     pub fn sense(&mut self, comm: u16, x: Value)
         requires follows { (es : List Told) × Follows self.old es }
         requires sensor { IsSensorValue self.old.machine.object.tables comm x }
         ensures follows { (es : List Told) → Follows self.old es → Follows self.new (es ++ event.Sense comm x ∷ []) }
-        ensures kept { self.new.kept ≡ self.old.kept }
+        ensures same { IsSameAudit self.old self.new }
     {
         self.machine.sense(comm, x);
+    }
+
+    /// How many ticks jobs of an invocation take that are released at the last reading or later. The machine isn't spent, the
+    /// invocation is concrete, and the length is from 1 to its worst case.
+    pub fn took(&mut self, inv: u16, ticks: Time)
+        requires follows { (es : List Told) × Follows self.old es }
+        requires ticks { IsLength self.old.machine.object.tables inv ticks }
+        ensures follows { (es : List Told) → Follows self.old es → Follows self.new (es ++ event.Took inv ticks ∷ []) }
+        ensures same { IsSameAudit self.old self.new }
+    {
+        let now = self.machine.reading();
+        self.ledger.take(self.loaded.tables(), now, inv, ticks);
+        self.takes.set(inv as usize, ticks);
+        self.machine.took(inv, ticks);
+    }
+
+    // Judges the lines that end before the instant, and the jobs whose windows do.
+    fn pass(&mut self, now: Time)
+        requires { now ≤ 1000000001 }
+        ensures kept { self.new ≡ record self.old { kept = passed self.old.machine.object.tables now (drop self.old.kept.place self.old.log) self.old.kept } }
+        ensures accepted { IsAccepted self.old.machine.object }
+        ensures sized { AreSized self.old }
+    {
+        let t = self.loaded.tables();
+        t.keeps_ranges();
+        self.ledger.judge_to(t, now, self.log);
+        self.ledger.settle(t, now);
+    }
+
+    // Begins the rounds of an instant, in the modes of the machine.
+    fn begin(&mut self, at: Time)
+        ensures { self.new ≡ record self.old { kept = begun self.old.machine.object.tables self.old.machine.standing.calendar.modes self.old.takes at self.old.kept } }
+    {
+        self.ledger.begin(
+            self.loaded.tables(),
+            &self.machine,
+            self.takes.as_slice(),
+            at,
+        );
+    }
+
+    // Lets the machine do all instants before `to`.
+    fn step<W: Sink>(&mut self, to: Time, sink: &mut W) -> Result<(), Failed>
+        requires follows { (es : List Told) × machines.Follows self.old.machine es }
+        requires order { self.old.machine.held.reading ≤ to }
+        requires at { to ≤ limit.MAX_INSTANT }
+        ensures text { (es : List Told) → machines.Follows self.old.machine es → Puts (W.written sink.old) (W.written sink.new) (W.faults sink.old) (W.faults sink.new) (text_between self.old.machine.object es self.old.machine.show self.old.machine.held.reading to) result }
+        ensures follows { (es : List Told) → machines.Follows self.old.machine es → OnOk result (machines.Follows self.new.machine (es ++ event.At to ∷ [])) }
+        ensures spent { OnErr result (self.new.machine.held.spent ≡ true) }
+        ensures run { machines.IsSameRun self.old.machine self.new.machine }
+        ensures rest { self.new ≡ record self.old { machine = self.new.machine } }
+    {
+        self.machine.advance(to, sink)
+    }
+
+    // Lets the machine do all instants up to and including `to`.
+    fn last<W: Sink>(&mut self, to: Time, sink: &mut W) -> Result<(), Failed>
+        requires follows { (es : List Told) × machines.Follows self.old.machine es }
+        requires order { self.old.machine.held.reading ≤ to }
+        requires at { to ≤ limit.MAX_INSTANT }
+        ensures text { (es : List Told) → machines.Follows self.old.machine es → Puts (W.written sink.old) (W.written sink.new) (W.faults sink.old) (W.faults sink.new) (text_between self.old.machine.object es self.old.machine.show self.old.machine.held.reading (suc to)) result }
+        ensures finished { (es : List Told) → machines.Follows self.old.machine es → OnOk result (machines.IsFinished self.new.machine es to) }
+        ensures spent { OnErr result (self.new.machine.held.spent ≡ true) }
+        ensures run { machines.IsSameRun self.old.machine self.new.machine }
+        ensures rest { self.new ≡ record self.old { machine = self.new.machine } }
+    {
+        self.machine.finish(to, sink)
+    }
+
+    // Goes over an instant at which rounds begin, where none begins before.
+    fn turn<W: Sink>(&mut self, at: Time, sink: &mut W) -> Result<(), Failed>
+        requires stopped { (es : List Told) × IsStopped self.old es }
+        requires order { self.old.machine.held.reading ≤ at }
+        requires at { at < limit.MAX_INSTANT }
+        requires start { begins (root_periods self.old.machine.object.tables) at ≡ true }
+        requires none { (n : ℕ) → self.old.machine.held.reading ≤ n → n < at → begins (root_periods self.old.machine.object.tables) n ≡ false }
+        ensures text { (es : List Told) → IsStopped self.old es → Puts (W.written sink.old) (W.written sink.new) (W.faults sink.old) (W.faults sink.new) (text_between self.old.machine.object es Values self.old.machine.held.reading (suc at)) result }
+        ensures stopped { (es : List Told) → IsStopped self.old es → OnOk result (IsStopped self.new es) }
+        ensures reading { OnOk result (self.new.machine.held.reading ≡ suc at) }
+        ensures spent { OnErr result (self.new.machine.held.spent ≡ true) }
+        ensures same { IsSameAudit self.old self.new }
+    {
+        self.pass(at + 1);
+        if let Err(failed) = self.step(at + 1, sink) {
+            return Err(failed);
+        }
+        self.begin(at);
+        Ok(())
+    }
+
+    // The first start of rounds from the last reading on.
+    fn next_start(&self) -> Option<Time>
+        requires { self.now.machine.held.reading ≤ 1000000000 }
+        ensures { IsNextStart self.now.machine.object.tables self.now.machine.held.reading result }
+    {
+        match self.loaded.tables().period() {
+            Some(period) => Some(next_multiple(self.machine.reading(), period)),
+            None => None,
+        }
+    }
+
+    // The first start of rounds from the last reading on, or `to` where none comes before.
+    fn next_stop(&self, to: Time) -> Time
+        requires order { self.now.machine.held.reading ≤ to }
+        requires at { to ≤ limit.MAX_INSTANT }
+        ensures low { self.now.machine.held.reading ≤ result }
+        ensures high { result ≤ to }
+        ensures start { result < to → begins (root_periods self.now.machine.object.tables) result ≡ true }
+        ensures none { AreNone self.now result }
+    {
+        if let Some(at) = self.next_start() {
+            if at < to {
+                return at;
+            }
+        }
+        to
+    }
+
+    // Goes over all instants before `to` at which rounds begin.
+    fn go<W: Sink>(&mut self, to: Time, sink: &mut W) -> Result<(), Failed>
+        requires stopped { (es : List Told) × IsStopped self.old es }
+        requires order { self.old.machine.held.reading ≤ to }
+        requires at { to ≤ limit.MAX_INSTANT }
+        ensures text { (es : List Told) → IsStopped self.old es → IsGone self.old self.new es to (W.written sink.old) (W.written sink.new) (W.faults sink.old) (W.faults sink.new) result }
+        ensures stopped { (es : List Told) → IsStopped self.old es → OnOk result (IsStopped self.new es) }
+        ensures low { OnOk result (self.old.machine.held.reading ≤ self.new.machine.held.reading) }
+        ensures high { OnOk result (self.new.machine.held.reading ≤ to) }
+        ensures none { OnOk result (AreNone self.new to) }
+        ensures spent { OnErr result (self.new.machine.held.spent ≡ true) }
+        ensures same { IsSameAudit self.old self.new }
+    {
+        'starts: loop {
+            let at = self.next_stop(to);
+            if at == to {
+                return Ok(());
+            }
+            if let Err(failed) = self.turn(at, sink) {
+                return Err(failed);
+            }
+        }
+    }
+
+    /// Does all instants before `to`, in ticks, writes their v and m lines, and makes `to` the reading; judges the lines of the log
+    /// that end before it. The machine isn't spent, and `to` is from the reading to 1,000,000,000. `Failed` comes only where the sink's
+    /// count rose: then a prefix of the lines was written, and the auditor is spent. Beside the instants at which something is due it
+    /// goes over those at which rounds begin.
+    pub fn advance<W: Sink>(&mut self, to: Time, sink: &mut W) -> Result<(), Failed>
+        requires follows { (es : List Told) × Follows self.old es }
+        requires order { self.old.machine.held.reading ≤ to }
+        requires at { to ≤ limit.MAX_INSTANT }
+        ensures text { (es : List Told) → Follows self.old es → Puts (W.written sink.old) (W.written sink.new) (W.faults sink.old) (W.faults sink.new) (text_between self.old.machine.object es Values self.old.machine.held.reading to) result }
+        ensures follows { (es : List Told) → Follows self.old es → OnOk result (Follows self.new (es ++ event.At to ∷ [])) }
+        ensures spent { OnErr result (self.new.machine.held.spent ≡ true) }
+        ensures same { IsSameAudit self.old self.new }
+    {
+        self.stop();
+        if let Err(failed) = self.go(to, sink) {
+            return Err(failed);
+        }
+        self.pass(to);
+        self.step(to, sink)
+    }
+
+    /// Does all instants up to and including `to`, in ticks, writes their v and m lines, and spends the auditor; judges the lines of the
+    /// log that end by then. The machine isn't spent, and `to` is from the reading to 1,000,000,000. `Failed` comes only where the
+    /// sink's count rose: then a prefix of the lines was written, and the auditor is spent.
+    pub fn finish<W: Sink>(&mut self, to: Time, sink: &mut W) -> Result<(), Failed>
+        requires follows { (es : List Told) × Follows self.old es }
+        requires order { self.old.machine.held.reading ≤ to }
+        requires at { to ≤ limit.MAX_INSTANT }
+        ensures text { (es : List Told) → Follows self.old es → Puts (W.written sink.old) (W.written sink.new) (W.faults sink.old) (W.faults sink.new) (text_between self.old.machine.object es Values self.old.machine.held.reading (suc to)) result }
+        ensures audited { (es : List Told) → Follows self.old es → OnOk result (IsAudited self.new es to) }
+        ensures spent { OnErr result (self.new.machine.held.spent ≡ true) }
+        ensures same { IsSameAudit self.old self.new }
+    {
+        self.stop();
+        if let Err(failed) = self.go(to, sink) {
+            return Err(failed);
+        }
+        self.pass(to + 1);
+        self.last(to, sink)
+    }
+
+    // States that what was read is a stop; there is nothing to run.
+    fn stop(&self)
+        ensures accepted { IsAccepted self.now.machine.object }
+    {
+        self.loaded.tables();
     }
 
     /// The numbers of the log, or its first fault, once the run has ended.

@@ -1,14 +1,19 @@
 // What is kept of a log while its run goes on.
-ghost use Rattle.std.specs.Prelude.{◌≡◌, ◌<◌, ◌≤◌, ◌+◌, ◌-◌, ◌^◌, length, drop, None, All};
+ghost use Rattle.std.specs.Prelude.{◌≡◌, ◌<◌, ◌≤◌, ◌+◌, ◌-◌, ◌^◌, leb, ltb, ℕ, get_or, length, drop, None, All, IfOk};
+ghost use Rattle.htl_emach.specs.Calendars.{list_at};
+ghost use Rattle.htl_model.specs.Selected.{is_at};
 ghost use Rattle.htl_audit.specs.Saying.{Says};
 ghost use Rattle.htl_audit.specs.Verdicts.{verdict_of};
-ghost use Rattle.htl_audit.specs.Keeping.{is_between, is_inside as is_inside_of, kind_of as kind_of_line, judged, judged_to, is_clear_of as is_clear_of_job, is_free_from, is_free_at, with_slice, sum_at, length_at, ticks_of, with_kind};
+ghost use Rattle.htl_audit.specs.Keeping.{is_between, is_inside as is_inside_of, kind_of as kind_of_line, judged, judged_to, is_clear_of as is_clear_of_job, is_free_from, is_free_at, with_slice, sum_at, length_at, ticks_of, with_kind, fell_short as fell_short_of, any_fell_short as any_fell_short_of, settled, renewed, begun, taken, runs_in, first_kept};
 
 use crate::auditor::AuditTotals;
 use crate::ports::feeds;
 use crate::{LogFault, LogKind, Slice};
 use htl_base::{Seq, Time};
+use htl_machine::Machine;
 use htl_model::Tables;
+use htl_model::lookup::{is_concrete, mode_module};
+use std::alloc::{AllocError, Global};
 use std::marker::Model;
 
 /// The lines that were judged and the jobs of the rounds that began last, by invocation.
@@ -44,7 +49,62 @@ fn lies_in(x: Slice, start: Time, release: Time, end: Time) -> bool
     start <= x.from && release <= x.from - start && x.to - start <= end
 }
 
+// Whether a window that ends this long after the start of its round has ended before the instant.
+fn ends_before(start: Time, end: Time, now: Time) -> bool
+    ensures { result ≡ ltb (start + end) now }
+{
+    start <= now && end < now - start
+}
+
+// Whether a window that begins this long after the start of its round begins at the instant or later.
+fn begins_from(start: Time, release: Time, now: Time) -> bool
+    ensures { result ≡ leb now (start + release) }
+{
+    now <= start || now - start <= release
+}
+
+// Whether the machine stands in this mode.
+fn stands_in(machine: &Machine<'_>, module: u16, mode: u16) -> bool
+    ensures { result ≡ is_at (list_at machine.now.standing.calendar.modes «module») mode }
+{
+    match machine.mode(module) {
+        Some(m) => m == mode,
+        None => false,
+    }
+}
+
+// Whether the invocation is concrete and its mode runs.
+fn runs(t: &Tables, machine: &Machine<'_>, i: usize) -> bool
+    requires { i < length t.now.invs }
+    ensures { result ≡ runs_in t.now machine.now.standing.calendar.modes i }
+{
+    let inv = &t.parts().invs.as_slice()[i];
+    is_concrete(t, inv) && stands_in(machine, mode_module(t, inv.mode), inv.mode)
+}
+
 impl Ledger {
+    /// Keeps nothing yet of the invocations of tables. Want of memory is the one refusal.
+    pub fn new(alloc: Global, t: &Tables) -> Result<Ledger, AllocError>
+        ensures { IfOk result (λ l. l ≡ first_kept (length t.now.invs)) }
+    {
+        let count = t.parts().invs.as_slice().len();
+        let stands = vec![in alloc; false; count]?;
+        let starts = vec![in alloc; 0; count]?;
+        let lengths = vec![in alloc; 0; count]?;
+        let sums = vec![in alloc; 0; count]?;
+        Ok(Ledger {
+            place: 0,
+            fault: None,
+            end: 0,
+            stands: Seq::new(stands),
+            starts: Seq::new(starts),
+            lengths: Seq::new(lengths),
+            sums: Seq::new(sums),
+            done: 0,
+            short: false,
+        })
+    }
+
     // Whether the slice, which isn't empty, lies in the window of its invocation's job.
     fn is_inside(&self, t: &Tables, x: Slice) -> bool
         requires inv { x.inv < length t.now.invs }
@@ -163,6 +223,84 @@ impl Ledger {
                 return;
             }
             self.judge(t, now, log[n]);
+        }
+    }
+
+    // Whether the window of the invocation's job ended before the instant, and the job has fewer ticks than it takes.
+    fn fell_short(&self, t: &Tables, now: Time, n: usize) -> bool
+        requires n { n < length t.now.invs }
+        requires rows { length self.now.roster.stands ≡ length t.now.invs }
+        requires few { length t.now.invs ≤ 65536 }
+        ensures { result ≡ fell_short_of t.now now self.now n }
+    {
+        let window = t.window(n as u16);
+        self.stands.as_slice()[n]
+            && ends_before(self.starts.as_slice()[n], window.end, now)
+            && self.sums.as_slice()[n] < self.lengths.as_slice()[n]
+    }
+
+    // Whether that is so of some invocation.
+    fn any_fell_short(&self, t: &Tables, now: Time) -> bool
+        requires rows { length self.now.roster.stands ≡ length t.now.invs }
+        requires few { length t.now.invs ≤ 65536 }
+        ensures { result ≡ any_fell_short_of t.now now self.now }
+    {
+        let invs = t.parts().invs.as_slice();
+        for n in 0..invs.len() {
+            if self.fell_short(t, now, n) {
+                return true;
+            }
+        }
+        false
+    }
+
+    /// Notes whether a job fell short whose window ended before instant `now`.
+    pub fn settle(&mut self, t: &Tables, now: Time)
+        requires rows { length self.old.roster.stands ≡ length t.now.invs }
+        requires few { length t.now.invs ≤ 65536 }
+        ensures { self.new ≡ settled t.now now self.old }
+    {
+        if self.any_fell_short(t, now) {
+            self.short = true;
+        }
+    }
+
+    // A round of the invocation begins at `at`, in which a job takes so long.
+    fn renew(&mut self, t: &Tables, machine: &Machine<'_>, ticks: Time, at: Time, i: usize)
+        requires i { i < length t.now.invs }
+        requires rows { length self.old.roster.stands ≡ length t.now.invs }
+        requires small { ticks ≤ 1000000 }
+        ensures { self.new ≡ renewed t.now machine.now.standing.calendar.modes at ticks i self.old }
+    {
+        self.stands.set(i, runs(t, machine, i));
+        self.starts.set(i, at);
+        self.lengths.set(i, ticks);
+        self.sums.set(i, 0);
+    }
+
+    /// Rounds of all invocations begin at `at`, in the modes of the machine; their jobs take so long.
+    pub fn begin(&mut self, t: &Tables, machine: &Machine<'_>, takes: &[Time], at: Time)
+        requires rows { length self.old.roster.stands ≡ length t.now.invs }
+        requires takes { length takes.now ≡ length t.now.invs }
+        requires small { (i : ℕ) → get_or takes.now i 0 ≤ 1000000 }
+        ensures { self.new ≡ begun t.now machine.now.standing.calendar.modes takes.now at self.old }
+    {
+        for i in 0..takes.len() {
+            self.renew(t, machine, takes[i], at, i);
+        }
+    }
+
+    /// The job of the invocation takes so long, where it is released at instant `now` or later.
+    pub fn take(&mut self, t: &Tables, now: Time, inv: u16, ticks: Time)
+        requires inv { inv < length t.now.invs }
+        requires rows { length self.old.roster.stands ≡ length t.now.invs }
+        requires small { ticks ≤ 1000000 }
+        ensures { self.new ≡ taken t.now now inv ticks self.old }
+    {
+        let i = inv as usize;
+        let window = t.window(inv);
+        if begins_from(self.starts.as_slice()[i], window.release, now) {
+            self.lengths.set(i, ticks);
         }
     }
 

@@ -2,6 +2,7 @@
 ghost use Rattle.std.specs.Prelude.{◌≡◌, ◌≤◌, ◌<◌, ◌-◌, ◌+◌, ◌++◌, ℕ, suc, List, [], ◌∷◌, length, get_or, IfOk, IfSome, OnOk, OnErr, pos, true, false};
 ghost use Rattle.htl_base.specs.declared.limits.TheConstants as limit;
 ghost use Rattle.htl_edge.specs.Content.{Puts};
+ghost use Rattle.htl_emach.specs.Calendars.{list_at};
 ghost use Rattle.htl_model.specs.declared.event.Event.{Event as Told};
 ghost use Rattle.htl_model.specs.declared.event.Event.TheVariants as event;
 ghost use Rattle.htl_machine.specs.Calls.{Follows, IsSensorValue, IsLength, IsSameRun, IsFinished, IsUpTo, first_seen, number_by, schedule_by, text_between};
@@ -378,6 +379,13 @@ impl<'a> Machine<'a> {
         ensures { result ≡ self.now.held.reading }
     {
         self.reading
+    }
+
+    /// The mode in which a module was at the last instant that was done; None where it was inactive, and before instant 0.
+    pub fn mode(&self, module: u16) -> Option<u16>
+        ensures { result ≡ list_at self.now.standing.calendar.modes «module» }
+    {
+        self.emach.mode(module)
     }
 
     /// Whether the run has ended: `finish` was called, or a sink refused.

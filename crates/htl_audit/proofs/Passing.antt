@@ -1,0 +1,193 @@
+-- From an instant to a later one over the same rounds: what an auditor follows of a log carries over.
+use Rattle.std.proofs.Common.{◌≡◌, ℕ, zero, suc, ◌+◌, ◌-◌, ◌≤◌, ◌<◌, ◌⊎◌, inl, inr, Bool, true, false, cond, not, ◌&&◌, ◌||◌, ltb, List, [], ◌∷◌, ◌++◌, length, take, drop, Option, Some, None, IfSome, is_some, refl, sym, ◌∙◌, ap, subst, arith}
+use Rattle.std.specs.Prelude.{slice_get}
+use Rattle.std.proofs.lemmas.Bool.Decides.{nat_tests}
+use Rattle.htl_form.proofs.PartLaws.{none_some}
+use Rattle.htl_model.specs.Tables.{Tables}
+use Rattle.htl_audit.specs.declared.slice.Slice.{Slice}
+use Rattle.htl_audit.specs.declared.slice.LogKind.{LogKind}
+use Rattle.htl_audit.specs.declared.slice.LogKind.TheVariants as kind
+use Rattle.htl_audit.specs.declared.slice.LogFault.{LogFault}
+use Rattle.htl_audit.specs.Jobs.{Round}
+use Rattle.htl_audit.specs.Legal.{any_short, last_end, line_fault, is_out_of_order, any_job, lies_in, is_over, is_free}
+use Rattle.htl_audit.specs.Agreeing.{Agree}
+use Rattle.htl_audit.specs.Keeping.{Kept, start_at, kind_of, with_kind, judged, judged_to, settled, passed, any_fell_short}
+use Rattle.htl_audit.specs.Lines.{IsNext, AreJudged, IsLate, BeganBefore}
+use Rattle.htl_audit.specs.Rosters.{AreSummed}
+use Rattle.htl_audit.specs.Verdicts.{LogFollows}
+use Rattle.htl_audit.proofs.Judging.{rest}
+use Rattle.htl_audit.proofs.Onward.{fault_stays, lines_between, take_both, get_drop, in_front, is_some_slice}
+use Rattle.htl_audit.proofs.Settling.{short_later}
+use Rattle.htl_audit.proofs.Steps.{judged_stopped, judged_roster}
+use Rattle.htl_audit.proofs.Summing.{last_more}
+use Rattle.htl_audit.proofs.Verdicts.{length_take}
+
+-- ---- judging leaves the roster and the jobs that fell short, and passes on no fault
+
+judged_short : (t : Tables) (now : ℕ) (x : Slice) (k : Kept) → (judged t now x k).short ≡ k.short
+judged_short t now x k = by (kind_of t now k x)
+  where
+    by : (o : Option LogKind) → (with_kind x o k).short ≡ k.short
+    by (Some c) = refl
+    by None = refl
+
+pub record IsLeft (k new : Kept) : Type 0 where
+  pub roster : new.roster ≡ k.roster
+  pub short : new.short ≡ k.short
+
+pub judged_leaves : (t : Tables) (now : ℕ) (xs : List Slice) (k : Kept) → IsLeft k (judged_to t now xs k)
+judged_leaves t now [] k = record { roster = refl; short = refl }
+judged_leaves t now (x ∷ xs) k = by k.fault (ltb x.to now) (judged_leaves t now xs (judged t now x k))
+  where
+    same : IsLeft k k
+    same = record { roster = refl; short = refl }
+
+    by : (o : Option LogFault) (b : Bool) → IsLeft (judged t now x k) (judged_to t now xs (judged t now x k)) → IsLeft k (elim o as (λ _. Kept) [ Some f ↦ k | None ↦ cond b (judged_to t now xs (judged t now x k)) k ])
+    by (Some f) b l = same
+    by None false l = same
+    by None true l = record { roster = l.roster ∙ judged_roster t now x k; short = l.short ∙ judged_short t now x k }
+
+-- ---- what fell short is no part of what is judged
+
+pub short_next : (t : Tables) (rounds : List Round) (now : ℕ) (log : List Slice) (next : Option Slice) (k : Kept) (b : Bool) (o : Option LogFault) → IsNext t rounds now log next k o → IsNext t rounds now log next (record k { short = b }) o
+short_next t rounds now log next k b (Some g) n = n
+short_next t rounds now log next k b None n = (record { kept = n.0.kept; place = n.0.place; end = n.0.end; room = n.0.room; sums = n.0.sums; done = n.0.done }, n.1)
+
+-- ---- lines that keep the rules end one after the other
+
+in_order : (rounds : List Round) (now : ℕ) (log : List Slice) (x : Slice) → line_fault rounds now log x ≡ None → last_end log ≤ x.from
+in_order rounds now log x e = by (ltb x.from (last_end log)) refl
+  where
+    large : (a b : ℕ) → ltb a b ≡ false → b ≤ a
+    large a b e = grind (arith, nat_tests)
+
+    second : (a b c : Bool) → b ≡ true → (a || b || c) ≡ true
+    second true b c e = refl
+    second false true c e = refl
+    second false false c e = absurd (let z : ⊥ = cc in z)
+
+    by : (b : Bool) → ltb x.from (last_end log) ≡ b → last_end log ≤ x.from
+    by false g = large x.from (last_end log) g
+    by true g =
+        let out : is_out_of_order now log x ≡ true = second _ (ltb x.from (last_end log)) _ g in
+        let broken : line_fault rounds now log x ≡ Some kind.Order =
+        ap (λ z. cond z (Some kind.Order) (rest (any_job (λ r j. lies_in r j.1 x) rounds) (any_job (λ r j. lies_in r j.1 x && is_over r (log ++ x ∷ []) j) rounds) (any_job (λ r j. lies_in r j.1 x && not (is_free r log j.1)) rounds))) out in
+        absurd (none_some kind.Order (sym e ∙ broken))
+
+take_next : (xs : List Slice) (n : ℕ) (x : Slice) → slice_get xs n ≡ Some x → take (suc n) xs ≡ take n xs ++ x ∷ []
+take_next [] n x e = absurd (none_some x e)
+take_next (y ∷ xs) zero x e = let one : y ≡ x = cc in ap (λ z. z ∷ []) one
+take_next (y ∷ xs) (suc n) x e = ap (λ z. y ∷ z) (take_next xs n x e)
+
+get_before : (xs : List Slice) (n : ℕ) (x : Slice) → slice_get xs (suc n) ≡ Some x → (y : Slice) × (slice_get xs n ≡ Some y)
+get_before [] n x e = absurd (none_some x e)
+get_before (y ∷ xs) zero x e = (y, refl)
+get_before (y ∷ xs) (suc n) x e = get_before xs n x e
+
+-- behind a line that ends at `at` or later, all do
+all_late : (rounds : List Round) (now at c : ℕ) (log : List Slice) (e : ℕ) → ((i : ℕ) (x : Slice) → i < e → slice_get log i ≡ Some x → (line_fault rounds now ([] ++ take i log) x ≡ None) × (x.to < now))
+    → IfSome (slice_get log c) (λ x. at ≤ x.to) → (d : ℕ) (x : Slice) → c + d < e → slice_get log (c + d) ≡ Some x → at ≤ x.to
+all_late rounds now at c log e keep first zero x h here = subst (λ o. IfSome o (λ (y : Slice). at ≤ y.to)) (ap (slice_get log) (let z : c ≡ c + 0 = omega arith in z) ∙ here) first
+all_late rounds now at c log e keep first (suc d) x h here =
+    let next : slice_get log (suc (c + d)) ≡ Some x = ap (slice_get log) (let z : suc (c + d) ≡ c + suc d = omega arith in z) ∙ here in
+    let y = get_before log (c + d) x next in
+    let was : at ≤ y.0.to = all_late rounds now at c log e keep first d y.0 (omega (arith, h)) y.1 in
+    let two = keep (suc (c + d)) x (omega (arith, h)) next in
+    let end : last_end (take (suc (c + d)) log) ≡ y.0.to = ap last_end (take_next log (c + d) y.0 y.1) ∙ last_more (take (c + d) log) y.0 in
+    omega (arith, was, end, in_order rounds now (take (suc (c + d)) log) x two.0, is_some_slice rounds now (take (suc (c + d)) log) x two.0)
+
+-- ---- from one instant to a later one
+
+module _ (t : Tables) (rounds : List Round) (at later : ℕ) (order : at ≤ later) (agree : Agree at rounds rounds) (log : List Slice) (k : Kept) (rows : length k.roster.stands ≡ length t.invs) (f : LogFollows t rounds at log k) where
+  near : at ≤ suc at
+  near = omega arith
+
+  began_later : (k1 : Kept) → k1.roster ≡ k.roster → BeganBefore later k1
+  began_later k1 same i =
+      elim (f.began i) [
+        | inl b ↦ inl (omega (arith, b, order, ap (λ o. start_at o i) same))
+        | inr z ↦ inr (ap (λ o. start_at o i) same ∙ z)
+      ]
+
+  -- behind a fault nothing more is judged
+  after_fault : (g : LogFault) → k.fault ≡ Some g → LogFollows t rounds later log (passed t later (drop k.place log) k)
+  after_fault g e = subst (λ z. LogFollows t rounds later log (settled t later z)) (sym same) here
+    where
+      same : judged_to t later (drop k.place log) k ≡ k
+      same = judged_stopped t later (drop k.place log) k (ap (λ (o : Option LogFault). is_some o) e)
+
+      stays : AreJudged t rounds later [] log k
+      stays = fault_stays t rounds at at near log k f.judged rounds later agree order g e
+
+      here : LogFollows t rounds later log (settled t later k)
+      here =
+          record {
+            judged = record { count = stays.count; few = stays.few; keep = stays.keep; next = short_next t rounds later ([] ++ take stays.count log) (slice_get log stays.count) k (k.short || any_fell_short t later k) k.fault stays.next };
+            short = λ none. absurd (none_some g (sym none ∙ e));
+            began = began_later (settled t later k) refl;
+          }
+
+  -- without one the lines between are
+  without_fault : k.fault ≡ None → LogFollows t rounds later log (passed t later (drop k.place log) k)
+  without_fault e = subst (λ n. LogFollows t rounds later log (passed t later (drop n log) k)) (sym place) here
+    where
+      c : ℕ
+      c = f.judged.count
+
+      now : AreSummed t rounds (take c log) k × IfSome (slice_get log c) (λ x. at ≤ x.to)
+      now = subst (λ o. IsNext t rounds at ([] ++ take c log) (slice_get log c) k o) e f.judged.next
+
+      place : k.place ≡ c
+      place = now.0.place ∙ length_take log c f.judged.few
+
+      late : (xs : List Slice) → slice_get xs 0 ≡ slice_get log c → IsLate at k xs
+      late [] g = tt
+      late (x ∷ xs) g = inl (subst (λ o. IfSome o (λ (y : Slice). at ≤ y.to)) (sym g) now.1)
+
+      k1 : Kept
+      k1 = judged_to t later (drop c log) k
+
+      between : (j : AreJudged t rounds later [] log k1) × (c ≤ j.count)
+      between = lines_between t rounds at at near log k f.judged rounds later agree order at now.0 e f.began (late (drop c log) (get_drop log c 0 ∙ ap (slice_get log) (let z : c + 0 ≡ c = omega arith in z)))
+
+      j : AreJudged t rounds later [] log k1
+      j = between.0
+
+      left : IsLeft k k1
+      left = judged_leaves t later (drop c log) k
+
+      more : List Slice
+      more = take (j.count - c) (drop c log)
+
+      whole : take j.count log ≡ take c log ++ more
+      whole = ap (λ n. take n log) (let z : j.count ≡ c + (j.count - c) = omega (arith, between.1) in z) ∙ take_both log c (j.count - c)
+
+      behind : (i : ℕ) (x : Slice) → slice_get more i ≡ Some x → at ≤ x.to
+      behind i x here =
+          let g = in_front (drop c log) (j.count - c) i x here in
+          all_late rounds later at c log j.count j.keep now.1 i x (omega (arith, g.0)) (sym (get_drop log c i) ∙ g.1)
+
+      short_is : k1.fault ≡ None → (k1.short || any_fell_short t later k1) ≡ any_short rounds later (take j.count log)
+      short_is none =
+          let s : AreSummed t rounds (take j.count log) k1 × IfSome (slice_get log j.count) (λ x. later ≤ x.to) = subst (λ o. IsNext t rounds later ([] ++ take j.count log) (slice_get log j.count) k1 o) none j.next in
+          let s' : AreSummed t rounds (take c log ++ more) k1 = subst (λ xs. AreSummed t rounds xs k1) whole s.0 in
+          let fell = short_later t rounds at later order agree (take c log) more k1 s' (ap (λ o. length o.stands) left.roster ∙ rows) (λ i. began_at i) behind in
+          ap (λ b. b || any_fell_short t later k1) (left.short ∙ f.short e) ∙ sym fell ∙ ap (any_short rounds later) (sym whole)
+        where
+          began_at : BeganBefore at k1
+          began_at i = subst (λ o. (start_at o i < at) ⊎ (start_at o i ≡ 0)) (sym left.roster) (f.began i)
+
+      here : LogFollows t rounds later log (passed t later (drop c log) k)
+      here =
+          record {
+            judged = record { count = j.count; few = j.few; keep = j.keep; next = short_next t rounds later ([] ++ take j.count log) (slice_get log j.count) k1 (k1.short || any_fell_short t later k1) k1.fault j.next };
+            short = short_is;
+            began = began_later (settled t later k1) left.roster;
+          }
+
+  pub passed_follows : LogFollows t rounds later log (passed t later (drop k.place log) k)
+  passed_follows = by k.fault refl
+    where
+      by : (o : Option LogFault) → k.fault ≡ o → LogFollows t rounds later log (passed t later (drop k.place log) k)
+      by (Some g) e = after_fault g e
+      by None e = without_fault e

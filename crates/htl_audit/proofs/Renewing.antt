@@ -1,0 +1,115 @@
+-- What is kept of the invocations whose rounds begin.
+use Rattle.std.proofs.Common.{◌≡◌, ◌≢◌, ℕ, zero, suc, ◌≤◌, ◌<◌, ◌⊎◌, inl, inr, true, false, ◌&&◌, eqb, List, [], ◌∷◌, length, get_or, Option, Some, None, refl, sym, ◌∙◌, ap, subst, arith}
+use Rattle.std.specs.Prelude.{slice_get}
+use Rattle.std.proofs.lemmas.Bool.{eqb-true}
+use Rattle.std.proofs.lemmas.Bool.Decides.{nat_tests}
+use Rattle.std.proofs.lemmas.List.{get_or-set_same, get_or-set_other, length-set}
+use Rattle.htl_emach.specs.Calendars.{list_at}
+use Rattle.htl_model.specs.declared.parts.Inv.{Inv}
+use Rattle.htl_model.specs.Selected.{is_at, Runs}
+use Rattle.htl_model.specs.Tables.{Tables, is_concrete, mode_module}
+use Rattle.htl_audit.specs.Keeping.{Kept, has_job, sum_at, length_at, start_at, runs_in, renewed, renewed_to}
+use Rattle.htl_audit.specs.Rosters.{IsSized}
+use Rattle.htl_audit.proofs.Tests.{both, and_true}
+
+-- ---- whose mode runs
+
+list_get : (xs : List (Option ℕ)) (k : ℕ) → get_or xs k None ≡ list_at xs k
+list_get [] k = refl
+list_get (x ∷ xs) zero = refl
+list_get (x ∷ xs) (suc k) = list_get xs k
+
+pub runs_is : (t : Tables) (modes : List (Option ℕ)) (i : ℕ) (x : Inv) → slice_get t.invs i ≡ Some x → is_concrete t x ≡ true → Runs t modes x.mode → runs_in t modes i ≡ true
+runs_is t modes i x at concrete runs =
+    let here : list_at modes (mode_module t x.mode) ≡ Some x.mode = sym (list_get modes (mode_module t x.mode)) ∙ runs in
+    let both_are : (is_concrete t x && is_at (list_at modes (mode_module t x.mode)) x.mode) ≡ true = and_true (is_concrete t x) (is_at (list_at modes (mode_module t x.mode)) x.mode) concrete (ap (λ o. is_at o x.mode) here ∙ same x.mode) in
+    ap (λ (o : Option Inv). elim o [ Some y ↦ is_concrete t y && is_at (list_at modes (mode_module t y.mode)) y.mode | None ↦ false ]) at ∙ both_are
+  where
+    same : (n : ℕ) → eqb n n ≡ true
+    same n = grind (arith, nat_tests)
+
+pub runs_of : (t : Tables) (modes : List (Option ℕ)) (i : ℕ) → runs_in t modes i ≡ true → (x : Inv) × (slice_get t.invs i ≡ Some x) × (is_concrete t x ≡ true) × Runs t modes x.mode
+runs_of t modes i e = by (slice_get t.invs i) refl e
+  where
+    found : (o : Option ℕ) (m : ℕ) → is_at o m ≡ true → o ≡ Some m
+    found (Some n) m f = ap (λ z. Some z) (eqb-true n m f)
+    found None m f = absurd (let z : ⊥ = cc in z)
+
+    by : (o : Option Inv) → slice_get t.invs i ≡ o → elim o [ Some y ↦ is_concrete t y && is_at (list_at modes (mode_module t y.mode)) y.mode | None ↦ false ] ≡ true
+        → (x : Inv) × (slice_get t.invs i ≡ Some x) × (is_concrete t x ≡ true) × Runs t modes x.mode
+    by None at f = absurd (let z : ⊥ = cc in z)
+    by (Some x) at f =
+        let two = both (is_concrete t x) (is_at (list_at modes (mode_module t x.mode)) x.mode) f in
+        (x, at, two.0, list_get modes (mode_module t x.mode) ∙ found (list_at modes (mode_module t x.mode)) x.mode two.1)
+
+-- ---- the entries of an invocation
+
+get_past : {A : Type 0} (xs : List A) (i : ℕ) (d : A) → length xs ≤ i → get_or xs i d ≡ d
+get_past [] i d h = refl
+get_past (x ∷ xs) zero d h = absurd (omega (arith, h))
+get_past (x ∷ xs) (suc i) d h = get_past xs i d (omega (arith, h))
+
+order : (i n : ℕ) → i < suc n → (i < n) ⊎ (i ≡ n)
+order i n h = grind arith
+
+module _ (t : Tables) (modes : List (Option ℕ)) (takes : List ℕ) (s count : ℕ) where
+  one_sized : (m i : ℕ) (k : Kept) → IsSized count k → IsSized count (renewed t modes s m i k)
+  one_sized m i k z =
+      record {
+        stands = length-set k.roster.stands i (runs_in t modes i) ∙ z.stands;
+        starts = length-set k.roster.starts i s ∙ z.starts;
+        lengths = length-set k.roster.lengths i m ∙ z.lengths;
+        sums = length-set k.sums i 0 ∙ z.sums;
+      }
+
+  pub renewed_sized : (n : ℕ) (k : Kept) → IsSized count k → IsSized count (renewed_to t modes takes s n k)
+  renewed_sized zero k z = z
+  renewed_sized (suc n) k z = one_sized (get_or takes n 0) n (renewed_to t modes takes s n k) (renewed_sized n k z)
+
+  pub record IsNew (i : ℕ) (k : Kept) : Type 0 where
+    pub stands : has_job k.roster i ≡ runs_in t modes i
+    pub start : start_at k.roster i ≡ s
+    pub length : length_at k.roster i ≡ get_or takes i 0
+    pub sum : sum_at k.sums i ≡ 0
+
+  one_new : (n : ℕ) (k : Kept) → IsSized count k → n < count → IsNew n (renewed t modes s (get_or takes n 0) n k)
+  one_new n k z h =
+      record {
+        stands = get_or-set_same k.roster.stands n (runs_in t modes n) false (omega (arith, h, z.stands));
+        start = get_or-set_same k.roster.starts n s 0 (omega (arith, h, z.starts));
+        length = get_or-set_same k.roster.lengths n (get_or takes n 0) 0 (omega (arith, h, z.lengths));
+        sum = get_or-set_same k.sums n 0 0 (omega (arith, h, z.sums));
+      }
+
+  other_new : (m n i : ℕ) (k : Kept) → i ≢ n → IsNew i k → IsNew i (renewed t modes s m n k)
+  other_new m n i k differ w =
+      record {
+        stands = get_or-set_other k.roster.stands n i (runs_in t modes n) false differ ∙ w.stands;
+        start = get_or-set_other k.roster.starts n i s 0 differ ∙ w.start;
+        length = get_or-set_other k.roster.lengths n i m 0 differ ∙ w.length;
+        sum = get_or-set_other k.sums n i 0 0 differ ∙ w.sum;
+      }
+
+  pub all_new : (n i : ℕ) (k : Kept) → IsSized count k → n ≤ count → i < n → IsNew i (renewed_to t modes takes s n k)
+  all_new zero i k z few h = absurd (omega (arith, h))
+  all_new (suc n) i k z few h = by (order i n h) (λ g. all_new n i k z (omega (arith, few)) g)
+    where
+      by : (i < n) ⊎ (i ≡ n) → (i < n → IsNew i (renewed_to t modes takes s n k)) → IsNew i (renewed t modes s (get_or takes n 0) n (renewed_to t modes takes s n k))
+      by (inl g) later = other_new (get_or takes n 0) n i (renewed_to t modes takes s n k) (λ e. omega (arith, e, g)) (later g)
+      by (inr g) later = subst (λ j. IsNew j (renewed t modes s (get_or takes n 0) n (renewed_to t modes takes s n k))) (sym g) (one_new n (renewed_to t modes takes s n k) (renewed_sized n k z) (omega (arith, few)))
+
+  -- what isn't kept by invocation stays
+  pub record IsElse (k new : Kept) : Type 0 where
+    pub place : new.place ≡ k.place
+    pub fault : new.fault ≡ k.fault
+    pub end : new.end ≡ k.end
+    pub done : new.done ≡ k.done
+    pub short : new.short ≡ k.short
+
+  pub renewed_else : (n : ℕ) (k : Kept) → IsElse k (renewed_to t modes takes s n k)
+  renewed_else zero k = record { place = refl; fault = refl; end = refl; done = refl; short = refl }
+  renewed_else (suc n) k = let r = renewed_else n k in record { place = r.place; fault = r.fault; end = r.end; done = r.done; short = r.short }
+
+  -- past the last invocation there is nothing
+  pub start_past : (i : ℕ) (k : Kept) → IsSized count k → count ≤ i → start_at k.roster i ≡ 0
+  start_past i k z h = get_past k.roster.starts i 0 (omega (arith, h, z.starts))

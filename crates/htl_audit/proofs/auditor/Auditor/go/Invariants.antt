@@ -1,0 +1,13 @@
+use Rattle.std.proofs.Common.{◌-◌, ◌≤◌, List}
+use Rattle.htl_model.specs.declared.event.Event.{Event}
+use Rattle.htl_audit.specs.Auditing.{IsStopped, IsSameAudit}
+use Rattle.htl_audit.proofs.Going.{IsGoing}
+use Rattle.htl_audit.proofs.auditor.Auditor.go.Given as goal
+
+abbrev pub invariant-starts : goal.invariant-starts
+invariant-starts g l =
+    ((es : List Event) → IsStopped l.initial.self es → IsGoing l.initial.self l.self es (g.W.Sink.written l.initial.sink) (g.W.Sink.written l.sink) (g.W.Sink.faults l.initial.sink) (g.W.Sink.faults l.sink))
+    × (l.initial.self.machine.held.reading ≤ l.self.machine.held.reading) × (l.self.machine.held.reading ≤ l.to) × IsSameAudit l.initial.self l.self
+
+abbrev pub decreases-starts : goal.decreases-starts
+decreases-starts g l = l.to - l.self.machine.held.reading

@@ -1,0 +1,12 @@
+use Rattle.std.proofs.Common.{sym, subst}
+use Rattle.std.specs.Prelude.{suc}
+use Rattle.htl_edge.specs.Content.{Puts}
+use Rattle.htl_machine.specs.Calls as machines
+use Rattle.htl_machine.specs.Calls.{text_between}
+use Rattle.htl_audit.specs.Auditing.{Audit}
+use Rattle.htl_audit.proofs.auditor.Auditor.last.Goals as goal
+
+pub returns-clause-text : goal.returns-clause-text
+returns-clause-text g c = λ es f.
+    subst (λ (z : Audit). Puts (g.W.Sink.written c.args.sink.now) (g.W.Sink.written c.finish.new.sink) (g.W.Sink.faults c.args.sink.now) (g.W.Sink.faults c.finish.new.sink) (text_between z.machine.object es z.machine.show z.machine.held.reading (suc c.args.to)) c.finish.result) c.self.view_is
+    (c.finish.ensures.text es (subst (λ (z : Audit). machines.Follows z.machine es) (sym c.self.view_is) f))

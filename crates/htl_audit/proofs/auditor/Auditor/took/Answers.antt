@@ -1,0 +1,46 @@
+use Rattle.std.proofs.Common.{◌≡◌, ◌∙◌, ◌<◌, ◌≤◌, [], ◌∷◌, ◌++◌, length, ap, sym, subst, arith}
+use Rattle.std.proofs.lemmas.Option.{slice_get_within}
+use Rattle.htl_model.specs.declared.event.Event.TheVariants as V
+use Rattle.htl_object.specs.declared.object.Object.{Object}
+use Rattle.htl_object.specs.Accepted.{IsAccepted}
+use Rattle.htl_machine.specs.Calls as machines
+use Rattle.htl_audit.specs.Auditing.{Audit, Follows, IsAuditor}
+use Rattle.htl_audit.specs.Keeping.{taken}
+use Rattle.htl_audit.proofs.Keepers.{length_small, taken_auditor, took_follows}
+use Rattle.htl_audit.proofs.auditor.Auditor.took.Goals as goal
+
+pub take-requires-clause-small : goal.take-requires-clause-small
+take-requires-clause-small c =
+    let len : machines.IsLength c.self.inside.machine.object.tables c.args.inv c.args.ticks = subst (λ (z : Audit). machines.IsLength z.machine.object.tables c.args.inv c.args.ticks) (sym c.self.view_is) c.requires.ticks in
+    length_small c.self.inside.loaded.now c.tables.ensures.accepted c.args.inv c.args.ticks (subst (λ (o : Object). machines.IsLength o.tables c.args.inv c.args.ticks) c.self.invariant.object len)
+
+pub set-requires : goal.set-requires
+set-requires c =
+    let len : machines.IsLength c.self.inside.machine.object.tables c.args.inv c.args.ticks = subst (λ (z : Audit). machines.IsLength z.machine.object.tables c.args.inv c.args.ticks) (sym c.self.view_is) c.requires.ticks in
+    omega (arith, slice_get_within c.self.inside.machine.object.tables.invs c.args.inv len.inv len.known, c.self.invariant.count, ap (λ (o : Object). length o.tables.invs) c.self.invariant.object)
+
+pub invariant_of-self : goal.invariant_of-self
+invariant_of-self c =
+    let len : machines.IsLength c.self.inside.machine.object.tables c.args.inv c.args.ticks = subst (λ (z : Audit). machines.IsLength z.machine.object.tables c.args.inv c.args.ticks) (sym c.self.view_is) c.requires.ticks in
+    let few : c.args.ticks ≤ 1000000 = length_small c.self.inside.loaded.now c.tables.ensures.accepted c.args.inv c.args.ticks (subst (λ (o : Object). machines.IsLength o.tables c.args.inv c.args.ticks) c.self.invariant.object len) in
+    subst (λ z. IsAuditor c.self.inside.loaded.now c.took.new.self c.set.new.self c.self.inside.log.now z) (sym c.take.ensures)
+    (subst (λ z. IsAuditor c.self.inside.loaded.now c.took.new.self z c.self.inside.log.now (taken c.tables.result.now c.reading-now.result c.args.inv c.args.ticks c.self.inside.ledger)) (sym c.set.ensures)
+    (taken_auditor c.self.inside.loaded.now c.self.inside.machine c.took.new.self c.self.inside.takes c.self.inside.log.now c.self.inside.ledger c.tables.result.now c.reading-now.result c.args.inv c.args.ticks few
+    (ap (λ (z : machines.Seen). z.object) c.took.ensures.seen) c.self.invariant))
+
+pub returns-clause-follows : goal.returns-clause-follows
+returns-clause-follows c = λ es f.
+    let inner : Audit = record { machine = c.self.inside.machine; log = c.self.inside.log.now; takes = c.self.inside.takes; kept = c.self.inside.ledger } in
+    let g : Follows inner es = subst (λ (z : Audit). Follows z es) (sym c.self.view_is) f in
+    let len : machines.IsLength c.self.inside.machine.object.tables c.args.inv c.args.ticks = subst (λ (z : Audit). machines.IsLength z.machine.object.tables c.args.inv c.args.ticks) (sym c.self.view_is) c.requires.ticks in
+    let known = slice_get_within c.self.inside.machine.object.tables.invs c.args.inv len.inv len.known in
+    let same : c.self.inside.machine.object.tables ≡ c.tables.result.now = ap (λ (o : Object). o.tables) c.self.invariant.object ∙ sym c.tables.ensures.value in
+    let room : c.args.inv < length c.self.inside.takes = omega (arith, known, c.self.invariant.count, ap (λ (o : Object). length o.tables.invs) c.self.invariant.object) in
+    let rows : c.args.inv < length c.self.inside.ledger.roster.lengths = omega (arith, known, c.self.invariant.lengths, ap (λ (o : Object). length o.tables.invs) c.self.invariant.object) in
+    let accepted : IsAccepted c.self.inside.machine.object = subst IsAccepted (sym c.self.invariant.object) c.tables.ensures.accepted in
+    let made = took_follows inner es c.args.inv c.args.ticks c.took.new.self accepted len room rows c.took.ensures.seen (c.took.ensures.follows es g.machine) g in
+    let kept : c.take.new.self ≡ taken c.self.inside.machine.object.tables c.self.inside.machine.held.reading c.args.inv c.args.ticks c.self.inside.ledger =
+    c.take.ensures ∙ ap (λ t. taken t c.reading-now.result c.args.inv c.args.ticks c.self.inside.ledger) (sym same)
+    ∙ ap (λ now. taken c.self.inside.machine.object.tables now c.args.inv c.args.ticks c.self.inside.ledger) c.reading-now.ensures in
+    subst (λ z. Follows (record { machine = c.took.new.self; log = c.self.inside.log.now; takes = c.set.new.self; kept = z }) (es ++ V.Took c.args.inv c.args.ticks ∷ [])) (sym kept)
+    (subst (λ z. Follows (record { machine = c.took.new.self; log = c.self.inside.log.now; takes = z; kept = taken c.self.inside.machine.object.tables c.self.inside.machine.held.reading c.args.inv c.args.ticks c.self.inside.ledger }) (es ++ V.Took c.args.inv c.args.ticks ∷ [])) (sym c.set.ensures) made)
