@@ -48,7 +48,7 @@ module _ (shelf : Files) (old new : Streams) where
       let a = told_as command outcome Write call name owner task is cut tt write_memory in (
         a.fact.1.0,
         objects.IsAcceptedFile-map (Some name) shelf.holds (λ o. IsSlacked owner task o old new Write)
-        (λ o. HasSlack o.tables owner task (λ text. AppendsPrefix old.written new.written text)) (λ o b. b.1.1) a,
+            (λ o. HasSlack o.tables owner task (λ text. AppendsPrefix old.written new.written text)) (λ o b. b.1.1) a,
       )
 
   pub slack_unread : (command : Option Command) (outcome : Outcome) → IsCall command shelf old new outcome → (name owner task : List ℕ) → command ≡ Some (Slack name owner task) → new.rest ≡ old.rest

@@ -27,6 +27,7 @@ use std::alloc::Global;
 
 // The rounds that are run, and the ticks of one.
 const ROUNDS: Time = 100;
+
 const ROUND: Time = 1_000;
 
 // The sensor of the generated program.
@@ -116,11 +117,7 @@ fn write_measured<W: Sink>(
 }
 
 // Tells a machine the readings of so many rounds and their end. It shows nothing.
-fn run_rounds<W: Sink>(
-    machine: &mut Machine<'_>,
-    rounds: Time,
-    out: &mut W,
-) -> Result<(), Failed>
+fn run_rounds<W: Sink>(machine: &mut Machine<'_>, rounds: Time, out: &mut W) -> Result<(), Failed>
     requires follows { Follows machine.old [] }
     requires show { machine.old.show ≡ shown.Nothing }
     requires sensor { (x : ℤ) → IsSensorValue machine.old.object.tables 0 x }

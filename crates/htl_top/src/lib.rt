@@ -56,6 +56,8 @@ mod show;
 #[cfg(test)]
 mod show_tests;
 mod slack;
+#[cfg(test)]
+mod slack_tests;
 mod source;
 #[cfg(test)]
 mod tables_tests;

@@ -36,11 +36,18 @@ pub enum Asked<'a> {
     /// Compiles the source that the input is.
     Compile,
     /// Compiles it for the platform that a file says.
-    CompileWith { platform: &'a str },
+    CompileWith {
+        platform: &'a str,
+    },
     /// A verb and the name of a file.
-    File { verb: Verb, name: &'a str },
+    File {
+        verb: Verb,
+        name: &'a str,
+    },
     /// Runs the generated program of so many modules, 1 to 64.
-    Bulk { modules: u32 },
+    Bulk {
+        modules: u32,
+    },
     /// Tells how far the worst case of a task of an object can be raised.
     Slack {
         name: &'a str,
