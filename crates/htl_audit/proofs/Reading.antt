@@ -1,16 +1,18 @@
 -- The lines of a log, one by one.
-use Rattle.std.proofs.Common.{◌≡◌, ◌+◌, ◌≤◌, ℕ, suc, true, false, List, [], ◌∷◌, ◌++◌, length, take, drop, Some, None, Result, Ok, Err, refl, sym, ap, ◌∙◌, subst, arith}
+use Rattle.std.proofs.Common.{◌≡◌, ◌+◌, ◌≤◌, ℕ, suc, true, false, List, [], ◌∷◌, ◌++◌, length, take, drop, Some, None, Result, Ok, Err, refl, sym, ap, ◌∙◌, subst, arith, ◌<◌}
 use Rattle.std.specs.List.{slice_split, position_from, position_or_len}
 use Rattle.std.proofs.lemmas.List.{append_assoc, append-nil}
 use Rattle.std.proofs.lemmas.List.Quantifiers.{position-Some}
 use Rattle.std.proofs.lemmas.List.Sums.{position_or_len_is}
 use Rattle.std.proofs.lemmas.List.Splits.{slice_split_first, length-slice_split}
 use Rattle.std.proofs.lemmas.Iterator.Adapters.{position_from-zero}
+use Rattle.htl_model.specs.declared.parts.Inv.{Inv}
 use Rattle.htl_model.specs.Tables.{Tables}
 use Rattle.htl_script.specs.Lines.{ScriptLine, is_line_feed, lines_of_parts, lines_of}
 use Rattle.htl_script.specs.Statements.{is_space, fields_of}
 use Rattle.htl_script.proofs.Places.{none_found}
 use Rattle.htl_script.proofs.Splitting.{lines_of-last}
+use Rattle.htl_script.specs.Judging.{is_invocation, invocation_of}
 use Rattle.htl_audit.specs.declared.slice.Slice.{Slice}
 use Rattle.htl_audit.specs.declared.slice.LogKind.{LogKind}
 use Rattle.htl_audit.specs.declared.slice.LogKind.TheVariants as kind
@@ -77,3 +79,12 @@ pub read_step : (t : Tables) (n : ℕ) (xs : List Slice) (left text rest : List 
 read_step t n xs left text rest s whole f e w =
     w ∙ ap (behind xs) (first_is t n left text rest (Ok s) f e) ∙ behind_more xs s (log_of_lines t (suc n) (lines_of rest))
     ∙ ap (λ m. behind (xs ++ s ∷ []) (log_of_lines t m (lines_of rest))) (let z : suc n ≡ n + 1 = omega arith in z)
+
+-- ---- names that are known
+
+pub invocation_below : (t : Tables) (name : List ℕ) (i : ℕ) → invocation_of t name ≡ Some i → i < length t.invs
+invocation_below t name i e = by t.invs e
+  where
+    by : (xs : List Inv) → position_from (is_invocation t name) 0 xs ≡ Some i → i < length xs
+    by [] g = absurd (let z : ⊥ = cc in z)
+    by (x ∷ xs) g = let found = position-Some (is_invocation t name) (x ∷ xs) i x (position_from-zero (is_invocation t name) (x ∷ xs) ∙ g) in omega (arith, found.0)

@@ -1,5 +1,5 @@
 // The reader of a job log.
-ghost use Rattle.std.specs.Prelude.{◌≡◌, ◌≤◌, ◌<◌, ◌∷◌, [], length, IfOk, IfSome, OnErr, MatchOption, Err};
+ghost use Rattle.std.specs.Prelude.{◌≡◌, ◌≤◌, ◌<◌, ◌∷◌, [], length, IfOk, IfSome, OnErr, MatchOption, Err, All};
 ghost use Rattle.std.specs.List.{position_from};
 ghost use Rattle.htl_script.specs.Lines.{is_line_feed};
 ghost use Rattle.htl_audit.specs.declared.slice.LogFault.{LogFault as Fault};
@@ -43,7 +43,8 @@ fn of_fields(
     to: &[u8],
     name: &[u8],
 ) -> Result<Slice, LogKind>
-    ensures { result ≡ line_of_fields names.now (word.now ∷ from.now ∷ to.now ∷ name.now ∷ []) }
+    ensures line { result ≡ line_of_fields names.now (word.now ∷ from.now ∷ to.now ∷ name.now ∷ []) }
+    ensures known { IfOk result (λ x. x.inv < length names.now.invs) }
 {
     if word != "j".as_bytes() {
         return Err(LogKind::Form);
@@ -65,7 +66,8 @@ fn of_fields(
 
 // The slice of a line, or the first rule that it breaks.
 fn line_of(names: &Names<'_>, text: &[u8]) -> Result<Slice, LogKind>
-    ensures { result ≡ line_of_text names.now text.now }
+    ensures line { result ≡ line_of_text names.now text.now }
+    ensures known { IfOk result (λ x. x.inv < length names.now.invs) }
 {
     let Some((word, rest)) = cut(text) else {
         return Err(LogKind::Form);
@@ -106,6 +108,7 @@ fn first_line(bytes: &[u8]) -> (&[u8], &[u8])
 /// invocation.
 pub fn read_log(alloc: Global, bytes: &[u8], t: &Tables) -> Result<Vec<Slice>, LogStop>
     ensures read { IfOk result (λ v. log_of t.now bytes.now ≡ Read v.items) }
+    ensures known { IfOk result (λ v. All (λ x. x.inv < length t.now.invs) v.items) }
     ensures refused { (f : Fault) → result ≡ Err (stop.Refused f) → log_of t.now bytes.now ≡ RefusedLog f.line f.kind }
 {
     let index = Index::new(t);
