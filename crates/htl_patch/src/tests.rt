@@ -1,8 +1,8 @@
 // Objects whose refinement is replaced, and the first faults of donors.
 use crate::{PatchFault, PatchStop, patch};
 use htl_base::Name;
-use htl_load::load;
-use htl_model::FormFault;
+use htl_load::{Loaded, load};
+use htl_model::{FormFault, Tables};
 use htl_object::decode;
 use std::alloc::{AllocError, Global};
 use std::test::Fail;
@@ -77,24 +77,42 @@ fn changed(alloc: Global, at: usize, by: u8) -> Result<Vec<u8>, AllocError> {
     Ok(bytes)
 }
 
-// What patching answers; None without memory, or where a word is no name or bytes are no object.
+// What patching answers; None where the donor's bytes are no object.
+fn patched(
+    alloc: Global,
+    host: &Loaded,
+    unit: &Name,
+    mode: &Name,
+    donor: &[u8],
+) -> Option<Result<Loaded, PatchStop>> {
+    match decode(alloc, donor) {
+        Ok(donor) => Some(patch(alloc, host, unit, mode, &donor)),
+        Err(_) => None,
+    }
+}
+
+// The second task's worst case.
+fn second_worst(t: &Tables) -> Option<u32> {
+    let task = t.parts().tasks.as_slice().get(1)?;
+    Some(task.worst)
+}
+
+// What is compared with the table; None without memory.
+fn told(answer: Result<Loaded, PatchStop>) -> Option<Answer> {
+    match answer {
+        Ok(loaded) => Some(Ok(second_worst(loaded.tables())?)),
+        Err(PatchStop::Refused(fault, tables)) => Some(Err((fault, tables.is_some()))),
+        Err(PatchStop::Memory) => None,
+    }
+}
+
+// The answer for words and a donor's bytes.
 fn answer(alloc: Global, unit: &[u8], mode: &[u8], donor: &[u8]) -> Option<Answer> {
     let unit = Name::new(unit)?;
     let mode = Name::new(mode)?;
     let host = load(alloc, &REFINED).ok()?;
-    let donor = decode(alloc, donor).ok()?;
-    match patch(alloc, &host, &unit, &mode, &donor) {
-        Ok(loaded) => {
-            let tasks = loaded.tables().parts().tasks.as_slice();
-            if tasks.len() > 1 {
-                Some(Ok(tasks[1].worst))
-            } else {
-                Some(Ok(0))
-            }
-        }
-        Err(PatchStop::Refused(fault, tables)) => Some(Err((fault, tables.is_some()))),
-        Err(PatchStop::Memory) => None,
-    }
+    let answer = patched(alloc, &host, &unit, &mode, donor)?;
+    told(answer)
 }
 
 #[test]
