@@ -11,7 +11,7 @@ use Rattle.htl_audit.specs.declared.slice.LogKind.TheVariants as kind
 use Rattle.htl_audit.specs.Jobs.{Round}
 use Rattle.htl_audit.specs.Legal.{lies_in, ticks, length_at, is_done, is_free, is_over, is_short, any_job, any_short, last_end, is_out_of_order, line_fault}
 use Rattle.htl_audit.specs.Agreeing.{Matches, Agree, AreEarly}
-use Rattle.htl_audit.proofs.Tests.{same_truth, both, all_at_0, all_pass_0, job_found, job_there}
+use Rattle.htl_audit.proofs.JobTests.{same_truth, both, all_at_0, all_pass_0, job_found, job_there}
 use Rattle.htl_audit.proofs.Judging.{lies, rest}
 
 -- ticks depend on a round by its start alone

@@ -30,7 +30,7 @@ use Rattle.htl_audit.proofs.Growing.{in_front, rounds_agree, rounds_still}
 use Rattle.htl_audit.proofs.Onward.{early, kept_then}
 use Rattle.htl_audit.proofs.Renewing.{renewed_sized, renewed_else, start_past}
 use Rattle.htl_audit.proofs.Summing.{passes}
-use Rattle.htl_audit.proofs.Tests.{same_truth, both, job_found, job_there}
+use Rattle.htl_audit.proofs.JobTests.{same_truth, both, job_found, job_there}
 
 -- a job takes at least one tick
 pub some_took : (t : Tables) → AreInRange t → (es : List Event) → AreTookWithin t es → (i u : ℕ) (x : Inv) → slice_get t.invs i ≡ Some x → 1 ≤ took t es i u

@@ -17,7 +17,7 @@ use Rattle.htl_audit.specs.Legal as rules
 use Rattle.htl_audit.specs.Legal.{lies_in, ticks, is_done, is_free, is_over, any_job, last_end, is_out_of_order, line_fault}
 use Rattle.htl_audit.specs.Keeping.{Roster, Kept, has_job, sum_at, length_at, start_at, release_at, end_at, is_inside, is_full, is_clear_of, is_free_from, is_free_at, ticks_of, kind_of}
 use Rattle.htl_audit.specs.Rosters.{IsIn, IsCurrent, AreKept, AreSummed}
-use Rattle.htl_audit.proofs.Tests.{same_truth, both, neither, and_true, all_at_0, all_pass_0, IsJobOf, job_found, job_there}
+use Rattle.htl_audit.proofs.JobTests.{same_truth, both, neither, and_true, all_at_0, all_pass_0, IsJobOf, job_found, job_there}
 
 -- ---- one job and one slice
 

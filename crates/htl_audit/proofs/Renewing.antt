@@ -10,7 +10,7 @@ use Rattle.htl_model.specs.Selected.{is_at, Runs}
 use Rattle.htl_model.specs.Tables.{Tables, is_concrete, mode_module}
 use Rattle.htl_audit.specs.Keeping.{Kept, has_job, sum_at, length_at, start_at, runs_in, renewed, renewed_to}
 use Rattle.htl_audit.specs.Rosters.{IsSized}
-use Rattle.htl_audit.proofs.Tests.{both, and_true}
+use Rattle.htl_audit.proofs.JobTests.{both, and_true}
 
 -- ---- whose mode runs
 

@@ -14,7 +14,7 @@ use Rattle.htl_audit.specs.Keeping.{Kept, has_job, sum_at, length_at, start_at, 
 use Rattle.htl_audit.specs.Lines.{BeganBefore}
 use Rattle.htl_audit.specs.Rosters.{IsIn, IsCurrent, AreSummed}
 use Rattle.htl_audit.proofs.Judging.{lies}
-use Rattle.htl_audit.proofs.Tests.{same_truth, both, and_true, or_left, or_right, IsFound, job_found, job_there}
+use Rattle.htl_audit.proofs.JobTests.{same_truth, both, and_true, or_left, or_right, IsFound, job_found, job_there}
 
 -- ---- the test of the invocations
 

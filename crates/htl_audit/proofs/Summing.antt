@@ -16,7 +16,7 @@ use Rattle.htl_audit.specs.Legal as rules
 use Rattle.htl_audit.specs.Legal.{lies_in, ticks, is_done, last_end, how_many, jobs_done}
 use Rattle.htl_audit.specs.Keeping.{Roster, Kept, has_job, sum_at, length_at, start_at, is_inside, is_free_at, ticks_of, kind_of, with_slice}
 use Rattle.htl_audit.specs.Rosters.{IsIn, IsCurrent, HasJob, AreSummed}
-use Rattle.htl_audit.proofs.Tests.{both, neither}
+use Rattle.htl_audit.proofs.JobTests.{both, neither}
 use Rattle.htl_audit.proofs.Judging.{lies, ticks_more, lies_current, lies_inside}
 
 -- ---- counts

@@ -11,3 +11,6 @@ mod slice;
 pub use auditor::{AuditTotals, Auditor};
 pub use log::{LogStop, read_log};
 pub use slice::{LogFault, LogKind, Slice};
+
+#[cfg(test)]
+mod tests;
