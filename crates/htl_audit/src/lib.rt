@@ -11,6 +11,3 @@ mod slice;
 pub use auditor::{AuditTotals, Auditor};
 pub use log::{LogStop, read_log};
 pub use slice::{LogFault, LogKind, Slice};
-
-#[cfg(test)]
-mod tests;
