@@ -40,13 +40,27 @@ ask_output() {
 ask_all() {
 	mkdir -p "$work/asked/cases" "$work/asked/data"
 	case $("$root/bin/htl" --version) in
-	*'is proved'*) : >"$work/asked/proved" ;;
+	*'no proved program'* | *'older than'*) ;;
+	*) : >"$work/asked/proved" ;;
 	esac
-	for it in tanks motor; do ask compile-$it "$root/examples/$it.htl" compile; done
+	cp "$root"/examples/*.htl "$work/asked/data"
+	sed 's/(kind, 3)/(kind, 4)/' "$root/examples/overload.htl" >"$work/asked/data/belt.htl"
+	for it in $examples; do ask go-$it "$(script_of $it)" go $it.htl; done
+	for it in $examples soft; do ask compile-$it "$work/asked/data/$it.htl" compile; done
+	ask_changed compile-slow "$root/examples/soft.htl" 's/worst 120/worst 121/; s/worst 80/worst 121/'
+	ask_changed compile-belt "$root/examples/overload.htl" 's/(kind, 3)/(kind, 4)/'
+	ask_changed compile-whole "$root/examples/tanks.htl" "$(sed -n 's/.*\(task soft .*\)/s:task damp .*:\1:/p' "$root/examples/soft.htl"); s/invoke damp/invoke soft/"
+	ask_whole
 	ask_page
 	answer_all
-	for it in tanks motor; do cp "$work/asked/compile-$it.out" "$work/asked/data/$it.object"; done
-	(cd "$work/asked/data" && ask_for_all)
+	for it in $examples; do grep '^j ' "$work/asked/go-$it.out" >"$work/asked/data/$it.log"; done
+	for it in $examples soft slow whole; do cp "$work/asked/compile-$it.out" "$work/asked/data/$it.object"; done
+	(
+		cd "$work/asked/data" || exit
+		ask_for_all
+		ask_logs
+		ask_damaged
+	)
 	ask_page
 	answer_all
 }
@@ -97,29 +111,29 @@ ask_unproved() {
 
 # All that is asked, in the folder of the files that the words name.
 ask_for_all() {
-	cp "$root"/examples/*.htl .
+	cp "$root/examples/loops.log" monotonic.log
+	cp ../compile-belt.out belt.object
+	printf '%s\n' 'j 0 3 Servo.run.first' 'j 3 9 Servo.run.plan' 'j 9 12 Servo.run.second' >late.log
 	size=$(wc -c <tanks.object)
 	head -c $((size - 1)) tanks.object >cut.object
 	# The first dispatch ends at 200 in place of 220.
 	{ head -c $((size - 9)) tanks.object && printf '\310' && tail -c 8 tanks.object; } >short-of-time.object
 	small_object >small.object
-	sed 's/(kind, 3)/(kind, 4)/' overload.htl >belt.htl
 	sed 's/(weight, 2)/(weight, 1)/' overload.htl >belt-read.htl
 	sed 's/worst 30/worst 20/' overload.htl >belt-worst.htl
 	sed 's/worst 110/worst 130/' tanks.htl >greedy.htl
 	awk 'BEGIN { for (i = 0; i < 1048577; i++) printf " " }' >long.htl
 
-	for it in thermostat tanks motor boiler overload; do ask go-$it "$root/examples/$it.script" go $it.htl; done
-	ask go-belt "$root/examples/overload.script" go belt.htl
+	for it in monotonic late; do ask audit-$it "$root/examples/loops.script" audit loops.object $it.log; done
+	for it in overload; do ask go-$it "$root/examples/$it.script" go $it.htl; done
 	lines 'end 0'
 	for it in belt-read belt-worst greedy long missing; do ask go-$it lines go $it.htl; done
 
 	for it in tanks cut short-of-time small; do ask check-$it /dev/null check $it.object; done
-	ask show-tanks /dev/null show tanks.object
+	for it in tanks motor boiler loops belt; do ask show-$it /dev/null show $it.object; done
 	ask show-small /dev/null show small.object
 	for it in jobs run; do ask $it-tanks "$root/examples/tanks.script" $it tanks.object; done
 	ask code-motor "$root/examples/motor.script" code motor.object
-	ask show-motor /dev/null show motor.object
 	ask jobs-short-of-time "$root/examples/tanks.script" jobs short-of-time.object
 	lines 'at 0' 'sense h1 250' 'at 200' 'took C1.p.prop 61'
 	ask jobs-overrun lines jobs tanks.object
@@ -134,6 +148,10 @@ ask_for_all() {
 	lines 'mode M m'
 	ask plan-after lines plan small.object
 	for it in filter control guard none; do ask slack-$it /dev/null slack motor.object Drive.$it; done
+	for it in soft slow; do ask patch-$it /dev/null patch tanks.object T1.hold $it.object; done
+	ask show-whole /dev/null show whole.object
+	ask jobs-whole "$root/examples/tanks.script" jobs whole.object
+	ask patch-mode /dev/null patch tanks.object T1.none soft.object
 	for it in 1 2 64; do ask bulk-$it /dev/null bulk $it; done
 	for it in 0 65 01 +1; do ask bulk-wrong-$it /dev/null bulk $it; done
 
@@ -143,6 +161,14 @@ ask_for_all() {
 	ask_output compile-type 'x < 2'
 	ask_output compile-operator 'x + (x < 2)'
 	ask_output compile-deep "$(awk 'BEGIN { for (i = 0; i < 64; i++) { left = left "1 + ("; right = right ")" } print left "1" right }')"
+
+	ask_changed fraction-worst motor.htl 's/worst 6/worst 3.5/'
+	ask_changed fraction-init motor.htl 's/init 0;/init 0.5;/'
+	sed 's/end 60/end 1.5/' "$root/examples/motor.script" >"$work/asked/lines"
+	ask fraction-end lines jobs motor.object
+	printf '%s\n' 'name = "x"' '[worst]' '"Drive.filtre" = 3' >unknown.toml
+	printf '%s\n' 'name = "x"' '[worst]' '"Drive.filter" = 3.5' >half.toml
+	for it in unknown half; do ask platform-$it motor.htl compile with $it.toml; done
 
 	ask_changed form-13 tanks.htl -e 's/ program Q1//' -e '/^program Q1/,$d'
 	ask_changed form-14 tanks.htl '/invoke prop/s/ parent ctrl//'

@@ -1,13 +1,26 @@
 # Over answers.txt (status, answer, meaning, what helps; %4A stands for word 4 of the fault line, or else A).
 # With -v line='htl: ...' prints the meaning and then the help of that answer, each with its tag in front.
 # With -v word='WORDS' prints each answer that these words name: some of its words in a row, or its status.
-# With -v word='' lists the answers. Ends with 1 where there is none. A form rule that an object breaks is explained as that of a
-# source; `of_object` says that it is an object's.
+# With -v word='' lists the answers. Ends with 1 where there is none. A form rule that an object or a patch breaks is explained as that of
+# a source, and a bad field of a donor as that of an object; `of` says of what it is, and `of_status` with which status.
+
+# The words without the one that says of what the answer is, where another answer explains it.
+function shared(text) {
+	if (text ~ /^(object|patch) ill-formed/) {
+		of = substr(text, 1, index(text, " "))
+		text = substr(text, index(text, " ") + 1)
+	} else if (text ~ /^patch malformed/) {
+		of = "patch "
+		sub(/^patch/, "object", text)
+	}
+	of_status = of == "object " ? 6 : 14
+	return text
+}
 
 # The answer's name in the table, and `part`, the words of its line from the answer's own on.
 function name_of(text,    w, n, i) {
 	sub(/^htl: /, "", text)
-	if (text ~ /^object ill-formed /) of_object = sub(/^object /, "", text)
+	text = shared(text)
 	n = split(text, part, " ")
 	w = part[1]
 	if (w == "source") return "source " part[2] (part[2] == "limit" ? " " part[3] : "")
@@ -15,9 +28,15 @@ function name_of(text,    w, n, i) {
 	if (w == "object" && part[2] == "malformed") return w " " part[2] " " part[3]
 	if (w == "object" && part[2] != "function") return w " " part[2] " " part[4]
 	if (w == "object") return w " " part[2]
-	if (w == "script") return w " " part[3]
-	if (w == "shelf" || w == "platform") return w " " part[2]
+	if (w == "script" || w == "log") return w " " part[3]
+	if (w == "shelf" || w == "platform" || w == "patch") return w " " part[2]
 	return w
+}
+
+# An answer by its own name.
+function named(name) {
+	if (of == "patch ") sub(/^object /, "", name)
+	return of name
 }
 
 function filled(text,    hole, out) {
@@ -40,7 +59,7 @@ BEGIN {
 	else {
 		sub(/^htl: /, "", word)
 		gsub(/[ \t]+/, " ", word)
-		if (word ~ /^object ill-formed/) of_object = sub(/^object /, "", word)
+		word = shared(word)
 		asked = ""
 	}
 }
@@ -54,7 +73,7 @@ line != "" && $2 == asked {
 line == "" && (asked != "" ? $2 == asked : word == "" || is_asked($2, $1)) {
 	found = 1
 	if (word == "") printf "%2d  %s\n", $1, $2
-	else printf "%shtl: %s (status %d)\n  %s\n  %s\n", many++ ? "\n" : "", of_object ? "object " $2 : $2, of_object ? 6 : $1, filled($3), filled($4)
+	else printf "%shtl: %s (status %d)\n  %s\n  %s\n", many++ ? "\n" : "", named($2), (of == "" ? $1 : of_status), filled($3), filled($4)
 }
 
 END { exit !found }

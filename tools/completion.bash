@@ -2,7 +2,7 @@
 
 _htl() {
 	local word=${COMP_WORDS[COMP_CWORD]} before=${COMP_WORDS[COMP_CWORD - 1]} i command=
-	local commands="go compile jobs run code check show plan slack bulk"
+	local commands="go compile jobs run code check show plan slack audit patch bulk"
 	COMPREPLY=()
 	for ((i = 1; i < COMP_CWORD; i++)); do
 		case ${COMP_WORDS[i]} in
@@ -14,7 +14,9 @@ _htl() {
 	'')
 		local answers=
 		[ "$before" = --explain ] && answers="usage char number name-long long syntax twice unknown kind not-a-tree limit type deep too-long
-			ill-formed unschedulable platform text shape object form range order overrun no-end after size failed read write memory task"
+			ill-formed unschedulable object magic version short index tag spelling trailing function ecode target action delay endless branch
+			schedule late unfinished before order script form range overrun no-end after size shelf failed read write memory
+			platform text shape log outside over task mode comms parent done"
 		COMPREPLY=($(compgen -W "$commands --explain --unproved $answers --prove --svg --vcd --help --version" -- "$word"))
 		;;
 	compile)
@@ -28,13 +30,14 @@ _htl() {
 		esac
 		;;
 	bulk) [ "$before" != bulk ] || COMPREPLY=($(compgen -W "1 2 4 8 16 32 64" -- "$word")) ;;
-	go | jobs | run | code | check | show | plan | slack)
-		[ "$before" = "$command" ] || return
+	go | jobs | run | code | check | show | plan | slack | audit | patch)
+		[ "$before" = "$command" ] || [ "$command:${COMP_WORDS[COMP_CWORD - 2]}" = audit:audit ] || [ "$command:${COMP_WORDS[COMP_CWORD - 3]-}" = patch:patch ] || return
 		compopt -o filenames 2>/dev/null
 		local IFS=$'\n' pattern='*'
 		[ "$command" = go ] && pattern='*.htl'
 		COMPREPLY=($(compgen -d -- "$word") $(compgen -f -X "!$pattern" -- "$word" | while read -r i; do [ -d "$i" ] || printf '%s\n' "$i"; done))
 		;;
+	--vcd) [ "$before" != --vcd ] || COMPREPLY=($(compgen -W "1s 100ms 10ms 1ms 100us 10us 1us 1ns" -- "$word")) ;;
 	--svg)
 		[ "$before" = --svg ] || return
 		compopt -o filenames 2>/dev/null

@@ -1,6 +1,6 @@
 # Over a platform file. With -v number=N prints the line and the key of its entry N, `worst."KEY"` for one of the table worst: those
 # of the file's own table first, then those of worst, each by the bytes of their keys. Prints nothing where there is none, or
-# where the file isn't written in a plain way.
+# where the file isn't written in a plain way. With -v values=1 prints the entries of worst with their ticks, `worst KEY TICKS`.
 
 # The first key of text, and in `rest` what stands behind it.
 function key_of(text,    key) {
@@ -21,6 +21,7 @@ function key_of(text,    key) {
 function note(of, key) {
 	if (key == "" || (of, key) in line_of) return
 	line_of[of, key] = NR
+	value[of, key] = rest
 	keys[of, ++count[of]] = key
 }
 
@@ -68,7 +69,20 @@ function placed(of, place,    k, j, before) {
 	return ""
 }
 
+# The entries of worst whose ticks are plain.
+function print_values(    k, text) {
+	for (k = 1; k <= count["worst"]; k++) {
+		text = value["worst", keys["worst", k]]
+		sub(/^=[ \t]*/, "", text)
+		if (match(text, /^\+?[0-9]+/)) print "worst", keys["worst", k], substr(text, 1, RLENGTH) + 0
+	}
+}
+
 END {
+	if (values) {
+		print_values()
+		exit
+	}
 	of = number < count["top"] ? "top" : "worst"
 	key = placed(of, of == "top" ? number : number - count["top"])
 	if (key != "") print line_of[of, key] " " (of == "top" ? key : "worst.\"" key "\"")

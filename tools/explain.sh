@@ -1,13 +1,8 @@
 # Explains a fault line of htl, on standard error: where the fault is, what the answer means, and what usually helps.
 . "$tools/place.sh"
-
-# The file name as it was written.
-case $form in
-file) shown=$2 ;;
-*) shown="(standard input)" ;;
-esac
-platform=
-[ "$form" != platform ] || platform=$3
+. "$tools/log.sh"
+. "$tools/files.sh"
+. "$tools/names.sh"
 
 outline() { LC_ALL=C awk -f "$tools/outline.awk" <"$1" 2>/dev/null; }
 
@@ -25,11 +20,18 @@ numbered_line() {
 	}'
 }
 
-# A fault at a byte of the source.
+# A fault at a byte of the source, which is /dev/null where none was kept.
 at_byte() {
+	[ "$1" != /dev/null ] || { echo "$shown, byte $2: $meaning" && return; }
 	set -- "$1" "$2" $(line_and_column "$1" "$2")
 	echo "$shown:$3:$4: $meaning"
-	if [ ! -f "$1" ] || [ -s "$1" ]; then excerpt "$1" "$2" "$5"; else echo "    (the source is empty)"; fi
+	if [ -f "$1" ] && [ "$(head -c 4 <"$1" | tr -d '\000')" = HTLO ]; then
+		echo "    (this is an object, and no source; bin/htl jobs OBJECT < SCRIPT runs it)"
+	elif [ ! -f "$1" ] || [ -s "$1" ]; then
+		excerpt "$1" "$2" "$5"
+	else
+		echo "    (the source is empty)"
+	fi
 }
 
 # A fault of a mode or an invocation, MODULE.MODE or MODULE.MODE.TASK.
@@ -56,11 +58,14 @@ at_program() {
 
 overload() {
 	echo "$shown: $meaning"
-	outline "$1" | awk -v selection="$2" -v from="$4" -v to="$6" -v demand="$8" -f "$tools/overload.awk" | sed 's/^/    /'
+	{
+		outline "$1"
+		[ -z "$platform" ] || LC_ALL=C awk -v values=1 -f "$tools/entries.awk" <"$platform"
+	} 2>/dev/null | awk -v selection="$2" -v from="$4" -v to="$6" -v demand="$8" -f "$tools/overload.awk" | sed 's/^/    /'
 }
 
 at_script_line() {
-	[ "$form" = file ] && shown=$input
+	case $form in file | files) shown=$input ;; esac
 	if [ -n "$1" ] && [ "$2" != no-end ]; then
 		numbered_line "$1" "$3" "$meaning" script
 	else
@@ -79,22 +84,10 @@ at_entry() {
 	fi
 }
 
-# The tasks that `slack` takes, by the listing of the object; nothing where no proved program stands.
-root_tasks() {
-	[ "$now" = proved ] || return 0
-	"$program" show "$shown" 2>/dev/null | awk '
-	$1 == "module" && NF == 4 { root[$2] = 1 }
-	$1 == "inv" {
-		split($2, part, ".")
-		task = part[1] "." part[3]
-		if (part[1] in root && !(task in told)) print "    " task
-		told[task] = 1
-	}'
-}
-
 # $1 the fault line, empty where there is none; $2 the source and $3 the script, where they are known.
 explain_fault() {
 	[ -n "$1" ] || return 0
+	set -- "$1" "${2:-/dev/null}" "$3"
 	found=$(look_up "$1") || return 0
 	meaning=$(echo "$found" | sed -n 's/^meaning //p')
 	{
@@ -106,7 +99,10 @@ explain_fault() {
 			;;
 		'htl: source not-a-tree '*) at_program "$2" "${1##* }" ;;
 		'htl: source limit '* | 'htl: source too-long '*) echo "$shown: $meaning" ;;
-		'htl: source '*' '[0-9]*) at_byte "$2" "${1##* }" ;;
+		'htl: source '*' '[0-9]*)
+			at_byte "$2" "${1##* }"
+			case $1 in *' unknown '*) names_like "$2" "${1##* }" ;; esac
+			;;
 		'htl: ill-formed '*)
 			item=${1#* at }
 			at_item "$2" "${item%% *}"
@@ -122,15 +118,26 @@ explain_fault() {
 		'htl: unschedulable '*) overload "$2" ${1#htl: unschedulable } ;;
 		'htl: task')
 			echo "$shown: $meaning"
-			root_tasks
+			root_tasks | nearest "$task"
 			;;
+		'htl: patch '*) at_patch ${1#htl: patch } ;;
 		'htl: platform text') echo "$platform: $meaning" ;;
-		'htl: platform '*) at_entry "${1##* }" ;;
-		'htl: shelf '*) echo "${platform:-$shown}: $meaning" ;;
+		'htl: platform '*)
+			at_entry "${1##* }"
+			key=${entry#*'"'}
+			case $1 in *' unknown '*) source_tasks "$2" | nearest "${key%'"'}" ;; esac
+			;;
+		'htl: log '*)
+			number=${1#htl: log }
+			at_log_line "$3" $number
+			[ "${number#* }" != unknown ] || names_for_line "$job_log" "${number%% *}" ""
+			;;
+		'htl: shelf '*) echo "${platform:-$(unfetched)}: $meaning" ;;
 		'htl: script '*)
 			number=${1#htl: script }
 			kind=${number#* }
 			at_script_line "$3" "${kind%% *}" "${number%% *}"
+			[ "$kind" != unknown ] || [ -z "$3" ] || names_for_line "$3" "${number%% *}" "$2"
 			;;
 		*) echo "$shown: $meaning" ;;
 		esac

@@ -1,6 +1,7 @@
 # Reads the lines of a run. Of communicator c: name_c[c], its changes at[c, k] to value[c, k], k from 1 to changes[c], least[c],
 # greatest[c]. Of module m: name_m[m], moves[m], when[m, k], mode[m, k]. Of invocation j: name_j[j], slices[j], from[j, k],
-# upto[j, k], finishes[j], done[j, k]. instants: how many distinct ones; last: the last; totals: the totals line.
+# upto[j, k], finishes[j], done[j, k]. instants: how many distinct ones; last: the last; totals: the totals line. Of the line of a
+# log that `audit` refuses: refused, its number, refused_for, the kind, and refused_slice[j, k], where it is a slice.
 # Lines of instructions, which `code` adds, are passed over. `reading` is run, or listing for the file of listing.awk.
 
 function refuse(why) {
@@ -44,6 +45,11 @@ function invocation(name,    j) {
 
 { sub(/\r$/, "") }
 
+/^htl: log [0-9]+ [a-z]+$/ {
+	refused = $3 + 0
+	refused_for = $4
+}
+
 /^$/ || /^htl: / || /^bin\/htl: / || /^[es] [0-9]+ / { next }
 
 $1 == "v" && NF == 4 && is_name($3, 1) && $4 ~ /^-?[0-9]+$/ && length($4) <= 20 {
@@ -70,6 +76,7 @@ $1 == "j" && NF == 4 && is_name($4, 3) {
 	upto[j, slices[j]] = instant($3)
 	if ($3 + 0 <= $2 + 0) refuse("ends before it begins: " shown($0))
 	if (slices[j] > 1 && $2 + 0 < upto[j, slices[j] - 1]) refuse("overlaps a slice before it: " shown($0))
+	slice_of[++slices_told] = j SUBSEP slices[j]
 	next
 }
 
@@ -85,7 +92,9 @@ $1 == "d" && NF == 3 && is_name($3, 3) {
 	next
 }
 
-{ refuse("is none that htl prints: " shown($0)) }
+/^(comm|sensor|module|mode|inv) / { refuse("is of a listing, whose file is named behind --svg: " shown($0)) }
+
+{ refuse("is none that a run, a plan or an audit prints: " shown($0)) }
 
 END {
 	if (!failed && !instants) {
@@ -93,4 +102,5 @@ END {
 		failed = 1
 	}
 	if (failed) exit 1
+	if (refused in slice_of && refused_for != "short") refused_slice[slice_of[refused]] = 1
 }

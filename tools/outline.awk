@@ -1,9 +1,10 @@
 # The outline of a source that has been read without a fault of its grammar: one line for each item, in the order of
 # the source, each with the number of the line on which it begins.
-#   program LINE NAME                        comm LINE NAME PERIOD
-#   module LINE NAME PROGRAM                 task LINE MODULE NAME WORST
+#   program LINE NAME                        comm LINE NAME PERIOD KIND
+#   module LINE NAME PROGRAM                 task LINE MODULE NAME WORST HEAD
 #   mode LINE MODULE NAME PERIOD PROGRAM     PROGRAM is the one that refines the mode, or -
 #   invoke LINE MODULE MODE TASK ENDS..      ENDS are <C:I or >C:I for an instance read or written, <P or >P for a port
+# KIND is communicator or sensor; HEAD is task or abstract.
 
 # Carries on after a name or number that an item waits for.
 function take(token) {
@@ -25,9 +26,9 @@ function take(token) {
 	} else if (want == "invoke") {
 		item = "invoke " line " " module " " mode " " token
 	} else if (want == "comm period") {
-		print "comm", line, comm, token
+		print "comm", line, comm, token, sort
 	} else if (want == "worst") {
-		print "task", line, module, task, token
+		print "task", line, module, task, token, head
 	} else if (want == "mode period") {
 		period = token
 	}
@@ -56,6 +57,7 @@ function read(token) {
 	} else if (token == "communicator" || token == "sensor") {
 		line = NR
 		kind = "comm"
+		sort = token
 		typed = 1
 	} else if (typed) {
 		typed = 0
@@ -67,6 +69,7 @@ function read(token) {
 		kind = want = token
 	} else if (token == "abstract" || token == "task") {
 		if (token == "abstract" || kind != "abstract") line = NR
+		head = kind == "abstract" ? kind : token
 		kind = token
 		if (token == "task") want = token
 	} else if (token == "period" || token == "worst") {

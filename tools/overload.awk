@@ -1,12 +1,13 @@
 # Over the outline of a source: the modes of one choice of modes of the first program's modules, and the jobs that must
 # run within an overloaded interval. selection: the number of the choice; from, to, demand: as the fault line has them.
 # A job's window is tightened: it begins no earlier than what it waits for can be done, and ends early enough for what
-# waits for it. Nothing is said of the jobs where they don't make up the demand.
+# waits for it. Lines `worst TASK TICKS` behind the outline have the worst cases of a platform. Nothing is said of the jobs where they don't make up the demand.
 
 $1 == "program" && root == "" { root = $3 }
 $1 == "comm" { comm_period[$3] = $4 }
 $1 == "module" && $4 == root { modules[++module_count] = $3 }
 $1 == "task" { worst[$3 "." $4] = $5 }
+$1 == "worst" { worst[$2] = $3 }
 $1 == "mode" {
 	modes[$3, ++mode_count[$3]] = $4
 	period[$3 "." $4] = $5

@@ -24,6 +24,7 @@ if [ -n "$listing" ]; then
 fi
 [ ! -t 0 ] || say "reading the lines of a run from this terminal; Ctrl-D at the start of a line ends them"
 { cat >"$room/in"; } 2>/dev/null || fail "standard input can't be read"
+[ "$(head -c 4 <"$room/in" | tr -d '\000')" != HTLO ] || fail "standard input is an object, and no run; bin/htl jobs OBJECT < SCRIPT > RUN makes one"
 case $1 in
 --vcd) set -- -f "$tools/lines.awk" -f "$tools/vcd.awk" ;;
 *)

@@ -85,6 +85,13 @@ done
 	give_up
 }
 built=yes
+{
+	cksum <"$program"
+	commit=$(git -C "$here" rev-parse --short=12 HEAD 2>/dev/null) && {
+		[ -z "$(git -C "$here" status --porcelain -- crates crates.txt 2>/dev/null)" ] || commit="$commit with changes"
+	}
+	echo "with $(rt version), at ${commit:+commit }${commit:-no commit}"
+} >"$crate/out/htl.proved"
 # Sources that changed while the proof ran are newer than the program.
 touch -r "$room/began" "$program"
 say "proved, $count of $count, in $((($(date +%s) - began + 59) / 60)) min; bin/htl runs crates/htl/out/htl from now on"

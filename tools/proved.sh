@@ -35,6 +35,6 @@ case $line in
 esac
 end_child
 source=${2-}
-[ "$form" = file ] || source=$copied
+case $form in file | files | donor) ;; *) source=$copied ;; esac
 explain_fault "$line" "$source" "$copied"
 exit "$status"

@@ -53,7 +53,7 @@ function job_lane(j,    k, a) {
 	window_signs(j)
 	for (k = first_s[j] + !first_s[j]; k <= slices[j] && from[j, k] < finish; k++) {
 		if (upto[j, k] <= begin) first_s[j] = k + 1
-		else box("slice", from[j, k], upto[j, k], y + 8, 12, name_j[j] " runs from " from[j, k] " to " upto[j, k])
+		else box((j, k) in refused_slice ? "slice refused" : "slice", from[j, k], upto[j, k], y + 8, 12, name_j[j] " runs from " from[j, k] " to " upto[j, k])
 	}
 	for (k = first_d[j] + !first_d[j]; k <= finishes[j] && done[j, k] <= finish; k++) {
 		a = done[j, k]

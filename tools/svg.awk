@@ -37,14 +37,17 @@ function label(x, height, class, content, room,    wide) {
 	free = x + wide + 5
 }
 
-# Lines of the grid behind the lanes, and the axis with its numbers above them.
+# Lines of the grid behind the lanes, and the axis with its numbers above them, to the end of the row.
 function axis(height,    time) {
 	free = 0
-	for (time = begin; time <= finish; time += tick) {
-		printf "<path class=\"grid\" d=\"M%s %sV%s\"/>\n", x_of(time), y + 16, y + 20 + height
-		if (time >= begin) label(x_of(time) - 3 * length(time), y + 12, "axis", time "", 1000)
-	}
+	for (time = begin; time < finish; time += tick) grid_line(time, height)
+	grid_line(finish, height)
 	y += 20
+}
+
+function grid_line(time, height) {
+	printf "<path class=\"grid\" d=\"M%s %sV%s\"/>\n", x_of(time), y + 16, y + 20 + height
+	label(x_of(time) - 3 * length(time), y + 12, "axis", time "", 1000)
 }
 
 # Makes room for a lane's name on the left.
@@ -68,9 +71,10 @@ function divide() {
 
 # What is said in words below the title.
 function remarks() {
+	if (refused) remark[++remarked] = "refused by the audit: line " refused " of the log, " refused_for
 	if (rows > 1) remark[++remarked] = "cut by time into " rows " rows of at most " span " ticks"
 	if (least_left != "") remark[++remarked] = "least ticks left: " name_j[least_of] ", " how_near(least_of, least_at)
-	if (outside) remark[++remarked] = "slices outside the windows of the listing: " outside "; it may be of another object"
+	if (outside && !refused) remark[++remarked] = "slices outside the windows of the listing: " outside "; it may be of another object"
 }
 
 END {

@@ -59,6 +59,8 @@ run_unproved() {
 		shift
 		set -- --data "FILE=$room/file" -- "$word" FILE "$@"
 		;;
+	files) set -- --data "FILE=$room/file" --data "LOG=$room/log-file" -- "$word" FILE LOG ;;
+	donor) set -- --data "FILE=$room/file" --data "DONOR=$room/donor" -- "$word" FILE "$2" DONOR ;;
 	platform) set -- --data "FILE=$room/file" -- "$word" with FILE ;;
 	*) set -- -- "$word" "$@" ;;
 	esac
@@ -67,19 +69,30 @@ run_unproved() {
 	watch_child "building and running with nothing proved"
 }
 
+# Keeps a file in the folder of our own. The greatest that is read is an object or a log of 16 MiB; one block more tells that a file is longer.
+keep_file() { [ ! -d "$1" ] && head -c 16781312 <"$1" >"$room/$2"; } 2>/dev/null
+
+take_file() { keep_file "$1" "$2" || answer 8 'htl: shelf failed'; }
+
+# A first file that is too long is told before a second that can't be read.
+is_short() { [ "$(wc -c <"$room/file")" -le 16777216 ]; }
+
 make_room
 judge_words "$@"
 . "$tools/explain.sh"
 [ "$form" != wrong ] || answer 2 'htl: usage'
 case $form in
-file) file=$2 ;;
-platform) file=$3 ;;
-*) file= ;;
+file) take_file "$2" file ;;
+files)
+	take_file "$2" file
+	! is_short || take_file "$3" log-file
+	;;
+donor)
+	take_file "$2" file
+	! is_short || take_file "$4" donor
+	;;
+platform) take_file "$3" file ;;
 esac
-if [ "$form" = file ] || [ "$form" = platform ]; then
-	# The greatest file that is read is an object of 16 MiB; one block more tells that a file is longer.
-	{ [ ! -d "$file" ] && head -c 16781312 <"$file" >"$room/file"; } 2>/dev/null || answer 8 'htl: shelf failed'
-fi
 need_rt
 about="about a minute, two or three on a busy machine, with nothing proved"
 case ${unproved:+asked}$(state) in
@@ -100,5 +113,5 @@ if [ -s "$room/out" ] && ! cat "$room/out" 2>/dev/null; then
 	answer 10 'htl: write'
 fi
 source=$room/in
-[ "$form" != file ] || source=$room/file
+case $form in file | files | donor) source=$room/file ;; esac
 answer "$status" "$(grep '^htl: ' "$room/log" | tail -n 1)" "$source" "$room/in"

@@ -1,6 +1,7 @@
 # Behind listing.awk and lines.awk: the lanes of jobs, lane[i], i from 1 to lanes, in the order of the listing where there is
 # one; and then the windows of the jobs of invocation j, opens[j, k] to closes[j, k], k from 1 to windows[j], with ready[j, k],
-# when that job was done, where the run tells it.
+# when that job was done, where the run tells it. A log that was audited doesn't, but it is legal: there a job whose window ended
+# was done with its last slice in it.
 # Rounds of a mode begin at the multiples of its period, so an instant says of which round a job is.
 
 function compare(    c, m, k, j) {
@@ -33,9 +34,10 @@ function add_window(j, round, length_of_round) {
 }
 
 # The windows of the jobs that the run tells, and of one that was released and isn't told by the end.
-function find_windows(j,    its_mode, its_period, s, f, a, b, round) {
+function find_windows(j,    by_slices, its_mode, its_period, s, f, a, b, round) {
 	its_mode = mode_of(name_j[j])
 	its_period = period[its_mode]
+	by_slices = totals ~ /^audited / && !finishes[j]
 	for (s = f = 1; s <= slices[j] || f <= finishes[j];) {
 		a = s <= slices[j] ? int(from[j, s] / its_period) : 1e15
 		b = f <= finishes[j] ? round_done(j, f, its_period) : 1e15
@@ -43,6 +45,7 @@ function find_windows(j,    its_mode, its_period, s, f, a, b, round) {
 		add_window(j, round, its_period)
 		for (; s <= slices[j] && int(from[j, s] / its_period) == round; s++)
 			if (from[j, s] < opens[j, windows[j]] || upto[j, s] > closes[j, windows[j]]) outside++
+		if (by_slices && closes[j, windows[j]] <= last) done[j, ++finishes[j]] = upto[j, s - 1]
 		if (f <= finishes[j] && round_done(j, f, its_period) == round) note_done(j, windows[j], done[j, f++])
 	}
 	round = last > 0 ? int((last - 1) / its_period) : 0

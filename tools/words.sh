@@ -1,6 +1,6 @@
-# Judges words before any build. Sets `form`: wrong, file (the second word is a file), platform (the third word is one), or
-# plain; and `input`: script, modes, source, or none where standard input is not read. The number of `bulk` and the task of
-# `slack` are judged too.
+# Judges words before any build. Sets `form`: wrong, file (the second word is a file), files (the second and the third are),
+# donor (the second and the fourth are), platform (the third word is one), or plain; and `input`: script, modes, source, or none
+# where standard input is not read. The number of `bulk`, the task of `slack` and the mode of `patch` are judged too.
 
 # Whether the bytes of the words are UTF-8: htl takes no others for text. (Some awks fail where an output is closed.)
 are_text() {
@@ -41,7 +41,7 @@ is_name() (
 )
 
 # Whether a word is two names, joined by one dot.
-is_task() {
+are_joined() {
 	case $1 in
 	*.*) is_name "${1%%.*}" && is_name "${1#*.}" ;;
 	*) false ;;
@@ -56,7 +56,9 @@ judge_words() {
 	2:check | 2:show) form=file ;;
 	1:compile) form=plain input=source ;;
 	2:bulk) case $2 in [1-9] | [1-5][0-9] | 6[0-4]) form=plain ;; esac ;;
-	3:slack) ! is_task "$3" || form=file ;;
+	3:slack) ! are_joined "$3" || form=file ;;
+	4:patch) ! are_joined "$3" || form=donor ;;
+	3:audit) form=files input=script ;;
 	3:compile) [ "$2" != with ] || form=platform input=source ;;
 	esac
 	[ "$form" = wrong ] || are_text "$@" || form=wrong

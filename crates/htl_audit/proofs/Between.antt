@@ -24,7 +24,8 @@ use Rattle.htl_machine.specs.Plans.{round_start, finished_before}
 use Rattle.htl_machine.specs.Programs.{schedules_of, before_of, lines_of}
 use Rattle.htl_machine.specs.Rounds.{plan_of, selection_of}
 use Rattle.htl_machine.specs.Texts.{capped}
-use Rattle.htl_machine.specs.Turns.{count_before, done_by, finished_in}
+use Rattle.htl_refine.specs.RecordCounts.{count_before, done_by}
+use Rattle.htl_machine.specs.Turns.{finished_in}
 use Rattle.htl_machine.specs.Values.{ValuesFollow}
 use Rattle.htl_machine.proofs.Accepted.{accepted_is_loaded}
 use Rattle.htl_machine.proofs.Events.{Alike, state_same, before_same, values_alike, reading_more, sense_at, took_at}

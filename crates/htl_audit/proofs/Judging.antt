@@ -60,11 +60,11 @@ free_all t o sums i n (x ∷ xs) e (suc d) y at =
 free_at : (t : Tables) (o : Roster) (sums : List ℕ) (i : ℕ) (xs : List Inv) → is_free_from t o sums i 0 xs ≡ true → (d : ℕ) (y : Inv) → slice_get xs d ≡ Some y → is_clear_of t o sums i d ≡ true
 free_at t o sums i xs e d y at = subst (λ z. is_clear_of t o sums i z ≡ true) (let z : 0 + d ≡ d = omega arith in z) (free_all t o sums i 0 xs e d y at)
 
-implied : (a b : Bool) → (a ≡ true → b ≡ true) → (not a || b) ≡ true
+pub implied : (a b : Bool) → (a ≡ true → b ≡ true) → (not a || b) ≡ true
 implied true b f = f refl
 implied false b f = refl
 
-applied : (a b : Bool) → (not a || b) ≡ true → a ≡ true → b ≡ true
+pub applied : (a b : Bool) → (not a || b) ≡ true → a ≡ true → b ≡ true
 applied true b e f = e
 applied false b e f = absurd (let z : ⊥ = cc in z)
 

@@ -74,12 +74,12 @@ in_order rounds now log x e = by (ltb x.from (last_end log)) refl
         ap (λ z. cond z (Some kind.Order) (rest (any_job (λ r j. lies_in r j.1 x) rounds) (any_job (λ r j. lies_in r j.1 x && is_over r (log ++ x ∷ []) j) rounds) (any_job (λ r j. lies_in r j.1 x && not (is_free r log j.1)) rounds))) out in
         absurd (none_some kind.Order (sym e ∙ broken))
 
-take_next : (xs : List Slice) (n : ℕ) (x : Slice) → slice_get xs n ≡ Some x → take (suc n) xs ≡ take n xs ++ x ∷ []
+pub take_next : (xs : List Slice) (n : ℕ) (x : Slice) → slice_get xs n ≡ Some x → take (suc n) xs ≡ take n xs ++ x ∷ []
 take_next [] n x e = absurd (none_some x e)
 take_next (y ∷ xs) zero x e = let one : y ≡ x = cc in ap (λ z. z ∷ []) one
 take_next (y ∷ xs) (suc n) x e = ap (λ z. y ∷ z) (take_next xs n x e)
 
-get_before : (xs : List Slice) (n : ℕ) (x : Slice) → slice_get xs (suc n) ≡ Some x → (y : Slice) × (slice_get xs n ≡ Some y)
+pub get_before : (xs : List Slice) (n : ℕ) (x : Slice) → slice_get xs (suc n) ≡ Some x → (y : Slice) × (slice_get xs n ≡ Some y)
 get_before [] n x e = absurd (none_some x e)
 get_before (y ∷ xs) zero x e = (y, refl)
 get_before (y ∷ xs) (suc n) x e = get_before xs n x e

@@ -1,14 +1,24 @@
 -- The job lines of a run itself, as a log.
-use Rattle.std.specs.Prelude.{ℕ, suc, ◌*◌, List, [], Option, Some, None}
+use Rattle.std.specs.Prelude.{◌≡◌, ℕ, suc, ◌*◌, Bool, true, false, eqb, List, [], ◌∷◌, map, Option, Some, None}
+use Rattle.std.specs.List.{filter}
 use Rattle.htl_model.specs.declared.event.Event.{Event}
-use Rattle.htl_model.specs.Lists.{all_some, up_to}
+use Rattle.htl_model.specs.Lists.{all_some, joined, up_to}
 use Rattle.htl_model.specs.Selections.{root_period}
 use Rattle.htl_model.specs.Tables.{Tables}
+use Rattle.htl_object.specs.declared.object.Object.{Object}
+use Rattle.htl_object.specs.Accepted.{IsAccepted}
 use Rattle.htl_walk.specs.declared.job.Job.{Job}
 use Rattle.htl_walk.specs.declared.schedule.SInstr.{SInstr}
 use Rattle.htl_walk.specs.Walk.{Left, job_at}
-use Rattle.htl_refine.specs.Records.{round_at, left_at, rounds_before}
+use Rattle.htl_refine.specs.Records.{AreTookWithin, round_at, left_at, rounds_before}
+use Rattle.htl_console.specs.declared.shown.Shown.{Shown}
+use Rattle.htl_console.specs.Lines.{slice_line}
+use Rattle.htl_console.specs.Shows.{shows_jobs}
+use Rattle.htl_machine.specs.JobLines.{RunLine, printed, text_lines, HasNames}
+use Rattle.htl_machine.specs.JobLines.RunLine.{SliceLine, DoneLine, InstrLine, ChangeLine, StepLine, TotalsLine}
+use Rattle.htl_machine.specs.Programs.{schedules_of, text_of}
 use Rattle.htl_audit.specs.declared.slice.Slice.{Slice}
+use Rattle.htl_audit.specs.Legal.{first_fault, IsLegal}
 
 -- the slice of a record, if it has one
 abbrev pub own_slice : List Job → ℕ × Left → Option Slice
@@ -30,3 +40,49 @@ own_at t schedules es (Some period) now = up_to (λ k. own_of t schedules es (k 
 -- the slices that close by the end of the run
 abbrev pub own_log : Tables → List (List SInstr) → List Event → ℕ → List Slice
 own_log t schedules es end = up_to (own_at t schedules es (root_period t)) (suc end)
+
+-- ---- the log as it is printed
+
+-- the slice of a j line
+abbrev pub line_slice : RunLine → Option Slice
+line_slice (SliceLine from to i) = Some (record { from = from; to = to; inv = i })
+line_slice (DoneLine at i) = None
+line_slice (InstrLine at address x) = None
+line_slice (ChangeLine x) = None
+line_slice (StepLine at selection place x) = None
+line_slice (TotalsLine at jobs e s) = None
+
+-- the text is printed line by line, and its j lines are those of the log, in order
+pub record ShowsLog (t : Tables) (text : List ℕ) (log : List Slice) : Type 0 where
+  pub lines : List RunLine
+  pub whole : text ≡ joined (printed t) lines
+  pub of_log : all_some line_slice lines ≡ log
+
+-- a line that begins with `j`
+abbrev pub begins_as_slice : List ℕ → Bool
+begins_as_slice [] = false
+begins_as_slice (b ∷ bs) = eqb b 106
+
+-- `j FROM TO NAME`
+abbrev pub slice_text : Tables → Slice → List ℕ
+slice_text t x = slice_line t x.from x.to x.inv
+
+-- ---- the laws
+
+-- of an accepted object, whatever the sensors show and however long the jobs take within their worst cases: the job lines of a run are
+-- a legal log for it, whenever it ends
+abbrev pub OwnLogIsLegal : Type 0
+OwnLogIsLegal =
+    (o : Object) (es : List Event) (end : ℕ) → IsAccepted o → AreTookWithin o.tables es
+    → let log = own_log o.tables (schedules_of o) es end in IsLegal o.tables es end log × (first_fault o.tables es end log ≡ None)
+
+-- where jobs are shown, the j lines of the text of a run are this log, line by line
+abbrev pub OwnLogIsPrinted : Type 0
+OwnLogIsPrinted =
+    (o : Object) (es : List Event) (show : Shown) (end : ℕ) → shows_jobs show ≡ true → ShowsLog o.tables (text_of o es show end) (own_log o.tables (schedules_of o) es end)
+
+-- so a reader finds these lines and no others who cuts the text behind each line feed and takes the lines that begin with `j`
+abbrev pub OwnLogIsFound : Type 0
+OwnLogIsFound =
+    (o : Object) (es : List Event) (show : Shown) (end : ℕ) → HasNames o.tables → shows_jobs show ≡ true
+    → filter begins_as_slice (text_lines (text_of o es show end)) ≡ map (slice_text o.tables) (own_log o.tables (schedules_of o) es end)

@@ -126,10 +126,10 @@ impl Ledger {
         requires few { length t.now.invs ≤ 65536 }
         ensures { result ≡ is_clear_of_job t.now self.now.roster self.now.sums inv n }
     {
-        if !self.stands.as_slice()[n] || !feeds(t, n as u16, inv) {
+        if !self.stands.as_slice()[n] || self.sums.as_slice()[n] == self.lengths.as_slice()[n] {
             return true;
         }
-        self.sums.as_slice()[n] == self.lengths.as_slice()[n]
+        !feeds(t, n as u16, inv)
     }
 
     // Whether each job that precedes that of the invocation has all its ticks.

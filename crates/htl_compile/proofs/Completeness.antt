@@ -19,7 +19,7 @@ use Rattle.htl_model.specs.Ranges.{AreInRange}
 use Rattle.htl_model.specs.Tables.{Tables}
 use Rattle.htl_model.specs.declared.form_fault.FormFault.{FormFault}
 use Rattle.htl_refine.proofs.OneFault.{formed, one_refine_fault}
-use Rattle.htl_walk.specs.Jobs.{abstract_jobs}
+use Rattle.htl_walk.specs.PathJobs.{path_jobs}
 
 -- ---- completeness
 
@@ -84,8 +84,8 @@ one_overload t j k a c b d m n p q = by (order j k)
     by (inl less) = absurd (q.free j less a (pos b) m p.here.over)
     by (inr (inr more)) = absurd (p.free k more c (pos d) n q.here.over)
     by (inr (inl same)) =
-        let other : Reported (tightened (abstract_jobs t j)) c (pos d) n = subst (λ (s : ℕ). Reported (tightened (abstract_jobs t s)) c (pos d) n) (sym same) q.here in
-        let one = one_report (tightened (abstract_jobs t j)) a c (pos b) (pos d) m n p.here other in
+        let other : Reported (tightened (path_jobs t j)) c (pos d) n = subst (λ (s : ℕ). Reported (tightened (path_jobs t s)) c (pos d) n) (sym same) q.here in
+        let one = one_report (tightened (path_jobs t j)) a c (pos b) (pos d) m n p.here other in
         let from : a ≡ c = one.0 in
         let to : pos b ≡ pos d = one.1 in
         let demand : m ≡ n = one.2 in

@@ -7,10 +7,12 @@ mod Examples
 pub mod FromSource
 pub mod FunctionLaws
 pub mod FunctionTokens
+pub mod NodeSchedules
 pub mod OnPlatform
 pub mod PhaseLaws
 pub mod PlanLaws
 pub mod PlatformTables
+pub mod SamePaths
 pub mod SourceLaws
 pub mod SourceTables
 pub mod TokenPlaces

@@ -1,24 +1,28 @@
 -- The schedules that are planned are those of the object, and what is overloaded is so whatever the functions are.
-use Rattle.std.proofs.Common.{◌≡◌, ◌<◌, ℕ, suc, List, [], ◌∷◌, length, slice_get, Some, refl, sym, ◌∙◌, ap, subst, arith, pos}
-use Rattle.std.proofs.lemmas.Option.{slice_get_within}
+use Rattle.std.proofs.Common.{◌≡◌, ◌<◌, ℕ, suc, List, [], ◌∷◌, length, get_or, slice_get, Some, refl, sym, ◌∙◌, ap, subst, arith, pos}
+use Rattle.std.proofs.lemmas.Option.{slice_get_within, slice_get-get_or}
 use Rattle.htl_compile.proofs.CodedLaws.{list_to_at}
+use Rattle.htl_compile.proofs.NodeSchedules.{only_lists}
+use Rattle.htl_compile.proofs.SamePaths.{paths_same, path_jobs_same}
 use Rattle.htl_compile.specs.Building.{IsBackFault, IsFirstOverload, unplanned_of}
-use Rattle.htl_compile.specs.Built.{schedule_of, schedules, AreSchedulable}
+use Rattle.htl_compile.specs.Built.{node_schedule, schedules, AreSchedulable}
 use Rattle.htl_compile.specs.declared.building.BackFault.{BackFault}
 use Rattle.htl_edf.specs.Lists.{tightened}
-use Rattle.htl_edf.specs.Plan.{ArePlanned, ExplainsPlan}
+use Rattle.htl_edf.specs.NodePlans.{AreNodeLists, ExplainsNodes}
 use Rattle.htl_edf.specs.Windows.{Reported, NoOverload}
 use Rattle.htl_edf.specs.declared.plan.PlanFault.{PlanFault}
 use Rattle.htl_edf.specs.declared.plan.PlanFault.TheVariants.{Overload, Memory as PlanMemory}
 use Rattle.htl_model.proofs.Listed.{length-list_to}
-use Rattle.htl_model.proofs.SameRanges.{selection_count_same}
 use Rattle.htl_model.specs.Broken.{Formed}
 use Rattle.htl_model.specs.Exchanged.{with_functions}
-use Rattle.htl_model.specs.Selections.{selection_count}
+use Rattle.htl_model.specs.Frames.{paths, nodes}
+use Rattle.htl_model.specs.Ranges.{AreInRange}
 use Rattle.htl_model.specs.Tables.{Tables, Fun}
-use Rattle.htl_walk.proofs.SameJobs.{abstract_jobs_same}
-use Rattle.htl_walk.specs.Jobs.{abstract_jobs}
+use Rattle.htl_walk.proofs.CodeWalk.{list_read}
+use Rattle.htl_walk.specs.NodeWalks.{instrs_of}
+use Rattle.htl_walk.specs.PathJobs.{path_jobs}
 use Rattle.htl_walk.specs.declared.job.Job.{Job}
+use Rattle.htl_walk.specs.declared.schedule.SInstr.{SInstr}
 use Rattle.htl_walk.specs.declared.schedule.Schedule.{Schedule}
 
 -- ---- the schedules
@@ -33,37 +37,37 @@ same_items (x ∷ xs) (y ∷ ys) e h =
     let one : x ≡ y = cc in
     ap (λ z. z ∷ xs) one ∙ ap (λ zs. y ∷ zs) (same_items xs ys (omega (arith, e)) (λ k z at. h (suc k) z at))
 
-pub planned_is : (t : Tables) (ss : List Schedule) → ArePlanned t (selection_count t) ss → ss ≡ schedules t
-planned_is t ss p =
-    let count : length (schedules t) ≡ selection_count t = length-list_to (schedule_of t) (selection_count t) in
-    same_items ss (schedules t) (p.count ∙ sym count) (λ k y at.
-    let less : k < selection_count t = omega (arith, count, slice_get_within (schedules t) k y at) in
-    let here = p.each k less in
-    let made : here.0 ≡ schedule_of t k = ap (λ is. record { instrs = is }) here.2.is in
-    here.1 ∙ ap (λ (s : Schedule). Some s) made ∙ sym (list_to_at (schedule_of t) (selection_count t) k less) ∙ at)
+none : Schedule
+none = record { instrs = [] }
 
-pub planned_free : (t : Tables) (ss : List Schedule) → ArePlanned t (selection_count t) ss → AreSchedulable t
-planned_free t ss p = λ sel less. (p.each sel less).2.fits
+pub planned_is : (t : Tables) (ss : List Schedule) → AreInRange t → length ss ≡ nodes t → AreNodeLists t (instrs_of ss) → ss ≡ schedules t
+planned_is t ss range count lists =
+    let many : length (schedules t) ≡ nodes t = length-list_to (node_schedule t) (nodes t) in
+    same_items ss (schedules t) (count ∙ sym many) (λ k y at.
+    let less : k < nodes t = omega (arith, many, slice_get_within (schedules t) k y at) in
+    let there : slice_get ss k ≡ Some (get_or ss k none) = slice_get-get_or ss k none (omega (arith, less, count)) in
+    let is : (get_or ss k none).instrs ≡ (node_schedule t k).instrs = list_read ss none k (omega (arith, less, count)) ∙ only_lists t range ss count lists k less in
+    let here : Some y ≡ Some (node_schedule t k) = sym at ∙ list_to_at (node_schedule t) (nodes t) k less in
+    let one : y ≡ node_schedule t k = cc in
+    there ∙ ap (λ (i : List SInstr). let s : Schedule = record { instrs = i } in Some s) is ∙ ap (λ (s : Schedule). Some s) (sym one))
 
 -- an overload of tables that keep the form rules is a fault of theirs
-pub unplanned_is : (t : Tables) (e : PlanFault) (f : BackFault) → Formed t → ExplainsPlan t e → f ≡ unplanned_of e → IsBackFault t f
-unplanned_is t (Overload sel a b demand) f formed h is =
-    subst (IsBackFault t) (sym is) (formed, record { there = h.0; free = h.1; here = h.2.here })
+pub unplanned_is : (t : Tables) (e : PlanFault) (f : BackFault) → Formed t → ExplainsNodes t e → f ≡ unplanned_of e → IsBackFault t f
+unplanned_is t (Overload path a b demand) f formed h is = subst (IsBackFault t) (sym is) (formed, record { there = h.0; free = h.1; here = h.2 })
 unplanned_is t PlanMemory f formed h is = subst (IsBackFault t) (sym is) tt
 
 -- ---- whatever the functions are
 
 pub free_same : (t : Tables) (fs : List Fun) → AreSchedulable (with_functions t fs) → AreSchedulable t
-free_same t fs free = λ sel less.
-    subst (λ (js : List Job). NoOverload (tightened js)) (sym (abstract_jobs_same t fs sel))
-    (free sel (subst (λ (n : ℕ). sel < n) (selection_count_same t fs) less))
+free_same t fs free = λ path less.
+    subst (λ (js : List Job). NoOverload (tightened js)) (sym (path_jobs_same t fs path)) (free path (subst (λ (n : ℕ). path < n) (paths_same t fs) less))
 
-pub overload_same : (t : Tables) (fs : List Fun) (sel a b demand : ℕ) → IsFirstOverload (with_functions t fs) sel a b demand → IsFirstOverload t sel a b demand
-overload_same t fs sel a b demand h =
-    let jobs : (k : ℕ) → abstract_jobs (with_functions t fs) k ≡ abstract_jobs t k = λ k. sym (abstract_jobs_same t fs k) in
-    let count : selection_count (with_functions t fs) ≡ selection_count t = sym (selection_count_same t fs) in
+pub overload_same : (t : Tables) (fs : List Fun) (path a b demand : ℕ) → IsFirstOverload (with_functions t fs) path a b demand → IsFirstOverload t path a b demand
+overload_same t fs path a b demand h =
+    let jobs : (k : ℕ) → path_jobs (with_functions t fs) k ≡ path_jobs t k = λ k. sym (path_jobs_same t fs k) in
+    let count : paths (with_functions t fs) ≡ paths t = sym (paths_same t fs) in
     record {
       there = omega (arith, count, h.there);
-      free = λ k less. subst (λ (js : List Job). NoOverload (tightened js)) (jobs k) (h.free k less);
-      here = subst (λ (js : List Job). Reported (tightened js) a (pos b) demand) (jobs sel) h.here;
+      free = λ k less. subst (λ (js : List Job). NoOverload (tightened js)) (jobs k) (h.free k (omega (arith, less)));
+      here = subst (λ (js : List Job). Reported (tightened js) a (pos b) demand) (jobs path) h.here;
     }

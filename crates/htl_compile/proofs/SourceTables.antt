@@ -1,13 +1,13 @@
--- What the tables of a source keep, and that nothing is accepted for a root selection that is overloaded.
+-- What the tables of a source keep, and that nothing is accepted for a path that is overloaded.
 use Rattle.std.proofs.Common.{arith, ◌≡◌, ◌≤◌, ◌+◌, ℕ, List, [], ◌∷◌, ◌++◌, length, sym, ap, subst, length-append}
 use Rattle.std.specs.List.{zip}
 use Rattle.htl_compile.specs.Coded.{AreSourceTables}
 use Rattle.htl_compile.specs.Laws.{SourceTablesFit, NoneForOverloaded}
 use Rattle.htl_compile.specs.Sources.{IsTablesOf}
-use Rattle.htl_edf.proofs.Plannable.{plannable}
-use Rattle.htl_edf.proofs.Walks.{no_schedule}
+use Rattle.htl_edf.proofs.Cutting.{path_refusal}
+use Rattle.htl_edf.proofs.PathOrder.{ready}
 use Rattle.htl_model.specs.Broken.{KeptTo}
-use Rattle.htl_model.specs.Selections.{round_length}
+use Rattle.htl_model.specs.Frames.{frame_of}
 use Rattle.htl_model.specs.Tables.{Tables}
 use Rattle.htl_names.proofs.InRange.{names-in-range}
 use Rattle.htl_names.proofs.KeepsLimits.{names-keep-limits}
@@ -20,7 +20,10 @@ use Rattle.htl_text.proofs.Spellable.{tokens-spellable}
 use Rattle.htl_text.specs.Spans.{Cuts, Tokens}
 use Rattle.htl_text.specs.TokenLists.{TokenList}
 use Rattle.htl_text.specs.declared.token.Token.{Token}
-use Rattle.htl_walk.specs.Jobs.{abstract_jobs}
+use Rattle.htl_object.proofs.OneRound.{kept_apart, no_limit}
+use Rattle.htl_walk.proofs.Nodes.{some_root}
+use Rattle.htl_walk.proofs.Starts.{legs_follow}
+use Rattle.htl_walk.specs.PathJobs.{path_jobs, legs}
 
 -- ---- a text has no more tokens than bytes
 
@@ -55,10 +58,11 @@ source_tables_fit bytes t short h =
       small = functions_small h.programs fits h.named ranges;
     })
 
--- ---- an overloaded root selection
+-- ---- an overloaded path
 
 pub none_for_overloaded : NoneForOverloaded
-none_for_overloaded t sel a b demand ranges limits formed less over =
+none_for_overloaded t path a b demand ranges limits formed less over =
     let kept : KeptTo t 12 = λ r s have need small h. formed r s have need h in
-    let plan = (plannable t ranges kept limits).each sel less in
-    no_schedule (abstract_jobs t sel) plan.jobs plan.order a b demand over (round_length t)
+    let paths_are = ready t ranges (kept_apart t ranges kept) (no_limit t ranges kept limits) in
+    let here = paths_are.each path less in
+    path_refusal (path_jobs t path) (legs t path) (frame_of t) here.jobs here.order (legs_follow t path (some_root t path less) (paths_are.long (omega (arith, less)))) a b demand over

@@ -15,10 +15,10 @@ use Rattle.htl_edf.specs.Windows.{Reported, NoOverload}
 use Rattle.htl_edf.specs.declared.plan.PlanFault.{PlanFault}
 use Rattle.htl_edf.specs.declared.plan.PlanFault.TheVariants.{Overload, Memory as PlanMemory}
 use Rattle.htl_model.specs.Broken.{Formed, IsFirstBroken}
-use Rattle.htl_model.specs.Selections.{selection_count}
+use Rattle.htl_model.specs.Frames.{paths}
 use Rattle.htl_model.specs.Tables.{Tables}
 use Rattle.htl_object.specs.Objects.{IsObject, object_bytes}
-use Rattle.htl_walk.specs.Jobs.{abstract_jobs}
+use Rattle.htl_walk.specs.PathJobs.{path_jobs}
 
 -- ---- of tables
 
@@ -27,20 +27,20 @@ abbrev pub unplanned_of : PlanFault → BackFault
 unplanned_of (Overload sel a b demand) = back.Unschedulable sel a b demand
 unplanned_of PlanMemory = back.Memory
 
--- This root selection is the first that is overloaded, and of its overloaded intervals this is the one that is told. That no
--- schedule whatever is accepted for it is the law NoneForOverloaded.
-pub record IsFirstOverload (t : Tables) (sel a b demand : ℕ) : Type 0 where
-  pub there : sel < selection_count t
-  pub free : (k : ℕ) → k < sel → NoOverload (tightened (abstract_jobs t k))
-  pub here : Reported (tightened (abstract_jobs t sel)) a (pos b) demand
+-- This path is the first that is overloaded, and of its overloaded intervals this is the one that is told. That no lists whatever are
+-- accepted for it is the law NoneForOverloaded.
+pub record IsFirstOverload (t : Tables) (path a b demand : ℕ) : Type 0 where
+  pub there : path < paths t
+  pub free : (k : ℕ) → k < path → NoOverload (tightened (path_jobs t k))
+  pub here : Reported (tightened (path_jobs t path)) a (pos b) demand
 
--- the first form rule that is broken; where none is, the first root selection that is overloaded; want of memory is free
+-- the first form rule that is broken; where none is, the first path that is overloaded; want of memory is free
 abbrev pub IsBackFault : Tables → BackFault → Type 0
 IsBackFault t (back.IllFormed f) = IsFirstBroken t f
 IsBackFault t (back.Unschedulable sel a b demand) = Formed t × IsFirstOverload t sel a b demand
 IsBackFault t back.Memory = Unit {0}
 
--- The tables with code break no form rule and have no overloaded root selection, and the bytes are those of their object.
+-- The tables with code break no form rule and have no overloaded path, and the bytes are those of their object.
 pub record IsObjectOf (platform : Option (List ℕ)) (t : Tables) (bytes : List ℕ) : Type 0 where
   pub formed : Formed t
   pub schedulable : AreSchedulable t

@@ -1,24 +1,33 @@
 -- The object of tables.
-use Rattle.std.specs.Prelude.{◌<◌, ℕ, List, Option, None}
+use Rattle.std.specs.Prelude.{◌<◌, ◌+◌, ◌*◌, ◌/◌, ◌%◌, ℕ, zero, suc, List, [], ◌∷◌, Option, None}
 use Rattle.htl_compile.specs.Coded.{coded, CanCode}
 use Rattle.htl_ecode.specs.Layout.{layout}
-use Rattle.htl_edf.specs.Code.{edf_schedule}
 use Rattle.htl_edf.specs.Lists.{tightened}
+use Rattle.htl_edf.specs.Parts.{part}
 use Rattle.htl_edf.specs.Windows.{NoOverload}
 use Rattle.htl_model.specs.Broken.{Formed}
+use Rattle.htl_model.specs.Frames.{paths, nodes, nodes_of, radices, ways}
 use Rattle.htl_model.specs.Lists.{list_to}
-use Rattle.htl_model.specs.Selections.{selection_count, round_length}
 use Rattle.htl_model.specs.Tables.{Tables}
 use Rattle.htl_object.specs.declared.object.Object.{Object}
-use Rattle.htl_walk.specs.Jobs.{abstract_jobs}
+use Rattle.htl_walk.specs.FrameLaws.{start_at, end_at}
+use Rattle.htl_walk.specs.PathJobs.{path_jobs}
 use Rattle.htl_walk.specs.declared.schedule.Schedule.{Schedule}
 
--- the schedule of earliest deadline first of a root selection
-abbrev pub schedule_of : Tables → ℕ → Schedule
-schedule_of t sel = record { instrs = edf_schedule (abstract_jobs t sel) (round_length t) }
+-- the first path through a node, and the node's start, where there are so many choices at each start: nodes are numbered in preorder
+abbrev pub through : List ℕ → ℕ → ℕ × ℕ
+through [] n = (0, 0)
+through (c ∷ cs) n =
+    let block = suc (nodes_of cs) in
+    let first = n / block * ways cs in
+    elim (n % block) [ zero ↦ (first, 0) | suc r ↦ let rest = through cs r in (first + rest.0, suc rest.1) ]
+
+-- the schedule of a node: the part of earliest deadline first of the jobs of its paths, from its start to the next one or the frame's end
+abbrev pub node_schedule : Tables → ℕ → Schedule
+node_schedule t n = let x = through (radices t) n in record { instrs = part (path_jobs t x.0) (start_at t x.1) (end_at t x.1) }
 
 abbrev pub schedules : Tables → List Schedule
-schedules t = list_to (schedule_of t) (selection_count t)
+schedules t = list_to (node_schedule t) (nodes t)
 
 -- tables with code, their E code in the generated layout, and their schedules, for a platform where one is named
 abbrev pub object_for : Option (List ℕ) → Tables → Object
@@ -35,9 +44,9 @@ built_with platform t = object_for platform (coded t)
 abbrev pub built : Tables → Object
 built t = built_with None t
 
--- no interval of any root selection is overloaded
+-- no interval of any path is overloaded
 abbrev pub AreSchedulable : Tables → Type 0
-AreSchedulable t = (sel : ℕ) → sel < selection_count t → NoOverload (tightened (abstract_jobs t sel))
+AreSchedulable t = (path : ℕ) → path < paths t → NoOverload (tightened (path_jobs t path))
 
 -- tables of which an accepted object is built
 pub record CanBuild (t : Tables) : Type 0 where

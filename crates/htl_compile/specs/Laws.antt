@@ -11,16 +11,16 @@ use Rattle.htl_compile.specs.declared.compiling.CompileFault.{CompileFault}
 use Rattle.htl_compile.specs.declared.compiling.CompileFault.TheVariants as compile
 use Rattle.htl_compile.specs.declared.source.FrontFault.{FrontFault}
 use Rattle.htl_compile.specs.declared.source.FrontFault.TheVariants as front
-use Rattle.htl_edf.specs.Faults.{NoneIsAccepted}
 use Rattle.htl_edf.specs.Lists.{tightened}
+use Rattle.htl_edf.specs.PartLaws.{NoneAreAccepted}
 use Rattle.htl_edf.specs.Windows.{Overloaded}
 use Rattle.htl_model.specs.Broken.{Formed, KeepsLimits}
 use Rattle.htl_model.specs.Exchanged.{SameRuns}
+use Rattle.htl_model.specs.Frames.{paths}
 use Rattle.htl_model.specs.Ranges.{AreInRange}
-use Rattle.htl_model.specs.Selections.{selection_count, round_length}
 use Rattle.htl_model.specs.Tables.{Tables}
 use Rattle.htl_object.specs.Accepted.{IsAccepted}
-use Rattle.htl_walk.specs.Jobs.{abstract_jobs}
+use Rattle.htl_walk.specs.PathJobs.{path_jobs, legs}
 
 -- what is built is accepted, also with a platform's name
 abbrev pub BuiltIsAccepted : Type 0
@@ -38,11 +38,11 @@ OneTables = (bytes : List ℕ) (t u : Tables) → IsTablesOf bytes t → IsTable
 abbrev pub SourceTablesFit : Type 0
 SourceTablesFit = (bytes : List ℕ) (t : Tables) → length bytes ≤ MAX_SOURCE → IsTablesOf bytes t → AreSourceTables t
 
--- no S code whatever is accepted for a root selection that is overloaded
+-- no lists whatever are accepted for a path that is overloaded
 abbrev pub NoneForOverloaded : Type 0
 NoneForOverloaded =
-    (t : Tables) (sel a : ℕ) (b : ℤ) (demand : ℕ) → AreInRange t → KeepsLimits t → Formed t → sel < selection_count t
-    → Overloaded (tightened (abstract_jobs t sel)) a b demand → NoneIsAccepted (abstract_jobs t sel) (round_length t)
+    (t : Tables) (path a : ℕ) (b : ℤ) (demand : ℕ) → AreInRange t → KeepsLimits t → Formed t → path < paths t
+    → Overloaded (tightened (path_jobs t path)) a b demand → NoneAreAccepted (path_jobs t path) (legs t path)
 
 -- ---- completeness
 
@@ -50,7 +50,7 @@ NoneForOverloaded =
 abbrev pub FrontOnlyMemory : Type 0
 FrontOnlyMemory = (bytes : List ℕ) (t : Tables) (f : FrontFault) → IsTablesOf bytes t → AreTyped t → IsFrontFault bytes f → f ≡ front.Memory
 
--- tables that break no form rule and have no overloaded root selection have no fault
+-- tables that break no form rule and have no overloaded path have no fault
 abbrev pub BackOnlyMemory : Type 0
 BackOnlyMemory = (t : Tables) (f : BackFault) → Formed t → AreSchedulable t → IsBackFault t f → f ≡ back.Memory
 

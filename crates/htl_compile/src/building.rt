@@ -9,7 +9,7 @@ ghost use Rattle.htl_object.specs.Accepted.{IsAccepted};
 
 use htl_base::{Memory, Name, Seq, Time};
 use htl_ecode::generate_e;
-use htl_edf::{PlanFault, edf_all};
+use htl_edf::{PlanFault, edf_nodes};
 use htl_form::form;
 use htl_model::{FormFault, Tables};
 use htl_object::Object;
@@ -21,11 +21,11 @@ use std::alloc::Global;
 pub enum BackFault {
     /// The first of the form rules 1 to 16 that is broken, and where.
     IllFormed(FormFault),
-    /// No form rule is broken, and a root selection is overloaded.
+    /// No form rule is broken, and a path is overloaded.
     Unschedulable {
-        /// The number of the first such root selection.
+        /// The number of the first such path: while all root modules have one period, of the root selection.
         selection: u32,
-        /// The overloaded interval, in ticks from the start of the round: of those with the greatest end the one with the
+        /// The overloaded interval, in ticks from the start of the frame: of those with the greatest end the one with the
         /// least beginning.
         from: Time,
         /// Its end.
@@ -84,7 +84,7 @@ pub fn back_for(
     if let Err(fault) = first_broken(&t) {
         return Err((t, BackFault::IllFormed(fault)));
     }
-    let schedules = match edf_all(alloc, &t) {
+    let schedules = match edf_nodes(alloc, &t) {
         Ok(schedules) => schedules,
         Err(fault) => return Err((t, unplanned(fault))),
     };
@@ -99,12 +99,12 @@ pub fn back_for(
     }
 }
 
-/// The object of tables: the tables themselves, their E code in the generated layout, and for each root selection the schedule
-/// of earliest deadline first; it names no platform. The functions are verified code of the types of their places, and the tables keep the limits
+/// The object of tables: the tables themselves, their E code in the generated layout, and for each node the schedule of earliest
+/// deadline first; it names no platform. The functions are verified code of the types of their places, and the tables keep the limits
 /// on root selections and positions.
 ///
 /// The object is accepted, so it can be loaded. A refusal comes exactly where a form rule is broken, with the first, or else
-/// where a root selection is overloaded, with the first; it hands the tables back unchanged. Want of memory may stand in
+/// where a path is overloaded, with the first; it hands the tables back unchanged. Want of memory may stand in
 /// place of any answer.
 pub fn back(alloc: Global, t: Tables) -> Result<Object, (Tables, BackFault)>
     requires functions { FitPlaces t }

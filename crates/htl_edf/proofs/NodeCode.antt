@@ -44,7 +44,7 @@ frame_end t f s = sym (front_get (f.count + 1) f.starts f.count (omega arith)) �
 
 -- ---- nodes of different starts
 
-depth_same : (cs : List ℕ) (p q j i : ℕ) → 0 < ways cs → j < length cs → i < length cs → node_of cs p j ≡ node_of cs q i → j ≡ i
+pub depth_same : (cs : List ℕ) (p q j i : ℕ) → 0 < ways cs → j < length cs → i < length cs → node_of cs p j ≡ node_of cs q i → j ≡ i
 depth_same [] p q j i h l k e = absurd (omega (arith, l))
 depth_same (c ∷ cs) p q zero zero h l k e = refl
 depth_same (c ∷ cs) p q zero (suc i) h l k e =

@@ -19,10 +19,3 @@ pub use nodes::{edf_nodes, first_overload, plan_nodes};
 pub use plan::{PlanFault, edf_all};
 pub use rounds::{Tight, tighten};
 pub use scheduler::{EdfFault, edf};
-
-#[cfg(test)]
-mod frame_tests;
-#[cfg(test)]
-mod plan_tests;
-#[cfg(test)]
-mod tests;

@@ -4,7 +4,7 @@ use Rattle.std.proofs.lemmas.Option.{slice_get_within}
 use Rattle.std.proofs.lemmas.List.{length-set, length-map, length-replicate}
 use Rattle.htl_model.specs.declared.parts.Module.{Module}
 use Rattle.htl_model.specs.Ranges.{AreInRange}
-use Rattle.htl_model.specs.Broken.{KeptTo}
+use Rattle.htl_model.specs.FrameRules.{KeptApart}
 use Rattle.htl_model.specs.Tables.{Tables}
 use Rattle.htl_ecode.specs.declared.ecode.ECode.{ECode}
 use Rattle.htl_ecode.specs.declared.instr.EInstr.{EInstr}
@@ -89,7 +89,7 @@ due_safe t code phase at m p r reads ph s e =
       start_safe t code p.0 phase p.1 r reads start,
     )
 
-pub ready_safely : (t : Tables) (code : ECode) (phase at : ℕ) (m : Standing) (w : Content) → AreInRange t → KeptTo t 12 → departure t code ≡ None → (1 ≤ phase) × (phase ≤ 3) → IsShaped t w → StandsSafely t code m →
+pub ready_safely : (t : Tables) (code : ECode) (phase at : ℕ) (m : Standing) (w : Content) → AreInRange t → KeptApart t 12 → departure t code ≡ None → (1 ≤ phase) × (phase ≤ 3) → IsShaped t w → StandsSafely t code m →
     IfSome (block_in phase at m) (IsReady t code m.calendar w)
 ready_safely t code phase at m w r kept spelled ph shaped s = by_running m.running s.running
   where

@@ -20,6 +20,7 @@ use Rattle.htl_model.specs.Ranges.{AreInRange, IsCommInRange, IsModeInRange, IsM
 use Rattle.htl_model.specs.FormRules.{FormRule, ModulePeriod, RootPeriod, Divides, Offsets, Ends, Windows, WorstCases, PortWriters, PortCycles, AbstractPorts, Sensors, ConcreteWriters, AbstractPlaces, Parents, SharedParents, Inheritance, number_of, Part, Itself, Input, Output, Test}
 use Rattle.htl_model.specs.PortOrder.{Leads, direct, through, feeds}
 use Rattle.htl_model.specs.PortWriters.{OutputBefore}
+use Rattle.htl_model.specs.FrameRules.{KeptApart}
 use Rattle.htl_model.specs.Broken.{KeptTo, breach, PartBreaks, BreaksAt}
 use Rattle.htl_model.specs.FunctionTypes.{output_type, IsFunctionOf, FitPlaces}
 use Rattle.htl_model.specs.Tables.{Tables, Fun, Compiled}
@@ -243,8 +244,8 @@ sample_kept r s have need few b = site_kept r s.mode have need b.0 s.inv s.part 
 pub sample_keeps : KeepsOffsets sample
 sample_keeps s have need b = sample_kept Offsets s have need (omega arith) b
 
-pub kept_of : (t : Tables) → t ≡ sample → KeptTo t 12
-kept_of t e = subst (λ z. KeptTo z 12) (sym e) sample_kept
+pub kept_of : (t : Tables) → t ≡ sample → KeptApart t 12
+kept_of t e = subst (λ z. KeptApart z 12) (sym e) (λ r s have need few other b. sample_kept r s have need few b)
 
 pub fits_of : (t : Tables) → t ≡ sample → FitPlaces t
 fits_of t e = subst FitPlaces (sym e) sample_fits

@@ -11,7 +11,7 @@ use Rattle.htl_model.specs.Tables.{Tables, mode_period, mode_module, comm_period
 use Rattle.htl_model.specs.FormRules.{ModulePeriod, Offsets, Ends, Itself, Input, Output}
 use Rattle.htl_model.specs.PeriodRules.{asked_period, first_mode}
 use Rattle.htl_model.specs.EndRules.{CountsDiffer, input_types, output_types}
-use Rattle.htl_model.specs.Broken.{KeptTo}
+use Rattle.htl_model.specs.FrameRules.{KeptApart}
 use Rattle.htl_ecode.specs.declared.ecode.ECode.{ECode}
 use Rattle.htl_ecode.specs.Offsets.{counts, counted_in, phase_offsets, holds}
 use Rattle.htl_ecode.specs.Departure.{departure}
@@ -45,7 +45,7 @@ item_at (x ∷ xs) (suc k) h = item_at xs k (omega (arith, h))
 mode_is : (t : Tables) (m : ℕ) (x : Mode) → slice_get t.modes m ≡ Some x → (mode_period t m ≡ x.period) × (mode_module t m ≡ x.«module»)
 mode_is t m x e = (ap (λ (o : Option Mode). elim o as (λ _. ℕ) [ Some y ↦ y.period | None ↦ 0 ]) e, ap (λ (o : Option Mode). elim o as (λ _. ℕ) [ Some y ↦ y.«module» | None ↦ 0 ]) e)
 
-pub same_periods : (t : Tables) (last : ℕ) → 1 ≤ last → KeptTo t last → SamePeriods t
+pub same_periods : (t : Tables) (last : ℕ) → 1 ≤ last → KeptApart t last → SamePeriods t
 same_periods t last least kept = λ k q m parent inside owner.
     let x = item_at t.modes m inside in
     let is = mode_is t m x.0 x.1 in
@@ -55,12 +55,12 @@ same_periods t last least kept = λ k q m parent inside owner.
     elim (equal_or x.0.period (mode_period t q)) [
       | inl same ↦ is.0 ∙ same
       | inr other ↦
-          absurd (kept ModulePeriod (record { mode = m; inv = None; part = Itself }) x.0.period (mode_period t q) (omega (arith, least)) (x.0, x.1, (refl, asked, other)))
+          absurd (kept ModulePeriod (record { mode = m; inv = None; part = Itself }) x.0.period (mode_period t q) (omega (arith, least)) (λ e. omega (arith, e)) (x.0, x.1, (refl, asked, other)))
     ]
 
 -- ---- as many ends as the task has
 
-pub has_ends : (t : Tables) (last : ℕ) → 5 ≤ last → AreInRange t → KeptTo t last → HasEnds t
+pub has_ends : (t : Tables) (last : ℕ) → 5 ≤ last → AreInRange t → KeptApart t last → HasEnds t
 has_ends t last least r kept =
     record {
       reads = λ i x at. reads_same i x at;
@@ -74,7 +74,7 @@ has_ends t last least r kept =
     broken i x at have need differ =
         let inv = all_at (IsInvInRange t) t.invs r.invs i x at in
         let m = item_at t.modes x.mode inv.owner in
-        kept Ends (record { mode = x.mode; inv = Some i; part = Itself }) have need (omega (arith, least)) (m.0, m.1, (x, at, refl, differ))
+        kept Ends (record { mode = x.mode; inv = Some i; part = Itself }) have need (omega (arith, least)) (λ e. omega (arith, e)) (m.0, m.1, (x, at, refl, differ))
 
     reads_same : (i : ℕ) (x : Inv) → slice_get t.invs i ≡ Some x → length x.reads ≡ length (input_types t x.task)
     reads_same i x at = elim (equal_or (length x.reads) (length (input_types t x.task))) [
@@ -128,7 +128,7 @@ holds_cond o false xs e = absurd (let z : ⊥ = cc in z)
 counts_mode : (t : Tables) (m : ℕ) (x : Inv) → counts t m x ≡ true → m ≡ x.mode
 counts_mode t m x e = sym (eqb-true x.mode m (and_cases (eqb x.mode m) (is_concrete t x) e).0)
 
-pub writes_within : (t : Tables) (last : ℕ) → 4 ≤ last → KeptTo t last → (m o : ℕ) → m < length t.modes → holds o (phase_offsets t m 1) ≡ true → (0 < o) × (o ≤ mode_period t m)
+pub writes_within : (t : Tables) (last : ℕ) → 4 ≤ last → KeptApart t last → (m o : ℕ) → m < length t.modes → holds o (phase_offsets t m 1) ≡ true → (0 < o) × (o ≤ mode_period t m)
 writes_within t last least kept m o inside there =
     let v = holds_joined o (counted_in t m 1) t.invs there in
     let c = holds_cond o (counts t m v.1) (offsets t v.1.writes) v.3 in
@@ -136,7 +136,7 @@ writes_within t last least kept m o inside there =
     let mode : m ≡ v.1.mode = counts_mode t m v.1 c.0 in
     let x = item_at t.modes m inside in
     let no : (0 ≡ o) ⊎ (mode_period t m < o) → ⊥ = λ h.
-    kept Offsets (record { mode = m; inv = Some v.0; part = Output e.0 }) o (mode_period t m) (omega (arith, least))
+    kept Offsets (record { mode = m; inv = Some v.0; part = Output e.0 }) o (mode_period t m) (omega (arith, least)) (λ e. omega (arith, e))
     (x.0, x.1, (v.1, v.2, sym mode, (E.Comm e.1 e.2, e.3, (e.4, ap (mode_period t) mode, elim h [ inl z ↦ inl (sym z) | inr z ↦ inr z ])))) in
     (by_zero o no, by_most o (mode_period t m) no)
   where
@@ -150,7 +150,7 @@ writes_within t last least kept m o inside there =
     by_most : (a b : ℕ) → ((0 ≡ a) ⊎ (b < a) → ⊥) → a ≤ b
     by_most a b h = elim (split a b) [ inl g ↦ g | inr g ↦ absurd (h (inr g)) ]
 
-pub reads_within : (t : Tables) (last : ℕ) → 4 ≤ last → AreInRange t → KeptTo t last → (m o : ℕ) → m < length t.modes → holds o (phase_offsets t m 3) ≡ true → o < mode_period t m
+pub reads_within : (t : Tables) (last : ℕ) → 4 ≤ last → AreInRange t → KeptApart t last → (m o : ℕ) → m < length t.modes → holds o (phase_offsets t m 3) ≡ true → o < mode_period t m
 reads_within t last least r kept m o inside there =
     let v = holds_joined o (counted_in t m 3) t.invs there in
     let c = holds_cond o (counts t m v.1) (release t v.1 ∷ offsets t v.1.reads) v.3 in
@@ -170,7 +170,7 @@ reads_within t last least r kept m o inside there =
         elim (split a (mode_period t m)) [
           | inl less ↦ less
           | inr late ↦
-              absurd (kept Offsets (record { mode = m; inv = Some i; part = Input e.0 }) a (mode_period t m) (omega (arith, least))
+              absurd (kept Offsets (record { mode = m; inv = Some i; part = Input e.0 }) a (mode_period t m) (omega (arith, least)) (λ e. omega (arith, e))
               (y.0, y.1, (x, at, sym mode, (E.Comm e.1 e.2, e.3, (e.4, ap (mode_period t) mode, late)))))
         ]
 
@@ -200,7 +200,7 @@ reads_within t last least r kept m o inside there =
 
 -- ---- all together
 
-pub sound : (t : Tables) (code : ECode) (last : ℕ) → 4 ≤ last → AreInRange t → KeptTo t last → departure t code ≡ None → Sound t code
+pub sound : (t : Tables) (code : ECode) (last : ℕ) → 4 ≤ last → AreInRange t → KeptApart t last → departure t code ≡ None → Sound t code
 sound t code last least r kept spelled =
     record {
       ranges = r;
@@ -218,7 +218,7 @@ phase_is (suc (suc (suc zero))) h = inr (inr refl)
 phase_is (suc (suc (suc (suc n)))) h = absurd (omega (arith, h.1))
 
 -- one call, by what is asked of tables and code
-pub step_onward : (t : Tables) (code : ECode) (now phase : ℕ) (values : List ℤ) (m after : Standing) (result : Option EDone) → AreInRange t → KeptTo t 12 → departure t code ≡ None → (1 ≤ phase) × (phase ≤ 3) →
+pub step_onward : (t : Tables) (code : ECode) (now phase : ℕ) (values : List ℤ) (m after : Standing) (result : Option EDone) → AreInRange t → KeptApart t 12 → departure t code ≡ None → (1 ≤ phase) × (phase ≤ 3) →
     result ≡ done_in code phase now m → after ≡ standing_after t code values phase now m result →
     (es : List Event) → (done rest : List Done) → (phase ≡ 2 → values ≡ (state t es now).values) → Midway t code es now phase m done rest → Onward t code es now phase after done rest result
 step_onward t code now phase values m after result r kept spelled p is next es done rest same mid =

@@ -1,7 +1,7 @@
 -- The laws of the E machine.
 use Rattle.std.specs.Prelude.{◌≡◌, ℕ, suc, List, [], ◌++◌, None}
 use Rattle.htl_model.specs.declared.event.Event.{Event}
-use Rattle.htl_model.specs.Broken.{KeptTo}
+use Rattle.htl_model.specs.FrameRules.{KeptApart}
 use Rattle.htl_model.specs.Ranges.{AreInRange}
 use Rattle.htl_model.specs.Tables.{Tables}
 use Rattle.htl_ecode.specs.declared.ecode.ECode.{ECode}
@@ -26,7 +26,7 @@ pub record PassesInstant (t : Tables) (code : ECode) (es : List Event) (now : �
 -- for tables that keep form rules 1 to 12 and code that spells them
 abbrev pub InstantsFollow : Type 0
 InstantsFollow =
-    (t : Tables) (code : ECode) (es : List Event) (now : ℕ) → AreInRange t → KeptTo t 12 → Spells t code → PassesInstant t code es now
+    (t : Tables) (code : ECode) (es : List Event) (now : ℕ) → AreInRange t → KeptApart t 12 → Spells t code → PassesInstant t code es now
 
 -- where a machine stands in a phase of an instant of a run, nothing of any phase was to be done before the instant
 abbrev pub NothingOverdue : Type 0

@@ -7,8 +7,6 @@ mod apart;
 mod cycles;
 mod ends;
 mod frame_rule;
-#[cfg(test)]
-mod frame_tests;
 mod instances;
 mod overview;
 mod owners;
@@ -20,8 +18,6 @@ pub mod rows;
 mod rule;
 mod survey;
 mod taken;
-#[cfg(test)]
-mod tests;
 mod trial;
 mod windows;
 mod writers;

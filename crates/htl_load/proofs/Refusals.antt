@@ -1,28 +1,28 @@
 -- An accepted object has no fault, and an object in range has one first fault at most.
-use Rattle.std.proofs.Common.{◌≡◌, ◌≤◌, ◌<◌, ◌⊎◌, ℕ, List, slice_get, Option, Some, None, sym, ◌∙◌, ap, subst, arith, inl, inr}
+use Rattle.std.proofs.Common.{◌≡◌, ◌≤◌, ◌<◌, ◌⊎◌, ℕ, List, Option, Some, None, sym, ◌∙◌, ap, subst, arith, inl, inr}
 use Rattle.htl_ecode.proofs.SpellingLaws.{spells_or_departs}
 use Rattle.htl_ecode.specs.Departure.{departure}
 use Rattle.htl_ecode.specs.declared.fault.EFault.{EFault}
 use Rattle.htl_form.proofs.OneFault.{one_form_fault}
-use Rattle.htl_object.specs.Accepted.{IsSpelled, IsFeasible}
-use Rattle.htl_load.specs.Faults.{IsFirstInfeasible}
+use Rattle.htl_object.specs.Accepted.{IsSpelled}
 use Rattle.htl_load.specs.Laws.{AcceptedIsNotRefused, OneFault}
 use Rattle.htl_load.specs.Unfit.{IsFirstUnfit}
 use Rattle.htl_load.specs.declared.fault.ObjectFault.{ObjectFault}
 use Rattle.htl_load.specs.declared.fault.ObjectFault.TheVariants as fault
 use Rattle.htl_model.specs.Broken.{Formed, KeptTo, IsFirstBroken, site_of}
 use Rattle.htl_model.specs.Ranges.{AreInRange}
-use Rattle.htl_model.specs.Selections.{round_length}
 use Rattle.htl_model.specs.Tables.{Tables}
 use Rattle.htl_model.specs.declared.form_fault.FormFault.{FormFault}
 use Rattle.htl_object.specs.declared.object.Object.{Object}
 use Rattle.htl_refine.proofs.OneFault.{one_refine_fault}
-use Rattle.htl_walk.proofs.Acceptance.{refused}
-use Rattle.htl_walk.proofs.FirstMiss.{one_first_miss}
-use Rattle.htl_walk.specs.Jobs.{abstract_jobs}
-use Rattle.htl_walk.specs.Misses.{IsFirstMiss}
+use Rattle.htl_walk.proofs.OneMiss.{one_path_miss}
+use Rattle.htl_walk.specs.Feasible.{lists_of}
+use Rattle.htl_walk.specs.NodeWalks.{IsFirstFailing, instrs_of}
+use Rattle.htl_walk.specs.PathJobs.{path_jobs, legs}
+use Rattle.htl_walk.specs.PathMisses.{IsPathMiss}
+use Rattle.htl_walk.specs.Walk.{first_point, worst_cases}
 use Rattle.htl_walk.specs.declared.miss.Miss.{Miss}
-use Rattle.htl_walk.specs.declared.schedule.Schedule.{Schedule}
+use Rattle.htl_walk.specs.declared.schedule.SInstr.{SInstr}
 
 departs : (d : Option EFault) (e : EFault) → d ≡ None → d ≡ Some e → ⊥
 departs None e p q = cc
@@ -36,15 +36,12 @@ not_formed t f formed b = formed b.law (site_of f b.part) f.have f.need b.broken
 not_spelled : (o : Object) (e : EFault) → IsSpelled o → departure o.tables o.ecode ≡ Some e → ⊥
 not_spelled o e s h = departs (departure o.tables o.ecode) e ((spells_or_departs o.tables o.ecode).0 s.code) h
 
-not_feasible : (t : Tables) (ss : List Schedule) (sel : ℕ) (m : Miss) → IsFirstInfeasible t ss sel m → IsFeasible t ss sel → ⊥
-not_feasible t ss sel m h f = refused (abstract_jobs t sel) (round_length t) h.schedule.instrs m h.miss (f h.schedule h.at)
-
 pub accepted_is_not_refused : AcceptedIsNotRefused
 accepted_is_not_refused o (fault.Malformed m) a h = h
 accepted_is_not_refused o (fault.IllFormed f) a h = not_formed o.tables f a.spelled.formed.formed h
 accepted_is_not_refused o (fault.Function k) a h = h.1.here (a.spelled.functions k)
 accepted_is_not_refused o (fault.ECode e) a h = not_spelled o e a.spelled h.1.1
-accepted_is_not_refused o (fault.Schedule sel m) a h = not_feasible o.tables o.schedules sel m h.1 (a.feasible sel h.1.within)
+accepted_is_not_refused o (fault.Schedule path m) a h = h.1.refused (a.feasible path h.1.within)
 
 -- ---- one first fault
 
@@ -54,7 +51,7 @@ either a b = grind arith
 twelve : (n : ℕ) → (n ≤ 12) ⊎ (12 < n)
 twelve n = grind arith
 
-one_broken : (t : Tables) → AreInRange t → (f g : FormFault) → IsFirstBroken t f → IsFirstBroken t g → f ≡ g
+pub one_broken : (t : Tables) → AreInRange t → (f g : FormFault) → IsFirstBroken t f → IsFirstBroken t g → f ≡ g
 one_broken t range f g p q = by (twelve f.rule) (twelve g.rule)
   where
     -- where no rule up to 12 is broken before the first fault, the tables keep them
@@ -80,23 +77,17 @@ one_unfit t k n p q = elim (either k n) [
 one_departure : (d : Option EFault) (e f : EFault) → d ≡ Some e → d ≡ Some f → e ≡ f
 one_departure d e f p q = let both : ◌≡◌ {A = Option EFault} (Some e) (Some f) = sym p ∙ q in cc
 
-one_schedule : (o : Object) (j k : ℕ) (m n : Miss) → IsFirstInfeasible o.tables o.schedules j m → IsFirstInfeasible o.tables o.schedules k n
-    → ◌≡◌ {A = ObjectFault} (fault.Schedule j m) (fault.Schedule k n)
-one_schedule o j k m n p q = by (either j k)
+one_schedule : (t : Tables) (lists : List (List SInstr)) (j k : ℕ) (m n : Miss) → IsFirstFailing t lists j m → IsFirstFailing t lists k n → ◌≡◌ {A = ObjectFault} (fault.Schedule j m) (fault.Schedule k n)
+one_schedule t lists j k m n p q = by (either j k)
   where
-    t : Tables
-    t = o.tables
-
     by : (j < k) ⊎ (j ≡ k) ⊎ (k < j) → ◌≡◌ {A = ObjectFault} (fault.Schedule j m) (fault.Schedule k n)
-    by (inl less) = absurd (not_feasible t o.schedules j m p (q.first j less))
-    by (inr (inr more)) = absurd (not_feasible t o.schedules k n q (p.first k more))
+    by (inl less) = absurd (p.refused (q.before j less))
+    by (inr (inr more)) = absurd (q.refused (p.before k more))
     by (inr (inl same)) =
-        let both : ◌≡◌ {A = Option Schedule} (Some p.schedule) (Some q.schedule) = sym p.at ∙ ap (slice_get o.schedules) same ∙ q.at in
-        let schedule : p.schedule ≡ q.schedule = cc in
-        let missed : IsFirstMiss (abstract_jobs t k) (round_length t) q.schedule.instrs m =
-        subst (λ (s : Schedule). IsFirstMiss (abstract_jobs t k) (round_length t) s.instrs m) schedule
-        (subst (λ (sel : ℕ). IsFirstMiss (abstract_jobs t sel) (round_length t) p.schedule.instrs m) same p.miss) in
-        ap (λ (sel : ℕ). fault.Schedule sel m) same ∙ ap (fault.Schedule k) (one_first_miss (abstract_jobs t k) (round_length t) q.schedule.instrs m n missed q.miss)
+        let missed : IsPathMiss (path_jobs t k) (lists_of t lists k) (legs t k) 0 (first_point (path_jobs t k) (worst_cases (path_jobs t k))) m =
+        subst (λ (path : ℕ). IsPathMiss (path_jobs t path) (lists_of t lists path) (legs t path) 0 (first_point (path_jobs t path) (worst_cases (path_jobs t path))) m) same p.miss in
+        ap (λ (path : ℕ). fault.Schedule path m) same
+        ∙ ap (fault.Schedule k) (one_path_miss (path_jobs t k) (lists_of t lists k) (legs t k) 0 (first_point (path_jobs t k) (worst_cases (path_jobs t k))) m n missed q.miss)
 
 pub one_fault : OneFault
 one_fault o (fault.Malformed m) g range p q = absurd p
@@ -119,4 +110,4 @@ one_fault o (fault.Schedule sel m) (fault.Malformed n) range p q = absurd q
 one_fault o (fault.Schedule sel m) (fault.IllFormed f) range p q = absurd (not_formed o.tables f p.0.formed.formed q)
 one_fault o (fault.Schedule sel m) (fault.Function k) range p q = absurd (q.1.here (p.0.functions k))
 one_fault o (fault.Schedule sel m) (fault.ECode e) range p q = absurd (not_spelled o e p.0 q.1.1)
-one_fault o (fault.Schedule sel m) (fault.Schedule other n) range p q = one_schedule o sel other m n p.1 q.1
+one_fault o (fault.Schedule sel m) (fault.Schedule other n) range p q = one_schedule o.tables (instrs_of o.schedules) sel other m n p.1 q.1

@@ -3,29 +3,18 @@ use Rattle.std.proofs.Common.{◌≡◌, ◌<◌, ◌+◌, ℕ, List, length, ge
 use Rattle.std.proofs.lemmas.Option.{slice_get_cases, slice_get-get_or}
 use Rattle.htl_model.proofs.PlaceLaws.{count_function_types}
 use Rattle.htl_model.specs.FunctionTypes.{FunctionType, function_types, IsFunctionOf, FitPlaces}
-use Rattle.htl_object.specs.Accepted.{IsFeasible, AreFeasible, IsSpelled, IsAccepted}
+use Rattle.htl_object.specs.Accepted.{IsSpelled, IsAccepted}
 use Rattle.htl_object.specs.declared.object.Object.{Object}
-use Rattle.htl_model.specs.Selections.{round_length}
-use Rattle.htl_object.proofs.FunctionPlaces.{below_next}
 use Rattle.htl_model.specs.Broken.{KeptTo, Formed}
 use Rattle.htl_model.specs.Ranges.{AreInRange}
 use Rattle.htl_model.specs.Tables.{Tables, Fun}
 use Rattle.htl_refine.proofs.OneFault.{formed}
-use Rattle.htl_walk.specs.Jobs.{abstract_jobs}
-use Rattle.htl_walk.specs.Walk.{IsAccepted as IsScheduleAccepted}
-use Rattle.htl_walk.specs.declared.schedule.Schedule.{Schedule}
+use Rattle.htl_walk.specs.Feasible.{AreFeasible}
+use Rattle.htl_walk.specs.NodeWalks.{instrs_of}
 
--- one more selection
-pub feasible_more : (t : Tables) (ss : List Schedule) (sel : ℕ) (x : Schedule) → sel < length ss → x ≡ get_or ss sel x → ((k : ℕ) → k < sel → IsFeasible t ss k)
-    → IsScheduleAccepted (abstract_jobs t sel) (round_length t) x.instrs → (k : ℕ) → k < sel + 1 → IsFeasible t ss k
-feasible_more t ss sel x less is before here = λ k below s at. elim (below_next k sel below) [
-  | inl b ↦ before k b s at
-  | inr same ↦
-      let there : slice_get ss sel ≡ Some x = slice_get-get_or ss sel x less ∙ ap (λ (y : Schedule). Some y) (sym is) in
-      let e : Some x ≡ Some s = sym there ∙ ap (slice_get ss) (sym same) ∙ at in
-      let one : x ≡ s = cc in
-      subst (λ (n : ℕ). IsScheduleAccepted (abstract_jobs t n) (round_length t) s.instrs) (sym same) (subst (λ (y : Schedule). IsScheduleAccepted (abstract_jobs t sel) (round_length t) y.instrs) one here)
-]
+-- tables that keep all rules keep those up to 12
+pub kept_12 : (t : Tables) → Formed t → KeptTo t 12
+kept_12 t formed = λ r s have need small broken. formed r s have need broken
 
 -- it fits its place
 pub function_fits : (t : Tables) (id : ℕ) (f : Fun) → AreInRange t → FitPlaces t → slice_get t.functions id ≡ Some f → (y : FunctionType) × IsFunctionOf y f
@@ -45,5 +34,5 @@ formed_after t (Ok x) kept = formed t kept
 formed_after t (Err e) h = h
 
 -- a spelled object whose schedules are feasible is accepted
-pub accepted_with : (o : Object) (ss : List Schedule) → IsSpelled o → ss ≡ o.schedules → AreFeasible o.tables ss → IsAccepted o
-accepted_with o ss spelled same feasible = record { spelled = spelled; feasible = subst (AreFeasible o.tables) same feasible }
+pub accepted_with : (o : Object) → IsSpelled o → AreFeasible o.tables (instrs_of o.schedules) → IsAccepted o
+accepted_with o spelled feasible = record { spelled = spelled; feasible = feasible }

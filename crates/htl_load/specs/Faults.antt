@@ -1,27 +1,14 @@
 -- Why an object isn't accepted.
-use Rattle.std.specs.Prelude.{◌≡◌, ◌<◌, ℕ, List, Some, slice_get}
+use Rattle.std.specs.Prelude.{◌≡◌, Some}
 use Rattle.htl_ecode.specs.Departure.{departure}
 use Rattle.htl_model.specs.Broken.{IsFirstBroken}
 use Rattle.htl_model.specs.FunctionTypes.{FitPlaces}
-use Rattle.htl_model.specs.Selections.{selection_count, round_length}
-use Rattle.htl_model.specs.Tables.{Tables}
-use Rattle.htl_object.specs.Accepted.{IsFeasible, IsFormed, IsSpelled}
+use Rattle.htl_object.specs.Accepted.{IsFormed, IsSpelled}
 use Rattle.htl_load.specs.Unfit.{IsFirstUnfit}
 use Rattle.htl_load.specs.declared.fault.ObjectFault.{ObjectFault}
 use Rattle.htl_load.specs.declared.fault.ObjectFault.TheVariants as fault
 use Rattle.htl_object.specs.declared.object.Object.{Object}
-use Rattle.htl_walk.specs.Jobs.{abstract_jobs}
-use Rattle.htl_walk.specs.Misses.{IsFirstMiss}
-use Rattle.htl_walk.specs.declared.miss.Miss.{Miss}
-use Rattle.htl_walk.specs.declared.schedule.Schedule.{Schedule}
-
--- the first root selection whose schedule isn't accepted, and its first miss
-pub record IsFirstInfeasible (t : Tables) (ss : List Schedule) (sel : ℕ) (m : Miss) : Type 0 where
-  pub within : sel < selection_count t
-  pub schedule : Schedule
-  pub at : slice_get ss sel ≡ Some schedule
-  pub miss : IsFirstMiss (abstract_jobs t sel) (round_length t) schedule.instrs m
-  pub first : (k : ℕ) → k < sel → IsFeasible t ss k
+use Rattle.htl_walk.specs.NodeWalks.{IsFirstFailing, instrs_of}
 
 -- ---- the faults of each test
 
@@ -41,9 +28,9 @@ IsSpellingFault o (fault.Malformed m) = ⊥
 IsSpellingFault o (fault.IllFormed f) = ⊥
 IsSpellingFault o (fault.Schedule sel m) = ⊥
 
--- the first schedule that isn't accepted
+-- the first path that doesn't accept the lists of its nodes, with its first miss
 abbrev pub IsScheduleFault : Object → ObjectFault → Type 0
-IsScheduleFault o (fault.Schedule sel m) = IsFirstInfeasible o.tables o.schedules sel m
+IsScheduleFault o (fault.Schedule sel m) = IsFirstFailing o.tables (instrs_of o.schedules) sel m
 IsScheduleFault o (fault.Malformed m) = ⊥
 IsScheduleFault o (fault.IllFormed f) = ⊥
 IsScheduleFault o (fault.Function k) = ⊥

@@ -6,10 +6,11 @@ ghost use Rattle.htl_load.specs.Faults.{IsFormFault, IsSpellingFault, IsSchedule
 ghost use Rattle.htl_model.specs.Broken.{Formed, IsFirstBroken};
 ghost use Rattle.htl_model.specs.Tables.{Compiled};
 ghost use Rattle.htl_object.specs.Ranges.{IsInRange};
+ghost use Rattle.htl_walk.specs.Feasible.{AreFeasible};
+ghost use Rattle.htl_walk.specs.NodeWalks.{IsFirstFailing, instrs_of};
 
 use crate::ObjectFault;
 use crate::functions::first_unfit;
-use crate::schedules::first_infeasible;
 use htl_base::Name;
 use htl_ecode::ECode;
 use htl_espell::spells;
@@ -18,7 +19,7 @@ use htl_form::form;
 use htl_model::{FormFault, Function, Tables};
 use htl_object::Object;
 use htl_refine::refine;
-use htl_walk::Schedule;
+use htl_walk::{Miss, Schedule, worst_all};
 use std::marker::Model;
 
 /// An object in range whose tables break no form rule.
@@ -130,16 +131,26 @@ pub fn spelled(f: FormedObject) -> Result<SpelledObject, (Object, ObjectFault)>
     }
 }
 
-/// Tests the schedule of each root selection. A refusal comes exactly where the worst-case walk of one isn't accepted: it hands the
-/// object back unchanged, with the first such selection and the first miss of its walk. It takes no memory.
+// The worst-case walk of each path of a formed object.
+fn walked(o: &Object) -> Result<(), (u32, Miss)>
+    requires { IsFormed o.now }
+    ensures accepted { OnOk result (AreFeasible o.now.tables (instrs_of o.now.schedules)) }
+    ensures missed { IfErr result (λ e. IsFirstFailing o.now.tables (instrs_of o.now.schedules) e.0 e.1) }
+{
+    worst_all(&o.tables, o.schedules.as_slice())
+}
+
+/// Tests the schedules. A refusal comes exactly where the worst-case walk of some path isn't accepted: it hands the object back
+/// unchanged, with the first such path and the first miss of its walk. While all root modules have one period, paths are root
+/// selections. It takes no memory.
 pub fn scheduled(s: SpelledObject) -> Result<Loaded, (Object, ObjectFault)>
     ensures loaded { IfOk result (λ l. (l ≡ s) × IsAccepted s) }
     ensures fault { IfErr result (λ e. (e.0 ≡ s) × IsScheduleFault s e.1) }
 {
     let o = s.object;
-    match first_infeasible(&o.tables, o.schedules.as_slice()) {
-        Some((selection, miss)) => Err((o, ObjectFault::Schedule { selection, miss })),
-        None => Ok(Loaded { object: o }),
+    match walked(&o) {
+        Err((selection, miss)) => Err((o, ObjectFault::Schedule { selection, miss })),
+        Ok(()) => Ok(Loaded { object: o }),
     }
 }
 

@@ -40,7 +40,7 @@ use Rattle.htl_refine.specs.Roots.{selection_of as selection_of_modes}
 use Rattle.htl_refine.proofs.RoundLaws.{have_lengths, within_worst}
 use Rattle.htl_machine.specs.declared.tally.Tally.{Tally}
 use Rattle.htl_machine.specs.Calls.{Seen, IsUpTo, GoesBy, number_by, schedule_by}
-use Rattle.htl_machine.specs.Casts.{IsCast}
+use Rattle.htl_machine.specs.Casts.{IsCast, HaveWindows}
 use Rattle.htl_machine.specs.Doing.{path_lines}
 use Rattle.htl_machine.specs.Follows.{IsLoaded, DeskAt, DeskStands, DeskFollows, AreKept, period_or}
 use Rattle.htl_machine.specs.Instant.{IsReadyAt}
@@ -75,6 +75,7 @@ use Rattle.htl_machine.proofs.Periods.{goes_on}
 use Rattle.htl_machine.proofs.Plain.{apart, down, zero_down}
 use Rattle.htl_machine.proofs.Premises.{first_left, first_over, cast_of}
 use Rattle.htl_machine.proofs.Rounding.{cast_at}
+use Rattle.htl_machine.proofs.RoundServed.{round_windows}
 use Rattle.htl_machine.proofs.Showing.{sensors_are}
 use Rattle.htl_machine.proofs.Standing.{all_at, none_some, standing_at}
 use Rattle.htl_machine.proofs.Steady.{begins_or_not}
@@ -227,8 +228,8 @@ module _ (t : Tables) (code : ECode) (schedules : List (List SInstr)) (loaded : 
       let s = round_start q n in
       let same : round_start q (suc n) ≡ round_start q n = same_start q n root b in
       let leaves : Leaves desk d1 (plan s).schedule (suc n) = records_leave t desk d1 w0 w1 (plan s).schedule (suc n) (subst (λ c. Records t desk w0 d1 w1 c (suc n)) own rec) in
-      let cast : IsCast t (state t es (suc n)).stays s (plan s).jobs =
-      subst (λ z. IsCast t (state t es (suc n)).stays z (plan z).jobs) same (cast_at t loaded.range loaded.kept es plan q (regular q root) (sound q root) (suc n)) in
+      let cast : IsCast t (state t es (suc n)).stays s (suc n) (plan s).jobs =
+      subst (λ z. IsCast t (state t es (suc n)).stays z (suc n) (plan z).jobs) same (cast_at t loaded.range loaded.kept es plan q (regular q root) (sound q root) (suc n)) in
       let past : s ≤ suc n = omega (arith, down q n) in
       let flagged : d2 ≡ with_flags d1 (tell_all (plan s).jobs (all_reads t (suc n) (state t es (suc n)).stays) d1.released) =
       told
@@ -282,11 +283,14 @@ module _ (t : Tables) (code : ECode) (schedules : List (List SInstr)) (loaded : 
     abbrev first : Round
     first = begun now p.jobs p.lengths
 
-    cast : IsCast t (state t es now).stays now p.jobs
-    cast = subst (λ z. IsCast t (state t es z).stays z (plan_of t schedules es z).jobs) starts ((sound q root).casts now)
+    cast : IsCast t (state t es now).stays now now p.jobs
+    cast = subst (λ z. IsCast t (state t es z).stays z z (plan_of t schedules es z).jobs) starts ((sound q root).casts now)
 
     meets : Meets p.jobs p.lengths p.schedule
     meets = subst (λ z. Meets (plan_of t schedules es z).jobs (plan_of t schedules es z).lengths (plan_of t schedules es z).schedule) starts ((sound q root).meets now)
+
+    windows : HaveWindows p.jobs
+    windows = round_windows p.jobs p.lengths p.schedule meets
 
     in_form : InForm (length p.jobs) q p.schedule
     in_form = subst (λ z. InForm (length (plan_of t schedules es z).jobs) q (plan_of t schedules es z).schedule) starts (kept_rounds.form q root now)
@@ -306,13 +310,13 @@ module _ (t : Tables) (code : ECode) (schedules : List (List SInstr)) (loaded : 
         let flagged : desk_replay code (phase_path t code es now 3) first ≡ with_flags first flags = read_phase_tells t code loaded.range loaded.kept reads es p now 0 0 now first cast meets opens (omega arith) (omega arith) in
         let st : rounds.Stands (with_flags first flags) p.schedule = record { point = refl; work = λ k z. work_some p.jobs p.lengths k z; lengths = some; worst = worst; pending = λ k z. omega arith } in
         subst (DeskAt p now 0 (suc now - now)) (sym flagged)
-        (desk_told t (state t es now).stays now p now 0 now first (standing_at t loaded.range es now) (omega arith) (omega arith) cast
+        (desk_told t (state t es now).stays now p now 0 now first (standing_at t loaded.range es now) (omega arith) (omega arith) cast windows
         (subst (λ d. DeskAt p now 0 d first) (let z : 0 ≡ now - now = omega arith in z) opens) st)
 
     pub is_to_begin : IsToBegin t code schedules es now takes
     is_to_begin =
         record {
-          of = cast_of t (state t es now).stays now p.jobs cast;
+          of = cast_of t (state t es now).stays now p.jobs cast windows;
           kept = kept_by takes (took t es) now takes_are p.jobs;
           some = some;
           worst = worst;

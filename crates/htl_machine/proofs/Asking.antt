@@ -22,6 +22,7 @@ use Rattle.htl_machine.specs.Counts.{with_instrs, with_records}
 use Rattle.htl_machine.specs.Opening.{first_records}
 use Rattle.htl_machine.specs.Running.{replay}
 use Rattle.htl_machine.specs.Starting.{IsToBegin, instrs_of}
+use Rattle.htl_object.proofs.OneRound.{schedules_are}
 use Rattle.htl_object.specs.Accepted.{IsAccepted}
 use Rattle.htl_refine.proofs.OneFault.{kept_all}
 use Rattle.htl_machine.specs.Asking.{IsSound, IsToOpen, IsNoted}
@@ -30,7 +31,7 @@ use Rattle.htl_machine.specs.Instant.{IsReadyAt}
 use Rattle.htl_machine.specs.Recording.{AreOf}
 use Rattle.htl_machine.specs.Values.{values_before}
 use Rattle.htl_machine.proofs.Agreeing.{modes_open}
-use Rattle.htl_machine.proofs.Beginnings.{kept_twelve}
+use Rattle.htl_machine.proofs.Beginnings.{apart_twelve}
 
 pub sound_of : (m : Seen) (t : Tables) (code : ECode) (ss : List Schedule) → t ≡ m.object.tables → code ≡ m.object.ecode → ss ≡ m.object.schedules → IsAccepted m.object → IsSound t code ss
 sound_of m t code ss same same_code same_schedules accepted =
@@ -42,12 +43,12 @@ sound_of m t code ss same same_code same_schedules accepted =
         let kept = kept_all m.object.tables accepted.spelled.formed.formed in
         record {
           kept = kept;
-          form = kept_twelve m.object.tables kept;
+          form = apart_twelve m.object.tables kept;
           limits = ranges.limits;
           spells = accepted.spelled.code;
           instrs = ranges.few_instrs;
           places = accepted.spelled.functions;
-          all = ranges.schedules;
+          all = schedules_are m.object accepted.spelled.formed;
         }
 
 pub to_open : (m : Seen) (es : List Event) (at : ℕ) (jobs : List Job) (steps : List SInstr) (values : List ℤ) → IsUpTo m es at → IsReadyAt m es at steps → m.held.desk.jobs ≡ jobs → values ≡ m.held.world.values

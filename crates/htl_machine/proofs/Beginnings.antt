@@ -5,6 +5,7 @@ use Rattle.htl_edge.specs.Content.{Puts}
 use Rattle.htl_edge.proofs.Puts.{append_known-start, Puts-failed, Puts-second}
 use Rattle.htl_model.specs.declared.event.Event.{Event}
 use Rattle.htl_model.specs.Broken.{KeptTo}
+use Rattle.htl_model.specs.FrameRules.{KeptApart}
 use Rattle.htl_model.specs.Selections.{selection_count}
 use Rattle.htl_model.specs.Tables.{Tables}
 use Rattle.htl_walk.specs.declared.schedule.SInstr.{SInstr}
@@ -17,6 +18,7 @@ use Rattle.htl_emach.specs.Following.{phase_path}
 use Rattle.htl_refine.specs.ConcreteJobs.{concrete_jobs}
 use Rattle.htl_refine.specs.Records.{Round as Plan, modes_at, walk_of}
 use Rattle.htl_refine.specs.Roots.{selection_of as selection_of_modes}
+use Rattle.htl_refine.proofs.Kept.{kept_apart}
 use Rattle.htl_console.specs.declared.shown.Shown.{Shown}
 use Rattle.htl_machine.specs.declared.tally.Tally.{Tally}
 use Rattle.htl_machine.specs.Counts.{with_records}
@@ -30,12 +32,17 @@ use Rattle.htl_machine.specs.Readiness.{desk_replay}
 use Rattle.htl_machine.specs.Recording.{Records}
 use Rattle.htl_machine.specs.Rounds.{plan_of}
 use Rattle.htl_machine.specs.Starting.{kept_lengths, instrs_of, IsToBegin}
-use Rattle.htl_machine.specs.Turns.{count_before}
+use Rattle.htl_refine.specs.RecordCounts.{count_before}
 use Rattle.htl_machine.proofs.Closings.{reads_second}
-use Rattle.htl_machine.proofs.Turning.{before_count, last_is}
+use Rattle.htl_refine.proofs.FinishingRecords.{last_is}
+use Rattle.htl_machine.proofs.Turning.{before_count}
 
 pub kept_twelve : (t : Tables) → KeptTo t 16 → KeptTo t 12
 kept_twelve t kept = λ r s have need few broken. kept r s have need (omega (arith, few)) broken
+
+-- the same but for equal root periods
+pub apart_twelve : (t : Tables) → KeptTo t 16 → KeptApart t 12
+apart_twelve t kept = kept_apart t 12 (kept_twelve t kept)
 
 -- ---- the round
 

@@ -27,8 +27,9 @@ use Rattle.htl_object.specs.declared.object.Object.{Object}
 use Rattle.htl_object.specs.Accepted.{IsAccepted}
 use Rattle.htl_console.specs.declared.shown.Shown.{Shown}
 use Rattle.htl_machine.specs.Calls.{Seen, IsKept, IsBefore, IsUpTo, Follows, GoesBy, IsSensorValue, IsLength, IsFinished, first_seen}
-use Rattle.htl_machine.specs.Follows.{reading_of, at_reading, shown_as, taken_as, desk_taking, position_from, DeskFollows, AreKept, period_or}
-use Rattle.htl_machine.specs.Casts.{IsCast}
+use Rattle.htl_machine.specs.Turns.{position_from}
+use Rattle.htl_machine.specs.Follows.{reading_of, at_reading, shown_as, taken_as, desk_taking, DeskFollows, AreKept, period_or}
+use Rattle.htl_machine.specs.Casts.{IsCast, HaveWindows}
 use Rattle.htl_machine.specs.Machines.{Counts}
 use Rattle.htl_machine.specs.Plans.{round_start}
 use Rattle.htl_machine.specs.Programs.{schedules_of}
@@ -39,7 +40,9 @@ use Rattle.htl_machine.proofs.Accepted.{accepted_is_loaded}
 use Rattle.htl_machine.proofs.Counting.{totals_start}
 use Rattle.htl_machine.proofs.Events.{Alike, state_same, sense_at, sense_took, sense_sense}
 use Rattle.htl_machine.proofs.Standing.{none_some, some_same}
-use Rattle.htl_machine.proofs.Taking.{new_follows, position_some}
+use Rattle.htl_machine.proofs.Casting.{position_some}
+use Rattle.htl_machine.proofs.RoundServed.{round_windows}
+use Rattle.htl_machine.proofs.Taking.{new_follows}
 use Rattle.htl_machine.proofs.TellingLoaded.{loaded_jobs, loaded_s, loaded_e}
 use Rattle.htl_machine.proofs.Wholly.{whole_new, whole_reading, whole_sense, whole_took}
 
@@ -172,19 +175,17 @@ position_worst m es i n p accepted length f found =
     plan : ℕ → Plan
     plan = plan_of t (schedules_of m.object) es
 
-    in_round : (s : ℕ) → m.held.desk.jobs ≡ (plan s).jobs → IsCast t (state t es s).stays s (plan s).jobs → n ≤ (job_at m.held.desk.jobs p).worst
-    in_round s same cast =
+    in_round : (s : ℕ) → m.held.desk.jobs ≡ (plan s).jobs → IsCast t (state t es s).stays s s (plan s).jobs → HaveWindows (plan s).jobs → n ≤ (job_at m.held.desk.jobs p).worst
+    in_round s same cast windows =
         let h = position_some 0 m.held.desk.jobs i p found in
         let at : slice_get (plan s).jobs h.0 ≡ Some h.2 = ap (λ (js : List Job). slice_get js h.0) (sym same) ∙ h.3 in
-        let st = cast.stands h.0 h.2 at h.4 in
-        let mine = cast.has h.2.inv st.0 s st.1 in
-        let one : h.0 ≡ mine.0 = cast.once h.0 mine.0 h.2 mine.1.job at mine.1.at h.4 mine.1.present (sym mine.1.inv) in
-        let job_is : h.2 ≡ mine.1.job = some_same _ _ (sym at ∙ ap (λ z. slice_get (plan s).jobs z) one ∙ mine.1.at) in
-        let inv_is : st.0 ≡ length.inv = some_same _ _ (sym st.1.known ∙ ap (λ z. slice_get t.invs z) h.5 ∙ length.known) in
+        let st = cast.stands h.0 h.2 at h.4 (omega (arith, windows h.0 h.2 at h.4)) in
+        let job_is : h.2 ≡ st.3.job = some_same _ _ (sym at ∙ st.3.at) in
+        let inv_is : st.0 ≡ length.inv = some_same _ _ (sym st.2.known ∙ ap (λ z. slice_get t.invs z) h.5 ∙ length.known) in
         let here : job_at m.held.desk.jobs p ≡ h.2 =
         ap (λ z. job_at m.held.desk.jobs z) (let z : p ≡ h.0 = omega (arith, h.1) in z) ∙ ap (λ (o : Option Job). elim o [ Some j ↦ j | None ↦ absent_job ]) h.3 in
         let worst : (job_at m.held.desk.jobs p).worst ≡ task_worst t length.inv.task =
-        ap (λ (z : Job). z.worst) (here ∙ job_is) ∙ mine.1.worst ∙ ap (λ (z : Inv). task_worst t z.task) inv_is in
+        ap (λ (z : Job). z.worst) (here ∙ job_is) ∙ st.3.worst ∙ ap (λ (z : Inv). task_worst t z.task) inv_is in
         omega (arith, worst, length.worst)
 
     no_job : m.held.desk ≡ rounds.no_round → n ≤ (job_at m.held.desk.jobs p).worst
@@ -193,7 +194,10 @@ position_worst m es i n p accepted length f found =
     by : (o : Option ℕ) → root_period t ≡ o → (now : ℕ) → DeskFollows plan o now m.held.desk → n ≤ (job_at m.held.desk.jobs p).worst
     by None e now d = no_job d
     by (Some q) e zero d = no_job d
-    by (Some q) e (suc k) d = in_round (round_start q k) d.jobs (subst (λ z. IsCast t (state t es (round_start z k)).stays (round_start z k) (plan (round_start z k)).jobs) (ap period_or e) (kept_rounds.sound.casts k))
+    by (Some q) e (suc k) d =
+        in_round (round_start q k) d.jobs
+        (subst (λ z. IsCast t (state t es (round_start z k)).stays (round_start z k) (round_start z k) (plan (round_start z k)).jobs) (ap period_or e) (kept_rounds.sound.casts k))
+        (subst (λ z. HaveWindows (plan (round_start z k)).jobs) (ap period_or e) (let r = plan (round_start (period_or (root_period t)) k) in round_windows r.jobs r.lengths r.schedule (kept_rounds.sound.meets k)))
       where
         kept_rounds : AreKept t (schedules_of m.object) es
         kept_rounds = (accepted_is_loaded m.object accepted).rounds es f.kept.within

@@ -7,7 +7,7 @@ use Rattle.htl_model.specs.declared.parts.End.TheVariants as E
 use Rattle.htl_model.specs.declared.state.Stay.{Stay}
 use Rattle.htl_model.specs.Tables.{Tables, comm_period, mode_module}
 use Rattle.htl_model.specs.Ranges.{AreInRange}
-use Rattle.htl_model.specs.Broken.{KeptTo}
+use Rattle.htl_model.specs.FrameRules.{KeptApart}
 use Rattle.htl_model.specs.Meaning.{state, before, stay_of, sense, val}
 use Rattle.htl_model.proofs.Laws.{seen_before}
 use Rattle.htl_ecode.specs.declared.instr.EInstr.TheVariants as I
@@ -22,7 +22,7 @@ use Rattle.htl_machine.proofs.Distinct.{distinct}
 use Rattle.htl_machine.proofs.Valued.{HoldDue, values_step, length-shown}
 use Rattle.htl_machine.proofs.Outs.{out_seen}
 
-module _ (t : Tables) (range : AreInRange t) (kept : KeptTo t 12) (es : List Event) (now : ℕ) (finished later : ℕ → Bool) (w : Content)
+module _ (t : Tables) (range : AreInRange t) (kept : KeptApart t 12) (es : List Event) (now : ℕ) (finished later : ℕ → Bool) (w : Content)
     (follows : ValuesFollow t es now finished w) (shape : HasPlaces t w) (ready : Ready t es now finished) (carried : AreCarried t es now finished later) where
   -- the buffers of what is due hold it
   hold_due : HoldDue t (seen_before t es now) (before t es now).stays now w

@@ -1,14 +1,15 @@
--- What the processor owes, from a walk that meets.
-use Rattle.std.proofs.Common.{◌≡◌, ℕ, zero, suc, ◌+◌, ◌*◌, ◌≤◌, ◌<◌, max, Bool, true, false, ◌&&◌, ◌||◌, eqb, List, [], ◌∷◌, length, slice_get, Some, refl, sym, ap, ◌∙◌, arith, ◌⊎◌, inl, inr}
+-- Windows and offsets, and the last position of an invocation.
+use Rattle.std.proofs.Common.{◌≡◌, ℕ, zero, suc, ◌+◌, ◌*◌, ◌≤◌, ◌<◌, max, Bool, true, false, cond, ◌&&◌, eqb, List, [], ◌∷◌, length, slice_get, Option, Some, None, refl, sym, ap, ◌∙◌, arith}
 use Rattle.std.proofs.lemmas.Bool.{eqb-true, eq-eqb}
 use Rattle.htl_model.specs.declared.parts.End.{End}
 use Rattle.htl_model.specs.declared.parts.End.TheVariants as E
+use Rattle.htl_model.specs.declared.state.Stay.{Stay}
 use Rattle.htl_model.specs.Tables.{Tables, comm_period, offsets, greatest, least_or}
 use Rattle.htl_walk.specs.declared.job.Job.{Job}
 use Rattle.htl_walk.specs.Walk.{job_at}
-use Rattle.htl_machine.specs.Turns.{is_done_from, finished_in}
+use Rattle.htl_machine.specs.Casts.{IsCast, HaveWindows}
+use Rattle.htl_machine.specs.Turns.{later_or, position_from, done_at, finished_in}
 use Rattle.htl_machine.proofs.Standing.{some_same, none_some}
-use Rattle.htl_machine.proofs.Plain.{both}
 
 -- ---- windows and offsets
 
@@ -66,47 +67,69 @@ job_is [] p j e = none_some j e
 job_is (k ∷ ks) zero j e = some_same _ _ e
 job_is (k ∷ ks) (suc p) j e = job_is ks p j e
 
-either : (a b : Bool) → (a || b) ≡ true → (a ≡ true) ⊎ (b ≡ true)
-either true b e = inl refl
-either false b e = inr e
-
-all_true : (a b : Bool) → a ≡ true → b ≡ true → (a && b) ≡ true
-all_true a b e f = grind arith
-
-or_left : (a b : Bool) → a ≡ true → (a || b) ≡ true
-or_left a b e = grind arith
-
-or_right : (a b : Bool) → b ≡ true → (a || b) ≡ true
-or_right a b e = grind arith
-
-found_done : (q : ℕ) (js : List Job) (done : ℕ → Bool) (i : ℕ) → is_done_from q js done i ≡ true
-    → (d : ℕ) × (j : Job) × (slice_get js d ≡ Some j) × (j.present ≡ true) × (j.inv ≡ i) × (done (q + d) ≡ true)
-found_done q [] done i e = absurd (let z : ⊥ = cc in z)
-found_done q (j ∷ js) done i e = by_part (either ((j.present && eqb j.inv i) && done q) (is_done_from (suc q) js done i) e) (λ g. found_done (suc q) js done i g)
+pub position_some : (q : ℕ) (js : List Job) (i p : ℕ) → position_from q js i ≡ Some p → (d : ℕ) × (p ≡ q + d) × (j : Job) × (slice_get js d ≡ Some j) × (j.present ≡ true) × (j.inv ≡ i)
+position_some q [] i p e = none_some p e
+position_some q (j ∷ js) i p e = by_rest (position_from (suc q) js i) refl e (λ g. position_some (suc q) js i p g)
   where
-    by_part : (((j.present && eqb j.inv i) && done q) ≡ true) ⊎ (is_done_from (suc q) js done i ≡ true)
-        → (is_done_from (suc q) js done i ≡ true → (d : ℕ) × (k : Job) × (slice_get js d ≡ Some k) × (k.present ≡ true) × (k.inv ≡ i) × (done (suc q + d) ≡ true))
-        → (d : ℕ) × (k : Job) × (slice_get (j ∷ js) d ≡ Some k) × (k.present ≡ true) × (k.inv ≡ i) × (done (q + d) ≡ true)
-    by_part (inl h) ih =
-        let a = both (j.present && eqb j.inv i) (done q) h in
-        let b = both j.present (eqb j.inv i) a.0 in
-        (0, j, refl, b.0, eqb-true j.inv i b.1, ap done (let z : q + 0 ≡ q = omega arith in z) ∙ a.1)
-    by_part (inr h) ih = let r = ih h in (suc r.0, r.1, r.2, r.3, r.4, ap done (let z : q + suc r.0 ≡ suc q + r.0 = omega arith in z) ∙ r.5)
+    both : (a b : Bool) → (a && b) ≡ true → (a ≡ true) × (b ≡ true)
+    both true b e = (refl, e)
+    both false b e = absurd (let z : ⊥ = cc in z)
 
-done_found : (q : ℕ) (js : List Job) (done : ℕ → Bool) (i d : ℕ) (j : Job) → slice_get js d ≡ Some j → j.present ≡ true → j.inv ≡ i → done (q + d) ≡ true → is_done_from q js done i ≡ true
-done_found q [] done i d j at here is h = none_some j at
-done_found q (k ∷ js) done i zero j at here is h =
-    let e : k ≡ j = some_same _ _ at in
-    or_left ((k.present && eqb k.inv i) && done q) (is_done_from (suc q) js done i)
-    (all_true (k.present && eqb k.inv i) (done q) (all_true k.present (eqb k.inv i) (ap (λ (z : Job). z.present) e ∙ here) (eq-eqb k.inv i (ap (λ (z : Job). z.inv) e ∙ is)))
-    (ap done (let z : q ≡ q + 0 = omega arith in z) ∙ h))
-done_found q (k ∷ js) done i (suc d) j at here is h =
-    or_right ((k.present && eqb k.inv i) && done q) (is_done_from (suc q) js done i)
-    (done_found (suc q) js done i d j at here is (ap done (let z : suc q + d ≡ q + suc d = omega arith in z) ∙ h))
+    by_test : (b : Bool) → (j.present && eqb j.inv i) ≡ b → ◌≡◌ {A = Option ℕ} (cond b (Some q) None) (Some p)
+        → (d : ℕ) × (p ≡ q + d) × (k : Job) × (slice_get (j ∷ js) d ≡ Some k) × (k.present ≡ true) × (k.inv ≡ i)
+    by_test true is g = let b = both j.present (eqb j.inv i) is in let same : q ≡ p = some_same _ _ g in (0, omega (arith, same), j, refl, b.0, eqb-true j.inv i b.1)
+    by_test false is g = none_some p g
 
--- a finished invocation has a position that is done
-pub finished_is : (jobs : List Job) (done : ℕ → Bool) (i : ℕ) → finished_in jobs done i ≡ true → (p : ℕ) × (j : Job) × (slice_get jobs p ≡ Some j) × (j.present ≡ true) × (j.inv ≡ i) × (done p ≡ true)
-finished_is jobs done i e = let r = found_done 0 jobs done i e in (r.0, r.1, r.2, r.3, r.4, ap done (let z : r.0 ≡ 0 + r.0 = omega arith in z) ∙ r.5)
+    by_rest : (o : Option ℕ) → position_from (suc q) js i ≡ o → later_or o (cond (j.present && eqb j.inv i) (Some q) None) ≡ Some p
+        → (position_from (suc q) js i ≡ Some p → (d : ℕ) × (p ≡ suc q + d) × (k : Job) × (slice_get js d ≡ Some k) × (k.present ≡ true) × (k.inv ≡ i))
+        → (d : ℕ) × (p ≡ q + d) × (k : Job) × (slice_get (j ∷ js) d ≡ Some k) × (k.present ≡ true) × (k.inv ≡ i)
+    by_rest (Some r) f g ih = let r = ih (f ∙ g) in (suc r.0, omega (arith, r.1), r.2, r.3, r.4, r.5)
+    by_rest None f g ih = by_test (j.present && eqb j.inv i) refl g
 
-pub is_finished : (jobs : List Job) (done : ℕ → Bool) (i p : ℕ) (j : Job) → slice_get jobs p ≡ Some j → j.present ≡ true → j.inv ≡ i → done p ≡ true → finished_in jobs done i ≡ true
-is_finished jobs done i p j at here is h = done_found 0 jobs done i p j at here is (ap done (let z : 0 + p ≡ p = omega arith in z) ∙ h)
+pub position_none : (q : ℕ) (js : List Job) (i d : ℕ) (j : Job) → position_from q js i ≡ None → slice_get js d ≡ Some j → j.present ≡ true → j.inv ≡ i → ⊥
+position_none q [] i d j e at here is = none_some j at
+position_none q (k ∷ js) i d j e at here is = by_rest (position_from (suc q) js i) refl e d at (λ g m f. position_none (suc q) js i m j g f here is)
+  where
+    all_true : (a b : Bool) → a ≡ true → b ≡ true → (a && b) ≡ true
+    all_true a b e f = grind arith
+
+    by_test : (b : Bool) → (k.present && eqb k.inv i) ≡ b → ◌≡◌ {A = Option ℕ} (cond b (Some q) None) None → slice_get (k ∷ js) 0 ≡ Some j → ⊥
+    by_test true b g at = none_some q (sym g)
+    by_test false b g at =
+        let same : k ≡ j = some_same _ _ at in
+        let z : true ≡ false = sym (all_true k.present (eqb k.inv i) (ap (λ (z : Job). z.present) same ∙ here) (eq-eqb k.inv i (ap (λ (z : Job). z.inv) same ∙ is))) ∙ b in cc
+
+    by_rest : (o : Option ℕ) → position_from (suc q) js i ≡ o → later_or o (cond (k.present && eqb k.inv i) (Some q) None) ≡ None → (d : ℕ) → slice_get (k ∷ js) d ≡ Some j
+        → (position_from (suc q) js i ≡ None → (m : ℕ) → slice_get js m ≡ Some j → ⊥) → ⊥
+    by_rest (Some r) f g d at ih = none_some r (sym g)
+    by_rest None f g (suc d) at ih = ih f d at
+    by_rest None f g zero at ih = by_test (k.present && eqb k.inv i) refl g at
+
+-- a finished invocation's last position is done
+pub finished_is : (jobs : List Job) (done : ℕ → Bool) (i : ℕ) → finished_in jobs done i ≡ true → (p : ℕ) × (position_from 0 jobs i ≡ Some p) × (done p ≡ true)
+finished_is jobs done i e = by_place (position_from 0 jobs i) refl e
+  where
+    by_place : (o : Option ℕ) → position_from 0 jobs i ≡ o → done_at done o ≡ true → (p : ℕ) × (position_from 0 jobs i ≡ Some p) × (done p ≡ true)
+    by_place None f g = absurd (let z : ⊥ = cc in z)
+    by_place (Some p) f g = (p, f, g)
+
+pub is_finished : (jobs : List Job) (done : ℕ → Bool) (i p : ℕ) → position_from 0 jobs i ≡ Some p → done p ≡ true → finished_in jobs done i ≡ true
+is_finished jobs done i p at h = ap (done_at done) at ∙ h
+
+-- ---- jobs that are cast
+
+-- a job whose window hasn't ended is at the last position of its invocation
+pub last_open : (t : Tables) (stays : List (Option Stay)) (frame n : ℕ) (jobs : List Job) → IsCast t stays frame n jobs → (p : ℕ) (j : Job) → slice_get jobs p ≡ Some j → j.present ≡ true → n < frame + j.end
+    → position_from 0 jobs j.inv ≡ Some p
+last_open t stays frame n jobs cast p j at here late =
+    let st = cast.stands p j at here late in
+    let h = cast.has j.inv st.0 st.1 st.2 in
+    h.2 ∙ ap (λ (q : ℕ). Some q) (cast.once h.0 p j.inv st.1 st.0 h.1 st.3)
+
+-- so where no window has ended, an invocation has one position
+pub only_open : (t : Tables) (stays : List (Option Stay)) (start : ℕ) (jobs : List Job) → IsCast t stays start start jobs → HaveWindows jobs → (p q : ℕ) (j k : Job) → slice_get jobs p ≡ Some j → slice_get jobs q ≡ Some k
+    → j.present ≡ true → k.present ≡ true → j.inv ≡ k.inv → p ≡ q
+only_open t stays start jobs cast windows p q j k atp atq herep hereq same =
+    some_same _ _
+    (sym (last_open t stays start start jobs cast p j atp herep (omega (arith, windows p j atp herep)))
+    ∙ ap (position_from 0 jobs) same ∙ last_open t stays start start jobs cast q k atq hereq (omega (arith, windows q k atq hereq)))

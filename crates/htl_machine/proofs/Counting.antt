@@ -8,7 +8,7 @@ use Rattle.htl_walk.specs.declared.schedule.SInstr.{SInstr}
 use Rattle.htl_smach.specs.declared.left.Left.{Left}
 use Rattle.htl_ecode.specs.declared.ecode.ECode.{ECode}
 use Rattle.htl_ecode.specs.Paths.{instant_path, e_path}
-use Rattle.htl_machine.specs.Turns.{count_before}
+use Rattle.htl_refine.specs.RecordCounts.{count_before}
 use Rattle.htl_refine.specs.Records.{took}
 use Rattle.htl_refine.specs.Records.{Round as Plan}
 use Rattle.htl_machine.specs.Plans.{round_start}

@@ -8,7 +8,7 @@ use Rattle.htl_walk.specs.declared.schedule.SInstr.TheVariants.{Dispatch, Idle, 
 use Rattle.htl_walk.specs.Walk.{Point, Left, job_at, time_after, next_point, walk_from, first_point, InForm}
 use Rattle.htl_smach.specs.Rounds as rounds
 use Rattle.htl_smach.specs.Rounds.{Round, begun, told, told_from, records, next_left, left_until, moved}
-use Rattle.htl_machine.specs.Turns.{count_before}
+use Rattle.htl_refine.specs.RecordCounts.{count_before}
 use Rattle.htl_refine.specs.Records.{Round as Plan}
 use Rattle.htl_refine.specs.Records.{walk_of}
 use Rattle.htl_machine.specs.Follows.{released_before, DeskStands, DeskAt}

@@ -10,7 +10,7 @@ use Rattle.htl_model.specs.Ranges.{AreInRange, IsInvInRange, IsEndInRange, IsCom
 use Rattle.htl_model.specs.FormRules.{ConcreteWriters, Output}
 use Rattle.htl_model.specs.PortWriters.{OutputBefore}
 use Rattle.htl_model.specs.SecondWriters.{OnPath, itself, above, StandTogether, AreSameWrite, WritesBefore}
-use Rattle.htl_model.specs.Broken.{KeptTo}
+use Rattle.htl_model.specs.FrameRules.{KeptApart}
 use Rattle.htl_model.specs.Meaning.{stay_of, runs}
 use Rattle.htl_machine.specs.Values.{IsDue, AreDistinct}
 use Rattle.htl_machine.proofs.Standing.{IsStanding, some_same, all_at}
@@ -71,7 +71,7 @@ outputs_apart i k j l = by_inv (order i j) (order k l)
     by_inv (inr (inr e)) (inr (inl b)) = inr (inl (inr (sym e, b)))
     by_inv (inr (inr e)) (inr (inr f)) = inr (inr (e, f))
 
-module _ (t : Tables) (range : AreInRange t) (kept : KeptTo t 12) (stays : List (Option Stay)) (n now : ℕ) (standing : IsStanding t stays n) where
+module _ (t : Tables) (range : AreInRange t) (kept : KeptApart t 12) (stays : List (Option Stay)) (n now : ℕ) (standing : IsStanding t stays n) where
   -- the instance is the same where the mode is
   same_write : (i k j l c : ℕ) (a : IsDue t stays now i k c) (b : IsDue t stays now j l c) → AreSameWrite t a.inv.mode a.instance b.inv.mode b.instance
   same_write i k j l c a b = by_mode (apart a.inv.mode b.inv.mode)
@@ -97,7 +97,7 @@ module _ (t : Tables) (range : AreInRange t) (kept : KeptTo t 12) (stays : List 
       let mode = there t.modes b.inv.mode inv.owner in
       no_least (WritesBefore t j b.inv l c b.instance)
       (λ h w least.
-      kept ConcreteWriters (record { mode = b.inv.mode; inv = Some j; part = Output l }) h c (omega arith)
+      kept ConcreteWriters (record { mode = b.inv.mode; inv = Some j; part = Output l }) h c (omega arith) (λ e. omega (arith, e))
       (mode.0, mode.1, (b.inv, b.stands.known, refl, (E.Comm c b.instance, b.end, (refl, b.stands.concrete, w, least)))))
       i (a.inv, a.stands.known, a.stands.concrete, k, a.instance, earlier, a.end, same_write i k j l c a b)
 

@@ -8,7 +8,7 @@ use Rattle.htl_model.specs.declared.parts.Inv.{Inv}
 use Rattle.htl_model.specs.declared.state.State.{State}
 use Rattle.htl_model.specs.Tables.{Tables, comm_period}
 use Rattle.htl_model.specs.Ranges.{AreInRange}
-use Rattle.htl_model.specs.Broken.{KeptTo}
+use Rattle.htl_model.specs.FrameRules.{KeptApart}
 use Rattle.htl_model.specs.Meaning.{last_sense, sense, initial, newest, state, before, val, out}
 use Rattle.htl_model.proofs.Laws.{seen_before}
 use Rattle.htl_model.proofs.Locality.{history_local}
@@ -20,12 +20,13 @@ use Rattle.htl_walk.specs.Refinement.{HaveLengths}
 use Rattle.htl_walk.proofs.Unreleased.{unreleased_lengths}
 use Rattle.htl_emach.specs.Contents.{Content}
 use Rattle.htl_machine.specs.Values.{Stands, HasRead, ValuesFollow, values_before}
-use Rattle.htl_machine.specs.Turns.{count_before, done_by, finished_in}
+use Rattle.htl_refine.specs.RecordCounts.{count_before, done_by, Rises}
+use Rattle.htl_machine.specs.Turns.{finished_in}
 use Rattle.htl_refine.specs.Records.{last_took, inv_worst, took}
 use Rattle.htl_refine.specs.Records.{Round as Plan}
 use Rattle.htl_refine.specs.Records.{walk_of}
 use Rattle.htl_machine.specs.Follows.{reading_of}
-use Rattle.htl_machine.proofs.Turning.{Rises, walk_rises}
+use Rattle.htl_refine.proofs.RecordOrder.{walk_rises}
 use Rattle.htl_machine.proofs.Outs.{out_seen}
 
 -- ---- the last of the events
@@ -104,7 +105,7 @@ seen_same t es fs now a = fun_ext (λ c. fun_ext (λ u. by_test c u (ltb u now) 
     by_test c u false e = refl
 
 -- the world follows on with other events that agree before the instant
-pub values_alike : (t : Tables) (range : AreInRange t) (kept : KeptTo t 12) (es fs : List Event) (now : ℕ) (finished : ℕ → Bool) (w : Content) → Alike t es fs now
+pub values_alike : (t : Tables) (range : AreInRange t) (kept : KeptApart t 12) (es fs : List Event) (now : ℕ) (finished : ℕ → Bool) (w : Content) → Alike t es fs now
     → ((i : ℕ) (x : Inv) (s : ℕ) → Stands t (before t es now).stays i x s → finished i ≡ true → HasRead t now finished x s)
     → ValuesFollow t es now finished w → ValuesFollow t fs now finished w
 values_alike t range kept es fs now finished w a read f =

@@ -12,7 +12,7 @@ use Rattle.htl_model.specs.declared.state.Stay.{Stay}
 use Rattle.htl_model.specs.Lists.{numbered, list_to}
 use Rattle.htl_model.specs.Tables.{Tables, mode_module, is_concrete, function_value, output_function, count_at}
 use Rattle.htl_model.specs.Ranges.{AreInRange}
-use Rattle.htl_model.specs.Broken.{KeptTo}
+use Rattle.htl_model.specs.FrameRules.{KeptApart}
 use Rattle.htl_model.specs.Meaning.{before, stay_of, val, out, out_by, input_value, writer_from}
 use Rattle.htl_emach.specs.Contents.{Content, buffer, argument, arguments, made, completed}
 use Rattle.htl_emach.proofs.Completing.{concrete_task}
@@ -53,14 +53,14 @@ arguments_are t w m i q g (e ∷ ends) h =
     (arguments_are t w m i (suc q) g ends (λ j d at. subst (λ z. argument t w m i (z, d) ≡ g d) (let f : q + suc j ≡ suc q + j = omega arith in f) (h (suc j) d at)))
 
 -- a concrete invocation has as many outputs as its task has functions
-outputs_many : (t : Tables) (i : ℕ) (x : Inv) → AreInRange t → KeptTo t 12 → slice_get t.invs i ≡ Some x → is_concrete t x ≡ true → length x.writes ≡ count_at (slice_get t.tasks x.task)
+outputs_many : (t : Tables) (i : ℕ) (x : Inv) → AreInRange t → KeptApart t 12 → slice_get t.invs i ≡ Some x → is_concrete t x ≡ true → length x.writes ≡ count_at (slice_get t.tasks x.task)
 outputs_many t i x range kept at concrete =
     let k = concrete_task t i x range at concrete in
     (has_ends t 12 (omega arith) range kept).writes i x at ∙ ap (λ (z : List Ty). length z) k.outs ∙ sym k.count ∙ sym (ap count_at k.at)
 
 -- ---- one job more
 
-module _ (t : Tables) (range : AreInRange t) (kept : KeptTo t 12) (es : List Event) (now : ℕ) (finished : ℕ → Bool) (w : Content) (follows : ValuesFollow t es now finished w)
+module _ (t : Tables) (range : AreInRange t) (kept : KeptApart t 12) (es : List Event) (now : ℕ) (finished : ℕ → Bool) (w : Content) (follows : ValuesFollow t es now finished w)
     (i s : ℕ) (x : Inv) (st : Stands t (before t es now).stays i x s) (unfinished : finished i ≡ false) (read : HasRead t now finished x s) (r : ℕ → ℕ) (order : Orders t x.mode r) where
   -- the argument at an end, where one step less is enough
   argument_is : (n j : ℕ) (e : End) → length t.invs ≡ suc n → slice_get x.reads j ≡ Some e

@@ -19,7 +19,8 @@ use Rattle.htl_walk.specs.Jobs.{jobs_of}
 use Rattle.htl_smach.specs.Rounds.{Round}
 use Rattle.htl_emach.specs.Contents.{Content}
 use Rattle.htl_machine.specs.Values.{Stands, HasRead, ValuesFollow, HasPlaces}
-use Rattle.htl_machine.specs.Turns.{count_before, done_by, finished_in}
+use Rattle.htl_refine.specs.RecordCounts.{count_before, done_by}
+use Rattle.htl_machine.specs.Turns.{finished_in}
 use Rattle.htl_refine.specs.Records.{took, lengths_of, IsTookWithin, AreTookWithin}
 use Rattle.htl_refine.specs.Records.{Round as Plan}
 use Rattle.htl_machine.specs.Plans.{round_start, finished_before, next_world}

@@ -7,7 +7,7 @@ use Rattle.htl_model.specs.Tables.{Tables}
 use Rattle.htl_walk.specs.declared.job.Job.{Job}
 use Rattle.htl_walk.specs.declared.schedule.SInstr.{SInstr}
 use Rattle.htl_walk.specs.Walk.{Left, first_point}
-use Rattle.htl_machine.specs.Turns.{count_before}
+use Rattle.htl_refine.specs.RecordCounts.{count_before, Rises}
 use Rattle.htl_refine.specs.Records.{AreTookWithin}
 use Rattle.htl_refine.specs.Records.{walk_of}
 use Rattle.htl_machine.specs.Plans.{round_start}
@@ -15,7 +15,7 @@ use Rattle.htl_machine.specs.Rounds.{plan_of}
 use Rattle.htl_machine.specs.Follows.{period_or, AreInForm, IsLoaded}
 use Rattle.htl_machine.specs.Served.{IsShown, AllServed}
 use Rattle.htl_machine.proofs.Standing.{some_same, none_some}
-use Rattle.htl_machine.proofs.Turning.{Rises, walk_rises}
+use Rattle.htl_refine.proofs.RecordOrder.{walk_rises}
 use Rattle.htl_machine.proofs.Serving.{serves}
 use Rattle.htl_machine.proofs.Desking.{times_within}
 

@@ -4,14 +4,14 @@ use Rattle.htl_model.specs.declared.event.Event.{Event}
 use Rattle.htl_model.specs.declared.state.Stay.{Stay}
 use Rattle.htl_model.specs.Tables.{Tables}
 use Rattle.htl_model.specs.Ranges.{AreInRange}
-use Rattle.htl_model.specs.Broken.{KeptTo}
+use Rattle.htl_model.specs.FrameRules.{KeptApart}
 use Rattle.htl_model.specs.Meaning.{state}
 use Rattle.htl_walk.specs.Walk.{InForm}
 use Rattle.htl_smach.specs.Rounds as rounds
 use Rattle.htl_smach.specs.Rounds.{Round, begun}
 use Rattle.htl_machine.specs.Worlds.{all_reads}
-use Rattle.htl_machine.specs.Turns.{count_before}
-use Rattle.htl_machine.specs.Casts.{IsCast}
+use Rattle.htl_refine.specs.RecordCounts.{count_before}
+use Rattle.htl_machine.specs.Casts.{IsCast, HaveWindows}
 use Rattle.htl_refine.specs.Records.{Round as Plan}
 use Rattle.htl_machine.specs.Plans.{AreRegular, round_start, AreSound}
 use Rattle.htl_refine.specs.Records.{walk_of}
@@ -19,9 +19,11 @@ use Rattle.htl_machine.specs.Follows.{DeskStands, DeskAt, DeskFollows}
 use Rattle.htl_machine.specs.Leaving.{due_by, Leaves}
 use Rattle.htl_machine.specs.Tellings.{tell_all}
 use Rattle.htl_machine.proofs.Standing.{IsStanding, standing_at}
-use Rattle.htl_machine.proofs.Rounding.{count_grows, cast_at}
+use Rattle.htl_machine.proofs.FrameValues.{count_grows}
+use Rattle.htl_machine.proofs.Rounding.{cast_at}
 use Rattle.htl_machine.proofs.Desking.{desk_opens, desk_closes, desk_begins, is_over}
 use Rattle.htl_machine.proofs.Releasing.{flags_after}
+use Rattle.htl_machine.proofs.RoundServed.{round_windows}
 
 -- the round with these releases told
 abbrev pub with_flags : Round → List Bool → Round
@@ -33,10 +35,10 @@ desk_left p s now r r1 past f leaves =
     leaves p s (count_before (now - s) (walk_of p)) (now - s) refl past (count_grows (now - s) (suc now - s) (walk_of p) (omega arith)) (desk_opens p s now r f)
 
 -- the releases of the instant are told
-pub desk_told : (t : Tables) (stays : List (Option Stay)) (n : ℕ) (p : Plan) (s k now : ℕ) (r : Round) → IsStanding t stays n → n ≤ now → s ≤ now → IsCast t stays s p.jobs → DeskAt p s k (now - s) r
+pub desk_told : (t : Tables) (stays : List (Option Stay)) (n : ℕ) (p : Plan) (s k now : ℕ) (r : Round) → IsStanding t stays n → n ≤ now → s ≤ now → IsCast t stays s now p.jobs → HaveWindows p.jobs → DeskAt p s k (now - s) r
     → rounds.Stands (with_flags r (tell_all p.jobs (all_reads t now stays) r.released)) p.schedule
     → DeskAt p s k (suc now - s) (with_flags r (tell_all p.jobs (all_reads t now stays) r.released))
-desk_told t stays n p s k now r standing past begun cast at st =
+desk_told t stays n p s k now r standing past begun cast windows at st =
     record {
       start = at.start;
       jobs = at.jobs;
@@ -44,17 +46,20 @@ desk_told t stays n p s k now r standing past begun cast at st =
       first = at.first;
       place = at.place;
       running = at.running;
-      released = ap (tell_all p.jobs (all_reads t now stays)) at.released ∙ flags_after t stays n now s p.jobs standing past begun cast;
+      released = ap (tell_all p.jobs (all_reads t now stays)) at.released ∙ flags_after t stays n now s p.jobs standing past begun cast windows;
       stands = st;
     }
 
-module _ (t : Tables) (range : AreInRange t) (kept : KeptTo t 12) (es : List Event) (plan : ℕ → Plan) (period : ℕ) (regular : AreRegular t es period) (sound : AreSound t es plan period) where
+module _ (t : Tables) (range : AreInRange t) (kept : KeptApart t 12) (es : List Event) (plan : ℕ → Plan) (period : ℕ) (regular : AreRegular t es period) (sound : AreSound t es plan period) where
   down : (n : ℕ) → round_start period n ≤ n
   down n = by_period period
     where
       by_period : (p : ℕ) → p * (n / p) ≤ n
       by_period zero = omega arith
       by_period (suc p) = omega arith
+
+  windows : (n : ℕ) → HaveWindows (plan (round_start period n)).jobs
+  windows n = let s = round_start period n in round_windows (plan s).jobs (plan s).lengths (plan s).schedule (sound.meets n)
 
   -- an instant at which no round begins
   pub desk_same : (n : ℕ) (r r1 : Round) → round_start period (suc n) ≡ round_start period n → DeskStands (plan (round_start period n)) (round_start period n) (suc n) r → Leaves r r1 (plan (round_start period n)).schedule (suc n)
@@ -63,8 +68,8 @@ module _ (t : Tables) (range : AreInRange t) (kept : KeptTo t 12) (es : List Eve
   desk_same n r r1 same f leaves st =
       let s = round_start period n in
       let past : s ≤ suc n = omega (arith, down n) in
-      let cast : IsCast t (state t es (suc n)).stays s (plan s).jobs = subst (λ z. IsCast t (state t es (suc n)).stays z (plan z).jobs) same (cast_at t range kept es plan period regular sound (suc n)) in
-      let told = desk_told t (state t es (suc n)).stays (suc n) (plan s) s (due_by (plan s) s (suc n)) (suc n) r1 (standing_at t range es (suc n)) (omega arith) past cast (desk_left (plan s) s (suc n) r r1 past f leaves) st in
+      let cast : IsCast t (state t es (suc n)).stays s (suc n) (plan s).jobs = subst (λ z. IsCast t (state t es (suc n)).stays z (suc n) (plan z).jobs) same (cast_at t range kept es plan period regular sound (suc n)) in
+      let told = desk_told t (state t es (suc n)).stays (suc n) (plan s) s (due_by (plan s) s (suc n)) (suc n) r1 (standing_at t range es (suc n)) (omega arith) past cast (windows n) (desk_left (plan s) s (suc n) r r1 past f leaves) st in
       subst (λ z. DeskStands (plan z) z (suc (suc n)) (with_flags r1 (tell_all (plan s).jobs (all_reads t (suc n) (state t es (suc n)).stays) r1.released))) (sym same)
       (desk_closes (plan s) s (suc n) (with_flags r1 (tell_all (plan s).jobs (all_reads t (suc n) (state t es (suc n)).stays) r1.released)) told)
 
@@ -84,8 +89,8 @@ module _ (t : Tables) (range : AreInRange t) (kept : KeptTo t 12) (es : List Eve
       let p = plan now in
       let r2 = begun now p.jobs p.lengths in
       let flags = tell_all p.jobs (all_reads t now (state t es now).stays) r2.released in
-      let cast : IsCast t (state t es now).stays now p.jobs = subst (λ z. IsCast t (state t es now).stays z (plan z).jobs) starts (cast_at t range kept es plan period regular sound now) in
+      let cast : IsCast t (state t es now).stays now now p.jobs = subst (λ z. IsCast t (state t es now).stays z now (plan z).jobs) starts (cast_at t range kept es plan period regular sound now) in
       let opens : DeskAt p now 0 (now - now) r2 = subst (λ d. DeskAt p now 0 d r2) (let z : 0 ≡ now - now = omega arith in z) (desk_begins p now some st) in
-      let told = desk_told t (state t es now).stays now p now 0 now r2 (standing_at t range es now) (omega arith) (omega arith) cast opens st' in
+      let told = desk_told t (state t es now).stays now p now 0 now r2 (standing_at t range es now) (omega arith) (omega arith) cast (subst (λ z. HaveWindows (plan z).jobs) starts (windows now)) opens st' in
       let all = leaves p now 0 (suc now - now) refl (omega arith) (omega arith) told in
       subst (λ z. DeskStands (plan z) z (suc now) r4) (sym starts) (desk_closes p now now r4 all)

@@ -15,7 +15,9 @@ use Rattle.htl_walk.specs.declared.schedule.SInstr.TheVariants.{Dispatch, Idle, 
 use Rattle.htl_walk.specs.Walk.{Point, Left, job_at, begins, slice_between, finishes_by, slice_onto, slices, is_position, next_point, walk_from, first_point, AllWithin}
 use Rattle.htl_walk.proofs.Work.{work_some, job_there, job_is}
 use Rattle.htl_refine.specs.Records.{Round, AreTookWithin, round_at, left_at, rounds_before, shifted, walk_of}
-use Rattle.htl_machine.specs.Casts.{IsCast}
+use Rattle.htl_machine.specs.Casts.{IsCast, HaveWindows}
+use Rattle.htl_machine.proofs.Casting.{only_open}
+use Rattle.htl_machine.proofs.RoundServed.{round_windows}
 use Rattle.htl_machine.specs.Follows.{AreInForm, IsLoaded, period_or}
 use Rattle.htl_machine.specs.JobLines.{RunLine, slice_of as line_of_slice, job_lines_of, round_job_lines, job_lines_at, job_lines_to}
 use Rattle.htl_machine.specs.JobLines.RunLine.{SliceLine, DoneLine}
@@ -32,7 +34,8 @@ use Rattle.htl_machine.proofs.Serving.{slice_inside}
 use Rattle.htl_machine.proofs.Standing.{some_same, none_some}
 use Rattle.htl_machine.proofs.Telling.{rounds_are, up_to_none, up_to_last}
 use Rattle.htl_machine.proofs.TellingLines.{silent, none_left, last_start}
-use Rattle.htl_machine.proofs.Turning.{Rises, walk_rises}
+use Rattle.htl_refine.specs.RecordCounts.{Rises}
+use Rattle.htl_refine.proofs.RecordOrder.{walk_rises}
 
 -- ---- records in the order of their instants
 
@@ -404,12 +407,13 @@ module _ (t : Tables) (schedules : List (List SInstr)) (loaded : IsLoaded t sche
       let kept = loaded.rounds es within in
       let same : period_or (root_period t) ≡ period = ap period_or root in
       let some : 0 < period = (subst (AreRegular t es) same kept.regular).some in
-      let cast : IsCast t (state t es s).stays s r.jobs = (subst (AreSound t es (plan_of t schedules es)) same kept.sound).casts n in
+      let cast : IsCast t (state t es s).stays s s r.jobs = (subst (AreSound t es (plan_of t schedules es)) same kept.sound).casts n in
+      let windows : HaveWindows r.jobs = round_windows r.jobs r.lengths r.schedule ((subst (AreSound t es (plan_of t schedules es)) same kept.sound).meets n) in
       let served = all_served t schedules loaded es within period end root in
       let v = (served.jobs n q j at here late).served in
       let ls = walk_of r in
       let others : (p : ℕ) → (job_at r.jobs p).present ≡ true → (job_at r.jobs p).inv ≡ j.inv → p ≡ q =
-      λ p there inv. cast.once p q (job_at r.jobs p) j (job_there r.jobs p there) at there here inv in
+      λ p there inv. only_open t (state t es s).stays s r.jobs cast windows p q (job_at r.jobs p) j (job_there r.jobs p there) at there here inv in
       let works : (i : ℕ) (l : Left) → slice_get ls i ≡ Some l → DoesWork l → (0 < l.at) × (l.at ≤ period) × ((p : ℕ) × (l.position ≡ Some p) × ((job_at r.jobs p).present ≡ true)) =
       λ i l is does. (
         later l.at (λ first. idle l (silent r.jobs r.schedule (first_point r.jobs r.lengths) i l is first) does),

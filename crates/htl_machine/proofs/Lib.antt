@@ -23,6 +23,16 @@ pub mod Sensing
 pub mod Serving
 pub mod Carrying
 pub mod Placing
+pub mod FrameCasts
+pub mod FrameMembers
+pub mod FramePlaced
+pub mod FramePlacing
+pub mod FrameValues
+pub mod FramesGoOn
+pub mod RoundServed
+pub mod RunFrames
+pub mod Tops
+pub mod Windows
 pub mod Rounding
 pub mod Tying
 pub mod Pathing
@@ -83,3 +93,8 @@ pub mod After
 pub mod Idle
 pub mod Quiet
 pub mod ToClose
+pub mod MarkRows
+pub mod Marking
+pub mod Settling
+pub mod Waits
+pub mod ShownOn

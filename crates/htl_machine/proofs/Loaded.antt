@@ -20,6 +20,7 @@ use Rattle.htl_refine.specs.ConcreteJobs.{concrete_jobs}
 use Rattle.htl_refine.specs.Records.{AreTookWithin, modes_at}
 use Rattle.htl_refine.specs.Roots as roots
 use Rattle.htl_refine.proofs.Inherit.{refinement}
+use Rattle.htl_refine.proofs.Kept.{kept_apart}
 use Rattle.htl_refine.proofs.Members.{of_places}
 use Rattle.htl_refine.proofs.RootSelection.{roots_some, below_count, is_of_selection}
 use Rattle.htl_refine.proofs.RoundLaws.{rounds_meet}
@@ -101,13 +102,13 @@ module _ (t : Tables) (schedules : List (List SInstr)) (range : AreInRange t) (k
   first_rules = λ r s have need small broken. kept r s have need (omega arith) broken
 
   -- the jobs of a round are those of the invocations that stand
-  casts : (es : List Event) (n : ℕ) → let s = round_start (period_or (root_period t)) n in IsCast t (state t es s).stays s (plan_of t schedules es s).jobs
+  casts : (es : List Event) (n : ℕ) → let s = round_start (period_or (root_period t)) n in IsCast t (state t es s).stays s s (plan_of t schedules es s).jobs
   casts es n =
       let period = period_or (root_period t) in
       let s = round_start period n in
       let rounds = regular t es range first_rules in
       let whole : period * (s / period) ≡ s = ap (λ z. period * z) (mul-div_cancel_left (n / period) rounds.some) in
-      cast_of t (state t es s).stays s (standing_of t (state t es s).stays) (placing t es s s range kept (λ k y e. rounds.starts s k y e ∙ whole))
+      cast_of t (state t es s).stays s (standing_of t (state t es s).stays) (placing t es s s range kept (λ k y e. rounds.starts s k y e ∙ whole)) s
 
   -- the schedule of a round is in form
   pub rounds_in_form : (es : List Event) (period : ℕ) → root_period t ≡ Some period → AreInForm t schedules es period
@@ -135,4 +136,4 @@ module _ (t : Tables) (schedules : List (List SInstr)) (range : AreInRange t) (k
       }
 
   pub loaded : IsLoaded t schedules
-  loaded = record { range = range; kept = first_rules; rounds = λ es within. every_round es within }
+  loaded = record { range = range; kept = kept_apart t 12 first_rules; rounds = λ es within. every_round es within }

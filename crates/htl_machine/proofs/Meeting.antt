@@ -29,7 +29,8 @@ use Rattle.htl_model.specs.Ranges.{IsCommInRange}
 use Rattle.htl_machine.proofs.Shaping.{has_places}
 use Rattle.htl_machine.proofs.Desking.{desk_opens}
 use Rattle.htl_machine.proofs.Standing.{standing_before, none_some, all_at}
-use Rattle.htl_machine.proofs.Rounding.{count_grows, values_now}
+use Rattle.htl_machine.proofs.FrameValues.{count_grows}
+use Rattle.htl_machine.proofs.Rounding.{values_now}
 use Rattle.htl_machine.proofs.Tying.{addresses, write_phase}
 use Rattle.htl_machine.proofs.Pathing.{after_writes, after_switches, after_reads, path_does}
 use Rattle.htl_machine.proofs.Plain.{down}

@@ -87,7 +87,7 @@ module _ (t : Tables) (code : ECode) (schedules : List (List SInstr)) (loaded : 
     desk_is : desk_replay code (phase_path t code es now 3) first ≡ with_flags first (tell_all (plan now).jobs (all_reads t now (state t es now).stays) first.released)
     desk_is =
         let k = loaded.rounds es f.stands.up_to.within in
-        let cast : IsCast t (state t es now).stays now (plan now).jobs = subst (λ z. IsCast t (state t es now).stays z (plan z).jobs) starts (cast_at t loaded.range loaded.kept es plan period k.regular k.sound now) in
+        let cast : IsCast t (state t es now).stays now now (plan now).jobs = subst (λ z. IsCast t (state t es now).stays z now (plan z).jobs) starts (cast_at t loaded.range loaded.kept es plan period k.regular k.sound now) in
         let meets : Meets (plan now).jobs (plan now).lengths (plan now).schedule = subst (λ z. Meets (plan z).jobs (plan z).lengths (plan z).schedule) starts (k.sound.meets now) in
         read_phase_tells t code loaded.range loaded.kept (modes_read t code schedules loaded spelled show) es (plan now) now 0 0 now first cast meets (desk_begins (plan now) now some g.starts) (omega arith) (omega arith)
 

@@ -11,7 +11,7 @@ use Rattle.htl_model.specs.declared.state.Stay.{Stay}
 use Rattle.htl_model.specs.Tables.{Tables, comm_period, mode_module, is_concrete, function_value, output_function}
 use Rattle.htl_model.specs.Ranges.{AreInRange, IsInvInRange}
 use Rattle.htl_model.specs.FormRules.{AbstractPorts, Input}
-use Rattle.htl_model.specs.Broken.{KeptTo}
+use Rattle.htl_model.specs.FrameRules.{KeptApart}
 use Rattle.htl_model.specs.Meaning.{before, stay_of, val, out, out_by, input_value, port_output, writer_from}
 use Rattle.htl_model.proofs.Laws.{seen_before}
 use Rattle.htl_machine.specs.Values.{Stands, HasRead, Orders}
@@ -119,7 +119,7 @@ below_all r v (suc n) = by_test (ltb (r n) v) (below_all r v n)
 pub below_less : (r : ℕ → ℕ) (i n : ℕ) → i < n → below r (r i) n < n
 below_less r i n h = omega (arith, below_more r (r i) (suc (r i)) n i (omega arith) (omega arith) h, below_all r (suc (r i)) n)
 
-module _ (t : Tables) (range : AreInRange t) (kept : KeptTo t 12) where
+module _ (t : Tables) (range : AreInRange t) (kept : KeptApart t 12) where
   -- a concrete invocation reads no port that an abstract one writes
   pub writer_concrete : (i : ℕ) (x : Inv) (k p w o : ℕ) → slice_get t.invs i ≡ Some x → is_concrete t x ≡ true → slice_get x.reads k ≡ Some (E.Port p) → (d : IsWriter t x.mode p w o) → is_concrete t d.inv ≡ true
   writer_concrete i x k p w o at con e d = by_test (is_concrete t d.inv) refl
@@ -129,7 +129,7 @@ module _ (t : Tables) (range : AreInRange t) (kept : KeptTo t 12) where
       by_test false is =
           let inv = all_at (IsInvInRange t) t.invs range.invs i x at in
           let mode = there t.modes x.mode inv.owner in
-          absurd (kept AbstractPorts (record { mode = x.mode; inv = Some i; part = Input k }) k 0 (omega arith)
+          absurd (kept AbstractPorts (record { mode = x.mode; inv = Some i; part = Input k }) k 0 (omega arith) (λ e. omega (arith, e))
           (mode.0, mode.1, (x, at, refl, (E.Port p, e, (refl, refl, con, record { number = w; writer = d.inv; at = d.known; abstract = is; place = o; writes = d.end })))))
 
   pub writer_stands : (stays : List (Option Stay)) (i s : ℕ) (x : Inv) (k p w o : ℕ) → Stands t stays i x s → slice_get x.reads k ≡ Some (E.Port p) → (d : IsWriter t x.mode p w o) → Stands t stays w d.inv s

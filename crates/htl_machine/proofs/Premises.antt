@@ -21,7 +21,7 @@ use Rattle.std.proofs.lemmas.Option.{slice_get_within}
 use Rattle.htl_ecode.specs.declared.ecode.ECode.{ECode}
 use Rattle.htl_emach.specs.Calendars.{Standing}
 use Rattle.htl_emach.specs.Shapes.{HasValues}
-use Rattle.htl_machine.specs.Casts.{IsCast}
+use Rattle.htl_machine.specs.Casts.{IsCast, HaveWindows}
 use Rattle.htl_machine.specs.Values.{values_before}
 use Rattle.htl_console.specs.declared.shown.Shown.{Shown}
 use Rattle.htl_machine.specs.Machines.{Counts}
@@ -62,10 +62,10 @@ pub first_over : (t : Tables) (at : ℕ) (r d : Round) (w v : Content) → r ≡
 first_over t at r d w v none st rec = (first_left t at r d w v none st rec).running
 
 -- the jobs of a round are of concrete invocations
-pub cast_of : (t : Tables) (stays : List (Option Stay)) (s : ℕ) (jobs : List Job) → IsCast t stays s jobs → AreOf t jobs
-cast_of t stays s jobs c p j at here =
-    let st = c.stands p j at here in
-    (slice_get_within t.invs j.inv st.0 st.1.known, subst (λ (o : Option Inv). IfSome o (λ x. is_concrete t x ≡ true)) (sym st.1.known) st.1.concrete)
+pub cast_of : (t : Tables) (stays : List (Option Stay)) (s : ℕ) (jobs : List Job) → IsCast t stays s s jobs → HaveWindows jobs → AreOf t jobs
+cast_of t stays s jobs c windows p j at here =
+    let st = c.stands p j at here (omega (arith, windows p j at here)) in
+    (slice_get_within t.invs j.inv st.0 st.2.known, subst (λ (o : Option Inv). IfSome o (λ x. is_concrete t x ≡ true)) (sym st.2.known) st.2.concrete)
 
 -- the values before the instant are of their types
 pub values_fit : (t : Tables) (code : ECode) (schedules : List (List SInstr)) (show : Shown) (es : List Event) (now : ℕ) (e : Standing) (m : Held) (n : Counts) (written : List ℕ) → Whole t code schedules show es now e m n written → HasValues t (values_before t es now)

@@ -3,6 +3,7 @@ use Rattle.std.proofs.Common.{◌≡◌, ◌≤◌, ◌<◌, ℕ, zero, suc, ◌
 use Rattle.std.proofs.lemmas.Option.{get_or_from_slice_get}
 use Rattle.htl_emach.specs.Contents.{Content}
 use Rattle.htl_form.proofs.Places.{all_at, item_at}
+use Rattle.htl_object.proofs.OneRound.{schedules_are}
 use Rattle.htl_object.specs.Accepted.{IsAccepted}
 use Rattle.htl_model.specs.declared.event.Event.{Event}
 use Rattle.htl_model.specs.declared.parts.Module.{Module}
@@ -23,7 +24,7 @@ use Rattle.htl_walk.specs.declared.schedule.SInstr.{SInstr}
 use Rattle.htl_walk.specs.declared.schedule.Schedule.{Schedule}
 use Rattle.htl_walk.specs.Walk.{InForm}
 use Rattle.htl_machine.specs.Calls.{Seen, IsUpTo, GoesBy, number_by, schedule_by}
-use Rattle.htl_machine.specs.Casts.{IsCast}
+use Rattle.htl_machine.specs.Casts.{IsCast, HaveWindows}
 use Rattle.htl_machine.specs.Follows.{AreKept, DeskFollows, DeskStands, period_or}
 use Rattle.htl_machine.specs.Instant.{IsReadyAt}
 use Rattle.htl_machine.specs.Leaving.{due_by}
@@ -39,7 +40,8 @@ use Rattle.htl_machine.proofs.Loaded.{some_period, root_there}
 use Rattle.htl_machine.proofs.Meeting.{records_are}
 use Rattle.htl_machine.proofs.Plain.{down}
 use Rattle.htl_machine.proofs.Premises.{stands_told, first_desk, first_recorded, cast_of}
-use Rattle.htl_machine.proofs.Rounding.{count_grows}
+use Rattle.htl_machine.proofs.FrameValues.{count_grows}
+use Rattle.htl_machine.proofs.RoundServed.{round_windows}
 use Rattle.htl_machine.proofs.Standing.{none_some}
 
 -- ---- where there is no round
@@ -73,7 +75,7 @@ selected_below o es s q accepted root =
     let ranges = accepted.spelled.formed.ranges in
     let range = ranges.tables in
     let b = below_count o.tables (modes_at o.tables es s) range (states_are_selections o.tables range es s) (some_period o.tables q range root).1 in
-    omega (arith, b, ranges.schedules)
+    omega (arith, b, schedules_are o accepted.spelled.formed)
 
 module _ (m : Seen) (es : List Event) (now : ℕ) where
   ready_none : m.held.desk ≡ no_round
@@ -118,8 +120,13 @@ module _ (m : Seen) (es : List Event) (n q : ℕ) (accepted : IsAccepted m.objec
   kept_rounds : AreKept t (schedules_of m.object) es
   kept_rounds = (accepted_is_loaded m.object accepted).rounds es up.kept.within
 
-  cast : IsCast t (state t es s).stays s (plan s).jobs
-  cast = subst (λ z. IsCast t (state t es (round_start z n)).stays (round_start z n) (plan (round_start z n)).jobs) (ap period_or root) (kept_rounds.sound.casts n)
+  cast : IsCast t (state t es s).stays s s (plan s).jobs
+  cast = subst (λ z. IsCast t (state t es (round_start z n)).stays (round_start z n) (round_start z n) (plan (round_start z n)).jobs) (ap period_or root) (kept_rounds.sound.casts n)
+
+  windows : HaveWindows (plan s).jobs
+  windows =
+      let r = plan (round_start (period_or (root_period t)) n) in
+      subst (λ z. HaveWindows (plan (round_start z n)).jobs) (ap period_or root) (round_windows r.jobs r.lengths r.schedule (kept_rounds.sound.meets n))
 
   past : s ≤ suc n
   past = omega (arith, down q n)
@@ -143,7 +150,7 @@ module _ (m : Seen) (es : List Event) (n q : ℕ) (accepted : IsAccepted m.objec
         past = past;
         few = count_grows (suc n - s) (suc (suc n) - s) (walk_of (plan s)) (omega arith);
         was = desk_opens (plan s) s (suc n) m.held.desk f;
-        of = subst (AreOf t) (sym f.jobs) (cast_of t (state t es s).stays s (plan s).jobs cast);
+        of = subst (AreOf t) (sym f.jobs) (cast_of t (state t es s).stays s (plan s).jobs cast windows);
         form = λ runs. (q, subst (λ (js : List Job). InForm (length js) q (plan s).schedule) (sym f.jobs) (kept_rounds.form q root n));
         short = short;
         stands = f.stands;

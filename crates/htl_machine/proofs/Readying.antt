@@ -20,7 +20,7 @@ use Rattle.htl_emach.specs.Calendars.{Standing, content_after}
 use Rattle.htl_emach.specs.Safety.{StandsSafely}
 use Rattle.htl_emach.specs.Following.{Midway, Onward, phase_path, done_of}
 use Rattle.htl_machine.proofs.Going.{running_on, running_done}
-use Rattle.htl_machine.specs.Follows.{position_from}
+use Rattle.htl_machine.specs.Turns.{position_from}
 use Rattle.htl_machine.specs.Readiness.{made_ready, released_to, desk_does, desk_at, desk_replay, IsReadying}
 
 -- but for flags the round stays

@@ -3,7 +3,7 @@ use Rattle.std.proofs.Common.{◌≡◌, ℕ, zero, suc, ◌+◌, ◌-◌, ◌�
 use Rattle.std.proofs.lemmas.Option.{slice_get_within}
 use Rattle.htl_model.specs.Tables.{Tables}
 use Rattle.htl_model.specs.Ranges.{AreInRange}
-use Rattle.htl_model.specs.Broken.{KeptTo}
+use Rattle.htl_model.specs.FrameRules.{KeptApart}
 use Rattle.htl_walk.specs.declared.job.Job.{Job}
 use Rattle.htl_walk.specs.declared.schedule.SInstr.{SInstr}
 use Rattle.htl_walk.specs.Walk as walks
@@ -22,7 +22,7 @@ use Rattle.htl_machine.specs.Follows.{DeskAt}
 use Rattle.htl_machine.specs.Leaving.{due_by}
 use Rattle.htl_machine.specs.Recording.{AreOf, IsJobOf, Records, IsRecording}
 use Rattle.htl_machine.proofs.Standing.{some_same, none_some}
-use Rattle.htl_machine.proofs.Turning.{last_is}
+use Rattle.htl_refine.proofs.FinishingRecords.{last_is}
 use Rattle.htl_machine.proofs.Casting.{job_is}
 use Rattle.htl_machine.proofs.Desking.{next_some, next_none, moves_on, told_get}
 use Rattle.htl_machine.proofs.Leaving.{is_running, instr_there, still_pending}
@@ -156,7 +156,7 @@ pub inv_is : (jobs : List Job) (p : ℕ) (j : Job) → slice_get jobs p ≡ Some
 inv_is jobs p j e = ap (λ (z : Job). z.inv) (sym (job_is jobs p j e))
 
 -- what a done job puts out, by its position
-pub put_is : (t : Tables) (jobs : List Job) (fin : Bool) (o : Option ℕ) (p i : ℕ) (w v : Content) → AreInRange t → KeptTo t 12 → fin ≡ true → o ≡ Some p → i ≡ (job_at jobs p).inv → (fin ≡ true → IfSome o (IsJobOf t jobs))
+pub put_is : (t : Tables) (jobs : List Job) (fin : Bool) (o : Option ℕ) (p i : ℕ) (w v : Content) → AreInRange t → KeptApart t 12 → fin ≡ true → o ≡ Some p → i ≡ (job_at jobs p).inv → (fin ≡ true → IfSome o (IsJobOf t jobs))
     → v ≡ completed t i w → v ≡ cond fin (complete_at t jobs o w) w
 put_is t jobs fin o p i w v range kept done is inv known same =
     same ∙ ap (λ z. completed t z w) inv ∙ sym (ap₂ (λ f z. cond f (complete_at t jobs z w) w) done is)

@@ -14,12 +14,13 @@ use Rattle.htl_ecode.specs.Chains.{Want, Does, Waits, Turns, Tests, Asks, Arrive
 use Rattle.htl_ecode.specs.Chains as C
 use Rattle.htl_machine.specs.Worlds.{reads_at, all_reads}
 use Rattle.htl_machine.specs.Values.{Stands}
-use Rattle.htl_machine.specs.Casts.{IsCast}
-use Rattle.htl_machine.specs.Follows.{position_from, released_before}
+use Rattle.htl_machine.specs.Casts.{IsCast, HaveWindows}
+use Rattle.htl_machine.specs.Turns.{position_from}
+use Rattle.htl_machine.specs.Follows.{released_before}
 use Rattle.htl_machine.specs.Tellings.{tell_at, tell_want, tell_all}
 use Rattle.htl_machine.proofs.Standing.{IsStanding, some_same, none_some}
 use Rattle.htl_machine.proofs.Asked.{In, AsksFor, asks_left, do_right, asks_joined, joined_asks, asks_up_to, up_to_asks, numbered_in, in_numbered, copied, not_called, among_reads}
-use Rattle.htl_machine.proofs.Taking.{position_some, position_none}
+use Rattle.htl_machine.proofs.Casting.{position_some, last_open}
 use Rattle.htl_machine.proofs.Plain.{apart, both}
 
 -- ---- who is asked for
@@ -195,7 +196,8 @@ job_there [] p h = absurd (omega arith)
 job_there (j ∷ js) zero h = (j, refl)
 job_there (j ∷ js) (suc p) h = job_there js p (omega arith)
 
-module _ (t : Tables) (stays : List (Option Stay)) (n now start : ℕ) (jobs : List Job) (standing : IsStanding t stays n) (past : n ≤ now) (begun : start ≤ now) (cast : IsCast t stays start jobs) where
+module _ (t : Tables) (stays : List (Option Stay)) (n now start : ℕ) (jobs : List Job) (standing : IsStanding t stays n) (past : n ≤ now) (begun : start ≤ now) (cast : IsCast t stays start now jobs)
+    (windows : HaveWindows jobs) where
   -- after the read phase the releases of one offset more are told
   pub flags_after : tell_all jobs (all_reads t now stays) (released_before (now - start) jobs) ≡ released_before (suc now - start) jobs
   flags_after =
@@ -227,25 +229,16 @@ module _ (t : Tables) (stays : List (Option Stay)) (n now start : ℕ) (jobs : L
           let w = position_some 0 jobs r.0 p r.2 in
           let one : w.2 ≡ j = some_same _ _ (sym w.3 ∙ ap (slice_get jobs) (let z : w.0 ≡ p = omega (arith, w.1) in z) ∙ at) in
           let h = cast.has r.0 st.0 st.1 st.2 in
-          let same : h.0 ≡ p = cast.once h.0 p h.1.job j h.1.at at h.1.present (ap (λ (z : Job). z.present) (sym one) ∙ w.4) (h.1.inv ∙ sym w.5 ∙ ap (λ (z : Job). z.inv) one) in
+          let same : h.0 ≡ p = some_same _ _ (sym h.2 ∙ r.2) in
           let job : h.1.job ≡ j = some_same _ _ (sym h.1.at ∙ ap (slice_get jobs) same ∙ at) in
-          let begin : st.1 ≡ start = cast.round r.0 st.0 st.1 st.2 in
-          let when : j.release < suc now - start = omega (arith, st.3, begin, h.1.release, ap (λ (z : Job). z.release) job) in
+          let when : j.release < suc now - start = omega (arith, st.3, h.1.release, ap (λ (z : Job). z.release) job) in
           r.3 ∙ sym (flag_at (suc now - start) jobs p j at ∙ ap₂ (λ a b. a && b) (ap (λ (z : Job). z.present) (sym one) ∙ w.4) (lt-ltb j.release (suc now - start) when))
       by_flag p j at (inl r) = r.1 ∙ flag_at (now - start) jobs p j at ∙ by_time j.present j.release not_now ∙ sym (flag_at (suc now - start) jobs p j at)
         where
           not_now : j.present ≡ true → start + j.release ≢ now
           not_now here e =
-              let st = cast.stands p j at here in
-              let h = cast.has j.inv st.0 start st.1 in
-              let same : h.0 ≡ p = cast.once h.0 p h.1.job j h.1.at at h.1.present here h.1.inv in
-              let job : h.1.job ≡ j = some_same _ _ (sym h.1.at ∙ ap (slice_get jobs) same ∙ at) in
-              let asked = release_asks t stays n now standing past j.inv start st.0 st.1 (omega (arith, e, h.1.release, ap (λ (z : Job). z.release) job)) in
-              by_position (position_from 0 jobs j.inv) refl asked
-            where
-              by_position : (o : Option ℕ) → position_from 0 jobs j.inv ≡ o → AsksFor (I.Release j.inv) (all_reads t now stays) → ⊥
-              by_position None f asked = position_none 0 jobs j.inv p j f at here refl
-              by_position (Some q) f asked =
-                  let w = position_some 0 jobs j.inv q f in
-                  let same : w.0 ≡ p = cast.once w.0 p w.2 j w.3 at w.4 here w.5 in
-                  r.0 j.inv asked (f ∙ ap (λ z. Some z) (let z : q ≡ p = omega (arith, w.1, same) in z))
+              let late : now < start + j.end = omega (arith, e, windows p j at here) in
+              let st = cast.stands p j at here late in
+              let job : st.3.job ≡ j = some_same _ _ (sym st.3.at ∙ at) in
+              let asked = release_asks t stays n now standing past j.inv st.1 st.0 st.2 (omega (arith, e, st.3.release, ap (λ (z : Job). z.release) job)) in
+              r.0 j.inv asked (last_open t stays start now jobs cast p j at here late)

@@ -18,7 +18,7 @@ use Rattle.htl_smach.specs.Rounds.{told_from}
 use Rattle.htl_smach.proofs.Telling.{told_from-take}
 use Rattle.htl_ecode.specs.declared.ecode.ECode.{ECode}
 use Rattle.htl_ecode.specs.Paths.{instant_path}
-use Rattle.htl_machine.specs.Turns.{count_before}
+use Rattle.htl_refine.specs.RecordCounts.{count_before}
 use Rattle.htl_refine.specs.Records.{IsTookWithin, AreTookWithin}
 use Rattle.htl_refine.specs.Records.{Round as Plan}
 use Rattle.htl_machine.specs.Plans.{round_start}

@@ -1,8 +1,7 @@
 -- A block passes no address twice, so it is no longer than the code.
-use Rattle.std.proofs.Common.{◌≡◌, ℕ, zero, suc, ◌+◌, ◌-◌, ◌*◌, ◌<◌, ◌≤◌, Bool, true, false, ◌||◌, cond, eqb, List, [], ◌∷◌, ◌++◌, length, length-append, slice_get, map, Option, Some, None, ℤ, refl, sym, ap, ◌∙◌, subst, arith, ◌⊎◌, inl, inr}
+use Rattle.std.proofs.Common.{◌≡◌, ℕ, zero, suc, ◌+◌, ◌-◌, ◌*◌, ◌<◌, ◌≤◌, Bool, true, false, ◌||◌, eqb, List, [], ◌∷◌, ◌++◌, length, length-append, slice_get, Option, Some, None, ℤ, refl, sym, ap, ◌∙◌, subst, arith, ◌⊎◌, inl, inr}
 use Rattle.std.specs.List.{list_any, AllByRecursion, IsDistinct}
 use Rattle.std.proofs.lemmas.Bool.{eqb-true}
-use Rattle.std.proofs.lemmas.Bool.Decides.{nat_tests}
 use Rattle.std.proofs.lemmas.List.{length-map}
 use Rattle.std.proofs.lemmas.Map.Steps.{length-le_from_distinct_below}
 use Rattle.std.proofs.lemmas.Option.{slice_get_within}
@@ -15,7 +14,7 @@ use Rattle.htl_ecode.specs.Paths.{Done, on}
 use Rattle.htl_emach.specs.declared.trigger.Block.{Block}
 use Rattle.htl_emach.specs.declared.trigger.EDone.{EDone}
 use Rattle.htl_emach.specs.Calendars.{Calendar, Standing, done_in, standing_after, with_trigger}
-use Rattle.htl_emach.specs.Following.{Midway, Onward, Runs, calendar_replay, done_of, from_module, phase_blocks, phase_path}
+use Rattle.htl_emach.specs.Following.{Midway, Onward, calendar_replay, done_of, from_module, phase_blocks, phase_path}
 use Rattle.htl_emach.specs.Leading.{Ends}
 use Rattle.htl_emach.specs.Pending.{Between}
 use Rattle.htl_emach.proofs.Inside.{next_of_block}
@@ -26,7 +25,7 @@ use Rattle.htl_emach.proofs.Soundness.{sound as is_sound, phase_is}
 use Rattle.htl_emach.proofs.Switching.{Sound}
 use Rattle.htl_ecode.proofs.SpellingLaws.{spelled_departs_not}
 use Rattle.htl_ecode.specs.Spelling.{Spells}
-use Rattle.htl_model.specs.Broken.{KeptTo}
+use Rattle.htl_model.specs.FrameRules.{KeptApart}
 use Rattle.htl_model.specs.Ranges.{AreInRange}
 
 no_end : (front : List ℕ) (b : ℕ) → [] ≡ front ++ b ∷ [] → ⊥
@@ -181,7 +180,7 @@ steps_for t code es now phase values (suc n) m done rest h p same few mid =
         ap suc (ih (standing_after t code values phase now m (Some d)) (done ++ done_of d ∷ []) on.0 less on.4) ∙ sym (ap length on.1)
 
 -- fewer are left after one
-pub fewer_then : (t : Tables) (code : ECode) (es : List Event) (now phase : ℕ) (values : List ℤ) (m next : Standing) (d : EDone) (done rest : List Done) (c : Calendar) → AreInRange t → KeptTo t 12 → Spells t code → (1 ≤ phase) × (phase ≤ 3)
+pub fewer_then : (t : Tables) (code : ECode) (es : List Event) (now phase : ℕ) (values : List ℤ) (m next : Standing) (d : EDone) (done rest : List Done) (c : Calendar) → AreInRange t → KeptApart t 12 → Spells t code → (1 ≤ phase) × (phase ≤ 3)
     → (phase ≡ 2 → values ≡ (state t es now).values) → Between t code es now phase c 0 → Midway t code es now phase m done rest → Onward t code es now phase next done rest (Some d)
     → steps (length t.modules * length code.instrs) t code values phase now next < steps (length t.modules * length code.instrs) t code values phase now m
 fewer_then t code es now phase values m next d done rest c r kept spelled p two b mid on =

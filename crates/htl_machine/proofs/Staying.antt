@@ -113,8 +113,8 @@ module _ (t : Tables) (code : ECode) (schedules : List (List SInstr)) (loaded : 
     desk_is : r ≡ with_flags g.desk (tell_all (plan start).jobs (all_reads t (suc n) (state t es (suc n)).stays) g.desk.released)
     desk_is =
         let k = loaded.rounds es f.stands.up_to.within in
-        let cast : IsCast t (state t es (suc n)).stays start (plan start).jobs =
-        subst (λ z. IsCast t (state t es (suc n)).stays z (plan z).jobs) same (cast_at t loaded.range loaded.kept es plan period k.regular k.sound (suc n)) in
+        let cast : IsCast t (state t es (suc n)).stays start (suc n) (plan start).jobs =
+        subst (λ z. IsCast t (state t es (suc n)).stays z (suc n) (plan z).jobs) same (cast_at t loaded.range loaded.kept es plan period k.regular k.sound (suc n)) in
         g.told
         ∙ read_phase_tells t code loaded.range loaded.kept (modes_read t code schedules loaded spelled show) es (plan start) start (due_by (plan start) start (suc n)) (suc n - start) (suc n) g.desk cast (k.sound.meets n)
         (desk_left (plan start) start (suc n) m.desk g.desk past desk_stands leaves) (omega arith) past

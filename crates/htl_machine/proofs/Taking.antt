@@ -24,19 +24,20 @@ use Rattle.htl_smach.proofs.Lengths.{with_work, first_with, some_below}
 use Rattle.htl_emach.specs.Shapes.{HasValues, IsShaped}
 use Rattle.htl_emach.specs.Contents.{Content}
 use Rattle.htl_machine.specs.Values.{ValuesFollow}
-use Rattle.htl_machine.specs.Turns.{count_before, done_by, finished_in}
+use Rattle.htl_refine.specs.RecordCounts.{count_before, done_by}
+use Rattle.htl_machine.specs.Turns.{finished_in, position_from}
 use Rattle.htl_machine.specs.Casts.{IsCast}
 use Rattle.htl_refine.specs.Records.{inv_worst, modes_at, took, lengths_of, IsTookWithin, AreTookWithin}
 use Rattle.htl_refine.specs.Records.{Round as Plan}
 use Rattle.htl_machine.specs.Plans.{round_start, left_before, finished_by, finished_before, next_world}
 use Rattle.htl_refine.specs.Records.{walk_of}
 use Rattle.htl_machine.specs.Rounds.{standing_of, plan_of}
-use Rattle.htl_machine.specs.Follows.{Held, reading_of, period_or, released_before, DeskStands, DeskFollows, UpTo, Follows, IsLoaded, with_length, later_or, position_from, set_pending, desk_taking, taken_as}
+use Rattle.htl_machine.specs.Follows.{Held, reading_of, period_or, released_before, DeskStands, DeskFollows, UpTo, Follows, IsLoaded, with_length, set_pending, desk_taking, taken_as}
 use Rattle.htl_machine.proofs.Standing.{some_same, none_some}
 use Rattle.htl_machine.proofs.Outs.{map_same}
-use Rattle.htl_machine.proofs.Turning.{done_is}
-use Rattle.htl_machine.proofs.Casting.{job_is}
-use Rattle.htl_machine.proofs.Owing.{finish_late}
+use Rattle.htl_refine.proofs.DoneRecords.{done_is}
+use Rattle.htl_machine.proofs.Casting.{job_is, position_some, position_none, only_open}
+use Rattle.htl_machine.proofs.RoundServed.{served_of, round_windows}
 use Rattle.htl_refine.proofs.RoundLaws.{have_lengths}
 use Rattle.htl_machine.proofs.Events.{Alike, values_alike, reading_more, sense_took, took_took, AreSameBefore, same_before, finished_same}
 use Rattle.htl_machine.proofs.Following.{within_more, jobs_same, code_same, all_read, instant_values}
@@ -53,46 +54,6 @@ map_set f g [] p n h other here = absurd (omega arith)
 map_set f g (j ∷ js) zero n h other here = ap₂ (λ a b. a ∷ b) (here j refl) (map_same g f js (λ q k e. other (suc q) k e (λ z. omega (arith, z))))
 map_set f g (j ∷ js) (suc p) n h other here =
     ap₂ (λ a b. a ∷ b) (other 0 j refl (λ z. omega (arith, z))) (map_set f g js p n (omega arith) (λ q k e d. other (suc q) k e (λ z. d (omega (arith, z)))) (λ k e. here k e))
-
--- ---- the position of an invocation
-
-pub position_some : (q : ℕ) (js : List Job) (i p : ℕ) → position_from q js i ≡ Some p → (d : ℕ) × (p ≡ q + d) × (j : Job) × (slice_get js d ≡ Some j) × (j.present ≡ true) × (j.inv ≡ i)
-position_some q [] i p e = none_some p e
-position_some q (j ∷ js) i p e = by_rest (position_from (suc q) js i) refl e (λ g. position_some (suc q) js i p g)
-  where
-    both : (a b : Bool) → (a && b) ≡ true → (a ≡ true) × (b ≡ true)
-    both true b e = (refl, e)
-    both false b e = absurd (let z : ⊥ = cc in z)
-
-    by_test : (b : Bool) → (j.present && eqb j.inv i) ≡ b → ◌≡◌ {A = Option ℕ} (cond b (Some q) None) (Some p)
-        → (d : ℕ) × (p ≡ q + d) × (k : Job) × (slice_get (j ∷ js) d ≡ Some k) × (k.present ≡ true) × (k.inv ≡ i)
-    by_test true is g = let b = both j.present (eqb j.inv i) is in let same : q ≡ p = some_same _ _ g in (0, omega (arith, same), j, refl, b.0, eqb-true j.inv i b.1)
-    by_test false is g = none_some p g
-
-    by_rest : (o : Option ℕ) → position_from (suc q) js i ≡ o → later_or o (cond (j.present && eqb j.inv i) (Some q) None) ≡ Some p
-        → (position_from (suc q) js i ≡ Some p → (d : ℕ) × (p ≡ suc q + d) × (k : Job) × (slice_get js d ≡ Some k) × (k.present ≡ true) × (k.inv ≡ i))
-        → (d : ℕ) × (p ≡ q + d) × (k : Job) × (slice_get (j ∷ js) d ≡ Some k) × (k.present ≡ true) × (k.inv ≡ i)
-    by_rest (Some r) f g ih = let r = ih (f ∙ g) in (suc r.0, omega (arith, r.1), r.2, r.3, r.4, r.5)
-    by_rest None f g ih = by_test (j.present && eqb j.inv i) refl g
-
-pub position_none : (q : ℕ) (js : List Job) (i d : ℕ) (j : Job) → position_from q js i ≡ None → slice_get js d ≡ Some j → j.present ≡ true → j.inv ≡ i → ⊥
-position_none q [] i d j e at here is = none_some j at
-position_none q (k ∷ js) i d j e at here is = by_rest (position_from (suc q) js i) refl e d at (λ g m f. position_none (suc q) js i m j g f here is)
-  where
-    all_true : (a b : Bool) → a ≡ true → b ≡ true → (a && b) ≡ true
-    all_true a b e f = grind arith
-
-    by_test : (b : Bool) → (k.present && eqb k.inv i) ≡ b → ◌≡◌ {A = Option ℕ} (cond b (Some q) None) None → slice_get (k ∷ js) 0 ≡ Some j → ⊥
-    by_test true b g at = none_some q (sym g)
-    by_test false b g at =
-        let same : k ≡ j = some_same _ _ at in
-        let z : true ≡ false = sym (all_true k.present (eqb k.inv i) (ap (λ (z : Job). z.present) same ∙ here) (eq-eqb k.inv i (ap (λ (z : Job). z.inv) same ∙ is))) ∙ b in cc
-
-    by_rest : (o : Option ℕ) → position_from (suc q) js i ≡ o → later_or o (cond (k.present && eqb k.inv i) (Some q) None) ≡ None → (d : ℕ) → slice_get (k ∷ js) d ≡ Some j
-        → (position_from (suc q) js i ≡ None → (m : ℕ) → slice_get js m ≡ Some j → ⊥) → ⊥
-    by_rest (Some r) f g d at ih = none_some r (sym g)
-    by_rest None f g (suc d) at ih = ih f d at
-    by_rest None f g zero at ih = by_test (k.present && eqb k.inv i) refl g at
 
 -- an absent job is released at once
 absent_release : (t : Tables) (standing : List (Option ℕ)) (d : ℕ) (j : Job) → slice_get (jobs_of t standing) d ≡ Some j → j.present ≡ false → j.release ≡ 0
@@ -158,10 +119,21 @@ module _ (t : Tables) (schedules : List (List SInstr)) (loaded : IsLoaded t sche
     lengths_are : (plan_of t schedules fs s).lengths ≡ lengths_of t fs s (plan_of t schedules es s).jobs
     lengths_are = ap (lengths_of t fs s) (sym jobs_are)
 
-    cast : IsCast t (state t es s).stays s (plan_of t schedules es s).jobs
+    cast : IsCast t (state t es s).stays s s (plan_of t schedules es s).jobs
     cast =
         let c = (loaded.rounds es within).sound.casts whole.0 in
-        subst (λ z. IsCast t (state t es z).stays z (plan_of t schedules es z).jobs) (sym whole.1) c
+        subst (λ z. IsCast t (state t es z).stays z z (plan_of t schedules es z).jobs) (sym whole.1) c
+
+    meets : Meets (plan_of t schedules es s).jobs (plan_of t schedules es s).lengths (plan_of t schedules es s).schedule
+    meets =
+        let m = (loaded.rounds es within).sound.meets whole.0 in
+        subst (λ z. Meets (plan_of t schedules es z).jobs (plan_of t schedules es z).lengths (plan_of t schedules es z).schedule) (sym whole.1) m
+
+    -- an invocation has one position
+    one_place : (d b : ℕ) (j k : Job) → slice_get (plan_of t schedules es s).jobs d ≡ Some j → slice_get (plan_of t schedules es s).jobs b ≡ Some k → j.present ≡ true → k.present ≡ true → j.inv ≡ k.inv → d ≡ b
+    one_place =
+        only_open t (state t es s).stays s (plan_of t schedules es s).jobs cast
+        (round_windows (plan_of t schedules es s).jobs (plan_of t schedules es s).lengths (plan_of t schedules es s).schedule meets)
 
     agree : AgreeBefore (now - s) (plan_of t schedules es s).jobs (plan_of t schedules es s).lengths (lengths_of t fs s (plan_of t schedules es s).jobs)
     agree r j at here h =
@@ -214,7 +186,7 @@ module _ (t : Tables) (schedules : List (List SInstr)) (loaded : IsLoaded t sche
     lengths_set d j at here is late =
         lengths_are
         ∙ map_set (λ k. took t es k.inv (s + k.release)) (λ k. took t fs k.inv (s + k.release)) (plan_of t schedules es s).jobs d n (slice_get_within (plan_of t schedules es s).jobs d j at)
-        (λ q' k kat other. entry_kept q' k kat (λ a b. absurd (other (cast.once q' d k j kat at a here (b ∙ sym is)))))
+        (λ q' k kat other. entry_kept q' k kat (λ a b. absurd (other (one_place q' d k j kat at a here (b ∙ sym is)))))
         (λ k kat.
         let same' : k ≡ j = some_same _ _ (sym kat ∙ at) in
         ap (λ (z : Job). took t fs z.inv (s + z.release)) same' ∙ ap (λ z. took t fs z (s + j.release)) is ∙ late_took (s + j.release) late)
@@ -266,9 +238,7 @@ module _ (t : Tables) (schedules : List (List SInstr)) (loaded : IsLoaded t sche
         ap (λ (z : List Left). is_some (finish z d)) (walk-take jobs c x r.place) ∙ sym (finished_where_none jobs (take r.place c) x d some)
         ∙ ap (λ (z : Point). eqb (get_or z.left d 0) 0) (sym point) ∙ e in
         let g = done_is (now - s) (walk jobs ns c) d (sym (ap (λ z. done_by (walk jobs ns c) z d) f.place) ∙ done) in
-        let meets = (loaded.rounds es within).sound.meets whole.0 in
-        let meets' = subst (λ z. Meets (plan_of t schedules es z).jobs (plan_of t schedules es z).lengths (plan_of t schedules es z).schedule) (sym whole.1) meets in
-        let late = (finish_late t loaded.range loaded.kept (state t es s).stays s jobs ns c cast meets' d g.0 g.1).0 in
+        let late = ((served_of jobs ns c s s meets).late d g.0 (slice_get_within jobs d j at) g.1).0 in
         omega (arith, late, ap (λ (z : Job). z.release) (job_is jobs d j at), g.2)
 
     -- a job that is present has its length
@@ -301,7 +271,7 @@ module _ (t : Tables) (schedules : List (List SInstr)) (loaded : IsLoaded t sche
             only : (d : ℕ) (j : Job) → slice_get (plan_of t schedules es s).jobs d ≡ Some j → j.present ≡ true → j.inv ≡ i → s + j.release < now
                 → (b : ℕ) (k : Job) → slice_get (plan_of t schedules es s).jobs b ≡ Some k → k.present ≡ true → k.inv ≡ i → s + k.release < now
             only d j at here is early b k kat khere kis =
-                let place : b ≡ d = cast.once b d k j kat at khere here (kis ∙ sym is) in
+                let place : b ≡ d = one_place b d k j kat at khere here (kis ∙ sym is) in
                 let one : k ≡ j = some_same _ _ (sym kat ∙ ap (slice_get (plan_of t schedules es s).jobs) place ∙ at) in
                 omega (arith, early, ap (λ (z : Job). z.release) one)
 

@@ -10,8 +10,7 @@ use Rattle.htl_smach.specs.declared.left.Left.{Left}
 use Rattle.htl_smach.specs.Rounds as rounds
 use Rattle.htl_smach.specs.Rounds.{told, told_from}
 use Rattle.htl_refine.specs.Records.{shifted, rounds_before}
-use Rattle.htl_machine.specs.Turns.{count_before}
-use Rattle.htl_machine.proofs.Turning.{Rises}
+use Rattle.htl_refine.specs.RecordCounts.{count_before, Rises}
 
 -- ---- a record, as the S machine tells it
 

@@ -19,14 +19,14 @@ use Rattle.htl_refine.specs.Records.{Round, walk_of, shifted, round_at, left_at}
 use Rattle.htl_console.specs.declared.shown.Shown.{Shown}
 use Rattle.htl_console.specs.Shows.{shows_jobs, shows_code}
 use Rattle.htl_console.specs.Lines.{done_line}
-use Rattle.htl_machine.specs.Turns.{count_before}
+use Rattle.htl_refine.specs.RecordCounts.{count_before, Rises}
 use Rattle.htl_machine.specs.Plans.{round_start, left_before}
 use Rattle.htl_machine.specs.Rounds.{plan_of}
 use Rattle.htl_machine.specs.Follows.{AreInForm}
 use Rattle.htl_machine.specs.Texts.{inv_at, slice_lines, record_text, some_records, old_records, new_records, records_text, old_start}
 use Rattle.htl_machine.specs.Lines.{where_shown, step_lines, job_lines, record_lines, selection_at, round_lines, old_lines, new_lines}
 use Rattle.htl_machine.proofs.Desking.{times_within}
-use Rattle.htl_machine.proofs.Turning.{Rises, walk_rises}
+use Rattle.htl_refine.proofs.RecordOrder.{walk_rises}
 use Rattle.htl_machine.proofs.Telling.{as_told, left_then, none_before, piece, over, up_to_last, rounds_are, none_at_first, earlier_over}
 
 -- ---- the piece of a round at an instant

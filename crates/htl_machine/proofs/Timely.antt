@@ -1,11 +1,11 @@
 -- The releases of an instant: who is released now isn't done yet, so the read phase tells exactly the flags that the round asks for.
 use Rattle.std.proofs.Common.{◌≡◌, ◌≢◌, ℕ, zero, suc, ◌+◌, ◌-◌, ◌≤◌, ◌<◌, Bool, true, false, cond, ◌&&◌, eqb, is_some, IsSome, List, [], ◌∷◌, length, get_or, slice_get, set, take, Option, Some, None, refl, sym, ap, ap₂, ◌∙◌, arith, inl, inr}
 use Rattle.std.proofs.lemmas.List.{set-get_or}
+use Rattle.std.proofs.lemmas.Option.{slice_get_within}
 use Rattle.htl_model.specs.declared.event.Event.{Event}
-use Rattle.htl_model.specs.declared.state.Stay.{Stay}
-use Rattle.htl_model.specs.Tables.{Tables, release}
+use Rattle.htl_model.specs.Tables.{Tables}
 use Rattle.htl_model.specs.Ranges.{AreInRange}
-use Rattle.htl_model.specs.Broken.{KeptTo}
+use Rattle.htl_model.specs.FrameRules.{KeptApart}
 use Rattle.htl_model.specs.Meaning.{state}
 use Rattle.htl_walk.specs.declared.job.Job.{Job}
 use Rattle.htl_walk.specs.Walk.{Point, Left, job_at, walk_from, walk, first_point, finish, is_position, Meets}
@@ -18,20 +18,20 @@ use Rattle.htl_ecode.specs.Chains.{Want, Does, Waits, Turns, Tests, Asks, Arrive
 use Rattle.htl_ecode.proofs.Spelled.{ModeReads}
 use Rattle.htl_emach.specs.Following.{phase_path}
 use Rattle.htl_machine.specs.Worlds.{all_reads}
-use Rattle.htl_machine.specs.Turns.{count_before, done_by}
+use Rattle.htl_refine.specs.RecordCounts.{count_before, done_by}
 use Rattle.htl_machine.specs.Casts.{IsCast}
 use Rattle.htl_refine.specs.Records.{Round as Plan}
 use Rattle.htl_refine.specs.Records.{walk_of}
-use Rattle.htl_machine.specs.Follows.{DeskAt, position_from}
+use Rattle.htl_machine.specs.Turns.{position_from}
+use Rattle.htl_machine.specs.Follows.{DeskAt}
 use Rattle.htl_machine.specs.Leaving.{due_by}
 use Rattle.htl_machine.specs.Tellings.{tell_at, tell_want, tell_all}
 use Rattle.htl_machine.specs.Readiness.{made_ready, released_to, desk_replay, desk_want, desk_all}
 use Rattle.htl_machine.proofs.Standing.{standing_at, some_same, none_some}
-use Rattle.htl_machine.proofs.Turning as turning
-use Rattle.htl_machine.proofs.Casting.{job_is}
-use Rattle.htl_machine.proofs.Owing.{finish_late}
+use Rattle.htl_refine.proofs.DoneRecords as records
+use Rattle.htl_machine.proofs.Casting.{job_is, position_some}
+use Rattle.htl_machine.proofs.RoundServed.{served_of}
 use Rattle.htl_machine.proofs.Asked.{AsksFor}
-use Rattle.htl_machine.proofs.Taking.{position_some}
 use Rattle.htl_machine.proofs.Releasing.{release_of}
 use Rattle.htl_machine.proofs.Instants.{with_flags}
 use Rattle.htl_machine.proofs.Acting.{read_phase_acts}
@@ -106,22 +106,21 @@ some_there : (o : Option ℕ) → IsSome o → (f : ℕ) × (o ≡ Some f)
 some_there (Some f) h = (f, refl)
 some_there None h = absurd (let z : ⊥ = cc in z)
 
-module _ (t : Tables) (range : AreInRange t) (kept : KeptTo t 12) (stays : List (Option Stay)) (p : Plan) (s k d now : ℕ) (r : Round) (cast : IsCast t stays s p.jobs) (meets : Meets p.jobs p.lengths p.schedule)
-    (at : DeskAt p s k d r) (few : k ≤ due_by p s now) (past : s ≤ now) where
-  not_done : (q : ℕ) → s + (job_at p.jobs q).release ≡ now → state_of r q ≢ Finished
-  not_done q when done =
+module _ (p : Plan) (s k d now : ℕ) (r : Round) (meets : Meets p.jobs p.lengths p.schedule) (at : DeskAt p s k d r) (few : k ≤ due_by p s now) (past : s ≤ now) where
+  not_done : (q : ℕ) → q < length p.jobs → s + (job_at p.jobs q).release ≡ now → state_of r q ≢ Finished
+  not_done q below when done =
       let own : r.first ≡ first_point r.jobs r.lengths = at.first ∙ sym (ap₂ first_point at.jobs at.lengths) in
       let one = some_there (finish_so_far r p.schedule q) ((done_first r p.schedule q at.stands own).0 done) in
       let there : finish (take k (walk_of p)) q ≡ Some one.0 =
       sym (ap (λ (x : Point). finish (take r.place (walk_from r.jobs p.schedule x)) q) own ∙ ap (λ n. finish (take n (walk r.jobs r.lengths p.schedule)) q) at.place ∙ ap (λ js. finish (take k (walk js r.lengths p.schedule)) q) at.jobs ∙ ap (λ ns. finish (take k (walk p.jobs ns p.schedule)) q) at.lengths) ∙ one.1 in
       let by_now : done_by (walk_of p) (count_before (suc now - s) (walk_of p)) q ≡ true = ap is_some (front_more (walk_of p) k (count_before (suc now - s) (walk_of p)) q one.0 few there) in
-      let f = turning.done_is (suc now - s) (walk_of p) q by_now in
-      let late = finish_late t range kept stays s p.jobs p.lengths p.schedule cast meets q f.0 f.1 in
+      let f = records.done_is (suc now - s) (walk_of p) q by_now in
+      let late = (served_of p.jobs p.lengths p.schedule s now meets).late q f.0 below f.1 in
       omega (arith, when, late.0, f.2, past)
 
 -- the read phase tells the flags of the instant
-pub read_phase_tells : (t : Tables) (code : ECode) → AreInRange t → KeptTo t 12 → ((m : ℕ) → m < length t.modes → ModeReads t code m) → (es : List Event) (p : Plan) (s k d now : ℕ) (r : Round)
-    → IsCast t (state t es now).stays s p.jobs → Meets p.jobs p.lengths p.schedule → DeskAt p s k d r → k ≤ due_by p s now → s ≤ now
+pub read_phase_tells : (t : Tables) (code : ECode) → AreInRange t → KeptApart t 12 → ((m : ℕ) → m < length t.modes → ModeReads t code m) → (es : List Event) (p : Plan) (s k d now : ℕ) (r : Round)
+    → IsCast t (state t es now).stays s now p.jobs → Meets p.jobs p.lengths p.schedule → DeskAt p s k d r → k ≤ due_by p s now → s ≤ now
     → desk_replay code (phase_path t code es now 3) r ≡ with_flags r (tell_all p.jobs (all_reads t now (state t es now).stays) r.released)
 read_phase_tells t code range kept reads es p s k d now r cast meets at few past =
     read_phase_acts t code reads range es now r
@@ -134,8 +133,6 @@ read_phase_tells t code range kept reads es p s k d now r cast meets at few past
         let w = position_some 0 p.jobs i q (ap (λ js. position_from 0 js i) (sym at.jobs) ∙ place) in
         let here : slice_get p.jobs q ≡ Some w.2 = ap (slice_get p.jobs) (let z : q ≡ w.0 = omega (arith, w.1) in z) ∙ w.3 in
         let h = cast.has i st.0 st.1 st.2 in
-        let same : h.0 ≡ q = cast.once h.0 q h.1.job w.2 h.1.at here h.1.present w.4 (h.1.inv ∙ sym w.5) in
-        let job : h.1.job ≡ w.2 = some_same _ _ (sym h.1.at ∙ ap (slice_get p.jobs) same ∙ here) in
-        let begin : st.1 ≡ s = cast.round i st.0 st.1 st.2 in
-        let rel : (job_at p.jobs q).release ≡ release t st.0 = ap (λ (j : Job). j.release) (job_is p.jobs q w.2 here ∙ sym job) ∙ h.1.release in
-        not_done t range kept (state t es now).stays p s k d now r cast meets at few past q (omega (arith, rel, begin, st.3))
+        let same : h.0 ≡ q = some_same _ _ (sym h.2 ∙ ap (λ js. position_from 0 js i) (sym at.jobs) ∙ place) in
+        let job : (job_at p.jobs q).release ≡ h.1.job.release = ap (λ (j : Job). j.release) (job_is p.jobs q h.1.job (ap (slice_get p.jobs) (sym same) ∙ h.1.at)) in
+        not_done p s k d now r meets at few past q (slice_get_within p.jobs q w.2 here) (omega (arith, job, h.1.release, st.3))

@@ -35,8 +35,9 @@ use Rattle.htl_refine.proofs.Positions.{same_positions}
 use Rattle.htl_refine.proofs.RootSelection.{is_of_selection}
 use Rattle.htl_refine.proofs.RoundLaws.{have_lengths, within_worst}
 use Rattle.htl_refine.proofs.StateLaws.{states_are_selections}
-use Rattle.htl_machine.specs.Casts.{IsCast}
-use Rattle.htl_machine.specs.Follows.{Held, UpTo, DeskAt, IsLoaded, period_or, position_from}
+use Rattle.htl_machine.specs.Casts.{IsCast, HaveWindows}
+use Rattle.htl_machine.specs.Turns.{position_from}
+use Rattle.htl_machine.specs.Follows.{Held, UpTo, DeskAt, IsLoaded, period_or}
 use Rattle.htl_machine.specs.Plans.{round_start}
 use Rattle.htl_machine.specs.Readiness.{made_ready, released_to, desk_does, desk_at, desk_replay}
 use Rattle.htl_machine.specs.Rounds.{plan_of}
@@ -48,6 +49,7 @@ use Rattle.htl_machine.proofs.Desking.{desk_begins}
 use Rattle.htl_machine.proofs.Instants.{with_flags, desk_told}
 use Rattle.htl_machine.proofs.Premises.{cast_of}
 use Rattle.htl_machine.proofs.Rounding.{cast_at}
+use Rattle.htl_machine.proofs.RoundServed.{round_windows}
 use Rattle.htl_machine.proofs.Standing.{standing_at, some_same, none_some}
 use Rattle.htl_machine.proofs.Timely.{read_phase_tells}
 use Rattle.htl_machine.proofs.Wholly.{modes_read}
@@ -128,11 +130,14 @@ module _ (t : Tables) (code : ECode) (schedules : List (List SInstr)) (loaded : 
   abbrev period : ℕ
   period = period_or (root_period t)
 
-  cast : IsCast t (state t es now).stays now (plan now).jobs
-  cast = let k = loaded.rounds es f.within in subst (λ z. IsCast t (state t es now).stays z (plan z).jobs) starts (cast_at t loaded.range loaded.kept es plan period k.regular k.sound now)
+  cast : IsCast t (state t es now).stays now now (plan now).jobs
+  cast = let k = loaded.rounds es f.within in subst (λ z. IsCast t (state t es now).stays z now (plan z).jobs) starts (cast_at t loaded.range loaded.kept es plan period k.regular k.sound now)
 
   meets : Meets (plan now).jobs (plan now).lengths (plan now).schedule
   meets = let k = loaded.rounds es f.within in subst (λ z. Meets (plan z).jobs (plan z).lengths (plan z).schedule) starts (k.sound.meets now)
+
+  windows : HaveWindows (plan now).jobs
+  windows = round_windows (plan now).jobs (plan now).lengths (plan now).schedule meets
 
   in_form : InForm (length (plan now).jobs) q (plan now).schedule
   in_form =
@@ -159,13 +164,13 @@ module _ (t : Tables) (code : ECode) (schedules : List (List SInstr)) (loaded : 
       subst (λ z. rounds.Stands z (plan now).schedule) is (replay_stands code (phase_path t code es now 3) first (plan now).schedule st) in
       let here : DeskAt (plan now) now 0 (now - now) first = subst (λ d. DeskAt (plan now) now 0 d first) (let z : 0 ≡ now - now = omega arith in z) opens in
       subst (DeskAt (plan now) now 0 (suc now - now)) (sym is)
-      (desk_told t (state t es now).stays now (plan now) now 0 now first (standing_at t loaded.range es now) (omega arith) (omega arith) cast here later)
+      (desk_told t (state t es now).stays now (plan now) now 0 now first (standing_at t loaded.range es now) (omega arith) (omega arith) cast windows here later)
 
   -- what the machine holds is enough for the round that begins
   pub to_begin : IsToBegin t code schedules es now m.takes
   to_begin =
       record {
-        of = cast_of t (state t es now).stays now (plan now).jobs cast;
+        of = cast_of t (state t es now).stays now (plan now).jobs cast windows;
         kept = lengths_kept t schedules es now m f (plan now).jobs (known t (modes_at t es now) loaded.range (states_are_selections t loaded.range es now));
         some = lengths_some;
         worst = lengths_worst;

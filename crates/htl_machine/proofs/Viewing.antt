@@ -7,7 +7,7 @@ seen_in m =
     record {
       object = m.loaded.now;
       show = m.show;
-      held = record { spent = m.spent; reading = m.reading; shows = m.shows; takes = m.takes; world = m.world; desk = m.desk };
+      held = record { spent = m.spent; reading = m.reading; shows = m.sensors.shows; takes = m.takes; world = m.world; desk = m.desk };
       standing = m.emach;
       selection = m.selection;
       jobs = m.tally.jobs;

@@ -2,6 +2,7 @@
 use Rattle.std.specs.Prelude.{◌≡◌, ◌≤◌, ◌<◌, ℕ, true, List, [], length, ℤ, Option, None}
 use Rattle.htl_model.specs.declared.event.Event.{Event}
 use Rattle.htl_model.specs.Broken.{KeptTo, KeepsLimits}
+use Rattle.htl_model.specs.FrameRules.{KeptApart}
 use Rattle.htl_model.specs.FunctionTypes.{FitPlaces}
 use Rattle.htl_model.specs.Meaning.{state, before, mode_in}
 use Rattle.htl_model.specs.Selections.{selection_count}
@@ -26,7 +27,7 @@ use Rattle.htl_machine.specs.Starting.{IsToBegin}
 -- of the object
 pub record IsSound (t : Tables) (code : ECode) (schedules : List Schedule) : Type 0 where
   pub kept : KeptTo t 16
-  pub form : KeptTo t 12
+  pub form : KeptApart t 12
   pub limits : KeepsLimits t
   pub spells : Spells t code
   pub instrs : length code.instrs ≤ 4294967295

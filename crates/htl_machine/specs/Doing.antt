@@ -14,7 +14,7 @@ use Rattle.htl_emach.specs.Contents.{Content}
 use Rattle.htl_emach.specs.Calendars.{Standing}
 use Rattle.htl_emach.specs.Pending.{Between}
 use Rattle.htl_emach.specs.Safety.{StandsSafely}
-use Rattle.htl_emach.specs.Shapes.{IsShaped}
+use Rattle.htl_emach.specs.Shapes.{IsShaped, SensorsStay}
 use Rattle.htl_model.specs.Meaning.{state}
 use Rattle.htl_machine.specs.Running.{IsRunning}
 use Rattle.htl_console.specs.declared.shown.Shown.{Shown}
@@ -23,6 +23,8 @@ use Rattle.htl_console.specs.Shows.{shows_code}
 use Rattle.htl_machine.specs.declared.tally.Tally.{Tally}
 use Rattle.htl_machine.specs.Counts.{with_instrs}
 use Rattle.htl_machine.specs.Readiness.{desk_replay}
+use Rattle.htl_machine.specs.Noting.{MarksChanges, KeepsNoted}
+use Rattle.htl_machine.specs.declared.noted.Noted.{Noted}
 use Rattle.htl_machine.specs.Texts.{e_line}
 
 -- the line of an instruction
@@ -53,10 +55,14 @@ pub record IsStarting (t : Tables) (code : ECode) (es : List Event) (at phase : 
   pub calendar : Between t code es at phase m.calendar 0
 
 -- the phase is being done, for every list of events by whose meaning it began
-pub record IsDoingAll (t : Tables) (code : ECode) (at phase : ℕ) (show : Shown) (m0 m : Standing) (w first : Content) (r0 r : Round) (w0 w1 : Option (List ℕ)) (f0 f : ℕ) (n0 n : Tally) : Type 0 where
+pub record IsDoingAll (t : Tables) (code : ECode) (at phase : ℕ) (show : Shown) (m0 m : Standing) (w first : Content) (noted0 noted : Noted) (r0 r : Round) (w0 w1 : Option (List ℕ)) (f0 f : ℕ) (n0 n : Tally) : Type 0 where
   pub doing : (es : List Event) → IsStarting t code es at phase m0 first → IsDoing t code es at phase show m w first r0 r w0 w1 f0 f n0 n
   pub safe : StandsSafely t code m
   pub shaped : IsShaped t w
   pub values : phase ≡ 2 → w.values ≡ first.values
   pub stands : (s : List SInstr) → rounds.Stands r0 s → rounds.Stands r s
   pub jobs : r.jobs ≡ r0.jobs
+  -- what the instructions changed is marked; they change no sensor
+  pub marked : MarksChanges noted w.values m.calendar.modes
+  pub noted_stays : KeepsNoted noted0 noted
+  pub sensors : SensorsStay t first.values w.values

@@ -1,5 +1,5 @@
 -- When a machine follows tables, schedules and events.
-use Rattle.std.specs.Prelude.{◌≡◌, ℕ, zero, suc, ◌-◌, ◌≤◌, ◌<◌, Bool, false, ◌&&◌, cond, eqb, ltb, List, [], ◌∷◌, length, get_or, set, map, Option, Some, None, ℤ, pos}
+use Rattle.std.specs.Prelude.{◌≡◌, ℕ, zero, suc, ◌-◌, ◌≤◌, ◌<◌, Bool, false, ◌&&◌, ltb, List, [], ◌∷◌, length, get_or, set, map, Option, Some, None, ℤ, pos}
 use Rattle.htl_model.specs.declared.event.Event.{Event}
 use Rattle.htl_model.specs.declared.event.Event.TheVariants as V
 use Rattle.htl_model.specs.Selections.{root_period}
@@ -14,15 +14,16 @@ use Rattle.htl_smach.specs.Rounds.{Round, no_round, state_of}
 use Rattle.htl_smach.specs.declared.state.PosState.{PosState}
 use Rattle.htl_smach.specs.declared.state.PosState.TheVariants.{Absent, Pending, Ready, Done}
 use Rattle.htl_model.specs.Ranges.{AreInRange}
-use Rattle.htl_model.specs.Broken.{KeptTo}
+use Rattle.htl_model.specs.FrameRules.{KeptApart}
 use Rattle.htl_refine.specs.Records.{AreTookWithin, took}
 use Rattle.htl_emach.specs.Contents.{Content}
 use Rattle.htl_machine.specs.Values.{ValuesFollow}
-use Rattle.htl_machine.specs.Turns.{count_before}
+use Rattle.htl_refine.specs.RecordCounts.{count_before}
 use Rattle.htl_refine.specs.Records.{Round as Plan}
 use Rattle.htl_machine.specs.Plans.{AreRegular, AreSound, round_start, finished_before}
 use Rattle.htl_refine.specs.Records.{walk_of}
 use Rattle.htl_machine.specs.Rounds.{plan_of}
+use Rattle.htl_machine.specs.Turns.{position_from}
 
 -- what contracts see of a machine, but for its triggers and totals
 pub record Held : Type 0 where
@@ -116,10 +117,10 @@ pub record AreKept (t : Tables) (schedules : List (List SInstr)) (es : List Even
   pub sound : AreSound t es (plan_of t schedules es) (period_or (root_period t))
   pub form : (period : ℕ) → root_period t ≡ Some period → AreInForm t schedules es period
 
--- tables in range that keep the form rules, with schedules that serve every round
+-- tables in range that keep the form rules, perhaps but that of equal root periods, with schedules that serve every round
 pub record IsLoaded (t : Tables) (schedules : List (List SInstr)) : Type 0 where
   pub range : AreInRange t
-  pub kept : KeptTo t 12
+  pub kept : KeptApart t 12
   pub rounds : (es : List Event) → AreTookWithin t es → AreKept t schedules es
 
 -- ---- what the calls of a machine do to what it keeps
@@ -133,15 +134,6 @@ shown_as c x m = record m { shows = set m.shows c x }
 abbrev pub with_length : Round → ℕ → ℕ → Round
 with_length r p n =
     record r { lengths = set r.lengths p n; first = record r.first { left = set r.first.left p n }; point = record r.point { left = set r.point.left p n } }
-
-abbrev pub later_or : Option ℕ → Option ℕ → Option ℕ
-later_or (Some p) o = Some p
-later_or None o = o
-
--- the last position of an invocation, counted from q: that of its present round
-abbrev pub position_from : ℕ → List Job → ℕ → Option ℕ
-position_from q [] i = None
-position_from q (j ∷ js) i = later_or (position_from (suc q) js i) (cond (j.present && eqb j.inv i) (Some q) None)
 
 abbrev pub set_pending : PosState → Round → ℕ → ℕ → Round
 set_pending Pending r p n = with_length r p n

@@ -2,7 +2,7 @@
 use Rattle.std.specs.Prelude.{◌≡◌, ◌≤◌, ℕ, suc, ◌-◌, true, List}
 use Rattle.htl_walk.specs.declared.schedule.SInstr.{SInstr}
 use Rattle.htl_smach.specs.Rounds.{Round, Stands, IsInForm, IsTold}
-use Rattle.htl_machine.specs.Turns.{count_before}
+use Rattle.htl_refine.specs.RecordCounts.{count_before}
 use Rattle.htl_refine.specs.Records.{Round as Plan}
 use Rattle.htl_refine.specs.Records.{walk_of}
 use Rattle.htl_machine.specs.Follows.{DeskAt}

@@ -2,8 +2,11 @@ pub mod Worlds
 pub mod Values
 pub mod Turns
 pub mod Casts
+pub mod FramesGoOn
 pub mod Plans
 pub mod Places
+pub mod FramePlacing
+pub mod RunFrames
 pub mod Rounds
 pub mod Follows
 pub mod Texts
@@ -36,3 +39,6 @@ pub mod Passing
 pub mod Timing
 pub mod Instant
 pub mod Asking
+pub mod Marks
+pub mod Noting
+pub mod Waiting

@@ -9,7 +9,8 @@ use Rattle.htl_walk.specs.Walk.{Left, job_at, Meets}
 use Rattle.htl_refine.specs.Records.{Round as Plan, walk_of}
 use Rattle.htl_emach.specs.Contents.{Content, completed}
 use Rattle.htl_machine.specs.Worlds.{world_after}
-use Rattle.htl_machine.specs.Turns.{count_before, done_by, finished_in}
+use Rattle.htl_refine.specs.RecordCounts.{count_before, done_by}
+use Rattle.htl_machine.specs.Turns.{finished_in}
 use Rattle.htl_machine.specs.Casts.{IsCast}
 
 -- when the round began that stands at n
@@ -59,7 +60,7 @@ next_world t es plan period now w = world_after t (sense t es) now (before t es 
 
 -- each round has the jobs of the invocations that stand in it, and meets
 pub record AreSound (t : Tables) (es : List Event) (plan : ℕ → Plan) (period : ℕ) : Type 0 where
-  pub casts : (n : ℕ) → let s = round_start period n in IsCast t (state t es s).stays s (plan s).jobs
+  pub casts : (n : ℕ) → let s = round_start period n in IsCast t (state t es s).stays s s (plan s).jobs
   pub meets : (n : ℕ) → let s = round_start period n in Meets (plan s).jobs (plan s).lengths (plan s).schedule
 
 -- all rounds have this period, and stand since the last whole one

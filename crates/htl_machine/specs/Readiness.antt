@@ -16,7 +16,7 @@ use Rattle.htl_ecode.specs.Paths.{Done}
 use Rattle.htl_emach.specs.Calendars.{Standing}
 use Rattle.htl_emach.specs.Contents.{Content}
 use Rattle.htl_machine.specs.Running.{IsRunning}
-use Rattle.htl_machine.specs.Follows.{position_from}
+use Rattle.htl_machine.specs.Turns.{position_from}
 
 -- a position is made ready, where it is pending
 abbrev pub made_ready : PosState → Round → ℕ → Round

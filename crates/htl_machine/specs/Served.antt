@@ -2,7 +2,7 @@
 use Rattle.std.specs.Prelude.{◌≡◌, ℕ, suc, ◌+◌, ◌-◌, ◌≤◌, ◌<◌, true, List, [], ◌∷◌, slice_get, get_or, Some}
 use Rattle.htl_walk.specs.declared.job.Job.{Job}
 use Rattle.htl_walk.specs.Jobs.{precedes}
-use Rattle.htl_machine.specs.Turns.{count_before}
+use Rattle.htl_refine.specs.RecordCounts.{count_before}
 use Rattle.htl_refine.specs.Records.{Round as Plan}
 use Rattle.htl_machine.specs.Plans.{round_start}
 use Rattle.htl_refine.specs.Records.{walk_of}

@@ -21,7 +21,7 @@ use Rattle.htl_console.specs.declared.shown.Shown.{Shown}
 use Rattle.htl_console.specs.Shows.{shows_values, shows_jobs, shows_code}
 use Rattle.htl_console.specs.Lines.{slice_line, done_line, step_line, instr_line}
 use Rattle.htl_machine.specs.Rounds.{plan_of, selection_of}
-use Rattle.htl_machine.specs.Turns.{count_before}
+use Rattle.htl_refine.specs.RecordCounts.{count_before}
 
 -- `e T ADDRESS TEXT`
 abbrev pub e_line : Tables → ECode → ℕ → Done → List ℕ

@@ -1,12 +1,15 @@
 // The lines of values and modes that are others than before.
-ghost use Rattle.std.specs.Prelude.{◌≡◌, ◌<◌, ◌≤◌, ℕ, length, get_or, pos, Some, IfSome};
+ghost use Rattle.std.specs.Prelude.{◌≡◌, ◌<◌, ◌≤◌, ℕ, false, length, get_or, pos, Some, IfSome};
 ghost use Rattle.htl_edge.specs.Content.{Puts};
 ghost use Rattle.htl_model.specs.Lists.{up_to};
 ghost use Rattle.htl_model.specs.Lines.{lines_text};
 ghost use Rattle.htl_model.specs.Meaning.{same_mode};
 ghost use Rattle.htl_emach.specs.Calendars.{list_at};
 ghost use Rattle.htl_machine.specs.Changing.{mode_change, value_changes, mode_changes, change_lines};
+ghost use Rattle.htl_machine.specs.Marks.{is_marked};
+ghost use Rattle.htl_machine.specs.Noting.{MarksChanges};
 
+use crate::noted::Noted;
 use htl_base::{Time, Value};
 use htl_console::{Shown, line_m, line_v};
 use htl_edge::{Failed, Sink};
@@ -62,22 +65,26 @@ fn mode_at(modes: &[Option<u16>], k: usize) -> Option<u16>
     if k < modes.len() { modes[k] } else { None }
 }
 
-// The lines of the values.
+// The lines of the values: those of the communicators that are marked, at instant 0 of all.
 fn put_values<W: Sink>(
     sink: &mut W,
     t: &Tables,
     at: Time,
-    old: &[Value],
+    noted: &Noted,
     world: &World,
 ) -> Result<(), Failed>
-    requires old { length old.now ≡ length t.now.comms }
+    requires old { length noted.now.values ≡ length t.now.comms }
     requires new { length world.now.values ≡ length t.now.comms }
-    ensures { Puts (W.written sink.old) (W.written sink.new) (W.faults sink.old) (W.faults sink.new) (lines_text t.now (up_to (value_changes at old.now world.now.values) (length t.now.comms))) result }
+    requires marked { (c : ℕ) → is_marked noted.now.written c ≡ false → get_or noted.now.values c (pos 0) ≡ get_or world.now.values c (pos 0) }
+    ensures { Puts (W.written sink.old) (W.written sink.new) (W.faults sink.old) (W.faults sink.new) (lines_text t.now (up_to (value_changes at noted.now.values world.now.values) (length t.now.comms))) result }
 {
-    for c in 0..comm_count(t) {
-        if let Err(failed) = put_value(sink, t, at, c, old, world) {
+    let count = comm_count(t);
+    let mut c = noted.next_value(at, 0, count);
+    while c < count {
+        if let Err(failed) = put_value(sink, t, at, c, noted.values(), world) {
             return Err(failed);
         }
+        c = noted.next_value(at, c + 1, count);
     }
     Ok(())
 }
@@ -113,22 +120,27 @@ fn put_mode<W: Sink>(
     }
 }
 
-// The lines of the modes.
+// The lines of the modes: those of the modules that are marked.
 fn put_modes<W: Sink>(
     sink: &mut W,
     t: &Tables,
     at: Time,
-    old: &[Option<u16>],
+    noted: &Noted,
     m: &EMach,
 ) -> Result<(), Failed>
-    requires old { length old.now ≡ length t.now.modules }
+    requires old { length noted.now.modes ≡ length t.now.modules }
     requires modes { (k : ℕ) → IfSome (list_at m.now.calendar.modes k) (λ q. q < length t.now.modes) }
-    ensures { Puts (W.written sink.old) (W.written sink.new) (W.faults sink.old) (W.faults sink.new) (lines_text t.now (up_to (mode_changes at old.now m.now.calendar.modes) (length t.now.modules))) result }
+    requires marked { (k : ℕ) → is_marked noted.now.decided k ≡ false → list_at noted.now.modes k ≡ list_at m.now.calendar.modes k }
+    ensures { Puts (W.written sink.old) (W.written sink.new) (W.faults sink.old) (W.faults sink.new) (lines_text t.now (up_to (mode_changes at noted.now.modes m.now.calendar.modes) (length t.now.modules))) result }
 {
-    for k in 0..module_count(t) {
-        if let Err(failed) = put_mode(sink, t, at, k as u16, mode_at(old, k), m.mode(k as u16)) {
+    let count = module_count(t);
+    let mut k = noted.next_mode(0, count);
+    while k < count {
+        let old = mode_at(noted.modes(), k);
+        if let Err(failed) = put_mode(sink, t, at, k as u16, old, m.mode(k as u16)) {
             return Err(failed);
         }
+        k = noted.next_mode(k + 1, count);
     }
     Ok(())
 }
@@ -139,22 +151,22 @@ pub fn put_changes<W: Sink>(
     t: &Tables,
     show: Shown,
     at: Time,
-    values: &[Value],
-    modes: &[Option<u16>],
+    noted: &Noted,
     world: &World,
     m: &EMach,
 ) -> Result<(), Failed>
-    requires values { length values.now ≡ length t.now.comms }
-    requires modes { length modes.now ≡ length t.now.modules }
+    requires values { length noted.now.values ≡ length t.now.comms }
+    requires modes { length noted.now.modes ≡ length t.now.modules }
     requires new { length world.now.values ≡ length t.now.comms }
     requires known { (k : ℕ) → IfSome (list_at m.now.calendar.modes k) (λ q. q < length t.now.modes) }
-    ensures { Puts (W.written sink.old) (W.written sink.new) (W.faults sink.old) (W.faults sink.new) (change_lines t.now show at values.now world.now.values modes.now m.now.calendar.modes) result }
+    requires marked { MarksChanges noted.now world.now.values m.now.calendar.modes }
+    ensures { Puts (W.written sink.old) (W.written sink.new) (W.faults sink.old) (W.faults sink.new) (change_lines t.now show at noted.now.values world.now.values noted.now.modes m.now.calendar.modes) result }
 {
     if !show.values() {
         return Ok(());
     }
-    if let Err(failed) = put_values(sink, t, at, values, world) {
+    if let Err(failed) = put_values(sink, t, at, noted, world) {
         return Err(failed);
     }
-    put_modes(sink, t, at, modes, m)
+    put_modes(sink, t, at, noted, m)
 }

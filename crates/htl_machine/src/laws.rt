@@ -1,6 +1,8 @@
 //! The laws of a run, over the definitions alone. Each is a statement that the check has proved; there is nothing to run.
+ghost use Rattle.htl_machine.specs.FramePlacing.{FrameCast};
 ghost use Rattle.htl_machine.specs.Laws.{AcceptedIsLoaded, EveryJobInTime, ValuesAreTheMeaning, SensorsDecide, LaterEventsLeaveText, JobLinesAreRecords, JobLinesAreFound, EveryJobToldInTime};
 ghost use Rattle.htl_machine.specs.Quiet.{QuietInstantsPass};
+ghost use Rattle.htl_machine.specs.RunFrames.{FeasibleRuns, ValuesGoOn, RunReady};
 
 /// Of an accepted object every round is sound, whatever the events within the worst cases: its jobs are those of the invocations that
 /// stand, and its schedule does each of them in its window, after its predecessors.
@@ -54,4 +56,26 @@ pub fn every_job_is_told_in_time()
 /// there an E instruction, a record or a line.
 pub fn quiet_instants_pass()
     ensures { QuietInstantsPass }
+{}
+
+/// At each instant of a run the jobs that a frame has so far are cast, from the form rules alone and whatever periods root modules
+/// have: one for each invocation that stands, in its own module's round, with its window and its predecessors.
+pub fn jobs_are_cast()
+    ensures { FrameCast }
+{}
+
+/// Where the lists of the nodes are feasible for every path, whatever the events within the worst cases: at each instant the records of
+/// the frame serve the jobs that it has so far, and the frame goes on with further jobs, or the next begins.
+pub fn runs_go_by_frames()
+    ensures { FeasibleRuns }
+{}
+
+/// So each instant makes of a world that follows the values before it one that follows those before the next.
+pub fn values_go_on()
+    ensures { ValuesGoOn }
+{}
+
+/// So once the records of an instant are done, what is due is finished, and what is finished has read all.
+pub fn runs_are_ready()
+    ensures { RunReady }
 {}

@@ -1,5 +1,5 @@
 // The machine.
-ghost use Rattle.std.specs.Prelude.{◌≡◌, ◌≤◌, ◌<◌, ◌-◌, ◌+◌, ◌++◌, ℕ, suc, List, [], ◌∷◌, length, get_or, IfOk, IfSome, OnOk, OnErr, pos, true, false};
+ghost use Rattle.std.specs.Prelude.{◌≡◌, ◌≤◌, ◌<◌, ◌-◌, ◌+◌, ◌++◌, ℕ, suc, List, [], ◌∷◌, length, get_or, replicate, None, IfOk, IfSome, OnOk, OnErr, pos, true, false};
 ghost use Rattle.htl_base.specs.declared.limits.TheConstants as limit;
 ghost use Rattle.htl_edge.specs.Content.{Puts};
 ghost use Rattle.htl_emach.specs.Calendars.{list_at};
@@ -14,10 +14,10 @@ ghost use Rattle.htl_object.specs.Accepted.{IsAccepted};
 use crate::beginning::close_and_begin;
 use crate::close::close_instant;
 use crate::lengths::take;
-use crate::memory::{note_values, seen_values, worst_cases};
+use crate::memory::{no_modes, seen_values, worst_cases};
+use crate::noted::Noted;
 use crate::open::open_instant;
-use crate::sensors::next_shown;
-use crate::starting::note_modes;
+use crate::sensors::Sensors;
 use crate::tally::Tally;
 use crate::timing::round_begins;
 use htl_base::limits::MAX_POSITIONS;
@@ -54,7 +54,7 @@ pub struct Machine<'a> {
     show: Shown,
     spent: bool,
     reading: Time,
-    shows: Seq<Value>,
+    sensors: Sensors,
     takes: Seq<Time>,
     world: World,
     emach: EMach,
@@ -67,8 +67,7 @@ pub struct Machine<'a> {
     // Where no round stands.
     idle: Schedule,
     // Before the instant that is being done.
-    values: Seq<Value>,
-    modes: Selection,
+    noted: Noted,
     // The modes in which the round began.
     selected: Selection,
 }
@@ -83,9 +82,9 @@ impl<'a> Model for Machine<'a> {
 
     ghost coded = { Prim.hlevel (codes, object_row.the_row.coded) };
 
-    ghost view = { λ m. record { object = m.loaded.now; show = m.show; held = record { spent = m.spent; reading = m.reading; shows = m.shows; takes = m.takes; world = m.world; desk = m.desk }; standing = m.emach; selection = m.selection; jobs = m.tally.jobs; e = m.tally.e; s = m.tally.s } };
+    ghost view = { λ m. record { object = m.loaded.now; show = m.show; held = record { spent = m.spent; reading = m.reading; shows = m.sensors.shows; takes = m.takes; world = m.world; desk = m.desk }; standing = m.emach; selection = m.selection; jobs = m.tally.jobs; e = m.tally.e; s = m.tally.s } };
 
-    ghost invariant = { λ m. IsFitted m.loaded.now m.spent m.shows m.takes m.values m.modes.modes m.selected.modes m.jobs m.count m.desk m.idle.instrs };
+    ghost invariant = { λ m. IsFitted m.loaded.now m.spent m.sensors m.takes m.noted m.world m.emach m.selected.modes m.jobs m.count m.desk m.idle.instrs };
 }
 
 impl<'a> Machine<'a> {
@@ -110,22 +109,22 @@ impl<'a> Machine<'a> {
         world: World,
         emach: EMach,
     ) -> Result<Machine<'a>, AllocError>
-        requires { length world.values ≡ length l.now.tables.comms }
+        requires values { length world.values ≡ length l.now.tables.comms }
+        requires modes { emach.calendar.modes ≡ replicate (length l.now.tables.modules) None }
         ensures { IfOk result (λ m. m ≡ first_seen l.now show world emach) }
     {
         let t = l.tables();
         let shows = seen_values(alloc, t, &world)?;
         let values = seen_values(alloc, t, &world)?;
         let takes = worst_cases(alloc, t)?;
-        let count = t.parts().modules.as_slice().len();
-        let modes = vec![in alloc; None; count]?;
-        let selected = vec![in alloc; None; count]?;
+        let modes = no_modes(alloc, t)?;
+        let selected = no_modes(alloc, t)?;
         Ok(Machine {
             loaded: l,
             show,
             spent: false,
             reading: 0,
-            shows: Seq::new(shows),
+            sensors: Sensors::new(shows),
             takes: Seq::new(takes),
             world,
             emach,
@@ -141,10 +140,7 @@ impl<'a> Machine<'a> {
             idle: Schedule {
                 instrs: Seq::new(Vec::new(alloc)),
             },
-            values: Seq::new(values),
-            modes: Selection {
-                modes: Seq::new(modes),
-            },
+            noted: Noted::new(values, modes),
             selected: Selection {
                 modes: Seq::new(selected),
             },
@@ -159,7 +155,8 @@ impl<'a> Machine<'a> {
         ensures follows { (es : List Told) → Follows self.old es → Follows self.new (es ++ event.Sense comm x ∷ []) }
         ensures seen { self.new ≡ record self.old { held = shown_as comm x self.old.held } }
     {
-        self.shows.set(comm as usize, x);
+        let has = self.world.value(comm);
+        self.sensors.sense(comm, x, has);
     }
 
     /// How many ticks jobs of an invocation take that are released at the last reading or later. The machine isn't spent, the
@@ -255,7 +252,7 @@ impl<'a> Machine<'a> {
         if from == 0 {
             return 0;
         }
-        let shown = next_shown(&self.world, l.tables(), self.shows.as_slice(), from, to);
+        let shown = self.sensors.next(&self.world, l.tables(), from, to);
         let triggered = sooner(self.emach.next(), from, shown);
         sooner(
             self.desk.next(schedule_of(l, &self.idle, self.selection)),
@@ -279,8 +276,8 @@ impl<'a> Machine<'a> {
         let l = self.loaded;
         let t = l.tables();
         let code = l.ecode();
-        note_values(t, &self.world, &mut self.values);
-        note_modes(&mut self.modes, &self.emach);
+        t.keeps_ranges();
+        self.noted.settle(&self.world, &self.emach);
         if let Err(failed) = open_instant(
             sink,
             &mut self.emach,
@@ -293,8 +290,8 @@ impl<'a> Machine<'a> {
             schedule_of(l, &self.idle, self.selection),
             number_of(self.selection),
             self.show,
-            self.shows.as_slice(),
-            self.values.as_slice(),
+            &mut self.sensors,
+            &mut self.noted,
             at,
         ) {
             self.spent = true;
@@ -315,8 +312,7 @@ impl<'a> Machine<'a> {
                 l.schedules(),
                 self.show,
                 self.takes.as_slice(),
-                self.values.as_slice(),
-                self.modes.modes.as_slice(),
+                &mut self.noted,
                 at,
             ) {
                 Ok(begun) => {
@@ -340,8 +336,7 @@ impl<'a> Machine<'a> {
                 code,
                 &self.jobs[..self.count],
                 self.show,
-                self.values.as_slice(),
-                self.modes.modes.as_slice(),
+                &mut self.noted,
                 at,
             ) {
                 self.spent = true;

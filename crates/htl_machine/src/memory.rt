@@ -1,8 +1,8 @@
 // What a machine keeps beside its two machines: all of it is taken at its beginning.
-ghost use Rattle.std.specs.Prelude.{◌≡◌, length, map, IfOk};
+ghost use Rattle.std.specs.Prelude.{◌≡◌, length, map, replicate, IfOk, None};
 ghost use Rattle.htl_model.specs.Tables.{task_worst as task_worst_of};
 
-use htl_base::{Seq, Time, Value};
+use htl_base::{Time, Value};
 use htl_emach::World;
 use htl_model::Tables;
 use htl_model::lookup::task_worst;
@@ -38,15 +38,11 @@ pub(crate) fn worst_cases(alloc: Global, t: &Tables) -> Result<Vec<Time>, AllocE
     Ok(worst)
 }
 
-// Notes the values of the communicators.
-pub(crate) fn note_values(t: &Tables, world: &World, values: &mut Seq<Value>)
-    requires world { length world.now.values ≡ length t.now.comms }
-    requires same { length values.old ≡ length t.now.comms }
-    ensures { values.new ≡ world.now.values }
+// No mode for each module: before instant 0 all are inactive.
+pub(crate) fn no_modes(alloc: Global, t: &Tables) -> Result<Vec<Option<u16>>, AllocError>
+    ensures { IfOk result (λ v. v.items ≡ replicate (length t.now.modules) None) }
 {
-    t.keeps_ranges();
-    let count = values.as_slice().len();
-    for c in 0..count {
-        values.set(c, world.value(c as u16));
-    }
+    let count = t.parts().modules.as_slice().len();
+    let modes = vec![in alloc; None; count]?;
+    Ok(modes)
 }

@@ -1,7 +1,7 @@
 // The first part of an instant: records, writes and sensors.
 ghost use Rattle.std.specs.Prelude.{◌≡◌, ◌≤◌, List, [], length, true, false, None, OnOk};
 ghost use Rattle.htl_model.specs.declared.event.Event.{Event};
-ghost use Rattle.htl_model.specs.Broken.{KeptTo};
+ghost use Rattle.htl_model.specs.FrameRules.{KeptApart};
 ghost use Rattle.htl_ecode.specs.Spelling.{Spells};
 ghost use Rattle.htl_model.specs.FunctionTypes.{FitPlaces};
 ghost use Rattle.htl_emach.specs.Shapes.{HasValues, IsShaped};
@@ -10,14 +10,17 @@ ghost use Rattle.htl_emach.specs.Following.{Follows, Onward, phase_path};
 ghost use Rattle.htl_smach.specs.Rounds.{Stands, IsInForm, IsTold};
 ghost use Rattle.htl_machine.specs.Recording.{AreOf};
 ghost use Rattle.htl_machine.specs.Opening.{Opens, AreCounted, IsOpened, IsOpenedIdle};
+ghost use Rattle.htl_machine.specs.Noting.{MarksChanges, KeepsNoted};
+ghost use Rattle.htl_machine.specs.Waiting.{MarksWaiting};
 ghost use Rattle.htl_machine.specs.Doing.{path_lines};
 ghost use Rattle.htl_edge.specs.Content.{Puts};
 
-use crate::sensors::show_sensors;
+use crate::noted::Noted;
+use crate::sensors::Sensors;
 use crate::steps::do_instrs;
 use crate::tally::Tally;
 use crate::tellings::tell_records;
-use htl_base::{Time, Value};
+use htl_base::Time;
 use htl_console::Shown;
 use htl_ecode::ECode;
 use htl_edge::{Failed, Sink};
@@ -40,11 +43,11 @@ pub fn open_instant<W: Sink>(
     schedule: &Schedule,
     selection: u32,
     show: Shown,
-    shows: &[Value],
-    values: &[Value],
+    sensors: &mut Sensors,
+    noted: &mut Noted,
     at: Time,
 ) -> Result<(), Failed>
-    requires form { KeptTo t.now 12 }
+    requires form { KeptApart t.now 12 }
     requires spells { Spells t.now code.now }
     requires at { at ≤ 1000000000 }
     requires instrs { length code.now.instrs ≤ 4294967295 }
@@ -57,14 +60,21 @@ pub fn open_instant<W: Sink>(
     requires slots { length schedule.now.instrs ≤ 4294967295 }
     requires stands { Stands desk.old schedule.now.instrs }
     requires told { IsTold desk.old at }
-    requires shows { HasValues t.now shows.now }
-    requires values { HasValues t.now values.now }
+    requires shows { HasValues t.now sensors.old.shows }
+    requires values { HasValues t.now noted.old.values }
+    requires before { noted.old.values ≡ world.old.values }
+    requires marked { MarksChanges noted.old world.old.values m.old.calendar.modes }
+    requires waiting { MarksWaiting t.now sensors.old world.old.values }
     requires follows { (es : List Event) × Follows t.now code.now es at m.old }
     ensures text { (es : List Event) → Follows t.now code.now es at m.old → Opens t.now code.now es show selection desk.old schedule.now.instrs at (W.written sink.old) (W.written sink.new) (W.faults sink.old) (W.faults sink.new) result }
     ensures counts { (es : List Event) → Follows t.now code.now es at m.old → OnOk result (AreCounted t.now code.now es desk.old schedule.now.instrs at tally.old tally.new) }
-    ensures world { (es : List Event) → Follows t.now code.now es at m.old → OnOk result (IsOpened t.now code.now es at schedule.now.instrs shows.now values.now desk.old world.old desk.new world.new) }
+    ensures world { (es : List Event) → Follows t.now code.now es at m.old → OnOk result (IsOpened t.now code.now es at schedule.now.instrs sensors.old.shows noted.old.values desk.old world.old desk.new world.new) }
     ensures idle_text { (es : List Event) → Follows t.now code.now es at m.old → desk.old.running ≡ false → Puts (W.written sink.old) (W.written sink.new) (W.faults sink.old) (W.faults sink.new) (path_lines t.now code.now show at (phase_path t.now code.now es at 1)) result }
-    ensures idle { (es : List Event) → Follows t.now code.now es at m.old → OnOk result (desk.old.running ≡ false → IsOpenedIdle t.now code.now es at shows.now values.now desk.old world.old tally.old desk.new world.new tally.new) }
+    ensures idle { (es : List Event) → Follows t.now code.now es at m.old → OnOk result (desk.old.running ≡ false → IsOpenedIdle t.now code.now es at sensors.old.shows noted.old.values desk.old world.old tally.old desk.new world.new tally.new) }
+    ensures shows { sensors.new.shows ≡ sensors.old.shows }
+    ensures waiting { OnOk result (MarksWaiting t.now sensors.new world.new.values) }
+    ensures marked { OnOk result (MarksChanges noted.new world.new.values m.new.calendar.modes) }
+    ensures noted { OnOk result (KeepsNoted noted.old noted.new) }
     ensures safe { OnOk result (StandsSafely t.now code.now m.new) }
     ensures shaped { OnOk result (IsShaped t.now world.new) }
     ensures jobs { OnOk result (desk.new.jobs ≡ desk.old.jobs) }
@@ -76,9 +86,11 @@ pub fn open_instant<W: Sink>(
     ) {
         return Err(failed);
     }
-    if let Err(failed) = do_instrs(sink, m, world, desk, tally, t, code, jobs, show, 1, at) {
+    if let Err(failed) = do_instrs(
+        sink, m, world, desk, tally, noted, t, code, jobs, show, 1, at,
+    ) {
         return Err(failed);
     }
-    show_sensors(world, t, shows, values, at);
+    sensors.show(world, t, noted, at);
     Ok(())
 }

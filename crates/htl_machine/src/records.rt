@@ -1,6 +1,6 @@
 // What a job puts out once it is done.
 ghost use Rattle.std.specs.Prelude.{◌≡◌, ◌<◌, true, cond, length, IfSome};
-ghost use Rattle.htl_model.specs.Broken.{KeptTo};
+ghost use Rattle.htl_model.specs.FrameRules.{KeptApart};
 ghost use Rattle.htl_walk.specs.Walk.{job_at};
 ghost use Rattle.htl_model.specs.FunctionTypes.{FitPlaces};
 ghost use Rattle.htl_emach.specs.Shapes.{IsShaped};
@@ -21,12 +21,13 @@ fn inv_at(jobs: &[Job], p: u16) -> u16
 
 // A job that is done puts out what it does.
 pub fn put_out(world: &mut World, t: &Tables, jobs: &[Job], finished: bool, position: Option<u16>)
-    requires kept { KeptTo t.now 12 }
+    requires kept { KeptApart t.now 12 }
     requires functions { FitPlaces t.now }
     requires shaped { IsShaped t.now world.old }
     requires known { finished ≡ true → IfSome position (IsJobOf t.now jobs.now) }
     ensures world { world.new ≡ cond finished (complete_at t.now jobs.now position world.old) world.old }
     ensures shaped { IsShaped t.now world.new }
+    ensures values { world.new.values ≡ world.old.values }
 {
     let _parts = t.parts();
     if !finished {

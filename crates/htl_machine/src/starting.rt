@@ -65,7 +65,7 @@ fn start_jobs(desk: &mut SMach, jobs: &[Job], takes: &[Time], lengths: &mut [Tim
 }
 
 // Notes the mode in which each module is.
-pub(crate) fn note_modes(modes: &mut Selection, m: &EMach)
+fn note_modes(modes: &mut Selection, m: &EMach)
     requires few { length modes.old.modes ≤ 64 }
     requires same { length m.now.calendar.modes ≡ length modes.old.modes }
     ensures { modes.new.modes ≡ m.now.calendar.modes }

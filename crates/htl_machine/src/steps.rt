@@ -2,20 +2,22 @@
 ghost use Rattle.std.specs.Prelude.{◌≡◌, ◌≤◌, cond, eqb, List, [], length, None, OnOk};
 ghost use Rattle.htl_edge.specs.Content.{Puts};
 ghost use Rattle.htl_model.specs.declared.event.Event.{Event};
-ghost use Rattle.htl_model.specs.Broken.{KeptTo};
+ghost use Rattle.htl_model.specs.FrameRules.{KeptApart};
 ghost use Rattle.htl_walk.specs.declared.schedule.SInstr.{SInstr as Instr};
 ghost use Rattle.htl_smach.specs.Rounds.{Stands};
 ghost use Rattle.htl_ecode.specs.Spelling.{Spells};
 ghost use Rattle.htl_model.specs.FunctionTypes.{FitPlaces};
-ghost use Rattle.htl_emach.specs.Shapes.{IsShaped};
+ghost use Rattle.htl_emach.specs.Shapes.{IsShaped, SensorsStay};
 ghost use Rattle.htl_emach.specs.Safety.{StandsSafely};
 ghost use Rattle.htl_emach.specs.Following.{Onward, phase_path};
 ghost use Rattle.htl_machine.specs.Running.{replay};
 ghost use Rattle.htl_machine.specs.Counts.{with_instrs};
 ghost use Rattle.htl_machine.specs.Readiness.{desk_does};
 ghost use Rattle.htl_machine.specs.Doing.{IsStarting, instr_lines, path_lines, told_in_phase};
+ghost use Rattle.htl_machine.specs.Noting.{MarksChanges, KeepsNoted};
 
 use crate::lengths::position;
+use crate::noted::Noted;
 use crate::tally::Tally;
 use htl_base::Time;
 use htl_console::{Shown, line_e};
@@ -73,14 +75,15 @@ fn release_in(desk: &mut SMach, jobs: &[Job], phase: u8, instr: EInstr)
     }
 }
 
-/// Does a whole phase of an instant, for every list of events that the machine follows: writes and counts its instructions, and in the
-/// read phase tells the S machine of releases. After `Failed` a prefix of the lines was written.
+/// Does a whole phase of an instant, for every list of events that the machine follows: writes and counts its instructions, marks what
+/// they may change, and in the read phase tells the S machine of releases. After `Failed` a prefix of the lines was written.
 pub fn do_instrs<W: Sink>(
     sink: &mut W,
     m: &mut EMach,
     world: &mut World,
     desk: &mut SMach,
     tally: &mut Tally,
+    noted: &mut Noted,
     t: &Tables,
     code: &ECode,
     jobs: &[Job],
@@ -88,7 +91,7 @@ pub fn do_instrs<W: Sink>(
     phase: u8,
     at: Time,
 ) -> Result<(), Failed>
-    requires form { KeptTo t.now 12 }
+    requires form { KeptApart t.now 12 }
     requires spells { Spells t.now code.now }
     requires phase { (1 ≤ phase) × (phase ≤ 3) }
     requires at { at ≤ 1000000000 }
@@ -97,6 +100,7 @@ pub fn do_instrs<W: Sink>(
     requires shaped { IsShaped t.now world.old }
     requires jobs { desk.old.jobs ≡ jobs.now }
     requires safe { StandsSafely t.now code.now m.old }
+    requires marked { MarksChanges noted.old world.old.values m.old.calendar.modes }
     requires starts { (es : List Event) × IsStarting t.now code.now es at phase m.old world.old }
     ensures text { (es : List Event) → IsStarting t.now code.now es at phase m.old world.old → Puts (W.written sink.old) (W.written sink.new) (W.faults sink.old) (W.faults sink.new) (path_lines t.now code.now show at (phase_path t.now code.now es at phase)) result }
     ensures counts { (es : List Event) → IsStarting t.now code.now es at phase m.old world.old → OnOk result (tally.new ≡ with_instrs (length (phase_path t.now code.now es at phase)) tally.old) }
@@ -107,6 +111,9 @@ pub fn do_instrs<W: Sink>(
     ensures shaped { OnOk result (IsShaped t.now world.new) }
     ensures world { (es : List Event) → IsStarting t.now code.now es at phase m.old world.old → OnOk result (world.new ≡ replay t.now code.now (phase_path t.now code.now es at phase) world.old) }
     ensures values { OnOk result (phase ≡ 2 → world.new.values ≡ world.old.values) }
+    ensures marked { OnOk result (MarksChanges noted.new world.new.values m.new.calendar.modes) }
+    ensures noted { OnOk result (KeepsNoted noted.old noted.new) }
+    ensures sensors { OnOk result (SensorsStay t.now world.old.values world.new.values) }
     ensures ends { (es : List Event) → IsStarting t.now code.now es at phase m.old world.old → OnOk result (Onward t.now code.now es at phase m.new (phase_path t.now code.now es at phase) [] None) }
 {
     let _parts = t.parts();
@@ -114,6 +121,7 @@ pub fn do_instrs<W: Sink>(
         match m.instant(t, code, world, phase, at) {
             Some(done) => {
                 tally.instr();
+                noted.note(t, &done);
                 release_in(desk, jobs, phase, done.instr);
                 if let Err(failed) = tell_instr(sink, t, show, at, done.address, &done.instr) {
                     return Err(failed);

@@ -1,7 +1,7 @@
 // The records of an instant, with their lines.
 ghost use Rattle.std.specs.Prelude.{◌≡◌, ◌≤◌, true, false, List, [], length, OnOk};
 ghost use Rattle.htl_edge.specs.Content.{Puts};
-ghost use Rattle.htl_model.specs.Broken.{KeptTo};
+ghost use Rattle.htl_model.specs.FrameRules.{KeptApart};
 ghost use Rattle.htl_smach.specs.Rounds.{Stands, IsInForm, IsTold};
 ghost use Rattle.htl_model.specs.FunctionTypes.{FitPlaces};
 ghost use Rattle.htl_emach.specs.Shapes.{IsShaped};
@@ -33,7 +33,7 @@ pub fn tell_records<W: Sink>(
     show: Shown,
     at: Time,
 ) -> Result<(), Failed>
-    requires kept { KeptTo t.now 12 }
+    requires kept { KeptApart t.now 12 }
     requires functions { FitPlaces t.now }
     requires shaped { IsShaped t.now world.old }
     requires jobs { desk.old.jobs ≡ jobs.now }
@@ -48,6 +48,7 @@ pub fn tell_records<W: Sink>(
     ensures counts { OnOk result (Counted desk.old code.now.instrs at tally.old tally.new) }
     ensures records { OnOk result (Records t.now desk.old world.old desk.new world.new code.now.instrs at) }
     ensures jobs { OnOk result (desk.new.jobs ≡ desk.old.jobs) }
+    ensures values { OnOk result (world.new.values ≡ world.old.values) }
     ensures shaped { OnOk result (IsShaped t.now world.new) }
     ensures stands { OnOk result (Stands desk.new code.now.instrs) }
 {

@@ -18,7 +18,7 @@ use Rattle.htl_names.proofs.Apart.{Spread}
 use Rattle.htl_names.proofs.Members.{Each, each_weaker}
 use Rattle.htl_names.proofs.Totals.{Differ, sum_by_same, sum_at_places, flat_map_flat_map, flat_map_places, greatest_at}
 use Rattle.htl_names.proofs.FlatMaps.{get_front, get_back}
-use Rattle.htl_names.proofs.Owners.{to_map}
+use Rattle.htl_model.proofs.PlaceLaws.{get_mapped}
 use Rattle.htl_names.proofs.Places.{program_of_module, modes_there, mode_in_source}
 
 -- the number of a module among all modules of the source
@@ -137,4 +137,4 @@ module _ (ps : List PlainProgram) where
       by (Some z) e =
           let n = mode_in_source ps a.program a.«module» a.mode z e in
           greatest_at 0 (length z.invokes) (map (λ (x : PlainMode). length x.invokes) (modes_of (modules_of ps))) (n.0 + a.mode)
-          (to_map (λ (x : PlainMode). length x.invokes) (modes_of (modules_of ps)) (n.0 + a.mode) z n.1)
+          (get_mapped (λ (x : PlainMode). length x.invokes) (modes_of (modules_of ps)) (n.0 + a.mode) z n.1)

@@ -1,13 +1,21 @@
 -- The search through the limits finds the first that is exceeded.
-use Rattle.std.proofs.Common.{◌≡◌, ◌≤◌, ◌<◌, ◌+◌, ◌-◌, ◌^◌, ℕ, zero, suc, Bool, true, false, cond, ltb, leb, leb-true, min, map, List, [], ◌∷◌, ◌++◌, length, Option, Some, None, refl, sym, ◌∙◌, ap, subst, arith}
-use Rattle.std.specs.Prelude.{MatchOption, slice_get}
+use Rattle.std.proofs.Common.{◌≡◌, ◌≤◌, ◌<◌, ◌+◌, ◌-◌, ◌^◌, ℕ, zero, suc, Bool, true, false, cond, ltb, leb, leb-true, min, map, List, [], ◌∷◌, ◌++◌, length, Option, Some, None, refl, sym, ◌∙◌, ap, subst, arith, take, drop}
+use Rattle.std.specs.Prelude.{slice_get}
 use Rattle.std.specs.List.{list_all}
 use Rattle.std.proofs.lemmas.Bool.Decides.{nat_tests}
 use Rattle.htl_names.specs.declared.limits.Excess.{Excess}
-use Rattle.htl_names.specs.Excess.{IsFirstExcess}
-use Rattle.htl_names.specs.Excesses.{excess, or_else, excess_from, capped}
-use Rattle.htl_names.specs.Limits.{limits}
+use Rattle.htl_names.specs.Excess.{IsFirstFrom, IsFirstExcess, excess, or_else, excess_from, capped}
+use Rattle.htl_names.specs.Limits.{limits, counts, selections, most_positions}
 use Rattle.htl_names.proofs.Deciding.{both}
+use Rattle.htl_model.specs.Lists.{list_to}
+use Rattle.htl_text.specs.Nodes.{PlainProgram}
+use Rattle.htl_names.specs.declared.key.Key.{Key}
+use Rattle.htl_names.specs.declared.place.ModeAt.{ModeAt}
+use Rattle.htl_names.specs.LevelTable.{levels_by}
+use Rattle.htl_names.specs.Programs.{refined_by, levels}
+use Rattle.htl_names.specs.Tallies.{tally, tally_counts}
+use Rattle.htl_names.proofs.LevelLaws.{table-levels}
+use Rattle.htl_names.proofs.TallyLaws.{twice, comms_tally, modules_tally, modes_tally, ports_tally, tasks_tally, invokes_tally, switches_tally, most_tally}
 
 -- ---- counts under a cap, which is far above the limits
 
@@ -63,15 +71,6 @@ excess_from-append which next (c ∷ cs) ds (m ∷ ms) ns len is =
 
 -- ---- the first
 
--- as IsFirstExcess, for any limits, numbered from any number on
-abbrev pub IsFirstFrom : ℕ → List ℕ → List ℕ → Option Excess → Type 0
-IsFirstFrom which counts limits o =
-    MatchOption o
-    ((k count limit : ℕ) → slice_get counts k ≡ Some count → slice_get limits k ≡ Some limit → count ≤ limit)
-    (λ e. (k count limit : ℕ) × (slice_get counts k ≡ Some count) × (slice_get limits k ≡ Some limit) × (limit < count)
-    × (e.which ≡ which + k) × (e.count ≡ min count (2 ^ 32 - 1))
-    × ((j c m : ℕ) → j < k → slice_get counts j ≡ Some c → slice_get limits j ≡ Some m → c ≤ m))
-
 same_number : (a b : ℕ) → ◌≡◌ {A = Option ℕ} (Some a) (Some b) → a ≡ b
 same_number a b e = cc
 
@@ -104,14 +103,38 @@ first-step which c m cs ms rest = by (ltb m c) refl
     by true h = first-found which c m cs ms (grind (arith, nat_tests)) (record { which = which; count = min c (2 ^ 32 - 1) }) refl refl
     by false h = first-past which c m cs ms (grind (arith, nat_tests)) (excess_from (suc which) cs ms) rest
 
-pub excess_from-first : (which : ℕ) (cs ms : List ℕ) → length cs ≡ length ms → IsFirstFrom which cs ms (excess_from which cs ms)
+excess_from-first : (which : ℕ) (cs ms : List ℕ) → length cs ≡ length ms → IsFirstFrom which cs ms (excess_from which cs ms)
 excess_from-first which [] ms len = λ k count limit p q. cc
 excess_from-first which (c ∷ cs) [] len = absurd (omega (arith, len))
 excess_from-first which (c ∷ cs) (m ∷ ms) len = first-step which c m cs ms (excess_from-first (suc which) cs ms (omega (arith, len)))
 
 pub first_excess_is : (counts : List ℕ) → length counts ≡ 11 → (o : Option Excess) → o ≡ excess_from 1 counts limits → IsFirstExcess counts o
-first_excess_is counts len o is = subst (λ (x : Option Excess). IsFirstExcess counts x) (sym is) (by (excess_from 1 counts limits) (excess_from-first 1 counts limits len))
-  where
-    by : (x : Option Excess) → IsFirstFrom 1 counts limits x → IsFirstExcess counts x
-    by None h = h
-    by (Some e) h = (h.0, h.1, h.2, h.3, h.4, h.5, omega (arith, h.6), h.7, h.8)
+first_excess_is counts len o is = subst (λ (x : Option Excess). IsFirstExcess counts x) (sym is) (excess_from-first 1 counts limits len)
+
+-- ---- the searches for excesses, one after the other, find the first limit that is exceeded
+
+-- levels, root selections and positions
+abbrev pub shape_counts : List (Option ModeAt) → List PlainProgram → List ℕ
+shape_counts refined ps = levels_by refined ∷ capped (selections ps) ∷ capped (most_positions ps) ∷ []
+
+abbrev pub shape_excess : List (Option ModeAt) → List PlainProgram → Option Excess
+shape_excess refined ps = excess_from 9 (shape_counts refined ps) (drop 8 limits)
+
+then_same : {a b : ℕ} {xs ys : List ℕ} → a ≡ b → xs ≡ ys → a ∷ xs ≡ b ∷ ys
+then_same {a} {b} {xs} {ys} p q = ap (λ (x : ℕ). x ∷ xs) p ∙ ap (λ (zs : List ℕ). b ∷ zs) q
+
+all_alike : (symbols : List (Key × ℕ)) (ps : List PlainProgram) (refined : List (Option ModeAt)) → levels_by refined ≡ levels symbols ps
+    → map capped (tally_counts (tally ps) ++ shape_counts refined ps) ≡ map capped (counts symbols ps)
+all_alike symbols ps refined is =
+    then_same (comms_tally ps) (then_same (modules_tally ps) (then_same (modes_tally ps) (then_same (ports_tally ps) (then_same (tasks_tally ps)
+    (then_same (invokes_tally ps) (then_same (switches_tally ps) (then_same (ap capped (most_tally ps)) (then_same (ap capped is)
+    (then_same (twice (selections ps) (2 ^ 64 - 1)) (then_same (twice (most_positions ps) (2 ^ 64 - 1)) refl))))))))))
+
+pub first_exceeded_is : (symbols : List (Key × ℕ)) (ps : List PlainProgram) (refined : List (Option ModeAt)) (o : Option Excess)
+    → refined ≡ list_to (refined_by symbols ps) (length ps)
+    → o ≡ or_else (excess_from 1 (tally_counts (tally ps)) (take 8 limits)) (shape_excess refined ps) → IsFirstExcess (counts symbols ps) o
+first_exceeded_is symbols ps refined o table is =
+    first_excess_is (counts symbols ps) refl o
+    (is ∙ excess_from-append 1 9 (tally_counts (tally ps)) (shape_counts refined ps) (take 8 limits) (drop 8 limits) refl refl
+    ∙ excess_from-alike 1 (tally_counts (tally ps) ++ shape_counts refined ps) (counts symbols ps) limits refl
+    (all_alike symbols ps refined (table-levels symbols ps refined table)))

@@ -1,7 +1,7 @@
 -- Where the items of lists and of their parts stand.
 use Rattle.std.proofs.Common.{◌≡◌, ℕ, zero, suc, ◌+◌, ◌<◌, ◌≤◌, ◌⊎◌, inl, inr, List, [], ◌∷◌, ◌++◌, length, take, slice_get, Some, None, refl, sym, ◌∙◌, ap, subst, arith, length-append, eq-or-lt_of_le, drop, take-append-drop}
 use Rattle.std.specs.List.{flat_map}
-use Rattle.std.proofs.lemmas.Option.{slice_get_within, same_Some}
+use Rattle.std.proofs.lemmas.Option.{slice_get_within, same_Some, none-some}
 use Rattle.std.proofs.lemmas.Grind.{flat_map-append}
 use Rattle.htl_model.specs.Lists.{list_to}
 use Rattle.htl_model.proofs.Listed.{length-list_to}
@@ -38,6 +38,19 @@ pub there_is : {A : Type 0} (xs : List A) (k : ℕ) → k < length xs → (x : A
 there_is [] k less = absurd (omega (arith, less))
 there_is (x ∷ xs) zero less = (x, refl)
 there_is (x ∷ xs) (suc k) less = there_is xs k (omega (arith, less))
+
+-- items before place k
+pub in_front : {A : Type 0} (es : List A) (k j : ℕ) (d : A) → slice_get (take k es) j ≡ Some d → (j < k) × (slice_get es j ≡ Some d)
+in_front es zero j d e = absurd (none-some d e)
+in_front [] (suc k) j d e = absurd (none-some d e)
+in_front (x ∷ es) (suc k) zero d e = (omega arith, e)
+in_front (x ∷ es) (suc k) (suc j) d e = let r = in_front es k j d e in let below = r.0 in (omega (arith, below), r.1)
+
+pub at_front : {A : Type 0} (es : List A) (k j : ℕ) (d : A) → j < k → slice_get es j ≡ Some d → slice_get (take k es) j ≡ Some d
+at_front es zero j d below e = absurd (omega (arith, below))
+at_front [] (suc k) j d below e = absurd (none-some d e)
+at_front (x ∷ es) (suc k) zero d below e = e
+at_front (x ∷ es) (suc k) (suc j) d below e = at_front es k j d (omega (arith, below)) e
 
 -- ---- lists by places
 
@@ -107,26 +120,6 @@ part_of {B = B} f k (z ∷ xs) n y e = by (get_either (f k z) (flat_map_at f (su
           item = ap (λ (m : ℕ). slice_get (f m p.owner) p.place) (omega arith) ∙ p.item;
           number = omega (arith, b.1, p.number, size);
         }
-
--- a part ends where a later one begins, or before
-pub part_before : {A B : Type 0} (f : ℕ → A → List B) (k : ℕ) (xs : List A) (i j : ℕ) (x : A) → i < j → slice_get xs i ≡ Some x
-    → length (flat_map_at f k (take i xs)) + length (f (k + i) x) ≤ length (flat_map_at f k (take j xs))
-part_before f k [] i j x less there = absurd cc
-part_before f k (y ∷ xs) i zero x less there = absurd (omega (arith, less))
-part_before f k (y ∷ xs) zero (suc j) x less there =
-    let is : y ≡ x = cc in
-    let one : k + 0 ≡ k = omega arith in
-    let sum = length-append (f k y) (flat_map_at f (suc k) (take j xs)) in
-    let same = ap (λ z. length (f k z)) is in
-    let moved = ap (λ (n : ℕ). length (f n x)) one in
-    omega (arith, sum, same, moved)
-part_before f k (y ∷ xs) (suc i) (suc j) x less there =
-    let one : k + suc i ≡ suc k + i = omega arith in
-    let rest = part_before f (suc k) xs i j x (omega (arith, less)) there in
-    let a = length-append (f k y) (flat_map_at f (suc k) (take i xs)) in
-    let b = length-append (f k y) (flat_map_at f (suc k) (take j xs)) in
-    let moved = ap (λ (n : ℕ). length (f n x)) one in
-    omega (arith, rest, a, b, moved)
 
 -- ---- lengths
 

@@ -29,7 +29,8 @@ use Rattle.htl_names.proofs.ModuleRanges.{modules_exist}
 use Rattle.htl_names.proofs.Listings.{owned}
 use Rattle.htl_names.proofs.Numbered.{AreModules, modes_in, mode_count, module_count, mode_of_number, one_module}
 use Rattle.htl_names.proofs.Ordering.{kept_limit, names-ordered}
-use Rattle.htl_names.proofs.Owners.{owned_count, to_map}
+use Rattle.htl_names.proofs.Owners.{owned_count}
+use Rattle.htl_model.proofs.PlaceLaws.{get_mapped}
 use Rattle.htl_names.proofs.Totals.{greatest_at, map_places}
 use Rattle.htl_names.proofs.FlatMaps.{there_is}
 use Rattle.htl_names.proofs.Places.{modes_there}
@@ -181,7 +182,7 @@ module _ (ps : List PlainProgram) (small : MeetsBounds ps) (right : AreNamesRigh
       let counted : length (invs_of t (root_mode t sel k)) ≡ length m.node.invokes =
       invokes_counted ps (root_mode t sel k) a.0 a.1 ∙ ap (λ o. length (invokes o)) m.its in
       let few = greatest_at 0 (length m.node.invokes) (map (λ (x : PlainMode). length x.invokes) (modes_in ps s)) a.0.mode
-      (to_map (λ (x : PlainMode). length x.invokes) (modes_in ps s) a.0.mode m.node node) in
+      (get_mapped (λ (x : PlainMode). length x.invokes) (modes_in ps s) a.0.mode m.node node) in
       omega (arith, counted, few)
 
   -- ---- the limits

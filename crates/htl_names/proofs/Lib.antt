@@ -1,4 +1,3 @@
-mod AllOf
 mod Apart
 mod ChoiceLaws
 mod Counts
@@ -10,16 +9,15 @@ mod Examples
 mod ExcessLaws
 mod FirstLaws
 mod FlatMaps
+mod Gathered
 pub mod InRange
 mod InvokeRanges
 pub mod KeepsLimits
 mod Keys
-mod KindLaws
 mod Kindly
 mod LayoutLaws
 mod LevelLaws
 mod Leveled
-mod LimitLaws
 mod Meant
 mod Listings
 pub mod Members
@@ -32,7 +30,6 @@ mod Numbered
 pub mod OneFault
 mod Ordering
 mod Origins
-mod OrphanLaws
 mod Owners
 mod Paired
 mod Passing
@@ -43,7 +40,6 @@ mod ReachLaws
 mod RefinedLaws
 mod RepeatLaws
 mod ResolveLaws
-mod RowLaws
 mod RuleLaws
 pub mod SmallFunctions
 mod StackLaws
@@ -51,6 +47,5 @@ mod SwitchRanges
 mod TallyLaws
 mod Totals
 pub mod TreeBounds
-mod UnknownLaws
 mod Used
 mod Walking

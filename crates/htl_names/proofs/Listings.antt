@@ -4,7 +4,8 @@ use Rattle.std.specs.List.{flat_map}
 use Rattle.std.proofs.lemmas.List.{length-map}
 use Rattle.htl_names.specs.Lists.{flat_map_at}
 use Rattle.htl_names.proofs.FlatMaps.{same_length, at_part_0, part_of_0}
-use Rattle.htl_names.proofs.Owners.{of_map, to_map, IsOwned}
+use Rattle.htl_names.proofs.Owners.{of_map, IsOwned}
+use Rattle.htl_model.proofs.PlaceLaws.{get_mapped}
 
 -- what the nodes of an owner give
 abbrev pub given : {A N B : Type 0} → (ℕ → A → N → B) → (A → List N) → ℕ → A → List B
@@ -18,7 +19,7 @@ pub stands : {A N B : Type 0} (item : ℕ → A → N → B) (nodes : A → List
     → slice_get (flat_map_at (given item nodes) 0 xs) (length (flat_map nodes (take k xs)) + m) ≡ Some (item k x n)
 stands item nodes xs k m x n there its =
     subst (λ (i : ℕ). slice_get (flat_map_at (given item nodes) 0 xs) (i + m) ≡ Some (item k x n)) (counted item nodes (take k xs))
-    (at_part_0 (given item nodes) xs k m x (item k x n) there (to_map (item k x) (nodes x) m n its))
+    (at_part_0 (given item nodes) xs k m x (item k x n) there (get_mapped (item k x) (nodes x) m n its))
 
 -- the owner and the node of an item
 pub record From {A N B : Type 0} (item : ℕ → A → N → B) (nodes : A → List N) (xs : List A) (y : B) : Type 0 where

@@ -1,12 +1,14 @@
 -- Lists: what holds of each item, and which items there are.
-use Rattle.std.proofs.Common.{◌≡◌, ℕ, zero, suc, ◌+◌, ◌<◌, List, [], ◌∷◌, ◌++◌, map, slice_get, Some, All, refl, sym, ◌∙◌, ap, subst, arith}
-use Rattle.std.specs.List.{flat_map, sum_by}
-use Rattle.std.proofs.lemmas.List.{map-append}
+use Rattle.std.proofs.Common.{◌≡◌, ℕ, zero, suc, ◌+◌, ◌<◌, List, [], ◌∷◌, ◌++◌, map, slice_get, Some, All, refl, sym, ◌∙◌, ap, subst, arith, length, take, get_or}
+use Rattle.std.specs.List.{flat_map, sum_by, All}
+use Rattle.std.proofs.lemmas.List.{map-append, get_or-map, length-map}
 use Rattle.std.proofs.lemmas.List.Elements.{All-nil, All-cons, All-get_or}
 use Rattle.std.proofs.lemmas.List.Sums.{sum_by-cons, sum_by-append}
 use Rattle.std.proofs.lemmas.Option.{none-some, same_Some, slice_get_within, slice_get-get_or, get_or_from_slice_get}
 use Rattle.htl_model.specs.Lists.{list_to}
 use Rattle.htl_names.specs.Lists.{flat_map_at, map_at}
+use Rattle.std.proofs.lemmas.List.Concat.{get_or-flat_map}
+use Rattle.std.proofs.lemmas.List.Folds.{length-flat_map-take}
 
 -- P holds of each item
 abbrev pub Each : {A : Type 0} → (A → Type 0) → List A → Type 0
@@ -126,3 +128,18 @@ pub sum_by_flat_map : {A B : Type 0} (f : B → ℕ) (h : A → List B) (xs : Li
 sum_by_flat_map f h [] = refl
 sum_by_flat_map f h (x ∷ xs) =
     sum_by-append f (h x) (flat_map h xs) ∙ ap (λ n. sum_by f (h x) + n) (sum_by_flat_map f h xs) ∙ sym (sum_by-cons (λ y. sum_by f (h y)) x xs)
+
+-- ---- what holds of each item, at one of them
+
+-- of the values of a function
+pub all_item : {X Y : Type 0} (P : Y → Type 0) (f : X → Y) (xs : List X) (k : ℕ) (x : X) → k < length xs → x ≡ get_or xs k x → All P (map f xs) → P (f x)
+all_item P f xs k x below is all =
+    subst (λ y. P (f y)) (sym is) (subst P (get_or-map f xs k x (f x) below) (all k (f x) (subst (λ n. k < n) (sym (length-map xs f)) below)))
+
+-- of one of the lists that are joined
+pub all_part : {X Y : Type 0} (P : Y → Type 0) (f : X → List Y) (xs : List X) (k : ℕ) (x : X) → k < length xs → All P (flat_map f xs)
+    → All P (f (get_or xs k x))
+all_part P f xs k x below all = λ j d within.
+    let place = length (flat_map f (take k xs)) + j in
+    let room = length-flat_map-take f xs k x below in
+    subst P (get_or-flat_map f xs k j x d below within) (all place d (omega (arith, room, within)))

@@ -1,6 +1,6 @@
 -- The names of a tree's tables differ.
-use Rattle.std.proofs.Common.{◌≡◌, ◌<◌, ◌⊎◌, inl, inr, ◌+◌, ℕ, suc, List, map, length, take, slice_get, Some, refl, sym, ◌∙◌, ap, subst, arith, length-append}
-use Rattle.std.proofs.lemmas.Option.{slice_get_within}
+use Rattle.std.proofs.Common.{◌≡◌, ◌<◌, ◌⊎◌, inl, inr, ◌+◌, ℕ, zero, suc, List, [], ◌∷◌, map, length, take, slice_get, Some, refl, sym, ◌∙◌, ap, subst, arith}
+use Rattle.std.proofs.lemmas.Option.{slice_get_within, none-some, same_Some}
 use Rattle.htl_model.specs.Lists.{AreApart}
 use Rattle.htl_model.specs.declared.parts.Comm.{Comm}
 use Rattle.htl_model.specs.declared.parts.Mode.{Mode}
@@ -11,7 +11,7 @@ use Rattle.htl_model.specs.declared.parts.Inv.{Inv}
 use Rattle.htl_text.specs.Bounds.{comms_of}
 use Rattle.htl_text.specs.Nodes.{PlainProgram, PlainModule, PlainTask}
 use Rattle.htl_names.specs.declared.key.Entry.{Entry}
-use Rattle.htl_names.specs.Entries.{entry, module_entries, comm_entry, program_entries, entries, port_entry, invoke_entry}
+use Rattle.htl_names.specs.Entries.{entry, module_entries, comm_entry, program_entries, entries_from, port_entry, invoke_entry}
 use Rattle.htl_names.specs.Flat.{layout, symbols_of, comm_item, comm_items, mode_item, mode_items, module_items, port_item, port_items, task_item, task_items, invoke_item, invoke_items}
 use Rattle.htl_names.specs.Keys.{look_up, comm_key, module_key, task_key, mode_key, port_key, invoke_key}
 use Rattle.htl_names.specs.Lists.{flat_map_at, map_at}
@@ -20,13 +20,14 @@ use Rattle.htl_names.specs.Order.{order, module_at, tasks_at, ports_at, invokes_
 use Rattle.htl_names.specs.Ordered.{IsOrdered}
 use Rattle.htl_names.specs.Uses.{usage}
 use Rattle.htl_names.proofs.Declared.{declared}
-use Rattle.htl_names.proofs.FlatMaps.{get_back, at_part_0, part_of_0, part_before}
+use Rattle.htl_names.proofs.FlatMaps.{get_front, get_back, part_of_0}
 use Rattle.htl_names.proofs.InvokeRanges.{of_mode}
 use Rattle.htl_names.proofs.Listings.{given, owned}
 use Rattle.htl_names.proofs.Meant.{one_place, one_entry, task_means}
 use Rattle.htl_names.proofs.ModuleRanges.{module_of_program, meaning_is}
 use Rattle.htl_names.proofs.Numbered.{modes_in, tasks_in, mode_of_number}
-use Rattle.htl_names.proofs.Origins.{Origin, of_comm, of_task, of_mode as mode_origin, of_port, of_invoke, first_entry, in_source_at, entries_before}
+use Rattle.htl_names.proofs.Members.{In, each_in, each_back, each_part_at}
+use Rattle.htl_names.proofs.Origins.{Origin, of_comm, of_module, of_task, of_mode as mode_origin, of_port, of_invoke}
 use Rattle.htl_names.proofs.Owners.{of_map, IsOwned}
 use Rattle.htl_names.proofs.Used.{known, task_used}
 use Rattle.htl_names.proofs.Places.{program_of_module}
@@ -51,92 +52,69 @@ comm_names_apart ps right j k n less p q =
 
 -- ---- modules
 
--- where the entry of module u of program p stands
-module_place : List PlainProgram → ℕ → ℕ → PlainProgram → ℕ
-module_place ps p u x = first_entry ps p + suc (length (map_at comm_entry (length (comms_of (take p ps))) x.comms) + length (flat_map_at (module_entries p) 0 (take u x.modules)))
+-- the entry of a module stands among those of its program, whatever number the program has
+module_in : (p first u : ℕ) (x : PlainProgram) (y : PlainModule) → slice_get x.modules u ≡ Some y → In (entry (module_key y.name.name) u y.name) (program_entries p first x)
+module_in p first u x y its =
+    let all = program_entries p first x in
+    let P : Entry → Type 0 = λ e. In e all in
+    (each_part_at P (module_entries p) 0 x.modules u u y (omega arith) its (each_back P (map_at comm_entry first x.comms) (flat_map_at (module_entries p) 0 x.modules) (each_in all).1)).0
 
-module_entry_at : (ps : List PlainProgram) (p u : ℕ) (x : PlainProgram) (y : PlainModule) → slice_get ps p ≡ Some x → slice_get x.modules u ≡ Some y
-    → slice_get (entries ps) (module_place ps p u x) ≡ Some (entry (module_key y.name.name) u y.name)
-unfolding module_place
-module_entry_at ps p u x y there its =
-    let first = length (comms_of (take p ps)) in
-    let comms = map_at comm_entry first x.comms in
-    let rest = flat_map_at (module_entries p) 0 x.modules in
+-- what stands among the entries of a program stands among those of the source
+in_source : (d : Entry) (p first : ℕ) (ps : List PlainProgram) (j : ℕ) (z : PlainProgram) → slice_get ps j ≡ Some z → ((q c : ℕ) → In d (program_entries q c z)) → In d (entries_from p first ps)
+in_source d p first [] j z there has = absurd (none-some z there)
+in_source d p first (y ∷ ps) zero z there has =
+    let at = subst (λ (x : PlainProgram). In d (program_entries p first x)) (sym (same_Some y z there)) (has p first) in
+    (at.0, get_front (program_entries p first y) (entries_from (suc p) (first + length y.comms) ps) at.0 d at.1)
+in_source d p first (y ∷ ps) (suc j) z there has =
+    let at = in_source d (suc p) (first + length y.comms) ps j z there has in
+    (length (program_entries p first y) + at.0, get_back (program_entries p first y) (entries_from (suc p) (first + length y.comms) ps) at.0 ∙ at.1)
+
+-- an entry of a program stands before one of a later program
+record Before (es : List Entry) (e d : Entry) : Type 0 where
+  one : ℕ
+  two : ℕ
+  less : one < two
+  at_one : slice_get es one ≡ Some e
+  at_two : slice_get es two ≡ Some d
+
+before : (e d : Entry) (p first : ℕ) (ps : List PlainProgram) (i j : ℕ) (x z : PlainProgram) → i < j → slice_get ps i ≡ Some x → slice_get ps j ≡ Some z
+    → ((q c : ℕ) → In e (program_entries q c x)) → ((q c : ℕ) → In d (program_entries q c z)) → Before (entries_from p first ps) e d
+before e d p first [] i j x z less a b has more = absurd (none-some x a)
+before e d p first (y ∷ ps) i zero x z less a b has more = absurd (omega (arith, less))
+before e d p first (y ∷ ps) zero (suc j) x z less a b has more =
+    let front = program_entries p first y in
+    let rest = entries_from (suc p) (first + length y.comms) ps in
+    let at = subst (λ (w : PlainProgram). In e (program_entries p first w)) (sym (same_Some y x a)) (has p first) in
+    let later = in_source d (suc p) (first + length y.comms) ps j z b more in
+    let within = slice_get_within front at.0 e at.1 in
+    record { one = at.0; two = length front + later.0; less = omega (arith, within); at_one = get_front front rest at.0 e at.1; at_two = get_back front rest later.0 ∙ later.1 }
+before e d p first (y ∷ ps) (suc i) (suc j) x z less a b has more =
+    let front = program_entries p first y in
+    let rest = entries_from (suc p) (first + length y.comms) ps in
+    let r = before e d (suc p) (first + length y.comms) ps i j x z (omega (arith, less)) a b has more in
+    let lower = r.less in
+    record { one = length front + r.one; two = length front + r.two; less = omega (arith, lower); at_one = get_back front rest r.one ∙ r.at_one; at_two = get_back front rest r.two ∙ r.at_two }
+
+-- no later program has a module of the name
+not_later : (ps : List PlainProgram) → AreNamesRight ps → (p u q v : ℕ) (y w : PlainModule) → module_at ps p u ≡ Some y → module_at ps q v ≡ Some w → y.name.name ≡ w.name.name → p < q → ⊥
+not_later ps right p u q v y w a b names less =
+    let f = program_of_module ps p u y a in
+    let g = program_of_module ps q v w b in
     let e = entry (module_key y.name.name) u y.name in
-    let part = at_part_0 (module_entries p) x.modules u 0 y e its refl in
-    let n = length (flat_map_at (module_entries p) 0 (take u x.modules)) in
-    let same : n + 0 ≡ n = omega arith in
-    let own : slice_get rest n ≡ Some e = subst (λ (m : ℕ). slice_get rest m ≡ Some e) same part in
-    in_source_at ps p (suc (length comms + n)) x e there (get_back comms rest n ∙ own)
-
--- an entry stands within those of its program
-module_within : (ps : List PlainProgram) (p u : ℕ) (x : PlainProgram) (y : PlainModule) → slice_get x.modules u ≡ Some y
-    → module_place ps p u x < first_entry ps p + length (program_entries p (length (comms_of (take p ps))) x)
-unfolding module_place
-module_within ps p u x y its =
-    let first = length (comms_of (take p ps)) in
-    let comms = map_at comm_entry first x.comms in
-    let rest = flat_map_at (module_entries p) 0 x.modules in
-    let e = entry (module_key y.name.name) u y.name in
-    let within = slice_get_within rest _ e (at_part_0 (module_entries p) x.modules u 0 y e its refl) in
-    let sum = length-append comms rest in
-    omega (arith, within, sum)
-
-places_differ : (ps : List PlainProgram) (p u q v : ℕ) (x z : PlainProgram) (y w : PlainModule) → slice_get ps p ≡ Some x → slice_get x.modules u ≡ Some y → slice_get ps q ≡ Some z → slice_get z.modules v ≡ Some w
-    → (p < q) ⊎ ((p ≡ q) × (u < v)) → module_place ps p u x < module_place ps q v z
-unfolding module_place
-places_differ ps p u q v x z y w a b c d (inl less) =
-    let within = module_within ps p u x y b in
-    let before = entries_before 0 0 ps p q x less a in
-    let one : 0 + p ≡ p = omega arith in
-    let two : 0 + length (comms_of (take p ps)) ≡ length (comms_of (take p ps)) = omega arith in
-    let moved = ap (λ (n : ℕ). length (program_entries n (0 + length (comms_of (take p ps))) x)) one ∙ ap (λ (n : ℕ). length (program_entries p n x)) two in
-    omega (arith, within, before, moved)
-places_differ ps p u q v x z y w a b c d (inr h) =
-    let same : Some x ≡ Some z = sym a ∙ ap (slice_get ps) h.0 ∙ c in
-    let program : x ≡ z = cc in
-    let before = part_before (module_entries p) 0 x.modules u v y h.1 b in
-    let moved = ap (λ (n : ℕ). first_entry ps n + suc (length (map_at comm_entry (length (comms_of (take n ps))) x.comms) + length (flat_map_at (module_entries n) 0 (take v x.modules)))) h.0 in
-    let other = ap (λ (t : PlainProgram). first_entry ps q + suc (length (map_at comm_entry (length (comms_of (take q ps))) t.comms) + length (flat_map_at (module_entries q) 0 (take v t.modules)))) program in
-    omega (arith, before, moved, other)
+    let d = entry (module_key w.name.name) v w.name in
+    let r = before e d 0 0 ps p q f.0 g.0 less f.1 g.1 (λ n c. module_in n c u f.0 y f.2) (λ n c. module_in n c v g.0 w g.2) in
+    let same = one_place ps right r.one r.two e d r.at_one r.at_two (ap (λ (m : List ℕ). module_key m) names) in
+    let lower = r.less in
+    omega (arith, lower, same)
 
 -- two modules of one name are one
 one_module : (ps : List PlainProgram) → AreNamesRight ps → (p u q v : ℕ) (y w : PlainModule) → module_at ps p u ≡ Some y → module_at ps q v ≡ Some w → y.name.name ≡ w.name.name → (p ≡ q) × (u ≡ v)
-one_module ps right p u q v y w a b names = by (order_of p q) (order_of u v)
+one_module ps right p u q v y w a b names = (by (order_of p q), same_number ps right _ _ (of_module p u y a) (of_module q v w b) (ap (λ (m : List ℕ). module_key m) names))
   where
-    x : (x : PlainProgram) × (slice_get ps p ≡ Some x) × (slice_get x.modules u ≡ Some y)
-    x = program_of_module ps p u y a
-
-    z : (x : PlainProgram) × (slice_get ps q ≡ Some x) × (slice_get x.modules v ≡ Some w)
-    z = program_of_module ps q v w b
-
-    place : module_place ps p u (program_of_module ps p u y a).0 ≡ module_place ps q v (program_of_module ps q v w b).0
-    place =
-        one_place ps right _ _ (entry (module_key y.name.name) u y.name) (entry (module_key w.name.name) v w.name)
-        (module_entry_at ps p u (program_of_module ps p u y a).0 y (program_of_module ps p u y a).1 (program_of_module ps p u y a).2)
-        (module_entry_at ps q v (program_of_module ps q v w b).0 w (program_of_module ps q v w b).1 (program_of_module ps q v w b).2)
-        (ap (λ (m : List ℕ). module_key m) names)
-
-    less : (p < q) ⊎ ((p ≡ q) × (u < v)) → ⊥
-    less h =
-        let f = program_of_module ps p u y a in
-        let g = program_of_module ps q v w b in
-        let differ = places_differ ps p u q v f.0 g.0 y w f.1 f.2 g.1 g.2 h in
-        omega (arith, place, differ)
-
-    more : (q < p) ⊎ ((q ≡ p) × (v < u)) → ⊥
-    more h =
-        let f = program_of_module ps p u y a in
-        let g = program_of_module ps q v w b in
-        let differ = places_differ ps q v p u g.0 f.0 w y g.1 g.2 f.1 f.2 h in
-        omega (arith, place, differ)
-
-    by : (p < q) ⊎ ((q < p) ⊎ (p ≡ q)) → (u < v) ⊎ ((v < u) ⊎ (u ≡ v)) → (p ≡ q) × (u ≡ v)
-    by (inl h) o = absurd (less (inl h))
-    by (inr (inl h)) o = absurd (more (inl h))
-    by (inr (inr h)) (inl k) = absurd (less (inr (h, k)))
-    by (inr (inr h)) (inr (inl k)) = absurd (more (inr (sym h, k)))
-    by (inr (inr h)) (inr (inr k)) = (h, k)
+    by : (p < q) ⊎ ((q < p) ⊎ (p ≡ q)) → p ≡ q
+    by (inl less) = absurd (not_later ps right p u q v y w a b names less)
+    by (inr (inl more)) = absurd (not_later ps right q v p u w y b a (sym names) more)
+    by (inr (inr is)) = is
 
 pub module_names_apart : (ps : List PlainProgram) → AreNamesRight ps → IsOrdered (symbols_of ps) ps (order (symbols_of ps) ps) → AreApart (map (λ (x : Module). x.name) (module_items (layout ps) ps))
 module_names_apart ps right ordered j k n less p q =

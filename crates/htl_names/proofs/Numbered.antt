@@ -11,7 +11,7 @@ use Rattle.htl_names.specs.Flat.{Layout, is_module, module_number, modes_before,
 use Rattle.htl_names.specs.Lists.{flat_map_at, place_in}
 use Rattle.htl_names.specs.Order.{module_at, tasks_at, modes_at, module_modes, mode_order}
 use Rattle.htl_names.specs.Ordered.{Exists}
-use Rattle.htl_names.proofs.FlatMaps.{at_part_0, at_flat, flat_part, there_is, list_to_at, of_list_to}
+use Rattle.htl_names.proofs.FlatMaps.{in_front, at_part_0, at_flat, flat_part, there_is, list_to_at, of_list_to}
 use Rattle.htl_names.proofs.Listings.{counted, stands}
 use Rattle.htl_model.proofs.Listed.{length-list_to}
 
@@ -129,13 +129,6 @@ singles f (x ∷ xs) one k =
     let rest = singles f xs (λ i y e. one (suc i) y e) (suc k) in
     omega (arith, size, own, rest)
 
-taken : {A : Type 0} (xs : List A) (k i : ℕ) (x : A) → slice_get (take k xs) i ≡ Some x → slice_get xs i ≡ Some x
-taken [] zero i x e = absurd cc
-taken [] (suc k) i x e = absurd cc
-taken (y ∷ ys) zero i x e = absurd cc
-taken (y ∷ ys) (suc k) zero x e = e
-taken (y ∷ ys) (suc k) (suc i) x e = taken ys k i x e
-
 -- each module is a module of the source
 abbrev pub AreModules : List PlainProgram → List ModuleAt → Type 0
 AreModules ps modules = (k : ℕ) (s : ModuleAt) → slice_get modules k ≡ Some s → Exists ps s
@@ -150,7 +143,7 @@ pub module_stands : (l : Layout) (ps : List PlainProgram) → AreModules ps l.mo
     → slice_get (module_items l ps) k ≡ Some (module_item l ps k s x)
 module_stands l ps exist k s x there is =
     let within = slice_get_within l.modules k s there in
-    let front = singles (module_items_at l ps) (take k l.modules) (λ i r e n. let y = exist i r (taken l.modules k i r e) in ap length (one_module l ps n r y.0 y.1)) 0 in
+    let front = singles (module_items_at l ps) (take k l.modules) (λ i r e n. let y = exist i r (in_front l.modules k i r e).1 in ap length (one_module l ps n r y.0 y.1)) 0 in
     let size = length-take-le k l.modules (omega (arith, within)) in
     let own : slice_get (module_items_at l ps k s) 0 ≡ Some (module_item l ps k s x) = ap (λ ms. slice_get ms 0) (one_module l ps k s x is) in
     let at = at_part_0 (module_items_at l ps) l.modules k 0 s (module_item l ps k s x) there own in

@@ -1,5 +1,5 @@
 -- Where the names that a source declares stand in its tree.
-use Rattle.std.proofs.Common.{◌≡◌, ℕ, zero, suc, ◌+◌, ◌<◌, ◌≤◌, List, [], ◌∷◌, ◌++◌, length, take, slice_get, Some, refl, sym, ◌∙◌, ap, subst, arith, length-append}
+use Rattle.std.proofs.Common.{◌≡◌, ℕ, suc, ◌+◌, List, [], ◌∷◌, length, take, slice_get, Some, refl, ◌∙◌, ap, arith, length-append}
 use Rattle.htl_text.specs.Bounds.{comms_of}
 use Rattle.htl_text.specs.Nodes.{PlainProgram, PlainModule, PlainMode, PlainTask}
 use Rattle.htl_text.specs.declared.tree.CommNode.{CommNode}
@@ -10,7 +10,7 @@ use Rattle.htl_names.specs.Entries.{entry, params_of, param_entry, task_entries,
 use Rattle.htl_names.specs.Keys.{program_key, module_key, task_key, mode_key}
 use Rattle.htl_names.specs.Lists.{flat_map_at, map_at}
 use Rattle.htl_names.specs.Order.{module_at, tasks_at, modes_at}
-use Rattle.htl_names.proofs.FlatMaps.{get_front, get_back, at_flat}
+use Rattle.htl_names.proofs.FlatMaps.{at_flat}
 use Rattle.htl_names.proofs.Members.{at_place, Each, each_at, each_append, each_flat_map_at}
 use Rattle.htl_names.proofs.Places.{module_there, tasks_there, modes_there}
 
@@ -80,70 +80,3 @@ origins ps =
 -- each entry comes from somewhere
 pub origin : (ps : List PlainProgram) (n : ℕ) (e : Entry) → slice_get (entries ps) n ≡ Some e → Origin ps e
 origin ps n e at = each_at (Origin ps) (entries ps) n e (origins ps) at
-
--- ---- from a place to its entry
-
--- the entries of program i stand behind those of the programs before
-pub at_program : (p first : ℕ) (xs : List PlainProgram) (i n : ℕ) (x : PlainProgram) (e : Entry) → slice_get xs i ≡ Some x
-    → slice_get (program_entries (p + i) (first + length (comms_of (take i xs))) x) n ≡ Some e
-    → slice_get (entries_from p first xs) (length (entries_from p first (take i xs)) + n) ≡ Some e
-at_program p first [] i n x e there at = absurd cc
-at_program p first (y ∷ xs) zero n x e there at =
-    let is : y ≡ x = cc in
-    let one : p + 0 ≡ p = omega arith in
-    let two : first + 0 ≡ first = omega arith in
-    let own : slice_get (program_entries p first y) n ≡ Some e =
-    subst (λ (z : PlainProgram). slice_get (program_entries p first z) n ≡ Some e) (sym is)
-    (subst (λ (q : ℕ). slice_get (program_entries q first x) n ≡ Some e) one (subst (λ (c : ℕ). slice_get (program_entries (p + 0) c x) n ≡ Some e) two at)) in
-    let same : n ≡ 0 + n = omega arith in
-    subst (λ (m : ℕ). slice_get (entries_from p first (y ∷ xs)) m ≡ Some e) same (get_front (program_entries p first y) (entries_from (suc p) (first + length y.comms) xs) n e own)
-at_program p first (y ∷ xs) (suc i) n x e there at =
-    let one : p + suc i ≡ suc p + i = omega arith in
-    let size = length-append y.comms (comms_of (take i xs)) in
-    let two : first + length (y.comms ++ comms_of (take i xs)) ≡ first + length y.comms + length (comms_of (take i xs)) = omega (arith, size) in
-    let later = at_program (suc p) (first + length y.comms) xs i n x e there
-    (subst (λ (q : ℕ). slice_get (program_entries q (first + length y.comms + length (comms_of (take i xs))) x) n ≡ Some e) one
-    (subst (λ (c : ℕ). slice_get (program_entries (p + suc i) c x) n ≡ Some e) two at)) in
-    let front = program_entries p first y in
-    let before = entries_from (suc p) (first + length y.comms) (take i xs) in
-    let sum = length-append front before in
-    let place : length front + (length before + n) ≡ length (front ++ before) + n = omega (arith, sum) in
-    subst (λ (m : ℕ). slice_get (entries_from p first (y ∷ xs)) m ≡ Some e) place
-    (get_back front (entries_from (suc p) (first + length y.comms) xs) (length before + n) ∙ later)
-
--- where the entries of a program begin
-abbrev pub first_entry : List PlainProgram → ℕ → ℕ
-first_entry ps p = length (entries_from 0 0 (take p ps))
-
-pub in_source_at : (ps : List PlainProgram) (p n : ℕ) (x : PlainProgram) (e : Entry) → slice_get ps p ≡ Some x
-    → slice_get (program_entries p (length (comms_of (take p ps))) x) n ≡ Some e → slice_get (entries ps) (first_entry ps p + n) ≡ Some e
-in_source_at ps p n x e there at =
-    let one : p ≡ 0 + p = omega arith in
-    let two : length (comms_of (take p ps)) ≡ 0 + length (comms_of (take p ps)) = omega arith in
-    at_program 0 0 ps p n x e there
-    (subst (λ (q : ℕ). slice_get (program_entries q (0 + length (comms_of (take p ps))) x) n ≡ Some e) one
-    (subst (λ (c : ℕ). slice_get (program_entries p c x) n ≡ Some e) two at))
-
--- the entries of a program end where those of a later one begin, or before
-pub entries_before : (p first : ℕ) (xs : List PlainProgram) (i j : ℕ) (x : PlainProgram) → i < j → slice_get xs i ≡ Some x
-    → length (entries_from p first (take i xs)) + length (program_entries (p + i) (first + length (comms_of (take i xs))) x) ≤ length (entries_from p first (take j xs))
-entries_before p first [] i j x less there = absurd cc
-entries_before p first (y ∷ xs) i zero x less there = absurd (omega (arith, less))
-entries_before p first (y ∷ xs) zero (suc j) x less there =
-    let is : y ≡ x = cc in
-    let one : p + 0 ≡ p = omega arith in
-    let two : first + 0 ≡ first = omega arith in
-    let sum = length-append (program_entries p first y) (entries_from (suc p) (first + length y.comms) (take j xs)) in
-    let same = ap (λ (z : PlainProgram). length (program_entries p first z)) is in
-    let moved = ap (λ (q : ℕ). length (program_entries q (first + 0) x)) one ∙ ap (λ (c : ℕ). length (program_entries p c x)) two in
-    omega (arith, sum, same, moved)
-entries_before p first (y ∷ xs) (suc i) (suc j) x less there =
-    let one : p + suc i ≡ suc p + i = omega arith in
-    let size = length-append y.comms (comms_of (take i xs)) in
-    let two : first + length (y.comms ++ comms_of (take i xs)) ≡ first + length y.comms + length (comms_of (take i xs)) = omega (arith, size) in
-    let rest = entries_before (suc p) (first + length y.comms) xs i j x (omega (arith, less)) there in
-    let a = length-append (program_entries p first y) (entries_from (suc p) (first + length y.comms) (take i xs)) in
-    let b = length-append (program_entries p first y) (entries_from (suc p) (first + length y.comms) (take j xs)) in
-    let moved = ap (λ (q : ℕ). length (program_entries q (first + length (y.comms ++ comms_of (take i xs))) x)) one
-    ∙ ap (λ (c : ℕ). length (program_entries (suc p + i) c x)) two in
-    omega (arith, rest, a, b, moved)

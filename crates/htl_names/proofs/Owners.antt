@@ -15,12 +15,6 @@ of_map f [] k y e = absurd cc
 of_map f (x ∷ xs) zero y e = (x, refl, cc)
 of_map f (x ∷ xs) (suc k) y e = of_map f xs k y e
 
--- a mapped item stands at the same place
-pub to_map : {A B : Type 0} (f : A → B) (xs : List A) (k : ℕ) (x : A) → slice_get xs k ≡ Some x → slice_get (map f xs) k ≡ Some (f x)
-to_map f [] k x e = absurd cc
-to_map f (y ∷ ys) zero x e = let is : y ≡ x = cc in ap (λ z. Some (f z)) is
-to_map f (y ∷ ys) (suc k) x e = to_map f ys k x e
-
 -- ---- owners that don't fall
 
 -- each item has the place of its part as owner

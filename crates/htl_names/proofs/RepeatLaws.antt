@@ -1,5 +1,5 @@
 -- A name that repeats, by a table of symbols.
-use Rattle.std.proofs.Common.{◌≡◌, ◌<◌, ◌≤◌, ◌+◌, ◌++◌, get_or, ℕ, zero, suc, List, [], ◌∷◌, take, map, slice_get, Some, None, sym, ◌∙◌, ap, arith, length, inl, inr}
+use Rattle.std.proofs.Common.{◌≡◌, ◌<◌, ◌≤◌, ◌+◌, ◌++◌, get_or, ℕ, suc, List, [], ◌∷◌, take, map, slice_get, Some, None, sym, ◌∙◌, ap, arith, length, inl, inr}
 use Rattle.std.proofs.Math.Nat.{eq-or-lt_of_le}
 use Rattle.std.proofs.lemmas.List.{map-append, take_more}
 use Rattle.std.proofs.Math.Seq.{take-length}
@@ -9,21 +9,8 @@ use Rattle.htl_names.specs.declared.key.Entry.{Entry}
 use Rattle.htl_names.specs.Entries.{Repeats}
 use Rattle.htl_names.specs.Keys.{look_up, pair_of}
 use Rattle.htl_names.specs.Repeats.{AreApartTo, AreApart}
+use Rattle.htl_names.proofs.FlatMaps.{in_front, at_front}
 use Rattle.htl_names.proofs.Meant.{found, some}
-
--- ---- the entries before place k
-
-in_front : (es : List Entry) (k j : ℕ) (d : Entry) → slice_get (take k es) j ≡ Some d → (j < k) × (slice_get es j ≡ Some d)
-in_front es zero j d e = absurd (none-some {A = Entry} d e)
-in_front [] (suc k) j d e = absurd (none-some {A = Entry} d e)
-in_front (x ∷ es) (suc k) zero d e = (omega arith, e)
-in_front (x ∷ es) (suc k) (suc j) d e = let r = in_front es k j d e in let below = r.0 in (omega (arith, below), r.1)
-
-at_front : (es : List Entry) (k j : ℕ) (d : Entry) → j < k → slice_get es j ≡ Some d → slice_get (take k es) j ≡ Some d
-at_front es zero j d below e = absurd (omega (arith, below))
-at_front [] (suc k) j d below e = absurd (none-some {A = Entry} d e)
-at_front (x ∷ es) (suc k) zero d below e = e
-at_front (x ∷ es) (suc k) (suc j) d below e = at_front es k j d (omega (arith, below)) e
 
 -- ---- in the words of the definition
 

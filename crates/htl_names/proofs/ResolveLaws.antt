@@ -8,7 +8,7 @@ use Rattle.htl_model.specs.Tables.{Tables}
 use Rattle.htl_names.specs.declared.fault.NameFault.{NameFault}
 use Rattle.htl_names.specs.declared.fault.NameFault.TheVariants as fault
 use Rattle.htl_names.specs.NameRules.{NameRule, RepeatedName, UnknownName, WrongKind, ProgramTree, ParentName, Limits, order_of, NameBroken, IsFirstNameFault, AreNamesRight, IsResolved}
-use Rattle.htl_names.specs.Told.{IsKept, IsFirstOf, IsSearched, IsTold, IsRefusal}
+use Rattle.htl_names.specs.Told.{IsKept, KeptBelow, IsFirstOf, IsSearched, IsRefusal}
 
 -- ---- the rules by their numbers
 
@@ -37,10 +37,7 @@ numbered Limits = record { back = refl; first = omega arith; last = omega arith 
 pub same_rule : (r s : NameRule) → order_of r ≡ order_of s → r ≡ s
 same_rule r s h = sym (numbered r).back ∙ ap rule_at h ∙ (numbered s).back
 
--- ---- the rules before the n-th are kept
-
-abbrev pub KeptBelow : List PlainProgram → ℕ → Type 0
-KeptBelow ps n = (r : NameRule) → order_of r < n → IsKept ps r
+-- ---- rule after rule
 
 pub none_below : (ps : List PlainProgram) → KeptBelow ps 1
 none_below ps r less = let first = (numbered r).first in absurd (omega (arith, less, first))
@@ -68,10 +65,6 @@ first_fault ps rule f kept told =
             | inr same ↦ told.2 j g same.1 (subst (λ (s : NameRule). NameBroken ps s j g) (same_rule r rule same.0) broken)
           ];
     }
-
-pub refusal : (ps : List PlainProgram) (rule : NameRule) (f : NameFault) → KeptBelow ps (order_of rule) → IsTold ps rule f → IsRefusal ps f
-refusal ps rule f kept (inl memory) = inl memory
-refusal ps rule f kept (inr told) = inr (first_fault ps rule f kept told)
 
 -- a search that found a place is a refusal, and one that found none leaves one rule more that is kept
 pub found : {A : Type 0} (ps : List PlainProgram) (rule : NameRule) (fault : A → NameFault) (o : Option A) (x : A) → KeptBelow ps (order_of rule)

@@ -1,7 +1,6 @@
 -- The functions of a source have few nodes, and arguments that are there.
-use Rattle.std.proofs.Common.{◌≡◌, ◌≤◌, ◌<◌, ◌+◌, ◌||◌, ℕ, zero, suc, Bool, true, false, cond, eqb, fold, List, [], ◌∷◌, ◌++◌, length, map, take, slice_get, Option, Some, None, refl, sym, ◌∙◌, ap, ap₂, eq-eqb, subst, arith, inl, inr}
+use Rattle.std.proofs.Common.{◌≡◌, ◌≤◌, ◌<◌, ◌+◌, ◌||◌, ℕ, suc, Bool, true, false, cond, eqb, List, [], ◌∷◌, ◌++◌, length, map, take, slice_get, Option, Some, None, refl, sym, ◌∙◌, ap, ap₂, subst, arith, inl, inr}
 use Rattle.std.specs.List.{flat_map, list_any, All}
-use Rattle.std.proofs.Math.Bool.{or-true}
 use Rattle.std.proofs.lemmas.Grind.{flat_map-append}
 use Rattle.std.proofs.lemmas.List.{map-append, length-map}
 use Rattle.htl_model.specs.FunctionTypes.{FunctionType, output_type, task_types, switch_type, comm_type, function_types}
@@ -10,24 +9,25 @@ use Rattle.htl_names.proofs.Paired.{Paired, paired_append, paired_at}
 use Rattle.htl_model.specs.Ranges.{AreInRange, IsTaskInRange, IsSwitchInRange}
 use Rattle.htl_model.specs.Tables.{Tables, Fun, Formula, Compiled}
 use Rattle.htl_model.specs.declared.parts.Task.{Task}
-use Rattle.htl_names.proofs.Distinct.{any_end}
+use Rattle.htl_names.proofs.Gathered.{all_in}
 use Rattle.htl_names.proofs.FlatMaps.{get_front, get_back, get_either, flat_part, at_flat}
 use Rattle.htl_names.proofs.Members.{All-at}
 use Rattle.htl_names.proofs.ModuleRanges.{task_small}
-use Rattle.htl_names.proofs.Owners.{to_map, of_map}
-use Rattle.htl_names.proofs.Places.{part_in_source}
+use Rattle.htl_names.proofs.Owners.{of_map}
+use Rattle.htl_model.proofs.PlaceLaws.{get_mapped}
+use Rattle.htl_names.proofs.SwitchRanges.{switch_small}
 use Rattle.htl_names.proofs.Used.{known, in_task}
 use Rattle.htl_names.specs.Conditions.{MeetsBounds, MeetsSwitchBounds}
 use Rattle.htl_names.specs.Flat.{Layout, layout, meaning, term_by, types_of, is_abstract, task_item, module_task_items, input_place, output_function, outs_functions, task_functions, module_functions, comms_in, switch_item, mode_switch_items, read_place, switch_function, mode_functions, tables_of_tree}
 use Rattle.htl_names.specs.Keys.{comm_key}
-use Rattle.htl_names.specs.Lists.{flat_map_at, place_in, with_new}
+use Rattle.htl_names.specs.Lists.{flat_map_at, place_in}
 use Rattle.htl_names.specs.NameRules.{AreNamesRight}
 use Rattle.htl_names.specs.Order.{tasks_at, mode_at, switches_at}
 use Rattle.htl_names.specs.Uses.{input_use, output_uses, outputs_uses, task_uses}
 use Rattle.htl_names.specs.declared.key.Use.{Use}
 use Rattle.htl_names.specs.declared.place.ModeAt.{ModeAt}
 use Rattle.htl_names.specs.declared.place.ModuleAt.{ModuleAt}
-use Rattle.htl_text.specs.Bounds.{names_of, out_params, out_values, modules_of, modes_of, switches_of, tree_nodes}
+use Rattle.htl_text.specs.Bounds.{names_of, out_params, out_values, tree_nodes}
 use Rattle.htl_text.specs.Expressions.{Expr, Number, Flag, Variable, Prefix, Infix, Choice}
 use Rattle.htl_text.specs.Nodes.{PlainProgram, PlainMode, PlainTask, PlainOut, PlainOuts, PlainSwitch, Concrete, Abstract}
 use Rattle.htl_text.specs.declared.tree.Id.{Id}
@@ -73,7 +73,7 @@ module _ (ps : List PlainProgram) (small : MeetsBounds ps) (right : AreNamesRigh
       let used_here : Use = input_use p u n (length t.inputs) id in
       let place : ℕ = length (flat_map (output_uses p u n (length t.inputs)) (take i os)) + j in
       let inner : slice_get (flat_map (output_uses p u n (length t.inputs)) os) place ≡ Some used_here =
-      at_flat (output_uses p u n (length t.inputs)) os i j o used_here its (to_map (input_use p u n (length t.inputs)) (names_of o.value) j id named) in
+      at_flat (output_uses p u n (length t.inputs)) os i j o used_here its (get_mapped (input_use p u n (length t.inputs)) (names_of o.value) j id named) in
       let used : slice_get (task_uses p u n t) place ≡ Some used_here = ap (λ (x : PlainOuts). slice_get (outputs_uses p u n (length t.inputs) x) place) is ∙ inner in
       let k = known ps right used_here (in_task ps p u n place t used_here at used) in
       let means : input_place (layout ps) p u n id ≡ k.0 = ap (λ (x : Option ℕ). elim x as (λ _. ℕ) [ Some m ↦ m | None ↦ 0 ]) k.1 in
@@ -98,7 +98,7 @@ module _ (ps : List PlainProgram) (small : MeetsBounds ps) (right : AreNamesRigh
           let values : All (λ (v : Expr). tree_nodes v ≤ 512) (map (λ (o : PlainOut). o.value) os) =
           subst (λ (x : PlainOuts). All (λ (v : Expr). tree_nodes v ≤ 512) (out_values x)) e (task_small ps small p u n t at).values in
           outs_paired p u n t os (λ i o its. (
-            All-at (λ (v : Expr). tree_nodes v ≤ 512) (map (λ (y : PlainOut). y.value) os) i o.value values (to_map (λ (y : PlainOut). y.value) os i o its),
+            All-at (λ (v : Expr). tree_nodes v ≤ 512) (map (λ (y : PlainOut). y.value) os) i o.value values (get_mapped (λ (y : PlainOut). y.value) os i o its),
             λ j id named. input_below p u n t os i j o id at e its named,
           ))
 
@@ -131,48 +131,14 @@ place_less x (y ∷ xs) h = by (eqb x y) h (place_less x xs)
     by true h later = omega arith
     by false h later = let r : place_in (eqb x) xs < length xs = later h in omega arith
 
-any_front : (x y : ℕ) (xs : List ℕ) → list_any (eqb x) xs ≡ true → list_any (eqb x) (xs ++ y ∷ []) ≡ true
-any_front x y xs h = any_end (eqb x) xs y ∙ ap (λ (b : Bool). b || eqb x y) h
-
-any_last : (x : ℕ) (xs : List ℕ) → list_any (eqb x) (xs ++ x ∷ []) ≡ true
-any_last x xs = any_end (eqb x) xs x ∙ ap (λ (b : Bool). list_any (eqb x) xs || b) (eq-eqb x x refl) ∙ or-true (list_any (eqb x) xs)
-
-kept_one : (x y : ℕ) (acc : List ℕ) → list_any (eqb x) acc ≡ true → list_any (eqb x) (with_new acc y) ≡ true
-kept_one x y acc h = by (list_any (eqb y) acc)
-  where
-    by : (b : Bool) → list_any (eqb x) (cond b acc (acc ++ y ∷ [])) ≡ true
-    by true = h
-    by false = any_front x y acc h
-
-new_one : (x : ℕ) (acc : List ℕ) → list_any (eqb x) (with_new acc x) ≡ true
-new_one x acc = by (list_any (eqb x) acc) refl
-  where
-    by : (b : Bool) → list_any (eqb x) acc ≡ b → list_any (eqb x) (cond b acc (acc ++ x ∷ [])) ≡ true
-    by true e = e
-    by false e = any_last x acc
-
-kept_all : (x : ℕ) (acc xs : List ℕ) → list_any (eqb x) acc ≡ true → list_any (eqb x) (fold with_new acc xs) ≡ true
-kept_all x acc [] h = h
-kept_all x acc (y ∷ xs) h = kept_all x (with_new acc y) xs (kept_one x y acc h)
-
-in_fold : (x : ℕ) (acc xs : List ℕ) (i : ℕ) → slice_get xs i ≡ Some x → list_any (eqb x) (fold with_new acc xs) ≡ true
-in_fold x acc [] i e = cc
-in_fold x acc (y ∷ xs) zero e = let same : y ≡ x = cc in kept_all x (with_new acc y) xs (subst (λ (z : ℕ). list_any (eqb x) (with_new acc z) ≡ true) (sym same) (new_one x acc))
-in_fold x acc (y ∷ xs) (suc i) e = in_fold x (with_new acc y) xs i e
-
 read_below : (l : Layout) (e : Expr) (i : ℕ) (id : Id) → slice_get (names_of e) i ≡ Some id → read_place l (comms_in l e) id < length (comms_in l e)
 read_below l e i id at =
     let f : Id → ℕ = λ x. meaning l (comm_key x.name) in
-    place_less (f id) (comms_in l e) (in_fold (f id) [] (map f (names_of e)) i (to_map f (names_of e) i id at))
+    place_less (f id) (comms_in l e) (all_in (f id) [] (map f (names_of e)) i (get_mapped f (names_of e) i id at))
 
 -- ---- switches
 
 module _ (ps : List PlainProgram) (small : MeetsBounds ps) where
-  switch_small : (a : ModeAt) (x : PlainMode) (j : ℕ) (s : PlainSwitch) → mode_at ps a ≡ Some x → slice_get x.switches j ≡ Some s → MeetsSwitchBounds s
-  switch_small a x j s at its =
-      let n = part_in_source (λ (y : PlainMode). y.switches) ps a.program a.«module» a.mode j x s at its in
-      All-at MeetsSwitchBounds (switches_of (modes_of (modules_of ps))) (n.0 + j) s small.switches n.1
-
   switches_paired : (t : Tables) (m : ℕ) (a : ModeAt) (ss : List PlainSwitch) → ((j : ℕ) (s : PlainSwitch) → slice_get ss j ≡ Some s → MeetsSwitchBounds s)
       → Paired IsNear (map (switch_type t) (map (switch_item (layout ps) ps m a) ss)) (map (switch_function (layout ps)) ss)
   switches_paired t m a [] h = tt
@@ -187,7 +153,7 @@ module _ (ps : List PlainProgram) (small : MeetsBounds ps) where
   mode_paired t m a = switches_paired t m a (switches_at ps a) (λ j s at. by (mode_at ps a) refl j s at)
     where
       by : (o : Option PlainMode) → mode_at ps a ≡ o → (j : ℕ) (s : PlainSwitch) → slice_get (elim o as (λ _. List PlainSwitch) [ Some x ↦ x.switches | None ↦ [] ]) j ≡ Some s → MeetsSwitchBounds s
-      by (Some x) e j s at = switch_small a x j s e at
+      by (Some x) e j s at = switch_small ps small a.program a.«module» a.mode j x s e at
       by None e j s at = cc
 
   modes_paired : (t : Tables) (m : ℕ) (rest : List ModeAt) → Paired IsNear (map (switch_type t) (flat_map_at (mode_switch_items (layout ps) ps) m rest)) (flat_map (mode_functions (layout ps) ps) rest)

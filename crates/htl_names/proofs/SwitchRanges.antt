@@ -3,7 +3,7 @@ use Rattle.std.proofs.Common.{◌≡◌, ◌<◌, inl, inr, ◌+◌, cond, ℕ, 
 use Rattle.std.specs.Prelude.{All}
 use Rattle.std.specs.List.{flat_map}
 use Rattle.std.proofs.lemmas.List.{length-map}
-use Rattle.std.proofs.lemmas.Option.{slice_get_within, none-some}
+use Rattle.std.proofs.lemmas.Option.{slice_get_within}
 use Rattle.htl_model.specs.declared.parts.Task.{Task}
 use Rattle.htl_model.specs.declared.parts.Switch.{Switch}
 use Rattle.htl_model.proofs.Apart.{different_numbers}
@@ -32,11 +32,12 @@ use Rattle.htl_names.proofs.Members.{In, All-from_places, All-at}
 use Rattle.htl_names.proofs.Owners.{of_map}
 use Rattle.htl_names.proofs.Used.{known, tested_used, target_used}
 use Rattle.htl_names.proofs.Places.{part_in_source}
-use Rattle.htl_names.proofs.Distinct.{distinct_apart, of_distinct, few_reads}
+use Rattle.htl_names.proofs.Distinct.{few_reads}
+use Rattle.htl_names.proofs.Gathered.{all_of, all_distinct, none_distinct, distinct_apart, among_at}
 
 -- ---- switches
 
-switch_small : (ps : List PlainProgram) → MeetsBounds ps → (p u m j : ℕ) (x : PlainMode) (s : PlainSwitch) → slice_get (modes_at ps p u) m ≡ Some x → slice_get x.switches j ≡ Some s → MeetsSwitchBounds s
+pub switch_small : (ps : List PlainProgram) → MeetsBounds ps → (p u m j : ℕ) (x : PlainMode) (s : PlainSwitch) → slice_get (modes_at ps p u) m ≡ Some x → slice_get x.switches j ≡ Some s → MeetsSwitchBounds s
 switch_small ps small p u m j x s there its =
     let n = part_in_source (λ (z : PlainMode). z.switches) ps p u m j x s there its in
     All-at MeetsSwitchBounds (switches_of (modes_of (modules_of ps))) (n.0 + j) s small.switches n.1
@@ -64,7 +65,7 @@ comms_in_range : (ps : List PlainProgram) → AreNamesRight ps → (m : ℕ) (a 
 comms_in_range ps right m a f j s its =
     let P : ℕ → Type 0 = λ c. c < length (map comm_item (comms_of ps)) in
     All-from_places P (comms_in (layout ps) s.cond) (λ k c e.
-    of_distinct P [] (map (λ (id : Id). meaning (layout ps) (comm_key id.name)) (names_of s.cond)) (λ x i. absurd (none-some x i.1)) (λ x i. one x i) c (k, e))
+    all_of P [] (map (λ (id : Id). meaning (layout ps) (comm_key id.name)) (names_of s.cond)) (λ x none. cc) (λ x i. one x i) c (among_at (comms_in (layout ps) s.cond) k c e))
   where
     one : (x : ℕ) → In x (map (λ (id : Id). meaning (layout ps) (comm_key id.name)) (names_of s.cond)) → x < length (map comm_item (comms_of ps))
     one x i =
@@ -95,7 +96,7 @@ switch_in_range ps small right ordered n y e =
       owner = omega (arith, within, size);
       target = target_in_range ps right ordered p.number a f p.place s its;
       reads = comms_in_range ps right p.number a f p.place s its;
-      different = different_numbers (comms_in l s.cond) (distinct_apart [] (map (λ (id : Id). meaning l (comm_key id.name)) (names_of s.cond)) (λ j k x less p q. absurd (omega (arith, slice_get_within [] j x p))));
+      different = different_numbers (comms_in l s.cond) (distinct_apart (comms_in l s.cond) (all_distinct [] (map (λ (id : Id). meaning l (comm_key id.name)) (names_of s.cond)) none_distinct));
       few_reads = omega (arith, fewer, names);
     })
 

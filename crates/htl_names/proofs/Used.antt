@@ -1,5 +1,5 @@
 -- The names that a tree uses are known where no name rule is broken.
-use Rattle.std.proofs.Common.{◌≡◌, ◌<◌, ◌≤◌, ◌+◌, ℕ, List, ◌++◌, map, slice_get, Some, None, refl, sym, subst, arith}
+use Rattle.std.proofs.Common.{◌≡◌, ◌<◌, ◌≤◌, ℕ, List, ◌++◌, map, slice_get, Some, None, refl, sym, subst, arith}
 use Rattle.std.specs.Prelude.{Option, MatchOption}
 use Rattle.std.specs.List.{flat_map}
 use Rattle.htl_text.specs.Bounds.{names_of}

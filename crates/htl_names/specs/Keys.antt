@@ -4,6 +4,7 @@ use Rattle.std.specs.Str.{bytes_eq}
 use Rattle.htl_names.specs.declared.key.Space.{Space}
 use Rattle.htl_names.specs.declared.key.Space.TheVariants as space
 use Rattle.htl_names.specs.declared.key.Key.{Key}
+use Rattle.htl_names.specs.declared.key.Scope.{Scope}
 use Rattle.htl_names.specs.declared.key.Entry.{Entry}
 
 -- a number for each kind of list
@@ -28,6 +29,9 @@ look_up k (e ∷ es) = cond (same_key k e.0) (Some e.1) (look_up k es)
 
 abbrev pub pair_of : Entry → Key × ℕ
 pair_of e = (e.key, e.number)
+
+abbrev pub key_in : Scope → List ℕ → Key
+key_in s n = record { space = s.space; program = s.program; «module» = s.«module»; item = s.item; name = n }
 
 -- ---- the lists
 

@@ -1,7 +1,6 @@
 pub mod Conditions
 pub mod Entries
 pub mod Excess
-pub mod Excesses
 pub mod Flat
 pub mod Graph
 pub mod Keys
@@ -9,13 +8,11 @@ pub mod Kinds
 pub mod LevelTable
 pub mod Limits
 pub mod Lists
-pub mod Misplaced
 pub mod NameRules
 pub mod Namings
 pub mod Narrow
 pub mod Order
 pub mod Ordered
-pub mod Orphans
 pub mod Parents
 pub mod Programs
 pub mod Reach
@@ -26,5 +23,4 @@ pub mod SameKeys
 pub mod Stack
 pub mod Tallies
 pub mod Told
-pub mod Unknowns
 pub mod Uses

@@ -1,5 +1,5 @@
--- The names after `parent`, in source order.
-use Rattle.std.specs.Prelude.{ℕ, zero, suc, ◌≡◌, ◌∷◌, List, [], Option, Some, None}
+-- The names after `parent`, in source order, and those that stand for nothing.
+use Rattle.std.specs.Prelude.{ℕ, zero, suc, ◌≡◌, ◌∷◌, List, [], Option, Some, None, get_or}
 use Rattle.std.specs.List.{flat_map}
 use Rattle.htl_text.specs.Nodes.{PlainProgram, PlainModule, PlainMode}
 use Rattle.htl_text.specs.declared.tree.Id.{Id}
@@ -42,3 +42,17 @@ parent_in symbols (Some a) n = parent_place symbols a n
 abbrev pub IsOrphan : List (Key × ℕ) → List PlainProgram → ℕ → Id → Type 0
 IsOrphan symbols ps zero id = Unit {0}
 IsOrphan symbols ps (suc p) id = parent_in symbols (refined_by symbols ps (suc p)) id.name ≡ None
+
+-- ---- names after `parent` that stand for nothing, as a test
+
+abbrev pub absent : Option ℕ → ℕ → Option ℕ
+absent None token = Some token
+absent (Some n) token = None
+
+-- the token, where the name in a program stands for nothing; `refined` has the modes that the programs refine
+abbrev pub orphan_at : List (Key × ℕ) → List (Option ModeAt) → ℕ → Id → Option ℕ
+orphan_at symbols refined zero id = Some id.token
+orphan_at symbols refined (suc p) id = absent (parent_in symbols (get_or refined (suc p) None) id.name) id.token
+
+abbrev pub orphan_token : List (Key × ℕ) → List (Option ModeAt) → ParentUse → Option ℕ
+orphan_token symbols refined u = orphan_at symbols refined u.program u.id

@@ -1,5 +1,5 @@
 -- The tree of programs: each program but the root refines the one mode that names it.
-use Rattle.std.specs.Prelude.{ℕ, zero, suc, ◌≡◌, ◌≢◌, ◌<◌, ◌⊎◌, true, false, eqb, ◌∷◌, List, [], map, length, get_or, Option, Some, None}
+use Rattle.std.specs.Prelude.{ℕ, zero, suc, ◌≡◌, ◌≢◌, ◌<◌, ◌⊎◌, true, false, eqb, ◌∷◌, List, [], map, length, get_or, Option, Some, None, MatchOption}
 use Rattle.std.specs.List.{flat_map, list_any, sum_by, count_by}
 use Rattle.htl_model.specs.Lists.{list_to}
 use Rattle.htl_model.specs.Tables.{greatest}
@@ -86,3 +86,10 @@ level xs (suc n) p = elim (refined_in p xs) [ Some a ↦ suc (level xs n a.progr
 -- the greatest level of a program
 abbrev pub levels : List (Key × ℕ) → List PlainProgram → ℕ
 levels symbols ps = greatest 0 (list_to (level (naming symbols ps) (length ps)) (length ps))
+
+-- ---- the first program that is out of place
+
+abbrev pub IsFirstMisplaced : Graph → Option ℕ → Type 0
+IsFirstMisplaced g o =
+    MatchOption o ((p : ℕ) → p < length g → IsMisplaced g p → ⊥)
+    (λ p. (p < length g) × IsMisplaced g p × ((q : ℕ) → q < p → IsMisplaced g q → ⊥))

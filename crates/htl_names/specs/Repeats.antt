@@ -1,8 +1,8 @@
 -- The first name that repeats an earlier one, or the table of all.
 use Rattle.std.specs.Prelude.{ℕ, ◌≡◌, ◌<◌, List, map, slice_get, Some}
 use Rattle.htl_names.specs.declared.key.Entry.{Entry}
-use Rattle.htl_names.specs.declared.repeats.Declared.{Declared}
-use Rattle.htl_names.specs.declared.repeats.Declared.TheVariants as declared
+use Rattle.htl_names.specs.declared.symbols.Declared.{Declared}
+use Rattle.htl_names.specs.declared.symbols.Declared.TheVariants as declared
 use Rattle.htl_names.specs.Entries.{Repeats}
 use Rattle.htl_names.specs.Keys.{pair_of}
 

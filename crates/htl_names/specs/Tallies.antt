@@ -1,7 +1,7 @@
 -- How many items of each kind a tree has, counted up to 2 ^ 64 - 1 in one pass.
 use Rattle.std.specs.Prelude.{ℕ, ◌+◌, ◌-◌, ◌^◌, min, max, List, [], ◌∷◌, length, fold}
 use Rattle.htl_text.specs.Nodes.{PlainProgram, PlainModule, PlainMode}
-use Rattle.htl_names.specs.declared.tally.Tally.{Tally}
+use Rattle.htl_names.specs.declared.limits.Tally.{Tally}
 
 -- a sum, up to the greatest count
 abbrev pub plus : ℕ → ℕ → ℕ

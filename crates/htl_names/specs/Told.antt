@@ -3,7 +3,7 @@ use Rattle.std.specs.Prelude.{ℕ, ◌≡◌, ◌<◌, ◌⊎◌, List, MatchOpt
 use Rattle.htl_text.specs.Nodes.{PlainProgram}
 use Rattle.htl_names.specs.declared.fault.NameFault.{NameFault}
 use Rattle.htl_names.specs.declared.fault.NameFault.TheVariants as fault
-use Rattle.htl_names.specs.NameRules.{NameRule, NameBroken, AreNamesRight, IsFirstNameFault}
+use Rattle.htl_names.specs.NameRules.{NameRule, order_of, NameBroken, AreNamesRight, IsFirstNameFault}
 
 -- the rule is broken nowhere
 abbrev pub IsKept : List PlainProgram → NameRule → Type 0
@@ -17,8 +17,9 @@ IsFirstOf ps rule f = (place : ℕ) × NameBroken ps rule place f × ((k : ℕ) 
 abbrev pub IsSearched : {A : Type 0} → List PlainProgram → NameRule → (A → NameFault) → Option A → Type 0
 IsSearched ps rule fault o = MatchOption o (IsKept ps rule) (λ x. IsFirstOf ps rule (fault x))
 
-abbrev pub IsTold : List PlainProgram → NameRule → NameFault → Type 0
-IsTold ps rule f = (f ≡ fault.Memory) ⊎ IsFirstOf ps rule f
+-- the rules before the n-th are kept
+abbrev pub KeptBelow : List PlainProgram → ℕ → Type 0
+KeptBelow ps n = (r : NameRule) → order_of r < n → IsKept ps r
 
 abbrev pub IsRefusal : List PlainProgram → NameFault → Type 0
 IsRefusal ps f = (f ≡ fault.Memory) ⊎ IsFirstNameFault ps f

@@ -1,16 +1,17 @@
--- The names that a source uses, in source order, but for those after `parent`.
-use Rattle.std.specs.Prelude.{ℕ, ◌≤◌, MatchOption, ◌∷◌, ◌++◌, List, [], map, length, Option, Some, None}
+-- The names that a source uses, in source order, but for those after `parent`; and those that stand for nothing.
+use Rattle.std.specs.Prelude.{ℕ, ◌≤◌, MatchOption, ◌∷◌, ◌++◌, List, [], map, length, Option, Some, None, cond, leb}
 use Rattle.std.specs.List.{flat_map}
 use Rattle.htl_text.specs.Bounds.{names_of}
 use Rattle.htl_text.specs.Nodes.{PlainProgram, PlainModule, PlainMode, PlainTask, PlainOut, PlainOuts, PlainSwitch, Concrete, Abstract}
 use Rattle.htl_text.specs.declared.tree.Id.{Id}
 use Rattle.htl_text.specs.declared.tree.EndNode.{EndNode}
-use Rattle.htl_text.specs.declared.tree.EndNode.TheVariants as end
 use Rattle.htl_text.specs.declared.tree.InvokeNode.{InvokeNode}
 use Rattle.htl_names.specs.declared.key.Key.{Key}
 use Rattle.htl_names.specs.declared.key.Use.{Use}
-use Rattle.htl_names.specs.Keys.{look_up, program_key, comm_key, task_key, mode_key, param_key, port_key}
+use Rattle.htl_names.specs.Keys.{look_up, program_key, comm_key, task_key, mode_key, param_key, port_key, key_in}
 use Rattle.htl_names.specs.Lists.{flat_map_at}
+use Rattle.htl_names.specs.declared.key.Scope.{Scope}
+use Rattle.htl_text.specs.declared.tree.EndNode.TheVariants as end
 
 -- any item of the list will do
 abbrev pub usage : Key → Id → Use
@@ -63,3 +64,22 @@ uses ps = flat_map_at program_uses 0 ps
 -- the name stands for nothing: its list has no such item, or none at a place that is allowed
 abbrev pub IsUnknown : List (Key × ℕ) → Use → Type 0
 IsUnknown symbols u = MatchOption (look_up u.key symbols) (Unit {0}) (λ n. MatchOption u.below ⊥ (λ below. below ≤ n))
+
+-- ---- names that stand for nothing, as a test
+
+-- the token, where a place is not below a bound
+abbrev pub above : ℕ → Option ℕ → ℕ → Option ℕ
+above n None token = None
+above n (Some below) token = cond (leb below n) (Some token) None
+
+abbrev pub unknown_by : Option ℕ → Option ℕ → ℕ → Option ℕ
+unknown_by None below token = Some token
+unknown_by (Some n) below token = above n below token
+
+-- the token of a use whose name stands for nothing
+abbrev pub unknown_token : List (Key × ℕ) → Use → Option ℕ
+unknown_token symbols u = unknown_by (look_up u.key symbols) u.below u.token
+
+-- the use of a name in a list
+abbrev pub use_in : Scope → Option ℕ → Id → Use
+use_in s below id = record { key = key_in s id.name; below = below; token = id.token }

@@ -1,18 +1,16 @@
 // The list of invocations.
-ghost use Rattle.std.specs.Prelude.{◌≡◌, ◌≤◌, None, Some, IfOk, All, map};
+ghost use Rattle.std.specs.Prelude.{◌≡◌, ◌++◌, ◌≤◌, None, Some, OnOk, IfOk, All, map};
 ghost use Rattle.htl_text.specs.Nodes.{tree_of};
-ghost use Rattle.htl_names.specs.Flat.{module_number, tasks_before, ports_before, refined_mode, first_parent, end_item, parent_number, invoke_item, mode_invoke_items};
+ghost use Rattle.htl_names.specs.Flat.{module_number, tasks_before, ports_before, refined_mode, first_parent, end_item, parent_number, invoke_item, mode_invoke_items, invoke_items};
 ghost use Rattle.htl_names.specs.Narrow.{IsNarrowEnd, IsNarrowInvoke, IsNarrowParent};
 
-use crate::at::invokes_at;
-use crate::listing::Listing;
-use crate::literals::size_of;
-use crate::numbers::{
-    invokes_before, mode_number, module_number, ports_before, refined_mode, tasks_before,
+use crate::items::size_of;
+use crate::key::Space;
+use crate::place::{
+    ModeAt, invokes_at, invokes_before, mode_number, module_number, ports_at, refined_mode,
+    tasks_before,
 };
-use crate::place::ModeAt;
-use crate::source::Source;
-use crate::spaces::{comm_key, invoke_key, port_key, task_key};
+use crate::tables::Source;
 use htl_base::Seq;
 use htl_model::{End, Inv};
 use htl_text::{EndNode, Id, InvokeNode};
@@ -36,29 +34,48 @@ struct Home<'a> {
     ghost parents: { parent ≡ first_parent source.layout.now (tree_of source.tree.now) refined },
 }
 
-/// The invocations of a mode.
-impl Listing<ModeAt, Inv> for Source<'_> {
-    ghost items_of = { λ s. mode_invoke_items s.layout.now (tree_of s.tree.now) };
-
-    fn items_of(&self, number: usize, at: ModeAt) -> Result<Vec<Inv>, AllocError> {
-        let module = module_number(self.layout, at.program, at.module);
-        let refined = refined_mode(self, at.program, at.module);
-        let home = Home {
-            source: *self,
-            mode: number,
-            at,
-            port: ports_before(self, number),
-            task: tasks_before(self, module),
-            refined,
-            parent: first_parent(self, refined),
-        };
-        let nodes = invokes_at(self.tree, at);
-        let mut found = Vec::new(self.alloc);
-        for k in 0..nodes.len() {
-            found.push(invocation(&home, &nodes[k])?)?;
-        }
-        Ok(found)
+/// The invocations: by mode, then in source order.
+pub fn invocations(source: &Source<'_>) -> Result<Vec<Inv>, AllocError>
+    ensures { IfOk result (λ v. v.items ≡ invoke_items source.now.layout.now (tree_of source.now.tree.now)) }
+{
+    let mut found = Vec::new(source.alloc);
+    let mut port: usize = 0;
+    let layout = source.layout;
+    let modes = layout.modes.as_slice();
+    for k in 0..modes.len() {
+        put_mode(source, k, modes[k], port, &mut found)?;
+        port += ports_at(source.tree, modes[k]).len();
     }
+    Ok(found)
+}
+
+// Those of a mode, whose first port has this number.
+fn put_mode(
+    source: &Source<'_>,
+    mode: usize,
+    at: ModeAt,
+    port: usize,
+    into: &mut Vec<Inv>,
+) -> Result<(), AllocError>
+    requires few { mode ≤ 256 }
+    requires ports { port ≡ ports_before source.now.layout.now (tree_of source.now.tree.now) mode }
+    ensures { OnOk result (into.new.items ≡ into.old.items ++ mode_invoke_items source.now.layout.now (tree_of source.now.tree.now) mode at) }
+{
+    let refined = refined_mode(source, at.program, at.module);
+    let home = Home {
+        source: *source,
+        mode,
+        at,
+        port,
+        task: tasks_before(source, module_number(source.layout, at.program, at.module)),
+        refined,
+        parent: first_parent(source, refined),
+    };
+    let nodes = invokes_at(source.tree, at);
+    for k in 0..nodes.len() {
+        into.push(invocation(&home, &nodes[k])?)?;
+    }
+    Ok(())
 }
 
 fn first_parent(source: &Source<'_>, refined: Option<ModeAt>) -> usize
@@ -75,10 +92,10 @@ fn invocation(home: &Home<'_>, node: &InvokeNode) -> Result<Inv, AllocError>
     requires { IsNarrowInvoke node.now }
     ensures { IfOk result (λ i. i ≡ invoke_item home.now.source.layout.now (tree_of home.now.source.tree.now) home.now.mode home.now.at node.now) }
 {
-    let task = task_key(home.at.program, home.at.module, node.task.name);
+    let tasks = Space::Tasks.of(home.at.program, home.at.module, 0);
     Ok(Inv {
         mode: home.mode as u16,
-        task: (home.task + home.source.layout.meaning(&task)) as u16,
+        task: (home.task + home.source.layout.meaning(tasks, node.task.name)) as u16,
         parent: parent(home, node.parent),
         reads: Seq::new(ends(home, node.reads.as_slice())?),
         writes: Seq::new(ends(home, node.writes.as_slice())?),
@@ -91,8 +108,8 @@ fn parent(home: &Home<'_>, name: Option<Id>) -> Option<u16>
 {
     match (home.refined, name) {
         (Some(b), Some(id)) => {
-            let key = invoke_key(b.program, b.module, b.mode, id.name);
-            Some((home.parent + home.source.layout.meaning(&key)) as u16)
+            let invokes = Space::Invokes.of(b.program, b.module, b.mode);
+            Some((home.parent + home.source.layout.meaning(invokes, id.name)) as u16)
         }
         (None, Some(_)) => None,
         (Some(_), None) => None,
@@ -118,12 +135,12 @@ fn end(home: &Home<'_>, node: &EndNode) -> End
     let layout = home.source.layout;
     match node {
         EndNode::Comm { comm, instance } => End::Comm {
-            comm: layout.meaning(&comm_key(comm.name)) as u16,
+            comm: layout.meaning(Space::Comms.of(0, 0, 0), comm.name) as u16,
             instance: size_of(instance.x),
         },
         EndNode::Port { port } => {
-            let key = port_key(home.at.program, home.at.module, home.at.mode, port.name);
-            let port = (home.port + layout.meaning(&key)) as u16;
+            let ports = Space::Ports.of(home.at.program, home.at.module, home.at.mode);
+            let port = (home.port + layout.meaning(ports, port.name)) as u16;
             End::Port { port }
         }
     }

@@ -1,20 +1,48 @@
-// The lists of communicators, modes, modules and ports.
+// The lists of communicators, modes, modules, ports and tasks.
 ghost use Rattle.std.specs.Prelude.{◌≡◌, ◌≤◌, None, Some, All, IfOk, length, map};
-ghost use Rattle.htl_text.specs.Nodes.{tree_of, module_of, mode_of};
+ghost use Rattle.htl_text.specs.Bounds.{out_params};
+ghost use Rattle.htl_text.specs.Nodes.{tree_of, module_of, mode_of, task_of, outs_of, out_of};
 ghost use Rattle.htl_text.specs.declared.tree.CommNode.{CommNode as ACommNode};
-ghost use Rattle.htl_names.specs.Flat.{size_of, comm_item, comm_items, mode_item, module_mode_items, mode_number, module_item, module_items, mode_port_items};
+ghost use Rattle.htl_names.specs.Flat.{size_of, value_of, comm_item, comm_items, mode_item, module_mode_items, mode_number, module_item, module_items, mode_port_items, types_of, is_abstract, task_item, module_task_items};
 ghost use Rattle.htl_names.specs.Narrow.{IsNarrowParent};
 
-use crate::at::{modes_at, module_at, ports_at};
-use crate::listing::Listing;
-use crate::literals::{size_of, value_of};
-use crate::numbers::{mode_number, modes_before};
-use crate::place::{ModeAt, ModuleAt};
-use crate::source::Source;
-use crate::spaces::mode_key;
-use htl_model::{Comm, Mode, Module, Port};
-use htl_text::{CommNode, ModeNode, ModuleNode};
+use crate::key::Space;
+use crate::place::{
+    ModeAt, ModuleAt, mode_number, modes_at, modes_before, module_at, ports_at, tasks_at,
+};
+use crate::tables::{Listing, Source};
+use htl_base::{Seq, Ty, Value};
+use htl_model::{Comm, Mode, Module, Port, Task};
+use htl_text::{CommNode, ConstNode, ModeNode, ModuleNode, OutNode, OutNodes, ParamNode, TaskNode};
 use std::alloc::{AllocError, Global};
+
+// ---- literals
+
+/// A period, worst case or instance, which is at most 1,000,000.
+pub fn size_of(x: Value) -> u32
+    requires { size_of x ≤ 1000000 }
+    ensures { result ≡ size_of x }
+{
+    if x < 0 { 0 } else { x as u32 }
+}
+
+/// The value of a constant; 0 or 1 for a bool.
+pub fn value_of(constant: ConstNode) -> Value
+    ensures { result ≡ value_of constant }
+{
+    match constant {
+        ConstNode::Int { minus: true, x, .. } => x.wrapping_neg(),
+        ConstNode::Int {
+            minus: false,
+            x,
+            ..
+        } => x,
+        ConstNode::Bool { x: true, .. } => 1,
+        ConstNode::Bool { x: false, .. } => 0,
+    }
+}
+
+// ---- communicators, modes, modules and ports
 
 /// The communicators, in source order.
 pub fn comms(source: &Source<'_>) -> Result<Vec<Comm>, AllocError>
@@ -91,12 +119,12 @@ fn module(source: &Source<'_>, number: usize, at: ModuleAt, node: &ModuleNode) -
     requires parent { IsNarrowParent at.parent }
     ensures { result ≡ module_item source.now.layout.now (tree_of source.now.tree.now) number at (module_of node.now) }
 {
-    let start = mode_key(at.program, at.module, node.start.name);
+    let modes = Space::Modes.of(at.program, at.module, 0);
     let first = modes_before(source, number);
     Module {
         name: node.name.name,
         parent: parent_mode(source, at),
-        start: (first + source.layout.meaning(&start)) as u16,
+        start: (first + source.layout.meaning(modes, node.start.name)) as u16,
     }
 }
 
@@ -127,4 +155,66 @@ impl Listing<ModeAt, Port> for Source<'_> {
             })
             .collect(self.alloc)
     }
+}
+
+// ---- tasks
+
+/// The tasks of a module.
+impl Listing<ModuleAt, Task> for Source<'_> {
+    ghost items_of = { λ s. module_task_items (tree_of s.tree.now) };
+
+    fn items_of(&self, number: usize, at: ModuleAt) -> Result<Vec<Task>, AllocError> {
+        let module = number as u16;
+        let nodes = tasks_at(self.tree, at.program, at.module);
+        let mut found = Vec::new(self.alloc);
+        for k in 0..nodes.len() {
+            found.push(task(self.alloc, &nodes[k], module)?)?;
+        }
+        Ok(found)
+    }
+}
+
+fn task(alloc: Global, node: &TaskNode, module: u16) -> Result<Task, AllocError>
+    requires { size_of node.now.worst.x ≤ 1000000 }
+    ensures { IfOk result (λ t. t ≡ task_item «module» (task_of node.now)) }
+{
+    Ok(Task {
+        name: node.name.name,
+        module,
+        is_abstract: is_abstract(&node.outputs),
+        worst: size_of(node.worst.x),
+        inputs: Seq::new(types_of(alloc, node.inputs.as_slice())?),
+        outputs: Seq::new(output_types(alloc, &node.outputs)?),
+    })
+}
+
+fn is_abstract(outs: &OutNodes) -> bool
+    ensures { result ≡ is_abstract (outs_of outs.now) }
+{
+    matches!(outs, OutNodes::Abstract { .. })
+}
+
+fn types_of(alloc: Global, params: &[ParamNode]) -> Result<Vec<Ty>, AllocError>
+    ensures { IfOk result (λ v. v.items ≡ types_of params.now) }
+{
+    params.iter().map(|param| param.ty).collect(alloc)
+}
+
+fn output_types(alloc: Global, outs: &OutNodes) -> Result<Vec<Ty>, AllocError>
+    ensures { IfOk result (λ v. v.items ≡ types_of (out_params (outs_of outs.now))) }
+{
+    match outs {
+        OutNodes::Concrete { outs } => concrete_types(alloc, outs.as_slice()),
+        OutNodes::Abstract { outs } => types_of(alloc, outs.as_slice()),
+    }
+}
+
+fn concrete_types(alloc: Global, outs: &[OutNode]) -> Result<Vec<Ty>, AllocError>
+    ensures { IfOk result (λ v. v.items ≡ types_of (map (λ o. o.param) (map out_of outs.now))) }
+{
+    let mut types = Vec::new(alloc);
+    for k in 0..outs.len() {
+        types.push(outs[k].param.ty)?;
+    }
+    Ok(types)
 }

@@ -2,7 +2,7 @@
 ghost use Rattle.std.specs.Prelude.{◌≡◌, ◌++◌, ◌∷◌, []};
 ghost use Rattle.std.specs.Cmp.{decided, partial_equiv_from_equiv};
 ghost use Rattle.std.specs.Hash as fed;
-ghost use Rattle.htl_names.specs.Keys.{same_key, space_code};
+ghost use Rattle.htl_names.specs.Keys.{key_in, same_key, space_code};
 ghost use Rattle.htl_names.specs.SameKeys.{same_key_decides, mixed, owner_of, key_writes, hashed_alike};
 
 use htl_base::Name;
@@ -35,10 +35,46 @@ impl Space {
     {
         self as u8
     }
+
+    /// The list of this kind that an owner has.
+    pub fn of(self, program: usize, module: usize, item: usize) -> Scope
+        ensures { result ≡ record { space = self; program = program; «module» = «module»; item = item } }
+    {
+        Scope {
+            space: self,
+            program,
+            module,
+            item,
+        }
+    }
 }
 
-/// A name in a list. The list's owner is given by its places: the program, the module in it, and the task or mode in
-/// that; each is 0 where the list has no such owner. Only the bytes that a name has are compared and hashed.
+/// A list of names: its kind, and its owner by the owner's places, the program, the module in it, and the task or mode
+/// in that; each is 0 where the list has no such owner.
+#[derive(Clone, Copy)]
+pub struct Scope {
+    pub space: Space,
+    pub program: usize,
+    pub module: usize,
+    pub item: usize,
+}
+
+impl Scope {
+    /// A name in the list.
+    pub fn key(self, name: Name) -> Key
+        ensures { result ≡ key_in self name }
+    {
+        Key {
+            space: self.space,
+            program: self.program,
+            module: self.module,
+            item: self.item,
+            name,
+        }
+    }
+}
+
+/// A name in a list, which is given as in `Scope`. Only the bytes that a name has are compared and hashed.
 #[derive(Clone, Copy)]
 pub struct Key {
     pub space: Space,

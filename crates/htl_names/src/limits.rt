@@ -1,24 +1,175 @@
-// The first limit that a source exceeds.
-ghost use Rattle.std.specs.Prelude.{◌≡◌, ◌≤◌, ◌+◌, [], ◌∷◌, length, take, drop};
+// The first limit that a source exceeds: what it has of each kind, and how much it may have.
+ghost use Rattle.std.specs.Prelude.{◌≡◌, map, ◌≤◌, length, ◌+◌, [], ◌∷◌, take, drop};
 ghost use Rattle.htl_model.specs.Lists.{list_to};
-ghost use Rattle.htl_text.specs.Nodes.{tree_of};
-ghost use Rattle.htl_names.specs.Excess.{IsFirstExcess};
-ghost use Rattle.htl_names.specs.Excesses.{excess, excess_from, capped};
-ghost use Rattle.htl_names.specs.LevelTable.{levels_by};
-ghost use Rattle.htl_names.specs.Limits.{counts, limits, selections, most_positions};
+ghost use Rattle.htl_text.specs.Nodes.{mode_of, module_of, program_of, tree_of};
+ghost use Rattle.htl_names.specs.Excess.{IsFirstExcess, capped, excess, excess_from};
+ghost use Rattle.htl_names.specs.LevelTable.{above, level_by, levels_by};
+ghost use Rattle.htl_names.specs.Limits.{choices, selections, most_invokes, most_positions, counts, limits};
 ghost use Rattle.htl_names.specs.Programs.{refined_by};
-ghost use Rattle.htl_names.specs.Tallies.{tally, tally_counts};
+ghost use Rattle.htl_names.specs.Tallies.{with_mode, with_module, with_program, tally, tally_counts};
 
-use crate::levels::levels;
-use crate::place::ModeAt;
-use crate::selections::{most_positions, selections};
+use crate::place::{ModeAt, modules_at};
 use crate::symbols::Symbols;
-use crate::tally::tally_of;
 use htl_base::limits::{
     MAX_COMMUNICATORS, MAX_INVOCATIONS, MAX_LEVELS, MAX_MODE_INVOCATIONS, MAX_MODES, MAX_MODULES,
     MAX_PORTS, MAX_POSITIONS, MAX_SELECTIONS, MAX_SWITCHES, MAX_TASKS,
 };
-use htl_text::Tree;
+use htl_text::{ModeNode, ModuleNode, ProgramNode, Tree};
+
+// ---- counts of items
+
+/// How many items of each kind there are, and the most invocations in one mode. Each stops at `usize::MAX`.
+#[derive(Clone, Copy, Default)]
+pub(crate) struct Tally {
+    pub comms: usize,
+    pub modules: usize,
+    pub modes: usize,
+    pub ports: usize,
+    pub tasks: usize,
+    pub invokes: usize,
+    pub switches: usize,
+    pub most_invokes: usize,
+}
+
+fn with_mode(t: Tally, mode: &ModeNode) -> Tally
+    ensures { result ≡ with_mode t (mode_of mode.now) }
+{
+    let invokes = mode.invokes.as_slice().len();
+    Tally {
+        ports: t.ports.saturating_add(mode.ports.as_slice().len()),
+        invokes: t.invokes.saturating_add(invokes),
+        switches: t.switches.saturating_add(mode.switches.as_slice().len()),
+        most_invokes: t.most_invokes.max(invokes),
+        ..t
+    }
+}
+
+fn with_module(t: Tally, module: &ModuleNode) -> Tally
+    ensures { result ≡ with_module t (module_of «module».now) }
+{
+    let modes = module.modes.as_slice();
+    let start = Tally {
+        modes: t.modes.saturating_add(modes.len()),
+        tasks: t.tasks.saturating_add(module.tasks.as_slice().len()),
+        ..t
+    };
+    modes.iter().fold(start, |sum, mode| with_mode(sum, mode))
+}
+
+fn with_program(t: Tally, program: &ProgramNode) -> Tally
+    ensures { result ≡ with_program t (program_of program.now) }
+{
+    let modules = program.modules.as_slice();
+    let start = Tally {
+        comms: t.comms.saturating_add(program.comms.as_slice().len()),
+        modules: t.modules.saturating_add(modules.len()),
+        ..t
+    };
+    modules
+        .iter()
+        .fold(start, |sum, module| with_module(sum, module))
+}
+
+/// The counts of a whole source.
+pub(crate) fn tally_of(tree: &Tree) -> Tally
+    ensures { result ≡ tally (tree_of tree.now) }
+{
+    let programs = tree.programs.as_slice();
+    programs.iter().fold(Tally::default(), |sum, program| with_program(sum, program))
+}
+
+// ---- root selections
+
+/// How many choices of one mode for each module there are, at most `usize::MAX`.
+fn choices(modules: &[ModuleNode]) -> usize
+    ensures { result ≡ capped (choices (map module_of modules.now)) }
+{
+    let mut n = 1usize;
+    for k in 0..modules.len() {
+        n = n.saturating_mul(modules[k].modes.as_slice().len());
+    }
+    n
+}
+
+/// How many root selections there are, at most `usize::MAX`.
+pub(crate) fn selections(tree: &Tree) -> usize
+    ensures { result ≡ capped (selections (tree_of tree.now)) }
+{
+    let modules = modules_at(tree, 0);
+    if modules.is_empty() {
+        0
+    } else {
+        choices(modules)
+    }
+}
+
+/// The most invocations that a mode of a module has.
+fn most_invokes(module: &ModuleNode) -> usize
+    ensures { result ≡ most_invokes (map mode_of «module».now.modes) }
+{
+    let modes = module.modes.as_slice();
+    let mut most = 0usize;
+    for k in 0..modes.len() {
+        most = most.max(modes[k].invokes.as_slice().len());
+    }
+    most
+}
+
+/// The most positions that a root selection has, at most `usize::MAX`.
+pub(crate) fn most_positions(tree: &Tree) -> usize
+    ensures { result ≡ capped (most_positions (tree_of tree.now)) }
+{
+    let modules = modules_at(tree, 0);
+    let mut sum = 0usize;
+    for k in 0..modules.len() {
+        sum = sum.saturating_add(most_invokes(&modules[k]));
+    }
+    sum
+}
+
+// ---- levels of programs
+
+/// The program of the mode that a program refines.
+fn above(refined: &[Option<ModeAt>], program: usize) -> Option<usize>
+    ensures { result ≡ above refined.now program }
+{
+    if program < refined.len() {
+        match refined[program] {
+            Some(mode) => Some(mode.program),
+            None => None,
+        }
+    } else {
+        None
+    }
+}
+
+/// How many programs lead from the root to a program, both counted.
+fn level(refined: &[Option<ModeAt>], program: usize) -> usize
+    ensures value { result ≡ level_by refined.now (length refined.now) program }
+    ensures few { result ≤ length refined.now }
+{
+    let mut at = program;
+    for k in 0..refined.len() {
+        match above(refined, at) {
+            Some(next) => at = next,
+            None => return k + 1,
+        }
+    }
+    refined.len()
+}
+
+/// The greatest level of a program.
+pub(crate) fn levels(refined: &[Option<ModeAt>]) -> usize
+    ensures { result ≡ levels_by refined.now }
+{
+    let mut most = 0usize;
+    for p in 0..refined.len() {
+        most = most.max(level(refined, p));
+    }
+    most
+}
+
+// ---- the limits
 
 /// A limit that is exceeded.
 #[derive(Clone, Copy)]

@@ -5,11 +5,10 @@ ghost use Rattle.htl_names.specs.Flat.{layout_by};
 ghost use Rattle.htl_names.specs.Order.{modules_in, mode_kids, kids as kids_of_module, order, module_modes, mode_order};
 ghost use Rattle.htl_names.specs.Stack.{frame, kid_frames};
 
-use crate::at::{modes_at, modules_at};
-use crate::graph::named_program;
-use crate::layout::Layout;
-use crate::place::{ModeAt, ModuleAt};
+use crate::place::{ModeAt, ModuleAt, modes_at, modules_at};
+use crate::programs::named_program;
 use crate::symbols::Symbols;
+use crate::tables::Layout;
 use htl_text::{ModeNode, Tree};
 use std::alloc::{AllocError, Global};
 

@@ -1,4 +1,14 @@
-// Places in the tree of a source.
+// Places in the tree of a source, what stands there, and the numbers of modules and modes in the tables.
+ghost use Rattle.std.specs.Prelude.{◌≡◌, map, MatchOption, None, Some, ◌≤◌, length};
+ghost use Rattle.htl_text.specs.Nodes.{tree_of, module_of, mode_of, task_of, switch_of};
+ghost use Rattle.htl_names.specs.Flat.{module_number, modes_before, tasks_before, invokes_before, mode_number, refined_mode};
+ghost use Rattle.htl_names.specs.Narrow.{IsNarrowParent};
+ghost use Rattle.htl_names.specs.Order.{modules_at, module_at, tasks_at, modes_at, mode_at, ports_at, invokes_at, switches_at};
+
+use crate::tables::{Layout, Source};
+use htl_text::{InvokeNode, ModeNode, ModuleNode, ParamNode, SwitchNode, TaskNode, Tree};
+
+// ---- places
 
 /// A mode: its program, its module in the program, and its place in the module, each counted from 0.
 #[derive(Clone, Copy, PartialEq, Eq)]
@@ -14,4 +24,161 @@ pub struct ModuleAt {
     pub program: usize,
     pub module: usize,
     pub parent: Option<ModeAt>,
+}
+
+// ---- what stands at a place
+
+/// The modules of a program.
+pub fn modules_at(tree: &Tree, program: usize) -> &[ModuleNode]
+    ensures { map module_of result.now ≡ modules_at (tree_of tree.now) program }
+{
+    match tree.programs.as_slice().get(program) {
+        Some(node) => node.modules.as_slice(),
+        None => &[],
+    }
+}
+
+/// A module.
+pub fn module_at(tree: &Tree, program: usize, module: usize) -> Option<&ModuleNode>
+    ensures { MatchOption result (module_at (tree_of tree.now) program «module» ≡ None)
+        (λ node. module_at (tree_of tree.now) program «module» ≡ Some (module_of node.now)) }
+{
+    modules_at(tree, program).get(module)
+}
+
+/// The tasks of a module.
+pub fn tasks_at(tree: &Tree, program: usize, module: usize) -> &[TaskNode]
+    ensures { map task_of result.now ≡ tasks_at (tree_of tree.now) program «module» }
+{
+    match module_at(tree, program, module) {
+        Some(node) => node.tasks.as_slice(),
+        None => &[],
+    }
+}
+
+/// The modes of a module.
+pub fn modes_at(tree: &Tree, program: usize, module: usize) -> &[ModeNode]
+    ensures { map mode_of result.now ≡ modes_at (tree_of tree.now) program «module» }
+{
+    match module_at(tree, program, module) {
+        Some(node) => node.modes.as_slice(),
+        None => &[],
+    }
+}
+
+/// A mode.
+pub fn mode_at(tree: &Tree, at: ModeAt) -> Option<&ModeNode>
+    ensures { MatchOption result (mode_at (tree_of tree.now) at ≡ None)
+        (λ node. mode_at (tree_of tree.now) at ≡ Some (mode_of node.now)) }
+{
+    modes_at(tree, at.program, at.module).get(at.mode)
+}
+
+/// The ports of a mode.
+pub fn ports_at(tree: &Tree, at: ModeAt) -> &[ParamNode]
+    ensures { result.now ≡ ports_at (tree_of tree.now) at }
+{
+    match mode_at(tree, at) {
+        Some(node) => node.ports.as_slice(),
+        None => &[],
+    }
+}
+
+/// The invocations of a mode.
+pub fn invokes_at(tree: &Tree, at: ModeAt) -> &[InvokeNode]
+    ensures { result.now ≡ invokes_at (tree_of tree.now) at }
+{
+    match mode_at(tree, at) {
+        Some(node) => node.invokes.as_slice(),
+        None => &[],
+    }
+}
+
+/// The switches of a mode.
+pub fn switches_at(tree: &Tree, at: ModeAt) -> &[SwitchNode]
+    ensures { map switch_of result.now ≡ switches_at (tree_of tree.now) at }
+{
+    match mode_at(tree, at) {
+        Some(node) => node.switches.as_slice(),
+        None => &[],
+    }
+}
+
+// ---- numbers in the tables
+
+/// The number of a module; that of modules where it stands nowhere.
+pub fn module_number(layout: &Layout, program: usize, module: usize) -> usize
+    ensures value { result ≡ module_number layout.now program «module» }
+    ensures within { result ≤ length layout.now.modules }
+{
+    let modules = layout.modules.as_slice();
+    for k in 0..modules.len() {
+        if modules[k].program == program && modules[k].module == module {
+            return k;
+        }
+    }
+    modules.len()
+}
+
+/// How many modes the modules below a number have.
+pub fn modes_before(source: &Source<'_>, module: usize) -> usize
+    requires { «module» ≤ length source.now.layout.now.modules }
+    ensures { result ≡ modes_before source.now.layout.now (tree_of source.now.tree.now) «module» }
+{
+    let mut count: usize = 0;
+    let layout = source.layout;
+    let modules = layout.modules.as_slice();
+    for k in 0..module {
+        count += modes_at(source.tree, modules[k].program, modules[k].module).len();
+    }
+    count
+}
+
+/// How many tasks the modules below a number have.
+pub fn tasks_before(source: &Source<'_>, module: usize) -> usize
+    requires { «module» ≤ length source.now.layout.now.modules }
+    ensures { result ≡ tasks_before source.now.layout.now (tree_of source.now.tree.now) «module» }
+{
+    let mut count: usize = 0;
+    let layout = source.layout;
+    let modules = layout.modules.as_slice();
+    for k in 0..module {
+        count += tasks_at(source.tree, modules[k].program, modules[k].module).len();
+    }
+    count
+}
+
+/// How many invocations the modes below a number have.
+pub fn invokes_before(source: &Source<'_>, mode: usize) -> usize
+    ensures { result ≡ invokes_before source.now.layout.now (tree_of source.now.tree.now) mode }
+{
+    let mut count: usize = 0;
+    let layout = source.layout;
+    let modes = layout.modes.as_slice();
+    for k in 0..mode.min(modes.len()) {
+        count += invokes_at(source.tree, modes[k]).len();
+    }
+    count
+}
+
+/// The number of a mode.
+pub fn mode_number(source: &Source<'_>, at: ModeAt) -> usize
+    requires { at.mode ≤ 256 }
+    ensures value { result ≡ mode_number source.now.layout.now (tree_of source.now.tree.now) at }
+    ensures within { result ≤ 512 }
+{
+    modes_before(source, module_number(source.layout, at.program, at.module)) + at.mode
+}
+
+/// The mode that the program of a module refines.
+pub fn refined_mode(source: &Source<'_>, program: usize, module: usize) -> Option<ModeAt>
+    ensures value { result ≡ refined_mode source.now.layout.now program «module» }
+    ensures narrow { IsNarrowParent result }
+{
+    let layout = source.layout;
+    let number = module_number(layout, program, module);
+    match layout.modules.as_slice().get(number) {
+        Some(module) => module.parent,
+        None => None,
+    }
 }

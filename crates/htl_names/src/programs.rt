@@ -1,19 +1,185 @@
-// The tree of programs: the first that is out of place, and the mode that each refines.
-ghost use Rattle.std.specs.Prelude.{MatchBool, ◌≡◌, ◌<◌, ◌≤◌, ℕ, List, IfOk, length, fold};
+// The tree of programs: the modes that name programs, the first program that is out of place, and the mode that each refines.
+ghost use Rattle.std.specs.Prelude.{◌≡◌, ◌++◌, OnOk, IfOk, eqb, ◌<◌, length, slice_get, fold, MatchBool, ◌≤◌, ℕ, List};
 ghost use Rattle.htl_model.specs.Lists.{list_to};
-ghost use Rattle.htl_text.specs.Nodes.{PlainProgram};
-ghost use Rattle.htl_names.specs.declared.key.Key.{Key};
-ghost use Rattle.htl_names.specs.Graph.{targets, graph_by, naming_rows};
-ghost use Rattle.htl_names.specs.Misplaced.{IsFirstMisplaced};
+ghost use Rattle.htl_text.specs.Nodes.{mode_of, module_of, program_of, tree_of, PlainProgram};
+ghost use Rattle.htl_names.specs.Graph.{program_named, named_from, naming_rows, targets, graph_by};
+ghost use Rattle.htl_names.specs.Programs.{IsFirstMisplaced, named_program as program_of_mode, mode_naming, module_naming, program_naming, named_by, IsMisplaced, refined_by};
 ghost use Rattle.htl_names.specs.Namings.{counted, counted_all, CountsNamings};
-ghost use Rattle.htl_names.specs.Programs.{IsMisplaced, refined_by};
-ghost use Rattle.htl_names.specs.Reach.{MarksReached};
+ghost use Rattle.htl_names.specs.Reach.{met, met_by, IsMarked, MarksReached};
 ghost use Rattle.htl_names.specs.Refined.{filled};
+ghost use Rattle.htl_names.specs.declared.key.Key.{Key};
 
-use crate::graph::{Naming, NamingRow};
+use crate::Done;
+use crate::key::Space;
 use crate::place::ModeAt;
-use crate::reach::reach;
+use crate::symbols::Symbols;
+use htl_base::Seq;
+use htl_text::{Id, ModeNode, ModuleNode, ProgramNode, Tree};
 use std::alloc::{AllocError, Global};
+
+// ---- the modes that name programs
+
+/// A mode, and the number of the program that it names.
+pub(crate) type Naming = (ModeAt, usize);
+
+/// The modes of a program that name programs, in source order.
+pub(crate) type NamingRow = Seq<Naming>;
+
+/// The number of the program of this name.
+fn number_of(name: Option<Id>, symbols: &Symbols) -> Option<usize>
+    ensures { result ≡ program_named symbols.now name }
+{
+    match name {
+        Some(id) => symbols.get(&Space::Programs.of(0, 0, 0).key(id.name)),
+        None => None,
+    }
+}
+
+/// The number of the program that stands in the head of a mode.
+pub(crate) fn named_program(mode: &ModeNode, symbols: &Symbols) -> Option<usize>
+    ensures { result ≡ program_of_mode symbols.now (mode_of mode.now) }
+{
+    number_of(mode.program, symbols)
+}
+
+fn push_placed(place: ModeAt, found: Option<usize>, into: &mut Vec<Naming>) -> Done
+    ensures { OnOk result (into.new.items ≡ into.old.items ++ named_from place found) }
+{
+    if let Some(q) = found {
+        into.push((place, q))?;
+    }
+    Ok(())
+}
+
+fn push_mode_naming(at: ModeAt, mode: &ModeNode, symbols: &Symbols, into: &mut Vec<Naming>) -> Done
+    ensures { OnOk result (into.new.items ≡ into.old.items ++ mode_naming symbols.now at.program at.«module» at.mode (mode_of mode.now)) }
+{
+    push_placed(at, named_program(mode, symbols), into)
+}
+
+fn push_module_naming(
+    program: usize,
+    module: usize,
+    node: &ModuleNode,
+    symbols: &Symbols,
+    into: &mut Vec<Naming>,
+) -> Done
+    ensures { OnOk result (into.new.items ≡ into.old.items ++ module_naming symbols.now program «module» (module_of node.now)) }
+{
+    let modes = node.modes.as_slice();
+    for k in 0..modes.len() {
+        let place = ModeAt {
+            program,
+            module,
+            mode: k,
+        };
+        push_mode_naming(place, &modes[k], symbols, into)?;
+    }
+    Ok(())
+}
+
+fn program_naming(
+    alloc: Global,
+    program: usize,
+    node: &ProgramNode,
+    symbols: &Symbols,
+) -> Result<Vec<Naming>, AllocError>
+    ensures { IfOk result (λ v. v.items ≡ program_naming symbols.now program (program_of node.now)) }
+{
+    let mut row = Vec::new(alloc);
+    let modules = node.modules.as_slice();
+    for k in 0..modules.len() {
+        push_module_naming(program, k, &modules[k], symbols, &mut row)?;
+    }
+    Ok(row)
+}
+
+/// The modes that name programs, by the program that they stand in.
+pub(crate) fn naming_rows(
+    alloc: Global,
+    tree: &Tree,
+    symbols: &Symbols,
+) -> Result<Vec<NamingRow>, AllocError>
+    ensures { IfOk result (λ v. v.items ≡ naming_rows symbols.now (tree_of tree.now)) }
+{
+    let mut rows = Vec::new(alloc);
+    let programs = tree.programs.as_slice();
+    for k in 0..programs.len() {
+        let row = program_naming(alloc, k, &programs[k], symbols)?;
+        rows.push(Seq::new(row))?;
+    }
+    Ok(rows)
+}
+
+// ---- the programs that are reached
+
+/// Puts a program behind the others, where it is new. A number of no program is passed over.
+fn meet(q: usize, seen: &mut Vec<bool>, queue: &mut Vec<usize>) -> Done
+    requires marked { IsMarked seen.old.items queue.old.items }
+    ensures queue { OnOk result (queue.new.items ≡ met (length seen.old.items) queue.old.items q) }
+    ensures marked { OnOk result (IsMarked seen.new.items queue.new.items) }
+    ensures len { OnOk result (length seen.new.items ≡ length seen.old.items) }
+{
+    if q < seen.len() && !seen[q] {
+        queue.push(q)?;
+        seen[q] = true;
+    }
+    Ok(())
+}
+
+fn meet_all(qs: &[Naming], seen: &mut Vec<bool>, queue: &mut Vec<usize>) -> Done
+    requires marked { IsMarked seen.old.items queue.old.items }
+    ensures queue { OnOk result (queue.new.items ≡ fold (met (length seen.old.items)) queue.old.items (targets qs.now)) }
+    ensures marked { OnOk result (IsMarked seen.new.items queue.new.items) }
+    ensures len { OnOk result (length seen.new.items ≡ length seen.old.items) }
+{
+    for k in 0..qs.len() {
+        meet(qs[k].1, seen, queue)?;
+    }
+    Ok(())
+}
+
+/// The programs that the modes of a program name.
+fn named_by<'a>(rows: &'a [NamingRow], p: usize) -> &'a [Naming]
+    ensures { targets result.now ≡ named_by (graph_by rows.now) p }
+{
+    if p < rows.len() {
+        rows[p].as_slice()
+    } else {
+        &[]
+    }
+}
+
+/// Meets what the program at a place of the list names.
+fn ask(rows: &[NamingRow], i: usize, seen: &mut Vec<bool>, queue: &mut Vec<usize>) -> Done
+    requires marked { IsMarked seen.old.items queue.old.items }
+    requires len { length seen.old.items ≡ length (graph_by rows.now) }
+    ensures queue { OnOk result (queue.new.items ≡ met_by (graph_by rows.now) queue.old.items (slice_get queue.old.items i)) }
+    ensures marked { OnOk result (IsMarked seen.new.items queue.new.items) }
+    ensures len { OnOk result (length seen.new.items ≡ length seen.old.items) }
+{
+    if i >= queue.len() {
+        return Ok(());
+    }
+    let p = queue[i];
+    meet_all(named_by(rows, p), seen, queue)
+}
+
+/// Marks the programs that are reached from the root. Each program is asked once.
+pub(crate) fn reach(alloc: Global, rows: &[NamingRow]) -> Result<Vec<bool>, AllocError>
+    requires some { 0 < length rows.now }
+    ensures { IfOk result (λ v. MarksReached (graph_by rows.now) v.items) }
+{
+    let mut seen = vec![in alloc; false; rows.len()]?;
+    let mut queue = Vec::new(alloc);
+    meet(0, &mut seen, &mut queue)?;
+    for i in 0..rows.len() {
+        ask(rows, i, &mut seen, &mut queue)?;
+    }
+    Ok(seen)
+}
+
+// ---- the tree of programs
 
 /// Counts one more naming of a program. A number of no program is passed over.
 fn count(q: usize, counts: &mut Vec<u8>)

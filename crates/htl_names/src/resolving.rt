@@ -5,22 +5,18 @@ ghost use Rattle.htl_model.specs.Small.{AreSmall};
 ghost use Rattle.htl_text.specs.Nodes.{tree_of};
 ghost use Rattle.htl_names.specs.Conditions.{MeetsBounds};
 ghost use Rattle.htl_names.specs.Flat.{symbols_of};
-ghost use Rattle.htl_names.specs.NameRules.{RepeatedName, AreNamesRight, IsResolved};
+ghost use Rattle.htl_names.specs.NameRules.{AreNamesRight, IsResolved};
 ghost use Rattle.htl_names.specs.Rows.{rows as rows_in};
-ghost use Rattle.htl_names.specs.Told.{IsKept, IsTold, IsJudged};
+ghost use Rattle.htl_names.specs.Told.{KeptBelow, IsRefusal, IsJudged};
 
 use crate::fault::NameFault;
-use crate::flat::parts_of;
-use crate::graph::naming_rows;
-use crate::kinds::first_wrong_kind;
 use crate::limits::{Excess, first_exceeded};
 use crate::order::layout_of;
-use crate::parents::first_orphan;
-use crate::programs::{first_misplaced, refined_modes};
-use crate::repeats::{Declared, declare};
+use crate::programs::{first_misplaced, naming_rows, refined_modes};
 use crate::rows::Rows;
-use crate::symbols::Symbols;
-use crate::uses::first_unknown;
+use crate::rules::{first_orphan, first_unknown, first_wrong_kind};
+use crate::symbols::{Declared, Symbols, declare};
+use crate::tables::parts_of;
 use crate::walk::rows_of;
 use htl_model::Tables;
 use htl_text::Tree;
@@ -57,32 +53,34 @@ struct Names {
     symbols: Symbols,
 }
 
+// The rules on single rows, the first three.
 fn names_of(alloc: Global, tree: &Tree) -> Result<Names, NameFault>
     ensures { MatchResult result
-        (λ n. (n.rows ≡ rows_in (tree_of tree.now)) × (n.symbols ≡ symbols_of (tree_of tree.now)) × IsKept (tree_of tree.now) RepeatedName)
-        (IsTold (tree_of tree.now) RepeatedName) }
+        (λ n. (n.rows ≡ rows_in (tree_of tree.now)) × (n.symbols ≡ symbols_of (tree_of tree.now)) × KeptBelow (tree_of tree.now) 4)
+        (IsRefusal (tree_of tree.now)) }
 {
     let rows = rows_of(alloc, tree)?;
-    match declare(alloc, rows.entries.as_slice())? {
-        Declared::Apart { symbols } => Ok(Names { rows, symbols }),
-        Declared::Repeated { token } => Err(NameFault::Twice { token }),
-    }
-}
-
-// The rules after the first, in their order.
-fn check(alloc: Global, tree: &Tree, rows: &Rows, symbols: &Symbols) -> Result<(), NameFault>
-    requires bounds { MeetsBounds (tree_of tree.now) }
-    requires rows { rows.now ≡ rows_in (tree_of tree.now) }
-    requires symbols { symbols.now ≡ symbols_of (tree_of tree.now) }
-    requires apart { IsKept (tree_of tree.now) RepeatedName }
-    ensures { IsJudged (tree_of tree.now) result }
-{
-    if let Some(token) = first_unknown(rows.uses.as_slice(), symbols) {
+    let symbols = match declare(alloc, rows.entries.as_slice())? {
+        Declared::Apart { symbols } => symbols,
+        Declared::Repeated { token } => return Err(NameFault::Twice { token }),
+    };
+    if let Some(token) = first_unknown(rows.uses.as_slice(), &symbols) {
         return Err(NameFault::Unknown { token });
     }
     if let Some(token) = first_wrong_kind(rows.kinds.as_slice()) {
         return Err(NameFault::Kind { token });
     }
+    Ok(Names { rows, symbols })
+}
+
+// The rules on the tree of programs, and the limits.
+fn check(alloc: Global, tree: &Tree, rows: &Rows, symbols: &Symbols) -> Result<(), NameFault>
+    requires bounds { MeetsBounds (tree_of tree.now) }
+    requires rows { rows.now ≡ rows_in (tree_of tree.now) }
+    requires symbols { symbols.now ≡ symbols_of (tree_of tree.now) }
+    requires kept { KeptBelow (tree_of tree.now) 4 }
+    ensures { IsJudged (tree_of tree.now) result }
+{
     let namings = naming_rows(alloc, tree, symbols)?;
     if let Some(program) = first_misplaced(alloc, namings.as_slice())? {
         return Err(NameFault::NotATree { program });

@@ -3,11 +3,11 @@ ghost use Rattle.std.specs.Prelude.{◌≡◌, ◌≤◌, ◌^◌, ◌-◌, ◌�
 ghost use Rattle.htl_text.specs.Bounds.{names_of};
 ghost use Rattle.htl_names.specs.Entries.{entry};
 ghost use Rattle.htl_names.specs.Rows.{joined, declaring, using, judging, refining, judged_of};
-ghost use Rattle.htl_names.specs.Uses.{usage};
-ghost use Rattle.htl_names.specs.Unknowns.{use_in};
+ghost use Rattle.htl_names.specs.Keys.{key_in};
+ghost use Rattle.htl_names.specs.Uses.{usage, use_in};
 
 use crate::Done;
-use crate::key::{Entry, Key, Space, Use};
+use crate::key::{Entry, Scope, Use};
 use htl_base::Ty;
 use htl_text::{ConstNode, Expression, Id, Node, Num};
 use std::alloc::Global;
@@ -40,16 +40,6 @@ pub enum Judged {
 pub struct ParentName {
     pub program: usize,
     pub id: Id,
-}
-
-/// The list in which the names of an expression are looked up, and a bound for the places of its items.
-#[derive(Clone, Copy)]
-pub struct Scope {
-    pub space: Space,
-    pub program: usize,
-    pub module: usize,
-    pub item: usize,
-    pub below: Option<usize>,
 }
 
 /// The names that a source declares, those that it uses, its values and numbers, and the names after `parent`, each
@@ -90,12 +80,12 @@ impl Rows {
     }
 
     /// A name that is declared, and its place in its list.
-    pub fn declare(&mut self, key: Key, number: usize, id: &Id) -> Done
-        ensures rows { OnOk result (self.new ≡ joined self.old (declaring (entry key number id.now ∷ []))) }
+    pub fn declare(&mut self, scope: Scope, number: usize, id: &Id) -> Done
+        ensures rows { OnOk result (self.new ≡ joined self.old (declaring (entry (key_in scope id.now.name) number id.now ∷ []))) }
         ensures few { OnOk result (length self.new.entries ≤ 2 ^ 63 - 1) }
     {
         self.entries.push(Entry {
-            key,
+            key: scope.key(id.name),
             number,
             token: id.token,
         })?;
@@ -103,22 +93,17 @@ impl Rows {
     }
 
     /// A name that is used for any item of its list.
-    pub fn mention(&mut self, key: Key, id: &Id) -> Done
-        ensures { OnOk result (self.new ≡ joined self.old (using (usage key id.now ∷ []))) }
+    pub fn mention(&mut self, scope: Scope, id: &Id) -> Done
+        ensures { OnOk result (self.new ≡ joined self.old (using (usage (key_in scope id.now.name) id.now ∷ []))) }
     {
-        self.uses.push(Use {
-            key,
-            below: None,
-            token: id.token,
-        })?;
-        Ok(())
+        put_name(scope, None, id, &mut self.uses)
     }
 
-    /// The names of an expression.
-    pub fn mention_all(&mut self, scope: &Scope, e: &Expression) -> Done
-        ensures { OnOk result (self.new ≡ joined self.old (using (map (use_in scope.now) (names_of e.now)))) }
+    /// The names of an expression, each of an item at a place below the bound.
+    pub fn mention_all(&mut self, scope: Scope, below: Option<usize>, e: &Expression) -> Done
+        ensures { OnOk result (self.new ≡ joined self.old (using (map (use_in scope below) (names_of e.now)))) }
     {
-        put_names(scope, e, &mut self.uses)
+        put_names(scope, below, e, &mut self.uses)
     }
 
     /// A value or number.
@@ -138,30 +123,24 @@ impl Rows {
     }
 }
 
-fn put_names(scope: &Scope, e: &Expression, into: &mut Vec<Use>) -> Done
-    ensures { OnOk result (into.new.items ≡ into.old.items ++ map (use_in scope.now) (names_of e.now)) }
+fn put_names(scope: Scope, below: Option<usize>, e: &Expression, into: &mut Vec<Use>) -> Done
+    ensures { OnOk result (into.new.items ≡ into.old.items ++ map (use_in scope below) (names_of e.now)) }
 {
     let nodes = e.nodes();
     for k in 0..nodes.len() {
         if let Node::Named { id } = &nodes[k] {
-            put_name(scope, id, into)?;
+            put_name(scope, below, id, into)?;
         }
     }
     Ok(())
 }
 
-fn put_name(scope: &Scope, id: &Id, into: &mut Vec<Use>) -> Done
-    ensures { OnOk result (into.new.items ≡ into.old.items ++ use_in scope.now id.now ∷ []) }
+fn put_name(scope: Scope, below: Option<usize>, id: &Id, into: &mut Vec<Use>) -> Done
+    ensures { OnOk result (into.new.items ≡ into.old.items ++ use_in scope below id.now ∷ []) }
 {
     into.push(Use {
-        key: Key {
-            space: scope.space,
-            program: scope.program,
-            module: scope.module,
-            item: scope.item,
-            name: id.name,
-        },
-        below: scope.below,
+        key: scope.key(id.name),
+        below,
         token: id.token,
     })?;
     Ok(())

@@ -6,12 +6,10 @@ ghost use Rattle.htl_text.specs.Nodes.{tree_of, switch_of};
 ghost use Rattle.htl_names.specs.Lists.{with_new};
 ghost use Rattle.htl_names.specs.Flat.{comms_in, switch_function, mode_functions, mode_switch_items, switch_items};
 
-use crate::at::switches_at;
-use crate::formulas::{Reads, formula};
-use crate::numbers::{modes_before, module_number};
-use crate::place::ModeAt;
-use crate::source::Source;
-use crate::spaces::{comm_key, mode_key};
+use crate::functions::{Reads, formula};
+use crate::key::Space;
+use crate::place::{ModeAt, modes_before, module_number, switches_at};
+use crate::tables::Source;
 use htl_base::Seq;
 use htl_model::{Function, Switch};
 use htl_text::{Expression, Node, SwitchNode};
@@ -57,15 +55,15 @@ fn put_mode(
 {
     let module = module_number(source.layout, at.program, at.module);
     let first = modes_before(source, module);
+    let modes = Space::Modes.of(at.program, at.module, 0);
     let nodes = switches_at(source.tree, at);
     for k in 0..nodes.len() {
-        let target = mode_key(at.program, at.module, nodes[k].target.name);
         let comms = comms_in(source, &nodes[k].cond)?;
         let function = condition(source, comms.as_slice(), &nodes[k])?;
         into.functions.push(function)?;
         into.items.push(Switch {
             mode: mode as u16,
-            target: (first + source.layout.meaning(&target)) as u16,
+            target: (first + source.layout.meaning(modes, nodes[k].target.name)) as u16,
             reads: Seq::new(comms),
         })?;
     }
@@ -91,11 +89,15 @@ fn condition(source: &Source<'_>, comms: &[u16], node: &SwitchNode) -> Result<Fu
 fn comms_in(source: &Source<'_>, e: &Expression) -> Result<Vec<u16>, AllocError>
     ensures { IfOk result (λ v. v.items ≡ comms_in source.now.layout.now e.now) }
 {
+    let layout = source.layout;
     let mut comms = Vec::new(source.alloc);
     let nodes = e.nodes();
     for k in 0..nodes.len() {
         if let Node::Named { id } = &nodes[k] {
-            put_comm(source.layout.meaning(&comm_key(id.name)) as u16, &mut comms)?;
+            put_comm(
+                layout.meaning(Space::Comms.of(0, 0, 0), id.name) as u16,
+                &mut comms,
+            )?;
         }
     }
     Ok(comms)

@@ -8,10 +8,7 @@ ghost use Rattle.htl_names.specs.Uses.{program_use, switch_uses};
 
 use crate::Done;
 use crate::key::Space;
-use crate::rows::{Judged, Rows, Scope};
-use crate::spaces::{
-    comm_key, invoke_key, mode_key, module_key, param_key, port_key, program_key, task_key,
-};
+use crate::rows::{Judged, Rows};
 use htl_text::{
     CommNode, EndNode, Id, InvokeNode, ModeNode, ModuleNode, OutNode, OutNodes, ParamNode,
     ProgramNode, SwitchNode, TaskNode, Tree,
@@ -46,7 +43,7 @@ fn add_program(p: usize, first: usize, program: &ProgramNode, into: &mut Rows) -
     ensures rows { OnOk result (into.new ≡ joined into.old (rows.program_rows p first (program_of program.now))) }
     ensures few { OnOk result (first ≤ 2 ^ 63 - 1) }
 {
-    into.declare(program_key(program.name.name), p, &program.name)?;
+    into.declare(Space::Programs.of(0, 0, 0), p, &program.name)?;
     add_comms(first, program.comms.as_slice(), into)?;
     add_modules(p, program.modules.as_slice(), into)
 }
@@ -64,7 +61,7 @@ fn add_comms(first: usize, comms: &[CommNode], into: &mut Rows) -> Done
 fn add_comm(c: usize, comm: &CommNode, into: &mut Rows) -> Done
     ensures { OnOk result (into.new ≡ joined into.old (rows.comm_rows c comm.now)) }
 {
-    into.declare(comm_key(comm.name.name), c, &comm.name)?;
+    into.declare(Space::Comms.of(0, 0, 0), c, &comm.name)?;
     into.judge(Judged::Span { n: comm.period })?;
     into.judge(Judged::Initial {
         wanted: comm.ty,
@@ -84,8 +81,8 @@ fn add_modules(p: usize, modules: &[ModuleNode], into: &mut Rows) -> Done
 fn add_module(p: usize, u: usize, module: &ModuleNode, into: &mut Rows) -> Done
     ensures { OnOk result (into.new ≡ joined into.old (rows.module_rows p u (module_of «module».now))) }
 {
-    into.declare(module_key(module.name.name), u, &module.name)?;
-    into.mention(mode_key(p, u, module.start.name), &module.start)?;
+    into.declare(Space::Modules.of(0, 0, 0), u, &module.name)?;
+    into.mention(Space::Modes.of(p, u, 0), &module.start)?;
     add_tasks(p, u, module.tasks.as_slice(), into)?;
     add_modes(p, u, module.modes.as_slice(), into)
 }
@@ -105,7 +102,7 @@ fn add_task(p: usize, u: usize, k: usize, task: &TaskNode, into: &mut Rows) -> D
     ensures { OnOk result (into.new ≡ joined into.old (rows.task_rows p u k (task_of task.now))) }
 {
     let inputs = task.inputs.as_slice();
-    into.declare(task_key(p, u, task.name.name), k, &task.name)?;
+    into.declare(Space::Tasks.of(p, u, 0), k, &task.name)?;
     into.judge(Judged::Span { n: task.worst })?;
     add_params(p, u, k, 0, inputs, into)?;
     add_outputs(p, u, k, inputs.len(), &task.outputs, into)
@@ -125,7 +122,7 @@ fn add_params(
 {
     for j in 0..params.len() {
         let name = &params[j].name;
-        into.declare(param_key(p, u, k, name.name), first + j, name)?;
+        into.declare(Space::Params.of(p, u, k), first + j, name)?;
     }
     Ok(())
 }
@@ -153,18 +150,12 @@ fn add_outs(p: usize, u: usize, k: usize, inputs: usize, outs: &[OutNode], into:
     requires { inputs ≤ 2 ^ 63 - 1 }
     ensures { OnOk result (into.new ≡ joined into.old (rows.outs_rows p u k inputs inputs (map out_of outs.now))) }
 {
-    let scope = Scope {
-        space: Space::Params,
-        program: p,
-        module: u,
-        item: k,
-        below: Some(inputs),
-    };
+    let scope = Space::Params.of(p, u, k);
     for j in 0..outs.len() {
         let out = &outs[j];
         let name = &out.param.name;
-        into.declare(param_key(p, u, k, name.name), inputs + j, name)?;
-        into.mention_all(&scope, &out.value)?;
+        into.declare(scope, inputs + j, name)?;
+        into.mention_all(scope, Some(inputs), &out.value)?;
     }
     Ok(())
 }
@@ -183,7 +174,7 @@ fn add_modes(p: usize, u: usize, modes: &[ModeNode], into: &mut Rows) -> Done
 fn add_mode(p: usize, u: usize, m: usize, mode: &ModeNode, into: &mut Rows) -> Done
     ensures { OnOk result (into.new ≡ joined into.old (rows.mode_rows p u m (mode_of mode.now))) }
 {
-    into.declare(mode_key(p, u, mode.name.name), m, &mode.name)?;
+    into.declare(Space::Modes.of(p, u, 0), m, &mode.name)?;
     into.judge(Judged::Span { n: mode.period })?;
     add_head(&mode.program, into)?;
     add_ports(p, u, m, mode.ports.as_slice(), into)?;
@@ -197,7 +188,7 @@ fn add_head(program: &Option<Id>, into: &mut Rows) -> Done
 {
     match program {
         None => Ok(()),
-        Some(id) => into.mention(program_key(id.name), id),
+        Some(id) => into.mention(Space::Programs.of(0, 0, 0), id),
     }
 }
 
@@ -206,7 +197,7 @@ fn add_ports(p: usize, u: usize, m: usize, ports: &[ParamNode], into: &mut Rows)
 {
     for j in 0..ports.len() {
         let name = &ports[j].name;
-        into.declare(port_key(p, u, m, name.name), j, name)?;
+        into.declare(Space::Ports.of(p, u, m), j, name)?;
     }
     Ok(())
 }
@@ -224,8 +215,8 @@ fn add_invoke(p: usize, u: usize, m: usize, j: usize, invoke: &InvokeNode, into:
     ensures { OnOk result (into.new ≡ joined into.old (rows.invoke_rows p u m j invoke.now)) }
 {
     let name = invoke.task.name;
-    into.declare(invoke_key(p, u, m, name), j, &invoke.task)?;
-    into.mention(task_key(p, u, name), &invoke.task)?;
+    into.declare(Space::Invokes.of(p, u, m), j, &invoke.task)?;
+    into.mention(Space::Tasks.of(p, u, 0), &invoke.task)?;
     add_ends(p, u, m, invoke.reads.as_slice(), into)?;
     add_ends(p, u, m, invoke.writes.as_slice(), into)?;
     add_parent(p, invoke, into)
@@ -254,10 +245,10 @@ fn add_end(p: usize, u: usize, m: usize, end: &EndNode, into: &mut Rows) -> Done
 {
     match end {
         EndNode::Comm { comm, instance } => {
-            into.mention(comm_key(comm.name), comm)?;
+            into.mention(Space::Comms.of(0, 0, 0), comm)?;
             into.judge(Judged::Instance { n: *instance })
         }
-        EndNode::Port { port } => into.mention(port_key(p, u, m, port.name), port),
+        EndNode::Port { port } => into.mention(Space::Ports.of(p, u, m), port),
     }
 }
 
@@ -274,13 +265,6 @@ fn add_switches(p: usize, u: usize, switches: &[SwitchNode], into: &mut Rows) ->
 fn add_switch(p: usize, u: usize, switch: &SwitchNode, into: &mut Rows) -> Done
     ensures { OnOk result (into.new ≡ joined into.old (using (switch_uses p u (switch_of switch.now)))) }
 {
-    let comms = Scope {
-        space: Space::Comms,
-        program: 0,
-        module: 0,
-        item: 0,
-        below: None,
-    };
-    into.mention_all(&comms, &switch.cond)?;
-    into.mention(mode_key(p, u, switch.target.name), &switch.target)
+    into.mention_all(Space::Comms.of(0, 0, 0), None, &switch.cond)?;
+    into.mention(Space::Modes.of(p, u, 0), &switch.target)
 }

@@ -4,7 +4,7 @@ use Rattle.std.specs.Prelude.{codes}
 use Rattle.htl_base.specs.declared.Ty.TheVariants.{Int}
 use Rattle.htl_model.specs.declared.parts.Inv.{Inv}
 use Rattle.htl_model.specs.declared.parts.Mode.{Mode}
-use Rattle.htl_object.specs.Files.{first_bad, is_selections}
+use Rattle.htl_object.specs.Files.{first_bad, is_node_count}
 use Rattle.htl_object.specs.Invocations.{is_inv_mode}
 use Rattle.htl_object.specs.Modes.{mode_at}
 use Rattle.htl_object.specs.Objects.{object_bytes, object_in}
@@ -140,5 +140,5 @@ the_128th = refl
 the_129th : is_inv_mode 1 (replicate 128 invocation) 0 ≡ false
 the_129th = refl
 
-no_modules : is_selections [] [] [] 0 ≡ true
+no_modules : is_node_count of_one_comm.tables 0 ≡ true
 no_modules = refl

@@ -27,8 +27,9 @@ use Rattle.htl_object.specs.Ports.{port_bytes, task_bytes}
 use Rattle.htl_object.specs.Invocations.{inv_bytes, switch_bytes}
 use Rattle.htl_object.specs.Instructions.{code_bytes, s_bytes}
 use Rattle.htl_object.specs.Items.{Fits16}
-use Rattle.htl_object.specs.Files.{counts_of, counts_bytes, counts_at, AreCounts, anchors_bytes, anchors_at, AreAnchors, is_selections, e_code_bytes, e_code_at, IsECode, function_count, file_bytes, file_at, IsFile, IsFileInRange, whole_at, fault_of, first_bad}
-use Rattle.htl_object.specs.Versions.{head_bytes, tail_bytes}
+use Rattle.htl_object.specs.Files.{counts_of, counts_bytes, counts_at, AreCounts, anchors_bytes, anchors_at, AreAnchors, is_node_count, e_code_bytes, e_code_at, IsECode, function_count, front_bytes, front_at, IsFront, IsFrontInRange, with_schedules, file_bytes, file_at, IsFileInRange, whole_at, fault_of, first_bad}
+use Rattle.htl_object.specs.Lists.{tables_of_lists}
+use Rattle.htl_object.specs.Versions.{head_bytes}
 use Rattle.htl_object.proofs.VersionLaws.{head, tail}
 use Rattle.htl_object.proofs.Lawful.{IsCodec, Taken, given-value, needed, bound, field, last, checked, counted, items, whole}
 use Rattle.htl_object.proofs.FieldLaws.{number16, number32}
@@ -63,7 +64,7 @@ anchors =
 e_code : IsCodec e_code_bytes IsECode e_code_at
 e_code = counted number32 (λ _. e_instr)
 
--- ---- the whole
+-- ---- what stands before the schedules
 
 counts-same : (n : Counts) (a b c d e f g : ℕ) → a ≡ n.comms → b ≡ n.modes → c ≡ n.modules → d ≡ n.ports → e ≡ n.tasks → f ≡ n.invs → g ≡ n.switches
     → n ≡ make_counts (a, (b, (c, (d, (e, (f, g))))))
@@ -77,17 +78,20 @@ counts-same n a b c d e f g ea eb ec ed ee ef eg =
     ∙ ap (λ (x : ℕ). make_counts (a, (b, (c, (d, (e, (f, x))))))) (sym eg)
 
 abbrev Parts : Type 0
-Parts = Option (List ℕ) × (Counts × (List Comm × (List Mode × (List Module × (List Port × (List Task × (List Inv × (List Switch × (List Code × (List Anchors × (List EInstr × List Schedule)))))))))))
+Parts = Option (List ℕ) × (Counts × (List Comm × (List Mode × (List Module × (List Port × (List Task × (List Inv × (List Switch × (List Code × (List Anchors × List EInstr))))))))))
 
 abbrev make_lists : Parts → Lists
-make_lists p = record { comms = p.1.1.0; modes = p.1.1.1.0; modules = p.1.1.1.1.0; ports = p.1.1.1.1.1.0; tasks = p.1.1.1.1.1.1.0; invs = p.1.1.1.1.1.1.1.0; switches = p.1.1.1.1.1.1.1.1.0; functions = p.1.1.1.1.1.1.1.1.1.0; anchors = p.1.1.1.1.1.1.1.1.1.1.0; instrs = p.1.1.1.1.1.1.1.1.1.1.1.0; schedules = p.1.1.1.1.1.1.1.1.1.1.1.1; platform = p.0 }
+make_lists p = record { comms = p.1.1.0; modes = p.1.1.1.0; modules = p.1.1.1.1.0; ports = p.1.1.1.1.1.0; tasks = p.1.1.1.1.1.1.0; invs = p.1.1.1.1.1.1.1.0; switches = p.1.1.1.1.1.1.1.1.0; functions = p.1.1.1.1.1.1.1.1.1.0; anchors = p.1.1.1.1.1.1.1.1.1.1.0; instrs = p.1.1.1.1.1.1.1.1.1.1.1; schedules = []; platform = p.0 }
 
 abbrev parts_of : Lists → Parts
-parts_of o = (o.platform, (counts_of o, (o.comms, (o.modes, (o.modules, (o.ports, (o.tasks, (o.invs, (o.switches, (o.functions, (o.anchors, (o.instrs, o.schedules))))))))))))
+parts_of o = (o.platform, (counts_of o, (o.comms, (o.modes, (o.modules, (o.ports, (o.tasks, (o.invs, (o.switches, (o.functions, (o.anchors, o.instrs)))))))))))
 
-object : IsCodec file_bytes IsFileInRange file_at
-object =
-    whole make_lists parts_of file_bytes IsFileInRange
+abbrev IsFrontAlone : Lists → Type 0
+IsFrontAlone o = IsFrontInRange o × (o.schedules ≡ [])
+
+pub front : IsCodec front_bytes IsFrontAlone front_at
+front =
+    whole make_lists parts_of front_bytes IsFrontAlone
     (field head (λ _ platform. field counts (λ _ n.
     field (items comm n.comms []) (λ _ _.
     field (items (mode n.modules) n.modes []) (λ _ modes.
@@ -98,17 +102,51 @@ object =
     field (items (switch n.comms modes) n.switches []) (λ _ _.
     field (items (λ _. code) (function_count tasks n.switches) []) (λ _ _.
     field (items (λ _. anchors) n.modes []) (λ _ _.
-    field e_code (λ _ _.
-    last (tail platform (is_selections modes modules invs)))))))))))))))
-    (λ o f. (refl, refl, (f.platform, (f.counts, ((refl, f.comms), ((refl, f.modes), ((refl, f.modules), ((refl, f.ports), ((refl, f.tasks), ((refl, f.invs), ((refl, f.switches), ((f.function_count, f.functions), ((f.anchor_count, f.anchors), (f.instrs, (f.schedule_count, f.schedules)))))))))))))))
+    last e_code))))))))))))
+    (λ o h.
+    let f = h.0 in
+    (ap (with_schedules o) (sym h.1), refl, (f.platform, (f.counts, ((refl, f.comms), ((refl, f.modes), ((refl, f.modules), ((refl, f.ports), ((refl, f.tasks), ((refl, f.invs), ((refl, f.switches), ((f.function_count, f.functions), ((f.anchor_count, f.anchors), f.instrs)))))))))))))
     (λ p f.
     let n = p.1.0 in
     let o = make_lists p in
     let same : n ≡ counts_of o = counts-same n (length o.comms) (length o.modes) (length o.modules) (length o.ports) (length o.tasks) (length o.invs) (length o.switches)
     f.1.1.0.0 f.1.1.1.0.0 f.1.1.1.1.0.0 f.1.1.1.1.1.0.0 f.1.1.1.1.1.1.0.0 f.1.1.1.1.1.1.1.0.0 f.1.1.1.1.1.1.1.1.0.0 in
-    let is : IsFile n o = record { counts = f.1.0; comms = f.1.1.0.1; modes = f.1.1.1.0.1; modules = f.1.1.1.1.0.1; ports = f.1.1.1.1.1.0.1; tasks = f.1.1.1.1.1.1.0.1; invs = f.1.1.1.1.1.1.1.0.1; switches = f.1.1.1.1.1.1.1.1.0.1; function_count = f.1.1.1.1.1.1.1.1.1.0.0; functions = f.1.1.1.1.1.1.1.1.1.0.1; anchor_count = f.1.1.1.1.1.1.1.1.1.1.0.0; anchors = f.1.1.1.1.1.1.1.1.1.1.0.1; instrs = f.1.1.1.1.1.1.1.1.1.1.1.0; schedule_count = f.1.1.1.1.1.1.1.1.1.1.1.1.0; schedules = f.1.1.1.1.1.1.1.1.1.1.1.1.1; platform = f.0 } in
-    let rest = flat_map comm_bytes o.comms ++ (flat_map mode_bytes o.modes ++ (flat_map module_bytes o.modules ++ (flat_map port_bytes o.ports ++ (flat_map task_bytes o.tasks ++ (flat_map inv_bytes o.invs ++ (flat_map switch_bytes o.switches ++ (flat_map code_bytes o.functions ++ (flat_map anchors_bytes o.anchors ++ (e_code_bytes o.instrs ++ tail_bytes o.platform o.schedules))))))))) in
-    (ap (λ (m : Counts). head_bytes o.platform ++ (counts_bytes m ++ rest)) (sym same), subst (λ (m : Counts). IsFile m o) same is))
+    let is : IsFront n o = record { counts = f.1.0; comms = f.1.1.0.1; modes = f.1.1.1.0.1; modules = f.1.1.1.1.0.1; ports = f.1.1.1.1.1.0.1; tasks = f.1.1.1.1.1.1.0.1; invs = f.1.1.1.1.1.1.1.0.1; switches = f.1.1.1.1.1.1.1.1.0.1; function_count = f.1.1.1.1.1.1.1.1.1.0.0; functions = f.1.1.1.1.1.1.1.1.1.0.1; anchor_count = f.1.1.1.1.1.1.1.1.1.1.0.0; anchors = f.1.1.1.1.1.1.1.1.1.1.0.1; instrs = f.1.1.1.1.1.1.1.1.1.1.1; platform = f.0 } in
+    let rest = flat_map comm_bytes o.comms ++ (flat_map mode_bytes o.modes ++ (flat_map module_bytes o.modules ++ (flat_map port_bytes o.ports ++ (flat_map task_bytes o.tasks ++ (flat_map inv_bytes o.invs ++ (flat_map switch_bytes o.switches ++ (flat_map code_bytes o.functions ++ (flat_map anchors_bytes o.anchors ++ e_code_bytes o.instrs)))))))) in
+    (ap (λ (m : Counts). head_bytes o.platform ++ (counts_bytes m ++ rest)) (sym same), (subst (λ (m : Counts). IsFront m o) same is, refl)))
+
+-- ---- the whole
+
+-- schedules don't matter to what stands before them
+moved : (n : Counts) (o : Lists) (ss : List Schedule) → IsFront n o → IsFront n (with_schedules o ss)
+moved n o ss f =
+    record {
+      counts = f.counts;
+      comms = f.comms;
+      modes = f.modes;
+      modules = f.modules;
+      ports = f.ports;
+      tasks = f.tasks;
+      invs = f.invs;
+      switches = f.switches;
+      function_count = f.function_count;
+      functions = f.functions;
+      anchor_count = f.anchor_count;
+      anchors = f.anchors;
+      instrs = f.instrs;
+      platform = f.platform;
+    }
+
+object : IsCodec file_bytes IsFileInRange file_at
+object =
+    whole (λ (p : Lists × List Schedule). with_schedules p.0 p.1) (λ o. (with_schedules o [], o.schedules)) file_bytes IsFileInRange
+    (field front (λ _ l. last (tail l.platform (is_node_count (tables_of_lists l)))))
+    (λ o f. (refl, refl, ((moved (counts_of o) o [] f.front, refl), (f.schedule_count, f.schedules))))
+    (λ p f. (refl, record { front = moved (counts_of p.0) p.0 p.1 f.0.0; schedule_count = f.1.0; schedules = f.1.1 }))
+
+-- what is read before the schedules is in range
+pub front-in-range : (bytes : List ℕ) (o : Lists) (rest : List ℕ) → IsBytes bytes → front_at bytes ≡ Ok (o, rest) → IsFrontInRange o
+front-in-range bytes o rest are e = let t = front.takes bytes o rest are e in subst IsFrontInRange t.made t.fit.0
 
 -- what is spelled is all read
 pub whole-again : (o : Lists) → IsFileInRange o → whole_at (file_bytes o) ≡ Ok (o, [])

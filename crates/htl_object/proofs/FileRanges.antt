@@ -31,16 +31,15 @@ use Rattle.htl_model.specs.declared.parts.Port.{Port}
 use Rattle.htl_model.specs.declared.parts.Switch.{Switch}
 use Rattle.htl_model.specs.declared.parts.Task.{Task}
 use Rattle.htl_object.proofs.Each.{all_at, each_of, every, none_before, last_least, length_take, get_take}
-use Rattle.htl_object.proofs.Limits.{selections_are}
+use Rattle.htl_object.proofs.NodeCounts.{nodes_few, node_count_so}
 use Rattle.htl_object.proofs.ListRanges.{both, counted, equal, itself, left, module_of_mode, right}
-use Rattle.htl_object.proofs.Listed.{all_codes}
-use Rattle.htl_object.proofs.Widest.{most_few}
+use Rattle.htl_object.proofs.Listed.{all_codes, object_again}
 use Rattle.htl_object.specs.Comms.{is_named_comm}
 use Rattle.htl_object.specs.Fields.{is_span, is_owner, is_of}
-use Rattle.htl_object.specs.Files.{AreAnchors, IsFileInRange, selections_to, positions_to, is_selections}
+use Rattle.htl_object.specs.Files.{AreAnchors, IsFrontInRange, IsFileInRange, is_node_count}
 use Rattle.htl_object.specs.Invocations.{is_parent, is_read, last_inv_mode, last_switch_mode}
 use Rattle.htl_object.specs.Items.{Each, Fits16, IsComm, IsMode, IsOption, IsModule, IsPort, AreTypes, IsTask, IsEnd, AreEnds, IsInv, IsSwitch, IsCode, IsEInstr, IsSInstr, IsFInstr}
-use Rattle.htl_object.specs.Lists.{codes_of, anchors_of, lists_of}
+use Rattle.htl_object.specs.Lists.{codes_of, anchors_of, lists_of, tables_of_lists}
 use Rattle.htl_object.specs.Modes.{is_named_mode, last_module}
 use Rattle.htl_object.specs.Modules.{is_named_module, is_mode_of, is_within as is_within_before}
 use Rattle.htl_object.specs.Objects.{HasWidths, KeepsFunction, IsObject}
@@ -340,20 +339,16 @@ module _ (o : Object) (h : IsObject o) where
         decide = h.types.decide k 0 (omega (arith, less, h.ranges.decide));
       })
 
-  schedule_count : Fits16 (is_selections o.tables.modes o.tables.modules o.tables.invs) (length o.schedules)
+  schedule_count : Fits16 (is_node_count (tables_of_lists (lists_of o))) (length o.schedules)
   schedule_count =
-      let n = length o.schedules in
-      let count = cond (eqb (length o.tables.modules) 0) 0 (selections_to o.tables.modes o.tables.modules (length o.tables.modules)) in
-      let same : n ≡ count = h.ranges.schedules ∙ sym (selections_are o.tables r) in
-      let few : n ≤ 1024 = omega (arith, h.ranges.schedules, h.ranges.limits.selections) in (
-        omega (arith, few),
-        both (eqb n count && nat_le n 1024) (nat_le (positions_to o.tables.modes o.tables.modules o.tables.invs (length o.tables.modules)) 128)
-            (both (eqb n count) (nat_le n 1024) (eq_test n count same) (le_test n 1024 few))
-            (le_test (positions_to o.tables.modes o.tables.modules o.tables.invs (length o.tables.modules)) 128 (most_few o.tables r h.ranges.limits)),
-      )
+      subst (λ (t : Tables). Fits16 (is_node_count t) (length o.schedules)) (sym (ap (λ (x : Object). x.tables) (object_again o h.ranges)))
+      (few, node_count_so o.tables (length o.schedules) r h.ranges.limits h.ranges.frames h.ranges.schedules)
+    where
+      few : length o.schedules < 65536
+      few = omega (arith, h.ranges.schedules, nodes_few o.tables r h.ranges.frames)
 
-  pub file_in_range : IsFileInRange (lists_of o)
-  file_in_range =
+  front_in_range : IsFrontInRange (lists_of o)
+  front_in_range =
       record {
         counts = record {
           comms = small (length o.tables.comms) 1024 (omega arith) r.few_comms;
@@ -376,7 +371,13 @@ module _ (o : Object) (h : IsObject o) where
         anchor_count = length-list_to (anchors_of o.ecode) (length o.tables.modes);
         anchors = each_of (λ _. AreAnchors) (list_to (anchors_of o.ecode) (length o.tables.modes)) anchors_fit;
         instrs = (omega (arith, h.ranges.few_instrs), each_of (λ _. IsEInstr) o.ecode.instrs (λ k i at. instr_fits i (all_at HasWidths o.ecode.instrs k i h.types.instrs at) (all_at IsPhased o.ecode.instrs k i h.ranges.phases at)));
+        platform = h.types.platform;
+      }
+
+  pub file_in_range : IsFileInRange (lists_of o)
+  file_in_range =
+      record {
+        front = front_in_range;
         schedule_count = schedule_count;
         schedules = each_of (λ _. IsSchedule) o.schedules (λ k s at. let short : length s.instrs ≤ 4294967295 = all_at IsShort o.schedules k s h.ranges.short at in (omega (arith, short), every IsSInstr s.instrs (all_at (λ (y : Schedule). All IsSInstr y.instrs) o.schedules k s h.types.schedules at)));
-        platform = h.types.platform;
       }

@@ -17,6 +17,8 @@ pub mod Each
 pub mod ListRanges
 pub mod Limits
 pub mod Widest
+pub mod NodeCounts
+pub mod OneRound
 pub mod Listed
 pub mod FileRanges
 pub mod Naming
@@ -27,3 +29,4 @@ pub mod Assembled
 pub mod FunctionPlaces
 pub mod Examples
 pub mod VersionExamples
+pub mod NodeExamples

@@ -7,10 +7,11 @@ use Rattle.std.proofs.lemmas.Bool.Decides.{nat_tests}
 use Rattle.std.proofs.lemmas.List.Sums.{sum_by-cons}
 use Rattle.std.proofs.lemmas.Option.{slice_get-get_or, slice_get_within}
 use Rattle.htl_object.specs.Modules.{is_mode_of}
-use Rattle.htl_object.specs.Files.{IsFileInRange, is_root as is_root_at, selections_to, widest_to, positions_to}
+use Rattle.htl_object.specs.Files.{IsFileInRange, is_root as is_root_at, selections_to, selections_of, widest_to, positions_to, is_node_count}
 use Rattle.htl_object.specs.declared.lists.Lists.{Lists}
 use Rattle.htl_model.proofs.SelectionLaws.{modes_some, no_modules}
 use Rattle.htl_model.specs.Broken.{KeepsLimits}
+use Rattle.htl_model.specs.Frames.{frame_limit, nodes}
 use Rattle.htl_model.specs.Lists.{places_from}
 use Rattle.htl_model.specs.Ranges.{AreInRange}
 use Rattle.htl_model.specs.Selections.{is_root, root_modules, mode_of_module, inv_of_mode, modes_of, invs_of, choices_from, selection_count, root_mode, positions}
@@ -134,11 +135,12 @@ module _ (t : Tables) (r : AreInRange t) (sel : ℕ) where
 
 -- ---- the law
 
-parts : (a b c : Bool) → (a && b && c) ≡ true → (a ≡ true) × (b ≡ true) × (c ≡ true)
-parts true true true h = (refl, refl, refl)
-parts true true false h = absurd (let z : ⊥ = cc in z)
-parts true false c h = absurd (let z : ⊥ = cc in z)
-parts false b c h = absurd (let z : ⊥ = cc in z)
+parts : (a b c d : Bool) → ((a && b) && (c && d)) ≡ true → (a ≡ true) × (b ≡ true) × (c ≡ true) × (d ≡ true)
+parts true true true true h = (refl, refl, refl, refl)
+parts true true true false h = absurd (let z : ⊥ = cc in z)
+parts true true false d h = absurd (let z : ⊥ = cc in z)
+parts true false c d h = absurd (let z : ⊥ = cc in z)
+parts false b c d h = absurd (let z : ⊥ = cc in z)
 
 pub count_some : (t : Tables) (roots : List ℕ) (u : ℕ) → slice_get roots 0 ≡ Some u → elim roots as (λ _. ℕ) [ [] ↦ 0 | k ∷ ks ↦ choices_from t 0 t.modules ] ≡ choices_from t 0 t.modules
 count_some t [] u e = cc
@@ -154,11 +156,11 @@ none_or n s h = let e : eqb n 0 ≡ true = grind (arith, nat_tests) in ap (λ (b
 some_or : (n s : ℕ) → 0 < n → cond (eqb n 0) 0 s ≡ s
 some_or n s h = let e : eqb n 0 ≡ false = grind (arith, nat_tests) in ap (λ (b : Bool). cond b 0 s) e
 
--- the count of the file is that of the tables
-pub selections_are : (t : Tables) → AreInRange t → cond (eqb (length t.modules) 0) 0 (selections_to t.modes t.modules (length t.modules)) ≡ selection_count t
+-- the count of selections is that of the tables
+pub selections_are : (t : Tables) → AreInRange t → selections_of t.modes t.modules ≡ selection_count t
 selections_are t r = by (slice_get (root_modules t) 0) refl
   where
-    by : (o : Option ℕ) → slice_get (root_modules t) 0 ≡ o → cond (eqb (length t.modules) 0) 0 (selections_to t.modes t.modules (length t.modules)) ≡ selection_count t
+    by : (o : Option ℕ) → slice_get (root_modules t) 0 ≡ o → selections_of t.modes t.modules ≡ selection_count t
     by None e = none_or (length t.modules) (selections_to t.modes t.modules (length t.modules)) (no_modules t t.modules r refl e) ∙ sym (count_none t (root_modules t) e)
     by (Some u) e =
         let p = place_passes is_root 0 0 u t.modules e in
@@ -169,20 +171,37 @@ selections_are t r = by (slice_get (root_modules t) 0) refl
         let one : choices_from t 0 t.modules * 1 ≡ choices_from t 0 t.modules = omega arith in
         some_or (length t.modules) (selections_to t.modes t.modules (length t.modules)) some ∙ sym same ∙ sym made ∙ one ∙ sym (count_some t (root_modules t) u e)
 
--- the schedules of the file are as many as the selections of the tables
-pub counted_schedules : (l : Lists) → IsFileInRange l → length l.schedules ≡ selection_count (tables_of_lists l)
-counted_schedules l h =
-    let count : ℕ = cond (eqb (length l.modules) 0) 0 (selections_to l.modes l.modules (length l.modules)) in
-    let p = parts (eqb (length l.schedules) count) (nat_le (length l.schedules) 1024) (nat_le (positions_to l.modes l.modules l.invs (length l.modules)) 128) h.schedule_count.1 in
-    equal (length l.schedules) count p.0 ∙ selections_are (tables_of_lists l) (lists_in_range l h)
+-- what a count of schedules says of the tables
+pub record IsCounted (t : Tables) (n : ℕ) : Type 0 where
+  pub selections : selections_of t.modes t.modules ≤ 1024
+  pub positions : positions_to t.modes t.modules t.invs (length t.modules) ≤ 128
+  pub frames : frame_limit t ≡ None
+  pub same : n ≡ nodes t
+
+pub counted_so : (t : Tables) (n : ℕ) → is_node_count t n ≡ true → IsCounted t n
+counted_so t n h =
+    let count : ℕ = selections_of t.modes t.modules in
+    let most : ℕ = positions_to t.modes t.modules t.invs (length t.modules) in
+    let p = parts (nat_le count 1024) (nat_le most 128) (is_none (frame_limit t)) (eqb n (nodes t)) h in
+    record { selections = at_most count 1024 p.0; positions = at_most most 128 p.1; frames = none_is (frame_limit t) p.2; same = equal n (nodes t) p.3 }
+  where
+    none_is : (o : Option (ℕ × (ℕ × ℕ))) → is_none o ≡ true → o ≡ None
+    none_is None e = refl
+    none_is (Some x) e = cc
+
+pub frames_kept : (l : Lists) → IsFileInRange l → frame_limit (tables_of_lists l) ≡ None
+frames_kept l h = (counted_so (tables_of_lists l) (length l.schedules) h.schedule_count.1).frames
+
+-- the schedules of the file are as many as the nodes of the tables
+pub counted_schedules : (l : Lists) → IsFileInRange l → length l.schedules ≡ nodes (tables_of_lists l)
+counted_schedules l h = (counted_so (tables_of_lists l) (length l.schedules) h.schedule_count.1).same
 
 pub lists_keep_limits : (l : Lists) → IsFileInRange l → KeepsLimits (tables_of_lists l)
 lists_keep_limits l h =
     let t : Tables = tables_of_lists l in
-    let n : ℕ = length l.schedules in
-    let count : ℕ = cond (eqb (length l.modules) 0) 0 (selections_to l.modes l.modules (length l.modules)) in
-    let p = parts (eqb n count) (nat_le n 1024) (nat_le (positions_to l.modes l.modules l.invs (length l.modules)) 128) h.schedule_count.1 in
+    let r : AreInRange t = lists_in_range l h.front in
+    let p = counted_so t (length l.schedules) h.schedule_count.1 in
     record {
-      selections = omega (arith, counted_schedules l h, at_most n 1024 p.1);
-      positions = λ sel less. omega (arith, positions_few t (lists_in_range l h) sel, at_most (positions_to l.modes l.modules l.invs (length l.modules)) 128 p.2);
+      selections = omega (arith, selections_are t r, p.selections);
+      positions = λ sel less. omega (arith, positions_few t r sel, p.positions);
     }

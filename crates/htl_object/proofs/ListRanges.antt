@@ -19,7 +19,7 @@ use Rattle.htl_object.specs.Modules.{is_named_module, is_mode_of, is_within as i
 use Rattle.htl_object.specs.Ports.{is_named_port, is_named_task, last_mode, last_owner}
 use Rattle.htl_object.specs.Invocations.{is_port_of, is_inv_task, is_parent, is_target, is_read, last_inv_mode, last_switch_mode}
 use Rattle.htl_object.specs.Instructions.{is_body}
-use Rattle.htl_object.specs.Files.{IsFileInRange}
+use Rattle.htl_object.specs.Files.{IsFrontInRange}
 use Rattle.htl_object.specs.Items.{Each, Fits16, IsComm, IsMode, IsModule, IsPort, IsTask, IsEnd, AreEnds, IsInv, IsSwitch, IsCode}
 use Rattle.htl_object.specs.declared.lists.Lists.{Lists}
 use Rattle.htl_model.specs.Ranges.{are_different_numbers, FitsType, IsSpan, IsCommInRange, IsModeInRange, IsModeThat, parent_of, is_within, IsPortInRange, IsTaskInRange, IsEndInRange, IsInvInRange, IsSwitchInRange, IsFunInRange, AreInRange}
@@ -248,7 +248,7 @@ counted (k ∷ ts) = let e = sum_by-cons (λ t. cond t.is_abstract 0 (length t.o
 
 -- ---- the law
 
-pub lists_in_range : (l : Lists) → IsFileInRange l → AreInRange (tables_of_lists l)
+pub lists_in_range : (l : Lists) → IsFrontInRange l → AreInRange (tables_of_lists l)
 lists_in_range l h =
     let t : Tables = tables_of_lists l in
     record {

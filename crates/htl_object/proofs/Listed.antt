@@ -87,7 +87,7 @@ pub lists_again : (l : Lists) → IsFileInRange l → lists_of (object_of_lists 
 lists_again l h =
     let make : List Code → List Anchors → Lists = λ cs anchors. record { comms = l.comms; modes = l.modes; modules = l.modules; ports = l.ports; tasks = l.tasks; invs = l.invs; switches = l.switches; functions = cs; anchors = anchors; instrs = l.instrs; schedules = l.schedules; platform = l.platform } in
     ap (λ cs. make cs (list_to (anchors_of (object_of_lists l).ecode) (length l.modes))) (codes_again l.functions)
-    ∙ ap (λ anchors. make l.functions anchors) (anchors_again l.anchors l.instrs (length l.modes) h.anchor_count)
+    ∙ ap (λ anchors. make l.functions anchors) (anchors_again l.anchors l.instrs (length l.modes) h.front.anchor_count)
 
 pub object_again : (o : Object) → IsInRange o → object_of_lists (lists_of o) ≡ o
 object_again o h =

@@ -18,18 +18,20 @@ use Rattle.htl_object.proofs.Each.{all_of}
 use Rattle.htl_object.proofs.FileLaws.{whole-again, whole-takes, one-file, no-bad-field}
 use Rattle.htl_object.proofs.FileRanges.{file_in_range}
 use Rattle.htl_object.proofs.Listed.{lists_again, object_again}
+use Rattle.htl_object.proofs.Lawful.{given-value}
 use Rattle.htl_object.proofs.ObjectRange.{lists_are_object}
-use Rattle.htl_object.specs.Files.{AreAnchors, IsFileInRange, file_bytes, whole_at}
+use Rattle.htl_object.specs.Files.{AreAnchors, IsFileInRange, file_bytes, first_bad, fault_of, malformed_at, whole_at}
 use Rattle.htl_object.specs.Schedules.{IsSchedule}
 use Rattle.htl_object.specs.Items.{Is32, IsComm, IsMode, IsModule, IsPort, IsTask, IsCode, IsEInstr, IsSInstr, IsFInstr}
 use Rattle.htl_object.specs.Laws.{OneSpelling, OneObject, NoBadField, SaysItself}
 use Rattle.htl_object.specs.Lists.{object_of_lists, lists_of}
-use Rattle.htl_object.specs.Objects.{HasWidths, KeepsFunction, KeepsTypes, IsObject, object_bytes, object_or, object_in, lists_or, IsRead, IsReadAs}
-use Rattle.htl_object.specs.Reading.{IsBytes, Read}
+use Rattle.htl_object.specs.Objects.{HasWidths, KeepsFunction, KeepsTypes, IsObject, object_bytes, object_or, object_in, object_at, IsDecoded, IsReadAs}
+use Rattle.htl_object.specs.Reading.{IsBytes, Read, ◌>>=◌}
 use Rattle.htl_object.specs.declared.decoding.DecodeFault.{DecodeFault}
 use Rattle.htl_object.specs.declared.decoding.DecodeFault.TheVariants as fault
 use Rattle.htl_object.specs.declared.lists.Anchors.{Anchors}
 use Rattle.htl_object.specs.declared.lists.Lists.{Lists}
+use Rattle.htl_object.specs.declared.malformed.Bad.{Bad}
 use Rattle.htl_object.specs.declared.malformed.Malformed.{Malformed}
 use Rattle.htl_object.specs.declared.object.Object.{Object}
 
@@ -51,18 +53,18 @@ has_widths I.Return h = tt
 keeps_types : (l : Lists) → IsFileInRange l → KeepsTypes (object_of_lists l)
 keeps_types l h =
     record {
-      comms = all_of IsComm (λ (y : Comm). (is_name y.name ≡ true) × FitsSigned w64 y.init) l.comms (λ b c f. (f.name, f.width)) h.comms;
-      modes = all_of (IsMode (length l.modules)) (λ (y : Mode). is_name y.name ≡ true) l.modes (λ b m f. f.name) h.modes;
-      modules = all_of (IsModule l.modes) (λ (y : Module). is_name y.name ≡ true) l.modules (λ b m f. f.name) h.modules;
-      ports = all_of (IsPort (length l.modes)) (λ (y : Port). is_name y.name ≡ true) l.ports (λ b m f. f.name) h.ports;
-      tasks = all_of (IsTask (length l.modules)) (λ (y : Task). is_name y.name ≡ true) l.tasks (λ b m f. f.name) h.tasks;
-      functions = All-map KeepsFunction (λ (c : Code). Compiled c) l.functions (all_of (λ _. IsCode) (λ (c : Code). All IsFInstr c.instrs) l.functions (λ b c f. all_of (λ _. IsFInstr) IsFInstr c.instrs (λ b i g. g) f.instrs) h.functions);
-      enter = All-map Is32 (λ (a : Anchors). a.enter) l.anchors (all_of (λ _. AreAnchors) (λ (a : Anchors). Is32 a.enter) l.anchors (λ b a f. f.enter) h.anchors);
-      begin = All-map Is32 (λ (a : Anchors). a.begin) l.anchors (all_of (λ _. AreAnchors) (λ (a : Anchors). Is32 a.begin) l.anchors (λ b a f. f.begin) h.anchors);
-      decide = All-map Is32 (λ (a : Anchors). a.decide) l.anchors (all_of (λ _. AreAnchors) (λ (a : Anchors). Is32 a.decide) l.anchors (λ b a f. f.decide) h.anchors);
-      instrs = all_of (λ _. IsEInstr) HasWidths l.instrs (λ b i f. has_widths i f) h.instrs.1;
+      comms = all_of IsComm (λ (y : Comm). (is_name y.name ≡ true) × FitsSigned w64 y.init) l.comms (λ b c f. (f.name, f.width)) h.front.comms;
+      modes = all_of (IsMode (length l.modules)) (λ (y : Mode). is_name y.name ≡ true) l.modes (λ b m f. f.name) h.front.modes;
+      modules = all_of (IsModule l.modes) (λ (y : Module). is_name y.name ≡ true) l.modules (λ b m f. f.name) h.front.modules;
+      ports = all_of (IsPort (length l.modes)) (λ (y : Port). is_name y.name ≡ true) l.ports (λ b m f. f.name) h.front.ports;
+      tasks = all_of (IsTask (length l.modules)) (λ (y : Task). is_name y.name ≡ true) l.tasks (λ b m f. f.name) h.front.tasks;
+      functions = All-map KeepsFunction (λ (c : Code). Compiled c) l.functions (all_of (λ _. IsCode) (λ (c : Code). All IsFInstr c.instrs) l.functions (λ b c f. all_of (λ _. IsFInstr) IsFInstr c.instrs (λ b i g. g) f.instrs) h.front.functions);
+      enter = All-map Is32 (λ (a : Anchors). a.enter) l.anchors (all_of (λ _. AreAnchors) (λ (a : Anchors). Is32 a.enter) l.anchors (λ b a f. f.enter) h.front.anchors);
+      begin = All-map Is32 (λ (a : Anchors). a.begin) l.anchors (all_of (λ _. AreAnchors) (λ (a : Anchors). Is32 a.begin) l.anchors (λ b a f. f.begin) h.front.anchors);
+      decide = All-map Is32 (λ (a : Anchors). a.decide) l.anchors (all_of (λ _. AreAnchors) (λ (a : Anchors). Is32 a.decide) l.anchors (λ b a f. f.decide) h.front.anchors);
+      instrs = all_of (λ _. IsEInstr) HasWidths l.instrs (λ b i f. has_widths i f) h.front.instrs.1;
       schedules = all_of (λ _. IsSchedule) (λ (s : Schedule). All IsSInstr s.instrs) l.schedules (λ b s f. all_of (λ _. IsSInstr) IsSInstr s.instrs (λ b i g. g) f.1) h.schedules;
-      platform = h.platform;
+      platform = h.front.platform;
     }
 
 -- the object of lists in range is in range, and has their bytes
@@ -101,15 +103,23 @@ no_bad_field bytes are = (
 none-some : (m : Malformed) → ◌≡◌ {A = Option Malformed} None (Some m) → ⊥
 none-some m e = cc
 
--- an object of lists that bytes say is the one that they say
-pub object_said : (bytes : List ℕ) (l : Lists) (o : Object) → lists_or bytes (whole_at bytes) ≡ Ok l → o ≡ object_of_lists l → object_in bytes ≡ Ok o
-object_said bytes l o e is = by (whole_at bytes) e
+-- an object that is read of bytes is the one that they say
+pub object_said : (bytes : List ℕ) (o : Object) (rest : List ℕ) → object_at bytes ≡ Ok (o, rest) → object_in bytes ≡ Ok o
+object_said bytes o rest e = by (whole_at bytes) e
   where
-    by : (r : Read Lists) → lists_or bytes r ≡ Ok l → object_or bytes r ≡ Ok o
-    by (Ok x) said = let same : x.0 ≡ l = cc in ap (λ (y : Lists). Ok (object_of_lists y)) same ∙ ap (λ (p : Object). Ok p) (sym is)
+    by : (r : Read Lists) → (r >>= λ l s. Ok (object_of_lists l, s)) ≡ Ok (o, rest) → object_or bytes r ≡ Ok o
+    by (Ok x) said = ap (λ (p : Object). Ok p) (given-value (object_of_lists x.0) o x.1 rest said).0
     by (Err bad) said = absurd cc
 
+-- and the bad field that stops it is the first
+pub fault_said : (bytes : List ℕ) (bad : Bad) → object_at bytes ≡ Err bad → first_bad bytes ≡ Some (malformed_at bytes bad)
+fault_said bytes bad e = by (whole_at bytes) e
+  where
+    by : (r : Read Lists) → ◌≡◌ {A = Read Object} (r >>= λ l s. Ok (object_of_lists l, s)) (Err bad) → fault_of bytes r ≡ Some (malformed_at bytes bad)
+    by (Ok x) said = absurd cc
+    by (Err other) said = let same : other ≡ bad = cc in ap (λ (b : Bad). Some (malformed_at bytes b)) same
+
 -- the bytes of an object in range are refused only for want of memory
-pub not_refused : (bytes : List ℕ) (f : DecodeFault) → IsBytes bytes → IsRead bytes (Err f) → (o : Object) → IsObject o → bytes ≡ object_bytes o → IsReadAs o (Err f)
+pub not_refused : (bytes : List ℕ) (f : DecodeFault) → IsBytes bytes → IsDecoded bytes (Err f) → (o : Object) → IsObject o → bytes ≡ object_bytes o → IsReadAs o (Err f)
 not_refused bytes (fault.Malformed m) are read o h e = absurd (none-some m (sym ((no_bad_field bytes are).1 (o, h, e)) ∙ read))
 not_refused bytes fault.Memory are read o h e = tt

@@ -15,7 +15,7 @@ use Rattle.htl_model.specs.declared.function.Code.{Code}
 use Rattle.htl_object.specs.Ranges.{IsCode, IsPhased, IsShort, IsInRange}
 use Rattle.htl_object.proofs.Each.{all_of}
 use Rattle.htl_object.proofs.ListRanges.{at_most, left, right, lists_in_range}
-use Rattle.htl_object.proofs.Limits.{lists_keep_limits, counted_schedules}
+use Rattle.htl_object.proofs.Limits.{lists_keep_limits, frames_kept, counted_schedules}
 use Rattle.htl_object.specs.Lists.{object_of_lists}
 
 phased : (i : EInstr) → IsEInstr i → IsPhased i
@@ -34,14 +34,15 @@ phased I.Return h = tt
 pub lists_are_object : (l : Lists) → IsFileInRange l → IsInRange (object_of_lists l)
 lists_are_object l h =
     record {
-      tables = lists_in_range l h;
+      tables = lists_in_range l h.front;
       limits = lists_keep_limits l h;
+      frames = frames_kept l h;
       coded = All-map IsCode (λ (c : Code). Compiled c) l.functions (λ k d less. tt);
-      enter = length-map l.anchors (λ (a : Anchors). a.enter) ∙ h.anchor_count;
-      begin = length-map l.anchors (λ (a : Anchors). a.begin) ∙ h.anchor_count;
-      decide = length-map l.anchors (λ (a : Anchors). a.decide) ∙ h.anchor_count;
-      phases = all_of (λ _. IsEInstr) IsPhased l.instrs (λ b i f. phased i f) h.instrs.1;
-      few_instrs = omega (arith, h.instrs.0);
+      enter = length-map l.anchors (λ (a : Anchors). a.enter) ∙ h.front.anchor_count;
+      begin = length-map l.anchors (λ (a : Anchors). a.begin) ∙ h.front.anchor_count;
+      decide = length-map l.anchors (λ (a : Anchors). a.decide) ∙ h.front.anchor_count;
+      phases = all_of (λ _. IsEInstr) IsPhased l.instrs (λ b i f. phased i f) h.front.instrs.1;
+      few_instrs = omega (arith, h.front.instrs.0);
       schedules = counted_schedules l h;
       short = all_of (λ _. IsSchedule) IsShort l.schedules (λ b s f. omega (arith, f.0)) h.schedules;
     }

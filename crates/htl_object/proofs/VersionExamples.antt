@@ -8,7 +8,7 @@ use Rattle.htl_walk.specs.declared.schedule.Schedule.{Schedule}
 use Rattle.htl_object.specs.Blocks.{block_numbers, block_list}
 use Rattle.htl_object.specs.Versions.{head_bytes, head_at, tail_bytes, tail_at}
 
--- ---- four selections with two schedules
+-- ---- four nodes with two schedules
 
 abbrev one : Schedule
 one = record { instrs = S.End ∷ [] }

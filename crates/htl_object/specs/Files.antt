@@ -6,14 +6,18 @@ use Rattle.htl_base.specs.declared.limits.TheConstants.{MAX_COMMUNICATORS, MAX_M
 use Rattle.htl_object.specs.declared.malformed.MalKind.TheVariants.{Trailing}
 use Rattle.htl_object.specs.declared.malformed.Malformed.{Malformed}
 use Rattle.htl_object.specs.declared.malformed.Bad.{Bad}
+use Rattle.htl_model.specs.Frames.{frame_limit, nodes}
+use Rattle.htl_model.specs.Tables.{Tables}
 use Rattle.htl_model.specs.declared.parts.Mode.{Mode}
 use Rattle.htl_model.specs.declared.parts.Module.{Module}
 use Rattle.htl_model.specs.declared.parts.Task.{Task}
 use Rattle.htl_model.specs.declared.parts.Inv.{Inv}
 use Rattle.htl_ecode.specs.declared.instr.EInstr.{EInstr}
+use Rattle.htl_walk.specs.declared.schedule.Schedule.{Schedule}
 use Rattle.htl_object.specs.declared.lists.Anchors.{Anchors}
 use Rattle.htl_object.specs.declared.lists.Counts.{Counts}
 use Rattle.htl_object.specs.declared.lists.Lists.{Lists}
+use Rattle.htl_object.specs.Lists.{tables_of_lists}
 use Rattle.htl_object.specs.Reading.{Read, ◌>>=◌, bad_at, need, items_at, number_at, count_at}
 use Rattle.htl_object.specs.Comms.{comm_bytes, comm_at}
 use Rattle.htl_object.specs.Modes.{mode_bytes, mode_at}
@@ -91,11 +95,18 @@ positions_to modes modules invs zero = 0
 positions_to modes modules invs (suc n) =
     positions_to modes modules invs n + cond (is_root modules n) (widest_to modes invs n (length modes)) 0
 
--- the number of selections, none without modules, where there are few and none has more positions than there may be
-abbrev pub is_selections : List Mode → List Module → List Inv → ℕ → Bool
-is_selections modes modules invs n =
-    n == cond (length modules == 0) 0 (selections_to modes modules (length modules)) && nat_le n MAX_SELECTIONS
-    && nat_le (positions_to modes modules invs (length modules)) MAX_POSITIONS
+-- how many selections there are, none without modules
+abbrev pub selections_of : List Mode → List Module → ℕ
+selections_of modes modules = cond (length modules == 0) 0 (selections_to modes modules (length modules))
+
+-- there are few selections, and none has more positions than there may be
+abbrev pub are_few : List Mode → List Module → List Inv → Bool
+are_few modes modules invs =
+    nat_le (selections_of modes modules) MAX_SELECTIONS && nat_le (positions_to modes modules invs (length modules)) MAX_POSITIONS
+
+-- the number of nodes, where no limit on selections, positions or frames is exceeded
+abbrev pub is_node_count : Tables → ℕ → Bool
+is_node_count t n = are_few t.modes t.modules t.invs && (is_none (frame_limit t) && n == nodes t)
 
 -- ---- the parts behind the tables
 
@@ -123,17 +134,18 @@ e_code_at bytes = number_at w32 bytes >>= λ n rest. items_at (λ _. e_instr_at)
 abbrev pub IsECode : List EInstr → Type 0
 IsECode xs = Is32 (length xs) × Every IsEInstr xs
 
--- ---- the whole
+-- ---- what stands before the schedules
 
-abbrev pub file_bytes : Lists → List ℕ
-file_bytes o =
+abbrev pub front_bytes : Lists → List ℕ
+front_bytes o =
     head_bytes o.platform ++ (counts_bytes (counts_of o) ++ (flat_map comm_bytes o.comms ++ (flat_map mode_bytes o.modes ++ (flat_map module_bytes o.modules
     ++ (flat_map port_bytes o.ports ++ (flat_map task_bytes o.tasks ++ (flat_map inv_bytes o.invs
     ++ (flat_map switch_bytes o.switches ++ (flat_map code_bytes o.functions ++ (flat_map anchors_bytes o.anchors
-    ++ (e_code_bytes o.instrs ++ tail_bytes o.platform o.schedules)))))))))))
+    ++ e_code_bytes o.instrs))))))))))
 
-abbrev pub file_at : List ℕ → Read Lists
-file_at bytes =
+-- the lists of a file whose schedules are not read yet
+abbrev pub front_at : List ℕ → Read Lists
+front_at bytes =
     head_at bytes >>= λ platform rest.
     counts_at rest >>= λ n rest.
     items_at comm_at n.comms [] rest >>= λ comms rest.
@@ -146,7 +158,6 @@ file_at bytes =
     items_at (λ _. code_at) (function_count tasks n.switches) [] rest >>= λ functions rest.
     items_at (λ _. anchors_at) n.modes [] rest >>= λ anchors rest.
     e_code_at rest >>= λ instrs rest.
-    tail_at platform (is_selections modes modules invs) rest >>= λ schedules rest.
     Ok (
       record {
         comms = comms;
@@ -159,14 +170,14 @@ file_at bytes =
         functions = functions;
         anchors = anchors;
         instrs = instrs;
-        schedules = schedules;
+        schedules = [];
         platform = platform;
       },
       rest,
     )
 
--- the object is in range, its counts being n
-pub record IsFile (n : Counts) (o : Lists) : Type 0 where
+-- what stands before the schedules is in range, the counts being n
+pub record IsFront (n : Counts) (o : Lists) : Type 0 where
   pub counts : AreCounts n
   pub comms : Each IsComm [] o.comms
   pub modes : Each (IsMode n.modules) [] o.modes
@@ -180,12 +191,31 @@ pub record IsFile (n : Counts) (o : Lists) : Type 0 where
   pub anchor_count : length o.anchors ≡ n.modes
   pub anchors : Every AreAnchors o.anchors
   pub instrs : IsECode o.instrs
-  pub schedule_count : Fits16 (is_selections o.modes o.modules o.invs) (length o.schedules)
-  pub schedules : Every IsSchedule o.schedules
   pub platform : IsPlatformName o.platform
 
-abbrev pub IsFileInRange : Lists → Type 0
-IsFileInRange o = IsFile (counts_of o) o
+abbrev pub IsFrontInRange : Lists → Type 0
+IsFrontInRange o = IsFront (counts_of o) o
+
+-- ---- the whole
+
+abbrev pub with_schedules : Lists → List Schedule → Lists
+with_schedules l schedules = record l { schedules = schedules }
+
+abbrev pub file_bytes : Lists → List ℕ
+file_bytes o = front_bytes o ++ tail_bytes o.platform o.schedules
+
+-- the schedules are as many as the tables before them have nodes
+abbrev pub file_at : List ℕ → Read Lists
+file_at bytes =
+    front_at bytes >>= λ l rest.
+    tail_at l.platform (is_node_count (tables_of_lists l)) rest >>= λ schedules rest.
+    Ok (with_schedules l schedules, rest)
+
+-- the object is in range
+pub record IsFileInRange (o : Lists) : Type 0 where
+  pub front : IsFrontInRange o
+  pub schedule_count : Fits16 (is_node_count (tables_of_lists o)) (length o.schedules)
+  pub schedules : Every IsSchedule o.schedules
 
 -- an object that is all of the bytes
 abbrev pub whole_at : List ℕ → Read Lists

@@ -1,9 +1,18 @@
 -- The laws of objects and their bytes.
-use Rattle.std.specs.Prelude.{◌≡◌, ◌↔◌, ℕ, List, None, Ok}
+use Rattle.std.specs.Prelude.{◌≡◌, ◌↔◌, ◌<◌, ℕ, List, [], get_or, None, Ok}
+use Rattle.htl_model.specs.Broken.{KeptTo, KeepsLimits}
+use Rattle.htl_model.specs.Frames.{frame_limit, nodes}
+use Rattle.htl_model.specs.Ranges.{AreInRange}
+use Rattle.htl_model.specs.Selections.{selection_count, round_length}
+use Rattle.htl_model.specs.Tables.{Tables}
 use Rattle.htl_object.specs.Files.{first_bad}
 use Rattle.htl_object.specs.Objects.{object_bytes, object_in, IsObject}
 use Rattle.htl_object.specs.Reading.{IsBytes}
 use Rattle.htl_object.specs.declared.object.Object.{Object}
+use Rattle.htl_walk.specs.Feasible.{AreFeasible}
+use Rattle.htl_walk.specs.Jobs.{abstract_jobs}
+use Rattle.htl_walk.specs.Walk.{IsAccepted}
+use Rattle.htl_walk.specs.declared.schedule.SInstr.{SInstr}
 
 -- Bytes that say an object are its one spelling, and it is in range.
 abbrev pub OneSpelling : Type 0
@@ -20,3 +29,11 @@ NoBadField = (bytes : List ℕ) → IsBytes bytes → (first_bad bytes ≡ None)
 -- The spelling of an object in range says that object.
 abbrev pub SaysItself : Type 0
 SaysItself = (o : Object) → IsObject o → object_in (object_bytes o) ≡ Ok o
+
+-- Where all root modules have one period a frame is a round: no limit of frames is exceeded, there are as many nodes as root selections, and
+-- every path accepts its lists exactly where every root selection accepts its schedule.
+abbrev pub RoundsAreFrames : Type 0
+RoundsAreFrames =
+    (t : Tables) (lists : List (List SInstr)) → AreInRange t → KeptTo t 12 → KeepsLimits t
+    → (frame_limit t ≡ None) × (nodes t ≡ selection_count t)
+    × (((sel : ℕ) → sel < selection_count t → IsAccepted (abstract_jobs t sel) (round_length t) (get_or lists sel [])) ↔ AreFeasible t lists)

@@ -9,7 +9,7 @@ use Rattle.htl_object.specs.Files.{file_bytes, whole_at, malformed_at, first_bad
 use Rattle.htl_object.specs.Items.{Is16, Is32, IsFInstr, IsSInstr}
 use Rattle.htl_object.specs.Lists.{lists_of, object_of_lists}
 use Rattle.htl_object.specs.Ranges.{IsInRange}
-use Rattle.htl_object.specs.Reading.{Read}
+use Rattle.htl_object.specs.Reading.{Read, ◌>>=◌}
 use Rattle.htl_object.specs.Versions.{IsPlatformName}
 use Rattle.htl_object.specs.declared.decoding.DecodeFault.{DecodeFault}
 use Rattle.htl_object.specs.declared.decoding.DecodeFault.TheVariants as fault
@@ -71,17 +71,11 @@ object_or bytes (Err bad) = Err (malformed_at bytes bad)
 abbrev pub object_in : List ℕ → Result Object Malformed
 object_in bytes = object_or bytes (whole_at bytes)
 
+-- the same with what is left
+abbrev pub object_at : List ℕ → Read Object
+object_at bytes = whole_at bytes >>= λ l rest. Ok (object_of_lists l, rest)
+
 -- ---- what decoding answers
-
-abbrev pub lists_or : List ℕ → Read Lists → Result Lists Malformed
-lists_or bytes (Ok x) = Ok x.0
-lists_or bytes (Err bad) = Err (malformed_at bytes bad)
-
--- the lists that bytes say, or the first bad field, unless memory runs out
-abbrev pub IsRead : List ℕ → Result Lists DecodeFault → Type 0
-IsRead bytes (Ok l) = lists_or bytes (whole_at bytes) ≡ Ok l
-IsRead bytes (Err (fault.Malformed m)) = first_bad bytes ≡ Some m
-IsRead bytes (Err fault.Memory) = Unit {0}
 
 -- the object that bytes say, or their first bad field, unless memory runs out
 abbrev pub IsDecoded : List ℕ → Result Object DecodeFault → Type 0

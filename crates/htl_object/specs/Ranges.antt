@@ -1,10 +1,10 @@
 -- The ranges of the numbers in an object.
-use Rattle.std.specs.Prelude.{◌≡◌, ◌≤◌, length, All}
+use Rattle.std.specs.Prelude.{◌≡◌, ◌≤◌, None, length, All}
 use Rattle.htl_ecode.specs.declared.instr.EInstr.{EInstr}
 use Rattle.htl_ecode.specs.declared.instr.EInstr.TheVariants as I
 use Rattle.htl_model.specs.Broken.{KeepsLimits}
+use Rattle.htl_model.specs.Frames.{frame_limit, nodes}
 use Rattle.htl_model.specs.Ranges.{AreInRange}
-use Rattle.htl_model.specs.Selections.{selection_count}
 use Rattle.htl_model.specs.Tables.{Fun, Formula, Compiled}
 use Rattle.htl_object.specs.declared.object.Object.{Object}
 use Rattle.htl_walk.specs.declared.schedule.Schedule.{Schedule}
@@ -21,15 +21,16 @@ IsPhased _ = Unit {0}
 abbrev pub IsShort : Schedule → Type 0
 IsShort s = length s.instrs ≤ 4294967295
 
--- the functions are code, each mode has three addresses, each selection has a schedule
+-- the functions are code, each mode has three addresses, each node has a schedule
 pub record IsInRange (o : Object) : Type 0 where
   pub tables : AreInRange o.tables
   pub limits : KeepsLimits o.tables
+  pub frames : frame_limit o.tables ≡ None
   pub coded : All IsCode o.tables.functions
   pub enter : length o.ecode.enter ≡ length o.tables.modes
   pub begin : length o.ecode.begin ≡ length o.tables.modes
   pub decide : length o.ecode.decide ≡ length o.tables.modes
   pub phases : All IsPhased o.ecode.instrs
   pub few_instrs : length o.ecode.instrs ≤ 4294967295
-  pub schedules : length o.schedules ≡ selection_count o.tables
+  pub schedules : length o.schedules ≡ nodes o.tables
   pub short : All IsShort o.schedules

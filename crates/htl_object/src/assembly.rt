@@ -1,7 +1,7 @@
 // The lists of a file as an object.
 ghost use Rattle.std.specs.Prelude.{◌≡◌, map, IfOk};
 ghost use Rattle.htl_model.specs.Tables.{Compiled, fun_of};
-ghost use Rattle.htl_object.specs.Files.{IsFileInRange};
+ghost use Rattle.htl_object.specs.Files.{IsFrontInRange};
 ghost use Rattle.htl_object.specs.Lists.{object_of_lists};
 ghost use Rattle.htl_object.specs.declared.lists.Anchors.{Anchors as AnchorsOf};
 
@@ -52,9 +52,9 @@ fn decide(alloc: Global, anchors: &[Anchors]) -> Result<Vec<u32>, AllocError>
     Ok(found)
 }
 
-/// The object of the lists of a file, which are in range.
+/// The object of the lists of a file, which are in range but for the schedules.
 pub fn assemble(alloc: Global, l: Lists) -> Result<Object, AllocError>
-    requires { IsFileInRange l }
+    requires { IsFrontInRange l }
     ensures { IfOk result (λ o. o ≡ object_of_lists l) }
 {
     let enter = enter(alloc, l.anchors.as_slice())?;

@@ -1,9 +1,9 @@
 // Bytes to an object, or their first bad field.
 ghost use Rattle.std.specs.Prelude.{◌≡◌, ◌≤◌, List, ℕ, IfOk};
-ghost use Rattle.htl_object.specs.Reading.{Gives};
-ghost use Rattle.htl_object.specs.Files.{counts_at, file_at, is_selections, whole_at, malformed_at, IsFileInRange, file_bytes};
+ghost use Rattle.htl_object.specs.Reading.{Gives, IsBytes};
+ghost use Rattle.htl_object.specs.Files.{counts_at, front_at, is_node_count, malformed_at};
 ghost use Rattle.htl_object.specs.Versions.{schedules_at, tail_at};
-ghost use Rattle.htl_object.specs.Objects.{object_bytes, IsObject, IsDecoded, IsReadAs, IsRead};
+ghost use Rattle.htl_object.specs.Objects.{object_bytes, object_at, IsObject, IsDecoded, IsReadAs};
 ghost use Rattle.htl_object.specs.declared.object.Object.{Object};
 
 use crate::assembly::assemble;
@@ -17,12 +17,12 @@ use crate::lists::{Counts, Lists};
 use crate::malformed::{Bad, MalKind, Malformed, Stop};
 use crate::notes::InvNotes;
 use crate::object::Object;
-use crate::selections::{function_count, is_selections};
+use crate::selections::{function_count, is_node_count};
 use htl_base::limits::{
     MAX_COMMUNICATORS, MAX_INVOCATIONS, MAX_MODES, MAX_MODULES, MAX_PORTS, MAX_SWITCHES, MAX_TASKS,
 };
 use htl_base::{Name, Seq};
-use htl_model::{Inv, Mode, Module};
+use htl_model::Tables;
 use htl_walk::Schedule;
 use std::alloc::Global;
 
@@ -73,28 +73,26 @@ fn schedules(
     }
 }
 
-// The schedules, as many as the tables have selections.
+// The schedules, as many as the tables have nodes.
 fn tail(
     alloc: Global,
     cursor: &mut Cursor<'_>,
     platform: &Option<Name>,
-    modes: &[Mode],
-    modules: &[Module],
-    invs: &[Inv],
+    t: &Tables,
 ) -> Result<Vec<Schedule>, Stop>
-    ensures { Gives (λ x. x.items) (tail_at platform.now (is_selections modes.now modules.now invs.now) cursor.old) cursor.new result }
+    ensures { Gives (λ x. x.items) (tail_at platform.now (is_node_count t.now) cursor.old) cursor.new result }
 {
     let left = cursor.left();
     let count = cursor.u16()?;
-    if !is_selections(modes, modules, invs, count) {
+    if !is_node_count(t, count) {
         return Err(bad(MalKind::Index, left));
     }
     schedules(alloc, cursor, platform, count)
 }
 
-// The lists of a file, item by item.
-fn lists(alloc: Global, cursor: &mut Cursor<'_>) -> Result<Lists, Stop>
-    ensures { Gives (λ x. x) (file_at cursor.old) cursor.new result }
+// The lists of a file before its schedules, item by item.
+fn front(alloc: Global, cursor: &mut Cursor<'_>) -> Result<Lists, Stop>
+    ensures { Gives (λ x. x) (front_at cursor.old) cursor.new result }
 {
     let platform = cursor.head()?;
     let n = counts(cursor)?;
@@ -128,7 +126,6 @@ fn lists(alloc: Global, cursor: &mut Cursor<'_>) -> Result<Lists, Stop>
     let functions = items(alloc, cursor, &alloc, count)?;
     let anchors = items(alloc, cursor, &(), n.modes as usize)?;
     let instrs = e_code(alloc, cursor)?;
-    let schedules = tail(alloc, cursor, &platform, &modes, &modules, &invs)?;
     Ok(Lists {
         comms: Seq::new(comms),
         modes: Seq::new(modes),
@@ -140,21 +137,29 @@ fn lists(alloc: Global, cursor: &mut Cursor<'_>) -> Result<Lists, Stop>
         functions: Seq::new(functions),
         anchors: Seq::new(anchors),
         instrs: Seq::new(instrs),
-        schedules: Seq::new(schedules),
+        schedules: Seq::new(Vec::new(alloc)),
         platform,
     })
 }
 
-// The lists of a file, which is all of the bytes.
-fn whole(alloc: Global, cursor: &mut Cursor<'_>) -> Result<Lists, Stop>
-    ensures { Gives (λ x. x) (whole_at cursor.old) cursor.new result }
+// The object of a file, which is all of the bytes. Its tables say how many schedules there are.
+fn object(alloc: Global, cursor: &mut Cursor<'_>) -> Result<Object, Stop>
+    requires { IsBytes cursor.old }
+    ensures { Gives (λ x. x) (object_at cursor.old) cursor.new result }
 {
-    let found = lists(alloc, cursor)?;
+    let lists = front(alloc, cursor)?;
+    let o = assemble(alloc, lists)?;
+    let schedules = tail(alloc, cursor, &o.platform, &o.tables)?;
     let left = cursor.left();
     if left != 0 {
         return Err(bad(MalKind::Trailing, left));
     }
-    Ok(found)
+    Ok(Object {
+        tables: o.tables,
+        ecode: o.ecode,
+        schedules: Seq::new(schedules),
+        platform: o.platform,
+    })
 }
 
 // Where a bad field begins.
@@ -167,35 +172,21 @@ fn placed(bytes: &[u8], bad: Bad) -> Malformed
     }
 }
 
-// The lists of a file.
-fn read(alloc: Global, bytes: &[u8]) -> Result<Lists, DecodeFault>
-    ensures found { IfOk result (λ l. IsFileInRange l × (bytes.now ≡ file_bytes l)) }
-    ensures exact { IsRead bytes.now result }
-{
-    let mut cursor = Cursor::new(bytes);
-    match whole(alloc, &mut cursor) {
-        Ok(found) => Ok(found),
-        Err(Stop::Memory) => Err(DecodeFault::Memory),
-        Err(Stop::Bad(bad)) => Err(DecodeFault::Malformed(placed(bytes, bad))),
-    }
-}
-
 /// The object in range that has these bytes. Malformed exactly where none has them: the first bad field, with the offset
 /// of its first byte. Want of memory may stand in place of either. One pass over the bytes; a name is looked up
 /// once among those of its list, and the invocations of all modes are counted in one pass. Where a platform is named,
 /// each block is looked up once by its bytes among those before, and each schedule is a copy of its block: it takes
-/// memory for each root selection, though the block stands once in the bytes.
+/// memory for each node, though the block stands once in the bytes. How many nodes there are is asked of the tables once,
+/// by `Tables::frame_limits` and `Tables::nodes`.
 pub fn decode(alloc: Global, bytes: &[u8]) -> Result<Object, DecodeFault>
     ensures found { IfOk result (λ o. IsObject o × (bytes.now ≡ object_bytes o)) }
     ensures exact { IsDecoded bytes.now result }
     ensures only { (o : Object) → IsObject o → bytes.now ≡ object_bytes o → IsReadAs o result }
 {
-    let lists = match read(alloc, bytes) {
-        Ok(lists) => lists,
-        Err(fault) => return Err(fault),
-    };
-    match assemble(alloc, lists) {
+    let mut cursor = Cursor::new(bytes);
+    match object(alloc, &mut cursor) {
         Ok(o) => Ok(o),
-        Err(_) => Err(DecodeFault::Memory),
+        Err(Stop::Memory) => Err(DecodeFault::Memory),
+        Err(Stop::Bad(bad)) => Err(DecodeFault::Malformed(placed(bytes, bad))),
     }
 }

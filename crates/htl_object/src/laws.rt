@@ -1,5 +1,5 @@
 //! The laws of objects and their bytes. Each is a statement that the check has proved; there is nothing to run.
-ghost use Rattle.htl_object.specs.Laws.{OneSpelling, OneObject, NoBadField, SaysItself};
+ghost use Rattle.htl_object.specs.Laws.{OneSpelling, OneObject, NoBadField, SaysItself, RoundsAreFrames};
 
 /// Bytes that say an object are its one spelling, and it is in range.
 pub fn one_spelling()
@@ -19,4 +19,10 @@ pub fn no_bad_field()
 /// The spelling of an object in range says that object: what is encoded and then decoded is what it was.
 pub fn says_itself()
     ensures { SaysItself }
+{}
+
+/// Where all root modules have one period a frame is a round: no limit of frames is exceeded, there are as many nodes as root selections,
+/// and every path accepts its lists exactly where every root selection accepts its schedule.
+pub fn rounds_are_frames()
+    ensures { RoundsAreFrames }
 {}

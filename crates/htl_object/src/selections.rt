@@ -1,11 +1,11 @@
-// How many functions and selections the tables ask for.
+// How many functions and schedules the tables ask for.
 ghost use Rattle.std.specs.Prelude.{◌≡◌, ◌<◌, ◌≤◌, ◌^◌, ◌+◌, ◌==◌, ℕ, min, length, get_or, cond, count_by, sum_by};
 ghost use Rattle.htl_object.specs.Modules.{is_mode_of};
-ghost use Rattle.htl_object.specs.Files.{is_root, selections_to, widest_to, positions_to, is_selections, function_count};
+ghost use Rattle.htl_object.specs.Files.{is_root, selections_to, selections_of, widest_to, positions_to, are_few, is_node_count, function_count};
 
 use crate::declaration_reader::is_mode_of;
 use htl_base::limits::{MAX_MODES, MAX_POSITIONS, MAX_SELECTIONS};
-use htl_model::{Inv, Mode, Module, Task};
+use htl_model::{Inv, Mode, Module, Tables, Task};
 
 fn is_root(modules: &[Module], k: usize) -> bool
     ensures { result ≡ is_root modules.now k }
@@ -64,7 +64,7 @@ fn selections(modes: &[Mode], modules: &[Module]) -> u64
 
 // The number of selections, up to 1,025; none without modules.
 fn count(modes: &[Mode], modules: &[Module]) -> u64
-    ensures { result ≡ cond (length modules.now == 0) 0 (min (selections_to modes.now modules.now (length modules.now)) 1025) }
+    ensures { result ≡ min (selections_of modes.now modules.now) 1025 }
 {
     if modules.len() == 0 {
         0
@@ -104,13 +104,30 @@ fn positions(modes: &[Mode], modules: &[Module], invs: &[Inv]) -> usize
     found
 }
 
-/// The tables have so many selections, at most `MAX_SELECTIONS`, and none with more than `MAX_POSITIONS` positions.
-pub fn is_selections(modes: &[Mode], modules: &[Module], invs: &[Inv], n: u16) -> bool
-    ensures { result ≡ is_selections modes.now modules.now invs.now n }
+// There are at most `MAX_SELECTIONS` selections, and none has more than `MAX_POSITIONS` positions.
+fn are_few(modes: &[Mode], modules: &[Module], invs: &[Inv]) -> bool
+    ensures { result ≡ are_few modes.now modules.now invs.now }
 {
-    n as u64 == count(modes, modules)
-        && n as u32 <= MAX_SELECTIONS
+    count(modes, modules) <= MAX_SELECTIONS as u64
         && positions(modes, modules, invs) <= MAX_POSITIONS
+}
+
+/// A frame of the tables has so many nodes, and no limit on selections, positions or frames is exceeded.
+pub fn is_node_count(t: &Tables, n: u16) -> bool
+    ensures { result ≡ is_node_count t.now n }
+{
+    let parts = t.parts();
+    if !are_few(
+        parts.modes.as_slice(),
+        parts.modules.as_slice(),
+        parts.invs.as_slice(),
+    ) {
+        return false;
+    }
+    match t.frame_limits() {
+        Ok(()) => n as u32 == t.nodes(),
+        Err(_) => false,
+    }
 }
 
 /// One for each output of a concrete task, and one for each switch, up to a limit.

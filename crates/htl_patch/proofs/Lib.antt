@@ -6,6 +6,7 @@ pub mod CountLaws
 pub mod Counting
 pub mod Covering
 pub mod Embedded
+pub mod EmbeddedPaths
 pub mod Examples
 pub mod Forest
 pub mod FunctionLists

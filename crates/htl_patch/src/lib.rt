@@ -23,6 +23,3 @@ mod unit_items;
 
 pub use fault::{PatchFault, PatchStop};
 pub use patching::patch;
-
-#[cfg(test)]
-mod tests;

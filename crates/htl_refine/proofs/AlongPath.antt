@@ -1,11 +1,11 @@
 -- A path whose modes are those of the selections has their positions.
-use Rattle.std.proofs.Common.{append_assoc, ◌≡◌, ℕ, zero, suc, ◌+◌, ◌*◌, ◌/◌, ◌%◌, ◌≤◌, ◌<◌, Bool, true, false, cond, ◌&&◌, eqb, eqb-true, eq-eqb, ne_eqb, leb, List, [], ◌∷◌, ◌++◌, length, map, take, drop, get_or, Option, Some, None, refl, sym, ◌∙◌, ap, subst, arith, inl, inr}
+use Rattle.std.proofs.Common.{append_assoc, ◌≡◌, ℕ, zero, suc, ◌+◌, ◌*◌, ◌/◌, ◌%◌, ◌≤◌, ◌<◌, Bool, true, false, cond, ◌&&◌, eqb, eqb-true, eq-eqb, ne_eqb, leb, List, [], ◌∷◌, ◌++◌, length, map, take, drop, get_or, Option, Some, None, refl, sym, ◌∙◌, ap, arith, inl, inr}
 use Rattle.std.specs.Prelude.{slice_get}
 use Rattle.std.specs.List.{flat_map}
 use Rattle.std.proofs.Math.Nat.{div-add-mod}
 use Rattle.std.proofs.lemmas.Bool.{lt-leb}
 use Rattle.std.proofs.lemmas.List.{length-map}
-use Rattle.std.proofs.lemmas.Option.{get_or_from_slice_get, slice_get_within}
+use Rattle.std.proofs.lemmas.Option.{get_or_from_slice_get}
 use Rattle.htl_model.specs.declared.frame.Place.{Place}
 use Rattle.htl_model.specs.declared.frame.Round.{Round}
 use Rattle.htl_model.specs.Frames.{begins, starts_below, root_periods, frame_of, unit_period, rounds_of, rounds_at, rounds, starts, mode_in, mode_from, path_mode, places_of, places_in, path_places, known_by}
@@ -13,10 +13,10 @@ use Rattle.htl_model.specs.Functions.{of_bool}
 use Rattle.htl_model.specs.Selected.{entry}
 use Rattle.htl_model.specs.Selections.{is_root, root_modules, invs_of}
 use Rattle.htl_model.specs.Tables.{Tables}
-use Rattle.htl_walk.specs.PathJobs.{placed_job, placed_jobs, legs_of, legs, next_of}
+use Rattle.htl_walk.specs.PathJobs.{placed_job, placed_jobs, legs_of, legs}
 use Rattle.htl_walk.specs.Paths.{AreWithin}
 use Rattle.htl_form.proofs.PartLaws.{none_some}
-use Rattle.htl_refine.specs.DerivedPaths.{derived_place, derived_jobs, begun_mode, round_places, start_places, standing_place, begun_places, begun_jobs, modes_at, IsAlong}
+use Rattle.htl_refine.specs.DerivedPaths.{derived_place, derived_jobs, start_places, standing_place, begun_places, begun_jobs, modes_at, IsAlong}
 use Rattle.htl_refine.proofs.BegunTimes.{start_below, started_at}
 use Rattle.htl_refine.proofs.Inherit.{mapped}
 use Rattle.htl_refine.proofs.Members.{of_joined, of_flat}

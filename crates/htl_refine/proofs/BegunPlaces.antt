@@ -1,21 +1,18 @@
 -- What stands at the positions that have begun, start by start.
-use Rattle.std.proofs.Common.{append_assoc, ◌≡◌, ℕ, zero, suc, ◌+◌, ◌%◌, ◌≤◌, ◌<◌, max, Bool, true, false, cond, eqb, List, [], ◌∷◌, ◌++◌, length, map, drop, drop-cons, take, get_or, add-one, Option, Some, None, refl, sym, ◌∙◌, ap, subst, arith, inl, inr}
+use Rattle.std.proofs.Common.{append_assoc, ◌≡◌, ℕ, zero, suc, ◌+◌, ◌%◌, ◌≤◌, ◌<◌, Bool, true, false, cond, eqb, List, [], ◌∷◌, ◌++◌, length, map, drop, drop-cons, take, get_or, add-one, Option, Some, None, refl, sym, ◌∙◌, ap, subst, arith}
 use Rattle.std.specs.Prelude.{slice_get}
 use Rattle.std.specs.List.{flat_map, All}
 use Rattle.std.proofs.lemmas.List.{get_or-map, length-append, length-map}
-use Rattle.std.proofs.lemmas.Option.{slice_get-get_or, slice_get_within}
 use Rattle.htl_model.specs.declared.frame.Place.{Place}
 use Rattle.htl_model.specs.declared.frame.Round.{Round}
-use Rattle.htl_model.specs.declared.parts.Mode.{Mode}
 use Rattle.htl_model.specs.declared.parts.Module.{Module}
 use Rattle.htl_model.specs.Frames.{unit_period, rounds_of, rounds_at, places_of, most_invs, most_positions}
-use Rattle.htl_model.specs.Ranges.{AreInRange}
 use Rattle.htl_model.specs.Selected.{entry, IsSelection, IsEntry, IsModeOf}
 use Rattle.htl_model.specs.Selections.{is_root, root_modules, mode_of_module, modes_of, invs_of}
 use Rattle.htl_model.specs.Tables.{Tables}
 use Rattle.htl_form.proofs.PartLaws.{none_some}
 use Rattle.htl_form.proofs.TestLaws.{equal}
-use Rattle.htl_refine.specs.DerivedPaths.{begun_mode, round_places, start_places, standing_place, begun_places, modes_of_all}
+use Rattle.htl_refine.specs.DerivedPaths.{round_places, start_places, standing_place, begun_places, modes_of_all}
 use Rattle.htl_refine.specs.declared.selection.Selection.{Selection}
 use Rattle.htl_refine.proofs.Members.{of_places, at_place}
 
@@ -76,7 +73,7 @@ as_many sels = length-map sels (λ (s : Selection). s.modes)
 
 -- ---- there are no more positions than a path may have
 
-most_append : (t : Tables) (rs ss : List Round) → most_positions t (rs ++ ss) ≡ most_positions t rs + most_positions t ss
+pub most_append : (t : Tables) (rs ss : List Round) → most_positions t (rs ++ ss) ≡ most_positions t rs + most_positions t ss
 most_append t [] ss = omega arith
 most_append t (r ∷ rs) ss = omega (arith, most_append t rs ss)
 
@@ -112,6 +109,10 @@ module _ (t : Tables) where
       by true here behind = omega (arith, here, behind, length-append (elim (entry m u) as (λ _. List Place) [ Some n ↦ places_of a (invs_of t n) | None ↦ [] ]) (start_places t m a us))
       by false here behind = behind
 
+  -- those of one start
+  pub one_few : (m : List (Option ℕ)) (a : ℕ) → IsSelection t m → length (start_places t m a (root_modules t)) ≤ most_positions t (rounds_at t a)
+  one_few m a s = start_few m a (root_modules t) s roots_are
+
   pub begun_few : (sels : List (List (Option ℕ))) (as' : List ℕ) → All (IsSelection t) sels → length (begun_places t sels as') ≤ most_positions t (flat_map (rounds_at t) as')
   begun_few [] as' s = omega arith
   begun_few (m ∷ ms) [] s = omega arith
@@ -122,7 +123,7 @@ module _ (t : Tables) where
         arith,
         length-append (map (standing_place t m) (start_places t m a (root_modules t))) (begun_places t ms as'),
         length-map (start_places t m a (root_modules t)) (standing_place t m),
-        start_few m a (root_modules t) first roots_are,
+        one_few m a first,
         begun_few ms as' rest,
         most_append t (rounds_at t a) (flat_map (rounds_at t) as'),
       )

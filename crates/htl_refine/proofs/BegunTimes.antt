@@ -1,7 +1,7 @@
 -- Instants of what stands at the positions that have begun.
-use Rattle.std.proofs.Common.{◌≡◌, ℕ, zero, suc, ◌+◌, ◌≤◌, ◌<◌, Bool, true, false, cond, List, [], ◌∷◌, ◌++◌, length, map, get_or, Option, Some, None, refl, sym, ◌∙◌, ap, subst, arith, inl, inr}
+use Rattle.std.proofs.Common.{◌≡◌, ℕ, zero, suc, ◌≤◌, ◌<◌, Bool, true, false, cond, List, [], ◌∷◌, map, get_or, Option, Some, None, refl, sym, ◌∙◌, ap, subst, arith, inl, inr}
 use Rattle.std.specs.Prelude.{slice_get}
-use Rattle.std.specs.List.{flat_map, All}
+use Rattle.std.specs.List.{All}
 use Rattle.std.proofs.lemmas.List.Elements.{All-from_get_or}
 use Rattle.std.proofs.lemmas.Option.{slice_get-get_or}
 use Rattle.htl_model.specs.declared.frame.Place.{Place}
@@ -11,12 +11,12 @@ use Rattle.htl_model.specs.FrameRules.{KeptApart}
 use Rattle.htl_model.specs.Ranges.{AreInRange}
 use Rattle.htl_model.specs.Selections.{root_modules, invs_of}
 use Rattle.htl_model.specs.Tables.{Tables}
-use Rattle.htl_walk.specs.declared.job.Job.{Job}
 use Rattle.htl_walk.specs.Jobs.{absent_job}
 use Rattle.htl_walk.specs.PathJobs.{job_in, placed, placed_job, placed_jobs}
 use Rattle.htl_walk.specs.Placing.{HasTimes}
 use Rattle.htl_walk.proofs.PathReady.{window_small}
 use Rattle.htl_form.proofs.PartLaws.{none_some}
+use Rattle.htl_refine.specs.BegunJobs.{nowhere, new_places}
 use Rattle.htl_refine.specs.DerivedPaths.{begun_mode, round_places, start_places, standing_place, begun_places, begun_jobs}
 use Rattle.htl_refine.proofs.Inherit.{mapped}
 use Rattle.htl_refine.proofs.Members.{of_joined, of_flat}
@@ -70,3 +70,19 @@ module _ (t : Tables) where
         let j = begun_at sels (starts t) p y.0 y.1 in
         let early = start_below (root_periods t) (frame_of t) j.0 y.0.at j.1 in
         subst HasTimes y.2 (placed_times ys y.0.at y.0.inv (omega (arith, early, short))))
+
+    -- those of one start, behind any number of positions
+    pub new_times : (m : List (Option ℕ)) (a n : ℕ) → a ≤ 1000000 → All HasTimes (placed_jobs t (new_places t m a n))
+    new_times m a n short =
+        let ys = new_places t m a n in
+        All-from_get_or HasTimes (placed_jobs t ys) absent_job (λ p l.
+        let y = mapped (placed_job t ys) ys p (get_or (placed_jobs t ys) p absent_job) (slice_get-get_or (placed_jobs t ys) p absent_job l) in
+        subst HasTimes y.2 (placed_times ys y.0.at y.0.inv (at_most n p y.0 y.1)))
+      where
+        at_most : (n p : ℕ) (x : Place) → slice_get (new_places t m a n) p ≡ Some x → x.at ≤ 1000000
+        at_most zero p x e =
+            let y = mapped (standing_place t m) (start_places t m a (root_modules t)) p x e in
+            let at : x.at ≡ a = ap (λ (z : Place). z.at) (sym y.2) ∙ started_at m a (root_modules t) p y.0 y.1 in
+            omega (arith, at, short)
+        at_most (suc n) zero x e = let same : nowhere ≡ x = cc in omega (arith, ap (λ (z : Place). z.at) same)
+        at_most (suc n) (suc p) x e = at_most n p x e

@@ -20,15 +20,15 @@ use Rattle.htl_refine.proofs.ListWalks.{list_is}
 -- ---- one dispatch of a job that isn't released
 
 -- what ends before t has waited, and no more
-waits : (now w r until t : ℕ) → t ≤ r → 0 < w → time_after now w r until < t → until < t
+pub waits : (now w r until t : ℕ) → t ≤ r → 0 < w → time_after now w r until < t → until < t
 waits now zero r until t late some early = absurd (omega (arith, some))
 waits now (suc w) r until t late some early = omega (arith, late, early)
 
-waited : (now w r until t : ℕ) → t ≤ r → 0 < w → until < t → (time_after now w r until ≡ max now until) × (work_after now w r until ≡ w)
+pub waited : (now w r until t : ℕ) → t ≤ r → 0 < w → until < t → (time_after now w r until ≡ max now until) × (work_after now w r until ≡ w)
 waited now zero r until t late some early = absurd (omega (arith, some))
 waited now (suc w) r until t late some early = (omega (arith, late, early), omega (arith, late, early))
 
-nothing : (now w r until : ℕ) → w ≡ 0 → (time_after now w r until ≡ now) × (work_after now w r until ≡ 0)
+pub nothing : (now w r until : ℕ) → w ≡ 0 → (time_after now w r until ≡ now) × (work_after now w r until ≡ 0)
 nothing now zero r until e = (refl, omega arith)
 nothing now (suc w) r until e = absurd (omega (arith, e))
 
@@ -109,11 +109,11 @@ step_alike jobs t (Dispatch p until) x y a early = dispatch_alike jobs t p until
 step_alike jobs t (Idle until) x y a early = record { time = ap (λ n. max n until) a.time; released = a.released; unreleased = a.unreleased }
 step_alike jobs t End x y a early = a
 
-last_later : (jobs : List Job) (is : List SInstr) (x : Point) → x.time ≤ (last_point jobs is x).time
+pub last_later : (jobs : List Job) (is : List SInstr) (x : Point) → x.time ≤ (last_point jobs is x).time
 last_later jobs [] x = omega arith
 last_later jobs (i ∷ is) x = omega (arith, time_rises jobs i x, last_later jobs is (next_point jobs i x))
 
-list_alike : (jobs : List Job) (t : ℕ) (is : List SInstr) (x y : Point) → Alike jobs t x y → (last_point jobs is x).time < t → Alike jobs t (last_point jobs is x) (last_point jobs is y)
+pub list_alike : (jobs : List Job) (t : ℕ) (is : List SInstr) (x y : Point) → Alike jobs t x y → (last_point jobs is x).time < t → Alike jobs t (last_point jobs is x) (last_point jobs is y)
 list_alike jobs t [] x y a early = a
 list_alike jobs t (i ∷ is) x y a early =
     let soon : (next_point jobs i x).time < t = omega (arith, last_later jobs is (next_point jobs i x), early) in
@@ -121,10 +121,10 @@ list_alike jobs t (i ∷ is) x y a early =
 
 -- ---- the lists
 
-begun_alike : (jobs : List Job) (t b : ℕ) (x y : Point) → Alike jobs t x y → Alike jobs t (begun b x) (begun b y)
+pub begun_alike : (jobs : List Job) (t b : ℕ) (x y : Point) → Alike jobs t x y → Alike jobs t (begun b x) (begun b y)
 begun_alike jobs t b x y a = record { time = refl; released = a.released; unreleased = a.unreleased }
 
-path_alike : (jobs : List Job) (t : ℕ) (ss : List (List SInstr)) (gs : List Leg) (a h n j : ℕ) (x y : Point) → AreInForm ss gs → AreChained a h n gs → j < length gs → (get_or gs j no_leg).from < t
+pub path_alike : (jobs : List Job) (t : ℕ) (ss : List (List SInstr)) (gs : List Leg) (a h n j : ℕ) (x y : Point) → AreInForm ss gs → AreChained a h n gs → j < length gs → (get_or gs j no_leg).from < t
     → Alike jobs t x y → Alike jobs t (path_point jobs ss gs j 0 x) (path_point jobs ss gs j 0 y)
 path_alike jobs t [] [] a h n j x y f c l e k = absurd (omega arith)
 path_alike jobs t [] (g ∷ gs) a h n j x y f c l e k = absurd f
@@ -151,7 +151,7 @@ module _ (jobs : List Job) (ns ms : List ℕ) (t : ℕ) (some_ns : HaveLengths j
     | inr z ↦ elim (present_or_idle jobs ms q) [ inl e ↦ inl e | inr y ↦ inr (z, y) ]
   ]
 
-  first_alike : Alike jobs t (first_point jobs ns) (first_point jobs ms)
+  pub first_alike : Alike jobs t (first_point jobs ns) (first_point jobs ms)
   first_alike =
       record {
         time = refl;

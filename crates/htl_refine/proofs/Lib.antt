@@ -1,6 +1,8 @@
 pub mod AlongPath
 pub mod AlongServing
 pub mod BeginningsEnd
+pub mod BegunChoice
+pub mod BegunLimits
 pub mod BegunPlaces
 pub mod BegunTimes
 pub mod Chains
@@ -10,14 +12,18 @@ mod Examples
 pub mod FinishingRecords
 mod FrameExamples
 pub mod FramesAgree
+pub mod FrontPlans
 pub mod Fronts
 pub mod Inherit
 pub mod Kept
+pub mod LaterPoints
 pub mod LengthsLater
 pub mod ListCounts
 pub mod ListWalks
 pub mod ListsFollow
 pub mod Members
+pub mod MiddleJobs
+pub mod NewJobs
 pub mod NodeRead
 pub mod OneFault
 pub mod OneFrame
@@ -30,6 +36,7 @@ pub mod PathDerived
 pub mod PathRead
 pub mod PathServing
 pub mod PlaceOrder
+pub mod PointsAgree
 pub mod Positions
 pub mod PrecedenceLaws
 pub mod RecordLists

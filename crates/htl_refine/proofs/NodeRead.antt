@@ -48,7 +48,7 @@ flat_roots t from p r e =
     let m = of_flat (rounds_at t) from p r e in
     rounds_root t m.1 (root_modules t) (λ p u f. root_units t p u f) m.3 r m.4
 
-at_roots : (t : Tables) (a : ℕ) → AreRootRounds t (rounds_at t a)
+pub at_roots : (t : Tables) (a : ℕ) → AreRootRounds t (rounds_at t a)
 at_roots t a = rounds_root t a (root_modules t) (λ p u f. root_units t p u f)
 
 -- ---- a digit
@@ -121,7 +121,7 @@ node_steps t modes (a ∷ b ∷ later) (suc j) h =
 
 -- ---- modes that agree
 
-choice_agrees : (t : Tables) (modes later : ℕ → List (Option ℕ)) (a : ℕ) (us : List ℕ) → modes a ≡ later a → path_in t modes (rounds_of t a us) ≡ path_in t later (rounds_of t a us)
+pub choice_agrees : (t : Tables) (modes later : ℕ → List (Option ℕ)) (a : ℕ) (us : List ℕ) → modes a ≡ later a → path_in t modes (rounds_of t a us) ≡ path_in t later (rounds_of t a us)
 choice_agrees t modes later a [] e = refl
 choice_agrees t modes later a (u ∷ us) e = by (eqb (a % unit_period t u) 0) (choice_agrees t modes later a us e)
   where

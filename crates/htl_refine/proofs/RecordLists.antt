@@ -182,45 +182,6 @@ module _ (t : Tables) (lists : List (List SInstr)) (es : List Event) (run : IsFe
       times_within p.jobs (leg_at p i).known (leg_at p i).to (get_or p.lists i []) (point_at p i) (form_at p.lists p.legs i s.forms m) (omega (arith, time, order)) k l
       (ap (λ (ls : List Left). slice_get ls k) (sym (list_is p i s.forms m)) ∙ at)
 
-  -- of the lists of a frame
-  in_last : (f j now : ℕ) → j < length (starts t) → (list_at t lists es f j).from < now → now ≤ f + (leg_at (frame_at t lists es f) j).to
-      → in_frame t lists es (begun_before now) now f ≡ left_in now f (list_at t lists es f j)
-  in_last f j now l began upto =
-      joined_one (left_in now f) (begun_before now) (lists_at t lists es f) j (list_at t lists es f j) (there f j l) (lt-ltb (list_at t lists es f j).from now began)
-      (λ i y other at pass.
-      let o = only f i y at in
-      subst (λ (z : RunningList). left_in now f z ≡ []) o.1 (by i o.0 other (ltb-true (list_at t lists es f i).from now (subst (λ (z : RunningList). ltb z.from now ≡ true) (sym o.1) pass)) (three i j)))
-    where
-      by : (i : ℕ) → i < length (starts t) → i ≢ j → (list_at t lists es f i).from < now → (i < j) ⊎ ((i ≡ j) ⊎ (j < i)) → left_in now f (list_at t lists es f i) ≡ []
-      by i few other start (inl less) =
-          let p = frame_at t lists es f in
-          let order : (leg_at p i).to ≤ (leg_at p j).from = legs_order 0 (frame_of t) (length p.jobs) i j p.legs (serving f).chain less (known_leg f j l) in
-          none_left now f 0 (list_at t lists es f i).walk (λ q m e same. let last = times f i q m few e in omega (arith, last, order, began, same))
-      by i few other start (inr (inl same)) = absurd (other same)
-      by i few other start (inr (inr more)) =
-          let p = frame_at t lists es f in
-          let order : (leg_at p j).to ≤ (leg_at p i).from = legs_order 0 (frame_of t) (length p.jobs) j i p.legs (serving f).chain more (known_leg f i few) in
-          absurd (omega (arith, order, upto, start))
-
-  in_earlier : (f now : ℕ) → f + frame_of t < now → in_frame t lists es (begun_before now) now f ≡ []
-  in_earlier f now past =
-      joined_none (left_in now f) (begun_before now) (lists_at t lists es f) (λ i y at pass.
-      let o = only f i y at in
-      let p = frame_at t lists es f in
-      let most : (leg_at p i).to ≤ frame_of t = leg_end 0 (frame_of t) (length p.jobs) i p.legs (serving f).chain (known_leg f i o.0) in
-      subst (λ (z : RunningList). left_in now f z ≡ []) o.1 (none_left now f 0 (list_at t lists es f i).walk (λ q m e same. let last = times f i q m o.0 e in omega (arith, last, most, past, same))))
-
-  old_is : (k j now : ℕ) → j < length (starts t) → (list_at t lists es (k * frame_of t) j).from < now → now ≤ k * frame_of t + (leg_at (frame_at t lists es (k * frame_of t)) j).to
-      → old_records_by t lists es now (hyper t) ≡ left_in now (k * frame_of t) (list_at t lists es (k * frame_of t) j)
-  old_is k j now l began upto =
-      let h = frame_of t in
-      let p = frame_at t lists es (k * h) in
-      let g = λ (i : ℕ). in_frame t lists es (begun_before now) now (i * h) in
-      let most : (leg_at p j).to ≤ h = leg_end 0 h (length p.jobs) j p.legs (serving (k * h)).chain (known_leg (k * h) j l) in
-      let count : rounds_before h now ≡ suc k = frames_begun h k now run.ticks (omega (arith, began)) (omega (arith, upto, most)) in
-      let before : up_to g k ≡ [] = up_to_none g k (λ i less. in_earlier (i * h) now (let end = frame_before h i k less in omega (arith, end, began))) in
-      ap (old_records_by t lists es now) hyper_is ∙ ap (up_to g) count ∙ ap (λ (xs : List (ℕ × Left)). xs ++ g k) before ∙ in_last (k * h) j now l began upto
-
   -- ---- the list that begins
 
   start_of : (f j : ℕ) → j < length (starts t) → (leg_at (frame_at t lists es f) j).from ≡ get_or (starts t) j 0
@@ -241,33 +202,78 @@ module _ (t : Tables) (lists : List (List SInstr)) (es : List Event) (run : IsFe
     | inr (inr more) ↦ let s = strict j i more l in omega (arith, s, same)
   ]
 
-  new_is : (k j : ℕ) → j < length (starts t) → new_records_by t lists es (list_at t lists es (k * frame_of t) j).from (hyper t) ≡ left_in (list_at t lists es (k * frame_of t) j).from (k * frame_of t) (list_at t lists es (k * frame_of t) j)
-  new_is k j l =
-      let h = frame_of t in
-      let f = k * h in
-      let r = list_at t lists es f j in
-      let below : get_or (starts t) j 0 < h = start_below (root_periods t) h j (get_or (starts t) j 0) (slice_get-get_or (starts t) j 0 l) in
-      let start = start_of f j l in
-      let less : (leg_at (frame_at t lists es f) j).from < h = omega (arith, below, start) in
-      ap (new_records_by t lists es r.from) hyper_is
-      ∙ ap (in_frame t lists es (begins_at r.from) r.from) (frame_is h k (leg_at (frame_at t lists es f) j).from run.ticks less)
-      ∙ joined_one (left_in r.from f) (begins_at r.from) (lists_at t lists es f) j r (there f j l) (eq-eqb r.from r.from refl)
-      (λ i y other at pass.
-      let o = only f i y at in
-      let same : (list_at t lists es f i).from ≡ r.from = ap (λ (z : RunningList). z.from) o.1 ∙ eqb-true y.from r.from pass in
-      absurd (one_start i j o.0 l (let a = start_of f i o.0 in omega (arith, a, start, same)) other))
+  -- ---- what depends on the records of lists at an instant: where there are none it is nothing
 
-  none_new : (now : ℕ) → ((j : ℕ) → j < length (starts t) → frame_of t * (now / frame_of t) + get_or (starts t) j 0 ≢ now) → new_records_by t lists es now (hyper t) ≡ []
-  none_new now away =
-      let f = frame_of t * (now / frame_of t) in
-      ap (new_records_by t lists es now) hyper_is
-      ∙ joined_none (left_in now f) (begins_at now) (lists_at t lists es f) (λ i y at pass.
-      let o = only f i y at in
-      let same : (list_at t lists es f i).from ≡ now = ap (λ (z : RunningList). z.from) o.1 ∙ eqb-true y.from now pass in
-      absurd (away i o.0 (let a = start_of f i o.0 in omega (arith, a, same))))
+  module _ {A : Type 0} (g : ℕ → RunningList → List A) (now : ℕ) (quiet : (f : ℕ) (r : RunningList) → left_in now f r ≡ [] → g f r ≡ []) where
+    -- of the lists of a frame
+    in_last : (f j : ℕ) → j < length (starts t) → (list_at t lists es f j).from < now → now ≤ f + (leg_at (frame_at t lists es f) j).to
+        → joined (g f) (filter (begun_before now) (lists_at t lists es f)) ≡ g f (list_at t lists es f j)
+    in_last f j l began upto =
+        joined_one (g f) (begun_before now) (lists_at t lists es f) j (list_at t lists es f j) (there f j l) (lt-ltb (list_at t lists es f j).from now began)
+        (λ i y other at pass.
+        let o = only f i y at in
+        subst (λ (z : RunningList). g f z ≡ []) o.1
+        (quiet f (list_at t lists es f i) (by i o.0 other (ltb-true (list_at t lists es f i).from now (subst (λ (z : RunningList). ltb z.from now ≡ true) (sym o.1) pass)) (three i j))))
+      where
+        by : (i : ℕ) → i < length (starts t) → i ≢ j → (list_at t lists es f i).from < now → (i < j) ⊎ ((i ≡ j) ⊎ (j < i)) → left_in now f (list_at t lists es f i) ≡ []
+        by i few other start (inl less) =
+            let p = frame_at t lists es f in
+            let order : (leg_at p i).to ≤ (leg_at p j).from = legs_order 0 (frame_of t) (length p.jobs) i j p.legs (serving f).chain less (known_leg f j l) in
+            none_left now f 0 (list_at t lists es f i).walk (λ q m e same. let last = times f i q m few e in omega (arith, last, order, began, same))
+        by i few other start (inr (inl same)) = absurd (other same)
+        by i few other start (inr (inr more)) =
+            let p = frame_at t lists es f in
+            let order : (leg_at p j).to ≤ (leg_at p i).from = legs_order 0 (frame_of t) (length p.jobs) j i p.legs (serving f).chain more (known_leg f i few) in
+            absurd (omega (arith, order, upto, start))
 
-  none_old : old_records_by t lists es 0 (hyper t) ≡ []
-  none_old = ap (old_records_by t lists es 0) hyper_is ∙ ap (up_to (λ (i : ℕ). in_frame t lists es (begun_before 0) 0 (i * frame_of t))) (first (frame_of t) run.ticks)
+    in_earlier : (f : ℕ) → f + frame_of t < now → joined (g f) (filter (begun_before now) (lists_at t lists es f)) ≡ []
+    in_earlier f past =
+        joined_none (g f) (begun_before now) (lists_at t lists es f) (λ i y at pass.
+        let o = only f i y at in
+        let p = frame_at t lists es f in
+        let most : (leg_at p i).to ≤ frame_of t = leg_end 0 (frame_of t) (length p.jobs) i p.legs (serving f).chain (known_leg f i o.0) in
+        subst (λ (z : RunningList). g f z ≡ []) o.1 (quiet f (list_at t lists es f i) (none_left now f 0 (list_at t lists es f i).walk (λ q m e same. let last = times f i q m o.0 e in omega (arith, last, most, past, same)))))
+
+    pub old_joined : (k j : ℕ) → j < length (starts t) → (list_at t lists es (k * frame_of t) j).from < now → now ≤ k * frame_of t + (leg_at (frame_at t lists es (k * frame_of t)) j).to
+        → up_to (λ i. joined (g (i * frame_of t)) (filter (begun_before now) (lists_at t lists es (i * frame_of t)))) (rounds_before (frame_of t) now) ≡ g (k * frame_of t) (list_at t lists es (k * frame_of t) j)
+    old_joined k j l began upto =
+        let h = frame_of t in
+        let p = frame_at t lists es (k * h) in
+        let x = λ (i : ℕ). joined (g (i * h)) (filter (begun_before now) (lists_at t lists es (i * h))) in
+        let most : (leg_at p j).to ≤ h = leg_end 0 h (length p.jobs) j p.legs (serving (k * h)).chain (known_leg (k * h) j l) in
+        let count : rounds_before h now ≡ suc k = frames_begun h k now run.ticks (omega (arith, began)) (omega (arith, upto, most)) in
+        let before : up_to x k ≡ [] = up_to_none x k (λ i less. in_earlier (i * h) (let end = frame_before h i k less in omega (arith, end, began))) in
+        ap (up_to x) count ∙ ap (λ (xs : List A). xs ++ x k) before ∙ in_last (k * h) j l began upto
+
+    -- of the list that begins
+    pub new_joined : (k j : ℕ) → j < length (starts t) → now ≡ (list_at t lists es (k * frame_of t) j).from
+        → (frame_of t * (now / frame_of t) ≡ k * frame_of t) × (joined (g (k * frame_of t)) (filter (begins_at now) (lists_at t lists es (k * frame_of t))) ≡ g (k * frame_of t) (list_at t lists es (k * frame_of t) j))
+    new_joined k j l now_is =
+        let h = frame_of t in
+        let f = k * h in
+        let r = list_at t lists es f j in
+        let below : get_or (starts t) j 0 < h = start_below (root_periods t) h j (get_or (starts t) j 0) (slice_get-get_or (starts t) j 0 l) in
+        let start = start_of f j l in
+        let less : (leg_at (frame_at t lists es f) j).from < h = omega (arith, below, start) in (
+          ap (λ n. h * (n / h)) now_is ∙ frame_is h k (leg_at (frame_at t lists es f) j).from run.ticks less,
+          joined_one (g f) (begins_at now) (lists_at t lists es f) j r (there f j l) (eq-eqb r.from now (sym now_is))
+              (λ i y other at pass.
+              let o = only f i y at in
+              let same : (list_at t lists es f i).from ≡ r.from = ap (λ (z : RunningList). z.from) o.1 ∙ eqb-true y.from now pass ∙ now_is in
+              absurd (one_start i j o.0 l (let a = start_of f i o.0 in omega (arith, a, start, same)) other)),
+        )
+
+    pub none_joined : ((j : ℕ) → j < length (starts t) → frame_of t * (now / frame_of t) + get_or (starts t) j 0 ≢ now)
+        → joined (g (frame_of t * (now / frame_of t))) (filter (begins_at now) (lists_at t lists es (frame_of t * (now / frame_of t)))) ≡ []
+    none_joined away =
+        let f = frame_of t * (now / frame_of t) in
+        joined_none (g f) (begins_at now) (lists_at t lists es f) (λ i y at pass.
+        let o = only f i y at in
+        let same : (list_at t lists es f i).from ≡ now = ap (λ (z : RunningList). z.from) o.1 ∙ eqb-true y.from now pass in
+        absurd (away i o.0 (let a = start_of f i o.0 in omega (arith, a, same))))
+
+  pub no_frames : rounds_before (frame_of t) 0 ≡ 0
+  no_frames = first (frame_of t) run.ticks
     where
       first : (h : ℕ) → 0 < h → rounds_before h 0 ≡ 0
       first h some = grind arith
@@ -276,13 +282,19 @@ pub lists_run : ListsRun
 lists_run t lists es f j run l = there t lists es run f j l
 
 pub old_records : OldRecords
-old_records t lists es k j now run l began upto = old_is t lists es run k j now l began upto
+old_records t lists es k j now run l began upto =
+    ap (old_records_by t lists es now) (hyper_is t lists es run) ∙ old_joined t lists es run (λ f r. left_in now f r) now (λ f r e. e) k j l began upto
 
 pub no_old_records : NoOldRecords
-no_old_records t lists es run = none_old t lists es run
+no_old_records t lists es run =
+    ap (old_records_by t lists es 0) (hyper_is t lists es run) ∙ ap (up_to (λ (i : ℕ). in_frame t lists es (begun_before 0) 0 (i * frame_of t))) (no_frames t lists es run)
 
 pub new_records : NewRecords
-new_records t lists es k j run l = new_is t lists es run k j l
+new_records t lists es k j run l =
+    let now = (list_at t lists es (k * frame_of t) j).from in
+    let r = new_joined t lists es run (λ f r. left_in now f r) now (λ f r e. e) k j l refl in
+    ap (new_records_by t lists es now) (hyper_is t lists es run) ∙ ap (in_frame t lists es (begins_at now) now) r.0 ∙ r.1
 
 pub no_new_records : NoNewRecords
-no_new_records t lists es now run away = none_new t lists es run now away
+no_new_records t lists es now run away =
+    ap (new_records_by t lists es now) (hyper_is t lists es run) ∙ none_joined t lists es run (λ f r. left_in now f r) now (λ f r e. e) away

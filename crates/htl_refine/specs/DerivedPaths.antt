@@ -1,5 +1,5 @@
 -- The jobs of a path where modules run in these modes at each start.
-use Rattle.std.specs.Prelude.{ℕ, zero, suc, ◌≡◌, ◌<◌, ◌%◌, true, cond, eqb, List, [], ◌∷◌, ◌++◌, length, take, map, get_or, slice_get, Option, Some, None}
+use Rattle.std.specs.Prelude.{ℕ, ◌≡◌, ◌<◌, ◌%◌, true, cond, eqb, List, [], ◌∷◌, ◌++◌, length, take, map, get_or, slice_get, Option, Some, None}
 use Rattle.std.specs.List.{flat_map}
 use Rattle.htl_model.specs.Tables.{Tables}
 use Rattle.htl_model.specs.FrameRules.{KeptApart}

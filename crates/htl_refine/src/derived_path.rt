@@ -37,9 +37,9 @@ fn begun_mode(t: &Tables, modes: &[Option<u16>], at: Time, unit: u16) -> Option<
 
 // The modes in which the modules are, and the running child of each invocation there.
 #[derive(Clone, Copy)]
-struct Running<'a> {
-    modes: &'a [Option<u16>],
-    children: &'a [Option<u16>],
+pub(crate) struct Running<'a> {
+    pub(crate) modes: &'a [Option<u16>],
+    pub(crate) children: &'a [Option<u16>],
 }
 
 // Writes what stands for the root invocations of a mode's round to the places from `n` on: the place behind the last.
@@ -73,7 +73,7 @@ fn put_round(
 }
 
 // Writes what stands at the positions of the rounds that begin at an instant to the places from `n` on: the place behind the last.
-fn put_start(
+pub(crate) fn put_start(
     t: &Tables,
     roots: &[u16],
     running: Running,

@@ -2,6 +2,7 @@
 #![tactic(auto)]
 
 mod answer;
+mod begun;
 mod derived;
 mod derived_path;
 pub mod laws;
@@ -10,11 +11,10 @@ mod refining;
 mod roots;
 mod rule;
 mod selection;
-#[cfg(test)]
-mod tests;
 mod trial;
 
 pub use answer::refine;
+pub use begun::{begun_choice, derive_begun};
 pub use derived::derive;
 pub use derived_path::{derive_in_frame, derive_path};
 pub use roots::selection_of;

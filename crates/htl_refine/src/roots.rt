@@ -30,7 +30,7 @@ fn mode_place(t: &Tables, module: u16, mode: u16) -> u32
 }
 
 // The place of a module's mode among its modes.
-fn entry_place(t: &Tables, modes: &[Option<u16>], module: u16) -> u32
+pub(crate) fn entry_place(t: &Tables, modes: &[Option<u16>], module: u16) -> u32
     ensures value { result ≡ entry_place_of t.now modes.now «module» }
     ensures few { result ≤ 256 }
 {

@@ -22,6 +22,3 @@ pub use tree::{
     CommNode, ConstNode, EndNode, Id, InvokeNode, ModeNode, ModuleNode, Num, OutNode, OutNodes,
     ParamNode, ProgramNode, SwitchNode, TaskNode, Tree,
 };
-
-#[cfg(test)]
-mod tests;

@@ -37,7 +37,7 @@ use Rattle.htl_top.specs.Bulk.{bulk_events, readings_of, value_at, values_text, 
 use Rattle.htl_top.specs.Causes.{IsOrMemory}
 use Rattle.htl_top.specs.Sources.{HasTables, answer_of}
 use Rattle.htl_top.specs.declared.outcome.Outcome.{Outcome}
-use Rattle.htl_top.specs.declared.outcome.Outcome.TheVariants.{Done, Usage, Source, IllFormed, Unschedulable, Platform, Task, Object as Refused, Script, Shelf, Read, Write, Memory}
+use Rattle.htl_top.specs.declared.outcome.Outcome.TheVariants.{Done, Usage, Source, IllFormed, Unschedulable, Platform, Task, Log, Patch, Object as Refused, Script, Shelf, Read, Write, Memory}
 
 -- ---- what a finished machine has
 
@@ -150,6 +150,8 @@ module _ (n : ℕ) (old new : Streams) where
   unread Usage b = absurd b
   unread (Platform f) b = absurd b
   unread Task b = absurd b
+  unread (Log f) b = absurd b
+  unread (Patch f) b = absurd b
   unread (Source f) b = absurd b
   unread (IllFormed f) b = absurd b
   unread (Unschedulable sel from to demand) b = absurd b
@@ -165,6 +167,8 @@ module _ (n : ℕ) (old new : Streams) where
   unwritten Usage b early = absurd b
   unwritten (Platform f) b early = absurd b
   unwritten Task b early = absurd b
+  unwritten (Log f) b early = absurd b
+  unwritten (Patch f) b early = absurd b
   unwritten (Source f) b early = absurd b
   unwritten (IllFormed f) b early = absurd b
   unwritten (Unschedulable sel from to demand) b early = absurd b
@@ -180,6 +184,8 @@ module _ (n : ℕ) (old new : Streams) where
   complete Usage still b = absurd b
   complete (Platform f) still b = absurd b
   complete Task still b = absurd b
+  complete (Log f) still b = absurd b
+  complete (Patch f) still b = absurd b
   complete (Source f) still b = absurd b
   complete (IllFormed f) still b = absurd b
   complete (Unschedulable sel from to demand) still b = absurd b

@@ -19,7 +19,7 @@ use Rattle.htl_top.specs.Causes.{IsOrMemory}
 use Rattle.htl_top.specs.Compiling.{IsCompiling, IsBytesCompiled, compiled_bytes}
 use Rattle.htl_top.specs.Sources.{IsInput, IsInputProgram, IsFaultyInput, IsLongInput, IsInputFault, IsNotCompiled, answer_of, outcome_of}
 use Rattle.htl_top.specs.declared.outcome.Outcome.{Outcome}
-use Rattle.htl_top.specs.declared.outcome.Outcome.TheVariants.{Done, Usage, Source, IllFormed, Unschedulable, Platform, Task, Object as Refused, Script, Shelf, Read, Write, Memory}
+use Rattle.htl_top.specs.declared.outcome.Outcome.TheVariants.{Done, Usage, Source, IllFormed, Unschedulable, Platform, Task, Log, Patch, Object as Refused, Script, Shelf, Read, Write, Memory}
 use Rattle.htl_top.specs.declared.source.SourceStop.{SourceStop}
 use Rattle.htl_top.specs.declared.source.SourceStop.TheVariants as stop
 
@@ -71,6 +71,8 @@ module _ (old new : Streams) where
   unwritten Usage compiling early = absurd compiling
   unwritten (Platform f) compiling early = absurd compiling
   unwritten Task compiling early = absurd compiling
+  unwritten (Log f) compiling early = absurd compiling
+  unwritten (Patch f) compiling early = absurd compiling
   unwritten (Refused f) compiling early = absurd compiling
   unwritten (Script f) compiling early = absurd compiling
   unwritten (Shelf cause) compiling early = absurd compiling
@@ -110,6 +112,8 @@ module _ (old new : Streams) where
     long_input Usage compiling long quiet = absurd compiling
     long_input (Platform f) compiling long quiet = absurd compiling
     long_input Task compiling long quiet = absurd compiling
+    long_input (Log f) compiling long quiet = absurd compiling
+    long_input (Patch f) compiling long quiet = absurd compiling
     long_input (Refused f) compiling long quiet = absurd compiling
     long_input (Script f) compiling long quiet = absurd compiling
     long_input (Shelf cause) compiling long quiet = absurd compiling
@@ -136,6 +140,8 @@ module _ (old new : Streams) where
       faulty_input Usage compiling quiet = absurd compiling
       faulty_input (Platform f) compiling quiet = absurd compiling
       faulty_input Task compiling quiet = absurd compiling
+      faulty_input (Log f) compiling quiet = absurd compiling
+      faulty_input (Patch f) compiling quiet = absurd compiling
       faulty_input (Refused g) compiling quiet = absurd compiling
       faulty_input (Script g) compiling quiet = absurd compiling
       faulty_input (Shelf cause) compiling quiet = absurd compiling
@@ -157,6 +163,8 @@ module _ (old new : Streams) where
       complete Usage compiling quiet still = absurd compiling
       complete (Platform f) compiling quiet still = absurd compiling
       complete Task compiling quiet still = absurd compiling
+      complete (Log f) compiling quiet still = absurd compiling
+      complete (Patch f) compiling quiet still = absurd compiling
       complete (Refused g) compiling quiet still = absurd compiling
       complete (Script g) compiling quiet still = absurd compiling
       complete (Shelf cause) compiling quiet still = absurd compiling

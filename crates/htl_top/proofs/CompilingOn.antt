@@ -28,7 +28,7 @@ use Rattle.htl_top.specs.CompilingOn.{IsCompilingOn, IsBytesCompiledOn, compiled
 use Rattle.htl_top.specs.Sources.{IsInput, answer_of, outcome_of}
 use Rattle.htl_top.specs.SourcesOn.{IsProgramOn, IsFaultyOn, IsInputFaultOn, IsNotCompiledOn, answer_on}
 use Rattle.htl_top.specs.declared.outcome.Outcome.{Outcome}
-use Rattle.htl_top.specs.declared.outcome.Outcome.TheVariants.{Done, Usage, Source, IllFormed, Unschedulable, Platform, Task, Object as Refused, Script, Shelf, Read, Write, Memory}
+use Rattle.htl_top.specs.declared.outcome.Outcome.TheVariants.{Done, Usage, Source, IllFormed, Unschedulable, Platform, Task, Log, Patch, Object as Refused, Script, Shelf, Read, Write, Memory}
 use Rattle.htl_top.specs.declared.outcome.ShelfCause.TheVariants.{Failed, TooLong}
 use Rattle.htl_top.specs.declared.source.SourceStop.{SourceStop}
 use Rattle.htl_top.specs.declared.source.SourceStop.TheVariants as stop
@@ -92,6 +92,8 @@ module _ (name : Option (List ℕ)) (shelf : Files) (old new : Streams) where
   unwritten (Source f) compiling early = compiling.1
   unwritten (Platform f) compiling early = compiling.1
   unwritten Task compiling early = absurd compiling
+  unwritten (Log f) compiling early = absurd compiling
+  unwritten (Patch f) compiling early = absurd compiling
   unwritten (IllFormed f) compiling early = compiling.1
   unwritten (Unschedulable sel a b demand) compiling early = compiling.1
   unwritten (Shelf Failed) compiling early = compiling.1.written
@@ -141,6 +143,8 @@ module _ (name : Option (List ℕ)) (shelf : Files) (old new : Streams) where
       long_platform (Source f) compiling = absurd (no_input_fault (on.Compile (compile.Source f)) compiling.0)
       long_platform (Platform f) compiling = absurd (no_file compiling.0.file compiling.0.held)
       long_platform Task compiling = absurd compiling
+      long_platform (Log f) compiling = absurd compiling
+      long_platform (Patch f) compiling = absurd compiling
       long_platform (IllFormed f) compiling = absurd (no_input_fault (on.Compile (compile.IllFormed f)) compiling.0)
       long_platform (Unschedulable sel a b demand) compiling = absurd (no_input_fault (on.Compile (compile.Unschedulable sel a b demand)) compiling.0)
       long_platform (Shelf Failed) compiling = absurd (no_fault compiling.0)
@@ -181,6 +185,8 @@ module _ (name : Option (List ℕ)) (shelf : Files) (old new : Streams) where
         long_input (Source f) compiling quiet = inl (long_fault (compile.Source f) compiling.0)
         long_input (Platform f) compiling quiet = absurd (no_input compiling.0.bytes compiling.0.input)
         long_input Task compiling quiet = absurd compiling
+        long_input (Log f) compiling quiet = absurd compiling
+        long_input (Patch f) compiling quiet = absurd compiling
         long_input (IllFormed f) compiling quiet = inl (long_fault (compile.IllFormed f) compiling.0)
         long_input (Unschedulable sel a b demand) compiling quiet = inl (long_fault (compile.Unschedulable sel a b demand) compiling.0)
         long_input (Shelf Failed) compiling quiet = absurd (no_fault compiling.0)
@@ -216,6 +222,8 @@ module _ (name : Option (List ℕ)) (shelf : Files) (old new : Streams) where
           faulty_on (Source g) compiling quiet = inl (this (on.Compile (compile.Source g)) (λ e. cc) (fault_told (on.Compile (compile.Source g)) compiling.0))
           faulty_on (Platform g) compiling quiet = inl (this (on.Platform g) (λ e. cc) (fault_of (on.Platform g) compiling.0))
           faulty_on Task compiling quiet = absurd compiling
+          faulty_on (Log f) compiling quiet = absurd compiling
+          faulty_on (Patch g) compiling quiet = absurd compiling
           faulty_on (IllFormed g) compiling quiet = inl (this (on.Compile (compile.IllFormed g)) (λ e. cc) (fault_told (on.Compile (compile.IllFormed g)) compiling.0))
           faulty_on (Unschedulable sel a b demand) compiling quiet =
               inl (this (on.Compile (compile.Unschedulable sel a b demand)) (λ e. cc) (fault_told (on.Compile (compile.Unschedulable sel a b demand)) compiling.0))
@@ -240,6 +248,8 @@ module _ (name : Option (List ℕ)) (shelf : Files) (old new : Streams) where
           complete (Source g) compiling quiet still = absurd (none_of (on.Compile (compile.Source g)) (λ e. cc) (fault_told (on.Compile (compile.Source g)) compiling.0))
           complete (Platform g) compiling quiet still = absurd (none_of (on.Platform g) (λ e. cc) (fault_of (on.Platform g) compiling.0))
           complete Task compiling quiet still = absurd compiling
+          complete (Log f) compiling quiet still = absurd compiling
+          complete (Patch g) compiling quiet still = absurd compiling
           complete (IllFormed g) compiling quiet still = absurd (none_of (on.Compile (compile.IllFormed g)) (λ e. cc) (fault_told (on.Compile (compile.IllFormed g)) compiling.0))
           complete (Unschedulable sel a b demand) compiling quiet still =
               absurd (none_of (on.Compile (compile.Unschedulable sel a b demand)) (λ e. cc) (fault_told (on.Compile (compile.Unschedulable sel a b demand)) compiling.0))

@@ -28,7 +28,7 @@ use Rattle.htl_top.specs.Going.{IsUncompiled, IsGoing, IsBytesGoing, IsReadySour
 use Rattle.htl_top.specs.Runs.{IsRun}
 use Rattle.htl_top.specs.Sources.{HasTables, IsProgram, IsFaultyProgram, IsNotCompiled, answer_of, outcome_of}
 use Rattle.htl_top.specs.declared.outcome.Outcome.{Outcome}
-use Rattle.htl_top.specs.declared.outcome.Outcome.TheVariants.{Done, Usage, Source, IllFormed, Unschedulable, Platform, Task, Object as Refused, Script, Shelf, Read, Write, Memory}
+use Rattle.htl_top.specs.declared.outcome.Outcome.TheVariants.{Done, Usage, Source, IllFormed, Unschedulable, Platform, Task, Log, Patch, Object as Refused, Script, Shelf, Read, Write, Memory}
 use Rattle.htl_top.specs.declared.outcome.ShelfCause.TheVariants.{Failed, TooLong}
 use Rattle.htl_top.specs.declared.source.SourceStop.{SourceStop}
 use Rattle.htl_top.specs.declared.source.SourceStop.TheVariants as stop
@@ -83,6 +83,8 @@ uncompiled_before name shelf Done s work = absurd s
 uncompiled_before name shelf Usage s work = absurd s
 uncompiled_before name shelf (Platform f) s work = absurd s
 uncompiled_before name shelf Task s work = absurd s
+uncompiled_before name shelf (Log f) s work = absurd s
+uncompiled_before name shelf (Patch f) s work = absurd s
 uncompiled_before name shelf (Source f) s work = absurd work
 uncompiled_before name shelf (IllFormed f) s work = absurd work
 uncompiled_before name shelf (Unschedulable sel a b demand) s work = absurd work
@@ -97,6 +99,8 @@ early_work Done early work = absurd early
 early_work Usage early work = absurd work
 early_work (Platform f) early work = absurd work
 early_work Task early work = refl
+early_work (Log f) early work = absurd work
+early_work (Patch f) early work = absurd work
 early_work (Source f) early work = absurd work
 early_work (IllFormed f) early work = absurd work
 early_work (Unschedulable sel a b demand) early work = absurd work
@@ -201,6 +205,8 @@ module _ (name : Option (List ℕ)) (shelf : Files) (old new : Streams) where
     long_stopped Usage long s = absurd s
     long_stopped (Platform f) long s = absurd s
     long_stopped Task long s = absurd s
+    long_stopped (Log f) long s = absurd s
+    long_stopped (Patch f) long s = absurd s
     long_stopped (Refused f) long s = absurd s
     long_stopped (Script f) long s = absurd s
     long_stopped Read long s = absurd s
@@ -225,6 +231,8 @@ module _ (name : Option (List ℕ)) (shelf : Files) (old new : Streams) where
       faulty_stopped Usage s = absurd s
       faulty_stopped (Platform f) s = absurd s
       faulty_stopped Task s = absurd s
+      faulty_stopped (Log f) s = absurd s
+      faulty_stopped (Patch f) s = absurd s
       faulty_stopped (Refused g) s = absurd s
       faulty_stopped (Script g) s = absurd s
       faulty_stopped Read s = absurd s
@@ -256,6 +264,8 @@ module _ (name : Option (List ℕ)) (shelf : Files) (old new : Streams) where
     ready_stopped Usage s = absurd s
     ready_stopped (Platform f) s = absurd s
     ready_stopped Task s = absurd s
+    ready_stopped (Log f) s = absurd s
+    ready_stopped (Patch f) s = absurd s
     ready_stopped (Refused g) s = absurd s
     ready_stopped (Script g) s = absurd s
     ready_stopped Read s = absurd s

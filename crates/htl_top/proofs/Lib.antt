@@ -1,3 +1,8 @@
+pub mod AuditCalling
+pub mod AuditFiles
+pub mod AuditScripts
+pub mod AuditStreaming
+pub mod Auditing
 pub mod Bulking
 pub mod Calling
 pub mod Compiling
@@ -5,6 +10,7 @@ pub mod CompilingOn
 pub mod Counts
 pub mod EarlierReadings
 pub mod Executing
+pub mod Fetching
 pub mod Generated
 pub mod GeneratedLength
 pub mod Going
@@ -14,6 +20,7 @@ mod LineExamples
 pub mod LineTelling
 pub mod Meaning
 pub mod ObjectAnswering
+pub mod ObjectCalling
 mod PlanExamples
 pub mod ModuleNumbers
 pub mod Planning
@@ -27,10 +34,17 @@ pub mod SelectionEntries
 pub mod SelectionFields
 pub mod SelectionLines
 pub mod SelectionReading
+pub mod SourceCalling
 pub mod SourceNames
 pub mod Stopping
+pub mod StreamEnd
 pub mod Streaming
 pub mod Totals
 pub mod EqualRounds
 pub mod Slacking
 pub mod SlackCalling
+pub mod CommandWords
+pub mod GivenFiles
+pub mod PatchedObjects
+pub mod Patching
+pub mod PatchCalling

@@ -8,20 +8,24 @@ use Rattle.htl_load.specs.declared.fault.ObjectFault.TheVariants as fault
 use Rattle.htl_model.specs.Tables.{Tables}
 use Rattle.htl_model.specs.declared.form_fault.FormFault.{FormFault}
 use Rattle.htl_object.specs.declared.object.Object.{Object as ObjectOf}
+use Rattle.htl_patch.specs.Patched.{patched}
+use Rattle.htl_patch.specs.declared.fault.PatchFault.{PatchFault}
+use Rattle.htl_patch.specs.declared.fault.PatchFault.TheVariants as patch
 use Rattle.htl_platform.specs.Applied.{with_worst}
 use Rattle.htl_top.specs.Answers.{Streams}
 use Rattle.htl_top.specs.Bulk.{IsBulked}
 use Rattle.htl_top.specs.Calls.{HasSource, HasObject}
 use Rattle.htl_top.specs.Causes.{IsSource}
 use Rattle.htl_top.specs.Objects.{HasObjectTables, IsObjectFile, IsObjectTables, SpeaksOfObject}
+use Rattle.htl_top.specs.PatchedFiles.{HasPatchedTables, IsDonorTold, IsPatchedTables, SpeaksOfPatch}
 use Rattle.htl_top.specs.Runs.{IsRun}
 use Rattle.htl_top.specs.Sources.{HasTypedTables, IsInput, IsNotCompiled, IsTypedInput, IsTypedProgram, outcome_of, tables_of}
 use Rattle.htl_top.specs.SourcesOn.{HasTypedOn, IsTypedOn, IsNotCompiledOn}
 use Rattle.htl_top.specs.Status.{fault_line}
-use Rattle.htl_top.specs.Telling.{SpeaksOf, IsFaultTold, IsLineTold}
-use Rattle.htl_top.specs.Words.{Command, Go, Compile, CompileWith, Run, Check, Plan, Show, Bulk, Slack}
+use Rattle.htl_top.specs.Telling.{SpeaksOf, IsFaultTold, IsPatchFaultTold, IsLineTold}
+use Rattle.htl_top.specs.Words.{Command, Go, Compile, CompileWith, Run, Check, Plan, Show, Bulk, Slack, Audit, Patch}
 use Rattle.htl_top.specs.declared.outcome.Outcome.{Outcome}
-use Rattle.htl_top.specs.declared.outcome.Outcome.TheVariants.{Done, Usage, Source, IllFormed, Unschedulable, Platform, Task, Object, Script, Shelf, Read, Write, Memory}
+use Rattle.htl_top.specs.declared.outcome.Outcome.TheVariants.{Done, Usage, Source, IllFormed, Unschedulable, Platform, Task, Log, Patch as Unpatched, Object, Script, Shelf, Read, Write, Memory}
 use Rattle.htl_top.specs.declared.source.SourceStop.{SourceStop}
 use Rattle.htl_top.specs.declared.source.SourceStop.TheVariants as stop
 
@@ -32,6 +36,8 @@ SpeaksOf-run Sources Objects show t o old new Done told run = tt
 SpeaksOf-run Sources Objects show t o old new Usage told run = tt
 SpeaksOf-run Sources Objects show t o old new (Platform f) told run = tt
 SpeaksOf-run Sources Objects show t o old new Task told run = tt
+SpeaksOf-run Sources Objects show t o old new (Log f) told run = tt
+SpeaksOf-run Sources Objects show t o old new (Unpatched f) told run = absurd run
 SpeaksOf-run Sources Objects show t o old new (Source f) told run = tt
 SpeaksOf-run Sources Objects show t o old new (IllFormed f) told run = absurd run
 SpeaksOf-run Sources Objects show t o old new (Unschedulable sel a b demand) told run = tt
@@ -49,6 +55,8 @@ SpeaksOf-bulk Sources Objects n old new Done told b = tt
 SpeaksOf-bulk Sources Objects n old new Usage told b = tt
 SpeaksOf-bulk Sources Objects n old new (Platform f) told b = tt
 SpeaksOf-bulk Sources Objects n old new Task told b = tt
+SpeaksOf-bulk Sources Objects n old new (Log f) told b = tt
+SpeaksOf-bulk Sources Objects n old new (Unpatched f) told b = absurd b
 SpeaksOf-bulk Sources Objects n old new (Source f) told b = tt
 SpeaksOf-bulk Sources Objects n old new (IllFormed f) told b = absurd b
 SpeaksOf-bulk Sources Objects n old new (Unschedulable sel from to demand) told b = tt
@@ -76,6 +84,17 @@ SpeaksOf-stop-on Objects bytes file (stop.IllFormed f u) is =
 SpeaksOf-stop-on Objects bytes file (stop.Unschedulable sel a b demand) is = tt
 SpeaksOf-stop-on Objects bytes file stop.Memory is = tt
 
+SpeaksOfPatch-source : (Sources Others : (Tables → Type 0) → Type 0) (f : PatchFault) (told : Option Tables) → ((Fact : Tables → Type 0) → Sources Fact → Others Fact)
+    → SpeaksOfPatch Sources f told → SpeaksOfPatch Others f told
+SpeaksOfPatch-source Sources Others (patch.IllFormed f) told map speaks = map (λ t. told ≡ Some t) speaks
+SpeaksOfPatch-source Sources Others (patch.Malformed m) told map speaks = tt
+SpeaksOfPatch-source Sources Others patch.Mode told map speaks = tt
+SpeaksOfPatch-source Sources Others (patch.Comms place) told map speaks = tt
+SpeaksOfPatch-source Sources Others (patch.Parent inv) told map speaks = tt
+SpeaksOfPatch-source Sources Others (patch.Twice unit) told map speaks = tt
+SpeaksOfPatch-source Sources Others (patch.Limit which count) told map speaks = tt
+SpeaksOfPatch-source Sources Others (patch.Function k) told map speaks = tt
+
 -- the source is another way to say the same
 pub SpeaksOf-source : (Sources Others Objects : (Tables → Type 0) → Type 0) (outcome : Outcome) (told : Option Tables) → ((Fact : Tables → Type 0) → Sources Fact → Others Fact)
     → SpeaksOf Sources Objects outcome told → SpeaksOf Others Objects outcome told
@@ -83,6 +102,8 @@ SpeaksOf-source Sources Others Objects Done told map speaks = tt
 SpeaksOf-source Sources Others Objects Usage told map speaks = tt
 SpeaksOf-source Sources Others Objects (Platform f) told map speaks = tt
 SpeaksOf-source Sources Others Objects Task told map speaks = tt
+SpeaksOf-source Sources Others Objects (Log f) told map speaks = tt
+SpeaksOf-source Sources Others Objects (Unpatched f) told map speaks = SpeaksOfPatch-source Sources Others f told map speaks
 SpeaksOf-source Sources Others Objects (Source f) told map speaks = tt
 SpeaksOf-source Sources Others Objects (IllFormed f) told map speaks = map (λ t. told ≡ Some (coded t)) speaks
 SpeaksOf-source Sources Others Objects (Unschedulable sel a b demand) told map speaks = tt
@@ -102,6 +123,26 @@ in_input rest bytes input Fact has = record { bytes = bytes; input = input; has 
 pub in_files : (name : Option (List ℕ)) (holds : Option Holdings) (rest : Option (List ℕ)) (file bytes : List ℕ) → IsSource name holds file → IsInput rest bytes
     → (Fact : Tables → Type 0) → HasTypedOn bytes file Fact → IsTypedOn name holds rest Fact
 in_files name holds rest file bytes held input Fact has = record { file = file; held = held; bytes = bytes; input = input; has = has }
+
+-- what a donor's bytes told is told of the files
+pub SpeaksOf-donor : (Sources Others Objects : (Tables → Type 0) → Type 0) (o : ObjectOf) (unit mode bytes : List ℕ) (old new : Option (List ℕ)) (before now : ℕ) (outcome : Outcome)
+    (told : Option Tables) → IsDonorTold o unit mode bytes old new before now outcome → ((Fact : Tables → Type 0) → Sources Fact → Others Fact)
+    → SpeaksOf Sources (λ fact. ⊥) outcome told → SpeaksOf Others Objects outcome told
+SpeaksOf-donor Sources Others Objects o unit mode bytes old new before now Done told donor map speaks = tt
+SpeaksOf-donor Sources Others Objects o unit mode bytes old new before now Usage told donor map speaks = tt
+SpeaksOf-donor Sources Others Objects o unit mode bytes old new before now (Platform f) told donor map speaks = tt
+SpeaksOf-donor Sources Others Objects o unit mode bytes old new before now (Log illegal) told donor map speaks = tt
+SpeaksOf-donor Sources Others Objects o unit mode bytes old new before now Task told donor map speaks = tt
+SpeaksOf-donor Sources Others Objects o unit mode bytes old new before now (Unpatched f) told donor map speaks = SpeaksOfPatch-source Sources Others f told map speaks
+SpeaksOf-donor Sources Others Objects o unit mode bytes old new before now (Source f) told donor map speaks = tt
+SpeaksOf-donor Sources Others Objects o unit mode bytes old new before now (IllFormed f) told donor map speaks = absurd donor
+SpeaksOf-donor Sources Others Objects o unit mode bytes old new before now (Unschedulable sel a b demand) told donor map speaks = tt
+SpeaksOf-donor Sources Others Objects o unit mode bytes old new before now (Object f) told donor map speaks = absurd donor
+SpeaksOf-donor Sources Others Objects o unit mode bytes old new before now (Script f) told donor map speaks = tt
+SpeaksOf-donor Sources Others Objects o unit mode bytes old new before now (Shelf cause) told donor map speaks = tt
+SpeaksOf-donor Sources Others Objects o unit mode bytes old new before now Read told donor map speaks = tt
+SpeaksOf-donor Sources Others Objects o unit mode bytes old new before now Write told donor map speaks = tt
+SpeaksOf-donor Sources Others Objects o unit mode bytes old new before now Memory told donor map speaks = tt
 
 -- the object is that of the words
 pub SpeaksOfObject-file : (name : Option (List ℕ)) (holds : Option Holdings) (bytes : List ℕ) (f : ObjectFault) (told : Option Tables)
@@ -147,6 +188,13 @@ object_maps : (name : Option (List ℕ)) (holds : Option Holdings) → Maps (IsO
 object_maps name holds Fact Other f t =
     record { bytes = t.bytes; file = t.file; has = record { object = t.has.object; has = t.has.has; fact = f t.has.object.tables t.has.fact } }
 
+patched_maps : (name unit mode donor : List ℕ) (holds : Option Holdings) → Maps (IsPatchedTables name unit mode donor holds)
+patched_maps name unit mode donor holds Fact Other f a =
+    let b = a.fact in
+    let p = b.fact in
+    let q : HasPatchedTables a.object unit mode b.bytes Other = record { donor = p.donor; has = p.has; graft = p.graft; modes = p.modes; fact = f (patched p.graft) p.fact } in
+    record { bytes = a.bytes; file = a.file; object = a.object; has = a.has; accepted = a.accepted; fact = record { bytes = b.bytes; file = b.file; fact = q } }
+
 source_of_maps : (command : Option Command) (holds : Option Holdings) (rest : Option (List ℕ)) → Maps (HasSource command holds rest)
 source_of_maps None holds rest Fact Other f h = h
 source_of_maps (Some (Go name)) holds rest Fact Other f h = program_maps (Some name) holds Fact Other f h
@@ -158,6 +206,8 @@ source_of_maps (Some (Plan name)) holds rest Fact Other f h = h
 source_of_maps (Some (Show name)) holds rest Fact Other f h = h
 source_of_maps (Some (Bulk n)) holds rest Fact Other f h = h
 source_of_maps (Some (Slack name owner task)) holds rest Fact Other f h = h
+source_of_maps (Some (Audit name log)) holds rest Fact Other f h = h
+source_of_maps (Some (Patch name unit mode donor)) holds rest Fact Other f h = patched_maps name unit mode donor holds Fact Other f h
 
 object_of_maps : (command : Option Command) (holds : Option Holdings) → Maps (HasObject command holds)
 object_of_maps None holds Fact Other f h = h
@@ -170,6 +220,8 @@ object_of_maps (Some (Plan name)) holds Fact Other f h = object_maps (Some name)
 object_of_maps (Some (Show name)) holds Fact Other f h = object_maps (Some name) holds Fact Other f h
 object_of_maps (Some (Bulk n)) holds Fact Other f h = h
 object_of_maps (Some (Slack name owner task)) holds Fact Other f h = object_maps (Some name) holds Fact Other f h
+object_of_maps (Some (Audit name log)) holds Fact Other f h = object_maps (Some name) holds Fact Other f h
+object_of_maps (Some (Patch name unit mode donor)) holds Fact Other f h = object_maps (Some name) holds Fact Other f h
 
 -- the names of tables with code are those of the tables
 names_of : (t : Tables) (f : FormFault) → fault_line (Some (coded t)) (IllFormed f) ≡ fault_line (Some t) (IllFormed f)
@@ -185,12 +237,26 @@ module _ (command : Option Command) (holds : Option Holdings) (rest : Option (Li
   fault_told (fault.ECode e) speaks told = told
   fault_told (fault.Schedule sel m) speaks told = told
 
+  patch_told : (f : PatchFault) → SpeaksOfPatch (HasSource command holds rest) f tables → Told (fault_line tables (Unpatched f)) → IsPatchFaultTold (HasSource command holds rest) Told f
+  patch_told (patch.IllFormed f) speaks told =
+      source_of_maps command holds rest (λ t. tables ≡ Some t) (λ t. Told (fault_line (Some t) (Unpatched (patch.IllFormed f))))
+      (λ t same. subst (λ (o : Option Tables). Told (fault_line o (Unpatched (patch.IllFormed f)))) same told) speaks
+  patch_told (patch.Malformed m) speaks told = told
+  patch_told patch.Mode speaks told = told
+  patch_told (patch.Comms place) speaks told = told
+  patch_told (patch.Parent inv) speaks told = told
+  patch_told (patch.Twice unit) speaks told = told
+  patch_told (patch.Limit which count) speaks told = told
+  patch_told (patch.Function k) speaks told = told
+
   pub IsLineTold-report : (outcome : Outcome) → SpeaksOf (HasSource command holds rest) (HasObject command holds) outcome tables → Told (fault_line tables outcome)
       → IsLineTold (HasSource command holds rest) (HasObject command holds) Told outcome
   IsLineTold-report Done speaks told = told
   IsLineTold-report Usage speaks told = told
   IsLineTold-report (Platform f) speaks told = told
   IsLineTold-report Task speaks told = told
+  IsLineTold-report (Log f) speaks told = told
+  IsLineTold-report (Unpatched f) speaks told = patch_told f speaks told
   IsLineTold-report (Source f) speaks told = told
   IsLineTold-report (IllFormed f) speaks told =
       source_of_maps command holds rest (λ t. tables ≡ Some (coded t)) (λ t. Told (fault_line (Some t) (IllFormed f)))

@@ -1,42 +1,46 @@
 -- What a command on an object answers, by what it does with an accepted one.
 use Rattle.std.proofs.Common.{arith, ◌≡◌, ◌≤◌, ◌<◌, ◌⊎◌, ℕ, List, length, Option, Some, Ok, Err, refl, sym, ap, ◌∙◌, subst, inl, inr}
-use Rattle.std.specs.FinMap.{get}
 use Rattle.htl_base.specs.declared.limits.TheConstants.{MAX_OBJECT}
 use Rattle.htl_edge.specs.Causes.{Rose}
-use Rattle.htl_edge.specs.Holdings.{Holdings, HoldsUnder}
+use Rattle.htl_edge.specs.Holdings.{Holdings}
 use Rattle.htl_load.proofs.Telling.{accepted_bytes, fault_told, bad_field_told}
 use Rattle.htl_load.specs.Loading.{HasBytes, RefusesBytes, RefusesObject}
 use Rattle.htl_load.specs.declared.fault.ObjectFault.{ObjectFault}
 use Rattle.htl_load.specs.declared.fault.ObjectFault.TheVariants as fault
 use Rattle.htl_object.proofs.ObjectLaws.{one_object, says_itself}
 use Rattle.htl_object.specs.Accepted.{IsAccepted}
-use Rattle.htl_object.specs.Files.{fault_of, whole_at}
+use Rattle.htl_object.specs.Files.{fault_of, first_bad, whole_at}
 use Rattle.htl_object.specs.Objects.{object_in, object_or}
 use Rattle.htl_object.specs.Reading.{Read as ReadOf}
 use Rattle.htl_object.specs.declared.lists.Lists.{Lists}
 use Rattle.htl_object.specs.declared.malformed.Malformed.{Malformed}
 use Rattle.htl_object.specs.declared.object.Object.{Object}
+use Rattle.htl_top.proofs.GivenFiles as files
 use Rattle.htl_top.specs.Answers.{Files, Streams, IsWritten, IsBeforeScript, IsBeforeRun}
 use Rattle.htl_top.specs.Causes.{IsFaultOf, IsLongFile, IsGiven, IsOrMemory}
-use Rattle.htl_top.specs.Objects.{IsObjectFile, IsRefusedFile, IsAcceptedFile, IsStopped, IsOnObject, IsTextAnswer, IsTextOnObject, IsReadyObject, Work}
+use Rattle.htl_top.specs.Objects.{IsRefusedFile, IsAcceptedFile, IsStopped, IsOnObject, IsTextAnswer, IsTextOnObject, IsReadyObject, Work}
 use Rattle.htl_top.specs.declared.outcome.Outcome.{Outcome}
-use Rattle.htl_top.specs.declared.outcome.Outcome.TheVariants.{Done, Usage, Source, IllFormed, Unschedulable, Platform, Task, Object as Refused, Script, Shelf, Read, Write, Memory}
+use Rattle.htl_top.specs.declared.outcome.Outcome.TheVariants.{Done, Usage, Source, IllFormed, Unschedulable, Platform, Task, Log, Patch, Object as Refused, Script, Shelf, Read, Write, Memory}
 use Rattle.htl_top.specs.declared.outcome.ShelfCause.TheVariants.{Failed, TooLong}
 
 -- ---- bytes have one object, or one fault
 
-one_of_bytes : (bytes : List ℕ) (o p : Object) → HasBytes bytes o → HasBytes bytes p → o ≡ p
+pub one_of_bytes : (bytes : List ℕ) (o p : Object) → HasBytes bytes o → HasBytes bytes p → o ≡ p
 one_of_bytes bytes o p h k = one_object o p h.object k.object (sym h.spelled ∙ k.spelled)
 
 said : (bytes : List ℕ) (o : Object) → HasBytes bytes o → object_in bytes ≡ Ok o
 said bytes o h = ap object_in h.spelled ∙ says_itself o h.object
 
-accepted_or_refused : (bytes : List ℕ) (o : Object) (f : ObjectFault) → HasBytes bytes o → IsAccepted o → RefusesBytes bytes f → ⊥
+pub accepted_or_refused : (bytes : List ℕ) (o : Object) (f : ObjectFault) → HasBytes bytes o → IsAccepted o → RefusesBytes bytes f → ⊥
 accepted_or_refused bytes o f h accepted refused = accepted_bytes bytes o (said bytes o h) (λ p k. one_of_bytes bytes o p h k) accepted f refused
 
 not_both : (bytes : List ℕ) (r : ReadOf Lists) (o : Object) (m : Malformed) → object_or bytes r ≡ Ok o → fault_of bytes r ≡ Some m → ⊥
 not_both bytes (Ok x) o m p q = cc
 not_both bytes (Err bad) o m p q = cc
+
+-- bytes of an object have no bad field
+pub object_or_bad : (bytes : List ℕ) (o : Object) (m : Malformed) → HasBytes bytes o → first_bad bytes ≡ Some m → ⊥
+object_or_bad bytes o m h bad = not_both bytes (whole_at bytes) o m (said bytes o h) bad
 
 of_object : (bytes : List ℕ) (f g : ObjectFault) → RefusesObject bytes g → RefusesBytes bytes f → f ≡ g
 of_object bytes f g r refused =
@@ -111,6 +115,8 @@ IsOfWork Memory = Unit {0}
 IsOfWork Usage = ⊥
 IsOfWork (Platform f) = ⊥
 IsOfWork Task = Unit {0}
+IsOfWork (Log f) = ⊥
+IsOfWork (Patch f) = ⊥
 IsOfWork (Source f) = ⊥
 IsOfWork (IllFormed f) = ⊥
 IsOfWork (Unschedulable sel a b demand) = ⊥
@@ -129,6 +135,8 @@ text_only text old new Write answer = tt
 text_only text old new Usage answer = absurd answer
 text_only text old new (Platform f) answer = absurd answer
 text_only text old new Task answer = absurd answer
+text_only text old new (Log f) answer = absurd answer
+text_only text old new (Patch f) answer = absurd answer
 text_only text old new (Source f) answer = absurd answer
 text_only text old new (IllFormed f) answer = absurd answer
 text_only text old new (Unschedulable sel a b demand) answer = absurd answer
@@ -144,6 +152,8 @@ text_unwritten text old new Write answer early = absurd early
 text_unwritten text old new Usage answer early = absurd answer
 text_unwritten text old new (Platform f) answer early = absurd answer
 text_unwritten text old new Task answer early = absurd answer
+text_unwritten text old new (Log f) answer early = absurd answer
+text_unwritten text old new (Patch f) answer early = absurd answer
 text_unwritten text old new (Source f) answer early = absurd answer
 text_unwritten text old new (IllFormed f) answer early = absurd answer
 text_unwritten text old new (Unschedulable sel a b demand) answer early = absurd answer
@@ -167,6 +177,8 @@ text_unread text old new Write answer = answer.0
 text_unread text old new Usage answer = absurd answer
 text_unread text old new (Platform f) answer = absurd answer
 text_unread text old new Task answer = absurd answer
+text_unread text old new (Log f) answer = absurd answer
+text_unread text old new (Patch f) answer = absurd answer
 text_unread text old new (Source f) answer = absurd answer
 text_unread text old new (IllFormed f) answer = absurd answer
 text_unread text old new (Unschedulable sel a b demand) answer = absurd answer
@@ -183,6 +195,8 @@ text_done text old new Write answer still = absurd (still answer.1)
 text_done text old new Usage answer still = absurd answer
 text_done text old new (Platform f) answer still = absurd answer
 text_done text old new Task answer still = absurd answer
+text_done text old new (Log f) answer still = absurd answer
+text_done text old new (Patch f) answer still = absurd answer
 text_done text old new (Source f) answer still = absurd answer
 text_done text old new (IllFormed f) answer still = absurd answer
 text_done text old new (Unschedulable sel a b demand) answer still = absurd answer
@@ -201,6 +215,8 @@ stopped_before name shelf Done stopped work = absurd stopped
 stopped_before name shelf Usage stopped work = absurd stopped
 stopped_before name shelf (Platform f) stopped work = absurd stopped
 stopped_before name shelf Task stopped work = absurd stopped
+stopped_before name shelf (Log f) stopped work = absurd stopped
+stopped_before name shelf (Patch f) stopped work = absurd stopped
 stopped_before name shelf (Source f) stopped work = absurd stopped
 stopped_before name shelf (IllFormed f) stopped work = absurd stopped
 stopped_before name shelf (Unschedulable sel a b demand) stopped work = absurd stopped
@@ -215,6 +231,8 @@ early_work Done early work = absurd early
 early_work Usage early work = absurd work
 early_work (Platform f) early work = absurd work
 early_work Task early work = refl
+early_work (Log f) early work = absurd work
+early_work (Patch f) early work = absurd work
 early_work (Source f) early work = absurd work
 early_work (IllFormed f) early work = absurd work
 early_work (Unschedulable sel a b demand) early work = absurd work
@@ -261,37 +279,18 @@ module _ (Does : Work) (work : IsWork Does) (name : Option (List ℕ)) (shelf : 
   -- ---- of bytes that are given
 
   module _ (bytes : List ℕ) (given : IsGiven name shelf.holds shelf.before shelf.after bytes) where
-    same_bytes : (others : List ℕ) → IsObjectFile name shelf.holds others → others ≡ bytes
-    same_bytes others file =
-        let same : file.word ≡ given.word = let p = file.named in let q = given.named in cc in
-        let told : get given.held file.word ≡ Some others = subst (λ (holds : Option Holdings). HoldsUnder holds file.word others) given.told file.held in
-        let held = given.file in
-        cc
-
-    short_bytes : (others : List ℕ) → IsObjectFile name shelf.holds others → length bytes ≤ 16777216
-    short_bytes others file = subst (λ (bs : List ℕ). length bs ≤ 16777216) (same_bytes others file) file.short
-
-    seen_long : (seen : ℕ) → IsLongFile MAX_OBJECT name shelf.holds seen → (16777216 < length bytes) × (seen ≡ length bytes)
-    seen_long seen is =
-        let long : IsLongFile MAX_OBJECT (Some given.word) (Some given.held) seen =
-        subst (λ (o : Option (List ℕ)). IsLongFile MAX_OBJECT o (Some given.held) seen) given.named (subst (λ (holds : Option Holdings). IsLongFile MAX_OBJECT name holds seen) given.told is) in
-        let same : long.1.0 ≡ bytes = let p = long.1.1 in let q = given.file in cc in
-        let length_seen : seen ≡ length bytes = long.1.2 ∙ ap length same in
-        (omega (arith, long.0, length_seen), length_seen)
-
-    no_fault : IsFaultOf name shelf.before shelf.after → ⊥
-    no_fault is = given.no_fault (subst (λ (o : Option (List ℕ)). IsFaultOf o shelf.before shelf.after) given.named is)
-
     -- the file is too long
-    long_stopped : (outcome : Outcome) → 16777216 < length bytes → IsStopped name shelf outcome → IsOrMemory outcome (Shelf (TooLong (length bytes)))
-    long_stopped (Refused f) long s = absurd (omega (arith, long, short_bytes s.bytes s.file))
-    long_stopped (Shelf Failed) long s = absurd (no_fault s)
-    long_stopped (Shelf (TooLong seen)) long s = inl (ap (λ (n : ℕ). Shelf (TooLong n)) (seen_long seen s).1)
+    pub long_stopped : (outcome : Outcome) → 16777216 < length bytes → IsStopped name shelf outcome → IsOrMemory outcome (Shelf (TooLong (length bytes)))
+    long_stopped (Refused f) long s = absurd (omega (arith, long, files.short_bytes name shelf bytes given s.bytes s.file))
+    long_stopped (Shelf Failed) long s = absurd (files.no_fault name shelf bytes given s)
+    long_stopped (Shelf (TooLong seen)) long s = inl (ap (λ (n : ℕ). Shelf (TooLong n)) (files.seen_long name shelf bytes given seen s).1)
     long_stopped Memory long s = inr refl
     long_stopped Done long s = absurd s
     long_stopped Usage long s = absurd s
     long_stopped (Platform f) long s = absurd s
     long_stopped Task long s = absurd s
+    long_stopped (Log f) long s = absurd s
+    long_stopped (Patch f) long s = absurd s
     long_stopped (Source f) long s = absurd s
     long_stopped (IllFormed f) long s = absurd s
     long_stopped (Unschedulable sel a b demand) long s = absurd s
@@ -301,21 +300,23 @@ module _ (Does : Work) (work : IsWork Does) (name : Option (List ℕ)) (shelf : 
 
     pub long_object : (outcome : Outcome) → IsOnObject Does name shelf old new outcome → 16777216 < length bytes → IsOrMemory outcome (Shelf (TooLong (length bytes)))
     long_object outcome on long = elim on [
-      | inl a ↦ absurd (omega (arith, long, short_bytes a.bytes a.file))
+      | inl a ↦ absurd (omega (arith, long, files.short_bytes name shelf bytes given a.bytes a.file))
       | inr s ↦ long_stopped outcome long s.0
     ]
 
     -- the object has a fault
-    faulty_stopped : (outcome : Outcome) (f : ObjectFault) → length bytes ≤ 16777216 → RefusesBytes bytes f → IsStopped name shelf outcome → IsOrMemory outcome (Refused f)
+    pub faulty_stopped : (outcome : Outcome) (f : ObjectFault) → length bytes ≤ 16777216 → RefusesBytes bytes f → IsStopped name shelf outcome → IsOrMemory outcome (Refused f)
     faulty_stopped (Refused g) f short refused s =
-        inl (ap (λ (h : ObjectFault). Refused h) (one_refusal bytes g f (subst (λ (bs : List ℕ). RefusesBytes bs g) (same_bytes s.bytes s.file) s.refused) refused))
-    faulty_stopped (Shelf Failed) f short refused s = absurd (no_fault s)
-    faulty_stopped (Shelf (TooLong seen)) f short refused s = absurd (omega (arith, short, (seen_long seen s).0))
+        inl (ap (λ (h : ObjectFault). Refused h) (one_refusal bytes g f (subst (λ (bs : List ℕ). RefusesBytes bs g) (files.same_bytes name shelf bytes given s.bytes s.file) s.refused) refused))
+    faulty_stopped (Shelf Failed) f short refused s = absurd (files.no_fault name shelf bytes given s)
+    faulty_stopped (Shelf (TooLong seen)) f short refused s = absurd (omega (arith, short, (files.seen_long name shelf bytes given seen s).0))
     faulty_stopped Memory f short refused s = inr refl
     faulty_stopped Done f short refused s = absurd s
     faulty_stopped Usage f short refused s = absurd s
     faulty_stopped (Platform g) f short refused s = absurd s
     faulty_stopped Task f short refused s = absurd s
+    faulty_stopped (Log fault) f short refused s = absurd s
+    faulty_stopped (Patch g) f short refused s = absurd s
     faulty_stopped (Source g) f short refused s = absurd s
     faulty_stopped (IllFormed g) f short refused s = absurd s
     faulty_stopped (Unschedulable sel a b demand) f short refused s = absurd s
@@ -325,21 +326,23 @@ module _ (Does : Work) (work : IsWork Does) (name : Option (List ℕ)) (shelf : 
 
     pub faulty_object : (outcome : Outcome) → IsOnObject Does name shelf old new outcome → (f : ObjectFault) → length bytes ≤ 16777216 → RefusesBytes bytes f → IsOrMemory outcome (Refused f)
     faulty_object outcome on f short refused = elim on [
-      | inl a ↦ absurd (accepted_or_refused bytes a.object f (subst (λ (bs : List ℕ). HasBytes bs a.object) (same_bytes a.bytes a.file) a.has) a.accepted refused)
+      | inl a ↦ absurd (accepted_or_refused bytes a.object f (subst (λ (bs : List ℕ). HasBytes bs a.object) (files.same_bytes name shelf bytes given a.bytes a.file) a.has) a.accepted refused)
       | inr s ↦ faulty_stopped outcome f short refused s.0
     ]
 
     -- the object is accepted
-    ready_stopped : (outcome : Outcome) (o : Object) → length bytes ≤ 16777216 → HasBytes bytes o → IsAccepted o → IsStopped name shelf outcome → outcome ≡ Memory
+    pub ready_stopped : (outcome : Outcome) (o : Object) → length bytes ≤ 16777216 → HasBytes bytes o → IsAccepted o → IsStopped name shelf outcome → outcome ≡ Memory
     ready_stopped (Refused g) o short has accepted s =
-        absurd (accepted_or_refused bytes o g has accepted (subst (λ (bs : List ℕ). RefusesBytes bs g) (same_bytes s.bytes s.file) s.refused))
-    ready_stopped (Shelf Failed) o short has accepted s = absurd (no_fault s)
-    ready_stopped (Shelf (TooLong seen)) o short has accepted s = absurd (omega (arith, short, (seen_long seen s).0))
+        absurd (accepted_or_refused bytes o g has accepted (subst (λ (bs : List ℕ). RefusesBytes bs g) (files.same_bytes name shelf bytes given s.bytes s.file) s.refused))
+    ready_stopped (Shelf Failed) o short has accepted s = absurd (files.no_fault name shelf bytes given s)
+    ready_stopped (Shelf (TooLong seen)) o short has accepted s = absurd (omega (arith, short, (files.seen_long name shelf bytes given seen s).0))
     ready_stopped Memory o short has accepted s = refl
     ready_stopped Done o short has accepted s = absurd s
     ready_stopped Usage o short has accepted s = absurd s
     ready_stopped (Platform f) o short has accepted s = absurd s
     ready_stopped Task o short has accepted s = absurd s
+    ready_stopped (Log f) o short has accepted s = absurd s
+    ready_stopped (Patch f) o short has accepted s = absurd s
     ready_stopped (Source g) o short has accepted s = absurd s
     ready_stopped (IllFormed g) o short has accepted s = absurd s
     ready_stopped (Unschedulable sel a b demand) o short has accepted s = absurd s
@@ -351,7 +354,7 @@ module _ (Does : Work) (work : IsWork Does) (name : Option (List ℕ)) (shelf : 
       → Does o old new outcome ⊎ (outcome ≡ Memory)
   ready o is outcome on = elim on [
     | inl a ↦
-        let same = one_of_bytes is.bytes a.object o (subst (λ (bs : List ℕ). HasBytes bs a.object) (same_bytes is.bytes is.given a.bytes a.file) a.has) is.has in
+        let same = one_of_bytes is.bytes a.object o (subst (λ (bs : List ℕ). HasBytes bs a.object) (files.same_bytes name shelf is.bytes is.given a.bytes a.file) a.has) is.has in
         inl (subst (λ (p : Object). Does p old new outcome) same a.fact)
     | inr s ↦ inr (ready_stopped is.bytes is.given outcome o is.short is.has is.accepted s.0)
   ]

@@ -16,9 +16,12 @@ use Rattle.htl_walk.specs.Walk.{Point, Left, walk, walk_from, work, worst_cases,
 use Rattle.htl_walk.specs.Walk.{InForm}
 use Rattle.htl_walk.specs.Jobs.{abstract_jobs, job_of}
 use Rattle.htl_walk.specs.declared.schedule.Schedule.{Schedule}
+use Rattle.htl_walk.proofs.CodeWalk.{list_read}
 use Rattle.htl_walk.proofs.Work.{all_at}
+use Rattle.htl_walk.specs.NodeWalks.{instrs_of}
 use Rattle.htl_model.specs.Broken.{KeptTo, KeepsLimits}
 use Rattle.htl_model.specs.Selections.{root_period, round_length, selection_count, positions}
+use Rattle.htl_object.proofs.OneRound.{each_round, schedules_are}
 use Rattle.htl_object.specs.Accepted.{IsAccepted}
 use Rattle.htl_object.specs.Ranges.{IsShort}
 use Rattle.htl_object.specs.declared.object.Object.{Object}
@@ -212,7 +215,12 @@ module _ (o : Object) (accepted : IsAccepted o) (modes : List (Option ℕ)) wher
   pub in_form : (sel : ℕ) (s : Schedule) (jobs : List Job) → sel < selection_count o.tables → slice_get o.schedules sel ≡ Some s → length jobs ≡ length (abstract_jobs o.tables sel)
       → InForm (length jobs) (round_length o.tables) s.instrs
   in_form sel s jobs below at same =
-      subst (λ (n : ℕ). InForm n (round_length o.tables) s.instrs) (sym same) (accepted.feasible sel below s at).form
+      let rules : KeptTo o.tables 12 = λ r site have need small broken. accepted.spelled.formed.formed r site have need broken in
+      let inside : sel < length o.schedules = omega (arith, schedules_are o accepted.spelled.formed, below) in
+      let is : get_or (instrs_of o.schedules) sel [] ≡ s.instrs = sym (list_read o.schedules s sel inside) ∙ ap (λ (x : Schedule). x.instrs) (get_or_from_slice_get o.schedules sel s s at) in
+      let here : InForm (length (abstract_jobs o.tables sel)) (round_length o.tables) (get_or (instrs_of o.schedules) sel []) =
+      (each_round o.tables accepted.spelled.formed.ranges.tables rules (instrs_of o.schedules) accepted.feasible sel below).form in
+      subst (λ (n : ℕ). InForm n (round_length o.tables) s.instrs) (sym same) (subst (InForm (length (abstract_jobs o.tables sel)) (round_length o.tables)) is here)
 
   pub few_jobs : (sel : ℕ) (jobs : List Job) → sel < selection_count o.tables → length jobs ≡ length (abstract_jobs o.tables sel) → length jobs ≤ 128
   few_jobs sel jobs below same =
@@ -226,5 +234,5 @@ module _ (o : Object) (accepted : IsAccepted o) (modes : List (Option ℕ)) wher
 
   pub schedule_here : (ss : List Schedule) (sel : ℕ) (s : Schedule) → ss ≡ o.schedules → sel < selection_count o.tables → s ≡ get_or ss sel s → slice_get o.schedules sel ≡ Some s
   schedule_here ss sel s same below is =
-      let inside : sel < length o.schedules = omega (arith, accepted.spelled.formed.ranges.schedules, below) in
+      let inside : sel < length o.schedules = omega (arith, schedules_are o accepted.spelled.formed, below) in
       slice_get_read o.schedules (length o.schedules) sel s refl inside (is ∙ ap (λ (l : List Schedule). get_or l sel s) same)

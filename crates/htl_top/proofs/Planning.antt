@@ -12,7 +12,7 @@ use Rattle.htl_top.specs.Causes.{IsOrMemory}
 use Rattle.htl_top.specs.Planned.{IsPlanned}
 use Rattle.htl_top.specs.SelectionInput.{Input, Whole, Bad, input_of}
 use Rattle.htl_top.specs.declared.outcome.Outcome.{Outcome}
-use Rattle.htl_top.specs.declared.outcome.Outcome.TheVariants.{Done, Usage, Source, IllFormed, Unschedulable, Platform, Task, Object as Refused, Script, Shelf, Read, Write, Memory}
+use Rattle.htl_top.specs.declared.outcome.Outcome.TheVariants.{Done, Usage, Source, IllFormed, Unschedulable, Platform, Task, Log, Patch, Object as Refused, Script, Shelf, Read, Write, Memory}
 
 plan_only : (o : Object) (old new : Streams) (outcome : Outcome) → IsPlanned o old new outcome → IsOfWork outcome
 plan_only o old new Done answer = tt
@@ -23,6 +23,8 @@ plan_only o old new Memory answer = tt
 plan_only o old new Usage answer = absurd answer
 plan_only o old new (Platform f) answer = absurd answer
 plan_only o old new Task answer = absurd answer
+plan_only o old new (Log f) answer = absurd answer
+plan_only o old new (Patch f) answer = absurd answer
 plan_only o old new (Source f) answer = absurd answer
 plan_only o old new (IllFormed f) answer = absurd answer
 plan_only o old new (Unschedulable sel a b demand) answer = absurd answer
@@ -38,6 +40,8 @@ plan_unwritten o old new Memory answer early = answer.written
 plan_unwritten o old new Usage answer early = absurd answer
 plan_unwritten o old new (Platform f) answer early = absurd answer
 plan_unwritten o old new Task answer early = absurd answer
+plan_unwritten o old new (Log f) answer early = absurd answer
+plan_unwritten o old new (Patch f) answer early = absurd answer
 plan_unwritten o old new (Source f) answer early = absurd answer
 plan_unwritten o old new (IllFormed f) answer early = absurd answer
 plan_unwritten o old new (Unschedulable sel a b demand) answer early = absurd answer
@@ -80,6 +84,8 @@ module _ (o : Object) (old new : Streams) (script : List ℕ) where
   bad_input f told bad quiet still Usage answer = absurd answer
   bad_input f told bad quiet still (Platform g) answer = absurd answer
   bad_input f told bad quiet still Task answer = absurd answer
+  bad_input f told bad quiet still (Log fault) answer = absurd answer
+  bad_input f told bad quiet still (Patch g) answer = absurd answer
   bad_input f told bad quiet still (Source g) answer = absurd answer
   bad_input f told bad quiet still (IllFormed g) answer = absurd answer
   bad_input f told bad quiet still (Unschedulable sel a b demand) answer = absurd answer
@@ -97,6 +103,8 @@ module _ (o : Object) (old new : Streams) (script : List ℕ) where
   whole_input modes told whole quiet still Usage answer = absurd answer
   whole_input modes told whole quiet still (Platform f) answer = absurd answer
   whole_input modes told whole quiet still Task answer = absurd answer
+  whole_input modes told whole quiet still (Log f) answer = absurd answer
+  whole_input modes told whole quiet still (Patch f) answer = absurd answer
   whole_input modes told whole quiet still (Source g) answer = absurd answer
   whole_input modes told whole quiet still (IllFormed g) answer = absurd answer
   whole_input modes told whole quiet still (Unschedulable sel a b demand) answer = absurd answer

@@ -18,7 +18,7 @@ use Rattle.htl_top.specs.Causes.{IsOrMemory}
 use Rattle.htl_top.specs.Runs.{IsRun, IsCutRun}
 use Rattle.htl_top.specs.Scripts.{IsWhole, IsBad}
 use Rattle.htl_top.specs.declared.outcome.Outcome.{Outcome}
-use Rattle.htl_top.specs.declared.outcome.Outcome.TheVariants.{Done, Usage, Source, IllFormed, Unschedulable, Platform, Task, Object as Refused, Script as Faulty, Shelf, Read, Write, Memory}
+use Rattle.htl_top.specs.declared.outcome.Outcome.TheVariants.{Done, Usage, Source, IllFormed, Unschedulable, Platform, Task, Log, Patch, Object as Refused, Script as Faulty, Shelf, Read, Write, Memory}
 
 -- ---- the machine and its object
 
@@ -59,6 +59,8 @@ IsRun-source show t o old new Memory run = run
 IsRun-source show t o old new Usage run = absurd run
 IsRun-source show t o old new (Platform f) run = absurd run
 IsRun-source show t o old new Task run = absurd run
+IsRun-source show t o old new (Log f) run = absurd run
+IsRun-source show t o old new (Patch f) run = absurd run
 IsRun-source show t o old new (Source f) run = absurd run
 IsRun-source show t o old new (IllFormed f) run = absurd run
 IsRun-source show t o old new (Unschedulable sel a b demand) run = absurd run
@@ -76,6 +78,8 @@ run_only show t o old new Memory run = tt
 run_only show t o old new Usage run = absurd run
 run_only show t o old new (Platform f) run = absurd run
 run_only show t o old new Task run = absurd run
+run_only show t o old new (Log f) run = absurd run
+run_only show t o old new (Patch f) run = absurd run
 run_only show t o old new (Source f) run = absurd run
 run_only show t o old new (IllFormed f) run = absurd run
 run_only show t o old new (Unschedulable sel a b demand) run = absurd run
@@ -91,6 +95,8 @@ run_unwritten show t o old new Memory run early = run.written
 run_unwritten show t o old new Usage run early = absurd run
 run_unwritten show t o old new (Platform f) run early = absurd run
 run_unwritten show t o old new Task run early = absurd run
+run_unwritten show t o old new (Log f) run early = absurd run
+run_unwritten show t o old new (Patch f) run early = absurd run
 run_unwritten show t o old new (Source f) run early = absurd run
 run_unwritten show t o old new (IllFormed f) run early = absurd run
 run_unwritten show t o old new (Unschedulable sel a b demand) run early = absurd run
@@ -107,21 +113,21 @@ running show = record {
 -- ---- of a script that is given
 
 -- a script is whole or has a fault
-whole_or_bad : (i : Script) (events others : List Event) (end line : ℕ) (k : ScriptKind) → i ≡ Whole events end → i ≡ Bad line k others → ⊥
+pub whole_or_bad : (i : Script) (events others : List Event) (end line : ℕ) (k : ScriptKind) → i ≡ Whole events end → i ≡ Bad line k others → ⊥
 whole_or_bad i events others end line k p q = cc
 
 same_fault : (line other : ℕ) (kind another : ScriptKind) (events others : List Event) → Bad line kind events ≡ Bad other another others → (line ≡ other) × (kind ≡ another)
 same_fault line other kind another events others e = (cc, cc)
 
 -- it has one first fault
-one_bad : (i : Script) (f g : ScriptFault) (events others : List Event) → i ≡ Bad f.line f.kind events → i ≡ Bad g.line g.kind others → f ≡ g
+pub one_bad : (i : Script) (f g : ScriptFault) (events others : List Event) → i ≡ Bad f.line f.kind events → i ≡ Bad g.line g.kind others → f ≡ g
 one_bad i f g events others bad also =
     let same = same_fault f.line g.line f.kind g.kind events others (sym bad ∙ also) in
     let make : ℕ → ScriptKind → ScriptFault = λ line kind. record { line = line; kind = kind } in
     ap (λ (line : ℕ). make line f.kind) same.0 ∙ ap (λ (kind : ScriptKind). make g.line kind) same.1
 
 module _ (show : Shown) (t : Tables) (o : Object) (old new : Streams) (script : List ℕ) (told : old.rest ≡ Some script) where
-  given : (P : List ℕ → Type 0) → OfScript old.rest P → P script
+  pub given : (P : List ℕ → Type 0) → OfScript old.rest P → P script
   given P is =
       let same : script ≡ is.0 = subst (λ (rest : Option (List ℕ)). IfSome rest (λ bytes. bytes ≡ is.0)) told is.1 in
       subst P (sym same) is.2
@@ -138,6 +144,8 @@ module _ (show : Shown) (t : Tables) (o : Object) (old new : Streams) (script : 
   bad_run f events bad quiet still Usage run = absurd run
   bad_run f events bad quiet still (Platform g) run = absurd run
   bad_run f events bad quiet still Task run = absurd run
+  bad_run f events bad quiet still (Log fault) run = absurd run
+  bad_run f events bad quiet still (Patch g) run = absurd run
   bad_run f events bad quiet still (Source g) run = absurd run
   bad_run f events bad quiet still (IllFormed g) run = absurd run
   bad_run f events bad quiet still (Unschedulable sel a b demand) run = absurd run
@@ -155,6 +163,8 @@ module _ (show : Shown) (t : Tables) (o : Object) (old new : Streams) (script : 
   whole_run events end whole quiet still Usage run = absurd run
   whole_run events end whole quiet still (Platform f) run = absurd run
   whole_run events end whole quiet still Task run = absurd run
+  whole_run events end whole quiet still (Log f) run = absurd run
+  whole_run events end whole quiet still (Patch f) run = absurd run
   whole_run events end whole quiet still (Source g) run = absurd run
   whole_run events end whole quiet still (IllFormed g) run = absurd run
   whole_run events end whole quiet still (Unschedulable sel a b demand) run = absurd run

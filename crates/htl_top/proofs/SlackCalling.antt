@@ -1,17 +1,19 @@
 -- From the answer of a command to the clauses of the top call on `slack`.
-use Rattle.std.proofs.Common.{◌≡◌, ◌⊎◌, ℕ, List, Option, None, Some, refl, subst, inl, inr}
+use Rattle.std.proofs.Common.{◌≡◌, ℕ, List, Option, None, Some, subst, inl, inr}
 use Rattle.std.specs.Io.KnownBytes.{append_known}
 use Rattle.htl_edge.specs.Causes.{Rose}
 use Rattle.htl_edge.specs.Content.{AppendsPrefix}
 use Rattle.htl_object.specs.declared.object.Object.{Object}
+use Rattle.htl_top.proofs.Auditing as auditing
 use Rattle.htl_top.proofs.ObjectAnswering as objects
+use Rattle.htl_top.proofs.Patching as patching
 use Rattle.htl_top.proofs.Slacking as slacking
 use Rattle.htl_top.specs.Answers.{Files, Streams}
 use Rattle.htl_top.specs.Calls.{IsCall}
 use Rattle.htl_top.specs.Causes.{IsOrMemory}
 use Rattle.htl_top.specs.Objects.{IsAcceptedFile, IsOnObject, IsReadyObject}
 use Rattle.htl_top.specs.Slacked.{HasSlack, IsRootNamed, NamesNoTask, IsSlacked, IsTaskCause}
-use Rattle.htl_top.specs.Words.{Command, Go, Compile, CompileWith, Run, Check, Plan, Show, Bulk, Slack}
+use Rattle.htl_top.specs.Words.{Command, Go, Compile, CompileWith, Run, Check, Plan, Show, Bulk, Slack, Audit, Patch}
 use Rattle.htl_top.specs.declared.outcome.Outcome.{Outcome}
 use Rattle.htl_top.specs.declared.outcome.Outcome.TheVariants.{Done, Usage, Task, Write, Memory}
 
@@ -81,6 +83,8 @@ module _ (shelf : Files) (old new : Streams) where
   task_cause (Some (Plan name)) call = elim call [ inl a ↦ a.fact | inr s ↦ s.0 ]
   task_cause (Some (Show name)) call = elim call [ inl a ↦ a.fact | inr s ↦ s.0 ]
   task_cause (Some (Bulk n)) call = call
+  task_cause (Some (Audit name log)) call = auditing.no_task name log shelf old new call
+  task_cause (Some (Patch name unit mode donor)) call = patching.no_task unit mode (Some name) (Some donor) shelf old new call
   task_cause (Some (Slack name owner task)) call = elim call [
     | inl a ↦
         objects.IsAcceptedFile-map (Some name) shelf.holds (λ o. IsSlacked owner task o old new Task) (λ o. NamesNoTask o.tables owner task) (λ o d. d.1.0) a

@@ -15,7 +15,7 @@ use Rattle.htl_top.specs.Causes.{IsOrMemory}
 use Rattle.htl_top.specs.Objects.{IsOnObject, IsAcceptedFile}
 use Rattle.htl_top.specs.Slacked.{IsNamed, IsRootNamed, NamesNoTask, has_names, IsSlackTold, IsSlacked, IsSlackOnObject}
 use Rattle.htl_top.specs.declared.outcome.Outcome.{Outcome}
-use Rattle.htl_top.specs.declared.outcome.Outcome.TheVariants.{Done, Usage, Source, IllFormed, Unschedulable, Platform, Task, Object as Refused, Script, Shelf, Read, Write, Memory}
+use Rattle.htl_top.specs.declared.outcome.Outcome.TheVariants.{Done, Usage, Source, IllFormed, Unschedulable, Platform, Task, Log, Patch, Object as Refused, Script, Shelf, Read, Write, Memory}
 
 -- ---- the names
 
@@ -69,6 +69,8 @@ module _ (owner name : List ℕ) where
   slack_only o old new Done answer = tt
   slack_only o old new Write answer = tt
   slack_only o old new Task answer = tt
+  slack_only o old new (Log f) answer = absurd answer.1
+  slack_only o old new (Patch f) answer = absurd answer.1
   slack_only o old new Memory answer = tt
   slack_only o old new Usage answer = absurd answer.1
   slack_only o old new (Platform f) answer = absurd answer.1
@@ -84,6 +86,8 @@ module _ (owner name : List ℕ) where
   slack_unwritten o old new Done answer early = absurd early
   slack_unwritten o old new Write answer early = absurd early
   slack_unwritten o old new Task answer early = answer.1.1
+  slack_unwritten o old new (Log f) answer early = absurd answer.1
+  slack_unwritten o old new (Patch f) answer early = absurd answer.1
   slack_unwritten o old new Memory answer early = answer.1
   slack_unwritten o old new Usage answer early = absurd answer.1
   slack_unwritten o old new (Platform f) answer early = absurd answer.1
@@ -104,6 +108,8 @@ module _ (owner name : List ℕ) where
   slack_done o old new task Done is still answer = inl refl
   slack_done o old new task Write is still answer = absurd (still answer.1.0)
   slack_done o old new task Task is still answer = absurd (answer.1.0 task is)
+  slack_done o old new task (Log f) is still answer = absurd answer.1
+  slack_done o old new task (Patch f) is still answer = absurd answer.1
   slack_done o old new task Memory is still answer = inr refl
   slack_done o old new task Usage is still answer = absurd answer.1
   slack_done o old new task (Platform f) is still answer = absurd answer.1
@@ -120,6 +126,8 @@ module _ (owner name : List ℕ) where
   no_task o old new Done none answer = absurd (none answer.1.task answer.1.named)
   no_task o old new Write none answer = absurd (none answer.1.1.task answer.1.1.named)
   no_task o old new Task none answer = inl refl
+  no_task o old new (Log f) none answer = absurd answer.1
+  no_task o old new (Patch f) none answer = absurd answer.1
   no_task o old new Memory none answer = inr refl
   no_task o old new Usage none answer = absurd answer.1
   no_task o old new (Platform f) none answer = absurd answer.1

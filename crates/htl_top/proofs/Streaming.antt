@@ -1,16 +1,14 @@
 -- From event to event of a script that is read as the run goes: what the machine follows, what is written, and what is still to come.
-use Rattle.std.proofs.Common.{arith, ◌≡◌, Bool, true, false, ℕ, suc, List, [], ◌∷◌, ◌++◌, Option, Some, None, Result, Ok, Err, is_some, refl, sym, ap, ◌∙◌, subst}
+use Rattle.std.proofs.Common.{◌≡◌, Bool, false, ℕ, suc, List, [], ◌∷◌, ◌++◌, Option, Some, None, Result, Ok, Err, refl, sym, ap, ◌∙◌, subst}
 use Rattle.std.specs.Io.KnownBytes.{append_known}
 use Rattle.std.proofs.lemmas.List.{append_assoc, append-nil}
 use Rattle.htl_console.specs.declared.shown.Shown.{Shown}
 use Rattle.htl_edge.specs.Causes.{Rose}
-use Rattle.htl_edge.specs.Content.{AppendsPrefix, Puts, none_left}
-use Rattle.htl_edge.specs.declared.Failed.{Failed}
+use Rattle.htl_edge.specs.Content.{AppendsPrefix, Puts}
 use Rattle.htl_edge.proofs.Puts.{append_known-start, append_known-more, AppendsPrefix-more}
-use Rattle.htl_machine.specs.Calls.{Seen, Follows, IsFinished, IsSameRun, text_between}
+use Rattle.htl_machine.specs.Calls.{Seen, Follows, IsSameRun, text_between}
 use Rattle.htl_machine.specs.Follows.{reading_of}
 use Rattle.htl_machine.specs.Programs.{before_of}
-use Rattle.htl_model.specs.Lines.{totals_line}
 use Rattle.htl_model.specs.Tables.{Tables}
 use Rattle.htl_model.specs.declared.event.Event.{Event}
 use Rattle.htl_model.specs.declared.event.Event.TheVariants as event
@@ -26,15 +24,13 @@ use Rattle.htl_script.specs.declared.fault.ScriptStop.TheVariants as stop
 use Rattle.htl_script.specs.declared.judge.Past.{Past}
 use Rattle.htl_script.proofs.Behind.{behind-nil, behind-append, events_of-behind, script_of-rest}
 use Rattle.htl_script.proofs.Fitting.{script-events, whole-script, AreEvents-front}
-use Rattle.htl_script.proofs.Streaming.{gives_more, given_script, given_all, told_of}
+use Rattle.htl_script.proofs.Streaming.{gives_more, given_script, told_of}
 use Rattle.htl_script.proofs.Taken.{prepend_known-nil}
 use Rattle.htl_top.specs.Bulk.{totals_text}
 use Rattle.htl_top.specs.Playing.{HaveNoEnd, IsBehind, IsNext, IsPlaying, IsTold, text_more}
-use Rattle.htl_top.specs.Runs.{IsCutRun, IsFaultyRun, IsWholeRun}
-use Rattle.htl_top.specs.Scripts.{EndsAt}
+use Rattle.htl_top.specs.Runs.{IsCutRun, IsFaultyRun}
 use Rattle.htl_top.specs.Texts.{text_before_fault, text_of_script}
-use Rattle.htl_top.proofs.Executing.{run_put}
-use Rattle.htl_top.proofs.Playing.{end_after, last_same, next, past_more, text_end, text_ended, text_next, text_open, took_within}
+use Rattle.htl_top.proofs.Playing.{end_after, next, past_more, text_end, text_ended, text_next, text_open, took_within}
 
 -- ---- events behind others
 
@@ -58,7 +54,7 @@ no_end_more (event.Took i n ∷ es) e a b = no_end_more es e a b
 no_end_more (event.End to ∷ es) e a b = absurd a
 
 -- none of them leaves an end
-none_ended : (p : Past) (es : List Event) → HaveNoEnd es → (past_after_all p es).end ≡ p.end
+pub none_ended : (p : Past) (es : List Event) → HaveNoEnd es → (past_after_all p es).end ≡ p.end
 none_ended p [] none = refl
 none_ended p (event.At to ∷ es) none = none_ended (past_after p (event.At to)) es none
 none_ended p (event.Sense c x ∷ es) none = none_ended p es none
@@ -81,6 +77,12 @@ may_come t told (event.Took i n) are none = next t told (event.Took i n) [] are 
 may_come t told (event.End to) are none = end_after t (told ++ event.End to ∷ []) told to are refl
 
 -- ---- what is written
+
+-- a prefix of the text that a script stands for
+pub record IsCutText (text : Script → List ℕ) (t : Tables) (known old new : Option (List ℕ)) : Type 0 where
+  pub given : Script
+  pub script : OfScript known (λ script. script_of t script ≡ given)
+  pub written : AppendsPrefix old new (text given)
 
 module _ (o : Object) (show : Shown) (accepted : IsAccepted o) where
   -- one event more, of events that go on
@@ -116,26 +118,30 @@ module _ (o : Object) (show : Shown) (accepted : IsAccepted o) where
             ∙ append_assoc (text_before_fault o show told) (text_more o show told e) rest.0,
       )
 
+  -- the lines of a whole script are those before a fault behind its events
+  pub whole_text : (events : List Event) (end : ℕ) → EndWith events end → before_of o events show (suc end) ≡ text_before_fault o show events
+  whole_text events end w =
+      ap (λ (es : List Event). before_of o es show (suc end)) w.1 ∙ text_ended o show w.0 end ∙ sym (ap (text_before_fault o show) w.1)
+
   -- what a script makes a run write begins with what is written before a fault behind its events
   begins : (given : Script) → ((events : List Event) (end : ℕ) → given ≡ Whole events end → EndWith events end) → (back : List ℕ) × (text_of_script o show given ≡ text_before_fault o show (events_of given) ++ back)
   begins (Bad line kind events) last = ([], sym (append-nil (text_before_fault o show events)))
   begins (Whole events end) last =
-      let w = last events end refl in
-      let told : before_of o events show (suc end) ≡ text_before_fault o show events =
-      ap (λ (es : List Event). before_of o es show (suc end)) w.1 ∙ text_ended o show w.0 end ∙ sym (ap (text_before_fault o show) w.1) in
-      (totals_text o events end, ap (λ (bs : List ℕ). bs ++ totals_text o events end) told)
+      (totals_text o events end, ap (λ (bs : List ℕ). bs ++ totals_text o events end) (whole_text events end (last events end refl)))
 
-  -- a prefix of what the events told make a run write is one of what the script does
-  cut_run : (told : List Event) (n : Bool) (a : Ahead) (known rest old new : Option (List ℕ)) → Gives false n known rest (λ bytes later. script_of o.tables bytes ≡ behind told (still o.tables a later))
-      → AppendsPrefix old new (text_before_fault o show told) → IsCutRun show o.tables o known old new
-  cut_run told n a known rest old new given part =
+  -- a prefix of what the events told make a run write is one of what the script does, where that begins so
+  pub cut_text : (text : Script → List ℕ)
+      → ((given : Script) → ((events : List Event) (end : ℕ) → given ≡ Whole events end → EndWith events end) → (back : List ℕ) × (text given ≡ text_before_fault o show (events_of given) ++ back))
+      → (told : List Event) (n : Bool) (a : Ahead) (known rest old new : Option (List ℕ)) → Gives false n known rest (λ bytes later. script_of o.tables bytes ≡ behind told (still o.tables a later))
+      → AppendsPrefix old new (text_before_fault o show told) → IsCutText text o.tables known old new
+  cut_text text first told n a known rest old new given part =
       let t = o.tables in
       let script = given_script n known rest (λ bytes later. script_of t bytes ≡ behind told (still t a later)) given in
       let later = still t a (told_of rest) in
       let events : events_of (script_of t script.0) ≡ told ++ events_of later = ap events_of script.2 ∙ events_of-behind told later in
       let grown = grows told (events_of later) (subst (AreEvents t None) events (script-events t script.0)) in
-      let whole = begins (script_of t script.0) (λ es end e. (whole-script t script.0 es end e).1) in
-      let text : text_of_script o show (script_of t script.0) ≡ text_before_fault o show told ++ (grown.0 ++ whole.0) =
+      let whole = first (script_of t script.0) (λ es end e. (whole-script t script.0 es end e).1) in
+      let same : text (script_of t script.0) ≡ text_before_fault o show told ++ (grown.0 ++ whole.0) =
       whole.1 ∙ ap (λ (es : List Event). text_before_fault o show es ++ whole.0) events ∙ ap (λ (bs : List ℕ). bs ++ whole.0) grown.1
       ∙ append_assoc (text_before_fault o show told) grown.0 whole.0 in
       record {
@@ -145,11 +151,17 @@ module _ (o : Object) (show : Shown) (accepted : IsAccepted o) where
           part.0,
           (
             part.1.0 ++ (grown.0 ++ whole.0),
-            text ∙ ap (λ (bs : List ℕ). bs ++ (grown.0 ++ whole.0)) part.1.1 ∙ append_assoc part.0 part.1.0 (grown.0 ++ whole.0),
+            same ∙ ap (λ (bs : List ℕ). bs ++ (grown.0 ++ whole.0)) part.1.1 ∙ append_assoc part.0 part.1.0 (grown.0 ++ whole.0),
           ),
           part.2,
         );
       }
+
+  cut_run : (told : List Event) (n : Bool) (a : Ahead) (known rest old new : Option (List ℕ)) → Gives false n known rest (λ bytes later. script_of o.tables bytes ≡ behind told (still o.tables a later))
+      → AppendsPrefix old new (text_before_fault o show told) → IsCutRun show o.tables o known old new
+  cut_run told n a known rest old new given part =
+      let cut = cut_text (text_of_script o show) begins told n a known rest old new given part in
+      record { given = cut.given; script = cut.script; written = cut.written }
 
 -- ---- what one call writes
 
@@ -168,21 +180,25 @@ text_last m es e to w w1 f f1 r follows is puts =
 -- ---- the loop
 
 pub playing_start : (t : Tables) (m : Seen) (a : Ahead) (known w : Option (List ℕ)) → Follows m [] → a ≡ at_start → IsPlaying t m m a known known w w
-playing_start t m a known w follows at = subst (λ (z : Ahead). IsPlaying t m m z known known w w) (sym at) (record {
+playing_start t m a known w follows at = record {
   told = [];
   are = tt;
-  past = refl;
+  past = ap (λ (z : Ahead). z.here.past) at;
   machine = (tt, follows);
   same = record { object = refl; show = refl };
   text = append_known-start w;
-  script = record {
+  script = subst (λ (z : Ahead). Gives false z.ahead.over known known (λ bytes later. script_of t bytes ≡ behind [] (still t z later))) (sym at) (record {
     front = [];
     lost = prepend_known-nil known;
     ends = λ was now. was now;
     kept = λ over. (refl, over);
     fact = λ later ok. script_of-rest t later ∙ sym (behind-nil (still t at_start later));
-  };
-})
+  });
+}
+
+pub playing_start-told : (t : Tables) (m : Seen) (a : Ahead) (known w : Option (List ℕ)) (follows : Follows m []) (at : a ≡ at_start) → (playing_start t m a known w follows at).told ≡ []
+unfolding playing_start
+playing_start-told t m a known w follows at = refl
 
 -- an event was read
 pub record IsHeard (t : Tables) (m0 m : Seen) (b : Ahead) (known rest w0 w : Option (List ℕ)) (e : Event) : Type 0 where
@@ -222,6 +238,11 @@ module _ (t : Tables) (m0 m : Seen) (accepted : IsAccepted m0.object) (tables : 
       by : (o : Option ℕ) (told : List Event) → o ≡ None → IsTold m told o → HaveNoEnd told × Follows m told
       by None told e h = h
       by (Some end) told e h = absurd (let z : ⊥ = cc in z)
+
+  pub heard-told : (e : Event) (p : IsPlaying t m0 m a known rest w0 w) (answer : Gives a.ahead.over b.ahead.over rest left (IsAnswer t a b (Ok (Some e)))) (goes : Goes t a.here.past b.here.past (Ok (Some e)))
+      → (heard e p answer goes).told ≡ p.told
+  unfolding heard
+  heard-told e p answer goes = refl
 
   -- the input failed
   pub read_cut : IsPlaying t m0 m a known rest w0 w → IsCutRun m0.show m0.object.tables m0.object known w0 w
@@ -281,86 +302,27 @@ module _ (t : Tables) (m0 m : Seen) (accepted : IsAccepted m0.object) (tables : 
       by (event.Took i n) is = subst (IsTold m1 (h.told ++ event.Took i n ∷ [])) (sym open_end) (no_end_more h.told (event.Took i n) h.none tt, is)
       by (event.End to) is = (h.told, refl, is)
 
+  -- what was told is what was heard before, and the event
+  pub told_on-told : {T E : Type 0} (m1 : Seen) (x : T) (puts : Puts {T = T} {E = E} w w1 f f1 (text_more m.object m.show h.told e) (Ok x)) (behind_it : IsBehind m1 h.told e) (same : IsSameRun m m1)
+      → (told_on m1 x puts behind_it same).told ≡ h.told ++ e ∷ []
+  unfolding told_on
+  told_on-told m1 x puts behind_it same = refl
+
   -- in part: the output failed
-  pub told_cut : {T E : Type 0} (x : E) → Puts {T = T} {E = E} w w1 f f1 (text_more m.object m.show h.told e) (Err x) → IsCutRun m0.show m0.object.tables m0.object known w0 w1
-  told_cut x puts =
+  pub told_part : {T E : Type 0} (x : E) → Puts {T = T} {E = E} w w1 f f1 (text_more m.object m.show h.told e) (Err x) → AppendsPrefix w0 w1 (text_before_fault m0.object m0.show (h.told ++ e ∷ []))
+  told_part x puts =
       let o = m0.object in
       let part : AppendsPrefix w0 w1 (text_before_fault o m0.show h.told ++ (text_more o m0.show h.told e ++ [])) =
       AppendsPrefix-more w0 w w1 (text_before_fault o m0.show h.told) (text_more o m0.show h.told e) [] h.text (subst (AppendsPrefix w w1) same_text puts.part) in
       let whole : text_before_fault o m0.show h.told ++ (text_more o m0.show h.told e ++ []) ≡ text_before_fault o m0.show (h.told ++ e ∷ []) =
       ap (λ (bs : List ℕ). text_before_fault o m0.show h.told ++ bs) (append-nil (text_more o m0.show h.told e)) ∙ sym more_text in
-      cut_run o m0.show accepted (h.told ++ e ∷ []) b.ahead.over b known rest w0 w1
-      (subst (λ (z : Tables). Gives false b.ahead.over known rest (λ bytes later. script_of z bytes ≡ behind (h.told ++ e ∷ []) (still z b later))) tables h.script)
-      (subst (AppendsPrefix w0 w1) whole part)
+      subst (AppendsPrefix w0 w1) whole part
 
--- ---- the end
+  pub script_here : Gives false b.ahead.over known rest (λ bytes later. script_of m0.object.tables bytes ≡ behind (h.told ++ e ∷ []) (still m0.object.tables b later))
+  script_here = subst (λ (z : Tables). Gives false b.ahead.over known rest (λ bytes later. script_of z bytes ≡ behind (h.told ++ e ∷ []) (still z b later))) tables h.script
 
--- the input has ended: the machine is finished
-pub record IsOver (m0 m : Seen) (known left w0 w : Option (List ℕ)) : Type 0 where
-  pub told : List Event
-  pub end : ℕ
-  pub last : EndsAt told end
-  pub done : (front : List Event) (to : ℕ) → told ≡ front ++ event.End to ∷ [] → IsFinished m front to
-  pub same : IsSameRun m0 m
-  pub text : w ≡ append_known w0 (text_before_fault m0.object m0.show told)
-  pub script : OfScript known (λ script. script_of m0.object.tables script ≡ Whole told end)
-  pub read : left ≡ none_left known
-
--- lists that end in the end of a run end it at once
-one_end : (es fs gs : List Event) (from to : ℕ) → gs ≡ es ++ event.End from ∷ [] → gs ≡ fs ++ event.End to ∷ [] → (es ≡ fs) × (from ≡ to)
-one_end es fs gs from to p q =
-    let same = last_same es fs (event.End from) (event.End to) (sym p ∙ q) in
-    (same.0, (let ends = same.1 in cc))
-
-module _ (t : Tables) (m0 m : Seen) (tables : t ≡ m0.object.tables) (a b : Ahead) (known rest left w0 w : Option (List ℕ)) (p : IsPlaying t m0 m a known rest w0 w)
-    (answer : Gives a.ahead.over b.ahead.over rest left (IsAnswer t a b (Ok None))) where
-  abbrev Ended : List ℕ → List ℕ → Type 0
-  Ended bytes later = (b.ahead.over ≡ true) × ((to : ℕ) × (script_of t bytes ≡ Whole p.told to))
-
-  all : Gives false b.ahead.over known left Ended
-  all =
-      gives_more false a.ahead.over b.ahead.over known rest left (λ bytes later. script_of t bytes ≡ behind p.told (still t a later)) (IsAnswer t a b (Ok None)) Ended
-      (λ bytes middle later was now. (now.0, (now.1.0, was ∙ ap (behind p.told) now.1.1 ∙ ap (λ (es : List Event). Whole es now.1.0) (append-nil p.told)))) p.script answer
-
-  given : OfScript known (λ bytes. Ended bytes (told_of left))
-  given = given_script b.ahead.over known left Ended all
-
-  pub over : Goes t a.here.past b.here.past (Ok None) → IsOver m0 m known left w0 w
-  over goes = by (past_of p.told).end (subst (λ (z : Past). is_some z.end ≡ true) (goes.0 ∙ p.past) goes.1) p.machine
-    where
-      by : (o : Option ℕ) → is_some o ≡ true → IsTold m p.told o → IsOver m0 m known left w0 w
-      by None some h = absurd (let z : ⊥ = cc in z)
-      by (Some end) some h =
-          let is = end_after t p.told h.0 end p.are h.1 in
-          let last = (whole-script t given.0 p.told given.2.1.0 given.2.1.1).1 in
-          let same : given.2.1.0 ≡ end = (one_end last.0 h.0 p.told given.2.1.0 end last.1 h.1).1 in
-          record {
-            told = p.told;
-            end = end;
-            last = record { last = (h.0, h.1); in_time = is.1 };
-            done = λ front to cut.
-                let one = one_end h.0 front p.told end to h.1 cut in
-                subst (λ (fs : List Event). IsFinished m fs to) one.0 (subst (IsFinished m h.0) one.1 h.2);
-            same = p.same;
-            text = p.text;
-            script = (given.0, given.1, subst (λ (z : Tables). script_of z given.0 ≡ Whole p.told end) tables (given.2.1.1 ∙ ap (Whole p.told) same));
-            read = given_all b.ahead.over known left Ended all given.2.0;
-          }
-
--- the totals were written, or a part of them
-module _ (m0 m : Seen) (known left w0 w w1 : Option (List ℕ)) (f f1 : ℕ) (h : IsOver m0 m known left w0 w) where
-  text_put : {T : Type 0} (r : Result T Failed) → Puts w w1 f f1 (totals_line m.held.reading m.jobs m.e m.s) r → Puts w0 w1 f f1 (text_of_script m0.object m0.show (Whole h.told h.end)) r
-  text_put r puts =
-      let first : Puts {T = Unit {0}} {E = Failed} w0 w f f (text_before_fault m0.object m0.show h.told) (Ok tt) = record { whole = h.text; part = tt; cause = record { later = omega arith; kept = refl; refused = tt } } in
-      run_put m0.object m0.show h.told {S = Unit {0}} m w0 w w1 f f f1 tt r h.same.object first h.done puts h.end h.last
-
-  pub over_done : {T : Type 0} (x : T) → Puts {T = T} {E = Failed} w w1 f f1 (totals_line m.held.reading m.jobs m.e m.s) (Ok x)
-      → IsWholeRun m0.show m0.object.tables m0.object known left w0 w1
-  over_done x puts = record { events = h.told; end = h.end; script = h.script; read = h.read; written = (text_put (Ok x) puts).whole }
-
-  pub over_cut : {T : Type 0} (x : Failed) → Puts {T = T} {E = Failed} w w1 f f1 (totals_line m.held.reading m.jobs m.e m.s) (Err x)
-      → IsCutRun m0.show m0.object.tables m0.object known w0 w1
-  over_cut {T = T} x puts = record { given = Whole h.told h.end; script = h.script; written = (text_put {T = T} (Err x) puts).part }
+  pub told_cut : {T E : Type 0} (x : E) → Puts {T = T} {E = E} w w1 f f1 (text_more m.object m.show h.told e) (Err x) → IsCutRun m0.show m0.object.tables m0.object known w0 w1
+  told_cut x puts = cut_run m0.object m0.show accepted (h.told ++ e ∷ []) b.ahead.over b known rest w0 w1 script_here (told_part x puts)
 
 -- a count that stood until then
 pub rose_since : (first before now : ℕ) → before ≡ first → Rose before now → Rose first now

@@ -1,12 +1,14 @@
 -- Files and streams before and after a call, and what answers leave as it was.
 use Rattle.std.specs.Prelude.{ℕ, ◌≡◌, ◌⊎◌, Option, List}
 use Rattle.std.specs.Io.KnownBytes.{append_known}
+use Rattle.htl_audit.specs.declared.slice.LogKind.{LogKind}
+use Rattle.htl_audit.specs.declared.slice.LogKind.TheVariants as kind
 use Rattle.htl_edge.specs.Causes.{Rose}
 use Rattle.htl_edge.specs.Content.{AppendsPrefix}
 use Rattle.htl_edge.specs.Holdings.{Holdings}
 use Rattle.htl_top.specs.declared.outcome.Outcome.{Outcome}
 use Rattle.htl_top.specs.declared.outcome.ShelfCause.TheVariants.{Failed}
-use Rattle.htl_top.specs.declared.outcome.Outcome.TheVariants.{Done, Usage, Source, IllFormed, Unschedulable, Platform, Task, Object, Script, Shelf, Read, Write, Memory}
+use Rattle.htl_top.specs.declared.outcome.Outcome.TheVariants.{Done, Usage, Source, IllFormed, Unschedulable, Platform, Task, Log, Patch, Object, Script, Shelf, Read, Write, Memory}
 
 -- the input and the output at one moment: what is left, what was written, and the counts of faults
 pub record Streams : Type 0 where
@@ -41,11 +43,23 @@ IsWritten text whole old new before now result =
 
 -- ---- what other answers leave as it was
 
+-- the faults of a log that are told before its audit begins
+abbrev pub IsOfReading : LogKind → Type 0
+IsOfReading kind.Form = Unit {0}
+IsOfReading kind.Unknown = Unit {0}
+IsOfReading kind.Order = ⊥
+IsOfReading kind.Outside = ⊥
+IsOfReading kind.Over = ⊥
+IsOfReading kind.Before = ⊥
+IsOfReading kind.Short = ⊥
+
 -- answers after which nothing was read
 abbrev pub IsBeforeScript : Outcome → Type 0
 IsBeforeScript Usage = Unit {0}
 IsBeforeScript (Platform f) = Unit {0}
 IsBeforeScript Task = Unit {0}
+IsBeforeScript (Log f) = IsOfReading f.kind
+IsBeforeScript (Patch f) = Unit {0}
 IsBeforeScript (Shelf cause) = Unit {0}
 IsBeforeScript (Source fault) = Unit {0}
 IsBeforeScript (IllFormed fault) = Unit {0}
@@ -62,6 +76,8 @@ abbrev pub IsBeforeRun : Outcome → Type 0
 IsBeforeRun Usage = Unit {0}
 IsBeforeRun (Platform f) = Unit {0}
 IsBeforeRun Task = Unit {0}
+IsBeforeRun (Log f) = IsOfReading f.kind
+IsBeforeRun (Patch f) = Unit {0}
 IsBeforeRun (Shelf cause) = Unit {0}
 IsBeforeRun (Source fault) = Unit {0}
 IsBeforeRun (IllFormed fault) = Unit {0}

@@ -20,7 +20,7 @@ use Rattle.htl_object.specs.declared.object.Object.{Object}
 use Rattle.htl_top.specs.Answers.{Streams, IsUntouched, IsWritten}
 use Rattle.htl_top.specs.Sources.{HasTables}
 use Rattle.htl_top.specs.declared.outcome.Outcome.{Outcome}
-use Rattle.htl_top.specs.declared.outcome.Outcome.TheVariants.{Done, Usage, Source, IllFormed, Unschedulable, Platform, Task, Object as Refused, Script, Shelf, Read, Write, Memory}
+use Rattle.htl_top.specs.declared.outcome.Outcome.TheVariants.{Done, Usage, Source, IllFormed, Unschedulable, Platform, Task, Log, Patch, Object as Refused, Script, Shelf, Read, Write, Memory}
 
 -- ---- the events
 
@@ -93,6 +93,8 @@ IsBulked n old new Memory = IsUntouched old new
 IsBulked n old new Usage = ⊥
 IsBulked n old new (Platform f) = ⊥
 IsBulked n old new Task = ⊥
+IsBulked n old new (Log f) = ⊥
+IsBulked n old new (Patch f) = ⊥
 IsBulked n old new (Source f) = ⊥
 IsBulked n old new (IllFormed f) = ⊥
 IsBulked n old new (Unschedulable sel a b demand) = ⊥

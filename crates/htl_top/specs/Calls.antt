@@ -3,19 +3,21 @@ use Rattle.std.specs.Prelude.{◌≡◌, Option, None, Some, List, ℕ}
 use Rattle.htl_edge.specs.Holdings.{Holdings}
 use Rattle.htl_model.specs.Tables.{Tables}
 use Rattle.htl_top.specs.Answers.{Files, Streams, IsUntouched}
+use Rattle.htl_top.specs.Audited.{IsAudit}
 use Rattle.htl_top.specs.Bulk.{IsBulked}
 use Rattle.htl_top.specs.Checked.{IsChecked}
 use Rattle.htl_top.specs.Compiling.{IsCompiling}
 use Rattle.htl_top.specs.CompilingOn.{IsCompilingOn}
 use Rattle.htl_top.specs.Going.{IsGoing}
 use Rattle.htl_top.specs.Objects.{IsOnObject, IsObjectTables}
+use Rattle.htl_top.specs.PatchedFiles.{IsPatching, IsPatchedTables}
 use Rattle.htl_top.specs.Planned.{IsPlanned}
 use Rattle.htl_top.specs.Runs.{IsRun}
 use Rattle.htl_top.specs.Shown.{IsShown}
 use Rattle.htl_top.specs.Slacked.{IsSlacked}
 use Rattle.htl_top.specs.Sources.{IsTypedProgram, IsTypedInput}
 use Rattle.htl_top.specs.SourcesOn.{IsTypedOn}
-use Rattle.htl_top.specs.Words.{Command, Go, Compile, CompileWith, Run, Check, Plan, Show, Bulk, Slack}
+use Rattle.htl_top.specs.Words.{Command, Go, Compile, CompileWith, Run, Check, Plan, Show, Bulk, Slack, Audit, Patch}
 use Rattle.htl_top.specs.declared.outcome.Outcome.{Outcome}
 use Rattle.htl_top.specs.declared.outcome.Outcome.TheVariants.{Usage}
 
@@ -31,9 +33,11 @@ IsCall (Some (Plan name)) shelf old new outcome = IsOnObject IsPlanned (Some nam
 IsCall (Some (Show name)) shelf old new outcome = IsOnObject IsShown (Some name) shelf old new outcome
 IsCall (Some (Bulk n)) shelf old new outcome = IsBulked n old new outcome
 IsCall (Some (Slack name owner task)) shelf old new outcome = IsOnObject (IsSlacked owner task) (Some name) shelf old new outcome
+IsCall (Some (Audit name log)) shelf old new outcome = IsAudit name log shelf old new outcome
+IsCall (Some (Patch name unit mode donor)) shelf old new outcome = IsPatching unit mode (Some name) (Some donor) shelf old new outcome
 
 -- The source that a command compiles has tables whose functions are typed, and the fact holds of them, with the worst cases of the
--- platform where one is named.
+-- platform where one is named; or the fact holds of the tables with a donor's refinement.
 abbrev pub HasSource : Option Command → Option Holdings → Option (List ℕ) → (Tables → Type 0) → Type 0
 HasSource None holds rest Fact = ⊥
 HasSource (Some (Go name)) holds rest Fact = IsTypedProgram (Some name) holds Fact
@@ -45,6 +49,8 @@ HasSource (Some (Plan name)) holds rest Fact = ⊥
 HasSource (Some (Show name)) holds rest Fact = ⊥
 HasSource (Some (Bulk n)) holds rest Fact = ⊥
 HasSource (Some (Slack name owner task)) holds rest Fact = ⊥
+HasSource (Some (Audit name log)) holds rest Fact = ⊥
+HasSource (Some (Patch name unit mode donor)) holds rest Fact = IsPatchedTables name unit mode donor holds Fact
 
 -- The object that a command is about has tables of which the fact holds.
 abbrev pub HasObject : Option Command → Option Holdings → (Tables → Type 0) → Type 0
@@ -58,3 +64,5 @@ HasObject (Some (Plan name)) holds Fact = IsObjectTables (Some name) holds Fact
 HasObject (Some (Show name)) holds Fact = IsObjectTables (Some name) holds Fact
 HasObject (Some (Bulk n)) holds Fact = ⊥
 HasObject (Some (Slack name owner task)) holds Fact = IsObjectTables (Some name) holds Fact
+HasObject (Some (Audit name log)) holds Fact = IsObjectTables (Some name) holds Fact
+HasObject (Some (Patch name unit mode donor)) holds Fact = IsObjectTables (Some name) holds Fact

@@ -17,9 +17,9 @@ use Rattle.htl_top.specs.Answers.{Files, Streams, IsUntouched, IsWritten}
 use Rattle.htl_top.specs.Causes.{IsFaultOf, IsLongFile}
 use Rattle.htl_top.specs.Sources.{IsInputFault, IsFaultyProgram, outcome_of}
 use Rattle.htl_top.specs.SourcesOn.{HasFile, IsProgramOn, IsInputFaultOn, IsFaultyOn, IsNotCompiledOn}
-use Rattle.htl_top.specs.Words.{Command, Go, Compile, CompileWith, Run, Check, Plan, Show, Bulk, Slack, platform_file}
+use Rattle.htl_top.specs.Words.{Command, Go, Compile, CompileWith, Run, Check, Plan, Show, Bulk, Slack, Audit, Patch, platform_file}
 use Rattle.htl_top.specs.declared.outcome.Outcome.{Outcome}
-use Rattle.htl_top.specs.declared.outcome.Outcome.TheVariants.{Done, Usage, Source, IllFormed, Unschedulable, Platform, Task, Object, Script, Shelf, Read, Write, Memory}
+use Rattle.htl_top.specs.declared.outcome.Outcome.TheVariants.{Done, Usage, Source, IllFormed, Unschedulable, Platform, Task, Log, Patch as Unpatched, Object, Script, Shelf, Read, Write, Memory}
 use Rattle.htl_top.specs.declared.outcome.ShelfCause.TheVariants.{Failed, TooLong}
 use Rattle.htl_top.specs.declared.source.SourceStop.{SourceStop}
 
@@ -47,6 +47,8 @@ IsCompilingOn name shelf old new Read = HasFile name shelf.holds × Rose old.rea
 IsCompilingOn name shelf old new (Source f) = IsInputFaultOn name shelf.holds old.rest (on.Compile (compile.Source f)) × (new.written ≡ old.written)
 IsCompilingOn name shelf old new (Platform f) = IsFaultyOn name shelf.holds old.rest (on.Platform f) × (new.written ≡ old.written)
 IsCompilingOn name shelf old new Task = ⊥
+IsCompilingOn name shelf old new (Log f) = ⊥
+IsCompilingOn name shelf old new (Unpatched f) = ⊥
 IsCompilingOn name shelf old new (IllFormed f) = IsInputFaultOn name shelf.holds old.rest (on.Compile (compile.IllFormed f)) × (new.written ≡ old.written)
 IsCompilingOn name shelf old new (Unschedulable sel a b demand) =
     IsInputFaultOn name shelf.holds old.rest (on.Compile (compile.Unschedulable sel a b demand)) × (new.written ≡ old.written)
@@ -70,6 +72,8 @@ IsCompileCause (Some (Plan name)) holds rest f = ⊥
 IsCompileCause (Some (Show name)) holds rest f = ⊥
 IsCompileCause (Some (Bulk n)) holds rest f = ⊥
 IsCompileCause (Some (Slack name owner task)) holds rest f = ⊥
+IsCompileCause (Some (Audit name log)) holds rest f = ⊥
+IsCompileCause (Some (Patch name unit mode donor)) holds rest f = ⊥
 
 -- The first fault of the platform file that a command compiles for: the source has none.
 abbrev pub IsPlatformCause : Option Command → Option Holdings → Option (List ℕ) → PlatformFault → Type 0

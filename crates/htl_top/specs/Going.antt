@@ -15,7 +15,7 @@ use Rattle.htl_top.specs.Runs.{IsRun}
 use Rattle.htl_top.specs.Sources.{HasTables, IsProgram, IsFaultyProgram, IsNotCompiled, outcome_of}
 use Rattle.htl_top.specs.declared.source.SourceStop.{SourceStop}
 use Rattle.htl_top.specs.declared.outcome.Outcome.{Outcome}
-use Rattle.htl_top.specs.declared.outcome.Outcome.TheVariants.{Done, Usage, Source, IllFormed, Unschedulable, Platform, Task, Object, Script, Shelf, Read, Write, Memory}
+use Rattle.htl_top.specs.declared.outcome.Outcome.TheVariants.{Done, Usage, Source, IllFormed, Unschedulable, Platform, Task, Log, Patch, Object, Script, Shelf, Read, Write, Memory}
 use Rattle.htl_top.specs.declared.outcome.ShelfCause.TheVariants.{Failed, TooLong}
 
 -- why no object was built of a source in a file, answer by answer
@@ -30,6 +30,8 @@ IsUncompiled name shelf Done = ⊥
 IsUncompiled name shelf Usage = ⊥
 IsUncompiled name shelf (Platform f) = ⊥
 IsUncompiled name shelf Task = ⊥
+IsUncompiled name shelf (Log f) = ⊥
+IsUncompiled name shelf (Patch f) = ⊥
 IsUncompiled name shelf (Object f) = ⊥
 IsUncompiled name shelf (Script f) = ⊥
 IsUncompiled name shelf Read = ⊥

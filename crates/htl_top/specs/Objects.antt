@@ -17,7 +17,7 @@ use Rattle.htl_top.specs.Causes.{IsFaultOf, IsLongFile, IsGiven}
 use Rattle.htl_top.specs.declared.object.ObjectStop.{ObjectStop}
 use Rattle.htl_top.specs.declared.object.ObjectStop.TheVariants as stop
 use Rattle.htl_top.specs.declared.outcome.Outcome.{Outcome}
-use Rattle.htl_top.specs.declared.outcome.Outcome.TheVariants.{Done, Usage, Source, IllFormed, Unschedulable, Platform, Task, Object as Refused, Script, Shelf, Read, Write, Memory}
+use Rattle.htl_top.specs.declared.outcome.Outcome.TheVariants.{Done, Usage, Source, IllFormed, Unschedulable, Platform, Task, Log, Patch, Object as Refused, Script, Shelf, Read, Write, Memory}
 use Rattle.htl_top.specs.declared.outcome.ShelfCause.TheVariants.{Failed, TooLong}
 
 -- ---- reading bytes
@@ -84,6 +84,8 @@ IsStopped name shelf Done = ⊥
 IsStopped name shelf Usage = ⊥
 IsStopped name shelf (Platform f) = ⊥
 IsStopped name shelf Task = ⊥
+IsStopped name shelf (Log f) = ⊥
+IsStopped name shelf (Patch f) = ⊥
 IsStopped name shelf (Source f) = ⊥
 IsStopped name shelf (IllFormed f) = ⊥
 IsStopped name shelf (Unschedulable sel a b demand) = ⊥
@@ -107,6 +109,8 @@ IsTextAnswer text old new Write = (new.rest ≡ old.rest) × Rose old.write_faul
 IsTextAnswer text old new Usage = ⊥
 IsTextAnswer text old new (Platform f) = ⊥
 IsTextAnswer text old new Task = ⊥
+IsTextAnswer text old new (Log f) = ⊥
+IsTextAnswer text old new (Patch f) = ⊥
 IsTextAnswer text old new (Source f) = ⊥
 IsTextAnswer text old new (IllFormed f) = ⊥
 IsTextAnswer text old new (Unschedulable sel a b demand) = ⊥

@@ -20,7 +20,7 @@ use Rattle.htl_walk.specs.Walk.{Left, job_at, walk, worst_cases}
 use Rattle.htl_top.specs.Answers.{IsUntouched}
 use Rattle.htl_top.specs.Objects.{Work}
 use Rattle.htl_top.specs.SelectionInput.{Whole, Bad, input_of}
-use Rattle.htl_top.specs.declared.outcome.Outcome.TheVariants.{Done, Usage, Source, IllFormed, Unschedulable, Platform, Task, Object as Refused, Script, Shelf, Read, Write, Memory}
+use Rattle.htl_top.specs.declared.outcome.Outcome.TheVariants.{Done, Usage, Source, IllFormed, Unschedulable, Platform, Task, Log, Patch, Object as Refused, Script, Shelf, Read, Write, Memory}
 
 -- ---- the text
 
@@ -100,6 +100,8 @@ IsPlanned o old new Memory = IsUntouched old new
 IsPlanned o old new Usage = ⊥
 IsPlanned o old new (Platform f) = ⊥
 IsPlanned o old new Task = ⊥
+IsPlanned o old new (Log f) = ⊥
+IsPlanned o old new (Patch f) = ⊥
 IsPlanned o old new (Source f) = ⊥
 IsPlanned o old new (IllFormed f) = ⊥
 IsPlanned o old new (Unschedulable sel a b demand) = ⊥

@@ -16,7 +16,7 @@ use Rattle.htl_top.specs.Answers.{Streams, IsUntouched}
 use Rattle.htl_top.specs.Scripts.{IsWhole, IsBad}
 use Rattle.htl_top.specs.Texts.{text_before_fault, text_of_script}
 use Rattle.htl_top.specs.declared.outcome.Outcome.{Outcome}
-use Rattle.htl_top.specs.declared.outcome.Outcome.TheVariants.{Done, Usage, Source, IllFormed, Unschedulable, Platform, Task, Object as Refused, Script as Faulty, Shelf, Read, Write, Memory}
+use Rattle.htl_top.specs.declared.outcome.Outcome.TheVariants.{Done, Usage, Source, IllFormed, Unschedulable, Platform, Task, Log, Patch, Object as Refused, Script as Faulty, Shelf, Read, Write, Memory}
 
 -- The input had a whole script for the tables, which was read to its end, and the text of the object's run was written.
 pub record IsWholeRun (show : Shown) (t : Tables) (o : Object) (rest left old new : Option (List ℕ)) : Type 0 where
@@ -49,6 +49,8 @@ IsRun show t o old new Memory = IsUntouched old new
 IsRun show t o old new Usage = ⊥
 IsRun show t o old new (Platform f) = ⊥
 IsRun show t o old new Task = ⊥
+IsRun show t o old new (Log f) = ⊥
+IsRun show t o old new (Patch f) = ⊥
 IsRun show t o old new (Source fault) = ⊥
 IsRun show t o old new (IllFormed fault) = ⊥
 IsRun show t o old new (Unschedulable sel a b demand) = ⊥

@@ -12,7 +12,6 @@ use Rattle.htl_model.specs.declared.parts.Module.{Module}
 use Rattle.htl_model.specs.declared.parts.Task.{Task as TaskOf}
 use Rattle.htl_model.specs.Frames.{nodes}
 use Rattle.htl_model.specs.Tables.{Tables, task_worst}
-use Rattle.htl_object.specs.declared.object.Object.{Object}
 use Rattle.htl_slack.specs.RootTasks.{IsRootTask, limit_of}
 use Rattle.htl_slack.specs.Slack.{StandsAbove}
 use Rattle.htl_slack.specs.declared.report.Above.{Above}
@@ -21,9 +20,9 @@ use Rattle.htl_walk.specs.NodeWalks.{instrs_of}
 use Rattle.htl_walk.specs.declared.schedule.Schedule.{Schedule}
 use Rattle.htl_top.specs.Answers.{Files}
 use Rattle.htl_top.specs.Objects.{Work, IsAcceptedFile, IsStopped}
-use Rattle.htl_top.specs.Words.{Command, Go, Compile, CompileWith, Run, Check, Plan, Show, Bulk, Slack}
+use Rattle.htl_top.specs.Words.{Command, Go, Compile, CompileWith, Run, Check, Plan, Show, Bulk, Slack, Audit, Patch}
 use Rattle.htl_top.specs.declared.outcome.Outcome.{Outcome}
-use Rattle.htl_top.specs.declared.outcome.Outcome.TheVariants.{Done, Usage, Source, IllFormed, Unschedulable, Platform, Task, Object as Refused, Script, Shelf, Read, Write, Memory}
+use Rattle.htl_top.specs.declared.outcome.Outcome.TheVariants.{Done, Usage, Source, IllFormed, Unschedulable, Platform, Task, Log, Patch as Unpatched, Object as Refused, Script, Shelf, Read, Write, Memory}
 
 -- ---- the task
 
@@ -96,6 +95,8 @@ abbrev pub IsSlackTold : List ℕ → List ℕ → Tables → Option (List ℕ) 
 IsSlackTold owner name t old new before now Done = HasSlack t owner name (λ text. new ≡ append_known old text)
 IsSlackTold owner name t old new before now Write = Rose before now × HasSlack t owner name (λ text. AppendsPrefix old new text)
 IsSlackTold owner name t old new before now Task = NamesNoTask t owner name × (new ≡ old)
+IsSlackTold owner name t old new before now (Log f) = ⊥
+IsSlackTold owner name t old new before now (Unpatched f) = ⊥
 IsSlackTold owner name t old new before now Memory = new ≡ old
 IsSlackTold owner name t old new before now Usage = ⊥
 IsSlackTold owner name t old new before now (Platform f) = ⊥
@@ -128,6 +129,8 @@ IsTaskCause (Some (Check name)) holds = ⊥
 IsTaskCause (Some (Plan name)) holds = ⊥
 IsTaskCause (Some (Show name)) holds = ⊥
 IsTaskCause (Some (Bulk n)) holds = ⊥
+IsTaskCause (Some (Audit name log)) holds = ⊥
+IsTaskCause (Some (Patch file unit mode donor)) holds = ⊥
 IsTaskCause None holds = ⊥
 
 -- ---- as the code finds the task

@@ -1,5 +1,8 @@
 -- The status of each answer, and the line that tells of it.
 use Rattle.std.specs.Prelude.{ℕ, List, [], ◌++◌, Option, None, Some, slice_get, codes, decimal}
+use Rattle.htl_audit.specs.declared.slice.LogFault.{LogFault}
+use Rattle.htl_audit.specs.declared.slice.LogKind.{LogKind}
+use Rattle.htl_audit.specs.declared.slice.LogKind.TheVariants as log
 use Rattle.htl_ecode.specs.declared.fault.EKind.{EKind}
 use Rattle.htl_ecode.specs.declared.fault.EKind.TheVariants as departure
 use Rattle.htl_load.specs.declared.fault.ObjectFault.{ObjectFault}
@@ -12,12 +15,14 @@ use Rattle.htl_script.specs.declared.fault.ScriptKind.{ScriptKind}
 use Rattle.htl_script.specs.declared.fault.ScriptKind.TheVariants as kind
 use Rattle.htl_object.specs.declared.malformed.MalKind.{MalKind}
 use Rattle.htl_object.specs.declared.malformed.MalKind.TheVariants as field
+use Rattle.htl_patch.specs.declared.fault.PatchFault.{PatchFault}
+use Rattle.htl_patch.specs.declared.fault.PatchFault.TheVariants as patch
 use Rattle.htl_platform.specs.declared.fault.PlatformFault.{PlatformFault}
 use Rattle.htl_platform.specs.declared.fault.PlatformFault.TheVariants as platform
 use Rattle.htl_walk.specs.declared.miss.Miss.{Miss}
 use Rattle.htl_walk.specs.declared.miss.Miss.TheVariants as miss
 use Rattle.htl_top.specs.declared.outcome.Outcome.{Outcome}
-use Rattle.htl_top.specs.declared.outcome.Outcome.TheVariants.{Done, Usage, Source, IllFormed, Unschedulable, Platform, Task, Object, Script, Shelf, Read, Write, Memory}
+use Rattle.htl_top.specs.declared.outcome.Outcome.TheVariants.{Done, Usage, Source, IllFormed, Unschedulable, Platform, Task, Log, Patch, Object, Script, Shelf, Read, Write, Memory}
 use Rattle.htl_top.specs.declared.outcome.ShelfCause.{ShelfCause}
 use Rattle.htl_top.specs.declared.outcome.ShelfCause.TheVariants.{Failed, TooLong}
 use Rattle.htl_compile.specs.declared.source_fault.SourceFault.{SourceFault}
@@ -37,6 +42,8 @@ status_of Write = 10
 status_of Memory = 11
 status_of (Platform fault) = 12
 status_of Task = 15
+status_of (Log f) = 13
+status_of (Patch fault) = 14
 
 abbrev pub source_line : SourceFault → List ℕ
 source_line (LongSource seen) = codes "htl: source too-long " ++ decimal seen ++ codes "\n"
@@ -151,6 +158,30 @@ platform_line (platform.Shape entry) = codes "htl: platform shape " ++ decimal e
 platform_line (platform.Unknown entry) = codes "htl: platform unknown " ++ decimal entry ++ codes "\n"
 platform_line (platform.Range entry) = codes "htl: platform range " ++ decimal entry ++ codes "\n"
 
+-- the kind of a fault of a log
+abbrev pub log_word : LogKind → List ℕ
+log_word log.Form = codes "form"
+log_word log.Unknown = codes "unknown"
+log_word log.Order = codes "order"
+log_word log.Outside = codes "outside"
+log_word log.Over = codes "over"
+log_word log.Before = codes "before"
+log_word log.Short = codes "short"
+
+abbrev pub log_line : LogFault → List ℕ
+log_line fault = codes "htl: log " ++ decimal fault.line ++ codes " " ++ log_word fault.kind ++ codes "\n"
+
+-- why a refinement isn't taken over; a broken form rule is one of the new tables
+abbrev pub patch_line : Option Tables → PatchFault → List ℕ
+patch_line tables (patch.Malformed bad) = codes "htl: patch malformed " ++ field_word bad.kind ++ codes " " ++ decimal bad.offset ++ codes "\n"
+patch_line tables patch.Mode = codes "htl: patch mode\n"
+patch_line tables (patch.Comms place) = codes "htl: patch comms " ++ decimal place ++ codes "\n"
+patch_line tables (patch.Parent inv) = codes "htl: patch parent " ++ decimal inv ++ codes "\n"
+patch_line tables (patch.Twice unit) = codes "htl: patch twice " ++ decimal unit ++ codes "\n"
+patch_line tables (patch.Limit which count) = codes "htl: patch limit " ++ decimal which ++ codes " count " ++ decimal count ++ codes "\n"
+patch_line tables (patch.IllFormed fault) = codes "htl: patch ill-formed " ++ form_text tables fault
+patch_line tables (patch.Function k) = codes "htl: patch function " ++ decimal k ++ codes "\n"
+
 -- The line that tells of an answer; none tells of Done. Those of a broken form rule name its place by tables.
 abbrev pub fault_line : Option Tables → Outcome → List ℕ
 fault_line tables Done = []
@@ -166,3 +197,5 @@ fault_line tables Write = codes "htl: write\n"
 fault_line tables Memory = codes "htl: memory\n"
 fault_line tables (Platform fault) = platform_line fault
 fault_line tables Task = codes "htl: task\n"
+fault_line tables (Log f) = log_line f
+fault_line tables (Patch fault) = patch_line tables fault

@@ -14,7 +14,8 @@ use Rattle.htl_top.specs.declared.words.Asked.TheVariants as ask
 use Rattle.htl_top.specs.declared.words.Verb.{Verb}
 use Rattle.htl_top.specs.declared.words.Verb.TheVariants as verb
 
--- what the words ask for, with the name of the file that they name; `slack` asks for the task of a module, both by name
+-- what the words ask for, with the names of the files that they name; `slack` asks for the task of a module, both by name, and `patch` for
+-- the mode of a module, with the name of a second file
 pub data Command : Type 0 where
   Go : (name : List ℕ) → Command
   Compile : Command
@@ -25,6 +26,8 @@ pub data Command : Type 0 where
   Show : (name : List ℕ) → Command
   Bulk : (modules : ℕ) → Command
   Slack : (name owner task : List ℕ) → Command
+  Audit : (name log : List ℕ) → Command
+  Patch : (name unit mode donor : List ℕ) → Command
 
 -- the verbs that a file's name follows
 abbrev pub verb_of : List ℕ → Option Verb
@@ -72,28 +75,42 @@ of_two word other =
 abbrev pub is_dot : ℕ → Bool
 is_dot b = b == 46
 
--- the names of a module and of a task
+-- the names of a module and of a task or a mode
 abbrev pub both_names : List ℕ → List ℕ → Option (List ℕ × List ℕ)
 both_names owner task = cond (is_name owner && is_name task) (Some (owner, task)) None
 
--- `MODULE.TASK`: two names, joined by one dot; no name has one
-abbrev pub task_word : List ℕ → Option (List ℕ × List ℕ)
-task_word word = elim (position_from is_dot 0 word) [ Some at ↦ both_names (take at word) (drop (at + 1) word) | None ↦ None ]
+-- `MODULE.TASK` or `MODULE.MODE`: two names, joined by one dot; no name has one
+abbrev pub joined_names : List ℕ → Option (List ℕ × List ℕ)
+joined_names word = elim (position_from is_dot 0 word) [ Some at ↦ both_names (take at word) (drop (at + 1) word) | None ↦ None ]
 
 -- the slack of a task of an object
 abbrev pub slack_of : List ℕ → List ℕ → Option Command
-slack_of name word = option_map (λ (names : List ℕ × List ℕ). Slack name names.0 names.1) (task_word word)
+slack_of name word = option_map (λ (names : List ℕ × List ℕ). Slack name names.0 names.1) (joined_names word)
 
--- `slack`, the name of an object file and a task, or `compile with` and the name of a platform file
+-- `slack`, the name of an object file and a task; `audit` and the names of an object file and a log; or `compile with` and the name of a
+-- platform file
 abbrev pub of_three : List ℕ → List ℕ → List ℕ → Option Command
-of_three first second third = if bytes_eq first (codes "slack") then slack_of second third else compile_with first second third
+of_three first second third =
+    if bytes_eq first (codes "slack") then slack_of second third
+    else if bytes_eq first (codes "audit") then Some (Audit second third)
+    else compile_with first second third
 
--- a verb and the name of a file, `compile` alone, or that with a platform, `bulk` and a number of modules, or `slack`, the name of a file
--- and a task; other words are no command
+-- an object with another's refinement of a mode
+abbrev pub patch_of : List ℕ → List ℕ → List ℕ → Option Command
+patch_of name word donor = option_map (λ (names : List ℕ × List ℕ). Patch name names.0 names.1 donor) (joined_names word)
+
+-- `patch`, the name of an object file, a mode and the name of the donor's file
+abbrev pub of_four : List ℕ → List ℕ → List ℕ → List ℕ → Option Command
+of_four first second third fourth = if bytes_eq first (codes "patch") then patch_of second third fourth else None
+
+-- a verb and the name of a file, `compile` alone, or that with a platform, `bulk` and a number of modules, `slack`, the name of a file
+-- and a task, `audit` and the names of two files, or `patch`, the name of a file, a mode and the name of a second file; other words are
+-- no command
 abbrev pub command_of : List (List ℕ) → Option Command
 command_of (word ∷ other ∷ []) = of_two word other
 command_of (first ∷ second ∷ third ∷ []) = of_three first second third
-command_of (first ∷ second ∷ third ∷ other ∷ others) = None
+command_of (first ∷ second ∷ third ∷ fourth ∷ []) = of_four first second third fourth
+command_of (first ∷ second ∷ third ∷ fourth ∷ other ∷ others) = None
 command_of (word ∷ []) = if bytes_eq word (codes "compile") then Some Compile else None
 command_of [] = None
 
@@ -114,6 +131,8 @@ source_of (Some (Plan name)) = None
 source_of (Some (Show name)) = None
 source_of (Some (Bulk n)) = None
 source_of (Some (Slack name owner task)) = None
+source_of (Some (Audit name log)) = None
+source_of (Some (Patch name unit mode donor)) = None
 source_of None = None
 
 -- the object that a command is about
@@ -127,6 +146,8 @@ object_of (Some (Plan name)) = Some name
 object_of (Some (Show name)) = Some name
 object_of (Some (Bulk n)) = None
 object_of (Some (Slack name owner task)) = Some name
+object_of (Some (Audit name log)) = Some name
+object_of (Some (Patch name unit mode donor)) = Some name
 object_of None = None
 
 -- the platform file that a command compiles for
@@ -140,7 +161,24 @@ platform_file (Some (Plan name)) = None
 platform_file (Some (Show name)) = None
 platform_file (Some (Bulk n)) = None
 platform_file (Some (Slack name owner task)) = None
+platform_file (Some (Audit name log)) = None
+platform_file (Some (Patch name unit mode donor)) = None
 platform_file None = None
+
+-- the file that a command needs beside an object: a log, or a donor
+abbrev pub second_file : Option Command → Option (List ℕ)
+second_file (Some (Go name)) = None
+second_file (Some Compile) = None
+second_file (Some (CompileWith platform)) = None
+second_file (Some (Run show name)) = None
+second_file (Some (Check name)) = None
+second_file (Some (Plan name)) = None
+second_file (Some (Show name)) = None
+second_file (Some (Bulk n)) = None
+second_file (Some (Slack name owner task)) = None
+second_file (Some (Audit name log)) = Some log
+second_file (Some (Patch name unit mode donor)) = Some donor
+second_file None = None
 
 abbrev pub source_in : List (Bor (List ℕ)) → Option (List ℕ)
 source_in words = source_of (command_in words)
@@ -151,7 +189,10 @@ object_in words = object_of (command_in words)
 abbrev pub platform_in : List (Bor (List ℕ)) → Option (List ℕ)
 platform_in words = platform_file (command_in words)
 
--- the commands that run an object
+abbrev pub second_in : List (Bor (List ℕ)) → Option (List ℕ)
+second_in words = second_file (command_in words)
+
+-- the commands that run an object, or the audit of one
 abbrev pub RunsObject : Option Command → Type 0
 RunsObject (Some (Go name)) = Unit {0}
 RunsObject (Some Compile) = ⊥
@@ -162,6 +203,8 @@ RunsObject (Some (Plan name)) = ⊥
 RunsObject (Some (Show name)) = ⊥
 RunsObject (Some (Bulk n)) = ⊥
 RunsObject (Some (Slack name owner task)) = ⊥
+RunsObject (Some (Audit name log)) = Unit {0}
+RunsObject (Some (Patch name unit mode donor)) = ⊥
 RunsObject None = ⊥
 
 -- ---- the input
@@ -177,6 +220,8 @@ most_taken (Some (Plan name)) = MAX_SCRIPT + 4096
 most_taken (Some (Show name)) = 0
 most_taken (Some (Bulk n)) = 0
 most_taken (Some (Slack name owner task)) = 0
+most_taken (Some (Audit name log)) = MAX_SCRIPT + 4096
+most_taken (Some (Patch name unit mode donor)) = 0
 most_taken None = 0
 
 -- ---- the words as they were read
@@ -188,6 +233,8 @@ asked_for (ask.CompileWith platform) = CompileWith platform.now
 asked_for (ask.File v name) = with_file v name.now
 asked_for (ask.Bulk n) = Bulk n
 asked_for (ask.Slack name owner task) = Slack name.now owner task
+asked_for (ask.Audit name log) = Audit name.now log.now
+asked_for (ask.Patch name unit mode donor) = Patch name.now unit mode donor.now
 
 -- the modules that are asked for, where they are, are 1 to 64
 abbrev pub AreFewModules : Asked → Type 0
@@ -196,3 +243,5 @@ AreFewModules (ask.CompileWith platform) = Unit {0}
 AreFewModules (ask.File v name) = Unit {0}
 AreFewModules (ask.Bulk n) = (1 ≤ n) × (n ≤ MAX_MODULES)
 AreFewModules (ask.Slack name owner task) = Unit {0}
+AreFewModules (ask.Audit name log) = Unit {0}
+AreFewModules (ask.Patch name unit mode donor) = Unit {0}

@@ -1,5 +1,5 @@
 // The command `bulk`: a generated program, run on generated readings.
-ghost use Rattle.std.specs.Prelude.{◌≡◌, ◌≤◌, ◌<◌, ◌*◌, ◌++◌, ◌∷◌, ◌⊎◌, ℕ, ℤ, List, [], get_or, length, pos, IfOk, OnOk};
+ghost use Rattle.std.specs.Prelude.{◌≡◌, ◌≤◌, ◌<◌, ◌*◌, ◌++◌, ◌∷◌, ℕ, ℤ, List, [], get_or, length, pos, IfOk, OnOk};
 ghost use Rattle.htl_base.specs.declared.limits.TheConstants as limit;
 ghost use Rattle.htl_compile.specs.Building.{IsCompiledTo};
 ghost use Rattle.htl_compile.specs.BulkTree.{bulk_bytes};

@@ -124,8 +124,8 @@ fn compile_on<W: Sink>(alloc: Global, bytes: &[u8], platform: &[u8], out: &mut W
     }
 }
 
-// Writes the bytes of an object.
-fn write_object<W: Sink>(out: &mut W, object: &[u8]) -> Outcome
+/// Writes the bytes of an object.
+pub fn write_object<W: Sink>(out: &mut W, object: &[u8]) -> Outcome
     ensures text { IsWritten object.now Outcome.Done (W.written out.old) (W.written out.new) (W.faults out.old) (W.faults out.new) result }
     ensures write_count { (result ≡ Outcome.Write → ⊥) → W.faults out.new ≡ W.faults out.old }
 {

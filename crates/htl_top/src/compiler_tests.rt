@@ -1,12 +1,13 @@
 // Sources with their faults and with their objects.
+use crate::object_bytes::{DOUBLING, NO_MODULE};
+use crate::pieces::{Piece, joined};
+use crate::source_tests::{MORE_SELECTIONS, SELECTIONS};
 use htl_base::limits::MAX_SOURCE;
 use htl_compile::{BackFault, CompileFault, FrontFault, SourceFault, back, compile, front};
 use htl_model::{FormFault, Function, Tables};
 use htl_object::Object;
-use std::alloc::{AllocError, Global};
+use std::alloc::Global;
 use std::test::Fail;
-
-// ---- the faults of sources
 
 // The tables of a text with code, or its fault.
 fn tables(alloc: Global, text: &[u8]) -> Option<Result<Tables, SourceFault>> {
@@ -50,112 +51,171 @@ fn is_code(f: &Function) -> bool {
     }
 }
 
+// Around the outputs of a task and the switch of a mode; outputs begin at byte 99.
+const OUTPUTS: Piece = Piece::Once(
+    "program P { sensor int s period 10 init 0; module M start m { task t input (int x, bool b) output (",
+);
+
+const SWITCH: Piece = Piece::Once(") worst 4; mode m period 20 { ");
+
+const END: Piece = Piece::Once(" } } }");
+
+const UNSWITCHED: Piece = Piece::Once(") worst 4; mode m period 20 {  } } }");
+
 // Texts with their faults.
-const FAULTS: &[(&str, SourceFault)] = &[
-    ("", SourceFault::Syntax { at: 0 }),
+const FAULTS: &[(&[Piece], SourceFault)] = &[
+    (&[Piece::Once("")], SourceFault::Syntax { at: 0 }),
     (
-        "program P { module M start m { }",
+        &[Piece::Once("program P { module M start m { }")],
         SourceFault::Syntax { at: 32 },
     ),
-    ("program P { #", SourceFault::Char { at: 12 }),
-    ("program P { } & &", SourceFault::Char { at: 14 }),
-    ("9223372036854775808", SourceFault::Number { at: 0 }),
     (
-        " a23456789_123456789_123456789_123456789_123456789",
+        &[Piece::Once("program P { #")],
+        SourceFault::Char { at: 12 },
+    ),
+    (
+        &[Piece::Once("program P { } & &")],
+        SourceFault::Char { at: 14 },
+    ),
+    (
+        &[Piece::Once("9223372036854775808")],
+        SourceFault::Number { at: 0 },
+    ),
+    (
+        &[Piece::Once(" a23456789_123456789_123456789_123456789_123456789")],
         SourceFault::NameLong { at: 1 },
     ),
     (
-        "program P { module M start m { } }",
+        &[Piece::Once("program P { module M start m { } }")],
         SourceFault::Unknown { at: 27 },
     ),
     (
-        "program P { communicator int u period 1 init 0; communicator int u period 1 init 0; }",
+        &[Piece::Once(
+            "program P { communicator int u period 1 init 0; communicator int u period 1 init 0; }",
+        )],
         SourceFault::Twice { at: 65 },
     ),
     (
-        "program P { communicator bool b period 1 init 3; }",
+        &[Piece::Once("program P { communicator bool b period 1 init 3; }")],
         SourceFault::Kind { at: 46 },
     ),
     (
-        "program P { } program Q { }",
+        &[Piece::Once("program P { } program Q { }")],
         SourceFault::NotATree { program: 1 },
+    ),
+    // the first fault of a function
+    (
+        &[OUTPUTS, Piece::Once("int y = x < 2"), UNSWITCHED],
+        SourceFault::IllTyped { at: 107 },
+    ),
+    (
+        &[OUTPUTS, Piece::Once("int y = x + b"), UNSWITCHED],
+        SourceFault::IllTyped { at: 109 },
+    ),
+    (
+        &[
+            OUTPUTS,
+            Piece::Once("int y = (x + 1) * (2 - b)"),
+            UNSWITCHED,
+        ],
+        SourceFault::IllTyped { at: 120 },
+    ),
+    (
+        &[OUTPUTS, Piece::Once("int y = if(x, 1, 2)"), UNSWITCHED],
+        SourceFault::IllTyped { at: 107 },
+    ),
+    (
+        &[OUTPUTS, Piece::Once("bool y = -b"), UNSWITCHED],
+        SourceFault::IllTyped { at: 108 },
+    ),
+    (
+        &[OUTPUTS, Piece::Once("int y = 1, bool z = x"), UNSWITCHED],
+        SourceFault::IllTyped { at: 119 },
+    ),
+    (
+        &[
+            OUTPUTS,
+            Piece::Once("int y = 1"),
+            SWITCH,
+            Piece::Once("switch (s, m);"),
+            END,
+        ],
+        SourceFault::IllTyped { at: 146 },
+    ),
+    (
+        &[
+            OUTPUTS,
+            Piece::Once("int y = b"),
+            SWITCH,
+            Piece::Once("switch (s, m);"),
+            END,
+        ],
+        SourceFault::IllTyped { at: 107 },
+    ),
+    // 65 values in brackets
+    (
+        &[
+            OUTPUTS,
+            Piece::Once("int y = "),
+            Piece::Copies(64, "1 + ("),
+            Piece::Once("1"),
+            Piece::Copies(64, ")"),
+            UNSWITCHED,
+        ],
+        SourceFault::Deep { at: 107 },
+    ),
+    // a selection too many
+    (
+        MORE_SELECTIONS,
+        SourceFault::Limit {
+            which: 10,
+            count: 1_025,
+        },
     ),
 ];
 
 #[test]
-fn sources_have_their_faults(rt: HostRuntime) {
-    for (text, at) in FAULTS {
-        assert!(rt; is_fault(rt.alloc(), text.as_bytes(), *at), "{text}");
+fn sources_have_their_faults(rt: HostRuntime) -> Result<(), Fail> {
+    for (k, (pieces, at)) in FAULTS.iter().enumerate() {
+        let text = joined(rt.alloc(), pieces)?;
+        assert!(rt; is_fault(rt.alloc(), text.as_bytes(), *at), "fault {k}");
     }
+    Ok(())
 }
 
-// A module whose task has this list of outputs, and whose mode has this switch.
-fn module(alloc: Global, outputs: &str, switch: &str) -> Result<String, AllocError> {
-    let mut text = String::from_str(
-        alloc,
-        "program P { sensor int s period 10 init 0; module M start m { task t input (int x, bool b) output (",
-    )?;
-    text.push_str(outputs)?;
-    text.push_str(") worst 4; mode m period 20 { ")?;
-    text.push_str(switch)?;
-    text.push_str(" } } }")?;
-    Ok(text)
-}
-
-// Outputs and switches with the first fault of a function; outputs begin at byte 99.
-const ILL_TYPED: &[(&str, &str, u64)] = &[
-    ("int y = x < 2", "", 107),
-    ("int y = x + b", "", 109),
-    ("int y = (x + 1) * (2 - b)", "", 120),
-    ("int y = if(x, 1, 2)", "", 107),
-    ("bool y = -b", "", 108),
-    ("int y = 1, bool z = x", "", 119),
-    ("int y = 1", "switch (s, m);", 146),
-    ("int y = b", "switch (s, m);", 107),
+// Texts with the number of their functions: outputs and a switch, and 64 values in brackets.
+const CODED: &[(&[Piece], usize)] = &[
+    (
+        &[
+            OUTPUTS,
+            Piece::Once("int y = x * 2, bool z = b == (x < 2)"),
+            SWITCH,
+            Piece::Once("switch (s > 1, m);"),
+            END,
+        ],
+        3,
+    ),
+    (
+        &[
+            OUTPUTS,
+            Piece::Once("int y = "),
+            Piece::Copies(63, "1 + ("),
+            Piece::Once("1"),
+            Piece::Copies(63, ")"),
+            UNSWITCHED,
+        ],
+        1,
+    ),
 ];
 
 #[test]
-fn functions_have_their_types(rt: HostRuntime) -> Result<(), Fail> {
-    for (outputs, switch, at) in ILL_TYPED {
-        let text = module(rt.alloc(), outputs, switch)?;
-        let fault = SourceFault::IllTyped { at: *at };
-        assert!(rt;
-            is_fault(rt.alloc(), text.as_bytes(), fault),
-            "{outputs} {switch}"
-        );
+fn functions_are_code(rt: HostRuntime) -> Result<(), Fail> {
+    for (pieces, count) in CODED {
+        let text = joined(rt.alloc(), pieces)?;
+        assert!(rt; codes(rt.alloc(), text.as_bytes()) == Some(*count));
     }
-    let text = module(
-        rt.alloc(),
-        "int y = x * 2, bool z = b == (x < 2)",
-        "switch (s > 1, m);",
-    )?;
-    assert!(rt; codes(rt.alloc(), text.as_bytes()) == Some(3));
     Ok(())
 }
-
-// A sum in brackets that holds one value more than it has brackets.
-fn nested(alloc: Global, depth: usize) -> Result<String, AllocError> {
-    let mut text = String::from_str(alloc, "int y = ")?;
-    for _ in 0..depth {
-        text.push_str("1 + (")?;
-    }
-    text.push_str("1")?;
-    for _ in 0..depth {
-        text.push_str(")")?;
-    }
-    module(alloc, text.as_str(), "")
-}
-
-#[test]
-fn functions_hold_64_values(rt: HostRuntime) -> Result<(), Fail> {
-    let text = nested(rt.alloc(), 64)?;
-    assert!(rt; is_fault(rt.alloc(), text.as_bytes(), SourceFault::Deep { at: 107 }));
-    let text = nested(rt.alloc(), 63)?;
-    assert!(rt; codes(rt.alloc(), text.as_bytes()) == Some(1));
-    Ok(())
-}
-
-// ---- objects
 
 // The object of a text, or the fault of its tables; None where there is another fault, or where the tables aren't handed back.
 fn object(alloc: Global, text: &[u8]) -> Option<Result<Object, BackFault>> {
@@ -266,38 +326,16 @@ fn tables_have_their_faults(rt: HostRuntime) {
     assert!(rt; is_back_fault(rt.alloc(), OVERLOADED.as_bytes(), overloaded));
 }
 
-// A program with a module for each count, with so many empty modes.
-fn modules(alloc: Global, counts: &[usize]) -> Result<String, AllocError> {
-    let mut text = String::from_str(alloc, "program P {")?;
-    for (k, modes) in counts.iter().enumerate() {
-        text.push_str(format!(in alloc; " module M{k} start m0 {{")?.as_str())?;
-        for m in 0..*modes {
-            text.push_str(format!(in alloc; " mode m{m} period 20 {{ }}")?.as_str())?;
-        }
-        text.push_str(" }")?;
-    }
-    text.push_str(" }")?;
-    Ok(text)
-}
-
 #[test]
 fn selections_are_at_most_1024(rt: HostRuntime) -> Result<(), Fail> {
-    let text = modules(rt.alloc(), &[2; 10])?;
+    let text = joined(rt.alloc(), SELECTIONS)?;
     let schedules = match object(rt.alloc(), text.as_bytes()) {
         Some(Ok(object)) => object.schedules.as_slice().len(),
         _ => 0,
     };
     assert!(rt; schedules == 1_024);
-    let text = modules(rt.alloc(), &[41, 5, 5])?;
-    let fault = SourceFault::Limit {
-        which: 10,
-        count: 1_025,
-    };
-    assert!(rt; is_fault(rt.alloc(), text.as_bytes(), fault));
     Ok(())
 }
-
-// ---- bytes
 
 // The bytes of a text's object, or its fault.
 fn bytes(alloc: Global, text: &str) -> Result<Vec<u8>, CompileFault> {
@@ -327,19 +365,6 @@ fn is_refused(alloc: Global, text: &str, wanted: CompileFault) -> bool {
 // One communicator and no module.
 const NO_MODULE_SOURCE: &str = "program P { communicator int u period 10 init 7; }";
 
-const NO_MODULE: [u8; 42] = [
-    // the text and the version
-    72, 84, 76, 79, 0, 1,
-    // seven counts
-    0, 1, 0, 0, 0, 0, 0, 0, 0, 0, 0, 0, 0, 0,
-    // communicators
-    1, 117, 0, 0, 0, 0, 0, 10, 0, 0, 0, 0, 0, 0, 0, 7,
-    // E code
-    0, 0, 0, 0,
-    // S code
-    0, 0,
-];
-
 // One invocation in one mode.
 const DOUBLING_SOURCE: &str = "program P {
   sensor int s period 10 init 0;
@@ -349,33 +374,6 @@ const DOUBLING_SOURCE: &str = "program P {
     mode m period 20 { invoke dbl input ((s, 0)) output ((u, 1)); }
   }
 }";
-
-const DOUBLING: [u8; 210] = [
-    // the text and the version
-    72, 84, 76, 79, 0, 1,
-    // seven counts
-    0, 2, 0, 1, 0, 1, 0, 0, 0, 1, 0, 1, 0, 0,
-    // communicators
-    1, 115, 0, 1, 0, 0, 0, 10, 0, 0, 0, 0, 0, 0, 0, 0, 1, 117, 0, 0, 0, 0, 0, 10, 0, 0, 0, 0, 0, 0,
-    0, 7,
-    // modes
-    1, 109, 0, 0, 0, 0, 0, 20,
-    // modules
-    1, 77, 255, 255, 0, 0,
-    // tasks
-    3, 100, 98, 108, 0, 0, 0, 0, 0, 0, 4, 0, 1, 0, 0, 1, 0,
-    // invocations
-    0, 0, 0, 0, 255, 255, 0, 1, 0, 0, 0, 0, 0, 0, 0, 0, 1, 0, 0, 1, 0, 0, 0, 1,
-    // functions
-    0, 1, 0, 0, 0, 3, 3, 0, 0, 1, 0, 0, 0, 0, 0, 0, 0, 2, 8,
-    // addresses
-    0, 0, 0, 0, 0, 0, 0, 1, 0, 0, 0, 10,
-    // E code
-    0, 0, 0, 11, 8, 0, 0, 4, 0, 0, 0, 10, 1, 0, 0, 0, 5, 4, 0, 0, 0, 0, 3, 0, 0, 0, 7, 4, 0, 0, 0,
-    20, 2, 0, 0, 0, 10, 11, 1, 0, 0, 0, 0, 11, 2, 0, 0, 0, 0, 3, 0, 0, 11, 6, 0, 0, 0, 1,
-    // S code
-    0, 1, 0, 0, 0, 2, 1, 0, 0, 0, 0, 0, 4, 3,
-];
 
 #[test]
 fn sources_have_their_bytes(rt: HostRuntime) {

@@ -2,11 +2,13 @@
 ghost use Rattle.std.specs.Prelude.{◌≡◌, ◌++◌, ◌+◌, ◌≤◌, codes, decimal, length};
 ghost use Rattle.std.specs.Option.{option_copied};
 ghost use Rattle.htl_top.specs.Answers.{Tells};
-ghost use Rattle.htl_top.specs.Status.{fault_line as line_of, source_line, form_line, form_text, overload_line, place_in, kind_text, script_line, shelf_line, platform_line};
+ghost use Rattle.htl_top.specs.Status.{fault_line as line_of, source_line, form_line, form_text, overload_line, place_in, kind_text, script_line, shelf_line, platform_line, log_word, log_line};
 
 use crate::object_line::object_line;
+use crate::patch_line::patch_line;
 use crate::place::place;
 use crate::{Outcome, ShelfCause, SourceFault};
+use htl_audit::{LogFault, LogKind};
 use htl_base::Time;
 use htl_edge::{LineBuffer, Sink, put_all};
 use htl_model::{FormFault, Tables};
@@ -48,6 +50,8 @@ fn fault_line(tables: Option<&Tables>, outcome: &Outcome) -> LineBuffer
         Outcome::Memory => plain_line(b"htl: memory\n"),
         Outcome::Platform(fault) => platform_line(fault),
         Outcome::Task => plain_line(b"htl: task\n"),
+        Outcome::Log(fault) => log_line(fault),
+        Outcome::Patch(fault) => patch_line(tables, fault),
     }
 }
 
@@ -67,17 +71,19 @@ fn source_line(fault: &SourceFault) -> LineBuffer
         SourceFault::NotATree { program } => {
             numbered_line(b"htl: source not-a-tree ", *program as u64)
         }
-        SourceFault::Limit { which, count } => limit_line(*which, *count),
+        SourceFault::Limit { which, count } => limit_line(b"htl: source limit ", *which, *count),
         SourceFault::IllTyped { at } => numbered_line(b"htl: source type ", *at),
         SourceFault::Deep { at } => numbered_line(b"htl: source deep ", *at),
     }
 }
 
-fn limit_line(which: u8, count: u32) -> LineBuffer
-    ensures { result ≡ codes "htl: source limit " ++ decimal which ++ codes " count " ++ decimal count ++ codes "\n" }
+/// The text, the number of a limit, how much there is, and a line feed.
+pub fn limit_line(text: &[u8], which: u8, count: u32) -> LineBuffer
+    requires { length text.now ≤ 64 }
+    ensures { result ≡ text.now ++ decimal which ++ codes " count " ++ decimal count ++ codes "\n" }
 {
     let mut line = LineBuffer::new();
-    line.text(b"htl: source limit ");
+    line.text(text);
     line.number(which as u64);
     line.text(b" count ");
     line.number(count as u64);
@@ -199,7 +205,36 @@ fn platform_line(fault: &PlatformFault) -> LineBuffer
     }
 }
 
-fn plain_line(text: &[u8]) -> LineBuffer
+fn log_line(fault: &LogFault) -> LineBuffer
+    ensures { result ≡ log_line fault.now }
+{
+    let kind = log_word(fault.kind);
+    let mut line = LineBuffer::new();
+    line.text(b"htl: log ");
+    line.number(fault.line);
+    line.text(b" ");
+    line.text(kind.as_bytes());
+    line.text(b"\n");
+    line
+}
+
+fn log_word(kind: LogKind) -> LineBuffer
+    ensures text { result ≡ log_word kind }
+    ensures short { length result ≤ 64 }
+{
+    match kind {
+        LogKind::Form => plain_line(b"form"),
+        LogKind::Unknown => plain_line(b"unknown"),
+        LogKind::Order => plain_line(b"order"),
+        LogKind::Outside => plain_line(b"outside"),
+        LogKind::Over => plain_line(b"over"),
+        LogKind::Before => plain_line(b"before"),
+        LogKind::Short => plain_line(b"short"),
+    }
+}
+
+/// The text alone.
+pub fn plain_line(text: &[u8]) -> LineBuffer
     requires { length text.now ≤ 64 }
     ensures text { result ≡ text.now }
     ensures short { length result ≤ 64 }

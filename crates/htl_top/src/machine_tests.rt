@@ -155,132 +155,123 @@ fn shown(m: &Machine<'_>, t: &Tables, comm: u16) -> Option<(Value, Value, Time, 
 }
 
 #[test]
-fn before_instant_0(rt: HostRuntime) -> Result<(), Fail> {
+fn a_machine_shows_what_stands_before_instant_0(rt: HostRuntime) -> Result<(), Fail> {
     assert_eq!(rt; at_first(rt.alloc(), &DOUBLING, 1), Some((7, 7, 0, false)));
     Ok(())
 }
 
-#[test]
-fn what_is_read_is_doubled(rt: HostRuntime) -> Result<(), Fail> {
-    let events = [
-        Event::At(0),
-        Event::Sense { comm: 0, x: 3 },
-        Event::At(10),
-        Event::Sense { comm: 0, x: 5 },
-    ];
-    let text =
-        "v 0 s 3\nv 0 u 7\nm 0 M m\nj 0 4 M.m.dbl\nd 4 M.m.dbl\nv 10 s 5\nv 10 u 6\nend 10 jobs 1 e 10 s 2\n";
-    assert!(rt; writes(rt.alloc(), &DOUBLING, &events, 10, text));
-    Ok(())
-}
+// An object, events, the end of the run, and what is written.
+const RUNS: &[(&[u8], &[Event], Time, &str)] = &[
+    // what is read is doubled
+    (
+        &DOUBLING,
+        &[
+            Event::At(0),
+            Event::Sense { comm: 0, x: 3 },
+            Event::At(10),
+            Event::Sense { comm: 0, x: 5 },
+        ],
+        10,
+        "v 0 s 3\nv 0 u 7\nm 0 M m\nj 0 4 M.m.dbl\nd 4 M.m.dbl\nv 10 s 5\nv 10 u 6\nend 10 jobs 1 e 10 s 2\n",
+    ),
+    // a job that takes one tick
+    (
+        &DOUBLING,
+        &[
+            Event::At(0),
+            Event::Sense { comm: 0, x: 3 },
+            Event::Took { inv: 0, length: 1 },
+            Event::At(10),
+            Event::Sense { comm: 0, x: 5 },
+        ],
+        10,
+        "v 0 s 3\nv 0 u 7\nm 0 M m\nj 0 1 M.m.dbl\nd 1 M.m.dbl\nv 10 s 5\nv 10 u 6\nend 10 jobs 1 e 10 s 2\n",
+    ),
+    // readings between
+    (
+        &DOUBLING,
+        &[
+            Event::At(0),
+            Event::Sense { comm: 0, x: 3 },
+            Event::At(3),
+            Event::At(7),
+            Event::At(10),
+            Event::Sense { comm: 0, x: 5 },
+        ],
+        10,
+        "v 0 s 3\nv 0 u 7\nm 0 M m\nj 0 4 M.m.dbl\nd 4 M.m.dbl\nv 10 s 5\nv 10 u 6\nend 10 jobs 1 e 10 s 2\n",
+    ),
+    // one job interrupts another
+    (
+        &TWO_JOBS,
+        &[],
+        10,
+        "v 0 x 1\nv 0 y 0\nv 0 z 0\nm 0 M m\nj 0 2 M.m.a\nj 2 5 M.m.b\nd 5 M.m.b\nv 6 y 5\nj 5 10 M.m.a\nd 10 M.m.a\nv 10 z 2\nend 10 jobs 2 e 26 s 4\n",
+    ),
+    // no job before its release
+    (
+        &TWO_JOBS,
+        &[Event::At(0), Event::Took { inv: 0, length: 1 }],
+        10,
+        "v 0 x 1\nv 0 y 0\nv 0 z 0\nm 0 M m\nj 0 1 M.m.a\nd 1 M.m.a\nj 2 5 M.m.b\nd 5 M.m.b\nv 6 y 5\nv 10 z 2\nend 10 jobs 2 e 26 s 4\n",
+    ),
+    // a port is read once its writer is done
+    (
+        &PORT,
+        &[Event::At(0), Event::Took { inv: 1, length: 1 }],
+        10,
+        "v 0 x 2\nv 0 u 0\nm 0 M m\nj 0 1 M.m.p\nd 1 M.m.p\nj 1 5 M.m.q\nd 5 M.m.q\nv 10 u 14\nend 10 jobs 2 e 20 s 3\n",
+    ),
+    // a refinement begins
+    (
+        &SOMETIMES,
+        &[Event::At(10), Event::Sense { comm: 2, x: 1 }],
+        20,
+        "v 0 u 3\nv 0 w 0\nv 0 g 0\nm 0 M m\nm 0 N off\nj 0 2 M.m.fix\nd 2 M.m.fix\nv 10 w 1\nv 10 g 1\nm 10 N on\nj 10 13 N.on.fast\nd 13 N.on.fast\nj 13 15 M.m.fix\nd 15 M.m.fix\nv 20 u 10\nv 20 w 2\nend 20 jobs 3 e 54 s 6\n",
+    ),
+    // a module ends with the mode above and starts anew
+    (
+        &REFINED,
+        &[
+            Event::At(10),
+            Event::Sense { comm: 0, x: 1 },
+            Event::At(20),
+            Event::Sense { comm: 0, x: 0 },
+        ],
+        30,
+        "v 0 g 0\nv 0 u 0\nm 0 M m\nm 0 N one\nj 0 3 N.one.f\nd 3 N.one.f\nv 10 g 1\nv 10 u 1\nm 10 M rest\nm 10 N -\nv 20 g 0\nm 20 M m\nm 20 N one\nj 20 23 N.one.f\nd 23 N.one.f\nv 30 u 2\nm 30 N two\nend 30 jobs 2 e 50 s 5\n",
+    ),
+    // a switch to the same mode keeps what stands below
+    (
+        &RESTARTED,
+        &[Event::At(10), Event::Sense { comm: 0, x: 1 }],
+        20,
+        "v 0 g 0\nv 0 u 0\nm 0 M m\nm 0 N one\nj 0 3 N.one.f\nd 3 N.one.f\nv 10 g 1\nv 10 u 1\nm 10 N two\nj 10 14 N.two.h\nd 14 N.two.h\nv 20 u 101\nend 20 jobs 2 e 41 s 4\n",
+    ),
+    // two tanks
+    (
+        &TANKS,
+        &[
+            Event::At(0),
+            Event::Sense { comm: 0, x: 250 },
+            Event::Sense { comm: 1, x: 300 },
+        ],
+        500,
+        "v 0 h1 250\nv 0 h2 300\nv 0 u1 0\nv 0 u2 0\nm 0 T1 hold\nm 0 C1 p\nm 0 T2 hold\nj 100 160 C1.p.prop\nd 160 C1.p.prop\nj 160 260 T2.hold.direct\nd 260 T2.hold.direct\nv 400 u1 300\nv 400 u2 100\nend 500 jobs 2 e 39 s 3\n",
+    ),
+    // a switch takes the schedule of the mode
+    (
+        &TWO_MODES,
+        &[Event::At(10), Event::Sense { comm: 0, x: 1 }],
+        20,
+        "v 0 g 0\nv 0 u 0\nm 0 M one\nj 0 3 M.one.f\nd 3 M.one.f\nv 10 g 1\nv 10 u 1\nm 10 M two\nj 10 14 M.two.h\nd 14 M.two.h\nv 20 u 101\nend 20 jobs 2 e 30 s 4\n",
+    ),
+];
 
 #[test]
-fn a_job_that_takes_one_tick(rt: HostRuntime) -> Result<(), Fail> {
-    let events = [
-        Event::At(0),
-        Event::Sense { comm: 0, x: 3 },
-        Event::Took { inv: 0, length: 1 },
-        Event::At(10),
-        Event::Sense { comm: 0, x: 5 },
-    ];
-    let text =
-        "v 0 s 3\nv 0 u 7\nm 0 M m\nj 0 1 M.m.dbl\nd 1 M.m.dbl\nv 10 s 5\nv 10 u 6\nend 10 jobs 1 e 10 s 2\n";
-    assert!(rt; writes(rt.alloc(), &DOUBLING, &events, 10, text));
-    Ok(())
-}
-
-#[test]
-fn readings_between(rt: HostRuntime) -> Result<(), Fail> {
-    let events = [
-        Event::At(0),
-        Event::Sense { comm: 0, x: 3 },
-        Event::At(3),
-        Event::At(7),
-        Event::At(10),
-        Event::Sense { comm: 0, x: 5 },
-    ];
-    let text =
-        "v 0 s 3\nv 0 u 7\nm 0 M m\nj 0 4 M.m.dbl\nd 4 M.m.dbl\nv 10 s 5\nv 10 u 6\nend 10 jobs 1 e 10 s 2\n";
-    assert!(rt; writes(rt.alloc(), &DOUBLING, &events, 10, text));
-    Ok(())
-}
-
-#[test]
-fn one_job_interrupts_another(rt: HostRuntime) -> Result<(), Fail> {
-    let text =
-        "v 0 x 1\nv 0 y 0\nv 0 z 0\nm 0 M m\nj 0 2 M.m.a\nj 2 5 M.m.b\nd 5 M.m.b\nv 6 y 5\nj 5 10 M.m.a\nd 10 M.m.a\nv 10 z 2\nend 10 jobs 2 e 26 s 4\n";
-    assert!(rt; writes(rt.alloc(), &TWO_JOBS, &[], 10, text));
-    Ok(())
-}
-
-#[test]
-fn no_job_before_its_release(rt: HostRuntime) -> Result<(), Fail> {
-    let events = [Event::At(0), Event::Took { inv: 0, length: 1 }];
-    let text =
-        "v 0 x 1\nv 0 y 0\nv 0 z 0\nm 0 M m\nj 0 1 M.m.a\nd 1 M.m.a\nj 2 5 M.m.b\nd 5 M.m.b\nv 6 y 5\nv 10 z 2\nend 10 jobs 2 e 26 s 4\n";
-    assert!(rt; writes(rt.alloc(), &TWO_JOBS, &events, 10, text));
-    Ok(())
-}
-
-#[test]
-fn a_port_is_read_once_its_writer_is_done(rt: HostRuntime) -> Result<(), Fail> {
-    let events = [Event::At(0), Event::Took { inv: 1, length: 1 }];
-    let text =
-        "v 0 x 2\nv 0 u 0\nm 0 M m\nj 0 1 M.m.p\nd 1 M.m.p\nj 1 5 M.m.q\nd 5 M.m.q\nv 10 u 14\nend 10 jobs 2 e 20 s 3\n";
-    assert!(rt; writes(rt.alloc(), &PORT, &events, 10, text));
-    Ok(())
-}
-
-#[test]
-fn a_refinement_begins(rt: HostRuntime) -> Result<(), Fail> {
-    let events = [Event::At(10), Event::Sense { comm: 2, x: 1 }];
-    let text =
-        "v 0 u 3\nv 0 w 0\nv 0 g 0\nm 0 M m\nm 0 N off\nj 0 2 M.m.fix\nd 2 M.m.fix\nv 10 w 1\nv 10 g 1\nm 10 N on\nj 10 13 N.on.fast\nd 13 N.on.fast\nj 13 15 M.m.fix\nd 15 M.m.fix\nv 20 u 10\nv 20 w 2\nend 20 jobs 3 e 54 s 6\n";
-    assert!(rt; writes(rt.alloc(), &SOMETIMES, &events, 20, text));
-    Ok(())
-}
-
-#[test]
-fn a_module_ends_with_the_mode_above_and_starts_anew(rt: HostRuntime) -> Result<(), Fail> {
-    let events = [
-        Event::At(10),
-        Event::Sense { comm: 0, x: 1 },
-        Event::At(20),
-        Event::Sense { comm: 0, x: 0 },
-    ];
-    let text =
-        "v 0 g 0\nv 0 u 0\nm 0 M m\nm 0 N one\nj 0 3 N.one.f\nd 3 N.one.f\nv 10 g 1\nv 10 u 1\nm 10 M rest\nm 10 N -\nv 20 g 0\nm 20 M m\nm 20 N one\nj 20 23 N.one.f\nd 23 N.one.f\nv 30 u 2\nm 30 N two\nend 30 jobs 2 e 50 s 5\n";
-    assert!(rt; writes(rt.alloc(), &REFINED, &events, 30, text));
-    Ok(())
-}
-
-#[test]
-fn a_switch_to_the_same_mode_keeps_what_stands_below(rt: HostRuntime) -> Result<(), Fail> {
-    let events = [Event::At(10), Event::Sense { comm: 0, x: 1 }];
-    let text =
-        "v 0 g 0\nv 0 u 0\nm 0 M m\nm 0 N one\nj 0 3 N.one.f\nd 3 N.one.f\nv 10 g 1\nv 10 u 1\nm 10 N two\nj 10 14 N.two.h\nd 14 N.two.h\nv 20 u 101\nend 20 jobs 2 e 41 s 4\n";
-    assert!(rt; writes(rt.alloc(), &RESTARTED, &events, 20, text));
-    Ok(())
-}
-
-#[test]
-fn two_tanks(rt: HostRuntime) -> Result<(), Fail> {
-    let events = [
-        Event::At(0),
-        Event::Sense { comm: 0, x: 250 },
-        Event::Sense { comm: 1, x: 300 },
-    ];
-    let text =
-        "v 0 h1 250\nv 0 h2 300\nv 0 u1 0\nv 0 u2 0\nm 0 T1 hold\nm 0 C1 p\nm 0 T2 hold\nj 100 160 C1.p.prop\nd 160 C1.p.prop\nj 160 260 T2.hold.direct\nd 260 T2.hold.direct\nv 400 u1 300\nv 400 u2 100\nend 500 jobs 2 e 39 s 3\n";
-    assert!(rt; writes(rt.alloc(), &TANKS, &events, 500, text));
-    Ok(())
-}
-
-#[test]
-fn a_switch_takes_the_schedule_of_the_mode(rt: HostRuntime) -> Result<(), Fail> {
-    let events = [Event::At(10), Event::Sense { comm: 0, x: 1 }];
-    let text =
-        "v 0 g 0\nv 0 u 0\nm 0 M one\nj 0 3 M.one.f\nd 3 M.one.f\nv 10 g 1\nv 10 u 1\nm 10 M two\nj 10 14 M.two.h\nd 14 M.two.h\nv 20 u 101\nend 20 jobs 2 e 30 s 4\n";
-    assert!(rt; writes(rt.alloc(), &TWO_MODES, &events, 20, text));
+fn runs_are_written(rt: HostRuntime) -> Result<(), Fail> {
+    for (object, events, to, text) in RUNS {
+        assert!(rt; writes(rt.alloc(), object, events, *to, text), "{text}");
+    }
     Ok(())
 }

@@ -16,7 +16,7 @@ pub fn object_line(tables: Option<&Tables>, fault: &ObjectFault) -> LineBuffer
     ensures { result ≡ object_line (option_copied tables.entry) fault.now }
 {
     match fault {
-        ObjectFault::Malformed(bad) => field_line(bad),
+        ObjectFault::Malformed(bad) => field_line(b"htl: object malformed ", bad),
         ObjectFault::IllFormed(fault) => form_text(b"htl: object ill-formed ", tables, fault),
         ObjectFault::Function { id } => numbered_line(b"htl: object function ", *id as u64),
         ObjectFault::ECode(fault) => departure_line(fault),
@@ -24,11 +24,13 @@ pub fn object_line(tables: Option<&Tables>, fault: &ObjectFault) -> LineBuffer
     }
 }
 
-fn field_line(bad: &Malformed) -> LineBuffer
-    ensures { result ≡ codes "htl: object malformed " ++ field_word bad.now.kind ++ codes " " ++ decimal bad.now.offset ++ codes "\n" }
+/// The text, the kind of a bad field, where it begins, and a line feed.
+pub fn field_line(text: &[u8], bad: &Malformed) -> LineBuffer
+    requires { length text.now ≤ 64 }
+    ensures { result ≡ text.now ++ field_word bad.now.kind ++ codes " " ++ decimal bad.now.offset ++ codes "\n" }
 {
     let mut line = LineBuffer::new();
-    line.text(b"htl: object malformed ");
+    line.text(text);
     line.text(field_word(&bad.kind));
     line.text(b" ");
     line.number(bad.offset);

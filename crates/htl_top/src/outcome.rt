@@ -2,10 +2,12 @@
 ghost use Rattle.std.specs.Prelude.{◌≡◌};
 ghost use Rattle.htl_top.specs.Status.{status_of};
 
+use htl_audit::LogFault;
 use htl_base::Time;
 use htl_compile::SourceFault;
 use htl_load::ObjectFault;
 use htl_model::FormFault;
+use htl_patch::PatchFault;
 use htl_platform::PlatformFault;
 use htl_script::ScriptFault;
 
@@ -14,7 +16,8 @@ use htl_script::ScriptFault;
 pub enum ShelfCause {
     /// It failed, and counted it as a fault of the name; so it does where it has no such file.
     Failed,
-    /// The file has too many bytes: more than 1,048,576 for a source or a platform file, more than 16,777,216 for an object.
+    /// The file has too many bytes: more than 1,048,576 for a source or a platform file, more than 16,777,216 for an object or
+    /// a job log.
     TooLong {
         /// How many bytes were seen: all of them, where the shelf tells what it holds.
         seen: u64,
@@ -59,10 +62,15 @@ pub enum Outcome {
     Platform(PlatformFault),
     /// The names are those of no task that is invoked in a root module.
     Task,
+    /// The job log has a fault: a line that can't be read, before anything was read or written, or the first fault of its audit, after
+    /// values and modes were written.
+    Log(LogFault),
+    /// The donor's refinement isn't taken over.
+    Patch(PatchFault),
 }
 
 /// The status with which the program ends: 0 for Done, 2 Usage, 3 Source, 4 IllFormed, 5 Unschedulable, 6 Object, 7
-/// Script, 8 Shelf, 9 Read, 10 Write, 11 Memory, 12 Platform and 15 Task.
+/// Script, 8 Shelf, 9 Read, 10 Write, 11 Memory, 12 Platform, 13 Log, 14 Patch and 15 Task.
 pub fn status(o: &Outcome) -> u8
     ensures { result ≡ status_of o.now }
 {
@@ -80,5 +88,7 @@ pub fn status(o: &Outcome) -> u8
         Outcome::Memory => 11,
         Outcome::Platform(_) => 12,
         Outcome::Task => 15,
+        Outcome::Log(_) => 13,
+        Outcome::Patch(_) => 14,
     }
 }

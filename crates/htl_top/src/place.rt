@@ -1,5 +1,5 @@
 // The place of a broken form rule, by names.
-ghost use Rattle.std.specs.Prelude.{◌≡◌, ◌≤◌, ◌++◌, codes, length};
+ghost use Rattle.std.specs.Prelude.{◌≡◌, ◌≤◌, length};
 ghost use Rattle.htl_top.specs.Status.{mode_place, place_of_fault};
 
 use crate::lookups::{mode_name, module_name, task_name};

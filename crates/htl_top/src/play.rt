@@ -1,5 +1,5 @@
 // The events of a script, told to a machine as they are read.
-ghost use Rattle.std.specs.Prelude.{◌≡◌, ◌+◌, [], List, ℕ, OnOk};
+ghost use Rattle.std.specs.Prelude.{◌≡◌, ◌+◌, [], List, OnOk};
 ghost use Rattle.htl_base.specs.declared.limits.TheConstants as limit;
 ghost use Rattle.htl_edge.specs.Content.{Puts};
 ghost use Rattle.htl_machine.specs.Calls.{Follows, IsSameRun};

@@ -1,5 +1,5 @@
 // How many positions root selections have, by the invocations of each mode, which are counted once.
-ghost use Rattle.std.specs.Prelude.{◌≡◌, ◌<◌, ℕ, List, Some, None, length, get_or, count_by};
+ghost use Rattle.std.specs.Prelude.{◌≡◌, ◌<◌, ℕ, Some, None, length, get_or, count_by};
 ghost use Rattle.htl_model.specs.Broken.{KeepsLimits};
 ghost use Rattle.htl_model.specs.Selections.{inv_of_mode, positions as positions_of, selection_count};
 ghost use Rattle.htl_top.specs.Checked.{most_positions as most_positions_of};

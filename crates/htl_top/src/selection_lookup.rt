@@ -1,5 +1,5 @@
 // What names in the input of a plan mean.
-ghost use Rattle.std.specs.Prelude.{◌≡◌, ◌<◌, ◌≤◌, length, IfSome};
+ghost use Rattle.std.specs.Prelude.{◌≡◌, ◌<◌, length, IfSome};
 ghost use Rattle.std.specs.List.{position_from};
 ghost use Rattle.htl_model.specs.Ranges.{parent_of as parent_of_of};
 ghost use Rattle.htl_model.specs.Selected.{is_active as is_active_of};

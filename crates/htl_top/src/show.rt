@@ -1,5 +1,5 @@
 // The command `show`: the listing of an accepted object.
-ghost use Rattle.std.specs.Prelude.{◌≡◌, ℕ, List, Some, None};
+ghost use Rattle.std.specs.Prelude.{◌≡◌, ℕ, List, Some};
 ghost use Rattle.htl_edge.specs.Content.{Puts};
 ghost use Rattle.htl_top.specs.Answers.{files, IsWritten};
 ghost use Rattle.htl_top.specs.Objects.{IsTextOnObject, IsObjectTables};

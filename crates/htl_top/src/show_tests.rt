@@ -1,7 +1,6 @@
 // `show` over objects in memory.
-use crate::object_bytes::{DOUBLING, IDLING, NO_MODULE, REFINED, changed};
-use crate::tests::{Setting, drawer, edited, is_answered};
-use std::alloc::Global;
+use crate::calls::{Content, EMPTY, Group, Place, Row, Streams, Text, first_wrong};
+use crate::object_bytes::{DOUBLING, IDLING, NO_MODULE, REFINED};
 use std::test::Fail;
 
 const DOUBLING_LISTED: &str = "sensor s int period 10 init 0
@@ -104,46 +103,93 @@ E 5 ifmode 7 2
 E 6 jumpif 4 3
 ";
 
-// Whether `show` answers so to an object with other bytes from a place on, where a write fails or none does.
-fn shows(
-    alloc: Global,
-    change: (&[u8], usize, &[u8]),
-    write: u64,
-    want: (u8, &[u8], &str),
-) -> Result<bool, Fail> {
-    let (object, at, by) = change;
-    let mut shelf = drawer(alloc, changed(alloc, object, at, by, true)?)?;
-    let mut setting = Setting::of("");
-    setting.write = write;
-    is_answered(alloc, &["show", "A"], &mut shelf, &setting, want)
-}
+const LISTED: &[Row] = &[
+    (
+        Content::Changed(&NO_MODULE, 0, &[], true),
+        EMPTY,
+        "",
+        0,
+        Content::Text("comm u int period 10 init 7\n"),
+        "",
+    ),
+    (
+        Content::Changed(&DOUBLING, 0, &[], true),
+        EMPTY,
+        "",
+        0,
+        Content::Text(DOUBLING_LISTED),
+        "",
+    ),
+    (
+        Content::Changed(&REFINED, 0, &[], true),
+        EMPTY,
+        "",
+        0,
+        Content::Text(REFINED_LISTED),
+        "",
+    ),
+    (
+        Content::Changed(&NO_MODULE, 36, &UNREACHED, true),
+        EMPTY,
+        "",
+        0,
+        Content::Text(UNREACHED_LISTED),
+        "",
+    ),
+    // an `idle`
+    (
+        Content::Changed(&DOUBLING, 198, &IDLING, true),
+        EMPTY,
+        "",
+        0,
+        Content::Made(Text::Edited(
+            DOUBLING_LISTED,
+            &[(
+                "S 0:0 dispatch 0 until 4\nS 0:1 end\n",
+                "S 0:0 idle until 3\nS 0:1 dispatch 0 until 7\nS 0:2 end\n",
+            )],
+        )),
+        "",
+    ),
+    (
+        Content::Changed(&DOUBLING, 125, &[5], true),
+        EMPTY,
+        "",
+        6,
+        EMPTY,
+        "htl: object function 0\n",
+    ),
+];
+
+// The second write fails.
+const CUT: &[Row] = &[(
+    Content::Changed(&DOUBLING, 0, &[], true),
+    EMPTY,
+    "",
+    10,
+    Content::Text("sensor s int period 10 init 0\n"),
+    "htl: write\n",
+)];
+
+const GROUPS: &[Group] = &[
+    Group {
+        name: "accepted objects are listed",
+        words: &["show", "A"],
+        place: Place::Files,
+        streams: Streams::Usual,
+        rows: LISTED,
+    },
+    Group {
+        name: "a failing output cuts the listing",
+        words: &["show", "A"],
+        place: Place::Files,
+        streams: Streams::Fails(0, 2),
+        rows: CUT,
+    },
+];
 
 #[test]
-fn accepted_objects_are_listed(rt: HostRuntime) -> Result<(), Fail> {
-    let alloc = rt.alloc();
-    let want = (0, b"comm u int period 10 init 7\n".as_slice(), "");
-    assert!(rt; shows(alloc, (&NO_MODULE, 0, &[]), 0, want)?);
-    let want = (0, DOUBLING_LISTED.as_bytes(), "");
-    assert!(rt; shows(alloc, (&DOUBLING, 0, &[]), 0, want)?);
-    let want = (0, REFINED_LISTED.as_bytes(), "");
-    assert!(rt; shows(alloc, (&REFINED, 0, &[]), 0, want)?);
-    let want = (0, UNREACHED_LISTED.as_bytes(), "");
-    assert!(rt; shows(alloc, (&NO_MODULE, 36, &UNREACHED), 0, want)?);
-    let listed = edited(
-        alloc,
-        DOUBLING_LISTED,
-        "S 0:0 dispatch 0 until 4\nS 0:1 end\n",
-        "S 0:0 idle until 3\nS 0:1 dispatch 0 until 7\nS 0:2 end\n",
-    )?;
-    let want = (0, listed.as_str().as_bytes(), "");
-    assert!(rt; shows(alloc, (&DOUBLING, 198, &IDLING), 0, want)?);
-    let want = (
-        10,
-        b"sensor s int period 10 init 0\n".as_slice(),
-        "htl: write\n",
-    );
-    assert!(rt; shows(alloc, (&DOUBLING, 0, &[]), 2, want)?);
-    let want = (6, b"".as_slice(), "htl: object function 0\n");
-    assert!(rt; shows(alloc, (&DOUBLING, 125, &[5]), 0, want)?);
+fn calls_are_answered(rt: HostRuntime) -> Result<(), Fail> {
+    assert_eq!(rt; first_wrong(rt.alloc(), GROUPS)?, None);
     Ok(())
 }

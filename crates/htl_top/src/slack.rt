@@ -1,8 +1,6 @@
 // The command `slack`: how far the worst case of a task can be raised.
 ghost use Rattle.std.specs.Prelude.{◌≡◌, ◌↔◌, ◌<◌, ℕ, List, Some, None, IfOk, MatchOption, true, length};
 ghost use Rattle.htl_edge.specs.Content.{Puts};
-ghost use Rattle.htl_object.specs.Accepted.{IsAccepted};
-ghost use Rattle.htl_model.specs.Tables.{task_worst as task_worst_of};
 ghost use Rattle.htl_slack.specs.RootTasks.{IsRootTask, limit_of};
 ghost use Rattle.htl_top.specs.Answers.{files};
 ghost use Rattle.htl_top.specs.Objects.{IsObjectTables};

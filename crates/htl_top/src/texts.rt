@@ -1,8 +1,9 @@
-// Texts, read as far as their tables, and texts of many items.
+// Texts, read as far as their tables.
 ghost use Rattle.htl_text.specs.Bounds.{IsBounded};
 ghost use Rattle.htl_text.specs.Nodes.{tree_of};
 
 use crate::SourceFault;
+use crate::pieces::{Piece, joined};
 use htl_base::limits::MAX_SOURCE;
 use htl_model::Tables;
 use htl_names::{NameFault, resolve};
@@ -70,27 +71,20 @@ fn first_byte(tokens: &Tokens, token: u32) -> Option<u64> {
     Some(tokens.offset(token as usize))
 }
 
-/// The text has tables.
-pub fn has_tables(alloc: Global, text: &[u8]) -> bool {
+/// Whether a text has tables, or the first name rule that it breaks.
+pub fn judged_text(alloc: Global, text: &[u8]) -> Option<Result<(), SourceFault>> {
     match tables_of(alloc, text) {
-        Some(Ok(_)) => true,
-        _ => false,
+        Some(Ok(_)) => Some(Ok(())),
+        Some(Err(fault)) => Some(Err(fault)),
+        None => None,
     }
 }
 
-/// The text has this fault.
-pub fn has_fault(alloc: Global, text: &[u8], want: SourceFault) -> bool {
-    match tables_of(alloc, text) {
-        Some(Err(fault)) => fault == want,
-        _ => false,
-    }
-}
-
-/// So many copies of a piece, with their numbers from 0 in its middle.
-pub fn copies(alloc: Global, count: usize, left: &str, right: &str) -> Result<String, AllocError> {
-    let mut text = String::new(alloc);
-    for k in 0..count {
-        text.push_str(format!(in alloc; "{left}{k}{right}")?.as_str())?;
-    }
-    Ok(text)
+/// The same of a text in pieces.
+pub fn judged(
+    alloc: Global,
+    pieces: &[Piece],
+) -> Result<Option<Result<(), SourceFault>>, AllocError> {
+    let text = joined(alloc, pieces)?;
+    Ok(judged_text(alloc, text.as_bytes()))
 }

@@ -1,6 +1,11 @@
 // The top call.
 ghost use Rattle.std.specs.Prelude.{◌≡◌, ◌≤◌, ◌<◌, ◌↔◌, ◌⊎◌, ℕ, List, Option, Some, None, Ok, length};
 ghost use Rattle.std.specs.Io.KnownBytes.{append_known};
+ghost use Rattle.htl_audit.specs.Faults.{IsFirstFault};
+ghost use Rattle.htl_audit.specs.Legal.{IsLegal};
+ghost use Rattle.htl_audit.specs.Logs.{log_of, Read as ReadLog, Refused as RefusedLog};
+ghost use Rattle.htl_audit.specs.declared.slice.LogFault.{LogFault};
+ghost use Rattle.htl_audit.specs.declared.slice.Slice.{Slice};
 ghost use Rattle.htl_base.specs.declared.limits.TheConstants as limit;
 ghost use Rattle.htl_compile.specs.BulkTree.{bulk_bytes};
 ghost use Rattle.htl_compile.specs.Built.{built, AreSchedulable};
@@ -18,13 +23,17 @@ ghost use Rattle.htl_console.specs.declared.shown.Shown.{Shown};
 ghost use Rattle.htl_console.specs.declared.shown.Shown.TheVariants as shown;
 ghost use Rattle.htl_edge.specs.Causes.{Rose};
 ghost use Rattle.htl_edge.specs.Content.{AppendsPrefix, none_left};
-ghost use Rattle.htl_load.specs.Loading.{RefusesBytes};
+ghost use Rattle.htl_load.specs.Loading.{HasBytes, RefusesBytes};
 ghost use Rattle.htl_load.specs.declared.fault.ObjectFault.{ObjectFault};
 ghost use Rattle.htl_model.specs.Broken.{Formed};
 ghost use Rattle.htl_model.specs.Tables.{Tables};
 ghost use Rattle.htl_model.specs.declared.event.Event.{Event};
 ghost use Rattle.htl_model.specs.declared.form_fault.FormFault.{FormFault};
 ghost use Rattle.htl_object.specs.declared.object.Object.{Object};
+ghost use Rattle.htl_object.specs.Objects.{object_bytes};
+ghost use Rattle.htl_patch.specs.Object.{CanPatch};
+ghost use Rattle.htl_patch.specs.United.{Graft};
+ghost use Rattle.htl_patch.specs.declared.fault.PatchFault.{PatchFault};
 ghost use Rattle.htl_platform.specs.Applied.{with_worst};
 ghost use Rattle.htl_platform.specs.Platforms.{platform_of};
 ghost use Rattle.htl_platform.specs.declared.fault.PlatformFault.{PlatformFault};
@@ -32,14 +41,17 @@ ghost use Rattle.htl_platform.specs.declared.platform.Platform.{Platform};
 ghost use Rattle.htl_script.specs.Reading.{LosesFront};
 ghost use Rattle.htl_script.specs.declared.fault.ScriptFault.{ScriptFault};
 ghost use Rattle.htl_top.specs.Answers.{files, streams, IsBeforeScript, IsBeforeRun, AreCountsKept, KeepsCounts, Tells};
+ghost use Rattle.htl_top.specs.Audited.{HasLog, IsWholeAudit, IsCutAudit, IsLogCause};
 ghost use Rattle.htl_top.specs.Bulk.{bulk_text};
 ghost use Rattle.htl_top.specs.Calls.{IsCall, HasSource, HasObject};
 ghost use Rattle.htl_top.specs.Causes.{IsFaultOf, IsLongFile, IsGiven, IsOrMemory};
 ghost use Rattle.htl_top.specs.Checked.{check_text};
 ghost use Rattle.htl_top.specs.Compiling.{compiled_bytes};
 ghost use Rattle.htl_top.specs.CompilingOn.{compiled_on, IsCompileCause, IsPlatformCause};
+ghost use Rattle.htl_top.specs.Files.{IsReadyFile};
 ghost use Rattle.htl_top.specs.Going.{IsReadySource};
 ghost use Rattle.htl_top.specs.Objects.{IsRefusedFile, IsAcceptedFile, IsReadyObject};
+ghost use Rattle.htl_top.specs.PatchedFiles.{AreFilesOf, HasPatch, IsDonorFault, IsPatchCause};
 ghost use Rattle.htl_top.specs.Planned.{IsWholePlan, IsCutPlan, IsBadSelection};
 ghost use Rattle.htl_top.specs.Runs.{IsWholeRun, IsFaultyRun, IsCutRun};
 ghost use Rattle.htl_top.specs.Scripts.{IsWhole, IsBad};
@@ -48,24 +60,14 @@ ghost use Rattle.htl_top.specs.Shown.{show_text};
 ghost use Rattle.htl_top.specs.Slacked.{HasSlack, IsRootNamed, NamesNoTask, IsTaskCause};
 ghost use Rattle.htl_top.specs.Sources.{HasTables, IsProgram, IsInputProgram, answer_of};
 ghost use Rattle.htl_top.specs.SourcesOn.{IsProgramOn, answer_on};
-ghost use Rattle.htl_top.specs.Telling.{SpeaksOf, IsLineTold};
-ghost use Rattle.htl_top.specs.Words.{Go, Compile, CompileWith, Run, Check, Plan, Show, Bulk, Slack, asked_for, command_in, source_in, platform_in, object_in, most_taken, with_file, AreFewModules, RunsObject};
+ghost use Rattle.htl_top.specs.Telling.{IsLineTold};
+ghost use Rattle.htl_top.specs.Words.{Go, Compile, CompileWith, Run, Check, Plan, Show, Bulk, Slack, Audit, Patch, command_in, source_in, platform_in, object_in, second_in, most_taken, RunsObject};
 ghost use Rattle.htl_top.specs.declared.outcome.ShelfCause.{ShelfCause};
 ghost use Rattle.htl_top.specs.declared.outcome.ShelfCause.TheVariants as cause;
 
 use crate::Outcome;
-use crate::answer::Answer;
-use crate::bulk::bulk;
-use crate::check::check_file;
-use crate::compile::{compile_for_file, compile_input};
+use crate::commands::answer_to;
 use crate::fault_line::report;
-use crate::go::go_file;
-use crate::plan::plan_file;
-use crate::run::run_file;
-use crate::show::show_file;
-use crate::slack::slack_file;
-use crate::words::{Asked, Verb, read_words};
-use htl_console::Shown;
 use htl_edge::{Shelf, Sink, Source};
 use std::alloc::Global;
 
@@ -106,11 +108,24 @@ use std::alloc::Global;
 /// overloads, or that period; and then the schedules of earliest deadline first for the greatest. Nothing is read. The first of these is
 /// the answer: `Shelf`; `Object`; `Task`, where no task that is invoked in a root module has the names; `Write`; `Done`.
 ///
+/// With the words `audit OBJ LOG` the object is tested likewise, and the file that `shelf` holds under LOG, of at most 16,777,216 bytes, is
+/// judged as the job log of any scheduler that ran it for the script: lines `j A B NAME`, a slice of the processor each. What goes to
+/// `out` are the values and modes of the run, and behind those of a legal log its numbers. The first of these is the answer: `Shelf` for
+/// OBJ; `Shelf` for LOG; `Object`; `Log` for the first line that has another form or names no concrete invocation; line by line of the
+/// script `Read`, `Script` and `Write`, as for `run`; `Log` for the first line that breaks a rule of the run, or one past the last where a
+/// job is short, after all values and modes; `Done`.
+///
+/// With the words `patch OBJ MODULE.MODE DONOR`, two names joined by one dot, the shelf holds two objects, each of at most 16,777,216
+/// bytes. What goes to `out` is the object under OBJ in which the modules that refine the mode are those that refine the mode of the
+/// same names in the object under DONOR; the schedules stay. Nothing is read. The first of these is the answer: `Shelf`, first for OBJ;
+/// `Object`, where the object under OBJ isn't accepted; `Patch`, with the first cause for which the refinement isn't taken over;
+/// `Write`; `Done`.
+///
 /// A command takes no more of the input than a front of at most 1,073,745,920 bytes, or 1,052,672 for both forms of `compile`: the
 /// longest script, or source, and one piece of 4,096 bytes.
 ///
 /// Other words are `Usage`. Want of memory may stand in place of any answer but `Usage`, before the first byte is written; for `go`,
-/// `run`, `jobs` and `code` before the first is read. A line on `err` tells of every answer but `Done`; a failing `err` changes nothing
+/// `run`, `jobs`, `code` and `audit` before the first is read. A line on `err` tells of every answer but `Done`; a failing `err` changes nothing
 /// else.
 pub fn htl<S: Shelf, R: Source, W: Sink, E: Sink>(
     alloc: Global,
@@ -124,10 +139,12 @@ pub fn htl<S: Shelf, R: Source, W: Sink, E: Sink>(
     ensures usage { (result ≡ Outcome.Usage) ↔ (command_in words.now ≡ None) }
     ensures shelf_failed { result ≡ Outcome.Shelf cause.Failed →
         IsFaultOf (source_in words.now) (S.faults shelf.old) (S.faults shelf.new) ⊎ IsFaultOf (object_in words.now) (S.faults shelf.old) (S.faults shelf.new)
-        ⊎ IsFaultOf (platform_in words.now) (S.faults shelf.old) (S.faults shelf.new) }
+        ⊎ IsFaultOf (platform_in words.now) (S.faults shelf.old) (S.faults shelf.new)
+        ⊎ IsFaultOf (second_in words.now) (S.faults shelf.old) (S.faults shelf.new) }
     ensures shelf_long { (seen : ℕ) → result ≡ Outcome.Shelf (cause.TooLong seen) →
         IsLongFile limit.MAX_SOURCE (source_in words.now) (S.holds shelf.old) seen ⊎ IsLongFile limit.MAX_OBJECT (object_in words.now) (S.holds shelf.old) seen
-        ⊎ IsLongFile limit.MAX_SOURCE (platform_in words.now) (S.holds shelf.old) seen }
+        ⊎ IsLongFile limit.MAX_SOURCE (platform_in words.now) (S.holds shelf.old) seen
+        ⊎ IsLongFile limit.MAX_OBJECT (second_in words.now) (S.holds shelf.old) seen }
 
     // The faults of a source, in a file for `go` and as the input for `compile`; and of a platform file.
     ensures source { (fault : SourceFault) → result ≡ Outcome.Source fault →
@@ -197,11 +214,13 @@ pub fn htl<S: Shelf, R: Source, W: Sink, E: Sink>(
         → (t : Tables) (p : Platform) → IsTablesOf bytes t → AreTyped t → platform_of t file ≡ Ok p → Formed (with_worst t p.worst) → AreSchedulable (with_worst t p.worst)
         → (Rose (R.faults input.old) (R.faults input.new) → ⊥) → (Rose (W.faults out.old) (W.faults out.new) → ⊥) → IsOrMemory result Outcome.Done }
 
-    // The object of the other commands: its faults, and where this must be the answer, or Memory.
+    // The object of the other commands: its faults, and where this must be the answer, or Memory. Where a second file is named, a log or a
+    // donor, that is had before the object is tested.
     ensures object { (fault : ObjectFault) → result ≡ Outcome.Object fault → IsRefusedFile (object_in words.now) (S.holds shelf.old) fault }
     ensures long_object { (bytes : List ℕ) → IsGiven (object_in words.now) (S.holds shelf.old) (S.faults shelf.old) (S.faults shelf.new) bytes
         → limit.MAX_OBJECT < length bytes → IsOrMemory result (Outcome.Shelf (cause.TooLong (length bytes))) }
     ensures faulty_object { (bytes : List ℕ) → IsGiven (object_in words.now) (S.holds shelf.old) (S.faults shelf.old) (S.faults shelf.new) bytes
+        → ((word : List ℕ) → second_in words.now ≡ Some word → (others : List ℕ) × IsReadyFile (Some word) (S.holds shelf.old) (S.faults shelf.old) (S.faults shelf.new) others)
         → (fault : ObjectFault) → length bytes ≤ limit.MAX_OBJECT → RefusesBytes bytes fault → IsOrMemory result (Outcome.Object fault) }
 
     // `run`, `jobs` and `code`: each other answer and its cause, and where this must be the answer, or Memory.
@@ -264,6 +283,61 @@ pub fn htl<S: Shelf, R: Source, W: Sink, E: Sink>(
         → IsReadyObject (Some name) (S.holds shelf.old) (S.faults shelf.old) (S.faults shelf.new) o → (k : ℕ) → IsRootNamed o.tables owner task k
         → (Rose (W.faults out.old) (W.faults out.new) → ⊥) → IsOrMemory result Outcome.Done }
 
+    // `audit` writes values and modes as `run` does, and then what was audited where the log is legal. `Log` comes for a line that can't be
+    // read, before anything is read or written, and else for the first fault of the log for the run of a whole script.
+    ensures audited { (name log : List ℕ) → command_in words.now ≡ Some (Audit name log) → result ≡ Outcome.Done →
+        IsAcceptedFile (Some name) (S.holds shelf.old) (λ o. HasLog log (S.holds shelf.old) o.tables (λ slices. IsWholeAudit o slices (R.rest input.old) (R.rest input.new) (W.written out.old) (W.written out.new))) }
+    ensures audit_fault { (fault : LogFault) → result ≡ Outcome.Log fault → IsLogCause (command_in words.now) (S.holds shelf.old)
+        (streams R.rest R.faults W.written W.faults input.old out.old) (streams R.rest R.faults W.written W.faults input.new out.new) fault }
+    ensures audit_script { (name log : List ℕ) → command_in words.now ≡ Some (Audit name log) → (fault : ScriptFault) → result ≡ Outcome.Script fault →
+        IsAcceptedFile (Some name) (S.holds shelf.old) (λ o. HasLog log (S.holds shelf.old) o.tables (λ slices. IsFaultyRun shown.Values o.tables o (R.rest input.old) (W.written out.old) (W.written out.new) fault)) }
+    ensures audit_read { (name log : List ℕ) → command_in words.now ≡ Some (Audit name log) → result ≡ Outcome.Read → Rose (R.faults input.old) (R.faults input.new)
+        × IsAcceptedFile (Some name) (S.holds shelf.old) (λ o. HasLog log (S.holds shelf.old) o.tables (λ slices. IsCutAudit o slices (R.rest input.old) (W.written out.old) (W.written out.new))) }
+    ensures audit_cut { (name log : List ℕ) → command_in words.now ≡ Some (Audit name log) → result ≡ Outcome.Write → Rose (W.faults out.old) (W.faults out.new)
+        × IsAcceptedFile (Some name) (S.holds shelf.old) (λ o. HasLog log (S.holds shelf.old) o.tables (λ slices. IsCutAudit o slices (R.rest input.old) (W.written out.old) (W.written out.new))) }
+    ensures long_log { (name log bytes : List ℕ) → command_in words.now ≡ Some (Audit name log)
+        → IsReadyFile (Some name) (S.holds shelf.old) (S.faults shelf.old) (S.faults shelf.new) bytes
+        → (others : List ℕ) → IsGiven (Some log) (S.holds shelf.old) (S.faults shelf.old) (S.faults shelf.new) others
+        → limit.MAX_OBJECT < length others → IsOrMemory result (Outcome.Shelf (cause.TooLong (length others))) }
+    ensures faulty_log { (name log : List ℕ) (o : Object) → command_in words.now ≡ Some (Audit name log)
+        → IsReadyObject (Some name) (S.holds shelf.old) (S.faults shelf.old) (S.faults shelf.new) o
+        → (bytes : List ℕ) → IsReadyFile (Some log) (S.holds shelf.old) (S.faults shelf.old) (S.faults shelf.new) bytes
+        → (fault : LogFault) → log_of o.tables bytes ≡ RefusedLog fault.line fault.kind → IsOrMemory result (Outcome.Log fault) }
+    ensures audit_bad_script { (name log : List ℕ) (o : Object) → command_in words.now ≡ Some (Audit name log)
+        → IsReadyObject (Some name) (S.holds shelf.old) (S.faults shelf.old) (S.faults shelf.new) o
+        → (bytes : List ℕ) → IsReadyFile (Some log) (S.holds shelf.old) (S.faults shelf.old) (S.faults shelf.new) bytes → (slices : List Slice) → log_of o.tables bytes ≡ ReadLog slices
+        → (script : List ℕ) (fault : ScriptFault) (events : List Event) → R.rest input.old ≡ Some script → IsBad o.tables script fault events
+        → (Rose (R.faults input.old) (R.faults input.new) → ⊥) → (Rose (W.faults out.old) (W.faults out.new) → ⊥) → IsOrMemory result (Outcome.Script fault) }
+    ensures illegal_log { (name log : List ℕ) (o : Object) → command_in words.now ≡ Some (Audit name log)
+        → IsReadyObject (Some name) (S.holds shelf.old) (S.faults shelf.old) (S.faults shelf.new) o
+        → (bytes : List ℕ) → IsReadyFile (Some log) (S.holds shelf.old) (S.faults shelf.old) (S.faults shelf.new) bytes → (slices : List Slice) → log_of o.tables bytes ≡ ReadLog slices
+        → (script : List ℕ) (events : List Event) (end : ℕ) → R.rest input.old ≡ Some script → IsWhole o.tables script events end
+        → (fault : LogFault) → IsFirstFault o.tables events end slices fault
+        → (Rose (R.faults input.old) (R.faults input.new) → ⊥) → (Rose (W.faults out.old) (W.faults out.new) → ⊥) → IsOrMemory result (Outcome.Log fault) }
+    ensures audit_complete { (name log : List ℕ) (o : Object) → command_in words.now ≡ Some (Audit name log)
+        → IsReadyObject (Some name) (S.holds shelf.old) (S.faults shelf.old) (S.faults shelf.new) o
+        → (bytes : List ℕ) → IsReadyFile (Some log) (S.holds shelf.old) (S.faults shelf.old) (S.faults shelf.new) bytes → (slices : List Slice) → log_of o.tables bytes ≡ ReadLog slices
+        → (script : List ℕ) (events : List Event) (end : ℕ) → R.rest input.old ≡ Some script → IsWhole o.tables script events end → IsLegal o.tables events end slices
+        → (Rose (R.faults input.old) (R.faults input.new) → ⊥) → (Rose (W.faults out.old) (W.faults out.new) → ⊥) → IsOrMemory result Outcome.Done }
+
+    // `patch` writes the object with a donor's refinement, which is accepted, and reads nothing. `Patch` comes with the first cause for
+    // which the refinement isn't taken over.
+    ensures patched { (name unit mode donor : List ℕ) → command_in words.now ≡ Some (Patch name unit mode donor) → result ≡ Outcome.Done →
+        AreFilesOf (Some name) (Some donor) (S.holds shelf.old) (λ o bytes. HasPatch o unit mode bytes (λ p. W.written out.new ≡ append_known (W.written out.old) (object_bytes p))) }
+    ensures patch_cut { (name unit mode donor : List ℕ) → command_in words.now ≡ Some (Patch name unit mode donor) → result ≡ Outcome.Write → Rose (W.faults out.old) (W.faults out.new)
+        × AreFilesOf (Some name) (Some donor) (S.holds shelf.old) (λ o bytes. HasPatch o unit mode bytes (λ p. AppendsPrefix (W.written out.old) (W.written out.new) (object_bytes p))) }
+    ensures patch_unread { (name unit mode donor : List ℕ) → command_in words.now ≡ Some (Patch name unit mode donor) → R.rest input.new ≡ R.rest input.old }
+    ensures patch_fault { (fault : PatchFault) → result ≡ Outcome.Patch fault → IsPatchCause (command_in words.now) (S.holds shelf.old) fault }
+    ensures long_donor { (name unit mode donor host bytes : List ℕ) → command_in words.now ≡ Some (Patch name unit mode donor)
+        → IsReadyFile (Some name) (S.holds shelf.old) (S.faults shelf.old) (S.faults shelf.new) host → IsGiven (Some donor) (S.holds shelf.old) (S.faults shelf.old) (S.faults shelf.new) bytes
+        → limit.MAX_OBJECT < length bytes → IsOrMemory result (Outcome.Shelf (cause.TooLong (length bytes))) }
+    ensures faulty_donor { (name unit mode donor bytes : List ℕ) (o : Object) → command_in words.now ≡ Some (Patch name unit mode donor)
+        → IsReadyObject (Some name) (S.holds shelf.old) (S.faults shelf.old) (S.faults shelf.new) o → IsGiven (Some donor) (S.holds shelf.old) (S.faults shelf.old) (S.faults shelf.new) bytes
+        → length bytes ≤ limit.MAX_OBJECT → (fault : PatchFault) → IsDonorFault o unit mode bytes fault → IsOrMemory result (Outcome.Patch fault) }
+    ensures patch_complete { (name unit mode donor bytes : List ℕ) (o d : Object) (g : Graft) → command_in words.now ≡ Some (Patch name unit mode donor)
+        → IsReadyObject (Some name) (S.holds shelf.old) (S.faults shelf.old) (S.faults shelf.new) o → IsGiven (Some donor) (S.holds shelf.old) (S.faults shelf.old) (S.faults shelf.new) bytes
+        → length bytes ≤ limit.MAX_OBJECT → HasBytes bytes d → CanPatch o d unit mode g → (Rose (W.faults out.old) (W.faults out.new) → ⊥) → IsOrMemory result Outcome.Done }
+
     // `plan` reads a selection of running modes to its end, and writes its plan.
     ensures planned { (name : List ℕ) → command_in words.now ≡ Some (Plan name) → result ≡ Outcome.Done →
         IsAcceptedFile (Some name) (S.holds shelf.old) (λ o. IsWholePlan o (R.rest input.old) (R.rest input.new) (W.written out.old) (W.written out.new)) }
@@ -315,89 +389,4 @@ pub fn htl<S: Shelf, R: Source, W: Sink, E: Sink>(
     let answer = answer_to(alloc, words, shelf, input, out);
     report(err, answer.tables.as_ref(), &answer.outcome);
     answer.outcome
-}
-
-// All but the telling of the answer.
-fn answer_to<S: Shelf, R: Source, W: Sink>(
-    alloc: Global,
-    words: &[&str],
-    shelf: &mut S,
-    input: &mut R,
-    out: &mut W,
-) -> Answer
-    ensures answer { IsCall (command_in words.now)
-        (files S.holds S.faults shelf.old shelf.new)
-        (streams R.rest R.faults W.written W.faults input.old out.old) (streams R.rest R.faults W.written W.faults input.new out.new)
-        result.outcome }
-    ensures tables { SpeaksOf (HasSource (command_in words.now) (S.holds shelf.old) (R.rest input.old)) (HasObject (command_in words.now) (S.holds shelf.old)) result.outcome result.tables }
-    ensures taken { LosesFront (most_taken (command_in words.now)) (R.rest input.old) (R.rest input.new) }
-    ensures shelf { S.holds shelf.new ≡ S.holds shelf.old }
-    ensures shelf_count { (result.outcome ≡ Outcome.Shelf cause.Failed → ⊥) → (file : List ℕ) → S.faults shelf.new file ≡ S.faults shelf.old file }
-    ensures read_count { (result.outcome ≡ Outcome.Read → ⊥) → R.faults input.new ≡ R.faults input.old }
-    ensures write_count { (result.outcome ≡ Outcome.Write → ⊥) → W.faults out.new ≡ W.faults out.old }
-{
-    match read_words(words) {
-        Some(asked) => answered(alloc, asked, shelf, input, out),
-        None => Answer::plain(Outcome::Usage),
-    }
-}
-
-// The answer of a command.
-fn answered<S: Shelf, R: Source, W: Sink>(
-    alloc: Global,
-    asked: Asked<'_>,
-    shelf: &mut S,
-    input: &mut R,
-    out: &mut W,
-) -> Answer
-    requires { AreFewModules asked }
-    ensures answer { IsCall (Some (asked_for asked.entry))
-        (files S.holds S.faults shelf.old shelf.new)
-        (streams R.rest R.faults W.written W.faults input.old out.old) (streams R.rest R.faults W.written W.faults input.new out.new)
-        result.outcome }
-    ensures tables { SpeaksOf (HasSource (Some (asked_for asked.entry)) (S.holds shelf.old) (R.rest input.old)) (HasObject (Some (asked_for asked.entry)) (S.holds shelf.old)) result.outcome result.tables }
-    ensures taken { LosesFront (most_taken (Some (asked_for asked.entry))) (R.rest input.old) (R.rest input.new) }
-    ensures shelf { S.holds shelf.new ≡ S.holds shelf.old }
-    ensures shelf_count { (result.outcome ≡ Outcome.Shelf cause.Failed → ⊥) → (file : List ℕ) → S.faults shelf.new file ≡ S.faults shelf.old file }
-    ensures read_count { (result.outcome ≡ Outcome.Read → ⊥) → R.faults input.new ≡ R.faults input.old }
-    ensures write_count { (result.outcome ≡ Outcome.Write → ⊥) → W.faults out.new ≡ W.faults out.old }
-{
-    match asked {
-        Asked::Compile => compile_input(alloc, input, out),
-        Asked::CompileWith { platform } => compile_for_file(alloc, platform, shelf, input, out),
-        Asked::File { verb, name } => about_file(alloc, verb, name, shelf, input, out),
-        Asked::Bulk { modules } => Answer::plain(bulk(alloc, modules, out)),
-        Asked::Slack { name, owner, task } => slack_file(alloc, name, &owner, &task, shelf, out),
-    }
-}
-
-// The answer of a command with the name of a file, by its verb.
-fn about_file<S: Shelf, R: Source, W: Sink>(
-    alloc: Global,
-    verb: Verb,
-    name: &str,
-    shelf: &mut S,
-    input: &mut R,
-    out: &mut W,
-) -> Answer
-    ensures answer { IsCall (Some (with_file verb name.now))
-        (files S.holds S.faults shelf.old shelf.new)
-        (streams R.rest R.faults W.written W.faults input.old out.old) (streams R.rest R.faults W.written W.faults input.new out.new)
-        result.outcome }
-    ensures tables { SpeaksOf (HasSource (Some (with_file verb name.now)) (S.holds shelf.old) (R.rest input.old)) (HasObject (Some (with_file verb name.now)) (S.holds shelf.old)) result.outcome result.tables }
-    ensures taken { LosesFront (most_taken (Some (with_file verb name.now))) (R.rest input.old) (R.rest input.new) }
-    ensures shelf { S.holds shelf.new ≡ S.holds shelf.old }
-    ensures shelf_count { (result.outcome ≡ Outcome.Shelf cause.Failed → ⊥) → (file : List ℕ) → S.faults shelf.new file ≡ S.faults shelf.old file }
-    ensures read_count { (result.outcome ≡ Outcome.Read → ⊥) → R.faults input.new ≡ R.faults input.old }
-    ensures write_count { (result.outcome ≡ Outcome.Write → ⊥) → W.faults out.new ≡ W.faults out.old }
-{
-    match verb {
-        Verb::Go => go_file(alloc, name, shelf, input, out),
-        Verb::Run => run_file(alloc, name, Shown::Values, shelf, input, out),
-        Verb::Jobs => run_file(alloc, name, Shown::Jobs, shelf, input, out),
-        Verb::Code => run_file(alloc, name, Shown::Code, shelf, input, out),
-        Verb::Check => check_file(alloc, name, shelf, out),
-        Verb::Plan => plan_file(alloc, name, shelf, input, out),
-        Verb::Show => show_file(alloc, name, shelf, out),
-    }
 }

@@ -1,11 +1,11 @@
 // The words of a command.
-ghost use Rattle.std.specs.Prelude.{◌≡◌, ◌≤◌, ◌<◌, Option, None, Some, IfSome, List, ℕ, length};
+ghost use Rattle.std.specs.Prelude.{◌≡◌, ◌≤◌, ◌<◌, Option, None, Some, IfSome, length};
 ghost use Rattle.std.specs.Fmt.{decimal};
 ghost use Rattle.std.specs.List.{position_from};
 ghost use Rattle.std.specs.Option.{option_map};
 ghost use Rattle.std.specs.Str.{bytes_eq};
 ghost use Rattle.htl_base.specs.declared.limits.TheConstants as limit;
-ghost use Rattle.htl_top.specs.Words.{verb_of as verb_of_of, command_in, compile_with, modules_in, of_two, of_three, slack_of, is_dot, both_names as both_names_of, task_word as task_word_of, asked_for, AreFewModules};
+ghost use Rattle.htl_top.specs.Words.{verb_of as verb_of_of, command_in, compile_with, modules_in, of_two, of_three, slack_of, is_dot, both_names as both_names_of, joined_names as joined_names_of, patch_of, of_four, asked_for, AreFewModules};
 
 use htl_base::Name;
 use htl_base::limits::MAX_MODULES;
@@ -28,6 +28,13 @@ pub enum Verb {
     Plan,
     /// Lists an object.
     Show,
+}
+
+/// A mode, by the name of its module and its own.
+#[derive(Clone, Copy)]
+pub struct ModeNames {
+    pub unit: Name,
+    pub mode: Name,
 }
 
 /// A command.
@@ -54,6 +61,18 @@ pub enum Asked<'a> {
         owner: Name,
         task: Name,
     },
+    /// Audits a job log for an object.
+    Audit {
+        name: &'a str,
+        log: &'a str,
+    },
+    /// Replaces the refinement of a mode of an object by that of another object.
+    Patch {
+        name: &'a str,
+        unit: Name,
+        mode: Name,
+        donor: &'a str,
+    },
 }
 
 // The verb that a word names.
@@ -79,7 +98,7 @@ fn verb_of(word: &str) -> Option<Verb>
     }
 }
 
-// The names of a module and of a task.
+// The names of a module and of a task or a mode.
 fn both_names(owner: &[u8], task: &[u8]) -> Option<(Name, Name)>
     ensures { both_names_of owner.now task.now ≡ option_map (λ (names : Name × Name). (names.0, names.1)) result }
 {
@@ -97,8 +116,8 @@ fn first_dot(bytes: &[u8]) -> Option<usize>
 }
 
 // The two names of a word that are joined by one dot.
-fn task_word(word: &[u8]) -> Option<(Name, Name)>
-    ensures { task_word_of word.now ≡ option_map (λ (names : Name × Name). (names.0, names.1)) result }
+fn joined_names(word: &[u8]) -> Option<(Name, Name)>
+    ensures { joined_names_of word.now ≡ option_map (λ (names : Name × Name). (names.0, names.1)) result }
 {
     match first_dot(word) {
         Some(at) => both_names(&word[..at], &word[at + 1..]),
@@ -111,21 +130,55 @@ fn read_slack<'a>(name: &'a str, word: &str) -> Option<Asked<'a>>
     ensures command { slack_of name.now word.now ≡ option_map asked_for result }
     ensures few { IfSome result AreFewModules }
 {
-    match task_word(word.as_bytes()) {
+    match joined_names(word.as_bytes()) {
         Some((owner, task)) => Some(Asked::Slack { name, owner, task }),
         None => None,
     }
 }
 
-// What is asked for by three words: `slack`, the name of an object file and a task, or `compile with` and a platform file.
+// What is asked for by three words: `slack`, the name of an object file and a task; `audit` and the names of an object file and a log; or
+// `compile with` and a platform file.
 fn read_three<'a>(first: &str, second: &'a str, third: &'a str) -> Option<Asked<'a>>
     ensures command { of_three first.now second.now third.now ≡ option_map asked_for result }
     ensures few { IfSome result AreFewModules }
 {
     if first == "slack" {
         read_slack(second, third)
+    } else if first == "audit" {
+        Some(Asked::Audit {
+            name: second,
+            log: third,
+        })
     } else {
         read_compile_with(first, second, third)
+    }
+}
+
+// What is asked for by the name of an object file, a mode and the name of the donor's file.
+fn read_patch<'a>(name: &'a str, word: &str, donor: &'a str) -> Option<Asked<'a>>
+    ensures command { patch_of name.now word.now donor.now ≡ option_map asked_for result }
+    ensures few { IfSome result AreFewModules }
+{
+    match joined_names(word.as_bytes()) {
+        Some((unit, mode)) => Some(Asked::Patch {
+            name,
+            unit,
+            mode,
+            donor,
+        }),
+        None => None,
+    }
+}
+
+// What is asked for by four words: `patch`, the name of an object file, a mode and the name of the donor's file.
+fn read_four<'a>(first: &str, second: &'a str, third: &str, fourth: &'a str) -> Option<Asked<'a>>
+    ensures command { of_four first.now second.now third.now fourth.now ≡ option_map asked_for result }
+    ensures few { IfSome result AreFewModules }
+{
+    if first == "patch" {
+        read_patch(second, third, fourth)
+    } else {
+        None
     }
 }
 
@@ -184,16 +237,24 @@ fn read_two<'a>(word: &str, other: &'a str) -> Option<Asked<'a>>
     }
 }
 
+// The words of the longest command.
+const MOST_WORDS: usize = 4;
+
 /// The command that words ask for; None where they are none: `compile` alone, `compile with` and the name of a platform file, a verb
-/// and the name of a file, `bulk` and a number of modules from 1 to 64, in decimal with no zero before it, or `slack`, the name of a
-/// file, and the names of a module and a task with one dot between them.
+/// and the name of a file, `bulk` and a number of modules from 1 to 64, in decimal with no zero before it, `slack`, the name of a
+/// file, and the names of a module and a task with one dot between them, `audit` and the names of two files, or `patch`, the name of
+/// a file, the names of a module and a mode, likewise joined, and the name of a second file.
 pub fn read_words<'a>(words: &[&'a str]) -> Option<Asked<'a>>
     ensures command { command_in words.now ≡ option_map asked_for result }
     ensures few { IfSome result AreFewModules }
 {
+    if words.len() > MOST_WORDS {
+        return None;
+    }
     match words {
         [word] if *word == "compile" => Some(Asked::Compile),
         [first, second, third] => read_three(first, second, third),
+        [first, second, third, fourth] => read_four(first, second, third, fourth),
         [word, other] => read_two(word, other),
         _ => None,
     }

@@ -23,8 +23,3 @@ pub use node_walk::worst_all;
 pub use placed::{frame_jobs, path_jobs, placed_jobs};
 pub use schedule::{SInstr, Schedule};
 pub use worst_case::worst;
-
-#[cfg(test)]
-mod jobs_tests;
-#[cfg(test)]
-mod tests;

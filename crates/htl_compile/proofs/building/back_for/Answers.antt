@@ -1,36 +1,40 @@
 use Rattle.std.proofs.Common.{List, refl, ◌∙◌, ap₂, sym, subst}
 use Rattle.htl_compile.proofs.BuiltLaws.{kept_12, object_accepted}
 use Rattle.htl_compile.proofs.CodedLaws.{fitting_are_code}
-use Rattle.htl_compile.proofs.PlanLaws.{planned_is, planned_free, unplanned_is}
+use Rattle.htl_compile.proofs.PlanLaws.{planned_is, unplanned_is}
 use Rattle.htl_ecode.specs.declared.ecode.ECode.{ECode}
 use Rattle.htl_model.specs.FormRules.{Offsets}
+use Rattle.htl_object.proofs.OneRound.{kept_apart, no_limit}
 use Rattle.htl_object.specs.Accepted.{IsAccepted}
 use Rattle.htl_object.specs.declared.object.Object.{Object}
 use Rattle.htl_walk.specs.declared.schedule.Schedule.{Schedule}
 use Rattle.htl_compile.proofs.building.back_for.Goals as goal
 
-pub edf_all-requires-clause-formed : goal.edf_all-requires-clause-formed
-edf_all-requires-clause-formed c = kept_12 c.args.t c.in_default.ensures.formed
+pub edf_nodes-requires-clause-limits : goal.edf_nodes-requires-clause-limits
+edf_nodes-requires-clause-limits c = no_limit c.args.t c.keeps_ranges.ensures.ranges (kept_12 c.args.t c.in_default.ensures.formed) c.requires.limits
+
+pub edf_nodes-requires-clause-formed : goal.edf_nodes-requires-clause-formed
+edf_nodes-requires-clause-formed c = kept_apart c.args.t c.keeps_ranges.ensures.ranges (kept_12 c.args.t c.in_default.ensures.formed)
 
 pub generate_e-requires : goal.generate_e-requires
 generate_e-requires c = λ s have need broken. c.in_default.ensures.formed Offsets s have need broken
 
-pub returns-in-Err-edf_all-clause-fault : goal.returns-in-Err-edf_all-clause-fault
-returns-in-Err-edf_all-clause-fault c =
-    (refl, unplanned_is c.args.t c.in-Err-edf_all.fault c.unplanned.result c.in_default.ensures.formed c.in-Err-edf_all.ensures.fault c.unplanned.ensures)
+pub returns-in-Err-edf_nodes-clause-fault : goal.returns-in-Err-edf_nodes-clause-fault
+returns-in-Err-edf_nodes-clause-fault c =
+    (refl, unplanned_is c.args.t c.in-Err-edf_nodes.fault c.unplanned.result c.in_default.ensures.formed c.in-Err-edf_nodes.ensures.fault c.unplanned.ensures)
 
 pub returns-in-Ok-generate_e-clause-built : goal.returns-in-Ok-generate_e-clause-built
 returns-in-Ok-generate_e-clause-built c =
     let make : ECode → List Schedule → Object = λ code ss. record { tables = c.args.t; ecode = code; schedules = ss; platform = c.args.platform } in
-    ap₂ make c.in-Ok-generate_e.ensures.layout (c.new.ensures ∙ planned_is c.args.t c.in-Ok.schedules.items c.in-Ok.ensures.planned)
+    ap₂ make c.in-Ok-generate_e.ensures.layout (c.new.ensures ∙ planned_is c.args.t c.in-Ok.schedules.items c.keeps_ranges.ensures.ranges c.in-Ok.ensures.count c.in-Ok.ensures.lists)
 
 pub returns-in-Ok-generate_e-clause-schedulable : goal.returns-in-Ok-generate_e-clause-schedulable
-returns-in-Ok-generate_e-clause-schedulable c = planned_free c.args.t c.in-Ok.schedules.items c.in-Ok.ensures.planned
+returns-in-Ok-generate_e-clause-schedulable c = c.in-Ok.ensures.fits
 
 pub returns-in-Ok-generate_e-clause-accepted : goal.returns-in-Ok-generate_e-clause-accepted
 returns-in-Ok-generate_e-clause-accepted c =
     let make : ECode → List Schedule → Object = λ code ss. record { tables = c.args.t; ecode = code; schedules = ss; platform = c.args.platform } in
-    let is = ap₂ make c.in-Ok-generate_e.ensures.layout (c.new.ensures ∙ planned_is c.args.t c.in-Ok.schedules.items c.in-Ok.ensures.planned) in
+    let is = ap₂ make c.in-Ok-generate_e.ensures.layout (c.new.ensures ∙ planned_is c.args.t c.in-Ok.schedules.items c.keeps_ranges.ensures.ranges c.in-Ok.ensures.count c.in-Ok.ensures.lists) in
     subst (λ (o : Object). IsAccepted o) (sym is)
     (object_accepted c.args.platform c.args.t c.keeps_ranges.ensures.ranges c.requires.limits c.in_default.ensures.formed c.requires.functions
-    (fitting_are_code c.args.t c.keeps_ranges.ensures.ranges c.requires.functions) (planned_free c.args.t c.in-Ok.schedules.items c.in-Ok.ensures.planned))
+    (fitting_are_code c.args.t c.keeps_ranges.ensures.ranges c.requires.functions) (c.in-Ok.ensures.fits))

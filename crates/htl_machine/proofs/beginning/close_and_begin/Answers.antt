@@ -1,4 +1,4 @@
-use Rattle.std.proofs.Common.{ℕ, sym, ap, ◌∙◌, subst, length, ◌≤◌, arith}
+use Rattle.std.proofs.Common.{ℕ, List, ℤ, sym, ap, ◌∙◌, subst, length, ◌≤◌, arith}
 use Rattle.htl_model.specs.Selected.{IsSelection}
 use Rattle.htl_walk.specs.Refinement.{HaveLengths, AreWithinWorst}
 use Rattle.htl_smach.specs.Rounds.{Round, IsInForm}
@@ -8,18 +8,20 @@ use Rattle.htl_refine.specs.ConcreteJobs.{concrete_jobs}
 use Rattle.htl_refine.specs.Roots.{selection_of}
 use Rattle.htl_refine.proofs.StateLaws.{states_are_selections}
 use Rattle.htl_machine.specs.Counts.{with_instrs, with_records}
+use Rattle.htl_machine.specs.Noting.{MarksChanges}
 use Rattle.htl_machine.specs.Opening.{first_records}
 use Rattle.htl_machine.specs.Recording.{AreOf}
 use Rattle.htl_machine.specs.Rounds.{plan_of}
 use Rattle.htl_machine.specs.Running.{replay}
 use Rattle.htl_machine.specs.Starting.{kept_lengths, instrs_of}
-use Rattle.htl_machine.proofs.Beginnings.{kept_twelve, begun_is, told_is, schedule_is, first_done, first_counted, first_told, then_more, fails_so, ends_so, began_last}
-use Rattle.htl_machine.proofs.Closings.{switches_fail, reads_second, switches_start, closes_reads}
+use Rattle.htl_machine.proofs.Beginnings.{apart_twelve, begun_is, told_is, schedule_is, first_done, first_counted, first_told, then_more, fails_so, ends_so, began_last}
+use Rattle.htl_machine.proofs.Closings.{switches_fail, reads_second, switches_start}
+use Rattle.htl_machine.proofs.Marking.{closes_noted, sensors_then, sensors_same}
 use Rattle.htl_machine.proofs.Modes.{modes_are}
 use Rattle.htl_machine.proofs.beginning.close_and_begin.Goals as goal
 
 pub do_instrs-requires-clause-form : goal.do_instrs-requires-clause-form
-do_instrs-requires-clause-form g c = kept_twelve c.args.t.now c.requires.form
+do_instrs-requires-clause-form g c = apart_twelve c.args.t.now c.requires.form
 
 pub do_instrs-requires-clause-starts : goal.do_instrs-requires-clause-starts
 do_instrs-requires-clause-starts g c =
@@ -60,7 +62,7 @@ begin_round-begun-requires-clause-worst g c =
     (subst (AreWithinWorst (plan_of t (instrs_of c.args.schedules.now) es c.args.at).jobs) (sym h.kept) h.worst)
 
 pub read_instant-requires-clause-form : goal.read_instant-requires-clause-form
-read_instant-requires-clause-form g c = kept_twelve c.args.t.now c.requires.form
+read_instant-requires-clause-form g c = apart_twelve c.args.t.now c.requires.form
 
 pub read_instant-requires-clause-jobs : goal.read_instant-requires-clause-jobs
 read_instant-requires-clause-jobs g c = ap (λ (z : Round). z.jobs) c.begin_round-begun.ensures.round ∙ sym c.begin_round-begun.ensures.jobs
@@ -70,16 +72,16 @@ read_instant-requires-clause-reads g c =
     let es = c.requires.begins.0 in
     let q = c.requires.begins.1 in
     let s = switches_start c.args.t.now c.args.code.now es c.args.at c.args.m.now c.args.world.now q.closes.now q.closes.writes in
-    (es, closes_reads c.args.t.now c.args.code.now es c.args.at c.args.m.now c.do_instrs.new.m c.args.world.now c.do_instrs.new.world c.args.values.now c.args.modes.now q.closes (c.in_default.ensures.ends es s) (c.in_default.ensures.world es s))
+    (es, closes_noted c.args.t.now c.args.code.now es c.args.at c.args.m.now c.do_instrs.new.m c.args.world.now c.do_instrs.new.world c.args.noted.now c.do_instrs.new.noted c.in_default.ensures.noted q.closes (c.in_default.ensures.ends es s) (c.in_default.ensures.world es s))
 
 pub returns-in-Err-read_instant-clause-text : goal.returns-in-Err-read_instant-clause-text
 returns-in-Err-read_instant-clause-text g c = λ es q.
     let s = switches_start c.args.t.now c.args.code.now es c.args.at c.args.m.now c.args.world.now q.closes.now q.closes.writes in
-    let r = closes_reads c.args.t.now c.args.code.now es c.args.at c.args.m.now c.do_instrs.new.m c.args.world.now c.do_instrs.new.world c.args.values.now c.args.modes.now q.closes (c.in_default.ensures.ends es s) (c.in_default.ensures.world es s) in
+    let r = closes_noted c.args.t.now c.args.code.now es c.args.at c.args.m.now c.do_instrs.new.m c.args.world.now c.do_instrs.new.world c.args.noted.now c.do_instrs.new.noted c.in_default.ensures.noted q.closes (c.in_default.ensures.ends es s) (c.in_default.ensures.world es s) in
     then_more _ _ _ _ _ _ c.in-Err-read_instant.failed _ (reads_second c.args.t.now c.args.code.now es c.args.show c.args.at _ _ _ _ _ _ _ _ (c.in_default.ensures.text es s) (c.in-Err-read_instant.ensures.text es r))
 
 pub tell_records-requires-clause-kept : goal.tell_records-requires-clause-kept
-tell_records-requires-clause-kept g c = kept_twelve c.args.t.now c.requires.form
+tell_records-requires-clause-kept g c = apart_twelve c.args.t.now c.requires.form
 
 pub tell_records-requires-clause-of : goal.tell_records-requires-clause-of
 tell_records-requires-clause-of g c =
@@ -125,7 +127,7 @@ tell_records-requires-clause-told g c = λ p pend.
     let es = c.requires.begins.0 in
     let q = c.requires.begins.1 in
     let s = switches_start c.args.t.now c.args.code.now es c.args.at c.args.m.now c.args.world.now q.closes.now q.closes.writes in
-    let r = closes_reads c.args.t.now c.args.code.now es c.args.at c.args.m.now c.do_instrs.new.m c.args.world.now c.do_instrs.new.world c.args.values.now c.args.modes.now q.closes (c.in_default.ensures.ends es s) (c.in_default.ensures.world es s) in
+    let r = closes_noted c.args.t.now c.args.code.now es c.args.at c.args.m.now c.do_instrs.new.m c.args.world.now c.do_instrs.new.world c.args.noted.now c.do_instrs.new.noted c.in_default.ensures.noted q.closes (c.in_default.ensures.ends es s) (c.in_default.ensures.world es s) in
     let t = c.args.t.now in
     let ss = instrs_of c.args.schedules.now in
     let h = q.begins in
@@ -137,7 +139,7 @@ tell_records-requires-clause-told g c = λ p pend.
 pub returns-in-Err-tell_records-clause-text : goal.returns-in-Err-tell_records-clause-text
 returns-in-Err-tell_records-clause-text g c = λ es q.
     let s = switches_start c.args.t.now c.args.code.now es c.args.at c.args.m.now c.args.world.now q.closes.now q.closes.writes in
-    let r = closes_reads c.args.t.now c.args.code.now es c.args.at c.args.m.now c.do_instrs.new.m c.args.world.now c.do_instrs.new.world c.args.values.now c.args.modes.now q.closes (c.in_default.ensures.ends es s) (c.in_default.ensures.world es s) in
+    let r = closes_noted c.args.t.now c.args.code.now es c.args.at c.args.m.now c.do_instrs.new.m c.args.world.now c.do_instrs.new.world c.args.noted.now c.do_instrs.new.noted c.in_default.ensures.noted q.closes (c.in_default.ensures.ends es s) (c.in_default.ensures.world es s) in
     let t = c.args.t.now in
     let ss = instrs_of c.args.schedules.now in
     let h = q.begins in
@@ -152,7 +154,7 @@ returns-in-Err-tell_records-clause-text g c = λ es q.
 pub returns-clause-text : goal.returns-clause-text
 returns-clause-text g c = λ es q.
     let s = switches_start c.args.t.now c.args.code.now es c.args.at c.args.m.now c.args.world.now q.closes.now q.closes.writes in
-    let r = closes_reads c.args.t.now c.args.code.now es c.args.at c.args.m.now c.do_instrs.new.m c.args.world.now c.do_instrs.new.world c.args.values.now c.args.modes.now q.closes (c.in_default.ensures.ends es s) (c.in_default.ensures.world es s) in
+    let r = closes_noted c.args.t.now c.args.code.now es c.args.at c.args.m.now c.do_instrs.new.m c.args.world.now c.do_instrs.new.world c.args.noted.now c.do_instrs.new.noted c.in_default.ensures.noted q.closes (c.in_default.ensures.ends es s) (c.in_default.ensures.world es s) in
     let t = c.args.t.now in
     let ss = instrs_of c.args.schedules.now in
     let h = q.begins in
@@ -167,7 +169,7 @@ returns-clause-text g c = λ es q.
 pub returns-clause-counts : goal.returns-clause-counts
 returns-clause-counts g c = λ es q.
     let s = switches_start c.args.t.now c.args.code.now es c.args.at c.args.m.now c.args.world.now q.closes.now q.closes.writes in
-    let r = closes_reads c.args.t.now c.args.code.now es c.args.at c.args.m.now c.do_instrs.new.m c.args.world.now c.do_instrs.new.world c.args.values.now c.args.modes.now q.closes (c.in_default.ensures.ends es s) (c.in_default.ensures.world es s) in
+    let r = closes_noted c.args.t.now c.args.code.now es c.args.at c.args.m.now c.do_instrs.new.m c.args.world.now c.do_instrs.new.world c.args.noted.now c.do_instrs.new.noted c.in_default.ensures.noted q.closes (c.in_default.ensures.ends es s) (c.in_default.ensures.world es s) in
     let t = c.args.t.now in
     let ss = instrs_of c.args.schedules.now in
     let h = q.begins in
@@ -182,7 +184,7 @@ returns-clause-counts g c = λ es q.
 pub returns-clause-world : goal.returns-clause-world
 returns-clause-world g c = λ es q.
     let s = switches_start c.args.t.now c.args.code.now es c.args.at c.args.m.now c.args.world.now q.closes.now q.closes.writes in
-    let r = closes_reads c.args.t.now c.args.code.now es c.args.at c.args.m.now c.do_instrs.new.m c.args.world.now c.do_instrs.new.world c.args.values.now c.args.modes.now q.closes (c.in_default.ensures.ends es s) (c.in_default.ensures.world es s) in
+    let r = closes_noted c.args.t.now c.args.code.now es c.args.at c.args.m.now c.do_instrs.new.m c.args.world.now c.do_instrs.new.world c.args.noted.now c.do_instrs.new.noted c.in_default.ensures.noted q.closes (c.in_default.ensures.ends es s) (c.in_default.ensures.world es s) in
     let t = c.args.t.now in
     let ss = instrs_of c.args.schedules.now in
     let h = q.begins in
@@ -196,7 +198,7 @@ returns-clause-world g c = λ es q.
 pub returns-clause-desk : goal.returns-clause-desk
 returns-clause-desk g c = λ es q.
     let s = switches_start c.args.t.now c.args.code.now es c.args.at c.args.m.now c.args.world.now q.closes.now q.closes.writes in
-    let r = closes_reads c.args.t.now c.args.code.now es c.args.at c.args.m.now c.do_instrs.new.m c.args.world.now c.do_instrs.new.world c.args.values.now c.args.modes.now q.closes (c.in_default.ensures.ends es s) (c.in_default.ensures.world es s) in
+    let r = closes_noted c.args.t.now c.args.code.now es c.args.at c.args.m.now c.do_instrs.new.m c.args.world.now c.do_instrs.new.world c.args.noted.now c.do_instrs.new.noted c.in_default.ensures.noted q.closes (c.in_default.ensures.ends es s) (c.in_default.ensures.world es s) in
     let t = c.args.t.now in
     let ss = instrs_of c.args.schedules.now in
     let h = q.begins in
@@ -219,5 +221,21 @@ returns-clause-selection g c = λ es q.
 pub returns-clause-reads : goal.returns-clause-reads
 returns-clause-reads g c = λ es q.
     let s = switches_start c.args.t.now c.args.code.now es c.args.at c.args.m.now c.args.world.now q.closes.now q.closes.writes in
-    let r = closes_reads c.args.t.now c.args.code.now es c.args.at c.args.m.now c.do_instrs.new.m c.args.world.now c.do_instrs.new.world c.args.values.now c.args.modes.now q.closes (c.in_default.ensures.ends es s) (c.in_default.ensures.world es s) in
+    let r = closes_noted c.args.t.now c.args.code.now es c.args.at c.args.m.now c.do_instrs.new.m c.args.world.now c.do_instrs.new.world c.args.noted.now c.do_instrs.new.noted c.in_default.ensures.noted q.closes (c.in_default.ensures.ends es s) (c.in_default.ensures.world es s) in
     c.in_default-read_instant.ensures.reads es r
+
+pub read_instant-requires-clause-few : goal.read_instant-requires-clause-few
+read_instant-requires-clause-few g c = ap length c.in_default.ensures.noted.values ∙ c.requires.few
+
+pub read_instant-requires-clause-modules : goal.read_instant-requires-clause-modules
+read_instant-requires-clause-modules g c = ap length c.in_default.ensures.noted.modes ∙ c.requires.modules
+
+pub returns-clause-marked : goal.returns-clause-marked
+returns-clause-marked g c =
+    subst (λ (xs : List ℤ). MarksChanges c.read_instant.new.noted xs c.read_instant.new.m.calendar.modes) (sym c.in_default-tell_records.ensures.values) c.in_default-read_instant.ensures.marked
+
+pub returns-clause-sensors : goal.returns-clause-sensors
+returns-clause-sensors g c =
+    sensors_then c.args.t.now c.args.world.now.values c.read_instant.new.world.values c.tell_records.new.world.values
+    (sensors_then c.args.t.now c.args.world.now.values c.do_instrs.new.world.values c.read_instant.new.world.values c.in_default.ensures.sensors c.in_default-read_instant.ensures.sensors)
+    (sensors_same c.args.t.now c.read_instant.new.world.values c.tell_records.new.world.values c.in_default-tell_records.ensures.values)

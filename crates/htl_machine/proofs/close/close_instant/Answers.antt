@@ -4,7 +4,8 @@ use Rattle.htl_emach.specs.Following.{phase_path}
 use Rattle.htl_machine.specs.Counts.{with_instrs}
 use Rattle.htl_machine.specs.Readiness.{desk_replay}
 use Rattle.htl_machine.specs.Running.{replay}
-use Rattle.htl_machine.proofs.Closings.{switches_fail, reads_second, switches_start, closes_reads}
+use Rattle.htl_machine.proofs.Closings.{switches_fail, reads_second, switches_start}
+use Rattle.htl_machine.proofs.Marking.{closes_noted, sensors_then}
 use Rattle.htl_machine.proofs.close.close_instant.Goals as goal
 
 pub do_instrs-requires-clause-starts : goal.do_instrs-requires-clause-starts
@@ -20,34 +21,44 @@ pub read_instant-requires-clause-reads : goal.read_instant-requires-clause-reads
 read_instant-requires-clause-reads g c =
     let w = c.requires.closes in
     let s = switches_start c.args.t.now c.args.code.now w.0 c.args.at c.args.m.now c.args.world.now w.1.now w.1.writes in
-    (w.0, closes_reads c.args.t.now c.args.code.now w.0 c.args.at c.args.m.now c.do_instrs.new.m c.args.world.now c.do_instrs.new.world c.args.values.now c.args.modes.now w.1 (c.in_default.ensures.ends w.0 s) (c.in_default.ensures.world w.0 s))
+    (w.0, closes_noted c.args.t.now c.args.code.now w.0 c.args.at c.args.m.now c.do_instrs.new.m c.args.world.now c.do_instrs.new.world c.args.noted.now c.do_instrs.new.noted c.in_default.ensures.noted w.1 (c.in_default.ensures.ends w.0 s) (c.in_default.ensures.world w.0 s))
 
 pub returns-clause-text : goal.returns-clause-text
 returns-clause-text g c = λ es q.
     let s = switches_start c.args.t.now c.args.code.now es c.args.at c.args.m.now c.args.world.now q.now q.writes in
-    let r = closes_reads c.args.t.now c.args.code.now es c.args.at c.args.m.now c.do_instrs.new.m c.args.world.now c.do_instrs.new.world c.args.values.now c.args.modes.now q (c.in_default.ensures.ends es s) (c.in_default.ensures.world es s) in
+    let r = closes_noted c.args.t.now c.args.code.now es c.args.at c.args.m.now c.do_instrs.new.m c.args.world.now c.do_instrs.new.world c.args.noted.now c.do_instrs.new.noted c.in_default.ensures.noted q (c.in_default.ensures.ends es s) (c.in_default.ensures.world es s) in
     reads_second c.args.t.now c.args.code.now es c.args.show c.args.at _ _ _ _ _ _ _ _ (c.in_default.ensures.text es s) (c.read_instant.ensures.text es r)
 
 pub returns-clause-counts : goal.returns-clause-counts
 returns-clause-counts g c = λ es q.
     let s = switches_start c.args.t.now c.args.code.now es c.args.at c.args.m.now c.args.world.now q.now q.writes in
-    let r = closes_reads c.args.t.now c.args.code.now es c.args.at c.args.m.now c.do_instrs.new.m c.args.world.now c.do_instrs.new.world c.args.values.now c.args.modes.now q (c.in_default.ensures.ends es s) (c.in_default.ensures.world es s) in
+    let r = closes_noted c.args.t.now c.args.code.now es c.args.at c.args.m.now c.do_instrs.new.m c.args.world.now c.do_instrs.new.world c.args.noted.now c.do_instrs.new.noted c.in_default.ensures.noted q (c.in_default.ensures.ends es s) (c.in_default.ensures.world es s) in
     on_ok_weaker c.read_instant.result (λ z. z ∙ ap (with_instrs (length (phase_path c.args.t.now c.args.code.now es c.args.at 3))) (c.in_default.ensures.counts es s)) (c.read_instant.ensures.counts es r)
 
 pub returns-clause-world : goal.returns-clause-world
 returns-clause-world g c = λ es q.
     let s = switches_start c.args.t.now c.args.code.now es c.args.at c.args.m.now c.args.world.now q.now q.writes in
-    let r = closes_reads c.args.t.now c.args.code.now es c.args.at c.args.m.now c.do_instrs.new.m c.args.world.now c.do_instrs.new.world c.args.values.now c.args.modes.now q (c.in_default.ensures.ends es s) (c.in_default.ensures.world es s) in
+    let r = closes_noted c.args.t.now c.args.code.now es c.args.at c.args.m.now c.do_instrs.new.m c.args.world.now c.do_instrs.new.world c.args.noted.now c.do_instrs.new.noted c.in_default.ensures.noted q (c.in_default.ensures.ends es s) (c.in_default.ensures.world es s) in
     on_ok_weaker c.read_instant.result (λ z. z ∙ ap (replay c.args.t.now c.args.code.now (phase_path c.args.t.now c.args.code.now es c.args.at 3)) (c.in_default.ensures.world es s)) (c.read_instant.ensures.world es r)
 
 pub returns-clause-desk : goal.returns-clause-desk
 returns-clause-desk g c = λ es q.
     let s = switches_start c.args.t.now c.args.code.now es c.args.at c.args.m.now c.args.world.now q.now q.writes in
-    let r = closes_reads c.args.t.now c.args.code.now es c.args.at c.args.m.now c.do_instrs.new.m c.args.world.now c.do_instrs.new.world c.args.values.now c.args.modes.now q (c.in_default.ensures.ends es s) (c.in_default.ensures.world es s) in
+    let r = closes_noted c.args.t.now c.args.code.now es c.args.at c.args.m.now c.do_instrs.new.m c.args.world.now c.do_instrs.new.world c.args.noted.now c.do_instrs.new.noted c.in_default.ensures.noted q (c.in_default.ensures.ends es s) (c.in_default.ensures.world es s) in
     on_ok_weaker c.read_instant.result (λ z. z ∙ ap (desk_replay c.args.code.now (phase_path c.args.t.now c.args.code.now es c.args.at 3)) (c.in_default.ensures.desk es s)) (c.read_instant.ensures.desk es r)
 
 pub returns-clause-reads : goal.returns-clause-reads
 returns-clause-reads g c = λ es q.
     let s = switches_start c.args.t.now c.args.code.now es c.args.at c.args.m.now c.args.world.now q.now q.writes in
-    let r = closes_reads c.args.t.now c.args.code.now es c.args.at c.args.m.now c.do_instrs.new.m c.args.world.now c.do_instrs.new.world c.args.values.now c.args.modes.now q (c.in_default.ensures.ends es s) (c.in_default.ensures.world es s) in
+    let r = closes_noted c.args.t.now c.args.code.now es c.args.at c.args.m.now c.do_instrs.new.m c.args.world.now c.do_instrs.new.world c.args.noted.now c.do_instrs.new.noted c.in_default.ensures.noted q (c.in_default.ensures.ends es s) (c.in_default.ensures.world es s) in
     c.read_instant.ensures.reads es r
+
+pub read_instant-requires-clause-few : goal.read_instant-requires-clause-few
+read_instant-requires-clause-few g c = ap length c.in_default.ensures.noted.values ∙ c.requires.few
+
+pub read_instant-requires-clause-modules : goal.read_instant-requires-clause-modules
+read_instant-requires-clause-modules g c = ap length c.in_default.ensures.noted.modes ∙ c.requires.modules
+
+pub returns-clause-sensors : goal.returns-clause-sensors
+returns-clause-sensors g c =
+    on_ok_weaker c.read_instant.result (λ z. sensors_then c.args.t.now c.args.world.now.values c.do_instrs.new.world.values c.read_instant.new.world.values c.in_default.ensures.sensors z) c.read_instant.ensures.sensors

@@ -1,5 +1,6 @@
-use Rattle.std.proofs.Common.{ap, ◌∙◌}
+use Rattle.std.proofs.Common.{ℕ, List, Option, length, ap, ◌∙◌}
 use Rattle.std.proofs.lemmas.Result.{on_ok_weaker}
+use Rattle.htl_emach.specs.Calendars.{list_at}
 use Rattle.htl_emach.specs.Contents.{Content}
 use Rattle.htl_machine.proofs.Closings.{modes_known, reads_fail, changes_last, reads_start}
 use Rattle.htl_machine.proofs.close.read_instant.Goals as goal
@@ -21,9 +22,10 @@ put_changes-requires-clause-known g c =
 
 pub returns-clause-text : goal.returns-clause-text
 returns-clause-text g c = λ es q.
+    let kept = c.in_default.ensures.noted in
     let s = reads_start c.args.t.now c.args.code.now es c.args.at c.args.m.now c.args.world.now q.switches in
-    changes_last c.args.t.now c.args.code.now es c.args.show c.args.at _ _ _ _ _ _ _ _ c.args.values.now c.do_instrs.new.world.values c.args.modes.now c.do_instrs.new.m.calendar c.parts-parts.ensures.ranges (c.in_default.ensures.text es s)
-    q.noted.values_are (ap (λ (z : Content). z.values) (c.in_default.ensures.world es s) ∙ q.reads) q.noted.modes_are (c.in_default.ensures.ends es s).2 c.put_changes.ensures
+    changes_last c.args.t.now c.args.code.now es c.args.show c.args.at _ _ _ _ _ _ _ _ c.do_instrs.new.noted.values c.do_instrs.new.world.values c.do_instrs.new.noted.modes c.do_instrs.new.m.calendar c.parts-parts.ensures.ranges (c.in_default.ensures.text es s)
+    (λ some. kept.values ∙ q.noted.values_are some) (ap (λ (z : Content). z.values) (c.in_default.ensures.world es s) ∙ q.reads) (λ k less. ap (λ (xs : List (Option ℕ)). list_at xs k) kept.modes ∙ q.noted.modes_are k less) (c.in_default.ensures.ends es s).2 c.put_changes.ensures
 
 pub returns-clause-counts : goal.returns-clause-counts
 returns-clause-counts g c = λ es q.
@@ -44,3 +46,15 @@ pub returns-clause-reads : goal.returns-clause-reads
 returns-clause-reads g c = λ es q.
     let s = reads_start c.args.t.now c.args.code.now es c.args.at c.args.m.now c.args.world.now q.switches in
     on_ok_weaker c.put_changes.result (λ _. c.in_default.ensures.ends es s) c.put_changes.ensures.whole
+
+pub put_changes-requires-clause-values : goal.put_changes-requires-clause-values
+put_changes-requires-clause-values g c = ap length c.in_default.ensures.noted.values ∙ c.requires.few
+
+pub put_changes-requires-clause-modes : goal.put_changes-requires-clause-modes
+put_changes-requires-clause-modes g c = ap length c.in_default.ensures.noted.modes ∙ c.requires.modules
+
+pub returns-clause-marked : goal.returns-clause-marked
+returns-clause-marked g c = on_ok_weaker c.put_changes.result (λ _. c.in_default.ensures.marked) c.put_changes.ensures.whole
+
+pub returns-clause-sensors : goal.returns-clause-sensors
+returns-clause-sensors g c = on_ok_weaker c.put_changes.result (λ _. c.in_default.ensures.sensors) c.put_changes.ensures.whole

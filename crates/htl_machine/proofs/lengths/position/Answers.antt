@@ -1,5 +1,5 @@
 use Rattle.std.proofs.Common.{Some, ◌-◌, cond, take, sym, ap, ◌∙◌, arith}
-use Rattle.htl_machine.specs.Follows.{position_from}
+use Rattle.htl_machine.specs.Turns.{position_from}
 use Rattle.htl_machine.proofs.Positions.{one_step}
 use Rattle.htl_machine.proofs.lengths.position.Goals as goal
 

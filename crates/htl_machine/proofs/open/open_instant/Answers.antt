@@ -1,18 +1,51 @@
-use Rattle.std.proofs.Common.{[], length, ap, ◌∙◌}
+use Rattle.std.proofs.Common.{List, [], ℤ, length, sym, ap, ◌∙◌, subst}
 use Rattle.htl_emach.specs.Following.{phase_path}
 use Rattle.htl_machine.specs.Counts.{with_instrs}
 use Rattle.htl_edge.proofs.Puts.{Puts-second}
 use Rattle.htl_machine.specs.Doing.{path_lines}
+use Rattle.htl_machine.specs.Noting.{MarksChanges}
 use Rattle.htl_machine.specs.Running.{replay}
+use Rattle.htl_machine.specs.Sensors.{AreShown}
 use Rattle.htl_machine.proofs.Beginnings.{then_more}
+use Rattle.htl_machine.proofs.Marking.{sensors_then, sensors_same}
 use Rattle.htl_machine.proofs.Openings.{opens_failed, opens_second, opened, writes_start}
 use Rattle.htl_machine.proofs.Sensing.{sensors_shaped}
+use Rattle.htl_machine.proofs.Waits.{waiting_stays, waiting_same}
 use Rattle.htl_machine.proofs.open.open_instant.Goals as goal
 
 pub do_instrs-requires-clause-starts : goal.do_instrs-requires-clause-starts
 do_instrs-requires-clause-starts g c =
     let w = c.requires.follows in
     (w.0, writes_start c.args.t.now c.args.code.now w.0 c.args.at c.args.m.now c.tell_records.new.world w.1)
+
+pub do_instrs-requires-clause-marked : goal.do_instrs-requires-clause-marked
+do_instrs-requires-clause-marked g c =
+    subst (λ (xs : List ℤ). MarksChanges c.args.noted.now xs c.args.m.now.calendar.modes) (sym c.in_default.ensures.values) c.requires.marked
+
+pub show-requires-clause-values : goal.show-requires-clause-values
+show-requires-clause-values g c = c.in_default-do_instrs.ensures.shaped.values.count
+
+pub show-requires-clause-shows : goal.show-requires-clause-shows
+show-requires-clause-shows g c = c.requires.shows.count
+
+pub show-requires-clause-waiting : goal.show-requires-clause-waiting
+show-requires-clause-waiting g c =
+    waiting_stays c.args.t.now c.args.sensors.now c.tell_records.new.world.values c.do_instrs.new.world.values
+    (waiting_same c.args.t.now c.args.sensors.now c.args.world.now.values c.tell_records.new.world.values c.requires.waiting c.in_default.ensures.values) c.in_default-do_instrs.ensures.sensors
+
+pub show-requires-clause-before : goal.show-requires-clause-before
+show-requires-clause-before g c =
+    let kept = c.in_default-do_instrs.ensures.noted.values ∙ c.requires.before in
+    sensors_then c.args.t.now c.do_instrs.new.noted.values c.tell_records.new.world.values c.do_instrs.new.world.values
+    (sensors_same c.args.t.now c.do_instrs.new.noted.values c.tell_records.new.world.values (c.in_default.ensures.values ∙ sym kept)) c.in_default-do_instrs.ensures.sensors
+
+pub returns-clause-marked : goal.returns-clause-marked
+returns-clause-marked g c = c.show.ensures.marked c.do_instrs.new.m.calendar.modes c.in_default-do_instrs.ensures.marked
+
+pub returns-clause-noted : goal.returns-clause-noted
+returns-clause-noted g c =
+    let one = c.in_default-do_instrs.ensures.noted in
+    record { values = c.show.ensures.kept.values ∙ one.values; modes = c.show.ensures.kept.modes ∙ one.modes }
 
 pub returns-in-Err-clause-text : goal.returns-in-Err-clause-text
 returns-in-Err-clause-text g c = λ es q.
@@ -31,12 +64,12 @@ returns-clause-text g c = λ es q.
 pub returns-clause-world : goal.returns-clause-world
 returns-clause-world g c = λ es q.
     let starts = writes_start c.args.t.now c.args.code.now es c.args.at c.args.m.now c.tell_records.new.world q in
-    opened c.args.t.now c.args.code.now es c.args.at c.args.schedule.now.instrs c.args.shows.now c.args.values.now c.args.desk.now c.tell_records.new.desk c.do_instrs.new.desk c.args.world.now c.tell_records.new.world c.do_instrs.new.world c.show_sensors.new.world
-    c.in_default.ensures.records (c.in_default-do_instrs.ensures.desk es starts) (c.in_default-do_instrs.ensures.world es starts) c.show_sensors.ensures
+    opened c.args.t.now c.args.code.now es c.args.at c.args.schedule.now.instrs c.args.sensors.now.shows c.args.noted.now.values c.args.desk.now c.tell_records.new.desk c.do_instrs.new.desk c.args.world.now c.tell_records.new.world c.do_instrs.new.world c.show.new.world
+    c.in_default.ensures.records (c.in_default-do_instrs.ensures.desk es starts) (c.in_default-do_instrs.ensures.world es starts) (subst (λ (xs : List ℤ). AreShown c.args.t.now c.args.sensors.now.shows xs c.args.at c.do_instrs.new.world c.show.new.world) c.in_default-do_instrs.ensures.noted.values c.show.ensures.shown)
 
 pub returns-clause-shaped : goal.returns-clause-shaped
 returns-clause-shaped g c =
-    sensors_shaped c.args.t.now c.args.shows.now c.args.values.now c.args.at c.do_instrs.new.world c.show_sensors.new.world c.requires.shows c.requires.values c.in_default-do_instrs.ensures.shaped c.show_sensors.ensures
+    sensors_shaped c.args.t.now c.args.sensors.now.shows c.args.noted.now.values c.args.at c.do_instrs.new.world c.show.new.world c.requires.shows c.requires.values c.in_default-do_instrs.ensures.shaped (subst (λ (xs : List ℤ). AreShown c.args.t.now c.args.sensors.now.shows xs c.args.at c.do_instrs.new.world c.show.new.world) c.in_default-do_instrs.ensures.noted.values c.show.ensures.shown)
 
 pub returns-clause-counts : goal.returns-clause-counts
 returns-clause-counts g c = λ es q p s k d same past few was.
@@ -65,7 +98,7 @@ returns-clause-idle g c = λ es q over.
     record {
       wrote = c.do_instrs.new.world;
       writes = (c.in_default-do_instrs.ensures.world es starts) ∙ ap (replay c.args.t.now c.args.code.now path) i.1;
-      sensors = c.show_sensors.ensures;
+      sensors = subst (λ (xs : List ℤ). AreShown c.args.t.now c.args.sensors.now.shows xs c.args.at c.do_instrs.new.world c.show.new.world) c.in_default-do_instrs.ensures.noted.values c.show.ensures.shown;
       desk = (c.in_default-do_instrs.ensures.desk es starts) ∙ i.0;
       count = (c.in_default-do_instrs.ensures.counts es starts) ∙ ap (with_instrs (length path)) i.2;
     }

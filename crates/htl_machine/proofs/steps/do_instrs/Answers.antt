@@ -1,7 +1,8 @@
-use Rattle.std.proofs.Common.{◌∙◌, refl}
+use Rattle.std.proofs.Common.{◌∙◌, refl, arith}
 use Rattle.htl_emach.proofs.Overdue.{nothing_overdue}
 use Rattle.htl_machine.proofs.Going.{phase_replayed, phase_ends}
 use Rattle.htl_machine.proofs.Doing.{doing_start, doing_on, doing_cut, doing_end, doing_counted, doing_told}
+use Rattle.htl_machine.proofs.Marking.{noted_on, module_done, sensors_then}
 use Rattle.htl_machine.proofs.Short.{fewer_then, midway_start}
 use Rattle.htl_machine.proofs.steps.do_instrs.Goals as goal
 
@@ -13,6 +14,9 @@ loop-done-init g c = record {
   values = λ two. refl;
   stands = λ s st. st;
   jobs = refl;
+  marked = c.requires.marked;
+  noted_stays = record { values = refl; modes = refl };
+  sensors = λ k x at is. refl;
 }
 
 pub instant-requires-clause-order : goal.instant-requires-clause-order
@@ -20,6 +24,13 @@ instant-requires-clause-order g c =
     let w = c.requires.starts in
     let here = (c.loop-done.invariant.doing w.0 w.1).running in
     nothing_overdue c.args.t.now c.args.code.now w.0 c.args.at c.args.phase c.loop-done.m here.done here.rest c.parts-parts.ensures.ranges here.midway
+
+pub note-requires : goal.note-requires
+note-requires g c =
+    let inside =
+    module_done c.args.t.now c.args.code.now c.args.phase c.args.at c.loop-done.m c.loop-done.world c.in-Some.done c.parts-parts.ensures.ranges c.requires.form c.requires.spells c.requires.phase c.loop-done.invariant.shaped c.loop-done.invariant.safe
+    c.in-Some.ensures.answer in
+    omega (arith, inside, c.parts-parts.ensures.ranges.few_modules)
 
 pub returns-in-Err-clause-text : goal.returns-in-Err-clause-text
 returns-in-Err-clause-text g c = λ es s.
@@ -55,6 +66,11 @@ loop-done-preserved g c =
       values = one.running.values;
       stands = λ s st. c.release_in.ensures.stands s (c.loop-done.invariant.stands s st);
       jobs = c.release_in.ensures.jobs ∙ c.loop-done.invariant.jobs;
+      marked =
+          noted_on c.loop-done.noted c.note.new.self c.args.t.now c.args.code.now c.loop-done.world.values c.args.phase c.args.at c.loop-done.m c.instant.new.self c.loop-done.world c.instant.new.world c.in-Some.done c.loop-done.invariant.marked
+          c.in-Some.ensures.machine c.in-Some.ensures.world c.note.ensures.written c.note.ensures.decided c.note.ensures.kept;
+      noted_stays = record { values = c.note.ensures.kept.values ∙ c.loop-done.invariant.noted_stays.values; modes = c.note.ensures.kept.modes ∙ c.loop-done.invariant.noted_stays.modes };
+      sensors = sensors_then c.args.t.now c.args.world.now.values c.loop-done.world.values c.instant.new.world.values c.loop-done.invariant.sensors c.in-Some.ensures.sensors;
     }
 
 pub returns-in-None-clause-ends : goal.returns-in-None-clause-ends

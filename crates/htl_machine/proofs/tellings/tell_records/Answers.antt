@@ -19,6 +19,7 @@ loop-left-preserved g c =
     let next = c.run_to.ensures.round ∙ ap (λ o. after c.loop-left.desk c.args.code.now.instrs o) c.in-Some.is in
     let answer = sym c.run_to.ensures.left ∙ c.in-Some.is in
     record {
+      values = c.put_out.ensures.values ∙ c.loop-left.invariant.values;
       recording =
           recording_step c.args.t.now c.args.desk.now c.loop-left.desk c.run_to.new.self c.args.world.now c.loop-left.world c.put_out.new.world c.args.jobs.now c.args.code.now.instrs c.args.at c.in-Some.left
           c.loop-left.invariant.recording answer next c.run_to.ensures.stands c.put_out.ensures.shaped c.put_out.ensures.world;

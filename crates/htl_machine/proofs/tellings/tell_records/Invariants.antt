@@ -5,6 +5,7 @@ use Rattle.htl_machine.proofs.tellings.tell_records.Given as goal
 
 abbrev pub invariant-loop-left : goal.invariant-loop-left
 invariant-loop-left g l = record {
+  values : l.world.values ≡ l.initial.world.values;
   recording : IsRecording l.t l.initial.desk l.initial.world l.desk l.world l.jobs l.code.instrs l.at;
   printing : IsPrinting
       l.t

@@ -5,7 +5,7 @@ use Rattle.std.specs.List.{All, flat_map}
 use Rattle.std.proofs.lemmas.List.Folds.{flat_map-map}
 use Rattle.std.proofs.Common.{◌≤◌, subst, sym, List}
 use Rattle.htl_names.specs.Flat.{size_of}
-use Rattle.htl_names.proofs.AllOf.{all_part}
+use Rattle.htl_names.proofs.Members.{all_part}
 use Rattle.htl_names.proofs.items.comms.Goals as goal
 
 pub program_comms-requires : goal.program_comms-requires

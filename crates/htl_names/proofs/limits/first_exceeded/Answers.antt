@@ -1,8 +1,8 @@
 use Rattle.std.proofs.Common.{◌∙◌, Option, Some, ap}
 use Rattle.htl_text.specs.Nodes.{tree_of}
 use Rattle.htl_names.specs.declared.limits.Excess.{Excess}
-use Rattle.htl_names.specs.Excesses.{or_else}
-use Rattle.htl_names.proofs.LimitLaws.{shape_excess, first_exceeded_is}
+use Rattle.htl_names.specs.Excess.{or_else}
+use Rattle.htl_names.proofs.ExcessLaws.{shape_excess, first_exceeded_is}
 use Rattle.htl_names.proofs.limits.first_exceeded.Goals as goal
 
 pub returns-in-Some : goal.returns-in-Some

@@ -1,5 +1,5 @@
 use Rattle.std.proofs.Common.{◌≡◌, ◌+◌, drop}
-use Rattle.htl_names.specs.Excesses.{excess_from}
+use Rattle.htl_names.specs.Excess.{excess_from}
 use Rattle.htl_names.proofs.limits.first_excess.Given as goal
 
 abbrev pub invariant-loop-k : goal.invariant-loop-k

@@ -1,71 +1,36 @@
 use Rattle.std.proofs.Common.{◌∙◌, ap, arith, subst, length, map, List}
 use Rattle.htl_text.specs.Nodes.{tree_of}
-use Rattle.htl_names.specs.declared.fault.NameFault.TheVariants as fault
 use Rattle.htl_names.specs.declared.limits.Excess.{Excess}
-use Rattle.htl_names.specs.NameRules.{RepeatedName, UnknownName, WrongKind, ProgramTree, ParentName, Limits}
+use Rattle.htl_names.specs.NameRules.{ProgramTree, ParentName, Limits}
 use Rattle.htl_names.specs.Graph.{graph_by}
-use Rattle.htl_names.specs.Misplaced.{IsFirstMisplaced}
-use Rattle.htl_names.specs.Programs.{Naming, program_naming}
-use Rattle.htl_names.specs.Rows.{Rows, judged_of, parent_use_of}
-use Rattle.htl_names.proofs.KindLaws.{kinds_searched}
-use Rattle.htl_names.proofs.OrphanLaws.{parents_searched}
-use Rattle.htl_names.proofs.ResolveLaws.{none_below, kept_next, found, passed, all_right}
-use Rattle.htl_names.proofs.RuleLaws.{tree_searched, limits_searched}
+use Rattle.htl_names.specs.Programs.{IsFirstMisplaced, Naming, program_naming}
+use Rattle.htl_names.specs.Rows.{Rows, parent_use_of}
+use Rattle.htl_names.proofs.RuleLaws.{parents_searched, tree_searched, limits_searched}
+use Rattle.htl_names.proofs.ResolveLaws.{found, passed, all_right}
 use Rattle.htl_names.proofs.Walking.{length-map_at}
-use Rattle.htl_names.proofs.UnknownLaws.{uses_searched}
+use Rattle.htl_names.specs.declared.fault.NameFault.TheVariants as fault
 use Rattle.htl_names.proofs.resolving.check.Goals as goal
 
 pub first_misplaced-requires : goal.first_misplaced-requires
 first_misplaced-requires c =
-    let size = ap length (c.as_slice-3.ensures.value ∙ c.in_ok-namings.ensures) ∙ length-map_at (program_naming c.args.symbols.now) 0 (tree_of c.args.tree.now) in
+    let size = ap length (c.as_slice.ensures.value ∙ c.in_ok-namings.ensures) ∙ length-map_at (program_naming c.args.symbols.now) 0 (tree_of c.args.tree.now) in
     record { small = omega (arith, size, c.requires.bounds.programs) }
 
 pub returns-in-Some : goal.returns-in-Some
 returns-in-Some c =
     let ps = tree_of c.args.tree.now in
     let names = c.args.symbols.now in
-    let rows = c.rows.view_is ∙ c.requires.rows in
-    let one = kept_next ps RepeatedName (none_below ps) c.requires.apart in
-    let uses = uses_searched ps names c.as_slice.result.now c.first_unknown.result c.requires.symbols (c.as_slice.ensures.value ∙ ap (λ (r : Rows). r.uses) rows) c.first_unknown.ensures in
-    found ps UnknownName (λ t. fault.Unknown t) c.first_unknown.result c.in-Some.token one uses c.in-Some.is
-
-pub returns-in-Some-first_wrong_kind : goal.returns-in-Some-first_wrong_kind
-returns-in-Some-first_wrong_kind c =
-    let ps = tree_of c.args.tree.now in
-    let names = c.args.symbols.now in
-    let rows = c.rows.view_is ∙ c.requires.rows in
-    let one = kept_next ps RepeatedName (none_below ps) c.requires.apart in
-    let uses = uses_searched ps names c.as_slice.result.now c.first_unknown.result c.requires.symbols (c.as_slice.ensures.value ∙ ap (λ (r : Rows). r.uses) rows) c.first_unknown.ensures in
-    let two = passed ps UnknownName (λ t. fault.Unknown t) c.first_unknown.result one uses c.in_default.is in
-    let kinds = kinds_searched ps (map judged_of c.as_slice-2.result.now) c.first_wrong_kind.result (ap (map judged_of) c.as_slice-2.ensures.value ∙ ap (λ (r : Rows). r.kinds) rows) c.first_wrong_kind.ensures in
-    found ps WrongKind (λ t. fault.Kind t) c.first_wrong_kind.result c.in-Some-first_wrong_kind.token two kinds c.in-Some-first_wrong_kind.is
-
-pub returns-in-Some-2 : goal.returns-in-Some-2
-returns-in-Some-2 c =
-    let ps = tree_of c.args.tree.now in
-    let names = c.args.symbols.now in
-    let rows = c.rows.view_is ∙ c.requires.rows in
-    let one = kept_next ps RepeatedName (none_below ps) c.requires.apart in
-    let uses = uses_searched ps names c.as_slice.result.now c.first_unknown.result c.requires.symbols (c.as_slice.ensures.value ∙ ap (λ (r : Rows). r.uses) rows) c.first_unknown.ensures in
-    let two = passed ps UnknownName (λ t. fault.Unknown t) c.first_unknown.result one uses c.in_default.is in
-    let kinds = kinds_searched ps (map judged_of c.as_slice-2.result.now) c.first_wrong_kind.result (ap (map judged_of) c.as_slice-2.ensures.value ∙ ap (λ (r : Rows). r.kinds) rows) c.first_wrong_kind.ensures in
-    let three = passed ps WrongKind (λ t. fault.Kind t) c.first_wrong_kind.result two kinds c.in_default-first_wrong_kind.is in
-    let tree = tree_searched ps names c.in_ok-namings.namings.items c.in_ok-program.field-0 c.requires.symbols c.in_ok-namings.ensures (subst (λ (rs : List (List Naming)). IsFirstMisplaced (graph_by rs) c.in_ok-program.field-0) c.as_slice-3.ensures.value c.in_ok-program.ensures) in
-    found ps ProgramTree (λ p. fault.NotATree p) c.in_ok-program.field-0 c.in-Some-2.program three tree c.in-Some-2.is
+    let tree = tree_searched ps names c.in_ok-namings.namings.items c.in_ok-program.field-0 c.requires.symbols c.in_ok-namings.ensures (subst (λ (rs : List (List Naming)). IsFirstMisplaced (graph_by rs) c.in_ok-program.field-0) c.as_slice.ensures.value c.in_ok-program.ensures) in
+    found ps ProgramTree (λ p. fault.NotATree p) c.in_ok-program.field-0 c.in-Some.program c.requires.kept tree c.in-Some.is
 
 pub returns-in-Some-first_orphan : goal.returns-in-Some-first_orphan
 returns-in-Some-first_orphan c =
     let ps = tree_of c.args.tree.now in
     let names = c.args.symbols.now in
     let rows = c.rows.view_is ∙ c.requires.rows in
-    let one = kept_next ps RepeatedName (none_below ps) c.requires.apart in
-    let uses = uses_searched ps names c.as_slice.result.now c.first_unknown.result c.requires.symbols (c.as_slice.ensures.value ∙ ap (λ (r : Rows). r.uses) rows) c.first_unknown.ensures in
-    let two = passed ps UnknownName (λ t. fault.Unknown t) c.first_unknown.result one uses c.in_default.is in
-    let kinds = kinds_searched ps (map judged_of c.as_slice-2.result.now) c.first_wrong_kind.result (ap (map judged_of) c.as_slice-2.ensures.value ∙ ap (λ (r : Rows). r.kinds) rows) c.first_wrong_kind.ensures in
-    let three = passed ps WrongKind (λ t. fault.Kind t) c.first_wrong_kind.result two kinds c.in_default-first_wrong_kind.is in
-    let tree = tree_searched ps names c.in_ok-namings.namings.items c.in_ok-program.field-0 c.requires.symbols c.in_ok-namings.ensures (subst (λ (rs : List (List Naming)). IsFirstMisplaced (graph_by rs) c.in_ok-program.field-0) c.as_slice-3.ensures.value c.in_ok-program.ensures) in
-    let four = passed ps ProgramTree (λ p. fault.NotATree p) c.in_ok-program.field-0 three tree c.in_default-2.is in
-    let parents = parents_searched ps names c.as_slice-6.result.now (map parent_use_of c.as_slice-5.result.now) c.first_orphan.result c.requires.symbols (c.as_slice-6.ensures.value ∙ c.in_ok-refined.ensures names ps (c.as_slice-4.ensures.value ∙ c.in_ok-namings.ensures)) (ap (map parent_use_of) c.as_slice-5.ensures.value ∙ ap (λ (r : Rows). r.parents) rows) c.first_orphan.ensures in
+    let tree = tree_searched ps names c.in_ok-namings.namings.items c.in_ok-program.field-0 c.requires.symbols c.in_ok-namings.ensures (subst (λ (rs : List (List Naming)). IsFirstMisplaced (graph_by rs) c.in_ok-program.field-0) c.as_slice.ensures.value c.in_ok-program.ensures) in
+    let four = passed ps ProgramTree (λ p. fault.NotATree p) c.in_ok-program.field-0 c.requires.kept tree c.in_default.is in
+    let parents = parents_searched ps names c.as_slice-4.result.now (map parent_use_of c.as_slice-3.result.now) c.first_orphan.result c.requires.symbols (c.as_slice-4.ensures.value ∙ c.in_ok-refined.ensures names ps (c.as_slice-2.ensures.value ∙ c.in_ok-namings.ensures)) (ap (map parent_use_of) c.as_slice-3.ensures.value ∙ ap (λ (r : Rows). r.parents) rows) c.first_orphan.ensures in
     found ps ParentName (λ t. fault.Unknown t) c.first_orphan.result c.in-Some-first_orphan.token four parents c.in-Some-first_orphan.is
 
 pub returns-in-Some-first_exceeded : goal.returns-in-Some-first_exceeded
@@ -73,14 +38,9 @@ returns-in-Some-first_exceeded c =
     let ps = tree_of c.args.tree.now in
     let names = c.args.symbols.now in
     let rows = c.rows.view_is ∙ c.requires.rows in
-    let one = kept_next ps RepeatedName (none_below ps) c.requires.apart in
-    let uses = uses_searched ps names c.as_slice.result.now c.first_unknown.result c.requires.symbols (c.as_slice.ensures.value ∙ ap (λ (r : Rows). r.uses) rows) c.first_unknown.ensures in
-    let two = passed ps UnknownName (λ t. fault.Unknown t) c.first_unknown.result one uses c.in_default.is in
-    let kinds = kinds_searched ps (map judged_of c.as_slice-2.result.now) c.first_wrong_kind.result (ap (map judged_of) c.as_slice-2.ensures.value ∙ ap (λ (r : Rows). r.kinds) rows) c.first_wrong_kind.ensures in
-    let three = passed ps WrongKind (λ t. fault.Kind t) c.first_wrong_kind.result two kinds c.in_default-first_wrong_kind.is in
-    let tree = tree_searched ps names c.in_ok-namings.namings.items c.in_ok-program.field-0 c.requires.symbols c.in_ok-namings.ensures (subst (λ (rs : List (List Naming)). IsFirstMisplaced (graph_by rs) c.in_ok-program.field-0) c.as_slice-3.ensures.value c.in_ok-program.ensures) in
-    let four = passed ps ProgramTree (λ p. fault.NotATree p) c.in_ok-program.field-0 three tree c.in_default-2.is in
-    let parents = parents_searched ps names c.as_slice-6.result.now (map parent_use_of c.as_slice-5.result.now) c.first_orphan.result c.requires.symbols (c.as_slice-6.ensures.value ∙ c.in_ok-refined.ensures names ps (c.as_slice-4.ensures.value ∙ c.in_ok-namings.ensures)) (ap (map parent_use_of) c.as_slice-5.ensures.value ∙ ap (λ (r : Rows). r.parents) rows) c.first_orphan.ensures in
+    let tree = tree_searched ps names c.in_ok-namings.namings.items c.in_ok-program.field-0 c.requires.symbols c.in_ok-namings.ensures (subst (λ (rs : List (List Naming)). IsFirstMisplaced (graph_by rs) c.in_ok-program.field-0) c.as_slice.ensures.value c.in_ok-program.ensures) in
+    let four = passed ps ProgramTree (λ p. fault.NotATree p) c.in_ok-program.field-0 c.requires.kept tree c.in_default.is in
+    let parents = parents_searched ps names c.as_slice-4.result.now (map parent_use_of c.as_slice-3.result.now) c.first_orphan.result c.requires.symbols (c.as_slice-4.ensures.value ∙ c.in_ok-refined.ensures names ps (c.as_slice-2.ensures.value ∙ c.in_ok-namings.ensures)) (ap (map parent_use_of) c.as_slice-3.ensures.value ∙ ap (λ (r : Rows). r.parents) rows) c.first_orphan.ensures in
     let five = passed ps ParentName (λ t. fault.Unknown t) c.first_orphan.result four parents c.in_default-first_orphan.is in
     let limits = limits_searched ps names c.first_exceeded.result c.requires.symbols c.first_exceeded.ensures in
     found ps Limits (λ (e : Excess). fault.Limit e.which e.count) c.first_exceeded.result c.in-Some-first_exceeded.field-0 five limits c.in-Some-first_exceeded.is
@@ -90,14 +50,9 @@ returns c =
     let ps = tree_of c.args.tree.now in
     let names = c.args.symbols.now in
     let rows = c.rows.view_is ∙ c.requires.rows in
-    let one = kept_next ps RepeatedName (none_below ps) c.requires.apart in
-    let uses = uses_searched ps names c.as_slice.result.now c.first_unknown.result c.requires.symbols (c.as_slice.ensures.value ∙ ap (λ (r : Rows). r.uses) rows) c.first_unknown.ensures in
-    let two = passed ps UnknownName (λ t. fault.Unknown t) c.first_unknown.result one uses c.in_default.is in
-    let kinds = kinds_searched ps (map judged_of c.as_slice-2.result.now) c.first_wrong_kind.result (ap (map judged_of) c.as_slice-2.ensures.value ∙ ap (λ (r : Rows). r.kinds) rows) c.first_wrong_kind.ensures in
-    let three = passed ps WrongKind (λ t. fault.Kind t) c.first_wrong_kind.result two kinds c.in_default-first_wrong_kind.is in
-    let tree = tree_searched ps names c.in_ok-namings.namings.items c.in_ok-program.field-0 c.requires.symbols c.in_ok-namings.ensures (subst (λ (rs : List (List Naming)). IsFirstMisplaced (graph_by rs) c.in_ok-program.field-0) c.as_slice-3.ensures.value c.in_ok-program.ensures) in
-    let four = passed ps ProgramTree (λ p. fault.NotATree p) c.in_ok-program.field-0 three tree c.in_default-2.is in
-    let parents = parents_searched ps names c.as_slice-6.result.now (map parent_use_of c.as_slice-5.result.now) c.first_orphan.result c.requires.symbols (c.as_slice-6.ensures.value ∙ c.in_ok-refined.ensures names ps (c.as_slice-4.ensures.value ∙ c.in_ok-namings.ensures)) (ap (map parent_use_of) c.as_slice-5.ensures.value ∙ ap (λ (r : Rows). r.parents) rows) c.first_orphan.ensures in
+    let tree = tree_searched ps names c.in_ok-namings.namings.items c.in_ok-program.field-0 c.requires.symbols c.in_ok-namings.ensures (subst (λ (rs : List (List Naming)). IsFirstMisplaced (graph_by rs) c.in_ok-program.field-0) c.as_slice.ensures.value c.in_ok-program.ensures) in
+    let four = passed ps ProgramTree (λ p. fault.NotATree p) c.in_ok-program.field-0 c.requires.kept tree c.in_default.is in
+    let parents = parents_searched ps names c.as_slice-4.result.now (map parent_use_of c.as_slice-3.result.now) c.first_orphan.result c.requires.symbols (c.as_slice-4.ensures.value ∙ c.in_ok-refined.ensures names ps (c.as_slice-2.ensures.value ∙ c.in_ok-namings.ensures)) (ap (map parent_use_of) c.as_slice-3.ensures.value ∙ ap (λ (r : Rows). r.parents) rows) c.first_orphan.ensures in
     let five = passed ps ParentName (λ t. fault.Unknown t) c.first_orphan.result four parents c.in_default-first_orphan.is in
     let limits = limits_searched ps names c.first_exceeded.result c.requires.symbols c.first_exceeded.ensures in
     all_right ps (passed ps Limits (λ (e : Excess). fault.Limit e.which e.count) c.first_exceeded.result five limits c.in_default-first_exceeded.is)

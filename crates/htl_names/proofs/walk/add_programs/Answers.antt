@@ -1,8 +1,7 @@
 use Rattle.std.proofs.Common.{◌+◌, suc, map, drop, length, add-one, ap, sym, ◌∙◌}
 use Rattle.htl_text.specs.Nodes.{program_of}
 use Rattle.htl_names.specs.Rows.{joined, program_rows, programs_rows}
-use Rattle.htl_names.proofs.RowLaws.{joined-assoc, programs_step, few_more}
-use Rattle.htl_names.proofs.Walking.{front_map}
+use Rattle.htl_names.proofs.Walking.{joined-assoc, programs_step, few_more, front_map}
 use Rattle.htl_names.proofs.walk.add_programs.Goals as goal
 
 pub loop-p-preserved : goal.loop-p-preserved

@@ -37,7 +37,7 @@ returns-clause-spelled c =
     let o14 = c.put_tail.new.out.items in
     let ms = length p.modes in
     let t14 = tail_bytes o.platform o.schedules in
-    let t13 = e_code_bytes o.ecode.instrs ++ t14 in
+    let t13 = e_code_bytes o.ecode.instrs in
     let t12 = flat_map anchors_bytes (list_to (anchors_of o.ecode) ms) ++ t13 in
     let t11 = flat_map code_bytes (codes_of (map fun_of p.functions)) ++ t12 in
     let t10 = flat_map switch_bytes p.switches ++ t11 in
@@ -60,20 +60,19 @@ returns-clause-spelled c =
     let f12 : o12 ≡ o11 ++ (flat_map anchors_bytes (list_to (anchors_of o.ecode) ms)) = (rw c.as_slice-9.ensures at c.in_ok-put_anchors.ensures.spelled) in
     let f13 : o13 ≡ o12 ++ (e_code_bytes o.ecode.instrs) = (rw c.as_slice-10.ensures at c.in_ok-put_long_list.ensures.spelled) in
     let f14 : o14 ≡ o13 ++ (tail_bytes o.platform o.schedules) = (rw c.as_slice-11.ensures at c.in_ok-put_tail.ensures.spelled) in
-    let e14 : o14 ≡ o13 ++ t14 = f14 in
-    let e13 : o14 ≡ o12 ++ t13 = appends o12 o13 o14 (e_code_bytes o.ecode.instrs) t14 f13 e14 in
-    let e12 : o14 ≡ o11 ++ t12 = appends o11 o12 o14 (flat_map anchors_bytes (list_to (anchors_of o.ecode) ms)) t13 f12 e13 in
-    let e11 : o14 ≡ o10 ++ t11 = appends o10 o11 o14 (flat_map code_bytes (codes_of (map fun_of p.functions))) t12 f11 e12 in
-    let e10 : o14 ≡ o9 ++ t10 = appends o9 o10 o14 (flat_map switch_bytes p.switches) t11 f10 e11 in
-    let e9 : o14 ≡ o8 ++ t9 = appends o8 o9 o14 (flat_map inv_bytes p.invs) t10 f9 e10 in
-    let e8 : o14 ≡ o7 ++ t8 = appends o7 o8 o14 (flat_map task_bytes p.tasks) t9 f8 e9 in
-    let e7 : o14 ≡ o6 ++ t7 = appends o6 o7 o14 (flat_map port_bytes p.ports) t8 f7 e8 in
-    let e6 : o14 ≡ o5 ++ t6 = appends o5 o6 o14 (flat_map module_bytes p.modules) t7 f6 e7 in
-    let e5 : o14 ≡ o4 ++ t5 = appends o4 o5 o14 (flat_map mode_bytes p.modes) t6 f5 e6 in
-    let e4 : o14 ≡ o3 ++ t4 = appends o3 o4 o14 (flat_map comm_bytes p.comms) t5 f4 e5 in
-    let e3 : o14 ≡ o2 ++ t3 = appends o2 o3 o14 (counts_bytes (counts_in t)) t4 f3 e4 in
+    let e13 : o13 ≡ o12 ++ t13 = f13 in
+    let e12 : o13 ≡ o11 ++ t12 = appends o11 o12 o13 (flat_map anchors_bytes (list_to (anchors_of o.ecode) ms)) t13 f12 e13 in
+    let e11 : o13 ≡ o10 ++ t11 = appends o10 o11 o13 (flat_map code_bytes (codes_of (map fun_of p.functions))) t12 f11 e12 in
+    let e10 : o13 ≡ o9 ++ t10 = appends o9 o10 o13 (flat_map switch_bytes p.switches) t11 f10 e11 in
+    let e9 : o13 ≡ o8 ++ t9 = appends o8 o9 o13 (flat_map inv_bytes p.invs) t10 f9 e10 in
+    let e8 : o13 ≡ o7 ++ t8 = appends o7 o8 o13 (flat_map task_bytes p.tasks) t9 f8 e9 in
+    let e7 : o13 ≡ o6 ++ t7 = appends o6 o7 o13 (flat_map port_bytes p.ports) t8 f7 e8 in
+    let e6 : o13 ≡ o5 ++ t6 = appends o5 o6 o13 (flat_map module_bytes p.modules) t7 f6 e7 in
+    let e5 : o13 ≡ o4 ++ t5 = appends o4 o5 o13 (flat_map mode_bytes p.modes) t6 f5 e6 in
+    let e4 : o13 ≡ o3 ++ t4 = appends o3 o4 o13 (flat_map comm_bytes p.comms) t5 f4 e5 in
+    let e3 : o13 ≡ o2 ++ t3 = appends o2 o3 o13 (counts_bytes (counts_in t)) t4 f3 e4 in
     let start : o2 ≡ [] ++ head_bytes o.platform = c.in_ok-put_head.ensures.spelled ∙ ap (λ (x : List ℕ). x ++ head_bytes o.platform) c.new-out.ensures.items in
-    appends [] o2 o14 (head_bytes o.platform) t3 start e3
+    f14 ∙ ap (λ (x : List ℕ). x ++ t14) (appends [] o2 o13 (head_bytes o.platform) t3 start e3)
     ∙ ap (λ (x : Tables). object_bytes (record { tables = x; ecode = o.ecode; schedules = o.schedules; platform = o.platform })) (sym c.parts-parts.ensures.value)
 
 pub returns-clause-types : goal.returns-clause-types

@@ -1,4 +1,4 @@
-use Rattle.std.proofs.Common.{length, sym, subst, arith}
+use Rattle.std.proofs.Common.{sym, subst, arith}
 use Rattle.std.specs.List.{All}
 use Rattle.htl_model.specs.Frames.{starts}
 use Rattle.htl_walk.specs.PathJobs.{placed_jobs}

@@ -1,4 +1,4 @@
-use Rattle.std.proofs.Common.{◌≡◌, ◌<◌, length, get_or, take, [], arith, sym, ap, ◌∙◌}
+use Rattle.std.proofs.Common.{◌<◌, length, get_or, take, arith, ◌∙◌}
 use Rattle.htl_model.specs.Frames.{starts}
 use Rattle.htl_walk.proofs.CodeWalk.{start_read}
 use Rattle.htl_refine.specs.DerivedPaths.{begun_places, modes_of_all}

@@ -1,9 +1,12 @@
-use Rattle.std.proofs.Common.{◌≡◌, ◌<◌, ℕ, List, Some, length, take, slice_get, ap, sym, subst, ◌∙◌}
+use Rattle.std.proofs.Common.{◌≡◌, ◌≤◌, ◌<◌, ℕ, List, Some, get_or, length, take, slice_get, ap, sym, subst, ◌∙◌, arith}
+use Rattle.std.proofs.lemmas.Option.{get_or_from_slice_get}
 use Rattle.htl_edge.specs.Content.{Puts}
 use Rattle.htl_edge.specs.declared.Failed.{Failed}
 use Rattle.htl_model.specs.Broken.{KeptTo}
 use Rattle.htl_model.specs.Selections.{root_period, round_length, selection_count}
 use Rattle.htl_model.specs.Tables.{Tables}
+use Rattle.htl_object.specs.Ranges.{IsShort}
+use Rattle.htl_object.proofs.OneRound.{schedules_are}
 use Rattle.htl_refine.specs.ConcreteJobs.{concrete_jobs}
 use Rattle.htl_refine.specs.Roots.{selection_of}
 use Rattle.htl_walk.specs.Jobs.{abstract_jobs}
@@ -17,6 +20,27 @@ use Rattle.htl_top.proofs.plan.write_plan.Goals as goal
 pub derive-count-requires-clause-kept : goal.derive-count-requires-clause-kept
 derive-count-requires-clause-kept g c =
     subst (λ (t : Tables). KeptTo t 16) (sym c.tables-t.ensures.value) (keeps_rules c.args.l.now c.tables-t.ensures.accepted c.args.s.now.modes)
+
+pub bounds-schedules-selection_of : goal.bounds-schedules-selection_of
+bounds-schedules-selection_of g c =
+    let o = c.args.l.now in
+    let sel = c.selection_of.result in
+    let below : sel < selection_count o.tables = subst (λ (t : Tables). sel < selection_count t) c.tables-t.ensures.value c.selection_of.ensures.below in
+    let many : length c.schedules.result.now ≡ selection_count o.tables = ap length c.schedules.ensures ∙ schedules_are o c.tables-t.ensures.accepted.spelled.formed in
+    omega (arith, below, many)
+
+pub write_round-requires-clause-instrs : goal.write_round-requires-clause-instrs
+write_round-requires-clause-instrs g c =
+    let o = c.args.l.now in
+    let sel = c.selection_of.result in
+    let s = c.index-schedules-selection_of.result in
+    let accepted = c.tables-t.ensures.accepted in
+    let below : sel < selection_count o.tables = subst (λ (t : Tables). sel < selection_count t) c.tables-t.ensures.value c.selection_of.ensures.below in
+    let at = schedule_here o accepted c.args.s.now.modes c.schedules.result.now sel s c.schedules.ensures below c.index-schedules-selection_of.is in
+    let inside : sel < length o.schedules = omega (arith, below, schedules_are o accepted.spelled.formed) in
+    let same : get_or o.schedules sel s ≡ s = get_or_from_slice_get o.schedules sel s s at in
+    let short : length s.instrs ≤ 4294967295 = subst IsShort same (accepted.spelled.formed.ranges.short sel s inside) in
+    omega (arith, short, ap length c.as_slice.ensures)
 
 pub write_round-requires-clause-form : goal.write_round-requires-clause-form
 write_round-requires-clause-form g c =

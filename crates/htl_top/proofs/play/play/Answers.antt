@@ -4,7 +4,8 @@ use Rattle.htl_script.proofs.Taken.{taken_none, taken_on, taken_more, taken_all}
 use Rattle.htl_script.specs.Streaming.{Gives, Goes, IsAnswer, LosesPiece, at_start}
 use Rattle.htl_script.specs.declared.fault.ScriptFault.{ScriptFault}
 use Rattle.htl_script.specs.declared.fault.ScriptStop.{ScriptStop}
-use Rattle.htl_top.proofs.Streaming.{playing_start, heard, told_on, told_cut, read_cut, faulty, over, over_done, over_cut, rose_since}
+use Rattle.htl_top.proofs.StreamEnd.{over, over_done, over_cut}
+use Rattle.htl_top.proofs.Streaming.{playing_start, heard, told_on, told_cut, read_cut, faulty, rose_since}
 use Rattle.htl_top.specs.Runs.{IsFaultyRun}
 use Rattle.htl_top.proofs.play.play.Goals as goal
 

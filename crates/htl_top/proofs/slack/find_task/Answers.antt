@@ -1,4 +1,4 @@
-use Rattle.std.proofs.Common.{◌≡◌, ◌≤◌, length, sym, ap, ◌∙◌, arith}
+use Rattle.std.proofs.Common.{◌≤◌, length, sym, ap, ◌∙◌, arith}
 use Rattle.htl_model.specs.Tables.{Tables}
 use Rattle.htl_top.proofs.Slacking.{NoneBelow-all}
 use Rattle.htl_top.proofs.slack.find_task.Goals as goal

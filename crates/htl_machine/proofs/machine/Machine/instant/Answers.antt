@@ -1,4 +1,4 @@
-use Rattle.std.proofs.Common.{◌≤◌, ◌<◌, ◌∙◌, [], length, Err, Ok, refl, sym, ap, subst}
+use Rattle.std.proofs.Common.{◌≤◌, ◌<◌, ◌∙◌, [], length, Err, Ok, refl, sym, ap, subst, arith}
 use Rattle.htl_edge.specs.Content.{Puts}
 use Rattle.htl_edge.specs.declared.Failed.{Failed}
 use Rattle.htl_smach.specs.Rounds.{Round}
@@ -12,15 +12,42 @@ use Rattle.htl_machine.specs.Opening.{first_records}
 use Rattle.htl_machine.specs.Recording.{AreOf}
 use Rattle.htl_machine.specs.Programs.{lines_of, schedules_of}
 use Rattle.htl_machine.specs.declared.tally.Tally.{Tally}
-use Rattle.htl_machine.proofs.After.{passed_of, next_up_to, desk_goes_on, selection_goes_on, over, begins_some, desk_begins_so, selection_begins, records_go_on, records_begin}
+use Rattle.htl_machine.proofs.After.{passed_of, desk_goes_on, selection_goes_on, over, begins_some, desk_begins_so, selection_begins, records_go_on, records_begin}
 use Rattle.htl_machine.proofs.Asking.{sound_of, noted_of, begun_at, counts_at}
 use Rattle.htl_machine.proofs.Beginnings.{ends_so, fails_so}
 use Rattle.htl_machine.proofs.Ended.{open_failed, going_closed, begun_closed_at}
 use Rattle.htl_machine.proofs.Readying.{replay_only}
 use Rattle.htl_machine.proofs.Ready.{ready, selection_known}
+use Rattle.htl_machine.proofs.ShownOn.{next_shown_up_to, noted_marks}
 use Rattle.htl_machine.proofs.ToClose.{follows_at, to_close, to_close_and_begin}
 use Rattle.htl_machine.proofs.Viewing.{seen_in}
+use Rattle.htl_machine.proofs.Waits.{waiting_at, waiting_stays}
 use Rattle.htl_machine.proofs.machine.Machine.instant.Goals as goal
+
+pub settle-requires-clause-comms : goal.settle-requires-clause-comms
+settle-requires-clause-comms g c =
+    let w = c.requires.before in
+    let u = subst (λ (z : Seen). IsUpTo z w.0 c.args.at) (sym c.self.view_is) w.1 in
+    omega (arith, u.before.values.shaped.values.count, c.self.invariant.accepted.spelled.formed.ranges.tables.few_comms)
+
+pub settle-requires-clause-modules : goal.settle-requires-clause-modules
+settle-requires-clause-modules g c =
+    let w = c.requires.before in
+    let u = subst (λ (z : Seen). IsUpTo z w.0 c.args.at) (sym c.self.view_is) w.1 in
+    omega (arith, u.before.values.triggers.calendar.sized.modes, c.self.invariant.accepted.spelled.formed.ranges.tables.few_modules)
+
+pub settle-requires-clause-marked : goal.settle-requires-clause-marked
+settle-requires-clause-marked g c =
+    let w = c.requires.before in
+    c.self.invariant.marked (ap (λ (z : Seen). z.held.spent) c.self.view_is ∙ w.1.kept.fresh)
+
+pub open_instant-requires-clause-marked : goal.open_instant-requires-clause-marked
+open_instant-requires-clause-marked g c = noted_marks c.settle.new.self _ _ c.settle.ensures.values c.settle.ensures.modes
+
+pub open_instant-requires-clause-waiting : goal.open_instant-requires-clause-waiting
+open_instant-requires-clause-waiting g c =
+    let w = c.requires.before in
+    waiting_at c.tables-t.result.now c.self.inside.loaded.now.tables c.self.inside.sensors _ c.tables-t.ensures.value (c.self.invariant.waiting (ap (λ (z : Seen). z.held.spent) c.self.view_is ∙ w.1.kept.fresh))
 
 pub schedule_of-requires : goal.schedule_of-requires
 schedule_of-requires g c =
@@ -129,7 +156,7 @@ open_instant-requires-clause-shows g c =
     let m = seen_in c.self.inside in
     let ok = c.self.invariant.accepted in
     let u = subst (λ (z : Seen). IsUpTo z w.0 c.args.at) (sym c.self.view_is) w.1 in
-    rw (c.tables-t.ensures.value, c.as_slice.ensures) u.kept.fits
+    rw c.tables-t.ensures.value u.kept.fits
 
 pub open_instant-requires-clause-values : goal.open_instant-requires-clause-values
 open_instant-requires-clause-values g c =
@@ -137,7 +164,7 @@ open_instant-requires-clause-values g c =
     let m = seen_in c.self.inside in
     let ok = c.self.invariant.accepted in
     let u = subst (λ (z : Seen). IsUpTo z w.0 c.args.at) (sym c.self.view_is) w.1 in
-    rw (c.tables-t.ensures.value, c.as_slice-2.ensures) (subst (HasValues m.object.tables) (sym c.note_values.ensures) u.before.values.shaped.values)
+    rw c.tables-t.ensures.value (subst (HasValues m.object.tables) (sym c.settle.ensures.values) u.before.values.shaped.values)
 
 pub open_instant-requires-clause-follows : goal.open_instant-requires-clause-follows
 open_instant-requires-clause-follows g c =
@@ -214,7 +241,7 @@ close_and_begin-requires-clause-over g c =
     let u = subst (λ (z : Seen). IsUpTo z w.0 c.args.at) (sym c.self.view_is) w.1 in
     let r = ready m w.0 c.args.at c.self.inside.idle.instrs ok u later c.self.invariant.empty in
     let f = follows_at m.object w.0 c.args.at c.tables-t.result.now c.ecode-code.result.now m.standing c.tables-t.ensures.value c.ecode-code.ensures u.before.values.triggers in
-    let opened = rw (c.tables-t.ensures.value, c.ecode-code.ensures, c.schedule_of.ensures, c.as_slice.ensures, c.as_slice-2.ensures) at (c.in_default.ensures.world w.0 f) in
+    let opened = rw (c.tables-t.ensures.value, c.ecode-code.ensures, c.schedule_of.ensures) at (c.in_default.ensures.world w.0 f) in
     let b = sym (rw c.tables-t.ensures.value at c.round_begins.ensures) ∙ c.if-round_begins.true in
     over m w.0 c.args.at ok later u _ c.self.inside.idle.instrs refl c.self.invariant.empty r _ _ b opened.records
 
@@ -230,7 +257,7 @@ close_and_begin-requires-clause-few g c =
     let m = seen_in c.self.inside in
     let ok = c.self.invariant.accepted in
     let u = subst (λ (z : Seen). IsUpTo z w.0 c.args.at) (sym c.self.view_is) w.1 in
-    (noted_of m w.0 c.args.at c.tables-t.result.now _ _ u c.tables-t.ensures.value (c.as_slice-then-round_begins-2.ensures ∙ c.note_values.ensures) (c.as_slice-then-round_begins-3.ensures ∙ c.note_modes.ensures)).few
+    (noted_of m w.0 c.args.at c.tables-t.result.now _ _ u c.tables-t.ensures.value (c.in_default.ensures.noted.values ∙ c.settle.ensures.values) (c.in_default.ensures.noted.modes ∙ c.settle.ensures.modes)).few
 
 pub close_and_begin-requires-clause-modules : goal.close_and_begin-requires-clause-modules
 close_and_begin-requires-clause-modules g c =
@@ -238,7 +265,7 @@ close_and_begin-requires-clause-modules g c =
     let m = seen_in c.self.inside in
     let ok = c.self.invariant.accepted in
     let u = subst (λ (z : Seen). IsUpTo z w.0 c.args.at) (sym c.self.view_is) w.1 in
-    (noted_of m w.0 c.args.at c.tables-t.result.now _ _ u c.tables-t.ensures.value (c.as_slice-then-round_begins-2.ensures ∙ c.note_values.ensures) (c.as_slice-then-round_begins-3.ensures ∙ c.note_modes.ensures)).modules
+    (noted_of m w.0 c.args.at c.tables-t.result.now _ _ u c.tables-t.ensures.value (c.in_default.ensures.noted.values ∙ c.settle.ensures.values) (c.in_default.ensures.noted.modes ∙ c.settle.ensures.modes)).modules
 
 pub close_and_begin-requires-clause-begins : goal.close_and_begin-requires-clause-begins
 close_and_begin-requires-clause-begins g c =
@@ -249,10 +276,10 @@ close_and_begin-requires-clause-begins g c =
     let u = subst (λ (z : Seen). IsUpTo z w.0 c.args.at) (sym c.self.view_is) w.1 in
     let r = ready m w.0 c.args.at c.self.inside.idle.instrs ok u later c.self.invariant.empty in
     let f = follows_at m.object w.0 c.args.at c.tables-t.result.now c.ecode-code.result.now m.standing c.tables-t.ensures.value c.ecode-code.ensures u.before.values.triggers in
-    let opened = rw (c.tables-t.ensures.value, c.ecode-code.ensures, c.schedule_of.ensures, c.as_slice.ensures, c.as_slice-2.ensures) at (c.in_default.ensures.world w.0 f) in
+    let opened = rw (c.tables-t.ensures.value, c.ecode-code.ensures, c.schedule_of.ensures) at (c.in_default.ensures.world w.0 f) in
     let b = sym (rw c.tables-t.ensures.value at c.round_begins.ensures) ∙ c.if-round_begins.true in
-    let z = to_close m w.0 c.args.at c.tables-t.result.now c.ecode-code.result.now c.tables-t.ensures.value c.ecode-code.ensures ok later u _ r c.note_values.new.values c.note_values.ensures _ _ opened _ (c.as_slice-then-round_begins-2.ensures ∙ c.note_values.ensures) _ (c.as_slice-then-round_begins-3.ensures ∙ c.note_modes.ensures) _ (c.in_default.ensures.writes w.0 f) in
-    let q = to_close_and_begin m w.0 c.args.at c.tables-t.result.now c.ecode-code.result.now c.schedules.result.now _ c.tables-t.ensures.value c.ecode-code.ensures c.schedules.ensures c.as_slice-then-round_begins.ensures ok later u b _ _ _ _ z in
+    let z = to_close m w.0 c.args.at c.tables-t.result.now c.ecode-code.result.now c.tables-t.ensures.value c.ecode-code.ensures ok later u _ r c.settle.new.self.values c.settle.ensures.values _ _ opened _ (c.in_default.ensures.noted.values ∙ c.settle.ensures.values) _ (c.in_default.ensures.noted.modes ∙ c.settle.ensures.modes) _ (c.in_default.ensures.writes w.0 f) in
+    let q = to_close_and_begin m w.0 c.args.at c.tables-t.result.now c.ecode-code.result.now c.schedules.result.now _ c.tables-t.ensures.value c.ecode-code.ensures c.schedules.ensures c.as_slice.ensures ok later u b _ _ _ _ z in
     (w.0, q)
 
 pub close_instant-requires-clause-form : goal.close_instant-requires-clause-form
@@ -287,7 +314,7 @@ close_instant-requires-clause-few g c =
     let m = seen_in c.self.inside in
     let ok = c.self.invariant.accepted in
     let u = subst (λ (z : Seen). IsUpTo z w.0 c.args.at) (sym c.self.view_is) w.1 in
-    (noted_of m w.0 c.args.at c.tables-t.result.now _ _ u c.tables-t.ensures.value (c.as_slice-else-round_begins.ensures ∙ c.note_values.ensures) (c.as_slice-else-round_begins-2.ensures ∙ c.note_modes.ensures)).few
+    (noted_of m w.0 c.args.at c.tables-t.result.now _ _ u c.tables-t.ensures.value (c.in_default.ensures.noted.values ∙ c.settle.ensures.values) (c.in_default.ensures.noted.modes ∙ c.settle.ensures.modes)).few
 
 pub close_instant-requires-clause-modules : goal.close_instant-requires-clause-modules
 close_instant-requires-clause-modules g c =
@@ -295,7 +322,7 @@ close_instant-requires-clause-modules g c =
     let m = seen_in c.self.inside in
     let ok = c.self.invariant.accepted in
     let u = subst (λ (z : Seen). IsUpTo z w.0 c.args.at) (sym c.self.view_is) w.1 in
-    (noted_of m w.0 c.args.at c.tables-t.result.now _ _ u c.tables-t.ensures.value (c.as_slice-else-round_begins.ensures ∙ c.note_values.ensures) (c.as_slice-else-round_begins-2.ensures ∙ c.note_modes.ensures)).modules
+    (noted_of m w.0 c.args.at c.tables-t.result.now _ _ u c.tables-t.ensures.value (c.in_default.ensures.noted.values ∙ c.settle.ensures.values) (c.in_default.ensures.noted.modes ∙ c.settle.ensures.modes)).modules
 
 pub close_instant-requires-clause-closes : goal.close_instant-requires-clause-closes
 close_instant-requires-clause-closes g c =
@@ -306,8 +333,8 @@ close_instant-requires-clause-closes g c =
     let u = subst (λ (z : Seen). IsUpTo z w.0 c.args.at) (sym c.self.view_is) w.1 in
     let r = ready m w.0 c.args.at c.self.inside.idle.instrs ok u later c.self.invariant.empty in
     let f = follows_at m.object w.0 c.args.at c.tables-t.result.now c.ecode-code.result.now m.standing c.tables-t.ensures.value c.ecode-code.ensures u.before.values.triggers in
-    let opened = rw (c.tables-t.ensures.value, c.ecode-code.ensures, c.schedule_of.ensures, c.as_slice.ensures, c.as_slice-2.ensures) at (c.in_default.ensures.world w.0 f) in
-    let q = to_close m w.0 c.args.at c.tables-t.result.now c.ecode-code.result.now c.tables-t.ensures.value c.ecode-code.ensures ok later u _ r c.note_values.new.values c.note_values.ensures _ _ opened _ (c.as_slice-else-round_begins.ensures ∙ c.note_values.ensures) _ (c.as_slice-else-round_begins-2.ensures ∙ c.note_modes.ensures) _ (c.in_default.ensures.writes w.0 f) in
+    let opened = rw (c.tables-t.ensures.value, c.ecode-code.ensures, c.schedule_of.ensures) at (c.in_default.ensures.world w.0 f) in
+    let q = to_close m w.0 c.args.at c.tables-t.result.now c.ecode-code.result.now c.tables-t.ensures.value c.ecode-code.ensures ok later u _ r c.settle.new.self.values c.settle.ensures.values _ _ opened _ (c.in_default.ensures.noted.values ∙ c.settle.ensures.values) _ (c.in_default.ensures.noted.modes ∙ c.settle.ensures.modes) _ (c.in_default.ensures.writes w.0 f) in
     (w.0, q)
 
 pub returns-in-Err-close_instant-clause-text : goal.returns-in-Err-close_instant-clause-text
@@ -318,9 +345,9 @@ returns-in-Err-close_instant-clause-text g c = λ es before.
     let u = subst (λ (z : Seen). IsUpTo z es c.args.at) (sym c.self.view_is) before in
     let r = ready m es c.args.at c.self.inside.idle.instrs ok u later c.self.invariant.empty in
     let f = follows_at m.object es c.args.at c.tables-t.result.now c.ecode-code.result.now m.standing c.tables-t.ensures.value c.ecode-code.ensures u.before.values.triggers in
-    let opened = rw (c.tables-t.ensures.value, c.ecode-code.ensures, c.schedule_of.ensures, c.as_slice.ensures, c.as_slice-2.ensures) at (c.in_default.ensures.world es f) in
+    let opened = rw (c.tables-t.ensures.value, c.ecode-code.ensures, c.schedule_of.ensures) at (c.in_default.ensures.world es f) in
     let b = sym (rw c.tables-t.ensures.value at c.round_begins.ensures) ∙ c.if-round_begins.false in
-    let q = to_close m es c.args.at c.tables-t.result.now c.ecode-code.result.now c.tables-t.ensures.value c.ecode-code.ensures ok later u _ r c.note_values.new.values c.note_values.ensures _ _ opened _ (c.as_slice-else-round_begins.ensures ∙ c.note_values.ensures) _ (c.as_slice-else-round_begins-2.ensures ∙ c.note_modes.ensures) _ (c.in_default.ensures.writes es f) in
+    let q = to_close m es c.args.at c.tables-t.result.now c.ecode-code.result.now c.tables-t.ensures.value c.ecode-code.ensures ok later u _ r c.settle.new.self.values c.settle.ensures.values _ _ opened _ (c.in_default.ensures.noted.values ∙ c.settle.ensures.values) _ (c.in_default.ensures.noted.modes ∙ c.settle.ensures.modes) _ (c.in_default.ensures.writes es f) in
     let text = rw (c.tables-t.ensures.value, c.ecode-code.ensures, c.schedule_of.ensures, c.number_of.ensures) at (c.in_default.ensures.text es f) in
     let rest = rw (c.tables-t.ensures.value, c.ecode-code.ensures) at (c.in-Err-close_instant.ensures.text es q) in
     subst (λ (z : Seen). Puts {T = Unit {0}} {E = Failed} (g.W.Sink.written c.args.sink.now) (g.W.Sink.written c.close_instant.new.sink) (g.W.Sink.faults c.args.sink.now) (g.W.Sink.faults c.close_instant.new.sink) (lines_of z.object es z.show c.args.at) (Err c.in-Err-close_instant.failed))
@@ -335,20 +362,21 @@ invariant_of-self-in_default-close_instant g c =
     let u = subst (λ (z : Seen). IsUpTo z w.0 c.args.at) (sym c.self.view_is) w.1 in
     let r = ready m w.0 c.args.at c.self.inside.idle.instrs ok u later c.self.invariant.empty in
     let f = follows_at m.object w.0 c.args.at c.tables-t.result.now c.ecode-code.result.now m.standing c.tables-t.ensures.value c.ecode-code.ensures u.before.values.triggers in
-    let opened = rw (c.tables-t.ensures.value, c.ecode-code.ensures, c.schedule_of.ensures, c.as_slice.ensures, c.as_slice-2.ensures) at (c.in_default.ensures.world w.0 f) in
-    let q = to_close m w.0 c.args.at c.tables-t.result.now c.ecode-code.result.now c.tables-t.ensures.value c.ecode-code.ensures ok later u _ r c.note_values.new.values c.note_values.ensures _ _ opened _ (c.as_slice-else-round_begins.ensures ∙ c.note_values.ensures) _ (c.as_slice-else-round_begins-2.ensures ∙ c.note_modes.ensures) _ (c.in_default.ensures.writes w.0 f) in
-    let noted = noted_of m w.0 c.args.at m.object.tables c.note_values.new.values c.note_modes.new.modes.modes u refl c.note_values.ensures c.note_modes.ensures in
+    let opened = rw (c.tables-t.ensures.value, c.ecode-code.ensures, c.schedule_of.ensures) at (c.in_default.ensures.world w.0 f) in
+    let q = to_close m w.0 c.args.at c.tables-t.result.now c.ecode-code.result.now c.tables-t.ensures.value c.ecode-code.ensures ok later u _ r c.settle.new.self.values c.settle.ensures.values _ _ opened _ (c.in_default.ensures.noted.values ∙ c.settle.ensures.values) _ (c.in_default.ensures.noted.modes ∙ c.settle.ensures.modes) _ (c.in_default.ensures.writes w.0 f) in
     let kept = c.self.invariant in
     let desk = c.in_default-close_instant.ensures.desk w.0 q in
     record {
       accepted = kept.accepted;
-      all_shows = kept.all_shows;
+      all_shows = ap length c.in_default.ensures.shows ∙ kept.all_shows;
       all_takes = kept.all_takes;
-      all_values = noted.few;
-      all_modes = noted.modules;
       few = kept.few;
       all_selected = kept.all_selected;
       are = λ free. kept.are free ∙ sym (ap (λ (z : Round). z.jobs) desk ∙ (replay_only c.ecode-code.result.now (phase_path c.tables-t.result.now c.ecode-code.result.now w.0 c.args.at 3) c.open_instant.new.desk).0 ∙ c.in_default.ensures.jobs);
+      marked = λ free. c.in_default-close_instant.ensures.marked;
+      waiting = λ free.
+          waiting_at m.object.tables c.tables-t.result.now c.open_instant.new.sensors c.close_instant.new.world.values (sym c.tables-t.ensures.value)
+          (waiting_stays c.tables-t.result.now c.open_instant.new.sensors c.open_instant.new.world.values c.close_instant.new.world.values c.in_default.ensures.waiting c.in_default-close_instant.ensures.sensors);
       empty = kept.empty;
     }
 
@@ -361,22 +389,23 @@ invariant_of-self-in-Ok g c =
     let u = subst (λ (z : Seen). IsUpTo z w.0 c.args.at) (sym c.self.view_is) w.1 in
     let r = ready m w.0 c.args.at c.self.inside.idle.instrs ok u later c.self.invariant.empty in
     let f = follows_at m.object w.0 c.args.at c.tables-t.result.now c.ecode-code.result.now m.standing c.tables-t.ensures.value c.ecode-code.ensures u.before.values.triggers in
-    let opened = rw (c.tables-t.ensures.value, c.ecode-code.ensures, c.schedule_of.ensures, c.as_slice.ensures, c.as_slice-2.ensures) at (c.in_default.ensures.world w.0 f) in
+    let opened = rw (c.tables-t.ensures.value, c.ecode-code.ensures, c.schedule_of.ensures) at (c.in_default.ensures.world w.0 f) in
     let b = sym (rw c.tables-t.ensures.value at c.round_begins.ensures) ∙ c.if-round_begins.true in
-    let z = to_close m w.0 c.args.at c.tables-t.result.now c.ecode-code.result.now c.tables-t.ensures.value c.ecode-code.ensures ok later u _ r c.note_values.new.values c.note_values.ensures _ _ opened _ (c.as_slice-then-round_begins-2.ensures ∙ c.note_values.ensures) _ (c.as_slice-then-round_begins-3.ensures ∙ c.note_modes.ensures) _ (c.in_default.ensures.writes w.0 f) in
-    let q = to_close_and_begin m w.0 c.args.at c.tables-t.result.now c.ecode-code.result.now c.schedules.result.now _ c.tables-t.ensures.value c.ecode-code.ensures c.schedules.ensures c.as_slice-then-round_begins.ensures ok later u b _ _ _ _ z in
-    let noted = noted_of m w.0 c.args.at m.object.tables c.note_values.new.values c.note_modes.new.modes.modes u refl c.note_values.ensures c.note_modes.ensures in
+    let z = to_close m w.0 c.args.at c.tables-t.result.now c.ecode-code.result.now c.tables-t.ensures.value c.ecode-code.ensures ok later u _ r c.settle.new.self.values c.settle.ensures.values _ _ opened _ (c.in_default.ensures.noted.values ∙ c.settle.ensures.values) _ (c.in_default.ensures.noted.modes ∙ c.settle.ensures.modes) _ (c.in_default.ensures.writes w.0 f) in
+    let q = to_close_and_begin m w.0 c.args.at c.tables-t.result.now c.ecode-code.result.now c.schedules.result.now _ c.tables-t.ensures.value c.ecode-code.ensures c.schedules.ensures c.as_slice.ensures ok later u b _ _ _ _ z in
     let kept = c.self.invariant in
     let desk = c.in-Ok.ensures.desk w.0 q in
     record {
       accepted = kept.accepted;
-      all_shows = kept.all_shows;
+      all_shows = ap length c.in_default.ensures.shows ∙ kept.all_shows;
       all_takes = kept.all_takes;
-      all_values = noted.few;
-      all_modes = noted.modules;
       few = c.in-Ok.ensures.few;
       all_selected = λ free. c.in-Ok.ensures.room ∙ ap (λ z. length z.modules) c.tables-t.ensures.value;
       are = λ free. c.in-Ok.ensures.jobs w.0 q ∙ sym desk.jobs;
+      marked = λ free. c.in-Ok.ensures.marked;
+      waiting = λ free.
+          waiting_at m.object.tables c.tables-t.result.now c.open_instant.new.sensors c.close_and_begin.new.world.values (sym c.tables-t.ensures.value)
+          (waiting_stays c.tables-t.result.now c.open_instant.new.sensors c.open_instant.new.world.values c.close_and_begin.new.world.values c.in_default.ensures.waiting c.in-Ok.ensures.sensors);
       empty = kept.empty;
     }
 
@@ -388,10 +417,10 @@ returns-in-Ok-clause-text g c = λ es before.
     let u = subst (λ (z : Seen). IsUpTo z es c.args.at) (sym c.self.view_is) before in
     let r = ready m es c.args.at c.self.inside.idle.instrs ok u later c.self.invariant.empty in
     let f = follows_at m.object es c.args.at c.tables-t.result.now c.ecode-code.result.now m.standing c.tables-t.ensures.value c.ecode-code.ensures u.before.values.triggers in
-    let opened = rw (c.tables-t.ensures.value, c.ecode-code.ensures, c.schedule_of.ensures, c.as_slice.ensures, c.as_slice-2.ensures) at (c.in_default.ensures.world es f) in
+    let opened = rw (c.tables-t.ensures.value, c.ecode-code.ensures, c.schedule_of.ensures) at (c.in_default.ensures.world es f) in
     let b = sym (rw c.tables-t.ensures.value at c.round_begins.ensures) ∙ c.if-round_begins.true in
-    let z = to_close m es c.args.at c.tables-t.result.now c.ecode-code.result.now c.tables-t.ensures.value c.ecode-code.ensures ok later u _ r c.note_values.new.values c.note_values.ensures _ _ opened _ (c.as_slice-then-round_begins-2.ensures ∙ c.note_values.ensures) _ (c.as_slice-then-round_begins-3.ensures ∙ c.note_modes.ensures) _ (c.in_default.ensures.writes es f) in
-    let q = to_close_and_begin m es c.args.at c.tables-t.result.now c.ecode-code.result.now c.schedules.result.now _ c.tables-t.ensures.value c.ecode-code.ensures c.schedules.ensures c.as_slice-then-round_begins.ensures ok later u b _ _ _ _ z in
+    let z = to_close m es c.args.at c.tables-t.result.now c.ecode-code.result.now c.tables-t.ensures.value c.ecode-code.ensures ok later u _ r c.settle.new.self.values c.settle.ensures.values _ _ opened _ (c.in_default.ensures.noted.values ∙ c.settle.ensures.values) _ (c.in_default.ensures.noted.modes ∙ c.settle.ensures.modes) _ (c.in_default.ensures.writes es f) in
+    let q = to_close_and_begin m es c.args.at c.tables-t.result.now c.ecode-code.result.now c.schedules.result.now _ c.tables-t.ensures.value c.ecode-code.ensures c.schedules.ensures c.as_slice.ensures ok later u b _ _ _ _ z in
     let text = rw (c.tables-t.ensures.value, c.ecode-code.ensures, c.schedule_of.ensures, c.number_of.ensures) at (c.in_default.ensures.text es f) in
     subst (λ (z : Seen). Puts {T = Unit {0}} {E = Failed} (g.W.Sink.written c.args.sink.now) (g.W.Sink.written c.close_and_begin.new.sink) (g.W.Sink.faults c.args.sink.now) (g.W.Sink.faults c.close_and_begin.new.sink) (lines_of z.object es z.show c.args.at) (Ok _))
     c.self.view_is (begun_closed_at m es c.args.at ok later u _ r c.tables-t.result.now c.ecode-code.result.now c.schedules.result.now _ _ _ _ _ _ _ _ c.tables-t.ensures.value c.ecode-code.ensures c.schedules.ensures b text (ends_so _ _ _ _ _ _ _ (c.in-Ok.ensures.text es q)))
@@ -404,11 +433,11 @@ returns-in-Ok-clause-before g c = λ es before.
     let u = subst (λ (z : Seen). IsUpTo z es c.args.at) (sym c.self.view_is) before in
     let r = ready m es c.args.at c.self.inside.idle.instrs ok u later c.self.invariant.empty in
     let f = follows_at m.object es c.args.at c.tables-t.result.now c.ecode-code.result.now m.standing c.tables-t.ensures.value c.ecode-code.ensures u.before.values.triggers in
-    let opened = rw (c.tables-t.ensures.value, c.ecode-code.ensures, c.schedule_of.ensures, c.as_slice.ensures, c.as_slice-2.ensures) at (c.in_default.ensures.world es f) in
-    let same = c.note_values.ensures ∙ u.before.values.values.values in
+    let opened = rw (c.tables-t.ensures.value, c.ecode-code.ensures, c.schedule_of.ensures) at (c.in_default.ensures.world es f) in
+    let same = c.settle.ensures.values ∙ u.before.values.values.values in
     let b = sym (rw c.tables-t.ensures.value at c.round_begins.ensures) ∙ c.if-round_begins.true in
-    let z = to_close m es c.args.at c.tables-t.result.now c.ecode-code.result.now c.tables-t.ensures.value c.ecode-code.ensures ok later u _ r c.note_values.new.values c.note_values.ensures _ _ opened _ (c.as_slice-then-round_begins-2.ensures ∙ c.note_values.ensures) _ (c.as_slice-then-round_begins-3.ensures ∙ c.note_modes.ensures) _ (c.in_default.ensures.writes es f) in
-    let q = to_close_and_begin m es c.args.at c.tables-t.result.now c.ecode-code.result.now c.schedules.result.now _ c.tables-t.ensures.value c.ecode-code.ensures c.schedules.ensures c.as_slice-then-round_begins.ensures ok later u b _ _ _ _ z in
+    let z = to_close m es c.args.at c.tables-t.result.now c.ecode-code.result.now c.tables-t.ensures.value c.ecode-code.ensures ok later u _ r c.settle.new.self.values c.settle.ensures.values _ _ opened _ (c.in_default.ensures.noted.values ∙ c.settle.ensures.values) _ (c.in_default.ensures.noted.modes ∙ c.settle.ensures.modes) _ (c.in_default.ensures.writes es f) in
+    let q = to_close_and_begin m es c.args.at c.tables-t.result.now c.ecode-code.result.now c.schedules.result.now _ c.tables-t.ensures.value c.ecode-code.ensures c.schedules.ensures c.as_slice.ensures ok later u b _ _ _ _ z in
     let counts = rw (c.tables-t.ensures.value, c.ecode-code.ensures, c.schedule_of.ensures) at (c.in_default.ensures.counts es f) in
     let more = counts_at m.object es c.args.at c.tables-t.result.now c.ecode-code.result.now c.schedules.result.now c.close_and_begin.new.tally c.open_instant.new.tally c.tables-t.ensures.value c.ecode-code.ensures c.schedules.ensures (c.in-Ok.ensures.counts es q) in
     let world = rw (c.tables-t.ensures.value, c.ecode-code.ensures) at (c.in-Ok.ensures.world es q) in
@@ -420,8 +449,8 @@ returns-in-Ok-clause-before g c = λ es before.
     let t = m.object.tables in
     let code = m.object.ecode in
     let tail : Tally → Tally = λ n. with_records (first_records t (schedules_of m.object) es c.args.at) (with_instrs (length (phase_path t code es c.args.at 3)) (with_instrs (length (phase_path t code es c.args.at 2)) n)) in
-    next_up_to m es c.args.at ok later u c.close_and_begin.new.world c.close_and_begin.new.desk c.close_and_begin.new.m _ _ (first_records t (schedules_of m.object) es c.args.at) c.self.inside.tally c.close_and_begin.new.tally
-    (passed_of m es c.args.at ok later u _ r c.note_values.new.values same _ _ opened _ _ world reads safe shaped)
+    next_shown_up_to m es c.args.at ok later u c.open_instant.new.sensors.shows c.close_and_begin.new.world c.close_and_begin.new.desk c.close_and_begin.new.m _ _ (first_records t (schedules_of m.object) es c.args.at) c.self.inside.tally c.close_and_begin.new.tally c.in_default.ensures.shows
+    (passed_of m es c.args.at ok later u _ r c.settle.new.self.values same _ _ opened _ _ world reads safe shaped)
     (desk_begins_so m es c.args.at ok later u _ b desk)
     (selection_begins m es c.args.at ok later u _ b goes)
     (records_begin m es c.args.at ok later u _ c.self.inside.idle.instrs refl c.self.invariant.empty r b)
@@ -436,10 +465,10 @@ returns-in-Err-close_and_begin-clause-text g c = λ es before.
     let u = subst (λ (z : Seen). IsUpTo z es c.args.at) (sym c.self.view_is) before in
     let r = ready m es c.args.at c.self.inside.idle.instrs ok u later c.self.invariant.empty in
     let f = follows_at m.object es c.args.at c.tables-t.result.now c.ecode-code.result.now m.standing c.tables-t.ensures.value c.ecode-code.ensures u.before.values.triggers in
-    let opened = rw (c.tables-t.ensures.value, c.ecode-code.ensures, c.schedule_of.ensures, c.as_slice.ensures, c.as_slice-2.ensures) at (c.in_default.ensures.world es f) in
+    let opened = rw (c.tables-t.ensures.value, c.ecode-code.ensures, c.schedule_of.ensures) at (c.in_default.ensures.world es f) in
     let b = sym (rw c.tables-t.ensures.value at c.round_begins.ensures) ∙ c.if-round_begins.true in
-    let z = to_close m es c.args.at c.tables-t.result.now c.ecode-code.result.now c.tables-t.ensures.value c.ecode-code.ensures ok later u _ r c.note_values.new.values c.note_values.ensures _ _ opened _ (c.as_slice-then-round_begins-2.ensures ∙ c.note_values.ensures) _ (c.as_slice-then-round_begins-3.ensures ∙ c.note_modes.ensures) _ (c.in_default.ensures.writes es f) in
-    let q = to_close_and_begin m es c.args.at c.tables-t.result.now c.ecode-code.result.now c.schedules.result.now _ c.tables-t.ensures.value c.ecode-code.ensures c.schedules.ensures c.as_slice-then-round_begins.ensures ok later u b _ _ _ _ z in
+    let z = to_close m es c.args.at c.tables-t.result.now c.ecode-code.result.now c.tables-t.ensures.value c.ecode-code.ensures ok later u _ r c.settle.new.self.values c.settle.ensures.values _ _ opened _ (c.in_default.ensures.noted.values ∙ c.settle.ensures.values) _ (c.in_default.ensures.noted.modes ∙ c.settle.ensures.modes) _ (c.in_default.ensures.writes es f) in
+    let q = to_close_and_begin m es c.args.at c.tables-t.result.now c.ecode-code.result.now c.schedules.result.now _ c.tables-t.ensures.value c.ecode-code.ensures c.schedules.ensures c.as_slice.ensures ok later u b _ _ _ _ z in
     let text = rw (c.tables-t.ensures.value, c.ecode-code.ensures, c.schedule_of.ensures, c.number_of.ensures) at (c.in_default.ensures.text es f) in
     subst (λ (z : Seen). Puts {T = Unit {0}} {E = Failed} (g.W.Sink.written c.args.sink.now) (g.W.Sink.written c.close_and_begin.new.sink) (g.W.Sink.faults c.args.sink.now) (g.W.Sink.faults c.close_and_begin.new.sink) (lines_of z.object es z.show c.args.at) (Err c.in-Err-close_and_begin.failed))
     c.self.view_is (begun_closed_at m es c.args.at ok later u _ r c.tables-t.result.now c.ecode-code.result.now c.schedules.result.now _ _ _ _ _ _ _ _ c.tables-t.ensures.value c.ecode-code.ensures c.schedules.ensures b text (fails_so _ _ _ _ _ _ c.in-Err-close_and_begin.failed (c.in-Err-close_and_begin.ensures.text es q)))
@@ -452,9 +481,9 @@ returns-in_default-close_instant-clause-text g c = λ es before.
     let u = subst (λ (z : Seen). IsUpTo z es c.args.at) (sym c.self.view_is) before in
     let r = ready m es c.args.at c.self.inside.idle.instrs ok u later c.self.invariant.empty in
     let f = follows_at m.object es c.args.at c.tables-t.result.now c.ecode-code.result.now m.standing c.tables-t.ensures.value c.ecode-code.ensures u.before.values.triggers in
-    let opened = rw (c.tables-t.ensures.value, c.ecode-code.ensures, c.schedule_of.ensures, c.as_slice.ensures, c.as_slice-2.ensures) at (c.in_default.ensures.world es f) in
+    let opened = rw (c.tables-t.ensures.value, c.ecode-code.ensures, c.schedule_of.ensures) at (c.in_default.ensures.world es f) in
     let b = sym (rw c.tables-t.ensures.value at c.round_begins.ensures) ∙ c.if-round_begins.false in
-    let q = to_close m es c.args.at c.tables-t.result.now c.ecode-code.result.now c.tables-t.ensures.value c.ecode-code.ensures ok later u _ r c.note_values.new.values c.note_values.ensures _ _ opened _ (c.as_slice-else-round_begins.ensures ∙ c.note_values.ensures) _ (c.as_slice-else-round_begins-2.ensures ∙ c.note_modes.ensures) _ (c.in_default.ensures.writes es f) in
+    let q = to_close m es c.args.at c.tables-t.result.now c.ecode-code.result.now c.tables-t.ensures.value c.ecode-code.ensures ok later u _ r c.settle.new.self.values c.settle.ensures.values _ _ opened _ (c.in_default.ensures.noted.values ∙ c.settle.ensures.values) _ (c.in_default.ensures.noted.modes ∙ c.settle.ensures.modes) _ (c.in_default.ensures.writes es f) in
     let text = rw (c.tables-t.ensures.value, c.ecode-code.ensures, c.schedule_of.ensures, c.number_of.ensures) at (c.in_default.ensures.text es f) in
     let rest = rw (c.tables-t.ensures.value, c.ecode-code.ensures) at (c.in_default-close_instant.ensures.text es q) in
     subst (λ (z : Seen). Puts {T = Unit {0}} {E = Failed} (g.W.Sink.written c.args.sink.now) (g.W.Sink.written c.close_instant.new.sink) (g.W.Sink.faults c.args.sink.now) (g.W.Sink.faults c.close_instant.new.sink) (lines_of z.object es z.show c.args.at) (Ok _))
@@ -468,10 +497,10 @@ returns-in_default-close_instant-clause-before g c = λ es before.
     let u = subst (λ (z : Seen). IsUpTo z es c.args.at) (sym c.self.view_is) before in
     let r = ready m es c.args.at c.self.inside.idle.instrs ok u later c.self.invariant.empty in
     let f = follows_at m.object es c.args.at c.tables-t.result.now c.ecode-code.result.now m.standing c.tables-t.ensures.value c.ecode-code.ensures u.before.values.triggers in
-    let opened = rw (c.tables-t.ensures.value, c.ecode-code.ensures, c.schedule_of.ensures, c.as_slice.ensures, c.as_slice-2.ensures) at (c.in_default.ensures.world es f) in
-    let same = c.note_values.ensures ∙ u.before.values.values.values in
+    let opened = rw (c.tables-t.ensures.value, c.ecode-code.ensures, c.schedule_of.ensures) at (c.in_default.ensures.world es f) in
+    let same = c.settle.ensures.values ∙ u.before.values.values.values in
     let b = sym (rw c.tables-t.ensures.value at c.round_begins.ensures) ∙ c.if-round_begins.false in
-    let q = to_close m es c.args.at c.tables-t.result.now c.ecode-code.result.now c.tables-t.ensures.value c.ecode-code.ensures ok later u _ r c.note_values.new.values c.note_values.ensures _ _ opened _ (c.as_slice-else-round_begins.ensures ∙ c.note_values.ensures) _ (c.as_slice-else-round_begins-2.ensures ∙ c.note_modes.ensures) _ (c.in_default.ensures.writes es f) in
+    let q = to_close m es c.args.at c.tables-t.result.now c.ecode-code.result.now c.tables-t.ensures.value c.ecode-code.ensures ok later u _ r c.settle.new.self.values c.settle.ensures.values _ _ opened _ (c.in_default.ensures.noted.values ∙ c.settle.ensures.values) _ (c.in_default.ensures.noted.modes ∙ c.settle.ensures.modes) _ (c.in_default.ensures.writes es f) in
     let counts = rw (c.tables-t.ensures.value, c.ecode-code.ensures, c.schedule_of.ensures) at (c.in_default.ensures.counts es f) in
     let more = rw (c.tables-t.ensures.value, c.ecode-code.ensures) at (c.in_default-close_instant.ensures.counts es q) in
     let world = rw (c.tables-t.ensures.value, c.ecode-code.ensures) at (c.in_default-close_instant.ensures.world es q) in
@@ -483,8 +512,8 @@ returns-in_default-close_instant-clause-before g c = λ es before.
     let t = m.object.tables in
     let code = m.object.ecode in
     let tail : Tally → Tally = λ n. with_instrs (length (phase_path t code es c.args.at 3)) (with_instrs (length (phase_path t code es c.args.at 2)) n) in
-    next_up_to m es c.args.at ok later u c.close_instant.new.world c.close_instant.new.desk c.close_instant.new.m _ _ [] c.self.inside.tally c.close_instant.new.tally
-    (passed_of m es c.args.at ok later u _ r c.note_values.new.values same _ _ opened _ _ world reads safe shaped)
+    next_shown_up_to m es c.args.at ok later u c.open_instant.new.sensors.shows c.close_instant.new.world c.close_instant.new.desk c.close_instant.new.m _ _ [] c.self.inside.tally c.close_instant.new.tally c.in_default.ensures.shows
+    (passed_of m es c.args.at ok later u _ r c.settle.new.self.values same _ _ opened _ _ world reads safe shaped)
     (desk_goes_on m es c.args.at ok later u _ c.self.inside.idle.instrs refl c.self.invariant.empty r _ _ _ b opened.records desk stands)
     (selection_goes_on m es c.args.at ok later u b)
     (records_go_on m es c.args.at ok later u _ c.self.inside.idle.instrs refl c.self.invariant.empty r b)

@@ -1,12 +1,37 @@
-use Rattle.std.proofs.Common.{◌≡◌, set, rules, sym, subst}
+use Rattle.std.proofs.Common.{◌≡◌, ◌<◌, ◌∙◌, ℕ, cond, eqb, get_or, length, not, pos, set, length-set, rules, arith, ap, sym, subst}
+use Rattle.std.proofs.lemmas.Option.{slice_get_within}
+use Rattle.htl_model.specs.Functions.{same}
 use Rattle.htl_machine.specs.Calls.{Seen, Follows, IsSensorValue}
+use Rattle.htl_machine.specs.Marks.{is_marked}
 use Rattle.htl_machine.proofs.Calling.{sense_follows}
+use Rattle.htl_machine.proofs.ShownOn.{sensed_waits}
 use Rattle.htl_machine.proofs.machine.Machine.sense.Goals as goal
 
 pub returns-clause-follows : goal.returns-clause-follows
 returns-clause-follows c = λ es f.
-    let e : c.set.new.self ≡ set c.self.inside.shows c.args.comm c.args.x = search rules in
+    let e : c.sense.new.self.shows ≡ set c.self.inside.sensors.shows c.args.comm c.args.x = search rules in
     rw e
     (sense_follows _ es c.args.comm c.args.x c.self.invariant.accepted
     (subst (λ (z : Seen). IsSensorValue z.object.tables c.args.comm c.args.x) (sym c.self.view_is) c.requires.sensor)
     (subst (λ (z : Seen). Follows z es) (sym c.self.view_is) f))
+
+pub invariant_of-self : goal.invariant_of-self
+invariant_of-self c =
+    let kept = c.self.invariant in
+    let s = subst (λ (z : Seen). IsSensorValue z.object.tables c.args.comm c.args.x) (sym c.self.view_is) c.requires.sensor in
+    let room : c.args.comm < length c.self.inside.sensors.shows = omega (arith, slice_get_within c.self.inside.loaded.now.tables.comms c.args.comm s.comm s.known, kept.all_shows) in
+    let e : c.sense.new.self.shows ≡ set c.self.inside.sensors.shows c.args.comm c.args.x = search rules in
+    let had : c.value-has.result ≡ get_or c.self.inside.world.values c.args.comm (pos 0) = search rules in
+    let marks : (k : ℕ) → is_marked c.sense.new.self.waiting k ≡ cond (eqb k c.args.comm) (not (same c.args.x c.value-has.result)) (is_marked c.self.inside.sensors.waiting k) = λ k. search rules in
+    record {
+      accepted = kept.accepted;
+      all_shows = ap length e ∙ length-set c.self.inside.sensors.shows c.args.comm c.args.x ∙ kept.all_shows;
+      all_takes = kept.all_takes;
+      few = kept.few;
+      all_selected = kept.all_selected;
+      are = kept.are;
+      marked = kept.marked;
+      waiting = λ free.
+          sensed_waits c.self.inside.loaded.now.tables c.self.inside.sensors c.sense.new.self c.self.inside.world.values c.args.comm c.args.x c.value-has.result (kept.waiting free) room e had marks;
+      empty = kept.empty;
+    }

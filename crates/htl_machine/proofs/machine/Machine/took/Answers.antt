@@ -3,7 +3,7 @@ use Rattle.htl_walk.specs.declared.job.Job.{Job}
 use Rattle.htl_walk.specs.Walk.{job_at}
 use Rattle.htl_smach.specs.Rounds.{Round, Stands}
 use Rattle.htl_machine.specs.Calls.{Seen, Follows, IsLength}
-use Rattle.htl_machine.specs.Follows.{position_from}
+use Rattle.htl_machine.specs.Turns.{position_from}
 use Rattle.htl_machine.proofs.Calling.{position_worst, took_follows}
 use Rattle.htl_machine.proofs.machine.Machine.took.Goals as goal
 

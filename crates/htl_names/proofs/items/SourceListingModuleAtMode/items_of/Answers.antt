@@ -2,7 +2,7 @@ use Rattle.std.proofs.Common.{◌≤◌, subst, sym}
 use Rattle.std.specs.List.{All}
 use Rattle.htl_text.specs.Nodes.{PlainMode, mode_of}
 use Rattle.htl_names.specs.Flat.{size_of}
-use Rattle.htl_names.proofs.AllOf.{all_item}
+use Rattle.htl_names.proofs.Members.{all_item}
 use Rattle.htl_names.proofs.items.SourceListingModuleAtMode.items_of.Goals as goal
 
 pub mode-requires : goal.mode-requires

@@ -1,0 +1,231 @@
+-- The slices of a run, instant by instant, and the ticks that a job has of those before an instant.
+use Rattle.std.proofs.Common.{◌≡◌, ◌≤◌, ◌<◌, ◌⊎◌, inl, inr, ℕ, zero, suc, ◌+◌, ◌*◌, ◌/◌, Bool, true, false, cond, not, ◌&&◌, ◌||◌, leb, List, [], ◌∷◌, ◌++◌, length, take, slice_get, Some, None, refl, sym, ap, ap₂, ◌∙◌, subst, arith}
+use Rattle.std.proofs.Math.Nat.{div-add-mod, mod-lt, mul-div_cancel_left}
+use Rattle.std.proofs.lemmas.Bool.{le-ltb, lt-leb}
+use Rattle.std.proofs.lemmas.List.{take-append-le}
+use Rattle.std.proofs.lemmas.Option.{slice_get_within}
+use Rattle.std.proofs.Math.Seq.{take-append_seam}
+use Rattle.htl_form.proofs.PartLaws.{none_some}
+use Rattle.htl_model.specs.declared.event.Event.{Event}
+use Rattle.htl_model.specs.Lists.{all_some, up_to}
+use Rattle.htl_model.specs.Meaning.{state}
+use Rattle.htl_model.specs.Selections.{root_modules, root_period}
+use Rattle.htl_model.specs.Tables.{Tables}
+use Rattle.htl_walk.specs.declared.job.Job.{Job}
+use Rattle.htl_walk.specs.declared.schedule.SInstr.{SInstr}
+use Rattle.htl_walk.specs.Walk.{first_point}
+use Rattle.htl_refine.specs.Records.{AreTookWithin, modes_at, round_at, walk_of}
+use Rattle.htl_machine.specs.Casts.{HaveWindows}
+use Rattle.htl_machine.specs.Follows.{AreInForm, IsLoaded, period_or}
+use Rattle.htl_machine.specs.Plans.{round_start, AreSound}
+use Rattle.htl_machine.specs.Rounds.{plan_of}
+use Rattle.htl_machine.proofs.Desking.{times_within}
+use Rattle.htl_machine.proofs.RoundServed.{round_windows}
+use Rattle.htl_machine.proofs.Telling.{none_at_first, rounds_are, up_to_last}
+use Rattle.htl_machine.proofs.TellingLines.{none_left, last_start}
+use Rattle.htl_audit.specs.declared.slice.Slice.{Slice}
+use Rattle.htl_audit.specs.declared.slice.LogKind.TheVariants as kind
+use Rattle.htl_audit.specs.Growing.{HaveRounds}
+use Rattle.htl_audit.specs.Jobs.{Round}
+use Rattle.htl_audit.specs.Legal.{lies_in, ticks, is_free, is_over, any_job, last_end, is_out_of_order, line_fault}
+use Rattle.htl_audit.specs.Own.{own_slice, own_of, own_at}
+use Rattle.htl_audit.proofs.ClosedSlices.{closed, closed_is, one_closed, given, given_first}
+use Rattle.htl_audit.proofs.Growing.{in_two, round_job}
+use Rattle.htl_audit.proofs.OnePosition.{one_position}
+use Rattle.htl_audit.proofs.Judging.{lies, rest}
+use Rattle.htl_audit.proofs.OwnTicks.{ticks_both, no_ticks, IsSound, audited, IsOwn, own, ticks_now}
+
+-- ---- lists of at most one item, end to end
+
+pub record IsCut {A : Type 0} (f : ℕ → List A) (n i : ℕ) (x : A) : Type 0 where
+  pub now : ℕ
+  pub below : now < n
+  pub here : f now ≡ x ∷ []
+  pub front : take i (up_to f n) ≡ up_to f now
+
+single : {A : Type 0} (xs : List A) (m : ℕ) (x : A) → length xs ≤ 1 → slice_get xs m ≡ Some x → (m ≡ 0) × (xs ≡ x ∷ [])
+single [] m x few at = absurd (none_some x at)
+single (y ∷ []) zero x few at = let one : y ≡ x = cc in (refl, ap (λ z. z ∷ []) one)
+single (y ∷ []) (suc m) x few at = absurd (none_some x at)
+single (y ∷ z ∷ ys) m x few at = absurd (omega (arith, few))
+
+pub cut : {A : Type 0} (f : ℕ → List A) → ((k : ℕ) → length (f k) ≤ 1) → (n i : ℕ) (x : A) → slice_get (up_to f n) i ≡ Some x → IsCut f n i x
+cut f few zero i x at = absurd (none_some x at)
+cut {A} f few (suc n) i x at = by (in_two (up_to f n) (f n) i x at) (λ e. cut f few n i x e)
+  where
+    by : (slice_get (up_to f n) i ≡ Some x) ⊎ ((m : ℕ) × (i ≡ length (up_to f n) + m) × (slice_get (f n) m ≡ Some x)) → (slice_get (up_to f n) i ≡ Some x → IsCut f n i x) → IsCut f (suc n) i x
+    by (inl e) next =
+        let c = next e in
+        let within = slice_get_within (up_to f n) i x e in
+        record { now = c.now; below = omega (arith, c.below); here = c.here; front = take-append-le i (up_to f n) (f n) (omega (arith, within)) ∙ c.front }
+    by (inr e) next =
+        let s = single (f n) e.0 x (few n) e.2 in
+        let place : i ≡ length (up_to f n) = omega (arith, e.1, s.0) in
+        record { now = n; below = omega arith; here = s.1; front = ap (λ k. take k (up_to f n ++ f n)) place ∙ take-append_seam (up_to f n) (f n) }
+
+pub last_early : (a : ℕ) (log : List Slice) → ((i : ℕ) (x : Slice) → slice_get log i ≡ Some x → x.to ≤ a) → last_end log ≤ a
+last_early a [] h = omega arith
+last_early a (x ∷ []) h = h 0 x refl
+last_early a (x ∷ y ∷ xs) h = last_early a (y ∷ xs) (λ i z at. h (suc i) z at)
+
+-- ---- multiples of a period
+
+pub same_round : (period a m : ℕ) → 0 < period → period * a ≤ m → m < period * a + period → period * (m / period) ≡ period * a
+same_round period a m some first last = grind arith
+
+pub mod_below : (period m : ℕ) → 0 < period → m < period * (m / period) + period
+mod_below period m some = omega (arith, div-add-mod m period, mod-lt m some)
+
+pub either : (a b : ℕ) → (a < b) ⊎ (b ≤ a)
+either a b = grind arith
+
+equal_or : (a b : ℕ) → (a ≡ b) ⊎ (a ≡ b → ⊥)
+equal_or a b = grind arith
+
+-- ---- a line that breaks no rule
+
+pub keeps : (rounds : List Round) (now : ℕ) (log : List Slice) (x : Slice) → x.from < x.to → last_end log ≤ x.from → x.to < now → any_job (λ r j. lies_in r j.1 x) rounds ≡ true
+    → (any_job (λ r j. lies_in r j.1 x && is_over r (log ++ x ∷ []) j) rounds ≡ true → ⊥) → (any_job (λ r j. lies_in r j.1 x && not (is_free r log j.1)) rounds ≡ true → ⊥) → line_fault rounds now log x ≡ None
+keeps rounds now log x room order soon lies over early =
+    let sorted : is_out_of_order now log x ≡ false =
+    ap₂ (λ a b. a || b || leb now x.to) (lt-leb x.to x.from room) (le-ltb x.from (last_end log) order) ∙ lt-leb now x.to soon in
+    ap (λ b. cond b (Some kind.Order) (rest (any_job (λ r j. lies_in r j.1 x) rounds) (any_job (λ r j. lies_in r j.1 x && is_over r (log ++ x ∷ []) j) rounds) (any_job (λ r j. lies_in r j.1 x && not (is_free r log j.1)) rounds))) sorted
+    ∙ ap (λ a. rest a (any_job (λ r j. lies_in r j.1 x && is_over r (log ++ x ∷ []) j) rounds) (any_job (λ r j. lies_in r j.1 x && not (is_free r log j.1)) rounds)) lies
+    ∙ ap₂ (λ b c. rest true b c) (is_false (any_job (λ r j. lies_in r j.1 x && is_over r (log ++ x ∷ []) j) rounds) over) (is_false (any_job (λ r j. lies_in r j.1 x && not (is_free r log j.1)) rounds) early)
+  where
+    is_false : (b : Bool) → (b ≡ true → ⊥) → b ≡ false
+    is_false true h = absurd (h refl)
+    is_false false h = refl
+
+-- ---- a run in rounds of one period
+
+-- each round begins at a multiple of the period, and meets
+pub record IsRun (t : Tables) (schedules : List (List SInstr)) (es : List Event) (period : ℕ) : Type 0 where
+  pub root : root_period t ≡ Some period
+  pub some : 0 < period
+  pub rounds : HaveRounds t
+  pub form : AreInForm t schedules es period
+  pub sound : (s : ℕ) → round_start period s ≡ s → IsSound (round_at t schedules es s) period
+
+pub run_of : (t : Tables) (schedules : List (List SInstr)) (es : List Event) (period : ℕ) → IsLoaded t schedules → HaveRounds t → AreTookWithin t es → root_period t ≡ Some period → IsRun t schedules es period
+run_of t schedules es period loaded rounds within root =
+    record {
+      root = root;
+      some = let p = rounds.some period root in omega (arith, p.0);
+      rounds = rounds;
+      form = form;
+      sound = λ s whole. subst (λ z. IsSound (round_at t schedules es z) period) whole (at_start s);
+    }
+  where
+    form : AreInForm t schedules es period
+    form = (loaded.rounds es within).form period root
+
+    windows : (n : ℕ) → HaveWindows (round_at t schedules es (round_start period n)).jobs
+    windows n =
+        let r = round_at t schedules es (round_start period n) in
+        let same : period_or (root_period t) ≡ period = ap period_or root in
+        round_windows r.jobs r.lengths r.schedule ((subst (AreSound t es (plan_of t schedules es)) same (loaded.rounds es within).sound).meets n)
+
+    at_start : (n : ℕ) → IsSound (round_at t schedules es (round_start period n)) period
+    at_start n =
+        let r = round_at t schedules es (round_start period n) in
+        let same : period_or (root_period t) ≡ period = ap period_or root in
+        let kept = subst (AreSound t es (plan_of t schedules es)) same (loaded.rounds es within).sound in
+        record {
+          meets = kept.meets n;
+          once = λ p q j k at bt here there one.
+              one_position t (state t es (round_start period n)).stays (round_start period n) (round_start period n) r.jobs (kept.casts n) p q j k at bt here there one (omega (arith, windows n p j at here)) (omega (arith, windows n q k bt there));
+          inside = times_within r.jobs (length r.jobs) period r.schedule (first_point r.jobs r.lengths) (form n) (omega arith);
+          ends = λ p j at here.
+              let x = round_job t (modes_at t es (round_start period n)) (root_modules t) p j at here in
+              omega (arith, x.3, (rounds.windows j.inv x.0 x.1).1, rounds.periods period j.inv x.0 root x.1);
+        }
+
+module _ (t : Tables) (schedules : List (List SInstr)) (es : List Event) (period : ℕ) (run : IsRun t schedules es period) where
+  pub again : (n : ℕ) → round_start period (round_start period n) ≡ round_start period n
+  again n = ap (λ z. period * z) (mul-div_cancel_left (n / period) run.some)
+
+  -- ---- the slices of an instant
+
+  abbrev pub at : ℕ → List Slice
+  at now = own_at t schedules es (Some period) now
+
+  first_at : at 0 ≡ []
+  first_at = ap (up_to (λ k. own_of t schedules es (k * period) 0)) (none_at_first period run.some)
+
+  pub later_at : (m : ℕ) → at (suc m) ≡ closed (round_at t schedules es (round_start period m)).jobs (round_start period m) (suc m) (walk_of (round_at t schedules es (round_start period m)))
+  later_at m =
+      let s = round_start period m in
+      let r = round_at t schedules es s in
+      ap (up_to (λ k. own_of t schedules es (k * period) (suc m))) (rounds_are period m run.some)
+      ∙ up_to_last (λ k. own_of t schedules es (k * period) (suc m)) (m / period) (λ k less. ap (all_some (own_slice (round_at t schedules es (k * period)).jobs)) (none_left t schedules es period run.some run.form m k less))
+      ∙ ap (λ z. own_of t schedules es z (suc m)) (last_start t schedules es period run.some run.form m)
+      ∙ closed_is r.jobs s (suc m) 0 (walk_of r)
+
+  pub few : (now : ℕ) → length (at now) ≤ 1
+  few zero = let e = ap (λ (xs : List Slice). length xs) first_at in omega (arith, e)
+  few (suc m) =
+      let r = round_at t schedules es (round_start period m) in
+      subst (λ (xs : List Slice). length xs ≤ 1) (sym (later_at m)) (one_closed r.jobs (round_start period m) (suc m) r.schedule (first_point r.jobs r.lengths))
+
+  -- a slice of an instant, with the start of its round
+  pub record IsAt (now : ℕ) (x : Slice) : Type 0 where
+    pub before : ℕ
+    pub next : now ≡ suc before
+    pub own : IsOwn (round_at t schedules es (round_start period before)) (round_start period before) (suc before) x
+    pub room : x.from < x.to
+    pub to : x.to ≡ now
+    pub start : round_start period before ≤ x.from
+
+  pub is_at : (now i : ℕ) (x : Slice) → slice_get (at now) i ≡ Some x → IsAt now x
+  is_at zero i x e = absurd (none_some x (ap (λ (xs : List Slice). slice_get xs i) (sym first_at) ∙ e))
+  is_at (suc m) i x e =
+      let s = round_start period m in
+      let o = own (round_at t schedules es s) s period (run.sound s (again m)) (suc m) i x (ap (λ (xs : List Slice). slice_get xs i) (sym (later_at m)) ∙ e) in
+      let c = o.from in
+      let from : s + c.slice.0 ≡ x.from = ap (λ (z : Slice). z.from) c.is in
+      let to : s + c.slice.1 ≡ x.to = ap (λ (z : Slice). z.to) c.is in
+      record { before = m; next = refl; own = o; room = omega (arith, from, to, o.room); to = omega (arith, to, o.ends, c.then); start = omega (arith, from) }
+
+  -- ---- the ticks of the job at a position of a round
+
+  module _ (s : ℕ) (whole : round_start period s ≡ s) (p : ℕ) (j : Job) (job : slice_get (round_at t schedules es s).jobs p ≡ Some j) (here : j.present ≡ true) where
+    -- a slice that ends at an instant of another round isn't the job's
+    pub elsewhere : (m : ℕ) (x : Slice) → x.from < x.to → x.to ≡ suc m → lies_in (audited (round_at t schedules es s) s) j x ≡ true → round_start period m ≡ s
+    elsewhere m x room to e =
+        let l = lies (audited (round_at t schedules es s) s) j x e in
+        let end = (run.sound s whole).ends p j job here in
+        same_round period (s / period) m run.some (omega (arith, l.from, room, to, whole)) (omega (arith, l.to, to, end, whole)) ∙ whole
+
+    -- at each instant the round's own slices are all that count
+    ticks_at : (now : ℕ) → ticks (audited (round_at t schedules es s) s) j (at now) ≡ ticks (audited (round_at t schedules es s) s) j (closed (round_at t schedules es s).jobs s now (walk_of (round_at t schedules es s)))
+    ticks_at zero =
+        let r = round_at t schedules es s in
+        ap (ticks (audited r s) j) first_at
+        ∙ sym
+        (no_ticks (audited r s) j (closed r.jobs s 0 (walk_of r))
+        (λ i x e l.
+        let o = own r s period (run.sound s whole) 0 i x e in
+        omega (arith, o.room, o.ends, o.from.then)))
+    ticks_at (suc m) = by (equal_or (round_start period m) s)
+      where
+        by : (round_start period m ≡ s) ⊎ (round_start period m ≡ s → ⊥)
+            → ticks (audited (round_at t schedules es s) s) j (at (suc m)) ≡ ticks (audited (round_at t schedules es s) s) j (closed (round_at t schedules es s).jobs s (suc m) (walk_of (round_at t schedules es s)))
+        by (inl same) = ap (ticks (audited (round_at t schedules es s) s) j) (later_at m ∙ ap (λ z. closed (round_at t schedules es z).jobs z (suc m) (walk_of (round_at t schedules es z))) same)
+        by (inr other) =
+            let r = round_at t schedules es s in
+            no_ticks (audited r s) j (at (suc m)) (λ i x e l. let a = is_at (suc m) i x e in other (elsewhere m x a.room a.to l))
+            ∙ sym
+            (no_ticks (audited r s) j (closed r.jobs s (suc m) (walk_of r))
+            (λ i x e l.
+            let o = own r s period (run.sound s whole) (suc m) i x e in
+            let from : s + o.from.slice.0 ≡ x.from = ap (λ (z : Slice). z.from) o.from.is in
+            let to : s + o.from.slice.1 ≡ x.to = ap (λ (z : Slice). z.to) o.from.is in
+            other (elsewhere m x (omega (arith, from, to, o.room)) (omega (arith, to, o.ends, o.from.then)) l)))
+
+    -- the ticks so far are those of the round's records
+    pub ticks_before : (n : ℕ) → ticks (audited (round_at t schedules es s) s) j (up_to at n) ≡ given p s n (walk_of (round_at t schedules es s))
+    ticks_before zero = sym (given_first p s (walk_of (round_at t schedules es s)))
+    ticks_before (suc n) =
+        let r = round_at t schedules es s in
+        omega (arith, ticks_both (audited r s) j (up_to at n) (at n), ticks_before n, ticks_at n, ticks_now r s period (run.sound s whole) p j job here n)

@@ -1,0 +1,56 @@
+-- From instant to instant: the frame that runs, the jobs that are finished, and what its records do.
+use Rattle.std.specs.Prelude.{◌≡◌, ℕ, zero, suc, ◌-◌, ◌≤◌, ◌⊎◌, Bool, false, List, slice_get, Some}
+use Rattle.htl_model.specs.declared.event.Event.{Event}
+use Rattle.htl_model.specs.Tables.{Tables}
+use Rattle.htl_model.specs.Ranges.{AreInRange}
+use Rattle.htl_model.specs.FrameRules.{KeptApart}
+use Rattle.htl_model.specs.Meaning.{sense, state, before}
+use Rattle.htl_walk.specs.declared.job.Job.{Job}
+use Rattle.htl_walk.specs.Walk.{Left}
+use Rattle.htl_emach.specs.Contents.{Content}
+use Rattle.htl_refine.specs.RecordCounts.{count_before, done_by}
+use Rattle.htl_refine.specs.ServedSoFar.{IsServedSoFar}
+use Rattle.htl_machine.specs.Casts.{IsCast}
+use Rattle.htl_machine.specs.Plans.{run_records}
+use Rattle.htl_machine.specs.Turns.{finished_in}
+use Rattle.htl_machine.specs.Values.{AreCarried}
+use Rattle.htl_machine.specs.Worlds.{world_after}
+
+-- the frame at an instant: when it began, the jobs that it has so far, and its records
+pub record Now : Type 0 where
+  pub frame : ℕ
+  pub jobs : List Job
+  pub walk : List Left
+
+-- the jobs of the present rounds that are finished before an instant, and once its records are done
+abbrev pub finished_before : (ℕ → Now) → ℕ → ℕ → Bool
+finished_before now zero i = false
+finished_before now (suc n) i = let f = now n in finished_in f.jobs (done_by f.walk (count_before (suc n - f.frame) f.walk)) i
+
+abbrev pub finished_at : (ℕ → Now) → ℕ → ℕ → Bool
+finished_at now zero i = false
+finished_at now (suc n) i = let f = now n in finished_in f.jobs (done_by f.walk (count_before (suc (suc n) - f.frame) f.walk)) i
+
+-- at each instant the jobs so far are cast, and the records serve them; a frame goes on with further jobs, or the next begins
+pub record AreFrames (t : Tables) (es : List Event) (now : ℕ → Now) : Type 0 where
+  pub past : (n : ℕ) → (now n).frame ≤ n
+  pub casts : (n : ℕ) → IsCast t (state t es n).stays (now n).frame n (now n).jobs
+  pub runs : (n : ℕ) → IsServedSoFar (now n).jobs (now n).walk (now n).frame n
+  pub on : (n : ℕ) → ((now (suc n)).frame ≡ suc n)
+      ⊎ (((now (suc n)).frame ≡ (now n).frame) × ((now (suc n)).walk ≡ (now n).walk) × ((p : ℕ) (j : Job) → slice_get (now n).jobs p ≡ Some j → slice_get (now (suc n)).jobs p ≡ Some j))
+
+-- the records at an instant of the frame that ran before it
+abbrev pub frame_records : Tables → (ℕ → Now) → ℕ → Content → Content
+frame_records t now zero w = w
+frame_records t now (suc n) w =
+    let f = now n in
+    let a = count_before (suc n - f.frame) f.walk in
+    run_records t f.jobs f.walk (count_before (suc (suc n) - f.frame) f.walk - a) a w
+
+-- a whole instant: those records, the writes, the sensors, the reads
+abbrev pub next_by_frames : Tables → List Event → (ℕ → Now) → ℕ → Content → Content
+next_by_frames t es now n w = world_after t (sense t es) n (before t es n).stays (state t es n).stays (frame_records t now n w)
+
+-- what is finished after an instant's records is finished before the next, of the rounds that go on; of those that begin nothing is
+abbrev pub FinishedCarried : Type 0
+FinishedCarried = (t : Tables) (es : List Event) (now : ℕ → Now) → AreInRange t → KeptApart t 12 → AreFrames t es now → (n : ℕ) → AreCarried t es n (finished_at now n) (finished_before now (suc n))

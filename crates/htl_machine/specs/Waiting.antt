@@ -1,0 +1,18 @@
+-- The sensors that wait for an instance at which they take what they are shown.
+use Rattle.std.specs.Prelude.{◌≡◌, ◌%◌, ◌&&◌, ◌≤◌, ◌<◌, ℕ, Bool, true, false, eqb, List, get_or, slice_get, Some, ℤ, pos}
+use Rattle.htl_model.specs.declared.parts.Comm.{Comm}
+use Rattle.htl_model.specs.Tables.{Tables}
+use Rattle.htl_emach.specs.Contents.{Content}
+use Rattle.htl_machine.specs.Marks.{is_marked}
+use Rattle.htl_machine.specs.Noting.{MarksChanges, KeepsNoted}
+use Rattle.htl_machine.specs.Sensors.{AreSet}
+use Rattle.htl_machine.specs.declared.noted.Noted.{Noted}
+use Rattle.htl_machine.specs.declared.sensors.Sensors.{Sensors}
+
+-- a sensor that is shown another value than it has waits
+abbrev pub MarksWaiting : Tables → Sensors → List ℤ → Type 0
+MarksWaiting t s values = (c : ℕ) (x : Comm) → slice_get t.comms c ≡ Some x → x.sensor ≡ true → is_marked s.waiting c ≡ false → get_or s.shows c (pos 0) ≡ get_or values c (pos 0)
+
+-- a communicator is a sensor with an instance at an instant
+abbrev pub takes_now : ℕ → Comm → Bool
+takes_now now x = x.sensor && eqb (now % x.period) 0

@@ -1,5 +1,0 @@
-use Rattle.htl_text.specs.Bounds.{tree_nodes}
-use Rattle.htl_names.proofs.formulas.+formula.Given as goal
-
-abbrev pub decreases-formula : goal.decreases-formula
-decreases-formula g l = tree_nodes l.e.now

@@ -1,0 +1,5 @@
+use Rattle.htl_text.specs.Bounds.{tree_nodes}
+use Rattle.htl_names.proofs.functions.+formula.Given as goal
+
+abbrev pub decreases-formula : goal.decreases-formula
+decreases-formula g l = tree_nodes l.e.now

@@ -1,0 +1,6 @@
+use Rattle.std.proofs.Common.{◌≡◌, ◌+◌, ◌-◌, length}
+use Rattle.htl_names.specs.LevelTable.{level_by}
+use Rattle.htl_names.proofs.limits.level.Given as goal
+
+abbrev pub invariant-loop-k : goal.invariant-loop-k
+invariant-loop-k l = l.k + level_by l.refined (length l.refined - l.k) l.at ≡ level_by l.refined (length l.refined) l.program

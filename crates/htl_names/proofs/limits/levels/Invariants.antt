@@ -1,0 +1,8 @@
+use Rattle.std.proofs.Common.{◌≡◌, length}
+use Rattle.htl_model.specs.Lists.{list_to}
+use Rattle.htl_model.specs.Tables.{greatest}
+use Rattle.htl_names.specs.LevelTable.{level_by}
+use Rattle.htl_names.proofs.limits.levels.Given as goal
+
+abbrev pub invariant-loop-p : goal.invariant-loop-p
+invariant-loop-p l = l.most ≡ greatest 0 (list_to (level_by l.refined (length l.refined)) l.p)

@@ -1,8 +1,0 @@
-use Rattle.std.proofs.Common.{◌≡◌, map, drop}
-use Rattle.htl_model.specs.Lists.{first_some}
-use Rattle.htl_names.specs.Orphans.{orphan_token}
-use Rattle.htl_names.specs.Rows.{parent_use_of}
-use Rattle.htl_names.proofs.parents.first_orphan.Given as goal
-
-abbrev pub invariant-loop-k : goal.invariant-loop-k
-invariant-loop-k l = first_some (orphan_token l.symbols l.refined) (map parent_use_of (drop l.k l.parents)) ≡ first_some (orphan_token l.symbols l.refined) (map parent_use_of l.parents)

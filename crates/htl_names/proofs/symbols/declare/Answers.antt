@@ -1,0 +1,32 @@
+use Rattle.std.proofs.Common.{◌≡◌, ◌∙◌, length, refl, sym, arith, subst, add-one, ℕ}
+use Rattle.std.proofs.lemmas.Option.{slice_get_read}
+use Rattle.htl_names.specs.Repeats.{AreApartTo}
+use Rattle.htl_names.proofs.RepeatLaws.{repeats_here, apart_here, all_apart, seen_more, all_seen}
+use Rattle.htl_names.proofs.symbols.declare.Goals as goal
+
+pub returns-in-Some : goal.returns-in-Some
+returns-in-Some c =
+    let es = c.args.entries.now in
+    let k = c.loop-k.k in
+    let e = c.index-entries-k.result in
+    let here = slice_get_read es (length es) k e refl c.loop-k-test.true c.index-entries-k.is in
+    let repeats = repeats_here es k e c.loop-k.symbols c.in-Some.field-0 c.loop-k.invariant.seen (sym c.in-Some.is ∙ c.in_ok-add.ensures.old) in
+    (k, e, here, repeats, refl, c.loop-k.invariant.apart)
+
+pub loop-k-preserved : goal.loop-k-preserved
+loop-k-preserved c =
+    let es = c.args.entries.now in
+    let k = c.loop-k.k in
+    let e = c.index-entries-k.result in
+    let here = slice_get_read es (length es) k e refl c.loop-k-test.true c.index-entries-k.is in
+    record {
+      seen = seen_more es k e c.loop-k.symbols c.add.new.self c.loop-k-test.true c.index-entries-k.is c.loop-k.invariant.seen
+          (c.in_ok-add.ensures.added c.in_default.is);
+      apart = subst (λ (n : ℕ). AreApartTo n es) (sym (add-one k))
+          (apart_here es k e c.loop-k.symbols c.loop-k.invariant.seen (sym c.in_ok-add.ensures.old ∙ c.in_default.is) here c.loop-k.invariant.apart);
+    }
+
+pub returns : goal.returns
+returns c =
+    let whole : c.loop-k.k ≡ length c.args.entries.now = omega arith in
+    (all_seen c.args.entries.now c.loop-k.k c.loop-k.symbols whole c.loop-k.invariant.seen, all_apart c.args.entries.now c.loop-k.k whole c.loop-k.invariant.apart)

@@ -1,0 +1,30 @@
+use Rattle.std.proofs.Common.{length, take, ◌+◌, ◌++◌, ◌≡◌, sym, ap, ◌∙◌, subst, arith}
+use Rattle.std.specs.List.{All}
+use Rattle.std.proofs.lemmas.Slice.{take-put_mid}
+use Rattle.htl_walk.specs.PathJobs.{placed_jobs}
+use Rattle.htl_walk.specs.Placing.{HasTimes}
+use Rattle.htl_refine.specs.BegunJobs.{new_places}
+use Rattle.htl_refine.proofs.BegunTimes.{new_times}
+use Rattle.htl_refine.proofs.NewJobs.{places_are, jobs_are, new_many, end_is}
+use Rattle.htl_refine.proofs.begun.derive_begun.Goals as goal
+
+pub placed_jobs-requires-clause-times : goal.placed_jobs-requires-clause-times
+placed_jobs-requires-clause-times c =
+    let t = c.args.t.now in
+    subst (λ xs. All HasTimes (placed_jobs t xs))
+    (sym (places_are t c.args.s.now.modes c.as_slice-modes.result.now c.args.at c.args.n c.put_start-end.result (take c.fill_roots-modules.result c.fill_roots-modules.new.out) c.put_start-end.new.out (omega (arith, c.requires.room)) c.put_start-end.ensures.front c.as_slice-modes.ensures c.fill_roots-modules.ensures.roots))
+    (new_times t c.keeps_ranges.ensures.ranges (λ r s h n l other b. c.requires.kept r s h n (omega (arith, l)) other b) c.args.s.now.modes c.args.at c.args.n c.requires.at)
+
+pub returns-clause-jobs : goal.returns-clause-jobs
+returns-clause-jobs c =
+    let t = c.args.t.now in
+    let m = c.args.s.now.modes in
+    let n = c.args.n in
+    let end = c.put_start-end.result in
+    let places = places_are t m c.as_slice-modes.result.now c.args.at n end (take c.fill_roots-modules.result c.fill_roots-modules.new.out) c.put_start-end.new.out (omega (arith, c.requires.room)) c.put_start-end.ensures.front c.as_slice-modes.ensures c.fill_roots-modules.ensures.roots in
+    let all : end ≡ length (new_places t m c.args.at n) = end_is t m c.as_slice-modes.result.now c.args.at n end (take c.fill_roots-modules.result c.fill_roots-modules.new.out) c.put_start-end.ensures.count c.as_slice-modes.ensures c.fill_roots-modules.ensures.roots in
+    let size_is : length (take end c.put_start-end.new.out) ≡ end = ap (λ xs. length xs) places ∙ sym all in
+    let jobs = subst (λ k. take k c.placed_jobs.new.out ≡ placed_jobs t (take end c.put_start-end.new.out)) size_is c.placed_jobs.ensures.jobs in
+    let new = jobs_are t m c.args.at n end (take end c.put_start-end.new.out) c.placed_jobs.new.out c.copy_from_slice.new.self (omega (arith, c.put_start-end.ensures.count)) places jobs c.copy_from_slice.ensures.after in
+    let size : end ≡ n + length c.copy_from_slice.new.self = omega (arith, ap (λ xs. length xs) new, all, new_many t m c.args.at n) in
+    take-put_mid _ _ _ _ _ size (omega (arith, c.requires.room)) ∙ ap (λ js. take n c.args.out.now ++ js) new

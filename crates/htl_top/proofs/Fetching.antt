@@ -1,0 +1,24 @@
+-- Answers while files are fetched speak of no tables.
+use Rattle.std.proofs.Common.{Option}
+use Rattle.htl_model.specs.Tables.{Tables}
+use Rattle.htl_top.specs.Fetching.{IsOfFetch}
+use Rattle.htl_top.specs.Telling.{SpeaksOf}
+use Rattle.htl_top.specs.declared.outcome.Outcome.{Outcome}
+use Rattle.htl_top.specs.declared.outcome.Outcome.TheVariants.{Done, Usage, Source, IllFormed, Unschedulable, Platform, Task, Log, Patch, Object as Refused, Script, Shelf, Read, Write, Memory}
+
+pub fetching_speaks : (Sources Objects : (Tables → Type 0) → Type 0) (outcome : Outcome) (tables : Option Tables) → IsOfFetch outcome → SpeaksOf Sources Objects outcome tables
+fetching_speaks Sources Objects (Shelf cause) tables is = tt
+fetching_speaks Sources Objects Memory tables is = tt
+fetching_speaks Sources Objects Done tables is = absurd is
+fetching_speaks Sources Objects Usage tables is = absurd is
+fetching_speaks Sources Objects (Platform f) tables is = absurd is
+fetching_speaks Sources Objects Task tables is = absurd is
+fetching_speaks Sources Objects (Patch f) tables is = absurd is
+fetching_speaks Sources Objects (Log f) tables is = absurd is
+fetching_speaks Sources Objects (Source f) tables is = absurd is
+fetching_speaks Sources Objects (IllFormed f) tables is = absurd is
+fetching_speaks Sources Objects (Unschedulable sel a b demand) tables is = absurd is
+fetching_speaks Sources Objects (Refused f) tables is = absurd is
+fetching_speaks Sources Objects (Script f) tables is = absurd is
+fetching_speaks Sources Objects Read tables is = absurd is
+fetching_speaks Sources Objects Write tables is = absurd is

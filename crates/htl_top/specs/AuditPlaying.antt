@@ -1,0 +1,53 @@
+-- The events of a script, as an auditor is told them one by one, and the end of an audit.
+use Rattle.std.specs.Prelude.{◌≡◌, ℕ, List, [], ◌∷◌, ◌++◌, Option, None, Some}
+use Rattle.std.specs.Io.KnownBytes.{append_known}
+use Rattle.htl_audit.specs.Auditing.{Audit, Follows, IsAudited}
+use Rattle.htl_audit.specs.Legal.{first_fault}
+use Rattle.htl_audit.specs.declared.slice.Slice.{Slice}
+use Rattle.htl_edge.specs.Causes.{Rose}
+use Rattle.htl_edge.specs.Content.{AppendsPrefix}
+use Rattle.htl_model.specs.Tables.{Tables}
+use Rattle.htl_model.specs.declared.event.Event.{Event}
+use Rattle.htl_model.specs.declared.event.Event.TheVariants as event
+use Rattle.htl_script.specs.Judging.{past_of}
+use Rattle.htl_script.specs.Streaming.{Ahead}
+use Rattle.htl_top.specs.Audited.{audited_text}
+use Rattle.htl_top.specs.Playing.{IsPlaying}
+use Rattle.htl_top.specs.declared.outcome.Outcome.{Outcome}
+use Rattle.htl_top.specs.declared.outcome.Outcome.TheVariants.{Done, Usage, Source, IllFormed, Unschedulable, Platform, Task, Log, Patch as Unpatched, Object as Refused, Script as Faulty, Shelf, Read, Write, Memory}
+
+-- the auditor behind an event: it follows one more, or its run has ended
+abbrev pub IsAuditBehind : Audit → List Event → Event → Type 0
+IsAuditBehind a told (event.At to) = Follows a (told ++ event.At to ∷ [])
+IsAuditBehind a told (event.Sense c x) = Follows a (told ++ event.Sense c x ∷ [])
+IsAuditBehind a told (event.Took i n) = Follows a (told ++ event.Took i n ∷ [])
+IsAuditBehind a told (event.End to) = IsAudited a told to
+
+-- the auditor behind the events told: it follows them, or its run has ended where the last is the end
+abbrev pub IsAuditTold : Audit → List Event → Option ℕ → Type 0
+IsAuditTold a told None = Follows a told
+IsAuditTold a told (Some end) = (front : List Event) × (told ≡ front ++ event.End end ∷ []) × IsAudited a front end
+
+-- its machine is told these events as that of a run is, and the auditor with it
+pub record IsAuditPlaying (t : Tables) (first now : Audit) (a : Ahead) (known rest old new : Option (List ℕ)) : Type 0 where
+  pub run : IsPlaying t first.machine now.machine a known rest old new
+  pub told : IsAuditTold now run.told (past_of run.told).end
+  pub log : now.log ≡ first.log
+
+-- behind the lines of a run that has ended: what was audited is written where the log has no fault, or a prefix of it; else nothing
+abbrev pub IsConcluded : Tables → List Event → ℕ → List Slice → Option (List ℕ) → Option (List ℕ) → ℕ → ℕ → Outcome → Type 0
+IsConcluded t es end log old new before now Done = (first_fault t es end log ≡ None) × (new ≡ append_known old (audited_text t es end log))
+IsConcluded t es end log old new before now Write = Rose before now × (first_fault t es end log ≡ None) × AppendsPrefix old new (audited_text t es end log)
+IsConcluded t es end log old new before now (Log f) = (first_fault t es end log ≡ Some f) × (new ≡ old)
+IsConcluded t es end log old new before now Usage = ⊥
+IsConcluded t es end log old new before now (Unpatched f) = ⊥
+IsConcluded t es end log old new before now (Platform f) = ⊥
+IsConcluded t es end log old new before now Task = ⊥
+IsConcluded t es end log old new before now (Source f) = ⊥
+IsConcluded t es end log old new before now (IllFormed f) = ⊥
+IsConcluded t es end log old new before now (Unschedulable sel a b demand) = ⊥
+IsConcluded t es end log old new before now (Refused f) = ⊥
+IsConcluded t es end log old new before now (Faulty f) = ⊥
+IsConcluded t es end log old new before now (Shelf cause) = ⊥
+IsConcluded t es end log old new before now Read = ⊥
+IsConcluded t es end log old new before now Memory = ⊥

@@ -1,0 +1,163 @@
+-- What `audit` answers: of the files, of the log, and of the run that it is audited for.
+use Rattle.std.specs.Prelude.{◌≡◌, ◌⊎◌, ℕ, suc, List, [], ◌++◌, length, Option, Some, None, codes, decimal}
+use Rattle.std.specs.Io.KnownBytes.{append_known}
+use Rattle.htl_audit.specs.Faults.{IsFirstFault}
+use Rattle.htl_audit.specs.Jobs.{all_rounds}
+use Rattle.htl_audit.specs.Legal.{IsLegal, first_fault, jobs_done}
+use Rattle.htl_audit.specs.Logs.{log_of, Read as ReadLog, Refused as RefusedLog}
+use Rattle.htl_audit.specs.declared.slice.LogFault.{LogFault}
+use Rattle.htl_audit.specs.declared.slice.Slice.{Slice}
+use Rattle.htl_console.specs.declared.shown.Shown.TheVariants.{Values}
+use Rattle.htl_edge.specs.Causes.{Rose}
+use Rattle.htl_edge.specs.Content.{AppendsPrefix, none_left}
+use Rattle.htl_edge.specs.Holdings.{Holdings}
+use Rattle.htl_machine.specs.Programs.{before_of}
+use Rattle.htl_model.specs.Tables.{Tables}
+use Rattle.htl_model.specs.declared.event.Event.{Event}
+use Rattle.htl_object.specs.declared.object.Object.{Object}
+use Rattle.htl_script.specs.Reading.{OfScript}
+use Rattle.htl_script.specs.Script.{Script, Whole, Bad, script_of}
+use Rattle.htl_top.specs.Answers.{Files, Streams, IsUntouched}
+use Rattle.htl_top.specs.Fetching.{IsUnhad}
+use Rattle.htl_top.specs.Files.{IsFileOf}
+use Rattle.htl_top.specs.Objects.{IsAcceptedFile}
+use Rattle.htl_top.specs.Runs.{IsFaultyRun}
+use Rattle.htl_top.specs.Scripts.{IsWhole}
+use Rattle.htl_top.specs.Texts.{text_before_fault}
+use Rattle.htl_top.specs.Words.{Command, Go, Compile, CompileWith, Run, Check, Plan, Show, Bulk, Slack, Audit, Patch}
+use Rattle.htl_top.specs.declared.outcome.Outcome.{Outcome}
+use Rattle.htl_top.specs.declared.outcome.Outcome.TheVariants.{Done, Usage, Source, IllFormed, Unschedulable, Platform, Task, Log, Patch as Unpatched, Object as Refused, Script as Faulty, Shelf, Read, Write, Memory}
+
+-- ---- the files
+
+-- the bytes are a log for the tables, and the fact holds of its slices
+pub record HasSlices (t : Tables) (bytes : List ℕ) (Fact : List Slice → Type 0) : Type 0 where
+  pub slices : List Slice
+  pub read : log_of t bytes ≡ ReadLog slices
+  pub fact : Fact slices
+
+-- the same of the bytes of a file
+abbrev pub HasLog : List ℕ → Option Holdings → Tables → (List Slice → Type 0) → Type 0
+HasLog log holds t Fact = IsFileOf (Some log) holds (λ bytes. HasSlices t bytes Fact)
+
+-- ---- the text
+
+-- `audited T jobs N slices K`
+abbrev pub audited_line : ℕ → ℕ → ℕ → List ℕ
+audited_line at jobs slices = codes "audited " ++ decimal at ++ codes " jobs " ++ decimal jobs ++ codes " slices " ++ decimal slices ++ codes "\n"
+
+-- with the numbers of a log for a run that ends with `end`
+abbrev pub audited_text : Tables → List Event → ℕ → List Slice → List ℕ
+audited_text t es end log = audited_line end (jobs_done (all_rounds t es (suc end)) log) (length log)
+
+-- that, where the log has no fault
+abbrev pub verdict_text : Tables → List Event → ℕ → List Slice → List ℕ
+verdict_text t es end log = elim (first_fault t es end log) [ None ↦ audited_text t es end log | Some f ↦ [] ]
+
+-- what an audit of a log writes of a script: values and modes as a run does, and behind those of a whole script what was audited
+abbrev pub audit_text : Object → List Slice → Script → List ℕ
+audit_text o log (Whole events end) = before_of o events Values (suc end) ++ verdict_text o.tables events end log
+audit_text o log (Bad line kind events) = text_before_fault o Values events
+
+-- ---- the audit of a log that was read
+
+-- The input had a whole script, which was read to its end; the log is legal for its run; values and modes were written, and what was
+-- audited.
+pub record IsWholeAudit (o : Object) (log : List Slice) (rest left old new : Option (List ℕ)) : Type 0 where
+  pub events : List Event
+  pub end : ℕ
+  pub script : OfScript rest (λ script. IsWhole o.tables script events end)
+  pub read : left ≡ none_left rest
+  pub legal : IsLegal o.tables events end log
+  pub written : new ≡ append_known old (before_of o events Values (suc end) ++ audited_text o.tables events end log)
+
+-- The input had a whole script, which was read to its end; this is the first fault of the log for its run; values and modes were
+-- written.
+pub record IsIllegalAudit (o : Object) (log : List Slice) (rest left old new : Option (List ℕ)) (f : LogFault) : Type 0 where
+  pub events : List Event
+  pub end : ℕ
+  pub script : OfScript rest (λ script. IsWhole o.tables script events end)
+  pub read : left ≡ none_left rest
+  pub fault : IsFirstFault o.tables events end log f
+  pub written : new ≡ append_known old (before_of o events Values (suc end))
+
+-- A prefix was written of the text that the input as a script makes the audit write.
+pub record IsCutAudit (o : Object) (log : List Slice) (rest old new : Option (List ℕ)) : Type 0 where
+  pub given : Script
+  pub script : OfScript rest (λ script. script_of o.tables script ≡ given)
+  pub written : AppendsPrefix old new (audit_text o log given)
+
+-- The log is audited for the run of the input as script, answer by answer. For want of memory nothing is read.
+abbrev pub IsAuditRun : List Slice → Object → Streams → Streams → Outcome → Type 0
+IsAuditRun log o old new Done = IsWholeAudit o log old.rest new.rest old.written new.written
+IsAuditRun log o old new (Log f) = IsIllegalAudit o log old.rest new.rest old.written new.written f
+IsAuditRun log o old new (Faulty f) = IsFaultyRun Values o.tables o old.rest old.written new.written f
+IsAuditRun log o old new Read = Rose old.read_faults new.read_faults × IsCutAudit o log old.rest old.written new.written
+IsAuditRun log o old new Write = Rose old.write_faults new.write_faults × IsCutAudit o log old.rest old.written new.written
+IsAuditRun log o old new Memory = IsUntouched old new
+IsAuditRun log o old new Usage = ⊥
+IsAuditRun log o old new (Unpatched f) = ⊥
+IsAuditRun log o old new (Platform f) = ⊥
+IsAuditRun log o old new Task = ⊥
+IsAuditRun log o old new (Source f) = ⊥
+IsAuditRun log o old new (IllFormed f) = ⊥
+IsAuditRun log o old new (Unschedulable sel a b demand) = ⊥
+IsAuditRun log o old new (Refused f) = ⊥
+IsAuditRun log o old new (Shelf cause) = ⊥
+
+-- ---- the bytes of a log
+
+-- why bytes aren't audited: a line has another form or names no concrete invocation, or no memory was left
+abbrev pub IsLogRefused : Tables → List ℕ → Outcome → Type 0
+IsLogRefused t bytes (Log f) = log_of t bytes ≡ RefusedLog f.line f.kind
+IsLogRefused t bytes Memory = Unit {0}
+IsLogRefused t bytes Done = ⊥
+IsLogRefused t bytes Usage = ⊥
+IsLogRefused t bytes (Unpatched f) = ⊥
+IsLogRefused t bytes (Platform f) = ⊥
+IsLogRefused t bytes Task = ⊥
+IsLogRefused t bytes (Source f) = ⊥
+IsLogRefused t bytes (IllFormed f) = ⊥
+IsLogRefused t bytes (Unschedulable sel a b demand) = ⊥
+IsLogRefused t bytes (Refused f) = ⊥
+IsLogRefused t bytes (Faulty f) = ⊥
+IsLogRefused t bytes (Shelf cause) = ⊥
+IsLogRefused t bytes Read = ⊥
+IsLogRefused t bytes Write = ⊥
+
+-- They are a log, which is audited; or they are refused, nothing was read and nothing written.
+abbrev pub IsAuditOf : List ℕ → Object → Streams → Streams → Outcome → Type 0
+IsAuditOf bytes o old new outcome =
+    HasSlices o.tables bytes (λ log. IsAuditRun log o old new outcome) ⊎ (IsLogRefused o.tables bytes outcome × IsUntouched old new)
+
+-- ---- the command
+
+-- Both files were had, the object is accepted, and the bytes of the log were audited; or not, and nothing was read and nothing written.
+abbrev pub IsAudit : List ℕ → List ℕ → Files → Streams → Streams → Outcome → Type 0
+IsAudit name log shelf old new outcome =
+    IsAcceptedFile (Some name) shelf.holds (λ o. IsFileOf (Some log) shelf.holds (λ bytes. IsAuditOf bytes o old new outcome))
+    ⊎ (IsUnhad (Some name) (Some log) shelf outcome × IsUntouched old new)
+
+-- ---- of a command
+
+-- The log has this fault: it is the first of its lines with a form or a name that is refused, and nothing was read and nothing written; or
+-- its audit ended with it.
+abbrev pub IsLogFault : List ℕ → Object → Streams → Streams → LogFault → Type 0
+IsLogFault bytes o old new f =
+    HasSlices o.tables bytes (λ log. IsIllegalAudit o log old.rest new.rest old.written new.written f)
+    ⊎ ((log_of o.tables bytes ≡ RefusedLog f.line f.kind) × IsUntouched old new)
+
+-- The command audits a log for an accepted object, and the log has this fault.
+abbrev pub IsLogCause : Option Command → Option Holdings → Streams → Streams → LogFault → Type 0
+IsLogCause (Some (Audit name log)) holds old new f = IsAcceptedFile (Some name) holds (λ o. IsFileOf (Some log) holds (λ bytes. IsLogFault bytes o old new f))
+IsLogCause (Some (Go name)) holds old new f = ⊥
+IsLogCause (Some Compile) holds old new f = ⊥
+IsLogCause (Some (CompileWith platform)) holds old new f = ⊥
+IsLogCause (Some (Run show name)) holds old new f = ⊥
+IsLogCause (Some (Check name)) holds old new f = ⊥
+IsLogCause (Some (Plan name)) holds old new f = ⊥
+IsLogCause (Some (Show name)) holds old new f = ⊥
+IsLogCause (Some (Bulk n)) holds old new f = ⊥
+IsLogCause (Some (Slack name owner task)) holds old new f = ⊥
+IsLogCause (Some (Patch name unit mode donor)) holds old new f = ⊥
+IsLogCause None holds old new f = ⊥

@@ -1,0 +1,135 @@
+-- What `patch` answers of two files: an object of which a mode gets another refinement, and the donor that has it.
+use Rattle.std.specs.Prelude.{◌≡◌, ◌⊎◌, ℕ, List, Option, None, Some}
+use Rattle.std.specs.Io.KnownBytes.{append_known}
+use Rattle.htl_edge.specs.Causes.{Rose}
+use Rattle.htl_edge.specs.Content.{AppendsPrefix}
+use Rattle.htl_edge.specs.Holdings.{Holdings}
+use Rattle.htl_load.specs.Loading.{HasBytes}
+use Rattle.htl_model.specs.Tables.{Tables}
+use Rattle.htl_object.specs.Accepted.{IsAccepted}
+use Rattle.htl_object.specs.Files.{first_bad}
+use Rattle.htl_object.specs.Objects.{IsObject, object_bytes}
+use Rattle.htl_object.specs.declared.malformed.Malformed.{Malformed}
+use Rattle.htl_object.specs.declared.object.Object.{Object}
+use Rattle.htl_patch.specs.Joining.{graft_of}
+use Rattle.htl_patch.specs.Object.{patched_object, CanPatch}
+use Rattle.htl_patch.specs.Patched.{patched}
+use Rattle.htl_patch.specs.Stops.{IsPatchFault}
+use Rattle.htl_patch.specs.United.{Graft}
+use Rattle.htl_patch.specs.declared.fault.PatchFault.{PatchFault}
+use Rattle.htl_patch.specs.declared.fault.PatchFault.TheVariants as fault
+use Rattle.htl_top.specs.Answers.{Files, Streams, IsWritten}
+use Rattle.htl_top.specs.Fetching.{IsUnhad}
+use Rattle.htl_top.specs.Files.{IsFileOf}
+use Rattle.htl_top.specs.Objects.{IsAcceptedFile}
+use Rattle.htl_top.specs.Words.{Command, Go, Compile, CompileWith, Run, Check, Plan, Show, Bulk, Slack, Audit, Patch}
+use Rattle.htl_top.specs.declared.outcome.Outcome.{Outcome}
+use Rattle.htl_top.specs.declared.outcome.Outcome.TheVariants.{Done, Usage, Source, IllFormed, Unschedulable, Platform, Task, Log, Patch as Unpatched, Object as Refused, Script, Shelf, Read, Write, Memory}
+
+-- ---- the donor
+
+-- The bytes are a donor whose refinement of the mode can be taken over, and the fact holds of the object that has it. That object is
+-- accepted, and its bytes are its own.
+pub record HasPatch (o : Object) (unit mode bytes : List ℕ) (Fact : Object → Type 0) : Type 0 where
+  pub donor : Object
+  pub has : HasBytes bytes donor
+  pub graft : Graft
+  pub can : CanPatch o donor unit mode graft
+  pub object : IsObject (patched_object o graft)
+  pub accepted : IsAccepted (patched_object o graft)
+  pub fact : Fact (patched_object o graft)
+
+-- The bytes are a donor that has a mode of the names as the object has, and the fact holds of the tables with its refinement.
+pub record HasPatchedTables (o : Object) (unit mode bytes : List ℕ) (Fact : Tables → Type 0) : Type 0 where
+  pub donor : Object
+  pub has : HasBytes bytes donor
+  pub graft : Graft
+  pub modes : graft_of o.tables donor.tables unit mode ≡ Some graft
+  pub fact : Fact (patched graft)
+
+-- No object has the bytes, and this tells their first bad field.
+pub record IsBadDonor (bytes : List ℕ) (f : PatchFault) : Type 0 where
+  pub field : Malformed
+  pub is : f ≡ fault.Malformed field
+  pub first : first_bad bytes ≡ Some field
+
+-- The bytes are a donor whose refinement of the mode isn't taken over, for this fault.
+pub record RefusesDonor (o : Object) (unit mode bytes : List ℕ) (f : PatchFault) : Type 0 where
+  pub donor : Object
+  pub has : HasBytes bytes donor
+  pub refused : IsPatchFault o donor unit mode f
+
+-- why the object doesn't get the refinement that the bytes have
+abbrev pub IsDonorFault : Object → List ℕ → List ℕ → List ℕ → PatchFault → Type 0
+IsDonorFault o unit mode bytes f = IsBadDonor bytes f ⊎ RefusesDonor o unit mode bytes f
+
+-- ---- both files
+
+-- The words name a file that an accepted object is, and a donor, of both of which the fact holds.
+abbrev pub AreFilesOf : Option (List ℕ) → Option (List ℕ) → Option Holdings → (Object → List ℕ → Type 0) → Type 0
+AreFilesOf name donor holds Fact = IsAcceptedFile name holds (λ o. IsFileOf donor holds (λ bytes. Fact o bytes))
+
+-- The fact holds of the tables of an accepted object with a donor's refinement.
+abbrev pub IsPatchedTables : List ℕ → List ℕ → List ℕ → List ℕ → Option Holdings → (Tables → Type 0) → Type 0
+IsPatchedTables name unit mode donor holds Fact = AreFilesOf (Some name) (Some donor) holds (λ o bytes. HasPatchedTables o unit mode bytes Fact)
+
+-- the tables that the line of a fault speaks of: the new ones, where they break a form rule
+abbrev pub SpeaksOfPatch : ((Tables → Type 0) → Type 0) → PatchFault → Option Tables → Type 0
+SpeaksOfPatch HasNew (fault.IllFormed f) tables = HasNew (λ t. tables ≡ Some t)
+SpeaksOfPatch HasNew (fault.Malformed m) tables = Unit {0}
+SpeaksOfPatch HasNew fault.Mode tables = Unit {0}
+SpeaksOfPatch HasNew (fault.Comms place) tables = Unit {0}
+SpeaksOfPatch HasNew (fault.Parent inv) tables = Unit {0}
+SpeaksOfPatch HasNew (fault.Twice unit) tables = Unit {0}
+SpeaksOfPatch HasNew (fault.Limit which count) tables = Unit {0}
+SpeaksOfPatch HasNew (fault.Function k) tables = Unit {0}
+
+-- ---- the answers
+
+-- an accepted object was written, or a prefix of its bytes; or nothing, since no memory was left
+abbrev pub IsObjectPut : Object → Option (List ℕ) → Option (List ℕ) → ℕ → ℕ → Outcome → Type 0
+IsObjectPut o old new before now outcome =
+    (IsObject o × IsAccepted o × IsWritten (object_bytes o) Done old new before now outcome) ⊎ ((outcome ≡ Memory) × (new ≡ old))
+
+-- the new object is written, or a prefix of its bytes; or nothing, since the donor has a fault or no memory was left
+abbrev pub IsDonorTold : Object → List ℕ → List ℕ → List ℕ → Option (List ℕ) → Option (List ℕ) → ℕ → ℕ → Outcome → Type 0
+IsDonorTold o unit mode bytes old new before now Done = HasPatch o unit mode bytes (λ p. new ≡ append_known old (object_bytes p))
+IsDonorTold o unit mode bytes old new before now Write = Rose before now × HasPatch o unit mode bytes (λ p. AppendsPrefix old new (object_bytes p))
+IsDonorTold o unit mode bytes old new before now (Unpatched f) = IsDonorFault o unit mode bytes f × (new ≡ old)
+IsDonorTold o unit mode bytes old new before now Memory = new ≡ old
+IsDonorTold o unit mode bytes old new before now Usage = ⊥
+IsDonorTold o unit mode bytes old new before now (Platform f) = ⊥
+IsDonorTold o unit mode bytes old new before now Task = ⊥
+IsDonorTold o unit mode bytes old new before now (Log f) = ⊥
+IsDonorTold o unit mode bytes old new before now (Source f) = ⊥
+IsDonorTold o unit mode bytes old new before now (IllFormed f) = ⊥
+IsDonorTold o unit mode bytes old new before now (Unschedulable sel a b demand) = ⊥
+IsDonorTold o unit mode bytes old new before now (Refused f) = ⊥
+IsDonorTold o unit mode bytes old new before now (Script f) = ⊥
+IsDonorTold o unit mode bytes old new before now (Shelf cause) = ⊥
+IsDonorTold o unit mode bytes old new before now Read = ⊥
+
+-- Both files were had, and the donor's refinement was taken over or not; or they weren't, and nothing was written.
+abbrev pub IsPatchOfFiles : List ℕ → List ℕ → Option (List ℕ) → Option (List ℕ) → Files → Option (List ℕ) → Option (List ℕ) → ℕ → ℕ → Outcome → Type 0
+IsPatchOfFiles unit mode name donor shelf old new before now outcome =
+    AreFilesOf name donor shelf.holds (λ o bytes. IsDonorTold o unit mode bytes old new before now outcome) ⊎ (IsUnhad name donor shelf outcome × (new ≡ old))
+
+-- and nothing is read
+abbrev pub IsPatching : List ℕ → List ℕ → Option (List ℕ) → Option (List ℕ) → Files → Streams → Streams → Outcome → Type 0
+IsPatching unit mode name donor shelf old new outcome =
+    (new.rest ≡ old.rest) × IsPatchOfFiles unit mode name donor shelf old.written new.written old.write_faults new.write_faults outcome
+
+-- The command replaces a refinement of an accepted object by that of a donor's file, which isn't taken over for this fault.
+abbrev pub IsPatchCause : Option Command → Option Holdings → PatchFault → Type 0
+IsPatchCause (Some (Patch name unit mode donor)) holds f = AreFilesOf (Some name) (Some donor) holds (λ o bytes. IsDonorFault o unit mode bytes f)
+IsPatchCause (Some (Go name)) holds f = ⊥
+IsPatchCause (Some Compile) holds f = ⊥
+IsPatchCause (Some (CompileWith platform)) holds f = ⊥
+IsPatchCause (Some (Run show name)) holds f = ⊥
+IsPatchCause (Some (Check name)) holds f = ⊥
+IsPatchCause (Some (Plan name)) holds f = ⊥
+IsPatchCause (Some (Show name)) holds f = ⊥
+IsPatchCause (Some (Bulk n)) holds f = ⊥
+IsPatchCause (Some (Slack name owner task)) holds f = ⊥
+IsPatchCause (Some (Audit name log)) holds f = ⊥
+IsPatchCause None holds f = ⊥

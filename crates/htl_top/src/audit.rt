@@ -1,0 +1,103 @@
+// The command `audit`: a job log of any scheduler, judged for an object and a script.
+ghost use Rattle.std.specs.Prelude.{◌≡◌, ◌+◌, ◌<◌, List, ℕ, Some, All, length};
+ghost use Rattle.htl_base.specs.declared.limits.TheConstants as limit;
+ghost use Rattle.htl_script.specs.Reading.{LosesFront};
+ghost use Rattle.htl_top.specs.Answers.{files, streams};
+ghost use Rattle.htl_top.specs.Audited.{IsAuditRun, IsAuditOf, IsAudit};
+ghost use Rattle.htl_top.specs.Objects.{IsObjectTables};
+ghost use Rattle.htl_top.specs.Telling.{SpeaksOf};
+ghost use Rattle.htl_top.specs.declared.outcome.ShelfCause.TheVariants as cause;
+
+use crate::Outcome;
+use crate::answer::Answer;
+use crate::audit_play::play_audit;
+use crate::fetch::fetch_both;
+use crate::object::{ObjectStop, read_object};
+use htl_audit::{Auditor, LogStop, Slice, read_log};
+use htl_edge::{Shelf, Sink, Source};
+use htl_load::Loaded;
+use std::alloc::Global;
+
+// Audits the slices of a log for an accepted object, with the input as script. All memory is taken before anything is read.
+fn audit_slices<R: Source, W: Sink>(
+    alloc: Global,
+    l: &Loaded,
+    log: &[Slice],
+    input: &mut R,
+    out: &mut W,
+) -> Outcome
+    requires { All (λ x. x.inv < length l.now.tables.invs) log.now }
+    ensures answer { IsAuditRun log.now l.now
+        (streams R.rest R.faults W.written W.faults input.old out.old) (streams R.rest R.faults W.written W.faults input.new out.new)
+        result }
+    ensures taken { LosesFront (limit.MAX_SCRIPT + 4096) (R.rest input.old) (R.rest input.new) }
+    ensures read_count { (result ≡ Outcome.Read → ⊥) → R.faults input.new ≡ R.faults input.old }
+    ensures write_count { (result ≡ Outcome.Write → ⊥) → W.faults out.new ≡ W.faults out.old }
+{
+    let Ok(mut auditor) = Auditor::new(alloc, l, log) else {
+        return Outcome::Memory;
+    };
+    play_audit(&mut auditor, l.tables(), input, out)
+}
+
+// Audits bytes as a log for an accepted object, with the input as script.
+fn audit_bytes<R: Source, W: Sink>(
+    alloc: Global,
+    l: &Loaded,
+    log: &[u8],
+    input: &mut R,
+    out: &mut W,
+) -> Outcome
+    ensures answer { IsAuditOf log.now l.now
+        (streams R.rest R.faults W.written W.faults input.old out.old) (streams R.rest R.faults W.written W.faults input.new out.new)
+        result }
+    ensures taken { LosesFront (limit.MAX_SCRIPT + 4096) (R.rest input.old) (R.rest input.new) }
+    ensures read_count { (result ≡ Outcome.Read → ⊥) → R.faults input.new ≡ R.faults input.old }
+    ensures write_count { (result ≡ Outcome.Write → ⊥) → W.faults out.new ≡ W.faults out.old }
+{
+    match read_log(alloc, log, l.tables()) {
+        Ok(slices) => audit_slices(alloc, l, slices.as_slice(), input, out),
+        Err(LogStop::Refused(fault)) => Outcome::Log(fault),
+        Err(LogStop::Memory) => Outcome::Memory,
+    }
+}
+
+/// Fetches an object and a log, tests the object, and audits the log for it with the input as script.
+pub fn audit_file<S: Shelf, R: Source, W: Sink>(
+    alloc: Global,
+    name: &str,
+    log: &str,
+    shelf: &mut S,
+    input: &mut R,
+    out: &mut W,
+) -> Answer
+    ensures answer { IsAudit name.now log.now
+        (files S.holds S.faults shelf.old shelf.new)
+        (streams R.rest R.faults W.written W.faults input.old out.old) (streams R.rest R.faults W.written W.faults input.new out.new)
+        result.outcome }
+    ensures tables { SpeaksOf (λ fact. ⊥) (IsObjectTables (Some name.now) (S.holds shelf.old)) result.outcome result.tables }
+    ensures taken { LosesFront (limit.MAX_SCRIPT + 4096) (R.rest input.old) (R.rest input.new) }
+    ensures shelf { S.holds shelf.new ≡ S.holds shelf.old }
+    ensures shelf_count { (result.outcome ≡ Outcome.Shelf cause.Failed → ⊥) → (file : List ℕ) → S.faults shelf.new file ≡ S.faults shelf.old file }
+    ensures read_count { (result.outcome ≡ Outcome.Read → ⊥) → R.faults input.new ≡ R.faults input.old }
+    ensures write_count { (result.outcome ≡ Outcome.Write → ⊥) → W.faults out.new ≡ W.faults out.old }
+{
+    let given = match fetch_both(alloc, name, log, shelf) {
+        Ok(given) => given,
+        Err(outcome) => return Answer::plain(outcome),
+    };
+    match read_object(alloc, given.object.as_slice()) {
+        Ok(loaded) => Answer::plain(audit_bytes(
+            alloc,
+            &loaded,
+            given.second.as_slice(),
+            input,
+            out,
+        )),
+        Err(ObjectStop::Refused { fault, tables }) => Answer {
+            outcome: Outcome::Object(fault),
+            tables,
+        },
+        Err(ObjectStop::Memory) => Answer::plain(Outcome::Memory),
+    }
+}

@@ -1,0 +1,251 @@
+// Sources with each form of the language, and sources at the edges of the rules.
+use htl_parse::{ParseFault, parse};
+use htl_text::{Token, Tree, Word, lex, print};
+use std::alloc::{AllocError, Global};
+use std::test::Fail;
+
+// The answer to a text that has tokens.
+fn answer(alloc: Global, text: &[u8]) -> Option<Result<Tree, ParseFault>> {
+    if text.len() > 1_048_576 {
+        return None;
+    }
+    let tokens = lex(alloc, text).ok()?;
+    Some(parse(alloc, &tokens))
+}
+
+// Each piece as many times as is said.
+fn joined(alloc: Global, pieces: &[(&[u8], usize)]) -> Result<Vec<u8>, AllocError> {
+    let mut text = Vec::new(alloc);
+    for (piece, count) in pieces {
+        for _ in 0..*count {
+            text.extend_from_slice(piece)?;
+        }
+    }
+    Ok(text)
+}
+
+const FORMS: &[u8] = b"program P {
+ communicator int a period 10 init -007; sensor bool b period 20 init true;
+ module M start m {
+  task t input (int x, bool y) output (int z = x - 1 - 2 * -3 % x, bool w = !y && x < 2 || y) worst 3;
+  abstract task u input () output (int v, bool w) worst 04;
+  task n input () output () worst 1;
+  mode m period 100 program Q {
+   port int p; port bool q;
+   invoke t input ((a, 0), q) output (p, (a, 10)); invoke u input () output () parent t;
+   switch (if (b, a >= 3, false), m); switch ((b), m);
+  }
+  mode o period 1 {}
+ }
+ module N start m {}
+}
+program Q {}";
+
+const PRINTED: &[u8] = b"program P {
+communicator int a period 10 init - 7 ;
+sensor bool b period 20 init true ;
+module M start m {
+task t input ( int x , bool y ) output ( int z = ( ( x - 1 ) - ( ( 2 * ( - 3 ) ) % x ) ) , bool w = ( ( ( ! y ) && ( x < 2 ) ) || y ) ) worst 3 ;
+abstract task u input ( ) output ( int v , bool w ) worst 4 ;
+task n input ( ) output ( ) worst 1 ;
+mode m period 100 program Q {
+port int p ;
+port bool q ;
+invoke t input ( ( a , 0 ) , q ) output ( p , ( a , 10 ) ) ;
+invoke u input ( ) output ( ) parent t ;
+switch ( if ( b , ( a >= 3 ) , false ) , m ) ;
+switch ( b , m ) ;
+}
+mode o period 1 {
+}
+}
+module N start m {
+}
+}
+program Q {
+}
+";
+
+#[test]
+fn each_form_parses(rt: HostRuntime) -> Result<(), Fail> {
+    for text in [FORMS, PRINTED] {
+        let found = answer(rt.alloc(), text).expect(&rt, "tokens");
+        let tree = found.expect(&rt, "a tree");
+        let printed = print(rt.alloc(), &tree).expect(&rt, "memory");
+        assert_eq!(rt; printed.as_slice(), PRINTED);
+    }
+    Ok(())
+}
+
+// Whether the first tokens of a text spell nothing, however many they are, and all of them a tree.
+fn needs_each_token(alloc: Global, text: &[u8]) -> bool {
+    if text.len() > 1_048_576 {
+        return false;
+    }
+    let Ok(tokens) = lex(alloc, text) else {
+        return false;
+    };
+    for place in 0..tokens.len() {
+        let end = tokens.offset(place) as usize;
+        if end > text.len() || !is_refused(alloc, &text[..end]) {
+            return false;
+        }
+    }
+    matches!(answer(alloc, text), Some(Ok(_)))
+}
+
+fn is_refused(alloc: Global, text: &[u8]) -> bool {
+    matches!(answer(alloc, text), Some(Err(ParseFault::Syntax { .. })))
+}
+
+#[test]
+fn prefixes_are_refused(rt: HostRuntime) -> Result<(), Fail> {
+    let texts: [&[u8]; 2] = [
+        b"program P { communicator int a period 1 init -1; module M start m {
+        task t input (int x, bool y) output (int z = if(!y, x*-3, (2)), int w = 1) worst 3;
+        mode m period 1 program Q { port int p; invoke t input ((a, 0), p) output (p) parent u;
+        switch (a >= 3 || false, m); } } }",
+        b"program P { sensor int s period 10 init 0; communicator int u period 10 init 7;
+        module M start m { task dbl input (int x) output (int y = x * 2) worst 4;
+        mode m period 20 { invoke dbl input ((s, 0)) output ((u, 1)); } } }",
+    ];
+    for text in texts {
+        assert!(rt; needs_each_token(rt.alloc(), text));
+    }
+    assert!(rt; !needs_each_token(rt.alloc(), b"program P {} program Q {}"));
+    Ok(())
+}
+
+// Before and behind the expression of an output: 8 tokens and 10 of its statement, and 3 of its statement.
+const BEFORE: &[u8] = b"program P { module M start m { task t input () output (int y = ";
+
+const BEHIND: &[u8] = b") worst 1; } }";
+
+#[test]
+fn a_run_of_512_tokens_is_short(rt: HostRuntime) -> Result<(), Fail> {
+    let short = joined(
+        rt.alloc(),
+        &[(BEFORE, 1), (b"1", 1), (b"+1", 249), (BEHIND, 1)],
+    )?;
+    let found = answer(rt.alloc(), &short).expect(&rt, "tokens");
+    assert!(rt; found.is_ok());
+    Ok(())
+}
+
+#[test]
+fn the_513th_token_of_a_run_is_too_many(rt: HostRuntime) -> Result<(), Fail> {
+    let table: [(&[u8], &[u8], u32); 3] = [
+        (b"", b"1", 520),
+        (b"} x ; {", b"1", 524),
+        (b"", b"-1", 520),
+    ];
+    for (front, first, wanted) in table {
+        let text = joined(
+            rt.alloc(),
+            &[
+                (front, 1),
+                (BEFORE, 1),
+                (first, 1),
+                (b"+1", 250),
+                (BEHIND, 1),
+            ],
+        )?;
+        let found = answer(rt.alloc(), &text).expect(&rt, "tokens");
+        assert!(rt; matches!(found, Err(ParseFault::Long { token }) if token == wanted));
+    }
+    Ok(())
+}
+
+#[test]
+fn the_token_of_a_long_run_is_told(rt: HostRuntime) -> Result<(), Fail> {
+    let text = joined(
+        rt.alloc(),
+        &[(BEFORE, 1), (b"1", 1), (b"+1", 250), (BEHIND, 1)],
+    )?;
+    assert!(rt; text.len() <= 1_048_576);
+    let tokens = lex(rt.alloc(), &text).expect(&rt, "tokens");
+    assert!(rt; tokens.len() > 520);
+    assert!(rt; tokens.token(520) == Token::Word(Word::Worst));
+    Ok(())
+}
+
+#[test]
+fn deep_statements_end(rt: HostRuntime) -> Result<(), Fail> {
+    let brackets = joined(
+        rt.alloc(),
+        &[
+            (BEFORE, 1),
+            (b"(", 249),
+            (b"1", 1),
+            (b")", 249),
+            (BEHIND, 1),
+        ],
+    )?;
+    let found = answer(rt.alloc(), &brackets).expect(&rt, "tokens");
+    assert!(rt; found.is_ok());
+    let signs = joined(
+        rt.alloc(),
+        &[(BEFORE, 1), (b"-", 498), (b"1", 1), (BEHIND, 1)],
+    )?;
+    let found = answer(rt.alloc(), &signs).expect(&rt, "tokens");
+    assert!(rt; found.is_ok());
+    for (piece, count) in [(b"(".as_slice(), 502), (b"if(", 251), (b"!", 502)] {
+        let open = joined(rt.alloc(), &[(BEFORE, 1), (piece, count), (BEHIND, 1)])?;
+        let found = answer(rt.alloc(), &open).expect(&rt, "tokens");
+        assert!(rt;
+            matches!(
+                found,
+                Err(ParseFault::Syntax { .. } | ParseFault::Long { .. })
+            )
+        );
+        let ended = joined(rt.alloc(), &[(BEFORE, 1), (piece, count), (b";", 1)])?;
+        let found = answer(rt.alloc(), &ended).expect(&rt, "tokens");
+        assert!(rt; matches!(found, Err(ParseFault::Syntax { .. })));
+    }
+    Ok(())
+}
+
+#[test]
+fn a_large_source_parses(rt: HostRuntime) -> Result<(), Fail> {
+    let open = joined(rt.alloc(), &[(b"(", 249), (b"1", 1), (b")", 249)])?;
+    let pieces: [(&[u8], usize); 3] = [
+        (b"task t input () output (int y = ", 1),
+        (&open, 1),
+        (b") worst 1;", 1),
+    ];
+    let task = joined(rt.alloc(), &pieces)?;
+    let text = joined(
+        rt.alloc(),
+        &[
+            (b"program P { module M start m {", 1),
+            (&task, 200),
+            (b"} }", 1),
+        ],
+    )?;
+    let found = answer(rt.alloc(), &text).expect(&rt, "tokens");
+    assert!(rt; found.is_ok());
+    Ok(())
+}
+
+#[test]
+fn these_are_refused(rt: HostRuntime) -> Result<(), Fail> {
+    let table: [&[u8]; 12] = [
+        b"",
+        b"program P {} program",
+        b"program P {};",
+        b"program P { module M start m {} communicator int a period 1 init 1; }",
+        b"program P { communicator int a period 1 init - true; }",
+        b"program P { communicator int a period -1 init 1; }",
+        b"program P { module M start m { mode m period 1 {} task t input () output () worst 1; } }",
+        b"program P { module M start m { task t input (int x,) output () worst 1; } }",
+        b"program P { module M start m { task t input () output (int y) worst 1; } }",
+        b"program P { module M start m { abstract task t input () output (int y = 1) worst 1; } }",
+        b"program P { module M start m { task t input () output (bool y = 1 < 2 < 3) worst 1; } }",
+        b"program P { module M start m { mode m period 1 { switch (true, m); port int p; } } }",
+    ];
+    for text in table {
+        let found = answer(rt.alloc(), text).expect(&rt, "tokens");
+        assert!(rt; matches!(found, Err(ParseFault::Syntax { .. })));
+    }
+    Ok(())
+}
