@@ -10,8 +10,6 @@ mod lines;
 mod listing;
 mod names;
 mod shown;
-#[cfg(test)]
-mod tests;
 
 pub use lines::{line_d, line_e, line_end, line_j, line_m, line_plan, line_s, line_v};
 pub use listing::{show, show_schedules};

@@ -9,8 +9,6 @@ mod shelf;
 mod sink;
 mod source;
 mod tape;
-#[cfg(test)]
-mod tests;
 
 pub use drawer::Drawer;
 pub use line_buffer::LineBuffer;

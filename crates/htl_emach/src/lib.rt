@@ -21,5 +21,3 @@ pub use emach::EMach;
 pub use trigger::{Block, EDone, Trigger};
 pub use world::World;
 
-#[cfg(test)]
-mod tests;

@@ -3,8 +3,6 @@
 
 mod machine;
 mod operation;
-#[cfg(test)]
-mod tests;
 mod type_stack;
 pub mod typing;
 mod value_stack;

@@ -5,8 +5,6 @@ mod compiler;
 mod depth;
 mod emit;
 mod law;
-#[cfg(test)]
-mod tests;
 mod types;
 
 pub use compiler::{FnFault, compile_fn};

@@ -16,7 +16,3 @@ pub use fault::{PlatformFault, PlatformStop};
 pub use platform::Platform;
 pub use reading::read_platform;
 
-#[cfg(test)]
-mod cut_tests;
-#[cfg(test)]
-mod tests;

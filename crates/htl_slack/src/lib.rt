@@ -11,7 +11,3 @@ pub use greatest::slack;
 pub use report::{Above, SlackReport};
 pub use tasks::is_root_task;
 
-#[cfg(test)]
-mod frame_tests;
-#[cfg(test)]
-mod tests;

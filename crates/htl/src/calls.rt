@@ -1,0 +1,341 @@
+// Calls of the top call over a shelf and streams in memory: what is asked, and whether it is answered so.
+use crate::object_bytes::changed;
+use crate::pieces::text_of;
+pub use crate::pieces::{Piece, Text};
+use htl_top::{htl, status};
+use htl_edge::{Drawer, Page, Tape};
+use std::alloc::{AllocError, Global};
+use std::test::Fail;
+
+/// Bytes of a file, an input or an output.
+#[derive(Clone, Copy)]
+pub enum Content {
+    Text(&'static str),
+    Made(Text),
+    /// An object with other bytes from a place on; what lies behind them is kept, or left out.
+    Changed(&'static [u8], usize, &'static [u8], bool),
+    /// The first bytes.
+    Front(&'static [u8], usize),
+    /// The first lines.
+    Lines(&'static str, usize),
+    /// So many times this byte.
+    Filled(u8, usize),
+    /// The object of a source.
+    Object(Text),
+    /// The object of a source for a platform.
+    ObjectOn(Text, &'static str),
+    /// The object of a source whose mode has the refinement that the object of another source gives it.
+    Patched(Text, &'static str, Text),
+}
+
+pub const EMPTY: Content = Content::Front(&[], 0);
+
+/// What the files A and B are, and what the input.
+#[derive(Clone, Copy)]
+pub enum Place {
+    /// The two contents are the files.
+    Files,
+    /// The first file is the object of the first content.
+    Compiled,
+    /// The first content is the input, the second the first file.
+    Input,
+}
+
+/// How the input and the output give and take: seven bytes a read and 8,192 bytes at all, but for what is said.
+#[derive(Clone, Copy)]
+pub enum Streams {
+    Usual,
+    /// So many bytes a read.
+    Step(usize),
+    /// So many bytes at all.
+    Room(usize),
+    RoomFails(usize, u64),
+    /// This read fails, and this write.
+    Fails(u64, u64),
+    StepFails(usize, u64),
+    /// These fetches fail.
+    Fetches(&'static [u64]),
+}
+
+/// The two contents, the script, and the status, the output and what is told.
+pub type Row = (Content, Content, &'static str, u8, Content, &'static str);
+
+/// Calls with the same words.
+pub struct Group {
+    pub name: &'static str,
+    pub words: &'static [&'static str],
+    pub place: Place,
+    pub streams: Streams,
+    pub rows: &'static [Row],
+}
+
+/// A call, with streams that differ: for each the status, the output and what is told.
+pub struct Tried {
+    pub name: &'static str,
+    pub words: &'static [&'static str],
+    pub place: Place,
+    pub contents: (Content, Content),
+    pub script: &'static str,
+    pub rows: &'static [(Streams, u8, Content, &'static str)],
+}
+
+/// A call, and what is wanted.
+#[derive(Clone, Copy)]
+pub struct Case<'a> {
+    pub words: &'a [&'a str],
+    pub place: Place,
+    pub streams: Streams,
+    pub contents: (Content, Content),
+    pub script: &'a str,
+    pub status: u8,
+    pub out: Content,
+    pub told: &'a str,
+}
+
+// How many bytes a read gives, for how many the output has room, and the read and the write that fail.
+fn numbers(streams: Streams) -> (usize, usize, u64, u64) {
+    match streams {
+        Streams::Usual | Streams::Fetches(_) => (7, 8192, 0, 0),
+        Streams::Step(step) => (step, 8192, 0, 0),
+        Streams::Room(room) => (7, room, 0, 0),
+        Streams::RoomFails(room, write) => (7, room, 0, write),
+        Streams::Fails(read, write) => (7, 8192, read, write),
+        Streams::StepFails(step, read) => (step, 8192, read, 0),
+    }
+}
+
+// The status of a call.
+fn call(
+    alloc: Global,
+    (words, streams): (&[&str], Streams),
+    shelf: &mut Drawer,
+    input: &[u8],
+    out: &mut Page,
+    err: &mut Page,
+) -> Result<u8, Fail> {
+    let (step, _, read, _) = numbers(streams);
+    let mut input = Tape::new(alloc, input, step.max(1), &[read])?;
+    Ok(status(&htl(alloc, words, shelf, &mut input, out, err)))
+}
+
+/// A shelf that holds these bytes under the names A and B, and whose fetches of these numbers fail.
+pub fn shelf_of(alloc: Global, a: Vec<u8>, b: Vec<u8>, fails: &[u64]) -> Result<Drawer, Fail> {
+    let first = String::from_str(alloc, "A")?;
+    let second = String::from_str(alloc, "B")?;
+    let items = vec![in alloc; (first, a), (second, b)]?;
+    Ok(Drawer::new(alloc, items, fails)?)
+}
+
+// What a call writes, or what is told, where it isn't done.
+fn written(
+    alloc: Global,
+    words: &[&str],
+    shelf: &mut Drawer,
+    input: &[u8],
+) -> Result<Vec<u8>, Fail> {
+    let mut out = Page::new(alloc, 8192, &[])?;
+    let mut err = Page::new(alloc, 100, &[])?;
+    let asked = (words, Streams::Usual);
+    let page = match call(alloc, asked, shelf, input, &mut out, &mut err)? {
+        0 => &out,
+        _ => &err,
+    };
+    Ok(Vec::from_slice(alloc, page.bytes())?)
+}
+
+// The object of a source.
+fn compiled(alloc: Global, source: &[u8]) -> Result<Vec<u8>, Fail> {
+    let mut shelf = shelf_of(alloc, Vec::new(alloc), Vec::new(alloc), &[])?;
+    written(alloc, &["compile"], &mut shelf, source)
+}
+
+/// The object of a source for a platform.
+pub fn compiled_on(alloc: Global, source: &[u8], file: &str) -> Result<Vec<u8>, Fail> {
+    let file = Vec::from_slice(alloc, file.as_bytes())?;
+    let mut shelf = shelf_of(alloc, file, Vec::new(alloc), &[])?;
+    written(alloc, &["compile", "with", "A"], &mut shelf, source)
+}
+
+// The object with the refinement that a donor gives a mode.
+fn patched(alloc: Global, object: Vec<u8>, mode: &str, donor: Vec<u8>) -> Result<Vec<u8>, Fail> {
+    let mut shelf = shelf_of(alloc, object, donor, &[])?;
+    written(alloc, &["patch", "A", mode, "B"], &mut shelf, b"")
+}
+
+// How many bytes the first lines have.
+fn first_lines(text: &str, count: usize) -> usize {
+    let mut left = count;
+    for (at, byte) in text.as_bytes().iter().enumerate() {
+        if left == 0 {
+            return at;
+        }
+        if *byte == b'\n' {
+            left -= 1;
+        }
+    }
+    text.len()
+}
+
+fn front(alloc: Global, bytes: &[u8], count: usize) -> Result<Vec<u8>, AllocError> {
+    Vec::from_slice(alloc, bytes.split_at(count.min(bytes.len())).0)
+}
+
+// The object of a source.
+fn object_of(alloc: Global, source: Text) -> Result<Vec<u8>, Fail> {
+    let source = text_of(alloc, source)?;
+    compiled(alloc, source.as_bytes())
+}
+
+fn bytes_of(alloc: Global, content: Content) -> Result<Vec<u8>, Fail> {
+    match content {
+        Content::Text(text) => Ok(Vec::from_slice(alloc, text.as_bytes())?),
+        Content::Made(text) => {
+            let text = text_of(alloc, text)?;
+            Ok(Vec::from_slice(alloc, text.as_bytes())?)
+        }
+        Content::Changed(object, at, by, rest) => Ok(changed(alloc, object, at, by, rest)?),
+        Content::Front(bytes, count) => Ok(front(alloc, bytes, count)?),
+        Content::Lines(text, count) => {
+            Ok(front(alloc, text.as_bytes(), first_lines(text, count))?)
+        }
+        Content::Filled(byte, count) => Ok(vec![in alloc; byte; count]?),
+        Content::Object(source) => object_of(alloc, source),
+        Content::ObjectOn(source, file) => {
+            let source = text_of(alloc, source)?;
+            compiled_on(alloc, source.as_bytes(), file)
+        }
+        Content::Patched(source, mode, donor) => {
+            let object = object_of(alloc, source)?;
+            patched(alloc, object, mode, object_of(alloc, donor)?)
+        }
+    }
+}
+
+// Whether a call has this status and output and tells this, where this one of its writes to tell fails.
+fn comes_to(
+    alloc: Global,
+    (words, streams): (&[&str], Streams),
+    shelf: &mut Drawer,
+    input: &[u8],
+    (status, want, told): (u8, &[u8], &str),
+    tell: u64,
+) -> Result<bool, Fail> {
+    let (_, room, _, write) = numbers(streams);
+    let mut out = Page::new(alloc, room, &[write])?;
+    let mut err = Page::new(alloc, 100, &[tell])?;
+    let came = call(alloc, (words, streams), shelf, input, &mut out, &mut err)?;
+    Ok(came == status && out.bytes() == want && err.bytes() == told.as_bytes())
+}
+
+// Whether a call comes to this, also where its telling fails, which changes nothing else.
+fn comes_to_both(
+    alloc: Global,
+    asked: (&[&str], Streams),
+    shelf: &mut Drawer,
+    input: &[u8],
+    (status, want, told): (u8, &[u8], &str),
+) -> Result<bool, Fail> {
+    let heard = comes_to(alloc, asked, shelf, input, (status, want, told), 0)?;
+    let unheard = comes_to(alloc, asked, shelf, input, (status, want, ""), 1)?;
+    Ok(heard && unheard)
+}
+
+/// Whether a call over this shelf and input is answered so.
+pub fn is_answered_on(
+    alloc: Global,
+    case: &Case<'_>,
+    shelf: &mut Drawer,
+    input: &[u8],
+) -> Result<bool, Fail> {
+    let want = bytes_of(alloc, case.out)?;
+    let asked = (case.words, case.streams);
+    let wanted = (case.status, want.as_slice(), case.told);
+    comes_to_both(alloc, asked, shelf, input, wanted)
+}
+
+// The same with the files A and B, of which this is the first, and the script.
+fn is_answered_of(alloc: Global, case: &Case<'_>, first: Vec<u8>) -> Result<bool, Fail> {
+    let second = bytes_of(alloc, case.contents.1)?;
+    let fails = match case.streams {
+        Streams::Fetches(fails) => fails,
+        _ => &[],
+    };
+    let mut shelf = shelf_of(alloc, first, second, fails)?;
+    is_answered_on(alloc, case, &mut shelf, case.script.as_bytes())
+}
+
+/// Whether a call is answered so.
+pub fn is_answered(alloc: Global, case: &Case<'_>) -> Result<bool, Fail> {
+    let first = bytes_of(alloc, case.contents.0)?;
+    match case.place {
+        Place::Files => is_answered_of(alloc, case, first),
+        Place::Compiled => is_answered_of(alloc, case, compiled(alloc, first.as_slice())?),
+        Place::Input => {
+            let file = bytes_of(alloc, case.contents.1)?;
+            let mut shelf = shelf_of(alloc, file, Vec::new(alloc), &[])?;
+            is_answered_on(alloc, case, &mut shelf, first.as_slice())
+        }
+    }
+}
+
+// The first row of a group with another answer.
+fn wrong_row(alloc: Global, group: &Group) -> Result<Option<usize>, Fail> {
+    for (k, row) in group.rows.iter().enumerate() {
+        let (first, second, script, status, out, told) = *row;
+        let case = Case {
+            words: group.words,
+            place: group.place,
+            streams: group.streams,
+            contents: (first, second),
+            script,
+            status,
+            out,
+            told,
+        };
+        if !is_answered(alloc, &case)? {
+            return Ok(Some(k));
+        }
+    }
+    Ok(None)
+}
+
+/// The first group with a row that has another answer, and the number of the row.
+pub fn first_wrong(alloc: Global, groups: &[Group]) -> Result<Option<(&'static str, usize)>, Fail> {
+    for group in groups {
+        if let Some(k) = wrong_row(alloc, group)? {
+            return Ok(Some((group.name, k)));
+        }
+    }
+    Ok(None)
+}
+
+// The first row with another answer.
+fn other_row(alloc: Global, tried: &Tried) -> Result<Option<usize>, Fail> {
+    for (k, row) in tried.rows.iter().enumerate() {
+        let (streams, status, out, told) = *row;
+        let case = Case {
+            words: tried.words,
+            place: tried.place,
+            streams,
+            contents: tried.contents,
+            script: tried.script,
+            status,
+            out,
+            told,
+        };
+        if !is_answered(alloc, &case)? {
+            return Ok(Some(k));
+        }
+    }
+    Ok(None)
+}
+
+/// The same of calls with streams that differ.
+pub fn first_other(alloc: Global, tries: &[Tried]) -> Result<Option<(&'static str, usize)>, Fail> {
+    for tried in tries {
+        if let Some(k) = other_row(alloc, tried)? {
+            return Ok(Some((tried.name, k)));
+        }
+    }
+    Ok(None)
+}

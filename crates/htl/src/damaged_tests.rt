@@ -1,0 +1,120 @@
+// Damaged objects: cut ones, and ones with another byte, in both versions.
+use crate::load_tests::{DOUBLING, answer, bad_field, changed};
+use htl_base::Name;
+use htl_object::{DecodeFault, MalKind, decode, encode};
+use std::alloc::{AllocError, Global};
+use std::test::Fail;
+
+// A module with an abstract invocation and one beside it, and a module of two modes of which one refines the first.
+const SOMETIMES: [u8; 528] = [
+    // the text and the version
+    72, 84, 76, 79, 0, 1,
+    // seven counts
+    0, 3, 0, 3, 0, 2, 0, 0, 0, 3, 0, 3, 0, 2,
+    // communicators
+    1, 117, 0, 0, 0, 0, 0, 10, 0, 0, 0, 0, 0, 0, 0, 3, 1, 119, 0, 0, 0, 0, 0, 10, 0, 0, 0, 0, 0, 0,
+    0, 0, 1, 103, 1, 1, 0, 0, 0, 10, 0, 0, 0, 0, 0, 0, 0, 0,
+    // modes
+    1, 109, 0, 0, 0, 0, 0, 10, 3, 111, 102, 102, 0, 1, 0, 0, 0, 10, 2, 111, 110, 0, 1, 0, 0, 0, 10,
+    // modules
+    1, 77, 255, 255, 0, 0, 1, 78, 0, 0, 0, 1,
+    // tasks
+    4, 112, 108, 97, 110, 0, 0, 1, 0, 0, 0, 4, 0, 1, 0, 0, 1, 0, 3, 102, 105, 120, 0, 0, 0, 0, 0,
+    0, 2, 0, 1, 0, 0, 1, 0, 4, 102, 97, 115, 116, 0, 1, 0, 0, 0, 0, 3, 0, 1, 0, 0, 1, 0,
+    // invocations
+    0, 0, 0, 0, 255, 255, 0, 1, 0, 0, 1, 0, 0, 0, 0, 0, 1, 0, 0, 0, 0, 0, 0, 1, 0, 0, 0, 1, 255,
+    255, 0, 1, 0, 0, 1, 0, 0, 0, 0, 0, 1, 0, 0, 1, 0, 0, 0, 1, 0, 2, 0, 2, 0, 0, 0, 1, 0, 0, 1, 0,
+    0, 0, 0, 0, 1, 0, 0, 0, 0, 0, 0, 1,
+    // switches
+    0, 1, 0, 2, 0, 1, 0, 2, 0, 2, 0, 1, 0, 1, 0, 2,
+    // functions
+    0, 1, 0, 0, 0, 3, 3, 0, 0, 1, 0, 0, 0, 0, 0, 0, 0, 1, 6, 0, 1, 0, 0, 0, 3, 3, 0, 0, 1, 0, 0, 0,
+    0, 0, 0, 0, 10, 8, 0, 1, 1, 1, 0, 1, 3, 0, 0, 0, 1, 1, 1, 0, 2, 3, 0, 0, 5,
+    // addresses
+    0, 0, 0, 0, 0, 0, 0, 2, 0, 0, 0, 11, 0, 0, 0, 12, 0, 0, 0, 13, 0, 0, 0, 15, 0, 0, 0, 20, 0, 0,
+    0, 21, 0, 0, 0, 30,
+    // E code
+    0, 0, 0, 35, 8, 0, 0, 10, 0, 1, 4, 0, 0, 0, 10, 1, 0, 0, 0, 6, 4, 0, 0, 0, 0, 3, 0, 0, 0, 8, 4,
+    0, 0, 0, 10, 2, 0, 0, 0, 11, 11, 1, 0, 1, 0, 0, 11, 2, 0, 1, 0, 0, 3, 0, 1, 11, 6, 0, 0, 0, 2,
+    8, 0, 1, 4, 0, 0, 0, 10, 2, 0, 0, 0, 15, 11, 7, 0, 0, 0, 0, 0, 18, 9, 11, 5, 0, 0, 0, 0, 0, 20,
+    6, 0, 0, 0, 13, 8, 0, 2, 4, 0, 0, 0, 10, 1, 0, 0, 0, 25, 4, 0, 0, 0, 0, 3, 0, 0, 0, 27, 4, 0,
+    0, 0, 10, 2, 0, 0, 0, 30, 11, 1, 0, 2, 0, 0, 11, 2, 0, 2, 0, 0, 3, 0, 2, 11, 7, 0, 0, 0, 0, 0,
+    33, 9, 11, 5, 0, 1, 0, 0, 0, 12, 6, 0, 0, 0, 21,
+    // S code
+    0, 1, 0, 0, 0, 3, 1, 0, 0, 0, 0, 0, 4, 1, 0, 1, 0, 0, 0, 6, 3,
+];
+
+// The object with the name of a platform.
+fn named(alloc: Global, bytes: &[u8]) -> Option<Vec<u8>> {
+    let mut object = decode(alloc, bytes).ok()?;
+    object.platform = Name::new(b"fast");
+    encode(alloc, &object).ok()
+}
+
+// The first length at which a cut object isn't refused as too short, at its end.
+fn first_not_short(alloc: Global, object: &[u8]) -> Option<usize> {
+    for n in 0..object.len() {
+        let short = bad_field(n as u64, MalKind::Short);
+        if answer(alloc, &object[..n]) != Some(short) {
+            return Some(n);
+        }
+    }
+    None
+}
+
+#[test]
+fn cut_objects_are_short(rt: HostRuntime) -> Result<(), Fail> {
+    let alloc = rt.alloc();
+    let doubling = named(alloc, &DOUBLING).expect(&rt, "an object");
+    let sometimes = named(alloc, &SOMETIMES).expect(&rt, "an object");
+    for object in [
+        DOUBLING.as_slice(),
+        SOMETIMES.as_slice(),
+        doubling.as_slice(),
+        sometimes.as_slice(),
+    ] {
+        assert_eq!(rt; first_not_short(alloc, object), None);
+        assert!(rt; answer(alloc, object).is_some_and(|a| a.is_ok()));
+    }
+    Ok(())
+}
+
+// Whether these bytes are no object, or what they say has these bytes.
+fn are_no_other(alloc: Global, bytes: &[u8]) -> bool {
+    match decode(alloc, bytes) {
+        Ok(object) => encode(alloc, &object).is_ok_and(|again| again.as_slice() == bytes),
+        Err(DecodeFault::Malformed(_)) => true,
+        Err(DecodeFault::Memory) => false,
+    }
+}
+
+// Whether this is so with 0, 255 and the byte but for its lowest bit at a place.
+fn is_no_other(alloc: Global, object: &[u8], at: usize, byte: u8) -> Result<bool, AllocError> {
+    for other in [0, 255, byte ^ 1] {
+        let bytes = changed(alloc, object, at, &[other], true)?;
+        if !are_no_other(alloc, &bytes) {
+            return Ok(false);
+        }
+    }
+    Ok(true)
+}
+
+// The first place at which it isn't so.
+fn first_other(alloc: Global, object: &[u8]) -> Result<Option<usize>, AllocError> {
+    for (at, byte) in object.iter().enumerate() {
+        if !is_no_other(alloc, object, at, *byte)? {
+            return Ok(Some(at));
+        }
+    }
+    Ok(None)
+}
+
+#[test]
+fn a_changed_byte_is_refused_or_said(rt: HostRuntime) -> Result<(), Fail> {
+    let alloc = rt.alloc();
+    let doubling = named(alloc, &DOUBLING).expect(&rt, "an object");
+    for object in [DOUBLING.as_slice(), doubling.as_slice()] {
+        assert_eq!(rt; first_other(alloc, object)?, None);
+    }
+    Ok(())
+}

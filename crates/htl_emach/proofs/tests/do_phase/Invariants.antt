@@ -1,5 +1,0 @@
-use Rattle.htl_emach.specs.Samples.{CanRun}
-use Rattle.htl_emach.proofs.tests.do_phase.Given as goal
-
-abbrev pub invariant-loop : goal.invariant-loop
-invariant-loop l = CanRun l.t l.code l.m l.world

@@ -1,6 +1,0 @@
-use Rattle.std.proofs.Common.{ℕ, sym, subst}
-use Rattle.htl_walk.specs.Walk.{InForm}
-use Rattle.htl_smach.proofs.tests.list.Goals as goal
-
-pub returns-in-Ok-clause-form : goal.returns-in-Ok-clause-form
-returns-in-Ok-clause-form c = λ r same. (c.args.until, subst (λ (n : ℕ). InForm n c.args.until c.new.result) (sym same) c.in-Ok.ensures.clean.form)

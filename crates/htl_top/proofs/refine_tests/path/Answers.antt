@@ -1,5 +1,0 @@
-use Rattle.htl_refine.proofs.Kept.{kept_apart}
-use Rattle.htl_top.proofs.refine_tests.path.Goals as goal
-
-pub derive_path-requires-clause-kept : goal.derive_path-requires-clause-kept
-derive_path-requires-clause-kept c = kept_apart c.args.t.now 16 c.in_default.ensures
