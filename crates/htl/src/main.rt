@@ -68,6 +68,8 @@ mod load_tests;
 #[cfg(test)]
 mod machine_tests;
 #[cfg(test)]
+mod made;
+#[cfg(test)]
 mod names_tests;
 #[cfg(test)]
 mod object_bytes;
