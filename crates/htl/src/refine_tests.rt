@@ -1,16 +1,15 @@
-// The rules, the selections and the jobs of tables that are made by hand: an abstract invocation, and a refinement of two modes, of
-// which the second has a child of it.
-ghost use Rattle.std.specs.Prelude.{◌≡◌, ◌<◌, true, OnOk, IfSome, length};
+// The rules, the selections and the jobs of an abstract invocation and a refinement of two modes, of which the second has a child of it.
+ghost use Rattle.std.specs.Prelude.{◌≡◌, true, OnOk};
 ghost use Rattle.std.specs.List.{All};
 ghost use Rattle.htl_model.specs.Broken.{KeptTo, KeepsLimits};
-ghost use Rattle.htl_model.specs.Ranges.{AreInRange, IsSpan};
 ghost use Rattle.htl_model.specs.Selected.{IsSelection};
-ghost use Rattle.htl_refine.specs.Samples.{sample_mode, sample_task, sample_inv, sample_modes, sample_modules, sample_tasks, sample_invs, sample_of};
 
-use htl_base::{Name, Seq};
+use crate::made::{made, made_of};
+use crate::pieces::Text;
+use htl_base::Seq;
 use htl_form::{form, frames};
 use htl_model::frame::Frame;
-use htl_model::{FormFault, Inv, Mode, Module, Parts, Tables, Task};
+use htl_model::{FormFault, Tables};
 use htl_refine::{
     Selection, begun_choice, derive, derive_begun, derive_path, is_selection, refine, selection_of,
 };
@@ -18,123 +17,19 @@ use htl_walk::Job;
 use std::alloc::Global;
 use std::test::Fail;
 
-fn mode(name: Name, module: u16) -> Mode
-    ensures { result ≡ sample_mode name «module» }
-{
-    Mode {
-        name,
-        module,
-        period: 10,
-    }
+const REFINED: &str = "program P {
+  module M start m {
+    abstract task plan input () output () worst 4;
+    mode m period 10 program Q { invoke plan input () output (); }
+  }
 }
-
-fn task(alloc: Global, name: Name, module: u16, is_abstract: bool, worst: u32) -> Task
-    ensures { result ≡ sample_task name «module» is_abstract worst }
-{
-    Task {
-        name,
-        module,
-        is_abstract,
-        worst,
-        inputs: Seq::new(Vec::new(alloc)),
-        outputs: Seq::new(Vec::new(alloc)),
-    }
-}
-
-fn inv(alloc: Global, mode: u16, task: u16, parent: Option<u16>) -> Inv
-    ensures { result ≡ sample_inv mode task parent }
-{
-    Inv {
-        mode,
-        task,
-        parent,
-        reads: Seq::new(Vec::new(alloc)),
-        writes: Seq::new(Vec::new(alloc)),
-    }
-}
-
-fn modes(alloc: Global) -> Option<Vec<Mode>>
-    ensures { IfSome result (λ v. v.items ≡ sample_modes) }
-{
-    let m = Name::new(b"m")?;
-    let off = Name::new(b"off")?;
-    let on = Name::new(b"on")?;
-    vec![in alloc; mode(m, 0), mode(off, 1), mode(on, 1)].ok()
-}
-
-fn modules(alloc: Global) -> Option<Vec<Module>>
-    ensures { IfSome result (λ v. v.items ≡ sample_modules) }
-{
-    let root = Name::new(b"M")?;
-    let child = Name::new(b"N")?;
-    vec![in alloc;
-        Module {
-            name: root,
-            parent: None,
-            start: 0
-        },
-        Module {
-            name: child,
-            parent: Some(0),
-            start: 1
-        },
-    ]
-    .ok()
-}
-
-fn tasks(alloc: Global, worst: u32) -> Option<Vec<Task>>
-    ensures { IfSome result (λ v. v.items ≡ sample_tasks worst) }
-{
-    let plan = Name::new(b"plan")?;
-    let fast = Name::new(b"fast")?;
-    vec![in alloc;
-        task(alloc, plan, 0, true, 4),
-        task(alloc, fast, 1, false, worst),
-    ]
-    .ok()
-}
-
-fn invs(alloc: Global) -> Option<Vec<Inv>>
-    ensures { IfSome result (λ v. v.items ≡ sample_invs) }
-{
-    vec![in alloc; inv(alloc, 0, 0, None), inv(alloc, 2, 1, Some(0))].ok()
-}
-
-// The tables with this worst case of the child.
-fn tables(alloc: Global, worst: u32) -> Option<Tables>
-    requires { IsSpan worst }
-    ensures limits { IfSome result (λ t. KeepsLimits t) }
-    ensures some { IfSome result (λ t. 0 < length t.modules) }
-{
-    let modes = modes(alloc)?;
-    let modules = modules(alloc)?;
-    let tasks = tasks(alloc, worst)?;
-    let invs = invs(alloc)?;
-    Some(tables_of(alloc, modes, modules, tasks, invs))
-}
-
-// Tables of these lists alone.
-fn tables_of(
-    alloc: Global,
-    modes: Vec<Mode>,
-    modules: Vec<Module>,
-    tasks: Vec<Task>,
-    invs: Vec<Inv>,
-) -> Tables
-    requires { AreInRange (sample_of modes.items modules.items tasks.items invs.items) }
-    ensures { result ≡ sample_of modes.items modules.items tasks.items invs.items }
-{
-    Tables::new(Parts {
-        comms: Seq::new(Vec::new(alloc)),
-        modes: Seq::new(modes),
-        modules: Seq::new(modules),
-        ports: Seq::new(Vec::new(alloc)),
-        tasks: Seq::new(tasks),
-        invs: Seq::new(invs),
-        switches: Seq::new(Vec::new(alloc)),
-        functions: Seq::new(Vec::new(alloc)),
-    })
-}
+program Q {
+  module N start off {
+    task fast input () output () worst 3;
+    mode off period 10 { }
+    mode on period 10 { invoke fast input () output () parent plan; }
+  }
+}";
 
 fn judge(t: &Tables) -> Result<(), FormFault>
     ensures { OnOk result (KeptTo t.now 16) }
@@ -145,9 +40,9 @@ fn judge(t: &Tables) -> Result<(), FormFault>
 
 // The number of the root selection, and the number of positions.
 fn round(t: &Tables, s: &Selection, jobs: &mut [Job; 128]) -> Option<(u32, usize)>
-    requires limits { KeepsLimits t.now }
-    requires some { 0 < length t.now.modules }
+    requires { KeepsLimits t.now }
 {
+    t.period()?;
     match judge(t) {
         Ok(()) => if is_selection(t, s) {
             Some((selection_of(t, s), derive(t, s, jobs)))
@@ -225,6 +120,7 @@ const FAST: Job = Job {
     preds: 0,
 };
 
+// The selection of the root's mode and of this mode of the child.
 fn selection(alloc: Global, child: Option<u16>) -> Option<Selection> {
     let modes = vec![in alloc; Some(0), child].ok()?;
     Some(Selection {
@@ -232,10 +128,14 @@ fn selection(alloc: Global, child: Option<u16>) -> Option<Selection> {
     })
 }
 
+// What the rules say of a text.
+fn verdict(alloc: Global, text: Text) -> Option<Result<(), FormFault>> {
+    let t = made_of(alloc, text)?;
+    Some(judge(&t))
+}
+
 #[test]
-fn rules_selections_and_jobs(rt: HostRuntime) -> Result<(), Fail> {
-    let alloc = rt.alloc();
-    let t = tables(alloc, 5).expect(&rt, "tables");
+fn a_child_asks_for_no_more(rt: HostRuntime) -> Result<(), Fail> {
     let fault = FormFault {
         rule: 16,
         module: 1,
@@ -244,60 +144,84 @@ fn rules_selections_and_jobs(rt: HostRuntime) -> Result<(), Fail> {
         have: 5,
         need: 4,
     };
-    assert_eq!(rt; judge(&t), Err(fault));
-    let t = tables(alloc, 3).expect(&rt, "tables");
-    assert_eq!(rt; judge(&t), Ok(()));
-    let fast = Job {
-        present: true,
-        inv: 1,
-        release: 0,
-        end: 10,
-        worst: 3,
-        preds: 0,
-    };
-    let mut jobs = [fast; 128];
-    let off = selection(alloc, Some(1)).expect(&rt, "selection");
-    assert_eq!(rt; round(&t, &off, &mut jobs), Some((0, 1)));
-    assert_eq!(rt; jobs[0], NO_JOB);
-    assert_eq!(rt; jobs[1], fast);
-    let on = selection(alloc, Some(2)).expect(&rt, "selection");
-    assert_eq!(rt; round(&t, &on, &mut jobs), Some((0, 1)));
-    assert_eq!(rt; jobs[0], fast);
-    let left = selection(alloc, None).expect(&rt, "selection");
-    assert_eq!(rt; round(&t, &left, &mut jobs), None);
+    let longer = Text::Edited(REFINED, &[("worst 3", "worst 5")]);
+    assert_eq!(rt; verdict(rt.alloc(), longer), Some(Err(fault)));
+    assert_eq!(rt; verdict(rt.alloc(), Text::Whole(REFINED)), Some(Ok(())));
     Ok(())
 }
 
-#[test]
-fn jobs_of_a_path(rt: HostRuntime) -> Result<(), Fail> {
-    let alloc = rt.alloc();
-    let t = tables(alloc, 3).expect(&rt, "tables");
-    let mut jobs = [FAST; 128];
-    assert_eq!(rt; path(&t, &[], &mut jobs), Some(0));
-    assert_eq!(rt; jobs[0], FAST);
-    let off = selection(alloc, Some(1)).expect(&rt, "selection");
-    assert_eq!(rt; path(&t, &[off], &mut jobs), Some(1));
-    assert_eq!(rt; jobs[0], NO_JOB);
-    assert_eq!(rt; jobs[1], FAST);
-    let on = selection(alloc, Some(2)).expect(&rt, "selection");
-    assert_eq!(rt; path(&t, &[on], &mut jobs), Some(1));
-    assert_eq!(rt; jobs[0], FAST);
-    let left = selection(alloc, None).expect(&rt, "selection");
-    assert_eq!(rt; path(&t, &[left], &mut jobs), None);
-    Ok(())
+// The selections of these modes of the child.
+fn selections(alloc: Global, children: &[Option<u16>]) -> Option<Vec<Selection>> {
+    let mut selections = Vec::new(alloc);
+    for child in children {
+        selections.push(selection(alloc, *child)?).ok()?;
+    }
+    Some(selections)
 }
 
+// What is derived.
+#[derive(Clone, Copy)]
+enum Of {
+    // one round
+    Round,
+    // a path
+    Path,
+    // what begins at the first start
+    Start,
+}
+
+// The number of a root selection or a choice, where there is one, and the number of positions.
+fn derived_of(t: &Tables, of: Of, sels: &[Selection], jobs: &mut [Job; 128]) -> Option<(u32, usize)>
+    requires { KeepsLimits t.now }
+{
+    match (of, sels) {
+        (Of::Round, [s]) => round(t, s, jobs),
+        (Of::Start, [s]) => begun(t, s, jobs),
+        (Of::Path, _) => Some((0, path(t, sels, jobs)?)),
+        _ => None,
+    }
+}
+
+fn derived_in(
+    alloc: Global,
+    of: Of,
+    sels: &[Selection],
+    jobs: &mut [Job; 128],
+) -> Option<(u32, usize)> {
+    let t = made(alloc, REFINED)?;
+    derived_of(&t, of, sels, jobs)
+}
+
+fn derived(
+    alloc: Global,
+    of: Of,
+    children: &[Option<u16>],
+    jobs: &mut [Job; 128],
+) -> Option<(u32, usize)> {
+    let selections = selections(alloc, children)?;
+    derived_in(alloc, of, selections.as_slice(), jobs)
+}
+
+// What is derived, the child's mode in each round, the answer, and what stands in the first two places, one row after
+// the other.
+const DERIVED: [(Of, &[Option<u16>], Option<(u32, usize)>, [Job; 2]); 9] = [
+    (Of::Round, &[Some(1)], Some((0, 1)), [NO_JOB, FAST]),
+    (Of::Round, &[Some(2)], Some((0, 1)), [FAST, FAST]),
+    (Of::Round, &[None], None, [FAST, FAST]),
+    (Of::Path, &[], Some((0, 0)), [FAST, FAST]),
+    (Of::Path, &[Some(1)], Some((0, 1)), [NO_JOB, FAST]),
+    (Of::Path, &[Some(2)], Some((0, 1)), [FAST, FAST]),
+    (Of::Path, &[None], None, [FAST, FAST]),
+    (Of::Start, &[Some(1)], Some((0, 1)), [NO_JOB, FAST]),
+    (Of::Start, &[Some(2)], Some((0, 1)), [FAST, FAST]),
+];
+
 #[test]
-fn jobs_that_begin_at_a_start(rt: HostRuntime) -> Result<(), Fail> {
-    let alloc = rt.alloc();
-    let t = tables(alloc, 3).expect(&rt, "tables");
+fn jobs_are_derived(rt: HostRuntime) -> Result<(), Fail> {
     let mut jobs = [FAST; 128];
-    let off = selection(alloc, Some(1)).expect(&rt, "selection");
-    assert_eq!(rt; begun(&t, &off, &mut jobs), Some((0, 1)));
-    assert_eq!(rt; jobs[0], NO_JOB);
-    assert_eq!(rt; jobs[1], FAST);
-    let on = selection(alloc, Some(2)).expect(&rt, "selection");
-    assert_eq!(rt; begun(&t, &on, &mut jobs), Some((0, 1)));
-    assert_eq!(rt; jobs[0], FAST);
+    for (of, children, wanted, front) in DERIVED {
+        assert_eq!(rt; derived(rt.alloc(), of, children, &mut jobs), wanted);
+        assert_eq!(rt; &jobs[..2], &front[..]);
+    }
     Ok(())
 }
