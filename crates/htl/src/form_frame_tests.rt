@@ -1,85 +1,39 @@
-// The limits of frames, and the numbers of a frame, on tables that are made by hand: worked out outside this program.
-ghost use Rattle.std.specs.Prelude.{◌≡◌, IfSome};
-ghost use Rattle.htl_model.specs.Ranges.{AreInRange, IsSpan};
-ghost use Rattle.htl_form.specs.Samples.{sample_of};
-ghost use Rattle.htl_form.specs.FrameSamples.{frame_modes, frame_modules};
-
-use htl_base::{Name, Seq};
+// The limits of frames, and the numbers of a frame: worked out outside this program.
+use crate::made::made;
+use crate::pieces::{Piece, joined};
+use htl_base::Time;
 use htl_form::frames;
-use htl_model::{FormFault, Mode, Module, Parts, Tables};
+use htl_model::{FormFault, Tables};
 use std::alloc::Global;
 use std::test::Fail;
 
-fn modes(alloc: Global, p: u32, q: u32) -> Option<Vec<Mode>>
-    ensures { IfSome result (λ v. v.items ≡ frame_modes p q) }
-{
-    let a = Name::new(b"a")?;
-    let b = Name::new(b"b")?;
-    let c = Name::new(b"c")?;
-    vec![in alloc;
-        Mode {
-            name: a,
-            module: 0,
-            period: p
-        },
-        Mode {
-            name: b,
-            module: 0,
-            period: p
-        },
-        Mode {
-            name: c,
-            module: 1,
-            period: q
-        },
-    ]
-    .ok()
-}
-
-fn modules(alloc: Global) -> Option<Vec<Module>>
-    ensures { IfSome result (λ v. v.items ≡ frame_modules) }
-{
-    let a = Name::new(b"A")?;
-    let b = Name::new(b"B")?;
-    vec![in alloc;
-        Module {
-            name: a,
-            parent: None,
-            start: 0
-        },
-        Module {
-            name: b,
-            parent: None,
-            start: 2
-        },
-    ]
-    .ok()
-}
-
 // Two root modules, the first with two modes of period p, the second with one of period q.
-fn tables(alloc: Global, p: u32, q: u32) -> Option<Tables>
-    requires p { IsSpan p }
-    requires q { IsSpan q }
-{
-    let modes = modes(alloc, p, q)?;
-    let modules = modules(alloc)?;
-    Some(tables_of(alloc, modes, modules))
+fn two_modules(alloc: Global, p: &'static str, q: &'static str) -> Option<Tables> {
+    let pieces = [
+        Piece::Once("program P { module A start a { mode a period "),
+        Piece::Once(p),
+        Piece::Once(" { } mode b period "),
+        Piece::Once(p),
+        Piece::Once(" { } } module B start c { mode c period "),
+        Piece::Once(q),
+        Piece::Once(" { } } }"),
+    ];
+    let text = joined(alloc, &pieces).ok()?;
+    made(alloc, text.as_str())
 }
 
-// Tables of modules and modes alone.
-fn tables_of(alloc: Global, modes: Vec<Mode>, modules: Vec<Module>) -> Tables
-    requires { AreInRange (sample_of modes.items modules.items) }
-{
-    Tables::new(Parts {
-        comms: Seq::new(Vec::new(alloc)),
-        modes: Seq::new(modes),
-        modules: Seq::new(modules),
-        ports: Seq::new(Vec::new(alloc)),
-        tasks: Seq::new(Vec::new(alloc)),
-        invs: Seq::new(Vec::new(alloc)),
-        switches: Seq::new(Vec::new(alloc)),
-        functions: Seq::new(Vec::new(alloc)),
-    })
+// The hyperperiod of a frame, its starts, paths and nodes.
+type Numbers = (Option<Time>, usize, u32, u32);
+
+fn numbers_of(t: &Tables) -> Result<Numbers, FormFault> {
+    frames(t)?;
+    Ok((t.hyper(), t.starts(), t.paths(), t.nodes()))
+}
+
+// The numbers of the frame of modules of these periods, or the limit that is exceeded.
+fn answer(alloc: Global, p: &'static str, q: &'static str) -> Option<Result<Numbers, FormFault>> {
+    let t = two_modules(alloc, p, q)?;
+    Some(numbers_of(&t))
 }
 
 // The fault at the first mode of module B.
@@ -94,55 +48,25 @@ fn exceeded(have: u64, need: u64) -> FormFault {
     }
 }
 
-#[test]
-fn a_multiple_of_a_million_at_most(rt: HostRuntime) -> Result<(), Fail> {
-    let t = tables(rt.alloc(), 1_000_000, 999_999).expect(&rt, "tables");
-    assert_eq!(rt; frames(&t), Err(exceeded(999_999_000_000, 1_000_000)));
-    Ok(())
-}
+// The periods, and the numbers of the frame, or what there is and what there may be.
+const FRAMES: [(&'static str, &'static str, Result<Numbers, (u64, u64)>); 6] = [
+    // a multiple of a million at most
+    ("1000000", "999999", Err((999_999_000_000, 1_000_000))),
+    // at most 32 starts
+    ("10", "330", Err((33, 32))),
+    ("320", "10", Ok((Some(320), 32, 2, 64))),
+    // at most 1,024 paths
+    ("10", "110", Err((2_048, 1_024))),
+    // they are told up to a cap
+    ("10", "320", Err((4_294_967_295, 1_024))),
+    ("10", "100", Ok((Some(100), 10, 1_024, 2_046))),
+];
 
 #[test]
-fn at_most_32_starts(rt: HostRuntime) -> Result<(), Fail> {
-    let t = tables(rt.alloc(), 10, 330).expect(&rt, "tables");
-    assert_eq!(rt; frames(&t), Err(exceeded(33, 32)));
-    Ok(())
-}
-
-#[test]
-fn a_frame_of_32_starts(rt: HostRuntime) -> Result<(), Fail> {
-    let t = tables(rt.alloc(), 320, 10).expect(&rt, "tables");
-    assert_eq!(rt; frames(&t), Ok(()));
-    if let Ok(()) = t.frame_limits() {
-        assert_eq!(rt; t.hyper(), Some(320));
-        assert_eq!(rt; t.starts(), 32);
-        assert_eq!(rt; t.paths(), 2);
-    }
-    Ok(())
-}
-
-#[test]
-fn at_most_1024_paths(rt: HostRuntime) -> Result<(), Fail> {
-    let t = tables(rt.alloc(), 10, 110).expect(&rt, "tables");
-    assert_eq!(rt; frames(&t), Err(exceeded(2_048, 1_024)));
-    Ok(())
-}
-
-#[test]
-fn paths_are_told_up_to_a_cap(rt: HostRuntime) -> Result<(), Fail> {
-    let t = tables(rt.alloc(), 10, 320).expect(&rt, "tables");
-    assert_eq!(rt; frames(&t), Err(exceeded(4_294_967_295, 1_024)));
-    Ok(())
-}
-
-#[test]
-fn a_frame_of_ten_starts(rt: HostRuntime) -> Result<(), Fail> {
-    let t = tables(rt.alloc(), 10, 100).expect(&rt, "tables");
-    assert_eq!(rt; frames(&t), Ok(()));
-    if let Ok(()) = t.frame_limits() {
-        assert_eq!(rt; t.hyper(), Some(100));
-        assert_eq!(rt; t.starts(), 10);
-        assert_eq!(rt; t.paths(), 1_024);
-        assert_eq!(rt; t.nodes(), 2_046);
+fn limits_and_numbers_of_frames(rt: HostRuntime) -> Result<(), Fail> {
+    for (p, q, wanted) in FRAMES {
+        let wanted = wanted.map_err(|(have, need)| exceeded(have, need));
+        assert_eq!(rt; answer(rt.alloc(), p, q), Some(wanted));
     }
     Ok(())
 }
