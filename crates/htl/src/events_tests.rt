@@ -1,151 +1,24 @@
 // Scripts over small tables.
-ghost use Rattle.std.specs.Prelude.{◌≡◌, IfSome};
-ghost use Rattle.htl_model.specs.Ranges.{AreInRange};
-ghost use Rattle.htl_script.specs.Samples.{
-  sample_comm,
-  sample_task,
-  sample_inv,
-  sample_comms,
-  sample_modes,
-  sample_modules,
-  sample_tasks,
-  sample_invs,
-  sample_of,
-};
-
-use htl_script::{Script, ScriptFault, ScriptKind, ScriptStop};
-use htl_base::{Memory, Name, Seq, Ty};
+use crate::made::made;
+use htl_base::Memory;
 use htl_edge::Tape;
-use htl_model::{Comm, Event, Inv, Mode, Module, Parts, Tables, Task};
+use htl_model::{Event, Tables};
+use htl_script::{Script, ScriptFault, ScriptKind, ScriptStop};
 use std::alloc::Global;
 use std::test::Fail;
 
-fn comm(name: Name, ty: Ty, sensor: bool) -> Comm
-    ensures { result ≡ sample_comm name ty sensor }
-{
-    Comm {
-        name,
-        ty,
-        sensor,
-        period: 10,
-        init: 0,
-    }
-}
-
-fn task(alloc: Global, name: Name, is_abstract: bool) -> Task
-    ensures { result ≡ sample_task name is_abstract }
-{
-    Task {
-        name,
-        module: 0,
-        is_abstract,
-        worst: 4,
-        inputs: Seq::new(Vec::new(alloc)),
-        outputs: Seq::new(Vec::new(alloc)),
-    }
-}
-
-fn inv(alloc: Global, task: u16) -> Inv
-    ensures { result ≡ sample_inv task }
-{
-    Inv {
-        mode: 0,
-        task,
-        parent: None,
-        reads: Seq::new(Vec::new(alloc)),
-        writes: Seq::new(Vec::new(alloc)),
-    }
-}
-
-fn comms(alloc: Global) -> Option<Vec<Comm>>
-    ensures { IfSome result (λ v. v.items ≡ sample_comms) }
-{
-    let s = Name::new(b"s")?;
-    let u = Name::new(b"u")?;
-    let g = Name::new(b"g")?;
-    vec![in alloc;
-        comm(s, Ty::Int, true),
-        comm(u, Ty::Int, false),
-        comm(g, Ty::Bool, true),
-    ]
-    .ok()
-}
-
-fn modes(alloc: Global) -> Option<Vec<Mode>>
-    ensures { IfSome result (λ v. v.items ≡ sample_modes) }
-{
-    let name = Name::new(b"m")?;
-    vec![in alloc;
-        Mode {
-            name,
-            module: 0,
-            period: 20
-        },
-    ]
-    .ok()
-}
-
-fn modules(alloc: Global) -> Option<Vec<Module>>
-    ensures { IfSome result (λ v. v.items ≡ sample_modules) }
-{
-    let name = Name::new(b"M")?;
-    vec![in alloc;
-        Module {
-            name,
-            parent: None,
-            start: 0
-        },
-    ]
-    .ok()
-}
-
-fn tasks(alloc: Global) -> Option<Vec<Task>>
-    ensures { IfSome result (λ v. v.items ≡ sample_tasks) }
-{
-    let dbl = Name::new(b"dbl")?;
-    let hold = Name::new(b"hold")?;
-    vec![in alloc; task(alloc, dbl, false), task(alloc, hold, true)].ok()
-}
-
-fn invs(alloc: Global) -> Option<Vec<Inv>>
-    ensures { IfSome result (λ v. v.items ≡ sample_invs) }
-{
-    vec![in alloc; inv(alloc, 0), inv(alloc, 1)].ok()
-}
-
 // The sensors s (int) and g (bool), a communicator u, and in the mode M.m the invocations of dbl with
 // worst case 4 and of the abstract hold.
-fn tables(alloc: Global) -> Option<Tables> {
-    let comms = comms(alloc)?;
-    let modes = modes(alloc)?;
-    let modules = modules(alloc)?;
-    let tasks = tasks(alloc)?;
-    let invs = invs(alloc)?;
-    Some(tables_of(alloc, comms, modes, modules, tasks, invs))
-}
-
-// Tables of these lists, without ports and switches.
-fn tables_of(
-    alloc: Global,
-    comms: Vec<Comm>,
-    modes: Vec<Mode>,
-    modules: Vec<Module>,
-    tasks: Vec<Task>,
-    invs: Vec<Inv>,
-) -> Tables
-    requires { AreInRange (sample_of comms.items modes.items modules.items tasks.items invs.items) }
-{
-    Tables::new(Parts {
-        comms: Seq::new(comms),
-        modes: Seq::new(modes),
-        modules: Seq::new(modules),
-        ports: Seq::new(Vec::new(alloc)),
-        tasks: Seq::new(tasks),
-        invs: Seq::new(invs),
-        switches: Seq::new(Vec::new(alloc)),
-        functions: Seq::new(Vec::new(alloc)),
-    })
-}
+const TWO_SENSORS: &str = "program P {
+  sensor int s period 10 init 0;
+  communicator int u period 10 init 0;
+  sensor bool g period 10 init false;
+  module M start m {
+    task dbl input () output () worst 4;
+    abstract task hold input () output () worst 4;
+    mode m period 20 { invoke dbl input () output (); invoke hold input () output (); }
+  }
+}";
 
 // Reads a script that comes in pieces of `step` bytes, and answers its events and how it ended.
 fn read(
@@ -171,6 +44,45 @@ fn read(
     }
 }
 
+// How the script of these tables ends.
+fn ended_of(
+    alloc: Global,
+    t: &Tables,
+    bytes: &[u8],
+    step: usize,
+    fails: &[u64],
+) -> Option<Result<(), ScriptStop>> {
+    let (_, answer) = read(alloc, t, bytes, step, fails).ok()?;
+    Some(answer)
+}
+
+fn ended(
+    alloc: Global,
+    bytes: &[u8],
+    step: usize,
+    fails: &[u64],
+) -> Option<Result<(), ScriptStop>> {
+    let t = made(alloc, TWO_SENSORS)?;
+    ended_of(alloc, &t, bytes, step, fails)
+}
+
+// Whether these events are read up to the end.
+fn has_events_of(
+    alloc: Global,
+    t: &Tables,
+    bytes: &[u8],
+    step: usize,
+    wanted: &[Event],
+) -> Option<bool> {
+    let (events, answer) = read(alloc, t, bytes, step, &[]).ok()?;
+    Some(answer == Ok(()) && events.as_slice() == wanted)
+}
+
+fn has_events(alloc: Global, bytes: &[u8], step: usize, wanted: &[Event]) -> Option<bool> {
+    let t = made(alloc, TWO_SENSORS)?;
+    has_events_of(alloc, &t, bytes, step, wanted)
+}
+
 const REFUSED: [(&[u8], u64, ScriptKind); 10] = [
     (b"at 5\nat 5\n", 2, ScriptKind::Order),
     (b"sense s 1\n", 1, ScriptKind::Order),
@@ -190,33 +102,29 @@ const REFUSED: [(&[u8], u64, ScriptKind); 10] = [
 
 #[test]
 fn the_first_fault_is_named(rt: HostRuntime) -> Result<(), Fail> {
-    let alloc = rt.alloc();
-    let t = tables(alloc).expect(&rt, "tables");
     for (script, line, kind) in REFUSED {
         for step in [1usize, 7, 4096] {
-            let (_, answer) = read(alloc, &t, script, step, &[])?;
-            assert_eq!(rt; answer, Err(ScriptStop::Script(ScriptFault { line, kind })));
+            let fault = ScriptStop::Script(ScriptFault { line, kind });
+            assert_eq!(rt; ended(rt.alloc(), script, step, &[]), Some(Err(fault)));
         }
     }
     Ok(())
 }
 
+const LONG: ScriptFault = ScriptFault {
+    line: 1,
+    kind: ScriptKind::Long,
+};
+
 #[test]
 fn long_lines_are_refused(rt: HostRuntime) -> Result<(), Fail> {
-    let alloc = rt.alloc();
-    let t = tables(alloc).expect(&rt, "tables");
     let mut script = [b'#'; 263];
     script[256..].copy_from_slice(b"\nend 5\n");
     for step in [1usize, 7, 4096] {
-        let (_, answer) = read(alloc, &t, &script, step, &[])?;
-        let fault = ScriptFault {
-            line: 1,
-            kind: ScriptKind::Long,
-        };
-        assert_eq!(rt; answer, Err(ScriptStop::Script(fault)));
-        let (events, answer) = read(alloc, &t, &script[1..], step, &[])?;
-        assert_eq!(rt; answer, Ok(()));
-        assert_eq!(rt; events.as_slice(), [Event::End(5)].as_slice());
+        let long = ended(rt.alloc(), &script, step, &[]);
+        assert_eq!(rt; long, Some(Err(ScriptStop::Script(LONG))));
+        let short = has_events(rt.alloc(), &script[1..], step, &[Event::End(5)]);
+        assert_eq!(rt; short, Some(true));
     }
     Ok(())
 }
@@ -239,31 +147,38 @@ const EVENTS: [Event; 7] = [
 
 #[test]
 fn a_whole_script_gives_its_events(rt: HostRuntime) -> Result<(), Fail> {
-    let alloc = rt.alloc();
-    let t = tables(alloc).expect(&rt, "tables");
     for step in [1usize, 7, 4096] {
-        let (events, answer) = read(alloc, &t, WHOLE, step, &[])?;
-        assert_eq!(rt; answer, Ok(()));
-        assert_eq!(rt; events.as_slice(), EVENTS.as_slice());
+        assert_eq!(rt; has_events(rt.alloc(), WHOLE, step, &EVENTS), Some(true));
         // The last line may lack its line feed.
-        let (events, answer) = read(alloc, &t, b"at 3\nend 3", step, &[])?;
-        assert_eq!(rt; answer, Ok(()));
-        assert_eq!(rt; events.as_slice(), [Event::At(3), Event::End(3)].as_slice());
+        let last = has_events(
+            rt.alloc(),
+            b"at 3\nend 3",
+            step,
+            &[Event::At(3), Event::End(3)],
+        );
+        assert_eq!(rt; last, Some(true));
     }
     Ok(())
 }
 
+// Whether the source fails at this call behind some of the first seven events, or behind none.
+fn is_cut_of(alloc: Global, t: &Tables, call: u64) -> Option<bool> {
+    let (events, answer) = read(alloc, t, WHOLE, 7, &[call]).ok()?;
+    let wanted = &EVENTS[..events.len().min(7)];
+    Some(answer == Err(ScriptStop::Read) && events.as_slice() == wanted)
+}
+
+fn is_cut(alloc: Global, call: u64) -> Option<bool> {
+    let t = made(alloc, TWO_SENSORS)?;
+    is_cut_of(alloc, &t, call)
+}
+
 #[test]
 fn a_fault_of_the_source_is_told(rt: HostRuntime) -> Result<(), Fail> {
-    let alloc = rt.alloc();
-    let t = tables(alloc).expect(&rt, "tables");
     // The script comes in 16 pieces of 7 bytes, and one more call meets its end.
     for call in 1..18u64 {
-        let (events, answer) = read(alloc, &t, WHOLE, 7, &[call])?;
-        assert_eq!(rt; answer, Err(ScriptStop::Read));
-        assert_eq!(rt; events.as_slice(), &EVENTS[..events.len().min(7)]);
+        assert_eq!(rt; is_cut(rt.alloc(), call), Some(true));
     }
-    let (_, answer) = read(alloc, &t, WHOLE, 7, &[18])?;
-    assert_eq!(rt; answer, Ok(()));
+    assert_eq!(rt; ended(rt.alloc(), WHOLE, 7, &[18]), Some(Ok(())));
     Ok(())
 }
