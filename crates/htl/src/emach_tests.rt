@@ -1,171 +1,46 @@
 // A run of a source with one invocation.
-ghost use Rattle.std.specs.Prelude.{◌≡◌, ◌≤◌, ◌<◌, ◌∷◌, [], length, map, true, IfSome};
+ghost use Rattle.std.specs.Prelude.{◌≡◌, ◌≤◌, ◌<◌, ℤ, length, slice_get, true, Some, IfSome};
 ghost use Rattle.htl_base.specs.declared.limits.TheConstants as limit;
-ghost use Rattle.htl_model.specs.declared.parts.End.TheVariants as ends;
-ghost use Rattle.htl_model.specs.Ranges.{AreInRange};
-ghost use Rattle.htl_model.specs.Tables.{fun_of, Compiled};
+ghost use Rattle.htl_model.specs.declared.parts.Comm.{Comm};
+ghost use Rattle.htl_model.specs.FrameRules.{KeptApart};
+ghost use Rattle.htl_model.specs.FunctionTypes.{FitPlaces};
+ghost use Rattle.htl_model.specs.Ranges.{FitsType};
+ghost use Rattle.htl_model.specs.Tables.{is_concrete as is_concrete_of};
 ghost use Rattle.htl_ecode.specs.Spelling.{Spells};
 ghost use Rattle.htl_emach.specs.Due.{IsUpToNext};
-ghost use Rattle.htl_emach.specs.Samples.{
-  sample_comm,
-  sample_comms,
-  sample_mode,
-  sample_module,
-  sample_task,
-  sample_inv,
-  sample_code,
-  sample_of,
-  sample,
-  CanRun,
-};
+ghost use Rattle.htl.specs.Running.{CanRun};
 
-use htl_emach::{EMach, World};
-use htl_base::{Name, Seq, Time, Ty};
+use crate::made::{is_formed, keeps_offsets, made_of};
+use crate::pieces::Text;
+use crate::samples::DOUBLING;
+use htl_base::{Time, Ty, Value};
 use htl_ecode::{ECode, EInstr, generate_e};
-use htl_model::{Code, Comm, End, FInstr, Function, Inv, Mode, Module, Parts, Tables, Task};
+use htl_emach::{EMach, World};
+use htl_model::Tables;
+use htl_model::lookup::is_concrete;
 use std::alloc::Global;
 use std::test::Fail;
 
-fn comm(name: Name, sensor: bool) -> Comm
-    ensures { result ≡ sample_comm name sensor }
+// Whether there is a communicator of integers.
+fn is_int(t: &Tables, comm: u16) -> bool
+    ensures known { result ≡ true → comm < length t.now.comms }
+    ensures fits { result ≡ true → (c : Comm) → slice_get t.now.comms comm ≡ Some c → (x : ℤ) → FitsType c.ty x }
 {
-    Comm {
-        name,
-        ty: Ty::Int,
-        sensor,
-        period: 10,
-        init: 0,
+    match t.parts().comms.as_slice().get(comm as usize) {
+        Some(item) => item.ty == Ty::Int,
+        None => false,
     }
 }
 
-fn comms(alloc: Global) -> Option<Vec<Comm>>
-    ensures { IfSome result (λ v. v.items ≡ sample_comms) }
+// Whether there is an invocation of a task with code.
+fn is_with_code(t: &Tables, inv: u16) -> bool
+    ensures known { result ≡ true → inv < length t.now.invs }
+    ensures concrete { result ≡ true → IfSome (slice_get t.now.invs inv) (λ x. is_concrete_of t.now x ≡ true) }
 {
-    let s = Name::new(b"s")?;
-    let u = Name::new(b"u")?;
-    vec![in alloc; comm(s, true), comm(u, false)].ok()
-}
-
-fn modes(alloc: Global) -> Option<Vec<Mode>>
-    ensures { IfSome result (λ v. v.items ≡ sample_mode ∷ []) }
-{
-    let name = Name::new(b"m")?;
-    vec![in alloc;
-        Mode {
-            name,
-            module: 0,
-            period: 20
-        },
-    ]
-    .ok()
-}
-
-fn modules(alloc: Global) -> Option<Vec<Module>>
-    ensures { IfSome result (λ v. v.items ≡ sample_module ∷ []) }
-{
-    let name = Name::new(b"M")?;
-    vec![in alloc;
-        Module {
-            name,
-            parent: None,
-            start: 0
-        },
-    ]
-    .ok()
-}
-
-fn tasks(alloc: Global) -> Option<Vec<Task>>
-    ensures { IfSome result (λ v. v.items ≡ sample_task ∷ []) }
-{
-    let name = Name::new(b"dbl")?;
-    let inputs = vec![in alloc; Ty::Int].ok()?;
-    let outputs = vec![in alloc; Ty::Int].ok()?;
-    vec![in alloc;
-        Task {
-            name,
-            module: 0,
-            is_abstract: false,
-            worst: 4,
-            inputs: Seq::new(inputs),
-            outputs: Seq::new(outputs)
-        },
-    ]
-    .ok()
-}
-
-fn end(alloc: Global, comm: u16, instance: u32) -> Option<Vec<End>>
-    ensures { IfSome result (λ v. v.items ≡ ends.Comm comm instance ∷ []) }
-{
-    vec![in alloc; End::Comm { comm, instance }].ok()
-}
-
-fn invs(alloc: Global) -> Option<Vec<Inv>>
-    ensures { IfSome result (λ v. v.items ≡ sample_inv ∷ []) }
-{
-    let reads = end(alloc, 0, 0)?;
-    let writes = end(alloc, 1, 1)?;
-    vec![in alloc;
-        Inv {
-            mode: 0,
-            task: 0,
-            parent: None,
-            reads: Seq::new(reads),
-            writes: Seq::new(writes)
-        },
-    ]
-    .ok()
-}
-
-fn functions(alloc: Global) -> Option<Vec<Function>>
-    ensures { IfSome result (λ v. map fun_of v.items ≡ Compiled sample_code ∷ []) }
-{
-    let args = vec![in alloc; Ty::Int].ok()?;
-    let instrs = vec![in alloc; FInstr::Arg { k: 0 }, FInstr::Int { x: 2 }, FInstr::Mul].ok()?;
-    vec![in alloc;
-        Function::Code(Code {
-            args: Seq::new(args),
-            want: Ty::Int,
-            instrs: Seq::new(instrs)
-        }),
-    ]
-    .ok()
-}
-
-// Tables of these lists, without ports and switches.
-fn tables_of(
-    alloc: Global,
-    comms: Vec<Comm>,
-    modes: Vec<Mode>,
-    modules: Vec<Module>,
-    tasks: Vec<Task>,
-    invs: Vec<Inv>,
-    functions: Vec<Function>,
-) -> Tables
-    requires { AreInRange (sample_of comms.items modes.items modules.items tasks.items invs.items (map fun_of functions.items)) }
-    ensures { result ≡ sample_of comms.items modes.items modules.items tasks.items invs.items (map fun_of functions.items) }
-{
-    Tables::new(Parts {
-        comms: Seq::new(comms),
-        modes: Seq::new(modes),
-        modules: Seq::new(modules),
-        ports: Seq::new(Vec::new(alloc)),
-        tasks: Seq::new(tasks),
-        invs: Seq::new(invs),
-        switches: Seq::new(Vec::new(alloc)),
-        functions: Seq::new(functions),
-    })
-}
-
-fn tables(alloc: Global) -> Option<Tables>
-    ensures { IfSome result (λ t. t ≡ sample) }
-{
-    let comms = comms(alloc)?;
-    let modes = modes(alloc)?;
-    let modules = modules(alloc)?;
-    let tasks = tasks(alloc)?;
-    let invs = invs(alloc)?;
-    let functions = functions(alloc)?;
-    Some(tables_of(alloc, comms, modes, modules, tasks, invs, functions))
+    match t.parts().invs.as_slice().get(inv as usize) {
+        Some(item) => is_concrete(t, item),
+        None => false,
+    }
 }
 
 // Whether an instant is no later than the machine's next.
@@ -224,31 +99,43 @@ fn do_instant(
 }
 
 // The sensor shows a value.
-fn show(t: &Tables, code: &ECode, m: &EMach, world: &mut World, x: i64)
+fn show(t: &Tables, code: &ECode, m: &EMach, world: &mut World, x: Value) -> Option<()>
     requires { CanRun t.now code.now m.now world.old }
     ensures { CanRun t.now code.now m.now world.new }
 {
+    if !is_int(t, 0) {
+        return None;
+    }
     world.set(0, x);
+    Some(())
 }
 
 // The job of the invocation finishes.
-fn finish(t: &Tables, code: &ECode, m: &EMach, world: &mut World)
+fn finish(t: &Tables, code: &ECode, m: &EMach, world: &mut World) -> Option<()>
     requires { CanRun t.now code.now m.now world.old }
     ensures { CanRun t.now code.now m.now world.new }
 {
+    if !is_with_code(t, 0) {
+        return None;
+    }
     world.complete(t, 0);
+    Some(())
 }
 
 // The value of the communicator.
-fn shown(t: &Tables, code: &ECode, m: &EMach, world: &World) -> i64
+fn shown(t: &Tables, code: &ECode, m: &EMach, world: &World) -> Option<Value>
     requires { CanRun t.now code.now m.now world.now }
 {
-    world.value(1)
+    if !is_int(t, 1) {
+        return None;
+    }
+    Some(world.value(1))
 }
 
 // A world and a machine before the first instant.
 fn start(alloc: Global, t: &Tables, code: &ECode) -> Option<(EMach, World)>
-    requires tables { t.now ≡ sample }
+    requires formed { KeptApart t.now 12 }
+    requires fits { FitPlaces t.now }
     requires spells { Spells t.now code.now }
     requires instrs { length code.now.instrs ≤ 4294967295 }
     ensures { IfSome result (λ r. CanRun t.now code.now r.0 r.1) }
@@ -259,12 +146,21 @@ fn start(alloc: Global, t: &Tables, code: &ECode) -> Option<(EMach, World)>
 }
 
 // The code of the tables.
-fn made(alloc: Global, t: &Tables) -> Option<ECode>
-    requires { t.now ≡ sample }
+fn code_of(alloc: Global, t: &Tables) -> Option<ECode>
     ensures spells { IfSome result (λ code. Spells t.now code) }
     ensures instrs { IfSome result (λ code. length code.instrs ≤ 4294967295) }
 {
-    generate_e(alloc, t).ok()
+    if !keeps_offsets(t) {
+        return None;
+    }
+    match generate_e(alloc, t) {
+        Ok(code) => if code.instrs.as_slice().len() <= 65_535 {
+            Some(code)
+        } else {
+            None
+        },
+        Err(_) => None,
+    }
 }
 
 const TOLD: [(Time, u32, EInstr); 10] = [
@@ -320,7 +216,7 @@ fn first(
     requires { CanRun t.now code.now m.old world.old }
     ensures { CanRun t.now code.now m.new world.new }
 {
-    show(t, code, m, world, 3);
+    show(t, code, m, world, 3)?;
     do_instant(m, t, code, world, 0, told)
 }
 
@@ -335,59 +231,98 @@ fn second(
     requires { CanRun t.now code.now m.old world.old }
     ensures { CanRun t.now code.now m.new world.new }
 {
-    show(t, code, m, world, 5);
-    finish(t, code, m, world);
+    show(t, code, m, world, 5)?;
+    finish(t, code, m, world)?;
     do_instant(m, t, code, world, 10, told)
 }
 
-// What a run of two instants shows: what is done, and behind each instant the mode, the next instant and the value.
-#[derive(Drop)]
-struct Outcome {
-    told: Vec<(Time, u32, EInstr)>,
-    began: (Option<u16>, Option<Time>),
-    first: (Option<u16>, Option<Time>, i64),
-    second: (Option<u16>, Option<Time>, i64),
-}
+// The mode, the next instant and the value.
+type State = (Option<u16>, Option<Time>, Value);
 
-fn behind(t: &Tables, code: &ECode, m: &EMach, world: &World) -> (Option<u16>, Option<Time>, i64)
+fn state_with_value(t: &Tables, code: &ECode, m: &EMach, world: &World) -> Option<State>
     requires { CanRun t.now code.now m.now world.now }
 {
+    let value = shown(t, code, m, world)?;
     let (mode, next) = state_of(m);
-    (mode, next, shown(t, code, m, world))
+    Some((mode, next, value))
 }
 
-fn run(alloc: Global) -> Option<Outcome> {
-    let t = tables(alloc)?;
-    let code = made(alloc, &t)?;
-    let started = start(alloc, &t, &code)?;
-    play(alloc, &t, &code, started.0, started.1)
-}
+// The states before instant 0 and behind each instant.
+type States = [State; 3];
 
-fn play(alloc: Global, t: &Tables, code: &ECode, machine: EMach, world: World) -> Option<Outcome>
-    requires { CanRun t.now code.now machine world }
+fn play(
+    m: &mut EMach,
+    t: &Tables,
+    code: &ECode,
+    world: &mut World,
+    told: &mut Vec<(Time, u32, EInstr)>,
+) -> Option<States>
+    requires { CanRun t.now code.now m.old world.old }
 {
-    let mut m = machine;
-    let mut w = world;
-    let mut told = Vec::new(alloc);
-    let began = state_of(&m);
-    first(&mut m, t, code, &mut w, &mut told)?;
-    let one = behind(t, code, &m, &w);
-    second(&mut m, t, code, &mut w, &mut told)?;
-    let two = behind(t, code, &m, &w);
-    Some(Outcome {
-        told,
-        began,
-        first: one,
-        second: two,
-    })
+    let began = state_with_value(t, code, m, world)?;
+    first(m, t, code, world, told)?;
+    let one = state_with_value(t, code, m, world)?;
+    second(m, t, code, world, told)?;
+    let two = state_with_value(t, code, m, world)?;
+    Some([began, one, two])
 }
+
+fn play_from(
+    t: &Tables,
+    code: &ECode,
+    started: (EMach, World),
+    told: &mut Vec<(Time, u32, EInstr)>,
+) -> Option<States>
+    requires { CanRun t.now code.now started.0 started.1 }
+{
+    let (mut m, mut world) = started;
+    play(&mut m, t, code, &mut world, told)
+}
+
+fn run_code(
+    alloc: Global,
+    t: &Tables,
+    code: &ECode,
+    told: &mut Vec<(Time, u32, EInstr)>,
+) -> Option<States>
+    requires formed { KeptApart t.now 12 }
+    requires fits { FitPlaces t.now }
+    requires spells { Spells t.now code.now }
+    requires instrs { length code.now.instrs ≤ 4294967295 }
+{
+    let started = start(alloc, t, code)?;
+    play_from(t, code, started, told)
+}
+
+fn run_on(alloc: Global, t: &Tables, told: &mut Vec<(Time, u32, EInstr)>) -> Option<States>
+    requires { FitPlaces t.now }
+{
+    if !is_formed(t) {
+        return None;
+    }
+    let code = code_of(alloc, t)?;
+    run_code(alloc, t, &code, told)
+}
+
+// In each 20 ticks `dbl` writes twice of the sensor at 0 to the communicator, 0 at first, at 10.
+const FROM_ZERO: Text = Text::Edited(DOUBLING, &[("init 7", "init 0")]);
+
+// A run of two instants; what is done is put behind what is told.
+fn run(alloc: Global, told: &mut Vec<(Time, u32, EInstr)>) -> Option<States> {
+    let t = made_of(alloc, FROM_ZERO)?;
+    run_on(alloc, &t, told)
+}
+
+const STATES: States = [
+    (None, Some(0), 0),
+    (Some(0), Some(10), 0),
+    (Some(0), Some(20), 6),
+];
 
 #[test]
 fn one_invocation(rt: HostRuntime) -> Result<(), Fail> {
-    let seen = run(rt.alloc()).expect(&rt, "memory");
-    assert_eq!(rt; seen.told.as_slice(), &TOLD[..]);
-    assert_eq!(rt; seen.began, (None, Some(0)));
-    assert_eq!(rt; seen.first, (Some(0), Some(10), 0));
-    assert_eq!(rt; seen.second, (Some(0), Some(20), 6));
+    let mut told = Vec::new(rt.alloc());
+    assert_eq!(rt; run(rt.alloc(), &mut told), Some(STATES));
+    assert_eq!(rt; told.as_slice(), &TOLD[..]);
     Ok(())
 }

@@ -1,152 +1,35 @@
 // The code of a source with one invocation, and departures of changed code.
-ghost use Rattle.std.specs.Prelude.{◌≡◌, ◌∷◌, [], IfSome};
-ghost use Rattle.htl_model.specs.declared.parts.End.TheVariants as ends;
-ghost use Rattle.htl_model.specs.Ranges.{AreInRange};
-ghost use Rattle.htl_espell.specs.Samples.{
-  sample_comm,
-  sample_comms,
-  sample_mode,
-  sample_module,
-  sample_task,
-  sample_inv,
-  sample_of,
-  sample,
-};
+ghost use Rattle.std.specs.Prelude.{◌≡◌, ◌≤◌, length, true};
 
-use htl_espell::spells;
-use htl_base::{Memory, Name, Seq, Ty};
+use crate::made::{keeps_offsets, made};
+use htl_base::Seq;
 use htl_ecode::{ECode, EFault, EInstr, EKind, generate_e};
-use htl_model::{Comm, End, Inv, Mode, Module, Parts, Tables, Task};
+use htl_espell::spells;
+use htl_model::Tables;
 use std::alloc::Global;
 use std::test::Fail;
 
-fn comm(name: Name, sensor: bool) -> Comm
-    ensures { result ≡ sample_comm name sensor }
-{
-    Comm {
-        name,
-        ty: Ty::Int,
-        sensor,
-        period: 10,
-        init: 0,
+// In each 20 ticks `dbl` reads s at 0 and writes u at 10.
+const ONE_INVOCATION: &str = "program P {
+  sensor int s period 10 init 0;
+  communicator int u period 10 init 0;
+  module M start m {
+    task dbl input () output () worst 4;
+    mode m period 20 { invoke dbl input ((s, 0)) output ((u, 1)); }
+  }
+}";
+
+fn generated(alloc: Global, t: &Tables) -> Option<ECode> {
+    if !keeps_offsets(t) {
+        return None;
     }
-}
-
-fn comms(alloc: Global) -> Option<Vec<Comm>>
-    ensures { IfSome result (λ v. v.items ≡ sample_comms) }
-{
-    let s = Name::new(b"s")?;
-    let u = Name::new(b"u")?;
-    vec![in alloc; comm(s, true), comm(u, false)].ok()
-}
-
-fn modes(alloc: Global) -> Option<Vec<Mode>>
-    ensures { IfSome result (λ v. v.items ≡ sample_mode ∷ []) }
-{
-    let name = Name::new(b"m")?;
-    vec![in alloc;
-        Mode {
-            name,
-            module: 0,
-            period: 20
-        },
-    ]
-    .ok()
-}
-
-fn modules(alloc: Global) -> Option<Vec<Module>>
-    ensures { IfSome result (λ v. v.items ≡ sample_module ∷ []) }
-{
-    let name = Name::new(b"M")?;
-    vec![in alloc;
-        Module {
-            name,
-            parent: None,
-            start: 0
-        },
-    ]
-    .ok()
-}
-
-fn tasks(alloc: Global) -> Option<Vec<Task>>
-    ensures { IfSome result (λ v. v.items ≡ sample_task ∷ []) }
-{
-    let name = Name::new(b"dbl")?;
-    vec![in alloc;
-        Task {
-            name,
-            module: 0,
-            is_abstract: false,
-            worst: 4,
-            inputs: Seq::new(Vec::new(alloc)),
-            outputs: Seq::new(Vec::new(alloc))
-        },
-    ]
-    .ok()
-}
-
-fn end(alloc: Global, comm: u16, instance: u32) -> Option<Vec<End>>
-    ensures { IfSome result (λ v. v.items ≡ ends.Comm comm instance ∷ []) }
-{
-    vec![in alloc; End::Comm { comm, instance }].ok()
-}
-
-fn invs(alloc: Global) -> Option<Vec<Inv>>
-    ensures { IfSome result (λ v. v.items ≡ sample_inv ∷ []) }
-{
-    let reads = end(alloc, 0, 0)?;
-    let writes = end(alloc, 1, 1)?;
-    vec![in alloc;
-        Inv {
-            mode: 0,
-            task: 0,
-            parent: None,
-            reads: Seq::new(reads),
-            writes: Seq::new(writes)
-        },
-    ]
-    .ok()
-}
-
-// Tables of these lists, without ports, switches and functions.
-fn tables_of(
-    alloc: Global,
-    comms: Vec<Comm>,
-    modes: Vec<Mode>,
-    modules: Vec<Module>,
-    tasks: Vec<Task>,
-    invs: Vec<Inv>,
-) -> Tables
-    requires { AreInRange (sample_of comms.items modes.items modules.items tasks.items invs.items) }
-    ensures { result ≡ sample_of comms.items modes.items modules.items tasks.items invs.items }
-{
-    Tables::new(Parts {
-        comms: Seq::new(comms),
-        modes: Seq::new(modes),
-        modules: Seq::new(modules),
-        ports: Seq::new(Vec::new(alloc)),
-        tasks: Seq::new(tasks),
-        invs: Seq::new(invs),
-        switches: Seq::new(Vec::new(alloc)),
-        functions: Seq::new(Vec::new(alloc)),
-    })
-}
-
-fn tables(alloc: Global) -> Option<Tables>
-    ensures { IfSome result (λ t. t ≡ sample) }
-{
-    let comms = comms(alloc)?;
-    let modes = modes(alloc)?;
-    let modules = modules(alloc)?;
-    let tasks = tasks(alloc)?;
-    let invs = invs(alloc)?;
-    Some(tables_of(alloc, comms, modes, modules, tasks, invs))
+    generate_e(alloc, t).ok()
 }
 
 // The code of the tables.
-fn made(alloc: Global) -> Option<Result<ECode, Memory>> {
-    let t = tables(alloc)?;
-    Some(generate_e(alloc, &t))
+fn code_of(alloc: Global, text: &str) -> Option<ECode> {
+    let t = made(alloc, text)?;
+    generated(alloc, &t)
 }
 
 const MADE: [EInstr; 11] = [
@@ -180,23 +63,46 @@ fn address(alloc: Global, x: u32) -> Option<Seq<u32>> {
     Some(Seq::new(items))
 }
 
-// What is answered of these instructions, with the addresses of the code of the tables.
-fn answer(alloc: Global, instrs: Vec<EInstr>) -> Option<Result<(), EFault>> {
-    let t = tables(alloc)?;
-    let code = ECode {
+// These instructions with the addresses of the code of the tables.
+fn with_addresses(alloc: Global, instrs: Vec<EInstr>) -> Option<ECode> {
+    Some(ECode {
         enter: address(alloc, 0)?,
         begin: address(alloc, 1)?,
         decide: address(alloc, 10)?,
         instrs: Seq::new(instrs),
-    };
-    if code.enter.as_slice().len() != 1
-        || code.begin.as_slice().len() != 1
-        || code.decide.as_slice().len() != 1
-        || code.instrs.as_slice().len() > 65_535
-    {
+    })
+}
+
+// Whether code has an address of each kind for each mode, and no more instructions than an object.
+fn has_size(t: &Tables, code: &ECode) -> bool
+    ensures enter { result ≡ true → length code.now.enter ≡ length t.now.modes }
+    ensures begin { result ≡ true → length code.now.begin ≡ length t.now.modes }
+    ensures decide { result ≡ true → length code.now.decide ≡ length t.now.modes }
+    ensures instrs { result ≡ true → length code.now.instrs ≤ 4294967295 }
+{
+    let modes = t.parts().modes.as_slice().len();
+    code.enter.as_slice().len() == modes
+        && code.begin.as_slice().len() == modes
+        && code.decide.as_slice().len() == modes
+        && code.instrs.as_slice().len() <= 65_535
+}
+
+fn verdict(t: &Tables, code: &ECode) -> Option<Result<(), EFault>> {
+    if !keeps_offsets(t) || !has_size(t, code) {
         return None;
     }
-    Some(spells(&t, &code))
+    Some(spells(t, code))
+}
+
+fn verdict_on(alloc: Global, code: &ECode) -> Option<Result<(), EFault>> {
+    let t = made(alloc, ONE_INVOCATION)?;
+    verdict(&t, code)
+}
+
+// What is answered of these instructions.
+fn answer(alloc: Global, instrs: Vec<EInstr>) -> Option<Result<(), EFault>> {
+    let code = with_addresses(alloc, instrs)?;
+    verdict_on(alloc, &code)
 }
 
 // The same with one instruction of the code changed.
@@ -222,14 +128,21 @@ fn chained(alloc: Global, last: EInstr) -> Option<Result<(), EFault>> {
     answer(alloc, instrs)
 }
 
+fn is_made(code: &ECode) -> bool {
+    code.enter.as_slice() == [0].as_slice()
+        && code.begin.as_slice() == [1].as_slice()
+        && code.decide.as_slice() == [10].as_slice()
+        && code.instrs.as_slice() == MADE.as_slice()
+}
+
+fn has_made(alloc: Global, text: &str) -> Option<bool> {
+    let code = code_of(alloc, text)?;
+    Some(is_made(&code))
+}
+
 #[test]
 fn the_code_of_one_invocation(rt: HostRuntime) -> Result<(), Fail> {
-    let code = made(rt.alloc()).expect(&rt, "tables");
-    let code = code.ok().expect(&rt, "memory");
-    assert_eq!(rt; code.enter.as_slice(), &[0][..]);
-    assert_eq!(rt; code.begin.as_slice(), &[1][..]);
-    assert_eq!(rt; code.decide.as_slice(), &[10][..]);
-    assert_eq!(rt; code.instrs.as_slice(), &MADE[..]);
+    assert_eq!(rt; has_made(rt.alloc(), ONE_INVOCATION), Some(true));
     Ok(())
 }
 

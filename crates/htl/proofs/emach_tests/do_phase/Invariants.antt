@@ -1,4 +1,4 @@
-use Rattle.htl_emach.specs.Samples.{CanRun}
+use Rattle.htl.specs.Running.{CanRun}
 use Rattle.htl.proofs.emach_tests.do_phase.Given as goal
 
 abbrev pub invariant-loop : goal.invariant-loop

@@ -1,8 +1,7 @@
-use Rattle.htl_emach.proofs.SampleFits.{kept_of, fits_of}
 use Rattle.htl.proofs.emach_tests.finish.Goals as goal
 
-pub complete-requires-clause-form : goal.complete-requires-clause-form
-complete-requires-clause-form c = kept_of c.args.t.now c.requires.tables
+pub complete-requires-clause-known : goal.complete-requires-clause-known
+complete-requires-clause-known c = c.is_with_code.ensures.known c.if-not-is_with_code.false
 
-pub complete-requires-clause-code : goal.complete-requires-clause-code
-complete-requires-clause-code c = fits_of c.args.t.now c.requires.tables
+pub complete-requires-clause-concrete : goal.complete-requires-clause-concrete
+complete-requires-clause-concrete c = c.is_with_code.ensures.concrete c.if-not-is_with_code.false
