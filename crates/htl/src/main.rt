@@ -51,6 +51,8 @@ mod form_tests;
 #[cfg(test)]
 mod form_times_tests;
 #[cfg(test)]
+mod frame_tables;
+#[cfg(test)]
 mod func_tests;
 #[cfg(test)]
 mod go_tests;
