@@ -103,17 +103,31 @@ fn play(m: &mut Machine<'_>, t: &Tables, events: &[Event], to: Time, page: &mut 
     end(m, to, page)
 }
 
-// The page behind a run; None where there is no memory, the object isn't accepted or an event isn't allowed.
+// The page behind a run of an accepted object; None where there is no memory or an event isn't allowed.
+fn run_on(
+    alloc: Global,
+    loaded: &Loaded,
+    events: &[Event],
+    to: Time,
+    mut page: Page,
+) -> Option<Page> {
+    match Machine::new(alloc, loaded, Shown::Jobs) {
+        Ok(mut m) => {
+            if play(&mut m, loaded.tables(), events, to, &mut page) {
+                Some(page)
+            } else {
+                None
+            }
+        }
+        Err(_) => None,
+    }
+}
+
+// The same of an object; None too where it isn't accepted.
 fn run(alloc: Global, object: &[u8], events: &[Event], to: Time) -> Option<Page> {
     let loaded = load(alloc, object).ok()?;
-    let mut page = Page::new(alloc, 1024, &[]).ok()?;
-    let Ok(mut m) = Machine::new(alloc, &loaded, Shown::Jobs) else {
-        return None;
-    };
-    if !play(&mut m, loaded.tables(), events, to, &mut page) {
-        return None;
-    }
-    Some(page)
+    let page = Page::new(alloc, 1024, &[]).ok()?;
+    run_on(alloc, &loaded, events, to, page)
 }
 
 fn writes(alloc: Global, object: &[u8], events: &[Event], to: Time, text: &str) -> bool {

@@ -169,10 +169,33 @@ fn the_token_of_a_long_run_is_told(rt: HostRuntime) -> Result<(), Fail> {
     Ok(())
 }
 
-#[test]
-fn deep_statements_end(rt: HostRuntime) -> Result<(), Fail> {
-    let brackets = joined(
-        rt.alloc(),
+// What is answered of a text.
+#[derive(Clone, Copy, PartialEq, Eq)]
+enum Kind {
+    Tree,
+    Syntax,
+    Long,
+}
+
+fn kind_of(alloc: Global, text: &[u8]) -> Option<Kind> {
+    match answer(alloc, text)? {
+        Ok(_) => Some(Kind::Tree),
+        Err(ParseFault::Syntax { .. }) => Some(Kind::Syntax),
+        Err(ParseFault::Long { .. }) => Some(Kind::Long),
+        Err(ParseFault::Memory) => None,
+    }
+}
+
+// Whether the answer to the joined pieces is one of these.
+fn is_answered(alloc: Global, pieces: &[(&[u8], usize)], kinds: &[Kind]) -> Option<bool> {
+    let text = joined(alloc, pieces).ok()?;
+    let kind = kind_of(alloc, &text)?;
+    Some(kinds.contains(&kind))
+}
+
+const DEEP: [(&[(&[u8], usize)], &[Kind]); 8] = [
+    // brackets, and signs
+    (
         &[
             (BEFORE, 1),
             (b"(", 249),
@@ -180,27 +203,34 @@ fn deep_statements_end(rt: HostRuntime) -> Result<(), Fail> {
             (b")", 249),
             (BEHIND, 1),
         ],
-    )?;
-    let found = answer(rt.alloc(), &brackets).expect(&rt, "tokens");
-    assert!(rt; found.is_ok());
-    let signs = joined(
-        rt.alloc(),
+        &[Kind::Tree],
+    ),
+    (
         &[(BEFORE, 1), (b"-", 498), (b"1", 1), (BEHIND, 1)],
-    )?;
-    let found = answer(rt.alloc(), &signs).expect(&rt, "tokens");
-    assert!(rt; found.is_ok());
-    for (piece, count) in [(b"(".as_slice(), 502), (b"if(", 251), (b"!", 502)] {
-        let open = joined(rt.alloc(), &[(BEFORE, 1), (piece, count), (BEHIND, 1)])?;
-        let found = answer(rt.alloc(), &open).expect(&rt, "tokens");
-        assert!(rt;
-            matches!(
-                found,
-                Err(ParseFault::Syntax { .. } | ParseFault::Long { .. })
-            )
-        );
-        let ended = joined(rt.alloc(), &[(BEFORE, 1), (piece, count), (b";", 1)])?;
-        let found = answer(rt.alloc(), &ended).expect(&rt, "tokens");
-        assert!(rt; matches!(found, Err(ParseFault::Syntax { .. })));
+        &[Kind::Tree],
+    ),
+    // what is open stays open, or ends
+    (
+        &[(BEFORE, 1), (b"(", 502), (BEHIND, 1)],
+        &[Kind::Syntax, Kind::Long],
+    ),
+    (&[(BEFORE, 1), (b"(", 502), (b";", 1)], &[Kind::Syntax]),
+    (
+        &[(BEFORE, 1), (b"if(", 251), (BEHIND, 1)],
+        &[Kind::Syntax, Kind::Long],
+    ),
+    (&[(BEFORE, 1), (b"if(", 251), (b";", 1)], &[Kind::Syntax]),
+    (
+        &[(BEFORE, 1), (b"!", 502), (BEHIND, 1)],
+        &[Kind::Syntax, Kind::Long],
+    ),
+    (&[(BEFORE, 1), (b"!", 502), (b";", 1)], &[Kind::Syntax]),
+];
+
+#[test]
+fn deep_statements_end(rt: HostRuntime) -> Result<(), Fail> {
+    for (pieces, kinds) in DEEP {
+        assert_eq!(rt; is_answered(rt.alloc(), pieces, kinds), Some(true));
     }
     Ok(())
 }

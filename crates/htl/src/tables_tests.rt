@@ -175,7 +175,7 @@ fn first_unlike(alloc: Global, want: &Source) -> Option<&'static str> {
     }
 }
 
-const SOURCES: [(&str, Source); 10] = [
+const SOURCES: &[(&str, Source)] = &[
     ("one doubling task has its tables", ONE_DOUBLING_TASK),
     ("no task has its tables", NO_TASK),
     ("preemption has its tables", PREEMPTION),
@@ -191,7 +191,7 @@ const SOURCES: [(&str, Source); 10] = [
 #[test]
 fn sources_have_their_tables(rt: HostRuntime) {
     for (name, source) in SOURCES {
-        assert_eq!(rt; first_unlike(rt.alloc(), &source), None, "{name}");
+        assert_eq!(rt; first_unlike(rt.alloc(), source), None, "{name}");
     }
 }
 
