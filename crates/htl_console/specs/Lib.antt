@@ -2,5 +2,4 @@ pub mod Instrs
 pub mod Lines
 pub mod Listing
 pub mod Names
-pub mod Samples
 pub mod Shows

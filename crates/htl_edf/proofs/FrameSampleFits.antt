@@ -2,6 +2,7 @@
 use Rattle.std.proofs.Common.{eqb, not, option_map, codes, ◌⊎◌, ◌≡◌, ◌≢◌, ◌∙◌, ℕ, zero, suc, ◌+◌, ◌*◌, ◌%◌, ◌≤◌, ◌<◌, Bool, true, false, ◌&&◌, List, [], ◌∷◌, length, Option, Some, None, refl, sym, ap, subst, arith, inl, inr}
 use Rattle.std.specs.Prelude.{slice_get}
 use Rattle.std.specs.List.{count_by}
+use Rattle.std.specs.List.Sorted.{IsNonDecreasing}
 use Rattle.std.proofs.lemmas.List.Elements.{All-nil, All-cons}
 use Rattle.std.proofs.lemmas.List.Sums.{count_by-le-length}
 use Rattle.htl_base.specs.declared.Ty.{Ty}
@@ -22,7 +23,19 @@ use Rattle.htl_model.specs.Ranges.{AreInRange, IsSpan, IsCommInRange, IsModeInRa
 use Rattle.htl_model.specs.Tables.{Tables, mode_period, comm_period, task_worst, task_is_abstract, mode_module}
 use Rattle.htl_walk.proofs.Finishes.{some_same}
 use Rattle.htl_edf.specs.FrameSamples.{frame_comm, frame_mode, frame_module, frame_task, frame_inv, frame_comms, frame_modes, frame_modules, frame_tasks, frame_invs, frame_sample_of, frame_sample, IsFramed}
-use Rattle.htl_edf.proofs.SampleFits.{rising, rises}
+
+nothing_falls : IsNonDecreasing []
+nothing_falls i j d l b = absurd (omega arith)
+
+-- two numbers, the second no less
+two_rise : (a b : ℕ) → a ≤ b → IsNonDecreasing (a ∷ b ∷ [])
+two_rise a b h zero zero d l k = omega arith
+two_rise a b h zero (suc zero) d l k = h
+two_rise a b h zero (suc (suc j)) d l k = absurd (omega arith)
+two_rise a b h (suc i) zero d l k = absurd (omega arith)
+two_rise a b h (suc zero) (suc zero) d l k = omega arith
+two_rise a b h (suc zero) (suc (suc j)) d l k = absurd (omega arith)
+two_rise a b h (suc (suc i)) (suc j) d l k = absurd (omega arith)
 
 few_in_mode : (m : ℕ) → count_by (λ i. eqb i.mode m) frame_invs ≤ 128
 few_in_mode m = let most = count_by-le-length (λ (i : Inv). eqb i.mode m) frame_invs in omega (arith, most)
@@ -55,7 +68,6 @@ module _ (w : ℕ) (span : IsSpan w) where
   comm_in_range name = record { period = record { some = omega arith; most = omega arith }; init = tt }
 
   pub frame_in_range : AreInRange (frame_sample w)
-  unfolding rises
   frame_in_range =
       let t = frame_sample w in
       record {
@@ -73,11 +85,11 @@ module _ (w : ℕ) (span : IsSpan w) where
         port_names = refl;
         task_names = refl;
         invoked_once = refl;
-        modes_by_module = rising (0 ∷ 1 ∷ []) refl;
-        ports_by_mode = rising [] refl;
-        tasks_by_module = rising (0 ∷ 1 ∷ []) refl;
-        invs_by_mode = rising (0 ∷ 1 ∷ []) refl;
-        switches_by_mode = rising [] refl;
+        modes_by_module = two_rise 0 1 (omega arith);
+        ports_by_mode = nothing_falls;
+        tasks_by_module = two_rise 0 1 (omega arith);
+        invs_by_mode = two_rise 0 1 (omega arith);
+        switches_by_mode = nothing_falls;
         comms =
             All-cons IsCommInRange (frame_comm (codes "u")) (frame_comm (codes "w") ∷ []) (comm_in_range (codes "u"))
             (All-cons IsCommInRange (frame_comm (codes "w")) [] (comm_in_range (codes "w")) (All-nil IsCommInRange));

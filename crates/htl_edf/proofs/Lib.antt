@@ -30,8 +30,6 @@ pub mod Reporting
 pub mod Rest
 pub mod RootRounds
 pub mod SamePlans
-pub mod SampleFits
-pub mod SampleKeeps
 pub mod Ticks
 pub mod Tightened
 pub mod Tightening

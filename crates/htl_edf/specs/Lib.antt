@@ -11,7 +11,6 @@ pub mod PartLaws
 pub mod Parts
 pub mod Plan
 pub mod Ranks
-pub mod Samples
 pub mod Search
 pub mod Slices
 pub mod Sums

@@ -1,5 +1,4 @@
 pub mod Examples
-pub mod SampleFits
 pub mod ModuleLaws
 pub mod Preparing
 pub mod Filling

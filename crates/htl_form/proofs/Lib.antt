@@ -4,7 +4,6 @@ pub mod CommonMultiples
 pub mod CycleLaws
 pub mod EndLaws
 pub mod Finding
-pub mod FrameSampleFits
 pub mod Judging
 pub mod OneFault
 pub mod OwnerLaws
@@ -17,7 +16,6 @@ pub mod RangeLaws
 pub mod RowLaws
 pub mod RuleExamples
 pub mod RuleOrder
-pub mod SampleFits
 pub mod SearchLaws
 pub mod SilentLaws
 pub mod SiteLaws

@@ -3,14 +3,12 @@ pub mod Apart
 pub mod Cycles
 pub mod EndFaults
 pub mod FrameFaults
-pub mod FrameSamples
 pub mod Overviews
 pub mod Owners
 pub mod PeriodFaults
 pub mod PortFaults
 pub mod Rows
 pub mod Rules
-pub mod Samples
 pub mod Search
 pub mod Surveys
 pub mod Tests

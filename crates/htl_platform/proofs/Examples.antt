@@ -1,11 +1,12 @@
 -- The definitions compute: what platform files say of one module's two tasks, and their first faults.
-use Rattle.std.proofs.Common.{◌≡◌, ◌++◌, ℕ, pos, List, [], ◌∷◌, Some, Ok, Err, refl}
+use Rattle.std.proofs.Common.{◌≡◌, ◌++◌, ℕ, pos, false, List, [], ◌∷◌, Some, None, Ok, Err, refl}
 use Rattle.std.specs.Prelude.{codes, Result}
 use Rattle.std.specs.Str.{is_utf8, chars}
+use Rattle.htl_model.specs.declared.parts.Task.{Task}
 use Rattle.htl_model.specs.Tables.{Tables}
+use Rattle.htl_model.proofs.Sources.{mode, module_named}
 use Rattle.htl_platform.specs.Platforms.{platform_or, platform_of}
 use Rattle.htl_platform.specs.Applied.{with_worst}
-use Rattle.htl_platform.specs.Samples.{sample}
 use Rattle.htl_platform.specs.declared.fault.PlatformFault.{PlatformFault}
 use Rattle.htl_platform.specs.declared.fault.PlatformFault.TheVariants as fault
 use Rattle.htl_platform.specs.declared.platform.Platform.{Platform}
@@ -13,8 +14,25 @@ use Rattle.toml.specs.Data.{Data, Members, string, integer, table, no_members, m
 use Rattle.toml.specs.Parse.{parse_document}
 use Rattle.toml.proofs.OnLiterals.{toml_on_literals}
 
+abbrev task_named : List ℕ → ℕ → Task
+task_named name worst = record { name = name; «module» = 0; is_abstract = false; worst = worst; inputs = []; outputs = [] }
+
+-- a module M with two tasks a and b of these worst cases
+abbrev two_tasks : ℕ → ℕ → Tables
+two_tasks a b =
+    record {
+      comms = [];
+      modes = mode (codes "m") 0 10 ∷ [];
+      modules = module_named (codes "M") None 0 ∷ [];
+      ports = [];
+      tasks = task_named (codes "a") a ∷ task_named (codes "b") b ∷ [];
+      invs = [];
+      switches = [];
+      functions = [];
+    }
+
 abbrev tables : Tables
-tables = sample 7 3
+tables = two_tasks 7 3
 
 -- ---- a file's bytes
 
@@ -40,7 +58,7 @@ fast_file = refl
 read_fast : platform_or tables (Some (of_fast (integer (pos 6)) (codes "M.a"))) ≡ Ok (record { name = codes "fast"; worst = 6 ∷ 3 ∷ [] })
 read_fast = refl
 
-applied_fast : with_worst tables (6 ∷ 3 ∷ []) ≡ sample 6 3
+applied_fast : with_worst tables (6 ∷ 3 ∷ []) ≡ two_tasks 6 3
 applied_fast = refl
 
 -- the same through the bytes

@@ -1,7 +1,6 @@
 pub mod Examples
 pub mod KeyLaws
 pub mod NameTexts
-pub mod SampleFits
 pub mod ShapeLaws
 pub mod SpanLaws
 pub mod TableLaws

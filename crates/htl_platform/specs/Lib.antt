@@ -4,4 +4,3 @@ pub mod Entries
 pub mod Faults
 pub mod Keys
 pub mod Platforms
-pub mod Samples

@@ -46,7 +46,6 @@ pub mod RootSelection
 pub mod RoundLaws
 pub mod RoundOrder
 pub mod RuleOrder
-pub mod SampleFits
 pub mod SearchLaws
 pub mod SelectedLaws
 pub mod ServedFrames

@@ -1,10 +1,31 @@
 -- Worked scripts.
-use Rattle.std.proofs.Common.{◌≡◌, true, false, [], ◌∷◌, pos, negsuc, codes, replicate, refl}
+use Rattle.std.proofs.Common.{◌≡◌, ℕ, Bool, true, false, List, [], ◌∷◌, None, pos, negsuc, codes, replicate, refl}
+use Rattle.htl_base.specs.declared.Ty.TheVariants.{Int as IntTy, Bool as BoolTy}
+use Rattle.htl_model.proofs.Sources.{plain, sensor, mode, module_named, call}
 use Rattle.htl_model.specs.declared.event.Event.TheVariants as event
+use Rattle.htl_model.specs.declared.parts.Task.{Task}
+use Rattle.htl_model.specs.Tables.{Tables}
 use Rattle.htl_script.specs.declared.fault.ScriptKind.TheVariants as kind
 use Rattle.htl_script.specs.Lines.{is_past_limit}
 use Rattle.htl_script.specs.Script.{Whole, Bad, script_of}
-use Rattle.htl_script.specs.Samples.{sample}
+
+abbrev task_named : List ℕ → Bool → Task
+task_named name is_abstract = record { name = name; «module» = 0; is_abstract = is_abstract; worst = 4; inputs = []; outputs = [] }
+
+-- an int sensor s, a communicator u, a bool sensor g, and a module M with a mode m that invokes a task dbl with worst case 4
+-- and an abstract task hold
+abbrev pub sample : Tables
+sample =
+    record {
+      comms = sensor (codes "s") IntTy 10 ∷ plain (codes "u") 10 (pos 0) ∷ sensor (codes "g") BoolTy 10 ∷ [];
+      modes = mode (codes "m") 0 20 ∷ [];
+      modules = module_named (codes "M") None 0 ∷ [];
+      ports = [];
+      tasks = task_named (codes "dbl") false ∷ task_named (codes "hold") true ∷ [];
+      invs = call 0 0 None [] [] ∷ call 0 1 None [] [] ∷ [];
+      switches = [];
+      functions = [];
+    }
 
 same_reading : script_of sample (codes "at 5\nat 5\n") ≡ Bad 2 kind.Order (event.At 5 ∷ [])
 same_reading = refl

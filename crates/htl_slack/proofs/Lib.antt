@@ -1,5 +1,4 @@
 pub mod Ranges
 pub mod RootTasks
-pub mod SampleFits
 pub mod Searching
 pub mod WorstAt

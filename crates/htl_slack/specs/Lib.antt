@@ -1,3 +1,2 @@
 pub mod RootTasks
-pub mod Samples
 pub mod Slack

@@ -10,7 +10,7 @@ use Rattle.htl_model.specs.declared.event.Event.{Event}
 use Rattle.htl_model.specs.declared.event.Event.TheVariants as event
 use Rattle.htl_model.specs.Tables.{Tables}
 use Rattle.htl_object.specs.declared.object.Object.{Object}
-use Rattle.htl_script.specs.Samples.{sample}
+use Rattle.htl_script.proofs.Examples.{sample}
 use Rattle.htl_script.specs.Script.{script_of, Whole, Bad}
 use Rattle.htl_script.specs.declared.fault.ScriptKind.TheVariants as kind
 use Rattle.htl_top.specs.Status.{fault_line, place_of_fault}

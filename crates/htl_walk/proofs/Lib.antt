@@ -25,7 +25,6 @@ pub mod PendingLaws
 pub mod Placing
 pub mod Predecessors
 pub mod SameJobs
-pub mod SampleFits
 pub mod Slices
 pub mod Starts
 pub mod Steps
