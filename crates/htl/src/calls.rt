@@ -2,8 +2,8 @@
 use crate::object_bytes::changed;
 use crate::pieces::text_of;
 pub use crate::pieces::{Piece, Text};
-use htl_top::{htl, status};
 use htl_edge::{Drawer, Page, Tape};
+use htl_top::{htl, status};
 use std::alloc::{AllocError, Global};
 use std::test::Fail;
 

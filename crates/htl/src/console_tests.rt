@@ -15,8 +15,10 @@ ghost use Rattle.htl_console.specs.Samples.{
   sample,
 };
 
-use htl_console::{Shown, line_d, line_e, line_end, line_j, line_m, line_plan, line_s, line_v, show};
 use htl_base::{Name, Seq, Ty, Value};
+use htl_console::{
+    Shown, line_d, line_e, line_end, line_j, line_m, line_plan, line_s, line_v, show,
+};
 use htl_ecode::{ECode, EInstr};
 use htl_edge::{Failed, Page};
 use htl_model::{Code, Comm, End, FInstr, Function, Inv, Mode, Module, Parts, Tables, Task};

@@ -19,9 +19,9 @@ ghost use Rattle.htl_emach.specs.Samples.{
   CanRun,
 };
 
-use htl_emach::{EMach, World};
 use htl_base::{Name, Seq, Time, Ty};
 use htl_ecode::{ECode, EInstr, generate_e};
+use htl_emach::{EMach, World};
 use htl_model::{Code, Comm, End, FInstr, Function, Inv, Mode, Module, Parts, Tables, Task};
 use std::alloc::Global;
 use std::test::Fail;

@@ -13,9 +13,9 @@ ghost use Rattle.htl_espell.specs.Samples.{
   sample,
 };
 
-use htl_espell::spells;
 use htl_base::{Memory, Name, Seq, Ty};
 use htl_ecode::{ECode, EFault, EInstr, EKind, generate_e};
+use htl_espell::spells;
 use htl_model::{Comm, End, Inv, Mode, Module, Parts, Tables, Task};
 use std::alloc::Global;
 use std::test::Fail;

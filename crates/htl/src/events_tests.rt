@@ -13,10 +13,10 @@ ghost use Rattle.htl_script.specs.Samples.{
   sample_of,
 };
 
-use htl_script::{Script, ScriptFault, ScriptKind, ScriptStop};
 use htl_base::{Memory, Name, Seq, Ty};
 use htl_edge::Tape;
 use htl_model::{Comm, Event, Inv, Mode, Module, Parts, Tables, Task};
+use htl_script::{Script, ScriptFault, ScriptKind, ScriptStop};
 use std::alloc::Global;
 use std::test::Fail;
 

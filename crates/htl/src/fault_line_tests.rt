@@ -1,8 +1,7 @@
 // The lines that tell of answers that no call of the tests has.
-use htl_top::Outcome;
-use htl_top::report;
 use htl_edge::Page;
 use htl_script::{ScriptFault, ScriptKind};
+use htl_top::{Outcome, report};
 use std::test::Fail;
 
 const TOLD: &[(Outcome, &str)] = &[

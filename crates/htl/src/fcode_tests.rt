@@ -1,8 +1,8 @@
 // Code that is verified, code that isn't, and values.
 ghost use Rattle.std.specs.Prelude.{◌≡◌, [], IfOk};
 
-use htl_fcode::{eval, verify};
 use htl_base::{Seq, Ty, Value};
+use htl_fcode::{eval, verify};
 use htl_model::{Code, FInstr};
 use std::alloc::{AllocError, Global};
 use std::test::Fail;

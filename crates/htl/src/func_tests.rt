@@ -4,9 +4,9 @@ ghost use Rattle.std.specs.Prelude.{◌≡◌, ◌≤◌, ◌+◌, ◌*◌, IfOk
 ghost use Rattle.htl_model.specs.Functions.{Number, Truth, Arg, Unary, Binary, Choose, term_of};
 ghost use Rattle.htl_model.specs.Small.{ArgumentsBelow, nodes};
 
-use htl_func::{FnFault, compile_fn};
 use htl_base::{BinOp, Ty, UnOp, Value};
 use htl_fcode::{Verified, eval};
+use htl_func::{FnFault, compile_fn};
 use htl_model::{Expr, FInstr};
 use std::alloc::{AllocError, Global};
 use std::test::Fail;

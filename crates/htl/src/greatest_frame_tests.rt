@@ -17,10 +17,10 @@ ghost use Rattle.htl_edf.specs.FrameSamples.{
   IsFramed,
 };
 
-use htl_slack::{Above, SlackReport, is_root_task, slack};
 use htl_base::{Name, Seq, Ty};
 use htl_edf::edf_nodes;
 use htl_model::{Comm, End, Inv, Mode, Module, Parts, Tables, Task};
+use htl_slack::{Above, SlackReport, is_root_task, slack};
 use std::alloc::Global;
 use std::test::Fail;
 

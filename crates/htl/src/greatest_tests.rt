@@ -21,11 +21,11 @@ ghost use Rattle.htl_slack.specs.Samples.{
 };
 ghost use Rattle.htl_model.specs.declared.parts.End.TheVariants as E;
 
-use htl_slack::{Above, SlackReport, is_root_task, slack};
 use htl_base::{Name, Seq, Ty};
 use htl_edf::edf_nodes;
 use htl_form::{form, frames};
 use htl_model::{Code, Comm, End, FInstr, Function, Inv, Mode, Module, Parts, Tables, Task};
+use htl_slack::{Above, SlackReport, is_root_task, slack};
 use htl_walk::SInstr;
 use std::alloc::Global;
 use std::test::Fail;

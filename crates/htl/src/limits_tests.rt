@@ -1,7 +1,7 @@
 // Sources that are no tree of programs, and sources at the limits.
-use htl_top::SourceFault;
 use crate::pieces::{Piece, push};
 use crate::texts::{judged, judged_text};
+use htl_top::SourceFault;
 use std::alloc::{AllocError, Global};
 use std::test::Fail;
 

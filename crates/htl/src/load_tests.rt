@@ -1,7 +1,7 @@
 // Objects that are accepted, and the first faults of changed ones.
-use htl_load::{LoadFault, Loaded, ObjectFault, load};
 use htl_base::Name;
 use htl_ecode::{EFault, EKind};
+use htl_load::{LoadFault, Loaded, ObjectFault, load};
 use htl_model::{FormFault, Tables};
 use htl_object::{MalKind, Malformed};
 use htl_walk::Miss;

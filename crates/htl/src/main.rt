@@ -2,6 +2,8 @@
 #![tactic(auto)]
 
 #[cfg(test)]
+mod accessors_tests;
+#[cfg(test)]
 mod audit_tests;
 #[cfg(test)]
 mod base_tests;

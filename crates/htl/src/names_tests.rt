@@ -1,7 +1,7 @@
 // Sources whose names break a rule.
-use htl_top::SourceFault;
 use crate::pieces::Piece;
 use crate::texts::judged;
+use htl_top::SourceFault;
 use std::test::Fail;
 
 // A text in two pieces, the second of which begins at the place of a fault.

@@ -1,7 +1,7 @@
 // Platform files that are cut.
 use crate::platform_file_tests::tables;
-use htl_platform::{PlatformFault, PlatformStop, read_platform};
 use htl_model::Tables;
+use htl_platform::{PlatformFault, PlatformStop, read_platform};
 use std::alloc::Global;
 use std::test::Fail;
 

@@ -9,10 +9,10 @@ ghost use Rattle.htl_platform.specs.Samples.{
   sample_tasks,
 };
 
-use htl_platform::{PlatformFault, PlatformStop, apply, read_platform};
 use htl_base::{Name, Seq};
 use htl_model::lookup::task_worst;
 use htl_model::{Mode, Module, Parts, Tables, Task};
+use htl_platform::{PlatformFault, PlatformStop, apply, read_platform};
 use std::alloc::Global;
 use std::test::Fail;
 

@@ -8,8 +8,8 @@ ghost use Rattle.htl_smach.specs.Rounds.{Round, Stands, IsInForm, IsTold, state_
 ghost use Rattle.htl_smach.specs.declared.state.PosState.TheVariants as states;
 ghost use Rattle.htl_walk.specs.declared.schedule.SInstr.{SInstr as Instr};
 
-use htl_smach::{Left, PosState, SMach};
 use htl_base::{Seq, Time};
+use htl_smach::{Left, PosState, SMach};
 use htl_walk::listing::worst_list;
 use htl_walk::{Job, SInstr, Schedule, worst};
 use std::alloc::{AllocError, Global};

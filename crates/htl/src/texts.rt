@@ -2,13 +2,13 @@
 ghost use Rattle.htl_text.specs.Bounds.{IsBounded};
 ghost use Rattle.htl_text.specs.Nodes.{tree_of};
 
-use htl_top::SourceFault;
 use crate::pieces::{Piece, joined};
 use htl_base::limits::MAX_SOURCE;
 use htl_model::Tables;
 use htl_names::{NameFault, resolve};
 use htl_parse::parse;
 use htl_text::{Tokens, Tree, lex};
+use htl_top::SourceFault;
 use std::alloc::{AllocError, Global};
 
 /// The tables of a text, or the first name rule that it breaks, by the byte offset of its place. None where the text
