@@ -9,7 +9,7 @@ use std::alloc::Global;
 use std::test::Fail;
 
 // Two loops: a round of 10 ticks beside one of 20, with a task each.
-const LOOPS: &str = "program P {
+pub const LOOPS: &str = "program P {
   communicator int u period 10 init 1;
   communicator int w period 10 init 0;
   module F start m {
@@ -110,7 +110,7 @@ fn switch_function(t: &Tables, switch: u16) -> Option<u32> {
 // ---- tables
 
 // Two root modules of two modes each, tasks of two, of no and of one function, and two switches.
-const ITEMS: &str = "program P {
+pub const ITEMS: &str = "program P {
   communicator int u period 10 init 0;
   module A start a {
     task two input () output (int x = 1, int y = 2) worst 1;
@@ -210,7 +210,7 @@ fn has_positions(t: &Tables) -> bool {
     counts && places
 }
 
-fn read(alloc: Global, text: &str) -> Option<Tables> {
+pub fn read(alloc: Global, text: &str) -> Option<Tables> {
     tables_of(alloc, text.as_bytes())?.ok()
 }
 

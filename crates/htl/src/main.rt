@@ -112,6 +112,8 @@ mod smach_tests;
 #[cfg(test)]
 mod source_tests;
 #[cfg(test)]
+mod stages_tests;
+#[cfg(test)]
 mod table_rows;
 #[cfg(test)]
 mod tables_tests;
