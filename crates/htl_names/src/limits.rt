@@ -19,7 +19,7 @@ use htl_text::{ModeNode, ModuleNode, ProgramNode, Tree};
 // ---- counts of items
 
 /// How many items of each kind there are, and the most invocations in one mode. Each stops at `usize::MAX`.
-#[derive(Clone, Copy, Default)]
+#[derive(Clone, Copy)]
 pub(crate) struct Tally {
     pub comms: usize,
     pub modules: usize,
@@ -29,6 +29,19 @@ pub(crate) struct Tally {
     pub invokes: usize,
     pub switches: usize,
     pub most_invokes: usize,
+}
+
+impl Tally {
+    const NONE: Tally = Tally {
+        comms: 0,
+        modules: 0,
+        modes: 0,
+        ports: 0,
+        tasks: 0,
+        invokes: 0,
+        switches: 0,
+        most_invokes: 0,
+    };
 }
 
 fn with_mode(t: Tally, mode: &ModeNode) -> Tally
@@ -48,26 +61,30 @@ fn with_module(t: Tally, module: &ModuleNode) -> Tally
     ensures { result ≡ with_module t (module_of «module».now) }
 {
     let modes = module.modes.as_slice();
-    let start = Tally {
+    let mut sum = Tally {
         modes: t.modes.saturating_add(modes.len()),
         tasks: t.tasks.saturating_add(module.tasks.as_slice().len()),
         ..t
     };
-    modes.iter().fold(start, |sum, mode| with_mode(sum, mode))
+    for k in 0..modes.len() {
+        sum = with_mode(sum, &modes[k]);
+    }
+    sum
 }
 
 fn with_program(t: Tally, program: &ProgramNode) -> Tally
     ensures { result ≡ with_program t (program_of program.now) }
 {
     let modules = program.modules.as_slice();
-    let start = Tally {
+    let mut sum = Tally {
         comms: t.comms.saturating_add(program.comms.as_slice().len()),
         modules: t.modules.saturating_add(modules.len()),
         ..t
     };
-    modules
-        .iter()
-        .fold(start, |sum, module| with_module(sum, module))
+    for k in 0..modules.len() {
+        sum = with_module(sum, &modules[k]);
+    }
+    sum
 }
 
 /// The counts of a whole source.
@@ -75,7 +92,11 @@ pub(crate) fn tally_of(tree: &Tree) -> Tally
     ensures { result ≡ tally (tree_of tree.now) }
 {
     let programs = tree.programs.as_slice();
-    programs.iter().fold(Tally::default(), |sum, program| with_program(sum, program))
+    let mut sum = Tally::NONE;
+    for k in 0..programs.len() {
+        sum = with_program(sum, &programs[k]);
+    }
+    sum
 }
 
 // ---- root selections

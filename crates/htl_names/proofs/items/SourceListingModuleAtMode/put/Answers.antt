@@ -3,7 +3,7 @@ use Rattle.std.specs.List.{All}
 use Rattle.htl_text.specs.Nodes.{PlainMode, mode_of}
 use Rattle.htl_names.specs.Flat.{size_of}
 use Rattle.htl_names.proofs.Members.{all_item}
-use Rattle.htl_names.proofs.items.SourceListingModuleAtMode.items_of.Goals as goal
+use Rattle.htl_names.proofs.items.SourceListingModuleAtMode.put.Goals as goal
 
 pub mode-requires : goal.mode-requires
 mode-requires c =

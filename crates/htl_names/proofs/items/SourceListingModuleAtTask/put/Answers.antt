@@ -3,7 +3,7 @@ use Rattle.std.specs.List.{All}
 use Rattle.htl_text.specs.Nodes.{PlainTask, task_of}
 use Rattle.htl_names.specs.Flat.{size_of}
 use Rattle.htl_names.proofs.Members.{all_item}
-use Rattle.htl_names.proofs.items.SourceListingModuleAtTask.items_of.Goals as goal
+use Rattle.htl_names.proofs.items.SourceListingModuleAtTask.put.Goals as goal
 
 pub task-requires : goal.task-requires
 task-requires c =
