@@ -2,7 +2,7 @@
 ghost use Rattle.std.specs.Prelude.{◌≡◌, map, ◌≤◌, length, ◌+◌, [], ◌∷◌, take, drop};
 ghost use Rattle.htl_model.specs.Lists.{list_to};
 ghost use Rattle.htl_text.specs.Nodes.{mode_of, module_of, program_of, tree_of};
-ghost use Rattle.htl_names.specs.Excess.{IsFirstExcess, capped, excess, excess_from};
+ghost use Rattle.htl_names.specs.Excess.{IsFirstExcess, capped, excess_from};
 ghost use Rattle.htl_names.specs.LevelTable.{above, level_by, levels_by};
 ghost use Rattle.htl_names.specs.Limits.{choices, selections, most_invokes, most_positions, counts, limits};
 ghost use Rattle.htl_names.specs.Programs.{refined_by};
@@ -201,20 +201,6 @@ pub(crate) struct Excess {
     pub count: u32,
 }
 
-/// The excess of a count over its limit.
-fn excess_over(which: u8, count: usize, limit: usize) -> Option<Excess>
-    ensures { result ≡ excess which count limit }
-{
-    if limit < count {
-        Some(Excess {
-            which,
-            count: count.min(u32::MAX as usize) as u32,
-        })
-    } else {
-        None
-    }
-}
-
 /// The first excess of counts over their limits, which are numbered from `first` on.
 fn first_excess(first: u8, counts: &[usize], limits: &[usize]) -> Option<Excess>
     requires few { first + length counts.now ≤ 20 }
@@ -223,8 +209,9 @@ fn first_excess(first: u8, counts: &[usize], limits: &[usize]) -> Option<Excess>
 {
     let mut which = first;
     for k in 0..counts.len() {
-        if let Some(found) = excess_over(which, counts[k], limits[k]) {
-            return Some(found);
+        if limits[k] < counts[k] {
+            let count = counts[k].min(u32::MAX as usize) as u32;
+            return Some(Excess { which, count });
         }
         which += 1;
     }

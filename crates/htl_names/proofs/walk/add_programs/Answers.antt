@@ -1,26 +1,24 @@
-use Rattle.std.proofs.Common.{◌+◌, suc, map, drop, length, add-one, ap, sym, ◌∙◌}
-use Rattle.htl_text.specs.Nodes.{program_of}
-use Rattle.htl_names.specs.Rows.{joined, program_rows, programs_rows}
-use Rattle.htl_names.proofs.Walking.{joined-assoc, programs_step, few_more, front_map}
+use Rattle.std.proofs.Common.{◌+◌, ◌∷◌, drop, length, add-one, ap, sym, ◌∙◌, arith}
+use Rattle.std.proofs.lemmas.List.{drop_more}
+use Rattle.htl_names.specs.Rows.{joined}
+use Rattle.htl_names.proofs.Walking.{programs_rows, programs_are, programs_on, few_more}
 use Rattle.htl_names.proofs.walk.add_programs.Goals as goal
+
+pub loop-p-init : goal.loop-p-init
+loop-p-init c =
+    let xs = c.args.programs.now in
+    record { going = ap (λ r. joined r (programs_rows 0 0 xs)) c.requires ∙ programs_are 0 0 xs; few = omega arith }
 
 pub loop-p-preserved : goal.loop-p-preserved
 loop-p-preserved c =
-    let ps = map program_of c.args.programs.now in
+    let xs = c.args.programs.now in
     let k = c.loop-p.p in
     let x = c.index-programs-p.result in
     let first = c.loop-p.first in
     let after = first + length c.as_slice.result.now in
     let more = ap (λ n. first + n) (ap length c.as_slice.ensures) in
-    let rest = drop (k + 1) ps in
     record {
-      going =
-          ap (λ n. joined c.add_program.new.into (programs_rows n after rest)) (add-one k)
-          ∙ ap (λ n. joined c.add_program.new.into (programs_rows (suc k) n rest)) more
-          ∙ ap (λ r. joined r (programs_rows (suc k) (first + length (program_of x).comms) rest)) c.in_ok-add_program.ensures.rows
-          ∙ joined-assoc c.loop-p.into (program_rows k first (program_of x)) (programs_rows (suc k) (first + length (program_of x).comms) rest)
-          ∙ ap (joined c.loop-p.into) (sym (programs_step k first (program_of x) rest))
-          ∙ ap (λ xs. joined c.loop-p.into (programs_rows k first xs)) (sym (front_map program_of c.args.programs.now k x c.loop-p-test.true c.index-programs-p.is))
-          ∙ c.loop-p.invariant.going;
-      few = few_more k first after (program_of x) c.loop-p.into c.add_program.new.into more c.in_ok-add_program.ensures.rows c.loop-p.invariant.few;
+      going = programs_on k (k + 1) first after x (drop k xs) (drop (k + 1) xs) c.loop-p.into c.add_program.new.into _ (add-one k) more
+          (drop_more xs k x c.loop-p-test.true ∙ ap (λ y. y ∷ drop (k + 1) xs) (sym c.index-programs-p.is)) c.in_ok-add_program.ensures.rows c.loop-p.invariant.going;
+      few = few_more k first after x c.loop-p.into c.add_program.new.into more c.in_ok-add_program.ensures.rows c.loop-p.invariant.few;
     }
