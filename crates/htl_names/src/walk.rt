@@ -1,9 +1,9 @@
 // The one walk over a source: what each of its parts declares, uses, holds and refines, in source order.
-ghost use Rattle.std.specs.Prelude.{◌≡◌, ◌+◌, ◌≤◌, ◌^◌, ◌-◌, ℕ, OnOk, IfOk, length, map, []};
-ghost use Rattle.htl_text.specs.Nodes.{program_of, tree_of};
+ghost use Rattle.std.specs.Prelude.{◌≡◌, ◌+◌, ◌≤◌, ◌^◌, ◌-◌, ℕ, OnOk, IfOk, length};
+ghost use Rattle.htl_text.specs.Nodes.{tree_of};
 ghost use Rattle.htl_names.specs.Parents.{invoke_parent};
 ghost use Rattle.htl_names.specs.Rows as rows;
-ghost use Rattle.htl_names.specs.Rows.{Rows as Plain, joined, declaring, using, refining, all_rows};
+ghost use Rattle.htl_names.specs.Rows.{Rows as Plain, joined, using, refining, all_rows};
 ghost use Rattle.htl_names.specs.Uses.{program_use};
 ghost use Rattle.htl_names.specs.declared.key.Scope.{Scope as AScope};
 
@@ -36,27 +36,19 @@ fn add_all<T: Part>(list: Scope, first: usize, parts: &[T], into: &mut Rows) -> 
     Ok(())
 }
 
-/// The rows of a source.
+/// The rows of a source. Communicators are numbered over the whole of it.
 pub(crate) fn rows_of(alloc: Global, tree: &Tree) -> Result<Rows, AllocError>
     ensures { IfOk result (λ r. r ≡ rows.rows (tree_of tree.now)) }
 {
+    let programs = tree.programs.as_slice();
     let mut into = Rows::new(alloc);
-    add_programs(tree.programs.as_slice(), &mut into)?;
-    Ok(into)
-}
-
-// Communicators are numbered over the whole source.
-fn add_programs(programs: &[ProgramNode], into: &mut Rows) -> Done
-    requires { into.old ≡ declaring [] }
-    ensures { OnOk result (into.new ≡ rows.rows (map program_of programs.now)) }
-{
     let mut first = 0;
     for p in 0..programs.len() {
         let program = &programs[p];
-        add_program(p, first, program, into)?;
+        add_program(p, first, program, &mut into)?;
         first += program.comms.as_slice().len();
     }
-    Ok(())
+    Ok(into)
 }
 
 fn add_program(p: usize, first: usize, program: &ProgramNode, into: &mut Rows) -> Done

@@ -2,16 +2,16 @@ use Rattle.std.proofs.Common.{◌+◌, ◌∷◌, drop, length, add-one, ap, sym
 use Rattle.std.proofs.lemmas.List.{drop_more}
 use Rattle.htl_names.specs.Rows.{joined}
 use Rattle.htl_names.proofs.Walking.{programs_rows, programs_are, programs_on, few_more}
-use Rattle.htl_names.proofs.walk.add_programs.Goals as goal
+use Rattle.htl_names.proofs.walk.rows_of.Goals as goal
 
 pub loop-p-init : goal.loop-p-init
 loop-p-init c =
-    let xs = c.args.programs.now in
-    record { going = ap (λ r. joined r (programs_rows 0 0 xs)) c.requires ∙ programs_are 0 0 xs; few = omega arith }
+    let xs = c.as_slice-programs.result.now in
+    record { going = ap (λ r. joined r (programs_rows 0 0 xs)) c.new-into.ensures ∙ programs_are 0 0 xs; few = omega arith }
 
 pub loop-p-preserved : goal.loop-p-preserved
 loop-p-preserved c =
-    let xs = c.args.programs.now in
+    let xs = c.as_slice-programs.result.now in
     let k = c.loop-p.p in
     let x = c.index-programs-p.result in
     let first = c.loop-p.first in

@@ -2,7 +2,7 @@ use Rattle.std.proofs.Common.{◌≡◌, ◌≤◌, drop, map, length}
 use Rattle.htl_text.specs.Nodes.{program_of}
 use Rattle.htl_names.specs.Rows.{joined, rows}
 use Rattle.htl_names.proofs.Walking.{programs_rows}
-use Rattle.htl_names.proofs.walk.add_programs.Given as goal
+use Rattle.htl_names.proofs.walk.rows_of.Given as goal
 
 abbrev pub invariant-loop-p : goal.invariant-loop-p
 invariant-loop-p l =
