@@ -3,12 +3,13 @@ ghost use Rattle.std.specs.Prelude.{◌≡◌, map, ◌≤◌, length, ◌+◌, 
 ghost use Rattle.htl_model.specs.Lists.{list_to};
 ghost use Rattle.htl_text.specs.Nodes.{mode_of, module_of, program_of, tree_of};
 ghost use Rattle.htl_names.specs.Excess.{IsFirstExcess, capped, excess_from};
-ghost use Rattle.htl_names.specs.LevelTable.{above, level_by, levels_by};
+ghost use Rattle.htl_names.specs.LevelTable.{level_by, levels_by};
 ghost use Rattle.htl_names.specs.Limits.{choices, selections, most_invokes, most_positions, counts, limits};
 ghost use Rattle.htl_names.specs.Programs.{refined_by};
 ghost use Rattle.htl_names.specs.Tallies.{with_mode, with_module, with_program, tally, tally_counts};
 
 use crate::place::{ModeAt, modules_at};
+use crate::programs::refined_at;
 use crate::symbols::Symbols;
 use htl_base::limits::{
     MAX_COMMUNICATORS, MAX_INVOCATIONS, MAX_LEVELS, MAX_MODE_INVOCATIONS, MAX_MODES, MAX_MODULES,
@@ -150,20 +151,6 @@ pub(crate) fn most_positions(tree: &Tree) -> usize
 
 // ---- levels of programs
 
-/// The program of the mode that a program refines.
-fn above(refined: &[Option<ModeAt>], program: usize) -> Option<usize>
-    ensures { result ≡ above refined.now program }
-{
-    if program < refined.len() {
-        match refined[program] {
-            Some(mode) => Some(mode.program),
-            None => None,
-        }
-    } else {
-        None
-    }
-}
-
 /// How many programs lead from the root to a program, both counted.
 fn level(refined: &[Option<ModeAt>], program: usize) -> usize
     ensures value { result ≡ level_by refined.now (length refined.now) program }
@@ -171,8 +158,8 @@ fn level(refined: &[Option<ModeAt>], program: usize) -> usize
 {
     let mut at = program;
     for k in 0..refined.len() {
-        match above(refined, at) {
-            Some(next) => at = next,
+        match refined_at(at, refined) {
+            Some(mode) => at = mode.program,
             None => return k + 1,
         }
     }
