@@ -74,6 +74,7 @@ fn place_in(comm: usize, comms: &[u16]) -> usize
 }
 
 /// The expression with the places of its names.
+#[cycle(formula)]
 pub fn formula<A: Arguments>(
     alloc: Global,
     arguments: &A,
@@ -92,21 +93,33 @@ pub fn formula<A: Arguments>(
         Part::Unary { token, op, e } => Ok(Expr::Unary {
             token,
             op,
-            e: Box::new(alloc, formula(alloc, arguments, &e)?)?,
+            e: boxed(alloc, arguments, &e)?,
         }),
         Part::Binary { token, op, l, r } => Ok(Expr::Binary {
             token,
             op,
-            l: Box::new(alloc, formula(alloc, arguments, &l)?)?,
-            r: Box::new(alloc, formula(alloc, arguments, &r)?)?,
+            l: boxed(alloc, arguments, &l)?,
+            r: boxed(alloc, arguments, &r)?,
         }),
         Part::Choose { token, c, a, b } => Ok(Expr::Choose {
             token,
-            c: Box::new(alloc, formula(alloc, arguments, &c)?)?,
-            a: Box::new(alloc, formula(alloc, arguments, &a)?)?,
-            b: Box::new(alloc, formula(alloc, arguments, &b)?)?,
+            c: boxed(alloc, arguments, &c)?,
+            a: boxed(alloc, arguments, &a)?,
+            b: boxed(alloc, arguments, &b)?,
         }),
     }
+}
+
+#[cycle(formula)]
+fn boxed<A: Arguments>(
+    alloc: Global,
+    arguments: &A,
+    e: &Operand<'_>,
+) -> Result<Box<Expr>, AllocError>
+    requires { (id : AnId) → A.place arguments.now id ≤ 4097 }
+    ensures { IfOk result (λ x. term_of x.value ≡ term_by (A.place arguments.now) e.now) }
+{
+    Ok(Box::new(alloc, formula(alloc, arguments, e)?)?)
 }
 
 // ---- the functions of outputs
