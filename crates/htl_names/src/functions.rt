@@ -3,9 +3,9 @@ ghost use Rattle.std.specs.List.{flat_map};
 ghost use Rattle.std.specs.Prelude.{◌≡◌, ◌≤◌, ℕ, eqb, IfOk, ◌++◌, OnOk, map};
 ghost use Rattle.htl_model.specs.Functions.{term_of};
 ghost use Rattle.htl_model.specs.Tables.{fun_of};
-ghost use Rattle.htl_text.specs.Nodes.{tree_of, outs_of, out_of};
+ghost use Rattle.htl_text.specs.Nodes.{tree_of, out_of};
 ghost use Rattle.htl_text.specs.declared.tree.Id.{Id as AnId};
-ghost use Rattle.htl_names.specs.Flat.{term_by, input_place, read_place, output_function, outs_functions, module_functions};
+ghost use Rattle.htl_names.specs.Flat.{term_by, input_place, read_place, output_function, module_functions};
 ghost use Rattle.htl_names.specs.Lists.{place_in};
 
 use crate::key::Space;
@@ -138,7 +138,7 @@ pub fn outputs(source: &Source<'_>) -> Result<Vec<Function>, AllocError>
     Ok(into)
 }
 
-// Those of the tasks of a module.
+// Those of the tasks of a module: none of an abstract one.
 fn put_module(source: &Source<'_>, at: ModuleAt, into: &mut Vec<Function>) -> Result<(), AllocError>
     ensures { OnOk result (map fun_of into.new.items
         ≡ map fun_of into.old.items ++ module_functions source.now.layout.now (tree_of source.now.tree.now) at) }
@@ -150,26 +150,14 @@ fn put_module(source: &Source<'_>, at: ModuleAt, into: &mut Vec<Function>) -> Re
             at,
             task: k,
         };
-        put_task(&inputs, &tasks[k].outputs, into)?;
+        if let OutNodes::Concrete { outs } = &tasks[k].outputs {
+            put_outs(&inputs, outs.as_slice(), into)?;
+        }
     }
     Ok(())
 }
 
-// Those of a task with these inputs: none of an abstract one.
-fn put_task(
-    inputs: &Inputs<'_>,
-    outs: &OutNodes,
-    into: &mut Vec<Function>,
-) -> Result<(), AllocError>
-    ensures { OnOk result (map fun_of into.new.items ≡ map fun_of into.old.items
-        ++ outs_functions inputs.now.source.layout.now inputs.now.at.program inputs.now.at.«module» inputs.now.task (outs_of outs.now)) }
-{
-    match outs {
-        OutNodes::Concrete { outs } => put_outs(inputs, outs.as_slice(), into),
-        OutNodes::Abstract { .. } => Ok(()),
-    }
-}
-
+// Those of a task with these inputs.
 fn put_outs(
     inputs: &Inputs<'_>,
     outs: &[OutNode],

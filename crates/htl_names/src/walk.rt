@@ -1,9 +1,8 @@
 // The one walk over a source: what each of its parts declares, uses, holds and refines, in source order.
 ghost use Rattle.std.specs.Prelude.{◌≡◌, ◌+◌, ◌≤◌, ◌^◌, ◌-◌, ℕ, OnOk, IfOk, length};
 ghost use Rattle.htl_text.specs.Nodes.{tree_of};
-ghost use Rattle.htl_names.specs.Parents.{invoke_parent};
 ghost use Rattle.htl_names.specs.Rows as rows;
-ghost use Rattle.htl_names.specs.Rows.{Rows as Plain, joined, using, refining, all_rows};
+ghost use Rattle.htl_names.specs.Rows.{Rows as Plain, joined, using, all_rows};
 ghost use Rattle.htl_names.specs.Uses.{program_use};
 ghost use Rattle.htl_names.specs.declared.key.Scope.{Scope as AScope};
 
@@ -112,7 +111,10 @@ impl Part for TaskNode {
         into.declare(list, place, &self.name)?;
         into.judge(Judged::Span { n: self.worst })?;
         add_all(params, 0, inputs, into)?;
-        add_outputs(params, inputs.len(), &self.outputs, into)
+        match &self.outputs {
+            OutNodes::Concrete { outs } => add_outs(params, inputs.len(), outs.as_slice(), into),
+            OutNodes::Abstract { outs } => add_all(params, inputs.len(), outs.as_slice(), into),
+        }
     }
 }
 
@@ -125,18 +127,7 @@ impl Part for ParamNode {
     }
 }
 
-// Outputs come behind the inputs.
-fn add_outputs(params: Scope, inputs: usize, outputs: &OutNodes, into: &mut Rows) -> Done
-    requires { inputs ≤ 2 ^ 63 - 1 }
-    ensures { OnOk result (into.new ≡ joined into.old (rows.outputs_rows params inputs outputs.now)) }
-{
-    match outputs {
-        OutNodes::Concrete { outs } => add_outs(params, inputs, outs.as_slice(), into),
-        OutNodes::Abstract { outs } => add_all(params, inputs, outs.as_slice(), into),
-    }
-}
-
-// An output's expression uses the inputs of its task.
+// Outputs come behind the inputs. An output's expression uses the inputs of its task.
 fn add_outs(params: Scope, inputs: usize, outs: &[OutNode], into: &mut Rows) -> Done
     requires { inputs ≤ 2 ^ 63 - 1 }
     ensures { OnOk result (into.new ≡ joined into.old (all_rows (rows.out_rows params inputs) inputs outs.now)) }
@@ -204,16 +195,10 @@ impl Part for InvokeNode {
         into.mention(Space::Tasks.of(program, module, 0), &self.task)?;
         add_all(ports, 0, self.reads.as_slice(), into)?;
         add_all(ports, 0, self.writes.as_slice(), into)?;
-        add_parent(program, self, into)
-    }
-}
-
-fn add_parent(p: usize, invoke: &InvokeNode, into: &mut Rows) -> Done
-    ensures { OnOk result (into.new ≡ joined into.old (refining (invoke_parent p invoke.now))) }
-{
-    match invoke.parent {
-        None => Ok(()),
-        Some(id) => into.refine(p, id),
+        match self.parent {
+            None => Ok(()),
+            Some(id) => into.refine(program, id),
+        }
     }
 }
 
