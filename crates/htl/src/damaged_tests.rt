@@ -44,6 +44,36 @@ const SOMETIMES: [u8; 528] = [
     0, 1, 0, 0, 0, 3, 1, 0, 0, 0, 0, 0, 4, 1, 0, 1, 0, 0, 0, 6, 3,
 ];
 
+// Two loops with rounds of 10 and of 20 ticks, and so with a schedule for each of two nodes; without E code.
+const LOOPS: [u8; 264] = [
+    // the text and the version
+    72, 84, 76, 79, 0, 1,
+    // seven counts
+    0, 2, 0, 2, 0, 2, 0, 0, 0, 2, 0, 2, 0, 0,
+    // communicators
+    1, 117, 0, 0, 0, 0, 0, 10, 0, 0, 0, 0, 0, 0, 0, 1, 1, 119, 0, 0, 0, 0, 0, 10, 0, 0, 0, 0, 0, 0,
+    0, 0,
+    // modes
+    1, 109, 0, 0, 0, 0, 0, 10, 1, 109, 0, 1, 0, 0, 0, 20,
+    // modules
+    1, 70, 255, 255, 0, 0, 1, 71, 255, 255, 0, 1,
+    // tasks
+    1, 97, 0, 0, 0, 0, 0, 0, 3, 0, 1, 0, 0, 1, 0, 1, 98, 0, 1, 0, 0, 0, 0, 9, 0, 1, 0, 0, 1, 0,
+    // invocations
+    0, 0, 0, 0, 255, 255, 0, 1, 0, 0, 0, 0, 0, 0, 0, 0, 1, 0, 0, 0, 0, 0, 0, 1, 0, 1, 0, 1, 255,
+    255, 0, 1, 0, 0, 0, 0, 0, 0, 0, 0, 1, 0, 0, 1, 0, 0, 0, 2,
+    // functions
+    0, 1, 0, 0, 0, 3, 3, 0, 0, 1, 0, 0, 0, 0, 0, 0, 0, 1, 6, 0, 1, 0, 0, 0, 3, 3, 0, 0, 1, 0, 0, 0,
+    0, 0, 0, 0, 10, 8,
+    // addresses
+    0, 0, 0, 0, 0, 0, 0, 0, 0, 0, 0, 0, 0, 0, 0, 0, 0, 0, 0, 0, 0, 0, 0, 0,
+    // E code
+    0, 0, 0, 0,
+    // S code of two nodes
+    0, 2, 0, 0, 0, 3, 1, 0, 0, 0, 0, 0, 3, 1, 0, 1, 0, 0, 0, 10, 3, 0, 0, 0, 3, 1, 0, 1, 0, 0, 0,
+    12, 1, 0, 2, 0, 0, 0, 15, 3,
+];
+
 // The object with the name of a platform.
 fn named(alloc: Global, bytes: &[u8]) -> Option<Vec<u8>> {
     let mut object = decode(alloc, bytes).ok()?;
@@ -60,6 +90,22 @@ fn first_not_short(alloc: Global, object: &[u8]) -> Option<usize> {
         }
     }
     None
+}
+
+// Whether bytes say an object.
+fn is_object(alloc: Global, bytes: &[u8]) -> bool {
+    decode(alloc, bytes).is_ok()
+}
+
+#[test]
+fn cut_objects_of_nodes_are_short(rt: HostRuntime) -> Result<(), Fail> {
+    let alloc = rt.alloc();
+    let loops = named(alloc, &LOOPS).expect(&rt, "an object");
+    for object in [LOOPS.as_slice(), loops.as_slice()] {
+        assert_eq!(rt; first_not_short(alloc, object), None);
+        assert!(rt; is_object(alloc, object));
+    }
+    Ok(())
 }
 
 #[test]
@@ -114,6 +160,16 @@ fn a_changed_byte_is_refused_or_said(rt: HostRuntime) -> Result<(), Fail> {
     let alloc = rt.alloc();
     let doubling = named(alloc, &DOUBLING).expect(&rt, "an object");
     for object in [DOUBLING.as_slice(), doubling.as_slice()] {
+        assert_eq!(rt; first_other(alloc, object)?, None);
+    }
+    Ok(())
+}
+
+#[test]
+fn a_changed_byte_of_an_object_of_nodes_is_refused_or_said(rt: HostRuntime) -> Result<(), Fail> {
+    let alloc = rt.alloc();
+    let loops = named(alloc, &LOOPS).expect(&rt, "an object");
+    for object in [LOOPS.as_slice(), loops.as_slice()] {
         assert_eq!(rt; first_other(alloc, object)?, None);
     }
     Ok(())

@@ -2,6 +2,8 @@
 #![tactic(auto)]
 
 #[cfg(test)]
+mod accessors_tests;
+#[cfg(test)]
 mod audit_tests;
 #[cfg(test)]
 mod base_tests;
@@ -113,6 +115,8 @@ mod slack_tests;
 mod smach_tests;
 #[cfg(test)]
 mod source_tests;
+#[cfg(test)]
+mod stages_tests;
 #[cfg(test)]
 mod table_rows;
 #[cfg(test)]

@@ -10,7 +10,6 @@ pub use name::Name;
 pub use operator::{BinOp, UnOp};
 pub use seq::Seq;
 
-
 /// An instant, an offset in a round or a length, in ticks.
 pub type Time = u64;
 

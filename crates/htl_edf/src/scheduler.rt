@@ -23,8 +23,8 @@ use std::alloc::Global;
 pub enum EdfFault {
     /// The positions whose tightened windows begin at `from` or later and end by `to`, at least one, have worst cases that
     /// sum to `demand`, which is more than `to - from`. Of the intervals with such a demand this one has the greatest end
-    /// among the tightened ends, and then the least start among the tightened releases. `from` is after `to` only where a
-    /// position waits for another, directly or through further ones, and its window ends before that one is released.
+    /// among the tightened ends, and then the least start among the tightened releases. `from` can be after `to`:
+    /// a position may wait for another that is released when its own window has ended.
     Overload { from: Time, to: Time, demand: u64 },
     /// No memory was left.
     Memory,

@@ -20,4 +20,3 @@ mod writers;
 pub use emach::EMach;
 pub use trigger::{Block, EDone, Trigger};
 pub use world::World;
-

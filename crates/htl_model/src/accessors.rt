@@ -1,11 +1,12 @@
 // What the tables say of single items.
 ghost use Rattle.std.specs.Prelude.{◌≡◌, ◌<◌, ◌≤◌, ◌-◌, ◌^◌, length, get_or, slice_get, min, IfSome, MatchOption};
 ghost use Rattle.htl_model.specs.Chosen.{chosen as chosen_of};
-ghost use Rattle.htl_model.specs.Selections.{selection_count, positions as positions_of, root_period as root_period_of};
-ghost use Rattle.htl_model.specs.Tables.{release as release_of, window_end as window_end_of};
+ghost use Rattle.htl_model.specs.Selections.{selection_count, root_mode as root_mode_of, positions as positions_of, root_period as root_period_of};
+ghost use Rattle.htl_model.specs.Tables.{release as release_of, window_end as window_end_of, function_count, output_function as output_function_of, switch_function as switch_function_of};
 
 use crate::choice::{chosen_by, running_children};
-use crate::selections::{choices, first_root, position_at, position_count, root_period};
+use crate::lookup::functions_before;
+use crate::selections::{choices, first_root, position_at, position_count, root_mode, root_period};
 use crate::window::{release, window_end};
 use crate::{Tables, Window};
 use htl_base::Time;
@@ -45,6 +46,18 @@ impl Tables {
         }
     }
 
+    /// The mode of a root module in a selection, where the first root module is the most significant place. Both are in
+    /// range: the selection is below the number of selections, and the module is a root module. One pass over the modules
+    /// and modes; `selections::root_modes` has the modes of all root modules for as much.
+    pub fn root_mode(&self, selection: u32, module: u16) -> u16
+        requires { «module» < length self.now.modules }
+        ensures value { result ≡ root_mode_of self.now selection «module» }
+        ensures within { result < length self.now.modes }
+    {
+        self.keeps_ranges();
+        root_mode(self, selection, module)
+    }
+
     /// How many positions a selection has, which is below the number of selections. One pass over the modules, modes and
     /// invocations.
     pub fn positions(&self, selection: u32) -> usize
@@ -74,5 +87,26 @@ impl Tables {
     {
         let children = running_children(self, modes);
         chosen_by(self, modes, &children, inv)
+    }
+
+    /// The number of the function of an output of a concrete task; both are in range. One pass over the tasks in front.
+    pub fn output_function(&self, task: u16, output: u16) -> u32
+        requires task { task < length self.now.tasks }
+        requires output { IfSome (slice_get self.now.tasks task) (λ k. output < function_count k) }
+        ensures value { result ≡ output_function_of self.now task output }
+        ensures within { result < length self.now.functions }
+    {
+        let tasks = self.parts().tasks.as_slice();
+        functions_before(tasks, task as usize) + output as u32
+    }
+
+    /// The number of the function of a switch, which is in range. One pass over the tasks.
+    pub fn switch_function(&self, switch: u16) -> u32
+        requires { switch < length self.now.switches }
+        ensures value { result ≡ switch_function_of self.now switch }
+        ensures within { result < length self.now.functions }
+    {
+        let tasks = self.parts().tasks.as_slice();
+        functions_before(tasks, tasks.len()) + switch as u32
     }
 }

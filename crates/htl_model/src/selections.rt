@@ -4,7 +4,7 @@ ghost use Rattle.std.specs.List.Sorted.{IsNonDecreasing};
 ghost use Rattle.htl_base.specs.declared.limits.TheConstants as limit;
 ghost use Rattle.htl_model.specs.Ranges.{AreInRange};
 ghost use Rattle.htl_model.specs.RootModes.{AreRootModes, modes_below};
-ghost use Rattle.htl_model.specs.Selections.{is_root as is_root_of, root_modules, modes_of, choices_from, positions as positions_of, root_period as root_period_of};
+ghost use Rattle.htl_model.specs.Selections.{is_root as is_root_of, root_modules, modes_of, choices_from, root_mode as root_mode_of, positions as positions_of, root_period as root_period_of};
 
 use crate::choice::is_running;
 use crate::lookup::{lists, mode_period};
@@ -152,6 +152,17 @@ pub fn root_modes(t: &Tables, selection: u32) -> [Option<u16>; MAX_MODULES]
         end = first;
     }
     entries
+}
+
+/// The mode of a root module in a selection. One pass over the modules and modes; `root_modes` has all of them for as much.
+pub fn root_mode(t: &Tables, selection: u32, module: u16) -> u16
+    requires ranges { AreInRange t.now }
+    requires within { «module» < length t.now.modules }
+    ensures { result ≡ root_mode_of t.now selection «module» }
+{
+    let later = choices(t, module as usize + 1);
+    let place = selection as u64 / later % mode_count(t, module) as u64;
+    mode_at(t, module, place as u32)
 }
 
 /// How many positions a selection has. One pass over the modules, modes and invocations.

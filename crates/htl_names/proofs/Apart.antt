@@ -10,7 +10,7 @@ use Rattle.htl_names.specs.declared.place.ModuleAt.{ModuleAt}
 use Rattle.htl_names.specs.Lists.{flat_map_at}
 use Rattle.htl_names.specs.Order.{modules_at, modes_at, modules_in, mode_kids, kids, below, order}
 use Rattle.htl_names.specs.Programs.{named_program, naming, refined_by, level}
-use Rattle.htl_names.specs.Stack.{nth_module}
+use Rattle.htl_names.specs.Nth.{nth_module}
 use Rattle.htl_names.proofs.Members.{Each, each_at, each_append, each_weaker, each_list_to, each_flat_map, each_flat_map_at}
 use Rattle.htl_names.proofs.Leveled.{IsTree, refined_at, level_step}
 use Rattle.htl_names.proofs.ModulePlaces.{IsPlaced, IsKid, placed_within, placed_names, placed_root, mode_kids_are, kids_are, each_below, roots_are}

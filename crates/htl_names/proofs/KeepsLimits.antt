@@ -20,7 +20,7 @@ use Rattle.htl_names.specs.Limits as tree
 use Rattle.htl_names.specs.Lists.{flat_map_at}
 use Rattle.htl_names.specs.NameRules.{AreNamesRight}
 use Rattle.htl_names.specs.Order.{modules_at, modes_at, invokes_at, modules_in}
-use Rattle.htl_names.specs.Stack.{nth_module}
+use Rattle.htl_names.specs.Nth.{nth_module}
 use Rattle.htl_names.specs.Ordered.{is_root_module}
 use Rattle.htl_names.specs.declared.place.ModeAt.{ModeAt}
 use Rattle.htl_names.specs.declared.place.ModuleAt.{ModuleAt}

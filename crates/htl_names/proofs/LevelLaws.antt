@@ -1,13 +1,13 @@
 -- Levels by the table of refined modes.
-use Rattle.std.proofs.Common.{◌≡◌, ◌<◌, ◌+◌, ◌-◌, ℕ, zero, suc, max, Bool, true, false, eqb, List, [], ◌∷◌, ◌++◌, length, Option, Some, None, refl, sym, ◌∙◌, ap, subst, arith, add-one}
+use Rattle.std.proofs.Common.{◌≡◌, ◌<◌, ◌+◌, ◌-◌, ℕ, zero, suc, max, Bool, true, false, eqb, List, [], ◌∷◌, ◌++◌, length, get_or, Option, Some, None, refl, sym, ◌∙◌, ap, subst, arith, add-one}
 use Rattle.htl_model.specs.Lists.{list_to}
 use Rattle.htl_model.specs.Tables.{greatest}
 use Rattle.htl_model.proofs.Listed.{length-list_to, get_list_to}
-use Rattle.std.proofs.lemmas.Option.{slice_get-get_or, slice_get_within, none-some, same_Some}
+use Rattle.std.proofs.lemmas.Option.{slice_get_within, none-some, same_Some}
 use Rattle.htl_text.specs.Nodes.{PlainProgram}
 use Rattle.htl_names.specs.declared.key.Key.{Key}
 use Rattle.htl_names.specs.declared.place.ModeAt.{ModeAt}
-use Rattle.htl_names.specs.LevelTable.{above, program_above, level_by, levels_by}
+use Rattle.htl_names.specs.LevelTable.{level_by, levels_by}
 use Rattle.htl_names.specs.Programs.{Naming, program_naming, naming, refined_in, refined_by, level, levels}
 use Rattle.htl_names.proofs.Members.{Each, each_flat_map_at, each_weaker, at_place}
 use Rattle.htl_names.proofs.Naming.{Names, row_names}
@@ -35,15 +35,13 @@ pub greatest-push : (x : ℕ) (xs : List ℕ) (y : ℕ) → greatest x (xs ++ y 
 greatest-push x [] y = refl
 greatest-push x (z ∷ xs) y = greatest-push (max x z) xs y
 
-level_by-above : (refined : List (Option ModeAt)) (n p q : ℕ) → above refined p ≡ Some q → level_by refined (suc n) p ≡ suc (level_by refined n q)
-level_by-above refined n p q e = ap (λ (o : Option ℕ). elim o as (λ _. ℕ) [ Some a ↦ suc (level_by refined n a) | None ↦ 1 ]) e
-
 -- one level up
-pub level-step : (refined : List (Option ModeAt)) (n k p q whole : ℕ) → k < n → above refined p ≡ Some q
-    → k + level_by refined (n - k) p ≡ whole → k + 1 + level_by refined (n - (k + 1)) q ≡ whole
-level-step refined n k p q whole within up going =
+pub level-step : (refined : List (Option ModeAt)) (n k p whole : ℕ) (a : ModeAt) → k < n → get_or refined p None ≡ Some a
+    → k + level_by refined (n - k) p ≡ whole → k + 1 + level_by refined (n - (k + 1)) a.program ≡ whole
+level-step refined n k p whole a within up going =
     let left : n - k ≡ suc (n - (k + 1)) = omega arith in
-    let more = ap (λ (m : ℕ). level_by refined m p) left ∙ level_by-above refined (n - (k + 1)) p q up in
+    let more = ap (λ (m : ℕ). level_by refined m p) left
+    ∙ ap (λ (o : Option ModeAt). elim o as (λ _. ℕ) [ Some b ↦ suc (level_by refined (n - (k + 1)) b.program) | None ↦ 1 ]) up in
     omega (arith, more, going)
 
 -- one program more
@@ -60,28 +58,20 @@ same_below zero f g h = refl
 same_below (suc n) f g h =
     ap (λ (xs : List ℕ). xs ++ f n ∷ []) (same_below n f g (λ k small. h k (omega (arith, small)))) ∙ ap (λ (x : ℕ). list_to g n ++ x ∷ []) (h n (omega arith))
 
-table-above : (f : ℕ → Option ModeAt) (n p : ℕ) → p < n → above (list_to f n) p ≡ program_above (Some (f p))
-table-above f n p small =
-    let len = length-list_to f n in
-    ap program_above (slice_get-get_or (list_to f n) p None (omega (arith, len)) ∙ ap (λ (o : Option ModeAt). Some o) (get_list_to f n p None small))
-
-above-level : (xs : List Naming) (refined : List (Option ModeAt)) (n p : ℕ) → above refined p ≡ program_above (Some (refined_in p xs))
-    → ((a : ModeAt) → refined_in p xs ≡ Some a → level_by refined n a.program ≡ level xs n a.program) → level_by refined (suc n) p ≡ level xs (suc n) p
-above-level xs refined n p up more =
-    ap (λ (o : Option ℕ). elim o as (λ _. ℕ) [ Some q ↦ suc (level_by refined n q) | None ↦ 1 ]) up ∙ by (refined_in p xs) more
-  where
-    by : (o : Option ModeAt) → ((a : ModeAt) → o ≡ Some a → level_by refined n a.program ≡ level xs n a.program)
-        → ◌≡◌ {A = ℕ} (elim (program_above (Some o)) as (λ _. ℕ) [ Some q ↦ suc (level_by refined n q) | None ↦ 1 ])
-        (elim o as (λ _. ℕ) [ Some a ↦ suc (level xs n a.program) | None ↦ 1 ])
-    by (Some a) h = ap suc (h a refl)
-    by None h = refl
-
 table-level : (symbols : List (Key × ℕ)) (ps : List PlainProgram) (n p : ℕ) → p < length ps
     → level_by (list_to (refined_by symbols ps) (length ps)) n p ≡ level (naming symbols ps) n p
 table-level symbols ps zero p small = refl
 table-level symbols ps (suc n) p small =
-    above-level (naming symbols ps) (list_to (refined_by symbols ps) (length ps)) n p (table-above (refined_by symbols ps) (length ps) p small)
-    (λ a e. table-level symbols ps n a.program (refined_below (length ps) p a (naming symbols ps) (naming_below symbols ps) e))
+    ap (λ (o : Option ModeAt). elim o as (λ _. ℕ) [ Some a ↦ suc (level_by table n a.program) | None ↦ 1 ]) (get_list_to (refined_by symbols ps) (length ps) p None small)
+    ∙ by (refined_by symbols ps p) refl (λ q lt. table-level symbols ps n q lt)
+  where
+    table : List (Option ModeAt)
+    table = list_to (refined_by symbols ps) (length ps)
+
+    by : (o : Option ModeAt) → refined_by symbols ps p ≡ o → ((q : ℕ) → q < length ps → level_by table n q ≡ level (naming symbols ps) n q)
+        → ◌≡◌ {A = ℕ} (elim o as (λ _. ℕ) [ Some a ↦ suc (level_by table n a.program) | None ↦ 1 ]) (elim o as (λ _. ℕ) [ Some a ↦ suc (level (naming symbols ps) n a.program) | None ↦ 1 ])
+    by (Some a) e later = ap suc (later a.program (refined_below (length ps) p a (naming symbols ps) (naming_below symbols ps) e))
+    by None e later = refl
 
 pub table-levels : (symbols : List (Key × ℕ)) (ps : List PlainProgram) (refined : List (Option ModeAt))
     → refined ≡ list_to (refined_by symbols ps) (length ps) → levels_by refined ≡ levels symbols ps

@@ -42,7 +42,7 @@ mod RepeatLaws
 mod ResolveLaws
 mod RuleLaws
 pub mod SmallFunctions
-mod StackLaws
+mod Descending
 mod SwitchRanges
 mod TallyLaws
 mod Totals

@@ -10,7 +10,7 @@ use Rattle.htl_names.specs.declared.place.ModuleAt.{ModuleAt}
 use Rattle.htl_names.specs.Order.{modules_at, modes_at, modules_in, mode_kids, kids, below, order}
 use Rattle.htl_names.specs.Ordered.{Exists, is_root_module}
 use Rattle.htl_names.specs.Programs.{named_program}
-use Rattle.htl_names.specs.Stack.{nth_module}
+use Rattle.htl_names.specs.Nth.{nth_module}
 use Rattle.htl_names.proofs.Members.{Each, each_weaker, each_list_to, each_flat_map, each_flat_map_at}
 use Rattle.htl_names.proofs.Naming.{Names}
 use Rattle.htl_names.proofs.FlatMaps.{there_is}

@@ -1,23 +1,31 @@
 -- Steps of walks along lists, and of the walk that leaves rows.
-use Rattle.std.proofs.Common.{◌≡◌, ◌<◌, ◌+◌, ℕ, suc, List, [], ◌∷◌, ◌++◌, length, drop, map, get_or, refl, sym, ◌∙◌, ap, arith, ◌≤◌, Result, Ok, Err, OnOk, append_assoc, length-append}
-use Rattle.std.proofs.lemmas.List.{drop_more, drop-map}
-use Rattle.htl_names.specs.Lists.{map_at, flat_map_at}
+use Rattle.std.proofs.Common.{◌≡◌, ◌+◌, ◌≤◌, ℕ, suc, List, [], ◌∷◌, ◌++◌, length, map, refl, sym, ◌∙◌, ap, arith, append_assoc, append-nil, length-append}
+use Rattle.std.specs.List.{flat_map}
 use Rattle.std.proofs.lemmas.List.Concat.{flat_map-cons}
-use Rattle.htl_text.specs.Nodes.{PlainProgram, PlainOut}
-use Rattle.htl_names.specs.Entries.{program_entries, comm_entry, module_entries, param_entry}
-use Rattle.htl_names.specs.Kinds.{Judged, program_kinds}
-use Rattle.htl_names.specs.Parents.{ParentUse}
-use Rattle.htl_names.specs.Rows.{Rows, rows_with, joined, declaring, using, outs_rows, program_rows, programs_rows}
-use Rattle.htl_names.specs.Uses.{output_uses}
+use Rattle.htl_text.specs.Bounds.{out_params}
+use Rattle.htl_text.specs.Nodes.{program_of, module_of, mode_of, task_of, outs_of, out_of, switch_of}
+use Rattle.htl_text.specs.declared.tree.CommNode.{CommNode}
+use Rattle.htl_text.specs.declared.tree.EndNode.{EndNode}
+use Rattle.htl_text.specs.declared.tree.EndNode.TheVariants as end
+use Rattle.htl_text.specs.declared.tree.InvokeNode.{InvokeNode}
+use Rattle.htl_text.specs.declared.tree.ModeNode.{ModeNode}
+use Rattle.htl_text.specs.declared.tree.ModuleNode.{ModuleNode}
+use Rattle.htl_text.specs.declared.tree.OutNode.{OutNode}
+use Rattle.htl_text.specs.declared.tree.OutNodes.{OutNodes}
+use Rattle.htl_text.specs.declared.tree.OutNodes.TheVariants as outs
+use Rattle.htl_text.specs.declared.tree.ProgramNode.{ProgramNode}
+use Rattle.htl_text.specs.declared.tree.SwitchNode.{SwitchNode}
+use Rattle.htl_text.specs.declared.tree.TaskNode.{TaskNode}
+use Rattle.htl_names.specs.Entries.{entry, param_entry, task_entries, port_entry, invoke_entry, mode_entries, module_entries, comm_entry, program_entries, entries_from}
+use Rattle.htl_names.specs.Keys.{program_key, task_key, mode_key, module_key}
+use Rattle.htl_names.specs.Kinds.{Judged, Span, comm_kinds, end_kinds, invoke_kinds, mode_kinds, task_kind, module_kinds, program_kinds}
+use Rattle.htl_names.specs.Lists.{map_at, flat_map_at}
+use Rattle.htl_names.specs.Parents.{ParentUse, invoke_parent, mode_parents, module_parents, program_parents}
+use Rattle.htl_names.specs.Rows.{Rows, rows_with, joined, declaring, using, judging, refining, all_rows, list_of, used, comm_rows, out_rows, outputs_rows, task_rows, end_rows, invoke_rows, switch_rows, mode_rows, module_rows, program_rows}
+use Rattle.htl_names.specs.Uses.{usage, output_uses, outputs_uses, task_uses, end_use, invoke_uses, switch_uses, program_use, mode_uses, module_uses, program_uses}
 use Rattle.htl_names.specs.declared.key.Entry.{Entry}
+use Rattle.htl_names.specs.declared.key.Space.TheVariants as space
 use Rattle.htl_names.specs.declared.key.Use.{Use}
-
--- what is left at the place of an item
-pub front_map : {N A : Type 0} (view : N → A) (xs : List N) (k : ℕ) (x : N) → k < length xs → x ≡ get_or xs k x
-    → drop k (map view xs) ≡ view x ∷ drop (k + 1) (map view xs)
-front_map view xs k x within is =
-    drop-map view k xs ∙ ap (map view) (drop_more xs k x within ∙ ap (λ y. y ∷ drop (k + 1) xs) (sym is))
-    ∙ ap (λ rest. view x ∷ rest) (sym (drop-map view (k + 1) xs))
 
 pub map_at-append : {A B : Type 0} (g : ℕ → A → B) (k n : ℕ) (xs ys : List A) → n ≡ k + length xs → map_at g k (xs ++ ys) ≡ map_at g k xs ++ map_at g n ys
 map_at-append g k n [] ys is = let same : k ≡ n = omega (arith, is) in ap (λ m. map_at g m ys) same
@@ -41,51 +49,162 @@ joined-assoc a b c =
     same_rows _ (a.entries ++ (b.entries ++ c.entries)) _ (a.uses ++ (b.uses ++ c.uses)) _ (a.kinds ++ (b.kinds ++ c.kinds)) _ (a.parents ++ (b.parents ++ c.parents))
     (append_assoc a.entries b.entries c.entries) (append_assoc a.uses b.uses c.uses) (append_assoc a.kinds b.kinds c.kinds) (append_assoc a.parents b.parents c.parents)
 
--- ---- one part after another
+-- ---- the rows of a list's items
 
-pub then_rows : (old mid new a b : Rows) → mid ≡ joined old a → new ≡ joined mid b → new ≡ joined old (joined a b)
-then_rows old mid new a b p q = q ∙ ap (λ r. joined r b) p ∙ joined-assoc old a b
+-- the first item's, and those of the others
+first_then : {A : Type 0} (f : ℕ → A → Rows) (k : ℕ) (x : A) (xs : List A) (a b : Rows) → f k x ≡ a → all_rows f (suc k) xs ≡ b → all_rows f k (x ∷ xs) ≡ joined a b
+first_then f k x xs a b p q = ap (λ r. joined r (all_rows f (suc k) xs)) p ∙ ap (joined a) q
 
-pub OnOk-then : {E : Type 0} (r : Result (Unit {0}) E) (old mid new a b : Rows) → mid ≡ joined old a → OnOk r (new ≡ joined mid b) → OnOk r (new ≡ joined old (joined a b))
-OnOk-then (Ok t) old mid new a b p q = then_rows old mid new a b p q
-OnOk-then (Err e) old mid new a b p q = tt
+declared_are : {A : Type 0} (f : ℕ → A → Entry) (k : ℕ) (xs : List A) → all_rows (λ j x. declaring (f j x ∷ [])) k xs ≡ declaring (map_at f k xs)
+declared_are f k [] = refl
+declared_are f k (x ∷ xs) = ap (joined (declaring (f k x ∷ []))) (declared_are f (suc k) xs)
 
-pub OnOk-as : {E : Type 0} (r : Result (Unit {0}) E) (old new a b : Rows) → a ≡ b → OnOk r (new ≡ joined old a) → OnOk r (new ≡ joined old b)
-OnOk-as (Ok t) old new a b is p = p ∙ ap (joined old) is
-OnOk-as (Err e) old new a b is p = tt
+comms_are : (c : ℕ) (xs : List CommNode) → all_rows (comm_rows (list_of space.Comms 0 0 0)) c xs ≡ rows_with (map_at comm_entry c xs) [] (flat_map comm_kinds xs) []
+comms_are c [] = refl
+comms_are c (x ∷ xs) =
+    first_then (comm_rows (list_of space.Comms 0 0 0)) c x xs _ _ refl (comms_are (suc c) xs) ∙ alike _ _ refl refl (sym (flat_map-cons comm_kinds x xs)) refl
 
--- ---- along a list: `all` gives the rows of the items that are left, the first of them at a place
+outs_are : (p u k inputs j : ℕ) (xs : List OutNode)
+    → all_rows (out_rows (list_of space.Params p u k) inputs) j xs
+    ≡ rows_with (map_at (param_entry p u k) j (map (λ o. o.param) (map out_of xs))) (flat_map (output_uses p u k inputs) (map out_of xs)) [] []
+outs_are p u k inputs j [] = refl
+outs_are p u k inputs j (x ∷ xs) =
+    first_then (out_rows (list_of space.Params p u k) inputs) j x xs _ _ refl (outs_are p u k inputs (suc j) xs)
+    ∙ alike _ _ refl (sym (flat_map-cons (output_uses p u k inputs) (out_of x) (map out_of xs))) refl refl
 
-pub walk_on : {A : Type 0} (g : ℕ → A → Rows) (all : ℕ → List A → Rows) → ((k : ℕ) (x : A) (xs : List A) → all k (x ∷ xs) ≡ joined (g k x) (all (suc k) xs))
-    → (place next : ℕ) (v : A) (here rest : List A) (old new total : Rows)
-    → next ≡ suc place → here ≡ v ∷ rest → new ≡ joined old (g place v) → joined old (all place here) ≡ total → joined new (all next rest) ≡ total
-walk_on g all step place next v here rest old new total after is grown going =
-    ap (λ n. joined new (all n rest)) after
-    ∙ ap (λ r. joined r (all (suc place) rest)) grown
-    ∙ joined-assoc old (g place v) (all (suc place) rest)
-    ∙ ap (joined old) (sym (step place v rest))
-    ∙ ap (λ xs. joined old (all place xs)) (sym is)
+outputs_are : (p u k inputs : ℕ) (xs : OutNodes)
+    → outputs_rows (list_of space.Params p u k) inputs xs ≡ rows_with (map_at (param_entry p u k) inputs (out_params (outs_of xs))) (outputs_uses p u k inputs (outs_of xs)) [] []
+outputs_are p u k inputs (outs.Concrete xs) = outs_are p u k inputs inputs xs
+outputs_are p u k inputs (outs.Abstract xs) = declared_are (param_entry p u k) inputs xs
+
+task_is : (p u k : ℕ) (x : TaskNode) → task_rows (list_of space.Tasks p u 0) k x ≡ rows_with (task_entries p u k (task_of x)) (task_uses p u k (task_of x)) (task_kind (task_of x) ∷ []) []
+task_is p u k x =
+    let e = entry (task_key p u x.name.name) k x.name in
+    let head = λ (r s : Rows). joined (declaring (e ∷ [])) (joined (judging (Span x.worst ∷ [])) (joined r s)) in
+    let n = length x.inputs in
+    let same : n ≡ 0 + n = omega arith in
+    ap (λ r. head r (outputs_rows (list_of space.Params p u k) n x.outputs)) (declared_are (param_entry p u k) 0 x.inputs)
+    ∙ ap (head (declaring (map_at (param_entry p u k) 0 x.inputs))) (outputs_are p u k n x.outputs)
+    ∙ alike _ _ (ap (λ es. e ∷ es) (sym (map_at-append (param_entry p u k) 0 n x.inputs (out_params (outs_of x.outputs)) same))) refl refl refl
+
+tasks_are : (p u k : ℕ) (xs : List TaskNode)
+    → all_rows (task_rows (list_of space.Tasks p u 0)) k xs
+    ≡ rows_with (flat_map_at (task_entries p u) k (map task_of xs)) (flat_map_at (task_uses p u) k (map task_of xs)) (map task_kind (map task_of xs)) []
+tasks_are p u k [] = refl
+tasks_are p u k (x ∷ xs) = first_then (task_rows (list_of space.Tasks p u 0)) k x xs _ _ (task_is p u k x) (tasks_are p u (suc k) xs)
+
+end_is : (p u m k : ℕ) (x : EndNode) → end_rows (list_of space.Ports p u m) k x ≡ rows_with [] (end_use p u m x ∷ []) (end_kinds x) []
+end_is p u m k (end.Comm comm instance) = refl
+end_is p u m k (end.Port port) = refl
+
+ends_are : (p u m k : ℕ) (xs : List EndNode) → all_rows (end_rows (list_of space.Ports p u m)) k xs ≡ rows_with [] (map (end_use p u m) xs) (flat_map end_kinds xs) []
+ends_are p u m k [] = refl
+ends_are p u m k (x ∷ xs) =
+    first_then (end_rows (list_of space.Ports p u m)) k x xs _ _ (end_is p u m k x) (ends_are p u m (suc k) xs) ∙ alike _ _ refl refl (sym (flat_map-cons end_kinds x xs)) refl
+
+invoke_is : (p u m j : ℕ) (x : InvokeNode)
+    → invoke_rows (list_of space.Invokes p u m) j x ≡ rows_with (invoke_entry p u m j x ∷ []) (invoke_uses p u m x) (invoke_kinds x) (invoke_parent p x)
+invoke_is p u m j x =
+    let ends = all_rows (end_rows (list_of space.Ports p u m)) 0 in
+    let head = λ (r s : Rows). joined (declaring (invoke_entry p u m j x ∷ [])) (joined (used (list_of space.Tasks p u 0) x.task) (joined r (joined s (refining (invoke_parent p x))))) in
+    ap (λ r. head r (ends x.writes)) (ends_are p u m 0 x.reads)
+    ∙ ap (head (rows_with [] (map (end_use p u m) x.reads) (flat_map end_kinds x.reads) [])) (ends_are p u m 0 x.writes)
+    ∙ alike _ _ refl (ap (λ us. usage (task_key p u x.task.name) x.task ∷ (map (end_use p u m) x.reads ++ us)) (append-nil (map (end_use p u m) x.writes)))
+    (ap (λ js. flat_map end_kinds x.reads ++ js) (append-nil (flat_map end_kinds x.writes))) refl
+
+invokes_are : (p u m j : ℕ) (xs : List InvokeNode)
+    → all_rows (invoke_rows (list_of space.Invokes p u m)) j xs
+    ≡ rows_with (map_at (invoke_entry p u m) j xs) (flat_map (invoke_uses p u m) xs) (flat_map invoke_kinds xs) (flat_map (invoke_parent p) xs)
+invokes_are p u m j [] = refl
+invokes_are p u m j (x ∷ xs) =
+    first_then (invoke_rows (list_of space.Invokes p u m)) j x xs _ _ (invoke_is p u m j x) (invokes_are p u m (suc j) xs)
+    ∙ alike _ _ refl (sym (flat_map-cons (invoke_uses p u m) x xs)) (sym (flat_map-cons invoke_kinds x xs)) (sym (flat_map-cons (invoke_parent p) x xs))
+
+switches_are : (p u k : ℕ) (xs : List SwitchNode) → all_rows (switch_rows (list_of space.Modes p u 0)) k xs ≡ using (flat_map (switch_uses p u) (map switch_of xs))
+switches_are p u k [] = refl
+switches_are p u k (x ∷ xs) =
+    first_then (switch_rows (list_of space.Modes p u 0)) k x xs _ _ refl (switches_are p u (suc k) xs)
+    ∙ alike _ _ refl (sym (flat_map-cons (switch_uses p u) (switch_of x) (map switch_of xs))) refl refl
+
+mode_is : (p u m : ℕ) (x : ModeNode)
+    → mode_rows (list_of space.Modes p u 0) m x ≡ rows_with (mode_entries p u m (mode_of x)) (mode_uses p u m (mode_of x)) (mode_kinds (mode_of x)) (mode_parents p (mode_of x))
+mode_is p u m x =
+    let e = entry (mode_key p u x.name.name) m x.name in
+    let head = λ (r s t : Rows). joined (declaring (e ∷ [])) (joined (judging (Span x.period ∷ [])) (joined (using (program_use x.program)) (joined r (joined s t)))) in
+    let ports = map_at (port_entry p u m) 0 x.ports in
+    let switches = all_rows (switch_rows (list_of space.Modes p u 0)) 0 x.switches in
+    let invokes = all_rows (invoke_rows (list_of space.Invokes p u m)) 0 x.invokes in
+    let listed = rows_with (map_at (invoke_entry p u m) 0 x.invokes) (flat_map (invoke_uses p u m) x.invokes) (flat_map invoke_kinds x.invokes) (flat_map (invoke_parent p) x.invokes) in
+    ap (λ r. head r invokes switches) (declared_are (port_entry p u m) 0 x.ports)
+    ∙ ap (λ r. head (declaring ports) r switches) (invokes_are p u m 0 x.invokes)
+    ∙ ap (head (declaring ports) listed) (switches_are p u 0 x.switches)
+    ∙ alike _ _ (ap (λ es. e ∷ (ports ++ es)) (append-nil listed.entries)) refl (ap (λ js. Span x.period ∷ js) (append-nil listed.kinds)) (append-nil listed.parents)
+
+modes_are : (p u m : ℕ) (xs : List ModeNode)
+    → all_rows (mode_rows (list_of space.Modes p u 0)) m xs
+    ≡ rows_with (flat_map_at (mode_entries p u) m (map mode_of xs)) (flat_map_at (mode_uses p u) m (map mode_of xs)) (flat_map mode_kinds (map mode_of xs)) (flat_map (mode_parents p) (map mode_of xs))
+modes_are p u m [] = refl
+modes_are p u m (x ∷ xs) =
+    first_then (mode_rows (list_of space.Modes p u 0)) m x xs _ _ (mode_is p u m x) (modes_are p u (suc m) xs)
+    ∙ alike _ _ refl refl (sym (flat_map-cons mode_kinds (mode_of x) (map mode_of xs))) (sym (flat_map-cons (mode_parents p) (mode_of x) (map mode_of xs)))
+
+module_is : (p u : ℕ) (x : ModuleNode)
+    → module_rows (list_of space.Modules p 0 0) u x ≡ rows_with (module_entries p u (module_of x)) (module_uses p u (module_of x)) (module_kinds (module_of x)) (module_parents p (module_of x))
+module_is p u x =
+    let head = λ (r s : Rows). joined (declaring (entry (module_key x.name.name) u x.name ∷ [])) (joined (used (list_of space.Modes p u 0) x.start) (joined r s)) in
+    ap (λ r. head r (all_rows (mode_rows (list_of space.Modes p u 0)) 0 x.modes)) (tasks_are p u 0 x.tasks)
+    ∙ ap (head (rows_with (flat_map_at (task_entries p u) 0 (map task_of x.tasks)) (flat_map_at (task_uses p u) 0 (map task_of x.tasks)) (map task_kind (map task_of x.tasks)) [])) (modes_are p u 0 x.modes)
+
+modules_are : (p u : ℕ) (xs : List ModuleNode)
+    → all_rows (module_rows (list_of space.Modules p 0 0)) u xs
+    ≡ rows_with (flat_map_at (module_entries p) u (map module_of xs)) (flat_map_at (module_uses p) u (map module_of xs)) (flat_map module_kinds (map module_of xs)) (flat_map (module_parents p) (map module_of xs))
+modules_are p u [] = refl
+modules_are p u (x ∷ xs) =
+    first_then (module_rows (list_of space.Modules p 0 0)) u x xs _ _ (module_is p u x) (modules_are p (suc u) xs)
+    ∙ alike _ _ refl refl (sym (flat_map-cons module_kinds (module_of x) (map module_of xs))) (sym (flat_map-cons (module_parents p) (module_of x) (map module_of xs)))
+
+program_is : (p first : ℕ) (x : ProgramNode)
+    → program_rows p first x ≡ rows_with (program_entries p first (program_of x)) (program_uses p (program_of x)) (program_kinds (program_of x)) (program_parents p (program_of x))
+program_is p first x =
+    let head = λ (r s : Rows). joined (declaring (entry (program_key x.name.name) p x.name ∷ [])) (joined r s) in
+    ap (λ r. head r (all_rows (module_rows (list_of space.Modules p 0 0)) 0 x.modules)) (comms_are first x.comms)
+    ∙ ap (head (rows_with (map_at comm_entry first x.comms) [] (flat_map comm_kinds x.comms) [])) (modules_are p 0 x.modules)
+
+-- ---- all programs; communicators are numbered over all of them
+
+abbrev pub programs_rows : ℕ → ℕ → List ProgramNode → Rows
+programs_rows p first [] = declaring []
+programs_rows p first (x ∷ xs) = joined (program_rows p first x) (programs_rows (suc p) (first + length x.comms) xs)
+
+pub programs_are : (p first : ℕ) (xs : List ProgramNode)
+    → programs_rows p first xs
+    ≡ rows_with (entries_from p first (map program_of xs)) (flat_map_at program_uses p (map program_of xs)) (flat_map program_kinds (map program_of xs)) (flat_map_at program_parents p (map program_of xs))
+programs_are p first [] = refl
+programs_are p first (x ∷ xs) =
+    let own = rows_with (program_entries p first (program_of x)) (program_uses p (program_of x)) (program_kinds (program_of x)) (program_parents p (program_of x)) in
+    ap (λ r. joined r (programs_rows (suc p) (first + length x.comms) xs)) (program_is p first x)
+    ∙ ap (joined own) (programs_are (suc p) (first + length x.comms) xs)
+    ∙ alike _ _ refl refl (sym (flat_map-cons program_kinds (program_of x) (map program_of xs))) refl
+
+-- one program more
+pub programs_on : (p next first after : ℕ) (x : ProgramNode) (here rest : List ProgramNode) (old new total : Rows) → next ≡ suc p → after ≡ first + length x.comms → here ≡ x ∷ rest
+    → new ≡ joined old (program_rows p first x) → joined old (programs_rows p first here) ≡ total → joined new (programs_rows next after rest) ≡ total
+programs_on p next first after x here rest old new total follows more is grown going =
+    ap (λ n. joined new (programs_rows n after rest)) follows
+    ∙ ap (λ n. joined new (programs_rows (suc p) n rest)) more
+    ∙ ap (λ r. joined r (programs_rows (suc p) (first + length x.comms) rest)) grown
+    ∙ joined-assoc old (program_rows p first x) (programs_rows (suc p) (first + length x.comms) rest)
+    ∙ ap (λ xs. joined old (programs_rows p first xs)) (sym is)
     ∙ going
 
--- ---- the rows of a list's first item, and those of the others
-
-pub outs_step : (p u k inputs j : ℕ) (x : PlainOut) (xs : List PlainOut)
-    → outs_rows p u k inputs j (x ∷ xs) ≡ joined (joined (declaring (param_entry p u k j x.param ∷ [])) (using (output_uses p u k inputs x))) (outs_rows p u k inputs (suc j) xs)
-outs_step p u k inputs j x xs = alike _ _ refl (flat_map-cons (output_uses p u k inputs) x xs) refl refl
-
-pub programs_step : (p first : ℕ) (x : PlainProgram) (xs : List PlainProgram)
-    → programs_rows p first (x ∷ xs) ≡ joined (program_rows p first x) (programs_rows (suc p) (first + length x.comms) xs)
-programs_step p first x xs = alike _ _ refl refl (flat_map-cons program_kinds x xs) refl
-
--- ---- communicators are numbered over all programs
-
-pub few_more : (p first after : ℕ) (x : PlainProgram) (old new : Rows) → after ≡ first + length x.comms
+pub few_more : (p first after : ℕ) (x : ProgramNode) (old new : Rows) → after ≡ first + length x.comms
     → new ≡ joined old (program_rows p first x) → first ≤ length old.entries → after ≤ length new.entries
 few_more p first after x old new more grown few =
-    let modules = flat_map_at (module_entries p) 0 x.modules in
+    let modules = flat_map_at (module_entries p) 0 (map module_of x.modules) in
     let comms = map_at comm_entry first x.comms in
-    let whole = ap (λ (r : Rows). length r.entries) grown ∙ length-append old.entries (program_entries p first x) in
-    let head : length (program_entries p first x) ≡ suc (length (comms ++ modules)) = refl in
+    let all = program_entries p first (program_of x) in
+    let whole = ap (λ (r : Rows). length r.entries) (grown ∙ ap (joined old) (program_is p first x)) ∙ length-append old.entries all in
+    let head : length all ≡ suc (length (comms ++ modules)) = refl in
     let parts = length-append comms modules in
     let few_comms = length-map_at comm_entry first x.comms in
     omega (arith, whole, head, parts, few_comms, more, few)

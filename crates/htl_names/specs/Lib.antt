@@ -20,7 +20,7 @@ pub mod Refined
 pub mod Repeats
 pub mod Rows
 pub mod SameKeys
-pub mod Stack
+pub mod Nth
 pub mod Tallies
 pub mod Told
 pub mod Uses

@@ -1,12 +1,24 @@
 -- What one walk over a source leaves for the name rules: four lists, each in source order.
-use Rattle.std.specs.Prelude.{ℕ, List, [], ◌∷◌, ◌++◌, map}
-use Rattle.std.specs.List.{flat_map}
-use Rattle.htl_text.specs.Bounds.{out_params}
-use Rattle.htl_text.specs.Nodes.{PlainProgram, PlainModule, PlainMode, PlainTask, PlainOut, PlainOuts, PlainSwitch}
+use Rattle.std.specs.Prelude.{ℕ, suc, List, [], ◌∷◌, ◌++◌, length, map, Some}
+use Rattle.htl_text.specs.Bounds.{names_of}
+use Rattle.htl_text.specs.Nodes.{PlainProgram}
+use Rattle.htl_text.specs.declared.tree.Id.{Id}
 use Rattle.htl_text.specs.declared.tree.CommNode.{CommNode}
 use Rattle.htl_text.specs.declared.tree.ParamNode.{ParamNode}
 use Rattle.htl_text.specs.declared.tree.EndNode.{EndNode}
+use Rattle.htl_text.specs.declared.tree.EndNode.TheVariants as end
 use Rattle.htl_text.specs.declared.tree.InvokeNode.{InvokeNode}
+use Rattle.htl_text.specs.declared.tree.ModeNode.{ModeNode}
+use Rattle.htl_text.specs.declared.tree.ModuleNode.{ModuleNode}
+use Rattle.htl_text.specs.declared.tree.OutNode.{OutNode}
+use Rattle.htl_text.specs.declared.tree.OutNodes.{OutNodes}
+use Rattle.htl_text.specs.declared.tree.OutNodes.TheVariants as outs
+use Rattle.htl_text.specs.declared.tree.ProgramNode.{ProgramNode}
+use Rattle.htl_text.specs.declared.tree.SwitchNode.{SwitchNode}
+use Rattle.htl_text.specs.declared.tree.TaskNode.{TaskNode}
+use Rattle.htl_names.specs.declared.key.Scope.{Scope}
+use Rattle.htl_names.specs.declared.key.Space.{Space}
+use Rattle.htl_names.specs.declared.key.Space.TheVariants as space
 use Rattle.htl_names.specs.declared.key.Entry.{Entry}
 use Rattle.htl_names.specs.declared.key.Use.{Use}
 use Rattle.htl_names.specs.declared.rows.Judged.{Judged as Held}
@@ -15,7 +27,7 @@ use Rattle.htl_names.specs.declared.rows.ParentName.{ParentName}
 use Rattle.htl_names.specs.Entries as entries
 use Rattle.htl_names.specs.Kinds as kinds
 use Rattle.htl_names.specs.Kinds.{Judged, Span, Instance, Initial}
-use Rattle.htl_names.specs.Lists.{flat_map_at, map_at}
+use Rattle.htl_names.specs.Keys.{key_in}
 use Rattle.htl_names.specs.Parents as parents
 use Rattle.htl_names.specs.Parents.{ParentUse}
 use Rattle.htl_names.specs.Uses as uses
@@ -56,66 +68,74 @@ refining ps = rows_with [] [] [] ps
 abbrev pub joined : Rows → Rows → Rows
 joined a b = rows_with (a.entries ++ b.entries) (a.uses ++ b.uses) (a.kinds ++ b.kinds) (a.parents ++ b.parents)
 
--- ---- what each part of a source gives; p, u, k and m are the places of the program, the module, the task and the mode
+-- the rows of the items of a list, the first of them at place k
+abbrev pub all_rows : {A : Type 0} → (ℕ → A → Rows) → ℕ → List A → Rows
+all_rows f k [] = declaring []
+all_rows f k (x ∷ xs) = joined (f k x) (all_rows f (suc k) xs)
 
-abbrev pub comm_rows : ℕ → CommNode → Rows
-comm_rows c x = rows_with (entries.comm_entry c x ∷ []) [] (kinds.comm_kinds x) []
+-- ---- what each part of a source gives, at a place in a list of its owner's
 
-abbrev pub comms_rows : ℕ → List CommNode → Rows
-comms_rows c xs = rows_with (map_at entries.comm_entry c xs) [] (flat_map kinds.comm_kinds xs) []
+abbrev pub list_of : Space → ℕ → ℕ → ℕ → Scope
+list_of s p u i = record { space = s; program = p; «module» = u; item = i }
 
-abbrev pub params_rows : ℕ → ℕ → ℕ → ℕ → List ParamNode → Rows
-params_rows p u k j xs = declaring (map_at (entries.param_entry p u k) j xs)
+abbrev pub declared : Scope → ℕ → Id → Rows
+declared s k id = declaring (entries.entry (key_in s id.name) k id ∷ [])
 
--- outputs with expressions over inputs of this number, the first of the outputs behind them at place j
-abbrev pub outs_rows : ℕ → ℕ → ℕ → ℕ → ℕ → List PlainOut → Rows
-outs_rows p u k inputs j xs = rows_with (map_at (entries.param_entry p u k) j (map (λ (o : PlainOut). o.param) xs)) (flat_map (uses.output_uses p u k inputs) xs) [] []
+abbrev pub used : Scope → Id → Rows
+used s id = using (uses.usage (key_in s id.name) id ∷ [])
 
-abbrev pub outputs_rows : ℕ → ℕ → ℕ → ℕ → PlainOuts → Rows
-outputs_rows p u k inputs xs = rows_with (map_at (entries.param_entry p u k) inputs (out_params xs)) (uses.outputs_uses p u k inputs xs) [] []
+abbrev pub comm_rows : Scope → ℕ → CommNode → Rows
+comm_rows s c x = rows_with (entries.entry (key_in s x.name.name) c x.name ∷ []) [] (kinds.comm_kinds x) []
 
-abbrev pub task_rows : ℕ → ℕ → ℕ → PlainTask → Rows
-task_rows p u k t = rows_with (entries.task_entries p u k t) (uses.task_uses p u k t) (kinds.task_kind t ∷ []) []
+abbrev pub param_rows : Scope → ℕ → ParamNode → Rows
+param_rows s j x = declared s j x.name
 
-abbrev pub tasks_rows : ℕ → ℕ → ℕ → List PlainTask → Rows
-tasks_rows p u k xs = rows_with (flat_map_at (entries.task_entries p u) k xs) (flat_map_at (uses.task_uses p u) k xs) (map kinds.task_kind xs) []
+-- an output of a task that has this number of inputs
+abbrev pub out_rows : Scope → ℕ → ℕ → OutNode → Rows
+out_rows s inputs j x = joined (param_rows s j x.param) (using (map (uses.use_in s (Some inputs)) (names_of x.value)))
 
-abbrev pub ports_rows : ℕ → ℕ → ℕ → ℕ → List ParamNode → Rows
-ports_rows p u m j xs = declaring (map_at (entries.port_entry p u m) j xs)
+abbrev pub outputs_rows : Scope → ℕ → OutNodes → Rows
+outputs_rows s inputs (outs.Concrete xs) = all_rows (out_rows s inputs) inputs xs
+outputs_rows s inputs (outs.Abstract xs) = all_rows (param_rows s) inputs xs
 
-abbrev pub end_rows : ℕ → ℕ → ℕ → EndNode → Rows
-end_rows p u m x = rows_with [] (uses.end_use p u m x ∷ []) (kinds.end_kinds x) []
+abbrev pub task_rows : Scope → ℕ → TaskNode → Rows
+task_rows s k x =
+    let params : Scope = list_of space.Params s.program s.«module» k in
+    joined (declared s k x.name) (joined (judging (Span x.worst ∷ []))
+    (joined (all_rows (param_rows params) 0 x.inputs) (outputs_rows params (length x.inputs) x.outputs)))
 
-abbrev pub ends_rows : ℕ → ℕ → ℕ → List EndNode → Rows
-ends_rows p u m xs = rows_with [] (map (uses.end_use p u m) xs) (flat_map kinds.end_kinds xs) []
+abbrev pub end_rows : Scope → ℕ → EndNode → Rows
+end_rows s k (end.Comm comm instance) = rows_with [] (uses.comm_use comm ∷ []) (Instance instance ∷ []) []
+end_rows s k (end.Port port) = used s port
 
-abbrev pub invoke_rows : ℕ → ℕ → ℕ → ℕ → InvokeNode → Rows
-invoke_rows p u m j x = rows_with (entries.invoke_entry p u m j x ∷ []) (uses.invoke_uses p u m x) (kinds.invoke_kinds x) (parents.invoke_parent p x)
+abbrev pub invoke_rows : Scope → ℕ → InvokeNode → Rows
+invoke_rows s j x =
+    let ports : Scope = list_of space.Ports s.program s.«module» s.item in
+    joined (declared s j x.task) (joined (used (list_of space.Tasks s.program s.«module» 0) x.task)
+    (joined (all_rows (end_rows ports) 0 x.reads) (joined (all_rows (end_rows ports) 0 x.writes) (refining (parents.invoke_parent s.program x)))))
 
-abbrev pub invokes_rows : ℕ → ℕ → ℕ → ℕ → List InvokeNode → Rows
-invokes_rows p u m j xs = rows_with (map_at (entries.invoke_entry p u m) j xs) (flat_map (uses.invoke_uses p u m) xs) (flat_map kinds.invoke_kinds xs) (flat_map (parents.invoke_parent p) xs)
+abbrev pub switch_rows : Scope → ℕ → SwitchNode → Rows
+switch_rows s j x = joined (using (map uses.comm_use (names_of x.cond))) (used s x.target)
 
-abbrev pub switches_rows : ℕ → ℕ → List PlainSwitch → Rows
-switches_rows p u xs = using (flat_map (uses.switch_uses p u) xs)
+abbrev pub mode_rows : Scope → ℕ → ModeNode → Rows
+mode_rows s m x =
+    joined (declared s m x.name) (joined (judging (Span x.period ∷ [])) (joined (using (uses.program_use x.program))
+    (joined (all_rows (param_rows (list_of space.Ports s.program s.«module» m)) 0 x.ports)
+    (joined (all_rows (invoke_rows (list_of space.Invokes s.program s.«module» m)) 0 x.invokes) (all_rows (switch_rows s) 0 x.switches)))))
 
-abbrev pub mode_rows : ℕ → ℕ → ℕ → PlainMode → Rows
-mode_rows p u m x = rows_with (entries.mode_entries p u m x) (uses.mode_uses p u m x) (kinds.mode_kinds x) (parents.mode_parents p x)
-
-abbrev pub modes_rows : ℕ → ℕ → ℕ → List PlainMode → Rows
-modes_rows p u m xs = rows_with (flat_map_at (entries.mode_entries p u) m xs) (flat_map_at (uses.mode_uses p u) m xs) (flat_map kinds.mode_kinds xs) (flat_map (parents.mode_parents p) xs)
-
-abbrev pub module_rows : ℕ → ℕ → PlainModule → Rows
-module_rows p u x = rows_with (entries.module_entries p u x) (uses.module_uses p u x) (kinds.module_kinds x) (parents.module_parents p x)
-
-abbrev pub modules_rows : ℕ → ℕ → List PlainModule → Rows
-modules_rows p u xs = rows_with (flat_map_at (entries.module_entries p) u xs) (flat_map_at (uses.module_uses p) u xs) (flat_map kinds.module_kinds xs) (flat_map (parents.module_parents p) xs)
+abbrev pub module_rows : Scope → ℕ → ModuleNode → Rows
+module_rows s u x =
+    let modes : Scope = list_of space.Modes s.program u 0 in
+    joined (declared (list_of space.Modules 0 0 0) u x.name) (joined (used modes x.start)
+    (joined (all_rows (task_rows (list_of space.Tasks s.program u 0)) 0 x.tasks) (all_rows (mode_rows modes) 0 x.modes)))
 
 -- the first communicator of the program has this number
-abbrev pub program_rows : ℕ → ℕ → PlainProgram → Rows
-program_rows p first x = rows_with (entries.program_entries p first x) (uses.program_uses p x) (kinds.program_kinds x) (parents.program_parents p x)
+abbrev pub program_rows : ℕ → ℕ → ProgramNode → Rows
+program_rows p first x =
+    joined (declared (list_of space.Programs 0 0 0) p x.name)
+    (joined (all_rows (comm_rows (list_of space.Comms 0 0 0)) first x.comms) (all_rows (module_rows (list_of space.Modules p 0 0)) 0 x.modules))
 
-abbrev pub programs_rows : ℕ → ℕ → List PlainProgram → Rows
-programs_rows p first xs = rows_with (entries.entries_from p first xs) (flat_map_at uses.program_uses p xs) (flat_map kinds.program_kinds xs) (flat_map_at parents.program_parents p xs)
+-- ---- the lists of a source
 
 abbrev pub rows : List PlainProgram → Rows
 rows ps = rows_with (entries.entries ps) (uses.uses ps) (kinds.kinds ps) (parents.parents ps)

@@ -3,9 +3,9 @@ ghost use Rattle.std.specs.List.{flat_map};
 ghost use Rattle.std.specs.Prelude.{◌≡◌, ◌≤◌, ℕ, eqb, IfOk, ◌++◌, OnOk, map};
 ghost use Rattle.htl_model.specs.Functions.{term_of};
 ghost use Rattle.htl_model.specs.Tables.{fun_of};
-ghost use Rattle.htl_text.specs.Nodes.{tree_of, outs_of, out_of};
+ghost use Rattle.htl_text.specs.Nodes.{tree_of, out_of};
 ghost use Rattle.htl_text.specs.declared.tree.Id.{Id as AnId};
-ghost use Rattle.htl_names.specs.Flat.{term_by, input_place, read_place, output_function, outs_functions, module_functions};
+ghost use Rattle.htl_names.specs.Flat.{term_by, input_place, read_place, output_function, module_functions};
 ghost use Rattle.htl_names.specs.Lists.{place_in};
 
 use crate::key::Space;
@@ -74,6 +74,7 @@ fn place_in(comm: usize, comms: &[u16]) -> usize
 }
 
 /// The expression with the places of its names.
+#[cycle(formula)]
 pub fn formula<A: Arguments>(
     alloc: Global,
     arguments: &A,
@@ -92,21 +93,33 @@ pub fn formula<A: Arguments>(
         Part::Unary { token, op, e } => Ok(Expr::Unary {
             token,
             op,
-            e: Box::new(alloc, formula(alloc, arguments, &e)?)?,
+            e: boxed(alloc, arguments, &e)?,
         }),
         Part::Binary { token, op, l, r } => Ok(Expr::Binary {
             token,
             op,
-            l: Box::new(alloc, formula(alloc, arguments, &l)?)?,
-            r: Box::new(alloc, formula(alloc, arguments, &r)?)?,
+            l: boxed(alloc, arguments, &l)?,
+            r: boxed(alloc, arguments, &r)?,
         }),
         Part::Choose { token, c, a, b } => Ok(Expr::Choose {
             token,
-            c: Box::new(alloc, formula(alloc, arguments, &c)?)?,
-            a: Box::new(alloc, formula(alloc, arguments, &a)?)?,
-            b: Box::new(alloc, formula(alloc, arguments, &b)?)?,
+            c: boxed(alloc, arguments, &c)?,
+            a: boxed(alloc, arguments, &a)?,
+            b: boxed(alloc, arguments, &b)?,
         }),
     }
+}
+
+#[cycle(formula)]
+fn boxed<A: Arguments>(
+    alloc: Global,
+    arguments: &A,
+    e: &Operand<'_>,
+) -> Result<Box<Expr>, AllocError>
+    requires { (id : AnId) → A.place arguments.now id ≤ 4097 }
+    ensures { IfOk result (λ x. term_of x.value ≡ term_by (A.place arguments.now) e.now) }
+{
+    Ok(Box::new(alloc, formula(alloc, arguments, e)?)?)
 }
 
 // ---- the functions of outputs
@@ -125,7 +138,7 @@ pub fn outputs(source: &Source<'_>) -> Result<Vec<Function>, AllocError>
     Ok(into)
 }
 
-// Those of the tasks of a module.
+// Those of the tasks of a module: none of an abstract one.
 fn put_module(source: &Source<'_>, at: ModuleAt, into: &mut Vec<Function>) -> Result<(), AllocError>
     ensures { OnOk result (map fun_of into.new.items
         ≡ map fun_of into.old.items ++ module_functions source.now.layout.now (tree_of source.now.tree.now) at) }
@@ -137,26 +150,14 @@ fn put_module(source: &Source<'_>, at: ModuleAt, into: &mut Vec<Function>) -> Re
             at,
             task: k,
         };
-        put_task(&inputs, &tasks[k].outputs, into)?;
+        if let OutNodes::Concrete { outs } = &tasks[k].outputs {
+            put_outs(&inputs, outs.as_slice(), into)?;
+        }
     }
     Ok(())
 }
 
-// Those of a task with these inputs: none of an abstract one.
-fn put_task(
-    inputs: &Inputs<'_>,
-    outs: &OutNodes,
-    into: &mut Vec<Function>,
-) -> Result<(), AllocError>
-    ensures { OnOk result (map fun_of into.new.items ≡ map fun_of into.old.items
-        ++ outs_functions inputs.now.source.layout.now inputs.now.at.program inputs.now.at.«module» inputs.now.task (outs_of outs.now)) }
-{
-    match outs {
-        OutNodes::Concrete { outs } => put_outs(inputs, outs.as_slice(), into),
-        OutNodes::Abstract { .. } => Ok(()),
-    }
-}
-
+// Those of a task with these inputs.
 fn put_outs(
     inputs: &Inputs<'_>,
     outs: &[OutNode],

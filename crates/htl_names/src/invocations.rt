@@ -122,10 +122,11 @@ fn ends(home: &Home<'_>, nodes: &[EndNode]) -> Result<Vec<End>, AllocError>
     requires { All IsNarrowEnd nodes.now }
     ensures { IfOk result (λ v. v.items ≡ map (end_item home.now.source.layout.now (tree_of home.now.source.tree.now) home.now.mode home.now.at) nodes.now) }
 {
-    nodes
-        .iter()
-        .map(|node| end(home, node))
-        .collect(home.source.alloc)
+    let mut found = Vec::new(home.source.alloc);
+    for k in 0..nodes.len() {
+        found.push(end(home, &nodes[k]))?;
+    }
+    Ok(found)
 }
 
 fn end(home: &Home<'_>, node: &EndNode) -> End

@@ -1,11 +1,12 @@
 // The lists of communicators, modes, modules, ports and tasks.
-ghost use Rattle.std.specs.Prelude.{◌≡◌, ◌≤◌, None, Some, All, IfOk, length, map};
+ghost use Rattle.std.specs.Prelude.{◌≡◌, ◌≤◌, ◌++◌, None, Some, All, IfOk, OnOk, length, map};
 ghost use Rattle.htl_text.specs.Bounds.{out_params};
 ghost use Rattle.htl_text.specs.Nodes.{tree_of, module_of, mode_of, task_of, outs_of, out_of};
 ghost use Rattle.htl_text.specs.declared.tree.CommNode.{CommNode as ACommNode};
 ghost use Rattle.htl_names.specs.Flat.{size_of, value_of, comm_item, comm_items, mode_item, module_mode_items, mode_number, module_item, module_items, mode_port_items, types_of, is_abstract, task_item, module_task_items};
 ghost use Rattle.htl_names.specs.Narrow.{IsNarrowParent};
 
+use crate::Done;
 use crate::key::Space;
 use crate::place::{
     ModeAt, ModuleAt, mode_number, modes_at, modes_before, module_at, ports_at, tasks_at,
@@ -51,40 +52,39 @@ pub fn comms(source: &Source<'_>) -> Result<Vec<Comm>, AllocError>
     let mut into = Vec::new(source.alloc);
     let programs = source.tree.programs.as_slice();
     for k in 0..programs.len() {
-        let mut part = program_comms(source.alloc, programs[k].comms.as_slice())?;
-        into.append(&mut part)?;
+        put_comms(programs[k].comms.as_slice(), &mut into)?;
     }
     Ok(into)
 }
 
-fn program_comms(alloc: Global, nodes: &[CommNode]) -> Result<Vec<Comm>, AllocError>
+fn put_comms(nodes: &[CommNode], into: &mut Vec<Comm>) -> Done
     requires { All (λ (c : ACommNode). size_of c.period.x ≤ 1000000) nodes.now }
-    ensures { IfOk result (λ v. v.items ≡ map comm_item nodes.now) }
+    ensures { OnOk result (into.new.items ≡ into.old.items ++ map comm_item nodes.now) }
 {
-    nodes
-        .iter()
-        .map(|node| Comm {
+    for k in 0..nodes.len() {
+        let node = &nodes[k];
+        into.push(Comm {
             name: node.name.name,
             ty: node.ty,
             sensor: node.sensor,
             period: size_of(node.period.x),
             init: value_of(node.init),
-        })
-        .collect(alloc)
+        })?;
+    }
+    Ok(())
 }
 
 /// The modes of a module.
 impl Listing<ModuleAt, Mode> for Source<'_> {
     ghost items_of = { λ s. module_mode_items (tree_of s.tree.now) };
 
-    fn items_of(&self, number: usize, at: ModuleAt) -> Result<Vec<Mode>, AllocError> {
+    fn put(&self, number: usize, at: ModuleAt, into: &mut Vec<Mode>) -> Done {
         let module = number as u16;
         let nodes = modes_at(self.tree, at.program, at.module);
-        let mut found = Vec::new(self.alloc);
         for k in 0..nodes.len() {
-            found.push(mode(&nodes[k], module))?;
+            into.push(mode(&nodes[k], module))?;
         }
-        Ok(found)
+        Ok(())
     }
 }
 
@@ -143,17 +143,18 @@ fn parent_mode(source: &Source<'_>, at: ModuleAt) -> Option<u16>
 impl Listing<ModeAt, Port> for Source<'_> {
     ghost items_of = { λ s. mode_port_items (tree_of s.tree.now) };
 
-    fn items_of(&self, number: usize, at: ModeAt) -> Result<Vec<Port>, AllocError> {
+    fn put(&self, number: usize, at: ModeAt, into: &mut Vec<Port>) -> Done {
         let mode = number as u16;
         let nodes = ports_at(self.tree, at);
-        nodes
-            .iter()
-            .map(|node| Port {
+        for k in 0..nodes.len() {
+            let node = &nodes[k];
+            into.push(Port {
                 name: node.name.name,
                 mode,
                 ty: node.ty,
-            })
-            .collect(self.alloc)
+            })?;
+        }
+        Ok(())
     }
 }
 
@@ -163,14 +164,13 @@ impl Listing<ModeAt, Port> for Source<'_> {
 impl Listing<ModuleAt, Task> for Source<'_> {
     ghost items_of = { λ s. module_task_items (tree_of s.tree.now) };
 
-    fn items_of(&self, number: usize, at: ModuleAt) -> Result<Vec<Task>, AllocError> {
+    fn put(&self, number: usize, at: ModuleAt, into: &mut Vec<Task>) -> Done {
         let module = number as u16;
         let nodes = tasks_at(self.tree, at.program, at.module);
-        let mut found = Vec::new(self.alloc);
         for k in 0..nodes.len() {
-            found.push(task(self.alloc, &nodes[k], module)?)?;
+            into.push(task(self.alloc, &nodes[k], module)?)?;
         }
-        Ok(found)
+        Ok(())
     }
 }
 
@@ -197,7 +197,11 @@ fn is_abstract(outs: &OutNodes) -> bool
 fn types_of(alloc: Global, params: &[ParamNode]) -> Result<Vec<Ty>, AllocError>
     ensures { IfOk result (λ v. v.items ≡ types_of params.now) }
 {
-    params.iter().map(|param| param.ty).collect(alloc)
+    let mut types = Vec::new(alloc);
+    for k in 0..params.len() {
+        types.push(params[k].ty)?;
+    }
+    Ok(types)
 }
 
 fn output_types(alloc: Global, outs: &OutNodes) -> Result<Vec<Ty>, AllocError>

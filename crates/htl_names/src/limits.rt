@@ -2,13 +2,14 @@
 ghost use Rattle.std.specs.Prelude.{◌≡◌, map, ◌≤◌, length, ◌+◌, [], ◌∷◌, take, drop};
 ghost use Rattle.htl_model.specs.Lists.{list_to};
 ghost use Rattle.htl_text.specs.Nodes.{mode_of, module_of, program_of, tree_of};
-ghost use Rattle.htl_names.specs.Excess.{IsFirstExcess, capped, excess, excess_from};
-ghost use Rattle.htl_names.specs.LevelTable.{above, level_by, levels_by};
+ghost use Rattle.htl_names.specs.Excess.{IsFirstExcess, capped, excess_from};
+ghost use Rattle.htl_names.specs.LevelTable.{level_by, levels_by};
 ghost use Rattle.htl_names.specs.Limits.{choices, selections, most_invokes, most_positions, counts, limits};
 ghost use Rattle.htl_names.specs.Programs.{refined_by};
 ghost use Rattle.htl_names.specs.Tallies.{with_mode, with_module, with_program, tally, tally_counts};
 
 use crate::place::{ModeAt, modules_at};
+use crate::programs::refined_at;
 use crate::symbols::Symbols;
 use htl_base::limits::{
     MAX_COMMUNICATORS, MAX_INVOCATIONS, MAX_LEVELS, MAX_MODE_INVOCATIONS, MAX_MODES, MAX_MODULES,
@@ -19,7 +20,7 @@ use htl_text::{ModeNode, ModuleNode, ProgramNode, Tree};
 // ---- counts of items
 
 /// How many items of each kind there are, and the most invocations in one mode. Each stops at `usize::MAX`.
-#[derive(Clone, Copy, Default)]
+#[derive(Clone, Copy)]
 pub(crate) struct Tally {
     pub comms: usize,
     pub modules: usize,
@@ -29,6 +30,19 @@ pub(crate) struct Tally {
     pub invokes: usize,
     pub switches: usize,
     pub most_invokes: usize,
+}
+
+impl Tally {
+    const NONE: Tally = Tally {
+        comms: 0,
+        modules: 0,
+        modes: 0,
+        ports: 0,
+        tasks: 0,
+        invokes: 0,
+        switches: 0,
+        most_invokes: 0,
+    };
 }
 
 fn with_mode(t: Tally, mode: &ModeNode) -> Tally
@@ -48,26 +62,30 @@ fn with_module(t: Tally, module: &ModuleNode) -> Tally
     ensures { result ≡ with_module t (module_of «module».now) }
 {
     let modes = module.modes.as_slice();
-    let start = Tally {
+    let mut sum = Tally {
         modes: t.modes.saturating_add(modes.len()),
         tasks: t.tasks.saturating_add(module.tasks.as_slice().len()),
         ..t
     };
-    modes.iter().fold(start, |sum, mode| with_mode(sum, mode))
+    for k in 0..modes.len() {
+        sum = with_mode(sum, &modes[k]);
+    }
+    sum
 }
 
 fn with_program(t: Tally, program: &ProgramNode) -> Tally
     ensures { result ≡ with_program t (program_of program.now) }
 {
     let modules = program.modules.as_slice();
-    let start = Tally {
+    let mut sum = Tally {
         comms: t.comms.saturating_add(program.comms.as_slice().len()),
         modules: t.modules.saturating_add(modules.len()),
         ..t
     };
-    modules
-        .iter()
-        .fold(start, |sum, module| with_module(sum, module))
+    for k in 0..modules.len() {
+        sum = with_module(sum, &modules[k]);
+    }
+    sum
 }
 
 /// The counts of a whole source.
@@ -75,7 +93,11 @@ pub(crate) fn tally_of(tree: &Tree) -> Tally
     ensures { result ≡ tally (tree_of tree.now) }
 {
     let programs = tree.programs.as_slice();
-    programs.iter().fold(Tally::default(), |sum, program| with_program(sum, program))
+    let mut sum = Tally::NONE;
+    for k in 0..programs.len() {
+        sum = with_program(sum, &programs[k]);
+    }
+    sum
 }
 
 // ---- root selections
@@ -129,20 +151,6 @@ pub(crate) fn most_positions(tree: &Tree) -> usize
 
 // ---- levels of programs
 
-/// The program of the mode that a program refines.
-fn above(refined: &[Option<ModeAt>], program: usize) -> Option<usize>
-    ensures { result ≡ above refined.now program }
-{
-    if program < refined.len() {
-        match refined[program] {
-            Some(mode) => Some(mode.program),
-            None => None,
-        }
-    } else {
-        None
-    }
-}
-
 /// How many programs lead from the root to a program, both counted.
 fn level(refined: &[Option<ModeAt>], program: usize) -> usize
     ensures value { result ≡ level_by refined.now (length refined.now) program }
@@ -150,8 +158,8 @@ fn level(refined: &[Option<ModeAt>], program: usize) -> usize
 {
     let mut at = program;
     for k in 0..refined.len() {
-        match above(refined, at) {
-            Some(next) => at = next,
+        match refined_at(at, refined) {
+            Some(mode) => at = mode.program,
             None => return k + 1,
         }
     }
@@ -180,20 +188,6 @@ pub(crate) struct Excess {
     pub count: u32,
 }
 
-/// The excess of a count over its limit.
-fn excess_over(which: u8, count: usize, limit: usize) -> Option<Excess>
-    ensures { result ≡ excess which count limit }
-{
-    if limit < count {
-        Some(Excess {
-            which,
-            count: count.min(u32::MAX as usize) as u32,
-        })
-    } else {
-        None
-    }
-}
-
 /// The first excess of counts over their limits, which are numbered from `first` on.
 fn first_excess(first: u8, counts: &[usize], limits: &[usize]) -> Option<Excess>
     requires few { first + length counts.now ≤ 20 }
@@ -202,8 +196,9 @@ fn first_excess(first: u8, counts: &[usize], limits: &[usize]) -> Option<Excess>
 {
     let mut which = first;
     for k in 0..counts.len() {
-        if let Some(found) = excess_over(which, counts[k], limits[k]) {
-            return Some(found);
+        if limits[k] < counts[k] {
+            let count = counts[k].min(u32::MAX as usize) as u32;
+            return Some(Excess { which, count });
         }
         which += 1;
     }

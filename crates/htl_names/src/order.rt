@@ -1,10 +1,11 @@
 // The modules and modes of a source in the order of the tables.
-ghost use Rattle.std.specs.Prelude.{◌≡◌, ◌++◌, OnOk, IfOk, map, reverse};
+ghost use Rattle.std.specs.List.{flat_map};
+ghost use Rattle.std.specs.Prelude.{◌≡◌, ◌++◌, OnOk, IfOk};
 ghost use Rattle.htl_text.specs.Nodes.{mode_of, tree_of};
 ghost use Rattle.htl_names.specs.Flat.{layout_by};
-ghost use Rattle.htl_names.specs.Order.{modules_in, mode_kids, kids as kids_of_module, order, module_modes, mode_order};
-ghost use Rattle.htl_names.specs.Stack.{frame, kid_frames};
+ghost use Rattle.htl_names.specs.Order.{modules_in, mode_kids, below, order, module_modes, mode_order};
 
+use crate::Done;
 use crate::place::{ModeAt, ModuleAt, modes_at, modules_at};
 use crate::programs::named_program;
 use crate::symbols::Symbols;
@@ -12,24 +13,21 @@ use crate::tables::Layout;
 use htl_text::{ModeNode, Tree};
 use std::alloc::{AllocError, Global};
 
-/// A module that is still to come, and how many levels may lie below it.
-#[derive(Clone, Copy)]
-struct Frame {
-    module: ModuleAt,
-    steps: usize,
-}
-
 // ---- modules
 
-/// Puts the modules of a program behind others.
-fn push_modules(
+// The levels of a tree of programs are few, so the calls below don't go deep.
+
+/// Puts the modules of a program behind others, each with those below it, at most so many levels down.
+#[cycle(below)]
+fn put_program(
     tree: &Tree,
+    symbols: &Symbols,
     parent: Option<ModeAt>,
     program: usize,
     steps: usize,
-    into: &mut Vec<Frame>,
-) -> Result<(), AllocError>
-    ensures { OnOk result (into.new.items ≡ into.old.items ++ map (frame steps) (modules_in (tree_of tree.now) parent program)) }
+    into: &mut Vec<ModuleAt>,
+) -> Done
+    ensures { OnOk result (into.new.items ≡ into.old.items ++ flat_map (below steps symbols.now (tree_of tree.now)) (modules_in (tree_of tree.now) parent program)) }
 {
     let modules = modules_at(tree, program);
     for u in 0..modules.len() {
@@ -38,39 +36,26 @@ fn push_modules(
             module: u,
             parent,
         };
-        into.push(Frame { module, steps })?;
+        put_module(tree, symbols, module, steps, into)?;
     }
     Ok(())
 }
 
-/// Puts the modules of the program that refines a mode behind others.
-fn push_mode_kids(
-    tree: &Tree,
-    symbols: &Symbols,
-    place: ModeAt,
-    mode: &ModeNode,
-    steps: usize,
-    into: &mut Vec<Frame>,
-) -> Result<(), AllocError>
-    ensures { OnOk result (into.new.items ≡ into.old.items ++ map (frame steps) (mode_kids symbols.now (tree_of tree.now) place.program place.«module» place.mode (mode_of mode.now))) }
-{
-    match named_program(mode, symbols) {
-        Some(q) => push_modules(tree, Some(place), q, steps, into),
-        None => Ok(()),
-    }
-}
-
-/// The modules of the programs that refine the modes of a module.
-fn kids(
-    alloc: Global,
+/// Puts a module, and in order those below it.
+#[cycle(below)]
+fn put_module(
     tree: &Tree,
     symbols: &Symbols,
     module: ModuleAt,
     steps: usize,
-) -> Result<Vec<Frame>, AllocError>
-    ensures { IfOk result (λ v. v.items ≡ map (frame steps) (kids_of_module symbols.now (tree_of tree.now) «module»)) }
+    into: &mut Vec<ModuleAt>,
+) -> Done
+    ensures { OnOk result (into.new.items ≡ into.old.items ++ below steps symbols.now (tree_of tree.now) «module») }
 {
-    let mut found = Vec::new(alloc);
+    into.push(module)?;
+    if steps == 0 {
+        return Ok(());
+    }
     let modes = modes_at(tree, module.program, module.module);
     for k in 0..modes.len() {
         let place = ModeAt {
@@ -78,32 +63,32 @@ fn kids(
             module: module.module,
             mode: k,
         };
-        push_mode_kids(tree, symbols, place, &modes[k], steps, &mut found)?;
+        put_kids(tree, symbols, place, &modes[k], steps - 1, into)?;
     }
-    Ok(found)
+    Ok(())
 }
 
-/// Puts what comes below a module on the stack.
-fn push_kids(
-    alloc: Global,
+/// Puts the modules of the program that refines a mode, with those below them.
+#[cycle(below)]
+fn put_kids(
     tree: &Tree,
     symbols: &Symbols,
-    top: Frame,
-    stack: &mut Vec<Frame>,
-) -> Result<(), AllocError>
-    ensures { OnOk result (stack.new.items ≡ stack.old.items ++ reverse (kid_frames top.steps symbols.now (tree_of tree.now) top.«module»)) }
+    place: ModeAt,
+    mode: &ModeNode,
+    steps: usize,
+    into: &mut Vec<ModuleAt>,
+) -> Done
+    ensures { OnOk result (into.new.items ≡ into.old.items
+        ++ flat_map (below steps symbols.now (tree_of tree.now)) (mode_kids symbols.now (tree_of tree.now) place.program place.«module» place.mode (mode_of mode.now))) }
 {
-    if top.steps == 0 {
-        return Ok(());
+    match named_program(mode, symbols) {
+        Some(q) => put_program(tree, symbols, Some(place), q, steps, into),
+        None => Ok(()),
     }
-    let mut next = kids(alloc, tree, symbols, top.module, top.steps - 1)?;
-    next.reverse();
-    stack.append(&mut next)
 }
 
 /// The modules of a source: a root module, then for each of its modes in order the modules of its refinement with theirs,
-/// then the next root module. What is still to come stands on a stack, so that no depth of programs costs room of the
-/// machine's own.
+/// then the next root module.
 fn ordered_modules(
     alloc: Global,
     tree: &Tree,
@@ -111,14 +96,15 @@ fn ordered_modules(
 ) -> Result<Vec<ModuleAt>, AllocError>
     ensures { IfOk result (λ v. v.items ≡ order symbols.now (tree_of tree.now)) }
 {
-    let mut stack = Vec::new(alloc);
-    push_modules(tree, None, 0, tree.programs.as_slice().len(), &mut stack)?;
-    stack.reverse();
     let mut modules = Vec::new(alloc);
-    while let Some(top) = stack.pop() {
-        modules.push(top.module)?;
-        push_kids(alloc, tree, symbols, top, &mut stack)?;
-    }
+    put_program(
+        tree,
+        symbols,
+        None,
+        0,
+        tree.programs.as_slice().len(),
+        &mut modules,
+    )?;
     Ok(modules)
 }
 

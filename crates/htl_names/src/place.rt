@@ -11,7 +11,7 @@ use htl_text::{InvokeNode, ModeNode, ModuleNode, ParamNode, SwitchNode, TaskNode
 // ---- places
 
 /// A mode: its program, its module in the program, and its place in the module, each counted from 0.
-#[derive(Clone, Copy, PartialEq, Eq)]
+#[derive(Clone, Copy)]
 pub struct ModeAt {
     pub program: usize,
     pub module: usize,

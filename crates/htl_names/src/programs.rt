@@ -1,5 +1,5 @@
 // The tree of programs: the modes that name programs, the first program that is out of place, and the mode that each refines.
-ghost use Rattle.std.specs.Prelude.{◌≡◌, ◌++◌, OnOk, IfOk, eqb, ◌<◌, length, slice_get, fold, MatchBool, ◌≤◌, ℕ, List};
+ghost use Rattle.std.specs.Prelude.{◌≡◌, ◌++◌, OnOk, IfOk, eqb, ◌<◌, length, slice_get, fold, MatchBool, ◌≤◌, ℕ, List, get_or, None};
 ghost use Rattle.htl_model.specs.Lists.{list_to};
 ghost use Rattle.htl_text.specs.Nodes.{mode_of, module_of, program_of, tree_of, PlainProgram};
 ghost use Rattle.htl_names.specs.Graph.{program_named, named_from, naming_rows, targets, graph_by};
@@ -271,4 +271,11 @@ pub(crate) fn refined_modes(
         fill_row(rows[k].as_slice(), &mut modes);
     }
     Ok(modes)
+}
+
+/// The mode that a program refines, by the table of those modes.
+pub(crate) fn refined_at(p: usize, refined: &[Option<ModeAt>]) -> Option<ModeAt>
+    ensures { result ≡ get_or refined.now p None }
+{
+    if p < refined.len() { refined[p] } else { None }
 }

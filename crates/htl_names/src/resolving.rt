@@ -5,7 +5,7 @@ ghost use Rattle.htl_model.specs.Small.{AreSmall};
 ghost use Rattle.htl_text.specs.Nodes.{tree_of};
 ghost use Rattle.htl_names.specs.Conditions.{MeetsBounds};
 ghost use Rattle.htl_names.specs.Flat.{symbols_of};
-ghost use Rattle.htl_names.specs.NameRules.{AreNamesRight, IsResolved};
+ghost use Rattle.htl_names.specs.NameRules.{IsResolved};
 ghost use Rattle.htl_names.specs.Rows.{rows as rows_in};
 ghost use Rattle.htl_names.specs.Told.{KeptBelow, IsRefusal, IsJudged};
 
@@ -43,7 +43,9 @@ pub fn resolve(alloc: Global, tree: &Tree) -> Result<Tables, NameFault>
 {
     let Names { rows, symbols } = names_of(alloc, tree)?;
     check(alloc, tree, &rows, &symbols)?;
-    tables(alloc, tree, symbols)
+    let layout = layout_of(alloc, tree, symbols)?;
+    let parts = parts_of(alloc, tree, &layout)?;
+    Ok(Tables::new(parts))
 }
 
 // The names of a source, none of which repeats: its rows, and what the declared names mean.
@@ -93,18 +95,4 @@ fn check(alloc: Global, tree: &Tree, rows: &Rows, symbols: &Symbols) -> Result<(
         return Err(NameFault::Limit { which, count });
     }
     Ok(())
-}
-
-// The tables of a source whose names keep the rules.
-fn tables(alloc: Global, tree: &Tree, symbols: Symbols) -> Result<Tables, NameFault>
-    requires bounds { MeetsBounds (tree_of tree.now) }
-    requires symbols { symbols ≡ symbols_of (tree_of tree.now) }
-    requires right { AreNamesRight (tree_of tree.now) }
-    ensures resolved { IsResolved (tree_of tree.now) result }
-    ensures limits { IfOk result (λ tables. KeepsLimits tables) }
-    ensures functions { IfOk result (λ tables. AreSmall tables) }
-{
-    let layout = layout_of(alloc, tree, symbols)?;
-    let parts = parts_of(alloc, tree, &layout)?;
-    Ok(Tables::new(parts))
 }

@@ -1,5 +1,5 @@
 // The rules on single rows: each search is one loop over its rows.
-ghost use Rattle.std.specs.Prelude.{◌≡◌, map, get_or, None};
+ghost use Rattle.std.specs.Prelude.{◌≡◌, map};
 ghost use Rattle.htl_model.specs.Lists.{first_some};
 ghost use Rattle.htl_names.specs.Kinds.{wrong_token, is_kind, is_span, is_instance, has_type, token_of, const_token};
 ghost use Rattle.htl_names.specs.Parents.{orphan_at, orphan_token, parent_in};
@@ -8,6 +8,7 @@ ghost use Rattle.htl_names.specs.Uses.{unknown_token};
 
 use crate::key::{Space, Use};
 use crate::place::ModeAt;
+use crate::programs::refined_at;
 use crate::rows::{Judged, ParentName};
 use crate::symbols::Symbols;
 use htl_base::limits::MAX_PERIOD;
@@ -158,11 +159,4 @@ fn place_in(mode: Option<ModeAt>, id: &Id, symbols: &Symbols) -> Option<usize>
             symbols.get(&key)
         }
     }
-}
-
-// The mode that program p refines.
-fn refined_at(p: usize, refined: &[Option<ModeAt>]) -> Option<ModeAt>
-    ensures { result ≡ get_or refined.now p None }
-{
-    if p < refined.len() { refined[p] } else { None }
 }

@@ -1,5 +1,5 @@
 // The flat tables of a tree by a layout.
-ghost use Rattle.std.specs.Prelude.{◌≡◌, ◌≤◌, ℕ, List, IfOk, length};
+ghost use Rattle.std.specs.Prelude.{◌≡◌, ◌≤◌, ◌++◌, ℕ, List, IfOk, OnOk, length};
 ghost use Rattle.htl_model.specs.Tables.{tables_of};
 ghost use Rattle.htl_text.specs.Nodes.{tree_of};
 ghost use Rattle.htl_names.specs.Flat.{meaning, tables_by};
@@ -7,6 +7,7 @@ ghost use Rattle.htl_names.specs.Keys.{key_in};
 ghost use Rattle.htl_names.specs.Lists.{flat_map_at};
 ghost use Rattle.htl_names.specs.Narrow.{IsNarrow};
 
+use crate::Done;
 use crate::functions::outputs;
 use crate::invocations::invocations;
 use crate::items::{comms, modules as module_items};
@@ -64,10 +65,10 @@ pub struct Source<'a> {
 pub trait Listing<A, B> {
     ghost items_of: { Self → ℕ → A → List B };
 
-    /// The items of the owner with this number, in order.
-    fn items_of(&self, number: usize, owner: A) -> Result<Vec<B>, AllocError>
+    /// Puts the items of the owner with this number behind others, in order.
+    fn put(&self, number: usize, owner: A, into: &mut Vec<B>) -> Done
         requires { number ≤ 256 }
-        ensures { IfOk result (λ v. v.items ≡ items_of self.now number owner) };
+        ensures { OnOk result (into.new.items ≡ into.old.items ++ items_of self.now number owner) };
 }
 
 /// The whole list: the items of each owner in order.
@@ -81,8 +82,7 @@ pub fn listed<A: Copy, B: Drop, L: Listing<A, B>>(
 {
     let mut into = Vec::new(alloc);
     for k in 0..owners.len() {
-        let mut part = listing.items_of(k, owners[k])?;
-        into.append(&mut part)?;
+        listing.put(k, owners[k], &mut into)?;
     }
     Ok(into)
 }

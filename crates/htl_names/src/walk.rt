@@ -1,13 +1,13 @@
 // The one walk over a source: what each of its parts declares, uses, holds and refines, in source order.
-ghost use Rattle.std.specs.Prelude.{◌≡◌, ◌+◌, ◌≤◌, ◌^◌, ◌-◌, OnOk, IfOk, length, map, [], ◌∷◌};
-ghost use Rattle.htl_text.specs.Nodes.{tree_of, program_of, module_of, mode_of, task_of, outs_of, out_of, switch_of};
-ghost use Rattle.htl_names.specs.Parents.{invoke_parent};
+ghost use Rattle.std.specs.Prelude.{◌≡◌, ◌+◌, ◌≤◌, ◌^◌, ◌-◌, ℕ, OnOk, IfOk, length};
+ghost use Rattle.htl_text.specs.Nodes.{tree_of};
 ghost use Rattle.htl_names.specs.Rows as rows;
-ghost use Rattle.htl_names.specs.Rows.{joined, declaring, using, refining};
-ghost use Rattle.htl_names.specs.Uses.{program_use, switch_uses};
+ghost use Rattle.htl_names.specs.Rows.{Rows as Plain, joined, using, all_rows};
+ghost use Rattle.htl_names.specs.Uses.{program_use};
+ghost use Rattle.htl_names.specs.declared.key.Scope.{Scope as AScope};
 
 use crate::Done;
-use crate::key::Space;
+use crate::key::{Scope, Space};
 use crate::rows::{Judged, Rows};
 use htl_text::{
     CommNode, EndNode, Id, InvokeNode, ModeNode, ModuleNode, OutNode, OutNodes, ParamNode,
@@ -15,171 +15,159 @@ use htl_text::{
 };
 use std::alloc::{AllocError, Global};
 
-/// The rows of a source.
+/// A part of a source that stands in a list of its owner's.
+pub(crate) trait Part {
+    ghost rows_of: { AScope → ℕ → Self → Plain };
+
+    /// Puts the rows of the part, and of its own parts, behind others.
+    fn add(&self, list: Scope, place: usize, into: &mut Rows) -> Done
+        ensures { OnOk result (into.new ≡ joined into.old (rows_of list place self.now)) };
+}
+
+/// Puts the rows of the parts in a list behind others; the first part stands at this place.
+fn add_all<T: Part>(list: Scope, first: usize, parts: &[T], into: &mut Rows) -> Done
+    requires { first + length parts.now ≤ 2 ^ 64 - 1 }
+    ensures { OnOk result (into.new ≡ joined into.old (all_rows (T.rows_of list) first parts.now)) }
+{
+    for k in 0..parts.len() {
+        parts[k].add(list, first + k, into)?;
+    }
+    Ok(())
+}
+
+/// The rows of a source. Communicators are numbered over the whole of it.
 pub(crate) fn rows_of(alloc: Global, tree: &Tree) -> Result<Rows, AllocError>
     ensures { IfOk result (λ r. r ≡ rows.rows (tree_of tree.now)) }
 {
+    let programs = tree.programs.as_slice();
     let mut into = Rows::new(alloc);
-    add_programs(tree.programs.as_slice(), &mut into)?;
-    Ok(into)
-}
-
-// Communicators are numbered over the whole source.
-fn add_programs(programs: &[ProgramNode], into: &mut Rows) -> Done
-    requires { into.old ≡ declaring [] }
-    ensures { OnOk result (into.new ≡ rows.rows (map program_of programs.now)) }
-{
     let mut first = 0;
     for p in 0..programs.len() {
         let program = &programs[p];
-        add_program(p, first, program, into)?;
+        add_program(p, first, program, &mut into)?;
         first += program.comms.as_slice().len();
     }
-    Ok(())
+    Ok(into)
 }
 
 fn add_program(p: usize, first: usize, program: &ProgramNode, into: &mut Rows) -> Done
     requires { first ≤ length into.old.entries }
-    ensures rows { OnOk result (into.new ≡ joined into.old (rows.program_rows p first (program_of program.now))) }
+    ensures rows { OnOk result (into.new ≡ joined into.old (rows.program_rows p first program.now)) }
     ensures few { OnOk result (first ≤ 2 ^ 63 - 1) }
 {
     into.declare(Space::Programs.of(0, 0, 0), p, &program.name)?;
-    add_comms(first, program.comms.as_slice(), into)?;
-    add_modules(p, program.modules.as_slice(), into)
+    add_all(
+        Space::Comms.of(0, 0, 0),
+        first,
+        program.comms.as_slice(),
+        into,
+    )?;
+    add_all(
+        Space::Modules.of(p, 0, 0),
+        0,
+        program.modules.as_slice(),
+        into,
+    )
 }
 
-fn add_comms(first: usize, comms: &[CommNode], into: &mut Rows) -> Done
-    requires { first + length comms.now ≤ 2 ^ 64 - 1 }
-    ensures { OnOk result (into.new ≡ joined into.old (rows.comms_rows first comms.now)) }
-{
-    for k in 0..comms.len() {
-        add_comm(first + k, &comms[k], into)?;
+impl Part for CommNode {
+    ghost rows_of = { rows.comm_rows };
+
+    fn add(&self, list: Scope, place: usize, into: &mut Rows) -> Done {
+        into.declare(list, place, &self.name)?;
+        into.judge(Judged::Span { n: self.period })?;
+        into.judge(Judged::Initial {
+            wanted: self.ty,
+            c: self.init,
+        })
     }
-    Ok(())
 }
 
-fn add_comm(c: usize, comm: &CommNode, into: &mut Rows) -> Done
-    ensures { OnOk result (into.new ≡ joined into.old (rows.comm_rows c comm.now)) }
-{
-    into.declare(Space::Comms.of(0, 0, 0), c, &comm.name)?;
-    into.judge(Judged::Span { n: comm.period })?;
-    into.judge(Judged::Initial {
-        wanted: comm.ty,
-        c: comm.init,
-    })
-}
+impl Part for ModuleNode {
+    ghost rows_of = { rows.module_rows };
 
-fn add_modules(p: usize, modules: &[ModuleNode], into: &mut Rows) -> Done
-    ensures { OnOk result (into.new ≡ joined into.old (rows.modules_rows p 0 (map module_of modules.now))) }
-{
-    for u in 0..modules.len() {
-        add_module(p, u, &modules[u], into)?;
+    fn add(&self, list: Scope, place: usize, into: &mut Rows) -> Done {
+        let modes = Space::Modes.of(list.program, place, 0);
+        into.declare(Space::Modules.of(0, 0, 0), place, &self.name)?;
+        into.mention(modes, &self.start)?;
+        add_all(
+            Space::Tasks.of(list.program, place, 0),
+            0,
+            self.tasks.as_slice(),
+            into,
+        )?;
+        add_all(modes, 0, self.modes.as_slice(), into)
     }
-    Ok(())
-}
-
-fn add_module(p: usize, u: usize, module: &ModuleNode, into: &mut Rows) -> Done
-    ensures { OnOk result (into.new ≡ joined into.old (rows.module_rows p u (module_of «module».now))) }
-{
-    into.declare(Space::Modules.of(0, 0, 0), u, &module.name)?;
-    into.mention(Space::Modes.of(p, u, 0), &module.start)?;
-    add_tasks(p, u, module.tasks.as_slice(), into)?;
-    add_modes(p, u, module.modes.as_slice(), into)
 }
 
 // ---- tasks
 
-fn add_tasks(p: usize, u: usize, tasks: &[TaskNode], into: &mut Rows) -> Done
-    ensures { OnOk result (into.new ≡ joined into.old (rows.tasks_rows p u 0 (map task_of tasks.now))) }
-{
-    for k in 0..tasks.len() {
-        add_task(p, u, k, &tasks[k], into)?;
+impl Part for TaskNode {
+    ghost rows_of = { rows.task_rows };
+
+    fn add(&self, list: Scope, place: usize, into: &mut Rows) -> Done {
+        let inputs = self.inputs.as_slice();
+        let params = Space::Params.of(list.program, list.module, place);
+        into.declare(list, place, &self.name)?;
+        into.judge(Judged::Span { n: self.worst })?;
+        add_all(params, 0, inputs, into)?;
+        match &self.outputs {
+            OutNodes::Concrete { outs } => add_outs(params, inputs.len(), outs.as_slice(), into),
+            OutNodes::Abstract { outs } => add_all(params, inputs.len(), outs.as_slice(), into),
+        }
     }
-    Ok(())
 }
 
-fn add_task(p: usize, u: usize, k: usize, task: &TaskNode, into: &mut Rows) -> Done
-    ensures { OnOk result (into.new ≡ joined into.old (rows.task_rows p u k (task_of task.now))) }
-{
-    let inputs = task.inputs.as_slice();
-    into.declare(Space::Tasks.of(p, u, 0), k, &task.name)?;
-    into.judge(Judged::Span { n: task.worst })?;
-    add_params(p, u, k, 0, inputs, into)?;
-    add_outputs(p, u, k, inputs.len(), &task.outputs, into)
-}
+// Inputs, outputs and ports.
+impl Part for ParamNode {
+    ghost rows_of = { rows.param_rows };
 
-// Inputs or outputs, the first at this place.
-fn add_params(
-    p: usize,
-    u: usize,
-    k: usize,
-    first: usize,
-    params: &[ParamNode],
-    into: &mut Rows,
-) -> Done
-    requires { first ≤ 2 ^ 63 - 1 }
-    ensures { OnOk result (into.new ≡ joined into.old (rows.params_rows p u k first params.now)) }
-{
-    for j in 0..params.len() {
-        let name = &params[j].name;
-        into.declare(Space::Params.of(p, u, k), first + j, name)?;
+    fn add(&self, list: Scope, place: usize, into: &mut Rows) -> Done {
+        into.declare(list, place, &self.name)
     }
-    Ok(())
 }
 
-// Outputs come behind the inputs.
-fn add_outputs(
-    p: usize,
-    u: usize,
-    k: usize,
-    inputs: usize,
-    outputs: &OutNodes,
-    into: &mut Rows,
-) -> Done
+// Outputs come behind the inputs. An output's expression uses the inputs of its task.
+fn add_outs(params: Scope, inputs: usize, outs: &[OutNode], into: &mut Rows) -> Done
     requires { inputs ≤ 2 ^ 63 - 1 }
-    ensures { OnOk result (into.new ≡ joined into.old (rows.outputs_rows p u k inputs (outs_of outputs.now))) }
+    ensures { OnOk result (into.new ≡ joined into.old (all_rows (rows.out_rows params inputs) inputs outs.now)) }
 {
-    match outputs {
-        OutNodes::Concrete { outs } => add_outs(p, u, k, inputs, outs.as_slice(), into),
-        OutNodes::Abstract { outs } => add_params(p, u, k, inputs, outs.as_slice(), into),
-    }
-}
-
-// An output's expression uses the inputs of its task.
-fn add_outs(p: usize, u: usize, k: usize, inputs: usize, outs: &[OutNode], into: &mut Rows) -> Done
-    requires { inputs ≤ 2 ^ 63 - 1 }
-    ensures { OnOk result (into.new ≡ joined into.old (rows.outs_rows p u k inputs inputs (map out_of outs.now))) }
-{
-    let scope = Space::Params.of(p, u, k);
     for j in 0..outs.len() {
         let out = &outs[j];
-        let name = &out.param.name;
-        into.declare(scope, inputs + j, name)?;
-        into.mention_all(scope, Some(inputs), &out.value)?;
+        into.declare(params, inputs + j, &out.param.name)?;
+        into.mention_all(params, Some(inputs), &out.value)?;
     }
     Ok(())
 }
 
 // ---- modes
 
-fn add_modes(p: usize, u: usize, modes: &[ModeNode], into: &mut Rows) -> Done
-    ensures { OnOk result (into.new ≡ joined into.old (rows.modes_rows p u 0 (map mode_of modes.now))) }
-{
-    for m in 0..modes.len() {
-        add_mode(p, u, m, &modes[m], into)?;
-    }
-    Ok(())
-}
+impl Part for ModeNode {
+    ghost rows_of = { rows.mode_rows };
 
-fn add_mode(p: usize, u: usize, m: usize, mode: &ModeNode, into: &mut Rows) -> Done
-    ensures { OnOk result (into.new ≡ joined into.old (rows.mode_rows p u m (mode_of mode.now))) }
-{
-    into.declare(Space::Modes.of(p, u, 0), m, &mode.name)?;
-    into.judge(Judged::Span { n: mode.period })?;
-    add_head(&mode.program, into)?;
-    add_ports(p, u, m, mode.ports.as_slice(), into)?;
-    add_invokes(p, u, m, mode.invokes.as_slice(), into)?;
-    add_switches(p, u, mode.switches.as_slice(), into)
+    fn add(&self, list: Scope, place: usize, into: &mut Rows) -> Done {
+        let Scope {
+            program,
+            module,
+            ..
+        } = list;
+        into.declare(list, place, &self.name)?;
+        into.judge(Judged::Span { n: self.period })?;
+        add_head(&self.program, into)?;
+        add_all(
+            Space::Ports.of(program, module, place),
+            0,
+            self.ports.as_slice(),
+            into,
+        )?;
+        add_all(
+            Space::Invokes.of(program, module, place),
+            0,
+            self.invokes.as_slice(),
+            into,
+        )?;
+        add_all(list, 0, self.switches.as_slice(), into)
+    }
 }
 
 // The program in the head of a mode.
@@ -192,79 +180,48 @@ fn add_head(program: &Option<Id>, into: &mut Rows) -> Done
     }
 }
 
-fn add_ports(p: usize, u: usize, m: usize, ports: &[ParamNode], into: &mut Rows) -> Done
-    ensures { OnOk result (into.new ≡ joined into.old (rows.ports_rows p u m 0 ports.now)) }
-{
-    for j in 0..ports.len() {
-        let name = &ports[j].name;
-        into.declare(Space::Ports.of(p, u, m), j, name)?;
-    }
-    Ok(())
-}
+impl Part for InvokeNode {
+    ghost rows_of = { rows.invoke_rows };
 
-fn add_invokes(p: usize, u: usize, m: usize, invokes: &[InvokeNode], into: &mut Rows) -> Done
-    ensures { OnOk result (into.new ≡ joined into.old (rows.invokes_rows p u m 0 invokes.now)) }
-{
-    for j in 0..invokes.len() {
-        add_invoke(p, u, m, j, &invokes[j], into)?;
-    }
-    Ok(())
-}
-
-fn add_invoke(p: usize, u: usize, m: usize, j: usize, invoke: &InvokeNode, into: &mut Rows) -> Done
-    ensures { OnOk result (into.new ≡ joined into.old (rows.invoke_rows p u m j invoke.now)) }
-{
-    let name = invoke.task.name;
-    into.declare(Space::Invokes.of(p, u, m), j, &invoke.task)?;
-    into.mention(Space::Tasks.of(p, u, 0), &invoke.task)?;
-    add_ends(p, u, m, invoke.reads.as_slice(), into)?;
-    add_ends(p, u, m, invoke.writes.as_slice(), into)?;
-    add_parent(p, invoke, into)
-}
-
-fn add_parent(p: usize, invoke: &InvokeNode, into: &mut Rows) -> Done
-    ensures { OnOk result (into.new ≡ joined into.old (refining (invoke_parent p invoke.now))) }
-{
-    match invoke.parent {
-        None => Ok(()),
-        Some(id) => into.refine(p, id),
-    }
-}
-
-fn add_ends(p: usize, u: usize, m: usize, ends: &[EndNode], into: &mut Rows) -> Done
-    ensures { OnOk result (into.new ≡ joined into.old (rows.ends_rows p u m ends.now)) }
-{
-    for j in 0..ends.len() {
-        add_end(p, u, m, &ends[j], into)?;
-    }
-    Ok(())
-}
-
-fn add_end(p: usize, u: usize, m: usize, end: &EndNode, into: &mut Rows) -> Done
-    ensures { OnOk result (into.new ≡ joined into.old (rows.end_rows p u m end.now)) }
-{
-    match end {
-        EndNode::Comm { comm, instance } => {
-            into.mention(Space::Comms.of(0, 0, 0), comm)?;
-            into.judge(Judged::Instance { n: *instance })
+    fn add(&self, list: Scope, place: usize, into: &mut Rows) -> Done {
+        let Scope {
+            program,
+            module,
+            item,
+            ..
+        } = list;
+        let ports = Space::Ports.of(program, module, item);
+        into.declare(list, place, &self.task)?;
+        into.mention(Space::Tasks.of(program, module, 0), &self.task)?;
+        add_all(ports, 0, self.reads.as_slice(), into)?;
+        add_all(ports, 0, self.writes.as_slice(), into)?;
+        match self.parent {
+            None => Ok(()),
+            Some(id) => into.refine(program, id),
         }
-        EndNode::Port { port } => into.mention(Space::Ports.of(p, u, m), port),
     }
 }
 
-fn add_switches(p: usize, u: usize, switches: &[SwitchNode], into: &mut Rows) -> Done
-    ensures { OnOk result (into.new ≡ joined into.old (rows.switches_rows p u (map switch_of switches.now))) }
-{
-    for j in 0..switches.len() {
-        add_switch(p, u, &switches[j], into)?;
+impl Part for EndNode {
+    ghost rows_of = { rows.end_rows };
+
+    fn add(&self, list: Scope, _place: usize, into: &mut Rows) -> Done {
+        match self {
+            EndNode::Comm { comm, instance } => {
+                into.mention(Space::Comms.of(0, 0, 0), comm)?;
+                into.judge(Judged::Instance { n: *instance })
+            }
+            EndNode::Port { port } => into.mention(list, port),
+        }
     }
-    Ok(())
 }
 
 // A condition uses communicators.
-fn add_switch(p: usize, u: usize, switch: &SwitchNode, into: &mut Rows) -> Done
-    ensures { OnOk result (into.new ≡ joined into.old (using (switch_uses p u (switch_of switch.now)))) }
-{
-    into.mention_all(Space::Comms.of(0, 0, 0), None, &switch.cond)?;
-    into.mention(Space::Modes.of(p, u, 0), &switch.target)
+impl Part for SwitchNode {
+    ghost rows_of = { rows.switch_rows };
+
+    fn add(&self, list: Scope, _place: usize, into: &mut Rows) -> Done {
+        into.mention_all(Space::Comms.of(0, 0, 0), None, &self.cond)?;
+        into.mention(list, &self.target)
+    }
 }

@@ -15,4 +15,3 @@ pub use applying::apply;
 pub use fault::{PlatformFault, PlatformStop};
 pub use platform::Platform;
 pub use reading::read_platform;
-

@@ -246,7 +246,7 @@ pub known_append : (a : ℕ) (xs ys : List Place) → known_by a (xs ++ ys) ≡ 
 known_append a [] ys = omega arith
 known_append a (x ∷ xs) ys = omega (arith, known_append a xs ys)
 
-known_few : (a : ℕ) (xs : List Place) → known_by a xs ≤ length xs
+pub known_few : (a : ℕ) (xs : List Place) → known_by a xs ≤ length xs
 known_few a [] = omega arith
 known_few a (x ∷ xs) = omega (arith, one (leb x.at a), known_few a xs)
   where

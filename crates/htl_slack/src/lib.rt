@@ -10,4 +10,3 @@ mod tasks;
 pub use greatest::slack;
 pub use report::{Above, SlackReport};
 pub use tasks::is_root_task;
-

@@ -1,5 +1,9 @@
+use Rattle.std.proofs.Common.{◌+◌, ◌*◌}
 use Rattle.htl_text.specs.Bounds.{tree_nodes}
 use Rattle.htl_names.proofs.functions.+formula.Given as goal
 
+abbrev pub decreases-boxed : goal.decreases-boxed
+decreases-boxed g l = tree_nodes l.e.now * 2 + 1
+
 abbrev pub decreases-formula : goal.decreases-formula
-decreases-formula g l = tree_nodes l.e.now
+decreases-formula g l = tree_nodes l.e.now * 2

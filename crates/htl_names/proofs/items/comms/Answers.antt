@@ -8,8 +8,8 @@ use Rattle.htl_names.specs.Flat.{size_of}
 use Rattle.htl_names.proofs.Members.{all_part}
 use Rattle.htl_names.proofs.items.comms.Goals as goal
 
-pub program_comms-requires : goal.program_comms-requires
-program_comms-requires c =
+pub put_comms-requires : goal.put_comms-requires
+put_comms-requires c =
     let fits : CommNode → Type 0 = λ x. size_of x.period.x ≤ 1000000 in
     let programs = c.args.source.now.tree.now.programs in
     let slice = c.as_slice-programs.ensures in

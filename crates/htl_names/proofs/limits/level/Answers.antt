@@ -4,4 +4,4 @@ use Rattle.htl_names.proofs.limits.level.Goals as goal
 
 pub loop-k-preserved : goal.loop-k-preserved
 loop-k-preserved c =
-    level-step c.args.refined.now (length c.args.refined.now) c.loop-k.k c.loop-k.at c.in-Some.next _ c.loop-k-test.true (sym c.in-Some.ensures) c.loop-k.invariant
+    level-step c.args.refined.now (length c.args.refined.now) c.loop-k.k c.loop-k.at _ c.in-Some.mode c.loop-k-test.true (sym c.in-Some.ensures) c.loop-k.invariant

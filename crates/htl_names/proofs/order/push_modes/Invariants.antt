@@ -1,6 +1,6 @@
 use Rattle.std.proofs.Common.{◌≡◌, ◌++◌}
 use Rattle.htl_model.specs.Lists.{list_to}
-use Rattle.htl_names.specs.Stack.{mode_in}
+use Rattle.htl_names.specs.Nth.{mode_in}
 use Rattle.htl_names.proofs.order.push_modes.Given as goal
 
 abbrev pub invariant-loop-mode : goal.invariant-loop-mode

@@ -1,7 +1,16 @@
+use Rattle.std.proofs.Common.{◌∙◌, sym, subst}
 use Rattle.htl_model.specs.Broken.{KeepsLimits}
+use Rattle.htl_model.specs.Ranges.{AreInRange}
 use Rattle.htl_model.specs.Small.{AreSmall}
+use Rattle.htl_model.specs.Tables.{tables_of}
 use Rattle.htl_text.specs.Nodes.{tree_of}
+use Rattle.htl_names.specs.Narrow.{IsNarrow}
+use Rattle.htl_names.proofs.InRange.{names-in-range}
+use Rattle.htl_names.proofs.KeepsLimits.{names-keep-limits}
+use Rattle.htl_names.proofs.LayoutLaws.{layout_is, tables_are}
+use Rattle.htl_names.proofs.Narrowing.{names-narrow}
 use Rattle.htl_names.proofs.ResolveLaws.{resolved_by, no_tables}
+use Rattle.htl_names.proofs.SmallFunctions.{functions_small}
 use Rattle.htl_names.proofs.resolving.resolve.Goals as goal
 
 pub returns-in_err-rows : goal.returns-in_err-rows
@@ -12,4 +21,28 @@ returns-in_err-rows c =
       resolved = resolved_by ps c.from_residual.result f c.from_residual.ensures.1 c.in_err-rows.ensures;
       limits = no_tables KeepsLimits c.from_residual.result f c.from_residual.ensures.1;
       functions = no_tables AreSmall c.from_residual.result f c.from_residual.ensures.1;
+    }
+
+pub parts_of-requires : goal.parts_of-requires
+parts_of-requires c =
+    let ps = tree_of c.args.tree.now in
+    subst (λ l. IsNarrow l ps) (sym (layout_is ps c.in_ok-rows.field-0.symbols c.in_ok-layout.layout c.in_ok-rows.ensures.1 c.in_ok-layout.ensures))
+    (names-narrow ps c.requires.bounds c.in_ok-check.ensures)
+
+pub new-requires : goal.new-requires
+new-requires c =
+    let ps = tree_of c.args.tree.now in
+    subst AreInRange (sym (tables_are ps c.in_ok-rows.field-0.symbols c.in_ok-layout.layout (tables_of c.in_ok-parts.parts) c.in_ok-rows.ensures.1 c.in_ok-layout.ensures c.in_ok-parts.ensures))
+    (names-in-range ps c.requires.bounds c.in_ok-check.ensures)
+
+pub returns : goal.returns
+returns c =
+    let ps = tree_of c.args.tree.now in
+    let right = c.in_ok-check.ensures in
+    let same = c.new.ensures
+    ∙ tables_are ps c.in_ok-rows.field-0.symbols c.in_ok-layout.layout (tables_of c.in_ok-parts.parts) c.in_ok-rows.ensures.1 c.in_ok-layout.ensures c.in_ok-parts.ensures in
+    record {
+      resolved = (right, same);
+      limits = subst KeepsLimits (sym same) (names-keep-limits ps c.requires.bounds right);
+      functions = subst AreSmall (sym same) (functions_small ps c.requires.bounds right (names-in-range ps c.requires.bounds right));
     }

@@ -1,0 +1,230 @@
+// What tables say of single items and of frames: each call by itself.
+ghost use Rattle.std.specs.Prelude.{◌≡◌, ◌<◌, true, None as NoLimit, length};
+ghost use Rattle.htl_model.specs.Frames.{frame_limit, paths, starts};
+
+use crate::texts::tables_of;
+use htl_base::Time;
+use htl_model::Tables;
+use std::alloc::Global;
+use std::test::Fail;
+
+// Two loops: a round of 10 ticks beside one of 20, with a task each.
+pub const LOOPS: &str = "program P {
+  communicator int u period 10 init 1;
+  communicator int w period 10 init 0;
+  module F start m {
+    task a input (int i) output (int o = i + 1) worst 3;
+    mode m period 10 { invoke a input ((u, 0)) output ((u, 1)); }
+  }
+  module G start m {
+    task b input (int i) output (int o = i * 10) worst 9;
+    mode m period 20 { invoke b input ((u, 0)) output ((w, 2)); }
+  }
+}
+";
+
+// ---- frames
+
+fn start(t: &Tables, j: usize) -> Option<Time> {
+    if let Ok(()) = t.frame_limits() {
+        if j < t.starts() {
+            return Some(t.start(j));
+        }
+    }
+    None
+}
+
+// Whether a path and a start are there, in a frame that exceeds no limit.
+fn is_on_path(t: &Tables, path: u32, j: usize) -> bool
+    ensures limits { result ≡ true → frame_limit t.now ≡ NoLimit }
+    ensures path { result ≡ true → path < paths t.now }
+    ensures start { result ≡ true → j < length (starts t.now) }
+{
+    if let Ok(()) = t.frame_limits() {
+        path < t.paths() && j < t.starts()
+    } else {
+        false
+    }
+}
+
+fn node(t: &Tables, path: u32, j: usize) -> Option<u32> {
+    if !is_on_path(t, path, j) {
+        return None;
+    }
+    Some(t.node(path, j))
+}
+
+fn path_mode(t: &Tables, path: u32, j: usize, module: u16) -> Option<u16> {
+    if !is_on_path(t, path, j) || module as usize >= t.parts().modules.as_slice().len() {
+        return None;
+    }
+    Some(t.path_mode(path, j, module))
+}
+
+fn path_positions(t: &Tables, path: u32, j: usize) -> Option<usize> {
+    if !is_on_path(t, path, j) {
+        return None;
+    }
+    Some(t.path_positions(path, j))
+}
+
+// The position of this number among those that have begun at a start.
+fn path_position(t: &Tables, path: u32, j: usize, p: usize) -> Option<(u16, Time)> {
+    if !is_on_path(t, path, j) {
+        return None;
+    }
+    let known = t.path_positions(path, j);
+    if p < known {
+        return Some(t.path_position(path, p));
+    }
+    None
+}
+
+// ---- items
+
+// The mode of a root module in a selection.
+fn root_mode(t: &Tables, selection: u32, module: u16) -> Option<u16> {
+    if module as usize >= t.parts().modules.as_slice().len() {
+        return None;
+    }
+    Some(t.root_mode(selection, module))
+}
+
+// The number of the function of an output of a concrete task.
+fn output_function(t: &Tables, task: u16, output: u16) -> Option<u32> {
+    let item = t.parts().tasks.as_slice().get(task as usize)?;
+    if item.is_abstract || output as usize >= item.outputs.as_slice().len() {
+        return None;
+    }
+    Some(t.output_function(task, output))
+}
+
+// The number of the function of a switch.
+fn switch_function(t: &Tables, switch: u16) -> Option<u32> {
+    if switch as usize >= t.parts().switches.as_slice().len() {
+        return None;
+    }
+    Some(t.switch_function(switch))
+}
+
+// ---- tables
+
+// Two root modules of two modes each, tasks of two, of no and of one function, and two switches.
+pub const ITEMS: &str = "program P {
+  communicator int u period 10 init 0;
+  module A start a {
+    task two input () output (int x = 1, int y = 2) worst 1;
+    abstract task owed input () output (int x) worst 1;
+    mode a period 10 { switch (u > 0, b); }
+    mode b period 10 { }
+  }
+  module B start c {
+    task one input () output (int x = 3) worst 1;
+    mode c period 10 { switch (u > 1, d); }
+    mode d period 10 { }
+  }
+}
+";
+
+// The modes of both modules in each selection.
+const MODES: &[(u32, u16, Option<u16>)] = &[
+    (0, 0, Some(0)),
+    (0, 1, Some(2)),
+    (1, 0, Some(0)),
+    (1, 1, Some(3)),
+    (2, 0, Some(1)),
+    (2, 1, Some(2)),
+    (3, 0, Some(1)),
+    (3, 1, Some(3)),
+    (0, 2, None),
+];
+
+const OUTPUTS: &[(u16, u16, Option<u32>)] = &[
+    (0, 0, Some(0)),
+    (0, 1, Some(1)),
+    (0, 2, None),
+    (1, 0, None),
+    (2, 0, Some(2)),
+    (3, 0, None),
+];
+
+const SWITCHES: &[(u16, Option<u32>)] = &[(0, Some(3)), (1, Some(4)), (2, None)];
+
+// The loops have the starts 0 and 10, one path and two nodes.
+const STARTS: &[(usize, Option<Time>)] = &[(0, Some(0)), (1, Some(10)), (2, None)];
+
+// By path and start: the node, the modes of both modules, and how many positions have begun.
+const NODES: &[(
+    u32,
+    usize,
+    Option<u32>,
+    Option<u16>,
+    Option<u16>,
+    Option<usize>,
+)] = &[
+    (0, 0, Some(0), Some(0), Some(1), Some(2)),
+    (0, 1, Some(1), Some(0), Some(1), Some(3)),
+    (0, 2, None, None, None, None),
+    (1, 0, None, None, None, None),
+];
+
+// By start and position: the invocation, and when its round begins.
+const POSITIONS: &[(usize, usize, Option<(u16, Time)>)] = &[
+    (0, 0, Some((0, 0))),
+    (0, 1, Some((1, 0))),
+    (0, 2, None),
+    (1, 2, Some((0, 10))),
+    (1, 3, None),
+];
+
+fn has_items(t: &Tables) -> bool {
+    let modes = MODES.iter().all(|row| root_mode(t, row.0, row.1) == row.2);
+    let outputs = OUTPUTS
+        .iter()
+        .all(|row| output_function(t, row.0, row.1) == row.2);
+    let switches = SWITCHES
+        .iter()
+        .all(|row| switch_function(t, row.0) == row.1);
+    modes && outputs && switches
+}
+
+fn has_frames(t: &Tables) -> bool {
+    let starts = STARTS.iter().all(|row| start(t, row.0) == row.1);
+    let nodes = NODES.iter().all(|row| node(t, row.0, row.1) == row.2);
+    let first = NODES
+        .iter()
+        .all(|row| path_mode(t, row.0, row.1, 0) == row.3);
+    let second = NODES
+        .iter()
+        .all(|row| path_mode(t, row.0, row.1, 1) == row.4);
+    starts && nodes && first && second
+}
+
+fn has_positions(t: &Tables) -> bool {
+    let counts = NODES
+        .iter()
+        .all(|row| path_positions(t, row.0, row.1) == row.5);
+    let places = POSITIONS
+        .iter()
+        .all(|row| path_position(t, 0, row.0, row.1) == row.2);
+    counts && places
+}
+
+pub fn read(alloc: Global, text: &str) -> Option<Tables> {
+    tables_of(alloc, text.as_bytes())?.ok()
+}
+
+#[test]
+fn items_have_their_numbers(rt: HostRuntime) -> Result<(), Fail> {
+    let t = read(rt.alloc(), ITEMS).expect(&rt, "tables");
+    assert!(rt; has_items(&t));
+    Ok(())
+}
+
+#[test]
+fn frames_have_their_starts_and_nodes(rt: HostRuntime) -> Result<(), Fail> {
+    let t = read(rt.alloc(), LOOPS).expect(&rt, "tables");
+    assert!(rt; has_frames(&t));
+    assert!(rt; has_positions(&t));
+    Ok(())
+}

@@ -1,0 +1,12 @@
+use Rattle.std.proofs.Common.{◌≤◌, subst, sym}
+use Rattle.std.specs.List.{All}
+use Rattle.htl_text.specs.Nodes.{PlainMode, mode_of}
+use Rattle.htl_names.specs.Flat.{size_of}
+use Rattle.htl_names.proofs.Members.{all_item}
+use Rattle.htl_names.proofs.items.SourceListingModuleAtMode.put.Goals as goal
+
+pub mode-requires : goal.mode-requires
+mode-requires c =
+    let fits : PlainMode → Type 0 = λ x. size_of x.period.x ≤ 1000000 in
+    all_item fits mode_of c.modes_at-nodes.result.now c.loop-k.k c.index-nodes-k.result c.loop-k-test.true c.index-nodes-k.is
+    (subst (All fits) (sym c.modes_at-nodes.ensures) (c.args.self.now.narrow.mode_periods c.args.at.program c.args.at.«module»))

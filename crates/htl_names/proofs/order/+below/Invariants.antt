@@ -1,0 +1,27 @@
+use Rattle.std.proofs.Common.{◌≡◌, ◌+◌, ◌*◌, ◌-◌, ◌++◌, map, drop}
+use Rattle.std.specs.List.{flat_map}
+use Rattle.htl_model.specs.Lists.{list_to}
+use Rattle.htl_text.specs.Nodes.{mode_of, tree_of}
+use Rattle.htl_names.specs.Lists.{flat_map_at}
+use Rattle.htl_names.specs.Nth.{nth_module}
+use Rattle.htl_names.specs.Order.{below, mode_kids}
+use Rattle.htl_names.proofs.order.+below.Given as goal
+
+abbrev pub decreases-put_module : goal.decreases-put_module
+decreases-put_module l = l.steps * 4
+
+abbrev pub decreases-put_program : goal.decreases-put_program
+decreases-put_program l = l.steps * 4 + 1
+
+abbrev pub decreases-put_kids : goal.decreases-put_kids
+decreases-put_kids l = l.steps * 4 + 2
+
+abbrev pub invariant-put_program-loop-u : goal.invariant-put_program-loop-u
+invariant-put_program-loop-u l =
+    l.into.items ≡ l.initial.into.items ++ flat_map (below l.steps l.symbols (tree_of l.tree)) (list_to (nth_module l.program l.parent) l.u)
+
+abbrev pub invariant-put_module-loop-k : goal.invariant-put_module-loop-k
+invariant-put_module-loop-k l =
+    l.into.items
+    ++ flat_map (below (l.steps - 1) l.symbols (tree_of l.tree)) (flat_map_at (mode_kids l.symbols (tree_of l.tree) l.«module».program l.«module».«module») l.k (map mode_of (drop l.k l.modes)))
+    ≡ l.fn.into.items ++ below l.steps l.symbols (tree_of l.tree) l.«module»
