@@ -22,21 +22,16 @@ pub(crate) fn first_unknown(uses: &[Use], symbols: &Symbols) -> Option<u32>
     ensures { result ≡ first_some (unknown_token symbols.now) uses.now }
 {
     for k in 0..uses.len() {
-        if let Some(token) = unknown_token(symbols, &uses[k]) {
-            return Some(token);
+        let used = &uses[k];
+        match (symbols.get(&used.key), used.below) {
+            (None, _) => return Some(used.token),
+            (Some(_), None) => {}
+            (Some(n), Some(bound)) => if bound <= n {
+                return Some(used.token);
+            },
         }
     }
     None
-}
-
-fn unknown_token(symbols: &Symbols, used: &Use) -> Option<u32>
-    ensures { result ≡ unknown_token symbols.now used.now }
-{
-    match (symbols.get(&used.key), used.below) {
-        (None, _) => Some(used.token),
-        (Some(_), None) => None,
-        (Some(n), Some(bound)) => if bound <= n { Some(used.token) } else { None },
-    }
 }
 
 // ---- values and numbers that are not of their kind
