@@ -121,21 +121,14 @@ fn module(source: &Source<'_>, number: usize, at: ModuleAt, node: &ModuleNode) -
 {
     let modes = Space::Modes.of(at.program, at.module, 0);
     let first = modes_before(source, number);
-    Module {
-        name: node.name.name,
-        parent: parent_mode(source, at),
-        start: (first + source.layout.meaning(modes, node.start.name)) as u16,
-    }
-}
-
-// The number of the mode that a module refines.
-fn parent_mode(source: &Source<'_>, at: ModuleAt) -> Option<u16>
-    requires { IsNarrowParent at.parent }
-    ensures { result ≡ elim at.parent [ Some a ↦ Some (mode_number source.now.layout.now (tree_of source.now.tree.now) a) | None ↦ None ] }
-{
-    match at.parent {
+    let parent = match at.parent {
         Some(mode) => Some(mode_number(source, mode) as u16),
         None => None,
+    };
+    Module {
+        name: node.name.name,
+        parent,
+        start: (first + source.layout.meaning(modes, node.start.name)) as u16,
     }
 }
 
