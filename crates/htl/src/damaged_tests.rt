@@ -1,48 +1,10 @@
 // Damaged objects: cut ones, and ones with another byte, in both versions.
-use crate::load_tests::{DOUBLING, answer, bad_field, changed};
+use crate::load_tests::{answer, bad_field, changed};
+use crate::object_bytes::{DOUBLING, SOMETIMES};
 use htl_base::Name;
 use htl_object::{DecodeFault, MalKind, decode, encode};
 use std::alloc::{AllocError, Global};
 use std::test::Fail;
-
-// A module with an abstract invocation and one beside it, and a module of two modes of which one refines the first.
-const SOMETIMES: [u8; 528] = [
-    // the text and the version
-    72, 84, 76, 79, 0, 1,
-    // seven counts
-    0, 3, 0, 3, 0, 2, 0, 0, 0, 3, 0, 3, 0, 2,
-    // communicators
-    1, 117, 0, 0, 0, 0, 0, 10, 0, 0, 0, 0, 0, 0, 0, 3, 1, 119, 0, 0, 0, 0, 0, 10, 0, 0, 0, 0, 0, 0,
-    0, 0, 1, 103, 1, 1, 0, 0, 0, 10, 0, 0, 0, 0, 0, 0, 0, 0,
-    // modes
-    1, 109, 0, 0, 0, 0, 0, 10, 3, 111, 102, 102, 0, 1, 0, 0, 0, 10, 2, 111, 110, 0, 1, 0, 0, 0, 10,
-    // modules
-    1, 77, 255, 255, 0, 0, 1, 78, 0, 0, 0, 1,
-    // tasks
-    4, 112, 108, 97, 110, 0, 0, 1, 0, 0, 0, 4, 0, 1, 0, 0, 1, 0, 3, 102, 105, 120, 0, 0, 0, 0, 0,
-    0, 2, 0, 1, 0, 0, 1, 0, 4, 102, 97, 115, 116, 0, 1, 0, 0, 0, 0, 3, 0, 1, 0, 0, 1, 0,
-    // invocations
-    0, 0, 0, 0, 255, 255, 0, 1, 0, 0, 1, 0, 0, 0, 0, 0, 1, 0, 0, 0, 0, 0, 0, 1, 0, 0, 0, 1, 255,
-    255, 0, 1, 0, 0, 1, 0, 0, 0, 0, 0, 1, 0, 0, 1, 0, 0, 0, 1, 0, 2, 0, 2, 0, 0, 0, 1, 0, 0, 1, 0,
-    0, 0, 0, 0, 1, 0, 0, 0, 0, 0, 0, 1,
-    // switches
-    0, 1, 0, 2, 0, 1, 0, 2, 0, 2, 0, 1, 0, 1, 0, 2,
-    // functions
-    0, 1, 0, 0, 0, 3, 3, 0, 0, 1, 0, 0, 0, 0, 0, 0, 0, 1, 6, 0, 1, 0, 0, 0, 3, 3, 0, 0, 1, 0, 0, 0,
-    0, 0, 0, 0, 10, 8, 0, 1, 1, 1, 0, 1, 3, 0, 0, 0, 1, 1, 1, 0, 2, 3, 0, 0, 5,
-    // addresses
-    0, 0, 0, 0, 0, 0, 0, 2, 0, 0, 0, 11, 0, 0, 0, 12, 0, 0, 0, 13, 0, 0, 0, 15, 0, 0, 0, 20, 0, 0,
-    0, 21, 0, 0, 0, 30,
-    // E code
-    0, 0, 0, 35, 8, 0, 0, 10, 0, 1, 4, 0, 0, 0, 10, 1, 0, 0, 0, 6, 4, 0, 0, 0, 0, 3, 0, 0, 0, 8, 4,
-    0, 0, 0, 10, 2, 0, 0, 0, 11, 11, 1, 0, 1, 0, 0, 11, 2, 0, 1, 0, 0, 3, 0, 1, 11, 6, 0, 0, 0, 2,
-    8, 0, 1, 4, 0, 0, 0, 10, 2, 0, 0, 0, 15, 11, 7, 0, 0, 0, 0, 0, 18, 9, 11, 5, 0, 0, 0, 0, 0, 20,
-    6, 0, 0, 0, 13, 8, 0, 2, 4, 0, 0, 0, 10, 1, 0, 0, 0, 25, 4, 0, 0, 0, 0, 3, 0, 0, 0, 27, 4, 0,
-    0, 0, 10, 2, 0, 0, 0, 30, 11, 1, 0, 2, 0, 0, 11, 2, 0, 2, 0, 0, 3, 0, 2, 11, 7, 0, 0, 0, 0, 0,
-    33, 9, 11, 5, 0, 1, 0, 0, 0, 12, 6, 0, 0, 0, 21,
-    // S code
-    0, 1, 0, 0, 0, 3, 1, 0, 0, 0, 0, 0, 4, 1, 0, 1, 0, 0, 0, 6, 3,
-];
 
 // Two loops with rounds of 10 and of 20 ticks, and so with a schedule for each of two nodes; without E code.
 const LOOPS: [u8; 264] = [

@@ -1,6 +1,6 @@
 // What an object, tables and an input go through, call by call.
 use crate::accessors_tests::{ITEMS, LOOPS, read};
-use crate::load_tests::DOUBLING;
+use crate::object_bytes::DOUBLING;
 use htl_base::{Seq, Time};
 use htl_compile::{bulk_source, front};
 use htl_edge::Tape;

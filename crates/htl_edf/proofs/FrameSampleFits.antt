@@ -1,5 +1,5 @@
 -- The tables of the tests of frames are within their ranges, and keep the form rules and the limits of frames.
-use Rattle.std.proofs.Common.{eqb, not, option_map, codes, ◌⊎◌, ◌≡◌, ◌≢◌, ◌∙◌, ℕ, zero, suc, ◌+◌, ◌*◌, ◌%◌, ◌≤◌, ◌<◌, Bool, true, false, ◌&&◌, List, [], ◌∷◌, length, Option, Some, None, refl, sym, ap, subst, arith, inl, inr}
+use Rattle.std.proofs.Common.{eqb, not, option_map, codes, ◌⊎◌, ◌≡◌, ◌≢◌, ◌∙◌, ℕ, zero, suc, ◌*◌, ◌%◌, ◌≤◌, ◌<◌, Bool, true, false, ◌&&◌, List, [], ◌∷◌, length, Option, Some, None, refl, sym, ap, subst, arith, inl, inr}
 use Rattle.std.specs.Prelude.{slice_get}
 use Rattle.std.specs.List.{count_by}
 use Rattle.std.specs.List.Sorted.{IsNonDecreasing}
@@ -20,9 +20,9 @@ use Rattle.htl_model.specs.FormRules.{FormRule, ModulePeriod, RootPeriod, Divide
 use Rattle.htl_model.specs.FrameRules.{KeptApart}
 use Rattle.htl_model.specs.PortOrder.{Leads, direct, through, feeds, feeds_at}
 use Rattle.htl_model.specs.Ranges.{AreInRange, IsSpan, IsCommInRange, IsModeInRange, IsModuleInRange, IsPortInRange, IsTaskInRange, IsInvInRange, IsSwitchInRange, IsFunInRange, IsEndInRange}
-use Rattle.htl_model.specs.Tables.{Tables, mode_period, comm_period, task_worst, task_is_abstract, mode_module}
+use Rattle.htl_model.specs.Tables.{mode_period, comm_period, task_worst, task_is_abstract, mode_module}
 use Rattle.htl_walk.proofs.Finishes.{some_same}
-use Rattle.htl_edf.specs.FrameSamples.{frame_comm, frame_mode, frame_module, frame_task, frame_inv, frame_comms, frame_modes, frame_modules, frame_tasks, frame_invs, frame_sample_of, frame_sample, IsFramed}
+use Rattle.htl_edf.specs.FrameSamples.{frame_comm, frame_mode, frame_task, frame_inv, frame_comms, frame_modes, frame_modules, frame_tasks, frame_invs, frame_sample_of, frame_sample, IsFramed}
 
 nothing_falls : IsNonDecreasing []
 nothing_falls i j d l b = absurd (omega arith)
