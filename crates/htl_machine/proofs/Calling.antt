@@ -1,7 +1,6 @@
 -- The calls of the machine, by their contracts: each carries what the machine follows.
 use Rattle.std.proofs.Common.{◌≡◌, ℕ, zero, suc, ◌≤◌, ◌<◌, false, cond, ◌&&◌, eqb, leb, true, List, [], ◌∷◌, ◌++◌, length, map, get_or, slice_get, IfSome, Option, Some, None, ℤ, pos, refl, sym, ap, ap₂, ◌∙◌, subst, arith}
 use Rattle.std.proofs.lemmas.Bool.Decides.{nat_tests}
-use Rattle.std.proofs.Math.Nat.{div-add-mod}
 use Rattle.std.proofs.lemmas.List.{length-map, length-set}
 use Rattle.std.proofs.lemmas.Option.{slice_get_within}
 use Rattle.htl_model.specs.declared.event.Event.{Event}
@@ -28,12 +27,11 @@ use Rattle.htl_object.specs.Accepted.{IsAccepted}
 use Rattle.htl_console.specs.declared.shown.Shown.{Shown}
 use Rattle.htl_machine.specs.Calls.{Seen, IsKept, IsBefore, IsUpTo, Follows, GoesBy, IsSensorValue, IsLength, IsFinished, first_seen}
 use Rattle.htl_machine.specs.Turns.{position_from}
-use Rattle.htl_machine.specs.Follows.{reading_of, at_reading, shown_as, taken_as, desk_taking, DeskFollows, AreKept, period_or}
+use Rattle.htl_machine.specs.Follows.{reading_of, at_reading, shown_as, taken_as, desk_taking, DeskFollows, AreKept}
 use Rattle.htl_machine.specs.Casts.{IsCast, HaveWindows}
 use Rattle.htl_machine.specs.Machines.{Counts}
-use Rattle.htl_machine.specs.Plans.{round_start}
 use Rattle.htl_machine.specs.Programs.{schedules_of}
-use Rattle.htl_machine.specs.Rounds.{plan_of, selection_of}
+use Rattle.htl_machine.specs.Rounds.{plan_of, selection_of, period_or, round_start, turn_at}
 use Rattle.htl_machine.specs.Texts.{text_before}
 use Rattle.htl_machine.specs.Wholes.{Whole, WholeFollowed}
 use Rattle.htl_machine.proofs.Accepted.{accepted_is_loaded}
@@ -41,6 +39,7 @@ use Rattle.htl_machine.proofs.Counting.{totals_start}
 use Rattle.htl_machine.proofs.Events.{Alike, state_same, sense_at, sense_took, sense_sense}
 use Rattle.htl_machine.proofs.Standing.{none_some, some_same}
 use Rattle.htl_machine.proofs.Casting.{position_some}
+use Rattle.htl_machine.proofs.Plain.{down}
 use Rattle.htl_machine.proofs.RoundServed.{round_windows}
 use Rattle.htl_machine.proofs.Taking.{new_follows}
 use Rattle.htl_machine.proofs.TellingLoaded.{loaded_jobs, loaded_s, loaded_e}
@@ -86,7 +85,7 @@ whole_of m es now accepted kept later b =
 
 pub before_of : (m : Seen) (es : List Event) (now : ℕ) (written : List ℕ) → IsAccepted m.object
     → Whole m.object.tables m.object.ecode (schedules_of m.object) m.show es now m.standing m.held (counts_of m) written
-    → GoesBy m.object.tables es (root_period m.object.tables) now m.selection → IsBefore m es now
+    → GoesBy (turn_at m.object.tables (schedules_of m.object) es) (root_period m.object.tables) now m.selection → IsBefore m es now
 before_of m es now written accepted w goes =
     let loaded = accepted_is_loaded m.object accepted in
     let within = w.stands.up_to.within in
@@ -117,7 +116,7 @@ followed_of m es accepted f =
 
 follows_of : (m : Seen) (es : List Event) (written : List ℕ) → IsAccepted m.object
     → WholeFollowed m.object.tables m.object.ecode (schedules_of m.object) m.show es m.standing m.held (counts_of m) written
-    → GoesBy m.object.tables es (root_period m.object.tables) m.held.reading m.selection → length m.held.takes ≡ length m.object.tables.invs → Follows m es
+    → GoesBy (turn_at m.object.tables (schedules_of m.object) es) (root_period m.object.tables) m.held.reading m.selection → length m.held.takes ≡ length m.object.tables.invs → Follows m es
 follows_of m es written accepted w goes count =
     record {
       kept =
@@ -133,17 +132,17 @@ follows_of m es written accepted w goes count =
       before = before_of m es m.held.reading written accepted w.whole goes;
     }
 
--- ---- the selection by which the round goes
+-- ---- the list by which the machine goes
 
-last_start : (period n : ℕ) → round_start period n ≤ n
-last_start period n = omega (arith, div-add-mod n period)
+node_alike : (t : Tables) (schedules : List (List SInstr)) (es fs : List Event) (now n : ℕ) → Alike t es fs now → n < now → (turn_at t schedules es n).node ≡ (turn_at t schedules fs n).node
+node_alike t schedules es fs now n a h =
+    let period = period_or (root_period t) in
+    ap (λ z. selection_of t z.stays) (state_same t es fs now (round_start period n) a (omega (arith, h, down period n)))
 
-goes_alike : (t : Tables) (es fs : List Event) (o : Option ℕ) (now : ℕ) (sel : Option ℕ) → Alike t es fs now → GoesBy t es o now sel → GoesBy t fs o now sel
-goes_alike t es fs None now sel a g = g
-goes_alike t es fs (Some p) zero sel a g = g
-goes_alike t es fs (Some p) (suc n) sel a g =
-    let below = last_start p n in
-    g ∙ ap (λ z. Some (selection_of t z.stays)) (state_same t es fs (suc n) (round_start p n) a (omega (arith, below)))
+goes_alike : (t : Tables) (schedules : List (List SInstr)) (es fs : List Event) (o : Option ℕ) (now : ℕ) (sel : Option ℕ) → Alike t es fs now → GoesBy (turn_at t schedules es) o now sel → GoesBy (turn_at t schedules fs) o now sel
+goes_alike t schedules es fs None now sel a g = g
+goes_alike t schedules es fs (Some p) zero sel a g = g
+goes_alike t schedules es fs (Some p) (suc n) sel a g = g ∙ ap (λ z. Some z) (node_alike t schedules es fs (suc n) n a (omega arith))
 
 -- ---- calls
 
@@ -156,7 +155,7 @@ sense_follows m es c x accepted sensor f =
     (text_before t m.object.ecode (schedules_of m.object) es m.show m.held.reading) (slice_get_within t.comms c sensor.comm sensor.known)
     (subst (λ (o : Option Comm). IfSome o (λ y. FitsType y.ty x)) (sym sensor.known) sensor.fits) (followed_of m es accepted f) in
     follows_of (record m { held = shown_as c x m.held }) (es ++ V.Sense c x ∷ []) _ accepted g
-    (goes_alike t es (es ++ V.Sense c x ∷ []) (root_period t) m.held.reading m.selection
+    (goes_alike t (schedules_of m.object) es (es ++ V.Sense c x ∷ []) (root_period t) m.held.reading m.selection
     (λ d u h. sym (sense_sense t es c d u x ∙ ap (λ b. cond b x (sense t es d u)) (early d u (omega (arith, f.kept.reading, h))))) f.before.records.goes)
     f.kept.count
   where
@@ -191,13 +190,12 @@ position_worst m es i n p accepted length f found =
     no_job : m.held.desk ≡ rounds.no_round → n ≤ (job_at m.held.desk.jobs p).worst
     no_job d = none_some p (ap (λ (r : rounds.Round). position_from 0 r.jobs i) (sym d) ∙ found)
 
-    by : (o : Option ℕ) → root_period t ≡ o → (now : ℕ) → DeskFollows plan o now m.held.desk → n ≤ (job_at m.held.desk.jobs p).worst
+    by : (o : Option ℕ) → root_period t ≡ o → (now : ℕ) → DeskFollows (turn_at t (schedules_of m.object) es) o now m.held.desk → n ≤ (job_at m.held.desk.jobs p).worst
     by None e now d = no_job d
     by (Some q) e zero d = no_job d
     by (Some q) e (suc k) d =
-        in_round (round_start q k) d.jobs
-        (subst (λ z. IsCast t (state t es (round_start z k)).stays (round_start z k) (round_start z k) (plan (round_start z k)).jobs) (ap period_or e) (kept_rounds.sound.casts k))
-        (subst (λ z. HaveWindows (plan (round_start z k)).jobs) (ap period_or e) (let r = plan (round_start (period_or (root_period t)) k) in round_windows r.jobs r.lengths r.schedule (kept_rounds.sound.meets k)))
+        let s = round_start (period_or (root_period t)) k in
+        in_round s d.jobs (kept_rounds.sound.casts k) (round_windows (plan s).jobs (plan s).lengths (plan s).schedule (kept_rounds.sound.meets k))
       where
         kept_rounds : AreKept t (schedules_of m.object) es
         kept_rounds = (accepted_is_loaded m.object accepted).rounds es f.kept.within
@@ -213,7 +211,7 @@ took_follows m es i n accepted length keeps f =
     (text_before t m.object.ecode (schedules_of m.object) es m.show m.held.reading) (length.some, omega (arith, length.worst, worst)) (slice_get_within t.invs i length.inv length.known) f.kept.count keeps
     (followed_of m es accepted f) in
     follows_of (record m { held = taken_as i n m.held }) (es ++ V.Took i n ∷ []) _ accepted g
-    (goes_alike t es (es ++ V.Took i n ∷ []) (root_period t) m.held.reading m.selection (λ d u h. sym (sense_took t es i n d u)) f.before.records.goes)
+    (goes_alike t (schedules_of m.object) es (es ++ V.Took i n ∷ []) (root_period t) m.held.reading m.selection (λ d u h. sym (sense_took t es i n d u)) f.before.records.goes)
     (length-set m.held.takes i n ∙ f.kept.count)
 
 -- a reading, once all instants before it are done
@@ -224,7 +222,7 @@ read_follows m es to accepted later f =
     whole_reading t m.object.ecode (schedules_of m.object) (accepted_is_loaded m.object accepted) accepted.spelled.code m.show es to m.standing m.held (counts_of m)
     (text_before t m.object.ecode (schedules_of m.object) es m.show to) f.kept.fresh (whole_of m es to accepted f.kept (omega (arith, f.kept.reading, later)) f.before) in
     follows_of (record m { held = at_reading to m.held }) (es ++ V.At to ∷ []) _ accepted g
-    (goes_alike t es (es ++ V.At to ∷ []) (root_period t) to m.selection (λ d u h. sym (sense_at t es to d u)) f.before.records.goes) f.kept.count
+    (goes_alike t (schedules_of m.object) es (es ++ V.At to ∷ []) (root_period t) to m.selection (λ d u h. sym (sense_at t es to d u)) f.before.records.goes) f.kept.count
 
 -- the end of a run
 pub finished : (m : Seen) (es : List Event) (to : ℕ) → IsUpTo m es (suc to) → IsFinished (record m { held = record m.held { reading = to; spent = true } }) es to
@@ -258,7 +256,7 @@ first_follows o show accepted safe shaped =
     (record { follows = f; stands = record { up_to = f.up_to; totals = totals_start t o.ecode (schedules_of o) []; text = refl } }) in
     follows_of m [] [] accepted w (goes (root_period t)) (length-map t.invs _)
   where
-    goes : (p : Option ℕ) → GoesBy o.tables [] p 0 None
+    goes : (p : Option ℕ) → GoesBy (turn_at o.tables (schedules_of o) []) p 0 None
     goes None = refl
     goes (Some p) = refl
 

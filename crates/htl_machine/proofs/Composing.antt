@@ -1,5 +1,5 @@
 -- The text and the counts of an instant, from those of its parts.
-use Rattle.std.proofs.Common.{◌≡◌, ◌≢◌, ℕ, zero, suc, ◌+◌, ◌-◌, ◌^◌, min, ◌≤◌, Bool, true, false, cond, List, [], ◌∷◌, ◌++◌, length, Some, None, refl, sym, ap, ◌∙◌, arith, length-append}
+use Rattle.std.proofs.Common.{◌≡◌, ◌≢◌, ℕ, zero, suc, ◌+◌, ◌-◌, ◌^◌, min, ◌≤◌, Bool, true, false, cond, eqb, List, [], ◌∷◌, ◌++◌, length, Some, None, refl, sym, ap, ◌∙◌, arith, length-append}
 use Rattle.std.specs.List.{count_by}
 use Rattle.std.proofs.lemmas.Bool.{eq-eqb, ne_eqb}
 use Rattle.std.proofs.lemmas.List.{append_assoc}
@@ -21,9 +21,9 @@ use Rattle.htl_machine.specs.Counts.{one_record, one_instr, with_records, with_i
 use Rattle.htl_machine.specs.Doing.{path_lines}
 use Rattle.htl_machine.specs.Leaving.{due_by}
 use Rattle.htl_machine.specs.Opening.{closing_text, first_records, beginning_text}
-use Rattle.htl_machine.specs.Plans.{round_start, left_before}
-use Rattle.htl_machine.specs.Rounds.{plan_of}
-use Rattle.htl_machine.specs.Texts.{records_text, some_records, old_records, old_start, round_texts, instant_text, records_of}
+use Rattle.htl_machine.specs.ListTurns.{left_before, Turn}
+use Rattle.htl_machine.specs.Rounds.{round_start, turn_at, round_turn, period_or}
+use Rattle.htl_machine.specs.Texts.{records_text, some_records, old_records, list_texts, instant_text, records_of, old_turn}
 use Rattle.htl_emach.proofs.Instants.{whole_path}
 use Rattle.htl_machine.specs.Machines.{Counts}
 use Rattle.htl_machine.proofs.Wholly.{counted}
@@ -38,8 +38,8 @@ regroup o a b c v n =
     ∙ sym (append_assoc (o ++ (a ++ (b ++ c))) v n ∙ append_assoc o (a ++ (b ++ c)) (v ++ n))
 
 module _ (t : Tables) (code : ECode) (schedules : List (List SInstr)) (es : List Event) (show : Shown) (now : ℕ) where
-  -- the lines of the round before and of the writes, then those of switches, reads and changes, then those of the round that begins
-  pub instant_composed : (old new : List ℕ) → round_texts t code schedules es show (root_period t) now ≡ (old, new)
+  -- the lines of the list before and of the writes, then those of switches, reads and changes, then those of the list that begins
+  pub instant_composed : (old new : List ℕ) → list_texts t schedules es show (root_period t) now ≡ (old, new)
       → (old ++ path_lines t code show now (phase_path t code es now 1)) ++ (closing_text t code es show now ++ new) ≡ instant_text t code schedules es show now
   instant_composed old new are =
       let values : List ℕ = cond (shows_values show) (lines_text t (value_lines t es now)) [] in
@@ -48,27 +48,32 @@ module _ (t : Tables) (code : ECode) (schedules : List (List SInstr)) (es : List
       ∙ ap (λ z. old ++ z ++ values ++ new) (sym (phases_are t code es show now))
       ∙ ap (λ (r : List ℕ × List ℕ). r.0 ++ path_lines t code show now (e_path t code es now) ++ values ++ r.1) (sym are)
 
-  -- where no round begins
-  pub texts_going : (period : ℕ) → root_period t ≡ Some period → round_start period now ≢ now
-      → round_texts t code schedules es show (root_period t) now ≡ (records_text t schedules es show (old_start period now) (old_records (plan_of t schedules es) period now), [])
+  -- where no list begins
+  pub texts_going : (period : ℕ) → root_period t ≡ Some period → (turn_at t schedules es now).frame + (turn_at t schedules es now).from ≢ now
+      → list_texts t schedules es show (root_period t) now ≡ (records_text t show (old_turn (turn_at t schedules es) now) (old_records (turn_at t schedules es) now), [])
   texts_going period root apart =
-      ap (λ o. round_texts t code schedules es show o now) root
-      ∙ ap (λ b. (records_text t schedules es show (old_start period now) (old_records (plan_of t schedules es) period now), records_text t schedules es show now (cond b (some_records (plan_of t schedules es now) now 0 (left_before (plan_of t schedules es) now (suc now))) [])))
-      (ne_eqb (round_start period now) now apart)
+      let turn = turn_at t schedules es in
+      let u = turn now in
+      ap (λ o. list_texts t schedules es show o now) root
+      ∙ ap (λ b. (records_text t show (old_turn turn now) (old_records turn now), records_text t show u (cond b (some_records u.plan u.frame 0 (left_before u (suc now))) []))) (ne_eqb (u.frame + u.from) now apart)
 
   -- where one begins
-  pub texts_beginning : (period : ℕ) → root_period t ≡ Some period → round_start period now ≡ now
-      → round_texts t code schedules es show (root_period t) now ≡ (records_text t schedules es show (old_start period now) (old_records (plan_of t schedules es) period now), beginning_text t schedules es show now)
+  pub texts_beginning : (period : ℕ) → root_period t ≡ Some period → round_start (period_or (root_period t)) now ≡ now
+      → list_texts t schedules es show (root_period t) now ≡ (records_text t show (old_turn (turn_at t schedules es) now) (old_records (turn_at t schedules es) now), beginning_text t schedules es show now)
   texts_beginning period root starts =
-      ap (λ o. round_texts t code schedules es show o now) root
-      ∙ ap (λ b. (records_text t schedules es show (old_start period now) (old_records (plan_of t schedules es) period now), records_text t schedules es show now (cond b (some_records (plan_of t schedules es now) now 0 (left_before (plan_of t schedules es) now (suc now))) [])))
-      (eq-eqb (round_start period now) now starts)
-      ∙ ap (λ k. (records_text t schedules es show (old_start period now) (old_records (plan_of t schedules es) period now), records_text t schedules es show now (some_records (plan_of t schedules es now) now 0 k)))
-      (let z : left_before (plan_of t schedules es) now (suc now) ≡ due_by (plan_of t schedules es now) now now - 0 = omega arith in z)
+      let turn = turn_at t schedules es in
+      let old = records_text t show (old_turn turn now) (old_records turn now) in
+      ap (λ o. list_texts t schedules es show o now) root
+      ∙ ap (λ (u : Turn). (old, records_text t show u (cond (eqb (u.frame + u.from) now) (some_records u.plan u.frame 0 (left_before u (suc now))) []))) (ap (round_turn t schedules es (period_or (root_period t))) starts)
+      ∙ ap (λ b. (old, records_text t show (first now) (cond b (some_records (first now).plan now 0 (left_before (first now) (suc now))) []))) (eq-eqb (now + 0) now (omega arith))
+      ∙ ap (λ k. (old, records_text t show (first now) (some_records (first now).plan now 0 k))) (let z : left_before (first now) (suc now) ≡ due_by (first now).plan now now - 0 = omega arith in z)
+    where
+      first : ℕ → Turn
+      first s = round_turn t schedules es (period_or (root_period t)) s
 
-  -- without rounds
-  pub texts_alone : root_period t ≡ None → round_texts t code schedules es show (root_period t) now ≡ ([], [])
-  texts_alone root = ap (λ o. round_texts t code schedules es show o now) root
+  -- without modules
+  pub texts_alone : root_period t ≡ None → list_texts t schedules es show (root_period t) now ≡ ([], [])
+  texts_alone root = ap (λ o. list_texts t schedules es show o now) root
 
 -- ---- counts
 
@@ -151,17 +156,25 @@ path_length t code es now =
 -- ---- the records of an instant
 
 module _ (t : Tables) (schedules : List (List SInstr)) (es : List Event) (now : ℕ) where
-  pub records_going : (period : ℕ) → root_period t ≡ Some period → round_start period now ≢ now → records_of t schedules es (root_period t) now ≡ old_records (plan_of t schedules es) period now ++ []
+  pub records_going : (period : ℕ) → root_period t ≡ Some period → (turn_at t schedules es now).frame + (turn_at t schedules es now).from ≢ now
+      → records_of t schedules es (root_period t) now ≡ old_records (turn_at t schedules es) now ++ []
   records_going period root apart =
+      let turn = turn_at t schedules es in
+      let u = turn now in
       ap (λ o. records_of t schedules es o now) root
-      ∙ ap (λ b. old_records (plan_of t schedules es) period now ++ cond b (some_records (plan_of t schedules es now) now 0 (left_before (plan_of t schedules es) now (suc now))) []) (ne_eqb (round_start period now) now apart)
+      ∙ ap (λ b. old_records turn now ++ cond b (some_records u.plan u.frame 0 (left_before u (suc now))) []) (ne_eqb (u.frame + u.from) now apart)
 
-  pub records_beginning : (period : ℕ) → root_period t ≡ Some period → round_start period now ≡ now
-      → records_of t schedules es (root_period t) now ≡ old_records (plan_of t schedules es) period now ++ first_records t schedules es now
+  pub records_beginning : (period : ℕ) → root_period t ≡ Some period → round_start (period_or (root_period t)) now ≡ now
+      → records_of t schedules es (root_period t) now ≡ old_records (turn_at t schedules es) now ++ first_records t schedules es now
   records_beginning period root starts =
+      let turn = turn_at t schedules es in
       ap (λ o. records_of t schedules es o now) root
-      ∙ ap (λ b. old_records (plan_of t schedules es) period now ++ cond b (some_records (plan_of t schedules es now) now 0 (left_before (plan_of t schedules es) now (suc now))) []) (eq-eqb (round_start period now) now starts)
-      ∙ ap (λ k. old_records (plan_of t schedules es) period now ++ some_records (plan_of t schedules es now) now 0 k) (let z : left_before (plan_of t schedules es) now (suc now) ≡ due_by (plan_of t schedules es now) now now - 0 = omega arith in z)
+      ∙ ap (λ (u : Turn). old_records turn now ++ cond (eqb (u.frame + u.from) now) (some_records u.plan u.frame 0 (left_before u (suc now))) []) (ap (round_turn t schedules es (period_or (root_period t))) starts)
+      ∙ ap (λ b. old_records turn now ++ cond b (some_records (first now).plan now 0 (left_before (first now) (suc now))) []) (eq-eqb (now + 0) now (omega arith))
+      ∙ ap (λ k. old_records turn now ++ some_records (first now).plan now 0 k) (let z : left_before (first now) (suc now) ≡ due_by (first now).plan now now - 0 = omega arith in z)
+    where
+      first : ℕ → Turn
+      first s = round_turn t schedules es (period_or (root_period t)) s
 
   pub records_alone : root_period t ≡ None → records_of t schedules es (root_period t) now ≡ []
   records_alone root = ap (λ o. records_of t schedules es o now) root

@@ -1,5 +1,5 @@
 -- A machine that follows events follows one event more.
-use Rattle.std.proofs.Common.{◌≡◌, ℕ, zero, suc, ◌+◌, ◌-◌, ◌≤◌, ◌<◌, Bool, true, false, cond, ◌&&◌, eqb, leb, List, [], ◌∷◌, ◌++◌, length, get_or, slice_get, set, map, Option, Some, None, IfSome, ℤ, pos, refl, sym, ap, ap₂, ◌∙◌, subst, arith}
+use Rattle.std.proofs.Common.{◌≡◌, ℕ, zero, suc, ◌+◌, ◌≤◌, ◌<◌, Bool, true, false, cond, ◌&&◌, eqb, leb, List, [], ◌∷◌, ◌++◌, length, get_or, slice_get, set, map, Option, Some, None, IfSome, ℤ, pos, refl, sym, ap, ap₂, ◌∙◌, subst, arith}
 use mathlib.Core.Path.{fun_ext}
 use Rattle.std.proofs.lemmas.Bool.{eqb-true, eqb-false, le-leb}
 use Rattle.std.proofs.lemmas.Bool.Decides.{nat_tests}
@@ -19,16 +19,15 @@ use Rattle.htl_walk.specs.Jobs.{jobs_of}
 use Rattle.htl_smach.specs.Rounds.{Round}
 use Rattle.htl_emach.specs.Contents.{Content}
 use Rattle.htl_machine.specs.Values.{Stands, HasRead, ValuesFollow, HasPlaces}
-use Rattle.htl_refine.specs.RecordCounts.{count_before, done_by}
-use Rattle.htl_machine.specs.Turns.{finished_in}
 use Rattle.htl_refine.specs.Records.{took, lengths_of, IsTookWithin, AreTookWithin}
 use Rattle.htl_refine.specs.Records.{Round as Plan}
-use Rattle.htl_machine.specs.Plans.{round_start, finished_before, next_world}
-use Rattle.htl_refine.specs.Records.{walk_of}
-use Rattle.htl_machine.specs.Rounds.{standing_of, selection_of, plan_of}
-use Rattle.htl_machine.specs.Follows.{Held, reading_of, period_or, DeskStands, DeskFollows, UpTo, Follows, IsLoaded, at_reading, shown_as, AreKept}
+use Rattle.htl_machine.specs.Plans.{finished_before, next_world}
+use Rattle.htl_machine.specs.Rounds.{standing_of, selection_of, plan_of, round_start, period_or, turn_at, list_of}
+use Rattle.htl_machine.specs.Follows.{Held, reading_of, DeskStands, DeskFollows, UpTo, Follows, IsLoaded, at_reading, shown_as}
+use Rattle.htl_machine.specs.ListTurns.{Turn, left_before, finished_by}
 use Rattle.htl_machine.proofs.Shaping.{has_places}
-use Rattle.htl_machine.proofs.Rounding.{read_before, values_carried}
+use Rattle.htl_machine.proofs.ListValues.{read_before, values_carried}
+use Rattle.htl_machine.proofs.RoundLists.{loaded_turns}
 use Rattle.htl_machine.proofs.Events.{Alike, state_same, values_alike, reading_more, sense_at, sense_sense, took_at, took_sense}
 use Rattle.htl_machine.proofs.Plain.{down}
 
@@ -53,33 +52,35 @@ module _ (t : Tables) (schedules : List (List SInstr)) (es fs : List Event) (now
         ap (λ ns. P (plan_of t schedules es s).jobs ns (plan_of t schedules es s).schedule) (lengths (plan_of t schedules es s).jobs)
         ∙ ap₂ (λ js c. P js (lengths_of t fs s js) c) (jobs_same s h) (code_same s h)
 
-    finished_alike : (period n i : ℕ) → n ≤ now → finished_before (plan_of t schedules es) period n i ≡ finished_before (plan_of t schedules fs) period n i
-    finished_alike period zero i h = refl
-    finished_alike period (suc n) i h =
+    -- so each list that stands before then is the same
+    pub turn_same : (n : ℕ) → n < now → turn_at t schedules es n ≡ turn_at t schedules fs n
+    turn_same n h =
+        let period = period_or (root_period t) in
         let s = round_start period n in
-        ap (λ (p : Plan). finished_in p.jobs (done_by (walk_of p) (count_before (suc n - s) (walk_of p))) i) (plan_same s (omega (arith, down period n)))
+        let early : s < now = omega (arith, h, down period n) in
+        ap₂ (λ (p : Plan) (z : State). let u : Turn = record { frame = s; list = 0; from = 0; to = period; node = selection_of t z.stays; plan = list_of p; earlier = [] } in u) (plan_same s early) (state_same t es fs now s alike early)
 
-    desk_alike : (root : Option ℕ) (n : ℕ) (r : Round) → n ≤ now → DeskFollows (plan_of t schedules es) root n r → DeskFollows (plan_of t schedules fs) root n r
+    finished_alike : (n i : ℕ) → n ≤ now → finished_before (turn_at t schedules es) n i ≡ finished_before (turn_at t schedules fs) n i
+    finished_alike zero i h = refl
+    finished_alike (suc n) i h = ap (λ (u : Turn). finished_by u (left_before u (suc n)) i) (turn_same n (omega (arith, h)))
+
+    desk_alike : (root : Option ℕ) (n : ℕ) (r : Round) → n ≤ now → DeskFollows (turn_at t schedules es) root n r → DeskFollows (turn_at t schedules fs) root n r
     desk_alike None n r h f = f
     desk_alike (Some period) zero r h f = f
-    desk_alike (Some period) (suc n) r h f = let s = round_start period n in subst (λ p. DeskStands p s (suc n) r) (plan_same s (omega (arith, down period n))) f
+    desk_alike (Some period) (suc n) r h f = subst (λ (u : Turn). DeskStands u.plan u.frame (suc n) r) (turn_same n (omega (arith, h))) f
 
 -- ---- what a machine keeps of its values with other events
 
 module _ (t : Tables) (schedules : List (List SInstr)) (loaded : IsLoaded t schedules) (es : List Event) (within : AreTookWithin t es) where
-  kept : AreKept t schedules es
-  kept = loaded.rounds es within
-
   -- who is finished has read
-  pub all_read : (now i : ℕ) (x : Inv) (s : ℕ) → Stands t (before t es now).stays i x s → finished_before (plan_of t schedules es) (period_or (root_period t)) now i ≡ true
-      → HasRead t now (finished_before (plan_of t schedules es) (period_or (root_period t)) now) x s
-  all_read now i x s st fin = read_before t loaded.range loaded.kept es (plan_of t schedules es) (period_or (root_period t)) kept.regular kept.sound now i x s st fin
+  pub all_read : (now i : ℕ) (x : Inv) (s : ℕ) → Stands t (before t es now).stays i x s → finished_before (turn_at t schedules es) now i ≡ true → HasRead t now (finished_before (turn_at t schedules es) now) x s
+  all_read now i x s st fin = read_before t loaded.range loaded.kept es (turn_at t schedules es) (loaded_turns t schedules loaded es within) now i x s st fin
 
   values_same : (fs : List Event) (now : ℕ) (w : Content) → Alike t es fs now → ((i u : ℕ) → took t es i u ≡ took t fs i u)
-      → ValuesFollow t es now (finished_before (plan_of t schedules es) (period_or (root_period t)) now) w → ValuesFollow t fs now (finished_before (plan_of t schedules fs) (period_or (root_period t)) now) w
+      → ValuesFollow t es now (finished_before (turn_at t schedules es) now) w → ValuesFollow t fs now (finished_before (turn_at t schedules fs) now) w
   values_same fs now w alike tooks f =
-      subst (λ z. ValuesFollow t fs now z w) (fun_ext (λ i. finished_alike t schedules es fs now alike tooks (period_or (root_period t)) now i (omega arith)))
-      (values_alike t loaded.range loaded.kept es fs now (finished_before (plan_of t schedules es) (period_or (root_period t)) now) w alike (λ i x s st fin. all_read now i x s st fin) f)
+      subst (λ z. ValuesFollow t fs now z w) (fun_ext (λ i. finished_alike t schedules es fs now alike tooks now i (omega arith)))
+      (values_alike t loaded.range loaded.kept es fs now (finished_before (turn_at t schedules es) now) w alike (λ i x s st fin. all_read now i x s st fin) f)
 
   -- a reading
   pub read_follows : (to : ℕ) (m : Held) → m.spent ≡ false → UpTo t schedules es to m → Follows t schedules (es ++ V.At to ∷ []) (at_reading to m)
@@ -146,6 +147,5 @@ module _ (t : Tables) (schedules : List (List SInstr)) (loaded : IsLoaded t sche
 
   -- an instant, as far as the values go
   pub instant_values : (now : ℕ) (m : Held) → UpTo t schedules es now m
-      → ValuesFollow t es (suc now) (finished_before (plan_of t schedules es) (period_or (root_period t)) (suc now)) (next_world t es (plan_of t schedules es) (period_or (root_period t)) now m.world)
-      × HasPlaces t (next_world t es (plan_of t schedules es) (period_or (root_period t)) now m.world)
-  instant_values now m up = values_carried t loaded.range loaded.kept es (plan_of t schedules es) (period_or (root_period t)) kept.regular kept.sound now m.world up.values (has_places t m.world loaded.range loaded.kept up.shape)
+      → ValuesFollow t es (suc now) (finished_before (turn_at t schedules es) (suc now)) (next_world t es (turn_at t schedules es) now m.world) × HasPlaces t (next_world t es (turn_at t schedules es) now m.world)
+  instant_values now m up = values_carried t loaded.range loaded.kept es (turn_at t schedules es) (loaded_turns t schedules loaded es within) now m.world up.values (has_places t m.world loaded.range loaded.kept up.shape)

@@ -10,9 +10,8 @@ use Rattle.htl_walk.specs.Walk.{Left, first_point}
 use Rattle.htl_refine.specs.RecordCounts.{count_before, Rises}
 use Rattle.htl_refine.specs.Records.{AreTookWithin}
 use Rattle.htl_refine.specs.Records.{walk_of}
-use Rattle.htl_machine.specs.Plans.{round_start}
-use Rattle.htl_machine.specs.Rounds.{plan_of}
-use Rattle.htl_machine.specs.Follows.{period_or, AreInForm, IsLoaded}
+use Rattle.htl_machine.specs.Rounds.{plan_of, round_start, period_or}
+use Rattle.htl_machine.specs.Follows.{AreInForm, IsLoaded}
 use Rattle.htl_machine.specs.Served.{IsShown, AllServed}
 use Rattle.htl_machine.proofs.Standing.{some_same, none_some}
 use Rattle.htl_refine.proofs.RecordOrder.{walk_rises}

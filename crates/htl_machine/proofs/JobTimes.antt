@@ -1,5 +1,5 @@
 -- The job lines of a run show each job whose window ended: one d line in time, and j lines in its window for all its ticks.
-use Rattle.std.proofs.Common.{◌≡◌, ◌≤◌, ◌<◌, ◌⊎◌, inl, inr, ℕ, zero, suc, ◌+◌, ◌-◌, ◌*◌, ◌/◌, ◌%◌, Bool, true, false, cond, ◌&&◌, eqb, ltb, leb, List, [], ◌∷◌, ◌++◌, map, set, slice_get, get_or, Option, Some, None, option_map, refl, sym, ap, ap₂, ◌∙◌, subst, arith}
+use Rattle.std.proofs.Common.{◌≡◌, ◌≤◌, ◌<◌, ◌⊎◌, inl, inr, ℕ, zero, suc, ◌+◌, ◌*◌, ◌/◌, ◌%◌, Bool, true, false, cond, ◌&&◌, eqb, ltb, leb, List, [], ◌∷◌, ◌++◌, map, set, slice_get, get_or, Option, Some, None, option_map, refl, sym, ap, ap₂, ◌∙◌, subst, arith}
 use Rattle.std.specs.List.{filter}
 use Rattle.std.proofs.lemmas.Bool.{eqb-true, eqb-false, eq-eqb, ltb-true, ltb-false, lt-ltb, le-ltb, le-leb, leb-true}
 use Rattle.std.proofs.lemmas.List.{append-nil}
@@ -18,12 +18,12 @@ use Rattle.htl_refine.specs.Records.{Round, AreTookWithin, round_at, left_at, ro
 use Rattle.htl_machine.specs.Casts.{IsCast, HaveWindows}
 use Rattle.htl_machine.proofs.Casting.{only_open}
 use Rattle.htl_machine.proofs.RoundServed.{round_windows}
-use Rattle.htl_machine.specs.Follows.{AreInForm, IsLoaded, period_or}
+use Rattle.htl_machine.specs.Follows.{AreInForm, IsLoaded}
 use Rattle.htl_machine.specs.JobLines.{RunLine, slice_of as line_of_slice, job_lines_of, round_job_lines, job_lines_at, job_lines_to}
 use Rattle.htl_machine.specs.JobLines.RunLine.{SliceLine, DoneLine}
 use Rattle.htl_machine.specs.JobTimes.{is_in, done_time, slice_time, AllToldInTime}
-use Rattle.htl_machine.specs.Plans.{round_start, AreSound, AreRegular}
-use Rattle.htl_machine.specs.Rounds.{plan_of}
+use Rattle.htl_machine.specs.Plans.{AreSound, AreRegular}
+use Rattle.htl_machine.specs.Rounds.{plan_of, period_or, round_start}
 use Rattle.htl_machine.specs.Served.{spent, Finishes}
 use Rattle.htl_machine.specs.Texts.{inv_at}
 use Rattle.htl_machine.proofs.Headline.{all_served}

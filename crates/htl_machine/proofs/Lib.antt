@@ -34,6 +34,9 @@ pub mod RunFrames
 pub mod Tops
 pub mod Windows
 pub mod Rounding
+pub mod RoundLists
+pub mod ListValues
+pub mod ListsSoFar
 pub mod Tying
 pub mod Pathing
 pub mod Shaping
@@ -70,8 +73,6 @@ pub mod TellingLoaded
 pub mod TellingLater
 pub mod Wholly
 pub mod Premises
-pub mod Staying
-pub mod Opening
 pub mod Deciding
 pub mod Examples
 mod LineExamples
@@ -87,7 +88,6 @@ pub mod Modes
 pub mod Beginnings
 pub mod Periodic
 pub mod Positions
-pub mod ToBegin
 pub mod Ready
 pub mod After
 pub mod Idle

@@ -26,9 +26,9 @@ use Rattle.htl_refine.proofs.RootSelection.{roots_some, below_count, is_of_selec
 use Rattle.htl_refine.proofs.RoundLaws.{rounds_meet}
 use Rattle.htl_refine.proofs.StateLaws.{states_are_selections}
 use Rattle.htl_machine.specs.Casts.{IsCast}
-use Rattle.htl_machine.specs.Plans.{AreRegular, round_start}
-use Rattle.htl_machine.specs.Rounds.{standing_of, plan_of}
-use Rattle.htl_machine.specs.Follows.{period_or, AreInForm, AreKept, IsLoaded}
+use Rattle.htl_machine.specs.Plans.{AreRegular}
+use Rattle.htl_machine.specs.Rounds.{standing_of, plan_of, round_start, period_or}
+use Rattle.htl_machine.specs.Follows.{AreInForm, AreKept, IsLoaded}
 use Rattle.htl_machine.proofs.Periods.{mode_periods, starts}
 use Rattle.htl_machine.proofs.Placed.{placing}
 use Rattle.htl_machine.proofs.Placing.{cast_of}

@@ -10,7 +10,7 @@ use Rattle.htl_model.specs.Ranges.{AreInRange}
 use Rattle.htl_model.specs.Selections.{is_root, modes_of, mode_of_module, root_modules, root_period}
 use Rattle.htl_model.specs.Tables.{Tables, mode_period}
 use Rattle.htl_model.proofs.SelectionLaws.{modes_some, all_places_below}
-use Rattle.htl_machine.specs.Plans.{round_start}
+use Rattle.htl_machine.specs.Rounds.{round_start}
 use Rattle.htl_machine.specs.Timing.{opens, begins}
 use Rattle.htl_machine.proofs.Standing.{none_some}
 

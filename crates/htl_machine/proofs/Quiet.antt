@@ -1,5 +1,5 @@
 -- Over instants at which nothing is due a machine goes on as it stands.
-use Rattle.std.proofs.Common.{◌≡◌, ℕ, zero, suc, ◌+◌, ◌-◌, ◌*◌, ◌/◌, ◌%◌, ◌<◌, ◌≤◌, Bool, true, false, cond, ◌&&◌, ◌||◌, not, eqb, List, [], ◌∷◌, ◌++◌, length, get_or, slice_get, map, take, Option, Some, None, IfSome, ℤ, pos, negsuc, refl, sym, ap, ap₂, ◌∙◌, subst, arith, ◌⊎◌, inl, inr}
+use Rattle.std.proofs.Common.{◌≡◌, ℕ, zero, suc, ◌+◌, ◌-◌, ◌*◌, ◌/◌, ◌%◌, ◌<◌, ◌≤◌, Bool, true, false, cond, ◌||◌, not, eqb, List, [], ◌∷◌, ◌++◌, length, get_or, slice_get, map, Option, Some, None, IfSome, ℤ, pos, negsuc, refl, sym, ap, ap₂, ◌∙◌, subst, arith, inl, inr}
 use Rattle.std.proofs.lemmas.Bool.Decides.{nat_tests}
 use Rattle.std.specs.Io.KnownBytes.{append_known}
 use Rattle.std.proofs.lemmas.List.{append-nil}
@@ -8,7 +8,6 @@ use Rattle.htl_model.specs.declared.event.Event.{Event}
 use Rattle.htl_model.specs.declared.line.Line.{Line}
 use Rattle.htl_model.specs.declared.line.Line.TheVariants.{ValueLine, ModeLine}
 use Rattle.htl_model.specs.declared.parts.Comm.{Comm}
-use Rattle.htl_model.specs.declared.state.State.{State}
 use Rattle.htl_model.specs.declared.state.Stay.{Stay}
 use Rattle.htl_model.specs.Functions.{same}
 use Rattle.htl_model.specs.Lines.{lines_text}
@@ -18,7 +17,6 @@ use Rattle.htl_model.specs.Ranges.{AreInRange, IsModeThat, parent_of}
 use Rattle.htl_model.specs.Selections.{root_period}
 use Rattle.htl_model.specs.Tables.{Tables, mode_period}
 use Rattle.htl_walk.specs.declared.schedule.SInstr.{SInstr}
-use Rattle.htl_smach.specs.declared.left.Left.{Left}
 use Rattle.htl_smach.specs.Rounds as rounds
 use Rattle.htl_smach.specs.Rounds.{next_left}
 use Rattle.htl_ecode.specs.declared.ecode.ECode.{ECode}
@@ -26,7 +24,6 @@ use Rattle.htl_ecode.specs.Paths.{Done, e_path}
 use Rattle.htl_ecode.proofs.Spelled.{ModeReads}
 use Rattle.htl_ecode.proofs.SpellingLaws.{spelled_departs_not}
 use Rattle.htl_emach.specs.declared.trigger.Block.{Block}
-use Rattle.htl_emach.specs.Calendars.{list_at}
 use Rattle.htl_emach.specs.Contents.{Content}
 use Rattle.htl_emach.specs.Due.{IsDueAt, IsNext, IsNextOf}
 use Rattle.htl_emach.specs.Following.{phase_path}
@@ -42,20 +39,19 @@ use Rattle.htl_console.specs.Shows.{shows_code, shows_values}
 use Rattle.htl_machine.specs.declared.tally.Tally.{Tally}
 use Rattle.htl_machine.specs.Calls.{Seen, IsUpTo, number_by, schedule_by, text_between}
 use Rattle.htl_machine.specs.Doing.{path_lines}
-use Rattle.htl_machine.specs.Follows.{IsLoaded, period_or}
+use Rattle.htl_machine.specs.Follows.{IsLoaded}
 use Rattle.htl_machine.specs.Instant.{IsReadyAt}
 use Rattle.htl_machine.specs.Leaving.{due_by}
 use Rattle.htl_machine.specs.Opening.{IsOpened, closing_text}
-use Rattle.htl_machine.specs.Plans.{AreRegular, round_start}
+use Rattle.htl_machine.specs.Plans.{AreRegular}
 use Rattle.htl_machine.specs.Passing.{IsPassing, ArePassing}
 use Rattle.htl_machine.specs.Programs.{lines_of, schedules_of}
 use Rattle.htl_machine.specs.Recording.{Records}
 use Rattle.htl_machine.specs.Running.{replay}
 use Rattle.htl_machine.specs.Readiness.{desk_replay}
 use Rattle.htl_machine.specs.Sensors.{AreShown, ShowsNothing}
-use Rattle.htl_machine.specs.Texts.{e_line, record_text, records_of, round_texts, some_records}
+use Rattle.htl_machine.specs.Texts.{e_line, record_text, records_of, some_records}
 use Rattle.htl_machine.specs.Timing.{begins}
-use Rattle.htl_machine.specs.Values.{values_before}
 use Rattle.htl_machine.proofs.Accepted.{accepted_is_loaded}
 use Rattle.htl_machine.proofs.After.{beginning, begins_some, closed_values, desk_goes_on, lines_are_composed, next_up_to, passed_of, records_go_on, selection_goes_on, text_goes_on}
 use Rattle.htl_machine.proofs.Agreeing.{modes_open}
@@ -70,6 +66,7 @@ use Rattle.htl_machine.proofs.TellingLoaded.{loaded_rounds}
 use Rattle.htl_machine.proofs.TellingText.{records_are}
 use Rattle.htl_machine.proofs.Wholly.{modes_read}
 use Rattle.htl_machine.specs.Quiet.{IsQuiet, AreQuiet, IsEmpty, PassOver}
+use Rattle.htl_machine.specs.Rounds.{period_or, round_start}
 use Rattle.htl_machine.proofs.Idle.{IsIdle, idle, round_ends}
 
 -- ---- where nothing changes there are no lines
@@ -186,8 +183,8 @@ module _ (m : Seen) (es : List Event) (n : ℕ) (accepted : IsAccepted m.object)
   never : begins m.object.tables (suc n) ≡ true → ⊥
   never b =
       let h = beginning t code schedules loaded reads es u.kept.within (suc n) b in
-      let p = h.0 in
-      let regular : AreRegular t es p = subst (AreRegular t es) (ap period_or h.1) (loaded.rounds es u.kept.within).regular in
+      let p = period_or (root_period t) in
+      let regular : AreRegular t es (period_or (root_period t)) = (loaded.rounds es u.kept.within).regular in
       let inside = begins_some m es (suc n) accepted read u b in
       let ends : suc n ≡ round_start p n + p = elim (apart (suc n) (p * (n / p) + p)) [
         | inl e ↦ e

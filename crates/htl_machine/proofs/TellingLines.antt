@@ -20,10 +20,10 @@ use Rattle.htl_console.specs.declared.shown.Shown.{Shown}
 use Rattle.htl_console.specs.Shows.{shows_jobs, shows_code}
 use Rattle.htl_console.specs.Lines.{done_line}
 use Rattle.htl_refine.specs.RecordCounts.{count_before, Rises}
-use Rattle.htl_machine.specs.Plans.{round_start, left_before}
-use Rattle.htl_machine.specs.Rounds.{plan_of}
+use Rattle.htl_machine.specs.ListTurns.{Turn, left_before}
+use Rattle.htl_machine.specs.Rounds.{list_of, round_start, round_turn}
 use Rattle.htl_machine.specs.Follows.{AreInForm}
-use Rattle.htl_machine.specs.Texts.{inv_at, slice_lines, record_text, some_records, old_records, new_records, records_text, old_start}
+use Rattle.htl_machine.specs.Texts.{inv_at, slice_lines, record_text, some_records, old_turn, old_records, new_records, records_text}
 use Rattle.htl_machine.specs.Lines.{where_shown, step_lines, job_lines, record_lines, selection_at, round_lines, old_lines, new_lines}
 use Rattle.htl_machine.proofs.Desking.{times_within}
 use Rattle.htl_refine.proofs.RecordOrder.{walk_rises}
@@ -40,23 +40,23 @@ rises r = walk_rises r.jobs r.schedule (first_point r.jobs r.lengths)
 
 -- the records of the round from `start`, from the first that is left at `now` on
 pub round_piece : (r : Round) (start now : ℕ) → start ≤ now
-    → map as_told (left_then start now 0 (walk_of r)) ≡ some_records r start (count_before (now - start) (walk_of r)) (count_before (suc now - start) (walk_of r) - count_before (now - start) (walk_of r))
+    → map as_told (left_then start now 0 (walk_of r)) ≡ some_records (list_of r) start (count_before (now - start) (walk_of r)) (count_before (suc now - start) (walk_of r) - count_before (now - start) (walk_of r))
 round_piece r start now past =
     piece start now (now - start) 0 0 (walk_of r) (omega (arith, past)) (rises r)
-    ∙ ap (λ c. some_records r start (count_before (now - start) (walk_of r)) (count_before c (walk_of r) - count_before (now - start) (walk_of r)))
+    ∙ ap (λ c. some_records (list_of r) start (count_before (now - start) (walk_of r)) (count_before c (walk_of r) - count_before (now - start) (walk_of r)))
     (let e : suc (now - start) ≡ suc now - start = omega (arith, past) in e)
 
 piece_text : (t : Tables) (show : Shown) (r : Round) (selection start now : ℕ) → start ≤ now
     → joined (record_lines t show r selection) (left_then start now 0 (walk_of r))
-    ≡ joined (record_text t show r selection) (some_records r start (count_before (now - start) (walk_of r)) (count_before (suc now - start) (walk_of r) - count_before (now - start) (walk_of r)))
+    ≡ joined (record_text t show (list_of r) selection) (some_records (list_of r) start (count_before (now - start) (walk_of r)) (count_before (suc now - start) (walk_of r) - count_before (now - start) (walk_of r)))
 piece_text t show r selection start now past =
-    sym (joined_map (record_text t show r selection) as_told (left_then start now 0 (walk_of r))) ∙ ap (joined (record_text t show r selection)) (round_piece r start now past)
+    sym (joined_map (record_text t show (list_of r) selection) as_told (left_then start now 0 (walk_of r))) ∙ ap (joined (record_text t show (list_of r) selection)) (round_piece r start now past)
 
 -- of the round that begins at `now`
-pub first_piece : (r : Round) (now : ℕ) → some_records r now (count_before (now - now) (walk_of r)) (count_before (suc now - now) (walk_of r) - count_before (now - now) (walk_of r)) ≡ some_records r now 0 (count_before (suc now - now) (walk_of r))
+pub first_piece : (r : Round) (now : ℕ) → some_records (list_of r) now (count_before (now - now) (walk_of r)) (count_before (suc now - now) (walk_of r) - count_before (now - now) (walk_of r)) ≡ some_records (list_of r) now 0 (count_before (suc now - now) (walk_of r))
 first_piece r now =
-    ap (λ c. some_records r now c (count_before (suc now - now) (walk_of r) - c)) (none_before (now - now) 0 (walk_of r) (rises r) (omega arith))
-    ∙ ap (some_records r now 0) (let e : count_before (suc now - now) (walk_of r) - 0 ≡ count_before (suc now - now) (walk_of r) = omega arith in e)
+    ap (λ c. some_records (list_of r) now c (count_before (suc now - now) (walk_of r) - c)) (none_before (now - now) 0 (walk_of r) (rises r) (omega arith))
+    ∙ ap (some_records (list_of r) now 0) (let e : count_before (suc now - now) (walk_of r) - 0 ≡ count_before (suc now - now) (walk_of r) = omega arith in e)
 
 -- ---- nothing runs before the first tick of a round
 
@@ -156,8 +156,11 @@ module _ (t : Tables) (schedules : List (List SInstr)) (es : List Event) (period
       agree (eqb (now % period) 0) (eqb (round_start period now) now) (λ e. eq-eqb (round_start period now) now (omega (arith, parts, eqb-true (now % period) 0 e)))
       (λ e. eq-eqb (now % period) 0 (omega (arith, parts, eqb-true (round_start period now) now e)))
 
-  pub old_text : (code : ECode) (show : Shown) (now : ℕ)
-      → old_lines t schedules es show (Some period) now ≡ records_text t schedules es show (old_start period now) (old_records (plan_of t schedules es) period now)
+  -- the rounds of this period
+  abbrev pub turn : ℕ → Turn
+  turn n = round_turn t schedules es period (round_start period n)
+
+  pub old_text : (code : ECode) (show : Shown) (now : ℕ) → old_lines t schedules es show (Some period) now ≡ records_text t show (old_turn turn now) (old_records turn now)
   old_text code show zero = ap (up_to (λ k. round_lines t schedules es show (k * period) 0)) (none_at_first period some)
   old_text code show (suc n) =
       let s = round_start period n in
@@ -167,18 +170,26 @@ module _ (t : Tables) (schedules : List (List SInstr)) (es : List Event) (period
       ∙ ap (λ z. round_lines t schedules es show z (suc n)) (last_start n)
       ∙ piece_text t show (round_at t schedules es s) (selection_at t es s) s (suc n) (omega (arith, mul-div-le n period))
 
-  pub new_text : (code : ECode) (show : Shown) (now : ℕ) → new_lines t schedules es show (Some period) now ≡ records_text t schedules es show now (new_records (plan_of t schedules es) period now)
-  new_text code show now = by (eqb (now % period) 0) (eqb (round_start period now) now) (begins_now now)
+  -- whether the list begins that stands at an instant
+  pub list_begins : (now : ℕ) → eqb (now % period) 0 ≡ eqb (round_start period now + 0) now
+  list_begins now = begins_now now ∙ ap (λ z. eqb z now) (let e : round_start period now ≡ round_start period now + 0 = omega arith in e)
+
+  pub starts_at : (now : ℕ) → eqb (round_start period now + 0) now ≡ true → round_turn t schedules es period now ≡ turn now
+  starts_at now is = let at : now ≡ round_start period now = omega (arith, eqb-true (round_start period now + 0) now is) in ap (round_turn t schedules es period) at
+
+  pub new_text : (code : ECode) (show : Shown) (now : ℕ) → new_lines t schedules es show (Some period) now ≡ records_text t show (turn now) (new_records turn now)
+  new_text code show now = by (eqb (now % period) 0) (eqb (round_start period now + 0) now) (list_begins now) refl
     where
-      by : (a b : Bool) → a ≡ b
+      by : (a b : Bool) → a ≡ b → eqb (round_start period now + 0) now ≡ b
           → cond a (where_shown (shows_code show) (joined (step_lines (round_at t schedules es now) (selection_at t es now)) (left_at t schedules es now now))) []
-          ≡ records_text t schedules es show now (cond b (some_records (plan_of t schedules es now) now 0 (left_before (plan_of t schedules es) now (suc now))) [])
-      by true true e =
+          ≡ records_text t show (turn now) (cond b (some_records (turn now).plan (turn now).frame 0 (left_before (turn now) (suc now))) [])
+      by true true e is =
           let r = round_at t schedules es now in
           let sel = selection_at t es now in
           sym (steps_alone t show r sel now 0 (walk_of r) (silent r.jobs r.schedule (first_point r.jobs r.lengths)))
           ∙ piece_text t show r sel now now (omega arith)
-          ∙ ap (joined (record_text t show r sel)) (first_piece r now)
-      by false false e = refl
-      by true false e = cc
-      by false true e = cc
+          ∙ ap (joined (record_text t show (list_of r) sel)) (first_piece r now)
+          ∙ ap (λ (u : Turn). records_text t show u (some_records u.plan u.frame 0 (left_before u (suc now)))) (starts_at now is)
+      by false false e is = refl
+      by true false e is = cc
+      by false true e is = cc

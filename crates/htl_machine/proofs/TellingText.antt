@@ -6,7 +6,6 @@ use Rattle.std.proofs.lemmas.List.{length-map, map-append}
 use Rattle.std.proofs.lemmas.List.Sums.{sum_by-append, sum_by-cons}
 use Rattle.htl_model.specs.declared.event.Event.{Event}
 use Rattle.htl_model.specs.Lists.{up_to}
-use Rattle.htl_model.specs.Lines.{totals_line}
 use Rattle.htl_model.specs.Selections.{root_period}
 use Rattle.htl_model.specs.Tables.{Tables}
 use Rattle.htl_model.proofs.Locality.{up_to_same}
@@ -17,16 +16,16 @@ use Rattle.htl_ecode.specs.declared.ecode.ECode.{ECode}
 use Rattle.htl_ecode.specs.Paths.{e_path}
 use Rattle.htl_refine.specs.Records.{round_at, left_at, old_records_by, new_records_by, records}
 use Rattle.htl_console.specs.declared.shown.Shown.{Shown}
-use Rattle.htl_machine.specs.Plans.{round_start, left_before}
-use Rattle.htl_machine.specs.Rounds.{plan_of}
+use Rattle.htl_machine.specs.ListTurns.{Turn, left_before}
+use Rattle.htl_machine.specs.Rounds.{period_or, round_start, round_turn}
 use Rattle.htl_machine.specs.Follows.{AreInForm}
-use Rattle.htl_machine.specs.Texts.{some_records, old_records, new_records, old_start, records_text, round_texts, instant_text, records_of, sum_to, capped, jobs_before, e_before, s_before}
+use Rattle.htl_machine.specs.Texts.{some_records, old_turn, old_records, new_records, records_text, list_texts, instant_text, records_of, sum_to, capped, jobs_before, e_before, s_before}
 use Rattle.htl_machine.specs.Texts as texts
 use Rattle.htl_machine.specs.Lines.{old_lines, e_lines, change_lines, new_lines, lines, all_records, jobs_done, e_done, s_done}
 use Rattle.htl_machine.specs.Lines as runs
 use Rattle.htl_machine.proofs.Counting.{sum_same}
 use Rattle.htl_machine.proofs.Telling.{as_told, up_to_last, rounds_are, none_at_first}
-use Rattle.htl_machine.proofs.TellingLines.{round_piece, first_piece, none_left, last_start, begins_now, old_text, new_text}
+use Rattle.htl_machine.proofs.TellingLines.{turn, round_piece, first_piece, none_left, last_start, list_begins, starts_at, old_text, new_text}
 
 -- ---- lists
 
@@ -51,7 +50,10 @@ count_told (x ∷ xs) =
 -- ---- records
 
 module _ (t : Tables) (schedules : List (List SInstr)) (es : List Event) (period : ℕ) (some : 0 < period) (form : AreInForm t schedules es period) where
-  old_told : (now : ℕ) → map as_told (old_records_by t schedules es now (Some period)) ≡ old_records (plan_of t schedules es) period now
+  abbrev turns : ℕ → Turn
+  turns = turn t schedules es period some form
+
+  old_told : (now : ℕ) → map as_told (old_records_by t schedules es now (Some period)) ≡ old_records turns now
   old_told zero = ap (λ n. map as_told (up_to (λ k. left_at t schedules es (k * period) 0) n)) (none_at_first period some)
   old_told (suc n) =
       let s = round_start period n in
@@ -60,14 +62,18 @@ module _ (t : Tables) (schedules : List (List SInstr)) (es : List Event) (period
       ∙ ap (λ z. map as_told (left_at t schedules es z (suc n))) (last_start t schedules es period some form n)
       ∙ round_piece (round_at t schedules es s) s (suc n) (omega (arith, mul-div-le n period))
 
-  new_told : (now : ℕ) → map as_told (new_records_by t schedules es now (Some period)) ≡ new_records (plan_of t schedules es) period now
-  new_told now = by (eqb (now % period) 0) (eqb (round_start period now) now) (begins_now t schedules es period some form now)
+  new_told : (now : ℕ) → map as_told (new_records_by t schedules es now (Some period)) ≡ new_records turns now
+  new_told now = by (eqb (now % period) 0) (eqb (round_start period now + 0) now) (list_begins t schedules es period some form now) refl
     where
-      by : (a b : Bool) → a ≡ b → map as_told (cond a (left_at t schedules es now now) []) ≡ cond b (some_records (plan_of t schedules es now) now 0 (left_before (plan_of t schedules es) now (suc now))) []
-      by true true e = let r = round_at t schedules es now in round_piece r now now (omega arith) ∙ first_piece r now
-      by false false e = refl
-      by true false e = cc
-      by false true e = cc
+      by : (a b : Bool) → a ≡ b → eqb (round_start period now + 0) now ≡ b
+          → map as_told (cond a (left_at t schedules es now now) []) ≡ cond b (some_records (turns now).plan (turns now).frame 0 (left_before (turns now) (suc now))) []
+      by true true e is =
+          let r = round_at t schedules es now in
+          round_piece r now now (omega arith) ∙ first_piece r now
+          ∙ ap (λ (u : Turn). some_records u.plan u.frame 0 (left_before u (suc now))) (starts_at t schedules es period some form now is)
+      by false false e is = refl
+      by true false e is = cc
+      by false true e is = cc
 
 -- where there are rounds, they have a period, and their schedules are in form
 abbrev pub AreRounds : Tables → List (List SInstr) → List Event → Type 0
@@ -84,6 +90,7 @@ module _ (t : Tables) (schedules : List (List SInstr)) (es : List Event) (rounds
           let r = rounds period e in
           map-append as_told (old_records_by t schedules es now (Some period)) (new_records_by t schedules es now (Some period))
           ∙ ap₂ (λ xs ys. xs ++ ys) (old_told t schedules es period r.0 r.1 now) (new_told t schedules es period r.0 r.1 now)
+          ∙ ap (λ p. let turn : ℕ → Turn = λ n. round_turn t schedules es p (round_start p n) in old_records turn now ++ new_records turn now) (sym (ap period_or e))
 
   -- the totals
   pub jobs_are : (now : ℕ) → jobs_done t schedules es now ≡ jobs_before t schedules es now
@@ -107,18 +114,14 @@ module _ (t : Tables) (schedules : List (List SInstr)) (es : List Event) (rounds
     where
       by : (o : Option ℕ) → root_period t ≡ o
           → old_lines t schedules es show o now ++ e_lines t code es show now ++ change_lines t es show now ++ new_lines t schedules es show o now
-          ≡ let r = round_texts t code schedules es show o now in r.0 ++ e_lines t code es show now ++ change_lines t es show now ++ r.1
+          ≡ let r = list_texts t schedules es show o now in r.0 ++ e_lines t code es show now ++ change_lines t es show now ++ r.1
       by None e = refl
       by (Some period) e =
           let r = rounds period e in
           ap₂ (λ xs ys. xs ++ e_lines t code es show now ++ change_lines t es show now ++ ys) (old_text t schedules es period r.0 r.1 code show now) (new_text t schedules es period r.0 r.1 code show now)
+          ∙ ap (λ p. let turn : ℕ → Turn = λ n. round_turn t schedules es p (round_start p n) in
+          records_text t show (old_turn turn now) (old_records turn now) ++ e_lines t code es show now ++ change_lines t es show now ++ records_text t show (turn now) (new_records turn now)) (sym (ap period_or e))
 
   -- the text before an instant, and that of a run
   pub before_is : (code : ECode) (show : Shown) (now : ℕ) → runs.text_before t code schedules es show now ≡ texts.text_before t code schedules es show now
   before_is code show now = up_to_same (lines t code schedules es show) (instant_text t code schedules es show) now (λ n less. lines_are code show n)
-
-  pub run_is : (code : ECode) (show : Shown) (end : ℕ) → runs.run_text t code schedules es show end ≡ texts.run_text t code schedules es show end
-  run_is code show end =
-      ap₂ (λ xs ys. xs ++ ys) (before_is code show (suc end))
-      (ap₂ (λ j s. totals_line end j (e_done t code es (suc end)) s) (jobs_are (suc end)) (s_are (suc end))
-      ∙ ap (λ e. totals_line end (jobs_before t schedules es (suc end)) e (s_before t schedules es (suc end))) (e_are code (suc end)))

@@ -7,7 +7,7 @@ use Rattle.htl_model.specs.Tables.{Tables}
 use Rattle.htl_model.specs.Meaning.{sense}
 use Rattle.htl_walk.specs.declared.job.Job.{Job}
 use Rattle.htl_walk.specs.declared.schedule.SInstr.{SInstr}
-use Rattle.htl_walk.specs.Walk.{InForm, first_point}
+use Rattle.htl_walk.specs.Walk.{InForm}
 use Rattle.htl_emach.specs.Shapes.{HasValues, IsShaped}
 use Rattle.htl_smach.specs.Rounds as rounds
 use Rattle.htl_smach.specs.Rounds.{Round, no_round, state_of}
@@ -19,10 +19,10 @@ use Rattle.htl_refine.specs.Records.{AreTookWithin, took}
 use Rattle.htl_emach.specs.Contents.{Content}
 use Rattle.htl_machine.specs.Values.{ValuesFollow}
 use Rattle.htl_refine.specs.RecordCounts.{count_before}
-use Rattle.htl_refine.specs.Records.{Round as Plan}
-use Rattle.htl_machine.specs.Plans.{AreRegular, AreSound, round_start, finished_before}
-use Rattle.htl_refine.specs.Records.{walk_of}
-use Rattle.htl_machine.specs.Rounds.{plan_of}
+use Rattle.htl_refine.specs.ListPlans.{ListPlan as Plan, list_walk}
+use Rattle.htl_machine.specs.ListTurns.{Turn}
+use Rattle.htl_machine.specs.Plans.{AreRegular, AreSound, finished_before}
+use Rattle.htl_machine.specs.Rounds.{period_or, plan_of, round_start, turn_at}
 use Rattle.htl_machine.specs.Turns.{position_from}
 
 -- what contracts see of a machine, but for its triggers and totals
@@ -49,30 +49,25 @@ reading_of r (V.End t ∷ es) = reading_of r es
 abbrev pub released_before : ℕ → List Job → List Bool
 released_before d jobs = map (λ j. j.present && ltb j.release d) jobs
 
--- the S machine stands in the round from s, all records before `now` given
+-- the S machine stands in the list, of the frame from s, all records before `now` given
 pub record DeskStands (p : Plan) (s now : ℕ) (r : Round) : Type 0 where
   pub start : r.start ≡ s
   pub jobs : r.jobs ≡ p.jobs
-  pub lengths : r.lengths ≡ p.lengths
-  -- its walk begins with the work of its jobs
-  pub first : r.first ≡ first_point p.jobs p.lengths
-  pub place : r.place ≡ count_before (now - s) (walk_of p)
+  pub lengths : length r.lengths ≡ length r.jobs
+  -- its walk begins where those of the lists before it end
+  pub first : r.first ≡ p.first
+  pub place : r.place ≡ count_before (now - s) (list_walk p)
   pub running : r.running ≡ ltb r.place (length p.schedule)
   pub released : r.released ≡ released_before (now - s) p.jobs
   pub stands : rounds.Stands r p.schedule
 
--- before an instant the S machine stands in the round that began last before it
-abbrev pub DeskFollows : (ℕ → Plan) → Option ℕ → ℕ → Round → Type 0
-DeskFollows plan None now r = r ≡ no_round
-DeskFollows plan (Some period) zero r = r ≡ no_round
-DeskFollows plan (Some period) (suc n) r = DeskStands (plan (round_start period n)) (round_start period n) (suc n) r
+-- before an instant the S machine stands in the list that began last before it; without modules there is none
+abbrev pub DeskFollows : (ℕ → Turn) → Option ℕ → ℕ → Round → Type 0
+DeskFollows turn None now r = r ≡ no_round
+DeskFollows turn (Some period) zero r = r ≡ no_round
+DeskFollows turn (Some period) (suc n) r = DeskStands (turn n).plan (turn n).frame (suc n) r
 
 -- ---- the machine
-
--- the period of the rounds; any where there is no module
-abbrev pub period_or : Option ℕ → ℕ
-period_or (Some p) = p
-period_or None = 1
 
 -- before the instant `now`, which is no earlier than the last reading
 pub record UpTo (t : Tables) (schedules : List (List SInstr)) (es : List Event) (now : ℕ) (m : Held) : Type 0 where
@@ -82,10 +77,10 @@ pub record UpTo (t : Tables) (schedules : List (List SInstr)) (es : List Event) 
   pub fits : HasValues t m.shows
   pub shows : (c u : ℕ) → c < length t.comms → reading_of 0 es ≤ u → sense t es c u ≡ get_or m.shows c (pos 0)
   pub takes : (i u : ℕ) → i < length t.invs → reading_of 0 es ≤ u → took t es i u ≡ get_or m.takes i 0
-  pub values : ValuesFollow t es now (finished_before (plan_of t schedules es) (period_or (root_period t)) now) m.world
+  pub values : ValuesFollow t es now (finished_before (turn_at t schedules es) now) m.world
   -- each value, input and output is of its type
   pub shape : IsShaped t m.world
-  pub desk : DeskFollows (plan_of t schedules es) (root_period t) now m.desk
+  pub desk : DeskFollows (turn_at t schedules es) (root_period t) now m.desk
 
 -- at the last reading
 pub record Follows (t : Tables) (schedules : List (List SInstr)) (es : List Event) (m : Held) : Type 0 where
@@ -95,13 +90,13 @@ pub record Follows (t : Tables) (schedules : List (List SInstr)) (es : List Even
 
 -- ---- inside an instant
 
--- the S machine stands in the round from s, k of its records given, the releases before an offset told
+-- the S machine stands in the list, of the frame from s, k of its records given, the releases before an offset told
 pub record DeskAt (p : Plan) (s k d : ℕ) (r : Round) : Type 0 where
   pub start : r.start ≡ s
   pub jobs : r.jobs ≡ p.jobs
-  pub lengths : r.lengths ≡ p.lengths
-  -- its walk begins with the work of its jobs
-  pub first : r.first ≡ first_point p.jobs p.lengths
+  pub lengths : length r.lengths ≡ length r.jobs
+  -- its walk begins where those of the lists before it end
+  pub first : r.first ≡ p.first
   pub place : r.place ≡ k
   pub running : r.running ≡ ltb k (length p.schedule)
   pub released : r.released ≡ released_before d p.jobs

@@ -6,7 +6,7 @@ use Rattle.htl_walk.specs.Walk.{AllWithin}
 use Rattle.htl_refine.specs.Records.{Round as Plan}
 use Rattle.htl_machine.specs.JobLines.{RunLine}
 use Rattle.htl_machine.specs.JobLines.RunLine.{SliceLine, DoneLine, InstrLine, ChangeLine, StepLine, TotalsLine}
-use Rattle.htl_machine.specs.Plans.{round_start}
+use Rattle.htl_machine.specs.Rounds.{round_start}
 use Rattle.htl_machine.specs.Served.{spent}
 
 -- a line of invocation i about an instant after `start`, and at `end` or before
