@@ -123,7 +123,7 @@ values_alike t range kept es fs now finished w a read f =
 -- ---- lengths that agree for what is released before an offset
 
 -- the records before an offset are those in front
-front_is : (a e : ℕ) (ls : List Left) → Rises a ls → take (count_before e ls) ls ≡ earlier e ls
+pub front_is : (a e : ℕ) (ls : List Left) → Rises a ls → take (count_before e ls) ls ≡ earlier e ls
 front_is a e [] r = refl
 front_is a e (l ∷ ls) r = by_test (ltb l.at e) refl (front_is l.at e ls r.1)
   where
@@ -136,7 +136,7 @@ front_is a e (l ∷ ls) r = by_test (ltb l.at e) refl (front_is l.at e ls r.1)
     by_test true g ih = ap (λ z. l ∷ z) ih
     by_test false g ih = sym (none_later l.at ls r.1 (ltb-false l.at e g))
 
-length-front : (e : ℕ) (ls : List Left) → length (take (count_before e ls) ls) ≡ count_before e ls
+pub length-front : (e : ℕ) (ls : List Left) → length (take (count_before e ls) ls) ≡ count_before e ls
 length-front e [] = refl
 length-front e (l ∷ ls) = by_test (ltb l.at e) (length-front e ls)
   where

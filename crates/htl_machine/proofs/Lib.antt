@@ -31,6 +31,11 @@ pub mod FrameValues
 pub mod FramesGoOn
 pub mod RoundServed
 pub mod RunFrames
+pub mod ListStarts
+pub mod RunLists
+pub mod RunsAgree
+pub mod TookLists
+pub mod TellingLists
 pub mod Tops
 pub mod Windows
 pub mod Rounding

@@ -44,7 +44,7 @@ use Rattle.htl_machine.proofs.ListsSoFar.{AreSoFar, finished_so_far}
 use Rattle.htl_machine.proofs.RoundLists.{loaded_turns, loaded_listed}
 use Rattle.htl_machine.proofs.Timely.{done_late}
 
-get_map : {A : Type 0} (f : Job → A) (js : List Job) (p : ℕ) (j : Job) (d : A) → slice_get js p ≡ Some j → get_or (map f js) p d ≡ f j
+pub get_map : {A : Type 0} (f : Job → A) (js : List Job) (p : ℕ) (j : Job) (d : A) → slice_get js p ≡ Some j → get_or (map f js) p d ≡ f j
 get_map f [] p j d e = none_some j e
 get_map f (k ∷ js) zero j d e = ap f (some_same _ _ e)
 get_map f (k ∷ js) (suc p) j d e = get_map f js p j d e

@@ -10,6 +10,7 @@ pub mod Plans
 pub mod Places
 pub mod FramePlacing
 pub mod RunFrames
+pub mod RunLists
 pub mod Follows
 pub mod Texts
 pub mod Machines
@@ -22,6 +23,7 @@ pub mod Readiness
 pub mod Tellings
 pub mod Served
 pub mod Lines
+pub mod ListLines
 pub mod Programs
 pub mod JobLines
 pub mod JobTimes

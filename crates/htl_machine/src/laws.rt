@@ -3,6 +3,7 @@ ghost use Rattle.htl_machine.specs.FramePlacing.{FrameCast};
 ghost use Rattle.htl_machine.specs.Laws.{AcceptedIsLoaded, EveryJobInTime, ValuesAreTheMeaning, SensorsDecide, LaterEventsLeaveText, JobLinesAreRecords, JobLinesAreFound, EveryJobToldInTime};
 ghost use Rattle.htl_machine.specs.Quiet.{QuietInstantsPass};
 ghost use Rattle.htl_machine.specs.RunFrames.{FeasibleRuns, ValuesGoOn, RunReady};
+ghost use Rattle.htl_machine.specs.RunLists.{RunsGoByLists};
 
 /// Of an accepted object every round is sound, whatever the events within the worst cases: its jobs are those of the invocations that
 /// stand, and its schedule does each of them in its window, after its predecessors.
@@ -78,4 +79,10 @@ pub fn values_go_on()
 /// So once the records of an instant are done, what is due is finished, and what is finished has read all.
 pub fn runs_are_ready()
     ensures { RunReady }
+{}
+
+/// And the run goes list by list: at each instant one list of the frame stands, whose records are those that the frame has so far, and
+/// it goes on, or it is over and the next begins.
+pub fn runs_go_by_lists()
+    ensures { RunsGoByLists }
 {}
