@@ -13,3 +13,4 @@ accepted_is_loaded o accepted =
     let formed = accepted.spelled.formed.formed in
     loaded o.tables (schedules_of o) ranges.tables (kept_all o.tables formed)
     (each_round o.tables ranges.tables (λ r s have need small broken. formed r s have need broken) (schedules_of o) accepted.feasible)
+    accepted.feasible

@@ -5,7 +5,7 @@ use Rattle.std.proofs.lemmas.Bool.Decides.{nat_tests}
 use Rattle.htl_model.specs.declared.event.Event.{Event}
 use Rattle.htl_model.specs.declared.event.Event.TheVariants as V
 use Rattle.htl_model.specs.Ranges.{FitsType}
-use Rattle.htl_model.specs.Selections.{root_period}
+use Rattle.htl_model.specs.Frames.{hyper}
 use Rattle.htl_model.specs.Tables.{Tables}
 use Rattle.htl_model.specs.Meaning.{sense}
 use Rattle.htl_walk.specs.declared.schedule.SInstr.{SInstr}
@@ -17,7 +17,7 @@ use Rattle.htl_ecode.specs.Paths.{e_path}
 use Rattle.htl_refine.specs.Records.{took, IsTookWithin}
 use Rattle.htl_emach.specs.Shapes.{IsShaped}
 use Rattle.htl_machine.specs.Plans.{next_world}
-use Rattle.htl_machine.specs.Rounds.{turn_at}
+use Rattle.htl_machine.specs.RunLists.{turn_at}
 use Rattle.htl_machine.specs.Follows.{Held, reading_of, DeskFollows, IsLoaded, at_reading, shown_as, desk_taking, taken_as}
 use Rattle.htl_console.specs.declared.shown.Shown.{Shown}
 use Rattle.htl_machine.specs.Texts.{instant_text, records_of}
@@ -32,12 +32,12 @@ use Rattle.htl_machine.proofs.Counting.{totals_next, totals_same, records_alike}
 module _ (t : Tables) (code : ECode) (schedules : List (List SInstr)) (loaded : IsLoaded t schedules) (show : Shown) where
   -- one instant: the world goes on, the S machine stands before the next, the text of the instant is written
   pub instant_stands : (es : List Event) (now : ℕ) (m : Held) (n : Counts) (written new : List ℕ) (r : Round) → Stands t code schedules show es now m n written
-      → IsShaped t (next_world t es (turn_at t schedules es) now m.world) → DeskFollows (turn_at t schedules es) (root_period t) (suc now) r → new ≡ written ++ instant_text t code schedules es show now
+      → IsShaped t (next_world t es (turn_at t schedules es) now m.world) → DeskFollows (turn_at t schedules es) (hyper t) (suc now) r → new ≡ written ++ instant_text t code schedules es show now
       → Stands t code schedules show es (suc now) (record m { world = next_world t es (turn_at t schedules es) now m.world; desk = r })
       (record {
-        jobs = min (n.jobs + count_by (λ (l : Left). l.finished) (records_of t schedules es (root_period t) now)) (2 ^ 64 - 1);
+        jobs = min (n.jobs + count_by (λ (l : Left). l.finished) (records_of t schedules es (hyper t) now)) (2 ^ 64 - 1);
         e = min (n.e + length (e_path t code es now)) (2 ^ 64 - 1);
-        s = min (n.s + length (records_of t schedules es (root_period t) now)) (2 ^ 64 - 1);
+        s = min (n.s + length (records_of t schedules es (hyper t) now)) (2 ^ 64 - 1);
       }) new
   instant_stands es now m n written new r f shape desk text =
       record {
@@ -59,8 +59,8 @@ module _ (t : Tables) (code : ECode) (schedules : List (List SInstr)) (loaded : 
         stands =
             record {
               up_to = follows.up_to;
-              totals = totals_same t code schedules es fs to n.jobs n.e n.s (λ k h. records_alike t schedules es fs to alike' tooks (root_period t) k h) alike' f.totals;
-              text = f.text ∙ before_stays t code schedules es fs show to alike' tooks;
+              totals = totals_same t code schedules es fs to n.jobs n.e n.s (λ k h. records_alike t schedules es fs to alike' loaded f.up_to.within tooks (hyper t) k h) alike' f.totals;
+              text = f.text ∙ before_stays t code schedules es fs show to alike' loaded f.up_to.within tooks;
             };
       }
 
@@ -77,8 +77,8 @@ module _ (t : Tables) (code : ECode) (schedules : List (List SInstr)) (loaded : 
         stands =
             record {
               up_to = follows.up_to;
-              totals = totals_same t code schedules es fs m.reading n.jobs n.e n.s (λ k h. records_alike t schedules es fs m.reading alike' tooks (root_period t) k h) alike' f.stands.totals;
-              text = f.stands.text ∙ before_stays t code schedules es fs show m.reading alike' tooks;
+              totals = totals_same t code schedules es fs m.reading n.jobs n.e n.s (λ k h. records_alike t schedules es fs m.reading alike' loaded f.stands.up_to.within tooks (hyper t) k h) alike' f.stands.totals;
+              text = f.stands.text ∙ before_stays t code schedules es fs show m.reading alike' loaded f.stands.up_to.within tooks;
             };
       }
     where

@@ -10,6 +10,7 @@ use Rattle.htl_model.specs.declared.parts.Inv.{Inv}
 use Rattle.htl_model.specs.declared.parts.Module.{Module}
 use Rattle.htl_model.specs.Lists.{joined, places_from}
 use Rattle.htl_model.specs.Ranges.{IsCommInRange}
+use Rattle.htl_model.specs.Frames.{hyper}
 use Rattle.htl_model.specs.Selections.{is_root, root_modules, root_period}
 use Rattle.htl_model.specs.Tables.{Tables, task_worst}
 use Rattle.htl_model.specs.Meaning.{state, sense}
@@ -22,7 +23,7 @@ use Rattle.htl_walk.specs.Walk.{InForm, Meets, Point, walk_from}
 use Rattle.htl_walk.proofs.Work.{work_some}
 use Rattle.htl_smach.specs.declared.left.Left.{Left}
 use Rattle.htl_smach.specs.Rounds as rounds
-use Rattle.htl_smach.specs.Rounds.{Round, begun, no_round, told_from}
+use Rattle.htl_smach.specs.Rounds.{Round, no_round, told_from}
 use Rattle.htl_smach.proofs.Telling.{stands_begun}
 use Rattle.htl_object.specs.Ranges.{IsShort}
 use Rattle.htl_ecode.specs.declared.ecode.ECode.{ECode}
@@ -45,16 +46,16 @@ use Rattle.htl_machine.specs.declared.tally.Tally.{Tally}
 use Rattle.htl_machine.specs.Calls.{Seen, IsUpTo, GoesBy, number_by, schedule_by}
 use Rattle.htl_machine.specs.Casts.{IsCast, HaveWindows}
 use Rattle.htl_machine.specs.Doing.{path_lines}
-use Rattle.htl_machine.specs.Follows.{IsLoaded, AreInForm, DeskAt, DeskStands, DeskFollows, AreKept}
+use Rattle.htl_machine.specs.Follows.{IsLoaded, DeskAt, DeskStands, DeskFollows, AreKept}
 use Rattle.htl_machine.specs.Instant.{IsReadyAt}
 use Rattle.htl_machine.specs.Leaving.{due_by, Leaves}
 use Rattle.htl_machine.specs.Machines.{Counts}
 use Rattle.htl_machine.specs.Opening.{IsOpened, closing_text, first_records, beginning_text}
-use Rattle.htl_machine.specs.Plans.{with_records}
+use Rattle.htl_machine.specs.Plans.{with_records, AreSound}
 use Rattle.htl_machine.specs.Programs.{schedules_of, lines_of}
 use Rattle.htl_machine.specs.Readiness.{desk_replay, desk_at}
 use Rattle.htl_machine.specs.Recording.{Records}
-use Rattle.htl_machine.specs.Rounds.{list_of, period_or, plan_of, round_start, selection_of, turn_at}
+use Rattle.htl_machine.specs.Rounds.{list_of, period_or, plan_of, round_start, round_turn}
 use Rattle.htl_machine.specs.Running.{replay}
 use Rattle.htl_machine.specs.Sensors.{AreShown}
 use Rattle.htl_machine.specs.Texts.{record_text, some_records, old_records, records_of, list_texts, instant_text, text_before}
@@ -65,6 +66,7 @@ use Rattle.htl_machine.specs.Values.{values_before}
 use Rattle.htl_machine.specs.Wholes.{Whole, Passed}
 use Rattle.htl_machine.specs.Worlds.{all_reads, with_sensors}
 use Rattle.htl_machine.specs.ListTurns.{Turn, AreTurns, AreListed, turn_walk}
+use Rattle.htl_machine.specs.RunLists.{turn_at}
 use Rattle.htl_machine.proofs.Accepted.{accepted_is_loaded}
 use Rattle.htl_machine.proofs.Alone.{stands_nowhere}
 use Rattle.htl_machine.proofs.Calling.{IsWhole, counts_of, whole_of, before_of}
@@ -72,14 +74,14 @@ use Rattle.htl_machine.proofs.Composing.{instant_composed, counts_after, counts_
 use Rattle.htl_machine.proofs.Following.{instant_values}
 use Rattle.htl_machine.proofs.Desking.{desk_begins, desk_closes}
 use Rattle.htl_machine.proofs.Instants.{with_flags, desk_left, desk_told, desk_on, desk_over}
-use Rattle.htl_machine.proofs.Loaded.{root_there, some_period}
+use Rattle.htl_machine.proofs.Loaded.{some_period}
 use Rattle.htl_machine.proofs.Meeting.{next_is, switch_values, records_leave}
 use Rattle.htl_machine.proofs.Periodic.{begins_never}
 use Rattle.htl_machine.proofs.Premises.{first_left, first_over, cast_of}
-use Rattle.htl_machine.proofs.RoundLists.{length-lengths, loaded_begins, loaded_listed, loaded_turns}
+use Rattle.htl_machine.proofs.LoadedLists.{length-lengths, loaded_begins, loaded_begun, loaded_empty, loaded_keys, loaded_listed, loaded_turns, loaded_code}
 use Rattle.htl_machine.proofs.RoundServed.{round_windows}
 use Rattle.htl_machine.proofs.Showing.{sensors_are}
-use Rattle.htl_machine.proofs.Standing.{all_at, none_some, standing_at}
+use Rattle.htl_machine.proofs.Standing.{all_at, standing_at}
 use Rattle.htl_machine.proofs.TellingLoaded.{loaded_lines}
 use Rattle.htl_machine.proofs.Timely.{read_phase_tells}
 use Rattle.htl_machine.proofs.Wholly.{modes_read, counted, whole_instant}
@@ -125,10 +127,6 @@ abbrev IsScheduleOf : (ℕ → Turn) → Option ℕ → ℕ → List SInstr → 
 IsScheduleOf turn None now steps = steps ≡ []
 IsScheduleOf turn (Some q) zero steps = steps ≡ []
 IsScheduleOf turn (Some q) (suc n) steps = steps ≡ (turn n).plan.schedule
-
-nothing : {A : Type 0} (xs : List A) → (0 < length xs → ⊥) → xs ≡ []
-nothing [] h = refl
-nothing (x ∷ xs) h = absurd (h (omega arith))
 
 -- the S machine that stands nowhere is told nothing
 nowhere_told : (code : ECode) (ds : List Done) → desk_replay code ds no_round ≡ no_round
@@ -188,32 +186,39 @@ module _ (t : Tables) (code : ECode) (schedules : List (List SInstr)) (loaded : 
   turns : AreTurns t es (turn_at t schedules es)
   turns = loaded_turns t schedules loaded es within
 
-  listed : (q : ℕ) → root_period t ≡ Some q → AreListed (turn_at t schedules es)
+  listed : (q : ℕ) → hyper t ≡ Some q → AreListed (turn_at t schedules es)
   listed q root = loaded_listed t schedules loaded es within q root
 
-  no_root : root_period t ≡ None → root_modules t ≡ []
-  no_root e = ap (λ (us : List Module). places_from is_root 0 us) (nothing t.modules (λ some. let r = root_there t loaded.range some in none_some r.0 (sym e ∙ r.1)))
+  no_root : hyper t ≡ None → root_modules t ≡ []
+  no_root e = ap (λ (us : List Module). places_from is_root 0 us) (loaded_empty t schedules loaded e)
+
+  -- the round that begins where a list does
+  begun : (q now : ℕ) → hyper t ≡ Some q → (turn_at t schedules es now).frame + (turn_at t schedules es now).from ≡ now → (round_start q now ≡ now) × (turn_at t schedules es now ≡ round_turn t schedules es q now)
+  begun q now root at = loaded_begun t schedules loaded es within q root now at
+
+  root_of : (q : ℕ) → hyper t ≡ Some q → root_period t ≡ Some q
+  root_of q root = sym (loaded_keys t schedules loaded) ∙ root
 
   -- where a list begins there is a period, and it begins there
-  pub beginning : (now : ℕ) → begins t now ≡ true → (q : ℕ) × (root_period t ≡ Some q) × ((turn_at t schedules es now).frame + (turn_at t schedules es now).from ≡ now)
-  beginning now b = by (root_period t) refl
+  pub beginning : (now : ℕ) → begins t now ≡ true → (q : ℕ) × (hyper t ≡ Some q) × ((turn_at t schedules es now).frame + (turn_at t schedules es now).from ≡ now)
+  beginning now b = by (hyper t) refl
     where
-      by : (o : Option ℕ) → root_period t ≡ o → (q : ℕ) × (root_period t ≡ Some q) × ((turn now).frame + (turn now).from ≡ now)
+      by : (o : Option ℕ) → hyper t ≡ o → (q : ℕ) × (hyper t ≡ Some q) × ((turn now).frame + (turn now).from ≡ now)
       by None e = absurd (let z : begins t now ≡ false = begins_never t now (no_root e) in let y : ⊥ = cc in y)
       by (Some q) e = (q, e, eqb-true ((turn now).frame + (turn now).from) now (sym (loaded_begins t schedules loaded es within q e now) ∙ b))
 
   -- where none begins the list of the instant before goes on
-  going : (q now : ℕ) → root_period t ≡ Some q → begins t now ≡ false → (turn now).frame + (turn now).from ≢ now
+  going : (q now : ℕ) → hyper t ≡ Some q → begins t now ≡ false → (turn now).frame + (turn now).from ≢ now
   going q now root b = eqb-false ((turn now).frame + (turn now).from) now (sym (loaded_begins t schedules loaded es within q root now) ∙ b)
 
-  same_turn : (q n : ℕ) → root_period t ≡ Some q → begins t (suc n) ≡ false → turn (suc n) ≡ turn n
+  same_turn : (q n : ℕ) → hyper t ≡ Some q → begins t (suc n) ≡ false → turn (suc n) ≡ turn n
   same_turn q n root b = elim ((listed q root).on n) [ inl e ↦ e | inr e ↦ absurd (going q (suc n) root b e.0) ]
 
-  never_first : (q : ℕ) → root_period t ≡ Some q → begins t 0 ≡ false → ⊥
+  never_first : (q : ℕ) → hyper t ≡ Some q → begins t 0 ≡ false → ⊥
   never_first q root b = going q 0 root b (listed q root).first
 
   -- the S machine after an instant at which none begins
-  going_desk : (o : Option ℕ) → root_period t ≡ o → (now : ℕ) (steps : List SInstr) (desk d1 d2 : Round) (w0 w1 : Content) → begins t now ≡ false → DeskFollows (turn_at t schedules es) o now desk
+  going_desk : (o : Option ℕ) → hyper t ≡ o → (now : ℕ) (steps : List SInstr) (desk d1 d2 : Round) (w0 w1 : Content) → begins t now ≡ false → DeskFollows (turn_at t schedules es) o now desk
       → IsScheduleOf (turn_at t schedules es) o now steps → rounds.Stands desk steps → Records t desk w0 d1 w1 steps now → d2 ≡ desk_replay code (phase_path t code es now 3) d1 → rounds.Stands d2 steps
       → DeskFollows (turn_at t schedules es) o (suc now) d2
   going_desk None root now steps desk d1 d2 w0 w1 b f own st rec told st' =
@@ -237,7 +242,7 @@ module _ (t : Tables) (code : ECode) (schedules : List (List SInstr)) (loaded : 
       (desk_on t loaded.range es turn turns (suc n) d1 at (subst (λ z. rounds.Stands z u.plan.schedule) flagged (subst (rounds.Stands d2) is st')))
 
   -- its number goes on
-  going_on : (o : Option ℕ) → root_period t ≡ o → (now : ℕ) (sel : Option ℕ) → begins t now ≡ false → GoesBy (turn_at t schedules es) o now sel → GoesBy (turn_at t schedules es) o (suc now) sel
+  going_on : (o : Option ℕ) → hyper t ≡ o → (now : ℕ) (sel : Option ℕ) → begins t now ≡ false → GoesBy (turn_at t schedules es) o now sel → GoesBy (turn_at t schedules es) o (suc now) sel
   going_on None root now sel b g = g
   going_on (Some q) root zero sel b g = absurd (never_first q root b)
   going_on (Some q) root (suc n) sel b g = g ∙ ap (λ (u : Turn). Some u.node) (sym (same_turn q n root b))
@@ -245,7 +250,7 @@ module _ (t : Tables) (code : ECode) (schedules : List (List SInstr)) (loaded : 
   -- ---- where a list begins
 
   -- the list before is over
-  list_over : (o : Option ℕ) → root_period t ≡ o → (now : ℕ) (steps : List SInstr) (desk d1 : Round) (w0 w1 : Content) → begins t now ≡ true → DeskFollows (turn_at t schedules es) o now desk
+  list_over : (o : Option ℕ) → hyper t ≡ o → (now : ℕ) (steps : List SInstr) (desk d1 : Round) (w0 w1 : Content) → begins t now ≡ true → DeskFollows (turn_at t schedules es) o now desk
       → IsScheduleOf (turn_at t schedules es) o now steps → rounds.Stands desk steps → Records t desk w0 d1 w1 steps now → d1.running ≡ false
   list_over None root now steps desk d1 w0 w1 b f own st rec = first_over t now desk d1 w0 w1 f (subst (rounds.Stands desk) own st) (subst (λ c. Records t desk w0 d1 w1 c now) own rec)
   list_over (Some q) root zero steps desk d1 w0 w1 b f own st rec = first_over t 0 desk d1 w0 w1 f (subst (rounds.Stands desk) own st) (subst (λ c. Records t desk w0 d1 w1 c 0) own rec)
@@ -260,39 +265,40 @@ module _ (t : Tables) (code : ECode) (schedules : List (List SInstr)) (loaded : 
       ]
 
   -- the S machine after the instant
-  begun_desk : (q now : ℕ) (d2 : Round) → root_period t ≡ Some q → round_start (period_or (root_period t)) now ≡ now
-      → DeskAt (list_of (plan_of t schedules es now)) now (due_by (list_of (plan_of t schedules es now)) now now) (suc now - now) d2 → DeskFollows (turn_at t schedules es) (root_period t) (suc now) d2
-  begun_desk q now d2 root starts at =
+  begun_desk : (q now : ℕ) (d2 : Round) → hyper t ≡ Some q → turn_at t schedules es now ≡ round_turn t schedules es q now
+      → DeskAt (list_of (plan_of t schedules es now)) now (due_by (list_of (plan_of t schedules es now)) now now) (suc now - now) d2 → DeskFollows (turn_at t schedules es) (hyper t) (suc now) d2
+  begun_desk q now d2 root is at =
       subst (λ o. DeskFollows (turn_at t schedules es) o (suc now) d2) (sym root)
-      (subst (λ z. DeskStands (list_of (plan_of t schedules es z)) z (suc now) d2) (sym starts) (desk_closes (list_of (plan_of t schedules es now)) now now d2 at))
+      (subst (λ (u : Turn). DeskStands u.plan u.frame (suc now) d2) (sym is) (desk_closes (list_of (plan_of t schedules es now)) now now d2 at))
 
   -- its number
-  begun_goes : (q now sel : ℕ) → root_period t ≡ Some q → round_start (period_or (root_period t)) now ≡ now → sel ≡ selection_of_modes t (modes_at t es now) → GoesBy (turn_at t schedules es) (root_period t) (suc now) (Some sel)
-  begun_goes q now sel root starts is =
-      subst (λ o. GoesBy (turn_at t schedules es) o (suc now) (Some sel)) (sym root) (ap (λ z. Some z) is ∙ ap (λ z. Some (selection_of t (state t es z).stays)) (sym starts))
+  begun_goes : (q now sel : ℕ) → hyper t ≡ Some q → turn_at t schedules es now ≡ round_turn t schedules es q now → sel ≡ selection_of_modes t (modes_at t es now) → GoesBy (turn_at t schedules es) (hyper t) (suc now) (Some sel)
+  begun_goes q now sel root turned is =
+      subst (λ o. GoesBy (turn_at t schedules es) o (suc now) (Some sel)) (sym root) (ap (λ z. Some z) is ∙ ap (λ (u : Turn). Some u.node) (sym turned))
 
   -- what the code that begins it asks for
-  module _ (q now : ℕ) (root : root_period t ≡ Some q) (starts : round_start (period_or (root_period t)) now ≡ now) (takes : List ℕ) (takes_are : (i u : ℕ) → now ≤ u → get_or takes i 0 ≡ took t es i u)
+  module _ (q now : ℕ) (root : root_period t ≡ Some q) (starts : round_start q now ≡ now) (turned : turn_at t schedules es now ≡ round_turn t schedules es q now) (takes : List ℕ) (takes_are : (i u : ℕ) → now ≤ u → get_or takes i 0 ≡ took t es i u)
       (few : length (plan_of t schedules es now).schedule ≤ 4294967295) where
     abbrev p : Work
     p = plan_of t schedules es now
 
     abbrev first : Round
-    first = begun now p.jobs p.lengths
+    first = rounds.begun now p.jobs p.lengths
+
+    sound_rounds : AreSound t es (plan_of t schedules es) q
+    sound_rounds = subst (λ o. AreSound t es (plan_of t schedules es) (period_or o)) root kept_rounds.sound
 
     cast : IsCast t (state t es now).stays now now p.jobs
-    cast = subst (λ z. IsCast t (state t es z).stays z z (plan_of t schedules es z).jobs) starts (kept_rounds.sound.casts now)
+    cast = subst (λ z. IsCast t (state t es z).stays z z (plan_of t schedules es z).jobs) starts (sound_rounds.casts now)
 
     meets : Meets p.jobs p.lengths p.schedule
-    meets = subst (λ z. Meets (plan_of t schedules es z).jobs (plan_of t schedules es z).lengths (plan_of t schedules es z).schedule) starts (kept_rounds.sound.meets now)
+    meets = subst (λ z. Meets (plan_of t schedules es z).jobs (plan_of t schedules es z).lengths (plan_of t schedules es z).schedule) starts (sound_rounds.meets now)
 
     windows : HaveWindows p.jobs
     windows = round_windows p.jobs p.lengths p.schedule meets
 
-    in_form : InForm (length p.jobs) (period_or (root_period t)) p.schedule
-    in_form =
-        subst (λ z. InForm (length (plan_of t schedules es z).jobs) (period_or (root_period t)) (plan_of t schedules es z).schedule) starts
-        (subst (AreInForm t schedules es) (sym (ap period_or root)) (kept_rounds.form q root) now)
+    in_form : InForm (length p.jobs) q p.schedule
+    in_form = subst (λ z. InForm (length (plan_of t schedules es z).jobs) q (plan_of t schedules es z).schedule) starts (kept_rounds.form q root now)
 
     some : HaveLengths p.jobs p.lengths
     some = have_lengths t (modes_at t es now) es now loaded.range within
@@ -306,10 +312,10 @@ module _ (t : Tables) (code : ECode) (schedules : List (List SInstr)) (loaded : 
     told : DeskAt (list_of p) now 0 (suc now - now) (desk_replay code (phase_path t code es now 3) first)
     told =
         let opens : DeskAt (list_of p) now 0 0 first =
-        desk_begins p now (length-lengths t schedules es now) (some_steps (length p.jobs) (period_or (root_period t)) p.schedule in_form) (stands_begun now p.jobs p.lengths p.schedule some worst) in
+        desk_begins p now (length-lengths t schedules es now) (some_steps (length p.jobs) q p.schedule in_form) (stands_begun now p.jobs p.lengths p.schedule some worst) in
         let flagged : desk_replay code (phase_path t code es now 3) first ≡ with_flags first flags =
-        read_phase_tells t es turn turns now 0 0 first ((listed q root).each now) (subst (λ z. DeskAt (list_of (plan_of t schedules es z)) z 0 0 first) (sym starts) opens) (omega arith) code loaded.range reads
-        ∙ ap (λ z. with_flags first (tell_all (plan_of t schedules es z).jobs (all_reads t now (state t es now).stays) first.released)) starts in
+        read_phase_tells t es turn turns now 0 0 first ((listed q (loaded_keys t schedules loaded ∙ root)).each now) (subst (λ (u : Turn). DeskAt u.plan u.frame 0 0 first) (sym turned) opens) (omega arith) code loaded.range reads
+        ∙ ap (λ (u : Turn). with_flags first (tell_all u.plan.jobs (all_reads t now (state t es now).stays) first.released)) turned in
         let st : rounds.Stands (with_flags first flags) p.schedule = record { point = refl; work = λ k z. work_some p.jobs p.lengths k z; lengths = some; worst = worst; pending = λ k z. omega arith } in
         subst (DeskAt (list_of p) now 0 (suc now - now)) (sym flagged)
         (desk_told t (state t es now).stays now (list_of p) now 0 now first (standing_at t loaded.range es now) (omega arith) (omega arith) cast windows
@@ -322,7 +328,7 @@ module _ (t : Tables) (code : ECode) (schedules : List (List SInstr)) (loaded : 
           kept = kept_by takes (took t es) now takes_are p.jobs;
           some = some;
           worst = worst;
-          form = λ r are. (period_or (root_period t), subst (λ (js : List Job). InForm (length js) (period_or (root_period t)) p.schedule) (sym are) in_form);
+          form = λ r are. (q, subst (λ (js : List Job). InForm (length js) q p.schedule) (sym are) in_form);
           short = few;
           told = told;
         }
@@ -396,7 +402,7 @@ module _ (m : Seen) (es : List Event) (now : ℕ) (accepted : IsAccepted m.objec
 
   -- the lines of the parts are those of the instant
   pub lines_are_composed : (steps : List SInstr) (r : IsReadyAt m es now steps) (new : List ℕ)
-      → (list_texts m.object.tables (schedules_of m.object) es m.show (root_period m.object.tables) now).1 ≡ new
+      → (list_texts m.object.tables (schedules_of m.object) es m.show (hyper m.object.tables) now).1 ≡ new
       → (joined (record_text m.object.tables m.show r.plan (number_by m.selection)) (some_records r.plan r.start r.place (due_by r.plan r.start now - r.place))
       ++ path_lines m.object.tables m.object.ecode m.show now (phase_path m.object.tables m.object.ecode es now 1))
       ++ (closing_text m.object.tables m.object.ecode es m.show now ++ new)
@@ -408,9 +414,9 @@ module _ (m : Seen) (es : List Event) (now : ℕ) (accepted : IsAccepted m.objec
   -- the machine after the instant, counts and all
   pub next_up_to : (world : Content) (desk : Round) (e1 : Standing) (sel : Option ℕ) (old new : List Left) (start n : Tally)
       → Passed m.object.tables m.object.ecode (schedules_of m.object) es now m.held.world world e1
-      → DeskFollows (turn_at m.object.tables (schedules_of m.object) es) (root_period m.object.tables) (suc now) desk
-      → GoesBy (turn_at m.object.tables (schedules_of m.object) es) (root_period m.object.tables) (suc now) sel
-      → records_of m.object.tables (schedules_of m.object) es (root_period m.object.tables) now ≡ old ++ new
+      → DeskFollows (turn_at m.object.tables (schedules_of m.object) es) (hyper m.object.tables) (suc now) desk
+      → GoesBy (turn_at m.object.tables (schedules_of m.object) es) (hyper m.object.tables) (suc now) sel
+      → records_of m.object.tables (schedules_of m.object) es (hyper m.object.tables) now ≡ old ++ new
       → counts_of m ≡ record { jobs = start.jobs; e = start.e; s = start.s }
       → n ≡ counts_after old new (length (phase_path m.object.tables m.object.ecode es now 1)) (length (phase_path m.object.tables m.object.ecode es now 2)) (length (phase_path m.object.tables m.object.ecode es now 3)) start
       → IsUpTo (record m { held = record m.held { world = world; desk = desk }; standing = e1; selection = sel; jobs = n.jobs; e = n.e; s = n.s }) es (suc now)
@@ -440,38 +446,38 @@ module _ (m : Seen) (es : List Event) (now : ℕ) (accepted : IsAccepted m.objec
 
   -- ---- where no list begins
 
-  schedule_own : (steps idle : List SInstr) → steps ≡ schedule_by m.object idle m.selection → idle ≡ [] → IsScheduleOf (turn_at t schedules es) (root_period t) now steps
-  schedule_own steps idle by none = own (root_period t) now u.before.records.goes
+  schedule_own : (steps idle : List SInstr) → steps ≡ schedule_by m.object idle m.selection → idle ≡ [] → IsScheduleOf (turn_at t schedules es) (hyper t) now steps
+  schedule_own steps idle by none = own (hyper t) refl now u.before.records.goes
     where
-      own : (o : Option ℕ) (n : ℕ) → GoesBy (turn_at t schedules es) o n m.selection → IsScheduleOf (turn_at t schedules es) o n steps
-      own None n g = by ∙ ap (schedule_by m.object idle) g ∙ none
-      own (Some q) zero g = by ∙ ap (schedule_by m.object idle) g ∙ none
-      own (Some q) (suc n) g = by ∙ ap (schedule_by m.object idle) g
+      own : (o : Option ℕ) → hyper t ≡ o → (n : ℕ) → GoesBy (turn_at t schedules es) o n m.selection → IsScheduleOf (turn_at t schedules es) o n steps
+      own None e n g = by ∙ ap (schedule_by m.object idle) g ∙ none
+      own (Some q) e zero g = by ∙ ap (schedule_by m.object idle) g ∙ none
+      own (Some q) e (suc n) g = by ∙ ap (schedule_by m.object idle) g ∙ sym (loaded_code t schedules loaded es u.kept.within q e n)
 
   pub desk_goes_on : (steps idle : List SInstr) → steps ≡ schedule_by m.object idle m.selection → idle ≡ [] → IsReadyAt m es now steps → (d1 d2 : Round) (w1 : Content)
       → begins m.object.tables now ≡ false → Records m.object.tables m.held.desk m.held.world d1 w1 steps now
       → d2 ≡ desk_replay m.object.ecode (phase_path m.object.tables m.object.ecode es now 3) d1 → rounds.Stands d2 steps
-      → DeskFollows (turn_at m.object.tables (schedules_of m.object) es) (root_period m.object.tables) (suc now) d2
+      → DeskFollows (turn_at m.object.tables (schedules_of m.object) es) (hyper m.object.tables) (suc now) d2
   desk_goes_on steps idle by none r d1 d2 w1 b rec told st =
-      going_desk t code schedules loaded (modes_read t code schedules loaded accepted.spelled.code m.show) es u.kept.within (root_period t) refl now steps m.held.desk d1 d2 m.held.world w1 b
+      going_desk t code schedules loaded (modes_read t code schedules loaded accepted.spelled.code m.show) es u.kept.within (hyper t) refl now steps m.held.desk d1 d2 m.held.world w1 b
       u.before.records.desk (schedule_own steps idle by none) r.stands rec told st
 
-  pub selection_goes_on : begins m.object.tables now ≡ false → GoesBy (turn_at m.object.tables (schedules_of m.object) es) (root_period m.object.tables) (suc now) m.selection
-  selection_goes_on b = going_on t code schedules loaded (modes_read t code schedules loaded accepted.spelled.code m.show) es u.kept.within (root_period t) refl now m.selection b u.before.records.goes
+  pub selection_goes_on : begins m.object.tables now ≡ false → GoesBy (turn_at m.object.tables (schedules_of m.object) es) (hyper m.object.tables) (suc now) m.selection
+  selection_goes_on b = going_on t code schedules loaded (modes_read t code schedules loaded accepted.spelled.code m.show) es u.kept.within (hyper t) refl now m.selection b u.before.records.goes
 
   -- ---- where a list begins
 
   pub over : (steps idle : List SInstr) → steps ≡ schedule_by m.object idle m.selection → idle ≡ [] → IsReadyAt m es now steps → (d1 : Round) (w1 : Content)
       → begins m.object.tables now ≡ true → Records m.object.tables m.held.desk m.held.world d1 w1 steps now → d1.running ≡ false
   over steps idle by none r d1 w1 b rec =
-      list_over t code schedules loaded (modes_read t code schedules loaded accepted.spelled.code m.show) es u.kept.within (root_period t) refl now steps m.held.desk d1 m.held.world w1 b
+      list_over t code schedules loaded (modes_read t code schedules loaded accepted.spelled.code m.show) es u.kept.within (hyper t) refl now steps m.held.desk d1 m.held.world w1 b
       u.before.records.desk (schedule_own steps idle by none) r.stands rec
 
   -- there is a module
   pub begins_some : begins m.object.tables now ≡ true → 0 < length m.object.tables.modules
   begins_some b =
       let h = beginning t code schedules loaded (modes_read t code schedules loaded accepted.spelled.code m.show) es u.kept.within now b in
-      (some_period t h.0 loaded.range h.1).1
+      (some_period t h.0 loaded.range (root_of t code schedules loaded (modes_read t code schedules loaded accepted.spelled.code m.show) es u.kept.within h.0 h.1)).1
 
   takes_are : (i v : ℕ) → now ≤ v → get_or m.held.takes i 0 ≡ took t es i v
   takes_are i v later = elim (order i (length t.invs)) [
@@ -484,61 +490,62 @@ module _ (m : Seen) (es : List Event) (now : ℕ) (accepted : IsAccepted m.objec
   to_begin b =
       let reads = modes_read t code schedules loaded accepted.spelled.code m.show in
       let h = beginning t code schedules loaded reads es u.kept.within now b in
-      is_to_begin t code schedules loaded reads es u.kept.within h.0 now h.1 (omega (arith, h.2)) m.held.takes takes_are (short_at m.object.schedules accepted.spelled.formed.ranges.short (selection_of_modes t (modes_at t es now)))
+      let g = begun t code schedules loaded reads es u.kept.within h.0 now h.1 h.2 in
+      is_to_begin t code schedules loaded reads es u.kept.within h.0 now (root_of t code schedules loaded reads es u.kept.within h.0 h.1) g.0 g.1 m.held.takes takes_are (short_at m.object.schedules accepted.spelled.formed.ranges.short (selection_of_modes t (modes_at t es now)))
 
   pub desk_begins_so : (d2 : Round) → begins m.object.tables now ≡ true
       → DeskAt (list_of (plan_of m.object.tables (schedules_of m.object) es now)) now (due_by (list_of (plan_of m.object.tables (schedules_of m.object) es now)) now now) (suc now - now) d2
-      → DeskFollows (turn_at m.object.tables (schedules_of m.object) es) (root_period m.object.tables) (suc now) d2
+      → DeskFollows (turn_at m.object.tables (schedules_of m.object) es) (hyper m.object.tables) (suc now) d2
   desk_begins_so d2 b at =
       let reads = modes_read t code schedules loaded accepted.spelled.code m.show in
       let h = beginning t code schedules loaded reads es u.kept.within now b in
-      begun_desk t code schedules loaded reads es u.kept.within h.0 now d2 h.1 (omega (arith, h.2)) at
+      begun_desk t code schedules loaded reads es u.kept.within h.0 now d2 h.1 (begun t code schedules loaded reads es u.kept.within h.0 now h.1 h.2).1 at
 
   pub selection_begins : (sel : ℕ) → begins m.object.tables now ≡ true → sel ≡ selection_of_modes m.object.tables (modes_at m.object.tables es now)
-      → GoesBy (turn_at m.object.tables (schedules_of m.object) es) (root_period m.object.tables) (suc now) (Some sel)
+      → GoesBy (turn_at m.object.tables (schedules_of m.object) es) (hyper m.object.tables) (suc now) (Some sel)
   selection_begins sel b is =
       let reads = modes_read t code schedules loaded accepted.spelled.code m.show in
       let h = beginning t code schedules loaded reads es u.kept.within now b in
-      begun_goes t code schedules loaded reads es u.kept.within h.0 now sel h.1 (omega (arith, h.2)) is
+      begun_goes t code schedules loaded reads es u.kept.within h.0 now sel h.1 (begun t code schedules loaded reads es u.kept.within h.0 now h.1 h.2).1 is
 
   -- ---- what the instant owes, in both cases
 
   owed : (steps idle : List SInstr) → steps ≡ schedule_by m.object idle m.selection → idle ≡ [] → (r : IsReadyAt m es now steps)
-      → owed_before (turn_at t schedules es) (root_period t) now ≡ some_records r.plan r.start r.place (due_by r.plan r.start now - r.place)
+      → owed_before (turn_at t schedules es) (hyper t) now ≡ some_records r.plan r.start r.place (due_by r.plan r.start now - r.place)
   owed steps idle by none r =
-      sym (owed_are (turn_at t schedules es) (root_period t) now steps m.held.desk u.before.records.desk (schedule_own steps idle by none) r.plan r.start r.place r.offset r.same r.was)
+      sym (owed_are (turn_at t schedules es) (hyper t) now steps m.held.desk u.before.records.desk (schedule_own steps idle by none) r.plan r.start r.place r.offset r.same r.was)
 
   pub records_go_on : (steps idle : List SInstr) → steps ≡ schedule_by m.object idle m.selection → idle ≡ [] → (r : IsReadyAt m es now steps) → begins m.object.tables now ≡ false
-      → records_of m.object.tables (schedules_of m.object) es (root_period m.object.tables) now ≡ some_records r.plan r.start r.place (due_by r.plan r.start now - r.place) ++ []
-  records_go_on steps idle by none r b = by_root (root_period t) refl ∙ ap (λ (ls : List Left). ls ++ []) (owed steps idle by none r)
+      → records_of m.object.tables (schedules_of m.object) es (hyper m.object.tables) now ≡ some_records r.plan r.start r.place (due_by r.plan r.start now - r.place) ++ []
+  records_go_on steps idle by none r b = by_root (hyper t) refl ∙ ap (λ (ls : List Left). ls ++ []) (owed steps idle by none r)
     where
-      by_root : (o : Option ℕ) → root_period t ≡ o → records_of t schedules es (root_period t) now ≡ owed_before (turn_at t schedules es) (root_period t) now ++ []
+      by_root : (o : Option ℕ) → hyper t ≡ o → records_of t schedules es (hyper t) now ≡ owed_before (turn_at t schedules es) (hyper t) now ++ []
       by_root None e = records_alone t schedules es now e ∙ sym (ap (λ o. owed_before (turn_at t schedules es) o now ++ []) e)
       by_root (Some q) e =
           records_going t schedules es now q e (going t code schedules loaded (modes_read t code schedules loaded accepted.spelled.code m.show) es u.kept.within q now e b)
           ∙ sym (ap (λ o. owed_before (turn_at t schedules es) o now ++ []) e)
 
   pub records_begin : (steps idle : List SInstr) → steps ≡ schedule_by m.object idle m.selection → idle ≡ [] → (r : IsReadyAt m es now steps) → begins m.object.tables now ≡ true
-      → records_of m.object.tables (schedules_of m.object) es (root_period m.object.tables) now
+      → records_of m.object.tables (schedules_of m.object) es (hyper m.object.tables) now
       ≡ some_records r.plan r.start r.place (due_by r.plan r.start now - r.place) ++ first_records m.object.tables (schedules_of m.object) es now
   records_begin steps idle by none r b =
       let h = beginning t code schedules loaded (modes_read t code schedules loaded accepted.spelled.code m.show) es u.kept.within now b in
-      records_beginning t schedules es now h.0 h.1 (omega (arith, h.2))
+      records_beginning t schedules es now h.0 h.1 (begun t code schedules loaded (modes_read t code schedules loaded accepted.spelled.code m.show) es u.kept.within h.0 now h.1 h.2).1
       ∙ sym (ap (λ o. owed_before (turn_at t schedules es) o now ++ first_records t schedules es now) h.1)
       ∙ ap (λ (ls : List Left). ls ++ first_records t schedules es now) (owed steps idle by none r)
 
   -- the lines of the list that begins; none where none does
-  pub text_goes_on : begins m.object.tables now ≡ false → (list_texts m.object.tables (schedules_of m.object) es m.show (root_period m.object.tables) now).1 ≡ []
-  text_goes_on b = by_root (root_period t) refl
+  pub text_goes_on : begins m.object.tables now ≡ false → (list_texts m.object.tables (schedules_of m.object) es m.show (hyper m.object.tables) now).1 ≡ []
+  text_goes_on b = by_root (hyper t) refl
     where
-      by_root : (o : Option ℕ) → root_period t ≡ o → (list_texts t schedules es m.show (root_period t) now).1 ≡ []
+      by_root : (o : Option ℕ) → hyper t ≡ o → (list_texts t schedules es m.show (hyper t) now).1 ≡ []
       by_root None e = ap (λ (z : List ℕ × List ℕ). z.1) (texts_alone t code schedules es m.show now e)
       by_root (Some q) e =
           ap (λ (z : List ℕ × List ℕ). z.1)
           (texts_going t code schedules es m.show now q e (going t code schedules loaded (modes_read t code schedules loaded accepted.spelled.code m.show) es u.kept.within q now e b))
 
   pub text_begins : begins m.object.tables now ≡ true
-      → (list_texts m.object.tables (schedules_of m.object) es m.show (root_period m.object.tables) now).1 ≡ beginning_text m.object.tables (schedules_of m.object) es m.show now
+      → (list_texts m.object.tables (schedules_of m.object) es m.show (hyper m.object.tables) now).1 ≡ beginning_text m.object.tables (schedules_of m.object) es m.show now
   text_begins b =
       let h = beginning t code schedules loaded (modes_read t code schedules loaded accepted.spelled.code m.show) es u.kept.within now b in
-      ap (λ (z : List ℕ × List ℕ). z.1) (texts_beginning t code schedules es m.show now h.0 h.1 (omega (arith, h.2)))
+      ap (λ (z : List ℕ × List ℕ). z.1) (texts_beginning t code schedules es m.show now h.0 h.1 (begun t code schedules loaded (modes_read t code schedules loaded accepted.spelled.code m.show) es u.kept.within h.0 now h.1 h.2).1)

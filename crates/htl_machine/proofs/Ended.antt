@@ -5,7 +5,7 @@ use Rattle.htl_edge.specs.Content.{Puts}
 use Rattle.htl_edge.proofs.Puts.{Puts-second}
 use Rattle.htl_model.specs.declared.event.Event.{Event}
 use Rattle.htl_model.specs.Lists.{joined}
-use Rattle.htl_model.specs.Selections.{root_period}
+use Rattle.htl_model.specs.Frames.{hyper}
 use Rattle.htl_model.specs.Tables.{Tables}
 use Rattle.htl_walk.specs.declared.schedule.SInstr.{SInstr}
 use Rattle.htl_walk.specs.declared.schedule.Schedule.{Schedule}
@@ -45,12 +45,12 @@ module _ (m : Seen) (es : List Event) (now : ℕ) (accepted : IsAccepted m.objec
     pub open_failed : {T S E F : Type 0} (w0 w : Option (List ℕ)) (f0 f : ℕ) (x : E) (y : F)
         → Opens {T = T} {E = E} m.object.tables m.object.ecode es m.show (number_by m.selection) m.held.desk steps now w0 w f0 f (Err x) → Puts {T = S} {E = F} w0 w f0 f (lines_of m.object es m.show now) (Err y)
     open_failed {S = S} {F = F} w0 w f0 f x y opens =
-        let rest = (list_texts t schedules es m.show (root_period t) now).1 in
+        let rest = (list_texts t schedules es m.show (hyper t) now).1 in
         subst (λ z. Puts {T = S} {E = F} w0 w f0 f z (Err y)) (lines_are_composed m es now accepted read u steps r rest refl)
         (then_more first (closing_text t code es m.show now ++ rest) w0 w f0 f x y (opens r.plan r.start r.place r.offset r.same r.past r.few r.was))
 
     closed : {T S E F : Type 0} (new : List ℕ) (w0 w1 w : Option (List ℕ)) (f0 f1 f : ℕ) (x : T) (result : Result S F)
-        → (list_texts m.object.tables (schedules_of m.object) es m.show (root_period m.object.tables) now).1 ≡ new
+        → (list_texts m.object.tables (schedules_of m.object) es m.show (hyper m.object.tables) now).1 ≡ new
         → Opens {T = T} {E = E} m.object.tables m.object.ecode es m.show (number_by m.selection) m.held.desk steps now w0 w1 f0 f1 (Ok x)
         → Puts {T = S} {E = F} w1 w f1 f (closing_text m.object.tables m.object.ecode es m.show now ++ new) result → Puts {T = S} {E = F} w0 w f0 f (lines_of m.object es m.show now) result
     closed {S = S} {F = F} new w0 w1 w f0 f1 f x result is opens puts =

@@ -10,7 +10,7 @@ use Rattle.htl_model.specs.declared.parts.Comm.{Comm}
 use Rattle.htl_model.specs.declared.parts.Inv.{Inv}
 use Rattle.htl_model.specs.declared.state.State.{State}
 use Rattle.htl_model.specs.Ranges.{FitsType}
-use Rattle.htl_model.specs.Selections.{root_period}
+use Rattle.htl_model.specs.Frames.{hyper}
 use Rattle.htl_model.specs.Tables.{Tables}
 use Rattle.htl_model.specs.Meaning.{sense, before}
 use Rattle.htl_walk.specs.declared.job.Job.{Job}
@@ -22,14 +22,15 @@ use Rattle.htl_machine.specs.Values.{Stands, HasRead, ValuesFollow, HasPlaces}
 use Rattle.htl_refine.specs.Records.{took, lengths_of, IsTookWithin, AreTookWithin}
 use Rattle.htl_refine.specs.Records.{Round as Plan}
 use Rattle.htl_machine.specs.Plans.{finished_before, next_world}
-use Rattle.htl_machine.specs.Rounds.{standing_of, selection_of, plan_of, round_start, period_or, turn_at, list_of}
+use Rattle.htl_machine.specs.Rounds.{standing_of, selection_of, plan_of}
 use Rattle.htl_machine.specs.Follows.{Held, reading_of, DeskStands, DeskFollows, UpTo, Follows, IsLoaded, at_reading, shown_as}
 use Rattle.htl_machine.specs.ListTurns.{Turn, left_before, finished_by}
+use Rattle.htl_machine.specs.RunLists.{turn_by, turn_at}
 use Rattle.htl_machine.proofs.Shaping.{has_places}
 use Rattle.htl_machine.proofs.ListValues.{read_before, values_carried}
-use Rattle.htl_machine.proofs.RoundLists.{loaded_turns}
+use Rattle.htl_machine.proofs.LoadedLists.{loaded_run, loaded_turns}
 use Rattle.htl_machine.proofs.Events.{Alike, state_same, values_alike, reading_more, sense_at, sense_sense, took_at, took_sense}
-use Rattle.htl_machine.proofs.Plain.{down}
+use Rattle.htl_machine.proofs.RunsAgree.{list_same}
 
 pub within_more : (t : Tables) (es : List Event) (e : Event) → AreTookWithin t es → IsTookWithin t e → AreTookWithin t (es ++ e ∷ [])
 within_more t [] e a b = (b, tt)
@@ -52,22 +53,24 @@ module _ (t : Tables) (schedules : List (List SInstr)) (es fs : List Event) (now
         ap (λ ns. P (plan_of t schedules es s).jobs ns (plan_of t schedules es s).schedule) (lengths (plan_of t schedules es s).jobs)
         ∙ ap₂ (λ js c. P js (lengths_of t fs s js) c) (jobs_same s h) (code_same s h)
 
-    -- so each list that stands before then is the same
-    pub turn_same : (n : ℕ) → n < now → turn_at t schedules es n ≡ turn_at t schedules fs n
-    turn_same n h =
-        let period = period_or (root_period t) in
-        let s = round_start period n in
-        let early : s < now = omega (arith, h, down period n) in
-        ap₂ (λ (p : Plan) (z : State). let u : Turn = record { frame = s; list = 0; from = 0; to = period; node = selection_of t z.stays; plan = list_of p; earlier = [] } in u) (plan_same s early) (state_same t es fs now s alike early)
+-- so each list that stands before then is the same
+module _ (t : Tables) (schedules : List (List SInstr)) (es fs : List Event) (now : ℕ) (alike : Alike t es fs now) (loaded : IsLoaded t schedules) (within : AreTookWithin t es)
+    (tooks : (i u : ℕ) → took t es i u ≡ took t fs i u) where
+  pub turn_same : (n : ℕ) → n < now → turn_at t schedules es n ≡ turn_at t schedules fs n
+  turn_same n h = by (hyper t) refl
+    where
+      by : (o : Option ℕ) → hyper t ≡ o → turn_by o t schedules es n ≡ turn_by o t schedules fs n
+      by None e = refl
+      by (Some p) e = list_same t schedules es fs now (loaded_run t schedules loaded es within p e) alike n h tooks
 
-    finished_alike : (n i : ℕ) → n ≤ now → finished_before (turn_at t schedules es) n i ≡ finished_before (turn_at t schedules fs) n i
-    finished_alike zero i h = refl
-    finished_alike (suc n) i h = ap (λ (u : Turn). finished_by u (left_before u (suc n)) i) (turn_same n (omega (arith, h)))
+  finished_alike : (n i : ℕ) → n ≤ now → finished_before (turn_at t schedules es) n i ≡ finished_before (turn_at t schedules fs) n i
+  finished_alike zero i h = refl
+  finished_alike (suc n) i h = ap (λ (u : Turn). finished_by u (left_before u (suc n)) i) (turn_same n (omega (arith, h)))
 
-    desk_alike : (root : Option ℕ) (n : ℕ) (r : Round) → n ≤ now → DeskFollows (turn_at t schedules es) root n r → DeskFollows (turn_at t schedules fs) root n r
-    desk_alike None n r h f = f
-    desk_alike (Some period) zero r h f = f
-    desk_alike (Some period) (suc n) r h f = subst (λ (u : Turn). DeskStands u.plan u.frame (suc n) r) (turn_same n (omega (arith, h))) f
+  desk_alike : (root : Option ℕ) (n : ℕ) (r : Round) → n ≤ now → DeskFollows (turn_at t schedules es) root n r → DeskFollows (turn_at t schedules fs) root n r
+  desk_alike None n r h f = f
+  desk_alike (Some period) zero r h f = f
+  desk_alike (Some period) (suc n) r h f = subst (λ (u : Turn). DeskStands u.plan u.frame (suc n) r) (turn_same n (omega (arith, h))) f
 
 -- ---- what a machine keeps of its values with other events
 
@@ -79,7 +82,7 @@ module _ (t : Tables) (schedules : List (List SInstr)) (loaded : IsLoaded t sche
   values_same : (fs : List Event) (now : ℕ) (w : Content) → Alike t es fs now → ((i u : ℕ) → took t es i u ≡ took t fs i u)
       → ValuesFollow t es now (finished_before (turn_at t schedules es) now) w → ValuesFollow t fs now (finished_before (turn_at t schedules fs) now) w
   values_same fs now w alike tooks f =
-      subst (λ z. ValuesFollow t fs now z w) (fun_ext (λ i. finished_alike t schedules es fs now alike tooks now i (omega arith)))
+      subst (λ z. ValuesFollow t fs now z w) (fun_ext (λ i. finished_alike t schedules es fs now alike loaded within tooks now i (omega arith)))
       (values_alike t loaded.range loaded.kept es fs now (finished_before (turn_at t schedules es) now) w alike (λ i x s st fin. all_read now i x s st fin) f)
 
   -- a reading
@@ -101,7 +104,7 @@ module _ (t : Tables) (schedules : List (List SInstr)) (loaded : IsLoaded t sche
               takes = λ i u k h. took_at t es to i u ∙ up.takes i u k (omega (arith, reading, up.later));
               values = values_same fs to m.world alike tooks up.values;
               shape = up.shape;
-              desk = desk_alike t schedules es fs to alike tooks (root_period t) to m.desk (omega arith) up.desk;
+              desk = desk_alike t schedules es fs to alike loaded within tooks (hyper t) to m.desk (omega arith) up.desk;
             };
       }
 
@@ -124,7 +127,7 @@ module _ (t : Tables) (schedules : List (List SInstr)) (loaded : IsLoaded t sche
               takes = λ i u k h. took_sense t es d i u y ∙ f.up_to.takes i u k (omega (arith, more));
               values = values_same fs m.reading m.world alike tooks f.up_to.values;
               shape = f.up_to.shape;
-              desk = desk_alike t schedules es fs m.reading alike tooks (root_period t) m.reading m.desk (omega arith) f.up_to.desk;
+              desk = desk_alike t schedules es fs m.reading alike loaded within tooks (hyper t) m.reading m.desk (omega arith) f.up_to.desk;
             };
       }
     where

@@ -39,7 +39,7 @@ pub mod TellingLists
 pub mod Tops
 pub mod Windows
 pub mod Rounding
-pub mod RoundLists
+pub mod LoadedLists
 pub mod ListValues
 pub mod ListsSoFar
 pub mod Tying
@@ -86,6 +86,7 @@ pub mod Composing
 pub mod Putting
 pub mod Doing
 pub mod Printing
+pub mod OneList
 pub mod Openings
 pub mod Closings
 pub mod Agreeing

@@ -14,6 +14,7 @@ use Rattle.htl_model.proofs.SelectionLaws.{modes_some}
 use Rattle.htl_form.proofs.PartLaws.{none_some}
 use Rattle.htl_form.proofs.Places.{all_at, item_at}
 use Rattle.htl_walk.specs.declared.schedule.SInstr.{SInstr}
+use Rattle.htl_walk.specs.Feasible.{AreFeasible}
 use Rattle.htl_walk.specs.Jobs.{abstract_jobs}
 use Rattle.htl_walk.specs.Walk.{InForm, IsAccepted}
 use Rattle.htl_refine.specs.ConcreteJobs.{concrete_jobs}
@@ -135,5 +136,5 @@ module _ (t : Tables) (schedules : List (List SInstr)) (range : AreInRange t) (k
         form = λ period root. rounds_in_form es period root;
       }
 
-  pub loaded : IsLoaded t schedules
-  loaded = record { range = range; kept = kept_apart t 12 first_rules; rounds = λ es within. every_round es within }
+  pub loaded : AreFeasible t schedules → IsLoaded t schedules
+  loaded feasible = record { range = range; kept = kept_apart t 12 first_rules; rules = kept; feasible = feasible; rounds = λ es within. every_round es within }

@@ -14,7 +14,7 @@ use Rattle.htl_machine.specs.Worlds.{effects, all_writes, with_sensors}
 use Rattle.htl_machine.proofs.Tying.{replay}
 use Rattle.htl_refine.specs.Records.{AreTookWithin}
 use Rattle.htl_machine.specs.Plans.{with_records, next_world}
-use Rattle.htl_machine.specs.Rounds.{turn_at}
+use Rattle.htl_machine.specs.RunLists.{turn_at}
 use Rattle.htl_machine.specs.Follows.{Held, DeskStands, UpTo, IsLoaded}
 use Rattle.htl_machine.specs.Leaving.{Leaves}
 use Rattle.htl_machine.specs.Recording.{Records}
@@ -25,7 +25,7 @@ use Rattle.htl_machine.proofs.Desking.{desk_opens}
 use Rattle.htl_machine.proofs.Standing.{standing_before}
 use Rattle.htl_machine.proofs.FrameValues.{count_grows}
 use Rattle.htl_machine.proofs.ListValues.{values_now}
-use Rattle.htl_machine.proofs.RoundLists.{loaded_turns}
+use Rattle.htl_machine.proofs.LoadedLists.{loaded_turns}
 use Rattle.htl_machine.proofs.Tying.{addresses, write_phase}
 use Rattle.htl_machine.proofs.Pathing.{after_writes, after_switches, after_reads, path_does}
 

@@ -30,7 +30,7 @@ any_same f false us all some = list_any_none f us all
 any_same f true [] all some = absurd (omega (arith, some))
 any_same f true (u ∷ us) all some = ap (λ c. c || list_any f us) (all 0 u (omega arith))
 
-some_roots : (t : Tables) (q : ℕ) → root_period t ≡ Some q → 0 < length (root_modules t)
+pub some_roots : (t : Tables) (q : ℕ) → root_period t ≡ Some q → 0 < length (root_modules t)
 some_roots t q is = by_roots (root_modules t) refl
   where
     by_roots : (us : List ℕ) → root_modules t ≡ us → 0 < length (root_modules t)

@@ -14,7 +14,7 @@ use Rattle.htl_model.specs.Lines.{lines_text}
 use Rattle.htl_model.specs.Lists.{joined, up_to}
 use Rattle.htl_model.specs.Meaning.{state, before, stay_of, value_in, mode_in, value_line, mode_line, value_lines, same_mode}
 use Rattle.htl_model.specs.Ranges.{AreInRange, IsModeThat, parent_of}
-use Rattle.htl_model.specs.Selections.{root_period}
+use Rattle.htl_model.specs.Frames.{hyper}
 use Rattle.htl_model.specs.Tables.{Tables, mode_period}
 use Rattle.htl_walk.specs.declared.schedule.SInstr.{SInstr}
 use Rattle.htl_smach.specs.Rounds as rounds
@@ -67,6 +67,7 @@ use Rattle.htl_machine.proofs.TellingText.{records_are}
 use Rattle.htl_machine.proofs.Wholly.{modes_read}
 use Rattle.htl_machine.specs.Quiet.{IsQuiet, AreQuiet, IsEmpty, PassOver}
 use Rattle.htl_machine.specs.Rounds.{period_or, round_start}
+use Rattle.htl_machine.proofs.LoadedLists.{loaded_begun, loaded_keys}
 use Rattle.htl_machine.proofs.Idle.{IsIdle, idle, round_ends}
 
 -- ---- where nothing changes there are no lines
@@ -183,12 +184,13 @@ module _ (m : Seen) (es : List Event) (n : ℕ) (accepted : IsAccepted m.object)
   never : begins m.object.tables (suc n) ≡ true → ⊥
   never b =
       let h = beginning t code schedules loaded reads es u.kept.within (suc n) b in
-      let p = period_or (root_period t) in
-      let regular : AreRegular t es (period_or (root_period t)) = (loaded.rounds es u.kept.within).regular in
+      let p = h.0 in
+      let regular : AreRegular t es p = subst (λ o. AreRegular t es (period_or o)) (sym (loaded_keys t schedules loaded) ∙ h.1) (loaded.rounds es u.kept.within).regular in
+      let start = (loaded_begun t schedules loaded es u.kept.within p h.1 (suc n) h.2).0 in
       let inside = begins_some m es (suc n) accepted read u b in
       let ends : suc n ≡ round_start p n + p = elim (apart (suc n) (p * (n / p) + p)) [
         | inl e ↦ e
-        | inr d ↦ absurd (omega (arith, h.2, goes_on p n regular.some d, down p n))
+        | inr d ↦ absurd (omega (arith, start, goes_on p n regular.some d, down p n))
       ] in
       by p regular inside ends (stay_of (state t es n).stays 0) refl
     where
@@ -242,7 +244,7 @@ module _ (m : Seen) (es : List Event) (n : ℕ) (accepted : IsAccepted m.object)
   abbrev tally : Tally
   tally = record { jobs = m.jobs; e = m.e; s = m.s }
 
-  none_left : records_of m.object.tables (schedules_of m.object) es (root_period m.object.tables) (suc n) ≡ []
+  none_left : records_of m.object.tables (schedules_of m.object) es (hyper m.object.tables) (suc n) ≡ []
   none_left =
       records_go_on m es (suc n) accepted read u steps [] refl refl is_ready none_begins
       ∙ ap (λ k. some_records is_ready.plan is_ready.start is_ready.place k ++ []) none_due
@@ -288,7 +290,7 @@ module _ (m : Seen) (es : List Event) (n : ℕ) (accepted : IsAccepted m.object)
       ∙ no_change_lines t (shows_values m.show) (value_lines t es (suc n)) none_written
 
   pub no_records : records m.object.tables (schedules_of m.object) es (suc n) ≡ []
-  no_records = no_items _ (records t schedules es (suc n)) (records_are t schedules es (loaded_rounds t schedules es loaded u.kept.within) (suc n) ∙ none_left)
+  no_records = no_items _ (records t schedules es (suc n)) (records_are t schedules es (loaded_rounds t schedules es loaded u.kept.within) (loaded_keys t schedules loaded) (suc n) ∙ none_left)
 
   pub no_path : e_path m.object.tables m.object.ecode es (suc n) ≡ []
   no_path = still.path

@@ -1,20 +1,18 @@
 -- Before an instant the S machine stands ready, by the list whose number the machine keeps.
-use Rattle.std.proofs.Common.{◌≡◌, ◌≤◌, ◌<◌, ℕ, zero, suc, ◌-◌, false, List, [], ◌∷◌, length, get_or, Option, Some, None, IfSome, refl, sym, ap, ◌∙◌, subst, arith}
+use Rattle.std.proofs.Common.{◌≡◌, ◌≤◌, ◌<◌, ℕ, zero, suc, ◌-◌, false, List, [], length, get_or, Option, Some, None, IfSome, refl, sym, ap, ◌∙◌, subst, arith}
 use Rattle.std.proofs.lemmas.Option.{get_or_from_slice_get}
 use Rattle.htl_emach.specs.Contents.{Content}
 use Rattle.htl_form.proofs.Places.{all_at, item_at}
 use Rattle.htl_object.proofs.OneRound.{schedules_are}
 use Rattle.htl_object.specs.Accepted.{IsAccepted}
 use Rattle.htl_model.specs.declared.event.Event.{Event}
-use Rattle.htl_model.specs.declared.parts.Module.{Module}
 use Rattle.htl_model.specs.Lists.{joined}
 use Rattle.htl_model.specs.Meaning.{state}
-use Rattle.htl_model.specs.Ranges.{AreInRange}
-use Rattle.htl_model.specs.Selections.{root_period}
+use Rattle.htl_model.specs.Frames.{hyper}
 use Rattle.htl_model.specs.Tables.{Tables}
 use Rattle.htl_object.specs.declared.object.Object.{Object}
 use Rattle.htl_object.specs.Ranges.{IsShort}
-use Rattle.htl_refine.specs.Records.{modes_at}
+use Rattle.htl_refine.specs.Records.{modes_at, AreTookWithin}
 use Rattle.htl_refine.proofs.Inherit.{map_at}
 use Rattle.htl_refine.proofs.RootSelection.{below_count}
 use Rattle.htl_refine.proofs.StateLaws.{states_are_selections}
@@ -30,16 +28,18 @@ use Rattle.htl_machine.specs.Leaving.{due_by}
 use Rattle.htl_machine.specs.Plans.{with_records}
 use Rattle.htl_machine.specs.Programs.{schedules_of}
 use Rattle.htl_machine.specs.Recording.{AreOf}
-use Rattle.htl_machine.specs.Rounds.{selection_of, turn_at}
+use Rattle.htl_machine.specs.Rounds.{selection_of, round_start}
 use Rattle.htl_machine.specs.Texts.{record_text, list_texts, some_records}
 use Rattle.htl_machine.specs.ListTurns.{Turn, AreTurns, turn_walk, left_before}
+use Rattle.htl_machine.specs.RunLists.{turn_at}
+use Rattle.htl_model.specs.Selections.{root_period}
 use Rattle.htl_machine.proofs.Accepted.{accepted_is_loaded}
 use Rattle.htl_machine.proofs.Alone.{records_nothing}
 use Rattle.htl_machine.proofs.Desking.{desk_opens}
-use Rattle.htl_machine.proofs.Loaded.{some_period, root_there}
+use Rattle.htl_machine.proofs.Loaded.{some_period}
 use Rattle.htl_machine.proofs.Meeting.{records_are}
 use Rattle.htl_machine.proofs.Premises.{no_list, stands_told, first_desk, first_recorded}
-use Rattle.htl_machine.proofs.RoundLists.{loaded_turns, loaded_listed, loaded_of}
+use Rattle.htl_machine.proofs.LoadedLists.{loaded_keys, loaded_listed, loaded_of, loaded_round, loaded_turns, loaded_code}
 use Rattle.htl_machine.proofs.FrameValues.{count_grows}
 use Rattle.htl_machine.proofs.Standing.{none_some}
 
@@ -58,28 +58,21 @@ stands_none =
 told_none : (now : ℕ) → IsTold no_round now
 told_none now p e = absurd (let z : ⊥ = cc in z)
 
-no_modules : (t : Tables) → AreInRange t → root_period t ≡ None → t.modules ≡ []
-no_modules t range root = by t.modules refl
-  where
-    by : (us : List Module) → t.modules ≡ us → t.modules ≡ []
-    by [] e = e
-    by (u ∷ us) e =
-        let count : length t.modules ≡ suc (length us) = ap length e in
-        let r = root_there t range (omega (arith, count)) in
-        none_some r.0 (sym root ∙ r.1)
-
--- the selection that runs has a schedule
-selected_below : (o : Object) (es : List Event) (s q : ℕ) → IsAccepted o → root_period o.tables ≡ Some q → selection_of o.tables (state o.tables es s).stays < length o.schedules
-selected_below o es s q accepted root =
-    let ranges = accepted.spelled.formed.ranges in
-    let range = ranges.tables in
+-- the node whose list runs has a list
+node_below : (o : Object) (es : List Event) (n q : ℕ) → IsAccepted o → AreTookWithin o.tables es → hyper o.tables ≡ Some q → (turn_at o.tables (schedules_of o) es n).node < length o.schedules
+node_below o es n q accepted within e =
+    let loaded = accepted_is_loaded o accepted in
+    let range = loaded.range in
+    let root : root_period o.tables ≡ Some q = sym (loaded_keys o.tables (schedules_of o) loaded) ∙ e in
+    let s = round_start q n in
     let b = below_count o.tables (modes_at o.tables es s) range (states_are_selections o.tables range es s) (some_period o.tables q range root).1 in
-    omega (arith, b, schedules_are o accepted.spelled.formed)
+    let is : (turn_at o.tables (schedules_of o) es n).node ≡ selection_of o.tables (state o.tables es s).stays = ap (λ (u : Turn). u.node) (loaded_round o.tables (schedules_of o) loaded es within q root n) in
+    omega (arith, b, is, schedules_are o accepted.spelled.formed)
 
 module _ (m : Seen) (es : List Event) (now : ℕ) where
   ready_none : m.held.desk ≡ no_round
       → ((w : Content) → w ≡ with_records m.object.tables (turn_at m.object.tables (schedules_of m.object) es) now w)
-      → [] ≡ (list_texts m.object.tables (schedules_of m.object) es m.show (root_period m.object.tables) now).0
+      → [] ≡ (list_texts m.object.tables (schedules_of m.object) es m.show (hyper m.object.tables) now).0
       → IsReadyAt m es now []
   ready_none none still text =
       let stop : m.held.desk.running ≡ false = ap (λ (r : Round). r.running) none in
@@ -104,7 +97,7 @@ module _ (m : Seen) (es : List Event) (now : ℕ) where
 
 -- ---- where one stands
 
-module _ (m : Seen) (es : List Event) (n q : ℕ) (accepted : IsAccepted m.object) (up : IsUpTo m es (suc n)) (root : root_period m.object.tables ≡ Some q)
+module _ (m : Seen) (es : List Event) (n q : ℕ) (accepted : IsAccepted m.object) (up : IsUpTo m es (suc n)) (root : hyper m.object.tables ≡ Some q)
     (f : DeskStands (turn_at m.object.tables (schedules_of m.object) es n).plan (turn_at m.object.tables (schedules_of m.object) es n).frame (suc n) m.held.desk)
     (goes : m.selection ≡ Some (turn_at m.object.tables (schedules_of m.object) es n).node) where
   abbrev t : Tables
@@ -127,10 +120,10 @@ module _ (m : Seen) (es : List Event) (n q : ℕ) (accepted : IsAccepted m.objec
 
   short : length u.plan.schedule ≤ 4294967295
   short =
-      let x = item_at m.object.schedules u.node (selected_below m.object es u.frame q accepted root) in
+      let x = item_at m.object.schedules u.node (node_below m.object es n q accepted up.kept.within root) in
       let is : get_or (schedules_of m.object) u.node [] ≡ x.0.instrs =
       get_or_from_slice_get (schedules_of m.object) u.node x.0.instrs [] (map_at (λ (y : Schedule). y.instrs) m.object.schedules u.node x.0 x.1) in
-      subst (λ (is : List SInstr). length is ≤ 4294967295) (sym is) (all_at IsShort m.object.schedules u.node x.0 accepted.spelled.formed.ranges.short x.1)
+      subst (λ (is : List SInstr). length is ≤ 4294967295) (sym (loaded_code t (schedules_of m.object) loaded es up.kept.within q root n ∙ is)) (all_at IsShort m.object.schedules u.node x.0 accepted.spelled.formed.ranges.short x.1)
 
   ready_list : IsReadyAt m es (suc n) u.plan.schedule
   ready_list =
@@ -145,7 +138,7 @@ module _ (m : Seen) (es : List Event) (n q : ℕ) (accepted : IsAccepted m.objec
         past = past;
         few = count_grows (suc n - u.frame) (suc (suc n) - u.frame) (turn_walk u) (omega arith);
         was = desk_opens u.plan u.frame (suc n) m.held.desk f;
-        of = subst (AreOf t) (sym f.jobs) (loaded_of t (schedules_of m.object) loaded es up.kept.within n);
+        of = subst (AreOf t) (sym f.jobs) (loaded_of t (schedules_of m.object) loaded es up.kept.within q root n);
         form = λ runs. (u.to, subst (λ (js : List Job). InForm (length js) u.to u.plan.schedule) (sym f.jobs) listed.form);
         short = short;
         stands = f.stands;
@@ -158,34 +151,34 @@ module _ (m : Seen) (es : List Event) (n q : ℕ) (accepted : IsAccepted m.objec
 
 pub ready : (m : Seen) (es : List Event) (now : ℕ) (idle : List SInstr) → IsAccepted m.object → IsUpTo m es now → m.held.reading ≤ now → idle ≡ [] → IsReadyAt m es now (schedule_by m.object idle m.selection)
 ready m es now idle accepted up later nothing =
-    by (root_period m.object.tables) refl now up up.before.records.desk up.before.records.goes
+    by (hyper m.object.tables) refl now up up.before.records.desk up.before.records.goes
   where
     none_is : m.selection ≡ None → [] ≡ schedule_by m.object idle m.selection
     none_is sel = sym (ap (schedule_by m.object idle) sel ∙ nothing)
 
-    by : (o : Option ℕ) → root_period m.object.tables ≡ o → (at : ℕ) → IsUpTo m es at → DeskFollows (turn_at m.object.tables (schedules_of m.object) es) o at m.held.desk → GoesBy (turn_at m.object.tables (schedules_of m.object) es) o at m.selection
+    by : (o : Option ℕ) → hyper m.object.tables ≡ o → (at : ℕ) → IsUpTo m es at → DeskFollows (turn_at m.object.tables (schedules_of m.object) es) o at m.held.desk → GoesBy (turn_at m.object.tables (schedules_of m.object) es) o at m.selection
         → IsReadyAt m es at (schedule_by m.object idle m.selection)
     by None root at u desk goes =
         let loaded = accepted_is_loaded m.object accepted in
         subst (IsReadyAt m es at) (none_is goes)
-        (ready_none m es at desk (λ w. sym (records_nothing m.object.tables (no_modules m.object.tables loaded.range root) (schedules_of m.object) es at w))
+        (ready_none m es at desk (λ w. sym (records_nothing m.object.tables (schedules_of m.object) es root at w))
         (ap (λ o. (list_texts m.object.tables (schedules_of m.object) es m.show o at).0) (sym root)))
     by (Some q) root zero u desk goes =
         subst (IsReadyAt m es zero) (none_is goes)
         (ready_none m es zero desk (λ w. refl) (ap (λ o. (list_texts m.object.tables (schedules_of m.object) es m.show o zero).0) (sym root)))
     by (Some q) root (suc n) u desk goes =
-        subst (IsReadyAt m es (suc n)) (sym (ap (schedule_by m.object idle) goes)) (ready_list m es n q accepted u root desk goes)
+        subst (IsReadyAt m es (suc n)) (loaded_code m.object.tables (schedules_of m.object) (accepted_is_loaded m.object accepted) es u.kept.within q root n ∙ sym (ap (schedule_by m.object idle) goes)) (ready_list m es n q accepted u root desk goes)
 
 -- the number that the machine keeps has a list
 pub selection_known : (m : Seen) (es : List Event) (now : ℕ) → IsAccepted m.object → IsUpTo m es now → IfSome m.selection (λ n. n < length m.object.schedules)
 selection_known m es now accepted up =
-    by (root_period m.object.tables) refl now up.before.records.goes
+    by (hyper m.object.tables) refl now up.before.records.goes
   where
     none : m.selection ≡ None → IfSome m.selection (λ n. n < length m.object.schedules)
     none e = subst (λ (o : Option ℕ). IfSome o (λ n. n < length m.object.schedules)) (sym e) tt
 
-    by : (o : Option ℕ) → root_period m.object.tables ≡ o → (at : ℕ) → GoesBy (turn_at m.object.tables (schedules_of m.object) es) o at m.selection → IfSome m.selection (λ n. n < length m.object.schedules)
+    by : (o : Option ℕ) → hyper m.object.tables ≡ o → (at : ℕ) → GoesBy (turn_at m.object.tables (schedules_of m.object) es) o at m.selection → IfSome m.selection (λ n. n < length m.object.schedules)
     by None root at goes = none goes
     by (Some q) root zero goes = none goes
     by (Some q) root (suc n) goes =
-        subst (λ (o : Option ℕ). IfSome o (λ n. n < length m.object.schedules)) (sym goes) (selected_below m.object es (turn_at m.object.tables (schedules_of m.object) es n).frame q accepted root)
+        subst (λ (o : Option ℕ). IfSome o (λ n. n < length m.object.schedules)) (sym goes) (node_below m.object es n q accepted up.kept.within root)

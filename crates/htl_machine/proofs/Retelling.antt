@@ -5,7 +5,7 @@ use Rattle.htl_model.specs.declared.event.Event.TheVariants as V
 use Rattle.htl_model.specs.declared.state.State.{State}
 use Rattle.htl_model.specs.Lists.{joined}
 use Rattle.htl_model.specs.Lines.{lines_text}
-use Rattle.htl_model.specs.Selections.{root_period}
+use Rattle.htl_model.specs.Frames.{hyper}
 use Rattle.htl_model.specs.Tables.{Tables}
 use Rattle.htl_model.specs.Meaning.{state, before, changes}
 use Rattle.htl_model.proofs.Locality.{up_to_same}
@@ -13,14 +13,14 @@ use Rattle.htl_walk.specs.declared.schedule.SInstr.{SInstr}
 use Rattle.htl_ecode.specs.declared.ecode.ECode.{ECode}
 use Rattle.htl_ecode.specs.Paths.{instant_path}
 use Rattle.htl_refine.specs.Records.{IsTookWithin, AreTookWithin}
-use Rattle.htl_machine.specs.Rounds.{turn_at}
+use Rattle.htl_machine.specs.RunLists.{turn_at}
 use Rattle.htl_machine.specs.Follows.{reading_of, IsLoaded}
 use Rattle.htl_console.specs.declared.shown.Shown.{Shown}
 use Rattle.htl_console.specs.Shows.{shows_values, shows_code}
 use Rattle.htl_machine.specs.Texts.{e_line, old_turn, old_records, new_records, records_text, list_texts, instant_text, text_before, records_of}
 use Rattle.htl_machine.proofs.Events.{Alike, state_same, before_same}
 use Rattle.htl_machine.proofs.ListsSoFar.{AreSoFar, between_so_far, new_so_far, texts_so_far}
-use Rattle.htl_machine.proofs.RoundLists.{loaded_turns}
+use Rattle.htl_machine.proofs.LoadedLists.{loaded_turns}
 use Rattle.htl_machine.proofs.Taking.{alike, so_far}
 
 module _ (t : Tables) (code : ECode) (schedules : List (List SInstr)) (es fs : List Event) (now : ℕ) (alike : Alike t es fs now) (past : (n : ℕ) → (turn_at t schedules es n).frame ≤ n)
@@ -35,8 +35,8 @@ module _ (t : Tables) (code : ECode) (schedules : List (List SInstr)) (es fs : L
   new_records_same n h = new_so_far (turn_at t schedules es n) (turn_at t schedules fs n) now (same n h) n (past n) (omega (arith, h))
 
   -- so the totals stay
-  pub records_stay : (n : ℕ) → n < now → records_of t schedules es (root_period t) n ≡ records_of t schedules fs (root_period t) n
-  records_stay n h = by_root (root_period t)
+  pub records_stay : (n : ℕ) → n < now → records_of t schedules es (hyper t) n ≡ records_of t schedules fs (hyper t) n
+  records_stay n h = by_root (hyper t)
     where
       by_root : (o : Option ℕ) → records_of t schedules es o n ≡ records_of t schedules fs o n
       by_root None = refl
@@ -54,8 +54,8 @@ module _ (t : Tables) (code : ECode) (schedules : List (List SInstr)) (es fs : L
         ap (records_text t show (turn_at t schedules es n)) (new_records_same n h)
         ∙ texts_so_far (turn_at t schedules es n) (turn_at t schedules fs n) now (same n h) t show (new_records (turn_at t schedules fs) n)
 
-    lists_same : (n : ℕ) → n < now → list_texts t schedules es show (root_period t) n ≡ list_texts t schedules fs show (root_period t) n
-    lists_same n h = by_root (root_period t)
+    lists_same : (n : ℕ) → n < now → list_texts t schedules es show (hyper t) n ≡ list_texts t schedules fs show (hyper t) n
+    lists_same n h = by_root (hyper t)
       where
         by_root : (o : Option ℕ) → list_texts t schedules es show o n ≡ list_texts t schedules fs show o n
         by_root None = refl
@@ -68,7 +68,7 @@ module _ (t : Tables) (code : ECode) (schedules : List (List SInstr)) (es fs : L
         let P : List ℕ × List ℕ → State → State → List ℕ =
         λ r x y.
         r.0 ++ cond (shows_code show) (joined (e_line t code n) (instant_path t code n x y)) [] ++ cond (shows_values show) (lines_text t (changes t n x y)) [] ++ r.1 in
-        ap (λ r. P r (before t es n) (state t es n)) (lists_same n h) ∙ ap₂ (P (list_texts t schedules fs show (root_period t) n)) old new
+        ap (λ r. P r (before t es n) (state t es n)) (lists_same n h) ∙ ap₂ (P (list_texts t schedules fs show (hyper t) n)) old new
 
     pub text_stays : text_before t code schedules es show now ≡ text_before t code schedules fs show now
     text_stays = up_to_same (instant_text t code schedules es show) (instant_text t code schedules fs show) now (λ n h. instant_stays n h)
@@ -87,5 +87,5 @@ module _ (t : Tables) (code : ECode) (schedules : List (List SInstr)) (loaded : 
   pub took_stays : text_before t code schedules es show now ≡ text_before t code schedules (es ++ V.Took i n ∷ []) show now
   took_stays = text_stays t code schedules es (es ++ V.Took i n ∷ []) now same past (so_far t schedules loaded es within i n fits now reading) show
 
-  pub took_records : (m : ℕ) → m < now → records_of t schedules es (root_period t) m ≡ records_of t schedules (es ++ V.Took i n ∷ []) (root_period t) m
+  pub took_records : (m : ℕ) → m < now → records_of t schedules es (hyper t) m ≡ records_of t schedules (es ++ V.Took i n ∷ []) (hyper t) m
   took_records = records_stay t code schedules es (es ++ V.Took i n ∷ []) now same past (so_far t schedules loaded es within i n fits now reading)

@@ -6,10 +6,11 @@ use Rattle.std.proofs.lemmas.List.{append_assoc, length-map, length-take}
 use Rattle.std.proofs.Math.Nat.{div-add-mod, mod-lt}
 use Rattle.htl_model.specs.declared.event.Event.{Event}
 use Rattle.htl_model.specs.declared.frame.Place.{Place}
-use Rattle.htl_model.specs.Frames.{frame_of, starts, rounds, root_periods, begins, known_by, multiple_of, starts_below}
+use Rattle.htl_model.specs.Frames.{frame_of, node, starts, rounds, root_periods, begins, known_by, multiple_of, starts_below}
 use Rattle.htl_model.specs.Selections.{root_modules}
 use Rattle.htl_model.specs.Tables.{Tables, is_concrete, task_worst}
 use Rattle.htl_model.specs.declared.parts.Inv.{Inv}
+use Rattle.htl_model.proofs.Listed.{get_list_to}
 use Rattle.htl_walk.specs.declared.job.Job.{Job}
 use Rattle.htl_walk.specs.declared.schedule.SInstr.{SInstr}
 use Rattle.htl_walk.specs.PathJobs.{placed_job, next_of}
@@ -19,7 +20,7 @@ use Rattle.htl_walk.specs.Walk.{Left, Point, InForm, job_at, work, first_point, 
 use Rattle.htl_walk.proofs.Starts.{Rises, starts_rise, first_start, known_few}
 use Rattle.htl_walk.proofs.Work.{job_there, work_present}
 use Rattle.htl_refine.specs.DerivedPaths.{derived_place}
-use Rattle.htl_refine.specs.FrameRuns.{Frame, frame_modes, frame_places, frame_at, walks_of, walk_of}
+use Rattle.htl_refine.specs.FrameRuns.{Frame, path_of, frame_modes, frame_places, frame_at, walks_of, walk_of}
 use Rattle.htl_refine.specs.FramePlaces.{place, standing_places}
 use Rattle.htl_refine.specs.ListPlans.{no_leg, leg_at, list_plan, list_walk, records_before}
 use Rattle.htl_refine.specs.RecordCounts.{count_before, done_by}
@@ -128,6 +129,13 @@ module _ (t : Tables) (lists : List (List SInstr)) (es : List Event) (run : IsFe
 
   pub there : (n : ℕ) → (turn n).list < length (frame n).legs
   there n = omega (arith, (stands n).there, legs_many (frame_of t) (places n) (starts t))
+
+  -- its instructions are those of its node's list
+  pub code_is : (n : ℕ) → (turn n).plan.schedule ≡ get_or lists (turn n).node []
+  code_is n =
+      let j = list_number (n - frame_start t n) (starts t) in
+      let less : j < length (starts t) = omega (arith, there n, legs_many (frame_of t) (places n) (starts t)) in
+      get_list_to (λ k. get_or lists (node t (path_of t (frame_modes t es (frame_start t n))) k) []) (length (starts t)) j [] less
 
   pub from_is : (n : ℕ) → (turn n).from ≡ get_or (starts t) (turn n).list 0
   from_is n = leg_from (frame_of t) (places n) (starts t) (turn n).list (stands n).there

@@ -1,11 +1,13 @@
 -- The text and the totals of a run are those of the pieces of walks that its instants leave.
 use Rattle.std.proofs.Common.{◌≡◌, ◌<◌, ℕ, zero, suc, ◌+◌, ◌*◌, ◌/◌, ◌%◌, Bool, true, false, cond, eqb, List, [], ◌∷◌, ◌++◌, length, map, Option, Some, None, refl, sym, ◌∙◌, ap, ap₂, arith, length-append}
+use mathlib.Core.Path.{fun_ext}
 use Rattle.std.specs.List.{count_by}
 use Rattle.std.proofs.Math.Nat.{mul-div-le}
 use Rattle.std.proofs.lemmas.List.{length-map, map-append}
 use Rattle.std.proofs.lemmas.List.Sums.{sum_by-append, sum_by-cons}
 use Rattle.htl_model.specs.declared.event.Event.{Event}
 use Rattle.htl_model.specs.Lists.{up_to}
+use Rattle.htl_model.specs.Frames.{hyper}
 use Rattle.htl_model.specs.Selections.{root_period}
 use Rattle.htl_model.specs.Tables.{Tables}
 use Rattle.htl_model.proofs.Locality.{up_to_same}
@@ -17,12 +19,13 @@ use Rattle.htl_ecode.specs.Paths.{e_path}
 use Rattle.htl_refine.specs.Records.{round_at, left_at, old_records_by, new_records_by, records}
 use Rattle.htl_console.specs.declared.shown.Shown.{Shown}
 use Rattle.htl_machine.specs.ListTurns.{Turn, left_before}
-use Rattle.htl_machine.specs.Rounds.{period_or, round_start, round_turn}
+use Rattle.htl_machine.specs.Rounds.{round_start, round_turn}
 use Rattle.htl_machine.specs.Follows.{AreInForm}
 use Rattle.htl_machine.specs.Texts.{some_records, old_turn, old_records, new_records, records_text, list_texts, instant_text, records_of, sum_to, capped, jobs_before, e_before, s_before}
 use Rattle.htl_machine.specs.Texts as texts
 use Rattle.htl_machine.specs.Lines.{old_lines, e_lines, change_lines, new_lines, lines, all_records, jobs_done, e_done, s_done}
 use Rattle.htl_machine.specs.Lines as runs
+use Rattle.htl_machine.specs.RunLists.{turn_at}
 use Rattle.htl_machine.proofs.Counting.{sum_same}
 use Rattle.htl_machine.proofs.Telling.{as_told, up_to_last, rounds_are, none_at_first}
 use Rattle.htl_machine.proofs.TellingLines.{turn, round_piece, first_piece, none_left, last_start, list_begins, starts_at, old_text, new_text}
@@ -75,14 +78,15 @@ module _ (t : Tables) (schedules : List (List SInstr)) (es : List Event) (period
       by true false e is = cc
       by false true e is = cc
 
--- where there are rounds, they have a period, and their schedules are in form
+-- where there are rounds, they have a period, their schedules are in form, and each is the one list of its frame
 abbrev pub AreRounds : Tables → List (List SInstr) → List Event → Type 0
-AreRounds t schedules es = (period : ℕ) → root_period t ≡ Some period → (0 < period) × AreInForm t schedules es period
+AreRounds t schedules es =
+    (period : ℕ) → root_period t ≡ Some period → (0 < period) × AreInForm t schedules es period × ((n : ℕ) → turn_at t schedules es n ≡ round_turn t schedules es period (round_start period n))
 
-module _ (t : Tables) (schedules : List (List SInstr)) (es : List Event) (rounds : AreRounds t schedules es) where
+module _ (t : Tables) (schedules : List (List SInstr)) (es : List Event) (rounds : AreRounds t schedules es) (keys : hyper t ≡ root_period t) where
   -- the records of an instant
-  pub records_are : (now : ℕ) → map as_told (records t schedules es now) ≡ records_of t schedules es (root_period t) now
-  records_are now = by (root_period t) refl
+  pub records_are : (now : ℕ) → map as_told (records t schedules es now) ≡ records_of t schedules es (hyper t) now
+  records_are now = by (root_period t) refl ∙ ap (λ o. records_of t schedules es o now) (sym keys)
     where
       by : (o : Option ℕ) → root_period t ≡ o → map as_told (old_records_by t schedules es now o ++ new_records_by t schedules es now o) ≡ records_of t schedules es o now
       by None e = refl
@@ -90,19 +94,19 @@ module _ (t : Tables) (schedules : List (List SInstr)) (es : List Event) (rounds
           let r = rounds period e in
           map-append as_told (old_records_by t schedules es now (Some period)) (new_records_by t schedules es now (Some period))
           ∙ ap₂ (λ xs ys. xs ++ ys) (old_told t schedules es period r.0 r.1 now) (new_told t schedules es period r.0 r.1 now)
-          ∙ ap (λ p. let turn : ℕ → Turn = λ n. round_turn t schedules es p (round_start p n) in old_records turn now ++ new_records turn now) (sym (ap period_or e))
+          ∙ ap (λ (turn : ℕ → Turn). old_records turn now ++ new_records turn now) (sym (fun_ext r.2))
 
   -- the totals
   pub jobs_are : (now : ℕ) → jobs_done t schedules es now ≡ jobs_before t schedules es now
   jobs_are now =
       ap capped (count_up_to (λ (l : ℕ × walks.Left). l.1.finished) (records t schedules es) now
-      ∙ sum_same (λ n. count_by (λ (l : ℕ × walks.Left). l.1.finished) (records t schedules es n)) (λ n. count_by (λ (l : Left). l.finished) (records_of t schedules es (root_period t) n)) now
+      ∙ sum_same (λ n. count_by (λ (l : ℕ × walks.Left). l.1.finished) (records t schedules es n)) (λ n. count_by (λ (l : Left). l.finished) (records_of t schedules es (hyper t) n)) now
       (λ n less. sym (count_told (records t schedules es n)) ∙ ap (λ (ls : List Left). count_by (λ (l : Left). l.finished) ls) (records_are n)))
 
   pub s_are : (now : ℕ) → s_done t schedules es now ≡ s_before t schedules es now
   s_are now =
       ap capped (length_up_to (records t schedules es) now
-      ∙ sum_same (λ n. length (records t schedules es n)) (λ n. length (records_of t schedules es (root_period t) n)) now
+      ∙ sum_same (λ n. length (records t schedules es n)) (λ n. length (records_of t schedules es (hyper t) n)) now
       (λ n less. sym (length-map (records t schedules es n) as_told) ∙ ap (λ (ls : List Left). length ls) (records_are n)))
 
   pub e_are : (code : ECode) (now : ℕ) → e_done t code es now ≡ e_before t code es now
@@ -110,7 +114,9 @@ module _ (t : Tables) (schedules : List (List SInstr)) (es : List Event) (rounds
 
   -- the lines of an instant
   pub lines_are : (code : ECode) (show : Shown) (now : ℕ) → lines t code schedules es show now ≡ instant_text t code schedules es show now
-  lines_are code show now = by (root_period t) refl
+  lines_are code show now =
+      by (root_period t) refl
+      ∙ ap (λ o. let r = list_texts t schedules es show o now in r.0 ++ e_lines t code es show now ++ change_lines t es show now ++ r.1) (sym keys)
     where
       by : (o : Option ℕ) → root_period t ≡ o
           → old_lines t schedules es show o now ++ e_lines t code es show now ++ change_lines t es show now ++ new_lines t schedules es show o now
@@ -119,8 +125,7 @@ module _ (t : Tables) (schedules : List (List SInstr)) (es : List Event) (rounds
       by (Some period) e =
           let r = rounds period e in
           ap₂ (λ xs ys. xs ++ e_lines t code es show now ++ change_lines t es show now ++ ys) (old_text t schedules es period r.0 r.1 code show now) (new_text t schedules es period r.0 r.1 code show now)
-          ∙ ap (λ p. let turn : ℕ → Turn = λ n. round_turn t schedules es p (round_start p n) in
-          records_text t show (old_turn turn now) (old_records turn now) ++ e_lines t code es show now ++ change_lines t es show now ++ records_text t show (turn now) (new_records turn now)) (sym (ap period_or e))
+          ∙ ap (λ (turn : ℕ → Turn). records_text t show (old_turn turn now) (old_records turn now) ++ e_lines t code es show now ++ change_lines t es show now ++ records_text t show (turn now) (new_records turn now)) (sym (fun_ext r.2))
 
   -- the text before an instant, and that of a run
   pub before_is : (code : ECode) (show : Shown) (now : ℕ) → runs.text_before t code schedules es show now ≡ texts.text_before t code schedules es show now

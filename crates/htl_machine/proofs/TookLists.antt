@@ -39,7 +39,7 @@ use Rattle.htl_machine.specs.Follows.{reading_of, DeskAt, DeskStands, with_lengt
 use Rattle.htl_machine.specs.ListTurns.{Turn, turn_walk}
 use Rattle.htl_machine.specs.RunLists.{list_number, list_turn}
 use Rattle.htl_machine.specs.Turns.{position_from}
-use Rattle.htl_machine.proofs.Casting.{job_is, position_some, position_none}
+use Rattle.htl_machine.proofs.Casting.{get_map, job_is, position_some, position_none}
 use Rattle.htl_machine.proofs.Desking.{desk_opens}
 use Rattle.htl_machine.proofs.Events.{state_same, sense_took, took_took, front_is, length-front}
 use Rattle.htl_machine.proofs.Following.{within_more}
@@ -47,7 +47,6 @@ use Rattle.htl_machine.proofs.Instants.{windows}
 use Rattle.htl_machine.proofs.ListsSoFar.{AreSoFar}
 use Rattle.htl_machine.proofs.RunLists.{past, serving, stands, there, from_is, few, length-jobs, are_turns, are_listed}
 use Rattle.htl_machine.proofs.Standing.{some_same}
-use Rattle.htl_machine.proofs.Taking.{get_map}
 use Rattle.htl_machine.proofs.Telling.{none_before}
 use Rattle.htl_machine.proofs.Timely.{done_late}
 

@@ -5,7 +5,7 @@ use Rattle.std.proofs.lemmas.Bool.Decides.{nat_tests}
 use Rattle.htl_model.specs.declared.event.Event.{Event}
 use Rattle.htl_model.specs.declared.event.Event.TheVariants as V
 use Rattle.htl_model.specs.Ranges.{FitsType}
-use Rattle.htl_model.specs.Selections.{root_period}
+use Rattle.htl_model.specs.Frames.{hyper}
 use Rattle.htl_model.specs.Tables.{Tables}
 use Rattle.htl_model.specs.Meaning.{sense}
 use Rattle.htl_walk.specs.declared.schedule.SInstr.{SInstr}
@@ -27,7 +27,7 @@ use Rattle.htl_emach.specs.Following as machines
 use Rattle.htl_refine.specs.Records.{IsTookWithin}
 use Rattle.htl_emach.specs.Contents.{Content}
 use Rattle.htl_machine.specs.Plans.{next_world}
-use Rattle.htl_machine.specs.Rounds.{turn_at}
+use Rattle.htl_machine.specs.RunLists.{turn_at}
 use Rattle.htl_machine.specs.Follows.{Held, reading_of, DeskFollows, IsLoaded, at_reading, shown_as, desk_taking, taken_as}
 use Rattle.htl_console.specs.declared.shown.Shown.{Shown}
 use Rattle.htl_machine.specs.Texts.{instant_text, records_of}
@@ -42,9 +42,9 @@ use Rattle.htl_machine.proofs.Waking.{triggers_alike}
 abbrev pub counted : Tables → ECode → List (List SInstr) → List Event → ℕ → Counts → Counts
 counted t code schedules es now n =
     record {
-      jobs = min (n.jobs + count_by (λ (l : Left). l.finished) (records_of t schedules es (root_period t) now)) (2 ^ 64 - 1);
+      jobs = min (n.jobs + count_by (λ (l : Left). l.finished) (records_of t schedules es (hyper t) now)) (2 ^ 64 - 1);
       e = min (n.e + length (e_path t code es now)) (2 ^ 64 - 1);
-      s = min (n.s + length (records_of t schedules es (root_period t) now)) (2 ^ 64 - 1);
+      s = min (n.s + length (records_of t schedules es (hyper t) now)) (2 ^ 64 - 1);
     }
 
 module _ (t : Tables) (code : ECode) (schedules : List (List SInstr)) (loaded : IsLoaded t schedules) (spelled : Spells t code) (show : Shown) where
@@ -53,7 +53,7 @@ module _ (t : Tables) (code : ECode) (schedules : List (List SInstr)) (loaded : 
 
   -- one instant: what the calls of both machines say carries all that the machine is asked for
   pub whole_instant : (es : List Event) (now : ℕ) (e e1 : Standing) (m : Held) (n : Counts) (written new : List ℕ) (w5 : Content) (r : Round) → Whole t code schedules show es now e m n written
-      → Passed t code schedules es now m.world w5 e1 → DeskFollows (turn_at t schedules es) (root_period t) (suc now) r → new ≡ written ++ instant_text t code schedules es show now
+      → Passed t code schedules es now m.world w5 e1 → DeskFollows (turn_at t schedules es) (hyper t) (suc now) r → new ≡ written ++ instant_text t code schedules es show now
       → Whole t code schedules show es (suc now) e1 (record m { world = w5; desk = r }) (counted t code schedules es now n) new
   whole_instant es now e e1 m n written new w5 r f p desk text =
       let world : w5 ≡ next_world t es (turn_at t schedules es) now m.world =

@@ -2,7 +2,7 @@
 use Rattle.std.specs.Prelude.{◌≡◌, ℕ, zero, suc, ◌+◌, ◌-◌, ◌≤◌, ◌<◌, Bool, false, true, List, [], length, get_or, map, slice_get, Option, Some, None, ℤ, pos}
 use Rattle.htl_model.specs.declared.event.Event.{Event}
 use Rattle.htl_model.specs.Lists.{up_to}
-use Rattle.htl_model.specs.Selections.{root_period}
+use Rattle.htl_model.specs.Frames.{hyper}
 use Rattle.htl_model.specs.declared.parts.Comm.{Comm}
 use Rattle.htl_model.specs.declared.parts.Inv.{Inv}
 use Rattle.htl_model.specs.Ranges.{FitsType}
@@ -22,7 +22,7 @@ use Rattle.htl_console.specs.declared.shown.Shown.{Shown}
 use Rattle.htl_machine.specs.Programs.{schedules_of, lines_of}
 use Rattle.htl_machine.specs.ListTurns.{Turn}
 use Rattle.htl_machine.specs.Plans.{finished_before}
-use Rattle.htl_machine.specs.Rounds.{turn_at}
+use Rattle.htl_machine.specs.RunLists.{turn_at}
 use Rattle.htl_machine.specs.Values.{ValuesFollow}
 use Rattle.htl_machine.specs.Follows.{Held, reading_of, DeskFollows}
 use Rattle.htl_machine.specs.Lines.{e_done, jobs_done, s_done}
@@ -102,8 +102,8 @@ GoesBy turn (Some period) (suc n) selection = selection ≡ Some (turn n).node
 
 -- the list of the processor that began last before an instant
 pub record IsRecorded (t : Tables) (schedules : List (List SInstr)) (es : List Event) (now : ℕ) (r : Round) (selection : Option ℕ) (jobs s : ℕ) : Type 0 where
-  pub desk : DeskFollows (turn_at t schedules es) (root_period t) now r
-  pub goes : GoesBy (turn_at t schedules es) (root_period t) now selection
+  pub desk : DeskFollows (turn_at t schedules es) (hyper t) now r
+  pub goes : GoesBy (turn_at t schedules es) (hyper t) now selection
   pub jobs_are : jobs ≡ jobs_done t schedules es now
   pub s_are : s ≡ s_done t schedules es now
 

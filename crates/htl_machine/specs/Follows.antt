@@ -2,6 +2,7 @@
 use Rattle.std.specs.Prelude.{◌≡◌, ℕ, zero, suc, ◌-◌, ◌≤◌, ◌<◌, Bool, false, ◌&&◌, ltb, List, [], ◌∷◌, length, get_or, set, map, Option, Some, None, ℤ, pos}
 use Rattle.htl_model.specs.declared.event.Event.{Event}
 use Rattle.htl_model.specs.declared.event.Event.TheVariants as V
+use Rattle.htl_model.specs.Frames.{hyper}
 use Rattle.htl_model.specs.Selections.{root_period}
 use Rattle.htl_model.specs.Tables.{Tables}
 use Rattle.htl_model.specs.Meaning.{sense}
@@ -15,6 +16,8 @@ use Rattle.htl_smach.specs.declared.state.PosState.{PosState}
 use Rattle.htl_smach.specs.declared.state.PosState.TheVariants.{Absent, Pending, Ready, Done}
 use Rattle.htl_model.specs.Ranges.{AreInRange}
 use Rattle.htl_model.specs.FrameRules.{KeptApart}
+use Rattle.htl_model.specs.Broken.{KeptTo}
+use Rattle.htl_walk.specs.Feasible.{AreFeasible}
 use Rattle.htl_refine.specs.Records.{AreTookWithin, took}
 use Rattle.htl_emach.specs.Contents.{Content}
 use Rattle.htl_machine.specs.Values.{ValuesFollow}
@@ -22,8 +25,9 @@ use Rattle.htl_refine.specs.RecordCounts.{count_before}
 use Rattle.htl_refine.specs.ListPlans.{ListPlan as Plan, list_walk}
 use Rattle.htl_machine.specs.ListTurns.{Turn}
 use Rattle.htl_machine.specs.Plans.{AreRegular, AreSound, finished_before}
-use Rattle.htl_machine.specs.Rounds.{period_or, plan_of, round_start, turn_at}
+use Rattle.htl_machine.specs.Rounds.{period_or, plan_of, round_start}
 use Rattle.htl_machine.specs.Turns.{position_from}
+use Rattle.htl_machine.specs.RunLists.{turn_at}
 
 -- what contracts see of a machine, but for its triggers and totals
 pub record Held : Type 0 where
@@ -80,7 +84,7 @@ pub record UpTo (t : Tables) (schedules : List (List SInstr)) (es : List Event) 
   pub values : ValuesFollow t es now (finished_before (turn_at t schedules es) now) m.world
   -- each value, input and output is of its type
   pub shape : IsShaped t m.world
-  pub desk : DeskFollows (turn_at t schedules es) (root_period t) now m.desk
+  pub desk : DeskFollows (turn_at t schedules es) (hyper t) now m.desk
 
 -- at the last reading
 pub record Follows (t : Tables) (schedules : List (List SInstr)) (es : List Event) (m : Held) : Type 0 where
@@ -112,10 +116,12 @@ pub record AreKept (t : Tables) (schedules : List (List SInstr)) (es : List Even
   pub sound : AreSound t es (plan_of t schedules es) (period_or (root_period t))
   pub form : (period : ℕ) → root_period t ≡ Some period → AreInForm t schedules es period
 
--- tables in range that keep the form rules, perhaps but that of equal root periods, with schedules that serve every round
+-- tables in range that keep the form rules, with lists that are accepted for all paths and serve every round
 pub record IsLoaded (t : Tables) (schedules : List (List SInstr)) : Type 0 where
   pub range : AreInRange t
   pub kept : KeptApart t 12
+  pub rules : KeptTo t 16
+  pub feasible : AreFeasible t schedules
   pub rounds : (es : List Event) → AreTookWithin t es → AreKept t schedules es
 
 -- ---- what the calls of a machine do to what it keeps

@@ -3,7 +3,6 @@ use Rattle.std.specs.Prelude.{ℕ, ◌*◌, ◌/◌, List, [], map, Option, Some
 use Rattle.htl_model.specs.declared.event.Event.{Event}
 use Rattle.htl_model.specs.declared.state.Stay.{Stay}
 use Rattle.htl_model.specs.Meaning.{state}
-use Rattle.htl_model.specs.Selections.{root_period}
 use Rattle.htl_model.specs.Tables.{Tables}
 use Rattle.htl_walk.specs.declared.schedule.SInstr.{SInstr}
 use Rattle.htl_walk.specs.Walk.{first_point}
@@ -55,7 +54,3 @@ round_turn t schedules es period s =
       plan = list_of (plan_of t schedules es s);
       earlier = [];
     }
-
--- the list that stands at an instant
-abbrev pub turn_at : Tables → List (List SInstr) → List Event → ℕ → Turn
-turn_at t schedules es n = let period = period_or (root_period t) in round_turn t schedules es period (round_start period n)

@@ -4,7 +4,7 @@ use Rattle.std.specs.Prelude.{◌≡◌, ℕ, zero, suc, ◌+◌, ◌-◌, ◌^�
 use Rattle.htl_model.specs.declared.event.Event.{Event}
 use Rattle.htl_model.specs.Lines.{lines_text, totals_line}
 use Rattle.htl_model.specs.Lists.{joined, up_to}
-use Rattle.htl_model.specs.Selections.{root_period}
+use Rattle.htl_model.specs.Frames.{hyper}
 use Rattle.htl_model.specs.Tables.{Tables}
 use Rattle.htl_model.specs.Meaning.{value_lines}
 use Rattle.htl_walk.specs.declared.job.Job.{Job}
@@ -19,7 +19,7 @@ use Rattle.htl_console.specs.declared.shown.Shown.{Shown}
 use Rattle.htl_console.specs.Shows.{shows_values, shows_jobs, shows_code}
 use Rattle.htl_console.specs.Lines.{slice_line, done_line, step_line, instr_line}
 use Rattle.htl_machine.specs.ListTurns.{Turn, left_before}
-use Rattle.htl_machine.specs.Rounds.{turn_at}
+use Rattle.htl_machine.specs.RunLists.{turn_at}
 
 -- `e T ADDRESS TEXT`
 abbrev pub e_line : Tables → ECode → ℕ → Done → List ℕ
@@ -77,7 +77,7 @@ list_texts t schedules es show (Some period) now =
 
 abbrev pub instant_text : Tables → ECode → List (List SInstr) → List Event → Shown → ℕ → List ℕ
 instant_text t code schedules es show now =
-    let r = list_texts t schedules es show (root_period t) now in
+    let r = list_texts t schedules es show (hyper t) now in
     r.0 ++ cond (shows_code show) (joined (e_line t code now) (e_path t code es now)) [] ++ cond (shows_values show) (lines_text t (value_lines t es now)) [] ++ r.1
 
 -- the text of the instants before `now`
@@ -99,13 +99,13 @@ sum_to f (suc n) = sum_to f n + f n
 
 -- of the instants before `now`: the jobs done, the E instructions, the S instructions
 abbrev pub jobs_before : Tables → List (List SInstr) → List Event → ℕ → ℕ
-jobs_before t schedules es now = capped (sum_to (λ n. count_by (λ (l : Left). l.finished) (records_of t schedules es (root_period t) n)) now)
+jobs_before t schedules es now = capped (sum_to (λ n. count_by (λ (l : Left). l.finished) (records_of t schedules es (hyper t) n)) now)
 
 abbrev pub e_before : Tables → ECode → List Event → ℕ → ℕ
 e_before t code es now = capped (sum_to (λ n. length (e_path t code es n)) now)
 
 abbrev pub s_before : Tables → List (List SInstr) → List Event → ℕ → ℕ
-s_before t schedules es now = capped (sum_to (λ n. length (records_of t schedules es (root_period t) n)) now)
+s_before t schedules es now = capped (sum_to (λ n. length (records_of t schedules es (hyper t) n)) now)
 
 -- the text of a run up to and including `end`
 abbrev pub run_text : Tables → ECode → List (List SInstr) → List Event → Shown → ℕ → List ℕ

@@ -14,7 +14,7 @@ use Rattle.htl_emach.specs.Contents.{Content}
 use Rattle.htl_machine.specs.Running.{replay}
 use Rattle.htl_machine.specs.Worlds.{with_sensors}
 use Rattle.htl_machine.specs.Plans.{with_records}
-use Rattle.htl_machine.specs.Rounds.{turn_at}
+use Rattle.htl_machine.specs.RunLists.{turn_at}
 use Rattle.htl_machine.specs.Follows.{Held, Follows}
 use Rattle.htl_console.specs.declared.shown.Shown.{Shown}
 use Rattle.htl_machine.specs.Machines.{Counts, Stands}
