@@ -66,6 +66,7 @@ pub mod TellingLines
 pub mod TellingText
 pub mod LineBytes
 pub mod JobLines
+pub mod RoundJobLines
 pub mod JobTimes
 pub mod Loaded
 pub mod Accepted

@@ -48,8 +48,8 @@ nothing (x ∷ xs) h = absurd (h (omega arith))
 
 module _ (t : Tables) (schedules : List (List SInstr)) (loaded : IsLoaded t schedules) where
   -- all root modules have the period of the rounds
-  one : (q : ℕ) → root_period t ≡ Some q → HasOnePeriod t q
-  one q root =
+  pub loaded_one : (q : ℕ) → root_period t ≡ Some q → HasOnePeriod t q
+  loaded_one q root =
       let first_rules : KeptTo t 12 = λ r s have need small broken. loaded.rules r s have need (omega (arith, small)) broken in
       subst (HasOnePeriod t) (ap (λ (o : Option ℕ). elim o [ Some p ↦ p | None ↦ 0 ]) root) (one_round t loaded.range first_rules (some_roots t q root))
 
@@ -61,7 +61,7 @@ module _ (t : Tables) (schedules : List (List SInstr)) (loaded : IsLoaded t sche
     where
       by : (o : Option ℕ) → root_period t ≡ o → hyper t ≡ root_period t
       by None e = no_hyper t (ap (λ (us : List Module). places_from is_root 0 us) (no_rounds e)) ∙ sym e
-      by (Some q) e = (one_period t q (one q e)).frame ∙ sym e
+      by (Some q) e = (one_period t q (loaded_one q e)).frame ∙ sym e
 
   pub loaded_empty : hyper t ≡ None → t.modules ≡ []
   loaded_empty e = no_rounds (sym loaded_keys ∙ e)
@@ -132,7 +132,7 @@ module _ (t : Tables) (schedules : List (List SInstr)) (loaded : IsLoaded t sche
     -- ---- as the code begins lists: a round is the one list of its frame
 
     pub loaded_round : (q : ℕ) → root_period t ≡ Some q → (n : ℕ) → turn_at t schedules es n ≡ round_turn t schedules es q (round_start q n)
-    loaded_round q root n = ap (λ o. turn_by o t schedules es n) (loaded_keys ∙ root) ∙ one_turn t q schedules es loaded.range (one q root) n
+    loaded_round q root n = ap (λ o. turn_by o t schedules es n) (loaded_keys ∙ root) ∙ one_turn t q schedules es loaded.range (loaded_one q root) n
 
     -- the code knows where a list begins
     pub loaded_begins : (q : ℕ) → hyper t ≡ Some q → (now : ℕ) → begins t now ≡ eqb ((turn_at t schedules es now).frame + (turn_at t schedules es now).from) now

@@ -141,7 +141,7 @@ module _ (t : Tables) (period : ℕ) (lists : List (List SInstr)) (es : List Eve
     few : selection_of t (modes_at t es f) < selection_count t
     few = below_count t (modes_at t es f) range (states_are_selections t range es f) (modules_there t.modules one.some)
 
-    jobs_same : frame_jobs t (frame_modes t es f) ≡ concrete_jobs t (modes_at t es f)
+    pub jobs_same : frame_jobs t (frame_modes t es f) ≡ concrete_jobs t (modes_at t es f)
     jobs_same =
         ap (λ rs. placed_jobs t (map (derived_place t (frame_modes t es f)) (running_places t (frame_modes t es f) rs))) rounds_are
         ∙ ap (λ xs. placed_jobs t (map (derived_place t (frame_modes t es f)) xs)) (places_are t (frame_modes t es f) (root_modules t))

@@ -33,7 +33,7 @@ use Rattle.htl_emach.proofs.States.{module_at, parent_at, new_stays}
 use Rattle.htl_emach.proofs.Switching.{Sound}
 use Rattle.htl_object.specs.declared.object.Object.{Object}
 use Rattle.htl_object.specs.Accepted.{IsAccepted}
-use Rattle.htl_refine.specs.Records.{records}
+use Rattle.htl_refine.specs.FrameRecords.{records}
 use Rattle.htl_console.specs.declared.shown.Shown.{Shown}
 use Rattle.htl_console.specs.Shows.{shows_code, shows_values}
 use Rattle.htl_machine.specs.declared.tally.Tally.{Tally}
@@ -62,8 +62,7 @@ use Rattle.htl_machine.proofs.Plain.{apart, down}
 use Rattle.htl_machine.proofs.Ready.{ready}
 use Rattle.htl_machine.proofs.Recording.{recording_start, recording_end}
 use Rattle.htl_machine.proofs.Telling.{up_to_none}
-use Rattle.htl_machine.proofs.TellingLoaded.{loaded_rounds}
-use Rattle.htl_machine.proofs.TellingText.{records_are}
+use Rattle.htl_machine.proofs.TellingLoaded.{loaded_records}
 use Rattle.htl_machine.proofs.Wholly.{modes_read}
 use Rattle.htl_machine.specs.Quiet.{IsQuiet, AreQuiet, IsEmpty, PassOver}
 use Rattle.htl_machine.specs.Rounds.{period_or, round_start}
@@ -290,7 +289,7 @@ module _ (m : Seen) (es : List Event) (n : ℕ) (accepted : IsAccepted m.object)
       ∙ no_change_lines t (shows_values m.show) (value_lines t es (suc n)) none_written
 
   pub no_records : records m.object.tables (schedules_of m.object) es (suc n) ≡ []
-  no_records = no_items _ (records t schedules es (suc n)) (records_are t schedules es (loaded_rounds t schedules es loaded u.kept.within) (loaded_keys t schedules loaded) (suc n) ∙ none_left)
+  no_records = no_items _ (records t schedules es (suc n)) (loaded_records t schedules es loaded u.kept.within (suc n) ∙ none_left)
 
   pub no_path : e_path m.object.tables m.object.ecode es (suc n) ≡ []
   no_path = still.path

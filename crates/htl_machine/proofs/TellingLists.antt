@@ -29,7 +29,7 @@ use Rattle.htl_console.specs.declared.shown.Shown.{Shown}
 use Rattle.htl_console.specs.Shows.{shows_jobs, shows_code}
 use Rattle.htl_console.specs.Lines.{done_line}
 use Rattle.htl_machine.specs.FramePlacing.{frame_start}
-use Rattle.htl_machine.specs.ListLines.{where_shown, step_lines, record_lines, list_lines, old_lines, new_lines}
+use Rattle.htl_machine.specs.Lines.{where_shown, step_lines, record_lines, list_lines, old_lines, new_lines}
 use Rattle.htl_machine.specs.ListTurns.{Turn, turn_walk, left_before}
 use Rattle.htl_machine.specs.RunLists.{list_turn}
 use Rattle.htl_machine.specs.Texts.{inv_at, slice_lines, record_text, some_records, old_turn, old_records, new_records, records_text}

@@ -1,40 +1,39 @@
 -- A loaded program: the lines, totals and text of its runs are those of the pieces of walks.
-use Rattle.std.proofs.Common.{◌≡◌, ◌<◌, ℕ, List, subst}
+use Rattle.std.proofs.Common.{◌≡◌, ℕ, List, map, Some}
 use Rattle.htl_model.specs.declared.event.Event.{Event}
 use Rattle.htl_model.specs.Frames.{hyper}
-use Rattle.htl_model.specs.Selections.{root_period}
 use Rattle.htl_model.specs.Tables.{Tables}
 use Rattle.htl_walk.specs.declared.schedule.SInstr.{SInstr}
 use Rattle.htl_ecode.specs.declared.ecode.ECode.{ECode}
 use Rattle.htl_refine.specs.Records.{AreTookWithin}
+use Rattle.htl_refine.specs.FrameRecords.{records}
+use Rattle.htl_refine.specs.ServedFrames.{IsFeasibleRun}
 use Rattle.htl_console.specs.declared.shown.Shown.{Shown}
 use Rattle.htl_machine.specs.Follows.{IsLoaded}
 use Rattle.htl_machine.specs.Texts as texts
 use Rattle.htl_machine.specs.Lines as runs
-use Rattle.htl_machine.specs.Rounds.{period_or}
-use Rattle.htl_machine.proofs.LoadedLists.{loaded_keys, loaded_round}
-use Rattle.htl_machine.proofs.TellingText.{AreRounds, jobs_are, e_are, s_are, lines_are, before_is}
+use Rattle.htl_machine.proofs.Telling.{as_told}
+use Rattle.htl_machine.proofs.LoadedLists.{loaded_run}
+use Rattle.htl_machine.proofs.TellingText.{records_are, jobs_are, e_are, s_are, lines_are, before_is}
 
 module _ (t : Tables) (schedules : List (List SInstr)) (es : List Event) (loaded : IsLoaded t schedules) (within : AreTookWithin t es) where
-  pub loaded_rounds : AreRounds t schedules es
-  loaded_rounds period root =
-      let kept = loaded.rounds es within in
-      (subst (λ o. 0 < period_or o) root kept.regular.some, kept.form period root, loaded_round t schedules loaded es within period root)
+  runs_so : (h : ℕ) → hyper t ≡ Some h → IsFeasibleRun t schedules es
+  runs_so = loaded_run t schedules loaded es within
 
-  keys : hyper t ≡ root_period t
-  keys = loaded_keys t schedules loaded
+  pub loaded_records : (now : ℕ) → map as_told (records t schedules es now) ≡ texts.records_of t schedules es (hyper t) now
+  loaded_records = records_are t schedules es runs_so
 
   pub loaded_lines : (code : ECode) (show : Shown) (now : ℕ) → runs.lines t code schedules es show now ≡ texts.instant_text t code schedules es show now
-  loaded_lines = lines_are t schedules es loaded_rounds keys
+  loaded_lines = lines_are t schedules es runs_so
 
   pub loaded_before : (code : ECode) (show : Shown) (now : ℕ) → runs.text_before t code schedules es show now ≡ texts.text_before t code schedules es show now
-  loaded_before = before_is t schedules es loaded_rounds keys
+  loaded_before = before_is t schedules es runs_so
 
   pub loaded_jobs : (now : ℕ) → runs.jobs_done t schedules es now ≡ texts.jobs_before t schedules es now
-  loaded_jobs = jobs_are t schedules es loaded_rounds keys
+  loaded_jobs = jobs_are t schedules es runs_so
 
   pub loaded_s : (now : ℕ) → runs.s_done t schedules es now ≡ texts.s_before t schedules es now
-  loaded_s = s_are t schedules es loaded_rounds keys
+  loaded_s = s_are t schedules es runs_so
 
   pub loaded_e : (code : ECode) (now : ℕ) → runs.e_done t code es now ≡ texts.e_before t code es now
-  loaded_e = e_are t schedules es loaded_rounds keys
+  loaded_e = e_are t schedules es runs_so

@@ -23,7 +23,6 @@ pub mod Readiness
 pub mod Tellings
 pub mod Served
 pub mod Lines
-pub mod ListLines
 pub mod Programs
 pub mod JobLines
 pub mod JobTimes
