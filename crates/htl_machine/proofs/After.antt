@@ -46,7 +46,7 @@ use Rattle.htl_machine.specs.declared.tally.Tally.{Tally}
 use Rattle.htl_machine.specs.Calls.{Seen, IsUpTo, GoesBy, number_by, schedule_by}
 use Rattle.htl_machine.specs.Casts.{IsCast, HaveWindows}
 use Rattle.htl_machine.specs.Doing.{path_lines}
-use Rattle.htl_machine.specs.Follows.{IsLoaded, DeskAt, DeskStands, DeskFollows, AreKept}
+use Rattle.htl_machine.specs.Follows.{IsLoaded, DeskAt, DeskStands, DeskFollows}
 use Rattle.htl_machine.specs.Instant.{IsReadyAt}
 use Rattle.htl_machine.specs.Leaving.{due_by, Leaves}
 use Rattle.htl_machine.specs.Machines.{Counts}
@@ -74,7 +74,7 @@ use Rattle.htl_machine.proofs.Composing.{instant_composed, counts_after, counts_
 use Rattle.htl_machine.proofs.Following.{instant_values}
 use Rattle.htl_machine.proofs.Desking.{desk_begins, desk_closes}
 use Rattle.htl_machine.proofs.Instants.{with_flags, desk_left, desk_told, desk_on, desk_over}
-use Rattle.htl_machine.proofs.Loaded.{some_period}
+use Rattle.htl_machine.proofs.Loaded.{some_period, loaded_rounds, AreKept}
 use Rattle.htl_machine.proofs.Meeting.{next_is, switch_values, records_leave}
 use Rattle.htl_machine.proofs.Periodic.{begins_never}
 use Rattle.htl_machine.proofs.Premises.{first_left, first_over, cast_of}
@@ -178,7 +178,7 @@ owed_are turn (Some q) (suc n) steps desk f own p s k d same at =
 
 module _ (t : Tables) (code : ECode) (schedules : List (List SInstr)) (loaded : IsLoaded t schedules) (reads : (k : ℕ) → k < length t.modes → ModeReads t code k) (es : List Event) (within : AreTookWithin t es) where
   kept_rounds : AreKept t schedules es
-  kept_rounds = loaded.rounds es within
+  kept_rounds = loaded_rounds t schedules loaded es within
 
   abbrev turn : ℕ → Turn
   turn = turn_at t schedules es

@@ -18,7 +18,8 @@ use Rattle.htl_refine.specs.Records.{Round, AreTookWithin, round_at, left_at, ro
 use Rattle.htl_machine.specs.Casts.{IsCast, HaveWindows}
 use Rattle.htl_machine.proofs.Casting.{only_open}
 use Rattle.htl_machine.proofs.RoundServed.{round_windows}
-use Rattle.htl_machine.specs.Follows.{AreInForm, IsLoaded}
+use Rattle.htl_machine.specs.Follows.{IsLoaded}
+use Rattle.htl_machine.proofs.Loaded.{AreInForm, loaded_rounds}
 use Rattle.htl_machine.specs.JobLines.{RunLine, slice_of as line_of_slice, job_lines_of, job_lines_at, job_lines_to}
 use Rattle.htl_machine.specs.JobLines.RunLine.{SliceLine, DoneLine}
 use Rattle.htl_machine.specs.JobTimes.{is_in, done_time, slice_time, AllToldInTime}
@@ -413,7 +414,7 @@ module _ (t : Tables) (schedules : List (List SInstr)) (loaded : IsLoaded t sche
   told_in_time n q j at here late =
       let s = round_start period n in
       let r = round_at t schedules es s in
-      let kept = loaded.rounds es within in
+      let kept = loaded_rounds t schedules loaded es within in
       let same : period_or (root_period t) ≡ period = ap period_or root in
       let some : 0 < period = (subst (AreRegular t es) same kept.regular).some in
       let cast : IsCast t (state t es s).stays s s r.jobs = (subst (AreSound t es (plan_of t schedules es)) same kept.sound).casts n in

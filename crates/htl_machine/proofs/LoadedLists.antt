@@ -28,7 +28,7 @@ use Rattle.htl_machine.specs.Recording.{AreOf}
 use Rattle.htl_machine.specs.Rounds.{period_or, plan_of, round_start, round_turn}
 use Rattle.htl_machine.specs.RunLists.{no_turn, turn_by, turn_at, list_turn}
 use Rattle.htl_machine.specs.Timing.{begins}
-use Rattle.htl_machine.proofs.Loaded.{root_there}
+use Rattle.htl_machine.proofs.Loaded.{root_there, loaded_rounds}
 use Rattle.htl_machine.proofs.OneList.{one_turn}
 use Rattle.htl_machine.proofs.Periodic.{begins_is, some_roots, starts_there}
 use Rattle.htl_machine.proofs.RunLists.{are_turns, are_listed, code_is, job_is_of}
@@ -67,9 +67,9 @@ module _ (t : Tables) (schedules : List (List SInstr)) (loaded : IsLoaded t sche
   loaded_empty e = no_rounds (sym loaded_keys ∙ e)
 
   module _ (es : List Event) (within : AreTookWithin t es) where
-    pub loaded_run : (h : ℕ) → hyper t ≡ Some h → IsFeasibleRun t schedules es
-    loaded_run h e =
-        let some = some_roots t h (sym loaded_keys ∙ e) in
+    -- where there is a root module
+    pub run_of : 0 < length (root_modules t) → IsFeasibleRun t schedules es
+    run_of some =
         record {
           range = loaded.range;
           kept = kept_apart t 16 loaded.rules;
@@ -78,6 +78,9 @@ module _ (t : Tables) (schedules : List (List SInstr)) (loaded : IsLoaded t sche
           ticks = frame_some t loaded.range some;
           accepted = loaded.feasible;
         }
+
+    pub loaded_run : (h : ℕ) → hyper t ≡ Some h → IsFeasibleRun t schedules es
+    loaded_run h e = run_of (some_roots t h (sym loaded_keys ∙ e))
 
     -- nobody stands where there is no module
     no_cast : t.modules ≡ [] → (n : ℕ) → IsCast t (state t es n).stays 0 n []
@@ -138,7 +141,7 @@ module _ (t : Tables) (schedules : List (List SInstr)) (loaded : IsLoaded t sche
     pub loaded_begins : (q : ℕ) → hyper t ≡ Some q → (now : ℕ) → begins t now ≡ eqb ((turn_at t schedules es now).frame + (turn_at t schedules es now).from) now
     loaded_begins q e now =
         let root : root_period t ≡ Some q = sym loaded_keys ∙ e in
-        let regular : AreRegular t es q = subst (λ o. AreRegular t es (period_or o)) root (loaded.rounds es within).regular in
+        let regular : AreRegular t es q = subst (λ o. AreRegular t es (period_or o)) root (loaded_rounds t schedules loaded es within).regular in
         begins_is t q now loaded.range regular.some regular.modes root
         ∙ starts_there q now regular.some
         ∙ ap (λ z. eqb z now) (let e : q * (now / q) ≡ q * (now / q) + 0 = omega arith in e)

@@ -66,6 +66,7 @@ use Rattle.htl_machine.proofs.TellingLoaded.{loaded_records}
 use Rattle.htl_machine.proofs.Wholly.{modes_read}
 use Rattle.htl_machine.specs.Quiet.{IsQuiet, AreQuiet, IsEmpty, PassOver}
 use Rattle.htl_machine.specs.Rounds.{period_or, round_start}
+use Rattle.htl_machine.proofs.Loaded.{loaded_rounds}
 use Rattle.htl_machine.proofs.LoadedLists.{loaded_begun, loaded_keys}
 use Rattle.htl_machine.proofs.Idle.{IsIdle, idle, round_ends}
 
@@ -184,7 +185,7 @@ module _ (m : Seen) (es : List Event) (n : ℕ) (accepted : IsAccepted m.object)
   never b =
       let h = beginning t code schedules loaded reads es u.kept.within (suc n) b in
       let p = h.0 in
-      let regular : AreRegular t es p = subst (λ o. AreRegular t es (period_or o)) (sym (loaded_keys t schedules loaded) ∙ h.1) (loaded.rounds es u.kept.within).regular in
+      let regular : AreRegular t es p = subst (λ o. AreRegular t es (period_or o)) (sym (loaded_keys t schedules loaded) ∙ h.1) (loaded_rounds t schedules loaded es u.kept.within).regular in
       let start = (loaded_begun t schedules loaded es u.kept.within p h.1 (suc n) h.2).0 in
       let inside = begins_some m es (suc n) accepted read u b in
       let ends : suc n ≡ round_start p n + p = elim (apart (suc n) (p * (n / p) + p)) [

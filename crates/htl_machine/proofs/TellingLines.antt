@@ -9,7 +9,7 @@ use Rattle.htl_walk.specs.declared.schedule.SInstr.{SInstr}
 use Rattle.htl_walk.specs.Walk.{Point, Left, walk_from, first_point, InForm}
 use Rattle.htl_refine.specs.Records.{walk_of, round_at, left_at}
 use Rattle.htl_machine.specs.Rounds.{round_start}
-use Rattle.htl_machine.specs.Follows.{AreInForm}
+use Rattle.htl_machine.proofs.Loaded.{AreInForm}
 use Rattle.htl_machine.proofs.Desking.{times_within}
 use Rattle.htl_machine.proofs.Telling.{over, earlier_over}
 use Rattle.htl_machine.proofs.TellingLists.{silent_at}

@@ -3,12 +3,10 @@ use Rattle.std.specs.Prelude.{◌≡◌, ℕ, zero, suc, ◌-◌, ◌≤◌, ◌
 use Rattle.htl_model.specs.declared.event.Event.{Event}
 use Rattle.htl_model.specs.declared.event.Event.TheVariants as V
 use Rattle.htl_model.specs.Frames.{hyper}
-use Rattle.htl_model.specs.Selections.{root_period}
 use Rattle.htl_model.specs.Tables.{Tables}
 use Rattle.htl_model.specs.Meaning.{sense}
 use Rattle.htl_walk.specs.declared.job.Job.{Job}
 use Rattle.htl_walk.specs.declared.schedule.SInstr.{SInstr}
-use Rattle.htl_walk.specs.Walk.{InForm}
 use Rattle.htl_emach.specs.Shapes.{HasValues, IsShaped}
 use Rattle.htl_smach.specs.Rounds as rounds
 use Rattle.htl_smach.specs.Rounds.{Round, no_round, state_of}
@@ -24,8 +22,7 @@ use Rattle.htl_machine.specs.Values.{ValuesFollow}
 use Rattle.htl_refine.specs.RecordCounts.{count_before}
 use Rattle.htl_refine.specs.ListPlans.{ListPlan as Plan, list_walk}
 use Rattle.htl_machine.specs.ListTurns.{Turn}
-use Rattle.htl_machine.specs.Plans.{AreRegular, AreSound, finished_before}
-use Rattle.htl_machine.specs.Rounds.{period_or, plan_of, round_start}
+use Rattle.htl_machine.specs.Plans.{finished_before}
 use Rattle.htl_machine.specs.Turns.{position_from}
 use Rattle.htl_machine.specs.RunLists.{turn_at}
 
@@ -106,23 +103,12 @@ pub record DeskAt (p : Plan) (s k d : ℕ) (r : Round) : Type 0 where
   pub released : r.released ≡ released_before d p.jobs
   pub stands : rounds.Stands r p.schedule
 
--- the schedule of each round is in form
-abbrev pub AreInForm : Tables → List (List SInstr) → List Event → ℕ → Type 0
-AreInForm t schedules es period = (n : ℕ) → let r = plan_of t schedules es (round_start period n) in InForm (length r.jobs) period r.schedule
-
--- every round is sound, and its schedule in form; without modules there is no schedule
-pub record AreKept (t : Tables) (schedules : List (List SInstr)) (es : List Event) : Type 0 where
-  pub regular : AreRegular t es (period_or (root_period t))
-  pub sound : AreSound t es (plan_of t schedules es) (period_or (root_period t))
-  pub form : (period : ℕ) → root_period t ≡ Some period → AreInForm t schedules es period
-
--- tables in range that keep the form rules, with lists that are accepted for all paths and serve every round
+-- tables in range that keep the form rules, with lists that are accepted for all paths
 pub record IsLoaded (t : Tables) (schedules : List (List SInstr)) : Type 0 where
   pub range : AreInRange t
   pub kept : KeptApart t 12
   pub rules : KeptTo t 16
   pub feasible : AreFeasible t schedules
-  pub rounds : (es : List Event) → AreTookWithin t es → AreKept t schedules es
 
 -- ---- what the calls of a machine do to what it keeps
 

@@ -5,13 +5,12 @@ ghost use Rattle.htl_machine.specs.Quiet.{QuietInstantsPass};
 ghost use Rattle.htl_machine.specs.RunFrames.{FeasibleRuns, ValuesGoOn, RunReady};
 ghost use Rattle.htl_machine.specs.RunLists.{RunsGoByLists};
 
-/// Of an accepted object every round is sound, whatever the events within the worst cases: its jobs are those of the invocations that
-/// stand, and its schedule does each of them in its window, after its predecessors.
+/// An accepted object is a loaded program: its tables keep the form rules, and every path accepts the lists of its nodes.
 pub fn accepted_is_loaded()
     ensures { AcceptedIsLoaded }
 {}
 
-/// Of an accepted object, whatever the sensors show and however long the jobs take within their worst cases: each job of each round
+/// Of an accepted object, whatever the sensors show and however long the jobs take within their worst cases: each job of each frame
 /// whose window ended by the end of the run is done once, within its window, in slices that lie in the window, have as many ticks as
 /// it takes, overlap no other job's and begin no earlier than its predecessors are done.
 pub fn every_job_in_time()
