@@ -40,6 +40,7 @@ pub mod Tops
 pub mod Windows
 pub mod Rounding
 pub mod LoadedLists
+pub mod NextLists
 pub mod ListValues
 pub mod ListsSoFar
 pub mod Tying

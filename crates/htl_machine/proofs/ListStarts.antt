@@ -47,7 +47,7 @@ pub some_begun : (h d : ℕ) (from : List ℕ) → 0 < h → next_of h from ≡ 
 some_begun h d [] some first = absurd (omega (arith, some, first))
 some_begun h d (a ∷ later) some first = (begun_of d later, ap (λ b. cond b (suc (begun_of d later)) 0) (le-leb a d (omega (arith, first))))
 
-none_after : (h d a : ℕ) (later : List ℕ) → a < next_of h later → d ≤ a → begun_of d later ≡ 0
+pub none_after : (h d a : ℕ) (later : List ℕ) → a < next_of h later → d ≤ a → begun_of d later ≡ 0
 none_after h d a [] less early = refl
 none_after h d a (b ∷ later) less early = ap (λ c. cond c (suc (begun_of d later)) 0) (lt-leb b d (omega (arith, less, early)))
 

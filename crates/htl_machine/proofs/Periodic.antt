@@ -17,7 +17,7 @@ use Rattle.htl_machine.proofs.Standing.{none_some}
 first_known : (t : Tables) (u : ℕ) → AreInRange t → u < length t.modules → get_or (modes_of t u) 0 0 < length t.modes
 first_known t u range h = All-get_or (λ m. m < length t.modes) (modes_of t u) 0 0 (modes_some t u range h) (all_places_below (mode_of_module u) t.modes)
 
-divides : (p at : ℕ) → 0 < p → (not (eqb p 0) && eqb (at % p) 0) ≡ eqb (at % p) 0
+pub divides : (p at : ℕ) → 0 < p → (not (eqb p 0) && eqb (at % p) 0) ≡ eqb (at % p) 0
 divides zero at h = absurd (omega (arith, h))
 divides (suc p) at h = ap (λ b. not b && eqb (at % suc p) 0) (ne_eqb (suc p) 0 (λ e. omega (arith, e)))
 

@@ -116,10 +116,10 @@ module _ (t : Tables) (lists : List (List SInstr)) (es : List Event) (run : IsFe
 
   -- ---- the list that stands
 
-  number : (n : ℕ) → (k : ℕ) × (begun_of (n - frame_start t n) (starts t) ≡ suc k)
+  pub number : (n : ℕ) → (k : ℕ) × (begun_of (n - frame_start t n) (starts t) ≡ suc k)
   number n = some_begun (frame_of t) (n - frame_start t n) (starts t) run.ticks first
 
-  number_is : (n : ℕ) → (turn n).list ≡ (number n).0
+  pub number_is : (n : ℕ) → (turn n).list ≡ (number n).0
   number_is n = ap pred (number n).1
 
   pub stands : (n : ℕ) → StandsAt (root_periods t) (frame_of t) (places n) (starts t) (n - frame_start t n) (turn n).list

@@ -39,6 +39,7 @@ pub mod Calls
 pub mod Fitted
 pub mod Passing
 pub mod Timing
+pub mod NextLists
 pub mod Instant
 pub mod Asking
 pub mod Marks

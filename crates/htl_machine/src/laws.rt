@@ -1,6 +1,7 @@
 //! The laws of a run, over the definitions alone. Each is a statement that the check has proved; there is nothing to run.
 ghost use Rattle.htl_machine.specs.FramePlacing.{FrameCast};
 ghost use Rattle.htl_machine.specs.Laws.{AcceptedIsLoaded, EveryJobInTime, ValuesAreTheMeaning, SensorsDecide, LaterEventsLeaveText, JobLinesAreRecords, JobLinesAreFound, EveryJobToldInTime};
+ghost use Rattle.htl_machine.specs.NextLists.{ListsBegin};
 ghost use Rattle.htl_machine.specs.Quiet.{QuietInstantsPass};
 ghost use Rattle.htl_machine.specs.RunFrames.{FeasibleRuns, ValuesGoOn, RunReady};
 ghost use Rattle.htl_machine.specs.RunLists.{RunsGoByLists};
@@ -84,4 +85,10 @@ pub fn runs_are_ready()
 /// it goes on, or it is over and the next begins.
 pub fn runs_go_by_lists()
     ensures { RunsGoByLists }
+{}
+
+/// A list begins exactly where a round of some root module does. Which it is follows from the list before it and the modes at that
+/// instant: its number in the frame, and its node.
+pub fn lists_begin()
+    ensures { ListsBegin }
 {}
