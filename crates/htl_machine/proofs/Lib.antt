@@ -41,6 +41,8 @@ pub mod Windows
 pub mod Rounding
 pub mod LoadedLists
 pub mod NextLists
+pub mod NextPoints
+pub mod NextDesks
 pub mod ListValues
 pub mod ListsSoFar
 pub mod Tying

@@ -40,6 +40,7 @@ pub mod Fitted
 pub mod Passing
 pub mod Timing
 pub mod NextLists
+pub mod NextDesks
 pub mod Instant
 pub mod Asking
 pub mod Marks

@@ -1,6 +1,7 @@
 //! The laws of a run, over the definitions alone. Each is a statement that the check has proved; there is nothing to run.
 ghost use Rattle.htl_machine.specs.FramePlacing.{FrameCast};
 ghost use Rattle.htl_machine.specs.Laws.{AcceptedIsLoaded, EveryJobInTime, ValuesAreTheMeaning, SensorsDecide, LaterEventsLeaveText, JobLinesAreRecords, JobLinesAreFound, EveryJobToldInTime};
+ghost use Rattle.htl_machine.specs.NextDesks.{DesksGoOn};
 ghost use Rattle.htl_machine.specs.NextLists.{ListsBegin};
 ghost use Rattle.htl_machine.specs.Quiet.{QuietInstantsPass};
 ghost use Rattle.htl_machine.specs.RunFrames.{FeasibleRuns, ValuesGoOn, RunReady};
@@ -91,4 +92,10 @@ pub fn runs_go_by_lists()
 /// instant: its number in the frame, and its node.
 pub fn lists_begin()
     ensures { ListsBegin }
+{}
+
+/// Where all of a list is left, the S machine may go on with the positions that are new in the next list, and then stands at its
+/// beginning.
+pub fn desks_go_on()
+    ensures { DesksGoOn }
 {}
