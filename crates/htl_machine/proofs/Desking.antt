@@ -152,7 +152,7 @@ is_over p s now d count period r form early e at =
 
 -- ---- a frame begins
 
-none_released : (js : List Job) → replicate (length js) false ≡ released_before 0 js
+pub none_released : (js : List Job) → replicate (length js) false ≡ released_before 0 js
 none_released [] = refl
 none_released (j ∷ js) = ap₂ (λ a b. a ∷ b) (by_present j.present) (none_released js)
   where

@@ -43,6 +43,8 @@ pub mod LoadedLists
 pub mod NextLists
 pub mod NextPoints
 pub mod NextDesks
+pub mod ListBegun
+pub mod ListAdded
 pub mod ListValues
 pub mod ListsSoFar
 pub mod Tying

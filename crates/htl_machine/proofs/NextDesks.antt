@@ -168,7 +168,7 @@ module _ (f : Frame) (j s : ℕ) (r : Round) (g : IsFollowed f j) (at : DeskAt (
       }
 
   -- as many of each
-  even : IsEven r
+  pub even : IsEven r
   even =
       let n = (leg_at f j).known in
       let y = point_at f j in

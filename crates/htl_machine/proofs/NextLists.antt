@@ -126,7 +126,7 @@ module _ (t : Tables) (lists : List (List SInstr)) (es : List Event) (run : IsFe
   first_rules : KeptApart t 12
   first_rules r s have need small other broken = run.kept r s have need (omega (arith, small)) other broken
 
-  offset : now % frame_of t ≡ now - frame_start t now
+  pub offset : now % frame_of t ≡ now - frame_start t now
   offset = let parts : frame_of t * (now / frame_of t) + now % frame_of t ≡ now = div-add-mod now (frame_of t) in omega (arith, parts)
 
   -- a list begins exactly where a round does
@@ -170,7 +170,7 @@ module _ (t : Tables) (lists : List (List SInstr)) (es : List Event) (run : IsFe
         ap (choice_at t modes) at_is ∙ choice_same t modes (now % frame_of t) ∙ ap (λ n. choice_of t (modes_at t es n) (now % frame_of t)) same
 
     -- as a frame begins
-    first_next : now % frame_of t ≡ 0 → (list before : ℕ) → ((turn now).list ≡ next_list t now list) × ((turn now).node ≡ next_node t (modes_at t es now) now before list)
+    pub first_next : now % frame_of t ≡ 0 → (list before : ℕ) → ((turn now).list ≡ next_list t now list) × ((turn now).node ≡ next_node t (modes_at t es now) now before list)
     first_next zero_is list before =
         let test : eqb (now % frame_of t) 0 ≡ true = eq-eqb (now % frame_of t) 0 zero_is in
         let none : now - frame_start t now ≡ 0 = omega (arith, offset, zero_is) in
@@ -183,8 +183,15 @@ module _ (t : Tables) (lists : List (List SInstr)) (es : List Event) (run : IsFe
               ∙ sym (ap (λ b. cond b 0 (suc before) + choice_of t (modes_at t es now) (now % frame_of t) * suc (nodes_below t (drop (suc (cond b 0 (suc list))) (starts t)))) test),
         )
 
+  -- behind a frame's start the frame goes on
+  pub same_frame : (n : ℕ) → now ≡ suc n → now % frame_of t ≢ 0 → (turn now).frame + (turn now).from ≡ now → frame_start t now ≡ frame_start t n
+  same_frame n e more here = elim (begins_or_not (frame_of t) n run.ticks) [
+    | inl whole ↦ absurd (more (let z : frame_start t now ≡ now = ap (frame_start t) e ∙ whole ∙ sym e in omega (arith, offset, z)))
+    | inr on ↦ ap (frame_start t) e ∙ on
+  ]
+
   -- behind it
-  later_next : (n : ℕ) → now ≡ suc n → now % frame_of t ≢ 0 → (turn now).frame + (turn now).from ≡ now
+  pub later_next : (n : ℕ) → now ≡ suc n → now % frame_of t ≢ 0 → (turn now).frame + (turn now).from ≡ now
       → ((turn now).list ≡ next_list t now (turn n).list) × ((turn now).node ≡ next_node t (modes_at t es now) now (turn n).node (turn n).list)
   later_next n e more here =
       let test : eqb (now % frame_of t) 0 ≡ false = ne_eqb (now % frame_of t) 0 more in
@@ -192,26 +199,20 @@ module _ (t : Tables) (lists : List (List SInstr)) (es : List Event) (run : IsFe
       let s = stands t lists es run now in
       let step = node_steps t modes (starts t) (turn n).list (omega (arith, list, s.there)) in
       let old : (turn n).node ≡ node_read t modes (starts t) (turn n).list =
-      nodes_read t (frame_modes t es (frame_start t n)) (λ a. states_are_selections t run.range es (frame_start t n + a)) (turn n).list ∙ ap (λ f. node_read t (frame_modes t es f) (starts t) (turn n).list) (sym same_frame) in (
+      nodes_read t (frame_modes t es (frame_start t n)) (λ a. states_are_selections t run.range es (frame_start t n + a)) (turn n).list ∙ ap (λ f. node_read t (frame_modes t es f) (starts t) (turn n).list) (sym (same_frame n e more here)) in (
         list ∙ sym (ap (λ b. cond b 0 (suc (turn n).list)) test),
         node_is ∙ ap (node_read t modes (starts t)) list ∙ step
             ∙ ap₂ (λ v c. suc v + c * suc (nodes_below t (drop (suc (suc (turn n).list)) (starts t)))) (sym old) (ap (λ i. choice_at t modes (get_or (starts t) i 0)) (sym list) ∙ choice_is here)
             ∙ sym (ap (λ b. cond b 0 (suc (turn n).node) + choice_of t (modes_at t es now) (now % frame_of t) * suc (nodes_below t (drop (suc (cond b 0 (suc (turn n).list))) (starts t)))) test),
       )
     where
-      same_frame : frame_start t now ≡ frame_start t n
-      same_frame = elim (begins_or_not (frame_of t) n run.ticks) [
-        | inl whole ↦ absurd (more (let z : frame_start t now ≡ now = ap (frame_start t) e ∙ whole ∙ sym e in omega (arith, offset, z)))
-        | inr on ↦ ap (frame_start t) e ∙ on
-      ]
-
       grown : (begun_of (suc (n - frame_start t n)) (starts t) ≡ begun_of (n - frame_start t n) (starts t))
           ⊎ ((begun_of (suc (n - frame_start t n)) (starts t) ≡ suc (begun_of (n - frame_start t n) (starts t))) × (begun_of (n - frame_start t n) (starts t) < length (starts t))
           × (get_or (starts t) (begun_of (n - frame_start t n) (starts t)) 0 ≡ suc (n - frame_start t n)))
           → (turn now).list ≡ suc (turn n).list
       grown c =
           let down = past t lists es run n in
-          let d : now - frame_start t now ≡ suc (n - frame_start t n) = omega (arith, same_frame, e, down) in
+          let d : now - frame_start t now ≡ suc (n - frame_start t n) = omega (arith, same_frame n e more here, e, down) in
           by d c
         where
           by : now - frame_start t now ≡ suc (n - frame_start t n)
@@ -225,7 +226,7 @@ module _ (t : Tables) (lists : List (List SInstr)) (es : List Event) (run : IsFe
               let s = stands t lists es run n in
               let from : (turn now).from ≡ get_or (starts t) (turn n).list 0 = from_is t lists es run now ∙ ap (λ i. get_or (starts t) i 0) list in
               let down = past t lists es run n in
-              absurd (omega (arith, here, from, s.begun, same_frame, e, down))
+              absurd (omega (arith, here, from, s.begun, same_frame n e more here, e, down))
 
 pub lists_begin : ListsBegin
 lists_begin t lists es run at = (begins_there t lists es run at, λ here. next at here)

@@ -34,6 +34,7 @@ pub mod Opening
 pub mod Printing
 pub mod Quiet
 pub mod Starting
+pub mod ListBegun
 pub mod RecordLines
 pub mod Calls
 pub mod Fitted

@@ -1,6 +1,7 @@
 //! The laws of a run, over the definitions alone. Each is a statement that the check has proved; there is nothing to run.
 ghost use Rattle.htl_machine.specs.FramePlacing.{FrameCast};
 ghost use Rattle.htl_machine.specs.Laws.{AcceptedIsLoaded, EveryJobInTime, ValuesAreTheMeaning, SensorsDecide, LaterEventsLeaveText, JobLinesAreRecords, JobLinesAreFound, EveryJobToldInTime};
+ghost use Rattle.htl_machine.specs.ListBegun.{ListsAreBegun};
 ghost use Rattle.htl_machine.specs.NextDesks.{DesksGoOn};
 ghost use Rattle.htl_machine.specs.NextLists.{ListsBegin};
 ghost use Rattle.htl_machine.specs.Quiet.{QuietInstantsPass};
@@ -98,4 +99,10 @@ pub fn lists_begin()
 /// beginning.
 pub fn desks_go_on()
     ensures { DesksGoOn }
+{}
+
+/// So as a list of a run begins, the S machine that begins anew at a frame's start, and else goes on with the jobs of the rounds that
+/// begin, stands at the list's beginning: by the modes of the instant, and the lengths that are kept.
+pub fn lists_are_begun()
+    ensures { ListsAreBegun }
 {}
