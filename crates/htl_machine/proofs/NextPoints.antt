@@ -1,0 +1,64 @@
+-- The point at which the next list of a path begins.
+use Rattle.std.proofs.Common.{◌≡◌, ℕ, zero, suc, ◌+◌, ◌≤◌, ◌<◌, List, [], ◌∷◌, ◌++◌, length, take, drop, get_or, refl, sym, ap, ◌∙◌, arith}
+use Rattle.std.proofs.lemmas.List.{length-set}
+use Rattle.htl_walk.specs.declared.job.Job.{Job}
+use Rattle.htl_walk.specs.declared.schedule.SInstr.{SInstr}
+use Rattle.htl_walk.specs.declared.schedule.SInstr.TheVariants.{Dispatch, Idle, End}
+use Rattle.htl_walk.specs.Walk.{Point, next_point, last_point, work}
+use Rattle.htl_walk.specs.Paths.{Leg, begun, AreInForm, path_point}
+use Rattle.htl_walk.proofs.GoingOn.{untouched}
+use Rattle.htl_refine.specs.ListPlans.{no_leg}
+
+pub front_more : {A : Type 0} (n m : ℕ) (xs : List A) → n ≤ m → take n xs ++ drop n (take m xs) ≡ take m xs
+front_more zero m xs h = refl
+front_more (suc n) zero xs h = absurd (omega arith)
+front_more (suc n) (suc m) [] h = refl
+front_more (suc n) (suc m) (x ∷ xs) h = ap (λ ys. x ∷ ys) (front_more n m xs (omega arith))
+
+pub take_all : {A : Type 0} (xs : List A) → take (length xs) xs ≡ xs
+take_all [] = refl
+take_all (x ∷ xs) = ap (λ ys. x ∷ ys) (take_all xs)
+
+drop_none : (n : ℕ) → ◌≡◌ {A = List ℕ} (drop n []) []
+drop_none zero = refl
+drop_none (suc n) = refl
+
+pub drop_work : (n : ℕ) (js : List Job) (ns : List ℕ) → work (drop n js) (drop n ns) ≡ drop n (work js ns)
+drop_work zero js ns = refl
+drop_work (suc n) [] ns = refl
+drop_work (suc n) (j ∷ js) [] = ap (work (drop n js)) (sym (drop_none n)) ∙ drop_work n js []
+drop_work (suc n) (j ∷ js) (m ∷ ns) = drop_work n js ns
+
+pub get_behind : (n : ℕ) (xs : List ℕ) (p : ℕ) → get_or (drop n xs) p 0 ≡ get_or xs (n + p) 0
+get_behind zero xs p = let z : p ≡ 0 + p = omega arith in ap (λ k. get_or xs k 0) z
+get_behind (suc n) [] p = refl
+get_behind (suc n) (x ∷ xs) p = get_behind n xs p ∙ (let z : suc (n + p) ≡ suc n + p = omega arith in ap (λ k. get_or (x ∷ xs) k 0) z)
+
+pub same_length : (jobs : List Job) (s : List SInstr) (x : Point) → length (last_point jobs s x).left ≡ length x.left
+same_length jobs [] x = refl
+same_length jobs (Dispatch p h ∷ is) x = same_length jobs is (next_point jobs (Dispatch p h) x) ∙ simp length-set refl
+same_length jobs (Idle h ∷ is) x = same_length jobs is (next_point jobs (Idle h) x)
+same_length jobs (End ∷ is) x = same_length jobs is x
+
+-- with the work that the list before it left
+pub point_next : (jobs : List Job) (ss : List (List SInstr)) (gs : List Leg) (j : ℕ) (x : Point) → AreInForm ss gs → suc j < length gs
+    → path_point jobs ss gs (suc j) 0 x ≡ begun (get_or gs (suc j) no_leg).from (last_point jobs (get_or ss j []) (path_point jobs ss gs j 0 x))
+point_next jobs [] [] j x f h = absurd (omega arith)
+point_next jobs [] (g ∷ gs) j x f h = absurd f
+point_next jobs (s ∷ ss) [] j x f h = absurd f
+point_next jobs (s ∷ []) (g ∷ []) zero x f h = absurd (omega arith)
+point_next jobs (s ∷ []) (g ∷ k ∷ gs) zero x f h = absurd f.1
+point_next jobs (s ∷ u ∷ ss) (g ∷ []) zero x f h = absurd (omega arith)
+point_next jobs (s ∷ u ∷ ss) (g ∷ k ∷ gs) zero x f h = refl
+point_next jobs (s ∷ ss) (g ∷ gs) (suc j) x f h = point_next jobs ss gs j (last_point jobs s (begun g.from x)) f.1 (omega arith)
+
+-- what the lists before it don't know is as it was
+pub point_untouched : (jobs : List Job) (ss : List (List SInstr)) (gs : List Leg) (j : ℕ) (x : Point) (p : ℕ) → AreInForm ss gs → j < length gs → ((i : ℕ) → i < j → (get_or gs i no_leg).known ≤ p)
+    → get_or (path_point jobs ss gs j 0 x).left p 0 ≡ get_or x.left p 0
+point_untouched jobs [] [] j x p f h k = absurd (omega arith)
+point_untouched jobs [] (g ∷ gs) j x p f h k = absurd f
+point_untouched jobs (s ∷ ss) [] j x p f h k = absurd f
+point_untouched jobs (s ∷ ss) (g ∷ gs) zero x p f h k = refl
+point_untouched jobs (s ∷ ss) (g ∷ gs) (suc j) x p f h k =
+    point_untouched jobs ss gs j (last_point jobs s (begun g.from x)) p f.1 (omega arith) (λ i l. k (suc i) (omega (arith, l)))
+    ∙ untouched g.known g.known g.to jobs s (begun g.from x) p f.0 (omega arith) (k 0 (omega arith))
