@@ -1,14 +1,13 @@
 -- The calls of a machine: what it follows, counted and wrote, carried by each.
-use Rattle.std.proofs.Common.{◌≡◌, ℕ, suc, ◌+◌, ◌-◌, ◌^◌, min, ◌<◌, false, cond, ◌&&◌, eqb, leb, List, [], ◌∷◌, ◌++◌, length, get_or, slice_get, IfSome, ℤ, pos, sym, ap, ◌∙◌, arith}
+use Rattle.std.proofs.Common.{◌≡◌, ℕ, suc, ◌+◌, ◌-◌, ◌^◌, min, ◌<◌, false, cond, ◌&&◌, eqb, leb, List, [], ◌∷◌, ◌++◌, length, slice_get, IfSome, ℤ, sym, ap, ◌∙◌, arith}
 use Rattle.std.specs.List.{count_by}
 use Rattle.std.proofs.lemmas.Bool.Decides.{nat_tests}
-use Rattle.htl_model.specs.Lines.{totals_line}
 use Rattle.htl_model.specs.declared.event.Event.{Event}
 use Rattle.htl_model.specs.declared.event.Event.TheVariants as V
 use Rattle.htl_model.specs.Ranges.{FitsType}
-use Rattle.htl_model.specs.Selections.{root_period}
+use Rattle.htl_model.specs.Frames.{hyper}
 use Rattle.htl_model.specs.Tables.{Tables}
-use Rattle.htl_model.specs.Meaning.{sense, val}
+use Rattle.htl_model.specs.Meaning.{sense}
 use Rattle.htl_walk.specs.declared.schedule.SInstr.{SInstr}
 use Rattle.htl_smach.specs.declared.left.Left.{Left}
 use Rattle.htl_smach.specs.Rounds as rounds
@@ -18,10 +17,10 @@ use Rattle.htl_ecode.specs.Paths.{e_path}
 use Rattle.htl_refine.specs.Records.{took, IsTookWithin}
 use Rattle.htl_emach.specs.Shapes.{IsShaped}
 use Rattle.htl_machine.specs.Plans.{next_world}
-use Rattle.htl_machine.specs.Rounds.{plan_of}
-use Rattle.htl_machine.specs.Follows.{Held, reading_of, period_or, DeskFollows, UpTo, IsLoaded, at_reading, shown_as, desk_taking, taken_as}
+use Rattle.htl_machine.specs.RunLists.{turn_at}
+use Rattle.htl_machine.specs.Follows.{Held, reading_of, DeskFollows, IsLoaded, at_reading, shown_as, desk_taking, taken_as}
 use Rattle.htl_console.specs.declared.shown.Shown.{Shown}
-use Rattle.htl_machine.specs.Texts.{instant_text, text_before, run_text, records_of, jobs_before, e_before}
+use Rattle.htl_machine.specs.Texts.{instant_text, records_of}
 use Rattle.htl_machine.specs.Machines.{Counts, Stands, Followed}
 use Rattle.htl_machine.proofs.Events.{Alike, sense_at, sense_sense, took_at, took_sense}
 use Rattle.htl_machine.proofs.Following.{read_follows, sense_follows}
@@ -33,12 +32,12 @@ use Rattle.htl_machine.proofs.Counting.{totals_next, totals_same, records_alike}
 module _ (t : Tables) (code : ECode) (schedules : List (List SInstr)) (loaded : IsLoaded t schedules) (show : Shown) where
   -- one instant: the world goes on, the S machine stands before the next, the text of the instant is written
   pub instant_stands : (es : List Event) (now : ℕ) (m : Held) (n : Counts) (written new : List ℕ) (r : Round) → Stands t code schedules show es now m n written
-      → IsShaped t (next_world t es (plan_of t schedules es) (period_or (root_period t)) now m.world) → DeskFollows (plan_of t schedules es) (root_period t) (suc now) r → new ≡ written ++ instant_text t code schedules es show now
-      → Stands t code schedules show es (suc now) (record m { world = next_world t es (plan_of t schedules es) (period_or (root_period t)) now m.world; desk = r })
+      → IsShaped t (next_world t es (turn_at t schedules es) now m.world) → DeskFollows (turn_at t schedules es) (hyper t) (suc now) r → new ≡ written ++ instant_text t code schedules es show now
+      → Stands t code schedules show es (suc now) (record m { world = next_world t es (turn_at t schedules es) now m.world; desk = r })
       (record {
-        jobs = min (n.jobs + count_by (λ (l : Left). l.finished) (records_of t schedules es (root_period t) now)) (2 ^ 64 - 1);
+        jobs = min (n.jobs + count_by (λ (l : Left). l.finished) (records_of t schedules es (hyper t) now)) (2 ^ 64 - 1);
         e = min (n.e + length (e_path t code es now)) (2 ^ 64 - 1);
-        s = min (n.s + length (records_of t schedules es (root_period t) now)) (2 ^ 64 - 1);
+        s = min (n.s + length (records_of t schedules es (hyper t) now)) (2 ^ 64 - 1);
       }) new
   instant_stands es now m n written new r f shape desk text =
       record {
@@ -60,8 +59,8 @@ module _ (t : Tables) (code : ECode) (schedules : List (List SInstr)) (loaded : 
         stands =
             record {
               up_to = follows.up_to;
-              totals = totals_same t code schedules es fs to n.jobs n.e n.s (λ k h. records_alike t schedules es fs to alike' tooks (root_period t) k h) alike' f.totals;
-              text = f.text ∙ before_stays t code schedules es fs show to alike' tooks;
+              totals = totals_same t code schedules es fs to n.jobs n.e n.s (λ k h. records_alike t schedules es fs to alike' loaded f.up_to.within tooks (hyper t) k h) alike' f.totals;
+              text = f.text ∙ before_stays t code schedules es fs show to alike' loaded f.up_to.within tooks;
             };
       }
 
@@ -78,8 +77,8 @@ module _ (t : Tables) (code : ECode) (schedules : List (List SInstr)) (loaded : 
         stands =
             record {
               up_to = follows.up_to;
-              totals = totals_same t code schedules es fs m.reading n.jobs n.e n.s (λ k h. records_alike t schedules es fs m.reading alike' tooks (root_period t) k h) alike' f.stands.totals;
-              text = f.stands.text ∙ before_stays t code schedules es fs show m.reading alike' tooks;
+              totals = totals_same t code schedules es fs m.reading n.jobs n.e n.s (λ k h. records_alike t schedules es fs m.reading alike' loaded f.stands.up_to.within tooks (hyper t) k h) alike' f.stands.totals;
+              text = f.stands.text ∙ before_stays t code schedules es fs show m.reading alike' loaded f.stands.up_to.within tooks;
             };
       }
     where
@@ -104,16 +103,3 @@ module _ (t : Tables) (code : ECode) (schedules : List (List SInstr)) (loaded : 
               text = f.stands.text ∙ took_stays t code schedules loaded es f.stands.up_to.within i k fits m.reading f.follows.reading show;
             };
       }
-
-  -- after the last instant a communicator has its value of then
-  pub last_value : (es : List Event) (to c : ℕ) (m : Held) → UpTo t schedules es (suc to) m → get_or m.world.values c (pos 0) ≡ val t es c to
-  last_value es to c m up = ap (λ v. get_or v c (pos 0)) up.values.values
-
-  -- and with the totals line all of the run is written
-  pub all_written : (es : List Event) (to : ℕ) (m : Held) (n : Counts) (written : List ℕ) → Stands t code schedules show es (suc to) m n written
-      → written ++ totals_line to n.jobs n.e n.s ≡ run_text t code schedules es show to
-  all_written es to m n written f =
-      ap (λ z. z ++ totals_line to n.jobs n.e n.s) f.text
-      ∙ ap (λ z. text_before t code schedules es show (suc to) ++ totals_line to z n.e n.s) f.totals.jobs_are
-      ∙ ap (λ z. text_before t code schedules es show (suc to) ++ totals_line to (jobs_before t schedules es (suc to)) z n.s) f.totals.e_are
-      ∙ ap (λ z. text_before t code schedules es show (suc to) ++ totals_line to (jobs_before t schedules es (suc to)) (e_before t code es (suc to)) z) f.totals.s_are

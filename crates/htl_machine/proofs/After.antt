@@ -1,5 +1,5 @@
 -- An instant once its parts are done: what the calls said carries the machine to the next.
-use Rattle.std.proofs.Common.{◌≡◌, ◌≢◌, ℕ, zero, suc, ◌+◌, ◌-◌, ◌*◌, ◌/◌, take, drop, cond, ◌&&◌, leb, map, get_or, ◌⊎◌, ◌≤◌, ◌<◌, ◌^◌, Bool, true, false, eqb, List, [], ◌∷◌, ◌++◌, length, slice_get, Option, Some, None, ℤ, refl, sym, ap, ap₂, ◌∙◌, subst, arith, inl, inr}
+use Rattle.std.proofs.Common.{◌≡◌, ◌≢◌, ℕ, zero, suc, ◌+◌, ◌-◌, take, drop, cond, ◌&&◌, leb, map, get_or, ◌⊎◌, ◌≤◌, ◌<◌, ◌^◌, Bool, true, false, eqb, List, [], ◌∷◌, ◌++◌, length, slice_get, Option, Some, None, ℤ, refl, sym, ap, ap₂, ◌∙◌, subst, arith, inl, inr}
 use Rattle.std.specs.List.{All}
 use Rattle.std.proofs.lemmas.Bool.{eqb-true, eqb-false}
 use Rattle.std.proofs.lemmas.List.{get_or-map, get_or_past, length-map}
@@ -10,6 +10,7 @@ use Rattle.htl_model.specs.declared.parts.Inv.{Inv}
 use Rattle.htl_model.specs.declared.parts.Module.{Module}
 use Rattle.htl_model.specs.Lists.{joined, places_from}
 use Rattle.htl_model.specs.Ranges.{IsCommInRange}
+use Rattle.htl_model.specs.Frames.{hyper}
 use Rattle.htl_model.specs.Selections.{is_root, root_modules, root_period}
 use Rattle.htl_model.specs.Tables.{Tables, task_worst}
 use Rattle.htl_model.specs.Meaning.{state, sense}
@@ -17,11 +18,12 @@ use Rattle.htl_walk.specs.declared.job.Job.{Job}
 use Rattle.htl_walk.specs.declared.schedule.Schedule.{Schedule}
 use Rattle.htl_walk.specs.declared.schedule.SInstr.{SInstr}
 use Rattle.htl_walk.specs.Refinement.{HaveLengths, AreWithinWorst}
-use Rattle.htl_walk.specs.Walk.{InForm, Meets, walk}
+use Rattle.htl_walk.specs.Walk as walks
+use Rattle.htl_walk.specs.Walk.{InForm, Meets, Point, walk_from}
 use Rattle.htl_walk.proofs.Work.{work_some}
 use Rattle.htl_smach.specs.declared.left.Left.{Left}
 use Rattle.htl_smach.specs.Rounds as rounds
-use Rattle.htl_smach.specs.Rounds.{Round, begun, no_round, told_from}
+use Rattle.htl_smach.specs.Rounds.{Round, no_round, told_from}
 use Rattle.htl_smach.proofs.Telling.{stands_begun}
 use Rattle.htl_object.specs.Ranges.{IsShort}
 use Rattle.htl_ecode.specs.declared.ecode.ECode.{ECode}
@@ -35,50 +37,51 @@ use Rattle.htl_emach.specs.Following.{Onward, phase_path}
 use Rattle.htl_emach.specs.Safety.{StandsSafely}
 use Rattle.htl_emach.specs.Shapes.{IsShaped}
 use Rattle.htl_object.specs.Accepted.{IsAccepted}
-use Rattle.htl_refine.specs.Records.{AreTookWithin, Round as Plan, inv_worst, last_took, modes_at, took}
+use Rattle.htl_refine.specs.ListPlans.{ListPlan as Plan, list_walk}
+use Rattle.htl_refine.specs.RecordCounts.{count_before}
+use Rattle.htl_refine.specs.Records.{AreTookWithin, Round as Work, inv_worst, last_took, modes_at, took}
 use Rattle.htl_refine.specs.Roots.{selection_of as selection_of_modes}
 use Rattle.htl_refine.proofs.RoundLaws.{have_lengths, within_worst}
 use Rattle.htl_machine.specs.declared.tally.Tally.{Tally}
 use Rattle.htl_machine.specs.Calls.{Seen, IsUpTo, GoesBy, number_by, schedule_by}
 use Rattle.htl_machine.specs.Casts.{IsCast, HaveWindows}
 use Rattle.htl_machine.specs.Doing.{path_lines}
-use Rattle.htl_machine.specs.Follows.{IsLoaded, DeskAt, DeskStands, DeskFollows, AreKept, period_or}
+use Rattle.htl_machine.specs.Follows.{IsLoaded, DeskAt, DeskStands, DeskFollows}
 use Rattle.htl_machine.specs.Instant.{IsReadyAt}
 use Rattle.htl_machine.specs.Leaving.{due_by, Leaves}
 use Rattle.htl_machine.specs.Machines.{Counts}
 use Rattle.htl_machine.specs.Opening.{IsOpened, closing_text, first_records, beginning_text}
-use Rattle.htl_machine.specs.Plans.{AreRegular, AreSound, round_start, with_records}
+use Rattle.htl_machine.specs.Plans.{with_records, AreSound}
 use Rattle.htl_machine.specs.Programs.{schedules_of, lines_of}
 use Rattle.htl_machine.specs.Readiness.{desk_replay, desk_at}
 use Rattle.htl_machine.specs.Recording.{Records}
-use Rattle.htl_machine.specs.Rounds.{plan_of, selection_of}
+use Rattle.htl_machine.specs.Rounds.{list_of, period_or, plan_of, round_start, round_turn}
 use Rattle.htl_machine.specs.Running.{replay}
 use Rattle.htl_machine.specs.Sensors.{AreShown}
-use Rattle.htl_machine.specs.Texts.{record_text, some_records, old_records, records_of, round_texts, instant_text, text_before}
+use Rattle.htl_machine.specs.Texts.{record_text, some_records, old_records, records_of, list_texts, instant_text, text_before}
 use Rattle.htl_machine.specs.Starting.{kept_lengths, instrs_of, IsToBegin}
 use Rattle.htl_machine.specs.Tellings.{tell_all}
 use Rattle.htl_machine.specs.Timing.{begins}
 use Rattle.htl_machine.specs.Values.{values_before}
 use Rattle.htl_machine.specs.Wholes.{Whole, Passed}
 use Rattle.htl_machine.specs.Worlds.{all_reads, with_sensors}
+use Rattle.htl_machine.specs.ListTurns.{Turn, AreTurns, AreListed, turn_walk}
+use Rattle.htl_machine.specs.RunLists.{turn_at}
 use Rattle.htl_machine.proofs.Accepted.{accepted_is_loaded}
 use Rattle.htl_machine.proofs.Alone.{stands_nowhere}
 use Rattle.htl_machine.proofs.Calling.{IsWhole, counts_of, whole_of, before_of}
 use Rattle.htl_machine.proofs.Composing.{instant_composed, counts_after, counts_are, texts_going, texts_beginning, texts_alone, records_going, records_beginning, records_alone}
 use Rattle.htl_machine.proofs.Following.{instant_values}
 use Rattle.htl_machine.proofs.Desking.{desk_begins, desk_closes}
-use Rattle.htl_machine.proofs.Instants.{with_flags, desk_left, desk_told, desk_over, desk_same}
-use Rattle.htl_machine.proofs.Loaded.{root_there, some_period}
+use Rattle.htl_machine.proofs.Instants.{with_flags, desk_left, desk_told, desk_on, desk_over}
+use Rattle.htl_machine.proofs.Loaded.{some_period, loaded_rounds, AreKept}
 use Rattle.htl_machine.proofs.Meeting.{next_is, switch_values, records_leave}
-use Rattle.htl_machine.proofs.Periodic.{begins_is, begins_never, starts_there}
-use Rattle.htl_machine.proofs.Periods.{goes_on}
-use Rattle.htl_machine.proofs.Plain.{apart, down, zero_down}
+use Rattle.htl_machine.proofs.Periodic.{begins_never}
 use Rattle.htl_machine.proofs.Premises.{first_left, first_over, cast_of}
-use Rattle.htl_machine.proofs.Rounding.{cast_at}
+use Rattle.htl_machine.proofs.LoadedLists.{length-lengths, loaded_begins, loaded_begun, loaded_empty, loaded_keys, loaded_listed, loaded_turns, loaded_code}
 use Rattle.htl_machine.proofs.RoundServed.{round_windows}
 use Rattle.htl_machine.proofs.Showing.{sensors_are}
-use Rattle.htl_machine.proofs.Standing.{all_at, none_some, standing_at}
-use Rattle.htl_machine.proofs.Steady.{begins_or_not}
+use Rattle.htl_machine.proofs.Standing.{all_at, standing_at}
 use Rattle.htl_machine.proofs.TellingLoaded.{loaded_lines}
 use Rattle.htl_machine.proofs.Timely.{read_phase_tells}
 use Rattle.htl_machine.proofs.Wholly.{modes_read, counted, whole_instant}
@@ -117,19 +120,15 @@ some_steps : (count period : ℕ) (is : List SInstr) → InForm count period is 
 some_steps count period [] f = absurd f
 some_steps count period (i ∷ is) f = omega arith
 
--- ---- when a round begins
+-- ---- when a list begins
 
--- the schedule of the round before an instant; an empty one where there is none
-abbrev pub IsScheduleOf : (ℕ → Plan) → Option ℕ → ℕ → List SInstr → Type 0
-IsScheduleOf plan None now steps = steps ≡ []
-IsScheduleOf plan (Some q) zero steps = steps ≡ []
-IsScheduleOf plan (Some q) (suc n) steps = steps ≡ (plan (round_start q n)).schedule
+-- the instructions of the list before an instant; none where there is no list
+abbrev IsScheduleOf : (ℕ → Turn) → Option ℕ → ℕ → List SInstr → Type 0
+IsScheduleOf turn None now steps = steps ≡ []
+IsScheduleOf turn (Some q) zero steps = steps ≡ []
+IsScheduleOf turn (Some q) (suc n) steps = steps ≡ (turn n).plan.schedule
 
-nothing : {A : Type 0} (xs : List A) → (0 < length xs → ⊥) → xs ≡ []
-nothing [] h = refl
-nothing (x ∷ xs) h = absurd (h (omega arith))
-
--- the round that stands nowhere is told nothing
+-- the S machine that stands nowhere is told nothing
 nowhere_told : (code : ECode) (ds : List Done) → desk_replay code ds no_round ≡ no_round
 nowhere_told code [] = refl
 nowhere_told code (d ∷ ds) = ap (desk_replay code ds) (by_instr (slice_get code.instrs d.address)) ∙ nowhere_told code ds
@@ -150,73 +149,78 @@ nowhere_told code (d ∷ ds) = ap (desk_replay code ds) (by_instr (slice_get cod
 
 -- ---- the records that are owed
 
--- of the round before an instant
-abbrev pub owed_before : (ℕ → Plan) → Option ℕ → ℕ → List Left
-owed_before plan None now = []
-owed_before plan (Some q) now = old_records plan q now
+-- of the list before an instant
+abbrev owed_before : (ℕ → Turn) → Option ℕ → ℕ → List Left
+owed_before turn None now = []
+owed_before turn (Some q) now = old_records turn now
 
-none_left : (n k : ℕ) → take n (drop k (told_from 0 0 [])) ≡ []
-none_left zero zero = refl
-none_left zero (suc k) = refl
-none_left (suc n) zero = refl
-none_left (suc n) (suc k) = refl
+none_left : (s n k : ℕ) → take n (drop k (told_from s 0 [])) ≡ []
+none_left s zero zero = refl
+none_left s zero (suc k) = refl
+none_left s (suc n) zero = refl
+none_left s (suc n) (suc k) = refl
 
 no_records : (p : Plan) (s k n : ℕ) → p.schedule ≡ [] → some_records p s k n ≡ []
-no_records p s k n e = ap (λ (is : List SInstr). take n (drop k (told_from s 0 (walk p.jobs p.lengths is)))) e ∙ none_left n k
+no_records p s k n e = ap (λ (is : List SInstr). take n (drop k (told_from s 0 (walk_from p.jobs is p.first)))) e ∙ none_left s n k
 
 -- wherever the S machine is told to stand, it owes these
-owed_are : (plan : ℕ → Plan) (o : Option ℕ) (now : ℕ) (steps : List SInstr) (desk : Round) → DeskFollows plan o now desk → IsScheduleOf plan o now steps
-    → (p : Plan) (s k d : ℕ) → p.schedule ≡ steps → DeskAt p s k d desk → some_records p s k (due_by p s now - k) ≡ owed_before plan o now
-owed_are plan None now steps desk f own p s k d same at = no_records p s k (due_by p s now - k) (same ∙ own)
-owed_are plan (Some q) zero steps desk f own p s k d same at = no_records p s k (due_by p s 0 - k) (same ∙ own)
-owed_are plan (Some q) (suc n) steps desk f own p s k d same at =
-    let make : List Job → List ℕ → List SInstr → Plan = λ jobs lengths schedule. record { jobs = jobs; lengths = lengths; schedule = schedule } in
-    let jobs : p.jobs ≡ (plan (round_start q n)).jobs = sym at.jobs ∙ f.jobs in
-    let lengths : p.lengths ≡ (plan (round_start q n)).lengths = sym at.lengths ∙ f.lengths in
-    let there : p ≡ plan (round_start q n) =
-    ap (λ z. make z p.lengths p.schedule) jobs ∙ ap (λ z. make (plan (round_start q n)).jobs z p.schedule) lengths ∙ ap (make (plan (round_start q n)).jobs (plan (round_start q n)).lengths) (same ∙ own) in
-    ap (λ z. some_records z s k (due_by z s (suc n) - k)) there
-    ∙ ap (λ z. some_records (plan (round_start q n)) z k (due_by (plan (round_start q n)) z (suc n) - k)) (sym at.start ∙ f.start)
-    ∙ ap (λ z. some_records (plan (round_start q n)) (round_start q n) z (due_by (plan (round_start q n)) (round_start q n) (suc n) - z)) (sym at.place ∙ f.place)
+owed_are : (turn : ℕ → Turn) (o : Option ℕ) (now : ℕ) (steps : List SInstr) (desk : Round) → DeskFollows turn o now desk → IsScheduleOf turn o now steps
+    → (p : Plan) (s k d : ℕ) → p.schedule ≡ steps → DeskAt p s k d desk → some_records p s k (due_by p s now - k) ≡ owed_before turn o now
+owed_are turn None now steps desk f own p s k d same at = no_records p s k (due_by p s now - k) (same ∙ own)
+owed_are turn (Some q) zero steps desk f own p s k d same at = no_records p s k (due_by p s 0 - k) (same ∙ own)
+owed_are turn (Some q) (suc n) steps desk f own p s k d same at =
+    let u = turn n in
+    let text : List walks.Left → ℕ → ℕ → List Left = λ ls s k. take (count_before (suc (suc n) - s) ls - k) (drop k (told_from s 0 ls)) in
+    let walked : list_walk p ≡ turn_walk u =
+    ap (λ (js : List Job). walk_from js p.schedule p.first) (sym at.jobs ∙ f.jobs)
+    ∙ ap₂ (λ (is : List SInstr) (x : Point). walk_from u.plan.jobs is x) (same ∙ own) (sym at.first ∙ f.first) in
+    ap (λ ls. text ls s k) walked ∙ ap (λ z. text (turn_walk u) z k) (sym at.start ∙ f.start) ∙ ap (text (turn_walk u) u.frame) (sym at.place ∙ f.place)
 
 module _ (t : Tables) (code : ECode) (schedules : List (List SInstr)) (loaded : IsLoaded t schedules) (reads : (k : ℕ) → k < length t.modes → ModeReads t code k) (es : List Event) (within : AreTookWithin t es) where
   kept_rounds : AreKept t schedules es
-  kept_rounds = loaded.rounds es within
+  kept_rounds = loaded_rounds t schedules loaded es within
 
-  regular : (q : ℕ) → root_period t ≡ Some q → AreRegular t es q
-  regular q root = subst (AreRegular t es) (ap period_or root) kept_rounds.regular
+  abbrev turn : ℕ → Turn
+  turn = turn_at t schedules es
 
-  sound : (q : ℕ) → root_period t ≡ Some q → AreSound t es (plan_of t schedules es) q
-  sound q root = subst (AreSound t es (plan_of t schedules es)) (ap period_or root) kept_rounds.sound
+  turns : AreTurns t es (turn_at t schedules es)
+  turns = loaded_turns t schedules loaded es within
 
-  begins_by : (q now : ℕ) → root_period t ≡ Some q → begins t now ≡ eqb (round_start q now) now
-  begins_by q now root = begins_is t q now loaded.range (regular q root).some (regular q root).modes root ∙ starts_there q now (regular q root).some
+  listed : (q : ℕ) → hyper t ≡ Some q → AreListed (turn_at t schedules es)
+  listed q root = loaded_listed t schedules loaded es within q root
 
-  no_root : root_period t ≡ None → root_modules t ≡ []
-  no_root e = ap (λ (us : List Module). places_from is_root 0 us) (nothing t.modules (λ some. let r = root_there t loaded.range some in none_some r.0 (sym e ∙ r.1)))
+  no_root : hyper t ≡ None → root_modules t ≡ []
+  no_root e = ap (λ (us : List Module). places_from is_root 0 us) (loaded_empty t schedules loaded e)
 
-  -- where a round begins there is a period, and it starts there
-  pub beginning : (now : ℕ) → begins t now ≡ true → (q : ℕ) × (root_period t ≡ Some q) × (round_start q now ≡ now)
-  beginning now b = by (root_period t) refl
+  -- the round that begins where a list does
+  begun : (q now : ℕ) → hyper t ≡ Some q → (turn_at t schedules es now).frame + (turn_at t schedules es now).from ≡ now → (round_start q now ≡ now) × (turn_at t schedules es now ≡ round_turn t schedules es q now)
+  begun q now root at = loaded_begun t schedules loaded es within q root now at
+
+  root_of : (q : ℕ) → hyper t ≡ Some q → root_period t ≡ Some q
+  root_of q root = sym (loaded_keys t schedules loaded) ∙ root
+
+  -- where a list begins there is a period, and it begins there
+  pub beginning : (now : ℕ) → begins t now ≡ true → (q : ℕ) × (hyper t ≡ Some q) × ((turn_at t schedules es now).frame + (turn_at t schedules es now).from ≡ now)
+  beginning now b = by (hyper t) refl
     where
-      by : (o : Option ℕ) → root_period t ≡ o → (q : ℕ) × (root_period t ≡ Some q) × (round_start q now ≡ now)
+      by : (o : Option ℕ) → hyper t ≡ o → (q : ℕ) × (hyper t ≡ Some q) × ((turn now).frame + (turn now).from ≡ now)
       by None e = absurd (let z : begins t now ≡ false = begins_never t now (no_root e) in let y : ⊥ = cc in y)
-      by (Some q) e = (q, e, eqb-true (round_start q now) now (sym (begins_by q now e) ∙ b))
+      by (Some q) e = (q, e, eqb-true ((turn now).frame + (turn now).from) now (sym (loaded_begins t schedules loaded es within q e now) ∙ b))
 
-  -- where none begins the round of the instant before goes on
-  pub going : (q now : ℕ) → root_period t ≡ Some q → begins t now ≡ false → round_start q now ≢ now
-  going q now root b = eqb-false (round_start q now) now (sym (begins_by q now root) ∙ b)
+  -- where none begins the list of the instant before goes on
+  going : (q now : ℕ) → hyper t ≡ Some q → begins t now ≡ false → (turn now).frame + (turn now).from ≢ now
+  going q now root b = eqb-false ((turn now).frame + (turn now).from) now (sym (loaded_begins t schedules loaded es within q root now) ∙ b)
 
-  same_start : (q n : ℕ) → root_period t ≡ Some q → begins t (suc n) ≡ false → round_start q (suc n) ≡ round_start q n
-  same_start q n root b = elim (begins_or_not q n (regular q root).some) [ inl e ↦ absurd (going q (suc n) root b e) | inr e ↦ e ]
+  same_turn : (q n : ℕ) → hyper t ≡ Some q → begins t (suc n) ≡ false → turn (suc n) ≡ turn n
+  same_turn q n root b = elim ((listed q root).on n) [ inl e ↦ e | inr e ↦ absurd (going q (suc n) root b e.0) ]
 
-  never_first : (q : ℕ) → root_period t ≡ Some q → begins t 0 ≡ false → ⊥
-  never_first q root b = going q 0 root b (zero_down q)
+  never_first : (q : ℕ) → hyper t ≡ Some q → begins t 0 ≡ false → ⊥
+  never_first q root b = going q 0 root b (listed q root).first
 
   -- the S machine after an instant at which none begins
-  pub going_desk : (o : Option ℕ) → root_period t ≡ o → (now : ℕ) (steps : List SInstr) (desk d1 d2 : Round) (w0 w1 : Content) → begins t now ≡ false → DeskFollows (plan_of t schedules es) o now desk
-      → IsScheduleOf (plan_of t schedules es) o now steps → rounds.Stands desk steps → Records t desk w0 d1 w1 steps now → d2 ≡ desk_replay code (phase_path t code es now 3) d1 → rounds.Stands d2 steps
-      → DeskFollows (plan_of t schedules es) o (suc now) d2
+  going_desk : (o : Option ℕ) → hyper t ≡ o → (now : ℕ) (steps : List SInstr) (desk d1 d2 : Round) (w0 w1 : Content) → begins t now ≡ false → DeskFollows (turn_at t schedules es) o now desk
+      → IsScheduleOf (turn_at t schedules es) o now steps → rounds.Stands desk steps → Records t desk w0 d1 w1 steps now → d2 ≡ desk_replay code (phase_path t code es now 3) d1 → rounds.Stands d2 steps
+      → DeskFollows (turn_at t schedules es) o (suc now) d2
   going_desk None root now steps desk d1 d2 w0 w1 b f own st rec told st' =
       told
       ∙ ap (desk_replay code (phase_path t code es now 3))
@@ -224,70 +228,71 @@ module _ (t : Tables) (code : ECode) (schedules : List (List SInstr)) (loaded : 
       ∙ nowhere_told code (phase_path t code es now 3)
   going_desk (Some q) root zero steps desk d1 d2 w0 w1 b f own st rec told st' = absurd (never_first q root b)
   going_desk (Some q) root (suc n) steps desk d1 d2 w0 w1 b f own st rec told st' =
-      let plan = plan_of t schedules es in
-      let s = round_start q n in
-      let same : round_start q (suc n) ≡ round_start q n = same_start q n root b in
-      let leaves : Leaves desk d1 (plan s).schedule (suc n) = records_leave t desk d1 w0 w1 (plan s).schedule (suc n) (subst (λ c. Records t desk w0 d1 w1 c (suc n)) own rec) in
-      let cast : IsCast t (state t es (suc n)).stays s (suc n) (plan s).jobs =
-      subst (λ z. IsCast t (state t es (suc n)).stays z (suc n) (plan z).jobs) same (cast_at t loaded.range loaded.kept es plan q (regular q root) (sound q root) (suc n)) in
-      let past : s ≤ suc n = omega (arith, down q n) in
-      let flagged : d2 ≡ with_flags d1 (tell_all (plan s).jobs (all_reads t (suc n) (state t es (suc n)).stays) d1.released) =
-      told
-      ∙ read_phase_tells t code loaded.range loaded.kept reads es (plan s) s (due_by (plan s) s (suc n)) (suc n - s) (suc n) d1 cast ((sound q root).meets n) (desk_left (plan s) s (suc n) desk d1 past f leaves) (omega arith) past in
-      subst (DeskFollows plan (Some q) (suc (suc n))) (sym flagged)
-      (desk_same t loaded.range loaded.kept es plan q (regular q root) (sound q root) n desk d1 same f leaves
-      (subst (λ z. rounds.Stands z (plan s).schedule) flagged (subst (rounds.Stands d2) own st')))
+      let now = suc n in
+      let u = turn (suc n) in
+      let same : turn (suc n) ≡ turn n = same_turn q n root b in
+      let is : steps ≡ u.plan.schedule = own ∙ sym (ap (λ (z : Turn). z.plan.schedule) same) in
+      let here : DeskStands u.plan u.frame (suc n) desk = subst (λ (z : Turn). DeskStands z.plan z.frame (suc n) desk) (sym same) f in
+      let past : u.frame ≤ suc n = turns.frames.past (suc n) in
+      let leaves : Leaves desk d1 u.plan.schedule (suc n) = records_leave t desk d1 w0 w1 u.plan.schedule (suc n) (subst (λ c. Records t desk w0 d1 w1 c (suc n)) is rec) in
+      let at = desk_left u.plan u.frame (suc n) desk d1 past here leaves in
+      let flagged : d2 ≡ with_flags d1 (tell_all u.plan.jobs (all_reads t (suc n) (state t es (suc n)).stays) d1.released) =
+      told ∙ read_phase_tells t es turn turns (suc n) (due_by u.plan u.frame (suc n)) (suc n - u.frame) d1 ((listed q root).each (suc n)) at (omega arith) code loaded.range reads in
+      subst (DeskFollows turn (Some q) (suc (suc n))) (sym flagged)
+      (desk_on t loaded.range es turn turns (suc n) d1 at (subst (λ z. rounds.Stands z u.plan.schedule) flagged (subst (rounds.Stands d2) is st')))
 
-  -- its selection goes on
-  pub going_on : (o : Option ℕ) → root_period t ≡ o → (now : ℕ) (sel : Option ℕ) → begins t now ≡ false → GoesBy t es o now sel → GoesBy t es o (suc now) sel
+  -- its number goes on
+  going_on : (o : Option ℕ) → hyper t ≡ o → (now : ℕ) (sel : Option ℕ) → begins t now ≡ false → GoesBy (turn_at t schedules es) o now sel → GoesBy (turn_at t schedules es) o (suc now) sel
   going_on None root now sel b g = g
   going_on (Some q) root zero sel b g = absurd (never_first q root b)
-  going_on (Some q) root (suc n) sel b g = g ∙ ap (λ z. Some (selection_of t (state t es z).stays)) (sym (same_start q n root b))
+  going_on (Some q) root (suc n) sel b g = g ∙ ap (λ (u : Turn). Some u.node) (sym (same_turn q n root b))
 
-  -- ---- where a round begins
+  -- ---- where a list begins
 
-  -- the round before is over
-  pub round_over : (o : Option ℕ) → root_period t ≡ o → (now : ℕ) (steps : List SInstr) (desk d1 : Round) (w0 w1 : Content) → begins t now ≡ true → DeskFollows (plan_of t schedules es) o now desk
-      → IsScheduleOf (plan_of t schedules es) o now steps → rounds.Stands desk steps → Records t desk w0 d1 w1 steps now → d1.running ≡ false
-  round_over None root now steps desk d1 w0 w1 b f own st rec = first_over t now desk d1 w0 w1 f (subst (rounds.Stands desk) own st) (subst (λ c. Records t desk w0 d1 w1 c now) own rec)
-  round_over (Some q) root zero steps desk d1 w0 w1 b f own st rec = first_over t 0 desk d1 w0 w1 f (subst (rounds.Stands desk) own st) (subst (λ c. Records t desk w0 d1 w1 c 0) own rec)
-  round_over (Some q) root (suc n) steps desk d1 w0 w1 b f own st rec =
-      let plan = plan_of t schedules es in
-      let s = round_start q n in
-      let starts : round_start q (suc n) ≡ suc n = eqb-true (round_start q (suc n)) (suc n) (sym (begins_by q (suc n) root) ∙ b) in
-      let ends : suc n ≡ round_start q n + q = elim (apart (suc n) (q * (n / q) + q)) [
-        | inl e ↦ e
-        | inr d ↦ absurd (omega (arith, starts, goes_on q n (regular q root).some d, down q n))
-      ] in
-      desk_over t loaded.range loaded.kept es plan q (regular q root) (sound q root) n (length (plan s).jobs) desk d1 ends (kept_rounds.form q root n) f
-      (records_leave t desk d1 w0 w1 (plan s).schedule (suc n) (subst (λ c. Records t desk w0 d1 w1 c (suc n)) own rec))
+  -- the list before is over
+  list_over : (o : Option ℕ) → hyper t ≡ o → (now : ℕ) (steps : List SInstr) (desk d1 : Round) (w0 w1 : Content) → begins t now ≡ true → DeskFollows (turn_at t schedules es) o now desk
+      → IsScheduleOf (turn_at t schedules es) o now steps → rounds.Stands desk steps → Records t desk w0 d1 w1 steps now → d1.running ≡ false
+  list_over None root now steps desk d1 w0 w1 b f own st rec = first_over t now desk d1 w0 w1 f (subst (rounds.Stands desk) own st) (subst (λ c. Records t desk w0 d1 w1 c now) own rec)
+  list_over (Some q) root zero steps desk d1 w0 w1 b f own st rec = first_over t 0 desk d1 w0 w1 f (subst (rounds.Stands desk) own st) (subst (λ c. Records t desk w0 d1 w1 c 0) own rec)
+  list_over (Some q) root (suc n) steps desk d1 w0 w1 b f own st rec =
+      elim ((listed q root).on n) [
+        | inl same ↦
+            let begun : (turn (suc n)).frame + (turn (suc n)).from ≡ suc n = eqb-true ((turn (suc n)).frame + (turn (suc n)).from) (suc n) (sym (loaded_begins t schedules loaded es within q root (suc n)) ∙ b) in
+            absurd (omega (arith, begun, ap (λ (u : Turn). u.frame + u.from) same, (turns.each n).past))
+        | inr next ↦
+            desk_over t loaded.range es turn turns n desk d1 next.1 ((listed q root).each n) f
+            (records_leave t desk d1 w0 w1 (turn n).plan.schedule (suc n) (subst (λ c. Records t desk w0 d1 w1 c (suc n)) own rec))
+      ]
 
   -- the S machine after the instant
-  pub begun_desk : (q now : ℕ) (d2 : Round) → root_period t ≡ Some q → round_start q now ≡ now
-      → DeskAt (plan_of t schedules es now) now (due_by (plan_of t schedules es now) now now) (suc now - now) d2 → DeskFollows (plan_of t schedules es) (root_period t) (suc now) d2
-  begun_desk q now d2 root starts at =
-      subst (λ o. DeskFollows (plan_of t schedules es) o (suc now) d2) (sym root)
-      (subst (λ z. DeskStands (plan_of t schedules es z) z (suc now) d2) (sym starts) (desk_closes (plan_of t schedules es now) now now d2 at))
+  begun_desk : (q now : ℕ) (d2 : Round) → hyper t ≡ Some q → turn_at t schedules es now ≡ round_turn t schedules es q now
+      → DeskAt (list_of (plan_of t schedules es now)) now (due_by (list_of (plan_of t schedules es now)) now now) (suc now - now) d2 → DeskFollows (turn_at t schedules es) (hyper t) (suc now) d2
+  begun_desk q now d2 root is at =
+      subst (λ o. DeskFollows (turn_at t schedules es) o (suc now) d2) (sym root)
+      (subst (λ (u : Turn). DeskStands u.plan u.frame (suc now) d2) (sym is) (desk_closes (list_of (plan_of t schedules es now)) now now d2 at))
 
-  -- its selection
-  pub begun_goes : (q now sel : ℕ) → root_period t ≡ Some q → round_start q now ≡ now → sel ≡ selection_of_modes t (modes_at t es now) → GoesBy t es (root_period t) (suc now) (Some sel)
-  begun_goes q now sel root starts is =
-      subst (λ o. GoesBy t es o (suc now) (Some sel)) (sym root) (ap (λ z. Some z) is ∙ ap (λ z. Some (selection_of t (state t es z).stays)) (sym starts))
+  -- its number
+  begun_goes : (q now sel : ℕ) → hyper t ≡ Some q → turn_at t schedules es now ≡ round_turn t schedules es q now → sel ≡ selection_of_modes t (modes_at t es now) → GoesBy (turn_at t schedules es) (hyper t) (suc now) (Some sel)
+  begun_goes q now sel root turned is =
+      subst (λ o. GoesBy (turn_at t schedules es) o (suc now) (Some sel)) (sym root) (ap (λ z. Some z) is ∙ ap (λ (u : Turn). Some u.node) (sym turned))
 
   -- what the code that begins it asks for
-  module _ (q now : ℕ) (root : root_period t ≡ Some q) (starts : round_start q now ≡ now) (takes : List ℕ) (takes_are : (i u : ℕ) → now ≤ u → get_or takes i 0 ≡ took t es i u)
+  module _ (q now : ℕ) (root : root_period t ≡ Some q) (starts : round_start q now ≡ now) (turned : turn_at t schedules es now ≡ round_turn t schedules es q now) (takes : List ℕ) (takes_are : (i u : ℕ) → now ≤ u → get_or takes i 0 ≡ took t es i u)
       (few : length (plan_of t schedules es now).schedule ≤ 4294967295) where
-    abbrev p : Plan
+    abbrev p : Work
     p = plan_of t schedules es now
 
     abbrev first : Round
-    first = begun now p.jobs p.lengths
+    first = rounds.begun now p.jobs p.lengths
+
+    sound_rounds : AreSound t es (plan_of t schedules es) q
+    sound_rounds = subst (λ o. AreSound t es (plan_of t schedules es) (period_or o)) root kept_rounds.sound
 
     cast : IsCast t (state t es now).stays now now p.jobs
-    cast = subst (λ z. IsCast t (state t es z).stays z z (plan_of t schedules es z).jobs) starts ((sound q root).casts now)
+    cast = subst (λ z. IsCast t (state t es z).stays z z (plan_of t schedules es z).jobs) starts (sound_rounds.casts now)
 
     meets : Meets p.jobs p.lengths p.schedule
-    meets = subst (λ z. Meets (plan_of t schedules es z).jobs (plan_of t schedules es z).lengths (plan_of t schedules es z).schedule) starts ((sound q root).meets now)
+    meets = subst (λ z. Meets (plan_of t schedules es z).jobs (plan_of t schedules es z).lengths (plan_of t schedules es z).schedule) starts (sound_rounds.meets now)
 
     windows : HaveWindows p.jobs
     windows = round_windows p.jobs p.lengths p.schedule meets
@@ -304,16 +309,19 @@ module _ (t : Tables) (code : ECode) (schedules : List (List SInstr)) (loaded : 
     abbrev flags : List Bool
     flags = tell_all p.jobs (all_reads t now (state t es now).stays) first.released
 
-    told : DeskAt p now 0 (suc now - now) (desk_replay code (phase_path t code es now 3) first)
+    told : DeskAt (list_of p) now 0 (suc now - now) (desk_replay code (phase_path t code es now 3) first)
     told =
-        let opens : DeskAt p now 0 0 first = desk_begins p now (some_steps (length p.jobs) q p.schedule in_form) (stands_begun now p.jobs p.lengths p.schedule some worst) in
-        let flagged : desk_replay code (phase_path t code es now 3) first ≡ with_flags first flags = read_phase_tells t code loaded.range loaded.kept reads es p now 0 0 now first cast meets opens (omega arith) (omega arith) in
+        let opens : DeskAt (list_of p) now 0 0 first =
+        desk_begins p now (length-lengths t schedules es now) (some_steps (length p.jobs) q p.schedule in_form) (stands_begun now p.jobs p.lengths p.schedule some worst) in
+        let flagged : desk_replay code (phase_path t code es now 3) first ≡ with_flags first flags =
+        read_phase_tells t es turn turns now 0 0 first ((listed q (loaded_keys t schedules loaded ∙ root)).each now) (subst (λ (u : Turn). DeskAt u.plan u.frame 0 0 first) (sym turned) opens) (omega arith) code loaded.range reads
+        ∙ ap (λ (u : Turn). with_flags first (tell_all u.plan.jobs (all_reads t now (state t es now).stays) first.released)) turned in
         let st : rounds.Stands (with_flags first flags) p.schedule = record { point = refl; work = λ k z. work_some p.jobs p.lengths k z; lengths = some; worst = worst; pending = λ k z. omega arith } in
-        subst (DeskAt p now 0 (suc now - now)) (sym flagged)
-        (desk_told t (state t es now).stays now p now 0 now first (standing_at t loaded.range es now) (omega arith) (omega arith) cast windows
-        (subst (λ d. DeskAt p now 0 d first) (let z : 0 ≡ now - now = omega arith in z) opens) st)
+        subst (DeskAt (list_of p) now 0 (suc now - now)) (sym flagged)
+        (desk_told t (state t es now).stays now (list_of p) now 0 now first (standing_at t loaded.range es now) (omega arith) (omega arith) cast windows
+        (subst (λ d. DeskAt (list_of p) now 0 d first) (let z : 0 ≡ now - now = omega arith in z) opens) st)
 
-    pub is_to_begin : IsToBegin t code schedules es now takes
+    is_to_begin : IsToBegin t code schedules es now takes
     is_to_begin =
         record {
           of = cast_of t (state t es now).stays now p.jobs cast windows;
@@ -344,7 +352,7 @@ module _ (m : Seen) (es : List Event) (now : ℕ) (accepted : IsAccepted m.objec
   -- after the first part
   module _ (steps : List SInstr) (r : IsReadyAt m es now steps) (values : List ℤ) (same : values ≡ values_before m.object.tables es now) (d1 : Round) (w3 : Content)
       (a : IsOpened m.object.tables m.object.ecode es now steps m.held.shows values m.held.desk m.held.world d1 w3) where
-    recorded_is : a.w1 ≡ with_records t (plan_of t schedules es) (period_or (root_period t)) now m.held.world
+    recorded_is : a.w1 ≡ with_records t (turn_at t schedules es) now m.held.world
     recorded_is = r.recorded d1 a.w1 a.records
 
     sensed_is : w3 ≡ with_sensors t (sense t es) now a.w2
@@ -394,7 +402,7 @@ module _ (m : Seen) (es : List Event) (now : ℕ) (accepted : IsAccepted m.objec
 
   -- the lines of the parts are those of the instant
   pub lines_are_composed : (steps : List SInstr) (r : IsReadyAt m es now steps) (new : List ℕ)
-      → (round_texts m.object.tables m.object.ecode (schedules_of m.object) es m.show (root_period m.object.tables) now).1 ≡ new
+      → (list_texts m.object.tables (schedules_of m.object) es m.show (hyper m.object.tables) now).1 ≡ new
       → (joined (record_text m.object.tables m.show r.plan (number_by m.selection)) (some_records r.plan r.start r.place (due_by r.plan r.start now - r.place))
       ++ path_lines m.object.tables m.object.ecode m.show now (phase_path m.object.tables m.object.ecode es now 1))
       ++ (closing_text m.object.tables m.object.ecode es m.show now ++ new)
@@ -406,9 +414,9 @@ module _ (m : Seen) (es : List Event) (now : ℕ) (accepted : IsAccepted m.objec
   -- the machine after the instant, counts and all
   pub next_up_to : (world : Content) (desk : Round) (e1 : Standing) (sel : Option ℕ) (old new : List Left) (start n : Tally)
       → Passed m.object.tables m.object.ecode (schedules_of m.object) es now m.held.world world e1
-      → DeskFollows (plan_of m.object.tables (schedules_of m.object) es) (root_period m.object.tables) (suc now) desk
-      → GoesBy m.object.tables es (root_period m.object.tables) (suc now) sel
-      → records_of m.object.tables (schedules_of m.object) es (root_period m.object.tables) now ≡ old ++ new
+      → DeskFollows (turn_at m.object.tables (schedules_of m.object) es) (hyper m.object.tables) (suc now) desk
+      → GoesBy (turn_at m.object.tables (schedules_of m.object) es) (hyper m.object.tables) (suc now) sel
+      → records_of m.object.tables (schedules_of m.object) es (hyper m.object.tables) now ≡ old ++ new
       → counts_of m ≡ record { jobs = start.jobs; e = start.e; s = start.s }
       → n ≡ counts_after old new (length (phase_path m.object.tables m.object.ecode es now 1)) (length (phase_path m.object.tables m.object.ecode es now 2)) (length (phase_path m.object.tables m.object.ecode es now 3)) start
       → IsUpTo (record m { held = record m.held { world = world; desk = desk }; standing = e1; selection = sel; jobs = n.jobs; e = n.e; s = n.s }) es (suc now)
@@ -436,40 +444,40 @@ module _ (m : Seen) (es : List Event) (now : ℕ) (accepted : IsAccepted m.objec
         before = before_of m1 es (suc now) written accepted (subst (λ (c : Counts). Whole t code schedules m.show es (suc now) e1 m1.held c written) (sym counts) next) goes;
       }
 
-  -- ---- where no round begins
+  -- ---- where no list begins
 
-  schedule_own : (steps idle : List SInstr) → steps ≡ schedule_by m.object idle m.selection → idle ≡ [] → IsScheduleOf (plan_of t schedules es) (root_period t) now steps
-  schedule_own steps idle by none = own (root_period t) now u.before.records.goes
+  schedule_own : (steps idle : List SInstr) → steps ≡ schedule_by m.object idle m.selection → idle ≡ [] → IsScheduleOf (turn_at t schedules es) (hyper t) now steps
+  schedule_own steps idle by none = own (hyper t) refl now u.before.records.goes
     where
-      own : (o : Option ℕ) (n : ℕ) → GoesBy t es o n m.selection → IsScheduleOf (plan_of t schedules es) o n steps
-      own None n g = by ∙ ap (schedule_by m.object idle) g ∙ none
-      own (Some q) zero g = by ∙ ap (schedule_by m.object idle) g ∙ none
-      own (Some q) (suc n) g = by ∙ ap (schedule_by m.object idle) g
+      own : (o : Option ℕ) → hyper t ≡ o → (n : ℕ) → GoesBy (turn_at t schedules es) o n m.selection → IsScheduleOf (turn_at t schedules es) o n steps
+      own None e n g = by ∙ ap (schedule_by m.object idle) g ∙ none
+      own (Some q) e zero g = by ∙ ap (schedule_by m.object idle) g ∙ none
+      own (Some q) e (suc n) g = by ∙ ap (schedule_by m.object idle) g ∙ sym (loaded_code t schedules loaded es u.kept.within q e n)
 
   pub desk_goes_on : (steps idle : List SInstr) → steps ≡ schedule_by m.object idle m.selection → idle ≡ [] → IsReadyAt m es now steps → (d1 d2 : Round) (w1 : Content)
       → begins m.object.tables now ≡ false → Records m.object.tables m.held.desk m.held.world d1 w1 steps now
       → d2 ≡ desk_replay m.object.ecode (phase_path m.object.tables m.object.ecode es now 3) d1 → rounds.Stands d2 steps
-      → DeskFollows (plan_of m.object.tables (schedules_of m.object) es) (root_period m.object.tables) (suc now) d2
+      → DeskFollows (turn_at m.object.tables (schedules_of m.object) es) (hyper m.object.tables) (suc now) d2
   desk_goes_on steps idle by none r d1 d2 w1 b rec told st =
-      going_desk t code schedules loaded (modes_read t code schedules loaded accepted.spelled.code m.show) es u.kept.within (root_period t) refl now steps m.held.desk d1 d2 m.held.world w1 b
+      going_desk t code schedules loaded (modes_read t code schedules loaded accepted.spelled.code m.show) es u.kept.within (hyper t) refl now steps m.held.desk d1 d2 m.held.world w1 b
       u.before.records.desk (schedule_own steps idle by none) r.stands rec told st
 
-  pub selection_goes_on : begins m.object.tables now ≡ false → GoesBy m.object.tables es (root_period m.object.tables) (suc now) m.selection
-  selection_goes_on b = going_on t code schedules loaded (modes_read t code schedules loaded accepted.spelled.code m.show) es u.kept.within (root_period t) refl now m.selection b u.before.records.goes
+  pub selection_goes_on : begins m.object.tables now ≡ false → GoesBy (turn_at m.object.tables (schedules_of m.object) es) (hyper m.object.tables) (suc now) m.selection
+  selection_goes_on b = going_on t code schedules loaded (modes_read t code schedules loaded accepted.spelled.code m.show) es u.kept.within (hyper t) refl now m.selection b u.before.records.goes
 
-  -- ---- where a round begins
+  -- ---- where a list begins
 
   pub over : (steps idle : List SInstr) → steps ≡ schedule_by m.object idle m.selection → idle ≡ [] → IsReadyAt m es now steps → (d1 : Round) (w1 : Content)
       → begins m.object.tables now ≡ true → Records m.object.tables m.held.desk m.held.world d1 w1 steps now → d1.running ≡ false
   over steps idle by none r d1 w1 b rec =
-      round_over t code schedules loaded (modes_read t code schedules loaded accepted.spelled.code m.show) es u.kept.within (root_period t) refl now steps m.held.desk d1 m.held.world w1 b
+      list_over t code schedules loaded (modes_read t code schedules loaded accepted.spelled.code m.show) es u.kept.within (hyper t) refl now steps m.held.desk d1 m.held.world w1 b
       u.before.records.desk (schedule_own steps idle by none) r.stands rec
 
   -- there is a module
   pub begins_some : begins m.object.tables now ≡ true → 0 < length m.object.tables.modules
   begins_some b =
       let h = beginning t code schedules loaded (modes_read t code schedules loaded accepted.spelled.code m.show) es u.kept.within now b in
-      (some_period t h.0 loaded.range h.1).1
+      (some_period t h.0 loaded.range (root_of t code schedules loaded (modes_read t code schedules loaded accepted.spelled.code m.show) es u.kept.within h.0 h.1)).1
 
   takes_are : (i v : ℕ) → now ≤ v → get_or m.held.takes i 0 ≡ took t es i v
   takes_are i v later = elim (order i (length t.invs)) [
@@ -482,61 +490,62 @@ module _ (m : Seen) (es : List Event) (now : ℕ) (accepted : IsAccepted m.objec
   to_begin b =
       let reads = modes_read t code schedules loaded accepted.spelled.code m.show in
       let h = beginning t code schedules loaded reads es u.kept.within now b in
-      is_to_begin t code schedules loaded reads es u.kept.within h.0 now h.1 h.2 m.held.takes takes_are (short_at m.object.schedules accepted.spelled.formed.ranges.short (selection_of_modes t (modes_at t es now)))
+      let g = begun t code schedules loaded reads es u.kept.within h.0 now h.1 h.2 in
+      is_to_begin t code schedules loaded reads es u.kept.within h.0 now (root_of t code schedules loaded reads es u.kept.within h.0 h.1) g.0 g.1 m.held.takes takes_are (short_at m.object.schedules accepted.spelled.formed.ranges.short (selection_of_modes t (modes_at t es now)))
 
   pub desk_begins_so : (d2 : Round) → begins m.object.tables now ≡ true
-      → DeskAt (plan_of m.object.tables (schedules_of m.object) es now) now (due_by (plan_of m.object.tables (schedules_of m.object) es now) now now) (suc now - now) d2
-      → DeskFollows (plan_of m.object.tables (schedules_of m.object) es) (root_period m.object.tables) (suc now) d2
+      → DeskAt (list_of (plan_of m.object.tables (schedules_of m.object) es now)) now (due_by (list_of (plan_of m.object.tables (schedules_of m.object) es now)) now now) (suc now - now) d2
+      → DeskFollows (turn_at m.object.tables (schedules_of m.object) es) (hyper m.object.tables) (suc now) d2
   desk_begins_so d2 b at =
       let reads = modes_read t code schedules loaded accepted.spelled.code m.show in
       let h = beginning t code schedules loaded reads es u.kept.within now b in
-      begun_desk t code schedules loaded reads es u.kept.within h.0 now d2 h.1 h.2 at
+      begun_desk t code schedules loaded reads es u.kept.within h.0 now d2 h.1 (begun t code schedules loaded reads es u.kept.within h.0 now h.1 h.2).1 at
 
   pub selection_begins : (sel : ℕ) → begins m.object.tables now ≡ true → sel ≡ selection_of_modes m.object.tables (modes_at m.object.tables es now)
-      → GoesBy m.object.tables es (root_period m.object.tables) (suc now) (Some sel)
+      → GoesBy (turn_at m.object.tables (schedules_of m.object) es) (hyper m.object.tables) (suc now) (Some sel)
   selection_begins sel b is =
       let reads = modes_read t code schedules loaded accepted.spelled.code m.show in
       let h = beginning t code schedules loaded reads es u.kept.within now b in
-      begun_goes t code schedules loaded reads es u.kept.within h.0 now sel h.1 h.2 is
+      begun_goes t code schedules loaded reads es u.kept.within h.0 now sel h.1 (begun t code schedules loaded reads es u.kept.within h.0 now h.1 h.2).1 is
 
   -- ---- what the instant owes, in both cases
 
   owed : (steps idle : List SInstr) → steps ≡ schedule_by m.object idle m.selection → idle ≡ [] → (r : IsReadyAt m es now steps)
-      → owed_before (plan_of t schedules es) (root_period t) now ≡ some_records r.plan r.start r.place (due_by r.plan r.start now - r.place)
+      → owed_before (turn_at t schedules es) (hyper t) now ≡ some_records r.plan r.start r.place (due_by r.plan r.start now - r.place)
   owed steps idle by none r =
-      sym (owed_are (plan_of t schedules es) (root_period t) now steps m.held.desk u.before.records.desk (schedule_own steps idle by none) r.plan r.start r.place r.offset r.same r.was)
+      sym (owed_are (turn_at t schedules es) (hyper t) now steps m.held.desk u.before.records.desk (schedule_own steps idle by none) r.plan r.start r.place r.offset r.same r.was)
 
   pub records_go_on : (steps idle : List SInstr) → steps ≡ schedule_by m.object idle m.selection → idle ≡ [] → (r : IsReadyAt m es now steps) → begins m.object.tables now ≡ false
-      → records_of m.object.tables (schedules_of m.object) es (root_period m.object.tables) now ≡ some_records r.plan r.start r.place (due_by r.plan r.start now - r.place) ++ []
-  records_go_on steps idle by none r b = by_root (root_period t) refl ∙ ap (λ (ls : List Left). ls ++ []) (owed steps idle by none r)
+      → records_of m.object.tables (schedules_of m.object) es (hyper m.object.tables) now ≡ some_records r.plan r.start r.place (due_by r.plan r.start now - r.place) ++ []
+  records_go_on steps idle by none r b = by_root (hyper t) refl ∙ ap (λ (ls : List Left). ls ++ []) (owed steps idle by none r)
     where
-      by_root : (o : Option ℕ) → root_period t ≡ o → records_of t schedules es (root_period t) now ≡ owed_before (plan_of t schedules es) (root_period t) now ++ []
-      by_root None e = records_alone t schedules es now e ∙ sym (ap (λ o. owed_before (plan_of t schedules es) o now ++ []) e)
+      by_root : (o : Option ℕ) → hyper t ≡ o → records_of t schedules es (hyper t) now ≡ owed_before (turn_at t schedules es) (hyper t) now ++ []
+      by_root None e = records_alone t schedules es now e ∙ sym (ap (λ o. owed_before (turn_at t schedules es) o now ++ []) e)
       by_root (Some q) e =
           records_going t schedules es now q e (going t code schedules loaded (modes_read t code schedules loaded accepted.spelled.code m.show) es u.kept.within q now e b)
-          ∙ sym (ap (λ o. owed_before (plan_of t schedules es) o now ++ []) e)
+          ∙ sym (ap (λ o. owed_before (turn_at t schedules es) o now ++ []) e)
 
   pub records_begin : (steps idle : List SInstr) → steps ≡ schedule_by m.object idle m.selection → idle ≡ [] → (r : IsReadyAt m es now steps) → begins m.object.tables now ≡ true
-      → records_of m.object.tables (schedules_of m.object) es (root_period m.object.tables) now
+      → records_of m.object.tables (schedules_of m.object) es (hyper m.object.tables) now
       ≡ some_records r.plan r.start r.place (due_by r.plan r.start now - r.place) ++ first_records m.object.tables (schedules_of m.object) es now
   records_begin steps idle by none r b =
       let h = beginning t code schedules loaded (modes_read t code schedules loaded accepted.spelled.code m.show) es u.kept.within now b in
-      records_beginning t schedules es now h.0 h.1 h.2
-      ∙ sym (ap (λ o. owed_before (plan_of t schedules es) o now ++ first_records t schedules es now) h.1)
+      records_beginning t schedules es now h.0 h.1 (begun t code schedules loaded (modes_read t code schedules loaded accepted.spelled.code m.show) es u.kept.within h.0 now h.1 h.2).1
+      ∙ sym (ap (λ o. owed_before (turn_at t schedules es) o now ++ first_records t schedules es now) h.1)
       ∙ ap (λ (ls : List Left). ls ++ first_records t schedules es now) (owed steps idle by none r)
 
-  -- the lines of the round that begins; none where none does
-  pub text_goes_on : begins m.object.tables now ≡ false → (round_texts m.object.tables m.object.ecode (schedules_of m.object) es m.show (root_period m.object.tables) now).1 ≡ []
-  text_goes_on b = by_root (root_period t) refl
+  -- the lines of the list that begins; none where none does
+  pub text_goes_on : begins m.object.tables now ≡ false → (list_texts m.object.tables (schedules_of m.object) es m.show (hyper m.object.tables) now).1 ≡ []
+  text_goes_on b = by_root (hyper t) refl
     where
-      by_root : (o : Option ℕ) → root_period t ≡ o → (round_texts t code schedules es m.show (root_period t) now).1 ≡ []
+      by_root : (o : Option ℕ) → hyper t ≡ o → (list_texts t schedules es m.show (hyper t) now).1 ≡ []
       by_root None e = ap (λ (z : List ℕ × List ℕ). z.1) (texts_alone t code schedules es m.show now e)
       by_root (Some q) e =
           ap (λ (z : List ℕ × List ℕ). z.1)
           (texts_going t code schedules es m.show now q e (going t code schedules loaded (modes_read t code schedules loaded accepted.spelled.code m.show) es u.kept.within q now e b))
 
   pub text_begins : begins m.object.tables now ≡ true
-      → (round_texts m.object.tables m.object.ecode (schedules_of m.object) es m.show (root_period m.object.tables) now).1 ≡ beginning_text m.object.tables (schedules_of m.object) es m.show now
+      → (list_texts m.object.tables (schedules_of m.object) es m.show (hyper m.object.tables) now).1 ≡ beginning_text m.object.tables (schedules_of m.object) es m.show now
   text_begins b =
       let h = beginning t code schedules loaded (modes_read t code schedules loaded accepted.spelled.code m.show) es u.kept.within now b in
-      ap (λ (z : List ℕ × List ℕ). z.1) (texts_beginning t code schedules es m.show now h.0 h.1 h.2)
+      ap (λ (z : List ℕ × List ℕ). z.1) (texts_beginning t code schedules es m.show now h.0 h.1 (begun t code schedules loaded (modes_read t code schedules loaded accepted.spelled.code m.show) es u.kept.within h.0 now h.1 h.2).1)

@@ -16,7 +16,7 @@ use Rattle.htl_walk.specs.declared.schedule.Schedule.{Schedule}
 use Rattle.htl_machine.specs.Follows.{DeskAt}
 use Rattle.htl_machine.specs.Leaving.{due_by}
 use Rattle.htl_machine.specs.Programs.{schedules_of}
-use Rattle.htl_machine.specs.Rounds.{plan_of}
+use Rattle.htl_machine.specs.Rounds.{plan_of, list_of}
 use Rattle.htl_machine.specs.declared.tally.Tally.{Tally}
 use Rattle.htl_machine.specs.Counts.{with_instrs, with_records}
 use Rattle.htl_machine.specs.Opening.{first_records}
@@ -106,11 +106,11 @@ begins_at o es at t code ss takes kept same same_code same_schedules are h =
 
 -- the round that has begun
 pub begun_at : (o : Object) (es : List Event) (at : ℕ) (t : Tables) (ss : List Schedule) (d : Round) → t ≡ o.tables → ss ≡ o.schedules
-    → DeskAt (plan_of t (instrs_of ss) es at) at (due_by (plan_of t (instrs_of ss) es at) at at) (suc at - at) d
-    → DeskAt (plan_of o.tables (schedules_of o) es at) at (due_by (plan_of o.tables (schedules_of o) es at) at at) (suc at - at) d
+    → DeskAt (list_of (plan_of t (instrs_of ss) es at)) at (due_by (list_of (plan_of t (instrs_of ss) es at)) at at) (suc at - at) d
+    → DeskAt (list_of (plan_of o.tables (schedules_of o) es at)) at (due_by (list_of (plan_of o.tables (schedules_of o) es at)) at at) (suc at - at) d
 begun_at o es at t ss d same same_schedules h =
-    subst (λ z. DeskAt (plan_of o.tables (instrs_of z) es at) at (due_by (plan_of o.tables (instrs_of z) es at) at at) (suc at - at) d) same_schedules
-    (subst (λ z. DeskAt (plan_of z (instrs_of ss) es at) at (due_by (plan_of z (instrs_of ss) es at) at at) (suc at - at) d) same h)
+    subst (λ z. DeskAt (list_of (plan_of o.tables (instrs_of z) es at)) at (due_by (list_of (plan_of o.tables (instrs_of z) es at)) at at) (suc at - at) d) same_schedules
+    (subst (λ z. DeskAt (list_of (plan_of z (instrs_of ss) es at)) at (due_by (list_of (plan_of z (instrs_of ss) es at)) at at) (suc at - at) d) same h)
 
 -- what the second part of an instant counts where a round begins
 pub counts_at : (o : Object) (es : List Event) (at : ℕ) (t : Tables) (code : ECode) (ss : List Schedule) (n n1 : Tally) → t ≡ o.tables → code ≡ o.ecode → ss ≡ o.schedules

@@ -26,11 +26,11 @@ use Rattle.htl_machine.specs.Doing.{path_lines}
 use Rattle.htl_machine.specs.Follows.{DeskAt}
 use Rattle.htl_machine.specs.Leaving.{due_by}
 use Rattle.htl_machine.specs.Opening.{reading_text, closing_text, first_records, beginning_text}
-use Rattle.htl_machine.specs.Plans.{complete_at, complete_by, run_records}
+use Rattle.htl_machine.specs.Completing.{complete_at, complete_by, run_records}
 use Rattle.htl_machine.specs.Printing.{Prints, Counted}
 use Rattle.htl_machine.specs.Readiness.{desk_replay}
 use Rattle.htl_machine.specs.Recording.{Records}
-use Rattle.htl_machine.specs.Rounds.{plan_of}
+use Rattle.htl_machine.specs.Rounds.{plan_of, list_of}
 use Rattle.htl_machine.specs.Starting.{kept_lengths, instrs_of, IsToBegin}
 use Rattle.htl_refine.specs.RecordCounts.{count_before}
 use Rattle.htl_machine.proofs.Closings.{reads_second}
@@ -52,9 +52,9 @@ begun_is t code schedules es at takes modes r e h is =
     is ∙ ap (λ (z : List (Option ℕ)). begun at (concrete_jobs t z) (kept_lengths takes (concrete_jobs t z))) e ∙ ap (begun at (plan_of t schedules es at).jobs) h.kept
 
 pub told_is : (t : Tables) (code : ECode) (schedules : List (List SInstr)) (es : List Event) (at : ℕ) (takes : List ℕ) (r n : Round) → IsToBegin t code schedules es at takes
-    → r ≡ begun at (plan_of t schedules es at).jobs (plan_of t schedules es at).lengths → n ≡ desk_replay code (phase_path t code es at 3) r → DeskAt (plan_of t schedules es at) at 0 (suc at - at) n
+    → r ≡ begun at (plan_of t schedules es at).jobs (plan_of t schedules es at).lengths → n ≡ desk_replay code (phase_path t code es at 3) r → DeskAt (list_of (plan_of t schedules es at)) at 0 (suc at - at) n
 told_is t code schedules es at takes r n h is told =
-    subst (λ z. DeskAt (plan_of t schedules es at) at 0 (suc at - at) z) (sym (told ∙ ap (desk_replay code (phase_path t code es at 3)) is)) h.told
+    subst (λ z. DeskAt (list_of (plan_of t schedules es at)) at 0 (suc at - at) z) (sym (told ∙ ap (desk_replay code (phase_path t code es at 3)) is)) h.told
 
 pub schedule_is : (t : Tables) (schedules : List Schedule) (es : List Event) (at sel : ℕ) (modes : List (Option ℕ)) (x : Schedule) → modes ≡ modes_at t es at → sel ≡ selection_of_modes t modes → sel < selection_count t
     → length schedules ≡ selection_count t → x ≡ get_or schedules sel x → x.instrs ≡ (plan_of t (instrs_of schedules) es at).schedule
@@ -86,22 +86,22 @@ quiet : (t : Tables) (p : Plan) (n k : ℕ) (w : Content) → k + n ≤ count_be
 quiet t p zero k w h = refl
 quiet t p (suc n) k w h = quiet t p n (suc k) (complete_by t p.jobs (slice_get (walk_of p) k) w) (omega (arith, h)) ∙ still t p k w (omega (arith, h))
 
-pub first_done : (t : Tables) (p : Plan) (steps : List SInstr) (at : ℕ) (r n : Round) (w v : Content) → p.schedule ≡ steps → DeskAt p at 0 (suc at - at) r → Records t r w n v steps at → (DeskAt p at (due_by p at at) (suc at - at) n) × (v ≡ w)
+pub first_done : (t : Tables) (p : Plan) (steps : List SInstr) (at : ℕ) (r n : Round) (w v : Content) → p.schedule ≡ steps → DeskAt (list_of p) at 0 (suc at - at) r → Records t r w n v steps at → (DeskAt (list_of p) at (due_by (list_of p) at at) (suc at - at) n) × (v ≡ w)
 first_done t p steps at r n w v same was records =
-    let all = records p at 0 (suc at - at) same (omega arith) (omega arith) was in
-    let few : 0 + (due_by p at at - 0) ≤ count_before 1 (walk_of p) =
+    let all = records (list_of p) at 0 (suc at - at) same (omega arith) (omega arith) was in
+    let few : 0 + (due_by (list_of p) at at - 0) ≤ count_before 1 (walk_of p) =
     omega (arith, ap (λ z. count_before z (walk_of p)) (let z : suc at - at ≡ 1 = omega arith in z)) in
-    (all.0, all.1 ∙ quiet t p (due_by p at at - 0) 0 w few)
+    (all.0, all.1 ∙ quiet t p (due_by (list_of p) at at - 0) 0 w few)
 
-pub first_counted : (t : Tables) (schedules : List (List SInstr)) (es : List Event) (steps : List SInstr) (at : ℕ) (r : Round) (n m : Tally) → (plan_of t schedules es at).schedule ≡ steps → DeskAt (plan_of t schedules es at) at 0 (suc at - at) r
+pub first_counted : (t : Tables) (schedules : List (List SInstr)) (es : List Event) (steps : List SInstr) (at : ℕ) (r : Round) (n m : Tally) → (plan_of t schedules es at).schedule ≡ steps → DeskAt (list_of (plan_of t schedules es at)) at 0 (suc at - at) r
     → Counted r steps at n m → m ≡ with_records (first_records t schedules es at) n
-first_counted t schedules es steps at r n m same was counted = counted (plan_of t schedules es at) at 0 (suc at - at) same (omega arith) (omega arith) was
+first_counted t schedules es steps at r n m same was counted = counted (list_of (plan_of t schedules es at)) at 0 (suc at - at) same (omega arith) (omega arith) was
 
 pub first_told : {T E : Type 0} (t : Tables) (schedules : List (List SInstr)) (es : List Event) (show : Shown) (steps : List SInstr) (at sel : ℕ) (modes : List (Option ℕ)) (r : Round) (w0 w : Option (List ℕ)) (f0 f : ℕ) (result : Result T E)
-    → (plan_of t schedules es at).schedule ≡ steps → modes ≡ modes_at t es at → sel ≡ selection_of_modes t modes → DeskAt (plan_of t schedules es at) at 0 (suc at - at) r
+    → (plan_of t schedules es at).schedule ≡ steps → modes ≡ modes_at t es at → sel ≡ selection_of_modes t modes → DeskAt (list_of (plan_of t schedules es at)) at 0 (suc at - at) r
     → Prints t show sel r steps at w0 w f0 f result → Puts w0 w f0 f (beginning_text t schedules es show at) result
 first_told t schedules es show steps at sel modes r w0 w f0 f result same e is was prints =
-    subst (λ n. Prints t show n r steps at w0 w f0 f result) (is ∙ ap (selection_of_modes t) e) prints (plan_of t schedules es at) at 0 (suc at - at) same (omega arith) (omega arith) was
+    subst (λ n. Prints t show n r steps at w0 w f0 f result) (is ∙ ap (selection_of_modes t) e) prints (list_of (plan_of t schedules es at)) at 0 (suc at - at) same (omega arith) (omega arith) was
 
 -- ---- the text
 

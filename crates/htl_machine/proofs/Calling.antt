@@ -1,7 +1,6 @@
 -- The calls of the machine, by their contracts: each carries what the machine follows.
 use Rattle.std.proofs.Common.{◌≡◌, ℕ, zero, suc, ◌≤◌, ◌<◌, false, cond, ◌&&◌, eqb, leb, true, List, [], ◌∷◌, ◌++◌, length, map, get_or, slice_get, IfSome, Option, Some, None, ℤ, pos, refl, sym, ap, ap₂, ◌∙◌, subst, arith}
 use Rattle.std.proofs.lemmas.Bool.Decides.{nat_tests}
-use Rattle.std.proofs.Math.Nat.{div-add-mod}
 use Rattle.std.proofs.lemmas.List.{length-map, length-set}
 use Rattle.std.proofs.lemmas.Option.{slice_get_within}
 use Rattle.htl_model.specs.declared.event.Event.{Event}
@@ -9,9 +8,9 @@ use Rattle.htl_model.specs.declared.event.Event.TheVariants as V
 use Rattle.htl_model.specs.declared.parts.Comm.{Comm}
 use Rattle.htl_model.specs.declared.parts.Inv.{Inv}
 use Rattle.htl_model.specs.Ranges.{FitsType}
-use Rattle.htl_model.specs.Selections.{root_period}
-use Rattle.htl_model.specs.Tables.{Tables, task_worst}
-use Rattle.htl_model.specs.Meaning.{sense, state, initial}
+use Rattle.htl_model.specs.Frames.{hyper}
+use Rattle.htl_model.specs.Tables.{Tables, task_worst, is_concrete}
+use Rattle.htl_model.specs.Meaning.{sense, initial}
 use Rattle.htl_walk.specs.declared.schedule.SInstr.{SInstr}
 use Rattle.htl_walk.specs.declared.job.Job.{Job}
 use Rattle.htl_walk.specs.Jobs.{absent_job}
@@ -22,26 +21,27 @@ use Rattle.htl_emach.specs.Calendars.{Standing, first_standing}
 use Rattle.htl_emach.specs.Contents.{Content, first_content}
 use Rattle.htl_emach.specs.Safety.{StandsSafely}
 use Rattle.htl_emach.specs.Shapes.{IsShaped}
-use Rattle.htl_refine.specs.Records.{inv_worst, Round as Plan}
+use Rattle.htl_refine.specs.Records.{inv_worst, AreTookWithin}
 use Rattle.htl_object.specs.declared.object.Object.{Object}
 use Rattle.htl_object.specs.Accepted.{IsAccepted}
 use Rattle.htl_console.specs.declared.shown.Shown.{Shown}
 use Rattle.htl_machine.specs.Calls.{Seen, IsKept, IsBefore, IsUpTo, Follows, GoesBy, IsSensorValue, IsLength, IsFinished, first_seen}
 use Rattle.htl_machine.specs.Turns.{position_from}
-use Rattle.htl_machine.specs.Follows.{reading_of, at_reading, shown_as, taken_as, desk_taking, DeskFollows, AreKept, period_or}
-use Rattle.htl_machine.specs.Casts.{IsCast, HaveWindows}
+use Rattle.htl_machine.specs.Follows.{reading_of, at_reading, shown_as, taken_as, desk_taking, DeskFollows, IsLoaded}
 use Rattle.htl_machine.specs.Machines.{Counts}
-use Rattle.htl_machine.specs.Plans.{round_start}
 use Rattle.htl_machine.specs.Programs.{schedules_of}
-use Rattle.htl_machine.specs.Rounds.{plan_of, selection_of}
 use Rattle.htl_machine.specs.Texts.{text_before}
 use Rattle.htl_machine.specs.Wholes.{Whole, WholeFollowed}
+use Rattle.htl_machine.specs.RunLists.{turn_at, turn_by, list_turn}
+use Rattle.htl_machine.specs.ListTurns.{Turn}
+use Rattle.htl_machine.proofs.RunLists.{job_is_of}
+use Rattle.htl_machine.proofs.RunsAgree.{node_same}
+use Rattle.htl_machine.proofs.LoadedLists.{loaded_run}
 use Rattle.htl_machine.proofs.Accepted.{accepted_is_loaded}
 use Rattle.htl_machine.proofs.Counting.{totals_start}
-use Rattle.htl_machine.proofs.Events.{Alike, state_same, sense_at, sense_took, sense_sense}
+use Rattle.htl_machine.proofs.Events.{Alike, sense_at, sense_took, sense_sense}
 use Rattle.htl_machine.proofs.Standing.{none_some, some_same}
 use Rattle.htl_machine.proofs.Casting.{position_some}
-use Rattle.htl_machine.proofs.RoundServed.{round_windows}
 use Rattle.htl_machine.proofs.Taking.{new_follows}
 use Rattle.htl_machine.proofs.TellingLoaded.{loaded_jobs, loaded_s, loaded_e}
 use Rattle.htl_machine.proofs.Wholly.{whole_new, whole_reading, whole_sense, whole_took}
@@ -86,7 +86,7 @@ whole_of m es now accepted kept later b =
 
 pub before_of : (m : Seen) (es : List Event) (now : ℕ) (written : List ℕ) → IsAccepted m.object
     → Whole m.object.tables m.object.ecode (schedules_of m.object) m.show es now m.standing m.held (counts_of m) written
-    → GoesBy m.object.tables es (root_period m.object.tables) now m.selection → IsBefore m es now
+    → GoesBy (turn_at m.object.tables (schedules_of m.object) es) (hyper m.object.tables) now m.selection → IsBefore m es now
 before_of m es now written accepted w goes =
     let loaded = accepted_is_loaded m.object accepted in
     let within = w.stands.up_to.within in
@@ -117,7 +117,7 @@ followed_of m es accepted f =
 
 follows_of : (m : Seen) (es : List Event) (written : List ℕ) → IsAccepted m.object
     → WholeFollowed m.object.tables m.object.ecode (schedules_of m.object) m.show es m.standing m.held (counts_of m) written
-    → GoesBy m.object.tables es (root_period m.object.tables) m.held.reading m.selection → length m.held.takes ≡ length m.object.tables.invs → Follows m es
+    → GoesBy (turn_at m.object.tables (schedules_of m.object) es) (hyper m.object.tables) m.held.reading m.selection → length m.held.takes ≡ length m.object.tables.invs → Follows m es
 follows_of m es written accepted w goes count =
     record {
       kept =
@@ -133,17 +133,19 @@ follows_of m es written accepted w goes count =
       before = before_of m es m.held.reading written accepted w.whole goes;
     }
 
--- ---- the selection by which the round goes
+-- ---- the list by which the machine goes
 
-last_start : (period n : ℕ) → round_start period n ≤ n
-last_start period n = omega (arith, div-add-mod n period)
+node_alike : (t : Tables) (schedules : List (List SInstr)) (loaded : IsLoaded t schedules) (es fs : List Event) (within : AreTookWithin t es) (now n : ℕ) → Alike t es fs now → n < now → (turn_at t schedules es n).node ≡ (turn_at t schedules fs n).node
+node_alike t schedules loaded es fs within now n a h = by (hyper t) refl
+  where
+    by : (o : Option ℕ) → hyper t ≡ o → (turn_by o t schedules es n).node ≡ (turn_by o t schedules fs n).node
+    by None e = refl
+    by (Some q) e = node_same t schedules es fs now (loaded_run t schedules loaded es within q e) a n h
 
-goes_alike : (t : Tables) (es fs : List Event) (o : Option ℕ) (now : ℕ) (sel : Option ℕ) → Alike t es fs now → GoesBy t es o now sel → GoesBy t fs o now sel
-goes_alike t es fs None now sel a g = g
-goes_alike t es fs (Some p) zero sel a g = g
-goes_alike t es fs (Some p) (suc n) sel a g =
-    let below = last_start p n in
-    g ∙ ap (λ z. Some (selection_of t z.stays)) (state_same t es fs (suc n) (round_start p n) a (omega (arith, below)))
+goes_alike : (t : Tables) (schedules : List (List SInstr)) (loaded : IsLoaded t schedules) (es fs : List Event) (within : AreTookWithin t es) (o : Option ℕ) (now : ℕ) (sel : Option ℕ) → Alike t es fs now → GoesBy (turn_at t schedules es) o now sel → GoesBy (turn_at t schedules fs) o now sel
+goes_alike t schedules loaded es fs within None now sel a g = g
+goes_alike t schedules loaded es fs within (Some p) zero sel a g = g
+goes_alike t schedules loaded es fs within (Some p) (suc n) sel a g = g ∙ ap (λ z. Some z) (node_alike t schedules loaded es fs within (suc n) n a (omega arith))
 
 -- ---- calls
 
@@ -156,7 +158,7 @@ sense_follows m es c x accepted sensor f =
     (text_before t m.object.ecode (schedules_of m.object) es m.show m.held.reading) (slice_get_within t.comms c sensor.comm sensor.known)
     (subst (λ (o : Option Comm). IfSome o (λ y. FitsType y.ty x)) (sym sensor.known) sensor.fits) (followed_of m es accepted f) in
     follows_of (record m { held = shown_as c x m.held }) (es ++ V.Sense c x ∷ []) _ accepted g
-    (goes_alike t es (es ++ V.Sense c x ∷ []) (root_period t) m.held.reading m.selection
+    (goes_alike t (schedules_of m.object) (accepted_is_loaded m.object accepted) es (es ++ V.Sense c x ∷ []) f.kept.within (hyper t) m.held.reading m.selection
     (λ d u h. sym (sense_sense t es c d u x ∙ ap (λ b. cond b x (sense t es d u)) (early d u (omega (arith, f.kept.reading, h))))) f.before.records.goes)
     f.kept.count
   where
@@ -167,40 +169,32 @@ sense_follows m es c x accepted sensor f =
 pub position_worst : (m : Seen) (es : List Event) (i n p : ℕ) → IsAccepted m.object → IsLength m.object.tables i n → Follows m es
     → position_from 0 m.held.desk.jobs i ≡ Some p → n ≤ (job_at m.held.desk.jobs p).worst
 position_worst m es i n p accepted length f found =
-    by (root_period t) refl m.held.reading f.before.records.desk
+    by (hyper t) refl m.held.reading f.before.records.desk
   where
     t : Tables
     t = m.object.tables
 
-    plan : ℕ → Plan
-    plan = plan_of t (schedules_of m.object) es
-
-    in_round : (s : ℕ) → m.held.desk.jobs ≡ (plan s).jobs → IsCast t (state t es s).stays s s (plan s).jobs → HaveWindows (plan s).jobs → n ≤ (job_at m.held.desk.jobs p).worst
-    in_round s same cast windows =
+    in_list : (u : Turn) → m.held.desk.jobs ≡ u.plan.jobs → ((q : ℕ) (j : Job) → slice_get u.plan.jobs q ≡ Some j → j.present ≡ true → (x : Inv) × (slice_get t.invs j.inv ≡ Some x) × (is_concrete t x ≡ true) × (j.worst ≡ task_worst t x.task))
+        → n ≤ (job_at m.held.desk.jobs p).worst
+    in_list u same of =
         let h = position_some 0 m.held.desk.jobs i p found in
-        let at : slice_get (plan s).jobs h.0 ≡ Some h.2 = ap (λ (js : List Job). slice_get js h.0) (sym same) ∙ h.3 in
-        let st = cast.stands h.0 h.2 at h.4 (omega (arith, windows h.0 h.2 at h.4)) in
-        let job_is : h.2 ≡ st.3.job = some_same _ _ (sym at ∙ st.3.at) in
-        let inv_is : st.0 ≡ length.inv = some_same _ _ (sym st.2.known ∙ ap (λ z. slice_get t.invs z) h.5 ∙ length.known) in
+        let at : slice_get u.plan.jobs h.0 ≡ Some h.2 = ap (λ (js : List Job). slice_get js h.0) (sym same) ∙ h.3 in
+        let st = of h.0 h.2 at h.4 in
+        let inv_is : st.0 ≡ length.inv = some_same _ _ (sym st.1 ∙ ap (λ z. slice_get t.invs z) h.5 ∙ length.known) in
         let here : job_at m.held.desk.jobs p ≡ h.2 =
         ap (λ z. job_at m.held.desk.jobs z) (let z : p ≡ h.0 = omega (arith, h.1) in z) ∙ ap (λ (o : Option Job). elim o [ Some j ↦ j | None ↦ absent_job ]) h.3 in
-        let worst : (job_at m.held.desk.jobs p).worst ≡ task_worst t length.inv.task =
-        ap (λ (z : Job). z.worst) (here ∙ job_is) ∙ st.3.worst ∙ ap (λ (z : Inv). task_worst t z.task) inv_is in
+        let worst : (job_at m.held.desk.jobs p).worst ≡ task_worst t length.inv.task = ap (λ (z : Job). z.worst) here ∙ st.3 ∙ ap (λ (z : Inv). task_worst t z.task) inv_is in
         omega (arith, worst, length.worst)
 
     no_job : m.held.desk ≡ rounds.no_round → n ≤ (job_at m.held.desk.jobs p).worst
     no_job d = none_some p (ap (λ (r : rounds.Round). position_from 0 r.jobs i) (sym d) ∙ found)
 
-    by : (o : Option ℕ) → root_period t ≡ o → (now : ℕ) → DeskFollows plan o now m.held.desk → n ≤ (job_at m.held.desk.jobs p).worst
+    by : (o : Option ℕ) → hyper t ≡ o → (now : ℕ) → DeskFollows (turn_at t (schedules_of m.object) es) o now m.held.desk → n ≤ (job_at m.held.desk.jobs p).worst
     by None e now d = no_job d
     by (Some q) e zero d = no_job d
     by (Some q) e (suc k) d =
-        in_round (round_start q k) d.jobs
-        (subst (λ z. IsCast t (state t es (round_start z k)).stays (round_start z k) (round_start z k) (plan (round_start z k)).jobs) (ap period_or e) (kept_rounds.sound.casts k))
-        (subst (λ z. HaveWindows (plan (round_start z k)).jobs) (ap period_or e) (let r = plan (round_start (period_or (root_period t)) k) in round_windows r.jobs r.lengths r.schedule (kept_rounds.sound.meets k)))
-      where
-        kept_rounds : AreKept t (schedules_of m.object) es
-        kept_rounds = (accepted_is_loaded m.object accepted).rounds es f.kept.within
+        let run = loaded_run t (schedules_of m.object) (accepted_is_loaded m.object accepted) es f.kept.within q e in
+        in_list (list_turn t (schedules_of m.object) es k) (d.jobs ∙ ap (λ o. (turn_by o t (schedules_of m.object) es k).plan.jobs) e) (job_is_of t (schedules_of m.object) es run k)
 
 pub took_follows : (m : Seen) (es : List Event) (i n : ℕ) → IsAccepted m.object → IsLength m.object.tables i n
     → ((c : List SInstr) → rounds.Stands m.held.desk c → rounds.Stands (desk_taking i n m.held.desk) c) → Follows m es
@@ -213,7 +207,7 @@ took_follows m es i n accepted length keeps f =
     (text_before t m.object.ecode (schedules_of m.object) es m.show m.held.reading) (length.some, omega (arith, length.worst, worst)) (slice_get_within t.invs i length.inv length.known) f.kept.count keeps
     (followed_of m es accepted f) in
     follows_of (record m { held = taken_as i n m.held }) (es ++ V.Took i n ∷ []) _ accepted g
-    (goes_alike t es (es ++ V.Took i n ∷ []) (root_period t) m.held.reading m.selection (λ d u h. sym (sense_took t es i n d u)) f.before.records.goes)
+    (goes_alike t (schedules_of m.object) (accepted_is_loaded m.object accepted) es (es ++ V.Took i n ∷ []) f.kept.within (hyper t) m.held.reading m.selection (λ d u h. sym (sense_took t es i n d u)) f.before.records.goes)
     (length-set m.held.takes i n ∙ f.kept.count)
 
 -- a reading, once all instants before it are done
@@ -224,7 +218,7 @@ read_follows m es to accepted later f =
     whole_reading t m.object.ecode (schedules_of m.object) (accepted_is_loaded m.object accepted) accepted.spelled.code m.show es to m.standing m.held (counts_of m)
     (text_before t m.object.ecode (schedules_of m.object) es m.show to) f.kept.fresh (whole_of m es to accepted f.kept (omega (arith, f.kept.reading, later)) f.before) in
     follows_of (record m { held = at_reading to m.held }) (es ++ V.At to ∷ []) _ accepted g
-    (goes_alike t es (es ++ V.At to ∷ []) (root_period t) to m.selection (λ d u h. sym (sense_at t es to d u)) f.before.records.goes) f.kept.count
+    (goes_alike t (schedules_of m.object) (accepted_is_loaded m.object accepted) es (es ++ V.At to ∷ []) f.kept.within (hyper t) to m.selection (λ d u h. sym (sense_at t es to d u)) f.before.records.goes) f.kept.count
 
 -- the end of a run
 pub finished : (m : Seen) (es : List Event) (to : ℕ) → IsUpTo m es (suc to) → IsFinished (record m { held = record m.held { reading = to; spent = true } }) es to
@@ -256,9 +250,9 @@ first_follows o show accepted safe shaped =
     let w =
     whole_new t o.ecode (schedules_of o) loaded accepted.spelled.code show m.held (counts_of m) [] safe
     (record { follows = f; stands = record { up_to = f.up_to; totals = totals_start t o.ecode (schedules_of o) []; text = refl } }) in
-    follows_of m [] [] accepted w (goes (root_period t)) (length-map t.invs _)
+    follows_of m [] [] accepted w (goes (hyper t)) (length-map t.invs _)
   where
-    goes : (p : Option ℕ) → GoesBy o.tables [] p 0 None
+    goes : (p : Option ℕ) → GoesBy (turn_at o.tables (schedules_of o) []) p 0 None
     goes None = refl
     goes (Some p) = refl
 

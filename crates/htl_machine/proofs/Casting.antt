@@ -1,5 +1,5 @@
 -- Windows and offsets, and the last position of an invocation.
-use Rattle.std.proofs.Common.{◌≡◌, ℕ, zero, suc, ◌+◌, ◌*◌, ◌≤◌, ◌<◌, max, Bool, true, false, cond, ◌&&◌, eqb, List, [], ◌∷◌, length, slice_get, Option, Some, None, refl, sym, ap, ◌∙◌, arith}
+use Rattle.std.proofs.Common.{◌≡◌, ℕ, zero, suc, ◌+◌, ◌*◌, ◌≤◌, ◌<◌, max, Bool, true, false, cond, ◌&&◌, eqb, List, [], ◌∷◌, length, slice_get, Option, Some, None, refl, sym, ap, ◌∙◌, arith, get_or, map}
 use Rattle.std.proofs.lemmas.Bool.{eqb-true, eq-eqb}
 use Rattle.htl_model.specs.declared.parts.End.{End}
 use Rattle.htl_model.specs.declared.parts.End.TheVariants as E
@@ -10,6 +10,12 @@ use Rattle.htl_walk.specs.Walk.{job_at}
 use Rattle.htl_machine.specs.Casts.{IsCast, HaveWindows}
 use Rattle.htl_machine.specs.Turns.{later_or, position_from, done_at, finished_in}
 use Rattle.htl_machine.proofs.Standing.{some_same, none_some}
+
+-- what a function gives of an item
+pub get_map : {A : Type 0} (f : Job → A) (js : List Job) (p : ℕ) (j : Job) (d : A) → slice_get js p ≡ Some j → get_or (map f js) p d ≡ f j
+get_map f [] p j d e = none_some j e
+get_map f (k ∷ js) zero j d e = ap f (some_same _ _ e)
+get_map f (k ∷ js) (suc p) j d e = get_map f js p j d e
 
 -- ---- windows and offsets
 

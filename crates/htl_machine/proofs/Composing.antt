@@ -1,5 +1,5 @@
 -- The text and the counts of an instant, from those of its parts.
-use Rattle.std.proofs.Common.{◌≡◌, ◌≢◌, ℕ, zero, suc, ◌+◌, ◌-◌, ◌^◌, min, ◌≤◌, Bool, true, false, cond, List, [], ◌∷◌, ◌++◌, length, Some, None, refl, sym, ap, ◌∙◌, arith, length-append}
+use Rattle.std.proofs.Common.{◌≡◌, ◌≢◌, ℕ, zero, suc, ◌+◌, ◌-◌, ◌^◌, min, ◌≤◌, Bool, true, false, cond, eqb, List, [], ◌∷◌, ◌++◌, length, Some, None, refl, sym, ap, ◌∙◌, arith, length-append}
 use Rattle.std.specs.List.{count_by}
 use Rattle.std.proofs.lemmas.Bool.{eq-eqb, ne_eqb}
 use Rattle.std.proofs.lemmas.List.{append_assoc}
@@ -7,7 +7,7 @@ use Rattle.std.proofs.lemmas.List.Sums.{sum_by-cons, sum_by-append}
 use Rattle.htl_model.specs.declared.event.Event.{Event}
 use Rattle.htl_model.specs.Lines.{lines_text}
 use Rattle.htl_model.specs.Meaning.{value_lines}
-use Rattle.htl_model.specs.Selections.{root_period}
+use Rattle.htl_model.specs.Frames.{hyper}
 use Rattle.htl_model.specs.Tables.{Tables}
 use Rattle.htl_walk.specs.declared.schedule.SInstr.{SInstr}
 use Rattle.htl_smach.specs.declared.left.Left.{Left}
@@ -21,11 +21,12 @@ use Rattle.htl_machine.specs.Counts.{one_record, one_instr, with_records, with_i
 use Rattle.htl_machine.specs.Doing.{path_lines}
 use Rattle.htl_machine.specs.Leaving.{due_by}
 use Rattle.htl_machine.specs.Opening.{closing_text, first_records, beginning_text}
-use Rattle.htl_machine.specs.Plans.{round_start, left_before}
-use Rattle.htl_machine.specs.Rounds.{plan_of}
-use Rattle.htl_machine.specs.Texts.{records_text, some_records, old_records, old_start, round_texts, instant_text, records_of}
+use Rattle.htl_machine.specs.ListTurns.{left_before, Turn}
+use Rattle.htl_machine.specs.Rounds.{round_turn}
+use Rattle.htl_machine.specs.Texts.{records_text, some_records, old_records, list_texts, instant_text, records_of, old_turn}
 use Rattle.htl_emach.proofs.Instants.{whole_path}
 use Rattle.htl_machine.specs.Machines.{Counts}
+use Rattle.htl_machine.specs.RunLists.{turn_at}
 use Rattle.htl_machine.proofs.Wholly.{counted}
 use Rattle.htl_machine.proofs.Agreeing.{phases_are, instrs_capped, steps_capped}
 
@@ -38,8 +39,8 @@ regroup o a b c v n =
     ∙ sym (append_assoc (o ++ (a ++ (b ++ c))) v n ∙ append_assoc o (a ++ (b ++ c)) (v ++ n))
 
 module _ (t : Tables) (code : ECode) (schedules : List (List SInstr)) (es : List Event) (show : Shown) (now : ℕ) where
-  -- the lines of the round before and of the writes, then those of switches, reads and changes, then those of the round that begins
-  pub instant_composed : (old new : List ℕ) → round_texts t code schedules es show (root_period t) now ≡ (old, new)
+  -- the lines of the list before and of the writes, then those of switches, reads and changes, then those of the list that begins
+  pub instant_composed : (old new : List ℕ) → list_texts t schedules es show (hyper t) now ≡ (old, new)
       → (old ++ path_lines t code show now (phase_path t code es now 1)) ++ (closing_text t code es show now ++ new) ≡ instant_text t code schedules es show now
   instant_composed old new are =
       let values : List ℕ = cond (shows_values show) (lines_text t (value_lines t es now)) [] in
@@ -48,27 +49,32 @@ module _ (t : Tables) (code : ECode) (schedules : List (List SInstr)) (es : List
       ∙ ap (λ z. old ++ z ++ values ++ new) (sym (phases_are t code es show now))
       ∙ ap (λ (r : List ℕ × List ℕ). r.0 ++ path_lines t code show now (e_path t code es now) ++ values ++ r.1) (sym are)
 
-  -- where no round begins
-  pub texts_going : (period : ℕ) → root_period t ≡ Some period → round_start period now ≢ now
-      → round_texts t code schedules es show (root_period t) now ≡ (records_text t schedules es show (old_start period now) (old_records (plan_of t schedules es) period now), [])
+  -- where no list begins
+  pub texts_going : (period : ℕ) → hyper t ≡ Some period → (turn_at t schedules es now).frame + (turn_at t schedules es now).from ≢ now
+      → list_texts t schedules es show (hyper t) now ≡ (records_text t show (old_turn (turn_at t schedules es) now) (old_records (turn_at t schedules es) now), [])
   texts_going period root apart =
-      ap (λ o. round_texts t code schedules es show o now) root
-      ∙ ap (λ b. (records_text t schedules es show (old_start period now) (old_records (plan_of t schedules es) period now), records_text t schedules es show now (cond b (some_records (plan_of t schedules es now) now 0 (left_before (plan_of t schedules es) now (suc now))) [])))
-      (ne_eqb (round_start period now) now apart)
+      let turn = turn_at t schedules es in
+      let u = turn now in
+      ap (λ o. list_texts t schedules es show o now) root
+      ∙ ap (λ b. (records_text t show (old_turn turn now) (old_records turn now), records_text t show u (cond b (some_records u.plan u.frame 0 (left_before u (suc now))) []))) (ne_eqb (u.frame + u.from) now apart)
 
   -- where one begins
-  pub texts_beginning : (period : ℕ) → root_period t ≡ Some period → round_start period now ≡ now
-      → round_texts t code schedules es show (root_period t) now ≡ (records_text t schedules es show (old_start period now) (old_records (plan_of t schedules es) period now), beginning_text t schedules es show now)
+  pub texts_beginning : (period : ℕ) → hyper t ≡ Some period → turn_at t schedules es now ≡ round_turn t schedules es period now
+      → list_texts t schedules es show (hyper t) now ≡ (records_text t show (old_turn (turn_at t schedules es) now) (old_records (turn_at t schedules es) now), beginning_text t schedules es show now)
   texts_beginning period root starts =
-      ap (λ o. round_texts t code schedules es show o now) root
-      ∙ ap (λ b. (records_text t schedules es show (old_start period now) (old_records (plan_of t schedules es) period now), records_text t schedules es show now (cond b (some_records (plan_of t schedules es now) now 0 (left_before (plan_of t schedules es) now (suc now))) [])))
-      (eq-eqb (round_start period now) now starts)
-      ∙ ap (λ k. (records_text t schedules es show (old_start period now) (old_records (plan_of t schedules es) period now), records_text t schedules es show now (some_records (plan_of t schedules es now) now 0 k)))
-      (let z : left_before (plan_of t schedules es) now (suc now) ≡ due_by (plan_of t schedules es now) now now - 0 = omega arith in z)
+      let turn = turn_at t schedules es in
+      let old = records_text t show (old_turn turn now) (old_records turn now) in
+      ap (λ o. list_texts t schedules es show o now) root
+      ∙ ap (λ (u : Turn). (old, records_text t show u (cond (eqb (u.frame + u.from) now) (some_records u.plan u.frame 0 (left_before u (suc now))) []))) starts
+      ∙ ap (λ b. (old, records_text t show (first now) (cond b (some_records (first now).plan now 0 (left_before (first now) (suc now))) []))) (eq-eqb (now + 0) now (omega arith))
+      ∙ ap (λ k. (old, records_text t show (first now) (some_records (first now).plan now 0 k))) (let z : left_before (first now) (suc now) ≡ due_by (first now).plan now now - 0 = omega arith in z)
+    where
+      first : ℕ → Turn
+      first s = round_turn t schedules es period s
 
-  -- without rounds
-  pub texts_alone : root_period t ≡ None → round_texts t code schedules es show (root_period t) now ≡ ([], [])
-  texts_alone root = ap (λ o. round_texts t code schedules es show o now) root
+  -- without modules
+  pub texts_alone : hyper t ≡ None → list_texts t schedules es show (hyper t) now ≡ ([], [])
+  texts_alone root = ap (λ o. list_texts t schedules es show o now) root
 
 -- ---- counts
 
@@ -151,23 +157,31 @@ path_length t code es now =
 -- ---- the records of an instant
 
 module _ (t : Tables) (schedules : List (List SInstr)) (es : List Event) (now : ℕ) where
-  pub records_going : (period : ℕ) → root_period t ≡ Some period → round_start period now ≢ now → records_of t schedules es (root_period t) now ≡ old_records (plan_of t schedules es) period now ++ []
+  pub records_going : (period : ℕ) → hyper t ≡ Some period → (turn_at t schedules es now).frame + (turn_at t schedules es now).from ≢ now
+      → records_of t schedules es (hyper t) now ≡ old_records (turn_at t schedules es) now ++ []
   records_going period root apart =
+      let turn = turn_at t schedules es in
+      let u = turn now in
       ap (λ o. records_of t schedules es o now) root
-      ∙ ap (λ b. old_records (plan_of t schedules es) period now ++ cond b (some_records (plan_of t schedules es now) now 0 (left_before (plan_of t schedules es) now (suc now))) []) (ne_eqb (round_start period now) now apart)
+      ∙ ap (λ b. old_records turn now ++ cond b (some_records u.plan u.frame 0 (left_before u (suc now))) []) (ne_eqb (u.frame + u.from) now apart)
 
-  pub records_beginning : (period : ℕ) → root_period t ≡ Some period → round_start period now ≡ now
-      → records_of t schedules es (root_period t) now ≡ old_records (plan_of t schedules es) period now ++ first_records t schedules es now
+  pub records_beginning : (period : ℕ) → hyper t ≡ Some period → turn_at t schedules es now ≡ round_turn t schedules es period now
+      → records_of t schedules es (hyper t) now ≡ old_records (turn_at t schedules es) now ++ first_records t schedules es now
   records_beginning period root starts =
+      let turn = turn_at t schedules es in
       ap (λ o. records_of t schedules es o now) root
-      ∙ ap (λ b. old_records (plan_of t schedules es) period now ++ cond b (some_records (plan_of t schedules es now) now 0 (left_before (plan_of t schedules es) now (suc now))) []) (eq-eqb (round_start period now) now starts)
-      ∙ ap (λ k. old_records (plan_of t schedules es) period now ++ some_records (plan_of t schedules es now) now 0 k) (let z : left_before (plan_of t schedules es) now (suc now) ≡ due_by (plan_of t schedules es now) now now - 0 = omega arith in z)
+      ∙ ap (λ (u : Turn). old_records turn now ++ cond (eqb (u.frame + u.from) now) (some_records u.plan u.frame 0 (left_before u (suc now))) []) starts
+      ∙ ap (λ b. old_records turn now ++ cond b (some_records (first now).plan now 0 (left_before (first now) (suc now))) []) (eq-eqb (now + 0) now (omega arith))
+      ∙ ap (λ k. old_records turn now ++ some_records (first now).plan now 0 k) (let z : left_before (first now) (suc now) ≡ due_by (first now).plan now now - 0 = omega arith in z)
+    where
+      first : ℕ → Turn
+      first s = round_turn t schedules es period s
 
-  pub records_alone : root_period t ≡ None → records_of t schedules es (root_period t) now ≡ []
+  pub records_alone : hyper t ≡ None → records_of t schedules es (hyper t) now ≡ []
   records_alone root = ap (λ o. records_of t schedules es o now) root
 
   -- so what is counted is what the instant counts
-  pub counts_are : (code : ECode) (old new : List Left) (n m : Tally) → records_of t schedules es (root_period t) now ≡ old ++ new → n.jobs ≤ 2 ^ 64 - 1 → n.e ≤ 2 ^ 64 - 1 → n.s ≤ 2 ^ 64 - 1
+  pub counts_are : (code : ECode) (old new : List Left) (n m : Tally) → records_of t schedules es (hyper t) now ≡ old ++ new → n.jobs ≤ 2 ^ 64 - 1 → n.e ≤ 2 ^ 64 - 1 → n.s ≤ 2 ^ 64 - 1
       → m ≡ counts_after old new (length (phase_path t code es now 1)) (length (phase_path t code es now 2)) (length (phase_path t code es now 3)) n
       → ◌≡◌ {A = Counts} (record { jobs = m.jobs; e = m.e; s = m.s }) (counted t code schedules es now (record { jobs = n.jobs; e = n.e; s = n.s }))
   counts_are code old new n m are some_jobs some_instrs some_steps is =
@@ -175,12 +189,12 @@ module _ (t : Tables) (schedules : List (List SInstr)) (es : List Event) (now : 
       let b = length (phase_path t code es now 2) in
       let c = length (phase_path t code es now 3) in
       let make : ℕ → ℕ → ℕ → Counts = λ jobs instrs steps. record { jobs = jobs; e = instrs; s = steps } in
-      let jobs : m.jobs ≡ min (n.jobs + count_by (λ (l : Left). l.finished) (records_of t schedules es (root_period t) now)) (2 ^ 64 - 1) =
+      let jobs : m.jobs ≡ min (n.jobs + count_by (λ (l : Left). l.finished) (records_of t schedules es (hyper t) now)) (2 ^ 64 - 1) =
       ap (λ (z : Tally). z.jobs) is ∙ jobs_after old new a b c n some_jobs ∙ ap (λ ls. min (n.jobs + count_by (λ (l : Left). l.finished) ls) (2 ^ 64 - 1)) (sym are) in
       let instrs : m.e ≡ min (n.e + length (e_path t code es now)) (2 ^ 64 - 1) =
       ap (λ (z : Tally). z.e) is ∙ instrs_after old new a b c n some_instrs ∙ ap (λ k. min (n.e + k) (2 ^ 64 - 1)) (sym (path_length t code es now)) in
-      let steps : m.s ≡ min (n.s + length (records_of t schedules es (root_period t) now)) (2 ^ 64 - 1) =
+      let steps : m.s ≡ min (n.s + length (records_of t schedules es (hyper t) now)) (2 ^ 64 - 1) =
       ap (λ (z : Tally). z.s) is ∙ steps_after old new a b c n some_steps ∙ ap (λ (ls : List Left). min (n.s + length ls) (2 ^ 64 - 1)) (sym are) in
       ap (λ z. make z m.e m.s) jobs
-      ∙ ap (λ z. make (min (n.jobs + count_by (λ (l : Left). l.finished) (records_of t schedules es (root_period t) now)) (2 ^ 64 - 1)) z m.s) instrs
-      ∙ ap (λ z. make (min (n.jobs + count_by (λ (l : Left). l.finished) (records_of t schedules es (root_period t) now)) (2 ^ 64 - 1)) (min (n.e + length (e_path t code es now)) (2 ^ 64 - 1)) z) steps
+      ∙ ap (λ z. make (min (n.jobs + count_by (λ (l : Left). l.finished) (records_of t schedules es (hyper t) now)) (2 ^ 64 - 1)) z m.s) instrs
+      ∙ ap (λ z. make (min (n.jobs + count_by (λ (l : Left). l.finished) (records_of t schedules es (hyper t) now)) (2 ^ 64 - 1)) (min (n.e + length (e_path t code es now)) (2 ^ 64 - 1)) z) steps

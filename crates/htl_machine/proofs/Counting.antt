@@ -2,22 +2,19 @@
 use Rattle.std.proofs.Common.{◌≡◌, ℕ, zero, suc, ◌+◌, ◌-◌, ◌^◌, min, ◌<◌, cond, eqb, List, [], ◌++◌, length, Option, Some, None, refl, sym, ap, ap₂, ◌∙◌, arith}
 use Rattle.std.specs.List.{count_by}
 use Rattle.htl_model.specs.declared.event.Event.{Event}
-use Rattle.htl_model.specs.Selections.{root_period}
+use Rattle.htl_model.specs.Frames.{hyper}
 use Rattle.htl_model.specs.Tables.{Tables}
 use Rattle.htl_walk.specs.declared.schedule.SInstr.{SInstr}
 use Rattle.htl_smach.specs.declared.left.Left.{Left}
 use Rattle.htl_ecode.specs.declared.ecode.ECode.{ECode}
 use Rattle.htl_ecode.specs.Paths.{instant_path, e_path}
-use Rattle.htl_refine.specs.RecordCounts.{count_before}
-use Rattle.htl_refine.specs.Records.{took}
-use Rattle.htl_refine.specs.Records.{Round as Plan}
-use Rattle.htl_machine.specs.Plans.{round_start}
-use Rattle.htl_refine.specs.Records.{walk_of}
-use Rattle.htl_machine.specs.Rounds.{plan_of}
+use Rattle.htl_refine.specs.Records.{took, AreTookWithin}
+use Rattle.htl_machine.specs.RunLists.{turn_at}
 use Rattle.htl_machine.specs.Texts.{capped, sum_to, some_records, old_records, records_of, TotalsFollow}
+use Rattle.htl_machine.specs.ListTurns.{Turn, left_before}
+use Rattle.htl_machine.specs.Follows.{IsLoaded}
 use Rattle.htl_machine.proofs.Events.{Alike, state_same, before_same}
-use Rattle.htl_machine.proofs.Following.{plan_same}
-use Rattle.htl_machine.proofs.Plain.{down}
+use Rattle.htl_machine.proofs.Following.{turn_same}
 use Rattle.htl_machine.proofs.Writing.{capped_more}
 
 pub sum_same : (f g : ℕ → ℕ) (n : ℕ) → ((k : ℕ) → k < n → f k ≡ g k) → sum_to f n ≡ sum_to g n
@@ -31,20 +28,20 @@ totals_start t code schedules es = record { jobs_are = refl; e_are = refl; s_are
 -- an instant adds its records and its addresses
 pub totals_next : (t : Tables) (code : ECode) (schedules : List (List SInstr)) (es : List Event) (now jobs e s : ℕ) → TotalsFollow t code schedules es now jobs e s
     → TotalsFollow t code schedules es (suc now)
-    (min (jobs + count_by (λ (l : Left). l.finished) (records_of t schedules es (root_period t) now)) (2 ^ 64 - 1))
+    (min (jobs + count_by (λ (l : Left). l.finished) (records_of t schedules es (hyper t) now)) (2 ^ 64 - 1))
     (min (e + length (e_path t code es now)) (2 ^ 64 - 1))
-    (min (s + length (records_of t schedules es (root_period t) now)) (2 ^ 64 - 1))
+    (min (s + length (records_of t schedules es (hyper t) now)) (2 ^ 64 - 1))
 totals_next t code schedules es now jobs e s f =
-    let records = records_of t schedules es (root_period t) now in
+    let records = records_of t schedules es (hyper t) now in
     record {
-      jobs_are = ap (λ z. min (z + count_by (λ (l : Left). l.finished) records) (2 ^ 64 - 1)) f.jobs_are ∙ sym (capped_more (sum_to (λ n. count_by (λ (l : Left). l.finished) (records_of t schedules es (root_period t) n)) now) (count_by (λ (l : Left). l.finished) records));
+      jobs_are = ap (λ z. min (z + count_by (λ (l : Left). l.finished) records) (2 ^ 64 - 1)) f.jobs_are ∙ sym (capped_more (sum_to (λ n. count_by (λ (l : Left). l.finished) (records_of t schedules es (hyper t) n)) now) (count_by (λ (l : Left). l.finished) records));
       e_are = ap (λ z. min (z + length (e_path t code es now)) (2 ^ 64 - 1)) f.e_are ∙ sym (capped_more (sum_to (λ n. length (e_path t code es n)) now) (length (e_path t code es now)));
-      s_are = ap (λ z. min (z + length records) (2 ^ 64 - 1)) f.s_are ∙ sym (capped_more (sum_to (λ n. length (records_of t schedules es (root_period t) n)) now) (length records));
+      s_are = ap (λ z. min (z + length records) (2 ^ 64 - 1)) f.s_are ∙ sym (capped_more (sum_to (λ n. length (records_of t schedules es (hyper t) n)) now) (length records));
     }
 
 -- events with the same records and addresses before an instant
 pub totals_same : (t : Tables) (code : ECode) (schedules : List (List SInstr)) (es fs : List Event) (now jobs e s : ℕ)
-    → ((n : ℕ) → n < now → records_of t schedules es (root_period t) n ≡ records_of t schedules fs (root_period t) n) → Alike t es fs now
+    → ((n : ℕ) → n < now → records_of t schedules es (hyper t) n ≡ records_of t schedules fs (hyper t) n) → Alike t es fs now
     → TotalsFollow t code schedules es now jobs e s → TotalsFollow t code schedules fs now jobs e s
 totals_same t code schedules es fs now jobs e s records alike f =
     record {
@@ -56,15 +53,15 @@ totals_same t code schedules es fs now jobs e s records alike f =
     path : (n : ℕ) → n < now → length (e_path t code es n) ≡ length (e_path t code fs n)
     path n h = ap₂ (λ x y. length (instant_path t code n x y)) (before_same t es fs n (λ c u g. alike c u (omega arith))) (state_same t es fs now n alike h)
 
--- records where plans agree
-pub records_alike : (t : Tables) (schedules : List (List SInstr)) (es fs : List Event) (now : ℕ) → Alike t es fs now → ((i u : ℕ) → took t es i u ≡ took t fs i u)
+-- records where lists agree
+pub records_alike : (t : Tables) (schedules : List (List SInstr)) (es fs : List Event) (now : ℕ) → Alike t es fs now → IsLoaded t schedules → AreTookWithin t es → ((i u : ℕ) → took t es i u ≡ took t fs i u)
     → (o : Option ℕ) (n : ℕ) → n < now → records_of t schedules es o n ≡ records_of t schedules fs o n
-records_alike t schedules es fs now alike tooks None n h = refl
-records_alike t schedules es fs now alike tooks (Some period) n h = ap₂ (λ a b. a ++ b) (old n h) (ap (λ (p : Plan). cond (eqb (round_start period n) n) (some_records p n 0 (count_before (suc n - n) (walk_of p))) []) (plan_same t schedules es fs now alike tooks n h))
+records_alike t schedules es fs now alike loaded within tooks None n h = refl
+records_alike t schedules es fs now alike loaded within tooks (Some period) n h =
+    ap₂ (λ a b. a ++ b) (old n h)
+    (ap (λ (u : Turn). cond (eqb (u.frame + u.from) n) (some_records u.plan u.frame 0 (left_before u (suc n))) []) (turn_same t schedules es fs now alike loaded within tooks n h))
   where
-    old : (n : ℕ) → n < now → old_records (plan_of t schedules es) period n ≡ old_records (plan_of t schedules fs) period n
+    old : (n : ℕ) → n < now → old_records (turn_at t schedules es) n ≡ old_records (turn_at t schedules fs) n
     old zero h = refl
     old (suc n) h =
-        let s = round_start period n in
-        ap (λ (p : Plan). some_records p s (count_before (suc n - s) (walk_of p)) (count_before (suc (suc n) - s) (walk_of p) - count_before (suc n - s) (walk_of p)))
-        (plan_same t schedules es fs now alike tooks s (omega (arith, down period n)))
+        ap (λ (u : Turn). some_records u.plan u.frame (left_before u (suc n)) (left_before u (suc (suc n)) - left_before u (suc n))) (turn_same t schedules es fs now alike loaded within tooks n (omega (arith, h)))

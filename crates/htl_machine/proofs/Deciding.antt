@@ -1,45 +1,49 @@
 -- Where values and modes alone are shown, the sensors decide the text.
-use Rattle.std.proofs.Common.{◌≡◌, ℕ, ◌*◌, ◌%◌, Bool, true, false, cond, eqb, List, [], ◌∷◌, ◌++◌, Option, Some, None, refl, sym, ap₂, ◌∙◌, arith}
+use Rattle.std.proofs.Common.{◌≡◌, ℕ, ◌*◌, List, [], ◌∷◌, ◌++◌, Option, Some, None, refl, sym, ap₂, ◌∙◌, arith}
+use Rattle.std.specs.List.{filter}
 use Rattle.std.proofs.lemmas.List.{append-nil}
 use Rattle.htl_model.specs.declared.event.Event.{Event}
 use Rattle.htl_model.specs.Lists.{joined, up_to}
 use Rattle.htl_model.specs.Lines.{lines_text}
-use Rattle.htl_model.specs.Selections.{root_period}
+use Rattle.htl_model.specs.Frames.{hyper}
 use Rattle.htl_model.specs.Tables.{Tables}
 use Rattle.htl_model.specs.Meaning.{value_lines, changes}
 use Rattle.htl_model.proofs.Locality.{up_to_same}
+use Rattle.htl_walk.specs.declared.job.Job.{Job}
 use Rattle.htl_walk.specs.declared.schedule.SInstr.{SInstr}
 use Rattle.htl_walk.specs.Walk.{Left}
 use Rattle.htl_ecode.specs.declared.ecode.ECode.{ECode}
 use Rattle.htl_console.specs.declared.shown.Shown.TheVariants.{Values}
-use Rattle.htl_refine.specs.Records.{Round, round_at, left_at, rounds_before}
-use Rattle.htl_machine.specs.Lines.{record_lines, selection_at, round_lines, old_lines, new_lines, lines, text_before}
+use Rattle.htl_refine.specs.FrameRecords.{RunningList, lists_at, left_in, begun_before}
+use Rattle.htl_refine.specs.FrameRuns.{frame_at}
+use Rattle.htl_refine.specs.Records.{rounds_before}
+use Rattle.htl_machine.specs.Lines.{record_lines, list_lines, old_lines, new_lines, lines, text_before}
 use Rattle.htl_machine.proofs.Events.{Alike, state_same, before_same}
 use Rattle.htl_machine.proofs.Telling.{up_to_none}
 
 -- no record has a line then
-no_lines : (t : Tables) (r : Round) (selection : ℕ) (ls : List (ℕ × Left)) → joined (record_lines t Values r selection) ls ≡ []
-no_lines t r selection [] = refl
-no_lines t r selection (l ∷ ls) = no_lines t r selection ls
+no_lines : (t : Tables) (jobs : List Job) (r : RunningList) (ls : List (ℕ × Left)) → joined (record_lines t Values jobs r) ls ≡ []
+no_lines t jobs r [] = refl
+no_lines t jobs r (l ∷ ls) = no_lines t jobs r ls
 
 module _ (t : Tables) (code : ECode) (schedules : List (List SInstr)) (es : List Event) where
+  frame_quiet : (f now : ℕ) (rs : List RunningList) → joined (list_lines t schedules es Values now f) rs ≡ []
+  frame_quiet f now [] = refl
+  frame_quiet f now (r ∷ rs) = ap₂ (λ (xs ys : List ℕ). xs ++ ys) (no_lines t (frame_at t schedules es f).jobs r (left_in now f r)) (frame_quiet f now rs)
+
   old_quiet : (o : Option ℕ) (now : ℕ) → old_lines t schedules es Values o now ≡ []
   old_quiet None now = refl
-  old_quiet (Some period) now =
-      up_to_none (λ k. round_lines t schedules es Values (k * period) now) (rounds_before period now)
-      (λ k less. no_lines t (round_at t schedules es (k * period)) (selection_at t es (k * period)) (left_at t schedules es (k * period) now))
+  old_quiet (Some h) now =
+      up_to_none (λ k. joined (list_lines t schedules es Values now (k * h)) (filter (begun_before now) (lists_at t schedules es (k * h)))) (rounds_before h now)
+      (λ k less. frame_quiet (k * h) now (filter (begun_before now) (lists_at t schedules es (k * h))))
 
   new_quiet : (o : Option ℕ) (now : ℕ) → new_lines t schedules es Values o now ≡ []
   new_quiet None now = refl
-  new_quiet (Some period) now = by (eqb (now % period) 0)
-    where
-      by : (b : Bool) → ◌≡◌ {A = List ℕ} (cond b [] []) []
-      by true = refl
-      by false = refl
+  new_quiet (Some h) now = refl
 
   value_lines_alone : (now : ℕ) → lines t code schedules es Values now ≡ lines_text t (value_lines t es now)
   value_lines_alone now =
-      ap₂ (λ xs ys. xs ++ [] ++ lines_text t (value_lines t es now) ++ ys) (old_quiet (root_period t) now) (new_quiet (root_period t) now) ∙ append-nil (lines_text t (value_lines t es now))
+      ap₂ (λ xs ys. xs ++ [] ++ lines_text t (value_lines t es now) ++ ys) (old_quiet (hyper t) now) (new_quiet (hyper t) now) ∙ append-nil (lines_text t (value_lines t es now))
 
   pub values_are_the_meaning : (now : ℕ) → text_before t code schedules es Values now ≡ up_to (λ n. lines_text t (value_lines t es n)) now
   values_are_the_meaning now = up_to_same (lines t code schedules es Values) (λ n. lines_text t (value_lines t es n)) now (λ n h. value_lines_alone n)

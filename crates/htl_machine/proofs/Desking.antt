@@ -1,21 +1,22 @@
--- The S machine over an instant: which records it answers, when a round is over, and where it stands afterwards.
+-- The S machine over an instant: which records it answers, when a list is over, and where it stands afterwards.
 use Rattle.std.proofs.Common.{◌≡◌, ℕ, zero, suc, ◌+◌, ◌-◌, ◌≤◌, ◌<◌, Bool, true, false, cond, ◌&&◌, leb, ltb, List, [], ◌∷◌, length, get_or, slice_get, replicate, Option, Some, None, option_map, refl, sym, ap, ap₂, ◌∙◌, arith}
 use Rattle.std.proofs.lemmas.Bool.{lt-ltb, le-ltb, le-leb}
 use Rattle.std.proofs.lemmas.Bool.Decides.{nat_tests}
 use Rattle.htl_walk.specs.declared.job.Job.{Job}
 use Rattle.htl_walk.specs.declared.schedule.SInstr.{SInstr}
 use Rattle.htl_walk.specs.declared.schedule.SInstr.TheVariants.{Dispatch, Idle, End}
-use Rattle.htl_walk.specs.Walk.{Point, Left, job_at, time_after, next_point, walk_from, first_point, InForm}
+use Rattle.htl_walk.specs.Walk.{Point, Left, job_at, time_after, next_point, walk_from, InForm}
 use Rattle.htl_smach.specs.Rounds as rounds
 use Rattle.htl_smach.specs.Rounds.{Round, begun, told, told_from, records, next_left, left_until, moved}
 use Rattle.htl_refine.specs.RecordCounts.{count_before}
-use Rattle.htl_refine.specs.Records.{Round as Plan}
-use Rattle.htl_refine.specs.Records.{walk_of}
+use Rattle.htl_refine.specs.ListPlans.{ListPlan as Plan, list_walk}
+use Rattle.htl_refine.specs.Records.{Round as Work}
 use Rattle.htl_machine.specs.Follows.{released_before, DeskStands, DeskAt}
+use Rattle.htl_machine.specs.Rounds.{list_of}
 use Rattle.htl_machine.proofs.Standing.{some_same, none_some}
 use Rattle.htl_machine.proofs.Turning.{at_count, before_count}
 
-length-walk : (jobs : List Job) (is : List SInstr) (x : Point) → length (walk_from jobs is x) ≡ length is
+pub length-walk : (jobs : List Job) (is : List SInstr) (x : Point) → length (walk_from jobs is x) ≡ length is
 length-walk jobs [] x = refl
 length-walk jobs (i ∷ is) x = ap suc (length-walk jobs is (next_point jobs i x))
 
@@ -39,7 +40,7 @@ count_within e (l ∷ ls) = by_test (ltb l.at e) (count_within e ls)
 
 module _ (p : Plan) (s now d : ℕ) (past : s ≤ now) where
   abbrev pub ls : List Left
-  ls = walk_of p
+  ls = list_walk p
 
   record_of : (k : ℕ) (r : Round) → DeskAt p s k d r → slice_get (records r p.schedule) r.place ≡ option_map (told s k) (slice_get ls k)
   record_of k r at =
@@ -54,7 +55,7 @@ module _ (p : Plan) (s now d : ℕ) (past : s ≤ now) where
       let few : k < length ls = omega (arith, count_within (suc now - s) ls) in
       let l = record_there ls k few in
       let early : l.0.at < suc now - s = before_count (suc now - s) ls k l.0 h l.1 in
-      let runs : r.running ≡ true = at.running ∙ lt-ltb k (length p.schedule) (omega (arith, length-walk p.jobs p.schedule (first_point p.jobs p.lengths))) in
+      let runs : r.running ≡ true = at.running ∙ lt-ltb k (length p.schedule) (omega (arith, length-walk p.jobs p.schedule p.first)) in
       let within : leb (s + l.0.at) now ≡ true = le-leb (s + l.0.at) now (omega (arith, early)) in (
         l.0,
         l.1,
@@ -92,7 +93,7 @@ module _ (p : Plan) (s now d : ℕ) (past : s ≤ now) where
       }
 
 -- before the instant it stands at the records before it
-pub desk_opens : (p : Plan) (s now : ℕ) (r : Round) → DeskStands p s now r → DeskAt p s (count_before (now - s) (walk_of p)) (now - s) r
+pub desk_opens : (p : Plan) (s now : ℕ) (r : Round) → DeskStands p s now r → DeskAt p s (count_before (now - s) (list_walk p)) (now - s) r
 desk_opens p s now r f =
     record {
       start = f.start;
@@ -106,7 +107,7 @@ desk_opens p s now r f =
     }
 
 -- and once all records of it are given and all releases told, it stands before the next
-pub desk_closes : (p : Plan) (s now : ℕ) (r : Round) → DeskAt p s (count_before (suc now - s) (walk_of p)) (suc now - s) r → DeskStands p s (suc now) r
+pub desk_closes : (p : Plan) (s now : ℕ) (r : Round) → DeskAt p s (count_before (suc now - s) (list_walk p)) (suc now - s) r → DeskStands p s (suc now) r
 desk_closes p s now r at =
     record {
       start = at.start;
@@ -119,7 +120,7 @@ desk_closes p s now r at =
       stands = at.stands;
     }
 
--- ---- a round is over at the end of its period
+-- ---- a list is over at its end
 
 step_time : (now w r until period : ℕ) → now ≤ period → until ≤ period → time_after now w r until ≤ period
 step_time now zero r until period a b = a
@@ -142,14 +143,14 @@ count_all e [] h = refl
 count_all e (l ∷ ls) h = ap (λ b. cond b (suc (count_before e ls)) 0) (lt-ltb l.at e (h 0 l refl)) ∙ ap suc (count_all e ls (λ k m g. h (suc k) m g))
 
 -- then all its records are given
-pub is_over : (p : Plan) (s now d count period : ℕ) (r : Round) → InForm count period p.schedule → now ≡ s + period → DeskAt p s (count_before (suc now - s) (walk_of p)) d r → r.running ≡ false
-is_over p s now d count period r form e at =
-    let all : count_before (suc now - s) (walk_of p) ≡ length (walk_of p) =
-    count_all (suc now - s) (walk_of p)
-    (λ k l g. let z : l.at ≤ period = times_within p.jobs count period p.schedule (first_point p.jobs p.lengths) form (omega arith) k l g in omega arith) in
-    at.running ∙ le-ltb (count_before (suc now - s) (walk_of p)) (length p.schedule) (omega (arith, all, length-walk p.jobs p.schedule (first_point p.jobs p.lengths)))
+pub is_over : (p : Plan) (s now d count period : ℕ) (r : Round) → InForm count period p.schedule → p.first.time ≤ period → now ≡ s + period → DeskAt p s (count_before (suc now - s) (list_walk p)) d r → r.running ≡ false
+is_over p s now d count period r form early e at =
+    let all : count_before (suc now - s) (list_walk p) ≡ length (list_walk p) =
+    count_all (suc now - s) (list_walk p)
+    (λ k l g. let z : l.at ≤ period = times_within p.jobs count period p.schedule p.first form early k l g in omega arith) in
+    at.running ∙ le-ltb (count_before (suc now - s) (list_walk p)) (length p.schedule) (omega (arith, all, length-walk p.jobs p.schedule p.first))
 
--- ---- a round begins
+-- ---- a frame begins
 
 none_released : (js : List Job) → replicate (length js) false ≡ released_before 0 js
 none_released [] = refl
@@ -162,12 +163,12 @@ none_released (j ∷ js) = ap₂ (λ a b. a ∷ b) (by_present j.present) (none_
     by_present true = sym (none j.release)
     by_present false = refl
 
-pub desk_begins : (p : Plan) (s : ℕ) → 0 < length p.schedule → rounds.Stands (begun s p.jobs p.lengths) p.schedule → DeskAt p s 0 0 (begun s p.jobs p.lengths)
-desk_begins p s some st =
+pub desk_begins : (p : Work) (s : ℕ) → length p.lengths ≡ length p.jobs → 0 < length p.schedule → rounds.Stands (begun s p.jobs p.lengths) p.schedule → DeskAt (list_of p) s 0 0 (begun s p.jobs p.lengths)
+desk_begins p s same some st =
     record {
       start = refl;
       jobs = refl;
-      lengths = refl;
+      lengths = same;
       first = refl;
       place = refl;
       running = sym (lt-ltb 0 (length p.schedule) some);

@@ -5,7 +5,7 @@ use Rattle.htl_edge.specs.Content.{Puts}
 use Rattle.htl_edge.proofs.Puts.{Puts-second}
 use Rattle.htl_model.specs.declared.event.Event.{Event}
 use Rattle.htl_model.specs.Lists.{joined}
-use Rattle.htl_model.specs.Selections.{root_period}
+use Rattle.htl_model.specs.Frames.{hyper}
 use Rattle.htl_model.specs.Tables.{Tables}
 use Rattle.htl_walk.specs.declared.schedule.SInstr.{SInstr}
 use Rattle.htl_walk.specs.declared.schedule.Schedule.{Schedule}
@@ -20,7 +20,7 @@ use Rattle.htl_machine.specs.Instant.{IsReadyAt}
 use Rattle.htl_machine.specs.Leaving.{due_by}
 use Rattle.htl_machine.specs.Opening.{Opens, closing_text, beginning_text}
 use Rattle.htl_machine.specs.Programs.{lines_of, schedules_of}
-use Rattle.htl_machine.specs.Texts.{record_text, round_texts, some_records}
+use Rattle.htl_machine.specs.Texts.{record_text, list_texts, some_records}
 use Rattle.htl_machine.specs.Timing.{begins}
 use Rattle.htl_machine.proofs.After.{lines_are_composed, text_goes_on, text_begins}
 use Rattle.htl_machine.proofs.Beginnings.{then_more}
@@ -45,12 +45,12 @@ module _ (m : Seen) (es : List Event) (now : ℕ) (accepted : IsAccepted m.objec
     pub open_failed : {T S E F : Type 0} (w0 w : Option (List ℕ)) (f0 f : ℕ) (x : E) (y : F)
         → Opens {T = T} {E = E} m.object.tables m.object.ecode es m.show (number_by m.selection) m.held.desk steps now w0 w f0 f (Err x) → Puts {T = S} {E = F} w0 w f0 f (lines_of m.object es m.show now) (Err y)
     open_failed {S = S} {F = F} w0 w f0 f x y opens =
-        let rest = (round_texts t code schedules es m.show (root_period t) now).1 in
+        let rest = (list_texts t schedules es m.show (hyper t) now).1 in
         subst (λ z. Puts {T = S} {E = F} w0 w f0 f z (Err y)) (lines_are_composed m es now accepted read u steps r rest refl)
         (then_more first (closing_text t code es m.show now ++ rest) w0 w f0 f x y (opens r.plan r.start r.place r.offset r.same r.past r.few r.was))
 
     closed : {T S E F : Type 0} (new : List ℕ) (w0 w1 w : Option (List ℕ)) (f0 f1 f : ℕ) (x : T) (result : Result S F)
-        → (round_texts m.object.tables m.object.ecode (schedules_of m.object) es m.show (root_period m.object.tables) now).1 ≡ new
+        → (list_texts m.object.tables (schedules_of m.object) es m.show (hyper m.object.tables) now).1 ≡ new
         → Opens {T = T} {E = E} m.object.tables m.object.ecode es m.show (number_by m.selection) m.held.desk steps now w0 w1 f0 f1 (Ok x)
         → Puts {T = S} {E = F} w1 w f1 f (closing_text m.object.tables m.object.ecode es m.show now ++ new) result → Puts {T = S} {E = F} w0 w f0 f (lines_of m.object es m.show now) result
     closed {S = S} {F = F} new w0 w1 w f0 f1 f x result is opens puts =

@@ -1,5 +1,5 @@
 -- One more event, for the values: what was read before stays, and what comes is not yet read.
-use Rattle.std.proofs.Common.{◌≡◌, ℕ, zero, suc, ◌+◌, ◌*◌, ◌≤◌, ◌<◌, Bool, true, false, cond, ◌&&◌, eqb, leb, ltb, is_some, List, [], ◌∷◌, ◌++◌, length, get_or, take, ℤ, pos, refl, sym, ap, ap₂, ◌∙◌, subst, arith}
+use Rattle.std.proofs.Common.{◌≡◌, ℕ, zero, suc, ◌+◌, ◌*◌, ◌≤◌, ◌<◌, Bool, true, false, cond, ◌&&◌, eqb, leb, ltb, List, [], ◌∷◌, ◌++◌, length, get_or, take, ℤ, pos, refl, sym, ap, ◌∙◌, subst, arith}
 use mathlib.Core.Path.{fun_ext}
 use Rattle.std.proofs.lemmas.Bool.{ltb-true, ltb-false, le-ltb}
 use Rattle.htl_model.specs.declared.event.Event.{Event}
@@ -14,17 +14,14 @@ use Rattle.htl_model.proofs.Laws.{seen_before}
 use Rattle.htl_model.proofs.Locality.{history_local}
 use Rattle.htl_walk.specs.declared.job.Job.{Job}
 use Rattle.htl_walk.specs.declared.schedule.SInstr.{SInstr}
-use Rattle.htl_walk.specs.Walk.{Left, walk, earlier, finish}
+use Rattle.htl_walk.specs.Walk.{Left, walk, earlier}
 use Rattle.htl_walk.specs.Laws.{AgreeBefore}
 use Rattle.htl_walk.specs.Refinement.{HaveLengths}
 use Rattle.htl_walk.proofs.Unreleased.{unreleased_lengths}
 use Rattle.htl_emach.specs.Contents.{Content}
 use Rattle.htl_machine.specs.Values.{Stands, HasRead, ValuesFollow, values_before}
-use Rattle.htl_refine.specs.RecordCounts.{count_before, done_by, Rises}
-use Rattle.htl_machine.specs.Turns.{finished_in}
+use Rattle.htl_refine.specs.RecordCounts.{count_before, Rises}
 use Rattle.htl_refine.specs.Records.{last_took, inv_worst, took}
-use Rattle.htl_refine.specs.Records.{Round as Plan}
-use Rattle.htl_refine.specs.Records.{walk_of}
 use Rattle.htl_machine.specs.Follows.{reading_of}
 use Rattle.htl_refine.proofs.RecordOrder.{walk_rises}
 use Rattle.htl_machine.proofs.Outs.{out_seen}
@@ -126,7 +123,7 @@ values_alike t range kept es fs now finished w a read f =
 -- ---- lengths that agree for what is released before an offset
 
 -- the records before an offset are those in front
-front_is : (a e : ℕ) (ls : List Left) → Rises a ls → take (count_before e ls) ls ≡ earlier e ls
+pub front_is : (a e : ℕ) (ls : List Left) → Rises a ls → take (count_before e ls) ls ≡ earlier e ls
 front_is a e [] r = refl
 front_is a e (l ∷ ls) r = by_test (ltb l.at e) refl (front_is l.at e ls r.1)
   where
@@ -139,7 +136,7 @@ front_is a e (l ∷ ls) r = by_test (ltb l.at e) refl (front_is l.at e ls r.1)
     by_test true g ih = ap (λ z. l ∷ z) ih
     by_test false g ih = sym (none_later l.at ls r.1 (ltb-false l.at e g))
 
-length-front : (e : ℕ) (ls : List Left) → length (take (count_before e ls) ls) ≡ count_before e ls
+pub length-front : (e : ℕ) (ls : List Left) → length (take (count_before e ls) ls) ≡ count_before e ls
 length-front e [] = refl
 length-front e (l ∷ ls) = by_test (ltb l.at e) (length-front e ls)
   where
@@ -160,10 +157,3 @@ same_before jobs ns ms code e hn hm agree =
       front = same;
       count = sym (length-front e (walk jobs ns code)) ∙ ap (λ (z : List Left). length z) same ∙ length-front e (walk jobs ms code);
     }
-
--- two plans with the same jobs and code whose lengths agree so far finish the same
-pub finished_same : (p q : Plan) (e i : ℕ) → p.jobs ≡ q.jobs → AreSameBefore p.jobs p.lengths q.lengths p.schedule e → p.schedule ≡ q.schedule
-    → finished_in p.jobs (done_by (walk_of p) (count_before e (walk_of p))) i ≡ finished_in q.jobs (done_by (walk_of q) (count_before e (walk_of q))) i
-finished_same p q e i jobs same code =
-    ap (λ (ls : List Left). finished_in p.jobs (λ r. is_some (finish ls r)) i) same.front
-    ∙ ap₂ (λ (js : List Job) (c : List SInstr). finished_in js (done_by (walk js q.lengths c) (count_before e (walk js q.lengths c))) i) jobs code

@@ -1,5 +1,5 @@
 -- A machine that follows events follows one event more.
-use Rattle.std.proofs.Common.{◌≡◌, ℕ, zero, suc, ◌+◌, ◌-◌, ◌≤◌, ◌<◌, Bool, true, false, cond, ◌&&◌, eqb, leb, List, [], ◌∷◌, ◌++◌, length, get_or, slice_get, set, map, Option, Some, None, IfSome, ℤ, pos, refl, sym, ap, ap₂, ◌∙◌, subst, arith}
+use Rattle.std.proofs.Common.{◌≡◌, ℕ, zero, suc, ◌+◌, ◌≤◌, ◌<◌, Bool, true, false, cond, ◌&&◌, eqb, leb, List, [], ◌∷◌, ◌++◌, length, get_or, slice_get, set, map, Option, Some, None, IfSome, ℤ, pos, refl, sym, ap, ap₂, ◌∙◌, subst, arith}
 use mathlib.Core.Path.{fun_ext}
 use Rattle.std.proofs.lemmas.Bool.{eqb-true, eqb-false, le-leb}
 use Rattle.std.proofs.lemmas.Bool.Decides.{nat_tests}
@@ -10,7 +10,7 @@ use Rattle.htl_model.specs.declared.parts.Comm.{Comm}
 use Rattle.htl_model.specs.declared.parts.Inv.{Inv}
 use Rattle.htl_model.specs.declared.state.State.{State}
 use Rattle.htl_model.specs.Ranges.{FitsType}
-use Rattle.htl_model.specs.Selections.{root_period}
+use Rattle.htl_model.specs.Frames.{hyper}
 use Rattle.htl_model.specs.Tables.{Tables}
 use Rattle.htl_model.specs.Meaning.{sense, before}
 use Rattle.htl_walk.specs.declared.job.Job.{Job}
@@ -19,18 +19,18 @@ use Rattle.htl_walk.specs.Jobs.{jobs_of}
 use Rattle.htl_smach.specs.Rounds.{Round}
 use Rattle.htl_emach.specs.Contents.{Content}
 use Rattle.htl_machine.specs.Values.{Stands, HasRead, ValuesFollow, HasPlaces}
-use Rattle.htl_refine.specs.RecordCounts.{count_before, done_by}
-use Rattle.htl_machine.specs.Turns.{finished_in}
 use Rattle.htl_refine.specs.Records.{took, lengths_of, IsTookWithin, AreTookWithin}
 use Rattle.htl_refine.specs.Records.{Round as Plan}
-use Rattle.htl_machine.specs.Plans.{round_start, finished_before, next_world}
-use Rattle.htl_refine.specs.Records.{walk_of}
+use Rattle.htl_machine.specs.Plans.{finished_before, next_world}
 use Rattle.htl_machine.specs.Rounds.{standing_of, selection_of, plan_of}
-use Rattle.htl_machine.specs.Follows.{Held, reading_of, period_or, DeskStands, DeskFollows, UpTo, Follows, IsLoaded, at_reading, shown_as, AreKept}
+use Rattle.htl_machine.specs.Follows.{Held, reading_of, DeskStands, DeskFollows, UpTo, Follows, IsLoaded, at_reading, shown_as}
+use Rattle.htl_machine.specs.ListTurns.{Turn, left_before, finished_by}
+use Rattle.htl_machine.specs.RunLists.{turn_by, turn_at}
 use Rattle.htl_machine.proofs.Shaping.{has_places}
-use Rattle.htl_machine.proofs.Rounding.{read_before, values_carried}
+use Rattle.htl_machine.proofs.ListValues.{read_before, values_carried}
+use Rattle.htl_machine.proofs.LoadedLists.{loaded_run, loaded_turns}
 use Rattle.htl_machine.proofs.Events.{Alike, state_same, values_alike, reading_more, sense_at, sense_sense, took_at, took_sense}
-use Rattle.htl_machine.proofs.Plain.{down}
+use Rattle.htl_machine.proofs.RunsAgree.{list_same}
 
 pub within_more : (t : Tables) (es : List Event) (e : Event) → AreTookWithin t es → IsTookWithin t e → AreTookWithin t (es ++ e ∷ [])
 within_more t [] e a b = (b, tt)
@@ -53,33 +53,37 @@ module _ (t : Tables) (schedules : List (List SInstr)) (es fs : List Event) (now
         ap (λ ns. P (plan_of t schedules es s).jobs ns (plan_of t schedules es s).schedule) (lengths (plan_of t schedules es s).jobs)
         ∙ ap₂ (λ js c. P js (lengths_of t fs s js) c) (jobs_same s h) (code_same s h)
 
-    finished_alike : (period n i : ℕ) → n ≤ now → finished_before (plan_of t schedules es) period n i ≡ finished_before (plan_of t schedules fs) period n i
-    finished_alike period zero i h = refl
-    finished_alike period (suc n) i h =
-        let s = round_start period n in
-        ap (λ (p : Plan). finished_in p.jobs (done_by (walk_of p) (count_before (suc n - s) (walk_of p))) i) (plan_same s (omega (arith, down period n)))
+-- so each list that stands before then is the same
+module _ (t : Tables) (schedules : List (List SInstr)) (es fs : List Event) (now : ℕ) (alike : Alike t es fs now) (loaded : IsLoaded t schedules) (within : AreTookWithin t es)
+    (tooks : (i u : ℕ) → took t es i u ≡ took t fs i u) where
+  pub turn_same : (n : ℕ) → n < now → turn_at t schedules es n ≡ turn_at t schedules fs n
+  turn_same n h = by (hyper t) refl
+    where
+      by : (o : Option ℕ) → hyper t ≡ o → turn_by o t schedules es n ≡ turn_by o t schedules fs n
+      by None e = refl
+      by (Some p) e = list_same t schedules es fs now (loaded_run t schedules loaded es within p e) alike n h tooks
 
-    desk_alike : (root : Option ℕ) (n : ℕ) (r : Round) → n ≤ now → DeskFollows (plan_of t schedules es) root n r → DeskFollows (plan_of t schedules fs) root n r
-    desk_alike None n r h f = f
-    desk_alike (Some period) zero r h f = f
-    desk_alike (Some period) (suc n) r h f = let s = round_start period n in subst (λ p. DeskStands p s (suc n) r) (plan_same s (omega (arith, down period n))) f
+  finished_alike : (n i : ℕ) → n ≤ now → finished_before (turn_at t schedules es) n i ≡ finished_before (turn_at t schedules fs) n i
+  finished_alike zero i h = refl
+  finished_alike (suc n) i h = ap (λ (u : Turn). finished_by u (left_before u (suc n)) i) (turn_same n (omega (arith, h)))
+
+  desk_alike : (root : Option ℕ) (n : ℕ) (r : Round) → n ≤ now → DeskFollows (turn_at t schedules es) root n r → DeskFollows (turn_at t schedules fs) root n r
+  desk_alike None n r h f = f
+  desk_alike (Some period) zero r h f = f
+  desk_alike (Some period) (suc n) r h f = subst (λ (u : Turn). DeskStands u.plan u.frame (suc n) r) (turn_same n (omega (arith, h))) f
 
 -- ---- what a machine keeps of its values with other events
 
 module _ (t : Tables) (schedules : List (List SInstr)) (loaded : IsLoaded t schedules) (es : List Event) (within : AreTookWithin t es) where
-  kept : AreKept t schedules es
-  kept = loaded.rounds es within
-
   -- who is finished has read
-  pub all_read : (now i : ℕ) (x : Inv) (s : ℕ) → Stands t (before t es now).stays i x s → finished_before (plan_of t schedules es) (period_or (root_period t)) now i ≡ true
-      → HasRead t now (finished_before (plan_of t schedules es) (period_or (root_period t)) now) x s
-  all_read now i x s st fin = read_before t loaded.range loaded.kept es (plan_of t schedules es) (period_or (root_period t)) kept.regular kept.sound now i x s st fin
+  pub all_read : (now i : ℕ) (x : Inv) (s : ℕ) → Stands t (before t es now).stays i x s → finished_before (turn_at t schedules es) now i ≡ true → HasRead t now (finished_before (turn_at t schedules es) now) x s
+  all_read now i x s st fin = read_before t loaded.range loaded.kept es (turn_at t schedules es) (loaded_turns t schedules loaded es within) now i x s st fin
 
   values_same : (fs : List Event) (now : ℕ) (w : Content) → Alike t es fs now → ((i u : ℕ) → took t es i u ≡ took t fs i u)
-      → ValuesFollow t es now (finished_before (plan_of t schedules es) (period_or (root_period t)) now) w → ValuesFollow t fs now (finished_before (plan_of t schedules fs) (period_or (root_period t)) now) w
+      → ValuesFollow t es now (finished_before (turn_at t schedules es) now) w → ValuesFollow t fs now (finished_before (turn_at t schedules fs) now) w
   values_same fs now w alike tooks f =
-      subst (λ z. ValuesFollow t fs now z w) (fun_ext (λ i. finished_alike t schedules es fs now alike tooks (period_or (root_period t)) now i (omega arith)))
-      (values_alike t loaded.range loaded.kept es fs now (finished_before (plan_of t schedules es) (period_or (root_period t)) now) w alike (λ i x s st fin. all_read now i x s st fin) f)
+      subst (λ z. ValuesFollow t fs now z w) (fun_ext (λ i. finished_alike t schedules es fs now alike loaded within tooks now i (omega arith)))
+      (values_alike t loaded.range loaded.kept es fs now (finished_before (turn_at t schedules es) now) w alike (λ i x s st fin. all_read now i x s st fin) f)
 
   -- a reading
   pub read_follows : (to : ℕ) (m : Held) → m.spent ≡ false → UpTo t schedules es to m → Follows t schedules (es ++ V.At to ∷ []) (at_reading to m)
@@ -100,7 +104,7 @@ module _ (t : Tables) (schedules : List (List SInstr)) (loaded : IsLoaded t sche
               takes = λ i u k h. took_at t es to i u ∙ up.takes i u k (omega (arith, reading, up.later));
               values = values_same fs to m.world alike tooks up.values;
               shape = up.shape;
-              desk = desk_alike t schedules es fs to alike tooks (root_period t) to m.desk (omega arith) up.desk;
+              desk = desk_alike t schedules es fs to alike loaded within tooks (hyper t) to m.desk (omega arith) up.desk;
             };
       }
 
@@ -123,7 +127,7 @@ module _ (t : Tables) (schedules : List (List SInstr)) (loaded : IsLoaded t sche
               takes = λ i u k h. took_sense t es d i u y ∙ f.up_to.takes i u k (omega (arith, more));
               values = values_same fs m.reading m.world alike tooks f.up_to.values;
               shape = f.up_to.shape;
-              desk = desk_alike t schedules es fs m.reading alike tooks (root_period t) m.reading m.desk (omega arith) f.up_to.desk;
+              desk = desk_alike t schedules es fs m.reading alike loaded within tooks (hyper t) m.reading m.desk (omega arith) f.up_to.desk;
             };
       }
     where
@@ -146,6 +150,5 @@ module _ (t : Tables) (schedules : List (List SInstr)) (loaded : IsLoaded t sche
 
   -- an instant, as far as the values go
   pub instant_values : (now : ℕ) (m : Held) → UpTo t schedules es now m
-      → ValuesFollow t es (suc now) (finished_before (plan_of t schedules es) (period_or (root_period t)) (suc now)) (next_world t es (plan_of t schedules es) (period_or (root_period t)) now m.world)
-      × HasPlaces t (next_world t es (plan_of t schedules es) (period_or (root_period t)) now m.world)
-  instant_values now m up = values_carried t loaded.range loaded.kept es (plan_of t schedules es) (period_or (root_period t)) kept.regular kept.sound now m.world up.values (has_places t m.world loaded.range loaded.kept up.shape)
+      → ValuesFollow t es (suc now) (finished_before (turn_at t schedules es) (suc now)) (next_world t es (turn_at t schedules es) now m.world) × HasPlaces t (next_world t es (turn_at t schedules es) now m.world)
+  instant_values now m up = values_carried t loaded.range loaded.kept es (turn_at t schedules es) (loaded_turns t schedules loaded es within) now m.world up.values (has_places t m.world loaded.range loaded.kept up.shape)

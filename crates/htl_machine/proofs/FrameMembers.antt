@@ -27,7 +27,7 @@ below_start ps (suc h) a l e = by (either a h l) (λ less. below_start ps h a le
         let test : begins ps h ≡ true = ap (begins ps) (sym same) ∙ e in
         (length (starts_below ps h) + 0, back_at (starts_below ps h) (cond (begins ps h) (h ∷ []) []) 0 a (ap (λ b. slice_get (cond b (h ∷ []) []) 0) test ∙ ap (λ z. Some z) (sym same)))
 
-begins_by : (t : Tables) (us : List ℕ) (j u a : ℕ) → slice_get us j ≡ Some u → a % unit_period t u ≡ 0 → begins (map (unit_period t) us) a ≡ true
+pub begins_by : (t : Tables) (us : List ℕ) (j u a : ℕ) → slice_get us j ≡ Some u → a % unit_period t u ≡ 0 → begins (map (unit_period t) us) a ≡ true
 begins_by t [] j u a e g = none_some u e
 begins_by t (v ∷ us) zero u a e g =
     left (eqb (a % unit_period t v) 0) (begins (map (unit_period t) us) a) (ap (λ z. eqb (a % unit_period t z) 0) (some_same v u e) ∙ eq-eqb (a % unit_period t u) 0 g)

@@ -15,7 +15,7 @@ use Rattle.htl_refine.specs.RecordCounts.{Rises, count_before, done_by}
 use Rattle.htl_refine.proofs.FinishingRecords.{done_more}
 use Rattle.htl_refine.proofs.RecordOrder.{counted}
 use Rattle.htl_machine.specs.FramesGoOn.{Now, finished_before, finished_at, AreFrames, frame_records, next_by_frames}
-use Rattle.htl_machine.specs.Plans.{complete_at, complete_by, run_records}
+use Rattle.htl_machine.specs.Completing.{complete_at, complete_by, run_records}
 use Rattle.htl_machine.specs.Turns.{finished_in}
 use Rattle.htl_machine.specs.Values.{Stands, ValuesFollow, HasPlaces, HasRead, Ready, and_also}
 use Rattle.htl_machine.specs.Worlds.{effects, all_writes, with_sensors}
@@ -91,7 +91,7 @@ module _ (t : Tables) (range : AreInRange t) (kept : KeptApart t 12) (es : List 
             )
 
     -- so many records
-    records_follow : (m k : ℕ) (w : Content) → count_before (suc n - frame) ls ≤ k → k + m ≤ count_before (suc (suc n) - frame) ls → ValuesFollow t es (suc n) (finished_by k) w → HasPlaces t w
+    pub records_follow : (m k : ℕ) (w : Content) → count_before (suc n - frame) ls ≤ k → k + m ≤ count_before (suc (suc n) - frame) ls → ValuesFollow t es (suc n) (finished_by k) w → HasPlaces t w
         → ValuesFollow t es (suc n) (finished_by (k + m)) (run_records t jobs ls m k w) × HasPlaces t (run_records t jobs ls m k w)
     records_follow zero k w few h f shape = (subst (λ z. ValuesFollow t es (suc n) (finished_by z) w) (let e : k ≡ k + 0 = omega arith in e) f, shape)
     records_follow (suc m) k w few h f shape =

@@ -10,9 +10,9 @@ use Rattle.htl_walk.specs.Walk.{Left, first_point}
 use Rattle.htl_refine.specs.RecordCounts.{count_before, Rises}
 use Rattle.htl_refine.specs.Records.{AreTookWithin}
 use Rattle.htl_refine.specs.Records.{walk_of}
-use Rattle.htl_machine.specs.Plans.{round_start}
-use Rattle.htl_machine.specs.Rounds.{plan_of}
-use Rattle.htl_machine.specs.Follows.{period_or, AreInForm, IsLoaded}
+use Rattle.htl_machine.specs.Rounds.{plan_of, round_start, period_or}
+use Rattle.htl_machine.specs.Follows.{IsLoaded}
+use Rattle.htl_machine.proofs.Loaded.{AreInForm, loaded_rounds}
 use Rattle.htl_machine.specs.Served.{IsShown, AllServed}
 use Rattle.htl_machine.proofs.Standing.{some_same, none_some}
 use Rattle.htl_refine.proofs.RecordOrder.{walk_rises}
@@ -48,7 +48,7 @@ module _ (t : Tables) (schedules : List (List SInstr)) (loaded : IsLoaded t sche
   shown n end q j at here late =
       let s = round_start (period_or (root_period t)) n in
       let p = plan_of t schedules es s in
-      let meets = (loaded.rounds es within).sound.meets n in
+      let meets = (loaded_rounds t schedules loaded es within).sound.meets n in
       let v = (serves p.jobs p.lengths p.schedule meets).each q j at here in
       record {
         served = v;
@@ -60,7 +60,7 @@ module _ (t : Tables) (schedules : List (List SInstr)) (loaded : IsLoaded t sche
   all_served period end root = subst (λ o. AllServed (plan_of t schedules es) (period_or o) end) root served
     where
       form : AreInForm t schedules es (period_or (root_period t))
-      form = subst (λ p. AreInForm t schedules es p) (sym (ap period_or root)) ((loaded.rounds es within).form period root)
+      form = subst (λ p. AreInForm t schedules es p) (sym (ap period_or root)) ((loaded_rounds t schedules loaded es within).form period root)
 
       served : AllServed (plan_of t schedules es) (period_or (root_period t)) end
       served =
@@ -69,7 +69,7 @@ module _ (t : Tables) (schedules : List (List SInstr)) (loaded : IsLoaded t sche
             apart = λ n.
                 let s = round_start (period_or (root_period t)) n in
                 let p = plan_of t schedules es s in
-                (serves p.jobs p.lengths p.schedule ((loaded.rounds es within).sound.meets n)).apart;
+                (serves p.jobs p.lengths p.schedule ((loaded_rounds t schedules loaded es within).sound.meets n)).apart;
             inside = λ n k l at.
                 let s = round_start (period_or (root_period t)) n in
                 let p = plan_of t schedules es s in

@@ -1,5 +1,5 @@
 -- A run's text is printed line by line, and its j and d lines are those of its records.
-use Rattle.std.proofs.Common.{◌≡◌, ℕ, zero, suc, ◌+◌, ◌*◌, ◌%◌, Bool, true, false, cond, eqb, List, [], ◌∷◌, ◌++◌, map, slice_get, Option, Some, None, option_map, refl, sym, ap, ap₂, ◌∙◌, subst, arith}
+use Rattle.std.proofs.Common.{◌≡◌, ℕ, zero, suc, ◌+◌, ◌*◌, ◌/◌, Bool, true, false, cond, eqb, List, [], ◌∷◌, ◌++◌, map, slice_get, Option, Some, None, option_map, refl, sym, ap, ap₂, ◌∙◌, subst, arith}
 use Rattle.std.specs.List.{filter}
 use Rattle.std.proofs.lemmas.Bool.{eqb-true}
 use Rattle.std.proofs.lemmas.List.{append-nil}
@@ -9,26 +9,31 @@ use Rattle.htl_model.specs.declared.line.Line.{Line}
 use Rattle.htl_model.specs.Lines.{line_text, lines_text}
 use Rattle.htl_model.specs.Lists.{joined, numbered, up_to}
 use Rattle.htl_model.specs.Meaning.{value_lines}
-use Rattle.htl_model.specs.Selections.{root_period}
+use Rattle.htl_model.specs.Frames.{hyper, node}
 use Rattle.htl_model.specs.Tables.{Tables}
 use Rattle.htl_model.proofs.Locality.{up_to_same}
 use Rattle.htl_walk.specs.declared.schedule.SInstr.{SInstr}
-use Rattle.htl_walk.specs.Walk.{Left, first_point}
+use Rattle.htl_walk.specs.declared.job.Job.{Job}
+use Rattle.htl_walk.specs.Paths.{Leg, walks_from}
+use Rattle.htl_walk.specs.Paths as paths
+use Rattle.htl_walk.specs.Walk.{Left, Point, first_point, last_point, walk_from}
 use Rattle.htl_ecode.specs.declared.ecode.ECode.{ECode}
 use Rattle.htl_ecode.specs.declared.instr.EInstr.{EInstr}
 use Rattle.htl_ecode.specs.Paths.{Done, e_path}
-use Rattle.htl_refine.specs.Records.{Round, round_at, left_at, rounds_before, shifted, walk_of}
+use Rattle.htl_refine.specs.FrameRecords.{RunningList, lists_from, lists_at, left_in, begun_before, begins_at}
+use Rattle.htl_refine.specs.FrameRuns.{frame_modes, path_of, frame_at}
+use Rattle.htl_refine.specs.Records.{rounds_before, shifted}
 use Rattle.htl_console.specs.declared.shown.Shown.{Shown}
 use Rattle.htl_console.specs.declared.shown.Shown.TheVariants.{Jobs}
 use Rattle.htl_console.specs.Lines.{done_line, step_line, instr_line}
 use Rattle.htl_console.specs.Shows.{shows_values, shows_jobs, shows_code}
 use Rattle.htl_machine.specs.Texts.{inv_at, slice_lines, e_line}
-use Rattle.htl_machine.specs.Lines.{where_shown, done_lines, step_lines, job_lines, record_lines, selection_at, round_lines, old_lines, new_lines, e_lines, change_lines, lines, jobs_done, e_done, s_done, text_before, run_text}
-use Rattle.htl_machine.specs.JobLines.{RunLine, printed, is_job_line, begins_as_job, text_lines, HasNames, slice_of, done_of, job_lines_of, round_job_lines, job_lines_at, job_lines_to, ShowsJobs}
+use Rattle.htl_machine.specs.Lines.{where_shown, done_lines, step_lines, job_lines, record_lines, list_lines, old_lines, new_lines, e_lines, change_lines, lines, jobs_done, e_done, s_done, text_before, run_text}
+use Rattle.htl_machine.specs.JobLines.{RunLine, printed, is_job_line, begins_as_job, text_lines, HasNames, slice_of, done_of, job_lines_of, list_job_lines, frame_job_lines, job_lines_at, job_lines_to, ShowsJobs}
 use Rattle.htl_machine.specs.JobLines.RunLine.{InstrLine, ChangeLine, StepLine, TotalsLine, SliceLine, DoneLine}
 use Rattle.htl_machine.proofs.LineBytes.{lines_found, jobs_found}
 use Rattle.htl_machine.proofs.Printing.{joined-append}
-use Rattle.htl_machine.proofs.TellingLines.{silent}
+use Rattle.htl_machine.proofs.TellingLists.{silent_at}
 
 module _ (t : Tables) where
   -- ---- how texts are put together
@@ -77,24 +82,24 @@ module _ (t : Tables) where
   slice_shows i (Some s) = one (SliceLine s.0 s.1 i)
   slice_shows i None = none
 
-  jobs_show : (r : Round) (l : ℕ × Left) → ShowsJobs t (job_lines t r l.1) (job_lines_of r l)
-  jobs_show r l =
-      let i = inv_at r.jobs l.1.position in
+  jobs_show : (js : List Job) (l : ℕ × Left) → ShowsJobs t (job_lines t js l.1) (job_lines_of js l)
+  jobs_show js l =
+      let i = inv_at js l.1.position in
       both (slice_lines t i l.1.slice) (done_lines t i l.1) (slice_of i l.1.slice) (done_of i l.1) (slice_shows i l.1.slice)
       (where_true l.1.finished (done_line t l.1.at i) (DoneLine l.1.at i ∷ []) (one (DoneLine l.1.at i)))
 
-  step_shows : (r : Round) (selection : ℕ) (l : ℕ × Left) → ShowsJobs t (step_lines r selection l) []
-  step_shows r selection l = by (slice_get r.schedule l.0)
+  step_shows : (r : RunningList) (l : ℕ × Left) → ShowsJobs t (step_lines r l) []
+  step_shows r l = by (slice_get r.code l.0)
     where
-      by : (o : Option SInstr) → ShowsJobs t (elim o as (λ _. List ℕ) [ Some i ↦ step_line l.1.at selection l.0 i | None ↦ [] ]) []
-      by (Some i) = one (StepLine l.1.at selection l.0 i)
+      by : (o : Option SInstr) → ShowsJobs t (elim o as (λ _. List ℕ) [ Some i ↦ step_line l.1.at r.node l.0 i | None ↦ [] ]) []
+      by (Some i) = one (StepLine l.1.at r.node l.0 i)
       by None = none
 
-  record_shows : (show : Shown) → shows_jobs show ≡ true → (r : Round) (selection : ℕ) (l : ℕ × Left) → ShowsJobs t (record_lines t show r selection l) (job_lines_of r l)
-  record_shows show jobs r selection l =
-      before_others (where_shown (shows_jobs show) (job_lines t r l.1)) (where_shown (shows_code show) (step_lines r selection l)) (job_lines_of r l)
-      (subst (λ b. ShowsJobs t (where_shown b (job_lines t r l.1)) (job_lines_of r l)) (sym jobs) (jobs_show r l))
-      (others_shown (shows_code show) (step_lines r selection l) (step_shows r selection l))
+  record_shows : (show : Shown) → shows_jobs show ≡ true → (js : List Job) (r : RunningList) (l : ℕ × Left) → ShowsJobs t (record_lines t show js r l) (job_lines_of js l)
+  record_shows show jobs js r l =
+      before_others (where_shown (shows_jobs show) (job_lines t js l.1)) (where_shown (shows_code show) (step_lines r l)) (job_lines_of js l)
+      (subst (λ b. ShowsJobs t (where_shown b (job_lines t js l.1)) (job_lines_of js l)) (sym jobs) (jobs_show js l))
+      (others_shown (shows_code show) (step_lines r l) (step_shows r l))
 
   -- ---- the lines of an instant
 
@@ -110,42 +115,60 @@ module _ (t : Tables) where
   changes_show (l ∷ ls) = both (line_text t l) (lines_text t ls) [] [] (one (ChangeLine l)) (changes_show ls)
 
   module _ (schedules : List (List SInstr)) (es : List Event) (show : Shown) (jobs : shows_jobs show ≡ true) where
-    round_shows : (start now : ℕ) → ShowsJobs t (round_lines t schedules es show start now) (round_job_lines t schedules es start now)
-    round_shows start now =
-        let r = round_at t schedules es start in
-        let selection = selection_at t es start in
-        all_of (record_lines t show r selection) (job_lines_of r) (record_shows show jobs r selection) (left_at t schedules es start now)
+    list_shows : (f now : ℕ) (r : RunningList) → ShowsJobs t (list_lines t schedules es show now f r) (list_job_lines t schedules es now f r)
+    list_shows f now r = let js = (frame_at t schedules es f).jobs in all_of (record_lines t show js r) (job_lines_of js) (record_shows show jobs js r) (left_in now f r)
 
     new_shows : (o : Option ℕ) (now : ℕ) → ShowsJobs t (new_lines t schedules es show o now) []
     new_shows None now = none
-    new_shows (Some period) now = others_shown (eqb (now % period) 0) _
-        (others_shown (shows_code show) _ (all_others (step_lines (round_at t schedules es now) (selection_at t es now)) (step_shows (round_at t schedules es now) (selection_at t es now)) (left_at t schedules es now now)))
+    new_shows (Some h) now =
+        let f = h * (now / h) in
+        others_shown (shows_code show) _
+        (all_others (λ r. joined (step_lines r) (left_in now f r)) (λ r. all_others (step_lines r) (step_shows r) (left_in now f r)) (filter (begins_at now) (lists_at t schedules es f)))
 
-  -- a record that is left as its round begins has no job lines
-  no_lines : (r : Round) (start k : ℕ) (l : Left) → (l.slice ≡ None) × (l.finished ≡ false) → job_lines_of r (k, shifted start l) ≡ []
-  no_lines r start k l silent =
-      let i = inv_at r.jobs l.position in
+  -- a record that is left as its list begins has no job lines
+  no_lines : (jobs : List Job) (start k : ℕ) (l : Left) → (l.slice ≡ None) × (l.finished ≡ false) → job_lines_of jobs (k, shifted start l) ≡ []
+  no_lines jobs start k l silent =
+      let i = inv_at jobs l.position in
       ap₂ (λ (o : Option (ℕ × ℕ)) (b : Bool). slice_of i (option_map (λ (s : ℕ × ℕ). (start + s.0, start + s.1)) o) ++ cond b (DoneLine (start + l.at) i ∷ []) []) silent.0 silent.1
 
-  none_first : (r : Round) (start k : ℕ) (ls : List Left) → ((i : ℕ) (l : Left) → slice_get ls i ≡ Some l → l.at ≡ 0 → (l.slice ≡ None) × (l.finished ≡ false))
-      → joined (job_lines_of r) (filter (λ (l : ℕ × Left). eqb l.1.at start) (numbered k (map (shifted start) ls))) ≡ []
-  none_first r start k [] silent = refl
-  none_first r start k (l ∷ ls) silent = by (eqb (start + l.at) start) refl (none_first r start (suc k) ls (λ i m at. silent (suc i) m at))
+  pub none_first : (jobs : List Job) (start now k : ℕ) (ls : List Left) → ((i : ℕ) (l : Left) → slice_get ls i ≡ Some l → start + l.at ≡ now → (l.slice ≡ None) × (l.finished ≡ false))
+      → joined (job_lines_of jobs) (filter (λ (l : ℕ × Left). eqb l.1.at now) (numbered k (map (shifted start) ls))) ≡ []
+  none_first jobs start now k [] silent = refl
+  none_first jobs start now k (l ∷ ls) silent = by (eqb (start + l.at) now) refl (none_first jobs start now (suc k) ls (λ i m at. silent (suc i) m at))
     where
       rest : List (ℕ × Left)
-      rest = filter (λ (m : ℕ × Left). eqb m.1.at start) (numbered (suc k) (map (shifted start) ls))
+      rest = filter (λ (m : ℕ × Left). eqb m.1.at now) (numbered (suc k) (map (shifted start) ls))
 
-      by : (b : Bool) → eqb (start + l.at) start ≡ b → joined (job_lines_of r) rest ≡ [] → joined (job_lines_of r) (cond b ((k, shifted start l) ∷ rest) rest) ≡ []
+      by : (b : Bool) → eqb (start + l.at) now ≡ b → joined (job_lines_of jobs) rest ≡ [] → joined (job_lines_of jobs) (cond b ((k, shifted start l) ∷ rest) rest) ≡ []
       by false e next = next
-      by true e next = ap₂ (λ (xs ys : List RunLine). xs ++ ys) (no_lines r start k l (silent 0 l refl (omega (arith, eqb-true (start + l.at) start e)))) next
+      by true e next = ap₂ (λ (xs ys : List RunLine). xs ++ ys) (no_lines jobs start k l (silent 0 l refl (eqb-true (start + l.at) now e))) next
+
+  -- so the list that begins has none
+  lists_silent : (number : ℕ → ℕ) (f now j : ℕ) (all jobs : List Job) (ss : List (List SInstr)) (gs : List Leg) (x : Point)
+      → joined (λ r. joined (job_lines_of all) (left_in now f r)) (filter (begins_at now) (lists_from number f j ss gs (walks_from jobs ss gs x))) ≡ []
+  lists_silent number f now j all jobs [] gs x = refl
+  lists_silent number f now j all jobs (s ∷ ss) [] x = refl
+  lists_silent number f now j all jobs (s ∷ ss) (g ∷ gs) x = by (eqb (f + g.from) now) refl (lists_silent number f now (suc j) all jobs ss gs (last_point jobs s (paths.begun g.from x)))
+    where
+      rest : List RunningList
+      rest = lists_from number f (suc j) ss gs (walks_from jobs ss gs (last_point jobs s (paths.begun g.from x)))
+
+      r : RunningList
+      r = record { from = f + g.from; node = number j; code = s; walk = walk_from jobs s (paths.begun g.from x) }
+
+      by : (b : Bool) → eqb (f + g.from) now ≡ b → joined (λ r. joined (job_lines_of all) (left_in now f r)) (filter (begins_at now) rest) ≡ []
+          → joined (λ r. joined (job_lines_of all) (left_in now f r)) (cond b (r ∷ filter (begins_at now) rest) (filter (begins_at now) rest)) ≡ []
+      by false e next = next
+      by true e next =
+          let here = eqb-true (f + g.from) now e in
+          ap₂ (λ (xs ys : List RunLine). xs ++ ys)
+          (none_first all f now 0 (walk_from jobs s (paths.begun g.from x)) (λ i l at same. silent_at jobs s (paths.begun g.from x) g.from i l (omega arith) at (omega (arith, here, same)))) next
 
   module _ (schedules : List (List SInstr)) (es : List Event) where
-    pub begins_silent : (now : ℕ) → round_job_lines t schedules es now now ≡ []
-    begins_silent now = let r = round_at t schedules es now in none_first r now 0 (walk_of r) (silent r.jobs r.schedule (first_point r.jobs r.lengths))
-
-    pub begun : (b : Bool) (now : ℕ) → cond b (round_job_lines t schedules es now now) [] ≡ []
-    begun true now = begins_silent now
-    begun false now = refl
+    pub begins_silent : (f now : ℕ) → frame_job_lines t schedules es (begins_at now) now f ≡ []
+    begins_silent f now =
+        let p = frame_at t schedules es f in
+        lists_silent (node t (path_of t (frame_modes t es f))) f now 0 p.jobs p.jobs p.lists p.legs (first_point p.jobs p.lengths)
 
     module _ (code : ECode) (show : Shown) (jobs : shows_jobs show ≡ true) where
       instant_by : (o : Option ℕ) (now : ℕ)
@@ -160,17 +183,18 @@ module _ (t : Tables) where
         where
           old_show : (o : Option ℕ) → ShowsJobs t (old_lines t schedules es show o now) (job_lines_at t schedules es o now)
           old_show None = none
-          old_show (Some period) =
-              let rounds = up_to (λ k. round_job_lines t schedules es (k * period) now) (rounds_before period now) in
-              let text = up_to (λ k. round_lines t schedules es show (k * period) now) (rounds_before period now) in
-              subst (λ z. ShowsJobs t text z) (sym (append-nil rounds) ∙ ap (λ z. rounds ++ z) (sym (begun (eqb (now % period) 0) now)))
-              (all_to (λ k. round_lines t schedules es show (k * period) now) (λ k. round_job_lines t schedules es (k * period) now) (λ k. round_shows schedules es show jobs (k * period) now) (rounds_before period now))
+          old_show (Some h) =
+              let owed = up_to (λ k. frame_job_lines t schedules es (begun_before now) now (k * h)) (rounds_before h now) in
+              let text = up_to (λ k. joined (list_lines t schedules es show now (k * h)) (filter (begun_before now) (lists_at t schedules es (k * h)))) (rounds_before h now) in
+              subst (λ z. ShowsJobs t text z) (sym (append-nil owed) ∙ ap (λ z. owed ++ z) (sym (begins_silent (h * (now / h)) now)))
+              (all_to (λ k. joined (list_lines t schedules es show now (k * h)) (filter (begun_before now) (lists_at t schedules es (k * h)))) (λ k. frame_job_lines t schedules es (begun_before now) now (k * h))
+              (λ k. all_of (list_lines t schedules es show now (k * h)) (list_job_lines t schedules es now (k * h)) (list_shows schedules es show jobs (k * h) now) (filter (begun_before now) (lists_at t schedules es (k * h)))) (rounds_before h now))
 
       -- the text of a run
       pub run_shows : (end : ℕ) → ShowsJobs t (run_text t code schedules es show end) (job_lines_to t schedules es end)
       run_shows end =
           before_others (text_before t code schedules es show (suc end)) _ (job_lines_to t schedules es end)
-          (all_to (lines t code schedules es show) (job_lines_at t schedules es (root_period t)) (instant_by (root_period t)) (suc end))
+          (all_to (lines t code schedules es show) (job_lines_at t schedules es (hyper t)) (instant_by (hyper t)) (suc end))
           (one (TotalsLine end (jobs_done t schedules es (suc end)) (e_done t code es (suc end)) (s_done t schedules es (suc end))))
 
 -- so a reader finds them
@@ -207,25 +231,30 @@ module _ (t : Tables) where
       by true = sym (append-nil (printed t (DoneLine l.at i)))
       by false = refl
 
-  record_alone : (r : Round) (selection : ℕ) (l : ℕ × Left) → record_lines t Jobs r selection l ≡ joined (printed t) (job_lines_of r l)
-  record_alone r selection l =
-      let i = inv_at r.jobs l.1.position in
-      append-nil (job_lines t r l.1) ∙ ap₂ (λ (xs ys : List ℕ). xs ++ ys) (slice_alone i l.1.slice) (done_alone i l.1)
+  record_alone : (js : List Job) (r : RunningList) (l : ℕ × Left) → record_lines t Jobs js r l ≡ joined (printed t) (job_lines_of js l)
+  record_alone js r l =
+      let i = inv_at js l.1.position in
+      append-nil (job_lines t js l.1) ∙ ap₂ (λ (xs ys : List ℕ). xs ++ ys) (slice_alone i l.1.slice) (done_alone i l.1)
       ∙ sym (joined-append (printed t) (slice_of i l.1.slice) (done_of i l.1))
 
   module _ (schedules : List (List SInstr)) (es : List Event) where
-    round_alone : (start now : ℕ) → round_lines t schedules es Jobs start now ≡ joined (printed t) (round_job_lines t schedules es start now)
-    round_alone start now =
-        let r = round_at t schedules es start in
-        let selection = selection_at t es start in
-        let ls = left_at t schedules es start now in
-        joined_same (record_lines t Jobs r selection) (λ l. joined (printed t) (job_lines_of r l)) (record_alone r selection) ls
-        ∙ sym (joined-joined (printed t) (job_lines_of r) ls)
+    list_alone : (f now : ℕ) (r : RunningList) → list_lines t schedules es Jobs now f r ≡ joined (printed t) (list_job_lines t schedules es now f r)
+    list_alone f now r =
+        let js = (frame_at t schedules es f).jobs in
+        let ls = left_in now f r in
+        joined_same (record_lines t Jobs js r) (λ l. joined (printed t) (job_lines_of js l)) (record_alone js r) ls
+        ∙ sym (joined-joined (printed t) (job_lines_of js) ls)
+
+    frame_alone : (f now : ℕ) → joined (list_lines t schedules es Jobs now f) (filter (begun_before now) (lists_at t schedules es f)) ≡ joined (printed t) (frame_job_lines t schedules es (begun_before now) now f)
+    frame_alone f now =
+        let rs = filter (begun_before now) (lists_at t schedules es f) in
+        joined_same (list_lines t schedules es Jobs now f) (λ r. joined (printed t) (list_job_lines t schedules es now f r)) (list_alone f now) rs
+        ∙ sym (joined-joined (printed t) (list_job_lines t schedules es now f) rs)
 
     pub old_alone : (o : Option ℕ) (now : ℕ) → old_lines t schedules es Jobs o now ≡ joined (printed t) (job_lines_at t schedules es o now)
     old_alone None now = refl
-    old_alone (Some period) now =
-        let rounds = up_to (λ k. round_job_lines t schedules es (k * period) now) (rounds_before period now) in
-        up_to_same (λ k. round_lines t schedules es Jobs (k * period) now) (λ k. joined (printed t) (round_job_lines t schedules es (k * period) now)) (rounds_before period now) (λ k less. round_alone (k * period) now)
-        ∙ sym (joined-up_to (printed t) (λ k. round_job_lines t schedules es (k * period) now) (rounds_before period now))
-        ∙ ap (joined (printed t)) (sym (append-nil rounds) ∙ ap (λ z. rounds ++ z) (sym (begun t schedules es (eqb (now % period) 0) now)))
+    old_alone (Some h) now =
+        let owed = up_to (λ k. frame_job_lines t schedules es (begun_before now) now (k * h)) (rounds_before h now) in
+        up_to_same (λ k. joined (list_lines t schedules es Jobs now (k * h)) (filter (begun_before now) (lists_at t schedules es (k * h)))) (λ k. joined (printed t) (frame_job_lines t schedules es (begun_before now) now (k * h))) (rounds_before h now) (λ k less. frame_alone (k * h) now)
+        ∙ sym (joined-up_to (printed t) (λ k. frame_job_lines t schedules es (begun_before now) now (k * h)) (rounds_before h now))
+        ∙ ap (joined (printed t)) (sym (append-nil owed) ∙ ap (λ z. owed ++ z) (sym (begins_silent t schedules es (h * (now / h)) now)))

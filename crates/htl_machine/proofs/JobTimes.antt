@@ -1,5 +1,5 @@
 -- The job lines of a run show each job whose window ended: one d line in time, and j lines in its window for all its ticks.
-use Rattle.std.proofs.Common.{◌≡◌, ◌≤◌, ◌<◌, ◌⊎◌, inl, inr, ℕ, zero, suc, ◌+◌, ◌-◌, ◌*◌, ◌/◌, ◌%◌, Bool, true, false, cond, ◌&&◌, eqb, ltb, leb, List, [], ◌∷◌, ◌++◌, map, set, slice_get, get_or, Option, Some, None, option_map, refl, sym, ap, ap₂, ◌∙◌, subst, arith}
+use Rattle.std.proofs.Common.{◌≡◌, ◌≤◌, ◌<◌, ◌⊎◌, inl, inr, ℕ, zero, suc, ◌+◌, ◌*◌, ◌/◌, ◌%◌, Bool, true, false, cond, ◌&&◌, eqb, ltb, leb, List, [], ◌∷◌, ◌++◌, map, set, slice_get, get_or, Option, Some, None, option_map, refl, sym, ap, ap₂, ◌∙◌, subst, arith}
 use Rattle.std.specs.List.{filter}
 use Rattle.std.proofs.lemmas.Bool.{eqb-true, eqb-false, eq-eqb, ltb-true, ltb-false, lt-ltb, le-ltb, le-leb, leb-true}
 use Rattle.std.proofs.lemmas.List.{append-nil}
@@ -18,16 +18,19 @@ use Rattle.htl_refine.specs.Records.{Round, AreTookWithin, round_at, left_at, ro
 use Rattle.htl_machine.specs.Casts.{IsCast, HaveWindows}
 use Rattle.htl_machine.proofs.Casting.{only_open}
 use Rattle.htl_machine.proofs.RoundServed.{round_windows}
-use Rattle.htl_machine.specs.Follows.{AreInForm, IsLoaded, period_or}
-use Rattle.htl_machine.specs.JobLines.{RunLine, slice_of as line_of_slice, job_lines_of, round_job_lines, job_lines_at, job_lines_to}
+use Rattle.htl_machine.specs.Follows.{IsLoaded}
+use Rattle.htl_machine.proofs.Loaded.{AreInForm, loaded_rounds}
+use Rattle.htl_machine.specs.JobLines.{RunLine, slice_of as line_of_slice, job_lines_of, job_lines_at, job_lines_to}
 use Rattle.htl_machine.specs.JobLines.RunLine.{SliceLine, DoneLine}
 use Rattle.htl_machine.specs.JobTimes.{is_in, done_time, slice_time, AllToldInTime}
-use Rattle.htl_machine.specs.Plans.{round_start, AreSound, AreRegular}
-use Rattle.htl_machine.specs.Rounds.{plan_of}
+use Rattle.htl_machine.specs.Plans.{AreSound, AreRegular}
+use Rattle.htl_machine.specs.Rounds.{plan_of, period_or, round_start}
 use Rattle.htl_machine.specs.Served.{spent, Finishes}
 use Rattle.htl_machine.specs.Texts.{inv_at}
+use Rattle.htl_machine.proofs.LoadedLists.{loaded_keys, loaded_one}
+use Rattle.htl_machine.proofs.RoundJobLines.{round_job_lines, round_lines_at, job_lines_same}
 use Rattle.htl_machine.proofs.Headline.{all_served}
-use Rattle.htl_machine.proofs.JobLines.{begun, joined-joined, joined-up_to}
+use Rattle.htl_machine.proofs.JobLines.{none_first, joined-joined, joined-up_to}
 use Rattle.htl_machine.proofs.LineBytes.{both_true}
 use Rattle.htl_machine.proofs.Printing.{joined-append}
 use Rattle.htl_machine.proofs.Serving.{slice_inside}
@@ -335,32 +338,39 @@ module _ {X : Type 0} (h : RunLine → List X) (s e : ℕ)
       no_done false = refl
 
   list_out : (r : Round) (u now k : ℕ) (ls : List Left) → (ltb s now && leb now e) ≡ false → ((i : ℕ) (l : Left) (v : ℕ × ℕ) → slice_get ls i ≡ Some l → l.slice ≡ Some v → v.1 ≡ l.at)
-      → joined (λ l. joined h (job_lines_of r l)) (filter (at_now now) (told u k ls)) ≡ []
+      → joined (λ l. joined h (job_lines_of r.jobs l)) (filter (at_now now) (told u k ls)) ≡ []
   list_out r u now k [] out ends = refl
   list_out r u now k (l ∷ ls) out ends = by (eqb (u + l.at) now) refl (list_out r u now (suc k) ls out (λ i m v at some. ends (suc i) m v at some))
     where
-      by : (b : Bool) → eqb (u + l.at) now ≡ b → joined (λ l. joined h (job_lines_of r l)) (filter (at_now now) (told u (suc k) ls)) ≡ []
-          → joined (λ l. joined h (job_lines_of r l)) (cond b ((k, shifted u l) ∷ filter (at_now now) (told u (suc k) ls)) (filter (at_now now) (told u (suc k) ls))) ≡ []
+      by : (b : Bool) → eqb (u + l.at) now ≡ b → joined (λ l. joined h (job_lines_of r.jobs l)) (filter (at_now now) (told u (suc k) ls)) ≡ []
+          → joined (λ l. joined h (job_lines_of r.jobs l)) (cond b ((k, shifted u l) ∷ filter (at_now now) (told u (suc k) ls)) (filter (at_now now) (told u (suc k) ls))) ≡ []
       by false is next = next
       by true is next =
           ap₂ (λ (xs ys : List X). xs ++ ys) (record_out u l.at (inv_at r.jobs l.position) now l.slice l.finished out (eqb-true (u + l.at) now is) (λ v some. ends 0 l v refl some)) next
 
   module _ (t : Tables) (schedules : List (List SInstr)) (es : List Event) where
+    -- a round that begins has none
+    begun : (b : Bool) (now : ℕ) → cond b (round_job_lines t schedules es now now) [] ≡ []
+    begun true now =
+        let r = round_at t schedules es now in
+        none_first t r.jobs now now 0 (walk_of r) (λ i l at same. silent r.jobs r.schedule (first_point r.jobs r.lengths) i l at (omega (arith, same)))
+    begun false now = refl
+
     elsewhere : (u now : ℕ) → (ltb s now && leb now e) ≡ false → joined h (round_job_lines t schedules es u now) ≡ []
     elsewhere u now out =
         let r = round_at t schedules es u in
-        joined-joined h (job_lines_of r) (left_at t schedules es u now) ∙ list_out r u now 0 (walk_of r) out (λ i l v at some. ends_with r.jobs r.schedule (first_point r.jobs r.lengths) i l v at some)
+        joined-joined h (job_lines_of r.jobs) (left_at t schedules es u now) ∙ list_out r u now 0 (walk_of r) out (λ i l v at some. ends_with r.jobs r.schedule (first_point r.jobs r.lengths) i l v at some)
 
     module _ (period a : ℕ) (some : 0 < period) (form : AreInForm t schedules es period) (is : s ≡ period * a) (to : e ≡ s + period) where
       -- at each instant the round's own lines are all that count
-      instant : (now : ℕ) → joined h (job_lines_at t schedules es (Some period) now) ≡ joined h (round_job_lines t schedules es s now)
+      instant : (now : ℕ) → joined h (round_lines_at t schedules es period now) ≡ joined h (round_job_lines t schedules es s now)
       instant now = by (ltb s now && leb now e) refl
         where
           starting : (b : Bool) (now : ℕ) → (ltb s now && leb now e) ≡ false → joined h (cond b (round_job_lines t schedules es now now) []) ≡ []
           starting true now out = elsewhere now now out
           starting false now out = refl
 
-          inside : (now : ℕ) → (ltb s now && leb now e) ≡ true → joined h (job_lines_at t schedules es (Some period) now) ≡ joined h (round_job_lines t schedules es s now)
+          inside : (now : ℕ) → (ltb s now && leb now e) ≡ true → joined h (round_lines_at t schedules es period now) ≡ joined h (round_job_lines t schedules es s now)
           inside zero here = absurd (let z = ltb-true s 0 (both_true (ltb s 0) (leb 0 e) here).0 in omega (arith, z))
           inside (suc m) here =
               let parts = both_true (ltb s (suc m)) (leb (suc m) e) here in
@@ -369,13 +379,13 @@ module _ {X : Type 0} (h : RunLine → List X) (s e : ℕ)
               let start : m / period * period ≡ s = last_start t schedules es period some form m ∙ same_round period a m some (omega (arith, first, is)) (omega (arith, last, is, to)) ∙ sym is in
               let all = up_to (λ k. round_job_lines t schedules es (k * period) (suc m)) (rounds_before period (suc m)) in
               ap (joined h)
-              (ap (λ z. all ++ z) (begun t schedules es (eqb (suc m % period) 0) (suc m)) ∙ append-nil all
+              (ap (λ z. all ++ z) (begun (eqb (suc m % period) 0) (suc m)) ∙ append-nil all
               ∙ ap (up_to (λ k. round_job_lines t schedules es (k * period) (suc m))) (rounds_are period m some)
               ∙ up_to_last (λ k. round_job_lines t schedules es (k * period) (suc m)) (m / period)
-              (λ k less. ap (joined (job_lines_of (round_at t schedules es (k * period)))) (none_left t schedules es period some form m k less))
+              (λ k less. ap (joined (job_lines_of (round_at t schedules es (k * period)).jobs)) (none_left t schedules es period some form m k less))
               ∙ ap (λ z. round_job_lines t schedules es z (suc m)) start)
 
-          by : (b : Bool) → (ltb s now && leb now e) ≡ b → joined h (job_lines_at t schedules es (Some period) now) ≡ joined h (round_job_lines t schedules es s now)
+          by : (b : Bool) → (ltb s now && leb now e) ≡ b → joined h (round_lines_at t schedules es period now) ≡ joined h (round_job_lines t schedules es s now)
           by true here = inside now here
           by false out =
               let all = up_to (λ k. round_job_lines t schedules es (k * period) now) (rounds_before period now) in
@@ -388,14 +398,14 @@ module _ {X : Type 0} (h : RunLine → List X) (s e : ℕ)
 
       -- so those of the whole run are those of the round's records that were left by its end
       of_round : (n : ℕ) → let r = round_at t schedules es s in
-          joined h (up_to (job_lines_at t schedules es (Some period)) n) ≡ joined (λ l. joined h (job_lines_of r l)) (filter (before_now n) (told s 0 (walk_of r)))
+          joined h (up_to (round_lines_at t schedules es period) n) ≡ joined (λ l. joined h (job_lines_of r.jobs l)) (filter (before_now n) (told s 0 (walk_of r)))
       of_round n =
           let r = round_at t schedules es s in
-          joined-up_to h (job_lines_at t schedules es (Some period)) n
-          ∙ up_to_same (λ now. joined h (job_lines_at t schedules es (Some period) now)) (λ now. joined (λ l. joined h (job_lines_of r l)) (filter (at_now now) (told s 0 (walk_of r)))) n
-          (λ now less. instant now ∙ joined-joined h (job_lines_of r) (left_at t schedules es s now))
-          ∙ sym (joined-up_to (λ l. joined h (job_lines_of r l)) (λ now. filter (at_now now) (told s 0 (walk_of r))) n)
-          ∙ ap (joined (λ l. joined h (job_lines_of r l))) (in_order s 0 0 (walk_of r) (walk_rises r.jobs r.schedule (first_point r.jobs r.lengths)) n)
+          joined-up_to h (round_lines_at t schedules es period) n
+          ∙ up_to_same (λ now. joined h (round_lines_at t schedules es period now)) (λ now. joined (λ l. joined h (job_lines_of r.jobs l)) (filter (at_now now) (told s 0 (walk_of r)))) n
+          (λ now less. instant now ∙ joined-joined h (job_lines_of r.jobs) (left_at t schedules es s now))
+          ∙ sym (joined-up_to (λ l. joined h (job_lines_of r.jobs l)) (λ now. filter (at_now now) (told s 0 (walk_of r))) n)
+          ∙ ap (joined (λ l. joined h (job_lines_of r.jobs l))) (in_order s 0 0 (walk_of r) (walk_rises r.jobs r.schedule (first_point r.jobs r.lengths)) n)
 
 -- ---- each job
 
@@ -404,7 +414,7 @@ module _ (t : Tables) (schedules : List (List SInstr)) (loaded : IsLoaded t sche
   told_in_time n q j at here late =
       let s = round_start period n in
       let r = round_at t schedules es s in
-      let kept = loaded.rounds es within in
+      let kept = loaded_rounds t schedules loaded es within in
       let same : period_or (root_period t) ≡ period = ap period_or root in
       let some : 0 < period = (subst (AreRegular t es) same kept.regular).some in
       let cast : IsCast t (state t es s).stays s s r.jobs = (subst (AreSound t es (plan_of t schedules es)) same kept.sound).casts n in
@@ -421,13 +431,14 @@ module _ (t : Tables) (schedules : List (List SInstr)) (loaded : IsLoaded t sche
         works_at r.jobs r.schedule (first_point r.jobs r.lengths) (λ p. (job_at r.jobs p).present ≡ true) (λ p more. work_some r.jobs r.lengths p more) i l is does,
       ) in
       let lines : (X : Type 0) (h : RunLine → List X) → ((from to inv : ℕ) → (ltb s to && leb to (s + period)) ≡ false → h (SliceLine from to inv) ≡ []) → ((at inv : ℕ) → (ltb s at && leb at (s + period)) ≡ false → h (DoneLine at inv) ≡ [])
-      → joined h (job_lines_to t schedules es end) ≡ joined (λ l. joined h (job_lines_of r l)) (filter (before_now (suc end)) (told s 0 ls)) =
+      → joined h (job_lines_to t schedules es end) ≡ joined (λ l. joined h (job_lines_of r.jobs l)) (filter (before_now (suc end)) (told s 0 ls)) =
       λ X h slice_out done_out.
-      ap (λ (o : Option ℕ). joined h (up_to (job_lines_at t schedules es o) (suc end))) root
+      ap (λ (o : Option ℕ). joined h (up_to (job_lines_at t schedules es o) (suc end))) (loaded_keys t schedules loaded ∙ root)
+      ∙ ap (joined h) (up_to_same (job_lines_at t schedules es (Some period)) (round_lines_at t schedules es period) (suc end) (λ now less. job_lines_same t period schedules es loaded.range (loaded_one t schedules loaded period root) now))
       ∙ of_round h s (s + period) slice_out done_out t schedules es period (n / period) some (kept.form period root) refl refl (suc end) in
       let slices_are : joined (slice_time j.inv s (s + period)) (job_lines_to t schedules es end) ≡ map (shift s) (slices ls q) =
       lines (ℕ × ℕ) (slice_time j.inv s (s + period)) (λ from to inv out. out_of j.inv inv (ltb s to && leb to (s + period)) ((from, to) ∷ []) out) (λ at inv out. refl)
-      ∙ sum_up (λ l. joined (slice_time j.inv s (s + period)) (job_lines_of r l)) (position_slice s q) s (suc end) 0 ls
+      ∙ sum_up (λ l. joined (slice_time j.inv s (s + period)) (job_lines_of r.jobs l)) (position_slice s q) s (suc end) 0 ls
       (λ i m l is. slice_claim r s period q (suc end) j at others l.at l.position l.slice l.finished
       (λ u has. (ends_with r.jobs r.schedule (first_point r.jobs r.lengths) i l u is has, works i l is (inl (u, has))))
       (λ mine u has. let ended = within_at j.release j.end q ls i l u v.within is mine has in let with_record = ends_with r.jobs r.schedule (first_point r.jobs r.lengths) i l u is has in omega (arith, ended, with_record, late)))
@@ -436,7 +447,7 @@ module _ (t : Tables) (schedules : List (List SInstr)) (loaded : IsLoaded t sche
         done_at = s + v.finish_at;
         done =
             lines ℕ (done_time j.inv s (s + period)) (λ from to inv out. refl) (λ at inv out. out_of j.inv inv (ltb s at && leb at (s + period)) (at ∷ []) out)
-            ∙ sum_up (λ l. joined (done_time j.inv s (s + period)) (job_lines_of r l)) (position_done s q) s (suc end) 0 ls
+            ∙ sum_up (λ l. joined (done_time j.inv s (s + period)) (job_lines_of r.jobs l)) (position_done s q) s (suc end) 0 ls
             (λ i m l is. done_claim r s period q (suc end) j at others l.at l.position l.slice l.finished
             (λ has. works i l is (inr has))
             (λ mine has. let k = v.once i l.at (l, is, mine, has, refl) in let same_at = finish_same ls q i v.record_at l v.finish_at k is v.done in omega (arith, same_at, v.in_time, late)))

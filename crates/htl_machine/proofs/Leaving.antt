@@ -12,7 +12,7 @@ use Rattle.std.proofs.lemmas.Option.{slice_get_within}
 use Rattle.htl_machine.proofs.Distinct.{there}
 use Rattle.htl_smach.proofs.Telling.{pending_is, is_pending, next_point_is, length-told}
 use Rattle.htl_smach.proofs.Answering.{answer_is}
-use Rattle.htl_refine.specs.Records.{Round as Plan}
+use Rattle.htl_refine.specs.ListPlans.{ListPlan as Plan}
 use Rattle.htl_machine.specs.Follows.{DeskAt}
 use Rattle.htl_machine.specs.Leaving.{due_by, Leaves, IsLeaving}
 use Rattle.htl_machine.proofs.Standing.{none_some}

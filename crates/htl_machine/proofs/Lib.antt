@@ -31,9 +31,18 @@ pub mod FrameValues
 pub mod FramesGoOn
 pub mod RoundServed
 pub mod RunFrames
+pub mod ListStarts
+pub mod RunLists
+pub mod RunsAgree
+pub mod TookLists
+pub mod TellingLists
 pub mod Tops
 pub mod Windows
 pub mod Rounding
+pub mod LoadedLists
+pub mod NextLists
+pub mod ListValues
+pub mod ListsSoFar
 pub mod Tying
 pub mod Pathing
 pub mod Shaping
@@ -58,6 +67,7 @@ pub mod TellingLines
 pub mod TellingText
 pub mod LineBytes
 pub mod JobLines
+pub mod RoundJobLines
 pub mod JobTimes
 pub mod Loaded
 pub mod Accepted
@@ -70,8 +80,6 @@ pub mod TellingLoaded
 pub mod TellingLater
 pub mod Wholly
 pub mod Premises
-pub mod Staying
-pub mod Opening
 pub mod Deciding
 pub mod Examples
 mod LineExamples
@@ -80,6 +88,7 @@ pub mod Composing
 pub mod Putting
 pub mod Doing
 pub mod Printing
+pub mod OneList
 pub mod Openings
 pub mod Closings
 pub mod Agreeing
@@ -87,7 +96,6 @@ pub mod Modes
 pub mod Beginnings
 pub mod Periodic
 pub mod Positions
-pub mod ToBegin
 pub mod Ready
 pub mod After
 pub mod Idle

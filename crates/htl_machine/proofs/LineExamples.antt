@@ -3,13 +3,12 @@ use Rattle.std.proofs.Common.{arith}
 use Rattle.std.specs.Prelude.{◌≡◌, List, [], ◌∷◌, pos, true, refl, codes}
 use Rattle.std.specs.List.{filter}
 use Rattle.std.specs.Fmt.{digits}
-use Rattle.htl_model.specs.declared.event.Event.{Event}
 use Rattle.htl_model.specs.declared.event.Event.TheVariants.{At, Sense, Took, End as Ends}
 use Rattle.htl_model.proofs.Sources.{preempted, doubling}
 use Rattle.htl_walk.specs.declared.job.Job.{Job}
 use Rattle.htl_walk.specs.declared.schedule.SInstr.{SInstr}
 use Rattle.htl_walk.specs.declared.schedule.SInstr.TheVariants.{Dispatch, End}
-use Rattle.htl_machine.specs.JobLines.{RunLine, printed, is_job_line, job_lines_to, text_lines, begins_as_job}
+use Rattle.htl_machine.specs.JobLines.{RunLine, printed, job_lines_to, text_lines, begins_as_job}
 use Rattle.htl_machine.specs.JobLines.RunLine.{SliceLine, DoneLine, StepLine, TotalsLine}
 use Rattle.htl_machine.specs.JobTimes.{IsToldInTime}
 

@@ -19,20 +19,32 @@ use Rattle.htl_walk.specs.Walk.{InForm, IsAccepted}
 use Rattle.htl_refine.specs.ConcreteJobs.{concrete_jobs}
 use Rattle.htl_refine.specs.Records.{AreTookWithin, modes_at}
 use Rattle.htl_refine.specs.Roots as roots
+use Rattle.htl_object.proofs.OneRound.{each_round}
 use Rattle.htl_refine.proofs.Inherit.{refinement}
-use Rattle.htl_refine.proofs.Kept.{kept_apart}
 use Rattle.htl_refine.proofs.Members.{of_places}
 use Rattle.htl_refine.proofs.RootSelection.{roots_some, below_count, is_of_selection}
 use Rattle.htl_refine.proofs.RoundLaws.{rounds_meet}
 use Rattle.htl_refine.proofs.StateLaws.{states_are_selections}
 use Rattle.htl_machine.specs.Casts.{IsCast}
-use Rattle.htl_machine.specs.Plans.{AreRegular, round_start}
-use Rattle.htl_machine.specs.Rounds.{standing_of, plan_of}
-use Rattle.htl_machine.specs.Follows.{period_or, AreInForm, AreKept, IsLoaded}
+use Rattle.htl_machine.specs.Plans.{AreRegular, AreSound}
+use Rattle.htl_machine.specs.Rounds.{standing_of, plan_of, round_start, period_or}
+use Rattle.htl_machine.specs.Follows.{IsLoaded}
 use Rattle.htl_machine.proofs.Periods.{mode_periods, starts}
 use Rattle.htl_machine.proofs.Placed.{placing}
 use Rattle.htl_machine.proofs.Placing.{cast_of}
 use Rattle.htl_machine.proofs.Standing.{standing_at}
+
+-- ---- what is kept of the rounds
+
+-- the schedule of each round is in form
+abbrev pub AreInForm : Tables → List (List SInstr) → List Event → ℕ → Type 0
+AreInForm t schedules es period = (n : ℕ) → let r = plan_of t schedules es (round_start period n) in InForm (length r.jobs) period r.schedule
+
+-- every round is sound, and its schedule in form; without modules there is no schedule
+pub record AreKept (t : Tables) (schedules : List (List SInstr)) (es : List Event) : Type 0 where
+  pub regular : AreRegular t es (period_or (root_period t))
+  pub sound : AreSound t es (plan_of t schedules es) (period_or (root_period t))
+  pub form : (period : ℕ) → root_period t ≡ Some period → AreInForm t schedules es period
 
 -- ---- the period of the rounds
 
@@ -135,5 +147,8 @@ module _ (t : Tables) (schedules : List (List SInstr)) (range : AreInRange t) (k
         form = λ period root. rounds_in_form es period root;
       }
 
-  pub loaded : IsLoaded t schedules
-  loaded = record { range = range; kept = kept_apart t 12 first_rules; rounds = λ es within. every_round es within }
+-- so those of a loaded program
+pub loaded_rounds : (t : Tables) (schedules : List (List SInstr)) → IsLoaded t schedules → (es : List Event) → AreTookWithin t es → AreKept t schedules es
+loaded_rounds t schedules loaded es within =
+    every_round t schedules loaded.range loaded.rules
+    (each_round t loaded.range (λ r s have need small broken. loaded.rules r s have need (omega (arith, small)) broken) schedules loaded.feasible) es within

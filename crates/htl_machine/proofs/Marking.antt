@@ -1,7 +1,6 @@
 -- What instructions change is marked.
-use Rattle.std.proofs.Common.{◌≡◌, ◌≢◌, ℕ, ◌+◌, ◌<◌, ◌≤◌, Bool, true, false, cond, ◌&&◌, ◌||◌, eqb, List, [], ◌∷◌, length, get_or, set, slice_get, Option, Some, None, IfSome, ℤ, pos, refl, sym, ap, ◌∙◌, subst, arith, length-set, get_or-set_other}
+use Rattle.std.proofs.Common.{◌≡◌, ◌≢◌, ℕ, ◌+◌, ◌<◌, ◌≤◌, Bool, true, false, cond, ◌&&◌, ◌||◌, eqb, List, [], length, get_or, set, slice_get, Option, Some, None, IfSome, ℤ, pos, refl, sym, ap, ◌∙◌, subst, arith, length-set, get_or-set_other}
 use Rattle.std.proofs.lemmas.Bool.Decides.{nat_tests}
-use Rattle.std.proofs.lemmas.List.{ext_get_or}
 use Rattle.htl_model.specs.declared.event.Event.{Event}
 use Rattle.htl_model.specs.Tables.{Tables}
 use Rattle.htl_model.specs.Ranges.{AreInRange}
@@ -14,7 +13,7 @@ use Rattle.htl_ecode.proofs.SpellingLaws.{spelled_departs_not}
 use Rattle.htl_emach.specs.declared.trigger.Trigger.{Trigger}
 use Rattle.htl_emach.specs.declared.trigger.Block.{Block}
 use Rattle.htl_emach.specs.declared.trigger.EDone.{EDone}
-use Rattle.htl_emach.specs.Calendars.{Calendar, Standing, list_at, triggers_of, first_due, block_from, block_in, taken, taken_by, with_trigger, calendar_effect, done_at, done_in, entry_of, stepped, standing_after, content_after}
+use Rattle.htl_emach.specs.Calendars.{Calendar, Standing, list_at, triggers_of, first_due, block_in, taken, taken_by, with_trigger, calendar_effect, done_at, done_in, entry_of, standing_after, content_after}
 use Rattle.htl_emach.specs.Contents.{Content, comm_of, writes_at, effect}
 use Rattle.htl_emach.specs.Ready.{IsReady}
 use Rattle.htl_emach.specs.Safety.{StandsSafely}
@@ -24,7 +23,7 @@ use Rattle.htl_emach.proofs.SafeCalls.{ready_safely}
 use Rattle.htl_emach.specs.Following.{Onward, phase_path}
 use Rattle.htl_machine.specs.Asking.{IsToClose, IsToRead}
 use Rattle.htl_machine.specs.Marks.{is_marked}
-use Rattle.htl_machine.specs.Noting.{MarksChanges, KeepsNoted, written_comm, is_written, decides}
+use Rattle.htl_machine.specs.Noting.{MarksChanges, KeepsNoted, is_written, decides}
 use Rattle.htl_machine.specs.Running.{replay}
 use Rattle.htl_machine.specs.declared.noted.Noted.{Noted}
 use Rattle.htl_machine.proofs.Closings.{closes_reads}

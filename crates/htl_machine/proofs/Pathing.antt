@@ -12,8 +12,8 @@ use Rattle.htl_ecode.proofs.Spelled.{ModeReads}
 use Rattle.htl_emach.specs.Contents.{Content}
 use Rattle.htl_machine.specs.Worlds.{effects, all_writes, with_sensors}
 use Rattle.htl_machine.proofs.Tying.{replay}
-use Rattle.htl_refine.specs.Records.{Round as Plan}
 use Rattle.htl_machine.specs.Plans.{with_records, next_world}
+use Rattle.htl_machine.specs.ListTurns.{Turn}
 use Rattle.htl_machine.proofs.Standing.{standing_at, standing_before}
 use Rattle.htl_machine.proofs.Tying.{addresses, write_phase, read_phase, switch_phase}
 
@@ -35,10 +35,10 @@ module _ (t : Tables) (code : ECode) (range : AreInRange t) (reads : (m : ℕ) �
   real_now k y e = (standing_at t range es now).real k y e
 
   -- together they make the next world
-  pub path_does : (plan : ℕ → Plan) (period : ℕ) (w : Content)
-      → after_reads (after_switches (with_sensors t (sense t es) now (after_writes (with_records t plan period now w)))) ≡ next_world t es plan period now w
-  path_does plan period w =
-      let v = with_records t plan period now w in
+  pub path_does : (turn : ℕ → Turn) (w : Content)
+      → after_reads (after_switches (with_sensors t (sense t es) now (after_writes (with_records t turn now w)))) ≡ next_world t es turn now w
+  path_does turn w =
+      let v = with_records t turn now w in
       ap (λ z. after_reads (after_switches (with_sensors t (sense t es) now z))) (write_phase t code reads now (before t es now) real_before v)
       ∙ ap after_reads (switch_phase t code reads range now (before t es now) (state t es now) real_before real_now (length t.modules) (with_sensors t (sense t es) now (effects t (all_writes t now (before t es now).stays) v)))
       ∙ read_phase t code reads now (state t es now) real_now (with_sensors t (sense t es) now (effects t (all_writes t now (before t es now).stays) v))

@@ -10,14 +10,14 @@ use Rattle.htl_model.specs.Ranges.{AreInRange}
 use Rattle.htl_model.specs.Selections.{is_root, modes_of, mode_of_module, root_modules, root_period}
 use Rattle.htl_model.specs.Tables.{Tables, mode_period}
 use Rattle.htl_model.proofs.SelectionLaws.{modes_some, all_places_below}
-use Rattle.htl_machine.specs.Plans.{round_start}
+use Rattle.htl_machine.specs.Rounds.{round_start}
 use Rattle.htl_machine.specs.Timing.{opens, begins}
 use Rattle.htl_machine.proofs.Standing.{none_some}
 
 first_known : (t : Tables) (u : ℕ) → AreInRange t → u < length t.modules → get_or (modes_of t u) 0 0 < length t.modes
 first_known t u range h = All-get_or (λ m. m < length t.modes) (modes_of t u) 0 0 (modes_some t u range h) (all_places_below (mode_of_module u) t.modes)
 
-divides : (p at : ℕ) → 0 < p → (not (eqb p 0) && eqb (at % p) 0) ≡ eqb (at % p) 0
+pub divides : (p at : ℕ) → 0 < p → (not (eqb p 0) && eqb (at % p) 0) ≡ eqb (at % p) 0
 divides zero at h = absurd (omega (arith, h))
 divides (suc p) at h = ap (λ b. not b && eqb (at % suc p) 0) (ne_eqb (suc p) 0 (λ e. omega (arith, e)))
 
@@ -30,7 +30,7 @@ any_same f false us all some = list_any_none f us all
 any_same f true [] all some = absurd (omega (arith, some))
 any_same f true (u ∷ us) all some = ap (λ c. c || list_any f us) (all 0 u (omega arith))
 
-some_roots : (t : Tables) (q : ℕ) → root_period t ≡ Some q → 0 < length (root_modules t)
+pub some_roots : (t : Tables) (q : ℕ) → root_period t ≡ Some q → 0 < length (root_modules t)
 some_roots t q is = by_roots (root_modules t) refl
   where
     by_roots : (us : List ℕ) → root_modules t ≡ us → 0 < length (root_modules t)

@@ -1,31 +1,22 @@
 -- What the calls of an instant ask for, from what the machine holds before it.
-use Rattle.std.proofs.Common.{◌≡◌, ℕ, ◌-◌, ◌≤◌, true, false, ◌&&◌, ltb, List, [], get_or, Option, IfSome, refl, sym, ap, ◌∙◌, arith, subst}
+use Rattle.std.proofs.Common.{◌≡◌, ℕ, ◌-◌, ◌≤◌, true, false, ◌&&◌, ltb, List, [], length, get_or, Option, IfSome, refl, sym, ap, ◌∙◌, arith, subst}
 use Rattle.std.proofs.lemmas.Bool.{ltb-false}
 use Rattle.htl_model.specs.Tables.{Tables, is_concrete}
 use Rattle.htl_walk.specs.declared.job.Job.{Job}
-use Rattle.htl_walk.specs.declared.schedule.SInstr.{SInstr}
 use Rattle.htl_walk.specs.Walk.{job_at}
 use Rattle.htl_walk.proofs.Work.{job_there}
 use Rattle.htl_smach.specs.Rounds as rounds
 use Rattle.htl_smach.specs.Rounds.{Round, IsTold, no_round}
 use Rattle.htl_smach.proofs.Telling.{pending_is}
-use Rattle.htl_refine.specs.Records.{Round as Plan}
+use Rattle.htl_refine.specs.ListPlans.{ListPlan as Plan}
 use Rattle.htl_emach.specs.Contents.{Content}
-use Rattle.htl_machine.specs.Follows.{Held, DeskStands, DeskAt}
+use Rattle.htl_machine.specs.Follows.{DeskStands, DeskAt}
 use Rattle.htl_machine.specs.Recording.{AreOf, Records}
 use Rattle.htl_machine.proofs.Releasing.{flag_at}
-use Rattle.htl_model.specs.declared.event.Event.{Event}
 use Rattle.htl_model.specs.declared.parts.Inv.{Inv}
 use Rattle.htl_model.specs.declared.state.Stay.{Stay}
 use Rattle.std.proofs.lemmas.Option.{slice_get_within}
-use Rattle.htl_ecode.specs.declared.ecode.ECode.{ECode}
-use Rattle.htl_emach.specs.Calendars.{Standing}
-use Rattle.htl_emach.specs.Shapes.{HasValues}
 use Rattle.htl_machine.specs.Casts.{IsCast, HaveWindows}
-use Rattle.htl_machine.specs.Values.{values_before}
-use Rattle.htl_console.specs.declared.shown.Shown.{Shown}
-use Rattle.htl_machine.specs.Machines.{Counts}
-use Rattle.htl_machine.specs.Wholes.{Whole}
 
 -- no release before the instant is left untold
 pub stands_told : (p : Plan) (s now : ℕ) (r : Round) → s ≤ now → DeskStands p s now r → IsTold r now
@@ -37,13 +28,17 @@ stands_told p s now r past f q pend =
     let late : now - s ≤ (job_at p.jobs q).release = ltb-false (job_at p.jobs q).release (now - s) (sym (ap (λ b. b && ltb (job_at p.jobs q).release (now - s)) here) ∙ flag) in
     omega (arith, late, f.start, ap (λ js. (job_at js q).release) f.jobs, past)
 
--- before the first instant there is no round
-pub first_desk : (r : Round) → r ≡ no_round → rounds.Stands r [] → DeskAt (record { jobs = []; lengths = []; schedule = [] }) 0 0 0 r
+-- where there is no list
+abbrev pub no_list : Plan
+no_list = record { jobs = []; lengths = []; first = record { time = 0; left = [] }; schedule = [] }
+
+-- before the first instant there is none
+pub first_desk : (r : Round) → r ≡ no_round → rounds.Stands r [] → DeskAt no_list 0 0 0 r
 first_desk r none st =
     record {
       start = ap (λ (z : Round). z.start) none;
       jobs = ap (λ (z : Round). z.jobs) none;
-      lengths = ap (λ (z : Round). z.lengths) none;
+      lengths = ap (λ (z : Round). length z.lengths) none ∙ sym (ap (λ (z : Round). length z.jobs) none);
       first = ap (λ (z : Round). z.first) none;
       place = ap (λ (z : Round). z.place) none;
       running = ap (λ (z : Round). z.running) none;
@@ -53,10 +48,10 @@ first_desk r none st =
 
 -- so no record is left, and the world stays
 pub first_recorded : (t : Tables) (at : ℕ) (r d : Round) (w v : Content) → r ≡ no_round → rounds.Stands r [] → Records t r w d v [] at → v ≡ w
-first_recorded t at r d w v none st rec = (rec (record { jobs = []; lengths = []; schedule = [] }) 0 0 0 refl (omega arith) (omega arith) (first_desk r none st)).1
+first_recorded t at r d w v none st rec = (rec no_list 0 0 0 refl (omega arith) (omega arith) (first_desk r none st)).1
 
-pub first_left : (t : Tables) (at : ℕ) (r d : Round) (w v : Content) → r ≡ no_round → rounds.Stands r [] → Records t r w d v [] at → DeskAt (record { jobs = []; lengths = []; schedule = [] }) 0 0 0 d
-first_left t at r d w v none st rec = (rec (record { jobs = []; lengths = []; schedule = [] }) 0 0 0 refl (omega arith) (omega arith) (first_desk r none st)).0
+pub first_left : (t : Tables) (at : ℕ) (r d : Round) (w v : Content) → r ≡ no_round → rounds.Stands r [] → Records t r w d v [] at → DeskAt no_list 0 0 0 d
+first_left t at r d w v none st rec = (rec no_list 0 0 0 refl (omega arith) (omega arith) (first_desk r none st)).0
 
 pub first_over : (t : Tables) (at : ℕ) (r d : Round) (w v : Content) → r ≡ no_round → rounds.Stands r [] → Records t r w d v [] at → d.running ≡ false
 first_over t at r d w v none st rec = (first_left t at r d w v none st rec).running
@@ -66,7 +61,3 @@ pub cast_of : (t : Tables) (stays : List (Option Stay)) (s : ℕ) (jobs : List J
 cast_of t stays s jobs c windows p j at here =
     let st = c.stands p j at here (omega (arith, windows p j at here)) in
     (slice_get_within t.invs j.inv st.0 st.2.known, subst (λ (o : Option Inv). IfSome o (λ x. is_concrete t x ≡ true)) (sym st.2.known) st.2.concrete)
-
--- the values before the instant are of their types
-pub values_fit : (t : Tables) (code : ECode) (schedules : List (List SInstr)) (show : Shown) (es : List Event) (now : ℕ) (e : Standing) (m : Held) (n : Counts) (written : List ℕ) → Whole t code schedules show es now e m n written → HasValues t (values_before t es now)
-values_fit t code schedules show es now e m n written f = subst (HasValues t) f.stands.up_to.values.values f.stands.up_to.shape.values

@@ -16,8 +16,7 @@ use Rattle.htl_console.specs.Lines.{done_line, step_line}
 use Rattle.htl_console.specs.Shows.{shows_jobs}
 use Rattle.htl_machine.specs.declared.tally.Tally.{Tally}
 use Rattle.htl_machine.specs.Counts.{one_record, with_records}
-use Rattle.htl_refine.specs.Records.{Round as Plan}
-use Rattle.htl_refine.specs.Records.{walk_of}
+use Rattle.htl_refine.specs.ListPlans.{ListPlan as Plan, list_walk}
 use Rattle.htl_machine.specs.Follows.{DeskAt}
 use Rattle.htl_machine.specs.Leaving.{due_by}
 use Rattle.htl_machine.specs.Recording.{IsRecording}
@@ -92,7 +91,7 @@ with_more (x ∷ ls) l n = with_more ls l (one_record x.finished n)
 record IsNext (p : Plan) (s k at : ℕ) (r : Round) (l : Left) : Type 0 where
   less : r.place < due_by p s at
   past : k ≤ r.place
-  there : slice_get (drop k (told_from s 0 (walk_of p))) (r.place - k) ≡ Some l
+  there : slice_get (drop k (told_from s 0 (list_walk p))) (r.place - k) ≡ Some l
 
 next_is : (p : Plan) (s k m d at : ℕ) (r : Round) (code : List SInstr) (l : Left) → p.schedule ≡ code → s ≤ at → k ≤ m → m ≤ due_by p s at → DeskAt p s m d r → next_left r code at ≡ Some l → IsNext p s k at r l
 next_is p s k m d at r code l same past low few was e =
@@ -103,9 +102,9 @@ next_is p s k m d at r code l same past low few was e =
       less = omega (arith, less, was.place);
       past = omega (arith, low, was.place);
       there =
-          get_drop (told_from s 0 (walk_of p)) k (r.place - k)
-          ∙ ap (slice_get (told_from s 0 (walk_of p))) (let z : k + (r.place - k) ≡ m = omega (arith, low, was.place) in z)
-          ∙ told_get s 0 (walk_of p) m
+          get_drop (told_from s 0 (list_walk p)) k (r.place - k)
+          ∙ ap (slice_get (told_from s 0 (list_walk p))) (let z : k + (r.place - k) ≡ m = omega (arith, low, was.place) in z)
+          ∙ told_get s 0 (list_walk p) m
           ∙ ap (option_map (told s (0 + m))) x.1
           ∙ ap (λ z. Some (told s z x.0)) (let z : 0 + m ≡ m = omega arith in z)
           ∙ ap (λ z. Some z) (sym one);
@@ -169,7 +168,7 @@ printing_step t show sel r0 r n u0 u jobs code at l w0 w v f0 f g n0 m m' x h i 
   where
     more : (p : Plan) (s k : ℕ) → IsNext p s k at r l → n.place ≡ suc r.place → some_records p s k (r.place - k) ++ l ∷ [] ≡ some_records p s k (n.place - k)
     more p s k is place =
-        sym (one_more (drop k (told_from s 0 (walk_of p))) (r.place - k) l is.there)
+        sym (one_more (drop k (told_from s 0 (list_walk p))) (r.place - k) l is.there)
         ∙ ap (some_records p s k) (let z : suc (r.place - k) ≡ n.place - k = omega (arith, place, is.past) in z)
 
 pub printing_cut : {T S E F : Type 0} (t : Tables) (show : Shown) (sel : ℕ) (r0 r : Round) (u0 u : Content) (jobs : List Job) (code : List SInstr) (at : ℕ) (l : Left) (w0 w v : Option (List ℕ)) (f0 f g : ℕ) (n0 m : Tally) (x : E) (y : F)
@@ -181,7 +180,7 @@ printing_cut {S = S} {F = F} t show sel r0 r u0 u jobs code at l w0 w v f0 f g n
     let is = next_is p s k go.0 d at r code l same past go.1 go.2 go.3 e in
     let text = record_text t show p sel in
     let front = some_records p s k (r.place - k) in
-    let zs = drop k (told_from s 0 (walk_of p)) in
+    let zs = drop k (told_from s 0 (list_walk p)) in
     let rest = take (due_by p s at - k - suc (r.place - k)) (drop (suc (r.place - k)) zs) in
     let whole : joined text front ++ (record_lines t show jobs code sel l ++ joined text rest) ≡ joined text (some_records p s k (due_by p s at - k)) =
     ap (λ z. joined text front ++ (z ++ joined text rest)) (line_is t show sel p jobs code l same (sym go.3.jobs ∙ h.are))

@@ -1,5 +1,5 @@
 -- Over instants at which nothing is due a machine goes on as it stands.
-use Rattle.std.proofs.Common.{◌≡◌, ℕ, zero, suc, ◌+◌, ◌-◌, ◌*◌, ◌/◌, ◌%◌, ◌<◌, ◌≤◌, Bool, true, false, cond, ◌&&◌, ◌||◌, not, eqb, List, [], ◌∷◌, ◌++◌, length, get_or, slice_get, map, take, Option, Some, None, IfSome, ℤ, pos, negsuc, refl, sym, ap, ap₂, ◌∙◌, subst, arith, ◌⊎◌, inl, inr}
+use Rattle.std.proofs.Common.{◌≡◌, ℕ, zero, suc, ◌+◌, ◌-◌, ◌*◌, ◌/◌, ◌%◌, ◌<◌, ◌≤◌, Bool, true, false, cond, ◌||◌, not, eqb, List, [], ◌∷◌, ◌++◌, length, get_or, slice_get, map, Option, Some, None, IfSome, ℤ, pos, negsuc, refl, sym, ap, ap₂, ◌∙◌, subst, arith, inl, inr}
 use Rattle.std.proofs.lemmas.Bool.Decides.{nat_tests}
 use Rattle.std.specs.Io.KnownBytes.{append_known}
 use Rattle.std.proofs.lemmas.List.{append-nil}
@@ -8,17 +8,15 @@ use Rattle.htl_model.specs.declared.event.Event.{Event}
 use Rattle.htl_model.specs.declared.line.Line.{Line}
 use Rattle.htl_model.specs.declared.line.Line.TheVariants.{ValueLine, ModeLine}
 use Rattle.htl_model.specs.declared.parts.Comm.{Comm}
-use Rattle.htl_model.specs.declared.state.State.{State}
 use Rattle.htl_model.specs.declared.state.Stay.{Stay}
 use Rattle.htl_model.specs.Functions.{same}
 use Rattle.htl_model.specs.Lines.{lines_text}
 use Rattle.htl_model.specs.Lists.{joined, up_to}
 use Rattle.htl_model.specs.Meaning.{state, before, stay_of, value_in, mode_in, value_line, mode_line, value_lines, same_mode}
 use Rattle.htl_model.specs.Ranges.{AreInRange, IsModeThat, parent_of}
-use Rattle.htl_model.specs.Selections.{root_period}
+use Rattle.htl_model.specs.Frames.{hyper}
 use Rattle.htl_model.specs.Tables.{Tables, mode_period}
 use Rattle.htl_walk.specs.declared.schedule.SInstr.{SInstr}
-use Rattle.htl_smach.specs.declared.left.Left.{Left}
 use Rattle.htl_smach.specs.Rounds as rounds
 use Rattle.htl_smach.specs.Rounds.{next_left}
 use Rattle.htl_ecode.specs.declared.ecode.ECode.{ECode}
@@ -26,7 +24,6 @@ use Rattle.htl_ecode.specs.Paths.{Done, e_path}
 use Rattle.htl_ecode.proofs.Spelled.{ModeReads}
 use Rattle.htl_ecode.proofs.SpellingLaws.{spelled_departs_not}
 use Rattle.htl_emach.specs.declared.trigger.Block.{Block}
-use Rattle.htl_emach.specs.Calendars.{list_at}
 use Rattle.htl_emach.specs.Contents.{Content}
 use Rattle.htl_emach.specs.Due.{IsDueAt, IsNext, IsNextOf}
 use Rattle.htl_emach.specs.Following.{phase_path}
@@ -36,26 +33,25 @@ use Rattle.htl_emach.proofs.States.{module_at, parent_at, new_stays}
 use Rattle.htl_emach.proofs.Switching.{Sound}
 use Rattle.htl_object.specs.declared.object.Object.{Object}
 use Rattle.htl_object.specs.Accepted.{IsAccepted}
-use Rattle.htl_refine.specs.Records.{records}
+use Rattle.htl_refine.specs.FrameRecords.{records}
 use Rattle.htl_console.specs.declared.shown.Shown.{Shown}
 use Rattle.htl_console.specs.Shows.{shows_code, shows_values}
 use Rattle.htl_machine.specs.declared.tally.Tally.{Tally}
 use Rattle.htl_machine.specs.Calls.{Seen, IsUpTo, number_by, schedule_by, text_between}
 use Rattle.htl_machine.specs.Doing.{path_lines}
-use Rattle.htl_machine.specs.Follows.{IsLoaded, period_or}
+use Rattle.htl_machine.specs.Follows.{IsLoaded}
 use Rattle.htl_machine.specs.Instant.{IsReadyAt}
 use Rattle.htl_machine.specs.Leaving.{due_by}
 use Rattle.htl_machine.specs.Opening.{IsOpened, closing_text}
-use Rattle.htl_machine.specs.Plans.{AreRegular, round_start}
+use Rattle.htl_machine.specs.Plans.{AreRegular}
 use Rattle.htl_machine.specs.Passing.{IsPassing, ArePassing}
 use Rattle.htl_machine.specs.Programs.{lines_of, schedules_of}
 use Rattle.htl_machine.specs.Recording.{Records}
 use Rattle.htl_machine.specs.Running.{replay}
 use Rattle.htl_machine.specs.Readiness.{desk_replay}
 use Rattle.htl_machine.specs.Sensors.{AreShown, ShowsNothing}
-use Rattle.htl_machine.specs.Texts.{e_line, record_text, records_of, round_texts, some_records}
+use Rattle.htl_machine.specs.Texts.{e_line, record_text, records_of, some_records}
 use Rattle.htl_machine.specs.Timing.{begins}
-use Rattle.htl_machine.specs.Values.{values_before}
 use Rattle.htl_machine.proofs.Accepted.{accepted_is_loaded}
 use Rattle.htl_machine.proofs.After.{beginning, begins_some, closed_values, desk_goes_on, lines_are_composed, next_up_to, passed_of, records_go_on, selection_goes_on, text_goes_on}
 use Rattle.htl_machine.proofs.Agreeing.{modes_open}
@@ -66,10 +62,12 @@ use Rattle.htl_machine.proofs.Plain.{apart, down}
 use Rattle.htl_machine.proofs.Ready.{ready}
 use Rattle.htl_machine.proofs.Recording.{recording_start, recording_end}
 use Rattle.htl_machine.proofs.Telling.{up_to_none}
-use Rattle.htl_machine.proofs.TellingLoaded.{loaded_rounds}
-use Rattle.htl_machine.proofs.TellingText.{records_are}
+use Rattle.htl_machine.proofs.TellingLoaded.{loaded_records}
 use Rattle.htl_machine.proofs.Wholly.{modes_read}
 use Rattle.htl_machine.specs.Quiet.{IsQuiet, AreQuiet, IsEmpty, PassOver}
+use Rattle.htl_machine.specs.Rounds.{period_or, round_start}
+use Rattle.htl_machine.proofs.Loaded.{loaded_rounds}
+use Rattle.htl_machine.proofs.LoadedLists.{loaded_begun, loaded_keys}
 use Rattle.htl_machine.proofs.Idle.{IsIdle, idle, round_ends}
 
 -- ---- where nothing changes there are no lines
@@ -187,11 +185,12 @@ module _ (m : Seen) (es : List Event) (n : ℕ) (accepted : IsAccepted m.object)
   never b =
       let h = beginning t code schedules loaded reads es u.kept.within (suc n) b in
       let p = h.0 in
-      let regular : AreRegular t es p = subst (AreRegular t es) (ap period_or h.1) (loaded.rounds es u.kept.within).regular in
+      let regular : AreRegular t es p = subst (λ o. AreRegular t es (period_or o)) (sym (loaded_keys t schedules loaded) ∙ h.1) (loaded_rounds t schedules loaded es u.kept.within).regular in
+      let start = (loaded_begun t schedules loaded es u.kept.within p h.1 (suc n) h.2).0 in
       let inside = begins_some m es (suc n) accepted read u b in
       let ends : suc n ≡ round_start p n + p = elim (apart (suc n) (p * (n / p) + p)) [
         | inl e ↦ e
-        | inr d ↦ absurd (omega (arith, h.2, goes_on p n regular.some d, down p n))
+        | inr d ↦ absurd (omega (arith, start, goes_on p n regular.some d, down p n))
       ] in
       by p regular inside ends (stay_of (state t es n).stays 0) refl
     where
@@ -245,7 +244,7 @@ module _ (m : Seen) (es : List Event) (n : ℕ) (accepted : IsAccepted m.object)
   abbrev tally : Tally
   tally = record { jobs = m.jobs; e = m.e; s = m.s }
 
-  none_left : records_of m.object.tables (schedules_of m.object) es (root_period m.object.tables) (suc n) ≡ []
+  none_left : records_of m.object.tables (schedules_of m.object) es (hyper m.object.tables) (suc n) ≡ []
   none_left =
       records_go_on m es (suc n) accepted read u steps [] refl refl is_ready none_begins
       ∙ ap (λ k. some_records is_ready.plan is_ready.start is_ready.place k ++ []) none_due
@@ -291,7 +290,7 @@ module _ (m : Seen) (es : List Event) (n : ℕ) (accepted : IsAccepted m.object)
       ∙ no_change_lines t (shows_values m.show) (value_lines t es (suc n)) none_written
 
   pub no_records : records m.object.tables (schedules_of m.object) es (suc n) ≡ []
-  no_records = no_items _ (records t schedules es (suc n)) (records_are t schedules es (loaded_rounds t schedules es loaded u.kept.within) (suc n) ∙ none_left)
+  no_records = no_items _ (records t schedules es (suc n)) (loaded_records t schedules es loaded u.kept.within (suc n) ∙ none_left)
 
   pub no_path : e_path m.object.tables m.object.ecode es (suc n) ≡ []
   no_path = still.path

@@ -1,20 +1,18 @@
--- Before an instant the S machine stands ready, by the schedule of the selection that the machine keeps.
-use Rattle.std.proofs.Common.{◌≡◌, ◌≤◌, ◌<◌, ℕ, zero, suc, ◌-◌, false, List, [], ◌∷◌, length, get_or, Option, Some, None, IfSome, refl, sym, ap, ◌∙◌, subst, arith}
+-- Before an instant the S machine stands ready, by the list whose number the machine keeps.
+use Rattle.std.proofs.Common.{◌≡◌, ◌≤◌, ◌<◌, ℕ, zero, suc, ◌-◌, false, List, [], length, get_or, Option, Some, None, IfSome, refl, sym, ap, ◌∙◌, subst, arith}
 use Rattle.std.proofs.lemmas.Option.{get_or_from_slice_get}
 use Rattle.htl_emach.specs.Contents.{Content}
 use Rattle.htl_form.proofs.Places.{all_at, item_at}
 use Rattle.htl_object.proofs.OneRound.{schedules_are}
 use Rattle.htl_object.specs.Accepted.{IsAccepted}
 use Rattle.htl_model.specs.declared.event.Event.{Event}
-use Rattle.htl_model.specs.declared.parts.Module.{Module}
 use Rattle.htl_model.specs.Lists.{joined}
 use Rattle.htl_model.specs.Meaning.{state}
-use Rattle.htl_model.specs.Ranges.{AreInRange}
-use Rattle.htl_model.specs.Selections.{root_period}
+use Rattle.htl_model.specs.Frames.{hyper}
 use Rattle.htl_model.specs.Tables.{Tables}
 use Rattle.htl_object.specs.declared.object.Object.{Object}
 use Rattle.htl_object.specs.Ranges.{IsShort}
-use Rattle.htl_refine.specs.Records.{Round as Plan, modes_at, walk_of}
+use Rattle.htl_refine.specs.Records.{modes_at, AreTookWithin}
 use Rattle.htl_refine.proofs.Inherit.{map_at}
 use Rattle.htl_refine.proofs.RootSelection.{below_count}
 use Rattle.htl_refine.proofs.StateLaws.{states_are_selections}
@@ -24,27 +22,28 @@ use Rattle.htl_walk.specs.declared.schedule.SInstr.{SInstr}
 use Rattle.htl_walk.specs.declared.schedule.Schedule.{Schedule}
 use Rattle.htl_walk.specs.Walk.{InForm}
 use Rattle.htl_machine.specs.Calls.{Seen, IsUpTo, GoesBy, number_by, schedule_by}
-use Rattle.htl_machine.specs.Casts.{IsCast, HaveWindows}
-use Rattle.htl_machine.specs.Follows.{AreKept, DeskFollows, DeskStands, period_or}
+use Rattle.htl_machine.specs.Follows.{DeskFollows, DeskStands, IsLoaded}
 use Rattle.htl_machine.specs.Instant.{IsReadyAt}
 use Rattle.htl_machine.specs.Leaving.{due_by}
-use Rattle.htl_machine.specs.Plans.{round_start, left_before, with_records}
+use Rattle.htl_machine.specs.Plans.{with_records}
 use Rattle.htl_machine.specs.Programs.{schedules_of}
 use Rattle.htl_machine.specs.Recording.{AreOf}
-use Rattle.htl_machine.specs.Rounds.{plan_of, selection_of}
-use Rattle.htl_machine.specs.Texts.{record_text, round_texts, some_records}
+use Rattle.htl_machine.specs.Rounds.{selection_of, round_start}
+use Rattle.htl_machine.specs.Texts.{record_text, list_texts, some_records}
+use Rattle.htl_machine.specs.ListTurns.{Turn, AreTurns, turn_walk, left_before}
+use Rattle.htl_machine.specs.RunLists.{turn_at}
+use Rattle.htl_model.specs.Selections.{root_period}
 use Rattle.htl_machine.proofs.Accepted.{accepted_is_loaded}
 use Rattle.htl_machine.proofs.Alone.{records_nothing}
 use Rattle.htl_machine.proofs.Desking.{desk_opens}
-use Rattle.htl_machine.proofs.Loaded.{some_period, root_there}
+use Rattle.htl_machine.proofs.Loaded.{some_period}
 use Rattle.htl_machine.proofs.Meeting.{records_are}
-use Rattle.htl_machine.proofs.Plain.{down}
-use Rattle.htl_machine.proofs.Premises.{stands_told, first_desk, first_recorded, cast_of}
+use Rattle.htl_machine.proofs.Premises.{no_list, stands_told, first_desk, first_recorded}
+use Rattle.htl_machine.proofs.LoadedLists.{loaded_keys, loaded_listed, loaded_of, loaded_round, loaded_turns, loaded_code}
 use Rattle.htl_machine.proofs.FrameValues.{count_grows}
-use Rattle.htl_machine.proofs.RoundServed.{round_windows}
 use Rattle.htl_machine.proofs.Standing.{none_some}
 
--- ---- where there is no round
+-- ---- where there is no list
 
 stands_none : Stands no_round []
 stands_none =
@@ -59,34 +58,27 @@ stands_none =
 told_none : (now : ℕ) → IsTold no_round now
 told_none now p e = absurd (let z : ⊥ = cc in z)
 
-no_modules : (t : Tables) → AreInRange t → root_period t ≡ None → t.modules ≡ []
-no_modules t range root = by t.modules refl
-  where
-    by : (us : List Module) → t.modules ≡ us → t.modules ≡ []
-    by [] e = e
-    by (u ∷ us) e =
-        let count : length t.modules ≡ suc (length us) = ap length e in
-        let r = root_there t range (omega (arith, count)) in
-        none_some r.0 (sym root ∙ r.1)
-
--- the selection whose schedule a round goes by has one
-selected_below : (o : Object) (es : List Event) (s q : ℕ) → IsAccepted o → root_period o.tables ≡ Some q → selection_of o.tables (state o.tables es s).stays < length o.schedules
-selected_below o es s q accepted root =
-    let ranges = accepted.spelled.formed.ranges in
-    let range = ranges.tables in
+-- the node whose list runs has a list
+node_below : (o : Object) (es : List Event) (n q : ℕ) → IsAccepted o → AreTookWithin o.tables es → hyper o.tables ≡ Some q → (turn_at o.tables (schedules_of o) es n).node < length o.schedules
+node_below o es n q accepted within e =
+    let loaded = accepted_is_loaded o accepted in
+    let range = loaded.range in
+    let root : root_period o.tables ≡ Some q = sym (loaded_keys o.tables (schedules_of o) loaded) ∙ e in
+    let s = round_start q n in
     let b = below_count o.tables (modes_at o.tables es s) range (states_are_selections o.tables range es s) (some_period o.tables q range root).1 in
-    omega (arith, b, schedules_are o accepted.spelled.formed)
+    let is : (turn_at o.tables (schedules_of o) es n).node ≡ selection_of o.tables (state o.tables es s).stays = ap (λ (u : Turn). u.node) (loaded_round o.tables (schedules_of o) loaded es within q root n) in
+    omega (arith, b, is, schedules_are o accepted.spelled.formed)
 
 module _ (m : Seen) (es : List Event) (now : ℕ) where
   ready_none : m.held.desk ≡ no_round
-      → ((w : Content) → w ≡ with_records m.object.tables (plan_of m.object.tables (schedules_of m.object) es) (period_or (root_period m.object.tables)) now w)
-      → [] ≡ (round_texts m.object.tables m.object.ecode (schedules_of m.object) es m.show (root_period m.object.tables) now).0
+      → ((w : Content) → w ≡ with_records m.object.tables (turn_at m.object.tables (schedules_of m.object) es) now w)
+      → [] ≡ (list_texts m.object.tables (schedules_of m.object) es m.show (hyper m.object.tables) now).0
       → IsReadyAt m es now []
   ready_none none still text =
       let stop : m.held.desk.running ≡ false = ap (λ (r : Round). r.running) none in
       let st : Stands m.held.desk [] = subst (λ (r : Round). Stands r []) (sym none) stands_none in
       record {
-        plan = record { jobs = []; lengths = []; schedule = [] };
+        plan = no_list;
         start = 0;
         place = 0;
         offset = 0;
@@ -105,93 +97,88 @@ module _ (m : Seen) (es : List Event) (now : ℕ) where
 
 -- ---- where one stands
 
-module _ (m : Seen) (es : List Event) (n q : ℕ) (accepted : IsAccepted m.object) (up : IsUpTo m es (suc n)) (root : root_period m.object.tables ≡ Some q)
-    (f : DeskStands (plan_of m.object.tables (schedules_of m.object) es (round_start q n)) (round_start q n) (suc n) m.held.desk)
-    (goes : m.selection ≡ Some (selection_of m.object.tables (state m.object.tables es (round_start q n)).stays)) where
+module _ (m : Seen) (es : List Event) (n q : ℕ) (accepted : IsAccepted m.object) (up : IsUpTo m es (suc n)) (root : hyper m.object.tables ≡ Some q)
+    (f : DeskStands (turn_at m.object.tables (schedules_of m.object) es n).plan (turn_at m.object.tables (schedules_of m.object) es n).frame (suc n) m.held.desk)
+    (goes : m.selection ≡ Some (turn_at m.object.tables (schedules_of m.object) es n).node) where
   abbrev t : Tables
   t = m.object.tables
 
-  abbrev plan : ℕ → Plan
-  plan = plan_of m.object.tables (schedules_of m.object) es
+  abbrev turn : ℕ → Turn
+  turn = turn_at m.object.tables (schedules_of m.object) es
 
-  abbrev s : ℕ
-  s = round_start q n
+  abbrev u : Turn
+  u = turn_at m.object.tables (schedules_of m.object) es n
 
-  kept_rounds : AreKept t (schedules_of m.object) es
-  kept_rounds = (accepted_is_loaded m.object accepted).rounds es up.kept.within
+  loaded : IsLoaded m.object.tables (schedules_of m.object)
+  loaded = accepted_is_loaded m.object accepted
 
-  cast : IsCast t (state t es s).stays s s (plan s).jobs
-  cast = subst (λ z. IsCast t (state t es (round_start z n)).stays (round_start z n) (round_start z n) (plan (round_start z n)).jobs) (ap period_or root) (kept_rounds.sound.casts n)
+  turns : AreTurns m.object.tables es (turn_at m.object.tables (schedules_of m.object) es)
+  turns = loaded_turns t (schedules_of m.object) loaded es up.kept.within
 
-  windows : HaveWindows (plan s).jobs
-  windows =
-      let r = plan (round_start (period_or (root_period t)) n) in
-      subst (λ z. HaveWindows (plan (round_start z n)).jobs) (ap period_or root) (round_windows r.jobs r.lengths r.schedule (kept_rounds.sound.meets n))
+  past : u.frame ≤ suc n
+  past = omega (arith, turns.frames.past n)
 
-  past : s ≤ suc n
-  past = omega (arith, down q n)
-
-  short : length (plan s).schedule ≤ 4294967295
+  short : length u.plan.schedule ≤ 4294967295
   short =
-      let sel = selection_of t (state t es s).stays in
-      let x = item_at m.object.schedules sel (selected_below m.object es s q accepted root) in
-      let is : get_or (schedules_of m.object) sel [] ≡ x.0.instrs =
-      get_or_from_slice_get (schedules_of m.object) sel x.0.instrs [] (map_at (λ (y : Schedule). y.instrs) m.object.schedules sel x.0 x.1) in
-      subst (λ (is : List SInstr). length is ≤ 4294967295) (sym is) (all_at IsShort m.object.schedules sel x.0 accepted.spelled.formed.ranges.short x.1)
+      let x = item_at m.object.schedules u.node (node_below m.object es n q accepted up.kept.within root) in
+      let is : get_or (schedules_of m.object) u.node [] ≡ x.0.instrs =
+      get_or_from_slice_get (schedules_of m.object) u.node x.0.instrs [] (map_at (λ (y : Schedule). y.instrs) m.object.schedules u.node x.0 x.1) in
+      subst (λ (is : List SInstr). length is ≤ 4294967295) (sym (loaded_code t (schedules_of m.object) loaded es up.kept.within q root n ∙ is)) (all_at IsShort m.object.schedules u.node x.0 accepted.spelled.formed.ranges.short x.1)
 
-  ready_round : IsReadyAt m es (suc n) (plan s).schedule
-  ready_round =
+  ready_list : IsReadyAt m es (suc n) u.plan.schedule
+  ready_list =
+      let listed = (loaded_listed t (schedules_of m.object) loaded es up.kept.within q root).each n in
+      let k = left_before u (suc n) in
       record {
-        plan = plan s;
-        start = s;
-        place = left_before plan s (suc n);
-        offset = suc n - s;
+        plan = u.plan;
+        start = u.frame;
+        place = k;
+        offset = suc n - u.frame;
         same = refl;
         past = past;
-        few = count_grows (suc n - s) (suc (suc n) - s) (walk_of (plan s)) (omega arith);
-        was = desk_opens (plan s) s (suc n) m.held.desk f;
-        of = subst (AreOf t) (sym f.jobs) (cast_of t (state t es s).stays s (plan s).jobs cast windows);
-        form = λ runs. (q, subst (λ (js : List Job). InForm (length js) q (plan s).schedule) (sym f.jobs) (kept_rounds.form q root n));
+        few = count_grows (suc n - u.frame) (suc (suc n) - u.frame) (turn_walk u) (omega arith);
+        was = desk_opens u.plan u.frame (suc n) m.held.desk f;
+        of = subst (AreOf t) (sym f.jobs) (loaded_of t (schedules_of m.object) loaded es up.kept.within q root n);
+        form = λ runs. (u.to, subst (λ (js : List Job). InForm (length js) u.to u.plan.schedule) (sym f.jobs) listed.form);
         short = short;
         stands = f.stands;
-        told = stands_told (plan s) s (suc n) m.held.desk past f;
-        recorded = λ d v rec.
-            records_are t plan q n m.held.desk d m.held.world v f rec ∙ ap (λ o. with_records t plan (period_or o) (suc n) m.held.world) (sym root);
+        told = stands_told u.plan u.frame (suc n) m.held.desk past f;
+        recorded = λ d v rec. records_are t turn n m.held.desk d m.held.world v past f rec;
         lines =
-            ap (λ o. joined (record_text t m.show (plan s) (number_by o)) (some_records (plan s) s (left_before plan s (suc n)) (due_by (plan s) s (suc n) - left_before plan s (suc n)))) goes
-            ∙ ap (λ o. (round_texts t m.object.ecode (schedules_of m.object) es m.show o (suc n)).0) (sym root);
+            ap (λ o. joined (record_text t m.show u.plan (number_by o)) (some_records u.plan u.frame k (due_by u.plan u.frame (suc n) - k))) goes
+            ∙ ap (λ o. (list_texts t (schedules_of m.object) es m.show o (suc n)).0) (sym root);
       }
 
 pub ready : (m : Seen) (es : List Event) (now : ℕ) (idle : List SInstr) → IsAccepted m.object → IsUpTo m es now → m.held.reading ≤ now → idle ≡ [] → IsReadyAt m es now (schedule_by m.object idle m.selection)
 ready m es now idle accepted up later nothing =
-    by (root_period m.object.tables) refl now up up.before.records.desk up.before.records.goes
+    by (hyper m.object.tables) refl now up up.before.records.desk up.before.records.goes
   where
     none_is : m.selection ≡ None → [] ≡ schedule_by m.object idle m.selection
     none_is sel = sym (ap (schedule_by m.object idle) sel ∙ nothing)
 
-    by : (o : Option ℕ) → root_period m.object.tables ≡ o → (at : ℕ) → IsUpTo m es at → DeskFollows (plan_of m.object.tables (schedules_of m.object) es) o at m.held.desk → GoesBy m.object.tables es o at m.selection
+    by : (o : Option ℕ) → hyper m.object.tables ≡ o → (at : ℕ) → IsUpTo m es at → DeskFollows (turn_at m.object.tables (schedules_of m.object) es) o at m.held.desk → GoesBy (turn_at m.object.tables (schedules_of m.object) es) o at m.selection
         → IsReadyAt m es at (schedule_by m.object idle m.selection)
     by None root at u desk goes =
         let loaded = accepted_is_loaded m.object accepted in
         subst (IsReadyAt m es at) (none_is goes)
-        (ready_none m es at desk (λ w. sym (records_nothing m.object.tables (no_modules m.object.tables loaded.range root) (schedules_of m.object) loaded es at w))
-        (ap (λ o. (round_texts m.object.tables m.object.ecode (schedules_of m.object) es m.show o at).0) (sym root)))
+        (ready_none m es at desk (λ w. sym (records_nothing m.object.tables (schedules_of m.object) es root at w))
+        (ap (λ o. (list_texts m.object.tables (schedules_of m.object) es m.show o at).0) (sym root)))
     by (Some q) root zero u desk goes =
         subst (IsReadyAt m es zero) (none_is goes)
-        (ready_none m es zero desk (λ w. refl) (ap (λ o. (round_texts m.object.tables m.object.ecode (schedules_of m.object) es m.show o zero).0) (sym root)))
+        (ready_none m es zero desk (λ w. refl) (ap (λ o. (list_texts m.object.tables (schedules_of m.object) es m.show o zero).0) (sym root)))
     by (Some q) root (suc n) u desk goes =
-        subst (IsReadyAt m es (suc n)) (sym (ap (schedule_by m.object idle) goes)) (ready_round m es n q accepted u root desk goes)
+        subst (IsReadyAt m es (suc n)) (loaded_code m.object.tables (schedules_of m.object) (accepted_is_loaded m.object accepted) es u.kept.within q root n ∙ sym (ap (schedule_by m.object idle) goes)) (ready_list m es n q accepted u root desk goes)
 
--- the selection that the machine keeps has a schedule
+-- the number that the machine keeps has a list
 pub selection_known : (m : Seen) (es : List Event) (now : ℕ) → IsAccepted m.object → IsUpTo m es now → IfSome m.selection (λ n. n < length m.object.schedules)
 selection_known m es now accepted up =
-    by (root_period m.object.tables) refl now up.before.records.goes
+    by (hyper m.object.tables) refl now up.before.records.goes
   where
     none : m.selection ≡ None → IfSome m.selection (λ n. n < length m.object.schedules)
     none e = subst (λ (o : Option ℕ). IfSome o (λ n. n < length m.object.schedules)) (sym e) tt
 
-    by : (o : Option ℕ) → root_period m.object.tables ≡ o → (at : ℕ) → GoesBy m.object.tables es o at m.selection → IfSome m.selection (λ n. n < length m.object.schedules)
+    by : (o : Option ℕ) → hyper m.object.tables ≡ o → (at : ℕ) → GoesBy (turn_at m.object.tables (schedules_of m.object) es) o at m.selection → IfSome m.selection (λ n. n < length m.object.schedules)
     by None root at goes = none goes
     by (Some q) root zero goes = none goes
     by (Some q) root (suc n) goes =
-        subst (λ (o : Option ℕ). IfSome o (λ n. n < length m.object.schedules)) (sym goes) (selected_below m.object es (round_start q n) q accepted root)
+        subst (λ (o : Option ℕ). IfSome o (λ n. n < length m.object.schedules)) (sym goes) (node_below m.object es n q accepted up.kept.within root)

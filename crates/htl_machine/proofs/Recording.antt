@@ -15,9 +15,8 @@ use Rattle.htl_smach.specs.Rounds.{Round, Stands, IsInForm, IsTold, next_left, m
 use Rattle.htl_smach.proofs.Answering.{answer_is}
 use Rattle.htl_emach.specs.Contents.{Content, completed}
 use Rattle.htl_emach.specs.Shapes.{IsShaped}
-use Rattle.htl_refine.specs.Records.{Round as Plan}
-use Rattle.htl_machine.specs.Plans.{complete_at, complete_by, run_records}
-use Rattle.htl_refine.specs.Records.{walk_of}
+use Rattle.htl_refine.specs.ListPlans.{ListPlan as Plan, list_walk}
+use Rattle.htl_machine.specs.Completing.{complete_at, complete_by, run_records}
 use Rattle.htl_machine.specs.Follows.{DeskAt}
 use Rattle.htl_machine.specs.Leaving.{due_by}
 use Rattle.htl_machine.specs.Recording.{AreOf, IsJobOf, Records, IsRecording}
@@ -69,7 +68,7 @@ recording_start t r w jobs code at form st told same shaped =
       told = told;
       are = same;
       shaped = shaped;
-      goes = λ p s k d e b h f. (k, omega arith, h, f, ap (λ z. run_records t p.jobs (walk_of p) z k w) (let z : 0 ≡ k - k = omega arith in z));
+      goes = λ p s k d e b h f. (k, omega arith, h, f, ap (λ z. run_records t p.jobs (list_walk p) z k w) (let z : 0 ≡ k - k = omega arith in z));
     }
 
 pub recording_step : (t : Tables) (r0 r n : Round) (w0 w v : Content) (jobs : List Job) (code : List SInstr) (at : ℕ) (l : Left) → IsRecording t r0 w0 r w jobs code at → next_left r code at ≡ Some l → n ≡ after r code (Some l)
@@ -89,10 +88,10 @@ recording_step t r0 r n w0 w v jobs code at l h e f st shaped is =
             omega (arith, g.1),
             less,
             subst (λ c. DeskAt p s (suc g.0) d (moved r c)) same (moves_on p s at d past g.0 r g.3 (subst (λ c. rounds.Stands (moved r c) c) (sym same) st')),
-            is ∙ worlds p s g.0 k d same past less g.3 g.1 ∙ ap (λ z. complete_by t p.jobs (slice_get (walk_of p) g.0) z) g.4
-                ∙ ap (λ z. complete_by t p.jobs (slice_get (walk_of p) z) (run_records t p.jobs (walk_of p) (g.0 - k) k w0)) (let z : g.0 ≡ k + (g.0 - k) = omega (arith, g.1) in z)
-                ∙ sym (run_more t p.jobs (walk_of p) (g.0 - k) k w0)
-                ∙ ap (λ z. run_records t p.jobs (walk_of p) z k w0) (let z : suc (g.0 - k) ≡ suc g.0 - k = omega (arith, g.1) in z),
+            is ∙ worlds p s g.0 k d same past less g.3 g.1 ∙ ap (λ z. complete_by t p.jobs (slice_get (list_walk p) g.0) z) g.4
+                ∙ ap (λ z. complete_by t p.jobs (slice_get (list_walk p) z) (run_records t p.jobs (list_walk p) (g.0 - k) k w0)) (let z : g.0 ≡ k + (g.0 - k) = omega (arith, g.1) in z)
+                ∙ sym (run_more t p.jobs (list_walk p) (g.0 - k) k w0)
+                ∙ ap (λ z. run_records t p.jobs (list_walk p) z k w0) (let z : suc (g.0 - k) ≡ suc g.0 - k = omega (arith, g.1) in z),
           );
     })
   where
@@ -112,7 +111,7 @@ recording_step t r0 r n w0 w v jobs code at l h e f st shaped is =
         order a b h = grind arith
 
     -- the answer is the plan's record
-    worlds : (p : Plan) (s m k d : ℕ) → p.schedule ≡ code → s ≤ at → m < due_by p s at → DeskAt p s m d r → k ≤ m → done_with t jobs l w ≡ complete_by t p.jobs (slice_get (walk_of p) m) w
+    worlds : (p : Plan) (s m k d : ℕ) → p.schedule ≡ code → s ≤ at → m < due_by p s at → DeskAt p s m d r → k ≤ m → done_with t jobs l w ≡ complete_by t p.jobs (slice_get (list_walk p) m) w
     worlds p s m k d same past less was below =
         let x = next_some p s at d past m r was less in
         let one : l ≡ told s m x.0 = some_same _ _ (sym e ∙ ap (λ c. next_left r c at) (sym same) ∙ x.2) in
@@ -131,7 +130,7 @@ recording_end t r0 r n w0 w jobs code at h e f =
       | inl a ↦ let x = next_some p s at d past g.0 r g.3 a in none_some (told s g.0 x.0) (sym e ∙ ap (λ c. next_left r c at) (sym same) ∙ x.2)
     ] in (
       subst (λ z. DeskAt p s (due_by p s at) d z) (sym f) (subst (λ m. DeskAt p s m d r) all g.3),
-      g.4 ∙ ap (λ z. run_records t p.jobs (walk_of p) (z - k) k w0) all,
+      g.4 ∙ ap (λ z. run_records t p.jobs (list_walk p) (z - k) k w0) all,
     )
   where
     order : (a b : ℕ) → a ≤ b → (a < b) ⊎ (a ≡ b)

@@ -1,23 +1,18 @@
--- The value half over a whole instant, records included, where each round is a frame: for every plan of the rounds that is sound.
-use Rattle.std.proofs.Common.{◌≡◌, ℕ, zero, suc, ◌*◌, ◌/◌, ◌⊎◌, true, List, slice_get, Some, ap, ◌∙◌, arith, inl, inr}
+-- Each round is a frame: for every plan of the rounds that is sound.
+use Rattle.std.proofs.Common.{◌≡◌, ℕ, suc, ◌*◌, ◌/◌, ◌⊎◌, List, slice_get, Some, ap, ◌∙◌, arith, inl, inr}
 use Rattle.htl_model.specs.declared.event.Event.{Event}
-use Rattle.htl_model.specs.declared.parts.Inv.{Inv}
 use Rattle.htl_model.specs.Tables.{Tables}
 use Rattle.htl_model.specs.Ranges.{AreInRange}
 use Rattle.htl_model.specs.FrameRules.{KeptApart}
-use Rattle.htl_model.specs.Meaning.{state, before, sense}
+use Rattle.htl_model.specs.Meaning.{state}
 use Rattle.htl_walk.specs.declared.job.Job.{Job}
-use Rattle.htl_emach.specs.Contents.{Content}
 use Rattle.htl_refine.specs.Records.{Round as Plan, walk_of}
 use Rattle.htl_machine.specs.Casts.{IsCast}
 use Rattle.htl_machine.specs.FramesGoOn.{Now, AreFrames}
-use Rattle.htl_machine.specs.Plans.{AreRegular, round_start, finished_before, with_records, next_world, AreSound}
-use Rattle.htl_machine.specs.Values.{Stands, ValuesFollow, HasPlaces, HasRead}
-use Rattle.htl_machine.specs.Worlds.{effects, all_writes, with_sensors}
-use Rattle.htl_machine.proofs.FrameValues as by_frames
+use Rattle.htl_machine.specs.Plans.{AreRegular, AreSound}
+use Rattle.htl_machine.specs.Rounds.{round_start}
 use Rattle.htl_machine.proofs.Plain.{down}
 use Rattle.htl_machine.proofs.RoundServed.{served_of}
-use Rattle.htl_machine.proofs.Standing.{none_some}
 use Rattle.htl_machine.proofs.Steady.{begins_or_not, stands_since, stands_until}
 
 -- the round that stands at an instant, as a frame
@@ -54,20 +49,3 @@ module _ (t : Tables) (range : AreInRange t) (kept : KeptApart t 12) (es : List 
           × ((p : ℕ) (j : Job) → slice_get (plan (round_start period n)).jobs p ≡ Some j → slice_get (plan (round_start period (suc n))).jobs p ≡ Some j))
       goes_on n (inl e) = inl e
       goes_on n (inr e) = inr (e, ap (λ z. walk_of (plan z)) e, λ p j at. ap (λ z. slice_get (plan z).jobs p) e ∙ at)
-
-  -- who is finished before an instant has read all before it
-  pub read_before : (now i : ℕ) (x : Inv) (r : ℕ) → Stands t (before t es now).stays i x r → finished_before plan period now i ≡ true → HasRead t now (finished_before plan period now) x r
-  read_before zero i x r st fin = none_some (record { mode = x.mode; start = r }) st.in_round
-  read_before (suc n) i x r st fin = by_frames.read_before t range kept es (round_now plan period) are_frames (suc n) i x r st fin
-
-  -- the value half is carried over the whole instant
-  pub values_carried : (now : ℕ) (w : Content) → ValuesFollow t es now (finished_before plan period now) w → HasPlaces t w
-      → ValuesFollow t es (suc now) (finished_before plan period (suc now)) (next_world t es plan period now w) × HasPlaces t (next_world t es plan period now w)
-  values_carried zero w f shape = by_frames.values_carried t range kept es (round_now plan period) are_frames 0 w f shape
-  values_carried (suc n) w f shape = by_frames.values_carried t range kept es (round_now plan period) are_frames (suc n) w f shape
-
-  -- after the records, the writes and the sensors the world holds the values of the instant
-  pub values_now : (now : ℕ) (w : Content) → ValuesFollow t es now (finished_before plan period now) w → HasPlaces t w
-      → (with_sensors t (sense t es) now (effects t (all_writes t now (before t es now).stays) (with_records t plan period now w))).values ≡ (state t es now).values
-  values_now zero w f shape = by_frames.values_now t range kept es (round_now plan period) are_frames 0 w f shape
-  values_now (suc n) w f shape = by_frames.values_now t range kept es (round_now plan period) are_frames (suc n) w f shape

@@ -1,11 +1,10 @@
 -- What sensors are shown stays over an instant, and what one is shown makes it wait.
-use Rattle.std.proofs.Common.{◌≡◌, ◌≢◌, ℕ, suc, ◌+◌, ◌<◌, ◌≤◌, ◌⊎◌, Bool, true, false, cond, not, eqb, List, ◌++◌, length, get_or, set, slice_get, Option, ℤ, pos, negsuc, refl, sym, ap, ◌∙◌, subst, arith, inl, inr, get_or-set_same, get_or-set_other}
+use Rattle.std.proofs.Common.{◌≡◌, ◌≢◌, ℕ, suc, ◌<◌, ◌≤◌, Bool, true, false, cond, not, eqb, List, ◌++◌, length, get_or, set, Option, ℤ, pos, negsuc, refl, sym, ap, ◌∙◌, subst, arith, get_or-set_same, get_or-set_other}
 use Rattle.std.proofs.lemmas.Bool.{eqb-true}
 use Rattle.std.proofs.lemmas.Bool.Decides.{nat_tests}
 use Rattle.htl_model.specs.declared.event.Event.{Event}
-use Rattle.htl_model.specs.declared.parts.Comm.{Comm}
 use Rattle.htl_model.specs.Functions.{same}
-use Rattle.htl_model.specs.Selections.{root_period}
+use Rattle.htl_model.specs.Frames.{hyper}
 use Rattle.htl_model.specs.Tables.{Tables}
 use Rattle.htl_smach.specs.declared.left.Left.{Left}
 use Rattle.htl_smach.specs.Rounds.{Round}
@@ -15,11 +14,10 @@ use Rattle.htl_emach.specs.Following.{phase_path}
 use Rattle.htl_object.specs.Accepted.{IsAccepted}
 use Rattle.htl_machine.specs.Calls.{Seen, IsUpTo, GoesBy}
 use Rattle.htl_machine.specs.Follows.{DeskFollows}
-use Rattle.htl_machine.specs.Machines.{Counts}
 use Rattle.htl_machine.specs.Marks.{is_marked}
 use Rattle.htl_machine.specs.Noting.{MarksChanges}
 use Rattle.htl_machine.specs.Programs.{schedules_of}
-use Rattle.htl_machine.specs.Rounds.{plan_of}
+use Rattle.htl_machine.specs.RunLists.{turn_at}
 use Rattle.htl_machine.specs.Texts.{records_of}
 use Rattle.htl_machine.specs.Waiting.{MarksWaiting}
 use Rattle.htl_machine.specs.Wholes.{Passed}
@@ -33,8 +31,8 @@ use Rattle.htl_machine.proofs.Composing.{counts_after}
 -- the machine before the next instant, with what its sensors are shown
 pub next_shown_up_to : (m : Seen) (es : List Event) (now : ℕ) (accepted : IsAccepted m.object) (read : m.held.reading ≤ now) (u : IsUpTo m es now) (shows : List ℤ) (world : Content) (desk : Round) (e1 : Standing) (sel : Option ℕ) (old new : List Left)
     (start n : Tally) → shows ≡ m.held.shows → Passed m.object.tables m.object.ecode (schedules_of m.object) es now m.held.world world e1
-    → DeskFollows (plan_of m.object.tables (schedules_of m.object) es) (root_period m.object.tables) (suc now) desk → GoesBy m.object.tables es (root_period m.object.tables) (suc now) sel
-    → records_of m.object.tables (schedules_of m.object) es (root_period m.object.tables) now ≡ old ++ new → counts_of m ≡ record { jobs = start.jobs; e = start.e; s = start.s }
+    → DeskFollows (turn_at m.object.tables (schedules_of m.object) es) (hyper m.object.tables) (suc now) desk → GoesBy (turn_at m.object.tables (schedules_of m.object) es) (hyper m.object.tables) (suc now) sel
+    → records_of m.object.tables (schedules_of m.object) es (hyper m.object.tables) now ≡ old ++ new → counts_of m ≡ record { jobs = start.jobs; e = start.e; s = start.s }
     → n ≡ counts_after old new (length (phase_path m.object.tables m.object.ecode es now 1)) (length (phase_path m.object.tables m.object.ecode es now 2)) (length (phase_path m.object.tables m.object.ecode es now 3)) start
     → IsUpTo (record m { held = record m.held { shows = shows; world = world; desk = desk }; standing = e1; selection = sel; jobs = n.jobs; e = n.e; s = n.s }) es (suc now)
 next_shown_up_to m es now accepted read u shows world desk e1 sel old new start n is passed follows goes are was counts =

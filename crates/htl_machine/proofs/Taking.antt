@@ -1,332 +1,74 @@
 -- A machine that follows events follows a length more.
-use Rattle.std.proofs.Common.{◌≡◌, ◌≢◌, ℕ, zero, suc, ◌+◌, ◌-◌, ◌≤◌, ◌<◌, Bool, true, false, cond, ◌&&◌, eqb, leb, ltb, is_some, List, [], ◌∷◌, ◌++◌, length, get_or, slice_get, set, map, take, Option, Some, None, option_map, pos, refl, sym, ap, ap₂, ◌∙◌, subst, arith}
-use mathlib.Core.Path.{fun_ext}
-use Rattle.std.proofs.lemmas.Bool.{eqb-true, eq-eqb, eqb-false, ne_eqb, le-leb, ltb-true, ltb-false}
-use Rattle.std.proofs.lemmas.Bool.Decides.{nat_tests}
+use Rattle.std.proofs.Common.{◌≡◌, ℕ, zero, suc, ◌≤◌, ◌<◌, Bool, true, false, cond, ◌&&◌, eqb, leb, List, [], ◌∷◌, ◌++◌, length, get_or, set, map, Option, Some, None, pos, refl, sym, ap, ◌∙◌, subst, arith}
+use Rattle.std.proofs.lemmas.Bool.{eqb-true, eqb-false, le-leb}
 use Rattle.std.proofs.lemmas.List.{get_or-set_same, get_or-set_other}
-use Rattle.std.proofs.lemmas.Option.{slice_get_within, slice_get-map}
 use Rattle.htl_model.specs.declared.event.Event.{Event}
 use Rattle.htl_model.specs.declared.event.Event.TheVariants as V
-use Rattle.htl_model.specs.declared.parts.Inv.{Inv}
-use Rattle.htl_model.specs.Selections.{root_period}
-use Rattle.htl_model.specs.Tables.{Tables, release, window_end, task_worst}
-use Rattle.htl_model.specs.Meaning.{initial, state}
-use Rattle.htl_walk.specs.declared.job.Job.{Job}
+use Rattle.htl_model.specs.Frames.{hyper}
+use Rattle.htl_model.specs.Tables.{Tables}
+use Rattle.htl_model.specs.Meaning.{initial}
 use Rattle.htl_walk.specs.declared.schedule.SInstr.{SInstr}
-use Rattle.htl_walk.specs.Jobs.{is_fed_by, mask, absent_job, job_of, jobs_of}
-use Rattle.htl_walk.specs.Laws.{AgreeBefore}
-use Rattle.htl_walk.specs.Walk.{Point, Left, Meets, job_at, walk, first_point, last_point, point_at, finish}
-use Rattle.htl_walk.proofs.Work.{work_present}
 use Rattle.htl_smach.specs.Rounds as rounds
 use Rattle.htl_smach.specs.Rounds.{Round, state_of, state_by}
-use Rattle.htl_smach.proofs.Finishing.{finished_where_none, walk-take}
-use Rattle.htl_smach.proofs.Lengths.{with_work, first_with, some_below}
 use Rattle.htl_emach.specs.Shapes.{HasValues, IsShaped}
 use Rattle.htl_emach.specs.Contents.{Content}
 use Rattle.htl_machine.specs.Values.{ValuesFollow}
-use Rattle.htl_refine.specs.RecordCounts.{count_before, done_by}
-use Rattle.htl_machine.specs.Turns.{finished_in, position_from}
-use Rattle.htl_machine.specs.Casts.{IsCast}
-use Rattle.htl_refine.specs.Records.{inv_worst, modes_at, took, lengths_of, IsTookWithin, AreTookWithin}
-use Rattle.htl_refine.specs.Records.{Round as Plan}
-use Rattle.htl_machine.specs.Plans.{round_start, left_before, finished_by, finished_before, next_world}
-use Rattle.htl_refine.specs.Records.{walk_of}
-use Rattle.htl_machine.specs.Rounds.{standing_of, plan_of}
-use Rattle.htl_machine.specs.Follows.{Held, reading_of, period_or, released_before, DeskStands, DeskFollows, UpTo, Follows, IsLoaded, with_length, set_pending, desk_taking, taken_as}
-use Rattle.htl_machine.proofs.Standing.{some_same, none_some}
-use Rattle.htl_machine.proofs.Outs.{map_same}
-use Rattle.htl_refine.proofs.DoneRecords.{done_is}
-use Rattle.htl_machine.proofs.Casting.{job_is, position_some, position_none, only_open}
-use Rattle.htl_machine.proofs.RoundServed.{served_of, round_windows}
-use Rattle.htl_refine.proofs.RoundLaws.{have_lengths}
-use Rattle.htl_machine.proofs.Events.{Alike, values_alike, reading_more, sense_took, took_took, AreSameBefore, same_before, finished_same}
-use Rattle.htl_machine.proofs.Following.{within_more, jobs_same, code_same, all_read, instant_values}
-use Rattle.htl_machine.proofs.Plain.{down}
-
-get_map : {A : Type 0} (f : Job → A) (js : List Job) (p : ℕ) (j : Job) (d : A) → slice_get js p ≡ Some j → get_or (map f js) p d ≡ f j
-get_map f [] p j d e = none_some j e
-get_map f (k ∷ js) zero j d e = ap f (some_same _ _ e)
-get_map f (k ∷ js) (suc p) j d e = get_map f js p j d e
-
--- one entry differs
-map_set : (f g : Job → ℕ) (js : List Job) (p n : ℕ) → p < length js → ((q : ℕ) (j : Job) → slice_get js q ≡ Some j → q ≢ p → g j ≡ f j) → ((j : Job) → slice_get js p ≡ Some j → g j ≡ n) → map g js ≡ set (map f js) p n
-map_set f g [] p n h other here = absurd (omega arith)
-map_set f g (j ∷ js) zero n h other here = ap₂ (λ a b. a ∷ b) (here j refl) (map_same g f js (λ q k e. other (suc q) k e (λ z. omega (arith, z))))
-map_set f g (j ∷ js) (suc p) n h other here =
-    ap₂ (λ a b. a ∷ b) (other 0 j refl (λ z. omega (arith, z))) (map_set f g js p n (omega arith) (λ q k e d. other (suc q) k e (λ z. d (omega (arith, z)))) (λ k e. here k e))
-
--- an absent job is released at once
-absent_release : (t : Tables) (standing : List (Option ℕ)) (d : ℕ) (j : Job) → slice_get (jobs_of t standing) d ≡ Some j → j.present ≡ false → j.release ≡ 0
-absent_release t standing d j at none = by_place (slice_get standing d) (sym (slice_get-map (job_of t standing) standing d) ∙ at)
-  where
-    by_inv : (k : ℕ) (o : Option Inv) → slice_get t.invs k ≡ o → job_of t standing (Some k) ≡ j → j.release ≡ 0
-    by_inv k None is e = sym (ap (λ (z : Job). z.release) (sym (ap (λ (o : Option Inv). elim o [
-      | None ↦ absent_job
-      | Some y ↦ record { present = true; inv = k; release = release t y; end = window_end t y; worst = task_worst t y.task; preds = mask (map (is_fed_by t k) standing) }
-    ]) is) ∙ e))
-    by_inv k (Some x) is e =
-        let f : record { present = true; inv = k; release = release t x; end = window_end t x; worst = task_worst t x.task; preds = mask (map (is_fed_by t k) standing) } ≡ j =
-        sym (ap (λ (o : Option Inv). elim o [
-          | None ↦ absent_job
-          | Some y ↦ record { present = true; inv = k; release = release t y; end = window_end t y; worst = task_worst t y.task; preds = mask (map (is_fed_by t k) standing) }
-        ]) is) ∙ e in
-        absurd (let z : true ≡ false = ap (λ (z : Job). z.present) f ∙ none in cc)
-
-    by_place : (o : Option (Option ℕ)) → option_map (job_of t standing) o ≡ Some j → j.release ≡ 0
-    by_place None e = none_some j e
-    by_place (Some None) e = sym (ap (λ (z : Job). z.release) (some_same _ _ e))
-    by_place (Some (Some k)) e = by_inv k (slice_get t.invs k) refl (some_same _ _ e)
-
--- ---- the events before and with the length
+use Rattle.htl_refine.specs.Records.{inv_worst, took, IsTookWithin, AreTookWithin}
+use Rattle.htl_machine.specs.Plans.{finished_before, next_world}
+use Rattle.htl_machine.specs.Follows.{Held, reading_of, DeskStands, DeskFollows, UpTo, Follows, IsLoaded, desk_taking, taken_as}
+use Rattle.htl_machine.specs.RunLists.{turn_by, turn_at, list_turn}
+use Rattle.htl_machine.proofs.Standing.{none_some}
+use Rattle.htl_machine.proofs.Events.{Alike, values_alike, reading_more, sense_took, took_took}
+use Rattle.htl_machine.proofs.Following.{within_more, all_read, instant_values}
+use Rattle.htl_machine.proofs.TookLists.{took_so_far, took_desk}
+use Rattle.htl_machine.proofs.ListsSoFar.{AreSoFar, finished_so_far}
+use Rattle.htl_machine.proofs.LoadedLists.{loaded_run, loaded_turns}
 
 module _ (t : Tables) (schedules : List (List SInstr)) (loaded : IsLoaded t schedules) (es : List Event) (within : AreTookWithin t es) (i n : ℕ) (fits : IsTookWithin t (V.Took i n)) (now : ℕ) (reading : now ≡ reading_of 0 es) where
-  abbrev pub fs : List Event
+  abbrev fs : List Event
   fs = es ++ V.Took i n ∷ []
 
-  pub alike : Alike t es fs now
+  pub alike : Alike t es (es ++ V.Took i n ∷ []) now
   alike c u h = sym (sense_took t es i n c u)
 
-  within' : AreTookWithin t fs
-  within' = within_more t es (V.Took i n) within fits
-
-  tooks : (j u : ℕ) → took t fs j u ≡ cond (eqb j i && leb now u) n (took t es j u)
-  tooks j u = took_took t es i n j u ∙ ap (λ r. cond (eqb j i && leb r u) n (took t es j u)) (sym reading)
-
-  -- what is released before stays
-  early_took : (j u : ℕ) → u < now → took t fs j u ≡ took t es j u
-  early_took j u h = tooks j u ∙ ap (λ b. cond b n (took t es j u)) (let z : (eqb j i && leb now u) ≡ false = grind (arith, nat_tests) in z)
-
-  other_took : (j u : ℕ) → j ≢ i → took t fs j u ≡ took t es j u
-  other_took j u h = tooks j u ∙ ap (λ b. cond (b && leb now u) n (took t es j u)) (ne_eqb j i h)
-
-  late_took : (u : ℕ) → now ≤ u → took t fs i u ≡ n
-  late_took u h = tooks i u ∙ ap₂ (λ a b. cond (a && b) n (took t es i u)) (eq-eqb i i refl) (le-leb now u h)
-
-  module _ (s : ℕ) (started : s < now) (whole : (k : ℕ) × (s ≡ round_start (period_or (root_period t)) k)) where
-    p : Plan
-    p = plan_of t schedules es s
-
-    q : Plan
-    q = plan_of t schedules fs s
-
-    pub jobs_are : (plan_of t schedules es s).jobs ≡ (plan_of t schedules fs s).jobs
-    jobs_are = jobs_same t schedules es fs now alike s started
-
-    pub code_is : (plan_of t schedules es s).schedule ≡ (plan_of t schedules fs s).schedule
-    code_is = code_same t schedules es fs now alike s started
-
-    -- the lengths with the events and the jobs before
-    lengths_are : (plan_of t schedules fs s).lengths ≡ lengths_of t fs s (plan_of t schedules es s).jobs
-    lengths_are = ap (lengths_of t fs s) (sym jobs_are)
-
-    cast : IsCast t (state t es s).stays s s (plan_of t schedules es s).jobs
-    cast =
-        let c = (loaded.rounds es within).sound.casts whole.0 in
-        subst (λ z. IsCast t (state t es z).stays z z (plan_of t schedules es z).jobs) (sym whole.1) c
-
-    meets : Meets (plan_of t schedules es s).jobs (plan_of t schedules es s).lengths (plan_of t schedules es s).schedule
-    meets =
-        let m = (loaded.rounds es within).sound.meets whole.0 in
-        subst (λ z. Meets (plan_of t schedules es z).jobs (plan_of t schedules es z).lengths (plan_of t schedules es z).schedule) (sym whole.1) m
-
-    -- an invocation has one position
-    one_place : (d b : ℕ) (j k : Job) → slice_get (plan_of t schedules es s).jobs d ≡ Some j → slice_get (plan_of t schedules es s).jobs b ≡ Some k → j.present ≡ true → k.present ≡ true → j.inv ≡ k.inv → d ≡ b
-    one_place =
-        only_open t (state t es s).stays s (plan_of t schedules es s).jobs cast
-        (round_windows (plan_of t schedules es s).jobs (plan_of t schedules es s).lengths (plan_of t schedules es s).schedule meets)
-
-    agree : AgreeBefore (now - s) (plan_of t schedules es s).jobs (plan_of t schedules es s).lengths (lengths_of t fs s (plan_of t schedules es s).jobs)
-    agree r j at here h =
-        get_map (λ k. took t es k.inv (s + k.release)) (plan_of t schedules es s).jobs r j 0 at
-        ∙ sym (early_took j.inv (s + j.release) (omega arith))
-        ∙ sym (get_map (λ k. took t fs k.inv (s + k.release)) (plan_of t schedules es s).jobs r j 0 at)
-
-    same : AreSameBefore (plan_of t schedules es s).jobs (plan_of t schedules es s).lengths (plan_of t schedules fs s).lengths (plan_of t schedules es s).schedule (now - s)
-    same =
-        subst (λ ns. AreSameBefore (plan_of t schedules es s).jobs (plan_of t schedules es s).lengths ns (plan_of t schedules es s).schedule (now - s)) (sym lengths_are)
-        (same_before (plan_of t schedules es s).jobs (plan_of t schedules es s).lengths (lengths_of t fs s (plan_of t schedules es s).jobs) (plan_of t schedules es s).schedule (now - s)
-        (have_lengths t (modes_at t es s) es s loaded.range within)
-        (have_lengths t (modes_at t es s) fs s loaded.range within') agree)
-
-    -- so at every offset up to the reading
-    pub front_taken : (e : ℕ) → s + e ≤ now → AreSameBefore (plan_of t schedules es s).jobs (plan_of t schedules es s).lengths (plan_of t schedules fs s).lengths (plan_of t schedules es s).schedule e
-    front_taken e early =
-        subst (λ ns. AreSameBefore (plan_of t schedules es s).jobs (plan_of t schedules es s).lengths ns (plan_of t schedules es s).schedule e) (sym lengths_are)
-        (same_before (plan_of t schedules es s).jobs (plan_of t schedules es s).lengths (lengths_of t fs s (plan_of t schedules es s).jobs) (plan_of t schedules es s).schedule e
-        (have_lengths t (modes_at t es s) es s loaded.range within)
-        (have_lengths t (modes_at t es s) fs s loaded.range within')
-        (λ r j at here h. agree r j at here (omega (arith, h, early))))
-
-    pub finished_taken : (k : ℕ) → finished_in (plan_of t schedules es s).jobs (done_by (walk_of (plan_of t schedules es s)) (count_before (now - s) (walk_of (plan_of t schedules es s)))) k
-        ≡ finished_in (plan_of t schedules fs s).jobs (done_by (walk_of (plan_of t schedules fs s)) (count_before (now - s) (walk_of (plan_of t schedules fs s)))) k
-    finished_taken k = finished_same (plan_of t schedules es s) (plan_of t schedules fs s) (now - s) k jobs_are same code_is
-
-    count_taken : count_before (now - s) (walk_of (plan_of t schedules es s)) ≡ count_before (now - s) (walk_of (plan_of t schedules fs s))
-    count_taken =
-        same.count ∙ ap₂ (λ (js : List Job) (c : List SInstr). count_before (now - s) (walk js (plan_of t schedules fs s).lengths c)) jobs_are code_is
-
-    -- an entry that isn't of a pending job of the invocation stays
-    entry_kept : (d : ℕ) (j : Job) → slice_get (plan_of t schedules es s).jobs d ≡ Some j → (j.present ≡ true → j.inv ≡ i → s + j.release < now) → took t fs j.inv (s + j.release) ≡ took t es j.inv (s + j.release)
-    entry_kept d j at h = by_present j.present refl
-      where
-        by_present : (b : Bool) → j.present ≡ b → took t fs j.inv (s + j.release) ≡ took t es j.inv (s + j.release)
-        by_present false e = early_took j.inv (s + j.release) (omega (arith, absent_release t (standing_of t (state t es s).stays) d j at e))
-        by_present true e = by_inv (eqb j.inv i) refl
-          where
-            by_inv : (b : Bool) → eqb j.inv i ≡ b → took t fs j.inv (s + j.release) ≡ took t es j.inv (s + j.release)
-            by_inv true f = early_took j.inv (s + j.release) (h e (eqb-true j.inv i f))
-            by_inv false f = other_took j.inv (s + j.release) (eqb-false j.inv i f)
-
-    lengths_kept : ((d : ℕ) (j : Job) → slice_get (plan_of t schedules es s).jobs d ≡ Some j → j.present ≡ true → j.inv ≡ i → s + j.release < now) → (plan_of t schedules fs s).lengths ≡ (plan_of t schedules es s).lengths
-    lengths_kept h =
-        lengths_are
-        ∙ map_same (λ j. took t fs j.inv (s + j.release)) (λ j. took t es j.inv (s + j.release)) (plan_of t schedules es s).jobs (λ d j at. entry_kept d j at (λ a b. h d j at a b))
-
-    lengths_set : (d : ℕ) (j : Job) → slice_get (plan_of t schedules es s).jobs d ≡ Some j → j.present ≡ true → j.inv ≡ i → now ≤ s + j.release → (plan_of t schedules fs s).lengths ≡ set (plan_of t schedules es s).lengths d n
-    lengths_set d j at here is late =
-        lengths_are
-        ∙ map_set (λ k. took t es k.inv (s + k.release)) (λ k. took t fs k.inv (s + k.release)) (plan_of t schedules es s).jobs d n (slice_get_within (plan_of t schedules es s).jobs d j at)
-        (λ q' k kat other. entry_kept q' k kat (λ a b. absurd (other (one_place q' d k j kat at a here (b ∙ sym is)))))
-        (λ k kat.
-        let same' : k ≡ j = some_same _ _ (sym kat ∙ at) in
-        ap (λ (z : Job). took t fs z.inv (s + z.release)) same' ∙ ap (λ z. took t fs z (s + j.release)) is ∙ late_took (s + j.release) late)
-
-    -- the S machine goes on as it is
-    desk_kept : (r : Round) → DeskStands (plan_of t schedules es s) s now r → (plan_of t schedules fs s).lengths ≡ (plan_of t schedules es s).lengths → DeskStands (plan_of t schedules fs s) s now r
-    desk_kept r f e =
-        record {
-          start = f.start;
-          jobs = f.jobs ∙ jobs_are;
-          lengths = f.lengths ∙ sym e;
-          first = f.first ∙ ap₂ first_point jobs_are (sym e);
-          place = f.place ∙ count_taken;
-          running = f.running ∙ ap (λ (c : List SInstr). ltb r.place (length c)) code_is;
-          released = f.released ∙ ap (released_before (now - s)) jobs_are;
-          stands = subst (rounds.Stands r) code_is f.stands;
-        }
-
-    -- or with the length set
-    desk_set : (r : Round) (d : ℕ) → DeskStands (plan_of t schedules es s) s now r → (job_at (plan_of t schedules es s).jobs d).present ≡ true → d < length (plan_of t schedules es s).lengths
-        → (plan_of t schedules fs s).lengths ≡ set (plan_of t schedules es s).lengths d n → rounds.Stands (with_length r d n) (plan_of t schedules es s).schedule
-        → DeskStands (plan_of t schedules fs s) s now (with_length r d n)
-    desk_set r d f here below e st =
-        record {
-          start = f.start;
-          jobs = f.jobs ∙ jobs_are;
-          lengths = ap (λ ns. set ns d n) f.lengths ∙ sym e;
-          first =
-              ap (with_work d n) f.first
-              ∙ sym (first_with (plan_of t schedules es s).jobs (plan_of t schedules es s).lengths d n here below)
-              ∙ ap₂ first_point jobs_are (sym e);
-          place = f.place ∙ count_taken;
-          running = f.running ∙ ap (λ (c : List SInstr). ltb r.place (length c)) code_is;
-          released = f.released ∙ ap (released_before (now - s)) jobs_are;
-          stands = subst (rounds.Stands (with_length r d n)) code_is st;
-        }
-
-    -- who has no work left is done, so it was released
-    done_released : (r : Round) (d : ℕ) (j : Job) → DeskStands (plan_of t schedules es s) s now r → slice_get (plan_of t schedules es s).jobs d ≡ Some j → j.present ≡ true → eqb (get_or r.point.left d 0) 0 ≡ true → s + j.release < now
-    done_released r d j f at here e =
-        let jobs = (plan_of t schedules es s).jobs in
-        let ns = (plan_of t schedules es s).lengths in
-        let c = (plan_of t schedules es s).schedule in
-        let x = first_point jobs ns in
-        let has : 1 ≤ get_or ns d 0 = have_lengths t (modes_at t es s) es s loaded.range within d j at here in
-        let some : 0 < get_or x.left d 0 = omega (arith, has, work_present jobs ns d j at here) in
-        let point : r.point ≡ point_at jobs ns c r.place = f.stands.point ∙ ap₂ (λ (js : List Job) (y : Point). last_point js (take r.place c) y) f.jobs f.first in
-        let done : done_by (walk jobs ns c) r.place d ≡ true =
-        ap (λ (z : List Left). is_some (finish z d)) (walk-take jobs c x r.place) ∙ sym (finished_where_none jobs (take r.place c) x d some)
-        ∙ ap (λ (z : Point). eqb (get_or z.left d 0) 0) (sym point) ∙ e in
-        let g = done_is (now - s) (walk jobs ns c) d (sym (ap (λ z. done_by (walk jobs ns c) z d) f.place) ∙ done) in
-        let late = ((served_of jobs ns c s s meets).late d g.0 (slice_get_within jobs d j at) g.1).0 in
-        omega (arith, late, ap (λ (z : Job). z.release) (job_is jobs d j at), g.2)
-
-    -- a job that is present has its length
-    below : (d : ℕ) (j : Job) → slice_get (plan_of t schedules es s).jobs d ≡ Some j → j.present ≡ true → d < length (plan_of t schedules es s).lengths
-    below d j at here =
-        let has : 1 ≤ get_or (plan_of t schedules es s).lengths d 0 = have_lengths t (modes_at t es s) es s loaded.range within d j at here in
-        some_below (plan_of t schedules es s).lengths d (omega (arith, has))
-
-    -- whatever its state, the S machine follows on
-    pub desk_taken : (r : Round) → DeskStands (plan_of t schedules es s) s now r → rounds.Stands (desk_taking i n r) (plan_of t schedules es s).schedule → DeskStands (plan_of t schedules fs s) s now (desk_taking i n r)
-    desk_taken r f st = by_position (position_from 0 r.jobs i) refl st
-      where
-        IsTaken : Round → Type 0
-        IsTaken z = DeskStands (plan_of t schedules fs s) s now z
-
-        by_position : (o : Option ℕ) → position_from 0 r.jobs i ≡ o → rounds.Stands (elim o [ Some p ↦ set_pending (state_of r p) r p n | None ↦ r ]) (plan_of t schedules es s).schedule
-            → DeskStands (plan_of t schedules fs s) s now (elim o [ Some p ↦ set_pending (state_of r p) r p n | None ↦ r ])
-        by_position None e st =
-            desk_kept r f (lengths_kept (λ d j at here is. absurd (position_none 0 r.jobs i d j e (ap (λ (js : List Job). slice_get js d) f.jobs ∙ at) here is)))
-        by_position (Some d) e st =
-            let w = position_some 0 r.jobs i d e in
-            let at : slice_get (plan_of t schedules es s).jobs d ≡ Some w.2 =
-            sym (ap (λ (js : List Job). slice_get js d) f.jobs) ∙ ap (slice_get r.jobs) (let z : d ≡ w.0 = omega (arith, w.1) in z) ∙ w.3 in
-            let here : (job_at r.jobs d).present ≡ true = ap (λ (js : List Job). (job_at js d).present) f.jobs ∙ ap (λ (z : Job). z.present) (job_is (plan_of t schedules es s).jobs d w.2 at) ∙ w.4 in
-            let told : get_or r.released d false ≡ (w.2.present && ltb w.2.release (now - s)) =
-            ap (λ (bs : List Bool). get_or bs d false) f.released ∙ get_map (λ j. j.present && ltb j.release (now - s)) (plan_of t schedules es s).jobs d w.2 false at in
-            by_state d w.2 at w.4 w.5 told (job_at r.jobs d).present here (eqb (get_or r.point.left d 0) 0) refl (get_or r.released d false) refl st
-          where
-            -- the one position of the invocation
-            only : (d : ℕ) (j : Job) → slice_get (plan_of t schedules es s).jobs d ≡ Some j → j.present ≡ true → j.inv ≡ i → s + j.release < now
-                → (b : ℕ) (k : Job) → slice_get (plan_of t schedules es s).jobs b ≡ Some k → k.present ≡ true → k.inv ≡ i → s + k.release < now
-            only d j at here is early b k kat khere kis =
-                let place : b ≡ d = one_place b d k j kat at khere here (kis ∙ sym is) in
-                let one : k ≡ j = some_same _ _ (sym kat ∙ ap (slice_get (plan_of t schedules es s).jobs) place ∙ at) in
-                omega (arith, early, ap (λ (z : Job). z.release) one)
-
-            by_state : (d : ℕ) (j : Job) → slice_get (plan_of t schedules es s).jobs d ≡ Some j → j.present ≡ true → j.inv ≡ i → get_or r.released d false ≡ (j.present && ltb j.release (now - s))
-                → (a : Bool) → a ≡ true → (b : Bool) → eqb (get_or r.point.left d 0) 0 ≡ b → (c : Bool) → get_or r.released d false ≡ c
-                → rounds.Stands (set_pending (state_by a b c) r d n) (plan_of t schedules es s).schedule → DeskStands (plan_of t schedules fs s) s now (set_pending (state_by a b c) r d n)
-            by_state d j at here is told false x b eb c ec st = absurd (let z : ⊥ = cc in z)
-            by_state d j at here is told true x true eb c ec st = desk_kept r f (lengths_kept (only d j at here is (done_released r d j f at here eb)))
-            by_state d j at here is told true x false eb true ec st =
-                let early : (j.present && ltb j.release (now - s)) ≡ true = sym told ∙ ec in
-                desk_kept r f (lengths_kept (only d j at here is (let z : j.release < now - s = ltb-true j.release (now - s) (second j.present (ltb j.release (now - s)) early) in omega arith)))
-              where
-                second : (a b : Bool) → (a && b) ≡ true → b ≡ true
-                second true b e = e
-                second false b e = absurd (let z : ⊥ = cc in z)
-            by_state d j at here is told true x false eb false ec st =
-                let late : ltb j.release (now - s) ≡ false = sym (ap (λ b. b && ltb j.release (now - s)) here) ∙ sym told ∙ ec in
-                desk_set r d f (ap (λ (z : Job). z.present) (job_is (plan_of t schedules es s).jobs d j at) ∙ here) (below d j at here) (lengths_set d j at here is (let z : now - s ≤ j.release = ltb-false j.release (now - s) late in omega arith)) st
-
-  finished_all : (n' : ℕ) → now ≡ suc n' → (k : ℕ) → finished_before (plan_of t schedules es) (period_or (root_period t)) now k ≡ finished_before (plan_of t schedules fs) (period_or (root_period t)) now k
-  finished_all n' e k =
-      let P = period_or (root_period t) in
-      let r = finished_taken (round_start P n') (omega (arith, e, down P n')) (n', refl) k in
-      let to : (es' : List Event) → finished_before (plan_of t schedules es') P now k ≡ finished_by (plan_of t schedules es') (round_start P n') (left_before (plan_of t schedules es') (round_start P n') now) k =
-      λ es'. ap (λ z. finished_before (plan_of t schedules es') P z k) e ∙ ap (λ z. finished_by (plan_of t schedules es') (round_start P n') (left_before (plan_of t schedules es') (round_start P n') z) k) (sym e) in
-      to es ∙ r ∙ sym (to fs)
+  -- the lists that stand before the reading have left the same so far
+  pub so_far : (m : ℕ) → m < now → AreSoFar (turn_at t schedules es m) (turn_at t schedules (es ++ V.Took i n ∷ []) m) now
+  so_far m h = by (hyper t) refl
+    where
+      by : (o : Option ℕ) → hyper t ≡ o → AreSoFar (turn_by o t schedules es m) (turn_by o t schedules fs m) now
+      by None e = record { frame = refl; from = refl; node = refl; jobs = refl; code = refl; earlier = refl; count = λ e early. refl; front = λ e early. refl }
+      by (Some q) e = took_so_far t schedules es (loaded_run t schedules loaded es within q e) i n fits now reading m h
 
   -- the values follow on
-  pub values_taken : (w : Content) → ValuesFollow t es now (finished_before (plan_of t schedules es) (period_or (root_period t)) now) w → ValuesFollow t fs now (finished_before (plan_of t schedules fs) (period_or (root_period t)) now) w
+  values_taken : (w : Content) → ValuesFollow t es now (finished_before (turn_at t schedules es) now) w → ValuesFollow t fs now (finished_before (turn_at t schedules fs) now) w
   values_taken w f =
-      let g = values_alike t loaded.range loaded.kept es fs now (finished_before (plan_of t schedules es) (period_or (root_period t)) now) w alike (λ k x s st fin. all_read t schedules loaded es within now k x s st fin) f in
-      by_instant now refl g
+      let g = values_alike t loaded.range loaded.kept es fs now (finished_before (turn_at t schedules es) now) w alike (λ k x s st fin. all_read t schedules loaded es within now k x s st fin) f in
+      subst (λ z. ValuesFollow t fs now z w) (by_instant now refl) g
     where
-      P : ℕ
-      P = period_or (root_period t)
+      by_instant : (k : ℕ) → now ≡ k → finished_before (turn_at t schedules es) k ≡ finished_before (turn_at t schedules fs) k
+      by_instant zero e = refl
+      by_instant (suc k) e =
+          finished_so_far (turn_at t schedules es k) (turn_at t schedules fs k) now (so_far k (omega (arith, e))) (suc k) (let past = (loaded_turns t schedules loaded es within).frames.past k in omega (arith, past)) (omega (arith, e))
 
-      by_instant : (k : ℕ) → now ≡ k → ValuesFollow t fs now (finished_before (plan_of t schedules es) (period_or (root_period t)) now) w → ValuesFollow t fs now (finished_before (plan_of t schedules fs) (period_or (root_period t)) now) w
-      by_instant zero e g = subst (λ z. ValuesFollow t fs now z w) (fun_ext (λ j. ap (λ z. finished_before (plan_of t schedules es) (period_or (root_period t)) z j) e ∙ sym (ap (λ z. finished_before (plan_of t schedules fs) (period_or (root_period t)) z j) e))) g
-      by_instant (suc k) e g = subst (λ z. ValuesFollow t fs now z w) (fun_ext (λ j. finished_all k e j)) g
-
-  desk_follows : (root : Option ℕ) → root ≡ root_period t → (r : Round) → DeskFollows (plan_of t schedules es) root now r → ((code : List SInstr) → rounds.Stands r code → rounds.Stands (desk_taking i n r) code)
-      → DeskFollows (plan_of t schedules fs) root now (desk_taking i n r)
-  desk_follows root e r f keeps = by_instant root e now refl f
+  desk_follows : (o : Option ℕ) → hyper t ≡ o → (r : Round) → DeskFollows (turn_at t schedules es) o now r → ((code : List SInstr) → rounds.Stands r code → rounds.Stands (desk_taking i n r) code)
+      → DeskFollows (turn_at t schedules fs) o now (desk_taking i n r)
+  desk_follows o e r f keeps = by_instant o e now refl f
     where
       idle : r ≡ rounds.no_round → desk_taking i n r ≡ rounds.no_round
       idle g = ap (desk_taking i n) g
 
-      by_instant : (o : Option ℕ) → o ≡ root_period t → (k : ℕ) → now ≡ k → DeskFollows (plan_of t schedules es) o k r → DeskFollows (plan_of t schedules fs) o k (desk_taking i n r)
-      by_instant None h k g f = idle f
-      by_instant (Some p) h zero g f = idle f
-      by_instant (Some p) h (suc k) g f =
-          let s = round_start p k in
-          let whole : s ≡ round_start (period_or (root_period t)) k = ap (λ o. round_start (period_or o) k) h in
-          subst (λ z. DeskStands (plan_of t schedules fs s) s z (desk_taking i n r)) g
-          (desk_taken s (omega (arith, g, down p k)) (k, whole) r (subst (λ z. DeskStands (plan_of t schedules es s) s z r) (sym g) f) (keeps (plan_of t schedules es s).schedule f.stands))
+      by_instant : (o : Option ℕ) → hyper t ≡ o → (k : ℕ) → now ≡ k → DeskFollows (turn_at t schedules es) o k r → DeskFollows (turn_at t schedules fs) o k (desk_taking i n r)
+      by_instant None e k g f = idle f
+      by_instant (Some h) e zero g f = idle f
+      by_instant (Some h) e (suc k) g f =
+          subst (λ z. DeskStands (turn_at t schedules fs k).plan (turn_at t schedules fs k).frame z (desk_taking i n r)) g
+          (subst (λ o. DeskStands (turn_by o t schedules fs k).plan (turn_by o t schedules fs k).frame now (desk_taking i n r)) (sym e)
+          (took_desk t schedules es (loaded_run t schedules loaded es within h e) i n fits now reading k (omega (arith, g)) g r here (keeps (list_turn t schedules es k).plan.schedule here.stands)))
+        where
+          here : DeskStands (list_turn t schedules es k).plan (list_turn t schedules es k).frame now r
+          here =
+              subst (λ o. DeskStands (turn_by o t schedules es k).plan (turn_by o t schedules es k).frame now r) e
+              (subst (λ z. DeskStands (turn_at t schedules es k).plan (turn_at t schedules es k).frame z r) (sym g) f)
 
 -- from the reading on the jobs of an invocation take so long
 pub took_follows : (t : Tables) (schedules : List (List SInstr)) (loaded : IsLoaded t schedules) (es : List Event) (within : AreTookWithin t es) (i n : ℕ) (m : Held)
@@ -348,7 +90,7 @@ took_follows t schedules loaded es within i n m fits known long keeps f =
             takes = λ j u k h. took_took t es i n j u ∙ by_test j u k (omega (arith, more)) (eqb j i) refl;
             values = values_taken t schedules loaded es within i n fits m.reading f.reading m.world f.up_to.values;
             shape = f.up_to.shape;
-            desk = desk_follows t schedules loaded es within i n fits m.reading f.reading (root_period t) refl m.desk f.up_to.desk keeps;
+            desk = desk_follows t schedules loaded es within i n fits m.reading f.reading (hyper t) refl m.desk f.up_to.desk keeps;
           };
     }
   where
@@ -360,8 +102,8 @@ took_follows t schedules loaded es within i n m fits known long keeps f =
 
 -- an instant: the world goes on, and the S machine stands before the next one
 pub instant_follows : (t : Tables) (schedules : List (List SInstr)) (loaded : IsLoaded t schedules) (es : List Event) (within : AreTookWithin t es) (now : ℕ) (m : Held) (r : Round)
-    → UpTo t schedules es now m → IsShaped t (next_world t es (plan_of t schedules es) (period_or (root_period t)) now m.world) → DeskFollows (plan_of t schedules es) (root_period t) (suc now) r
-    → UpTo t schedules es (suc now) (record m { world = next_world t es (plan_of t schedules es) (period_or (root_period t)) now m.world; desk = r })
+    → UpTo t schedules es now m → IsShaped t (next_world t es (turn_at t schedules es) now m.world) → DeskFollows (turn_at t schedules es) (hyper t) (suc now) r
+    → UpTo t schedules es (suc now) (record m { world = next_world t es (turn_at t schedules es) now m.world; desk = r })
 instant_follows t schedules loaded es within now m r up shape desk =
     let v = instant_values t schedules loaded es within now m up in
     record {
@@ -398,10 +140,10 @@ new_follows t schedules m open_yet reading fits shows takes values shape desk =
                   outputs = λ i x s k st fin h. none_some (record { mode = x.mode; start = s }) st.in_round;
                 };
             shape = shape;
-            desk = first (root_period t);
+            desk = first (hyper t);
           });
     }
   where
-    first : (o : Option ℕ) → DeskFollows (plan_of t schedules []) o 0 m.desk
+    first : (o : Option ℕ) → DeskFollows (turn_at t schedules []) o 0 m.desk
     first None = desk
     first (Some p) = desk

@@ -32,9 +32,9 @@ module _ (t : Tables) (code : ECode) (schedules : List (List SInstr)) (show : Sh
   -- one event more
   more : (es : List Event) (e : Event) → AreTookWithin t es → IsTookWithin t e → AreReadFrom now (reading_of 0 es) (e ∷ [])
       → text_before t code schedules es show now ≡ text_before t code schedules (es ++ e ∷ []) show now
-  more es (V.At to) within fits from = before_stays t code schedules es (es ++ V.At to ∷ []) show now (λ c u h. sym (sense_at t es to c u)) (λ i u. sym (took_at t es to i u))
-  more es (V.End to) within fits from = before_stays t code schedules es (es ++ V.End to ∷ []) show now (λ c u h. sym (sense_end t es to c u)) (λ i u. sym (took_end t es to i u))
-  more es (V.Sense d y) within fits from = before_stays t code schedules es (es ++ V.Sense d y ∷ []) show now alike (λ i u. sym (took_sense t es d i u y))
+  more es (V.At to) within fits from = before_stays t code schedules es (es ++ V.At to ∷ []) show now (λ c u h. sym (sense_at t es to c u)) loaded within (λ i u. sym (took_at t es to i u))
+  more es (V.End to) within fits from = before_stays t code schedules es (es ++ V.End to ∷ []) show now (λ c u h. sym (sense_end t es to c u)) loaded within (λ i u. sym (took_end t es to i u))
+  more es (V.Sense d y) within fits from = before_stays t code schedules es (es ++ V.Sense d y ∷ []) show now alike loaded within (λ i u. sym (took_sense t es d i u y))
     where
       alike : (c u : ℕ) → u < now → sense t es c u ≡ sense t (es ++ V.Sense d y ∷ []) c u
       alike c u h =

@@ -1,55 +1,39 @@
 -- A loaded program: the lines, totals and text of its runs are those of the pieces of walks.
-use Rattle.std.proofs.Common.{◌≡◌, ◌<◌, ℕ, suc, List, ◌++◌, sym, ◌∙◌, subst}
+use Rattle.std.proofs.Common.{◌≡◌, ℕ, List, map, Some}
 use Rattle.htl_model.specs.declared.event.Event.{Event}
-use Rattle.htl_model.specs.Lines.{totals_line}
+use Rattle.htl_model.specs.Frames.{hyper}
 use Rattle.htl_model.specs.Tables.{Tables}
 use Rattle.htl_walk.specs.declared.schedule.SInstr.{SInstr}
 use Rattle.htl_ecode.specs.declared.ecode.ECode.{ECode}
 use Rattle.htl_refine.specs.Records.{AreTookWithin}
+use Rattle.htl_refine.specs.FrameRecords.{records}
+use Rattle.htl_refine.specs.ServedFrames.{IsFeasibleRun}
 use Rattle.htl_console.specs.declared.shown.Shown.{Shown}
-use Rattle.htl_machine.specs.Follows.{Held, period_or, AreKept, IsLoaded}
-use Rattle.htl_machine.specs.Machines.{Counts, Stands}
+use Rattle.htl_machine.specs.Follows.{IsLoaded}
 use Rattle.htl_machine.specs.Texts as texts
 use Rattle.htl_machine.specs.Lines as runs
-use Rattle.htl_machine.proofs.Advancing.{all_written}
-use Rattle.htl_machine.proofs.TellingText.{AreRounds, jobs_are, e_are, s_are, lines_are, before_is, run_is}
-
-kept_rounds : (t : Tables) (schedules : List (List SInstr)) (es : List Event) → AreKept t schedules es → AreRounds t schedules es
-kept_rounds t schedules es kept period root = (subst (λ o. 0 < period_or o) root kept.regular.some, kept.form period root)
+use Rattle.htl_machine.proofs.Telling.{as_told}
+use Rattle.htl_machine.proofs.LoadedLists.{loaded_run}
+use Rattle.htl_machine.proofs.TellingText.{records_are, jobs_are, e_are, s_are, lines_are, before_is}
 
 module _ (t : Tables) (schedules : List (List SInstr)) (es : List Event) (loaded : IsLoaded t schedules) (within : AreTookWithin t es) where
-  pub loaded_rounds : AreRounds t schedules es
-  loaded_rounds = kept_rounds t schedules es (loaded.rounds es within)
+  runs_so : (h : ℕ) → hyper t ≡ Some h → IsFeasibleRun t schedules es
+  runs_so = loaded_run t schedules loaded es within
+
+  pub loaded_records : (now : ℕ) → map as_told (records t schedules es now) ≡ texts.records_of t schedules es (hyper t) now
+  loaded_records = records_are t schedules es runs_so
 
   pub loaded_lines : (code : ECode) (show : Shown) (now : ℕ) → runs.lines t code schedules es show now ≡ texts.instant_text t code schedules es show now
-  loaded_lines = lines_are t schedules es loaded_rounds
+  loaded_lines = lines_are t schedules es runs_so
 
   pub loaded_before : (code : ECode) (show : Shown) (now : ℕ) → runs.text_before t code schedules es show now ≡ texts.text_before t code schedules es show now
-  loaded_before = before_is t schedules es loaded_rounds
-
-  pub loaded_text : (code : ECode) (show : Shown) (end : ℕ) → runs.run_text t code schedules es show end ≡ texts.run_text t code schedules es show end
-  loaded_text = run_is t schedules es loaded_rounds
+  loaded_before = before_is t schedules es runs_so
 
   pub loaded_jobs : (now : ℕ) → runs.jobs_done t schedules es now ≡ texts.jobs_before t schedules es now
-  loaded_jobs = jobs_are t schedules es loaded_rounds
+  loaded_jobs = jobs_are t schedules es runs_so
 
   pub loaded_s : (now : ℕ) → runs.s_done t schedules es now ≡ texts.s_before t schedules es now
-  loaded_s = s_are t schedules es loaded_rounds
+  loaded_s = s_are t schedules es runs_so
 
   pub loaded_e : (code : ECode) (now : ℕ) → runs.e_done t code es now ≡ texts.e_before t code es now
-  loaded_e = e_are t schedules es loaded_rounds
-
--- what a machine of a loaded program has written and counted, before an instant and after the last
-module _ (t : Tables) (code : ECode) (schedules : List (List SInstr)) (show : Shown) (loaded : IsLoaded t schedules) where
-  pub written_is : (es : List Event) (now : ℕ) (m : Held) (n : Counts) (written : List ℕ) → Stands t code schedules show es now m n written → written ≡ runs.text_before t code schedules es show now
-  written_is es now m n written f = f.text ∙ sym (loaded_before t schedules es loaded f.up_to.within code show now)
-
-  pub counted_are : (es : List Event) (now : ℕ) (m : Held) (n : Counts) (written : List ℕ) → Stands t code schedules show es now m n written
-      → (n.jobs ≡ runs.jobs_done t schedules es now) × (n.e ≡ runs.e_done t code es now) × (n.s ≡ runs.s_done t schedules es now)
-  counted_are es now m n written f =
-      let within = f.up_to.within in
-      (f.totals.jobs_are ∙ sym (loaded_jobs t schedules es loaded within now), f.totals.e_are ∙ sym (loaded_e t schedules es loaded within code now), f.totals.s_are ∙ sym (loaded_s t schedules es loaded within now))
-
-  pub run_is_written : (es : List Event) (end : ℕ) (m : Held) (n : Counts) (written : List ℕ) → Stands t code schedules show es (suc end) m n written
-      → written ++ totals_line end n.jobs n.e n.s ≡ runs.run_text t code schedules es show end
-  run_is_written es end m n written f = all_written t code schedules loaded show es end m n written f ∙ sym (loaded_text t schedules es loaded f.up_to.within code show end)
+  loaded_e = e_are t schedules es runs_so

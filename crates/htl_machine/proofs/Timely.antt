@@ -1,17 +1,16 @@
--- The releases of an instant: who is released now isn't done yet, so the read phase tells exactly the flags that the round asks for.
-use Rattle.std.proofs.Common.{◌≡◌, ◌≢◌, ℕ, zero, suc, ◌+◌, ◌-◌, ◌≤◌, ◌<◌, Bool, true, false, cond, ◌&&◌, eqb, is_some, IsSome, List, [], ◌∷◌, length, get_or, slice_get, set, take, Option, Some, None, refl, sym, ap, ap₂, ◌∙◌, arith, inl, inr}
+-- The releases of an instant: who is released now isn't done yet, so the read phase tells exactly the flags that the list asks for.
+use Rattle.std.proofs.Common.{◌≡◌, ◌≢◌, ℕ, zero, suc, ◌+◌, ◌-◌, ◌≤◌, ◌<◌, Bool, true, false, cond, ◌&&◌, eqb, is_some, List, [], ◌∷◌, length, get_or, slice_get, set, take, Option, Some, None, refl, sym, ap, ap₂, ◌∙◌, arith, inl, inr, length-append}
+use Rattle.std.proofs.lemmas.Bool.{eqb-true}
 use Rattle.std.proofs.lemmas.List.{set-get_or}
 use Rattle.std.proofs.lemmas.Option.{slice_get_within}
 use Rattle.htl_model.specs.declared.event.Event.{Event}
 use Rattle.htl_model.specs.Tables.{Tables}
 use Rattle.htl_model.specs.Ranges.{AreInRange}
-use Rattle.htl_model.specs.FrameRules.{KeptApart}
 use Rattle.htl_model.specs.Meaning.{state}
 use Rattle.htl_walk.specs.declared.job.Job.{Job}
-use Rattle.htl_walk.specs.Walk.{Point, Left, job_at, walk_from, walk, first_point, finish, is_position, Meets}
+use Rattle.htl_walk.specs.Walk.{Point, Left, job_at, last_point, finish, is_position}
 use Rattle.htl_smach.specs.declared.state.PosState.TheVariants.{Done as Finished}
-use Rattle.htl_smach.specs.Rounds.{Round, state_by, state_of, finish_so_far}
-use Rattle.htl_smach.proofs.Telling.{done_first}
+use Rattle.htl_smach.specs.Rounds.{Round, state_by, state_of}
 use Rattle.htl_ecode.specs.declared.ecode.ECode.{ECode}
 use Rattle.htl_ecode.specs.declared.instr.EInstr.TheVariants as I
 use Rattle.htl_ecode.specs.Chains.{Want, Does, Waits, Turns, Tests, Asks, Arrives}
@@ -19,18 +18,17 @@ use Rattle.htl_ecode.proofs.Spelled.{ModeReads}
 use Rattle.htl_emach.specs.Following.{phase_path}
 use Rattle.htl_machine.specs.Worlds.{all_reads}
 use Rattle.htl_refine.specs.RecordCounts.{count_before, done_by}
-use Rattle.htl_machine.specs.Casts.{IsCast}
-use Rattle.htl_refine.specs.Records.{Round as Plan}
-use Rattle.htl_refine.specs.Records.{walk_of}
+use Rattle.htl_machine.specs.ListTurns.{Turn, turn_walk, records_so_far, left_before, AreTurns, IsListed}
 use Rattle.htl_machine.specs.Turns.{position_from}
 use Rattle.htl_machine.specs.Follows.{DeskAt}
-use Rattle.htl_machine.specs.Leaving.{due_by}
 use Rattle.htl_machine.specs.Tellings.{tell_at, tell_want, tell_all}
 use Rattle.htl_machine.specs.Readiness.{made_ready, released_to, desk_replay, desk_want, desk_all}
 use Rattle.htl_machine.proofs.Standing.{standing_at, some_same, none_some}
+use Rattle.htl_refine.proofs.DoneRecords.{done_some}
 use Rattle.htl_refine.proofs.DoneRecords as records
 use Rattle.htl_machine.proofs.Casting.{job_is, position_some}
-use Rattle.htl_machine.proofs.RoundServed.{served_of}
+use Rattle.htl_machine.proofs.Desking.{count_within, length-walk}
+use Rattle.htl_machine.proofs.ListValues.{take_front}
 use Rattle.htl_machine.proofs.Asked.{AsksFor}
 use Rattle.htl_machine.proofs.Releasing.{release_of}
 use Rattle.htl_machine.proofs.Instants.{with_flags}
@@ -102,37 +100,58 @@ front_more (l ∷ ls) (suc k) (suc m) q f h e = by_test (is_position l.position 
     by_test true g ih = g
     by_test false g ih = ih g
 
-some_there : (o : Option ℕ) → IsSome o → (f : ℕ) × (o ≡ Some f)
-some_there (Some f) h = (f, refl)
-some_there None h = absurd (let z : ⊥ = cc in z)
+module _ (t : Tables) (es : List Event) (turn : ℕ → Turn) (turns : AreTurns t es turn) (now k d : ℕ) (r : Round) (listed : IsListed (turn now))
+    (at : DeskAt (turn now).plan (turn now).frame k d r) (few : k ≤ left_before (turn now) (suc now)) where
+  abbrev u : Turn
+  u = turn now
 
-module _ (p : Plan) (s k d now : ℕ) (r : Round) (meets : Meets p.jobs p.lengths p.schedule) (at : DeskAt p s k d r) (few : k ≤ due_by p s now) (past : s ≤ now) where
-  not_done : (q : ℕ) → q < length p.jobs → s + (job_at p.jobs q).release ≡ now → state_of r q ≢ Finished
+  -- who has no work left was released before
+  pub done_late : (q : ℕ) → q < length u.plan.jobs → (job_at r.jobs q).present ≡ true → eqb (get_or r.point.left q 0) 0 ≡ true → u.frame + (job_at u.plan.jobs q).release < now
+  done_late q below here idle =
+      let e = length u.earlier in
+      let short : k ≤ length (turn_walk u) = omega (arith, few, count_within (suc now - u.frame) (turn_walk u)) in
+      let point : r.point ≡ last_point u.plan.jobs (take k u.plan.schedule) u.plan.first =
+      at.stands.point ∙ ap₂ (λ (js : List Job) (x : Point). last_point js (take r.place u.plan.schedule) x) at.jobs at.first ∙ ap (λ n. last_point u.plan.jobs (take n u.plan.schedule) u.plan.first) at.place in
+      let done : done_by (records_so_far u) (e + k) q ≡ true =
+      listed.worked k q below (omega (arith, short, length-walk u.plan.jobs u.plan.schedule u.plan.first)) (ap (λ (js : List Job). (job_at js q).present) (sym at.jobs) ∙ here)
+      (ap (λ (x : Point). get_or x.left q 0) (sym point) ∙ eqb-true (get_or r.point.left q 0) 0 idle) in
+      let one = done_some (turns.walk now) (e + k) q (ap (λ (ls : List Left). is_some (finish ls q)) (front_is (e + k) (omega (arith, short, length-append u.earlier (turn_walk u)))) ∙ done) in
+      let by_now : done_by (turns.walk now) (count_before (suc now - u.frame) (turns.walk now)) q ≡ true =
+      ap is_some (front_more (turns.walk now) (e + k) (count_before (suc now - u.frame) (turns.walk now)) q one.0 (omega (arith, few, (turns.each now).count)) one.1) in
+      let f = records.done_is (suc now - u.frame) (turns.walk now) q by_now in
+      let late = (turns.frames.runs now).late q f.0 below f.1 in
+      omega (arith, late.0, f.2, turns.frames.past now)
+    where
+      front_is : (m : ℕ) → m ≤ length (records_so_far u) → take m (turns.walk now) ≡ take m (records_so_far u)
+      front_is m h = ap (take m) (turns.each now).front ∙ take_front (records_so_far u) (turns.each now).rest m h
+
+  not_done : (q : ℕ) → q < length u.plan.jobs → u.frame + (job_at u.plan.jobs q).release ≡ now → state_of r q ≢ Finished
   not_done q below when done =
-      let own : r.first ≡ first_point r.jobs r.lengths = at.first ∙ sym (ap₂ first_point at.jobs at.lengths) in
-      let one = some_there (finish_so_far r p.schedule q) ((done_first r p.schedule q at.stands own).0 done) in
-      let there : finish (take k (walk_of p)) q ≡ Some one.0 =
-      sym (ap (λ (x : Point). finish (take r.place (walk_from r.jobs p.schedule x)) q) own ∙ ap (λ n. finish (take n (walk r.jobs r.lengths p.schedule)) q) at.place ∙ ap (λ js. finish (take k (walk js r.lengths p.schedule)) q) at.jobs ∙ ap (λ ns. finish (take k (walk p.jobs ns p.schedule)) q) at.lengths) ∙ one.1 in
-      let by_now : done_by (walk_of p) (count_before (suc now - s) (walk_of p)) q ≡ true = ap is_some (front_more (walk_of p) k (count_before (suc now - s) (walk_of p)) q one.0 few there) in
-      let f = records.done_is (suc now - s) (walk_of p) q by_now in
-      let late = (served_of p.jobs p.lengths p.schedule s now meets).late q f.0 below f.1 in
-      omega (arith, when, late.0, f.2, past)
+      let both = done_by_state (job_at r.jobs q).present (eqb (get_or r.point.left q 0) 0) (get_or r.released q false) done in
+      omega (arith, when, done_late q below both.0 both.1)
+    where
+      done_by_state : (a b c : Bool) → state_by a b c ≡ Finished → (a ≡ true) × (b ≡ true)
+      done_by_state true true c e = (refl, refl)
+      done_by_state true false true e = absurd (let z : ⊥ = cc in z)
+      done_by_state true false false e = absurd (let z : ⊥ = cc in z)
+      done_by_state false b c e = absurd (let z : ⊥ = cc in z)
 
--- the read phase tells the flags of the instant
-pub read_phase_tells : (t : Tables) (code : ECode) → AreInRange t → KeptApart t 12 → ((m : ℕ) → m < length t.modes → ModeReads t code m) → (es : List Event) (p : Plan) (s k d now : ℕ) (r : Round)
-    → IsCast t (state t es now).stays s now p.jobs → Meets p.jobs p.lengths p.schedule → DeskAt p s k d r → k ≤ due_by p s now → s ≤ now
-    → desk_replay code (phase_path t code es now 3) r ≡ with_flags r (tell_all p.jobs (all_reads t now (state t es now).stays) r.released)
-read_phase_tells t code range kept reads es p s k d now r cast meets at few past =
-    read_phase_acts t code reads range es now r
-    ∙ flags_are (all_reads t now (state t es now).stays) r open_yet
-    ∙ ap (λ js. with_flags r (tell_all js (all_reads t now (state t es now).stays) r.released)) at.jobs
-  where
-    open_yet : AreOpen (all_reads t now (state t es now).stays) r
-    open_yet i q asks place =
-        let st = release_of t (state t es now).stays now now (standing_at t range es now) (omega arith) i asks in
-        let w = position_some 0 p.jobs i q (ap (λ js. position_from 0 js i) (sym at.jobs) ∙ place) in
-        let here : slice_get p.jobs q ≡ Some w.2 = ap (slice_get p.jobs) (let z : q ≡ w.0 = omega (arith, w.1) in z) ∙ w.3 in
-        let h = cast.has i st.0 st.1 st.2 in
-        let same : h.0 ≡ q = some_same _ _ (sym h.2 ∙ ap (λ js. position_from 0 js i) (sym at.jobs) ∙ place) in
-        let job : (job_at p.jobs q).release ≡ h.1.job.release = ap (λ (j : Job). j.release) (job_is p.jobs q h.1.job (ap (slice_get p.jobs) (sym same) ∙ h.1.at)) in
-        not_done p s k d now r meets at few past q (slice_get_within p.jobs q w.2 here) (omega (arith, job, h.1.release, st.3))
+  -- the read phase tells the flags of the instant
+  pub read_phase_tells : (code : ECode) → AreInRange t → ((m : ℕ) → m < length t.modes → ModeReads t code m)
+      → desk_replay code (phase_path t code es now 3) r ≡ with_flags r (tell_all u.plan.jobs (all_reads t now (state t es now).stays) r.released)
+  read_phase_tells code range reads =
+      read_phase_acts t code reads range es now r
+      ∙ flags_are (all_reads t now (state t es now).stays) r open_yet
+      ∙ ap (λ js. with_flags r (tell_all js (all_reads t now (state t es now).stays) r.released)) at.jobs
+    where
+      open_yet : AreOpen (all_reads t now (state t es now).stays) r
+      open_yet i q asks place =
+          let jobs = u.plan.jobs in
+          let st = release_of t (state t es now).stays now now (standing_at t range es now) (omega arith) i asks in
+          let own : position_from 0 jobs i ≡ Some q = ap (λ js. position_from 0 js i) (sym at.jobs) ∙ place in
+          let w = position_some 0 jobs i q own in
+          let here : slice_get jobs q ≡ Some w.2 = ap (slice_get jobs) (let z : q ≡ w.0 = omega (arith, w.1) in z) ∙ w.3 in
+          let h = (turns.frames.casts now).has i st.0 st.1 st.2 in
+          let same : h.0 ≡ q = some_same _ _ (sym h.2 ∙ own) in
+          let job : (job_at jobs q).release ≡ h.1.job.release = ap (λ (j : Job). j.release) (job_is jobs q h.1.job (ap (slice_get jobs) (sym same) ∙ h.1.at)) in
+          not_done q (slice_get_within jobs q w.2 here) (omega (arith, job, h.1.release, st.3))

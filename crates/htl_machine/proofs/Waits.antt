@@ -9,7 +9,7 @@ use Rattle.htl_emach.specs.Contents.{Content}
 use Rattle.htl_emach.specs.Shapes.{SensorsStay}
 use Rattle.htl_machine.specs.Marks.{is_marked}
 use Rattle.htl_machine.specs.Noting.{MarksChanges, KeepsNoted}
-use Rattle.htl_machine.specs.Sensors.{shown_then, AreSet, AreShown, ShowsNothing}
+use Rattle.htl_machine.specs.Sensors.{shown_then, AreSet}
 use Rattle.htl_machine.specs.Waiting.{MarksWaiting, takes_now}
 use Rattle.htl_machine.specs.declared.marks.Marks.{Marks}
 use Rattle.htl_machine.specs.declared.noted.Noted.{Noted}

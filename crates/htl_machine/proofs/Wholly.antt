@@ -5,9 +5,9 @@ use Rattle.std.proofs.lemmas.Bool.Decides.{nat_tests}
 use Rattle.htl_model.specs.declared.event.Event.{Event}
 use Rattle.htl_model.specs.declared.event.Event.TheVariants as V
 use Rattle.htl_model.specs.Ranges.{FitsType}
-use Rattle.htl_model.specs.Selections.{root_period}
+use Rattle.htl_model.specs.Frames.{hyper}
 use Rattle.htl_model.specs.Tables.{Tables}
-use Rattle.htl_model.specs.Meaning.{state, sense}
+use Rattle.htl_model.specs.Meaning.{sense}
 use Rattle.htl_walk.specs.declared.schedule.SInstr.{SInstr}
 use Rattle.htl_smach.specs.declared.left.Left.{Left}
 use Rattle.htl_smach.specs.Rounds as rounds
@@ -22,19 +22,19 @@ use Rattle.htl_emach.specs.Safety.{StandsSafely}
 use Rattle.htl_emach.specs.Shapes.{IsShaped}
 use Rattle.htl_emach.specs.Following.{Midway, phase_path}
 use Rattle.htl_emach.proofs.Soundness.{sound}
-use Rattle.htl_emach.proofs.Instants.{follows_writes, reads_follows, first_follows}
+use Rattle.htl_emach.proofs.Instants.{reads_follows, first_follows}
 use Rattle.htl_emach.specs.Following as machines
 use Rattle.htl_refine.specs.Records.{IsTookWithin}
 use Rattle.htl_emach.specs.Contents.{Content}
 use Rattle.htl_machine.specs.Plans.{next_world}
-use Rattle.htl_machine.specs.Rounds.{plan_of}
-use Rattle.htl_machine.specs.Follows.{Held, reading_of, period_or, DeskFollows, IsLoaded, at_reading, shown_as, desk_taking, taken_as}
+use Rattle.htl_machine.specs.RunLists.{turn_at}
+use Rattle.htl_machine.specs.Follows.{Held, reading_of, DeskFollows, IsLoaded, at_reading, shown_as, desk_taking, taken_as}
 use Rattle.htl_console.specs.declared.shown.Shown.{Shown}
 use Rattle.htl_machine.specs.Texts.{instant_text, records_of}
 use Rattle.htl_machine.specs.Machines.{Counts, Stands, Followed}
 use Rattle.htl_machine.specs.Wholes.{Whole, WholeFollowed, Passed}
 use Rattle.htl_machine.proofs.Events.{sense_at, sense_took, sense_sense}
-use Rattle.htl_machine.proofs.Meeting.{next_is, switch_values}
+use Rattle.htl_machine.proofs.Meeting.{next_is}
 use Rattle.htl_machine.proofs.Advancing.{instant_stands, read_stands, sense_stands, took_stands}
 use Rattle.htl_machine.proofs.Waking.{triggers_alike}
 
@@ -42,30 +42,21 @@ use Rattle.htl_machine.proofs.Waking.{triggers_alike}
 abbrev pub counted : Tables → ECode → List (List SInstr) → List Event → ℕ → Counts → Counts
 counted t code schedules es now n =
     record {
-      jobs = min (n.jobs + count_by (λ (l : Left). l.finished) (records_of t schedules es (root_period t) now)) (2 ^ 64 - 1);
+      jobs = min (n.jobs + count_by (λ (l : Left). l.finished) (records_of t schedules es (hyper t) now)) (2 ^ 64 - 1);
       e = min (n.e + length (e_path t code es now)) (2 ^ 64 - 1);
-      s = min (n.s + length (records_of t schedules es (root_period t) now)) (2 ^ 64 - 1);
+      s = min (n.s + length (records_of t schedules es (hyper t) now)) (2 ^ 64 - 1);
     }
 
 module _ (t : Tables) (code : ECode) (schedules : List (List SInstr)) (loaded : IsLoaded t schedules) (spelled : Spells t code) (show : Shown) where
   pub modes_read : (m : ℕ) → m < length t.modes → ModeReads t code m
   modes_read m inside = spelled_reads t code m ((spells_or_departs t code).0 spelled) inside
 
-  -- the write phase starts from what the machine holds
-  pub whole_starts : (es : List Event) (now : ℕ) (e : Standing) (m : Held) (n : Counts) (written : List ℕ) → Whole t code schedules show es now e m n written → Midway t code es now 1 e [] (phase_path t code es now 1)
-  whole_starts es now e m n written f = follows_writes t code es now e f.triggers
-
-  -- the values that the switch phase asks for
-  pub whole_values : (es : List Event) (now : ℕ) (e e1 : Standing) (m : Held) (n : Counts) (written : List ℕ) (w5 : Content) → Whole t code schedules show es now e m n written → (p : Passed t code schedules es now m.world w5 e1) → p.sensed.values ≡ (state t es now).values
-  whole_values es now e e1 m n written w5 f p =
-      switch_values t code schedules loaded modes_read es f.stands.up_to.within now m p.recorded p.wrote p.sensed f.stands.up_to p.records p.writes p.sensors
-
   -- one instant: what the calls of both machines say carries all that the machine is asked for
   pub whole_instant : (es : List Event) (now : ℕ) (e e1 : Standing) (m : Held) (n : Counts) (written new : List ℕ) (w5 : Content) (r : Round) → Whole t code schedules show es now e m n written
-      → Passed t code schedules es now m.world w5 e1 → DeskFollows (plan_of t schedules es) (root_period t) (suc now) r → new ≡ written ++ instant_text t code schedules es show now
+      → Passed t code schedules es now m.world w5 e1 → DeskFollows (turn_at t schedules es) (hyper t) (suc now) r → new ≡ written ++ instant_text t code schedules es show now
       → Whole t code schedules show es (suc now) e1 (record m { world = w5; desk = r }) (counted t code schedules es now n) new
   whole_instant es now e e1 m n written new w5 r f p desk text =
-      let world : w5 ≡ next_world t es (plan_of t schedules es) (period_or (root_period t)) now m.world =
+      let world : w5 ≡ next_world t es (turn_at t schedules es) now m.world =
       next_is t code schedules loaded modes_read es f.stands.up_to.within now m.world p.recorded p.wrote p.sensed p.switched w5 p.records p.writes p.sensors p.switches p.reads in
       record {
         triggers = reads_follows t code es now e1 (phase_path t code es now 3) [] (sound t code 12 (omega arith) loaded.range loaded.kept ((spells_or_departs t code).0 spelled)) p.ends;

@@ -1,54 +1,39 @@
 -- What was written stays, whatever events come: the text of the instants before a reading.
-use Rattle.std.proofs.Common.{◌≡◌, ℕ, zero, suc, ◌+◌, ◌-◌, ◌^◌, min, ◌≤◌, ◌<◌, cond, eqb, List, [], ◌∷◌, ◌++◌, take, drop, Option, Some, None, refl, ap, ap₂, ◌∙◌, arith}
+use Rattle.std.proofs.Common.{◌≡◌, ℕ, zero, suc, ◌+◌, ◌-◌, ◌^◌, min, ◌<◌, cond, eqb, List, [], ◌++◌, Option, Some, None, refl, ap, ap₂, ◌∙◌, arith}
 use Rattle.htl_model.specs.declared.event.Event.{Event}
 use Rattle.htl_model.specs.declared.state.State.{State}
 use Rattle.htl_model.specs.Lists.{joined}
 use Rattle.htl_model.specs.Lines.{lines_text}
-use Rattle.htl_model.specs.Selections.{root_period}
+use Rattle.htl_model.specs.Frames.{hyper}
 use Rattle.htl_model.specs.Tables.{Tables}
 use Rattle.htl_model.specs.Meaning.{state, before, changes}
 use Rattle.htl_model.proofs.Locality.{up_to_same}
 use Rattle.htl_walk.specs.declared.schedule.SInstr.{SInstr}
-use Rattle.htl_smach.specs.declared.left.Left.{Left}
-use Rattle.htl_smach.specs.Rounds.{told_from}
-use Rattle.htl_machine.proofs.FrameValues.{count_grows}
 use Rattle.htl_ecode.specs.declared.ecode.ECode.{ECode}
 use Rattle.htl_ecode.specs.Paths.{instant_path}
-use Rattle.htl_refine.specs.RecordCounts.{count_before}
-use Rattle.htl_refine.specs.Records.{took}
-use Rattle.htl_refine.specs.Records.{Round as Plan}
-use Rattle.htl_machine.specs.Plans.{round_start}
-use Rattle.htl_refine.specs.Records.{walk_of}
-use Rattle.htl_machine.specs.Rounds.{plan_of, selection_of}
+use Rattle.htl_refine.specs.Records.{took, AreTookWithin}
 use Rattle.htl_console.specs.declared.shown.Shown.{Shown}
 use Rattle.htl_console.specs.Shows.{shows_values, shows_code}
-use Rattle.htl_machine.specs.Texts.{e_line, record_text, some_records, old_records, new_records, records_text, old_start, round_texts, instant_text, text_before, capped, told_in}
+use Rattle.htl_machine.specs.ListTurns.{Turn, left_before}
+use Rattle.htl_machine.specs.RunLists.{turn_at}
+use Rattle.htl_machine.specs.Texts.{e_line, some_records, old_turn, old_records, new_records, records_text, list_texts, instant_text, text_before, capped}
+use Rattle.htl_machine.specs.Follows.{IsLoaded}
 use Rattle.htl_machine.proofs.Events.{Alike, state_same, before_same}
-use Rattle.htl_machine.proofs.Following.{plan_same}
-use Rattle.htl_machine.proofs.Plain.{down}
+use Rattle.htl_machine.proofs.Following.{turn_same}
 
-module _ (t : Tables) (code : ECode) (schedules : List (List SInstr)) (es fs : List Event) (show : Shown) (now : ℕ) (alike : Alike t es fs now) (tooks : (i u : ℕ) → took t es i u ≡ took t fs i u) where
-  texts_same : (s n : ℕ) (ls : List Left) → s < now → records_text t schedules es show s ls ≡ records_text t schedules fs show s ls
-  texts_same s n ls h =
-      ap₂ (λ (p : Plan) (x : State). joined (record_text t show p (selection_of t x.stays)) ls) (plan_same t schedules es fs now alike tooks s h) (state_same t es fs now s alike h)
+module _ (t : Tables) (code : ECode) (schedules : List (List SInstr)) (es fs : List Event) (show : Shown) (now : ℕ) (alike : Alike t es fs now) (loaded : IsLoaded t schedules) (within : AreTookWithin t es) (tooks : (i u : ℕ) → took t es i u ≡ took t fs i u) where
+  old_same : (n : ℕ) → n < now → records_text t show (old_turn (turn_at t schedules es) n) (old_records (turn_at t schedules es) n) ≡ records_text t show (old_turn (turn_at t schedules fs) n) (old_records (turn_at t schedules fs) n)
+  old_same zero h = refl
+  old_same (suc n) h =
+      ap (λ (u : Turn). records_text t show u (some_records u.plan u.frame (left_before u (suc n)) (left_before u (suc (suc n)) - left_before u (suc n)))) (turn_same t schedules es fs now alike loaded within tooks n (omega (arith, h)))
 
-  old_same : (period n : ℕ) → n < now → records_text t schedules es show (old_start period n) (old_records (plan_of t schedules es) period n) ≡ records_text t schedules fs show (old_start period n) (old_records (plan_of t schedules fs) period n)
-  old_same period zero h = texts_same 0 0 [] h
-  old_same period (suc n) h =
-      let s = round_start period n in
-      let early : s < now = omega (arith, down period n) in
-      ap (λ (p : Plan). records_text t schedules es show s (some_records p s (count_before (suc n - s) (walk_of p)) (count_before (suc (suc n) - s) (walk_of p) - count_before (suc n - s) (walk_of p))))
-      (plan_same t schedules es fs now alike tooks s early)
-      ∙ texts_same s n (old_records (plan_of t schedules fs) period (suc n)) early
+  new_same : (n : ℕ) → n < now → records_text t show (turn_at t schedules es n) (new_records (turn_at t schedules es) n) ≡ records_text t show (turn_at t schedules fs n) (new_records (turn_at t schedules fs) n)
+  new_same n h =
+      ap (λ (u : Turn). records_text t show u (cond (eqb (u.frame + u.from) n) (some_records u.plan u.frame 0 (left_before u (suc n))) [])) (turn_same t schedules es fs now alike loaded within tooks n h)
 
-  new_same : (period n : ℕ) → n < now → records_text t schedules es show n (new_records (plan_of t schedules es) period n) ≡ records_text t schedules fs show n (new_records (plan_of t schedules fs) period n)
-  new_same period n h =
-      ap (λ (p : Plan). records_text t schedules es show n (cond (eqb (round_start period n) n) (some_records p n 0 (count_before (suc n - n) (walk_of p))) [])) (plan_same t schedules es fs now alike tooks n h)
-      ∙ texts_same n n (new_records (plan_of t schedules fs) period n) h
-
-  rounds_same : (o : Option ℕ) (n : ℕ) → n < now → round_texts t code schedules es show o n ≡ round_texts t code schedules fs show o n
-  rounds_same None n h = refl
-  rounds_same (Some period) n h = ap₂ (λ (a b : List ℕ). (a, b)) (old_same period n h) (new_same period n h)
+  lists_same : (o : Option ℕ) (n : ℕ) → n < now → list_texts t schedules es show o n ≡ list_texts t schedules fs show o n
+  lists_same None n h = refl
+  lists_same (Some period) n h = ap₂ (λ (a b : List ℕ). (a, b)) (old_same n h) (new_same n h)
 
   -- events that agree before an instant have one text before it
   pub instant_same : (n : ℕ) → n < now → instant_text t code schedules es show n ≡ instant_text t code schedules fs show n
@@ -58,7 +43,7 @@ module _ (t : Tables) (code : ECode) (schedules : List (List SInstr)) (es fs : L
       let P : List ℕ × List ℕ → State → State → List ℕ =
       λ r x y.
       r.0 ++ cond (shows_code show) (joined (e_line t code n) (instant_path t code n x y)) [] ++ cond (shows_values show) (lines_text t (changes t n x y)) [] ++ r.1 in
-      ap (λ r. P r (before t es n) (state t es n)) (rounds_same (root_period t) n h) ∙ ap₂ (P (round_texts t code schedules fs show (root_period t) n)) old new
+      ap (λ r. P r (before t es n) (state t es n)) (lists_same (hyper t) n h) ∙ ap₂ (P (list_texts t schedules fs show (hyper t) n)) old new
 
   pub before_stays : text_before t code schedules es show now ≡ text_before t code schedules fs show now
   before_stays = up_to_same (instant_text t code schedules es show) (instant_text t code schedules fs show) now (λ n h. instant_same n h)
@@ -66,25 +51,3 @@ module _ (t : Tables) (code : ECode) (schedules : List (List SInstr)) (es fs : L
 -- a count that stands at its end goes on from the count before
 pub capped_more : (a b : ℕ) → capped (a + b) ≡ min (capped a + b) (2 ^ 64 - 1)
 capped_more a b = omega arith
-
--- ---- the instants tell each record of a round once, in order
-
-take_none : {A : Type 0} (n : ℕ) → take {A = A} n [] ≡ []
-take_none zero = refl
-take_none (suc n) = refl
-
-take_on : {A : Type 0} (xs : List A) (a b : ℕ) → a ≤ b → take a xs ++ take (b - a) (drop a xs) ≡ take b xs
-take_on xs zero b h = ap (λ z. take z xs) (let e : b - 0 ≡ b = omega arith in e)
-take_on [] (suc a) zero h = absurd (omega arith)
-take_on {A} [] (suc a) (suc b) h = take_none {A = A} (suc b - suc a)
-take_on (x ∷ xs) (suc a) zero h = absurd (omega arith)
-take_on (x ∷ xs) (suc a) (suc b) h = ap (λ z. x ∷ z) (ap (λ n. take a xs ++ take n (drop a xs)) (let e : suc b - suc a ≡ b - a = omega arith in e) ∙ take_on xs a b (omega arith))
-
-pub told_is : (p : Plan) (s n : ℕ) → told_in p s n ≡ take (count_before (suc (s + n) - s) (walk_of p)) (told_from s 0 (walk_of p))
-told_is p s zero = ap (λ z. take (count_before z (walk_of p)) (told_from s 0 (walk_of p))) (let e : suc s - s ≡ suc (s + 0) - s = omega arith in e)
-told_is p s (suc n) =
-    let a = count_before (s + suc n - s) (walk_of p) in
-    let b = count_before (suc (s + suc n) - s) (walk_of p) in
-    let same : count_before (suc (s + n) - s) (walk_of p) ≡ a = ap (λ z. count_before z (walk_of p)) (let e : suc (s + n) - s ≡ s + suc n - s = omega arith in e) in
-    ap (λ z. z ++ some_records p s a (b - a)) (told_is p s n ∙ ap (λ z. take z (told_from s 0 (walk_of p))) same)
-    ∙ take_on (told_from s 0 (walk_of p)) a b (count_grows (s + suc n - s) (suc (s + suc n) - s) (walk_of p) (omega arith))

@@ -2,7 +2,7 @@
 use Rattle.std.specs.Prelude.{◌≡◌, ℕ, zero, suc, ◌+◌, ◌-◌, ◌≤◌, ◌<◌, Bool, false, true, List, [], length, get_or, map, slice_get, Option, Some, None, ℤ, pos}
 use Rattle.htl_model.specs.declared.event.Event.{Event}
 use Rattle.htl_model.specs.Lists.{up_to}
-use Rattle.htl_model.specs.Selections.{root_period}
+use Rattle.htl_model.specs.Frames.{hyper}
 use Rattle.htl_model.specs.declared.parts.Comm.{Comm}
 use Rattle.htl_model.specs.declared.parts.Inv.{Inv}
 use Rattle.htl_model.specs.Ranges.{FitsType}
@@ -20,10 +20,11 @@ use Rattle.htl_refine.specs.Records.{AreTookWithin, took}
 use Rattle.htl_object.specs.declared.object.Object.{Object}
 use Rattle.htl_console.specs.declared.shown.Shown.{Shown}
 use Rattle.htl_machine.specs.Programs.{schedules_of, lines_of}
-use Rattle.htl_machine.specs.Plans.{round_start, finished_before}
-use Rattle.htl_machine.specs.Rounds.{plan_of, selection_of}
+use Rattle.htl_machine.specs.ListTurns.{Turn}
+use Rattle.htl_machine.specs.Plans.{finished_before}
+use Rattle.htl_machine.specs.RunLists.{turn_at}
 use Rattle.htl_machine.specs.Values.{ValuesFollow}
-use Rattle.htl_machine.specs.Follows.{Held, reading_of, DeskFollows, period_or}
+use Rattle.htl_machine.specs.Follows.{Held, reading_of, DeskFollows}
 use Rattle.htl_machine.specs.Lines.{e_done, jobs_done, s_done}
 
 -- what contracts see of a machine
@@ -93,16 +94,16 @@ pub record IsValued (t : Tables) (code : ECode) (es : List Event) (now : ℕ) (f
   pub safe : StandsSafely t code m
   pub count : e ≡ e_done t code es now
 
--- the round goes by the schedule of the selection that ran when it began
-abbrev pub GoesBy : Tables → List Event → Option ℕ → ℕ → Option ℕ → Type 0
-GoesBy t es None now selection = selection ≡ None
-GoesBy t es (Some period) zero selection = selection ≡ None
-GoesBy t es (Some period) (suc n) selection = selection ≡ Some (selection_of t (state t es (round_start period n)).stays)
+-- the number is that of the list that began last before an instant
+abbrev pub GoesBy : (ℕ → Turn) → Option ℕ → ℕ → Option ℕ → Type 0
+GoesBy turn None now selection = selection ≡ None
+GoesBy turn (Some period) zero selection = selection ≡ None
+GoesBy turn (Some period) (suc n) selection = selection ≡ Some (turn n).node
 
--- the round of the processor that began last before an instant
+-- the list of the processor that began last before an instant
 pub record IsRecorded (t : Tables) (schedules : List (List SInstr)) (es : List Event) (now : ℕ) (r : Round) (selection : Option ℕ) (jobs s : ℕ) : Type 0 where
-  pub desk : DeskFollows (plan_of t schedules es) (root_period t) now r
-  pub goes : GoesBy t es (root_period t) now selection
+  pub desk : DeskFollows (turn_at t schedules es) (hyper t) now r
+  pub goes : GoesBy (turn_at t schedules es) (hyper t) now selection
   pub jobs_are : jobs ≡ jobs_done t schedules es now
   pub s_are : s ≡ s_done t schedules es now
 
@@ -110,7 +111,7 @@ pub record IsRecorded (t : Tables) (schedules : List (List SInstr)) (es : List E
 pub record IsBefore (m : Seen) (es : List Event) (now : ℕ) : Type 0 where
   pub values :
       IsValued m.object.tables m.object.ecode es now
-      (finished_before (plan_of m.object.tables (schedules_of m.object) es) (period_or (root_period m.object.tables)) now) m.held.world m.standing m.e
+      (finished_before (turn_at m.object.tables (schedules_of m.object) es) now) m.held.world m.standing m.e
   pub records : IsRecorded m.object.tables (schedules_of m.object) es now m.held.desk m.selection m.jobs m.s
 
 -- before an instant that is no earlier than the last reading

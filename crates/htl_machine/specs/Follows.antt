@@ -2,12 +2,11 @@
 use Rattle.std.specs.Prelude.{◌≡◌, ℕ, zero, suc, ◌-◌, ◌≤◌, ◌<◌, Bool, false, ◌&&◌, ltb, List, [], ◌∷◌, length, get_or, set, map, Option, Some, None, ℤ, pos}
 use Rattle.htl_model.specs.declared.event.Event.{Event}
 use Rattle.htl_model.specs.declared.event.Event.TheVariants as V
-use Rattle.htl_model.specs.Selections.{root_period}
+use Rattle.htl_model.specs.Frames.{hyper}
 use Rattle.htl_model.specs.Tables.{Tables}
 use Rattle.htl_model.specs.Meaning.{sense}
 use Rattle.htl_walk.specs.declared.job.Job.{Job}
 use Rattle.htl_walk.specs.declared.schedule.SInstr.{SInstr}
-use Rattle.htl_walk.specs.Walk.{InForm, first_point}
 use Rattle.htl_emach.specs.Shapes.{HasValues, IsShaped}
 use Rattle.htl_smach.specs.Rounds as rounds
 use Rattle.htl_smach.specs.Rounds.{Round, no_round, state_of}
@@ -15,15 +14,17 @@ use Rattle.htl_smach.specs.declared.state.PosState.{PosState}
 use Rattle.htl_smach.specs.declared.state.PosState.TheVariants.{Absent, Pending, Ready, Done}
 use Rattle.htl_model.specs.Ranges.{AreInRange}
 use Rattle.htl_model.specs.FrameRules.{KeptApart}
+use Rattle.htl_model.specs.Broken.{KeptTo}
+use Rattle.htl_walk.specs.Feasible.{AreFeasible}
 use Rattle.htl_refine.specs.Records.{AreTookWithin, took}
 use Rattle.htl_emach.specs.Contents.{Content}
 use Rattle.htl_machine.specs.Values.{ValuesFollow}
 use Rattle.htl_refine.specs.RecordCounts.{count_before}
-use Rattle.htl_refine.specs.Records.{Round as Plan}
-use Rattle.htl_machine.specs.Plans.{AreRegular, AreSound, round_start, finished_before}
-use Rattle.htl_refine.specs.Records.{walk_of}
-use Rattle.htl_machine.specs.Rounds.{plan_of}
+use Rattle.htl_refine.specs.ListPlans.{ListPlan as Plan, list_walk}
+use Rattle.htl_machine.specs.ListTurns.{Turn}
+use Rattle.htl_machine.specs.Plans.{finished_before}
 use Rattle.htl_machine.specs.Turns.{position_from}
+use Rattle.htl_machine.specs.RunLists.{turn_at}
 
 -- what contracts see of a machine, but for its triggers and totals
 pub record Held : Type 0 where
@@ -49,30 +50,25 @@ reading_of r (V.End t ∷ es) = reading_of r es
 abbrev pub released_before : ℕ → List Job → List Bool
 released_before d jobs = map (λ j. j.present && ltb j.release d) jobs
 
--- the S machine stands in the round from s, all records before `now` given
+-- the S machine stands in the list, of the frame from s, all records before `now` given
 pub record DeskStands (p : Plan) (s now : ℕ) (r : Round) : Type 0 where
   pub start : r.start ≡ s
   pub jobs : r.jobs ≡ p.jobs
-  pub lengths : r.lengths ≡ p.lengths
-  -- its walk begins with the work of its jobs
-  pub first : r.first ≡ first_point p.jobs p.lengths
-  pub place : r.place ≡ count_before (now - s) (walk_of p)
+  pub lengths : length r.lengths ≡ length r.jobs
+  -- its walk begins where those of the lists before it end
+  pub first : r.first ≡ p.first
+  pub place : r.place ≡ count_before (now - s) (list_walk p)
   pub running : r.running ≡ ltb r.place (length p.schedule)
   pub released : r.released ≡ released_before (now - s) p.jobs
   pub stands : rounds.Stands r p.schedule
 
--- before an instant the S machine stands in the round that began last before it
-abbrev pub DeskFollows : (ℕ → Plan) → Option ℕ → ℕ → Round → Type 0
-DeskFollows plan None now r = r ≡ no_round
-DeskFollows plan (Some period) zero r = r ≡ no_round
-DeskFollows plan (Some period) (suc n) r = DeskStands (plan (round_start period n)) (round_start period n) (suc n) r
+-- before an instant the S machine stands in the list that began last before it; without modules there is none
+abbrev pub DeskFollows : (ℕ → Turn) → Option ℕ → ℕ → Round → Type 0
+DeskFollows turn None now r = r ≡ no_round
+DeskFollows turn (Some period) zero r = r ≡ no_round
+DeskFollows turn (Some period) (suc n) r = DeskStands (turn n).plan (turn n).frame (suc n) r
 
 -- ---- the machine
-
--- the period of the rounds; any where there is no module
-abbrev pub period_or : Option ℕ → ℕ
-period_or (Some p) = p
-period_or None = 1
 
 -- before the instant `now`, which is no earlier than the last reading
 pub record UpTo (t : Tables) (schedules : List (List SInstr)) (es : List Event) (now : ℕ) (m : Held) : Type 0 where
@@ -82,10 +78,10 @@ pub record UpTo (t : Tables) (schedules : List (List SInstr)) (es : List Event) 
   pub fits : HasValues t m.shows
   pub shows : (c u : ℕ) → c < length t.comms → reading_of 0 es ≤ u → sense t es c u ≡ get_or m.shows c (pos 0)
   pub takes : (i u : ℕ) → i < length t.invs → reading_of 0 es ≤ u → took t es i u ≡ get_or m.takes i 0
-  pub values : ValuesFollow t es now (finished_before (plan_of t schedules es) (period_or (root_period t)) now) m.world
+  pub values : ValuesFollow t es now (finished_before (turn_at t schedules es) now) m.world
   -- each value, input and output is of its type
   pub shape : IsShaped t m.world
-  pub desk : DeskFollows (plan_of t schedules es) (root_period t) now m.desk
+  pub desk : DeskFollows (turn_at t schedules es) (hyper t) now m.desk
 
 -- at the last reading
 pub record Follows (t : Tables) (schedules : List (List SInstr)) (es : List Event) (m : Held) : Type 0 where
@@ -95,33 +91,24 @@ pub record Follows (t : Tables) (schedules : List (List SInstr)) (es : List Even
 
 -- ---- inside an instant
 
--- the S machine stands in the round from s, k of its records given, the releases before an offset told
+-- the S machine stands in the list, of the frame from s, k of its records given, the releases before an offset told
 pub record DeskAt (p : Plan) (s k d : ℕ) (r : Round) : Type 0 where
   pub start : r.start ≡ s
   pub jobs : r.jobs ≡ p.jobs
-  pub lengths : r.lengths ≡ p.lengths
-  -- its walk begins with the work of its jobs
-  pub first : r.first ≡ first_point p.jobs p.lengths
+  pub lengths : length r.lengths ≡ length r.jobs
+  -- its walk begins where those of the lists before it end
+  pub first : r.first ≡ p.first
   pub place : r.place ≡ k
   pub running : r.running ≡ ltb k (length p.schedule)
   pub released : r.released ≡ released_before d p.jobs
   pub stands : rounds.Stands r p.schedule
 
--- the schedule of each round is in form
-abbrev pub AreInForm : Tables → List (List SInstr) → List Event → ℕ → Type 0
-AreInForm t schedules es period = (n : ℕ) → let r = plan_of t schedules es (round_start period n) in InForm (length r.jobs) period r.schedule
-
--- every round is sound, and its schedule in form; without modules there is no schedule
-pub record AreKept (t : Tables) (schedules : List (List SInstr)) (es : List Event) : Type 0 where
-  pub regular : AreRegular t es (period_or (root_period t))
-  pub sound : AreSound t es (plan_of t schedules es) (period_or (root_period t))
-  pub form : (period : ℕ) → root_period t ≡ Some period → AreInForm t schedules es period
-
--- tables in range that keep the form rules, perhaps but that of equal root periods, with schedules that serve every round
+-- tables in range that keep the form rules, with lists that are accepted for all paths
 pub record IsLoaded (t : Tables) (schedules : List (List SInstr)) : Type 0 where
   pub range : AreInRange t
   pub kept : KeptApart t 12
-  pub rounds : (es : List Event) → AreTookWithin t es → AreKept t schedules es
+  pub rules : KeptTo t 16
+  pub feasible : AreFeasible t schedules
 
 -- ---- what the calls of a machine do to what it keeps
 

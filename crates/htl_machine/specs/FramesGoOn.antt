@@ -11,7 +11,7 @@ use Rattle.htl_emach.specs.Contents.{Content}
 use Rattle.htl_refine.specs.RecordCounts.{count_before, done_by}
 use Rattle.htl_refine.specs.ServedSoFar.{IsServedSoFar}
 use Rattle.htl_machine.specs.Casts.{IsCast}
-use Rattle.htl_machine.specs.Plans.{run_records}
+use Rattle.htl_machine.specs.Completing.{run_records}
 use Rattle.htl_machine.specs.Turns.{finished_in}
 use Rattle.htl_machine.specs.Values.{AreCarried}
 use Rattle.htl_machine.specs.Worlds.{world_after}

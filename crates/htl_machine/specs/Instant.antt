@@ -2,21 +2,21 @@
 use Rattle.std.specs.Prelude.{◌≡◌, ◌≤◌, ℕ, ◌-◌, true, List, length}
 use Rattle.htl_model.specs.declared.event.Event.{Event}
 use Rattle.htl_model.specs.Lists.{joined}
-use Rattle.htl_model.specs.Selections.{root_period}
+use Rattle.htl_model.specs.Frames.{hyper}
 use Rattle.htl_walk.specs.declared.schedule.SInstr.{SInstr}
 use Rattle.htl_smach.specs.Rounds.{Round, Stands, IsInForm, IsTold}
 use Rattle.htl_emach.specs.Contents.{Content}
-use Rattle.htl_refine.specs.Records.{Round as Plan}
+use Rattle.htl_refine.specs.ListPlans.{ListPlan as Plan}
 use Rattle.htl_machine.specs.Calls.{Seen, number_by}
-use Rattle.htl_machine.specs.Follows.{DeskAt, period_or}
+use Rattle.htl_machine.specs.Follows.{DeskAt}
 use Rattle.htl_machine.specs.Leaving.{due_by}
 use Rattle.htl_machine.specs.Plans.{with_records}
 use Rattle.htl_machine.specs.Programs.{schedules_of}
 use Rattle.htl_machine.specs.Recording.{AreOf, Records}
-use Rattle.htl_machine.specs.Rounds.{plan_of}
-use Rattle.htl_machine.specs.Texts.{record_text, round_texts, some_records}
+use Rattle.htl_machine.specs.RunLists.{turn_at}
+use Rattle.htl_machine.specs.Texts.{record_text, list_texts, some_records}
 
--- before an instant the S machine stands in a round that goes by this schedule, or in none, by an empty one
+-- before an instant the S machine stands in a list of these instructions, or in none, by an empty one
 pub record IsReadyAt (m : Seen) (es : List Event) (now : ℕ) (steps : List SInstr) : Type 0 where
   pub plan : Plan
   pub start : ℕ
@@ -33,6 +33,6 @@ pub record IsReadyAt (m : Seen) (es : List Event) (now : ℕ) (steps : List SIns
   pub told : IsTold m.held.desk now
   -- what its records do to the world, and what they show
   pub recorded : (d : Round) (v : Content) → Records m.object.tables m.held.desk m.held.world d v steps now
-      → v ≡ with_records m.object.tables (plan_of m.object.tables (schedules_of m.object) es) (period_or (root_period m.object.tables)) now m.held.world
+      → v ≡ with_records m.object.tables (turn_at m.object.tables (schedules_of m.object) es) now m.held.world
   pub lines : joined (record_text m.object.tables m.show plan (number_by m.selection)) (some_records plan start place (due_by plan start now - place))
-      ≡ (round_texts m.object.tables m.object.ecode (schedules_of m.object) es m.show (root_period m.object.tables) now).0
+      ≡ (list_texts m.object.tables (schedules_of m.object) es m.show (hyper m.object.tables) now).0

@@ -1,17 +1,20 @@
 -- A run's text as lines of their kinds, and the job lines that its records owe.
-use Rattle.std.specs.Prelude.{◌≡◌, ℕ, suc, ◌*◌, ◌%◌, Bool, true, false, cond, eqb, ◌||◌, List, [], ◌∷◌, ◌++◌, All, Option, Some, None}
+use Rattle.std.specs.Prelude.{◌≡◌, ℕ, suc, ◌*◌, ◌/◌, Bool, true, false, cond, eqb, ◌||◌, List, [], ◌∷◌, ◌++◌, All, Option, Some, None}
 use Rattle.std.specs.List.{filter}
 use Rattle.htl_base.specs.Names.{is_name}
 use Rattle.htl_model.specs.declared.event.Event.{Event}
 use Rattle.htl_model.specs.declared.line.Line.{Line}
 use Rattle.htl_model.specs.Lines.{line_text, totals_line}
 use Rattle.htl_model.specs.Lists.{joined, up_to}
-use Rattle.htl_model.specs.Selections.{root_period}
+use Rattle.htl_model.specs.Frames.{hyper}
 use Rattle.htl_model.specs.Tables.{Tables}
+use Rattle.htl_walk.specs.declared.job.Job.{Job}
 use Rattle.htl_walk.specs.declared.schedule.SInstr.{SInstr}
 use Rattle.htl_walk.specs.Walk.{Left}
 use Rattle.htl_ecode.specs.declared.instr.EInstr.{EInstr}
-use Rattle.htl_refine.specs.Records.{Round, round_at, left_at, rounds_before}
+use Rattle.htl_refine.specs.FrameRecords.{RunningList, lists_at, left_in, begun_before, begins_at}
+use Rattle.htl_refine.specs.FrameRuns.{frame_at}
+use Rattle.htl_refine.specs.Records.{rounds_before}
 use Rattle.htl_console.specs.Lines.{slice_line, done_line, instr_line, step_line}
 use Rattle.htl_machine.specs.Texts.{inv_at}
 
@@ -22,16 +25,16 @@ pub data RunLine : Type 0 where
   DoneLine : (at inv : ℕ) → RunLine
   InstrLine : (at address : ℕ) (instr : EInstr) → RunLine
   ChangeLine : (change : Line) → RunLine
-  StepLine : (at selection place : ℕ) (instr : SInstr) → RunLine
+  StepLine : (at node place : ℕ) (instr : SInstr) → RunLine
   TotalsLine : (at jobs e s : ℕ) → RunLine
 
--- `j FROM TO NAME`, `d AT NAME`, `e AT ADDRESS TEXT`, `v AT NAME VALUE` or `m AT NAME MODE`, `s AT SELECTION:PLACE TEXT`, `end AT ..`
+-- `j FROM TO NAME`, `d AT NAME`, `e AT ADDRESS TEXT`, `v AT NAME VALUE` or `m AT NAME MODE`, `s AT NODE:PLACE TEXT`, `end AT ..`
 abbrev pub printed : Tables → RunLine → List ℕ
 printed t (SliceLine from to i) = slice_line t from to i
 printed t (DoneLine at i) = done_line t at i
 printed t (InstrLine at address x) = instr_line t at address x
 printed t (ChangeLine x) = line_text t x
-printed t (StepLine at selection place x) = step_line at selection place x
+printed t (StepLine at node place x) = step_line at node place x
 printed t (TotalsLine at jobs e s) = totals_line at jobs e s
 
 abbrev pub is_job_line : RunLine → Bool
@@ -39,7 +42,7 @@ is_job_line (SliceLine from to i) = true
 is_job_line (DoneLine at i) = true
 is_job_line (InstrLine at address x) = false
 is_job_line (ChangeLine x) = false
-is_job_line (StepLine at selection place x) = false
+is_job_line (StepLine at node place x) = false
 is_job_line (TotalsLine at jobs e s) = false
 
 -- ---- the job lines of records
@@ -52,23 +55,26 @@ slice_of i None = []
 abbrev pub done_of : ℕ → Left → List RunLine
 done_of i l = cond l.finished (DoneLine l.at i ∷ []) []
 
-abbrev pub job_lines_of : Round → ℕ × Left → List RunLine
-job_lines_of r l = let i = inv_at r.jobs l.1.position in slice_of i l.1.slice ++ done_of i l.1
+abbrev pub job_lines_of : List Job → ℕ × Left → List RunLine
+job_lines_of jobs l = let i = inv_at jobs l.1.position in slice_of i l.1.slice ++ done_of i l.1
 
--- of the records at an instant of the round from `start`
-abbrev pub round_job_lines : Tables → List (List SInstr) → List Event → ℕ → ℕ → List RunLine
-round_job_lines t schedules es start now = joined (job_lines_of (round_at t schedules es start)) (left_at t schedules es start now)
+-- of the records at an instant of a list of the frame from f
+abbrev pub list_job_lines : Tables → List (List SInstr) → List Event → ℕ → ℕ → RunningList → List RunLine
+list_job_lines t lists es now f r = joined (job_lines_of (frame_at t lists es f).jobs) (left_in now f r)
 
--- of all records at an instant: those of the rounds that began before it, and those of the round that begins there; none without modules
+-- of those of its lists that these are
+abbrev pub frame_job_lines : Tables → List (List SInstr) → List Event → (RunningList → Bool) → ℕ → ℕ → List RunLine
+frame_job_lines t lists es which now f = joined (list_job_lines t lists es now f) (filter which (lists_at t lists es f))
+
+-- of all records at an instant: those of the lists that began before it, and those of the list that begins there; none without modules
 abbrev pub job_lines_at : Tables → List (List SInstr) → List Event → Option ℕ → ℕ → List RunLine
-job_lines_at t schedules es None now = []
-job_lines_at t schedules es (Some period) now =
-    up_to (λ k. round_job_lines t schedules es (k * period) now) (rounds_before period now)
-    ++ cond (eqb (now % period) 0) (round_job_lines t schedules es now now) []
+job_lines_at t lists es None now = []
+job_lines_at t lists es (Some h) now =
+    up_to (λ k. frame_job_lines t lists es (begun_before now) now (k * h)) (rounds_before h now) ++ frame_job_lines t lists es (begins_at now) now (h * (now / h))
 
 -- of the records at the instants 0 to `end`
 abbrev pub job_lines_to : Tables → List (List SInstr) → List Event → ℕ → List RunLine
-job_lines_to t schedules es end = up_to (job_lines_at t schedules es (root_period t)) (suc end)
+job_lines_to t lists es end = up_to (job_lines_at t lists es (hyper t)) (suc end)
 
 -- ---- a text that shows jobs
 

@@ -6,7 +6,7 @@ use Rattle.htl_walk.specs.Walk.{AllWithin}
 use Rattle.htl_refine.specs.Records.{Round as Plan}
 use Rattle.htl_machine.specs.JobLines.{RunLine}
 use Rattle.htl_machine.specs.JobLines.RunLine.{SliceLine, DoneLine, InstrLine, ChangeLine, StepLine, TotalsLine}
-use Rattle.htl_machine.specs.Plans.{round_start}
+use Rattle.htl_machine.specs.Rounds.{round_start}
 use Rattle.htl_machine.specs.Served.{spent}
 
 -- a line of invocation i about an instant after `start`, and at `end` or before
@@ -19,7 +19,7 @@ done_time i start end (DoneLine at inv) = cond (is_in i start end inv at) (at âˆ
 done_time i start end (SliceLine from to inv) = []
 done_time i start end (InstrLine at address x) = []
 done_time i start end (ChangeLine x) = []
-done_time i start end (StepLine at selection place x) = []
+done_time i start end (StepLine at node place x) = []
 done_time i start end (TotalsLine at jobs e s) = []
 
 -- the slice of a j line of the invocation, if it ended then
@@ -28,7 +28,7 @@ slice_time i start end (SliceLine from to inv) = cond (is_in i start end inv to)
 slice_time i start end (DoneLine at inv) = []
 slice_time i start end (InstrLine at address x) = []
 slice_time i start end (ChangeLine x) = []
-slice_time i start end (StepLine at selection place x) = []
+slice_time i start end (StepLine at node place x) = []
 slice_time i start end (TotalsLine at jobs e s) = []
 
 -- The lines show the job of the round from `start`. Of its invocation they have one d line in the round, no later than the end of the

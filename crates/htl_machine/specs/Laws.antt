@@ -1,12 +1,13 @@
 -- The laws of a run, over definitions alone.
-use Rattle.std.specs.Prelude.{◌≡◌, ◌≤◌, ◌<◌, ℕ, true, List, [], ◌∷◌, ◌++◌, map, Some}
+use Rattle.std.specs.Prelude.{◌≡◌, ◌≤◌, ◌<◌, ℕ, true, List, [], ◌∷◌, ◌++◌, length, map, Some}
 use Rattle.std.specs.List.{filter}
 use Rattle.htl_model.specs.declared.event.Event.{Event}
 use Rattle.htl_model.specs.declared.event.Event.TheVariants as V
 use Rattle.htl_model.specs.Lines.{lines_text}
 use Rattle.htl_model.specs.Lists.{up_to}
 use Rattle.htl_model.specs.Meaning.{sense, value_lines}
-use Rattle.htl_model.specs.Selections.{root_period}
+use Rattle.htl_model.specs.Frames.{frame_of}
+use Rattle.htl_model.specs.Selections.{root_modules, root_period}
 use Rattle.htl_object.specs.declared.object.Object.{Object}
 use Rattle.htl_object.specs.Accepted.{IsAccepted}
 use Rattle.htl_refine.specs.Records.{AreTookWithin}
@@ -15,22 +16,23 @@ use Rattle.htl_console.specs.declared.shown.Shown.TheVariants.{Values}
 use Rattle.htl_console.specs.Shows.{shows_jobs}
 use Rattle.htl_machine.specs.Follows.{reading_of, IsLoaded}
 use Rattle.htl_machine.specs.Rounds.{plan_of}
-use Rattle.htl_machine.specs.Served.{AllServed}
+use Rattle.htl_refine.specs.FrameRuns.{frame_at}
+use Rattle.htl_refine.specs.ServedJobs.{AllServed}
 use Rattle.htl_machine.specs.JobLines.{printed, job_lines_to, ShowsJobs, begins_as_job, text_lines, HasNames}
 use Rattle.htl_machine.specs.JobTimes.{AllToldInTime}
 use Rattle.htl_machine.specs.Programs.{schedules_of, before_of, text_of}
 
--- of an accepted object every round is sound: its jobs are those of the invocations that stand, and it meets
+-- of an accepted object the tables keep the rules, and its lists are accepted for all paths
 abbrev pub AcceptedIsLoaded : Type 0
 AcceptedIsLoaded = (o : Object) → IsAccepted o → IsLoaded o.tables (schedules_of o)
 
--- of an accepted object, whatever the sensors show and however long the jobs take within their worst cases: each job of each round
+-- of an accepted object, whatever the sensors show and however long the jobs take within their worst cases: each job of each frame
 -- whose window ended by the end of the run is done once, within its window, in slices of its own that follow its predecessors;
--- without modules there are no rounds
+-- without modules there are no frames
 abbrev pub EveryJobInTime : Type 0
 EveryJobInTime =
-    (o : Object) (es : List Event) (period end : ℕ) → IsAccepted o → AreTookWithin o.tables es → root_period o.tables ≡ Some period
-    → AllServed (plan_of o.tables (schedules_of o) es) period end
+    (o : Object) (es : List Event) (end : ℕ) → IsAccepted o → AreTookWithin o.tables es → 0 < length (root_modules o.tables)
+    → AllServed (frame_at o.tables (schedules_of o) es) (frame_of o.tables) end
 
 -- where values and modes alone are shown, the text is that of the meaning: it knows no code, no schedule and no length
 abbrev pub ValuesAreTheMeaning : Type 0

@@ -3,15 +3,14 @@ use Rattle.std.specs.Prelude.{◌≡◌, ◌≤◌, ℕ, suc, ◌-◌, true, Lis
 use Rattle.htl_walk.specs.declared.schedule.SInstr.{SInstr}
 use Rattle.htl_smach.specs.Rounds.{Round, Stands, IsInForm, IsTold}
 use Rattle.htl_refine.specs.RecordCounts.{count_before}
-use Rattle.htl_refine.specs.Records.{Round as Plan}
-use Rattle.htl_refine.specs.Records.{walk_of}
+use Rattle.htl_refine.specs.ListPlans.{ListPlan as Plan, list_walk}
 use Rattle.htl_machine.specs.Follows.{DeskAt}
 
--- the records of the round from s that are left at an instant or before, as a number
+-- the records of the list that are left at an instant or before, as a number
 abbrev pub due_by : Plan → ℕ → ℕ → ℕ
-due_by p s at = count_before (suc at - s) (walk_of p)
+due_by p s at = count_before (suc at - s) (list_walk p)
 
--- wherever it stood, it stands in the same round, no record past those that are due
+-- wherever it stood, it stands in the same list, no record past those that are due
 abbrev pub Goes : Round → Round → List SInstr → ℕ → Type 0
 Goes old now code at =
     (p : Plan) (s k d : ℕ) → p.schedule ≡ code → s ≤ at → k ≤ due_by p s at → DeskAt p s k d old → (m : ℕ) × (k ≤ m) × (m ≤ due_by p s at) × DeskAt p s m d now

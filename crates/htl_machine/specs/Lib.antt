@@ -2,12 +2,15 @@ pub mod Worlds
 pub mod Values
 pub mod Turns
 pub mod Casts
+pub mod Completing
 pub mod FramesGoOn
+pub mod ListTurns
+pub mod Rounds
 pub mod Plans
 pub mod Places
 pub mod FramePlacing
 pub mod RunFrames
-pub mod Rounds
+pub mod RunLists
 pub mod Follows
 pub mod Texts
 pub mod Machines
@@ -18,7 +21,6 @@ pub mod Recording
 pub mod Sensors
 pub mod Readiness
 pub mod Tellings
-pub mod Going
 pub mod Served
 pub mod Lines
 pub mod Programs
@@ -37,6 +39,7 @@ pub mod Calls
 pub mod Fitted
 pub mod Passing
 pub mod Timing
+pub mod NextLists
 pub mod Instant
 pub mod Asking
 pub mod Marks

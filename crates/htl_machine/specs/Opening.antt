@@ -18,8 +18,8 @@ use Rattle.htl_console.specs.declared.shown.Shown.{Shown}
 use Rattle.htl_console.specs.Shows.{shows_values}
 use Rattle.htl_machine.specs.declared.tally.Tally.{Tally}
 use Rattle.htl_machine.specs.Counts.{with_records, with_instrs}
-use Rattle.htl_refine.specs.Records.{Round as Plan}
-use Rattle.htl_machine.specs.Rounds.{plan_of, selection_of}
+use Rattle.htl_refine.specs.ListPlans.{ListPlan as Plan}
+use Rattle.htl_machine.specs.Rounds.{plan_of, selection_of, list_of}
 use Rattle.htl_machine.specs.Follows.{DeskAt}
 use Rattle.htl_machine.specs.Leaving.{due_by}
 use Rattle.htl_machine.specs.Recording.{Records}
@@ -65,8 +65,8 @@ closing_text t code es show at = path_lines t code show at (phase_path t code es
 
 -- the first records of the round that begins
 abbrev pub first_records : Tables → List (List SInstr) → List Event → ℕ → List Left
-first_records t schedules es at = let p = plan_of t schedules es at in some_records p at 0 (due_by p at at - 0)
+first_records t schedules es at = let p = list_of (plan_of t schedules es at) in some_records p at 0 (due_by p at at - 0)
 
 -- their lines
 abbrev pub beginning_text : Tables → List (List SInstr) → List Event → Shown → ℕ → List ℕ
-beginning_text t schedules es show at = joined (record_text t show (plan_of t schedules es at) (selection_of t (state t es at).stays)) (first_records t schedules es at)
+beginning_text t schedules es show at = joined (record_text t show (list_of (plan_of t schedules es at)) (selection_of t (state t es at).stays)) (first_records t schedules es at)

@@ -10,7 +10,7 @@ use Rattle.htl_smach.specs.Rounds.{Round}
 use Rattle.htl_console.specs.declared.shown.Shown.{Shown}
 use Rattle.htl_machine.specs.declared.tally.Tally.{Tally}
 use Rattle.htl_machine.specs.Counts.{with_records}
-use Rattle.htl_refine.specs.Records.{Round as Plan}
+use Rattle.htl_refine.specs.ListPlans.{ListPlan as Plan}
 use Rattle.htl_machine.specs.Follows.{DeskAt}
 use Rattle.htl_machine.specs.Leaving.{due_by}
 use Rattle.htl_machine.specs.Texts.{record_text, some_records}

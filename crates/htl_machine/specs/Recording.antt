@@ -7,9 +7,8 @@ use Rattle.htl_walk.specs.Walk.{job_at}
 use Rattle.htl_smach.specs.Rounds.{Round, Stands, IsInForm, IsTold}
 use Rattle.htl_emach.specs.Contents.{Content}
 use Rattle.htl_emach.specs.Shapes.{IsShaped}
-use Rattle.htl_refine.specs.Records.{Round as Plan}
-use Rattle.htl_machine.specs.Plans.{run_records}
-use Rattle.htl_refine.specs.Records.{walk_of}
+use Rattle.htl_refine.specs.ListPlans.{ListPlan as Plan, list_walk}
+use Rattle.htl_machine.specs.Completing.{run_records}
 use Rattle.htl_machine.specs.Follows.{DeskAt}
 use Rattle.htl_machine.specs.Leaving.{due_by}
 
@@ -17,17 +16,17 @@ use Rattle.htl_machine.specs.Leaving.{due_by}
 abbrev pub AreOf : Tables → List Job → Type 0
 AreOf t jobs = (p : ℕ) (j : Job) → slice_get jobs p ≡ Some j → j.present ≡ true → (j.inv < length t.invs) × IfSome (slice_get t.invs j.inv) (λ x. is_concrete t x ≡ true)
 
--- wherever the S machine stood, it goes on in the same round, and the world has what these records do
+-- wherever the S machine stood, it goes on in the same list, and the world has what these records do
 abbrev pub GoesWith : Tables → Round → Content → Round → Content → List SInstr → ℕ → Type 0
 GoesWith t old w0 now w code at =
     (p : Plan) (s k d : ℕ) → p.schedule ≡ code → s ≤ at → k ≤ due_by p s at → DeskAt p s k d old
-    → (m : ℕ) × (k ≤ m) × (m ≤ due_by p s at) × DeskAt p s m d now × (w ≡ run_records t p.jobs (walk_of p) (m - k) k w0)
+    → (m : ℕ) × (k ≤ m) × (m ≤ due_by p s at) × DeskAt p s m d now × (w ≡ run_records t p.jobs (list_walk p) (m - k) k w0)
 
 -- once no more is answered, all records that are due are given and done
 abbrev pub Records : Tables → Round → Content → Round → Content → List SInstr → ℕ → Type 0
 Records t old w0 now w code at =
     (p : Plan) (s k d : ℕ) → p.schedule ≡ code → s ≤ at → k ≤ due_by p s at → DeskAt p s k d old
-    → DeskAt p s (due_by p s at) d now × (w ≡ run_records t p.jobs (walk_of p) (due_by p s at - k) k w0)
+    → DeskAt p s (due_by p s at) d now × (w ≡ run_records t p.jobs (list_walk p) (due_by p s at - k) k w0)
 
 pub record IsRecording (t : Tables) (old : Round) (w0 : Content) (now : Round) (w : Content) (jobs : List Job) (code : List SInstr) (at : ℕ) : Type 0 where
   pub form : now.running ≡ true → IsInForm now code

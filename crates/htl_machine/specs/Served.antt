@@ -4,7 +4,7 @@ use Rattle.htl_walk.specs.declared.job.Job.{Job}
 use Rattle.htl_walk.specs.Jobs.{precedes}
 use Rattle.htl_refine.specs.RecordCounts.{count_before}
 use Rattle.htl_refine.specs.Records.{Round as Plan}
-use Rattle.htl_machine.specs.Plans.{round_start}
+use Rattle.htl_machine.specs.Rounds.{round_start}
 use Rattle.htl_refine.specs.Records.{walk_of}
 use Rattle.htl_walk.specs.Walk.{Left, job_at, slices, AllWithin, DoneBy}
 

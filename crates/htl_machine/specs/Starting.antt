@@ -9,7 +9,7 @@ use Rattle.htl_walk.specs.Refinement.{HaveLengths, AreWithinWorst}
 use Rattle.htl_smach.specs.Rounds.{Round, IsInForm, begun}
 use Rattle.htl_ecode.specs.declared.ecode.ECode.{ECode}
 use Rattle.htl_emach.specs.Following.{phase_path}
-use Rattle.htl_machine.specs.Rounds.{plan_of}
+use Rattle.htl_machine.specs.Rounds.{plan_of, list_of}
 use Rattle.htl_machine.specs.Follows.{DeskAt}
 use Rattle.htl_machine.specs.Readiness.{desk_replay}
 use Rattle.htl_machine.specs.Recording.{AreOf}
@@ -31,4 +31,4 @@ pub record IsToBegin (t : Tables) (code : ECode) (schedules : List (List SInstr)
   pub worst : AreWithinWorst (plan_of t schedules es at).jobs (plan_of t schedules es at).lengths
   pub form : (r : Round) → r.jobs ≡ (plan_of t schedules es at).jobs → IsInForm r (plan_of t schedules es at).schedule
   pub short : length (plan_of t schedules es at).schedule ≤ 4294967295
-  pub told : DeskAt (plan_of t schedules es at) at 0 (suc at - at) (desk_replay code (phase_path t code es at 3) (begun at (plan_of t schedules es at).jobs (plan_of t schedules es at).lengths))
+  pub told : DeskAt (list_of (plan_of t schedules es at)) at 0 (suc at - at) (desk_replay code (phase_path t code es at 3) (begun at (plan_of t schedules es at).jobs (plan_of t schedules es at).lengths))

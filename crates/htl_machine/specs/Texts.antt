@@ -1,12 +1,12 @@
--- The text of a run: at each instant the records of the round before, the E instructions, the values and modes, and the records
--- of the round that begins.
+-- The text of a run: at each instant the records of the list before, the E instructions, the values and modes, and the records
+-- of the list that begins.
 use Rattle.std.specs.Prelude.{◌≡◌, ℕ, zero, suc, ◌+◌, ◌-◌, ◌^◌, cond, eqb, min, List, [], ◌++◌, length, take, drop, slice_get, count_by, Option, Some, None}
 use Rattle.htl_model.specs.declared.event.Event.{Event}
 use Rattle.htl_model.specs.Lines.{lines_text, totals_line}
 use Rattle.htl_model.specs.Lists.{joined, up_to}
-use Rattle.htl_model.specs.Selections.{root_period}
+use Rattle.htl_model.specs.Frames.{hyper}
 use Rattle.htl_model.specs.Tables.{Tables}
-use Rattle.htl_model.specs.Meaning.{state, value_lines}
+use Rattle.htl_model.specs.Meaning.{value_lines}
 use Rattle.htl_walk.specs.declared.job.Job.{Job}
 use Rattle.htl_walk.specs.declared.schedule.SInstr.{SInstr}
 use Rattle.htl_walk.specs.Walk.{job_at}
@@ -14,14 +14,12 @@ use Rattle.htl_smach.specs.declared.left.Left.{Left}
 use Rattle.htl_smach.specs.Rounds.{told_from}
 use Rattle.htl_ecode.specs.declared.ecode.ECode.{ECode}
 use Rattle.htl_ecode.specs.Paths.{Done, e_path}
-use Rattle.htl_refine.specs.Records.{Round as Plan}
-use Rattle.htl_machine.specs.Plans.{round_start, left_before}
-use Rattle.htl_refine.specs.Records.{walk_of}
+use Rattle.htl_refine.specs.ListPlans.{ListPlan as Plan, list_walk}
 use Rattle.htl_console.specs.declared.shown.Shown.{Shown}
 use Rattle.htl_console.specs.Shows.{shows_values, shows_jobs, shows_code}
 use Rattle.htl_console.specs.Lines.{slice_line, done_line, step_line, instr_line}
-use Rattle.htl_machine.specs.Rounds.{plan_of, selection_of}
-use Rattle.htl_refine.specs.RecordCounts.{count_before}
+use Rattle.htl_machine.specs.ListTurns.{Turn, left_before}
+use Rattle.htl_machine.specs.RunLists.{turn_at}
 
 -- `e T ADDRESS TEXT`
 abbrev pub e_line : Tables → ECode → ℕ → Done → List ℕ
@@ -44,41 +42,42 @@ record_text t show p sel l =
 
 -- ---- the records of an instant
 
--- so many records of the round from s, from place k on, by instants
+-- so many records of the list, of the frame from s, from place k on, by instants
 abbrev pub some_records : Plan → ℕ → ℕ → ℕ → List Left
-some_records p s k n = take n (drop k (told_from s 0 (walk_of p)))
+some_records p s k n = take n (drop k (told_from s 0 (list_walk p)))
 
--- of the round that began before it
-abbrev pub old_records : (ℕ → Plan) → ℕ → ℕ → List Left
-old_records plan period zero = []
-old_records plan period (suc n) =
-    let s = round_start period n in
-    let k = left_before plan s (suc n) in
-    some_records (plan s) s k (left_before plan s (suc (suc n)) - k)
+-- the list that stood before it
+abbrev pub old_turn : (ℕ → Turn) → ℕ → Turn
+old_turn turn zero = turn 0
+old_turn turn (suc n) = turn n
 
--- of the round that begins at it
-abbrev pub new_records : (ℕ → Plan) → ℕ → ℕ → List Left
-new_records plan period now = cond (eqb (round_start period now) now) (some_records (plan now) now 0 (left_before plan now (suc now))) []
+-- its records
+abbrev pub old_records : (ℕ → Turn) → ℕ → List Left
+old_records turn zero = []
+old_records turn (suc n) =
+    let u = turn n in
+    let k = left_before u (suc n) in
+    some_records u.plan u.frame k (left_before u (suc (suc n)) - k)
 
-abbrev pub records_text : Tables → List (List SInstr) → List Event → Shown → ℕ → List Left → List ℕ
-records_text t schedules es show s ls = joined (record_text t show (plan_of t schedules es s) (selection_of t (state t es s).stays)) ls
+-- of the list that begins at it
+abbrev pub new_records : (ℕ → Turn) → ℕ → List Left
+new_records turn now = let u = turn now in cond (eqb (u.frame + u.from) now) (some_records u.plan u.frame 0 (left_before u (suc now))) []
 
--- the start of the round that began last before an instant
-abbrev pub old_start : ℕ → ℕ → ℕ
-old_start period zero = 0
-old_start period (suc n) = round_start period n
+abbrev pub records_text : Tables → Shown → Turn → List Left → List ℕ
+records_text t show u ls = joined (record_text t show u.plan u.node) ls
 
 -- ---- the text of an instant and of a run
 
-abbrev pub round_texts : Tables → ECode → List (List SInstr) → List Event → Shown → Option ℕ → ℕ → List ℕ × List ℕ
-round_texts t code schedules es show None now = ([], [])
-round_texts t code schedules es show (Some period) now =
-    let plan = plan_of t schedules es in
-    (records_text t schedules es show (old_start period now) (old_records plan period now), records_text t schedules es show now (new_records plan period now))
+-- those of the list that stood before it, and of the list that begins at it; none without modules
+abbrev pub list_texts : Tables → List (List SInstr) → List Event → Shown → Option ℕ → ℕ → List ℕ × List ℕ
+list_texts t schedules es show None now = ([], [])
+list_texts t schedules es show (Some period) now =
+    let turn = turn_at t schedules es in
+    (records_text t show (old_turn turn now) (old_records turn now), records_text t show (turn now) (new_records turn now))
 
 abbrev pub instant_text : Tables → ECode → List (List SInstr) → List Event → Shown → ℕ → List ℕ
 instant_text t code schedules es show now =
-    let r = round_texts t code schedules es show (root_period t) now in
+    let r = list_texts t schedules es show (hyper t) now in
     r.0 ++ cond (shows_code show) (joined (e_line t code now) (e_path t code es now)) [] ++ cond (shows_values show) (lines_text t (value_lines t es now)) [] ++ r.1
 
 -- the text of the instants before `now`
@@ -92,7 +91,7 @@ capped n = min n (2 ^ 64 - 1)
 
 abbrev pub records_of : Tables → List (List SInstr) → List Event → Option ℕ → ℕ → List Left
 records_of t schedules es None now = []
-records_of t schedules es (Some period) now = let plan = plan_of t schedules es in old_records plan period now ++ new_records plan period now
+records_of t schedules es (Some period) now = let turn = turn_at t schedules es in old_records turn now ++ new_records turn now
 
 abbrev pub sum_to : (ℕ → ℕ) → ℕ → ℕ
 sum_to f zero = 0
@@ -100,26 +99,19 @@ sum_to f (suc n) = sum_to f n + f n
 
 -- of the instants before `now`: the jobs done, the E instructions, the S instructions
 abbrev pub jobs_before : Tables → List (List SInstr) → List Event → ℕ → ℕ
-jobs_before t schedules es now = capped (sum_to (λ n. count_by (λ (l : Left). l.finished) (records_of t schedules es (root_period t) n)) now)
+jobs_before t schedules es now = capped (sum_to (λ n. count_by (λ (l : Left). l.finished) (records_of t schedules es (hyper t) n)) now)
 
 abbrev pub e_before : Tables → ECode → List Event → ℕ → ℕ
 e_before t code es now = capped (sum_to (λ n. length (e_path t code es n)) now)
 
 abbrev pub s_before : Tables → List (List SInstr) → List Event → ℕ → ℕ
-s_before t schedules es now = capped (sum_to (λ n. length (records_of t schedules es (root_period t) n)) now)
+s_before t schedules es now = capped (sum_to (λ n. length (records_of t schedules es (hyper t) n)) now)
 
 -- the text of a run up to and including `end`
 abbrev pub run_text : Tables → ECode → List (List SInstr) → List Event → Shown → ℕ → List ℕ
 run_text t code schedules es show end =
     text_before t code schedules es show (suc end)
     ++ totals_line end (jobs_before t schedules es (suc end)) (e_before t code es (suc end)) (s_before t schedules es (suc end))
-
--- the records of the round from s that the instants from s to s + n tell
-abbrev pub told_in : Plan → ℕ → ℕ → List Left
-told_in p s zero = some_records p s 0 (count_before (suc s - s) (walk_of p))
-told_in p s (suc n) =
-    told_in p s n
-    ++ some_records p s (count_before (s + suc n - s) (walk_of p)) (count_before (suc (s + suc n) - s) (walk_of p) - count_before (s + suc n - s) (walk_of p))
 
 -- what is counted stands before an instant
 pub record TotalsFollow (t : Tables) (code : ECode) (schedules : List (List SInstr)) (es : List Event) (now jobs e s : ℕ) : Type 0 where

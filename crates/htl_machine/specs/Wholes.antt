@@ -1,7 +1,6 @@
 -- The whole machine before an instant: the E machine's triggers beside what the machine holds, counted and wrote.
 use Rattle.std.specs.Prelude.{◌≡◌, ℕ, List, [], None}
 use Rattle.htl_model.specs.declared.event.Event.{Event}
-use Rattle.htl_model.specs.Selections.{root_period}
 use Rattle.htl_model.specs.Tables.{Tables}
 use Rattle.htl_model.specs.Meaning.{sense}
 use Rattle.htl_walk.specs.declared.schedule.SInstr.{SInstr}
@@ -15,8 +14,8 @@ use Rattle.htl_emach.specs.Contents.{Content}
 use Rattle.htl_machine.specs.Running.{replay}
 use Rattle.htl_machine.specs.Worlds.{with_sensors}
 use Rattle.htl_machine.specs.Plans.{with_records}
-use Rattle.htl_machine.specs.Rounds.{plan_of}
-use Rattle.htl_machine.specs.Follows.{Held, period_or, Follows}
+use Rattle.htl_machine.specs.RunLists.{turn_at}
+use Rattle.htl_machine.specs.Follows.{Held, Follows}
 use Rattle.htl_console.specs.declared.shown.Shown.{Shown}
 use Rattle.htl_machine.specs.Machines.{Counts, Stands}
 
@@ -30,13 +29,13 @@ pub record WholeFollowed (t : Tables) (code : ECode) (schedules : List (List SIn
   pub follows : Follows t schedules es m
   pub whole : Whole t code schedules show es m.reading e m n written
 
--- what the calls of an instant say: the records of the round before, each phase, and the sensors between
+-- what the calls of an instant say: the records of the list before, each phase, and the sensors between
 pub record Passed (t : Tables) (code : ECode) (schedules : List (List SInstr)) (es : List Event) (now : ℕ) (w0 w5 : Content) (e : Standing) : Type 0 where
   pub recorded : Content
   pub wrote : Content
   pub sensed : Content
   pub switched : Content
-  pub records : recorded ≡ with_records t (plan_of t schedules es) (period_or (root_period t)) now w0
+  pub records : recorded ≡ with_records t (turn_at t schedules es) now w0
   pub writes : wrote ≡ replay t code (phase_path t code es now 1) recorded
   pub sensors : sensed ≡ with_sensors t (sense t es) now wrote
   pub switches : switched ≡ replay t code (phase_path t code es now 2) sensed

@@ -15,7 +15,7 @@ ghost use Rattle.htl_machine.specs.Noting.{MarksChanges};
 ghost use Rattle.htl_machine.specs.Running.{replay};
 ghost use Rattle.htl_machine.specs.Asking.{IsToCloseAndBegin};
 ghost use Rattle.htl_machine.specs.Counts.{with_instrs, with_records};
-ghost use Rattle.htl_machine.specs.Rounds.{plan_of};
+ghost use Rattle.htl_machine.specs.Rounds.{plan_of, list_of};
 ghost use Rattle.htl_machine.specs.Follows.{DeskAt};
 ghost use Rattle.htl_machine.specs.Leaving.{due_by};
 ghost use Rattle.htl_machine.specs.Starting.{instrs_of};
@@ -82,7 +82,7 @@ pub fn close_and_begin<W: Sink>(
     ensures sensors { OnOk result (SensorsStay t.now world.old.values world.new.values) }
     ensures safe { OnOk result (StandsSafely t.now code.now m.new) }
     ensures shaped { OnOk result (IsShaped t.now world.new) }
-    ensures desk { (es : List Event) → IsToCloseAndBegin t.now code.now (instrs_of schedules.now) es at takes.now m.old world.old noted.old.values noted.old.modes → OnOk result (DeskAt (plan_of t.now (instrs_of schedules.now) es at) at (due_by (plan_of t.now (instrs_of schedules.now) es at) at at) (suc at - at) desk.new) }
+    ensures desk { (es : List Event) → IsToCloseAndBegin t.now code.now (instrs_of schedules.now) es at takes.now m.old world.old noted.old.values noted.old.modes → OnOk result (DeskAt (list_of (plan_of t.now (instrs_of schedules.now) es at)) at (due_by (list_of (plan_of t.now (instrs_of schedules.now) es at)) at at) (suc at - at) desk.new) }
     ensures jobs { (es : List Event) → IsToCloseAndBegin t.now code.now (instrs_of schedules.now) es at takes.now m.old world.old noted.old.values noted.old.modes → IfOk result (λ b. take b.positions jobs.new ≡ (plan_of t.now (instrs_of schedules.now) es at).jobs) }
     ensures few { IfOk result (λ b. b.positions ≤ 128) }
     ensures selection { (es : List Event) → IsToCloseAndBegin t.now code.now (instrs_of schedules.now) es at takes.now m.old world.old noted.old.values noted.old.modes → IfOk result (λ b. b.selection ≡ selection_of_modes t.now (modes_at t.now es at)) }

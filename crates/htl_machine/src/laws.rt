@@ -1,16 +1,17 @@
 //! The laws of a run, over the definitions alone. Each is a statement that the check has proved; there is nothing to run.
 ghost use Rattle.htl_machine.specs.FramePlacing.{FrameCast};
 ghost use Rattle.htl_machine.specs.Laws.{AcceptedIsLoaded, EveryJobInTime, ValuesAreTheMeaning, SensorsDecide, LaterEventsLeaveText, JobLinesAreRecords, JobLinesAreFound, EveryJobToldInTime};
+ghost use Rattle.htl_machine.specs.NextLists.{ListsBegin};
 ghost use Rattle.htl_machine.specs.Quiet.{QuietInstantsPass};
 ghost use Rattle.htl_machine.specs.RunFrames.{FeasibleRuns, ValuesGoOn, RunReady};
+ghost use Rattle.htl_machine.specs.RunLists.{RunsGoByLists};
 
-/// Of an accepted object every round is sound, whatever the events within the worst cases: its jobs are those of the invocations that
-/// stand, and its schedule does each of them in its window, after its predecessors.
+/// An accepted object is a loaded program: its tables keep the form rules, and every path accepts the lists of its nodes.
 pub fn accepted_is_loaded()
     ensures { AcceptedIsLoaded }
 {}
 
-/// Of an accepted object, whatever the sensors show and however long the jobs take within their worst cases: each job of each round
+/// Of an accepted object, whatever the sensors show and however long the jobs take within their worst cases: each job of each frame
 /// whose window ended by the end of the run is done once, within its window, in slices that lie in the window, have as many ticks as
 /// it takes, overlap no other job's and begin no earlier than its predecessors are done.
 pub fn every_job_in_time()
@@ -78,4 +79,16 @@ pub fn values_go_on()
 /// So once the records of an instant are done, what is due is finished, and what is finished has read all.
 pub fn runs_are_ready()
     ensures { RunReady }
+{}
+
+/// And the run goes list by list: at each instant one list of the frame stands, whose records are those that the frame has so far, and
+/// it goes on, or it is over and the next begins.
+pub fn runs_go_by_lists()
+    ensures { RunsGoByLists }
+{}
+
+/// A list begins exactly where a round of some root module does. Which it is follows from the list before it and the modes at that
+/// instant: its number in the frame, and its node.
+pub fn lists_begin()
+    ensures { ListsBegin }
 {}

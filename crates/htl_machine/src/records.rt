@@ -4,7 +4,7 @@ ghost use Rattle.htl_model.specs.FrameRules.{KeptApart};
 ghost use Rattle.htl_walk.specs.Walk.{job_at};
 ghost use Rattle.htl_model.specs.FunctionTypes.{FitPlaces};
 ghost use Rattle.htl_emach.specs.Shapes.{IsShaped};
-ghost use Rattle.htl_machine.specs.Plans.{complete_at};
+ghost use Rattle.htl_machine.specs.Completing.{complete_at};
 ghost use Rattle.htl_machine.specs.Recording.{IsJobOf};
 
 use htl_emach::World;

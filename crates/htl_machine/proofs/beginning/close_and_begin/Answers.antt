@@ -2,7 +2,6 @@ use Rattle.std.proofs.Common.{ℕ, List, ℤ, sym, ap, ◌∙◌, subst, length,
 use Rattle.htl_model.specs.Selected.{IsSelection}
 use Rattle.htl_walk.specs.Refinement.{HaveLengths, AreWithinWorst}
 use Rattle.htl_smach.specs.Rounds.{Round, IsInForm}
-use Rattle.htl_emach.specs.Contents.{Content}
 use Rattle.htl_emach.specs.Following.{phase_path}
 use Rattle.htl_refine.specs.ConcreteJobs.{concrete_jobs}
 use Rattle.htl_refine.specs.Roots.{selection_of}

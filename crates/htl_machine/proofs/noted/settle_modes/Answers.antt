@@ -1,4 +1,4 @@
-use Rattle.std.proofs.Common.{◌≤◌, length, None, arith, ap, sym, ◌∙◌}
+use Rattle.std.proofs.Common.{length, None, arith, ap, sym, ◌∙◌}
 use Rattle.htl_machine.proofs.Settling.{settling_start, settling_step, settling_end, list_is, modes_other}
 use Rattle.htl_machine.proofs.noted.settle_modes.Goals as goal
 

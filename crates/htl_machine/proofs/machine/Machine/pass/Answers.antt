@@ -1,6 +1,6 @@
 use Rattle.std.proofs.Common.{◌≡◌, ◌<◌, ◌≤◌, subst, arith, add-one}
 use Rattle.htl_machine.specs.Calls.{IsUpTo}
-use Rattle.htl_machine.proofs.Passing.{all_start, all_on, passing_failed, passing_whole}
+use Rattle.htl_machine.proofs.Passing.{all_on, passing_failed, passing_whole}
 use Rattle.htl_machine.proofs.Quiet.{all_quiet}
 use Rattle.htl_machine.proofs.machine.Machine.pass.Goals as goal
 

@@ -1,4 +1,4 @@
-use Rattle.std.proofs.Common.{◌≡◌, ◌<◌, ◌≤◌, ap, arith, length, slice_get, sym, subst, refl, ◌∙◌}
+use Rattle.std.proofs.Common.{◌≡◌, ◌<◌, ap, arith, length, slice_get, sym, subst, refl, ◌∙◌}
 use Rattle.std.proofs.lemmas.Option.{slice_get_read}
 use Rattle.htl_machine.specs.Sensors.{AreSet}
 use Rattle.htl_machine.proofs.Waits.{taking_start, taking_step}

@@ -1,0 +1,156 @@
+-- The lists of a loaded program: at each instant one stands, and where one begins the code begins a round.
+use Rattle.std.proofs.Common.{◌≡◌, ℕ, ◌+◌, ◌*◌, ◌/◌, ◌<◌, eqb, List, [], ◌∷◌, length, map, get_or, Option, Some, None, IfSome, refl, sym, ap, ◌∙◌, subst, arith, inr, true}
+use Rattle.std.proofs.lemmas.List.{length-map}
+use Rattle.std.proofs.lemmas.Option.{slice_get_within}
+use Rattle.htl_model.specs.declared.event.Event.{Event}
+use Rattle.htl_model.specs.declared.parts.Inv.{Inv}
+use Rattle.htl_model.specs.declared.parts.Module.{Module}
+use Rattle.htl_model.specs.Broken.{KeptTo}
+use Rattle.htl_model.specs.Frames.{hyper, unit_period, multiple_of}
+use Rattle.htl_model.specs.Lists.{places_from}
+use Rattle.htl_model.specs.Meaning.{state}
+use Rattle.htl_model.specs.Selections.{is_root, root_modules, root_period}
+use Rattle.htl_model.specs.Tables.{Tables, is_concrete}
+use Rattle.htl_model.proofs.FrameBuild.{frame_some}
+use Rattle.htl_walk.specs.declared.job.Job.{Job}
+use Rattle.htl_walk.specs.declared.schedule.SInstr.{SInstr}
+use Rattle.htl_walk.specs.EqualPeriods.{HasOnePeriod}
+use Rattle.htl_walk.proofs.OnePeriod.{one_period}
+use Rattle.htl_object.proofs.OneRound.{one_round}
+use Rattle.htl_refine.specs.Records.{AreTookWithin, took}
+use Rattle.htl_refine.specs.ServedFrames.{IsFeasibleRun}
+use Rattle.htl_refine.proofs.Kept.{kept_apart}
+use Rattle.htl_machine.specs.Casts.{IsCast}
+use Rattle.htl_machine.specs.Follows.{IsLoaded}
+use Rattle.htl_machine.specs.ListTurns.{Turn, AreTurns, AreListed}
+use Rattle.htl_machine.specs.Plans.{AreRegular}
+use Rattle.htl_machine.specs.Recording.{AreOf}
+use Rattle.htl_machine.specs.Rounds.{period_or, plan_of, round_start, round_turn}
+use Rattle.htl_machine.specs.RunLists.{no_turn, turn_by, turn_at, list_turn}
+use Rattle.htl_machine.specs.Timing.{begins}
+use Rattle.htl_machine.proofs.Loaded.{root_there, loaded_rounds}
+use Rattle.htl_machine.proofs.OneList.{one_turn}
+use Rattle.htl_machine.proofs.Periodic.{begins_is, some_roots, starts_there}
+use Rattle.htl_machine.proofs.RunLists.{are_turns, are_listed, code_is, job_is_of}
+use Rattle.htl_machine.proofs.Standing.{none_some, standing_at}
+
+pub length-lengths : (t : Tables) (schedules : List (List SInstr)) (es : List Event) (s : ℕ) → length (plan_of t schedules es s).lengths ≡ length (plan_of t schedules es s).jobs
+length-lengths t schedules es s = length-map (plan_of t schedules es s).jobs (λ (j : Job). took t es j.inv (s + j.release))
+
+-- ---- without modules
+
+no_hyper : (t : Tables) → root_modules t ≡ [] → hyper t ≡ None
+no_hyper t e = ap (λ (us : List ℕ). elim (map (unit_period t) us) as (λ _. Option ℕ) [ [] ↦ None | p ∷ ps ↦ Some (multiple_of p ps) ]) e
+
+nothing : {A : Type 0} (xs : List A) → (0 < length xs → ⊥) → xs ≡ []
+nothing [] h = refl
+nothing (x ∷ xs) h = absurd (h (omega arith))
+
+module _ (t : Tables) (schedules : List (List SInstr)) (loaded : IsLoaded t schedules) where
+  -- all root modules have the period of the rounds
+  pub loaded_one : (q : ℕ) → root_period t ≡ Some q → HasOnePeriod t q
+  loaded_one q root =
+      let first_rules : KeptTo t 12 = λ r s have need small broken. loaded.rules r s have need (omega (arith, small)) broken in
+      subst (HasOnePeriod t) (ap (λ (o : Option ℕ). elim o [ Some p ↦ p | None ↦ 0 ]) root) (one_round t loaded.range first_rules (some_roots t q root))
+
+  no_rounds : root_period t ≡ None → t.modules ≡ []
+  no_rounds e = nothing t.modules (λ some. let r = root_there t loaded.range some in none_some r.0 (sym e ∙ r.1))
+
+  pub loaded_keys : hyper t ≡ root_period t
+  loaded_keys = by (root_period t) refl
+    where
+      by : (o : Option ℕ) → root_period t ≡ o → hyper t ≡ root_period t
+      by None e = no_hyper t (ap (λ (us : List Module). places_from is_root 0 us) (no_rounds e)) ∙ sym e
+      by (Some q) e = (one_period t q (loaded_one q e)).frame ∙ sym e
+
+  pub loaded_empty : hyper t ≡ None → t.modules ≡ []
+  loaded_empty e = no_rounds (sym loaded_keys ∙ e)
+
+  module _ (es : List Event) (within : AreTookWithin t es) where
+    -- where there is a root module
+    pub run_of : 0 < length (root_modules t) → IsFeasibleRun t schedules es
+    run_of some =
+        record {
+          range = loaded.range;
+          kept = kept_apart t 16 loaded.rules;
+          within = within;
+          modules = some;
+          ticks = frame_some t loaded.range some;
+          accepted = loaded.feasible;
+        }
+
+    pub loaded_run : (h : ℕ) → hyper t ≡ Some h → IsFeasibleRun t schedules es
+    loaded_run h e = run_of (some_roots t h (sym loaded_keys ∙ e))
+
+    -- nobody stands where there is no module
+    no_cast : t.modules ≡ [] → (n : ℕ) → IsCast t (state t es n).stays 0 n []
+    no_cast e n =
+        record {
+          has = λ i x s st. absurd (let less = (standing_at t loaded.range es n).known _ _ st.in_round in omega (arith, less, ap (λ (us : List Module). length us) e));
+          stands = λ p j at here late. none_some j at;
+          once = λ p q i s x a b. none_some a.job a.at;
+          preds = λ p q i w o k a s x y b c f g d e. none_some b.job b.at;
+        }
+
+    no_turns : t.modules ≡ [] → AreTurns t es (λ n. no_turn)
+    no_turns e =
+        record {
+          walk = λ n. [];
+          frames =
+              record {
+                past = λ n. omega arith;
+                casts = λ n. no_cast e n;
+                runs = λ n. record { rises = tt; meets = λ p j at here. none_some j at; late = λ p f less fin. absurd (omega (arith, less)); open_yet = λ k p l at o fin. none_some l at; known = λ k p l at o fin early. none_some l at };
+                on = λ n. inr (refl, refl, λ p j at. at);
+              };
+          each = λ n. record { past = omega arith; rest = []; front = refl; count = refl; upto = λ p. refl };
+        }
+
+    turn_is : (h : ℕ) → hyper t ≡ Some h → turn_at t schedules es ≡ list_turn t schedules es
+    turn_is h e = ap (λ o. turn_by o t schedules es) e
+
+    pub loaded_turns : AreTurns t es (turn_at t schedules es)
+    loaded_turns = by (hyper t) refl
+      where
+        by : (o : Option ℕ) → hyper t ≡ o → AreTurns t es (turn_at t schedules es)
+        by None e = subst (AreTurns t es) (sym (ap (λ o. turn_by o t schedules es) e)) (no_turns (loaded_empty e))
+        by (Some h) e = subst (AreTurns t es) (sym (turn_is h e)) (are_turns t schedules es (loaded_run h e))
+
+    pub loaded_listed : (h : ℕ) → hyper t ≡ Some h → AreListed (turn_at t schedules es)
+    loaded_listed h e = subst AreListed (sym (turn_is h e)) (are_listed t schedules es (loaded_run h e))
+
+    -- each job is of a concrete invocation
+    pub loaded_of : (h : ℕ) → hyper t ≡ Some h → (n : ℕ) → AreOf t (turn_at t schedules es n).plan.jobs
+    loaded_of h e n = subst (λ (turn : ℕ → Turn). AreOf t (turn n).plan.jobs) (sym (turn_is h e)) listed
+      where
+        listed : AreOf t (list_turn t schedules es n).plan.jobs
+        listed p j at here =
+            let x = job_is_of t schedules es (loaded_run h e) n p j at here in
+            (slice_get_within t.invs j.inv x.0 x.1, subst (λ (o : Option Inv). IfSome o (λ y. is_concrete t y ≡ true)) (sym x.1) x.2)
+
+    -- its instructions are those of its node's list
+    pub loaded_code : (h : ℕ) → hyper t ≡ Some h → (n : ℕ) → (turn_at t schedules es n).plan.schedule ≡ get_or schedules (turn_at t schedules es n).node []
+    loaded_code h e n = subst (λ (turn : ℕ → Turn). (turn n).plan.schedule ≡ get_or schedules (turn n).node []) (sym (turn_is h e)) (code_is t schedules es (loaded_run h e) n)
+
+    -- ---- as the code begins lists: a round is the one list of its frame
+
+    pub loaded_round : (q : ℕ) → root_period t ≡ Some q → (n : ℕ) → turn_at t schedules es n ≡ round_turn t schedules es q (round_start q n)
+    loaded_round q root n = ap (λ o. turn_by o t schedules es n) (loaded_keys ∙ root) ∙ one_turn t q schedules es loaded.range (loaded_one q root) n
+
+    -- the code knows where a list begins
+    pub loaded_begins : (q : ℕ) → hyper t ≡ Some q → (now : ℕ) → begins t now ≡ eqb ((turn_at t schedules es now).frame + (turn_at t schedules es now).from) now
+    loaded_begins q e now =
+        let root : root_period t ≡ Some q = sym loaded_keys ∙ e in
+        let regular : AreRegular t es q = subst (λ o. AreRegular t es (period_or o)) root (loaded_rounds t schedules loaded es within).regular in
+        begins_is t q now loaded.range regular.some regular.modes root
+        ∙ starts_there q now regular.some
+        ∙ ap (λ z. eqb z now) (let e : q * (now / q) ≡ q * (now / q) + 0 = omega arith in e)
+        ∙ sym (ap (λ (u : Turn). eqb (u.frame + u.from) now) (loaded_round q root now))
+
+    -- and which it is
+    pub loaded_begun : (q : ℕ) → hyper t ≡ Some q → (now : ℕ) → (turn_at t schedules es now).frame + (turn_at t schedules es now).from ≡ now
+        → (round_start q now ≡ now) × (turn_at t schedules es now ≡ round_turn t schedules es q now)
+    loaded_begun q e now at =
+        let is = loaded_round q (sym loaded_keys ∙ e) now in
+        let start : round_start q now ≡ now = (let z : round_start q now ≡ round_start q now + 0 = omega arith in z) ∙ sym (ap (λ (u : Turn). u.frame + u.from) is) ∙ at in
+        (start, is ∙ ap (round_turn t schedules es q) start)
