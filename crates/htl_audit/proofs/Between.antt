@@ -1,46 +1,49 @@
 -- A machine that follows events follows others that tell the same: a reading between two others changes nothing.
-use Rattle.std.proofs.Common.{◌≡◌, ℕ, zero, suc, ◌-◌, ◌*◌, ◌%◌, cond, eqb, List, [], ◌∷◌, ◌++◌, length, map, Option, Some, None, refl, sym, ap, ap₂, ◌∙◌, subst, arith, get_or, ◌+◌}
+use Rattle.std.proofs.Common.{◌≡◌, ℕ, zero, suc, ◌+◌, ◌-◌, ◌*◌, ◌/◌, Bool, List, [], ◌∷◌, ◌++◌, length, map, Option, Some, None, refl, sym, ap, ap₂, ◌∙◌, subst, arith, get_or}
 use Rattle.std.specs.List.{filter, count_by}
+use Rattle.std.specs.Prelude.{option_map}
+use Rattle.std.proofs.lemmas.List.{append_cancel_left, ext_get_or}
 use mathlib.Core.Path.{fun_ext}
 use Rattle.htl_model.specs.declared.event.Event.{Event}
 use Rattle.htl_model.specs.declared.event.Event.TheVariants as V
 use Rattle.htl_model.specs.declared.state.State.{State}
-use Rattle.htl_model.specs.Lists.{numbered}
-use Rattle.htl_model.specs.Selections.{root_period}
+use Rattle.htl_model.specs.declared.state.Stay.{Stay}
+use Rattle.htl_model.specs.Frames.{frame_of, hyper, starts, node}
+use Rattle.htl_model.specs.Lists.{joined}
+use Rattle.htl_model.specs.Ranges.{AreInRange}
 use Rattle.htl_model.specs.Tables.{Tables}
 use Rattle.htl_model.specs.Meaning.{sense, state, stay_of, mode_of}
 use Rattle.htl_model.proofs.Locality.{up_to_same}
+use Rattle.htl_walk.specs.declared.job.Job.{Job}
 use Rattle.htl_walk.specs.declared.schedule.SInstr.{SInstr}
+use Rattle.htl_walk.specs.Feasible.{lists_of}
+use Rattle.htl_walk.specs.PathJobs.{legs_of}
 use Rattle.htl_walk.specs.Walk.{Left}
 use Rattle.htl_smach.specs.Rounds.{Round}
 use Rattle.htl_ecode.specs.declared.ecode.ECode.{ECode}
 use Rattle.htl_ecode.specs.Paths.{e_path, instant_path}
+use Rattle.htl_emach.specs.Calendars.{Calendar, list_at}
+use Rattle.htl_emach.specs.Pending.{Between as Pending, Entry}
+use Rattle.htl_object.specs.declared.object.Object.{Object}
 use Rattle.htl_object.specs.Accepted.{IsAccepted}
-use Rattle.htl_refine.specs.Records.{Round as Plan, took, AreTookWithin, shifted, walk_of, left_at, rounds_before, old_records_by, new_records_by, records}
+use Rattle.htl_refine.specs.FrameRecords.{RunningList, lists_from, lists_at, left_in, begun_before, begins_at, in_frame, old_records_by, new_records_by, records}
+use Rattle.htl_refine.specs.FrameRuns.{Frame, frame_modes, frame_places, frame_jobs, frame_at, path_of, walks_of}
+use Rattle.htl_refine.specs.Records.{took, AreTookWithin, modes_at, rounds_before}
+use Rattle.htl_refine.proofs.StateLaws.{states_are_selections}
+use Rattle.htl_console.specs.declared.shown.Shown.{Shown}
 use Rattle.htl_machine.specs.Calls.{Seen, Follows, GoesBy, IsFinished, text_between}
-use Rattle.htl_machine.specs.Follows.{reading_of, period_or, DeskStands, DeskFollows, IsLoaded}
+use Rattle.htl_machine.specs.Follows.{reading_of, DeskStands, DeskFollows, IsLoaded}
 use Rattle.htl_machine.specs.Lines.{all_records, e_done}
-use Rattle.htl_machine.specs.Plans.{round_start, finished_before}
+use Rattle.htl_machine.specs.ListTurns.{Turn, left_before, finished_by}
+use Rattle.htl_machine.specs.Plans.{finished_before}
 use Rattle.htl_machine.specs.Programs.{schedules_of, before_of, lines_of}
-use Rattle.htl_machine.specs.Rounds.{plan_of, selection_of}
+use Rattle.htl_machine.specs.RunLists.{turn_at}
 use Rattle.htl_machine.specs.Texts.{capped}
-use Rattle.htl_refine.specs.RecordCounts.{count_before, done_by}
-use Rattle.htl_machine.specs.Turns.{finished_in}
 use Rattle.htl_machine.specs.Values.{ValuesFollow}
 use Rattle.htl_machine.proofs.Accepted.{accepted_is_loaded}
 use Rattle.htl_machine.proofs.Events.{Alike, state_same, before_same, values_alike, reading_more, sense_at, took_at}
-use Rattle.htl_machine.proofs.Following.{plan_same, all_read, within_more}
-use Rattle.htl_model.specs.declared.state.Stay.{Stay}
-use Rattle.htl_model.specs.Ranges.{AreInRange}
-use Rattle.htl_emach.specs.Calendars.{Calendar, list_at}
-use Rattle.htl_emach.specs.Pending.{Between as Pending, Entry}
-use Rattle.htl_refine.specs.Records.{modes_at}
-use Rattle.htl_refine.proofs.StateLaws.{states_are_selections}
-use Rattle.htl_console.specs.declared.shown.Shown.{Shown}
+use Rattle.htl_machine.proofs.Following.{turn_same, all_read, within_more}
 use Rattle.htl_machine.proofs.TellingLater.{later_leave}
-use Rattle.htl_object.specs.declared.object.Object.{Object}
-use Rattle.std.proofs.lemmas.List.{append_cancel_left, ext_get_or}
-use Rattle.std.specs.Prelude.{option_map}
 use Rattle.htl_machine.proofs.Waking.{triggers_alike}
 
 -- the same sensors and lengths
@@ -61,43 +64,55 @@ module _ (t : Tables) (schedules : List (List SInstr)) (es fs : List Event) (sam
   states : (n : ℕ) → state t es n ≡ state t fs n
   states n = state_same t es fs (suc n) n (alike (suc n)) (omega arith)
 
-  plans : (s : ℕ) → plan_of t schedules es s ≡ plan_of t schedules fs s
-  plans s = plan_same t schedules es fs (suc s) (alike (suc s)) same.tooks s (omega arith)
+  modes_same : (f : ℕ) → frame_modes t es f ≡ frame_modes t fs f
+  modes_same f = fun_ext (λ a. ap (λ (z : State). map (λ (o : Option Stay). option_map (λ y. y.mode) o) z.stays) (states (f + a)))
 
-  finished_same : (period n i : ℕ) → finished_before (plan_of t schedules es) period n i ≡ finished_before (plan_of t schedules fs) period n i
-  finished_same period zero i = refl
-  finished_same period (suc n) i =
-      let s = round_start period n in
-      ap (λ (p : Plan). finished_in p.jobs (done_by (walk_of p) (count_before (suc n - s) (walk_of p))) i) (plans s)
+  frame_same : (f : ℕ) → frame_at t schedules es f ≡ frame_at t schedules fs f
+  frame_same f =
+      let make : (ℕ → List (Option ℕ)) → (Job → ℕ) → Frame = λ modes long.
+      record { jobs = frame_jobs t modes; lengths = map long (frame_jobs t modes); lists = lists_of t schedules (path_of t modes); legs = legs_of (frame_of t) (frame_places t modes) (starts t) } in
+      ap₂ make (modes_same f) (fun_ext (λ (j : Job). same.tooks j.inv (f + j.release)))
 
-  desk_same : (root : Option ℕ) (n : ℕ) (r : Round) → DeskFollows (plan_of t schedules es) root n r → DeskFollows (plan_of t schedules fs) root n r
-  desk_same None n r f = f
-  desk_same (Some period) zero r f = f
-  desk_same (Some period) (suc n) r f = let s = round_start period n in subst (λ p. DeskStands p s (suc n) r) (plans s) f
+  lists_same : (f : ℕ) → lists_at t schedules es f ≡ lists_at t schedules fs f
+  lists_same f = ap₂ (λ (modes : ℕ → List (Option ℕ)) (p : Frame). lists_from (node t (path_of t modes)) f 0 p.lists p.legs (walks_of p)) (modes_same f) (frame_same f)
 
-  goes_same : (o : Option ℕ) (now : ℕ) (sel : Option ℕ) → GoesBy t es o now sel → GoesBy t fs o now sel
-  goes_same None now sel g = g
-  goes_same (Some p) zero sel g = g
-  goes_same (Some p) (suc n) sel g = g ∙ ap (λ (z : State). Some (selection_of t z.stays)) (states (round_start p n))
-
-  left_same : (start now : ℕ) → left_at t schedules es start now ≡ left_at t schedules fs start now
-  left_same start now = ap (λ (p : Plan). filter (λ (l : ℕ × Left). eqb l.1.at now) (numbered 0 (map (shifted start) (walk_of p)))) (plans start)
+  in_frame_same : (which : RunningList → Bool) (now f : ℕ) → in_frame t schedules es which now f ≡ in_frame t schedules fs which now f
+  in_frame_same which now f = ap (λ rs. joined (left_in now f) (filter which rs)) (lists_same f)
 
   old_same : (o : Option ℕ) (now : ℕ) → old_records_by t schedules es now o ≡ old_records_by t schedules fs now o
   old_same None now = refl
-  old_same (Some period) now = up_to_same _ _ (rounds_before period now) (λ k h. left_same (k * period) now)
+  old_same (Some h) now =
+      up_to_same (λ k. in_frame t schedules es (begun_before now) now (k * h)) (λ k. in_frame t schedules fs (begun_before now) now (k * h)) (rounds_before h now) (λ k less. in_frame_same (begun_before now) now (k * h))
 
   new_same : (o : Option ℕ) (now : ℕ) → new_records_by t schedules es now o ≡ new_records_by t schedules fs now o
   new_same None now = refl
-  new_same (Some period) now = ap (λ ls. cond (eqb (now % period) 0) ls []) (left_same now now)
+  new_same (Some h) now = in_frame_same (begins_at now) now (h * (now / h))
 
   records_same : (now : ℕ) → all_records t schedules es now ≡ all_records t schedules fs now
-  records_same now = up_to_same (records t schedules es) (records t schedules fs) now (λ n h. ap₂ (λ a b. a ++ b) (old_same (root_period t) n) (new_same (root_period t) n))
+  records_same now = up_to_same (records t schedules es) (records t schedules fs) now (λ n h. ap₂ (λ a b. a ++ b) (old_same (hyper t) n) (new_same (hyper t) n))
 
   path_same : (code : ECode) (now : ℕ) → e_done t code es now ≡ e_done t code fs now
   path_same code now =
       ap (λ (z : List _). capped (length z))
       (up_to_same (e_path t code es) (e_path t code fs) now (λ n h. ap₂ (instant_path t code n) (before_same t es fs n (alike n)) (states n)))
+
+  module _ (loaded : IsLoaded t schedules) (within : AreTookWithin t es) where
+    turns : (n : ℕ) → turn_at t schedules es n ≡ turn_at t schedules fs n
+    turns n = turn_same t schedules es fs (suc n) (alike (suc n)) loaded within same.tooks n (omega arith)
+
+    finished_same : (n i : ℕ) → finished_before (turn_at t schedules es) n i ≡ finished_before (turn_at t schedules fs) n i
+    finished_same zero i = refl
+    finished_same (suc n) i = ap (λ (u : Turn). finished_by u (left_before u (suc n)) i) (turns n)
+
+    desk_same : (root : Option ℕ) (n : ℕ) (r : Round) → DeskFollows (turn_at t schedules es) root n r → DeskFollows (turn_at t schedules fs) root n r
+    desk_same None n r f = f
+    desk_same (Some period) zero r f = f
+    desk_same (Some period) (suc n) r f = subst (λ (u : Turn). DeskStands u.plan u.frame (suc n) r) (turns n) f
+
+    goes_same : (o : Option ℕ) (now : ℕ) (node : Option ℕ) → GoesBy (turn_at t schedules es) o now node → GoesBy (turn_at t schedules fs) o now node
+    goes_same None now node g = g
+    goes_same (Some p) zero node g = g
+    goes_same (Some p) (suc n) node g = g ∙ ap (λ (u : Turn). Some u.node) (turns n)
 
 -- what a machine follows it follows of events that tell the same
 pub same_follows : (m : Seen) (es fs : List Event) → IsAccepted m.object → TellSame m.object.tables es fs → Follows m es → Follows m fs
@@ -125,8 +140,8 @@ same_follows m es fs accepted same f =
                 };
             records =
                 record {
-                  desk = desk_same t schedules es fs same.told (root_period t) now m.held.desk f.before.records.desk;
-                  goes = goes_same t schedules es fs same.told (root_period t) now m.selection f.before.records.goes;
+                  desk = desk_same t schedules es fs same.told loaded f.kept.within (hyper t) now m.held.desk f.before.records.desk;
+                  goes = goes_same t schedules es fs same.told loaded f.kept.within (hyper t) now m.selection f.before.records.goes;
                   jobs_are = f.before.records.jobs_are ∙ ap (λ ls. capped (count_by (λ (l : ℕ × Left). l.1.finished) ls)) (records_same t schedules es fs same.told now);
                   s_are = f.before.records.s_are ∙ ap (λ (ls : List (ℕ × Left)). capped (length ls)) (records_same t schedules es fs same.told now);
                 };
@@ -145,10 +160,10 @@ same_follows m es fs accepted same f =
     loaded : IsLoaded t schedules
     loaded = accepted_is_loaded m.object accepted
 
-    values : ValuesFollow t fs now (finished_before (plan_of t schedules fs) (period_or (root_period t)) now) m.held.world
+    values : ValuesFollow t fs now (finished_before (turn_at t schedules fs) now) m.held.world
     values =
-        subst (λ z. ValuesFollow t fs now z m.held.world) (fun_ext (λ i. finished_same t schedules es fs same.told (period_or (root_period t)) now i))
-        (values_alike t loaded.range loaded.kept es fs now (finished_before (plan_of t schedules es) (period_or (root_period t)) now) m.held.world (alike t schedules es fs same.told now)
+        subst (λ z. ValuesFollow t fs now z m.held.world) (fun_ext (λ i. finished_same t schedules es fs same.told loaded f.kept.within now i))
+        (values_alike t loaded.range loaded.kept es fs now (finished_before (turn_at t schedules es) now) m.held.world (alike t schedules es fs same.told now)
         (λ i x s st fin. all_read t schedules loaded es f.kept.within now i x s st fin) f.before.values.values)
 
 -- a reading between two others changes nothing

@@ -4,10 +4,11 @@ use Rattle.std.proofs.Math.Nat.{div-add-mod, mul-div-le}
 use Rattle.std.proofs.lemmas.Bool.{eqb-true, eq-eqb, ltb-true}
 use Rattle.htl_form.proofs.PartLaws.{none_some}
 use Rattle.htl_model.specs.declared.event.Event.{Event}
-use Rattle.htl_model.specs.Frames.{root_periods, begins}
+use Rattle.htl_model.specs.Frames.{root_periods, begins, hyper}
 use Rattle.htl_model.specs.Lists.{up_to}
 use Rattle.htl_model.specs.Selections.{root_period}
 use Rattle.htl_model.specs.Tables.{Tables}
+use Rattle.htl_model.proofs.Locality.{up_to_same}
 use Rattle.htl_walk.specs.declared.job.Job.{Job}
 use Rattle.htl_walk.specs.declared.schedule.SInstr.{SInstr}
 use Rattle.htl_walk.specs.Jobs.{precedes}
@@ -15,9 +16,11 @@ use Rattle.htl_walk.specs.Walk.{job_at}
 use Rattle.htl_walk.proofs.Work.{job_is}
 use Rattle.htl_refine.specs.Records.{Round as Plan, lengths_of, modes_at, round_at, walk_of}
 use Rattle.htl_refine.proofs.Inherit.{map_at}
-use Rattle.htl_machine.specs.Plans.{round_start}
+use Rattle.htl_machine.specs.Follows.{IsLoaded}
 use Rattle.htl_machine.specs.Programs.{schedules_of}
+use Rattle.htl_machine.specs.Rounds.{round_start}
 use Rattle.htl_machine.proofs.Accepted.{accepted_is_loaded}
+use Rattle.htl_machine.proofs.LoadedLists.{loaded_keys, loaded_one}
 use Rattle.htl_machine.proofs.Telling.{up_to_none}
 use Rattle.htl_audit.specs.declared.slice.Slice.{Slice}
 use Rattle.htl_audit.specs.Growing.{HaveRounds}
@@ -31,11 +34,12 @@ use Rattle.htl_audit.proofs.Judging.{lies, implied}
 use Rattle.htl_audit.proofs.ClosedSlices.{given}
 use Rattle.htl_audit.proofs.OwnSoFar.{cut, last_early, same_round, mod_below, either, keeps, IsRun, run_of, again, later_at, few, IsAt, is_at, elsewhere, ticks_before}
 use Rattle.htl_audit.proofs.OwnTicks.{IsSound, audited, IsOwn, own, own_lies, never_over, window_given, all_given, ready, before}
+use Rattle.htl_audit.proofs.RoundSlices.{round_slices_at, slices_same}
 use Rattle.htl_audit.proofs.Rounds.{have_rounds}
 
 module _ (t : Tables) (schedules : List (List SInstr)) (es : List Event) (period : ℕ) (run : IsRun t schedules es period) where
   abbrev at : ℕ → List Slice
-  at now = own_at t schedules es (Some period) now
+  at now = round_slices_at t schedules es period now
 
   -- ---- the rounds of an audit are those of the run
 
@@ -247,10 +251,23 @@ own_log_is_legal o es end accepted within =
     let legal = by (root_period o.tables) refl in
     (legal, is_legal (all_rounds o.tables es (suc end)) (suc end) (own_log o.tables (schedules_of o) es end) legal)
   where
+    loaded : IsLoaded o.tables (schedules_of o)
+    loaded = accepted_is_loaded o accepted
+
+    keys : hyper o.tables ≡ root_period o.tables
+    keys = loaded_keys o.tables (schedules_of o) loaded
+
+    -- a frame is a round
+    in_rounds : (period : ℕ) → root_period o.tables ≡ Some period → own_log o.tables (schedules_of o) es end ≡ up_to (round_slices_at o.tables (schedules_of o) es period) (suc end)
+    in_rounds period root =
+        ap (λ p. up_to (own_at o.tables (schedules_of o) es p) (suc end)) (keys ∙ root)
+        ∙ up_to_same (own_at o.tables (schedules_of o) es (Some period)) (round_slices_at o.tables (schedules_of o) es period) (suc end)
+        (λ now less. slices_same o.tables period (schedules_of o) es loaded.range (loaded_one o.tables (schedules_of o) loaded period root) now)
+
     by : (p : Option ℕ) → root_period o.tables ≡ p → IsLegal o.tables es end (own_log o.tables (schedules_of o) es end)
     by (Some period) root =
-        subst (λ p. IsLegal o.tables es end (up_to (own_at o.tables (schedules_of o) es p) (suc end))) (sym root)
-        (run_is_legal o.tables (schedules_of o) es period (run_of o.tables (schedules_of o) es period (accepted_is_loaded o accepted) (have_rounds o accepted) within root) end)
+        subst (IsLegal o.tables es end) (sym (in_rounds period root))
+        (run_is_legal o.tables (schedules_of o) es period (run_of o.tables (schedules_of o) es period loaded (have_rounds o accepted) within root) end)
     by None root =
-        subst (λ p. IsLegal o.tables es end (up_to (own_at o.tables (schedules_of o) es p) (suc end))) (sym root)
+        subst (λ p. IsLegal o.tables es end (up_to (own_at o.tables (schedules_of o) es p) (suc end))) (sym (keys ∙ root))
         (subst (λ log. IsLegal o.tables es end log) (sym (up_to_none (own_at o.tables (schedules_of o) es None) (suc end) (λ k less. refl))) (no_round_is_legal o.tables es (have_rounds o accepted) root end))

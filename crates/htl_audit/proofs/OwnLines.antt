@@ -1,23 +1,27 @@
 -- The j lines of a run's text are the slices of its own log, in order.
-use Rattle.std.proofs.Common.{◌≡◌, ℕ, zero, suc, ◌+◌, ◌*◌, ◌%◌, Bool, true, false, cond, ◌||◌, eqb, List, [], ◌∷◌, ◌++◌, map, slice_get, Option, Some, None, option_map, refl, sym, ap, ◌∙◌}
+use Rattle.std.proofs.Common.{◌≡◌, ℕ, zero, suc, ◌+◌, ◌*◌, ◌/◌, Bool, true, false, cond, ◌||◌, eqb, ltb, List, [], ◌∷◌, ◌++◌, map, slice_get, Option, Some, None, option_map, refl, sym, ap, ap₂, ◌∙◌}
 use Rattle.std.specs.List.{filter}
 use Rattle.std.proofs.lemmas.List.{append-nil}
 use Rattle.htl_model.specs.declared.event.Event.{Event}
+use Rattle.htl_model.specs.Frames.{hyper, node}
 use Rattle.htl_model.specs.Lists.{all_some, joined, up_to}
-use Rattle.htl_model.specs.Selections.{root_period}
 use Rattle.htl_model.specs.Tables.{Tables}
 use Rattle.htl_model.proofs.Locality.{up_to_same}
+use Rattle.htl_walk.specs.declared.job.Job.{Job}
 use Rattle.htl_walk.specs.declared.schedule.SInstr.{SInstr}
-use Rattle.htl_walk.specs.Walk.{Left, first_point}
-use Rattle.htl_refine.specs.Records.{Round, round_at, rounds_before, shifted, walk_of}
-use Rattle.htl_machine.specs.JobLines.{RunLine, printed, is_job_line, begins_as_job, text_lines, slice_of, job_lines_of, round_job_lines, job_lines_at, job_lines_to}
+use Rattle.htl_walk.specs.Paths.{Leg, begun, walks_from}
+use Rattle.htl_walk.specs.Walk.{Left, Point, first_point, last_point, walk_from}
+use Rattle.htl_refine.specs.FrameRecords.{RunningList, lists_from, lists_at, left_in, begun_before}
+use Rattle.htl_refine.specs.FrameRuns.{frame_modes, path_of, frame_at}
+use Rattle.htl_refine.specs.Records.{rounds_before, shifted}
+use Rattle.htl_machine.specs.JobLines.{RunLine, printed, is_job_line, begins_as_job, text_lines, slice_of, job_lines_of, list_job_lines, frame_job_lines, job_lines_at, job_lines_to}
 use Rattle.htl_machine.specs.JobLines.RunLine.{SliceLine, DoneLine, InstrLine, ChangeLine, StepLine, TotalsLine}
 use Rattle.htl_machine.specs.Programs.{schedules_of, text_of}
 use Rattle.htl_machine.specs.Texts.{inv_at}
-use Rattle.htl_machine.proofs.JobLines.{begun, run_shows, jobs_are_found}
+use Rattle.htl_machine.proofs.JobLines.{begins_silent, run_shows, jobs_are_found}
 use Rattle.htl_machine.proofs.Standing.{none_some}
 use Rattle.htl_audit.specs.declared.slice.Slice.{Slice}
-use Rattle.htl_audit.specs.Own.{own_of, own_at, own_log, line_slice, begins_as_slice, slice_text, OwnLogIsPrinted, OwnLogIsFound}
+use Rattle.htl_audit.specs.Own.{own_slice, own_of, own_at, own_log, line_slice, begins_as_slice, slice_text, OwnLogIsPrinted, OwnLogIsFound}
 use Rattle.htl_audit.proofs.ClosedSlices.{runs_at, mine, onto, closed, told, at_now, closed_is}
 
 -- ---- the values that a function gives
@@ -41,11 +45,11 @@ some_up_to f g (suc n) = some_both f (up_to g n) (g n) ∙ ap (λ zs. zs ++ all_
 abbrev HasPosition : Left → Type 0
 HasPosition l = (u : ℕ × ℕ) → l.slice ≡ Some u → (p : ℕ) × (l.position ≡ Some p)
 
-record_lines : (r : Round) (s k : ℕ) (l : Left) → HasPosition l → (rest : List Slice) → all_some line_slice (job_lines_of r (k, shifted s l)) ++ rest ≡ onto (mine r.jobs s l.position l.slice) rest
-record_lines r s k l has rest = by l.position l.slice l.finished has
+record_lines : (jobs : List Job) (s k : ℕ) (l : Left) → HasPosition l → (rest : List Slice) → all_some line_slice (job_lines_of jobs (k, shifted s l)) ++ rest ≡ onto (mine jobs s l.position l.slice) rest
+record_lines jobs s k l has rest = by l.position l.slice l.finished has
   where
     by : (o : Option ℕ) (sl : Option (ℕ × ℕ)) (b : Bool) → ((u : ℕ × ℕ) → sl ≡ Some u → (p : ℕ) × (o ≡ Some p))
-        → all_some line_slice (slice_of (inv_at r.jobs o) (option_map (λ (u : ℕ × ℕ). (s + u.0, s + u.1)) sl) ++ cond b (DoneLine (s + l.at) (inv_at r.jobs o) ∷ []) []) ++ rest ≡ onto (mine r.jobs s o sl) rest
+        → all_some line_slice (slice_of (inv_at jobs o) (option_map (λ (u : ℕ × ℕ). (s + u.0, s + u.1)) sl) ++ cond b (DoneLine (s + l.at) (inv_at jobs o) ∷ []) []) ++ rest ≡ onto (mine jobs s o sl) rest
     by None None true has = refl
     by None None false has = refl
     by None (Some u) b has = none_some (has u refl).0 (has u refl).1
@@ -54,43 +58,74 @@ record_lines r s k l has rest = by l.position l.slice l.finished has
     by (Some p) (Some u) true has = refl
     by (Some p) (Some u) false has = refl
 
-list_lines : (r : Round) (s now k : ℕ) (ls : List Left) → ((i : ℕ) (l : Left) → slice_get ls i ≡ Some l → HasPosition l)
-    → all_some line_slice (joined (job_lines_of r) (filter (at_now now) (told s k ls))) ≡ closed r.jobs s now ls
-list_lines r s now k [] has = refl
-list_lines r s now k (l ∷ ls) has = by (eqb (s + l.at) now) (list_lines r s now (suc k) ls (λ i m at. has (suc i) m at))
+list_lines : (jobs : List Job) (s now k : ℕ) (ls : List Left) → ((i : ℕ) (l : Left) → slice_get ls i ≡ Some l → HasPosition l)
+    → all_some line_slice (joined (job_lines_of jobs) (filter (at_now now) (told s k ls))) ≡ closed jobs s now ls
+list_lines jobs s now k [] has = refl
+list_lines jobs s now k (l ∷ ls) has = by (eqb (s + l.at) now) (list_lines jobs s now (suc k) ls (λ i m at. has (suc i) m at))
   where
-    by : (b : Bool) → all_some line_slice (joined (job_lines_of r) (filter (at_now now) (told s (suc k) ls))) ≡ closed r.jobs s now ls
-        → all_some line_slice (joined (job_lines_of r) (cond b ((k, shifted s l) ∷ filter (at_now now) (told s (suc k) ls)) (filter (at_now now) (told s (suc k) ls))))
-        ≡ cond b (onto (mine r.jobs s l.position l.slice) (closed r.jobs s now ls)) (closed r.jobs s now ls)
+    by : (b : Bool) → all_some line_slice (joined (job_lines_of jobs) (filter (at_now now) (told s (suc k) ls))) ≡ closed jobs s now ls
+        → all_some line_slice (joined (job_lines_of jobs) (cond b ((k, shifted s l) ∷ filter (at_now now) (told s (suc k) ls)) (filter (at_now now) (told s (suc k) ls))))
+        ≡ cond b (onto (mine jobs s l.position l.slice) (closed jobs s now ls)) (closed jobs s now ls)
     by false next = next
     by true next =
-        some_both line_slice (job_lines_of r (k, shifted s l)) (joined (job_lines_of r) (filter (at_now now) (told s (suc k) ls)))
-        ∙ ap (λ zs. all_some line_slice (job_lines_of r (k, shifted s l)) ++ zs) next
-        ∙ record_lines r s k l (has 0 l refl) (closed r.jobs s now ls)
+        some_both line_slice (job_lines_of jobs (k, shifted s l)) (joined (job_lines_of jobs) (filter (at_now now) (told s (suc k) ls)))
+        ∙ ap (λ zs. all_some line_slice (job_lines_of jobs (k, shifted s l)) ++ zs) next
+        ∙ record_lines jobs s k l (has 0 l refl) (closed jobs s now ls)
 
 -- ---- the lines of a run
 
-module _ (t : Tables) (schedules : List (List SInstr)) (es : List Event) where
-  round_lines : (start now : ℕ) → all_some line_slice (round_job_lines t schedules es start now) ≡ own_of t schedules es start now
-  round_lines start now =
-      let r = round_at t schedules es start in
-      list_lines r start now 0 (walk_of r)
-      (λ i l at u has. let w = runs_at r.jobs r.schedule (first_point r.jobs r.lengths) (λ p. Unit {0}) (λ p more. tt) i l u at has in (w.position, w.of))
-      ∙ sym (closed_is r.jobs start now 0 (walk_of r))
+some_joined : {A B C : Type 0} (f : A → Option B) (g : C → List A) (xs : List C) → all_some f (joined g xs) ≡ joined (λ x. all_some f (g x)) xs
+some_joined f g [] = refl
+some_joined f g (x ∷ xs) = some_both f (g x) (joined g xs) ∙ ap (λ zs. all_some f (g x) ++ zs) (some_joined f g xs)
 
-  instant_lines : (o : Option ℕ) (now : ℕ) → all_some line_slice (job_lines_at t schedules es o now) ≡ own_at t schedules es o now
+-- of the lists of a frame that began before
+lists_lines : (number : ℕ → ℕ) (f now j : ℕ) (all jobs : List Job) (ss : List (List SInstr)) (gs : List Leg) (x : Point)
+    → joined (λ r. all_some line_slice (joined (job_lines_of all) (left_in now f r))) (filter (begun_before now) (lists_from number f j ss gs (walks_from jobs ss gs x)))
+    ≡ joined (λ r. all_some (own_slice all) (left_in now f r)) (filter (begun_before now) (lists_from number f j ss gs (walks_from jobs ss gs x)))
+lists_lines number f now j all jobs [] gs x = refl
+lists_lines number f now j all jobs (s ∷ ss) [] x = refl
+lists_lines number f now j all jobs (s ∷ ss) (g ∷ gs) x = by (ltb (f + g.from) now) (lists_lines number f now (suc j) all jobs ss gs (last_point jobs s start))
+  where
+    start : Point
+    start = begun g.from x
+
+    r : RunningList
+    r = record { from = f + g.from; node = number j; code = s; walk = walk_from jobs s start }
+
+    rest : List RunningList
+    rest = filter (begun_before now) (lists_from number f (suc j) ss gs (walks_from jobs ss gs (last_point jobs s start)))
+
+    here : all_some line_slice (joined (job_lines_of all) (left_in now f r)) ≡ all_some (own_slice all) (left_in now f r)
+    here =
+        list_lines all f now 0 (walk_from jobs s start) (λ i l at u has. let w = runs_at jobs s start (λ p. Unit {0}) (λ p more. tt) i l u at has in (w.position, w.of))
+        ∙ sym (closed_is all f now 0 (walk_from jobs s start))
+
+    by : (b : Bool) → joined (λ r. all_some line_slice (joined (job_lines_of all) (left_in now f r))) rest ≡ joined (λ r. all_some (own_slice all) (left_in now f r)) rest
+        → joined (λ r. all_some line_slice (joined (job_lines_of all) (left_in now f r))) (cond b (r ∷ rest) rest) ≡ joined (λ r. all_some (own_slice all) (left_in now f r)) (cond b (r ∷ rest) rest)
+    by true next = ap₂ (λ xs ys. xs ++ ys) here next
+    by false next = next
+
+module _ (t : Tables) (lists : List (List SInstr)) (es : List Event) where
+  frame_lines : (f now : ℕ) → all_some line_slice (frame_job_lines t lists es (begun_before now) now f) ≡ own_of t lists es f now
+  frame_lines f now =
+      let p = frame_at t lists es f in
+      let running = filter (begun_before now) (lists_at t lists es f) in
+      some_joined line_slice (list_job_lines t lists es now f) running
+      ∙ lists_lines (node t (path_of t (frame_modes t es f))) f now 0 p.jobs p.jobs p.lists p.legs (first_point p.jobs p.lengths)
+
+  instant_lines : (o : Option ℕ) (now : ℕ) → all_some line_slice (job_lines_at t lists es o now) ≡ own_at t lists es o now
   instant_lines None now = refl
-  instant_lines (Some period) now =
-      let old = up_to (λ k. round_job_lines t schedules es (k * period) now) (rounds_before period now) in
-      ap (λ zs. all_some line_slice (old ++ zs)) (begun t schedules es (eqb (now % period) 0) now)
+  instant_lines (Some h) now =
+      let old = up_to (λ k. frame_job_lines t lists es (begun_before now) now (k * h)) (rounds_before h now) in
+      ap (λ zs. all_some line_slice (old ++ zs)) (begins_silent t lists es (h * (now / h)) now)
       ∙ ap (all_some line_slice) (append-nil old)
-      ∙ some_up_to line_slice (λ k. round_job_lines t schedules es (k * period) now) (rounds_before period now)
-      ∙ up_to_same (λ k. all_some line_slice (round_job_lines t schedules es (k * period) now)) (λ k. own_of t schedules es (k * period) now) (rounds_before period now) (λ k less. round_lines (k * period) now)
+      ∙ some_up_to line_slice (λ k. frame_job_lines t lists es (begun_before now) now (k * h)) (rounds_before h now)
+      ∙ up_to_same (λ k. all_some line_slice (frame_job_lines t lists es (begun_before now) now (k * h))) (λ k. own_of t lists es (k * h) now) (rounds_before h now) (λ k less. frame_lines (k * h) now)
 
-  pub own_lines : (end : ℕ) → all_some line_slice (job_lines_to t schedules es end) ≡ own_log t schedules es end
+  pub own_lines : (end : ℕ) → all_some line_slice (job_lines_to t lists es end) ≡ own_log t lists es end
   own_lines end =
-      some_up_to line_slice (job_lines_at t schedules es (root_period t)) (suc end)
-      ∙ up_to_same (λ now. all_some line_slice (job_lines_at t schedules es (root_period t) now)) (own_at t schedules es (root_period t)) (suc end) (λ now less. instant_lines (root_period t) now)
+      some_up_to line_slice (job_lines_at t lists es (hyper t)) (suc end)
+      ∙ up_to_same (λ now. all_some line_slice (job_lines_at t lists es (hyper t) now)) (own_at t lists es (hyper t)) (suc end) (λ now less. instant_lines (hyper t) now)
 
 -- the other lines have no slice
 of_jobs : (ls : List RunLine) → all_some line_slice (filter is_job_line ls) ≡ all_some line_slice ls

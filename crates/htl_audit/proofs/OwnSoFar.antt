@@ -16,10 +16,11 @@ use Rattle.htl_walk.specs.declared.schedule.SInstr.{SInstr}
 use Rattle.htl_walk.specs.Walk.{first_point}
 use Rattle.htl_refine.specs.Records.{AreTookWithin, modes_at, round_at, walk_of}
 use Rattle.htl_machine.specs.Casts.{HaveWindows}
-use Rattle.htl_machine.specs.Follows.{AreInForm, IsLoaded, period_or}
-use Rattle.htl_machine.specs.Plans.{round_start, AreSound}
-use Rattle.htl_machine.specs.Rounds.{plan_of}
+use Rattle.htl_machine.specs.Follows.{IsLoaded}
+use Rattle.htl_machine.specs.Plans.{AreSound}
+use Rattle.htl_machine.specs.Rounds.{round_start, period_or, plan_of}
 use Rattle.htl_machine.proofs.Desking.{times_within}
+use Rattle.htl_machine.proofs.Loaded.{AreInForm, loaded_rounds}
 use Rattle.htl_machine.proofs.RoundServed.{round_windows}
 use Rattle.htl_machine.proofs.Telling.{none_at_first, rounds_are, up_to_last}
 use Rattle.htl_machine.proofs.TellingLines.{none_left, last_start}
@@ -28,11 +29,12 @@ use Rattle.htl_audit.specs.declared.slice.LogKind.TheVariants as kind
 use Rattle.htl_audit.specs.Growing.{HaveRounds}
 use Rattle.htl_audit.specs.Jobs.{Round}
 use Rattle.htl_audit.specs.Legal.{lies_in, ticks, is_free, is_over, any_job, last_end, is_out_of_order, line_fault}
-use Rattle.htl_audit.specs.Own.{own_slice, own_of, own_at}
+use Rattle.htl_audit.specs.Own.{own_slice}
 use Rattle.htl_audit.proofs.ClosedSlices.{closed, closed_is, one_closed, given, given_first}
 use Rattle.htl_audit.proofs.Growing.{in_two, round_job}
 use Rattle.htl_audit.proofs.OnePosition.{one_position}
 use Rattle.htl_audit.proofs.Judging.{lies, rest}
+use Rattle.htl_audit.proofs.RoundSlices.{round_slices, round_slices_at}
 use Rattle.htl_audit.proofs.OwnTicks.{ticks_both, no_ticks, IsSound, audited, IsOwn, own, ticks_now}
 
 -- ---- lists of at most one item, end to end
@@ -118,19 +120,19 @@ run_of t schedules es period loaded rounds within root =
     }
   where
     form : AreInForm t schedules es period
-    form = (loaded.rounds es within).form period root
+    form = (loaded_rounds t schedules loaded es within).form period root
 
     windows : (n : ℕ) → HaveWindows (round_at t schedules es (round_start period n)).jobs
     windows n =
         let r = round_at t schedules es (round_start period n) in
         let same : period_or (root_period t) ≡ period = ap period_or root in
-        round_windows r.jobs r.lengths r.schedule ((subst (AreSound t es (plan_of t schedules es)) same (loaded.rounds es within).sound).meets n)
+        round_windows r.jobs r.lengths r.schedule ((subst (AreSound t es (plan_of t schedules es)) same (loaded_rounds t schedules loaded es within).sound).meets n)
 
     at_start : (n : ℕ) → IsSound (round_at t schedules es (round_start period n)) period
     at_start n =
         let r = round_at t schedules es (round_start period n) in
         let same : period_or (root_period t) ≡ period = ap period_or root in
-        let kept = subst (AreSound t es (plan_of t schedules es)) same (loaded.rounds es within).sound in
+        let kept = subst (AreSound t es (plan_of t schedules es)) same (loaded_rounds t schedules loaded es within).sound in
         record {
           meets = kept.meets n;
           once = λ p q j k at bt here there one.
@@ -148,18 +150,18 @@ module _ (t : Tables) (schedules : List (List SInstr)) (es : List Event) (period
   -- ---- the slices of an instant
 
   abbrev pub at : ℕ → List Slice
-  at now = own_at t schedules es (Some period) now
+  at now = round_slices_at t schedules es period now
 
   first_at : at 0 ≡ []
-  first_at = ap (up_to (λ k. own_of t schedules es (k * period) 0)) (none_at_first period run.some)
+  first_at = ap (up_to (λ k. round_slices t schedules es (k * period) 0)) (none_at_first period run.some)
 
   pub later_at : (m : ℕ) → at (suc m) ≡ closed (round_at t schedules es (round_start period m)).jobs (round_start period m) (suc m) (walk_of (round_at t schedules es (round_start period m)))
   later_at m =
       let s = round_start period m in
       let r = round_at t schedules es s in
-      ap (up_to (λ k. own_of t schedules es (k * period) (suc m))) (rounds_are period m run.some)
-      ∙ up_to_last (λ k. own_of t schedules es (k * period) (suc m)) (m / period) (λ k less. ap (all_some (own_slice (round_at t schedules es (k * period)).jobs)) (none_left t schedules es period run.some run.form m k less))
-      ∙ ap (λ z. own_of t schedules es z (suc m)) (last_start t schedules es period run.some run.form m)
+      ap (up_to (λ k. round_slices t schedules es (k * period) (suc m))) (rounds_are period m run.some)
+      ∙ up_to_last (λ k. round_slices t schedules es (k * period) (suc m)) (m / period) (λ k less. ap (all_some (own_slice (round_at t schedules es (k * period)).jobs)) (none_left t schedules es period run.some run.form m k less))
+      ∙ ap (λ z. round_slices t schedules es z (suc m)) (last_start t schedules es period run.some run.form m)
       ∙ closed_is r.jobs s (suc m) 0 (walk_of r)
 
   pub few : (now : ℕ) → length (at now) ≤ 1

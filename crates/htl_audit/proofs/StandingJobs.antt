@@ -12,12 +12,12 @@ use Rattle.htl_walk.specs.Jobs.{precedes}
 use Rattle.htl_walk.specs.Walk.{job_at}
 use Rattle.htl_refine.specs.Records.{AreTookWithin, walk_of}
 use Rattle.htl_machine.specs.Casts.{IsCast, IsJob, HaveWindows, rank}
-use Rattle.htl_machine.specs.Follows.{IsLoaded, period_or}
-use Rattle.htl_machine.specs.Plans.{round_start, AreRegular, AreSound}
-use Rattle.htl_machine.specs.Rounds.{plan_of}
+use Rattle.htl_machine.specs.Follows.{IsLoaded}
+use Rattle.htl_machine.specs.Plans.{AreRegular, AreSound}
+use Rattle.htl_machine.specs.Rounds.{round_start, period_or, plan_of}
 use Rattle.htl_machine.specs.Values.{Stands, Orders}
 use Rattle.htl_machine.proofs.Casting.{job_is}
-use Rattle.htl_machine.proofs.Loaded.{root_there}
+use Rattle.htl_machine.proofs.Loaded.{root_there, loaded_rounds}
 use Rattle.htl_machine.proofs.Outs.{writer_is, writer_stands}
 use Rattle.htl_machine.proofs.Owing.{in_order}
 use Rattle.htl_machine.proofs.RoundServed.{served_of, round_windows}
@@ -59,7 +59,7 @@ module _ (t : Tables) (schedules : List (List SInstr)) (loaded : IsLoaded t sche
       let below = (standing_at t loaded.range es n).known (mode_module t x.mode) (record { mode = x.mode; start = s }) st.in_round in
       let p = root_there t loaded.range (omega (arith, below)) in
       let same : period_or (root_period t) ≡ p.0 = ap period_or p.1 in
-      let kept = loaded.rounds es within in
+      let kept = loaded_rounds t schedules loaded es within in
       record {
         period = p.0;
         root = p.1;

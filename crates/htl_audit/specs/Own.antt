@@ -2,15 +2,17 @@
 use Rattle.std.specs.Prelude.{◌≡◌, ℕ, suc, ◌*◌, Bool, true, false, eqb, List, [], ◌∷◌, map, Option, Some, None}
 use Rattle.std.specs.List.{filter}
 use Rattle.htl_model.specs.declared.event.Event.{Event}
+use Rattle.htl_model.specs.Frames.{hyper}
 use Rattle.htl_model.specs.Lists.{all_some, joined, up_to}
-use Rattle.htl_model.specs.Selections.{root_period}
 use Rattle.htl_model.specs.Tables.{Tables}
 use Rattle.htl_object.specs.declared.object.Object.{Object}
 use Rattle.htl_object.specs.Accepted.{IsAccepted}
 use Rattle.htl_walk.specs.declared.job.Job.{Job}
 use Rattle.htl_walk.specs.declared.schedule.SInstr.{SInstr}
 use Rattle.htl_walk.specs.Walk.{Left, job_at}
-use Rattle.htl_refine.specs.Records.{AreTookWithin, round_at, left_at, rounds_before}
+use Rattle.htl_refine.specs.FrameRecords.{RunningList, lists_at, left_in, begun_before}
+use Rattle.htl_refine.specs.FrameRuns.{frame_at}
+use Rattle.htl_refine.specs.Records.{AreTookWithin, rounds_before}
 use Rattle.htl_console.specs.declared.shown.Shown.{Shown}
 use Rattle.htl_console.specs.Lines.{slice_line}
 use Rattle.htl_console.specs.Shows.{shows_jobs}
@@ -28,18 +30,22 @@ own_slice jobs l =
       | Some p ↦ elim l.1.slice [ Some s ↦ Some (record { from = s.0; to = s.1; inv = (job_at jobs p).inv }) | None ↦ None ]
     ]
 
--- the slices that close at an instant, of the round that began at `start`
-abbrev pub own_of : Tables → List (List SInstr) → List Event → ℕ → ℕ → List Slice
-own_of t schedules es start now = all_some (own_slice (round_at t schedules es start).jobs) (left_at t schedules es start now)
+-- the slices that close at an instant, of a list of the frame from f
+abbrev pub list_slices : Tables → List (List SInstr) → List Event → ℕ → ℕ → RunningList → List Slice
+list_slices t lists es now f r = all_some (own_slice (frame_at t lists es f).jobs) (left_in now f r)
 
--- of all rounds that began before; without modules there are none
+-- of its lists that began before
+abbrev pub own_of : Tables → List (List SInstr) → List Event → ℕ → ℕ → List Slice
+own_of t lists es f now = joined (list_slices t lists es now f) (filter (begun_before now) (lists_at t lists es f))
+
+-- of all frames that began before; without modules there are none
 abbrev pub own_at : Tables → List (List SInstr) → List Event → Option ℕ → ℕ → List Slice
-own_at t schedules es None now = []
-own_at t schedules es (Some period) now = up_to (λ k. own_of t schedules es (k * period) now) (rounds_before period now)
+own_at t lists es None now = []
+own_at t lists es (Some h) now = up_to (λ k. own_of t lists es (k * h) now) (rounds_before h now)
 
 -- the slices that close by the end of the run
 abbrev pub own_log : Tables → List (List SInstr) → List Event → ℕ → List Slice
-own_log t schedules es end = up_to (own_at t schedules es (root_period t)) (suc end)
+own_log t lists es end = up_to (own_at t lists es (hyper t)) (suc end)
 
 -- ---- the log as it is printed
 
