@@ -12,18 +12,12 @@ use Rattle.htl_model.specs.FrameRules.{KeptApart}
 use Rattle.htl_model.specs.Meaning.{last_sense, sense, initial, newest, state, before, val, out}
 use Rattle.htl_model.proofs.Laws.{seen_before}
 use Rattle.htl_model.proofs.Locality.{history_local}
-use Rattle.htl_walk.specs.declared.job.Job.{Job}
-use Rattle.htl_walk.specs.declared.schedule.SInstr.{SInstr}
-use Rattle.htl_walk.specs.Walk.{Left, walk, earlier}
-use Rattle.htl_walk.specs.Laws.{AgreeBefore}
-use Rattle.htl_walk.specs.Refinement.{HaveLengths}
-use Rattle.htl_walk.proofs.Unreleased.{unreleased_lengths}
+use Rattle.htl_walk.specs.Walk.{Left, earlier}
 use Rattle.htl_emach.specs.Contents.{Content}
 use Rattle.htl_machine.specs.Values.{Stands, HasRead, ValuesFollow, values_before}
 use Rattle.htl_refine.specs.RecordCounts.{count_before, Rises}
 use Rattle.htl_refine.specs.Records.{last_took, inv_worst, took}
 use Rattle.htl_machine.specs.Follows.{reading_of}
-use Rattle.htl_refine.proofs.RecordOrder.{walk_rises}
 use Rattle.htl_machine.proofs.Outs.{out_seen}
 
 -- ---- the last of the events
@@ -143,17 +137,3 @@ length-front e (l ∷ ls) = by_test (ltb l.at e) (length-front e ls)
     by_test : (b : Bool) → length (take (count_before e ls) ls) ≡ count_before e ls → length (take (cond b (suc (count_before e ls)) 0) (l ∷ ls)) ≡ cond b (suc (count_before e ls)) 0
     by_test true ih = ap suc ih
     by_test false ih = refl
-
--- what is done before an offset doesn't depend on lengths of jobs that are released then or later
-pub record AreSameBefore (jobs : List Job) (ns ms : List ℕ) (code : List SInstr) (e : ℕ) : Type 0 where
-  pub front : take (count_before e (walk jobs ns code)) (walk jobs ns code) ≡ take (count_before e (walk jobs ms code)) (walk jobs ms code)
-  pub count : count_before e (walk jobs ns code) ≡ count_before e (walk jobs ms code)
-
-pub same_before : (jobs : List Job) (ns ms : List ℕ) (code : List SInstr) (e : ℕ) → HaveLengths jobs ns → HaveLengths jobs ms → AgreeBefore e jobs ns ms → AreSameBefore jobs ns ms code e
-same_before jobs ns ms code e hn hm agree =
-    let same : take (count_before e (walk jobs ns code)) (walk jobs ns code) ≡ take (count_before e (walk jobs ms code)) (walk jobs ms code) =
-    front_is 0 e (walk jobs ns code) (walk_rises jobs code _) ∙ unreleased_lengths jobs ns ms code e hn hm agree ∙ sym (front_is 0 e (walk jobs ms code) (walk_rises jobs code _)) in
-    record {
-      front = same;
-      count = sym (length-front e (walk jobs ns code)) ∙ ap (λ (z : List Left). length z) same ∙ length-front e (walk jobs ms code);
-    }

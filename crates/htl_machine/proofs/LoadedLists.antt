@@ -1,5 +1,5 @@
 -- The lists of a loaded program: at each instant one stands, and where one begins the code begins a round.
-use Rattle.std.proofs.Common.{◌≡◌, ℕ, ◌+◌, ◌*◌, ◌/◌, ◌<◌, eqb, List, [], ◌∷◌, length, map, get_or, Option, Some, None, IfSome, refl, sym, ap, ◌∙◌, subst, arith, inr, true}
+use Rattle.std.proofs.Common.{◌≡◌, ℕ, ◌+◌, ◌<◌, eqb, List, [], ◌∷◌, length, map, get_or, Option, Some, None, IfSome, refl, sym, ap, ◌∙◌, subst, arith, inr, true}
 use Rattle.std.proofs.lemmas.List.{length-map}
 use Rattle.std.proofs.lemmas.Option.{slice_get_within}
 use Rattle.htl_model.specs.declared.event.Event.{Event}
@@ -23,14 +23,14 @@ use Rattle.htl_refine.proofs.Kept.{kept_apart}
 use Rattle.htl_machine.specs.Casts.{IsCast}
 use Rattle.htl_machine.specs.Follows.{IsLoaded}
 use Rattle.htl_machine.specs.ListTurns.{Turn, AreTurns, AreListed}
-use Rattle.htl_machine.specs.Plans.{AreRegular}
 use Rattle.htl_machine.specs.Recording.{AreOf}
-use Rattle.htl_machine.specs.Rounds.{period_or, plan_of, round_start, round_turn}
+use Rattle.htl_machine.specs.Rounds.{plan_of, round_start, round_turn}
 use Rattle.htl_machine.specs.RunLists.{no_turn, turn_by, turn_at, list_turn}
 use Rattle.htl_machine.specs.Timing.{begins}
-use Rattle.htl_machine.proofs.Loaded.{root_there, loaded_rounds}
+use Rattle.htl_machine.proofs.Loaded.{root_there}
+use Rattle.htl_machine.proofs.NextLists.{lists_begin}
 use Rattle.htl_machine.proofs.OneList.{one_turn}
-use Rattle.htl_machine.proofs.Periodic.{begins_is, some_roots, starts_there}
+use Rattle.htl_machine.proofs.Periodic.{some_roots}
 use Rattle.htl_machine.proofs.RunLists.{are_turns, are_listed, code_is, job_is_of}
 use Rattle.htl_machine.proofs.Standing.{none_some, standing_at}
 
@@ -132,22 +132,17 @@ module _ (t : Tables) (schedules : List (List SInstr)) (loaded : IsLoaded t sche
     pub loaded_code : (h : ℕ) → hyper t ≡ Some h → (n : ℕ) → (turn_at t schedules es n).plan.schedule ≡ get_or schedules (turn_at t schedules es n).node []
     loaded_code h e n = subst (λ (turn : ℕ → Turn). (turn n).plan.schedule ≡ get_or schedules (turn n).node []) (sym (turn_is h e)) (code_is t schedules es (loaded_run h e) n)
 
+    -- the code knows where a list begins
+    pub loaded_begins : (q : ℕ) → hyper t ≡ Some q → (now : ℕ) → begins t now ≡ eqb ((turn_at t schedules es now).frame + (turn_at t schedules es now).from) now
+    loaded_begins q e now =
+        subst (λ (turn : ℕ → Turn). begins t now ≡ eqb ((turn now).frame + (turn now).from) now) (sym (turn_is q e)) (lists_begin t schedules es (loaded_run q e) now).0
+
     -- ---- as the code begins lists: a round is the one list of its frame
 
     pub loaded_round : (q : ℕ) → root_period t ≡ Some q → (n : ℕ) → turn_at t schedules es n ≡ round_turn t schedules es q (round_start q n)
     loaded_round q root n = ap (λ o. turn_by o t schedules es n) (loaded_keys ∙ root) ∙ one_turn t q schedules es loaded.range (loaded_one q root) n
 
-    -- the code knows where a list begins
-    pub loaded_begins : (q : ℕ) → hyper t ≡ Some q → (now : ℕ) → begins t now ≡ eqb ((turn_at t schedules es now).frame + (turn_at t schedules es now).from) now
-    loaded_begins q e now =
-        let root : root_period t ≡ Some q = sym loaded_keys ∙ e in
-        let regular : AreRegular t es q = subst (λ o. AreRegular t es (period_or o)) root (loaded_rounds t schedules loaded es within).regular in
-        begins_is t q now loaded.range regular.some regular.modes root
-        ∙ starts_there q now regular.some
-        ∙ ap (λ z. eqb z now) (let e : q * (now / q) ≡ q * (now / q) + 0 = omega arith in e)
-        ∙ sym (ap (λ (u : Turn). eqb (u.frame + u.from) now) (loaded_round q root now))
-
-    -- and which it is
+    -- so the list that begins is that round
     pub loaded_begun : (q : ℕ) → hyper t ≡ Some q → (now : ℕ) → (turn_at t schedules es now).frame + (turn_at t schedules es now).from ≡ now
         → (round_start q now ≡ now) × (turn_at t schedules es now ≡ round_turn t schedules es q now)
     loaded_begun q e now at =

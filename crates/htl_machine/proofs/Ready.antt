@@ -3,19 +3,15 @@ use Rattle.std.proofs.Common.{◌≡◌, ◌≤◌, ◌<◌, ℕ, zero, suc, ◌
 use Rattle.std.proofs.lemmas.Option.{get_or_from_slice_get}
 use Rattle.htl_emach.specs.Contents.{Content}
 use Rattle.htl_form.proofs.Places.{all_at, item_at}
-use Rattle.htl_object.proofs.OneRound.{schedules_are}
 use Rattle.htl_object.specs.Accepted.{IsAccepted}
 use Rattle.htl_model.specs.declared.event.Event.{Event}
 use Rattle.htl_model.specs.Lists.{joined}
-use Rattle.htl_model.specs.Meaning.{state}
 use Rattle.htl_model.specs.Frames.{hyper}
 use Rattle.htl_model.specs.Tables.{Tables}
 use Rattle.htl_object.specs.declared.object.Object.{Object}
 use Rattle.htl_object.specs.Ranges.{IsShort}
-use Rattle.htl_refine.specs.Records.{modes_at, AreTookWithin}
+use Rattle.htl_refine.specs.Records.{AreTookWithin}
 use Rattle.htl_refine.proofs.Inherit.{map_at}
-use Rattle.htl_refine.proofs.RootSelection.{below_count}
-use Rattle.htl_refine.proofs.StateLaws.{states_are_selections}
 use Rattle.htl_smach.specs.Rounds.{Round, Stands, IsTold, no_round}
 use Rattle.htl_walk.specs.declared.job.Job.{Job}
 use Rattle.htl_walk.specs.declared.schedule.SInstr.{SInstr}
@@ -28,18 +24,16 @@ use Rattle.htl_machine.specs.Leaving.{due_by}
 use Rattle.htl_machine.specs.Plans.{with_records}
 use Rattle.htl_machine.specs.Programs.{schedules_of}
 use Rattle.htl_machine.specs.Recording.{AreOf}
-use Rattle.htl_machine.specs.Rounds.{selection_of, round_start}
 use Rattle.htl_machine.specs.Texts.{record_text, list_texts, some_records}
 use Rattle.htl_machine.specs.ListTurns.{Turn, AreTurns, turn_walk, left_before}
-use Rattle.htl_machine.specs.RunLists.{turn_at}
-use Rattle.htl_model.specs.Selections.{root_period}
+use Rattle.htl_machine.specs.RunLists.{turn_at, turn_by}
+use Rattle.htl_machine.proofs.RunLists.{node_below}
 use Rattle.htl_machine.proofs.Accepted.{accepted_is_loaded}
 use Rattle.htl_machine.proofs.Alone.{records_nothing}
 use Rattle.htl_machine.proofs.Desking.{desk_opens}
-use Rattle.htl_machine.proofs.Loaded.{some_period}
 use Rattle.htl_machine.proofs.Meeting.{records_are}
 use Rattle.htl_machine.proofs.Premises.{no_list, stands_told, first_desk, first_recorded}
-use Rattle.htl_machine.proofs.LoadedLists.{loaded_keys, loaded_listed, loaded_of, loaded_round, loaded_turns, loaded_code}
+use Rattle.htl_machine.proofs.LoadedLists.{loaded_listed, loaded_of, loaded_turns, loaded_code, loaded_run}
 use Rattle.htl_machine.proofs.FrameValues.{count_grows}
 use Rattle.htl_machine.proofs.Standing.{none_some}
 
@@ -59,15 +53,11 @@ told_none : (now : ℕ) → IsTold no_round now
 told_none now p e = absurd (let z : ⊥ = cc in z)
 
 -- the node whose list runs has a list
-node_below : (o : Object) (es : List Event) (n q : ℕ) → IsAccepted o → AreTookWithin o.tables es → hyper o.tables ≡ Some q → (turn_at o.tables (schedules_of o) es n).node < length o.schedules
-node_below o es n q accepted within e =
-    let loaded = accepted_is_loaded o accepted in
-    let range = loaded.range in
-    let root : root_period o.tables ≡ Some q = sym (loaded_keys o.tables (schedules_of o) loaded) ∙ e in
-    let s = round_start q n in
-    let b = below_count o.tables (modes_at o.tables es s) range (states_are_selections o.tables range es s) (some_period o.tables q range root).1 in
-    let is : (turn_at o.tables (schedules_of o) es n).node ≡ selection_of o.tables (state o.tables es s).stays = ap (λ (u : Turn). u.node) (loaded_round o.tables (schedules_of o) loaded es within q root n) in
-    omega (arith, b, is, schedules_are o accepted.spelled.formed)
+node_known : (o : Object) (es : List Event) (n q : ℕ) → IsAccepted o → AreTookWithin o.tables es → hyper o.tables ≡ Some q → (turn_at o.tables (schedules_of o) es n).node < length o.schedules
+node_known o es n q accepted within e =
+    let run = loaded_run o.tables (schedules_of o) (accepted_is_loaded o accepted) es within q e in
+    let below = node_below o.tables (schedules_of o) es run n in
+    omega (arith, below, ap (λ k. (turn_by k o.tables (schedules_of o) es n).node) e, accepted.spelled.formed.ranges.schedules)
 
 module _ (m : Seen) (es : List Event) (now : ℕ) where
   ready_none : m.held.desk ≡ no_round
@@ -120,7 +110,7 @@ module _ (m : Seen) (es : List Event) (n q : ℕ) (accepted : IsAccepted m.objec
 
   short : length u.plan.schedule ≤ 4294967295
   short =
-      let x = item_at m.object.schedules u.node (node_below m.object es n q accepted up.kept.within root) in
+      let x = item_at m.object.schedules u.node (node_known m.object es n q accepted up.kept.within root) in
       let is : get_or (schedules_of m.object) u.node [] ≡ x.0.instrs =
       get_or_from_slice_get (schedules_of m.object) u.node x.0.instrs [] (map_at (λ (y : Schedule). y.instrs) m.object.schedules u.node x.0 x.1) in
       subst (λ (is : List SInstr). length is ≤ 4294967295) (sym (loaded_code t (schedules_of m.object) loaded es up.kept.within q root n ∙ is)) (all_at IsShort m.object.schedules u.node x.0 accepted.spelled.formed.ranges.short x.1)
@@ -181,4 +171,4 @@ selection_known m es now accepted up =
     by None root at goes = none goes
     by (Some q) root zero goes = none goes
     by (Some q) root (suc n) goes =
-        subst (λ (o : Option ℕ). IfSome o (λ n. n < length m.object.schedules)) (sym goes) (node_below m.object es n q accepted up.kept.within root)
+        subst (λ (o : Option ℕ). IfSome o (λ n. n < length m.object.schedules)) (sym goes) (node_known m.object es n q accepted up.kept.within root)

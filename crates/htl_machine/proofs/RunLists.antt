@@ -6,7 +6,7 @@ use Rattle.std.proofs.lemmas.List.{append_assoc, length-map, length-take}
 use Rattle.std.proofs.Math.Nat.{div-add-mod, mod-lt}
 use Rattle.htl_model.specs.declared.event.Event.{Event}
 use Rattle.htl_model.specs.declared.frame.Place.{Place}
-use Rattle.htl_model.specs.Frames.{frame_of, node, starts, rounds, root_periods, begins, known_by, multiple_of, starts_below}
+use Rattle.htl_model.specs.Frames.{frame_of, node, starts, rounds, root_periods, begins, known_by, multiple_of, starts_below, paths, choices, nodes}
 use Rattle.htl_model.specs.Selections.{root_modules}
 use Rattle.htl_model.specs.Tables.{Tables, is_concrete, task_worst}
 use Rattle.htl_model.specs.declared.parts.Inv.{Inv}
@@ -17,6 +17,7 @@ use Rattle.htl_walk.specs.PathJobs.{placed_job, next_of}
 use Rattle.htl_walk.specs.Paths.{Leg, AreInForm, begun, end_to_end, path_point}
 use Rattle.htl_walk.specs.Refinement.{HaveLengths, AreWithinWorst}
 use Rattle.htl_walk.specs.Walk.{Left, Point, InForm, job_at, work, first_point, last_point, finish}
+use Rattle.htl_walk.proofs.Nodes.{nodes_within}
 use Rattle.htl_walk.proofs.Starts.{Rises, starts_rise, first_start, known_few}
 use Rattle.htl_walk.proofs.Work.{job_there, work_present}
 use Rattle.htl_refine.specs.DerivedPaths.{derived_place}
@@ -31,7 +32,9 @@ use Rattle.htl_refine.proofs.ListCounts.{count_split, done_split}
 use Rattle.htl_refine.proofs.ListsFollow.{legs_many, leg_from}
 use Rattle.htl_refine.proofs.ListWalks.{form_at, list_walks}
 use Rattle.htl_refine.proofs.PathDerived.{placed_present}
+use Rattle.htl_refine.proofs.PathRead.{paths_read}
 use Rattle.htl_refine.proofs.PlaceOrder.{places_ordered}
+use Rattle.htl_refine.proofs.StateLaws.{states_are_selections}
 use Rattle.htl_refine.proofs.RoundOrder.{round_of, run_of}
 use Rattle.htl_refine.proofs.ServedFrames.{frames_are_served, have_lengths, within_worst}
 use Rattle.htl_refine.proofs.WorkDone.{work_done}
@@ -70,6 +73,13 @@ point_time jobs (s ∷ ss) (g ∷ gs) (suc j) x f l = point_time jobs ss gs j (l
 -- the frame's length, by the periods of its root modules
 abbrev frame_by : List ℕ → ℕ
 frame_by ps = elim (elim ps as (λ _. Option ℕ) [ [] ↦ None | p ∷ qs ↦ Some (multiple_of p qs) ]) as (λ _. ℕ) [ Some h ↦ h | None ↦ 0 ]
+
+paths_are : (t : Tables) → 0 < length (root_modules t) → paths t ≡ choices t (rounds t)
+paths_are t some = by (root_modules t) some (choices t (rounds t))
+  where
+    by : (us : List ℕ) → 0 < length us → (n : ℕ) → elim us as (λ _. ℕ) [ [] ↦ 0 | v ∷ vs ↦ n ] ≡ n
+    by [] h n = absurd (omega arith)
+    by (u ∷ us) h n = refl
 
 module _ (t : Tables) (lists : List (List SInstr)) (es : List Event) (run : IsFeasibleRun t lists es) where
   abbrev h : ℕ
@@ -129,6 +139,13 @@ module _ (t : Tables) (lists : List (List SInstr)) (es : List Event) (run : IsFe
 
   pub there : (n : ℕ) → (turn n).list < length (frame n).legs
   there n = omega (arith, (stands n).there, legs_many (frame_of t) (places n) (starts t))
+
+  -- there is its node
+  pub node_below : (n : ℕ) → (turn n).node < nodes t
+  node_below n =
+      let modes = frame_modes t es (frame_start t n) in
+      let read = paths_read t modes (λ a. states_are_selections t run.range es (frame_start t n + a)) in
+      nodes_within t (path_of t modes) (turn n).list (omega (arith, read.below, paths_are t run.modules)) ((stands n).there)
 
   -- its instructions are those of its node's list
   pub code_is : (n : ℕ) → (turn n).plan.schedule ≡ get_or lists (turn n).node []
