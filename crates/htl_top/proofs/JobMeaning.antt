@@ -11,7 +11,7 @@ use Rattle.htl_machine.specs.JobLines.{job_lines_to}
 use Rattle.htl_machine.specs.Programs.{schedules_of, text_of}
 use Rattle.htl_model.specs.Lines.{lines_text}
 use Rattle.htl_model.specs.Meaning.{value_lines}
-use Rattle.htl_model.specs.Selections.{root_period}
+use Rattle.htl_model.specs.Frames.{hyper}
 use Rattle.htl_script.proofs.Fitting.{whole-script}
 use Rattle.htl_script.proofs.SameScript.{script_same}
 use Rattle.htl_top.proofs.Meaning.{go_shows}
@@ -22,7 +22,7 @@ use Rattle.htl_top.specs.JobLaws.{GoShowsJobLines, GoTellsJobsInTime, GoJobLines
 pub go_job_lines : GoShowsJobLines
 go_job_lines t es now can =
     go_shows t es now can
-    ∙ ap (λ (xs : List ℕ). xs ++ lines_text t (value_lines t es now)) (old_alone (coded t) (schedules_of (built t)) es (root_period t) now)
+    ∙ ap (λ (xs : List ℕ). xs ++ lines_text t (value_lines t es now)) (old_alone (coded t) (schedules_of (built t)) es (hyper t) now)
 
 pub go_in_time : GoTellsJobsInTime
 go_in_time t script events period end can whole root =

@@ -1,5 +1,5 @@
 -- What `go` shows of a source is what its own tables mean.
-use Rattle.std.proofs.Common.{◌≡◌, ℕ, ◌%◌, Bool, true, false, cond, eqb, List, [], ◌++◌, Option, None, Some, refl, sym, ap, ap₂, ◌∙◌}
+use Rattle.std.proofs.Common.{◌≡◌, ℕ, List, [], ◌++◌, Option, None, Some, refl, sym, ap, ap₂, ◌∙◌}
 use Rattle.std.proofs.lemmas.List.{append-nil}
 use Rattle.std.specs.List.{flat_map}
 use mathlib.Core.Path.{fun_ext}
@@ -12,9 +12,9 @@ use Rattle.htl_machine.proofs.Accepted.{accepted_is_loaded}
 use Rattle.htl_machine.proofs.Headline.{all_served}
 use Rattle.htl_machine.specs.Lines.{new_lines, old_lines}
 use Rattle.htl_machine.specs.Programs.{schedules_of}
+use Rattle.htl_model.specs.Frames.{hyper}
 use Rattle.htl_model.specs.Lines.{line_text, lines_text}
 use Rattle.htl_model.specs.Meaning.{value_lines}
-use Rattle.htl_model.specs.Selections.{root_period}
 use Rattle.htl_model.specs.Tables.{Tables}
 use Rattle.htl_model.specs.declared.event.Event.{Event}
 use Rattle.htl_model.specs.declared.line.Line.{Line}
@@ -36,19 +36,15 @@ changes_same t es now can =
     ∙ ap (lines_text t) (sym ((coded_runs t can.can.tables.ranges).lines es now))
 
 -- no instruction is shown
-nothing : (b : Bool) → cond {A = List ℕ} b [] [] ≡ []
-nothing true = refl
-nothing false = refl
-
 none_new : (t : Tables) (es : List Event) (now : ℕ) (o : Option ℕ) → new_lines (coded t) (schedules_of (built t)) es Jobs o now ≡ []
 none_new t es now None = refl
-none_new t es now (Some period) = nothing (eqb (now % period) 0)
+none_new t es now (Some h) = refl
 
 pub go_shows : GoShowsTheMeaning
 go_shows t es now can =
-    let old = old_lines (coded t) (schedules_of (built t)) es Jobs (root_period t) now in
+    let old = old_lines (coded t) (schedules_of (built t)) es Jobs (hyper t) now in
     let changes = lines_text (coded t) (value_lines (coded t) es now) in
-    ap (λ (bs : List ℕ). ((old ++ []) ++ changes) ++ bs) (none_new t es now (root_period t)) ∙ append-nil ((old ++ []) ++ changes)
+    ap (λ (bs : List ℕ). ((old ++ []) ++ changes) ++ bs) (none_new t es now (hyper t)) ∙ append-nil ((old ++ []) ++ changes)
     ∙ ap₂ (λ (a b : List ℕ). a ++ b) (append-nil old) (changes_same t es now can)
 
 pub go_keeps : GoKeepsDeadlines

@@ -1,6 +1,7 @@
 -- A machine on the readings of rounds: what it follows, and that nothing is shown.
 use Rattle.std.proofs.Common.{arith, ◌≡◌, ◌≤◌, ℕ, zero, suc, ◌*◌, ◌%◌, ◌-◌, ◌+◌, Bool, true, false, cond, eqb, List, [], ◌∷◌, ◌++◌, Option, None, Some, Result, Ok, refl, sym, ap, ap₂, ◌∙◌, subst}
 use Rattle.std.specs.Prelude.{pos}
+use Rattle.std.specs.List.{filter}
 use Rattle.std.proofs.lemmas.List.{append_assoc}
 use Rattle.htl_console.specs.declared.shown.Shown.{Shown}
 use Rattle.htl_console.specs.declared.shown.Shown.TheVariants.{Nothing}
@@ -10,42 +11,45 @@ use Rattle.htl_edge.specs.Content.{Puts}
 use Rattle.htl_machine.proofs.Telling.{up_to_none}
 use Rattle.htl_machine.specs.Calls.{Seen, Follows, IsSameRun, text_between}
 use Rattle.htl_machine.specs.Follows.{reading_of}
-use Rattle.htl_machine.specs.Lines.{record_lines, selection_at, round_lines, old_lines, new_lines, lines}
+use Rattle.htl_machine.specs.Lines.{record_lines, list_lines, old_lines, new_lines, lines}
 use Rattle.htl_machine.specs.Programs.{lines_of, schedules_of}
+use Rattle.htl_model.specs.Frames.{hyper}
 use Rattle.htl_model.specs.Lists.{joined}
-use Rattle.htl_model.specs.Selections.{root_period}
 use Rattle.htl_model.specs.Tables.{Tables}
 use Rattle.htl_model.specs.declared.event.Event.{Event}
 use Rattle.htl_model.specs.declared.event.Event.TheVariants as event
 use Rattle.htl_object.specs.declared.object.Object.{Object}
-use Rattle.htl_refine.specs.Records.{Round, round_at, left_at, rounds_before}
+use Rattle.htl_refine.specs.FrameRecords.{RunningList, begun_before, left_in, lists_at}
+use Rattle.htl_refine.specs.FrameRuns.{frame_at}
+use Rattle.htl_refine.specs.Records.{rounds_before}
 use Rattle.htl_walk.specs.Walk.{Left}
+use Rattle.htl_walk.specs.declared.job.Job.{Job}
 use Rattle.htl_walk.specs.declared.schedule.SInstr.{SInstr}
 use Rattle.htl_top.specs.Bulk.{readings_of, round_readings}
 
 -- ---- nothing is shown
 
-no_record : (t : Tables) (r : Round) (selection : ℕ) (ls : List (ℕ × Left)) → joined (record_lines t Nothing r selection) ls ≡ []
-no_record t r selection [] = refl
-no_record t r selection (l ∷ ls) = no_record t r selection ls
+no_record : (t : Tables) (jobs : List Job) (r : RunningList) (ls : List (ℕ × Left)) → joined (record_lines t Nothing jobs r) ls ≡ []
+no_record t jobs r [] = refl
+no_record t jobs r (l ∷ ls) = no_record t jobs r ls
 
 module _ (t : Tables) (code : ECode) (schedules : List (List SInstr)) (es : List Event) where
+  no_list : (now f : ℕ) (rs : List RunningList) → joined (list_lines t schedules es Nothing now f) rs ≡ []
+  no_list now f [] = refl
+  no_list now f (r ∷ rs) = ap₂ (λ xs ys. xs ++ ys) (no_record t (frame_at t schedules es f).jobs r (left_in now f r)) (no_list now f rs)
+
   none_old : (o : Option ℕ) (now : ℕ) → old_lines t schedules es Nothing o now ≡ []
   none_old None now = refl
-  none_old (Some period) now =
-      up_to_none (λ k. round_lines t schedules es Nothing (k * period) now) (rounds_before period now)
-      (λ k less. no_record t (round_at t schedules es (k * period)) (selection_at t es (k * period)) (left_at t schedules es (k * period) now))
+  none_old (Some h) now =
+      up_to_none (λ k. joined (list_lines t schedules es Nothing now (k * h)) (filter (begun_before now) (lists_at t schedules es (k * h)))) (rounds_before h now)
+      (λ k less. no_list now (k * h) (filter (begun_before now) (lists_at t schedules es (k * h))))
 
   none_new : (o : Option ℕ) (now : ℕ) → new_lines t schedules es Nothing o now ≡ []
   none_new None now = refl
-  none_new (Some period) now = by (eqb (now % period) 0)
-    where
-      by : (b : Bool) → ◌≡◌ {A = List ℕ} (cond b [] []) []
-      by true = refl
-      by false = refl
+  none_new (Some h) now = refl
 
   no_lines : (now : ℕ) → lines t code schedules es Nothing now ≡ []
-  no_lines now = ap₂ (λ xs ys. xs ++ [] ++ [] ++ ys) (none_old (root_period t) now) (none_new (root_period t) now)
+  no_lines now = ap₂ (λ xs ys. xs ++ [] ++ [] ++ ys) (none_old (hyper t) now) (none_new (hyper t) now)
 
 pub no_text : (o : Object) (es : List Event) (show : Shown) (from to : ℕ) → show ≡ Nothing → text_between o es show from to ≡ []
 no_text o es show from to is =

@@ -9,6 +9,7 @@ use Rattle.htl_machine.specs.JobTimes.{AllToldInTime}
 use Rattle.htl_machine.specs.Programs.{lines_of, text_of, schedules_of}
 use Rattle.htl_machine.specs.Rounds.{plan_of}
 use Rattle.htl_model.specs.declared.event.Event.{Event}
+use Rattle.htl_model.specs.Frames.{hyper}
 use Rattle.htl_model.specs.Lines.{lines_text}
 use Rattle.htl_model.specs.Lists.{joined}
 use Rattle.htl_model.specs.Meaning.{value_lines}
@@ -21,7 +22,7 @@ abbrev pub GoShowsJobLines : Type 0
 GoShowsJobLines =
     (t : Tables) (es : List Event) (now : ℕ) → CanBuild t
     → lines_of (built t) es Jobs now
-    ≡ joined (printed (built t).tables) (job_lines_at (built t).tables (schedules_of (built t)) es (root_period t) now) ++ lines_text t (value_lines t es now)
+    ≡ joined (printed (built t).tables) (job_lines_at (built t).tables (schedules_of (built t)) es (hyper t) now) ++ lines_text t (value_lines t es now)
 
 -- the j and d lines of the text are those of the records; and of each job of each round whose window ended by the end they have one d
 -- line, no later than the end of its window, and j lines in its window for all its ticks

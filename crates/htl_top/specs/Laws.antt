@@ -8,6 +8,7 @@ use Rattle.htl_machine.specs.Rounds.{plan_of}
 use Rattle.htl_machine.specs.Served.{AllServed}
 use Rattle.htl_model.specs.declared.event.Event.{Event}
 use Rattle.htl_model.specs.declared.event.Event.TheVariants as event
+use Rattle.htl_model.specs.Frames.{hyper}
 use Rattle.htl_model.specs.Lines.{lines_before_text, lines_text}
 use Rattle.htl_model.specs.Meaning.{run_lines, sense, val, value_lines}
 use Rattle.htl_model.specs.Selections.{root_period}
@@ -50,7 +51,7 @@ EarlierReadingsDecideTexts =
 abbrev pub GoShowsTheMeaning : Type 0
 GoShowsTheMeaning =
     (t : Tables) (es : List Event) (now : ℕ) → CanBuild t
-    → lines_of (built t) es Jobs now ≡ old_lines (built t).tables (schedules_of (built t)) es Jobs (root_period t) now ++ lines_text t (value_lines t es now)
+    → lines_of (built t) es Jobs now ≡ old_lines (built t).tables (schedules_of (built t)) es Jobs (hyper t) now ++ lines_text t (value_lines t es now)
 
 -- each job of each round whose window ended by the end is done once, within its window, in slices of its own that follow its
 -- predecessors; without modules there are no rounds
