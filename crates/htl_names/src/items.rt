@@ -3,7 +3,7 @@ ghost use Rattle.std.specs.Prelude.{◌≡◌, ◌≤◌, ◌++◌, None, Some, 
 ghost use Rattle.htl_text.specs.Bounds.{out_params};
 ghost use Rattle.htl_text.specs.Nodes.{tree_of, module_of, mode_of, task_of, outs_of, out_of};
 ghost use Rattle.htl_text.specs.declared.tree.CommNode.{CommNode as ACommNode};
-ghost use Rattle.htl_names.specs.Flat.{size_of, value_of, comm_item, comm_items, mode_item, module_mode_items, mode_number, module_item, module_items, mode_port_items, types_of, is_abstract, task_item, module_task_items};
+ghost use Rattle.htl_names.specs.Flat.{size_of, value_of, comm_item, comm_items, mode_item, module_mode_items, mode_number, module_item, module_items, mode_port_items, types_of, task_item, module_task_items};
 ghost use Rattle.htl_names.specs.Narrow.{IsNarrowParent};
 
 use crate::Done;
@@ -121,21 +121,14 @@ fn module(source: &Source<'_>, number: usize, at: ModuleAt, node: &ModuleNode) -
 {
     let modes = Space::Modes.of(at.program, at.module, 0);
     let first = modes_before(source, number);
-    Module {
-        name: node.name.name,
-        parent: parent_mode(source, at),
-        start: (first + source.layout.meaning(modes, node.start.name)) as u16,
-    }
-}
-
-// The number of the mode that a module refines.
-fn parent_mode(source: &Source<'_>, at: ModuleAt) -> Option<u16>
-    requires { IsNarrowParent at.parent }
-    ensures { result ≡ elim at.parent [ Some a ↦ Some (mode_number source.now.layout.now (tree_of source.now.tree.now) a) | None ↦ None ] }
-{
-    match at.parent {
+    let parent = match at.parent {
         Some(mode) => Some(mode_number(source, mode) as u16),
         None => None,
+    };
+    Module {
+        name: node.name.name,
+        parent,
+        start: (first + source.layout.meaning(modes, node.start.name)) as u16,
     }
 }
 
@@ -181,17 +174,11 @@ fn task(alloc: Global, node: &TaskNode, module: u16) -> Result<Task, AllocError>
     Ok(Task {
         name: node.name.name,
         module,
-        is_abstract: is_abstract(&node.outputs),
+        is_abstract: matches!(node.outputs, OutNodes::Abstract { .. }),
         worst: size_of(node.worst.x),
         inputs: Seq::new(types_of(alloc, node.inputs.as_slice())?),
         outputs: Seq::new(output_types(alloc, &node.outputs)?),
     })
-}
-
-fn is_abstract(outs: &OutNodes) -> bool
-    ensures { result ≡ is_abstract (outs_of outs.now) }
-{
-    matches!(outs, OutNodes::Abstract { .. })
 }
 
 fn types_of(alloc: Global, params: &[ParamNode]) -> Result<Vec<Ty>, AllocError>

@@ -3,7 +3,7 @@ ghost use Rattle.std.specs.Prelude.{◌≡◌, ◌++◌, ◌∷◌, []};
 ghost use Rattle.std.specs.Cmp.{decided, partial_equiv_from_equiv};
 ghost use Rattle.std.specs.Hash as fed;
 ghost use Rattle.htl_names.specs.Keys.{key_in, same_key, space_code};
-ghost use Rattle.htl_names.specs.SameKeys.{same_key_decides, mixed, owner_of, key_writes, hashed_alike};
+ghost use Rattle.htl_names.specs.SameKeys.{same_key_decides, mixed, key_writes, hashed_alike};
 
 use htl_base::Name;
 use std::hash::{Hash, Hasher};
@@ -108,21 +108,13 @@ impl Hash for Key {
     ghost respects_eq = { hashed_alike };
 
     fn hash<H: Hasher>(&self, state: &mut H) {
-        state.write_usize(self.owner());
+        let program = mixed(self.space.code() as usize, self.program);
+        state.write_usize(mixed(mixed(program, self.module), self.item));
         state.write(self.name.as_bytes());
     }
 }
 
-impl Key {
-    // The list as one number. Lists that have the same number cost time alone.
-    fn owner(&self) -> usize
-        ensures { result ≡ owner_of self.now }
-    {
-        let program = mixed(self.space.code() as usize, self.program);
-        mixed(mixed(program, self.module), self.item)
-    }
-}
-
+// The list as one number: lists that have the same number cost time alone.
 fn mixed(a: usize, b: usize) -> usize
     ensures { result ≡ mixed a b }
 {

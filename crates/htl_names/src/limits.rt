@@ -6,7 +6,7 @@ ghost use Rattle.htl_names.specs.Excess.{IsFirstExcess, capped, excess_from};
 ghost use Rattle.htl_names.specs.LevelTable.{level_by, levels_by};
 ghost use Rattle.htl_names.specs.Limits.{choices, selections, most_invokes, most_positions, counts, limits};
 ghost use Rattle.htl_names.specs.Programs.{refined_by};
-ghost use Rattle.htl_names.specs.Tallies.{with_mode, with_module, with_program, tally, tally_counts};
+ghost use Rattle.htl_names.specs.Tallies.{with_module, with_program, tally, tally_counts};
 
 use crate::place::{ModeAt, modules_at};
 use crate::programs::refined_at;
@@ -15,7 +15,7 @@ use htl_base::limits::{
     MAX_COMMUNICATORS, MAX_INVOCATIONS, MAX_LEVELS, MAX_MODE_INVOCATIONS, MAX_MODES, MAX_MODULES,
     MAX_PORTS, MAX_POSITIONS, MAX_SELECTIONS, MAX_SWITCHES, MAX_TASKS,
 };
-use htl_text::{ModeNode, ModuleNode, ProgramNode, Tree};
+use htl_text::{ModuleNode, ProgramNode, Tree};
 
 // ---- counts of items
 
@@ -45,19 +45,6 @@ impl Tally {
     };
 }
 
-fn with_mode(t: Tally, mode: &ModeNode) -> Tally
-    ensures { result ≡ with_mode t (mode_of mode.now) }
-{
-    let invokes = mode.invokes.as_slice().len();
-    Tally {
-        ports: t.ports.saturating_add(mode.ports.as_slice().len()),
-        invokes: t.invokes.saturating_add(invokes),
-        switches: t.switches.saturating_add(mode.switches.as_slice().len()),
-        most_invokes: t.most_invokes.max(invokes),
-        ..t
-    }
-}
-
 fn with_module(t: Tally, module: &ModuleNode) -> Tally
     ensures { result ≡ with_module t (module_of «module».now) }
 {
@@ -68,7 +55,15 @@ fn with_module(t: Tally, module: &ModuleNode) -> Tally
         ..t
     };
     for k in 0..modes.len() {
-        sum = with_mode(sum, &modes[k]);
+        let mode = &modes[k];
+        let invokes = mode.invokes.as_slice().len();
+        sum = Tally {
+            ports: sum.ports.saturating_add(mode.ports.as_slice().len()),
+            invokes: sum.invokes.saturating_add(invokes),
+            switches: sum.switches.saturating_add(mode.switches.as_slice().len()),
+            most_invokes: sum.most_invokes.max(invokes),
+            ..sum
+        };
     }
     sum
 }

@@ -87,27 +87,6 @@ fn put_kids(
     }
 }
 
-/// The modules of a source: a root module, then for each of its modes in order the modules of its refinement with theirs,
-/// then the next root module.
-fn ordered_modules(
-    alloc: Global,
-    tree: &Tree,
-    symbols: &Symbols,
-) -> Result<Vec<ModuleAt>, AllocError>
-    ensures { IfOk result (λ v. v.items ≡ order symbols.now (tree_of tree.now)) }
-{
-    let mut modules = Vec::new(alloc);
-    put_program(
-        tree,
-        symbols,
-        None,
-        0,
-        tree.programs.as_slice().len(),
-        &mut modules,
-    )?;
-    Ok(modules)
-}
-
 // ---- modes
 
 /// Puts the modes of a module behind others.
@@ -142,11 +121,20 @@ fn ordered_modes(
 
 // ---- both
 
-/// The symbols of a source with its modules and modes in the order of the tables.
+/// The symbols of a source with its modules and modes in the order of the tables: a root module, then for each of its modes
+/// in order the modules of its refinement with theirs, then the next root module.
 pub(crate) fn layout_of(alloc: Global, tree: &Tree, symbols: Symbols) -> Result<Layout, AllocError>
     ensures { IfOk result (λ layout. layout ≡ layout_by symbols (order symbols (tree_of tree.now)) (tree_of tree.now)) }
 {
-    let modules = ordered_modules(alloc, tree, &symbols)?;
+    let mut modules = Vec::new(alloc);
+    put_program(
+        tree,
+        &symbols,
+        None,
+        0,
+        tree.programs.as_slice().len(),
+        &mut modules,
+    )?;
     let modes = ordered_modes(alloc, tree, &modules)?;
     Ok(Layout {
         symbols,

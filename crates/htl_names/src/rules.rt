@@ -1,7 +1,7 @@
 // The rules on single rows: each search is one loop over its rows.
 ghost use Rattle.std.specs.Prelude.{◌≡◌, map};
 ghost use Rattle.htl_model.specs.Lists.{first_some};
-ghost use Rattle.htl_names.specs.Kinds.{wrong_token, is_kind, is_span, is_instance, has_type, token_of, const_token};
+ghost use Rattle.htl_names.specs.Kinds.{wrong_token, is_kind, is_span, is_instance, has_type, token_of};
 ghost use Rattle.htl_names.specs.Parents.{orphan_at, orphan_token, parent_in};
 ghost use Rattle.htl_names.specs.Rows.{judged_of, parent_use_of};
 ghost use Rattle.htl_names.specs.Uses.{unknown_token};
@@ -22,21 +22,16 @@ pub(crate) fn first_unknown(uses: &[Use], symbols: &Symbols) -> Option<u32>
     ensures { result ≡ first_some (unknown_token symbols.now) uses.now }
 {
     for k in 0..uses.len() {
-        if let Some(token) = unknown_token(symbols, &uses[k]) {
-            return Some(token);
+        let used = &uses[k];
+        match (symbols.get(&used.key), used.below) {
+            (None, _) => return Some(used.token),
+            (Some(_), None) => {}
+            (Some(n), Some(bound)) => if bound <= n {
+                return Some(used.token);
+            },
         }
     }
     None
-}
-
-fn unknown_token(symbols: &Symbols, used: &Use) -> Option<u32>
-    ensures { result ≡ unknown_token symbols.now used.now }
-{
-    match (symbols.get(&used.key), used.below) {
-        (None, _) => Some(used.token),
-        (Some(_), None) => None,
-        (Some(n), Some(bound)) => if bound <= n { Some(used.token) } else { None },
-    }
 }
 
 // ---- values and numbers that are not of their kind
@@ -47,21 +42,11 @@ pub(crate) fn first_wrong_kind(kinds: &[Judged]) -> Option<u32>
     ensures { result ≡ first_some wrong_token (map judged_of kinds.now) }
 {
     for k in 0..kinds.len() {
-        if let Some(token) = wrong_token(&kinds[k]) {
-            return Some(token);
+        if !is_kind(&kinds[k]) {
+            return Some(token_of(&kinds[k]));
         }
     }
     None
-}
-
-fn wrong_token(item: &Judged) -> Option<u32>
-    ensures { result ≡ wrong_token (judged_of item.now) }
-{
-    if is_kind(item) {
-        None
-    } else {
-        Some(token_of(item))
-    }
 }
 
 fn is_kind(item: &Judged) -> bool
@@ -103,16 +88,14 @@ fn token_of(item: &Judged) -> u32
     match item {
         Judged::Span { n } => n.token,
         Judged::Instance { n } => n.token,
-        Judged::Initial { c, .. } => const_token(*c),
-    }
-}
-
-fn const_token(c: ConstNode) -> u32
-    ensures { result ≡ const_token c }
-{
-    match c {
-        ConstNode::Int { token, .. } => token,
-        ConstNode::Bool { token, .. } => token,
+        Judged::Initial {
+            c: ConstNode::Int { token, .. },
+            ..
+        } => *token,
+        Judged::Initial {
+            c: ConstNode::Bool { token, .. },
+            ..
+        } => *token,
     }
 }
 

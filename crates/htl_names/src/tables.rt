@@ -2,7 +2,7 @@
 ghost use Rattle.std.specs.Prelude.{◌≡◌, ◌≤◌, ◌++◌, ℕ, List, IfOk, OnOk, length};
 ghost use Rattle.htl_model.specs.Tables.{tables_of};
 ghost use Rattle.htl_text.specs.Nodes.{tree_of};
-ghost use Rattle.htl_names.specs.Flat.{meaning, tables_by};
+ghost use Rattle.htl_names.specs.Flat.{meaning, mode_items, module_items, task_items, port_items, invoke_items, tables_by};
 ghost use Rattle.htl_names.specs.Keys.{key_in};
 ghost use Rattle.htl_names.specs.Lists.{flat_map_at};
 ghost use Rattle.htl_names.specs.Narrow.{IsNarrow};
@@ -10,13 +10,13 @@ ghost use Rattle.htl_names.specs.Narrow.{IsNarrow};
 use crate::Done;
 use crate::functions::outputs;
 use crate::invocations::invocations;
-use crate::items::{comms, modules as module_items};
+use crate::items::{comms, modules};
 use crate::key::Scope;
 use crate::place::{ModeAt, ModuleAt};
 use crate::switches::switches;
 use crate::symbols::Symbols;
 use htl_base::{Name, Seq};
-use htl_model::Parts;
+use htl_model::{Inv, Mode, Module, Parts, Port, Task};
 use htl_text::Tree;
 use std::alloc::{AllocError, Global};
 use std::marker::Model;
@@ -89,6 +89,47 @@ pub fn listed<A: Copy, B: Drop, L: Listing<A, B>>(
 
 // ---- the tables
 
+/// The lists by module.
+#[derive(Drop)]
+struct ByModule {
+    modes: Vec<Mode>,
+    modules: Vec<Module>,
+    tasks: Vec<Task>,
+}
+
+fn by_module(source: &Source<'_>) -> Result<ByModule, AllocError>
+    ensures modes { IfOk result (λ v. v.modes.items ≡ mode_items source.now.layout.now (tree_of source.now.tree.now)) }
+    ensures modules { IfOk result (λ v. v.modules.items ≡ module_items source.now.layout.now (tree_of source.now.tree.now)) }
+    ensures tasks { IfOk result (λ v. v.tasks.items ≡ task_items source.now.layout.now (tree_of source.now.tree.now)) }
+{
+    let layout = source.layout;
+    let owners = layout.modules.as_slice();
+    Ok(ByModule {
+        modes: listed(source.alloc, source, owners)?,
+        modules: modules(source)?,
+        tasks: listed(source.alloc, source, owners)?,
+    })
+}
+
+/// The lists by mode.
+#[derive(Drop)]
+struct ByMode {
+    ports: Vec<Port>,
+    invs: Vec<Inv>,
+}
+
+fn by_mode(source: &Source<'_>) -> Result<ByMode, AllocError>
+    ensures ports { IfOk result (λ v. v.ports.items ≡ port_items source.now.layout.now (tree_of source.now.tree.now)) }
+    ensures invs { IfOk result (λ v. v.invs.items ≡ invoke_items source.now.layout.now (tree_of source.now.tree.now)) }
+{
+    let layout = source.layout;
+    let owners = layout.modes.as_slice();
+    Ok(ByMode {
+        ports: listed(source.alloc, source, owners)?,
+        invs: invocations(source)?,
+    })
+}
+
 /// The lists of the tables.
 pub(crate) fn parts_of(alloc: Global, tree: &Tree, layout: &Layout) -> Result<Parts, AllocError>
     requires { IsNarrow layout.now (tree_of tree.now) }
@@ -99,17 +140,18 @@ pub(crate) fn parts_of(alloc: Global, tree: &Tree, layout: &Layout) -> Result<Pa
         tree,
         layout,
     };
-    let modules = layout.modules.as_slice();
-    let modes = layout.modes.as_slice();
+    let comms = comms(&source)?;
+    let of_modules = by_module(&source)?;
+    let of_modes = by_mode(&source)?;
     let outputs = outputs(&source)?;
     let switches = switches(&source, outputs)?;
     Ok(Parts {
-        comms: Seq::new(comms(&source)?),
-        modes: Seq::new(listed(alloc, &source, modules)?),
-        modules: Seq::new(module_items(&source)?),
-        ports: Seq::new(listed(alloc, &source, modes)?),
-        tasks: Seq::new(listed(alloc, &source, modules)?),
-        invs: Seq::new(invocations(&source)?),
+        comms: Seq::new(comms),
+        modes: Seq::new(of_modules.modes),
+        modules: Seq::new(of_modules.modules),
+        ports: Seq::new(of_modes.ports),
+        tasks: Seq::new(of_modules.tasks),
+        invs: Seq::new(of_modes.invs),
         switches: Seq::new(switches.items),
         functions: Seq::new(switches.functions),
     })

@@ -2,16 +2,15 @@
 ghost use Rattle.std.specs.Prelude.{◌≡◌, ◌+◌, ◌≤◌, ◌^◌, ◌-◌, ℕ, OnOk, IfOk, length};
 ghost use Rattle.htl_text.specs.Nodes.{tree_of};
 ghost use Rattle.htl_names.specs.Rows as rows;
-ghost use Rattle.htl_names.specs.Rows.{Rows as Plain, joined, using, all_rows};
-ghost use Rattle.htl_names.specs.Uses.{program_use};
+ghost use Rattle.htl_names.specs.Rows.{Rows as Plain, joined, all_rows};
 ghost use Rattle.htl_names.specs.declared.key.Scope.{Scope as AScope};
 
 use crate::Done;
 use crate::key::{Scope, Space};
 use crate::rows::{Judged, Rows};
 use htl_text::{
-    CommNode, EndNode, Id, InvokeNode, ModeNode, ModuleNode, OutNode, OutNodes, ParamNode,
-    ProgramNode, SwitchNode, TaskNode, Tree,
+    CommNode, EndNode, InvokeNode, ModeNode, ModuleNode, OutNode, OutNodes, ParamNode, ProgramNode,
+    SwitchNode, TaskNode, Tree,
 };
 use std::alloc::{AllocError, Global};
 
@@ -153,7 +152,9 @@ impl Part for ModeNode {
         } = list;
         into.declare(list, place, &self.name)?;
         into.judge(Judged::Span { n: self.period })?;
-        add_head(&self.program, into)?;
+        if let Some(id) = &self.program {
+            into.mention(Space::Programs.of(0, 0, 0), id)?;
+        }
         add_all(
             Space::Ports.of(program, module, place),
             0,
@@ -167,16 +168,6 @@ impl Part for ModeNode {
             into,
         )?;
         add_all(list, 0, self.switches.as_slice(), into)
-    }
-}
-
-// The program in the head of a mode.
-fn add_head(program: &Option<Id>, into: &mut Rows) -> Done
-    ensures { OnOk result (into.new ≡ joined into.old (using (program_use program.now))) }
-{
-    match program {
-        None => Ok(()),
-        Some(id) => into.mention(Space::Programs.of(0, 0, 0), id),
     }
 }
 
