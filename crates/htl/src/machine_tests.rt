@@ -103,37 +103,27 @@ fn play(m: &mut Machine<'_>, t: &Tables, events: &[Event], to: Time, page: &mut 
     end(m, to, page)
 }
 
-// The page behind a run of an accepted object; None where there is no memory or an event isn't allowed.
-fn run_on(
-    alloc: Global,
-    loaded: &Loaded,
-    events: &[Event],
-    to: Time,
-    mut page: Page,
-) -> Option<Page> {
+// Runs an accepted object; false where there is no memory, an event isn't allowed or the page is full.
+fn run_on(alloc: Global, loaded: &Loaded, events: &[Event], to: Time, page: &mut Page) -> bool {
     match Machine::new(alloc, loaded, Shown::Jobs) {
-        Ok(mut m) => {
-            if play(&mut m, loaded.tables(), events, to, &mut page) {
-                Some(page)
-            } else {
-                None
-            }
-        }
-        Err(_) => None,
+        Ok(mut m) => play(&mut m, loaded.tables(), events, to, page),
+        Err(_) => false,
     }
 }
 
-// The same of an object; None too where it isn't accepted.
-fn run(alloc: Global, object: &[u8], events: &[Event], to: Time) -> Option<Page> {
-    let loaded = load(alloc, object).ok()?;
-    let page = Page::new(alloc, 1024, &[]).ok()?;
-    run_on(alloc, &loaded, events, to, page)
+// The same of an object; false too where it isn't accepted.
+fn run(alloc: Global, object: &[u8], events: &[Event], to: Time, page: &mut Page) -> bool {
+    match load(alloc, object) {
+        Ok(loaded) => run_on(alloc, &loaded, events, to, page),
+        Err(_) => false,
+    }
 }
 
 fn writes(alloc: Global, object: &[u8], events: &[Event], to: Time, text: &str) -> bool {
-    match run(alloc, object, events, to) {
-        Some(page) => page.bytes() == text.as_bytes(),
-        None => false,
+    match Page::new(alloc, 1024, &[]) {
+        Ok(mut page) => run(alloc, object, events, to, &mut page)
+            && page.bytes() == text.as_bytes(),
+        Err(_) => false,
     }
 }
 

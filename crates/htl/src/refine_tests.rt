@@ -202,9 +202,8 @@ fn derived(
     derived_in(alloc, of, selections.as_slice(), jobs)
 }
 
-// What is derived, the child's mode in each round, the answer, and what stands in the first two places, one row after
-// the other.
-const DERIVED: [(Of, &[Option<u16>], Option<(u32, usize)>, [Job; 2]); 9] = [
+// What is derived, the child's mode in each round, the answer, and what stands in the first two places then.
+const DERIVED: &[(Of, &[Option<u16>], Option<(u32, usize)>, [Job; 2])] = &[
     (Of::Round, &[Some(1)], Some((0, 1)), [NO_JOB, FAST]),
     (Of::Round, &[Some(2)], Some((0, 1)), [FAST, FAST]),
     (Of::Round, &[None], None, [FAST, FAST]),
@@ -220,8 +219,8 @@ const DERIVED: [(Of, &[Option<u16>], Option<(u32, usize)>, [Job; 2]); 9] = [
 fn jobs_are_derived(rt: HostRuntime) -> Result<(), Fail> {
     let mut jobs = [FAST; 128];
     for (of, children, wanted, front) in DERIVED {
-        assert_eq!(rt; derived(rt.alloc(), of, children, &mut jobs), wanted);
-        assert_eq!(rt; &jobs[..2], &front[..]);
+        assert_eq!(rt; derived(rt.alloc(), *of, children, &mut jobs), *wanted);
+        assert_eq!(rt; [jobs[0], jobs[1]], *front);
     }
     Ok(())
 }

@@ -175,24 +175,54 @@ fn first_unlike(alloc: Global, want: &Source) -> Option<&'static str> {
     }
 }
 
-const SOURCES: &[(&str, Source)] = &[
-    ("one doubling task has its tables", ONE_DOUBLING_TASK),
-    ("no task has its tables", NO_TASK),
-    ("preemption has its tables", PREEMPTION),
-    ("a port has its tables", A_PORT),
-    ("a refined task has its tables", A_REFINED_TASK),
-    ("a left refinement has its tables", A_LEFT_REFINEMENT),
-    ("two modes have their tables", TWO_MODES),
-    ("two periods have their tables", TWO_PERIODS),
-    ("two tanks have their tables", TWO_TANKS),
-    ("three levels are numbered in preorder", THREE_LEVELS),
-];
+#[test]
+fn one_doubling_task_has_its_tables(rt: HostRuntime) {
+    assert_eq!(rt; first_unlike(rt.alloc(), &ONE_DOUBLING_TASK), None);
+}
 
 #[test]
-fn sources_have_their_tables(rt: HostRuntime) {
-    for (name, source) in SOURCES {
-        assert_eq!(rt; first_unlike(rt.alloc(), source), None, "{name}");
-    }
+fn no_task_has_its_tables(rt: HostRuntime) {
+    assert_eq!(rt; first_unlike(rt.alloc(), &NO_TASK), None);
+}
+
+#[test]
+fn preemption_has_its_tables(rt: HostRuntime) {
+    assert_eq!(rt; first_unlike(rt.alloc(), &PREEMPTION), None);
+}
+
+#[test]
+fn a_port_has_its_tables(rt: HostRuntime) {
+    assert_eq!(rt; first_unlike(rt.alloc(), &A_PORT), None);
+}
+
+#[test]
+fn a_refined_task_has_its_tables(rt: HostRuntime) {
+    assert_eq!(rt; first_unlike(rt.alloc(), &A_REFINED_TASK), None);
+}
+
+#[test]
+fn a_left_refinement_has_its_tables(rt: HostRuntime) {
+    assert_eq!(rt; first_unlike(rt.alloc(), &A_LEFT_REFINEMENT), None);
+}
+
+#[test]
+fn two_modes_have_their_tables(rt: HostRuntime) {
+    assert_eq!(rt; first_unlike(rt.alloc(), &TWO_MODES), None);
+}
+
+#[test]
+fn two_periods_have_their_tables(rt: HostRuntime) {
+    assert_eq!(rt; first_unlike(rt.alloc(), &TWO_PERIODS), None);
+}
+
+#[test]
+fn two_tanks_have_their_tables(rt: HostRuntime) {
+    assert_eq!(rt; first_unlike(rt.alloc(), &TWO_TANKS), None);
+}
+
+#[test]
+fn three_levels_are_numbered_in_preorder(rt: HostRuntime) {
+    assert_eq!(rt; first_unlike(rt.alloc(), &THREE_LEVELS), None);
 }
 
 // What stands for the first root invocation of the first selection where the child is in this mode.
@@ -203,15 +233,19 @@ fn standing(tables: &Tables, child: Option<u16>) -> Option<u16> {
     tables.chosen(&[Some(0), child], tables.position(0, 0))
 }
 
+fn refined(alloc: Global) -> Option<Tables> {
+    tables_of(alloc, samples::REFINED.as_bytes())?.ok()
+}
+
+fn standing_in(alloc: Global, child: Option<u16>) -> Option<Option<u16>> {
+    let tables = refined(alloc)?;
+    Some(standing(&tables, child))
+}
+
 #[test]
 fn the_mode_of_a_child_says_what_stands(rt: HostRuntime) {
-    match tables_of(rt.alloc(), samples::REFINED.as_bytes()) {
-        Some(Ok(tables)) => {
-            assert_eq!(rt; standing(&tables, Some(2)), Some(1));
-            assert_eq!(rt; standing(&tables, Some(3)), Some(2));
-            assert_eq!(rt; standing(&tables, None), None);
-        }
-        _ => assert!(rt; false),
+    for (child, wanted) in [(Some(2), Some(1)), (Some(3), Some(2)), (None, None)] {
+        assert_eq!(rt; standing_in(rt.alloc(), child), Some(wanted));
     }
 }
 

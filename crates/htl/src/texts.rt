@@ -73,10 +73,9 @@ fn first_byte(tokens: &Tokens, token: u32) -> Option<u64> {
 
 /// Whether a text has tables, or the first name rule that it breaks.
 pub fn judged_text(alloc: Global, text: &[u8]) -> Option<Result<(), SourceFault>> {
-    match tables_of(alloc, text) {
-        Some(Ok(_)) => Some(Ok(())),
-        Some(Err(fault)) => Some(Err(fault)),
-        None => None,
+    match tables_of(alloc, text)? {
+        Ok(_) => Some(Ok(())),
+        Err(fault) => Some(Err(fault)),
     }
 }
 
