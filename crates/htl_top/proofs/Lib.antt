@@ -26,7 +26,7 @@ pub mod ModuleNumbers
 pub mod Planning
 pub mod PlanWalk
 pub mod Playing
-pub mod PositionCounts
+pub mod PathPositions
 pub mod Putting
 pub mod Rounds
 pub mod Running
