@@ -40,7 +40,7 @@ pub mod Stopping
 pub mod StreamEnd
 pub mod Streaming
 pub mod Totals
-pub mod EqualRounds
+pub mod NoneOverloaded
 pub mod Slacking
 pub mod SlackCalling
 pub mod CommandWords
