@@ -18,13 +18,16 @@ pub mod Inputs
 pub mod JobMeaning
 mod LineExamples
 pub mod LineTelling
+pub mod ListByList
 pub mod Meaning
 pub mod ObjectAnswering
 pub mod ObjectCalling
 mod PlanExamples
 pub mod ModuleNumbers
+pub mod PlanFrame
 pub mod Planning
 pub mod PlanWalk
+pub mod ToldRecords
 pub mod Playing
 pub mod PathPositions
 pub mod Putting
@@ -42,6 +45,8 @@ pub mod Streaming
 pub mod Totals
 pub mod NoneOverloaded
 pub mod Slacking
+pub mod StayingJobs
+pub mod StayingPath
 pub mod SlackCalling
 pub mod CommandWords
 pub mod GivenFiles
