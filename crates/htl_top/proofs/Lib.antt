@@ -18,15 +18,18 @@ pub mod Inputs
 pub mod JobMeaning
 mod LineExamples
 pub mod LineTelling
+pub mod ListByList
 pub mod Meaning
 pub mod ObjectAnswering
 pub mod ObjectCalling
 mod PlanExamples
 pub mod ModuleNumbers
+pub mod PlanFrame
 pub mod Planning
 pub mod PlanWalk
+pub mod ToldRecords
 pub mod Playing
-pub mod PositionCounts
+pub mod PathPositions
 pub mod Putting
 pub mod Rounds
 pub mod Running
@@ -40,8 +43,10 @@ pub mod Stopping
 pub mod StreamEnd
 pub mod Streaming
 pub mod Totals
-pub mod EqualRounds
+pub mod NoneOverloaded
 pub mod Slacking
+pub mod StayingJobs
+pub mod StayingPath
 pub mod SlackCalling
 pub mod CommandWords
 pub mod GivenFiles

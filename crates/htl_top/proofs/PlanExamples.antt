@@ -1,10 +1,13 @@
--- The plans of a refinement, and inputs, worked.
-use Rattle.std.specs.Prelude.{◌≡◌, List, [], ◌∷◌, Some, refl, codes}
+-- The plans of a refinement and of two root modules of different periods, what `check` tells of these, and inputs, worked.
+use Rattle.std.specs.Prelude.{◌≡◌, List, [], ◌∷◌, Some, None, false, pos, refl, codes}
 use Rattle.std.specs.Fmt.{digits}
-use Rattle.htl_model.proofs.Sources.{refined}
+use Rattle.htl_model.proofs.Sources.{refined, plain, mode, module_named, task, call, int_one}
+use Rattle.htl_model.specs.Tables.{Tables}
+use Rattle.htl_model.specs.declared.parts.End.TheVariants as E
 use Rattle.htl_script.specs.declared.fault.ScriptKind.TheVariants as kind
 use Rattle.htl_walk.specs.declared.schedule.SInstr.TheVariants.{Dispatch, End}
 use Rattle.htl_walk.specs.declared.schedule.Schedule.{Schedule}
+use Rattle.htl_top.specs.Checked.{check_text}
 use Rattle.htl_top.specs.Planned.{plan_text}
 use Rattle.htl_top.specs.SelectionInput.{Whole, Bad, input_of}
 
@@ -18,6 +21,50 @@ plan_on = refl
 plan_off : plan_text refined schedules (Some 0 ∷ Some 1 ∷ []) ≡ codes "j 0 2 M.m.fix\nd 2 M.m.fix\nplan 10 jobs 1 s 3\n"
 unfolding schedules digits
 plan_off = refl
+
+-- ---- F of period 10 and G of period 20
+
+abbrev two_periods : Tables
+two_periods =
+    record {
+      comms = plain (codes "u") 10 (pos 1) ∷ plain (codes "w") 10 (pos 0) ∷ [];
+      modes = mode (codes "m") 0 10 ∷ mode (codes "m") 1 20 ∷ [];
+      modules = module_named (codes "F") None 0 ∷ module_named (codes "G") None 1 ∷ [];
+      ports = [];
+      tasks = task (codes "a") 0 false 3 int_one ∷ task (codes "b") 1 false 9 int_one ∷ [];
+      invs = call 0 0 None (E.Comm 0 0 ∷ []) (E.Comm 0 1 ∷ []) ∷ call 1 1 None (E.Comm 0 0 ∷ []) (E.Comm 1 2 ∷ []) ∷ [];
+      switches = [];
+      functions = [];
+    }
+
+both_lists : List Schedule
+both_lists = record { instrs = Dispatch 0 3 ∷ Dispatch 1 10 ∷ End ∷ [] } ∷ record { instrs = Dispatch 1 12 ∷ Dispatch 2 15 ∷ End ∷ [] } ∷ []
+
+-- the job of b goes on in the second list
+plan_both : plan_text two_periods both_lists (Some 0 ∷ Some 1 ∷ [])
+    ≡ codes "j 0 3 F.m.a\nd 3 F.m.a\nj 3 10 G.m.b\nj 10 12 G.m.b\nd 12 G.m.b\nj 12 15 F.m.a\nd 15 F.m.a\nplan 20 jobs 3 s 6\n"
+unfolding both_lists digits
+plan_both = refl
+
+check_both : check_text two_periods ≡ codes "accepted selections 1 positions 3\n"
+unfolding digits
+check_both = refl
+
+-- F has a second mode, which invokes twice: it can be in either from 0 and from 10
+abbrev two_modes : Tables
+two_modes =
+    record two_periods {
+      modes = mode (codes "m") 0 10 ∷ mode (codes "m") 1 20 ∷ mode (codes "n") 0 10 ∷ [];
+      invs =
+          call 0 0 None (E.Comm 0 0 ∷ []) (E.Comm 0 1 ∷ []) ∷ call 1 1 None (E.Comm 0 0 ∷ []) (E.Comm 1 2 ∷ []) ∷ call 2 0 None (E.Comm 0 0 ∷ []) (E.Comm 0 1 ∷ [])
+          ∷ call 2 0 None (E.Comm 0 0 ∷ []) (E.Comm 0 1 ∷ []) ∷ [];
+    }
+
+check_modes : check_text two_modes ≡ codes "accepted selections 4 positions 5\n"
+unfolding digits
+check_modes = refl
+
+-- ---- inputs
 
 input_on : input_of refined (codes "mode M m\nmode N on\n") ≡ Whole (Some 0 ∷ Some 2 ∷ [])
 input_on = refl

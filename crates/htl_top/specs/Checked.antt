@@ -1,18 +1,17 @@
 -- What `check` answers of an accepted object.
 use Rattle.std.specs.Prelude.{ℕ, zero, suc, max, List, length, ◌++◌, codes, decimal}
-use Rattle.htl_model.specs.Selections.{selection_count, positions}
+use Rattle.htl_model.specs.Frames.{paths, path_places}
 use Rattle.htl_model.specs.Tables.{Tables}
 use Rattle.htl_top.specs.Objects.{Work, IsTextAnswer}
 
--- the greatest number of positions of a selection below a number; 0 without one
+-- the greatest number of positions of a path below a number; 0 without one
 abbrev pub most_positions : Tables → ℕ → ℕ
 most_positions t zero = 0
-most_positions t (suc n) = max (most_positions t n) (length (positions t n))
+most_positions t (suc n) = max (most_positions t n) (length (path_places t n))
 
--- `accepted selections N positions P`
+-- `accepted selections N positions P`: the number of paths through a frame, and the greatest number of positions of one
 abbrev pub check_text : Tables → List ℕ
-check_text t =
-    codes "accepted selections " ++ decimal (selection_count t) ++ codes " positions " ++ decimal (most_positions t (selection_count t)) ++ codes "\n"
+check_text t = codes "accepted selections " ++ decimal (paths t) ++ codes " positions " ++ decimal (most_positions t (paths t)) ++ codes "\n"
 
 -- the line is written
 abbrev pub IsChecked : Work

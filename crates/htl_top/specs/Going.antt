@@ -50,7 +50,7 @@ IsBytesGoing source old new outcome =
     ⊎ ((s : SourceStop) × IsNotCompiled source s × (outcome ≡ outcome_of s) × IsUntouched old new)
 
 -- The words name a source of at most 1,048,576 bytes, the shelf tells that it holds it and counted no fault of it. Its tables
--- have typed functions, break no form rule and have no overloaded root selection.
+-- have typed functions, break no form rule and have no overloaded path.
 pub record IsReadySource (name : Option (List ℕ)) (holds : Option Holdings) (before after : List ℕ → ℕ) (t : Tables) : Type 0 where
   pub bytes : List ℕ
   pub given : IsGiven name holds before after bytes

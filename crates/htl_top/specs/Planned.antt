@@ -1,22 +1,24 @@
 -- What `plan` answers of an accepted object.
-use Rattle.std.specs.Prelude.{ℕ, ◌≡◌, ◌+◌, Bool, true, false, cond, List, [], ◌∷◌, ◌++◌, length, slice_get, Option, Some, None}
+use Rattle.std.specs.Prelude.{ℕ, ◌≡◌, ◌+◌, Bool, true, false, cond, List, [], ◌∷◌, ◌++◌, length, Option, Some, None}
 use Rattle.std.specs.Io.KnownBytes.{append_known}
 use Rattle.std.specs.List.{flat_map}
 use Rattle.htl_console.specs.Lines.{slice_line, done_line, plan_line}
 use Rattle.htl_edge.specs.Causes.{Rose}
 use Rattle.htl_edge.specs.Content.{AppendsPrefix, none_left}
+use Rattle.htl_model.specs.Frames.{hyper, frame_of, starts}
 use Rattle.htl_model.specs.Selected.{IsSelection}
-use Rattle.htl_model.specs.Selections.{root_period}
 use Rattle.htl_model.specs.Tables.{Tables}
 use Rattle.htl_object.specs.declared.object.Object.{Object}
-use Rattle.htl_refine.specs.ConcreteJobs.{concrete_jobs}
-use Rattle.htl_refine.specs.Roots.{selection_of}
+use Rattle.htl_refine.specs.FrameRuns.{Frame, frame_jobs, frame_places, path_of, walk_of}
 use Rattle.htl_script.specs.Reading.{OfScript}
 use Rattle.htl_script.specs.declared.fault.ScriptFault.{ScriptFault}
 use Rattle.htl_walk.specs.declared.job.Job.{Job}
 use Rattle.htl_walk.specs.declared.schedule.SInstr.{SInstr}
 use Rattle.htl_walk.specs.declared.schedule.Schedule.{Schedule}
-use Rattle.htl_walk.specs.Walk.{Left, job_at, walk, worst_cases}
+use Rattle.htl_walk.specs.Feasible.{lists_of}
+use Rattle.htl_walk.specs.NodeWalks.{instrs_of}
+use Rattle.htl_walk.specs.PathJobs.{legs_of}
+use Rattle.htl_walk.specs.Walk.{Left, job_at, worst_cases}
 use Rattle.htl_top.specs.Answers.{IsUntouched}
 use Rattle.htl_top.specs.Objects.{Work}
 use Rattle.htl_top.specs.SelectionInput.{Whole, Bad, input_of}
@@ -49,20 +51,27 @@ abbrev pub finishes : List Left → ℕ
 finishes [] = 0
 finishes (l ∷ ls) = cond l.finished 1 0 + finishes ls
 
--- the walk of a schedule over jobs that take their worst cases, and the last line
-abbrev pub round_text : Tables → ℕ → List Job → List Left → List ℕ
-round_text t period jobs ls = walk_text t jobs ls ++ plan_line period (finishes ls) (length ls)
+-- the lines of these records, and the last line, of a frame that ends then
+abbrev pub frame_text : Tables → ℕ → List Job → List Left → List ℕ
+frame_text t end jobs ls = walk_text t jobs ls ++ plan_line end (finishes ls) (length ls)
 
--- the schedule of a root selection
-abbrev pub schedule_at : List Schedule → ℕ → List SInstr
-schedule_at schedules sel = elim (slice_get schedules sel) [ Some s ↦ s.instrs | None ↦ [] ]
+-- the frame in which every module stays in its mode and every job takes its worst case, under the lists of its path's nodes
+abbrev pub staying_frame : Tables → List (List SInstr) → List (Option ℕ) → Frame
+staying_frame t lists modes =
+    let always = λ (a : ℕ). modes in
+    let jobs = frame_jobs t always in
+    record {
+      jobs = jobs;
+      lengths = worst_cases jobs;
+      lists = lists_of t lists (path_of t always);
+      legs = legs_of (frame_of t) (frame_places t always) (starts t);
+    }
 
--- the round of the jobs at a selection of running modes, under the schedule of its root selection; without modules there is none
+-- one frame at a selection of running modes: what its lists leave, each with the work that those before it left; without modules
+-- there is none
 abbrev pub plan_text : Tables → List Schedule → List (Option ℕ) → List ℕ
-plan_text t schedules modes = elim (root_period t) [
-  | Some period ↦
-      let jobs = concrete_jobs t modes in
-      round_text t period jobs (walk jobs (worst_cases jobs) (schedule_at schedules (selection_of t modes)))
+plan_text t schedules modes = elim (hyper t) [
+  | Some end ↦ let f = staying_frame t (instrs_of schedules) modes in frame_text t end f.jobs (walk_of f)
   | None ↦ plan_line 0 0 0
 ]
 

@@ -89,7 +89,7 @@ form_text tables fault =
 abbrev pub form_line : Option Tables → FormFault → List ℕ
 form_line tables fault = codes "htl: ill-formed " ++ form_text tables fault
 
--- ---- an overloaded root selection
+-- ---- an overloaded path
 
 abbrev pub overload_line : ℕ → ℕ → ℕ → ℕ → List ℕ
 overload_line sel a b demand =

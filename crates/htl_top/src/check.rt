@@ -1,8 +1,7 @@
 // The command `check`: what is told of an accepted object.
-ghost use Rattle.std.specs.Prelude.{◌≡◌, ◌++◌, ℕ, List, Some, codes, decimal};
+ghost use Rattle.std.specs.Prelude.{◌≡◌, ◌++◌, ℕ, List, Some, None, codes, decimal};
 ghost use Rattle.htl_edge.specs.Content.{Puts};
-ghost use Rattle.htl_model.specs.Broken.{KeepsLimits};
-ghost use Rattle.htl_model.specs.Selections.{selection_count};
+ghost use Rattle.htl_model.specs.Frames.{frame_limit};
 ghost use Rattle.htl_top.specs.Answers.{files, IsWritten};
 ghost use Rattle.htl_top.specs.Checked.{check_text};
 ghost use Rattle.htl_top.specs.Objects.{IsTextOnObject, IsObjectTables};
@@ -15,41 +14,35 @@ use crate::object::open;
 use crate::positions::most_positions;
 use htl_edge::{Failed, LineBuffer, Shelf, Sink, put_all};
 use htl_model::Tables;
+use htl_model::frame::Frame;
 use std::alloc::Global;
 
-// How many root selections there are.
-fn selections(t: &Tables) -> u32
-    requires { KeepsLimits t.now }
-    ensures { result ≡ selection_count t.now }
-{
-    t.selections()
-}
-
 // The line of an accepted object.
-fn check_line(selections: u32, positions: usize) -> LineBuffer
-    ensures { result ≡ codes "accepted selections " ++ decimal selections ++ codes " positions " ++ decimal positions ++ codes "\n" }
+fn check_line(paths: u32, positions: usize) -> LineBuffer
+    ensures { result ≡ codes "accepted selections " ++ decimal paths ++ codes " positions " ++ decimal positions ++ codes "\n" }
 {
     let mut line = LineBuffer::new();
     line.text(b"accepted selections ");
-    line.number(selections as u64);
+    line.number(paths as u64);
     line.text(b" positions ");
     line.number(positions as u64);
     line.text(b"\n");
     line
 }
 
-// Writes how many selections there are, and the greatest number of positions of one.
+// Writes how many paths there are, and the greatest number of positions of one.
 fn write_check<W: Sink>(out: &mut W, t: &Tables) -> Result<(), Failed>
-    requires { KeepsLimits t.now }
+    requires { frame_limit t.now ≡ None }
     ensures { Puts (W.written out.old) (W.written out.new) (W.faults out.old) (W.faults out.new) (check_text t.now) result }
 {
-    let line = check_line(selections(t), most_positions(t));
+    let f = Frame::survey(t);
+    let line = check_line(f.paths, most_positions(t, &f));
     put_all(out, line.as_bytes())
 }
 
 // Tells of an accepted object, by its tables.
 fn check<W: Sink>(out: &mut W, t: &Tables) -> Outcome
-    requires { KeepsLimits t.now }
+    requires { frame_limit t.now ≡ None }
     ensures text { IsWritten (check_text t.now) Outcome.Done (W.written out.old) (W.written out.new) (W.faults out.old) (W.faults out.new) result }
     ensures write_count { (result ≡ Outcome.Write → ⊥) → W.faults out.new ≡ W.faults out.old }
 {

@@ -22,6 +22,7 @@ mod patch;
 mod patch_line;
 mod place;
 mod plan;
+mod plan_lists;
 mod plan_walk;
 mod play;
 mod positions;
@@ -33,6 +34,7 @@ mod selection_reader;
 mod show;
 mod slack;
 mod source;
+mod staying;
 mod top;
 mod words;
 

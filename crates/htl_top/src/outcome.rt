@@ -35,11 +35,11 @@ pub enum Outcome {
     Source(SourceFault),
     /// The tables of the source break a form rule.
     IllFormed(FormFault),
-    /// A root selection of the source is overloaded: no schedule whatever keeps its deadlines.
+    /// A path through a frame of the source is overloaded: no schedules whatever keep its deadlines.
     Unschedulable {
-        /// The number of the first such root selection.
+        /// The number of the first such path: while all root modules have one period, of the root selection.
         selection: u32,
-        /// The overloaded interval, in ticks from the start of the round.
+        /// The overloaded interval, in ticks from the start of the frame.
         from: Time,
         /// Its end.
         to: Time,

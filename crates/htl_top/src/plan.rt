@@ -1,4 +1,4 @@
-// The command `plan`: the round of the jobs at a selection of running modes.
+// The command `plan`: one frame at a selection of running modes.
 ghost use Rattle.std.specs.Prelude.{◌≡◌, ◌+◌, ℕ, List, Some, None, IfOk, length};
 ghost use Rattle.htl_base.specs.declared.limits.TheConstants as limit;
 ghost use Rattle.htl_edge.specs.Content.{Puts};
@@ -13,15 +13,17 @@ ghost use Rattle.htl_top.specs.declared.outcome.ShelfCause.TheVariants as cause;
 use crate::Outcome;
 use crate::answer::Answer;
 use crate::object::open;
-use crate::plan_walk::write_round;
+use crate::plan_lists::write_frame;
 use crate::selection::{ScriptStop, read_selection};
+use crate::staying::{staying_jobs, staying_path};
 use htl_base::limits::MAX_POSITIONS;
 use htl_base::{Memory, Seq};
 use htl_console::line_plan;
 use htl_edge::{Failed, Shelf, Sink, Source};
 use htl_load::Loaded;
 use htl_model::Tables;
-use htl_refine::{Selection, derive, selection_of};
+use htl_model::frame::Frame;
+use htl_refine::Selection;
 use htl_walk::Job;
 use std::alloc::Global;
 
@@ -37,19 +39,20 @@ fn no_modes(alloc: Global, t: &Tables) -> Result<Selection, Memory>
     }
 }
 
-// Writes the plan of a selection. Without modules there is no round.
+// Writes the plan of a selection. Without modules there is no frame.
 fn write_plan<W: Sink>(out: &mut W, l: &Loaded, s: &Selection) -> Result<(), Failed>
     requires { IsSelection l.now.tables s.now.modes }
     ensures { Puts (W.written out.old) (W.written out.new) (W.faults out.old) (W.faults out.new) (plan_text l.now.tables l.now.schedules s.now.modes) result }
 {
     let t = l.tables();
-    let Some(period) = t.period() else {
+    let Some(end) = t.hyper() else {
         return line_plan(out, 0, 0, 0);
     };
+    let f = Frame::survey(t);
     let mut jobs = [Job::ABSENT; MAX_POSITIONS];
-    let count = derive(t, s, &mut jobs);
-    let schedule = &l.schedules()[selection_of(t, s) as usize];
-    write_round(out, t, &jobs[..count], schedule.instrs.as_slice(), period)
+    let count = staying_jobs(t, &f, s, &mut jobs);
+    let path = staying_path(t, &f, s);
+    write_frame(out, l, &f, path, &jobs[..count], end)
 }
 
 // Reads a selection of running modes, and writes its plan.
@@ -74,7 +77,8 @@ fn plan<R: Source, W: Sink>(alloc: Global, l: &Loaded, input: &mut R, out: &mut 
     }
 }
 
-/// Tests the object in a file, reads a selection of running modes, and writes the round of its jobs with their worst cases.
+/// Tests the object in a file, reads a selection of running modes, and writes the frame in which every module stays in its mode and
+/// every job takes its worst case.
 pub fn plan_file<S: Shelf, R: Source, W: Sink>(
     alloc: Global,
     name: &str,

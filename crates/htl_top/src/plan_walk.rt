@@ -1,14 +1,14 @@
-// The lines of a round in which each job takes its worst case.
+// The lines of a list in which each job takes its worst case.
 ghost use Rattle.std.specs.Prelude.{◌≡◌, ◌≤◌, ◌+◌, ◌++◌, ◌<◌, ℕ, cond, length, get_or, IfOk};
+ghost use Rattle.std.specs.List.{All};
 ghost use Rattle.htl_edge.specs.Content.{Puts};
-ghost use Rattle.htl_top.specs.Planned.{slice_text, done_text, left_text, walk_text, finishes, round_text};
+ghost use Rattle.htl_top.specs.Planned.{slice_text, done_text, left_text, walk_text, finishes};
 ghost use Rattle.htl_top.specs.Planned.{work_of as work_of_of};
 ghost use Rattle.htl_walk.specs.Following.{IsKnown};
-ghost use Rattle.htl_walk.specs.Walk.{InForm, walk, work, worst_cases, dispatched, begins, slice_between, finishes_by, work_after, job_at, next_point, finished_by, left_by};
+ghost use Rattle.htl_walk.specs.Walk.{walk_from, last_point, work, worst_cases, dispatched, begins, slice_between, finishes_by, work_after, job_at, next_point, finished_by, left_by};
 
 use htl_base::Time;
-use htl_base::limits::MAX_POSITIONS;
-use htl_console::{line_d, line_j, line_plan};
+use htl_console::{line_d, line_j};
 use htl_edge::{Failed, Sink};
 use htl_model::Tables;
 use htl_walk::dispatch::{Dispatched, dispatch};
@@ -144,8 +144,8 @@ fn work_of(job: &Job) -> Time
     if job.present { job.worst } else { 0 }
 }
 
-// The work of each position.
-fn fill_work(jobs: &[Job], left: &mut [Time])
+/// The work of each position.
+pub(crate) fn fill_work(jobs: &[Job], left: &mut [Time])
     requires { length left.old ≡ length jobs.now }
     ensures { left.new ≡ work jobs.now (worst_cases jobs.now) }
 {
@@ -154,22 +154,26 @@ fn fill_work(jobs: &[Job], left: &mut [Time])
     }
 }
 
-// Writes the lines of the instructions of a schedule in form, from this work on: how many positions finish.
-fn follow<W: Sink>(
+/// Writes the lines of the instructions of a list that begins at `from`, with the work left in place: how many positions finish. It
+/// takes no memory. After `Failed` a prefix was written.
+pub(crate) fn follow<W: Sink>(
     out: &mut W,
     t: &Tables,
     jobs: &[Job],
     instrs: &[SInstr],
+    from: Time,
     left: &mut [Time],
 ) -> Result<u64, Failed>
-    requires form { (period : ℕ) × InForm (length jobs.now) period instrs.now }
+    requires known { All (IsKnown (length jobs.now)) instrs.now }
     requires few { length instrs.now ≤ 4294967295 }
     requires same { length left.old ≡ length jobs.now }
-    requires work { left.old ≡ work jobs.now (worst_cases jobs.now) }
-    ensures count { IfOk result (λ n. n ≡ finishes (walk jobs.now (worst_cases jobs.now) instrs.now)) }
-    ensures put { Puts (W.written out.old) (W.written out.new) (W.faults out.old) (W.faults out.new) (walk_text t.now jobs.now (walk jobs.now (worst_cases jobs.now) instrs.now)) result }
+    ensures count { IfOk result (λ n. n ≡ finishes (walk_from jobs.now instrs.now (record { time = from; left = left.old }))) }
+    ensures left { IfOk result (λ n. left.new ≡ (last_point jobs.now instrs.now (record { time = from; left = left.old })).left) }
+    ensures len { length left.new ≡ length left.old }
+    ensures put { Puts (W.written out.old) (W.written out.new) (W.faults out.old) (W.faults out.new)
+        (walk_text t.now jobs.now (walk_from jobs.now instrs.now (record { time = from; left = left.old }))) result }
 {
-    let mut time = 0;
+    let mut time = from;
     let mut done = 0u64;
     for k in 0..instrs.len() {
         match step(out, t, jobs, instrs[k], time, left) {
@@ -181,26 +185,4 @@ fn follow<W: Sink>(
         }
     }
     Ok(done)
-}
-
-/// Writes the lines of the walk of a schedule in form over jobs that take their worst cases, and the last line of a plan. It takes no
-/// memory. After `Failed` a prefix was written.
-pub fn write_round<W: Sink>(
-    out: &mut W,
-    t: &Tables,
-    jobs: &[Job],
-    instrs: &[SInstr],
-    period: Time,
-) -> Result<(), Failed>
-    requires few { length jobs.now ≤ 128 }
-    requires instrs { length instrs.now ≤ 4294967295 }
-    requires form { (bound : ℕ) × InForm (length jobs.now) bound instrs.now }
-    ensures { Puts (W.written out.old) (W.written out.new) (W.faults out.old) (W.faults out.new) (round_text t.now period jobs.now (walk jobs.now (worst_cases jobs.now) instrs.now)) result }
-{
-    let mut left = [0; MAX_POSITIONS];
-    fill_work(jobs, &mut left[..jobs.len()]);
-    match follow(out, t, jobs, instrs, &mut left[..jobs.len()]) {
-        Ok(done) => line_plan(out, period, done, instrs.len() as u64),
-        Err(failed) => Err(failed),
-    }
 }

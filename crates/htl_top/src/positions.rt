@@ -1,12 +1,12 @@
-// How many positions root selections have, by the invocations of each mode, which are counted once.
-ghost use Rattle.std.specs.Prelude.{◌≡◌, ◌<◌, ℕ, Some, None, length, get_or, count_by};
-ghost use Rattle.htl_model.specs.Broken.{KeepsLimits};
-ghost use Rattle.htl_model.specs.Selections.{inv_of_mode, positions as positions_of, selection_count};
+// How many positions paths have, by the invocations of each mode, which are counted once.
+ghost use Rattle.std.specs.Prelude.{◌≡◌, ◌≤◌, ◌<◌, ℕ, length, get_or, count_by};
+ghost use Rattle.htl_model.specs.Frames.{most_invs, paths};
+ghost use Rattle.htl_model.specs.FrameTables.{IsFrame};
+ghost use Rattle.htl_model.specs.Selections.{inv_of_mode, invs_of, modes_of};
 ghost use Rattle.htl_top.specs.Checked.{most_positions as most_positions_of};
 
 use htl_base::limits::MAX_MODES;
-use htl_model::choice::entry;
-use htl_model::selections::root_modes;
+use htl_model::frame::Frame;
 use htl_model::{Inv, Tables};
 
 // Counts the invocations of each mode.
@@ -23,50 +23,34 @@ fn count_invs(invs: &[Inv], counts: &mut [usize])
     }
 }
 
-// How many invocations a mode has.
-fn inv_count(counts: &[usize], invs: &[Inv], mode: u16) -> usize
-    requires { (m : ℕ) → m < length counts.now → get_or counts.now m 0 ≡ count_by (inv_of_mode m) invs.now }
-    ensures { result ≡ count_by (inv_of_mode mode) invs.now }
+// The greatest number of invocations in a mode of a module.
+fn widest(t: &Tables, counts: &[usize], unit: u16) -> usize
+    requires few { length t.now.modes ≤ length counts.now }
+    requires counts { (m : ℕ) → m < length counts.now → get_or counts.now m 0 ≡ length (invs_of t.now m) }
+    ensures { result ≡ most_invs t.now (modes_of t.now unit) }
 {
-    if (mode as usize) < counts.len() {
-        counts[mode as usize]
-    } else {
-        invs.iter().filter(|i| i.mode == mode).count()
-    }
-}
-
-// How many positions a selection has.
-fn positions(t: &Tables, counts: &[usize], selection: u32) -> usize
-    requires limits { KeepsLimits t.now }
-    requires selection { selection < selection_count t.now }
-    requires counts { (m : ℕ) → m < length counts.now → get_or counts.now m 0 ≡ count_by (inv_of_mode m) t.now.invs }
-    ensures { result ≡ length (positions_of t.now selection) }
-{
-    t.keeps_ranges();
-    let modes = root_modes(t, selection);
-    let invs = t.parts().invs.as_slice();
-    let modules = t.parts().modules.as_slice().len();
-    let mut n = 0usize;
-    for k in 0..modules {
-        n += match entry(&modes, k as u16) {
-            Some(mode) => inv_count(counts, invs, mode),
-            None => 0,
-        };
-    }
-    n
-}
-
-/// The greatest number of positions of a root selection; 0 without one. One pass over the invocations, and for each
-/// selection one over the modules and modes.
-pub(crate) fn most_positions(t: &Tables) -> usize
-    requires { KeepsLimits t.now }
-    ensures { result ≡ most_positions_of t.now (selection_count t.now) }
-{
-    let mut counts = [0usize; MAX_MODES];
-    count_invs(t.parts().invs.as_slice(), &mut counts);
+    let modes = t.parts().modes.as_slice();
     let mut most = 0;
-    for selection in 0..t.selections() {
-        most = most.max(positions(t, &counts, selection));
+    for k in 0..modes.len() {
+        if modes[k].module == unit {
+            most = most.max(counts[k]);
+        }
     }
     most
+}
+
+/// The greatest number of positions of a path; 0 without one: in each round the mode with the most invocations. One pass over the
+/// invocations, and for each round one over the modes.
+pub(crate) fn most_positions(t: &Tables, f: &Frame) -> usize
+    requires { IsFrame t.now f.now }
+    ensures { result ≡ most_positions_of t.now (paths t.now) }
+{
+    t.keeps_ranges();
+    let mut counts = [0usize; MAX_MODES];
+    count_invs(t.parts().invs.as_slice(), &mut counts);
+    let mut n = 0;
+    for k in 0..f.round_count {
+        n += widest(t, &counts, f.rounds[k].unit);
+    }
+    n
 }

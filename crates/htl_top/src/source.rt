@@ -32,7 +32,7 @@ pub enum SourceStop {
         /// The tables, with code for their functions, and with the worst cases of a platform where one is named.
         tables: Tables,
     },
-    /// A root selection is overloaded.
+    /// A path is overloaded.
     Unschedulable {
         selection: u32,
         from: Time,
@@ -130,7 +130,7 @@ fn object_of_tables(
 }
 
 /// The bytes of the object of a source of at most 1,048,576 bytes, or its first fault: of the text, the names or the
-/// functions; else of the form rules; else the first root selection that is overloaded.
+/// functions; else of the form rules; else the first path that is overloaded.
 pub fn compile_source(alloc: Global, bytes: &[u8]) -> Result<Vec<u8>, SourceStop>
     requires { length bytes.now ≤ limit.MAX_SOURCE }
     ensures compiled { IfOk result (λ object. IsCompiledTo bytes.now object.items) }
@@ -147,7 +147,7 @@ pub fn compile_source(alloc: Global, bytes: &[u8]) -> Result<Vec<u8>, SourceStop
 }
 
 /// The bytes of the object of a source on the platform that a file says, or the first fault: of the source's text, names or
-/// functions; else of the platform file; else of the form rules; else the first root selection that is overloaded.
+/// functions; else of the platform file; else of the form rules; else the first path that is overloaded.
 pub fn compile_source_on(
     alloc: Global,
     bytes: &[u8],

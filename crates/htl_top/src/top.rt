@@ -91,13 +91,13 @@ use std::alloc::Global;
 /// source with these worst cases, which names the platform. The first of these is the answer: `Shelf`; `Read`; `Source`; `Platform`;
 /// `IllFormed`; `Unschedulable`; `Write`; `Done`.
 ///
-/// With the words `check OBJ` the object is tested, and one line goes to `out`: the number of root selections, and the greatest number of
-/// positions of one. With the words `show OBJ` its listing goes to `out` in place of that line. Nothing is read. The first of these is
+/// With the words `check OBJ` the object is tested, and one line goes to `out`: the number of paths through a frame, and the greatest
+/// number of positions of one. With the words `show OBJ` its listing goes to `out` in place of that line. Nothing is read. The first of these is
 /// the answer: `Shelf`; `Object`; `Write`; `Done`.
 ///
 /// With the words `plan OBJ` the object is tested likewise, `input` is read to its end as a line `mode MODULE MODE` for each module, and
-/// the slices and finishes of the jobs at these modes with their worst cases go to `out`, with a last line. The first of these is the
-/// answer: `Shelf`; `Object`; line by line `Read` and `Script`, after which nothing was written; `Write`; `Done`.
+/// the slices and finishes of one frame, in which every module stays in its mode and every job takes its worst case, go to `out`, with a
+/// last line. The first of these is the answer: `Shelf`; `Object`; line by line `Read` and `Script`, after which nothing was written; `Write`; `Done`.
 ///
 /// With the words `bulk N`, N from 1 to 64 in decimal with no zero before it, a program with N modules is generated, compiled and run for
 /// 100 rounds of 1,000 ticks; its sensor shows the number of the round. What goes to `out` is the value of each communicator at instant

@@ -1,37 +1,62 @@
-use Rattle.std.proofs.Common.{length, arith, add-one, ◌∙◌}
+use Rattle.std.proofs.Common.{◌+◌, ℕ, [], ◌∷◌, get_or, ap, arith, add-one, ◌∙◌, sym, refl}
 use Rattle.std.proofs.lemmas.Option.{slice_get-get_or}
 use Rattle.htl_walk.specs.declared.schedule.SInstr.TheVariants.{Dispatch}
-use Rattle.htl_walk.proofs.Following.{known_at}
-use Rattle.htl_top.proofs.PlanWalk.{IsPlanning-start, IsPlanning-step, IsPlanning-cut, IsPlanning-all, IsPlanning-count}
+use Rattle.htl_walk.specs.Walk.{Point, left_by, next_point}
+use Rattle.htl_top.proofs.PlanWalk.{left_next, last_next, last_reached, nothing_left, one_finish, one_text}
+use Rattle.htl_top.proofs.ToldRecords.{IsTold-start, IsTold-step, IsTold-cut, IsTold-all, IsTold-count, IsTold-few}
 use Rattle.htl_top.proofs.plan_walk.follow.Goals as goal
 
 pub step-requires-clause-known : goal.step-requires-clause-known
-step-requires-clause-known g c =
-    known_at (length c.args.jobs.now) c.requires.form.0 c.args.instrs.now c.loop-k.k _ c.requires.form.1 (slice_get-get_or c.args.instrs.now c.loop-k.k (Dispatch 0 0) (omega arith))
+step-requires-clause-known g c = c.requires.known c.loop-k.k _ (omega arith)
 
 pub loop-k-init : goal.loop-k-init
 loop-k-init g c = record {
-  planning = IsPlanning-start c.args.t.now c.args.jobs.now c.args.instrs.now c.args.left.now _ _ c.requires.work;
+  told = IsTold-start c.args.t.now c.args.jobs.now _ _ _;
+  goes = refl;
   same = c.requires.same;
 }
 
+pub with_finish-done-requires : goal.with_finish-done-requires
+with_finish-done-requires g c = omega (arith, IsTold-few _ _ _ _ _ _ _ _ _ _ c.loop-k.invariant.told, c.requires.few)
+
 pub loop-k-preserved : goal.loop-k-preserved
-loop-k-preserved g c = record {
-  planning =
-      rw (add-one, c.with_finish-done.ensures)
-      (IsPlanning-step c.args.t.now c.args.jobs.now c.args.instrs.now c.loop-k.k _ _ _ c.loop-k.done _ _ _ _ _ _ _ _ (slice_get-get_or c.args.instrs.now c.loop-k.k (Dispatch 0 0) (omega arith)) c.loop-k.invariant.planning
-      c.in-Ok.ensures.next c.in-Ok.ensures.finished c.in-Ok.ensures.put);
-  same = c.step.ensures.len ∙ c.loop-k.invariant.same;
-}
+loop-k-preserved g c =
+    let t = c.args.t.now in
+    let jobs = c.args.jobs.now in
+    let instrs = c.args.instrs.now in
+    let i = get_or instrs c.loop-k.k (Dispatch 0 0) in
+    let here = slice_get-get_or instrs c.loop-k.k (Dispatch 0 0) (omega arith) in
+    let x : Point = record { time = c.loop-k.time; left = c.loop-k.left } in
+    let l = left_by jobs i x (next_point jobs i x) in
+    let next = c.in-Ok.ensures.next in
+    let more = ap (λ (n : ℕ). c.loop-k.done + n) (one_finish l _ c.in-Ok.ensures.finished) in
+    record {
+      told =
+          rw (add-one, c.with_finish-done.ensures)
+          (IsTold-step t jobs _ _ (l ∷ []) _ _ c.loop-k.k _ c.loop-k.done _ _ _ _ _ _ _ _ (left_next t jobs instrs c.loop-k.k i x here _ next) (one_text t jobs l) (omega arith) more c.loop-k.invariant.told c.in-Ok.ensures.put);
+      goes = rw add-one (last_next t jobs instrs c.loop-k.k i x here _ next ∙ c.loop-k.invariant.goes);
+      same = c.step.ensures.len ∙ c.loop-k.invariant.same;
+    }
 
 pub returns-in-Err-clause-put : goal.returns-in-Err-clause-put
 returns-in-Err-clause-put g c =
-    IsPlanning-cut c.args.t.now c.args.jobs.now c.args.instrs.now c.loop-k.k _ _ c.loop-k.done _ _ _ _ _ _ _ _ (slice_get-get_or c.args.instrs.now c.loop-k.k (Dispatch 0 0) (omega arith)) c.loop-k.invariant.planning c.in-Err.ensures.put
+    let t = c.args.t.now in
+    let jobs = c.args.jobs.now in
+    let instrs = c.args.instrs.now in
+    let i = get_or instrs c.loop-k.k (Dispatch 0 0) in
+    let here = slice_get-get_or instrs c.loop-k.k (Dispatch 0 0) (omega arith) in
+    let x : Point = record { time = c.loop-k.time; left = c.loop-k.left } in
+    let l = left_by jobs i x (next_point jobs i x) in
+    IsTold-cut t jobs _ _ (l ∷ []) _ _ c.loop-k.k c.loop-k.done _ _ _ _ _ _ _ _ (left_next t jobs instrs c.loop-k.k i x here _ refl) (one_text t jobs l) c.loop-k.invariant.told c.in-Err.ensures.put
 
 pub returns-clause-count : goal.returns-clause-count
 returns-clause-count g c =
-    IsPlanning-count c.args.t.now c.args.jobs.now c.args.instrs.now c.loop-k.k _ c.loop-k.done _ _ _ _ (omega arith) c.loop-k.invariant.planning
+    IsTold-count c.args.t.now c.args.jobs.now _ _ _ _ _ _ _ _ c.loop-k.invariant.told (nothing_left c.args.jobs.now c.args.instrs.now c.loop-k.k _ (omega arith))
+
+pub returns-clause-left : goal.returns-clause-left
+returns-clause-left g c =
+    ap (λ (x : Point). x.left) (sym (last_reached c.args.jobs.now c.args.instrs.now c.loop-k.k _ (omega arith)) ∙ c.loop-k.invariant.goes)
 
 pub returns-clause-put : goal.returns-clause-put
 returns-clause-put g c =
-    IsPlanning-all c.args.t.now c.args.jobs.now c.args.instrs.now c.loop-k.k _ c.loop-k.done _ _ _ _ _ (omega arith) c.loop-k.invariant.planning
+    IsTold-all c.args.t.now c.args.jobs.now _ _ _ _ _ _ _ _ c.loop-k.invariant.told (nothing_left c.args.jobs.now c.args.instrs.now c.loop-k.k _ (omega arith)) _
