@@ -264,22 +264,21 @@ const RUNS: &[Row] = &[
     ),
 ];
 
-const GROUPS: &[Group] = &[
-    Group {
-        name: "`go` runs sources",
-        words: &["go", "A"],
-        place: Place::Files,
-        streams: Streams::Usual,
-        rows: RUNS,
-    },
-    Group {
-        name: "`jobs` runs the objects of sources",
-        words: &["jobs", "A"],
-        place: Place::Compiled,
-        streams: Streams::Usual,
-        rows: RUNS,
-    },
-];
+const FIRST_GROUPS: &[Group] = &[Group {
+    name: "`go` runs sources",
+    words: &["go", "A"],
+    place: Place::Files,
+    streams: Streams::Usual,
+    rows: RUNS,
+}];
+
+const SECOND_GROUPS: &[Group] = &[Group {
+    name: "`jobs` runs the objects of sources",
+    words: &["jobs", "A"],
+    place: Place::Compiled,
+    streams: Streams::Usual,
+    rows: RUNS,
+}];
 
 const BY_PIECES: &[(Streams, u8, Content, &str)] = &[
     (Streams::Step(1), 0, Content::Text(WHOLE), ""),
@@ -350,7 +349,18 @@ const TRIED: &[Tried] = &[
 
 #[test]
 fn calls_are_answered(rt: HostRuntime) -> Result<(), Fail> {
-    assert_eq!(rt; first_wrong(rt.alloc(), GROUPS)?, None);
+    assert_eq!(rt; first_wrong(rt.alloc(), FIRST_GROUPS)?, None);
+    Ok(())
+}
+
+#[test]
+fn further_calls_are_answered(rt: HostRuntime) -> Result<(), Fail> {
+    assert_eq!(rt; first_wrong(rt.alloc(), SECOND_GROUPS)?, None);
+    Ok(())
+}
+
+#[test]
+fn scripts_are_read_by_pieces(rt: HostRuntime) -> Result<(), Fail> {
     assert_eq!(rt; first_other(rt.alloc(), TRIED)?, None);
     Ok(())
 }

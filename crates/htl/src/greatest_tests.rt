@@ -39,7 +39,10 @@ const PAIR: &str = "program P {
 fn report_of(alloc: Global, t: &Tables, task: u16) -> Option<SlackReport>
     requires { AreCode t.now }
 {
-    if !is_formed(t) || !is_root_task(t, task) {
+    if !is_formed(t) {
+        return None;
+    }
+    if !is_root_task(t, task) {
         return None;
     }
     match edf_nodes(alloc, t) {

@@ -329,14 +329,15 @@ const BLANKS: &[Row] = &[
     ),
 ];
 
-const GROUPS: &[Group] = &[
-    Group {
-        name: "`compile` refuses sources",
-        words: &["compile"],
-        place: Place::Input,
-        streams: Streams::Usual,
-        rows: FAULTY,
-    },
+const FIRST_GROUPS: &[Group] = &[Group {
+    name: "`compile` refuses sources",
+    words: &["compile"],
+    place: Place::Input,
+    streams: Streams::Usual,
+    rows: FAULTY,
+}];
+
+const SECOND_GROUPS: &[Group] = &[
     Group {
         name: "`go` refuses sources",
         words: &["go", "A"],
@@ -351,6 +352,9 @@ const GROUPS: &[Group] = &[
         streams: Streams::Usual,
         rows: FITTING,
     },
+];
+
+const THIRD_GROUPS: &[Group] = &[
     Group {
         name: "selections fit their limit",
         words: &["check", "A"],
@@ -365,6 +369,9 @@ const GROUPS: &[Group] = &[
         streams: Streams::Usual,
         rows: TOO_LARGE,
     },
+];
+
+const LAST_GROUPS: &[Group] = &[
     Group {
         name: "`go` refuses too large sources",
         words: &["go", "A"],
@@ -383,6 +390,24 @@ const GROUPS: &[Group] = &[
 
 #[test]
 fn calls_are_answered(rt: HostRuntime) -> Result<(), Fail> {
-    assert_eq!(rt; first_wrong(rt.alloc(), GROUPS)?, None);
+    assert_eq!(rt; first_wrong(rt.alloc(), FIRST_GROUPS)?, None);
+    Ok(())
+}
+
+#[test]
+fn further_calls_are_answered(rt: HostRuntime) -> Result<(), Fail> {
+    assert_eq!(rt; first_wrong(rt.alloc(), SECOND_GROUPS)?, None);
+    Ok(())
+}
+
+#[test]
+fn later_calls_are_answered(rt: HostRuntime) -> Result<(), Fail> {
+    assert_eq!(rt; first_wrong(rt.alloc(), THIRD_GROUPS)?, None);
+    Ok(())
+}
+
+#[test]
+fn last_calls_are_answered(rt: HostRuntime) -> Result<(), Fail> {
+    assert_eq!(rt; first_wrong(rt.alloc(), LAST_GROUPS)?, None);
     Ok(())
 }
