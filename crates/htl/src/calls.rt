@@ -61,6 +61,7 @@ pub enum Streams {
 pub type Row = (Content, Content, &'static str, u8, Content, &'static str);
 
 /// Calls with the same words.
+#[derive(Clone, Copy)]
 pub struct Group {
     pub name: &'static str,
     pub words: &'static [&'static str],

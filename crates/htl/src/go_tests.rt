@@ -10,6 +10,7 @@ use crate::samples::{
     DOUBLED, DOUBLING, EMPTY_MODE, NESTED, PORT, READINGS, REFINED, SOMETIMES, TANKS, TWO_JOBS,
     TWO_MODES, TWO_MODULES,
 };
+use std::alloc::Global;
 use std::test::Fail;
 
 const SCRIPT: &str = "at 0\nsense s 3\nat 10\nsense s 5\nend 20\n";
@@ -52,7 +53,7 @@ end 10 jobs 1 e 21 s 2
 ";
 
 // A source, a script and what is written.
-const RUNS: &[Row] = &[
+const FIRST_RUNS: &[Row] = &[
     (
         Content::Text(EMPTY_MODE),
         EMPTY,
@@ -97,6 +98,9 @@ const RUNS: &[Row] = &[
         Content::Text("v 0 u 7\nend 0 jobs 0 e 0 s 0\n"),
         "",
     ),
+];
+
+const SECOND_RUNS: &[Row] = &[
     (
         Content::Text("program P { }"),
         EMPTY,
@@ -141,6 +145,9 @@ const RUNS: &[Row] = &[
         Content::Text(DOUBLED_SOON),
         "",
     ),
+];
+
+const THIRD_RUNS: &[Row] = &[
     (
         Content::Text(DOUBLING),
         EMPTY,
@@ -181,6 +188,9 @@ const RUNS: &[Row] = &[
         Content::Text(PASSED_ON),
         "",
     ),
+];
+
+const FOURTH_RUNS: &[Row] = &[
     (
         Content::Text(SOMETIMES),
         EMPTY,
@@ -221,6 +231,9 @@ const RUNS: &[Row] = &[
         Content::Text(CONTROLLED),
         "",
     ),
+];
+
+const LAST_RUNS: &[Row] = &[
     (
         Content::Text(TWO_MODES),
         EMPTY,
@@ -264,21 +277,29 @@ const RUNS: &[Row] = &[
     ),
 ];
 
-const FIRST_GROUPS: &[Group] = &[Group {
-    name: "`go` runs sources",
-    words: &["go", "A"],
-    place: Place::Files,
-    streams: Streams::Usual,
-    rows: RUNS,
-}];
-
-const SECOND_GROUPS: &[Group] = &[Group {
-    name: "`jobs` runs the objects of sources",
-    words: &["jobs", "A"],
-    place: Place::Compiled,
-    streams: Streams::Usual,
-    rows: RUNS,
-}];
+// Whether `go` runs these sources, and `jobs` their objects; the first row that comes to something else.
+fn first_other_run(
+    alloc: Global,
+    rows: &'static [Row],
+) -> Result<Option<(&'static str, usize)>, Fail> {
+    let groups = [
+        Group {
+            name: "`go` runs sources",
+            words: &["go", "A"],
+            place: Place::Files,
+            streams: Streams::Usual,
+            rows,
+        },
+        Group {
+            name: "`jobs` runs the objects of sources",
+            words: &["jobs", "A"],
+            place: Place::Compiled,
+            streams: Streams::Usual,
+            rows,
+        },
+    ];
+    first_wrong(alloc, &groups)
+}
 
 const BY_PIECES: &[(Streams, u8, Content, &str)] = &[
     (Streams::Step(1), 0, Content::Text(WHOLE), ""),
@@ -348,14 +369,32 @@ const TRIED: &[Tried] = &[
 ];
 
 #[test]
-fn calls_are_answered(rt: HostRuntime) -> Result<(), Fail> {
-    assert_eq!(rt; first_wrong(rt.alloc(), FIRST_GROUPS)?, None);
+fn the_first_sources_run(rt: HostRuntime) -> Result<(), Fail> {
+    assert_eq!(rt; first_other_run(rt.alloc(), FIRST_RUNS)?, None);
     Ok(())
 }
 
 #[test]
-fn further_calls_are_answered(rt: HostRuntime) -> Result<(), Fail> {
-    assert_eq!(rt; first_wrong(rt.alloc(), SECOND_GROUPS)?, None);
+fn the_second_sources_run(rt: HostRuntime) -> Result<(), Fail> {
+    assert_eq!(rt; first_other_run(rt.alloc(), SECOND_RUNS)?, None);
+    Ok(())
+}
+
+#[test]
+fn the_third_sources_run(rt: HostRuntime) -> Result<(), Fail> {
+    assert_eq!(rt; first_other_run(rt.alloc(), THIRD_RUNS)?, None);
+    Ok(())
+}
+
+#[test]
+fn the_fourth_sources_run(rt: HostRuntime) -> Result<(), Fail> {
+    assert_eq!(rt; first_other_run(rt.alloc(), FOURTH_RUNS)?, None);
+    Ok(())
+}
+
+#[test]
+fn the_last_sources_run(rt: HostRuntime) -> Result<(), Fail> {
+    assert_eq!(rt; first_other_run(rt.alloc(), LAST_RUNS)?, None);
     Ok(())
 }
 
