@@ -2,6 +2,7 @@
 use Rattle.std.proofs.Common.{◌≡◌, ℕ, zero, suc, ◌+◌, ◌-◌, ◌≤◌, ◌<◌, Bool, true, false, cond, ltb, List, [], ◌∷◌, length, slice_get, Some, refl, sym, ap, subst, arith, ◌⊎◌, inl, inr}
 use Rattle.std.proofs.lemmas.Bool.{ltb-false}
 use Rattle.htl_model.specs.declared.event.Event.{Event}
+use Rattle.htl_model.specs.Broken.{KeptTo}
 use Rattle.htl_model.specs.Selections.{root_period}
 use Rattle.htl_model.specs.Tables.{Tables}
 use Rattle.htl_walk.specs.declared.job.Job.{Job}
@@ -42,13 +43,13 @@ counted a e ls k l r g h = elim (either k (count_before e ls)) [ inl b ↦ b | i
     either : (a b : ℕ) → (a < b) ⊎ (b ≤ a)
     either a b = grind arith
 
-module _ (t : Tables) (schedules : List (List SInstr)) (loaded : IsLoaded t schedules) (es : List Event) (within : AreTookWithin t es) where
+module _ (t : Tables) (schedules : List (List SInstr)) (loaded : IsLoaded t schedules) (rules : KeptTo t 16) (es : List Event) (within : AreTookWithin t es) where
   pub shown : (n end q : ℕ) (j : Job) → let s = round_start (period_or (root_period t)) n in slice_get (plan_of t schedules es s).jobs q ≡ Some j → j.present ≡ true → s + j.end ≤ end
       → IsShown (plan_of t schedules es s) s end q j
   shown n end q j at here late =
       let s = round_start (period_or (root_period t)) n in
       let p = plan_of t schedules es s in
-      let meets = (loaded_rounds t schedules loaded es within).sound.meets n in
+      let meets = (loaded_rounds t schedules loaded rules es within).sound.meets n in
       let v = (serves p.jobs p.lengths p.schedule meets).each q j at here in
       record {
         served = v;
@@ -60,7 +61,7 @@ module _ (t : Tables) (schedules : List (List SInstr)) (loaded : IsLoaded t sche
   all_served period end root = subst (λ o. AllServed (plan_of t schedules es) (period_or o) end) root served
     where
       form : AreInForm t schedules es (period_or (root_period t))
-      form = subst (λ p. AreInForm t schedules es p) (sym (ap period_or root)) ((loaded_rounds t schedules loaded es within).form period root)
+      form = subst (λ p. AreInForm t schedules es p) (sym (ap period_or root)) ((loaded_rounds t schedules loaded rules es within).form period root)
 
       served : AllServed (plan_of t schedules es) (period_or (root_period t)) end
       served =
@@ -69,7 +70,7 @@ module _ (t : Tables) (schedules : List (List SInstr)) (loaded : IsLoaded t sche
             apart = λ n.
                 let s = round_start (period_or (root_period t)) n in
                 let p = plan_of t schedules es s in
-                (serves p.jobs p.lengths p.schedule ((loaded_rounds t schedules loaded es within).sound.meets n)).apart;
+                (serves p.jobs p.lengths p.schedule ((loaded_rounds t schedules loaded rules es within).sound.meets n)).apart;
             inside = λ n k l at.
                 let s = round_start (period_or (root_period t)) n in
                 let p = plan_of t schedules es s in

@@ -6,6 +6,7 @@ use Rattle.std.proofs.lemmas.List.{append-nil}
 use Rattle.htl_model.specs.declared.event.Event.{Event}
 use Rattle.htl_model.specs.Lists.{joined, numbered, up_to}
 use Rattle.htl_model.specs.Meaning.{state}
+use Rattle.htl_model.specs.Broken.{KeptTo}
 use Rattle.htl_model.specs.Selections.{root_period}
 use Rattle.htl_model.specs.Tables.{Tables}
 use Rattle.htl_model.proofs.Locality.{up_to_same}
@@ -27,7 +28,7 @@ use Rattle.htl_machine.specs.Plans.{AreSound, AreRegular}
 use Rattle.htl_machine.specs.Rounds.{plan_of, period_or, round_start}
 use Rattle.htl_machine.specs.Served.{spent, Finishes}
 use Rattle.htl_machine.specs.Texts.{inv_at}
-use Rattle.htl_machine.proofs.LoadedLists.{loaded_keys, loaded_one}
+use Rattle.htl_machine.proofs.OneLoaded.{loaded_keys, loaded_one}
 use Rattle.htl_machine.proofs.RoundJobLines.{round_job_lines, round_lines_at, job_lines_same}
 use Rattle.htl_machine.proofs.Headline.{all_served}
 use Rattle.htl_machine.proofs.JobLines.{none_first, joined-joined, joined-up_to}
@@ -409,17 +410,17 @@ module _ {X : Type 0} (h : RunLine → List X) (s e : ℕ)
 
 -- ---- each job
 
-module _ (t : Tables) (schedules : List (List SInstr)) (loaded : IsLoaded t schedules) (es : List Event) (within : AreTookWithin t es) (period end : ℕ) (root : root_period t ≡ Some period) where
+module _ (t : Tables) (schedules : List (List SInstr)) (loaded : IsLoaded t schedules) (rules : KeptTo t 16) (es : List Event) (within : AreTookWithin t es) (period end : ℕ) (root : root_period t ≡ Some period) where
   pub told_in_time : AllToldInTime (plan_of t schedules es) period end (job_lines_to t schedules es end)
   told_in_time n q j at here late =
       let s = round_start period n in
       let r = round_at t schedules es s in
-      let kept = loaded_rounds t schedules loaded es within in
+      let kept = loaded_rounds t schedules loaded rules es within in
       let same : period_or (root_period t) ≡ period = ap period_or root in
       let some : 0 < period = (subst (AreRegular t es) same kept.regular).some in
       let cast : IsCast t (state t es s).stays s s r.jobs = (subst (AreSound t es (plan_of t schedules es)) same kept.sound).casts n in
       let windows : HaveWindows r.jobs = round_windows r.jobs r.lengths r.schedule ((subst (AreSound t es (plan_of t schedules es)) same kept.sound).meets n) in
-      let served = all_served t schedules loaded es within period end root in
+      let served = all_served t schedules loaded rules es within period end root in
       let v = (served.jobs n q j at here late).served in
       let ls = walk_of r in
       let others : (p : ℕ) → (job_at r.jobs p).present ≡ true → (job_at r.jobs p).inv ≡ j.inv → p ≡ q =
@@ -433,8 +434,8 @@ module _ (t : Tables) (schedules : List (List SInstr)) (loaded : IsLoaded t sche
       let lines : (X : Type 0) (h : RunLine → List X) → ((from to inv : ℕ) → (ltb s to && leb to (s + period)) ≡ false → h (SliceLine from to inv) ≡ []) → ((at inv : ℕ) → (ltb s at && leb at (s + period)) ≡ false → h (DoneLine at inv) ≡ [])
       → joined h (job_lines_to t schedules es end) ≡ joined (λ l. joined h (job_lines_of r.jobs l)) (filter (before_now (suc end)) (told s 0 ls)) =
       λ X h slice_out done_out.
-      ap (λ (o : Option ℕ). joined h (up_to (job_lines_at t schedules es o) (suc end))) (loaded_keys t schedules loaded ∙ root)
-      ∙ ap (joined h) (up_to_same (job_lines_at t schedules es (Some period)) (round_lines_at t schedules es period) (suc end) (λ now less. job_lines_same t period schedules es loaded.range (loaded_one t schedules loaded period root) now))
+      ap (λ (o : Option ℕ). joined h (up_to (job_lines_at t schedules es o) (suc end))) (loaded_keys t schedules loaded rules period root ∙ root)
+      ∙ ap (joined h) (up_to_same (job_lines_at t schedules es (Some period)) (round_lines_at t schedules es period) (suc end) (λ now less. job_lines_same t period schedules es loaded.range (loaded_one t schedules loaded rules period root) now))
       ∙ of_round h s (s + period) slice_out done_out t schedules es period (n / period) some (kept.form period root) refl refl (suc end) in
       let slices_are : joined (slice_time j.inv s (s + period)) (job_lines_to t schedules es end) ≡ map (shift s) (slices ls q) =
       lines (ℕ × ℕ) (slice_time j.inv s (s + period)) (λ from to inv out. out_of j.inv inv (ltb s to && leb to (s + period)) ((from, to) ∷ []) out) (λ at inv out. refl)

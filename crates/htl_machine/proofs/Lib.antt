@@ -38,7 +38,6 @@ pub mod TookLists
 pub mod TellingLists
 pub mod Tops
 pub mod Windows
-pub mod Rounding
 pub mod LoadedLists
 pub mod NextLists
 pub mod NextPoints
@@ -93,6 +92,7 @@ pub mod Putting
 pub mod Doing
 pub mod Printing
 pub mod OneList
+pub mod OneLoaded
 pub mod Openings
 pub mod Closings
 pub mod Agreeing
@@ -101,6 +101,9 @@ pub mod Beginnings
 pub mod Periodic
 pub mod Positions
 pub mod Ready
+pub mod NodesBelow
+pub mod ToBegin
+pub mod Followed
 pub mod After
 pub mod Idle
 pub mod Quiet

@@ -148,7 +148,6 @@ module _ (t : Tables) (schedules : List (List SInstr)) (range : AreInRange t) (k
       }
 
 -- so those of a loaded program
-pub loaded_rounds : (t : Tables) (schedules : List (List SInstr)) → IsLoaded t schedules → (es : List Event) → AreTookWithin t es → AreKept t schedules es
-loaded_rounds t schedules loaded es within =
-    every_round t schedules loaded.range loaded.rules
-    (each_round t loaded.range (λ r s have need small broken. loaded.rules r s have need (omega (arith, small)) broken) schedules loaded.feasible) es within
+pub loaded_rounds : (t : Tables) (schedules : List (List SInstr)) → IsLoaded t schedules → KeptTo t 16 → (es : List Event) → AreTookWithin t es → AreKept t schedules es
+loaded_rounds t schedules loaded rules es within =
+    every_round t schedules loaded.range rules (each_round t loaded.range (λ r s have need small broken. rules r s have need (omega (arith, small)) broken) schedules loaded.feasible) es within

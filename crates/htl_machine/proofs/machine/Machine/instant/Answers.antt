@@ -12,12 +12,12 @@ use Rattle.htl_machine.specs.Opening.{first_records}
 use Rattle.htl_machine.specs.Recording.{AreOf}
 use Rattle.htl_machine.specs.Programs.{lines_of, schedules_of}
 use Rattle.htl_machine.specs.declared.tally.Tally.{Tally}
-use Rattle.htl_machine.proofs.After.{passed_of, desk_goes_on, selection_goes_on, over, begins_some, desk_begins_so, selection_begins, records_go_on, records_begin}
+use Rattle.htl_machine.proofs.After.{passed_of, desk_goes_on, list_goes_on, over, begins_some, desk_begins_so, list_begins, records_go_on, records_begin}
 use Rattle.htl_machine.proofs.Asking.{sound_of, noted_of, begun_at, counts_at}
 use Rattle.htl_machine.proofs.Beginnings.{ends_so, fails_so}
 use Rattle.htl_machine.proofs.Ended.{open_failed, going_closed, begun_closed_at}
 use Rattle.htl_machine.proofs.Readying.{replay_only}
-use Rattle.htl_machine.proofs.Ready.{ready, selection_known}
+use Rattle.htl_machine.proofs.Ready.{ready, list_known}
 use Rattle.htl_machine.proofs.ShownOn.{next_shown_up_to, noted_marks}
 use Rattle.htl_machine.proofs.ToClose.{follows_at, to_close, to_close_and_begin}
 use Rattle.htl_machine.proofs.Viewing.{seen_in}
@@ -55,7 +55,7 @@ schedule_of-requires g c =
     let m = seen_in c.self.inside in
     let ok = c.self.invariant.accepted in
     let u = subst (λ (z : Seen). IsUpTo z w.0 c.args.at) (sym c.self.view_is) w.1 in
-    selection_known m w.0 c.args.at ok u
+    list_known m w.0 c.args.at ok u
 
 pub open_instant-requires-clause-form : goal.open_instant-requires-clause-form
 open_instant-requires-clause-form g c =
@@ -452,7 +452,7 @@ returns-in-Ok-clause-before g c = λ es before.
     next_shown_up_to m es c.args.at ok later u c.open_instant.new.sensors.shows c.close_and_begin.new.world c.close_and_begin.new.desk c.close_and_begin.new.m _ _ (first_records t (schedules_of m.object) es c.args.at) c.self.inside.tally c.close_and_begin.new.tally c.in_default.ensures.shows
     (passed_of m es c.args.at ok later u _ r c.settle.new.self.values same _ _ opened _ _ world reads safe shaped)
     (desk_begins_so m es c.args.at ok later u _ b desk)
-    (selection_begins m es c.args.at ok later u _ b goes)
+    (list_begins m es c.args.at ok later u _ b goes)
     (records_begin m es c.args.at ok later u _ c.self.inside.idle.instrs refl c.self.invariant.empty r b)
     refl
     (more ∙ ap tail (counts r.plan r.start r.place r.offset r.same r.past r.few r.was))
@@ -515,7 +515,7 @@ returns-in_default-close_instant-clause-before g c = λ es before.
     next_shown_up_to m es c.args.at ok later u c.open_instant.new.sensors.shows c.close_instant.new.world c.close_instant.new.desk c.close_instant.new.m _ _ [] c.self.inside.tally c.close_instant.new.tally c.in_default.ensures.shows
     (passed_of m es c.args.at ok later u _ r c.settle.new.self.values same _ _ opened _ _ world reads safe shaped)
     (desk_goes_on m es c.args.at ok later u _ c.self.inside.idle.instrs refl c.self.invariant.empty r _ _ _ b opened.records desk stands)
-    (selection_goes_on m es c.args.at ok later u b)
+    (list_goes_on m es c.args.at ok later u b)
     (records_go_on m es c.args.at ok later u _ c.self.inside.idle.instrs refl c.self.invariant.empty r b)
     refl
     (more ∙ ap tail (counts r.plan r.start r.place r.offset r.same r.past r.few r.was))
