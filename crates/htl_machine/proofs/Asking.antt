@@ -1,5 +1,5 @@
 -- What the parts of an instant ask for, from what the machine follows.
-use Rattle.std.proofs.Common.{◌≡◌, ℕ, zero, suc, ◌-◌, ◌<◌, List, length, ℤ, Option, sym, ap, ◌∙◌, subst, arith, refl}
+use Rattle.std.proofs.Common.{◌≡◌, ℕ, zero, suc, ◌-◌, ◌<◌, List, length, ℤ, Option, Some, sym, ap, ◌∙◌, subst, arith, refl}
 use Rattle.htl_model.specs.declared.event.Event.{Event}
 use Rattle.htl_model.specs.Meaning.{before, state}
 use Rattle.htl_model.specs.Tables.{Tables}
@@ -12,7 +12,11 @@ use Rattle.htl_emach.specs.Contents.{Content}
 use Rattle.htl_emach.specs.Following.{phase_path}
 use Rattle.htl_object.specs.declared.object.Object.{Object}
 use Rattle.htl_smach.specs.Rounds.{Round}
+use Rattle.htl_machine.specs.Follows.{DeskAt}
+use Rattle.htl_machine.specs.Leaving.{due_by}
 use Rattle.htl_machine.specs.Programs.{schedules_of}
+use Rattle.htl_machine.specs.RunLists.{turn_at}
+use Rattle.htl_machine.specs.StandingList.{turn_list}
 use Rattle.htl_machine.specs.declared.tally.Tally.{Tally}
 use Rattle.htl_machine.specs.Counts.{with_instrs, with_records}
 use Rattle.htl_machine.specs.Opening.{first_records}
@@ -96,6 +100,15 @@ pub begins_at : (o : Object) (es : List Event) (at : ℕ) (t : Tables) (code : E
 begins_at o es at t code takes kept last r same same_code are h =
     subst (λ z. IsToBegin z code (schedules_of o) es at takes last r) (sym same)
     (subst (λ z. IsToBegin o.tables z (schedules_of o) es at takes last r) (sym same_code) (subst (λ z. IsToBegin o.tables o.ecode (schedules_of o) es at z last r) (sym are) h))
+
+-- the list that has begun
+pub begun_at : (o : Object) (es : List Event) (at : ℕ) (t : Tables) (d : Round) → t ≡ o.tables
+    → (let u = turn_at t (schedules_of o) es at in DeskAt u.plan u.frame (due_by u.plan u.frame at) (suc at - u.frame) d)
+    → (let u = turn_at o.tables (schedules_of o) es at in DeskAt u.plan u.frame (due_by u.plan u.frame at) (suc at - u.frame) d)
+begun_at o es at t d same h = subst (λ z. let u = turn_at z (schedules_of o) es at in DeskAt u.plan u.frame (due_by u.plan u.frame at) (suc at - u.frame) d) same h
+
+pub stood_at : (o : Object) (es : List Event) (at : ℕ) (t : Tables) (list : Option ListAt) → t ≡ o.tables → list ≡ Some (turn_list (turn_at t (schedules_of o) es at)) → list ≡ Some (turn_list (turn_at o.tables (schedules_of o) es at))
+stood_at o es at t list same h = h ∙ ap (λ z. Some (turn_list (turn_at z (schedules_of o) es at))) same
 
 -- what the second part of an instant counts where a list begins
 pub counts_at : (o : Object) (es : List Event) (at : ℕ) (t : Tables) (code : ECode) (n n1 : Tally) → t ≡ o.tables → code ≡ o.ecode

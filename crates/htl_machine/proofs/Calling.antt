@@ -278,18 +278,19 @@ new_follows_none o show t code w e same same_code accepted is shaped first safe 
     (subst (λ z. Follows (first_seen o show (first_content o.tables) z) []) (sym e_is) (first_follows o show accepted s h))
 
 -- a machine that is made stands at the beginning
-pub first_is : (o : Object) (show : Shown) (w : Content) (e : Standing) (shows : List ℤ) (takes : List ℕ) (desk : rounds.Round) → shows ≡ w.values → takes ≡ map (λ (x : Inv). task_worst o.tables x.task) o.tables.invs → desk ≡ rounds.no_round
+pub first_is : (o : Object) (show : Shown) (w : Content) (e : Standing) (shows : List ℤ) (takes : List ℕ) (desk : rounds.Round) (list : Option ListAt) → shows ≡ w.values → takes ≡ map (λ (x : Inv). task_worst o.tables x.task) o.tables.invs → desk ≡ rounds.no_round → list ≡ None
     → ◌≡◌ {A = Seen} (record {
       object = o;
       show = show;
       held = record { spent = false; reading = 0; shows = shows; takes = takes; world = w; desk = desk };
       standing = e;
-      list = None;
+      list = list;
       jobs = 0;
       e = 0;
       s = 0;
     }) (first_seen o show w e)
-first_is o show w e shows takes desk a b d =
-    let make : List ℤ → List ℕ → rounds.Round → Seen =
-    λ shows takes desk. record { object = o; show = show; held = record { spent = false; reading = 0; shows = shows; takes = takes; world = w; desk = desk }; standing = e; list = None; jobs = 0; e = 0; s = 0 } in
-    ap (λ z. make z takes desk) a ∙ ap (λ z. make w.values z desk) b ∙ ap (make w.values (map (λ (x : Inv). task_worst o.tables x.task) o.tables.invs)) d
+first_is o show w e shows takes desk list a b d l =
+    let make : List ℤ → List ℕ → rounds.Round → Option ListAt → Seen =
+    λ shows takes desk list. record { object = o; show = show; held = record { spent = false; reading = 0; shows = shows; takes = takes; world = w; desk = desk }; standing = e; list = list; jobs = 0; e = 0; s = 0 } in
+    let worst = map (λ (x : Inv). task_worst o.tables x.task) o.tables.invs in
+    ap (λ z. make z takes desk list) a ∙ ap (λ z. make w.values z desk list) b ∙ ap (λ z. make w.values worst z list) d ∙ ap (make w.values worst rounds.no_round) l
