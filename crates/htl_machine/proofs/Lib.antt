@@ -57,6 +57,7 @@ pub mod Retelling
 pub mod Showing
 pub mod Advancing
 pub mod Headline
+pub mod Rounding
 pub mod Releasing
 pub mod Instants
 pub mod Meeting
