@@ -2,7 +2,7 @@
 use Rattle.std.proofs.Common.{◌≡◌, ◌≤◌, ◌<◌, ℕ, List, length, Option, All, sym, subst, arith}
 use Rattle.htl_compile.proofs.CodedLaws.{coded_fit, coded_in_range, codes_are_code}
 use Rattle.htl_compile.proofs.NodeSchedules.{node_lists, schedules_short}
-use Rattle.htl_compile.proofs.PhaseLaws.{layout_phased}
+use Rattle.htl_object.proofs.PhaseLaws.{layout_phased}
 use Rattle.htl_compile.proofs.SamePaths.{paths_same, path_jobs_same}
 use Rattle.htl_compile.specs.Built.{node_schedule, schedules, object_for, AreSchedulable}
 use Rattle.htl_compile.specs.Coded.{codes, coded}

@@ -19,7 +19,6 @@ pub mod RuleOrder
 pub mod SearchLaws
 pub mod SilentLaws
 pub mod SiteLaws
-pub mod TestLaws
 mod WriterExamples
 pub mod WriterLaws
 pub mod WriterSamples

@@ -15,7 +15,7 @@ use Rattle.htl_form.specs.WriterFaults.{stand_together}
 use Rattle.htl_form.specs.declared.owners.Owner.{Owner}
 use Rattle.htl_form.specs.declared.owners.Owner.TheVariants as owner
 use Rattle.htl_form.proofs.PathLaws.{rivals_apart}
-use Rattle.htl_form.proofs.TestLaws.{either, neither, both, same_number}
+use Rattle.htl_model.proofs.TestLaws.{either, neither, both, same_number}
 
 -- an invocation that takes a communicator from mode m
 record Taker (t : Tables) (m base c : ℕ) : Type 0 where

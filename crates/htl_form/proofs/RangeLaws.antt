@@ -10,7 +10,7 @@ use Rattle.htl_model.specs.Ranges.{AreInRange}
 use Rattle.htl_model.specs.Starts.{IsStartOf}
 use Rattle.htl_model.specs.Tables.{Tables}
 use Rattle.htl_form.proofs.Places.{item_at}
-use Rattle.htl_form.proofs.TestLaws.{equal}
+use Rattle.htl_model.proofs.TestLaws.{equal}
 use Rattle.htl_form.specs.Cycles.{precedes_itself}
 use Rattle.htl_form.specs.Rows.{IsRangeOf, AreMarked}
 

@@ -28,11 +28,6 @@ function_fits t id f r fit at =
     within : (t : Tables) (id : ℕ) (f : Fun) → slice_get t.functions id ≡ Some f → id < length t.functions
     within t id f at = elim (slice_get_cases t.functions id).1 [ inl c ↦ c.1 | inr c ↦ absurd (let no : Some f ≡ None = sym at ∙ c.1 in cc) ]
 
--- tables that keep the rules up to the last keep all
-pub formed_after : {E : Type 0} (t : Tables) (r : Result (Unit {0}) E) → OnOk r (KeptTo t 16) → OnOk r (Formed t)
-formed_after t (Ok x) kept = formed t kept
-formed_after t (Err e) h = h
-
 -- a spelled object whose schedules are feasible is accepted
 pub accepted_with : (o : Object) → IsSpelled o → AreFeasible o.tables (instrs_of o.schedules) → IsAccepted o
 accepted_with o spelled feasible = record { spelled = spelled; feasible = feasible }

@@ -15,7 +15,7 @@ use Rattle.htl_model.specs.Selected.{entry, Runs, IsEntry, IsSelection}
 use Rattle.htl_model.specs.SecondWriters.{parent_mode}
 use Rattle.htl_model.specs.Selections.{is_root, root_modules, inv_of_mode, invs_of}
 use Rattle.htl_model.specs.Tables.{Tables, mode_module, mode_period, window_end, is_concrete}
-use Rattle.htl_form.proofs.TestLaws.{equal, same_number}
+use Rattle.htl_model.proofs.TestLaws.{equal, same_number}
 use Rattle.htl_refine.specs.ConcreteJobs.{running_invs}
 use Rattle.htl_refine.specs.Records.{modes_at}
 use Rattle.htl_refine.proofs.Exact.{chosen_exact_apart}

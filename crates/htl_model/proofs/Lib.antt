@@ -29,3 +29,5 @@ pub mod SelectionLaws
 pub mod Sources
 pub mod StartLaws
 pub mod Stays
+pub mod TestLaws
+pub mod NumbersBelow
