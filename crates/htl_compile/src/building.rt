@@ -12,7 +12,7 @@ use htl_ecode::generate_e;
 use htl_edf::{PlanFault, edf_nodes};
 use htl_model::{FormFault, Tables};
 use htl_object::Object;
-use htl_refine::all_rules;
+use htl_refine::try_rules;
 use std::alloc::Global;
 
 /// Why no object is built of tables.
@@ -71,7 +71,7 @@ pub fn back_for(
     ensures fault { IfErr result (λ e. (e.0 ≡ t) × IsBackFault t e.1) }
 {
     t.keeps_ranges();
-    if let Err(fault) = all_rules(&t) {
+    if let Err(fault) = try_rules(&t) {
         return Err((t, BackFault::IllFormed(fault)));
     }
     let schedules = match edf_nodes(alloc, &t) {

@@ -17,7 +17,7 @@ use htl_espell::spells;
 use htl_fcode::Verified;
 use htl_model::{FormFault, Function, Tables};
 use htl_object::Object;
-use htl_refine::all_rules;
+use htl_refine::try_rules;
 use htl_walk::{Miss, Schedule, worst_all};
 use std::marker::Model;
 
@@ -98,7 +98,7 @@ pub fn formed(o: Object) -> Result<FormedObject, (Object, ObjectFault)>
     ensures formed { IfOk result (λ f. (f ≡ o) × IsFormed o) }
     ensures fault { IfErr result (λ e. (e.0 ≡ o) × IsFormFault o e.1) }
 {
-    match all_rules(&o.tables) {
+    match try_rules(&o.tables) {
         Ok(()) => Ok(FormedObject { object: o }),
         Err(fault) => Err((o, ObjectFault::IllFormed(fault))),
     }

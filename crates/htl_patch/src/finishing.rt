@@ -12,7 +12,7 @@ use htl_ecode::generate_e;
 use htl_load::{FormedObject, Loaded, ObjectFault, inherit, spelled};
 use htl_model::{FormFault, Tables};
 use htl_object::Object;
-use htl_refine::all_rules;
+use htl_refine::try_rules;
 use htl_walk::{SInstr, Schedule};
 use std::alloc::{AllocError, Global};
 
@@ -83,7 +83,7 @@ pub(crate) fn accept(alloc: Global, o: &Loaded, t: Tables) -> Result<Loaded, Pat
 {
     t.keeps_ranges();
     let _from = o.object();
-    if let Err(fault) = all_rules(&t) {
+    if let Err(fault) = try_rules(&t) {
         return Err(PatchStop::Refused(PatchFault::IllFormed(fault), Some(t)));
     }
     let object = match relaid(alloc, o, t) {

@@ -1,5 +1,5 @@
--- Tables that keep the rules 1 to 12 have one first fault at most, and keeping the rules up to 16 is keeping all.
-use Rattle.std.proofs.Common.{◌≡◌, ℕ, ◌≤◌, ◌<◌, ◌⊎◌, inl, inr, Option, Some, sym, ◌∙◌, ap, subst, arith}
+-- Tables in range have one first fault at most, and keeping the rules up to 16 is keeping all.
+use Rattle.std.proofs.Common.{◌≡◌, ℕ, ◌≤◌, ◌<◌, ◌⊎◌, inl, inr, Option, Some, Result, Ok, Err, OnOk, sym, ◌∙◌, ap, subst, arith}
 use Rattle.std.specs.Prelude.{slice_get}
 use Rattle.htl_model.specs.declared.form_fault.FormFault.{FormFault}
 use Rattle.htl_model.specs.declared.parts.Mode.{Mode}

@@ -26,7 +26,7 @@ pub fn refine(t: &Tables) -> Result<(), FormFault>
 }
 
 /// Tries all form rules, 1 to 16. A fault comes exactly where one of them is broken, and tells the first that is. It takes no memory.
-pub fn all_rules(t: &Tables) -> Result<(), FormFault>
+pub fn try_rules(t: &Tables) -> Result<(), FormFault>
     ensures formed { OnOk result (Formed t.now) }
     ensures broken { IfErr result (IsFirstBroken t.now) }
 {
