@@ -1,7 +1,7 @@
 use Rattle.std.proofs.Common.{◌≡◌, ℕ, ◌<◌, length, get_or, take}
 use Rattle.std.specs.Prelude.{count_by}
 use Rattle.htl_model.specs.Selections.{inv_of_mode}
-use Rattle.htl_top.proofs.positions.count_invs.Given as goal
+use Rattle.htl_model.proofs.items.count_invs.Given as goal
 
 abbrev pub invariant-loop-k : goal.invariant-loop-k
 invariant-loop-k l =
