@@ -4,6 +4,7 @@ pub mod CommonMultiples
 pub mod CycleLaws
 pub mod EndLaws
 pub mod Finding
+pub mod FrameLaws
 pub mod Judging
 pub mod OneFault
 pub mod OwnerLaws

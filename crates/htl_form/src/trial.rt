@@ -5,8 +5,9 @@ use crate::ends::{
     count_fault, input_types, output_types, read_offset_fault, sensor_fault, type_fault,
     write_offset_fault,
 };
+use crate::frame_rule::frame_fault;
 use crate::overview::Overview;
-use crate::periods::{divides_fault, end_divides_fault, module_period_fault, root_period_fault};
+use crate::periods::{divides_fault, end_divides_fault, module_period_fault};
 use crate::ports::{rewritten_fault, unwritten_fault};
 use crate::rule::Rule;
 use crate::windows::{window_fault, worst_case_fault};
@@ -42,10 +43,10 @@ impl Tries<Rule> for Overview {
     }
 
     // What the rule finds at a mode itself.
-    fn of_mode(t: &Tables, rule: Rule, m: u16, mode: &Mode) -> Option<(u64, u64)> {
+    fn of_mode(&self, t: &Tables, rule: Rule, m: u16, mode: &Mode) -> Option<(u64, u64)> {
         match rule {
             Rule::ModulePeriod => module_period_fault(t, mode),
-            Rule::RootPeriod => root_period_fault(t, m, mode),
+            Rule::FrameLimits => frame_fault(t, self.frame, m),
             _ => None,
         }
     }

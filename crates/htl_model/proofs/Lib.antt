@@ -9,6 +9,7 @@ pub mod FirstLaws
 pub mod FormExamples
 pub mod FrameBuild
 pub mod FrameLimits
+pub mod FrameLists
 pub mod FrameRules
 pub mod FrameSteps
 pub mod Laws

@@ -41,7 +41,8 @@ pub trait Tries<R: Copy> {
         ensures { result ≡ false → (t : TablesOf) (m c : ℕ) → (tests t rule).test m c ≡ None };
 
     /// What the rule finds at a mode itself.
-    fn of_mode(t: &Tables, rule: R, m: u16, mode: &Mode) -> Option<(u64, u64)>
+    fn of_mode(&self, t: &Tables, rule: R, m: u16, mode: &Mode) -> Option<(u64, u64)>
+        requires { counted t.now self.now }
         ensures { result ≡ (tests t.now rule).mode m mode.now };
 
     /// What it finds at a communicator that a switch of a mode reads.
@@ -201,10 +202,17 @@ fn first_switch<R: Copy, C: Tries<R>>(t: &Tables, rule: R, m: u16) -> Option<(u6
 }
 
 // What the rule finds at a mode: with itself, a switch.
-fn at_mode<R: Copy, C: Tries<R>>(t: &Tables, rule: R, m: u16, mode: &Mode) -> Option<(u64, u64)>
+fn at_mode<R: Copy, C: Tries<R>>(
+    t: &Tables,
+    counts: &C,
+    rule: R,
+    m: u16,
+    mode: &Mode,
+) -> Option<(u64, u64)>
+    requires { C.counted t.now counts.now }
     ensures { result ≡ at_mode_of (C.tests t.now rule) t.now m mode.now }
 {
-    if let Some(found) = C::of_mode(t, rule, m, mode) {
+    if let Some(found) = counts.of_mode(t, rule, m, mode) {
         return Some(found);
     }
     first_switch::<R, C>(t, rule, m)
@@ -298,7 +306,7 @@ fn in_mode<R: Copy, C: Tries<R>>(
     if let Some(fault) = first_inv(t, counts, rule, site) {
         return Some(fault);
     }
-    let found = at_mode::<R, C>(t, rule, site.mode, mode);
+    let found = at_mode(t, counts, rule, site.mode, mode);
     told(C::number(rule), site.module, site.mode, None, found)
 }
 
