@@ -16,7 +16,7 @@ use Rattle.htl_refine.proofs.SearchLaws.{judges}
 
 last_number : (r : FormRule) → number_of r ≤ 16
 last_number law.ModulePeriod = omega arith
-last_number law.RootPeriod = omega arith
+last_number law.FrameLimits = omega arith
 last_number law.Divides = omega arith
 last_number law.Offsets = omega arith
 last_number law.Ends = omega arith

@@ -32,7 +32,7 @@ impl Tries<Rule> for Order {
         false
     }
 
-    fn of_mode(_t: &Tables, _rule: Rule, _m: u16, _mode: &Mode) -> Option<(u64, u64)> {
+    fn of_mode(&self, _t: &Tables, _rule: Rule, _m: u16, _mode: &Mode) -> Option<(u64, u64)> {
         None
     }
 

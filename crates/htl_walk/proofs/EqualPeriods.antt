@@ -50,24 +50,16 @@ decided t (u ∷ us) result roots some is = (one, back)
         let all : AllHave t h.0 (u ∷ us) = subst (AllHave t h.0) (sym roots) h.1 in
         is ∙ list_from_all t (unit_period t u) (u ∷ us) (subst (λ (q : ℕ). AllHave t q (u ∷ us)) (sym all.0) all)
 
--- without root modules there is nothing to have one
-pub none_have : (t : Tables) → length (root_modules t) ≡ 0 → RootsHaveOnePeriod t
-none_have t e = by (root_modules t) e
-  where
-    by : (us : List ℕ) → length us ≡ 0 → (p : ℕ) × AllHave t p us
-    by [] e = (0, tt)
-    by (u ∷ us) e = absurd (omega (arith, e))
-
 -- ---- the round
 
-module _ (t : Tables) (r : AreInRange t) (kept : KeptApart t 12) where
-  pub root_at : (j u : ℕ) → slice_get (root_modules t) j ≡ Some u → IsRootAt t u
-  root_at j u e = let h = place_passes_0 is_root j u t.modules e in record { owner = h.0; at = h.1; root = h.2 }
+pub root_at : (t : Tables) (j u : ℕ) → slice_get (root_modules t) j ≡ Some u → IsRootAt t u
+root_at t j u e = let h = place_passes_0 is_root j u t.modules e in record { owner = h.0; at = h.1; root = h.2 }
 
+module _ (t : Tables) (r : AreInRange t) (kept : KeptApart t 12) where
   -- the round has the period of the first root module
-  first_round : (u : ℕ) → slice_get (root_modules t) 0 ≡ Some u → (round_length t ≡ unit_period t u) × (0 < round_length t) × (round_length t ≤ 1000000)
+  pub first_round : (u : ℕ) → slice_get (root_modules t) 0 ≡ Some u → (round_length t ≡ unit_period t u) × (0 < round_length t) × (round_length t ≤ 1000000)
   first_round u e =
-      let root = root_at 0 u e in
+      let root = root_at t 0 u e in
       let f = first_own t u r (module_below t u root) in
       let m : ℕ = get_or (modes_of t u) 0 0 in
       let first : m ≡ f.0 = get_or_from_slice_get (modes_of t u) 0 f.0 0 f.2 in

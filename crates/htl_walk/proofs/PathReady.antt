@@ -44,7 +44,7 @@ mode_there t k i r at =
     let inv : IsInvInRange t i = all_at (IsInvInRange t) t.invs r.invs k i at in
     elim (slice_get_cases t.modes i.mode).1 [ inl c ↦ (c.0, c.2) | inr c ↦ absurd (omega (arith, c.0, inv.owner)) ]
 
-window_some : (t : Tables) (k : ℕ) (i : Inv) → AreInRange t → KeptApart t 12 → slice_get t.invs k ≡ Some i → release t i < window_end t i
+pub window_some : (t : Tables) (k : ℕ) (i : Inv) → AreInRange t → KeptApart t 12 → slice_get t.invs k ≡ Some i → release t i < window_end t i
 unfolding inv_site
 window_some t k i r kept at =
     let x = mode_there t k i r at in
@@ -73,7 +73,7 @@ write_within t k i r kept at j c n end =
       | inr within ↦ within
     ]
 
-window_within : (t : Tables) (k : ℕ) (i : Inv) → AreInRange t → KeptApart t 12 → slice_get t.invs k ≡ Some i → window_end t i ≤ mode_period t i.mode
+pub window_within : (t : Tables) (k : ℕ) (i : Inv) → AreInRange t → KeptApart t 12 → slice_get t.invs k ≡ Some i → window_end t i ≤ mode_period t i.mode
 window_within t k i r kept at = least_within t (mode_period t i.mode) i.writes (write_within t k i r kept at)
 
 -- the window of an invocation is a tick long at least, and ends within a million ticks
@@ -84,7 +84,7 @@ window_small t k i r kept at =
     let is : mode_period t i.mode ≡ x.0.period = ap (λ (o : Option Mode). elim o as (λ _. ℕ) [ Some y ↦ y.period | None ↦ 0 ]) x.1 in
     (window_some t k i r kept at, omega (arith, window_within t k i r kept at, is, range.period.most))
 
-worst_span : (t : Tables) (k : ℕ) (i : Inv) → AreInRange t → slice_get t.invs k ≡ Some i → IsSpan (task_worst t i.task)
+pub worst_span : (t : Tables) (k : ℕ) (i : Inv) → AreInRange t → slice_get t.invs k ≡ Some i → IsSpan (task_worst t i.task)
 worst_span t k i r at =
     let inv : IsInvInRange t i = all_at (IsInvInRange t) t.invs r.invs k i at in
     let range : IsTaskInRange t inv.task.0 = all_at (IsTaskInRange t) t.tasks r.tasks i.task inv.task.0 inv.task.1 in
