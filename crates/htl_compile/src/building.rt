@@ -22,7 +22,7 @@ pub enum BackFault {
     IllFormed(FormFault),
     /// No form rule is broken, and a path is overloaded.
     Unschedulable {
-        /// The number of the first such path: while all root modules have one period, of the root selection.
+        /// The number of the first such path; where all root modules have one period, that of the root selection.
         selection: u32,
         /// The overloaded interval, in ticks from the start of the frame: of those with the greatest end the one with the
         /// least beginning.

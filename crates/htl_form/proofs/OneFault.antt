@@ -141,7 +141,7 @@ one_broken t range r s h n a c y z =
 
 -- ---- one fault
 
-one_law : (l m : FormRule) → number_of l ≡ number_of m → number_of m ≤ 12 → l ≡ m
+pub one_law : (l m : FormRule) → number_of l ≡ number_of m → number_of m ≤ 12 → l ≡ m
 one_law l m e few =
     let r = place_of m few in
     let s = place_of l (omega (arith, e, few)) in

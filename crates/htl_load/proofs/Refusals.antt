@@ -1,14 +1,17 @@
--- An accepted object has no fault, and an object in range has one first fault at most.
+-- An accepted object has no fault, and an object in range has one first fault at most, which is never that of the limits of frames.
 use Rattle.std.proofs.Common.{◌≡◌, ◌≤◌, ◌<◌, ◌⊎◌, ℕ, List, Option, Some, None, sym, ◌∙◌, ap, subst, arith, inl, inr}
 use Rattle.htl_ecode.proofs.SpellingLaws.{spells_or_departs}
 use Rattle.htl_ecode.specs.Departure.{departure}
 use Rattle.htl_ecode.specs.declared.fault.EFault.{EFault}
+use Rattle.htl_form.proofs.OneFault.{one_law}
 use Rattle.htl_object.specs.Accepted.{IsSpelled}
-use Rattle.htl_load.specs.Laws.{AcceptedIsNotRefused, OneFault}
+use Rattle.htl_load.specs.Laws.{AcceptedIsNotRefused, OneFault, NoFrameFault}
 use Rattle.htl_load.specs.Unfit.{IsFirstUnfit}
 use Rattle.htl_load.specs.declared.fault.ObjectFault.{ObjectFault}
 use Rattle.htl_load.specs.declared.fault.ObjectFault.TheVariants as fault
-use Rattle.htl_model.specs.Broken.{Formed, KeptTo, IsFirstBroken, site_of}
+use Rattle.htl_model.proofs.FrameRules.{frames_unbroken}
+use Rattle.htl_model.specs.Broken.{Broken, Formed, KeptTo, IsFirstBroken, site_of}
+use Rattle.htl_model.specs.FormRules.{FormRule, FrameLimits}
 use Rattle.htl_model.specs.Ranges.{AreInRange}
 use Rattle.htl_model.specs.Tables.{Tables}
 use Rattle.htl_model.specs.declared.form_fault.FormFault.{FormFault}
@@ -41,6 +44,12 @@ accepted_is_not_refused o (fault.IllFormed f) a h = not_formed o.tables f a.spel
 accepted_is_not_refused o (fault.Function k) a h = h.1.here (a.spelled.functions k)
 accepted_is_not_refused o (fault.ECode e) a h = not_spelled o e a.spelled h.1.1
 accepted_is_not_refused o (fault.Schedule path m) a h = h.1.refused (a.feasible path h.1.within)
+
+-- the limits of frames are those of an object in range
+pub no_frame_fault : NoFrameFault
+no_frame_fault o f range b two =
+    let law : b.law ≡ FrameLimits = one_law b.law FrameLimits (sym b.rule ∙ two) (omega arith) in
+    frames_unbroken o.tables range.frames (site_of f b.part) f.have f.need (subst (λ (r : FormRule). Broken o.tables r (site_of f b.part) f.have f.need) law b.broken)
 
 -- ---- one first fault
 

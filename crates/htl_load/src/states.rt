@@ -131,7 +131,7 @@ fn walked(o: &Object) -> Result<(), (u32, Miss)>
 }
 
 /// Tests the schedules. A refusal comes exactly where the worst-case walk of some path isn't accepted: it hands the object back
-/// unchanged, with the first such path and the first miss of its walk. While all root modules have one period, paths are root
+/// unchanged, with the first such path and the first miss of its walk. Where all root modules have one period, paths are root
 /// selections. It takes no memory.
 pub fn scheduled(s: SpelledObject) -> Result<Loaded, (Object, ObjectFault)>
     ensures loaded { IfOk result (λ l. (l ≡ s) × IsAccepted s) }

@@ -6,8 +6,8 @@ use Rattle.std.proofs.lemmas.Option.{slice_get-get_or}
 use Rattle.std.proofs.Math.Nat.{mul-div_assoc, dvd-mul_left, mod_self}
 use Rattle.std.proofs.lemmas.Nat.Gcd.{dvd_trans, dvd_of_mod-eq-zero, mod-eq-zero_of_dvd}
 use Rattle.htl_model.specs.declared.parts.Mode.{Mode}
-use Rattle.htl_model.specs.Broken.{KeptTo}
-use Rattle.htl_model.specs.FormRules.{FrameLimits, Itself}
+use Rattle.htl_model.specs.Broken.{breach, BreaksAt, Broken, KeptTo}
+use Rattle.htl_model.specs.FormRules.{FrameLimits, Part, Itself, Input, Output, Test, Site}
 use Rattle.htl_model.specs.FrameRules.{KeptApart}
 use Rattle.htl_model.specs.Frames.{gcd_in, common_multiple, multiple_of, frame_of, unit_period, too_long, other_limit, frame_limit}
 use Rattle.htl_model.specs.PeriodRules.{first_mode}
@@ -109,6 +109,20 @@ frames_kept t last r few kept = by (frame_limit t) refl
         let f = first_own t u r (let z : u < 0 + length t.modules = places_below is_root 0 root.0 u t.modules root.1 in omega (arith, z)) in
         let limit : frame_limit t ≡ Some (f.1.«module», (p.1.0, p.1.1)) = e ∙ ap (λ (v : ℕ). Some (v, (p.1.0, p.1.1))) (sym f.4) in
         absurd (kept FrameLimits (record { mode = f.0; inv = None; part = Itself }) p.1.0 p.1.1 few (f.1, f.3, record { first = ap (first_mode t) f.4 ∙ f.2; limit = limit }))
+
+-- where none is exceeded the rule is broken nowhere
+pub frames_unbroken : (t : Tables) → frame_limit t ≡ None → (s : Site) (h n : ℕ) → Broken t FrameLimits s h n → ⊥
+frames_unbroken t none s h n broken = at s.inv s.part broken.2
+  where
+    at : (k : Option ℕ) (p : Part) → BreaksAt t (breach t FrameLimits) s.mode broken.0 k p h n → ⊥
+    at None Itself b = (let no : None ≡ Some (broken.0.«module», (h, n)) = sym none ∙ b.limit in cc)
+    at None (Input j) b = b
+    at None (Output j) b = b
+    at None (Test l j) b = b.5
+    at (Some k) Itself b = b.3
+    at (Some k) (Input j) b = b.3.2
+    at (Some k) (Output j) b = b.3.2
+    at (Some k) (Test l j) b = b.3
 
 -- Rules that are kept are kept but for that one.
 pub kept_apart : (t : Tables) (last : ℕ) → KeptTo t last → KeptApart t last
