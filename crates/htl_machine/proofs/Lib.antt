@@ -48,6 +48,7 @@ pub mod ListAdded
 pub mod ListValues
 pub mod ListsSoFar
 pub mod Tying
+pub mod SwitchPhase
 pub mod Pathing
 pub mod Shaping
 pub mod Following
