@@ -9,11 +9,12 @@ use Rattle.htl_walk.specs.declared.schedule.SInstr.TheVariants.{Dispatch, Idle, 
 use Rattle.htl_walk.specs.Walk.{Point, Left, job_at, begins, time_after, slice_between, slice_of, slice_onto, position_of, next_point, left_by, walk_from, is_position, slices, finish}
 use Rattle.htl_walk.proofs.Steps.{time_rises, left_falls}
 use Rattle.htl_refine.specs.Records.{shifted}
-use Rattle.htl_machine.specs.Served.{spent}
+use Rattle.htl_refine.specs.ServedJobs.{spent}
 use Rattle.htl_refine.specs.RecordCounts.{count_before, Rises}
 use Rattle.htl_refine.proofs.DoneRecords.{done_some}
 use Rattle.htl_refine.proofs.RecordOrder.{walk_rises}
-use Rattle.htl_machine.proofs.Serving.{slice_inside, spent_is}
+use Rattle.htl_refine.proofs.SliceOrder.{slice_inside}
+use Rattle.htl_refine.proofs.SliceSums.{spent_is}
 use Rattle.htl_machine.proofs.Standing.{some_same, none_some}
 use Rattle.htl_machine.proofs.Turning.{done_exactly}
 use Rattle.htl_audit.specs.declared.slice.Slice.{Slice}

@@ -6,7 +6,8 @@ use Rattle.htl_walk.specs.Jobs.{precedes}
 use Rattle.htl_walk.specs.Walk.{Left, job_at, first_point, is_position, slice_onto, slices, finish, AllWithin, Meets}
 use Rattle.htl_walk.proofs.Work.{job_is, job_there, work_some, work_present}
 use Rattle.htl_refine.specs.Records.{Round as Plan, walk_of}
-use Rattle.htl_machine.proofs.Serving.{slices_apart, spent_is}
+use Rattle.htl_refine.proofs.SliceOrder.{slices_apart}
+use Rattle.htl_refine.proofs.SliceSums.{spent_is}
 use Rattle.htl_machine.proofs.Standing.{some_same, none_some}
 use Rattle.htl_audit.specs.declared.slice.Slice.{Slice}
 use Rattle.htl_audit.specs.Jobs.{Round}

@@ -20,7 +20,6 @@ pub mod Leaving
 pub mod Recording
 pub mod Readying
 pub mod Sensing
-pub mod Serving
 pub mod Carrying
 pub mod Placing
 pub mod FrameCasts
@@ -58,7 +57,6 @@ pub mod Writing
 pub mod Retelling
 pub mod Showing
 pub mod Advancing
-pub mod Headline
 pub mod Releasing
 pub mod Instants
 pub mod Meeting
@@ -72,7 +70,11 @@ pub mod TellingLines
 pub mod TellingText
 pub mod LineBytes
 pub mod JobLines
-pub mod RoundJobLines
+pub mod RecordTimes
+pub mod PositionRecords
+pub mod WorkingRecords
+pub mod FrameLines
+pub mod JobRounds
 pub mod JobTimes
 pub mod Loaded
 pub mod Accepted

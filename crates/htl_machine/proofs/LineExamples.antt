@@ -68,5 +68,5 @@ cut_and_chosen = refl
 abbrev first : Job
 first = record { present = true; inv = 0; release = 0; end = 10; worst = 7; preds = 0 }
 
-first_is_told : IsToldInTime interrupted 0 10 first 7
+first_is_told : IsToldInTime interrupted 0 10 0 first 7
 first_is_told = record { done_at = 10; done = refl; in_time = omega arith; within = (omega arith, omega arith, (omega arith, omega arith, tt)); whole = refl }
