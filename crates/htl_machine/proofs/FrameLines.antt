@@ -1,7 +1,7 @@
 -- The job lines of a run that count within a frame are those of the frame's own records.
 use Rattle.std.proofs.Common.{◌≡◌, ◌≢◌, ◌≤◌, ◌<◌, ◌⊎◌, inl, inr, ℕ, zero, suc, ◌+◌, ◌-◌, ◌*◌, ◌/◌, ◌%◌, Bool, true, false, cond, ◌&&◌, eqb, ltb, leb, List, [], ◌∷◌, ◌++◌, map, slice_get, Option, Some, None, option_map, refl, sym, ap, ap₂, ◌∙◌, arith, append-nil}
 use Rattle.std.specs.List.{filter}
-use Rattle.std.proofs.Math.Nat.{div-add-mod, mod-lt}
+use Rattle.std.proofs.Math.Nat.{div-add-mod, mod-lt, mul-le-mul_right}
 use Rattle.std.proofs.lemmas.Bool.{eqb-true, le-ltb, ltb-true, ltb-false, leb-true}
 use Rattle.htl_model.specs.declared.event.Event.{Event}
 use Rattle.htl_model.specs.Frames.{node}
@@ -22,7 +22,7 @@ use Rattle.htl_machine.specs.Texts.{inv_at}
 use Rattle.htl_machine.proofs.JobLines.{none_first, begins_silent, joined-up_to}
 use Rattle.htl_machine.proofs.LineBytes.{both_true}
 use Rattle.htl_machine.proofs.Printing.{joined-append}
-use Rattle.htl_machine.proofs.RecordTimes.{joined_none, at_now, before_now, in_order}
+use Rattle.htl_machine.proofs.RecordTimes.{nothing, joined_none, at_now, before_now, in_order}
 use Rattle.htl_machine.proofs.Telling.{up_to_none}
 use Rattle.htl_machine.proofs.TellingLists.{silent_at}
 use Rattle.htl_machine.proofs.WorkingRecords.{DoesWork}
@@ -32,9 +32,6 @@ use Rattle.htl_machine.proofs.WorkingRecords.{DoesWork}
 three : (k n : ℕ) → (k < n) ⊎ ((k ≡ n) ⊎ (n < k))
 three k n = grind arith
 
-grow : (h a b : ℕ) → a ≤ b → a * h ≤ b * h
-grow h a b l = grind arith
-
 -- where frame n isn't one of those that began before, the instant is no later than its start
 not_begun : (h n now : ℕ) → 0 < h → rounds_before h now ≤ n → now ≤ n * h
 not_begun h n now some few =
@@ -42,15 +39,15 @@ not_begun h n now some few =
     let whole : h * b + (now + h - 1) % h ≡ now + h - 1 = div-add-mod (now + h - 1) h in
     let rest : (now + h - 1) % h < h = mod-lt (now + h - 1) some in
     let turn : h * b ≡ b * h = grind arith in
-    let most : b * h ≤ n * h = grow h b n few in
+    let most : b * h ≤ n * h = mul-le-mul_right h few in
     omega (arith, whole, rest, turn, most, some)
 
 -- frames that have an instant in common are one
 frames_apart : (h k n at : ℕ) → k ≢ n → k * h < at → at ≤ k * h + h → n * h < at → at ≤ n * h + h → ⊥
 frames_apart h k n at other a b c d = elim (three k n) [
-  | inl less ↦ let next : suc k * h ≤ n * h = grow h (suc k) n less in let is : suc k * h ≡ k * h + h = grind arith in omega (arith, next, is, b, c)
+  | inl less ↦ let next : suc k * h ≤ n * h = mul-le-mul_right h less in let is : suc k * h ≡ k * h + h = grind arith in omega (arith, next, is, b, c)
   | inr (inl same) ↦ other same
-  | inr (inr more) ↦ let next : suc n * h ≤ k * h = grow h (suc n) k more in let is : suc n * h ≡ n * h + h = grind arith in omega (arith, next, is, a, d)
+  | inr (inr more) ↦ let next : suc n * h ≤ k * h = mul-le-mul_right h more in let is : suc n * h ≡ n * h + h = grind arith in omega (arith, next, is, a, d)
 ]
 
 up_to_one : {X : Type 0} (g : ℕ → List X) (n m : ℕ) → ((k : ℕ) → k ≢ n → g k ≡ []) → (m ≤ n → g n ≡ []) → up_to g m ≡ g n
@@ -62,10 +59,6 @@ up_to_one {X} g n (suc m) other late = elim (three m n) [
 ]
 
 -- ---- the lines of a frame's lists
-
-nothing : {X : Type 0} (b : Bool) → cond {A = List X} b [] [] ≡ []
-nothing true = refl
-nothing false = refl
 
 module _ {X : Type 0} (h : RunLine → List X) where
   -- what a record of a frame from f gives

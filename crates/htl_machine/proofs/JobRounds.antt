@@ -1,6 +1,6 @@
 -- The round of a job of a frame: its window lies in it, and its invocation has no other job there.
 use Rattle.std.proofs.Common.{◌≡◌, ◌≤◌, ◌<◌, ◌⊎◌, inl, inr, ℕ, suc, ◌+◌, ◌-◌, ◌*◌, ◌/◌, true, List, map, get_or, slice_get, Option, Some, None, refl, sym, ap, ap₂, ◌∙◌, arith}
-use Rattle.std.proofs.Math.Nat.{mul_comm, mul-div_cancel_left}
+use Rattle.std.proofs.Math.Nat.{mul_comm, mul-div_cancel_left, mul-le-mul_left}
 use Rattle.std.proofs.lemmas.Option.{get_or_from_slice_get}
 use Rattle.htl_model.specs.declared.event.Event.{Event}
 use Rattle.htl_model.specs.declared.frame.Place.{Place}
@@ -18,16 +18,16 @@ use Rattle.htl_refine.proofs.Inherit.{mapped}
 use Rattle.htl_refine.proofs.PathDerived.{placed_present}
 use Rattle.htl_refine.proofs.PlaceOrder.{places_ordered}
 use Rattle.htl_machine.specs.JobTimes.{job_round, inv_period}
-use Rattle.htl_machine.proofs.FramePlaced.{at_place_is, grow}
+use Rattle.htl_machine.proofs.FramePlaced.{at_place_is}
 use Rattle.htl_machine.proofs.Standing.{some_same}
 use Rattle.htl_machine.proofs.Windows.{window_within}
 
 -- rounds of one period that have an instant in common are one
 one_round : (per a b at : ℕ) → per * a < at → at ≤ per * a + per → per * b < at → at ≤ per * b + per → a ≡ b
 one_round per a b at low high low' high' = elim (three a b) [
-  | inl less ↦ let next : per * suc a ≤ per * b = grow per (suc a) b less in let is : per * suc a ≡ per * a + per = grind arith in absurd (omega (arith, next, is, high, low'))
+  | inl less ↦ let next : per * suc a ≤ per * b = mul-le-mul_left per less in let is : per * suc a ≡ per * a + per = grind arith in absurd (omega (arith, next, is, high, low'))
   | inr (inl same) ↦ same
-  | inr (inr more) ↦ let next : per * suc b ≤ per * a = grow per (suc b) a more in let is : per * suc b ≡ per * b + per = grind arith in absurd (omega (arith, next, is, high', low))
+  | inr (inr more) ↦ let next : per * suc b ≤ per * a = mul-le-mul_left per more in let is : per * suc b ≡ per * b + per = grind arith in absurd (omega (arith, next, is, high', low))
 ]
   where
     three : (a b : ℕ) → (a < b) ⊎ ((a ≡ b) ⊎ (b < a))

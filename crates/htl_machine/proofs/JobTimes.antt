@@ -1,5 +1,5 @@
 -- The job lines of a run show each job whose window ended: one d line in time, and j lines in its window for all its ticks.
-use Rattle.std.proofs.Common.{◌≡◌, ◌≤◌, ◌<◌, ◌⊎◌, inl, inr, ℕ, zero, suc, ◌+◌, ◌*◌, Bool, true, false, cond, ◌&&◌, eqb, ltb, leb, List, [], ◌∷◌, ◌++◌, length, map, slice_get, get_or, Option, Some, None, option_map, refl, sym, ap, ap₂, ◌∙◌, subst, arith, append-nil}
+use Rattle.std.proofs.Common.{◌≡◌, ◌≤◌, ◌<◌, inl, inr, ℕ, suc, ◌+◌, ◌*◌, Bool, true, false, ◌&&◌, eqb, ltb, leb, List, [], ◌∷◌, length, map, slice_get, get_or, Option, Some, None, refl, sym, ap, ap₂, ◌∙◌, subst, arith}
 use Rattle.std.specs.List.{flat_map}
 use Rattle.std.proofs.lemmas.Bool.{eqb-true, eqb-false, eq-eqb, lt-ltb, ltb-true, le-leb, leb-true}
 use Rattle.htl_model.specs.declared.event.Event.{Event}
@@ -9,112 +9,28 @@ use Rattle.htl_model.specs.Selections.{root_modules}
 use Rattle.htl_model.specs.Tables.{Tables}
 use Rattle.htl_walk.specs.declared.job.Job.{Job}
 use Rattle.htl_walk.specs.declared.schedule.SInstr.{SInstr}
-use Rattle.htl_walk.specs.Walk.{Left, job_at, slices, is_position, first_point, AllWithin}
+use Rattle.htl_walk.specs.Walk.{Left, job_at, slices, first_point, AllWithin}
 use Rattle.htl_walk.proofs.Work.{work_some, job_there, job_is}
 use Rattle.htl_refine.specs.DerivedPaths.{derived_jobs}
 use Rattle.htl_refine.specs.FrameRuns.{Frame, frame_modes, frame_at, running_places, walk_of}
 use Rattle.htl_refine.specs.Records.{AreTookWithin}
-use Rattle.htl_refine.specs.ServedFrames.{IsServing, IsFeasibleRun}
-use Rattle.htl_refine.specs.ServedJobs.{spent, Finishes, IsServed, AllServed}
+use Rattle.htl_refine.specs.ServedFrames.{IsFeasibleRun}
+use Rattle.htl_refine.specs.ServedJobs.{spent, IsServed}
 use Rattle.htl_refine.proofs.RecordOrder.{path_rises}
 use Rattle.htl_refine.proofs.ServedFrames.{frames_are_served, every_job_in_time}
 use Rattle.htl_machine.specs.Follows.{IsLoaded}
-use Rattle.htl_machine.specs.JobLines.{RunLine, slice_of, job_lines_at, job_lines_to}
+use Rattle.htl_machine.specs.JobLines.{RunLine, job_lines_at, job_lines_to}
 use Rattle.htl_machine.specs.JobLines.RunLine.{SliceLine, DoneLine}
 use Rattle.htl_machine.specs.JobTimes.{is_in, done_time, slice_time, job_round, inv_period, IsToldInTime, AllToldInTime}
-use Rattle.htl_machine.specs.Texts.{inv_at}
 use Rattle.htl_machine.proofs.FrameLines.{owed, of_run}
 use Rattle.htl_machine.proofs.JobRounds.{IsPlaced, is_placed, only_job}
 use Rattle.htl_machine.proofs.LineBytes.{both_true}
 use Rattle.htl_machine.proofs.LoadedLists.{run_of}
-use Rattle.htl_machine.proofs.PositionRecords.{shift, shifted_slice, position_slice, position_done, all_slices, shifted_within, shifted_spent, within_at, done_once}
-use Rattle.htl_machine.proofs.Printing.{joined-append}
+use Rattle.htl_machine.proofs.OneRecord.{Count, slice_claim, done_claim, out_of}
+use Rattle.htl_machine.proofs.PositionRecords.{shift, position_slice, position_done, all_slices, shifted_within, shifted_spent, within_at, done_once}
 use Rattle.htl_machine.proofs.RecordTimes.{joined_each, before_now}
 use Rattle.htl_machine.proofs.Standing.{some_same, none_some}
 use Rattle.htl_machine.proofs.WorkingRecords.{DoesWork, works_in}
-
--- ---- the job lines of one record
-
-nothing : {X : Type 0} (b : Bool) → cond {A = List X} b [] [] ≡ []
-nothing true = refl
-nothing false = refl
-
-module _ (jobs : List Job) (f q n i start end : ℕ) where
-  -- lines at this offset are of a position, and count exactly where it is q
-  abbrev Count : ℕ → Option ℕ → Type 0
-  Count at o = (p : ℕ) × (o ≡ Some p) × (is_in i start end (job_at jobs p).inv (f + at) ≡ eqb p q)
-
-  abbrev lines_of : Left → List RunLine
-  lines_of l = slice_of (inv_at jobs l.position) (option_map (shift f) l.slice) ++ cond l.finished (DoneLine (f + l.at) (inv_at jobs l.position) ∷ []) []
-
-  -- what is left before n of something that only q gives
-  left_before : {X : Type 0} (at p : ℕ) (xs : List X) → (p ≡ q → f + at < n) → cond (ltb (f + at) n) (cond (eqb p q) xs []) [] ≡ cond (eqb p q) xs []
-  left_before {X} at p xs early = by (eqb p q) refl
-    where
-      by : (b : Bool) → eqb p q ≡ b → cond {A = List X} (ltb (f + at) n) (cond b xs []) [] ≡ cond b xs []
-      by true e = ap (λ (c : Bool). cond c xs []) (lt-ltb (f + at) n (early (eqb-true p q e)))
-      by false e = nothing (ltb (f + at) n)
-
-  no_slices : (fin : Bool) (at inv : ℕ) → joined (slice_time i start end) (cond fin (DoneLine at inv ∷ []) []) ≡ []
-  no_slices true at inv = refl
-  no_slices false at inv = refl
-
-  slice_claim : (at : ℕ) (o : Option ℕ) (sl : Option (ℕ × ℕ)) (fin : Bool) → ((u : ℕ × ℕ) → sl ≡ Some u → (u.1 ≡ at) × Count at o) → (o ≡ Some q → (u : ℕ × ℕ) → sl ≡ Some u → f + at < n)
-      → cond (ltb (f + at) n) (joined (slice_time i start end) (slice_of (inv_at jobs o) (option_map (shift f) sl) ++ cond fin (DoneLine (f + at) (inv_at jobs o) ∷ []) [])) []
-      ≡ cond (is_position o q) (shifted_slice f sl) []
-  slice_claim at o None fin works early =
-      ap (λ (xs : List (ℕ × ℕ)). cond (ltb (f + at) n) xs []) (no_slices fin (f + at) (inv_at jobs o)) ∙ nothing (ltb (f + at) n) ∙ sym (nothing (is_position o q))
-  slice_claim at None (Some u) fin works early = let w = works u refl in none_some w.1.0 w.1.1
-  slice_claim at (Some p) (Some u) fin works early =
-      let w = works u refl in
-      let inv = (job_at jobs p).inv in
-      let same : w.1.0 ≡ p = some_same _ _ (sym w.1.1) in
-      let test : is_in i start end inv (f + u.1) ≡ eqb p q =
-      ap (λ (z : ℕ). is_in i start end inv (f + z)) w.0 ∙ ap (λ (z : ℕ). is_in i start end (job_at jobs z).inv (f + at)) (sym same) ∙ w.1.2 ∙ ap (λ (z : ℕ). eqb z q) same in
-      ap (λ (xs : List (ℕ × ℕ)). cond (ltb (f + at) n) xs [])
-      (ap₂ (λ (b : Bool) (xs : List (ℕ × ℕ)). cond b (shift f u ∷ []) [] ++ xs) test (no_slices fin (f + at) inv) ∙ append-nil (cond (eqb p q) (shift f u ∷ []) []))
-      ∙ left_before at p (shift f u ∷ []) (λ e. early (ap (λ (z : ℕ). Some z) e) u refl)
-
-  no_dones : (inv : ℕ) (sl : Option (ℕ × ℕ)) → joined (done_time i start end) (slice_of inv (option_map (shift f) sl)) ≡ []
-  no_dones inv (Some u) = refl
-  no_dones inv None = refl
-
-  done_claim : (at : ℕ) (o : Option ℕ) (sl : Option (ℕ × ℕ)) (fin : Bool) → (fin ≡ true → Count at o) → (o ≡ Some q → fin ≡ true → f + at < n)
-      → cond (ltb (f + at) n) (joined (done_time i start end) (slice_of (inv_at jobs o) (option_map (shift f) sl) ++ cond fin (DoneLine (f + at) (inv_at jobs o) ∷ []) [])) []
-      ≡ cond (is_position o q && fin) ((f + at) ∷ []) []
-  done_claim at o sl false works early =
-      let empty : joined (done_time i start end) (slice_of (inv_at jobs o) (option_map (shift f) sl) ++ []) ≡ [] =
-      joined-append (done_time i start end) (slice_of (inv_at jobs o) (option_map (shift f) sl)) [] ∙ ap (λ (xs : List ℕ). xs ++ []) (no_dones (inv_at jobs o) sl) in
-      ap (λ (xs : List ℕ). cond (ltb (f + at) n) xs []) empty ∙ nothing (ltb (f + at) n) ∙ sym (never (is_position o q))
-    where
-      never : (b : Bool) → cond {A = List ℕ} (b && false) ((f + at) ∷ []) [] ≡ []
-      never true = refl
-      never false = refl
-  done_claim at None sl true works early = let w = works refl in none_some w.0 w.1
-  done_claim at (Some p) sl true works early =
-      let w = works refl in
-      let inv = (job_at jobs p).inv in
-      let same : w.0 ≡ p = some_same _ _ (sym w.1) in
-      let test : is_in i start end inv (f + at) ≡ eqb p q = ap (λ (z : ℕ). is_in i start end (job_at jobs z).inv (f + at)) (sym same) ∙ w.2 ∙ ap (λ (z : ℕ). eqb z q) same in
-      let one : joined (done_time i start end) (slice_of inv (option_map (shift f) sl) ++ (DoneLine (f + at) inv ∷ [])) ≡ cond (eqb p q) ((f + at) ∷ []) [] =
-      joined-append (done_time i start end) (slice_of inv (option_map (shift f) sl)) (DoneLine (f + at) inv ∷ [])
-      ∙ ap₂ (λ (xs : List ℕ) (b : Bool). xs ++ (cond b ((f + at) ∷ []) [] ++ [])) (no_dones inv sl) test
-      ∙ append-nil (cond (eqb p q) ((f + at) ∷ []) []) in
-      ap (λ (xs : List ℕ). cond (ltb (f + at) n) xs []) one ∙ left_before at p ((f + at) ∷ []) (λ e. early (ap (λ (z : ℕ). Some z) e) refl)
-      ∙ ap (λ (b : Bool). cond b ((f + at) ∷ []) []) (sym (and_true (eqb p q)))
-    where
-      and_true : (b : Bool) → (b && true) ≡ b
-      and_true true = refl
-      and_true false = refl
-
-out_of : {X : Type 0} (i inv : ℕ) (b : Bool) (xs : List X) → b ≡ false → cond (eqb inv i && b) xs [] ≡ []
-out_of i inv b xs e = ap (λ (c : Bool). cond (eqb inv i && c) xs []) e ∙ by (eqb inv i)
-  where
-    by : (c : Bool) → cond (c && false) xs [] ≡ []
-    by true = refl
-    by false = refl
-
--- ---- in a run
 
 module _ (t : Tables) (lists : List (List SInstr)) (es : List Event) (run : IsFeasibleRun t lists es) where
   abbrev frame : ℕ → Frame

@@ -75,6 +75,7 @@ pub mod PositionRecords
 pub mod WorkingRecords
 pub mod FrameLines
 pub mod JobRounds
+pub mod OneRecord
 pub mod JobTimes
 pub mod Loaded
 pub mod Accepted

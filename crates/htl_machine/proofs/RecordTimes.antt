@@ -7,6 +7,10 @@ use Rattle.htl_refine.specs.RecordCounts.{Rises}
 
 -- ---- what items give
 
+pub nothing : {X : Type 0} (b : Bool) → cond {A = List X} b [] [] ≡ []
+nothing true = refl
+nothing false = refl
+
 pub joined_each : {A X : Type 0} (f g : A → List X) (xs : List A) → ((i : ℕ) (x : A) → slice_get xs i ≡ Some x → f x ≡ g x) → joined f xs ≡ joined g xs
 joined_each f g [] each = refl
 joined_each {A} {X} f g (x ∷ xs) each = ap₂ (λ (ys zs : List X). ys ++ zs) (each 0 x refl) (joined_each f g xs (λ i y at. each (suc i) y at))

@@ -1,22 +1,15 @@
 -- The records of rounds that are left at an instant.
-use Rattle.std.proofs.Common.{◌≡◌, ◌<◌, ℕ, suc, ◌*◌, ◌/◌, false, List, [], length, Some, None, ◌∙◌, ap, subst, arith}
-use Rattle.std.specs.Prelude.{slice_get}
+use Rattle.std.proofs.Common.{◌≡◌, ◌<◌, ℕ, suc, ◌*◌, ◌/◌, List, [], length, ◌∙◌, ap, subst, arith}
 use Rattle.std.proofs.Math.Nat.{mul_comm, mul-div_cancel_left}
 use Rattle.htl_model.specs.declared.event.Event.{Event}
 use Rattle.htl_model.specs.Tables.{Tables}
-use Rattle.htl_walk.specs.declared.job.Job.{Job}
 use Rattle.htl_walk.specs.declared.schedule.SInstr.{SInstr}
-use Rattle.htl_walk.specs.Walk.{Point, Left, walk_from, first_point, InForm}
+use Rattle.htl_walk.specs.Walk.{first_point, InForm}
 use Rattle.htl_refine.specs.Records.{walk_of, round_at, left_at}
 use Rattle.htl_machine.specs.Rounds.{round_start}
 use Rattle.htl_machine.proofs.Loaded.{AreInForm}
 use Rattle.htl_machine.proofs.Desking.{times_within}
 use Rattle.htl_machine.proofs.Telling.{over, earlier_over}
-use Rattle.htl_machine.proofs.TellingLists.{silent_at}
-
--- a record that is left at offset 0 has no slice, and finishes nothing
-pub silent : (jobs : List Job) (is : List SInstr) (x : Point) (k : ℕ) (l : Left) → slice_get (walk_from jobs is x) k ≡ Some l → l.at ≡ 0 → (l.slice ≡ None) × (l.finished ≡ false)
-silent jobs is x k l at first = silent_at jobs is x 0 k l (omega arith) at first
 
 module _ (t : Tables) (schedules : List (List SInstr)) (es : List Event) (period : ℕ) (some : 0 < period) (form : AreInForm t schedules es period) where
   again : (k : ℕ) → round_start period (k * period) ≡ k * period
