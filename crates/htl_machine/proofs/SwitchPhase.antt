@@ -1,5 +1,5 @@
 -- The addresses of the switch phase leave the world as it is.
-use Rattle.std.proofs.Common.{◌≡◌, ℕ, suc, ◌+◌, ◌-◌, Bool, true, false, cond, eqb, List, [], ◌∷◌, ◌++◌, length, map, zero, ◌<◌, Option, Some, None, Result, Ok, Err, ℤ, inl, inr, refl, sym, ap, ◌∙◌}
+use Rattle.std.proofs.Common.{◌≡◌, ℕ, suc, ◌+◌, Bool, true, false, cond, eqb, List, [], ◌∷◌, ◌++◌, length, map, zero, ◌<◌, Option, Some, None, Result, Ok, Err, ℤ, inl, inr, refl, sym, ap, ◌∙◌}
 use Rattle.htl_model.specs.declared.state.Stay.{Stay}
 use Rattle.htl_model.specs.declared.state.State.{State}
 use Rattle.htl_model.specs.Lists.{joined, numbered, up_to}

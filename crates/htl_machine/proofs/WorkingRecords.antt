@@ -5,7 +5,7 @@ use Rattle.htl_walk.specs.declared.job.Job.{Job}
 use Rattle.htl_walk.specs.declared.schedule.SInstr.{SInstr}
 use Rattle.htl_walk.specs.declared.schedule.SInstr.TheVariants.{Dispatch, Idle, End}
 use Rattle.htl_walk.specs.Paths.{Leg, begun, walks_from, end_to_end}
-use Rattle.htl_walk.specs.Walk.{Point, Left, job_at, begins, time_after, work_after, slice_between, finishes_by, slice_of, next_point, left_by, walk_from, last_point}
+use Rattle.htl_walk.specs.Walk.{Point, Left, job_at, begins, time_after, work_after, slice_between, finishes_by, next_point, left_by, walk_from, last_point}
 use Rattle.htl_walk.proofs.Acceptance.{left_falls_to}
 use Rattle.htl_walk.proofs.Steps.{left_falls, left_same}
 use Rattle.htl_refine.proofs.RecordOrder.{get_in, get_past}
