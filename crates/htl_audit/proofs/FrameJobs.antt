@@ -1,5 +1,5 @@
 -- The jobs of a frame are those of the rounds that begin in it, and each frame of a run is sound.
-use Rattle.std.proofs.Common.{◌≡◌, ◌≤◌, ◌<◌, ◌⊎◌, inl, inr, ℕ, suc, ◌+◌, ◌-◌, ◌*◌, ◌/◌, ◌%◌, max, Bool, true, false, ◌&&◌, eqb, List, [], ◌∷◌, cond, length, get_or, map, take, slice_get, Option, Some, None, option_map, refl, sym, ap, ap₂, ◌∙◌, subst, arith}
+use Rattle.std.proofs.Common.{◌≡◌, ◌≤◌, ◌<◌, ◌⊎◌, inl, inr, ℕ, zero, suc, ◌+◌, ◌-◌, ◌*◌, ◌/◌, ◌%◌, max, Bool, true, false, ◌&&◌, eqb, List, [], ◌∷◌, cond, length, get_or, map, take, slice_get, Option, Some, None, option_map, refl, sym, ap, ap₂, ◌∙◌, subst, arith}
 use Rattle.std.proofs.Math.Nat.{div-add-mod, mul-mod_right, mul-div_cancel_left}
 use Rattle.std.proofs.lemmas.Bool.{eq-eqb}
 use Rattle.std.proofs.lemmas.Option.{get_or_from_slice_get, slice_get_within}
@@ -68,7 +68,7 @@ starts_there t a [] q r e = absurd (none_some r e)
 starts_there t a (u ∷ us) q r e = by (eqb (a % unit_period t u) 0) q e (starts_there t a us)
   where
     by : (b : Bool) (i : ℕ) → slice_get (cond b (record { at = a; unit = u } ∷ rounds_of t a us) (rounds_of t a us)) i ≡ Some r → ((i : ℕ) (r : FrameRound) → slice_get (rounds_of t a us) i ≡ Some r → r.at ≡ a) → r.at ≡ a
-    by true 0 g later = sym (ap (λ (z : FrameRound). z.at) (some_same _ _ g))
+    by true zero g later = sym (ap (λ (z : FrameRound). z.at) (some_same _ _ g))
     by true (suc i) g later = later i r g
     by false i g later = later i r g
 

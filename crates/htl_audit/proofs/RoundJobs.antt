@@ -55,7 +55,7 @@ module _ (t : Tables) (range : AreInRange t) (kept : KeptApart t 16) (rounds : H
   abbrev whose : List (Option ℕ)
   whose = map (chosen t (modes_at t es s)) (flat_map (running_invs t (modes_at t es s)) (beginning t s))
 
-  selection : IsSelection t (modes_at t es s)
+  abbrev selection : IsSelection t (modes_at t es s)
   selection = states_are_selections t range es s
 
   -- a job of the rounds that begin at s
