@@ -123,7 +123,7 @@ closed_is jobs s now k (l ∷ ls) = by (eqb (s + l.at) now) (own_is jobs s k l) 
     by true here next = ap₂ (λ (o : Option Slice) (xs : List Slice). onto o xs) here next
 
 -- nothing closes at an instant from a point on that isn't before it
-none_closed : (jobs : List Job) (s now : ℕ) (is : List SInstr) (x : Point) → now ≤ s + x.time → closed jobs s now (walk_from jobs is x) ≡ []
+pub none_closed : (jobs : List Job) (s now : ℕ) (is : List SInstr) (x : Point) → now ≤ s + x.time → closed jobs s now (walk_from jobs is x) ≡ []
 none_closed jobs s now [] x late = refl
 none_closed jobs s now (i ∷ is) x late =
     by (eqb (s + (next_point jobs i x).time) now) refl (position_of i) (slice_of jobs i x (next_point jobs i x).time) refl
