@@ -66,7 +66,6 @@ pub mod Timely
 pub mod Climbing
 pub mod Placed
 pub mod Telling
-pub mod TellingLines
 pub mod TellingText
 pub mod LineBytes
 pub mod JobLines
