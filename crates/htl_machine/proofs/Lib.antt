@@ -20,7 +20,6 @@ pub mod Leaving
 pub mod Recording
 pub mod Readying
 pub mod Sensing
-pub mod Serving
 pub mod Carrying
 pub mod Placing
 pub mod FrameCasts
@@ -48,6 +47,7 @@ pub mod ListAdded
 pub mod ListValues
 pub mod ListsSoFar
 pub mod Tying
+pub mod SwitchPhase
 pub mod Pathing
 pub mod Shaping
 pub mod Following
@@ -57,7 +57,6 @@ pub mod Writing
 pub mod Retelling
 pub mod Showing
 pub mod Advancing
-pub mod Headline
 pub mod Releasing
 pub mod Instants
 pub mod Meeting
@@ -67,11 +66,15 @@ pub mod Timely
 pub mod Climbing
 pub mod Placed
 pub mod Telling
-pub mod TellingLines
 pub mod TellingText
 pub mod LineBytes
 pub mod JobLines
-pub mod RoundJobLines
+pub mod RecordTimes
+pub mod PositionRecords
+pub mod WorkingRecords
+pub mod FrameLines
+pub mod JobRounds
+pub mod OneRecord
 pub mod JobTimes
 pub mod Loaded
 pub mod Accepted
