@@ -1,5 +1,5 @@
 -- An instant once its parts are done: what the calls said carries the machine to the next.
-use Rattle.std.proofs.Common.{◌≡◌, ◌≢◌, ℕ, zero, suc, ◌+◌, ◌-◌, take, drop, cond, ◌&&◌, leb, map, get_or, ◌⊎◌, ◌≤◌, ◌<◌, ◌^◌, Bool, true, false, eqb, List, [], ◌∷◌, ◌++◌, length, slice_get, Option, Some, None, ℤ, refl, sym, ap, ap₂, ◌∙◌, subst, arith, inl, inr}
+use Rattle.std.proofs.Common.{◌≡◌, ◌≢◌, ℕ, zero, suc, ◌+◌, ◌-◌, ◌%◌, take, drop, cond, ◌&&◌, leb, map, get_or, ◌⊎◌, ◌≤◌, ◌<◌, ◌^◌, Bool, true, false, eqb, List, [], ◌∷◌, ◌++◌, length, slice_get, Option, Some, None, ℤ, refl, sym, ap, ap₂, ◌∙◌, subst, arith, inl, inr}
 use Rattle.std.specs.List.{All}
 use Rattle.std.proofs.lemmas.Bool.{eqb-true, eqb-false}
 use Rattle.std.proofs.lemmas.List.{get_or-map, get_or_past, length-map}
@@ -10,21 +10,18 @@ use Rattle.htl_model.specs.declared.parts.Inv.{Inv}
 use Rattle.htl_model.specs.declared.parts.Module.{Module}
 use Rattle.htl_model.specs.Lists.{joined, places_from}
 use Rattle.htl_model.specs.Ranges.{IsCommInRange}
-use Rattle.htl_model.specs.Frames.{hyper}
-use Rattle.htl_model.specs.Selections.{is_root, root_modules, root_period}
+use Rattle.htl_model.specs.Frames.{frame_of, hyper}
+use Rattle.htl_model.specs.Selections.{is_root, root_modules}
 use Rattle.htl_model.specs.Tables.{Tables, task_worst}
 use Rattle.htl_model.specs.Meaning.{state, sense}
 use Rattle.htl_walk.specs.declared.job.Job.{Job}
 use Rattle.htl_walk.specs.declared.schedule.Schedule.{Schedule}
 use Rattle.htl_walk.specs.declared.schedule.SInstr.{SInstr}
-use Rattle.htl_walk.specs.Refinement.{HaveLengths, AreWithinWorst}
 use Rattle.htl_walk.specs.Walk as walks
-use Rattle.htl_walk.specs.Walk.{InForm, Meets, Point, walk_from}
-use Rattle.htl_walk.proofs.Work.{work_some}
+use Rattle.htl_walk.specs.Walk.{Point, walk_from}
 use Rattle.htl_smach.specs.declared.left.Left.{Left}
 use Rattle.htl_smach.specs.Rounds as rounds
 use Rattle.htl_smach.specs.Rounds.{Round, no_round, told_from}
-use Rattle.htl_smach.proofs.Telling.{stands_begun}
 use Rattle.htl_object.specs.Ranges.{IsShort}
 use Rattle.htl_ecode.specs.declared.ecode.ECode.{ECode}
 use Rattle.htl_ecode.specs.declared.instr.EInstr.{EInstr}
@@ -39,51 +36,52 @@ use Rattle.htl_emach.specs.Shapes.{IsShaped}
 use Rattle.htl_object.specs.Accepted.{IsAccepted}
 use Rattle.htl_refine.specs.ListPlans.{ListPlan as Plan, list_walk}
 use Rattle.htl_refine.specs.RecordCounts.{count_before}
-use Rattle.htl_refine.specs.Records.{AreTookWithin, Round as Work, inv_worst, last_took, modes_at, took}
-use Rattle.htl_refine.specs.Roots.{selection_of as selection_of_modes}
-use Rattle.htl_refine.proofs.RoundLaws.{have_lengths, within_worst}
+use Rattle.htl_refine.specs.Records.{AreTookWithin, inv_worst, last_took, took}
 use Rattle.htl_machine.specs.declared.tally.Tally.{Tally}
-use Rattle.htl_machine.specs.Calls.{Seen, IsUpTo, GoesBy, number_by, schedule_by}
-use Rattle.htl_machine.specs.Casts.{IsCast, HaveWindows}
+use Rattle.htl_machine.specs.declared.numbering.ListAt.{ListAt}
+use Rattle.htl_machine.specs.Beginning.{IsToBegin}
+use Rattle.htl_machine.specs.Calls.{Seen, IsUpTo, GoesBy, schedule_by}
 use Rattle.htl_machine.specs.Doing.{path_lines}
 use Rattle.htl_machine.specs.Follows.{IsLoaded, DeskAt, DeskStands, DeskFollows}
 use Rattle.htl_machine.specs.Instant.{IsReadyAt}
 use Rattle.htl_machine.specs.Leaving.{due_by, Leaves}
 use Rattle.htl_machine.specs.Machines.{Counts}
 use Rattle.htl_machine.specs.Opening.{IsOpened, closing_text, first_records, beginning_text}
-use Rattle.htl_machine.specs.Plans.{with_records, AreSound}
+use Rattle.htl_machine.specs.Plans.{with_records}
 use Rattle.htl_machine.specs.Programs.{schedules_of, lines_of}
 use Rattle.htl_machine.specs.Readiness.{desk_replay, desk_at}
 use Rattle.htl_machine.specs.Recording.{Records}
-use Rattle.htl_machine.specs.Rounds.{list_of, period_or, plan_of, round_start, round_turn}
 use Rattle.htl_machine.specs.Running.{replay}
 use Rattle.htl_machine.specs.Sensors.{AreShown}
 use Rattle.htl_machine.specs.Texts.{record_text, some_records, old_records, records_of, list_texts, instant_text, text_before}
-use Rattle.htl_machine.specs.Starting.{kept_lengths, instrs_of, IsToBegin}
+use Rattle.htl_machine.specs.Starting.{instrs_of}
 use Rattle.htl_machine.specs.Tellings.{tell_all}
 use Rattle.htl_machine.specs.Timing.{begins}
 use Rattle.htl_machine.specs.Values.{values_before}
 use Rattle.htl_machine.specs.Wholes.{Whole, Passed}
 use Rattle.htl_machine.specs.Worlds.{all_reads, with_sensors}
 use Rattle.htl_machine.specs.ListTurns.{Turn, AreTurns, AreListed, turn_walk}
-use Rattle.htl_machine.specs.RunLists.{turn_at}
+use Rattle.htl_machine.specs.RunLists.{turn_at, turn_by, list_turn}
+use Rattle.htl_machine.specs.ListBegun.{IsAtEnd}
+use Rattle.htl_machine.specs.StandingList.{node_by, turn_list}
 use Rattle.htl_machine.proofs.Accepted.{accepted_is_loaded}
 use Rattle.htl_machine.proofs.Alone.{stands_nowhere}
 use Rattle.htl_machine.proofs.Calling.{IsWhole, counts_of, whole_of, before_of}
 use Rattle.htl_machine.proofs.Composing.{instant_composed, counts_after, counts_are, texts_going, texts_beginning, texts_alone, records_going, records_beginning, records_alone}
 use Rattle.htl_machine.proofs.Following.{instant_values}
-use Rattle.htl_machine.proofs.Desking.{desk_begins, desk_closes}
-use Rattle.htl_machine.proofs.Instants.{with_flags, desk_left, desk_told, desk_on, desk_over}
-use Rattle.htl_machine.proofs.Loaded.{some_period, loaded_rounds, AreKept}
+use Rattle.htl_machine.proofs.Desking.{desk_closes, not_running}
+use Rattle.htl_machine.proofs.Instants.{with_flags, desk_left, desk_on, desk_ends}
 use Rattle.htl_machine.proofs.Meeting.{next_is, switch_values, records_leave}
 use Rattle.htl_machine.proofs.Periodic.{begins_never}
-use Rattle.htl_machine.proofs.Premises.{first_left, first_over, cast_of}
-use Rattle.htl_machine.proofs.LoadedLists.{length-lengths, loaded_begins, loaded_begun, loaded_empty, loaded_keys, loaded_listed, loaded_turns, loaded_code}
-use Rattle.htl_machine.proofs.RoundServed.{round_windows}
+use Rattle.htl_machine.proofs.Premises.{first_left, first_over}
+use Rattle.htl_machine.proofs.LoadedLists.{loaded_begins, loaded_empty, loaded_listed, loaded_turns, loaded_code}
 use Rattle.htl_machine.proofs.Showing.{sensors_are}
 use Rattle.htl_machine.proofs.Standing.{all_at, standing_at}
 use Rattle.htl_machine.proofs.TellingLoaded.{loaded_lines}
 use Rattle.htl_machine.proofs.Timely.{read_phase_tells}
+use Rattle.htl_machine.proofs.Ready.{node_known}
+use Rattle.htl_machine.proofs.ToBegin.{is_to_begin}
+use Rattle.htl_object.proofs.NodeCounts.{nodes_few}
 use Rattle.htl_machine.proofs.Wholly.{modes_read, counted, whole_instant}
 
 -- ---- lengths that are kept
@@ -104,10 +102,6 @@ never_took t i u at (V.Took j n ∷ es) none h = ap (λ x. last_took i u at x es
 order : (a n : ℕ) → (a < n) ⊎ (n ≤ a)
 order a n = grind arith
 
-kept_by : (takes : List ℕ) (f : ℕ → ℕ → ℕ) (now : ℕ) → ((i u : ℕ) → now ≤ u → get_or takes i 0 ≡ f i u) → (jobs : List Job) → kept_lengths takes jobs ≡ map (λ (j : Job). f j.inv (now + j.release)) jobs
-kept_by takes f now h [] = refl
-kept_by takes f now h (j ∷ js) = ap₂ (λ (a : ℕ) (ns : List ℕ). a ∷ ns) (h j.inv (now + j.release) (omega arith)) (kept_by takes f now h js)
-
 -- each schedule is short
 short_at : (ss : List Schedule) → All IsShort ss → (k : ℕ) → length (get_or (instrs_of ss) k []) ≤ 4294967295
 short_at ss all k = elim (order k (length ss)) [
@@ -115,10 +109,6 @@ short_at ss all k = elim (order k (length ss)) [
       subst (λ (is : List SInstr). length is ≤ 4294967295) (sym (get_or-map (λ (s : Schedule). s.instrs) ss k x [] less)) (all k x less))
   | inr past ↦ subst (λ (is : List SInstr). length is ≤ 4294967295) (sym (get_or_past (instrs_of ss) k [] (let same : length (instrs_of ss) ≡ length ss = length-map ss (λ (s : Schedule). s.instrs) in omega (arith, past, same)))) (omega arith)
 ]
-
-some_steps : (count period : ℕ) (is : List SInstr) → InForm count period is → 0 < length is
-some_steps count period [] f = absurd f
-some_steps count period (i ∷ is) f = omega arith
 
 -- ---- when a list begins
 
@@ -177,9 +167,6 @@ owed_are turn (Some q) (suc n) steps desk f own p s k d same at =
     ap (λ ls. text ls s k) walked ∙ ap (λ z. text (turn_walk u) z k) (sym at.start ∙ f.start) ∙ ap (text (turn_walk u) u.frame) (sym at.place ∙ f.place)
 
 module _ (t : Tables) (code : ECode) (schedules : List (List SInstr)) (loaded : IsLoaded t schedules) (reads : (k : ℕ) → k < length t.modes → ModeReads t code k) (es : List Event) (within : AreTookWithin t es) where
-  kept_rounds : AreKept t schedules es
-  kept_rounds = loaded_rounds t schedules loaded es within
-
   abbrev turn : ℕ → Turn
   turn = turn_at t schedules es
 
@@ -191,13 +178,6 @@ module _ (t : Tables) (code : ECode) (schedules : List (List SInstr)) (loaded : 
 
   no_root : hyper t ≡ None → root_modules t ≡ []
   no_root e = ap (λ (us : List Module). places_from is_root 0 us) (loaded_empty t schedules loaded e)
-
-  -- the round that begins where a list does
-  begun : (q now : ℕ) → hyper t ≡ Some q → (turn_at t schedules es now).frame + (turn_at t schedules es now).from ≡ now → (round_start q now ≡ now) × (turn_at t schedules es now ≡ round_turn t schedules es q now)
-  begun q now root at = loaded_begun t schedules loaded es within q root now at
-
-  root_of : (q : ℕ) → hyper t ≡ Some q → root_period t ≡ Some q
-  root_of q root = sym (loaded_keys t schedules loaded) ∙ root
 
   -- where a list begins there is a period, and it begins there
   pub beginning : (now : ℕ) → begins t now ≡ true → (q : ℕ) × (hyper t ≡ Some q) × ((turn_at t schedules es now).frame + (turn_at t schedules es now).from ≡ now)
@@ -241,97 +221,49 @@ module _ (t : Tables) (code : ECode) (schedules : List (List SInstr)) (loaded : 
       subst (DeskFollows turn (Some q) (suc (suc n))) (sym flagged)
       (desk_on t loaded.range es turn turns (suc n) d1 at (subst (λ z. rounds.Stands z u.plan.schedule) flagged (subst (rounds.Stands d2) is st')))
 
-  -- its number goes on
-  going_on : (o : Option ℕ) → hyper t ≡ o → (now : ℕ) (sel : Option ℕ) → begins t now ≡ false → GoesBy (turn_at t schedules es) o now sel → GoesBy (turn_at t schedules es) o (suc now) sel
-  going_on None root now sel b g = g
-  going_on (Some q) root zero sel b g = absurd (never_first q root b)
-  going_on (Some q) root (suc n) sel b g = g ∙ ap (λ (u : Turn). Some u.node) (sym (same_turn q n root b))
+  -- the same list stands
+  going_on : (o : Option ℕ) → hyper t ≡ o → (now : ℕ) (last : Option ListAt) → begins t now ≡ false → GoesBy (turn_at t schedules es) o now last → GoesBy (turn_at t schedules es) o (suc now) last
+  going_on None root now last b g = g
+  going_on (Some q) root zero last b g = absurd (never_first q root b)
+  going_on (Some q) root (suc n) last b g = g ∙ ap (λ (u : Turn). Some (turn_list u)) (sym (same_turn q n root b))
 
   -- ---- where a list begins
 
   -- the list before is over
-  list_over : (o : Option ℕ) → hyper t ≡ o → (now : ℕ) (steps : List SInstr) (desk d1 : Round) (w0 w1 : Content) → begins t now ≡ true → DeskFollows (turn_at t schedules es) o now desk
-      → IsScheduleOf (turn_at t schedules es) o now steps → rounds.Stands desk steps → Records t desk w0 d1 w1 steps now → d1.running ≡ false
-  list_over None root now steps desk d1 w0 w1 b f own st rec = first_over t now desk d1 w0 w1 f (subst (rounds.Stands desk) own st) (subst (λ c. Records t desk w0 d1 w1 c now) own rec)
-  list_over (Some q) root zero steps desk d1 w0 w1 b f own st rec = first_over t 0 desk d1 w0 w1 f (subst (rounds.Stands desk) own st) (subst (λ c. Records t desk w0 d1 w1 c 0) own rec)
-  list_over (Some q) root (suc n) steps desk d1 w0 w1 b f own st rec =
+  list_ends : (q n : ℕ) → hyper t ≡ Some q → (steps : List SInstr) (desk d1 : Round) (w0 w1 : Content) → begins t (suc n) ≡ true → DeskStands (turn_at t schedules es n).plan (turn_at t schedules es n).frame (suc n) desk
+      → steps ≡ (turn_at t schedules es n).plan.schedule → Records t desk w0 d1 w1 steps (suc n)
+      → DeskAt (turn_at t schedules es n).plan (turn_at t schedules es n).frame (length (turn_at t schedules es n).plan.schedule) (suc n - (turn_at t schedules es n).frame) d1
+  list_ends q n root steps desk d1 w0 w1 b f own rec =
       elim ((listed q root).on n) [
         | inl same ↦
             let begun : (turn (suc n)).frame + (turn (suc n)).from ≡ suc n = eqb-true ((turn (suc n)).frame + (turn (suc n)).from) (suc n) (sym (loaded_begins t schedules loaded es within q root (suc n)) ∙ b) in
             absurd (omega (arith, begun, ap (λ (u : Turn). u.frame + u.from) same, (turns.each n).past))
         | inr next ↦
-            desk_over t loaded.range es turn turns n desk d1 next.1 ((listed q root).each n) f
+            desk_ends t loaded.range es turn turns n desk d1 next.1 ((listed q root).each n) f
             (records_leave t desk d1 w0 w1 (turn n).plan.schedule (suc n) (subst (λ c. Records t desk w0 d1 w1 c (suc n)) own rec))
       ]
 
+  list_over : (o : Option ℕ) → hyper t ≡ o → (now : ℕ) (steps : List SInstr) (desk d1 : Round) (w0 w1 : Content) → begins t now ≡ true → DeskFollows (turn_at t schedules es) o now desk
+      → IsScheduleOf (turn_at t schedules es) o now steps → rounds.Stands desk steps → Records t desk w0 d1 w1 steps now → (d1.running ≡ false) × IsAtEnd t schedules es now d1
+  list_over None root now steps desk d1 w0 w1 b f own st rec = absurd (let h = beginning now b in let e : Some h.0 ≡ None = sym h.1 ∙ root in let y : ⊥ = cc in y)
+  list_over (Some q) root zero steps desk d1 w0 w1 b f own st rec =
+      (first_over t 0 desk d1 w0 w1 f (subst (rounds.Stands desk) own st) (subst (λ c. Records t desk w0 d1 w1 c 0) own rec), λ more. absurd (let z : 0 % frame_of t ≡ 0 = omega arith in omega (arith, z, more)))
+  list_over (Some q) root (suc n) steps desk d1 w0 w1 b f own st rec =
+      let at = list_ends q n root steps desk d1 w0 w1 b f own rec in
+      let v = turn n in
+      let here : turn_at t schedules es n ≡ list_turn t schedules es n = ap (λ o. turn_by o t schedules es n) root in
+      (not_running v.plan v.frame (suc n - v.frame) d1 at, λ more. subst (λ (v : Turn). DeskAt v.plan v.frame (length v.plan.schedule) (suc n - v.frame) d1) here at)
+
   -- the S machine after the instant
-  begun_desk : (q now : ℕ) (d2 : Round) → hyper t ≡ Some q → turn_at t schedules es now ≡ round_turn t schedules es q now
-      → DeskAt (list_of (plan_of t schedules es now)) now (due_by (list_of (plan_of t schedules es now)) now now) (suc now - now) d2 → DeskFollows (turn_at t schedules es) (hyper t) (suc now) d2
-  begun_desk q now d2 root is at =
-      subst (λ o. DeskFollows (turn_at t schedules es) o (suc now) d2) (sym root)
-      (subst (λ (u : Turn). DeskStands u.plan u.frame (suc now) d2) (sym is) (desk_closes (list_of (plan_of t schedules es now)) now now d2 at))
+  begun_desk : (now : ℕ) (d2 : Round) (q : ℕ) → hyper t ≡ Some q
+      → (let u = turn_at t schedules es now in DeskAt u.plan u.frame (due_by u.plan u.frame now) (suc now - u.frame) d2) → DeskFollows (turn_at t schedules es) (hyper t) (suc now) d2
+  begun_desk now d2 q root at =
+      let u = turn now in
+      subst (λ o. DeskFollows (turn_at t schedules es) o (suc now) d2) (sym root) (desk_closes u.plan u.frame now d2 at)
 
-  -- its number
-  begun_goes : (q now sel : ℕ) → hyper t ≡ Some q → turn_at t schedules es now ≡ round_turn t schedules es q now → sel ≡ selection_of_modes t (modes_at t es now) → GoesBy (turn_at t schedules es) (hyper t) (suc now) (Some sel)
-  begun_goes q now sel root turned is =
-      subst (λ o. GoesBy (turn_at t schedules es) o (suc now) (Some sel)) (sym root) (ap (λ z. Some z) is ∙ ap (λ (u : Turn). Some u.node) (sym turned))
-
-  -- what the code that begins it asks for
-  module _ (q now : ℕ) (root : root_period t ≡ Some q) (starts : round_start q now ≡ now) (turned : turn_at t schedules es now ≡ round_turn t schedules es q now) (takes : List ℕ) (takes_are : (i u : ℕ) → now ≤ u → get_or takes i 0 ≡ took t es i u)
-      (few : length (plan_of t schedules es now).schedule ≤ 4294967295) where
-    abbrev p : Work
-    p = plan_of t schedules es now
-
-    abbrev first : Round
-    first = rounds.begun now p.jobs p.lengths
-
-    sound_rounds : AreSound t es (plan_of t schedules es) q
-    sound_rounds = subst (λ o. AreSound t es (plan_of t schedules es) (period_or o)) root kept_rounds.sound
-
-    cast : IsCast t (state t es now).stays now now p.jobs
-    cast = subst (λ z. IsCast t (state t es z).stays z z (plan_of t schedules es z).jobs) starts (sound_rounds.casts now)
-
-    meets : Meets p.jobs p.lengths p.schedule
-    meets = subst (λ z. Meets (plan_of t schedules es z).jobs (plan_of t schedules es z).lengths (plan_of t schedules es z).schedule) starts (sound_rounds.meets now)
-
-    windows : HaveWindows p.jobs
-    windows = round_windows p.jobs p.lengths p.schedule meets
-
-    in_form : InForm (length p.jobs) q p.schedule
-    in_form = subst (λ z. InForm (length (plan_of t schedules es z).jobs) q (plan_of t schedules es z).schedule) starts (kept_rounds.form q root now)
-
-    some : HaveLengths p.jobs p.lengths
-    some = have_lengths t (modes_at t es now) es now loaded.range within
-
-    worst : AreWithinWorst p.jobs p.lengths
-    worst = within_worst t (modes_at t es now) es now loaded.range within
-
-    abbrev flags : List Bool
-    flags = tell_all p.jobs (all_reads t now (state t es now).stays) first.released
-
-    told : DeskAt (list_of p) now 0 (suc now - now) (desk_replay code (phase_path t code es now 3) first)
-    told =
-        let opens : DeskAt (list_of p) now 0 0 first =
-        desk_begins p now (length-lengths t schedules es now) (some_steps (length p.jobs) q p.schedule in_form) (stands_begun now p.jobs p.lengths p.schedule some worst) in
-        let flagged : desk_replay code (phase_path t code es now 3) first ≡ with_flags first flags =
-        read_phase_tells t es turn turns now 0 0 first ((listed q (loaded_keys t schedules loaded ∙ root)).each now) (subst (λ (u : Turn). DeskAt u.plan u.frame 0 0 first) (sym turned) opens) (omega arith) code loaded.range reads
-        ∙ ap (λ (u : Turn). with_flags first (tell_all u.plan.jobs (all_reads t now (state t es now).stays) first.released)) turned in
-        let st : rounds.Stands (with_flags first flags) p.schedule = record { point = refl; work = λ k z. work_some p.jobs p.lengths k z; lengths = some; worst = worst; pending = λ k z. omega arith } in
-        subst (DeskAt (list_of p) now 0 (suc now - now)) (sym flagged)
-        (desk_told t (state t es now).stays now (list_of p) now 0 now first (standing_at t loaded.range es now) (omega arith) (omega arith) cast windows
-        (subst (λ d. DeskAt (list_of p) now 0 d first) (let z : 0 ≡ now - now = omega arith in z) opens) st)
-
-    is_to_begin : IsToBegin t code schedules es now takes
-    is_to_begin =
-        record {
-          of = cast_of t (state t es now).stays now p.jobs cast windows;
-          kept = kept_by takes (took t es) now takes_are p.jobs;
-          some = some;
-          worst = worst;
-          form = λ r are. (q, subst (λ (js : List Job). InForm (length js) q p.schedule) (sym are) in_form);
-          short = few;
-          told = told;
-        }
+  -- the list that stands
+  begun_goes : (now : ℕ) (list : Option ListAt) (q : ℕ) → hyper t ≡ Some q → list ≡ Some (turn_list (turn_at t schedules es now)) → GoesBy (turn_at t schedules es) (hyper t) (suc now) list
+  begun_goes now list q root is = subst (λ o. GoesBy (turn_at t schedules es) o (suc now) list) (sym root) is
 
 module _ (m : Seen) (es : List Event) (now : ℕ) (accepted : IsAccepted m.object) (read : m.held.reading ≤ now) (u : IsUpTo m es now) where
   abbrev t : Tables
@@ -403,7 +335,7 @@ module _ (m : Seen) (es : List Event) (now : ℕ) (accepted : IsAccepted m.objec
   -- the lines of the parts are those of the instant
   pub lines_are_composed : (steps : List SInstr) (r : IsReadyAt m es now steps) (new : List ℕ)
       → (list_texts m.object.tables (schedules_of m.object) es m.show (hyper m.object.tables) now).1 ≡ new
-      → (joined (record_text m.object.tables m.show r.plan (number_by m.selection)) (some_records r.plan r.start r.place (due_by r.plan r.start now - r.place))
+      → (joined (record_text m.object.tables m.show r.plan (node_by m.list)) (some_records r.plan r.start r.place (due_by r.plan r.start now - r.place))
       ++ path_lines m.object.tables m.object.ecode m.show now (phase_path m.object.tables m.object.ecode es now 1))
       ++ (closing_text m.object.tables m.object.ecode es m.show now ++ new)
       ≡ lines_of m.object es m.show now
@@ -412,15 +344,15 @@ module _ (m : Seen) (es : List Event) (now : ℕ) (accepted : IsAccepted m.objec
       ∙ sym (loaded_lines t schedules es loaded whole.stands.up_to.within code m.show now)
 
   -- the machine after the instant, counts and all
-  pub next_up_to : (world : Content) (desk : Round) (e1 : Standing) (sel : Option ℕ) (old new : List Left) (start n : Tally)
+  pub next_up_to : (world : Content) (desk : Round) (e1 : Standing) (last : Option ListAt) (old new : List Left) (start n : Tally)
       → Passed m.object.tables m.object.ecode (schedules_of m.object) es now m.held.world world e1
       → DeskFollows (turn_at m.object.tables (schedules_of m.object) es) (hyper m.object.tables) (suc now) desk
-      → GoesBy (turn_at m.object.tables (schedules_of m.object) es) (hyper m.object.tables) (suc now) sel
+      → GoesBy (turn_at m.object.tables (schedules_of m.object) es) (hyper m.object.tables) (suc now) last
       → records_of m.object.tables (schedules_of m.object) es (hyper m.object.tables) now ≡ old ++ new
       → counts_of m ≡ record { jobs = start.jobs; e = start.e; s = start.s }
       → n ≡ counts_after old new (length (phase_path m.object.tables m.object.ecode es now 1)) (length (phase_path m.object.tables m.object.ecode es now 2)) (length (phase_path m.object.tables m.object.ecode es now 3)) start
-      → IsUpTo (record m { held = record m.held { world = world; desk = desk }; standing = e1; selection = sel; jobs = n.jobs; e = n.e; s = n.s }) es (suc now)
-  next_up_to world desk e1 sel old new start n passed follows goes are was is =
+      → IsUpTo (record m { held = record m.held { world = world; desk = desk }; standing = e1; list = last; jobs = n.jobs; e = n.e; s = n.s }) es (suc now)
+  next_up_to world desk e1 last old new start n passed follows goes are was is =
       let totals = whole.stands.totals in
       let jobs_capped : start.jobs ≤ 2 ^ 64 - 1 = omega (arith, ap (λ (z : Counts). z.jobs) was, totals.jobs_are) in
       let e_capped : start.e ≤ 2 ^ 64 - 1 = omega (arith, ap (λ (z : Counts). z.e) was, totals.e_are) in
@@ -429,7 +361,7 @@ module _ (m : Seen) (es : List Event) (now : ℕ) (accepted : IsAccepted m.objec
       counts_are t schedules es now code old new start n are jobs_capped e_capped s_capped is ∙ ap (counted t code schedules es now) (sym was) in
       let written = text_before t code schedules es m.show now ++ instant_text t code schedules es m.show now in
       let next = whole_instant t code schedules loaded accepted.spelled.code m.show es now m.standing e1 m.held (counts_of m) (text_before t code schedules es m.show now) written world desk whole passed follows refl in
-      let m1 : Seen = record m { held = record m.held { world = world; desk = desk }; standing = e1; selection = sel; jobs = n.jobs; e = n.e; s = n.s } in
+      let m1 : Seen = record m { held = record m.held { world = world; desk = desk }; standing = e1; list = last; jobs = n.jobs; e = n.e; s = n.s } in
       record {
         kept =
             record {
@@ -446,15 +378,15 @@ module _ (m : Seen) (es : List Event) (now : ℕ) (accepted : IsAccepted m.objec
 
   -- ---- where no list begins
 
-  schedule_own : (steps idle : List SInstr) → steps ≡ schedule_by m.object idle m.selection → idle ≡ [] → IsScheduleOf (turn_at t schedules es) (hyper t) now steps
+  schedule_own : (steps idle : List SInstr) → steps ≡ schedule_by m.object idle m.list → idle ≡ [] → IsScheduleOf (turn_at t schedules es) (hyper t) now steps
   schedule_own steps idle by none = own (hyper t) refl now u.before.records.goes
     where
-      own : (o : Option ℕ) → hyper t ≡ o → (n : ℕ) → GoesBy (turn_at t schedules es) o n m.selection → IsScheduleOf (turn_at t schedules es) o n steps
+      own : (o : Option ℕ) → hyper t ≡ o → (n : ℕ) → GoesBy (turn_at t schedules es) o n m.list → IsScheduleOf (turn_at t schedules es) o n steps
       own None e n g = by ∙ ap (schedule_by m.object idle) g ∙ none
       own (Some q) e zero g = by ∙ ap (schedule_by m.object idle) g ∙ none
       own (Some q) e (suc n) g = by ∙ ap (schedule_by m.object idle) g ∙ sym (loaded_code t schedules loaded es u.kept.within q e n)
 
-  pub desk_goes_on : (steps idle : List SInstr) → steps ≡ schedule_by m.object idle m.selection → idle ≡ [] → IsReadyAt m es now steps → (d1 d2 : Round) (w1 : Content)
+  pub desk_goes_on : (steps idle : List SInstr) → steps ≡ schedule_by m.object idle m.list → idle ≡ [] → IsReadyAt m es now steps → (d1 d2 : Round) (w1 : Content)
       → begins m.object.tables now ≡ false → Records m.object.tables m.held.desk m.held.world d1 w1 steps now
       → d2 ≡ desk_replay m.object.ecode (phase_path m.object.tables m.object.ecode es now 3) d1 → rounds.Stands d2 steps
       → DeskFollows (turn_at m.object.tables (schedules_of m.object) es) (hyper m.object.tables) (suc now) d2
@@ -462,22 +394,16 @@ module _ (m : Seen) (es : List Event) (now : ℕ) (accepted : IsAccepted m.objec
       going_desk t code schedules loaded (modes_read t code schedules loaded accepted.spelled.code m.show) es u.kept.within (hyper t) refl now steps m.held.desk d1 d2 m.held.world w1 b
       u.before.records.desk (schedule_own steps idle by none) r.stands rec told st
 
-  pub selection_goes_on : begins m.object.tables now ≡ false → GoesBy (turn_at m.object.tables (schedules_of m.object) es) (hyper m.object.tables) (suc now) m.selection
-  selection_goes_on b = going_on t code schedules loaded (modes_read t code schedules loaded accepted.spelled.code m.show) es u.kept.within (hyper t) refl now m.selection b u.before.records.goes
+  pub list_goes_on : begins m.object.tables now ≡ false → GoesBy (turn_at m.object.tables (schedules_of m.object) es) (hyper m.object.tables) (suc now) m.list
+  list_goes_on b = going_on t code schedules loaded (modes_read t code schedules loaded accepted.spelled.code m.show) es u.kept.within (hyper t) refl now m.list b u.before.records.goes
 
   -- ---- where a list begins
 
-  pub over : (steps idle : List SInstr) → steps ≡ schedule_by m.object idle m.selection → idle ≡ [] → IsReadyAt m es now steps → (d1 : Round) (w1 : Content)
-      → begins m.object.tables now ≡ true → Records m.object.tables m.held.desk m.held.world d1 w1 steps now → d1.running ≡ false
+  pub over : (steps idle : List SInstr) → steps ≡ schedule_by m.object idle m.list → idle ≡ [] → IsReadyAt m es now steps → (d1 : Round) (w1 : Content)
+      → begins m.object.tables now ≡ true → Records m.object.tables m.held.desk m.held.world d1 w1 steps now → (d1.running ≡ false) × IsAtEnd m.object.tables (schedules_of m.object) es now d1
   over steps idle by none r d1 w1 b rec =
       list_over t code schedules loaded (modes_read t code schedules loaded accepted.spelled.code m.show) es u.kept.within (hyper t) refl now steps m.held.desk d1 m.held.world w1 b
       u.before.records.desk (schedule_own steps idle by none) r.stands rec
-
-  -- there is a module
-  pub begins_some : begins m.object.tables now ≡ true → 0 < length m.object.tables.modules
-  begins_some b =
-      let h = beginning t code schedules loaded (modes_read t code schedules loaded accepted.spelled.code m.show) es u.kept.within now b in
-      (some_period t h.0 loaded.range (root_of t code schedules loaded (modes_read t code schedules loaded accepted.spelled.code m.show) es u.kept.within h.0 h.1)).1
 
   takes_are : (i v : ℕ) → now ≤ v → get_or m.held.takes i 0 ≡ took t es i v
   takes_are i v later = elim (order i (length t.invs)) [
@@ -486,36 +412,41 @@ module _ (m : Seen) (es : List Event) (now : ℕ) (accepted : IsAccepted m.objec
         get_or_past m.held.takes i 0 (omega (arith, past, u.kept.count)) ∙ sym (ap (λ x. last_took i v 0 x es) none ∙ never_took t i v 0 es none u.kept.within))
   ]
 
-  pub to_begin : begins m.object.tables now ≡ true → IsToBegin m.object.tables m.object.ecode (schedules_of m.object) es now m.held.takes
-  to_begin b =
+  -- the list that begins, behind the one that stood
+  pub to_begin : (d1 : Round) → begins m.object.tables now ≡ true → IsAtEnd m.object.tables (schedules_of m.object) es now d1 → IsToBegin m.object.tables m.object.ecode (schedules_of m.object) es now m.held.takes m.list d1
+  to_begin d1 b ends =
       let reads = modes_read t code schedules loaded accepted.spelled.code m.show in
       let h = beginning t code schedules loaded reads es u.kept.within now b in
-      let g = begun t code schedules loaded reads es u.kept.within h.0 now h.1 h.2 in
-      is_to_begin t code schedules loaded reads es u.kept.within h.0 now (root_of t code schedules loaded reads es u.kept.within h.0 h.1) g.0 g.1 m.held.takes takes_are (short_at m.object.schedules accepted.spelled.formed.ranges.short (selection_of_modes t (modes_at t es now)))
+      let ranges = accepted.spelled.formed.ranges in
+      let many : length schedules ≡ length m.object.schedules = length-map m.object.schedules (λ (s : Schedule). s.instrs) in
+      let node : (turn_at t schedules es now).node < length m.object.schedules = node_known m.object es now h.0 accepted u.kept.within h.1 in
+      is_to_begin t code schedules loaded reads es u.kept.within ranges.frames h.0 now h.1 h.2 m.held.takes takes_are d1 ends m.list (subst (λ o. GoesBy (turn_at t schedules es) o now m.list) h.1 u.before.records.goes)
+      (omega (arith, node, many)) (omega (arith, many, ranges.schedules, nodes_few t ranges.tables ranges.frames))
+      (subst (λ (is : List SInstr). length is ≤ 4294967295) (sym (loaded_code t schedules loaded es u.kept.within h.0 h.1 now)) (short_at m.object.schedules ranges.short (turn_at t schedules es now).node))
 
   pub desk_begins_so : (d2 : Round) → begins m.object.tables now ≡ true
-      → DeskAt (list_of (plan_of m.object.tables (schedules_of m.object) es now)) now (due_by (list_of (plan_of m.object.tables (schedules_of m.object) es now)) now now) (suc now - now) d2
+      → (let v = turn_at m.object.tables (schedules_of m.object) es now in DeskAt v.plan v.frame (due_by v.plan v.frame now) (suc now - v.frame) d2)
       → DeskFollows (turn_at m.object.tables (schedules_of m.object) es) (hyper m.object.tables) (suc now) d2
   desk_begins_so d2 b at =
       let reads = modes_read t code schedules loaded accepted.spelled.code m.show in
       let h = beginning t code schedules loaded reads es u.kept.within now b in
-      begun_desk t code schedules loaded reads es u.kept.within h.0 now d2 h.1 (begun t code schedules loaded reads es u.kept.within h.0 now h.1 h.2).1 at
+      begun_desk t code schedules loaded reads es u.kept.within now d2 h.0 h.1 at
 
-  pub selection_begins : (sel : ℕ) → begins m.object.tables now ≡ true → sel ≡ selection_of_modes m.object.tables (modes_at m.object.tables es now)
-      → GoesBy (turn_at m.object.tables (schedules_of m.object) es) (hyper m.object.tables) (suc now) (Some sel)
-  selection_begins sel b is =
+  pub list_begins : (list : Option ListAt) → begins m.object.tables now ≡ true → list ≡ Some (turn_list (turn_at m.object.tables (schedules_of m.object) es now))
+      → GoesBy (turn_at m.object.tables (schedules_of m.object) es) (hyper m.object.tables) (suc now) list
+  list_begins list b is =
       let reads = modes_read t code schedules loaded accepted.spelled.code m.show in
       let h = beginning t code schedules loaded reads es u.kept.within now b in
-      begun_goes t code schedules loaded reads es u.kept.within h.0 now sel h.1 (begun t code schedules loaded reads es u.kept.within h.0 now h.1 h.2).1 is
+      begun_goes t code schedules loaded reads es u.kept.within now list h.0 h.1 is
 
   -- ---- what the instant owes, in both cases
 
-  owed : (steps idle : List SInstr) → steps ≡ schedule_by m.object idle m.selection → idle ≡ [] → (r : IsReadyAt m es now steps)
+  owed : (steps idle : List SInstr) → steps ≡ schedule_by m.object idle m.list → idle ≡ [] → (r : IsReadyAt m es now steps)
       → owed_before (turn_at t schedules es) (hyper t) now ≡ some_records r.plan r.start r.place (due_by r.plan r.start now - r.place)
   owed steps idle by none r =
       sym (owed_are (turn_at t schedules es) (hyper t) now steps m.held.desk u.before.records.desk (schedule_own steps idle by none) r.plan r.start r.place r.offset r.same r.was)
 
-  pub records_go_on : (steps idle : List SInstr) → steps ≡ schedule_by m.object idle m.selection → idle ≡ [] → (r : IsReadyAt m es now steps) → begins m.object.tables now ≡ false
+  pub records_go_on : (steps idle : List SInstr) → steps ≡ schedule_by m.object idle m.list → idle ≡ [] → (r : IsReadyAt m es now steps) → begins m.object.tables now ≡ false
       → records_of m.object.tables (schedules_of m.object) es (hyper m.object.tables) now ≡ some_records r.plan r.start r.place (due_by r.plan r.start now - r.place) ++ []
   records_go_on steps idle by none r b = by_root (hyper t) refl ∙ ap (λ (ls : List Left). ls ++ []) (owed steps idle by none r)
     where
@@ -525,12 +456,12 @@ module _ (m : Seen) (es : List Event) (now : ℕ) (accepted : IsAccepted m.objec
           records_going t schedules es now q e (going t code schedules loaded (modes_read t code schedules loaded accepted.spelled.code m.show) es u.kept.within q now e b)
           ∙ sym (ap (λ o. owed_before (turn_at t schedules es) o now ++ []) e)
 
-  pub records_begin : (steps idle : List SInstr) → steps ≡ schedule_by m.object idle m.selection → idle ≡ [] → (r : IsReadyAt m es now steps) → begins m.object.tables now ≡ true
+  pub records_begin : (steps idle : List SInstr) → steps ≡ schedule_by m.object idle m.list → idle ≡ [] → (r : IsReadyAt m es now steps) → begins m.object.tables now ≡ true
       → records_of m.object.tables (schedules_of m.object) es (hyper m.object.tables) now
       ≡ some_records r.plan r.start r.place (due_by r.plan r.start now - r.place) ++ first_records m.object.tables (schedules_of m.object) es now
   records_begin steps idle by none r b =
       let h = beginning t code schedules loaded (modes_read t code schedules loaded accepted.spelled.code m.show) es u.kept.within now b in
-      records_beginning t schedules es now h.0 h.1 (begun t code schedules loaded (modes_read t code schedules loaded accepted.spelled.code m.show) es u.kept.within h.0 now h.1 h.2).1
+      records_beginning t schedules es now h.0 h.1 h.2
       ∙ sym (ap (λ o. owed_before (turn_at t schedules es) o now ++ first_records t schedules es now) h.1)
       ∙ ap (λ (ls : List Left). ls ++ first_records t schedules es now) (owed steps idle by none r)
 
@@ -548,4 +479,4 @@ module _ (m : Seen) (es : List Event) (now : ℕ) (accepted : IsAccepted m.objec
       → (list_texts m.object.tables (schedules_of m.object) es m.show (hyper m.object.tables) now).1 ≡ beginning_text m.object.tables (schedules_of m.object) es m.show now
   text_begins b =
       let h = beginning t code schedules loaded (modes_read t code schedules loaded accepted.spelled.code m.show) es u.kept.within now b in
-      ap (λ (z : List ℕ × List ℕ). z.1) (texts_beginning t code schedules es m.show now h.0 h.1 (begun t code schedules loaded (modes_read t code schedules loaded accepted.spelled.code m.show) es u.kept.within h.0 now h.1 h.2).1)
+      ap (λ (z : List ℕ × List ℕ). z.1) (texts_beginning t code schedules es m.show now h.0 h.1 h.2)

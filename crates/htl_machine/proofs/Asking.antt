@@ -1,5 +1,5 @@
 -- What the parts of an instant ask for, from what the machine follows.
-use Rattle.std.proofs.Common.{◌≡◌, ℕ, zero, suc, ◌-◌, ◌<◌, List, length, ℤ, Option, sym, ap, ◌∙◌, subst, arith, refl}
+use Rattle.std.proofs.Common.{◌≡◌, ℕ, zero, suc, ◌-◌, ◌<◌, List, length, ℤ, Option, Some, sym, ap, ◌∙◌, subst, arith, refl}
 use Rattle.htl_model.specs.declared.event.Event.{Event}
 use Rattle.htl_model.specs.Meaning.{before, state}
 use Rattle.htl_model.specs.Tables.{Tables}
@@ -12,43 +12,41 @@ use Rattle.htl_emach.specs.Contents.{Content}
 use Rattle.htl_emach.specs.Following.{phase_path}
 use Rattle.htl_object.specs.declared.object.Object.{Object}
 use Rattle.htl_smach.specs.Rounds.{Round}
-use Rattle.htl_walk.specs.declared.schedule.Schedule.{Schedule}
 use Rattle.htl_machine.specs.Follows.{DeskAt}
 use Rattle.htl_machine.specs.Leaving.{due_by}
 use Rattle.htl_machine.specs.Programs.{schedules_of}
-use Rattle.htl_machine.specs.Rounds.{plan_of, list_of}
+use Rattle.htl_machine.specs.RunLists.{turn_at}
+use Rattle.htl_machine.specs.StandingList.{turn_list}
 use Rattle.htl_machine.specs.declared.tally.Tally.{Tally}
 use Rattle.htl_machine.specs.Counts.{with_instrs, with_records}
 use Rattle.htl_machine.specs.Opening.{first_records}
 use Rattle.htl_machine.specs.Running.{replay}
-use Rattle.htl_machine.specs.Starting.{IsToBegin, instrs_of}
-use Rattle.htl_object.proofs.OneRound.{schedules_are}
+use Rattle.htl_machine.specs.declared.numbering.ListAt.{ListAt}
+use Rattle.htl_machine.specs.Beginning.{IsToBegin}
 use Rattle.htl_object.specs.Accepted.{IsAccepted}
-use Rattle.htl_refine.proofs.OneFault.{kept_all}
 use Rattle.htl_machine.specs.Asking.{IsSound, IsToOpen, IsNoted}
 use Rattle.htl_machine.specs.Calls.{Seen, IsUpTo}
 use Rattle.htl_machine.specs.Instant.{IsReadyAt}
 use Rattle.htl_machine.specs.Recording.{AreOf}
 use Rattle.htl_machine.specs.Values.{values_before}
 use Rattle.htl_machine.proofs.Agreeing.{modes_open}
-use Rattle.htl_machine.proofs.Beginnings.{apart_twelve}
+use Rattle.htl_machine.proofs.Accepted.{accepted_is_loaded}
 
-pub sound_of : (m : Seen) (t : Tables) (code : ECode) (ss : List Schedule) → t ≡ m.object.tables → code ≡ m.object.ecode → ss ≡ m.object.schedules → IsAccepted m.object → IsSound t code ss
-sound_of m t code ss same same_code same_schedules accepted =
-    subst (λ z. IsSound z code ss) (sym same) (subst (λ z. IsSound m.object.tables z ss) (sym same_code) (subst (λ z. IsSound m.object.tables m.object.ecode z) (sym same_schedules) here))
+pub sound_of : (m : Seen) (t : Tables) (code : ECode) → t ≡ m.object.tables → code ≡ m.object.ecode → IsAccepted m.object → IsSound t code
+sound_of m t code same same_code accepted =
+    subst (λ z. IsSound z code) (sym same) (subst (λ z. IsSound m.object.tables z) (sym same_code) here)
   where
-    here : IsSound m.object.tables m.object.ecode m.object.schedules
+    here : IsSound m.object.tables m.object.ecode
     here =
         let ranges = accepted.spelled.formed.ranges in
-        let kept = kept_all m.object.tables accepted.spelled.formed.formed in
+        let loaded = accepted_is_loaded m.object accepted in
         record {
-          kept = kept;
-          form = apart_twelve m.object.tables kept;
-          limits = ranges.limits;
+          kept = loaded.rules;
+          form = loaded.kept;
+          limit = ranges.frames;
           spells = accepted.spelled.code;
           instrs = ranges.few_instrs;
           places = accepted.spelled.functions;
-          all = schedules_are m.object accepted.spelled.formed;
         }
 
 pub to_open : (m : Seen) (es : List Event) (at : ℕ) (jobs : List Job) (steps : List SInstr) (values : List ℤ) → IsUpTo m es at → IsReadyAt m es at steps → m.held.desk.jobs ≡ jobs → values ≡ m.held.world.values
@@ -97,26 +95,25 @@ reads_at o es at t code w same same_code h =
     subst (λ z. (replay z code (phase_path z code es at 3) (replay z code (phase_path z code es at 2) w)).values ≡ (state z es at).values) (sym same)
     (subst (λ z. (replay o.tables z (phase_path o.tables z es at 3) (replay o.tables z (phase_path o.tables z es at 2) w)).values ≡ (state o.tables es at).values) (sym same_code) h)
 
-pub begins_at : (o : Object) (es : List Event) (at : ℕ) (t : Tables) (code : ECode) (ss : List Schedule) (takes kept : List ℕ) → t ≡ o.tables → code ≡ o.ecode → ss ≡ o.schedules → takes ≡ kept
-    → IsToBegin o.tables o.ecode (schedules_of o) es at kept → IsToBegin t code (instrs_of ss) es at takes
-begins_at o es at t code ss takes kept same same_code same_schedules are h =
-    subst (λ z. IsToBegin z code (instrs_of ss) es at takes) (sym same)
-    (subst (λ z. IsToBegin o.tables z (instrs_of ss) es at takes) (sym same_code)
-    (subst (λ z. IsToBegin o.tables o.ecode (instrs_of z) es at takes) (sym same_schedules) (subst (λ z. IsToBegin o.tables o.ecode (instrs_of o.schedules) es at z) (sym are) h)))
+pub begins_at : (o : Object) (es : List Event) (at : ℕ) (t : Tables) (code : ECode) (takes kept : List ℕ) (last : Option ListAt) (r : Round) → t ≡ o.tables → code ≡ o.ecode → takes ≡ kept
+    → IsToBegin o.tables o.ecode (schedules_of o) es at kept last r → IsToBegin t code (schedules_of o) es at takes last r
+begins_at o es at t code takes kept last r same same_code are h =
+    subst (λ z. IsToBegin z code (schedules_of o) es at takes last r) (sym same)
+    (subst (λ z. IsToBegin o.tables z (schedules_of o) es at takes last r) (sym same_code) (subst (λ z. IsToBegin o.tables o.ecode (schedules_of o) es at z last r) (sym are) h))
 
--- the round that has begun
-pub begun_at : (o : Object) (es : List Event) (at : ℕ) (t : Tables) (ss : List Schedule) (d : Round) → t ≡ o.tables → ss ≡ o.schedules
-    → DeskAt (list_of (plan_of t (instrs_of ss) es at)) at (due_by (list_of (plan_of t (instrs_of ss) es at)) at at) (suc at - at) d
-    → DeskAt (list_of (plan_of o.tables (schedules_of o) es at)) at (due_by (list_of (plan_of o.tables (schedules_of o) es at)) at at) (suc at - at) d
-begun_at o es at t ss d same same_schedules h =
-    subst (λ z. DeskAt (list_of (plan_of o.tables (instrs_of z) es at)) at (due_by (list_of (plan_of o.tables (instrs_of z) es at)) at at) (suc at - at) d) same_schedules
-    (subst (λ z. DeskAt (list_of (plan_of z (instrs_of ss) es at)) at (due_by (list_of (plan_of z (instrs_of ss) es at)) at at) (suc at - at) d) same h)
+-- the list that has begun
+pub begun_at : (o : Object) (es : List Event) (at : ℕ) (t : Tables) (d : Round) → t ≡ o.tables
+    → (let u = turn_at t (schedules_of o) es at in DeskAt u.plan u.frame (due_by u.plan u.frame at) (suc at - u.frame) d)
+    → (let u = turn_at o.tables (schedules_of o) es at in DeskAt u.plan u.frame (due_by u.plan u.frame at) (suc at - u.frame) d)
+begun_at o es at t d same h = subst (λ z. let u = turn_at z (schedules_of o) es at in DeskAt u.plan u.frame (due_by u.plan u.frame at) (suc at - u.frame) d) same h
 
--- what the second part of an instant counts where a round begins
-pub counts_at : (o : Object) (es : List Event) (at : ℕ) (t : Tables) (code : ECode) (ss : List Schedule) (n n1 : Tally) → t ≡ o.tables → code ≡ o.ecode → ss ≡ o.schedules
-    → n ≡ with_records (first_records t (instrs_of ss) es at) (with_instrs (length (phase_path t code es at 3)) (with_instrs (length (phase_path t code es at 2)) n1))
+pub stood_at : (o : Object) (es : List Event) (at : ℕ) (t : Tables) (list : Option ListAt) → t ≡ o.tables → list ≡ Some (turn_list (turn_at t (schedules_of o) es at)) → list ≡ Some (turn_list (turn_at o.tables (schedules_of o) es at))
+stood_at o es at t list same h = h ∙ ap (λ z. Some (turn_list (turn_at z (schedules_of o) es at))) same
+
+-- what the second part of an instant counts where a list begins
+pub counts_at : (o : Object) (es : List Event) (at : ℕ) (t : Tables) (code : ECode) (n n1 : Tally) → t ≡ o.tables → code ≡ o.ecode
+    → n ≡ with_records (first_records t (schedules_of o) es at) (with_instrs (length (phase_path t code es at 3)) (with_instrs (length (phase_path t code es at 2)) n1))
     → n ≡ with_records (first_records o.tables (schedules_of o) es at) (with_instrs (length (phase_path o.tables o.ecode es at 3)) (with_instrs (length (phase_path o.tables o.ecode es at 2)) n1))
-counts_at o es at t code ss n n1 same same_code same_schedules h =
-    subst (λ z. n ≡ with_records (first_records o.tables (instrs_of z) es at) (with_instrs (length (phase_path o.tables o.ecode es at 3)) (with_instrs (length (phase_path o.tables o.ecode es at 2)) n1))) same_schedules
-    (subst (λ z. n ≡ with_records (first_records o.tables (instrs_of ss) es at) (with_instrs (length (phase_path o.tables z es at 3)) (with_instrs (length (phase_path o.tables z es at 2)) n1))) same_code
-    (subst (λ z. n ≡ with_records (first_records z (instrs_of ss) es at) (with_instrs (length (phase_path z code es at 3)) (with_instrs (length (phase_path z code es at 2)) n1))) same h))
+counts_at o es at t code n n1 same same_code h =
+    subst (λ z. n ≡ with_records (first_records o.tables (schedules_of o) es at) (with_instrs (length (phase_path o.tables z es at 3)) (with_instrs (length (phase_path o.tables z es at 2)) n1))) same_code
+    (subst (λ z. n ≡ with_records (first_records z (schedules_of o) es at) (with_instrs (length (phase_path z code es at 3)) (with_instrs (length (phase_path z code es at 2)) n1))) same h)

@@ -1,107 +1,173 @@
--- The last part of an instant at which a round begins, put together.
-use Rattle.std.proofs.Common.{◌≡◌, ℕ, zero, suc, ◌+◌, ◌-◌, ◌<◌, ◌≤◌, ◌++◌, Bool, true, false, cond, List, [], length, get_or, slice_get, Option, Some, None, Result, Ok, Err, refl, sym, ap, ◌∙◌, subst, arith}
-use Rattle.std.proofs.lemmas.List.{get_or-map}
+-- The last part of an instant at which a list begins, put together.
+use Rattle.std.proofs.Common.{◌≡◌, ℕ, zero, suc, ◌+◌, ◌-◌, ◌<◌, ◌≤◌, ◌++◌, Bool, true, false, cond, List, [], ◌∷◌, length, get_or, slice_get, Option, Some, None, IfSome, Result, Ok, Err, refl, sym, ap, ◌∙◌, subst, arith}
+use Rattle.std.proofs.lemmas.List.{length-map}
 use Rattle.htl_edge.specs.Content.{Puts}
 use Rattle.htl_edge.proofs.Puts.{append_known-start, Puts-failed, Puts-second}
 use Rattle.htl_model.specs.declared.event.Event.{Event}
-use Rattle.htl_model.specs.Broken.{KeptTo}
+use Rattle.htl_model.specs.Lists.{joined}
 use Rattle.htl_model.specs.FrameRules.{KeptApart}
-use Rattle.htl_model.specs.Selections.{selection_count}
 use Rattle.htl_model.specs.Tables.{Tables}
+use Rattle.htl_walk.specs.declared.job.Job.{Job}
 use Rattle.htl_walk.specs.declared.schedule.SInstr.{SInstr}
+use Rattle.htl_walk.specs.declared.schedule.SInstr.TheVariants.{Dispatch, Idle, End}
 use Rattle.htl_walk.specs.declared.schedule.Schedule.{Schedule}
-use Rattle.htl_walk.specs.Walk.{Left, first_point}
-use Rattle.htl_smach.specs.Rounds.{Round, begun}
+use Rattle.htl_walk.specs.Walk.{Point, Left, job_at, time_after, work_after, next_point, left_by, walk_from, finishes_by}
+use Rattle.htl_walk.proofs.Steps.{left_same}
+use Rattle.htl_smach.specs.Rounds.{Round, Stands, begun}
 use Rattle.htl_ecode.specs.declared.ecode.ECode.{ECode}
 use Rattle.htl_emach.specs.Contents.{Content}
 use Rattle.htl_emach.specs.Following.{phase_path}
-use Rattle.htl_refine.specs.ConcreteJobs.{concrete_jobs}
-use Rattle.htl_refine.specs.Records.{Round as Plan, modes_at, walk_of}
-use Rattle.htl_refine.specs.Roots.{selection_of as selection_of_modes}
-use Rattle.htl_refine.proofs.Kept.{kept_apart}
+use Rattle.htl_refine.specs.ListPlans.{ListPlan as Plan, list_walk}
+use Rattle.htl_refine.specs.RecordCounts.{count_before}
+use Rattle.htl_refine.specs.Records.{modes_at}
+use Rattle.htl_object.specs.declared.object.Object.{Object}
 use Rattle.htl_console.specs.declared.shown.Shown.{Shown}
+use Rattle.htl_machine.specs.declared.numbering.ListAt.{ListAt}
 use Rattle.htl_machine.specs.declared.tally.Tally.{Tally}
+use Rattle.htl_machine.specs.Beginning.{CanFollow, IsToBegin}
+use Rattle.htl_machine.specs.Calls.{schedule_by}
+use Rattle.htl_machine.specs.Completing.{complete_at, complete_by, run_records}
 use Rattle.htl_machine.specs.Counts.{with_records}
 use Rattle.htl_machine.specs.Doing.{path_lines}
 use Rattle.htl_machine.specs.Follows.{DeskAt}
 use Rattle.htl_machine.specs.Leaving.{due_by}
+use Rattle.htl_machine.specs.ListBegun.{list_begun}
+use Rattle.htl_machine.specs.ListTurns.{Turn}
 use Rattle.htl_machine.specs.Opening.{reading_text, closing_text, first_records, beginning_text}
-use Rattle.htl_machine.specs.Completing.{complete_at, complete_by, run_records}
 use Rattle.htl_machine.specs.Printing.{Prints, Counted}
 use Rattle.htl_machine.specs.Readiness.{desk_replay}
 use Rattle.htl_machine.specs.Recording.{Records}
-use Rattle.htl_machine.specs.Rounds.{plan_of, list_of}
-use Rattle.htl_machine.specs.Starting.{kept_lengths, instrs_of, IsToBegin}
-use Rattle.htl_refine.specs.RecordCounts.{count_before}
+use Rattle.htl_machine.specs.RunLists.{turn_at}
+use Rattle.htl_machine.specs.StandingList.{node_by, turn_list, next_at}
+use Rattle.htl_machine.specs.Starting.{instrs_of}
+use Rattle.htl_machine.specs.Texts.{record_text, some_records}
 use Rattle.htl_machine.proofs.Closings.{reads_second}
-use Rattle.htl_refine.proofs.FinishingRecords.{last_is}
+use Rattle.htl_machine.proofs.FrameValues.{count_grows}
+use Rattle.htl_machine.proofs.Standing.{some_same, none_some}
 use Rattle.htl_machine.proofs.Turning.{before_count}
 
-pub kept_twelve : (t : Tables) → KeptTo t 16 → KeptTo t 12
-kept_twelve t kept = λ r s have need few broken. kept r s have need (omega (arith, few)) broken
+-- the first rules are among all
+pub apart_twelve : (t : Tables) → KeptApart t 16 → KeptApart t 12
+apart_twelve t kept = λ r s have need few other broken. kept r s have need (omega (arith, few)) other broken
 
--- the same but for equal root periods
-pub apart_twelve : (t : Tables) → KeptTo t 16 → KeptApart t 12
-apart_twelve t kept = kept_apart t 12 (kept_twelve t kept)
+-- ---- the list
 
--- ---- the round
+-- the list of the events has begun, and the releases of the instant are told
+pub record HasBegun (t : Tables) (lists : List (List SInstr)) (es : List Event) (at : ℕ) (list : Option ListAt) (steps : List SInstr) (first told : Round) : Type 0 where
+  pub list_is : list ≡ Some (turn_list (turn_at t lists es at))
+  pub same : (turn_at t lists es at).plan.schedule ≡ steps
+  pub jobs : first.jobs ≡ (turn_at t lists es at).plan.jobs
+  pub past : (turn_at t lists es at).frame + (turn_at t lists es at).plan.first.time ≡ at
+  pub told_at : DeskAt (turn_at t lists es at).plan (turn_at t lists es at).frame 0 (suc at - (turn_at t lists es at).frame) told
 
-pub begun_is : (t : Tables) (code : ECode) (schedules : List (List SInstr)) (es : List Event) (at : ℕ) (takes : List ℕ) (modes : List (Option ℕ)) (r : Round) → modes ≡ modes_at t es at → IsToBegin t code schedules es at takes
-    → r ≡ begun at (concrete_jobs t modes) (kept_lengths takes (concrete_jobs t modes)) → r ≡ begun at (plan_of t schedules es at).jobs (plan_of t schedules es at).lengths
-begun_is t code schedules es at takes modes r e h is =
-    is ∙ ap (λ (z : List (Option ℕ)). begun at (concrete_jobs t z) (kept_lengths takes (concrete_jobs t z))) e ∙ ap (begun at (plan_of t schedules es at).jobs) h.kept
+module _ (t : Tables) (code : ECode) (o : Object) (es : List Event) (at : ℕ) (takes : List ℕ) (last : Option ListAt) (r : Round) (modes : List (Option ℕ)) (ms : modes ≡ modes_at t es at)
+    (h : IsToBegin t code (instrs_of o.schedules) es at takes last r) where
+  abbrev u : Turn
+  u = turn_at t (instrs_of o.schedules) es at
 
-pub told_is : (t : Tables) (code : ECode) (schedules : List (List SInstr)) (es : List Event) (at : ℕ) (takes : List ℕ) (r n : Round) → IsToBegin t code schedules es at takes
-    → r ≡ begun at (plan_of t schedules es at).jobs (plan_of t schedules es at).lengths → n ≡ desk_replay code (phase_path t code es at 3) r → DeskAt (list_of (plan_of t schedules es at)) at 0 (suc at - at) n
-told_is t code schedules es at takes r n h is told =
-    subst (λ z. DeskAt (list_of (plan_of t schedules es at)) at 0 (suc at - at) z) (sym (told ∙ ap (desk_replay code (phase_path t code es at 3)) is)) h.told
+  pub may_follow : CanFollow t modes takes at last r
+  may_follow = subst (λ z. CanFollow t z takes at last r) (sym ms) h.follows
 
-pub schedule_is : (t : Tables) (schedules : List Schedule) (es : List Event) (at sel : ℕ) (modes : List (Option ℕ)) (x : Schedule) → modes ≡ modes_at t es at → sel ≡ selection_of_modes t modes → sel < selection_count t
-    → length schedules ≡ selection_count t → x ≡ get_or schedules sel x → x.instrs ≡ (plan_of t (instrs_of schedules) es at).schedule
-schedule_is t schedules es at sel modes x e is less many there =
-    ap (λ (s : Schedule). s.instrs) there ∙ sym (get_or-map (λ (s : Schedule). s.instrs) schedules sel x [] (omega (arith, less, many)))
-    ∙ ap (λ n. get_or (instrs_of schedules) n []) (is ∙ ap (selection_of_modes t) e)
+  module _ (list : Option ListAt) (is : list ≡ Some (next_at t modes at last)) where
+    list_there : list ≡ Some (turn_list (turn_at t (instrs_of o.schedules) es at))
+    list_there = is ∙ ap (λ z. Some (next_at t z at last)) ms ∙ ap (λ z. Some z) (sym h.next)
+
+    -- its node has a schedule
+    pub node_there : IfSome list (λ l. l.node < length o.schedules)
+    node_there = subst (λ (p : Option ListAt). IfSome p (λ l. l.node < length o.schedules)) (sym list_there) (let same = length-map o.schedules (λ (s : Schedule). s.instrs) in omega (arith, h.known, same))
+
+    pub has_begun : (idle steps : List SInstr) (first told : Round) → steps ≡ schedule_by o idle list → first ≡ list_begun t modes takes at r → told ≡ desk_replay code (phase_path t code es at 3) first
+        → ((s : List SInstr) → Stands first s → Stands told s) → HasBegun t (instrs_of o.schedules) es at list steps first told
+    has_begun idle steps first told by begun after keeps =
+        let own : first ≡ list_begun t (modes_at t es at) takes at r = begun ∙ ap (λ z. list_begun t z takes at r) ms in
+        let stands : Stands told u.plan.schedule = keeps u.plan.schedule (subst (λ d. Stands d u.plan.schedule) (sym own) h.begins.stands) in
+        let is_told : told ≡ desk_replay code (phase_path t code es at 3) (list_begun t (modes_at t es at) takes at r) = after ∙ ap (desk_replay code (phase_path t code es at 3)) own in
+        record {
+          list_is = list_there;
+          same = h.code_is ∙ sym (by ∙ ap (schedule_by o idle) list_there);
+          jobs = ap (λ (d : Round). d.jobs) own ∙ h.begins.jobs;
+          past = h.time;
+          told_at =
+              subst (DeskAt u.plan u.frame 0 (suc at - u.frame)) (sym is_told)
+              (h.told (subst (λ d. Stands d u.plan.schedule) is_told stands));
+        }
 
 -- ---- its first records
 
--- no job is done before its first tick
-still : (t : Tables) (p : Plan) (k : ℕ) (w : Content) → k < count_before 1 (walk_of p) → complete_by t p.jobs (slice_get (walk_of p) k) w ≡ w
-still t p k w h = by_record (slice_get (walk_of p) k) refl
+-- a job takes until behind the beginning of the list that finishes it
+runs_on : (now w r until : ℕ) → 0 < w → work_after now w r until ≡ 0 → now < time_after now w r until
+runs_on now zero r until h e = absurd (omega (arith, h))
+runs_on now (suc w) r until h e = omega (arith, e)
+
+stays_behind : (now w r until : ℕ) → now ≤ time_after now w r until
+stays_behind now zero r until = omega arith
+stays_behind now (suc w) r until = omega arith
+
+finishes_late : (jobs : List Job) (is : List SInstr) (x : Point) (k q : ℕ) (l : Left) → slice_get (walk_from jobs is x) k ≡ Some l → l.position ≡ Some q → l.finished ≡ true → x.time < l.at
+finishes_late jobs [] x k q l at pos fin = none_some l at
+finishes_late jobs (Dispatch p until ∷ is) x zero q l at pos fin =
+    let y = next_point jobs (Dispatch p until) x in
+    let e : left_by jobs (Dispatch p until) x y ≡ l = some_same _ _ at in
+    let late : x.time < y.time = by (get_or x.left p 0) (get_or y.left p 0) (left_same x.left p x.time (job_at jobs p).release until) (ap (λ (z : Left). z.finished) e ∙ fin) in
+    omega (arith, late, ap (λ (z : Left). z.at) e)
   where
-    by_position : (l : Left) → slice_get (walk_of p) k ≡ Some l → l.finished ≡ true → (o : Option ℕ) → l.position ≡ o → complete_at t p.jobs o w ≡ w
+    by : (w v : ℕ) → v ≡ work_after x.time w (job_at jobs p).release until → finishes_by w v ≡ true → x.time < time_after x.time w (job_at jobs p).release until
+    by zero v e f = absurd (let z : ⊥ = cc in z)
+    by (suc w) zero e f = runs_on x.time (suc w) (job_at jobs p).release until (omega arith) (sym e)
+    by (suc w) (suc v) e f = absurd (let z : ⊥ = cc in z)
+finishes_late jobs (Idle until ∷ is) x zero q l at pos fin = let e = some_same _ _ at in none_some q (ap (λ (z : Left). z.position) e ∙ pos)
+finishes_late jobs (End ∷ is) x zero q l at pos fin = let e = some_same _ _ at in none_some q (ap (λ (z : Left). z.position) e ∙ pos)
+finishes_late jobs (Dispatch p until ∷ is) x (suc k) q l at pos fin =
+    omega (arith, stays_behind x.time (get_or x.left p 0) (job_at jobs p).release until, finishes_late jobs is (next_point jobs (Dispatch p until) x) k q l at pos fin)
+finishes_late jobs (Idle until ∷ is) x (suc k) q l at pos fin = omega (arith, finishes_late jobs is (next_point jobs (Idle until) x) k q l at pos fin)
+finishes_late jobs (End ∷ is) x (suc k) q l at pos fin = finishes_late jobs is x k q l at pos fin
+
+-- so no job is done at once
+still : (t : Tables) (p : Plan) (k : ℕ) (w : Content) → k < count_before (suc p.first.time) (list_walk p) → complete_by t p.jobs (slice_get (list_walk p) k) w ≡ w
+still t p k w h = by_record (slice_get (list_walk p) k) refl
+  where
+    by_position : (l : Left) → slice_get (list_walk p) k ≡ Some l → l.finished ≡ true → (o : Option ℕ) → l.position ≡ o → complete_at t p.jobs o w ≡ w
     by_position l e fin None f = refl
     by_position l e fin (Some q) f =
-        let last = last_is p.jobs q p.schedule (first_point p.jobs p.lengths) k l e f fin in
-        absurd (omega (arith, last.released, before_count 1 (walk_of p) k l h e))
+        let late = finishes_late p.jobs p.schedule p.first k q l e f fin in
+        absurd (omega (arith, late, before_count (suc p.first.time) (list_walk p) k l h e))
 
-    by_done : (l : Left) → slice_get (walk_of p) k ≡ Some l → (b : Bool) → l.finished ≡ b → cond b (complete_at t p.jobs l.position w) w ≡ w
+    by_done : (l : Left) → slice_get (list_walk p) k ≡ Some l → (b : Bool) → l.finished ≡ b → cond b (complete_at t p.jobs l.position w) w ≡ w
     by_done l e false f = refl
     by_done l e true f = by_position l e f l.position refl
 
-    by_record : (o : Option Left) → slice_get (walk_of p) k ≡ o → complete_by t p.jobs o w ≡ w
+    by_record : (o : Option Left) → slice_get (list_walk p) k ≡ o → complete_by t p.jobs o w ≡ w
     by_record None e = refl
     by_record (Some l) e = by_done l e l.finished refl
 
-quiet : (t : Tables) (p : Plan) (n k : ℕ) (w : Content) → k + n ≤ count_before 1 (walk_of p) → run_records t p.jobs (walk_of p) n k w ≡ w
+quiet : (t : Tables) (p : Plan) (n k : ℕ) (w : Content) → k + n ≤ count_before (suc p.first.time) (list_walk p) → run_records t p.jobs (list_walk p) n k w ≡ w
 quiet t p zero k w h = refl
-quiet t p (suc n) k w h = quiet t p n (suc k) (complete_by t p.jobs (slice_get (walk_of p) k) w) (omega (arith, h)) ∙ still t p k w (omega (arith, h))
+quiet t p (suc n) k w h = quiet t p n (suc k) (complete_by t p.jobs (slice_get (list_walk p) k) w) (omega (arith, h)) ∙ still t p k w (omega (arith, h))
 
-pub first_done : (t : Tables) (p : Plan) (steps : List SInstr) (at : ℕ) (r n : Round) (w v : Content) → p.schedule ≡ steps → DeskAt (list_of p) at 0 (suc at - at) r → Records t r w n v steps at → (DeskAt (list_of p) at (due_by (list_of p) at at) (suc at - at) n) × (v ≡ w)
-first_done t p steps at r n w v same was records =
-    let all = records (list_of p) at 0 (suc at - at) same (omega arith) (omega arith) was in
-    let few : 0 + (due_by (list_of p) at at - 0) ≤ count_before 1 (walk_of p) =
-    omega (arith, ap (λ z. count_before z (walk_of p)) (let z : suc at - at ≡ 1 = omega arith in z)) in
-    (all.0, all.1 ∙ quiet t p (due_by (list_of p) at at - 0) 0 w few)
+no_place : (n : ℕ) → n - 0 ≡ n
+no_place n = omega arith
 
-pub first_counted : (t : Tables) (schedules : List (List SInstr)) (es : List Event) (steps : List SInstr) (at : ℕ) (r : Round) (n m : Tally) → (plan_of t schedules es at).schedule ≡ steps → DeskAt (list_of (plan_of t schedules es at)) at 0 (suc at - at) r
-    → Counted r steps at n m → m ≡ with_records (first_records t schedules es at) n
-first_counted t schedules es steps at r n m same was counted = counted (list_of (plan_of t schedules es at)) at 0 (suc at - at) same (omega arith) (omega arith) was
+module _ (t : Tables) (lists : List (List SInstr)) (es : List Event) (at : ℕ) (list : Option ListAt) (steps : List SInstr) (first told : Round) (h : HasBegun t lists es at list steps first told) where
+  abbrev v : Turn
+  v = turn_at t lists es at
 
-pub first_told : {T E : Type 0} (t : Tables) (schedules : List (List SInstr)) (es : List Event) (show : Shown) (steps : List SInstr) (at sel : ℕ) (modes : List (Option ℕ)) (r : Round) (w0 w : Option (List ℕ)) (f0 f : ℕ) (result : Result T E)
-    → (plan_of t schedules es at).schedule ≡ steps → modes ≡ modes_at t es at → sel ≡ selection_of_modes t modes → DeskAt (list_of (plan_of t schedules es at)) at 0 (suc at - at) r
-    → Prints t show sel r steps at w0 w f0 f result → Puts w0 w f0 f (beginning_text t schedules es show at) result
-first_told t schedules es show steps at sel modes r w0 w f0 f result same e is was prints =
-    subst (λ n. Prints t show n r steps at w0 w f0 f result) (is ∙ ap (selection_of_modes t) e) prints (list_of (plan_of t schedules es at)) at 0 (suc at - at) same (omega arith) (omega arith) was
+  pub first_done : (n : Round) (w x : Content) → Records t told w n x steps at
+      → DeskAt (turn_at t lists es at).plan (turn_at t lists es at).frame (due_by (turn_at t lists es at).plan (turn_at t lists es at).frame at) (suc at - (turn_at t lists es at).frame) n × (x ≡ w)
+  first_done n w x records =
+      let all = records v.plan v.frame 0 (suc at - v.frame) h.same (omega (arith, h.past)) (omega arith) h.told_at in
+      let few : 0 + (due_by v.plan v.frame at - 0) ≤ count_before (suc v.plan.first.time) (list_walk v.plan) =
+      omega (arith, ap (λ z. count_before z (list_walk v.plan)) (let z : suc at - v.frame ≡ suc v.plan.first.time = omega (arith, h.past) in z)) in
+      (all.0, all.1 ∙ quiet t v.plan (due_by v.plan v.frame at - 0) 0 w few)
+
+  pub first_counted : (n m : Tally) → Counted told steps at n m → m ≡ with_records (first_records t lists es at) n
+  first_counted n m counted =
+      counted v.plan v.frame 0 (suc at - v.frame) h.same (omega (arith, h.past)) (omega arith) h.told_at
+      ∙ ap (λ k. with_records (some_records v.plan v.frame 0 k) n) (no_place (due_by v.plan v.frame at))
+
+  pub first_told : {T E : Type 0} (show : Shown) (node : ℕ) (w0 w : Option (List ℕ)) (f0 f : ℕ) (result : Result T E) → node ≡ node_by list → Prints t show node told steps at w0 w f0 f result → Puts w0 w f0 f (beginning_text t lists es show at) result
+  first_told show node w0 w f0 f result is prints =
+      subst (λ k. Puts w0 w f0 f (joined (record_text t show v.plan v.node) (some_records v.plan v.frame 0 k)) result) (no_place (due_by v.plan v.frame at))
+      (subst (λ n. Prints t show n told steps at w0 w f0 f result) (is ∙ ap node_by h.list_is) prints v.plan v.frame 0 (suc at - v.frame) h.same (omega (arith, h.past)) (omega arith) h.told_at)
 
 -- ---- the text
 

@@ -33,6 +33,8 @@ use Rattle.htl_machine.specs.Programs.{schedules_of}
 use Rattle.htl_machine.specs.Texts.{text_before}
 use Rattle.htl_machine.specs.Wholes.{Whole, WholeFollowed}
 use Rattle.htl_machine.specs.RunLists.{turn_at, turn_by, list_turn}
+use Rattle.htl_machine.specs.declared.numbering.ListAt.{ListAt}
+use Rattle.htl_machine.specs.StandingList.{turn_list}
 use Rattle.htl_machine.specs.ListTurns.{Turn}
 use Rattle.htl_machine.proofs.RunLists.{job_is_of}
 use Rattle.htl_machine.proofs.RunsAgree.{node_same}
@@ -86,7 +88,7 @@ whole_of m es now accepted kept later b =
 
 pub before_of : (m : Seen) (es : List Event) (now : ℕ) (written : List ℕ) → IsAccepted m.object
     → Whole m.object.tables m.object.ecode (schedules_of m.object) m.show es now m.standing m.held (counts_of m) written
-    → GoesBy (turn_at m.object.tables (schedules_of m.object) es) (hyper m.object.tables) now m.selection → IsBefore m es now
+    → GoesBy (turn_at m.object.tables (schedules_of m.object) es) (hyper m.object.tables) now m.list → IsBefore m es now
 before_of m es now written accepted w goes =
     let loaded = accepted_is_loaded m.object accepted in
     let within = w.stands.up_to.within in
@@ -117,7 +119,7 @@ followed_of m es accepted f =
 
 follows_of : (m : Seen) (es : List Event) (written : List ℕ) → IsAccepted m.object
     → WholeFollowed m.object.tables m.object.ecode (schedules_of m.object) m.show es m.standing m.held (counts_of m) written
-    → GoesBy (turn_at m.object.tables (schedules_of m.object) es) (hyper m.object.tables) m.held.reading m.selection → length m.held.takes ≡ length m.object.tables.invs → Follows m es
+    → GoesBy (turn_at m.object.tables (schedules_of m.object) es) (hyper m.object.tables) m.held.reading m.list → length m.held.takes ≡ length m.object.tables.invs → Follows m es
 follows_of m es written accepted w goes count =
     record {
       kept =
@@ -135,17 +137,19 @@ follows_of m es written accepted w goes count =
 
 -- ---- the list by which the machine goes
 
-node_alike : (t : Tables) (schedules : List (List SInstr)) (loaded : IsLoaded t schedules) (es fs : List Event) (within : AreTookWithin t es) (now n : ℕ) → Alike t es fs now → n < now → (turn_at t schedules es n).node ≡ (turn_at t schedules fs n).node
-node_alike t schedules loaded es fs within now n a h = by (hyper t) refl
+list_alike : (t : Tables) (schedules : List (List SInstr)) (loaded : IsLoaded t schedules) (es fs : List Event) (within : AreTookWithin t es) (now n : ℕ) → Alike t es fs now → n < now → turn_list (turn_at t schedules es n) ≡ turn_list (turn_at t schedules fs n)
+list_alike t schedules loaded es fs within now n a h = by (hyper t) refl
   where
-    by : (o : Option ℕ) → hyper t ≡ o → (turn_by o t schedules es n).node ≡ (turn_by o t schedules fs n).node
+    by : (o : Option ℕ) → hyper t ≡ o → turn_list (turn_by o t schedules es n) ≡ turn_list (turn_by o t schedules fs n)
     by None e = refl
-    by (Some q) e = node_same t schedules es fs now (loaded_run t schedules loaded es within q e) a n h
+    by (Some q) e =
+        let make : ℕ → ListAt = λ node. record { node = node; number = (list_turn t schedules es n).list } in
+        ap make (node_same t schedules es fs now (loaded_run t schedules loaded es within q e) a n h)
 
-goes_alike : (t : Tables) (schedules : List (List SInstr)) (loaded : IsLoaded t schedules) (es fs : List Event) (within : AreTookWithin t es) (o : Option ℕ) (now : ℕ) (sel : Option ℕ) → Alike t es fs now → GoesBy (turn_at t schedules es) o now sel → GoesBy (turn_at t schedules fs) o now sel
-goes_alike t schedules loaded es fs within None now sel a g = g
-goes_alike t schedules loaded es fs within (Some p) zero sel a g = g
-goes_alike t schedules loaded es fs within (Some p) (suc n) sel a g = g ∙ ap (λ z. Some z) (node_alike t schedules loaded es fs within (suc n) n a (omega arith))
+goes_alike : (t : Tables) (schedules : List (List SInstr)) (loaded : IsLoaded t schedules) (es fs : List Event) (within : AreTookWithin t es) (o : Option ℕ) (now : ℕ) (last : Option ListAt) → Alike t es fs now → GoesBy (turn_at t schedules es) o now last → GoesBy (turn_at t schedules fs) o now last
+goes_alike t schedules loaded es fs within None now last a g = g
+goes_alike t schedules loaded es fs within (Some p) zero last a g = g
+goes_alike t schedules loaded es fs within (Some p) (suc n) last a g = g ∙ ap (λ z. Some z) (list_alike t schedules loaded es fs within (suc n) n a (omega arith))
 
 -- ---- calls
 
@@ -158,7 +162,7 @@ sense_follows m es c x accepted sensor f =
     (text_before t m.object.ecode (schedules_of m.object) es m.show m.held.reading) (slice_get_within t.comms c sensor.comm sensor.known)
     (subst (λ (o : Option Comm). IfSome o (λ y. FitsType y.ty x)) (sym sensor.known) sensor.fits) (followed_of m es accepted f) in
     follows_of (record m { held = shown_as c x m.held }) (es ++ V.Sense c x ∷ []) _ accepted g
-    (goes_alike t (schedules_of m.object) (accepted_is_loaded m.object accepted) es (es ++ V.Sense c x ∷ []) f.kept.within (hyper t) m.held.reading m.selection
+    (goes_alike t (schedules_of m.object) (accepted_is_loaded m.object accepted) es (es ++ V.Sense c x ∷ []) f.kept.within (hyper t) m.held.reading m.list
     (λ d u h. sym (sense_sense t es c d u x ∙ ap (λ b. cond b x (sense t es d u)) (early d u (omega (arith, f.kept.reading, h))))) f.before.records.goes)
     f.kept.count
   where
@@ -207,7 +211,7 @@ took_follows m es i n accepted length keeps f =
     (text_before t m.object.ecode (schedules_of m.object) es m.show m.held.reading) (length.some, omega (arith, length.worst, worst)) (slice_get_within t.invs i length.inv length.known) f.kept.count keeps
     (followed_of m es accepted f) in
     follows_of (record m { held = taken_as i n m.held }) (es ++ V.Took i n ∷ []) _ accepted g
-    (goes_alike t (schedules_of m.object) (accepted_is_loaded m.object accepted) es (es ++ V.Took i n ∷ []) f.kept.within (hyper t) m.held.reading m.selection (λ d u h. sym (sense_took t es i n d u)) f.before.records.goes)
+    (goes_alike t (schedules_of m.object) (accepted_is_loaded m.object accepted) es (es ++ V.Took i n ∷ []) f.kept.within (hyper t) m.held.reading m.list (λ d u h. sym (sense_took t es i n d u)) f.before.records.goes)
     (length-set m.held.takes i n ∙ f.kept.count)
 
 -- a reading, once all instants before it are done
@@ -218,7 +222,7 @@ read_follows m es to accepted later f =
     whole_reading t m.object.ecode (schedules_of m.object) (accepted_is_loaded m.object accepted) accepted.spelled.code m.show es to m.standing m.held (counts_of m)
     (text_before t m.object.ecode (schedules_of m.object) es m.show to) f.kept.fresh (whole_of m es to accepted f.kept (omega (arith, f.kept.reading, later)) f.before) in
     follows_of (record m { held = at_reading to m.held }) (es ++ V.At to ∷ []) _ accepted g
-    (goes_alike t (schedules_of m.object) (accepted_is_loaded m.object accepted) es (es ++ V.At to ∷ []) f.kept.within (hyper t) to m.selection (λ d u h. sym (sense_at t es to d u)) f.before.records.goes) f.kept.count
+    (goes_alike t (schedules_of m.object) (accepted_is_loaded m.object accepted) es (es ++ V.At to ∷ []) f.kept.within (hyper t) to m.list (λ d u h. sym (sense_at t es to d u)) f.before.records.goes) f.kept.count
 
 -- the end of a run
 pub finished : (m : Seen) (es : List Event) (to : ℕ) → IsUpTo m es (suc to) → IsFinished (record m { held = record m.held { reading = to; spent = true } }) es to
@@ -274,18 +278,19 @@ new_follows_none o show t code w e same same_code accepted is shaped first safe 
     (subst (λ z. Follows (first_seen o show (first_content o.tables) z) []) (sym e_is) (first_follows o show accepted s h))
 
 -- a machine that is made stands at the beginning
-pub first_is : (o : Object) (show : Shown) (w : Content) (e : Standing) (shows : List ℤ) (takes : List ℕ) (desk : rounds.Round) → shows ≡ w.values → takes ≡ map (λ (x : Inv). task_worst o.tables x.task) o.tables.invs → desk ≡ rounds.no_round
+pub first_is : (o : Object) (show : Shown) (w : Content) (e : Standing) (shows : List ℤ) (takes : List ℕ) (desk : rounds.Round) (list : Option ListAt) → shows ≡ w.values → takes ≡ map (λ (x : Inv). task_worst o.tables x.task) o.tables.invs → desk ≡ rounds.no_round → list ≡ None
     → ◌≡◌ {A = Seen} (record {
       object = o;
       show = show;
       held = record { spent = false; reading = 0; shows = shows; takes = takes; world = w; desk = desk };
       standing = e;
-      selection = None;
+      list = list;
       jobs = 0;
       e = 0;
       s = 0;
     }) (first_seen o show w e)
-first_is o show w e shows takes desk a b d =
-    let make : List ℤ → List ℕ → rounds.Round → Seen =
-    λ shows takes desk. record { object = o; show = show; held = record { spent = false; reading = 0; shows = shows; takes = takes; world = w; desk = desk }; standing = e; selection = None; jobs = 0; e = 0; s = 0 } in
-    ap (λ z. make z takes desk) a ∙ ap (λ z. make w.values z desk) b ∙ ap (make w.values (map (λ (x : Inv). task_worst o.tables x.task) o.tables.invs)) d
+first_is o show w e shows takes desk list a b d l =
+    let make : List ℤ → List ℕ → rounds.Round → Option ListAt → Seen =
+    λ shows takes desk list. record { object = o; show = show; held = record { spent = false; reading = 0; shows = shows; takes = takes; world = w; desk = desk }; standing = e; list = list; jobs = 0; e = 0; s = 0 } in
+    let worst = map (λ (x : Inv). task_worst o.tables x.task) o.tables.invs in
+    ap (λ z. make z takes desk list) a ∙ ap (λ z. make w.values z desk list) b ∙ ap (λ z. make w.values worst z list) d ∙ ap (make w.values worst rounds.no_round) l

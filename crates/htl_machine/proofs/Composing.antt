@@ -19,10 +19,8 @@ use Rattle.htl_console.specs.Shows.{shows_values}
 use Rattle.htl_machine.specs.declared.tally.Tally.{Tally}
 use Rattle.htl_machine.specs.Counts.{one_record, one_instr, with_records, with_instrs}
 use Rattle.htl_machine.specs.Doing.{path_lines}
-use Rattle.htl_machine.specs.Leaving.{due_by}
 use Rattle.htl_machine.specs.Opening.{closing_text, first_records, beginning_text}
 use Rattle.htl_machine.specs.ListTurns.{left_before, Turn}
-use Rattle.htl_machine.specs.Rounds.{round_turn}
 use Rattle.htl_machine.specs.Texts.{records_text, some_records, old_records, list_texts, instant_text, records_of, old_turn}
 use Rattle.htl_emach.proofs.Instants.{whole_path}
 use Rattle.htl_machine.specs.Machines.{Counts}
@@ -59,18 +57,13 @@ module _ (t : Tables) (code : ECode) (schedules : List (List SInstr)) (es : List
       ∙ ap (λ b. (records_text t show (old_turn turn now) (old_records turn now), records_text t show u (cond b (some_records u.plan u.frame 0 (left_before u (suc now))) []))) (ne_eqb (u.frame + u.from) now apart)
 
   -- where one begins
-  pub texts_beginning : (period : ℕ) → hyper t ≡ Some period → turn_at t schedules es now ≡ round_turn t schedules es period now
+  pub texts_beginning : (period : ℕ) → hyper t ≡ Some period → (turn_at t schedules es now).frame + (turn_at t schedules es now).from ≡ now
       → list_texts t schedules es show (hyper t) now ≡ (records_text t show (old_turn (turn_at t schedules es) now) (old_records (turn_at t schedules es) now), beginning_text t schedules es show now)
-  texts_beginning period root starts =
+  texts_beginning period root here =
       let turn = turn_at t schedules es in
-      let old = records_text t show (old_turn turn now) (old_records turn now) in
+      let u = turn now in
       ap (λ o. list_texts t schedules es show o now) root
-      ∙ ap (λ (u : Turn). (old, records_text t show u (cond (eqb (u.frame + u.from) now) (some_records u.plan u.frame 0 (left_before u (suc now))) []))) starts
-      ∙ ap (λ b. (old, records_text t show (first now) (cond b (some_records (first now).plan now 0 (left_before (first now) (suc now))) []))) (eq-eqb (now + 0) now (omega arith))
-      ∙ ap (λ k. (old, records_text t show (first now) (some_records (first now).plan now 0 k))) (let z : left_before (first now) (suc now) ≡ due_by (first now).plan now now - 0 = omega arith in z)
-    where
-      first : ℕ → Turn
-      first s = round_turn t schedules es period s
+      ∙ ap (λ b. (records_text t show (old_turn turn now) (old_records turn now), records_text t show u (cond b (some_records u.plan u.frame 0 (left_before u (suc now))) []))) (eq-eqb (u.frame + u.from) now here)
 
   -- without modules
   pub texts_alone : hyper t ≡ None → list_texts t schedules es show (hyper t) now ≡ ([], [])
@@ -165,17 +158,13 @@ module _ (t : Tables) (schedules : List (List SInstr)) (es : List Event) (now : 
       ap (λ o. records_of t schedules es o now) root
       ∙ ap (λ b. old_records turn now ++ cond b (some_records u.plan u.frame 0 (left_before u (suc now))) []) (ne_eqb (u.frame + u.from) now apart)
 
-  pub records_beginning : (period : ℕ) → hyper t ≡ Some period → turn_at t schedules es now ≡ round_turn t schedules es period now
+  pub records_beginning : (period : ℕ) → hyper t ≡ Some period → (turn_at t schedules es now).frame + (turn_at t schedules es now).from ≡ now
       → records_of t schedules es (hyper t) now ≡ old_records (turn_at t schedules es) now ++ first_records t schedules es now
-  records_beginning period root starts =
+  records_beginning period root here =
       let turn = turn_at t schedules es in
+      let u = turn now in
       ap (λ o. records_of t schedules es o now) root
-      ∙ ap (λ (u : Turn). old_records turn now ++ cond (eqb (u.frame + u.from) now) (some_records u.plan u.frame 0 (left_before u (suc now))) []) starts
-      ∙ ap (λ b. old_records turn now ++ cond b (some_records (first now).plan now 0 (left_before (first now) (suc now))) []) (eq-eqb (now + 0) now (omega arith))
-      ∙ ap (λ k. old_records turn now ++ some_records (first now).plan now 0 k) (let z : left_before (first now) (suc now) ≡ due_by (first now).plan now now - 0 = omega arith in z)
-    where
-      first : ℕ → Turn
-      first s = round_turn t schedules es period s
+      ∙ ap (λ b. old_records turn now ++ cond b (some_records u.plan u.frame 0 (left_before u (suc now))) []) (eq-eqb (u.frame + u.from) now here)
 
   pub records_alone : hyper t ≡ None → records_of t schedules es (hyper t) now ≡ []
   records_alone root = ap (λ o. records_of t schedules es o now) root

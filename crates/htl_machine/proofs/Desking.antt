@@ -10,9 +10,7 @@ use Rattle.htl_smach.specs.Rounds as rounds
 use Rattle.htl_smach.specs.Rounds.{Round, begun, told, told_from, records, next_left, left_until, moved}
 use Rattle.htl_refine.specs.RecordCounts.{count_before}
 use Rattle.htl_refine.specs.ListPlans.{ListPlan as Plan, list_walk}
-use Rattle.htl_refine.specs.Records.{Round as Work}
 use Rattle.htl_machine.specs.Follows.{released_before, DeskStands, DeskAt}
-use Rattle.htl_machine.specs.Rounds.{list_of}
 use Rattle.htl_machine.proofs.Standing.{some_same, none_some}
 use Rattle.htl_machine.proofs.Turning.{at_count, before_count}
 
@@ -143,12 +141,14 @@ count_all e [] h = refl
 count_all e (l ∷ ls) h = ap (λ b. cond b (suc (count_before e ls)) 0) (lt-ltb l.at e (h 0 l refl)) ∙ ap suc (count_all e ls (λ k m g. h (suc k) m g))
 
 -- then all its records are given
-pub is_over : (p : Plan) (s now d count period : ℕ) (r : Round) → InForm count period p.schedule → p.first.time ≤ period → now ≡ s + period → DeskAt p s (count_before (suc now - s) (list_walk p)) d r → r.running ≡ false
-is_over p s now d count period r form early e at =
-    let all : count_before (suc now - s) (list_walk p) ≡ length (list_walk p) =
+pub all_given : (p : Plan) (s now count period : ℕ) → InForm count period p.schedule → p.first.time ≤ period → now ≡ s + period → count_before (suc now - s) (list_walk p) ≡ length p.schedule
+all_given p s now count period form early e =
     count_all (suc now - s) (list_walk p)
-    (λ k l g. let z : l.at ≤ period = times_within p.jobs count period p.schedule p.first form early k l g in omega arith) in
-    at.running ∙ le-ltb (count_before (suc now - s) (list_walk p)) (length p.schedule) (omega (arith, all, length-walk p.jobs p.schedule p.first))
+    (λ k l g. let z : l.at ≤ period = times_within p.jobs count period p.schedule p.first form early k l g in omega arith)
+    ∙ length-walk p.jobs p.schedule p.first
+
+pub not_running : (p : Plan) (s d : ℕ) (r : Round) → DeskAt p s (length p.schedule) d r → r.running ≡ false
+not_running p s d r at = at.running ∙ le-ltb (length p.schedule) (length p.schedule) (omega arith)
 
 -- ---- a frame begins
 
@@ -162,16 +162,3 @@ none_released (j ∷ js) = ap₂ (λ a b. a ∷ b) (by_present j.present) (none_
     by_present : (b : Bool) → false ≡ (b && ltb j.release 0)
     by_present true = sym (none j.release)
     by_present false = refl
-
-pub desk_begins : (p : Work) (s : ℕ) → length p.lengths ≡ length p.jobs → 0 < length p.schedule → rounds.Stands (begun s p.jobs p.lengths) p.schedule → DeskAt (list_of p) s 0 0 (begun s p.jobs p.lengths)
-desk_begins p s same some st =
-    record {
-      start = refl;
-      jobs = refl;
-      lengths = same;
-      first = refl;
-      place = refl;
-      running = sym (lt-ltb 0 (length p.schedule) some);
-      released = none_released p.jobs;
-      stands = st;
-    }

@@ -8,13 +8,12 @@ use Rattle.htl_model.specs.Lists.{joined}
 use Rattle.htl_model.specs.Frames.{hyper}
 use Rattle.htl_model.specs.Tables.{Tables}
 use Rattle.htl_walk.specs.declared.schedule.SInstr.{SInstr}
-use Rattle.htl_walk.specs.declared.schedule.Schedule.{Schedule}
-use Rattle.htl_machine.specs.Starting.{instrs_of}
 use Rattle.htl_smach.specs.declared.left.Left.{Left}
 use Rattle.htl_ecode.specs.declared.ecode.ECode.{ECode}
 use Rattle.htl_emach.specs.Following.{phase_path}
 use Rattle.htl_object.specs.Accepted.{IsAccepted}
-use Rattle.htl_machine.specs.Calls.{Seen, IsUpTo, number_by}
+use Rattle.htl_machine.specs.Calls.{Seen, IsUpTo}
+use Rattle.htl_machine.specs.StandingList.{node_by}
 use Rattle.htl_machine.specs.Doing.{path_lines}
 use Rattle.htl_machine.specs.Instant.{IsReadyAt}
 use Rattle.htl_machine.specs.Leaving.{due_by}
@@ -40,10 +39,10 @@ module _ (m : Seen) (es : List Event) (now : ℕ) (accepted : IsAccepted m.objec
     old = some_records r.plan r.start r.place (due_by r.plan r.start now - r.place)
 
     abbrev first : List ℕ
-    first = joined (record_text t m.show r.plan (number_by m.selection)) old ++ path_lines t code m.show now (phase_path t code es now 1)
+    first = joined (record_text t m.show r.plan (node_by m.list)) old ++ path_lines t code m.show now (phase_path t code es now 1)
 
     pub open_failed : {T S E F : Type 0} (w0 w : Option (List ℕ)) (f0 f : ℕ) (x : E) (y : F)
-        → Opens {T = T} {E = E} m.object.tables m.object.ecode es m.show (number_by m.selection) m.held.desk steps now w0 w f0 f (Err x) → Puts {T = S} {E = F} w0 w f0 f (lines_of m.object es m.show now) (Err y)
+        → Opens {T = T} {E = E} m.object.tables m.object.ecode es m.show (node_by m.list) m.held.desk steps now w0 w f0 f (Err x) → Puts {T = S} {E = F} w0 w f0 f (lines_of m.object es m.show now) (Err y)
     open_failed {S = S} {F = F} w0 w f0 f x y opens =
         let rest = (list_texts t schedules es m.show (hyper t) now).1 in
         subst (λ z. Puts {T = S} {E = F} w0 w f0 f z (Err y)) (lines_are_composed m es now accepted read u steps r rest refl)
@@ -51,7 +50,7 @@ module _ (m : Seen) (es : List Event) (now : ℕ) (accepted : IsAccepted m.objec
 
     closed : {T S E F : Type 0} (new : List ℕ) (w0 w1 w : Option (List ℕ)) (f0 f1 f : ℕ) (x : T) (result : Result S F)
         → (list_texts m.object.tables (schedules_of m.object) es m.show (hyper m.object.tables) now).1 ≡ new
-        → Opens {T = T} {E = E} m.object.tables m.object.ecode es m.show (number_by m.selection) m.held.desk steps now w0 w1 f0 f1 (Ok x)
+        → Opens {T = T} {E = E} m.object.tables m.object.ecode es m.show (node_by m.list) m.held.desk steps now w0 w1 f0 f1 (Ok x)
         → Puts {T = S} {E = F} w1 w f1 f (closing_text m.object.tables m.object.ecode es m.show now ++ new) result → Puts {T = S} {E = F} w0 w f0 f (lines_of m.object es m.show now) result
     closed {S = S} {F = F} new w0 w1 w f0 f1 f x result is opens puts =
         let a = opens r.plan r.start r.place r.offset r.same r.past r.few r.was in
@@ -59,23 +58,22 @@ module _ (m : Seen) (es : List Event) (now : ℕ) (accepted : IsAccepted m.objec
         (Puts-second w0 w1 w f0 f1 f first (closing_text t code es m.show now ++ new) result a.whole a.cause.kept puts)
 
     pub going_closed : {T S E F : Type 0} (w0 w1 w : Option (List ℕ)) (f0 f1 f : ℕ) (x : T) (result : Result S F) → begins m.object.tables now ≡ false
-        → Opens {T = T} {E = E} m.object.tables m.object.ecode es m.show (number_by m.selection) m.held.desk steps now w0 w1 f0 f1 (Ok x)
+        → Opens {T = T} {E = E} m.object.tables m.object.ecode es m.show (node_by m.list) m.held.desk steps now w0 w1 f0 f1 (Ok x)
         → Puts {T = S} {E = F} w1 w f1 f (closing_text m.object.tables m.object.ecode es m.show now) result → Puts {T = S} {E = F} w0 w f0 f (lines_of m.object es m.show now) result
     going_closed {S = S} {F = F} w0 w1 w f0 f1 f x result b opens puts =
         closed [] w0 w1 w f0 f1 f x result (text_goes_on m es now accepted read u b) opens (subst (λ z. Puts {T = S} {E = F} w1 w f1 f z result) (sym (append-nil (closing_text t code es m.show now))) puts)
 
     pub begun_closed : {T S E F : Type 0} (w0 w1 w : Option (List ℕ)) (f0 f1 f : ℕ) (x : T) (result : Result S F) → begins m.object.tables now ≡ true
-        → Opens {T = T} {E = E} m.object.tables m.object.ecode es m.show (number_by m.selection) m.held.desk steps now w0 w1 f0 f1 (Ok x)
+        → Opens {T = T} {E = E} m.object.tables m.object.ecode es m.show (node_by m.list) m.held.desk steps now w0 w1 f0 f1 (Ok x)
         → Puts {T = S} {E = F} w1 w f1 f (closing_text m.object.tables m.object.ecode es m.show now ++ beginning_text m.object.tables (schedules_of m.object) es m.show now) result
         → Puts {T = S} {E = F} w0 w f0 f (lines_of m.object es m.show now) result
     begun_closed w0 w1 w f0 f1 f x result b opens puts = closed (beginning_text t schedules es m.show now) w0 w1 w f0 f1 f x result (text_begins m es now accepted read u b) opens puts
 
-    -- the same, where the tables, the code and the schedules are named otherwise
-    pub begun_closed_at : {T S E F : Type 0} (t1 : Tables) (code1 : ECode) (ss : List Schedule) (w0 w1 w : Option (List ℕ)) (f0 f1 f : ℕ) (x : T) (result : Result S F) → t1 ≡ m.object.tables → code1 ≡ m.object.ecode
-        → ss ≡ m.object.schedules → begins m.object.tables now ≡ true → Opens {T = T} {E = E} m.object.tables m.object.ecode es m.show (number_by m.selection) m.held.desk steps now w0 w1 f0 f1 (Ok x)
-        → Puts {T = S} {E = F} w1 w f1 f (closing_text t1 code1 es m.show now ++ beginning_text t1 (instrs_of ss) es m.show now) result → Puts {T = S} {E = F} w0 w f0 f (lines_of m.object es m.show now) result
-    begun_closed_at {S = S} {F = F} t1 code1 ss w0 w1 w f0 f1 f x result same same_code same_schedules b opens puts =
+    -- the same, where the tables and the code are named otherwise
+    pub begun_closed_at : {T S E F : Type 0} (t1 : Tables) (code1 : ECode) (w0 w1 w : Option (List ℕ)) (f0 f1 f : ℕ) (x : T) (result : Result S F) → t1 ≡ m.object.tables → code1 ≡ m.object.ecode
+        → begins m.object.tables now ≡ true → Opens {T = T} {E = E} m.object.tables m.object.ecode es m.show (node_by m.list) m.held.desk steps now w0 w1 f0 f1 (Ok x)
+        → Puts {T = S} {E = F} w1 w f1 f (closing_text t1 code1 es m.show now ++ beginning_text t1 (schedules_of m.object) es m.show now) result → Puts {T = S} {E = F} w0 w f0 f (lines_of m.object es m.show now) result
+    begun_closed_at {S = S} {F = F} t1 code1 w0 w1 w f0 f1 f x result same same_code b opens puts =
         begun_closed w0 w1 w f0 f1 f x result b opens
-        (subst (λ z. Puts {T = S} {E = F} w1 w f1 f (closing_text t code es m.show now ++ beginning_text t (instrs_of z) es m.show now) result) same_schedules
-        (subst (λ z. Puts {T = S} {E = F} w1 w f1 f (closing_text t z es m.show now ++ beginning_text t (instrs_of ss) es m.show now) result) same_code
-        (subst (λ z. Puts {T = S} {E = F} w1 w f1 f (closing_text z code1 es m.show now ++ beginning_text z (instrs_of ss) es m.show now) result) same puts)))
+        (subst (λ z. Puts {T = S} {E = F} w1 w f1 f (closing_text t z es m.show now ++ beginning_text t (schedules_of m.object) es m.show now) result) same_code
+        (subst (λ z. Puts {T = S} {E = F} w1 w f1 f (closing_text z code1 es m.show now ++ beginning_text z (schedules_of m.object) es m.show now) result) same puts))

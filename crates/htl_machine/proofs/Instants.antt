@@ -1,12 +1,12 @@
 -- The record half over an instant: records left, releases told, a list over.
-use Rattle.std.proofs.Common.{◌≡◌, ℕ, suc, ◌+◌, ◌-◌, ◌≤◌, Bool, false, List, length, Option, refl, sym, ap, ◌∙◌, arith}
+use Rattle.std.proofs.Common.{◌≡◌, ℕ, suc, ◌+◌, ◌-◌, ◌≤◌, Bool, false, List, length, Option, refl, sym, ap, ◌∙◌, subst, arith}
 use Rattle.htl_model.specs.declared.event.Event.{Event}
 use Rattle.htl_model.specs.declared.state.Stay.{Stay}
 use Rattle.htl_model.specs.Tables.{Tables}
 use Rattle.htl_model.specs.Ranges.{AreInRange}
 use Rattle.htl_model.specs.Meaning.{state}
 use Rattle.htl_smach.specs.Rounds as rounds
-use Rattle.htl_smach.specs.Rounds.{Round, begun}
+use Rattle.htl_smach.specs.Rounds.{Round}
 use Rattle.htl_machine.specs.Worlds.{all_reads}
 use Rattle.htl_refine.specs.RecordCounts.{count_before}
 use Rattle.htl_machine.specs.Casts.{IsCast, HaveWindows}
@@ -17,7 +17,7 @@ use Rattle.htl_machine.specs.Leaving.{due_by, Leaves}
 use Rattle.htl_machine.specs.Tellings.{tell_all}
 use Rattle.htl_machine.proofs.Standing.{IsStanding, standing_at}
 use Rattle.htl_machine.proofs.FrameValues.{count_grows}
-use Rattle.htl_machine.proofs.Desking.{desk_opens, desk_closes, is_over}
+use Rattle.htl_machine.proofs.Desking.{desk_opens, desk_closes, all_given}
 use Rattle.htl_machine.proofs.Releasing.{flags_after}
 use Rattle.htl_machine.proofs.RoundServed.{windows_of}
 
@@ -60,8 +60,9 @@ module _ (t : Tables) (range : AreInRange t) (es : List Event) (turn : ℕ → T
       (desk_told t (state t es now).stays now u.plan u.frame (due_by u.plan u.frame now) now r (standing_at t range es now) (omega arith) (turns.frames.past now) (turns.frames.casts now) (windows now) at st)
 
   -- the list before is over where one begins
-  pub desk_over : (n : ℕ) (r r1 : Round) → (turn n).frame + (turn n).to ≡ suc n → IsListed (turn n) → DeskStands (turn n).plan (turn n).frame (suc n) r → Leaves r r1 (turn n).plan.schedule (suc n) → r1.running ≡ false
-  desk_over n r r1 ends listed f leaves =
+  pub desk_ends : (n : ℕ) (r r1 : Round) → (turn n).frame + (turn n).to ≡ suc n → IsListed (turn n) → DeskStands (turn n).plan (turn n).frame (suc n) r → Leaves r r1 (turn n).plan.schedule (suc n)
+      → DeskAt (turn n).plan (turn n).frame (length (turn n).plan.schedule) (suc n - (turn n).frame) r1
+  desk_ends n r r1 ends listed f leaves =
       let u = turn n in
-      is_over u.plan u.frame (suc n) (suc n - u.frame) (length u.plan.jobs) u.to r1 listed.form (omega (arith, listed.time, listed.order)) (sym ends)
+      subst (λ k. DeskAt u.plan u.frame k (suc n - u.frame) r1) (all_given u.plan u.frame (suc n) (length u.plan.jobs) u.to listed.form (omega (arith, listed.time, listed.order)) (sym ends))
       (desk_left u.plan u.frame (suc n) r r1 (omega (arith, turns.frames.past n)) f leaves)

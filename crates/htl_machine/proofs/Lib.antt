@@ -37,7 +37,6 @@ pub mod TookLists
 pub mod TellingLists
 pub mod Tops
 pub mod Windows
-pub mod Rounding
 pub mod LoadedLists
 pub mod NextLists
 pub mod NextPoints
@@ -63,8 +62,6 @@ pub mod Meeting
 pub mod Waking
 pub mod Acting
 pub mod Timely
-pub mod Climbing
-pub mod Placed
 pub mod Telling
 pub mod TellingText
 pub mod LineBytes
@@ -76,7 +73,6 @@ pub mod FrameLines
 pub mod JobRounds
 pub mod OneRecord
 pub mod JobTimes
-pub mod Loaded
 pub mod Accepted
 pub mod Calling
 pub mod Passing
@@ -95,7 +91,6 @@ pub mod Composing
 pub mod Putting
 pub mod Doing
 pub mod Printing
-pub mod OneList
 pub mod Openings
 pub mod Closings
 pub mod Agreeing
@@ -104,6 +99,9 @@ pub mod Beginnings
 pub mod Periodic
 pub mod Positions
 pub mod Ready
+pub mod NodesBelow
+pub mod ToBegin
+pub mod Followed
 pub mod After
 pub mod Idle
 pub mod Quiet

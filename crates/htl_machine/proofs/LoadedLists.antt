@@ -1,41 +1,28 @@
--- The lists of a loaded program: at each instant one stands, and where one begins the code begins a round.
+-- The lists of a loaded program: at each instant one stands, and the code knows where one begins.
 use Rattle.std.proofs.Common.{◌≡◌, ℕ, ◌+◌, ◌<◌, eqb, List, [], ◌∷◌, length, map, get_or, Option, Some, None, IfSome, refl, sym, ap, ◌∙◌, subst, arith, inr, true}
-use Rattle.std.proofs.lemmas.List.{length-map}
 use Rattle.std.proofs.lemmas.Option.{slice_get_within}
 use Rattle.htl_model.specs.declared.event.Event.{Event}
 use Rattle.htl_model.specs.declared.parts.Inv.{Inv}
 use Rattle.htl_model.specs.declared.parts.Module.{Module}
-use Rattle.htl_model.specs.Broken.{KeptTo}
 use Rattle.htl_model.specs.Frames.{hyper, unit_period, multiple_of}
-use Rattle.htl_model.specs.Lists.{places_from}
 use Rattle.htl_model.specs.Meaning.{state}
-use Rattle.htl_model.specs.Selections.{is_root, root_modules, root_period}
+use Rattle.htl_model.specs.Selections.{root_modules}
 use Rattle.htl_model.specs.Tables.{Tables, is_concrete}
 use Rattle.htl_model.proofs.FrameBuild.{frame_some}
 use Rattle.htl_walk.specs.declared.job.Job.{Job}
 use Rattle.htl_walk.specs.declared.schedule.SInstr.{SInstr}
-use Rattle.htl_walk.specs.EqualPeriods.{HasOnePeriod}
-use Rattle.htl_walk.proofs.OnePeriod.{one_period}
-use Rattle.htl_object.proofs.OneRound.{one_round}
-use Rattle.htl_refine.specs.Records.{AreTookWithin, took}
+use Rattle.htl_refine.specs.Records.{AreTookWithin}
 use Rattle.htl_refine.specs.ServedFrames.{IsFeasibleRun}
-use Rattle.htl_refine.proofs.Kept.{kept_apart}
+use Rattle.htl_refine.proofs.RootSelection.{roots_some}
 use Rattle.htl_machine.specs.Casts.{IsCast}
 use Rattle.htl_machine.specs.Follows.{IsLoaded}
 use Rattle.htl_machine.specs.ListTurns.{Turn, AreTurns, AreListed}
 use Rattle.htl_machine.specs.Recording.{AreOf}
-use Rattle.htl_machine.specs.Rounds.{plan_of, round_start, round_turn}
 use Rattle.htl_machine.specs.RunLists.{no_turn, turn_by, turn_at, list_turn}
 use Rattle.htl_machine.specs.Timing.{begins}
-use Rattle.htl_machine.proofs.Loaded.{root_there}
 use Rattle.htl_machine.proofs.NextLists.{lists_begin}
-use Rattle.htl_machine.proofs.OneList.{one_turn}
-use Rattle.htl_machine.proofs.Periodic.{some_roots}
 use Rattle.htl_machine.proofs.RunLists.{are_turns, are_listed, code_is, job_is_of}
 use Rattle.htl_machine.proofs.Standing.{none_some, standing_at}
-
-pub length-lengths : (t : Tables) (schedules : List (List SInstr)) (es : List Event) (s : ℕ) → length (plan_of t schedules es s).lengths ≡ length (plan_of t schedules es s).jobs
-length-lengths t schedules es s = length-map (plan_of t schedules es s).jobs (λ (j : Job). took t es j.inv (s + j.release))
 
 -- ---- without modules
 
@@ -46,25 +33,27 @@ nothing : {A : Type 0} (xs : List A) → (0 < length xs → ⊥) → xs ≡ []
 nothing [] h = refl
 nothing (x ∷ xs) h = absurd (h (omega arith))
 
+some_hyper : (t : Tables) (u : ℕ) (us : List ℕ) → root_modules t ≡ u ∷ us → (h : ℕ) × (hyper t ≡ Some h)
+some_hyper t u us e = (
+  multiple_of (unit_period t u) (map (unit_period t) us),
+  ap (λ (vs : List ℕ). elim (map (unit_period t) vs) as (λ _. Option ℕ) [ [] ↦ None | p ∷ ps ↦ Some (multiple_of p ps) ]) e,
+)
+
+pub some_roots : (t : Tables) (h : ℕ) → hyper t ≡ Some h → 0 < length (root_modules t)
+some_roots t h e = by (root_modules t) refl
+  where
+    by : (us : List ℕ) → root_modules t ≡ us → 0 < length (root_modules t)
+    by [] is = none_some h (sym (no_hyper t is) ∙ e)
+    by (u ∷ us) is = omega (arith, ap (λ (vs : List ℕ). length vs) is)
+
 module _ (t : Tables) (schedules : List (List SInstr)) (loaded : IsLoaded t schedules) where
-  -- all root modules have the period of the rounds
-  pub loaded_one : (q : ℕ) → root_period t ≡ Some q → HasOnePeriod t q
-  loaded_one q root =
-      let first_rules : KeptTo t 12 = λ r s have need small broken. loaded.rules r s have need (omega (arith, small)) broken in
-      subst (HasOnePeriod t) (ap (λ (o : Option ℕ). elim o [ Some p ↦ p | None ↦ 0 ]) root) (one_round t loaded.range first_rules (some_roots t q root))
-
-  no_rounds : root_period t ≡ None → t.modules ≡ []
-  no_rounds e = nothing t.modules (λ some. let r = root_there t loaded.range some in none_some r.0 (sym e ∙ r.1))
-
-  pub loaded_keys : hyper t ≡ root_period t
-  loaded_keys = by (root_period t) refl
-    where
-      by : (o : Option ℕ) → root_period t ≡ o → hyper t ≡ root_period t
-      by None e = no_hyper t (ap (λ (us : List Module). places_from is_root 0 us) (no_rounds e)) ∙ sym e
-      by (Some q) e = (one_period t q (loaded_one q e)).frame ∙ sym e
-
   pub loaded_empty : hyper t ≡ None → t.modules ≡ []
-  loaded_empty e = no_rounds (sym loaded_keys ∙ e)
+  loaded_empty e =
+      nothing t.modules
+      (λ some.
+      let r = roots_some t loaded.range some in
+      let h = some_hyper t r.0 r.1 r.2 in
+      none_some h.0 (sym e ∙ h.1))
 
   module _ (es : List Event) (within : AreTookWithin t es) where
     -- where there is a root module
@@ -72,7 +61,7 @@ module _ (t : Tables) (schedules : List (List SInstr)) (loaded : IsLoaded t sche
     run_of some =
         record {
           range = loaded.range;
-          kept = kept_apart t 16 loaded.rules;
+          kept = loaded.rules;
           within = within;
           modules = some;
           ticks = frame_some t loaded.range some;
@@ -80,7 +69,7 @@ module _ (t : Tables) (schedules : List (List SInstr)) (loaded : IsLoaded t sche
         }
 
     pub loaded_run : (h : ℕ) → hyper t ≡ Some h → IsFeasibleRun t schedules es
-    loaded_run h e = run_of (some_roots t h (sym loaded_keys ∙ e))
+    loaded_run h e = run_of (some_roots t h e)
 
     -- nobody stands where there is no module
     no_cast : t.modules ≡ [] → (n : ℕ) → IsCast t (state t es n).stays 0 n []
@@ -136,16 +125,3 @@ module _ (t : Tables) (schedules : List (List SInstr)) (loaded : IsLoaded t sche
     pub loaded_begins : (q : ℕ) → hyper t ≡ Some q → (now : ℕ) → begins t now ≡ eqb ((turn_at t schedules es now).frame + (turn_at t schedules es now).from) now
     loaded_begins q e now =
         subst (λ (turn : ℕ → Turn). begins t now ≡ eqb ((turn now).frame + (turn now).from) now) (sym (turn_is q e)) (lists_begin t schedules es (loaded_run q e) now).0
-
-    -- ---- as the code begins lists: a round is the one list of its frame
-
-    pub loaded_round : (q : ℕ) → root_period t ≡ Some q → (n : ℕ) → turn_at t schedules es n ≡ round_turn t schedules es q (round_start q n)
-    loaded_round q root n = ap (λ o. turn_by o t schedules es n) (loaded_keys ∙ root) ∙ one_turn t q schedules es loaded.range (loaded_one q root) n
-
-    -- so the list that begins is that round
-    pub loaded_begun : (q : ℕ) → hyper t ≡ Some q → (now : ℕ) → (turn_at t schedules es now).frame + (turn_at t schedules es now).from ≡ now
-        → (round_start q now ≡ now) × (turn_at t schedules es now ≡ round_turn t schedules es q now)
-    loaded_begun q e now at =
-        let is = loaded_round q (sym loaded_keys ∙ e) now in
-        let start : round_start q now ≡ now = (let z : round_start q now ≡ round_start q now + 0 = omega arith in z) ∙ sym (ap (λ (u : Turn). u.frame + u.from) is) ∙ at in
-        (start, is ∙ ap (round_turn t schedules es q) start)

@@ -66,6 +66,12 @@ any_mapped f g h (u ∷ us) each = ap₂ (λ a b. a || b) (each 0 u refl) (any_m
 multiple : (h p k q d : ℕ) → p * k ≡ h → h * q + d ≡ d + p * (k * q)
 multiple h p k q d e = ap (λ z. z * q + d) (sym e) ∙ (let m : p * k * q ≡ p * (k * q) = mul_assoc p k q in omega (arith, m))
 
+-- the code's test is that of the periods of the root modules
+pub begins_whole : (t : Tables) (now : ℕ) → AreInRange t → KeptApart t 12 → begins t now ≡ frames.begins (root_periods t) now
+begins_whole t now range kept =
+    any_mapped (opens t now) (λ p. eqb (now % p) 0) (unit_period t) (root_modules t)
+    (λ j u at. let f = first_is t j u range kept at in ap (λ q. not (eqb q 0) && eqb (now % q) 0) f.0 ∙ divides (unit_period t u) now f.1)
+
 -- so that is told by the offset from the frame's start
 begins_at : (t : Tables) (now : ℕ) → AreInRange t → KeptApart t 12 → begins t now ≡ frames.begins (root_periods t) (now % frame_of t)
 begins_at t now range kept = any_mapped (opens t now) (λ p. eqb ((now % frame_of t) % p) 0) (unit_period t) (root_modules t) each
@@ -159,7 +165,7 @@ module _ (t : Tables) (lists : List (List SInstr)) (es : List Event) (run : IsFe
   node_is = nodes_read t modes (λ a. states_are_selections t run.range es (frame_start t now + a)) (turn now).list
 
   module _ (here : (turn now).frame + (turn now).from ≡ now) where
-    at_is : get_or (starts t) (turn now).list 0 ≡ now % frame_of t
+    pub at_is : get_or (starts t) (turn now).list 0 ≡ now % frame_of t
     at_is = let down = past t lists es run now in omega (arith, offset, here, from_is t lists es run now, down)
 
     -- the choice at its start, by the modes of the instant

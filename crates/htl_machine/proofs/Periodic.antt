@@ -11,16 +11,6 @@ pub divides : (p at : ℕ) → 0 < p → (not (eqb p 0) && eqb (at % p) 0) ≡ e
 divides zero at h = absurd (omega (arith, h))
 divides (suc p) at h = ap (λ b. not b && eqb (at % suc p) 0) (ne_eqb (suc p) 0 (λ e. omega (arith, e)))
 
-pub some_roots : (t : Tables) (q : ℕ) → root_period t ≡ Some q → 0 < length (root_modules t)
-some_roots t q is = by_roots (root_modules t) refl
-  where
-    by_roots : (us : List ℕ) → root_modules t ≡ us → 0 < length (root_modules t)
-    by_roots [] e =
-        let none : root_period t ≡ None =
-        ap (λ (us : List ℕ). elim us as (λ _. Option ℕ) [ [] ↦ None | u ∷ vs ↦ elim (modes_of t u) as (λ _. Option ℕ) [ [] ↦ None | m ∷ ms ↦ Some (mode_period t m) ] ]) e in
-        none_some q (sym none ∙ is)
-    by_roots (u ∷ us) e = omega (arith, ap length e)
-
 -- without modules
 pub begins_never : (t : Tables) (at : ℕ) → root_modules t ≡ [] → begins t at ≡ false
 begins_never t at e = ap (list_any (opens t at)) e

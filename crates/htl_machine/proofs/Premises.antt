@@ -8,10 +8,12 @@ use Rattle.htl_walk.proofs.Work.{job_there}
 use Rattle.htl_smach.specs.Rounds as rounds
 use Rattle.htl_smach.specs.Rounds.{Round, IsTold, no_round}
 use Rattle.htl_smach.proofs.Telling.{pending_is}
-use Rattle.htl_refine.specs.ListPlans.{ListPlan as Plan}
+use Rattle.htl_refine.specs.ListPlans.{ListPlan as Plan, list_walk}
+use Rattle.htl_refine.specs.RecordCounts.{count_before}
 use Rattle.htl_emach.specs.Contents.{Content}
 use Rattle.htl_machine.specs.Follows.{DeskStands, DeskAt}
 use Rattle.htl_machine.specs.Recording.{AreOf, Records}
+use Rattle.htl_machine.proofs.Desking.{desk_opens}
 use Rattle.htl_machine.proofs.Releasing.{flag_at}
 use Rattle.htl_model.specs.declared.parts.Inv.{Inv}
 use Rattle.htl_model.specs.declared.state.Stay.{Stay}
@@ -19,14 +21,17 @@ use Rattle.std.proofs.lemmas.Option.{slice_get_within}
 use Rattle.htl_machine.specs.Casts.{IsCast, HaveWindows}
 
 -- no release before the instant is left untold
-pub stands_told : (p : Plan) (s now : ℕ) (r : Round) → s ≤ now → DeskStands p s now r → IsTold r now
-stands_told p s now r past f q pend =
+pub at_told : (p : Plan) (s k now : ℕ) (r : Round) → s ≤ now → DeskAt p s k (now - s) r → IsTold r now
+at_told p s k now r past f q pend =
     let h = pending_is r q pend in
     let here : (job_at p.jobs q).present ≡ true = ap (λ js. (job_at js q).present) (sym f.jobs) ∙ h.present in
     let flag : ((job_at p.jobs q).present && ltb (job_at p.jobs q).release (now - s)) ≡ false =
     sym (flag_at (now - s) p.jobs q (job_at p.jobs q) (job_there p.jobs q here)) ∙ ap (λ bs. get_or bs q false) (sym f.released) ∙ h.told in
     let late : now - s ≤ (job_at p.jobs q).release = ltb-false (job_at p.jobs q).release (now - s) (sym (ap (λ b. b && ltb (job_at p.jobs q).release (now - s)) here) ∙ flag) in
     omega (arith, late, f.start, ap (λ js. (job_at js q).release) f.jobs, past)
+
+pub stands_told : (p : Plan) (s now : ℕ) (r : Round) → s ≤ now → DeskStands p s now r → IsTold r now
+stands_told p s now r past f = at_told p s (count_before (now - s) (list_walk p)) now r past (desk_opens p s now r f)
 
 -- where there is no list
 abbrev pub no_list : Plan
@@ -55,9 +60,3 @@ first_left t at r d w v none st rec = (rec no_list 0 0 0 refl (omega arith) (ome
 
 pub first_over : (t : Tables) (at : ℕ) (r d : Round) (w v : Content) → r ≡ no_round → rounds.Stands r [] → Records t r w d v [] at → d.running ≡ false
 first_over t at r d w v none st rec = (first_left t at r d w v none st rec).running
-
--- the jobs of a round are of concrete invocations
-pub cast_of : (t : Tables) (stays : List (Option Stay)) (s : ℕ) (jobs : List Job) → IsCast t stays s s jobs → HaveWindows jobs → AreOf t jobs
-cast_of t stays s jobs c windows p j at here =
-    let st = c.stands p j at here (omega (arith, windows p j at here)) in
-    (slice_get_within t.invs j.inv st.0 st.2.known, subst (λ (o : Option Inv). IfSome o (λ x. is_concrete t x ≡ true)) (sym st.2.known) st.2.concrete)

@@ -13,7 +13,7 @@ use Rattle.htl_model.specs.Functions.{same}
 use Rattle.htl_model.specs.Lines.{lines_text}
 use Rattle.htl_model.specs.Lists.{joined, up_to}
 use Rattle.htl_model.specs.Meaning.{state, before, stay_of, value_in, mode_in, value_line, mode_line, value_lines, same_mode}
-use Rattle.htl_model.specs.Ranges.{AreInRange, IsModeThat, parent_of}
+use Rattle.htl_model.specs.Ranges.{AreInRange}
 use Rattle.htl_model.specs.Frames.{hyper}
 use Rattle.htl_model.specs.Tables.{Tables, mode_period}
 use Rattle.htl_walk.specs.declared.schedule.SInstr.{SInstr}
@@ -27,9 +27,7 @@ use Rattle.htl_emach.specs.declared.trigger.Block.{Block}
 use Rattle.htl_emach.specs.Contents.{Content}
 use Rattle.htl_emach.specs.Due.{IsDueAt, IsNext, IsNextOf}
 use Rattle.htl_emach.specs.Following.{phase_path}
-use Rattle.htl_emach.proofs.Instants.{roots_run}
 use Rattle.htl_emach.proofs.Soundness.{sound}
-use Rattle.htl_emach.proofs.States.{module_at, parent_at, new_stays}
 use Rattle.htl_emach.proofs.Switching.{Sound}
 use Rattle.htl_object.specs.declared.object.Object.{Object}
 use Rattle.htl_object.specs.Accepted.{IsAccepted}
@@ -37,13 +35,13 @@ use Rattle.htl_refine.specs.FrameRecords.{records}
 use Rattle.htl_console.specs.declared.shown.Shown.{Shown}
 use Rattle.htl_console.specs.Shows.{shows_code, shows_values}
 use Rattle.htl_machine.specs.declared.tally.Tally.{Tally}
-use Rattle.htl_machine.specs.Calls.{Seen, IsUpTo, number_by, schedule_by, text_between}
+use Rattle.htl_machine.specs.Calls.{Seen, IsUpTo, schedule_by, text_between}
+use Rattle.htl_machine.specs.StandingList.{node_by}
 use Rattle.htl_machine.specs.Doing.{path_lines}
 use Rattle.htl_machine.specs.Follows.{IsLoaded}
 use Rattle.htl_machine.specs.Instant.{IsReadyAt}
 use Rattle.htl_machine.specs.Leaving.{due_by}
 use Rattle.htl_machine.specs.Opening.{IsOpened, closing_text}
-use Rattle.htl_machine.specs.Plans.{AreRegular}
 use Rattle.htl_machine.specs.Passing.{IsPassing, ArePassing}
 use Rattle.htl_machine.specs.Programs.{lines_of, schedules_of}
 use Rattle.htl_machine.specs.Recording.{Records}
@@ -53,21 +51,19 @@ use Rattle.htl_machine.specs.Sensors.{AreShown, ShowsNothing}
 use Rattle.htl_machine.specs.Texts.{e_line, record_text, records_of, some_records}
 use Rattle.htl_machine.specs.Timing.{begins}
 use Rattle.htl_machine.proofs.Accepted.{accepted_is_loaded}
-use Rattle.htl_machine.proofs.After.{beginning, begins_some, closed_values, desk_goes_on, lines_are_composed, next_up_to, passed_of, records_go_on, selection_goes_on, text_goes_on}
+use Rattle.htl_machine.proofs.After.{closed_values, desk_goes_on, lines_are_composed, next_up_to, passed_of, records_go_on, list_goes_on, text_goes_on}
 use Rattle.htl_machine.proofs.Agreeing.{modes_open}
 use Rattle.htl_machine.proofs.Composing.{counts_after}
 use Rattle.htl_machine.proofs.Passing.{up_to_more}
-use Rattle.htl_machine.proofs.Periods.{goes_on}
-use Rattle.htl_machine.proofs.Plain.{apart, down}
 use Rattle.htl_machine.proofs.Ready.{ready}
 use Rattle.htl_machine.proofs.Recording.{recording_start, recording_end}
 use Rattle.htl_machine.proofs.Telling.{up_to_none}
 use Rattle.htl_machine.proofs.TellingLoaded.{loaded_records}
 use Rattle.htl_machine.proofs.Wholly.{modes_read}
 use Rattle.htl_machine.specs.Quiet.{IsQuiet, AreQuiet, IsEmpty, PassOver}
-use Rattle.htl_machine.specs.Rounds.{period_or, round_start}
-use Rattle.htl_machine.proofs.Loaded.{loaded_rounds}
-use Rattle.htl_machine.proofs.LoadedLists.{loaded_begun, loaded_keys}
+use Rattle.htl_refine.proofs.BeginningsEnd.{beginnings_end}
+use Rattle.htl_machine.proofs.NextLists.{begins_whole}
+use Rattle.htl_machine.proofs.Standing.{standing_at}
 use Rattle.htl_machine.proofs.Idle.{IsIdle, idle, round_ends}
 
 -- ---- where nothing changes there are no lines
@@ -144,17 +140,7 @@ sensors_stay t shows at w long same =
         sym (ap (λ (b : Bool). cond b (cond (eqb (at % x.period) 0) (get_or shows c (pos 0)) (get_or w.values c (pos 0))) (get_or w.values c (pos 0))) e
         ∙ ap (λ (b : Bool). cond b (get_or shows c (pos 0)) (get_or w.values c (pos 0))) f)
 
--- ---- no round begins where no trigger is due
-
--- the first module is a root module
-first_root : (t : Tables) → AreInRange t → 0 < length t.modules → parent_of t 0 ≡ None
-first_root t r inside =
-    let x = module_at t 0 inside in
-    parent_at t 0 x.0 x.1 ∙ by_parent x.0.parent (r.modules 0 x.0 x.1).parent
-  where
-    by_parent : (o : Option ℕ) → IfSome o (IsModeThat t (λ owner. owner < 0)) → o ≡ None
-    by_parent None h = refl
-    by_parent (Some m) h = let less = h.2 in absurd (omega (arith, less))
+-- ---- where no trigger is due
 
 module _ (m : Seen) (es : List Event) (n : ℕ) (accepted : IsAccepted m.object) (read : m.held.reading ≤ suc n) (u : IsUpTo m es (suc n)) (q : IsQuiet m (suc n)) where
   abbrev t : Tables
@@ -167,7 +153,7 @@ module _ (m : Seen) (es : List Event) (n : ℕ) (accepted : IsAccepted m.object)
   schedules = schedules_of m.object
 
   abbrev steps : List SInstr
-  steps = schedule_by m.object [] m.selection
+  steps = schedule_by m.object [] m.list
 
   loaded : IsLoaded m.object.tables (schedules_of m.object)
   loaded = accepted_is_loaded m.object accepted
@@ -181,25 +167,13 @@ module _ (m : Seen) (es : List Event) (n : ℕ) (accepted : IsAccepted m.object)
   still : IsIdle m.object.tables m.object.ecode es (suc n) m.standing
   still = idle t code es (suc n) m.standing is_sound u.before.values.triggers q.triggers
 
+  -- where a list begins a round ends, which is a trigger
   never : begins m.object.tables (suc n) ≡ true → ⊥
   never b =
-      let h = beginning t code schedules loaded reads es u.kept.within (suc n) b in
-      let p = h.0 in
-      let regular : AreRegular t es p = subst (λ o. AreRegular t es (period_or o)) (sym (loaded_keys t schedules loaded) ∙ h.1) (loaded_rounds t schedules loaded es u.kept.within).regular in
-      let start = (loaded_begun t schedules loaded es u.kept.within p h.1 (suc n) h.2).0 in
-      let inside = begins_some m es (suc n) accepted read u b in
-      let ends : suc n ≡ round_start p n + p = elim (apart (suc n) (p * (n / p) + p)) [
-        | inl e ↦ e
-        | inr d ↦ absurd (omega (arith, start, goes_on p n regular.some d, down p n))
-      ] in
-      by p regular inside ends (stay_of (state t es n).stays 0) refl
-    where
-      by : (p : ℕ) → AreRegular t es p → 0 < length t.modules → suc n ≡ round_start p n + p → (o : Option Stay) → stay_of (state t es n).stays 0 ≡ o → ⊥
-      by p regular inside ends None e = roots_run t es n loaded.range 0 inside (first_root t loaded.range inside) e
-      by p regular inside ends (Some y) e =
-          let s = new_stays t es n 0 y loaded.range inside e in
-          let due = q.triggers (y.start + mode_period t y.mode) (round_ends t code es (suc n) m.standing u.before.values.triggers 0 y inside e) in
-          omega (arith, due, regular.starts n 0 y e, regular.modes y.mode s.mode, ends)
+      let e = beginnings_end t es n loaded.range loaded.kept (sym (begins_whole t (suc n) loaded.range loaded.kept) ∙ b) in
+      let inside = (standing_at t loaded.range es n).known e.unit e.stay e.is in
+      let due = q.triggers (e.stay.start + mode_period t e.stay.mode) (round_ends t code es (suc n) m.standing u.before.values.triggers e.unit e.stay inside e.is) in
+      omega (arith, due, e.ends)
 
   none_begins : begins m.object.tables (suc n) ≡ false
   none_begins = by (begins t (suc n)) refl
@@ -208,10 +182,10 @@ module _ (m : Seen) (es : List Event) (n : ℕ) (accepted : IsAccepted m.object)
       by false e = e
       by true e = absurd (never e)
 
-  is_ready : IsReadyAt m es (suc n) (schedule_by m.object [] m.selection)
+  is_ready : IsReadyAt m es (suc n) (schedule_by m.object [] m.list)
   is_ready = ready m es (suc n) [] accepted u read refl
 
-  recorded : Records m.object.tables m.held.desk m.held.world m.held.desk m.held.world (schedule_by m.object [] m.selection) (suc n)
+  recorded : Records m.object.tables m.held.desk m.held.world m.held.desk m.held.world (schedule_by m.object [] m.list) (suc n)
   recorded =
       recording_end t m.held.desk m.held.desk m.held.desk m.held.world m.held.world m.held.desk.jobs steps (suc n)
       (recording_start t m.held.desk m.held.world m.held.desk.jobs steps (suc n) is_ready.form is_ready.stands is_ready.told refl u.before.values.shaped) q.leaves refl
@@ -223,7 +197,7 @@ module _ (m : Seen) (es : List Event) (n : ℕ) (accepted : IsAccepted m.object)
       let one : is_ready.place ≡ due_by is_ready.plan is_ready.start (suc n) = sym is_ready.was.place ∙ all.place in
       omega (arith, one)
 
-  opened : IsOpened m.object.tables m.object.ecode es (suc n) (schedule_by m.object [] m.selection) m.held.shows m.held.world.values m.held.desk m.held.world m.held.desk m.held.world
+  opened : IsOpened m.object.tables m.object.ecode es (suc n) (schedule_by m.object [] m.list) m.held.shows m.held.world.values m.held.desk m.held.world m.held.desk m.held.world
   opened =
       record {
         w1 = m.held.world;
@@ -251,10 +225,10 @@ module _ (m : Seen) (es : List Event) (n : ℕ) (accepted : IsAccepted m.object)
 
   pub goes_on_so : IsUpTo m es (suc (suc n))
   goes_on_so =
-      next_up_to m es (suc n) accepted read u m.held.world m.held.desk m.standing m.selection [] [] tally tally
+      next_up_to m es (suc n) accepted read u m.held.world m.held.desk m.standing m.list [] [] tally tally
       (passed_of m es (suc n) accepted read u steps is_ready m.held.world.values u.before.values.values.values m.held.desk m.held.world opened m.held.world m.standing world_same still.ends u.before.values.safe u.before.values.shaped)
       (desk_goes_on m es (suc n) accepted read u steps [] refl refl is_ready m.held.desk m.held.desk m.held.world none_begins recorded desk_same is_ready.stands)
-      (selection_goes_on m es (suc n) accepted read u none_begins)
+      (list_goes_on m es (suc n) accepted read u none_begins)
       none_left
       refl
       count_same
@@ -282,7 +256,7 @@ module _ (m : Seen) (es : List Event) (n : ℕ) (accepted : IsAccepted m.object)
   pub no_text : lines_of m.object es m.show (suc n) ≡ []
   no_text =
       sym (lines_are_composed m es (suc n) accepted read u steps is_ready [] (text_goes_on m es (suc n) accepted read u none_begins))
-      ∙ ap (λ k. (joined (record_text t m.show is_ready.plan (number_by m.selection)) (some_records is_ready.plan is_ready.start is_ready.place k) ++ path_lines t code m.show (suc n) (phase_path t code es (suc n) 1)) ++ (closing_text t code es m.show (suc n) ++ [])) none_due
+      ∙ ap (λ k. (joined (record_text t m.show is_ready.plan (node_by m.list)) (some_records is_ready.plan is_ready.start is_ready.place k) ++ path_lines t code m.show (suc n) (phase_path t code es (suc n) 1)) ++ (closing_text t code es m.show (suc n) ++ [])) none_due
       ∙ ap (λ (ls : List ℕ). ls ++ (closing_text t code es m.show (suc n) ++ [])) (no_path_lines t code m.show (suc n) (phase_path t code es (suc n) 1) still.writes)
       ∙ append-nil (closing_text t code es m.show (suc n))
       ∙ ap (λ (ls : List ℕ). ls ++ (path_lines t code m.show (suc n) (phase_path t code es (suc n) 3) ++ cond (shows_values m.show) (lines_text t (value_lines t es (suc n))) [])) (no_path_lines t code m.show (suc n) (phase_path t code es (suc n) 2) still.switches)
@@ -339,7 +313,7 @@ pass_over m es from to accepted u read order q =
 -- ---- what the code knows
 
 -- from an instant on nothing is due up to the first trigger, the first instruction that is left and the first sensor that is shown another value
-pub quiet_from : (m : Seen) (from shown triggered due : ℕ) (e s : Option ℕ) → 0 < from → m.standing.running ≡ None → IsNext m.standing e → rounds.IsNext m.held.desk (schedule_by m.object [] m.selection) s
+pub quiet_from : (m : Seen) (from shown triggered due : ℕ) (e s : Option ℕ) → 0 < from → m.standing.running ≡ None → IsNext m.standing e → rounds.IsNext m.held.desk (schedule_by m.object [] m.list) s
     → ShowsNothing m.object.tables m.held.shows m.held.world.values (length m.object.tables.comms) from shown
     → triggered ≤ shown → IfSome e (λ n. (at : ℕ) → from ≤ at → at < triggered → at < n) → due ≤ triggered → IfSome s (λ n. (at : ℕ) → from ≤ at → at < due → at < n) → AreQuiet m from due
 quiet_from m from shown triggered due e s some idle next leaves same sooner before_e soonest before_s = λ at past less.
@@ -356,8 +330,8 @@ quiet_from m from shown triggered due e s some idle next leaves same sooner befo
     triggers None None is h before at past less other due = absurd (h other due)
     triggers (Some n) None is h before at past less other due = omega (arith, before at past less, h.1 other due)
 
-    leaves_none : (s : Option ℕ) → rounds.IsNext m.held.desk (schedule_by m.object [] m.selection) s → IfSome s (λ n. (at : ℕ) → from ≤ at → at < due → at < n) → (at : ℕ) → from ≤ at → at < due
-        → next_left m.held.desk (schedule_by m.object [] m.selection) at ≡ None
+    leaves_none : (s : Option ℕ) → rounds.IsNext m.held.desk (schedule_by m.object [] m.list) s → IfSome s (λ n. (at : ℕ) → from ≤ at → at < due → at < n) → (at : ℕ) → from ≤ at → at < due
+        → next_left m.held.desk (schedule_by m.object [] m.list) at ≡ None
     leaves_none None h before at past less = h at
     leaves_none (Some n) h before at past less = h.1 at (before at past less)
 

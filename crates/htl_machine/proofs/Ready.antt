@@ -1,4 +1,4 @@
--- Before an instant the S machine stands ready, by the list whose number the machine keeps.
+-- Before an instant the S machine stands ready, by the list that the machine keeps.
 use Rattle.std.proofs.Common.{◌≡◌, ◌≤◌, ◌<◌, ℕ, zero, suc, ◌-◌, false, List, [], length, get_or, Option, Some, None, IfSome, refl, sym, ap, ◌∙◌, subst, arith}
 use Rattle.std.proofs.lemmas.Option.{get_or_from_slice_get}
 use Rattle.htl_emach.specs.Contents.{Content}
@@ -17,7 +17,8 @@ use Rattle.htl_walk.specs.declared.job.Job.{Job}
 use Rattle.htl_walk.specs.declared.schedule.SInstr.{SInstr}
 use Rattle.htl_walk.specs.declared.schedule.Schedule.{Schedule}
 use Rattle.htl_walk.specs.Walk.{InForm}
-use Rattle.htl_machine.specs.Calls.{Seen, IsUpTo, GoesBy, number_by, schedule_by}
+use Rattle.htl_machine.specs.declared.numbering.ListAt.{ListAt}
+use Rattle.htl_machine.specs.Calls.{Seen, IsUpTo, GoesBy, schedule_by}
 use Rattle.htl_machine.specs.Follows.{DeskFollows, DeskStands, IsLoaded}
 use Rattle.htl_machine.specs.Instant.{IsReadyAt}
 use Rattle.htl_machine.specs.Leaving.{due_by}
@@ -27,6 +28,7 @@ use Rattle.htl_machine.specs.Recording.{AreOf}
 use Rattle.htl_machine.specs.Texts.{record_text, list_texts, some_records}
 use Rattle.htl_machine.specs.ListTurns.{Turn, AreTurns, turn_walk, left_before}
 use Rattle.htl_machine.specs.RunLists.{turn_at, turn_by}
+use Rattle.htl_machine.specs.StandingList.{node_by, turn_list}
 use Rattle.htl_machine.proofs.RunLists.{node_below}
 use Rattle.htl_machine.proofs.Accepted.{accepted_is_loaded}
 use Rattle.htl_machine.proofs.Alone.{records_nothing}
@@ -53,7 +55,7 @@ told_none : (now : ℕ) → IsTold no_round now
 told_none now p e = absurd (let z : ⊥ = cc in z)
 
 -- the node whose list runs has a list
-node_known : (o : Object) (es : List Event) (n q : ℕ) → IsAccepted o → AreTookWithin o.tables es → hyper o.tables ≡ Some q → (turn_at o.tables (schedules_of o) es n).node < length o.schedules
+pub node_known : (o : Object) (es : List Event) (n q : ℕ) → IsAccepted o → AreTookWithin o.tables es → hyper o.tables ≡ Some q → (turn_at o.tables (schedules_of o) es n).node < length o.schedules
 node_known o es n q accepted within e =
     let run = loaded_run o.tables (schedules_of o) (accepted_is_loaded o accepted) es within q e in
     let below = node_below o.tables (schedules_of o) es run n in
@@ -89,7 +91,7 @@ module _ (m : Seen) (es : List Event) (now : ℕ) where
 
 module _ (m : Seen) (es : List Event) (n q : ℕ) (accepted : IsAccepted m.object) (up : IsUpTo m es (suc n)) (root : hyper m.object.tables ≡ Some q)
     (f : DeskStands (turn_at m.object.tables (schedules_of m.object) es n).plan (turn_at m.object.tables (schedules_of m.object) es n).frame (suc n) m.held.desk)
-    (goes : m.selection ≡ Some (turn_at m.object.tables (schedules_of m.object) es n).node) where
+    (goes : m.list ≡ Some (turn_list (turn_at m.object.tables (schedules_of m.object) es n))) where
   abbrev t : Tables
   t = m.object.tables
 
@@ -135,19 +137,19 @@ module _ (m : Seen) (es : List Event) (n q : ℕ) (accepted : IsAccepted m.objec
         told = stands_told u.plan u.frame (suc n) m.held.desk past f;
         recorded = λ d v rec. records_are t turn n m.held.desk d m.held.world v past f rec;
         lines =
-            ap (λ o. joined (record_text t m.show u.plan (number_by o)) (some_records u.plan u.frame k (due_by u.plan u.frame (suc n) - k))) goes
+            ap (λ o. joined (record_text t m.show u.plan (node_by o)) (some_records u.plan u.frame k (due_by u.plan u.frame (suc n) - k))) goes
             ∙ ap (λ o. (list_texts t (schedules_of m.object) es m.show o (suc n)).0) (sym root);
       }
 
-pub ready : (m : Seen) (es : List Event) (now : ℕ) (idle : List SInstr) → IsAccepted m.object → IsUpTo m es now → m.held.reading ≤ now → idle ≡ [] → IsReadyAt m es now (schedule_by m.object idle m.selection)
+pub ready : (m : Seen) (es : List Event) (now : ℕ) (idle : List SInstr) → IsAccepted m.object → IsUpTo m es now → m.held.reading ≤ now → idle ≡ [] → IsReadyAt m es now (schedule_by m.object idle m.list)
 ready m es now idle accepted up later nothing =
     by (hyper m.object.tables) refl now up up.before.records.desk up.before.records.goes
   where
-    none_is : m.selection ≡ None → [] ≡ schedule_by m.object idle m.selection
+    none_is : m.list ≡ None → [] ≡ schedule_by m.object idle m.list
     none_is sel = sym (ap (schedule_by m.object idle) sel ∙ nothing)
 
-    by : (o : Option ℕ) → hyper m.object.tables ≡ o → (at : ℕ) → IsUpTo m es at → DeskFollows (turn_at m.object.tables (schedules_of m.object) es) o at m.held.desk → GoesBy (turn_at m.object.tables (schedules_of m.object) es) o at m.selection
-        → IsReadyAt m es at (schedule_by m.object idle m.selection)
+    by : (o : Option ℕ) → hyper m.object.tables ≡ o → (at : ℕ) → IsUpTo m es at → DeskFollows (turn_at m.object.tables (schedules_of m.object) es) o at m.held.desk → GoesBy (turn_at m.object.tables (schedules_of m.object) es) o at m.list
+        → IsReadyAt m es at (schedule_by m.object idle m.list)
     by None root at u desk goes =
         let loaded = accepted_is_loaded m.object accepted in
         subst (IsReadyAt m es at) (none_is goes)
@@ -159,16 +161,16 @@ ready m es now idle accepted up later nothing =
     by (Some q) root (suc n) u desk goes =
         subst (IsReadyAt m es (suc n)) (loaded_code m.object.tables (schedules_of m.object) (accepted_is_loaded m.object accepted) es u.kept.within q root n ∙ sym (ap (schedule_by m.object idle) goes)) (ready_list m es n q accepted u root desk goes)
 
--- the number that the machine keeps has a list
-pub selection_known : (m : Seen) (es : List Event) (now : ℕ) → IsAccepted m.object → IsUpTo m es now → IfSome m.selection (λ n. n < length m.object.schedules)
-selection_known m es now accepted up =
+-- the node whose list stands has a schedule
+pub list_known : (m : Seen) (es : List Event) (now : ℕ) → IsAccepted m.object → IsUpTo m es now → IfSome m.list (λ l. l.node < length m.object.schedules)
+list_known m es now accepted up =
     by (hyper m.object.tables) refl now up.before.records.goes
   where
-    none : m.selection ≡ None → IfSome m.selection (λ n. n < length m.object.schedules)
-    none e = subst (λ (o : Option ℕ). IfSome o (λ n. n < length m.object.schedules)) (sym e) tt
+    none : m.list ≡ None → IfSome m.list (λ l. l.node < length m.object.schedules)
+    none e = subst (λ (o : Option ListAt). IfSome o (λ l. l.node < length m.object.schedules)) (sym e) tt
 
-    by : (o : Option ℕ) → hyper m.object.tables ≡ o → (at : ℕ) → GoesBy (turn_at m.object.tables (schedules_of m.object) es) o at m.selection → IfSome m.selection (λ n. n < length m.object.schedules)
+    by : (o : Option ℕ) → hyper m.object.tables ≡ o → (at : ℕ) → GoesBy (turn_at m.object.tables (schedules_of m.object) es) o at m.list → IfSome m.list (λ l. l.node < length m.object.schedules)
     by None root at goes = none goes
     by (Some q) root zero goes = none goes
     by (Some q) root (suc n) goes =
-        subst (λ (o : Option ℕ). IfSome o (λ n. n < length m.object.schedules)) (sym goes) (node_known m.object es n q accepted up.kept.within root)
+        subst (λ (o : Option ListAt). IfSome o (λ l. l.node < length m.object.schedules)) (sym goes) (node_known m.object es n q accepted up.kept.within root)

@@ -9,7 +9,7 @@ seen_in m =
       show = m.show;
       held = record { spent = m.spent; reading = m.reading; shows = m.sensors.shows; takes = m.takes; world = m.world; desk = m.desk };
       standing = m.emach;
-      selection = m.selection;
+      list = m.path.list;
       jobs = m.tally.jobs;
       e = m.tally.e;
       s = m.tally.s;

@@ -1,17 +1,15 @@
 -- What the parts of an instant ask for, of a machine that stands before it.
 use Rattle.std.specs.Prelude.{◌≡◌, ◌≤◌, ◌<◌, ℕ, true, List, [], length, ℤ, Option, None}
 use Rattle.htl_model.specs.declared.event.Event.{Event}
-use Rattle.htl_model.specs.Broken.{KeptTo, KeepsLimits}
 use Rattle.htl_model.specs.FrameRules.{KeptApart}
+use Rattle.htl_model.specs.Frames.{frame_limit}
 use Rattle.htl_model.specs.FunctionTypes.{FitPlaces}
 use Rattle.htl_model.specs.Meaning.{state, before, mode_in}
-use Rattle.htl_model.specs.Selections.{selection_count}
 use Rattle.htl_walk.specs.declared.job.Job.{Job}
 use Rattle.htl_model.specs.Tables.{Tables}
 use Rattle.htl_walk.specs.declared.schedule.SInstr.{SInstr}
-use Rattle.htl_walk.specs.declared.schedule.Schedule.{Schedule}
 use Rattle.htl_ecode.specs.declared.ecode.ECode.{ECode}
-use Rattle.htl_smach.specs.Rounds.{Stands, IsInForm, IsTold}
+use Rattle.htl_smach.specs.Rounds.{Round, Stands, IsInForm, IsTold}
 use Rattle.htl_ecode.specs.Spelling.{Spells}
 use Rattle.htl_emach.specs.Calendars.{Standing, list_at}
 use Rattle.htl_emach.specs.Contents.{Content}
@@ -22,17 +20,17 @@ use Rattle.htl_emach.specs.Shapes.{HasValues, IsShaped}
 use Rattle.htl_machine.specs.Calls.{Seen}
 use Rattle.htl_machine.specs.Recording.{AreOf}
 use Rattle.htl_machine.specs.Running.{replay}
-use Rattle.htl_machine.specs.Starting.{IsToBegin}
+use Rattle.htl_machine.specs.Beginning.{IsToBegin}
+use Rattle.htl_machine.specs.declared.numbering.ListAt.{ListAt}
 
 -- of the object
-pub record IsSound (t : Tables) (code : ECode) (schedules : List Schedule) : Type 0 where
-  pub kept : KeptTo t 16
+pub record IsSound (t : Tables) (code : ECode) : Type 0 where
+  pub kept : KeptApart t 16
   pub form : KeptApart t 12
-  pub limits : KeepsLimits t
+  pub limit : frame_limit t ≡ None
   pub spells : Spells t code
   pub instrs : length code.instrs ≤ 4294967295
   pub places : FitPlaces t
-  pub all : length schedules ≡ selection_count t
 
 -- of the first part
 pub record IsToOpen (m : Seen) (es : List Event) (at : ℕ) (jobs : List Job) (steps : List SInstr) (shows values : List ℤ) : Type 0 where
@@ -74,7 +72,7 @@ pub record IsToClose (t : Tables) (code : ECode) (es : List Event) (at : ℕ) (m
   pub noted : AreBefore t es at values modes
   pub reads : (replay t code (phase_path t code es at 3) (replay t code (phase_path t code es at 2) w)).values ≡ (state t es at).values
 
--- the same, where a round begins
-pub record IsToCloseAndBegin (t : Tables) (code : ECode) (schedules : List (List SInstr)) (es : List Event) (at : ℕ) (takes : List ℕ) (m : Standing) (w : Content) (values : List ℤ) (modes : List (Option ℕ)) : Type 0 where
+-- the same, where a list begins behind another
+pub record IsToCloseAndBegin (t : Tables) (code : ECode) (schedules : List (List SInstr)) (es : List Event) (at : ℕ) (takes : List ℕ) (last : Option ListAt) (r : Round) (m : Standing) (w : Content) (values : List ℤ) (modes : List (Option ℕ)) : Type 0 where
   pub closes : IsToClose t code es at m w values modes
-  pub begins : IsToBegin t code schedules es at takes
+  pub begins : IsToBegin t code schedules es at takes last r

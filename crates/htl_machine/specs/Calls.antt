@@ -19,10 +19,12 @@ use Rattle.htl_emach.specs.Shapes.{HasValues, IsShaped}
 use Rattle.htl_refine.specs.Records.{AreTookWithin, took}
 use Rattle.htl_object.specs.declared.object.Object.{Object}
 use Rattle.htl_console.specs.declared.shown.Shown.{Shown}
+use Rattle.htl_machine.specs.declared.numbering.ListAt.{ListAt}
 use Rattle.htl_machine.specs.Programs.{schedules_of, lines_of}
 use Rattle.htl_machine.specs.ListTurns.{Turn}
 use Rattle.htl_machine.specs.Plans.{finished_before}
 use Rattle.htl_machine.specs.RunLists.{turn_at}
+use Rattle.htl_machine.specs.StandingList.{turn_list}
 use Rattle.htl_machine.specs.Values.{ValuesFollow}
 use Rattle.htl_machine.specs.Follows.{Held, reading_of, DeskFollows}
 use Rattle.htl_machine.specs.Lines.{e_done, jobs_done, s_done}
@@ -35,21 +37,17 @@ pub record Seen : Type 0 where
   pub held : Held
   -- the E machine
   pub standing : Standing
-  -- the root selection by whose schedule the round goes; none before the first round
-  pub selection : Option ℕ
+  -- the list of the processor that stands: its node, and its number in the frame; none before the first
+  pub list : Option ListAt
   -- the jobs done, the E instructions and the S instructions so far
   pub jobs : ℕ
   pub e : ℕ
   pub s : ℕ
 
--- the schedule of a selection, and its number; where there is none, this list and 0
-abbrev pub schedule_by : Object → List SInstr → Option ℕ → List SInstr
-schedule_by o idle (Some n) = get_or (schedules_of o) n []
+-- the instructions of the node whose list stands; where there is none, these
+abbrev pub schedule_by : Object → List SInstr → Option ListAt → List SInstr
+schedule_by o idle (Some l) = get_or (schedules_of o) l.node []
 schedule_by o idle None = idle
-
-abbrev pub number_by : Option ℕ → ℕ
-number_by (Some n) = n
-number_by None = 0
 
 -- before instant 0, with these values and buffers and this E machine
 abbrev pub first_seen : Object → Shown → Content → Standing → Seen
@@ -67,7 +65,7 @@ first_seen o show w m =
             desk = no_round;
           };
       standing = m;
-      selection = None;
+      list = None;
       jobs = 0;
       e = 0;
       s = 0;
@@ -94,16 +92,16 @@ pub record IsValued (t : Tables) (code : ECode) (es : List Event) (now : ℕ) (f
   pub safe : StandsSafely t code m
   pub count : e ≡ e_done t code es now
 
--- the number is that of the list that began last before an instant
-abbrev pub GoesBy : (ℕ → Turn) → Option ℕ → ℕ → Option ℕ → Type 0
-GoesBy turn None now selection = selection ≡ None
-GoesBy turn (Some period) zero selection = selection ≡ None
-GoesBy turn (Some period) (suc n) selection = selection ≡ Some (turn n).node
+-- it is the list that began last before an instant
+abbrev pub GoesBy : (ℕ → Turn) → Option ℕ → ℕ → Option ListAt → Type 0
+GoesBy turn None now list = list ≡ None
+GoesBy turn (Some period) zero list = list ≡ None
+GoesBy turn (Some period) (suc n) list = list ≡ Some (turn_list (turn n))
 
 -- the list of the processor that began last before an instant
-pub record IsRecorded (t : Tables) (schedules : List (List SInstr)) (es : List Event) (now : ℕ) (r : Round) (selection : Option ℕ) (jobs s : ℕ) : Type 0 where
+pub record IsRecorded (t : Tables) (schedules : List (List SInstr)) (es : List Event) (now : ℕ) (r : Round) (list : Option ListAt) (jobs s : ℕ) : Type 0 where
   pub desk : DeskFollows (turn_at t schedules es) (hyper t) now r
-  pub goes : GoesBy (turn_at t schedules es) (hyper t) now selection
+  pub goes : GoesBy (turn_at t schedules es) (hyper t) now list
   pub jobs_are : jobs ≡ jobs_done t schedules es now
   pub s_are : s ≡ s_done t schedules es now
 
@@ -112,7 +110,7 @@ pub record IsBefore (m : Seen) (es : List Event) (now : ℕ) : Type 0 where
   pub values :
       IsValued m.object.tables m.object.ecode es now
       (finished_before (turn_at m.object.tables (schedules_of m.object) es) now) m.held.world m.standing m.e
-  pub records : IsRecorded m.object.tables (schedules_of m.object) es now m.held.desk m.selection m.jobs m.s
+  pub records : IsRecorded m.object.tables (schedules_of m.object) es now m.held.desk m.list m.jobs m.s
 
 -- before an instant that is no earlier than the last reading
 pub record IsUpTo (m : Seen) (es : List Event) (now : ℕ) : Type 0 where

@@ -14,7 +14,6 @@ use Rattle.htl_smach.specs.declared.state.PosState.{PosState}
 use Rattle.htl_smach.specs.declared.state.PosState.TheVariants.{Absent, Pending, Ready, Done}
 use Rattle.htl_model.specs.Ranges.{AreInRange}
 use Rattle.htl_model.specs.FrameRules.{KeptApart}
-use Rattle.htl_model.specs.Broken.{KeptTo}
 use Rattle.htl_walk.specs.Feasible.{AreFeasible}
 use Rattle.htl_refine.specs.Records.{AreTookWithin, took}
 use Rattle.htl_emach.specs.Contents.{Content}
@@ -107,7 +106,7 @@ pub record DeskAt (p : Plan) (s k d : ℕ) (r : Round) : Type 0 where
 pub record IsLoaded (t : Tables) (schedules : List (List SInstr)) : Type 0 where
   pub range : AreInRange t
   pub kept : KeptApart t 12
-  pub rules : KeptTo t 16
+  pub rules : KeptApart t 16
   pub feasible : AreFeasible t schedules
 
 -- ---- what the calls of a machine do to what it keeps

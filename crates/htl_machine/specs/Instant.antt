@@ -7,13 +7,14 @@ use Rattle.htl_walk.specs.declared.schedule.SInstr.{SInstr}
 use Rattle.htl_smach.specs.Rounds.{Round, Stands, IsInForm, IsTold}
 use Rattle.htl_emach.specs.Contents.{Content}
 use Rattle.htl_refine.specs.ListPlans.{ListPlan as Plan}
-use Rattle.htl_machine.specs.Calls.{Seen, number_by}
+use Rattle.htl_machine.specs.Calls.{Seen}
 use Rattle.htl_machine.specs.Follows.{DeskAt}
 use Rattle.htl_machine.specs.Leaving.{due_by}
 use Rattle.htl_machine.specs.Plans.{with_records}
 use Rattle.htl_machine.specs.Programs.{schedules_of}
 use Rattle.htl_machine.specs.Recording.{AreOf, Records}
 use Rattle.htl_machine.specs.RunLists.{turn_at}
+use Rattle.htl_machine.specs.StandingList.{node_by}
 use Rattle.htl_machine.specs.Texts.{record_text, list_texts, some_records}
 
 -- before an instant the S machine stands in a list of these instructions, or in none, by an empty one
@@ -34,5 +35,5 @@ pub record IsReadyAt (m : Seen) (es : List Event) (now : ℕ) (steps : List SIns
   -- what its records do to the world, and what they show
   pub recorded : (d : Round) (v : Content) → Records m.object.tables m.held.desk m.held.world d v steps now
       → v ≡ with_records m.object.tables (turn_at m.object.tables (schedules_of m.object) es) now m.held.world
-  pub lines : joined (record_text m.object.tables m.show plan (number_by m.selection)) (some_records plan start place (due_by plan start now - place))
+  pub lines : joined (record_text m.object.tables m.show plan (node_by m.list)) (some_records plan start place (due_by plan start now - place))
       ≡ (list_texts m.object.tables (schedules_of m.object) es m.show (hyper m.object.tables) now).0

@@ -40,6 +40,9 @@ pub mod Fitted
 pub mod Passing
 pub mod Timing
 pub mod NextLists
+pub mod Numbering
+pub mod StandingList
+pub mod Beginning
 pub mod NextDesks
 pub mod Instant
 pub mod Asking

@@ -1,4 +1,4 @@
--- The two parts of an instant: records, writes and sensors; switches, reads, what changed, and the first records of a round that begins.
+-- The two parts of an instant: records, writes and sensors; switches, reads, what changed, and the first records of a list that begins.
 use Rattle.std.specs.Prelude.{◌≡◌, ◌≤◌, ◌-◌, ◌++◌, ℕ, cond, List, [], length, Option, ℤ}
 use Rattle.std.specs.declared.result.Result.{Result}
 use Rattle.htl_edge.specs.Content.{Puts}
@@ -19,19 +19,19 @@ use Rattle.htl_console.specs.Shows.{shows_values}
 use Rattle.htl_machine.specs.declared.tally.Tally.{Tally}
 use Rattle.htl_machine.specs.Counts.{with_records, with_instrs}
 use Rattle.htl_refine.specs.ListPlans.{ListPlan as Plan}
-use Rattle.htl_machine.specs.Rounds.{plan_of, selection_of, list_of}
 use Rattle.htl_machine.specs.Follows.{DeskAt}
 use Rattle.htl_machine.specs.Leaving.{due_by}
 use Rattle.htl_machine.specs.Recording.{Records}
+use Rattle.htl_machine.specs.RunLists.{turn_at}
 use Rattle.htl_machine.specs.Sensors.{AreShown}
 use Rattle.htl_machine.specs.Doing.{path_lines}
 use Rattle.htl_machine.specs.Texts.{record_text, some_records}
 
 -- the lines of the records that are due, wherever the S machine stood, and those of the writes
 abbrev pub Opens : {T E : Type 0} → Tables → ECode → List Event → Shown → ℕ → Round → List SInstr → ℕ → Option (List ℕ) → Option (List ℕ) → ℕ → ℕ → Result T E → Type 0
-Opens t code es show sel old steps at w0 w f0 f result =
+Opens t code es show node old steps at w0 w f0 f result =
     (p : Plan) (s k d : ℕ) → p.schedule ≡ steps → s ≤ at → k ≤ due_by p s at → DeskAt p s k d old
-    → Puts w0 w f0 f (joined (record_text t show p sel) (some_records p s k (due_by p s at - k)) ++ path_lines t code show at (phase_path t code es at 1)) result
+    → Puts w0 w f0 f (joined (record_text t show p node) (some_records p s k (due_by p s at - k)) ++ path_lines t code show at (phase_path t code es at 1)) result
 
 -- and they are counted
 abbrev pub AreCounted : Tables → ECode → List Event → Round → List SInstr → ℕ → Tally → Tally → Type 0
@@ -63,10 +63,10 @@ reading_text t code es show at = path_lines t code show at (phase_path t code es
 abbrev pub closing_text : Tables → ECode → List Event → Shown → ℕ → List ℕ
 closing_text t code es show at = path_lines t code show at (phase_path t code es at 2) ++ reading_text t code es show at
 
--- the first records of the round that begins
+-- the first records of the list that begins
 abbrev pub first_records : Tables → List (List SInstr) → List Event → ℕ → List Left
-first_records t schedules es at = let p = list_of (plan_of t schedules es at) in some_records p at 0 (due_by p at at - 0)
+first_records t schedules es at = let u = turn_at t schedules es at in some_records u.plan u.frame 0 (due_by u.plan u.frame at)
 
 -- their lines
 abbrev pub beginning_text : Tables → List (List SInstr) → List Event → Shown → ℕ → List ℕ
-beginning_text t schedules es show at = joined (record_text t show (list_of (plan_of t schedules es at)) (selection_of t (state t es at).stays)) (first_records t schedules es at)
+beginning_text t schedules es show at = let u = turn_at t schedules es at in joined (record_text t show u.plan u.node) (first_records t schedules es at)

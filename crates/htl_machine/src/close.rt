@@ -1,4 +1,4 @@
-// The last part of an instant: switches, reads, releases, what changed, and the first records of a round that begins.
+// The last part of an instant: switches, reads, releases and what changed.
 ghost use Rattle.std.specs.Prelude.{◌≡◌, ◌≤◌, List, [], length, None, OnOk};
 ghost use Rattle.htl_edge.specs.Content.{Puts};
 ghost use Rattle.htl_model.specs.declared.event.Event.{Event};
@@ -19,19 +19,16 @@ ghost use Rattle.htl_machine.specs.Opening.{reading_text, closing_text};
 
 use crate::changes::put_changes;
 use crate::noted::Noted;
-use crate::starting::{Begun, begin_round};
 use crate::steps::do_instrs;
 use crate::tally::Tally;
-use crate::tellings::tell_records;
 use htl_base::Time;
 use htl_console::Shown;
 use htl_ecode::ECode;
 use htl_edge::{Failed, Sink};
 use htl_emach::{EMach, World};
 use htl_model::Tables;
-use htl_refine::Selection;
 use htl_smach::SMach;
-use htl_walk::{Job, Schedule};
+use htl_walk::Job;
 
 /// The reads of an instant once its switches are done, with the releases, and the lines of what changed. After `Failed` a
 /// prefix of the lines was written.
@@ -81,7 +78,7 @@ pub fn read_instant<W: Sink>(
     put_changes(sink, t, show, at, noted, world, m)
 }
 
-/// The last part of an instant at which no round begins: switches, reads with the releases, and the lines of what changed.
+/// The last part of an instant at which no list begins: switches, reads with the releases, and the lines of what changed.
 /// After `Failed` a prefix of the lines was written.
 pub fn close_instant<W: Sink>(
     sink: &mut W,

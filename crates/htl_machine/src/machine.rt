@@ -5,7 +5,7 @@ ghost use Rattle.htl_edge.specs.Content.{Puts};
 ghost use Rattle.htl_emach.specs.Calendars.{list_at};
 ghost use Rattle.htl_model.specs.declared.event.Event.{Event as Told};
 ghost use Rattle.htl_model.specs.declared.event.Event.TheVariants as event;
-ghost use Rattle.htl_machine.specs.Calls.{Follows, IsSensorValue, IsLength, IsSameRun, IsFinished, IsUpTo, first_seen, number_by, schedule_by, text_between};
+ghost use Rattle.htl_machine.specs.Calls.{Follows, IsSensorValue, IsLength, IsSameRun, IsFinished, IsUpTo, first_seen, text_between};
 ghost use Rattle.htl_machine.specs.Follows.{shown_as, taken_as};
 ghost use Rattle.htl_machine.specs.Programs.{lines_of};
 ghost use Rattle.htl_machine.specs.Quiet.{AreQuiet};
@@ -18,17 +18,15 @@ use crate::memory::{no_modes, seen_values, worst_cases};
 use crate::noted::Noted;
 use crate::open::open_instant;
 use crate::sensors::Sensors;
+use crate::path::Path;
 use crate::tally::Tally;
 use crate::timing::round_begins;
-use htl_base::limits::MAX_POSITIONS;
 use htl_base::{Memory, Seq, Time, Value};
 use htl_console::Shown;
 use htl_edge::{Failed, Sink};
 use htl_emach::{EMach, World};
 use htl_load::Loaded;
-use htl_refine::Selection;
 use htl_smach::SMach;
-use htl_walk::{Job, Schedule};
 use std::alloc::{AllocError, Global};
 use std::marker::Model;
 
@@ -59,17 +57,11 @@ pub struct Machine<'a> {
     world: World,
     emach: EMach,
     desk: SMach,
-    selection: Option<u32>,
+    // The list that stands, and the jobs of the frame so far.
+    path: Path,
     tally: Tally,
-    // The jobs of the round, in front.
-    jobs: [Job; 128],
-    count: usize,
-    // Where no round stands.
-    idle: Schedule,
     // Before the instant that is being done.
     noted: Noted,
-    // The modes in which the round began.
-    selected: Selection,
 }
 
 impl<'a> Model for Machine<'a> {
@@ -82,9 +74,9 @@ impl<'a> Model for Machine<'a> {
 
     ghost coded = { Prim.hlevel (codes, object_row.the_row.coded) };
 
-    ghost view = { λ m. record { object = m.loaded.now; show = m.show; held = record { spent = m.spent; reading = m.reading; shows = m.sensors.shows; takes = m.takes; world = m.world; desk = m.desk }; standing = m.emach; selection = m.selection; jobs = m.tally.jobs; e = m.tally.e; s = m.tally.s } };
+    ghost view = { λ m. record { object = m.loaded.now; show = m.show; held = record { spent = m.spent; reading = m.reading; shows = m.sensors.shows; takes = m.takes; world = m.world; desk = m.desk }; standing = m.emach; list = m.path.list; jobs = m.tally.jobs; e = m.tally.e; s = m.tally.s } };
 
-    ghost invariant = { λ m. IsFitted m.loaded.now m.spent m.sensors m.takes m.noted m.world m.emach m.selected.modes m.jobs m.count m.desk m.idle.instrs };
+    ghost invariant = { λ m. IsFitted m.loaded.now m.spent m.sensors m.takes m.noted m.world m.emach m.path m.desk };
 }
 
 impl<'a> Machine<'a> {
@@ -118,7 +110,7 @@ impl<'a> Machine<'a> {
         let values = seen_values(alloc, t, &world)?;
         let takes = worst_cases(alloc, t)?;
         let modes = no_modes(alloc, t)?;
-        let selected = no_modes(alloc, t)?;
+        let path = Path::new(alloc, t)?;
         Ok(Machine {
             loaded: l,
             show,
@@ -129,21 +121,13 @@ impl<'a> Machine<'a> {
             world,
             emach,
             desk: SMach::new(),
-            selection: None,
+            path,
             tally: Tally {
                 jobs: 0,
                 e: 0,
                 s: 0,
             },
-            jobs: [Job::ABSENT; MAX_POSITIONS],
-            count: 0,
-            idle: Schedule {
-                instrs: Seq::new(Vec::new(alloc)),
-            },
             noted: Noted::new(values, modes),
-            selected: Selection {
-                modes: Seq::new(selected),
-            },
         })
     }
 
@@ -168,7 +152,7 @@ impl<'a> Machine<'a> {
         ensures seen { self.new ≡ record self.old { held = taken_as inv length self.old.held } }
     {
         self.takes.set(inv as usize, length);
-        take(&mut self.desk, &self.jobs[..self.count], inv, length);
+        take(&mut self.desk, self.path.jobs(), inv, length);
     }
 
     /// Does all instants before `to`, in ticks, writes their lines, and makes `to` the reading. The machine isn't spent, and `to` is
@@ -254,14 +238,10 @@ impl<'a> Machine<'a> {
         }
         let shown = self.sensors.next(&self.world, l.tables(), from, to);
         let triggered = sooner(self.emach.next(), from, shown);
-        sooner(
-            self.desk.next(schedule_of(l, &self.idle, self.selection)),
-            from,
-            triggered,
-        )
+        sooner(self.desk.next(self.path.schedule(l)), from, triggered)
     }
 
-    // Does one instant: the records that are due, the writes and the sensors; then the switches, a round where one begins, the
+    // Does one instant: the records that are due, the writes and the sensors; then the switches, a list where one begins, the
     // reads with the releases, and what changed.
     fn instant<W: Sink>(&mut self, at: Time, sink: &mut W) -> Result<(), Failed>
         requires before { (es : List Told) × IsUpTo self.old es at }
@@ -286,9 +266,9 @@ impl<'a> Machine<'a> {
             &mut self.tally,
             t,
             code,
-            &self.jobs[..self.count],
-            schedule_of(l, &self.idle, self.selection),
-            number_of(self.selection),
+            self.path.jobs(),
+            self.path.schedule(l),
+            self.path.node(),
             self.show,
             &mut self.sensors,
             &mut self.noted,
@@ -298,33 +278,25 @@ impl<'a> Machine<'a> {
             return Err(failed);
         }
         if round_begins(t, at) {
-            match close_and_begin(
+            if let Err(failed) = close_and_begin(
                 sink,
                 &mut self.emach,
                 &mut self.world,
                 &mut self.desk,
                 &mut self.tally,
-                &mut self.selected,
-                &mut self.jobs,
-                self.count,
+                &mut self.path,
                 t,
                 code,
-                l.schedules(),
+                l,
                 self.show,
                 self.takes.as_slice(),
                 &mut self.noted,
                 at,
             ) {
-                Ok(begun) => {
-                    self.count = begun.positions;
-                    self.selection = Some(begun.selection);
-                    Ok(())
-                }
-                Err(failed) => {
-                    self.spent = true;
-                    Err(failed)
-                }
+                self.spent = true;
+                return Err(failed);
             }
+            Ok(())
         } else {
             if let Err(failed) = close_instant(
                 sink,
@@ -334,7 +306,7 @@ impl<'a> Machine<'a> {
                 &mut self.tally,
                 t,
                 code,
-                &self.jobs[..self.count],
+                self.path.jobs(),
                 self.show,
                 &mut self.noted,
                 at,
@@ -408,26 +380,5 @@ fn sooner(next: Option<Time>, from: Time, to: Time) -> Time
     match next {
         Some(n) => n.max(from).min(to),
         None => to,
-    }
-}
-
-// The schedule by which the round goes; none stands before the first.
-fn schedule_of<'b>(l: &'b Loaded, idle: &'b Schedule, selection: Option<u32>) -> &'b Schedule
-    requires { IfSome selection (λ n. n < length l.now.schedules) }
-    ensures { result.now.instrs ≡ schedule_by l.now idle.now.instrs selection }
-{
-    match selection {
-        Some(n) => &l.schedules()[n as usize],
-        None => idle,
-    }
-}
-
-// The number of that schedule; 0 where none stands.
-fn number_of(selection: Option<u32>) -> u32
-    ensures { result ≡ number_by selection }
-{
-    match selection {
-        Some(n) => n,
-        None => 0,
     }
 }

@@ -41,7 +41,7 @@ pub fn open_instant<W: Sink>(
     code: &ECode,
     jobs: &[Job],
     schedule: &Schedule,
-    selection: u32,
+    node: u32,
     show: Shown,
     sensors: &mut Sensors,
     noted: &mut Noted,
@@ -66,7 +66,7 @@ pub fn open_instant<W: Sink>(
     requires marked { MarksChanges noted.old world.old.values m.old.calendar.modes }
     requires waiting { MarksWaiting t.now sensors.old world.old.values }
     requires follows { (es : List Event) × Follows t.now code.now es at m.old }
-    ensures text { (es : List Event) → Follows t.now code.now es at m.old → Opens t.now code.now es show selection desk.old schedule.now.instrs at (W.written sink.old) (W.written sink.new) (W.faults sink.old) (W.faults sink.new) result }
+    ensures text { (es : List Event) → Follows t.now code.now es at m.old → Opens t.now code.now es show node desk.old schedule.now.instrs at (W.written sink.old) (W.written sink.new) (W.faults sink.old) (W.faults sink.new) result }
     ensures counts { (es : List Event) → Follows t.now code.now es at m.old → OnOk result (AreCounted t.now code.now es desk.old schedule.now.instrs at tally.old tally.new) }
     ensures world { (es : List Event) → Follows t.now code.now es at m.old → OnOk result (IsOpened t.now code.now es at schedule.now.instrs sensors.old.shows noted.old.values desk.old world.old desk.new world.new) }
     ensures idle_text { (es : List Event) → Follows t.now code.now es at m.old → desk.old.running ≡ false → Puts (W.written sink.old) (W.written sink.new) (W.faults sink.old) (W.faults sink.new) (path_lines t.now code.now show at (phase_path t.now code.now es at 1)) result }
@@ -82,7 +82,7 @@ pub fn open_instant<W: Sink>(
     ensures writes { (es : List Event) → Follows t.now code.now es at m.old → OnOk result (Onward t.now code.now es at 1 m.new (phase_path t.now code.now es at 1) [] None) }
 {
     if let Err(failed) = tell_records(
-        sink, world, desk, tally, t, jobs, schedule, selection, show, at,
+        sink, world, desk, tally, t, jobs, schedule, node, show, at,
     ) {
         return Err(failed);
     }

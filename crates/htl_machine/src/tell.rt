@@ -79,15 +79,15 @@ fn tell_job<W: Sink>(
 fn tell_place<W: Sink>(
     sink: &mut W,
     code: &Schedule,
-    selection: u32,
+    node: u32,
     at: Time,
     place: u32,
 ) -> Result<(), Failed>
-    ensures { Puts (W.written sink.old) (W.written sink.new) (W.faults sink.old) (W.faults sink.new) (place_lines code.now.instrs selection at place) result }
+    ensures { Puts (W.written sink.old) (W.written sink.new) (W.faults sink.old) (W.faults sink.new) (place_lines code.now.instrs node at place) result }
 {
     let instrs = code.instrs.as_slice();
     if (place as usize) < instrs.len() {
-        line_s(sink, at, selection, place, &instrs[place as usize])
+        line_s(sink, at, node, place, &instrs[place as usize])
     } else {
         Ok(())
     }
@@ -97,14 +97,14 @@ fn tell_place<W: Sink>(
 fn tell_step<W: Sink>(
     sink: &mut W,
     code: &Schedule,
-    selection: u32,
+    node: u32,
     show: Shown,
     left: &Left,
 ) -> Result<(), Failed>
-    ensures { Puts (W.written sink.old) (W.written sink.new) (W.faults sink.old) (W.faults sink.new) (code_lines show code.now.instrs selection left.now) result }
+    ensures { Puts (W.written sink.old) (W.written sink.new) (W.faults sink.old) (W.faults sink.new) (code_lines show code.now.instrs node left.now) result }
 {
     if show.code() {
-        tell_place(sink, code, selection, left.at, left.instr)
+        tell_place(sink, code, node, left.at, left.instr)
     } else {
         Ok(())
     }
@@ -116,14 +116,14 @@ pub fn tell_record<W: Sink>(
     t: &Tables,
     jobs: &[Job],
     code: &Schedule,
-    selection: u32,
+    node: u32,
     show: Shown,
     left: &Left,
 ) -> Result<(), Failed>
-    ensures { Puts (W.written sink.old) (W.written sink.new) (W.faults sink.old) (W.faults sink.new) (record_lines t.now show jobs.now code.now.instrs selection left.now) result }
+    ensures { Puts (W.written sink.old) (W.written sink.new) (W.faults sink.old) (W.faults sink.new) (record_lines t.now show jobs.now code.now.instrs node left.now) result }
 {
     if let Err(failed) = tell_job(sink, t, jobs, show, left) {
         return Err(failed);
     }
-    tell_step(sink, code, selection, show, left)
+    tell_step(sink, code, node, show, left)
 }

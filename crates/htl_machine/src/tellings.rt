@@ -29,7 +29,7 @@ pub fn tell_records<W: Sink>(
     t: &Tables,
     jobs: &[Job],
     code: &Schedule,
-    selection: u32,
+    node: u32,
     show: Shown,
     at: Time,
 ) -> Result<(), Failed>
@@ -42,7 +42,7 @@ pub fn tell_records<W: Sink>(
     requires instrs { length code.now.instrs ≤ 4294967295 }
     requires stands { Stands desk.old code.now.instrs }
     requires told { IsTold desk.old at }
-    ensures text { Prints t.now show selection desk.old code.now.instrs at (W.written sink.old) (W.written sink.new) (W.faults sink.old) (W.faults sink.new) result }
+    ensures text { Prints t.now show node desk.old code.now.instrs at (W.written sink.old) (W.written sink.new) (W.faults sink.old) (W.faults sink.new) result }
     ensures idle_text { desk.old.running ≡ false → Puts (W.written sink.old) (W.written sink.new) (W.faults sink.old) (W.faults sink.new) [] result }
     ensures idle { OnOk result (desk.old.running ≡ false → (desk.new ≡ desk.old) × (world.new ≡ world.old) × (tally.new ≡ tally.old)) }
     ensures counts { OnOk result (Counted desk.old code.now.instrs at tally.old tally.new) }
@@ -55,7 +55,7 @@ pub fn tell_records<W: Sink>(
     while let Some(left) = desk.run_to(code, at) {
         put_out(world, t, jobs, left.finished, left.position);
         tally.record(left.finished);
-        if let Err(failed) = tell_record(sink, t, jobs, code, selection, show, &left) {
+        if let Err(failed) = tell_record(sink, t, jobs, code, node, show, &left) {
             return Err(failed);
         }
     }

@@ -1,22 +1,24 @@
-use Rattle.std.proofs.Common.{ℕ, List, ℤ, sym, ap, ◌∙◌, subst, length, ◌≤◌, arith}
+use Rattle.std.proofs.Common.{ℕ, List, ℤ, sym, ap, ◌∙◌, subst, length, ◌≤◌, suc, arith}
 use Rattle.htl_model.specs.Selected.{IsSelection}
-use Rattle.htl_walk.specs.Refinement.{HaveLengths, AreWithinWorst}
-use Rattle.htl_smach.specs.Rounds.{Round, IsInForm}
+use Rattle.htl_walk.specs.declared.job.Job.{Job}
+use Rattle.htl_walk.specs.declared.schedule.SInstr.{SInstr}
+use Rattle.htl_smach.specs.Rounds.{Round, IsInForm, Stands}
 use Rattle.htl_emach.specs.Following.{phase_path}
-use Rattle.htl_refine.specs.ConcreteJobs.{concrete_jobs}
-use Rattle.htl_refine.specs.Roots.{selection_of}
 use Rattle.htl_refine.proofs.StateLaws.{states_are_selections}
+use Rattle.htl_machine.specs.Beginning.{CanFollow}
 use Rattle.htl_machine.specs.Counts.{with_instrs, with_records}
+use Rattle.htl_machine.specs.ListBegun.{list_begun}
 use Rattle.htl_machine.specs.Noting.{MarksChanges}
 use Rattle.htl_machine.specs.Opening.{first_records}
 use Rattle.htl_machine.specs.Recording.{AreOf}
-use Rattle.htl_machine.specs.Rounds.{plan_of}
+use Rattle.htl_machine.specs.RunLists.{turn_at}
 use Rattle.htl_machine.specs.Running.{replay}
-use Rattle.htl_machine.specs.Starting.{kept_lengths, instrs_of}
-use Rattle.htl_machine.proofs.Beginnings.{apart_twelve, begun_is, told_is, schedule_is, first_done, first_counted, first_told, then_more, fails_so, ends_so, began_last}
+use Rattle.htl_machine.specs.Starting.{instrs_of}
+use Rattle.htl_machine.proofs.Beginnings.{apart_twelve, may_follow, node_there, has_begun, first_done, first_counted, first_told, then_more, fails_so, ends_so, began_last}
 use Rattle.htl_machine.proofs.Closings.{switches_fail, reads_second, switches_start}
 use Rattle.htl_machine.proofs.Marking.{closes_noted, sensors_then, sensors_same}
 use Rattle.htl_machine.proofs.Modes.{modes_are}
+use Rattle.htl_machine.proofs.Premises.{at_told}
 use Rattle.htl_machine.proofs.beginning.close_and_begin.Goals as goal
 
 pub do_instrs-requires-clause-form : goal.do_instrs-requires-clause-form
@@ -24,60 +26,79 @@ do_instrs-requires-clause-form g c = apart_twelve c.args.t.now c.requires.form
 
 pub do_instrs-requires-clause-starts : goal.do_instrs-requires-clause-starts
 do_instrs-requires-clause-starts g c =
-    let w = c.requires.begins in
-    (w.0, switches_start c.args.t.now c.args.code.now w.0 c.args.at c.args.m.now c.args.world.now w.1.closes.now w.1.closes.writes)
+    let es = c.requires.begins.0 in
+    let q = c.requires.begins.1 in
+    let t = c.args.t.now in
+    let code = c.args.code.now in
+    let at = c.args.at in
+    let s = switches_start t code es at c.args.m.now c.args.world.now q.closes.now q.closes.writes in
+    (es, s)
 
 pub returns-in-Err-clause-text : goal.returns-in-Err-clause-text
 returns-in-Err-clause-text g c = λ es q.
-    let s = switches_start c.args.t.now c.args.code.now es c.args.at c.args.m.now c.args.world.now q.closes.now q.closes.writes in
-    then_more {T = ℕ} _ _ _ _ _ _ c.in-Err.failed _ (switches_fail c.args.t.now c.args.code.now es c.args.show c.args.at _ _ _ _ _ c.in-Err.failed (c.in-Err.ensures.text es s))
-
-pub begin_round-begun-requires-clause-selection : goal.begin_round-begun-requires-clause-selection
-begin_round-begun-requires-clause-selection g c =
-    let es = c.requires.begins.0 in
-    let q = c.requires.begins.1 in
-    let s = switches_start c.args.t.now c.args.code.now es c.args.at c.args.m.now c.args.world.now q.closes.now q.closes.writes in
-    let range = c.parts-parts.ensures.ranges in
-    subst (IsSelection c.args.t.now) (sym (modes_are c.args.t.now c.args.code.now es c.args.at c.do_instrs.new.m.calendar range (c.in_default.ensures.ends es s).2)) (states_are_selections c.args.t.now range es c.args.at)
-
-pub begin_round-begun-requires-clause-lengths : goal.begin_round-begun-requires-clause-lengths
-begin_round-begun-requires-clause-lengths g c =
-    let es = c.requires.begins.0 in
-    let q = c.requires.begins.1 in
-    let s = switches_start c.args.t.now c.args.code.now es c.args.at c.args.m.now c.args.world.now q.closes.now q.closes.writes in
     let t = c.args.t.now in
-    let h = q.begins in
-    subst (λ z. HaveLengths (concrete_jobs t z) (kept_lengths c.args.takes.now (concrete_jobs t z))) (sym (modes_are t c.args.code.now es c.args.at c.do_instrs.new.m.calendar c.parts-parts.ensures.ranges (c.in_default.ensures.ends es s).2))
-    (subst (HaveLengths (plan_of t (instrs_of c.args.schedules.now) es c.args.at).jobs) (sym h.kept) h.some)
+    let code = c.args.code.now in
+    let at = c.args.at in
+    let s = switches_start t code es at c.args.m.now c.args.world.now q.closes.now q.closes.writes in
+    then_more {T = ℕ} _ _ _ _ _ _ c.in-Err.failed _ (switches_fail t code es c.args.show at _ _ _ _ _ c.in-Err.failed (c.in-Err.ensures.text es s))
 
-pub begin_round-begun-requires-clause-worst : goal.begin_round-begun-requires-clause-worst
-begin_round-begun-requires-clause-worst g c =
+pub begin-requires-clause-selection : goal.begin-requires-clause-selection
+begin-requires-clause-selection g c =
     let es = c.requires.begins.0 in
     let q = c.requires.begins.1 in
-    let s = switches_start c.args.t.now c.args.code.now es c.args.at c.args.m.now c.args.world.now q.closes.now q.closes.writes in
     let t = c.args.t.now in
-    let h = q.begins in
-    subst (λ z. AreWithinWorst (concrete_jobs t z) (kept_lengths c.args.takes.now (concrete_jobs t z))) (sym (modes_are t c.args.code.now es c.args.at c.do_instrs.new.m.calendar c.parts-parts.ensures.ranges (c.in_default.ensures.ends es s).2))
-    (subst (AreWithinWorst (plan_of t (instrs_of c.args.schedules.now) es c.args.at).jobs) (sym h.kept) h.worst)
+    let code = c.args.code.now in
+    let at = c.args.at in
+    let s = switches_start t code es at c.args.m.now c.args.world.now q.closes.now q.closes.writes in
+    let ms = modes_are t code es at c.do_instrs.new.m.calendar c.parts-parts.ensures.ranges (c.in_default.ensures.ends es s).2 in
+    subst (IsSelection t) (sym ms) (states_are_selections t c.parts-parts.ensures.ranges es at)
+
+pub begin-requires-clause-follows : goal.begin-requires-clause-follows
+begin-requires-clause-follows g c =
+    let es = c.requires.begins.0 in
+    let q = c.requires.begins.1 in
+    let t = c.args.t.now in
+    let code = c.args.code.now in
+    let at = c.args.at in
+    let s = switches_start t code es at c.args.m.now c.args.world.now q.closes.now q.closes.writes in
+    let ms = modes_are t code es at c.do_instrs.new.m.calendar c.parts-parts.ensures.ranges (c.in_default.ensures.ends es s).2 in
+    let modes = c.do_instrs.new.m.calendar.modes in
+    subst (CanFollow t modes c.args.takes.now at c.args.path.now.list) (sym (c.in_default.ensures.desk es s))
+    (may_follow t code c.args.l.now es at c.args.takes.now c.args.path.now.list c.args.desk.now modes ms q.begins)
 
 pub read_instant-requires-clause-form : goal.read_instant-requires-clause-form
 read_instant-requires-clause-form g c = apart_twelve c.args.t.now c.requires.form
-
-pub read_instant-requires-clause-jobs : goal.read_instant-requires-clause-jobs
-read_instant-requires-clause-jobs g c = ap (λ (z : Round). z.jobs) c.begin_round-begun.ensures.round ∙ sym c.begin_round-begun.ensures.jobs
 
 pub read_instant-requires-clause-reads : goal.read_instant-requires-clause-reads
 read_instant-requires-clause-reads g c =
     let es = c.requires.begins.0 in
     let q = c.requires.begins.1 in
-    let s = switches_start c.args.t.now c.args.code.now es c.args.at c.args.m.now c.args.world.now q.closes.now q.closes.writes in
-    (es, closes_noted c.args.t.now c.args.code.now es c.args.at c.args.m.now c.do_instrs.new.m c.args.world.now c.do_instrs.new.world c.args.noted.now c.do_instrs.new.noted c.in_default.ensures.noted q.closes (c.in_default.ensures.ends es s) (c.in_default.ensures.world es s))
+    let t = c.args.t.now in
+    let code = c.args.code.now in
+    let at = c.args.at in
+    let s = switches_start t code es at c.args.m.now c.args.world.now q.closes.now q.closes.writes in
+    let r = closes_noted t code es at c.args.m.now c.do_instrs.new.m c.args.world.now c.do_instrs.new.world c.args.noted.now c.do_instrs.new.noted c.in_default.ensures.noted q.closes (c.in_default.ensures.ends es s) (c.in_default.ensures.world es s) in
+    (es, r)
 
 pub returns-in-Err-read_instant-clause-text : goal.returns-in-Err-read_instant-clause-text
 returns-in-Err-read_instant-clause-text g c = λ es q.
-    let s = switches_start c.args.t.now c.args.code.now es c.args.at c.args.m.now c.args.world.now q.closes.now q.closes.writes in
-    let r = closes_noted c.args.t.now c.args.code.now es c.args.at c.args.m.now c.do_instrs.new.m c.args.world.now c.do_instrs.new.world c.args.noted.now c.do_instrs.new.noted c.in_default.ensures.noted q.closes (c.in_default.ensures.ends es s) (c.in_default.ensures.world es s) in
-    then_more _ _ _ _ _ _ c.in-Err-read_instant.failed _ (reads_second c.args.t.now c.args.code.now es c.args.show c.args.at _ _ _ _ _ _ _ _ (c.in_default.ensures.text es s) (c.in-Err-read_instant.ensures.text es r))
+    let t = c.args.t.now in
+    let code = c.args.code.now in
+    let at = c.args.at in
+    let s = switches_start t code es at c.args.m.now c.args.world.now q.closes.now q.closes.writes in
+    let r = closes_noted t code es at c.args.m.now c.do_instrs.new.m c.args.world.now c.do_instrs.new.world c.args.noted.now c.do_instrs.new.noted c.in_default.ensures.noted q.closes (c.in_default.ensures.ends es s) (c.in_default.ensures.world es s) in
+    then_more _ _ _ _ _ _ c.in-Err-read_instant.failed _ (reads_second t code es c.args.show at _ _ _ _ _ _ _ _ (c.in_default.ensures.text es s) (c.in-Err-read_instant.ensures.text es r))
+
+pub schedule-requires : goal.schedule-requires
+schedule-requires g c =
+    let es = c.requires.begins.0 in
+    let q = c.requires.begins.1 in
+    let t = c.args.t.now in
+    let code = c.args.code.now in
+    let at = c.args.at in
+    let s = switches_start t code es at c.args.m.now c.args.world.now q.closes.now q.closes.writes in
+    let ms = modes_are t code es at c.do_instrs.new.m.calendar c.parts-parts.ensures.ranges (c.in_default.ensures.ends es s).2 in
+    node_there t code c.args.l.now es at c.args.takes.now c.args.path.now.list c.args.desk.now c.do_instrs.new.m.calendar.modes ms q.begins c.begin.new.self.list c.begin.ensures.list
 
 pub tell_records-requires-clause-kept : goal.tell_records-requires-clause-kept
 tell_records-requires-clause-kept g c = apart_twelve c.args.t.now c.requires.form
@@ -86,152 +107,191 @@ pub tell_records-requires-clause-of : goal.tell_records-requires-clause-of
 tell_records-requires-clause-of g c =
     let es = c.requires.begins.0 in
     let q = c.requires.begins.1 in
-    let s = switches_start c.args.t.now c.args.code.now es c.args.at c.args.m.now c.args.world.now q.closes.now q.closes.writes in
-    let h = q.begins in
-    subst (AreOf c.args.t.now)
-    (sym (c.begin_round-begun.ensures.jobs ∙ ap (concrete_jobs c.args.t.now) (modes_are c.args.t.now c.args.code.now es c.args.at c.do_instrs.new.m.calendar c.parts-parts.ensures.ranges (c.in_default.ensures.ends es s).2))) h.of
+    let t = c.args.t.now in
+    let code = c.args.code.now in
+    let at = c.args.at in
+    let s = switches_start t code es at c.args.m.now c.args.world.now q.closes.now q.closes.writes in
+    let ms = modes_are t code es at c.do_instrs.new.m.calendar c.parts-parts.ensures.ranges (c.in_default.ensures.ends es s).2 in
+    let r = closes_noted t code es at c.args.m.now c.do_instrs.new.m c.args.world.now c.do_instrs.new.world c.args.noted.now c.do_instrs.new.noted c.in_default.ensures.noted q.closes (c.in_default.ensures.ends es s) (c.in_default.ensures.world es s) in
+    let modes = c.do_instrs.new.m.calendar.modes in
+    let here = c.begin.ensures.desk ∙ ap (list_begun t modes c.args.takes.now at) (c.in_default.ensures.desk es s) in
+    let b =
+    has_begun t code c.args.l.now es at c.args.takes.now c.args.path.now.list c.args.desk.now modes ms q.begins c.begin.new.self.list c.begin.ensures.list c.begin.new.self.idle.instrs c.schedule.result.now.instrs c.begin.new.desk c.read_instant.new.desk c.schedule.ensures here
+    (c.in_default-read_instant.ensures.desk es r) c.in_default-read_instant.ensures.stands in
+    subst (AreOf t) (sym (c.jobs-3.ensures ∙ c.begin.ensures.path.are ∙ b.jobs)) q.begins.of
 
 pub tell_records-requires-clause-form : goal.tell_records-requires-clause-form
-tell_records-requires-clause-form g c = λ run.
+tell_records-requires-clause-form g c =
     let es = c.requires.begins.0 in
     let q = c.requires.begins.1 in
-    let s = switches_start c.args.t.now c.args.code.now es c.args.at c.args.m.now c.args.world.now q.closes.now q.closes.writes in
     let t = c.args.t.now in
-    let h = q.begins in
-    let ms = modes_are t c.args.code.now es c.args.at c.do_instrs.new.m.calendar c.parts-parts.ensures.ranges (c.in_default.ensures.ends es s).2 in
-    let starts = begun_is t c.args.code.now (instrs_of c.args.schedules.now) es c.args.at c.args.takes.now c.do_instrs.new.m.calendar.modes c.begin_round-begun.new.desk ms h c.begin_round-begun.ensures.round in
-    subst (IsInForm c.read_instant.new.desk)
-    (sym (schedule_is t c.args.schedules.now es c.args.at c.begin_round-begun.result.selection c.do_instrs.new.m.calendar.modes c.index-schedules-begun.result ms c.begin_round-begun.ensures.selection c.begin_round-begun.ensures.known c.requires.schedules c.index-schedules-begun.is))
-    (h.form c.read_instant.new.desk (c.in_default-read_instant.ensures.jobs ∙ ap (λ (z : Round). z.jobs) starts))
+    let code = c.args.code.now in
+    let at = c.args.at in
+    let s = switches_start t code es at c.args.m.now c.args.world.now q.closes.now q.closes.writes in
+    let ms = modes_are t code es at c.do_instrs.new.m.calendar c.parts-parts.ensures.ranges (c.in_default.ensures.ends es s).2 in
+    let r = closes_noted t code es at c.args.m.now c.do_instrs.new.m c.args.world.now c.do_instrs.new.world c.args.noted.now c.do_instrs.new.noted c.in_default.ensures.noted q.closes (c.in_default.ensures.ends es s) (c.in_default.ensures.world es s) in
+    let modes = c.do_instrs.new.m.calendar.modes in
+    let here = c.begin.ensures.desk ∙ ap (list_begun t modes c.args.takes.now at) (c.in_default.ensures.desk es s) in
+    let b =
+    has_begun t code c.args.l.now es at c.args.takes.now c.args.path.now.list c.args.desk.now modes ms q.begins c.begin.new.self.list c.begin.ensures.list c.begin.new.self.idle.instrs c.schedule.result.now.instrs c.begin.new.desk c.read_instant.new.desk c.schedule.ensures here
+    (c.in_default-read_instant.ensures.desk es r) c.in_default-read_instant.ensures.stands in
+    λ runs. subst (IsInForm c.read_instant.new.desk) b.same (q.begins.form c.read_instant.new.desk (c.in_default-read_instant.ensures.jobs ∙ b.jobs))
 
 pub tell_records-requires-clause-instrs : goal.tell_records-requires-clause-instrs
 tell_records-requires-clause-instrs g c =
     let es = c.requires.begins.0 in
     let q = c.requires.begins.1 in
-    let s = switches_start c.args.t.now c.args.code.now es c.args.at c.args.m.now c.args.world.now q.closes.now q.closes.writes in
     let t = c.args.t.now in
-    let h = q.begins in
-    let ms = modes_are t c.args.code.now es c.args.at c.do_instrs.new.m.calendar c.parts-parts.ensures.ranges (c.in_default.ensures.ends es s).2 in
-    subst (λ z. length z ≤ 4294967295)
-    (sym (schedule_is t c.args.schedules.now es c.args.at c.begin_round-begun.result.selection c.do_instrs.new.m.calendar.modes c.index-schedules-begun.result ms c.begin_round-begun.ensures.selection c.begin_round-begun.ensures.known c.requires.schedules c.index-schedules-begun.is))
-    h.short
+    let code = c.args.code.now in
+    let at = c.args.at in
+    let s = switches_start t code es at c.args.m.now c.args.world.now q.closes.now q.closes.writes in
+    let ms = modes_are t code es at c.do_instrs.new.m.calendar c.parts-parts.ensures.ranges (c.in_default.ensures.ends es s).2 in
+    let r = closes_noted t code es at c.args.m.now c.do_instrs.new.m c.args.world.now c.do_instrs.new.world c.args.noted.now c.do_instrs.new.noted c.in_default.ensures.noted q.closes (c.in_default.ensures.ends es s) (c.in_default.ensures.world es s) in
+    let modes = c.do_instrs.new.m.calendar.modes in
+    let here = c.begin.ensures.desk ∙ ap (list_begun t modes c.args.takes.now at) (c.in_default.ensures.desk es s) in
+    let b =
+    has_begun t code c.args.l.now es at c.args.takes.now c.args.path.now.list c.args.desk.now modes ms q.begins c.begin.new.self.list c.begin.ensures.list c.begin.new.self.idle.instrs c.schedule.result.now.instrs c.begin.new.desk c.read_instant.new.desk c.schedule.ensures here
+    (c.in_default-read_instant.ensures.desk es r) c.in_default-read_instant.ensures.stands in
+    subst (λ (z : List SInstr). length z ≤ 4294967295) b.same q.begins.short
 
 pub tell_records-requires-clause-stands : goal.tell_records-requires-clause-stands
 tell_records-requires-clause-stands g c =
-    let steps = c.index-schedules-begun.result.instrs in
-    c.in_default-read_instant.ensures.stands steps (c.begin_round-begun.ensures.stands steps)
-
-pub tell_records-requires-clause-told : goal.tell_records-requires-clause-told
-tell_records-requires-clause-told g c = λ p pend.
     let es = c.requires.begins.0 in
     let q = c.requires.begins.1 in
-    let s = switches_start c.args.t.now c.args.code.now es c.args.at c.args.m.now c.args.world.now q.closes.now q.closes.writes in
-    let r = closes_noted c.args.t.now c.args.code.now es c.args.at c.args.m.now c.do_instrs.new.m c.args.world.now c.do_instrs.new.world c.args.noted.now c.do_instrs.new.noted c.in_default.ensures.noted q.closes (c.in_default.ensures.ends es s) (c.in_default.ensures.world es s) in
     let t = c.args.t.now in
-    let ss = instrs_of c.args.schedules.now in
-    let h = q.begins in
-    let ms = modes_are t c.args.code.now es c.args.at c.do_instrs.new.m.calendar c.parts-parts.ensures.ranges (c.in_default.ensures.ends es s).2 in
-    let starts = begun_is t c.args.code.now ss es c.args.at c.args.takes.now c.do_instrs.new.m.calendar.modes c.begin_round-begun.new.desk ms h c.begin_round-begun.ensures.round in
-    let told = told_is t c.args.code.now ss es c.args.at c.args.takes.now c.begin_round-begun.new.desk c.read_instant.new.desk h starts (c.in_default-read_instant.ensures.desk es r) in
-    omega (arith, told.start)
+    let code = c.args.code.now in
+    let at = c.args.at in
+    let s = switches_start t code es at c.args.m.now c.args.world.now q.closes.now q.closes.writes in
+    let ms = modes_are t code es at c.do_instrs.new.m.calendar c.parts-parts.ensures.ranges (c.in_default.ensures.ends es s).2 in
+    let r = closes_noted t code es at c.args.m.now c.do_instrs.new.m c.args.world.now c.do_instrs.new.world c.args.noted.now c.do_instrs.new.noted c.in_default.ensures.noted q.closes (c.in_default.ensures.ends es s) (c.in_default.ensures.world es s) in
+    let modes = c.do_instrs.new.m.calendar.modes in
+    let here = c.begin.ensures.desk ∙ ap (list_begun t modes c.args.takes.now at) (c.in_default.ensures.desk es s) in
+    let b =
+    has_begun t code c.args.l.now es at c.args.takes.now c.args.path.now.list c.args.desk.now modes ms q.begins c.begin.new.self.list c.begin.ensures.list c.begin.new.self.idle.instrs c.schedule.result.now.instrs c.begin.new.desk c.read_instant.new.desk c.schedule.ensures here
+    (c.in_default-read_instant.ensures.desk es r) c.in_default-read_instant.ensures.stands in
+    subst (Stands c.read_instant.new.desk) b.same b.told_at.stands
+
+pub tell_records-requires-clause-told : goal.tell_records-requires-clause-told
+tell_records-requires-clause-told g c =
+    let es = c.requires.begins.0 in
+    let q = c.requires.begins.1 in
+    let t = c.args.t.now in
+    let code = c.args.code.now in
+    let at = c.args.at in
+    let s = switches_start t code es at c.args.m.now c.args.world.now q.closes.now q.closes.writes in
+    let ms = modes_are t code es at c.do_instrs.new.m.calendar c.parts-parts.ensures.ranges (c.in_default.ensures.ends es s).2 in
+    let r = closes_noted t code es at c.args.m.now c.do_instrs.new.m c.args.world.now c.do_instrs.new.world c.args.noted.now c.do_instrs.new.noted c.in_default.ensures.noted q.closes (c.in_default.ensures.ends es s) (c.in_default.ensures.world es s) in
+    let modes = c.do_instrs.new.m.calendar.modes in
+    let here = c.begin.ensures.desk ∙ ap (list_begun t modes c.args.takes.now at) (c.in_default.ensures.desk es s) in
+    let b =
+    has_begun t code c.args.l.now es at c.args.takes.now c.args.path.now.list c.args.desk.now modes ms q.begins c.begin.new.self.list c.begin.ensures.list c.begin.new.self.idle.instrs c.schedule.result.now.instrs c.begin.new.desk c.read_instant.new.desk c.schedule.ensures here
+    (c.in_default-read_instant.ensures.desk es r) c.in_default-read_instant.ensures.stands in
+    let u = turn_at t (instrs_of c.args.l.now.schedules) es at in
+    λ p pend. let late = at_told u.plan u.frame 0 (suc at) c.read_instant.new.desk (omega (arith, b.past)) b.told_at p pend in omega (arith, late)
 
 pub returns-in-Err-tell_records-clause-text : goal.returns-in-Err-tell_records-clause-text
 returns-in-Err-tell_records-clause-text g c = λ es q.
-    let s = switches_start c.args.t.now c.args.code.now es c.args.at c.args.m.now c.args.world.now q.closes.now q.closes.writes in
-    let r = closes_noted c.args.t.now c.args.code.now es c.args.at c.args.m.now c.do_instrs.new.m c.args.world.now c.do_instrs.new.world c.args.noted.now c.do_instrs.new.noted c.in_default.ensures.noted q.closes (c.in_default.ensures.ends es s) (c.in_default.ensures.world es s) in
     let t = c.args.t.now in
-    let ss = instrs_of c.args.schedules.now in
-    let h = q.begins in
-    let ms = modes_are t c.args.code.now es c.args.at c.do_instrs.new.m.calendar c.parts-parts.ensures.ranges (c.in_default.ensures.ends es s).2 in
-    let starts = begun_is t c.args.code.now ss es c.args.at c.args.takes.now c.do_instrs.new.m.calendar.modes c.begin_round-begun.new.desk ms h c.begin_round-begun.ensures.round in
-    let told = told_is t c.args.code.now ss es c.args.at c.args.takes.now c.begin_round-begun.new.desk c.read_instant.new.desk h starts (c.in_default-read_instant.ensures.desk es r) in
-    let same = sym (schedule_is t c.args.schedules.now es c.args.at c.begin_round-begun.result.selection c.do_instrs.new.m.calendar.modes c.index-schedules-begun.result ms c.begin_round-begun.ensures.selection c.begin_round-begun.ensures.known c.requires.schedules c.index-schedules-begun.is) in
-    began_last t c.args.code.now ss es c.args.show c.args.at _ _ _ _ _ _ _ _ _ _ _ (c.in_default.ensures.text es s) (c.in_default-read_instant.ensures.text es r)
-    (fails_so _ _ _ _ _ c.in-Err-tell_records.failed c.in-Err-tell_records.failed
-    (first_told t ss es c.args.show c.index-schedules-begun.result.instrs c.args.at c.begin_round-begun.result.selection c.do_instrs.new.m.calendar.modes c.read_instant.new.desk _ _ _ _ _ same ms c.begin_round-begun.ensures.selection told c.in-Err-tell_records.ensures.text))
+    let code = c.args.code.now in
+    let at = c.args.at in
+    let s = switches_start t code es at c.args.m.now c.args.world.now q.closes.now q.closes.writes in
+    let ms = modes_are t code es at c.do_instrs.new.m.calendar c.parts-parts.ensures.ranges (c.in_default.ensures.ends es s).2 in
+    let r = closes_noted t code es at c.args.m.now c.do_instrs.new.m c.args.world.now c.do_instrs.new.world c.args.noted.now c.do_instrs.new.noted c.in_default.ensures.noted q.closes (c.in_default.ensures.ends es s) (c.in_default.ensures.world es s) in
+    let modes = c.do_instrs.new.m.calendar.modes in
+    let here = c.begin.ensures.desk ∙ ap (list_begun t modes c.args.takes.now at) (c.in_default.ensures.desk es s) in
+    let b =
+    has_begun t code c.args.l.now es at c.args.takes.now c.args.path.now.list c.args.desk.now modes ms q.begins c.begin.new.self.list c.begin.ensures.list c.begin.new.self.idle.instrs c.schedule.result.now.instrs c.begin.new.desk c.read_instant.new.desk c.schedule.ensures here
+    (c.in_default-read_instant.ensures.desk es r) c.in_default-read_instant.ensures.stands in
+    began_last t code (instrs_of c.args.l.now.schedules) es c.args.show at _ _ _ _ _ _ _ _ _ _ _ (c.in_default.ensures.text es s) (c.in_default-read_instant.ensures.text es r)
+    (fails_so _ _ _ _ _ c.in-Err-tell_records.failed c.in-Err-tell_records.failed (first_told t (instrs_of c.args.l.now.schedules) es at c.begin.new.self.list c.schedule.result.now.instrs c.begin.new.desk c.read_instant.new.desk b c.args.show c.node.result _ _ _ _ _ c.node.ensures c.in-Err-tell_records.ensures.text))
 
 pub returns-clause-text : goal.returns-clause-text
 returns-clause-text g c = λ es q.
-    let s = switches_start c.args.t.now c.args.code.now es c.args.at c.args.m.now c.args.world.now q.closes.now q.closes.writes in
-    let r = closes_noted c.args.t.now c.args.code.now es c.args.at c.args.m.now c.do_instrs.new.m c.args.world.now c.do_instrs.new.world c.args.noted.now c.do_instrs.new.noted c.in_default.ensures.noted q.closes (c.in_default.ensures.ends es s) (c.in_default.ensures.world es s) in
     let t = c.args.t.now in
-    let ss = instrs_of c.args.schedules.now in
-    let h = q.begins in
-    let ms = modes_are t c.args.code.now es c.args.at c.do_instrs.new.m.calendar c.parts-parts.ensures.ranges (c.in_default.ensures.ends es s).2 in
-    let starts = begun_is t c.args.code.now ss es c.args.at c.args.takes.now c.do_instrs.new.m.calendar.modes c.begin_round-begun.new.desk ms h c.begin_round-begun.ensures.round in
-    let told = told_is t c.args.code.now ss es c.args.at c.args.takes.now c.begin_round-begun.new.desk c.read_instant.new.desk h starts (c.in_default-read_instant.ensures.desk es r) in
-    let same = sym (schedule_is t c.args.schedules.now es c.args.at c.begin_round-begun.result.selection c.do_instrs.new.m.calendar.modes c.index-schedules-begun.result ms c.begin_round-begun.ensures.selection c.begin_round-begun.ensures.known c.requires.schedules c.index-schedules-begun.is) in
-    began_last t c.args.code.now ss es c.args.show c.args.at _ _ _ _ _ _ _ _ _ _ _ (c.in_default.ensures.text es s) (c.in_default-read_instant.ensures.text es r)
-    (ends_so _ _ _ _ _ c.in_default-tell_records.field-0 c.begin_round-begun.result
-    (first_told t ss es c.args.show c.index-schedules-begun.result.instrs c.args.at c.begin_round-begun.result.selection c.do_instrs.new.m.calendar.modes c.read_instant.new.desk _ _ _ _ _ same ms c.begin_round-begun.ensures.selection told c.in_default-tell_records.ensures.text))
+    let code = c.args.code.now in
+    let at = c.args.at in
+    let s = switches_start t code es at c.args.m.now c.args.world.now q.closes.now q.closes.writes in
+    let ms = modes_are t code es at c.do_instrs.new.m.calendar c.parts-parts.ensures.ranges (c.in_default.ensures.ends es s).2 in
+    let r = closes_noted t code es at c.args.m.now c.do_instrs.new.m c.args.world.now c.do_instrs.new.world c.args.noted.now c.do_instrs.new.noted c.in_default.ensures.noted q.closes (c.in_default.ensures.ends es s) (c.in_default.ensures.world es s) in
+    let modes = c.do_instrs.new.m.calendar.modes in
+    let here = c.begin.ensures.desk ∙ ap (list_begun t modes c.args.takes.now at) (c.in_default.ensures.desk es s) in
+    let b =
+    has_begun t code c.args.l.now es at c.args.takes.now c.args.path.now.list c.args.desk.now modes ms q.begins c.begin.new.self.list c.begin.ensures.list c.begin.new.self.idle.instrs c.schedule.result.now.instrs c.begin.new.desk c.read_instant.new.desk c.schedule.ensures here
+    (c.in_default-read_instant.ensures.desk es r) c.in_default-read_instant.ensures.stands in
+    began_last t code (instrs_of c.args.l.now.schedules) es c.args.show at _ _ _ _ _ _ _ _ _ _ _ (c.in_default.ensures.text es s) (c.in_default-read_instant.ensures.text es r)
+    (ends_so _ _ _ _ _ _ _ (first_told t (instrs_of c.args.l.now.schedules) es at c.begin.new.self.list c.schedule.result.now.instrs c.begin.new.desk c.read_instant.new.desk b c.args.show c.node.result _ _ _ _ _ c.node.ensures c.in_default-tell_records.ensures.text))
 
 pub returns-clause-counts : goal.returns-clause-counts
 returns-clause-counts g c = λ es q.
-    let s = switches_start c.args.t.now c.args.code.now es c.args.at c.args.m.now c.args.world.now q.closes.now q.closes.writes in
-    let r = closes_noted c.args.t.now c.args.code.now es c.args.at c.args.m.now c.do_instrs.new.m c.args.world.now c.do_instrs.new.world c.args.noted.now c.do_instrs.new.noted c.in_default.ensures.noted q.closes (c.in_default.ensures.ends es s) (c.in_default.ensures.world es s) in
     let t = c.args.t.now in
-    let ss = instrs_of c.args.schedules.now in
-    let h = q.begins in
-    let ms = modes_are t c.args.code.now es c.args.at c.do_instrs.new.m.calendar c.parts-parts.ensures.ranges (c.in_default.ensures.ends es s).2 in
-    let starts = begun_is t c.args.code.now ss es c.args.at c.args.takes.now c.do_instrs.new.m.calendar.modes c.begin_round-begun.new.desk ms h c.begin_round-begun.ensures.round in
-    let told = told_is t c.args.code.now ss es c.args.at c.args.takes.now c.begin_round-begun.new.desk c.read_instant.new.desk h starts (c.in_default-read_instant.ensures.desk es r) in
-    let same = sym (schedule_is t c.args.schedules.now es c.args.at c.begin_round-begun.result.selection c.do_instrs.new.m.calendar.modes c.index-schedules-begun.result ms c.begin_round-begun.ensures.selection c.begin_round-begun.ensures.known c.requires.schedules c.index-schedules-begun.is) in
-    first_counted t ss es c.index-schedules-begun.result.instrs c.args.at c.read_instant.new.desk c.read_instant.new.tally c.tell_records.new.tally same told c.in_default-tell_records.ensures.counts
-    ∙ ap (λ n. with_records (first_records t ss es c.args.at) n)
-    ((c.in_default-read_instant.ensures.counts es r) ∙ ap (with_instrs (length (phase_path t c.args.code.now es c.args.at 3))) (c.in_default.ensures.counts es s))
+    let code = c.args.code.now in
+    let at = c.args.at in
+    let s = switches_start t code es at c.args.m.now c.args.world.now q.closes.now q.closes.writes in
+    let ms = modes_are t code es at c.do_instrs.new.m.calendar c.parts-parts.ensures.ranges (c.in_default.ensures.ends es s).2 in
+    let r = closes_noted t code es at c.args.m.now c.do_instrs.new.m c.args.world.now c.do_instrs.new.world c.args.noted.now c.do_instrs.new.noted c.in_default.ensures.noted q.closes (c.in_default.ensures.ends es s) (c.in_default.ensures.world es s) in
+    let modes = c.do_instrs.new.m.calendar.modes in
+    let here = c.begin.ensures.desk ∙ ap (list_begun t modes c.args.takes.now at) (c.in_default.ensures.desk es s) in
+    let b =
+    has_begun t code c.args.l.now es at c.args.takes.now c.args.path.now.list c.args.desk.now modes ms q.begins c.begin.new.self.list c.begin.ensures.list c.begin.new.self.idle.instrs c.schedule.result.now.instrs c.begin.new.desk c.read_instant.new.desk c.schedule.ensures here
+    (c.in_default-read_instant.ensures.desk es r) c.in_default-read_instant.ensures.stands in
+    first_counted t (instrs_of c.args.l.now.schedules) es at c.begin.new.self.list c.schedule.result.now.instrs c.begin.new.desk c.read_instant.new.desk b c.read_instant.new.tally c.tell_records.new.tally c.in_default-tell_records.ensures.counts
+    ∙ ap (λ n. with_records (first_records t (instrs_of c.args.l.now.schedules) es at) n)
+    ((c.in_default-read_instant.ensures.counts es r) ∙ ap (with_instrs (length (phase_path t code es at 3))) (c.in_default.ensures.counts es s))
 
 pub returns-clause-world : goal.returns-clause-world
 returns-clause-world g c = λ es q.
-    let s = switches_start c.args.t.now c.args.code.now es c.args.at c.args.m.now c.args.world.now q.closes.now q.closes.writes in
-    let r = closes_noted c.args.t.now c.args.code.now es c.args.at c.args.m.now c.do_instrs.new.m c.args.world.now c.do_instrs.new.world c.args.noted.now c.do_instrs.new.noted c.in_default.ensures.noted q.closes (c.in_default.ensures.ends es s) (c.in_default.ensures.world es s) in
     let t = c.args.t.now in
-    let ss = instrs_of c.args.schedules.now in
-    let h = q.begins in
-    let ms = modes_are t c.args.code.now es c.args.at c.do_instrs.new.m.calendar c.parts-parts.ensures.ranges (c.in_default.ensures.ends es s).2 in
-    let starts = begun_is t c.args.code.now ss es c.args.at c.args.takes.now c.do_instrs.new.m.calendar.modes c.begin_round-begun.new.desk ms h c.begin_round-begun.ensures.round in
-    let told = told_is t c.args.code.now ss es c.args.at c.args.takes.now c.begin_round-begun.new.desk c.read_instant.new.desk h starts (c.in_default-read_instant.ensures.desk es r) in
-    let same = sym (schedule_is t c.args.schedules.now es c.args.at c.begin_round-begun.result.selection c.do_instrs.new.m.calendar.modes c.index-schedules-begun.result ms c.begin_round-begun.ensures.selection c.begin_round-begun.ensures.known c.requires.schedules c.index-schedules-begun.is) in
-    (first_done t (plan_of t ss es c.args.at) c.index-schedules-begun.result.instrs c.args.at c.read_instant.new.desk c.tell_records.new.desk c.read_instant.new.world c.tell_records.new.world same told c.in_default-tell_records.ensures.records).1
-    ∙ (c.in_default-read_instant.ensures.world es r) ∙ ap (replay t c.args.code.now (phase_path t c.args.code.now es c.args.at 3)) (c.in_default.ensures.world es s)
+    let code = c.args.code.now in
+    let at = c.args.at in
+    let s = switches_start t code es at c.args.m.now c.args.world.now q.closes.now q.closes.writes in
+    let ms = modes_are t code es at c.do_instrs.new.m.calendar c.parts-parts.ensures.ranges (c.in_default.ensures.ends es s).2 in
+    let r = closes_noted t code es at c.args.m.now c.do_instrs.new.m c.args.world.now c.do_instrs.new.world c.args.noted.now c.do_instrs.new.noted c.in_default.ensures.noted q.closes (c.in_default.ensures.ends es s) (c.in_default.ensures.world es s) in
+    let modes = c.do_instrs.new.m.calendar.modes in
+    let here = c.begin.ensures.desk ∙ ap (list_begun t modes c.args.takes.now at) (c.in_default.ensures.desk es s) in
+    let b =
+    has_begun t code c.args.l.now es at c.args.takes.now c.args.path.now.list c.args.desk.now modes ms q.begins c.begin.new.self.list c.begin.ensures.list c.begin.new.self.idle.instrs c.schedule.result.now.instrs c.begin.new.desk c.read_instant.new.desk c.schedule.ensures here
+    (c.in_default-read_instant.ensures.desk es r) c.in_default-read_instant.ensures.stands in
+    (first_done t (instrs_of c.args.l.now.schedules) es at c.begin.new.self.list c.schedule.result.now.instrs c.begin.new.desk c.read_instant.new.desk b c.tell_records.new.desk c.read_instant.new.world c.tell_records.new.world c.in_default-tell_records.ensures.records).1
+    ∙ (c.in_default-read_instant.ensures.world es r) ∙ ap (replay t code (phase_path t code es at 3)) (c.in_default.ensures.world es s)
 
 pub returns-clause-desk : goal.returns-clause-desk
 returns-clause-desk g c = λ es q.
-    let s = switches_start c.args.t.now c.args.code.now es c.args.at c.args.m.now c.args.world.now q.closes.now q.closes.writes in
-    let r = closes_noted c.args.t.now c.args.code.now es c.args.at c.args.m.now c.do_instrs.new.m c.args.world.now c.do_instrs.new.world c.args.noted.now c.do_instrs.new.noted c.in_default.ensures.noted q.closes (c.in_default.ensures.ends es s) (c.in_default.ensures.world es s) in
     let t = c.args.t.now in
-    let ss = instrs_of c.args.schedules.now in
-    let h = q.begins in
-    let ms = modes_are t c.args.code.now es c.args.at c.do_instrs.new.m.calendar c.parts-parts.ensures.ranges (c.in_default.ensures.ends es s).2 in
-    let starts = begun_is t c.args.code.now ss es c.args.at c.args.takes.now c.do_instrs.new.m.calendar.modes c.begin_round-begun.new.desk ms h c.begin_round-begun.ensures.round in
-    let told = told_is t c.args.code.now ss es c.args.at c.args.takes.now c.begin_round-begun.new.desk c.read_instant.new.desk h starts (c.in_default-read_instant.ensures.desk es r) in
-    let same = sym (schedule_is t c.args.schedules.now es c.args.at c.begin_round-begun.result.selection c.do_instrs.new.m.calendar.modes c.index-schedules-begun.result ms c.begin_round-begun.ensures.selection c.begin_round-begun.ensures.known c.requires.schedules c.index-schedules-begun.is) in
-    (first_done t (plan_of t ss es c.args.at) c.index-schedules-begun.result.instrs c.args.at c.read_instant.new.desk c.tell_records.new.desk c.read_instant.new.world c.tell_records.new.world same told c.in_default-tell_records.ensures.records).0
+    let code = c.args.code.now in
+    let at = c.args.at in
+    let s = switches_start t code es at c.args.m.now c.args.world.now q.closes.now q.closes.writes in
+    let ms = modes_are t code es at c.do_instrs.new.m.calendar c.parts-parts.ensures.ranges (c.in_default.ensures.ends es s).2 in
+    let r = closes_noted t code es at c.args.m.now c.do_instrs.new.m c.args.world.now c.do_instrs.new.world c.args.noted.now c.do_instrs.new.noted c.in_default.ensures.noted q.closes (c.in_default.ensures.ends es s) (c.in_default.ensures.world es s) in
+    let modes = c.do_instrs.new.m.calendar.modes in
+    let here = c.begin.ensures.desk ∙ ap (list_begun t modes c.args.takes.now at) (c.in_default.ensures.desk es s) in
+    let b =
+    has_begun t code c.args.l.now es at c.args.takes.now c.args.path.now.list c.args.desk.now modes ms q.begins c.begin.new.self.list c.begin.ensures.list c.begin.new.self.idle.instrs c.schedule.result.now.instrs c.begin.new.desk c.read_instant.new.desk c.schedule.ensures here
+    (c.in_default-read_instant.ensures.desk es r) c.in_default-read_instant.ensures.stands in
+    (first_done t (instrs_of c.args.l.now.schedules) es at c.begin.new.self.list c.schedule.result.now.instrs c.begin.new.desk c.read_instant.new.desk b c.tell_records.new.desk c.read_instant.new.world c.tell_records.new.world c.in_default-tell_records.ensures.records).0
 
-pub returns-clause-jobs : goal.returns-clause-jobs
-returns-clause-jobs g c = λ es q.
-    let s = switches_start c.args.t.now c.args.code.now es c.args.at c.args.m.now c.args.world.now q.closes.now q.closes.writes in
-    c.begin_round-begun.ensures.jobs ∙ ap (concrete_jobs c.args.t.now) (modes_are c.args.t.now c.args.code.now es c.args.at c.do_instrs.new.m.calendar c.parts-parts.ensures.ranges (c.in_default.ensures.ends es s).2)
-
-pub returns-clause-selection : goal.returns-clause-selection
-returns-clause-selection g c = λ es q.
-    let s = switches_start c.args.t.now c.args.code.now es c.args.at c.args.m.now c.args.world.now q.closes.now q.closes.writes in
-    c.begin_round-begun.ensures.selection ∙ ap (selection_of c.args.t.now) (modes_are c.args.t.now c.args.code.now es c.args.at c.do_instrs.new.m.calendar c.parts-parts.ensures.ranges (c.in_default.ensures.ends es s).2)
+pub returns-clause-list : goal.returns-clause-list
+returns-clause-list g c = λ es q.
+    let t = c.args.t.now in
+    let code = c.args.code.now in
+    let at = c.args.at in
+    let s = switches_start t code es at c.args.m.now c.args.world.now q.closes.now q.closes.writes in
+    let ms = modes_are t code es at c.do_instrs.new.m.calendar c.parts-parts.ensures.ranges (c.in_default.ensures.ends es s).2 in
+    let r = closes_noted t code es at c.args.m.now c.do_instrs.new.m c.args.world.now c.do_instrs.new.world c.args.noted.now c.do_instrs.new.noted c.in_default.ensures.noted q.closes (c.in_default.ensures.ends es s) (c.in_default.ensures.world es s) in
+    let modes = c.do_instrs.new.m.calendar.modes in
+    let here = c.begin.ensures.desk ∙ ap (list_begun t modes c.args.takes.now at) (c.in_default.ensures.desk es s) in
+    let b =
+    has_begun t code c.args.l.now es at c.args.takes.now c.args.path.now.list c.args.desk.now modes ms q.begins c.begin.new.self.list c.begin.ensures.list c.begin.new.self.idle.instrs c.schedule.result.now.instrs c.begin.new.desk c.read_instant.new.desk c.schedule.ensures here
+    (c.in_default-read_instant.ensures.desk es r) c.in_default-read_instant.ensures.stands in
+    b.list_is
 
 pub returns-clause-reads : goal.returns-clause-reads
 returns-clause-reads g c = λ es q.
-    let s = switches_start c.args.t.now c.args.code.now es c.args.at c.args.m.now c.args.world.now q.closes.now q.closes.writes in
-    let r = closes_noted c.args.t.now c.args.code.now es c.args.at c.args.m.now c.do_instrs.new.m c.args.world.now c.do_instrs.new.world c.args.noted.now c.do_instrs.new.noted c.in_default.ensures.noted q.closes (c.in_default.ensures.ends es s) (c.in_default.ensures.world es s) in
+    let t = c.args.t.now in
+    let code = c.args.code.now in
+    let at = c.args.at in
+    let s = switches_start t code es at c.args.m.now c.args.world.now q.closes.now q.closes.writes in
+    let r = closes_noted t code es at c.args.m.now c.do_instrs.new.m c.args.world.now c.do_instrs.new.world c.args.noted.now c.do_instrs.new.noted c.in_default.ensures.noted q.closes (c.in_default.ensures.ends es s) (c.in_default.ensures.world es s) in
     c.in_default-read_instant.ensures.reads es r
-
-pub read_instant-requires-clause-few : goal.read_instant-requires-clause-few
-read_instant-requires-clause-few g c = ap length c.in_default.ensures.noted.values ∙ c.requires.few
-
-pub read_instant-requires-clause-modules : goal.read_instant-requires-clause-modules
-read_instant-requires-clause-modules g c = ap length c.in_default.ensures.noted.modes ∙ c.requires.modules
-
-pub returns-clause-marked : goal.returns-clause-marked
-returns-clause-marked g c =
-    subst (λ (xs : List ℤ). MarksChanges c.read_instant.new.noted xs c.read_instant.new.m.calendar.modes) (sym c.in_default-tell_records.ensures.values) c.in_default-read_instant.ensures.marked
 
 pub returns-clause-sensors : goal.returns-clause-sensors
 returns-clause-sensors g c =

@@ -49,17 +49,17 @@ returns-clause-noted g c =
 
 pub returns-in-Err-clause-text : goal.returns-in-Err-clause-text
 returns-in-Err-clause-text g c = λ es q.
-    opens_failed c.args.t.now c.args.code.now es c.args.show c.args.selection c.args.desk.now c.args.schedule.now.instrs c.args.at _ _ _ _ _ _ c.in-Err.ensures.text
+    opens_failed c.args.t.now c.args.code.now es c.args.show c.args.node c.args.desk.now c.args.schedule.now.instrs c.args.at _ _ _ _ _ _ c.in-Err.ensures.text
 
 pub returns-in-Err-do_instrs-clause-text : goal.returns-in-Err-do_instrs-clause-text
 returns-in-Err-do_instrs-clause-text g c = λ es q.
     let starts = writes_start c.args.t.now c.args.code.now es c.args.at c.args.m.now c.tell_records.new.world q in
-    opens_second c.args.t.now c.args.code.now es c.args.show c.args.selection c.args.desk.now c.args.schedule.now.instrs c.args.at _ _ _ _ _ _ _ _ c.in_default.ensures.text (c.in-Err-do_instrs.ensures.text es starts)
+    opens_second c.args.t.now c.args.code.now es c.args.show c.args.node c.args.desk.now c.args.schedule.now.instrs c.args.at _ _ _ _ _ _ _ _ c.in_default.ensures.text (c.in-Err-do_instrs.ensures.text es starts)
 
 pub returns-clause-text : goal.returns-clause-text
 returns-clause-text g c = λ es q.
     let starts = writes_start c.args.t.now c.args.code.now es c.args.at c.args.m.now c.tell_records.new.world q in
-    opens_second c.args.t.now c.args.code.now es c.args.show c.args.selection c.args.desk.now c.args.schedule.now.instrs c.args.at _ _ _ _ _ _ _ _ c.in_default.ensures.text (c.in_default-do_instrs.ensures.text es starts)
+    opens_second c.args.t.now c.args.code.now es c.args.show c.args.node c.args.desk.now c.args.schedule.now.instrs c.args.at _ _ _ _ _ _ _ _ c.in_default.ensures.text (c.in_default-do_instrs.ensures.text es starts)
 
 pub returns-clause-world : goal.returns-clause-world
 returns-clause-world g c = λ es q.

@@ -24,24 +24,24 @@ loop-left-preserved g c =
           recording_step c.args.t.now c.args.desk.now c.loop-left.desk c.run_to.new.self c.args.world.now c.loop-left.world c.put_out.new.world c.args.jobs.now c.args.code.now.instrs c.args.at c.in-Some.left
           c.loop-left.invariant.recording answer next c.run_to.ensures.stands c.put_out.ensures.shaped c.put_out.ensures.world;
       printing =
-          printing_step c.args.t.now c.args.show c.args.selection c.args.desk.now c.loop-left.desk c.run_to.new.self c.args.world.now c.loop-left.world c.args.jobs.now c.args.code.now.instrs c.args.at c.in-Some.left _ _ _ _ _ _ _ _ _ _
+          printing_step c.args.t.now c.args.show c.args.node c.args.desk.now c.loop-left.desk c.run_to.new.self c.args.world.now c.loop-left.world c.args.jobs.now c.args.code.now.instrs c.args.at c.in-Some.left _ _ _ _ _ _ _ _ _ _
           c.loop-left.invariant.recording c.loop-left.invariant.printing answer next c.record.ensures c.in_default-tell_record.ensures;
       idle = λ over. absurd (never c.args.desk.now c.loop-left.desk (c.loop-left.invariant.idle over).0 over (is_running c.loop-left.desk c.args.code.now.instrs c.args.at c.in-Some.left answer));
     }
 
 pub returns-in-Err-clause-text : goal.returns-in-Err-clause-text
 returns-in-Err-clause-text g c =
-    printing_cut c.args.t.now c.args.show c.args.selection c.args.desk.now c.loop-left.desk c.args.world.now c.loop-left.world c.args.jobs.now c.args.code.now.instrs c.args.at c.in-Some.left _ _ _ _ _ _ _ _ _ _
+    printing_cut c.args.t.now c.args.show c.args.node c.args.desk.now c.loop-left.desk c.args.world.now c.loop-left.world c.args.jobs.now c.args.code.now.instrs c.args.at c.in-Some.left _ _ _ _ _ _ _ _ _ _
     c.loop-left.invariant.recording c.loop-left.invariant.printing (sym c.run_to.ensures.left ∙ c.in-Some.is) c.in-Err.ensures
 
 pub returns-clause-text : goal.returns-clause-text
 returns-clause-text g c =
-    printing_end c.args.t.now c.args.show c.args.selection c.args.desk.now c.loop-left.desk c.args.world.now c.loop-left.world c.args.jobs.now c.args.code.now.instrs c.args.at _ _ _ _ _ _ _
+    printing_end c.args.t.now c.args.show c.args.node c.args.desk.now c.loop-left.desk c.args.world.now c.loop-left.world c.args.jobs.now c.args.code.now.instrs c.args.at _ _ _ _ _ _ _
     c.loop-left.invariant.recording c.loop-left.invariant.printing (sym c.run_to.ensures.left ∙ c.in_default.is)
 
 pub returns-clause-counts : goal.returns-clause-counts
 returns-clause-counts g c =
-    printing_counted c.args.t.now c.args.show c.args.selection c.args.desk.now c.loop-left.desk c.args.world.now c.loop-left.world c.args.jobs.now c.args.code.now.instrs c.args.at _ _ _ _ _ _
+    printing_counted c.args.t.now c.args.show c.args.node c.args.desk.now c.loop-left.desk c.args.world.now c.loop-left.world c.args.jobs.now c.args.code.now.instrs c.args.at _ _ _ _ _ _
     c.loop-left.invariant.recording c.loop-left.invariant.printing (sym c.run_to.ensures.left ∙ c.in_default.is)
 
 pub returns-clause-records : goal.returns-clause-records

@@ -10,7 +10,7 @@ invariant-loop-left g l = record {
   printing : IsPrinting
       l.t
       l.show
-      l.selection
+      l.node
       l.initial.desk
       l.desk
       l.code.instrs

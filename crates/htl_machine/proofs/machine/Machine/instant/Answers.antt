@@ -4,20 +4,20 @@ use Rattle.htl_edge.specs.declared.Failed.{Failed}
 use Rattle.htl_smach.specs.Rounds.{Round}
 use Rattle.htl_emach.specs.Following.{phase_path}
 use Rattle.htl_emach.specs.Shapes.{HasValues}
-use Rattle.htl_refine.specs.Records.{modes_at}
-use Rattle.htl_refine.specs.Roots.{selection_of}
+use Rattle.htl_walk.specs.declared.schedule.Schedule.{Schedule}
 use Rattle.htl_machine.specs.Calls.{Seen, IsUpTo}
 use Rattle.htl_machine.specs.Counts.{with_instrs, with_records}
+use Rattle.htl_machine.specs.Numbering.{IsPath}
 use Rattle.htl_machine.specs.Opening.{first_records}
 use Rattle.htl_machine.specs.Recording.{AreOf}
 use Rattle.htl_machine.specs.Programs.{lines_of, schedules_of}
 use Rattle.htl_machine.specs.declared.tally.Tally.{Tally}
-use Rattle.htl_machine.proofs.After.{passed_of, desk_goes_on, selection_goes_on, over, begins_some, desk_begins_so, selection_begins, records_go_on, records_begin}
-use Rattle.htl_machine.proofs.Asking.{sound_of, noted_of, begun_at, counts_at}
+use Rattle.htl_machine.proofs.After.{passed_of, desk_goes_on, list_goes_on, over, desk_begins_so, list_begins, records_go_on, records_begin}
+use Rattle.htl_machine.proofs.Asking.{sound_of, noted_of, begun_at, stood_at, counts_at}
 use Rattle.htl_machine.proofs.Beginnings.{ends_so, fails_so}
 use Rattle.htl_machine.proofs.Ended.{open_failed, going_closed, begun_closed_at}
 use Rattle.htl_machine.proofs.Readying.{replay_only}
-use Rattle.htl_machine.proofs.Ready.{ready, selection_known}
+use Rattle.htl_machine.proofs.Ready.{ready, list_known}
 use Rattle.htl_machine.proofs.ShownOn.{next_shown_up_to, noted_marks}
 use Rattle.htl_machine.proofs.ToClose.{follows_at, to_close, to_close_and_begin}
 use Rattle.htl_machine.proofs.Viewing.{seen_in}
@@ -49,32 +49,32 @@ open_instant-requires-clause-waiting g c =
     let w = c.requires.before in
     waiting_at c.tables-t.result.now c.self.inside.loaded.now.tables c.self.inside.sensors _ c.tables-t.ensures.value (c.self.invariant.waiting (ap (λ (z : Seen). z.held.spent) c.self.view_is ∙ w.1.kept.fresh))
 
-pub schedule_of-requires : goal.schedule_of-requires
-schedule_of-requires g c =
+pub schedule-requires : goal.schedule-requires
+schedule-requires g c =
     let w = c.requires.before in
     let m = seen_in c.self.inside in
     let ok = c.self.invariant.accepted in
     let u = subst (λ (z : Seen). IsUpTo z w.0 c.args.at) (sym c.self.view_is) w.1 in
-    selection_known m w.0 c.args.at ok u
+    list_known m w.0 c.args.at ok u
 
 pub open_instant-requires-clause-form : goal.open_instant-requires-clause-form
 open_instant-requires-clause-form g c =
-    let s = sound_of (seen_in c.self.inside) c.tables-t.result.now c.ecode-code.result.now c.self.inside.loaded.now.schedules c.tables-t.ensures.value c.ecode-code.ensures refl c.self.invariant.accepted in
+    let s = sound_of (seen_in c.self.inside) c.tables-t.result.now c.ecode-code.result.now c.tables-t.ensures.value c.ecode-code.ensures c.self.invariant.accepted in
     s.form
 
 pub open_instant-requires-clause-spells : goal.open_instant-requires-clause-spells
 open_instant-requires-clause-spells g c =
-    let s = sound_of (seen_in c.self.inside) c.tables-t.result.now c.ecode-code.result.now c.self.inside.loaded.now.schedules c.tables-t.ensures.value c.ecode-code.ensures refl c.self.invariant.accepted in
+    let s = sound_of (seen_in c.self.inside) c.tables-t.result.now c.ecode-code.result.now c.tables-t.ensures.value c.ecode-code.ensures c.self.invariant.accepted in
     s.spells
 
 pub open_instant-requires-clause-instrs : goal.open_instant-requires-clause-instrs
 open_instant-requires-clause-instrs g c =
-    let s = sound_of (seen_in c.self.inside) c.tables-t.result.now c.ecode-code.result.now c.self.inside.loaded.now.schedules c.tables-t.ensures.value c.ecode-code.ensures refl c.self.invariant.accepted in
+    let s = sound_of (seen_in c.self.inside) c.tables-t.result.now c.ecode-code.result.now c.tables-t.ensures.value c.ecode-code.ensures c.self.invariant.accepted in
     s.instrs
 
 pub open_instant-requires-clause-code : goal.open_instant-requires-clause-code
 open_instant-requires-clause-code g c =
-    let s = sound_of (seen_in c.self.inside) c.tables-t.result.now c.ecode-code.result.now c.self.inside.loaded.now.schedules c.tables-t.ensures.value c.ecode-code.ensures refl c.self.invariant.accepted in
+    let s = sound_of (seen_in c.self.inside) c.tables-t.result.now c.ecode-code.result.now c.tables-t.ensures.value c.ecode-code.ensures c.self.invariant.accepted in
     s.places
 
 pub open_instant-requires-clause-shaped : goal.open_instant-requires-clause-shaped
@@ -97,7 +97,7 @@ pub open_instant-requires-clause-jobs : goal.open_instant-requires-clause-jobs
 open_instant-requires-clause-jobs g c =
     let w = c.requires.before in
     let fresh = ap (λ (z : Seen). z.held.spent) c.self.view_is ∙ w.1.kept.fresh in
-    sym (c.self.invariant.are fresh)
+    sym (c.jobs.ensures ∙ (c.self.invariant.stands fresh).are)
 
 pub open_instant-requires-clause-of : goal.open_instant-requires-clause-of
 open_instant-requires-clause-of g c =
@@ -106,9 +106,9 @@ open_instant-requires-clause-of g c =
     let m = seen_in c.self.inside in
     let ok = c.self.invariant.accepted in
     let u = subst (λ (z : Seen). IsUpTo z w.0 c.args.at) (sym c.self.view_is) w.1 in
-    let r = ready m w.0 c.args.at c.self.inside.idle.instrs ok u later c.self.invariant.empty in
+    let r = ready m w.0 c.args.at c.self.inside.path.idle.instrs ok u later c.self.invariant.empty in
     let fresh = ap (λ (z : Seen). z.held.spent) c.self.view_is ∙ w.1.kept.fresh in
-    rw c.tables-t.ensures.value (subst (AreOf m.object.tables) (sym (c.self.invariant.are fresh)) r.of)
+    rw c.tables-t.ensures.value (subst (AreOf m.object.tables) (sym (c.jobs.ensures ∙ (c.self.invariant.stands fresh).are)) r.of)
 
 pub open_instant-requires-clause-round : goal.open_instant-requires-clause-round
 open_instant-requires-clause-round g c =
@@ -117,8 +117,8 @@ open_instant-requires-clause-round g c =
     let m = seen_in c.self.inside in
     let ok = c.self.invariant.accepted in
     let u = subst (λ (z : Seen). IsUpTo z w.0 c.args.at) (sym c.self.view_is) w.1 in
-    let r = ready m w.0 c.args.at c.self.inside.idle.instrs ok u later c.self.invariant.empty in
-    rw c.schedule_of.ensures r.form
+    let r = ready m w.0 c.args.at c.self.inside.path.idle.instrs ok u later c.self.invariant.empty in
+    rw c.schedule.ensures r.form
 
 pub open_instant-requires-clause-slots : goal.open_instant-requires-clause-slots
 open_instant-requires-clause-slots g c =
@@ -127,8 +127,8 @@ open_instant-requires-clause-slots g c =
     let m = seen_in c.self.inside in
     let ok = c.self.invariant.accepted in
     let u = subst (λ (z : Seen). IsUpTo z w.0 c.args.at) (sym c.self.view_is) w.1 in
-    let r = ready m w.0 c.args.at c.self.inside.idle.instrs ok u later c.self.invariant.empty in
-    rw c.schedule_of.ensures r.short
+    let r = ready m w.0 c.args.at c.self.inside.path.idle.instrs ok u later c.self.invariant.empty in
+    rw c.schedule.ensures r.short
 
 pub open_instant-requires-clause-stands : goal.open_instant-requires-clause-stands
 open_instant-requires-clause-stands g c =
@@ -137,8 +137,8 @@ open_instant-requires-clause-stands g c =
     let m = seen_in c.self.inside in
     let ok = c.self.invariant.accepted in
     let u = subst (λ (z : Seen). IsUpTo z w.0 c.args.at) (sym c.self.view_is) w.1 in
-    let r = ready m w.0 c.args.at c.self.inside.idle.instrs ok u later c.self.invariant.empty in
-    rw c.schedule_of.ensures r.stands
+    let r = ready m w.0 c.args.at c.self.inside.path.idle.instrs ok u later c.self.invariant.empty in
+    rw c.schedule.ensures r.stands
 
 pub open_instant-requires-clause-told : goal.open_instant-requires-clause-told
 open_instant-requires-clause-told g c =
@@ -147,7 +147,7 @@ open_instant-requires-clause-told g c =
     let m = seen_in c.self.inside in
     let ok = c.self.invariant.accepted in
     let u = subst (λ (z : Seen). IsUpTo z w.0 c.args.at) (sym c.self.view_is) w.1 in
-    let r = ready m w.0 c.args.at c.self.inside.idle.instrs ok u later c.self.invariant.empty in
+    let r = ready m w.0 c.args.at c.self.inside.path.idle.instrs ok u later c.self.invariant.empty in
     r.told
 
 pub open_instant-requires-clause-shows : goal.open_instant-requires-clause-shows
@@ -180,57 +180,36 @@ returns-in-Err-clause-text g c = λ es before.
     let m = seen_in c.self.inside in
     let ok = c.self.invariant.accepted in
     let u = subst (λ (z : Seen). IsUpTo z es c.args.at) (sym c.self.view_is) before in
-    let r = ready m es c.args.at c.self.inside.idle.instrs ok u later c.self.invariant.empty in
+    let r = ready m es c.args.at c.self.inside.path.idle.instrs ok u later c.self.invariant.empty in
     let f = follows_at m.object es c.args.at c.tables-t.result.now c.ecode-code.result.now m.standing c.tables-t.ensures.value c.ecode-code.ensures u.before.values.triggers in
-    let text = rw (c.tables-t.ensures.value, c.ecode-code.ensures, c.schedule_of.ensures, c.number_of.ensures) at (c.in-Err.ensures.text es f) in
+    let text = rw (c.tables-t.ensures.value, c.ecode-code.ensures, c.schedule.ensures, c.node.ensures) at (c.in-Err.ensures.text es f) in
     subst (λ (z : Seen). Puts {T = Unit {0}} {E = Failed} (g.W.Sink.written c.args.sink.now) (g.W.Sink.written c.open_instant.new.sink) (g.W.Sink.faults c.args.sink.now) (g.W.Sink.faults c.open_instant.new.sink) (lines_of z.object es z.show c.args.at) (Err c.in-Err.failed))
     c.self.view_is (open_failed m es c.args.at ok later u _ r _ _ _ _ _ _ text)
 
 pub close_and_begin-requires-clause-form : goal.close_and_begin-requires-clause-form
 close_and_begin-requires-clause-form g c =
-    let s = sound_of (seen_in c.self.inside) c.tables-t.result.now c.ecode-code.result.now c.schedules.result.now c.tables-t.ensures.value c.ecode-code.ensures c.schedules.ensures c.self.invariant.accepted in
+    let s = sound_of (seen_in c.self.inside) c.tables-t.result.now c.ecode-code.result.now c.tables-t.ensures.value c.ecode-code.ensures c.self.invariant.accepted in
     s.kept
 
-pub close_and_begin-requires-clause-limits : goal.close_and_begin-requires-clause-limits
-close_and_begin-requires-clause-limits g c =
-    let s = sound_of (seen_in c.self.inside) c.tables-t.result.now c.ecode-code.result.now c.schedules.result.now c.tables-t.ensures.value c.ecode-code.ensures c.schedules.ensures c.self.invariant.accepted in
-    s.limits
+pub close_and_begin-requires-clause-limit : goal.close_and_begin-requires-clause-limit
+close_and_begin-requires-clause-limit g c =
+    let s = sound_of (seen_in c.self.inside) c.tables-t.result.now c.ecode-code.result.now c.tables-t.ensures.value c.ecode-code.ensures c.self.invariant.accepted in
+    s.limit
 
 pub close_and_begin-requires-clause-spells : goal.close_and_begin-requires-clause-spells
 close_and_begin-requires-clause-spells g c =
-    let s = sound_of (seen_in c.self.inside) c.tables-t.result.now c.ecode-code.result.now c.schedules.result.now c.tables-t.ensures.value c.ecode-code.ensures c.schedules.ensures c.self.invariant.accepted in
+    let s = sound_of (seen_in c.self.inside) c.tables-t.result.now c.ecode-code.result.now c.tables-t.ensures.value c.ecode-code.ensures c.self.invariant.accepted in
     s.spells
 
 pub close_and_begin-requires-clause-instrs : goal.close_and_begin-requires-clause-instrs
 close_and_begin-requires-clause-instrs g c =
-    let s = sound_of (seen_in c.self.inside) c.tables-t.result.now c.ecode-code.result.now c.schedules.result.now c.tables-t.ensures.value c.ecode-code.ensures c.schedules.ensures c.self.invariant.accepted in
+    let s = sound_of (seen_in c.self.inside) c.tables-t.result.now c.ecode-code.result.now c.tables-t.ensures.value c.ecode-code.ensures c.self.invariant.accepted in
     s.instrs
 
 pub close_and_begin-requires-clause-code : goal.close_and_begin-requires-clause-code
 close_and_begin-requires-clause-code g c =
-    let s = sound_of (seen_in c.self.inside) c.tables-t.result.now c.ecode-code.result.now c.schedules.result.now c.tables-t.ensures.value c.ecode-code.ensures c.schedules.ensures c.self.invariant.accepted in
+    let s = sound_of (seen_in c.self.inside) c.tables-t.result.now c.ecode-code.result.now c.tables-t.ensures.value c.ecode-code.ensures c.self.invariant.accepted in
     s.places
-
-pub close_and_begin-requires-clause-schedules : goal.close_and_begin-requires-clause-schedules
-close_and_begin-requires-clause-schedules g c =
-    let s = sound_of (seen_in c.self.inside) c.tables-t.result.now c.ecode-code.result.now c.schedules.result.now c.tables-t.ensures.value c.ecode-code.ensures c.schedules.ensures c.self.invariant.accepted in
-    s.all
-
-pub close_and_begin-requires-clause-some : goal.close_and_begin-requires-clause-some
-close_and_begin-requires-clause-some g c =
-    let w = c.requires.before in
-    let later = subst (λ (z : Seen). z.held.reading ≤ c.args.at) (sym c.self.view_is) c.requires.read in
-    let m = seen_in c.self.inside in
-    let ok = c.self.invariant.accepted in
-    let u = subst (λ (z : Seen). IsUpTo z w.0 c.args.at) (sym c.self.view_is) w.1 in
-    let b = sym (rw c.tables-t.ensures.value at c.round_begins.ensures) ∙ c.if-round_begins.true in
-    subst (λ z. 0 < length z.modules) (sym c.tables-t.ensures.value) (begins_some m w.0 c.args.at ok later u b)
-
-pub close_and_begin-requires-clause-jobs : goal.close_and_begin-requires-clause-jobs
-close_and_begin-requires-clause-jobs g c =
-    let w = c.requires.before in
-    let fresh = ap (λ (z : Seen). z.held.spent) c.self.view_is ∙ w.1.kept.fresh in
-    c.in_default.ensures.jobs ∙ sym (c.self.invariant.are fresh)
 
 pub close_and_begin-requires-clause-over : goal.close_and_begin-requires-clause-over
 close_and_begin-requires-clause-over g c =
@@ -239,17 +218,17 @@ close_and_begin-requires-clause-over g c =
     let m = seen_in c.self.inside in
     let ok = c.self.invariant.accepted in
     let u = subst (λ (z : Seen). IsUpTo z w.0 c.args.at) (sym c.self.view_is) w.1 in
-    let r = ready m w.0 c.args.at c.self.inside.idle.instrs ok u later c.self.invariant.empty in
+    let r = ready m w.0 c.args.at c.self.inside.path.idle.instrs ok u later c.self.invariant.empty in
     let f = follows_at m.object w.0 c.args.at c.tables-t.result.now c.ecode-code.result.now m.standing c.tables-t.ensures.value c.ecode-code.ensures u.before.values.triggers in
-    let opened = rw (c.tables-t.ensures.value, c.ecode-code.ensures, c.schedule_of.ensures) at (c.in_default.ensures.world w.0 f) in
+    let opened = rw (c.tables-t.ensures.value, c.ecode-code.ensures, c.schedule.ensures) at (c.in_default.ensures.world w.0 f) in
     let b = sym (rw c.tables-t.ensures.value at c.round_begins.ensures) ∙ c.if-round_begins.true in
-    over m w.0 c.args.at ok later u _ c.self.inside.idle.instrs refl c.self.invariant.empty r _ _ b opened.records
+    (over m w.0 c.args.at ok later u _ c.self.inside.path.idle.instrs refl c.self.invariant.empty r _ _ b opened.records).0
 
-pub close_and_begin-requires-clause-room : goal.close_and_begin-requires-clause-room
-close_and_begin-requires-clause-room g c =
+pub close_and_begin-requires-clause-path : goal.close_and_begin-requires-clause-path
+close_and_begin-requires-clause-path g c =
     let w = c.requires.before in
     let fresh = ap (λ (z : Seen). z.held.spent) c.self.view_is ∙ w.1.kept.fresh in
-    c.self.invariant.all_selected fresh ∙ ap (λ z. length z.modules) (sym c.tables-t.ensures.value)
+    subst (λ t. IsPath t c.self.inside.path c.open_instant.new.desk.jobs) (sym c.tables-t.ensures.value) (subst (IsPath c.self.inside.loaded.now.tables c.self.inside.path) (sym c.in_default.ensures.jobs) (c.self.invariant.stands fresh))
 
 pub close_and_begin-requires-clause-few : goal.close_and_begin-requires-clause-few
 close_and_begin-requires-clause-few g c =
@@ -274,39 +253,39 @@ close_and_begin-requires-clause-begins g c =
     let m = seen_in c.self.inside in
     let ok = c.self.invariant.accepted in
     let u = subst (λ (z : Seen). IsUpTo z w.0 c.args.at) (sym c.self.view_is) w.1 in
-    let r = ready m w.0 c.args.at c.self.inside.idle.instrs ok u later c.self.invariant.empty in
+    let r = ready m w.0 c.args.at c.self.inside.path.idle.instrs ok u later c.self.invariant.empty in
     let f = follows_at m.object w.0 c.args.at c.tables-t.result.now c.ecode-code.result.now m.standing c.tables-t.ensures.value c.ecode-code.ensures u.before.values.triggers in
-    let opened = rw (c.tables-t.ensures.value, c.ecode-code.ensures, c.schedule_of.ensures) at (c.in_default.ensures.world w.0 f) in
+    let opened = rw (c.tables-t.ensures.value, c.ecode-code.ensures, c.schedule.ensures) at (c.in_default.ensures.world w.0 f) in
     let b = sym (rw c.tables-t.ensures.value at c.round_begins.ensures) ∙ c.if-round_begins.true in
     let z = to_close m w.0 c.args.at c.tables-t.result.now c.ecode-code.result.now c.tables-t.ensures.value c.ecode-code.ensures ok later u _ r c.settle.new.self.values c.settle.ensures.values _ _ opened _ (c.in_default.ensures.noted.values ∙ c.settle.ensures.values) _ (c.in_default.ensures.noted.modes ∙ c.settle.ensures.modes) _ (c.in_default.ensures.writes w.0 f) in
-    let q = to_close_and_begin m w.0 c.args.at c.tables-t.result.now c.ecode-code.result.now c.schedules.result.now _ c.tables-t.ensures.value c.ecode-code.ensures c.schedules.ensures c.as_slice.ensures ok later u b _ _ _ _ z in
+    let q = to_close_and_begin m w.0 c.args.at c.tables-t.result.now c.ecode-code.result.now _ c.tables-t.ensures.value c.ecode-code.ensures c.as_slice.ensures ok later u b c.open_instant.new.desk (over m w.0 c.args.at ok later u _ c.self.inside.path.idle.instrs refl c.self.invariant.empty r _ _ b opened.records).1 _ _ _ _ z in
     (w.0, q)
 
 pub close_instant-requires-clause-form : goal.close_instant-requires-clause-form
 close_instant-requires-clause-form g c =
-    let s = sound_of (seen_in c.self.inside) c.tables-t.result.now c.ecode-code.result.now c.self.inside.loaded.now.schedules c.tables-t.ensures.value c.ecode-code.ensures refl c.self.invariant.accepted in
+    let s = sound_of (seen_in c.self.inside) c.tables-t.result.now c.ecode-code.result.now c.tables-t.ensures.value c.ecode-code.ensures c.self.invariant.accepted in
     s.form
 
 pub close_instant-requires-clause-spells : goal.close_instant-requires-clause-spells
 close_instant-requires-clause-spells g c =
-    let s = sound_of (seen_in c.self.inside) c.tables-t.result.now c.ecode-code.result.now c.self.inside.loaded.now.schedules c.tables-t.ensures.value c.ecode-code.ensures refl c.self.invariant.accepted in
+    let s = sound_of (seen_in c.self.inside) c.tables-t.result.now c.ecode-code.result.now c.tables-t.ensures.value c.ecode-code.ensures c.self.invariant.accepted in
     s.spells
 
 pub close_instant-requires-clause-instrs : goal.close_instant-requires-clause-instrs
 close_instant-requires-clause-instrs g c =
-    let s = sound_of (seen_in c.self.inside) c.tables-t.result.now c.ecode-code.result.now c.self.inside.loaded.now.schedules c.tables-t.ensures.value c.ecode-code.ensures refl c.self.invariant.accepted in
+    let s = sound_of (seen_in c.self.inside) c.tables-t.result.now c.ecode-code.result.now c.tables-t.ensures.value c.ecode-code.ensures c.self.invariant.accepted in
     s.instrs
 
 pub close_instant-requires-clause-code : goal.close_instant-requires-clause-code
 close_instant-requires-clause-code g c =
-    let s = sound_of (seen_in c.self.inside) c.tables-t.result.now c.ecode-code.result.now c.self.inside.loaded.now.schedules c.tables-t.ensures.value c.ecode-code.ensures refl c.self.invariant.accepted in
+    let s = sound_of (seen_in c.self.inside) c.tables-t.result.now c.ecode-code.result.now c.tables-t.ensures.value c.ecode-code.ensures c.self.invariant.accepted in
     s.places
 
 pub close_instant-requires-clause-jobs : goal.close_instant-requires-clause-jobs
 close_instant-requires-clause-jobs g c =
     let w = c.requires.before in
     let fresh = ap (λ (z : Seen). z.held.spent) c.self.view_is ∙ w.1.kept.fresh in
-    c.in_default.ensures.jobs ∙ sym (c.self.invariant.are fresh)
+    c.in_default.ensures.jobs ∙ sym (c.jobs-else-round_begins.ensures ∙ (c.self.invariant.stands fresh).are)
 
 pub close_instant-requires-clause-few : goal.close_instant-requires-clause-few
 close_instant-requires-clause-few g c =
@@ -331,9 +310,9 @@ close_instant-requires-clause-closes g c =
     let m = seen_in c.self.inside in
     let ok = c.self.invariant.accepted in
     let u = subst (λ (z : Seen). IsUpTo z w.0 c.args.at) (sym c.self.view_is) w.1 in
-    let r = ready m w.0 c.args.at c.self.inside.idle.instrs ok u later c.self.invariant.empty in
+    let r = ready m w.0 c.args.at c.self.inside.path.idle.instrs ok u later c.self.invariant.empty in
     let f = follows_at m.object w.0 c.args.at c.tables-t.result.now c.ecode-code.result.now m.standing c.tables-t.ensures.value c.ecode-code.ensures u.before.values.triggers in
-    let opened = rw (c.tables-t.ensures.value, c.ecode-code.ensures, c.schedule_of.ensures) at (c.in_default.ensures.world w.0 f) in
+    let opened = rw (c.tables-t.ensures.value, c.ecode-code.ensures, c.schedule.ensures) at (c.in_default.ensures.world w.0 f) in
     let q = to_close m w.0 c.args.at c.tables-t.result.now c.ecode-code.result.now c.tables-t.ensures.value c.ecode-code.ensures ok later u _ r c.settle.new.self.values c.settle.ensures.values _ _ opened _ (c.in_default.ensures.noted.values ∙ c.settle.ensures.values) _ (c.in_default.ensures.noted.modes ∙ c.settle.ensures.modes) _ (c.in_default.ensures.writes w.0 f) in
     (w.0, q)
 
@@ -343,12 +322,12 @@ returns-in-Err-close_instant-clause-text g c = λ es before.
     let m = seen_in c.self.inside in
     let ok = c.self.invariant.accepted in
     let u = subst (λ (z : Seen). IsUpTo z es c.args.at) (sym c.self.view_is) before in
-    let r = ready m es c.args.at c.self.inside.idle.instrs ok u later c.self.invariant.empty in
+    let r = ready m es c.args.at c.self.inside.path.idle.instrs ok u later c.self.invariant.empty in
     let f = follows_at m.object es c.args.at c.tables-t.result.now c.ecode-code.result.now m.standing c.tables-t.ensures.value c.ecode-code.ensures u.before.values.triggers in
-    let opened = rw (c.tables-t.ensures.value, c.ecode-code.ensures, c.schedule_of.ensures) at (c.in_default.ensures.world es f) in
+    let opened = rw (c.tables-t.ensures.value, c.ecode-code.ensures, c.schedule.ensures) at (c.in_default.ensures.world es f) in
     let b = sym (rw c.tables-t.ensures.value at c.round_begins.ensures) ∙ c.if-round_begins.false in
     let q = to_close m es c.args.at c.tables-t.result.now c.ecode-code.result.now c.tables-t.ensures.value c.ecode-code.ensures ok later u _ r c.settle.new.self.values c.settle.ensures.values _ _ opened _ (c.in_default.ensures.noted.values ∙ c.settle.ensures.values) _ (c.in_default.ensures.noted.modes ∙ c.settle.ensures.modes) _ (c.in_default.ensures.writes es f) in
-    let text = rw (c.tables-t.ensures.value, c.ecode-code.ensures, c.schedule_of.ensures, c.number_of.ensures) at (c.in_default.ensures.text es f) in
+    let text = rw (c.tables-t.ensures.value, c.ecode-code.ensures, c.schedule.ensures, c.node.ensures) at (c.in_default.ensures.text es f) in
     let rest = rw (c.tables-t.ensures.value, c.ecode-code.ensures) at (c.in-Err-close_instant.ensures.text es q) in
     subst (λ (z : Seen). Puts {T = Unit {0}} {E = Failed} (g.W.Sink.written c.args.sink.now) (g.W.Sink.written c.close_instant.new.sink) (g.W.Sink.faults c.args.sink.now) (g.W.Sink.faults c.close_instant.new.sink) (lines_of z.object es z.show c.args.at) (Err c.in-Err-close_instant.failed))
     c.self.view_is (going_closed m es c.args.at ok later u _ r _ _ _ _ _ _ _ _ b text (fails_so _ _ _ _ _ _ c.in-Err-close_instant.failed rest))
@@ -360,9 +339,9 @@ invariant_of-self-in_default-close_instant g c =
     let m = seen_in c.self.inside in
     let ok = c.self.invariant.accepted in
     let u = subst (λ (z : Seen). IsUpTo z w.0 c.args.at) (sym c.self.view_is) w.1 in
-    let r = ready m w.0 c.args.at c.self.inside.idle.instrs ok u later c.self.invariant.empty in
+    let r = ready m w.0 c.args.at c.self.inside.path.idle.instrs ok u later c.self.invariant.empty in
     let f = follows_at m.object w.0 c.args.at c.tables-t.result.now c.ecode-code.result.now m.standing c.tables-t.ensures.value c.ecode-code.ensures u.before.values.triggers in
-    let opened = rw (c.tables-t.ensures.value, c.ecode-code.ensures, c.schedule_of.ensures) at (c.in_default.ensures.world w.0 f) in
+    let opened = rw (c.tables-t.ensures.value, c.ecode-code.ensures, c.schedule.ensures) at (c.in_default.ensures.world w.0 f) in
     let q = to_close m w.0 c.args.at c.tables-t.result.now c.ecode-code.result.now c.tables-t.ensures.value c.ecode-code.ensures ok later u _ r c.settle.new.self.values c.settle.ensures.values _ _ opened _ (c.in_default.ensures.noted.values ∙ c.settle.ensures.values) _ (c.in_default.ensures.noted.modes ∙ c.settle.ensures.modes) _ (c.in_default.ensures.writes w.0 f) in
     let kept = c.self.invariant in
     let desk = c.in_default-close_instant.ensures.desk w.0 q in
@@ -371,8 +350,9 @@ invariant_of-self-in_default-close_instant g c =
       all_shows = ap length c.in_default.ensures.shows ∙ kept.all_shows;
       all_takes = kept.all_takes;
       few = kept.few;
-      all_selected = kept.all_selected;
-      are = λ free. kept.are free ∙ sym (ap (λ (z : Round). z.jobs) desk ∙ (replay_only c.ecode-code.result.now (phase_path c.tables-t.result.now c.ecode-code.result.now w.0 c.args.at 3) c.open_instant.new.desk).0 ∙ c.in_default.ensures.jobs);
+      stands = λ free.
+          subst (IsPath m.object.tables c.self.inside.path)
+          (sym (ap (λ (z : Round). z.jobs) desk ∙ (replay_only c.ecode-code.result.now (phase_path c.tables-t.result.now c.ecode-code.result.now w.0 c.args.at 3) c.open_instant.new.desk).0 ∙ c.in_default.ensures.jobs)) (kept.stands free);
       marked = λ free. c.in_default-close_instant.ensures.marked;
       waiting = λ free.
           waiting_at m.object.tables c.tables-t.result.now c.open_instant.new.sensors c.close_instant.new.world.values (sym c.tables-t.ensures.value)
@@ -380,80 +360,79 @@ invariant_of-self-in_default-close_instant g c =
       empty = kept.empty;
     }
 
-pub invariant_of-self-in-Ok : goal.invariant_of-self-in-Ok
-invariant_of-self-in-Ok g c =
+pub invariant_of-self-in_default-close_and_begin : goal.invariant_of-self-in_default-close_and_begin
+invariant_of-self-in_default-close_and_begin g c =
     let w = c.requires.before in
     let later = subst (λ (z : Seen). z.held.reading ≤ c.args.at) (sym c.self.view_is) c.requires.read in
     let m = seen_in c.self.inside in
     let ok = c.self.invariant.accepted in
     let u = subst (λ (z : Seen). IsUpTo z w.0 c.args.at) (sym c.self.view_is) w.1 in
-    let r = ready m w.0 c.args.at c.self.inside.idle.instrs ok u later c.self.invariant.empty in
+    let r = ready m w.0 c.args.at c.self.inside.path.idle.instrs ok u later c.self.invariant.empty in
     let f = follows_at m.object w.0 c.args.at c.tables-t.result.now c.ecode-code.result.now m.standing c.tables-t.ensures.value c.ecode-code.ensures u.before.values.triggers in
-    let opened = rw (c.tables-t.ensures.value, c.ecode-code.ensures, c.schedule_of.ensures) at (c.in_default.ensures.world w.0 f) in
+    let opened = rw (c.tables-t.ensures.value, c.ecode-code.ensures, c.schedule.ensures) at (c.in_default.ensures.world w.0 f) in
     let b = sym (rw c.tables-t.ensures.value at c.round_begins.ensures) ∙ c.if-round_begins.true in
     let z = to_close m w.0 c.args.at c.tables-t.result.now c.ecode-code.result.now c.tables-t.ensures.value c.ecode-code.ensures ok later u _ r c.settle.new.self.values c.settle.ensures.values _ _ opened _ (c.in_default.ensures.noted.values ∙ c.settle.ensures.values) _ (c.in_default.ensures.noted.modes ∙ c.settle.ensures.modes) _ (c.in_default.ensures.writes w.0 f) in
-    let q = to_close_and_begin m w.0 c.args.at c.tables-t.result.now c.ecode-code.result.now c.schedules.result.now _ c.tables-t.ensures.value c.ecode-code.ensures c.schedules.ensures c.as_slice.ensures ok later u b _ _ _ _ z in
+    let q = to_close_and_begin m w.0 c.args.at c.tables-t.result.now c.ecode-code.result.now _ c.tables-t.ensures.value c.ecode-code.ensures c.as_slice.ensures ok later u b c.open_instant.new.desk (over m w.0 c.args.at ok later u _ c.self.inside.path.idle.instrs refl c.self.invariant.empty r _ _ b opened.records).1 _ _ _ _ z in
     let kept = c.self.invariant in
-    let desk = c.in-Ok.ensures.desk w.0 q in
+    let desk = c.in_default-close_and_begin.ensures.desk w.0 q in
     record {
       accepted = kept.accepted;
       all_shows = ap length c.in_default.ensures.shows ∙ kept.all_shows;
       all_takes = kept.all_takes;
-      few = c.in-Ok.ensures.few;
-      all_selected = λ free. c.in-Ok.ensures.room ∙ ap (λ z. length z.modules) c.tables-t.ensures.value;
-      are = λ free. c.in-Ok.ensures.jobs w.0 q ∙ sym desk.jobs;
-      marked = λ free. c.in-Ok.ensures.marked;
+      few = c.in_default-close_and_begin.ensures.few;
+      stands = λ free. subst (λ t. IsPath t c.close_and_begin.new.path c.close_and_begin.new.desk.jobs) c.tables-t.ensures.value c.in_default-close_and_begin.ensures.path;
+      marked = λ free. c.in_default-close_and_begin.ensures.marked;
       waiting = λ free.
           waiting_at m.object.tables c.tables-t.result.now c.open_instant.new.sensors c.close_and_begin.new.world.values (sym c.tables-t.ensures.value)
-          (waiting_stays c.tables-t.result.now c.open_instant.new.sensors c.open_instant.new.world.values c.close_and_begin.new.world.values c.in_default.ensures.waiting c.in-Ok.ensures.sensors);
-      empty = kept.empty;
+          (waiting_stays c.tables-t.result.now c.open_instant.new.sensors c.open_instant.new.world.values c.close_and_begin.new.world.values c.in_default.ensures.waiting c.in_default-close_and_begin.ensures.sensors);
+      empty = ap (λ (x : Schedule). x.instrs) c.in_default-close_and_begin.ensures.idle ∙ kept.empty;
     }
 
-pub returns-in-Ok-clause-text : goal.returns-in-Ok-clause-text
-returns-in-Ok-clause-text g c = λ es before.
+pub returns-in_default-close_and_begin-clause-text : goal.returns-in_default-close_and_begin-clause-text
+returns-in_default-close_and_begin-clause-text g c = λ es before.
     let later = subst (λ (z : Seen). z.held.reading ≤ c.args.at) (sym c.self.view_is) c.requires.read in
     let m = seen_in c.self.inside in
     let ok = c.self.invariant.accepted in
     let u = subst (λ (z : Seen). IsUpTo z es c.args.at) (sym c.self.view_is) before in
-    let r = ready m es c.args.at c.self.inside.idle.instrs ok u later c.self.invariant.empty in
+    let r = ready m es c.args.at c.self.inside.path.idle.instrs ok u later c.self.invariant.empty in
     let f = follows_at m.object es c.args.at c.tables-t.result.now c.ecode-code.result.now m.standing c.tables-t.ensures.value c.ecode-code.ensures u.before.values.triggers in
-    let opened = rw (c.tables-t.ensures.value, c.ecode-code.ensures, c.schedule_of.ensures) at (c.in_default.ensures.world es f) in
+    let opened = rw (c.tables-t.ensures.value, c.ecode-code.ensures, c.schedule.ensures) at (c.in_default.ensures.world es f) in
     let b = sym (rw c.tables-t.ensures.value at c.round_begins.ensures) ∙ c.if-round_begins.true in
     let z = to_close m es c.args.at c.tables-t.result.now c.ecode-code.result.now c.tables-t.ensures.value c.ecode-code.ensures ok later u _ r c.settle.new.self.values c.settle.ensures.values _ _ opened _ (c.in_default.ensures.noted.values ∙ c.settle.ensures.values) _ (c.in_default.ensures.noted.modes ∙ c.settle.ensures.modes) _ (c.in_default.ensures.writes es f) in
-    let q = to_close_and_begin m es c.args.at c.tables-t.result.now c.ecode-code.result.now c.schedules.result.now _ c.tables-t.ensures.value c.ecode-code.ensures c.schedules.ensures c.as_slice.ensures ok later u b _ _ _ _ z in
-    let text = rw (c.tables-t.ensures.value, c.ecode-code.ensures, c.schedule_of.ensures, c.number_of.ensures) at (c.in_default.ensures.text es f) in
+    let q = to_close_and_begin m es c.args.at c.tables-t.result.now c.ecode-code.result.now _ c.tables-t.ensures.value c.ecode-code.ensures c.as_slice.ensures ok later u b c.open_instant.new.desk (over m es c.args.at ok later u _ c.self.inside.path.idle.instrs refl c.self.invariant.empty r _ _ b opened.records).1 _ _ _ _ z in
+    let text = rw (c.tables-t.ensures.value, c.ecode-code.ensures, c.schedule.ensures, c.node.ensures) at (c.in_default.ensures.text es f) in
     subst (λ (z : Seen). Puts {T = Unit {0}} {E = Failed} (g.W.Sink.written c.args.sink.now) (g.W.Sink.written c.close_and_begin.new.sink) (g.W.Sink.faults c.args.sink.now) (g.W.Sink.faults c.close_and_begin.new.sink) (lines_of z.object es z.show c.args.at) (Ok _))
-    c.self.view_is (begun_closed_at m es c.args.at ok later u _ r c.tables-t.result.now c.ecode-code.result.now c.schedules.result.now _ _ _ _ _ _ _ _ c.tables-t.ensures.value c.ecode-code.ensures c.schedules.ensures b text (ends_so _ _ _ _ _ _ _ (c.in-Ok.ensures.text es q)))
+    c.self.view_is (begun_closed_at m es c.args.at ok later u _ r c.tables-t.result.now c.ecode-code.result.now _ _ _ _ _ _ _ _ c.tables-t.ensures.value c.ecode-code.ensures b text (ends_so _ _ _ _ _ _ _ (c.in_default-close_and_begin.ensures.text es q)))
 
-pub returns-in-Ok-clause-before : goal.returns-in-Ok-clause-before
-returns-in-Ok-clause-before g c = λ es before.
+pub returns-in_default-close_and_begin-clause-before : goal.returns-in_default-close_and_begin-clause-before
+returns-in_default-close_and_begin-clause-before g c = λ es before.
     let later = subst (λ (z : Seen). z.held.reading ≤ c.args.at) (sym c.self.view_is) c.requires.read in
     let m = seen_in c.self.inside in
     let ok = c.self.invariant.accepted in
     let u = subst (λ (z : Seen). IsUpTo z es c.args.at) (sym c.self.view_is) before in
-    let r = ready m es c.args.at c.self.inside.idle.instrs ok u later c.self.invariant.empty in
+    let r = ready m es c.args.at c.self.inside.path.idle.instrs ok u later c.self.invariant.empty in
     let f = follows_at m.object es c.args.at c.tables-t.result.now c.ecode-code.result.now m.standing c.tables-t.ensures.value c.ecode-code.ensures u.before.values.triggers in
-    let opened = rw (c.tables-t.ensures.value, c.ecode-code.ensures, c.schedule_of.ensures) at (c.in_default.ensures.world es f) in
+    let opened = rw (c.tables-t.ensures.value, c.ecode-code.ensures, c.schedule.ensures) at (c.in_default.ensures.world es f) in
     let same = c.settle.ensures.values ∙ u.before.values.values.values in
     let b = sym (rw c.tables-t.ensures.value at c.round_begins.ensures) ∙ c.if-round_begins.true in
     let z = to_close m es c.args.at c.tables-t.result.now c.ecode-code.result.now c.tables-t.ensures.value c.ecode-code.ensures ok later u _ r c.settle.new.self.values c.settle.ensures.values _ _ opened _ (c.in_default.ensures.noted.values ∙ c.settle.ensures.values) _ (c.in_default.ensures.noted.modes ∙ c.settle.ensures.modes) _ (c.in_default.ensures.writes es f) in
-    let q = to_close_and_begin m es c.args.at c.tables-t.result.now c.ecode-code.result.now c.schedules.result.now _ c.tables-t.ensures.value c.ecode-code.ensures c.schedules.ensures c.as_slice.ensures ok later u b _ _ _ _ z in
-    let counts = rw (c.tables-t.ensures.value, c.ecode-code.ensures, c.schedule_of.ensures) at (c.in_default.ensures.counts es f) in
-    let more = counts_at m.object es c.args.at c.tables-t.result.now c.ecode-code.result.now c.schedules.result.now c.close_and_begin.new.tally c.open_instant.new.tally c.tables-t.ensures.value c.ecode-code.ensures c.schedules.ensures (c.in-Ok.ensures.counts es q) in
-    let world = rw (c.tables-t.ensures.value, c.ecode-code.ensures) at (c.in-Ok.ensures.world es q) in
-    let safe = rw (c.tables-t.ensures.value, c.ecode-code.ensures) at c.in-Ok.ensures.safe in
-    let shaped = rw c.tables-t.ensures.value at c.in-Ok.ensures.shaped in
-    let reads = rw (c.tables-t.ensures.value, c.ecode-code.ensures) at (c.in-Ok.ensures.reads es q) in
-    let desk = begun_at m.object es c.args.at c.tables-t.result.now c.schedules.result.now c.close_and_begin.new.desk c.tables-t.ensures.value c.schedules.ensures (c.in-Ok.ensures.desk es q) in
-    let goes = c.in-Ok.ensures.selection es q ∙ ap (λ z. selection_of z (modes_at z es c.args.at)) c.tables-t.ensures.value in
+    let q = to_close_and_begin m es c.args.at c.tables-t.result.now c.ecode-code.result.now _ c.tables-t.ensures.value c.ecode-code.ensures c.as_slice.ensures ok later u b c.open_instant.new.desk (over m es c.args.at ok later u _ c.self.inside.path.idle.instrs refl c.self.invariant.empty r _ _ b opened.records).1 _ _ _ _ z in
+    let counts = rw (c.tables-t.ensures.value, c.ecode-code.ensures, c.schedule.ensures) at (c.in_default.ensures.counts es f) in
+    let more = counts_at m.object es c.args.at c.tables-t.result.now c.ecode-code.result.now c.close_and_begin.new.tally c.open_instant.new.tally c.tables-t.ensures.value c.ecode-code.ensures (c.in_default-close_and_begin.ensures.counts es q) in
+    let world = rw (c.tables-t.ensures.value, c.ecode-code.ensures) at (c.in_default-close_and_begin.ensures.world es q) in
+    let safe = rw (c.tables-t.ensures.value, c.ecode-code.ensures) at c.in_default-close_and_begin.ensures.safe in
+    let shaped = rw c.tables-t.ensures.value at c.in_default-close_and_begin.ensures.shaped in
+    let reads = rw (c.tables-t.ensures.value, c.ecode-code.ensures) at (c.in_default-close_and_begin.ensures.reads es q) in
+    let desk = begun_at m.object es c.args.at c.tables-t.result.now c.close_and_begin.new.desk c.tables-t.ensures.value (c.in_default-close_and_begin.ensures.desk es q) in
+    let stood = stood_at m.object es c.args.at c.tables-t.result.now c.close_and_begin.new.path.list c.tables-t.ensures.value (c.in_default-close_and_begin.ensures.list es q) in
     let t = m.object.tables in
     let code = m.object.ecode in
     let tail : Tally → Tally = λ n. with_records (first_records t (schedules_of m.object) es c.args.at) (with_instrs (length (phase_path t code es c.args.at 3)) (with_instrs (length (phase_path t code es c.args.at 2)) n)) in
     next_shown_up_to m es c.args.at ok later u c.open_instant.new.sensors.shows c.close_and_begin.new.world c.close_and_begin.new.desk c.close_and_begin.new.m _ _ (first_records t (schedules_of m.object) es c.args.at) c.self.inside.tally c.close_and_begin.new.tally c.in_default.ensures.shows
     (passed_of m es c.args.at ok later u _ r c.settle.new.self.values same _ _ opened _ _ world reads safe shaped)
     (desk_begins_so m es c.args.at ok later u _ b desk)
-    (selection_begins m es c.args.at ok later u _ b goes)
-    (records_begin m es c.args.at ok later u _ c.self.inside.idle.instrs refl c.self.invariant.empty r b)
+    (list_begins m es c.args.at ok later u _ b stood)
+    (records_begin m es c.args.at ok later u _ c.self.inside.path.idle.instrs refl c.self.invariant.empty r b)
     refl
     (more ∙ ap tail (counts r.plan r.start r.place r.offset r.same r.past r.few r.was))
 
@@ -463,15 +442,15 @@ returns-in-Err-close_and_begin-clause-text g c = λ es before.
     let m = seen_in c.self.inside in
     let ok = c.self.invariant.accepted in
     let u = subst (λ (z : Seen). IsUpTo z es c.args.at) (sym c.self.view_is) before in
-    let r = ready m es c.args.at c.self.inside.idle.instrs ok u later c.self.invariant.empty in
+    let r = ready m es c.args.at c.self.inside.path.idle.instrs ok u later c.self.invariant.empty in
     let f = follows_at m.object es c.args.at c.tables-t.result.now c.ecode-code.result.now m.standing c.tables-t.ensures.value c.ecode-code.ensures u.before.values.triggers in
-    let opened = rw (c.tables-t.ensures.value, c.ecode-code.ensures, c.schedule_of.ensures) at (c.in_default.ensures.world es f) in
+    let opened = rw (c.tables-t.ensures.value, c.ecode-code.ensures, c.schedule.ensures) at (c.in_default.ensures.world es f) in
     let b = sym (rw c.tables-t.ensures.value at c.round_begins.ensures) ∙ c.if-round_begins.true in
     let z = to_close m es c.args.at c.tables-t.result.now c.ecode-code.result.now c.tables-t.ensures.value c.ecode-code.ensures ok later u _ r c.settle.new.self.values c.settle.ensures.values _ _ opened _ (c.in_default.ensures.noted.values ∙ c.settle.ensures.values) _ (c.in_default.ensures.noted.modes ∙ c.settle.ensures.modes) _ (c.in_default.ensures.writes es f) in
-    let q = to_close_and_begin m es c.args.at c.tables-t.result.now c.ecode-code.result.now c.schedules.result.now _ c.tables-t.ensures.value c.ecode-code.ensures c.schedules.ensures c.as_slice.ensures ok later u b _ _ _ _ z in
-    let text = rw (c.tables-t.ensures.value, c.ecode-code.ensures, c.schedule_of.ensures, c.number_of.ensures) at (c.in_default.ensures.text es f) in
+    let q = to_close_and_begin m es c.args.at c.tables-t.result.now c.ecode-code.result.now _ c.tables-t.ensures.value c.ecode-code.ensures c.as_slice.ensures ok later u b c.open_instant.new.desk (over m es c.args.at ok later u _ c.self.inside.path.idle.instrs refl c.self.invariant.empty r _ _ b opened.records).1 _ _ _ _ z in
+    let text = rw (c.tables-t.ensures.value, c.ecode-code.ensures, c.schedule.ensures, c.node.ensures) at (c.in_default.ensures.text es f) in
     subst (λ (z : Seen). Puts {T = Unit {0}} {E = Failed} (g.W.Sink.written c.args.sink.now) (g.W.Sink.written c.close_and_begin.new.sink) (g.W.Sink.faults c.args.sink.now) (g.W.Sink.faults c.close_and_begin.new.sink) (lines_of z.object es z.show c.args.at) (Err c.in-Err-close_and_begin.failed))
-    c.self.view_is (begun_closed_at m es c.args.at ok later u _ r c.tables-t.result.now c.ecode-code.result.now c.schedules.result.now _ _ _ _ _ _ _ _ c.tables-t.ensures.value c.ecode-code.ensures c.schedules.ensures b text (fails_so _ _ _ _ _ _ c.in-Err-close_and_begin.failed (c.in-Err-close_and_begin.ensures.text es q)))
+    c.self.view_is (begun_closed_at m es c.args.at ok later u _ r c.tables-t.result.now c.ecode-code.result.now _ _ _ _ _ _ _ _ c.tables-t.ensures.value c.ecode-code.ensures b text (fails_so _ _ _ _ _ _ c.in-Err-close_and_begin.failed (c.in-Err-close_and_begin.ensures.text es q)))
 
 pub returns-in_default-close_instant-clause-text : goal.returns-in_default-close_instant-clause-text
 returns-in_default-close_instant-clause-text g c = λ es before.
@@ -479,12 +458,12 @@ returns-in_default-close_instant-clause-text g c = λ es before.
     let m = seen_in c.self.inside in
     let ok = c.self.invariant.accepted in
     let u = subst (λ (z : Seen). IsUpTo z es c.args.at) (sym c.self.view_is) before in
-    let r = ready m es c.args.at c.self.inside.idle.instrs ok u later c.self.invariant.empty in
+    let r = ready m es c.args.at c.self.inside.path.idle.instrs ok u later c.self.invariant.empty in
     let f = follows_at m.object es c.args.at c.tables-t.result.now c.ecode-code.result.now m.standing c.tables-t.ensures.value c.ecode-code.ensures u.before.values.triggers in
-    let opened = rw (c.tables-t.ensures.value, c.ecode-code.ensures, c.schedule_of.ensures) at (c.in_default.ensures.world es f) in
+    let opened = rw (c.tables-t.ensures.value, c.ecode-code.ensures, c.schedule.ensures) at (c.in_default.ensures.world es f) in
     let b = sym (rw c.tables-t.ensures.value at c.round_begins.ensures) ∙ c.if-round_begins.false in
     let q = to_close m es c.args.at c.tables-t.result.now c.ecode-code.result.now c.tables-t.ensures.value c.ecode-code.ensures ok later u _ r c.settle.new.self.values c.settle.ensures.values _ _ opened _ (c.in_default.ensures.noted.values ∙ c.settle.ensures.values) _ (c.in_default.ensures.noted.modes ∙ c.settle.ensures.modes) _ (c.in_default.ensures.writes es f) in
-    let text = rw (c.tables-t.ensures.value, c.ecode-code.ensures, c.schedule_of.ensures, c.number_of.ensures) at (c.in_default.ensures.text es f) in
+    let text = rw (c.tables-t.ensures.value, c.ecode-code.ensures, c.schedule.ensures, c.node.ensures) at (c.in_default.ensures.text es f) in
     let rest = rw (c.tables-t.ensures.value, c.ecode-code.ensures) at (c.in_default-close_instant.ensures.text es q) in
     subst (λ (z : Seen). Puts {T = Unit {0}} {E = Failed} (g.W.Sink.written c.args.sink.now) (g.W.Sink.written c.close_instant.new.sink) (g.W.Sink.faults c.args.sink.now) (g.W.Sink.faults c.close_instant.new.sink) (lines_of z.object es z.show c.args.at) (Ok _))
     c.self.view_is (going_closed m es c.args.at ok later u _ r _ _ _ _ _ _ _ _ b text (ends_so _ _ _ _ _ _ _ rest))
@@ -495,27 +474,27 @@ returns-in_default-close_instant-clause-before g c = λ es before.
     let m = seen_in c.self.inside in
     let ok = c.self.invariant.accepted in
     let u = subst (λ (z : Seen). IsUpTo z es c.args.at) (sym c.self.view_is) before in
-    let r = ready m es c.args.at c.self.inside.idle.instrs ok u later c.self.invariant.empty in
+    let r = ready m es c.args.at c.self.inside.path.idle.instrs ok u later c.self.invariant.empty in
     let f = follows_at m.object es c.args.at c.tables-t.result.now c.ecode-code.result.now m.standing c.tables-t.ensures.value c.ecode-code.ensures u.before.values.triggers in
-    let opened = rw (c.tables-t.ensures.value, c.ecode-code.ensures, c.schedule_of.ensures) at (c.in_default.ensures.world es f) in
+    let opened = rw (c.tables-t.ensures.value, c.ecode-code.ensures, c.schedule.ensures) at (c.in_default.ensures.world es f) in
     let same = c.settle.ensures.values ∙ u.before.values.values.values in
     let b = sym (rw c.tables-t.ensures.value at c.round_begins.ensures) ∙ c.if-round_begins.false in
     let q = to_close m es c.args.at c.tables-t.result.now c.ecode-code.result.now c.tables-t.ensures.value c.ecode-code.ensures ok later u _ r c.settle.new.self.values c.settle.ensures.values _ _ opened _ (c.in_default.ensures.noted.values ∙ c.settle.ensures.values) _ (c.in_default.ensures.noted.modes ∙ c.settle.ensures.modes) _ (c.in_default.ensures.writes es f) in
-    let counts = rw (c.tables-t.ensures.value, c.ecode-code.ensures, c.schedule_of.ensures) at (c.in_default.ensures.counts es f) in
+    let counts = rw (c.tables-t.ensures.value, c.ecode-code.ensures, c.schedule.ensures) at (c.in_default.ensures.counts es f) in
     let more = rw (c.tables-t.ensures.value, c.ecode-code.ensures) at (c.in_default-close_instant.ensures.counts es q) in
     let world = rw (c.tables-t.ensures.value, c.ecode-code.ensures) at (c.in_default-close_instant.ensures.world es q) in
     let safe = rw (c.tables-t.ensures.value, c.ecode-code.ensures) at c.in_default-close_instant.ensures.safe in
     let shaped = rw c.tables-t.ensures.value at c.in_default-close_instant.ensures.shaped in
     let reads = rw (c.tables-t.ensures.value, c.ecode-code.ensures) at (c.in_default-close_instant.ensures.reads es q) in
     let desk = rw (c.tables-t.ensures.value, c.ecode-code.ensures) at (c.in_default-close_instant.ensures.desk es q) in
-    let stands = c.in_default-close_instant.ensures.stands _ (rw c.schedule_of.ensures at c.in_default.ensures.stands) in
+    let stands = c.in_default-close_instant.ensures.stands _ (rw c.schedule.ensures at c.in_default.ensures.stands) in
     let t = m.object.tables in
     let code = m.object.ecode in
     let tail : Tally → Tally = λ n. with_instrs (length (phase_path t code es c.args.at 3)) (with_instrs (length (phase_path t code es c.args.at 2)) n) in
     next_shown_up_to m es c.args.at ok later u c.open_instant.new.sensors.shows c.close_instant.new.world c.close_instant.new.desk c.close_instant.new.m _ _ [] c.self.inside.tally c.close_instant.new.tally c.in_default.ensures.shows
     (passed_of m es c.args.at ok later u _ r c.settle.new.self.values same _ _ opened _ _ world reads safe shaped)
-    (desk_goes_on m es c.args.at ok later u _ c.self.inside.idle.instrs refl c.self.invariant.empty r _ _ _ b opened.records desk stands)
-    (selection_goes_on m es c.args.at ok later u b)
-    (records_go_on m es c.args.at ok later u _ c.self.inside.idle.instrs refl c.self.invariant.empty r b)
+    (desk_goes_on m es c.args.at ok later u _ c.self.inside.path.idle.instrs refl c.self.invariant.empty r _ _ _ b opened.records desk stands)
+    (list_goes_on m es c.args.at ok later u b)
+    (records_go_on m es c.args.at ok later u _ c.self.inside.path.idle.instrs refl c.self.invariant.empty r b)
     refl
     (more ∙ ap tail (counts r.plan r.start r.place r.offset r.same r.past r.few r.was))

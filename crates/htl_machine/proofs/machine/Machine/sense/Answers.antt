@@ -28,8 +28,7 @@ invariant_of-self c =
       all_shows = ap length e ∙ length-set c.self.inside.sensors.shows c.args.comm c.args.x ∙ kept.all_shows;
       all_takes = kept.all_takes;
       few = kept.few;
-      all_selected = kept.all_selected;
-      are = kept.are;
+      stands = kept.stands;
       marked = kept.marked;
       waiting = λ free.
           sensed_waits c.self.inside.loaded.now.tables c.self.inside.sensors c.sense.new.self c.self.inside.world.values c.args.comm c.args.x c.value-has.result (kept.waiting free) room e had marks;

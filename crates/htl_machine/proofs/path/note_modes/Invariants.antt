@@ -1,5 +1,5 @@
 use Rattle.std.proofs.Common.{◌≡◌, take, length}
-use Rattle.htl_machine.proofs.starting.note_modes.Given as goal
+use Rattle.htl_machine.proofs.path.note_modes.Given as goal
 
 abbrev pub invariant-loop-k : goal.invariant-loop-k
 invariant-loop-k l = record {

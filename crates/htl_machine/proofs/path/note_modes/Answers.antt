@@ -1,6 +1,6 @@
 use Rattle.std.proofs.Common.{length, ap, arith}
 use Rattle.htl_machine.proofs.Modes.{one_noted}
-use Rattle.htl_machine.proofs.starting.note_modes.Goals as goal
+use Rattle.htl_machine.proofs.path.note_modes.Goals as goal
 
 pub loop-k-preserved : goal.loop-k-preserved
 loop-k-preserved c =

@@ -1,0 +1,60 @@
+-- The positions of a frame once a list of it has begun.
+use Rattle.std.proofs.Common.{◌≡◌, ℕ, zero, suc, ◌+◌, ◌-◌, ◌%◌, ◌≤◌, ◌<◌, Bool, true, false, cond, eqb, List, Option, [], ◌∷◌, ◌++◌, length, take, drop, refl, sym, ap, ap₂, ◌∙◌, subst, arith, length-append}
+use Rattle.std.proofs.lemmas.List.{drop-take}
+use Rattle.htl_model.specs.Frames.{frame_of}
+use Rattle.htl_model.specs.Tables.{Tables}
+use Rattle.htl_walk.specs.declared.job.Job.{Job}
+use Rattle.htl_smach.specs.Adding.{CanBegin}
+use Rattle.htl_smach.specs.Rounds.{Round, begun, added}
+use Rattle.htl_refine.specs.BegunJobs.{new_jobs}
+use Rattle.htl_machine.specs.ListBegun.{list_begun, CanStart}
+use Rattle.htl_machine.specs.Starting.{kept_lengths}
+
+drop_front : {A : Type 0} (xs ys : List A) → drop (length xs) (xs ++ ys) ≡ ys
+drop_front [] ys = refl
+drop_front (x ∷ xs) ys = drop_front xs ys
+
+-- what comes behind the first positions
+behind : {A : Type 0} (from end : ℕ) (out front new : List A) → from ≡ length front → end ≡ from + length new → take end out ≡ front ++ new → take (end - from) (drop from out) ≡ new
+behind from end out front new same size are =
+    let many : end - from ≡ length new = omega (arith, size) in
+    ap (λ k. take k (drop from out)) many ∙ sym (drop-take from (length new) out) ∙ ap₂ (λ k n. drop k (take n out)) same (sym size) ∙ ap (drop (length front)) are ∙ drop_front front new
+
+-- behind a frame's start
+module _ (t : Tables) (modes ms : List (Option ℕ)) (takes : List ℕ) (at frame count from end : ℕ) (old out : List Job) (r : Round) (noted : ms ≡ modes) (ticks : frame ≡ frame_of t) (more : eqb (at % frame) 0 ≡ false)
+    (many : count ≡ length r.jobs) (are : take count old ≡ r.jobs) (kept : from ≡ cond (eqb (at % frame) 0) 0 count) (size : end ≡ from + length (new_jobs t ms (at % frame) from))
+    (made : take end out ≡ take from old ++ new_jobs t ms (at % frame) from) where
+  from_is : from ≡ count
+  from_is = kept ∙ ap (λ b. cond b 0 count) more
+
+  front_is : take from old ≡ r.jobs
+  front_is = ap (λ k. take k old) from_is ∙ are
+
+  own : new_jobs t ms (at % frame) from ≡ new_jobs t modes (at % frame_of t) (length r.jobs)
+  own = ap (λ z. new_jobs t z (at % frame) from) noted ∙ ap (λ f. new_jobs t modes (at % f) from) ticks ∙ ap (new_jobs t modes (at % frame_of t)) (from_is ∙ many)
+
+  pub later_jobs : take (end - from) (drop from out) ≡ new_jobs t modes (at % frame_of t) (length r.jobs)
+  later_jobs = behind from end out r.jobs (new_jobs t ms (at % frame) from) (from_is ∙ many) size (made ∙ ap (λ js. js ++ new_jobs t ms (at % frame) from) front_is) ∙ own
+
+  pub later_can : CanStart t modes takes at r → (r.start ≤ at) × CanBegin r (at - r.start) (take (end - from) (drop from out)) (kept_lengths takes (take (end - from) (drop from out)))
+  later_can can =
+      let h = can.more (not_zero (at % frame_of t) (sym (ap (λ f. eqb (at % f) 0) ticks) ∙ more)) in
+      (h.0, subst (λ js. CanBegin r (at - r.start) js (kept_lengths takes js)) (sym later_jobs) h.1)
+    where
+      not_zero : (a : ℕ) → eqb a 0 ≡ false → 0 < a
+      not_zero zero e = absurd (let z : ⊥ = cc in z)
+      not_zero (suc a) e = omega arith
+
+  pub later_begun : (d : Round) → d ≡ added r at (take (end - from) (drop from out)) (kept_lengths takes (take (end - from) (drop from out))) → d ≡ list_begun t modes takes at r
+  later_begun d is =
+      let first = new_jobs t modes (at % frame_of t) 0 in
+      let new = new_jobs t modes (at % frame_of t) (length r.jobs) in
+      is ∙ ap (λ js. added r at js (kept_lengths takes js)) later_jobs
+      ∙ sym (ap (λ b. cond b (begun at first (kept_lengths takes first)) (added r at new (kept_lengths takes new))) (sym (ap (λ f. eqb (at % f) 0) ticks) ∙ more))
+
+  pub later_all : (d : Round) → d ≡ added r at (take (end - from) (drop from out)) (kept_lengths takes (take (end - from) (drop from out))) → (take end out ≡ d.jobs) × (end ≡ length d.jobs)
+  later_all d is =
+      let new = take (end - from) (drop from out) in
+      let all : take end out ≡ d.jobs =
+      made ∙ ap₂ (λ (xs ys : List Job). xs ++ ys) front_is (own ∙ sym later_jobs) ∙ sym (ap (λ (z : Round). z.jobs) is) in
+      (all, omega (arith, size, from_is, many, ap length (own ∙ sym later_jobs), ap (λ (z : Round). length z.jobs) is, length-append r.jobs new))

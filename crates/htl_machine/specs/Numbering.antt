@@ -1,0 +1,24 @@
+-- How the code keeps where a run stands in its frame: the numbers of the frame, and the jobs that it has so far.
+use Rattle.std.specs.Prelude.{◌≡◌, ◌≤◌, ◌<◌, ℕ, suc, List, drop, get_or, length, take}
+use Rattle.htl_model.specs.Frames.{frame_of, starts}
+use Rattle.htl_model.specs.Tables.{Tables}
+use Rattle.htl_walk.specs.declared.job.Job.{Job}
+use Rattle.htl_refine.specs.FrameRuns.{nodes_below}
+use Rattle.htl_machine.specs.declared.numbering.Numbering.{Numbering}
+use Rattle.htl_machine.specs.declared.path.Path.{Path}
+
+-- the length of the frame, and how many nodes are below a node behind each start
+pub record IsNumbering (t : Tables) (n : Numbering) : Type 0 where
+  pub frame : n.frame ≡ frame_of t
+  pub few : length (starts t) ≤ 32
+  pub room : length n.below ≡ 32
+  pub below : (j : ℕ) → j < length (starts t) → get_or n.below j 0 ≡ nodes_below t (drop (suc j) (starts t))
+  pub small : (j : ℕ) → j < length (starts t) → get_or n.below j 0 ≤ 32768
+
+-- those numbers, a mode for each module, and these jobs
+pub record IsPath (t : Tables) (p : Path) (jobs : List Job) : Type 0 where
+  pub numbering : IsNumbering t p.numbering
+  pub modes : length p.modes.modes ≡ length t.modules
+  pub few : p.count ≤ 128
+  pub many : p.count ≡ length jobs
+  pub are : take p.count p.jobs ≡ jobs

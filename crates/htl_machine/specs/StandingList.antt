@@ -1,0 +1,23 @@
+-- The list that stands, as the code keeps it, and the one that comes after it.
+use Rattle.std.specs.Prelude.{ℕ, List, Option, Some, None}
+use Rattle.htl_model.specs.Tables.{Tables}
+use Rattle.htl_machine.specs.declared.numbering.ListAt.{ListAt}
+use Rattle.htl_machine.specs.ListTurns.{Turn}
+use Rattle.htl_machine.specs.NextLists.{next_list, next_node}
+
+-- its node, and its number in the frame; 0 where none stands
+abbrev pub node_by : Option ListAt → ℕ
+node_by (Some l) = l.node
+node_by None = 0
+
+abbrev pub number_by : Option ListAt → ℕ
+number_by (Some l) = l.number
+number_by None = 0
+
+-- that of a turn
+abbrev pub turn_list : Turn → ListAt
+turn_list u = record { node = u.node; number = u.list }
+
+-- the list that begins behind one, where the modules are in these modes
+abbrev pub next_at : Tables → List (Option ℕ) → ℕ → Option ListAt → ListAt
+next_at t modes at last = record { node = next_node t modes at (node_by last) (number_by last); number = next_list t at (number_by last) }

@@ -1,0 +1,193 @@
+// Where a run stands in its frame: the list that stands, and the jobs that the frame has so far.
+ghost use Rattle.std.specs.Prelude.{◌≡◌, ◌≤◌, ◌<◌, ◌+◌, ◌-◌, ◌%◌, [], cond, eqb, length, take, false, get_or, IfOk, IfSome, List, None, Some};
+ghost use Rattle.htl_model.specs.FrameRules.{KeptApart};
+ghost use Rattle.htl_model.specs.Frames.{frame_limit};
+ghost use Rattle.htl_model.specs.Selected.{IsSelection};
+ghost use Rattle.htl_walk.specs.Refinement.{HaveLengths, AreWithinWorst};
+ghost use Rattle.htl_smach.specs.Adding.{CanBegin};
+ghost use Rattle.htl_smach.specs.Rounds.{begun, added};
+ghost use Rattle.htl_machine.specs.ListBegun.{list_begun};
+ghost use Rattle.htl_machine.specs.Numbering.{IsPath};
+ghost use Rattle.htl_machine.specs.Calls.{schedule_by};
+ghost use Rattle.htl_machine.specs.StandingList.{node_by, next_at};
+ghost use Rattle.htl_machine.specs.Starting.{kept_lengths};
+ghost use Rattle.htl_machine.specs.Beginning.{CanFollow};
+
+use crate::memory::no_modes;
+use crate::numbering::{ListAt, Numbering};
+use htl_base::limits::MAX_POSITIONS;
+use htl_base::{Seq, Time};
+use htl_emach::EMach;
+use htl_load::Loaded;
+use htl_model::Tables;
+use htl_refine::{Selection, derive_begun};
+use htl_smach::SMach;
+use htl_walk::{Job, Schedule};
+use std::alloc::{AllocError, Global};
+
+/// Where a run stands in its frame.
+#[derive(Drop)]
+pub struct Path {
+    numbering: Numbering,
+    list: Option<ListAt>,
+    // The jobs of the frame so far, in front.
+    jobs: [Job; 128],
+    count: usize,
+    // The modes in which the list began.
+    modes: Selection,
+    // Where no list stands.
+    idle: Schedule,
+}
+
+impl Path {
+    /// Before the first list, of tables that keep the limits of frames. As costly as `Frame::survey`.
+    pub fn new(alloc: Global, t: &Tables) -> Result<Path, AllocError>
+        requires { frame_limit t.now ≡ None }
+        ensures path { IfOk result (λ p. IsPath t.now p []) }
+        ensures list { IfOk result (λ p. p.list ≡ None) }
+        ensures idle { IfOk result (λ p. p.idle.instrs ≡ []) }
+    {
+        let modes = no_modes(alloc, t)?;
+        Ok(Path {
+            numbering: Numbering::survey(t),
+            list: None,
+            jobs: [Job::ABSENT; MAX_POSITIONS],
+            count: 0,
+            modes: Selection {
+                modes: Seq::new(modes),
+            },
+            idle: Schedule {
+                instrs: Seq::new(Vec::new(alloc)),
+            },
+        })
+    }
+
+    /// The jobs of the frame so far.
+    pub fn jobs(&self) -> &[Job]
+        requires { self.now.count ≤ 128 }
+        ensures { result.now ≡ take self.now.count self.now.jobs }
+    {
+        &self.jobs[..self.count]
+    }
+
+    /// The node whose list stands; 0 where none does.
+    pub fn node(&self) -> u32
+        ensures { result ≡ node_by self.now.list }
+    {
+        match self.list {
+            Some(list) => list.node,
+            None => 0,
+        }
+    }
+
+    /// Its instructions; none where no list stands.
+    pub fn schedule<'b>(&'b self, l: &'b Loaded) -> &'b Schedule
+        requires { IfSome self.now.list (λ p. p.node < length l.now.schedules) }
+        ensures { result.now.instrs ≡ schedule_by l.now self.now.idle.instrs self.now.list }
+    {
+        match self.list {
+            Some(list) => &l.schedules()[list.node as usize],
+            None => &self.idle,
+        }
+    }
+
+    /// A list begins, by the modes in which the modules are: the jobs of the rounds that begin take the lengths that are kept, in
+    /// ticks. At a frame's start the S machine begins anew, else it goes on with those jobs. Takes no memory.
+    pub fn begin(&mut self, desk: &mut SMach, t: &Tables, m: &EMach, takes: &[Time], at: Time)
+        requires form { KeptApart t.now 16 }
+        requires limit { frame_limit t.now ≡ None }
+        requires path { IsPath t.now self.old desk.old.jobs }
+        requires selection { IsSelection t.now m.now.calendar.modes }
+        requires over { desk.old.running ≡ false }
+        requires at { at ≤ 1000000000 }
+        requires follows { CanFollow t.now m.now.calendar.modes takes.now at self.old.list desk.old }
+        ensures list { self.new.list ≡ Some (next_at t.now m.now.calendar.modes at self.old.list) }
+        ensures path { IsPath t.now self.new desk.new.jobs }
+        ensures desk { desk.new ≡ list_begun t.now m.now.calendar.modes takes.now at desk.old }
+        ensures idle { self.new.idle ≡ self.old.idle }
+    {
+        t.keeps_ranges();
+        note_modes(&mut self.modes, m);
+        let offset = at % self.numbering.frame;
+        self.list = Some(self.numbering.next(t, &self.modes, at, self.list));
+        let from = kept_positions(offset, self.count);
+        self.count = derive_begun(t, &self.modes, offset, &mut self.jobs, from);
+        let jobs = &self.jobs[from..self.count];
+        if offset == 0 {
+            start_jobs(desk, jobs, takes, at);
+        } else {
+            add_jobs(desk, jobs, takes, at);
+        }
+    }
+}
+
+// How many positions stay: those of the frame so far, none where another begins.
+fn kept_positions(offset: Time, count: usize) -> usize
+    ensures { result ≡ cond (eqb offset 0) 0 count }
+{
+    if offset == 0 { 0 } else { count }
+}
+
+// Notes the mode in which each module is.
+fn note_modes(modes: &mut Selection, m: &EMach)
+    requires few { length modes.old.modes ≤ 64 }
+    requires same { length m.now.calendar.modes ≡ length modes.old.modes }
+    ensures { modes.new.modes ≡ m.now.calendar.modes }
+{
+    let count = modes.modes.as_slice().len();
+    for k in 0..count {
+        modes.modes.set(k, m.mode(k as u16));
+    }
+}
+
+// How long the jobs of an invocation take from now on, in ticks; 0 where there is no such invocation.
+fn length_of(takes: &[Time], inv: u16) -> Time
+    ensures { result ≡ get_or takes.now inv 0 }
+{
+    if (inv as usize) < takes.len() {
+        takes[inv as usize]
+    } else {
+        0
+    }
+}
+
+// How long the jobs take.
+fn fill_lengths(jobs: &[Job], takes: &[Time], lengths: &mut [Time])
+    requires same { length lengths.old ≡ length jobs.now }
+    ensures lengths { lengths.new ≡ kept_lengths takes.now jobs.now }
+    ensures same { length lengths.new ≡ length jobs.now }
+{
+    for p in 0..jobs.len() {
+        lengths[p] = length_of(takes, jobs[p].inv);
+    }
+}
+
+// The jobs of a frame's first list begin.
+fn start_jobs(desk: &mut SMach, jobs: &[Job], takes: &[Time], at: Time)
+    requires over { desk.old.running ≡ false }
+    requires at { at ≤ 1000000000 }
+    requires few { length jobs.now ≤ 128 }
+    requires lengths { HaveLengths jobs.now (kept_lengths takes.now jobs.now) }
+    requires worst { AreWithinWorst jobs.now (kept_lengths takes.now jobs.now) }
+    ensures { desk.new ≡ begun at jobs.now (kept_lengths takes.now jobs.now) }
+{
+    let mut lengths = [0; MAX_POSITIONS];
+    let taken = &mut lengths[..jobs.len()];
+    fill_lengths(jobs, takes, taken);
+    desk.start(at, jobs, taken);
+}
+
+// Those of a later list begin.
+fn add_jobs(desk: &mut SMach, jobs: &[Job], takes: &[Time], at: Time)
+    requires over { desk.old.running ≡ false }
+    requires later { desk.old.start ≤ at }
+    requires at { at ≤ 1000000000 }
+    requires few { length desk.old.jobs + length jobs.now ≤ 128 }
+    requires can { CanBegin desk.old (at - desk.old.start) jobs.now (kept_lengths takes.now jobs.now) }
+    ensures { desk.new ≡ added desk.old at jobs.now (kept_lengths takes.now jobs.now) }
+{
+    let mut lengths = [0; MAX_POSITIONS];
+    let taken = &mut lengths[..jobs.len()];
+    fill_lengths(jobs, takes, taken);
+    desk.add(at, jobs, taken);
+}
