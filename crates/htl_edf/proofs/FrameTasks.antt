@@ -1,17 +1,14 @@
 -- The worst case of a task reaches nothing of the frame.
-use Rattle.std.proofs.Common.{◌≡◌, ◌≤◌, ℕ, ◌+◌, min, cond, ltb, refl, sym, ap, ◌∙◌, subst, List, [], ◌∷◌, length, map, max, Option, Some, None}
-use mathlib.Core.Path.{fun_ext}
+use Rattle.std.proofs.Common.{◌≡◌, ◌≤◌, ℕ, sym, ap, ◌∙◌, subst, List, length}
 use Rattle.htl_model.specs.declared.parts.Task.{Task}
 use Rattle.htl_model.specs.declared.frame.Frame.{Frame}
-use Rattle.htl_model.specs.declared.frame.Round.{Round}
 use Rattle.htl_model.specs.declared.frame.Place.{Place}
 use Rattle.htl_model.specs.Tables.{Tables}
-use Rattle.htl_model.specs.Selections.{root_modules, modes_of, invs_of}
-use Rattle.htl_model.specs.Frames.{starts, unit_period, common_multiple, rounds_at, rounds, choices, radices, nodes_of, most_invs, most_positions, too_long, last_of, exceeds, first_of, frame_limit, KeepsFrames}
+use Rattle.htl_model.specs.Frames.{rounds, choices, radices, nodes_of, most_positions, frame_limit, KeepsFrames}
 use Rattle.htl_model.specs.FrameTables.{IsFrame}
 use Rattle.htl_model.proofs.FrameLists.{all_choices_framed, radices_framed, all_most_framed, limit_framed}
 use Rattle.htl_edf.specs.Greatest.{worst_in, LimitsWithWorst, FrameWithWorst}
-use Rattle.htl_edf.proofs.Greatest.{with_tasks, rounds_of_same, rounds_same, choices_same, paths_same, path_places_same}
+use Rattle.htl_edf.proofs.Greatest.{with_tasks, rounds_same, paths_same, path_places_same}
 
 module _ (t : Tables) (xs ys : List Task) where
   all_choices : choices (with_tasks t xs) (rounds (with_tasks t xs)) ≡ choices (with_tasks t ys) (rounds (with_tasks t ys))

@@ -1,7 +1,6 @@
 -- The worst case of a task decides nothing of a path but the worst cases of its jobs.
-use Rattle.std.proofs.Common.{◌≡◌, ℕ, zero, suc, ◌+◌, ◌*◌, ◌/◌, ◌%◌, ◌<◌, ◌≤◌, Bool, cond, ◌&&◌, eqb, refl, sym, ap, ◌∙◌, subst, arith, ⊎_elim, List, [], ◌∷◌, ◌++◌, length, get_or, slice_get, map, Option, Some, None}
+use Rattle.std.proofs.Common.{◌≡◌, ℕ, zero, suc, ◌+◌, ◌*◌, ◌<◌, ◌≤◌, Bool, ◌&&◌, eqb, refl, sym, ap, ◌∙◌, subst, arith, ⊎_elim, List, [], ◌∷◌, length, get_or, slice_get, map, Option, Some, None}
 use mathlib.Core.Path.{fun_ext}
-use Rattle.std.specs.List.{flat_map}
 use Rattle.std.proofs.lemmas.Bool.{cases_lt}
 use Rattle.htl_model.specs.declared.parts.Inv.{Inv}
 use Rattle.htl_model.specs.declared.parts.Task.{Task}
@@ -10,8 +9,7 @@ use Rattle.htl_model.specs.declared.parts.End.TheVariants as E
 use Rattle.htl_model.specs.declared.frame.Round.{Round}
 use Rattle.htl_model.specs.declared.frame.Place.{Place}
 use Rattle.htl_model.specs.Tables.{Tables, comm_period, mode_period, offsets, greatest, least_or}
-use Rattle.htl_model.specs.Selections.{root_modules, modes_of, invs_of}
-use Rattle.htl_model.specs.Frames.{starts, unit_period, rounds_of, rounds, choices, paths, mode_in, places_of, places_in, path_places}
+use Rattle.htl_model.specs.Frames.{rounds_of, rounds, choices, paths, path_places}
 use Rattle.htl_model.proofs.FrameLists.{rounds_of_framed, rounds_framed, choices_framed, paths_framed, path_places_framed}
 use Rattle.htl_walk.specs.Jobs.{absent_job, is_fed_by, mask}
 use Rattle.htl_walk.specs.PathJobs.{job_in, placed, placed_job, placed_jobs, path_jobs}

@@ -1,12 +1,12 @@
 -- Where all root modules have one period, the invocations of a root selection have that of the round.
-use Rattle.std.proofs.Common.{◌≡◌, ℕ, suc, ◌+◌, ◌/◌, ◌%◌, ◌≤◌, ◌<◌, eqb-true, List, [], ◌∷◌, length, drop, get_or, slice_get, Option, Some, None, refl, sym, ◌∙◌, ap, arith}
+use Rattle.std.proofs.Common.{◌≡◌, ℕ, suc, ◌+◌, ◌/◌, ◌%◌, ◌≤◌, ◌<◌, eqb-true, List, [], ◌∷◌, length, drop, get_or, slice_get, Option, Some, None, refl, ◌∙◌, ap, arith}
 use Rattle.std.specs.List.{flat_map, All}
 use Rattle.std.proofs.lemmas.List.Elements.{All-append}
 use Rattle.std.proofs.lemmas.Option.{slice_get-get_or, get_or_from_slice_get}
 use Rattle.htl_model.specs.declared.parts.Inv.{Inv}
 use Rattle.htl_model.specs.FrameRules.{KeptApart}
 use Rattle.htl_model.specs.Ranges.{AreInRange, IsModeInRange}
-use Rattle.htl_model.specs.Selections.{is_root, root_modules, modes_of, mode_of_module, inv_of_mode, invs_of, choices_from, root_mode, positions, root_period, round_length}
+use Rattle.htl_model.specs.Selections.{root_modules, modes_of, mode_of_module, inv_of_mode, invs_of, choices_from, root_mode, positions, round_length}
 use Rattle.htl_model.specs.Tables.{Tables, mode_period}
 use Rattle.htl_model.proofs.FrameRules.{first_own}
 use Rattle.htl_model.proofs.SelectionLaws.{modes_some, root_period_is, place_passes_0}

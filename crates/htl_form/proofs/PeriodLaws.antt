@@ -1,5 +1,5 @@
 -- The tests of the rules on periods find exactly what the words say.
-use Rattle.std.proofs.Common.{◌≡◌, ◌≢◌, ℕ, ◌%◌, ◌⊎◌, Bool, true, false, cond, eqb, Option, Some, None, refl, sym, ap, subst, arith}
+use Rattle.std.proofs.Common.{◌≡◌, ◌≢◌, ℕ, ◌%◌, ◌⊎◌, false, eqb, Option, Some, None, refl, sym, ap, subst, arith}
 use Rattle.std.proofs.lemmas.Bool.Decides.{nat_tests}
 use Rattle.htl_model.specs.declared.parts.Mode.{Mode}
 use Rattle.htl_model.specs.declared.parts.Inv.{Inv}
@@ -7,7 +7,7 @@ use Rattle.htl_model.specs.declared.parts.End.{End}
 use Rattle.htl_model.specs.declared.parts.End.TheVariants as E
 use Rattle.htl_model.specs.Tables.{Tables, mode_period, comm_period}
 use Rattle.htl_model.specs.PeriodRules.{asked_period, PeriodDiffers, NotDivided, EndNotDivided}
-use Rattle.htl_model.specs.Found.{Found, unless}
+use Rattle.htl_model.specs.Found.{unless}
 use Rattle.htl_form.specs.PeriodFaults.{unless_asked, module_period_fault, divides, divides_fault, end_divides_fault}
 use Rattle.htl_form.proofs.Finding.{Finds, finds_nothing, finds_unless}
 

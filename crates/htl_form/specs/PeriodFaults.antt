@@ -1,5 +1,5 @@
 -- What the tests of the rules on periods find.
-use Rattle.std.specs.Prelude.{ℕ, ◌%◌, Bool, false, cond, ◌&&◌, eqb, ltb, Option, Some, None}
+use Rattle.std.specs.Prelude.{ℕ, ◌%◌, Bool, ◌&&◌, eqb, ltb, Option, Some, None}
 use Rattle.htl_model.specs.declared.parts.Mode.{Mode}
 use Rattle.htl_model.specs.declared.parts.Inv.{Inv}
 use Rattle.htl_model.specs.declared.parts.End.{End}

@@ -1,6 +1,6 @@
 -- A frame is made of modules, modes and invocations: tables that share these three lists have the same frame, the same paths, and the
 -- same limits.
-use Rattle.std.proofs.Common.{◌≡◌, ℕ, ◌+◌, ◌*◌, ◌/◌, ◌%◌, min, max, cond, eqb, ltb, List, [], ◌∷◌, ◌++◌, length, map, get_or, Option, Some, None, refl, sym, ◌∙◌, ap}
+use Rattle.std.proofs.Common.{◌≡◌, ℕ, ◌+◌, ◌*◌, ◌/◌, ◌%◌, min, max, cond, eqb, ltb, List, [], ◌∷◌, ◌++◌, length, map, get_or, Option, Some, None, refl, ◌∙◌, ap}
 use mathlib.Core.Path.{fun_ext}
 use Rattle.std.specs.List.{flat_map}
 use Rattle.htl_model.specs.Frames.{starts, unit_period, common_multiple, rounds_of, rounds_at, rounds, choices, paths, mode_in, radices, places_of, places_in, path_places, most_invs, most_positions, too_long, last_of, exceeds, first_of, frame_limit}

@@ -1,8 +1,7 @@
 -- The frame of tables whose root modules have one period is one round: paths and nodes are the root selections, and no limit of frames
 -- is exceeded.
-use Rattle.std.proofs.Common.{◌≡◌, ℕ, zero, suc, ◌+◌, ◌*◌, ◌/◌, ◌%◌, ◌≤◌, ◌<◌, ◌⊎◌, min, max, Bool, true, false, cond, eqb, ltb, List, [], ◌∷◌, length, map, drop, get_or, slice_get, Option, Some, None, option_map, refl, sym, ap, ◌∙◌, subst, arith, inl, inr, append-nil}
+use Rattle.std.proofs.Common.{◌≡◌, ℕ, zero, suc, ◌+◌, ◌*◌, ◌/◌, ◌%◌, ◌≤◌, ◌<◌, ◌⊎◌, min, Bool, true, false, cond, eqb, ltb, List, [], ◌∷◌, length, map, drop, get_or, slice_get, Option, Some, None, option_map, refl, sym, ap, ◌∙◌, subst, arith, inl, inr, append-nil}
 use Rattle.std.specs.List.{count_by, flat_map}
-use Rattle.std.proofs.lemmas.Bool.{eqb-true}
 use Rattle.std.proofs.lemmas.Bool.Decides.{nat_tests}
 use Rattle.std.proofs.lemmas.Option.{slice_get-get_or, slice_get_within}
 use Rattle.std.proofs.Math.Nat.{mod_self, div-eq_of_eq-mul_right}
@@ -13,9 +12,9 @@ use Rattle.htl_model.proofs.SelectionLaws.{place_passes_0}
 use Rattle.htl_model.specs.Broken.{KeptTo, KeepsLimits}
 use Rattle.htl_model.specs.Frames.{gcd_in, common_multiple, multiple_of, unit_period, starts_below, starts, rounds, rounds_of, rounds_at, choices, paths, nodes, node, nodes_of, most_invs, most_positions, too_long, frame_limit, other_limit}
 use Rattle.htl_model.specs.Lists.{places_from, list_to}
-use Rattle.htl_model.specs.Ranges.{AreInRange, IsModeInRange, parent_of}
-use Rattle.htl_model.specs.Selections.{is_root, root_modules, modes_of, mode_of_module, inv_of_mode, invs_of, choices_from, selection_count, root_period, round_length}
-use Rattle.htl_model.specs.Tables.{Tables, mode_period}
+use Rattle.htl_model.specs.Ranges.{AreInRange}
+use Rattle.htl_model.specs.Selections.{is_root, root_modules, modes_of, mode_of_module, inv_of_mode, invs_of, choices_from, selection_count, round_length}
+use Rattle.htl_model.specs.Tables.{Tables}
 use Rattle.htl_model.specs.declared.frame.Round.{Round}
 use Rattle.htl_model.specs.declared.parts.Inv.{Inv}
 use Rattle.htl_model.specs.declared.parts.Mode.{Mode}

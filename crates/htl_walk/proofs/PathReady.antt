@@ -16,7 +16,6 @@ use Rattle.htl_model.specs.declared.parts.End.TheVariants as E
 use Rattle.htl_model.specs.FormRules.{ModulePeriod, Windows, Offsets, Itself, Output, Site, Part}
 use Rattle.htl_model.specs.FrameRules.{KeptApart}
 use Rattle.htl_model.specs.Frames.{unit_start, unit_period, frame_of, root_periods, starts, rounds_of, rounds_at, rounds, choices, mode_in, places_of, places_in, path_places, frame_limit}
-use Rattle.htl_model.specs.Lists.{places_from}
 use Rattle.htl_model.specs.PeriodRules.{first_mode, asked_period}
 use Rattle.htl_model.specs.Ranges.{AreInRange, IsInvInRange, IsModeInRange, IsTaskInRange, IsSpan, parent_of}
 use Rattle.htl_model.specs.Selections.{is_root, root_modules, modes_of, mode_of_module, inv_of_mode, invs_of}
