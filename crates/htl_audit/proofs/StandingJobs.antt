@@ -59,7 +59,6 @@ pub record HasJobFrom (t : Tables) (es : List Event) (s i : ℕ) (x : Inv) : Typ
   pub once : (q : ℕ) (h : Job) → slice_get (round_of t es s).jobs q ≡ Some h → h.present ≡ true → h.inv ≡ i → q ≡ position
 
 module _ (t : Tables) (range : AreInRange t) (kept : KeptApart t 16) (rounds : HaveRounds t) (es : List Event) where
-
   -- rounds that begin at an instant are among those of the audit
   pub round_there : (now s : ℕ) (p : ℕ) (j : Job) → IsFresh t range kept rounds es s p j → s < now → (m : ℕ) × (slice_get (all_rounds t es now) m ≡ Some (round_of t es s))
   round_there now s p j f early =

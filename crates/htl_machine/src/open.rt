@@ -81,9 +81,7 @@ pub fn open_instant<W: Sink>(
     ensures stands { OnOk result (Stands desk.new schedule.now.instrs) }
     ensures writes { (es : List Event) → Follows t.now code.now es at m.old → OnOk result (Onward t.now code.now es at 1 m.new (phase_path t.now code.now es at 1) [] None) }
 {
-    if let Err(failed) = tell_records(
-        sink, world, desk, tally, t, jobs, schedule, node, show, at,
-    ) {
+    if let Err(failed) = tell_records(sink, world, desk, tally, t, jobs, schedule, node, show, at) {
         return Err(failed);
     }
     if let Err(failed) = do_instrs(

@@ -6,8 +6,8 @@ ghost use Rattle.htl_model.specs.Selections.{invs_of, modes_of};
 ghost use Rattle.htl_top.specs.Checked.{most_positions as most_positions_of};
 
 use htl_base::limits::MAX_MODES;
-use htl_model::frame::Frame;
 use htl_model::Tables;
+use htl_model::frame::Frame;
 use htl_model::items::count_invs;
 
 // The greatest number of invocations in a mode of a module.
