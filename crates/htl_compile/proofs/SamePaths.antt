@@ -1,15 +1,12 @@
 -- Tables have the same paths with the same jobs, whatever functions they have.
-use Rattle.std.proofs.Common.{◌≡◌, ℕ, ◌+◌, ◌*◌, ◌/◌, ◌%◌, Bool, true, cond, ◌&&◌, eqb, List, [], ◌∷◌, ◌++◌, length, map, get_or, slice_get, Option, Some, None, refl, sym, ◌∙◌, ap}
+use Rattle.std.proofs.Common.{◌≡◌, ℕ, ◌+◌, Bool, true, ◌&&◌, eqb, List, map, slice_get, Option, Some, None, refl, sym, ◌∙◌, ap}
 use mathlib.Core.Path.{fun_ext}
-use Rattle.std.specs.List.{flat_map}
 use Rattle.htl_model.proofs.FrameLists.{paths_framed, path_places_framed}
 use Rattle.htl_model.proofs.SameRules.{release_same, window_end_same}
 use Rattle.htl_model.specs.Exchanged.{with_functions}
-use Rattle.htl_model.specs.Frames.{unit_period, starts, rounds_of, rounds, choices, paths, mode_in, places_of, places_in, path_places}
-use Rattle.htl_model.specs.Selections.{root_modules, modes_of, invs_of}
+use Rattle.htl_model.specs.Frames.{paths, path_places}
 use Rattle.htl_model.specs.Tables.{Tables, Fun, task_worst, release, window_end}
 use Rattle.htl_model.specs.declared.frame.Place.{Place}
-use Rattle.htl_model.specs.declared.frame.Round.{Round}
 use Rattle.htl_model.specs.declared.parts.Inv.{Inv}
 use Rattle.htl_walk.specs.Jobs.{absent_job, mask, is_fed_by}
 use Rattle.htl_walk.specs.PathJobs.{placed_job, placed_jobs, path_jobs}
