@@ -17,6 +17,8 @@ use Rattle.htl_machine.specs.Leaving.{due_by}
 use Rattle.htl_machine.specs.Programs.{schedules_of}
 use Rattle.htl_machine.specs.RunLists.{turn_at}
 use Rattle.htl_machine.specs.StandingList.{turn_list}
+use Rattle.htl_machine.specs.Starting.{instrs_of}
+use Rattle.htl_walk.specs.declared.schedule.Schedule.{Schedule}
 use Rattle.htl_machine.specs.declared.tally.Tally.{Tally}
 use Rattle.htl_machine.specs.Counts.{with_instrs, with_records}
 use Rattle.htl_machine.specs.Opening.{first_records}
@@ -102,18 +104,23 @@ begins_at o es at t code takes kept last r same same_code are h =
     (subst (λ z. IsToBegin o.tables z (schedules_of o) es at takes last r) (sym same_code) (subst (λ z. IsToBegin o.tables o.ecode (schedules_of o) es at z last r) (sym are) h))
 
 -- the list that has begun
-pub begun_at : (o : Object) (es : List Event) (at : ℕ) (t : Tables) (d : Round) → t ≡ o.tables
-    → (let u = turn_at t (schedules_of o) es at in DeskAt u.plan u.frame (due_by u.plan u.frame at) (suc at - u.frame) d)
+pub begun_at : (o : Object) (es : List Event) (at : ℕ) (t : Tables) (ss : List Schedule) (d : Round) → t ≡ o.tables → ss ≡ o.schedules
+    → (let u = turn_at t (instrs_of ss) es at in DeskAt u.plan u.frame (due_by u.plan u.frame at) (suc at - u.frame) d)
     → (let u = turn_at o.tables (schedules_of o) es at in DeskAt u.plan u.frame (due_by u.plan u.frame at) (suc at - u.frame) d)
-begun_at o es at t d same h = subst (λ z. let u = turn_at z (schedules_of o) es at in DeskAt u.plan u.frame (due_by u.plan u.frame at) (suc at - u.frame) d) same h
+begun_at o es at t ss d same same_schedules h =
+    subst (λ z. let u = turn_at o.tables (instrs_of z) es at in DeskAt u.plan u.frame (due_by u.plan u.frame at) (suc at - u.frame) d) same_schedules
+    (subst (λ z. let u = turn_at z (instrs_of ss) es at in DeskAt u.plan u.frame (due_by u.plan u.frame at) (suc at - u.frame) d) same h)
 
-pub stood_at : (o : Object) (es : List Event) (at : ℕ) (t : Tables) (list : Option ListAt) → t ≡ o.tables → list ≡ Some (turn_list (turn_at t (schedules_of o) es at)) → list ≡ Some (turn_list (turn_at o.tables (schedules_of o) es at))
-stood_at o es at t list same h = h ∙ ap (λ z. Some (turn_list (turn_at z (schedules_of o) es at))) same
+pub stood_at : (o : Object) (es : List Event) (at : ℕ) (t : Tables) (ss : List Schedule) (list : Option ListAt) → t ≡ o.tables → ss ≡ o.schedules → list ≡ Some (turn_list (turn_at t (instrs_of ss) es at))
+    → list ≡ Some (turn_list (turn_at o.tables (schedules_of o) es at))
+stood_at o es at t ss list same same_schedules h =
+    h ∙ ap (λ z. Some (turn_list (turn_at z (instrs_of ss) es at))) same ∙ ap (λ z. Some (turn_list (turn_at o.tables (instrs_of z) es at))) same_schedules
 
 -- what the second part of an instant counts where a list begins
-pub counts_at : (o : Object) (es : List Event) (at : ℕ) (t : Tables) (code : ECode) (n n1 : Tally) → t ≡ o.tables → code ≡ o.ecode
-    → n ≡ with_records (first_records t (schedules_of o) es at) (with_instrs (length (phase_path t code es at 3)) (with_instrs (length (phase_path t code es at 2)) n1))
+pub counts_at : (o : Object) (es : List Event) (at : ℕ) (t : Tables) (code : ECode) (ss : List Schedule) (n n1 : Tally) → t ≡ o.tables → code ≡ o.ecode → ss ≡ o.schedules
+    → n ≡ with_records (first_records t (instrs_of ss) es at) (with_instrs (length (phase_path t code es at 3)) (with_instrs (length (phase_path t code es at 2)) n1))
     → n ≡ with_records (first_records o.tables (schedules_of o) es at) (with_instrs (length (phase_path o.tables o.ecode es at 3)) (with_instrs (length (phase_path o.tables o.ecode es at 2)) n1))
-counts_at o es at t code n n1 same same_code h =
-    subst (λ z. n ≡ with_records (first_records o.tables (schedules_of o) es at) (with_instrs (length (phase_path o.tables z es at 3)) (with_instrs (length (phase_path o.tables z es at 2)) n1))) same_code
-    (subst (λ z. n ≡ with_records (first_records z (schedules_of o) es at) (with_instrs (length (phase_path z code es at 3)) (with_instrs (length (phase_path z code es at 2)) n1))) same h)
+counts_at o es at t code ss n n1 same same_code same_schedules h =
+    subst (λ z. n ≡ with_records (first_records o.tables (instrs_of z) es at) (with_instrs (length (phase_path o.tables o.ecode es at 3)) (with_instrs (length (phase_path o.tables o.ecode es at 2)) n1))) same_schedules
+    (subst (λ z. n ≡ with_records (first_records o.tables (instrs_of ss) es at) (with_instrs (length (phase_path o.tables z es at 3)) (with_instrs (length (phase_path o.tables z es at 2)) n1))) same_code
+    (subst (λ z. n ≡ with_records (first_records z (instrs_of ss) es at) (with_instrs (length (phase_path z code es at 3)) (with_instrs (length (phase_path z code es at 2)) n1))) same h))

@@ -20,12 +20,10 @@ use Rattle.htl_emach.specs.Following.{phase_path}
 use Rattle.htl_refine.specs.ListPlans.{ListPlan as Plan, list_walk}
 use Rattle.htl_refine.specs.RecordCounts.{count_before}
 use Rattle.htl_refine.specs.Records.{modes_at}
-use Rattle.htl_object.specs.declared.object.Object.{Object}
 use Rattle.htl_console.specs.declared.shown.Shown.{Shown}
 use Rattle.htl_machine.specs.declared.numbering.ListAt.{ListAt}
 use Rattle.htl_machine.specs.declared.tally.Tally.{Tally}
 use Rattle.htl_machine.specs.Beginning.{CanFollow, IsToBegin}
-use Rattle.htl_machine.specs.Calls.{schedule_by}
 use Rattle.htl_machine.specs.Completing.{complete_at, complete_by, run_records}
 use Rattle.htl_machine.specs.Counts.{with_records}
 use Rattle.htl_machine.specs.Doing.{path_lines}
@@ -38,7 +36,7 @@ use Rattle.htl_machine.specs.Printing.{Prints, Counted}
 use Rattle.htl_machine.specs.Readiness.{desk_replay}
 use Rattle.htl_machine.specs.Recording.{Records}
 use Rattle.htl_machine.specs.RunLists.{turn_at}
-use Rattle.htl_machine.specs.StandingList.{node_by, turn_list, next_at}
+use Rattle.htl_machine.specs.StandingList.{instrs_by, node_by, turn_list, next_at}
 use Rattle.htl_machine.specs.Starting.{instrs_of}
 use Rattle.htl_machine.specs.Texts.{record_text, some_records}
 use Rattle.htl_machine.proofs.Closings.{reads_second}
@@ -60,31 +58,31 @@ pub record HasBegun (t : Tables) (lists : List (List SInstr)) (es : List Event) 
   pub past : (turn_at t lists es at).frame + (turn_at t lists es at).plan.first.time ≡ at
   pub told_at : DeskAt (turn_at t lists es at).plan (turn_at t lists es at).frame 0 (suc at - (turn_at t lists es at).frame) told
 
-module _ (t : Tables) (code : ECode) (o : Object) (es : List Event) (at : ℕ) (takes : List ℕ) (last : Option ListAt) (r : Round) (modes : List (Option ℕ)) (ms : modes ≡ modes_at t es at)
-    (h : IsToBegin t code (instrs_of o.schedules) es at takes last r) where
+module _ (t : Tables) (code : ECode) (ss : List Schedule) (es : List Event) (at : ℕ) (takes : List ℕ) (last : Option ListAt) (r : Round) (modes : List (Option ℕ)) (ms : modes ≡ modes_at t es at)
+    (h : IsToBegin t code (instrs_of ss) es at takes last r) where
   abbrev u : Turn
-  u = turn_at t (instrs_of o.schedules) es at
+  u = turn_at t (instrs_of ss) es at
 
   pub may_follow : CanFollow t modes takes at last r
   may_follow = subst (λ z. CanFollow t z takes at last r) (sym ms) h.follows
 
   module _ (list : Option ListAt) (is : list ≡ Some (next_at t modes at last)) where
-    list_there : list ≡ Some (turn_list (turn_at t (instrs_of o.schedules) es at))
+    list_there : list ≡ Some (turn_list (turn_at t (instrs_of ss) es at))
     list_there = is ∙ ap (λ z. Some (next_at t z at last)) ms ∙ ap (λ z. Some z) (sym h.next)
 
     -- its node has a schedule
-    pub node_there : IfSome list (λ l. l.node < length o.schedules)
-    node_there = subst (λ (p : Option ListAt). IfSome p (λ l. l.node < length o.schedules)) (sym list_there) (let same = length-map o.schedules (λ (s : Schedule). s.instrs) in omega (arith, h.known, same))
+    pub node_there : IfSome list (λ l. l.node < length ss)
+    node_there = subst (λ (p : Option ListAt). IfSome p (λ l. l.node < length ss)) (sym list_there) (let same = length-map ss (λ (s : Schedule). s.instrs) in omega (arith, h.known, same))
 
-    pub has_begun : (idle steps : List SInstr) (first told : Round) → steps ≡ schedule_by o idle list → first ≡ list_begun t modes takes at r → told ≡ desk_replay code (phase_path t code es at 3) first
-        → ((s : List SInstr) → Stands first s → Stands told s) → HasBegun t (instrs_of o.schedules) es at list steps first told
+    pub has_begun : (idle steps : List SInstr) (first told : Round) → steps ≡ instrs_by ss idle list → first ≡ list_begun t modes takes at r → told ≡ desk_replay code (phase_path t code es at 3) first
+        → ((s : List SInstr) → Stands first s → Stands told s) → HasBegun t (instrs_of ss) es at list steps first told
     has_begun idle steps first told by begun after keeps =
         let own : first ≡ list_begun t (modes_at t es at) takes at r = begun ∙ ap (λ z. list_begun t z takes at r) ms in
         let stands : Stands told u.plan.schedule = keeps u.plan.schedule (subst (λ d. Stands d u.plan.schedule) (sym own) h.begins.stands) in
         let is_told : told ≡ desk_replay code (phase_path t code es at 3) (list_begun t (modes_at t es at) takes at r) = after ∙ ap (desk_replay code (phase_path t code es at 3)) own in
         record {
           list_is = list_there;
-          same = h.code_is ∙ sym (by ∙ ap (schedule_by o idle) list_there);
+          same = h.code_is ∙ sym (by ∙ ap (instrs_by ss idle) list_there);
           jobs = ap (λ (d : Round). d.jobs) own ∙ h.begins.jobs;
           past = h.time;
           told_at =

@@ -19,6 +19,8 @@ use Rattle.htl_machine.specs.Instant.{IsReadyAt}
 use Rattle.htl_machine.specs.Leaving.{due_by}
 use Rattle.htl_machine.specs.Opening.{Opens, closing_text, beginning_text}
 use Rattle.htl_machine.specs.Programs.{lines_of, schedules_of}
+use Rattle.htl_machine.specs.Starting.{instrs_of}
+use Rattle.htl_walk.specs.declared.schedule.Schedule.{Schedule}
 use Rattle.htl_machine.specs.Texts.{record_text, list_texts, some_records}
 use Rattle.htl_machine.specs.Timing.{begins}
 use Rattle.htl_machine.proofs.After.{lines_are_composed, text_goes_on, text_begins}
@@ -69,11 +71,12 @@ module _ (m : Seen) (es : List Event) (now : ℕ) (accepted : IsAccepted m.objec
         → Puts {T = S} {E = F} w0 w f0 f (lines_of m.object es m.show now) result
     begun_closed w0 w1 w f0 f1 f x result b opens puts = closed (beginning_text t schedules es m.show now) w0 w1 w f0 f1 f x result (text_begins m es now accepted read u b) opens puts
 
-    -- the same, where the tables and the code are named otherwise
-    pub begun_closed_at : {T S E F : Type 0} (t1 : Tables) (code1 : ECode) (w0 w1 w : Option (List ℕ)) (f0 f1 f : ℕ) (x : T) (result : Result S F) → t1 ≡ m.object.tables → code1 ≡ m.object.ecode
-        → begins m.object.tables now ≡ true → Opens {T = T} {E = E} m.object.tables m.object.ecode es m.show (node_by m.list) m.held.desk steps now w0 w1 f0 f1 (Ok x)
-        → Puts {T = S} {E = F} w1 w f1 f (closing_text t1 code1 es m.show now ++ beginning_text t1 (schedules_of m.object) es m.show now) result → Puts {T = S} {E = F} w0 w f0 f (lines_of m.object es m.show now) result
-    begun_closed_at {S = S} {F = F} t1 code1 w0 w1 w f0 f1 f x result same same_code b opens puts =
+    -- the same, where the tables, the code and the schedules are named otherwise
+    pub begun_closed_at : {T S E F : Type 0} (t1 : Tables) (code1 : ECode) (ss : List Schedule) (w0 w1 w : Option (List ℕ)) (f0 f1 f : ℕ) (x : T) (result : Result S F) → t1 ≡ m.object.tables → code1 ≡ m.object.ecode
+        → ss ≡ m.object.schedules → begins m.object.tables now ≡ true → Opens {T = T} {E = E} m.object.tables m.object.ecode es m.show (node_by m.list) m.held.desk steps now w0 w1 f0 f1 (Ok x)
+        → Puts {T = S} {E = F} w1 w f1 f (closing_text t1 code1 es m.show now ++ beginning_text t1 (instrs_of ss) es m.show now) result → Puts {T = S} {E = F} w0 w f0 f (lines_of m.object es m.show now) result
+    begun_closed_at {S = S} {F = F} t1 code1 ss w0 w1 w f0 f1 f x result same same_code same_schedules b opens puts =
         begun_closed w0 w1 w f0 f1 f x result b opens
-        (subst (λ z. Puts {T = S} {E = F} w1 w f1 f (closing_text t z es m.show now ++ beginning_text t (schedules_of m.object) es m.show now) result) same_code
-        (subst (λ z. Puts {T = S} {E = F} w1 w f1 f (closing_text z code1 es m.show now ++ beginning_text z (schedules_of m.object) es m.show now) result) same puts))
+        (subst (λ z. Puts {T = S} {E = F} w1 w f1 f (closing_text t code es m.show now ++ beginning_text t (instrs_of z) es m.show now) result) same_schedules
+        (subst (λ z. Puts {T = S} {E = F} w1 w f1 f (closing_text t z es m.show now ++ beginning_text t (instrs_of ss) es m.show now) result) same_code
+        (subst (λ z. Puts {T = S} {E = F} w1 w f1 f (closing_text z code1 es m.show now ++ beginning_text z (instrs_of ss) es m.show now) result) same puts)))

@@ -3,6 +3,7 @@ use Rattle.std.proofs.Common.{◌≡◌, ◌≤◌, ℕ, true, List, [], ℤ, Op
 use Rattle.htl_model.specs.declared.event.Event.{Event}
 use Rattle.htl_model.specs.Tables.{Tables}
 use Rattle.htl_walk.specs.declared.schedule.SInstr.{SInstr}
+use Rattle.htl_walk.specs.declared.schedule.Schedule.{Schedule}
 use Rattle.htl_ecode.specs.declared.ecode.ECode.{ECode}
 use Rattle.htl_smach.specs.Rounds.{Round}
 use Rattle.htl_emach.specs.Calendars.{Standing}
@@ -17,6 +18,7 @@ use Rattle.htl_machine.specs.Opening.{IsOpened}
 use Rattle.htl_machine.specs.Timing.{begins}
 use Rattle.htl_machine.specs.ListBegun.{IsAtEnd}
 use Rattle.htl_machine.specs.Programs.{schedules_of}
+use Rattle.htl_machine.specs.Starting.{instrs_of}
 use Rattle.htl_machine.proofs.After.{opened_values, closed_values, to_begin}
 use Rattle.htl_machine.proofs.Asking.{noted_of, values_at, reads_at, begins_at}
 
@@ -37,9 +39,10 @@ to_close m es at t code same same_code ok later u steps r seen before d1 w3 open
       reads = reads_at m.object es at t code w3 same same_code (closed_values m es at ok later u steps r seen were d1 w3 opened);
     }
 
-pub to_close_and_begin : (m : Seen) (es : List Event) (at : ℕ) (t : Tables) (code : ECode) (takes : List ℕ) → t ≡ m.object.tables → code ≡ m.object.ecode
+pub to_close_and_begin : (m : Seen) (es : List Event) (at : ℕ) (t : Tables) (code : ECode) (ss : List Schedule) (takes : List ℕ) → t ≡ m.object.tables → code ≡ m.object.ecode → ss ≡ m.object.schedules
     → takes ≡ m.held.takes → IsAccepted m.object → m.held.reading ≤ at → IsUpTo m es at → begins m.object.tables at ≡ true → (d1 : Round) → IsAtEnd m.object.tables (schedules_of m.object) es at d1
     → (m1 : Standing) (w3 : Content) (values : List ℤ) (modes : List (Option ℕ))
-    → IsToClose t code es at m1 w3 values modes → IsToCloseAndBegin t code (schedules_of m.object) es at takes m.list d1 m1 w3 values modes
-to_close_and_begin m es at t code takes same same_code are ok later u b d1 ends m1 w3 values modes q =
-    record { closes = q; begins = begins_at m.object es at t code takes m.held.takes m.list d1 same same_code are (to_begin m es at ok later u d1 b ends) }
+    → IsToClose t code es at m1 w3 values modes → IsToCloseAndBegin t code (instrs_of ss) es at takes m.list d1 m1 w3 values modes
+to_close_and_begin m es at t code ss takes same same_code same_schedules are ok later u b d1 ends m1 w3 values modes q =
+    subst (λ z. IsToCloseAndBegin t code (instrs_of z) es at takes m.list d1 m1 w3 values modes) (sym same_schedules)
+    (record { closes = q; begins = begins_at m.object es at t code takes m.held.takes m.list d1 same same_code are (to_begin m es at ok later u d1 b ends) })

@@ -7,10 +7,10 @@ seen_in m =
     record {
       object = m.loaded.now;
       show = m.show;
-      held = record { spent = m.spent; reading = m.reading; shows = m.sensors.shows; takes = m.takes; world = m.world; desk = m.desk };
-      standing = m.emach;
+      held = record { spent = m.spent; reading = m.reading; shows = m.sensors.shows; takes = m.takes; world = m.machines.works.world; desk = m.machines.works.desk };
+      standing = m.machines.emach;
       list = m.path.list;
-      jobs = m.tally.jobs;
-      e = m.tally.e;
-      s = m.tally.s;
+      jobs = m.machines.works.tally.jobs;
+      e = m.machines.works.tally.e;
+      s = m.machines.works.tally.s;
     }

@@ -24,7 +24,7 @@ use Rattle.htl_machine.specs.Programs.{schedules_of, lines_of}
 use Rattle.htl_machine.specs.ListTurns.{Turn}
 use Rattle.htl_machine.specs.Plans.{finished_before}
 use Rattle.htl_machine.specs.RunLists.{turn_at}
-use Rattle.htl_machine.specs.StandingList.{turn_list}
+use Rattle.htl_machine.specs.StandingList.{instrs_by, turn_list}
 use Rattle.htl_machine.specs.Values.{ValuesFollow}
 use Rattle.htl_machine.specs.Follows.{Held, reading_of, DeskFollows}
 use Rattle.htl_machine.specs.Lines.{e_done, jobs_done, s_done}
@@ -44,10 +44,9 @@ pub record Seen : Type 0 where
   pub e : ℕ
   pub s : ℕ
 
--- the instructions of the node whose list stands; where there is none, these
+-- the instructions of the list that stands; where there is none, these
 abbrev pub schedule_by : Object → List SInstr → Option ListAt → List SInstr
-schedule_by o idle (Some l) = get_or (schedules_of o) l.node []
-schedule_by o idle None = idle
+schedule_by o idle list = instrs_by o.schedules idle list
 
 -- before instant 0, with these values and buffers and this E machine
 abbrev pub first_seen : Object → Shown → Content → Standing → Seen

@@ -1,9 +1,12 @@
 -- The list that stands, as the code keeps it, and the one that comes after it.
-use Rattle.std.specs.Prelude.{ℕ, List, Option, Some, None}
+use Rattle.std.specs.Prelude.{ℕ, List, [], get_or, Option, Some, None}
 use Rattle.htl_model.specs.Tables.{Tables}
+use Rattle.htl_walk.specs.declared.schedule.SInstr.{SInstr}
+use Rattle.htl_walk.specs.declared.schedule.Schedule.{Schedule}
 use Rattle.htl_machine.specs.declared.numbering.ListAt.{ListAt}
 use Rattle.htl_machine.specs.ListTurns.{Turn}
 use Rattle.htl_machine.specs.NextLists.{next_list, next_node}
+use Rattle.htl_machine.specs.Starting.{instrs_of}
 
 -- its node, and its number in the frame; 0 where none stands
 abbrev pub node_by : Option ListAt → ℕ
@@ -13,6 +16,11 @@ node_by None = 0
 abbrev pub number_by : Option ListAt → ℕ
 number_by (Some l) = l.number
 number_by None = 0
+
+-- the instructions of its node; where none stands, these
+abbrev pub instrs_by : List Schedule → List SInstr → Option ListAt → List SInstr
+instrs_by schedules idle (Some l) = get_or (instrs_of schedules) l.node []
+instrs_by schedules idle None = idle
 
 -- that of a turn
 abbrev pub turn_list : Turn → ListAt

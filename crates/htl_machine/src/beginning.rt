@@ -22,111 +22,67 @@ ghost use Rattle.htl_machine.specs.Starting.{instrs_of};
 ghost use Rattle.htl_machine.specs.Opening.{closing_text, first_records, beginning_text};
 
 use crate::close::read_instant;
-use crate::noted::Noted;
 use crate::path::Path;
 use crate::steps::do_instrs;
-use crate::tally::Tally;
 use crate::tellings::tell_records;
+use crate::works::{Machines, Program, StandingList};
 use htl_base::Time;
-use htl_console::Shown;
-use htl_ecode::ECode;
 use htl_edge::{Failed, Sink};
-use htl_emach::{EMach, World};
-use htl_load::Loaded;
-use htl_model::Tables;
-use htl_smach::SMach;
 
 /// The last part of an instant at which a list begins: the switches; the beginning of the list, by the modes in which the modules
 /// then are; the reads with the releases; the lines of what changed; and the records of the list that are left at the instant
 /// itself. After `Failed` a prefix of the lines was written.
 pub fn close_and_begin<W: Sink>(
     sink: &mut W,
-    m: &mut EMach,
-    world: &mut World,
-    desk: &mut SMach,
-    tally: &mut Tally,
+    machines: &mut Machines,
+    program: &Program<'_>,
     path: &mut Path,
-    t: &Tables,
-    code: &ECode,
-    l: &Loaded,
-    show: Shown,
     takes: &[Time],
-    noted: &mut Noted,
     at: Time,
 ) -> Result<(), Failed>
-    requires form { KeptApart t.now 16 }
-    requires limit { frame_limit t.now ≡ None }
-    requires spells { Spells t.now code.now }
+    requires form { KeptApart program.now.tables.now 16 }
+    requires limit { frame_limit program.now.tables.now ≡ None }
+    requires spells { Spells program.now.tables.now program.now.code.now }
     requires at { at ≤ 1000000000 }
-    requires instrs { length code.now.instrs ≤ 4294967295 }
-    requires code { FitPlaces t.now }
-    requires shaped { IsShaped t.now world.old }
-    requires safe { StandsSafely t.now code.now m.old }
-    requires path { IsPath t.now path.old desk.old.jobs }
-    requires over { desk.old.running ≡ false }
-    requires few { length noted.old.values ≡ length t.now.comms }
-    requires modules { length noted.old.modes ≡ length t.now.modules }
-    requires marked { MarksChanges noted.old world.old.values m.old.calendar.modes }
-    requires begins { (es : List Event) × IsToCloseAndBegin t.now code.now (instrs_of l.now.schedules) es at takes.now path.old.list desk.old m.old world.old noted.old.values noted.old.modes }
-    ensures text { (es : List Event) → IsToCloseAndBegin t.now code.now (instrs_of l.now.schedules) es at takes.now path.old.list desk.old m.old world.old noted.old.values noted.old.modes → Puts (W.written sink.old) (W.written sink.new) (W.faults sink.old) (W.faults sink.new) (closing_text t.now code.now es show at ++ beginning_text t.now (instrs_of l.now.schedules) es show at) result }
-    ensures counts { (es : List Event) → IsToCloseAndBegin t.now code.now (instrs_of l.now.schedules) es at takes.now path.old.list desk.old m.old world.old noted.old.values noted.old.modes → OnOk result (tally.new ≡ with_records (first_records t.now (instrs_of l.now.schedules) es at) (with_instrs (length (phase_path t.now code.now es at 3)) (with_instrs (length (phase_path t.now code.now es at 2)) tally.old))) }
-    ensures world { (es : List Event) → IsToCloseAndBegin t.now code.now (instrs_of l.now.schedules) es at takes.now path.old.list desk.old m.old world.old noted.old.values noted.old.modes → OnOk result (world.new ≡ replay t.now code.now (phase_path t.now code.now es at 3) (replay t.now code.now (phase_path t.now code.now es at 2) world.old)) }
-    ensures marked { OnOk result (MarksChanges noted.new world.new.values m.new.calendar.modes) }
-    ensures sensors { OnOk result (SensorsStay t.now world.old.values world.new.values) }
-    ensures safe { OnOk result (StandsSafely t.now code.now m.new) }
-    ensures shaped { OnOk result (IsShaped t.now world.new) }
-    ensures desk { (es : List Event) → IsToCloseAndBegin t.now code.now (instrs_of l.now.schedules) es at takes.now path.old.list desk.old m.old world.old noted.old.values noted.old.modes → OnOk result (let u = turn_at t.now (instrs_of l.now.schedules) es at in DeskAt u.plan u.frame (due_by u.plan u.frame at) (suc at - u.frame) desk.new) }
-    ensures path { OnOk result (IsPath t.now path.new desk.new.jobs) }
+    requires instrs { length program.now.code.now.instrs ≤ 4294967295 }
+    requires code { FitPlaces program.now.tables.now }
+    requires shaped { IsShaped program.now.tables.now machines.old.works.world }
+    requires safe { StandsSafely program.now.tables.now program.now.code.now machines.old.emach }
+    requires path { IsPath program.now.tables.now path.old machines.old.works.desk.jobs }
+    requires over { machines.old.works.desk.running ≡ false }
+    requires few { length machines.old.noted.values ≡ length program.now.tables.now.comms }
+    requires modules { length machines.old.noted.modes ≡ length program.now.tables.now.modules }
+    requires marked { MarksChanges machines.old.noted machines.old.works.world.values machines.old.emach.calendar.modes }
+    requires begins { (es : List Event) × IsToCloseAndBegin program.now.tables.now program.now.code.now (instrs_of program.now.schedules.now) es at takes.now path.old.list machines.old.works.desk machines.old.emach machines.old.works.world machines.old.noted.values machines.old.noted.modes }
+    ensures text { (es : List Event) → IsToCloseAndBegin program.now.tables.now program.now.code.now (instrs_of program.now.schedules.now) es at takes.now path.old.list machines.old.works.desk machines.old.emach machines.old.works.world machines.old.noted.values machines.old.noted.modes → Puts (W.written sink.old) (W.written sink.new) (W.faults sink.old) (W.faults sink.new) (closing_text program.now.tables.now program.now.code.now es program.now.show at ++ beginning_text program.now.tables.now (instrs_of program.now.schedules.now) es program.now.show at) result }
+    ensures counts { (es : List Event) → IsToCloseAndBegin program.now.tables.now program.now.code.now (instrs_of program.now.schedules.now) es at takes.now path.old.list machines.old.works.desk machines.old.emach machines.old.works.world machines.old.noted.values machines.old.noted.modes → OnOk result (machines.new.works.tally ≡ with_records (first_records program.now.tables.now (instrs_of program.now.schedules.now) es at) (with_instrs (length (phase_path program.now.tables.now program.now.code.now es at 3)) (with_instrs (length (phase_path program.now.tables.now program.now.code.now es at 2)) machines.old.works.tally))) }
+    ensures world { (es : List Event) → IsToCloseAndBegin program.now.tables.now program.now.code.now (instrs_of program.now.schedules.now) es at takes.now path.old.list machines.old.works.desk machines.old.emach machines.old.works.world machines.old.noted.values machines.old.noted.modes → OnOk result (machines.new.works.world ≡ replay program.now.tables.now program.now.code.now (phase_path program.now.tables.now program.now.code.now es at 3) (replay program.now.tables.now program.now.code.now (phase_path program.now.tables.now program.now.code.now es at 2) machines.old.works.world)) }
+    ensures marked { OnOk result (MarksChanges machines.new.noted machines.new.works.world.values machines.new.emach.calendar.modes) }
+    ensures sensors { OnOk result (SensorsStay program.now.tables.now machines.old.works.world.values machines.new.works.world.values) }
+    ensures safe { OnOk result (StandsSafely program.now.tables.now program.now.code.now machines.new.emach) }
+    ensures shaped { OnOk result (IsShaped program.now.tables.now machines.new.works.world) }
+    ensures desk { (es : List Event) → IsToCloseAndBegin program.now.tables.now program.now.code.now (instrs_of program.now.schedules.now) es at takes.now path.old.list machines.old.works.desk machines.old.emach machines.old.works.world machines.old.noted.values machines.old.noted.modes → OnOk result (let u = turn_at program.now.tables.now (instrs_of program.now.schedules.now) es at in DeskAt u.plan u.frame (due_by u.plan u.frame at) (suc at - u.frame) machines.new.works.desk) }
+    ensures path { OnOk result (IsPath program.now.tables.now path.new machines.new.works.desk.jobs) }
     ensures few { path.new.count ≤ 128 }
-    ensures list { (es : List Event) → IsToCloseAndBegin t.now code.now (instrs_of l.now.schedules) es at takes.now path.old.list desk.old m.old world.old noted.old.values noted.old.modes → OnOk result (path.new.list ≡ Some (turn_list (turn_at t.now (instrs_of l.now.schedules) es at))) }
+    ensures list { (es : List Event) → IsToCloseAndBegin program.now.tables.now program.now.code.now (instrs_of program.now.schedules.now) es at takes.now path.old.list machines.old.works.desk machines.old.emach machines.old.works.world machines.old.noted.values machines.old.noted.modes → OnOk result (path.new.list ≡ Some (turn_list (turn_at program.now.tables.now (instrs_of program.now.schedules.now) es at))) }
     ensures idle { path.new.idle ≡ path.old.idle }
-    ensures reads { (es : List Event) → IsToCloseAndBegin t.now code.now (instrs_of l.now.schedules) es at takes.now path.old.list desk.old m.old world.old noted.old.values noted.old.modes → OnOk result (Onward t.now code.now es at 3 m.new (phase_path t.now code.now es at 3) [] None) }
+    ensures reads { (es : List Event) → IsToCloseAndBegin program.now.tables.now program.now.code.now (instrs_of program.now.schedules.now) es at takes.now path.old.list machines.old.works.desk machines.old.emach machines.old.works.world machines.old.noted.values machines.old.noted.modes → OnOk result (Onward program.now.tables.now program.now.code.now es at 3 machines.new.emach (phase_path program.now.tables.now program.now.code.now es at 3) [] None) }
 {
+    let t = program.tables;
     let _parts = t.parts();
-    if let Err(failed) = do_instrs(
-        sink,
-        m,
-        world,
-        desk,
-        tally,
-        noted,
-        t,
-        code,
-        path.jobs(),
-        show,
-        2,
-        at,
-    ) {
+    if let Err(failed) = do_instrs(sink, machines, program, path.jobs(), 2, at) {
         return Err(failed);
     }
-    path.begin(desk, t, m, takes, at);
-    if let Err(failed) = read_instant(
-        sink,
-        m,
-        world,
-        desk,
-        tally,
-        t,
-        code,
-        path.jobs(),
-        show,
-        noted,
-        at,
-    ) {
+    path.begin(&mut machines.works.desk, t, &machines.emach, takes, at);
+    if let Err(failed) = read_instant(sink, machines, program, path.jobs(), at) {
         return Err(failed);
     }
-    if let Err(failed) = tell_records(
-        sink,
-        world,
-        desk,
-        tally,
-        t,
-        path.jobs(),
-        path.schedule(l),
-        path.node(),
-        show,
-        at,
-    ) {
+    let list = StandingList {
+        jobs: path.jobs(),
+        schedule: path.schedule(program.schedules),
+        node: path.node(),
+    };
+    if let Err(failed) = tell_records(sink, &mut machines.works, program, &list, at) {
         return Err(failed);
     }
     Ok(())

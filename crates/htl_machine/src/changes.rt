@@ -10,8 +10,9 @@ ghost use Rattle.htl_machine.specs.Marks.{is_marked};
 ghost use Rattle.htl_machine.specs.Noting.{MarksChanges};
 
 use crate::noted::Noted;
+use crate::works::{Machines, Program};
 use htl_base::{Time, Value};
-use htl_console::{Shown, line_m, line_v};
+use htl_console::{line_m, line_v};
 use htl_edge::{Failed, Sink};
 use htl_emach::{EMach, World};
 use htl_model::Tables;
@@ -148,25 +149,23 @@ fn put_modes<W: Sink>(
 /// Writes the lines of the values and modes that are others than before.
 pub fn put_changes<W: Sink>(
     sink: &mut W,
-    t: &Tables,
-    show: Shown,
+    machines: &Machines,
+    program: &Program<'_>,
     at: Time,
-    noted: &Noted,
-    world: &World,
-    m: &EMach,
 ) -> Result<(), Failed>
-    requires values { length noted.now.values ≡ length t.now.comms }
-    requires modes { length noted.now.modes ≡ length t.now.modules }
-    requires new { length world.now.values ≡ length t.now.comms }
-    requires known { (k : ℕ) → IfSome (list_at m.now.calendar.modes k) (λ q. q < length t.now.modes) }
-    requires marked { MarksChanges noted.now world.now.values m.now.calendar.modes }
-    ensures { Puts (W.written sink.old) (W.written sink.new) (W.faults sink.old) (W.faults sink.new) (change_lines t.now show at noted.now.values world.now.values noted.now.modes m.now.calendar.modes) result }
+    requires values { length machines.now.noted.values ≡ length program.now.tables.now.comms }
+    requires modes { length machines.now.noted.modes ≡ length program.now.tables.now.modules }
+    requires new { length machines.now.works.world.values ≡ length program.now.tables.now.comms }
+    requires known { (k : ℕ) → IfSome (list_at machines.now.emach.calendar.modes k) (λ q. q < length program.now.tables.now.modes) }
+    requires marked { MarksChanges machines.now.noted machines.now.works.world.values machines.now.emach.calendar.modes }
+    ensures { Puts (W.written sink.old) (W.written sink.new) (W.faults sink.old) (W.faults sink.new) (change_lines program.now.tables.now program.now.show at machines.now.noted.values machines.now.works.world.values machines.now.noted.modes machines.now.emach.calendar.modes) result }
 {
-    if !show.values() {
+    if !program.show.values() {
         return Ok(());
     }
-    if let Err(failed) = put_values(sink, t, at, noted, world) {
+    let noted = &machines.noted;
+    if let Err(failed) = put_values(sink, program.tables, at, noted, &machines.works.world) {
         return Err(failed);
     }
-    put_modes(sink, t, at, noted, m)
+    put_modes(sink, program.tables, at, noted, &machines.emach)
 }

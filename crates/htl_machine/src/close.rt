@@ -18,108 +18,86 @@ ghost use Rattle.htl_machine.specs.Counts.{with_instrs};
 ghost use Rattle.htl_machine.specs.Opening.{reading_text, closing_text};
 
 use crate::changes::put_changes;
-use crate::noted::Noted;
 use crate::steps::do_instrs;
-use crate::tally::Tally;
+use crate::works::{Machines, Program};
 use htl_base::Time;
-use htl_console::Shown;
-use htl_ecode::ECode;
 use htl_edge::{Failed, Sink};
-use htl_emach::{EMach, World};
-use htl_model::Tables;
-use htl_smach::SMach;
 use htl_walk::Job;
 
 /// The reads of an instant once its switches are done, with the releases, and the lines of what changed. After `Failed` a
 /// prefix of the lines was written.
 pub fn read_instant<W: Sink>(
     sink: &mut W,
-    m: &mut EMach,
-    world: &mut World,
-    desk: &mut SMach,
-    tally: &mut Tally,
-    t: &Tables,
-    code: &ECode,
+    machines: &mut Machines,
+    program: &Program<'_>,
     jobs: &[Job],
-    show: Shown,
-    noted: &mut Noted,
     at: Time,
 ) -> Result<(), Failed>
-    requires form { KeptApart t.now 12 }
-    requires spells { Spells t.now code.now }
+    requires form { KeptApart program.now.tables.now 12 }
+    requires spells { Spells program.now.tables.now program.now.code.now }
     requires at { at ≤ 1000000000 }
-    requires instrs { length code.now.instrs ≤ 4294967295 }
-    requires code { FitPlaces t.now }
-    requires shaped { IsShaped t.now world.old }
-    requires safe { StandsSafely t.now code.now m.old }
-    requires jobs { desk.old.jobs ≡ jobs.now }
-    requires few { length noted.old.values ≡ length t.now.comms }
-    requires modules { length noted.old.modes ≡ length t.now.modules }
-    requires marked { MarksChanges noted.old world.old.values m.old.calendar.modes }
-    requires reads { (es : List Event) × IsToRead t.now code.now es at m.old world.old noted.old.values noted.old.modes }
-    ensures text { (es : List Event) → IsToRead t.now code.now es at m.old world.old noted.old.values noted.old.modes → Puts (W.written sink.old) (W.written sink.new) (W.faults sink.old) (W.faults sink.new) (reading_text t.now code.now es show at) result }
-    ensures counts { (es : List Event) → IsToRead t.now code.now es at m.old world.old noted.old.values noted.old.modes → OnOk result (tally.new ≡ with_instrs (length (phase_path t.now code.now es at 3)) tally.old) }
-    ensures world { (es : List Event) → IsToRead t.now code.now es at m.old world.old noted.old.values noted.old.modes → OnOk result (world.new ≡ replay t.now code.now (phase_path t.now code.now es at 3) world.old) }
-    ensures marked { OnOk result (MarksChanges noted.new world.new.values m.new.calendar.modes) }
-    ensures sensors { OnOk result (SensorsStay t.now world.old.values world.new.values) }
-    ensures safe { OnOk result (StandsSafely t.now code.now m.new) }
-    ensures shaped { OnOk result (IsShaped t.now world.new) }
-    ensures desk { (es : List Event) → IsToRead t.now code.now es at m.old world.old noted.old.values noted.old.modes → OnOk result (desk.new ≡ desk_replay code.now (phase_path t.now code.now es at 3) desk.old) }
-    ensures jobs { OnOk result (desk.new.jobs ≡ desk.old.jobs) }
-    ensures stands { OnOk result ((s : List Instr) → Stands desk.old s → Stands desk.new s) }
-    ensures reads { (es : List Event) → IsToRead t.now code.now es at m.old world.old noted.old.values noted.old.modes → OnOk result (Onward t.now code.now es at 3 m.new (phase_path t.now code.now es at 3) [] None) }
+    requires instrs { length program.now.code.now.instrs ≤ 4294967295 }
+    requires code { FitPlaces program.now.tables.now }
+    requires shaped { IsShaped program.now.tables.now machines.old.works.world }
+    requires safe { StandsSafely program.now.tables.now program.now.code.now machines.old.emach }
+    requires jobs { machines.old.works.desk.jobs ≡ jobs.now }
+    requires few { length machines.old.noted.values ≡ length program.now.tables.now.comms }
+    requires modules { length machines.old.noted.modes ≡ length program.now.tables.now.modules }
+    requires marked { MarksChanges machines.old.noted machines.old.works.world.values machines.old.emach.calendar.modes }
+    requires reads { (es : List Event) × IsToRead program.now.tables.now program.now.code.now es at machines.old.emach machines.old.works.world machines.old.noted.values machines.old.noted.modes }
+    ensures text { (es : List Event) → IsToRead program.now.tables.now program.now.code.now es at machines.old.emach machines.old.works.world machines.old.noted.values machines.old.noted.modes → Puts (W.written sink.old) (W.written sink.new) (W.faults sink.old) (W.faults sink.new) (reading_text program.now.tables.now program.now.code.now es program.now.show at) result }
+    ensures counts { (es : List Event) → IsToRead program.now.tables.now program.now.code.now es at machines.old.emach machines.old.works.world machines.old.noted.values machines.old.noted.modes → OnOk result (machines.new.works.tally ≡ with_instrs (length (phase_path program.now.tables.now program.now.code.now es at 3)) machines.old.works.tally) }
+    ensures world { (es : List Event) → IsToRead program.now.tables.now program.now.code.now es at machines.old.emach machines.old.works.world machines.old.noted.values machines.old.noted.modes → OnOk result (machines.new.works.world ≡ replay program.now.tables.now program.now.code.now (phase_path program.now.tables.now program.now.code.now es at 3) machines.old.works.world) }
+    ensures marked { OnOk result (MarksChanges machines.new.noted machines.new.works.world.values machines.new.emach.calendar.modes) }
+    ensures sensors { OnOk result (SensorsStay program.now.tables.now machines.old.works.world.values machines.new.works.world.values) }
+    ensures safe { OnOk result (StandsSafely program.now.tables.now program.now.code.now machines.new.emach) }
+    ensures shaped { OnOk result (IsShaped program.now.tables.now machines.new.works.world) }
+    ensures desk { (es : List Event) → IsToRead program.now.tables.now program.now.code.now es at machines.old.emach machines.old.works.world machines.old.noted.values machines.old.noted.modes → OnOk result (machines.new.works.desk ≡ desk_replay program.now.code.now (phase_path program.now.tables.now program.now.code.now es at 3) machines.old.works.desk) }
+    ensures jobs { OnOk result (machines.new.works.desk.jobs ≡ machines.old.works.desk.jobs) }
+    ensures stands { OnOk result ((s : List Instr) → Stands machines.old.works.desk s → Stands machines.new.works.desk s) }
+    ensures reads { (es : List Event) → IsToRead program.now.tables.now program.now.code.now es at machines.old.emach machines.old.works.world machines.old.noted.values machines.old.noted.modes → OnOk result (Onward program.now.tables.now program.now.code.now es at 3 machines.new.emach (phase_path program.now.tables.now program.now.code.now es at 3) [] None) }
 {
-    let _parts = t.parts();
-    if let Err(failed) = do_instrs(
-        sink, m, world, desk, tally, noted, t, code, jobs, show, 3, at,
-    ) {
+    let _parts = program.tables.parts();
+    if let Err(failed) = do_instrs(sink, machines, program, jobs, 3, at) {
         return Err(failed);
     }
-    put_changes(sink, t, show, at, noted, world, m)
+    put_changes(sink, machines, program, at)
 }
 
 /// The last part of an instant at which no list begins: switches, reads with the releases, and the lines of what changed.
 /// After `Failed` a prefix of the lines was written.
 pub fn close_instant<W: Sink>(
     sink: &mut W,
-    m: &mut EMach,
-    world: &mut World,
-    desk: &mut SMach,
-    tally: &mut Tally,
-    t: &Tables,
-    code: &ECode,
+    machines: &mut Machines,
+    program: &Program<'_>,
     jobs: &[Job],
-    show: Shown,
-    noted: &mut Noted,
     at: Time,
 ) -> Result<(), Failed>
-    requires form { KeptApart t.now 12 }
-    requires spells { Spells t.now code.now }
+    requires form { KeptApart program.now.tables.now 12 }
+    requires spells { Spells program.now.tables.now program.now.code.now }
     requires at { at ≤ 1000000000 }
-    requires instrs { length code.now.instrs ≤ 4294967295 }
-    requires code { FitPlaces t.now }
-    requires shaped { IsShaped t.now world.old }
-    requires safe { StandsSafely t.now code.now m.old }
-    requires jobs { desk.old.jobs ≡ jobs.now }
-    requires few { length noted.old.values ≡ length t.now.comms }
-    requires modules { length noted.old.modes ≡ length t.now.modules }
-    requires marked { MarksChanges noted.old world.old.values m.old.calendar.modes }
-    requires closes { (es : List Event) × IsToClose t.now code.now es at m.old world.old noted.old.values noted.old.modes }
-    ensures text { (es : List Event) → IsToClose t.now code.now es at m.old world.old noted.old.values noted.old.modes → Puts (W.written sink.old) (W.written sink.new) (W.faults sink.old) (W.faults sink.new) (closing_text t.now code.now es show at) result }
-    ensures counts { (es : List Event) → IsToClose t.now code.now es at m.old world.old noted.old.values noted.old.modes → OnOk result (tally.new ≡ with_instrs (length (phase_path t.now code.now es at 3)) (with_instrs (length (phase_path t.now code.now es at 2)) tally.old)) }
-    ensures world { (es : List Event) → IsToClose t.now code.now es at m.old world.old noted.old.values noted.old.modes → OnOk result (world.new ≡ replay t.now code.now (phase_path t.now code.now es at 3) (replay t.now code.now (phase_path t.now code.now es at 2) world.old)) }
-    ensures marked { OnOk result (MarksChanges noted.new world.new.values m.new.calendar.modes) }
-    ensures sensors { OnOk result (SensorsStay t.now world.old.values world.new.values) }
-    ensures safe { OnOk result (StandsSafely t.now code.now m.new) }
-    ensures shaped { OnOk result (IsShaped t.now world.new) }
-    ensures desk { (es : List Event) → IsToClose t.now code.now es at m.old world.old noted.old.values noted.old.modes → OnOk result (desk.new ≡ desk_replay code.now (phase_path t.now code.now es at 3) desk.old) }
-    ensures stands { OnOk result ((s : List Instr) → Stands desk.old s → Stands desk.new s) }
-    ensures reads { (es : List Event) → IsToClose t.now code.now es at m.old world.old noted.old.values noted.old.modes → OnOk result (Onward t.now code.now es at 3 m.new (phase_path t.now code.now es at 3) [] None) }
+    requires instrs { length program.now.code.now.instrs ≤ 4294967295 }
+    requires code { FitPlaces program.now.tables.now }
+    requires shaped { IsShaped program.now.tables.now machines.old.works.world }
+    requires safe { StandsSafely program.now.tables.now program.now.code.now machines.old.emach }
+    requires jobs { machines.old.works.desk.jobs ≡ jobs.now }
+    requires few { length machines.old.noted.values ≡ length program.now.tables.now.comms }
+    requires modules { length machines.old.noted.modes ≡ length program.now.tables.now.modules }
+    requires marked { MarksChanges machines.old.noted machines.old.works.world.values machines.old.emach.calendar.modes }
+    requires closes { (es : List Event) × IsToClose program.now.tables.now program.now.code.now es at machines.old.emach machines.old.works.world machines.old.noted.values machines.old.noted.modes }
+    ensures text { (es : List Event) → IsToClose program.now.tables.now program.now.code.now es at machines.old.emach machines.old.works.world machines.old.noted.values machines.old.noted.modes → Puts (W.written sink.old) (W.written sink.new) (W.faults sink.old) (W.faults sink.new) (closing_text program.now.tables.now program.now.code.now es program.now.show at) result }
+    ensures counts { (es : List Event) → IsToClose program.now.tables.now program.now.code.now es at machines.old.emach machines.old.works.world machines.old.noted.values machines.old.noted.modes → OnOk result (machines.new.works.tally ≡ with_instrs (length (phase_path program.now.tables.now program.now.code.now es at 3)) (with_instrs (length (phase_path program.now.tables.now program.now.code.now es at 2)) machines.old.works.tally)) }
+    ensures world { (es : List Event) → IsToClose program.now.tables.now program.now.code.now es at machines.old.emach machines.old.works.world machines.old.noted.values machines.old.noted.modes → OnOk result (machines.new.works.world ≡ replay program.now.tables.now program.now.code.now (phase_path program.now.tables.now program.now.code.now es at 3) (replay program.now.tables.now program.now.code.now (phase_path program.now.tables.now program.now.code.now es at 2) machines.old.works.world)) }
+    ensures marked { OnOk result (MarksChanges machines.new.noted machines.new.works.world.values machines.new.emach.calendar.modes) }
+    ensures sensors { OnOk result (SensorsStay program.now.tables.now machines.old.works.world.values machines.new.works.world.values) }
+    ensures safe { OnOk result (StandsSafely program.now.tables.now program.now.code.now machines.new.emach) }
+    ensures shaped { OnOk result (IsShaped program.now.tables.now machines.new.works.world) }
+    ensures desk { (es : List Event) → IsToClose program.now.tables.now program.now.code.now es at machines.old.emach machines.old.works.world machines.old.noted.values machines.old.noted.modes → OnOk result (machines.new.works.desk ≡ desk_replay program.now.code.now (phase_path program.now.tables.now program.now.code.now es at 3) machines.old.works.desk) }
+    ensures stands { OnOk result ((s : List Instr) → Stands machines.old.works.desk s → Stands machines.new.works.desk s) }
+    ensures reads { (es : List Event) → IsToClose program.now.tables.now program.now.code.now es at machines.old.emach machines.old.works.world machines.old.noted.values machines.old.noted.modes → OnOk result (Onward program.now.tables.now program.now.code.now es at 3 machines.new.emach (phase_path program.now.tables.now program.now.code.now es at 3) [] None) }
 {
-    if let Err(failed) = do_instrs(
-        sink, m, world, desk, tally, noted, t, code, jobs, show, 2, at,
-    ) {
+    if let Err(failed) = do_instrs(sink, machines, program, jobs, 2, at) {
         return Err(failed);
     }
-    read_instant(sink, m, world, desk, tally, t, code, jobs, show, noted, at)
+    read_instant(sink, machines, program, jobs, at)
 }

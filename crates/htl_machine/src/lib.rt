@@ -20,6 +20,7 @@ mod tally;
 mod tell;
 mod tellings;
 mod timing;
+mod works;
 
 pub use machine::{Machine, Totals};
 pub use tally::Tally;

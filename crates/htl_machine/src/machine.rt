@@ -21,6 +21,7 @@ use crate::path::Path;
 use crate::sensors::Sensors;
 use crate::tally::Tally;
 use crate::timing::round_begins;
+use crate::works::{Machines, Program, StandingList, Works};
 use htl_base::{Memory, Seq, Time, Value};
 use htl_console::Shown;
 use htl_edge::{Failed, Sink};
@@ -54,14 +55,9 @@ pub struct Machine<'a> {
     reading: Time,
     sensors: Sensors,
     takes: Seq<Time>,
-    world: World,
-    emach: EMach,
-    desk: SMach,
+    machines: Machines,
     // The list that stands, and the jobs of the frame so far.
     path: Path,
-    tally: Tally,
-    // Before the instant that is being done.
-    noted: Noted,
 }
 
 impl<'a> Model for Machine<'a> {
@@ -74,9 +70,9 @@ impl<'a> Model for Machine<'a> {
 
     ghost coded = { Prim.hlevel (codes, object_row.the_row.coded) };
 
-    ghost view = { λ m. record { object = m.loaded.now; show = m.show; held = record { spent = m.spent; reading = m.reading; shows = m.sensors.shows; takes = m.takes; world = m.world; desk = m.desk }; standing = m.emach; list = m.path.list; jobs = m.tally.jobs; e = m.tally.e; s = m.tally.s } };
+    ghost view = { λ m. record { object = m.loaded.now; show = m.show; held = record { spent = m.spent; reading = m.reading; shows = m.sensors.shows; takes = m.takes; world = m.machines.works.world; desk = m.machines.works.desk }; standing = m.machines.emach; list = m.path.list; jobs = m.machines.works.tally.jobs; e = m.machines.works.tally.e; s = m.machines.works.tally.s } };
 
-    ghost invariant = { λ m. IsFitted m.loaded.now m.spent m.sensors m.takes m.noted m.world m.emach m.path m.desk };
+    ghost invariant = { λ m. IsFitted m.loaded.now m.spent m.sensors m.takes m.machines.noted m.machines.works.world m.machines.emach m.path m.machines.works.desk };
 }
 
 impl<'a> Machine<'a> {
@@ -118,16 +114,20 @@ impl<'a> Machine<'a> {
             reading: 0,
             sensors: Sensors::new(shows),
             takes: Seq::new(takes),
-            world,
-            emach,
-            desk: SMach::new(),
-            path,
-            tally: Tally {
-                jobs: 0,
-                e: 0,
-                s: 0,
+            machines: Machines {
+                emach,
+                works: Works {
+                    desk: SMach::new(),
+                    world,
+                    tally: Tally {
+                        jobs: 0,
+                        e: 0,
+                        s: 0,
+                    },
+                },
+                noted: Noted::new(values, modes),
             },
-            noted: Noted::new(values, modes),
+            path,
         })
     }
 
@@ -139,7 +139,7 @@ impl<'a> Machine<'a> {
         ensures follows { (es : List Told) → Follows self.old es → Follows self.new (es ++ event.Sense comm x ∷ []) }
         ensures seen { self.new ≡ record self.old { held = shown_as comm x self.old.held } }
     {
-        let has = self.world.value(comm);
+        let has = self.machines.works.world.value(comm);
         self.sensors.sense(comm, x, has);
     }
 
@@ -152,7 +152,7 @@ impl<'a> Machine<'a> {
         ensures seen { self.new ≡ record self.old { held = taken_as inv length self.old.held } }
     {
         self.takes.set(inv as usize, length);
-        take(&mut self.desk, self.path.jobs(), inv, length);
+        take(&mut self.machines.works.desk, self.path.jobs(), inv, length);
     }
 
     /// Does all instants before `to`, in ticks, writes their lines, and makes `to` the reading. The machine isn't spent, and `to` is
@@ -236,9 +236,13 @@ impl<'a> Machine<'a> {
         if from == 0 {
             return 0;
         }
-        let shown = self.sensors.next(&self.world, l.tables(), from, to);
-        let triggered = sooner(self.emach.next(), from, shown);
-        sooner(self.desk.next(self.path.schedule(l)), from, triggered)
+        let machines = &self.machines;
+        let shown = self
+            .sensors
+            .next(&machines.works.world, l.tables(), from, to);
+        let triggered = sooner(machines.emach.next(), from, shown);
+        let schedule = self.path.schedule(l.schedules());
+        sooner(machines.works.desk.next(schedule), from, triggered)
     }
 
     // Does one instant: the records that are due, the writes and the sensors; then the switches, a list where one begins, the
@@ -257,40 +261,34 @@ impl<'a> Machine<'a> {
         let t = l.tables();
         let code = l.ecode();
         t.keeps_ranges();
-        self.noted.settle(&self.world, &self.emach);
-        if let Err(failed) = open_instant(
-            sink,
-            &mut self.emach,
-            &mut self.world,
-            &mut self.desk,
-            &mut self.tally,
-            t,
+        let schedules = l.schedules();
+        let program = Program {
+            tables: t,
             code,
-            self.path.jobs(),
-            self.path.schedule(l),
-            self.path.node(),
-            self.show,
-            &mut self.sensors,
-            &mut self.noted,
-            at,
-        ) {
+            schedules,
+            show: self.show,
+        };
+        let machines = &mut self.machines;
+        machines
+            .noted
+            .settle(&machines.works.world, &machines.emach);
+        let list = StandingList {
+            jobs: self.path.jobs(),
+            schedule: self.path.schedule(schedules),
+            node: self.path.node(),
+        };
+        if let Err(failed) = open_instant(sink, machines, &program, &list, &mut self.sensors, at) {
             self.spent = true;
             return Err(failed);
         }
         if round_begins(t, at) {
+            let takes = self.takes.as_slice();
             if let Err(failed) = close_and_begin(
                 sink,
-                &mut self.emach,
-                &mut self.world,
-                &mut self.desk,
-                &mut self.tally,
+                machines,
+                &program,
                 &mut self.path,
-                t,
-                code,
-                l,
-                self.show,
-                self.takes.as_slice(),
-                &mut self.noted,
+                takes,
                 at,
             ) {
                 self.spent = true;
@@ -298,19 +296,7 @@ impl<'a> Machine<'a> {
             }
             Ok(())
         } else {
-            if let Err(failed) = close_instant(
-                sink,
-                &mut self.emach,
-                &mut self.world,
-                &mut self.desk,
-                &mut self.tally,
-                t,
-                code,
-                self.path.jobs(),
-                self.show,
-                &mut self.noted,
-                at,
-            ) {
+            if let Err(failed) = close_instant(sink, machines, &program, self.path.jobs(), at) {
                 self.spent = true;
                 return Err(failed);
             }
@@ -327,9 +313,9 @@ impl<'a> Machine<'a> {
     {
         Totals {
             at: self.reading,
-            jobs: self.tally.jobs,
-            e: self.tally.e,
-            s: self.tally.s,
+            jobs: self.machines.works.tally.jobs,
+            e: self.machines.works.tally.e,
+            s: self.machines.works.tally.s,
         }
     }
 
@@ -338,7 +324,7 @@ impl<'a> Machine<'a> {
         requires { comm < length self.now.held.world.values }
         ensures { result ≡ get_or self.now.held.world.values comm (pos 0) }
     {
-        self.world.value(comm)
+        self.machines.works.world.value(comm)
     }
 
     /// The last reading, in ticks; 0 before the first.
@@ -352,7 +338,7 @@ impl<'a> Machine<'a> {
     pub fn mode(&self, module: u16) -> Option<u16>
         ensures { result ≡ list_at self.now.standing.calendar.modes «module» }
     {
-        self.emach.mode(module)
+        self.machines.emach.mode(module)
     }
 
     /// Whether the run has ended: `finish` was called, or a sink refused.
@@ -366,7 +352,7 @@ impl<'a> Machine<'a> {
     pub fn world(&self) -> &World
         ensures { result.now ≡ self.now.held.world }
     {
-        &self.world
+        &self.machines.works.world
     }
 }
 

@@ -15,80 +15,68 @@ ghost use Rattle.htl_machine.specs.Waiting.{MarksWaiting};
 ghost use Rattle.htl_machine.specs.Doing.{path_lines};
 ghost use Rattle.htl_edge.specs.Content.{Puts};
 
-use crate::noted::Noted;
 use crate::sensors::Sensors;
 use crate::steps::do_instrs;
-use crate::tally::Tally;
 use crate::tellings::tell_records;
+use crate::works::{Machines, Program, StandingList};
 use htl_base::Time;
-use htl_console::Shown;
-use htl_ecode::ECode;
 use htl_edge::{Failed, Sink};
-use htl_emach::{EMach, World};
-use htl_model::Tables;
-use htl_smach::SMach;
-use htl_walk::{Job, Schedule};
 
-/// The records of the round that stands, as far as they are due, the writes and the sensors of an instant. After `Failed`
+/// The records of the list that stands, as far as they are due, the writes and the sensors of an instant. After `Failed`
 /// a prefix of the lines was written.
 pub fn open_instant<W: Sink>(
     sink: &mut W,
-    m: &mut EMach,
-    world: &mut World,
-    desk: &mut SMach,
-    tally: &mut Tally,
-    t: &Tables,
-    code: &ECode,
-    jobs: &[Job],
-    schedule: &Schedule,
-    node: u32,
-    show: Shown,
+    machines: &mut Machines,
+    program: &Program<'_>,
+    list: &StandingList<'_>,
     sensors: &mut Sensors,
-    noted: &mut Noted,
     at: Time,
 ) -> Result<(), Failed>
-    requires form { KeptApart t.now 12 }
-    requires spells { Spells t.now code.now }
+    requires form { KeptApart program.now.tables.now 12 }
+    requires spells { Spells program.now.tables.now program.now.code.now }
     requires at { at ≤ 1000000000 }
-    requires instrs { length code.now.instrs ≤ 4294967295 }
-    requires code { FitPlaces t.now }
-    requires shaped { IsShaped t.now world.old }
-    requires safe { StandsSafely t.now code.now m.old }
-    requires jobs { desk.old.jobs ≡ jobs.now }
-    requires of { AreOf t.now jobs.now }
-    requires round { desk.old.running ≡ true → IsInForm desk.old schedule.now.instrs }
-    requires slots { length schedule.now.instrs ≤ 4294967295 }
-    requires stands { Stands desk.old schedule.now.instrs }
-    requires told { IsTold desk.old at }
-    requires shows { HasValues t.now sensors.old.shows }
-    requires values { HasValues t.now noted.old.values }
-    requires before { noted.old.values ≡ world.old.values }
-    requires marked { MarksChanges noted.old world.old.values m.old.calendar.modes }
-    requires waiting { MarksWaiting t.now sensors.old world.old.values }
-    requires follows { (es : List Event) × Follows t.now code.now es at m.old }
-    ensures text { (es : List Event) → Follows t.now code.now es at m.old → Opens t.now code.now es show node desk.old schedule.now.instrs at (W.written sink.old) (W.written sink.new) (W.faults sink.old) (W.faults sink.new) result }
-    ensures counts { (es : List Event) → Follows t.now code.now es at m.old → OnOk result (AreCounted t.now code.now es desk.old schedule.now.instrs at tally.old tally.new) }
-    ensures world { (es : List Event) → Follows t.now code.now es at m.old → OnOk result (IsOpened t.now code.now es at schedule.now.instrs sensors.old.shows noted.old.values desk.old world.old desk.new world.new) }
-    ensures idle_text { (es : List Event) → Follows t.now code.now es at m.old → desk.old.running ≡ false → Puts (W.written sink.old) (W.written sink.new) (W.faults sink.old) (W.faults sink.new) (path_lines t.now code.now show at (phase_path t.now code.now es at 1)) result }
-    ensures idle { (es : List Event) → Follows t.now code.now es at m.old → OnOk result (desk.old.running ≡ false → IsOpenedIdle t.now code.now es at sensors.old.shows noted.old.values desk.old world.old tally.old desk.new world.new tally.new) }
+    requires instrs { length program.now.code.now.instrs ≤ 4294967295 }
+    requires code { FitPlaces program.now.tables.now }
+    requires shaped { IsShaped program.now.tables.now machines.old.works.world }
+    requires safe { StandsSafely program.now.tables.now program.now.code.now machines.old.emach }
+    requires jobs { machines.old.works.desk.jobs ≡ list.now.jobs.now }
+    requires of { AreOf program.now.tables.now list.now.jobs.now }
+    requires round { machines.old.works.desk.running ≡ true → IsInForm machines.old.works.desk list.now.schedule.now.instrs }
+    requires slots { length list.now.schedule.now.instrs ≤ 4294967295 }
+    requires stands { Stands machines.old.works.desk list.now.schedule.now.instrs }
+    requires told { IsTold machines.old.works.desk at }
+    requires shows { HasValues program.now.tables.now sensors.old.shows }
+    requires values { HasValues program.now.tables.now machines.old.noted.values }
+    requires before { machines.old.noted.values ≡ machines.old.works.world.values }
+    requires marked { MarksChanges machines.old.noted machines.old.works.world.values machines.old.emach.calendar.modes }
+    requires waiting { MarksWaiting program.now.tables.now sensors.old machines.old.works.world.values }
+    requires follows { (es : List Event) × Follows program.now.tables.now program.now.code.now es at machines.old.emach }
+    ensures text { (es : List Event) → Follows program.now.tables.now program.now.code.now es at machines.old.emach → Opens program.now.tables.now program.now.code.now es program.now.show list.now.node machines.old.works.desk list.now.schedule.now.instrs at (W.written sink.old) (W.written sink.new) (W.faults sink.old) (W.faults sink.new) result }
+    ensures counts { (es : List Event) → Follows program.now.tables.now program.now.code.now es at machines.old.emach → OnOk result (AreCounted program.now.tables.now program.now.code.now es machines.old.works.desk list.now.schedule.now.instrs at machines.old.works.tally machines.new.works.tally) }
+    ensures world { (es : List Event) → Follows program.now.tables.now program.now.code.now es at machines.old.emach → OnOk result (IsOpened program.now.tables.now program.now.code.now es at list.now.schedule.now.instrs sensors.old.shows machines.old.noted.values machines.old.works.desk machines.old.works.world machines.new.works.desk machines.new.works.world) }
+    ensures idle_text { (es : List Event) → Follows program.now.tables.now program.now.code.now es at machines.old.emach → machines.old.works.desk.running ≡ false → Puts (W.written sink.old) (W.written sink.new) (W.faults sink.old) (W.faults sink.new) (path_lines program.now.tables.now program.now.code.now program.now.show at (phase_path program.now.tables.now program.now.code.now es at 1)) result }
+    ensures idle { (es : List Event) → Follows program.now.tables.now program.now.code.now es at machines.old.emach → OnOk result (machines.old.works.desk.running ≡ false → IsOpenedIdle program.now.tables.now program.now.code.now es at sensors.old.shows machines.old.noted.values machines.old.works.desk machines.old.works.world machines.old.works.tally machines.new.works.desk machines.new.works.world machines.new.works.tally) }
     ensures shows { sensors.new.shows ≡ sensors.old.shows }
-    ensures waiting { OnOk result (MarksWaiting t.now sensors.new world.new.values) }
-    ensures marked { OnOk result (MarksChanges noted.new world.new.values m.new.calendar.modes) }
-    ensures noted { OnOk result (KeepsNoted noted.old noted.new) }
-    ensures safe { OnOk result (StandsSafely t.now code.now m.new) }
-    ensures shaped { OnOk result (IsShaped t.now world.new) }
-    ensures jobs { OnOk result (desk.new.jobs ≡ desk.old.jobs) }
-    ensures stands { OnOk result (Stands desk.new schedule.now.instrs) }
-    ensures writes { (es : List Event) → Follows t.now code.now es at m.old → OnOk result (Onward t.now code.now es at 1 m.new (phase_path t.now code.now es at 1) [] None) }
+    ensures waiting { OnOk result (MarksWaiting program.now.tables.now sensors.new machines.new.works.world.values) }
+    ensures marked { OnOk result (MarksChanges machines.new.noted machines.new.works.world.values machines.new.emach.calendar.modes) }
+    ensures noted { OnOk result (KeepsNoted machines.old.noted machines.new.noted) }
+    ensures safe { OnOk result (StandsSafely program.now.tables.now program.now.code.now machines.new.emach) }
+    ensures shaped { OnOk result (IsShaped program.now.tables.now machines.new.works.world) }
+    ensures jobs { OnOk result (machines.new.works.desk.jobs ≡ machines.old.works.desk.jobs) }
+    ensures stands { OnOk result (Stands machines.new.works.desk list.now.schedule.now.instrs) }
+    ensures writes { (es : List Event) → Follows program.now.tables.now program.now.code.now es at machines.old.emach → OnOk result (Onward program.now.tables.now program.now.code.now es at 1 machines.new.emach (phase_path program.now.tables.now program.now.code.now es at 1) [] None) }
 {
-    if let Err(failed) = tell_records(sink, world, desk, tally, t, jobs, schedule, node, show, at) {
+    if let Err(failed) = tell_records(sink, &mut machines.works, program, list, at) {
         return Err(failed);
     }
-    if let Err(failed) = do_instrs(
-        sink, m, world, desk, tally, noted, t, code, jobs, show, 1, at,
-    ) {
+    if let Err(failed) = do_instrs(sink, machines, program, list.jobs, 1, at) {
         return Err(failed);
     }
-    sensors.show(world, t, noted, at);
+    sensors.show(
+        &mut machines.works.world,
+        program.tables,
+        &mut machines.noted,
+        at,
+    );
     Ok(())
 }

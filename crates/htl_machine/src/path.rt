@@ -8,7 +8,7 @@ ghost use Rattle.htl_smach.specs.Adding.{CanBegin};
 ghost use Rattle.htl_smach.specs.Rounds.{begun, added};
 ghost use Rattle.htl_machine.specs.ListBegun.{list_begun};
 ghost use Rattle.htl_machine.specs.Numbering.{IsPath};
-ghost use Rattle.htl_machine.specs.Calls.{schedule_by};
+ghost use Rattle.htl_machine.specs.StandingList.{instrs_by};
 ghost use Rattle.htl_machine.specs.StandingList.{node_by, next_at};
 ghost use Rattle.htl_machine.specs.Starting.{kept_lengths};
 ghost use Rattle.htl_machine.specs.Beginning.{CanFollow};
@@ -18,7 +18,6 @@ use crate::numbering::{ListAt, Numbering};
 use htl_base::limits::MAX_POSITIONS;
 use htl_base::{Seq, Time};
 use htl_emach::EMach;
-use htl_load::Loaded;
 use htl_model::Tables;
 use htl_refine::{Selection, derive_begun};
 use htl_smach::SMach;
@@ -81,12 +80,12 @@ impl Path {
     }
 
     /// Its instructions; none where no list stands.
-    pub fn schedule<'b>(&'b self, l: &'b Loaded) -> &'b Schedule
-        requires { IfSome self.now.list (λ p. p.node < length l.now.schedules) }
-        ensures { result.now.instrs ≡ schedule_by l.now self.now.idle.instrs self.now.list }
+    pub fn schedule<'b>(&'b self, schedules: &'b [Schedule]) -> &'b Schedule
+        requires { IfSome self.now.list (λ p. p.node < length schedules.now) }
+        ensures { result.now.instrs ≡ instrs_by schedules.now self.now.idle.instrs self.now.list }
     {
         match self.list {
-            Some(list) => &l.schedules()[list.node as usize],
+            Some(list) => &schedules[list.node as usize],
             None => &self.idle,
         }
     }

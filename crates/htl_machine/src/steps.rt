@@ -17,13 +17,11 @@ ghost use Rattle.htl_machine.specs.Doing.{IsStarting, instr_lines, path_lines, t
 ghost use Rattle.htl_machine.specs.Noting.{MarksChanges, KeepsNoted};
 
 use crate::lengths::position;
-use crate::noted::Noted;
-use crate::tally::Tally;
+use crate::works::{Machines, Program};
 use htl_base::Time;
 use htl_console::{Shown, line_e};
-use htl_ecode::{ECode, EInstr};
+use htl_ecode::EInstr;
 use htl_edge::{Failed, Sink};
-use htl_emach::{EMach, World};
 use htl_model::Tables;
 use htl_smach::{PosState, SMach};
 use htl_walk::Job;
@@ -79,51 +77,56 @@ fn release_in(desk: &mut SMach, jobs: &[Job], phase: u8, instr: EInstr)
 /// they may change, and in the read phase tells the S machine of releases. After `Failed` a prefix of the lines was written.
 pub fn do_instrs<W: Sink>(
     sink: &mut W,
-    m: &mut EMach,
-    world: &mut World,
-    desk: &mut SMach,
-    tally: &mut Tally,
-    noted: &mut Noted,
-    t: &Tables,
-    code: &ECode,
+    machines: &mut Machines,
+    program: &Program<'_>,
     jobs: &[Job],
-    show: Shown,
     phase: u8,
     at: Time,
 ) -> Result<(), Failed>
-    requires form { KeptApart t.now 12 }
-    requires spells { Spells t.now code.now }
+    requires form { KeptApart program.now.tables.now 12 }
+    requires spells { Spells program.now.tables.now program.now.code.now }
     requires phase { (1 ≤ phase) × (phase ≤ 3) }
     requires at { at ≤ 1000000000 }
-    requires instrs { length code.now.instrs ≤ 4294967295 }
-    requires code { FitPlaces t.now }
-    requires shaped { IsShaped t.now world.old }
-    requires jobs { desk.old.jobs ≡ jobs.now }
-    requires safe { StandsSafely t.now code.now m.old }
-    requires marked { MarksChanges noted.old world.old.values m.old.calendar.modes }
-    requires starts { (es : List Event) × IsStarting t.now code.now es at phase m.old world.old }
-    ensures text { (es : List Event) → IsStarting t.now code.now es at phase m.old world.old → Puts (W.written sink.old) (W.written sink.new) (W.faults sink.old) (W.faults sink.new) (path_lines t.now code.now show at (phase_path t.now code.now es at phase)) result }
-    ensures counts { (es : List Event) → IsStarting t.now code.now es at phase m.old world.old → OnOk result (tally.new ≡ with_instrs (length (phase_path t.now code.now es at phase)) tally.old) }
-    ensures desk { (es : List Event) → IsStarting t.now code.now es at phase m.old world.old → OnOk result (desk.new ≡ told_in_phase phase code.now (phase_path t.now code.now es at phase) desk.old) }
-    ensures jobs { OnOk result (desk.new.jobs ≡ desk.old.jobs) }
-    ensures stands { OnOk result ((s : List Instr) → Stands desk.old s → Stands desk.new s) }
-    ensures safe { OnOk result (StandsSafely t.now code.now m.new) }
-    ensures shaped { OnOk result (IsShaped t.now world.new) }
-    ensures world { (es : List Event) → IsStarting t.now code.now es at phase m.old world.old → OnOk result (world.new ≡ replay t.now code.now (phase_path t.now code.now es at phase) world.old) }
-    ensures values { OnOk result (phase ≡ 2 → world.new.values ≡ world.old.values) }
-    ensures marked { OnOk result (MarksChanges noted.new world.new.values m.new.calendar.modes) }
-    ensures noted { OnOk result (KeepsNoted noted.old noted.new) }
-    ensures sensors { OnOk result (SensorsStay t.now world.old.values world.new.values) }
-    ensures ends { (es : List Event) → IsStarting t.now code.now es at phase m.old world.old → OnOk result (Onward t.now code.now es at phase m.new (phase_path t.now code.now es at phase) [] None) }
+    requires instrs { length program.now.code.now.instrs ≤ 4294967295 }
+    requires code { FitPlaces program.now.tables.now }
+    requires shaped { IsShaped program.now.tables.now machines.old.works.world }
+    requires jobs { machines.old.works.desk.jobs ≡ jobs.now }
+    requires safe { StandsSafely program.now.tables.now program.now.code.now machines.old.emach }
+    requires marked { MarksChanges machines.old.noted machines.old.works.world.values machines.old.emach.calendar.modes }
+    requires starts { (es : List Event) × IsStarting program.now.tables.now program.now.code.now es at phase machines.old.emach machines.old.works.world }
+    ensures text { (es : List Event) → IsStarting program.now.tables.now program.now.code.now es at phase machines.old.emach machines.old.works.world → Puts (W.written sink.old) (W.written sink.new) (W.faults sink.old) (W.faults sink.new) (path_lines program.now.tables.now program.now.code.now program.now.show at (phase_path program.now.tables.now program.now.code.now es at phase)) result }
+    ensures counts { (es : List Event) → IsStarting program.now.tables.now program.now.code.now es at phase machines.old.emach machines.old.works.world → OnOk result (machines.new.works.tally ≡ with_instrs (length (phase_path program.now.tables.now program.now.code.now es at phase)) machines.old.works.tally) }
+    ensures desk { (es : List Event) → IsStarting program.now.tables.now program.now.code.now es at phase machines.old.emach machines.old.works.world → OnOk result (machines.new.works.desk ≡ told_in_phase phase program.now.code.now (phase_path program.now.tables.now program.now.code.now es at phase) machines.old.works.desk) }
+    ensures jobs { OnOk result (machines.new.works.desk.jobs ≡ machines.old.works.desk.jobs) }
+    ensures stands { OnOk result ((s : List Instr) → Stands machines.old.works.desk s → Stands machines.new.works.desk s) }
+    ensures safe { OnOk result (StandsSafely program.now.tables.now program.now.code.now machines.new.emach) }
+    ensures shaped { OnOk result (IsShaped program.now.tables.now machines.new.works.world) }
+    ensures world { (es : List Event) → IsStarting program.now.tables.now program.now.code.now es at phase machines.old.emach machines.old.works.world → OnOk result (machines.new.works.world ≡ replay program.now.tables.now program.now.code.now (phase_path program.now.tables.now program.now.code.now es at phase) machines.old.works.world) }
+    ensures values { OnOk result (phase ≡ 2 → machines.new.works.world.values ≡ machines.old.works.world.values) }
+    ensures marked { OnOk result (MarksChanges machines.new.noted machines.new.works.world.values machines.new.emach.calendar.modes) }
+    ensures noted { OnOk result (KeepsNoted machines.old.noted machines.new.noted) }
+    ensures sensors { OnOk result (SensorsStay program.now.tables.now machines.old.works.world.values machines.new.works.world.values) }
+    ensures ends { (es : List Event) → IsStarting program.now.tables.now program.now.code.now es at phase machines.old.emach machines.old.works.world → OnOk result (Onward program.now.tables.now program.now.code.now es at phase machines.new.emach (phase_path program.now.tables.now program.now.code.now es at phase) [] None) }
 {
+    let t = program.tables;
     let _parts = t.parts();
     loop {
-        match m.instant(t, code, world, phase, at) {
+        match machines
+            .emach
+            .instant(t, program.code, &mut machines.works.world, phase, at)
+        {
             Some(done) => {
-                tally.instr();
-                noted.note(t, &done);
-                release_in(desk, jobs, phase, done.instr);
-                if let Err(failed) = tell_instr(sink, t, show, at, done.address, &done.instr) {
+                machines.works.tally.instr();
+                machines.noted.note(t, &done);
+                release_in(&mut machines.works.desk, jobs, phase, done.instr);
+                if let Err(failed) = tell_instr(
+                    sink,
+                    t,
+                    program.show,
+                    at,
+                    done.address,
+                    &done.instr,
+                ) {
                     return Err(failed);
                 }
             }

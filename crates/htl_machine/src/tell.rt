@@ -6,6 +6,7 @@ ghost use Rattle.htl_console.specs.Shows.{shows_jobs, shows_code};
 ghost use Rattle.htl_machine.specs.Texts.{inv_at as inv_at_position, slice_lines};
 ghost use Rattle.htl_machine.specs.RecordLines.{place_lines, job_lines, code_lines, record_lines};
 
+use crate::works::{Program, StandingList};
 use htl_base::Time;
 use htl_console::{Shown, line_d, line_j, line_s};
 use htl_edge::{Failed, Sink};
@@ -113,17 +114,14 @@ fn tell_step<W: Sink>(
 /// Writes the lines of a record.
 pub fn tell_record<W: Sink>(
     sink: &mut W,
-    t: &Tables,
-    jobs: &[Job],
-    code: &Schedule,
-    node: u32,
-    show: Shown,
+    program: &Program<'_>,
+    list: &StandingList<'_>,
     left: &Left,
 ) -> Result<(), Failed>
-    ensures { Puts (W.written sink.old) (W.written sink.new) (W.faults sink.old) (W.faults sink.new) (record_lines t.now show jobs.now code.now.instrs node left.now) result }
+    ensures { Puts (W.written sink.old) (W.written sink.new) (W.faults sink.old) (W.faults sink.new) (record_lines program.now.tables.now program.now.show list.now.jobs.now list.now.schedule.now.instrs list.now.node left.now) result }
 {
-    if let Err(failed) = tell_job(sink, t, jobs, show, left) {
+    if let Err(failed) = tell_job(sink, program.tables, list.jobs, program.show, left) {
         return Err(failed);
     }
-    tell_step(sink, code, node, show, left)
+    tell_step(sink, list.schedule, list.node, program.show, left)
 }

@@ -5,24 +5,24 @@ use Rattle.htl_machine.proofs.tellings.tell_records.Given as goal
 
 abbrev pub invariant-loop-left : goal.invariant-loop-left
 invariant-loop-left g l = record {
-  values : l.world.values ≡ l.initial.world.values;
-  recording : IsRecording l.t l.initial.desk l.initial.world l.desk l.world l.jobs l.code.instrs l.at;
+  values : l.works.world.values ≡ l.initial.works.world.values;
+  recording : IsRecording l.program.tables.now l.initial.works.desk l.initial.works.world l.works.desk l.works.world l.list.jobs.now l.list.schedule.now.instrs l.at;
   printing : IsPrinting
-      l.t
-      l.show
-      l.node
-      l.initial.desk
-      l.desk
-      l.code.instrs
+      l.program.tables.now
+      l.program.show
+      l.list.node
+      l.initial.works.desk
+      l.works.desk
+      l.list.schedule.now.instrs
       l.at
       (g.W.Sink.written l.initial.sink)
       (g.W.Sink.written l.sink)
       (g.W.Sink.faults l.initial.sink)
       (g.W.Sink.faults l.sink)
-      l.initial.tally
-      l.tally;
-  idle : l.initial.desk.running ≡ false → (l.desk ≡ l.initial.desk) × (l.world ≡ l.initial.world) × (l.tally ≡ l.initial.tally) × (g.W.Sink.written l.sink ≡ g.W.Sink.written l.initial.sink);
+      l.initial.works.tally
+      l.works.tally;
+  idle : l.initial.works.desk.running ≡ false → (l.works.desk ≡ l.initial.works.desk) × (l.works.world ≡ l.initial.works.world) × (l.works.tally ≡ l.initial.works.tally) × (g.W.Sink.written l.sink ≡ g.W.Sink.written l.initial.sink);
 }
 
 abbrev pub decreases-loop-left : goal.decreases-loop-left
-decreases-loop-left g l = length l.code.instrs - l.desk.place
+decreases-loop-left g l = length l.list.schedule.now.instrs - l.works.desk.place

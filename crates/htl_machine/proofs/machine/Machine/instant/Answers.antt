@@ -55,7 +55,7 @@ schedule-requires g c =
     let m = seen_in c.self.inside in
     let ok = c.self.invariant.accepted in
     let u = subst (λ (z : Seen). IsUpTo z w.0 c.args.at) (sym c.self.view_is) w.1 in
-    list_known m w.0 c.args.at ok u
+    rw c.schedules-schedules.ensures (list_known m w.0 c.args.at ok u)
 
 pub open_instant-requires-clause-form : goal.open_instant-requires-clause-form
 open_instant-requires-clause-form g c =
@@ -118,7 +118,7 @@ open_instant-requires-clause-round g c =
     let ok = c.self.invariant.accepted in
     let u = subst (λ (z : Seen). IsUpTo z w.0 c.args.at) (sym c.self.view_is) w.1 in
     let r = ready m w.0 c.args.at c.self.inside.path.idle.instrs ok u later c.self.invariant.empty in
-    rw c.schedule.ensures r.form
+    rw (c.schedule.ensures, c.schedules-schedules.ensures) r.form
 
 pub open_instant-requires-clause-slots : goal.open_instant-requires-clause-slots
 open_instant-requires-clause-slots g c =
@@ -128,7 +128,7 @@ open_instant-requires-clause-slots g c =
     let ok = c.self.invariant.accepted in
     let u = subst (λ (z : Seen). IsUpTo z w.0 c.args.at) (sym c.self.view_is) w.1 in
     let r = ready m w.0 c.args.at c.self.inside.path.idle.instrs ok u later c.self.invariant.empty in
-    rw c.schedule.ensures r.short
+    rw (c.schedule.ensures, c.schedules-schedules.ensures) r.short
 
 pub open_instant-requires-clause-stands : goal.open_instant-requires-clause-stands
 open_instant-requires-clause-stands g c =
@@ -138,7 +138,7 @@ open_instant-requires-clause-stands g c =
     let ok = c.self.invariant.accepted in
     let u = subst (λ (z : Seen). IsUpTo z w.0 c.args.at) (sym c.self.view_is) w.1 in
     let r = ready m w.0 c.args.at c.self.inside.path.idle.instrs ok u later c.self.invariant.empty in
-    rw c.schedule.ensures r.stands
+    rw (c.schedule.ensures, c.schedules-schedules.ensures) r.stands
 
 pub open_instant-requires-clause-told : goal.open_instant-requires-clause-told
 open_instant-requires-clause-told g c =
@@ -182,7 +182,7 @@ returns-in-Err-clause-text g c = λ es before.
     let u = subst (λ (z : Seen). IsUpTo z es c.args.at) (sym c.self.view_is) before in
     let r = ready m es c.args.at c.self.inside.path.idle.instrs ok u later c.self.invariant.empty in
     let f = follows_at m.object es c.args.at c.tables-t.result.now c.ecode-code.result.now m.standing c.tables-t.ensures.value c.ecode-code.ensures u.before.values.triggers in
-    let text = rw (c.tables-t.ensures.value, c.ecode-code.ensures, c.schedule.ensures, c.node.ensures) at (c.in-Err.ensures.text es f) in
+    let text = rw (c.tables-t.ensures.value, c.ecode-code.ensures, c.schedule.ensures, c.schedules-schedules.ensures, c.node.ensures) at (c.in-Err.ensures.text es f) in
     subst (λ (z : Seen). Puts {T = Unit {0}} {E = Failed} (g.W.Sink.written c.args.sink.now) (g.W.Sink.written c.open_instant.new.sink) (g.W.Sink.faults c.args.sink.now) (g.W.Sink.faults c.open_instant.new.sink) (lines_of z.object es z.show c.args.at) (Err c.in-Err.failed))
     c.self.view_is (open_failed m es c.args.at ok later u _ r _ _ _ _ _ _ text)
 
@@ -220,7 +220,7 @@ close_and_begin-requires-clause-over g c =
     let u = subst (λ (z : Seen). IsUpTo z w.0 c.args.at) (sym c.self.view_is) w.1 in
     let r = ready m w.0 c.args.at c.self.inside.path.idle.instrs ok u later c.self.invariant.empty in
     let f = follows_at m.object w.0 c.args.at c.tables-t.result.now c.ecode-code.result.now m.standing c.tables-t.ensures.value c.ecode-code.ensures u.before.values.triggers in
-    let opened = rw (c.tables-t.ensures.value, c.ecode-code.ensures, c.schedule.ensures) at (c.in_default.ensures.world w.0 f) in
+    let opened = rw (c.tables-t.ensures.value, c.ecode-code.ensures, c.schedule.ensures, c.schedules-schedules.ensures) at (c.in_default.ensures.world w.0 f) in
     let b = sym (rw c.tables-t.ensures.value at c.round_begins.ensures) ∙ c.if-round_begins.true in
     (over m w.0 c.args.at ok later u _ c.self.inside.path.idle.instrs refl c.self.invariant.empty r _ _ b opened.records).0
 
@@ -228,7 +228,7 @@ pub close_and_begin-requires-clause-path : goal.close_and_begin-requires-clause-
 close_and_begin-requires-clause-path g c =
     let w = c.requires.before in
     let fresh = ap (λ (z : Seen). z.held.spent) c.self.view_is ∙ w.1.kept.fresh in
-    subst (λ t. IsPath t c.self.inside.path c.open_instant.new.desk.jobs) (sym c.tables-t.ensures.value) (subst (IsPath c.self.inside.loaded.now.tables c.self.inside.path) (sym c.in_default.ensures.jobs) (c.self.invariant.stands fresh))
+    subst (λ t. IsPath t c.self.inside.path c.open_instant.new.machines.works.desk.jobs) (sym c.tables-t.ensures.value) (subst (IsPath c.self.inside.loaded.now.tables c.self.inside.path) (sym c.in_default.ensures.jobs) (c.self.invariant.stands fresh))
 
 pub close_and_begin-requires-clause-few : goal.close_and_begin-requires-clause-few
 close_and_begin-requires-clause-few g c =
@@ -255,10 +255,10 @@ close_and_begin-requires-clause-begins g c =
     let u = subst (λ (z : Seen). IsUpTo z w.0 c.args.at) (sym c.self.view_is) w.1 in
     let r = ready m w.0 c.args.at c.self.inside.path.idle.instrs ok u later c.self.invariant.empty in
     let f = follows_at m.object w.0 c.args.at c.tables-t.result.now c.ecode-code.result.now m.standing c.tables-t.ensures.value c.ecode-code.ensures u.before.values.triggers in
-    let opened = rw (c.tables-t.ensures.value, c.ecode-code.ensures, c.schedule.ensures) at (c.in_default.ensures.world w.0 f) in
+    let opened = rw (c.tables-t.ensures.value, c.ecode-code.ensures, c.schedule.ensures, c.schedules-schedules.ensures) at (c.in_default.ensures.world w.0 f) in
     let b = sym (rw c.tables-t.ensures.value at c.round_begins.ensures) ∙ c.if-round_begins.true in
     let z = to_close m w.0 c.args.at c.tables-t.result.now c.ecode-code.result.now c.tables-t.ensures.value c.ecode-code.ensures ok later u _ r c.settle.new.self.values c.settle.ensures.values _ _ opened _ (c.in_default.ensures.noted.values ∙ c.settle.ensures.values) _ (c.in_default.ensures.noted.modes ∙ c.settle.ensures.modes) _ (c.in_default.ensures.writes w.0 f) in
-    let q = to_close_and_begin m w.0 c.args.at c.tables-t.result.now c.ecode-code.result.now _ c.tables-t.ensures.value c.ecode-code.ensures c.as_slice.ensures ok later u b c.open_instant.new.desk (over m w.0 c.args.at ok later u _ c.self.inside.path.idle.instrs refl c.self.invariant.empty r _ _ b opened.records).1 _ _ _ _ z in
+    let q = to_close_and_begin m w.0 c.args.at c.tables-t.result.now c.ecode-code.result.now c.schedules-schedules.result.now _ c.tables-t.ensures.value c.ecode-code.ensures c.schedules-schedules.ensures c.as_slice-takes.ensures ok later u b c.open_instant.new.machines.works.desk (over m w.0 c.args.at ok later u _ c.self.inside.path.idle.instrs refl c.self.invariant.empty r _ _ b opened.records).1 _ _ _ _ z in
     (w.0, q)
 
 pub close_instant-requires-clause-form : goal.close_instant-requires-clause-form
@@ -312,7 +312,7 @@ close_instant-requires-clause-closes g c =
     let u = subst (λ (z : Seen). IsUpTo z w.0 c.args.at) (sym c.self.view_is) w.1 in
     let r = ready m w.0 c.args.at c.self.inside.path.idle.instrs ok u later c.self.invariant.empty in
     let f = follows_at m.object w.0 c.args.at c.tables-t.result.now c.ecode-code.result.now m.standing c.tables-t.ensures.value c.ecode-code.ensures u.before.values.triggers in
-    let opened = rw (c.tables-t.ensures.value, c.ecode-code.ensures, c.schedule.ensures) at (c.in_default.ensures.world w.0 f) in
+    let opened = rw (c.tables-t.ensures.value, c.ecode-code.ensures, c.schedule.ensures, c.schedules-schedules.ensures) at (c.in_default.ensures.world w.0 f) in
     let q = to_close m w.0 c.args.at c.tables-t.result.now c.ecode-code.result.now c.tables-t.ensures.value c.ecode-code.ensures ok later u _ r c.settle.new.self.values c.settle.ensures.values _ _ opened _ (c.in_default.ensures.noted.values ∙ c.settle.ensures.values) _ (c.in_default.ensures.noted.modes ∙ c.settle.ensures.modes) _ (c.in_default.ensures.writes w.0 f) in
     (w.0, q)
 
@@ -324,10 +324,10 @@ returns-in-Err-close_instant-clause-text g c = λ es before.
     let u = subst (λ (z : Seen). IsUpTo z es c.args.at) (sym c.self.view_is) before in
     let r = ready m es c.args.at c.self.inside.path.idle.instrs ok u later c.self.invariant.empty in
     let f = follows_at m.object es c.args.at c.tables-t.result.now c.ecode-code.result.now m.standing c.tables-t.ensures.value c.ecode-code.ensures u.before.values.triggers in
-    let opened = rw (c.tables-t.ensures.value, c.ecode-code.ensures, c.schedule.ensures) at (c.in_default.ensures.world es f) in
+    let opened = rw (c.tables-t.ensures.value, c.ecode-code.ensures, c.schedule.ensures, c.schedules-schedules.ensures) at (c.in_default.ensures.world es f) in
     let b = sym (rw c.tables-t.ensures.value at c.round_begins.ensures) ∙ c.if-round_begins.false in
     let q = to_close m es c.args.at c.tables-t.result.now c.ecode-code.result.now c.tables-t.ensures.value c.ecode-code.ensures ok later u _ r c.settle.new.self.values c.settle.ensures.values _ _ opened _ (c.in_default.ensures.noted.values ∙ c.settle.ensures.values) _ (c.in_default.ensures.noted.modes ∙ c.settle.ensures.modes) _ (c.in_default.ensures.writes es f) in
-    let text = rw (c.tables-t.ensures.value, c.ecode-code.ensures, c.schedule.ensures, c.node.ensures) at (c.in_default.ensures.text es f) in
+    let text = rw (c.tables-t.ensures.value, c.ecode-code.ensures, c.schedule.ensures, c.schedules-schedules.ensures, c.node.ensures) at (c.in_default.ensures.text es f) in
     let rest = rw (c.tables-t.ensures.value, c.ecode-code.ensures) at (c.in-Err-close_instant.ensures.text es q) in
     subst (λ (z : Seen). Puts {T = Unit {0}} {E = Failed} (g.W.Sink.written c.args.sink.now) (g.W.Sink.written c.close_instant.new.sink) (g.W.Sink.faults c.args.sink.now) (g.W.Sink.faults c.close_instant.new.sink) (lines_of z.object es z.show c.args.at) (Err c.in-Err-close_instant.failed))
     c.self.view_is (going_closed m es c.args.at ok later u _ r _ _ _ _ _ _ _ _ b text (fails_so _ _ _ _ _ _ c.in-Err-close_instant.failed rest))
@@ -341,7 +341,7 @@ invariant_of-self-in_default-close_instant g c =
     let u = subst (λ (z : Seen). IsUpTo z w.0 c.args.at) (sym c.self.view_is) w.1 in
     let r = ready m w.0 c.args.at c.self.inside.path.idle.instrs ok u later c.self.invariant.empty in
     let f = follows_at m.object w.0 c.args.at c.tables-t.result.now c.ecode-code.result.now m.standing c.tables-t.ensures.value c.ecode-code.ensures u.before.values.triggers in
-    let opened = rw (c.tables-t.ensures.value, c.ecode-code.ensures, c.schedule.ensures) at (c.in_default.ensures.world w.0 f) in
+    let opened = rw (c.tables-t.ensures.value, c.ecode-code.ensures, c.schedule.ensures, c.schedules-schedules.ensures) at (c.in_default.ensures.world w.0 f) in
     let q = to_close m w.0 c.args.at c.tables-t.result.now c.ecode-code.result.now c.tables-t.ensures.value c.ecode-code.ensures ok later u _ r c.settle.new.self.values c.settle.ensures.values _ _ opened _ (c.in_default.ensures.noted.values ∙ c.settle.ensures.values) _ (c.in_default.ensures.noted.modes ∙ c.settle.ensures.modes) _ (c.in_default.ensures.writes w.0 f) in
     let kept = c.self.invariant in
     let desk = c.in_default-close_instant.ensures.desk w.0 q in
@@ -352,11 +352,11 @@ invariant_of-self-in_default-close_instant g c =
       few = kept.few;
       stands = λ free.
           subst (IsPath m.object.tables c.self.inside.path)
-          (sym (ap (λ (z : Round). z.jobs) desk ∙ (replay_only c.ecode-code.result.now (phase_path c.tables-t.result.now c.ecode-code.result.now w.0 c.args.at 3) c.open_instant.new.desk).0 ∙ c.in_default.ensures.jobs)) (kept.stands free);
+          (sym (ap (λ (z : Round). z.jobs) desk ∙ (replay_only c.ecode-code.result.now (phase_path c.tables-t.result.now c.ecode-code.result.now w.0 c.args.at 3) c.open_instant.new.machines.works.desk).0 ∙ c.in_default.ensures.jobs)) (kept.stands free);
       marked = λ free. c.in_default-close_instant.ensures.marked;
       waiting = λ free.
-          waiting_at m.object.tables c.tables-t.result.now c.open_instant.new.sensors c.close_instant.new.world.values (sym c.tables-t.ensures.value)
-          (waiting_stays c.tables-t.result.now c.open_instant.new.sensors c.open_instant.new.world.values c.close_instant.new.world.values c.in_default.ensures.waiting c.in_default-close_instant.ensures.sensors);
+          waiting_at m.object.tables c.tables-t.result.now c.open_instant.new.sensors c.close_instant.new.machines.works.world.values (sym c.tables-t.ensures.value)
+          (waiting_stays c.tables-t.result.now c.open_instant.new.sensors c.open_instant.new.machines.works.world.values c.close_instant.new.machines.works.world.values c.in_default.ensures.waiting c.in_default-close_instant.ensures.sensors);
       empty = kept.empty;
     }
 
@@ -369,10 +369,10 @@ invariant_of-self-in_default-close_and_begin g c =
     let u = subst (λ (z : Seen). IsUpTo z w.0 c.args.at) (sym c.self.view_is) w.1 in
     let r = ready m w.0 c.args.at c.self.inside.path.idle.instrs ok u later c.self.invariant.empty in
     let f = follows_at m.object w.0 c.args.at c.tables-t.result.now c.ecode-code.result.now m.standing c.tables-t.ensures.value c.ecode-code.ensures u.before.values.triggers in
-    let opened = rw (c.tables-t.ensures.value, c.ecode-code.ensures, c.schedule.ensures) at (c.in_default.ensures.world w.0 f) in
+    let opened = rw (c.tables-t.ensures.value, c.ecode-code.ensures, c.schedule.ensures, c.schedules-schedules.ensures) at (c.in_default.ensures.world w.0 f) in
     let b = sym (rw c.tables-t.ensures.value at c.round_begins.ensures) ∙ c.if-round_begins.true in
     let z = to_close m w.0 c.args.at c.tables-t.result.now c.ecode-code.result.now c.tables-t.ensures.value c.ecode-code.ensures ok later u _ r c.settle.new.self.values c.settle.ensures.values _ _ opened _ (c.in_default.ensures.noted.values ∙ c.settle.ensures.values) _ (c.in_default.ensures.noted.modes ∙ c.settle.ensures.modes) _ (c.in_default.ensures.writes w.0 f) in
-    let q = to_close_and_begin m w.0 c.args.at c.tables-t.result.now c.ecode-code.result.now _ c.tables-t.ensures.value c.ecode-code.ensures c.as_slice.ensures ok later u b c.open_instant.new.desk (over m w.0 c.args.at ok later u _ c.self.inside.path.idle.instrs refl c.self.invariant.empty r _ _ b opened.records).1 _ _ _ _ z in
+    let q = to_close_and_begin m w.0 c.args.at c.tables-t.result.now c.ecode-code.result.now c.schedules-schedules.result.now _ c.tables-t.ensures.value c.ecode-code.ensures c.schedules-schedules.ensures c.as_slice-takes.ensures ok later u b c.open_instant.new.machines.works.desk (over m w.0 c.args.at ok later u _ c.self.inside.path.idle.instrs refl c.self.invariant.empty r _ _ b opened.records).1 _ _ _ _ z in
     let kept = c.self.invariant in
     let desk = c.in_default-close_and_begin.ensures.desk w.0 q in
     record {
@@ -380,11 +380,11 @@ invariant_of-self-in_default-close_and_begin g c =
       all_shows = ap length c.in_default.ensures.shows ∙ kept.all_shows;
       all_takes = kept.all_takes;
       few = c.in_default-close_and_begin.ensures.few;
-      stands = λ free. subst (λ t. IsPath t c.close_and_begin.new.path c.close_and_begin.new.desk.jobs) c.tables-t.ensures.value c.in_default-close_and_begin.ensures.path;
+      stands = λ free. subst (λ t. IsPath t c.close_and_begin.new.path c.close_and_begin.new.machines.works.desk.jobs) c.tables-t.ensures.value c.in_default-close_and_begin.ensures.path;
       marked = λ free. c.in_default-close_and_begin.ensures.marked;
       waiting = λ free.
-          waiting_at m.object.tables c.tables-t.result.now c.open_instant.new.sensors c.close_and_begin.new.world.values (sym c.tables-t.ensures.value)
-          (waiting_stays c.tables-t.result.now c.open_instant.new.sensors c.open_instant.new.world.values c.close_and_begin.new.world.values c.in_default.ensures.waiting c.in_default-close_and_begin.ensures.sensors);
+          waiting_at m.object.tables c.tables-t.result.now c.open_instant.new.sensors c.close_and_begin.new.machines.works.world.values (sym c.tables-t.ensures.value)
+          (waiting_stays c.tables-t.result.now c.open_instant.new.sensors c.open_instant.new.machines.works.world.values c.close_and_begin.new.machines.works.world.values c.in_default.ensures.waiting c.in_default-close_and_begin.ensures.sensors);
       empty = ap (λ (x : Schedule). x.instrs) c.in_default-close_and_begin.ensures.idle ∙ kept.empty;
     }
 
@@ -396,13 +396,13 @@ returns-in_default-close_and_begin-clause-text g c = λ es before.
     let u = subst (λ (z : Seen). IsUpTo z es c.args.at) (sym c.self.view_is) before in
     let r = ready m es c.args.at c.self.inside.path.idle.instrs ok u later c.self.invariant.empty in
     let f = follows_at m.object es c.args.at c.tables-t.result.now c.ecode-code.result.now m.standing c.tables-t.ensures.value c.ecode-code.ensures u.before.values.triggers in
-    let opened = rw (c.tables-t.ensures.value, c.ecode-code.ensures, c.schedule.ensures) at (c.in_default.ensures.world es f) in
+    let opened = rw (c.tables-t.ensures.value, c.ecode-code.ensures, c.schedule.ensures, c.schedules-schedules.ensures) at (c.in_default.ensures.world es f) in
     let b = sym (rw c.tables-t.ensures.value at c.round_begins.ensures) ∙ c.if-round_begins.true in
     let z = to_close m es c.args.at c.tables-t.result.now c.ecode-code.result.now c.tables-t.ensures.value c.ecode-code.ensures ok later u _ r c.settle.new.self.values c.settle.ensures.values _ _ opened _ (c.in_default.ensures.noted.values ∙ c.settle.ensures.values) _ (c.in_default.ensures.noted.modes ∙ c.settle.ensures.modes) _ (c.in_default.ensures.writes es f) in
-    let q = to_close_and_begin m es c.args.at c.tables-t.result.now c.ecode-code.result.now _ c.tables-t.ensures.value c.ecode-code.ensures c.as_slice.ensures ok later u b c.open_instant.new.desk (over m es c.args.at ok later u _ c.self.inside.path.idle.instrs refl c.self.invariant.empty r _ _ b opened.records).1 _ _ _ _ z in
-    let text = rw (c.tables-t.ensures.value, c.ecode-code.ensures, c.schedule.ensures, c.node.ensures) at (c.in_default.ensures.text es f) in
+    let q = to_close_and_begin m es c.args.at c.tables-t.result.now c.ecode-code.result.now c.schedules-schedules.result.now _ c.tables-t.ensures.value c.ecode-code.ensures c.schedules-schedules.ensures c.as_slice-takes.ensures ok later u b c.open_instant.new.machines.works.desk (over m es c.args.at ok later u _ c.self.inside.path.idle.instrs refl c.self.invariant.empty r _ _ b opened.records).1 _ _ _ _ z in
+    let text = rw (c.tables-t.ensures.value, c.ecode-code.ensures, c.schedule.ensures, c.schedules-schedules.ensures, c.node.ensures) at (c.in_default.ensures.text es f) in
     subst (λ (z : Seen). Puts {T = Unit {0}} {E = Failed} (g.W.Sink.written c.args.sink.now) (g.W.Sink.written c.close_and_begin.new.sink) (g.W.Sink.faults c.args.sink.now) (g.W.Sink.faults c.close_and_begin.new.sink) (lines_of z.object es z.show c.args.at) (Ok _))
-    c.self.view_is (begun_closed_at m es c.args.at ok later u _ r c.tables-t.result.now c.ecode-code.result.now _ _ _ _ _ _ _ _ c.tables-t.ensures.value c.ecode-code.ensures b text (ends_so _ _ _ _ _ _ _ (c.in_default-close_and_begin.ensures.text es q)))
+    c.self.view_is (begun_closed_at m es c.args.at ok later u _ r c.tables-t.result.now c.ecode-code.result.now c.schedules-schedules.result.now _ _ _ _ _ _ _ _ c.tables-t.ensures.value c.ecode-code.ensures c.schedules-schedules.ensures b text (ends_so _ _ _ _ _ _ _ (c.in_default-close_and_begin.ensures.text es q)))
 
 pub returns-in_default-close_and_begin-clause-before : goal.returns-in_default-close_and_begin-clause-before
 returns-in_default-close_and_begin-clause-before g c = λ es before.
@@ -412,23 +412,23 @@ returns-in_default-close_and_begin-clause-before g c = λ es before.
     let u = subst (λ (z : Seen). IsUpTo z es c.args.at) (sym c.self.view_is) before in
     let r = ready m es c.args.at c.self.inside.path.idle.instrs ok u later c.self.invariant.empty in
     let f = follows_at m.object es c.args.at c.tables-t.result.now c.ecode-code.result.now m.standing c.tables-t.ensures.value c.ecode-code.ensures u.before.values.triggers in
-    let opened = rw (c.tables-t.ensures.value, c.ecode-code.ensures, c.schedule.ensures) at (c.in_default.ensures.world es f) in
+    let opened = rw (c.tables-t.ensures.value, c.ecode-code.ensures, c.schedule.ensures, c.schedules-schedules.ensures) at (c.in_default.ensures.world es f) in
     let same = c.settle.ensures.values ∙ u.before.values.values.values in
     let b = sym (rw c.tables-t.ensures.value at c.round_begins.ensures) ∙ c.if-round_begins.true in
     let z = to_close m es c.args.at c.tables-t.result.now c.ecode-code.result.now c.tables-t.ensures.value c.ecode-code.ensures ok later u _ r c.settle.new.self.values c.settle.ensures.values _ _ opened _ (c.in_default.ensures.noted.values ∙ c.settle.ensures.values) _ (c.in_default.ensures.noted.modes ∙ c.settle.ensures.modes) _ (c.in_default.ensures.writes es f) in
-    let q = to_close_and_begin m es c.args.at c.tables-t.result.now c.ecode-code.result.now _ c.tables-t.ensures.value c.ecode-code.ensures c.as_slice.ensures ok later u b c.open_instant.new.desk (over m es c.args.at ok later u _ c.self.inside.path.idle.instrs refl c.self.invariant.empty r _ _ b opened.records).1 _ _ _ _ z in
-    let counts = rw (c.tables-t.ensures.value, c.ecode-code.ensures, c.schedule.ensures) at (c.in_default.ensures.counts es f) in
-    let more = counts_at m.object es c.args.at c.tables-t.result.now c.ecode-code.result.now c.close_and_begin.new.tally c.open_instant.new.tally c.tables-t.ensures.value c.ecode-code.ensures (c.in_default-close_and_begin.ensures.counts es q) in
+    let q = to_close_and_begin m es c.args.at c.tables-t.result.now c.ecode-code.result.now c.schedules-schedules.result.now _ c.tables-t.ensures.value c.ecode-code.ensures c.schedules-schedules.ensures c.as_slice-takes.ensures ok later u b c.open_instant.new.machines.works.desk (over m es c.args.at ok later u _ c.self.inside.path.idle.instrs refl c.self.invariant.empty r _ _ b opened.records).1 _ _ _ _ z in
+    let counts = rw (c.tables-t.ensures.value, c.ecode-code.ensures, c.schedule.ensures, c.schedules-schedules.ensures) at (c.in_default.ensures.counts es f) in
+    let more = counts_at m.object es c.args.at c.tables-t.result.now c.ecode-code.result.now c.schedules-schedules.result.now c.close_and_begin.new.machines.works.tally c.open_instant.new.machines.works.tally c.tables-t.ensures.value c.ecode-code.ensures c.schedules-schedules.ensures (c.in_default-close_and_begin.ensures.counts es q) in
     let world = rw (c.tables-t.ensures.value, c.ecode-code.ensures) at (c.in_default-close_and_begin.ensures.world es q) in
     let safe = rw (c.tables-t.ensures.value, c.ecode-code.ensures) at c.in_default-close_and_begin.ensures.safe in
     let shaped = rw c.tables-t.ensures.value at c.in_default-close_and_begin.ensures.shaped in
     let reads = rw (c.tables-t.ensures.value, c.ecode-code.ensures) at (c.in_default-close_and_begin.ensures.reads es q) in
-    let desk = begun_at m.object es c.args.at c.tables-t.result.now c.close_and_begin.new.desk c.tables-t.ensures.value (c.in_default-close_and_begin.ensures.desk es q) in
-    let stood = stood_at m.object es c.args.at c.tables-t.result.now c.close_and_begin.new.path.list c.tables-t.ensures.value (c.in_default-close_and_begin.ensures.list es q) in
+    let desk = begun_at m.object es c.args.at c.tables-t.result.now c.schedules-schedules.result.now c.close_and_begin.new.machines.works.desk c.tables-t.ensures.value c.schedules-schedules.ensures (c.in_default-close_and_begin.ensures.desk es q) in
+    let stood = stood_at m.object es c.args.at c.tables-t.result.now c.schedules-schedules.result.now c.close_and_begin.new.path.list c.tables-t.ensures.value c.schedules-schedules.ensures (c.in_default-close_and_begin.ensures.list es q) in
     let t = m.object.tables in
     let code = m.object.ecode in
     let tail : Tally → Tally = λ n. with_records (first_records t (schedules_of m.object) es c.args.at) (with_instrs (length (phase_path t code es c.args.at 3)) (with_instrs (length (phase_path t code es c.args.at 2)) n)) in
-    next_shown_up_to m es c.args.at ok later u c.open_instant.new.sensors.shows c.close_and_begin.new.world c.close_and_begin.new.desk c.close_and_begin.new.m _ _ (first_records t (schedules_of m.object) es c.args.at) c.self.inside.tally c.close_and_begin.new.tally c.in_default.ensures.shows
+    next_shown_up_to m es c.args.at ok later u c.open_instant.new.sensors.shows c.close_and_begin.new.machines.works.world c.close_and_begin.new.machines.works.desk c.close_and_begin.new.machines.emach _ _ (first_records t (schedules_of m.object) es c.args.at) c.self.inside.machines.works.tally c.close_and_begin.new.machines.works.tally c.in_default.ensures.shows
     (passed_of m es c.args.at ok later u _ r c.settle.new.self.values same _ _ opened _ _ world reads safe shaped)
     (desk_begins_so m es c.args.at ok later u _ b desk)
     (list_begins m es c.args.at ok later u _ b stood)
@@ -444,13 +444,13 @@ returns-in-Err-close_and_begin-clause-text g c = λ es before.
     let u = subst (λ (z : Seen). IsUpTo z es c.args.at) (sym c.self.view_is) before in
     let r = ready m es c.args.at c.self.inside.path.idle.instrs ok u later c.self.invariant.empty in
     let f = follows_at m.object es c.args.at c.tables-t.result.now c.ecode-code.result.now m.standing c.tables-t.ensures.value c.ecode-code.ensures u.before.values.triggers in
-    let opened = rw (c.tables-t.ensures.value, c.ecode-code.ensures, c.schedule.ensures) at (c.in_default.ensures.world es f) in
+    let opened = rw (c.tables-t.ensures.value, c.ecode-code.ensures, c.schedule.ensures, c.schedules-schedules.ensures) at (c.in_default.ensures.world es f) in
     let b = sym (rw c.tables-t.ensures.value at c.round_begins.ensures) ∙ c.if-round_begins.true in
     let z = to_close m es c.args.at c.tables-t.result.now c.ecode-code.result.now c.tables-t.ensures.value c.ecode-code.ensures ok later u _ r c.settle.new.self.values c.settle.ensures.values _ _ opened _ (c.in_default.ensures.noted.values ∙ c.settle.ensures.values) _ (c.in_default.ensures.noted.modes ∙ c.settle.ensures.modes) _ (c.in_default.ensures.writes es f) in
-    let q = to_close_and_begin m es c.args.at c.tables-t.result.now c.ecode-code.result.now _ c.tables-t.ensures.value c.ecode-code.ensures c.as_slice.ensures ok later u b c.open_instant.new.desk (over m es c.args.at ok later u _ c.self.inside.path.idle.instrs refl c.self.invariant.empty r _ _ b opened.records).1 _ _ _ _ z in
-    let text = rw (c.tables-t.ensures.value, c.ecode-code.ensures, c.schedule.ensures, c.node.ensures) at (c.in_default.ensures.text es f) in
+    let q = to_close_and_begin m es c.args.at c.tables-t.result.now c.ecode-code.result.now c.schedules-schedules.result.now _ c.tables-t.ensures.value c.ecode-code.ensures c.schedules-schedules.ensures c.as_slice-takes.ensures ok later u b c.open_instant.new.machines.works.desk (over m es c.args.at ok later u _ c.self.inside.path.idle.instrs refl c.self.invariant.empty r _ _ b opened.records).1 _ _ _ _ z in
+    let text = rw (c.tables-t.ensures.value, c.ecode-code.ensures, c.schedule.ensures, c.schedules-schedules.ensures, c.node.ensures) at (c.in_default.ensures.text es f) in
     subst (λ (z : Seen). Puts {T = Unit {0}} {E = Failed} (g.W.Sink.written c.args.sink.now) (g.W.Sink.written c.close_and_begin.new.sink) (g.W.Sink.faults c.args.sink.now) (g.W.Sink.faults c.close_and_begin.new.sink) (lines_of z.object es z.show c.args.at) (Err c.in-Err-close_and_begin.failed))
-    c.self.view_is (begun_closed_at m es c.args.at ok later u _ r c.tables-t.result.now c.ecode-code.result.now _ _ _ _ _ _ _ _ c.tables-t.ensures.value c.ecode-code.ensures b text (fails_so _ _ _ _ _ _ c.in-Err-close_and_begin.failed (c.in-Err-close_and_begin.ensures.text es q)))
+    c.self.view_is (begun_closed_at m es c.args.at ok later u _ r c.tables-t.result.now c.ecode-code.result.now c.schedules-schedules.result.now _ _ _ _ _ _ _ _ c.tables-t.ensures.value c.ecode-code.ensures c.schedules-schedules.ensures b text (fails_so _ _ _ _ _ _ c.in-Err-close_and_begin.failed (c.in-Err-close_and_begin.ensures.text es q)))
 
 pub returns-in_default-close_instant-clause-text : goal.returns-in_default-close_instant-clause-text
 returns-in_default-close_instant-clause-text g c = λ es before.
@@ -460,10 +460,10 @@ returns-in_default-close_instant-clause-text g c = λ es before.
     let u = subst (λ (z : Seen). IsUpTo z es c.args.at) (sym c.self.view_is) before in
     let r = ready m es c.args.at c.self.inside.path.idle.instrs ok u later c.self.invariant.empty in
     let f = follows_at m.object es c.args.at c.tables-t.result.now c.ecode-code.result.now m.standing c.tables-t.ensures.value c.ecode-code.ensures u.before.values.triggers in
-    let opened = rw (c.tables-t.ensures.value, c.ecode-code.ensures, c.schedule.ensures) at (c.in_default.ensures.world es f) in
+    let opened = rw (c.tables-t.ensures.value, c.ecode-code.ensures, c.schedule.ensures, c.schedules-schedules.ensures) at (c.in_default.ensures.world es f) in
     let b = sym (rw c.tables-t.ensures.value at c.round_begins.ensures) ∙ c.if-round_begins.false in
     let q = to_close m es c.args.at c.tables-t.result.now c.ecode-code.result.now c.tables-t.ensures.value c.ecode-code.ensures ok later u _ r c.settle.new.self.values c.settle.ensures.values _ _ opened _ (c.in_default.ensures.noted.values ∙ c.settle.ensures.values) _ (c.in_default.ensures.noted.modes ∙ c.settle.ensures.modes) _ (c.in_default.ensures.writes es f) in
-    let text = rw (c.tables-t.ensures.value, c.ecode-code.ensures, c.schedule.ensures, c.node.ensures) at (c.in_default.ensures.text es f) in
+    let text = rw (c.tables-t.ensures.value, c.ecode-code.ensures, c.schedule.ensures, c.schedules-schedules.ensures, c.node.ensures) at (c.in_default.ensures.text es f) in
     let rest = rw (c.tables-t.ensures.value, c.ecode-code.ensures) at (c.in_default-close_instant.ensures.text es q) in
     subst (λ (z : Seen). Puts {T = Unit {0}} {E = Failed} (g.W.Sink.written c.args.sink.now) (g.W.Sink.written c.close_instant.new.sink) (g.W.Sink.faults c.args.sink.now) (g.W.Sink.faults c.close_instant.new.sink) (lines_of z.object es z.show c.args.at) (Ok _))
     c.self.view_is (going_closed m es c.args.at ok later u _ r _ _ _ _ _ _ _ _ b text (ends_so _ _ _ _ _ _ _ rest))
@@ -476,22 +476,22 @@ returns-in_default-close_instant-clause-before g c = λ es before.
     let u = subst (λ (z : Seen). IsUpTo z es c.args.at) (sym c.self.view_is) before in
     let r = ready m es c.args.at c.self.inside.path.idle.instrs ok u later c.self.invariant.empty in
     let f = follows_at m.object es c.args.at c.tables-t.result.now c.ecode-code.result.now m.standing c.tables-t.ensures.value c.ecode-code.ensures u.before.values.triggers in
-    let opened = rw (c.tables-t.ensures.value, c.ecode-code.ensures, c.schedule.ensures) at (c.in_default.ensures.world es f) in
+    let opened = rw (c.tables-t.ensures.value, c.ecode-code.ensures, c.schedule.ensures, c.schedules-schedules.ensures) at (c.in_default.ensures.world es f) in
     let same = c.settle.ensures.values ∙ u.before.values.values.values in
     let b = sym (rw c.tables-t.ensures.value at c.round_begins.ensures) ∙ c.if-round_begins.false in
     let q = to_close m es c.args.at c.tables-t.result.now c.ecode-code.result.now c.tables-t.ensures.value c.ecode-code.ensures ok later u _ r c.settle.new.self.values c.settle.ensures.values _ _ opened _ (c.in_default.ensures.noted.values ∙ c.settle.ensures.values) _ (c.in_default.ensures.noted.modes ∙ c.settle.ensures.modes) _ (c.in_default.ensures.writes es f) in
-    let counts = rw (c.tables-t.ensures.value, c.ecode-code.ensures, c.schedule.ensures) at (c.in_default.ensures.counts es f) in
+    let counts = rw (c.tables-t.ensures.value, c.ecode-code.ensures, c.schedule.ensures, c.schedules-schedules.ensures) at (c.in_default.ensures.counts es f) in
     let more = rw (c.tables-t.ensures.value, c.ecode-code.ensures) at (c.in_default-close_instant.ensures.counts es q) in
     let world = rw (c.tables-t.ensures.value, c.ecode-code.ensures) at (c.in_default-close_instant.ensures.world es q) in
     let safe = rw (c.tables-t.ensures.value, c.ecode-code.ensures) at c.in_default-close_instant.ensures.safe in
     let shaped = rw c.tables-t.ensures.value at c.in_default-close_instant.ensures.shaped in
     let reads = rw (c.tables-t.ensures.value, c.ecode-code.ensures) at (c.in_default-close_instant.ensures.reads es q) in
     let desk = rw (c.tables-t.ensures.value, c.ecode-code.ensures) at (c.in_default-close_instant.ensures.desk es q) in
-    let stands = c.in_default-close_instant.ensures.stands _ (rw c.schedule.ensures at c.in_default.ensures.stands) in
+    let stands = c.in_default-close_instant.ensures.stands _ (rw (c.schedule.ensures, c.schedules-schedules.ensures) at c.in_default.ensures.stands) in
     let t = m.object.tables in
     let code = m.object.ecode in
     let tail : Tally → Tally = λ n. with_instrs (length (phase_path t code es c.args.at 3)) (with_instrs (length (phase_path t code es c.args.at 2)) n) in
-    next_shown_up_to m es c.args.at ok later u c.open_instant.new.sensors.shows c.close_instant.new.world c.close_instant.new.desk c.close_instant.new.m _ _ [] c.self.inside.tally c.close_instant.new.tally c.in_default.ensures.shows
+    next_shown_up_to m es c.args.at ok later u c.open_instant.new.sensors.shows c.close_instant.new.machines.works.world c.close_instant.new.machines.works.desk c.close_instant.new.machines.emach _ _ [] c.self.inside.machines.works.tally c.close_instant.new.machines.works.tally c.in_default.ensures.shows
     (passed_of m es c.args.at ok later u _ r c.settle.new.self.values same _ _ opened _ _ world reads safe shaped)
     (desk_goes_on m es c.args.at ok later u _ c.self.inside.path.idle.instrs refl c.self.invariant.empty r _ _ _ b opened.records desk stands)
     (list_goes_on m es c.args.at ok later u b)

@@ -21,7 +21,7 @@ invariant_of-self c =
     let s = subst (λ (z : Seen). IsSensorValue z.object.tables c.args.comm c.args.x) (sym c.self.view_is) c.requires.sensor in
     let room : c.args.comm < length c.self.inside.sensors.shows = omega (arith, slice_get_within c.self.inside.loaded.now.tables.comms c.args.comm s.comm s.known, kept.all_shows) in
     let e : c.sense.new.self.shows ≡ set c.self.inside.sensors.shows c.args.comm c.args.x = search rules in
-    let had : c.value-has.result ≡ get_or c.self.inside.world.values c.args.comm (pos 0) = search rules in
+    let had : c.value-has.result ≡ get_or c.self.inside.machines.works.world.values c.args.comm (pos 0) = search rules in
     let marks : (k : ℕ) → is_marked c.sense.new.self.waiting k ≡ cond (eqb k c.args.comm) (not (same c.args.x c.value-has.result)) (is_marked c.self.inside.sensors.waiting k) = λ k. search rules in
     record {
       accepted = kept.accepted;
@@ -31,6 +31,6 @@ invariant_of-self c =
       stands = kept.stands;
       marked = kept.marked;
       waiting = λ free.
-          sensed_waits c.self.inside.loaded.now.tables c.self.inside.sensors c.sense.new.self c.self.inside.world.values c.args.comm c.args.x c.value-has.result (kept.waiting free) room e had marks;
+          sensed_waits c.self.inside.loaded.now.tables c.self.inside.sensors c.sense.new.self c.self.inside.machines.works.world.values c.args.comm c.args.x c.value-has.result (kept.waiting free) room e had marks;
       empty = kept.empty;
     }
