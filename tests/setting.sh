@@ -51,3 +51,12 @@ source_answered() {
 
 # The object of a program without modules, whose communicator u is an int of period 10 and begins at 7.
 small_object() { printf 'HTLO\0\1\0\1\0\0\0\0\0\0\0\0\0\0\0\0\1u\0\0\0\0\0\12\0\0\0\0\0\0\0\7\0\0\0\0\0\0'; }
+
+# The first part of the object of a program of two periods, up to its invocations: F with modes m and n of 10, and G with m of 20.
+two_periods() {
+	printf 'HTLO\0\1\0\1\0\3\0\2\0\0\0\2\0\3\0\0\1u\0\0\0\0\0\12\0\0\0\0\0\0\0\1'
+	printf '\1m\0\0\0\0\0\12\1n\0\0\0\0\0\12\1m\0\1\0\0\0\24\1F\377\377\0\0\1G\377\377\0\2'
+	printf '\1a\0\0\0\0\0\0\3\0\1\0\0\1\0\1b\0\1\0\0\0\0\11\0\0\0\0'
+	for it in '\0\0\0\0' '\0\1\0\0'; do printf "$it"'\377\377\0\1\0\0\0\0\0\0\0\0\1\0\0\0\0\0\0\1'; done
+	printf '\0\2\0\1\377\377\0\0\0\0'
+}

@@ -14,7 +14,7 @@ _htl() {
 	'')
 		local answers=
 		[ "$before" = --explain ] && answers="usage char number name-long long syntax twice unknown kind not-a-tree limit type deep too-long
-			ill-formed unschedulable object magic version short index tag spelling trailing function ecode target action delay endless branch
+			ill-formed hyperperiod starts paths positions unschedulable object magic version short index tag spelling trailing function ecode target action delay endless branch
 			schedule late unfinished before order script form range overrun no-end after size shelf failed read write memory
 			platform text shape log outside over task mode comms parent done"
 		COMPREPLY=($(compgen -W "$commands --explain --unproved $answers --prove --svg --vcd --help --version" -- "$word"))
