@@ -60,3 +60,10 @@ two_periods() {
 	for it in '\0\0\0\0' '\0\1\0\0'; do printf "$it"'\377\377\0\1\0\0\0\0\0\0\0\0\1\0\0\0\0\0\0\1'; done
 	printf '\0\2\0\1\377\377\0\0\0\0'
 }
+
+# The listing, as far as pictures need it, of a program with a module F of period 10 and a module G of 20, which R refines.
+two_rates() {
+	printf '%s\n' 'comm u int period 10 init 1' 'module F start m' 'module G start m' 'module R start r parent G.m' 'mode F.m period 10' \
+		'mode F.n period 10' 'mode G.m period 20' 'mode R.r period 20' 'inv F.m.a worst 3 window 0 10' 'inv G.m.b worst 9 window 0 20 abstract' \
+		'inv R.r.c worst 9 window 0 20 parent G.m.b'
+}
