@@ -37,12 +37,12 @@ _htl() {
 		[ "$command" = go ] && pattern='*.htl'
 		COMPREPLY=($(compgen -d -- "$word") $(compgen -f -X "!$pattern" -- "$word" | while read -r i; do [ -d "$i" ] || printf '%s\n' "$i"; done))
 		;;
-	--vcd) [ "$before" != --vcd ] || COMPREPLY=($(compgen -W "1s 100ms 10ms 1ms 100us 10us 1us 1ns" -- "$word")) ;;
-	--svg)
-		[ "$before" = --svg ] || return
+	--svg | --vcd)
+		[ "$before" = "$command" ] || [ "$command:${COMP_WORDS[COMP_CWORD - 2]}" = --vcd:--vcd ] || return
+		[ "$before" != --vcd ] || COMPREPLY=($(compgen -W "1s 100ms 10ms 1ms 100us 10us 1us 1ns" -- "$word"))
 		compopt -o filenames 2>/dev/null
 		local IFS=$'\n'
-		COMPREPLY=($(compgen -f -- "$word"))
+		COMPREPLY+=($(compgen -f -- "$word"))
 		;;
 	esac
 }
