@@ -50,11 +50,15 @@ ask_all() {
 	ask_changed compile-slow "$root/examples/soft.htl" 's/worst 120/worst 121/; s/worst 80/worst 121/'
 	ask_changed compile-belt "$root/examples/overload.htl" 's/(kind, 3)/(kind, 4)/'
 	ask_changed compile-whole "$root/examples/tanks.htl" "$(sed -n 's/.*\(task soft .*\)/s:task damp .*:\1:/p' "$root/examples/soft.htl"); s/invoke damp/invoke soft/"
+	# The tanks with rounds of 1000 for the second one, and the same with the other law.
+	ask_changed compile-uneven "$root/examples/tanks.htl" '/module T2/,/^  }/s/500/1000/'
+	sed '/module T2/,/^  }/s/500/1000/' "$work/asked/cases/compile-whole" >"$work/asked/lines"
+	ask compile-whole-uneven lines compile
 	ask_whole
 	ask_page
 	answer_all
 	for it in $examples; do grep '^j ' "$work/asked/go-$it.out" >"$work/asked/data/$it.log"; done
-	for it in $examples soft slow whole; do cp "$work/asked/compile-$it.out" "$work/asked/data/$it.object"; done
+	for it in $examples soft slow whole uneven whole-uneven; do cp "$work/asked/compile-$it.out" "$work/asked/data/$it.object"; done
 	(
 		cd "$work/asked/data" || exit
 		ask_for_all
@@ -186,6 +190,8 @@ ask_for_all() {
 	ask plan-after lines plan small.object
 	for it in filter control guard none; do ask slack-$it /dev/null slack motor.object Drive.$it; done
 	for it in soft slow; do ask patch-$it /dev/null patch tanks.object T1.hold $it.object; done
+	ask patch-uneven /dev/null patch uneven.object T1.hold soft.object
+	ask show-whole-uneven /dev/null show whole-uneven.object
 	ask show-whole /dev/null show whole.object
 	ask jobs-whole "$root/examples/tanks.script" jobs whole.object
 	ask patch-mode /dev/null patch tanks.object T1.none soft.object
