@@ -43,13 +43,14 @@ ask_all() {
 	*'no proved program'* | *'older than'*) ;;
 	*) : >"$work/asked/proved" ;;
 	esac
-	cp "$root"/examples/*.htl "$work/asked/data"
+	cp "$root"/examples/*.htl "$root"/examples/*.toml "$work/asked/data"
 	sed 's/(kind, 3)/(kind, 4)/' "$root/examples/overload.htl" >"$work/asked/data/belt.htl"
 	for it in $examples; do ask go-$it "$(script_of $it)" go $it.htl; done
 	for it in $examples soft; do ask compile-$it "$work/asked/data/$it.htl" compile; done
 	ask_changed compile-slow "$root/examples/soft.htl" 's/worst 120/worst 121/; s/worst 80/worst 121/'
 	ask_changed compile-belt "$root/examples/overload.htl" 's/(kind, 3)/(kind, 4)/'
 	ask_changed compile-whole "$root/examples/tanks.htl" "$(sed -n 's/.*\(task soft .*\)/s:task damp .*:\1:/p' "$root/examples/soft.htl"); s/invoke damp/invoke soft/"
+	for it in slow fast; do ask compile-on-$it "$root/examples/motor.htl" compile with $it.toml; done
 	# The tanks with rounds of 1000 for the second one, and the same with the other law.
 	ask_changed compile-uneven "$root/examples/tanks.htl" '/module T2/,/^  }/s/500/1000/'
 	sed '/module T2/,/^  }/s/500/1000/' "$work/asked/cases/compile-whole" >"$work/asked/lines"
@@ -58,7 +59,7 @@ ask_all() {
 	ask_page
 	answer_all
 	for it in $examples; do grep '^j ' "$work/asked/go-$it.out" >"$work/asked/data/$it.log"; done
-	for it in $examples soft slow whole uneven whole-uneven; do cp "$work/asked/compile-$it.out" "$work/asked/data/$it.object"; done
+	for it in $examples soft slow whole uneven whole-uneven on-slow on-fast; do cp "$work/asked/compile-$it.out" "$work/asked/data/$it.object"; done
 	(
 		cd "$work/asked/data" || exit
 		ask_for_all
@@ -190,6 +191,13 @@ ask_for_all() {
 	ask plan-after lines plan small.object
 	for it in filter control guard none; do ask slack-$it /dev/null slack motor.object Drive.$it; done
 	for it in soft slow; do ask patch-$it /dev/null patch tanks.object T1.hold $it.object; done
+	for it in on-slow on-fast; do
+		ask check-$it /dev/null check $it.object
+		ask show-$it /dev/null show $it.object
+		ask jobs-$it "$root/examples/motor.script" jobs $it.object
+	done
+	sed 's/worst 6/worst 7/' motor.htl >"$work/asked/lines"
+	ask compile-on-slow-late lines compile with slow.toml
 	ask patch-uneven /dev/null patch uneven.object T1.hold soft.object
 	ask show-whole-uneven /dev/null show whole-uneven.object
 	ask show-whole /dev/null show whole.object
