@@ -43,18 +43,23 @@ ask_all() {
 	*'no proved program'* | *'older than'*) ;;
 	*) : >"$work/asked/proved" ;;
 	esac
-	cp "$root"/examples/*.htl "$work/asked/data"
+	cp "$root"/examples/*.htl "$root"/examples/*.toml "$work/asked/data"
 	sed 's/(kind, 3)/(kind, 4)/' "$root/examples/overload.htl" >"$work/asked/data/belt.htl"
 	for it in $examples; do ask go-$it "$(script_of $it)" go $it.htl; done
 	for it in $examples soft; do ask compile-$it "$work/asked/data/$it.htl" compile; done
 	ask_changed compile-slow "$root/examples/soft.htl" 's/worst 120/worst 121/; s/worst 80/worst 121/'
 	ask_changed compile-belt "$root/examples/overload.htl" 's/(kind, 3)/(kind, 4)/'
 	ask_changed compile-whole "$root/examples/tanks.htl" "$(sed -n 's/.*\(task soft .*\)/s:task damp .*:\1:/p' "$root/examples/soft.htl"); s/invoke damp/invoke soft/"
+	for it in slow fast; do ask compile-on-$it "$root/examples/motor.htl" compile with $it.toml; done
+	# The tanks with rounds of 1000 for the second one, and the same with the other law.
+	ask_changed compile-uneven "$root/examples/tanks.htl" '/module T2/,/^  }/s/500/1000/'
+	sed '/module T2/,/^  }/s/500/1000/' "$work/asked/cases/compile-whole" >"$work/asked/lines"
+	ask compile-whole-uneven lines compile
 	ask_whole
 	ask_page
 	answer_all
 	for it in $examples; do grep '^j ' "$work/asked/go-$it.out" >"$work/asked/data/$it.log"; done
-	for it in $examples soft slow whole; do cp "$work/asked/compile-$it.out" "$work/asked/data/$it.object"; done
+	for it in $examples soft slow whole uneven whole-uneven on-slow on-fast; do cp "$work/asked/compile-$it.out" "$work/asked/data/$it.object"; done
 	(
 		cd "$work/asked/data" || exit
 		ask_for_all
@@ -109,11 +114,46 @@ ask_unproved() {
 	{ told = told $0 "\n" }' "$work/asked/told"
 }
 
+# Asks to compile a source of two modules that do nothing: a name, their periods, and what else stands in the first.
+ask_rates() {
+	lines "program P { module A start m { mode m period $2 { } ${4-} } module B start m { mode m period $3 { } } }"
+	ask "$1" lines compile
+}
+
+# Asks for frames at their limits and beyond, and for a program whose modules have the periods 10 and 20.
+ask_frames() {
+	ask_rates frame-multiple 1000000 999999
+	ask_rates frame-starts 10 330
+	ask_rates frame-32-starts 10 320
+	ask_rates frame-paths 10 110 'mode n period 10 { }'
+	ask_rates frame-1024-paths 10 100 'mode n period 10 { }'
+	for it in 12 13; do
+		awk -v n=$it 'BEGIN {
+			printf "program P { module A start m { "
+			for (i = 1; i <= n; i++) printf "task t%d input () output () worst 1; ", i
+			printf "mode m period 20 { "
+			for (i = 1; i <= n; i++) printf "invoke t%d input () output (); ", i
+			print "} } module B start m { mode m period 200 { } } }"
+		}' >"$work/asked/lines"
+		ask frame-$((10 * it))-positions lines compile
+	done
+	for it in 9 15; do
+		lines 'program P {' '  communicator int u period 10 init 1;' '  communicator int w period 10 init 0;' \
+			'  module F start m { task a input (int i) output (int o = i + 1) worst 3;' \
+			'    mode m period 10 { invoke a input ((u, 0)) output ((u, 1)); } }' \
+			"  module G start m { task b input (int i) output (int o = i * 10) worst $it;" \
+			'    mode m period 20 { invoke b input ((u, 0)) output ((w, 2)); } }' '}'
+		cp "$work/asked/lines" rates-$it.htl
+		lines 'end 20'
+		ask go-rates-$it lines go rates-$it.htl
+	done
+}
+
 # All that is asked, in the folder of the files that the words name.
 ask_for_all() {
-	cp "$root/examples/loops.log" monotonic.log
+	cp "$root/examples/cascade.log" monotonic.log
 	cp ../compile-belt.out belt.object
-	printf '%s\n' 'j 0 3 Servo.run.first' 'j 3 9 Servo.run.plan' 'j 9 12 Servo.run.second' >late.log
+	printf '%s\n' 'j 0 3 Inner.turn.steer' 'j 3 9 Outer.track.plan' 'j 9 12 Inner.turn.steer' >late.log
 	size=$(wc -c <tanks.object)
 	head -c $((size - 1)) tanks.object >cut.object
 	# The first dispatch ends at 200 in place of 220.
@@ -124,16 +164,16 @@ ask_for_all() {
 	sed 's/worst 110/worst 130/' tanks.htl >greedy.htl
 	awk 'BEGIN { for (i = 0; i < 1048577; i++) printf " " }' >long.htl
 
-	for it in monotonic late; do ask audit-$it "$root/examples/loops.script" audit loops.object $it.log; done
+	for it in monotonic late; do ask audit-$it "$root/examples/cascade.script" audit cascade.object $it.log; done
 	for it in overload; do ask go-$it "$root/examples/$it.script" go $it.htl; done
 	lines 'end 0'
 	for it in belt-read belt-worst greedy long missing; do ask go-$it lines go $it.htl; done
 
-	for it in tanks cut short-of-time small; do ask check-$it /dev/null check $it.object; done
-	for it in tanks motor boiler loops belt; do ask show-$it /dev/null show $it.object; done
+	for it in tanks cascade cut short-of-time small; do ask check-$it /dev/null check $it.object; done
+	for it in tanks motor boiler cascade belt; do ask show-$it /dev/null show $it.object; done
 	ask show-small /dev/null show small.object
 	for it in jobs run; do ask $it-tanks "$root/examples/tanks.script" $it tanks.object; done
-	ask code-motor "$root/examples/motor.script" code motor.object
+	for it in motor cascade; do ask code-$it "$root/examples/$it.script" code $it.object; done
 	ask jobs-short-of-time "$root/examples/tanks.script" jobs short-of-time.object
 	lines 'at 0' 'sense h1 250' 'at 200' 'took C1.p.prop 61'
 	ask jobs-overrun lines jobs tanks.object
@@ -142,13 +182,25 @@ ask_for_all() {
 		lines 'mode T1 hold' "mode C1 $it" 'mode T2 hold'
 		ask plan-$it lines plan tanks.object
 	done
+	lines 'mode Outer track' 'mode Inner turn'
+	ask plan-cascade lines plan cascade.object
 	lines 'mode T1 hold' 'mode C1 -'
 	ask plan-inactive lines plan tanks.object
 	ask plan-small /dev/null plan small.object
 	lines 'mode M m'
 	ask plan-after lines plan small.object
 	for it in filter control guard none; do ask slack-$it /dev/null slack motor.object Drive.$it; done
+	ask slack-cascade /dev/null slack cascade.object Outer.plan
 	for it in soft slow; do ask patch-$it /dev/null patch tanks.object T1.hold $it.object; done
+	for it in on-slow on-fast; do
+		ask check-$it /dev/null check $it.object
+		ask show-$it /dev/null show $it.object
+		ask jobs-$it "$root/examples/motor.script" jobs $it.object
+	done
+	sed 's/worst 6/worst 7/' motor.htl >"$work/asked/lines"
+	ask compile-on-slow-late lines compile with slow.toml
+	ask patch-uneven /dev/null patch uneven.object T1.hold soft.object
+	ask show-whole-uneven /dev/null show whole-uneven.object
 	ask show-whole /dev/null show whole.object
 	ask jobs-whole "$root/examples/tanks.script" jobs whole.object
 	ask patch-mode /dev/null patch tanks.object T1.none soft.object
@@ -157,6 +209,8 @@ ask_for_all() {
 
 	ask compile-overload overload.htl compile
 	ask compile-long long.htl compile
+	ask_changed compile-slow-plan cascade.htl 's/worst 30/worst 36/'
+	ask_frames
 	ask_changed compile-twice thermostat.htl 's/door period/temperature period/'
 	ask_output compile-type 'x < 2'
 	ask_output compile-operator 'x + (x < 2)'

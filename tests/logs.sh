@@ -11,16 +11,16 @@ Burner.startup.ignite 100 0 100
 Burner.normal.regulate 100 50 100
 Burner.emergency.shut 100 0 50
 Panel.show.warn 100 0 100
-Servo.run.plan 20 0 20
-Servo.run.first 20 0 10
-Servo.run.second 20 10 20
+Outer.track.plan 50 0 50
+Inner.turn.steer 10 0 10
+Inner.free.coast 10 0 10
 Camera.slow.label 100 20 100
 Camera.fast.label 100 20 80
 Gate.work.steer 100 20 50
 Gate.work.count 100 0 100'
 
 # The examples that run: the belt in a mended form.
-examples='thermostat tanks motor boiler loops belt'
+examples='thermostat tanks motor boiler cascade belt'
 
 script_of() { case $1 in belt) echo "$root/examples/overload.script" ;; *) echo "$root/examples/$1.script" ;; esac; }
 

@@ -51,3 +51,19 @@ source_answered() {
 
 # The object of a program without modules, whose communicator u is an int of period 10 and begins at 7.
 small_object() { printf 'HTLO\0\1\0\1\0\0\0\0\0\0\0\0\0\0\0\0\1u\0\0\0\0\0\12\0\0\0\0\0\0\0\7\0\0\0\0\0\0'; }
+
+# The first part of the object of a program of two periods, up to its invocations: F with modes m and n of 10, and G with m of 20.
+two_periods() {
+	printf 'HTLO\0\1\0\1\0\3\0\2\0\0\0\2\0\3\0\0\1u\0\0\0\0\0\12\0\0\0\0\0\0\0\1'
+	printf '\1m\0\0\0\0\0\12\1n\0\0\0\0\0\12\1m\0\1\0\0\0\24\1F\377\377\0\0\1G\377\377\0\2'
+	printf '\1a\0\0\0\0\0\0\3\0\1\0\0\1\0\1b\0\1\0\0\0\0\11\0\0\0\0'
+	for it in '\0\0\0\0' '\0\1\0\0'; do printf "$it"'\377\377\0\1\0\0\0\0\0\0\0\0\1\0\0\0\0\0\0\1'; done
+	printf '\0\2\0\1\377\377\0\0\0\0'
+}
+
+# The listing, as far as pictures need it, of a program with a module F of period 10 and a module G of 20, which R refines.
+two_rates() {
+	printf '%s\n' 'comm u int period 10 init 1' 'module F start m' 'module G start m' 'module R start r parent G.m' 'mode F.m period 10' \
+		'mode F.n period 10' 'mode G.m period 20' 'mode R.r period 20' 'inv F.m.a worst 3 window 0 10' 'inv G.m.b worst 9 window 0 20 abstract' \
+		'inv R.r.c worst 9 window 0 20 parent G.m.b'
+}

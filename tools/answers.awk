@@ -24,13 +24,18 @@ function name_of(text,    w, n, i) {
 	n = split(text, part, " ")
 	w = part[1]
 	if (w == "source") return "source " part[2] (part[2] == "limit" ? " " part[3] : "")
-	if (w == "ill-formed") return w " " part[2]
+	if (w == "ill-formed") return w " " part[2] (part[2] == 2 ? limit_of(part[8]) : "")
 	if (w == "object" && part[2] == "malformed") return w " " part[2] " " part[3]
 	if (w == "object" && part[2] != "function") return w " " part[2] " " part[4]
 	if (w == "object") return w " " part[2]
 	if (w == "script" || w == "log") return w " " part[3]
 	if (w == "shelf" || w == "platform" || w == "patch") return w " " part[2]
 	return w
+}
+
+# The limit of rule 2 that asks for so much; each of the four has an entry of its own.
+function limit_of(need) {
+	return need == 1000000 ? " hyperperiod" : need == 32 ? " starts" : need == 1024 ? " paths" : need == 128 ? " positions" : ""
 }
 
 # An answer by its own name.
@@ -47,6 +52,9 @@ function filled(text,    hole, out) {
 	}
 	return out text
 }
+
+# Whether this entry is that of the whole name that is asked for, or one of those of rule 2 where the limit isn't said.
+function is_named(name) { return name == asked || asked == "ill-formed 2" && index(name, asked " ") == 1 }
 
 function is_asked(name, status) {
 	return word ~ /^[0-9]+$/ ? word == status : index(" " name " ", " " word " ")
@@ -70,7 +78,7 @@ line != "" && $2 == asked {
 	found = 1
 }
 
-line == "" && (asked != "" ? $2 == asked : word == "" || is_asked($2, $1)) {
+line == "" && (asked != "" ? is_named($2) : word == "" || is_asked($2, $1)) {
 	found = 1
 	if (word == "") printf "%2d  %s\n", $1, $2
 	else printf "%shtl: %s (status %d)\n  %s\n  %s\n", many++ ? "\n" : "", named($2), (of == "" ? $1 : of_status), filled($3), filled($4)

@@ -25,9 +25,9 @@ audit_row() {
 # Audits of an example, by slices and by ticks.
 example_rows() {
 	is_chosen "audit example" || is_chosen "audit example by ticks" || return 0
-	"$program" compile <"$tools/../examples/loops.htl" >"$room/object" || return 0
-	! is_chosen "audit example" || audit_row "audit example" 1000 20 4000000
-	! is_chosen "audit example by ticks" || audit_row "audit example by ticks" 1 20 1000000
+	"$program" compile <"$tools/../examples/cascade.htl" >"$room/object" || return 0
+	! is_chosen "audit example" || audit_row "audit example" 1000 50 4000000
+	! is_chosen "audit example by ticks" || audit_row "audit example by ticks" 1 50 1000000
 }
 
 # An audit of a plant: $1 its label, $2 its period, then its kind and awk variables.

@@ -1,19 +1,22 @@
 # Plants for tools/bench.
 # A plant is a source of root modules: `modules` of them, of which the first `many` have `modes` modes and the others
 # one; a mode has `jobs` invocations, with `chain` each reads a port of the one before, and `switches` that never hold;
-# `tasks` more tasks, `sensors`, a round of `period` ticks; with `counts` each output grows from round to round.
+# `tasks` more tasks, `sensors`, a round of `period` ticks; with `counts` each output grows from round to round. With `times`
+# the first module has so many rounds in one of the others.
 # Readers is a source with 20 invocations that write 60 ports and 100 that read 56 of them each.
 # Generated is the program of `bulk`, with `modules` modules.
+
+function period_of_plant(m) { return m || !times ? period : period / times }
 
 function plant(    m, k, j, s) {
 	add(0, "program Plant {\n")
 	for (s = 0; s < sensors; s++) add(0, sprintf("  sensor int sensor_%04d period %d init 0;\n", s, period))
 	for (m = 0; m < modules; m++) {
-		for (j = 0; j < jobs; j++) add(0, sprintf("  communicator int out_%02d_%03d period %d init 0;\n", m, j, period))
+		for (j = 0; j < jobs; j++) add(0, sprintf("  communicator int out_%02d_%03d period %d init 0;\n", m, j, period_of_plant(m)))
 		add(1, sprintf("  module module_%02d start mode_000 {\n", m))
 		for (j = 0; j < jobs + (m ? 0 : tasks); j++) add(1, task_of_plant(j))
 		for (k = 0; k < (m < many ? modes : 1); k++) {
-			add(1, sprintf("    mode mode_%03d period %d {\n", k, period))
+			add(1, sprintf("    mode mode_%03d period %d {\n", k, period_of_plant(m)))
 			if (chain) for (j = 0; j < jobs; j++) add(1, sprintf("      port int port_%03d;\n", j))
 			for (j = 0; j < jobs; j++) add(1, invocation_of_plant(m, j))
 			for (s = 0; s < switches; s++) {

@@ -31,18 +31,18 @@ stage_rows() {
 	done
 }
 
-# A plant, $1 its name, $2 its selections, then awk variables: compiled and checked.
+# A plant, $1 its name, $2 its paths, then awk variables: compiled and checked.
 plant_rows() {
-	name=$1 selections=$2
+	name=$1 paths=$2
 	shift 2
 	is_chosen "compile $name" || is_chosen "check $name" || return 0
 	input=$room/source
 	make "$@"
-	! is_chosen "compile $name" || row "compile $name" selection "$selections" "$input" 0 compile
+	! is_chosen "compile $name" || row "compile $name" path "$paths" "$input" 0 compile
 	is_chosen "check $name" || return 0
 	"$program" compile <"$input" >"$room/object" 2>/dev/null
 	input=/dev/null
-	row "check $name" selection "$selections" "$room/object" 0 check "$room/object"
+	row "check $name" path "$paths" "$room/object" 0 check "$room/object"
 }
 
 # The object of a plant, whose awk variables are the words, and in `base` the instructions of its run that ends at 0.

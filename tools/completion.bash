@@ -14,7 +14,7 @@ _htl() {
 	'')
 		local answers=
 		[ "$before" = --explain ] && answers="usage char number name-long long syntax twice unknown kind not-a-tree limit type deep too-long
-			ill-formed unschedulable object magic version short index tag spelling trailing function ecode target action delay endless branch
+			ill-formed hyperperiod starts paths positions unschedulable object magic version short index tag spelling trailing function ecode target action delay endless branch
 			schedule late unfinished before order script form range overrun no-end after size shelf failed read write memory
 			platform text shape log outside over task mode comms parent done"
 		COMPREPLY=($(compgen -W "$commands --explain --unproved $answers --prove --svg --vcd --help --version" -- "$word"))
@@ -37,12 +37,12 @@ _htl() {
 		[ "$command" = go ] && pattern='*.htl'
 		COMPREPLY=($(compgen -d -- "$word") $(compgen -f -X "!$pattern" -- "$word" | while read -r i; do [ -d "$i" ] || printf '%s\n' "$i"; done))
 		;;
-	--vcd) [ "$before" != --vcd ] || COMPREPLY=($(compgen -W "1s 100ms 10ms 1ms 100us 10us 1us 1ns" -- "$word")) ;;
-	--svg)
-		[ "$before" = --svg ] || return
+	--svg | --vcd)
+		[ "$before" = "$command" ] || [ "$command:${COMP_WORDS[COMP_CWORD - 2]}" = --vcd:--vcd ] || return
+		[ "$before" != --vcd ] || COMPREPLY=($(compgen -W "1s 100ms 10ms 1ms 100us 10us 1us 1ns" -- "$word"))
 		compopt -o filenames 2>/dev/null
 		local IFS=$'\n'
-		COMPREPLY=($(compgen -f -- "$word"))
+		COMPREPLY+=($(compgen -f -- "$word"))
 		;;
 	esac
 }

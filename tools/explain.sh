@@ -3,6 +3,7 @@
 . "$tools/log.sh"
 . "$tools/files.sh"
 . "$tools/names.sh"
+. "$tools/paths.sh"
 
 outline() { LC_ALL=C awk -f "$tools/outline.awk" <"$1" 2>/dev/null; }
 
@@ -56,14 +57,6 @@ at_program() {
 	[ -z "$line" ] && echo "$meaning" || numbered_line "$1" "$line" "$meaning"
 }
 
-overload() {
-	echo "$shown: $meaning"
-	{
-		outline "$1"
-		[ -z "$platform" ] || LC_ALL=C awk -v values=1 -f "$tools/entries.awk" <"$platform"
-	} 2>/dev/null | awk -v selection="$2" -v from="$4" -v to="$6" -v demand="$8" -f "$tools/overload.awk" | sed 's/^/    /'
-}
-
 at_script_line() {
 	case $form in file | files) shown=$input ;; esac
 	if [ -n "$1" ] && [ "$2" != no-end ]; then
@@ -108,6 +101,7 @@ explain_fault() {
 			at_item "$2" "${item%% *}"
 			have=${item#* have }
 			case $1 in
+			'htl: ill-formed 2 '*) frame_rows "$2" ;;
 			'htl: ill-formed 12 '*)
 				outline "$2" | awk -v number="${1##* }" '$1 == "comm" && number-- == 0 { print "    communicator " $3 " of line " $2 }'
 				by_number "$2" "${have%% *}"
@@ -116,6 +110,7 @@ explain_fault() {
 			esac
 			;;
 		'htl: unschedulable '*) overload "$2" ${1#htl: unschedulable } ;;
+		'htl: object schedule '*) unserved_path "$2" ${1#htl: object schedule } ;;
 		'htl: task')
 			echo "$shown: $meaning"
 			root_tasks | nearest "$task"

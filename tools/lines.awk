@@ -96,11 +96,27 @@ $1 == "d" && NF == 3 && is_name($3, 3) {
 
 { refuse("is none that a run, a plan or an audit prints: " shown($0)) }
 
+# A plan has no lines of modes: each module stays in the mode that its jobs are of. The order is that of the listing, where one is there.
+function modes_of_plan(    i, j) {
+	for (i = 1; i <= invs; i++) if (("j", inv_name[i]) in numbers) stay_in_mode(inv_name[i])
+	for (j = 1; j <= items["j"]; j++) stay_in_mode(name_j[j])
+}
+
+function stay_in_mode(name,    part, m) {
+	split(name, part, ".")
+	m = number_of("m", part[1])
+	name_m[m] = part[1]
+	moves[m] = 1
+	when[m, 1] = 0
+	mode[m, 1] = part[2]
+}
+
 END {
 	if (!failed && !instants) {
 		print "bin/htl: standard input has no line of a run; try: bin/htl go SOURCE < SCRIPT > RUN" | "cat 1>&2"
 		failed = 1
 	}
 	if (failed) exit 1
+	if (totals ~ /^plan / && !items["m"]) modes_of_plan()
 	if (refused in slice_of && refused_for != "short") refused_slice[slice_of[refused]] = 1
 }

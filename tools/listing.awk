@@ -1,5 +1,6 @@
 # Reads a listing, what `show` prints, in front of a run: kind[COMMUNICATOR], comm or sensor; period[MODULE.MODE]; of the
-# invocations with code inv_name[i], i from 1 to invs, and release[NAME] and window_end[NAME]; is_listed[NAME] of all invocations.
+# invocations with code inv_name[i], i from 1 to invs, and release[NAME] and window_end[NAME]; is_listed[NAME] of all invocations;
+# of modules module_period[NAME], and is_root[NAME] of those of the first program.
 
 reading == "listing" {
 	sub(/\r$/, "")
@@ -21,6 +22,7 @@ function is_of_listing() {
 	if ($1 == "mode" && NF == 4 && is_name($2, 2) && $3 == "period" && is_ticks($4) && $4 + 0 > 0) {
 		once("m", $2)
 		period[$2] = $4 + 0
+		module_period[substr($2, 1, index($2, ".") - 1)] = $4 + 0
 		return 1
 	}
 	if ($1 == "inv" && NF > 6 && is_name($2, 3) && $3 == "worst" && $5 == "window" && is_ticks($6) && is_ticks($7) && $6 + 0 < $7 + 0) {
@@ -32,7 +34,10 @@ function is_of_listing() {
 		window_end[$2] = $7 + 0
 		return 1
 	}
-	if ($1 == "module") return (NF == 4 || NF == 6 && $5 == "parent") && $3 == "start"
+	if ($1 == "module") {
+		if (NF == 4) is_root[$2] = 1
+		return (NF == 4 || NF == 6 && $5 == "parent") && $3 == "start"
+	}
 	return $1 == "platform" && NF == 2 || $1 == "fn" && NF == 4 && $3 == "instrs" || ($1 == "E" || $1 == "S") && NF > 2
 }
 

@@ -84,16 +84,20 @@ function wrong_field() {
 	return kind == "over" ? 3 : 2
 }
 
-# The first jobs that fell short, by the rounds in which they did.
-function tell_short(    i, at, found) {
-	for (at = 0; at <= last && !found; at++)
-		for (i = 1; i <= invs; i++) {
-			if (at * period[mode_of[name[i]]] > last) continue
-			if (closes(name[i], at) <= last && stands(name[i], at) && left(name[i], at) > 0) {
-				tell(name[i], at)
-				found = 1
-			}
-		}
+# Whether its job of that round fell short by the end of the run.
+function fell_short(inv, k) { return closes(inv, k) <= last && stands(inv, k) && left(inv, k) > 0 }
+
+# The first jobs that fell short: those of the first rounds in which some did.
+function tell_short(    i, k, its_period, least) {
+	least = last + 1
+	for (i = 1; i <= invs; i++) {
+		its_period = period[mode_of[name[i]]]
+		for (k = 0; k * its_period < least && k * its_period <= last; k++) if (fell_short(name[i], k)) least = k * its_period
+	}
+	for (i = 1; i <= invs; i++) {
+		k = least / period[mode_of[name[i]]]
+		if (k == int(k) && fell_short(name[i], k)) tell(name[i], k)
+	}
 }
 
 END {

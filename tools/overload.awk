@@ -1,21 +1,9 @@
-# Over the outline of a source: the modes of one choice of modes of the first program's modules, and the jobs that must
-# run within an overloaded interval. selection: the number of the choice; from, to, demand: as the fault line has them.
-# A job's window is tightened: it begins no earlier than what it waits for can be done, and ends early enough for what
-# waits for it. Lines `worst TASK TICKS` behind the outline have the worst cases of a platform. Nothing is said of the jobs where they don't make up the demand.
+# Behind path.awk: the modes of a path, and the jobs that must run within an overloaded interval of it. path: its number; from, to,
+# demand: as the fault line has them. A job's window is tightened: it begins no earlier than what it waits for can be done, and
+# ends early enough for what waits for it. Nothing is said of the jobs where they don't make up the demand.
 
-$1 == "program" && root == "" { root = $3 }
-$1 == "comm" { comm_period[$3] = $4 }
-$1 == "module" && $4 == root { modules[++module_count] = $3 }
-$1 == "task" { worst[$3 "." $4] = $5 }
-$1 == "worst" { worst[$2] = $3 }
-$1 == "mode" {
-	modes[$3, ++mode_count[$3]] = $4
-	period[$3 "." $4] = $5
-}
-$1 == "invoke" { invocations[$3 "." $4, ++invocation_count[$3 "." $4]] = $0 }
-
-# Adds the job of an invocation, an outline line, in a mode of that period.
-function add_job(text, length_,    word, n, i, part, offset, k) {
+# Adds the job of an invocation, an outline line, in a mode of that period, for the round that begins at `at`.
+function add_job(text, length_, at,    word, n, i, part, offset, k) {
 	n = split(text, word, " ")
 	k = ++jobs
 	name[k] = word[3] "." word[4] "." word[5]
@@ -30,13 +18,13 @@ function add_job(text, length_,    word, n, i, part, offset, k) {
 			if (word[i] ~ /^</ && offset > release[k]) release[k] = offset
 			if (word[i] ~ /^>/ && offset < end[k]) end[k] = offset
 		} else if (word[i] ~ /^</) {
-			waits[k] = waits[k] " " word[3] "." word[4] ":" substr(word[i], 2)
+			waits[k] = waits[k] " " word[3] "." word[4] ":" substr(word[i], 2) ":" at
 		} else if (word[i] ~ /^>/) {
-			writer[word[3] "." word[4] ":" substr(word[i], 2)] = k
+			writer[word[3] "." word[4] ":" substr(word[i], 2) ":" at] = k
 		}
 	}
-	early[k] = release[k]
-	late[k] = end[k]
+	early[k] = release[k] += at
+	late[k] = end[k] += at
 }
 
 # Tightens the windows until nothing changes; there are no cycles, so as many turns as jobs are enough.
@@ -59,30 +47,32 @@ function tighten(    turn, k, n, i, port, p, changed) {
 	}
 }
 
+# The jobs of an invocation in the interval, the first and the last, in one line.
+function print_jobs(k, last,    text) {
+	text = "line " place[k] ": " name[k] " takes " takes[k]
+	if (k == last) text = text " from " release[k] " to " end[k]
+	else text = text " in each of " told[name[k]] " rounds, from " release[k] " to " end[k] " in the first and from " release[last] " to " end[last] " in the last"
+	if (early[k] != release[k] || late[k] != end[k])
+		text = text ", with what it waits for and what waits for it from " early[k] " to " late[k] (k == last ? "" : " in the first")
+	print text
+}
+
 END {
-	rest = selection
-	for (i = module_count; i > 0; i--) {
-		count = mode_count[modules[i]]
-		if (!count) exit 1
-		chosen[i] = modes[modules[i], rest % count + 1]
-		rest = int(rest / count)
-	}
-	for (i = 1; i <= module_count; i++) {
-		mode = modules[i] "." chosen[i]
-		text = text " " mode
-		for (k = 1; k <= invocation_count[mode]; k++) add_job(invocations[mode, k], period[mode])
-	}
+	if (!choose(path)) exit 1
+	for (j = 1; j <= starts; j++)
+		for (i = 1; i <= modules; i++) {
+			if (!begins(i, j)) continue
+			mode = module[i] "." chosen[i, j]
+			for (k = 1; k <= invocation_count[mode]; k++) add_job(invocation[mode, k], period[mode], start[j])
+		}
 	tighten()
-	if (module_count) print "its modes:" text
+	if (modules) print_modes()
 	for (k = 1; k <= jobs; k++) {
-		inside[k] = early[k] >= from && late[k] <= to
-		if (inside[k]) sum += takes[k]
+		if (early[k] < from || late[k] > to) continue
+		sum += takes[k]
+		if (!told[name[k]]++) first[++names] = k
+		last_of[name[k]] = k
 	}
 	if (sum != demand) exit 0
-	for (k = 1; k <= jobs; k++) {
-		if (!inside[k]) continue
-		line = "line " place[k] ": " name[k] " takes " takes[k] " from " release[k] " to " end[k]
-		if (early[k] != release[k] || late[k] != end[k]) line = line ", with what it waits for and what waits for it from " early[k] " to " late[k]
-		print line
-	}
+	for (i = 1; i <= names; i++) print_jobs(first[i], last_of[name[first[i]]])
 }

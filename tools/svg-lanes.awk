@@ -19,11 +19,19 @@ function mode_lane(m,    k, a, b, wide) {
 		if (!((m, mode[m, k]) in hue)) hue[m, mode[m, k]] = hues[m]++ % 6
 		box("mode h" hue[m, mode[m, k]], a, b, y + 3, 18, name_m[m] "." mode[m, k] " from " a " to " b)
 		if (a < begin) a = begin
-		wide = x_of(b > finish ? finish : b) - x_of(a)
+		b = b > finish ? finish : b
+		if (round_of[m] * scale >= 5) printf "%s", round_signs(m, a, b)
+		wide = x_of(b) - x_of(a)
 		free = 0
 		label(x_of(a) + 4, y + 16, "label", mode[m, k], wide - 6)
 	}
 	y += 24
+}
+
+# Where rounds of the module begin between two instants.
+function round_signs(m, a, b,    time, path) {
+	for (time = multiple(a + 1, round_of[m]); time < b; time += round_of[m]) path = path "M" x_of(time) " " y + 3 "v18"
+	return path == "" ? "" : "<path class=\"round\" d=\"" path "\"><title>" name_m[m] " has rounds of " round_of[m] "</title></path>\n"
 }
 
 # The values of a communicator as steps: one holds from its change to the next. Its label stands above, where there is room.

@@ -1,4 +1,4 @@
-# Behind lines.awk and windows.awk, with svg-lanes.awk and svg-signs.awk: a timeline of the run as SVG. A long run is cut into
+# Behind lines.awk, windows.awk and rounds.awk, with svg-lanes.awk and svg-signs.awk: a timeline of the run as SVG. A long run is cut into
 # rows by time, each of which has every lane: modules, communicators, invocations.
 
 function escaped(text) {
@@ -42,6 +42,7 @@ function axis(height,    time) {
 	free = 0
 	for (time = begin; time < finish; time += tick) grid_line(time, height)
 	grid_line(finish, height)
+	if (frame * scale >= 10) for (time = multiple(begin, frame); time <= finish; time += frame) frame_line(time, height)
 	y += 20
 }
 
@@ -49,6 +50,8 @@ function grid_line(time, height) {
 	printf "<path class=\"grid\" d=\"M%s %sV%s\"/>\n", x_of(time), y + 16, y + 20 + height
 	label(x_of(time) - 3 * length(time), y + 12, "axis", time "", 1000)
 }
+
+function frame_line(time, height) { printf "<path class=\"frame\" d=\"M%s %sV%s\"><title>a frame of %s begins at %s</title></path>\n", x_of(time), y + 16, y + 20 + height, frame, time }
 
 # Makes room for a lane's name on the left.
 function fit(name) {

@@ -1,67 +1,20 @@
-# Behind lines.awk: the run as a Value Change Dump. A communicator whose values are 0 and 1 alone is a wire, another an
-# integer of 64 bits; each mode is a wire, and each module has its mode's name as a string too, as GTKWave takes them; each
-# invocation is a wire that is 1 while it runs, with an event where it is done. One time unit of the dump is one tick,
-# of the length `unit`.
+# Behind lines.awk, windows.awk and rounds.awk, with vcd-signs.awk: the run as a Value Change Dump. A communicator whose values are
+# 0 and 1 alone is a wire, another an integer of 64 bits; each mode is a wire, and each module has its mode's name as a string too,
+# as GTKWave takes them; each invocation is a wire that is 1 while it runs, with an event where it is done. With a listing there are
+# events where a round of a module, a frame or a job's window begins, and where a window ends. One time unit of the dump is one
+# tick, of the length `unit`.
 
-# A short name of printable signs for the signal of that number, from 1.
-function code(number,    text) {
-	while (number > 0) {
-		text = sprintf("%c", 33 + (number - 1) % 94) text
-		number = int((number - 1) / 94)
-	}
-	return text
-}
+# An event where each of some rounds begins, from one instant up to before another.
+function rounds(id, length_, a, b,    time) { for (time = multiple(a, length_); time < b; time += length_) change(time, id, 1) }
 
-# Notes that a signal takes a value at an instant; of several the last counts.
-function change(time, id, text) {
-	if (!(time in order)) {
-		order[time] = ++times
-		time_of[times] = time
-	}
-	if (!((time, id) in taken)) ids[time, ++id_count[time]] = id
-	taken[time, id] = text
-}
-
-# The bits of a decimal number, in two's complement: all 64 of a negative one, since a reader adds zeros in front.
-function bits(decimal,    minus, high, mid, low, out, k) {
-	minus = sub(/^-/, "", decimal)
-	decimal = sprintf("%24s", decimal)
-	gsub(/ /, "0", decimal)
-	# (the 1 in front: some awks take a number that begins with 0 for octal)
-	high = ("1" substr(decimal, 1, 8)) - 100000000
-	mid = ("1" substr(decimal, 9, 8)) - 100000000
-	low = ("1" substr(decimal, 17, 8)) - 100000000
-	if (minus) {
-		if (low) low--
-		else {
-			low = 99999999
-			if (mid) mid--
-			else {
-				mid = 99999999
-				high--
-			}
-		}
-	}
-	for (k = 0; k < 64 && (minus || high || mid || low); k++) {
-		out = (low % 2 == minus ? 0 : 1) out
-		mid += high % 2 * 100000000
-		low += mid % 2 * 100000000
-		high = int(high / 2)
-		mid = int(mid / 2)
-		low = int(low / 2)
-	}
-	return out == "" ? "0" : out
-}
-
-function declare(type, size, id, name) { print "$var " type " " size " " id " " name " $end" }
-
-# Sorts the instants, which come nearly in order.
-function sort(    i, k, time) {
-	for (i = 2; i <= times; i++) {
-		time = time_of[i]
-		for (k = i; k > 1 && time_of[k - 1] > time; k--) time_of[k] = time_of[k - 1]
-		time_of[k] = time
-	}
+# How many rounds and frames the run has; more than a reader of the dump wants are left out.
+function count_rounds(    m, count) {
+	if (frame) count = last / frame
+	for (m = 1; m <= items["m"]; m++) if (round_of[m]) count += last / round_of[m]
+	if (count <= 100000) return
+	print "$comment the rounds are left out, since there are more than 100000 $end"
+	frame = 0
+	for (m = 1; m <= items["m"]; m++) round_of[m] = 0
 }
 
 function values(    c, k, is_wire) {
@@ -75,7 +28,7 @@ function values(    c, k, is_wire) {
 	print "$upscope $end"
 }
 
-function modes(    m, k, first, names, n) {
+function modes(    m, k, first, names, n, round) {
 	for (m = 1; m <= items["m"]; m++) {
 		print "$scope module " name_m[m] " $end"
 		declare("string", 1, first = code(++signals), "mode")
@@ -88,7 +41,9 @@ function modes(    m, k, first, names, n) {
 			names[++n] = wire[m, mode[m, k]]
 			change(0, names[n], 0)
 		}
+		if (round_of[m]) round = declare_event("round")
 		for (k = 1; k <= moves[m]; k++) {
+			if (round_of[m] && mode[m, k] != "-") rounds(round, round_of[m], when[m, k], k < moves[m] ? when[m, k + 1] : last + 1)
 			if (k > 1 && mode[m, k - 1] != "-") change(when[m, k], wire[m, mode[m, k - 1]], 0)
 			if (mode[m, k] != "-") change(when[m, k], wire[m, mode[m, k]], 1)
 		}
@@ -105,10 +60,13 @@ function runs(    j, k, id) {
 			change(from[j, k], id, 1)
 			change(upto[j, k], id, 0)
 		}
-		if (!finishes[j]) continue
-		declare("event", 1, id = code(++signals), name_j[j] ".done")
-		is_event[id] = 1
+		if (finishes[j]) id = declare_event(name_j[j] ".done")
 		for (k = 1; k <= finishes[j]; k++) change(done[j, k], id, 1)
+		if (!windows[j]) continue
+		id = declare_event(name_j[j] ".released")
+		for (k = 1; k <= windows[j]; k++) change(opens[j, k], id, 1)
+		id = declare_event(name_j[j] ".due")
+		for (k = 1; k <= windows[j] && closes[j, k] <= last; k++) change(closes[j, k], id, 1)
 	}
 	print "$upscope $end"
 }
@@ -116,8 +74,14 @@ function runs(    j, k, id) {
 END {
 	print "$comment the lines of a run of htl; one unit of time is one tick $end"
 	print "$timescale " (unit + 0) " " substr(unit, length(unit + 0 "") + 1) " $end"
+	count_rounds()
 	values()
 	modes()
+	if (frame) {
+		print "$scope module frames $end"
+		rounds(declare_event("frame"), frame, 0, last + 1)
+		print "$upscope $end"
+	}
 	runs()
 	print "$enddefinitions $end"
 	sort()

@@ -6,7 +6,7 @@ use crate::pieces::Text;
 use htl_edf::{PlanFault, edf_all};
 use htl_form::form;
 use htl_model::Tables;
-use htl_walk::{SInstr, Schedule};
+use htl_walk::{SInstr, Schedule, roots_have_one_period};
 use std::alloc::Global;
 use std::test::Fail;
 
@@ -22,12 +22,16 @@ const THREE_MODES: &str = "program P {
   }
 }";
 
-// The schedules of tables that keep the form rules, or the fault.
+// The schedules of tables that keep the form rules, and whose root modules have one period, or the fault.
 fn schedules(alloc: Global, t: &Tables) -> Option<Result<Vec<Schedule>, PlanFault>>
     requires { KeepsLimits t.now }
 {
     match form(t) {
-        Ok(()) => Some(edf_all(alloc, t)),
+        Ok(()) => if roots_have_one_period(t) {
+            Some(edf_all(alloc, t))
+        } else {
+            None
+        },
         Err(_) => None,
     }
 }

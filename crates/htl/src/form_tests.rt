@@ -318,6 +318,12 @@ const KEPT: &[&str] = &[
     "program P { module M start m { mode m period 10 program Q { } mode l period 10 { } } } program Q { module N start n { mode n period 10 { } mode k period 10 { } } }",
     // 2
     "program P { module A start m { mode m period 10 { } } module B start m { mode m period 10 { } } }",
+    "program P { module A start m { mode m period 10 { } } module B start m { mode m period 20 { } } }",
+    "program P { module A start m { mode m period 10 { } } module B start m { mode m period 10 { } } module C start m { mode m period 5 { } } }",
+    "program P { module A start m { mode m period 1000000 { } } module B start m { mode m period 500000 { } } }",
+    "program P { module A start m { mode m period 10 { } } module B start m { mode m period 320 { } } }",
+    "program P { module A start m { mode m period 10 { } mode n period 10 { } } module B start m { mode m period 100 { } } }",
+    "program P { module A start m { task a input () output () worst 1; task b input () output () worst 1; task c input () output () worst 1; task d input () output () worst 1; mode m period 10 { invoke a input () output (); invoke b input () output (); invoke c input () output (); invoke d input () output (); } } module B start m { mode m period 320 { } } }",
     // 3
     "program P { communicator int u period 10 init 0; module M start m { task t input (int x) output () worst 1; mode m period 10 { invoke t input ((u, 0)) output (); } } }",
     "program P { communicator int u period 2 init 0; sensor bool g period 5 init true; sensor bool h period 3 init true; module M start m { task t input (int x) output (int y = x) worst 1; mode m period 10 { invoke t input ((u, 0)) output ((u, 1)); switch (g, m); } } }",

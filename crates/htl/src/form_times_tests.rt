@@ -47,34 +47,58 @@ pub const TIMES: &[Row] = &[
         5,
         10,
     ),
-    // 2: the root modules have one period
+    // 2: the multiple of the periods up to each root module is a million at most
     (
-        "program P { module A start m { mode m period 10 { } } module B start m { mode m period 20 { } } }",
+        "program P { module A start m { mode m period 1000000 { } } module B start m { mode m period 999999 { } } module C start m { mode m period 10 { } } }",
         2,
         (1, 1, None),
-        20,
-        10,
+        999_999_000_000,
+        1_000_000,
     ),
+    // there are 32 starts at most, which are those of all: the last root module's first mode is the site
     (
-        "program P { module A start m { mode m period 10 { } } module B start n { mode m period 20 { } mode n period 20 { } } }",
+        "program P { module A start m { mode m period 10 { } } module B start n { mode m period 330 { } mode n period 330 { } } }",
         2,
         (1, 1, None),
-        20,
-        10,
+        33,
+        32,
     ),
     (
-        "program P { module A start m { mode m period 10 { } } module B start m { mode m period 10 { } } module C start m { mode m period 5 { } } }",
+        "program P { module A start m { mode m period 10 { } } module B start m { mode m period 330 { } } module C start m { mode m period 10 { } } }",
         2,
         (2, 2, None),
-        5,
-        10,
+        33,
+        32,
     ),
     (
-        "program P { module A start m { mode m period 10 program Q { } } module B start m { mode m period 20 { } } } program Q { module N start n { mode n period 10 { } } }",
+        "program P { module A start m { mode m period 10 program Q { } } module B start m { mode m period 330 { } } } program Q { module N start n { mode n period 10 { } } }",
         2,
         (2, 2, None),
-        20,
-        10,
+        33,
+        32,
+    ),
+    // 1,024 paths at most; they are told up to a cap
+    (
+        "program P { module A start m { mode m period 10 { } mode n period 10 { } } module B start m { mode m period 110 { } } }",
+        2,
+        (1, 2, None),
+        2_048,
+        1_024,
+    ),
+    (
+        "program P { module A start m { mode m period 10 { } mode n period 10 { } } module B start m { mode m period 320 { } } }",
+        2,
+        (1, 2, None),
+        4_294_967_295,
+        1_024,
+    ),
+    // 128 positions in a path at most: here five in each of 26 rounds
+    (
+        "program P { module A start m { task a input () output () worst 1; task b input () output () worst 1; task c input () output () worst 1; task d input () output () worst 1; task e input () output () worst 1; mode m period 10 { invoke a input () output (); invoke b input () output (); invoke c input () output (); invoke d input () output (); invoke e input () output (); } } module B start m { mode m period 260 { } } }",
+        2,
+        (1, 1, None),
+        130,
+        128,
     ),
     // 3: the period of what a mode reads, writes or tests divides its own
     (
@@ -318,9 +342,17 @@ pub const SEVERAL: &[Row] = &[
         20,
         10,
     ),
+    // 2 in the second module, 3 in the first
+    (
+        "program P { sensor bool g period 3 init true; module A start m { mode m period 10 { switch (g, m); } } module B start m { mode m period 330 { } } }",
+        2,
+        (1, 1, None),
+        33,
+        32,
+    ),
     // 2 in the second module, 1 in the third
     (
-        "program P { module A start m { mode m period 10 { } } module B start m { mode m period 20 { } } module C start m { mode m period 10 { } mode n period 5 { } } }",
+        "program P { module A start m { mode m period 10 { } } module B start m { mode m period 330 { } } module C start m { mode m period 10 { } mode n period 5 { } } }",
         1,
         (2, 3, None),
         5,

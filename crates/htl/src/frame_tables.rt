@@ -1,5 +1,4 @@
-// Tables that are made by hand, with two root periods. No call judges the form rules but that on root periods, so that
-// they are proved of these lists.
+// Tables that are made by hand, with two root periods, so that what they keep is proved of these lists.
 ghost use Rattle.std.specs.Prelude.{◌≡◌, ◌≤◌, IfSome};
 ghost use Rattle.htl_model.specs.FunctionCode.{AreCode};
 ghost use Rattle.htl_model.specs.Ranges.{IsSpan};

@@ -10,7 +10,7 @@ ghost use Rattle.htl_walk.specs.declared.schedule.SInstr.{SInstr as Instr};
 
 use htl_base::{Seq, Time};
 use htl_smach::{Left, PosState, SMach};
-use htl_walk::listing::worst_list;
+use htl_walk::listing::{Span, worst_list};
 use htl_walk::{Job, SInstr, Schedule, worst};
 use std::alloc::{AllocError, Global};
 use std::test::Fail;
@@ -408,7 +408,12 @@ fn list(
     let jobs = [Job::ABSENT; 128];
     let mut left = [0u64; 128];
     let mut finish = [0u64; 128];
-    match worst_list(&jobs, known, &s, 0, until, &mut left, &mut finish) {
+    let span = Span {
+        known,
+        from: 0,
+        until,
+    };
+    match worst_list(&jobs, span, &s, &mut left, &mut finish) {
         Ok(_) => Ok(Some(s)),
         Err(_) => Ok(None),
     }

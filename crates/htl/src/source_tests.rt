@@ -130,13 +130,33 @@ const FAULTY: &[Row] = &[
     ),
     (
         Content::Text(
-            "program P { module A start m { mode m period 10 { } } module B start m { mode m period 20 { } } }",
+            "program P { module A start m { mode m period 1000000 { } } module B start m { mode m period 999999 { } } }",
         ),
         EMPTY,
         "end 0\n",
         4,
         EMPTY,
-        "htl: ill-formed 2 at B.m have 20 need 10\n",
+        "htl: ill-formed 2 at B.m have 999999000000 need 1000000\n",
+    ),
+    (
+        Content::Text(
+            "program P { module A start m { mode m period 10 { } } module B start m { mode m period 330 { } } }",
+        ),
+        EMPTY,
+        "end 0\n",
+        4,
+        EMPTY,
+        "htl: ill-formed 2 at B.m have 33 need 32\n",
+    ),
+    (
+        Content::Text(
+            "program P { module A start m { mode m period 10 { } mode n period 10 { } } module B start m { mode m period 110 { } } }",
+        ),
+        EMPTY,
+        "end 0\n",
+        4,
+        EMPTY,
+        "htl: ill-formed 2 at B.m have 2048 need 1024\n",
     ),
     // an invocation of a refinement without a parent
     (

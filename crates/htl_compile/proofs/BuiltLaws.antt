@@ -1,8 +1,8 @@
 -- What is built is accepted.
-use Rattle.std.proofs.Common.{◌≡◌, ◌≤◌, ◌<◌, ℕ, List, length, Option, All, sym, subst, arith}
+use Rattle.std.proofs.Common.{◌≡◌, ◌≤◌, ◌<◌, ℕ, List, length, Option, None, All, sym, subst, arith}
 use Rattle.htl_compile.proofs.CodedLaws.{coded_fit, coded_in_range, codes_are_code}
 use Rattle.htl_compile.proofs.NodeSchedules.{node_lists, schedules_short}
-use Rattle.htl_compile.proofs.PhaseLaws.{layout_phased}
+use Rattle.htl_object.proofs.PhaseLaws.{layout_phased}
 use Rattle.htl_compile.proofs.SamePaths.{paths_same, path_jobs_same}
 use Rattle.htl_compile.specs.Built.{node_schedule, schedules, object_for, AreSchedulable}
 use Rattle.htl_compile.specs.Coded.{codes, coded}
@@ -17,15 +17,15 @@ use Rattle.htl_edf.proofs.PathOrder.{ready}
 use Rattle.htl_edf.specs.Lists.{tightened}
 use Rattle.htl_edf.specs.NodePlans.{AreReady}
 use Rattle.htl_edf.specs.Windows.{NoOverload}
+use Rattle.htl_model.proofs.FrameRules.{frames_kept, kept_apart}
 use Rattle.htl_model.proofs.Listed.{length-list_to}
 use Rattle.htl_model.proofs.SameRanges.{limits_same}
 use Rattle.htl_model.proofs.SameRules.{formed_same}
 use Rattle.htl_model.specs.Broken.{Formed, KeepsLimits, KeptTo}
-use Rattle.htl_model.specs.Frames.{nodes}
+use Rattle.htl_model.specs.Frames.{nodes, frame_limit}
 use Rattle.htl_model.specs.FunctionTypes.{FitPlaces}
 use Rattle.htl_model.specs.Ranges.{AreInRange}
 use Rattle.htl_model.specs.Tables.{Tables}
-use Rattle.htl_object.proofs.OneRound.{kept_apart, no_limit}
 use Rattle.htl_object.specs.Accepted.{IsAccepted}
 use Rattle.htl_object.specs.Ranges.{IsCode, IsInRange}
 use Rattle.htl_walk.specs.Feasible.{AreFeasible}
@@ -37,11 +37,14 @@ kept_12 t formed = λ r s have need small h. formed r s have need h
 
 -- ---- schedules
 
-are_ready : (t : Tables) → AreInRange t → Formed t → KeepsLimits t → AreReady t
-are_ready t r formed limits = ready t r (kept_apart t r (kept_12 t formed)) (no_limit t r (kept_12 t formed) limits)
+pub no_limit : (t : Tables) → AreInRange t → Formed t → frame_limit t ≡ None
+no_limit t r formed = frames_kept t 12 r (omega arith) (kept_12 t formed)
 
-feasible : (t : Tables) → AreInRange t → Formed t → KeepsLimits t → AreSchedulable t → AreFeasible t (instrs_of (schedules t))
-feasible t r formed limits free = let paths_are = are_ready t r formed limits in nodes_accepted t (instrs_of (schedules t)) paths_are free (node_lists t r paths_are)
+pub are_ready : (t : Tables) → AreInRange t → Formed t → AreReady t
+are_ready t r formed = ready t r (kept_apart t 12 (kept_12 t formed)) (no_limit t r formed)
+
+feasible : (t : Tables) → AreInRange t → Formed t → AreSchedulable t → AreFeasible t (instrs_of (schedules t))
+feasible t r formed free = let paths_are = are_ready t r formed in nodes_accepted t (instrs_of (schedules t)) paths_are free (node_lists t r paths_are)
 
 -- ---- the object of tables with code
 
@@ -58,7 +61,7 @@ object_accepted platform t r limits formed fit code free =
     record {
       tables = r;
       limits = limits;
-      frames = no_limit t r (kept_12 t formed) limits;
+      frames = no_limit t r formed;
       coded = code;
       enter = length-list_to (mode_place t) n;
       begin = length-list_to (λ m. begin_place t (mode_place t m) m) n;
@@ -66,11 +69,11 @@ object_accepted platform t r limits formed fit code free =
       phases = layout_phased t;
       few_instrs = few_instrs t r;
       schedules = length-list_to (node_schedule t) (nodes t);
-      short = schedules_short t r (no_limit t r (kept_12 t formed) limits);
+      short = schedules_short t r (no_limit t r formed);
     } in
     record {
       spelled = record { formed = record { ranges = ranges; formed = formed }; functions = fit; code = spells };
-      feasible = feasible t r formed limits free;
+      feasible = feasible t r formed free;
     }
 
 -- ---- the object of tables

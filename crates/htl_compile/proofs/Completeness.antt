@@ -13,12 +13,11 @@ use Rattle.htl_compile.specs.declared.source.FrontFault.TheVariants as front
 use Rattle.htl_edf.proofs.Kept.{one_report}
 use Rattle.htl_edf.specs.Lists.{tightened}
 use Rattle.htl_edf.specs.Windows.{Reported}
-use Rattle.htl_form.proofs.OneFault.{one_form_fault}
 use Rattle.htl_model.specs.Broken.{KeptTo, IsFirstBroken, site_of}
 use Rattle.htl_model.specs.Ranges.{AreInRange}
 use Rattle.htl_model.specs.Tables.{Tables}
 use Rattle.htl_model.specs.declared.form_fault.FormFault.{FormFault}
-use Rattle.htl_refine.proofs.OneFault.{formed, one_refine_fault}
+use Rattle.htl_refine.proofs.OneFault.{formed, one_first_broken}
 use Rattle.htl_walk.specs.PathJobs.{path_jobs}
 
 -- ---- completeness
@@ -52,26 +51,6 @@ one_front_fault bytes (front.Source f) (front.Source g) p q h i = ap front.Sourc
 one_front_fault bytes (front.Source f) front.Memory p q h i = absurd (q refl)
 one_front_fault bytes front.Memory g p q h i = absurd (p refl)
 
-twelve : (n : ℕ) → (n ≤ 12) ⊎ (12 < n)
-twelve n = grind arith
-
--- tables in range have one first form rule that is broken
-one_broken : (t : Tables) → AreInRange t → (f g : FormFault) → IsFirstBroken t f → IsFirstBroken t g → f ≡ g
-one_broken t range f g p q = by (twelve f.rule) (twelve g.rule)
-  where
-    -- where no rule up to 12 is broken before the first fault, the tables keep them
-    kept : (h : FormFault) → IsFirstBroken t h → 12 < h.rule → KeptTo t 12
-    kept h b late = λ r s have need few broken. b.first r s have need (inl (omega (arith, few, late, b.rule))) broken
-
-    early : (h e : FormFault) → IsFirstBroken t h → IsFirstBroken t e → 12 < h.rule → e.rule ≤ 12 → ⊥
-    early h e b x late few = kept h b late x.law (site_of e x.part) e.have e.need (omega (arith, few, x.rule)) x.broken
-
-    by : (f.rule ≤ 12) ⊎ (12 < f.rule) → (g.rule ≤ 12) ⊎ (12 < g.rule) → f ≡ g
-    by (inl low) (inl less) = one_form_fault t range f g low less p q
-    by (inl low) (inr more) = absurd (early g f q p more low)
-    by (inr high) (inl less) = absurd (early f g p q high less)
-    by (inr high) (inr more) = one_refine_fault t range (kept f p high) f g p q
-
 order : (a b : ℕ) → (a < b) ⊎ (a ≡ b) ⊎ (b < a)
 order a b = grind arith
 
@@ -94,7 +73,7 @@ one_overload t j k a c b d m n p q = by (order j k)
         ∙ ap (back.Unschedulable k c d) demand
 
 pub one_back_fault : OneBackFault
-one_back_fault t (back.IllFormed f) (back.IllFormed g) range p q h i = ap back.IllFormed (one_broken t range f g h i)
+one_back_fault t (back.IllFormed f) (back.IllFormed g) range p q h i = ap back.IllFormed (one_first_broken t range f g h i)
 one_back_fault t (back.IllFormed f) (back.Unschedulable sel a b demand) range p q h i = absurd (i.0 h.law (site_of f h.part) f.have f.need h.broken)
 one_back_fault t (back.Unschedulable sel a b demand) (back.IllFormed g) range p q h i = absurd (h.0 i.law (site_of g i.part) g.have g.need i.broken)
 one_back_fault t (back.Unschedulable j a b m) (back.Unschedulable k c d n) range p q h i = one_overload t j k a c b d m n h.1 i.1

@@ -18,11 +18,6 @@ use Rattle.htl_object.specs.Objects.{IsObject, object_bytes}
 use Rattle.htl_object.specs.declared.object.Object.{Object}
 use Rattle.htl_refine.proofs.OneFault.{formed}
 
--- tables that keep the rules up to the last keep all
-pub formed_after : {E : Type 0} (t : Tables) (r : Result (Unit {0}) E) → OnOk r (KeptTo t 16) → OnOk r (Formed t)
-formed_after t (Ok x) kept = formed t kept
-formed_after t (Err e) h = h
-
 -- a fault of the tables with code is one of the tables
 pub uncoded : (t : Tables) (f : BackFault) → IsBackFault (coded t) f → IsBackFault t f
 uncoded t (back.IllFormed f) x = first_coded t f x

@@ -9,7 +9,6 @@ pub mod FunctionLaws
 pub mod FunctionTokens
 pub mod NodeSchedules
 pub mod OnPlatform
-pub mod PhaseLaws
 pub mod PlanLaws
 pub mod PlatformTables
 pub mod SamePaths

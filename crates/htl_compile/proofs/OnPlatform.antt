@@ -2,7 +2,7 @@
 use Rattle.std.proofs.Common.{◌≡◌, ◌≤◌, ◌⊎◌, ℕ, List, length, Some, Result, Ok, Err, IfOk, IfErr, MatchResult, refl, sym, ◌∙◌, ap, subst, inl, inr}
 use Rattle.htl_compile.proofs.Completeness.{back_only_memory, one_back_fault}
 use Rattle.htl_compile.proofs.FromSource.{uncoded, uncoded_built}
-use Rattle.htl_compile.proofs.PlatformTables.{platform_spans, coded_with, typed_with, source_tables_with, can_code_with}
+use Rattle.htl_compile.proofs.PlatformTables.{platform_spans, coded_with, source_tables_with, can_code_with}
 use Rattle.htl_compile.proofs.SourceLaws.{tables_unique, typed_or_fault, fault_unique}
 use Rattle.htl_compile.proofs.SourceTables.{source_tables_fit}
 use Rattle.htl_compile.specs.Building.{IsBackFault, IsObjectOf, IsUnbuilt, unbuilt_of, unread_of}
@@ -20,10 +20,8 @@ use Rattle.htl_compile.specs.declared.source.FrontFault.{FrontFault}
 use Rattle.htl_compile.specs.declared.source.FrontFault.TheVariants as front
 use Rattle.htl_compile.specs.declared.source_fault.SourceFault.{SourceFault}
 use Rattle.htl_model.specs.Broken.{Formed}
-use Rattle.htl_model.specs.Ranges.{AreInRange}
 use Rattle.htl_model.specs.Tables.{Tables}
 use Rattle.htl_object.specs.Objects.{IsObject, object_bytes}
-use Rattle.htl_object.specs.declared.object.Object.{Object}
 use Rattle.htl_platform.specs.Answers.{IsPlatform}
 use Rattle.htl_platform.specs.Applied.{with_worst}
 use Rattle.htl_platform.specs.Platforms.{platform_of}

@@ -1,8 +1,8 @@
 -- Tables with the worst cases of a platform: their functions have the same types and code, and they keep the same limits.
-use Rattle.std.proofs.Common.{◌≡◌, ◌≤◌, ◌<◌, ℕ, suc, ◌+◌, ◌*◌, ◌/◌, ◌%◌, cond, List, [], ◌∷◌, ◌++◌, length, map, drop, get_or, slice_get, Option, Some, None, Ok, Err, All, refl, sym, ◌∙◌, ap, subst}
+use Rattle.std.proofs.Common.{◌≡◌, ◌≤◌, ◌<◌, ℕ, suc, ◌+◌, ◌*◌, ◌/◌, ◌%◌, cond, List, [], ◌∷◌, ◌++◌, length, map, drop, get_or, slice_get, Option, Some, None, Ok, Err, All, refl, sym, ap, subst}
 use mathlib.Core.Path.{fun_ext}
 use Rattle.std.specs.List.{flat_map}
-use Rattle.htl_compile.specs.Coded.{code_by, codes, coded, IsTyped, IsTypedAt, AreTyped, AreSourceTables, CanCode}
+use Rattle.htl_compile.specs.Coded.{code_by, codes, coded, IsTyped, AreTyped, AreSourceTables, CanCode}
 use Rattle.htl_model.specs.Broken.{KeepsLimits}
 use Rattle.htl_model.specs.FunctionTypes.{FunctionType, task_types, function_types, switch_type, IsFunctionOf, FitPlaces}
 use Rattle.htl_model.specs.Lists.{list_to}

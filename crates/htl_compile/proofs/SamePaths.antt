@@ -1,14 +1,12 @@
 -- Tables have the same paths with the same jobs, whatever functions they have.
-use Rattle.std.proofs.Common.{◌≡◌, ℕ, ◌+◌, ◌*◌, ◌/◌, ◌%◌, Bool, true, cond, ◌&&◌, eqb, List, [], ◌∷◌, ◌++◌, length, map, get_or, slice_get, Option, Some, None, refl, ◌∙◌, ap}
+use Rattle.std.proofs.Common.{◌≡◌, ℕ, ◌+◌, Bool, true, ◌&&◌, eqb, List, map, slice_get, Option, Some, None, refl, sym, ◌∙◌, ap}
 use mathlib.Core.Path.{fun_ext}
-use Rattle.std.specs.List.{flat_map}
+use Rattle.htl_model.proofs.FrameLists.{paths_framed, path_places_framed}
 use Rattle.htl_model.proofs.SameRules.{release_same, window_end_same}
 use Rattle.htl_model.specs.Exchanged.{with_functions}
-use Rattle.htl_model.specs.Frames.{unit_period, starts, rounds_of, rounds, choices, paths, mode_in, places_of, places_in, path_places}
-use Rattle.htl_model.specs.Selections.{root_modules, modes_of, invs_of}
+use Rattle.htl_model.specs.Frames.{paths, path_places}
 use Rattle.htl_model.specs.Tables.{Tables, Fun, task_worst, release, window_end}
 use Rattle.htl_model.specs.declared.frame.Place.{Place}
-use Rattle.htl_model.specs.declared.frame.Round.{Round}
 use Rattle.htl_model.specs.declared.parts.Inv.{Inv}
 use Rattle.htl_walk.specs.Jobs.{absent_job, mask, is_fed_by}
 use Rattle.htl_walk.specs.PathJobs.{placed_job, placed_jobs, path_jobs}
@@ -20,28 +18,11 @@ module _ (t : Tables) (fs : List Fun) where
 
   -- ---- paths and their positions
 
-  rounds_of_same : (a : ℕ) (us : List ℕ) → rounds_of t a us ≡ rounds_of u a us
-  rounds_of_same a [] = refl
-  rounds_of_same a (v ∷ vs) = ap (λ (rest : List Round). cond (eqb (a % unit_period t v) 0) (record { at = a; unit = v } ∷ rest) rest) (rounds_of_same a vs)
-
-  rounds_same : rounds t ≡ rounds u
-  rounds_same = ap (λ (f : ℕ → List Round). flat_map f (starts t)) (fun_ext (λ a. rounds_of_same a (root_modules t)))
-
-  choices_same : (rs : List Round) → choices t rs ≡ choices u rs
-  choices_same [] = refl
-  choices_same (r ∷ rs) = ap (λ (n : ℕ). length (modes_of t r.unit) * n) (choices_same rs)
-
   pub paths_same : paths t ≡ paths u
-  paths_same = ap (λ (n : ℕ). elim (root_modules t) as (λ _. ℕ) [ [] ↦ 0 | v ∷ vs ↦ n ]) (ap (choices t) rounds_same ∙ choices_same (rounds u))
-
-  places_in_same : (path : ℕ) (rs : List Round) → places_in t path rs ≡ places_in u path rs
-  places_in_same path [] = refl
-  places_in_same path (r ∷ rs) =
-      ap (λ (n : ℕ). places_of r.at (invs_of t (get_or (modes_of t r.unit) (path / n % length (modes_of t r.unit)) 0)) ++ places_in t path rs) (choices_same rs)
-      ∙ ap (λ (ps : List Place). places_of r.at (invs_of t (mode_in u path r rs)) ++ ps) (places_in_same path rs)
+  paths_same = paths_framed t ∙ sym (paths_framed u)
 
   path_places_same : (path : ℕ) → path_places t path ≡ path_places u path
-  path_places_same path = ap (places_in t path) rounds_same ∙ places_in_same path (rounds u)
+  path_places_same path = path_places_framed t path ∙ sym (path_places_framed u path)
 
   -- ---- their jobs
 

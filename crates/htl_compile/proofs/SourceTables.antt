@@ -1,12 +1,11 @@
 -- What the tables of a source keep, and that nothing is accepted for a path that is overloaded.
 use Rattle.std.proofs.Common.{arith, ◌≡◌, ◌≤◌, ◌+◌, ℕ, List, [], ◌∷◌, ◌++◌, length, sym, ap, subst, length-append}
 use Rattle.std.specs.List.{zip}
+use Rattle.htl_compile.proofs.BuiltLaws.{are_ready}
 use Rattle.htl_compile.specs.Coded.{AreSourceTables}
 use Rattle.htl_compile.specs.Laws.{SourceTablesFit, NoneForOverloaded}
 use Rattle.htl_compile.specs.Sources.{IsTablesOf}
 use Rattle.htl_edf.proofs.Cutting.{path_refusal}
-use Rattle.htl_edf.proofs.PathOrder.{ready}
-use Rattle.htl_model.specs.Broken.{KeptTo}
 use Rattle.htl_model.specs.Frames.{frame_of}
 use Rattle.htl_model.specs.Tables.{Tables}
 use Rattle.htl_names.proofs.InRange.{names-in-range}
@@ -20,7 +19,6 @@ use Rattle.htl_text.proofs.Spellable.{tokens-spellable}
 use Rattle.htl_text.specs.Spans.{Cuts, Tokens}
 use Rattle.htl_text.specs.TokenLists.{TokenList}
 use Rattle.htl_text.specs.declared.token.Token.{Token}
-use Rattle.htl_object.proofs.OneRound.{kept_apart, no_limit}
 use Rattle.htl_walk.proofs.Nodes.{some_root}
 use Rattle.htl_walk.proofs.Starts.{legs_follow}
 use Rattle.htl_walk.specs.PathJobs.{path_jobs, legs}
@@ -62,7 +60,6 @@ source_tables_fit bytes t short h =
 
 pub none_for_overloaded : NoneForOverloaded
 none_for_overloaded t path a b demand ranges limits formed less over =
-    let kept : KeptTo t 12 = λ r s have need small h. formed r s have need h in
-    let paths_are = ready t ranges (kept_apart t ranges kept) (no_limit t ranges kept limits) in
+    let paths_are = are_ready t ranges formed in
     let here = paths_are.each path less in
     path_refusal (path_jobs t path) (legs t path) (frame_of t) here.jobs here.order (legs_follow t path (some_root t path less) (paths_are.long (omega (arith, less)))) a b demand over

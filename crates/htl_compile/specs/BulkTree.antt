@@ -1,5 +1,5 @@
 -- The generated program: how much of it there is one number says, so that the cost of a run can be measured by anyone.
-use Rattle.std.specs.Prelude.{ℕ, zero, suc, ◌-◌, ℤ, pos, Bool, ◌||◌, eqb, false, true, None, codes, List, [], ◌∷◌, ◌++◌}
+use Rattle.std.specs.Prelude.{ℕ, zero, suc, ◌-◌, ℤ, pos, Bool, ◌||◌, eqb, false, true, None, codes, List, [], ◌∷◌}
 use Rattle.std.specs.Fmt.{decimal}
 use Rattle.htl_base.specs.declared.Ty.TheVariants as ty
 use Rattle.htl_base.specs.declared.operator.BinOp.TheVariants as op

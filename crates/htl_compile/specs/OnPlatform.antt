@@ -1,5 +1,5 @@
 -- The object of a source on a platform, and why there is none.
-use Rattle.std.specs.Prelude.{◌≡◌, ◌≤◌, ℕ, List, Some, Result, Ok, Err, length}
+use Rattle.std.specs.Prelude.{◌≡◌, ◌≤◌, ℕ, List, Some, Ok, Err, length}
 use Rattle.htl_base.specs.declared.limits.TheConstants.{MAX_SOURCE}
 use Rattle.htl_compile.specs.Building.{IsBackFault}
 use Rattle.htl_compile.specs.Built.{built_with, CanBuild}

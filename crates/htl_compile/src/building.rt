@@ -10,10 +10,9 @@ ghost use Rattle.htl_object.specs.Accepted.{IsAccepted};
 use htl_base::{Memory, Name, Seq, Time};
 use htl_ecode::generate_e;
 use htl_edf::{PlanFault, edf_nodes};
-use htl_form::form;
 use htl_model::{FormFault, Tables};
 use htl_object::Object;
-use htl_refine::refine;
+use htl_refine::try_rules;
 use std::alloc::Global;
 
 /// Why no object is built of tables.
@@ -23,7 +22,7 @@ pub enum BackFault {
     IllFormed(FormFault),
     /// No form rule is broken, and a path is overloaded.
     Unschedulable {
-        /// The number of the first such path: while all root modules have one period, of the root selection.
+        /// The number of the first such path; where all root modules have one period, that of the root selection.
         selection: u32,
         /// The overloaded interval, in ticks from the start of the frame: of those with the greatest end the one with the
         /// least beginning.
@@ -35,15 +34,6 @@ pub enum BackFault {
     },
     /// No memory was left.
     Memory,
-}
-
-// The first form rule that tables break.
-fn first_broken(t: &Tables) -> Result<(), FormFault>
-    ensures formed { OnOk result (Formed t.now) }
-    ensures broken { IfErr result (IsFirstBroken t.now) }
-{
-    form(t)?;
-    refine(t)
 }
 
 // A fault of the scheduler, as a fault of the tables.
@@ -81,7 +71,7 @@ pub fn back_for(
     ensures fault { IfErr result (λ e. (e.0 ≡ t) × IsBackFault t e.1) }
 {
     t.keeps_ranges();
-    if let Err(fault) = first_broken(&t) {
+    if let Err(fault) = try_rules(&t) {
         return Err((t, BackFault::IllFormed(fault)));
     }
     let schedules = match edf_nodes(alloc, &t) {

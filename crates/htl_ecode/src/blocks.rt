@@ -7,7 +7,7 @@ ghost use Rattle.htl_ecode.specs.Generation.{trigger, IsLater, end_size};
 ghost use Rattle.htl_ecode.specs.ModeInvs.{AreInvsOf};
 
 use crate::EInstr;
-use crate::calls::put_calls;
+use crate::calls::{Moment, put_calls};
 use crate::mode_invs::ModeInvs;
 use crate::offsets::next_offset;
 use htl_base::Time;
@@ -58,20 +58,19 @@ fn put_block(
     instrs: &mut Vec<EInstr>,
     t: &Tables,
     run: ModeInvs,
-    phase: u8,
-    offset: Time,
+    at: Moment,
     next: Option<Time>,
     base: u32,
 ) -> Result<(), AllocError>
     requires invs { AreInvsOf t.now run }
-    requires later { IsLater offset next }
-    requires next { next ≡ next_offset_of t.now run.mode phase (offset + 1) }
-    requires room { base + length instrs.old.items + length (block_chain t.now run.mode phase offset) ≤ 4294967295 }
-    ensures { OnOk result (instrs.new.items ≡ instrs.old.items ++ block_code t.now run.mode phase (base + length instrs.old.items) offset) }
+    requires later { IsLater at.offset next }
+    requires next { next ≡ next_offset_of t.now run.mode at.phase (at.offset + 1) }
+    requires room { base + length instrs.old.items + length (block_chain t.now run.mode at.phase at.offset) ≤ 4294967295 }
+    ensures { OnOk result (instrs.new.items ≡ instrs.old.items ++ block_code t.now run.mode at.phase (base + length instrs.old.items) at.offset) }
 {
-    put_calls(instrs, t, run, phase, offset)?;
+    put_calls(instrs, t, run, at.phase, at.offset)?;
     let behind = base + address(instrs) + size_of_end(next);
-    put_trigger(instrs, offset, phase, next, behind)?;
+    put_trigger(instrs, at.offset, at.phase, next, behind)?;
     instrs.push(EInstr::Return)?;
     Ok(())
 }
@@ -93,7 +92,7 @@ pub fn phase_code(
     let mut at = next_offset(t, run, phase, 0);
     while let Some(offset) = at {
         let next = next_offset(t, run, phase, offset + 1);
-        put_block(&mut instrs, t, run, phase, offset, next, base)?;
+        put_block(&mut instrs, t, run, Moment { phase, offset }, next, base)?;
         at = next;
     }
     Ok(instrs)

@@ -1,27 +1,14 @@
 // The end of a round: whether the module leaves, and where its switches lead.
 ghost use Rattle.std.specs.Prelude.{◌≡◌, ◌≤◌, ◌+◌, ◌++◌, ◌∷◌, [], OnOk};
-ghost use Rattle.htl_model.specs.Ranges.{parent_of as parent_of_module};
 ghost use Rattle.htl_ecode.specs.Chains.{led_to, test_of, asks_of};
 ghost use Rattle.htl_ecode.specs.Chains as chains;
 ghost use Rattle.htl_ecode.specs.Layout.{laid};
 ghost use Rattle.htl_ecode.specs.declared.instr.EInstr.TheVariants.{Jump};
 
 use crate::EInstr;
-use htl_model::lookup::mode_module;
+use htl_model::lookup::{mode_module, parent_of};
 use htl_model::{Switch, Tables};
 use std::alloc::AllocError;
-
-/// The mode that a module refines.
-pub fn parent_of(t: &Tables, module: u16) -> Option<u16>
-    ensures { result ≡ parent_of_module t.now «module» }
-{
-    let modules = t.parts().modules.as_slice();
-    if (module as usize) < modules.len() {
-        modules[module as usize].parent
-    } else {
-        None
-    }
-}
 
 /// Where a switch of a mode leads: the start of a round where the mode stays.
 pub fn led(begin: u32, enters: &[u32], mode: u16, target: u16) -> u32

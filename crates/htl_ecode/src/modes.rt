@@ -41,6 +41,14 @@ fn put_children(instrs: &mut Vec<EInstr>, t: &Tables, mode: u16) -> Result<(), A
     Ok(())
 }
 
+// The addresses at which the phases of a mode's round begin.
+#[derive(Clone, Copy)]
+struct PhaseStarts {
+    writes: u32,
+    reads: u32,
+    decide: u32,
+}
+
 // Puts the start of a round: its first triggers, and the one of its end.
 fn put_begin(
     instrs: &mut Vec<EInstr>,
@@ -48,21 +56,19 @@ fn put_begin(
     mode: u16,
     first_write: Option<Time>,
     first_read: Option<Time>,
-    writes: u32,
-    reads: u32,
-    decide: u32,
+    starts: PhaseStarts,
 ) -> Result<(), AllocError>
     requires offsets { OffsetsFit t.now }
     requires write { first_write ≡ next_offset_of t.now mode 1 0 }
     requires read { first_read ≡ next_offset_of t.now mode 3 0 }
-    ensures { OnOk result (instrs.new.items ≡ instrs.old.items ++ laid (first_block writes reads) 0 (begin_chain t.now decide mode)) }
+    ensures { OnOk result (instrs.new.items ≡ instrs.old.items ++ laid (first_block starts.writes starts.reads) 0 (begin_chain t.now starts.decide mode)) }
 {
-    put_trigger(instrs, 0, WRITES, first_write, writes)?;
-    put_trigger(instrs, 0, READS, first_read, reads)?;
+    put_trigger(instrs, 0, WRITES, first_write, starts.writes)?;
+    put_trigger(instrs, 0, READS, first_read, starts.reads)?;
     instrs.push(EInstr::Future {
         delay: mode_period(t, mode),
         phase: SWITCHES,
-        target: decide,
+        target: starts.decide,
     })?;
     instrs.push(EInstr::Return)?;
     Ok(())
@@ -109,16 +115,12 @@ pub(crate) fn mode_code(
     let at_reads = at_writes + address(&writes);
     let reads = phase_code(alloc, t, run, READS, at_reads)?;
     let decide = at_reads + address(&reads);
-    put_begin(
-        &mut instrs,
-        t,
-        mode,
-        first_write,
-        first_read,
-        at_writes,
-        at_reads,
+    let starts = PhaseStarts {
+        writes: at_writes,
+        reads: at_reads,
         decide,
-    )?;
+    };
+    put_begin(&mut instrs, t, mode, first_write, first_read, starts)?;
     instrs.extend_from_slice(writes.as_slice())?;
     instrs.extend_from_slice(reads.as_slice())?;
     put_decide(&mut instrs, t, begin, enters, mode, decide)?;

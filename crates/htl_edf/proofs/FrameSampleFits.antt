@@ -16,7 +16,7 @@ use Rattle.htl_model.specs.declared.parts.End.{End}
 use Rattle.htl_model.specs.declared.parts.End.TheVariants as E
 use Rattle.htl_model.specs.Broken.{breach, BreaksAt}
 use Rattle.htl_model.specs.EndRules.{input_types, output_types, end_type, type_number, is_sensor}
-use Rattle.htl_model.specs.FormRules.{FormRule, ModulePeriod, RootPeriod, Divides, Offsets, Ends, Windows, WorstCases, PortWriters, PortCycles, AbstractPorts, Sensors, ConcreteWriters, AbstractPlaces, Parents, SharedParents, Inheritance, number_of, Part, Itself, Input, Output, Test}
+use Rattle.htl_model.specs.FormRules.{FormRule, ModulePeriod, FrameLimits, Divides, Offsets, Ends, Windows, WorstCases, PortWriters, PortCycles, AbstractPorts, Sensors, ConcreteWriters, AbstractPlaces, Parents, SharedParents, Inheritance, number_of, Part, Itself, Input, Output, Test}
 use Rattle.htl_model.specs.FrameRules.{KeptApart}
 use Rattle.htl_model.specs.PortOrder.{Leads, direct, through, feeds, feeds_at}
 use Rattle.htl_model.specs.Ranges.{AreInRange, IsSpan, IsCommInRange, IsModeInRange, IsModuleInRange, IsPortInRange, IsTaskInRange, IsInvInRange, IsSwitchInRange, IsFunInRange, IsEndInRange}
@@ -202,7 +202,7 @@ module _ (w : ℕ) (small : w ≤ 20) where
       let g = subst (λ (y : Mode). (breach (frame_sample w) ModulePeriod).mode 1 y have need) (sym (some_same (frame_mode (codes "m") 1 20) x at)) h in
       g.2 (g.0 ∙ some_same 20 need g.1)
   by_mode ModulePeriod (suc (suc m)) x have need other at h = cc
-  by_mode RootPeriod m x have need other at h = other refl
+  by_mode FrameLimits m x have need other at h = other refl
   by_mode Divides m x have need other at h = h
   by_mode Offsets m x have need other at h = h
   by_mode Ends m x have need other at h = h
@@ -221,7 +221,7 @@ module _ (w : ℕ) (small : w ≤ 20) where
   -- the rules on an invocation as a whole
   by_call : (r : FormRule) (k : ℕ) (i : Inv) (c : IsCall w i) (have need : ℕ) → number_of r ≤ 12 → (breach (frame_sample w) r).inv k (frame_inv c.mode c.comm c.instance) have need → ⊥
   by_call ModulePeriod k i c have need l h = h
-  by_call RootPeriod k i c have need l h = h
+  by_call FrameLimits k i c have need l h = h
   by_call Divides k i c have need l h = h
   by_call Offsets k i c have need l h = h
   by_call Ends k i c have need l h =
@@ -249,7 +249,7 @@ module _ (w : ℕ) (small : w ≤ 20) where
   -- the rules on an input, and on an output
   by_input : (r : FormRule) (k : ℕ) (i : Inv) (c : IsCall w i) (have need : ℕ) → number_of r ≤ 12 → (breach (frame_sample w) r).input k (frame_inv c.mode c.comm c.instance) 0 (E.Comm 0 0) have need → ⊥
   by_input ModulePeriod k i c have need l h = h
-  by_input RootPeriod k i c have need l h = h
+  by_input FrameLimits k i c have need l h = h
   by_input Divides k i c have need l h = divided c.mode 0 have need c.some c.read_divides refl h.0 h.1 h.2
   by_input Offsets k i c have need l h = omega (arith, h.0, h.1, h.2, c.some)
   by_input Ends k i c have need l h =
@@ -269,7 +269,7 @@ module _ (w : ℕ) (small : w ≤ 20) where
   by_output : (r : FormRule) (k : ℕ) (i : Inv) (c : IsCall w i) (have need : ℕ) → number_of r ≤ 12
       → (breach (frame_sample w) r).output k (frame_inv c.mode c.comm c.instance) 0 (E.Comm c.comm c.instance) have need → ⊥
   by_output ModulePeriod k i c have need l h = h
-  by_output RootPeriod k i c have need l h = h
+  by_output FrameLimits k i c have need l h = h
   by_output Divides k i c have need l h = divided c.mode c.comm have need c.some c.divides c.known h.0 h.1 h.2
   by_output Offsets k i c have need l h =
       elim h.2 [

@@ -1,7 +1,6 @@
 -- The worst case of a task decides nothing of a path but the worst cases of its jobs.
-use Rattle.std.proofs.Common.{◌≡◌, ℕ, zero, suc, ◌+◌, ◌*◌, ◌/◌, ◌%◌, ◌<◌, ◌≤◌, Bool, cond, ◌&&◌, eqb, refl, ap, ◌∙◌, subst, arith, ⊎_elim, List, [], ◌∷◌, ◌++◌, length, get_or, slice_get, map, Option, Some, None}
+use Rattle.std.proofs.Common.{◌≡◌, ℕ, zero, suc, ◌+◌, ◌*◌, ◌<◌, ◌≤◌, Bool, ◌&&◌, eqb, refl, sym, ap, ◌∙◌, subst, arith, ⊎_elim, List, [], ◌∷◌, length, get_or, slice_get, map, Option, Some, None}
 use mathlib.Core.Path.{fun_ext}
-use Rattle.std.specs.List.{flat_map}
 use Rattle.std.proofs.lemmas.Bool.{cases_lt}
 use Rattle.htl_model.specs.declared.parts.Inv.{Inv}
 use Rattle.htl_model.specs.declared.parts.Task.{Task}
@@ -10,8 +9,8 @@ use Rattle.htl_model.specs.declared.parts.End.TheVariants as E
 use Rattle.htl_model.specs.declared.frame.Round.{Round}
 use Rattle.htl_model.specs.declared.frame.Place.{Place}
 use Rattle.htl_model.specs.Tables.{Tables, comm_period, mode_period, offsets, greatest, least_or}
-use Rattle.htl_model.specs.Selections.{root_modules, modes_of, invs_of}
-use Rattle.htl_model.specs.Frames.{starts, unit_period, rounds_of, rounds, choices, paths, mode_in, places_of, places_in, path_places}
+use Rattle.htl_model.specs.Frames.{rounds_of, rounds, choices, paths, path_places}
+use Rattle.htl_model.proofs.FrameLists.{rounds_of_framed, rounds_framed, choices_framed, paths_framed, path_places_framed}
 use Rattle.htl_walk.specs.Jobs.{absent_job, is_fed_by, mask}
 use Rattle.htl_walk.specs.PathJobs.{job_in, placed, placed_job, placed_jobs, path_jobs}
 use Rattle.htl_edf.specs.MoreWork.{IsLonger, AreLonger}
@@ -37,29 +36,19 @@ with_tasks t ts = record t { tasks = ts }
 
 module _ (t : Tables) (xs ys : List Task) where
   pub rounds_of_same : (a : ℕ) (us : List ℕ) → rounds_of (with_tasks t xs) a us ≡ rounds_of (with_tasks t ys) a us
-  rounds_of_same a [] = refl
-  rounds_of_same a (u ∷ us) = ap (λ (rest : List Round). cond (eqb (a % unit_period t u) 0) (record { at = a; unit = u } ∷ rest) rest) (rounds_of_same a us)
+  rounds_of_same a us = rounds_of_framed (with_tasks t xs) a us ∙ sym (rounds_of_framed (with_tasks t ys) a us)
 
   pub rounds_same : rounds (with_tasks t xs) ≡ rounds (with_tasks t ys)
-  rounds_same = ap (λ (f : ℕ → List Round). flat_map f (starts t)) (fun_ext (λ a. rounds_of_same a (root_modules t)))
+  rounds_same = rounds_framed (with_tasks t xs) ∙ sym (rounds_framed (with_tasks t ys))
 
   pub choices_same : (rs : List Round) → choices (with_tasks t xs) rs ≡ choices (with_tasks t ys) rs
-  choices_same [] = refl
-  choices_same (r ∷ rs) = ap (λ (n : ℕ). length (modes_of t r.unit) * n) (choices_same rs)
+  choices_same rs = choices_framed (with_tasks t xs) rs ∙ sym (choices_framed (with_tasks t ys) rs)
 
   pub paths_same : paths (with_tasks t xs) ≡ paths (with_tasks t ys)
-  paths_same =
-      ap (λ (n : ℕ). elim (root_modules t) as (λ _. ℕ) [ [] ↦ 0 | u ∷ us ↦ n ])
-      (ap (choices (with_tasks t xs)) rounds_same ∙ choices_same (rounds (with_tasks t ys)))
-
-  places_in_same : (path : ℕ) (rs : List Round) → places_in (with_tasks t xs) path rs ≡ places_in (with_tasks t ys) path rs
-  places_in_same path [] = refl
-  places_in_same path (r ∷ rs) =
-      ap (λ (n : ℕ). places_of r.at (invs_of t (get_or (modes_of t r.unit) (path / n % length (modes_of t r.unit)) 0)) ++ places_in (with_tasks t xs) path rs) (choices_same rs)
-      ∙ ap (λ (ps : List Place). places_of r.at (invs_of t (mode_in (with_tasks t ys) path r rs)) ++ ps) (places_in_same path rs)
+  paths_same = paths_framed (with_tasks t xs) ∙ sym (paths_framed (with_tasks t ys))
 
   pub path_places_same : (path : ℕ) → path_places (with_tasks t xs) path ≡ path_places (with_tasks t ys) path
-  path_places_same path = ap (places_in (with_tasks t xs) path) rounds_same ∙ places_in_same path (rounds (with_tasks t ys))
+  path_places_same path = path_places_framed (with_tasks t xs) path ∙ sym (path_places_framed (with_tasks t ys) path)
 
   -- ---- and the same jobs but for their worst cases
 

@@ -3,7 +3,6 @@ pub mod Bounds
 pub mod BySlices
 pub mod Counting
 pub mod Cutting
-pub mod FormedWindows
 pub mod Found
 pub mod FrameRows
 pub mod FrameSampleFits

@@ -1,11 +1,11 @@
 -- The lists of all nodes, as the code makes them.
-use Rattle.std.proofs.Common.{◌≡◌, ◌≢◌, ℕ, zero, suc, ◌+◌, ◌-◌, ◌*◌, ◌/◌, ◌%◌, ◌≤◌, ◌<◌, List, [], ◌∷◌, ◌++◌, length, drop, take, map, set, get_or, add-one, refl, sym, ap, ◌∙◌, subst, arith, inl, inr}
+use Rattle.std.proofs.Common.{◌≡◌, ◌≢◌, ℕ, zero, suc, ◌+◌, ◌-◌, ◌/◌, ◌%◌, ◌≤◌, ◌<◌, List, [], ◌∷◌, ◌++◌, length, drop, take, set, get_or, add-one, refl, sym, ap, ◌∙◌, subst, arith, inl, inr}
 use Rattle.std.proofs.lemmas.Bool.{cases_lt}
 use Rattle.std.proofs.lemmas.List.{length-map}
 use Rattle.htl_model.specs.declared.frame.Frame.{Frame}
 use Rattle.htl_model.specs.FrameTables.{IsFrame}
 use Rattle.htl_model.specs.Tables.{Tables}
-use Rattle.htl_model.specs.Frames.{frame_of, root_periods, unit_period, rounds_at, choices, starts, paths, nodes, node, node_of, nodes_of, radices, ways, KeepsFrames}
+use Rattle.htl_model.specs.Frames.{frame_of, root_periods, unit_period, rounds_at, choices, starts, paths, nodes, node, node_of, nodes_of, radices, ways}
 use Rattle.htl_model.specs.Selections.{root_modules}
 use Rattle.htl_model.proofs.FrameSteps.{room_for, begins_zero}
 use Rattle.htl_walk.specs.declared.job.Job.{Job}
@@ -13,17 +13,14 @@ use Rattle.htl_walk.specs.declared.schedule.SInstr.{SInstr}
 use Rattle.htl_walk.specs.declared.schedule.Schedule.{Schedule}
 use Rattle.htl_walk.specs.PathJobs.{path_jobs, next_of}
 use Rattle.htl_walk.specs.FrameLaws.{start_at, end_at}
-use Rattle.htl_walk.specs.Feasible.{AreFeasible}
 use Rattle.htl_walk.specs.NodeWalks.{ShareNodes, instrs_of}
 use Rattle.htl_walk.proofs.Steps.{apart}
 use Rattle.htl_walk.proofs.Starts.{Rises, starts_rise}
 use Rattle.htl_walk.proofs.Nodes.{places_same, product_some, node_below, nodes_within, paths_are, leg_at}
 use Rattle.htl_walk.proofs.CodeWalk.{start_read, end_read}
-use Rattle.htl_edf.specs.Windows.{NoOverload, Reported}
-use Rattle.htl_edf.specs.Lists.{tightened}
 use Rattle.htl_edf.specs.Parts.{part}
 use Rattle.htl_edf.specs.NodePlans.{AreReady, AreNodeLists, HasPart, HaveParts}
-use Rattle.htl_edf.proofs.NodeLists.{one_list_of_node, nodes_accepted, nodes_refused}
+use Rattle.htl_edf.proofs.NodeLists.{one_list_of_node}
 
 -- ---- the end of the frame
 

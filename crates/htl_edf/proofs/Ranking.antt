@@ -1,6 +1,6 @@
 -- Items in order, from a sort.
-use Rattle.std.proofs.Common.{◌≡◌, ◌≢◌, ℕ, zero, suc, ◌+◌, ◌*◌, ◌/◌, ◌%◌, ◌<◌, ◌≤◌, Bool, true, false, eqb, List, length, get_or, refl, sym, ap, ◌∙◌, subst, arith, ⊎_elim, eq-eqb, eqb-true, nat_cmp}
-use Rattle.std.specs.List.{All, IsDistinct, list_any}
+use Rattle.std.proofs.Common.{◌≡◌, ℕ, ◌/◌, ◌%◌, ◌<◌, ◌≤◌, true, false, eqb, List, length, get_or, sym, ap, ◌∙◌, arith, ⊎_elim, eq-eqb, eqb-true, nat_cmp}
+use Rattle.std.specs.List.{IsDistinct, list_any}
 use Rattle.std.specs.List.Sorted.{IsPermutation, IsSorted, IsNonDecreasing}
 use Rattle.std.proofs.lemmas.Bool.{cases_lt, ne_eqb, cases_Bool}
 use Rattle.std.proofs.lemmas.List.{get_or_default}

@@ -2,6 +2,7 @@
 ghost use Rattle.std.specs.Prelude.{◌≡◌, ◌≤◌, ◌<◌, IfOk, IfErr};
 ghost use Rattle.htl_model.specs.Broken.{KeptTo, KeepsLimits};
 ghost use Rattle.htl_model.specs.Selections.{selection_count, round_length};
+ghost use Rattle.htl_walk.specs.EqualPeriods.{RootsHaveOnePeriod};
 ghost use Rattle.htl_edf.specs.Plan.{IsPlannable, IsPlanned, ArePlanned, ExplainsPlan, IsOverloadOf};
 
 use crate::{EdfFault, edf};
@@ -51,14 +52,15 @@ fn plan(alloc: Global, t: &Tables, selection: u32, period: Time) -> Result<Sched
 
 /// The schedule of earliest deadline first for each root selection, in the order of the selections.
 ///
-/// The tables keep the form rules 1 to 12 and the limits on selections and positions; so the jobs of each selection are as
-/// `edf` asks: the law `plannable`.
+/// The tables keep the form rules 1 to 12 and the limits on selections and positions, and their root modules have one
+/// period; so the jobs of each selection are as `edf` asks: the law `plannable`.
 ///
 /// Each schedule is accepted by the worst-case walk of its selection. `Overload` comes exactly where a selection is
 /// overloaded, and names the first; no S code whatever is accepted for it. Want of memory may come first.
 /// The cost is that of the jobs and of `edf` for each selection.
 pub fn edf_all(alloc: Global, t: &Tables) -> Result<Vec<Schedule>, PlanFault>
     requires formed { KeptTo t.now 12 }
+    requires one_period { RootsHaveOnePeriod t.now }
     requires limits { KeepsLimits t.now }
     ensures planned { IfOk result (λ v. ArePlanned t.now (selection_count t.now) v.items) }
     ensures fault { IfErr result (λ e. ExplainsPlan t.now e) }

@@ -7,9 +7,9 @@ ghost use Rattle.htl_espell.specs.Checks.{next_of, decide_read};
 use crate::landing::arrive;
 use crate::needs::{ask, test};
 use crate::slides::Instrs;
-use htl_ecode::decisions::{led, parent_of};
+use htl_ecode::decisions::led;
 use htl_ecode::{EFault, EInstr};
-use htl_model::lookup::mode_module;
+use htl_model::lookup::{mode_module, parent_of};
 use htl_model::{Switch, Tables};
 
 // Reads what asks whether the mode's module goes on: the address where it does.

@@ -1,5 +1,5 @@
 -- Which invocations write nothing that an earlier concrete invocation writes.
-use Rattle.std.proofs.Common.{◌≡◌, ◌≢◌, ◌<◌, ◌≤◌, ◌⊎◌, ℕ, zero, suc, ◌+◌, ◌-◌, Bool, true, false, ◌&&◌, cond, eqb, List, [], ◌∷◌, ◌++◌, length, get_or, replicate, Option, Some, None, refl, sym, ◌∙◌, ap, subst, arith, inl, inr}
+use Rattle.std.proofs.Common.{◌≡◌, ◌≢◌, ◌<◌, ◌≤◌, ◌⊎◌, ℕ, zero, suc, ◌+◌, ◌-◌, Bool, true, false, ◌&&◌, cond, eqb, List, [], ◌∷◌, ◌++◌, get_or, replicate, Option, Some, None, refl, sym, ◌∙◌, ap, subst, arith, inl, inr}
 use Rattle.std.specs.Prelude.{slice_get}
 use Rattle.std.specs.List.{list_any, IsDistinct, AllByRecursion}
 use Rattle.std.proofs.lemmas.Bool.Decides.{nat_tests}
@@ -18,7 +18,7 @@ use Rattle.htl_model.specs.SecondWriters.{StandTogether, AreSameWrite, WritesBef
 use Rattle.htl_model.specs.Tables.{Tables, is_concrete}
 use Rattle.htl_form.proofs.PathLaws.{true_together}
 use Rattle.htl_form.proofs.Places.{all_at, filled_at}
-use Rattle.htl_form.proofs.TestLaws.{either, on_left, on_right, not_both, equal, last}
+use Rattle.htl_model.proofs.TestLaws.{either, on_left, on_right, not_both, equal, last}
 use Rattle.htl_form.proofs.WriterLaws.{writes_before}
 use Rattle.htl_form.specs.Apart.{key, instance_of, AreNear, end_keys, keys_in, inv_keys, keys_from, is_comm, takes, is_taken, is_taken_end, IsApart, AreApart}
 use Rattle.htl_model.specs.First.{or_else, first_from}

@@ -1,21 +1,22 @@
 -- The test for cycles of ports finds what the rule says.
 use Rattle.std.proofs.Common.{◌≡◌, ◌<◌, ◌≤◌, ℕ, zero, suc, ◌+◌, Bool, true, false, not, ◌&&◌, ◌||◌, cond, eqb, List, [], ◌∷◌, length, Option, Some, None, refl, sym, ◌∙◌, ap, subst, arith, inl, inr}
 use Rattle.std.specs.Prelude.{slice_get}
-use Rattle.std.specs.List.{list_any, IsDistinct, AllByRecursion}
+use Rattle.std.specs.List.{list_any}
 use Rattle.std.proofs.lemmas.Bool.Decides.{nat_tests}
 use Rattle.std.proofs.lemmas.Cmp.{nat_eq_equiv}
-use Rattle.std.proofs.lemmas.Map.Keys.{IsDistinct-from_apart, IsDistinct-cons}
 use Rattle.std.proofs.lemmas.Map.Made.{length-from_same_keys}
 use Rattle.std.proofs.lemmas.Map.Views.{list_any-from_Contains, Contains-from_any}
 use Rattle.std.proofs.lemmas.Option.{slice_get_within}
-use Rattle.htl_model.proofs.PortChains.{leads_below, leads_from, leads_within, feeds_within, count_below}
+use Rattle.htl_model.proofs.NumbersBelow.{has_number, number_has, numbers_once, length_numbers}
+use Rattle.htl_model.proofs.PortChains.{leads_from, leads_within, feeds_within}
 use Rattle.htl_model.specs.declared.parts.Inv.{Inv}
-use Rattle.htl_model.specs.PortOrder.{feeds, Precedes, IsOnCycle, AreOnCycles, InCycle}
+use Rattle.htl_model.specs.NumbersBelow.{numbers_below}
+use Rattle.htl_model.specs.PortOrder.{leads_below, feeds, Precedes, IsOnCycle, AreOnCycles, InCycle}
 use Rattle.htl_model.specs.Ranges.{AreInRange}
 use Rattle.htl_model.specs.Tables.{Tables}
 use Rattle.htl_form.proofs.Finding.{Finds, finds_unless}
-use Rattle.htl_form.proofs.TestLaws.{either, both, on_left, on_right, and_true, agree, equal, same_number, last}
-use Rattle.htl_form.specs.Cycles.{precedes_itself, is_of_mode, is_on_cycle, numbers_below, cycle_count, cycle_fault}
+use Rattle.htl_model.proofs.TestLaws.{either, both, on_left, on_right, and_true, agree, equal, same_number, last}
+use Rattle.htl_form.specs.Cycles.{precedes_itself, is_of_mode, is_on_cycle, cycle_count, cycle_fault}
 
 -- ---- what leads to what
 
@@ -36,57 +37,6 @@ precedes_true t k h = leads_from (feeds t) (length t.invs) k k h
 pub true_precedes : (t : Tables) (k : ℕ) → Precedes t k k → precedes_itself t k ≡ true
 unfolding precedes_itself
 true_precedes t k h = leads_within (feeds t) (length t.invs) (feeds_within t) k k h
-
--- ---- numbers that pass a test
-
-has_number : (p : ℕ → Bool) (n k : ℕ) → list_any (eqb k) (numbers_below p n) ≡ true → (k < n) × (p k ≡ true)
-has_number p zero k h = cc
-has_number p (suc n) k h = by (p n) refl (λ e. has_number p n k e) h
-  where
-    by : (b : Bool) → p n ≡ b → (list_any (eqb k) (numbers_below p n) ≡ true → (k < n) × (p k ≡ true))
-        → list_any (eqb k) (cond b (n ∷ numbers_below p n) (numbers_below p n)) ≡ true → (k < suc n) × (p k ≡ true)
-    by true is later h =
-        elim (either (eqb k n) (list_any (eqb k) (numbers_below p n)) h) [
-          | inl e ↦ let same : n ≡ k = grind (arith, nat_tests) in (omega arith, subst (λ x. p x ≡ true) same is)
-          | inr e ↦ let r = later e in (omega (arith, r.0), r.1)
-        ]
-    by false is later h = let r = later h in (omega (arith, r.0), r.1)
-
-number_has : (p : ℕ → Bool) (n k : ℕ) → k < n → p k ≡ true → list_any (eqb k) (numbers_below p n) ≡ true
-number_has p zero k less h = absurd (omega arith)
-number_has p (suc n) k less h = by (p n) refl (λ below. number_has p n k below h)
-  where
-    by : (b : Bool) → p n ≡ b → (k < n → list_any (eqb k) (numbers_below p n) ≡ true) → list_any (eqb k) (cond b (n ∷ numbers_below p n) (numbers_below p n)) ≡ true
-    by true is later = elim (last k n less) [ inl below ↦ on_right (eqb k n) _ (later below) | inr same ↦ on_left (eqb k n) _ (equal k n same) ]
-    by false is later =
-        elim (last k n less) [
-          | inl below ↦ later below
-          | inr same ↦ absurd (let no : false ≡ true = sym is ∙ sym (ap p same) ∙ h in cc)
-        ]
-
-apart : (p : ℕ → Bool) (m n : ℕ) → n ≤ m → AllByRecursion (λ y. eqb m y ≡ false) (numbers_below p n)
-apart p m zero h = tt
-apart p m (suc n) h = by (p n) (apart p m n (omega arith))
-  where
-    by : (b : Bool) → AllByRecursion (λ y. eqb m y ≡ false) (numbers_below p n) → AllByRecursion (λ y. eqb m y ≡ false) (cond b (n ∷ numbers_below p n) (numbers_below p n))
-    by true others = (grind (arith, nat_tests), others)
-    by false others = others
-
-numbers_once : (p : ℕ → Bool) (n : ℕ) → IsDistinct eqb (numbers_below p n)
-numbers_once p zero = IsDistinct-from_apart eqb [] (λ i j d a b. absurd (omega arith))
-numbers_once p (suc n) = by (p n) (numbers_once p n) (apart p n n (omega arith))
-  where
-    by : (b : Bool) → IsDistinct eqb (numbers_below p n) → AllByRecursion (λ y. eqb n y ≡ false) (numbers_below p n) → IsDistinct eqb (cond b (n ∷ numbers_below p n) (numbers_below p n))
-    by true once others = IsDistinct-cons eqb n (numbers_below p n) others once
-    by false once others = once
-
-length_numbers : (p : ℕ → Bool) (n : ℕ) → length (numbers_below p n) ≡ count_below p n
-length_numbers p zero = refl
-length_numbers p (suc n) = by (p n) (length_numbers p n)
-  where
-    by : (b : Bool) → length (numbers_below p n) ≡ count_below p n → length (cond b (n ∷ numbers_below p n) (numbers_below p n)) ≡ count_below p n + cond b 1 0
-    by true e = omega arith
-    by false e = omega arith
 
 -- ---- the rule
 

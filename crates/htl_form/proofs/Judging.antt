@@ -14,7 +14,8 @@ use Rattle.htl_form.specs.Tests.{tests}
 use Rattle.htl_form.specs.declared.rule.Rule.{Rule}
 use Rattle.htl_form.specs.declared.rule.Rule.TheVariants as R
 use Rattle.htl_form.proofs.Finding.{Finds, finds_nothing}
-use Rattle.htl_form.proofs.PeriodLaws.{module_period_is, root_period_is, divides_is, end_divides_is}
+use Rattle.htl_form.proofs.PeriodLaws.{module_period_is, divides_is, end_divides_is}
+use Rattle.htl_form.proofs.FrameLaws.{frame_fault_is}
 use Rattle.htl_form.proofs.EndLaws.{read_offset_is, write_offset_is, count_is, type_is, window_is, worst_case_is, abstract_read_is, sensor_is}
 use Rattle.htl_form.proofs.PortLaws.{unwritten_is, rewritten_is}
 use Rattle.htl_form.proofs.CycleLaws.{cycle_is}
@@ -37,9 +38,9 @@ judges t r R.ModulePeriod =
       output = λ k i j e at out. finds_nothing;
       test = λ m c. finds_nothing;
     }
-judges t r R.RootPeriod =
+judges t r R.FrameLimits =
     record {
-      mode = λ m x at. root_period_is t m x;
+      mode = λ m x at. frame_fault_is t r m x at;
       inv = λ k i at. finds_nothing;
       input = λ k i j e at read. finds_nothing;
       output = λ k i j e at out. finds_nothing;

@@ -4,6 +4,7 @@ pub mod CommonMultiples
 pub mod CycleLaws
 pub mod EndLaws
 pub mod Finding
+pub mod FrameLaws
 pub mod Judging
 pub mod OneFault
 pub mod OwnerLaws
@@ -19,7 +20,6 @@ pub mod RuleOrder
 pub mod SearchLaws
 pub mod SilentLaws
 pub mod SiteLaws
-pub mod TestLaws
 mod WriterExamples
 pub mod WriterLaws
 pub mod WriterSamples

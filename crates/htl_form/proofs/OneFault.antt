@@ -141,7 +141,7 @@ one_broken t range r s h n a c y z =
 
 -- ---- one fault
 
-one_law : (l m : FormRule) → number_of l ≡ number_of m → number_of m ≤ 12 → l ≡ m
+pub one_law : (l m : FormRule) → number_of l ≡ number_of m → number_of m ≤ 12 → l ≡ m
 one_law l m e few =
     let r = place_of m few in
     let s = place_of l (omega (arith, e, few)) in
@@ -157,15 +157,16 @@ same_fault f g a b c d e h =
     ∙ ap (λ m. make g.rule g.«module» m f.inv f.have f.need) c ∙ ap (λ i. make g.rule g.«module» g.mode i f.have f.need) d
     ∙ ap (λ x. make g.rule g.«module» g.mode g.inv x f.need) e ∙ ap (make g.rule g.«module» g.mode g.inv g.have) h
 
+-- a rule that is broken at a site is broken at the same site
+pub broken_there : (t : Tables) (s u : Site) (r l : FormRule) (h n : ℕ) → SameSite s u → r ≡ l → Broken t r s h n → Broken t l u h n
+broken_there t s u r l h n at same y =
+    let make : ℕ → Option ℕ → Part → Site = λ mode inv part. record { mode = mode; inv = inv; part = part } in
+    let is : s ≡ u = ap (λ m. make m s.inv s.part) at.mode ∙ ap (λ k. make u.mode k s.part) at.inv ∙ ap (make u.mode u.inv) at.part in
+    subst (λ (v : Site). Broken t l v h n) is (subst (λ (x : FormRule). Broken t x s h n) same y)
+
 pub one_form_fault : (t : Tables) → AreInRange t → (f g : FormFault) → f.rule ≤ 12 → g.rule ≤ 12 → IsFirstBroken t f → IsFirstBroken t g → f ≡ g
 one_form_fault t range f g low less p q = by (order p.law q.law (site_of f p.part) (site_of g q.part))
   where
-    move : (s u : Site) (r l : FormRule) (h n : ℕ) → SameSite s u → r ≡ l → Broken t r s h n → Broken t l u h n
-    move s u r l h n at same y =
-        let make : ℕ → Option ℕ → Part → Site = λ mode inv part. record { mode = mode; inv = inv; part = part } in
-        let is : s ≡ u = ap (λ m. make m s.inv s.part) at.mode ∙ ap (λ k. make u.mode k s.part) at.inv ∙ ap (make u.mode u.inv) at.part in
-        subst (λ (v : Site). Broken t l v h n) is (subst (λ (x : FormRule). Broken t x s h n) same y)
-
     by : ComesBefore p.law (site_of f p.part) q.law (site_of g q.part) ⊎ ((number_of p.law ≡ number_of q.law) × SameSite (site_of f p.part) (site_of g q.part))
         ⊎ ComesBefore q.law (site_of g q.part) p.law (site_of f p.part) → f ≡ g
     by (inl before) = absurd (q.first p.law (site_of f p.part) f.have f.need before p.broken)
@@ -175,6 +176,6 @@ one_form_fault t range f g low less p q = by (order p.law q.law (site_of f p.par
         let r = place_of q.law few in
         let law = one_law p.law q.law same.0 few in
         let numbers = one_broken t range r.1 (site_of g q.part) f.have f.need g.have g.need
-        (move (site_of f p.part) (site_of g q.part) p.law (law_of r.1) f.have f.need same.1 (law ∙ sym r.4) p.broken)
+        (broken_there t (site_of f p.part) (site_of g q.part) p.law (law_of r.1) f.have f.need same.1 (law ∙ sym r.4) p.broken)
         (subst (λ (l : FormRule). Broken t l (site_of g q.part) g.have g.need) (sym r.4) q.broken) in
         same_fault f g (p.rule ∙ same.0 ∙ sym q.rule) (p.«module» ∙ ap (mode_module t) same.1.mode ∙ sym q.«module») same.1.mode same.1.inv numbers.0 numbers.1

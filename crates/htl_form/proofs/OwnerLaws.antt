@@ -1,9 +1,8 @@
 -- What one module alone writes is not taken: its modes are rivals.
-use Rattle.std.proofs.Common.{◌≡◌, ◌≢◌, ◌<◌, ◌≤◌, ℕ, zero, suc, ◌+◌, ◌-◌, Bool, true, false, ◌&&◌, eqb, List, [], ◌∷◌, length, get_or, Option, Some, None, refl, sym, ◌∙◌, ap, subst, arith, inl, inr}
+use Rattle.std.proofs.Common.{◌≡◌, ◌<◌, ◌≤◌, ℕ, zero, suc, ◌+◌, Bool, true, false, eqb, List, [], ◌∷◌, length, get_or, Option, Some, None, refl, ◌∙◌, subst, arith, inl, inr}
 use Rattle.std.specs.Prelude.{slice_get}
 use Rattle.std.specs.List.{list_any}
 use Rattle.std.proofs.lemmas.Bool.Decides.{nat_tests}
-use Rattle.std.proofs.lemmas.Map.Keys.{any_passes_from_place}
 use Rattle.htl_model.specs.declared.parts.Inv.{Inv}
 use Rattle.htl_model.specs.declared.parts.End.{End}
 use Rattle.htl_model.specs.declared.parts.End.TheVariants as E
@@ -15,7 +14,7 @@ use Rattle.htl_form.specs.WriterFaults.{stand_together}
 use Rattle.htl_form.specs.declared.owners.Owner.{Owner}
 use Rattle.htl_form.specs.declared.owners.Owner.TheVariants as owner
 use Rattle.htl_form.proofs.PathLaws.{rivals_apart}
-use Rattle.htl_form.proofs.TestLaws.{either, neither, both, same_number}
+use Rattle.htl_model.proofs.TestLaws.{either, neither, both, same_number}
 
 -- an invocation that takes a communicator from mode m
 record Taker (t : Tables) (m base c : ℕ) : Type 0 where

@@ -7,7 +7,7 @@ use Rattle.htl_model.specs.declared.parts.Module.{Module}
 use Rattle.htl_model.specs.Ranges.{AreInRange, parent_of, is_within}
 use Rattle.htl_model.specs.SecondWriters.{parent_mode, OnPath, itself, above, StandTogether}
 use Rattle.htl_model.specs.Tables.{Tables, mode_module}
-use Rattle.htl_form.proofs.TestLaws.{either, on_left, on_right, same_number, other_number}
+use Rattle.htl_model.proofs.TestLaws.{either, on_left, on_right, same_number, other_number}
 use Rattle.htl_form.specs.WriterFaults.{path, are_rivals, has_rival, stand_together}
 
 -- ---- the modes of a path

@@ -1,16 +1,14 @@
 -- The tests of the rules on periods find exactly what the words say.
-use Rattle.std.proofs.Common.{◌≡◌, ◌≢◌, ℕ, ◌%◌, ◌⊎◌, Bool, true, false, cond, eqb, Option, Some, None, refl, sym, ap, subst, arith}
+use Rattle.std.proofs.Common.{◌≡◌, ◌≢◌, ℕ, ◌%◌, ◌⊎◌, false, eqb, Option, Some, None, refl, sym, ap, subst, arith}
 use Rattle.std.proofs.lemmas.Bool.Decides.{nat_tests}
 use Rattle.htl_model.specs.declared.parts.Mode.{Mode}
 use Rattle.htl_model.specs.declared.parts.Inv.{Inv}
 use Rattle.htl_model.specs.declared.parts.End.{End}
 use Rattle.htl_model.specs.declared.parts.End.TheVariants as E
 use Rattle.htl_model.specs.Tables.{Tables, mode_period, comm_period}
-use Rattle.htl_model.specs.Ranges.{parent_of}
-use Rattle.htl_model.specs.Selections.{root_period}
-use Rattle.htl_model.specs.PeriodRules.{asked_period, first_mode, PeriodDiffers, RootPeriodDiffers, NotDivided, EndNotDivided}
-use Rattle.htl_model.specs.Found.{Found, unless}
-use Rattle.htl_form.specs.PeriodFaults.{unless_asked, module_period_fault, matches_number, is_first_of_root, root_period_fault, divides, divides_fault, end_divides_fault}
+use Rattle.htl_model.specs.PeriodRules.{asked_period, PeriodDiffers, NotDivided, EndNotDivided}
+use Rattle.htl_model.specs.Found.{unless}
+use Rattle.htl_form.specs.PeriodFaults.{unless_asked, module_period_fault, divides, divides_fault, end_divides_fault}
 use Rattle.htl_form.proofs.Finding.{Finds, finds_nothing, finds_unless}
 
 -- two numbers that differ
@@ -39,35 +37,6 @@ finds_asked x None =
 
 pub module_period_is : (t : Tables) (x : Mode) → Finds (module_period_fault t x) (PeriodDiffers t x)
 module_period_is t x = finds_asked x.period (asked_period t x.«module»)
-
--- a test that is tried only where a condition holds
-pub finds_where : (b : Bool) (o : Found) (P Q : ℕ → ℕ → Type 0) → Finds o P → ((h n : ℕ) → b ≡ true → P h n → Q h n) → ((h n : ℕ) → Q h n → (b ≡ true) × P h n) → Finds (cond b o None) Q
-finds_where true o P Q f made taken = record { says = λ h n e. made h n refl (f.says h n e); finds = λ h n q. f.finds h n (taken h n q).1 }
-finds_where false o P Q f made taken =
-    record { says = λ h n e. absurd (let no : None ≡ Some (h, n) = e in cc); finds = λ h n q. absurd (let no : false ≡ true = (taken h n q).0 in cc) }
-
-at_number : (o : Option ℕ) (m : ℕ) → matches_number o m ≡ true → o ≡ Some m
-at_number (Some x) m h = let same : x ≡ m = grind (arith, nat_tests) in ap (λ (z : ℕ). Some z) same
-at_number None m h = cc
-
-number_at : (o : Option ℕ) (m : ℕ) → o ≡ Some m → matches_number o m ≡ true
-number_at (Some x) m e = let same : x ≡ m = cc in grind (arith, nat_tests)
-number_at None m e = cc
-
-parts : (o f : Option ℕ) (m : ℕ) → elim o [ Some p ↦ false | None ↦ matches_number f m ] ≡ true → (o ≡ None) × (f ≡ Some m)
-parts (Some p) f m h = cc
-parts None f m h = (refl, at_number f m h)
-
-joined : (o f : Option ℕ) (m : ℕ) → o ≡ None → f ≡ Some m → elim o [ Some p ↦ false | None ↦ matches_number f m ] ≡ true
-joined (Some p) f m a b = cc
-joined None f m a b = number_at f m b
-
-pub root_period_is : (t : Tables) (m : ℕ) (x : Mode) → Finds (root_period_fault t m x) (RootPeriodDiffers t m x)
-root_period_is t m x =
-    let P : ℕ → ℕ → Type 0 = λ h n. (h ≡ x.period) × (root_period t ≡ Some n) × (h ≢ n) in
-    finds_where (is_first_of_root t m x.«module») (unless_asked x.period (root_period t)) P (RootPeriodDiffers t m x) (finds_asked x.period (root_period t))
-    (λ h n b p. (let both = parts (parent_of t x.«module») (first_mode t x.«module») m b in record { root = both.0; first = both.1; period = p.0; asked = p.1; differs = p.2 }))
-    (λ h n q. (joined (parent_of t x.«module») (first_mode t x.«module») m q.root q.first, (q.period, q.asked, q.differs)))
 
 pub divides_is : (t : Tables) (m c : ℕ) → Finds (divides_fault t m c) (NotDivided t m c)
 divides_is t m c =

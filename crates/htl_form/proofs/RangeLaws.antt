@@ -1,16 +1,15 @@
 -- The invocations of one mode stand together in the list.
-use Rattle.std.proofs.Common.{◌≡◌, ◌<◌, ◌≤◌, ◌⊎◌, ℕ, zero, suc, ◌+◌, ◌-◌, Bool, true, false, cond, eqb, List, length, get_or, take, map, Some, sym, ◌∙◌, ap, subst, arith, inl, inr}
+use Rattle.std.proofs.Common.{◌≡◌, ◌<◌, ◌≤◌, ◌⊎◌, ℕ, zero, suc, ◌+◌, ◌-◌, Bool, true, false, cond, eqb, List, length, get_or, take, Some, sym, ◌∙◌, ap, subst, arith, inl, inr}
 use Rattle.std.specs.Prelude.{slice_get}
 use Rattle.std.specs.List.{count_by}
-use Rattle.std.proofs.lemmas.List.{get_or-map, length-map}
 use Rattle.std.proofs.lemmas.List.Sums.{count_by_more_yes, sum_by-take-le}
-use Rattle.std.proofs.lemmas.Option.{slice_get_within, get_or_from_slice_get}
+use Rattle.std.proofs.lemmas.Option.{get_or_from_slice_get}
 use Rattle.htl_model.specs.declared.parts.Inv.{Inv}
 use Rattle.htl_model.specs.Ranges.{AreInRange}
 use Rattle.htl_model.specs.Starts.{IsStartOf}
 use Rattle.htl_model.specs.Tables.{Tables}
 use Rattle.htl_form.proofs.Places.{item_at}
-use Rattle.htl_form.proofs.TestLaws.{equal}
+use Rattle.htl_model.proofs.TestLaws.{equal}
 use Rattle.htl_form.specs.Cycles.{precedes_itself}
 use Rattle.htl_form.specs.Rows.{IsRangeOf, AreMarked}
 

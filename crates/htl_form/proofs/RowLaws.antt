@@ -10,7 +10,8 @@ use Rattle.std.proofs.lemmas.Nat.{pow_pos}
 use Rattle.std.proofs.lemmas.Nat.Bits.{and_pow, bit_at-lt}
 use Rattle.std.proofs.lemmas.Option.{slice_get-get_or}
 use Rattle.htl_model.proofs.BitLaws.{has_bit_or}
-use Rattle.htl_model.proofs.PortChains.{leads_below, leads_from, leads_within}
+use Rattle.htl_model.proofs.PortChains.{leads_from, leads_within}
+use Rattle.htl_model.specs.PortOrder.{leads_below}
 use Rattle.htl_model.proofs.PortTableLaws.{row_by_reads}
 use Rattle.htl_model.specs.Bits.{has_bit, cell}
 use Rattle.htl_model.specs.declared.parts.Inv.{Inv}
@@ -19,7 +20,7 @@ use Rattle.htl_model.specs.PortTable.{writes_to, is_from}
 use Rattle.htl_model.specs.Ranges.{AreInRange}
 use Rattle.htl_model.specs.Tables.{Tables}
 use Rattle.htl_form.proofs.CycleLaws.{leads_same, precedes_true, true_precedes}
-use Rattle.htl_form.proofs.TestLaws.{and_true, agree, below}
+use Rattle.htl_model.proofs.TestLaws.{and_true, agree, below}
 use Rattle.htl_form.specs.Cycles.{precedes_itself}
 use Rattle.htl_form.specs.Rows.{IsRangeOf, widened, through_one, through_all, AreWriters, follows, AreSteps}
 

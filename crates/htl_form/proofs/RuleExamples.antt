@@ -1,5 +1,5 @@
 -- For each rule a smallest table that breaks it and no other, and one that just keeps it; and which of two faults is told.
-use Rattle.std.specs.Prelude.{◌≡◌, ℕ, Bool, true, false, List, [], ◌∷◌, Option, Some, None, pos, refl, codes, map}
+use Rattle.std.specs.Prelude.{◌≡◌, ℕ, Bool, true, false, List, [], ◌∷◌, ◌++◌, replicate, Option, Some, None, pos, refl, codes, map}
 use Rattle.htl_base.specs.declared.Ty.{Ty}
 use Rattle.htl_base.specs.declared.Ty.TheVariants.{Int as IntTy, Bool as BoolTy}
 use Rattle.htl_model.specs.declared.form_fault.FormFault.{FormFault}
@@ -18,7 +18,7 @@ use Rattle.htl_form.specs.declared.rule.Rule.TheVariants as R
 -- what nine of the rules tell, each by itself: 1 to 7, 10, 11
 abbrev judged : Tables → List (Option FormFault)
 judged t =
-    map (of_rule t 0) (R.ModulePeriod ∷ R.RootPeriod ∷ R.Divides ∷ R.Offsets ∷ R.Ends ∷ R.Windows ∷ R.WorstCases ∷ R.AbstractPorts ∷ R.Sensors ∷ [])
+    map (of_rule t 0) (R.ModulePeriod ∷ R.FrameLimits ∷ R.Divides ∷ R.Offsets ∷ R.Ends ∷ R.Windows ∷ R.WorstCases ∷ R.AbstractPorts ∷ R.Sensors ∷ [])
 
 -- a fault of rule n at an invocation of mode 0 of module 0; at a mode
 abbrev at_inv : ℕ → ℕ → ℕ → ℕ → Option FormFault
@@ -78,16 +78,60 @@ later_mode_differs = refl
 refined_period_agrees : judged (refinement 10 10) ≡ nothing
 refined_period_agrees = refl
 
--- ---- rule 2: one period for all root modules
+-- ---- rule 2: the limits of frames
 
-abbrev two_roots : ℕ → Tables
+-- what rule 2 alone tells
+abbrev framed : Tables → Option FormFault
+framed t = of_rule t 0 R.FrameLimits
+
+abbrev pub two_roots : ℕ → Tables
 two_roots p = modes_alone (module_named (codes "M") None 0 ∷ module_named (codes "N") None 1 ∷ []) (mode (codes "a") 0 10 ∷ mode (codes "b") 1 p ∷ mode (codes "c") 1 p ∷ [])
 
-root_periods_differ : judged (two_roots 20) ≡ None ∷ at_mode 2 1 1 20 10 ∷ None ∷ None ∷ None ∷ None ∷ None ∷ None ∷ None ∷ []
+root_periods_differ : judged (two_roots 20) ≡ nothing
 root_periods_differ = refl
 
-root_periods_agree : judged (two_roots 10) ≡ nothing
-root_periods_agree = refl
+-- modules of the given periods, with a mode each
+abbrev three_roots : ℕ → ℕ → ℕ → Tables
+three_roots p q r =
+    modes_alone (module_named (codes "M") None 0 ∷ module_named (codes "N") None 1 ∷ module_named (codes "O") None 2 ∷ [])
+    (mode (codes "a") 0 p ∷ mode (codes "b") 1 q ∷ mode (codes "c") 2 r ∷ [])
+
+-- the multiple is too great from N on; there are too many starts, which are those of all
+long_frame : framed (three_roots 1000000 999999 10) ≡ at_mode 2 1 1 999999000000 1000000
+long_frame = refl
+
+many_starts : framed (three_roots 10 330 10) ≡ at_mode 2 2 2 33 32
+many_starts = refl
+
+enough_starts : framed (three_roots 10 320 10) ≡ None
+enough_starts = refl
+
+-- a module that refines another has no part in it
+refinement_apart : framed (refinement 330 330) ≡ None
+refinement_apart = refl
+
+-- two modes of period 10 in one module, a mode of the given period in another
+abbrev two_and_one : ℕ → Tables
+two_and_one p = modes_alone (module_named (codes "M") None 0 ∷ module_named (codes "N") None 2 ∷ []) (mode (codes "a") 0 10 ∷ mode (codes "b") 0 10 ∷ mode (codes "c") 1 p ∷ [])
+
+many_paths : framed (two_and_one 110) ≡ at_mode 2 1 2 2048 1024
+many_paths = refl
+
+enough_paths : framed (two_and_one 100) ≡ None
+enough_paths = refl
+
+-- 25 rounds of five invocations, and one of so many
+abbrev rounds_of_five : ℕ → Tables
+rounds_of_five n =
+    record (modes_alone (module_named (codes "M") None 0 ∷ module_named (codes "N") None 1 ∷ []) (mode (codes "a") 0 10 ∷ mode (codes "b") 1 250 ∷ [])) {
+      invs = replicate 5 (call 0 0 None [] []) ++ replicate n (call 1 0 None [] []);
+    }
+
+many_positions : framed (rounds_of_five 4) ≡ at_mode 2 1 1 129 128
+many_positions = refl
+
+enough_positions : framed (rounds_of_five 3) ≡ None
+enough_positions = refl
 
 -- ---- rule 3: periods divide
 

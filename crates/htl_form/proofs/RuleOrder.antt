@@ -10,7 +10,7 @@ use Rattle.htl_form.specs.declared.rule.Rule.TheVariants as R
 -- each rule up to 12 has its place
 pub place_of : (l : FormRule) → number_of l ≤ 12 → (p : ℕ) × (r : Rule) × (suc p ≡ number_of l) × (slice_get all_rules p ≡ Some r) × (law_of r ≡ l)
 place_of law.ModulePeriod few = (0, R.ModulePeriod, refl, refl, refl)
-place_of law.RootPeriod few = (1, R.RootPeriod, refl, refl, refl)
+place_of law.FrameLimits few = (1, R.FrameLimits, refl, refl, refl)
 place_of law.Divides few = (2, R.Divides, refl, refl, refl)
 place_of law.Offsets few = (3, R.Offsets, refl, refl, refl)
 place_of law.Ends few = (4, R.Ends, refl, refl, refl)
@@ -29,7 +29,7 @@ place_of law.Inheritance few = absurd (omega arith)
 -- the number of the rule at a place
 pub number_at : (p : ℕ) (r : Rule) → slice_get all_rules p ≡ Some r → (suc p ≡ rule_number r) × (suc p ≤ 12)
 number_at zero r e = (let is : R.ModulePeriod ≡ r = cc in (ap rule_number is, omega arith))
-number_at (suc zero) r e = (let is : R.RootPeriod ≡ r = cc in (ap rule_number is, omega arith))
+number_at (suc zero) r e = (let is : R.FrameLimits ≡ r = cc in (ap rule_number is, omega arith))
 number_at (suc (suc zero)) r e = (let is : R.Divides ≡ r = cc in (ap rule_number is, omega arith))
 number_at (suc (suc (suc zero))) r e = (let is : R.Offsets ≡ r = cc in (ap rule_number is, omega arith))
 number_at (suc (suc (suc (suc zero)))) r e = (let is : R.Ends ≡ r = cc in (ap rule_number is, omega arith))

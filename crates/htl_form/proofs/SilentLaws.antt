@@ -10,7 +10,7 @@ use Rattle.htl_form.specs.declared.rule.Rule.TheVariants as R
 
 pub input_silent : (t : Tables) (r : Rule) → judges_inputs r ≡ false → (k : ℕ) (i : Inv) (j : ℕ) (e : End) → (tests t r).input k i j e ≡ None
 input_silent t R.ModulePeriod h k i j e = refl
-input_silent t R.RootPeriod h k i j e = refl
+input_silent t R.FrameLimits h k i j e = refl
 input_silent t R.Divides h k i j e = cc
 input_silent t R.Offsets h k i j e = cc
 input_silent t R.Ends h k i j e = cc
@@ -24,7 +24,7 @@ input_silent t R.ConcreteWriters h k i j e = refl
 
 pub output_silent : (t : Tables) (r : Rule) → judges_outputs r ≡ false → (k : ℕ) (i : Inv) (j : ℕ) (e : End) → (tests t r).output k i j e ≡ None
 output_silent t R.ModulePeriod h k i j e = refl
-output_silent t R.RootPeriod h k i j e = refl
+output_silent t R.FrameLimits h k i j e = refl
 output_silent t R.Divides h k i j e = cc
 output_silent t R.Offsets h k i j e = cc
 output_silent t R.Ends h k i j e = cc
@@ -38,7 +38,7 @@ output_silent t R.ConcreteWriters h k i j e = cc
 
 pub test_silent : (t : Tables) (r : Rule) → judges_switches r ≡ false → (m c : ℕ) → (tests t r).test m c ≡ None
 test_silent t R.ModulePeriod h m c = refl
-test_silent t R.RootPeriod h m c = refl
+test_silent t R.FrameLimits h m c = refl
 test_silent t R.Divides h m c = cc
 test_silent t R.Offsets h m c = refl
 test_silent t R.Ends h m c = refl

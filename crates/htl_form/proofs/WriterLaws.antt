@@ -17,7 +17,7 @@ use Rattle.htl_form.proofs.Finding.{Finds, finds_nothing}
 use Rattle.htl_model.proofs.FirstLaws.{found_at, none_at}
 use Rattle.htl_form.proofs.PathLaws.{together_true, true_together}
 use Rattle.htl_form.proofs.Places.{taken_at, take_at}
-use Rattle.htl_form.proofs.TestLaws.{either, on_left, on_right, equal, same_number, other_number}
+use Rattle.htl_model.proofs.TestLaws.{either, on_left, on_right, equal, same_number, other_number}
 use Rattle.htl_form.specs.WriterFaults.{stand_together, hits, outputs_before, rivals, writer_before, first_writer, told_writer, writer_fault}
 
 -- ---- an end that hits

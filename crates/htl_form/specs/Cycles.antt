@@ -1,8 +1,8 @@
 -- What the test for cycles of ports finds.
-use Rattle.std.specs.Prelude.{ℕ, zero, suc, Bool, false, cond, eqb, not, ◌&&◌, List, [], ◌∷◌, length, slice_get, Option, Some, None}
+use Rattle.std.specs.Prelude.{ℕ, Bool, false, eqb, not, ◌&&◌, length, slice_get, Option, Some, None}
 use Rattle.htl_model.specs.declared.parts.Inv.{Inv}
-use Rattle.htl_model.proofs.PortChains.{leads_below, count_below}
-use Rattle.htl_model.specs.PortOrder.{feeds}
+use Rattle.htl_model.specs.NumbersBelow.{count_below}
+use Rattle.htl_model.specs.PortOrder.{leads_below, feeds}
 use Rattle.htl_model.specs.Tables.{Tables}
 use Rattle.htl_model.specs.Found.{Found, unless}
 
@@ -17,11 +17,6 @@ is_of_mode m None = false
 -- whether an invocation of the mode precedes itself
 abbrev pub is_on_cycle : Tables → ℕ → ℕ → Bool
 is_on_cycle t m k = is_of_mode m (slice_get t.invs k) && precedes_itself t k
-
--- the numbers below n that pass the test
-abbrev pub numbers_below : (ℕ → Bool) → ℕ → List ℕ
-numbers_below p zero = []
-numbers_below p (suc n) = cond (p n) (n ∷ numbers_below p n) (numbers_below p n)
 
 -- how many invocations of the mode precede themselves
 abbrev pub cycle_count : Tables → ℕ → ℕ

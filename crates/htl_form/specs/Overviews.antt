@@ -1,6 +1,7 @@
 -- What is counted once before the rules are tried.
 use Rattle.htl_model.specs.Tables.{Tables}
 use Rattle.htl_form.specs.AbstractWriters.{is_abstractly_written, MarksPorts}
+use Rattle.htl_form.specs.FrameFaults.{IsFrameAnswer}
 use Rattle.htl_form.specs.Surveys.{IsSurveyOf}
 use Rattle.htl_form.specs.declared.overview.Overview.{Overview}
 
@@ -8,3 +9,4 @@ use Rattle.htl_form.specs.declared.overview.Overview.{Overview}
 pub record IsOverviewOf (t : Tables) (overview : Overview) : Type 0 where
   pub survey : IsSurveyOf t overview.survey
   pub marks : MarksPorts (is_abstractly_written t) overview.abstract_ports.marks
+  pub frame : IsFrameAnswer t overview.frame

@@ -1,13 +1,11 @@
 -- What the tests of the rules on periods find.
-use Rattle.std.specs.Prelude.{ℕ, ◌%◌, Bool, false, cond, ◌&&◌, eqb, ltb, Option, Some, None}
+use Rattle.std.specs.Prelude.{ℕ, ◌%◌, Bool, ◌&&◌, eqb, ltb, Option, Some, None}
 use Rattle.htl_model.specs.declared.parts.Mode.{Mode}
 use Rattle.htl_model.specs.declared.parts.Inv.{Inv}
 use Rattle.htl_model.specs.declared.parts.End.{End}
 use Rattle.htl_model.specs.declared.parts.End.TheVariants as E
 use Rattle.htl_model.specs.Tables.{Tables, mode_period, comm_period}
-use Rattle.htl_model.specs.Ranges.{parent_of}
-use Rattle.htl_model.specs.Selections.{root_period}
-use Rattle.htl_model.specs.PeriodRules.{asked_period, first_mode}
+use Rattle.htl_model.specs.PeriodRules.{asked_period}
 use Rattle.htl_model.specs.Found.{Found, unless}
 
 -- nothing where the number is the one that is asked, or none is asked
@@ -17,17 +15,6 @@ unless_asked x (Some y) = unless (eqb x y) x y
 
 abbrev pub module_period_fault : Tables → Mode → Found
 module_period_fault t x = unless_asked x.period (asked_period t x.«module»)
-
-abbrev pub matches_number : Option ℕ → ℕ → Bool
-matches_number (Some x) n = eqb x n
-matches_number None n = false
-
--- whether a mode is the first of a root module
-abbrev pub is_first_of_root : Tables → ℕ → ℕ → Bool
-is_first_of_root t m u = elim (parent_of t u) [ Some p ↦ false | None ↦ matches_number (first_mode t u) m ]
-
-abbrev pub root_period_fault : Tables → ℕ → Mode → Found
-root_period_fault t m x = cond (is_first_of_root t m x.«module») (unless_asked x.period (root_period t)) None
 
 abbrev pub divides : ℕ → ℕ → Bool
 divides p whole = ltb 0 p && eqb (whole % p) 0

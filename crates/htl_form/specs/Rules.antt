@@ -7,7 +7,7 @@ use Rattle.htl_form.specs.declared.rule.Rule.TheVariants as R
 
 abbrev pub law_of : Rule → FormRule
 law_of R.ModulePeriod = law.ModulePeriod
-law_of R.RootPeriod = law.RootPeriod
+law_of R.FrameLimits = law.FrameLimits
 law_of R.Divides = law.Divides
 law_of R.Offsets = law.Offsets
 law_of R.Ends = law.Ends
@@ -24,13 +24,13 @@ rule_number r = number_of (law_of r)
 
 abbrev pub all_rules : List Rule
 all_rules =
-    R.ModulePeriod ∷ R.RootPeriod ∷ R.Divides ∷ R.Offsets ∷ R.Ends ∷ R.Windows ∷ R.WorstCases ∷ R.PortWriters ∷ R.PortCycles
+    R.ModulePeriod ∷ R.FrameLimits ∷ R.Divides ∷ R.Offsets ∷ R.Ends ∷ R.Windows ∷ R.WorstCases ∷ R.PortWriters ∷ R.PortCycles
     ∷ R.AbstractPorts ∷ R.Sensors ∷ R.ConcreteWriters ∷ []
 
 -- whether the rule speaks of inputs; of outputs; of what switches read
 abbrev pub judges_inputs : Rule → Bool
 judges_inputs R.ModulePeriod = false
-judges_inputs R.RootPeriod = false
+judges_inputs R.FrameLimits = false
 judges_inputs R.Divides = true
 judges_inputs R.Offsets = true
 judges_inputs R.Ends = true
@@ -44,7 +44,7 @@ judges_inputs R.ConcreteWriters = false
 
 abbrev pub judges_outputs : Rule → Bool
 judges_outputs R.ModulePeriod = false
-judges_outputs R.RootPeriod = false
+judges_outputs R.FrameLimits = false
 judges_outputs R.Divides = true
 judges_outputs R.Offsets = true
 judges_outputs R.Ends = true
@@ -58,7 +58,7 @@ judges_outputs R.ConcreteWriters = true
 
 abbrev pub judges_switches : Rule → Bool
 judges_switches R.ModulePeriod = false
-judges_switches R.RootPeriod = false
+judges_switches R.FrameLimits = false
 judges_switches R.Divides = true
 judges_switches R.Offsets = false
 judges_switches R.Ends = false

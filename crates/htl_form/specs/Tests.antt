@@ -2,7 +2,8 @@
 use Rattle.htl_model.specs.Search.{Tests, silent}
 use Rattle.htl_model.specs.Tables.{Tables}
 use Rattle.htl_model.specs.EndRules.{input_types, output_types}
-use Rattle.htl_form.specs.PeriodFaults.{module_period_fault, root_period_fault, divides_fault, end_divides_fault}
+use Rattle.htl_form.specs.FrameFaults.{frame_fault}
+use Rattle.htl_form.specs.PeriodFaults.{module_period_fault, divides_fault, end_divides_fault}
 use Rattle.htl_form.specs.EndFaults.{read_offset_fault, write_offset_fault, count_fault, type_fault, abstract_read_fault, sensor_fault}
 use Rattle.htl_form.specs.WindowFaults.{window_fault, worst_case_fault}
 use Rattle.htl_form.specs.PortFaults.{unwritten_fault, rewritten_fault}
@@ -13,7 +14,7 @@ use Rattle.htl_form.specs.declared.rule.Rule.TheVariants as R
 
 abbrev pub tests : Tables → Rule → Tests
 tests t R.ModulePeriod = record silent { mode = λ m x. module_period_fault t x }
-tests t R.RootPeriod = record silent { mode = λ m x. root_period_fault t m x }
+tests t R.FrameLimits = record silent { mode = λ m x. frame_fault t m }
 tests t R.Divides = record silent { input = λ k i j e. end_divides_fault t i e; output = λ k i j e. end_divides_fault t i e; test = λ m c. divides_fault t m c }
 tests t R.Offsets = record silent { input = λ k i j e. read_offset_fault t i e; output = λ k i j e. write_offset_fault t i e }
 tests t R.Ends =

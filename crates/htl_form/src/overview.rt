@@ -3,14 +3,17 @@ ghost use Rattle.htl_form.specs.AbstractWriters.{is_abstractly_written, MarksPor
 ghost use Rattle.htl_form.specs.Overviews.{IsOverviewOf};
 
 use crate::abstract_ports::AbstractPorts;
+use crate::frame_rule::frames;
 use crate::survey::Survey;
-use htl_model::Tables;
+use htl_model::{FormFault, Tables};
 
 /// What is counted once over the tables, so that each part is judged in a few steps.
 #[derive(Drop)]
 pub struct Overview {
     pub survey: Survey,
     pub abstract_ports: AbstractPorts,
+    /// What the limits of frames answer.
+    pub frame: Result<(), FormFault>,
 }
 
 impl Overview {
@@ -21,6 +24,7 @@ impl Overview {
         Overview {
             survey: Survey::of(t),
             abstract_ports: AbstractPorts::of(t),
+            frame: frames(t),
         }
     }
 }

@@ -1,24 +1,10 @@
 // Which modes can stand together: those whose paths hold no module in two different modes.
 ghost use Rattle.std.specs.Prelude.{◌≡◌};
 ghost use Rattle.std.specs.List.{list_any};
-ghost use Rattle.htl_model.specs.SecondWriters.{parent_mode as parent_mode_of};
 ghost use Rattle.htl_form.specs.WriterFaults.{path, are_rivals as are_rivals_of, has_rival as has_rival_of, stand_together as stand_together_of};
 
 use htl_model::Tables;
-use htl_model::lookup::mode_module;
-
-/// The mode that the module of a mode refines.
-fn parent_mode(t: &Tables, mode: u16) -> Option<u16>
-    ensures { result ≡ parent_mode_of t.now mode }
-{
-    let modules = t.parts().modules.as_slice();
-    let module = mode_module(t, mode) as usize;
-    if module < modules.len() {
-        modules[module].parent
-    } else {
-        None
-    }
-}
+use htl_model::lookup::{mode_module, parent_mode};
 
 // Whether two modes are different modes of one module.
 fn are_rivals(t: &Tables, a: u16, b: u16) -> bool

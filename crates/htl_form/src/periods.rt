@@ -1,24 +1,10 @@
 // The tests of the rules on periods.
 ghost use Rattle.std.specs.Prelude.{◌≡◌, Some, eqb, slice_get, length};
-ghost use Rattle.htl_model.specs.Ranges.{parent_of};
 ghost use Rattle.htl_model.specs.PeriodRules.{asked_period as asked_period_of, first_mode as first_mode_of};
-ghost use Rattle.htl_form.specs.PeriodFaults.{unless_asked as unless_asked_of, module_period_fault as module_period_fault_of, matches_number as matches_number_of, is_first_of_root as is_first_of_root_of, root_period_fault as root_period_fault_of, divides_fault as divides_fault_of, end_divides_fault as end_divides_fault_of};
+ghost use Rattle.htl_form.specs.PeriodFaults.{unless_asked as unless_asked_of, module_period_fault as module_period_fault_of, divides_fault as divides_fault_of, end_divides_fault as end_divides_fault_of};
 
-use htl_model::lookup::{comm_period, mode_period};
-use htl_model::selections::root_period;
+use htl_model::lookup::{comm_period, mode_period, parent_of};
 use htl_model::{End, Inv, Mode, Tables};
-
-/// The mode that a module refines.
-fn parent(t: &Tables, module: u16) -> Option<u16>
-    ensures { result ≡ parent_of t.now «module» }
-{
-    let modules = t.parts().modules.as_slice();
-    if (module as usize) < modules.len() {
-        modules[module as usize].parent
-    } else {
-        None
-    }
-}
 
 /// The first mode of a module.
 fn first_mode(t: &Tables, module: u16) -> Option<u16>
@@ -37,7 +23,7 @@ fn first_mode(t: &Tables, module: u16) -> Option<u16>
 fn asked_period(t: &Tables, module: u16) -> Option<u32>
     ensures { result ≡ asked_period_of t.now «module» }
 {
-    match parent(t, module) {
+    match parent_of(t, module) {
         Some(refined) => Some(mode_period(t, refined)),
         None => match first_mode(t, module) {
             Some(first) => Some(mode_period(t, first)),
@@ -66,37 +52,6 @@ pub fn module_period_fault(t: &Tables, mode: &Mode) -> Option<(u64, u64)>
     match asked_period(t, mode.module) {
         Some(asked) => unless_asked(mode.period as u64, Some(asked as u64)),
         None => None,
-    }
-}
-
-fn matches_number(found: Option<u16>, number: u16) -> bool
-    ensures { result ≡ matches_number_of found number }
-{
-    match found {
-        Some(x) => x == number,
-        None => false,
-    }
-}
-
-/// Whether a mode is the first of a module that refines nothing.
-fn is_first_of_root(t: &Tables, number: u16, module: u16) -> bool
-    ensures { result ≡ is_first_of_root_of t.now number «module» }
-{
-    match parent(t, module) {
-        Some(_) => false,
-        None => matches_number(first_mode(t, module), number),
-    }
-}
-
-/// Rule 2 at a mode with its number.
-pub fn root_period_fault(t: &Tables, number: u16, mode: &Mode) -> Option<(u64, u64)>
-    ensures { result ≡ root_period_fault_of t.now number mode.now }
-{
-    t.keeps_ranges();
-    if is_first_of_root(t, number, mode.module) {
-        unless_asked(mode.period as u64, root_period(t))
-    } else {
-        None
     }
 }
 

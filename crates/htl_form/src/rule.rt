@@ -7,8 +7,9 @@ ghost use Rattle.htl_form.specs.Rules.{rule_number, judges_inputs as judges_inpu
 pub enum Rule {
     /// 1: the modes of a module have one period; in a refinement it is the refined mode's.
     ModulePeriod,
-    /// 2: all root modules have one period.
-    RootPeriod,
+    /// 2: the least common multiple of the root periods up to each root module, the starts of a frame, its paths and the positions in
+    /// a path are within the limits of frames.
+    FrameLimits,
     /// 3: a communicator's period divides that of each mode that reads, writes or tests it.
     Divides,
     /// 4: a read lies before the period's end; a write lies behind its start, and not behind its end.
@@ -34,7 +35,7 @@ pub enum Rule {
 /// The rules in the order of their numbers.
 pub const RULES: [Rule; 12] = [
     Rule::ModulePeriod,
-    Rule::RootPeriod,
+    Rule::FrameLimits,
     Rule::Divides,
     Rule::Offsets,
     Rule::Ends,
@@ -54,7 +55,7 @@ impl Rule {
     {
         match self {
             Rule::ModulePeriod => 1,
-            Rule::RootPeriod => 2,
+            Rule::FrameLimits => 2,
             Rule::Divides => 3,
             Rule::Offsets => 4,
             Rule::Ends => 5,

@@ -5,14 +5,15 @@ use crate::ends::{
     count_fault, input_types, output_types, read_offset_fault, sensor_fault, type_fault,
     write_offset_fault,
 };
+use crate::frame_rule::frame_fault;
 use crate::overview::Overview;
-use crate::periods::{divides_fault, end_divides_fault, module_period_fault, root_period_fault};
+use crate::periods::{divides_fault, end_divides_fault, module_period_fault};
 use crate::ports::{rewritten_fault, unwritten_fault};
 use crate::rule::Rule;
 use crate::windows::{window_fault, worst_case_fault};
 use crate::writers::writer_fault;
-use htl_model::search::Tries;
-use htl_model::{End, Inv, Mode, Tables};
+use htl_model::search::{EndSite, Tries};
+use htl_model::{Inv, Mode, Tables};
 
 impl Tries<Rule> for Overview {
     ghost use Rattle.htl_form.specs.Overviews.{IsOverviewOf};
@@ -42,10 +43,10 @@ impl Tries<Rule> for Overview {
     }
 
     // What the rule finds at a mode itself.
-    fn of_mode(t: &Tables, rule: Rule, m: u16, mode: &Mode) -> Option<(u64, u64)> {
+    fn of_mode(&self, t: &Tables, rule: Rule, m: u16, mode: &Mode) -> Option<(u64, u64)> {
         match rule {
             Rule::ModulePeriod => module_period_fault(t, mode),
-            Rule::RootPeriod => root_period_fault(t, m, mode),
+            Rule::FrameLimits => frame_fault(t, self.frame, m),
             _ => None,
         }
     }
@@ -69,43 +70,39 @@ impl Tries<Rule> for Overview {
         }
     }
 
-    // What it finds at input `j` of an invocation.
-    fn of_input(
-        &self,
-        t: &Tables,
-        rule: Rule,
-        k: u16,
-        inv: &Inv,
-        j: usize,
-        end: End,
-    ) -> Option<(u64, u64)> {
+    // What it finds at an input of an invocation.
+    fn of_input(&self, t: &Tables, rule: Rule, site: EndSite<'_>) -> Option<(u64, u64)> {
+        let EndSite {
+            inv,
+            place,
+            end,
+            ..
+        } = site;
         match rule {
             Rule::Divides => end_divides_fault(t, inv, end),
             Rule::Offsets => read_offset_fault(t, inv, end),
-            Rule::Ends => type_fault(t, input_types(t, inv.task), j, end),
+            Rule::Ends => type_fault(t, input_types(t, inv.task), place, end),
             Rule::PortWriters => unwritten_fault(t, &self.survey, end),
-            Rule::AbstractPorts => abstract_read_fault(t, &self.abstract_ports, inv, j, end),
+            Rule::AbstractPorts => abstract_read_fault(t, &self.abstract_ports, inv, place, end),
             _ => None,
         }
     }
 
-    // What it finds at output `j` of an invocation.
-    fn of_output(
-        &self,
-        t: &Tables,
-        rule: Rule,
-        k: u16,
-        inv: &Inv,
-        j: usize,
-        end: End,
-    ) -> Option<(u64, u64)> {
+    // What it finds at an output of an invocation.
+    fn of_output(&self, t: &Tables, rule: Rule, site: EndSite<'_>) -> Option<(u64, u64)> {
+        let EndSite {
+            number,
+            inv,
+            place,
+            end,
+        } = site;
         match rule {
             Rule::Divides => end_divides_fault(t, inv, end),
             Rule::Offsets => write_offset_fault(t, inv, end),
-            Rule::Ends => type_fault(t, output_types(t, inv.task), j, end),
-            Rule::PortWriters => rewritten_fault(t, &self.survey, k, inv, j, end),
-            Rule::Sensors => sensor_fault(t, j, end),
-            Rule::ConcreteWriters => writer_fault(t, &self.survey, k, inv, j, end),
+            Rule::Ends => type_fault(t, output_types(t, inv.task), place, end),
+            Rule::PortWriters => rewritten_fault(t, &self.survey, number, inv, place, end),
+            Rule::Sensors => sensor_fault(t, place, end),
+            Rule::ConcreteWriters => writer_fault(t, &self.survey, number, inv, place, end),
             _ => None,
         }
     }

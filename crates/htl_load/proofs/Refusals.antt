@@ -1,20 +1,22 @@
--- An accepted object has no fault, and an object in range has one first fault at most.
+-- An accepted object has no fault, and an object in range has one first fault at most, which is never that of the limits of frames.
 use Rattle.std.proofs.Common.{◌≡◌, ◌≤◌, ◌<◌, ◌⊎◌, ℕ, List, Option, Some, None, sym, ◌∙◌, ap, subst, arith, inl, inr}
 use Rattle.htl_ecode.proofs.SpellingLaws.{spells_or_departs}
 use Rattle.htl_ecode.specs.Departure.{departure}
 use Rattle.htl_ecode.specs.declared.fault.EFault.{EFault}
-use Rattle.htl_form.proofs.OneFault.{one_form_fault}
+use Rattle.htl_form.proofs.OneFault.{one_law}
 use Rattle.htl_object.specs.Accepted.{IsSpelled}
-use Rattle.htl_load.specs.Laws.{AcceptedIsNotRefused, OneFault}
+use Rattle.htl_load.specs.Laws.{AcceptedIsNotRefused, OneFault, NoFrameFault}
 use Rattle.htl_load.specs.Unfit.{IsFirstUnfit}
 use Rattle.htl_load.specs.declared.fault.ObjectFault.{ObjectFault}
 use Rattle.htl_load.specs.declared.fault.ObjectFault.TheVariants as fault
-use Rattle.htl_model.specs.Broken.{Formed, KeptTo, IsFirstBroken, site_of}
+use Rattle.htl_model.proofs.FrameRules.{frames_unbroken}
+use Rattle.htl_model.specs.Broken.{Broken, Formed, KeptTo, IsFirstBroken, site_of}
+use Rattle.htl_model.specs.FormRules.{FormRule, FrameLimits}
 use Rattle.htl_model.specs.Ranges.{AreInRange}
 use Rattle.htl_model.specs.Tables.{Tables}
 use Rattle.htl_model.specs.declared.form_fault.FormFault.{FormFault}
 use Rattle.htl_object.specs.declared.object.Object.{Object}
-use Rattle.htl_refine.proofs.OneFault.{one_refine_fault}
+use Rattle.htl_refine.proofs.OneFault.{one_first_broken}
 use Rattle.htl_walk.proofs.OneMiss.{one_path_miss}
 use Rattle.htl_walk.specs.Feasible.{lists_of}
 use Rattle.htl_walk.specs.NodeWalks.{IsFirstFailing, instrs_of}
@@ -43,29 +45,16 @@ accepted_is_not_refused o (fault.Function k) a h = h.1.here (a.spelled.functions
 accepted_is_not_refused o (fault.ECode e) a h = not_spelled o e a.spelled h.1.1
 accepted_is_not_refused o (fault.Schedule path m) a h = h.1.refused (a.feasible path h.1.within)
 
+-- the limits of frames are those of an object in range
+pub no_frame_fault : NoFrameFault
+no_frame_fault o f range b two =
+    let law : b.law ≡ FrameLimits = one_law b.law FrameLimits (sym b.rule ∙ two) (omega arith) in
+    frames_unbroken o.tables range.frames (site_of f b.part) f.have f.need (subst (λ (r : FormRule). Broken o.tables r (site_of f b.part) f.have f.need) law b.broken)
+
 -- ---- one first fault
 
 either : (a b : ℕ) → (a < b) ⊎ (a ≡ b) ⊎ (b < a)
 either a b = grind arith
-
-twelve : (n : ℕ) → (n ≤ 12) ⊎ (12 < n)
-twelve n = grind arith
-
-pub one_broken : (t : Tables) → AreInRange t → (f g : FormFault) → IsFirstBroken t f → IsFirstBroken t g → f ≡ g
-one_broken t range f g p q = by (twelve f.rule) (twelve g.rule)
-  where
-    -- where no rule up to 12 is broken before the first fault, the tables keep them
-    kept : (h : FormFault) → IsFirstBroken t h → 12 < h.rule → KeptTo t 12
-    kept h b late = λ r s have need few broken. b.first r s have need (inl (omega (arith, few, late, b.rule))) broken
-
-    early : (h e : FormFault) → IsFirstBroken t h → IsFirstBroken t e → 12 < h.rule → e.rule ≤ 12 → ⊥
-    early h e b x late few = kept h b late x.law (site_of e x.part) e.have e.need (omega (arith, few, x.rule)) x.broken
-
-    by : (f.rule ≤ 12) ⊎ (12 < f.rule) → (g.rule ≤ 12) ⊎ (12 < g.rule) → f ≡ g
-    by (inl low) (inl less) = one_form_fault t range f g low less p q
-    by (inl low) (inr more) = absurd (early g f q p more low)
-    by (inr high) (inl less) = absurd (early f g p q high less)
-    by (inr high) (inr more) = one_refine_fault t range (kept f p high) f g p q
 
 one_unfit : (t : Tables) (k n : ℕ) → IsFirstUnfit t k → IsFirstUnfit t n → k ≡ n
 one_unfit t k n p q = elim (either k n) [
@@ -92,7 +81,7 @@ one_schedule t lists j k m n p q = by (either j k)
 pub one_fault : OneFault
 one_fault o (fault.Malformed m) g range p q = absurd p
 one_fault o (fault.IllFormed f) (fault.Malformed m) range p q = absurd q
-one_fault o (fault.IllFormed f) (fault.IllFormed g) range p q = ap fault.IllFormed (one_broken o.tables range.tables f g p q)
+one_fault o (fault.IllFormed f) (fault.IllFormed g) range p q = ap fault.IllFormed (one_first_broken o.tables range.tables f g p q)
 one_fault o (fault.IllFormed f) (fault.Function k) range p q = absurd (not_formed o.tables f q.0.formed p)
 one_fault o (fault.IllFormed f) (fault.ECode e) range p q = absurd (not_formed o.tables f q.0.formed p)
 one_fault o (fault.IllFormed f) (fault.Schedule sel m) range p q = absurd (not_formed o.tables f q.0.formed.formed p)

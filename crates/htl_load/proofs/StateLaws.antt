@@ -1,6 +1,6 @@
 -- Small laws of the typed states.
-use Rattle.std.proofs.Common.{◌≡◌, ◌<◌, ◌+◌, ℕ, List, length, get_or, slice_get, Some, None, sym, ◌∙◌, ap, subst, arith, inl, inr, Result, Ok, Err, OnOk}
-use Rattle.std.proofs.lemmas.Option.{slice_get_cases, slice_get-get_or}
+use Rattle.std.proofs.Common.{◌≡◌, ◌<◌, ℕ, length, slice_get, Some, None, sym, ◌∙◌, arith, inl, inr, Result, Ok, Err, OnOk}
+use Rattle.std.proofs.lemmas.Option.{slice_get_cases}
 use Rattle.htl_model.proofs.PlaceLaws.{count_function_types}
 use Rattle.htl_model.specs.FunctionTypes.{FunctionType, function_types, IsFunctionOf, FitPlaces}
 use Rattle.htl_object.specs.Accepted.{IsSpelled, IsAccepted}
@@ -27,11 +27,6 @@ function_fits t id f r fit at =
   where
     within : (t : Tables) (id : ℕ) (f : Fun) → slice_get t.functions id ≡ Some f → id < length t.functions
     within t id f at = elim (slice_get_cases t.functions id).1 [ inl c ↦ c.1 | inr c ↦ absurd (let no : Some f ≡ None = sym at ∙ c.1 in cc) ]
-
--- tables that keep the rules up to the last keep all
-pub formed_after : {E : Type 0} (t : Tables) (r : Result (Unit {0}) E) → OnOk r (KeptTo t 16) → OnOk r (Formed t)
-formed_after t (Ok x) kept = formed t kept
-formed_after t (Err e) h = h
 
 -- a spelled object whose schedules are feasible is accepted
 pub accepted_with : (o : Object) → IsSpelled o → AreFeasible o.tables (instrs_of o.schedules) → IsAccepted o

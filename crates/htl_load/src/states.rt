@@ -15,10 +15,9 @@ use htl_base::Name;
 use htl_ecode::ECode;
 use htl_espell::spells;
 use htl_fcode::Verified;
-use htl_form::form;
 use htl_model::{FormFault, Function, Tables};
 use htl_object::Object;
-use htl_refine::refine;
+use htl_refine::try_rules;
 use htl_walk::{Miss, Schedule, worst_all};
 use std::marker::Model;
 
@@ -92,15 +91,6 @@ impl FormedObject {
     }
 }
 
-// The first form rule that tables break.
-fn first_broken(t: &Tables) -> Result<(), FormFault>
-    ensures formed { OnOk result (Formed t.now) }
-    ensures broken { IfErr result (IsFirstBroken t.now) }
-{
-    form(t)?;
-    refine(t)
-}
-
 /// Tests the form rules of an object in range. A refusal comes exactly where one of the form rules 1 to 16 is broken: it hands the
 /// object back unchanged, with the first that is broken. It takes no memory.
 pub fn formed(o: Object) -> Result<FormedObject, (Object, ObjectFault)>
@@ -108,7 +98,7 @@ pub fn formed(o: Object) -> Result<FormedObject, (Object, ObjectFault)>
     ensures formed { IfOk result (λ f. (f ≡ o) × IsFormed o) }
     ensures fault { IfErr result (λ e. (e.0 ≡ o) × IsFormFault o e.1) }
 {
-    match first_broken(&o.tables) {
+    match try_rules(&o.tables) {
         Ok(()) => Ok(FormedObject { object: o }),
         Err(fault) => Err((o, ObjectFault::IllFormed(fault))),
     }
@@ -141,7 +131,7 @@ fn walked(o: &Object) -> Result<(), (u32, Miss)>
 }
 
 /// Tests the schedules. A refusal comes exactly where the worst-case walk of some path isn't accepted: it hands the object back
-/// unchanged, with the first such path and the first miss of its walk. While all root modules have one period, paths are root
+/// unchanged, with the first such path and the first miss of its walk. Where all root modules have one period, paths are root
 /// selections. It takes no memory.
 pub fn scheduled(s: SpelledObject) -> Result<Loaded, (Object, ObjectFault)>
     ensures loaded { IfOk result (λ l. (l ≡ s) × IsAccepted s) }

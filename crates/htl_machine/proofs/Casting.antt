@@ -7,7 +7,7 @@ use Rattle.htl_model.specs.declared.state.Stay.{Stay}
 use Rattle.htl_model.specs.Tables.{Tables, comm_period, offsets, greatest, least_or}
 use Rattle.htl_walk.specs.declared.job.Job.{Job}
 use Rattle.htl_walk.specs.Walk.{job_at}
-use Rattle.htl_machine.specs.Casts.{IsCast, HaveWindows}
+use Rattle.htl_machine.specs.Casts.{IsCast}
 use Rattle.htl_machine.specs.Turns.{later_or, position_from, done_at, finished_in}
 use Rattle.htl_machine.proofs.Standing.{some_same, none_some}
 
@@ -131,11 +131,3 @@ last_open t stays frame n jobs cast p j at here late =
     let st = cast.stands p j at here late in
     let h = cast.has j.inv st.0 st.1 st.2 in
     h.2 ∙ ap (λ (q : ℕ). Some q) (cast.once h.0 p j.inv st.1 st.0 h.1 st.3)
-
--- so where no window has ended, an invocation has one position
-pub only_open : (t : Tables) (stays : List (Option Stay)) (start : ℕ) (jobs : List Job) → IsCast t stays start start jobs → HaveWindows jobs → (p q : ℕ) (j k : Job) → slice_get jobs p ≡ Some j → slice_get jobs q ≡ Some k
-    → j.present ≡ true → k.present ≡ true → j.inv ≡ k.inv → p ≡ q
-only_open t stays start jobs cast windows p q j k atp atq herep hereq same =
-    some_same _ _
-    (sym (last_open t stays start start jobs cast p j atp herep (omega (arith, windows p j atp herep)))
-    ∙ ap (position_from 0 jobs) same ∙ last_open t stays start start jobs cast q k atq hereq (omega (arith, windows q k atq hereq)))

@@ -15,17 +15,19 @@ use Rattle.htl_model.specs.Selected.{entry, Runs, IsEntry, IsSelection}
 use Rattle.htl_model.specs.SecondWriters.{parent_mode}
 use Rattle.htl_model.specs.Selections.{is_root, root_modules, inv_of_mode, invs_of}
 use Rattle.htl_model.specs.Tables.{Tables, mode_module, mode_period, window_end, is_concrete}
-use Rattle.htl_form.proofs.TestLaws.{equal, same_number}
+use Rattle.htl_model.proofs.TestLaws.{equal, same_number}
 use Rattle.htl_refine.specs.ConcreteJobs.{running_invs}
 use Rattle.htl_refine.specs.Records.{modes_at}
 use Rattle.htl_refine.proofs.Exact.{chosen_exact_apart}
 use Rattle.htl_refine.proofs.Fronts.{front_there}
 use Rattle.htl_refine.proofs.Inherit.{mapped, map_at}
-use Rattle.htl_refine.proofs.Members.{of_places, at_place}
+use Rattle.htl_refine.proofs.BegunTimes.{start_below}
+use Rattle.htl_refine.proofs.Members.{of_flat, of_places, at_place}
 use Rattle.htl_refine.proofs.Positions.{root_is}
 use Rattle.htl_refine.proofs.StateLaws.{states_are_selections}
 use Rattle.htl_model.specs.declared.frame.Place.{Place}
-use Rattle.htl_model.specs.Frames.{frame_of, unit_start, unit_period, rounds}
+use Rattle.htl_model.specs.declared.frame.Round.{Round}
+use Rattle.htl_model.specs.Frames.{frame_of, unit_start, unit_period, root_periods, starts, rounds_at, rounds}
 use Rattle.htl_model.proofs.FrameRules.{frame_divided}
 use Rattle.htl_refine.specs.DerivedPaths.{derived_place}
 use Rattle.htl_refine.specs.FrameRuns.{frame_modes, frame_places}
@@ -38,7 +40,7 @@ use Rattle.htl_refine.proofs.OwnRounds.{own_starts, since, until}
 use Rattle.htl_machine.specs.FramePlacing.{IsFramePlacing, PlacedByModes}
 use Rattle.htl_machine.proofs.Tops.{IsTop, climb, down}
 use Rattle.htl_machine.proofs.Windows.{window_within}
-use Rattle.htl_refine.proofs.RoundOrder.{round_of, run_of}
+use Rattle.htl_refine.proofs.RoundOrder.{of_rounds, round_of, run_of}
 use Rattle.htl_machine.proofs.FrameMembers.{round_in, in_run}
 
 -- ---- modes and stays
@@ -74,6 +76,16 @@ last_multiple p e n some h = by (order e (n / p))
         let more : p * suc (n / p) ≤ p * e = grow p (suc (n / p)) e l in
         let one : p * suc (n / p) ≡ p * (n / p) + p = grind arith in
         absurd (omega (arith, whole, rest, more, one, h))
+
+-- a round that begins before a multiple of its period ends by it
+fits : (p a b : ℕ) → p * a < p * b → p * a + p ≤ p * b
+fits p a b less = elim (order a b) [
+  | inl h ↦ let more : p * suc a ≤ p * b = grow p (suc a) b h in let one : p * suc a ≡ p * a + p = grind arith in omega (arith, more, one)
+  | inr h ↦ let more : p * b ≤ p * a = grow p b a h in absurd (omega (arith, more, less))
+]
+  where
+    order : (a b : ℕ) → (suc a ≤ b) ⊎ (b ≤ a)
+    order a b = grind arith
 
 pub there_front : {A : Type 0} (m : ℕ) (xs : List A) (p : ℕ) (x : A) → slice_get xs p ≡ Some x → p < m → slice_get (take m xs) p ≡ Some x
 there_front zero xs p x e h = absurd (omega arith)
@@ -111,9 +123,10 @@ module _ (t : Tables) (es : List Event) (n f m : ℕ) (range : AreInRange t) (ke
     pub known : slice_get t.invs i ≡ Some inv
     pub concrete : is_concrete t inv ≡ true
     pub runs : Runs t (modes_at t es (f + a)) inv.mode
-    -- its round began at a multiple of its period
+    -- its round began at a multiple of its period, and ends with the frame or before
     pub times : ℕ
     pub multiple_of : f + a ≡ mode_period t inv.mode * times
+    pub ends : a + mode_period t inv.mode ≤ frame_of t
 
   running_of : (ms : List (Option ℕ)) (u j k : ℕ) → slice_get (running_invs t ms u) j ≡ Some k → (q : ℕ) × (entry ms u ≡ Some q) × (slice_get (invs_of t q) j ≡ Some k)
   running_of ms u j k e = by (entry ms u) refl e
@@ -165,10 +178,19 @@ module _ (t : Tables) (es : List Event) (n f m : ℕ) (range : AreInRange t) (ke
         runs = d.3;
         times = c.0 * (n / frame_of t) + rr.at / up;
         multiple_of = sum ∙ join up (c.0 * (n / frame_of t)) (rr.at / up) ∙ ap (λ z. z * (c.0 * (n / frame_of t) + rr.at / up)) (sym period);
+        ends = let last = fits up (rr.at / up) c.0 (omega (arith, whole, root.2, early r.0 rr r.2, c.1)) in omega (arith, last, whole, root.2, c.1, period);
       })
     where
       join : (a b c : ℕ) → a * b + a * c ≡ a * (b + c)
       join a b c = grind arith
+
+      -- a round of a frame begins before its end
+      early : (q : ℕ) (r : Round) → slice_get (rounds t) q ≡ Some r → r.at < frame_of t
+      early q r e =
+          let m = of_flat (rounds_at t) (starts t) q r e in
+          let k = of_rounds t m.1 (root_modules t) m.3 r m.4 in
+          let below = start_below (root_periods t) (frame_of t) m.0 m.1 m.2 in
+          omega (arith, below, k.2)
 
   -- an invocation that stands for a root invocation of a round has a place
   found : (i a s u q k r j : ℕ) → slice_get (rounds t) r ≡ Some (record { at = a; unit = u }) → f + a ≡ s → s ≤ n → entry (modes_at t es s) u ≡ Some q → slice_get (invs_of t q) j ≡ Some k

@@ -33,6 +33,7 @@ use Rattle.htl_machine.specs.JobLines.{RunLine, printed, is_job_line, begins_as_
 use Rattle.htl_machine.specs.JobLines.RunLine.{InstrLine, ChangeLine, StepLine, TotalsLine, SliceLine, DoneLine}
 use Rattle.htl_machine.proofs.LineBytes.{lines_found, jobs_found}
 use Rattle.htl_machine.proofs.Printing.{joined-append}
+use Rattle.htl_machine.proofs.RecordTimes.{joined_each}
 use Rattle.htl_machine.proofs.TellingLists.{silent_at}
 
 module _ (t : Tables) where
@@ -215,10 +216,6 @@ pub joined-up_to : {B C : Type 0} (f : B → List C) (g : ℕ → List B) (n : �
 joined-up_to f g zero = refl
 joined-up_to f g (suc n) = joined-append f (up_to g n) (g n) ∙ ap (λ ys. ys ++ joined f (g n)) (joined-up_to f g n)
 
-joined_same : {A C : Type 0} (f g : A → List C) → ((x : A) → f x ≡ g x) → (xs : List A) → joined f xs ≡ joined g xs
-joined_same f g same [] = refl
-joined_same f g same (x ∷ xs) = ap₂ (λ ys zs. ys ++ zs) (same x) (joined_same f g same xs)
-
 module _ (t : Tables) where
   slice_alone : (i : ℕ) (s : Option (ℕ × ℕ)) → slice_lines t i s ≡ joined (printed t) (slice_of i s)
   slice_alone i (Some s) = sym (append-nil (printed t (SliceLine s.0 s.1 i)))
@@ -242,13 +239,13 @@ module _ (t : Tables) where
     list_alone f now r =
         let js = (frame_at t schedules es f).jobs in
         let ls = left_in now f r in
-        joined_same (record_lines t Jobs js r) (λ l. joined (printed t) (job_lines_of js l)) (record_alone js r) ls
+        joined_each (record_lines t Jobs js r) (λ l. joined (printed t) (job_lines_of js l)) ls (λ i l at. record_alone js r l)
         ∙ sym (joined-joined (printed t) (job_lines_of js) ls)
 
     frame_alone : (f now : ℕ) → joined (list_lines t schedules es Jobs now f) (filter (begun_before now) (lists_at t schedules es f)) ≡ joined (printed t) (frame_job_lines t schedules es (begun_before now) now f)
     frame_alone f now =
         let rs = filter (begun_before now) (lists_at t schedules es f) in
-        joined_same (list_lines t schedules es Jobs now f) (λ r. joined (printed t) (list_job_lines t schedules es now f r)) (list_alone f now) rs
+        joined_each (list_lines t schedules es Jobs now f) (λ r. joined (printed t) (list_job_lines t schedules es now f r)) rs (λ i r at. list_alone f now r)
         ∙ sym (joined-joined (printed t) (list_job_lines t schedules es now f) rs)
 
     pub old_alone : (o : Option ℕ) (now : ℕ) → old_lines t schedules es Jobs o now ≡ joined (printed t) (job_lines_at t schedules es o now)

@@ -15,7 +15,8 @@ use Rattle.htl_machine.proofs.Tying.{replay}
 use Rattle.htl_machine.specs.Plans.{with_records, next_world}
 use Rattle.htl_machine.specs.ListTurns.{Turn}
 use Rattle.htl_machine.proofs.Standing.{standing_at, standing_before}
-use Rattle.htl_machine.proofs.Tying.{addresses, write_phase, read_phase, switch_phase}
+use Rattle.htl_machine.proofs.SwitchPhase.{switch_phase}
+use Rattle.htl_machine.proofs.Tying.{addresses, write_phase, read_phase}
 
 module _ (t : Tables) (code : ECode) (range : AreInRange t) (reads : (m : ℕ) → m < length t.modes → ModeReads t code m) (es : List Event) (now : ℕ) where
   -- what each phase's addresses do

@@ -1,8 +1,8 @@
--- The records of an instant: of a round that stands they are one piece of its walk, and of the rounds before none is left.
+-- The records of an instant are one piece of the walk that stands then; and the numbers of the rounds before it.
 use Rattle.std.proofs.Common.{◌≡◌, ◌≤◌, ◌<◌, ℕ, zero, suc, ◌+◌, ◌-◌, ◌*◌, ◌/◌, Bool, true, false, cond, eqb, ltb, List, [], ◌∷◌, ◌++◌, take, drop, map, Option, Some, None, refl, sym, ◌∙◌, ap, ap₂, arith}
-use Rattle.std.specs.Prelude.{slice_get, option_map}
+use Rattle.std.specs.Prelude.{option_map}
 use Rattle.std.specs.List.{filter}
-use Rattle.std.proofs.Math.Nat.{add-mul-div_left, mul-div-le}
+use Rattle.std.proofs.Math.Nat.{add-mul-div_left}
 use Rattle.std.proofs.lemmas.Bool.{ltb-true, ltb-false, eqb-true, eqb-false}
 use Rattle.htl_model.specs.Lists.{numbered, up_to}
 use Rattle.htl_walk.specs.Walk as walks
@@ -74,15 +74,6 @@ piece start now d k a (l ∷ ls) is rises =
         next
         ∙ ap₂ (λ n c. take (n - c) (drop c (told_from start (suc k) ls))) (behind (suc d) late) (behind d (omega (arith, late)))
 
--- nothing is left of a round that is over
-pub over : (start now period k : ℕ) (ls : List walks.Left) → ((i : ℕ) (l : walks.Left) → slice_get ls i ≡ Some l → l.at ≤ period) → start + period < now → left_then start now k ls ≡ []
-over start now period k [] within late = refl
-over start now period k (l ∷ ls) within late = by (eqb (start + l.at) now) refl (over start now period (suc k) ls (λ i m at. within (suc i) m at) late)
-  where
-    by : (b : Bool) → eqb (start + l.at) now ≡ b → left_then start now (suc k) ls ≡ [] → cond b ((k, shifted start l) ∷ left_then start now (suc k) ls) (left_then start now (suc k) ls) ≡ []
-    by true e next = absurd (omega (arith, eqb-true (start + l.at) now e, within 0 l refl))
-    by false e next = next
-
 -- ---- the rounds before an instant
 
 pub up_to_none : {A : Type 0} (f : ℕ → List A) (m : ℕ) → ((k : ℕ) → k < m → f k ≡ []) → up_to f m ≡ []
@@ -100,14 +91,3 @@ rounds_are period n some =
 
 pub none_at_first : (period : ℕ) → 0 < period → rounds_before period 0 ≡ 0
 none_at_first period some = grind arith
-
--- a round before the last is over at the last one's start
-pub earlier_over : (period n k : ℕ) → k < n / period → k * period + period < suc n
-earlier_over period n k less =
-    let whole : period * (n / period) ≤ n = mul-div-le n period in
-    let below : period * (suc k) ≤ period * (n / period) = more period (suc k) (n / period) (omega arith) in
-    let is : k * period + period ≡ period * (suc k) = grind arith in
-    omega (arith, whole, below, is)
-  where
-    more : (p a b : ℕ) → a ≤ b → p * a ≤ p * b
-    more p a b h = grind arith

@@ -12,7 +12,7 @@ use Rattle.htl_model.specs.SecondWriters.{parent_mode}
 use Rattle.htl_model.specs.Selected.{Runs, IsActive, IsEntry, IsSelection}
 use Rattle.htl_model.specs.Tables.{Tables, is_concrete, mode_module, mode_period}
 use Rattle.htl_form.proofs.PartLaws.{none_some}
-use Rattle.htl_form.proofs.TestLaws.{same_number, other_number}
+use Rattle.htl_model.proofs.TestLaws.{same_number, other_number}
 use Rattle.htl_refine.proofs.Chains.{right_parent}
 use Rattle.htl_machine.proofs.Standing.{all_at}
 use Rattle.htl_refine.proofs.OwnPeriods.{parent_period}

@@ -1,13 +1,16 @@
 -- What the job lines of a run show of one job of one round.
-use Rattle.std.specs.Prelude.{◌≡◌, ◌≤◌, ℕ, ◌+◌, Bool, true, cond, ◌&&◌, eqb, ltb, leb, List, [], ◌∷◌, get_or, slice_get, Some}
+use Rattle.std.specs.Prelude.{◌≡◌, ◌≤◌, ℕ, ◌+◌, ◌*◌, Bool, true, cond, ◌&&◌, eqb, ltb, leb, List, [], ◌∷◌, get_or, slice_get, Some, None}
+use Rattle.htl_model.specs.declared.event.Event.{Event}
+use Rattle.htl_model.specs.Frames.{frame_of, no_place}
 use Rattle.htl_model.specs.Lists.{joined}
+use Rattle.htl_model.specs.Tables.{Tables, mode_period}
 use Rattle.htl_walk.specs.declared.job.Job.{Job}
+use Rattle.htl_walk.specs.declared.schedule.SInstr.{SInstr}
 use Rattle.htl_walk.specs.Walk.{AllWithin}
-use Rattle.htl_refine.specs.Records.{Round as Plan}
+use Rattle.htl_refine.specs.FrameRuns.{frame_modes, frame_places, frame_at}
+use Rattle.htl_refine.specs.ServedJobs.{spent}
 use Rattle.htl_machine.specs.JobLines.{RunLine}
 use Rattle.htl_machine.specs.JobLines.RunLine.{SliceLine, DoneLine, InstrLine, ChangeLine, StepLine, TotalsLine}
-use Rattle.htl_machine.specs.Rounds.{round_start}
-use Rattle.htl_machine.specs.Served.{spent}
 
 -- a line of invocation i about an instant after `start`, and at `end` or before
 abbrev pub is_in : ℕ → ℕ → ℕ → ℕ → ℕ → Bool
@@ -31,17 +34,28 @@ slice_time i start end (ChangeLine x) = []
 slice_time i start end (StepLine at node place x) = []
 slice_time i start end (TotalsLine at jobs e s) = []
 
--- The lines show the job of the round from `start`. Of its invocation they have one d line in the round, no later than the end of the
--- job's window; the j lines of its invocation in the round lie in the window, and have as many ticks as the job takes.
-pub record IsToldInTime (lines : List RunLine) (start period : ℕ) (j : Job) (length : ℕ) : Type 0 where
+-- The lines show job j of the frame from f, whose invocation's round stands from `start` to `end`. Of its invocation they have one d
+-- line in the round, no later than the end of the job's window; the j lines of its invocation in the round lie in the window, and have
+-- as many ticks as the job takes.
+pub record IsToldInTime (lines : List RunLine) (start end f : ℕ) (j : Job) (length : ℕ) : Type 0 where
   pub done_at : ℕ
-  pub done : joined (done_time j.inv start (start + period)) lines ≡ done_at ∷ []
-  pub in_time : done_at ≤ start + j.end
-  pub within : AllWithin (start + j.release) (start + j.end) (joined (slice_time j.inv start (start + period)) lines)
-  pub whole : spent (joined (slice_time j.inv start (start + period)) lines) ≡ length
+  pub done : joined (done_time j.inv start end) lines ≡ done_at ∷ []
+  pub in_time : done_at ≤ f + j.end
+  pub within : AllWithin (f + j.release) (f + j.end) (joined (slice_time j.inv start end) lines)
+  pub whole : spent (joined (slice_time j.inv start end) lines) ≡ length
 
--- so for each job of each round whose window ended by `end`
-abbrev pub AllToldInTime : (ℕ → Plan) → ℕ → ℕ → List RunLine → Type 0
-AllToldInTime plan period end lines =
-    (n q : ℕ) (j : Job) → let s = round_start period n in slice_get (plan s).jobs q ≡ Some j → j.present ≡ true → s + j.end ≤ end
-    → IsToldInTime lines s period j (get_or (plan s).lengths q 0)
+-- ---- in a run
+
+-- when the round of the job at position q of the frame from f begins
+abbrev pub job_round : Tables → List Event → ℕ → ℕ → ℕ
+job_round t es f q = f + (get_or (frame_places t (frame_modes t es f)) q no_place).at
+
+-- how long a round of an invocation's module lasts
+abbrev pub inv_period : Tables → ℕ → ℕ
+inv_period t i = elim (slice_get t.invs i) [ Some x ↦ mode_period t x.mode | None ↦ 0 ]
+
+-- so they do for each job of each frame whose window ended by `end`
+abbrev pub AllToldInTime : Tables → List (List SInstr) → List Event → ℕ → List RunLine → Type 0
+AllToldInTime t lists es end lines =
+    (k q : ℕ) (j : Job) → let f = k * frame_of t in let p = frame_at t lists es f in slice_get p.jobs q ≡ Some j → j.present ≡ true → f + j.end ≤ end
+    → let s = job_round t es f q in IsToldInTime lines s (s + inv_period t j.inv) f j (get_or p.lengths q 0)

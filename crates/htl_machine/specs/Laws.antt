@@ -1,5 +1,5 @@
 -- The laws of a run, over definitions alone.
-use Rattle.std.specs.Prelude.{◌≡◌, ◌≤◌, ◌<◌, ℕ, true, List, [], ◌∷◌, ◌++◌, length, map, Some}
+use Rattle.std.specs.Prelude.{◌≡◌, ◌≤◌, ◌<◌, ℕ, true, List, [], ◌∷◌, ◌++◌, length, map}
 use Rattle.std.specs.List.{filter}
 use Rattle.htl_model.specs.declared.event.Event.{Event}
 use Rattle.htl_model.specs.declared.event.Event.TheVariants as V
@@ -7,7 +7,7 @@ use Rattle.htl_model.specs.Lines.{lines_text}
 use Rattle.htl_model.specs.Lists.{up_to}
 use Rattle.htl_model.specs.Meaning.{sense, value_lines}
 use Rattle.htl_model.specs.Frames.{frame_of}
-use Rattle.htl_model.specs.Selections.{root_modules, root_period}
+use Rattle.htl_model.specs.Selections.{root_modules}
 use Rattle.htl_object.specs.declared.object.Object.{Object}
 use Rattle.htl_object.specs.Accepted.{IsAccepted}
 use Rattle.htl_refine.specs.Records.{AreTookWithin}
@@ -15,7 +15,6 @@ use Rattle.htl_console.specs.declared.shown.Shown.{Shown}
 use Rattle.htl_console.specs.declared.shown.Shown.TheVariants.{Values}
 use Rattle.htl_console.specs.Shows.{shows_jobs}
 use Rattle.htl_machine.specs.Follows.{reading_of, IsLoaded}
-use Rattle.htl_machine.specs.Rounds.{plan_of}
 use Rattle.htl_refine.specs.FrameRuns.{frame_at}
 use Rattle.htl_refine.specs.ServedJobs.{AllServed}
 use Rattle.htl_machine.specs.JobLines.{printed, job_lines_to, ShowsJobs, begins_as_job, text_lines, HasNames}
@@ -71,10 +70,10 @@ JobLinesAreFound =
     (o : Object) (es : List Event) (show : Shown) (end : ℕ) → HasNames o.tables → shows_jobs show ≡ true
     → filter begins_as_job (text_lines (text_of o es show end)) ≡ map (printed o.tables) (job_lines_to o.tables (schedules_of o) es end)
 
--- of an accepted object, whatever the sensors show and however long the jobs take within their worst cases: of each job of each round
--- whose window ended by the end of the run there is one d line, no later than the end of its window, and its j lines lie in the window
--- and have as many ticks as it takes
+-- of an accepted object, whatever the sensors show and however long the jobs take within their worst cases: of each job of each frame
+-- whose window ended by the end of the run there is one d line in its module's round, no later than the end of its window, and its
+-- j lines in the round lie in the window and have as many ticks as it takes
 abbrev pub EveryJobToldInTime : Type 0
 EveryJobToldInTime =
-    (o : Object) (es : List Event) (period end : ℕ) → IsAccepted o → AreTookWithin o.tables es → root_period o.tables ≡ Some period
-    → AllToldInTime (plan_of o.tables (schedules_of o) es) period end (job_lines_to o.tables (schedules_of o) es end)
+    (o : Object) (es : List Event) (end : ℕ) → IsAccepted o → AreTookWithin o.tables es
+    → AllToldInTime o.tables (schedules_of o) es end (job_lines_to o.tables (schedules_of o) es end)

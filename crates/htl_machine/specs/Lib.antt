@@ -21,7 +21,6 @@ pub mod Recording
 pub mod Sensors
 pub mod Readiness
 pub mod Tellings
-pub mod Served
 pub mod Lines
 pub mod Programs
 pub mod JobLines

@@ -1,12 +1,23 @@
--- What the form rules say of the modes of root modules, and what divides a frame.
-use Rattle.std.proofs.Common.{◌≡◌, ℕ, zero, suc, ◌*◌, ◌/◌, ◌%◌, ◌<◌, List, [], ◌∷◌, length, map, get_or, sym, ap, ◌∙◌, arith}
+-- What divides a frame, and what the form rules say of its limits.
+use Rattle.std.proofs.Common.{◌≡◌, ℕ, zero, suc, ◌*◌, ◌/◌, ◌%◌, ◌<◌, List, [], ◌∷◌, length, map, get_or, slice_get, Bool, true, false, cond, ltb, Option, Some, None, option_map, refl, sym, ap, ◌∙◌, arith}
+use Rattle.std.specs.Prelude.{◌≤◌, ◌+◌, ◌-◌}
+use Rattle.std.proofs.lemmas.Bool.{eqb-true}
+use Rattle.std.proofs.lemmas.Option.{slice_get-get_or}
 use Rattle.std.proofs.Math.Nat.{mul-div_assoc, dvd-mul_left, mod_self}
 use Rattle.std.proofs.lemmas.Nat.Gcd.{dvd_trans, dvd_of_mod-eq-zero, mod-eq-zero_of_dvd}
-use Rattle.htl_model.specs.Frames.{gcd_in, common_multiple, multiple_of, frame_of, unit_period}
-use Rattle.htl_model.specs.Selections.{root_modules}
+use Rattle.htl_model.specs.declared.parts.Mode.{Mode}
+use Rattle.htl_model.specs.Broken.{breach, BreaksAt, Broken, KeptTo}
+use Rattle.htl_model.specs.FormRules.{FrameLimits, Part, Itself, Input, Output, Test, Site}
+use Rattle.htl_model.specs.FrameRules.{KeptApart}
+use Rattle.htl_model.specs.Frames.{gcd_in, common_multiple, multiple_of, frame_of, unit_period, too_long, other_limit, frame_limit}
+use Rattle.htl_model.specs.PeriodRules.{first_mode}
+use Rattle.htl_model.specs.Ranges.{AreInRange}
+use Rattle.htl_model.specs.Selections.{is_root, root_modules, modes_of, mode_of_module}
 use Rattle.htl_model.specs.Tables.{Tables}
 use Rattle.htl_model.proofs.Divisors.{greatest_divisor}
 use Rattle.htl_model.proofs.FrameBuild.{frame_is_multiple}
+use Rattle.htl_model.proofs.LimitCode.{with_unit, limit_none, limit_long, limit_rest}
+use Rattle.htl_model.proofs.SelectionLaws.{modes_some, places_below, place_passes_0}
 
 -- ---- what divides the frame
 
@@ -39,3 +50,80 @@ pub frame_divided : (t : Tables) (j : ℕ) → j < length (root_modules t) → f
 frame_divided t j l =
     let p = unit_period t (get_or (root_modules t) j 0) in
     ap (λ n. n % p) (frame_is_multiple t (omega (arith, l))) ∙ (multiple_each 1 (unit_period t) (root_modules t) j l)
+
+-- ---- the limits of frames
+
+-- the module at which a limit is exceeded is a root module
+long_among : (t : Tables) (m : ℕ) (us : List ℕ) (x : ℕ × ℕ) → too_long t m us ≡ Some x → (j : ℕ) × (slice_get us j ≡ Some x.0)
+long_among t m [] x e = cc
+long_among t m (u ∷ us) x e = by (ltb 1000000 n) (λ f. long_among t n us x f) e
+  where
+    n : ℕ
+    n = common_multiple m (unit_period t u)
+
+    by : (b : Bool) → (too_long t n us ≡ Some x → (j : ℕ) × (slice_get us j ≡ Some x.0)) → cond b (Some (u, n)) (too_long t n us) ≡ Some x → (j : ℕ) × (slice_get (u ∷ us) j ≡ Some x.0)
+    by true later f = (0, let same : (u, n) ≡ x = cc in ap (λ (y : ℕ × ℕ). Some y.0) same)
+    by false later f = let h = later f in (suc h.0, h.1)
+
+of_unit : (v u h n : ℕ) (o : Option (ℕ × ℕ)) → option_map (with_unit v) o ≡ Some (u, (h, n)) → v ≡ u
+of_unit v u h n (Some p) e = let is : Some (v, p) ≡ Some (u, (h, n)) = e in let both : (v, p) ≡ (u, (h, n)) = cc in ap (λ (y : ℕ × (ℕ × ℕ)). y.0) both
+of_unit v u h n None e = absurd (let no : None ≡ Some (u, (h, n)) = e in cc)
+
+pub limit_among : (t : Tables) (u h n : ℕ) → frame_limit t ≡ Some (u, (h, n)) → (j : ℕ) × (slice_get (root_modules t) j ≡ Some u)
+limit_among t u h n e = by (root_modules t) refl (too_long t 1 (root_modules t)) refl
+  where
+    by : (us : List ℕ) → us ≡ root_modules t → (o : Option (ℕ × ℕ)) → too_long t 1 (root_modules t) ≡ o → (j : ℕ) × (slice_get (root_modules t) j ≡ Some u)
+    by [] roots o long =
+        let none : frame_limit t ≡ None = limit_none t (let z : length (root_modules t) ≡ 0 = sym (ap (λ (vs : List ℕ). length vs) roots) in z) in
+        absurd (let no : None ≡ Some (u, (h, n)) = sym none ∙ e in cc)
+    by (v ∷ us) roots (Some x) long =
+        let is : Some (x.0, (x.1, 1000000)) ≡ Some (u, (h, n)) = sym (limit_long t (root_modules t) x refl long) ∙ e in
+        let both : (x.0, (x.1, 1000000)) ≡ (u, (h, n)) = cc in
+        let same : x.0 ≡ u = ap (λ (y : ℕ × (ℕ × ℕ)). y.0) both in
+        let found = long_among t 1 (root_modules t) x long in
+        (found.0, found.1 ∙ ap (λ (y : ℕ). Some y) same)
+    by (v ∷ us) roots None long =
+        let some : 0 < length (root_modules t) = omega (arith, ap (λ (vs : List ℕ). length vs) roots) in
+        let j : ℕ = length (root_modules t) - 1 in
+        let same : get_or (root_modules t) j 0 ≡ u = of_unit (get_or (root_modules t) j 0) u h n (other_limit t) (sym (limit_rest t (root_modules t) refl some long) ∙ e) in
+        (j, slice_get-get_or (root_modules t) j 0 (omega (arith, some)) ∙ ap (λ (y : ℕ). Some y) same)
+
+-- it has a first mode, which is one of its own
+pub first_own : (t : Tables) (u : ℕ) → AreInRange t → u < length t.modules
+    → (m : ℕ) × (x : Mode) × (first_mode t u ≡ Some m) × (slice_get t.modes m ≡ Some x) × (x.«module» ≡ u)
+first_own t u r below =
+    let m : ℕ = get_or (modes_of t u) 0 0 in
+    let first : slice_get (modes_of t u) 0 ≡ Some m = slice_get-get_or (modes_of t u) 0 0 (modes_some t u r below) in
+    let y = place_passes_0 (mode_of_module u) 0 m t.modes first in
+    (m, y.0, first, y.1, eqb-true y.0.«module» u y.2)
+
+-- Tables that keep form rule 2 exceed no limit of frames.
+pub frames_kept : (t : Tables) (last : ℕ) → AreInRange t → 2 ≤ last → KeptTo t last → frame_limit t ≡ None
+frames_kept t last r few kept = by (frame_limit t) refl
+  where
+    by : (o : Option (ℕ × (ℕ × ℕ))) → frame_limit t ≡ o → frame_limit t ≡ None
+    by None e = e
+    by (Some p) e =
+        let u : ℕ = p.0 in
+        let root = limit_among t u p.1.0 p.1.1 e in
+        let f = first_own t u r (let z : u < 0 + length t.modules = places_below is_root 0 root.0 u t.modules root.1 in omega (arith, z)) in
+        let limit : frame_limit t ≡ Some (f.1.«module», (p.1.0, p.1.1)) = e ∙ ap (λ (v : ℕ). Some (v, (p.1.0, p.1.1))) (sym f.4) in
+        absurd (kept FrameLimits (record { mode = f.0; inv = None; part = Itself }) p.1.0 p.1.1 few (f.1, f.3, record { first = ap (first_mode t) f.4 ∙ f.2; limit = limit }))
+
+-- where none is exceeded the rule is broken nowhere
+pub frames_unbroken : (t : Tables) → frame_limit t ≡ None → (s : Site) (h n : ℕ) → Broken t FrameLimits s h n → ⊥
+frames_unbroken t none s h n broken = at s.inv s.part broken.2
+  where
+    at : (k : Option ℕ) (p : Part) → BreaksAt t (breach t FrameLimits) s.mode broken.0 k p h n → ⊥
+    at None Itself b = (let no : None ≡ Some (broken.0.«module», (h, n)) = sym none ∙ b.limit in cc)
+    at None (Input j) b = b
+    at None (Output j) b = b
+    at None (Test l j) b = b.5
+    at (Some k) Itself b = b.3
+    at (Some k) (Input j) b = b.3.2
+    at (Some k) (Output j) b = b.3.2
+    at (Some k) (Test l j) b = b.3
+
+-- Rules that are kept are kept but for that one.
+pub kept_apart : (t : Tables) (last : ℕ) → KeptTo t last → KeptApart t last
+kept_apart t last kept r s h n few other b = kept r s h n few b

@@ -9,6 +9,7 @@ pub mod FirstLaws
 pub mod FormExamples
 pub mod FrameBuild
 pub mod FrameLimits
+pub mod FrameLists
 pub mod FrameRules
 pub mod FrameSteps
 pub mod Laws
@@ -29,3 +30,5 @@ pub mod SelectionLaws
 pub mod Sources
 pub mod StartLaws
 pub mod Stays
+pub mod TestLaws
+pub mod NumbersBelow

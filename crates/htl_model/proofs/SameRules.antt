@@ -1,5 +1,5 @@
 -- The form rules say nothing of functions: tables break the same rules whatever functions they have.
-use Rattle.std.proofs.Common.{◌≡◌, ◌≤◌, ◌<◌, ◌⊎◌, ℕ, ◌*◌, List, [], ◌∷◌, Option, Some, None, refl, ◌∙◌, ap, subst, inl, inr}
+use Rattle.std.proofs.Common.{◌≡◌, ◌≤◌, ◌<◌, ◌⊎◌, ℕ, ◌*◌, List, [], ◌∷◌, Option, Some, None, refl, sym, ◌∙◌, ap, subst, inl, inr}
 use Rattle.htl_base.specs.declared.Ty.{Ty}
 use Rattle.htl_model.specs.declared.parts.Inv.{Inv}
 use Rattle.htl_model.specs.declared.parts.Mode.{Mode}
@@ -8,14 +8,16 @@ use Rattle.htl_model.specs.declared.parts.End.TheVariants as E
 use Rattle.htl_model.specs.Broken.{Breach, breach, PartBreaks, ModeBreaks, BreaksAt, Broken, KeptTo, Formed, IsFirstBroken, site_of}
 use Rattle.htl_model.specs.declared.form_fault.FormFault.{FormFault}
 use Rattle.htl_model.specs.EndRules.{ReadLate, WriteOutside, TypeDiffers, WindowEmpty, AbstractRead, SensorWritten, input_types, output_types}
-use Rattle.htl_model.specs.FormRules.{FormRule, ModulePeriod, RootPeriod, Divides, Offsets, Ends, Windows, WorstCases, PortWriters, PortCycles, AbstractPorts, Sensors, ConcreteWriters, AbstractPlaces, Parents, SharedParents, Inheritance, Part, Itself, Input, Output, Test, Site}
-use Rattle.htl_model.specs.PeriodRules.{RootPeriodDiffers, EndNotDivided}
+use Rattle.htl_model.specs.FormRules.{FormRule, ModulePeriod, FrameLimits, Divides, Offsets, Ends, Windows, WorstCases, PortWriters, PortCycles, AbstractPorts, Sensors, ConcreteWriters, AbstractPlaces, Parents, SharedParents, Inheritance, Part, Itself, Input, Output, Test, Site}
+use Rattle.htl_model.specs.PeriodRules.{FrameExceeds, EndNotDivided}
 use Rattle.htl_model.specs.PortOrder.{IsOnCycle, AreOnCycles, InCycle}
 use Rattle.htl_model.specs.PortWriters.{Unwritten, Rewritten}
 use Rattle.htl_model.specs.RefinementRules.{IsRefined, StandsUnrefined, IsAbstractIn, ParentAstray, ParentFault, SharesParent, SecondChild, AsksMore, Exceeds, IsWriterOf, Unordered}
 use Rattle.htl_model.specs.SecondWriters.{OnPath, itself, above, AreSameWrite, WritesBefore, SecondWriter}
 use Rattle.htl_model.specs.Tables.{Tables, Fun, comm_period, mode_period, task_worst, offsets, release, window_end, greatest, least_or}
 use Rattle.htl_model.specs.Exchanged.{with_functions}
+use Rattle.htl_model.specs.Frames.{frame_limit}
+use Rattle.htl_model.proofs.FrameLists.{limit_framed}
 
 -- ---- windows
 
@@ -143,8 +145,11 @@ module _ (t : Tables) (fs gs : List Fun) where
   unordered i (E.Comm c n) have need h = h
   unordered i (E.Port p) have need h = (h.0, writer_of t fs gs p have h.1, h.2)
 
-  root_differs : (m : ℕ) (x : Mode) (have need : ℕ) → RootPeriodDiffers (with_functions t fs) m x have need → RootPeriodDiffers (with_functions t gs) m x have need
-  root_differs m x have need h = record { root = h.root; first = h.first; period = h.period; asked = h.asked; differs = h.differs }
+  limit_same : frame_limit (with_functions t fs) ≡ frame_limit (with_functions t gs)
+  limit_same = limit_framed (with_functions t fs) ∙ sym (limit_framed (with_functions t gs))
+
+  frame_exceeds : (m : ℕ) (x : Mode) (have need : ℕ) → FrameExceeds (with_functions t fs) m x have need → FrameExceeds (with_functions t gs) m x have need
+  frame_exceeds m x have need h = record { first = h.first; limit = sym limit_same ∙ h.limit }
 
 module _ (t : Tables) (fs gs : List Fun) where
   second_writer : (k : ℕ) (i : Inv) (j : ℕ) (e : End) (have need : ℕ) → SecondWriter (with_functions t fs) k i j e have need → SecondWriter (with_functions t gs) k i j e have need
@@ -163,7 +168,7 @@ pub record Carries (a b : Breach) : Type 0 where
 module _ (t : Tables) (fs gs : List Fun) where
   carries : (r : FormRule) → Carries (breach (with_functions t fs) r) (breach (with_functions t gs) r)
   carries ModulePeriod = record { mode = λ m x have need h. h; inv = λ k i have need h. h; input = λ k i j e have need h. h; output = λ k i j e have need h. h; test = λ m c have need h. h }
-  carries RootPeriod = record { mode = root_differs t fs gs; inv = λ k i have need h. h; input = λ k i j e have need h. h; output = λ k i j e have need h. h; test = λ m c have need h. h }
+  carries FrameLimits = record { mode = frame_exceeds t fs gs; inv = λ k i have need h. h; input = λ k i j e have need h. h; output = λ k i j e have need h. h; test = λ m c have need h. h }
   carries Divides = record { mode = λ m x have need h. h; inv = λ k i have need h. h; input = λ k i j e. divided t fs gs i e; output = λ k i j e. divided t fs gs i e; test = λ m c have need h. h }
   carries Offsets = record { mode = λ m x have need h. h; inv = λ k i have need h. h; input = λ k i j e. read_late t fs gs i e; output = λ k i j e. write_outside t fs gs i e; test = λ m c have need h. h }
   carries Ends =

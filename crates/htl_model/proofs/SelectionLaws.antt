@@ -29,6 +29,30 @@ places_some test k zero (y ∷ ys) x e f =
     rw passes (omega arith)
 places_some test k (suc p) (y ∷ ys) x e f = on_front (test y) k (places_from test (suc k) ys) (places_some test (suc k) p ys x e f)
 
+-- p is the place, counted from k, of an item that passes
+abbrev pub Passes : {A : Type 0} → (A → Bool) → ℕ → List A → ℕ → Type 0
+Passes test k xs p = (q : ℕ) × (p ≡ k + q) × (x : _) × (slice_get xs q ≡ Some x) × (test x ≡ true)
+
+pub place_passes : {A : Type 0} (test : A → Bool) (k j p : ℕ) (xs : List A) → slice_get (places_from test k xs) j ≡ Some p → Passes test k xs p
+place_passes test k j p [] e = cc
+place_passes test k j p (x ∷ xs) e = by (test x) refl j (λ i f. place_passes test (suc k) i p xs f) e
+  where
+    later : Passes test (suc k) xs p → Passes test k (x ∷ xs) p
+    later h = (suc h.0, omega (arith, h.1), h.2, h.3, h.4)
+
+    by : (b : Bool) → test x ≡ b → (j : ℕ) → ((i : ℕ) → slice_get (places_from test (suc k) xs) i ≡ Some p → Passes test (suc k) xs p)
+        → slice_get (cond b (k ∷ places_from test (suc k) xs) (places_from test (suc k) xs)) j ≡ Some p → Passes test k (x ∷ xs) p
+    by true is zero rest f = let same : k ≡ p = cc in (0, omega arith, x, refl, is)
+    by true is (suc i) rest f = later (rest i f)
+    by false is i rest f = later (rest i f)
+
+-- what passes from 0 on
+pub place_passes_0 : {A : Type 0} (test : A → Bool) (j p : ℕ) (xs : List A) → slice_get (places_from test 0 xs) j ≡ Some p → (x : A) × (slice_get xs p ≡ Some x) × (test x ≡ true)
+place_passes_0 test j p xs e =
+    let h = place_passes test 0 j p xs e in
+    let same : h.0 ≡ p = omega (arith, h.1) in
+    (h.2, ap (slice_get xs) (sym same) ∙ h.3, h.4)
+
 -- ---- modes of a module in range
 
 pub modes_some : (t : Tables) (k : ℕ) → AreInRange t → k < length t.modules → 0 < length (modes_of t k)

@@ -8,8 +8,8 @@ use Rattle.htl_model.specs.declared.parts.End.{End}
 use Rattle.htl_model.specs.declared.form_fault.FormFault.{FormFault}
 use Rattle.htl_model.specs.Tables.{Tables, mode_module}
 use Rattle.htl_model.specs.Selections.{selection_count, positions}
-use Rattle.htl_model.specs.FormRules.{FormRule, ModulePeriod, RootPeriod, Divides, Offsets, Ends, Windows, WorstCases, PortWriters, PortCycles, AbstractPorts, Sensors, ConcreteWriters, AbstractPlaces, Parents, SharedParents, Inheritance, number_of, Part, Itself, Input, Output, Test, Site, ComesBefore}
-use Rattle.htl_model.specs.PeriodRules.{PeriodDiffers, RootPeriodDiffers, NotDivided, EndNotDivided}
+use Rattle.htl_model.specs.FormRules.{FormRule, ModulePeriod, FrameLimits, Divides, Offsets, Ends, Windows, WorstCases, PortWriters, PortCycles, AbstractPorts, Sensors, ConcreteWriters, AbstractPlaces, Parents, SharedParents, Inheritance, number_of, Part, Itself, Input, Output, Test, Site, ComesBefore}
+use Rattle.htl_model.specs.PeriodRules.{PeriodDiffers, FrameExceeds, NotDivided, EndNotDivided}
 use Rattle.htl_model.specs.EndRules.{ReadLate, WriteOutside, input_types, output_types, CountsDiffer, TypeDiffers, WindowEmpty, WorstLong, AbstractRead, SensorWritten}
 use Rattle.htl_model.specs.PortWriters.{Unwritten, Rewritten}
 use Rattle.htl_model.specs.PortOrder.{InCycle}
@@ -39,7 +39,7 @@ nowhere =
 -- what breaks each rule
 abbrev pub breach : Tables → FormRule → Breach
 breach t ModulePeriod = record nowhere { mode = λ m x. PeriodDiffers t x }
-breach t RootPeriod = record nowhere { mode = λ m x. RootPeriodDiffers t m x }
+breach t FrameLimits = record nowhere { mode = λ m x. FrameExceeds t m x }
 breach t Divides = record nowhere { input = λ k i j e. EndNotDivided t i e; output = λ k i j e. EndNotDivided t i e; test = λ m c. NotDivided t m c }
 breach t Offsets = record nowhere { input = λ k i j e. ReadLate t i e; output = λ k i j e. WriteOutside t i e }
 breach t Ends =

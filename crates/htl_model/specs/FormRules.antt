@@ -3,7 +3,7 @@ use Rattle.std.specs.Prelude.{◌≡◌, ◌<◌, ◌⊎◌, ℕ, Option, Some, 
 
 pub data FormRule : Type 0 where
   ModulePeriod : FormRule
-  RootPeriod : FormRule
+  FrameLimits : FormRule
   Divides : FormRule
   Offsets : FormRule
   Ends : FormRule
@@ -22,7 +22,7 @@ pub data FormRule : Type 0 where
 -- the number by which a rule is told
 abbrev pub number_of : FormRule → ℕ
 number_of ModulePeriod = 1
-number_of RootPeriod = 2
+number_of FrameLimits = 2
 number_of Divides = 3
 number_of Offsets = 4
 number_of Ends = 5

@@ -15,6 +15,7 @@ pub mod Functions
 pub mod Lines
 pub mod Lists
 pub mod Meaning
+pub mod NumbersBelow
 pub mod PeriodRules
 pub mod PortOrder
 pub mod PortTable

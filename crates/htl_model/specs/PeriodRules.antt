@@ -1,4 +1,5 @@
--- The rules on periods: one in a module, one for all root modules, and divided by those of the communicators.
+-- The rules on periods: one in a module, with a frame for those of the root modules that keeps its limits, and divided by those of the
+-- communicators.
 use Rattle.std.specs.Prelude.{◌≡◌, ◌≢◌, ◌⊎◌, ℕ, ◌%◌, Option, Some, None, option_map, slice_get}
 use Rattle.htl_model.specs.declared.parts.Mode.{Mode}
 use Rattle.htl_model.specs.declared.parts.Inv.{Inv}
@@ -6,7 +7,8 @@ use Rattle.htl_model.specs.declared.parts.End.{End}
 use Rattle.htl_model.specs.declared.parts.End.TheVariants as E
 use Rattle.htl_model.specs.Tables.{Tables, mode_period, comm_period}
 use Rattle.htl_model.specs.Ranges.{parent_of}
-use Rattle.htl_model.specs.Selections.{modes_of, root_period}
+use Rattle.htl_model.specs.Frames.{frame_limit}
+use Rattle.htl_model.specs.Selections.{modes_of}
 
 -- the first mode of a module
 abbrev pub first_mode : Tables → ℕ → Option ℕ
@@ -20,13 +22,11 @@ asked_period t u = elim (parent_of t u) [ Some p ↦ Some (mode_period t p) | No
 abbrev pub PeriodDiffers : Tables → Mode → ℕ → ℕ → Type 0
 PeriodDiffers t x have need = (have ≡ x.period) × (asked_period t x.«module» ≡ Some need) × (have ≢ need)
 
--- 2: the mode is the first of a root module, and has another period than the first mode of the first root module
-pub record RootPeriodDiffers (t : Tables) (m : ℕ) (x : Mode) (have need : ℕ) : Type 0 where
-  pub root : parent_of t x.«module» ≡ None
+-- 2: a limit of frames is exceeded, and the mode is the first of the module at which it is: the first root module up to which the
+-- periods have too great a multiple, or the last one where there are too many starts, paths or positions
+pub record FrameExceeds (t : Tables) (m : ℕ) (x : Mode) (have need : ℕ) : Type 0 where
   pub first : first_mode t x.«module» ≡ Some m
-  pub period : have ≡ x.period
-  pub asked : root_period t ≡ Some need
-  pub differs : have ≢ need
+  pub limit : frame_limit t ≡ Some (x.«module», (have, need))
 
 -- 3: the communicator's period doesn't divide the mode's
 abbrev pub NotDivided : Tables → ℕ → ℕ → ℕ → ℕ → Type 0

@@ -1,5 +1,5 @@
 -- What precedes what by ports: an invocation that reads a port follows the invocation that writes it.
-use Rattle.std.specs.Prelude.{◌≡◌, ℕ, Bool, true, false, eqb, ◌&&◌, List, length, slice_get, Option, Some, None}
+use Rattle.std.specs.Prelude.{◌≡◌, ℕ, zero, suc, Bool, true, false, eqb, ◌&&◌, ◌||◌, List, length, slice_get, Option, Some, None}
 use Rattle.std.specs.List.{list_any, Contains, IsDistinct}
 use Rattle.htl_model.specs.declared.parts.Inv.{Inv}
 use Rattle.htl_model.specs.declared.parts.End.{End}
@@ -11,6 +11,11 @@ use Rattle.htl_model.specs.PortWriters.{is_port}
 pub data Leads (step : ℕ → ℕ → Bool) : ℕ → ℕ → Type 0 where
   direct : (a b : ℕ) → step a b ≡ true → Leads step a b
   through : (a c b : ℕ) → Leads step a c → Leads step c b → Leads step a b
+
+-- the same, by steps that go through places below k alone
+abbrev pub leads_below : (ℕ → ℕ → Bool) → ℕ → ℕ → ℕ → Bool
+leads_below step zero a b = step a b
+leads_below step (suc k) a b = leads_below step k a b || (leads_below step k a k && leads_below step k k b)
 
 -- the end is a port that is among these outputs
 abbrev pub is_read_from : List End → End → Bool

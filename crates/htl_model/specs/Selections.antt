@@ -50,6 +50,7 @@ abbrev pub root_period : Tables → Option ℕ
 root_period t =
     elim (root_modules t) [ [] ↦ None | u ∷ us ↦ elim (modes_of t u) [ [] ↦ None | m ∷ ms ↦ Some (mode_period t m) ] ]
 
--- the length of a round of the processor, in ticks: the period of the root modules; 0 without modules
+-- the length of a round where the root modules have one period, in ticks: the period of the first root module's first mode; 0 without
+-- modules
 abbrev pub round_length : Tables → ℕ
 round_length t = elim (root_period t) [ Some p ↦ p | None ↦ 0 ]

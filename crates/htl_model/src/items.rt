@@ -1,5 +1,6 @@
-//! Items of the tables by number, and where the invocations of a mode begin. Each but the last is one step.
-ghost use Rattle.std.specs.Prelude.{◌≡◌, ◌<◌, ◌≤◌, ◌+◌, Some, length, slice_get};
+//! Items of the tables by number, where the invocations of a mode begin, and how many they are.
+ghost use Rattle.std.specs.Prelude.{◌≡◌, ◌<◌, ◌≤◌, ◌+◌, ℕ, Some, count_by, get_or, length, slice_get};
+ghost use Rattle.htl_model.specs.Selections.{inv_of_mode};
 ghost use Rattle.htl_model.specs.Starts.{IsStartOf};
 
 use crate::{Inv, Tables};
@@ -43,4 +44,18 @@ pub fn next_start(t: &Tables, mode: u16, start: usize) -> usize
         }
     }
     count
+}
+
+/// Counts the invocations of each mode that has a place in `counts`, all of which are 0: one pass over the invocations.
+pub fn count_invs(invs: &[Inv], counts: &mut [usize])
+    requires { (m : ℕ) → get_or counts.old m 0 ≡ 0 }
+    ensures counts { (m : ℕ) → m < length counts.new → get_or counts.new m 0 ≡ count_by (inv_of_mode m) invs.now }
+    ensures len { length counts.new ≡ length counts.old }
+{
+    for k in 0..invs.len() {
+        let mode = invs[k].mode as usize;
+        if mode < counts.len() {
+            counts[mode] += 1;
+        }
+    }
 }

@@ -2,6 +2,8 @@
 ghost use Rattle.std.specs.Prelude.{◌≡◌, ◌≤◌, length, All, map, take, drop};
 ghost use Rattle.htl_base.specs.declared.limits.TheConstants as limit;
 ghost use Rattle.htl_model.specs.FunctionTypes.{comm_type as comm_type_of};
+ghost use Rattle.htl_model.specs.Ranges.{parent_of as parent_of_module};
+ghost use Rattle.htl_model.specs.SecondWriters.{parent_mode as parent_mode_of};
 ghost use Rattle.htl_model.specs.Tables.{tables_of, count_before, function_count as function_count_of, comm_period as comm_period_of, mode_module as mode_module_of, mode_period as mode_period_of, task_worst as task_worst_of, is_concrete as is_concrete_of};
 
 use crate::{Inv, Parts, Switch, Tables, Task};
@@ -53,6 +55,26 @@ pub fn fill_types(t: &Tables, switch: &Switch, types: &mut [Ty; MAX_ARGUMENTS]) 
         types[k] = comm_type(t, reads[k]);
     }
     reads.len()
+}
+
+/// The mode that a module refines; None where it is a root module, or where there is none.
+pub fn parent_of(t: &Tables, module: u16) -> Option<u16>
+    ensures { result ≡ parent_of_module t.now «module» }
+{
+    let parts = lists(t);
+    let modules = parts.modules.as_slice();
+    if (module as usize) < modules.len() {
+        modules[module as usize].parent
+    } else {
+        None
+    }
+}
+
+/// The mode that the module of a mode refines; None where it is a root module.
+pub fn parent_mode(t: &Tables, mode: u16) -> Option<u16>
+    ensures { result ≡ parent_mode_of t.now mode }
+{
+    parent_of(t, mode_module(t, mode))
 }
 
 /// The period of a mode, in ticks.

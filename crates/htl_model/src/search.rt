@@ -8,6 +8,16 @@ ghost use Rattle.htl_model.specs.Starts.{IsStartOf};
 use crate::items::{inv_at, next_start};
 use crate::{End, FormFault, Inv, Mode, Switch, Tables};
 
+/// An input or output of an invocation, at its place among the inputs or outputs.
+#[derive(Clone, Copy)]
+pub struct EndSite<'a> {
+    /// The number of the invocation.
+    pub number: u16,
+    pub inv: &'a Inv,
+    pub place: usize,
+    pub end: End,
+}
+
 /// What was counted over tables, by which the rules of a kind are tried. A test finds what there is and what there
 /// ought to be, where its rule is broken.
 pub trait Tries<R: Copy> {
@@ -41,7 +51,8 @@ pub trait Tries<R: Copy> {
         ensures { result ≡ false → (t : TablesOf) (m c : ℕ) → (tests t rule).test m c ≡ None };
 
     /// What the rule finds at a mode itself.
-    fn of_mode(t: &Tables, rule: R, m: u16, mode: &Mode) -> Option<(u64, u64)>
+    fn of_mode(&self, t: &Tables, rule: R, m: u16, mode: &Mode) -> Option<(u64, u64)>
+        requires { counted t.now self.now }
         ensures { result ≡ (tests t.now rule).mode m mode.now };
 
     /// What it finds at a communicator that a switch of a mode reads.
@@ -54,33 +65,17 @@ pub trait Tries<R: Copy> {
         requires inv { slice_get t.now.invs k ≡ Some inv.now }
         ensures { result ≡ (tests t.now rule).inv k inv.now };
 
-    /// What it finds at input `j` of an invocation.
-    fn of_input(
-        &self,
-        t: &Tables,
-        rule: R,
-        k: u16,
-        inv: &Inv,
-        j: usize,
-        end: End,
-    ) -> Option<(u64, u64)>
+    /// What it finds at an input of an invocation.
+    fn of_input(&self, t: &Tables, rule: R, site: EndSite<'_>) -> Option<(u64, u64)>
         requires { counted t.now self.now }
-        ensures { result ≡ (tests t.now rule).input k inv.now j end };
+        ensures { result ≡ (tests t.now rule).input site.entry.number site.entry.inv.now site.entry.place site.entry.end };
 
-    /// What it finds at output `j` of an invocation.
-    fn of_output(
-        &self,
-        t: &Tables,
-        rule: R,
-        k: u16,
-        inv: &Inv,
-        j: usize,
-        end: End,
-    ) -> Option<(u64, u64)>
+    /// What it finds at an output of an invocation.
+    fn of_output(&self, t: &Tables, rule: R, site: EndSite<'_>) -> Option<(u64, u64)>
         requires counted { counted t.now self.now }
-        requires inv { slice_get t.now.invs k ≡ Some inv.now }
-        requires output { slice_get inv.now.writes j ≡ Some end }
-        ensures { result ≡ (tests t.now rule).output k inv.now j end };
+        requires inv { slice_get t.now.invs site.number ≡ Some site.inv.now }
+        requires output { slice_get site.inv.now.writes site.place ≡ Some site.end }
+        ensures { result ≡ (tests t.now rule).output site.entry.number site.entry.inv.now site.entry.place site.entry.end };
 }
 
 // ---- at an invocation
@@ -100,7 +95,13 @@ fn first_input<R: Copy, C: Tries<R>>(
     }
     let ends = inv.reads.as_slice();
     for j in 0..ends.len() {
-        if let Some(found) = counts.of_input(t, rule, k, inv, j, ends[j]) {
+        let site = EndSite {
+            number: k,
+            inv,
+            place: j,
+            end: ends[j],
+        };
+        if let Some(found) = counts.of_input(t, rule, site) {
             return Some(found);
         }
     }
@@ -123,7 +124,13 @@ fn first_output<R: Copy, C: Tries<R>>(
     }
     let ends = inv.writes.as_slice();
     for j in 0..ends.len() {
-        if let Some(found) = counts.of_output(t, rule, k, inv, j, ends[j]) {
+        let site = EndSite {
+            number: k,
+            inv,
+            place: j,
+            end: ends[j],
+        };
+        if let Some(found) = counts.of_output(t, rule, site) {
             return Some(found);
         }
     }
@@ -201,10 +208,17 @@ fn first_switch<R: Copy, C: Tries<R>>(t: &Tables, rule: R, m: u16) -> Option<(u6
 }
 
 // What the rule finds at a mode: with itself, a switch.
-fn at_mode<R: Copy, C: Tries<R>>(t: &Tables, rule: R, m: u16, mode: &Mode) -> Option<(u64, u64)>
+fn at_mode<R: Copy, C: Tries<R>>(
+    t: &Tables,
+    counts: &C,
+    rule: R,
+    m: u16,
+    mode: &Mode,
+) -> Option<(u64, u64)>
+    requires { C.counted t.now counts.now }
     ensures { result ≡ at_mode_of (C.tests t.now rule) t.now m mode.now }
 {
-    if let Some(found) = C::of_mode(t, rule, m, mode) {
+    if let Some(found) = counts.of_mode(t, rule, m, mode) {
         return Some(found);
     }
     first_switch::<R, C>(t, rule, m)
@@ -298,7 +312,7 @@ fn in_mode<R: Copy, C: Tries<R>>(
     if let Some(fault) = first_inv(t, counts, rule, site) {
         return Some(fault);
     }
-    let found = at_mode::<R, C>(t, rule, site.mode, mode);
+    let found = at_mode(t, counts, rule, site.mode, mode);
     told(C::number(rule), site.module, site.mode, None, found)
 }
 

@@ -1,7 +1,7 @@
 -- The two laws of objects, and that what is written is read again.
-use Rattle.std.proofs.Common.{◌≡◌, ℕ, ◌==◌, true, List, [], ◌++◌, length, Option, None, Ok, Err, refl, sym, ap, subst, ◌∙◌, ◌↔◌, arith}
+use Rattle.std.proofs.Common.{◌≡◌, ℕ, ◌==◌, List, [], ◌++◌, length, Option, None, Ok, Err, refl, sym, ap, subst, ◌∙◌, ◌↔◌}
 use Rattle.std.specs.Prelude.{nat_le}
-use Rattle.std.specs.Int.{w16, w32, to_be_bytes}
+use Rattle.std.specs.Int.{w16, to_be_bytes}
 use Rattle.std.specs.List.{flat_map}
 use Rattle.std.proofs.lemmas.Bool.{eqb-true}
 use Rattle.std.proofs.lemmas.List.{append-nil, nil_from_length}
@@ -25,13 +25,13 @@ use Rattle.htl_object.specs.Modes.{mode_bytes}
 use Rattle.htl_object.specs.Modules.{module_bytes}
 use Rattle.htl_object.specs.Ports.{port_bytes, task_bytes}
 use Rattle.htl_object.specs.Invocations.{inv_bytes, switch_bytes}
-use Rattle.htl_object.specs.Instructions.{code_bytes, s_bytes}
+use Rattle.htl_object.specs.Instructions.{code_bytes}
 use Rattle.htl_object.specs.Items.{Fits16}
 use Rattle.htl_object.specs.Files.{counts_of, counts_bytes, counts_at, AreCounts, anchors_bytes, anchors_at, AreAnchors, is_node_count, e_code_bytes, e_code_at, IsECode, function_count, front_bytes, front_at, IsFront, IsFrontInRange, with_schedules, file_bytes, file_at, IsFileInRange, whole_at, fault_of, first_bad}
 use Rattle.htl_object.specs.Lists.{tables_of_lists}
 use Rattle.htl_object.specs.Versions.{head_bytes}
 use Rattle.htl_object.proofs.VersionLaws.{head, tail}
-use Rattle.htl_object.proofs.Lawful.{IsCodec, Taken, given-value, needed, bound, field, last, checked, counted, items, whole}
+use Rattle.htl_object.proofs.Lawful.{IsCodec, given-value, needed, bound, field, last, checked, counted, items, whole}
 use Rattle.htl_object.proofs.FieldLaws.{number16, number32}
 use Rattle.htl_object.proofs.ItemLaws.{comm, mode, unit, port, task, inv, switch}
 use Rattle.htl_object.proofs.InstructionLaws.{code, e_instr}

@@ -30,3 +30,4 @@ pub mod FunctionPlaces
 pub mod Examples
 pub mod VersionExamples
 pub mod NodeExamples
+pub mod PhaseLaws

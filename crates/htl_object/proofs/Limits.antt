@@ -10,6 +10,7 @@ use Rattle.htl_object.specs.Modules.{is_mode_of}
 use Rattle.htl_object.specs.Files.{IsFileInRange, is_root as is_root_at, selections_to, selections_of, widest_to, positions_to, is_node_count}
 use Rattle.htl_object.specs.declared.lists.Lists.{Lists}
 use Rattle.htl_model.proofs.SelectionLaws.{modes_some, no_modules}
+pub use Rattle.htl_model.proofs.SelectionLaws.{place_passes}
 use Rattle.htl_model.specs.Broken.{KeepsLimits}
 use Rattle.htl_model.specs.Frames.{frame_limit, nodes}
 use Rattle.htl_model.specs.Lists.{places_from}
@@ -33,16 +34,6 @@ count_places test k (x ∷ xs) =
     by : (b : Bool) → length (places_from test (suc k) xs) ≡ count_by test xs → length (cond b (k ∷ places_from test (suc k) xs) (places_from test (suc k) xs)) ≡ cond b 1 0 + count_by test xs
     by true h = omega (arith, h)
     by false h = omega (arith, h)
-
-pub place_passes : {A : Type 0} (test : A → Bool) (k j p : ℕ) (xs : List A) → slice_get (places_from test k xs) j ≡ Some p → (q : ℕ) × (p ≡ k + q) × (x : A) × (slice_get xs q ≡ Some x) × (test x ≡ true)
-place_passes test k j p [] e = cc
-place_passes {A} test k j p (x ∷ xs) e = by (test x) refl j (λ i f. place_passes test (suc k) i p xs f) e
-  where
-    by : (b : Bool) → test x ≡ b → (j : ℕ) → ((i : ℕ) → slice_get (places_from test (suc k) xs) i ≡ Some p → (q : ℕ) × (p ≡ suc k + q) × (y : A) × (slice_get xs q ≡ Some y) × (test y ≡ true))
-        → slice_get (cond b (k ∷ places_from test (suc k) xs) (places_from test (suc k) xs)) j ≡ Some p → (q : ℕ) × (p ≡ k + q) × (y : A) × (slice_get (x ∷ xs) q ≡ Some y) × (test y ≡ true)
-    by true is zero rest f = let same : k ≡ p = cc in (0, omega arith, x, refl, is)
-    by true is (suc i) rest f = let h = rest i f in (suc h.0, omega (arith, h.1), h.2, h.3, h.4)
-    by false is i rest f = let h = rest i f in (suc h.0, omega (arith, h.1), h.2, h.3, h.4)
 
 pub dropped : {A : Type 0} (xs ys : List A) (k : ℕ) (y : A) → drop k xs ≡ y ∷ ys → (slice_get xs k ≡ Some y) × (drop (suc k) xs ≡ ys)
 dropped [] ys zero y e = cc

@@ -1,28 +1,25 @@
 -- The frame of tables whose root modules have one period is one round: paths and nodes are the root selections, and no limit of frames
 -- is exceeded.
-use Rattle.std.proofs.Common.{◌≡◌, ℕ, zero, suc, ◌+◌, ◌*◌, ◌/◌, ◌%◌, ◌≤◌, ◌<◌, ◌⊎◌, min, max, Bool, true, false, cond, eqb, ltb, List, [], ◌∷◌, length, map, drop, get_or, slice_get, Option, Some, None, option_map, refl, sym, ap, ◌∙◌, subst, arith, inl, inr, append-nil}
+use Rattle.std.proofs.Common.{◌≡◌, ℕ, zero, suc, ◌+◌, ◌*◌, ◌/◌, ◌%◌, ◌≤◌, ◌<◌, ◌⊎◌, min, Bool, true, false, cond, eqb, ltb, List, [], ◌∷◌, length, map, drop, get_or, slice_get, Option, Some, None, option_map, refl, sym, ap, ◌∙◌, subst, arith, inl, inr, append-nil}
 use Rattle.std.specs.List.{count_by, flat_map}
-use Rattle.std.proofs.lemmas.Bool.{eqb-true}
 use Rattle.std.proofs.lemmas.Bool.Decides.{nat_tests}
 use Rattle.std.proofs.lemmas.Option.{slice_get-get_or, slice_get_within}
 use Rattle.std.proofs.Math.Nat.{mod_self, div-eq_of_eq-mul_right}
 use Rattle.htl_model.proofs.FrameLimits.{one_divides}
 use Rattle.htl_model.proofs.LimitCode.{over_no, rest_is, limit_none, limit_rest}
-use Rattle.htl_model.proofs.SelectionLaws.{modes_some, root_period_is}
+use Rattle.htl_model.proofs.FrameRules.{kept_apart}
+use Rattle.htl_model.proofs.SelectionLaws.{place_passes_0}
 use Rattle.htl_model.specs.Broken.{KeptTo, KeepsLimits}
-use Rattle.htl_model.specs.FormRules.{RootPeriod, Itself}
-use Rattle.htl_model.specs.FrameRules.{KeptApart}
 use Rattle.htl_model.specs.Frames.{gcd_in, common_multiple, multiple_of, unit_period, starts_below, starts, rounds, rounds_of, rounds_at, choices, paths, nodes, node, nodes_of, most_invs, most_positions, too_long, frame_limit, other_limit}
 use Rattle.htl_model.specs.Lists.{places_from, list_to}
-use Rattle.htl_model.specs.PeriodRules.{first_mode}
-use Rattle.htl_model.specs.Ranges.{AreInRange, IsModeInRange, parent_of}
-use Rattle.htl_model.specs.Selections.{is_root, root_modules, modes_of, mode_of_module, inv_of_mode, invs_of, choices_from, selection_count, root_period, round_length}
-use Rattle.htl_model.specs.Tables.{Tables, mode_period}
+use Rattle.htl_model.specs.Ranges.{AreInRange}
+use Rattle.htl_model.specs.Selections.{is_root, root_modules, modes_of, mode_of_module, inv_of_mode, invs_of, choices_from, selection_count, round_length}
+use Rattle.htl_model.specs.Tables.{Tables}
 use Rattle.htl_model.specs.declared.frame.Round.{Round}
 use Rattle.htl_model.specs.declared.parts.Inv.{Inv}
 use Rattle.htl_model.specs.declared.parts.Mode.{Mode}
 use Rattle.htl_model.specs.declared.parts.Module.{Module}
-use Rattle.htl_object.proofs.Limits.{count_places, place_passes, dropped, root_same}
+use Rattle.htl_object.proofs.Limits.{count_places, dropped, root_same}
 use Rattle.htl_object.proofs.Widest.{most_few}
 use Rattle.htl_object.specs.Accepted.{IsFormed}
 use Rattle.htl_object.specs.Files.{widest_to, positions_to}
@@ -30,11 +27,10 @@ use Rattle.htl_object.specs.Laws.{RoundsAreFrames}
 use Rattle.htl_object.specs.Modules.{is_mode_of}
 use Rattle.htl_object.specs.declared.object.Object.{Object}
 use Rattle.htl_walk.proofs.Accepted.{one_list_accepted}
+use Rattle.htl_walk.proofs.EqualPeriods.{first_round}
+use Rattle.htl_walk.proofs.EqualPeriods.{one_round as round_period}
 use Rattle.htl_walk.proofs.OnePeriod.{one_period}
-use Rattle.htl_walk.proofs.PathReady.{IsRootAt, as_unit}
-use Rattle.htl_walk.proofs.Steps.{apart}
-use Rattle.htl_walk.proofs.Work.{all_at}
-use Rattle.htl_walk.specs.EqualPeriods.{AllHave, HasOnePeriod, AreRounds}
+use Rattle.htl_walk.specs.EqualPeriods.{AllHave, RootsHaveOnePeriod, HasOnePeriod, AreRounds}
 use Rattle.htl_walk.specs.Feasible.{AreFeasible, lists_of}
 use Rattle.htl_walk.specs.Jobs.{abstract_jobs}
 use Rattle.htl_walk.specs.PathJobs.{path_jobs, legs}
@@ -43,12 +39,6 @@ use Rattle.htl_walk.specs.Paths.{Leg, IsPathAccepted}
 use Rattle.htl_walk.specs.Walk.{IsAccepted}
 use Rattle.htl_walk.specs.declared.job.Job.{Job}
 use Rattle.htl_walk.specs.declared.schedule.SInstr.{SInstr}
-
-passes_0 : {A : Type 0} (test : A → Bool) (j p : ℕ) (xs : List A) → slice_get (places_from test 0 xs) j ≡ Some p → (x : A) × (slice_get xs p ≡ Some x) × (test x ≡ true)
-passes_0 test j p xs e =
-    let h = place_passes test 0 j p xs e in
-    let same : h.0 ≡ p = omega (arith, h.1) in
-    (h.2, ap (slice_get xs) (sym same) ∙ h.3, h.4)
 
 -- ---- the most positions
 
@@ -79,7 +69,7 @@ module _ (t : Tables) where
     where
       each : (j m : ℕ) → slice_get (modes_of t k) j ≡ Some m → length (invs_of t m) ≤ widest_to t.modes t.invs k (length t.modes)
       each j m at =
-          let x = passes_0 (mode_of_module k) j m t.modes at in
+          let x = place_passes_0 (mode_of_module k) j m t.modes at in
           let inside : m < length t.modes = slice_get_within t.modes m x.0 x.1 in
           let is : is_mode_of t.modes k m ≡ true = ap (λ (o : Option Mode). elim o as (λ _. Bool) [ Some y ↦ eqb y.«module» k | None ↦ false ]) x.1 ∙ x.2 in
           omega (arith, count_places (inv_of_mode m) 0 t.invs, wide_at t.modes t.invs k m (length t.modes) inside is)
@@ -146,84 +136,13 @@ same_multiple zero l = absurd (omega arith)
 same_multiple (suc p) l =
     ap (λ n. suc p / n * suc p) (same_divisor p) ∙ (let e : suc p / suc p ≡ 1 = (div-eq_of_eq-mul_right (omega arith) (let f : suc p ≡ suc p * 1 = omega arith in f)) in ap (λ n. n * suc p) e ∙ omega arith)
 
-no_parent : (x : Module) (o : Option ℕ) → x.parent ≡ o → is_root x ≡ true → o ≡ None
-no_parent x None e h = refl
-no_parent x (Some p) e h = absurd (let no : false ≡ true = sym (ap (λ (q : Option ℕ). elim q as (λ _. Bool) [ Some r ↦ false | None ↦ true ]) e) ∙ h in cc)
-
-period_at : (t : Tables) (m : ℕ) (x : Mode) → slice_get t.modes m ≡ Some x → mode_period t m ≡ x.period
-period_at t m x at = ap (λ (o : Option Mode). elim o as (λ _. ℕ) [ Some y ↦ y.period | None ↦ 0 ]) at
-
-first_there : (xs : List ℕ) (j x : ℕ) → slice_get xs j ≡ Some x → slice_get xs 0 ≡ Some (get_or xs 0 0)
-first_there [] j x e = cc
-first_there (y ∷ ys) j x e = refl
-
-module _ (t : Tables) (r : AreInRange t) (kept : KeptTo t 12) where
-  pub kept_apart : KeptApart t 12
-  kept_apart rule s have need small other broken = kept rule s have need small broken
-
-  -- the first mode of a root module
-  first_of : (u : ℕ) → u < length t.modules → (x : Mode) × (slice_get (modes_of t u) 0 ≡ Some (get_or (modes_of t u) 0 0)) × (slice_get t.modes (get_or (modes_of t u) 0 0) ≡ Some x) × (x.«module» ≡ u)
-  first_of u below =
-      let m : ℕ = get_or (modes_of t u) 0 0 in
-      let first : slice_get (modes_of t u) 0 ≡ Some m = slice_get-get_or (modes_of t u) 0 0 (modes_some t u r below) in
-      let y = passes_0 (mode_of_module u) 0 m t.modes first in
-      (y.0, first, y.1, eqb-true y.0.«module» u y.2)
-
-  root_at : (j u : ℕ) → slice_get (root_modules t) j ≡ Some u → IsRootAt t u × (u < length t.modules)
-  root_at j u at =
-      let x = passes_0 is_root j u t.modules at in
-      (record { owner = x.0; at = x.1; root = x.2 }, slice_get_within t.modules u x.0 x.1)
-
-  -- the round has the period of the first root module's first mode
-  round_is : (j u : ℕ) → slice_get (root_modules t) j ≡ Some u → root_period t ≡ Some (round_length t)
-  round_is j u at =
-      let f : ℕ = get_or (root_modules t) 0 0 in
-      let is : Some (mode_period t (get_or (modes_of t f) 0 0)) ≡ root_period t = root_period_is t f (mode_period t (get_or (modes_of t f) 0 0)) r (first_there (root_modules t) j u at) refl in
-      sym is ∙ ap (λ (o : Option ℕ). Some (elim o as (λ _. ℕ) [ Some q ↦ q | None ↦ 0 ])) is
-
-  orphan : (u : ℕ) → IsRootAt t u → parent_of t u ≡ None
-  orphan u h = ap (λ (o : Option Module). elim o as (λ _. Option ℕ) [ Some x ↦ x.parent | None ↦ None ]) h.at ∙ no_parent h.owner h.owner.parent refl h.root
-
-  -- a root module has the period of the round
-  unit_round : (j u : ℕ) → slice_get (root_modules t) j ≡ Some u → (unit_period t u ≡ round_length t) × (0 < round_length t)
-  unit_round j u at =
-      let here = root_at j u at in
-      let m : ℕ = get_or (modes_of t u) 0 0 in
-      let first = first_of u here.1 in
-      let x : Mode = first.0 in
-      let unit : mode_period t m ≡ unit_period t u = as_unit t u m x r kept_apart here.0 first.2 first.3 in
-      let is : mode_period t m ≡ x.period = period_at t m x first.2 in
-      let some : 0 < x.period = (all_at (IsModeInRange t) t.modes r.modes m x first.2).period.some in
-      elim (apart x.period (round_length t)) [
-        | inl same ↦ (sym unit ∙ is ∙ same, omega (arith, same, some))
-        | inr differs ↦
-            absurd (kept RootPeriod (record { mode = m; inv = None; part = Itself }) x.period (round_length t) (omega arith)
-            (x, first.2, record { root = ap (parent_of t) first.3 ∙ orphan u here.0; first = ap (first_mode t) first.3 ∙ first.1; period = refl; asked = round_is j u at; differs = differs }))
-      ]
-
-  all_have : (us : List ℕ) → ((j u : ℕ) → slice_get us j ≡ Some u → unit_period t u ≡ round_length t) → AllHave t (round_length t) us
-  all_have [] h = tt
-  all_have (u ∷ us) h = (h 0 u refl, all_have us (λ j v at. h (suc j) v at))
-
-  -- the round is at most a million ticks long
-  round_small : (j u : ℕ) → slice_get (root_modules t) j ≡ Some u → round_length t ≤ 1000000
-  round_small j u at =
-      let here = root_at j u at in
-      let first = first_of u here.1 in
-      let unit = as_unit t u (get_or (modes_of t u) 0 0) first.0 r kept_apart here.0 first.2 first.3 in
-      let most = (all_at (IsModeInRange t) t.modes r.modes (get_or (modes_of t u) 0 0) first.0 first.2).period.most in
-      omega (arith, unit, most, period_at t (get_or (modes_of t u) 0 0) first.0 first.2, (unit_round j u at).0)
-
+module _ (t : Tables) (r : AreInRange t) (kept : KeptTo t 12) (one : RootsHaveOnePeriod t) where
   module _ (some : 0 < length (root_modules t)) where
     first_root : slice_get (root_modules t) 0 ≡ Some (get_or (root_modules t) 0 0)
     first_root = slice_get-get_or (root_modules t) 0 0 some
 
     pub one_round : HasOnePeriod t (round_length t)
-    one_round = record {
-      some = some;
-      positive = (unit_round 0 (get_or (root_modules t) 0 0) first_root).1;
-      each = all_have (root_modules t) (λ j u at. (unit_round j u at).0);
-    }
+    one_round = round_period t r (kept_apart t 12 kept) one some
 
     pub are_rounds : AreRounds t (round_length t)
     are_rounds = one_period t (round_length t) one_round
@@ -235,7 +154,7 @@ module _ (t : Tables) (r : AreInRange t) (kept : KeptTo t 12) where
         let p : ℕ = round_length t in
         let is : common_multiple m (unit_period t u) ≡ p = ap (common_multiple m) a.0 ∙ e in
         ap (λ (n : ℕ). cond (ltb 1000000 n) (Some (u, n)) (too_long t n us)) is
-        ∙ ap (λ (b : Bool). cond b (Some (u, p)) (too_long t p us)) (small p (round_small 0 (get_or (root_modules t) 0 0) first_root))
+        ∙ ap (λ (b : Bool). cond b (Some (u, p)) (too_long t p us)) (small p (first_round t r (kept_apart t 12 kept) (get_or (root_modules t) 0 0) first_root).2)
         ∙ none_long us p (same_multiple p one_round.positive) a.1
       where
         small : (p : ℕ) → p ≤ 1000000 → ltb 1000000 p ≡ false
@@ -316,9 +235,9 @@ module _ (t : Tables) (r : AreInRange t) (kept : KeptTo t 12) where
             (subst (λ (gs : List Leg). IsPathAccepted (abstract_jobs t sel) gs (lists_of t lists sel)) (a.legs sel)
             (subst (λ (js : List Job). IsPathAccepted js (legs t sel) (lists_of t lists sel)) (a.jobs sel) here)))
 
--- an object that breaks no form rule has as many schedules as root selections
-pub schedules_are : (o : Object) → IsFormed o → length o.schedules ≡ selection_count o.tables
-schedules_are o h = h.ranges.schedules ∙ nodes_are o.tables h.ranges.tables (λ r s have need small broken. h.formed r s have need broken)
+-- an object that breaks no form rule, and whose root modules have one period, has as many schedules as root selections
+pub schedules_are : (o : Object) → IsFormed o → RootsHaveOnePeriod o.tables → length o.schedules ≡ selection_count o.tables
+schedules_are o h one = h.ranges.schedules ∙ nodes_are o.tables h.ranges.tables (λ r s have need small broken. h.formed r s have need broken) one
 
 pub rounds_are_frames : RoundsAreFrames
-rounds_are_frames t lists r kept limits = (no_limit t r kept limits, nodes_are t r kept, (feasible t r kept lists, each_round t r kept lists))
+rounds_are_frames t lists r kept one limits = (no_limit t r kept one limits, nodes_are t r kept one, (feasible t r kept one lists, each_round t r kept one lists))

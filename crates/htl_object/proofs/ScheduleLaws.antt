@@ -1,9 +1,8 @@
 -- Schedules, and lists of them with equal ones written once: what is spelled is read, and what is read is spelled so.
-use Rattle.std.proofs.Common.{◌≡◌, ◌≤◌, ◌<◌, ◌^◌, ℕ, zero, suc, max, ◌+◌, Bool, true, false, not, cond, List, [], ◌∷◌, ◌++◌, length, map, get_or, All, refl, sym, ap, subst, ◌∙◌, arith, append_assoc, append-nil}
+use Rattle.std.proofs.Common.{◌≡◌, ◌≤◌, ◌<◌, ◌^◌, ℕ, zero, suc, max, ◌+◌, Bool, true, false, not, List, [], ◌∷◌, ◌++◌, length, map, get_or, All, refl, sym, ap, subst, ◌∙◌, arith, append_assoc, append-nil}
 use Rattle.std.specs.Prelude.{nat_le}
 use Rattle.std.specs.Int.{w16, w32, to_be_bytes}
 use Rattle.std.specs.List.{list_any, flat_map}
-use Rattle.std.specs.Cmp.Lexicographic.{pointwise}
 use Rattle.std.specs.Str.{bytes_eq}
 use Rattle.std.proofs.lemmas.Bool.{false≢true, not-true, leb-true, le-leb}
 use Rattle.std.proofs.lemmas.List.{length-map}
@@ -20,11 +19,11 @@ use Rattle.htl_object.specs.declared.malformed.MalKind.TheVariants.{Index, Spell
 use Rattle.htl_object.proofs.Lawful.{IsCodec, given-value, field, last, checked, counted, items, whole}
 use Rattle.htl_object.proofs.FieldLaws.{number16, number32}
 use Rattle.htl_object.proofs.InstructionLaws.{s_instr}
-use Rattle.htl_object.specs.Blocks.{instr_numbers, same_instr, same_schedule, with_block, blocks_from, number_in, numbers_from, block_numbers, block_list, blocks_bytes, count_from, block_count, block_number_at, is_new, block_at, schedules_of, blocks_at}
+use Rattle.htl_object.specs.Blocks.{instr_numbers, same_schedule, with_block, blocks_from, number_in, numbers_from, block_numbers, block_list, blocks_bytes, count_from, block_count, block_number_at, is_new, block_at, schedules_of, blocks_at}
 use Rattle.htl_object.specs.Ranges.{IsShort}
 use Rattle.htl_object.proofs.BlockSpellings.{numbers_spelled, blocks_spelled}
 use Rattle.htl_object.proofs.Each.{every}
-use Rattle.htl_object.proofs.BlockLaws.{said, step, length-numbers, length-blocks, Steps, News, Apart, count_from-least, back, with_block-new, with_block-old}
+use Rattle.htl_object.proofs.BlockLaws.{said, step, length-numbers, length-blocks, Steps, News, count_from-least, back, with_block-new, with_block-old}
 
 -- ---- one schedule
 

@@ -1,5 +1,5 @@
 -- Schedules with equal ones written once: for each schedule the number of its block, and then the blocks.
-use Rattle.std.specs.Prelude.{◌≡◌, ℕ, suc, max, not, nat_le, Bool, cond, List, [], ◌∷◌, ◌++◌, length, map, get_or, Ok, All}
+use Rattle.std.specs.Prelude.{◌≡◌, ℕ, suc, max, not, nat_le, Bool, cond, List, [], ◌∷◌, ◌++◌, map, get_or, Ok, All}
 use Rattle.std.specs.Int.{w16, to_be_bytes}
 use Rattle.std.specs.List.{flat_map, list_any, position_or_len}
 use Rattle.std.specs.Str.{bytes_eq}

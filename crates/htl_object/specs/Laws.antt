@@ -9,6 +9,7 @@ use Rattle.htl_object.specs.Files.{first_bad}
 use Rattle.htl_object.specs.Objects.{object_bytes, object_in, IsObject}
 use Rattle.htl_object.specs.Reading.{IsBytes}
 use Rattle.htl_object.specs.declared.object.Object.{Object}
+use Rattle.htl_walk.specs.EqualPeriods.{RootsHaveOnePeriod}
 use Rattle.htl_walk.specs.Feasible.{AreFeasible}
 use Rattle.htl_walk.specs.Jobs.{abstract_jobs}
 use Rattle.htl_walk.specs.Walk.{IsAccepted}
@@ -34,6 +35,6 @@ SaysItself = (o : Object) → IsObject o → object_in (object_bytes o) ≡ Ok o
 -- every path accepts its lists exactly where every root selection accepts its schedule.
 abbrev pub RoundsAreFrames : Type 0
 RoundsAreFrames =
-    (t : Tables) (lists : List (List SInstr)) → AreInRange t → KeptTo t 12 → KeepsLimits t
+    (t : Tables) (lists : List (List SInstr)) → AreInRange t → KeptTo t 12 → RootsHaveOnePeriod t → KeepsLimits t
     → (frame_limit t ≡ None) × (nodes t ≡ selection_count t)
     × (((sel : ℕ) → sel < selection_count t → IsAccepted (abstract_jobs t sel) (round_length t) (get_or lists sel [])) ↔ AreFeasible t lists)

@@ -1,8 +1,7 @@
 -- The test of names is true exactly where they are the same.
-use Rattle.std.specs.Prelude.{◌≡◌, ◌∷◌, ◌++◌, ◌==◌, ℕ, Bool, true, false, ◌&&◌, eqb, List, [], IsTrue}
+use Rattle.std.specs.Prelude.{◌≡◌, ◌∷◌, ◌++◌, ℕ, Bool, true, false, ◌&&◌, eqb, List, [], IsTrue}
 use Rattle.std.specs.Bool.{Decides}
 use Rattle.std.specs.Hash as fed
-use Rattle.std.specs.Int.{w16}
 use Rattle.std.specs.Str.{bytes_eq}
 use Rattle.std.proofs.Common.{refl, sym, ◌∙◌, ap, subst, eqb-true, eq-eqb}
 use Rattle.std.proofs.lemmas.Slice.Eq.{bytes_eq-Decides}

@@ -5,6 +5,7 @@ ghost use Rattle.htl_object.specs.Files.{is_root, selections_to, selections_of, 
 
 use crate::declaration_reader::is_mode_of;
 use htl_base::limits::{MAX_MODES, MAX_POSITIONS, MAX_SELECTIONS};
+use htl_model::items::count_invs;
 use htl_model::{Inv, Mode, Module, Tables, Task};
 
 fn is_root(modules: &[Module], k: usize) -> bool
@@ -20,20 +21,6 @@ fn mode_count(modes: &[Mode], k: usize) -> usize
     ensures { result ≡ count_by (λ q. q.«module» == k) modes.now }
 {
     modes.iter().filter(|q| q.module as usize == k).count()
-}
-
-// Counts the invocations of each mode.
-fn count_invs(invs: &[Inv], counts: &mut [usize])
-    requires { (m : ℕ) → get_or counts.old m 0 ≡ 0 }
-    ensures counts { (m : ℕ) → m < length counts.new → get_or counts.new m 0 ≡ count_by (λ i. i.mode == m) invs.now }
-    ensures len { length counts.new ≡ length counts.old }
-{
-    for k in 0..invs.len() {
-        let mode = invs[k].mode as usize;
-        if mode < counts.len() {
-            counts[mode] += 1;
-        }
-    }
 }
 
 fn inv_count(counts: &[usize], invs: &[Inv], mode: usize) -> usize

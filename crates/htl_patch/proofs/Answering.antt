@@ -1,7 +1,7 @@
 -- The answers of patching.
-use Rattle.std.proofs.Common.{◌≡◌, ◌<◌, ℕ, List, length, Option, Some, None, Result, Ok, Err, IfOk, IfErr, MatchResult, All, refl, sym, ◌∙◌, ap, subst}
+use Rattle.std.proofs.Common.{◌≡◌, ℕ, List, Option, Some, None, Result, Ok, Err, IfOk, IfErr, MatchResult, All, refl, sym, ◌∙◌, ap, subst}
 use Rattle.htl_load.specs.Alike.{AskTheSame}
-use Rattle.htl_model.specs.Broken.{Formed, KeepsLimits}
+use Rattle.htl_model.specs.Broken.{KeepsLimits}
 use Rattle.htl_model.specs.Tables.{Tables}
 use Rattle.htl_object.specs.Accepted.{IsAccepted}
 use Rattle.htl_object.specs.Ranges.{IsInRange, IsCode}
@@ -10,13 +10,13 @@ use Rattle.htl_patch.specs.Answering.{IsPatched, IsHandedBackBy, IsPatchStop, Is
 use Rattle.htl_patch.specs.Joining.{mode_named, graft_by, graft_of, Joins}
 use Rattle.htl_patch.specs.Object.{patched_object, CanPatch}
 use Rattle.htl_patch.specs.Patched.{patched}
-use Rattle.htl_patch.specs.Stops.{IsGraftFault, IsFaultBy, IsPatchFault, IsHandedBack, IsEarlyFault, IsTablesFault, IsTablesStop, IsAcceptedWith, object_with}
+use Rattle.htl_patch.specs.Stops.{IsGraftFault, IsFaultBy, IsPatchFault, IsHandedBack, IsEarlyFault, IsTablesFault, IsTablesStop, IsAcceptedWith}
 use Rattle.htl_patch.specs.United.{Graft, graft}
 use Rattle.htl_patch.specs.declared.fault.PatchFault.{PatchFault}
 use Rattle.htl_patch.specs.declared.fault.PatchFault.TheVariants as fault
 use Rattle.htl_patch.specs.declared.fault.PatchStop.{PatchStop}
 use Rattle.htl_patch.specs.declared.fault.PatchStop.TheVariants as stop
-use Rattle.htl_patch.proofs.Accepting.{IsGraftOf, graft_is, tables_keep_limits, tables_are_code, ask_the_same}
+use Rattle.htl_patch.proofs.Accepting.{graft_is, tables_keep_limits, tables_are_code, ask_the_same}
 use Rattle.htl_patch.proofs.OneStop.{one_patch_fault}
 use Rattle.htl_patch.proofs.Stopping.{patch_not_refused}
 

@@ -1,5 +1,5 @@
 -- From the parts of the patched tables to the answer.
-use Rattle.std.proofs.Common.{◌≡◌, ◌<◌, ℕ, List, length, Option, Some, None, Result, Ok, Err, IfOk, IfErr, MatchResult, refl, sym, ◌∙◌, ap, subst}
+use Rattle.std.proofs.Common.{◌≡◌, ℕ, List, Some, None, ◌∙◌, ap}
 use Rattle.htl_model.specs.Tables.{Tables, Fun}
 use Rattle.htl_model.specs.declared.parts.Comm.{Comm}
 use Rattle.htl_model.specs.declared.parts.Inv.{Inv}
@@ -8,13 +8,9 @@ use Rattle.htl_model.specs.declared.parts.Module.{Module}
 use Rattle.htl_model.specs.declared.parts.Port.{Port}
 use Rattle.htl_model.specs.declared.parts.Switch.{Switch}
 use Rattle.htl_model.specs.declared.parts.Task.{Task}
-use Rattle.htl_object.specs.Accepted.{IsAccepted}
-use Rattle.htl_object.specs.Ranges.{IsInRange}
-use Rattle.htl_object.specs.declared.object.Object.{Object}
-use Rattle.htl_patch.specs.Joining.{graft_of, first_stray, first_twice, first_limit, Joins}
-use Rattle.htl_patch.specs.Object.{patched_object, CanPatch}
+use Rattle.htl_patch.specs.Joining.{first_limit, Joins}
 use Rattle.htl_patch.specs.Patched.{patched}
-use Rattle.htl_patch.specs.Stops.{AreMet, IsJoinFault, IsEarlyFault, IsGraftFault, IsFaultBy, IsPatchFault, IsHandedBack}
+use Rattle.htl_patch.specs.Stops.{AreMet, IsJoinFault, IsEarlyFault}
 use Rattle.htl_patch.specs.United.{Graft}
 use Rattle.htl_patch.specs.declared.fault.PatchFault.{PatchFault}
 use Rattle.htl_patch.specs.declared.fault.PatchFault.TheVariants as fault

@@ -3,7 +3,6 @@ use Rattle.std.proofs.Common.{◌≡◌, ◌≤◌, ◌<◌, ℕ, zero, suc, ◌
 use Rattle.std.proofs.lemmas.List.{length-map}
 use Rattle.std.specs.List.Sorted.{IsNonDecreasing}
 use Rattle.htl_model.specs.Ranges.{AreInRange, IsModeInRange, IsPortInRange, IsTaskInRange, IsInvInRange, IsSwitchInRange}
-use Rattle.htl_model.specs.Tables.{Tables}
 use Rattle.htl_model.specs.declared.parts.Inv.{Inv}
 use Rattle.htl_model.specs.declared.parts.Mode.{Mode}
 use Rattle.htl_model.specs.declared.parts.Port.{Port}

@@ -1,5 +1,5 @@
 -- Numbers below a bound of which none comes twice are no more than the bound.
-use Rattle.std.proofs.Common.{◌≡◌, ◌≤◌, ◌<◌, ℕ, suc, Bool, true, false, eqb, get_or, List, [], ◌∷◌, length, slice_get, Some, All, refl, sym, ◌∙◌, ap, arith}
+use Rattle.std.proofs.Common.{◌≤◌, ◌<◌, ℕ, eqb, get_or, List, length, Some, All, ◌∙◌, ap, arith}
 use Rattle.std.specs.List.{IsDistinct}
 use Rattle.std.proofs.lemmas.Bool.Decides.{Decides-eqb}
 use Rattle.std.proofs.lemmas.Map.Made.{IsDistinct-from_AllPairs}
@@ -7,7 +7,6 @@ use Rattle.std.proofs.lemmas.Map.Steps.{length-le_from_distinct_below}
 use Rattle.std.proofs.lemmas.Option.{slice_get-get_or}
 use Rattle.htl_model.specs.Lists.{AreApart}
 use Rattle.htl_patch.proofs.Grafting.{all_at}
-use Rattle.htl_patch.proofs.Members.{Has}
 use Rattle.htl_patch.proofs.Taking.{any_has}
 
 distinct : (xs : List ℕ) → AreApart xs → IsDistinct eqb xs

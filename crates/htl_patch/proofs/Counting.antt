@@ -1,29 +1,15 @@
 -- Lists by their members, counts of functions, and levels.
-use Rattle.std.proofs.Common.{◌≡◌, ◌≤◌, ◌<◌, ◌⊎◌, inl, inr, ℕ, zero, suc, ◌+◌, min, max, Bool, true, false, cond, eqb, eqb-true, eq-eqb, List, [], ◌∷◌, ◌++◌, length, length-append, map, take, drop, get_or, slice_get, Option, Some, None, IfSome, All, option_map, refl, sym, ◌∙◌, ap, subst, arith}
+use Rattle.std.proofs.Common.{◌≡◌, ◌≤◌, ◌<◌, ◌⊎◌, inl, inr, ℕ, zero, suc, ◌+◌, Bool, true, false, cond, List, [], ◌∷◌, ◌++◌, length, map, take, drop, get_or, slice_get, Option, Some, None, All, refl, sym, ◌∙◌, ap, subst, arith}
 use Rattle.std.specs.List.{flat_map, count_by}
 use Rattle.std.specs.List.Sorted.{IsNonDecreasing}
-use Rattle.std.proofs.lemmas.List.{length-map}
 use Rattle.std.proofs.lemmas.List.Sums.{sum_by-cons}
 use Rattle.std.proofs.lemmas.Option.{slice_get_within, slice_get-get_or}
-use Rattle.htl_base.specs.declared.limits.TheConstants.{MAX_MODULES, MAX_MODES, MAX_PORTS, MAX_TASKS, MAX_INVOCATIONS, MAX_SWITCHES, MAX_MODE_INVOCATIONS}
 use Rattle.htl_model.specs.Lists.{places_from, AreApart}
-use Rattle.htl_model.specs.declared.parts.End.{End}
-use Rattle.htl_model.specs.declared.parts.End.TheVariants as E
-use Rattle.htl_model.specs.declared.parts.Inv.{Inv}
-use Rattle.htl_model.specs.declared.parts.Mode.{Mode}
-use Rattle.htl_model.specs.declared.parts.Module.{Module}
-use Rattle.htl_model.specs.declared.parts.Port.{Port}
-use Rattle.htl_model.specs.declared.parts.Switch.{Switch}
 use Rattle.htl_model.specs.declared.parts.Task.{Task}
-use Rattle.htl_model.proofs.Apart.{different, different_owned, different_pairs}
-use Rattle.htl_model.specs.Ranges.{are_different, are_different_owned, are_different_pairs, IsSpan, AreInRange, IsModeInRange, IsModuleInRange, IsPortInRange, IsTaskInRange, IsInvInRange, IsEndInRange, IsSwitchInRange, IsFunInRange, IsModeThat, is_within, parent_of}
-use Rattle.htl_model.specs.Selections.{mode_of_module, modes_of, inv_of_mode, invs_of}
-use Rattle.htl_model.specs.Tables.{Tables, Fun, mode_module, function_count, count_at, count_before, switch_function}
+use Rattle.htl_model.specs.Ranges.{is_within, parent_of}
+use Rattle.htl_model.specs.Tables.{Tables, mode_module, function_count, count_before}
 use Rattle.htl_patch.specs.Joining.{level}
-use Rattle.htl_patch.specs.Renumbered.{place_among, tasks_of, ports_of, switches_of, task_of_module, port_of_mode, switch_of_mode, Numbering, numbering, mode_at, module_at, port_at, task_at, inv_at, switch_at, new_mode, new_module, new_port, new_task, new_inv, new_switch, new_end, functions_of, function_of_switch, renumbered}
-use Rattle.htl_patch.proofs.Members.{Has, none, some_eq, same_or, differ, has_either, of_flat, in_flat, get_front, get_map, of_map, get_some, of_places_0, in_places_0, place_get, place_below, place_at, place_one, places_passing_0, places_nothing}
-use Rattle.htl_patch.proofs.Renumbering.{mode_there, mode_owner, inv_there, inv_owner, task_there, task_owner, port_there, port_owner, switch_there, switch_owner, modes_apart, tasks_apart, ports_apart, invs_apart, switches_apart, modes_new, invs_new, mode_new, module_new, task_new, inv_new}
-use Rattle.htl_patch.proofs.Sound.{mode_key, port_key, task_key, inv_key, IsSound, IsSoundTask, IsSoundInv, IsSoundSwitch, IsOrder}
+use Rattle.htl_patch.proofs.Members.{Has, none, some_eq, of_flat, get_map, of_map}
 
 -- ---- lists
 

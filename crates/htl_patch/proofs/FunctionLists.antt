@@ -1,11 +1,11 @@
 -- Functions in memory and in the tables.
-use Rattle.std.proofs.Common.{◌≡◌, ◌≤◌, ◌<◌, ◌+◌, ℕ, zero, suc, false, List, [], ◌∷◌, ◌++◌, length, map, take, drop, get_or, slice_get, Option, Some, None, All, refl, sym, ◌∙◌, ap, subst, arith, append_assoc, append-nil}
+use Rattle.std.proofs.Common.{◌≡◌, ◌≤◌, ◌<◌, ◌+◌, ℕ, zero, suc, false, List, [], ◌∷◌, ◌++◌, length, map, take, drop, get_or, slice_get, Some, All, refl, sym, ◌∙◌, ap, arith, append_assoc, append-nil}
 use Rattle.std.specs.List.{flat_map}
 use Rattle.std.proofs.lemmas.List.{length-map}
 use Rattle.std.proofs.lemmas.Option.{slice_get-get_or}
 use Rattle.htl_model.proofs.Listed.{length-list_to}
 use Rattle.htl_model.specs.Ranges.{AreInRange, IsTaskInRange}
-use Rattle.htl_model.specs.Tables.{Tables, Fun, fun_of, tables_of, function_count, count_at, count_before}
+use Rattle.htl_model.specs.Tables.{Tables, Fun, fun_of, function_count, count_at, count_before}
 use Rattle.htl_model.specs.declared.function.Function.{Function}
 use Rattle.htl_model.specs.declared.parts.Task.{Task}
 use Rattle.htl_object.proofs.FunctionPlaces.{task_there}

@@ -1,5 +1,5 @@
 -- The functions of what is taken, by where they stand in their own program.
-use Rattle.std.proofs.Common.{◌≡◌, ◌≤◌, ◌<◌, ◌+◌, ◌-◌, ℕ, zero, suc, List, [], ◌∷◌, ◌++◌, length, length-append, length-drop, append_assoc, map, take, drop, get_or, slice_get, Option, Some, None, refl, sym, ◌∙◌, ap, subst, arith, take-append-drop, pos}
+use Rattle.std.proofs.Common.{◌≡◌, ◌≤◌, ◌<◌, ◌+◌, ◌-◌, ℕ, zero, suc, List, [], ◌∷◌, ◌++◌, length, length-append, length-drop, append_assoc, map, take, drop, get_or, slice_get, Option, Some, refl, sym, ◌∙◌, ap, arith, take-append-drop, pos}
 use Rattle.std.proofs.lemmas.List.{length-map}
 use Rattle.htl_model.specs.Ranges.{AreInRange}
 use Rattle.htl_model.specs.Functions.{Number}
@@ -8,7 +8,7 @@ use Rattle.htl_model.specs.declared.parts.Task.{Task}
 use Rattle.htl_patch.specs.Renumbered.{functions_of, function_of_switch}
 use Rattle.htl_patch.specs.United.{Graft, united, donor_task, donor_switch, output_count, output_functions, switch_functions}
 use Rattle.htl_patch.proofs.Members.{none, get_front, get_back, get_map}
-use Rattle.htl_patch.proofs.Counting.{count_total, count_within, take_length, total}
+use Rattle.htl_patch.proofs.Counting.{count_within, take_length}
 
 -- ---- lists
 

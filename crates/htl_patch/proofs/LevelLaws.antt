@@ -1,5 +1,5 @@
 -- Levels by going up from module to module.
-use Rattle.std.proofs.Common.{◌≡◌, ◌≤◌, ◌<◌, ◌+◌, ◌-◌, ℕ, zero, suc, max, List, [], ◌∷◌, ◌++◌, Option, Some, None, refl, sym, ◌∙◌, ap, subst, arith}
+use Rattle.std.proofs.Common.{◌≡◌, ◌≤◌, ◌<◌, ◌+◌, ◌-◌, ℕ, zero, suc, max, List, [], ◌∷◌, ◌++◌, Option, Some, None, refl, sym, ap, arith}
 use Rattle.htl_model.specs.Lists.{list_to}
 use Rattle.htl_model.specs.Ranges.{parent_of}
 use Rattle.htl_model.specs.Tables.{Tables, mode_module, greatest}

@@ -25,7 +25,6 @@ pub mod NumberLaws
 pub mod OneStop
 pub mod OwnerLaws
 pub mod Parents
-pub mod PhaseLaws
 pub mod PlacedLaws
 pub mod Ranging
 pub mod Renumbering

@@ -1,6 +1,5 @@
 -- What one owner owns stands in one run of the list, where owners don't fall.
-use Rattle.std.proofs.Common.{◌≡◌, ◌≤◌, ◌<◌, ◌⊎◌, inl, inr, ℕ, zero, suc, ◌+◌, Bool, true, false, cond, eqb, eqb-true, eq-eqb, List, [], ◌∷◌, ◌++◌, length, map, drop, get_or, slice_get, Some, refl, sym, ◌∙◌, ap, subst, arith, append_assoc, append-nil}
-use Rattle.std.specs.List.{flat_map}
+use Rattle.std.proofs.Common.{◌≡◌, ◌≤◌, ◌<◌, ◌⊎◌, inl, inr, ℕ, zero, suc, ◌+◌, Bool, true, false, cond, eqb, eq-eqb, List, [], ◌∷◌, ◌++◌, length, map, drop, get_or, slice_get, Some, refl, sym, ◌∙◌, ap, subst, arith, append_assoc, append-nil}
 use Rattle.std.specs.List.Sorted.{IsNonDecreasing}
 use Rattle.std.proofs.lemmas.Option.{slice_get_within, slice_get-get_or}
 use Rattle.htl_model.specs.Lists.{places_from}
@@ -8,7 +7,7 @@ use Rattle.htl_patch.specs.Owners.{is_owner, owned_by}
 use Rattle.htl_patch.specs.Renumbered.{place_among}
 use Rattle.htl_patch.proofs.Grafting.{get_drop}
 use Rattle.htl_patch.proofs.KidLaws.{places_step, places_end}
-use Rattle.htl_patch.proofs.Members.{Has, none, some_eq, same_or, differ, get_some, of_map, place_get, places_nothing}
+use Rattle.htl_patch.proofs.Members.{Has, same_or, differ, get_some, of_map, place_get, places_nothing}
 
 -- nothing stands before the first place
 pub owned_first : (m k : ℕ) (xs : List ℕ) → places_from (is_owner m) k xs ≡ places_from (is_owner m) (k + place_among m xs) (drop (place_among m xs) xs)

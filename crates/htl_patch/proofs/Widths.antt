@@ -1,6 +1,6 @@
 -- No mode of renumbered tables has too many invocations.
-use Rattle.std.proofs.Common.{◌≡◌, ◌≤◌, ℕ, Bool, eqb, List, [], length, map, slice_get, Option, Some, None, refl, sym, ◌∙◌, ap, subst, arith}
-use Rattle.std.specs.List.{flat_map, count_by}
+use Rattle.std.proofs.Common.{◌≡◌, ◌≤◌, ℕ, eqb, List, [], length, slice_get, Option, Some, None, refl, sym, ◌∙◌, ap, subst, arith}
+use Rattle.std.specs.List.{count_by}
 use Rattle.std.proofs.lemmas.List.{length-map}
 use Rattle.htl_base.specs.declared.limits.TheConstants.{MAX_MODE_INVOCATIONS}
 use Rattle.htl_model.specs.Lists.{places_from, AreApart}

@@ -1,6 +1,5 @@
 -- The invocations of the host's mode that stand for those of the donor's, by the names of tasks.
-use Rattle.std.specs.Prelude.{ℕ, ◌+◌, cond, List, [], ◌∷◌, length, map, get_or, Option, Some, None}
-use Rattle.htl_model.specs.declared.parts.Inv.{Inv}
+use Rattle.std.specs.Prelude.{ℕ, cond, List, length, Option, None}
 use Rattle.htl_model.specs.Lists.{list_to}
 use Rattle.htl_patch.specs.Joining.{first}
 use Rattle.htl_patch.specs.United.{Graft, calls_named, call_name, is_of_mode}

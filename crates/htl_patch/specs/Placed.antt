@@ -1,5 +1,5 @@
 -- Items with their new numbers, which lists of new numbers by old ones tell.
-use Rattle.std.specs.Prelude.{◌≡◌, ◌<◌, ℕ, ◌+◌, List, length, map, get_or, Option, Some, None, IfSome, All, option_map}
+use Rattle.std.specs.Prelude.{◌≡◌, ◌<◌, ℕ, ◌+◌, List, length, map, get_or, Option, IfSome, All, option_map}
 use Rattle.htl_model.specs.declared.parts.End.{End}
 use Rattle.htl_model.specs.declared.parts.End.TheVariants as E
 use Rattle.htl_model.specs.declared.parts.Inv.{Inv}

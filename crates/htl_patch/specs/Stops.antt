@@ -1,5 +1,5 @@
 -- Why a refinement isn't replaced.
-use Rattle.std.specs.Prelude.{◌≡◌, ◌≢◌, ◌⊎◌, ℕ, min, List, Option, Some, None, Result, Ok, Err, ◌^◌, ◌-◌}
+use Rattle.std.specs.Prelude.{◌≡◌, ℕ, List, Option, Some, None}
 use Rattle.htl_ecode.specs.Layout.{layout}
 use Rattle.htl_load.specs.Unfit.{IsFirstUnfit}
 use Rattle.htl_load.specs.declared.fault.ObjectFault.{ObjectFault}
@@ -9,7 +9,6 @@ use Rattle.htl_model.specs.FunctionTypes.{FitPlaces}
 use Rattle.htl_model.specs.Tables.{Tables}
 use Rattle.htl_object.specs.declared.object.Object.{Object}
 use Rattle.htl_patch.specs.Joining.{graft_of, IsFirstDifference, first_stray, first_twice, first_limit, Joins}
-use Rattle.htl_patch.specs.Object.{patched_object, CanPatch}
 use Rattle.htl_patch.specs.Patched.{patched}
 use Rattle.htl_patch.specs.United.{Graft}
 use Rattle.htl_patch.specs.declared.fault.PatchFault.{PatchFault}

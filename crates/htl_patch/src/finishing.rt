@@ -9,22 +9,12 @@ ghost use Rattle.htl_patch.specs.Stops.{IsTablesStop, IsAcceptedWith, object_wit
 use crate::fault::{PatchFault, PatchStop};
 use htl_base::{Memory, Seq};
 use htl_ecode::generate_e;
-use htl_form::form;
 use htl_load::{FormedObject, Loaded, ObjectFault, inherit, spelled};
 use htl_model::{FormFault, Tables};
 use htl_object::Object;
-use htl_refine::refine;
+use htl_refine::try_rules;
 use htl_walk::{SInstr, Schedule};
 use std::alloc::{AllocError, Global};
-
-// The first form rule that tables break.
-fn first_broken(t: &Tables) -> Result<(), FormFault>
-    ensures formed { OnOk result (Formed t.now) }
-    ensures broken { IfErr result (IsFirstBroken t.now) }
-{
-    form(t)?;
-    refine(t)
-}
 
 fn copied_instrs(alloc: Global, instrs: &[SInstr]) -> Result<Vec<SInstr>, AllocError>
     ensures { IfOk result (λ v. v.items ≡ instrs.now) }
@@ -93,7 +83,7 @@ pub(crate) fn accept(alloc: Global, o: &Loaded, t: Tables) -> Result<Loaded, Pat
 {
     t.keeps_ranges();
     let _from = o.object();
-    if let Err(fault) = first_broken(&t) {
+    if let Err(fault) = try_rules(&t) {
         return Err(PatchStop::Refused(PatchFault::IllFormed(fault), Some(t)));
     }
     let object = match relaid(alloc, o, t) {

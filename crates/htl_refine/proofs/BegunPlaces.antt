@@ -11,7 +11,7 @@ use Rattle.htl_model.specs.Selected.{entry, IsSelection, IsEntry, IsModeOf}
 use Rattle.htl_model.specs.Selections.{is_root, root_modules, mode_of_module, modes_of, invs_of}
 use Rattle.htl_model.specs.Tables.{Tables}
 use Rattle.htl_form.proofs.PartLaws.{none_some}
-use Rattle.htl_form.proofs.TestLaws.{equal}
+use Rattle.htl_model.proofs.TestLaws.{equal}
 use Rattle.htl_refine.specs.DerivedPaths.{round_places, start_places, standing_place, begun_places, modes_of_all}
 use Rattle.htl_refine.specs.declared.selection.Selection.{Selection}
 use Rattle.htl_refine.proofs.Members.{of_places, at_place}

@@ -1,5 +1,5 @@
--- Tables that keep the rules 1 to 12 have one first fault at most, and keeping the rules up to 16 is keeping all.
-use Rattle.std.proofs.Common.{◌≡◌, ℕ, ◌≤◌, ◌<◌, ◌⊎◌, inl, inr, Option, Some, sym, ◌∙◌, ap, subst, arith}
+-- Tables in range have one first fault at most, and keeping the rules up to 16 is keeping all.
+use Rattle.std.proofs.Common.{◌≡◌, ℕ, ◌≤◌, ◌<◌, ◌⊎◌, inl, inr, Option, Some, Result, Ok, Err, OnOk, sym, ◌∙◌, ap, subst, arith}
 use Rattle.std.specs.Prelude.{slice_get}
 use Rattle.htl_model.specs.declared.form_fault.FormFault.{FormFault}
 use Rattle.htl_model.specs.declared.parts.Mode.{Mode}
@@ -8,7 +8,7 @@ use Rattle.htl_model.specs.Ranges.{AreInRange}
 use Rattle.htl_model.specs.FormRules.{FormRule, number_of, Part, Site, ComesBefore}
 use Rattle.htl_model.specs.FormRules as law
 use Rattle.htl_model.specs.Broken.{breach, BreaksAt, Broken, site_of, IsFirstBroken, KeptTo, Formed}
-use Rattle.htl_form.proofs.OneFault.{SameSite, order, one_at, same_fault}
+use Rattle.htl_form.proofs.OneFault.{SameSite, order, one_at, same_fault, broken_there, one_form_fault}
 use Rattle.htl_refine.specs.Rules.{law_of, all_rules}
 use Rattle.htl_refine.specs.Tests.{tests}
 use Rattle.htl_refine.proofs.RuleOrder.{place_of}
@@ -16,7 +16,7 @@ use Rattle.htl_refine.proofs.SearchLaws.{judges}
 
 last_number : (r : FormRule) → number_of r ≤ 16
 last_number law.ModulePeriod = omega arith
-last_number law.RootPeriod = omega arith
+last_number law.FrameLimits = omega arith
 last_number law.Divides = omega arith
 last_number law.Offsets = omega arith
 last_number law.Ends = omega arith
@@ -69,12 +69,6 @@ one_refine_fault t range kept f g p q = by (order p.law q.law (site_of f p.part)
     above : 12 < number_of q.law
     above = elim (late (number_of q.law)) [ inl few ↦ absurd (kept q.law (site_of g q.part) g.have g.need few q.broken) | inr more ↦ more ]
 
-    move : (s u : Site) (r l : FormRule) (h n : ℕ) → SameSite s u → r ≡ l → Broken t r s h n → Broken t l u h n
-    move s u r l h n at same y =
-        let make : ℕ → Option ℕ → Part → Site = λ mode inv part. record { mode = mode; inv = inv; part = part } in
-        let is : s ≡ u = ap (λ m. make m s.inv s.part) at.mode ∙ ap (λ k. make u.mode k s.part) at.inv ∙ ap (make u.mode u.inv) at.part in
-        subst (λ (v : Site). Broken t l v h n) is (subst (λ (x : FormRule). Broken t x s h n) same y)
-
     by : ComesBefore p.law (site_of f p.part) q.law (site_of g q.part) ⊎ ((number_of p.law ≡ number_of q.law) × SameSite (site_of f p.part) (site_of g q.part))
         ⊎ ComesBefore q.law (site_of g q.part) p.law (site_of f p.part) → f ≡ g
     by (inl before) = absurd (q.first p.law (site_of f p.part) f.have f.need before p.broken)
@@ -82,5 +76,32 @@ one_refine_fault t range kept f g p q = by (order p.law q.law (site_of f p.part)
     by (inr (inl same)) =
         let law_is = one_law p.law q.law same.0 above in
         let numbers = one_broken t range kept q.law above (site_of g q.part) f.have f.need g.have g.need
-        (move (site_of f p.part) (site_of g q.part) p.law q.law f.have f.need same.1 law_is p.broken) q.broken in
+        (broken_there t (site_of f p.part) (site_of g q.part) p.law q.law f.have f.need same.1 law_is p.broken) q.broken in
         same_fault f g (p.rule ∙ same.0 ∙ sym q.rule) (p.«module» ∙ ap (mode_module t) same.1.mode ∙ sym q.«module») same.1.mode same.1.inv numbers.0 numbers.1
+
+-- ---- all rules
+
+-- tables that keep the rules up to the last keep all
+pub formed_after : {E : Type 0} (t : Tables) (r : Result (Unit {0}) E) → OnOk r (KeptTo t 16) → OnOk r (Formed t)
+formed_after t (Ok x) kept = formed t kept
+formed_after t (Err e) h = h
+
+twelve : (n : ℕ) → (n ≤ 12) ⊎ (12 < n)
+twelve n = grind arith
+
+-- tables in range have one first form rule that is broken
+pub one_first_broken : (t : Tables) → AreInRange t → (f g : FormFault) → IsFirstBroken t f → IsFirstBroken t g → f ≡ g
+one_first_broken t range f g p q = by (twelve f.rule) (twelve g.rule)
+  where
+    -- where no rule up to 12 is broken before the first fault, the tables keep them
+    kept : (h : FormFault) → IsFirstBroken t h → 12 < h.rule → KeptTo t 12
+    kept h b late = λ r s have need few broken. b.first r s have need (inl (omega (arith, few, late, b.rule))) broken
+
+    early : (h e : FormFault) → IsFirstBroken t h → IsFirstBroken t e → 12 < h.rule → e.rule ≤ 12 → ⊥
+    early h e b x late few = kept h b late x.law (site_of e x.part) e.have e.need (omega (arith, few, x.rule)) x.broken
+
+    by : (f.rule ≤ 12) ⊎ (12 < f.rule) → (g.rule ≤ 12) ⊎ (12 < g.rule) → f ≡ g
+    by (inl low) (inl less) = one_form_fault t range f g low less p q
+    by (inl low) (inr more) = absurd (early g f q p more low)
+    by (inr high) (inl less) = absurd (early f g p q high less)
+    by (inr high) (inr more) = one_refine_fault t range (kept f p high) f g p q

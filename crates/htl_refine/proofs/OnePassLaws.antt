@@ -17,7 +17,7 @@ use Rattle.htl_model.specs.Tables.{Tables, mode_module}
 use Rattle.htl_form.proofs.PartLaws.{none_some}
 use Rattle.htl_form.proofs.Places.{all_at, item_at}
 use Rattle.htl_model.proofs.StartLaws.{modes_rise}
-use Rattle.htl_form.proofs.TestLaws.{both, equal, same_number}
+use Rattle.htl_model.proofs.TestLaws.{both, equal, same_number}
 use Rattle.htl_refine.specs.ConcreteJobs.{running_invs, running_positions}
 use Rattle.htl_refine.specs.OnePass.{has_position, positions_met}
 use Rattle.htl_refine.proofs.Members.{of_joined, of_flat, in_flat, of_places, at_place}

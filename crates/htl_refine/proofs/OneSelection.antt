@@ -9,7 +9,7 @@ use Rattle.htl_model.specs.Ranges.{AreInRange}
 use Rattle.htl_model.specs.Selections.{is_root, mode_of_module, modes_of, choices_from, selection_count}
 use Rattle.htl_model.specs.Tables.{Tables}
 use Rattle.htl_model.proofs.SelectionLaws.{modes_some}
-use Rattle.htl_form.proofs.TestLaws.{equal}
+use Rattle.htl_model.proofs.TestLaws.{equal}
 use Rattle.std.proofs.lemmas.Option.{slice_get_within}
 use Rattle.htl_refine.specs.ConcreteJobs.{IsOfSelection}
 use Rattle.htl_refine.specs.Roots.{place_among, entry_place, selection_from, selection_of}

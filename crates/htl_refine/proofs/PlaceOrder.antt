@@ -14,7 +14,7 @@ use Rattle.htl_model.specs.SecondWriters.{parent_mode}
 use Rattle.htl_model.specs.Selected.{entry, IsEntry, IsSelection}
 use Rattle.htl_model.specs.Selections.{is_root, inv_of_mode, invs_of}
 use Rattle.htl_model.specs.Tables.{Tables, mode_module}
-use Rattle.htl_form.proofs.TestLaws.{same_number}
+use Rattle.htl_model.proofs.TestLaws.{same_number}
 use Rattle.htl_walk.proofs.Finishes.{some_same}
 use Rattle.htl_refine.specs.ConcreteJobs.{running_invs}
 use Rattle.htl_refine.specs.DerivedPaths.{derived_place}

@@ -21,7 +21,7 @@ use Rattle.htl_form.proofs.EndLaws.{finds_or_else}
 use Rattle.htl_form.proofs.Finding.{Finds, finds_nothing, finds_unless}
 use Rattle.htl_model.proofs.FirstLaws.{none_at, found_at, to_none, to_found}
 use Rattle.htl_form.proofs.PartLaws.{none_some, taken}
-use Rattle.htl_form.proofs.TestLaws.{both, equal, same_number, not_both}
+use Rattle.htl_model.proofs.TestLaws.{both, equal, same_number, not_both}
 use Rattle.std.proofs.lemmas.Option.{slice_get_within}
 use Rattle.htl_model.specs.Selected.{is_at}
 use Rattle.htl_refine.specs.Refining.{refines, is_refined, place_fault, is_abstract_at, parent_fault_by, parent_fault, clashes, clash_before, first_clash, told_clash, shared_fault_by, shared_fault, unless_more, unless_less, excess, excess_at, excess_by, excess_fault, writers_parent, writer_parent, precedes, order_fault_by, order_fault}

@@ -12,7 +12,7 @@ use Rattle.htl_model.specs.Broken.{KeepsLimits}
 use Rattle.htl_model.specs.Selections.{is_root, root_modules, mode_of_module, modes_of, choices_from, selection_count, positions}
 use Rattle.htl_model.specs.Tables.{Tables}
 use Rattle.htl_form.proofs.PartLaws.{none_some}
-use Rattle.htl_form.proofs.TestLaws.{equal, same_number}
+use Rattle.htl_model.proofs.TestLaws.{equal, same_number}
 use Rattle.htl_refine.specs.ConcreteJobs.{running_invs, running_positions, IsOfSelection}
 use Rattle.htl_refine.specs.Roots.{place_among, entry_place, selection_from, selection_of}
 use Rattle.htl_model.specs.Selected.{entry, IsSelection, IsEntry, IsModeOf}

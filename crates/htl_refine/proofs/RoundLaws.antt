@@ -16,7 +16,7 @@ use Rattle.htl_model.specs.Selections.{is_root, selection_count}
 use Rattle.htl_model.specs.Tables.{Tables, task_worst}
 use Rattle.htl_form.proofs.PartLaws.{none_some}
 use Rattle.htl_form.proofs.Places.{all_at}
-use Rattle.htl_form.proofs.TestLaws.{same_number}
+use Rattle.htl_model.proofs.TestLaws.{same_number}
 use Rattle.htl_walk.specs.declared.job.Job.{Job}
 use Rattle.htl_walk.specs.declared.schedule.SInstr.{SInstr}
 use Rattle.htl_walk.specs.Jobs.{abstract_jobs, job_of, jobs_of}

@@ -6,7 +6,7 @@ use Rattle.std.proofs.lemmas.Bool.Decides.{Decides-and, Decides-not}
 use Rattle.htl_model.specs.declared.parts.Mode.{Mode}
 use Rattle.htl_model.specs.declared.parts.Module.{Module}
 use Rattle.htl_model.specs.Tables.{Tables, mode_module}
-use Rattle.htl_form.proofs.TestLaws.{both, equal, same_number}
+use Rattle.htl_model.proofs.TestLaws.{both, equal, same_number}
 use Rattle.htl_model.specs.Selected.{entry, is_at, Runs, is_running, IsModeOf, is_mode_of, IsActive, is_active, IsEntry, is_entry, are_entries, IsSelection, is_selection}
 
 pub at_number : (o : Option ℕ) (n : ℕ) → is_at o n ≡ true → o ≡ Some n

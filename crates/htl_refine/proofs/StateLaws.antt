@@ -15,7 +15,7 @@ use Rattle.htl_model.specs.Tables.{Tables, mode_module, mode_period}
 use Rattle.htl_model.proofs.Stays.{stay_at}
 use Rattle.htl_form.proofs.PartLaws.{none_some}
 use Rattle.htl_form.proofs.Places.{all_at, item_at}
-use Rattle.htl_form.proofs.TestLaws.{both, same_number, not_both}
+use Rattle.htl_model.proofs.TestLaws.{both, same_number, not_both}
 use Rattle.htl_refine.specs.Records.{modes_at}
 use Rattle.htl_refine.proofs.SelectedLaws.{active_is}
 

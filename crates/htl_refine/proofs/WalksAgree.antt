@@ -6,7 +6,7 @@ use Rattle.htl_walk.specs.declared.job.Job.{Job}
 use Rattle.htl_walk.specs.declared.schedule.SInstr.{SInstr}
 use Rattle.htl_walk.specs.Paths.{Leg, begun, walks_from, AreInForm}
 use Rattle.htl_walk.specs.Walk.{Point, job_at, walk_from, last_point, first_point, work}
-use Rattle.htl_walk.proofs.Locality.{locality}
+use Rattle.htl_walk.proofs.Locality.{locality, take_walks, take_forms}
 use Rattle.htl_refine.specs.AgreeingRuns.{FrontsAlike, WalksAgree}
 use Rattle.htl_refine.specs.FrameRuns.{frame_modes, frame_places, frame_jobs, frame_at}
 use Rattle.htl_refine.specs.Records.{took, lengths_of}
@@ -15,19 +15,6 @@ use Rattle.htl_refine.proofs.FramesAgree.{frames_agree}
 use Rattle.htl_refine.proofs.Fronts.{front_there, map_same, take_map, job_front, get_front, take_work, known_grow}
 
 -- ---- the first lists
-
-take_walks : (jobs : List Job) (k : ℕ) (ss : List (List SInstr)) (gs : List Leg) (x : Point) → walks_from jobs (take k ss) (take k gs) x ≡ take k (walks_from jobs ss gs x)
-take_walks jobs zero ss gs x = refl
-take_walks jobs (suc k) [] gs x = refl
-take_walks jobs (suc k) (s ∷ ss) [] x = refl
-take_walks jobs (suc k) (s ∷ ss) (g ∷ gs) x = ap (λ ls. walk_from jobs s (begun g.from x) ∷ ls) (take_walks jobs k ss gs (last_point jobs s (begun g.from x)))
-
-take_forms : (k : ℕ) (ss : List (List SInstr)) (gs : List Leg) → AreInForm ss gs → AreInForm (take k ss) (take k gs)
-take_forms zero ss gs f = tt
-take_forms (suc k) [] [] f = tt
-take_forms (suc k) [] (g ∷ gs) f = absurd f
-take_forms (suc k) (s ∷ ss) [] f = absurd f
-take_forms (suc k) (s ∷ ss) (g ∷ gs) f = (f.0, take_forms k ss gs f.1)
 
 pub fronts_alike : FrontsAlike
 fronts_alike f g k n jobs point forms within lists legs =

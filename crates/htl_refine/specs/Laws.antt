@@ -21,9 +21,9 @@ use Rattle.htl_model.specs.Selected.{IsSelection}
 abbrev pub AllRules : Type 0
 AllRules = (t : Tables) → (KeptTo t 16 → Formed t) × (Formed t → KeptTo t 16)
 
--- tables that keep the rules 1 to 12 have one first fault at most
+-- tables in range have one first fault at most
 abbrev pub OneFirstFault : Type 0
-OneFirstFault = (t : Tables) (f g : FormFault) → AreInRange t → KeptTo t 12 → IsFirstBroken t f → IsFirstBroken t g → f ≡ g
+OneFirstFault = (t : Tables) (f g : FormFault) → AreInRange t → IsFirstBroken t f → IsFirstBroken t g → f ≡ g
 
 -- in tables that keep the rules the child that is followed first is the one that runs, so what is chosen stands for the invocation,
 -- and nothing else does

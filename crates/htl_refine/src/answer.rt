@@ -1,9 +1,10 @@
 // The form rules 13 to 16.
 ghost use Rattle.std.specs.Prelude.{◌≤◌, OnOk, IfErr};
-ghost use Rattle.htl_model.specs.Broken.{KeptTo, IsFirstBroken};
+ghost use Rattle.htl_model.specs.Broken.{Formed, KeptTo, IsFirstBroken};
 
 use crate::order::Order;
 use crate::rule::RULES;
+use htl_form::form;
 use htl_model::search::first_fault;
 use htl_model::{FormFault, Tables};
 
@@ -22,4 +23,13 @@ pub fn refine(t: &Tables) -> Result<(), FormFault>
         Some(fault) => Err(fault),
         None => Ok(()),
     }
+}
+
+/// Tries all form rules, 1 to 16. A fault comes exactly where one of them is broken, and tells the first that is. It takes no memory.
+pub fn try_rules(t: &Tables) -> Result<(), FormFault>
+    ensures formed { OnOk result (Formed t.now) }
+    ensures broken { IfErr result (IsFirstBroken t.now) }
+{
+    form(t)?;
+    refine(t)
 }

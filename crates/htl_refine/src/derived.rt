@@ -8,10 +8,10 @@ ghost use Rattle.htl_refine.specs.OnePass.{has_position as has_position_of, posi
 ghost use Rattle.htl_walk.specs.Jobs.{abstract_jobs};
 ghost use Rattle.htl_walk.specs.Refinement.{Refines};
 
-use crate::refining::parent_mode;
 use crate::selection::Selection;
 use htl_base::limits::MAX_POSITIONS;
 use htl_model::choice::{chosen_by, is_running, running_children};
+use htl_model::lookup::parent_mode;
 use htl_model::{Inv, Tables};
 use htl_walk::{Job, fill_jobs};
 

@@ -13,7 +13,7 @@ mod rule;
 mod selection;
 mod trial;
 
-pub use answer::refine;
+pub use answer::{refine, try_rules};
 pub use begun::{begun_choice, derive_begun};
 pub use derived::derive;
 pub use derived_path::{derive_in_frame, derive_path};

@@ -71,30 +71,37 @@ fn mode_rows(t: &Tables, mode: u16, base: usize, n: usize, writers: &mut [u128],
     through_all(rows, n);
 }
 
-// Notes the rows and places of one mode, the `n` invocations from `base` on.
-fn note_mode(
-    t: &Tables,
+// The `n` invocations of a mode, from `base` on.
+#[derive(Clone, Copy)]
+struct ModeRange {
     mode: u16,
     base: usize,
     n: usize,
+}
+
+// Notes the rows and places of one mode.
+fn note_mode(
+    t: &Tables,
+    range: ModeRange,
     writers: &mut [u128],
     rows: &mut [u128],
     places: &mut [u8],
 )
-    requires range { IsRangeOf t.now mode base n }
+    requires range { IsRangeOf t.now range.mode range.base range.n }
     requires ports { length writers.old ≡ limit.MAX_PORTS }
     requires empty { (p q : ℕ) → cell writers.old p q ≡ false }
     requires rows { length rows.old ≡ limit.MAX_INVOCATIONS }
     requires places { length places.old ≡ limit.MAX_INVOCATIONS }
-    requires before { AreRowsBelow t.now mode rows.old places.old }
+    requires before { AreRowsBelow t.now range.mode rows.old places.old }
     requires few { ArePlaces places.old }
-    ensures rows { AreRowsBelow t.now (mode + 1) rows.new places.new }
+    ensures rows { AreRowsBelow t.now (range.mode + 1) rows.new places.new }
     ensures few { ArePlaces places.new }
     ensures len { length rows.new ≡ limit.MAX_INVOCATIONS }
     ensures len_places { length places.new ≡ limit.MAX_INVOCATIONS }
     ensures ports { length writers.new ≡ limit.MAX_PORTS }
     ensures empty { (p q : ℕ) → cell writers.new p q ≡ false }
 {
+    let ModeRange { mode, base, n } = range;
     t.keeps_ranges();
     let mut room = [0u128; MAX_MODE_INVOCATIONS];
     let closed = &mut room[..n];
@@ -118,7 +125,7 @@ fn note_modes(t: &Tables, rows: &mut [u128], places: &mut [u8])
     for m in 0..modes {
         let mode = m as u16;
         let n = count_from(t, mode, base);
-        note_mode(t, mode, base, n, &mut writers, rows, places);
+        note_mode(t, ModeRange { mode, base, n }, &mut writers, rows, places);
         base += n;
     }
 }

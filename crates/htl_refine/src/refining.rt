@@ -4,11 +4,10 @@ ghost use Rattle.std.specs.List.{list_any};
 ghost use Rattle.htl_model.specs.Found.{unless};
 ghost use Rattle.htl_refine.specs.Orders.{IsOrderOf};
 ghost use Rattle.htl_refine.specs.Refining.{refines as refines_of, is_refined as is_refined_of, place_fault as place_fault_of, is_abstract_at, parent_fault as parent_fault_of, clashes as clashes_of, clash_before as clash_before_of, first_clash as first_clash_of, shared_fault as shared_fault_of, unless_more as unless_more_of, unless_less as unless_less_of, excess as excess_of, excess_fault as excess_fault_of, order_fault as order_fault_of};
-ghost use Rattle.htl_model.specs.SecondWriters.{parent_mode as parent_mode_of};
 ghost use Rattle.htl_model.specs.Selected.{is_at as is_at_of};
 
 use crate::order::{Order, precedes, writer_parent};
-use htl_model::lookup::{is_concrete, mode_module, task_worst};
+use htl_model::lookup::{is_concrete, mode_module, parent_mode, task_worst};
 use htl_model::window::{release, window_end};
 use htl_model::{End, Inv, Module, Tables};
 
@@ -53,19 +52,6 @@ pub fn place_fault(t: &Tables, inv: &Inv) -> Option<(u64, u64)>
 }
 
 // ---- 14
-
-/// The mode that the module of a mode refines; None where it is a root module.
-pub fn parent_mode(t: &Tables, mode: u16) -> Option<u16>
-    ensures { result ≡ parent_mode_of t.now mode }
-{
-    let modules = t.parts().modules.as_slice();
-    let module = mode_module(t, mode) as usize;
-    if module < modules.len() {
-        modules[module].parent
-    } else {
-        None
-    }
-}
 
 // Whether an invocation is an abstract one of the mode.
 fn is_abstract_in(t: &Tables, mode: u16, inv: u16) -> bool

@@ -2,8 +2,8 @@
 use crate::order::Order;
 use crate::refining::{excess_fault, order_fault, parent_fault, place_fault, shared_fault};
 use crate::rule::Rule;
-use htl_model::search::Tries;
-use htl_model::{End, Inv, Mode, Tables};
+use htl_model::search::{EndSite, Tries};
+use htl_model::{Inv, Mode, Tables};
 
 impl Tries<Rule> for Order {
     ghost use Rattle.htl_refine.specs.Orders.{IsOrderOf};
@@ -32,7 +32,7 @@ impl Tries<Rule> for Order {
         false
     }
 
-    fn of_mode(_t: &Tables, _rule: Rule, _m: u16, _mode: &Mode) -> Option<(u64, u64)> {
+    fn of_mode(&self, _t: &Tables, _rule: Rule, _m: u16, _mode: &Mode) -> Option<(u64, u64)> {
         None
     }
 
@@ -50,31 +50,15 @@ impl Tries<Rule> for Order {
         }
     }
 
-    // What it finds at input `j` of an invocation.
-    fn of_input(
-        &self,
-        t: &Tables,
-        rule: Rule,
-        _k: u16,
-        inv: &Inv,
-        _j: usize,
-        end: End,
-    ) -> Option<(u64, u64)> {
+    // What it finds at an input of an invocation.
+    fn of_input(&self, t: &Tables, rule: Rule, site: EndSite<'_>) -> Option<(u64, u64)> {
         match rule {
-            Rule::Inheritance => order_fault(t, self, inv, end),
+            Rule::Inheritance => order_fault(t, self, site.inv, site.end),
             _ => None,
         }
     }
 
-    fn of_output(
-        &self,
-        _t: &Tables,
-        _rule: Rule,
-        _k: u16,
-        _inv: &Inv,
-        _j: usize,
-        _end: End,
-    ) -> Option<(u64, u64)> {
+    fn of_output(&self, _t: &Tables, _rule: Rule, _site: EndSite<'_>) -> Option<(u64, u64)> {
         None
     }
 }

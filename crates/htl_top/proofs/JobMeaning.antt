@@ -25,11 +25,11 @@ go_job_lines t es now can =
     ∙ ap (λ (xs : List ℕ). xs ++ lines_text t (value_lines t es now)) (old_alone (coded t) (schedules_of (built t)) es (hyper t) now)
 
 pub go_in_time : GoTellsJobsInTime
-go_in_time t script events period end can whole root =
+go_in_time t script events end can whole =
     let loaded = accepted_is_loaded (built t) (built_accepted None t can) in
     let are = (whole-script (coded t) script events end (sym (script_same t (codes t) script) ∙ whole)).0 in (
       run_shows (coded t) (schedules_of (built t)) events (built t).ecode Jobs refl end,
-      told_in_time (coded t) (schedules_of (built t)) loaded events (took_within (coded t) events are) period end root,
+      told_in_time (coded t) (schedules_of (built t)) loaded events (took_within (coded t) events are) end,
     )
 
 pub go_lines_found : GoJobLinesAreFound

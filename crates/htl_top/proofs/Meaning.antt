@@ -9,7 +9,7 @@ use Rattle.htl_compile.specs.Built.{built, CanBuild}
 use Rattle.htl_compile.specs.Coded.{coded, codes}
 use Rattle.htl_console.specs.declared.shown.Shown.TheVariants.{Jobs}
 use Rattle.htl_machine.proofs.Accepted.{accepted_is_loaded}
-use Rattle.htl_machine.proofs.Headline.{all_served}
+use Rattle.htl_machine.proofs.LoadedLists.{run_of}
 use Rattle.htl_machine.specs.Lines.{new_lines, old_lines}
 use Rattle.htl_machine.specs.Programs.{schedules_of}
 use Rattle.htl_model.specs.Frames.{hyper}
@@ -19,6 +19,7 @@ use Rattle.htl_model.specs.Tables.{Tables}
 use Rattle.htl_model.specs.declared.event.Event.{Event}
 use Rattle.htl_model.specs.declared.line.Line.{Line}
 use Rattle.htl_model.specs.declared.line.Line.TheVariants.{ValueLine, ModeLine}
+use Rattle.htl_refine.proofs.ServedFrames.{every_job_in_time}
 use Rattle.htl_script.proofs.Fitting.{whole-script}
 use Rattle.htl_script.proofs.SameScript.{script_same}
 use Rattle.htl_top.proofs.Playing.{took_within}
@@ -48,7 +49,7 @@ go_shows t es now can =
     ∙ ap₂ (λ (a b : List ℕ). a ++ b) (append-nil old) (changes_same t es now can)
 
 pub go_keeps : GoKeepsDeadlines
-go_keeps t script events period end can whole root =
+go_keeps t script events end can whole some =
     let loaded = accepted_is_loaded (built t) (built_accepted None t can) in
     let are = (whole-script (coded t) script events end (sym (script_same t (codes t) script) ∙ whole)).0 in
-    all_served (coded t) (schedules_of (built t)) loaded events (took_within (coded t) events are) period end root
+    every_job_in_time (coded t) (schedules_of (built t)) events end (run_of (coded t) (schedules_of (built t)) loaded events (took_within (coded t) events are) some)

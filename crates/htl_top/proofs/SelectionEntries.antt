@@ -11,7 +11,7 @@ use Rattle.htl_model.specs.declared.parts.Module.{Module}
 use Rattle.htl_model.specs.Ranges.{AreInRange, IsModeThat, parent_of}
 use Rattle.htl_model.specs.Tables.{Tables, mode_module}
 use Rattle.htl_form.proofs.PartLaws.{none_some}
-use Rattle.htl_form.proofs.TestLaws.{both, same_number}
+use Rattle.htl_model.proofs.TestLaws.{both, same_number}
 use Rattle.htl_model.specs.Selected.{entry, IsActive, is_active, IsModeOf, IsEntry, IsSelection}
 use Rattle.htl_refine.proofs.SelectedLaws.{active_is}
 use Rattle.htl_script.specs.declared.fault.ScriptKind.{ScriptKind}

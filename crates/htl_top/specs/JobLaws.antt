@@ -1,5 +1,5 @@
 -- What `go` shows of the jobs of a source, down to the lines.
-use Rattle.std.specs.Prelude.{◌≡◌, ℕ, List, ◌++◌, map, Some}
+use Rattle.std.specs.Prelude.{◌≡◌, ℕ, List, ◌++◌, map}
 use Rattle.std.specs.List.{filter}
 use Rattle.htl_compile.specs.Built.{built, CanBuild}
 use Rattle.htl_compile.specs.Sources.{IsTablesOf}
@@ -7,13 +7,11 @@ use Rattle.htl_console.specs.declared.shown.Shown.TheVariants.{Jobs}
 use Rattle.htl_machine.specs.JobLines.{printed, job_lines_at, job_lines_to, ShowsJobs, begins_as_job, text_lines}
 use Rattle.htl_machine.specs.JobTimes.{AllToldInTime}
 use Rattle.htl_machine.specs.Programs.{lines_of, text_of, schedules_of}
-use Rattle.htl_machine.specs.Rounds.{plan_of}
 use Rattle.htl_model.specs.declared.event.Event.{Event}
 use Rattle.htl_model.specs.Frames.{hyper}
 use Rattle.htl_model.specs.Lines.{lines_text}
 use Rattle.htl_model.specs.Lists.{joined}
 use Rattle.htl_model.specs.Meaning.{value_lines}
-use Rattle.htl_model.specs.Selections.{root_period}
 use Rattle.htl_model.specs.Tables.{Tables}
 use Rattle.htl_top.specs.Scripts.{IsWhole}
 
@@ -24,13 +22,13 @@ GoShowsJobLines =
     → lines_of (built t) es Jobs now
     ≡ joined (printed (built t).tables) (job_lines_at (built t).tables (schedules_of (built t)) es (hyper t) now) ++ lines_text t (value_lines t es now)
 
--- the j and d lines of the text are those of the records; and of each job of each round whose window ended by the end they have one d
--- line, no later than the end of its window, and j lines in its window for all its ticks
+-- the j and d lines of the text are those of the records; and of each job of each frame whose window ended by the end they have one d
+-- line in its module's round, no later than the end of its window, and j lines in its window for all its ticks
 abbrev pub GoTellsJobsInTime : Type 0
 GoTellsJobsInTime =
-    (t : Tables) (script : List ℕ) (events : List Event) (period end : ℕ) → CanBuild t → IsWhole t script events end → root_period t ≡ Some period
+    (t : Tables) (script : List ℕ) (events : List Event) (end : ℕ) → CanBuild t → IsWhole t script events end
     → let lines = job_lines_to (built t).tables (schedules_of (built t)) events end in
-    ShowsJobs (built t).tables (text_of (built t) events Jobs end) lines × AllToldInTime (plan_of (built t).tables (schedules_of (built t)) events) period end lines
+    ShowsJobs (built t).tables (text_of (built t) events Jobs end) lines × AllToldInTime (built t).tables (schedules_of (built t)) events end lines
 
 -- a reader who cuts the bytes of the text behind each line feed and takes the lines that begin with `j` or `d` finds, in order, a j line of
 -- each slice that a record closes and a d line of each job that one finishes, and no other; the source is any that has tables

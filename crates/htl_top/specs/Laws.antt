@@ -1,18 +1,18 @@
 -- What the values and lines of a run depend on, and what `go` shows.
-use Rattle.std.specs.Prelude.{◌≡◌, ◌≤◌, ℕ, Bool, cond, nat_le, nat_lt, List, [], ◌∷◌, ◌++◌, Some}
+use Rattle.std.specs.Prelude.{◌≡◌, ◌≤◌, ◌<◌, ℕ, Bool, cond, nat_le, nat_lt, List, [], ◌∷◌, ◌++◌, length}
 use Rattle.htl_compile.specs.Built.{built, CanBuild}
 use Rattle.htl_console.specs.declared.shown.Shown.TheVariants.{Jobs}
 use Rattle.htl_machine.specs.Lines.{old_lines}
 use Rattle.htl_machine.specs.Programs.{lines_of, schedules_of}
-use Rattle.htl_machine.specs.Rounds.{plan_of}
-use Rattle.htl_machine.specs.Served.{AllServed}
 use Rattle.htl_model.specs.declared.event.Event.{Event}
 use Rattle.htl_model.specs.declared.event.Event.TheVariants as event
-use Rattle.htl_model.specs.Frames.{hyper}
+use Rattle.htl_model.specs.Frames.{frame_of, hyper}
 use Rattle.htl_model.specs.Lines.{lines_before_text, lines_text}
 use Rattle.htl_model.specs.Meaning.{run_lines, sense, val, value_lines}
-use Rattle.htl_model.specs.Selections.{root_period}
+use Rattle.htl_model.specs.Selections.{root_modules}
 use Rattle.htl_model.specs.Tables.{Tables}
+use Rattle.htl_refine.specs.FrameRuns.{frame_at}
+use Rattle.htl_refine.specs.ServedJobs.{AllServed}
 use Rattle.htl_top.specs.Scripts.{IsWhole}
 
 -- two scripts with equal sensor values up to `end` give equal lines up to `end`
@@ -53,9 +53,9 @@ GoShowsTheMeaning =
     (t : Tables) (es : List Event) (now : ℕ) → CanBuild t
     → lines_of (built t) es Jobs now ≡ old_lines (built t).tables (schedules_of (built t)) es Jobs (hyper t) now ++ lines_text t (value_lines t es now)
 
--- each job of each round whose window ended by the end is done once, within its window, in slices of its own that follow its
--- predecessors; without modules there are no rounds
+-- each job of each frame whose window ended by the end is done once, within its window, in slices of its own that follow its
+-- predecessors; without modules there are no frames
 abbrev pub GoKeepsDeadlines : Type 0
 GoKeepsDeadlines =
-    (t : Tables) (script : List ℕ) (events : List Event) (period end : ℕ) → CanBuild t → IsWhole t script events end → root_period t ≡ Some period
-    → AllServed (plan_of (built t).tables (schedules_of (built t)) events) period end
+    (t : Tables) (script : List ℕ) (events : List Event) (end : ℕ) → CanBuild t → IsWhole t script events end → 0 < length (root_modules t)
+    → AllServed (frame_at (built t).tables (schedules_of (built t)) events) (frame_of t) end

@@ -25,7 +25,7 @@ pub fn go_shows_the_meaning()
     ensures { GoShowsTheMeaning }
 {}
 
-/// In a run of a source's object with a whole script for its tables, each job of each round whose window ended by the end of the run
+/// In a run of a source's object with a whole script for its tables, each job of each frame whose window ended by the end of the run
 /// is done once, within its window, in slices of its own that begin no earlier than its predecessors are done.
 pub fn go_keeps_deadlines()
     ensures { GoKeepsDeadlines }
@@ -37,8 +37,9 @@ pub fn go_shows_job_lines()
     ensures { GoShowsJobLines }
 {}
 
-/// In a run of a source's object with a whole script for its tables, of each job of each round whose window ended by the end of the run
-/// the text has one d line, no later than the end of its window, and its j lines lie in the window and have as many ticks as it takes.
+/// In a run of a source's object with a whole script for its tables, of each job of each frame whose window ended by the end of the run
+/// the text has one d line in its module's round, no later than the end of its window, and its j lines in the round lie in the window
+/// and have as many ticks as it takes.
 pub fn go_tells_jobs_in_time()
     ensures { GoTellsJobsInTime }
 {}

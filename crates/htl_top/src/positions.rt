@@ -1,27 +1,14 @@
 // How many positions paths have, by the invocations of each mode, which are counted once.
-ghost use Rattle.std.specs.Prelude.{◌≡◌, ◌≤◌, ◌<◌, ℕ, length, get_or, count_by};
+ghost use Rattle.std.specs.Prelude.{◌≡◌, ◌≤◌, ◌<◌, ℕ, length, get_or};
 ghost use Rattle.htl_model.specs.Frames.{most_invs, paths};
 ghost use Rattle.htl_model.specs.FrameTables.{IsFrame};
-ghost use Rattle.htl_model.specs.Selections.{inv_of_mode, invs_of, modes_of};
+ghost use Rattle.htl_model.specs.Selections.{invs_of, modes_of};
 ghost use Rattle.htl_top.specs.Checked.{most_positions as most_positions_of};
 
 use htl_base::limits::MAX_MODES;
+use htl_model::Tables;
 use htl_model::frame::Frame;
-use htl_model::{Inv, Tables};
-
-// Counts the invocations of each mode.
-fn count_invs(invs: &[Inv], counts: &mut [usize])
-    requires { (m : ℕ) → get_or counts.old m 0 ≡ 0 }
-    ensures counts { (m : ℕ) → m < length counts.new → get_or counts.new m 0 ≡ count_by (inv_of_mode m) invs.now }
-    ensures len { length counts.new ≡ length counts.old }
-{
-    for k in 0..invs.len() {
-        let mode = invs[k].mode as usize;
-        if mode < counts.len() {
-            counts[mode] += 1;
-        }
-    }
-}
+use htl_model::items::count_invs;
 
 // The greatest number of invocations in a mode of a module.
 fn widest(t: &Tables, counts: &[usize], unit: u16) -> usize

@@ -16,7 +16,6 @@ use Rattle.htl_model.specs.declared.parts.End.TheVariants as E
 use Rattle.htl_model.specs.FormRules.{ModulePeriod, Windows, Offsets, Itself, Output, Site, Part}
 use Rattle.htl_model.specs.FrameRules.{KeptApart}
 use Rattle.htl_model.specs.Frames.{unit_start, unit_period, frame_of, root_periods, starts, rounds_of, rounds_at, rounds, choices, mode_in, places_of, places_in, path_places, frame_limit}
-use Rattle.htl_model.specs.Lists.{places_from}
 use Rattle.htl_model.specs.PeriodRules.{first_mode, asked_period}
 use Rattle.htl_model.specs.Ranges.{AreInRange, IsInvInRange, IsModeInRange, IsTaskInRange, IsSpan, parent_of}
 use Rattle.htl_model.specs.Selections.{is_root, root_modules, modes_of, mode_of_module, inv_of_mode, invs_of}
@@ -24,7 +23,7 @@ use Rattle.htl_model.specs.Tables.{Tables, mode_period, comm_period, task_worst,
 use Rattle.htl_model.proofs.FrameBuild.{frame_some}
 use Rattle.htl_model.proofs.FrameLimits.{limits_kept}
 use Rattle.htl_model.proofs.FrameRules.{frame_divided}
-use Rattle.htl_model.proofs.SelectionLaws.{modes_some}
+use Rattle.htl_model.proofs.SelectionLaws.{modes_some, place_passes_0}
 use Rattle.htl_walk.specs.declared.job.Job.{Job}
 use Rattle.htl_walk.specs.PathJobs.{placed_job, path_jobs}
 use Rattle.htl_walk.specs.WellFormed.{IsWellFormed}
@@ -44,7 +43,7 @@ mode_there t k i r at =
     let inv : IsInvInRange t i = all_at (IsInvInRange t) t.invs r.invs k i at in
     elim (slice_get_cases t.modes i.mode).1 [ inl c ↦ (c.0, c.2) | inr c ↦ absurd (omega (arith, c.0, inv.owner)) ]
 
-window_some : (t : Tables) (k : ℕ) (i : Inv) → AreInRange t → KeptApart t 12 → slice_get t.invs k ≡ Some i → release t i < window_end t i
+pub window_some : (t : Tables) (k : ℕ) (i : Inv) → AreInRange t → KeptApart t 12 → slice_get t.invs k ≡ Some i → release t i < window_end t i
 unfolding inv_site
 window_some t k i r kept at =
     let x = mode_there t k i r at in
@@ -73,7 +72,7 @@ write_within t k i r kept at j c n end =
       | inr within ↦ within
     ]
 
-window_within : (t : Tables) (k : ℕ) (i : Inv) → AreInRange t → KeptApart t 12 → slice_get t.invs k ≡ Some i → window_end t i ≤ mode_period t i.mode
+pub window_within : (t : Tables) (k : ℕ) (i : Inv) → AreInRange t → KeptApart t 12 → slice_get t.invs k ≡ Some i → window_end t i ≤ mode_period t i.mode
 window_within t k i r kept at = least_within t (mode_period t i.mode) i.writes (write_within t k i r kept at)
 
 -- the window of an invocation is a tick long at least, and ends within a million ticks
@@ -84,33 +83,12 @@ window_small t k i r kept at =
     let is : mode_period t i.mode ≡ x.0.period = ap (λ (o : Option Mode). elim o as (λ _. ℕ) [ Some y ↦ y.period | None ↦ 0 ]) x.1 in
     (window_some t k i r kept at, omega (arith, window_within t k i r kept at, is, range.period.most))
 
-worst_span : (t : Tables) (k : ℕ) (i : Inv) → AreInRange t → slice_get t.invs k ≡ Some i → IsSpan (task_worst t i.task)
+pub worst_span : (t : Tables) (k : ℕ) (i : Inv) → AreInRange t → slice_get t.invs k ≡ Some i → IsSpan (task_worst t i.task)
 worst_span t k i r at =
     let inv : IsInvInRange t i = all_at (IsInvInRange t) t.invs r.invs k i at in
     let range : IsTaskInRange t inv.task.0 = all_at (IsTaskInRange t) t.tasks r.tasks i.task inv.task.0 inv.task.1 in
     let is : task_worst t i.task ≡ inv.task.0.worst = ap (λ (o : Option Task). elim o [ Some y ↦ y.worst | None ↦ 0 ]) inv.task.1 in
     subst IsSpan (sym is) range.worst
-
--- ---- what stands at a place that passes
-
-place_passes : {A : Type 0} (test : A → Bool) (k j p : ℕ) (xs : List A) → slice_get (places_from test k xs) j ≡ Some p → (q : ℕ) × (p ≡ k + q) × (x : A) × (slice_get xs q ≡ Some x) × (test x ≡ true)
-place_passes {A} test k j p [] e = cc
-place_passes {A} test k j p (x ∷ xs) e = by (test x) refl j (λ i f. place_passes test (suc k) i p xs f) e
-  where
-    later : ((q : ℕ) × (p ≡ suc k + q) × (y : A) × (slice_get xs q ≡ Some y) × (test y ≡ true)) → (q : ℕ) × (p ≡ k + q) × (y : A) × (slice_get (x ∷ xs) q ≡ Some y) × (test y ≡ true)
-    later h = (suc h.0, omega (arith, h.1), h.2, h.3, h.4)
-
-    by : (b : Bool) → test x ≡ b → (j : ℕ) → ((i : ℕ) → slice_get (places_from test (suc k) xs) i ≡ Some p → (q : ℕ) × (p ≡ suc k + q) × (y : A) × (slice_get xs q ≡ Some y) × (test y ≡ true))
-        → slice_get (cond b (k ∷ places_from test (suc k) xs) (places_from test (suc k) xs)) j ≡ Some p → (q : ℕ) × (p ≡ k + q) × (y : A) × (slice_get (x ∷ xs) q ≡ Some y) × (test y ≡ true)
-    by true is zero rest f = let same : k ≡ p = cc in (0, omega arith, x, refl, is)
-    by true is (suc i) rest f = later (rest i f)
-    by false is i rest f = later (rest i f)
-
-passes_0 : {A : Type 0} (test : A → Bool) (j p : ℕ) (xs : List A) → slice_get (places_from test 0 xs) j ≡ Some p → (x : A) × (slice_get xs p ≡ Some x) × (test x ≡ true)
-passes_0 test j p xs e =
-    let h = place_passes test 0 j p xs e in
-    let same : h.0 ≡ p = omega (arith, h.1) in
-    (h.2, ap (slice_get xs) (sym same) ∙ h.3, h.4)
 
 -- ---- the modes of a root module
 
@@ -126,10 +104,10 @@ no_parent x (Some p) e h = absurd (let no : false ≡ true = sym (ap (λ (q : Op
 orphan : (t : Tables) (u : ℕ) → IsRootAt t u → parent_of t u ≡ None
 orphan t u h = ap (λ (o : Option Module). elim o as (λ _. Option ℕ) [ Some x ↦ x.parent | None ↦ None ]) h.at ∙ no_parent h.owner h.owner.parent refl h.root
 
-module_below : (t : Tables) (u : ℕ) → IsRootAt t u → u < length t.modules
+pub module_below : (t : Tables) (u : ℕ) → IsRootAt t u → u < length t.modules
 module_below t u h = elim (slice_get_cases t.modules u).1 [ inl c ↦ c.1 | inr c ↦ absurd (let no : Some h.owner ≡ None = sym h.at ∙ c.1 in cc) ]
 
-period_at : (t : Tables) (m : ℕ) (x : Mode) → slice_get t.modes m ≡ Some x → mode_period t m ≡ x.period
+pub period_at : (t : Tables) (m : ℕ) (x : Mode) → slice_get t.modes m ≡ Some x → mode_period t m ≡ x.period
 period_at t m x at = ap (λ (o : Option Mode). elim o as (λ _. ℕ) [ Some y ↦ y.period | None ↦ 0 ]) at
 
 -- a mode of the module has the period of the first one
@@ -213,7 +191,7 @@ roots_are t =
     each_root t (root_modules t)
     (λ j l.
     let u = get_or (root_modules t) j 0 in
-    let h = passes_0 is_root j u t.modules (slice_get-get_or (root_modules t) j 0 l) in
+    let h = place_passes_0 is_root j u t.modules (slice_get-get_or (root_modules t) j 0 l) in
     (record { owner = h.0; at = h.1; root = h.2 }, frame_divided t j l))
 
 start_within : (ps : List ℕ) (h j : ℕ) (xs : List ℕ) → Rises ps h xs → j < length xs → get_or xs j 0 < h
@@ -253,11 +231,11 @@ round_placed t path r rs range kept h =
     let few : 0 < length (modes_of t r.unit) = modes_some t r.unit range (module_below t r.unit h.root) in
     let place = path / choices t rs % length (modes_of t r.unit) in
     let within : place < length (modes_of t r.unit) = omega (arith, few) in
-    let x = passes_0 (mode_of_module r.unit) place m t.modes (slice_get-get_or (modes_of t r.unit) place 0 within) in
+    let x = place_passes_0 (mode_of_module r.unit) place m t.modes (slice_get-get_or (modes_of t r.unit) place 0 within) in
     let own : eqb x.0.«module» r.unit ≡ true = x.2 in
     let period : mode_period t m ≡ unit_period t r.unit = as_unit t r.unit m x.0 range kept h.root x.1 (eqb-true x.0.«module» r.unit own) in
     placed_each t r.at (invs_of t m) (λ j k e.
-    let i = passes_0 (inv_of_mode m) j k t.invs e in
+    let i = place_passes_0 (inv_of_mode m) j k t.invs e in
     let same : i.0.mode ≡ m = eqb-true i.0.mode m i.2 in
     (i.0, i.1, omega (arith, ap (mode_period t) same, period, h.within)))
 

@@ -3,6 +3,7 @@
 
 mod departure;
 pub mod dispatch;
+mod equal_periods;
 mod job;
 mod jobs;
 pub mod laws;
@@ -16,6 +17,7 @@ mod step;
 mod worst_case;
 mod writers;
 
+pub use equal_periods::roots_have_one_period;
 pub use job::Job;
 pub use jobs::{abstract_jobs, fill_jobs};
 pub use miss::Miss;

@@ -10,6 +10,15 @@ use crate::{Job, Miss, SInstr, Schedule};
 use htl_base::Time;
 use htl_model::bits::with_bit;
 
+/// What a list of a path spans: the positions that it knows are the first `known`, and it goes from its start to the next, or to
+/// the frame's end, in ticks from the frame's start.
+#[derive(Clone, Copy)]
+pub struct Span {
+    pub known: usize,
+    pub from: Time,
+    pub until: Time,
+}
+
 // The lowest position that has work left and a window that ends by then.
 fn first_open(jobs: &[Job], left: &[Time], until: Time) -> Option<u16>
     requires few { length left.now ≤ 128 }
@@ -44,26 +53,24 @@ fn pending_of(left: &[Time]) -> u128
 // Follows a list in form from a point to its end.
 fn follow(
     jobs: &[Job],
-    known: usize,
+    span: Span,
     instrs: &[SInstr],
-    from: Time,
-    until: Time,
     left: &mut [Time],
     finish: &mut [Time],
 ) -> Result<Time, Miss>
     requires few { length jobs.now ≤ 128 }
-    requires known { known ≤ length jobs.now }
+    requires known { span.known ≤ length jobs.now }
     requires same { length left.old ≡ length jobs.now }
     requires finishes { length finish.old ≡ length jobs.now }
-    requires form { InForm known until instrs.now }
+    requires form { InForm span.known span.until instrs.now }
     requires instrs { length instrs.now ≤ 4294967295 }
-    ensures clean { IfOk result (λ t. IsListClean known until jobs.now instrs.now (record { time = from; left = left.old })) }
-    ensures point { IfOk result (λ t. record { time = t; left = left.new } ≡ last_point jobs.now instrs.now (record { time = from; left = left.old })) }
-    ensures missed { IfErr result (λ m. IsListMiss known until jobs.now instrs.now (record { time = from; left = left.old }) m) }
+    ensures clean { IfOk result (λ t. IsListClean span.known span.until jobs.now instrs.now (record { time = span.from; left = left.old })) }
+    ensures point { IfOk result (λ t. record { time = t; left = left.new } ≡ last_point jobs.now instrs.now (record { time = span.from; left = left.old })) }
+    ensures missed { IfErr result (λ m. IsListMiss span.known span.until jobs.now instrs.now (record { time = span.from; left = left.old }) m) }
 {
     let pending = pending_of(left);
     let mut now = Moment {
-        time: from,
+        time: span.from,
         pending,
     };
     for k in 0..instrs.len() {
@@ -72,7 +79,7 @@ fn follow(
             Err(miss) => return Err(miss),
         }
     }
-    match first_open(jobs, left, until) {
+    match first_open(jobs, left, span.until) {
         Some(position) => Err(Miss::Unfinished {
             position,
             left: left[position as usize],
@@ -81,29 +88,26 @@ fn follow(
     }
 }
 
-/// Follows one list of a path, which knows so many positions and ends by `until`, from its start with the work that the
-/// lists before it left. It answers the time after it, or the list's first miss.
+/// Follows one list of a path, which spans this, from its start with the work that the lists before it left. It answers the time after it, or the list's first miss.
 pub fn worst_list(
     jobs: &[Job],
-    known: usize,
+    span: Span,
     s: &Schedule,
-    from: Time,
-    until: Time,
     left: &mut [Time],
     finish: &mut [Time],
 ) -> Result<Time, Miss>
     requires few { length jobs.now ≤ 128 }
-    requires known { known ≤ length jobs.now }
+    requires known { span.known ≤ length jobs.now }
     requires same { length left.old ≡ length jobs.now }
     requires finishes { length finish.old ≡ length jobs.now }
     requires instrs { length s.now.instrs ≤ 4294967295 }
-    ensures clean { IfOk result (λ t. IsListClean known until jobs.now s.now.instrs (record { time = from; left = left.old })) }
-    ensures point { IfOk result (λ t. record { time = t; left = left.new } ≡ last_point jobs.now s.now.instrs (record { time = from; left = left.old })) }
-    ensures missed { IfErr result (λ m. IsListMiss known until jobs.now s.now.instrs (record { time = from; left = left.old }) m) }
+    ensures clean { IfOk result (λ t. IsListClean span.known span.until jobs.now s.now.instrs (record { time = span.from; left = left.old })) }
+    ensures point { IfOk result (λ t. record { time = t; left = left.new } ≡ last_point jobs.now s.now.instrs (record { time = span.from; left = left.old })) }
+    ensures missed { IfErr result (λ m. IsListMiss span.known span.until jobs.now s.now.instrs (record { time = span.from; left = left.old }) m) }
 {
     let instrs = s.instrs.as_slice();
-    if let Some(instr) = first_departure(instrs, known, until) {
+    if let Some(instr) = first_departure(instrs, span.known, span.until) {
         return Err(Miss::Order { instr });
     }
-    follow(jobs, known, instrs, from, until, left, finish)
+    follow(jobs, span, instrs, left, finish)
 }

@@ -8,7 +8,7 @@ ghost use Rattle.htl_walk.specs.PathJobs.{path_jobs as path_jobs_of};
 ghost use Rattle.htl_walk.specs.PathMisses.{counted as counted_of};
 ghost use Rattle.htl_walk.specs.NodeWalks.{AreWalkable, AreCleanTo, AreSaved, AreResumed, ShareNodes, MissesAt, IsFirstFailing, instrs_of, count_to, list_at, reached};
 
-use crate::listing::worst_list;
+use crate::listing::{Span, worst_list};
 use crate::placed::placed_jobs;
 use crate::{Job, Miss, Schedule};
 use htl_base::Time;
@@ -19,6 +19,22 @@ use htl_model::places::{fill_places, known_by};
 
 /// What a path has left after each of its lists.
 type States = [[Time; MAX_POSITIONS]; MAX_STARTS];
+
+// A path, with the lists of all nodes.
+#[derive(Clone, Copy)]
+struct PathLists<'a> {
+    t: &'a Tables,
+    f: &'a Frame,
+    lists: &'a [Schedule],
+    path: u32,
+}
+
+// The positions of a path, and their jobs.
+#[derive(Clone, Copy)]
+struct Positions<'a> {
+    places: &'a [Place],
+    jobs: &'a [Job],
+}
 
 /// The node of a path after start `j`.
 pub fn node(t: &Tables, f: &Frame, path: u32, j: usize) -> u32
@@ -47,18 +63,21 @@ pub fn fork(t: &Tables, f: &Frame, path: u32) -> usize
 }
 
 // How many instructions the lists of a path have before list `n`.
-fn count_before(t: &Tables, f: &Frame, lists: &[Schedule], path: u32, n: usize) -> u64
-    requires frame { IsFrame t.now f.now }
-    requires path { path < paths_of t.now }
-    requires lists { length lists.now ≡ nodes_of_frame t.now }
-    requires instrs { All (λ s. length s.instrs ≤ 4294967295) lists.now }
-    requires start { n ≤ length (starts_of t.now) }
-    ensures count { result ≡ count_to (list_at t.now (instrs_of lists.now) path) n }
+fn count_before(p: PathLists<'_>, n: usize) -> u64
+    requires frame { IsFrame p.t.now p.f.now }
+    requires path { p.path < paths_of p.t.now }
+    requires lists { length p.lists.now ≡ nodes_of_frame p.t.now }
+    requires instrs { All (λ s. length s.instrs ≤ 4294967295) p.lists.now }
+    requires start { n ≤ length (starts_of p.t.now) }
+    ensures count { result ≡ count_to (list_at p.entry.t.now (instrs_of p.entry.lists.now) p.entry.path) n }
     ensures few { result ≤ 32 * 4294967295 }
 {
     let mut sum = 0u64;
     for j in 0..n {
-        sum += lists[node(t, f, path, j) as usize].instrs.as_slice().len() as u64;
+        sum += p.lists[node(p.t, p.f, p.path, j) as usize]
+            .instrs
+            .as_slice()
+            .len() as u64;
     }
     sum
 }
@@ -106,34 +125,30 @@ fn resume(jobs: &[Job], saved: &[Time; 128], known: usize, left: &mut [Time; 128
 
 // What is left before list `first` of a path.
 fn begin_left(
-    t: &Tables,
-    f: &Frame,
-    lists: &[Schedule],
-    path: u32,
+    p: PathLists<'_>,
     first: usize,
-    places: &[Place],
-    jobs: &[Job],
+    at: Positions<'_>,
     states: &States,
     left: &mut [Time; 128],
 )
-    requires frame { IsFrame t.now f.now }
-    requires walkable { AreWalkable t.now }
-    requires path { path < paths_of t.now }
-    requires first { first ≤ length (starts_of t.now) }
-    requires places { places.now ≡ path_places t.now path }
-    requires jobs { jobs.now ≡ path_jobs_of t.now path }
-    requires few { length jobs.now ≤ 128 }
-    requires clean { AreCleanTo t.now (instrs_of lists.now) path first }
-    requires saved { AreSaved t.now (instrs_of lists.now) path first states.now }
+    requires frame { IsFrame p.t.now p.f.now }
+    requires walkable { AreWalkable p.t.now }
+    requires path { p.path < paths_of p.t.now }
+    requires first { first ≤ length (starts_of p.t.now) }
+    requires places { at.places.now ≡ path_places p.t.now p.path }
+    requires jobs { at.jobs.now ≡ path_jobs_of p.t.now p.path }
+    requires few { length at.jobs.now ≤ 128 }
+    requires clean { AreCleanTo p.t.now (instrs_of p.lists.now) p.path first }
+    requires saved { AreSaved p.t.now (instrs_of p.lists.now) p.path first states.now }
     requires room { length states.now ≡ 32 }
-    ensures { take (length jobs.now) left.new ≡ (reached t.now (instrs_of lists.now) path first).left }
+    ensures { take (length at.entry.jobs.now) left.new ≡ (reached p.entry.t.now (instrs_of p.entry.lists.now) p.entry.path first).left }
 {
     if first == 0 {
-        resume(jobs, &states[0], 0, left);
+        resume(at.jobs, &states[0], 0, left);
         return;
     }
-    let known = known_by(places, f.starts[first - 1]);
-    resume(jobs, &states[first - 1], known, left);
+    let known = known_by(at.places, p.f.starts[first - 1]);
+    resume(at.jobs, &states[first - 1], known, left);
 }
 
 // Saves what is left.
@@ -148,77 +163,65 @@ fn save(left: &[Time], out: &mut [Time; 128])
 
 // Walks the lists of a path, whose positions and jobs these are, from list `first` on.
 fn walk_jobs(
-    t: &Tables,
-    f: &Frame,
-    lists: &[Schedule],
-    path: u32,
+    p: PathLists<'_>,
     first: usize,
-    places: &[Place],
-    jobs: &[Job],
+    at: Positions<'_>,
     left: &mut [Time],
     finish: &mut [Time],
     states: &mut States,
 ) -> Result<(), Miss>
-    requires frame { IsFrame t.now f.now }
-    requires walkable { AreWalkable t.now }
-    requires path { path < paths_of t.now }
-    requires lists { length lists.now ≡ nodes_of_frame t.now }
-    requires instrs { All (λ s. length s.instrs ≤ 4294967295) lists.now }
-    requires first { first ≤ length (starts_of t.now) }
-    requires places { places.now ≡ path_places t.now path }
-    requires jobs { jobs.now ≡ path_jobs_of t.now path }
-    requires left { left.old ≡ (reached t.now (instrs_of lists.now) path first).left }
-    requires finish { length finish.old ≡ length jobs.now }
-    requires clean { AreCleanTo t.now (instrs_of lists.now) path first }
-    requires saved { AreSaved t.now (instrs_of lists.now) path first states.old }
+    requires frame { IsFrame p.t.now p.f.now }
+    requires walkable { AreWalkable p.t.now }
+    requires path { p.path < paths_of p.t.now }
+    requires lists { length p.lists.now ≡ nodes_of_frame p.t.now }
+    requires instrs { All (λ s. length s.instrs ≤ 4294967295) p.lists.now }
+    requires first { first ≤ length (starts_of p.t.now) }
+    requires places { at.places.now ≡ path_places p.t.now p.path }
+    requires jobs { at.jobs.now ≡ path_jobs_of p.t.now p.path }
+    requires left { left.old ≡ (reached p.t.now (instrs_of p.lists.now) p.path first).left }
+    requires finish { length finish.old ≡ length at.jobs.now }
+    requires clean { AreCleanTo p.t.now (instrs_of p.lists.now) p.path first }
+    requires saved { AreSaved p.t.now (instrs_of p.lists.now) p.path first states.old }
     requires room { length states.old ≡ 32 }
-    ensures clean { OnOk result (AreCleanTo t.now (instrs_of lists.now) path (length (starts_of t.now))) }
-    ensures saved { OnOk result (AreSaved t.now (instrs_of lists.now) path (length (starts_of t.now)) states.new) }
-    ensures missed { IfErr result (λ m. MissesAt t.now (instrs_of lists.now) path m) }
+    ensures clean { OnOk result (AreCleanTo p.entry.t.now (instrs_of p.entry.lists.now) p.entry.path (length (starts_of p.entry.t.now))) }
+    ensures saved { OnOk result (AreSaved p.entry.t.now (instrs_of p.entry.lists.now) p.entry.path (length (starts_of p.entry.t.now)) states.new) }
+    ensures missed { IfErr result (λ m. MissesAt p.entry.t.now (instrs_of p.entry.lists.now) p.entry.path m) }
     ensures room { length states.new ≡ 32 }
 {
+    let PathLists { t, f, lists, path } = p;
     for j in first..f.count {
-        let known = known_by(places, f.starts[j]);
+        let known = known_by(at.places, f.starts[j]);
         let list = &lists[node(t, f, path, j) as usize];
-        match worst_list(
-            jobs,
+        let span = Span {
             known,
-            list,
-            f.starts[j],
-            f.starts[j + 1],
-            left,
-            finish,
-        ) {
+            from: f.starts[j],
+            until: f.starts[j + 1],
+        };
+        match worst_list(at.jobs, span, list, left, finish) {
             Ok(_) => save(left, &mut states[j]),
-            Err(miss) => return Err(counted(count_before(t, f, lists, path, j), miss)),
+            Err(miss) => return Err(counted(count_before(p, j), miss)),
         }
     }
     Ok(())
 }
 
 // Walks the lists of a path from list `first` on.
-fn walk_on(
-    t: &Tables,
-    f: &Frame,
-    lists: &[Schedule],
-    path: u32,
-    first: usize,
-    states: &mut States,
-) -> Result<(), Miss>
-    requires frame { IsFrame t.now f.now }
-    requires walkable { AreWalkable t.now }
-    requires path { path < paths_of t.now }
-    requires lists { length lists.now ≡ nodes_of_frame t.now }
-    requires instrs { All (λ s. length s.instrs ≤ 4294967295) lists.now }
-    requires first { first ≤ length (starts_of t.now) }
-    requires clean { AreCleanTo t.now (instrs_of lists.now) path first }
-    requires saved { AreSaved t.now (instrs_of lists.now) path first states.old }
+fn walk_on(p: PathLists<'_>, first: usize, states: &mut States) -> Result<(), Miss>
+    requires frame { IsFrame p.t.now p.f.now }
+    requires walkable { AreWalkable p.t.now }
+    requires path { p.path < paths_of p.t.now }
+    requires lists { length p.lists.now ≡ nodes_of_frame p.t.now }
+    requires instrs { All (λ s. length s.instrs ≤ 4294967295) p.lists.now }
+    requires first { first ≤ length (starts_of p.t.now) }
+    requires clean { AreCleanTo p.t.now (instrs_of p.lists.now) p.path first }
+    requires saved { AreSaved p.t.now (instrs_of p.lists.now) p.path first states.old }
     requires room { length states.old ≡ 32 }
-    ensures clean { OnOk result (AreCleanTo t.now (instrs_of lists.now) path (length (starts_of t.now))) }
-    ensures saved { OnOk result (AreSaved t.now (instrs_of lists.now) path (length (starts_of t.now)) states.new) }
-    ensures missed { IfErr result (λ m. MissesAt t.now (instrs_of lists.now) path m) }
+    ensures clean { OnOk result (AreCleanTo p.entry.t.now (instrs_of p.entry.lists.now) p.entry.path (length (starts_of p.entry.t.now))) }
+    ensures saved { OnOk result (AreSaved p.entry.t.now (instrs_of p.entry.lists.now) p.entry.path (length (starts_of p.entry.t.now)) states.new) }
+    ensures missed { IfErr result (λ m. MissesAt p.entry.t.now (instrs_of p.entry.lists.now) p.entry.path m) }
     ensures room { length states.new ≡ 32 }
 {
+    let PathLists { t, f, path, .. } = p;
     t.keeps_ranges();
     let mut places = [Place { inv: None, at: 0 }; MAX_POSITIONS];
     let count = fill_places(t, &f.rounds[..f.round_count], f.paths, path, &mut places);
@@ -226,25 +229,15 @@ fn walk_on(
     placed_jobs(t, &places[..count], &mut jobs);
     let mut left = [0; MAX_POSITIONS];
     let mut finish = [0; MAX_POSITIONS];
-    begin_left(
-        t,
-        f,
-        lists,
-        path,
-        first,
-        &places[..count],
-        &jobs[..count],
-        states,
-        &mut left,
-    );
+    let at = Positions {
+        places: &places[..count],
+        jobs: &jobs[..count],
+    };
+    begin_left(p, first, at, states, &mut left);
     walk_jobs(
-        t,
-        f,
-        lists,
-        path,
+        p,
         first,
-        &places[..count],
-        &jobs[..count],
+        at,
         &mut left[..count],
         &mut finish[..count],
         states,
@@ -265,7 +258,13 @@ fn walk_paths(t: &Tables, lists: &[Schedule]) -> Result<(), (u32, Miss)>
     let mut states = [[0; MAX_POSITIONS]; MAX_STARTS];
     for path in 0..f.paths {
         let first = if path == 0 { 0 } else { fork(t, &f, path - 1) };
-        if let Err(miss) = walk_on(t, &f, lists, path, first, &mut states) {
+        let here = PathLists {
+            t,
+            f: &f,
+            lists,
+            path,
+        };
+        if let Err(miss) = walk_on(here, first, &mut states) {
             return Err((path, miss));
         }
     }

@@ -1,4 +1,4 @@
-use Rattle.htl_refine.proofs.Kept.{kept_apart}
+use Rattle.htl_model.proofs.FrameRules.{kept_apart}
 use Rattle.htl.proofs.made.is_formed.Goals as goal
 
 pub returns-in-Ok-clause-formed : goal.returns-in-Ok-clause-formed

@@ -2,7 +2,7 @@ use Rattle.std.proofs.Common.{◌≡◌, ◌∙◌, ℕ, ◌<◌, ◌+◌, List,
 use Rattle.std.proofs.lemmas.Option.{get_or_from_slice_get, slice_get-get_or}
 use Rattle.htl_model.specs.Selected.{IsSelection}
 use Rattle.htl_model.specs.Tables.{Tables}
-use Rattle.htl_form.proofs.TestLaws.{last}
+use Rattle.htl_model.proofs.TestLaws.{last}
 use Rattle.htl_refine.specs.declared.selection.Selection.{Selection}
 use Rattle.htl.proofs.refine_tests.are_selections.Goals as goal
 

@@ -1,4 +1,4 @@
-use Rattle.htl_refine.proofs.Kept.{kept_apart}
+use Rattle.htl_model.proofs.FrameRules.{kept_apart}
 use Rattle.htl.proofs.refine_tests.path.Goals as goal
 
 pub derive_path-requires-clause-kept : goal.derive_path-requires-clause-kept

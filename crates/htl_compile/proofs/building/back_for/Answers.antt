@@ -1,20 +1,20 @@
 use Rattle.std.proofs.Common.{List, refl, ◌∙◌, ap₂, sym, subst}
-use Rattle.htl_compile.proofs.BuiltLaws.{kept_12, object_accepted}
+use Rattle.htl_compile.proofs.BuiltLaws.{kept_12, no_limit, object_accepted}
 use Rattle.htl_compile.proofs.CodedLaws.{fitting_are_code}
 use Rattle.htl_compile.proofs.PlanLaws.{planned_is, unplanned_is}
 use Rattle.htl_ecode.specs.declared.ecode.ECode.{ECode}
+use Rattle.htl_model.proofs.FrameRules.{kept_apart}
 use Rattle.htl_model.specs.FormRules.{Offsets}
-use Rattle.htl_object.proofs.OneRound.{kept_apart, no_limit}
 use Rattle.htl_object.specs.Accepted.{IsAccepted}
 use Rattle.htl_object.specs.declared.object.Object.{Object}
 use Rattle.htl_walk.specs.declared.schedule.Schedule.{Schedule}
 use Rattle.htl_compile.proofs.building.back_for.Goals as goal
 
 pub edf_nodes-requires-clause-limits : goal.edf_nodes-requires-clause-limits
-edf_nodes-requires-clause-limits c = no_limit c.args.t c.keeps_ranges.ensures.ranges (kept_12 c.args.t c.in_default.ensures.formed) c.requires.limits
+edf_nodes-requires-clause-limits c = no_limit c.args.t c.keeps_ranges.ensures.ranges c.in_default.ensures.formed
 
 pub edf_nodes-requires-clause-formed : goal.edf_nodes-requires-clause-formed
-edf_nodes-requires-clause-formed c = kept_apart c.args.t c.keeps_ranges.ensures.ranges (kept_12 c.args.t c.in_default.ensures.formed)
+edf_nodes-requires-clause-formed c = kept_apart c.args.t 12 (kept_12 c.args.t c.in_default.ensures.formed)
 
 pub generate_e-requires : goal.generate_e-requires
 generate_e-requires c = λ s have need broken. c.in_default.ensures.formed Offsets s have need broken

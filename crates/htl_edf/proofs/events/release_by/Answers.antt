@@ -1,4 +1,4 @@
-use Rattle.std.proofs.Common.{arith, ◌∙◌, ◌&&◌, ◌||◌, ap, eqb, ltb, get_or, ℕ}
+use Rattle.std.proofs.Common.{arith, ◌∙◌, ◌&&◌, ◌||◌, ap, eqb, ltb, get_or}
 use Rattle.htl_model.specs.Bits.{has_bit}
 use Rattle.htl_edf.specs.Ranks.{number_of}
 use Rattle.htl_edf.proofs.ReadyRanks.{releasing_start, releasing_more, releasing_done}

@@ -1,4 +1,4 @@
-use Rattle.std.proofs.Common.{◌≡◌, ◌≤◌, ◌<◌, ◌-◌, length}
+use Rattle.std.proofs.Common.{◌≡◌, ◌≤◌, ◌-◌, length}
 use Rattle.htl_edf.specs.Lists.{LeftAt}
 use Rattle.htl_edf.specs.Ranks.{IsAhead}
 use Rattle.htl_edf.proofs.nodes.run_until.Given as goal

@@ -1,4 +1,4 @@
-use Rattle.std.proofs.Common.{◌≡◌, ◌≤◌, ◌<◌, ◌-◌, length}
+use Rattle.std.proofs.Common.{◌≡◌, ◌≤◌, ◌-◌, length}
 use Rattle.htl_edf.specs.Lists.{jobs_of, LeftAt}
 use Rattle.htl_edf.specs.Tight.{tight}
 use Rattle.htl_edf.specs.Edf.{edf}

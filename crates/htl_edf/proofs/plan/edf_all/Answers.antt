@@ -19,7 +19,7 @@ loop-selection-preserved c =
 
 pub plan-requires-clause-jobs : goal.plan-requires-clause-jobs
 plan-requires-clause-jobs c =
-    (plannable c.args.t.now c.keeps_ranges.ensures.ranges c.requires.formed c.requires.limits).each c.loop-selection.selection
+    (plannable c.args.t.now c.keeps_ranges.ensures.ranges c.requires.formed c.requires.one_period c.requires.limits).each c.loop-selection.selection
     (omega (arith, c.selections-selection-end.ensures, c.loop-selection-test.true))
 
 pub plan-requires-clause-period : goal.plan-requires-clause-period

@@ -1,4 +1,4 @@
-use Rattle.std.proofs.Common.{◌≡◌, ◌∙◌, arith, sym, ap, ℕ, ◌+◌, pos, length}
+use Rattle.std.proofs.Common.{arith, ℕ, ◌+◌}
 use Rattle.std.proofs.lemmas.Int.{ints, clamps}
 use Rattle.htl_walk.specs.Jobs.{absent_job}
 use Rattle.htl_edf.specs.Lists.{jobs_of}

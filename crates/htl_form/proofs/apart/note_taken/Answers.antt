@@ -1,4 +1,4 @@
-use Rattle.std.proofs.Common.{◌∙◌, refl}
+use Rattle.std.proofs.Common.{◌∙◌}
 use Rattle.htl_form.proofs.OwnerLaws.{none_shared, all_noted}
 use Rattle.htl_form.proofs.apart.note_taken.Goals as goal
 

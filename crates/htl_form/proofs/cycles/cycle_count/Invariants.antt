@@ -1,5 +1,5 @@
 use Rattle.std.proofs.Common.{◌≡◌, ◌≤◌}
-use Rattle.htl_model.proofs.PortChains.{count_below}
+use Rattle.htl_model.specs.NumbersBelow.{count_below}
 use Rattle.htl_form.specs.Cycles.{is_on_cycle}
 use Rattle.htl_form.proofs.cycles.cycle_count.Given as goal
 

@@ -1,4 +1,4 @@
-use Rattle.std.proofs.Common.{◌∙◌, ap, arith}
+use Rattle.std.proofs.Common.{◌∙◌, ap}
 use Rattle.htl_model.specs.Bits.{cell}
 use Rattle.htl_form.proofs.RowLaws.{diagonal}
 use Rattle.htl_form.proofs.cycles.mark_mode.Goals as goal

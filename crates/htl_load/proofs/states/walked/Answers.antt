@@ -1,5 +1,5 @@
 use Rattle.std.proofs.Common.{List, length, IfErr, ◌∙◌, ap, subst}
-use Rattle.htl_object.proofs.OneRound.{kept_apart}
+use Rattle.htl_model.proofs.FrameRules.{kept_apart}
 use Rattle.htl_load.proofs.StateLaws.{kept_12}
 use Rattle.htl_walk.specs.NodeWalks.{IsFirstFailing, instrs_of}
 use Rattle.htl_walk.specs.declared.schedule.Schedule.{Schedule}
@@ -9,7 +9,7 @@ pub worst_all-requires-clause-limits : goal.worst_all-requires-clause-limits
 worst_all-requires-clause-limits c = c.requires.ranges.frames
 
 pub worst_all-requires-clause-formed : goal.worst_all-requires-clause-formed
-worst_all-requires-clause-formed c = let o = c.args.o.now in kept_apart o.tables c.requires.ranges.tables (kept_12 o.tables c.requires.formed)
+worst_all-requires-clause-formed c = let o = c.args.o.now in kept_apart o.tables 12 (kept_12 o.tables c.requires.formed)
 
 pub worst_all-requires-clause-lists : goal.worst_all-requires-clause-lists
 worst_all-requires-clause-lists c = ap length c.as_slice.ensures ∙ c.requires.ranges.schedules

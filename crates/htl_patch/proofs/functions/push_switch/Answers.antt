@@ -1,9 +1,9 @@
-use Rattle.std.proofs.Common.{◌≡◌, ◌≤◌, ◌<◌, ◌++◌, ◌-◌, ◌∷◌, [], ℕ, List, length, map, ap, subst, ◌∙◌, OnOk, arith}
+use Rattle.std.proofs.Common.{◌≡◌, ◌≤◌, ◌++◌, ◌-◌, ◌∷◌, [], ℕ, length, map, ap, subst, ◌∙◌, OnOk, arith}
 use Rattle.std.proofs.lemmas.Bool.Decides.{nat_tests}
 use Rattle.htl_model.specs.Tables.{Fun, fun_of}
 use Rattle.htl_patch.specs.Renumbered.{function_of_switch}
 use Rattle.htl_patch.specs.United.{graft}
-use Rattle.htl_patch.proofs.FunctionParts.{switch_front, switch_back, switch_within}
+use Rattle.htl_patch.proofs.FunctionParts.{switch_front, switch_back}
 use Rattle.htl_patch.proofs.functions.push_switch.Goals as goal
 
 pub push_of_switch-requires-clause-within : goal.push_of_switch-requires-clause-within

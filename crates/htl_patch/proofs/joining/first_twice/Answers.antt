@@ -1,4 +1,4 @@
-use Rattle.std.proofs.Common.{◌≡◌, ◌<◌, length, ap, refl, arith}
+use Rattle.std.proofs.Common.{◌<◌, length, ap, refl, arith}
 use Rattle.std.proofs.lemmas.Bool.Decides.{nat_tests}
 use Rattle.htl_patch.specs.Joining.{first_twice}
 use Rattle.htl_patch.specs.United.{graft}

@@ -1,4 +1,4 @@
-use Rattle.std.proofs.Common.{◌≡◌, ◌<◌, ℕ, length, sym, subst}
+use Rattle.std.proofs.Common.{◌<◌, ℕ, length, sym, subst}
 use Rattle.htl_patch.proofs.JoinLaws.{unit_within}
 use Rattle.htl_patch.proofs.joining.is_stray.Goals as goal
 

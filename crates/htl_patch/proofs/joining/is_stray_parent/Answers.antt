@@ -1,4 +1,4 @@
-use Rattle.std.proofs.Common.{◌≡◌, ◌<◌, ◌∙◌, ℕ, Some, None, length, ap, sym, subst}
+use Rattle.std.proofs.Common.{◌∙◌, Some, None, ap, sym}
 use Rattle.htl_patch.specs.Joining.{is_taken}
 use Rattle.htl_patch.specs.United.{graft}
 use Rattle.htl_patch.proofs.JoinLaws.{calls_within, call_is, stray_met, stray_unmet, inv_unit}

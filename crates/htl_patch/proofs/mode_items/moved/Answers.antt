@@ -1,4 +1,4 @@
-use Rattle.std.proofs.Common.{◌≡◌, Some, None, length, ap, sym, ◌∙◌, arith}
+use Rattle.std.proofs.Common.{Some, None, length, ap, sym, ◌∙◌, arith}
 use Rattle.htl_patch.specs.United.{graft}
 use Rattle.htl_patch.proofs.JoinLaws.{calls_within, call_is, moved_met, moved_unmet, moved_own}
 use Rattle.htl_patch.proofs.mode_items.moved.Goals as goal

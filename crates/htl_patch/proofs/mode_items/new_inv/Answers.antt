@@ -1,4 +1,4 @@
-use Rattle.std.proofs.Common.{◌≡◌, ◌≤◌, ◌<◌, IfOk, length, ap, subst, arith}
+use Rattle.std.proofs.Common.{◌≡◌, IfOk, length, ap, subst, arith}
 use Rattle.std.proofs.lemmas.Bool.Decides.{nat_tests}
 use Rattle.htl_model.specs.declared.parts.Inv.{Inv}
 use Rattle.htl_patch.specs.Patched.{new_numbers}

@@ -1,4 +1,4 @@
-use Rattle.std.proofs.Common.{◌≡◌, ◌<◌, ℕ, List, length, get_or, ap, subst, sym, ◌∙◌, IfOk}
+use Rattle.std.proofs.Common.{◌≡◌, ◌<◌, ℕ, List, get_or, ap, subst, sym, ◌∙◌, IfOk}
 use Rattle.std.specs.List.{flat_map}
 use Rattle.htl_patch.specs.Owners.{owned_by}
 use Rattle.htl_patch.specs.United.{graft, united}

@@ -1,4 +1,4 @@
-use Rattle.std.proofs.Common.{◌≡◌, ◌<◌, ℕ, List, length, All, subst, sym, ◌∙◌}
+use Rattle.std.proofs.Common.{◌<◌, ℕ, List, length, All, subst, sym, ◌∙◌}
 use Rattle.htl_patch.specs.United.{graft, united}
 use Rattle.htl_patch.proofs.Grafting.{CanGraft}
 use Rattle.htl_patch.proofs.NumberLaws.{modes_within, order_within}

@@ -1,7 +1,6 @@
-use Rattle.std.proofs.Common.{◌≡◌, ◌≤◌, ◌<◌, ◌+◌, ℕ, List, length, sym, ◌∙◌, ap, subst, arith}
+use Rattle.std.proofs.Common.{◌+◌, length, ◌∙◌, ap, arith}
 use Rattle.htl_patch.specs.Patched.{new_numbers}
-use Rattle.htl_patch.specs.Placed.{ArePlaces, ArePlacesOf}
-use Rattle.htl_patch.specs.Renumbered.{Numbering, place_among}
+use Rattle.htl_patch.specs.Renumbered.{Numbering}
 use Rattle.htl_patch.specs.United.{graft, united, donor_port, donor_task, donor_inv}
 use Rattle.htl_patch.proofs.Grafting.{CanGraft}
 use Rattle.htl_patch.proofs.JoinLaws.{places_are, both_count}

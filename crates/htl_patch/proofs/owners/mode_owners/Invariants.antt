@@ -1,4 +1,4 @@
-use Rattle.std.proofs.Common.{◌≡◌, ◌++◌, ◌+◌, ℕ, length, map, take}
+use Rattle.std.proofs.Common.{◌≡◌, ◌++◌, ◌+◌, length, map, take}
 use Rattle.htl_model.specs.declared.parts.Mode.{Mode}
 use Rattle.htl_patch.proofs.owners.mode_owners.Given as goal
 

@@ -1,7 +1,6 @@
-use Rattle.std.proofs.Common.{◌≡◌, ◌<◌, ◌≤◌, ◌+◌, ℕ, List, length, get_or, ap, subst, sym, ◌∙◌, refl, arith}
+use Rattle.std.proofs.Common.{◌≡◌, ℕ, List, length, get_or, ap, subst, sym, refl, arith}
 use Rattle.std.proofs.lemmas.Bool.Decides.{nat_tests}
 use Rattle.htl_patch.proofs.ListLaws.{get_push, place_end}
-use Rattle.htl_patch.specs.Renumbered.{place_among}
 use Rattle.htl_patch.proofs.places.places.Goals as goal
 
 pub loop-init : goal.loop-init

@@ -1,12 +1,12 @@
-use Rattle.std.proofs.Common.{◌≡◌, ℕ, List, length, Some, None, ap, subst, sym, ◌∙◌}
-use Rattle.htl_patch.specs.Joining.{exceeded, first_limit, Joins}
+use Rattle.std.proofs.Common.{ℕ, List, length, ap, subst, sym, ◌∙◌}
+use Rattle.htl_patch.specs.Joining.{exceeded}
 use Rattle.htl_patch.specs.Levels.{sizes_of, AreFewNumbers}
 use Rattle.htl_patch.specs.Patched.{order, patched}
 use Rattle.htl_patch.specs.Placed.{ArePlacesOf}
 use Rattle.htl_patch.specs.Renumbered.{Numbering}
 use Rattle.htl_patch.specs.Stops.{AreMet}
 use Rattle.htl_patch.specs.United.{graft, united}
-use Rattle.htl_patch.proofs.Assembling.{joined, early, limited}
+use Rattle.htl_patch.proofs.Assembling.{joined, limited}
 use Rattle.htl_patch.proofs.Grafting.{CanGraft}
 use Rattle.htl_patch.proofs.LimitLaws.{few_numbers, limit_is, levels_upright}
 use Rattle.htl_patch.proofs.Parents.{have_parents, patched_in_range}

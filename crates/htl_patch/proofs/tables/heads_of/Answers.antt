@@ -1,4 +1,4 @@
-use Rattle.std.proofs.Common.{◌≡◌, ◌<◌, ℕ, List, length, map, All, ap, subst, sym, ◌∙◌}
+use Rattle.std.proofs.Common.{◌<◌, ℕ, List, length, map, All, ap, subst, sym, ◌∙◌}
 use Rattle.htl_patch.specs.Patched.{order, new_numbers}
 use Rattle.htl_patch.specs.Renumbered.{Numbering, mode_at, module_at, new_mode, new_module}
 use Rattle.htl_patch.specs.United.{graft, united}

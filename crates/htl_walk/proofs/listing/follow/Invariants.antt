@@ -5,6 +5,6 @@ use Rattle.htl_walk.proofs.listing.follow.Given as goal
 abbrev pub invariant-loop-k : goal.invariant-loop-k
 invariant-loop-k l =
     record {
-      walked : IsWalked l.jobs l.instrs (record { time = l.from; left = l.initial.left }) l.k (record { time = l.now.time; left = l.left });
+      walked : IsWalked l.jobs l.instrs (record { time = l.span.from; left = l.initial.left }) l.k (record { time = l.now.time; left = l.left });
       pending : ArePending l.now.pending l.left;
     }

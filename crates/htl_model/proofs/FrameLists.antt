@@ -1,0 +1,91 @@
+-- A frame is made of modules, modes and invocations: tables that share these three lists have the same frame, the same paths, and the
+-- same limits.
+use Rattle.std.proofs.Common.{◌≡◌, ℕ, ◌+◌, ◌*◌, ◌/◌, ◌%◌, min, max, cond, eqb, ltb, List, [], ◌∷◌, ◌++◌, length, map, get_or, Option, Some, None, refl, ◌∙◌, ap}
+use mathlib.Core.Path.{fun_ext}
+use Rattle.std.specs.List.{flat_map}
+use Rattle.htl_model.specs.Frames.{starts, unit_period, common_multiple, rounds_of, rounds_at, rounds, choices, paths, mode_in, radices, places_of, places_in, path_places, most_invs, most_positions, too_long, last_of, exceeds, first_of, frame_limit}
+use Rattle.htl_model.specs.Selections.{root_modules, modes_of, invs_of}
+use Rattle.htl_model.specs.Tables.{Tables}
+use Rattle.htl_model.specs.declared.frame.Place.{Place}
+use Rattle.htl_model.specs.declared.frame.Round.{Round}
+
+-- the tables with these three lists alone
+abbrev pub framed : Tables → Tables
+framed t = record { comms = []; modes = t.modes; modules = t.modules; ports = []; tasks = []; invs = t.invs; switches = []; functions = [] }
+
+-- the first limit that is exceeded, of a first module and those behind it
+abbrev limit_of : ℕ → List ℕ → Option (ℕ × ℕ) → ℕ → ℕ → ℕ → Option (ℕ × (ℕ × ℕ))
+limit_of u us long s c m =
+    elim long [
+      | Some x ↦ Some (x.0, (x.1, 1000000))
+      | None ↦ let v = last_of u us in first_of (exceeds v s 32) (first_of (exceeds v (min c 4294967295) 1024) (exceeds v m 128))
+    ]
+
+abbrev limit_in : Tables → List ℕ → Option (ℕ × (ℕ × ℕ))
+limit_in t roots =
+    elim roots as (λ _. Option (ℕ × (ℕ × ℕ))) [
+      | [] ↦ None
+      | u ∷ us ↦ limit_of u us (too_long t 1 (u ∷ us)) (length (starts t)) (choices t (rounds t)) (most_positions t (rounds t))
+    ]
+
+module _ (t : Tables) where
+  pub rounds_of_framed : (a : ℕ) (us : List ℕ) → rounds_of t a us ≡ rounds_of (framed t) a us
+  rounds_of_framed a [] = refl
+  rounds_of_framed a (u ∷ us) = ap (λ (rest : List Round). cond (eqb (a % unit_period t u) 0) (record { at = a; unit = u } ∷ rest) rest) (rounds_of_framed a us)
+
+  pub rounds_framed : rounds t ≡ rounds (framed t)
+  rounds_framed = ap (λ (f : ℕ → List Round). flat_map f (starts t)) (fun_ext (λ a. rounds_of_framed a (root_modules t)))
+
+  pub choices_framed : (rs : List Round) → choices t rs ≡ choices (framed t) rs
+  choices_framed [] = refl
+  choices_framed (r ∷ rs) = ap (λ (n : ℕ). length (modes_of t r.unit) * n) (choices_framed rs)
+
+  pub all_choices_framed : choices t (rounds t) ≡ choices (framed t) (rounds (framed t))
+  all_choices_framed = ap (choices t) rounds_framed ∙ choices_framed (rounds (framed t))
+
+  pub paths_framed : paths t ≡ paths (framed t)
+  paths_framed = ap (λ (n : ℕ). elim (root_modules t) as (λ _. ℕ) [ [] ↦ 0 | u ∷ us ↦ n ]) all_choices_framed
+
+  pub radices_framed : radices t ≡ radices (framed t)
+  radices_framed = ap (λ (f : ℕ → ℕ). map f (starts t)) (fun_ext (λ a. ap (choices t) (rounds_of_framed a (root_modules t)) ∙ choices_framed (rounds_at (framed t) a)))
+
+  places_in_framed : (path : ℕ) (rs : List Round) → places_in t path rs ≡ places_in (framed t) path rs
+  places_in_framed path [] = refl
+  places_in_framed path (r ∷ rs) =
+      ap (λ (n : ℕ). places_of r.at (invs_of t (get_or (modes_of t r.unit) (path / n % length (modes_of t r.unit)) 0)) ++ places_in t path rs) (choices_framed rs)
+      ∙ ap (λ (ps : List Place). places_of r.at (invs_of t (mode_in (framed t) path r rs)) ++ ps) (places_in_framed path rs)
+
+  pub path_places_framed : (path : ℕ) → path_places t path ≡ path_places (framed t) path
+  path_places_framed path = ap (places_in t path) rounds_framed ∙ places_in_framed path (rounds (framed t))
+
+  -- ---- limits
+
+  too_long_framed : (m : ℕ) (us : List ℕ) → too_long t m us ≡ too_long (framed t) m us
+  too_long_framed m [] = refl
+  too_long_framed m (u ∷ us) = let n = common_multiple m (unit_period t u) in ap (λ (o : Option (ℕ × ℕ)). cond (ltb 1000000 n) (Some (u, n)) o) (too_long_framed n us)
+
+  most_invs_framed : (ms : List ℕ) → most_invs t ms ≡ most_invs (framed t) ms
+  most_invs_framed [] = refl
+  most_invs_framed (m ∷ ms) = ap (λ (n : ℕ). max (length (invs_of t m)) n) (most_invs_framed ms)
+
+  most_framed : (rs : List Round) → most_positions t rs ≡ most_positions (framed t) rs
+  most_framed [] = refl
+  most_framed (r ∷ rs) =
+      ap (λ (n : ℕ). n + most_positions t rs) (most_invs_framed (modes_of t r.unit))
+      ∙ ap (λ (n : ℕ). most_invs (framed t) (modes_of t r.unit) + n) (most_framed rs)
+
+  pub all_most_framed : most_positions t (rounds t) ≡ most_positions (framed t) (rounds (framed t))
+  all_most_framed = ap (most_positions t) rounds_framed ∙ most_framed (rounds (framed t))
+
+  limit_in_framed : (roots : List ℕ) → limit_in t roots ≡ limit_in (framed t) roots
+  limit_in_framed [] = refl
+  limit_in_framed (u ∷ us) =
+      let s = length (starts t) in
+      let long = too_long (framed t) 1 (u ∷ us) in
+      let c = choices (framed t) (rounds (framed t)) in
+      ap (λ (o : Option (ℕ × ℕ)). limit_of u us o s (choices t (rounds t)) (most_positions t (rounds t))) (too_long_framed 1 (u ∷ us))
+      ∙ ap (λ (n : ℕ). limit_of u us long s n (most_positions t (rounds t))) all_choices_framed
+      ∙ ap (limit_of u us long s c) all_most_framed
+
+  pub limit_framed : frame_limit t ≡ frame_limit (framed t)
+  limit_framed = limit_in_framed (root_modules t)
