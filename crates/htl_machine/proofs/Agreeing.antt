@@ -1,4 +1,4 @@
--- What the parts of an instant in code say, in the words of the meaning: the selection and the lengths of the round that begins, the lines, the totals.
+-- What the parts of an instant in code say, in the words of the meaning: the modes, the lines, the totals.
 use Rattle.std.proofs.Common.{◌≡◌, ℕ, zero, suc, ◌+◌, ◌-◌, ◌^◌, ◌≤◌, ◌<◌, Bool, true, false, cond, min, List, [], ◌∷◌, ◌++◌, length, slice_get, Option, Some, None, ℤ, refl, sym, ap, ap₂, ◌∙◌, arith, ◌⊎◌, inl, inr}
 use Rattle.std.proofs.lemmas.Option.{slice_get_past}
 use Rattle.htl_model.specs.declared.event.Event.{Event}
@@ -9,8 +9,6 @@ use Rattle.htl_model.specs.Tables.{Tables}
 use Rattle.htl_model.specs.Ranges.{AreInRange}
 use Rattle.htl_model.specs.Meaning.{state, before, stay_of, mode_of, mode_in, value_lines}
 use Rattle.htl_model.proofs.Locality.{up_to_same}
-use Rattle.htl_walk.specs.declared.job.Job.{Job}
-use Rattle.htl_walk.specs.declared.schedule.SInstr.{SInstr}
 use Rattle.htl_smach.specs.declared.left.Left.{Left}
 use Rattle.htl_ecode.specs.declared.ecode.ECode.{ECode}
 use Rattle.htl_ecode.specs.Paths.{Done, e_path}
@@ -22,11 +20,8 @@ use Rattle.htl_console.specs.declared.shown.Shown.{Shown}
 use Rattle.htl_console.specs.Shows.{shows_code}
 use Rattle.htl_machine.specs.declared.tally.Tally.{Tally}
 use Rattle.htl_machine.specs.Counts.{one_record, one_instr, with_records, with_instrs}
-use Rattle.htl_refine.specs.Records.{lengths_of}
-use Rattle.htl_machine.specs.Starting.{kept_lengths}
 use Rattle.htl_machine.specs.Changing.{mode_change, value_changes, mode_changes, all_changes}
 use Rattle.htl_machine.specs.Doing.{path_lines}
-use Rattle.htl_machine.specs.Follows.{Held, UpTo}
 use Rattle.htl_machine.specs.Texts.{e_line}
 use Rattle.htl_machine.proofs.Standing.{standing_at}
 use Rattle.htl_machine.proofs.Printing.{joined-append}
@@ -67,15 +62,6 @@ modes_closed t code es now c range b k = elim (order k (length t.modules)) [
 -- the modes before an instant
 pub modes_open : (t : Tables) (code : ECode) (es : List Event) (now : ℕ) (c : Calendar) → Between t code es now 1 c 0 → (k : ℕ) → k < length t.modules → list_at c.modes k ≡ mode_in (before t es now) k
 modes_open t code es now c b k h = ap (λ (e : Entry). e.mode) (b.above k (omega arith) h)
-
--- ---- lengths
-
--- the lengths that are kept are those of the events, for jobs that are released now or later
-pub lengths_kept : (t : Tables) (schedules : List (List SInstr)) (es : List Event) (now : ℕ) (m : Held) → UpTo t schedules es now m → (jobs : List Job) → ((p : ℕ) (j : Job) → slice_get jobs p ≡ Some j → j.inv < length t.invs)
-    → kept_lengths m.takes jobs ≡ lengths_of t es now jobs
-lengths_kept t schedules es now m up [] known = refl
-lengths_kept t schedules es now m up (j ∷ js) known =
-    ap₂ (λ (a : ℕ) (ns : List ℕ). a ∷ ns) (sym (up.takes j.inv (now + j.release) (known 0 j refl) (omega (arith, up.later)))) (lengths_kept t schedules es now m up js (λ p k e. known (suc p) k e))
 
 -- ---- lines
 

@@ -3,10 +3,7 @@ use Rattle.std.proofs.Common.{◌≡◌, ℕ, zero, suc, ◌-◌, ◌<◌, List,
 use Rattle.htl_model.specs.declared.event.Event.{Event}
 use Rattle.htl_model.specs.Meaning.{before, state}
 use Rattle.htl_model.specs.Tables.{Tables}
-use Rattle.htl_walk.specs.declared.job.Job.{Job}
-use Rattle.htl_walk.specs.declared.schedule.SInstr.{SInstr}
 use Rattle.htl_emach.specs.Calendars.{list_at}
-use Rattle.htl_emach.specs.Shapes.{HasValues}
 use Rattle.htl_ecode.specs.declared.ecode.ECode.{ECode}
 use Rattle.htl_emach.specs.Contents.{Content}
 use Rattle.htl_emach.specs.Following.{phase_path}
@@ -26,10 +23,8 @@ use Rattle.htl_machine.specs.Running.{replay}
 use Rattle.htl_machine.specs.declared.numbering.ListAt.{ListAt}
 use Rattle.htl_machine.specs.Beginning.{IsToBegin}
 use Rattle.htl_object.specs.Accepted.{IsAccepted}
-use Rattle.htl_machine.specs.Asking.{IsSound, IsToOpen, IsNoted}
+use Rattle.htl_machine.specs.Asking.{IsSound, IsNoted}
 use Rattle.htl_machine.specs.Calls.{Seen, IsUpTo}
-use Rattle.htl_machine.specs.Instant.{IsReadyAt}
-use Rattle.htl_machine.specs.Recording.{AreOf}
 use Rattle.htl_machine.specs.Values.{values_before}
 use Rattle.htl_machine.proofs.Agreeing.{modes_open}
 use Rattle.htl_machine.proofs.Accepted.{accepted_is_loaded}
@@ -50,23 +45,6 @@ sound_of m t code same same_code accepted =
           instrs = ranges.few_instrs;
           places = accepted.spelled.functions;
         }
-
-pub to_open : (m : Seen) (es : List Event) (at : ℕ) (jobs : List Job) (steps : List SInstr) (values : List ℤ) → IsUpTo m es at → IsReadyAt m es at steps → m.held.desk.jobs ≡ jobs → values ≡ m.held.world.values
-    → IsToOpen m es at jobs steps m.held.shows values
-to_open m es at jobs steps values u r are noted =
-    record {
-      shaped = u.before.values.shaped;
-      safe = u.before.values.safe;
-      jobs_are = are;
-      of = subst (AreOf m.object.tables) are r.of;
-      round = r.form;
-      slots = r.short;
-      stands = r.stands;
-      told = r.told;
-      follows = u.before.values.triggers;
-      shows_fit = u.kept.fits;
-      values_fit = subst (HasValues m.object.tables) (sym noted) u.before.values.shaped.values;
-    }
 
 values_were : (t : Tables) (es : List Event) (at : ℕ) → 0 < at → values_before t es at ≡ (before t es at).values
 values_were t es zero h = absurd (omega (arith, h))

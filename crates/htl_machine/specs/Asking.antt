@@ -5,20 +5,14 @@ use Rattle.htl_model.specs.FrameRules.{KeptApart}
 use Rattle.htl_model.specs.Frames.{frame_limit}
 use Rattle.htl_model.specs.FunctionTypes.{FitPlaces}
 use Rattle.htl_model.specs.Meaning.{state, before, mode_in}
-use Rattle.htl_walk.specs.declared.job.Job.{Job}
 use Rattle.htl_model.specs.Tables.{Tables}
 use Rattle.htl_walk.specs.declared.schedule.SInstr.{SInstr}
 use Rattle.htl_ecode.specs.declared.ecode.ECode.{ECode}
-use Rattle.htl_smach.specs.Rounds.{Round, Stands, IsInForm, IsTold}
+use Rattle.htl_smach.specs.Rounds.{Round}
 use Rattle.htl_ecode.specs.Spelling.{Spells}
 use Rattle.htl_emach.specs.Calendars.{Standing, list_at}
 use Rattle.htl_emach.specs.Contents.{Content}
-use Rattle.htl_emach.specs.Following as machines
 use Rattle.htl_emach.specs.Following.{Onward, phase_path}
-use Rattle.htl_emach.specs.Safety.{StandsSafely}
-use Rattle.htl_emach.specs.Shapes.{HasValues, IsShaped}
-use Rattle.htl_machine.specs.Calls.{Seen}
-use Rattle.htl_machine.specs.Recording.{AreOf}
 use Rattle.htl_machine.specs.Running.{replay}
 use Rattle.htl_machine.specs.Beginning.{IsToBegin}
 use Rattle.htl_machine.specs.declared.numbering.ListAt.{ListAt}
@@ -31,20 +25,6 @@ pub record IsSound (t : Tables) (code : ECode) : Type 0 where
   pub spells : Spells t code
   pub instrs : length code.instrs ≤ 4294967295
   pub places : FitPlaces t
-
--- of the first part
-pub record IsToOpen (m : Seen) (es : List Event) (at : ℕ) (jobs : List Job) (steps : List SInstr) (shows values : List ℤ) : Type 0 where
-  pub shaped : IsShaped m.object.tables m.held.world
-  pub safe : StandsSafely m.object.tables m.object.ecode m.standing
-  pub jobs_are : m.held.desk.jobs ≡ jobs
-  pub of : AreOf m.object.tables jobs
-  pub round : m.held.desk.running ≡ true → IsInForm m.held.desk steps
-  pub slots : length steps ≤ 4294967295
-  pub stands : Stands m.held.desk steps
-  pub told : IsTold m.held.desk at
-  pub follows : machines.Follows m.object.tables m.object.ecode es at m.standing
-  pub shows_fit : HasValues m.object.tables shows
-  pub values_fit : HasValues m.object.tables values
 
 -- the values and the modes that were noted are those before the instant
 pub record AreBefore (t : Tables) (es : List Event) (at : ℕ) (values : List ℤ) (modes : List (Option ℕ)) : Type 0 where

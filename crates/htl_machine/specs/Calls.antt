@@ -33,7 +33,7 @@ use Rattle.htl_machine.specs.Lines.{e_done, jobs_done, s_done}
 pub record Seen : Type 0 where
   pub object : Object
   pub show : Shown
-  -- what it keeps of the calls, its world, and the round of the S machine
+  -- what it keeps of the calls, its world, and the S machine
   pub held : Held
   -- the E machine
   pub standing : Standing

@@ -47,7 +47,7 @@ pub record IsOpened (t : Tables) (code : ECode) (es : List Event) (at : ℕ) (st
   pub writes : w2 ≡ replay t code (phase_path t code es at 1) w1
   pub sensors : AreShown t shows values at w2 w3
 
--- where no round runs: the writes and the sensors alone
+-- where no list runs: the writes and the sensors alone
 pub record IsOpenedIdle (t : Tables) (code : ECode) (es : List Event) (at : ℕ) (shows values : List ℤ) (old : Round) (w0 : Content) (n0 : Tally) (now : Round) (w3 : Content) (n : Tally) : Type 0 where
   pub wrote : Content
   pub writes : wrote ≡ replay t code (phase_path t code es at 1) w0

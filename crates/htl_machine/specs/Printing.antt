@@ -17,9 +17,9 @@ use Rattle.htl_machine.specs.Texts.{record_text, some_records}
 
 -- wherever the S machine stood, the lines of the records that are due from there on are written
 abbrev pub Prints : {T E : Type 0} → Tables → Shown → ℕ → Round → List SInstr → ℕ → Option (List ℕ) → Option (List ℕ) → ℕ → ℕ → Result T E → Type 0
-Prints t show sel old code at w0 w f0 f result =
+Prints t show node old code at w0 w f0 f result =
     (p : Plan) (s k d : ℕ) → p.schedule ≡ code → s ≤ at → k ≤ due_by p s at → DeskAt p s k d old
-    → Puts w0 w f0 f (joined (record_text t show p sel) (some_records p s k (due_by p s at - k))) result
+    → Puts w0 w f0 f (joined (record_text t show p node) (some_records p s k (due_by p s at - k))) result
 
 -- and they are counted
 abbrev pub Counted : Round → List SInstr → ℕ → Tally → Tally → Type 0
@@ -27,7 +27,7 @@ Counted old code at n0 n =
     (p : Plan) (s k d : ℕ) → p.schedule ≡ code → s ≤ at → k ≤ due_by p s at → DeskAt p s k d old → n ≡ with_records (some_records p s k (due_by p s at - k)) n0
 
 -- those that the S machine has left are written and counted
-pub record IsPrinting (t : Tables) (show : Shown) (sel : ℕ) (old now : Round) (code : List SInstr) (at : ℕ) (w0 w : Option (List ℕ)) (f0 f : ℕ) (n0 n : Tally) : Type 0 where
+pub record IsPrinting (t : Tables) (show : Shown) (node : ℕ) (old now : Round) (code : List SInstr) (at : ℕ) (w0 w : Option (List ℕ)) (f0 f : ℕ) (n0 n : Tally) : Type 0 where
   pub kept : f ≡ f0
-  pub text : (p : Plan) (s k d : ℕ) → p.schedule ≡ code → s ≤ at → k ≤ due_by p s at → DeskAt p s k d old → w ≡ append_known w0 (joined (record_text t show p sel) (some_records p s k (now.place - k)))
+  pub text : (p : Plan) (s k d : ℕ) → p.schedule ≡ code → s ≤ at → k ≤ due_by p s at → DeskAt p s k d old → w ≡ append_known w0 (joined (record_text t show p node) (some_records p s k (now.place - k)))
   pub count : (p : Plan) (s k d : ℕ) → p.schedule ≡ code → s ≤ at → k ≤ due_by p s at → DeskAt p s k d old → n ≡ with_records (some_records p s k (now.place - k)) n0

@@ -7,7 +7,7 @@ use Rattle.htl_walk.specs.declared.schedule.Schedule.{Schedule}
 use Rattle.htl_console.specs.declared.shown.Shown.{Shown}
 use Rattle.htl_machine.specs.Lines.{lines, text_before, run_text}
 
--- the instructions of its schedules, by root selection
+-- the instructions of its schedules, by node
 abbrev pub schedules_of : Object → List (List SInstr)
 schedules_of o = map (λ (s : Schedule). s.instrs) o.schedules
 

@@ -1,4 +1,4 @@
--- The lines of one record of a round.
+-- The lines of one record of a list.
 use Rattle.std.specs.Prelude.{ℕ, cond, List, [], ◌++◌, slice_get, Some, None}
 use Rattle.htl_model.specs.Tables.{Tables}
 use Rattle.htl_walk.specs.declared.job.Job.{Job}
@@ -15,11 +15,11 @@ job_lines t show jobs l = let i = inv_at jobs l.position in cond (shows_jobs sho
 
 -- the instruction at a place of a schedule
 abbrev pub place_lines : List SInstr → ℕ → ℕ → ℕ → List ℕ
-place_lines code sel at k = elim (slice_get code k) [ Some x ↦ step_line at sel k x | None ↦ [] ]
+place_lines code node at k = elim (slice_get code k) [ Some x ↦ step_line at node k x | None ↦ [] ]
 
 -- its instruction
 abbrev pub code_lines : Shown → List SInstr → ℕ → Left → List ℕ
-code_lines show code sel l = cond (shows_code show) (place_lines code sel l.at l.instr) []
+code_lines show code node l = cond (shows_code show) (place_lines code node l.at l.instr) []
 
 abbrev pub record_lines : Tables → Shown → List Job → List SInstr → ℕ → Left → List ℕ
-record_lines t show jobs code sel l = job_lines t show jobs l ++ code_lines show code sel l
+record_lines t show jobs code node l = job_lines t show jobs l ++ code_lines show code node l

@@ -35,10 +35,10 @@ slice_lines t i None = []
 
 -- the lines of a record: its slice, whether it did the last work, its instruction
 abbrev pub record_text : Tables → Shown → Plan → ℕ → Left → List ℕ
-record_text t show p sel l =
+record_text t show p node l =
     let i = inv_at p.jobs l.position in
     cond (shows_jobs show) (slice_lines t i l.slice ++ cond l.finished (done_line t l.at i) []) []
-    ++ cond (shows_code show) (elim (slice_get p.schedule l.instr) [ Some x ↦ step_line l.at sel l.instr x | None ↦ [] ]) []
+    ++ cond (shows_code show) (elim (slice_get p.schedule l.instr) [ Some x ↦ step_line l.at node l.instr x | None ↦ [] ]) []
 
 -- ---- the records of an instant
 

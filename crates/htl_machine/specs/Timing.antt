@@ -1,4 +1,4 @@
--- When a round of the processor begins.
+-- Where a list begins: where a round of some root module does.
 use Rattle.std.specs.Prelude.{◌%◌, ℕ, Bool, not, ◌&&◌, eqb, get_or}
 use Rattle.std.specs.List.{list_any}
 use Rattle.htl_model.specs.Selections.{root_modules, modes_of}

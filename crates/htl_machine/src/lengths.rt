@@ -18,7 +18,7 @@ fn is_of(job: &Job, inv: u16) -> bool
     job.present && job.inv == inv
 }
 
-// The last position of an invocation among the jobs of a round: that of its present round.
+// The last position of an invocation among the jobs of a frame: that of its present round.
 pub(crate) fn position(jobs: &[Job], inv: u16) -> Option<usize>
     ensures place { result ≡ position_from 0 jobs.now inv }
     ensures known { IfSome result (λ p. p < length jobs.now) }

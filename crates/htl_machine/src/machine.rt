@@ -45,8 +45,8 @@ pub struct Totals {
 }
 
 /// Both machines on one accepted object. It follows a list of events: what sensors show, how long jobs take, and how far the clock
-/// has come. Contracts see the object, what is shown, what the machine keeps of the calls, its world and round, its E machine and its
-/// numbers.
+/// has come. Contracts see the object, what is shown, what the machine keeps of the calls, its world and S machine, its E machine, the
+/// list that stands and its numbers.
 #[derive(Drop)]
 pub struct Machine<'a> {
     loaded: &'a Loaded,

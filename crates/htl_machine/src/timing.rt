@@ -1,4 +1,4 @@
-// When a round of the processor begins.
+// Where a list begins: where a round of some root module does.
 ghost use Rattle.std.specs.Prelude.{◌≡◌, ◌≤◌, length};
 ghost use Rattle.htl_base.specs.declared.limits.TheConstants as limit;
 ghost use Rattle.htl_machine.specs.Timing.{first_period as first_period_of, opens as opens_at, begins};
@@ -25,7 +25,7 @@ fn opens(t: &Tables, at: Time, module: u16) -> bool
     period != 0 && at % period as u64 == 0
 }
 
-/// Whether a round of the processor begins at an instant, in ticks: the period of some root module's first mode divides it.
+/// Whether a round of some root module begins at an instant, in ticks: the period of its first mode divides it. There a list begins.
 pub fn round_begins(t: &Tables, at: Time) -> bool
     ensures { result ≡ begins t.now at }
 {
