@@ -1,5 +1,5 @@
 -- An instant once its parts are done: what the calls said carries the machine to the next.
-use Rattle.std.proofs.Common.{◌≡◌, ◌≢◌, ℕ, zero, suc, ◌+◌, ◌-◌, ◌%◌, take, drop, cond, ◌&&◌, leb, map, get_or, ◌⊎◌, ◌≤◌, ◌<◌, ◌^◌, Bool, true, false, eqb, List, [], ◌∷◌, ◌++◌, length, slice_get, Option, Some, None, ℤ, refl, sym, ap, ap₂, ◌∙◌, subst, arith, inl, inr}
+use Rattle.std.proofs.Common.{◌≡◌, ◌≢◌, ℕ, zero, suc, ◌+◌, ◌-◌, ◌%◌, take, drop, cond, ◌&&◌, leb, get_or, ◌⊎◌, ◌≤◌, ◌<◌, ◌^◌, Bool, true, false, eqb, List, [], ◌∷◌, ◌++◌, length, slice_get, Option, Some, None, ℤ, refl, sym, ap, ap₂, ◌∙◌, subst, arith, inl, inr}
 use Rattle.std.specs.List.{All}
 use Rattle.std.proofs.lemmas.Bool.{eqb-true, eqb-false}
 use Rattle.std.proofs.lemmas.List.{get_or-map, get_or_past, length-map}
@@ -76,7 +76,7 @@ use Rattle.htl_machine.proofs.Periodic.{begins_never}
 use Rattle.htl_machine.proofs.Premises.{first_left, first_over}
 use Rattle.htl_machine.proofs.LoadedLists.{loaded_begins, loaded_empty, loaded_listed, loaded_turns, loaded_code}
 use Rattle.htl_machine.proofs.Showing.{sensors_are}
-use Rattle.htl_machine.proofs.Standing.{all_at, standing_at}
+use Rattle.htl_machine.proofs.Standing.{all_at}
 use Rattle.htl_machine.proofs.TellingLoaded.{loaded_lines}
 use Rattle.htl_machine.proofs.Timely.{read_phase_tells}
 use Rattle.htl_machine.proofs.Ready.{node_known}

@@ -40,7 +40,6 @@ use Rattle.htl_machine.specs.StandingList.{instrs_by, node_by, turn_list, next_a
 use Rattle.htl_machine.specs.Starting.{instrs_of}
 use Rattle.htl_machine.specs.Texts.{record_text, some_records}
 use Rattle.htl_machine.proofs.Closings.{reads_second}
-use Rattle.htl_machine.proofs.FrameValues.{count_grows}
 use Rattle.htl_machine.proofs.Standing.{some_same, none_some}
 use Rattle.htl_machine.proofs.Turning.{before_count}
 

@@ -1,5 +1,5 @@
 -- The text and the counts of an instant, from those of its parts.
-use Rattle.std.proofs.Common.{◌≡◌, ◌≢◌, ℕ, zero, suc, ◌+◌, ◌-◌, ◌^◌, min, ◌≤◌, Bool, true, false, cond, eqb, List, [], ◌∷◌, ◌++◌, length, Some, None, refl, sym, ap, ◌∙◌, arith, length-append}
+use Rattle.std.proofs.Common.{◌≡◌, ◌≢◌, ℕ, zero, suc, ◌+◌, ◌-◌, ◌^◌, min, ◌≤◌, Bool, true, false, cond, List, [], ◌∷◌, ◌++◌, length, Some, None, refl, sym, ap, ◌∙◌, arith, length-append}
 use Rattle.std.specs.List.{count_by}
 use Rattle.std.proofs.lemmas.Bool.{eq-eqb, ne_eqb}
 use Rattle.std.proofs.lemmas.List.{append_assoc}
@@ -20,7 +20,7 @@ use Rattle.htl_machine.specs.declared.tally.Tally.{Tally}
 use Rattle.htl_machine.specs.Counts.{one_record, one_instr, with_records, with_instrs}
 use Rattle.htl_machine.specs.Doing.{path_lines}
 use Rattle.htl_machine.specs.Opening.{closing_text, first_records, beginning_text}
-use Rattle.htl_machine.specs.ListTurns.{left_before, Turn}
+use Rattle.htl_machine.specs.ListTurns.{left_before}
 use Rattle.htl_machine.specs.Texts.{records_text, some_records, old_records, list_texts, instant_text, records_of, old_turn}
 use Rattle.htl_emach.proofs.Instants.{whole_path}
 use Rattle.htl_machine.specs.Machines.{Counts}

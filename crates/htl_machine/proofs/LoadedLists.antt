@@ -9,7 +9,6 @@ use Rattle.htl_model.specs.Meaning.{state}
 use Rattle.htl_model.specs.Selections.{root_modules}
 use Rattle.htl_model.specs.Tables.{Tables, is_concrete}
 use Rattle.htl_model.proofs.FrameBuild.{frame_some}
-use Rattle.htl_walk.specs.declared.job.Job.{Job}
 use Rattle.htl_walk.specs.declared.schedule.SInstr.{SInstr}
 use Rattle.htl_refine.specs.Records.{AreTookWithin}
 use Rattle.htl_refine.specs.ServedFrames.{IsFeasibleRun}

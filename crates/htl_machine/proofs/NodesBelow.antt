@@ -1,9 +1,9 @@
 -- How many nodes are below a node behind each start, start by start.
-use Rattle.std.proofs.Common.{◌≡◌, ◌≢◌, ℕ, suc, ◌+◌, ◌-◌, ◌/◌, ◌≤◌, ◌<◌, ◌⊎◌, List, [], ◌∷◌, ◌++◌, None, length, map, drop, get_or, set, take, add-one, refl, sym, ap, ◌∙◌, arith, inl, inr}
+use Rattle.std.proofs.Common.{◌≡◌, ◌≢◌, ℕ, suc, ◌+◌, ◌-◌, ◌/◌, ◌≤◌, ◌<◌, List, [], ◌∷◌, ◌++◌, length, drop, get_or, set, take, add-one, refl, sym, ap, ◌∙◌, arith, inl, inr}
 use Rattle.std.proofs.Math.Seq.{get_or-append_seam}
 use Rattle.std.proofs.lemmas.Grind.{get_or-set_at}
 use Rattle.std.proofs.lemmas.List.{drop-map, get_or-set_other, get_or-take, length-set, length-map}
-use Rattle.htl_model.specs.Frames.{ways, nodes_of, frame_limit, frame_of, starts, rounds, rounds_at, choices, radices}
+use Rattle.htl_model.specs.Frames.{ways, nodes_of, frame_of, starts, rounds, rounds_at, choices, radices}
 use Rattle.htl_model.specs.Ranges.{AreInRange}
 use Rattle.htl_model.specs.Tables.{Tables}
 use Rattle.htl_model.proofs.FrameLimits.{choices_some, choices_starts, rounds_have}

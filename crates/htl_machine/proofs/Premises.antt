@@ -1,8 +1,7 @@
 -- What the calls of an instant ask for, from what the machine holds before it.
-use Rattle.std.proofs.Common.{◌≡◌, ℕ, ◌-◌, ◌≤◌, true, false, ◌&&◌, ltb, List, [], length, get_or, Option, IfSome, refl, sym, ap, ◌∙◌, arith, subst}
+use Rattle.std.proofs.Common.{◌≡◌, ℕ, ◌-◌, ◌≤◌, true, false, ◌&&◌, ltb, [], length, get_or, refl, sym, ap, ◌∙◌, arith}
 use Rattle.std.proofs.lemmas.Bool.{ltb-false}
-use Rattle.htl_model.specs.Tables.{Tables, is_concrete}
-use Rattle.htl_walk.specs.declared.job.Job.{Job}
+use Rattle.htl_model.specs.Tables.{Tables}
 use Rattle.htl_walk.specs.Walk.{job_at}
 use Rattle.htl_walk.proofs.Work.{job_there}
 use Rattle.htl_smach.specs.Rounds as rounds
@@ -12,13 +11,9 @@ use Rattle.htl_refine.specs.ListPlans.{ListPlan as Plan, list_walk}
 use Rattle.htl_refine.specs.RecordCounts.{count_before}
 use Rattle.htl_emach.specs.Contents.{Content}
 use Rattle.htl_machine.specs.Follows.{DeskStands, DeskAt}
-use Rattle.htl_machine.specs.Recording.{AreOf, Records}
+use Rattle.htl_machine.specs.Recording.{Records}
 use Rattle.htl_machine.proofs.Desking.{desk_opens}
 use Rattle.htl_machine.proofs.Releasing.{flag_at}
-use Rattle.htl_model.specs.declared.parts.Inv.{Inv}
-use Rattle.htl_model.specs.declared.state.Stay.{Stay}
-use Rattle.std.proofs.lemmas.Option.{slice_get_within}
-use Rattle.htl_machine.specs.Casts.{IsCast, HaveWindows}
 
 -- no release before the instant is left untold
 pub at_told : (p : Plan) (s k now : ℕ) (r : Round) → s ≤ now → DeskAt p s k (now - s) r → IsTold r now

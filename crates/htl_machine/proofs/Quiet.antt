@@ -1,5 +1,5 @@
 -- Over instants at which nothing is due a machine goes on as it stands.
-use Rattle.std.proofs.Common.{◌≡◌, ℕ, zero, suc, ◌+◌, ◌-◌, ◌*◌, ◌/◌, ◌%◌, ◌<◌, ◌≤◌, Bool, true, false, cond, ◌||◌, not, eqb, List, [], ◌∷◌, ◌++◌, length, get_or, slice_get, map, Option, Some, None, IfSome, ℤ, pos, negsuc, refl, sym, ap, ap₂, ◌∙◌, subst, arith, inl, inr}
+use Rattle.std.proofs.Common.{◌≡◌, ℕ, zero, suc, ◌+◌, ◌-◌, ◌%◌, ◌<◌, ◌≤◌, Bool, true, false, cond, ◌||◌, not, eqb, List, [], ◌∷◌, ◌++◌, length, get_or, slice_get, map, Option, Some, None, IfSome, ℤ, pos, negsuc, refl, sym, ap, ap₂, ◌∙◌, subst, arith}
 use Rattle.std.proofs.lemmas.Bool.Decides.{nat_tests}
 use Rattle.std.specs.Io.KnownBytes.{append_known}
 use Rattle.std.proofs.lemmas.List.{append-nil}
@@ -8,12 +8,10 @@ use Rattle.htl_model.specs.declared.event.Event.{Event}
 use Rattle.htl_model.specs.declared.line.Line.{Line}
 use Rattle.htl_model.specs.declared.line.Line.TheVariants.{ValueLine, ModeLine}
 use Rattle.htl_model.specs.declared.parts.Comm.{Comm}
-use Rattle.htl_model.specs.declared.state.Stay.{Stay}
 use Rattle.htl_model.specs.Functions.{same}
 use Rattle.htl_model.specs.Lines.{lines_text}
 use Rattle.htl_model.specs.Lists.{joined, up_to}
-use Rattle.htl_model.specs.Meaning.{state, before, stay_of, value_in, mode_in, value_line, mode_line, value_lines, same_mode}
-use Rattle.htl_model.specs.Ranges.{AreInRange}
+use Rattle.htl_model.specs.Meaning.{state, before, value_in, mode_in, value_line, mode_line, value_lines, same_mode}
 use Rattle.htl_model.specs.Frames.{hyper}
 use Rattle.htl_model.specs.Tables.{Tables, mode_period}
 use Rattle.htl_walk.specs.declared.schedule.SInstr.{SInstr}

@@ -1,5 +1,5 @@
 -- What the parts of an instant ask for, of a machine that stands before it.
-use Rattle.std.specs.Prelude.{◌≡◌, ◌≤◌, ◌<◌, ℕ, true, List, [], length, ℤ, Option, None}
+use Rattle.std.specs.Prelude.{◌≡◌, ◌≤◌, ◌<◌, ℕ, List, [], length, ℤ, Option, None}
 use Rattle.htl_model.specs.declared.event.Event.{Event}
 use Rattle.htl_model.specs.FrameRules.{KeptApart}
 use Rattle.htl_model.specs.Frames.{frame_limit}

@@ -1,5 +1,5 @@
 -- What contracts see of a machine, what it follows, and what its calls write.
-use Rattle.std.specs.Prelude.{◌≡◌, ℕ, zero, suc, ◌+◌, ◌-◌, ◌≤◌, ◌<◌, Bool, false, true, List, [], length, get_or, map, slice_get, Option, Some, None, ℤ, pos}
+use Rattle.std.specs.Prelude.{◌≡◌, ℕ, zero, suc, ◌+◌, ◌-◌, ◌≤◌, ◌<◌, Bool, false, true, List, length, get_or, map, slice_get, Option, Some, None, ℤ, pos}
 use Rattle.htl_model.specs.declared.event.Event.{Event}
 use Rattle.htl_model.specs.Lists.{up_to}
 use Rattle.htl_model.specs.Frames.{hyper}

@@ -5,7 +5,7 @@ use Rattle.htl_edge.specs.Content.{Puts}
 use Rattle.htl_model.specs.declared.event.Event.{Event}
 use Rattle.htl_model.specs.Lists.{joined}
 use Rattle.htl_model.specs.Lines.{lines_text}
-use Rattle.htl_model.specs.Meaning.{state, value_lines}
+use Rattle.htl_model.specs.Meaning.{value_lines}
 use Rattle.htl_model.specs.Tables.{Tables}
 use Rattle.htl_walk.specs.declared.schedule.SInstr.{SInstr}
 use Rattle.htl_smach.specs.declared.left.Left.{Left}

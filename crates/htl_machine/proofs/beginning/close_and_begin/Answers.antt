@@ -1,14 +1,12 @@
-use Rattle.std.proofs.Common.{ℕ, List, ℤ, sym, ap, ◌∙◌, subst, length, ◌≤◌, suc, arith}
+use Rattle.std.proofs.Common.{ℕ, List, sym, ap, ◌∙◌, subst, length, ◌≤◌, suc, arith}
 use Rattle.htl_model.specs.Selected.{IsSelection}
-use Rattle.htl_walk.specs.declared.job.Job.{Job}
 use Rattle.htl_walk.specs.declared.schedule.SInstr.{SInstr}
-use Rattle.htl_smach.specs.Rounds.{Round, IsInForm, Stands}
+use Rattle.htl_smach.specs.Rounds.{IsInForm, Stands}
 use Rattle.htl_emach.specs.Following.{phase_path}
 use Rattle.htl_refine.proofs.StateLaws.{states_are_selections}
 use Rattle.htl_machine.specs.Beginning.{CanFollow}
 use Rattle.htl_machine.specs.Counts.{with_instrs, with_records}
 use Rattle.htl_machine.specs.ListBegun.{list_begun}
-use Rattle.htl_machine.specs.Noting.{MarksChanges}
 use Rattle.htl_machine.specs.Opening.{first_records}
 use Rattle.htl_machine.specs.Recording.{AreOf}
 use Rattle.htl_machine.specs.RunLists.{turn_at}

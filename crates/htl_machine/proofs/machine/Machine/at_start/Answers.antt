@@ -1,5 +1,5 @@
 use Rattle.std.proofs.Common.{◌∙◌, None, ap, sym, subst, map, length, replicate, arith}
-use Rattle.std.proofs.lemmas.List.{length-map, length-replicate}
+use Rattle.std.proofs.lemmas.List.{length-map}
 use Rattle.htl_model.specs.declared.parts.Inv.{Inv}
 use Rattle.htl_model.specs.Tables.{task_worst}
 use Rattle.htl_smach.specs.Rounds.{Round}

@@ -1,4 +1,4 @@
-use Rattle.std.proofs.Common.{◌∙◌, sym, ap, arith}
+use Rattle.std.proofs.Common.{◌∙◌, arith}
 use Rattle.htl_object.proofs.NodeCounts.{nodes_few}
 use Rattle.htl_machine.proofs.NodesBelow.{ways_there, below_starts, starts_many, frame_end}
 use Rattle.htl_machine.proofs.numbering.Numbering.survey.Goals as goal
