@@ -20,9 +20,7 @@ use Rattle.htl_smach.specs.Rounds.{Round}
 use Rattle.htl_emach.specs.Contents.{Content}
 use Rattle.htl_machine.specs.Values.{Stands, HasRead, ValuesFollow, HasPlaces}
 use Rattle.htl_refine.specs.Records.{took, lengths_of, IsTookWithin, AreTookWithin}
-use Rattle.htl_refine.specs.Records.{Round as Plan}
 use Rattle.htl_machine.specs.Plans.{finished_before, next_world}
-use Rattle.htl_machine.specs.Rounds.{standing_of, selection_of, plan_of}
 use Rattle.htl_machine.specs.Follows.{Held, reading_of, DeskStands, DeskFollows, UpTo, Follows, IsLoaded, at_reading, shown_as}
 use Rattle.htl_machine.specs.ListTurns.{Turn, left_before, finished_by}
 use Rattle.htl_machine.specs.RunLists.{turn_by, turn_at}
@@ -36,24 +34,7 @@ pub within_more : (t : Tables) (es : List Event) (e : Event) → AreTookWithin t
 within_more t [] e a b = (b, tt)
 within_more t (x ∷ es) e a b = (a.0, within_more t es e a.1 b)
 
--- ---- plans that agree
-
-module _ (t : Tables) (schedules : List (List SInstr)) (es fs : List Event) (now : ℕ) (alike : Alike t es fs now) where
-  pub jobs_same : (s : ℕ) → s < now → (plan_of t schedules es s).jobs ≡ (plan_of t schedules fs s).jobs
-  jobs_same s h = ap (λ (z : State). jobs_of t (standing_of t z.stays)) (state_same t es fs now s alike h)
-
-  pub code_same : (s : ℕ) → s < now → (plan_of t schedules es s).schedule ≡ (plan_of t schedules fs s).schedule
-  code_same s h = ap (λ (z : State). get_or schedules (selection_of t z.stays) []) (state_same t es fs now s alike h)
-
-  module _ (tooks : (i u : ℕ) → took t es i u ≡ took t fs i u) where
-    pub plan_same : (s : ℕ) → s < now → plan_of t schedules es s ≡ plan_of t schedules fs s
-    plan_same s h =
-        let lengths : (js : List Job) → lengths_of t es s js ≡ lengths_of t fs s js = λ js. ap (λ f. map f js) (fun_ext (λ (j : Job). tooks j.inv (s + j.release))) in
-        let P : List Job → List ℕ → List SInstr → Plan = λ js ns c. record { jobs = js; lengths = ns; schedule = c } in
-        ap (λ ns. P (plan_of t schedules es s).jobs ns (plan_of t schedules es s).schedule) (lengths (plan_of t schedules es s).jobs)
-        ∙ ap₂ (λ js c. P js (lengths_of t fs s js) c) (jobs_same s h) (code_same s h)
-
--- so each list that stands before then is the same
+-- each list that stands before then is the same
 module _ (t : Tables) (schedules : List (List SInstr)) (es fs : List Event) (now : ℕ) (alike : Alike t es fs now) (loaded : IsLoaded t schedules) (within : AreTookWithin t es)
     (tooks : (i u : ℕ) → took t es i u ≡ took t fs i u) where
   pub turn_same : (n : ℕ) → n < now → turn_at t schedules es n ≡ turn_at t schedules fs n

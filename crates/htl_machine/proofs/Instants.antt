@@ -19,7 +19,7 @@ use Rattle.htl_machine.proofs.Standing.{IsStanding, standing_at}
 use Rattle.htl_machine.proofs.FrameValues.{count_grows}
 use Rattle.htl_machine.proofs.Desking.{desk_opens, desk_closes, all_given}
 use Rattle.htl_machine.proofs.Releasing.{flags_after}
-use Rattle.htl_machine.proofs.RoundServed.{windows_of}
+use Rattle.htl_machine.proofs.ServedWindows.{windows_of}
 
 -- the round with these releases told
 abbrev pub with_flags : Round → List Bool → Round

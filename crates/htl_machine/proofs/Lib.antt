@@ -11,7 +11,6 @@ pub mod Short
 pub mod Due
 pub mod Periods
 pub mod Valued
-pub mod Steady
 pub mod Finishing
 pub mod Events
 pub mod Desking
@@ -28,7 +27,7 @@ pub mod FramePlaced
 pub mod FramePlacing
 pub mod FrameValues
 pub mod FramesGoOn
-pub mod RoundServed
+pub mod ServedWindows
 pub mod RunFrames
 pub mod ListStarts
 pub mod RunLists

@@ -36,7 +36,7 @@ use Rattle.htl_machine.proofs.ListStarts.{begun_next, none_after}
 use Rattle.htl_machine.proofs.Periodic.{divides}
 use Rattle.htl_machine.proofs.Plain.{apart}
 use Rattle.htl_machine.proofs.RunLists.{rise, past, stands, from_is, number, number_is}
-use Rattle.htl_machine.proofs.Steady.{begins_or_not}
+use Rattle.htl_machine.proofs.Periods.{begins_or_not}
 
 -- ---- where a round of a root module begins
 

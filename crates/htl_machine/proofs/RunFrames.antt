@@ -24,7 +24,7 @@ use Rattle.htl_machine.specs.RunFrames.{now_of, RunFrames, FeasibleRuns, ValuesG
 use Rattle.htl_machine.proofs.FrameCasts.{frame_cast}
 use Rattle.htl_machine.proofs.FramePlaced.{there_front}
 use Rattle.htl_machine.proofs.FrameValues.{all_ready, values_carried}
-use Rattle.htl_machine.proofs.Steady.{begins_or_not}
+use Rattle.htl_machine.proofs.Periods.{begins_or_not}
 
 leg_known : (h : ℕ) (xs : List Place) (later_starts : List ℕ) (i d : ℕ) → i < length (legs_of h xs later_starts) → (get_or (legs_of h xs later_starts) i no_leg).from ≤ d → (get_or (legs_of h xs later_starts) i no_leg).known ≤ known_by d xs
 leg_known h xs [] i d l e = absurd (omega arith)

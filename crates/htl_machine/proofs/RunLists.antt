@@ -48,11 +48,10 @@ use Rattle.htl_machine.proofs.FrameMembers.{begins_by}
 use Rattle.htl_machine.proofs.FramePlaced.{at_place_is}
 use Rattle.htl_machine.proofs.ListStarts.{StandsAt, stands_at, some_begun, begun_next, ends_next, ends_within, leg_knows, known_same}
 use Rattle.htl_machine.proofs.ListValues.{take_front}
-use Rattle.htl_machine.proofs.Periods.{goes_on}
 use Rattle.htl_machine.proofs.Plain.{apart, down}
 use Rattle.htl_machine.proofs.RunFrames.{feasible_runs}
 use Rattle.htl_machine.proofs.Standing.{none_some, some_same}
-use Rattle.htl_machine.proofs.Steady.{begins_or_not}
+use Rattle.htl_machine.proofs.Periods.{goes_on, begins_or_not}
 
 -- the records of list j among those of its frame
 split_at : (ws : List (List Left)) (j : ℕ) (x : List Left) → slice_get ws j ≡ Some x → (rest : List Left) × (end_to_end ws ≡ (end_to_end (take j ws) ++ x) ++ rest)

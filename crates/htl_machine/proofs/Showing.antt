@@ -13,7 +13,7 @@ use Rattle.htl_machine.specs.Worlds.{with_sensors, shown, shown_at}
 use Rattle.htl_machine.specs.Values.{values_before}
 use Rattle.htl_machine.specs.Sensors.{AreShown}
 use Rattle.htl_machine.proofs.Finishing.{list_to_at}
-use Rattle.htl_machine.proofs.Steady.{begins_or_not}
+use Rattle.htl_machine.proofs.Periods.{begins_or_not}
 use Rattle.htl_machine.proofs.Valued.{length-shown}
 use Rattle.htl_machine.proofs.Plain.{zero_down}
 

@@ -5,7 +5,6 @@ pub mod Casts
 pub mod Completing
 pub mod FramesGoOn
 pub mod ListTurns
-pub mod Rounds
 pub mod Plans
 pub mod Places
 pub mod FramePlacing
