@@ -1,35 +1,30 @@
--- Where rounds begin, what is kept by invocation are the jobs of the new rounds; the windows of all others have ended.
-use Rattle.std.proofs.Common.{◌≡◌, ℕ, zero, suc, ◌+◌, ◌-◌, ◌*◌, ◌/◌, ◌%◌, ◌≤◌, ◌<◌, ◌⊎◌, inl, inr, true, false, cond, List, [], ◌∷◌, ◌++◌, length, get_or, map, Option, Some, None, refl, sym, ◌∙◌, ap, subst, arith}
+-- Where rounds begin, what is kept of the invocations that begin one are the jobs of the new rounds, and the windows of their jobs before have
+-- ended; all others keep what they had.
+use Rattle.std.proofs.Common.{◌≡◌, ℕ, zero, suc, ◌+◌, ◌-◌, ◌*◌, ◌/◌, ◌%◌, ◌≤◌, ◌<◌, ◌⊎◌, inl, inr, Bool, true, false, cond, List, [], ◌∷◌, ◌++◌, length, get_or, map, Option, Some, None, refl, sym, ◌∙◌, ap, subst, arith}
 use Rattle.std.specs.Prelude.{slice_get}
 use Rattle.std.proofs.lemmas.Bool.{eqb-true}
 use Rattle.std.proofs.lemmas.List.{map-append}
-use Rattle.std.proofs.lemmas.Option.{get_or_from_slice_get, slice_get_within}
+use Rattle.std.proofs.lemmas.Option.{slice_get_within}
 use Rattle.std.proofs.Math.Nat.{div-add-mod}
 use Rattle.htl_form.proofs.PartLaws.{none_some}
 use Rattle.htl_model.specs.declared.event.Event.{Event}
 use Rattle.htl_model.specs.declared.parts.Inv.{Inv}
-use Rattle.htl_model.specs.Broken.{KeptTo}
+use Rattle.htl_model.specs.FrameRules.{KeptApart}
 use Rattle.htl_model.specs.Frames.{root_periods, begins}
 use Rattle.htl_model.specs.PortOrder.{feeds}
 use Rattle.htl_model.specs.Ranges.{AreInRange}
-use Rattle.htl_model.specs.Selected.{Runs, IsSelection}
-use Rattle.htl_model.specs.Selections.{root_period}
-use Rattle.htl_model.specs.Tables.{Tables, is_concrete, release, window_end}
+use Rattle.htl_model.specs.Tables.{Tables, mode_period}
 use Rattle.htl_walk.specs.declared.job.Job.{Job}
-use Rattle.htl_walk.specs.Jobs.{absent_job, is_fed_by, job_of, precedes}
-use Rattle.htl_walk.proofs.JobLaws.{preds_of}
-use Rattle.htl_refine.specs.ConcreteJobs.{standing, concrete_jobs}
+use Rattle.htl_walk.specs.Jobs.{precedes}
 use Rattle.htl_refine.specs.Records.{took, modes_at}
-use Rattle.htl_refine.proofs.Inherit.{mapped, map_at}
-use Rattle.htl_refine.proofs.StateLaws.{states_are_selections}
-use Rattle.htl_machine.proofs.Climbing.{has_standing, standing_runs, one_standing}
 use Rattle.htl_audit.specs.Growing.{HaveRounds}
-use Rattle.htl_audit.specs.Jobs.{Round, beginning, jobs_from, round_of, starts_before, all_rounds}
-use Rattle.htl_audit.specs.Legal as rules
-use Rattle.htl_audit.specs.Keeping.{Kept, has_job, start_at, release_at, end_at, runs_in, begun}
+use Rattle.htl_audit.specs.Jobs.{Round, round_of, starts_before, all_rounds}
+use Rattle.htl_audit.specs.Keeping.{Kept, has_job, start_at, begins_round, runs_in, begun}
 use Rattle.htl_audit.specs.Rosters.{IsIn, IsCurrent, HasJob, AreKept, IsSized}
-use Rattle.htl_audit.proofs.Growing.{in_two, in_back, start_is, round_is, round_job, length_is, placed}
-use Rattle.htl_audit.proofs.Renewing.{IsNew, all_new, runs_is, runs_of}
+use Rattle.htl_audit.proofs.Growing.{in_two, in_front, in_back, start_is, round_is}
+use Rattle.htl_audit.proofs.Renewing.{IsNew, IsStill, all_new, all_still, runs_is}
+use Rattle.htl_audit.proofs.RoundJobs.{begins_is, fresh, fresh_begins, has_fresh, precedes_is, feeds_begin}
+use Rattle.htl_audit.proofs.RoundJobs as jobs
 use Rattle.htl_audit.proofs.Settling.{stands_within}
 
 either : (a b : ℕ) → (a < b) ⊎ (b ≤ a)
@@ -52,19 +47,7 @@ multiples p a b e g h =
           absurd (omega (arith, whole, other, ap (λ z. p * z) is, more, h))
     ]
 
-made : (t : Tables) (st : List (Option ℕ)) (k : ℕ) (o : Option Inv) → slice_get t.invs k ≡ o → job_of t st (Some k) ≡ elim o as (λ _. Job) [ None ↦ absent_job | Some x ↦ placed t st k x ]
-made t st k o at = ap (λ (o : Option Inv). elim o as (λ _. Job) [ None ↦ absent_job | Some x ↦ placed t st k x ]) at
-
--- a job that is present is of the invocation that stands there
-present_of : (t : Tables) (st : List (Option ℕ)) (o : Option ℕ) (j : Job) → job_of t st o ≡ j → j.present ≡ true → o ≡ Some j.inv
-present_of t st None j e here = absurd (let z : false ≡ true = ap (λ (y : Job). y.present) e ∙ here in cc)
-present_of t st (Some k) j e here = by (slice_get t.invs k) refl
-  where
-    by : (o : Option Inv) → slice_get t.invs k ≡ o → Some k ≡ Some j.inv
-    by None at = absurd (let z : false ≡ true = ap (λ (y : Job). y.present) (sym (made t st k None at) ∙ e) ∙ here in cc)
-    by (Some x) at = ap (λ (y : Job). Some y.inv) (sym (made t st k (Some x) at) ∙ e)
-
-module _ (t : Tables) (rounds : HaveRounds t) (es : List Event) (s : ℕ) (is : begins (root_periods t) s ≡ true) where
+module _ (t : Tables) (range : AreInRange t) (kept : KeptApart t 16) (rounds : HaveRounds t) (es : List Event) (s : ℕ) (is : begins (root_periods t) s ≡ true) where
   abbrev pub old : List Round
   old = all_rounds t es s
 
@@ -74,128 +57,112 @@ module _ (t : Tables) (rounds : HaveRounds t) (es : List Event) (s : ℕ) (is : 
   pub grown : all_rounds t es (suc s) ≡ old ++ new ∷ []
   grown = ap (λ b. map (round_of t es) (starts_before t s ++ cond b (s ∷ []) [])) is ∙ map-append (round_of t es) (starts_before t s) (s ∷ [])
 
-  -- a job of an earlier round
+  -- a job of an earlier round: where a round of it begins, its window has ended
   pub record IsPast (r : Round) (j : Job) : Type 0 where
     pub inv : Inv
     pub known : slice_get t.invs j.inv ≡ Some inv
     pub start : r.start < s
-    pub ended : r.start + j.end ≤ s
+    pub ended : begins_round t s j.inv ≡ true → r.start + j.end ≤ s
 
   pub old_past : (r : Round) (p : ℕ) (j : Job) → IsIn old r p j → IsPast r j
-  old_past r p j i = by (root_period t) refl
-    where
-      by : (o : Option ℕ) → root_period t ≡ o → IsPast r j
-      by None e = absurd (let z : true ≡ false = sym is ∙ rounds.none s e in let y : ⊥ = cc in y)
-      by (Some q) e =
-          let a = round_is t es s i.number r i.at in
-          let b = start_is (root_periods t) s i.number a.0 a.1 in
-          let job : slice_get (round_of t es a.0).jobs p ≡ Some j = ap (λ (z : Round). slice_get z.jobs p) a.2 ∙ i.job in
-          let x = round_job t (modes_at t es a.0) (beginning t a.0) p j job i.present in
-          let early : a.0 % q ≡ 0 = eqb-true (a.0 % q) 0 (sym (rounds.starts q a.0 e) ∙ b.1) in
-          let here : s % q ≡ 0 = eqb-true (s % q) 0 (sym (rounds.starts q s e) ∙ is) in
-          let apart : a.0 + q ≤ s = multiples q a.0 s early here b.0 in
-          let start : a.0 ≡ r.start = ap (λ (z : Round). z.start) a.2 in
-          record { inv = x.0; known = x.1; start = omega (arith, start, b.0); ended = omega (arith, start, apart, x.3, (rounds.windows j.inv x.0 x.1).1, rounds.periods q j.inv x.0 e x.1) }
+  old_past r p j i =
+      let a = round_is t es s i.number r i.at in
+      let b = start_is (root_periods t) s i.number a.0 a.1 in
+      let job : slice_get (round_of t es a.0).jobs p ≡ Some j = ap (λ (z : Round). slice_get z.jobs p) a.2 ∙ i.job in
+      let f = fresh t range kept rounds es a.0 p j job i.present in
+      let q = mode_period t f.inv.mode in
+      let start : a.0 ≡ r.start = ap (λ (z : Round). z.start) a.2 in
+      record {
+        inv = f.inv;
+        known = f.known;
+        start = omega (arith, start, b.0);
+        ended = λ e.
+            let here : s % q ≡ 0 = eqb-true (s % q) 0 (sym (begins_is t s j.inv f.inv f.known) ∙ e) in
+            let apart : a.0 + q ≤ s = multiples q a.0 s f.whole here b.0 in
+            omega (arith, start, apart, f.within);
+      }
 
   -- a job is of an earlier round, or of the new one
-  pub split : (r : Round) (p : ℕ) (j : Job) (i : IsIn (old ++ new ∷ []) r p j) → (IsIn old r p j) ⊎ ((i.number ≡ length old) × (r ≡ new))
+  pub split : (r : Round) (p : ℕ) (j : Job) (i : IsIn (old ++ new ∷ []) r p j) → ((o : IsIn old r p j) × (o.number ≡ i.number)) ⊎ ((i.number ≡ length old) × (r ≡ new))
   split r p j i = by (in_two old (new ∷ []) i.number r i.at)
     where
       last : (m : ℕ) → i.number ≡ length old + m → slice_get (new ∷ []) m ≡ Some r → (i.number ≡ length old) × (r ≡ new)
       last zero e g = (omega (arith, e), let one : new ≡ r = cc in sym one)
       last (suc m) e g = absurd (none_some r g)
 
-      by : (slice_get old i.number ≡ Some r) ⊎ ((m : ℕ) × (i.number ≡ length old + m) × (slice_get (new ∷ []) m ≡ Some r)) → (IsIn old r p j) ⊎ ((i.number ≡ length old) × (r ≡ new))
-      by (inl h) = inl (record { number = i.number; at = h; job = i.job; present = i.present })
+      by : (slice_get old i.number ≡ Some r) ⊎ ((m : ℕ) × (i.number ≡ length old + m) × (slice_get (new ∷ []) m ≡ Some r)) → ((o : IsIn old r p j) × (o.number ≡ i.number)) ⊎ ((i.number ≡ length old) × (r ≡ new))
+      by (inl h) = inl (record { number = i.number; at = h; job = i.job; present = i.present }, refl)
       by (inr h) = inr (last h.0 h.1 h.2)
 
-  module _ (range : AreInRange t) (kept : KeptTo t 16) where
-    abbrev modes : List (Option ℕ)
-    modes = modes_at t es s
+  module _ (takes : List ℕ) (takes_are : (i u : ℕ) → i < length t.invs → s ≤ u → took t es i u ≡ get_or takes i 0) (k : Kept) (sized : IsSized (length t.invs) k) where
+    abbrev pub then : Kept
+    then = begun t (modes_at t es s) takes s k
 
-    selection : IsSelection t modes
-    selection = states_are_selections t range es s
+    pub is_new : (i : ℕ) → i < length t.invs → begins_round t s i ≡ true → IsNew t (modes_at t es s) takes s (length t.invs) i then
+    is_new i h e = all_new t (modes_at t es s) takes s (length t.invs) (length t.invs) i k sized (omega arith) h e
 
-    jobs_are : new.jobs ≡ concrete_jobs t modes
-    jobs_are = ap (jobs_from t modes) (rounds.whole s is)
+    pub is_still : (i : ℕ) → begins_round t s i ≡ false → IsStill t (modes_at t es s) takes s (length t.invs) i k then
+    is_still i e = all_still t (modes_at t es s) takes s (length t.invs) (length t.invs) i k e
 
-    -- a job of the new round
-    pub record IsFresh (p : ℕ) (j : Job) : Type 0 where
-      pub inv : Inv
-      pub known : slice_get t.invs j.inv ≡ Some inv
-      pub concrete : is_concrete t inv ≡ true
-      pub runs : Runs t modes inv.mode
-      pub release_is : j.release ≡ release_at t j.inv
-      pub end_is : j.end ≡ end_at t j.inv
-      pub room : j.release < j.end
-      pub length_is : rules.length_at new p ≡ took t es j.inv (s + j.release)
-      pub stands : slice_get (standing t modes) p ≡ Some (Some j.inv)
-      pub job_is : job_of t (standing t modes) (Some j.inv) ≡ j
-
-    pub fresh : (p : ℕ) (j : Job) → slice_get new.jobs p ≡ Some j → j.present ≡ true → IsFresh p j
-    fresh p j at here =
-        let o = mapped (job_of t (standing t modes)) (standing t modes) p j (ap (λ js. slice_get js p) (sym jobs_are) ∙ at) in
-        let who : o.0 ≡ Some j.inv = present_of t (standing t modes) o.0 j o.2 here in
-        let stands : slice_get (standing t modes) p ≡ Some (Some j.inv) = o.1 ∙ ap (λ z. Some z) who in
-        let r = standing_runs t range kept modes selection p j.inv stands in
-        let x = round_job t modes (beginning t s) p j at here in
-        let w = rounds.windows j.inv x.0 x.1 in
+    pub current : (p : ℕ) (j : Job) → slice_get new.jobs p ≡ Some j → j.present ≡ true → IsCurrent t then.roster new p j
+    current p j at here =
+        let f = fresh t range kept rounds es s p j at here in
+        let within = slice_get_within t.invs j.inv f.inv f.known in
+        let n = is_new j.inv within (fresh_begins t range kept rounds es s p j f) in
         record {
-          inv = r.0;
-          known = r.1;
-          concrete = r.2;
-          runs = r.3;
-          release_is = x.2 ∙ sym (ap (λ (y : Option Inv). elim y as (λ _. ℕ) [ Some z ↦ release t z | None ↦ 0 ]) x.1);
-          end_is = x.3 ∙ sym (ap (λ (y : Option Inv). elim y as (λ _. ℕ) [ Some z ↦ window_end t z | None ↦ 0 ]) x.1);
-          room = omega (arith, x.2, x.3, w.0);
-          length_is = length_is t es s p new.jobs j at;
-          stands = stands;
-          job_is = ap (job_of t (standing t modes)) (sym who) ∙ o.2;
+          stands = n.stands ∙ runs_is t (modes_at t es s) j.inv f.inv f.known f.concrete f.runs;
+          start = sym n.start;
+          release = f.release_is;
+          end = f.end_is;
+          length = f.length_is ∙ takes_are j.inv (s + j.release) within (omega arith) ∙ sym n.length;
         }
 
-    -- who is concrete and runs has one
-    pub has_fresh : (i : ℕ) → runs_in t modes i ≡ true → (p : ℕ) × (j : Job) × (slice_get new.jobs p ≡ Some j) × (j.present ≡ true) × (j.inv ≡ i)
-    has_fresh i e =
-        let x = runs_of t modes i e in
-        let p = has_standing t range kept modes selection i x.0 x.1 x.2 x.3 in
-        let job : slice_get (concrete_jobs t modes) p.0 ≡ Some (placed t (standing t modes) i x.0) = map_at (job_of t (standing t modes)) (standing t modes) p.0 (Some i) p.1 ∙ ap (λ z. Some z) (made t (standing t modes) i (Some x.0) x.1) in
-        (p.0, placed t (standing t modes) i x.0, ap (λ js. slice_get js p.0) jobs_are ∙ job, refl, refl)
+    -- a job of an earlier round isn't current where a round of it begins, and is what it was where none does
+    pub never_old : (r : Round) (p : ℕ) (j : Job) → IsIn old r p j → begins_round t s j.inv ≡ true → IsCurrent t then.roster r p j → ⊥
+    never_old r p j i e c =
+        let a = old_past r p j i in
+        let n = is_new j.inv (slice_get_within t.invs j.inv a.inv a.known) e in
+        omega (arith, a.start, c.start, n.start)
 
-    module _ (takes : List ℕ) (takes_are : (i u : ℕ) → i < length t.invs → s ≤ u → took t es i u ≡ get_or takes i 0) (k : Kept) (sized : IsSized (length t.invs) k) where
-      abbrev pub then : Kept
-      then = begun t modes takes s k
+    pub was_current : (r : Round) (p : ℕ) (j : Job) → begins_round t s j.inv ≡ false → IsCurrent t then.roster r p j → IsCurrent t k.roster r p j
+    was_current r p j e c =
+        let n = is_still j.inv e in
+        record { stands = sym n.stands ∙ c.stands; start = c.start ∙ n.start; release = c.release; end = c.end; length = c.length ∙ n.length }
 
-      pub is_new : (i : ℕ) → i < length t.invs → IsNew t modes takes s (length t.invs) i then
-      is_new i h = all_new t modes takes s (length t.invs) (length t.invs) i k sized (omega arith) h
+    still_current : (r : Round) (p : ℕ) (j : Job) → begins_round t s j.inv ≡ false → IsCurrent t k.roster r p j → IsCurrent t then.roster r p j
+    still_current r p j e c =
+        let n = is_still j.inv e in
+        record { stands = n.stands ∙ c.stands; start = c.start ∙ sym n.start; release = c.release; end = c.end; length = c.length ∙ sym n.length }
 
-      pub current : (p : ℕ) (j : Job) → slice_get new.jobs p ≡ Some j → j.present ≡ true → IsCurrent t then.roster new p j
-      current p j at here =
-          let f = fresh p j at here in
-          let within = slice_get_within t.invs j.inv f.inv f.known in
-          let n = is_new j.inv within in
-          record {
-            stands = n.stands ∙ runs_is t modes j.inv f.inv f.known f.concrete f.runs;
-            start = sym n.start;
-            release = f.release_is;
-            end = f.end_is;
-            length = f.length_is ∙ takes_are j.inv (s + j.release) within (omega arith) ∙ sym n.length;
-          }
+    pub begins_or_not : (i : ℕ) → (begins_round t s i ≡ true) ⊎ (begins_round t s i ≡ false)
+    begins_or_not i = by (begins_round t s i) refl
+      where
+        by : (b : Bool) → begins_round t s i ≡ b → (b ≡ true) ⊎ (b ≡ false)
+        by true e = inl refl
+        by false e = inr refl
 
-      pub never_old : (r : Round) (p : ℕ) (j : Job) → IsIn old r p j → IsCurrent t then.roster r p j → ⊥
-      never_old r p j i c =
-          let a = old_past r p j i in
-          let n = is_new j.inv (slice_get_within t.invs j.inv a.inv a.known) in
-          omega (arith, a.start, c.start, n.start)
+    -- a current job of an earlier round, where none of it begins
+    pub old_current : (r : Round) (p : ℕ) (j : Job) → IsIn old r p j → IsCurrent t then.roster r p j → (begins_round t s j.inv ≡ false) × IsCurrent t k.roster r p j
+    old_current r p j o c = elim (begins_or_not j.inv) [ inl b ↦ absurd (never_old r p j o b c) | inr b ↦ (b, was_current r p j b c) ]
 
-      pub kept_new : AreKept t old k.roster → length then.roster.stands ≡ length t.invs → AreKept t (old ++ new ∷ []) then.roster
-      kept_new was rows = record { has = has; only = only; together = together; before = before; mates = mates; once = once }
-        where
-          runs : (i : ℕ) → has_job then.roster i ≡ true → runs_in t modes i ≡ true
-          runs i e = let h = stands_within then.roster.stands i e in sym (is_new i (omega (arith, h, rows))).stands ∙ e
+    both_ways : {P : Type 0} → (i : ℕ) → begins_round t s i ≡ true → begins_round t s i ≡ false → P
+    both_ways i e g = absurd (let z : true ≡ false = sym e ∙ g in let y : ⊥ = cc in y)
 
-          has : (i : ℕ) → has_job then.roster i ≡ true → HasJob t (old ++ new ∷ []) then.roster i
-          has i e =
-              let p = has_fresh i (runs i e) in
+    in_all : (r : Round) (p : ℕ) (j : Job) → IsIn old r p j → IsIn (old ++ new ∷ []) r p j
+    in_all r p j i = record { number = i.number; at = in_front old (new ∷ []) i.number r i.at; job = i.job; present = i.present }
+
+    pub kept_new : AreKept t old k.roster → length then.roster.stands ≡ length t.invs → AreKept t (old ++ new ∷ []) then.roster
+    kept_new was rows = record { has = has; only = only; together = together; before = before; mates = mates; once = once }
+      where
+        fresh_at : (i : ℕ) → begins_round t s i ≡ true → has_job then.roster i ≡ true → (p : ℕ) × (j : Job) × (slice_get new.jobs p ≡ Some j) × (j.present ≡ true) × (j.inv ≡ i)
+        fresh_at i b e =
+            let h = stands_within then.roster.stands i e in
+            has_fresh t range kept rounds es s i (sym (is_new i (omega (arith, h, rows)) b).stands ∙ e) b
+
+        has : (i : ℕ) → has_job then.roster i ≡ true → HasJob t (old ++ new ∷ []) then.roster i
+        has i e = elim (begins_or_not i) [
+          | inl b ↦
+              let p = fresh_at i b e in
               record {
                 round = new;
                 position = p.0;
@@ -204,49 +171,75 @@ module _ (t : Tables) (rounds : HaveRounds t) (es : List Event) (s : ℕ) (is : 
                 inv = p.4;
                 current = current p.0 p.1 p.2 p.3;
               }
+          | inr b ↦
+              let h = was.has i (sym (is_still i b).stands ∙ e) in
+              record {
+                round = h.round;
+                position = h.position;
+                job = h.job;
+                is = in_all h.round h.position h.job h.is;
+                inv = h.inv;
+                current = still_current h.round h.position h.job (ap (begins_round t s) h.inv ∙ b) h.current;
+              }
+        ]
 
-          at_new : (r : Round) (p : ℕ) (j : Job) → r ≡ new → IsIn (old ++ new ∷ []) r p j → slice_get new.jobs p ≡ Some j
-          at_new r p j e i = ap (λ (z : Round). slice_get z.jobs p) (sym e) ∙ i.job
+        at_new : (r : Round) (p : ℕ) (j : Job) → r ≡ new → IsIn (old ++ new ∷ []) r p j → slice_get new.jobs p ≡ Some j
+        at_new r p j e i = ap (λ (z : Round). slice_get z.jobs p) (sym e) ∙ i.job
 
-          now : (r : Round) (p : ℕ) (j : Job) → r ≡ new → IsIn (old ++ new ∷ []) r p j → IsCurrent t then.roster r p j
-          now r p j e i = subst (λ z. IsCurrent t then.roster z p j) (sym e) (current p j (at_new r p j e i) i.present)
+        now : (r : Round) (p : ℕ) (j : Job) → r ≡ new → IsIn (old ++ new ∷ []) r p j → IsCurrent t then.roster r p j
+        now r p j e i = subst (λ z. IsCurrent t then.roster z p j) (sym e) (current p j (at_new r p j e i) i.present)
 
-          only : (r : Round) (p : ℕ) (j : Job) → IsIn (old ++ new ∷ []) r p j → IsCurrent t then.roster r p j ⊎ (r.start + j.end ≤ start_at then.roster j.inv)
-          only r p j i = elim (split r p j i) [
-            | inl o ↦ (let a = old_past r p j o in inr (omega (arith, a.ended, (is_new j.inv (slice_get_within t.invs j.inv a.inv a.known)).start)))
-            | inr n ↦ inl (now r p j n.1 i)
+        new_begins : (r : Round) (p : ℕ) (j : Job) → r ≡ new → IsIn (old ++ new ∷ []) r p j → begins_round t s j.inv ≡ true
+        new_begins r p j e i = fresh_begins t range kept rounds es s p j (fresh t range kept rounds es s p j (at_new r p j e i) i.present)
+
+        only : (r : Round) (p : ℕ) (j : Job) → IsIn (old ++ new ∷ []) r p j → IsCurrent t then.roster r p j ⊎ (r.start + j.end ≤ start_at then.roster j.inv)
+        only r p j i = elim (split r p j i) [
+          | inl o ↦ elim (begins_or_not j.inv) [
+            | inl b ↦ (let a = old_past r p j o.0 in inr (omega (arith, a.ended b, (is_new j.inv (slice_get_within t.invs j.inv a.inv a.known) b).start)))
+            | inr b ↦ elim (was.only r p j o.0) [ inl c ↦ inl (still_current r p j b c) | inr d ↦ inr (omega (arith, d, (is_still j.inv b).start)) ]
           ]
+          | inr n ↦ inl (now r p j n.1 i)
+        ]
 
-          together : (r : Round) (p q : ℕ) (j h : Job) → IsIn (old ++ new ∷ []) r p j → IsIn (old ++ new ∷ []) r q h → IsCurrent t then.roster r p j → IsCurrent t then.roster r q h
-          together r p q j h i m c = elim (split r p j i) [ inl o ↦ absurd (never_old r p j o c) | inr n ↦ now r q h n.1 m ]
+        together : (r : Round) (p q : ℕ) (j h : Job) → IsIn (old ++ new ∷ []) r p j → IsIn (old ++ new ∷ []) r q h → feeds t h.inv j.inv ≡ true → IsCurrent t then.roster r p j → IsCurrent t then.roster r q h
+        together r p q j h i m fed c = elim (split r p j i) [
+          | inl o ↦
+              (let d = old_current r p j o.0 c in
+              let a = old_past r p j o.0 in
+              still_current r q h (feeds_begin t s h.inv j.inv a.inv fed a.known ∙ d.0) (was.together r p q j h o.0 (record { number = o.0.number; at = o.0.at; job = m.job; present = m.present }) fed d.1))
+          | inr n ↦ now r q h n.1 m
+        ]
 
-          before : (r : Round) (p q : ℕ) (j h : Job) → IsIn (old ++ new ∷ []) r p j → IsIn (old ++ new ∷ []) r q h → precedes q j ≡ feeds t h.inv j.inv
-          before r p q j h i m = elim (split r p j i) [
-            | inl o ↦ was.before r p q j h o (record { number = o.number; at = o.at; job = m.job; present = m.present })
-            | inr n ↦
-                (let f = fresh p j (at_new r p j n.1 i) i.present in
-                let g = fresh q h (at_new r q h n.1 m) m.present in
-                ap (precedes q) (sym f.job_is) ∙ preds_of t (standing t modes) j.inv f.inv f.known q
-                ∙ ap (is_fed_by t j.inv) (get_or_from_slice_get (standing t modes) q (Some h.inv) None g.stands))
+        before : (r : Round) (p q : ℕ) (j h : Job) → IsIn (old ++ new ∷ []) r p j → IsIn (old ++ new ∷ []) r q h → precedes q j ≡ feeds t h.inv j.inv
+        before r p q j h i m = elim (split r p j i) [
+          | inl o ↦ was.before r p q j h o.0 (record { number = o.0.number; at = o.0.at; job = m.job; present = m.present })
+          | inr n ↦ precedes_is t range kept rounds es s p q j h (at_new r p j n.1 i) (at_new r q h n.1 m) i.present m.present
+        ]
+
+        mates : (r : Round) (p : ℕ) (j : Job) (i : ℕ) → IsIn (old ++ new ∷ []) r p j → IsCurrent t then.roster r p j → has_job then.roster i ≡ true → feeds t i j.inv ≡ true
+            → (q : ℕ) × (h : Job) × (h.inv ≡ i) × IsIn (old ++ new ∷ []) r q h
+        mates r p j i m c stands fed = elim (split r p j m) [
+          | inl o ↦
+              (let d = old_current r p j o.0 c in
+              let a = old_past r p j o.0 in
+              let b : begins_round t s i ≡ false = feeds_begin t s i j.inv a.inv fed a.known ∙ d.0 in
+              let f = was.mates r p j i o.0 d.1 (sym (is_still i b).stands ∙ stands) fed in
+              (f.0, f.1, f.2, in_all r f.0 f.1 f.3))
+          | inr n ↦
+              (let g = fresh t range kept rounds es s p j (at_new r p j n.1 m) m.present in
+              let b : begins_round t s i ≡ true = feeds_begin t s i j.inv g.inv fed g.known ∙ new_begins r p j n.1 m in
+              let f = fresh_at i b stands in
+              (f.0, f.1, f.4, record { number = m.number; at = m.at; job = ap (λ (z : Round). slice_get z.jobs f.0) n.1 ∙ f.2; present = f.3 }))
+        ]
+
+        once : (r z : Round) (p q : ℕ) (j h : Job) (a : IsIn (old ++ new ∷ []) r p j) (b : IsIn (old ++ new ∷ []) z q h) → IsCurrent t then.roster r p j → IsCurrent t then.roster z q h → j.inv ≡ h.inv → (a.number ≡ b.number) × (p ≡ q)
+        once r z p q j h a b c d same = elim (split r p j a) [
+          | inl o ↦ elim (split z q h b) [
+            | inl u ↦ (let g = was.once r z p q j h o.0 u.0 (old_current r p j o.0 c).1 (old_current z q h u.0 d).1 same in (sym o.1 ∙ g.0 ∙ u.1, g.1))
+            | inr m ↦ both_ways j.inv (ap (begins_round t s) same ∙ new_begins z q h m.1 b) (old_current r p j o.0 c).0
           ]
-
-          mates : (r : Round) (p : ℕ) (j : Job) (i : ℕ) → IsIn (old ++ new ∷ []) r p j → IsCurrent t then.roster r p j → has_job then.roster i ≡ true → feeds t i j.inv ≡ true
-              → (q : ℕ) × (h : Job) × (h.inv ≡ i) × IsIn (old ++ new ∷ []) r q h
-          mates r p j i m c stands fed = elim (split r p j m) [
-            | inl o ↦ absurd (never_old r p j o c)
-            | inr n ↦
-                (let f = has_fresh i (runs i stands) in
-                (f.0, f.1, f.4, record { number = m.number; at = m.at; job = ap (λ (z : Round). slice_get z.jobs f.0) n.1 ∙ f.2; present = f.3 }))
+          | inr n ↦ elim (split z q h b) [
+            | inl u ↦ both_ways h.inv (ap (begins_round t s) (sym same) ∙ new_begins r p j n.1 a) (old_current z q h u.0 d).0
+            | inr m ↦ (n.0 ∙ sym m.0, jobs.once t range kept rounds es s p q j h (at_new r p j n.1 a) (at_new z q h m.1 b) a.present b.present same)
           ]
-
-          once : (r z : Round) (p q : ℕ) (j h : Job) (a : IsIn (old ++ new ∷ []) r p j) (b : IsIn (old ++ new ∷ []) z q h) → IsCurrent t then.roster r p j → IsCurrent t then.roster z q h → j.inv ≡ h.inv → (a.number ≡ b.number) × (p ≡ q)
-          once r z p q j h a b c d same = elim (split r p j a) [
-            | inl o ↦ absurd (never_old r p j o c)
-            | inr n ↦ elim (split z q h b) [
-              | inl o ↦ absurd (never_old z q h o d)
-              | inr m ↦
-                  (let f = fresh p j (at_new r p j n.1 a) a.present in
-                  let g = fresh q h (at_new z q h m.1 b) b.present in
-                  (n.0 ∙ sym m.0, one_standing t range kept modes selection p q h.inv (f.stands ∙ ap (λ (y : ℕ). Some (Some y)) same) g.stands))
-            ]
-          ]
+        ]

@@ -5,7 +5,7 @@ use Rattle.std.proofs.lemmas.Bool.Decides.{nat_tests}
 use Rattle.std.proofs.lemmas.Option.{slice_get_within}
 use Rattle.htl_model.specs.declared.event.Event.{Event}
 use Rattle.htl_model.specs.declared.parts.Inv.{Inv}
-use Rattle.htl_model.specs.Broken.{KeptTo}
+use Rattle.htl_model.specs.FrameRules.{KeptApart}
 use Rattle.htl_model.specs.Frames.{root_periods, begins}
 use Rattle.htl_model.specs.Lists.{numbered}
 use Rattle.htl_model.specs.Ranges.{AreInRange}
@@ -25,7 +25,8 @@ use Rattle.htl_audit.specs.Lines.{IsNext, IsLast, BeganBefore}
 use Rattle.htl_audit.specs.Rosters.{IsIn, IsCurrent, AreSummed, IsSized}
 use Rattle.htl_audit.specs.Verdicts.{LogFollows, LogEnds}
 use Rattle.htl_audit.proofs.Agreeing.{fault_alike, no_ticks}
-use Rattle.htl_audit.proofs.Beginning.{grown, split, fresh, is_new, never_old, kept_new}
+use Rattle.htl_audit.proofs.Beginning.{grown, split, is_new, is_still, begins_or_not, old_current, kept_new}
+use Rattle.htl_audit.proofs.RoundJobs.{fresh, fresh_begins}
 use Rattle.htl_audit.proofs.Growing.{in_front, rounds_agree, rounds_still}
 use Rattle.htl_audit.proofs.Onward.{early, kept_then}
 use Rattle.htl_audit.proofs.Renewing.{renewed_sized, renewed_else, start_past}
@@ -54,7 +55,7 @@ done_both : (xs ys : List Round) (log : List Slice) → jobs_done (xs ++ ys) log
 done_both [] ys log = omega arith
 done_both (x ∷ xs) ys log = omega (arith, done_both xs ys log)
 
-module _ (t : Tables) (range : AreInRange t) (kept : KeptTo t 16) (rounds : HaveRounds t) (es : List Event) (within : AreTookWithin t es) (s : ℕ) (is : begins (root_periods t) s ≡ true) (log : List Slice) (k : Kept)
+module _ (t : Tables) (range : AreInRange t) (kept : KeptApart t 16) (rounds : HaveRounds t) (es : List Event) (within : AreTookWithin t es) (s : ℕ) (is : begins (root_periods t) s ≡ true) (log : List Slice) (k : Kept)
     (f : LogFollows t (all_rounds t es s) (suc s) log k) where
   old : List Round
   old = all_rounds t es s
@@ -69,7 +70,7 @@ module _ (t : Tables) (range : AreInRange t) (kept : KeptTo t 16) (rounds : Have
   c = f.judged.count
 
   agree : Agree s (all_rounds t es s) all
-  agree = subst (λ rs. Agree s (all_rounds t es s) rs) (grown t rounds es s is) (rounds_agree t rounds es es s (agrees t range es within s) (suc s) (omega arith))
+  agree = subst (λ rs. Agree s (all_rounds t es s) rs) (grown t range kept rounds es s is) (rounds_agree t rounds es es s (agrees t range es within s) (suc s) (omega arith))
 
   soon : AreEarly s (take c log)
   soon = early t (all_rounds t es s) (suc s) s (omega arith) log k f.judged all (suc s) agree (omega arith) c (omega arith)
@@ -87,7 +88,7 @@ module _ (t : Tables) (range : AreInRange t) (kept : KeptTo t 16) (rounds : Have
   -- a new job has no ticks yet, and takes some
   idle : (p : ℕ) (j : Job) → slice_get (round_of t es s).jobs p ≡ Some j → j.present ≡ true → (ticks (round_of t es s) j (take c log) ≡ 0) × (1 ≤ rules.length_at (round_of t es s) p)
   idle p j at here =
-      let g = fresh t rounds es s is range kept p j at here in
+      let g = fresh t range kept rounds es s p j at here in
       (no_ticks s (round_of t es s) j (take c log) soon (omega arith), omega (arith, g.length_is, some_took t range es within j.inv (s + j.release) g.inv g.known))
 
   done_new : jobs_done all (take c log) ≡ jobs_done (all_rounds t es s) (take c log)
@@ -116,11 +117,11 @@ module _ (t : Tables) (range : AreInRange t) (kept : KeptTo t 16) (rounds : Have
           let one = both g.job.present (ltb (g.round.start + g.job.end) (suc s)) two.0 in
           let ended : g.round.start + g.job.end < suc s = less (g.round.start + g.job.end) (suc s) one.1 in
           let i : IsIn all g.round g.position g.job = record { number = g.is.number; at = g.is.at; job = g.is.job; present = one.0 } in
-          elim (split t rounds es s is g.round g.position g.job i) [
-            | inl o ↦ job_there (λ r j. is_short (suc s) r (take c log) j) (all_rounds t es s) g.round g.position g.job (record { number = o.number; at = o.at; job = o.job }) g.passes
+          elim (split t range kept rounds es s is g.round g.position g.job i) [
+            | inl o ↦ job_there (λ r j. is_short (suc s) r (take c log) j) (all_rounds t es s) g.round g.position g.job (record { number = o.0.number; at = o.0.at; job = o.0.job }) g.passes
             | inr n ↦
                 (let at : slice_get (round_of t es s).jobs g.position ≡ Some g.job = ap (λ (z : Round). slice_get z.jobs g.position) (sym n.1) ∙ g.is.job in
-                let w = fresh t rounds es s is range kept g.position g.job at one.0 in
+                let w = fresh t range kept rounds es s g.position g.job at one.0 in
                 absurd (omega (arith, ended, w.room, ap (λ (z : Round). z.start) n.1)))
           ]
 
@@ -133,7 +134,7 @@ module _ (t : Tables) (range : AreInRange t) (kept : KeptTo t 16) (rounds : Have
   -- ---- at the end of a run
 
   ends_at_start : LogEnds (all_rounds t es (suc s)) (suc s) log k
-  ends_at_start = subst (λ rs. LogEnds rs (suc s) log k) (sym (grown t rounds es s is)) here
+  ends_at_start = subst (λ rs. LogEnds rs (suc s) log k) (sym (grown t range kept rounds es s is)) here
     where
       next : (o : Option LogFault) → k.fault ≡ o → IsLast all (suc s) (take c log) (slice_get log c) k o
       next (Some g) e = broken g e
@@ -154,9 +155,12 @@ module _ (t : Tables) (range : AreInRange t) (kept : KeptTo t 16) (rounds : Have
     rows = renewed_sized t (modes_at t es s) takes s (length t.invs) (length t.invs) k sized
 
     began : BeganBefore (suc s) then
-    began i = elim (either i (length t.invs)) [
-      | inl h ↦ inl (omega (arith, (is_new t rounds es s is range kept takes takes_are k sized i h).start))
-      | inr h ↦ inr (start_past t (modes_at t es s) takes s (length t.invs) i then rows h)
+    began i = elim (begins_or_not t range kept rounds es s is takes takes_are k sized i) [
+      | inl b ↦ elim (either i (length t.invs)) [
+        | inl h ↦ inl (omega (arith, (is_new t range kept rounds es s is takes takes_are k sized i h b).start))
+        | inr h ↦ inr (start_past t (modes_at t es s) takes s (length t.invs) i then rows h)
+      ]
+      | inr b ↦ subst (λ n. (n < suc s) ⊎ (n ≡ 0)) (sym (is_still t range kept rounds es s is takes takes_are k sized i b).start) (f.began i)
     ]
       where
         either : (a b : ℕ) → (a < b) ⊎ (b ≤ a)
@@ -166,7 +170,7 @@ module _ (t : Tables) (range : AreInRange t) (kept : KeptTo t 16) (rounds : Have
     summed n =
         let same = renewed_else t (modes_at t es s) takes s (length t.invs) (length t.invs) k in
         record {
-          kept = kept_new t rounds es s is range kept takes takes_are k sized n.kept rows.stands;
+          kept = kept_new t range kept rounds es s is takes takes_are k sized n.kept rows.stands;
           place = same.place ∙ n.place;
           end = same.end ∙ n.end;
           room = rows.sums ∙ sym rows.stands;
@@ -175,17 +179,19 @@ module _ (t : Tables) (range : AreInRange t) (kept : KeptTo t 16) (rounds : Have
         }
       where
         sums : (r : Round) (p : ℕ) (j : Job) → IsIn all r p j → IsCurrent t then.roster r p j → ticks r j (take c log) ≡ sum_at then.sums j.inv
-        sums r p j i cur = elim (split t rounds es s is r p j i) [
-          | inl o ↦ absurd (never_old t rounds es s is range kept takes takes_are k sized r p j o cur)
+        sums r p j i cur = elim (split t range kept rounds es s is r p j i) [
+          | inl o ↦
+              (let d = old_current t range kept rounds es s is takes takes_are k sized r p j o.0 cur in
+              n.sums r p j o.0 d.1 ∙ sym (is_still t range kept rounds es s is takes takes_are k sized j.inv d.0).sum)
           | inr m ↦
               (let at : slice_get (round_of t es s).jobs p ≡ Some j = ap (λ (z : Round). slice_get z.jobs p) (sym m.1) ∙ i.job in
-              let w = fresh t rounds es s is range kept p j at i.present in
+              let w = fresh t range kept rounds es s p j at i.present in
               ap (λ (z : Round). ticks z j (take c log)) m.1 ∙ (idle p j at i.present).0
-              ∙ sym (is_new t rounds es s is range kept takes takes_are k sized j.inv (slice_get_within t.invs j.inv w.inv w.known)).sum)
+              ∙ sym (is_new t range kept rounds es s is takes takes_are k sized j.inv (slice_get_within t.invs j.inv w.inv w.known) (fresh_begins t range kept rounds es s p j w)).sum)
         ]
 
     pub begun_follows : LogFollows t (all_rounds t es (suc s)) (suc s) log then
-    begun_follows = subst (λ rs. LogFollows t rs (suc s) log then) (sym (grown t rounds es s is)) here
+    begun_follows = subst (λ rs. LogFollows t rs (suc s) log then) (sym (grown t range kept rounds es s is)) here
       where
         fault_is : then.fault ≡ k.fault
         fault_is = (renewed_else t (modes_at t es s) takes s (length t.invs) (length t.invs) k).fault
@@ -208,7 +214,7 @@ module _ (t : Tables) (range : AreInRange t) (kept : KeptTo t 16) (rounds : Have
             }
 
 -- the end of a run, whether rounds begin there or not
-pub ends : (t : Tables) → AreInRange t → KeptTo t 16 → HaveRounds t → (es : List Event) → AreTookWithin t es → (s : ℕ) (log : List Slice) (k : Kept) → LogFollows t (all_rounds t es s) (suc s) log k
+pub ends : (t : Tables) → AreInRange t → KeptApart t 16 → HaveRounds t → (es : List Event) → AreTookWithin t es → (s : ℕ) (log : List Slice) (k : Kept) → LogFollows t (all_rounds t es s) (suc s) log k
     → LogEnds (all_rounds t es (suc s)) (suc s) log k
 ends t range kept rounds es within s log k f = by (begins (root_periods t) s) refl
   where

@@ -9,11 +9,12 @@ use Rattle.htl_walk.specs.declared.schedule.SInstr.TheVariants.{Dispatch, Idle, 
 use Rattle.htl_walk.specs.Walk.{Point, Left, job_at, begins, time_after, slice_between, slice_of, slice_onto, position_of, next_point, left_by, walk_from, is_position, slices, finish}
 use Rattle.htl_walk.proofs.Steps.{time_rises, left_falls}
 use Rattle.htl_refine.specs.Records.{shifted}
-use Rattle.htl_machine.specs.Served.{spent}
+use Rattle.htl_refine.specs.ServedJobs.{spent}
 use Rattle.htl_refine.specs.RecordCounts.{count_before, Rises}
 use Rattle.htl_refine.proofs.DoneRecords.{done_some}
 use Rattle.htl_refine.proofs.RecordOrder.{walk_rises}
-use Rattle.htl_machine.proofs.Serving.{slice_inside, spent_is}
+use Rattle.htl_refine.proofs.SliceOrder.{slice_inside}
+use Rattle.htl_refine.proofs.SliceSums.{spent_is}
 use Rattle.htl_machine.proofs.Standing.{some_same, none_some}
 use Rattle.htl_machine.proofs.Turning.{done_exactly}
 use Rattle.htl_audit.specs.declared.slice.Slice.{Slice}
@@ -122,7 +123,7 @@ closed_is jobs s now k (l ∷ ls) = by (eqb (s + l.at) now) (own_is jobs s k l) 
     by true here next = ap₂ (λ (o : Option Slice) (xs : List Slice). onto o xs) here next
 
 -- nothing closes at an instant from a point on that isn't before it
-none_closed : (jobs : List Job) (s now : ℕ) (is : List SInstr) (x : Point) → now ≤ s + x.time → closed jobs s now (walk_from jobs is x) ≡ []
+pub none_closed : (jobs : List Job) (s now : ℕ) (is : List SInstr) (x : Point) → now ≤ s + x.time → closed jobs s now (walk_from jobs is x) ≡ []
 none_closed jobs s now [] x late = refl
 none_closed jobs s now (i ∷ is) x late =
     by (eqb (s + (next_point jobs i x).time) now) refl (position_of i) (slice_of jobs i x (next_point jobs i x).time) refl

@@ -6,17 +6,18 @@ use Rattle.htl_model.specs.declared.event.Event.{Event}
 use Rattle.htl_model.specs.declared.parts.Inv.{Inv}
 use Rattle.htl_model.specs.declared.state.Stay.{Stay}
 use Rattle.htl_model.specs.declared.state.State.{State}
+use Rattle.htl_model.specs.FrameRules.{KeptApart}
 use Rattle.htl_model.specs.Meaning.{state, before, sense, stays_at}
+use Rattle.htl_model.specs.Ranges.{AreInRange}
 use Rattle.htl_model.specs.Tables.{Tables}
 use Rattle.htl_walk.specs.declared.schedule.SInstr.{SInstr}
+use Rattle.htl_walk.specs.Feasible.{AreFeasible}
 use Rattle.htl_emach.specs.Contents.{Content, first_content, completed}
 use Rattle.htl_emach.proofs.Keeping.{first_shaped}
 use Rattle.htl_refine.specs.Records.{AreTookWithin}
-use Rattle.htl_machine.specs.Follows.{IsLoaded}
 use Rattle.htl_machine.specs.Programs.{schedules_of}
 use Rattle.htl_machine.specs.Values.{Stands, Ready, ValuesFollow, HasPlaces, and_also}
 use Rattle.htl_machine.specs.Worlds.{effects, all_reads, all_writes, with_sensors}
-use Rattle.htl_machine.proofs.Accepted.{accepted_is_loaded}
 use Rattle.htl_machine.proofs.Carrying.{follows_on, after_shape, holds_values}
 use Rattle.htl_machine.proofs.Finishing.{finish_follows, completed_shape}
 use Rattle.htl_machine.proofs.Shaping.{has_places}
@@ -28,10 +29,13 @@ use Rattle.htl_audit.specs.Legal.{lies_in, ticks, length_at, IsLegal}
 use Rattle.htl_audit.proofs.FinishedByLog.{finished_is, finished_stands, alike, own_job, never, lies_own, has_read, all_ready, none_ready, all_carried}
 use Rattle.htl_audit.proofs.Judging.{lies, ticks_more}
 use Rattle.htl_audit.proofs.LegalLogs.{ended_next, ending_at, kept, one_ending, none_first}
-use Rattle.htl_audit.proofs.Rounds.{have_rounds}
+use Rattle.htl_audit.proofs.Rounds.{accepted_range, accepted_kept, first_rules, have_rounds}
 use Rattle.htl_audit.proofs.StandingJobs.{HasJobFrom, stands_order}
 
-module _ (t : Tables) (schedules : List (List SInstr)) (loaded : IsLoaded t schedules) (rounds : HaveRounds t) (es : List Event) (within : AreTookWithin t es) (end : ℕ) (log : List Slice) (legal : IsLegal t es end log) where
+module _ (t : Tables) (lists : List (List SInstr)) (range : AreInRange t) (kept16 : KeptApart t 16) (feasible : AreFeasible t lists) (rounds : HaveRounds t) (es : List Event) (within : AreTookWithin t es) (end : ℕ) (log : List Slice) (legal : IsLegal t es end log) where
+  first12 : KeptApart t 12
+  first12 = first_rules t kept16
+
   abbrev finished : ℕ → ℕ → ℕ → Bool
   finished now m i = is_finished t es (before t es now).stays (ended m log) i
 
@@ -48,7 +52,7 @@ module _ (t : Tables) (schedules : List (List SInstr)) (loaded : IsLoaded t sche
     none_more : ending (suc n) log ≡ [] → (i : ℕ) (x : Inv) (s : ℕ) → Stands t stays i x s → finished (suc n) (suc n) i ≡ finished (suc n) (suc (suc n)) i
     none_more none i x s st =
         let r = round_of t es s in
-        let j = own_job t schedules loaded rounds es within end log legal n soon i s x st in
+        let j = own_job t range kept16 rounds es within end log legal n soon i s x st in
         let same : ticks r j.job (ended (suc (suc n)) log) ≡ ticks r j.job lines = omega (arith, ended_next r j.job (suc n) log, ap (ticks r j.job) none) in
         finished_is t es stays i s x st j lines ∙ ap (λ k. eqb k (length_at r j.position)) (sym same) ∙ sym (finished_is t es stays i s x st j (ended (suc (suc n)) log))
 
@@ -61,7 +65,7 @@ module _ (t : Tables) (schedules : List (List SInstr)) (loaded : IsLoaded t sche
 
       module _ (i s : ℕ) (x : Inv) (st : Stands t stays i x s) where
         abbrev job : HasJobFrom t es s i x
-        job = own_job t schedules loaded rounds es within end log legal n soon i s x st
+        job = own_job t range kept16 rounds es within end log legal n soon i s x st
 
         -- with the line the job has what it has at the next instant
         with_line : ticks (round_of t es s) job.job (lines ++ y ∷ []) ≡ ticks (round_of t es s) job.job (ended (suc (suc n)) log)
@@ -92,8 +96,8 @@ module _ (t : Tables) (schedules : List (List SInstr)) (loaded : IsLoaded t sche
         open_yet : y.inv ≡ i → finished (suc n) (suc n) i ≡ false
         open_yet own =
             let r = round_of t es s in
-            let lie = lies_own t schedules loaded rounds es within end log legal n soon i s x st line.0 y line.1 line.2 own in
-            let most = never t schedules loaded rounds es within end log legal n soon i s x st (suc (suc n)) in
+            let lie = lies_own t range kept16 rounds es within end log legal n soon i s x st line.0 y line.1 line.2 own in
+            let most = never t range kept16 rounds es within end log legal n soon i s x st (suc (suc n)) in
             let more = ap (λ (b : Bool). cond b (y.to - y.from) 0) lie in
             finished_is t es stays i s x st job lines
             ∙ ne_eqb (ticks r job.job lines) (length_at r job.position) (λ e. omega (arith, e, most, with_line, ticks_more r job.job lines y, more, room))
@@ -123,11 +127,11 @@ module _ (t : Tables) (schedules : List (List SInstr)) (loaded : IsLoaded t sche
       one_line w follows places true done =
           let f = finished_stands t es stays (lines ++ y ∷ []) y.inv done in
           let i = y.inv in
-          let lie = lies_own t schedules loaded rounds es within end log legal n soon i f.1 f.0 f.2 line.0 y line.1 line.2 refl in
-          let read = has_read t schedules loaded rounds es within end log legal n soon i f.1 f.0 f.2 line.0 y line.1 lie (omega (arith, line.2)) (suc n) (omega (arith, line.2, room)) in
-          let order = stands_order t schedules loaded rounds es within n i f.1 f.0 f.2 in
+          let lie = lies_own t range kept16 rounds es within end log legal n soon i f.1 f.0 f.2 line.0 y line.1 line.2 refl in
+          let read = has_read t range kept16 rounds es within end log legal n soon i f.1 f.0 f.2 line.0 y line.1 lie (omega (arith, line.2)) (suc n) (omega (arith, line.2, room)) in
+          let order = stands_order t range kept16 rounds es n i f.1 f.0 f.2 lists feasible within in
           let more =
-          finish_follows t loaded.range loaded.kept es (suc n) (finished (suc n) (suc n)) w follows i f.1 f.0 f.2 (open_yet i f.1 f.0 f.2 refl) read order.0 order.1 places in
+          finish_follows t range first12 es (suc n) (finished (suc n) (suc n)) w follows i f.1 f.0 f.2 (open_yet i f.1 f.0 f.2 refl) read order.0 order.1 places in
           (alike t es (suc n) (and_also i (finished (suc n) (suc n))) (finished (suc n) (suc (suc n))) (completed t i w) (somebody done) more, completed_shape t i w places)
 
     lines_done : (w : Content) → ValuesFollow t es (suc n) (finished (suc n) (suc n)) w → HasPlaces t w → (ys : List Slice) → ending (suc n) log ≡ ys
@@ -151,8 +155,8 @@ module _ (t : Tables) (schedules : List (List SInstr)) (loaded : IsLoaded t sche
   lines_at (suc n) late w follows places = lines_done n (omega (arith, late)) w follows places (ending (suc n) log) refl
 
   ready_at : (now : ℕ) → now ≤ end → Ready t es now (finished now (suc now))
-  ready_at zero late = none_ready t schedules loaded rounds es within end log legal
-  ready_at (suc n) late = all_ready t schedules loaded rounds es within end log legal n (omega (arith, late))
+  ready_at zero late = none_ready t range kept16 rounds es within end log legal
+  ready_at (suc n) late = all_ready t range kept16 rounds es within end log legal n (omega (arith, late))
 
   -- the modes of an instant follow from its values
   stays_are : (now : ℕ) → stays_at t (state t es now).values now (before t es now).stays ≡ (state t es now).stays
@@ -170,17 +174,17 @@ module _ (t : Tables) (schedules : List (List SInstr)) (loaded : IsLoaded t sche
       let done = lines_at now late k.world h.follows h.places in
       let w = done_at now k.world in
       let ready = ready_at now late in
-      let carried = all_carried t schedules loaded rounds es within end log legal now in
+      let carried = all_carried t range kept16 rounds es within end log legal now in
       let sensed = with_sensors t (sense t es) now (effects t (all_writes t now old) w) in
       let make : List (Option Stay) → Known = λ z. record { world = effects t (all_reads t now z) sensed; stays = z } in
-      let values = holds_values t loaded.range loaded.kept es now (finished now (suc now)) (finished (suc now) (suc now)) w done.0 done.1 ready carried in
+      let values = holds_values t range first12 es now (finished now (suc now)) (finished (suc now) (suc now)) w done.0 done.1 ready carried in
       let same : next_known t es log now k ≡ make (state t es now).stays =
       ap (λ z. next_known t es log now (record { world = k.world; stays = z })) h.stays ∙ ap make (ap (λ v. stays_at t v now old) values ∙ stays_are now) in
       subst (Holds (suc now)) (sym same)
       (record {
         stays = refl;
-        follows = follows_on t loaded.range loaded.kept es now (finished now (suc now)) (finished (suc now) (suc now)) w done.0 done.1 ready carried;
-        places = after_shape t loaded.range loaded.kept es now (finished now (suc now)) (finished (suc now) (suc now)) w done.0 done.1 ready carried;
+        follows = follows_on t range first12 es now (finished now (suc now)) (finished (suc now) (suc now)) w done.0 done.1 ready carried;
+        places = after_shape t range first12 es now (finished now (suc now)) (finished (suc now) (suc now)) w done.0 done.1 ready carried;
       })
 
   holds : (now : ℕ) → now ≤ suc end → Holds now (known t es log now)
@@ -192,7 +196,7 @@ module _ (t : Tables) (schedules : List (List SInstr)) (loaded : IsLoaded t sche
           inputs = λ i x s k c n st fin at past. absurd (none_some (record { mode = x.mode; start = s }) st.in_round);
           outputs = λ i x s k st fin at. absurd (none_some (record { mode = x.mode; start = s }) st.in_round);
         };
-        places = has_places t (first_content t) loaded.range loaded.kept (first_shaped t loaded.range);
+        places = has_places t (first_content t) range first12 (first_shaped t range);
       }
   holds (suc n) late = next n (omega (arith, late)) (known t es log n) (holds n (omega (arith, late)))
 
@@ -210,4 +214,4 @@ module _ (t : Tables) (schedules : List (List SInstr)) (loaded : IsLoaded t sche
 
 pub legal_log_gives_the_meaning : LegalLogGivesTheMeaning
 legal_log_gives_the_meaning o es end log accepted within legal now late =
-    gives_the_meaning o.tables (schedules_of o) (accepted_is_loaded o accepted) (have_rounds o accepted) es within end log legal now late
+    gives_the_meaning o.tables (schedules_of o) (accepted_range o accepted) (accepted_kept o accepted) accepted.feasible (have_rounds o accepted) es within end log legal now late

@@ -7,14 +7,14 @@ use Rattle.htl_model.specs.declared.parts.Inv.{Inv}
 use Rattle.htl_model.specs.declared.parts.End.{End}
 use Rattle.htl_model.specs.declared.parts.End.TheVariants as E
 use Rattle.htl_model.specs.declared.state.Stay.{Stay}
+use Rattle.htl_model.specs.FrameRules.{KeptApart}
 use Rattle.htl_model.specs.Meaning as meaning
 use Rattle.htl_model.specs.Meaning.{state, before, stay_of, in_round, writer_from}
+use Rattle.htl_model.specs.Ranges.{AreInRange}
 use Rattle.htl_model.specs.Tables.{Tables, mode_module, mode_period, is_concrete}
 use Rattle.htl_walk.specs.declared.job.Job.{Job}
-use Rattle.htl_walk.specs.declared.schedule.SInstr.{SInstr}
 use Rattle.htl_emach.specs.Contents.{Content}
 use Rattle.htl_refine.specs.Records.{AreTookWithin}
-use Rattle.htl_machine.specs.Follows.{IsLoaded}
 use Rattle.htl_machine.specs.Values.{Stands, IsDue, IsPast, HasRead, Ready, AreCarried, ValuesFollow}
 use Rattle.htl_machine.proofs.Casting.{reads_before_release, end_before_writes}
 use Rattle.htl_machine.proofs.Standing.{some_same, standing_at}
@@ -96,7 +96,7 @@ alike t es now f g w same follows =
 
 -- ---- a legal log
 
-module _ (t : Tables) (schedules : List (List SInstr)) (loaded : IsLoaded t schedules) (rounds : HaveRounds t) (es : List Event) (within : AreTookWithin t es) (end : ℕ) (log : List Slice) (legal : IsLegal t es end log) where
+module _ (t : Tables) (range : AreInRange t) (kept16 : KeptApart t 16) (rounds : HaveRounds t) (es : List Event) (within : AreTookWithin t es) (end : ℕ) (log : List Slice) (legal : IsLegal t es end log) where
   abbrev all : List Round
   all = all_rounds t es (suc end)
 
@@ -110,10 +110,10 @@ module _ (t : Tables) (schedules : List (List SInstr)) (loaded : IsLoaded t sche
     r = round_of t es s
 
     pub own_job : HasJobFrom t es s i x
-    own_job = stands_job t schedules loaded rounds es within n i s x st
+    own_job = stands_job t range kept16 rounds es n i s x st within
 
     began : s ≤ n
-    began = (standing_at t loaded.range es n).past (mode_module t x.mode) (record { mode = x.mode; start = s }) st.in_round
+    began = (standing_at t range es n).past (mode_module t x.mode) (record { mode = x.mode; start = s }) st.in_round
 
     pub job_of : (p : ℕ) (k : Job) → slice_get (round_of t es s).jobs p ≡ Some k → IsJobOf all r p k
     job_of p k at = let m = own_job.known (suc end) (omega (arith, began, soon)) in record { number = m.0; at = m.1; job = at }
@@ -128,7 +128,7 @@ module _ (t : Tables) (schedules : List (List SInstr)) (loaded : IsLoaded t sche
         let f = job_found (λ r j. lies_in r j.1 y) all own.inside in
         let l = lies f.round f.job y f.passes in
         let round : f.round ≡ r =
-        same_start t schedules loaded rounds es within n i s x st (suc end) f.is.number f.round f.is.at (omega (arith, l.from, own.room, to)) f.position f.job f.is.job l.present (omega (arith, l.to, to)) in
+        same_start t range kept16 rounds es n i s x st (suc end) f.is.number f.round f.is.at (omega (arith, l.from, own.room, to)) f.position f.job f.is.job l.present (sym l.inv ∙ inv) (omega (arith, l.to, to)) in
         let there : slice_get (round_of t es s).jobs f.position ≡ Some f.job = ap (λ (z : Round). slice_get z.jobs f.position) (sym round) ∙ f.is.job in
         let place = own_job.once f.position f.job there l.present (sym l.inv ∙ inv) in
         let same : f.job ≡ own_job.job = some_same _ _ (sym there ∙ ap (slice_get (round_of t es s).jobs) place ∙ own_job.at) in
@@ -150,18 +150,14 @@ module _ (t : Tables) (schedules : List (List SInstr)) (loaded : IsLoaded t sche
 
         by_port : (q a w o : ℕ) → slice_get x.reads q ≡ Some (E.Port a) → writer_from x.mode a 0 t.invs ≡ Some (w, o) → finished (suc n) m w ≡ true
         by_port q a w o read writes =
-            let fed = stands_fed t schedules loaded rounds es within n i s x st q a w o read writes in
-            let other = stands_job t schedules loaded rounds es within n w s fed.writer fed.stands in
-            let place : fed.place ≡ other.position = other.once fed.place fed.job fed.at fed.present fed.inv in
-            let same : fed.job ≡ other.job = some_same _ _ (sym fed.at ∙ ap (slice_get (round_of t es s).jobs) place ∙ other.at) in
-            let before = fed.before own_job.position own_job.job own_job.at own_job.present own_job.inv in
-            let all_there = waited all (suc end) log legal r own_job.position own_job.job (job_of own_job.position own_job.job own_job.at) k y at lie fed.place fed.job fed.at before fed.present in
-            let front = ended_front r fed.job m k log (λ d z less there. omega (arith, (ordered all (suc end) log legal d k z y less there at).0, from)) in
-            let most = never_more all (suc end) log legal r fed.place fed.job (job_of fed.place fed.job fed.at) in
-            let whole : ticks r fed.job (ended m log) ≡ length_at r fed.place = omega (arith, all_there, front, ended_less r fed.job m log, most) in
-            finished_is t es (state t es n).stays w s fed.writer fed.stands other (ended m log)
-            ∙ ap₂ (λ (j : Job) (p : ℕ). eqb (ticks r j (ended m log)) (length_at r p)) (sym same) (sym place)
-            ∙ eq-eqb (ticks r fed.job (ended m log)) (length_at r fed.place) whole
+            let fed = stands_fed t range kept16 rounds es n i s x st q a w o read writes in
+            let other = stands_job t range kept16 rounds es n w s fed.writer fed.stands within in
+            let before = fed.before own_job.position other.position own_job.job other.job own_job.at other.at own_job.present other.present own_job.inv other.inv in
+            let all_there = waited all (suc end) log legal r own_job.position own_job.job (job_of own_job.position own_job.job own_job.at) k y at lie other.position other.job other.at before other.present in
+            let front = ended_front r other.job m k log (λ d z less there. omega (arith, (ordered all (suc end) log legal d k z y less there at).0, from)) in
+            let most = never_more all (suc end) log legal r other.position other.job (job_of other.position other.job other.at) in
+            let whole : ticks r other.job (ended m log) ≡ length_at r other.position = omega (arith, all_there, front, ended_less r other.job m log, most) in
+            finished_is t es (state t es n).stays w s fed.writer fed.stands other (ended m log) ∙ eq-eqb (ticks r other.job (ended m log)) (length_at r other.position) whole
 
   -- ---- what is owed at an instant
 
@@ -210,7 +206,7 @@ module _ (t : Tables) (schedules : List (List SInstr)) (loaded : IsLoaded t sche
       fresh : (i : ℕ) (x : Inv) → Stands t (state t es now).stays i x now → finished (suc now) (suc now) i ≡ false
       fresh i x st =
           let r = round_of t es now in
-          let j = stands_job t schedules loaded rounds es within now i now x st in
+          let j = stands_job t range kept16 rounds es now i now x st within in
           finished_is t es (state t es now).stays i now x st j (ended (suc now) log)
           ∙ ne_eqb (ticks r j.job (ended (suc now) log)) (length_at r j.position)
           (λ e.

@@ -157,7 +157,7 @@ module _ (t : Tables) (rounds : List Round) (o : Roster) (kept : AreKept t round
             one n two =
                 let m = kept.mates r p j n i c two.0 two.1 in
                 let h = m.1 in
-                let d = kept.together r p m.0 j h i m.3 c in
+                let d = kept.together r p m.0 j h i m.3 (ap (λ z. feeds t z j.inv) m.2 ∙ two.1) c in
                 let pre : precedes m.0 j ≡ true = kept.before r p m.0 j h i m.3 ∙ ap (λ z. feeds t z j.inv) m.2 ∙ two.1 in
                 let done : is_done r log (m.0, h) ≡ true = applied (precedes m.0 j && h.present) (is_done r log (m.0, h)) (all_at_0 (waits_for r log j) r.jobs e m.0 h m.3.job) (and_true (precedes m.0 j) h.present pre m.3.present) in
                 ap (is_full o sums) (sym m.2) ∙ sym (full_is r m.0 h m.3 d) ∙ done
@@ -175,8 +175,8 @@ module _ (t : Tables) (rounds : List Round) (o : Roster) (kept : AreKept t round
             one : (q : ℕ) (h : Job) → slice_get r.jobs q ≡ Some h → (precedes q j ≡ true) × (h.present ≡ true) → is_done r log (q, h) ≡ true
             one q h at two =
                 let m : IsIn rounds r q h = record { number = i.number; at = i.at; job = at; present = two.1 } in
-                let d = kept.together r p q j h i m c in
                 let fed : feeds t h.inv j.inv ≡ true = sym (kept.before r p q j h i m) ∙ two.0 in
+                let d = kept.together r p q j h i m fed c in
                 full_is r q h m d ∙ full h.inv d.stands fed
 
     before_is : is_inside t o x ≡ true → any_job (λ r j. lies_in r j.1 x && not (is_free r log j.1)) rounds ≡ not (is_free_at t o sums x.inv)

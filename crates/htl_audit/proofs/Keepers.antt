@@ -1,7 +1,7 @@
 -- What holds of all that an auditor keeps, from call to call.
-use Rattle.std.proofs.Common.{◌≡◌, ℕ, zero, suc, ◌%◌, ◌≤◌, ◌<◌, inr, Bool, true, false, cond, ◌&&◌, eqb, leb, ltb, List, [], ◌∷◌, ◌++◌, length, get_or, set, map, drop, replicate, Option, Some, None, IfSome, All, refl, sym, ◌∙◌, ap, ap₂, subst, arith}
+use Rattle.std.proofs.Common.{◌≡◌, ℕ, zero, suc, ◌≤◌, ◌<◌, inr, Bool, true, false, cond, ◌&&◌, eqb, leb, ltb, List, [], ◌∷◌, ◌++◌, length, get_or, set, map, drop, replicate, Option, Some, None, IfSome, All, refl, sym, ◌∙◌, ap, ap₂, subst, arith}
 use Rattle.std.specs.Prelude.{slice_get}
-use Rattle.std.proofs.lemmas.Bool.{ne_eqb, eqb-true}
+use Rattle.std.proofs.lemmas.Bool.{eqb-true}
 use Rattle.std.proofs.lemmas.Bool.Decides.{nat_tests}
 use Rattle.std.proofs.lemmas.List.{get_or-set_same, get_or-set_other, length-set, length-drop}
 use Rattle.std.proofs.lemmas.Option.{get_or_from_slice_get}
@@ -12,7 +12,6 @@ use Rattle.htl_model.specs.declared.event.Event.TheVariants as V
 use Rattle.htl_model.specs.declared.parts.Inv.{Inv}
 use Rattle.htl_model.specs.declared.parts.Task.{Task}
 use Rattle.htl_model.specs.Ranges.{AreInRange, IsInvInRange, IsTaskInRange}
-use Rattle.htl_model.specs.Selections.{root_period}
 use Rattle.htl_model.specs.Tables.{Tables, task_worst}
 use Rattle.htl_object.specs.declared.object.Object.{Object}
 use Rattle.htl_object.specs.Accepted.{IsAccepted}
@@ -28,8 +27,7 @@ use Rattle.htl_machine.proofs.Events.{took_took}
 use Rattle.htl_audit.specs.declared.slice.Slice.{Slice}
 use Rattle.htl_audit.specs.declared.slice.LogKind.{LogKind}
 use Rattle.htl_audit.specs.declared.slice.LogFault.{LogFault}
-use Rattle.htl_audit.specs.Auditing.{Audit, Follows, IsAuditor, IsNextStart}
-use Rattle.htl_audit.specs.Growing.{HaveRounds}
+use Rattle.htl_audit.specs.Auditing.{Audit, Follows, IsAuditor}
 use Rattle.htl_audit.specs.Jobs.{all_rounds}
 use Rattle.htl_audit.specs.Keeping.{Kept, judged_to, judged, with_kind, kind_of, passed, begun, taken, first_kept}
 use Rattle.htl_audit.specs.Rosters.{AreKept, AreSummed, IsSized}
@@ -126,16 +124,6 @@ taken_auditor o m new takes log k t now i n few same a =
       lines = a.lines;
       place = omega (arith, a.place, l.place);
     }
-
--- ---- the next start
-
-pub next_some : (t : Tables) (h : HaveRounds t) (p at s : ℕ) → root_period t ≡ Some p → at ≤ s → s % p ≡ 0 → ((n : ℕ) → at ≤ n → n < s → n % p ≡ 0 → ⊥) → IsNextStart t at (Some s)
-next_some t h p at s e low whole first =
-    let zeros : (n : ℕ) → n ≡ 0 → eqb n 0 ≡ true = λ n z. same n z in
-    (low, h.starts p s e ∙ zeros (s % p) whole, λ n from to. h.starts p n e ∙ ne_eqb (n % p) 0 (first n from to))
-  where
-    same : (n : ℕ) → n ≡ 0 → eqb n 0 ≡ true
-    same n z = grind (arith, nat_tests)
 
 -- ---- nothing is followed yet
 

@@ -1,128 +1,135 @@
 -- The job lines of a run make a legal log.
-use Rattle.std.proofs.Common.{◌≡◌, ◌≤◌, ◌<◌, inl, inr, ℕ, suc, ◌+◌, ◌/◌, ◌%◌, Bool, true, false, not, ◌&&◌, ◌||◌, ltb, List, [], ◌∷◌, ◌++◌, take, slice_get, get_or, Option, Some, None, refl, sym, ap, ◌∙◌, subst, arith}
-use Rattle.std.proofs.Math.Nat.{div-add-mod, mul-div-le}
-use Rattle.std.proofs.lemmas.Bool.{eqb-true, eq-eqb, ltb-true}
+use Rattle.std.proofs.Common.{◌≡◌, ◌≤◌, ◌<◌, ◌⊎◌, inl, inr, ℕ, suc, ◌+◌, ◌-◌, ◌*◌, ◌/◌, ◌%◌, Bool, true, false, cond, not, ◌&&◌, ◌||◌, eqb, leb, ltb, List, [], ◌∷◌, ◌++◌, length, map, take, slice_get, get_or, Option, Some, None, refl, sym, ap, ap₂, ◌∙◌, subst, arith}
+use Rattle.std.proofs.Math.Nat.{mul-div_cancel_left}
+use Rattle.std.proofs.lemmas.Bool.{eq-eqb, ltb-true}
 use Rattle.htl_form.proofs.PartLaws.{none_some}
 use Rattle.htl_model.specs.declared.event.Event.{Event}
-use Rattle.htl_model.specs.Frames.{root_periods, begins, hyper}
+use Rattle.htl_model.specs.Frames.{root_periods, begins, unit_period, hyper, frame_of, multiple_of}
 use Rattle.htl_model.specs.Lists.{up_to}
-use Rattle.htl_model.specs.Selections.{root_period}
+use Rattle.htl_model.specs.Selections.{root_modules}
 use Rattle.htl_model.specs.Tables.{Tables}
+use Rattle.htl_model.proofs.FrameBuild.{frame_some}
 use Rattle.htl_model.proofs.Locality.{up_to_same}
 use Rattle.htl_walk.specs.declared.job.Job.{Job}
 use Rattle.htl_walk.specs.declared.schedule.SInstr.{SInstr}
 use Rattle.htl_walk.specs.Jobs.{precedes}
 use Rattle.htl_walk.specs.Walk.{job_at}
 use Rattle.htl_walk.proofs.Work.{job_is}
-use Rattle.htl_refine.specs.Records.{Round as Plan, lengths_of, modes_at, round_at, walk_of}
-use Rattle.htl_refine.proofs.Inherit.{map_at}
-use Rattle.htl_machine.specs.Follows.{IsLoaded}
+use Rattle.htl_refine.specs.Records.{AreTookWithin}
+use Rattle.htl_refine.specs.ServedFrames.{IsServing, IsFeasibleRun}
+use Rattle.htl_refine.proofs.ServedFrames.{frames_are_served}
 use Rattle.htl_machine.specs.Programs.{schedules_of}
-use Rattle.htl_machine.specs.Rounds.{round_start}
-use Rattle.htl_machine.proofs.Accepted.{accepted_is_loaded}
-use Rattle.htl_machine.proofs.LoadedLists.{loaded_keys, loaded_one}
 use Rattle.htl_machine.proofs.Telling.{up_to_none}
 use Rattle.htl_audit.specs.declared.slice.Slice.{Slice}
 use Rattle.htl_audit.specs.Growing.{HaveRounds}
-use Rattle.htl_audit.specs.Jobs.{Round, jobs_from, round_of, starts_before, all_rounds}
+use Rattle.htl_audit.specs.Jobs.{Round, round_of, all_rounds}
 use Rattle.htl_audit.specs.Legal.{lies_in, ticks, length_at, is_done, is_free, is_over, is_short, any_job, any_short, last_end, line_fault, IsLegal, IsLegalIn}
 use Rattle.htl_audit.specs.Own.{own_at, own_log, OwnLogIsLegal}
 use Rattle.htl_audit.proofs.FaultLaws.{is_legal}
-use Rattle.htl_audit.proofs.Growing.{start_is, start_there, round_is}
+use Rattle.htl_audit.proofs.ClosedSlices.{given}
+use Rattle.htl_audit.proofs.FrameJobs.{IsFramed, InRound, of_round, of_frame, framed_precedes, frames_run}
+use Rattle.htl_audit.proofs.FrameSlices.{frame_plan, frame_slices_at, slices_are}
+use Rattle.htl_audit.proofs.Growing.{start_is, round_is}
 use Rattle.htl_audit.proofs.JobTests.{both, all_pass_0, IsJobOf, job_found, job_there}
 use Rattle.htl_audit.proofs.Judging.{lies, implied}
-use Rattle.htl_audit.proofs.ClosedSlices.{given}
-use Rattle.htl_audit.proofs.OwnSoFar.{cut, last_early, same_round, mod_below, either, keeps, IsRun, run_of, again, later_at, few, IsAt, is_at, elsewhere, ticks_before}
-use Rattle.htl_audit.proofs.OwnTicks.{IsSound, audited, IsOwn, own, own_lies, never_over, window_given, all_given, ready, before}
-use Rattle.htl_audit.proofs.RoundSlices.{round_slices_at, slices_same}
-use Rattle.htl_audit.proofs.Rounds.{have_rounds}
+use Rattle.htl_audit.proofs.OwnSoFar.{start_of, cut, last_early, same_round, mod_below, either, keeps, IsRun, again, later_at, few, IsAt, is_at, elsewhere, ticks_before}
+use Rattle.htl_audit.proofs.OwnTicks.{Plan, walk_of, IsSound, audited, IsOwn, own, own_lies, never_over, window_given, all_given, ready, before}
+use Rattle.htl_audit.proofs.RoundJobs.{fresh}
+use Rattle.htl_audit.proofs.Rounds.{accepted_range, accepted_kept, have_rounds}
+use Rattle.htl_audit.proofs.StandingJobs.{round_there}
 
-module _ (t : Tables) (schedules : List (List SInstr)) (es : List Event) (period : ℕ) (run : IsRun t schedules es period) where
+-- ---- a job by its rounds and by its frame
+
+module _ (r u : Round) (j k : Job) (here : j.present ≡ k.present) (inv : j.inv ≡ k.inv) (from : r.start + j.release ≡ u.start + k.release) (to : r.start + j.end ≡ u.start + k.end) where
+  -- has the same slices
+  lies_alike : (x : Slice) → lies_in r j x ≡ lies_in u k x
+  lies_alike x =
+      ap₂ (λ (a b : Bool). a && b) (ap₂ (λ (a b : Bool). a && b) (ap₂ (λ (a b : Bool). a && b) here (ap (eqb x.inv) inv)) (ap (λ z. leb z x.from) from)) (ap (leb x.to) to)
+
+  ticks_alike : (xs : List Slice) → ticks r j xs ≡ ticks u k xs
+  ticks_alike [] = refl
+  ticks_alike (x ∷ xs) = ap₂ (λ b n. cond b (x.to - x.from) 0 + n) (lies_alike x) (ticks_alike xs)
+
+module _ (t : Tables) (lists : List (List SInstr)) (es : List Event) (rounds_fit : HaveRounds t) (run : IsFeasibleRun t lists es) where
+  abbrev h : ℕ
+  h = frame_of t
+
+  abbrev plan : ℕ → Plan
+  plan = frame_plan t lists es
+
   abbrev at : ℕ → List Slice
-  at now = round_slices_at t schedules es period now
+  at now = frame_slices_at (frame_plan t lists es) (frame_of t) now
 
-  -- ---- the rounds of an audit are those of the run
+  runs : IsRun (frame_plan t lists es) (frame_of t)
+  runs = frames_run t lists es rounds_fit run
 
-  pub same_rounds : (s : ℕ) → begins (root_periods t) s ≡ true → round_of t es s ≡ audited (round_at t schedules es s) s
-  same_rounds s is =
-      let make : List ℕ → Round = λ us. record { start = s; jobs = jobs_from t (modes_at t es s) us; lengths = lengths_of t es s (jobs_from t (modes_at t es s) us) } in
-      ap make (run.rounds.whole s is)
+  -- a present job of the audit's rounds, by its frame
+  record IsJobAt (r : Round) (p : ℕ) (j : Job) : Type 0 where
+    start : ℕ
+    of : round_of t es start ≡ r
+    frame : ℕ
+    whole : start_of (frame_of t) frame ≡ frame
+    own : start_of (frame_of t) start ≡ frame
+    position : ℕ
+    job : Job
+    is : IsFramed t lists es rounds_fit run frame position job start p j
+    lies_is : (x : Slice) → lies_in r j x ≡ lies_in (audited (frame_plan t lists es frame) frame) job x
+    ticks_are : (n : ℕ) → ticks r j (up_to (λ now. frame_slices_at (frame_plan t lists es) (frame_of t) now) n) ≡ given position frame n (walk_of (frame_plan t lists es frame))
+    length_is : length_at r p ≡ get_or (frame_plan t lists es frame).lengths position 0
+    end_is : r.start + j.end ≡ frame + job.end
 
-  pub record IsRound (now : ℕ) (r : Round) : Type 0 where
-    pub start : ℕ
-    pub whole : round_start period start ≡ start
-    pub early : start < now
-    pub of : round_of t es start ≡ r
-    pub is : r ≡ audited (round_at t schedules es start) start
-
-  pub round_known : (now n : ℕ) (r : Round) → slice_get (all_rounds t es now) n ≡ Some r → IsRound now r
-  round_known now n r e =
-      let a = round_is t es now n r e in
-      let b = start_is (root_periods t) now n a.0 a.1 in
-      let rest : a.0 % period ≡ 0 = eqb-true (a.0 % period) 0 (sym (run.rounds.starts period a.0 run.root) ∙ b.1) in
-      record { start = a.0; whole = omega (arith, div-add-mod a.0 period, rest); early = b.0; of = a.2; is = sym a.2 ∙ same_rounds a.0 b.1 }
-
-  pub whole_begins : (s : ℕ) → round_start period s ≡ s → begins (root_periods t) s ≡ true
-  whole_begins s whole = run.rounds.starts period s run.root ∙ eq-eqb (s % period) 0 (omega (arith, div-add-mod s period, whole))
-
-  pub round_there : (now s : ℕ) → round_start period s ≡ s → s < now → (n : ℕ) × (slice_get (all_rounds t es now) n ≡ Some (round_of t es s))
-  round_there now s whole early =
-      let n = start_there (root_periods t) now s early (whole_begins s whole) in
-      (n.0, map_at (round_of t es) (starts_before t now) n.0 s n.1)
-
-  -- a round in which a job's window ends behind an instant, and which began by it, is the one that stands then
-  pub round_same : (now m : ℕ) (r : Round) → slice_get (all_rounds t es now) m ≡ Some r → (n : ℕ) → r.start ≤ n → (p : ℕ) (j : Job) → slice_get r.jobs p ≡ Some j → j.present ≡ true → n < r.start + j.end
-      → (s : ℕ) → s ≡ round_start period n → r ≡ round_of t es s
-  round_same now m r at n began p j job here late s is =
-      let k = round_known now m r at in
-      let start : r.start ≡ k.start = ap (λ (z : Round). z.start) k.is in
-      let end = (run.sound k.start k.whole).ends p j (ap (λ (z : Round). slice_get z.jobs p) (sym k.is) ∙ job) here in
-      let same = same_round period (k.start / period) n run.some (omega (arith, began, start, k.whole)) (omega (arith, late, start, end, k.whole)) in
-      sym k.of ∙ ap (round_of t es) (sym k.whole ∙ sym same ∙ sym is)
-
-  -- a present job of one of them, by its round
-  record IsJobAt (now : ℕ) (r : Round) (p : ℕ) (j : Job) : Type 0 where
-    round : IsRound now r
-    job : slice_get (round_at t schedules es round.start).jobs p ≡ Some j
-    ticks_are : j.present ≡ true → (n : ℕ) → ticks r j (up_to at n) ≡ given p round.start n (walk_of (round_at t schedules es round.start))
-    length_is : length_at r p ≡ get_or (round_at t schedules es round.start).lengths p 0
-    start_is : r.start ≡ round.start
-
-  job_known : (now p : ℕ) (r : Round) (j : Job) → IsJobOf (all_rounds t es now) r p j → IsJobAt now r p j
-  job_known now p r j is =
-      let k = round_known now is.number r is.at in
-      let job : slice_get (round_at t schedules es k.start).jobs p ≡ Some j = ap (λ (z : Round). slice_get z.jobs p) (sym k.is) ∙ is.job in
+  job_in_frame : (r : Round) (s p : ℕ) (j : Job) → round_of t es s ≡ r → slice_get r.jobs p ≡ Some j → j.present ≡ true → IsJobAt r p j
+  job_in_frame r s p j of job here =
+      let g = of_round t lists es rounds_fit run s p j (ap (λ (z : Round). slice_get z.jobs p) of ∙ job) here in
+      let f = start_of (frame_of t) s in
+      let k = g.job in
+      let start : r.start ≡ s = ap (λ (z : Round). z.start) (sym of) in
+      let from : r.start + j.release ≡ f + k.release = omega (arith, start, g.is.release_is) in
+      let to : r.start + j.end ≡ f + k.end = omega (arith, start, g.is.end_is) in
+      let present : j.present ≡ k.present = here ∙ sym g.is.here in
       record {
-        round = k;
-        job = job;
-        ticks_are = λ here n. ap (λ (z : Round). ticks z j (up_to at n)) k.is ∙ ticks_before t schedules es period run k.start k.whole p j job here n;
-        length_is = ap (λ (z : Round). length_at z p) k.is;
-        start_is = ap (λ (z : Round). z.start) k.is;
+        start = s;
+        of = of;
+        frame = f;
+        whole = again (frame_plan t lists es) (frame_of t) runs s;
+        own = refl;
+        position = g.position;
+        job = k;
+        is = g.is;
+        lies_is = lies_alike r (audited (frame_plan t lists es f) f) j k present (sym g.is.inv) from to;
+        ticks_are = λ n.
+            ticks_alike r (audited (frame_plan t lists es f) f) j k present (sym g.is.inv) from to (up_to (λ now. frame_slices_at (frame_plan t lists es) (frame_of t) now) n)
+            ∙ ticks_before (frame_plan t lists es) (frame_of t) runs f (again (frame_plan t lists es) (frame_of t) runs s) g.position k g.is.at_frame g.is.here n;
+        length_is = ap (λ (z : Round). length_at z p) (sym of) ∙ sym g.is.length;
+        end_is = to;
       }
+
+  job_known : (now p : ℕ) (r : Round) (j : Job) → IsJobOf (all_rounds t es now) r p j → j.present ≡ true → IsJobAt r p j
+  job_known now p r j is here = let a = round_is t es now is.number r is.at in job_in_frame r a.0 p j a.2 is.job here
 
   -- ---- one line
 
   module _ (end m : ℕ) (x : Slice) (here : at (suc m) ≡ x ∷ []) (soon : m < end) where
     abbrev s : ℕ
-    s = round_start period m
+    s = start_of (frame_of t) m
 
     abbrev r : Plan
-    r = round_at t schedules es (round_start period m)
+    r = frame_plan t lists es (start_of (frame_of t) m)
 
     abbrev rounds : List Round
     rounds = all_rounds t es (suc end)
 
-    whole : round_start period s ≡ s
-    whole = again t schedules es period run m
+    whole : start_of h s ≡ s
+    whole = again plan h runs m
 
-    sound : IsSound r period
-    sound = run.sound s whole
+    sound : IsSound r h
+    sound = runs.sound s whole
 
     mine : IsOwn r s (suc m) x
-    mine = own r s period sound (suc m) 0 x (ap (λ (xs : List Slice). slice_get xs 0) (sym (later_at t schedules es period run m) ∙ here))
+    mine = own r s h sound (suc m) 0 x (ap (λ (xs : List Slice). slice_get xs 0) (sym (later_at plan h runs m) ∙ here))
 
-    stands : IsAt t schedules es period run (suc m) x
-    stands = is_at t schedules es period run (suc m) 0 x (ap (λ (xs : List Slice). slice_get xs 0) here)
+    stands : IsAt plan h runs (suc m) x
+    stands = is_at plan h runs (suc m) 0 x (ap (λ (xs : List Slice). slice_get xs 0) here)
 
     from : s + mine.from.slice.0 ≡ x.from
     from = ap (λ (z : Slice). z.from) mine.from.is
@@ -131,30 +138,33 @@ module _ (t : Tables) (schedules : List (List SInstr)) (es : List Event) (period
     sorted : last_end (up_to at (suc m)) ≤ x.from
     sorted = last_early x.from (up_to at (suc m)) earlier
       where
-        past : (n : ℕ) (y : Slice) → n < m → IsOwn (round_at t schedules es (round_start period n)) (round_start period n) (suc n) y → y.to ≡ suc n → y.to ≤ x.from
+        past : (n : ℕ) (y : Slice) → n < m → IsOwn (plan (start_of h n)) (start_of h n) (suc n) y → y.to ≡ suc n → y.to ≤ x.from
         past n y less o to = elim (either n s) [
           | inl other ↦ omega (arith, to, other, from)
           | inr first ↦
-              let near : m < s + period = below m in
-              let same : round_start period n ≡ s = same_round period (m / period) n run.some first (omega (arith, less, near)) in
-              before r s period sound (suc m) (suc n) x y mine (subst (λ z. IsOwn (round_at t schedules es z) z (suc n) y) same o) (omega (arith, less))
+              let near : m < s + h = mod_below h m runs.some in
+              let same : start_of h n ≡ s = same_round h (m / h) n runs.some first (omega (arith, less, near)) in
+              before r s h sound (suc m) (suc n) x y mine (subst (λ z. IsOwn (plan z) z (suc n) y) same o) (omega (arith, less))
         ]
-          where
-            below : (m : ℕ) → m < round_start period m + period
-            below m = mod_below period m run.some
 
         earlier : (i : ℕ) (y : Slice) → slice_get (up_to at (suc m)) i ≡ Some y → y.to ≤ x.from
         earlier i y e =
-            let c = cut at (few t schedules es period run) (suc m) i y e in
-            let a = is_at t schedules es period run c.now 0 y (ap (λ (xs : List Slice). slice_get xs 0) c.here) in
+            let c = cut at (few plan h runs) (suc m) i y e in
+            let a = is_at plan h runs c.now 0 y (ap (λ (xs : List Slice). slice_get xs 0) c.here) in
             past a.before y (omega (arith, c.below, a.next)) a.own (omega (arith, a.to, a.next))
 
     -- it lies in the window of its job
     inside : any_job (λ r j. lies_in r j.1 x) rounds ≡ true
     inside =
-        let n = round_there (suc end) s whole (omega (arith, soon, mul-div-le m period)) in
         let p = mine.from.position in
-        job_there (λ r j. lies_in r j.1 x) rounds (audited r s) p (job_at r.jobs p) (record { number = n.0; at = n.1 ∙ ap (λ (z : Round). Some z) (same_rounds s (whole_begins s whole)); job = mine.job }) (own_lies r s period sound (suc m) x mine)
+        let k = job_at r.jobs p in
+        let g = of_frame t lists es rounds_fit run s p k whole mine.job mine.present in
+        let in_frame = own_lies r s h sound (suc m) x mine in
+        let l = lies (audited r s) k x in_frame in
+        let early : g.start < suc end = omega (arith, g.is.early, l.from, stands.room, stands.to, soon) in
+        let n = round_there t run.range run.kept rounds_fit es (suc end) g.start g.position g.job (fresh t run.range run.kept rounds_fit es g.start g.position g.job g.is.at_round g.is.there) early in
+        job_there (λ r j. lies_in r j.1 x) rounds (round_of t es g.start) g.position g.job (record { number = n.0; at = n.1; job = g.is.at_round })
+        (lies_alike (round_of t es g.start) (audited r s) g.job k (g.is.there ∙ sym g.is.here) (sym g.is.inv) (sym g.is.release_is) (sym g.is.end_is) x ∙ in_frame)
 
     -- no job has more ticks than it takes
     never_more : any_job (λ r j. lies_in r j.1 x && is_over r (up_to at (suc m) ++ x ∷ []) j) rounds ≡ true → ⊥
@@ -162,35 +172,47 @@ module _ (t : Tables) (schedules : List (List SInstr)) (es : List Event) (period
         let f = job_found (λ r j. lies_in r j.1 x && is_over r (up_to at (suc m) ++ x ∷ []) j) rounds e in
         let two = both (lies_in f.round f.job x) (is_over f.round (up_to at (suc m) ++ x ∷ []) (f.position, f.job)) f.passes in
         let present = (lies f.round f.job x two.0).present in
-        let k = job_known (suc end) f.position f.round f.job f.is in
+        let k = job_known (suc end) f.position f.round f.job f.is present in
         let over = ltb-true (length_at f.round f.position) (ticks f.round f.job (up_to at (suc m) ++ x ∷ [])) two.1 in
         let more : ticks f.round f.job (up_to at (suc m) ++ x ∷ []) ≡ ticks f.round f.job (up_to at (suc (suc m))) = ap (λ xs. ticks f.round f.job (up_to at (suc m) ++ xs)) (sym here) in
-        let most = never_over (round_at t schedules es k.round.start) k.round.start period (run.sound k.round.start k.round.whole) f.position f.job k.job present (suc (suc m)) in
-        omega (arith, over, more, k.ticks_are present (suc (suc m)), k.length_is, most)
+        let most = never_over (plan k.frame) k.frame h (runs.sound k.frame k.whole) k.position k.job k.is.at_frame k.is.here (suc (suc m)) in
+        omega (arith, over, more, k.ticks_are (suc (suc m)), k.length_is, most)
 
     -- the predecessors of its job are done
     free : (p : ℕ) (j : Job) (other : Round) → IsJobOf rounds other p j → lies_in other j x ≡ true → is_free other (up_to at (suc m)) j ≡ true
     free p j other is e =
         let l = lies other j x e in
-        let k = job_known (suc end) p other j is in
-        let there : lies_in (audited (round_at t schedules es k.round.start) k.round.start) j x ≡ true = ap (λ (z : Round). lies_in z j x) (sym k.round.is) ∙ e in
-        let same : s ≡ k.round.start = elsewhere t schedules es period run k.round.start k.round.whole p j k.job l.present m x stands.room stands.to there in
-        let job : slice_get r.jobs p ≡ Some j = ap (λ z. slice_get (round_at t schedules es z).jobs p) same ∙ k.job in
+        let k = job_known (suc end) p other j is l.present in
+        let there : lies_in (audited (plan k.frame) k.frame) k.job x ≡ true = sym (k.lies_is x) ∙ e in
+        let same : s ≡ k.frame = elsewhere plan h runs k.frame k.whole k.position k.job k.is.at_frame k.is.here m x stands.room stands.to there in
+        let job : slice_get r.jobs k.position ≡ Some k.job = ap (λ z. slice_get (plan z).jobs k.position) same ∙ k.is.at_frame in
         let inv : (job_at r.jobs mine.from.position).inv ≡ x.inv = ap (λ (z : Slice). z.inv) mine.from.is in
-        let position : mine.from.position ≡ p = sound.once mine.from.position p (job_at r.jobs mine.from.position) j mine.job job mine.present l.present (inv ∙ l.inv) in
+        let w = lies (audited (plan k.frame) k.frame) k.job x there in
+        let to : s + mine.from.slice.1 ≡ x.to = ap (λ (z : Slice). z.to) mine.from.is in
+        let position : mine.from.position ≡ k.position =
+        sound.once mine.from.position k.position (job_at r.jobs mine.from.position) k.job mine.job job mine.present k.is.here (inv ∙ w.inv) (omega (arith, mine.early, mine.room, w.to, to, same)) (omega (arith, mine.late, mine.room, w.from, from, same)) in
         let of = mine.from.of ∙ ap (λ z. Some z) position in
-        let round : other ≡ audited r s = k.round.is ∙ ap (λ z. audited (round_at t schedules es z) z) (sym same) in
-        ap (λ z. is_free z (up_to at (suc m)) j) round
-        ∙ all_pass_0 (λ (q : ℕ × Job). not (precedes q.0 j && q.1.present) || is_done (audited r s) (up_to at (suc m)) q) r.jobs
-        (λ q h at_q.
-        implied (precedes q j && h.present) (is_done (audited r s) (up_to at (suc m)) (q, h))
+        all_pass_0 (λ (q : ℕ × Job). not (precedes q.0 j && q.1.present) || is_done other (up_to at (suc m)) q) other.jobs
+        (λ q i at_q.
+        implied (precedes q j && i.present) (is_done other (up_to at (suc m)) (q, i))
         (λ waits.
-        let w = both (precedes q j) h.present waits in
-        let h_is : job_at r.jobs q ≡ h = job_is r.jobs q h at_q in
-        let done = ready r s period sound p j job l.present mine.from.number mine.from.left mine.from.slice mine.from.at of mine.from.runs q w.0 (ap (λ (z : Job). z.present) h_is ∙ w.1) in
+        let w = both (precedes q j) i.present waits in
+        let g = job_in_frame other k.start q i k.of at_q w.1 in
+        let frame : g.frame ≡ k.frame = sym g.own ∙ ap (start_of h) (start_same g.start k.start other g.of k.of) ∙ k.own in
+        let moved : IsFramed t lists es rounds_fit run k.frame g.position g.job k.start q i =
+        subst (λ z. IsFramed t lists es rounds_fit run z g.position g.job k.start q i) frame (subst (λ z. IsFramed t lists es rounds_fit run g.frame g.position g.job z q i) (start_same g.start k.start other g.of k.of) g.is) in
+        let before = framed_precedes t lists es rounds_fit run k.frame k.position g.position k.start p q k.job g.job j i k.is moved w.0 in
+        let at_g : slice_get r.jobs g.position ≡ Some g.job = ap (λ z. slice_get (plan z).jobs g.position) same ∙ moved.at_frame in
+        let g_is : job_at r.jobs g.position ≡ g.job = job_is r.jobs g.position g.job at_g in
+        let done = ready r s h sound k.position k.job job k.is.here mine.from.number mine.from.left mine.from.slice mine.from.at of mine.from.runs g.position before (ap (λ (z : Job). z.present) g_is ∙ moved.here) in
         let early : s + done.0 < suc m = omega (arith, done.2, mine.ends, mine.from.then) in
-        let all = all_given r s period sound q h at_q w.1 done.0 (suc m) done.1 early in
-        eq-eqb (ticks (audited r s) h (up_to at (suc m))) (length_at (audited r s) q) (ticks_before t schedules es period run s whole q h at_q w.1 (suc m) ∙ all)))
+        let all = all_given r s h sound g.position g.job at_g moved.here done.0 (suc m) done.1 early in
+        let one : s ≡ g.frame = same ∙ sym frame in
+        eq-eqb (ticks other i (up_to at (suc m))) (length_at other q)
+        (g.ticks_are (suc m) ∙ ap (λ z. given g.position z (suc m) (walk_of (plan z))) (sym one) ∙ all ∙ ap (λ z. get_or (plan z).lengths g.position 0) one ∙ sym g.length_is)))
+      where
+        start_same : (a b : ℕ) (other : Round) → round_of t es a ≡ other → round_of t es b ≡ other → a ≡ b
+        start_same a b other e f = ap (λ (z : Round). z.start) (e ∙ sym f)
 
     always_free : any_job (λ r j. lies_in r j.1 x && not (is_free r (up_to at (suc m)) j.1)) rounds ≡ true → ⊥
     always_free e =
@@ -207,8 +229,8 @@ module _ (t : Tables) (schedules : List (List SInstr)) (es : List Event) (period
 
   lines_keep : (end i : ℕ) (x : Slice) → slice_get (up_to at (suc end)) i ≡ Some x → line_fault (all_rounds t es (suc end)) (suc end) (take i (up_to at (suc end))) x ≡ None
   lines_keep end i x e =
-      let c = cut at (few t schedules es period run) (suc end) i x e in
-      let a = is_at t schedules es period run c.now 0 x (ap (λ (xs : List Slice). slice_get xs 0) c.here) in
+      let c = cut at (few plan h runs) (suc end) i x e in
+      let a = is_at plan h runs c.now 0 x (ap (λ (xs : List Slice). slice_get xs 0) c.here) in
       ap (λ log. line_fault (all_rounds t es (suc end)) (suc end) log x) (c.front ∙ ap (up_to at) a.next) ∙ line_keeps end a.before x (ap at (sym a.next) ∙ c.here) (omega (arith, c.below, a.next))
 
   none_short : (end : ℕ) → any_short (all_rounds t es (suc end)) (suc end) (up_to at (suc end)) ≡ false
@@ -220,27 +242,29 @@ module _ (t : Tables) (schedules : List (List SInstr)) (es : List Event) (period
           let f = job_found (λ r j. is_short (suc end) r (up_to at (suc end)) j) (all_rounds t es (suc end)) e in
           let two = both (f.job.present && ltb (f.round.start + f.job.end) (suc end)) (ltb (ticks f.round f.job (up_to at (suc end))) (length_at f.round f.position)) f.passes in
           let one = both f.job.present (ltb (f.round.start + f.job.end) (suc end)) two.0 in
-          let k = job_known (suc end) f.position f.round f.job f.is in
-          let s = k.round.start in
+          let k = job_known (suc end) f.position f.round f.job f.is one.0 in
           let late = ltb-true (f.round.start + f.job.end) (suc end) one.1 in
           let less = ltb-true (ticks f.round f.job (up_to at (suc end))) (length_at f.round f.position) two.1 in
-          let all = window_given (round_at t schedules es s) s period (run.sound s k.round.whole) f.position f.job k.job one.0 (suc end) (omega (arith, late, k.start_is)) in
-          absurd (omega (arith, less, k.ticks_are one.0 (suc end), k.length_is, all))
+          let all = window_given (plan k.frame) k.frame h (runs.sound k.frame k.whole) k.position k.job k.is.at_frame k.is.here (suc end) (omega (arith, late, k.end_is)) in
+          absurd (omega (arith, less, k.ticks_are (suc end), k.length_is, all))
 
   pub run_is_legal : (end : ℕ) → IsLegalIn (all_rounds t es (suc end)) (suc end) (up_to at (suc end))
   run_is_legal end = record { lines = lines_keep end; whole = none_short end }
 
 -- without modules there are neither rounds nor slices
-no_round_is_legal : (t : Tables) (es : List Event) → HaveRounds t → root_period t ≡ None → (end : ℕ) → IsLegalIn (all_rounds t es (suc end)) (suc end) []
-no_round_is_legal t es rounds none end = record { lines = λ i x at. absurd (none_some x at); whole = by (any_short (all_rounds t es (suc end)) (suc end) []) refl }
+no_round_is_legal : (t : Tables) (es : List Event) → root_modules t ≡ [] → (end : ℕ) → IsLegalIn (all_rounds t es (suc end)) (suc end) []
+no_round_is_legal t es none end = record { lines = λ i x at. absurd (none_some x at); whole = by (any_short (all_rounds t es (suc end)) (suc end) []) refl }
   where
+    never : (n : ℕ) → begins (root_periods t) n ≡ false
+    never n = ap (λ us. begins (map (unit_period t) us) n) none
+
     by : (b : Bool) → any_short (all_rounds t es (suc end)) (suc end) [] ≡ b → b ≡ false
     by false e = refl
     by true e =
         let f = job_found (λ r j. is_short (suc end) r [] j) (all_rounds t es (suc end)) e in
         let a = round_is t es (suc end) f.is.number f.round f.is.at in
         let b = start_is (root_periods t) (suc end) f.is.number a.0 a.1 in
-        let z : true ≡ false = sym b.1 ∙ rounds.none a.0 none in
+        let z : true ≡ false = sym b.1 ∙ never a.0 in
         let y : ⊥ = cc in
         absurd y
 
@@ -248,26 +272,30 @@ no_round_is_legal t es rounds none end = record { lines = λ i x at. absurd (non
 
 pub own_log_is_legal : OwnLogIsLegal
 own_log_is_legal o es end accepted within =
-    let legal = by (root_period o.tables) refl in
+    let legal = by (root_modules o.tables) refl in
     (legal, is_legal (all_rounds o.tables es (suc end)) (suc end) (own_log o.tables (schedules_of o) es end) legal)
   where
-    loaded : IsLoaded o.tables (schedules_of o)
-    loaded = accepted_is_loaded o accepted
+    no_hyper : root_modules o.tables ≡ [] → hyper o.tables ≡ None
+    no_hyper e = ap (λ us. elim (map (unit_period o.tables) us) as (λ _. Option ℕ) [ [] ↦ None | p ∷ ps ↦ Some (multiple_of p ps) ]) e
 
-    keys : hyper o.tables ≡ root_period o.tables
-    keys = loaded_keys o.tables (schedules_of o) loaded
+    some_hyper : (u : ℕ) (us : List ℕ) → root_modules o.tables ≡ u ∷ us → hyper o.tables ≡ Some (frame_of o.tables)
+    some_hyper u us e =
+        let is : hyper o.tables ≡ Some (multiple_of (unit_period o.tables u) (map (unit_period o.tables) us)) = ap (λ vs. elim (map (unit_period o.tables) vs) as (λ _. Option ℕ) [ [] ↦ None | p ∷ ps ↦ Some (multiple_of p ps) ]) e in
+        is ∙ ap (λ z. Some z) (sym (ap (λ (h : Option ℕ). elim h as (λ _. ℕ) [ Some n ↦ n | None ↦ 0 ]) is))
 
-    -- a frame is a round
-    in_rounds : (period : ℕ) → root_period o.tables ≡ Some period → own_log o.tables (schedules_of o) es end ≡ up_to (round_slices_at o.tables (schedules_of o) es period) (suc end)
-    in_rounds period root =
-        ap (λ p. up_to (own_at o.tables (schedules_of o) es p) (suc end)) (keys ∙ root)
-        ∙ up_to_same (own_at o.tables (schedules_of o) es (Some period)) (round_slices_at o.tables (schedules_of o) es period) (suc end)
-        (λ now less. slices_same o.tables period (schedules_of o) es loaded.range (loaded_one o.tables (schedules_of o) loaded period root) now)
-
-    by : (p : Option ℕ) → root_period o.tables ≡ p → IsLegal o.tables es end (own_log o.tables (schedules_of o) es end)
-    by (Some period) root =
-        subst (IsLegal o.tables es end) (sym (in_rounds period root))
-        (run_is_legal o.tables (schedules_of o) es period (run_of o.tables (schedules_of o) es period loaded (have_rounds o accepted) within root) end)
-    by None root =
-        subst (λ p. IsLegal o.tables es end (up_to (own_at o.tables (schedules_of o) es p) (suc end))) (sym (keys ∙ root))
-        (subst (λ log. IsLegal o.tables es end log) (sym (up_to_none (own_at o.tables (schedules_of o) es None) (suc end) (λ k less. refl))) (no_round_is_legal o.tables es (have_rounds o accepted) root end))
+    by : (us : List ℕ) → root_modules o.tables ≡ us → IsLegal o.tables es end (own_log o.tables (schedules_of o) es end)
+    by (u ∷ us) e =
+        let some : 0 < length (root_modules o.tables) = omega (arith, ap (λ (vs : List ℕ). length vs) e) in
+        let range = accepted_range o accepted in
+        let run : IsFeasibleRun o.tables (schedules_of o) es = record { range = range; kept = accepted_kept o accepted; within = within; modules = some; ticks = frame_some o.tables range some; accepted = accepted.feasible } in
+        subst (IsLegal o.tables es end) (sym (in_frames u us e run)) (run_is_legal o.tables (schedules_of o) es (have_rounds o accepted) run end)
+      where
+        in_frames : (u : ℕ) (us : List ℕ) → root_modules o.tables ≡ u ∷ us → IsFeasibleRun o.tables (schedules_of o) es
+            → own_log o.tables (schedules_of o) es end ≡ up_to (frame_slices_at (frame_plan o.tables (schedules_of o) es) (frame_of o.tables)) (suc end)
+        in_frames u us e run =
+            ap (λ p. up_to (own_at o.tables (schedules_of o) es p) (suc end)) (some_hyper u us e)
+            ∙ up_to_same (own_at o.tables (schedules_of o) es (Some (frame_of o.tables))) (frame_slices_at (frame_plan o.tables (schedules_of o) es) (frame_of o.tables)) (suc end)
+            (λ now less. slices_are o.tables (schedules_of o) es (frame_of o.tables) now (λ k. frames_are_served o.tables (schedules_of o) es (k * frame_of o.tables) run))
+    by [] e =
+        subst (λ p. IsLegal o.tables es end (up_to (own_at o.tables (schedules_of o) es p) (suc end))) (sym (no_hyper e))
+        (subst (λ log. IsLegal o.tables es end log) (sym (up_to_none (own_at o.tables (schedules_of o) es None) (suc end) (λ k less. refl))) (no_round_is_legal o.tables es e end))

@@ -1,41 +1,24 @@
 -- The slices of a run, instant by instant, and the ticks that a job has of those before an instant.
 use Rattle.std.proofs.Common.{◌≡◌, ◌≤◌, ◌<◌, ◌⊎◌, inl, inr, ℕ, zero, suc, ◌+◌, ◌*◌, ◌/◌, Bool, true, false, cond, not, ◌&&◌, ◌||◌, leb, List, [], ◌∷◌, ◌++◌, length, take, slice_get, Some, None, refl, sym, ap, ap₂, ◌∙◌, subst, arith}
-use Rattle.std.proofs.Math.Nat.{div-add-mod, mod-lt, mul-div_cancel_left}
+use Rattle.std.proofs.Math.Nat.{div-add-mod, mod-lt, mul-div-le, mul-div_cancel_left}
 use Rattle.std.proofs.lemmas.Bool.{le-ltb, lt-leb}
 use Rattle.std.proofs.lemmas.List.{take-append-le}
 use Rattle.std.proofs.lemmas.Option.{slice_get_within}
 use Rattle.std.proofs.Math.Seq.{take-append_seam}
 use Rattle.htl_form.proofs.PartLaws.{none_some}
-use Rattle.htl_model.specs.declared.event.Event.{Event}
-use Rattle.htl_model.specs.Lists.{all_some, up_to}
-use Rattle.htl_model.specs.Meaning.{state}
-use Rattle.htl_model.specs.Selections.{root_modules, root_period}
-use Rattle.htl_model.specs.Tables.{Tables}
+use Rattle.htl_model.specs.Lists.{up_to}
 use Rattle.htl_walk.specs.declared.job.Job.{Job}
-use Rattle.htl_walk.specs.declared.schedule.SInstr.{SInstr}
 use Rattle.htl_walk.specs.Walk.{first_point}
-use Rattle.htl_refine.specs.Records.{AreTookWithin, modes_at, round_at, walk_of}
-use Rattle.htl_machine.specs.Casts.{HaveWindows}
-use Rattle.htl_machine.specs.Follows.{IsLoaded}
-use Rattle.htl_machine.specs.Plans.{AreSound}
-use Rattle.htl_machine.specs.Rounds.{round_start, period_or, plan_of}
-use Rattle.htl_machine.proofs.Desking.{times_within}
-use Rattle.htl_machine.proofs.Loaded.{AreInForm, loaded_rounds}
-use Rattle.htl_machine.proofs.RoundServed.{round_windows}
 use Rattle.htl_machine.proofs.Telling.{none_at_first, rounds_are, up_to_last}
-use Rattle.htl_machine.proofs.TellingLines.{none_left, last_start}
 use Rattle.htl_audit.specs.declared.slice.Slice.{Slice}
 use Rattle.htl_audit.specs.declared.slice.LogKind.TheVariants as kind
-use Rattle.htl_audit.specs.Growing.{HaveRounds}
 use Rattle.htl_audit.specs.Jobs.{Round}
 use Rattle.htl_audit.specs.Legal.{lies_in, ticks, is_free, is_over, any_job, last_end, is_out_of_order, line_fault}
-use Rattle.htl_audit.specs.Own.{own_slice}
-use Rattle.htl_audit.proofs.ClosedSlices.{closed, closed_is, one_closed, given, given_first}
-use Rattle.htl_audit.proofs.Growing.{in_two, round_job}
-use Rattle.htl_audit.proofs.OnePosition.{one_position}
+use Rattle.htl_audit.proofs.ClosedSlices.{closed, one_closed, given, given_first}
+use Rattle.htl_audit.proofs.FrameSlices.{frame_slices_at, none_past}
+use Rattle.htl_audit.proofs.Growing.{in_two}
 use Rattle.htl_audit.proofs.Judging.{lies, rest}
-use Rattle.htl_audit.proofs.RoundSlices.{round_slices, round_slices_at}
-use Rattle.htl_audit.proofs.OwnTicks.{ticks_both, no_ticks, IsSound, audited, IsOwn, own, ticks_now}
+use Rattle.htl_audit.proofs.OwnTicks.{ticks_both, no_ticks, Plan, walk_of, IsSound, audited, IsOwn, own, ticks_now}
 
 -- ---- lists of at most one item, end to end
 
@@ -99,135 +82,116 @@ keeps rounds now log x room order soon lies over early =
     is_false true h = absurd (h refl)
     is_false false h = refl
 
--- ---- a run in rounds of one period
+-- ---- a run in frames
 
--- each round begins at a multiple of the period, and meets
-pub record IsRun (t : Tables) (schedules : List (List SInstr)) (es : List Event) (period : ℕ) : Type 0 where
-  pub root : root_period t ≡ Some period
-  pub some : 0 < period
-  pub rounds : HaveRounds t
-  pub form : AreInForm t schedules es period
-  pub sound : (s : ℕ) → round_start period s ≡ s → IsSound (round_at t schedules es s) period
+-- when the frame of an instant began, where each has h ticks
+abbrev pub start_of : ℕ → ℕ → ℕ
+start_of h n = h * (n / h)
 
-pub run_of : (t : Tables) (schedules : List (List SInstr)) (es : List Event) (period : ℕ) → IsLoaded t schedules → HaveRounds t → AreTookWithin t es → root_period t ≡ Some period → IsRun t schedules es period
-run_of t schedules es period loaded rounds within root =
-    record {
-      root = root;
-      some = let p = rounds.some period root in omega (arith, p.0);
-      rounds = rounds;
-      form = form;
-      sound = λ s whole. subst (λ z. IsSound (round_at t schedules es z) period) whole (at_start s);
-    }
-  where
-    form : AreInForm t schedules es period
-    form = (loaded_rounds t schedules loaded es within).form period root
+-- each frame begins at a multiple of its ticks, and meets
+pub record IsRun (plan : ℕ → Plan) (h : ℕ) : Type 0 where
+  pub some : 0 < h
+  pub sound : (s : ℕ) → start_of h s ≡ s → IsSound (plan s) h
 
-    windows : (n : ℕ) → HaveWindows (round_at t schedules es (round_start period n)).jobs
-    windows n =
-        let r = round_at t schedules es (round_start period n) in
-        let same : period_or (root_period t) ≡ period = ap period_or root in
-        round_windows r.jobs r.lengths r.schedule ((subst (AreSound t es (plan_of t schedules es)) same (loaded_rounds t schedules loaded es within).sound).meets n)
-
-    at_start : (n : ℕ) → IsSound (round_at t schedules es (round_start period n)) period
-    at_start n =
-        let r = round_at t schedules es (round_start period n) in
-        let same : period_or (root_period t) ≡ period = ap period_or root in
-        let kept = subst (AreSound t es (plan_of t schedules es)) same (loaded_rounds t schedules loaded es within).sound in
-        record {
-          meets = kept.meets n;
-          once = λ p q j k at bt here there one.
-              one_position t (state t es (round_start period n)).stays (round_start period n) (round_start period n) r.jobs (kept.casts n) p q j k at bt here there one (omega (arith, windows n p j at here)) (omega (arith, windows n q k bt there));
-          inside = times_within r.jobs (length r.jobs) period r.schedule (first_point r.jobs r.lengths) (form n) (omega arith);
-          ends = λ p j at here.
-              let x = round_job t (modes_at t es (round_start period n)) (root_modules t) p j at here in
-              omega (arith, x.3, (rounds.windows j.inv x.0 x.1).1, rounds.periods period j.inv x.0 root x.1);
-        }
-
-module _ (t : Tables) (schedules : List (List SInstr)) (es : List Event) (period : ℕ) (run : IsRun t schedules es period) where
-  pub again : (n : ℕ) → round_start period (round_start period n) ≡ round_start period n
-  again n = ap (λ z. period * z) (mul-div_cancel_left (n / period) run.some)
+module _ (plan : ℕ → Plan) (h : ℕ) (run : IsRun plan h) where
+  pub again : (n : ℕ) → start_of h (start_of h n) ≡ start_of h n
+  again n = ap (λ z. h * z) (mul-div_cancel_left (n / h) run.some)
 
   -- ---- the slices of an instant
 
   abbrev pub at : ℕ → List Slice
-  at now = round_slices_at t schedules es period now
+  at now = frame_slices_at plan h now
 
   first_at : at 0 ≡ []
-  first_at = ap (up_to (λ k. round_slices t schedules es (k * period) 0)) (none_at_first period run.some)
+  first_at = ap (up_to (λ k. closed (plan (k * h)).jobs (k * h) 0 (walk_of (plan (k * h))))) (none_at_first h run.some)
 
-  pub later_at : (m : ℕ) → at (suc m) ≡ closed (round_at t schedules es (round_start period m)).jobs (round_start period m) (suc m) (walk_of (round_at t schedules es (round_start period m)))
+  turned : (k : ℕ) → h * k ≡ k * h
+  turned k = grind arith
+
+  -- a frame that is over has no more
+  past : (m k : ℕ) → k < m / h → closed (plan (k * h)).jobs (k * h) (suc m) (walk_of (plan (k * h))) ≡ []
+  past m k less =
+      let whole : start_of h (k * h) ≡ k * h = ap (start_of h) (sym (turned k)) ∙ ap (λ z. h * z) (mul-div_cancel_left k run.some) ∙ turned k in
+      let over : k * h + h ≤ m = omega (arith, more h (suc k) (m / h) less, mul-div-le m h, one_more h k) in
+      none_past (plan (k * h)).jobs (k * h) (suc m) (walk_of (plan (k * h))) (λ i l e. omega (arith, (run.sound (k * h) whole).inside i l e, over))
+    where
+      more : (p a b : ℕ) → a ≤ b → p * a ≤ p * b
+      more p a b g = grind arith
+
+      one_more : (p a : ℕ) → p * suc a ≡ a * p + p
+      one_more p a = grind arith
+
+  pub later_at : (m : ℕ) → at (suc m) ≡ closed (plan (start_of h m)).jobs (start_of h m) (suc m) (walk_of (plan (start_of h m)))
   later_at m =
-      let s = round_start period m in
-      let r = round_at t schedules es s in
-      ap (up_to (λ k. round_slices t schedules es (k * period) (suc m))) (rounds_are period m run.some)
-      ∙ up_to_last (λ k. round_slices t schedules es (k * period) (suc m)) (m / period) (λ k less. ap (all_some (own_slice (round_at t schedules es (k * period)).jobs)) (none_left t schedules es period run.some run.form m k less))
-      ∙ ap (λ z. round_slices t schedules es z (suc m)) (last_start t schedules es period run.some run.form m)
-      ∙ closed_is r.jobs s (suc m) 0 (walk_of r)
+      let of : ℕ → List Slice = λ f. closed (plan f).jobs f (suc m) (walk_of (plan f)) in
+      ap (up_to (λ k. closed (plan (k * h)).jobs (k * h) (suc m) (walk_of (plan (k * h))))) (rounds_are h m run.some)
+      ∙ up_to_last (λ k. closed (plan (k * h)).jobs (k * h) (suc m) (walk_of (plan (k * h)))) (m / h) (past m)
+      ∙ ap of (sym (turned (m / h)))
 
   pub few : (now : ℕ) → length (at now) ≤ 1
   few zero = let e = ap (λ (xs : List Slice). length xs) first_at in omega (arith, e)
   few (suc m) =
-      let r = round_at t schedules es (round_start period m) in
-      subst (λ (xs : List Slice). length xs ≤ 1) (sym (later_at m)) (one_closed r.jobs (round_start period m) (suc m) r.schedule (first_point r.jobs r.lengths))
+      let r = plan (start_of h m) in
+      subst (λ (xs : List Slice). length xs ≤ 1) (sym (later_at m)) (one_closed r.jobs (start_of h m) (suc m) r.schedule (first_point r.jobs r.lengths))
 
-  -- a slice of an instant, with the start of its round
+  -- a slice of an instant, with the start of its frame
   pub record IsAt (now : ℕ) (x : Slice) : Type 0 where
     pub before : ℕ
     pub next : now ≡ suc before
-    pub own : IsOwn (round_at t schedules es (round_start period before)) (round_start period before) (suc before) x
+    pub own : IsOwn (plan (start_of h before)) (start_of h before) (suc before) x
     pub room : x.from < x.to
     pub to : x.to ≡ now
-    pub start : round_start period before ≤ x.from
+    pub start : start_of h before ≤ x.from
 
   pub is_at : (now i : ℕ) (x : Slice) → slice_get (at now) i ≡ Some x → IsAt now x
   is_at zero i x e = absurd (none_some x (ap (λ (xs : List Slice). slice_get xs i) (sym first_at) ∙ e))
   is_at (suc m) i x e =
-      let s = round_start period m in
-      let o = own (round_at t schedules es s) s period (run.sound s (again m)) (suc m) i x (ap (λ (xs : List Slice). slice_get xs i) (sym (later_at m)) ∙ e) in
+      let s = start_of h m in
+      let o = own (plan s) s h (run.sound s (again m)) (suc m) i x (ap (λ (xs : List Slice). slice_get xs i) (sym (later_at m)) ∙ e) in
       let c = o.from in
       let from : s + c.slice.0 ≡ x.from = ap (λ (z : Slice). z.from) c.is in
       let to : s + c.slice.1 ≡ x.to = ap (λ (z : Slice). z.to) c.is in
       record { before = m; next = refl; own = o; room = omega (arith, from, to, o.room); to = omega (arith, to, o.ends, c.then); start = omega (arith, from) }
 
-  -- ---- the ticks of the job at a position of a round
+  -- ---- the ticks of the job at a position of a frame
 
-  module _ (s : ℕ) (whole : round_start period s ≡ s) (p : ℕ) (j : Job) (job : slice_get (round_at t schedules es s).jobs p ≡ Some j) (here : j.present ≡ true) where
-    -- a slice that ends at an instant of another round isn't the job's
-    pub elsewhere : (m : ℕ) (x : Slice) → x.from < x.to → x.to ≡ suc m → lies_in (audited (round_at t schedules es s) s) j x ≡ true → round_start period m ≡ s
+  module _ (s : ℕ) (whole : start_of h s ≡ s) (p : ℕ) (j : Job) (job : slice_get (plan s).jobs p ≡ Some j) (here : j.present ≡ true) where
+    -- a slice that ends at an instant of another frame isn't the job's
+    pub elsewhere : (m : ℕ) (x : Slice) → x.from < x.to → x.to ≡ suc m → lies_in (audited (plan s) s) j x ≡ true → start_of h m ≡ s
     elsewhere m x room to e =
-        let l = lies (audited (round_at t schedules es s) s) j x e in
+        let l = lies (audited (plan s) s) j x e in
         let end = (run.sound s whole).ends p j job here in
-        same_round period (s / period) m run.some (omega (arith, l.from, room, to, whole)) (omega (arith, l.to, to, end, whole)) ∙ whole
+        same_round h (s / h) m run.some (omega (arith, l.from, room, to, whole)) (omega (arith, l.to, to, end, whole)) ∙ whole
 
-    -- at each instant the round's own slices are all that count
-    ticks_at : (now : ℕ) → ticks (audited (round_at t schedules es s) s) j (at now) ≡ ticks (audited (round_at t schedules es s) s) j (closed (round_at t schedules es s).jobs s now (walk_of (round_at t schedules es s)))
+    -- at each instant the frame's own slices are all that count
+    ticks_at : (now : ℕ) → ticks (audited (plan s) s) j (at now) ≡ ticks (audited (plan s) s) j (closed (plan s).jobs s now (walk_of (plan s)))
     ticks_at zero =
-        let r = round_at t schedules es s in
+        let r = plan s in
         ap (ticks (audited r s) j) first_at
         ∙ sym
         (no_ticks (audited r s) j (closed r.jobs s 0 (walk_of r))
         (λ i x e l.
-        let o = own r s period (run.sound s whole) 0 i x e in
+        let o = own r s h (run.sound s whole) 0 i x e in
         omega (arith, o.room, o.ends, o.from.then)))
-    ticks_at (suc m) = by (equal_or (round_start period m) s)
+    ticks_at (suc m) = by (equal_or (start_of h m) s)
       where
-        by : (round_start period m ≡ s) ⊎ (round_start period m ≡ s → ⊥)
-            → ticks (audited (round_at t schedules es s) s) j (at (suc m)) ≡ ticks (audited (round_at t schedules es s) s) j (closed (round_at t schedules es s).jobs s (suc m) (walk_of (round_at t schedules es s)))
-        by (inl same) = ap (ticks (audited (round_at t schedules es s) s) j) (later_at m ∙ ap (λ z. closed (round_at t schedules es z).jobs z (suc m) (walk_of (round_at t schedules es z))) same)
+        by : (start_of h m ≡ s) ⊎ (start_of h m ≡ s → ⊥)
+            → ticks (audited (plan s) s) j (at (suc m)) ≡ ticks (audited (plan s) s) j (closed (plan s).jobs s (suc m) (walk_of (plan s)))
+        by (inl same) = ap (ticks (audited (plan s) s) j) (later_at m ∙ ap (λ z. closed (plan z).jobs z (suc m) (walk_of (plan z))) same)
         by (inr other) =
-            let r = round_at t schedules es s in
+            let r = plan s in
             no_ticks (audited r s) j (at (suc m)) (λ i x e l. let a = is_at (suc m) i x e in other (elsewhere m x a.room a.to l))
             ∙ sym
             (no_ticks (audited r s) j (closed r.jobs s (suc m) (walk_of r))
             (λ i x e l.
-            let o = own r s period (run.sound s whole) (suc m) i x e in
+            let o = own r s h (run.sound s whole) (suc m) i x e in
             let from : s + o.from.slice.0 ≡ x.from = ap (λ (z : Slice). z.from) o.from.is in
             let to : s + o.from.slice.1 ≡ x.to = ap (λ (z : Slice). z.to) o.from.is in
             other (elsewhere m x (omega (arith, from, to, o.room)) (omega (arith, to, o.ends, o.from.then)) l)))
 
-    -- the ticks so far are those of the round's records
-    pub ticks_before : (n : ℕ) → ticks (audited (round_at t schedules es s) s) j (up_to at n) ≡ given p s n (walk_of (round_at t schedules es s))
-    ticks_before zero = sym (given_first p s (walk_of (round_at t schedules es s)))
+    -- the ticks so far are those of the frame's records
+    pub ticks_before : (n : ℕ) → ticks (audited (plan s) s) j (up_to at n) ≡ given p s n (walk_of (plan s))
+    ticks_before zero = sym (given_first p s (walk_of (plan s)))
     ticks_before (suc n) =
-        let r = round_at t schedules es s in
-        omega (arith, ticks_both (audited r s) j (up_to at n) (at n), ticks_before n, ticks_at n, ticks_now r s period (run.sound s whole) p j job here n)
+        let r = plan s in
+        omega (arith, ticks_both (audited r s) j (up_to at n) (at n), ticks_before n, ticks_at n, ticks_now r s h (run.sound s whole) p j job here n)

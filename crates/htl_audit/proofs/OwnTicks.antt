@@ -1,12 +1,13 @@
--- A round that meets: where its slices lie, whose ticks they are, and what they have before an instant.
+-- A frame that meets: where its slices lie, whose ticks they are, and what they have before an instant.
 use Rattle.std.proofs.Common.{◌≡◌, ◌≤◌, ◌<◌, ◌⊎◌, inl, inr, ℕ, zero, suc, ◌+◌, ◌-◌, Bool, true, false, cond, ◌&&◌, eqb, leb, ltb, List, [], ◌∷◌, ◌++◌, slice_get, get_or, Option, Some, None, refl, sym, ap, ap₂, ◌∙◌, subst, arith}
 use Rattle.std.proofs.lemmas.Bool.{eqb-true, eqb-false, eq-eqb, ltb-true, ltb-false, le-leb}
 use Rattle.htl_walk.specs.declared.job.Job.{Job}
 use Rattle.htl_walk.specs.Jobs.{precedes}
-use Rattle.htl_walk.specs.Walk.{Left, job_at, first_point, is_position, slice_onto, slices, finish, AllWithin, Meets}
+use Rattle.htl_walk.specs.declared.schedule.SInstr.{SInstr}
+use Rattle.htl_walk.specs.Walk.{Left, job_at, walk, first_point, is_position, slice_onto, slices, finish, AllWithin, Meets}
 use Rattle.htl_walk.proofs.Work.{job_is, job_there, work_some, work_present}
-use Rattle.htl_refine.specs.Records.{Round as Plan, walk_of}
-use Rattle.htl_machine.proofs.Serving.{slices_apart, spent_is}
+use Rattle.htl_refine.proofs.SliceOrder.{slices_apart}
+use Rattle.htl_refine.proofs.SliceSums.{spent_is}
 use Rattle.htl_machine.proofs.Standing.{some_same, none_some}
 use Rattle.htl_audit.specs.declared.slice.Slice.{Slice}
 use Rattle.htl_audit.specs.Jobs.{Round}
@@ -14,6 +15,15 @@ use Rattle.htl_audit.specs.Legal.{lies_in, ticks}
 use Rattle.htl_audit.proofs.ClosedSlices.{Runs, runs_at, mine, onto, closed, IsClosed, closed_from, gives, given, given_less, given_all}
 use Rattle.htl_audit.proofs.JobTests.{and_true}
 use Rattle.htl_audit.proofs.Judging.{lies}
+
+-- what the processor is given: jobs, how long each takes, and one list
+pub record Plan : Type 0 where
+  pub jobs : List Job
+  pub lengths : List ℕ
+  pub schedule : List SInstr
+
+abbrev pub walk_of : Plan → List Left
+walk_of r = walk r.jobs r.lengths r.schedule
 
 -- ---- ticks of lists
 
@@ -107,16 +117,16 @@ first_of (m ∷ ls) p (suc k) l u at of runs = by (is_position m.position p) ref
           early = omega (arith, next.early);
         }
 
--- ---- a round that meets
+-- ---- a frame that meets
 
--- its jobs are done in their windows, within its period, and no invocation has two
+-- its jobs are done in their windows, within its period, and no invocation has two at a time
 pub record IsSound (r : Plan) (period : ℕ) : Type 0 where
   pub meets : Meets r.jobs r.lengths r.schedule
-  pub once : (p q : ℕ) (j k : Job) → slice_get r.jobs p ≡ Some j → slice_get r.jobs q ≡ Some k → j.present ≡ true → k.present ≡ true → j.inv ≡ k.inv → p ≡ q
+  pub once : (p q : ℕ) (j k : Job) → slice_get r.jobs p ≡ Some j → slice_get r.jobs q ≡ Some k → j.present ≡ true → k.present ≡ true → j.inv ≡ k.inv → j.release < k.end → k.release < j.end → p ≡ q
   pub inside : (k : ℕ) (l : Left) → slice_get (walk_of r) k ≡ Some l → l.at ≤ period
   pub ends : (p : ℕ) (j : Job) → slice_get r.jobs p ≡ Some j → j.present ≡ true → j.end ≤ period
 
--- the same round, as an audit has it
+-- the same, as rounds that begin together
 abbrev pub audited : Plan → ℕ → Round
 audited r s = record { start = s; jobs = r.jobs; lengths = r.lengths }
 
@@ -184,9 +194,11 @@ module _ (r : Plan) (s period : ℕ) (sound : IsSound r period) where
                 let w = runs k l u is has in
                 let same : w.position ≡ q = some_same _ _ (sym w.of ∙ of) in
                 let there : (job_at r.jobs q).present ≡ true = ap (λ (p : ℕ). (job_at r.jobs p).present) (sym same) ∙ w.has in
+                let own = within_at (job_at r.jobs q).release (job_at r.jobs q).end q (walk_of r) k l u (sound.meets q (job_at r.jobs q) (job_there r.jobs q there) there).within is of has in
+                let lie = lies (audited r s) j (record { from = s + u.0; to = s + u.1; inv = (job_at r.jobs q).inv }) e in
                 absurd
                 (eqb-false q p differ
-                (sound.once q p (job_at r.jobs q) j (job_there r.jobs q there) at there here (lies (audited r s) j (record { from = s + u.0; to = s + u.1; inv = (job_at r.jobs q).inv }) e).inv))
+                (sound.once q p (job_at r.jobs q) j (job_there r.jobs q there) at there here lie.inv (omega (arith, own.0, w.room, lie.to)) (omega (arith, own.1, w.room, lie.from))))
 
             by_position : (b : Bool) → eqb q p ≡ b
                 → cond (lies_in (audited r s) j (record { from = s + u.0; to = s + u.1; inv = (job_at r.jobs q).inv })) (s + u.1 - (s + u.0)) 0 + 0 ≡ cond b (u.1 - u.0) 0

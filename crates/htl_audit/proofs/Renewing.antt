@@ -1,5 +1,5 @@
 -- What is kept of the invocations whose rounds begin.
-use Rattle.std.proofs.Common.{◌≡◌, ◌≢◌, ℕ, zero, suc, ◌≤◌, ◌<◌, ◌⊎◌, inl, inr, true, false, ◌&&◌, eqb, List, [], ◌∷◌, length, get_or, Option, Some, None, refl, sym, ◌∙◌, ap, subst, arith}
+use Rattle.std.proofs.Common.{◌≡◌, ◌≢◌, ℕ, zero, suc, ◌≤◌, ◌<◌, ◌⊎◌, inl, inr, Bool, true, false, cond, ◌&&◌, eqb, List, [], ◌∷◌, length, get_or, Option, Some, None, refl, sym, ◌∙◌, ap, subst, arith}
 use Rattle.std.specs.Prelude.{slice_get}
 use Rattle.std.proofs.lemmas.Bool.{eqb-true}
 use Rattle.std.proofs.lemmas.Bool.Decides.{nat_tests}
@@ -8,7 +8,7 @@ use Rattle.htl_emach.specs.Calendars.{list_at}
 use Rattle.htl_model.specs.declared.parts.Inv.{Inv}
 use Rattle.htl_model.specs.Selected.{is_at, Runs}
 use Rattle.htl_model.specs.Tables.{Tables, is_concrete, mode_module}
-use Rattle.htl_audit.specs.Keeping.{Kept, has_job, sum_at, length_at, start_at, runs_in, renewed, renewed_to}
+use Rattle.htl_audit.specs.Keeping.{Kept, has_job, sum_at, length_at, start_at, runs_in, begins_round, renewed, renewed_to}
 use Rattle.htl_audit.specs.Rosters.{IsSized}
 use Rattle.htl_audit.proofs.JobTests.{both, and_true}
 
@@ -64,13 +64,26 @@ module _ (t : Tables) (modes : List (Option ℕ)) (takes : List ℕ) (s count : 
 
   pub renewed_sized : (n : ℕ) (k : Kept) → IsSized count k → IsSized count (renewed_to t modes takes s n k)
   renewed_sized zero k z = z
-  renewed_sized (suc n) k z = one_sized (get_or takes n 0) n (renewed_to t modes takes s n k) (renewed_sized n k z)
+  renewed_sized (suc n) k z = by (begins_round t s n) (renewed_sized n k z)
+    where
+      by : (b : Bool) → IsSized count (renewed_to t modes takes s n k)
+          → IsSized count (cond b (renewed t modes s (get_or takes n 0) n (renewed_to t modes takes s n k)) (renewed_to t modes takes s n k))
+      by true h = one_sized (get_or takes n 0) n (renewed_to t modes takes s n k) h
+      by false h = h
 
+  -- an invocation of which a round begins
   pub record IsNew (i : ℕ) (k : Kept) : Type 0 where
     pub stands : has_job k.roster i ≡ runs_in t modes i
     pub start : start_at k.roster i ≡ s
     pub length : length_at k.roster i ≡ get_or takes i 0
     pub sum : sum_at k.sums i ≡ 0
+
+  -- one that keeps what it had
+  pub record IsStill (i : ℕ) (k new : Kept) : Type 0 where
+    pub stands : has_job new.roster i ≡ has_job k.roster i
+    pub start : start_at new.roster i ≡ start_at k.roster i
+    pub length : length_at new.roster i ≡ length_at k.roster i
+    pub sum : sum_at new.sums i ≡ sum_at k.sums i
 
   one_new : (n : ℕ) (k : Kept) → IsSized count k → n < count → IsNew n (renewed t modes s (get_or takes n 0) n k)
   one_new n k z h =
@@ -81,22 +94,42 @@ module _ (t : Tables) (modes : List (Option ℕ)) (takes : List ℕ) (s count : 
         sum = get_or-set_same k.sums n 0 0 (omega (arith, h, z.sums));
       }
 
-  other_new : (m n i : ℕ) (k : Kept) → i ≢ n → IsNew i k → IsNew i (renewed t modes s m n k)
-  other_new m n i k differ w =
+  other_still : (m n i : ℕ) (k : Kept) → i ≢ n → IsStill i k (renewed t modes s m n k)
+  other_still m n i k differ =
       record {
-        stands = get_or-set_other k.roster.stands n i (runs_in t modes n) false differ ∙ w.stands;
-        start = get_or-set_other k.roster.starts n i s 0 differ ∙ w.start;
-        length = get_or-set_other k.roster.lengths n i m 0 differ ∙ w.length;
-        sum = get_or-set_other k.sums n i 0 0 differ ∙ w.sum;
+        stands = get_or-set_other k.roster.stands n i (runs_in t modes n) false differ;
+        start = get_or-set_other k.roster.starts n i s 0 differ;
+        length = get_or-set_other k.roster.lengths n i m 0 differ;
+        sum = get_or-set_other k.sums n i 0 0 differ;
       }
 
-  pub all_new : (n i : ℕ) (k : Kept) → IsSized count k → n ≤ count → i < n → IsNew i (renewed_to t modes takes s n k)
-  all_new zero i k z few h = absurd (omega (arith, h))
-  all_new (suc n) i k z few h = by (order i n h) (λ g. all_new n i k z (omega (arith, few)) g)
+  pub all_new : (n i : ℕ) (k : Kept) → IsSized count k → n ≤ count → i < n → begins_round t s i ≡ true → IsNew i (renewed_to t modes takes s n k)
+  all_new zero i k z few h begins = absurd (omega (arith, h))
+  all_new (suc n) i k z few h begins = by (order i n h) (λ g. all_new n i k z (omega (arith, few)) g begins)
     where
-      by : (i < n) ⊎ (i ≡ n) → (i < n → IsNew i (renewed_to t modes takes s n k)) → IsNew i (renewed t modes s (get_or takes n 0) n (renewed_to t modes takes s n k))
-      by (inl g) later = other_new (get_or takes n 0) n i (renewed_to t modes takes s n k) (λ e. omega (arith, e, g)) (later g)
-      by (inr g) later = subst (λ j. IsNew j (renewed t modes s (get_or takes n 0) n (renewed_to t modes takes s n k))) (sym g) (one_new n (renewed_to t modes takes s n k) (renewed_sized n k z) (omega (arith, few)))
+      earlier : (b : Bool) → i < n → IsNew i (renewed_to t modes takes s n k) → IsNew i (cond b (renewed t modes s (get_or takes n 0) n (renewed_to t modes takes s n k)) (renewed_to t modes takes s n k))
+      earlier false g w = w
+      earlier true g w =
+          let o = other_still (get_or takes n 0) n i (renewed_to t modes takes s n k) (λ e. omega (arith, e, g)) in
+          record { stands = o.stands ∙ w.stands; start = o.start ∙ w.start; length = o.length ∙ w.length; sum = o.sum ∙ w.sum }
+
+      by : (i < n) ⊎ (i ≡ n) → (i < n → IsNew i (renewed_to t modes takes s n k))
+          → IsNew i (cond (begins_round t s n) (renewed t modes s (get_or takes n 0) n (renewed_to t modes takes s n k)) (renewed_to t modes takes s n k))
+      by (inl g) later = earlier (begins_round t s n) g (later g)
+      by (inr g) later =
+          subst (λ b. IsNew i (cond b (renewed t modes s (get_or takes n 0) n (renewed_to t modes takes s n k)) (renewed_to t modes takes s n k))) (sym begins ∙ ap (begins_round t s) g)
+          (subst (λ j. IsNew j (renewed t modes s (get_or takes n 0) n (renewed_to t modes takes s n k))) (sym g) (one_new n (renewed_to t modes takes s n k) (renewed_sized n k z) (omega (arith, few))))
+
+  pub all_still : (n i : ℕ) (k : Kept) → begins_round t s i ≡ false → IsStill i k (renewed_to t modes takes s n k)
+  all_still zero i k not = record { stands = refl; start = refl; length = refl; sum = refl }
+  all_still (suc n) i k not = by (begins_round t s n) refl (all_still n i k not)
+    where
+      by : (b : Bool) → begins_round t s n ≡ b → IsStill i k (renewed_to t modes takes s n k)
+          → IsStill i k (cond b (renewed t modes s (get_or takes n 0) n (renewed_to t modes takes s n k)) (renewed_to t modes takes s n k))
+      by false is w = w
+      by true is w =
+          let o = other_still (get_or takes n 0) n i (renewed_to t modes takes s n k) (λ e. let z : true ≡ false = sym is ∙ ap (begins_round t s) (sym e) ∙ not in let y : ⊥ = cc in y) in
+          record { stands = o.stands ∙ w.stands; start = o.start ∙ w.start; length = o.length ∙ w.length; sum = o.sum ∙ w.sum }
 
   -- what isn't kept by invocation stays
   pub record IsElse (k new : Kept) : Type 0 where
@@ -108,7 +141,11 @@ module _ (t : Tables) (modes : List (Option ℕ)) (takes : List ℕ) (s count : 
 
   pub renewed_else : (n : ℕ) (k : Kept) → IsElse k (renewed_to t modes takes s n k)
   renewed_else zero k = record { place = refl; fault = refl; end = refl; done = refl; short = refl }
-  renewed_else (suc n) k = let r = renewed_else n k in record { place = r.place; fault = r.fault; end = r.end; done = r.done; short = r.short }
+  renewed_else (suc n) k = by (begins_round t s n) (renewed_else n k)
+    where
+      by : (b : Bool) → IsElse k (renewed_to t modes takes s n k) → IsElse k (cond b (renewed t modes s (get_or takes n 0) n (renewed_to t modes takes s n k)) (renewed_to t modes takes s n k))
+      by true r = record { place = r.place; fault = r.fault; end = r.end; done = r.done; short = r.short }
+      by false r = r
 
   -- past the last invocation there is nothing
   pub start_past : (i : ℕ) (k : Kept) → IsSized count k → count ≤ i → start_at k.roster i ≡ 0

@@ -221,11 +221,11 @@ module _ (t : Tables) (range : AreInRange t) (rounds : HaveRounds t) (es : List 
               | inr past ↦ inr (omega (arith, past, ap (λ (z : Round). z.start) o.is, ap (λ ns. get_or ns j.inv 0) same.starts))
             ]
 
-        together : (r : Round) (p q : ℕ) (j h : Job) → IsIn (all_rounds t fs now) r p j → IsIn (all_rounds t fs now) r q h → IsCurrent t then.roster r p j → IsCurrent t then.roster r q h
-        together r p q j h a b cur =
+        together : (r : Round) (p q : ℕ) (j h : Job) → IsIn (all_rounds t fs now) r p j → IsIn (all_rounds t fs now) r q h → feeds t h.inv j.inv ≡ true → IsCurrent t then.roster r p j → IsCurrent t then.roster r q h
+        together r p q j h a b fed cur =
             let o = (was r p j a).0 in
             let m = same_round r q h o.start o.is o.soon o.in_old.number o.in_old.at b in
-            let c = kept.together (round_of t es o.start) p q j h o.in_old m (old_current r p j o cur) in
+            let c = kept.together (round_of t es o.start) p q j h o.in_old m fed (old_current r p j o cur) in
             subst (λ z. IsCurrent t then.roster z q h) o.is (on o.start q h m (subst (λ z. IsIn (all_rounds t fs now) z q h) (sym o.is) b) c)
 
         before : (r : Round) (p q : ℕ) (j h : Job) → IsIn (all_rounds t fs now) r p j → IsIn (all_rounds t fs now) r q h → precedes q j ≡ feeds t h.inv j.inv

@@ -1,5 +1,5 @@
 -- What contracts see of an auditor, what it follows, and its verdict.
-use Rattle.std.specs.Prelude.{◌≡◌, ◌≤◌, ◌<◌, ℕ, suc, true, false, List, [], ◌∷◌, ◌++◌, length, get_or, Option, Some, None, All, Ok, Err}
+use Rattle.std.specs.Prelude.{◌≡◌, ◌≤◌, ◌<◌, ℕ, suc, true, false, List, [], ◌∷◌, ◌++◌, length, get_or, min, Option, Some, None, All, Ok, Err}
 use Rattle.htl_model.specs.declared.event.Event.{Event}
 use Rattle.htl_console.specs.declared.shown.Shown.TheVariants.{Values}
 use Rattle.htl_machine.specs.Calls as machines
@@ -54,10 +54,19 @@ pub record IsAuditor (o : Object) (m : machines.Seen) (takes : List ℕ) (log : 
   pub lines : All (λ (x : Slice). x.inv < length o.tables.invs) log
   pub place : k.place ≤ length log
 
+-- the first multiple of one of these periods from an instant on; none without periods
+abbrev pub IsNextIn : List ℕ → ℕ → Option ℕ → Type 0
+IsNextIn ps at None = (n : ℕ) → begins ps n ≡ false
+IsNextIn ps at (Some s) = (at ≤ s) × (begins ps s ≡ true) × ((n : ℕ) → at ≤ n → n < s → begins ps n ≡ false)
+
 -- the first start of rounds from an instant on; none without modules
 abbrev pub IsNextStart : Tables → ℕ → Option ℕ → Type 0
-IsNextStart t at None = (n : ℕ) → begins (root_periods t) n ≡ false
-IsNextStart t at (Some s) = (at ≤ s) × (begins (root_periods t) s ≡ true) × ((n : ℕ) → at ≤ n → n < s → begins (root_periods t) n ≡ false)
+IsNextStart t at o = IsNextIn (root_periods t) at o
+
+-- the sooner of two instants, of which there may be only the second
+abbrev pub sooner : Option ℕ → ℕ → ℕ
+sooner None m = m
+sooner (Some n) m = min n m
 
 -- all before the reading of the machine is done, which was told these events and that reading
 pub record IsStopped (a : Audit) (es : List Event) : Type 0 where

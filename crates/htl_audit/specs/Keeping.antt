@@ -1,10 +1,10 @@
 -- What an auditor keeps of a log, by invocation, and how it judges the next line.
-use Rattle.std.specs.Prelude.{zero, ℕ, suc, ◌+◌, ◌-◌, Bool, true, false, cond, not, ◌&&◌, ◌||◌, eqb, leb, ltb, List, [], ◌∷◌, get_or, length, replicate, slice_get, set, Option, Some, None}
+use Rattle.std.specs.Prelude.{zero, ℕ, suc, ◌+◌, ◌-◌, ◌%◌, Bool, true, false, cond, not, ◌&&◌, ◌||◌, eqb, leb, ltb, List, [], ◌∷◌, get_or, length, replicate, slice_get, set, Option, Some, None}
 use Rattle.htl_model.specs.declared.parts.Inv.{Inv}
 use Rattle.htl_model.specs.Functions.{of_bool}
 use Rattle.htl_model.specs.PortOrder.{feeds}
 use Rattle.htl_model.specs.Selected.{is_at}
-use Rattle.htl_model.specs.Tables.{Tables, is_concrete, mode_module, release, window_end}
+use Rattle.htl_model.specs.Tables.{Tables, is_concrete, mode_module, mode_period, release, window_end}
 use Rattle.htl_emach.specs.Calendars.{list_at}
 use Rattle.htl_audit.specs.declared.slice.Slice.{Slice}
 use Rattle.htl_audit.specs.declared.slice.LogKind.{LogKind}
@@ -147,10 +147,16 @@ renewed t modes s n i k =
       sums = set k.sums i 0;
     }
 
--- rounds of the invocations below number n begin
+-- a round of the invocation begins at s, where it stands: its mode's period divides it
+abbrev pub begins_round : Tables → ℕ → ℕ → Bool
+begins_round t s i = elim (slice_get t.invs i) [ Some x ↦ eqb (s % mode_period t x.mode) 0 | None ↦ false ]
+
+-- of the invocations below number n those begin of which a round does
 abbrev pub renewed_to : Tables → List (Option ℕ) → List ℕ → ℕ → ℕ → Kept → Kept
 renewed_to t modes takes s zero k = k
-renewed_to t modes takes s (suc n) k = renewed t modes s (get_or takes n 0) n (renewed_to t modes takes s n k)
+renewed_to t modes takes s (suc n) k =
+    let z = renewed_to t modes takes s n k in
+    cond (begins_round t s n) (renewed t modes s (get_or takes n 0) n z) z
 
 abbrev pub begun : Tables → List (Option ℕ) → List ℕ → ℕ → Kept → Kept
 begun t modes takes s k = renewed_to t modes takes s (length t.invs) k

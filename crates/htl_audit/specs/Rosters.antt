@@ -38,8 +38,8 @@ pub record HasJob (t : Tables) (rounds : List Round) (o : Roster) (i : ℕ) : Ty
 pub record AreKept (t : Tables) (rounds : List Round) (o : Roster) : Type 0 where
   pub has : (i : ℕ) → has_job o i ≡ true → HasJob t rounds o i
   pub only : (r : Round) (p : ℕ) (j : Job) → IsIn rounds r p j → IsCurrent t o r p j ⊎ (r.start + j.end ≤ start_at o j.inv)
-  -- the jobs of one round stand together
-  pub together : (r : Round) (p q : ℕ) (j h : Job) → IsIn rounds r p j → IsIn rounds r q h → IsCurrent t o r p j → IsCurrent t o r q h
+  -- what feeds a job stands with it, where it is of its round
+  pub together : (r : Round) (p q : ℕ) (j h : Job) → IsIn rounds r p j → IsIn rounds r q h → feeds t h.inv j.inv ≡ true → IsCurrent t o r p j → IsCurrent t o r q h
   -- a job precedes another of its round where it feeds it; what feeds a job is of its round
   pub before : (r : Round) (p q : ℕ) (j h : Job) → IsIn rounds r p j → IsIn rounds r q h → precedes q j ≡ feeds t h.inv j.inv
   pub mates : (r : Round) (p : ℕ) (j : Job) (i : ℕ) → IsIn rounds r p j → IsCurrent t o r p j → has_job o i ≡ true → feeds t i j.inv ≡ true

@@ -18,6 +18,7 @@ ghost use Rattle.htl_audit.specs.Legal.{first_fault, jobs_done};
 ghost use Rattle.htl_audit.specs.Verdicts.{verdict_of};
 
 use crate::ledger::Ledger;
+use crate::starts::next_start;
 use crate::{LogFault, LogKind, Slice};
 use htl_base::{Memory, Seq, Time, Value};
 use htl_console::Shown;
@@ -75,19 +76,6 @@ fn worst_cases(alloc: Global, t: &Tables) -> Result<Vec<Time>, AllocError>
         worst.push(task_worst(t, invs[k].task) as u64)?;
     }
     Ok(worst)
-}
-
-// The first multiple of a period from an instant on.
-fn next_multiple(at: Time, period: Time) -> Time
-    requires some { 1 ≤ period }
-    requires small { period ≤ 1000000 }
-    requires at { at ≤ 1000000000 }
-    ensures low { at ≤ result }
-    ensures whole { result % period ≡ 0 }
-    ensures first { (n : ℕ) → at ≤ n → n < result → n % period ≡ 0 → ⊥ }
-{
-    let over = at % period;
-    if over == 0 { at } else { at + (period - over) }
 }
 
 impl<'a> Auditor<'a> {
@@ -220,10 +208,7 @@ impl<'a> Auditor<'a> {
         requires { self.now.machine.held.reading ≤ 1000000000 }
         ensures { IsNextStart self.now.machine.object.tables self.now.machine.held.reading result }
     {
-        match self.loaded.tables().period() {
-            Some(period) => Some(next_multiple(self.machine.reading(), period)),
-            None => None,
-        }
+        next_start(self.loaded.tables(), self.machine.reading())
     }
 
     // The first start of rounds from the last reading on, or `to` where none comes before.

@@ -8,6 +8,7 @@ ghost use Rattle.htl_audit.specs.Keeping.{is_between, is_inside as is_inside_of,
 
 use crate::auditor::AuditTotals;
 use crate::ports::feeds;
+use crate::starts::begins_round;
 use crate::{LogFault, LogKind, Slice};
 use htl_base::{Seq, Time};
 use htl_machine::Machine;
@@ -278,7 +279,7 @@ impl Ledger {
         self.sums.set(i, 0);
     }
 
-    /// Rounds of all invocations begin at `at`, in the modes of the machine; their jobs take so long.
+    /// At `at` rounds begin of the invocations whose periods divide it, in the modes of the machine; their jobs take so long.
     pub fn begin(&mut self, t: &Tables, machine: &Machine<'_>, takes: &[Time], at: Time)
         requires rows { length self.old.roster.stands ≡ length t.now.invs }
         requires takes { length takes.now ≡ length t.now.invs }
@@ -286,7 +287,9 @@ impl Ledger {
         ensures { self.new ≡ begun t.now machine.now.standing.calendar.modes takes.now at self.old }
     {
         for i in 0..takes.len() {
-            self.renew(t, machine, takes[i], at, i);
+            if begins_round(t, at, i) {
+                self.renew(t, machine, takes[i], at, i);
+            }
         }
     }
 

@@ -7,6 +7,7 @@ mod ledger;
 mod log;
 mod ports;
 mod slice;
+mod starts;
 
 pub use auditor::{AuditTotals, Auditor};
 pub use log::{LogStop, read_log};

@@ -1,0 +1,9 @@
+use Rattle.std.proofs.Common.{map, take, ap, subst, arith}
+use Rattle.std.proofs.lemmas.List.{take_all}
+use Rattle.htl_model.specs.Frames.{unit_period}
+use Rattle.htl_audit.specs.Auditing.{IsNextIn}
+use Rattle.htl_audit.proofs.starts.next_of.Goals as goal
+
+pub returns : goal.returns
+returns c =
+    subst (λ us. IsNextIn (map (unit_period c.args.t.now) us) c.args.at c.loop-k.next) (take_all c.loop-k.k c.args.roots.now (omega arith)) c.loop-k.invariant

@@ -1,0 +1,7 @@
+use Rattle.std.proofs.Common.{map, take}
+use Rattle.htl_model.specs.Frames.{unit_period}
+use Rattle.htl_audit.specs.Auditing.{IsNextIn}
+use Rattle.htl_audit.proofs.starts.next_of.Given as goal
+
+abbrev pub invariant-loop-k : goal.invariant-loop-k
+invariant-loop-k l = IsNextIn (map (unit_period l.t) (take l.k l.roots)) l.at l.next
