@@ -1,5 +1,5 @@
 -- The job of an invocation that stands: its round is one of the audit's, it has one, and it follows those that it reads from.
-use Rattle.std.proofs.Common.{◌≡◌, ◌≤◌, ◌<◌, ◌⊎◌, inl, inr, ℕ, ◌+◌, ◌*◌, ◌/◌, ◌%◌, Bool, true, List, length, slice_get, Some, option_map, sym, ap, ap₂, ◌∙◌, subst, arith}
+use Rattle.std.proofs.Common.{◌≡◌, ◌≤◌, ◌<◌, ◌⊎◌, inl, inr, ℕ, ◌+◌, ◌*◌, ◌/◌, ◌%◌, true, List, length, slice_get, Some, option_map, sym, ap, ap₂, ◌∙◌, arith}
 use Rattle.std.proofs.Math.Nat.{div-add-mod, mod-lt, mul-mod_right}
 use Rattle.std.proofs.lemmas.Bool.{eq-eqb}
 use Rattle.std.proofs.lemmas.Option.{slice_get_within}
@@ -59,7 +59,6 @@ pub record HasJobFrom (t : Tables) (es : List Event) (s i : ℕ) (x : Inv) : Typ
   pub once : (q : ℕ) (h : Job) → slice_get (round_of t es s).jobs q ≡ Some h → h.present ≡ true → h.inv ≡ i → q ≡ position
 
 module _ (t : Tables) (range : AreInRange t) (kept : KeptApart t 16) (rounds : HaveRounds t) (es : List Event) where
-
   -- rounds that begin at an instant are among those of the audit
   pub round_there : (now s : ℕ) (p : ℕ) (j : Job) → IsFresh t range kept rounds es s p j → s < now → (m : ℕ) × (slice_get (all_rounds t es now) m ≡ Some (round_of t es s))
   round_there now s p j f early =

@@ -1,4 +1,4 @@
-use Rattle.std.proofs.Common.{◌≡◌, ◌++◌, ◌∷◌, [], ◌+◌, ℕ, List, Vec, Global, drop, ap, sym, ◌∙◌, rules}
+use Rattle.std.proofs.Common.{◌++◌, ◌+◌, ℕ, List, Vec, Global, drop, ap, sym, ◌∙◌, rules}
 use Rattle.htl_audit.specs.Feeders.{feeders_from}
 use Rattle.htl_audit.proofs.Feeding.{feeders_more, feeders_same}
 use Rattle.htl_audit.proofs.feeders.feeders_of.Goals.{then-feeds+in_ok-push, else-feeds}

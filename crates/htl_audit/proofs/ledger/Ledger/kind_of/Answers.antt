@@ -1,8 +1,6 @@
-use Rattle.std.proofs.Common.{◌≡◌, ◌<◌, ◌≤◌, ◌+◌, ◌-◌, ℕ, Bool, true, false, cond, not, List, [], length, get_or, Option, Some, None, All, ap, sym, ◌∙◌, subst, arith, rules}
-use Rattle.htl_audit.specs.declared.slice.LogKind.{LogKind}
-use Rattle.htl_audit.specs.declared.slice.LogKind.TheVariants as kind
-use Rattle.htl_audit.specs.Feeders.{feeders_of, all_feeders, are_done}
-use Rattle.htl_audit.specs.Keeping.{Kept, is_inside, kind_of}
+use Rattle.std.proofs.Common.{◌≡◌, ◌<◌, ℕ, true, false, List, [], length, get_or, All, ap, sym, ◌∙◌, subst, arith}
+use Rattle.htl_audit.specs.Feeders.{feeders_of, are_done}
+use Rattle.htl_audit.specs.Keeping.{Kept, is_inside}
 use Rattle.htl_audit.proofs.Feeding.{rows_are, row_is, feeders_within, kind_last}
 use Rattle.htl_audit.proofs.ledger.Ledger.kind_of.Goals as goal
 

@@ -1,5 +1,5 @@
-use Rattle.std.proofs.Common.{◌≡◌, ◌≤◌, ◌<◌, ◌+◌, ◌-◌, ◌^◌, ℕ, min, Bool, true, false, List, get_or, inl, inr, ap, sym, ◌∙◌, arith}
-use Rattle.htl_audit.specs.Keeping.{Kept, has_job, start_at, end_at}
+use Rattle.std.proofs.Common.{◌≡◌, Bool, true, false, List, get_or, inl, inr, ap, sym, ◌∙◌, arith}
+use Rattle.htl_audit.specs.Keeping.{Kept}
 use Rattle.htl_audit.proofs.Dues.{next_more}
 use Rattle.htl_audit.proofs.ledger.Ledger.next_due.Goals.{then-stands-n+then-now-end, then-stands-n+else-now-end, else-stands-n}
 use Rattle.htl_audit.proofs.ledger.Ledger.next_due.Goals as goal
