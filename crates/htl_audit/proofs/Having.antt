@@ -6,7 +6,7 @@ use Rattle.std.proofs.lemmas.Bool.{eqb-true, eq-eqb}
 use Rattle.std.proofs.lemmas.Option.{slice_get_within}
 use Rattle.htl_form.proofs.PartLaws.{none_some}
 use Rattle.htl_form.proofs.Places.{item_at}
-use Rattle.htl_form.proofs.TestLaws.{equal, same_number}
+use Rattle.htl_model.proofs.TestLaws.{equal, same_number}
 use Rattle.htl_model.specs.declared.parts.Inv.{Inv}
 use Rattle.htl_model.specs.declared.parts.Mode.{Mode}
 use Rattle.htl_model.specs.declared.parts.Module.{Module}
