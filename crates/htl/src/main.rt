@@ -87,6 +87,8 @@ mod patch_tables_tests;
 #[cfg(test)]
 mod patch_tests;
 #[cfg(test)]
+mod period_tests;
+#[cfg(test)]
 mod pieces;
 #[cfg(test)]
 mod plan_tests;

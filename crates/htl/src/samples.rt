@@ -29,6 +29,36 @@ pub const TWO_JOBS: &str = "program P {
   }
 }";
 
+// Two root modules: the rounds of F last 10 ticks, those of G 20.
+pub const TWO_PERIODS: &str = "program P {
+  communicator int u period 10 init 1;
+  communicator int w period 10 init 0;
+  module F start m {
+    task a input (int i) output (int o = i + 1) worst 3;
+    mode m period 10 { invoke a input ((u, 0)) output ((u, 1)); }
+  }
+  module G start m {
+    task b input (int i) output (int o = i * 10) worst 9;
+    mode m period 20 { invoke b input ((u, 0)) output ((w, 2)); }
+  }
+}";
+
+// In these F goes to the empty mode e and back, by g.
+pub const TWO_PERIODS_AND_MODES: &str = "program P {
+  sensor bool g period 10 init false;
+  communicator int u period 10 init 1;
+  communicator int w period 10 init 0;
+  module F start m {
+    task a input (int i) output (int o = i + 1) worst 3;
+    mode m period 10 { invoke a input ((u, 0)) output ((u, 1)); switch (g, e); }
+    mode e period 10 { switch (!g, m); }
+  }
+  module G start m {
+    task b input (int i) output (int o = i * 10) worst 9;
+    mode m period 20 { invoke b input ((u, 0)) output ((w, 2)); }
+  }
+}";
+
 // `q` reads the port that `p` writes.
 pub const PORT: &str = "program P {
   communicator int x period 10 init 2;

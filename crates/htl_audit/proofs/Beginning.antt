@@ -1,6 +1,6 @@
 -- Where rounds begin, what is kept of the invocations that begin one are the jobs of the new rounds, and the windows of their jobs before have
 -- ended; all others keep what they had.
-use Rattle.std.proofs.Common.{◌≡◌, ℕ, zero, suc, ◌+◌, ◌-◌, ◌*◌, ◌/◌, ◌%◌, ◌≤◌, ◌<◌, ◌⊎◌, inl, inr, Bool, true, false, cond, List, [], ◌∷◌, ◌++◌, length, get_or, map, Option, Some, None, refl, sym, ◌∙◌, ap, subst, arith}
+use Rattle.std.proofs.Common.{◌≡◌, ℕ, zero, suc, ◌+◌, ◌-◌, ◌*◌, ◌/◌, ◌%◌, ◌≤◌, ◌<◌, ◌⊎◌, inl, inr, Bool, true, false, cond, List, [], ◌∷◌, ◌++◌, length, get_or, map, Some, refl, sym, ◌∙◌, ap, subst, arith}
 use Rattle.std.specs.Prelude.{slice_get}
 use Rattle.std.proofs.lemmas.Bool.{eqb-true}
 use Rattle.std.proofs.lemmas.List.{map-append}
@@ -19,7 +19,7 @@ use Rattle.htl_walk.specs.Jobs.{precedes}
 use Rattle.htl_refine.specs.Records.{took, modes_at}
 use Rattle.htl_audit.specs.Growing.{HaveRounds}
 use Rattle.htl_audit.specs.Jobs.{Round, round_of, starts_before, all_rounds}
-use Rattle.htl_audit.specs.Keeping.{Kept, has_job, start_at, begins_round, runs_in, begun}
+use Rattle.htl_audit.specs.Keeping.{Kept, has_job, start_at, begins_round, begun}
 use Rattle.htl_audit.specs.Rosters.{IsIn, IsCurrent, HasJob, AreKept, IsSized}
 use Rattle.htl_audit.proofs.Growing.{in_two, in_front, in_back, start_is, round_is}
 use Rattle.htl_audit.proofs.Renewing.{IsNew, IsStill, all_new, all_still, runs_is}

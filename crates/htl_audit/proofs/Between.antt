@@ -31,6 +31,8 @@ use Rattle.htl_refine.specs.FrameRuns.{Frame, frame_modes, frame_places, frame_j
 use Rattle.htl_refine.specs.Records.{took, AreTookWithin, modes_at, rounds_before}
 use Rattle.htl_refine.proofs.StateLaws.{states_are_selections}
 use Rattle.htl_console.specs.declared.shown.Shown.{Shown}
+use Rattle.htl_machine.specs.StandingList.{turn_list}
+use Rattle.htl_machine.specs.declared.numbering.ListAt.{ListAt}
 use Rattle.htl_machine.specs.Calls.{Seen, Follows, GoesBy, IsFinished, text_between}
 use Rattle.htl_machine.specs.Follows.{reading_of, DeskStands, DeskFollows, IsLoaded}
 use Rattle.htl_machine.specs.Lines.{all_records, e_done}
@@ -38,6 +40,8 @@ use Rattle.htl_machine.specs.ListTurns.{Turn, left_before, finished_by}
 use Rattle.htl_machine.specs.Plans.{finished_before}
 use Rattle.htl_machine.specs.Programs.{schedules_of, before_of, lines_of}
 use Rattle.htl_machine.specs.RunLists.{turn_at}
+use Rattle.htl_machine.specs.StandingList.{turn_list}
+use Rattle.htl_machine.specs.declared.numbering.ListAt.{ListAt}
 use Rattle.htl_machine.specs.Texts.{capped}
 use Rattle.htl_machine.specs.Values.{ValuesFollow}
 use Rattle.htl_machine.proofs.Accepted.{accepted_is_loaded}
@@ -109,10 +113,10 @@ module _ (t : Tables) (schedules : List (List SInstr)) (es fs : List Event) (sam
     desk_same (Some period) zero r f = f
     desk_same (Some period) (suc n) r f = subst (λ (u : Turn). DeskStands u.plan u.frame (suc n) r) (turns n) f
 
-    goes_same : (o : Option ℕ) (now : ℕ) (node : Option ℕ) → GoesBy (turn_at t schedules es) o now node → GoesBy (turn_at t schedules fs) o now node
-    goes_same None now node g = g
-    goes_same (Some p) zero node g = g
-    goes_same (Some p) (suc n) node g = g ∙ ap (λ (u : Turn). Some u.node) (turns n)
+    goes_same : (o : Option ℕ) (now : ℕ) (list : Option ListAt) → GoesBy (turn_at t schedules es) o now list → GoesBy (turn_at t schedules fs) o now list
+    goes_same None now list g = g
+    goes_same (Some p) zero list g = g
+    goes_same (Some p) (suc n) list g = g ∙ ap (λ (u : Turn). Some (turn_list u)) (turns n)
 
 -- what a machine follows it follows of events that tell the same
 pub same_follows : (m : Seen) (es fs : List Event) → IsAccepted m.object → TellSame m.object.tables es fs → Follows m es → Follows m fs
@@ -141,7 +145,7 @@ same_follows m es fs accepted same f =
             records =
                 record {
                   desk = desk_same t schedules es fs same.told loaded f.kept.within (hyper t) now m.held.desk f.before.records.desk;
-                  goes = goes_same t schedules es fs same.told loaded f.kept.within (hyper t) now m.selection f.before.records.goes;
+                  goes = goes_same t schedules es fs same.told loaded f.kept.within (hyper t) now m.list f.before.records.goes;
                   jobs_are = f.before.records.jobs_are ∙ ap (λ ls. capped (count_by (λ (l : ℕ × Left). l.1.finished) ls)) (records_same t schedules es fs same.told now);
                   s_are = f.before.records.s_are ∙ ap (λ (ls : List (ℕ × Left)). capped (length ls)) (records_same t schedules es fs same.told now);
                 };

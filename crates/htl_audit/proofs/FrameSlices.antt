@@ -1,8 +1,7 @@
 -- The slices that close at an instant are those of the walks of frames, each over one list.
-use Rattle.std.proofs.Common.{◌≡◌, ◌≤◌, ◌<◌, ℕ, suc, ◌+◌, ◌*◌, Bool, true, false, cond, eqb, ltb, List, [], ◌∷◌, ◌++◌, length, slice_get, Option, Some, None, refl, sym, ap, ap₂, ◌∙◌, subst, arith}
+use Rattle.std.proofs.Common.{◌≡◌, ◌≤◌, ◌<◌, ℕ, suc, ◌+◌, ◌*◌, Bool, true, false, cond, eqb, ltb, List, [], ◌∷◌, ◌++◌, length, slice_get, Option, Some, None, refl, sym, ap, ap₂, ◌∙◌, arith}
 use Rattle.std.specs.List.{filter}
-use Rattle.std.proofs.lemmas.Bool.{ltb-true, ltb-false, ne_eqb}
-use Rattle.std.proofs.lemmas.List.{append_assoc}
+use Rattle.std.proofs.lemmas.Bool.{ltb-false, ne_eqb}
 use Rattle.htl_model.specs.declared.event.Event.{Event}
 use Rattle.htl_model.specs.Frames.{frame_of, node}
 use Rattle.htl_model.specs.Lists.{all_some, joined, up_to}
@@ -12,7 +11,7 @@ use Rattle.htl_walk.specs.declared.job.Job.{Job}
 use Rattle.htl_walk.specs.declared.schedule.SInstr.{SInstr}
 use Rattle.htl_walk.specs.declared.schedule.SInstr.TheVariants.{Dispatch, Idle, End}
 use Rattle.htl_walk.specs.Paths.{Leg, begun, walks_from, end_to_end, AreInForm, AreChained}
-use Rattle.htl_walk.specs.Walk.{Point, Left, next_point, walk_from, last_point, first_point, slice_of, position_of}
+use Rattle.htl_walk.specs.Walk.{Point, Left, next_point, walk_from, last_point, first_point, slice_of}
 use Rattle.htl_walk.proofs.Joining as joining
 use Rattle.htl_walk.proofs.Joining.{body, begun_idle, stays}
 use Rattle.htl_refine.specs.FrameRecords.{RunningList, lists_from, begun_before, left_in}
@@ -20,7 +19,7 @@ use Rattle.htl_refine.specs.FrameRuns.{Frame, frame_modes, path_of, frame_at}
 use Rattle.htl_refine.specs.Records.{rounds_before}
 use Rattle.htl_refine.specs.ServedFrames.{IsServing}
 use Rattle.htl_audit.specs.declared.slice.Slice.{Slice}
-use Rattle.htl_audit.specs.Own.{own_slice, list_slices, own_of, own_at}
+use Rattle.htl_audit.specs.Own.{own_slice, own_of, own_at}
 use Rattle.htl_audit.proofs.ClosedSlices.{mine, onto, closed, closed_is, none_closed}
 use Rattle.htl_audit.proofs.OwnTicks.{Plan, walk_of}
 

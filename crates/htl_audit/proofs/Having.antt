@@ -1,12 +1,12 @@
 -- Who has a job in the rounds that begin at an instant: each concrete invocation whose mode runs then and begins a round, and it has one.
-use Rattle.std.proofs.Common.{◌≡◌, ℕ, zero, suc, ◌+◌, ◌%◌, ◌≤◌, ◌<◌, ◌⊎◌, inl, inr, Bool, true, false, cond, eqb, List, [], ◌∷◌, ◌++◌, length, map, Option, Some, None, refl, sym, ◌∙◌, ap, subst, arith}
+use Rattle.std.proofs.Common.{◌≡◌, ℕ, zero, suc, ◌+◌, ◌%◌, ◌<◌, inl, inr, Bool, true, false, cond, eqb, List, [], ◌∷◌, ◌++◌, length, map, Option, Some, None, refl, sym, ◌∙◌, ap, subst, arith}
 use Rattle.std.specs.Prelude.{slice_get}
 use Rattle.std.specs.List.{filter, flat_map}
 use Rattle.std.proofs.lemmas.Bool.{eqb-true, eq-eqb}
 use Rattle.std.proofs.lemmas.Option.{slice_get_within}
 use Rattle.htl_form.proofs.PartLaws.{none_some}
 use Rattle.htl_form.proofs.Places.{item_at}
-use Rattle.htl_form.proofs.TestLaws.{equal, same_number}
+use Rattle.htl_model.proofs.TestLaws.{equal, same_number}
 use Rattle.htl_model.specs.declared.parts.Inv.{Inv}
 use Rattle.htl_model.specs.declared.parts.Mode.{Mode}
 use Rattle.htl_model.specs.declared.parts.Module.{Module}
@@ -19,13 +19,13 @@ use Rattle.htl_model.specs.Selected.{entry, Runs, IsEntry, IsSelection}
 use Rattle.htl_model.specs.Selections.{is_root, root_modules, inv_of_mode, invs_of}
 use Rattle.htl_model.specs.Tables.{Tables, is_concrete, mode_module, mode_period}
 use Rattle.htl_walk.proofs.Work.{all_at}
-use Rattle.htl_refine.specs.ConcreteJobs.{running_invs, running_positions}
+use Rattle.htl_refine.specs.ConcreteJobs.{running_invs}
 use Rattle.htl_refine.specs.OnePass.{has_position}
 use Rattle.htl_refine.proofs.Chains.{Under, same, under_more, one_top, no_parent}
 use Rattle.htl_refine.proofs.Exact.{chosen_exact_apart}
 use Rattle.htl_refine.proofs.Inherit.{mapped, map_at}
 use Rattle.htl_refine.proofs.Members.{front_at, back_at, of_flat, in_flat, of_places, at_place}
-use Rattle.htl_refine.proofs.OnePassLaws.{Has, AreRising, places_rise, one_pass}
+use Rattle.htl_refine.proofs.OnePassLaws.{AreRising, places_rise, one_pass}
 use Rattle.htl_refine.proofs.OwnPeriods.{same_period}
 use Rattle.htl_refine.proofs.Positions.{root_is}
 use Rattle.htl_machine.proofs.Tops.{climb, down}

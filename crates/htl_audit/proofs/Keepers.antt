@@ -4,7 +4,7 @@ use Rattle.std.specs.Prelude.{slice_get}
 use Rattle.std.proofs.lemmas.Bool.{eqb-true}
 use Rattle.std.proofs.lemmas.Bool.Decides.{nat_tests}
 use Rattle.std.proofs.lemmas.List.{get_or-set_same, get_or-set_other, length-set, length-drop}
-use Rattle.std.proofs.lemmas.Option.{get_or_from_slice_get}
+use Rattle.std.proofs.lemmas.Option.{get_or_from_slice_get, slice_get_within}
 use Rattle.htl_form.proofs.PartLaws.{none_some}
 use Rattle.htl_form.proofs.Places.{item_at}
 use Rattle.htl_model.specs.declared.event.Event.{Event}
@@ -93,6 +93,10 @@ passed_auditor o m takes log k t now i =
     }
 
 -- ---- a length
+
+-- it is of an invocation
+pub length_known : (m o : Object) (t : Tables) (i n : ℕ) → m ≡ o → t ≡ o.tables → IsLength m.tables i n → i < length t.invs
+length_known m o t i n same tables l = omega (arith, slice_get_within m.tables.invs i l.inv l.known, ap (λ (z : Object). length z.tables.invs) same, ap (λ (z : Tables). length z.invs) tables)
 
 pub length_small : (o : Object) → IsAccepted o → (i n : ℕ) → IsLength o.tables i n → n ≤ 1000000
 length_small o accepted i n l =

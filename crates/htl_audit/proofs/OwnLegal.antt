@@ -1,6 +1,5 @@
 -- The job lines of a run make a legal log.
-use Rattle.std.proofs.Common.{◌≡◌, ◌≤◌, ◌<◌, ◌⊎◌, inl, inr, ℕ, suc, ◌+◌, ◌-◌, ◌*◌, ◌/◌, ◌%◌, Bool, true, false, cond, not, ◌&&◌, ◌||◌, eqb, leb, ltb, List, [], ◌∷◌, ◌++◌, length, map, take, slice_get, get_or, Option, Some, None, refl, sym, ap, ap₂, ◌∙◌, subst, arith}
-use Rattle.std.proofs.Math.Nat.{mul-div_cancel_left}
+use Rattle.std.proofs.Common.{◌≡◌, ◌≤◌, ◌<◌, inl, inr, ℕ, suc, ◌+◌, ◌-◌, ◌*◌, ◌/◌, Bool, true, false, cond, not, ◌&&◌, ◌||◌, eqb, leb, ltb, List, [], ◌∷◌, ◌++◌, length, map, take, slice_get, get_or, Option, Some, None, refl, sym, ap, ap₂, ◌∙◌, subst, arith}
 use Rattle.std.proofs.lemmas.Bool.{eq-eqb, ltb-true}
 use Rattle.htl_form.proofs.PartLaws.{none_some}
 use Rattle.htl_model.specs.declared.event.Event.{Event}
@@ -15,8 +14,7 @@ use Rattle.htl_walk.specs.declared.schedule.SInstr.{SInstr}
 use Rattle.htl_walk.specs.Jobs.{precedes}
 use Rattle.htl_walk.specs.Walk.{job_at}
 use Rattle.htl_walk.proofs.Work.{job_is}
-use Rattle.htl_refine.specs.Records.{AreTookWithin}
-use Rattle.htl_refine.specs.ServedFrames.{IsServing, IsFeasibleRun}
+use Rattle.htl_refine.specs.ServedFrames.{IsFeasibleRun}
 use Rattle.htl_refine.proofs.ServedFrames.{frames_are_served}
 use Rattle.htl_machine.specs.Programs.{schedules_of}
 use Rattle.htl_machine.proofs.Telling.{up_to_none}
@@ -27,7 +25,7 @@ use Rattle.htl_audit.specs.Legal.{lies_in, ticks, length_at, is_done, is_free, i
 use Rattle.htl_audit.specs.Own.{own_at, own_log, OwnLogIsLegal}
 use Rattle.htl_audit.proofs.FaultLaws.{is_legal}
 use Rattle.htl_audit.proofs.ClosedSlices.{given}
-use Rattle.htl_audit.proofs.FrameJobs.{IsFramed, InRound, of_round, of_frame, framed_precedes, frames_run}
+use Rattle.htl_audit.proofs.FrameJobs.{IsFramed, of_round, of_frame, framed_precedes, frames_run}
 use Rattle.htl_audit.proofs.FrameSlices.{frame_plan, frame_slices_at, slices_are}
 use Rattle.htl_audit.proofs.Growing.{start_is, round_is}
 use Rattle.htl_audit.proofs.JobTests.{both, all_pass_0, IsJobOf, job_found, job_there}

@@ -1,10 +1,9 @@
 -- The jobs of the rounds that begin at an instant: of whom they are, and who has one.
-use Rattle.std.proofs.Common.{◌≡◌, ℕ, suc, ◌+◌, ◌%◌, ◌≤◌, ◌<◌, Bool, true, false, eqb, List, [], ◌∷◌, map, Option, Some, None, refl, sym, ◌∙◌, ap, arith}
+use Rattle.std.proofs.Common.{◌≡◌, ℕ, ◌+◌, ◌%◌, ◌≤◌, ◌<◌, Bool, true, false, eqb, List, map, Option, Some, None, refl, sym, ◌∙◌, ap, arith}
 use Rattle.std.specs.Prelude.{slice_get}
 use Rattle.std.specs.List.{flat_map, list_any}
 use Rattle.std.proofs.lemmas.Bool.{eqb-true, eq-eqb}
 use Rattle.std.proofs.lemmas.Option.{get_or_from_slice_get}
-use Rattle.htl_form.proofs.PartLaws.{none_some}
 use Rattle.htl_model.specs.declared.event.Event.{Event}
 use Rattle.htl_model.specs.declared.parts.Inv.{Inv}
 use Rattle.htl_model.specs.Chosen.{chosen}
@@ -24,7 +23,7 @@ use Rattle.htl_refine.proofs.Inherit.{mapped, map_at}
 use Rattle.htl_refine.proofs.StateLaws.{states_are_selections}
 use Rattle.htl_machine.proofs.FrameMembers.{begins_by}
 use Rattle.htl_audit.specs.Growing.{HaveRounds}
-use Rattle.htl_audit.specs.Jobs.{Round, beginning, round_of}
+use Rattle.htl_audit.specs.Jobs.{beginning, round_of}
 use Rattle.htl_audit.specs.Keeping.{release_at, end_at, begins_round, runs_in}
 use Rattle.htl_audit.specs.Legal as rules
 use Rattle.htl_audit.proofs.Growing.{round_job, length_is, placed}

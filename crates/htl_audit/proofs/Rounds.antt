@@ -1,7 +1,7 @@
 -- The rounds of an accepted object: windows have room and lie in their rounds; and the periods of root modules.
-use Rattle.std.proofs.Common.{◌≡◌, ℕ, ◌≤◌, ◌<◌, length, Option, Some, None, ◌∙◌, ap, subst, arith}
+use Rattle.std.proofs.Common.{◌≡◌, ℕ, ◌≤◌, ◌<◌, length, get_or, Option, Some, None, All, ◌∙◌, ap, subst, arith}
 use Rattle.std.specs.Prelude.{slice_get}
-use Rattle.std.proofs.lemmas.Option.{get_or_from_slice_get, slice_get_within}
+use Rattle.std.proofs.lemmas.Option.{get_or_from_slice_get, slice_get-get_or, slice_get_within}
 use Rattle.htl_form.proofs.Places.{item_at}
 use Rattle.htl_model.specs.declared.parts.Mode.{Mode}
 use Rattle.htl_model.specs.declared.parts.Module.{Module}
@@ -29,7 +29,7 @@ module _ (t : Tables) (range : AreInRange t) where
       item_at t.modules u below
 
   -- the period of a root module is that of a mode
-  pub root_periods_are : (m u : ℕ) → slice_get (root_modules t) m ≡ Some u → (1 ≤ unit_period t u) × (unit_period t u ≤ 1000000)
+  root_periods_are : (m u : ℕ) → slice_get (root_modules t) m ≡ Some u → (1 ≤ unit_period t u) × (unit_period t u ≤ 1000000)
   root_periods_are m u at =
       let x = root_at m u at in
       let start = (range.modules u x.0 x.1).start in
@@ -37,6 +37,9 @@ module _ (t : Tables) (range : AreInRange t) where
       let is : unit_period t u ≡ start.0.period = ap (mode_period t) mode ∙ ap (λ (o : Option Mode). elim o as (λ _. ℕ) [ Some y ↦ y.period | None ↦ 0 ]) start.1 in
       let bounds = (all_at (IsModeInRange t) t.modes range.modes x.0.start start.0 start.1).period in
       (omega (arith, is, bounds.some), omega (arith, is, bounds.most))
+
+  pub periods_within : All (λ u. (1 ≤ unit_period t u) × (unit_period t u ≤ 1000000)) (root_modules t)
+  periods_within k d below = root_periods_are k (get_or (root_modules t) k d) (slice_get-get_or (root_modules t) k d below)
 
 pub tables_have_rounds : (t : Tables) → AreInRange t → KeptApart t 12 → HaveRounds t
 tables_have_rounds t range kept = record { windows = λ i x at. ((window_small t i x range kept at).0, window_within t i x range kept at) }

@@ -18,7 +18,7 @@ use Rattle.htl_audit.proofs.JobTests.{same_truth, both, and_true, or_left, or_ri
 
 -- ---- the test of the invocations
 
-short_found : (t : Tables) (now : ℕ) (k : Kept) (n : ℕ) (xs : List Inv) → any_fell_short_from t now k n xs ≡ true → (i : ℕ) × (fell_short t now k i ≡ true)
+pub short_found : (t : Tables) (now : ℕ) (k : Kept) (n : ℕ) (xs : List Inv) → any_fell_short_from t now k n xs ≡ true → (i : ℕ) × (fell_short t now k i ≡ true)
 short_found t now k n [] e = absurd (let z : ⊥ = cc in z)
 short_found t now k n (x ∷ xs) e = by (fell_short t now k n) refl e (λ g. short_found t now k (suc n) xs g)
   where
@@ -26,7 +26,7 @@ short_found t now k n (x ∷ xs) e = by (fell_short t now k n) refl e (λ g. sho
     by true is f later = (n, is)
     by false is f later = later f
 
-short_there : (t : Tables) (now : ℕ) (k : Kept) (n : ℕ) (xs : List Inv) (d : ℕ) → d < length xs → fell_short t now k (n + d) ≡ true → any_fell_short_from t now k n xs ≡ true
+pub short_there : (t : Tables) (now : ℕ) (k : Kept) (n : ℕ) (xs : List Inv) (d : ℕ) → d < length xs → fell_short t now k (n + d) ≡ true → any_fell_short_from t now k n xs ≡ true
 short_there t now k n [] d h e = absurd (omega (arith, h))
 short_there t now k n (x ∷ xs) zero h e = or_left (fell_short t now k n) (any_fell_short_from t now k (suc n) xs) (subst (λ z. fell_short t now k z ≡ true) (let z : n + 0 ≡ n = omega arith in z) e)
 short_there t now k n (x ∷ xs) (suc d) h e =

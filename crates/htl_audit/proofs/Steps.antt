@@ -1,32 +1,20 @@
 -- One step of the loops over invocations and lines.
-use Rattle.std.proofs.Common.{◌≡◌, ℕ, zero, suc, ◌+◌, ◌≤◌, ◌<◌, Bool, true, false, cond, ◌&&◌, ltb, List, [], ◌∷◌, length, drop, get_or, Option, Some, None, is_some, refl, sym, ◌∙◌, ap, arith, ◌||◌}
+use Rattle.std.proofs.Common.{◌≡◌, ℕ, zero, suc, ◌+◌, ◌≤◌, ◌<◌, Bool, true, false, cond, ltb, List, [], ◌∷◌, length, drop, get_or, Option, Some, None, is_some, refl, sym, ◌∙◌, ap, arith, ◌||◌}
 use Rattle.std.proofs.lemmas.Bool.Decides.{nat_tests}
 use Rattle.htl_model.specs.declared.parts.Inv.{Inv}
 use Rattle.htl_model.specs.Tables.{Tables}
 use Rattle.htl_audit.specs.declared.slice.Slice.{Slice}
 use Rattle.htl_audit.specs.declared.slice.LogFault.{LogFault}
 use Rattle.htl_audit.specs.declared.slice.LogKind.{LogKind}
-use Rattle.htl_audit.specs.Keeping.{Roster, Kept, is_clear_of, is_free_from, kind_of, with_kind, judged, judged_to, fell_short, any_fell_short_from}
+use Rattle.htl_audit.specs.Keeping.{Kept, kind_of, with_kind, judged, judged_to, fell_short, any_fell_short_from}
 
 drop_suc : {A : Type 0} (d : A) (xs : List A) (n : ℕ) → n < length xs → drop n xs ≡ get_or xs n d ∷ drop (suc n) xs
 drop_suc d [] n h = absurd (omega arith)
 drop_suc d (x ∷ xs) zero h = refl
 drop_suc d (x ∷ xs) (suc n) h = drop_suc d xs n (omega (arith, h))
 
-drop_at : {A : Type 0} (d : A) (xs : List A) (n : ℕ) → n < length xs → drop n xs ≡ get_or xs n d ∷ drop (n + 1) xs
+pub drop_at : {A : Type 0} (d : A) (xs : List A) (n : ℕ) → n < length xs → drop n xs ≡ get_or xs n d ∷ drop (n + 1) xs
 drop_at d xs n h = drop_suc d xs n h ∙ ap (λ m. get_or xs n d ∷ drop m xs) (let z : suc n ≡ n + 1 = omega arith in z)
-
-next_free : (t : Tables) (o : Roster) (sums : List ℕ) (i n : ℕ) (xs : List Inv) → n < length xs → is_free_from t o sums i n (drop n xs) ≡ (is_clear_of t o sums i n && is_free_from t o sums i (n + 1) (drop (n + 1) xs))
-next_free t o sums i n [] h = absurd (omega arith)
-next_free t o sums i n (x ∷ xs) h =
-    ap (is_free_from t o sums i n) (drop_at x (x ∷ xs) n h) ∙ ap (λ m. is_clear_of t o sums i n && is_free_from t o sums i m (drop (n + 1) (x ∷ xs))) (let z : suc n ≡ n + 1 = omega arith in z)
-
-pub free_stop : (t : Tables) (o : Roster) (sums : List ℕ) (i n : ℕ) (xs : List Inv) (whole : Bool) → n < length xs → is_clear_of t o sums i n ≡ false → is_free_from t o sums i n (drop n xs) ≡ whole → false ≡ whole
-free_stop t o sums i n xs whole h off e = sym (ap (λ b. b && is_free_from t o sums i (n + 1) (drop (n + 1) xs)) off) ∙ sym (next_free t o sums i n xs h) ∙ e
-
-pub free_go : (t : Tables) (o : Roster) (sums : List ℕ) (i n : ℕ) (xs : List Inv) (whole : Bool) → n < length xs → is_clear_of t o sums i n ≡ true → is_free_from t o sums i n (drop n xs) ≡ whole
-    → is_free_from t o sums i (n + 1) (drop (n + 1) xs) ≡ whole
-free_go t o sums i n xs whole h on e = sym (ap (λ b. b && is_free_from t o sums i (n + 1) (drop (n + 1) xs)) on) ∙ sym (next_free t o sums i n xs h) ∙ e
 
 -- ---- lines
 

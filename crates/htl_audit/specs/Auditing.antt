@@ -1,5 +1,5 @@
 -- What contracts see of an auditor, what it follows, and its verdict.
-use Rattle.std.specs.Prelude.{◌≡◌, ◌≤◌, ◌<◌, ℕ, suc, true, false, List, [], ◌∷◌, ◌++◌, length, get_or, min, Option, Some, None, All, Ok, Err}
+use Rattle.std.specs.Prelude.{◌≡◌, ◌≤◌, ◌<◌, ◌⊎◌, ◌+◌, ℕ, suc, true, false, List, [], ◌∷◌, ◌++◌, length, get_or, min, Option, Some, None, All, Ok, Err}
 use Rattle.htl_model.specs.declared.event.Event.{Event}
 use Rattle.htl_console.specs.declared.shown.Shown.TheVariants.{Values}
 use Rattle.htl_machine.specs.Calls as machines
@@ -13,7 +13,8 @@ use Rattle.htl_object.specs.declared.object.Object.{Object}
 use Rattle.htl_refine.specs.Records.{took, AreTookWithin}
 use Rattle.htl_audit.specs.declared.slice.Slice.{Slice}
 use Rattle.htl_audit.specs.Jobs.{all_rounds}
-use Rattle.htl_audit.specs.Keeping.{Kept}
+use Rattle.htl_audit.specs.Feeders.{all_feeders}
+use Rattle.htl_audit.specs.Keeping.{Kept, has_job, sum_at, length_at, start_at, end_at}
 use Rattle.htl_audit.specs.Rosters.{IsSized}
 use Rattle.htl_audit.specs.Verdicts.{LogFollows, LogEnds}
 
@@ -53,6 +54,15 @@ pub record IsAuditor (o : Object) (m : machines.Seen) (takes : List ℕ) (log : 
   pub small : (i : ℕ) → get_or takes i 0 ≤ 1000000
   pub lines : All (λ (x : Slice). x.inv < length o.tables.invs) log
   pub place : k.place ≤ length log
+
+-- no window ends before `due` of a job that has fewer ticks than it takes, unless it is noted that one fell short
+abbrev pub AreDue : Tables → ℕ → Kept → Type 0
+AreDue t due k = (i : ℕ) → has_job k.roster i ≡ true → (due ≤ start_at k.roster i + end_at t i) ⊎ (sum_at k.sums i < length_at k.roster i → k.short ≡ true)
+
+-- what an auditor knows beside: who feeds whom, and from when on a job may fall short
+pub record IsAware (t : Tables) (feeders : List (List ℕ)) (due : ℕ) (k : Kept) : Type 0 where
+  pub feeders_are : feeders ≡ all_feeders t
+  pub due_is : AreDue t due k
 
 -- the first multiple of one of these periods from an instant on; none without periods
 abbrev pub IsNextIn : List ℕ → ℕ → Option ℕ → Type 0

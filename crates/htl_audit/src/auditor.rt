@@ -17,6 +17,7 @@ ghost use Rattle.htl_audit.specs.Jobs.{all_rounds};
 ghost use Rattle.htl_audit.specs.Legal.{first_fault, jobs_done};
 ghost use Rattle.htl_audit.specs.Verdicts.{verdict_of};
 
+use crate::feeders::Feeders;
 use crate::ledger::Ledger;
 use crate::starts::next_start;
 use crate::{LogFault, LogKind, Slice};
@@ -49,11 +50,14 @@ pub struct Auditor<'a> {
     machine: Machine<'a>,
     log: &'a [Slice],
     takes: Seq<Time>,
+    feeders: Feeders,
+    // No window ends before it of a job that may fall short and isn't noted yet.
+    due: Time,
     ledger: Ledger,
 }
 
 impl<'a> Model for Auditor<'a> {
-    ghost use Rattle.htl_audit.specs.Auditing.{Audit, IsAuditor};
+    ghost use Rattle.htl_audit.specs.Auditing.{Audit, IsAuditor, IsAware};
     ghost use Rattle.htl_object.specs.contracts.object.Object as object_row;
     ghost use Rattle.std.specs.Coded.{codes};
 
@@ -63,7 +67,7 @@ impl<'a> Model for Auditor<'a> {
 
     ghost view = { λ a. record { machine = a.machine; log = a.log.now; takes = a.takes; kept = a.ledger } };
 
-    ghost invariant = { λ a. IsAuditor a.loaded.now a.machine a.takes a.log.now a.ledger };
+    ghost invariant = { λ a. IsAuditor a.loaded.now a.machine a.takes a.log.now a.ledger × IsAware a.loaded.now.tables a.feeders a.due a.ledger };
 }
 
 // The worst cases of the invocations, in ticks.
@@ -92,6 +96,9 @@ impl<'a> Auditor<'a> {
         let Ok(takes) = worst_cases(alloc, t) else {
             return Err(Memory);
         };
+        let Ok(feeders) = Feeders::new(alloc, t) else {
+            return Err(Memory);
+        };
         let Ok(ledger) = Ledger::new(alloc, t) else {
             return Err(Memory);
         };
@@ -100,6 +107,8 @@ impl<'a> Auditor<'a> {
             machine,
             log,
             takes: Seq::new(takes),
+            feeders,
+            due: 0,
             ledger,
         })
     }
@@ -124,12 +133,14 @@ impl<'a> Auditor<'a> {
         ensures same { IsSameAudit self.old self.new }
     {
         let now = self.machine.reading();
-        self.ledger.take(self.loaded.tables(), now, inv, ticks);
+        let t = self.loaded.tables();
+        self.due = self.due.min(self.ledger.window_end(t, inv));
+        self.ledger.take(t, now, inv, ticks);
         self.takes.set(inv as usize, ticks);
         self.machine.took(inv, ticks);
     }
 
-    // Judges the lines that end before the instant, and the jobs whose windows do.
+    // Judges the lines that end before the instant, and the jobs whose windows do; there is nothing to judge of jobs where none does.
     fn pass(&mut self, now: Time)
         requires { now ≤ 1000000001 }
         ensures kept { self.new ≡ record self.old { kept = passed self.old.machine.object.tables now (drop self.old.kept.place self.old.log) self.old.kept } }
@@ -138,8 +149,10 @@ impl<'a> Auditor<'a> {
     {
         let t = self.loaded.tables();
         t.keeps_ranges();
-        self.ledger.judge_to(t, now, self.log);
-        self.ledger.settle(t, now);
+        self.ledger.judge_to(t, &self.feeders, now, self.log);
+        if self.due < now {
+            self.due = self.ledger.settle(t, now);
+        }
     }
 
     // Begins the rounds of an instant, in the modes of the machine.
@@ -152,6 +165,7 @@ impl<'a> Auditor<'a> {
             self.takes.as_slice(),
             at,
         );
+        self.due = 0;
     }
 
     // Lets the machine do all instants before `to`.

@@ -1,13 +1,15 @@
 // What is kept of a log while its run goes on.
-ghost use Rattle.std.specs.Prelude.{◌≡◌, ◌<◌, ◌≤◌, ◌+◌, ◌-◌, ◌^◌, leb, ltb, ℕ, get_or, length, drop, None, All, IfOk};
+ghost use Rattle.std.specs.Prelude.{true, min, ◌⊎◌, ◌≡◌, ◌<◌, ◌≤◌, ◌+◌, ◌-◌, ◌^◌, leb, ltb, ℕ, get_or, length, drop, None, All, IfOk};
 ghost use Rattle.htl_emach.specs.Calendars.{list_at};
 ghost use Rattle.htl_model.specs.Selected.{is_at};
+ghost use Rattle.htl_audit.specs.Feeders.{all_feeders, is_done_at, are_done as are_done_at};
+ghost use Rattle.htl_audit.specs.Auditing.{AreDue};
 ghost use Rattle.htl_audit.specs.Saying.{Says};
 ghost use Rattle.htl_audit.specs.Verdicts.{verdict_of};
-ghost use Rattle.htl_audit.specs.Keeping.{is_between, is_inside as is_inside_of, kind_of as kind_of_line, judged, judged_to, is_clear_of as is_clear_of_job, is_free_from, is_free_at, with_slice, sum_at, length_at, ticks_of, with_kind, fell_short as fell_short_of, any_fell_short as any_fell_short_of, settled, renewed, begun, taken, runs_in, first_kept};
+ghost use Rattle.htl_audit.specs.Keeping.{is_between, is_inside as is_inside_of, kind_of as kind_of_line, judged, judged_to, with_slice, sum_at, length_at, ticks_of, with_kind, fell_short as fell_short_of, any_fell_short as any_fell_short_of, settled, renewed, begun, taken, runs_in, first_kept, has_job, start_at, end_at};
 
 use crate::auditor::AuditTotals;
-use crate::ports::feeds;
+use crate::feeders::Feeders;
 use crate::starts::begins_round;
 use crate::{LogFault, LogKind, Slice};
 use htl_base::{Seq, Time};
@@ -119,30 +121,21 @@ impl Ledger {
             && lies_in(x, self.starts.as_slice()[i], window.release, window.end)
     }
 
-    // Whether the job of invocation n, if it has one, doesn't feed that of another, or has all its ticks.
-    fn is_clear_of(&self, t: &Tables, inv: u16, n: usize) -> bool
-        requires inv { inv < length t.now.invs }
-        requires n { n < length t.now.invs }
-        requires rows { length self.now.roster.stands ≡ length t.now.invs }
-        requires few { length t.now.invs ≤ 65536 }
-        ensures { result ≡ is_clear_of_job t.now self.now.roster self.now.sums inv n }
+    // Whether the job of an invocation, if it has one, has all its ticks.
+    fn is_done(&self, n: usize) -> bool
+        requires { n < length self.now.roster.stands }
+        ensures { result ≡ is_done_at self.now.roster self.now.sums n }
     {
-        if !self.stands.as_slice()[n] || self.sums.as_slice()[n] == self.lengths.as_slice()[n] {
-            return true;
-        }
-        !feeds(t, n as u16, inv)
+        !self.stands.as_slice()[n] || self.sums.as_slice()[n] == self.lengths.as_slice()[n]
     }
 
-    // Whether each job that precedes that of the invocation has all its ticks.
-    fn is_free(&self, t: &Tables, inv: u16) -> bool
-        requires inv { inv < length t.now.invs }
-        requires rows { length self.now.roster.stands ≡ length t.now.invs }
-        requires few { length t.now.invs ≤ 65536 }
-        ensures { result ≡ is_free_at t.now self.now.roster self.now.sums inv }
+    // Whether so it is of each of these invocations.
+    fn are_done(&self, invs: &[u16]) -> bool
+        requires { All (λ n. n < length self.now.roster.stands) invs.now }
+        ensures { result ≡ are_done_at self.now.roster self.now.sums invs.now }
     {
-        let invs = t.parts().invs.as_slice();
-        for n in 0..invs.len() {
-            if !self.is_clear_of(t, inv, n) {
+        for k in 0..invs.len() {
+            if !self.is_done(invs[k] as usize) {
                 return false;
             }
         }
@@ -150,8 +143,9 @@ impl Ledger {
     }
 
     // The first rule that the line breaks, before instant `now`.
-    fn kind_of(&self, t: &Tables, now: Time, x: Slice) -> Option<LogKind>
+    fn kind_of(&self, t: &Tables, feeders: &Feeders, now: Time, x: Slice) -> Option<LogKind>
         requires inv { x.inv < length t.now.invs }
+        requires feeders { feeders.now ≡ all_feeders t.now }
         requires rows { length self.now.roster.stands ≡ length t.now.invs }
         requires few { length t.now.invs ≤ 65536 }
         requires at { now ≤ 1000000001 }
@@ -167,7 +161,7 @@ impl Ledger {
         if self.lengths.as_slice()[i] < self.sums.as_slice()[i] + (x.to - x.from) {
             return Some(LogKind::Over);
         }
-        if !self.is_free(t, x.inv) {
+        if !self.are_done(feeders.row(x.inv)) {
             return Some(LogKind::Before);
         }
         None
@@ -191,15 +185,16 @@ impl Ledger {
     }
 
     // Judges the next line.
-    fn judge(&mut self, t: &Tables, now: Time, x: Slice)
+    fn judge(&mut self, t: &Tables, feeders: &Feeders, now: Time, x: Slice)
         requires inv { x.inv < length t.now.invs }
+        requires feeders { feeders.now ≡ all_feeders t.now }
         requires rows { length self.old.roster.stands ≡ length t.now.invs }
         requires few { length t.now.invs ≤ 65536 }
         requires at { now ≤ 1000000001 }
         requires place { self.old.place < 2 ^ 64 - 1 }
         ensures { self.new ≡ judged t.now now x self.old }
     {
-        match self.kind_of(t, now, x) {
+        match self.kind_of(t, feeders, now, x) {
             Some(kind) => {
                 self.fault = Some(LogFault {
                     line: self.place as u64 + 1,
@@ -210,8 +205,9 @@ impl Ledger {
         }
     }
 
-    /// Judges the lines that end before instant `now`, up to the first fault.
-    pub fn judge_to(&mut self, t: &Tables, now: Time, log: &[Slice])
+    /// Judges the lines that end before instant `now`, up to the first fault. A line looks at its own job and at those that feed it.
+    pub fn judge_to(&mut self, t: &Tables, feeders: &Feeders, now: Time, log: &[Slice])
+        requires feeders { feeders.now ≡ all_feeders t.now }
         requires lines { All (λ x. x.inv < length t.now.invs) log.now }
         requires rows { length self.old.roster.stands ≡ length t.now.invs }
         requires few { length t.now.invs ≤ 65536 }
@@ -223,7 +219,7 @@ impl Ledger {
             if self.fault.is_some() || now <= log[n].to {
                 return;
             }
-            self.judge(t, now, log[n]);
+            self.judge(t, feeders, now, log[n]);
         }
     }
 
@@ -255,15 +251,47 @@ impl Ledger {
         false
     }
 
-    /// Notes whether a job fell short whose window ended before instant `now`.
-    pub fn settle(&mut self, t: &Tables, now: Time)
+    /// Where the window ends of the invocation's job, if it has one, in ticks; the greatest instant where that is behind it.
+    pub fn window_end(&self, t: &Tables, inv: u16) -> Time
+        requires inv { inv < length t.now.invs }
+        requires rows { length self.now.roster.stands ≡ length t.now.invs }
+        ensures { result ≡ min (start_at self.now.roster inv + end_at t.now inv) (2 ^ 64 - 1) }
+    {
+        self.starts.as_slice()[inv as usize].saturating_add(t.window(inv).end)
+    }
+
+    // The first end from instant `now` on of a window of a job, or an instant before it.
+    fn next_due(&self, t: &Tables, now: Time) -> Time
+        requires rows { length self.now.roster.stands ≡ length t.now.invs }
+        requires few { length t.now.invs ≤ 65536 }
+        ensures { (i : ℕ) → has_job self.now.roster i ≡ true → (start_at self.now.roster i + end_at t.now i < now) ⊎ (result ≤ start_at self.now.roster i + end_at t.now i) }
+    {
+        let stands = self.stands.as_slice();
+        let mut due = Time::MAX;
+        for n in 0..stands.len() {
+            if stands[n] {
+                let end = self.window_end(t, n as u16);
+                if now <= end {
+                    due = due.min(end);
+                }
+            }
+        }
+        due
+    }
+
+    /// Notes whether a job fell short whose window ended before instant `now`, and answers from when on there may be another. One pass
+    /// over the invocations.
+    pub fn settle(&mut self, t: &Tables, now: Time) -> Time
         requires rows { length self.old.roster.stands ≡ length t.now.invs }
         requires few { length t.now.invs ≤ 65536 }
-        ensures { self.new ≡ settled t.now now self.old }
+        ensures settled { self.new ≡ settled t.now now self.old }
+        ensures due { AreDue t.now result self.new }
     {
+        let due = self.next_due(t, now);
         if self.any_fell_short(t, now) {
             self.short = true;
         }
+        due
     }
 
     // A round of the invocation begins at `at`, in which a job takes so long.

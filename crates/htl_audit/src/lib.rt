@@ -2,6 +2,7 @@
 #![tactic(auto)]
 
 mod auditor;
+mod feeders;
 pub mod laws;
 mod ledger;
 mod log;

@@ -1,9 +1,8 @@
--- The last whole period at an instant, and at the next one.
-use Rattle.std.proofs.Common.{◌≡◌, ◌≢◌, ℕ, suc, ◌+◌, ◌*◌, ◌/◌, ◌%◌, ◌<◌, sym, ap, ◌∙◌, arith, ◌⊎◌, inl, inr}
+-- An instant begins a round of a period, or goes on with that of the instant before.
+use Rattle.std.proofs.Common.{◌≡◌, ◌≢◌, ℕ, suc, ◌+◌, ◌*◌, ◌/◌, ◌%◌, ◌<◌, ◌⊎◌, sym, ap, ◌∙◌, arith, inl, inr}
 use Rattle.std.proofs.Math.Nat.{div-add-mod, mod-lt, add-mul-div_left, div-eq_of_lt, mul-div_cancel_left}
 use Rattle.htl_machine.proofs.Plain.{apart}
 
--- rounds of a period, one after the other
 pub goes_on : (p n : ℕ) → 0 < p → suc n ≢ p * (n / p) + p → p * (suc n / p) ≡ p * (n / p)
 goes_on p n h d =
     let whole : p * (n / p) + n % p ≡ n = div-add-mod n p in

@@ -51,7 +51,7 @@ use Rattle.htl_machine.proofs.ListValues.{take_front}
 use Rattle.htl_machine.proofs.Plain.{apart, down}
 use Rattle.htl_machine.proofs.RunFrames.{feasible_runs}
 use Rattle.htl_machine.proofs.Standing.{none_some, some_same}
-use Rattle.htl_machine.proofs.Periods.{begins_or_not, goes_on}
+use Rattle.htl_machine.proofs.Periods.{goes_on, begins_or_not}
 
 -- the records of list j among those of its frame
 split_at : (ws : List (List Left)) (j : ℕ) (x : List Left) → slice_get ws j ≡ Some x → (rest : List Left) × (end_to_end ws ≡ (end_to_end (take j ws) ++ x) ++ rest)

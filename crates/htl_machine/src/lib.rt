@@ -23,4 +23,5 @@ mod timing;
 mod works;
 
 pub use machine::{Machine, Totals};
+pub use numbering::ListAt;
 pub use tally::Tally;

@@ -1,4 +1,4 @@
-use Rattle.std.proofs.Common.{map, take, ap, subst, arith}
+use Rattle.std.proofs.Common.{map, subst, arith}
 use Rattle.std.proofs.lemmas.List.{take_all}
 use Rattle.htl_model.specs.Frames.{unit_period}
 use Rattle.htl_audit.specs.Auditing.{IsNextIn}

@@ -1,6 +1,6 @@
 use Rattle.std.proofs.Common.{◌≤◌, All, sym, subst}
 use Rattle.htl_model.specs.Frames.{unit_period}
-use Rattle.htl_audit.proofs.NextStarts.{periods_within}
+use Rattle.htl_audit.proofs.Rounds.{periods_within}
 use Rattle.htl_audit.proofs.starts.next_start.Goals as goal
 
 pub next_of-requires-clause-periods : goal.next_of-requires-clause-periods
