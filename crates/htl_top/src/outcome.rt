@@ -37,7 +37,7 @@ pub enum Outcome {
     IllFormed(FormFault),
     /// A path through a frame of the source is overloaded: no schedules whatever keep its deadlines.
     Unschedulable {
-        /// The number of the first such path: while all root modules have one period, of the root selection.
+        /// The number of the first such path: where all root modules have one period, that of the root selection.
         selection: u32,
         /// The overloaded interval, in ticks from the start of the frame.
         from: Time,
