@@ -1,5 +1,5 @@
 -- A machine that follows events follows one event more.
-use Rattle.std.proofs.Common.{◌≡◌, ℕ, zero, suc, ◌+◌, ◌≤◌, ◌<◌, Bool, true, false, cond, ◌&&◌, eqb, leb, List, [], ◌∷◌, ◌++◌, length, get_or, slice_get, set, map, Option, Some, None, IfSome, ℤ, pos, refl, sym, ap, ap₂, ◌∙◌, subst, arith}
+use Rattle.std.proofs.Common.{◌≡◌, ℕ, zero, suc, ◌≤◌, ◌<◌, Bool, true, false, cond, ◌&&◌, eqb, leb, List, [], ◌∷◌, ◌++◌, length, get_or, slice_get, set, Option, Some, None, IfSome, ℤ, pos, refl, sym, ap, ◌∙◌, subst, arith}
 use mathlib.Core.Path.{fun_ext}
 use Rattle.std.proofs.lemmas.Bool.{eqb-true, eqb-false, le-leb}
 use Rattle.std.proofs.lemmas.Bool.Decides.{nat_tests}
@@ -8,14 +8,11 @@ use Rattle.htl_model.specs.declared.event.Event.{Event}
 use Rattle.htl_model.specs.declared.event.Event.TheVariants as V
 use Rattle.htl_model.specs.declared.parts.Comm.{Comm}
 use Rattle.htl_model.specs.declared.parts.Inv.{Inv}
-use Rattle.htl_model.specs.declared.state.State.{State}
 use Rattle.htl_model.specs.Ranges.{FitsType}
 use Rattle.htl_model.specs.Frames.{hyper}
 use Rattle.htl_model.specs.Tables.{Tables}
 use Rattle.htl_model.specs.Meaning.{sense, before}
-use Rattle.htl_walk.specs.declared.job.Job.{Job}
 use Rattle.htl_walk.specs.declared.schedule.SInstr.{SInstr}
-use Rattle.htl_walk.specs.Jobs.{jobs_of}
 use Rattle.htl_smach.specs.Rounds.{Round}
 use Rattle.htl_emach.specs.Contents.{Content}
 use Rattle.htl_machine.specs.Values.{Stands, HasRead, ValuesFollow, HasPlaces}
@@ -27,7 +24,7 @@ use Rattle.htl_machine.specs.RunLists.{turn_by, turn_at}
 use Rattle.htl_machine.proofs.Shaping.{has_places}
 use Rattle.htl_machine.proofs.ListValues.{read_before, values_carried}
 use Rattle.htl_machine.proofs.LoadedLists.{loaded_run, loaded_turns}
-use Rattle.htl_machine.proofs.Events.{Alike, state_same, values_alike, reading_more, sense_at, sense_sense, took_at, took_sense}
+use Rattle.htl_machine.proofs.Events.{Alike, values_alike, reading_more, sense_at, sense_sense, took_at, took_sense}
 use Rattle.htl_machine.proofs.RunsAgree.{list_same}
 
 pub within_more : (t : Tables) (es : List Event) (e : Event) → AreTookWithin t es → IsTookWithin t e → AreTookWithin t (es ++ e ∷ [])

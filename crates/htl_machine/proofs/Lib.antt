@@ -101,6 +101,7 @@ pub mod Ready
 pub mod NodesBelow
 pub mod ToBegin
 pub mod Followed
+pub mod NextStands
 pub mod After
 pub mod Idle
 pub mod Quiet
