@@ -1,5 +1,5 @@
 -- What has no fault but want of memory, and that there is one fault at most.
-use Rattle.std.proofs.Common.{◌≡◌, ◌<◌, ◌≤◌, ◌⊎◌, ℕ, List, refl, sym, ◌∙◌, ap, subst, arith, pos, inl, inr}
+use Rattle.std.proofs.Common.{◌≡◌, ◌<◌, ◌⊎◌, ℕ, List, refl, sym, ◌∙◌, ap, subst, arith, pos, inl, inr}
 use Rattle.htl_compile.proofs.SourceLaws.{tables_unique, typed_or_fault, fault_unique}
 use Rattle.htl_compile.proofs.SourceTables.{source_tables_fit}
 use Rattle.htl_compile.specs.Building.{IsBackFault, IsFirstOverload, HasBackFault, unbuilt_of}
@@ -13,8 +13,7 @@ use Rattle.htl_compile.specs.declared.source.FrontFault.TheVariants as front
 use Rattle.htl_edf.proofs.Kept.{one_report}
 use Rattle.htl_edf.specs.Lists.{tightened}
 use Rattle.htl_edf.specs.Windows.{Reported}
-use Rattle.htl_model.specs.Broken.{KeptTo, IsFirstBroken, site_of}
-use Rattle.htl_model.specs.Ranges.{AreInRange}
+use Rattle.htl_model.specs.Broken.{site_of}
 use Rattle.htl_model.specs.Tables.{Tables}
 use Rattle.htl_model.specs.declared.form_fault.FormFault.{FormFault}
 use Rattle.htl_refine.proofs.OneFault.{formed, one_first_broken}

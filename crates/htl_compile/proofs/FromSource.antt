@@ -1,5 +1,5 @@
 -- From what the tables with code say to what their source says.
-use Rattle.std.proofs.Common.{◌≡◌, ◌≤◌, List, ℕ, length, Option, None, Result, Ok, Err, IfOk, IfErr, OnOk, refl, sym, ◌∙◌, ap, subst}
+use Rattle.std.proofs.Common.{◌≡◌, ◌≤◌, List, ℕ, length, Option, None, Result, Ok, Err, IfOk, IfErr, refl, sym, ◌∙◌, ap, subst}
 use Rattle.htl_compile.proofs.CodedLaws.{first_coded}
 use Rattle.htl_compile.proofs.PlanLaws.{overload_same, free_same}
 use Rattle.htl_compile.specs.Building.{IsBackFault, HasBackFault, IsCompileFault, IsCompiledTo, IsObjectOf, IsUnbuilt, unbuilt_of, unread_of}
@@ -12,7 +12,7 @@ use Rattle.htl_compile.specs.declared.compiling.CompileFault.{CompileFault}
 use Rattle.htl_compile.specs.declared.source.FrontFault.{FrontFault}
 use Rattle.htl_compile.specs.declared.source.FrontFault.TheVariants as front
 use Rattle.htl_model.proofs.SameRules.{formed_same}
-use Rattle.htl_model.specs.Broken.{Formed, KeptTo}
+use Rattle.htl_model.specs.Broken.{Formed}
 use Rattle.htl_model.specs.Tables.{Tables}
 use Rattle.htl_object.specs.Objects.{IsObject, object_bytes}
 use Rattle.htl_object.specs.declared.object.Object.{Object}

@@ -15,3 +15,5 @@ pub mod SamePaths
 pub mod SourceLaws
 pub mod SourceTables
 pub mod TokenPlaces
+pub mod NameTokens
+pub mod PlacedFunctions
