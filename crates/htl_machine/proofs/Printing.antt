@@ -129,17 +129,6 @@ all_given p s m d at r code same past few was e = elim (order m (due_by p s at) 
 
 -- ---- the loop
 
-pub printing_start : (t : Tables) (show : Shown) (sel : ℕ) (r : Round) (code : List SInstr) (at : ℕ) (w : Option (List ℕ)) (f : ℕ) (n : Tally) → IsPrinting t show sel r r code at w w f f n n
-printing_start t show sel r code at w f n =
-    record {
-      kept = refl;
-      text = λ p s k d same past few was. append_known-start w ∙ ap (λ m. append_known w (joined (record_text t show p sel) (some_records p s k m))) (none k was.place);
-      count = λ p s k d same past few was. ap (λ m. with_records (some_records p s k m) n) (none k was.place);
-    }
-  where
-    none : (k : ℕ) → r.place ≡ k → 0 ≡ r.place - k
-    none k e = omega (arith, e)
-
 -- the text of a record, by the plan
 line_is : (t : Tables) (show : Shown) (sel : ℕ) (p : Plan) (jobs : List Job) (code : List SInstr) (l : Left) → p.schedule ≡ code → p.jobs ≡ jobs → record_lines t show jobs code sel l ≡ record_text t show p sel l
 line_is t show sel p jobs code l same are = ap₂ (λ js c. record_lines t show js c sel l) (sym are) (sym same)

@@ -151,9 +151,6 @@ answer_job t r jobs code at l all are st e fin = by_position l.position refl
         let a = all p (job_at jobs p) there (ap (λ (z : Job). z.present) (sym is) ∙ j.1) in
         (slice_get_within jobs p (job_at jobs p) there, a.0, a.1)
 
-pub inv_is : (jobs : List Job) (p : ℕ) (j : Job) → slice_get jobs p ≡ Some j → j.inv ≡ (job_at jobs p).inv
-inv_is jobs p j e = ap (λ (z : Job). z.inv) (sym (job_is jobs p j e))
-
 -- what a done job puts out, by its position
 pub put_is : (t : Tables) (jobs : List Job) (fin : Bool) (o : Option ℕ) (p i : ℕ) (w v : Content) → AreInRange t → KeptApart t 12 → fin ≡ true → o ≡ Some p → i ≡ (job_at jobs p).inv → (fin ≡ true → IfSome o (IsJobOf t jobs))
     → v ≡ completed t i w → v ≡ cond fin (complete_at t jobs o w) w
