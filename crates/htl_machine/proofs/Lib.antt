@@ -56,6 +56,7 @@ pub mod Retelling
 pub mod Showing
 pub mod Advancing
 pub mod Releasing
+pub mod InstantGiven
 pub mod Instants
 pub mod Meeting
 pub mod Waking

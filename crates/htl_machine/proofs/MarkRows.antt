@@ -29,12 +29,6 @@ found_at row from low one less =
     let back : from + low - from ≡ low = omega arith in
     ap (has_bit row) is ∙ ap (λ b. eqb b 1) (shifted row from (from + low) 1 (omega arith) (ap (bit_at (row / 2 ^ from)) back ∙ one))
 
-pub with_more : (a b : Bool) → (a || b) ≡ cond b true a
-with_more true true = refl
-with_more true false = refl
-with_more false true = refl
-with_more false false = refl
-
 -- ---- all rows
 
 pub skipped_row : (m : Marks) (row bit next from : ℕ) → ((k : ℕ) → from ≤ k → k < row * 128 + bit → is_marked m k ≡ false)
