@@ -1,22 +1,17 @@
 -- The loop that leaves the records of an instant.
-use Rattle.std.proofs.Common.{◌≡◌, ℕ, suc, ◌-◌, ◌≤◌, ◌<◌, Bool, true, false, cond, eqb, is_some, List, length, get_or, slice_get, Option, Some, None, refl, sym, ap, ◌∙◌, subst, arith, ◌⊎◌, inl, inr}
+use Rattle.std.proofs.Common.{◌≡◌, ℕ, ◌≤◌, Bool, true, false, cond, eqb, List, get_or, slice_get, Some, None, refl, sym, ap, ◌∙◌, arith}
 use Rattle.std.proofs.lemmas.Bool.Decides.{nat_tests}
 use Rattle.htl_walk.specs.declared.schedule.SInstr.{SInstr}
 use Rattle.htl_walk.specs.Walk.{Point, next_point}
 use Rattle.htl_walk.proofs.Steps.{left_falls}
 use Rattle.htl_smach.specs.declared.left.Left.{Left}
 use Rattle.htl_smach.specs.declared.state.PosState.TheVariants.{Pending}
-use Rattle.htl_smach.specs.Rounds.{Round, Stands, IsInForm, IsTold, state_of, next_left, moved, after, records, left_until, told}
-use Rattle.htl_smach.specs.Rounds as rounds
+use Rattle.htl_smach.specs.Rounds.{Round, Stands, state_of, next_left, moved, records, left_until}
 use Rattle.std.proofs.lemmas.Option.{slice_get_within}
 use Rattle.htl_machine.proofs.Distinct.{there}
 use Rattle.htl_smach.proofs.Telling.{pending_is, is_pending, next_point_is, length-told}
 use Rattle.htl_smach.proofs.Answering.{answer_is}
-use Rattle.htl_refine.specs.ListPlans.{ListPlan as Plan}
-use Rattle.htl_machine.specs.Follows.{DeskAt}
-use Rattle.htl_machine.specs.Leaving.{due_by, Leaves, IsLeaving}
-use Rattle.htl_machine.proofs.Standing.{none_some}
-use Rattle.htl_machine.proofs.Desking.{next_some, next_none, moves_on}
+use Rattle.htl_refine.proofs.RecordOrder.{not_some}
 
 -- ---- one record more
 
@@ -36,7 +31,7 @@ is_running r code at l e = by_test r.running refl e
   where
     by_test : (b : Bool) → r.running ≡ b → cond b (left_until at (slice_get (records r code) r.place)) None ≡ Some l → r.running ≡ true
     by_test true f g = f
-    by_test false f g = none_some l g
+    by_test false f g = not_some l g
 
 -- an instruction stands where one was left
 pub instr_there : (r : Round) (code : List SInstr) (at : ℕ) (l : Left) → next_left r code at ≡ Some l → (i : SInstr) × (slice_get code r.place ≡ Some i)

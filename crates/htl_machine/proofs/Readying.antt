@@ -1,27 +1,14 @@
 -- The read phase goes on by one instruction, and what it releases is told.
-use Rattle.std.proofs.Common.{◌≡◌, ℕ, List, [], ◌∷◌, ◌++◌, slice_get, Option, Some, None, refl, sym, ap, ◌∙◌}
-use Rattle.std.proofs.lemmas.List.{append-nil}
-use Rattle.htl_model.specs.declared.event.Event.{Event}
-use Rattle.htl_model.specs.Tables.{Tables}
-use Rattle.htl_walk.specs.declared.job.Job.{Job}
-use Rattle.htl_walk.specs.declared.schedule.SInstr.{SInstr}
+use Rattle.std.proofs.Common.{◌≡◌, ℕ, List, [], ◌∷◌, ◌++◌, slice_get, Option, Some, None, refl, ap, ◌∙◌}
 use Rattle.htl_smach.specs.declared.state.PosState.{PosState}
 use Rattle.htl_smach.specs.declared.state.PosState.TheVariants.{Absent, Pending, Ready, Done as Finished}
-use Rattle.htl_smach.specs.Rounds as rounds
 use Rattle.htl_smach.specs.Rounds.{Round, state_of}
 use Rattle.htl_ecode.specs.declared.ecode.ECode.{ECode}
 use Rattle.htl_ecode.specs.declared.instr.EInstr.{EInstr}
 use Rattle.htl_ecode.specs.declared.instr.EInstr.TheVariants as I
 use Rattle.htl_ecode.specs.Paths.{Done}
-use Rattle.htl_emach.specs.declared.trigger.EDone.{EDone}
-use Rattle.htl_emach.specs.Contents.{Content}
-use Rattle.htl_emach.specs.Shapes.{IsShaped}
-use Rattle.htl_emach.specs.Calendars.{Standing, content_after}
-use Rattle.htl_emach.specs.Safety.{StandsSafely}
-use Rattle.htl_emach.specs.Following.{Midway, Onward, phase_path, done_of}
-use Rattle.htl_machine.proofs.Going.{running_on, running_done}
 use Rattle.htl_machine.specs.Turns.{position_from}
-use Rattle.htl_machine.specs.Readiness.{made_ready, released_to, desk_does, desk_at, desk_replay, IsReadying}
+use Rattle.htl_machine.specs.Readiness.{made_ready, released_to, desk_does, desk_at, desk_replay}
 
 -- but for flags the round stays
 ready_only : (s : PosState) (r : Round) (p : ℕ) → made_ready s r p ≡ record r { released = (made_ready s r p).released }
