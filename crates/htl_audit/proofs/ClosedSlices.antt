@@ -12,10 +12,10 @@ use Rattle.htl_refine.specs.Records.{shifted}
 use Rattle.htl_refine.specs.ServedJobs.{spent}
 use Rattle.htl_refine.specs.RecordCounts.{count_before, Rises}
 use Rattle.htl_refine.proofs.DoneRecords.{done_some}
-use Rattle.htl_refine.proofs.RecordOrder.{walk_rises}
+use Rattle.htl_refine.proofs.RecordOrder.{walk_rises, not_some}
 use Rattle.htl_refine.proofs.SliceOrder.{slice_inside}
 use Rattle.htl_refine.proofs.SliceSums.{spent_is}
-use Rattle.htl_machine.proofs.Standing.{some_same, none_some}
+use Rattle.htl_walk.proofs.Finishes.{some_same}
 use Rattle.htl_machine.proofs.Turning.{done_exactly}
 use Rattle.htl_audit.specs.declared.slice.Slice.{Slice}
 use Rattle.htl_audit.specs.Own.{own_slice}
@@ -26,29 +26,29 @@ room_after : (now w r until : ℕ) → begins now r until < until → begins now
 room_after now w r until h = omega (arith, h)
 
 pub slice_room : (jobs : List Job) (i : SInstr) (x : Point) (u : ℕ × ℕ) → slice_of jobs i x (next_point jobs i x).time ≡ Some u → u.0 < u.1
-slice_room jobs (Idle h) x u e = none_some u e
-slice_room jobs End x u e = none_some u e
+slice_room jobs (Idle h) x u e = not_some u e
+slice_room jobs End x u e = not_some u e
 slice_room jobs (Dispatch p h) x u e = by_work (get_or x.left p 0) e
   where
     by_work : (w : ℕ) → slice_between (begins x.time (job_at jobs p).release h) h w (time_after x.time w (job_at jobs p).release h) ≡ Some u → u.0 < u.1
-    by_work zero e = none_some u e
+    by_work zero e = not_some u e
     by_work (suc w) e = by_room (ltb (begins x.time (job_at jobs p).release h) h) refl e
       where
         by_room : (b : Bool) → ltb (begins x.time (job_at jobs p).release h) h ≡ b
             → ◌≡◌ {A = Option (ℕ × ℕ)} (elim b [ true ↦ Some (begins x.time (job_at jobs p).release h, time_after x.time (suc w) (job_at jobs p).release h) | false ↦ None ]) (Some u) → u.0 < u.1
-        by_room false is e = none_some u e
+        by_room false is e = not_some u e
         by_room true is e =
             let same : ◌≡◌ {A = ℕ × ℕ} (begins x.time (job_at jobs p).release h, time_after x.time (suc w) (job_at jobs p).release h) u = some_same _ _ e in
             omega (arith, room_after x.time w (job_at jobs p).release h (ltb-true (begins x.time (job_at jobs p).release h) h is), ap (λ (z : ℕ × ℕ). z.0) same, ap (λ (z : ℕ × ℕ). z.1) same)
 
 -- and are of a position with work
 slice_works : (jobs : List Job) (i : SInstr) (x : Point) (u : ℕ × ℕ) → slice_of jobs i x (next_point jobs i x).time ≡ Some u → (p : ℕ) × (position_of i ≡ Some p) × (0 < get_or x.left p 0)
-slice_works jobs (Idle h) x u e = none_some u e
-slice_works jobs End x u e = none_some u e
+slice_works jobs (Idle h) x u e = not_some u e
+slice_works jobs End x u e = not_some u e
 slice_works jobs (Dispatch p h) x u e = (p, refl, by_work (get_or x.left p 0) refl e)
   where
     by_work : (w : ℕ) → get_or x.left p 0 ≡ w → slice_between (begins x.time (job_at jobs p).release h) h w (next_point jobs (Dispatch p h) x).time ≡ Some u → 0 < get_or x.left p 0
-    by_work zero is e = none_some u e
+    by_work zero is e = not_some u e
     by_work (suc w) is e = omega (arith, is)
 
 -- a record with a slice: it ends with the record, and is of a position that has work at the start
@@ -61,7 +61,7 @@ pub record Runs (P : ℕ → Type 0) (l : Left) (u : ℕ × ℕ) : Type 0 where
 
 pub runs_at : (jobs : List Job) (is : List SInstr) (x : Point) (P : ℕ → Type 0) → ((p : ℕ) → 0 < get_or x.left p 0 → P p)
     → (k : ℕ) (l : Left) (u : ℕ × ℕ) → slice_get (walk_from jobs is x) k ≡ Some l → l.slice ≡ Some u → Runs P l u
-runs_at jobs [] x P some k l u at has = none_some l at
+runs_at jobs [] x P some k l u at has = not_some l at
 runs_at jobs (i ∷ is) x P some (suc k) l u at has =
     runs_at jobs is (next_point jobs i x) P (λ p more. some p (omega (arith, more, left_falls jobs i x p))) k l u at has
 runs_at jobs (i ∷ is) x P some zero l u at has =
@@ -165,7 +165,7 @@ pub record IsClosed (jobs : List Job) (s now : ℕ) (ls : List Left) (x : Slice)
   pub is : record { from = s + slice.0; to = s + slice.1; inv = (job_at jobs position).inv } ≡ x
 
 pub closed_from : (jobs : List Job) (s now : ℕ) (ls : List Left) (i : ℕ) (x : Slice) → slice_get (closed jobs s now ls) i ≡ Some x → IsClosed jobs s now ls x
-closed_from jobs s now [] i x at = none_some x at
+closed_from jobs s now [] i x at = not_some x at
 closed_from jobs s now (l ∷ ls) i x at = by (eqb (s + l.at) now) refl l.position l.slice refl refl i at (λ j e. later (closed_from jobs s now ls j x e))
   where
     later : IsClosed jobs s now ls x → IsClosed jobs s now (l ∷ ls) x

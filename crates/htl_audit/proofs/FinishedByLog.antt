@@ -17,7 +17,8 @@ use Rattle.htl_emach.specs.Contents.{Content}
 use Rattle.htl_refine.specs.Records.{AreTookWithin}
 use Rattle.htl_machine.specs.Values.{Stands, IsDue, IsPast, HasRead, Ready, AreCarried, ValuesFollow}
 use Rattle.htl_machine.proofs.Casting.{reads_before_release, end_before_writes}
-use Rattle.htl_machine.proofs.Standing.{some_same, standing_at}
+use Rattle.htl_walk.proofs.Finishes.{some_same}
+use Rattle.htl_refine.proofs.Standing.{standing_at}
 use Rattle.htl_audit.specs.declared.slice.Slice.{Slice}
 use Rattle.htl_audit.specs.Computed.{ended, is_done_in, is_done_from, is_finished}
 use Rattle.htl_audit.specs.Growing.{HaveRounds}

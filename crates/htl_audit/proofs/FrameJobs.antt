@@ -45,7 +45,7 @@ use Rattle.htl_machine.specs.RunFrames.{now_of}
 use Rattle.htl_machine.specs.Values.{Stands}
 use Rattle.htl_machine.proofs.FramePlaced.{entry_is, there_front}
 use Rattle.htl_machine.proofs.RunFrames.{feasible_runs}
-use Rattle.htl_machine.proofs.Standing.{some_same}
+use Rattle.htl_walk.proofs.Finishes.{some_same}
 use Rattle.htl_audit.specs.Growing.{HaveRounds}
 use Rattle.htl_audit.specs.Jobs.{round_of}
 use Rattle.htl_audit.specs.Legal.{length_at}

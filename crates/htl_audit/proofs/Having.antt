@@ -5,15 +5,14 @@ use Rattle.std.specs.List.{filter, flat_map}
 use Rattle.std.proofs.lemmas.Bool.{eqb-true, eq-eqb}
 use Rattle.std.proofs.lemmas.Option.{slice_get_within}
 use Rattle.htl_form.proofs.PartLaws.{none_some}
-use Rattle.htl_form.proofs.Places.{item_at}
 use Rattle.htl_model.proofs.TestLaws.{equal, same_number}
 use Rattle.htl_model.specs.declared.parts.Inv.{Inv}
 use Rattle.htl_model.specs.declared.parts.Mode.{Mode}
 use Rattle.htl_model.specs.declared.parts.Module.{Module}
 use Rattle.htl_model.specs.Chosen.{StandsFor, itself, below, chosen}
 use Rattle.htl_model.specs.FrameRules.{KeptApart}
-use Rattle.htl_model.specs.Frames.{unit_start, unit_period}
-use Rattle.htl_model.specs.Ranges.{AreInRange, IsInvInRange, IsModeInRange}
+use Rattle.htl_model.specs.Frames.{unit_period}
+use Rattle.htl_model.specs.Ranges.{AreInRange, IsInvInRange}
 use Rattle.htl_model.specs.SecondWriters.{parent_mode}
 use Rattle.htl_model.specs.Selected.{entry, Runs, IsEntry, IsSelection}
 use Rattle.htl_model.specs.Selections.{is_root, root_modules, inv_of_mode, invs_of}
@@ -26,12 +25,10 @@ use Rattle.htl_refine.proofs.Exact.{chosen_exact_apart}
 use Rattle.htl_refine.proofs.Inherit.{mapped, map_at}
 use Rattle.htl_refine.proofs.Members.{front_at, back_at, of_flat, in_flat, of_places, at_place}
 use Rattle.htl_refine.proofs.OnePassLaws.{AreRising, places_rise, one_pass}
-use Rattle.htl_refine.proofs.OwnPeriods.{same_period}
-use Rattle.htl_refine.proofs.Positions.{root_is}
+use Rattle.htl_machine.proofs.RootModes.{unit_period_is, has_root}
 use Rattle.htl_machine.proofs.Tops.{climb, down}
 use Rattle.htl_audit.specs.Jobs.{beginning}
 use Rattle.htl_audit.proofs.Growing.{in_two}
-use Rattle.htl_audit.proofs.Rounds.{first_rules}
 
 -- ---- the items that pass a test
 
@@ -114,35 +111,6 @@ module _ (g : ℕ → List ℕ) (test : ℕ → Bool) where
 -- ---- the root modules
 
 module _ (t : Tables) (range : AreInRange t) (kept : KeptApart t 16) where
-  -- the mode of a root module has its period
-  unit_period_is : (u q : ℕ) (x : Module) → slice_get t.modules u ≡ Some x → q < length t.modes → mode_module t q ≡ u → mode_period t q ≡ unit_period t u
-  unit_period_is u q x at real own =
-      let start = (range.modules u x at).start in
-      let is : unit_start t u ≡ x.start = ap (λ (o : Option Module). elim o [ Some x ↦ x.start | None ↦ 0 ]) at in
-      let unit : mode_module t x.start ≡ u = ap (λ (o : Option Mode). elim o [ Some z ↦ z.«module» | None ↦ 0 ]) start.1 ∙ start.2 in
-      same_period t range (first_rules t kept) q x.start u real (slice_get_within t.modes x.start start.0 start.1) own unit ∙ ap (mode_period t) (sym is)
-
-  record HasRoot (q : ℕ) : Type 0 where
-    index : ℕ
-    at : slice_get (root_modules t) index ≡ Some (mode_module t q)
-    period : mode_period t q ≡ unit_period t (mode_module t q)
-
-  has_root : (q : ℕ) → q < length t.modes → parent_mode t q ≡ None → HasRoot q
-  has_root q real root = by (item_at t.modes q real).0 (item_at t.modes q real).1
-    where
-      by_module : (x : Module) → slice_get t.modules (mode_module t q) ≡ Some x → HasRoot q
-      by_module x at =
-          let parent : x.parent ≡ None = sym (ap (λ (o : Option Module). elim o [ Some z ↦ z.parent | None ↦ None ]) at) ∙ root in
-          let r = at_place is_root t.modules (mode_module t q) x at (root_is x parent) in
-          record { index = r.0; at = r.1; period = unit_period_is (mode_module t q) q x at real refl }
-
-      by : (x : Mode) → slice_get t.modes q ≡ Some x → HasRoot q
-      by x at =
-          let owner : x.«module» < length t.modules = (all_at (IsModeInRange t) t.modes range.modes q x at).owner in
-          let is : mode_module t q ≡ x.«module» = ap (λ (o : Option Mode). elim o [ Some z ↦ z.«module» | None ↦ 0 ]) at in
-          let u = item_at t.modules (mode_module t q) (omega (arith, owner, is)) in
-          by_module u.0 u.1
-
   -- ---- who has a job at an instant
 
   module _ (modes : List (Option ℕ)) (selection : IsSelection t modes) (s : ℕ) where
@@ -199,7 +167,7 @@ module _ (t : Tables) (range : AreInRange t) (kept : KeptApart t 16) where
         let inv_at : slice_get t.invs k ≡ Some kx.1 = ap (slice_get t.invs) (let z : k ≡ kx.0 = omega (arith, kx.2) in z) ∙ kx.3 in
         let mode : kx.1.mode ≡ run.0 = same_number kx.1.mode run.0 kx.4 in
         let is_of : mode_module t kx.1.mode ≡ u = ap (mode_module t) mode ∙ unit in
-        let period : mode_period t kx.1.mode ≡ unit_period t u = ap (mode_period t) mode ∙ unit_period_is u run.0 m.1 unit_at (slice_get_within t.modes run.0 mode_at.0 mode_at.1) unit in
+        let period : mode_period t kx.1.mode ≡ unit_period t u = ap (mode_period t) mode ∙ unit_period_is t range kept u run.0 m.1 unit_at (slice_get_within t.modes run.0 mode_at.0 mode_at.1) unit in
         record {
           inv = kx.1;
           unit = record { number = b.0; unit = u; at = b.1; whole = eqb-true (s % unit_period t u) 0 b.2 };
@@ -246,7 +214,7 @@ module _ (t : Tables) (range : AreInRange t) (kept : KeptApart t 16) where
         let top = climb t range kept modes selection (suc (mode_module t b.inv.mode)) c c (mode_period t b.inv.mode) b.inv (omega arith) b.known b.runs (itself c b.inv b.known b.concrete) refl in
         let q = top.inv.mode in
         let real : q < length t.modes = (all_at (IsInvInRange t) t.invs range.invs top.number top.inv top.at).owner in
-        let h = has_root q real top.root in
+        let h = has_root t range kept q real top.root in
         let u = mode_module t q in
         let whole : s % unit_period t u ≡ 0 = ap (λ z. s % z) (sym h.period ∙ top.period) ∙ b.whole in
         let begun = filter_in (λ v. eqb (s % unit_period t v) 0) (root_modules t) h.index u h.at (eq-eqb (s % unit_period t u) 0 whole) in

@@ -6,7 +6,7 @@ use Rattle.htl_model.specs.Meaning.{stay_of}
 use Rattle.htl_model.specs.Tables.{Tables, mode_module}
 use Rattle.htl_walk.specs.declared.job.Job.{Job}
 use Rattle.htl_machine.specs.Casts.{IsCast, IsJob}
-use Rattle.htl_machine.proofs.Standing.{some_same}
+use Rattle.htl_walk.proofs.Finishes.{some_same}
 
 pub one_position : (t : Tables) (stays : List (Option Stay)) (frame n : ℕ) (jobs : List Job) → IsCast t stays frame n jobs → (p q : ℕ) (j k : Job) → slice_get jobs p ≡ Some j → slice_get jobs q ≡ Some k
     → j.present ≡ true → k.present ≡ true → j.inv ≡ k.inv → n < frame + j.end → n < frame + k.end → p ≡ q

@@ -19,7 +19,7 @@ use Rattle.htl_machine.specs.JobLines.RunLine.{SliceLine, DoneLine, InstrLine, C
 use Rattle.htl_machine.specs.Programs.{schedules_of, text_of}
 use Rattle.htl_machine.specs.Texts.{inv_at}
 use Rattle.htl_machine.proofs.JobLines.{begins_silent, run_shows, jobs_are_found}
-use Rattle.htl_machine.proofs.Standing.{none_some}
+use Rattle.htl_refine.proofs.RecordOrder.{not_some}
 use Rattle.htl_audit.specs.declared.slice.Slice.{Slice}
 use Rattle.htl_audit.specs.Own.{own_slice, own_of, own_at, own_log, line_slice, begins_as_slice, slice_text, OwnLogIsPrinted, OwnLogIsFound}
 use Rattle.htl_audit.proofs.ClosedSlices.{runs_at, mine, onto, closed, told, at_now, closed_is}
@@ -52,7 +52,7 @@ record_lines jobs s k l has rest = by l.position l.slice l.finished has
         → all_some line_slice (slice_of (inv_at jobs o) (option_map (λ (u : ℕ × ℕ). (s + u.0, s + u.1)) sl) ++ cond b (DoneLine (s + l.at) (inv_at jobs o) ∷ []) []) ++ rest ≡ onto (mine jobs s o sl) rest
     by None None true has = refl
     by None None false has = refl
-    by None (Some u) b has = none_some (has u refl).0 (has u refl).1
+    by None (Some u) b has = not_some (has u refl).0 (has u refl).1
     by (Some p) None true has = refl
     by (Some p) None false has = refl
     by (Some p) (Some u) true has = refl

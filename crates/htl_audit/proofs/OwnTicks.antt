@@ -8,7 +8,8 @@ use Rattle.htl_walk.specs.Walk.{Left, job_at, walk, first_point, is_position, sl
 use Rattle.htl_walk.proofs.Work.{job_is, job_there, work_some, work_present}
 use Rattle.htl_refine.proofs.SliceOrder.{slices_apart}
 use Rattle.htl_refine.proofs.SliceSums.{spent_is}
-use Rattle.htl_machine.proofs.Standing.{some_same, none_some}
+use Rattle.htl_walk.proofs.Finishes.{some_same}
+use Rattle.htl_refine.proofs.RecordOrder.{not_some}
 use Rattle.htl_audit.specs.declared.slice.Slice.{Slice}
 use Rattle.htl_audit.specs.Jobs.{Round}
 use Rattle.htl_audit.specs.Legal.{lies_in, ticks}
@@ -43,7 +44,7 @@ no_ticks r j (x ∷ xs) out = by (lies_in r j x) refl (no_ticks r j xs (λ i y a
 
 -- a slice of the position is one of those that lie within
 within_at : (a b q : ℕ) (ls : List Left) (k : ℕ) (l : Left) (u : ℕ × ℕ) → AllWithin a b (slices ls q) → slice_get ls k ≡ Some l → l.position ≡ Some q → l.slice ≡ Some u → (a ≤ u.0) × (u.1 ≤ b)
-within_at a b q [] k l u all at of runs = none_some l at
+within_at a b q [] k l u all at of runs = not_some l at
 within_at a b q (m ∷ ls) zero l u all at of runs =
     let same = some_same _ _ at in
     let first : cond (is_position m.position q) (slice_onto m.slice (slices ls q)) (slices ls q) ≡ u ∷ slices ls q =
@@ -69,7 +70,7 @@ record HasFirst (ls : List Left) (p k : ℕ) : Type 0 where
   early : number ≤ k
 
 first_of : (ls : List Left) (p k : ℕ) (l : Left) (u : ℕ × ℕ) → slice_get ls k ≡ Some l → l.position ≡ Some p → l.slice ≡ Some u → HasFirst ls p k
-first_of [] p k l u at of runs = none_some l at
+first_of [] p k l u at of runs = not_some l at
 first_of (m ∷ ls) p zero l u at of runs =
     let same = some_same _ _ at in
     record {

@@ -17,7 +17,7 @@ use Rattle.htl_refine.proofs.Kept.{kept_apart}
 use Rattle.htl_refine.proofs.OneFault.{kept_all}
 use Rattle.htl_walk.proofs.PathReady.{window_small}
 use Rattle.htl_walk.proofs.Work.{all_at}
-use Rattle.htl_machine.proofs.Windows.{window_within}
+use Rattle.htl_walk.proofs.PathReady.{window_within}
 use Rattle.htl_audit.specs.Growing.{HaveRounds}
 
 -- ---- periods

@@ -33,7 +33,8 @@ use Rattle.htl_machine.proofs.Outs.{writer_is, writer_stands}
 use Rattle.htl_machine.proofs.Owing.{in_order}
 use Rattle.htl_machine.proofs.Placing.{fed}
 use Rattle.htl_machine.proofs.RunFrames.{feasible_runs}
-use Rattle.htl_machine.proofs.Standing.{some_same, standing_at}
+use Rattle.htl_walk.proofs.Finishes.{some_same}
+use Rattle.htl_refine.proofs.Standing.{standing_at}
 use Rattle.htl_audit.specs.Growing.{HaveRounds}
 use Rattle.htl_audit.specs.Jobs.{Round, round_of, starts_before, all_rounds}
 use Rattle.htl_audit.specs.Legal.{length_at}

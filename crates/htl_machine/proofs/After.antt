@@ -58,7 +58,7 @@ use Rattle.htl_machine.proofs.Following.{instant_values}
 use Rattle.htl_machine.proofs.Meeting.{next_is, switch_values}
 use Rattle.htl_machine.proofs.LoadedLists.{loaded_code}
 use Rattle.htl_machine.proofs.Showing.{sensors_are}
-use Rattle.htl_machine.proofs.Standing.{all_at}
+use Rattle.htl_walk.proofs.Work.{all_at}
 use Rattle.htl_machine.proofs.TellingLoaded.{loaded_lines}
 use Rattle.htl_machine.proofs.Ready.{node_known}
 use Rattle.htl_machine.proofs.NextStands.{IsScheduleOf, owed_before, owed_are, beginning, going, going_desk, going_on, list_over, begun_desk, begun_goes}

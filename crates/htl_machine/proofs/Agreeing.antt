@@ -23,7 +23,7 @@ use Rattle.htl_machine.specs.Counts.{one_record, one_instr, with_records, with_i
 use Rattle.htl_machine.specs.Changing.{mode_change, value_changes, mode_changes, all_changes}
 use Rattle.htl_machine.specs.Doing.{path_lines}
 use Rattle.htl_machine.specs.Texts.{e_line}
-use Rattle.htl_machine.proofs.Standing.{standing_at}
+use Rattle.htl_refine.proofs.Standing.{standing_at}
 use Rattle.htl_machine.proofs.Printing.{joined-append}
 
 -- ---- modes

@@ -13,7 +13,7 @@ use Rattle.htl_machine.specs.Follows.{DeskAt}
 use Rattle.htl_machine.specs.ListTurns.{left_before}
 use Rattle.htl_machine.specs.Completing.{complete_at, complete_by, run_records}
 use Rattle.htl_machine.specs.RunLists.{no_turn, turn_by, turn_at}
-use Rattle.htl_machine.proofs.Standing.{none_some}
+use Rattle.htl_refine.proofs.RecordOrder.{not_some}
 use Rattle.htl_machine.proofs.Premises.{no_list}
 
 -- records that finish nothing change nothing
@@ -52,4 +52,4 @@ pub records_nothing : (t : Tables) (schedules : List (List SInstr)) (es : List E
 records_nothing t schedules es none zero w = refl
 records_nothing t schedules es none (suc n) w =
     ap (λ o. with_records t (turn_by o t schedules es) (suc n) w) none
-    ∙ run_nothing t [] [] (λ k l e. none_some l e) (left_before no_turn (suc (suc n)) - left_before no_turn (suc n)) (left_before no_turn (suc n)) w
+    ∙ run_nothing t [] [] (λ k l e. not_some l e) (left_before no_turn (suc (suc n)) - left_before no_turn (suc n)) (left_before no_turn (suc n)) w

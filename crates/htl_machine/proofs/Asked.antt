@@ -14,7 +14,8 @@ use Rattle.htl_ecode.specs.Offsets.{meets, counts, places_at, next_offset}
 use Rattle.htl_ecode.specs.Chains.{Want, Does, all_do, waits_for, release_of, releases, block_chain}
 use Rattle.htl_machine.specs.Worlds.{writes_at, reads_at, all_writes, all_reads}
 use Rattle.htl_machine.specs.Values.{IsMet, IsDue, IsRead}
-use Rattle.htl_machine.proofs.Standing.{IsStanding, some_same}
+use Rattle.htl_refine.proofs.Standing.{IsStanding}
+use Rattle.htl_walk.proofs.Finishes.{some_same}
 use Rattle.htl_machine.proofs.Plain.{split, both}
 
 abbrev pub In : {A : Type 0} → A → List A → Type 0

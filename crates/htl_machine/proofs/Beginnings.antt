@@ -6,6 +6,7 @@ use Rattle.htl_edge.proofs.Puts.{append_known-start, Puts-failed, Puts-second}
 use Rattle.htl_model.specs.declared.event.Event.{Event}
 use Rattle.htl_model.specs.Lists.{joined}
 use Rattle.htl_model.specs.FrameRules.{KeptApart}
+use Rattle.htl_model.specs.Ranges.{AreInRange}
 use Rattle.htl_model.specs.Tables.{Tables}
 use Rattle.htl_walk.specs.declared.job.Job.{Job}
 use Rattle.htl_walk.specs.declared.schedule.SInstr.{SInstr}
@@ -15,8 +16,10 @@ use Rattle.htl_walk.specs.Walk.{Point, Left, job_at, time_after, work_after, nex
 use Rattle.htl_walk.proofs.Steps.{left_same}
 use Rattle.htl_smach.specs.Rounds.{Round, Stands, begun}
 use Rattle.htl_ecode.specs.declared.ecode.ECode.{ECode}
+use Rattle.htl_emach.specs.Calendars.{Calendar}
 use Rattle.htl_emach.specs.Contents.{Content}
 use Rattle.htl_emach.specs.Following.{phase_path}
+use Rattle.htl_emach.specs.Pending.{Between}
 use Rattle.htl_refine.specs.ListPlans.{ListPlan as Plan, list_walk}
 use Rattle.htl_refine.specs.RecordCounts.{count_before}
 use Rattle.htl_refine.specs.Records.{modes_at}
@@ -40,7 +43,9 @@ use Rattle.htl_machine.specs.StandingList.{instrs_by, node_by, turn_list, next_a
 use Rattle.htl_machine.specs.Starting.{instrs_of}
 use Rattle.htl_machine.specs.Texts.{record_text, some_records}
 use Rattle.htl_machine.proofs.Closings.{reads_second}
-use Rattle.htl_machine.proofs.Standing.{some_same, none_some}
+use Rattle.htl_machine.proofs.Modes.{modes_are}
+use Rattle.htl_walk.proofs.Finishes.{some_same}
+use Rattle.htl_refine.proofs.RecordOrder.{not_some}
 use Rattle.htl_machine.proofs.Turning.{before_count}
 
 -- the first rules are among all
@@ -89,6 +94,14 @@ module _ (t : Tables) (code : ECode) (ss : List Schedule) (es : List Event) (at 
               (h.told (subst (λ d. Stands d u.plan.schedule) is_told stands));
         }
 
+-- the same, of the calendar that the switches leave and of what the machines then say
+pub has_begun_so : (t : Tables) (code : ECode) (ss : List Schedule) (es : List Event) (at : ℕ) (takes : List ℕ) (last : Option ListAt) (r : Round) (c : Calendar) → AreInRange t → Between t code es at 2 c (length t.modules)
+    → IsToBegin t code (instrs_of ss) es at takes last r → (list : Option ListAt) → list ≡ Some (next_at t c.modes at last) → (idle steps : List SInstr) (switched first told : Round) → switched ≡ r
+    → first ≡ list_begun t c.modes takes at switched → told ≡ desk_replay code (phase_path t code es at 3) first → steps ≡ instrs_by ss idle list → ((s : List SInstr) → Stands first s → Stands told s)
+    → HasBegun t (instrs_of ss) es at list steps first told
+has_begun_so t code ss es at takes last r c range between h list is idle steps switched first told same begins after by keeps =
+    has_begun t code ss es at takes last r c.modes (modes_are t code es at c range between) h list is idle steps first told by (begins ∙ ap (list_begun t c.modes takes at) same) after keeps
+
 -- ---- its first records
 
 -- a job takes until behind the beginning of the list that finishes it
@@ -101,7 +114,7 @@ stays_behind now zero r until = omega arith
 stays_behind now (suc w) r until = omega arith
 
 finishes_late : (jobs : List Job) (is : List SInstr) (x : Point) (k q : ℕ) (l : Left) → slice_get (walk_from jobs is x) k ≡ Some l → l.position ≡ Some q → l.finished ≡ true → x.time < l.at
-finishes_late jobs [] x k q l at pos fin = none_some l at
+finishes_late jobs [] x k q l at pos fin = not_some l at
 finishes_late jobs (Dispatch p until ∷ is) x zero q l at pos fin =
     let y = next_point jobs (Dispatch p until) x in
     let e : left_by jobs (Dispatch p until) x y ≡ l = some_same _ _ at in
@@ -112,8 +125,8 @@ finishes_late jobs (Dispatch p until ∷ is) x zero q l at pos fin =
     by zero v e f = absurd (let z : ⊥ = cc in z)
     by (suc w) zero e f = runs_on x.time (suc w) (job_at jobs p).release until (omega arith) (sym e)
     by (suc w) (suc v) e f = absurd (let z : ⊥ = cc in z)
-finishes_late jobs (Idle until ∷ is) x zero q l at pos fin = let e = some_same _ _ at in none_some q (ap (λ (z : Left). z.position) e ∙ pos)
-finishes_late jobs (End ∷ is) x zero q l at pos fin = let e = some_same _ _ at in none_some q (ap (λ (z : Left). z.position) e ∙ pos)
+finishes_late jobs (Idle until ∷ is) x zero q l at pos fin = let e = some_same _ _ at in not_some q (ap (λ (z : Left). z.position) e ∙ pos)
+finishes_late jobs (End ∷ is) x zero q l at pos fin = let e = some_same _ _ at in not_some q (ap (λ (z : Left). z.position) e ∙ pos)
 finishes_late jobs (Dispatch p until ∷ is) x (suc k) q l at pos fin =
     omega (arith, stays_behind x.time (get_or x.left p 0) (job_at jobs p).release until, finishes_late jobs is (next_point jobs (Dispatch p until) x) k q l at pos fin)
 finishes_late jobs (Idle until ∷ is) x (suc k) q l at pos fin = omega (arith, finishes_late jobs is (next_point jobs (Idle until) x) k q l at pos fin)

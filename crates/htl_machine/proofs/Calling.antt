@@ -42,7 +42,8 @@ use Rattle.htl_machine.proofs.LoadedLists.{loaded_run}
 use Rattle.htl_machine.proofs.Accepted.{accepted_is_loaded}
 use Rattle.htl_machine.proofs.Counting.{totals_start}
 use Rattle.htl_machine.proofs.Events.{Alike, sense_at, sense_took, sense_sense}
-use Rattle.htl_machine.proofs.Standing.{none_some, some_same}
+use Rattle.htl_refine.proofs.RecordOrder.{not_some}
+use Rattle.htl_walk.proofs.Finishes.{some_same}
 use Rattle.htl_machine.proofs.Casting.{position_some}
 use Rattle.htl_machine.proofs.Taking.{new_follows}
 use Rattle.htl_machine.proofs.TellingLoaded.{loaded_jobs, loaded_s, loaded_e}
@@ -191,7 +192,7 @@ position_worst m es i n p accepted length f found =
         omega (arith, worst, length.worst)
 
     no_job : m.held.desk ≡ rounds.no_round → n ≤ (job_at m.held.desk.jobs p).worst
-    no_job d = none_some p (ap (λ (r : rounds.Round). position_from 0 r.jobs i) (sym d) ∙ found)
+    no_job d = not_some p (ap (λ (r : rounds.Round). position_from 0 r.jobs i) (sym d) ∙ found)
 
     by : (o : Option ℕ) → hyper t ≡ o → (now : ℕ) → DeskFollows (turn_at t (schedules_of m.object) es) o now m.held.desk → n ≤ (job_at m.held.desk.jobs p).worst
     by None e now d = no_job d

@@ -15,7 +15,9 @@ use Rattle.htl_emach.specs.Contents.{Content, buffer, comm_of}
 use Rattle.htl_machine.specs.Worlds.{effects, all_writes, all_reads, with_sensors, world_after}
 use Rattle.htl_emach.specs.Contents as contents
 use Rattle.htl_machine.specs.Values.{Stands, AreDistinct, out_val, ValuesFollow, HasPlaces, Ready, AreCarried}
-use Rattle.htl_machine.proofs.Standing.{some_same, standing_at, standing_before, stood}
+use Rattle.htl_walk.proofs.Finishes.{some_same}
+use Rattle.htl_refine.proofs.Standing.{standing_at, stood}
+use Rattle.htl_machine.proofs.Standing.{standing_before}
 use Rattle.htl_machine.proofs.Asked.{AsksFor, read_of, read_asks, no_write_read, no_read_write}
 use Rattle.htl_machine.proofs.Moving.{Filled, are_filled, HasRoom, outputs_stay, inputs_stay, values_stay, shape_stays}
 use Rattle.htl_machine.proofs.Distinct.{distinct}

@@ -22,7 +22,7 @@ use Rattle.htl_machine.specs.Changing.{change_lines}
 use Rattle.htl_machine.specs.Doing.{IsStarting, path_lines}
 use Rattle.htl_machine.specs.Opening.{reading_text, closing_text}
 use Rattle.htl_machine.specs.Running.{replay}
-use Rattle.htl_machine.proofs.Standing.{standing_at}
+use Rattle.htl_refine.proofs.Standing.{standing_at}
 use Rattle.htl_machine.proofs.Agreeing.{modes_closed, changes_are}
 
 -- the modes after the read phase are modes of the tables

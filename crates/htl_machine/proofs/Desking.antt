@@ -11,7 +11,8 @@ use Rattle.htl_smach.specs.Rounds.{Round, begun, told, told_from, records, next_
 use Rattle.htl_refine.specs.RecordCounts.{count_before}
 use Rattle.htl_refine.specs.ListPlans.{ListPlan as Plan, list_walk}
 use Rattle.htl_machine.specs.Follows.{released_before, DeskStands, DeskAt}
-use Rattle.htl_machine.proofs.Standing.{some_same, none_some}
+use Rattle.htl_walk.proofs.Finishes.{some_same}
+use Rattle.htl_refine.proofs.RecordOrder.{not_some}
 use Rattle.htl_machine.proofs.Turning.{at_count, before_count}
 
 pub length-walk : (jobs : List Job) (is : List SInstr) (x : Point) → length (walk_from jobs is x) ≡ length is
@@ -125,9 +126,9 @@ step_time now zero r until period a b = a
 step_time now (suc w) r until period a b = omega arith
 
 pub times_within : (jobs : List Job) (count period : ℕ) (is : List SInstr) (x : Point) → InForm count period is → x.time ≤ period → (k : ℕ) (l : Left) → slice_get (walk_from jobs is x) k ≡ Some l → l.at ≤ period
-times_within jobs count period [] x f h k l e = none_some l e
+times_within jobs count period [] x f h k l e = not_some l e
 times_within jobs count period (End ∷ []) x f h zero l e = omega (arith, h, ap (λ (z : Left). z.at) (some_same _ _ e))
-times_within jobs count period (End ∷ []) x f h (suc k) l e = none_some l e
+times_within jobs count period (End ∷ []) x f h (suc k) l e = not_some l e
 times_within jobs count period (End ∷ j ∷ is) x f h k l e = absurd f.0
 times_within jobs count period (Dispatch q until ∷ is) x f h zero l e =
     omega (arith, step_time x.time (get_or x.left q 0) (job_at jobs q).release until period h f.0.1, ap (λ (z : Left). z.at) (some_same _ _ e))

@@ -13,7 +13,9 @@ use Rattle.htl_model.specs.SecondWriters.{OnPath, itself, above, StandTogether, 
 use Rattle.htl_model.specs.FrameRules.{KeptApart}
 use Rattle.htl_model.specs.Meaning.{stay_of, runs}
 use Rattle.htl_machine.specs.Values.{IsDue, AreDistinct}
-use Rattle.htl_machine.proofs.Standing.{IsStanding, some_same, all_at}
+use Rattle.htl_refine.proofs.Standing.{IsStanding}
+use Rattle.htl_walk.proofs.Finishes.{some_same}
+use Rattle.htl_walk.proofs.Work.{all_at}
 use Rattle.htl_machine.proofs.Plain.{apart}
 
 pub there : {A : Type 0} (xs : List A) (k : ℕ) → k < length xs → (x : A) × (slice_get xs k ≡ Some x)

@@ -9,12 +9,13 @@ use Rattle.htl_model.specs.declared.state.Write.{Write}
 use Rattle.htl_model.specs.Tables.{Tables, comm_period, mode_module, is_concrete}
 use Rattle.htl_model.specs.Meaning.{stay_of, end_to, in_round, round_start, write_in, with_start, write_from}
 use Rattle.htl_machine.specs.Values.{Stands, IsDue}
-use Rattle.htl_machine.proofs.Standing.{some_same, none_some}
+use Rattle.htl_walk.proofs.Finishes.{some_same}
+use Rattle.htl_refine.proofs.RecordOrder.{not_some}
 use Rattle.htl_machine.proofs.Plain.{both}
 
 found_end : (t : Tables) (c s now q o : ℕ) (ends : List End) → end_to t c s now q ends ≡ Some o
     → (d : ℕ) × (o ≡ q + d) × (n : ℕ) × (slice_get ends d ≡ Some (E.Comm c n)) × (s + n * comm_period t c ≡ now)
-found_end t c s now q o [] e = none_some o e
+found_end t c s now q o [] e = not_some o e
 found_end t c s now q o (E.Port p ∷ ends) e = let r = found_end t c s now (suc q) o ends e in (suc r.0, omega (arith, r.1), r.2, r.3, r.4)
 found_end t c s now q o (E.Comm d n ∷ ends) e = by_test (eqb c d && eqb (s + n * comm_period t d) now) refl e (λ g. found_end t c s now (suc q) o ends g)
   where
@@ -29,7 +30,7 @@ found_end t c s now q o (E.Comm d n ∷ ends) e = by_test (eqb c d && eqb (s + n
     by_test false is g ih = let r = ih g in (suc r.0, omega (arith, r.1), r.2, r.3, r.4)
 
 no_end : (t : Tables) (c s now q : ℕ) (ends : List End) → end_to t c s now q ends ≡ None → (d n : ℕ) → slice_get ends d ≡ Some (E.Comm c n) → s + n * comm_period t c ≡ now → ⊥
-no_end t c s now q [] e d n at h = none_some (E.Comm c n) at
+no_end t c s now q [] e d n at h = not_some (E.Comm c n) at
 no_end t c s now q (E.Port p ∷ ends) e zero n at h = let z : E.Port p ≡ E.Comm c n = some_same _ _ at in cc
 no_end t c s now q (E.Port p ∷ ends) e (suc d) n at h = no_end t c s now (suc q) ends e d n at h
 no_end t c s now q (E.Comm a m ∷ ends) e d n at h = by_test (eqb c a && eqb (s + m * comm_period t a) now) refl e d at (λ g j f. no_end t c s now (suc q) ends g j n f h)
@@ -37,7 +38,7 @@ no_end t c s now q (E.Comm a m ∷ ends) e d n at h = by_test (eqb c a && eqb (s
     by_test : (b : Bool) → (eqb c a && eqb (s + m * comm_period t a) now) ≡ b → ◌≡◌ {A = Option ℕ} (cond b (Some q) (end_to t c s now (suc q) ends)) None
         → (d : ℕ) → slice_get (E.Comm a m ∷ ends) d ≡ Some (E.Comm c n)
         → (end_to t c s now (suc q) ends ≡ None → (j : ℕ) → slice_get ends j ≡ Some (E.Comm c n) → ⊥) → ⊥
-    by_test true is g d at ih = none_some q (sym g)
+    by_test true is g d at ih = not_some q (sym g)
     by_test false is g (suc d) at ih = ih g d at
     by_test false is g zero at ih =
         let z : E.Comm a m ≡ E.Comm c n = some_same _ _ at in
@@ -56,7 +57,7 @@ round_stands : (t : Tables) (stays : List (Option Stay)) (i s : ℕ) (x : Inv) �
 round_stands t stays i s x at e = by_test (is_concrete t x) refl e
   where
     by_stay : is_concrete t x ≡ true → (o : Option Stay) → stay_of stays (mode_module t x.mode) ≡ o → in_round o x.mode ≡ Some s → Stands t stays i x s
-    by_stay con None is f = none_some s f
+    by_stay con None is f = not_some s f
     by_stay con (Some y) is f = by_mode (eqb y.mode x.mode) refl f
       where
         by_mode : (b : Bool) → eqb y.mode x.mode ≡ b → ◌≡◌ {A = Option ℕ} (cond b (Some y.start) None) (Some s) → Stands t stays i x s
@@ -66,11 +67,11 @@ round_stands t stays i s x at e = by_test (is_concrete t x) refl e
               concrete = con;
               in_round = is ∙ ap (λ z. Some (record { mode = z; start = y.start })) (eqb-true y.mode x.mode m) ∙ ap (λ z. Some (record { mode = x.mode; start = z })) (some_same _ _ g);
             }
-        by_mode false m g = none_some s g
+        by_mode false m g = not_some s g
 
     by_test : (b : Bool) → is_concrete t x ≡ b → ◌≡◌ {A = Option ℕ} (cond b (in_round (stay_of stays (mode_module t x.mode)) x.mode) None) (Some s) → Stands t stays i x s
     by_test true con g = by_stay con (stay_of stays (mode_module t x.mode)) refl g
-    by_test false con g = none_some s g
+    by_test false con g = not_some s g
 
 pub stands_round : (t : Tables) (stays : List (Option Stay)) (i s : ℕ) (x : Inv) → Stands t stays i x s → round_start t stays x ≡ Some s
 stands_round t stays i s x st =
@@ -83,11 +84,11 @@ found_in : (t : Tables) (stays : List (Option Stay)) (c now k : ℕ) (x : Inv) (
 found_in t stays c now k x w at e = by_round (round_start t stays x) refl e
   where
     by_round : (o : Option ℕ) → round_start t stays x ≡ o → write_in t c now k x.writes o ≡ Some w → (d : IsDue t stays now w.inv w.output c) × (d.start ≡ w.start)
-    by_round None is g = none_some w g
+    by_round None is g = not_some w g
     by_round (Some s) is g = by_end (end_to t c s now 0 x.writes) refl g
       where
         by_end : (o : Option ℕ) → end_to t c s now 0 x.writes ≡ o → with_start k s o ≡ Some w → (d : IsDue t stays now w.inv w.output c) × (d.start ≡ w.start)
-        by_end None f h = none_some w h
+        by_end None f h = not_some w h
         by_end (Some o) f h =
             let r = found_end t c s now 0 o x.writes f in
             let y : ◌≡◌ {A = Write} (record { inv = k; start = s; output = o }) w = some_same _ _ h in
@@ -109,7 +110,7 @@ found_in t stays c now k x w at e = by_round (round_start t stays x) refl e
 
 pub found_write : (t : Tables) (stays : List (Option Stay)) (c now q : ℕ) (xs : List Inv) (w : Write) → ((j : ℕ) → slice_get t.invs (q + j) ≡ slice_get xs j) → write_from t stays c now q xs ≡ Some w
     → (d : IsDue t stays now w.inv w.output c) × (d.start ≡ w.start)
-found_write t stays c now q [] w at e = none_some w e
+found_write t stays c now q [] w at e = not_some w e
 found_write t stays c now q (x ∷ xs) w at e =
     by_item (write_in t c now q x.writes (round_start t stays x)) refl e
     (λ g. found_write t stays c now (suc q) xs w (λ j. ap (slice_get t.invs) (let z : suc q + j ≡ q + suc j = omega arith in z) ∙ at (suc j)) g)
@@ -121,16 +122,16 @@ found_write t stays c now q (x ∷ xs) w at e =
 
 no_write : (t : Tables) (stays : List (Option Stay)) (c now q : ℕ) (xs : List Inv) → write_from t stays c now q xs ≡ None
     → (j s k n : ℕ) (x : Inv) → slice_get xs j ≡ Some x → round_start t stays x ≡ Some s → slice_get x.writes k ≡ Some (E.Comm c n) → s + n * comm_period t c ≡ now → ⊥
-no_write t stays c now q [] e j s k n x at r en h = none_some x at
+no_write t stays c now q [] e j s k n x at r en h = not_some x at
 no_write t stays c now q (y ∷ xs) e j s k n x at r en h = by_item (write_in t c now q y.writes (round_start t stays y)) refl e j at (λ g l f. no_write t stays c now (suc q) xs g l s k n x f r en h)
   where
     none_in : (o : Option ℕ) → with_start q s o ≡ None → o ≡ None
     none_in None f = refl
-    none_in (Some o) f = none_some (record { inv = q; start = s; output = o }) (sym f)
+    none_in (Some o) f = not_some (record { inv = q; start = s; output = o }) (sym f)
 
     by_item : (o : Option Write) → write_in t c now q y.writes (round_start t stays y) ≡ o → ◌≡◌ {A = Option Write} (elim o [ Some w ↦ Some w | None ↦ write_from t stays c now (suc q) xs ]) None
         → (j : ℕ) → slice_get (y ∷ xs) j ≡ Some x → (write_from t stays c now (suc q) xs ≡ None → (l : ℕ) → slice_get xs l ≡ Some x → ⊥) → ⊥
-    by_item (Some v) is g j at ih = none_some v (sym g)
+    by_item (Some v) is g j at ih = not_some v (sym g)
     by_item None is g (suc j) at ih = ih g j at
     by_item None is g zero at ih =
         let same : y ≡ x = some_same _ _ at in

@@ -18,7 +18,7 @@ use Rattle.htl_emach.specs.Contents.{Content, buffer, argument, arguments, made,
 use Rattle.htl_emach.proofs.Completing.{concrete_task}
 use Rattle.htl_emach.proofs.Soundness.{has_ends}
 use Rattle.htl_machine.specs.Values.{Stands, HasRead, Orders, and_also, HasPlaces, ValuesFollow, out_val}
-use Rattle.htl_machine.proofs.Standing.{some_same}
+use Rattle.htl_walk.proofs.Finishes.{some_same}
 use Rattle.htl_machine.proofs.Outs.{writer_is, writer_stands, out_stable, below, below_less, below_more}
 use Rattle.htl_machine.proofs.Plain.{length-list_to}
 

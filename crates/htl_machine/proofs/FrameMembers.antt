@@ -10,7 +10,8 @@ use Rattle.htl_refine.specs.FramePlaces.{place}
 use Rattle.htl_refine.specs.FrameRuns.{running_places}
 use Rattle.htl_refine.proofs.Inherit.{map_at}
 use Rattle.htl_refine.proofs.Members.{front_at, back_at, in_flat}
-use Rattle.htl_machine.proofs.Standing.{some_same, none_some}
+use Rattle.htl_walk.proofs.Finishes.{some_same}
+use Rattle.htl_refine.proofs.RecordOrder.{not_some}
 
 -- ---- starts
 
@@ -28,7 +29,7 @@ below_start ps (suc h) a l e = by (either a h l) (λ less. below_start ps h a le
         (length (starts_below ps h) + 0, back_at (starts_below ps h) (cond (begins ps h) (h ∷ []) []) 0 a (ap (λ b. slice_get (cond b (h ∷ []) []) 0) test ∙ ap (λ z. Some z) (sym same)))
 
 pub begins_by : (t : Tables) (us : List ℕ) (j u a : ℕ) → slice_get us j ≡ Some u → a % unit_period t u ≡ 0 → begins (map (unit_period t) us) a ≡ true
-begins_by t [] j u a e g = none_some u e
+begins_by t [] j u a e g = not_some u e
 begins_by t (v ∷ us) zero u a e g =
     left (eqb (a % unit_period t v) 0) (begins (map (unit_period t) us) a) (ap (λ z. eqb (a % unit_period t z) 0) (some_same v u e) ∙ eq-eqb (a % unit_period t u) 0 g)
   where
@@ -42,7 +43,7 @@ begins_by t (v ∷ us) (suc j) u a e g = right (eqb (a % unit_period t v) 0) (be
 -- ---- rounds
 
 in_rounds : (t : Tables) (a : ℕ) (us : List ℕ) (j u : ℕ) → slice_get us j ≡ Some u → a % unit_period t u ≡ 0 → (q : ℕ) × (slice_get (rounds_of t a us) q ≡ Some (record { at = a; unit = u }))
-in_rounds t a [] j u e g = none_some u e
+in_rounds t a [] j u e g = not_some u e
 in_rounds t a (v ∷ us) zero u e g =
     let same : v ≡ u = some_same v u e in
     let test : eqb (a % unit_period t v) 0 ≡ true = eq-eqb (a % unit_period t v) 0 (ap (λ z. a % unit_period t z) same ∙ g) in
@@ -65,7 +66,7 @@ round_in t j u a e l g =
 
 pub in_run : (t : Tables) (modes : ℕ → List (Option ℕ)) (rs : List Round) (q j k : ℕ) (r : Round) → slice_get rs q ≡ Some r → slice_get (running_invs t (modes r.at) r.unit) j ≡ Some k
     → (p : ℕ) × (slice_get (running_places t modes rs) p ≡ Some (place k r.at))
-in_run t modes [] q j k r e g = none_some r e
+in_run t modes [] q j k r e g = not_some r e
 in_run t modes (s ∷ rs) zero j k r e g =
     let same : s ≡ r = some_same s r e in (
       j,

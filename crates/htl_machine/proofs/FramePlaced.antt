@@ -5,12 +5,11 @@ use Rattle.std.proofs.lemmas.Option.{slice_get_within, get_or_from_slice_get}
 use Rattle.htl_model.specs.declared.event.Event.{Event}
 use Rattle.htl_model.specs.declared.parts.Inv.{Inv}
 use Rattle.htl_model.specs.declared.parts.Mode.{Mode}
-use Rattle.htl_model.specs.declared.parts.Module.{Module}
 use Rattle.htl_model.specs.declared.state.Stay.{Stay}
 use Rattle.htl_model.specs.FrameRules.{KeptApart}
 use Rattle.htl_model.specs.Chosen.{StandsFor, itself, chosen}
 use Rattle.htl_model.specs.Meaning.{state, stay_of}
-use Rattle.htl_model.specs.Ranges.{AreInRange, IsModeInRange, IsInvInRange}
+use Rattle.htl_model.specs.Ranges.{AreInRange, IsInvInRange}
 use Rattle.htl_model.specs.Selected.{entry, Runs, IsEntry, IsSelection}
 use Rattle.htl_model.specs.SecondWriters.{parent_mode}
 use Rattle.htl_model.specs.Selections.{is_root, root_modules, inv_of_mode, invs_of}
@@ -23,23 +22,25 @@ use Rattle.htl_refine.proofs.Fronts.{front_there}
 use Rattle.htl_refine.proofs.Inherit.{mapped, map_at}
 use Rattle.htl_refine.proofs.BegunTimes.{start_below}
 use Rattle.htl_refine.proofs.Members.{of_flat, of_places, at_place}
-use Rattle.htl_refine.proofs.Positions.{root_is}
 use Rattle.htl_refine.proofs.StateLaws.{states_are_selections}
 use Rattle.htl_model.specs.declared.frame.Place.{Place}
 use Rattle.htl_model.specs.declared.frame.Round.{Round}
-use Rattle.htl_model.specs.Frames.{frame_of, unit_start, unit_period, root_periods, starts, rounds_at, rounds}
+use Rattle.htl_model.specs.Frames.{frame_of, unit_period, root_periods, starts, rounds_at, rounds}
 use Rattle.htl_model.proofs.FrameRules.{frame_divided}
 use Rattle.htl_refine.specs.DerivedPaths.{derived_place}
 use Rattle.htl_refine.specs.FrameRuns.{frame_modes, frame_places}
 use Rattle.htl_refine.specs.FramePlaces.{place, standing_places, AreOrdered}
 use Rattle.htl_machine.specs.Values.{Stands}
-use Rattle.htl_machine.proofs.Standing.{some_same, none_some, all_at, of_mode, standing_at}
-use Rattle.htl_machine.proofs.Distinct.{there}
-use Rattle.htl_refine.proofs.OwnPeriods.{same_period, some_time}
+use Rattle.htl_walk.proofs.Finishes.{some_same}
+use Rattle.htl_refine.proofs.RecordOrder.{not_some}
+use Rattle.htl_walk.proofs.Work.{all_at}
+use Rattle.htl_refine.proofs.Standing.{standing_at}
+use Rattle.htl_refine.proofs.OwnPeriods.{some_time}
 use Rattle.htl_refine.proofs.OwnRounds.{own_starts, since, until}
 use Rattle.htl_machine.specs.FramePlacing.{IsFramePlacing, PlacedByModes}
+use Rattle.htl_machine.proofs.RootModes.{unit_period_is, has_root}
 use Rattle.htl_machine.proofs.Tops.{IsTop, climb, down}
-use Rattle.htl_machine.proofs.Windows.{window_within}
+use Rattle.htl_walk.proofs.PathReady.{window_within}
 use Rattle.htl_refine.proofs.RoundOrder.{of_rounds, round_of, run_of}
 use Rattle.htl_machine.proofs.FrameMembers.{round_in, in_run}
 
@@ -89,7 +90,7 @@ fits p a b less = elim (order a b) [
 
 pub there_front : {A : Type 0} (m : ℕ) (xs : List A) (p : ℕ) (x : A) → slice_get xs p ≡ Some x → p < m → slice_get (take m xs) p ≡ Some x
 there_front zero xs p x e h = absurd (omega arith)
-there_front (suc m) [] p x e h = none_some x e
+there_front (suc m) [] p x e h = not_some x e
 there_front (suc m) (y ∷ xs) zero x e h = e
 there_front (suc m) (y ∷ xs) (suc p) x e h = there_front m xs p x e (omega arith)
 
@@ -109,14 +110,6 @@ module _ (t : Tables) (es : List Event) (n f m : ℕ) (range : AreInRange t) (ke
   selections : (a : ℕ) → IsSelection t (modes_at t es a)
   selections a = states_are_selections t range es a
 
-  -- the mode of a root module has its period
-  unit_period_is : (u q : ℕ) (x : Module) → slice_get t.modules u ≡ Some x → q < length t.modes → mode_module t q ≡ u → mode_period t q ≡ unit_period t u
-  unit_period_is u q x at real own =
-      let start = (range.modules u x at).start in
-      let is : unit_start t u ≡ x.start = ap (λ (o : Option Module). elim o [ Some x ↦ x.start | None ↦ 0 ]) at in
-      same_period t range first12 q x.start u real (slice_get_within t.modes x.start start.0 start.1) own (of_mode t x.start (λ o. o ≡ u) start)
-      ∙ ap (mode_period t) (sym is)
-
   -- what is at a position
   pub record IsAt (i a : ℕ) : Type 0 where
     pub inv : Inv
@@ -132,7 +125,7 @@ module _ (t : Tables) (es : List Event) (n f m : ℕ) (range : AreInRange t) (ke
   running_of ms u j k e = by (entry ms u) refl e
     where
       by : (o : Option ℕ) → entry ms u ≡ o → slice_get (elim o as (λ _. List ℕ) [ Some q ↦ invs_of t q | None ↦ [] ]) j ≡ Some k → (q : ℕ) × (entry ms u ≡ Some q) × (slice_get (invs_of t q) j ≡ Some k)
-      by None g h = none_some k h
+      by None g h = not_some k h
       by (Some q) g h = (q, g, h)
 
   frame_times : (u d : ℕ) → frame_of t ≡ unit_period t u * d → f ≡ unit_period t u * (d * (n / frame_of t))
@@ -165,7 +158,7 @@ module _ (t : Tables) (es : List Event) (n f m : ℕ) (range : AreInRange t) (ke
       let runs : Runs t ms kx.1.mode = ap (λ z. entry ms (mode_module t z)) mode ∙ ap (entry ms) unit ∙ run.1 ∙ ap (λ z. Some z) (sym mode) in
       let stands : StandsFor t ms k i = (chosen_exact_apart t ms range kept k i).0 stood in
       let d = down t range kept ms (selections (f + rr.at)) k i kx.1 inv_at runs stands in
-      let period : mode_period t d.0.mode ≡ unit_period t rr.unit = d.4 ∙ ap (mode_period t) mode ∙ unit_period_is rr.unit run.0 um.1 unit_at (slice_get_within t.modes run.0 mode_at.0 mode_at.1) unit in
+      let period : mode_period t d.0.mode ≡ unit_period t rr.unit = d.4 ∙ ap (mode_period t) mode ∙ unit_period_is t range kept rr.unit run.0 um.1 unit_at (slice_get_within t.modes run.0 mode_at.0 mode_at.1) unit in
       let c = common root.0 rr.unit root.1 in
       let up = unit_period t rr.unit in
       let whole : up * (rr.at / up) + rr.at % up ≡ rr.at = div-add-mod rr.at up in
@@ -209,28 +202,6 @@ module _ (t : Tables) (es : List Event) (n f m : ℕ) (range : AreInRange t) (ke
           ∙ ap (λ z. let v : Place = record { inv = chosen t (modes_at t es z) k; at = a } in Some v) sum
           ∙ ap (λ (o : Option ℕ). let v : Place = record { inv = o; at = a } in Some v) stood
 
-  -- the root module of an invocation whose mode runs
-  record HasRoot (q : ℕ) : Type 0 where
-    index : ℕ
-    at : slice_get (root_modules t) index ≡ Some (mode_module t q)
-    period : mode_period t q ≡ unit_period t (mode_module t q)
-
-  has_root : (q : ℕ) → q < length t.modes → parent_mode t q ≡ None → HasRoot q
-  has_root q real root = by (there t.modes q real).0 (there t.modes q real).1
-    where
-      by_module : (x : Module) → slice_get t.modules (mode_module t q) ≡ Some x → HasRoot q
-      by_module x at =
-          let parent : x.parent ≡ None = sym (ap (λ (o : Option Module). elim o [ Some z ↦ z.parent | None ↦ None ]) at) ∙ root in
-          let r = at_place is_root t.modules (mode_module t q) x at (root_is x parent) in
-          record { index = r.0; at = r.1; period = unit_period_is (mode_module t q) q x at real refl }
-
-      by : (x : Mode) → slice_get t.modes q ≡ Some x → HasRoot q
-      by x at =
-          let owner : x.«module» < length t.modules = (all_at (IsModeInRange t) t.modes range.modes q x at).owner in
-          let is : mode_module t q ≡ x.«module» = ap (λ (o : Option Mode). elim o [ Some z ↦ z.«module» | None ↦ 0 ]) at in
-          let u = there t.modules (mode_module t q) (omega (arith, owner, is)) in
-          by_module u.0 u.1
-
   divides : (p a e k : ℕ) → a + p * e ≡ p * k → a % p ≡ 0
   divides p a e k h = sym (add-mul-mod_self_left a p e) ∙ ap (λ z. z % p) h ∙ mul-mod_right p k
 
@@ -239,7 +210,7 @@ module _ (t : Tables) (es : List Event) (n f m : ℕ) (range : AreInRange t) (ke
       → (j : ℕ) → slice_get (invs_of t q) j ≡ Some k → chosen t (modes_at t es s) k ≡ Some i
       → (p a : ℕ) × (slice_get (take m (standing_places t es f)) p ≡ Some (place i a)) × (f + a ≡ s)
   by_top i s q k late own real root is j inv stood =
-      let h = has_root q real root in
+      let h = has_root t range kept q real root in
       let u = mode_module t q in
       let per = mode_period t q in
       let c = common h.index u h.at in
@@ -285,7 +256,7 @@ module _ (t : Tables) (es : List Event) (n f m : ℕ) (range : AreInRange t) (ke
   stay_there s u q e = by (stay_of (state t es s).stays u) refl (sym (entry_is t es s u) ∙ e)
     where
       by : (o : Option Stay) → stay_of (state t es s).stays u ≡ o → option_map (λ (y : Stay). y.mode) o ≡ Some q → (y : Stay) × (stay_of (state t es s).stays u ≡ Some y) × (y.mode ≡ q)
-      by None g h = none_some q h
+      by None g h = not_some q h
       by (Some y) g h = (y, g, some_same y.mode q h)
 
   -- until a window has ended, whoever is at the place stands

@@ -21,7 +21,8 @@ use Rattle.htl_machine.specs.Casts.{IsJob, IsCast}
 use Rattle.htl_refine.specs.FramePlaces.{place}
 use Rattle.htl_refine.proofs.Fronts.{front_there, take_map}
 use Rattle.htl_machine.specs.FramePlacing.{IsFramePlacing, CastOfPlacing}
-use Rattle.htl_machine.proofs.Standing.{some_same, none_some}
+use Rattle.htl_walk.proofs.Finishes.{some_same}
+use Rattle.htl_refine.proofs.RecordOrder.{not_some}
 use Rattle.htl_machine.proofs.Outs.{writer_is}
 use Rattle.htl_machine.proofs.Casting.{job_is, position_some, position_none}
 use Rattle.htl_machine.proofs.Placing.{fed}
@@ -30,12 +31,12 @@ use Rattle.htl_machine.proofs.Placing.{fed}
 
 -- no position of an invocation comes behind the one that is found
 pub position_latest : (q : ℕ) (js : List Job) (i d r : ℕ) (j : Job) → slice_get js d ≡ Some j → j.present ≡ true → j.inv ≡ i → position_from q js i ≡ Some r → q + d ≤ r
-position_latest q [] i d r j at here is e = none_some j at
+position_latest q [] i d r j at here is e = not_some j at
 position_latest q (k ∷ js) i d r j at here is e = by_rest (position_from (suc q) js i) refl d at e (λ m f g. position_latest (suc q) js i m r j f here is g)
   where
     by_test : (b : Bool) → ◌≡◌ {A = Option ℕ} (cond b (Some q) None) (Some r) → q ≤ r
     by_test true f = omega (arith, some_same _ _ f)
-    by_test false f = none_some r f
+    by_test false f = not_some r f
 
     by_rest : (o : Option ℕ) → position_from (suc q) js i ≡ o → (d : ℕ) → slice_get (k ∷ js) d ≡ Some j → later_or o (cond (k.present && eqb k.inv i) (Some q) None) ≡ Some r
         → ((m : ℕ) → slice_get js m ≡ Some j → position_from (suc q) js i ≡ Some r → suc q + m ≤ r) → q + d ≤ r
@@ -88,7 +89,7 @@ module _ (t : Tables) (stays : List (Option Stay)) (frame n m : ℕ) (all : List
 
       by_place : (o : Option Place) → slice_get places p ≡ o → option_map (placed_job t all) o ≡ Some j
           → (i a : ℕ) × (y : Inv) × (slice_get places p ≡ Some (place i a)) × (slice_get t.invs i ≡ Some y) × (j.inv ≡ i) × (j.release ≡ a + release t y) × (j.end ≡ a + window_end t y)
-      by_place None is e = none_some j e
+      by_place None is e = not_some j e
       by_place (Some x) is e = by_inv x is x.inv refl (some_same _ _ e)
 
   the_job : (i a s : ℕ) (x : Inv) (p : ℕ) → slice_get t.invs i ≡ Some x → slice_get places p ≡ Some (place i a) → frame + a ≡ s → IsJob t jobs frame p i x s

@@ -13,7 +13,7 @@ use Rattle.htl_walk.specs.Walk.{Left, job_at, is_position}
 use Rattle.htl_emach.specs.Contents.{Content, completed}
 use Rattle.htl_refine.specs.RecordCounts.{Rises, count_before, done_by}
 use Rattle.htl_refine.proofs.FinishingRecords.{done_more}
-use Rattle.htl_refine.proofs.RecordOrder.{counted}
+use Rattle.htl_refine.proofs.RecordOrder.{counted, not_some}
 use Rattle.htl_machine.specs.FramesGoOn.{Now, finished_before, finished_at, AreFrames, frame_records, next_by_frames}
 use Rattle.htl_machine.specs.Completing.{complete_at, complete_by, run_records}
 use Rattle.htl_machine.specs.Turns.{finished_in}
@@ -25,7 +25,6 @@ use Rattle.htl_machine.proofs.Desking.{record_there, count_within}
 use Rattle.htl_machine.proofs.Finishing.{finish_follows, completed_shape}
 use Rattle.htl_machine.proofs.FramesGoOn.{finished_carried}
 use Rattle.htl_machine.proofs.Owing.{is_ready, reads_to, completes}
-use Rattle.htl_machine.proofs.Standing.{none_some}
 use Rattle.htl_machine.proofs.Turning.{before_count}
 
 -- a later offset has more records before it
@@ -119,7 +118,7 @@ module _ (t : Tables) (range : AreInRange t) (kept : KeptApart t 12) (es : List 
 
   -- who is finished before an instant has read all before it
   pub read_before : (n i : ℕ) (x : Inv) (s : ℕ) → Stands t (before t es n).stays i x s → finished_before now n i ≡ true → HasRead t n (finished_before now n) x s
-  read_before zero i x s st fin = none_some (record { mode = x.mode; start = s }) st.in_round
+  read_before zero i x s st fin = not_some (record { mode = x.mode; start = s }) st.in_round
   read_before (suc n) i x s st fin =
       let f = now n in
       reads_to t range kept (state t es n).stays f.frame n f.jobs f.walk (frames.casts n) (frames.runs n) (suc n - f.frame) (suc n) i x s (omega (arith, frames.past n)) st fin
@@ -127,8 +126,8 @@ module _ (t : Tables) (range : AreInRange t) (kept : KeptApart t 12) (es : List 
   pub all_ready : (n : ℕ) → Ready t es n (finished_at now n)
   all_ready zero =
       record {
-        in_time = λ i k c d. none_some (record { mode = d.inv.mode; start = d.start }) d.stands.in_round;
-        after_reads = λ i x s st fin. none_some (record { mode = x.mode; start = s }) st.in_round;
+        in_time = λ i k c d. not_some (record { mode = d.inv.mode; start = d.start }) d.stands.in_round;
+        after_reads = λ i x s st fin. not_some (record { mode = x.mode; start = s }) st.in_round;
       }
   all_ready (suc n) =
       let f = now n in

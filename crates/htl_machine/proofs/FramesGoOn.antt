@@ -11,7 +11,8 @@ use Rattle.htl_refine.specs.RecordCounts.{count_before, done_by}
 use Rattle.htl_machine.specs.Turns.{done_at, finished_in}
 use Rattle.htl_machine.specs.Casts.{IsJob}
 use Rattle.htl_machine.specs.FramesGoOn.{Now, finished_before, finished_at, AreFrames, FinishedCarried}
-use Rattle.htl_machine.proofs.Standing.{none_some, began_before}
+use Rattle.htl_refine.proofs.RecordOrder.{not_some}
+use Rattle.htl_machine.proofs.Standing.{began_before}
 use Rattle.htl_machine.proofs.Owing.{not_yet}
 
 module _ (t : Tables) (es : List Event) (now : ℕ → Now) (range : AreInRange t) (kept : KeptApart t 12) (frames : AreFrames t es now) where
@@ -53,7 +54,7 @@ module _ (t : Tables) (es : List Event) (now : ℕ → Now) (range : AreInRange 
 pub finished_carried : FinishedCarried
 finished_carried t es now range kept frames zero =
     record {
-      kept = λ i x s st later. none_some (record { mode = x.mode; start = s }) st.in_round;
+      kept = λ i x s st later. not_some (record { mode = x.mode; start = s }) st.in_round;
       fresh = λ i x st. fresh_open t es now range kept frames 0 i x st;
     }
 finished_carried t es now range kept frames (suc n) =

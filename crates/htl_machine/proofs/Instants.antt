@@ -15,7 +15,7 @@ use Rattle.htl_machine.specs.Follows.{DeskStands, DeskAt}
 use Rattle.htl_machine.specs.ListTurns.{Turn, AreTurns, IsListed}
 use Rattle.htl_machine.specs.Leaving.{due_by, Leaves}
 use Rattle.htl_machine.specs.Tellings.{tell_all}
-use Rattle.htl_machine.proofs.Standing.{IsStanding, standing_at}
+use Rattle.htl_refine.proofs.Standing.{IsStanding, standing_at}
 use Rattle.htl_machine.proofs.FrameValues.{count_grows}
 use Rattle.htl_machine.proofs.Desking.{desk_opens, desk_closes, all_given}
 use Rattle.htl_machine.proofs.Releasing.{flags_after}

@@ -19,8 +19,8 @@ use Rattle.htl_refine.proofs.PathDerived.{placed_present}
 use Rattle.htl_refine.proofs.PlaceOrder.{places_ordered}
 use Rattle.htl_machine.specs.JobTimes.{job_round, inv_period}
 use Rattle.htl_machine.proofs.FramePlaced.{at_place_is}
-use Rattle.htl_machine.proofs.Standing.{some_same}
-use Rattle.htl_machine.proofs.Windows.{window_within}
+use Rattle.htl_walk.proofs.Finishes.{some_same}
+use Rattle.htl_walk.proofs.PathReady.{window_within}
 
 -- rounds of one period that have an instant in common are one
 one_round : (per a b at : ℕ) → per * a < at → at ≤ per * a + per → per * b < at → at ≤ per * b + per → a ≡ b

@@ -16,7 +16,7 @@ use Rattle.htl_refine.specs.FrameRuns.{Frame, frame_modes, frame_at, running_pla
 use Rattle.htl_refine.specs.Records.{AreTookWithin}
 use Rattle.htl_refine.specs.ServedFrames.{IsFeasibleRun}
 use Rattle.htl_refine.specs.ServedJobs.{spent, IsServed}
-use Rattle.htl_refine.proofs.RecordOrder.{path_rises}
+use Rattle.htl_refine.proofs.RecordOrder.{path_rises, not_some}
 use Rattle.htl_refine.proofs.ServedFrames.{frames_are_served, every_job_in_time}
 use Rattle.htl_machine.specs.Follows.{IsLoaded}
 use Rattle.htl_machine.specs.JobLines.{RunLine, job_lines_at, job_lines_to}
@@ -29,7 +29,7 @@ use Rattle.htl_machine.proofs.LoadedLists.{run_of}
 use Rattle.htl_machine.proofs.OneRecord.{Count, slice_claim, done_claim, out_of}
 use Rattle.htl_machine.proofs.PositionRecords.{shift, position_slice, position_done, all_slices, shifted_within, shifted_spent, within_at, done_once}
 use Rattle.htl_machine.proofs.RecordTimes.{joined_each, before_now}
-use Rattle.htl_machine.proofs.Standing.{some_same, none_some}
+use Rattle.htl_walk.proofs.Finishes.{some_same}
 use Rattle.htl_machine.proofs.WorkingRecords.{DoesWork, works_in}
 
 module _ (t : Tables) (lists : List (List SInstr)) (es : List Event) (run : IsFeasibleRun t lists es) where
@@ -184,5 +184,5 @@ module _ (t : Tables) (lists : List (List SInstr)) (loaded : IsLoaded t lists) (
     where
       by : (us : List ℕ) → root_modules t ≡ us
           → IsToldInTime (job_lines_to t lists es end) (job_round t es (k * frame_of t) q) (job_round t es (k * frame_of t) q + inv_period t j.inv) (k * frame_of t) j (get_or (frame_at t lists es (k * frame_of t)).lengths q 0)
-      by [] e = none_some j (ap (λ (js : List Job). slice_get js q) (sym (none_there t lists es (k * frame_of t) e)) ∙ at)
+      by [] e = not_some j (ap (λ (js : List Job). slice_get js q) (sym (none_there t lists es (k * frame_of t) e)) ∙ at)
       by (u ∷ us) e = told t lists es (run_of t lists loaded es within (omega (arith, ap (λ (xs : List ℕ). length xs) e))) k end q j at here late

@@ -23,6 +23,7 @@ pub mod Carrying
 pub mod Placing
 pub mod FrameCasts
 pub mod FrameMembers
+pub mod RootModes
 pub mod FramePlaced
 pub mod FramePlacing
 pub mod FrameValues
@@ -35,7 +36,6 @@ pub mod RunsAgree
 pub mod TookLists
 pub mod TellingLists
 pub mod Tops
-pub mod Windows
 pub mod LoadedLists
 pub mod NextLists
 pub mod NextPoints
@@ -56,6 +56,7 @@ pub mod Retelling
 pub mod Showing
 pub mod Advancing
 pub mod Releasing
+pub mod InstantGiven
 pub mod Instants
 pub mod Meeting
 pub mod Waking

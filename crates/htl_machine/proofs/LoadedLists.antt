@@ -21,7 +21,8 @@ use Rattle.htl_machine.specs.RunLists.{no_turn, turn_by, turn_at, list_turn}
 use Rattle.htl_machine.specs.Timing.{begins}
 use Rattle.htl_machine.proofs.NextLists.{lists_begin}
 use Rattle.htl_machine.proofs.RunLists.{are_turns, are_listed, code_is, job_is_of}
-use Rattle.htl_machine.proofs.Standing.{none_some, standing_at}
+use Rattle.htl_refine.proofs.RecordOrder.{not_some}
+use Rattle.htl_refine.proofs.Standing.{standing_at}
 
 -- ---- without modules
 
@@ -42,7 +43,7 @@ pub some_roots : (t : Tables) (h : ℕ) → hyper t ≡ Some h → 0 < length (r
 some_roots t h e = by (root_modules t) refl
   where
     by : (us : List ℕ) → root_modules t ≡ us → 0 < length (root_modules t)
-    by [] is = none_some h (sym (no_hyper t is) ∙ e)
+    by [] is = not_some h (sym (no_hyper t is) ∙ e)
     by (u ∷ us) is = omega (arith, ap (λ (vs : List ℕ). length vs) is)
 
 module _ (t : Tables) (schedules : List (List SInstr)) (loaded : IsLoaded t schedules) where
@@ -52,7 +53,7 @@ module _ (t : Tables) (schedules : List (List SInstr)) (loaded : IsLoaded t sche
       (λ some.
       let r = roots_some t loaded.range some in
       let h = some_hyper t r.0 r.1 r.2 in
-      none_some h.0 (sym e ∙ h.1))
+      not_some h.0 (sym e ∙ h.1))
 
   module _ (es : List Event) (within : AreTookWithin t es) where
     -- where there is a root module
@@ -75,9 +76,9 @@ module _ (t : Tables) (schedules : List (List SInstr)) (loaded : IsLoaded t sche
     no_cast e n =
         record {
           has = λ i x s st. absurd (let less = (standing_at t loaded.range es n).known _ _ st.in_round in omega (arith, less, ap (λ (us : List Module). length us) e));
-          stands = λ p j at here late. none_some j at;
-          once = λ p q i s x a b. none_some a.job a.at;
-          preds = λ p q i w o k a s x y b c f g d e. none_some b.job b.at;
+          stands = λ p j at here late. not_some j at;
+          once = λ p q i s x a b. not_some a.job a.at;
+          preds = λ p q i w o k a s x y b c f g d e. not_some b.job b.at;
         }
 
     no_turns : t.modules ≡ [] → AreTurns t es (λ n. no_turn)
@@ -88,7 +89,7 @@ module _ (t : Tables) (schedules : List (List SInstr)) (loaded : IsLoaded t sche
               record {
                 past = λ n. omega arith;
                 casts = λ n. no_cast e n;
-                runs = λ n. record { rises = tt; meets = λ p j at here. none_some j at; late = λ p f less fin. absurd (omega (arith, less)); open_yet = λ k p l at o fin. none_some l at; known = λ k p l at o fin early. none_some l at };
+                runs = λ n. record { rises = tt; meets = λ p j at here. not_some j at; late = λ p f less fin. absurd (omega (arith, less)); open_yet = λ k p l at o fin. not_some l at; known = λ k p l at o fin early. not_some l at };
                 on = λ n. inr (refl, refl, λ p j at. at);
               };
           each = λ n. record { past = omega arith; rest = []; front = refl; count = refl; upto = λ p. refl };

@@ -1,5 +1,5 @@
 -- The bits of rows of 128, as marks of numbers.
-use Rattle.std.proofs.Common.{◌≡◌, ◌≢◌, ℕ, zero, suc, ◌+◌, ◌-◌, ◌*◌, ◌/◌, ◌%◌, ◌^◌, ◌≤◌, ◌<◌, ◌⊎◌, Bool, true, false, cond, ◌||◌, eqb, List, length, replicate, get_or, set, min, refl, sym, ap, ◌∙◌, arith, inl, inr, get_or-set_same, get_or-set_other}
+use Rattle.std.proofs.Common.{◌≡◌, ◌≢◌, ℕ, zero, suc, ◌+◌, ◌-◌, ◌*◌, ◌/◌, ◌%◌, ◌^◌, ◌≤◌, ◌<◌, ◌⊎◌, Bool, true, false, cond, eqb, List, length, replicate, get_or, set, min, refl, sym, ap, ◌∙◌, arith, inl, inr, get_or-set_same, get_or-set_other}
 use Rattle.std.specs.Int.{bit_at}
 use Rattle.std.proofs.lemmas.Bool.Decides.{nat_tests}
 use Rattle.std.proofs.lemmas.Bool.{cases_lt}
@@ -28,12 +28,6 @@ found_at row from low one less =
     let is : min (from + low) 128 ≡ from + low = omega arith in
     let back : from + low - from ≡ low = omega arith in
     ap (has_bit row) is ∙ ap (λ b. eqb b 1) (shifted row from (from + low) 1 (omega arith) (ap (bit_at (row / 2 ^ from)) back ∙ one))
-
-pub with_more : (a b : Bool) → (a || b) ≡ cond b true a
-with_more true true = refl
-with_more true false = refl
-with_more false true = refl
-with_more false false = refl
 
 -- ---- all rows
 

@@ -11,7 +11,8 @@ use Rattle.htl_machine.specs.Texts.{inv_at}
 use Rattle.htl_machine.proofs.PositionRecords.{shift, shifted_slice}
 use Rattle.htl_machine.proofs.Printing.{joined-append}
 use Rattle.htl_machine.proofs.RecordTimes.{nothing}
-use Rattle.htl_machine.proofs.Standing.{some_same, none_some}
+use Rattle.htl_walk.proofs.Finishes.{some_same}
+use Rattle.htl_refine.proofs.RecordOrder.{not_some}
 
 module _ (jobs : List Job) (f q n i start end : ℕ) where
   -- a record at this offset is of a position, and its lines count exactly where that is q
@@ -38,7 +39,7 @@ module _ (jobs : List Job) (f q n i start end : ℕ) where
       → cond (ltb (f + at) n) (joined (slice_time i start end) (lines_at at o sl fin)) [] ≡ cond (is_position o q) (shifted_slice f sl) []
   slice_claim at o None fin works early =
       ap (λ (xs : List (ℕ × ℕ)). cond (ltb (f + at) n) xs []) (no_slices fin (f + at) (inv_at jobs o)) ∙ nothing (ltb (f + at) n) ∙ sym (nothing (is_position o q))
-  slice_claim at None (Some u) fin works early = let w = works u refl in none_some w.1.0 w.1.1
+  slice_claim at None (Some u) fin works early = let w = works u refl in not_some w.1.0 w.1.1
   slice_claim at (Some p) (Some u) fin works early =
       let w = works u refl in
       let inv = (job_at jobs p).inv in
@@ -64,7 +65,7 @@ module _ (jobs : List Job) (f q n i start end : ℕ) where
       never : (b : Bool) → cond {A = List ℕ} (b && false) ((f + at) ∷ []) [] ≡ []
       never true = refl
       never false = refl
-  done_claim at None sl true works early = let w = works refl in none_some w.0 w.1
+  done_claim at None sl true works early = let w = works refl in not_some w.0 w.1
   done_claim at (Some p) sl true works early =
       let w = works refl in
       let inv = (job_at jobs p).inv in

@@ -15,7 +15,9 @@ use Rattle.htl_model.specs.FrameRules.{KeptApart}
 use Rattle.htl_model.specs.Meaning.{before, stay_of, val, out, out_by, input_value, port_output, writer_from}
 use Rattle.htl_model.proofs.Laws.{seen_before}
 use Rattle.htl_machine.specs.Values.{Stands, HasRead, Orders}
-use Rattle.htl_machine.proofs.Standing.{some_same, none_some, all_at}
+use Rattle.htl_walk.proofs.Finishes.{some_same}
+use Rattle.htl_refine.proofs.RecordOrder.{not_some}
+use Rattle.htl_walk.proofs.Work.{all_at}
 use Rattle.htl_machine.proofs.Distinct.{there}
 use Rattle.htl_machine.proofs.Plain.{split}
 
@@ -26,7 +28,7 @@ map_same f g (x ∷ xs) h = ap₂ (λ a b. a ∷ b) (h 0 x refl) (map_same f g x
 -- ---- who writes a port
 
 port_is : (p q o : ℕ) (ends : List End) → port_output p q ends ≡ Some o → (d : ℕ) × (o ≡ q + d) × (slice_get ends d ≡ Some (E.Port p))
-port_is p q o [] e = none_some o e
+port_is p q o [] e = not_some o e
 port_is p q o (E.Comm c n ∷ ends) e = let r = port_is p (suc q) o ends e in (suc r.0, omega (arith, r.1), r.2)
 port_is p q o (E.Port z ∷ ends) e = by_test (eqb p z) refl e (λ g. port_is p (suc q) o ends g)
   where
@@ -44,7 +46,7 @@ pub record IsWriter (t : Tables) (m p w o : ℕ) : Type 0 where
   pub end : slice_get inv.writes o ≡ Some (E.Port p)
 
 writer_in : (t : Tables) (m p q : ℕ) (xs : List Inv) (w o : ℕ) → ((j : ℕ) → slice_get t.invs (q + j) ≡ slice_get xs j) → writer_from m p q xs ≡ Some (w, o) → IsWriter t m p w o
-writer_in t m p q [] w o at e = none_some (w, o) e
+writer_in t m p q [] w o at e = not_some (w, o) e
 writer_in t m p q (x ∷ xs) w o at e =
     by_test (eqb x.mode m) refl e (λ g. writer_in t m p (suc q) xs w o (λ j. ap (slice_get t.invs) (let z : suc q + j ≡ q + suc j = omega arith in z) ∙ at (suc j)) g)
   where

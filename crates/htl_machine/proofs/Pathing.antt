@@ -14,7 +14,8 @@ use Rattle.htl_machine.specs.Worlds.{effects, all_writes, with_sensors}
 use Rattle.htl_machine.proofs.Tying.{replay}
 use Rattle.htl_machine.specs.Plans.{with_records, next_world}
 use Rattle.htl_machine.specs.ListTurns.{Turn}
-use Rattle.htl_machine.proofs.Standing.{standing_at, standing_before}
+use Rattle.htl_refine.proofs.Standing.{standing_at}
+use Rattle.htl_machine.proofs.Standing.{standing_before}
 use Rattle.htl_machine.proofs.SwitchPhase.{switch_phase}
 use Rattle.htl_machine.proofs.Tying.{addresses, write_phase, read_phase}
 

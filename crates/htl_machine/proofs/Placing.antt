@@ -8,11 +8,12 @@ use Rattle.htl_model.specs.declared.parts.End.TheVariants as E
 use Rattle.htl_model.specs.Tables.{Tables}
 use Rattle.htl_model.specs.PortOrder.{is_read_from, feeds_at, feeds}
 use Rattle.htl_model.specs.PortWriters.{is_port}
-use Rattle.htl_machine.proofs.Standing.{some_same, none_some}
+use Rattle.htl_walk.proofs.Finishes.{some_same}
+use Rattle.htl_refine.proofs.RecordOrder.{not_some}
 use Rattle.htl_machine.proofs.Outs.{IsWriter}
 
 any_there : (f : End → Bool) (ends : List End) (k : ℕ) (e : End) → slice_get ends k ≡ Some e → f e ≡ true → list_any f ends ≡ true
-any_there f [] k e at h = none_some e at
+any_there f [] k e at h = not_some e at
 any_there f (d ∷ ends) zero e at h = left (f d) (list_any f ends) (ap f (some_same _ _ at) ∙ h)
   where
     left : (a b : Bool) → a ≡ true → (a || b) ≡ true

@@ -5,7 +5,8 @@ use Rattle.htl_model.specs.Lists.{joined}
 use Rattle.htl_walk.specs.Walk.{Left, slice_onto, slices, is_position, AllWithin}
 use Rattle.htl_refine.specs.ServedJobs.{spent, Finishes}
 use Rattle.htl_machine.proofs.LineBytes.{both_true}
-use Rattle.htl_machine.proofs.Standing.{some_same, none_some}
+use Rattle.htl_walk.proofs.Finishes.{some_same}
+use Rattle.htl_refine.proofs.RecordOrder.{not_some}
 
 -- ---- its slices
 
@@ -42,7 +43,7 @@ shifted_spent s (u ∷ us) = let next = shifted_spent s us in omega (arith, next
 
 -- a slice of the position is one of those that lie within
 pub within_at : (a b q : ℕ) (ls : List Left) (k : ℕ) (l : Left) (u : ℕ × ℕ) → AllWithin a b (slices ls q) → slice_get ls k ≡ Some l → l.position ≡ Some q → l.slice ≡ Some u → u.1 ≤ b
-within_at a b q [] k l u all at is some = none_some l at
+within_at a b q [] k l u all at is some = not_some l at
 within_at a b q (m ∷ ls) zero l u all at is some =
     let same = some_same _ _ at in
     let first : cond (is_position m.position q) (slice_onto m.slice (slices ls q)) (slices ls q) ≡ u ∷ slices ls q =
@@ -71,7 +72,7 @@ never_done s q (l ∷ ls) none = by (is_position l.position q && l.finished) ref
     by true e next = let is = both_true (is_position l.position q) l.finished e in absurd (none 0 l.at (l, refl, position_is l.position q is.0, is.1, refl))
 
 pub done_once : (s q : ℕ) (ls : List Left) (k f : ℕ) → Finishes ls q k f → ((m g : ℕ) → Finishes ls q m g → m ≡ k) → joined (position_done s q) ls ≡ (s + f) ∷ []
-done_once s q [] k f done once = none_some done.0 done.1
+done_once s q [] k f done once = not_some done.0 done.1
 done_once s q (l ∷ ls) zero f done once =
     let same = some_same _ _ done.1 in
     let here : (is_position l.position q && l.finished) ≡ true =

@@ -23,7 +23,8 @@ use Rattle.htl_machine.specs.Recording.{IsRecording}
 use Rattle.htl_machine.specs.Printing.{Prints, Counted, IsPrinting}
 use Rattle.htl_machine.specs.Texts.{inv_at, slice_lines, record_text, some_records}
 use Rattle.htl_machine.specs.RecordLines.{place_lines, job_lines, record_lines}
-use Rattle.htl_machine.proofs.Standing.{some_same, none_some}
+use Rattle.htl_walk.proofs.Finishes.{some_same}
+use Rattle.htl_refine.proofs.RecordOrder.{not_some}
 use Rattle.htl_machine.proofs.Desking.{next_some, next_none, told_get}
 
 -- ---- the lines of one record
@@ -67,7 +68,7 @@ joined-append f [] ys = refl
 joined-append f (x ∷ xs) ys = ap (λ z. f x ++ z) (joined-append f xs ys) ∙ sym (append_assoc (f x) (joined f xs) (joined f ys))
 
 cut : {A : Type 0} (xs : List A) (n m : ℕ) (y : A) → slice_get xs n ≡ Some y → n < m → take m xs ≡ take n xs ++ (y ∷ take (m - suc n) (drop (suc n) xs))
-cut [] n m y e h = none_some y e
+cut [] n m y e h = not_some y e
 cut (x ∷ xs) n zero y e h = absurd (omega (arith, h))
 cut (x ∷ xs) zero (suc m) y e h = ap₂ (λ a b. a ∷ take b xs) (some_same _ _ e) (let z : m ≡ suc m - suc zero = omega arith in z)
 cut (x ∷ xs) (suc n) (suc m) y e h =
@@ -115,30 +116,19 @@ next_is p s k m d at r code l same past low few was e =
 
     not_all : (m < due_by p s at) ⊎ (m ≡ due_by p s at) → m < due_by p s at
     not_all (inl a) = a
-    not_all (inr b) = none_some l (sym (next_none p s at d past m r was b) ∙ ap (λ c. next_left r c at) same ∙ e)
+    not_all (inr b) = not_some l (sym (next_none p s at d past m r was b) ∙ ap (λ c. next_left r c at) same ∙ e)
 
 -- none is left
 all_given : (p : Plan) (s m d at : ℕ) (r : Round) (code : List SInstr) → p.schedule ≡ code → s ≤ at → m ≤ due_by p s at → DeskAt p s m d r → next_left r code at ≡ None → r.place ≡ due_by p s at
 all_given p s m d at r code same past few was e = elim (order m (due_by p s at) few) [
   | inr b ↦ was.place ∙ b
-  | inl a ↦ let x = next_some p s at d past m r was a in none_some (told s m x.0) (sym e ∙ ap (λ c. next_left r c at) (sym same) ∙ x.2)
+  | inl a ↦ let x = next_some p s at d past m r was a in not_some (told s m x.0) (sym e ∙ ap (λ c. next_left r c at) (sym same) ∙ x.2)
 ]
   where
     order : (a b : ℕ) → a ≤ b → (a < b) ⊎ (a ≡ b)
     order a b h = grind arith
 
 -- ---- the loop
-
-pub printing_start : (t : Tables) (show : Shown) (sel : ℕ) (r : Round) (code : List SInstr) (at : ℕ) (w : Option (List ℕ)) (f : ℕ) (n : Tally) → IsPrinting t show sel r r code at w w f f n n
-printing_start t show sel r code at w f n =
-    record {
-      kept = refl;
-      text = λ p s k d same past few was. append_known-start w ∙ ap (λ m. append_known w (joined (record_text t show p sel) (some_records p s k m))) (none k was.place);
-      count = λ p s k d same past few was. ap (λ m. with_records (some_records p s k m) n) (none k was.place);
-    }
-  where
-    none : (k : ℕ) → r.place ≡ k → 0 ≡ r.place - k
-    none k e = omega (arith, e)
 
 -- the text of a record, by the plan
 line_is : (t : Tables) (show : Shown) (sel : ℕ) (p : Plan) (jobs : List Job) (code : List SInstr) (l : Left) → p.schedule ≡ code → p.jobs ≡ jobs → record_lines t show jobs code sel l ≡ record_text t show p sel l

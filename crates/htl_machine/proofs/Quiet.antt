@@ -61,7 +61,7 @@ use Rattle.htl_machine.proofs.Wholly.{modes_read}
 use Rattle.htl_machine.specs.Quiet.{IsQuiet, AreQuiet, IsEmpty, PassOver}
 use Rattle.htl_refine.proofs.BeginningsEnd.{beginnings_end}
 use Rattle.htl_machine.proofs.NextLists.{begins_whole}
-use Rattle.htl_machine.proofs.Standing.{standing_at}
+use Rattle.htl_refine.proofs.Standing.{standing_at}
 use Rattle.htl_machine.proofs.Idle.{IsIdle, idle, round_ends}
 
 -- ---- where nothing changes there are no lines

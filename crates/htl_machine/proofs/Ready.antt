@@ -37,7 +37,7 @@ use Rattle.htl_machine.proofs.Meeting.{records_are}
 use Rattle.htl_machine.proofs.Premises.{no_list, stands_told, first_desk, first_recorded}
 use Rattle.htl_machine.proofs.LoadedLists.{loaded_listed, loaded_of, loaded_turns, loaded_code, loaded_run}
 use Rattle.htl_machine.proofs.FrameValues.{count_grows}
-use Rattle.htl_machine.proofs.Standing.{none_some}
+use Rattle.htl_refine.proofs.RecordOrder.{not_some}
 
 -- ---- where there is no list
 
@@ -46,8 +46,8 @@ stands_none =
     record {
       point = refl;
       work = λ p e. absurd (omega (arith, e));
-      lengths = λ p j e f. none_some j e;
-      worst = λ p j e f. none_some j e;
+      lengths = λ p j e f. not_some j e;
+      worst = λ p j e f. not_some j e;
       pending = λ p e. absurd (let z : ⊥ = cc in z);
     }
 
@@ -78,7 +78,7 @@ module _ (m : Seen) (es : List Event) (now : ℕ) where
         past = omega arith;
         few = omega arith;
         was = first_desk m.held.desk none st;
-        of = subst (λ (r : Round). AreOf m.object.tables r.jobs) (sym none) (λ p j e f. none_some j e);
+        of = subst (λ (r : Round). AreOf m.object.tables r.jobs) (sym none) (λ p j e f. not_some j e);
         form = λ runs. absurd (let z : ⊥ = cc in z);
         short = omega arith;
         stands = st;

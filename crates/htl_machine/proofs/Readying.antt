@@ -1,27 +1,14 @@
 -- The read phase goes on by one instruction, and what it releases is told.
-use Rattle.std.proofs.Common.{◌≡◌, ℕ, List, [], ◌∷◌, ◌++◌, slice_get, Option, Some, None, refl, sym, ap, ◌∙◌}
-use Rattle.std.proofs.lemmas.List.{append-nil}
-use Rattle.htl_model.specs.declared.event.Event.{Event}
-use Rattle.htl_model.specs.Tables.{Tables}
-use Rattle.htl_walk.specs.declared.job.Job.{Job}
-use Rattle.htl_walk.specs.declared.schedule.SInstr.{SInstr}
+use Rattle.std.proofs.Common.{◌≡◌, ℕ, List, [], ◌∷◌, ◌++◌, slice_get, Option, Some, None, refl, ap, ◌∙◌}
 use Rattle.htl_smach.specs.declared.state.PosState.{PosState}
 use Rattle.htl_smach.specs.declared.state.PosState.TheVariants.{Absent, Pending, Ready, Done as Finished}
-use Rattle.htl_smach.specs.Rounds as rounds
 use Rattle.htl_smach.specs.Rounds.{Round, state_of}
 use Rattle.htl_ecode.specs.declared.ecode.ECode.{ECode}
 use Rattle.htl_ecode.specs.declared.instr.EInstr.{EInstr}
 use Rattle.htl_ecode.specs.declared.instr.EInstr.TheVariants as I
 use Rattle.htl_ecode.specs.Paths.{Done}
-use Rattle.htl_emach.specs.declared.trigger.EDone.{EDone}
-use Rattle.htl_emach.specs.Contents.{Content}
-use Rattle.htl_emach.specs.Shapes.{IsShaped}
-use Rattle.htl_emach.specs.Calendars.{Standing, content_after}
-use Rattle.htl_emach.specs.Safety.{StandsSafely}
-use Rattle.htl_emach.specs.Following.{Midway, Onward, phase_path, done_of}
-use Rattle.htl_machine.proofs.Going.{running_on, running_done}
 use Rattle.htl_machine.specs.Turns.{position_from}
-use Rattle.htl_machine.specs.Readiness.{made_ready, released_to, desk_does, desk_at, desk_replay, IsReadying}
+use Rattle.htl_machine.specs.Readiness.{made_ready, released_to, desk_does, desk_at, desk_replay}
 
 -- but for flags the round stays
 ready_only : (s : PosState) (r : Round) (p : ℕ) → made_ready s r p ≡ record r { released = (made_ready s r p).released }
@@ -67,33 +54,3 @@ replay_only code (d ∷ ds) r =
 desk_more : (code : ECode) (ds : List Done) (d : Done) (r : Round) → desk_replay code (ds ++ d ∷ []) r ≡ desk_at (slice_get code.instrs d.address) (desk_replay code ds r)
 desk_more code [] d r = refl
 desk_more code (x ∷ ds) d r = desk_more code ds d (desk_at (slice_get code.instrs x.address) r)
-
-pub readying_start : (t : Tables) (code : ECode) (es : List Event) (at : ℕ) (m : Standing) (w : Content) (desk : Round) (jobs : List Job) → StandsSafely t code m → IsShaped t w → desk.jobs ≡ jobs
-    → Midway t code es at 3 m [] (phase_path t code es at 3) → IsReadying t code es at m w w desk desk jobs
-readying_start t code es at m w desk jobs safe shaped are mid =
-    record {
-      running = record { done = []; rest = phase_path t code es at 3; midway = mid; safe = safe; shaped = shaped; content = refl; values = λ two. refl };
-      are = are;
-      told = refl;
-      stands = λ s st. st;
-    }
-
--- one instruction more
-pub readying_on : (t : Tables) (code : ECode) (es : List Event) (at : ℕ) (m next : Standing) (w after first : Content) (desk then before : Round) (jobs : List Job) (d : EDone)
-    → (h : IsReadying t code es at m w first desk before jobs) → StandsSafely t code next → IsShaped t after → Onward t code es at 3 next h.running.done h.running.rest (Some d) → after ≡ content_after t w (Some d)
-    → then ≡ desk_does d.instr desk → ((s : List SInstr) → rounds.Stands desk s → rounds.Stands then s) → IsReadying t code es at next after first then before jobs
-readying_on t code es at m next w after first desk then before jobs d h safe shaped on is told stands =
-    record {
-      running = running_on t code es at 3 m next w after first d h.running safe shaped on is;
-      are = ap (λ (z : Round). z.jobs) told ∙ does_jobs d.instr desk ∙ h.are;
-      told = told ∙ sym (ap (λ (o : Option EInstr). desk_at o desk) on.2) ∙ ap (desk_at (slice_get code.instrs d.address)) h.told ∙ sym (desk_more code h.running.done (done_of d) before)
-          ∙ sym (ap (λ ds. desk_replay code ds before) (running_done t code es at 3 m next w after first d h.running safe shaped on is));
-      stands = λ s st. stands s (h.stands s st);
-    }
-
--- nothing is left
-pub readying_ends : (t : Tables) (code : ECode) (es : List Event) (at : ℕ) (m next : Standing) (w first : Content) (desk before : Round) (jobs : List Job) → (h : IsReadying t code es at m w first desk before jobs)
-    → Onward t code es at 3 next h.running.done h.running.rest None → desk ≡ desk_replay code (phase_path t code es at 3) before
-readying_ends t code es at m next w first desk before jobs h on =
-    let all : phase_path t code es at 3 ≡ h.running.done = h.running.midway.path ∙ ap (λ zs. h.running.done ++ zs) on.0 ∙ append-nil h.running.done in
-    h.told ∙ sym (ap (λ ds. desk_replay code ds before) all)

@@ -20,9 +20,9 @@ use Rattle.htl_machine.specs.Completing.{complete_at, complete_by, run_records}
 use Rattle.htl_machine.specs.Follows.{DeskAt}
 use Rattle.htl_machine.specs.Leaving.{due_by}
 use Rattle.htl_machine.specs.Recording.{AreOf, IsJobOf, Records, IsRecording}
-use Rattle.htl_machine.proofs.Standing.{some_same, none_some}
+use Rattle.htl_walk.proofs.Finishes.{some_same}
+use Rattle.htl_refine.proofs.RecordOrder.{not_some}
 use Rattle.htl_refine.proofs.FinishingRecords.{last_is}
-use Rattle.htl_machine.proofs.Casting.{job_is}
 use Rattle.htl_machine.proofs.Desking.{next_some, next_none, moves_on, told_get}
 use Rattle.htl_machine.proofs.Leaving.{is_running, instr_there, still_pending}
 
@@ -44,7 +44,7 @@ answer_of r code at l e =
     by_record (slice_get (walk_from r.jobs code r.first) r.place) refl (sym (told_get r.start 0 (walk_from r.jobs code r.first) r.place) ∙ answer_is r code at l e)
   where
     by_record : (o : Option walks.Left) → slice_get (walk_from r.jobs code r.first) r.place ≡ o → option_map (told r.start (0 + r.place)) o ≡ Some l → IsAnswer r code l
-    by_record None f g = none_some l g
+    by_record None f g = not_some l g
     by_record (Some x) f g = record { record_of = x; at = f; is = sym (some_same _ _ g) ∙ ap (λ z. told r.start z x) (let h : 0 + r.place ≡ r.place = omega arith in h) }
 
 -- who is done stands at its position
@@ -104,7 +104,7 @@ recording_step t r0 r n w0 w v jobs code at l h e f st shaped is =
     not_all : (p : Plan) (s m d : ℕ) → p.schedule ≡ code → s ≤ at → m ≤ due_by p s at → DeskAt p s m d r → m < due_by p s at
     not_all p s m d same past few was = elim (order m (due_by p s at) few) [
       | inl a ↦ a
-      | inr b ↦ none_some l (sym (next_none p s at d past m r was b) ∙ ap (λ c. next_left r c at) same ∙ e)
+      | inr b ↦ not_some l (sym (next_none p s at d past m r was b) ∙ ap (λ c. next_left r c at) same ∙ e)
     ]
       where
         order : (a b : ℕ) → a ≤ b → (a < b) ⊎ (a ≡ b)
@@ -127,7 +127,7 @@ recording_end t r0 r n w0 w jobs code at h e f =
     let g = h.goes p s k d same past few was in
     let all : g.0 ≡ due_by p s at = elim (order g.0 (due_by p s at) g.2) [
       | inr b ↦ b
-      | inl a ↦ let x = next_some p s at d past g.0 r g.3 a in none_some (told s g.0 x.0) (sym e ∙ ap (λ c. next_left r c at) (sym same) ∙ x.2)
+      | inl a ↦ let x = next_some p s at d past g.0 r g.3 a in not_some (told s g.0 x.0) (sym e ∙ ap (λ c. next_left r c at) (sym same) ∙ x.2)
     ] in (
       subst (λ z. DeskAt p s (due_by p s at) d z) (sym f) (subst (λ m. DeskAt p s m d r) all g.3),
       g.4 ∙ ap (λ z. run_records t p.jobs (list_walk p) (z - k) k w0) all,
@@ -150,9 +150,6 @@ answer_job t r jobs code at l all are st e fin = by_position l.position refl
         let there : slice_get jobs p ≡ Some (job_at jobs p) = sym (ap (λ (js : List Job). slice_get js p) are) ∙ j.0 ∙ ap (λ z. Some z) is in
         let a = all p (job_at jobs p) there (ap (λ (z : Job). z.present) (sym is) ∙ j.1) in
         (slice_get_within jobs p (job_at jobs p) there, a.0, a.1)
-
-pub inv_is : (jobs : List Job) (p : ℕ) (j : Job) → slice_get jobs p ≡ Some j → j.inv ≡ (job_at jobs p).inv
-inv_is jobs p j e = ap (λ (z : Job). z.inv) (sym (job_is jobs p j e))
 
 -- what a done job puts out, by its position
 pub put_is : (t : Tables) (jobs : List Job) (fin : Bool) (o : Option ℕ) (p i : ℕ) (w v : Content) → AreInRange t → KeptApart t 12 → fin ≡ true → o ≡ Some p → i ≡ (job_at jobs p).inv → (fin ≡ true → IfSome o (IsJobOf t jobs))

@@ -18,7 +18,9 @@ use Rattle.htl_machine.specs.Casts.{IsCast, HaveWindows}
 use Rattle.htl_machine.specs.Turns.{position_from}
 use Rattle.htl_machine.specs.Follows.{released_before}
 use Rattle.htl_machine.specs.Tellings.{tell_at, tell_want, tell_all}
-use Rattle.htl_machine.proofs.Standing.{IsStanding, some_same, none_some}
+use Rattle.htl_refine.proofs.Standing.{IsStanding}
+use Rattle.htl_walk.proofs.Finishes.{some_same}
+use Rattle.htl_refine.proofs.RecordOrder.{not_some}
 use Rattle.htl_machine.proofs.Asked.{In, AsksFor, asks_left, do_right, asks_joined, joined_asks, asks_up_to, up_to_asks, numbered_in, in_numbered, copied, not_called, among_reads}
 use Rattle.htl_machine.proofs.Casting.{position_some, last_open}
 use Rattle.htl_machine.proofs.Plain.{apart, both}
@@ -156,7 +158,7 @@ are_flagged jobs (x ∷ xs) bs p h = by_kind (kind_of x) (are_flagged jobs xs (t
         by_place o e = by_same o (decide o)
           where
             decide : (o : Option ℕ) → (o ≡ Some p) ⊎ (o ≢ Some p)
-            decide None = inr (λ e. none_some p e)
+            decide None = inr (λ e. not_some p e)
             decide (Some q) = elim (apart q p) [ inl g ↦ inl (ap (λ z. Some z) g) | inr n ↦ inr (λ e. n (some_same _ _ e)) ]
 
             put : tell_want jobs x bs ≡ tell_at o bs
@@ -187,7 +189,7 @@ same_bools (x ∷ xs) [] e h = absurd (omega arith)
 same_bools (x ∷ xs) (y ∷ ys) e h = ap₂ (λ a b. a ∷ b) (h 0 (omega arith)) (same_bools xs ys (omega arith) (λ k p. h (suc k) (omega arith)))
 
 pub flag_at : (d : ℕ) (js : List Job) (p : ℕ) (j : Job) → slice_get js p ≡ Some j → get_or (released_before d js) p false ≡ (j.present && ltb j.release d)
-flag_at d [] p j e = none_some j e
+flag_at d [] p j e = not_some j e
 flag_at d (k ∷ js) zero j e = ap (λ (z : Job). z.present && ltb z.release d) (some_same _ _ e)
 flag_at d (k ∷ js) (suc p) j e = flag_at d js p j e
 

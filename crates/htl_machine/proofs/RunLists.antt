@@ -50,12 +50,14 @@ use Rattle.htl_machine.proofs.ListStarts.{StandsAt, stands_at, some_begun, begun
 use Rattle.htl_machine.proofs.ListValues.{take_front}
 use Rattle.htl_machine.proofs.Plain.{apart, down}
 use Rattle.htl_machine.proofs.RunFrames.{feasible_runs}
-use Rattle.htl_machine.proofs.Standing.{none_some, some_same}
-use Rattle.htl_machine.proofs.Periods.{goes_on, begins_or_not}
+use Rattle.htl_refine.proofs.RecordOrder.{not_some}
+use Rattle.htl_walk.proofs.Finishes.{some_same}
+use Rattle.htl_refine.proofs.OwnRounds.{goes_on}
+use Rattle.htl_machine.proofs.Periods.{begins_or_not}
 
 -- the records of list j among those of its frame
 split_at : (ws : List (List Left)) (j : ℕ) (x : List Left) → slice_get ws j ≡ Some x → (rest : List Left) × (end_to_end ws ≡ (end_to_end (take j ws) ++ x) ++ rest)
-split_at [] j x e = none_some x e
+split_at [] j x e = not_some x e
 split_at (w ∷ ws) zero x e = (end_to_end ws, ap (λ z. z ++ end_to_end ws) (some_same w x e))
 split_at (w ∷ ws) (suc j) x e =
     let r = split_at ws j x e in

@@ -24,7 +24,7 @@ use Rattle.htl_ecode.proofs.Spelled.{Reads, ModeReads}
 use Rattle.htl_emach.specs.Contents.{Content, effect}
 use Rattle.htl_machine.specs.Worlds.{want_effect, effects}
 use Rattle.std.proofs.lemmas.Option.{slice_get_within}
-use Rattle.htl_machine.proofs.Standing.{all_at}
+use Rattle.htl_walk.proofs.Work.{all_at}
 use Rattle.htl_machine.proofs.Asked.{In, numbered_in}
 use Rattle.htl_machine.proofs.Tying.{replay, replay_more, jumps_do_nothing, one_does, same_effect, reached_does, chain_does, addresses, addresses_on, addresses_more}
 

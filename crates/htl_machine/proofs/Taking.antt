@@ -17,7 +17,7 @@ use Rattle.htl_refine.specs.Records.{inv_worst, took, IsTookWithin, AreTookWithi
 use Rattle.htl_machine.specs.Plans.{finished_before, next_world}
 use Rattle.htl_machine.specs.Follows.{Held, reading_of, DeskStands, DeskFollows, UpTo, Follows, IsLoaded, desk_taking, taken_as}
 use Rattle.htl_machine.specs.RunLists.{turn_by, turn_at, list_turn}
-use Rattle.htl_machine.proofs.Standing.{none_some}
+use Rattle.htl_refine.proofs.RecordOrder.{not_some}
 use Rattle.htl_machine.proofs.Events.{Alike, values_alike, reading_more, sense_took, took_took}
 use Rattle.htl_machine.proofs.Following.{within_more, all_read, instant_values}
 use Rattle.htl_machine.proofs.TookLists.{took_so_far, took_desk}
@@ -136,8 +136,8 @@ new_follows t schedules m open_yet reading fits shows takes values shape desk =
             values =
                 record {
                   values = values;
-                  inputs = λ i x s k c n st fin at h. none_some (record { mode = x.mode; start = s }) st.in_round;
-                  outputs = λ i x s k st fin h. none_some (record { mode = x.mode; start = s }) st.in_round;
+                  inputs = λ i x s k c n st fin at h. not_some (record { mode = x.mode; start = s }) st.in_round;
+                  outputs = λ i x s k st fin h. not_some (record { mode = x.mode; start = s }) st.in_round;
                 };
             shape = shape;
             desk = first (hyper t);

@@ -24,7 +24,7 @@ use Rattle.htl_refine.specs.ServedFrames.{IsFeasibleRun}
 use Rattle.htl_refine.proofs.Fronts.{job_front}
 use Rattle.htl_refine.proofs.ListsFollow.{rises_up}
 use Rattle.htl_refine.proofs.RecordLists.{old_joined, new_joined, none_joined, no_frames}
-use Rattle.htl_refine.proofs.RecordOrder.{walk_rises}
+use Rattle.htl_refine.proofs.RecordOrder.{walk_rises, not_some}
 use Rattle.htl_console.specs.declared.shown.Shown.{Shown}
 use Rattle.htl_console.specs.Shows.{shows_jobs, shows_code}
 use Rattle.htl_console.specs.Lines.{done_line}
@@ -35,14 +35,14 @@ use Rattle.htl_machine.specs.RunLists.{list_turn}
 use Rattle.htl_machine.specs.Texts.{inv_at, slice_lines, record_text, some_records, old_turn, old_records, new_records, records_text}
 use Rattle.htl_machine.proofs.ListStarts.{ends_next}
 use Rattle.htl_machine.proofs.RunLists.{rise, past, stands, from_is, length-jobs, are_listed}
-use Rattle.htl_machine.proofs.Standing.{none_some, some_same}
+use Rattle.htl_walk.proofs.Finishes.{some_same}
 use Rattle.htl_machine.proofs.Telling.{as_told, left_then, none_before, piece}
 
 -- ---- nothing runs at the point at which a list begins
 
 -- a record that is left where its walk begins has no slice, and finishes nothing
 pub silent_at : (jobs : List Job) (is : List SInstr) (x : Point) (a k : ℕ) (l : walks.Left) → a ≤ x.time → slice_get (walk_from jobs is x) k ≡ Some l → l.at ≡ a → (l.slice ≡ None) × (l.finished ≡ false)
-silent_at jobs [] x a k l low at first = none_some l at
+silent_at jobs [] x a k l low at first = not_some l at
 silent_at jobs (i ∷ is) x a (suc k) l low at first = let later = time_rises jobs i x in silent_at jobs is (next_point jobs i x) a k l (omega (arith, low, later)) at first
 silent_at jobs (Idle until ∷ is) x a zero l low at first =
     let is : left_by jobs (Idle until) x (next_point jobs (Idle until) x) ≡ l = some_same _ _ at in
@@ -85,14 +85,14 @@ rises_zero a (l ∷ ls) r = (omega arith, r.1)
 
 -- a record dispatches a position that has begun
 position_below : (jobs : List Job) (count to : ℕ) (is : List SInstr) (x : Point) → InForm count to is → (k : ℕ) (l : walks.Left) (q : ℕ) → slice_get (walk_from jobs is x) k ≡ Some l → l.position ≡ Some q → q < count
-position_below jobs count to [] x f k l q at pos = none_some l at
-position_below jobs count to (End ∷ []) x f zero l q at pos = none_some q (ap (λ (m : walks.Left). m.position) (some_same _ _ at) ∙ pos)
-position_below jobs count to (End ∷ []) x f (suc k) l q at pos = none_some l at
+position_below jobs count to [] x f k l q at pos = not_some l at
+position_below jobs count to (End ∷ []) x f zero l q at pos = not_some q (ap (λ (m : walks.Left). m.position) (some_same _ _ at) ∙ pos)
+position_below jobs count to (End ∷ []) x f (suc k) l q at pos = not_some l at
 position_below jobs count to (End ∷ i ∷ is) x f k l q at pos = absurd f.0
 position_below jobs count to (Dispatch p until ∷ is) x f zero l q at pos =
     let same : p ≡ q = some_same _ _ (ap (λ (m : walks.Left). m.position) (some_same _ _ at) ∙ pos) in omega (arith, same, f.0.0)
 position_below jobs count to (Dispatch p until ∷ is) x f (suc k) l q at pos = position_below jobs count to is (next_point jobs (Dispatch p until) x) f.1 k l q at pos
-position_below jobs count to (Idle until ∷ is) x f zero l q at pos = none_some q (ap (λ (m : walks.Left). m.position) (some_same _ _ at) ∙ pos)
+position_below jobs count to (Idle until ∷ is) x f zero l q at pos = not_some q (ap (λ (m : walks.Left). m.position) (some_same _ _ at) ∙ pos)
 position_below jobs count to (Idle until ∷ is) x f (suc k) l q at pos = position_below jobs count to is (next_point jobs (Idle until) x) f.1 k l q at pos
 
 -- whether one piece of text is made of a record that is left at an instant

@@ -23,7 +23,9 @@ use Rattle.htl_machine.specs.Turns.{position_from}
 use Rattle.htl_machine.specs.Follows.{DeskAt}
 use Rattle.htl_machine.specs.Tellings.{tell_at, tell_want, tell_all}
 use Rattle.htl_machine.specs.Readiness.{made_ready, released_to, desk_replay, desk_want, desk_all}
-use Rattle.htl_machine.proofs.Standing.{standing_at, some_same, none_some}
+use Rattle.htl_refine.proofs.Standing.{standing_at}
+use Rattle.htl_walk.proofs.Finishes.{some_same}
+use Rattle.htl_refine.proofs.RecordOrder.{not_some}
 use Rattle.htl_refine.proofs.DoneRecords.{done_some}
 use Rattle.htl_refine.proofs.DoneRecords as records
 use Rattle.htl_machine.proofs.Casting.{job_is, position_some}
@@ -91,8 +93,8 @@ flags_are (w ∷ ws) r h =
 -- ---- who is released now isn't done
 
 front_more : (ls : List Left) (k m q f : ℕ) → k ≤ m → finish (take k ls) q ≡ Some f → finish (take m ls) q ≡ Some f
-front_more ls zero m q f h e = none_some f e
-front_more [] (suc k) m q f h e = none_some f e
+front_more ls zero m q f h e = not_some f e
+front_more [] (suc k) m q f h e = not_some f e
 front_more (l ∷ ls) (suc k) zero q f h e = absurd (omega (arith, h))
 front_more (l ∷ ls) (suc k) (suc m) q f h e = by_test (is_position l.position q && l.finished) e (λ g. front_more ls k m q f (omega (arith, h)) g)
   where

@@ -41,7 +41,7 @@ use Rattle.htl_machine.proofs.ListAdded.{lists_are_begun}
 use Rattle.htl_machine.proofs.LoadedLists.{loaded_code, loaded_listed, loaded_of, loaded_run, loaded_turns}
 use Rattle.htl_machine.proofs.NextLists.{lists_begin, at_is}
 use Rattle.htl_machine.proofs.RunLists.{few, length-jobs, stands}
-use Rattle.htl_machine.proofs.Standing.{standing_at}
+use Rattle.htl_refine.proofs.Standing.{standing_at}
 use Rattle.htl_machine.proofs.Timely.{read_phase_tells}
 
 -- ---- the list that comes next

@@ -46,7 +46,7 @@ use Rattle.htl_machine.proofs.Following.{within_more}
 use Rattle.htl_machine.proofs.Instants.{windows}
 use Rattle.htl_machine.proofs.ListsSoFar.{AreSoFar}
 use Rattle.htl_machine.proofs.RunLists.{past, serving, stands, there, from_is, few, length-jobs, are_turns, are_listed}
-use Rattle.htl_machine.proofs.Standing.{some_same}
+use Rattle.htl_walk.proofs.Finishes.{some_same}
 use Rattle.htl_machine.proofs.Telling.{none_before}
 use Rattle.htl_machine.proofs.Timely.{done_late}
 

@@ -14,7 +14,7 @@ use Rattle.htl_model.specs.Tables.{Tables, is_concrete, mode_module, mode_period
 use Rattle.htl_form.proofs.PartLaws.{none_some}
 use Rattle.htl_model.proofs.TestLaws.{same_number, other_number}
 use Rattle.htl_refine.proofs.Chains.{right_parent}
-use Rattle.htl_machine.proofs.Standing.{all_at}
+use Rattle.htl_walk.proofs.Work.{all_at}
 use Rattle.htl_refine.proofs.OwnPeriods.{parent_period}
 
 module _ (t : Tables) (range : AreInRange t) (kept : KeptApart t 16) (modes : List (Option ℕ)) (selection : IsSelection t modes) where

@@ -18,7 +18,8 @@ use Rattle.htl_emach.specs.Contents.{Content, buffer, comm_of}
 use Rattle.htl_machine.specs.Worlds.{effects, writes_at, all_writes, want_effect, shown, shown_at}
 use Rattle.htl_emach.specs.Contents as contents
 use Rattle.htl_machine.specs.Values.{IsDue, AreDistinct, values_before}
-use Rattle.htl_machine.proofs.Standing.{IsStanding, none_some, standing_at}
+use Rattle.htl_refine.proofs.Standing.{IsStanding, standing_at}
+use Rattle.htl_refine.proofs.RecordOrder.{not_some}
 use Rattle.htl_machine.proofs.Asked.{due_of, due_asks}
 use Rattle.htl_machine.proofs.Moving.{Written, are_written}
 use Rattle.htl_machine.proofs.Due.{found_write, no_due}
@@ -70,7 +71,7 @@ module _ (t : Tables) (stays : List (Option Stay)) (n now : ℕ) (standing : IsS
 -- ---- the first instant
 
 map_at : {A B : Type 0} (f : A → B) (xs : List A) (k : ℕ) (d : B) (x : A) → slice_get xs k ≡ Some x → get_or (map f xs) k d ≡ f x
-map_at f [] k d x e = none_some x e
+map_at f [] k d x e = not_some x e
 map_at f (y ∷ xs) zero d x e = ap f (let z : y ≡ x = cc in z)
 map_at f (y ∷ xs) (suc k) d x e = map_at f xs k d x e
 

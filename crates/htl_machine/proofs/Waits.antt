@@ -14,7 +14,7 @@ use Rattle.htl_machine.specs.Waiting.{MarksWaiting, takes_now}
 use Rattle.htl_machine.specs.declared.marks.Marks.{Marks}
 use Rattle.htl_machine.specs.declared.noted.Noted.{Noted}
 use Rattle.htl_machine.specs.declared.sensors.Sensors.{Sensors}
-use Rattle.htl_machine.proofs.Standing.{some_same}
+use Rattle.htl_walk.proofs.Finishes.{some_same}
 
 -- ---- the sensors stay
 

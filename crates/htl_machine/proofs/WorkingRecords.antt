@@ -8,9 +8,9 @@ use Rattle.htl_walk.specs.Paths.{Leg, begun, walks_from, end_to_end}
 use Rattle.htl_walk.specs.Walk.{Point, Left, job_at, begins, time_after, work_after, slice_between, finishes_by, next_point, left_by, walk_from, last_point}
 use Rattle.htl_walk.proofs.Acceptance.{left_falls_to}
 use Rattle.htl_walk.proofs.Steps.{left_falls, left_same}
-use Rattle.htl_refine.proofs.RecordOrder.{get_in, get_past}
+use Rattle.htl_refine.proofs.RecordOrder.{get_in, get_past, not_some}
 use Rattle.htl_refine.proofs.SliceOrder.{slice_inside}
-use Rattle.htl_machine.proofs.Standing.{some_same, none_some}
+use Rattle.htl_walk.proofs.Finishes.{some_same}
 
 -- the record has a slice, or finishes a job
 abbrev pub DoesWork : Left → Type 0
@@ -44,14 +44,14 @@ module _ (jobs : List Job) (q until : ℕ) (x : Point) where
   record_of = left_by jobs (Dispatch q until) x after
 
   at_once : (w : ℕ) → get_or x.left q 0 ≡ w → DoesWork record_of → (0 < get_or x.left q 0) × ((job_at jobs q).release < after.time)
-  at_once zero none (inl u) = none_some u.0 (ap (λ w. slice_between (begins x.time (job_at jobs q).release until) until w after.time) (sym none) ∙ u.1)
+  at_once zero none (inl u) = not_some u.0 (ap (λ w. slice_between (begins x.time (job_at jobs q).release until) until w after.time) (sym none) ∙ u.1)
   at_once zero none (inr done) = absurd (let z : false ≡ true = ap (λ w. finishes_by w (get_or after.left q 0)) (sym none) ∙ done in let y : ⊥ = cc in y)
   at_once (suc w) some (inl u) = by (ltb (begins x.time (job_at jobs q).release until) until) refl (ap (λ v. slice_between (begins x.time (job_at jobs q).release until) until v after.time) (sym some) ∙ u.1)
     where
       by : (b : Bool) → ltb (begins x.time (job_at jobs q).release until) until ≡ b
           → ◌≡◌ {A = Option (ℕ × ℕ)} (elim b [ true ↦ Some (begins x.time (job_at jobs q).release until, after.time) | false ↦ None ]) (Some u.0)
           → (0 < get_or x.left q 0) × ((job_at jobs q).release < after.time)
-      by false e f = none_some u.0 f
+      by false e f = not_some u.0 f
       by true e f =
           let room = ltb-true (begins x.time (job_at jobs q).release until) until e in
           let time : after.time ≡ time_after x.time (suc w) (job_at jobs q).release until = ap (λ v. time_after x.time v (job_at jobs q).release until) some in
@@ -71,11 +71,11 @@ module _ (jobs : List Job) (q until : ℕ) (x : Point) where
 -- ---- a walk
 
 idle : {P : Type 0} (l : Left) → None ≡ l.slice → false ≡ l.finished → DoesWork l → P
-idle l e f (inl u) = none_some u.0 (e ∙ u.1)
+idle l e f (inl u) = not_some u.0 (e ∙ u.1)
 idle l e f (inr done) = absurd (let z : false ≡ true = f ∙ done in let y : ⊥ = cc in y)
 
 works_at : (jobs : List Job) (is : List SInstr) (x : Point) (k : ℕ) (l : Left) → slice_get (walk_from jobs is x) k ≡ Some l → DoesWork l → Works jobs x l
-works_at jobs [] x k l at does = none_some l at
+works_at jobs [] x k l at does = not_some l at
 works_at jobs (i ∷ is) x (suc k) l at does =
     let w = works_at jobs is (next_point jobs i x) k l at does in
     record { position = w.position; of = w.of; some = omega (arith, w.some, left_falls jobs i x w.position); released = w.released; ends = w.ends }
@@ -87,8 +87,8 @@ works_at jobs (Dispatch q until ∷ is) x zero l at does =
 
 -- in the walks of a frame's lists
 pub works_in : (jobs : List Job) (ss : List (List SInstr)) (gs : List Leg) (x : Point) (k : ℕ) (l : Left) → slice_get (end_to_end (walks_from jobs ss gs x)) k ≡ Some l → DoesWork l → Works jobs x l
-works_in jobs [] gs x k l at does = none_some l at
-works_in jobs (s ∷ ss) [] x k l at does = none_some l at
+works_in jobs [] gs x k l at does = not_some l at
+works_in jobs (s ∷ ss) [] x k l at does = not_some l at
 works_in jobs (s ∷ ss) (g ∷ gs) x k l at does = elim (cases_lt k (length (walk_from jobs s (begun g.from x)))) [
   | inl h ↦ here h
   | inr h ↦ there h (λ d e. works_in jobs ss gs (last_point jobs s (begun g.from x)) d l e does)

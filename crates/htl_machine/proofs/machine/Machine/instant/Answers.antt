@@ -1,4 +1,4 @@
-use Rattle.std.proofs.Common.{◌≤◌, ◌∙◌, [], length, Err, Ok, refl, sym, ap, subst, arith}
+use Rattle.std.proofs.Common.{◌∙◌, [], length, Err, Ok, refl, sym, ap, subst, arith}
 use Rattle.htl_edge.specs.Content.{Puts}
 use Rattle.htl_edge.specs.declared.Failed.{Failed}
 use Rattle.htl_smach.specs.Rounds.{Round}
@@ -16,10 +16,10 @@ use Rattle.htl_machine.proofs.After.{passed_of, desk_goes_on, list_goes_on, over
 use Rattle.htl_machine.proofs.Asking.{sound_of, noted_of, begun_at, stood_at, counts_at}
 use Rattle.htl_machine.proofs.Beginnings.{ends_so, fails_so}
 use Rattle.htl_machine.proofs.Ended.{open_failed, going_closed, begun_closed_at}
+use Rattle.htl_machine.proofs.InstantGiven.{given, given_closes, given_begins}
 use Rattle.htl_machine.proofs.Readying.{replay_only}
-use Rattle.htl_machine.proofs.Ready.{ready, list_known}
+use Rattle.htl_machine.proofs.Ready.{list_known}
 use Rattle.htl_machine.proofs.ShownOn.{next_shown_up_to, noted_marks}
-use Rattle.htl_machine.proofs.ToClose.{follows_at, to_close, to_close_and_begin}
 use Rattle.htl_machine.proofs.Viewing.{seen_in}
 use Rattle.htl_machine.proofs.Waits.{waiting_at, waiting_stays}
 use Rattle.htl_machine.proofs.machine.Machine.instant.Goals as goal
@@ -52,44 +52,35 @@ open_instant-requires-clause-waiting g c =
 pub schedule-requires : goal.schedule-requires
 schedule-requires g c =
     let w = c.requires.before in
-    let m = seen_in c.self.inside in
     let ok = c.self.invariant.accepted in
     let u = subst (λ (z : Seen). IsUpTo z w.0 c.args.at) (sym c.self.view_is) w.1 in
-    rw c.schedules-schedules.ensures (list_known m w.0 c.args.at ok u)
+    rw c.schedules-schedules.ensures (list_known (seen_in c.self.inside) w.0 c.args.at ok u)
 
 pub open_instant-requires-clause-form : goal.open_instant-requires-clause-form
 open_instant-requires-clause-form g c =
-    let s = sound_of (seen_in c.self.inside) c.tables-t.result.now c.ecode-code.result.now c.tables-t.ensures.value c.ecode-code.ensures c.self.invariant.accepted in
-    s.form
+    (sound_of (seen_in c.self.inside) c.tables-t.result.now c.ecode-code.result.now c.tables-t.ensures.value c.ecode-code.ensures c.self.invariant.accepted).form
 
 pub open_instant-requires-clause-spells : goal.open_instant-requires-clause-spells
 open_instant-requires-clause-spells g c =
-    let s = sound_of (seen_in c.self.inside) c.tables-t.result.now c.ecode-code.result.now c.tables-t.ensures.value c.ecode-code.ensures c.self.invariant.accepted in
-    s.spells
+    (sound_of (seen_in c.self.inside) c.tables-t.result.now c.ecode-code.result.now c.tables-t.ensures.value c.ecode-code.ensures c.self.invariant.accepted).spells
 
 pub open_instant-requires-clause-instrs : goal.open_instant-requires-clause-instrs
 open_instant-requires-clause-instrs g c =
-    let s = sound_of (seen_in c.self.inside) c.tables-t.result.now c.ecode-code.result.now c.tables-t.ensures.value c.ecode-code.ensures c.self.invariant.accepted in
-    s.instrs
+    (sound_of (seen_in c.self.inside) c.tables-t.result.now c.ecode-code.result.now c.tables-t.ensures.value c.ecode-code.ensures c.self.invariant.accepted).instrs
 
 pub open_instant-requires-clause-code : goal.open_instant-requires-clause-code
 open_instant-requires-clause-code g c =
-    let s = sound_of (seen_in c.self.inside) c.tables-t.result.now c.ecode-code.result.now c.tables-t.ensures.value c.ecode-code.ensures c.self.invariant.accepted in
-    s.places
+    (sound_of (seen_in c.self.inside) c.tables-t.result.now c.ecode-code.result.now c.tables-t.ensures.value c.ecode-code.ensures c.self.invariant.accepted).places
 
 pub open_instant-requires-clause-shaped : goal.open_instant-requires-clause-shaped
 open_instant-requires-clause-shaped g c =
     let w = c.requires.before in
-    let m = seen_in c.self.inside in
-    let ok = c.self.invariant.accepted in
     let u = subst (λ (z : Seen). IsUpTo z w.0 c.args.at) (sym c.self.view_is) w.1 in
     rw c.tables-t.ensures.value u.before.values.shaped
 
 pub open_instant-requires-clause-safe : goal.open_instant-requires-clause-safe
 open_instant-requires-clause-safe g c =
     let w = c.requires.before in
-    let m = seen_in c.self.inside in
-    let ok = c.self.invariant.accepted in
     let u = subst (λ (z : Seen). IsUpTo z w.0 c.args.at) (sym c.self.view_is) w.1 in
     rw (c.tables-t.ensures.value, c.ecode-code.ensures) u.before.values.safe
 
@@ -102,127 +93,94 @@ open_instant-requires-clause-jobs g c =
 pub open_instant-requires-clause-of : goal.open_instant-requires-clause-of
 open_instant-requires-clause-of g c =
     let w = c.requires.before in
-    let later = subst (λ (z : Seen). z.held.reading ≤ c.args.at) (sym c.self.view_is) c.requires.read in
     let m = seen_in c.self.inside in
-    let ok = c.self.invariant.accepted in
-    let u = subst (λ (z : Seen). IsUpTo z w.0 c.args.at) (sym c.self.view_is) w.1 in
-    let r = ready m w.0 c.args.at c.self.inside.path.idle.instrs ok u later c.self.invariant.empty in
+    let k = given m _ w.0 c.args.at c.tables-t.result.now c.ecode-code.result.now c.self.inside.path.idle.instrs c.self.view_is c.self.invariant.accepted c.self.invariant.empty c.tables-t.ensures.value c.ecode-code.ensures c.requires.read w.1 in
     let fresh = ap (λ (z : Seen). z.held.spent) c.self.view_is ∙ w.1.kept.fresh in
-    rw c.tables-t.ensures.value (subst (AreOf m.object.tables) (sym (c.jobs.ensures ∙ (c.self.invariant.stands fresh).are)) r.of)
+    rw c.tables-t.ensures.value (subst (AreOf m.object.tables) (sym (c.jobs.ensures ∙ (c.self.invariant.stands fresh).are)) k.ready.of)
 
 pub open_instant-requires-clause-round : goal.open_instant-requires-clause-round
 open_instant-requires-clause-round g c =
     let w = c.requires.before in
-    let later = subst (λ (z : Seen). z.held.reading ≤ c.args.at) (sym c.self.view_is) c.requires.read in
     let m = seen_in c.self.inside in
-    let ok = c.self.invariant.accepted in
-    let u = subst (λ (z : Seen). IsUpTo z w.0 c.args.at) (sym c.self.view_is) w.1 in
-    let r = ready m w.0 c.args.at c.self.inside.path.idle.instrs ok u later c.self.invariant.empty in
-    rw (c.schedule.ensures, c.schedules-schedules.ensures) r.form
+    let k = given m _ w.0 c.args.at c.tables-t.result.now c.ecode-code.result.now c.self.inside.path.idle.instrs c.self.view_is c.self.invariant.accepted c.self.invariant.empty c.tables-t.ensures.value c.ecode-code.ensures c.requires.read w.1 in
+    rw (c.schedule.ensures, c.schedules-schedules.ensures) k.ready.form
 
 pub open_instant-requires-clause-slots : goal.open_instant-requires-clause-slots
 open_instant-requires-clause-slots g c =
     let w = c.requires.before in
-    let later = subst (λ (z : Seen). z.held.reading ≤ c.args.at) (sym c.self.view_is) c.requires.read in
     let m = seen_in c.self.inside in
-    let ok = c.self.invariant.accepted in
-    let u = subst (λ (z : Seen). IsUpTo z w.0 c.args.at) (sym c.self.view_is) w.1 in
-    let r = ready m w.0 c.args.at c.self.inside.path.idle.instrs ok u later c.self.invariant.empty in
-    rw (c.schedule.ensures, c.schedules-schedules.ensures) r.short
+    let k = given m _ w.0 c.args.at c.tables-t.result.now c.ecode-code.result.now c.self.inside.path.idle.instrs c.self.view_is c.self.invariant.accepted c.self.invariant.empty c.tables-t.ensures.value c.ecode-code.ensures c.requires.read w.1 in
+    rw (c.schedule.ensures, c.schedules-schedules.ensures) k.ready.short
 
 pub open_instant-requires-clause-stands : goal.open_instant-requires-clause-stands
 open_instant-requires-clause-stands g c =
     let w = c.requires.before in
-    let later = subst (λ (z : Seen). z.held.reading ≤ c.args.at) (sym c.self.view_is) c.requires.read in
     let m = seen_in c.self.inside in
-    let ok = c.self.invariant.accepted in
-    let u = subst (λ (z : Seen). IsUpTo z w.0 c.args.at) (sym c.self.view_is) w.1 in
-    let r = ready m w.0 c.args.at c.self.inside.path.idle.instrs ok u later c.self.invariant.empty in
-    rw (c.schedule.ensures, c.schedules-schedules.ensures) r.stands
+    let k = given m _ w.0 c.args.at c.tables-t.result.now c.ecode-code.result.now c.self.inside.path.idle.instrs c.self.view_is c.self.invariant.accepted c.self.invariant.empty c.tables-t.ensures.value c.ecode-code.ensures c.requires.read w.1 in
+    rw (c.schedule.ensures, c.schedules-schedules.ensures) k.ready.stands
 
 pub open_instant-requires-clause-told : goal.open_instant-requires-clause-told
 open_instant-requires-clause-told g c =
     let w = c.requires.before in
-    let later = subst (λ (z : Seen). z.held.reading ≤ c.args.at) (sym c.self.view_is) c.requires.read in
     let m = seen_in c.self.inside in
-    let ok = c.self.invariant.accepted in
-    let u = subst (λ (z : Seen). IsUpTo z w.0 c.args.at) (sym c.self.view_is) w.1 in
-    let r = ready m w.0 c.args.at c.self.inside.path.idle.instrs ok u later c.self.invariant.empty in
-    r.told
+    let k = given m _ w.0 c.args.at c.tables-t.result.now c.ecode-code.result.now c.self.inside.path.idle.instrs c.self.view_is c.self.invariant.accepted c.self.invariant.empty c.tables-t.ensures.value c.ecode-code.ensures c.requires.read w.1 in
+    k.ready.told
 
 pub open_instant-requires-clause-shows : goal.open_instant-requires-clause-shows
 open_instant-requires-clause-shows g c =
     let w = c.requires.before in
-    let m = seen_in c.self.inside in
-    let ok = c.self.invariant.accepted in
     let u = subst (λ (z : Seen). IsUpTo z w.0 c.args.at) (sym c.self.view_is) w.1 in
     rw c.tables-t.ensures.value u.kept.fits
 
 pub open_instant-requires-clause-values : goal.open_instant-requires-clause-values
 open_instant-requires-clause-values g c =
     let w = c.requires.before in
-    let m = seen_in c.self.inside in
-    let ok = c.self.invariant.accepted in
     let u = subst (λ (z : Seen). IsUpTo z w.0 c.args.at) (sym c.self.view_is) w.1 in
-    rw c.tables-t.ensures.value (subst (HasValues m.object.tables) (sym c.settle.ensures.values) u.before.values.shaped.values)
+    rw c.tables-t.ensures.value (subst (HasValues c.self.inside.loaded.now.tables) (sym c.settle.ensures.values) u.before.values.shaped.values)
 
 pub open_instant-requires-clause-follows : goal.open_instant-requires-clause-follows
 open_instant-requires-clause-follows g c =
     let w = c.requires.before in
     let m = seen_in c.self.inside in
-    let ok = c.self.invariant.accepted in
-    let u = subst (λ (z : Seen). IsUpTo z w.0 c.args.at) (sym c.self.view_is) w.1 in
-    (w.0, follows_at m.object w.0 c.args.at c.tables-t.result.now c.ecode-code.result.now m.standing c.tables-t.ensures.value c.ecode-code.ensures u.before.values.triggers)
+    let k = given m _ w.0 c.args.at c.tables-t.result.now c.ecode-code.result.now c.self.inside.path.idle.instrs c.self.view_is c.self.invariant.accepted c.self.invariant.empty c.tables-t.ensures.value c.ecode-code.ensures c.requires.read w.1 in
+    (w.0, k.follows)
 
 pub returns-in-Err-clause-text : goal.returns-in-Err-clause-text
 returns-in-Err-clause-text g c = λ es before.
-    let later = subst (λ (z : Seen). z.held.reading ≤ c.args.at) (sym c.self.view_is) c.requires.read in
     let m = seen_in c.self.inside in
-    let ok = c.self.invariant.accepted in
-    let u = subst (λ (z : Seen). IsUpTo z es c.args.at) (sym c.self.view_is) before in
-    let r = ready m es c.args.at c.self.inside.path.idle.instrs ok u later c.self.invariant.empty in
-    let f = follows_at m.object es c.args.at c.tables-t.result.now c.ecode-code.result.now m.standing c.tables-t.ensures.value c.ecode-code.ensures u.before.values.triggers in
-    let text = rw (c.tables-t.ensures.value, c.ecode-code.ensures, c.schedule.ensures, c.schedules-schedules.ensures, c.node.ensures) at (c.in-Err.ensures.text es f) in
+    let k = given m _ es c.args.at c.tables-t.result.now c.ecode-code.result.now c.self.inside.path.idle.instrs c.self.view_is c.self.invariant.accepted c.self.invariant.empty c.tables-t.ensures.value c.ecode-code.ensures c.requires.read before in
+    let text = rw (c.tables-t.ensures.value, c.ecode-code.ensures, c.schedule.ensures, c.schedules-schedules.ensures, c.node.ensures) at (c.in-Err.ensures.text es k.follows) in
     subst (λ (z : Seen). Puts {T = Unit {0}} {E = Failed} (g.W.Sink.written c.args.sink.now) (g.W.Sink.written c.open_instant.new.sink) (g.W.Sink.faults c.args.sink.now) (g.W.Sink.faults c.open_instant.new.sink) (lines_of z.object es z.show c.args.at) (Err c.in-Err.failed))
-    c.self.view_is (open_failed m es c.args.at ok later u _ r _ _ _ _ _ _ text)
+    c.self.view_is (open_failed m es c.args.at k.accepted k.later k.up _ k.ready _ _ _ _ _ _ text)
 
 pub close_and_begin-requires-clause-form : goal.close_and_begin-requires-clause-form
 close_and_begin-requires-clause-form g c =
-    let s = sound_of (seen_in c.self.inside) c.tables-t.result.now c.ecode-code.result.now c.tables-t.ensures.value c.ecode-code.ensures c.self.invariant.accepted in
-    s.kept
+    (sound_of (seen_in c.self.inside) c.tables-t.result.now c.ecode-code.result.now c.tables-t.ensures.value c.ecode-code.ensures c.self.invariant.accepted).kept
 
 pub close_and_begin-requires-clause-limit : goal.close_and_begin-requires-clause-limit
 close_and_begin-requires-clause-limit g c =
-    let s = sound_of (seen_in c.self.inside) c.tables-t.result.now c.ecode-code.result.now c.tables-t.ensures.value c.ecode-code.ensures c.self.invariant.accepted in
-    s.limit
+    (sound_of (seen_in c.self.inside) c.tables-t.result.now c.ecode-code.result.now c.tables-t.ensures.value c.ecode-code.ensures c.self.invariant.accepted).limit
 
 pub close_and_begin-requires-clause-spells : goal.close_and_begin-requires-clause-spells
 close_and_begin-requires-clause-spells g c =
-    let s = sound_of (seen_in c.self.inside) c.tables-t.result.now c.ecode-code.result.now c.tables-t.ensures.value c.ecode-code.ensures c.self.invariant.accepted in
-    s.spells
+    (sound_of (seen_in c.self.inside) c.tables-t.result.now c.ecode-code.result.now c.tables-t.ensures.value c.ecode-code.ensures c.self.invariant.accepted).spells
 
 pub close_and_begin-requires-clause-instrs : goal.close_and_begin-requires-clause-instrs
 close_and_begin-requires-clause-instrs g c =
-    let s = sound_of (seen_in c.self.inside) c.tables-t.result.now c.ecode-code.result.now c.tables-t.ensures.value c.ecode-code.ensures c.self.invariant.accepted in
-    s.instrs
+    (sound_of (seen_in c.self.inside) c.tables-t.result.now c.ecode-code.result.now c.tables-t.ensures.value c.ecode-code.ensures c.self.invariant.accepted).instrs
 
 pub close_and_begin-requires-clause-code : goal.close_and_begin-requires-clause-code
 close_and_begin-requires-clause-code g c =
-    let s = sound_of (seen_in c.self.inside) c.tables-t.result.now c.ecode-code.result.now c.tables-t.ensures.value c.ecode-code.ensures c.self.invariant.accepted in
-    s.places
+    (sound_of (seen_in c.self.inside) c.tables-t.result.now c.ecode-code.result.now c.tables-t.ensures.value c.ecode-code.ensures c.self.invariant.accepted).places
 
 pub close_and_begin-requires-clause-over : goal.close_and_begin-requires-clause-over
 close_and_begin-requires-clause-over g c =
     let w = c.requires.before in
-    let later = subst (λ (z : Seen). z.held.reading ≤ c.args.at) (sym c.self.view_is) c.requires.read in
     let m = seen_in c.self.inside in
-    let ok = c.self.invariant.accepted in
-    let u = subst (λ (z : Seen). IsUpTo z w.0 c.args.at) (sym c.self.view_is) w.1 in
-    let r = ready m w.0 c.args.at c.self.inside.path.idle.instrs ok u later c.self.invariant.empty in
-    let f = follows_at m.object w.0 c.args.at c.tables-t.result.now c.ecode-code.result.now m.standing c.tables-t.ensures.value c.ecode-code.ensures u.before.values.triggers in
-    let opened = rw (c.tables-t.ensures.value, c.ecode-code.ensures, c.schedule.ensures, c.schedules-schedules.ensures) at (c.in_default.ensures.world w.0 f) in
+    let k = given m _ w.0 c.args.at c.tables-t.result.now c.ecode-code.result.now c.self.inside.path.idle.instrs c.self.view_is c.self.invariant.accepted c.self.invariant.empty c.tables-t.ensures.value c.ecode-code.ensures c.requires.read w.1 in
+    let opened = rw (c.tables-t.ensures.value, c.ecode-code.ensures, c.schedule.ensures, c.schedules-schedules.ensures) at (c.in_default.ensures.world w.0 k.follows) in
     let b = sym (rw c.tables-t.ensures.value at c.round_begins.ensures) ∙ c.if-round_begins.true in
-    (over m w.0 c.args.at ok later u _ c.self.inside.path.idle.instrs refl c.self.invariant.empty r _ _ b opened.records).0
+    (over m w.0 c.args.at k.accepted k.later k.up _ c.self.inside.path.idle.instrs refl c.self.invariant.empty k.ready _ _ b opened.records).0
 
 pub close_and_begin-requires-clause-path : goal.close_and_begin-requires-clause-path
 close_and_begin-requires-clause-path g c =
@@ -233,53 +191,40 @@ close_and_begin-requires-clause-path g c =
 pub close_and_begin-requires-clause-few : goal.close_and_begin-requires-clause-few
 close_and_begin-requires-clause-few g c =
     let w = c.requires.before in
-    let m = seen_in c.self.inside in
-    let ok = c.self.invariant.accepted in
     let u = subst (λ (z : Seen). IsUpTo z w.0 c.args.at) (sym c.self.view_is) w.1 in
-    (noted_of m w.0 c.args.at c.tables-t.result.now _ _ u c.tables-t.ensures.value (c.in_default.ensures.noted.values ∙ c.settle.ensures.values) (c.in_default.ensures.noted.modes ∙ c.settle.ensures.modes)).few
+    (noted_of (seen_in c.self.inside) w.0 c.args.at c.tables-t.result.now _ _ u c.tables-t.ensures.value (c.in_default.ensures.noted.values ∙ c.settle.ensures.values) (c.in_default.ensures.noted.modes ∙ c.settle.ensures.modes)).few
 
 pub close_and_begin-requires-clause-modules : goal.close_and_begin-requires-clause-modules
 close_and_begin-requires-clause-modules g c =
     let w = c.requires.before in
-    let m = seen_in c.self.inside in
-    let ok = c.self.invariant.accepted in
     let u = subst (λ (z : Seen). IsUpTo z w.0 c.args.at) (sym c.self.view_is) w.1 in
-    (noted_of m w.0 c.args.at c.tables-t.result.now _ _ u c.tables-t.ensures.value (c.in_default.ensures.noted.values ∙ c.settle.ensures.values) (c.in_default.ensures.noted.modes ∙ c.settle.ensures.modes)).modules
+    (noted_of (seen_in c.self.inside) w.0 c.args.at c.tables-t.result.now _ _ u c.tables-t.ensures.value (c.in_default.ensures.noted.values ∙ c.settle.ensures.values) (c.in_default.ensures.noted.modes ∙ c.settle.ensures.modes)).modules
 
 pub close_and_begin-requires-clause-begins : goal.close_and_begin-requires-clause-begins
 close_and_begin-requires-clause-begins g c =
     let w = c.requires.before in
-    let later = subst (λ (z : Seen). z.held.reading ≤ c.args.at) (sym c.self.view_is) c.requires.read in
     let m = seen_in c.self.inside in
-    let ok = c.self.invariant.accepted in
-    let u = subst (λ (z : Seen). IsUpTo z w.0 c.args.at) (sym c.self.view_is) w.1 in
-    let r = ready m w.0 c.args.at c.self.inside.path.idle.instrs ok u later c.self.invariant.empty in
-    let f = follows_at m.object w.0 c.args.at c.tables-t.result.now c.ecode-code.result.now m.standing c.tables-t.ensures.value c.ecode-code.ensures u.before.values.triggers in
-    let opened = rw (c.tables-t.ensures.value, c.ecode-code.ensures, c.schedule.ensures, c.schedules-schedules.ensures) at (c.in_default.ensures.world w.0 f) in
+    let k = given m _ w.0 c.args.at c.tables-t.result.now c.ecode-code.result.now c.self.inside.path.idle.instrs c.self.view_is c.self.invariant.accepted c.self.invariant.empty c.tables-t.ensures.value c.ecode-code.ensures c.requires.read w.1 in
+    let opened = rw (c.tables-t.ensures.value, c.ecode-code.ensures, c.schedule.ensures, c.schedules-schedules.ensures) at (c.in_default.ensures.world w.0 k.follows) in
     let b = sym (rw c.tables-t.ensures.value at c.round_begins.ensures) ∙ c.if-round_begins.true in
-    let z = to_close m w.0 c.args.at c.tables-t.result.now c.ecode-code.result.now c.tables-t.ensures.value c.ecode-code.ensures ok later u _ r c.settle.new.self.values c.settle.ensures.values _ _ opened _ (c.in_default.ensures.noted.values ∙ c.settle.ensures.values) _ (c.in_default.ensures.noted.modes ∙ c.settle.ensures.modes) _ (c.in_default.ensures.writes w.0 f) in
-    let q = to_close_and_begin m w.0 c.args.at c.tables-t.result.now c.ecode-code.result.now c.schedules-schedules.result.now _ c.tables-t.ensures.value c.ecode-code.ensures c.schedules-schedules.ensures c.as_slice-takes.ensures ok later u b c.open_instant.new.machines.works.desk (over m w.0 c.args.at ok later u _ c.self.inside.path.idle.instrs refl c.self.invariant.empty r _ _ b opened.records).1 _ _ _ _ z in
+    let q = given_begins m w.0 c.args.at _ _ _ k c.settle.new.self.values c.settle.ensures.values _ _ opened _ (c.in_default.ensures.noted.values ∙ c.settle.ensures.values) _ (c.in_default.ensures.noted.modes ∙ c.settle.ensures.modes) _ (c.in_default.ensures.writes w.0 k.follows) c.schedules-schedules.result.now _ c.schedules-schedules.ensures c.as_slice-takes.ensures b in
     (w.0, q)
 
 pub close_instant-requires-clause-form : goal.close_instant-requires-clause-form
 close_instant-requires-clause-form g c =
-    let s = sound_of (seen_in c.self.inside) c.tables-t.result.now c.ecode-code.result.now c.tables-t.ensures.value c.ecode-code.ensures c.self.invariant.accepted in
-    s.form
+    (sound_of (seen_in c.self.inside) c.tables-t.result.now c.ecode-code.result.now c.tables-t.ensures.value c.ecode-code.ensures c.self.invariant.accepted).form
 
 pub close_instant-requires-clause-spells : goal.close_instant-requires-clause-spells
 close_instant-requires-clause-spells g c =
-    let s = sound_of (seen_in c.self.inside) c.tables-t.result.now c.ecode-code.result.now c.tables-t.ensures.value c.ecode-code.ensures c.self.invariant.accepted in
-    s.spells
+    (sound_of (seen_in c.self.inside) c.tables-t.result.now c.ecode-code.result.now c.tables-t.ensures.value c.ecode-code.ensures c.self.invariant.accepted).spells
 
 pub close_instant-requires-clause-instrs : goal.close_instant-requires-clause-instrs
 close_instant-requires-clause-instrs g c =
-    let s = sound_of (seen_in c.self.inside) c.tables-t.result.now c.ecode-code.result.now c.tables-t.ensures.value c.ecode-code.ensures c.self.invariant.accepted in
-    s.instrs
+    (sound_of (seen_in c.self.inside) c.tables-t.result.now c.ecode-code.result.now c.tables-t.ensures.value c.ecode-code.ensures c.self.invariant.accepted).instrs
 
 pub close_instant-requires-clause-code : goal.close_instant-requires-clause-code
 close_instant-requires-clause-code g c =
-    let s = sound_of (seen_in c.self.inside) c.tables-t.result.now c.ecode-code.result.now c.tables-t.ensures.value c.ecode-code.ensures c.self.invariant.accepted in
-    s.places
+    (sound_of (seen_in c.self.inside) c.tables-t.result.now c.ecode-code.result.now c.tables-t.ensures.value c.ecode-code.ensures c.self.invariant.accepted).places
 
 pub close_instant-requires-clause-jobs : goal.close_instant-requires-clause-jobs
 close_instant-requires-clause-jobs g c =
@@ -290,59 +235,43 @@ close_instant-requires-clause-jobs g c =
 pub close_instant-requires-clause-few : goal.close_instant-requires-clause-few
 close_instant-requires-clause-few g c =
     let w = c.requires.before in
-    let m = seen_in c.self.inside in
-    let ok = c.self.invariant.accepted in
     let u = subst (λ (z : Seen). IsUpTo z w.0 c.args.at) (sym c.self.view_is) w.1 in
-    (noted_of m w.0 c.args.at c.tables-t.result.now _ _ u c.tables-t.ensures.value (c.in_default.ensures.noted.values ∙ c.settle.ensures.values) (c.in_default.ensures.noted.modes ∙ c.settle.ensures.modes)).few
+    (noted_of (seen_in c.self.inside) w.0 c.args.at c.tables-t.result.now _ _ u c.tables-t.ensures.value (c.in_default.ensures.noted.values ∙ c.settle.ensures.values) (c.in_default.ensures.noted.modes ∙ c.settle.ensures.modes)).few
 
 pub close_instant-requires-clause-modules : goal.close_instant-requires-clause-modules
 close_instant-requires-clause-modules g c =
     let w = c.requires.before in
-    let m = seen_in c.self.inside in
-    let ok = c.self.invariant.accepted in
     let u = subst (λ (z : Seen). IsUpTo z w.0 c.args.at) (sym c.self.view_is) w.1 in
-    (noted_of m w.0 c.args.at c.tables-t.result.now _ _ u c.tables-t.ensures.value (c.in_default.ensures.noted.values ∙ c.settle.ensures.values) (c.in_default.ensures.noted.modes ∙ c.settle.ensures.modes)).modules
+    (noted_of (seen_in c.self.inside) w.0 c.args.at c.tables-t.result.now _ _ u c.tables-t.ensures.value (c.in_default.ensures.noted.values ∙ c.settle.ensures.values) (c.in_default.ensures.noted.modes ∙ c.settle.ensures.modes)).modules
 
 pub close_instant-requires-clause-closes : goal.close_instant-requires-clause-closes
 close_instant-requires-clause-closes g c =
     let w = c.requires.before in
-    let later = subst (λ (z : Seen). z.held.reading ≤ c.args.at) (sym c.self.view_is) c.requires.read in
     let m = seen_in c.self.inside in
-    let ok = c.self.invariant.accepted in
-    let u = subst (λ (z : Seen). IsUpTo z w.0 c.args.at) (sym c.self.view_is) w.1 in
-    let r = ready m w.0 c.args.at c.self.inside.path.idle.instrs ok u later c.self.invariant.empty in
-    let f = follows_at m.object w.0 c.args.at c.tables-t.result.now c.ecode-code.result.now m.standing c.tables-t.ensures.value c.ecode-code.ensures u.before.values.triggers in
-    let opened = rw (c.tables-t.ensures.value, c.ecode-code.ensures, c.schedule.ensures, c.schedules-schedules.ensures) at (c.in_default.ensures.world w.0 f) in
-    let q = to_close m w.0 c.args.at c.tables-t.result.now c.ecode-code.result.now c.tables-t.ensures.value c.ecode-code.ensures ok later u _ r c.settle.new.self.values c.settle.ensures.values _ _ opened _ (c.in_default.ensures.noted.values ∙ c.settle.ensures.values) _ (c.in_default.ensures.noted.modes ∙ c.settle.ensures.modes) _ (c.in_default.ensures.writes w.0 f) in
+    let k = given m _ w.0 c.args.at c.tables-t.result.now c.ecode-code.result.now c.self.inside.path.idle.instrs c.self.view_is c.self.invariant.accepted c.self.invariant.empty c.tables-t.ensures.value c.ecode-code.ensures c.requires.read w.1 in
+    let opened = rw (c.tables-t.ensures.value, c.ecode-code.ensures, c.schedule.ensures, c.schedules-schedules.ensures) at (c.in_default.ensures.world w.0 k.follows) in
+    let q = given_closes m w.0 c.args.at _ _ _ k c.settle.new.self.values c.settle.ensures.values _ _ opened _ (c.in_default.ensures.noted.values ∙ c.settle.ensures.values) _ (c.in_default.ensures.noted.modes ∙ c.settle.ensures.modes) _ (c.in_default.ensures.writes w.0 k.follows) in
     (w.0, q)
 
 pub returns-in-Err-close_instant-clause-text : goal.returns-in-Err-close_instant-clause-text
 returns-in-Err-close_instant-clause-text g c = λ es before.
-    let later = subst (λ (z : Seen). z.held.reading ≤ c.args.at) (sym c.self.view_is) c.requires.read in
     let m = seen_in c.self.inside in
-    let ok = c.self.invariant.accepted in
-    let u = subst (λ (z : Seen). IsUpTo z es c.args.at) (sym c.self.view_is) before in
-    let r = ready m es c.args.at c.self.inside.path.idle.instrs ok u later c.self.invariant.empty in
-    let f = follows_at m.object es c.args.at c.tables-t.result.now c.ecode-code.result.now m.standing c.tables-t.ensures.value c.ecode-code.ensures u.before.values.triggers in
-    let opened = rw (c.tables-t.ensures.value, c.ecode-code.ensures, c.schedule.ensures, c.schedules-schedules.ensures) at (c.in_default.ensures.world es f) in
+    let k = given m _ es c.args.at c.tables-t.result.now c.ecode-code.result.now c.self.inside.path.idle.instrs c.self.view_is c.self.invariant.accepted c.self.invariant.empty c.tables-t.ensures.value c.ecode-code.ensures c.requires.read before in
+    let opened = rw (c.tables-t.ensures.value, c.ecode-code.ensures, c.schedule.ensures, c.schedules-schedules.ensures) at (c.in_default.ensures.world es k.follows) in
     let b = sym (rw c.tables-t.ensures.value at c.round_begins.ensures) ∙ c.if-round_begins.false in
-    let q = to_close m es c.args.at c.tables-t.result.now c.ecode-code.result.now c.tables-t.ensures.value c.ecode-code.ensures ok later u _ r c.settle.new.self.values c.settle.ensures.values _ _ opened _ (c.in_default.ensures.noted.values ∙ c.settle.ensures.values) _ (c.in_default.ensures.noted.modes ∙ c.settle.ensures.modes) _ (c.in_default.ensures.writes es f) in
-    let text = rw (c.tables-t.ensures.value, c.ecode-code.ensures, c.schedule.ensures, c.schedules-schedules.ensures, c.node.ensures) at (c.in_default.ensures.text es f) in
+    let q = given_closes m es c.args.at _ _ _ k c.settle.new.self.values c.settle.ensures.values _ _ opened _ (c.in_default.ensures.noted.values ∙ c.settle.ensures.values) _ (c.in_default.ensures.noted.modes ∙ c.settle.ensures.modes) _ (c.in_default.ensures.writes es k.follows) in
+    let text = rw (c.tables-t.ensures.value, c.ecode-code.ensures, c.schedule.ensures, c.schedules-schedules.ensures, c.node.ensures) at (c.in_default.ensures.text es k.follows) in
     let rest = rw (c.tables-t.ensures.value, c.ecode-code.ensures) at (c.in-Err-close_instant.ensures.text es q) in
     subst (λ (z : Seen). Puts {T = Unit {0}} {E = Failed} (g.W.Sink.written c.args.sink.now) (g.W.Sink.written c.close_instant.new.sink) (g.W.Sink.faults c.args.sink.now) (g.W.Sink.faults c.close_instant.new.sink) (lines_of z.object es z.show c.args.at) (Err c.in-Err-close_instant.failed))
-    c.self.view_is (going_closed m es c.args.at ok later u _ r _ _ _ _ _ _ _ _ b text (fails_so _ _ _ _ _ _ c.in-Err-close_instant.failed rest))
+    c.self.view_is (going_closed m es c.args.at k.accepted k.later k.up _ k.ready _ _ _ _ _ _ _ _ b text (fails_so _ _ _ _ _ _ c.in-Err-close_instant.failed rest))
 
 pub invariant_of-self-in_default-close_instant : goal.invariant_of-self-in_default-close_instant
 invariant_of-self-in_default-close_instant g c =
     let w = c.requires.before in
-    let later = subst (λ (z : Seen). z.held.reading ≤ c.args.at) (sym c.self.view_is) c.requires.read in
     let m = seen_in c.self.inside in
-    let ok = c.self.invariant.accepted in
-    let u = subst (λ (z : Seen). IsUpTo z w.0 c.args.at) (sym c.self.view_is) w.1 in
-    let r = ready m w.0 c.args.at c.self.inside.path.idle.instrs ok u later c.self.invariant.empty in
-    let f = follows_at m.object w.0 c.args.at c.tables-t.result.now c.ecode-code.result.now m.standing c.tables-t.ensures.value c.ecode-code.ensures u.before.values.triggers in
-    let opened = rw (c.tables-t.ensures.value, c.ecode-code.ensures, c.schedule.ensures, c.schedules-schedules.ensures) at (c.in_default.ensures.world w.0 f) in
-    let q = to_close m w.0 c.args.at c.tables-t.result.now c.ecode-code.result.now c.tables-t.ensures.value c.ecode-code.ensures ok later u _ r c.settle.new.self.values c.settle.ensures.values _ _ opened _ (c.in_default.ensures.noted.values ∙ c.settle.ensures.values) _ (c.in_default.ensures.noted.modes ∙ c.settle.ensures.modes) _ (c.in_default.ensures.writes w.0 f) in
+    let k = given m _ w.0 c.args.at c.tables-t.result.now c.ecode-code.result.now c.self.inside.path.idle.instrs c.self.view_is c.self.invariant.accepted c.self.invariant.empty c.tables-t.ensures.value c.ecode-code.ensures c.requires.read w.1 in
+    let opened = rw (c.tables-t.ensures.value, c.ecode-code.ensures, c.schedule.ensures, c.schedules-schedules.ensures) at (c.in_default.ensures.world w.0 k.follows) in
+    let q = given_closes m w.0 c.args.at _ _ _ k c.settle.new.self.values c.settle.ensures.values _ _ opened _ (c.in_default.ensures.noted.values ∙ c.settle.ensures.values) _ (c.in_default.ensures.noted.modes ∙ c.settle.ensures.modes) _ (c.in_default.ensures.writes w.0 k.follows) in
     let kept = c.self.invariant in
     let desk = c.in_default-close_instant.ensures.desk w.0 q in
     record {
@@ -363,16 +292,11 @@ invariant_of-self-in_default-close_instant g c =
 pub invariant_of-self-in_default-close_and_begin : goal.invariant_of-self-in_default-close_and_begin
 invariant_of-self-in_default-close_and_begin g c =
     let w = c.requires.before in
-    let later = subst (λ (z : Seen). z.held.reading ≤ c.args.at) (sym c.self.view_is) c.requires.read in
     let m = seen_in c.self.inside in
-    let ok = c.self.invariant.accepted in
-    let u = subst (λ (z : Seen). IsUpTo z w.0 c.args.at) (sym c.self.view_is) w.1 in
-    let r = ready m w.0 c.args.at c.self.inside.path.idle.instrs ok u later c.self.invariant.empty in
-    let f = follows_at m.object w.0 c.args.at c.tables-t.result.now c.ecode-code.result.now m.standing c.tables-t.ensures.value c.ecode-code.ensures u.before.values.triggers in
-    let opened = rw (c.tables-t.ensures.value, c.ecode-code.ensures, c.schedule.ensures, c.schedules-schedules.ensures) at (c.in_default.ensures.world w.0 f) in
+    let k = given m _ w.0 c.args.at c.tables-t.result.now c.ecode-code.result.now c.self.inside.path.idle.instrs c.self.view_is c.self.invariant.accepted c.self.invariant.empty c.tables-t.ensures.value c.ecode-code.ensures c.requires.read w.1 in
+    let opened = rw (c.tables-t.ensures.value, c.ecode-code.ensures, c.schedule.ensures, c.schedules-schedules.ensures) at (c.in_default.ensures.world w.0 k.follows) in
     let b = sym (rw c.tables-t.ensures.value at c.round_begins.ensures) ∙ c.if-round_begins.true in
-    let z = to_close m w.0 c.args.at c.tables-t.result.now c.ecode-code.result.now c.tables-t.ensures.value c.ecode-code.ensures ok later u _ r c.settle.new.self.values c.settle.ensures.values _ _ opened _ (c.in_default.ensures.noted.values ∙ c.settle.ensures.values) _ (c.in_default.ensures.noted.modes ∙ c.settle.ensures.modes) _ (c.in_default.ensures.writes w.0 f) in
-    let q = to_close_and_begin m w.0 c.args.at c.tables-t.result.now c.ecode-code.result.now c.schedules-schedules.result.now _ c.tables-t.ensures.value c.ecode-code.ensures c.schedules-schedules.ensures c.as_slice-takes.ensures ok later u b c.open_instant.new.machines.works.desk (over m w.0 c.args.at ok later u _ c.self.inside.path.idle.instrs refl c.self.invariant.empty r _ _ b opened.records).1 _ _ _ _ z in
+    let q = given_begins m w.0 c.args.at _ _ _ k c.settle.new.self.values c.settle.ensures.values _ _ opened _ (c.in_default.ensures.noted.values ∙ c.settle.ensures.values) _ (c.in_default.ensures.noted.modes ∙ c.settle.ensures.modes) _ (c.in_default.ensures.writes w.0 k.follows) c.schedules-schedules.result.now _ c.schedules-schedules.ensures c.as_slice-takes.ensures b in
     let kept = c.self.invariant in
     let desk = c.in_default-close_and_begin.ensures.desk w.0 q in
     record {
@@ -390,34 +314,24 @@ invariant_of-self-in_default-close_and_begin g c =
 
 pub returns-in_default-close_and_begin-clause-text : goal.returns-in_default-close_and_begin-clause-text
 returns-in_default-close_and_begin-clause-text g c = λ es before.
-    let later = subst (λ (z : Seen). z.held.reading ≤ c.args.at) (sym c.self.view_is) c.requires.read in
     let m = seen_in c.self.inside in
-    let ok = c.self.invariant.accepted in
-    let u = subst (λ (z : Seen). IsUpTo z es c.args.at) (sym c.self.view_is) before in
-    let r = ready m es c.args.at c.self.inside.path.idle.instrs ok u later c.self.invariant.empty in
-    let f = follows_at m.object es c.args.at c.tables-t.result.now c.ecode-code.result.now m.standing c.tables-t.ensures.value c.ecode-code.ensures u.before.values.triggers in
-    let opened = rw (c.tables-t.ensures.value, c.ecode-code.ensures, c.schedule.ensures, c.schedules-schedules.ensures) at (c.in_default.ensures.world es f) in
+    let k = given m _ es c.args.at c.tables-t.result.now c.ecode-code.result.now c.self.inside.path.idle.instrs c.self.view_is c.self.invariant.accepted c.self.invariant.empty c.tables-t.ensures.value c.ecode-code.ensures c.requires.read before in
+    let opened = rw (c.tables-t.ensures.value, c.ecode-code.ensures, c.schedule.ensures, c.schedules-schedules.ensures) at (c.in_default.ensures.world es k.follows) in
     let b = sym (rw c.tables-t.ensures.value at c.round_begins.ensures) ∙ c.if-round_begins.true in
-    let z = to_close m es c.args.at c.tables-t.result.now c.ecode-code.result.now c.tables-t.ensures.value c.ecode-code.ensures ok later u _ r c.settle.new.self.values c.settle.ensures.values _ _ opened _ (c.in_default.ensures.noted.values ∙ c.settle.ensures.values) _ (c.in_default.ensures.noted.modes ∙ c.settle.ensures.modes) _ (c.in_default.ensures.writes es f) in
-    let q = to_close_and_begin m es c.args.at c.tables-t.result.now c.ecode-code.result.now c.schedules-schedules.result.now _ c.tables-t.ensures.value c.ecode-code.ensures c.schedules-schedules.ensures c.as_slice-takes.ensures ok later u b c.open_instant.new.machines.works.desk (over m es c.args.at ok later u _ c.self.inside.path.idle.instrs refl c.self.invariant.empty r _ _ b opened.records).1 _ _ _ _ z in
-    let text = rw (c.tables-t.ensures.value, c.ecode-code.ensures, c.schedule.ensures, c.schedules-schedules.ensures, c.node.ensures) at (c.in_default.ensures.text es f) in
+    let q = given_begins m es c.args.at _ _ _ k c.settle.new.self.values c.settle.ensures.values _ _ opened _ (c.in_default.ensures.noted.values ∙ c.settle.ensures.values) _ (c.in_default.ensures.noted.modes ∙ c.settle.ensures.modes) _ (c.in_default.ensures.writes es k.follows) c.schedules-schedules.result.now _ c.schedules-schedules.ensures c.as_slice-takes.ensures b in
+    let text = rw (c.tables-t.ensures.value, c.ecode-code.ensures, c.schedule.ensures, c.schedules-schedules.ensures, c.node.ensures) at (c.in_default.ensures.text es k.follows) in
     subst (λ (z : Seen). Puts {T = Unit {0}} {E = Failed} (g.W.Sink.written c.args.sink.now) (g.W.Sink.written c.close_and_begin.new.sink) (g.W.Sink.faults c.args.sink.now) (g.W.Sink.faults c.close_and_begin.new.sink) (lines_of z.object es z.show c.args.at) (Ok _))
-    c.self.view_is (begun_closed_at m es c.args.at ok later u _ r c.tables-t.result.now c.ecode-code.result.now c.schedules-schedules.result.now _ _ _ _ _ _ _ _ c.tables-t.ensures.value c.ecode-code.ensures c.schedules-schedules.ensures b text (ends_so _ _ _ _ _ _ _ (c.in_default-close_and_begin.ensures.text es q)))
+    c.self.view_is (begun_closed_at m es c.args.at k.accepted k.later k.up _ k.ready c.tables-t.result.now c.ecode-code.result.now c.schedules-schedules.result.now _ _ _ _ _ _ _ _ c.tables-t.ensures.value c.ecode-code.ensures c.schedules-schedules.ensures b text (ends_so _ _ _ _ _ _ _ (c.in_default-close_and_begin.ensures.text es q)))
 
 pub returns-in_default-close_and_begin-clause-before : goal.returns-in_default-close_and_begin-clause-before
 returns-in_default-close_and_begin-clause-before g c = λ es before.
-    let later = subst (λ (z : Seen). z.held.reading ≤ c.args.at) (sym c.self.view_is) c.requires.read in
     let m = seen_in c.self.inside in
-    let ok = c.self.invariant.accepted in
-    let u = subst (λ (z : Seen). IsUpTo z es c.args.at) (sym c.self.view_is) before in
-    let r = ready m es c.args.at c.self.inside.path.idle.instrs ok u later c.self.invariant.empty in
-    let f = follows_at m.object es c.args.at c.tables-t.result.now c.ecode-code.result.now m.standing c.tables-t.ensures.value c.ecode-code.ensures u.before.values.triggers in
-    let opened = rw (c.tables-t.ensures.value, c.ecode-code.ensures, c.schedule.ensures, c.schedules-schedules.ensures) at (c.in_default.ensures.world es f) in
-    let same = c.settle.ensures.values ∙ u.before.values.values.values in
+    let k = given m _ es c.args.at c.tables-t.result.now c.ecode-code.result.now c.self.inside.path.idle.instrs c.self.view_is c.self.invariant.accepted c.self.invariant.empty c.tables-t.ensures.value c.ecode-code.ensures c.requires.read before in
+    let opened = rw (c.tables-t.ensures.value, c.ecode-code.ensures, c.schedule.ensures, c.schedules-schedules.ensures) at (c.in_default.ensures.world es k.follows) in
+    let same = c.settle.ensures.values ∙ k.up.before.values.values.values in
     let b = sym (rw c.tables-t.ensures.value at c.round_begins.ensures) ∙ c.if-round_begins.true in
-    let z = to_close m es c.args.at c.tables-t.result.now c.ecode-code.result.now c.tables-t.ensures.value c.ecode-code.ensures ok later u _ r c.settle.new.self.values c.settle.ensures.values _ _ opened _ (c.in_default.ensures.noted.values ∙ c.settle.ensures.values) _ (c.in_default.ensures.noted.modes ∙ c.settle.ensures.modes) _ (c.in_default.ensures.writes es f) in
-    let q = to_close_and_begin m es c.args.at c.tables-t.result.now c.ecode-code.result.now c.schedules-schedules.result.now _ c.tables-t.ensures.value c.ecode-code.ensures c.schedules-schedules.ensures c.as_slice-takes.ensures ok later u b c.open_instant.new.machines.works.desk (over m es c.args.at ok later u _ c.self.inside.path.idle.instrs refl c.self.invariant.empty r _ _ b opened.records).1 _ _ _ _ z in
-    let counts = rw (c.tables-t.ensures.value, c.ecode-code.ensures, c.schedule.ensures, c.schedules-schedules.ensures) at (c.in_default.ensures.counts es f) in
+    let q = given_begins m es c.args.at _ _ _ k c.settle.new.self.values c.settle.ensures.values _ _ opened _ (c.in_default.ensures.noted.values ∙ c.settle.ensures.values) _ (c.in_default.ensures.noted.modes ∙ c.settle.ensures.modes) _ (c.in_default.ensures.writes es k.follows) c.schedules-schedules.result.now _ c.schedules-schedules.ensures c.as_slice-takes.ensures b in
+    let counts = rw (c.tables-t.ensures.value, c.ecode-code.ensures, c.schedule.ensures, c.schedules-schedules.ensures) at (c.in_default.ensures.counts es k.follows) in
     let more = counts_at m.object es c.args.at c.tables-t.result.now c.ecode-code.result.now c.schedules-schedules.result.now c.close_and_begin.new.machines.works.tally c.open_instant.new.machines.works.tally c.tables-t.ensures.value c.ecode-code.ensures c.schedules-schedules.ensures (c.in_default-close_and_begin.ensures.counts es q) in
     let world = rw (c.tables-t.ensures.value, c.ecode-code.ensures) at (c.in_default-close_and_begin.ensures.world es q) in
     let safe = rw (c.tables-t.ensures.value, c.ecode-code.ensures) at c.in_default-close_and_begin.ensures.safe in
@@ -425,62 +339,47 @@ returns-in_default-close_and_begin-clause-before g c = λ es before.
     let reads = rw (c.tables-t.ensures.value, c.ecode-code.ensures) at (c.in_default-close_and_begin.ensures.reads es q) in
     let desk = begun_at m.object es c.args.at c.tables-t.result.now c.schedules-schedules.result.now c.close_and_begin.new.machines.works.desk c.tables-t.ensures.value c.schedules-schedules.ensures (c.in_default-close_and_begin.ensures.desk es q) in
     let stood = stood_at m.object es c.args.at c.tables-t.result.now c.schedules-schedules.result.now c.close_and_begin.new.path.list c.tables-t.ensures.value c.schedules-schedules.ensures (c.in_default-close_and_begin.ensures.list es q) in
-    let t = m.object.tables in
-    let code = m.object.ecode in
-    let tail : Tally → Tally = λ n. with_records (first_records t (schedules_of m.object) es c.args.at) (with_instrs (length (phase_path t code es c.args.at 3)) (with_instrs (length (phase_path t code es c.args.at 2)) n)) in
-    next_shown_up_to m es c.args.at ok later u c.open_instant.new.sensors.shows c.close_and_begin.new.machines.works.world c.close_and_begin.new.machines.works.desk c.close_and_begin.new.machines.emach _ _ (first_records t (schedules_of m.object) es c.args.at) c.self.inside.machines.works.tally c.close_and_begin.new.machines.works.tally c.in_default.ensures.shows
-    (passed_of m es c.args.at ok later u _ r c.settle.new.self.values same _ _ opened _ _ world reads safe shaped)
-    (desk_begins_so m es c.args.at ok later u _ b desk)
-    (list_begins m es c.args.at ok later u _ b stood)
-    (records_begin m es c.args.at ok later u _ c.self.inside.path.idle.instrs refl c.self.invariant.empty r b)
+    let tail : Tally → Tally = λ n. with_records (first_records m.object.tables (schedules_of m.object) es c.args.at) (with_instrs (length (phase_path m.object.tables m.object.ecode es c.args.at 3)) (with_instrs (length (phase_path m.object.tables m.object.ecode es c.args.at 2)) n)) in
+    next_shown_up_to m es c.args.at k.accepted k.later k.up c.open_instant.new.sensors.shows c.close_and_begin.new.machines.works.world c.close_and_begin.new.machines.works.desk c.close_and_begin.new.machines.emach _ _ (first_records m.object.tables (schedules_of m.object) es c.args.at) c.self.inside.machines.works.tally c.close_and_begin.new.machines.works.tally c.in_default.ensures.shows
+    (passed_of m es c.args.at k.accepted k.later k.up _ k.ready c.settle.new.self.values same _ _ opened _ _ world reads safe shaped)
+    (desk_begins_so m es c.args.at k.accepted k.later k.up _ b desk)
+    (list_begins m es c.args.at k.accepted k.later k.up _ b stood)
+    (records_begin m es c.args.at k.accepted k.later k.up _ c.self.inside.path.idle.instrs refl c.self.invariant.empty k.ready b)
     refl
-    (more ∙ ap tail (counts r.plan r.start r.place r.offset r.same r.past r.few r.was))
+    (more ∙ ap tail (counts k.ready.plan k.ready.start k.ready.place k.ready.offset k.ready.same k.ready.past k.ready.few k.ready.was))
 
 pub returns-in-Err-close_and_begin-clause-text : goal.returns-in-Err-close_and_begin-clause-text
 returns-in-Err-close_and_begin-clause-text g c = λ es before.
-    let later = subst (λ (z : Seen). z.held.reading ≤ c.args.at) (sym c.self.view_is) c.requires.read in
     let m = seen_in c.self.inside in
-    let ok = c.self.invariant.accepted in
-    let u = subst (λ (z : Seen). IsUpTo z es c.args.at) (sym c.self.view_is) before in
-    let r = ready m es c.args.at c.self.inside.path.idle.instrs ok u later c.self.invariant.empty in
-    let f = follows_at m.object es c.args.at c.tables-t.result.now c.ecode-code.result.now m.standing c.tables-t.ensures.value c.ecode-code.ensures u.before.values.triggers in
-    let opened = rw (c.tables-t.ensures.value, c.ecode-code.ensures, c.schedule.ensures, c.schedules-schedules.ensures) at (c.in_default.ensures.world es f) in
+    let k = given m _ es c.args.at c.tables-t.result.now c.ecode-code.result.now c.self.inside.path.idle.instrs c.self.view_is c.self.invariant.accepted c.self.invariant.empty c.tables-t.ensures.value c.ecode-code.ensures c.requires.read before in
+    let opened = rw (c.tables-t.ensures.value, c.ecode-code.ensures, c.schedule.ensures, c.schedules-schedules.ensures) at (c.in_default.ensures.world es k.follows) in
     let b = sym (rw c.tables-t.ensures.value at c.round_begins.ensures) ∙ c.if-round_begins.true in
-    let z = to_close m es c.args.at c.tables-t.result.now c.ecode-code.result.now c.tables-t.ensures.value c.ecode-code.ensures ok later u _ r c.settle.new.self.values c.settle.ensures.values _ _ opened _ (c.in_default.ensures.noted.values ∙ c.settle.ensures.values) _ (c.in_default.ensures.noted.modes ∙ c.settle.ensures.modes) _ (c.in_default.ensures.writes es f) in
-    let q = to_close_and_begin m es c.args.at c.tables-t.result.now c.ecode-code.result.now c.schedules-schedules.result.now _ c.tables-t.ensures.value c.ecode-code.ensures c.schedules-schedules.ensures c.as_slice-takes.ensures ok later u b c.open_instant.new.machines.works.desk (over m es c.args.at ok later u _ c.self.inside.path.idle.instrs refl c.self.invariant.empty r _ _ b opened.records).1 _ _ _ _ z in
-    let text = rw (c.tables-t.ensures.value, c.ecode-code.ensures, c.schedule.ensures, c.schedules-schedules.ensures, c.node.ensures) at (c.in_default.ensures.text es f) in
+    let q = given_begins m es c.args.at _ _ _ k c.settle.new.self.values c.settle.ensures.values _ _ opened _ (c.in_default.ensures.noted.values ∙ c.settle.ensures.values) _ (c.in_default.ensures.noted.modes ∙ c.settle.ensures.modes) _ (c.in_default.ensures.writes es k.follows) c.schedules-schedules.result.now _ c.schedules-schedules.ensures c.as_slice-takes.ensures b in
+    let text = rw (c.tables-t.ensures.value, c.ecode-code.ensures, c.schedule.ensures, c.schedules-schedules.ensures, c.node.ensures) at (c.in_default.ensures.text es k.follows) in
     subst (λ (z : Seen). Puts {T = Unit {0}} {E = Failed} (g.W.Sink.written c.args.sink.now) (g.W.Sink.written c.close_and_begin.new.sink) (g.W.Sink.faults c.args.sink.now) (g.W.Sink.faults c.close_and_begin.new.sink) (lines_of z.object es z.show c.args.at) (Err c.in-Err-close_and_begin.failed))
-    c.self.view_is (begun_closed_at m es c.args.at ok later u _ r c.tables-t.result.now c.ecode-code.result.now c.schedules-schedules.result.now _ _ _ _ _ _ _ _ c.tables-t.ensures.value c.ecode-code.ensures c.schedules-schedules.ensures b text (fails_so _ _ _ _ _ _ c.in-Err-close_and_begin.failed (c.in-Err-close_and_begin.ensures.text es q)))
+    c.self.view_is (begun_closed_at m es c.args.at k.accepted k.later k.up _ k.ready c.tables-t.result.now c.ecode-code.result.now c.schedules-schedules.result.now _ _ _ _ _ _ _ _ c.tables-t.ensures.value c.ecode-code.ensures c.schedules-schedules.ensures b text (fails_so _ _ _ _ _ _ c.in-Err-close_and_begin.failed (c.in-Err-close_and_begin.ensures.text es q)))
 
 pub returns-in_default-close_instant-clause-text : goal.returns-in_default-close_instant-clause-text
 returns-in_default-close_instant-clause-text g c = λ es before.
-    let later = subst (λ (z : Seen). z.held.reading ≤ c.args.at) (sym c.self.view_is) c.requires.read in
     let m = seen_in c.self.inside in
-    let ok = c.self.invariant.accepted in
-    let u = subst (λ (z : Seen). IsUpTo z es c.args.at) (sym c.self.view_is) before in
-    let r = ready m es c.args.at c.self.inside.path.idle.instrs ok u later c.self.invariant.empty in
-    let f = follows_at m.object es c.args.at c.tables-t.result.now c.ecode-code.result.now m.standing c.tables-t.ensures.value c.ecode-code.ensures u.before.values.triggers in
-    let opened = rw (c.tables-t.ensures.value, c.ecode-code.ensures, c.schedule.ensures, c.schedules-schedules.ensures) at (c.in_default.ensures.world es f) in
+    let k = given m _ es c.args.at c.tables-t.result.now c.ecode-code.result.now c.self.inside.path.idle.instrs c.self.view_is c.self.invariant.accepted c.self.invariant.empty c.tables-t.ensures.value c.ecode-code.ensures c.requires.read before in
+    let opened = rw (c.tables-t.ensures.value, c.ecode-code.ensures, c.schedule.ensures, c.schedules-schedules.ensures) at (c.in_default.ensures.world es k.follows) in
     let b = sym (rw c.tables-t.ensures.value at c.round_begins.ensures) ∙ c.if-round_begins.false in
-    let q = to_close m es c.args.at c.tables-t.result.now c.ecode-code.result.now c.tables-t.ensures.value c.ecode-code.ensures ok later u _ r c.settle.new.self.values c.settle.ensures.values _ _ opened _ (c.in_default.ensures.noted.values ∙ c.settle.ensures.values) _ (c.in_default.ensures.noted.modes ∙ c.settle.ensures.modes) _ (c.in_default.ensures.writes es f) in
-    let text = rw (c.tables-t.ensures.value, c.ecode-code.ensures, c.schedule.ensures, c.schedules-schedules.ensures, c.node.ensures) at (c.in_default.ensures.text es f) in
+    let q = given_closes m es c.args.at _ _ _ k c.settle.new.self.values c.settle.ensures.values _ _ opened _ (c.in_default.ensures.noted.values ∙ c.settle.ensures.values) _ (c.in_default.ensures.noted.modes ∙ c.settle.ensures.modes) _ (c.in_default.ensures.writes es k.follows) in
+    let text = rw (c.tables-t.ensures.value, c.ecode-code.ensures, c.schedule.ensures, c.schedules-schedules.ensures, c.node.ensures) at (c.in_default.ensures.text es k.follows) in
     let rest = rw (c.tables-t.ensures.value, c.ecode-code.ensures) at (c.in_default-close_instant.ensures.text es q) in
     subst (λ (z : Seen). Puts {T = Unit {0}} {E = Failed} (g.W.Sink.written c.args.sink.now) (g.W.Sink.written c.close_instant.new.sink) (g.W.Sink.faults c.args.sink.now) (g.W.Sink.faults c.close_instant.new.sink) (lines_of z.object es z.show c.args.at) (Ok _))
-    c.self.view_is (going_closed m es c.args.at ok later u _ r _ _ _ _ _ _ _ _ b text (ends_so _ _ _ _ _ _ _ rest))
+    c.self.view_is (going_closed m es c.args.at k.accepted k.later k.up _ k.ready _ _ _ _ _ _ _ _ b text (ends_so _ _ _ _ _ _ _ rest))
 
 pub returns-in_default-close_instant-clause-before : goal.returns-in_default-close_instant-clause-before
 returns-in_default-close_instant-clause-before g c = λ es before.
-    let later = subst (λ (z : Seen). z.held.reading ≤ c.args.at) (sym c.self.view_is) c.requires.read in
     let m = seen_in c.self.inside in
-    let ok = c.self.invariant.accepted in
-    let u = subst (λ (z : Seen). IsUpTo z es c.args.at) (sym c.self.view_is) before in
-    let r = ready m es c.args.at c.self.inside.path.idle.instrs ok u later c.self.invariant.empty in
-    let f = follows_at m.object es c.args.at c.tables-t.result.now c.ecode-code.result.now m.standing c.tables-t.ensures.value c.ecode-code.ensures u.before.values.triggers in
-    let opened = rw (c.tables-t.ensures.value, c.ecode-code.ensures, c.schedule.ensures, c.schedules-schedules.ensures) at (c.in_default.ensures.world es f) in
-    let same = c.settle.ensures.values ∙ u.before.values.values.values in
+    let k = given m _ es c.args.at c.tables-t.result.now c.ecode-code.result.now c.self.inside.path.idle.instrs c.self.view_is c.self.invariant.accepted c.self.invariant.empty c.tables-t.ensures.value c.ecode-code.ensures c.requires.read before in
+    let opened = rw (c.tables-t.ensures.value, c.ecode-code.ensures, c.schedule.ensures, c.schedules-schedules.ensures) at (c.in_default.ensures.world es k.follows) in
+    let same = c.settle.ensures.values ∙ k.up.before.values.values.values in
     let b = sym (rw c.tables-t.ensures.value at c.round_begins.ensures) ∙ c.if-round_begins.false in
-    let q = to_close m es c.args.at c.tables-t.result.now c.ecode-code.result.now c.tables-t.ensures.value c.ecode-code.ensures ok later u _ r c.settle.new.self.values c.settle.ensures.values _ _ opened _ (c.in_default.ensures.noted.values ∙ c.settle.ensures.values) _ (c.in_default.ensures.noted.modes ∙ c.settle.ensures.modes) _ (c.in_default.ensures.writes es f) in
-    let counts = rw (c.tables-t.ensures.value, c.ecode-code.ensures, c.schedule.ensures, c.schedules-schedules.ensures) at (c.in_default.ensures.counts es f) in
+    let q = given_closes m es c.args.at _ _ _ k c.settle.new.self.values c.settle.ensures.values _ _ opened _ (c.in_default.ensures.noted.values ∙ c.settle.ensures.values) _ (c.in_default.ensures.noted.modes ∙ c.settle.ensures.modes) _ (c.in_default.ensures.writes es k.follows) in
+    let counts = rw (c.tables-t.ensures.value, c.ecode-code.ensures, c.schedule.ensures, c.schedules-schedules.ensures) at (c.in_default.ensures.counts es k.follows) in
     let more = rw (c.tables-t.ensures.value, c.ecode-code.ensures) at (c.in_default-close_instant.ensures.counts es q) in
     let world = rw (c.tables-t.ensures.value, c.ecode-code.ensures) at (c.in_default-close_instant.ensures.world es q) in
     let safe = rw (c.tables-t.ensures.value, c.ecode-code.ensures) at c.in_default-close_instant.ensures.safe in
@@ -488,13 +387,11 @@ returns-in_default-close_instant-clause-before g c = λ es before.
     let reads = rw (c.tables-t.ensures.value, c.ecode-code.ensures) at (c.in_default-close_instant.ensures.reads es q) in
     let desk = rw (c.tables-t.ensures.value, c.ecode-code.ensures) at (c.in_default-close_instant.ensures.desk es q) in
     let stands = c.in_default-close_instant.ensures.stands _ (rw (c.schedule.ensures, c.schedules-schedules.ensures) at c.in_default.ensures.stands) in
-    let t = m.object.tables in
-    let code = m.object.ecode in
-    let tail : Tally → Tally = λ n. with_instrs (length (phase_path t code es c.args.at 3)) (with_instrs (length (phase_path t code es c.args.at 2)) n) in
-    next_shown_up_to m es c.args.at ok later u c.open_instant.new.sensors.shows c.close_instant.new.machines.works.world c.close_instant.new.machines.works.desk c.close_instant.new.machines.emach _ _ [] c.self.inside.machines.works.tally c.close_instant.new.machines.works.tally c.in_default.ensures.shows
-    (passed_of m es c.args.at ok later u _ r c.settle.new.self.values same _ _ opened _ _ world reads safe shaped)
-    (desk_goes_on m es c.args.at ok later u _ c.self.inside.path.idle.instrs refl c.self.invariant.empty r _ _ _ b opened.records desk stands)
-    (list_goes_on m es c.args.at ok later u b)
-    (records_go_on m es c.args.at ok later u _ c.self.inside.path.idle.instrs refl c.self.invariant.empty r b)
+    let tail : Tally → Tally = λ n. with_instrs (length (phase_path m.object.tables m.object.ecode es c.args.at 3)) (with_instrs (length (phase_path m.object.tables m.object.ecode es c.args.at 2)) n) in
+    next_shown_up_to m es c.args.at k.accepted k.later k.up c.open_instant.new.sensors.shows c.close_instant.new.machines.works.world c.close_instant.new.machines.works.desk c.close_instant.new.machines.emach _ _ [] c.self.inside.machines.works.tally c.close_instant.new.machines.works.tally c.in_default.ensures.shows
+    (passed_of m es c.args.at k.accepted k.later k.up _ k.ready c.settle.new.self.values same _ _ opened _ _ world reads safe shaped)
+    (desk_goes_on m es c.args.at k.accepted k.later k.up _ c.self.inside.path.idle.instrs refl c.self.invariant.empty k.ready _ _ _ b opened.records desk stands)
+    (list_goes_on m es c.args.at k.accepted k.later k.up b)
+    (records_go_on m es c.args.at k.accepted k.later k.up _ c.self.inside.path.idle.instrs refl c.self.invariant.empty k.ready b)
     refl
-    (more ∙ ap tail (counts r.plan r.start r.place r.offset r.same r.past r.few r.was))
+    (more ∙ ap tail (counts k.ready.plan k.ready.start k.ready.place k.ready.offset k.ready.same k.ready.past k.ready.few k.ready.was))
