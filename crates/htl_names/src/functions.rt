@@ -8,6 +8,7 @@ ghost use Rattle.htl_text.specs.declared.tree.Id.{Id as AnId};
 ghost use Rattle.htl_names.specs.Flat.{term_by, input_place, read_place, output_function, module_functions};
 ghost use Rattle.htl_names.specs.Lists.{place_in};
 
+use crate::Done;
 use crate::key::Space;
 use crate::place::{ModuleAt, tasks_at};
 use crate::tables::Source;
@@ -124,22 +125,21 @@ fn boxed<A: Arguments>(
 
 // ---- the functions of outputs
 
-/// One for each output of each concrete task, in the order of tasks.
-pub fn outputs(source: &Source<'_>) -> Result<Vec<Function>, AllocError>
-    ensures { IfOk result (λ v. map fun_of v.items
-        ≡ flat_map (module_functions source.now.layout.now (tree_of source.now.tree.now)) source.now.layout.now.modules) }
+/// Puts one for each output of each concrete task behind others, in the order of tasks.
+pub fn put_outputs(source: &Source<'_>, into: &mut Vec<Function>) -> Done
+    ensures { OnOk result (map fun_of into.new.items
+        ≡ map fun_of into.old.items ++ flat_map (module_functions source.now.layout.now (tree_of source.now.tree.now)) source.now.layout.now.modules) }
 {
-    let mut into = Vec::new(source.alloc);
     let layout = source.layout;
     let modules = layout.modules.as_slice();
     for k in 0..modules.len() {
-        put_module(source, modules[k], &mut into)?;
+        put_module(source, modules[k], into)?;
     }
-    Ok(into)
+    Ok(())
 }
 
 // Those of the tasks of a module: none of an abstract one.
-fn put_module(source: &Source<'_>, at: ModuleAt, into: &mut Vec<Function>) -> Result<(), AllocError>
+fn put_module(source: &Source<'_>, at: ModuleAt, into: &mut Vec<Function>) -> Done
     ensures { OnOk result (map fun_of into.new.items
         ≡ map fun_of into.old.items ++ module_functions source.now.layout.now (tree_of source.now.tree.now) at) }
 {
@@ -158,11 +158,7 @@ fn put_module(source: &Source<'_>, at: ModuleAt, into: &mut Vec<Function>) -> Re
 }
 
 // Those of a task with these inputs.
-fn put_outs(
-    inputs: &Inputs<'_>,
-    outs: &[OutNode],
-    into: &mut Vec<Function>,
-) -> Result<(), AllocError>
+fn put_outs(inputs: &Inputs<'_>, outs: &[OutNode], into: &mut Vec<Function>) -> Done
     ensures { OnOk result (map fun_of into.new.items ≡ map fun_of into.old.items
         ++ map (output_function inputs.now.source.layout.now inputs.now.at.program inputs.now.at.«module» inputs.now.task) (map out_of outs.now)) }
 {

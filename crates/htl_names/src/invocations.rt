@@ -4,6 +4,7 @@ ghost use Rattle.htl_text.specs.Nodes.{tree_of};
 ghost use Rattle.htl_names.specs.Flat.{module_number, tasks_before, ports_before, refined_mode, first_parent, end_item, parent_number, invoke_item, mode_invoke_items, invoke_items};
 ghost use Rattle.htl_names.specs.Narrow.{IsNarrowEnd, IsNarrowInvoke, IsNarrowParent};
 
+use crate::Done;
 use crate::items::size_of;
 use crate::key::Space;
 use crate::place::{
@@ -34,29 +35,22 @@ struct Home<'a> {
     ghost parents: { parent ≡ first_parent source.layout.now (tree_of source.tree.now) refined },
 }
 
-/// The invocations: by mode, then in source order.
-pub fn invocations(source: &Source<'_>) -> Result<Vec<Inv>, AllocError>
-    ensures { IfOk result (λ v. v.items ≡ invoke_items source.now.layout.now (tree_of source.now.tree.now)) }
+/// Puts the invocations behind others: by mode, then in source order.
+pub fn put_invocations(source: &Source<'_>, into: &mut Vec<Inv>) -> Done
+    ensures { OnOk result (into.new.items ≡ into.old.items ++ invoke_items source.now.layout.now (tree_of source.now.tree.now)) }
 {
-    let mut found = Vec::new(source.alloc);
     let mut port: usize = 0;
     let layout = source.layout;
     let modes = layout.modes.as_slice();
     for k in 0..modes.len() {
-        put_mode(source, k, modes[k], port, &mut found)?;
+        put_mode(source, k, modes[k], port, into)?;
         port += ports_at(source.tree, modes[k]).len();
     }
-    Ok(found)
+    Ok(())
 }
 
 // Those of a mode, whose first port has this number.
-fn put_mode(
-    source: &Source<'_>,
-    mode: usize,
-    at: ModeAt,
-    port: usize,
-    into: &mut Vec<Inv>,
-) -> Result<(), AllocError>
+fn put_mode(source: &Source<'_>, mode: usize, at: ModeAt, port: usize, into: &mut Vec<Inv>) -> Done
     requires few { mode ≤ 256 }
     requires ports { port ≡ ports_before source.now.layout.now (tree_of source.now.tree.now) mode }
     ensures { OnOk result (into.new.items ≡ into.old.items ++ mode_invoke_items source.now.layout.now (tree_of source.now.tree.now) mode at) }

@@ -45,19 +45,18 @@ pub fn value_of(constant: ConstNode) -> Value
 
 // ---- communicators, modes, modules and ports
 
-/// The communicators, in source order.
-pub fn comms(source: &Source<'_>) -> Result<Vec<Comm>, AllocError>
-    ensures { IfOk result (λ v. v.items ≡ comm_items (tree_of source.now.tree.now)) }
+/// Puts the communicators behind others, in source order.
+pub fn put_comms(source: &Source<'_>, into: &mut Vec<Comm>) -> Done
+    ensures { OnOk result (into.new.items ≡ into.old.items ++ comm_items (tree_of source.now.tree.now)) }
 {
-    let mut into = Vec::new(source.alloc);
     let programs = source.tree.programs.as_slice();
     for k in 0..programs.len() {
-        put_comms(programs[k].comms.as_slice(), &mut into)?;
+        put_program_comms(programs[k].comms.as_slice(), into)?;
     }
-    Ok(into)
+    Ok(())
 }
 
-fn put_comms(nodes: &[CommNode], into: &mut Vec<Comm>) -> Done
+fn put_program_comms(nodes: &[CommNode], into: &mut Vec<Comm>) -> Done
     requires { All (λ (c : ACommNode). size_of c.period.x ≤ 1000000) nodes.now }
     ensures { OnOk result (into.new.items ≡ into.old.items ++ map comm_item nodes.now) }
 {
@@ -99,11 +98,10 @@ fn mode(node: &ModeNode, module: u16) -> Mode
     }
 }
 
-/// The modules, in the order of the layout.
-pub fn modules(source: &Source<'_>) -> Result<Vec<Module>, AllocError>
-    ensures { IfOk result (λ v. v.items ≡ module_items source.now.layout.now (tree_of source.now.tree.now)) }
+/// Puts the modules behind others, in the order of the layout.
+pub fn put_modules(source: &Source<'_>, into: &mut Vec<Module>) -> Done
+    ensures { OnOk result (into.new.items ≡ into.old.items ++ module_items source.now.layout.now (tree_of source.now.tree.now)) }
 {
-    let mut into = Vec::new(source.alloc);
     let layout = source.layout;
     let modules = layout.modules.as_slice();
     for k in 0..modules.len() {
@@ -111,7 +109,7 @@ pub fn modules(source: &Source<'_>) -> Result<Vec<Module>, AllocError>
             into.push(module(source, k, modules[k], node))?;
         }
     }
-    Ok(into)
+    Ok(())
 }
 
 fn module(source: &Source<'_>, number: usize, at: ModuleAt, node: &ModuleNode) -> Module

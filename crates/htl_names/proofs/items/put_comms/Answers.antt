@@ -6,10 +6,10 @@ use Rattle.std.proofs.lemmas.List.Folds.{flat_map-map}
 use Rattle.std.proofs.Common.{◌≤◌, subst, sym, List}
 use Rattle.htl_names.specs.Flat.{size_of}
 use Rattle.htl_names.proofs.Members.{all_part}
-use Rattle.htl_names.proofs.items.comms.Goals as goal
+use Rattle.htl_names.proofs.items.put_comms.Goals as goal
 
-pub put_comms-requires : goal.put_comms-requires
-put_comms-requires c =
+pub put_program_comms-requires : goal.put_program_comms-requires
+put_program_comms-requires c =
     let fits : CommNode → Type 0 = λ x. size_of x.period.x ≤ 1000000 in
     let programs = c.args.source.now.tree.now.programs in
     let slice = c.as_slice-programs.ensures in
