@@ -8,16 +8,6 @@ use Rattle.htl_names.specs.Keys.{look_up, program_key}
 use Rattle.htl_names.specs.Lists.{map_at}
 use Rattle.htl_names.specs.Programs.{Naming, Graph, program_naming}
 
--- the number of the program of a name
-abbrev pub program_named : List (Key × ℕ) → Option Id → Option ℕ
-program_named symbols (Some id) = look_up (program_key id.name) symbols
-program_named symbols None = None
-
--- a mode with the number, where there is one
-abbrev pub named_from : ModeAt → Option ℕ → List Naming
-named_from a (Some q) = (a, q) ∷ []
-named_from a None = []
-
 -- the modes that name programs, by the program that they stand in
 abbrev pub naming_rows : List (Key × ℕ) → List PlainProgram → List (List Naming)
 naming_rows symbols ps = map_at (program_naming symbols) 0 ps

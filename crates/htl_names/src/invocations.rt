@@ -8,8 +8,7 @@ use crate::Done;
 use crate::items::size_of;
 use crate::key::Space;
 use crate::place::{
-    ModeAt, invokes_at, invokes_before, mode_number, module_number, ports_at, refined_mode,
-    tasks_before,
+    ModeAt, before, invokes_at, invokes_before, mode_number, module_number, ports_at, refined_mode,
 };
 use crate::tables::Source;
 use htl_base::Seq;
@@ -61,7 +60,7 @@ fn put_mode(source: &Source<'_>, mode: usize, at: ModeAt, port: usize, into: &mu
         mode,
         at,
         port,
-        task: tasks_before(source, module_number(source.layout, at.program, at.module)),
+        task: before(source, module_number(source.layout, at.program, at.module)).tasks,
         refined,
         parent: first_parent(source, refined),
     };

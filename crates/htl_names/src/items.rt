@@ -9,7 +9,7 @@ ghost use Rattle.htl_names.specs.Narrow.{IsNarrowParent};
 use crate::Done;
 use crate::key::Space;
 use crate::place::{
-    ModeAt, ModuleAt, mode_number, modes_at, modes_before, module_at, ports_at, tasks_at,
+    ModeAt, ModuleAt, before, mode_number, modes_at, module_at, ports_at, tasks_at,
 };
 use crate::tables::{Listing, Source};
 use htl_base::{Seq, Ty, Value};
@@ -118,7 +118,7 @@ fn module(source: &Source<'_>, number: usize, at: ModuleAt, node: &ModuleNode) -
     ensures { result ≡ module_item source.now.layout.now (tree_of source.now.tree.now) number at (module_of node.now) }
 {
     let modes = Space::Modes.of(at.program, at.module, 0);
-    let first = modes_before(source, number);
+    let first = before(source, number).modes;
     let parent = match at.parent {
         Some(mode) => Some(mode_number(source, mode) as u16),
         None => None,

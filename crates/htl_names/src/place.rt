@@ -120,32 +120,28 @@ pub fn module_number(layout: &Layout, program: usize, module: usize) -> usize
     modules.len()
 }
 
-/// How many modes the modules below a number have.
-pub fn modes_before(source: &Source<'_>, module: usize) -> usize
-    requires { «module» ≤ length source.now.layout.now.modules }
-    ensures { result ≡ modes_before source.now.layout.now (tree_of source.now.tree.now) «module» }
-{
-    let mut count: usize = 0;
-    let layout = source.layout;
-    let modules = layout.modules.as_slice();
-    for k in 0..module {
-        count += modes_at(source.tree, modules[k].program, modules[k].module).len();
-    }
-    count
+/// How many modes and tasks modules have.
+#[derive(Clone, Copy)]
+pub struct Held {
+    pub modes: usize,
+    pub tasks: usize,
 }
 
-/// How many tasks the modules below a number have.
-pub fn tasks_before(source: &Source<'_>, module: usize) -> usize
+/// How many modes and tasks the modules below a number have.
+pub fn before(source: &Source<'_>, module: usize) -> Held
     requires { «module» ≤ length source.now.layout.now.modules }
-    ensures { result ≡ tasks_before source.now.layout.now (tree_of source.now.tree.now) «module» }
+    ensures modes { result.modes ≡ modes_before source.now.layout.now (tree_of source.now.tree.now) «module» }
+    ensures tasks { result.tasks ≡ tasks_before source.now.layout.now (tree_of source.now.tree.now) «module» }
 {
-    let mut count: usize = 0;
+    let mut sum = Held { modes: 0, tasks: 0 };
     let layout = source.layout;
     let modules = layout.modules.as_slice();
     for k in 0..module {
-        count += tasks_at(source.tree, modules[k].program, modules[k].module).len();
+        let at = modules[k];
+        sum.modes += modes_at(source.tree, at.program, at.module).len();
+        sum.tasks += tasks_at(source.tree, at.program, at.module).len();
     }
-    count
+    sum
 }
 
 /// How many invocations the modes below a number have.
@@ -167,7 +163,7 @@ pub fn mode_number(source: &Source<'_>, at: ModeAt) -> usize
     ensures value { result ≡ mode_number source.now.layout.now (tree_of source.now.tree.now) at }
     ensures within { result ≤ 512 }
 {
-    modes_before(source, module_number(source.layout, at.program, at.module)) + at.mode
+    before(source, module_number(source.layout, at.program, at.module)).modes + at.mode
 }
 
 /// The mode that the program of a module refines.

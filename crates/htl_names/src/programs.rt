@@ -2,8 +2,8 @@
 ghost use Rattle.std.specs.Prelude.{◌≡◌, ◌++◌, OnOk, IfOk, eqb, ◌<◌, length, slice_get, fold, MatchBool, ◌≤◌, ℕ, List, get_or, None};
 ghost use Rattle.htl_model.specs.Lists.{list_to};
 ghost use Rattle.htl_text.specs.Nodes.{mode_of, module_of, program_of, tree_of, PlainProgram};
-ghost use Rattle.htl_names.specs.Graph.{program_named, named_from, naming_rows, targets, graph_by};
-ghost use Rattle.htl_names.specs.Programs.{IsFirstMisplaced, named_program as program_of_mode, mode_naming, module_naming, program_naming, named_by, IsMisplaced, refined_by};
+ghost use Rattle.htl_names.specs.Graph.{naming_rows, targets, graph_by};
+ghost use Rattle.htl_names.specs.Programs.{IsFirstMisplaced, named_program as program_of_mode, named_from, module_naming, program_naming, named_by, IsMisplaced, refined_by};
 ghost use Rattle.htl_names.specs.Namings.{counted, counted_all, CountsNamings};
 ghost use Rattle.htl_names.specs.Reach.{met, met_by, IsMarked, MarksReached};
 ghost use Rattle.htl_names.specs.Refined.{filled};
@@ -14,7 +14,7 @@ use crate::key::Space;
 use crate::place::ModeAt;
 use crate::symbols::Symbols;
 use htl_base::Seq;
-use htl_text::{Id, ModeNode, ModuleNode, ProgramNode, Tree};
+use htl_text::{ModeNode, ModuleNode, ProgramNode, Tree};
 use std::alloc::{AllocError, Global};
 
 // ---- the modes that name programs
@@ -25,21 +25,14 @@ pub(crate) type Naming = (ModeAt, usize);
 /// The modes of a program that name programs, in source order.
 pub(crate) type NamingRow = Seq<Naming>;
 
-/// The number of the program of this name.
-fn number_of(name: Option<Id>, symbols: &Symbols) -> Option<usize>
-    ensures { result ≡ program_named symbols.now name }
-{
-    match name {
-        Some(id) => symbols.get(&Space::Programs.of(0, 0, 0).key(id.name)),
-        None => None,
-    }
-}
-
 /// The number of the program that stands in the head of a mode.
 pub(crate) fn named_program(mode: &ModeNode, symbols: &Symbols) -> Option<usize>
     ensures { result ≡ program_of_mode symbols.now (mode_of mode.now) }
 {
-    number_of(mode.program, symbols)
+    match &mode.program {
+        Some(id) => symbols.get(&Space::Programs.of(0, 0, 0).key(id.name)),
+        None => None,
+    }
 }
 
 fn push_placed(place: ModeAt, found: Option<usize>, into: &mut Vec<Naming>) -> Done
@@ -49,12 +42,6 @@ fn push_placed(place: ModeAt, found: Option<usize>, into: &mut Vec<Naming>) -> D
         into.push((place, q))?;
     }
     Ok(())
-}
-
-fn push_mode_naming(at: ModeAt, mode: &ModeNode, symbols: &Symbols, into: &mut Vec<Naming>) -> Done
-    ensures { OnOk result (into.new.items ≡ into.old.items ++ mode_naming symbols.now at.program at.«module» at.mode (mode_of mode.now)) }
-{
-    push_placed(at, named_program(mode, symbols), into)
 }
 
 fn push_module_naming(
@@ -73,7 +60,7 @@ fn push_module_naming(
             module,
             mode: k,
         };
-        push_mode_naming(place, &modes[k], symbols, into)?;
+        push_placed(place, named_program(&modes[k], symbols), into)?;
     }
     Ok(())
 }

@@ -9,7 +9,7 @@ ghost use Rattle.htl_names.specs.Flat.{comms_in, switch_function, mode_functions
 use crate::Done;
 use crate::functions::{Reads, formula};
 use crate::key::Space;
-use crate::place::{ModeAt, modes_before, module_number, switches_at};
+use crate::place::{ModeAt, before, module_number, switches_at};
 use crate::tables::Source;
 use htl_base::Seq;
 use htl_model::{Function, Switch};
@@ -49,7 +49,7 @@ fn put_mode(
         ≡ map fun_of functions.old.items ++ mode_functions source.now.layout.now (tree_of source.now.tree.now) at) }
 {
     let module = module_number(source.layout, at.program, at.module);
-    let first = modes_before(source, module);
+    let first = before(source, module).modes;
     let modes = Space::Modes.of(at.program, at.module, 0);
     let nodes = switches_at(source.tree, at);
     for k in 0..nodes.len() {
