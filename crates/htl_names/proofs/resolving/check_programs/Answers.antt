@@ -9,7 +9,7 @@ use Rattle.htl_names.proofs.RuleLaws.{parents_searched, tree_searched, limits_se
 use Rattle.htl_names.proofs.ResolveLaws.{found, passed, all_right}
 use Rattle.htl_names.proofs.Walking.{length-map_at}
 use Rattle.htl_names.specs.declared.fault.NameFault.TheVariants as fault
-use Rattle.htl_names.proofs.resolving.check.Goals as goal
+use Rattle.htl_names.proofs.resolving.check_programs.Goals as goal
 
 pub first_misplaced-requires : goal.first_misplaced-requires
 first_misplaced-requires c =
