@@ -6,7 +6,7 @@ ghost use Rattle.htl_names.specs.Excess.{IsFirstExcess, capped, excess_from};
 ghost use Rattle.htl_names.specs.LevelTable.{level_by, levels_by};
 ghost use Rattle.htl_names.specs.Limits.{choices, selections, most_invokes, most_positions, counts, limits};
 ghost use Rattle.htl_names.specs.Programs.{refined_by};
-ghost use Rattle.htl_names.specs.Tallies.{with_module, with_program, tally, tally_counts};
+ghost use Rattle.htl_names.specs.Tallies.{with_module, with_program, tally};
 
 use crate::place::{ModeAt, modules_at};
 use crate::programs::refined_at;
@@ -200,9 +200,23 @@ fn first_excess(first: u8, counts: &[usize], limits: &[usize]) -> Option<Excess>
     None
 }
 
-/// The first excess of what is counted over all modes, limits 1 to 8.
-fn counted_excess(tree: &Tree) -> Option<Excess>
-    ensures { result ≡ excess_from 1 (tally_counts (tally (tree_of tree.now))) (take 8 limits) }
+/// The first excess of levels, root selections and positions, limits 9 to 11.
+fn shape_excess(tree: &Tree, refined: &[Option<ModeAt>]) -> Option<Excess>
+    ensures { result ≡ excess_from 9 (levels_by refined.now ∷ capped (selections (tree_of tree.now)) ∷ capped (most_positions (tree_of tree.now)) ∷ []) (drop 8 limits) }
+{
+    let counts = [levels(refined), selections(tree), most_positions(tree)];
+    let limits = [MAX_LEVELS, MAX_SELECTIONS as usize, MAX_POSITIONS];
+    first_excess(9, &counts, &limits)
+}
+
+/// The first limit that is exceeded. `refined` has of each program the mode that it refines.
+pub(crate) fn first_exceeded(
+    tree: &Tree,
+    symbols: &Symbols,
+    refined: &[Option<ModeAt>],
+) -> Option<Excess>
+    requires { refined.now ≡ list_to (refined_by symbols.now (tree_of tree.now)) (length (tree_of tree.now)) }
+    ensures { IsFirstExcess (counts symbols.now (tree_of tree.now)) result }
 {
     let sum = tally_of(tree);
     let counts = [
@@ -225,28 +239,7 @@ fn counted_excess(tree: &Tree) -> Option<Excess>
         MAX_SWITCHES,
         MAX_MODE_INVOCATIONS,
     ];
-    first_excess(1, &counts, &limits)
-}
-
-/// The first excess of levels, root selections and positions, limits 9 to 11.
-fn shape_excess(tree: &Tree, refined: &[Option<ModeAt>]) -> Option<Excess>
-    ensures { result ≡ excess_from 9 (levels_by refined.now ∷ capped (selections (tree_of tree.now)) ∷ capped (most_positions (tree_of tree.now)) ∷ []) (drop 8 limits) }
-{
-    let counts = [levels(refined), selections(tree), most_positions(tree)];
-    let limits = [MAX_LEVELS, MAX_SELECTIONS as usize, MAX_POSITIONS];
-    first_excess(9, &counts, &limits)
-}
-
-/// The first limit that is exceeded. `refined` has of each program the mode that it refines.
-pub(crate) fn first_exceeded(
-    tree: &Tree,
-    symbols: &Symbols,
-    refined: &[Option<ModeAt>],
-) -> Option<Excess>
-    requires { refined.now ≡ list_to (refined_by symbols.now (tree_of tree.now)) (length (tree_of tree.now)) }
-    ensures { IsFirstExcess (counts symbols.now (tree_of tree.now)) result }
-{
-    match counted_excess(tree) {
+    match first_excess(1, &counts, &limits) {
         Some(found) => Some(found),
         None => shape_excess(tree, refined),
     }

@@ -177,23 +177,49 @@ fn count(q: usize, counts: &mut Vec<u8>)
     }
 }
 
-fn count_row(row: &[Naming], counts: &mut Vec<u8>)
-    ensures { counts.new.items ≡ counted_all counts.old.items (targets row.now) }
+/// Puts a mode that names a program at the program's place, where that is free.
+fn fill(mode: ModeAt, program: usize, modes: &mut Vec<Option<ModeAt>>)
+    ensures { modes.new.items ≡ filled modes.old.items (mode, program) }
 {
-    for k in 0..row.len() {
-        count(row[k].1, counts);
+    if program < modes.len() && modes[program].is_none() {
+        modes[program] = Some(mode);
     }
 }
 
-/// How often modes name each program, counted up to 255.
-fn namings(alloc: Global, rows: &[NamingRow]) -> Result<Vec<u8>, AllocError>
-    ensures { IfOk result (λ v. CountsNamings (graph_by rows.now) v.items) }
+/// How modes name programs, by program.
+#[derive(Drop)]
+pub(crate) struct Named {
+    /// How many modes name it, counted up to 255.
+    pub counts: Vec<u8>,
+    /// The mode that it refines: the first that names it.
+    pub modes: Vec<Option<ModeAt>>,
+}
+
+fn note_row(row: &[Naming], into: &mut Named)
+    ensures counts { into.new.counts.items ≡ counted_all into.old.counts.items (targets row.now) }
+    ensures modes { into.new.modes.items ≡ fold filled into.old.modes.items row.now }
 {
-    let mut counts = vec![in alloc; 0u8; rows.len()]?;
-    for k in 0..rows.len() {
-        count_row(rows[k].as_slice(), &mut counts);
+    for k in 0..row.len() {
+        let (mode, program) = row[k];
+        count(program, &mut into.counts);
+        fill(mode, program, &mut into.modes);
     }
-    Ok(counts)
+}
+
+/// How the modes of a source name each of its programs.
+pub(crate) fn named_programs(alloc: Global, rows: &[NamingRow]) -> Result<Named, AllocError>
+    ensures counts { IfOk result (λ v. CountsNamings (graph_by rows.now) v.counts.items) }
+    ensures modes { (symbols : List (Key × ℕ)) (ps : List PlainProgram) → rows.now ≡ naming_rows symbols ps
+        → IfOk result (λ v. v.modes.items ≡ list_to (refined_by symbols ps) (length ps)) }
+{
+    let mut named = Named {
+        counts: vec![in alloc; 0u8; rows.len()]?,
+        modes: vec![in alloc; None; rows.len()]?,
+    };
+    for k in 0..rows.len() {
+        note_row(rows[k].as_slice(), &mut named);
+    }
+    Ok(named)
 }
 
 /// Whether a program is out of place.
@@ -210,54 +236,26 @@ fn is_misplaced(rows: &[NamingRow], counts: &[u8], seen: &[bool], p: usize) -> b
     }
 }
 
-/// The first program that is out of place.
-pub(crate) fn first_misplaced(alloc: Global, rows: &[NamingRow]) -> Result<Option<u32>, AllocError>
+/// The first program that is out of place. `counts` has how many modes name each.
+pub(crate) fn first_misplaced(
+    alloc: Global,
+    rows: &[NamingRow],
+    counts: &[u8],
+) -> Result<Option<u32>, AllocError>
     requires small { length rows.now ≤ 1048576 }
+    requires counts { CountsNamings (graph_by rows.now) counts.now }
     ensures { IfOk result (λ o. IsFirstMisplaced (graph_by rows.now) o) }
 {
     if rows.is_empty() {
         return Ok(None);
     }
-    let counts = namings(alloc, rows)?;
     let seen = reach(alloc, rows)?;
     for p in 0..rows.len() {
-        if is_misplaced(rows, &counts, &seen, p) {
+        if is_misplaced(rows, counts, &seen, p) {
             return Ok(Some(p as u32));
         }
     }
     Ok(None)
-}
-
-/// Puts a mode that names a program at the program's place, where that is free.
-fn fill(mode: ModeAt, program: usize, modes: &mut Vec<Option<ModeAt>>)
-    ensures { modes.new.items ≡ filled modes.old.items (mode, program) }
-{
-    if program < modes.len() && modes[program].is_none() {
-        modes[program] = Some(mode);
-    }
-}
-
-fn fill_row(row: &[Naming], modes: &mut Vec<Option<ModeAt>>)
-    ensures { modes.new.items ≡ fold filled modes.old.items row.now }
-{
-    for k in 0..row.len() {
-        fill(row[k].0, row[k].1, modes);
-    }
-}
-
-/// Of each program the mode that it refines: the first that names it.
-pub(crate) fn refined_modes(
-    alloc: Global,
-    rows: &[NamingRow],
-) -> Result<Vec<Option<ModeAt>>, AllocError>
-    ensures { (symbols : List (Key × ℕ)) (ps : List PlainProgram) → rows.now ≡ naming_rows symbols ps
-        → IfOk result (λ v. v.items ≡ list_to (refined_by symbols ps) (length ps)) }
-{
-    let mut modes = vec![in alloc; None; rows.len()]?;
-    for k in 0..rows.len() {
-        fill_row(rows[k].as_slice(), &mut modes);
-    }
-    Ok(modes)
 }
 
 /// The mode that a program refines, by the table of those modes.

@@ -12,7 +12,7 @@ ghost use Rattle.htl_names.specs.Told.{KeptBelow, IsRefusal, IsJudged};
 use crate::fault::NameFault;
 use crate::limits::{Excess, first_exceeded};
 use crate::order::layout_of;
-use crate::programs::{first_misplaced, naming_rows, refined_modes};
+use crate::programs::{first_misplaced, named_programs, naming_rows};
 use crate::rows::Rows;
 use crate::rules::{first_orphan, first_unknown, first_wrong_kind};
 use crate::symbols::{Symbols, declare};
@@ -88,14 +88,16 @@ fn check_programs(
     ensures { IsJudged (tree_of tree.now) result }
 {
     let namings = naming_rows(alloc, tree, symbols)?;
-    if let Some(program) = first_misplaced(alloc, namings.as_slice())? {
+    let named = named_programs(alloc, namings.as_slice())?;
+    let misplaced = first_misplaced(alloc, namings.as_slice(), named.counts.as_slice())?;
+    if let Some(program) = misplaced {
         return Err(NameFault::NotATree { program });
     }
-    let refined = refined_modes(alloc, namings.as_slice())?;
-    if let Some(token) = first_orphan(rows.parents.as_slice(), symbols, refined.as_slice()) {
+    let refined = named.modes.as_slice();
+    if let Some(token) = first_orphan(rows.parents.as_slice(), symbols, refined) {
         return Err(NameFault::Unknown { token });
     }
-    if let Some(Excess { which, count }) = first_exceeded(tree, symbols, refined.as_slice()) {
+    if let Some(Excess { which, count }) = first_exceeded(tree, symbols, refined) {
         return Err(NameFault::Limit { which, count });
     }
     Ok(())
