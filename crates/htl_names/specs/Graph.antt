@@ -1,10 +1,7 @@
 -- What the names in the heads of modes give.
-use Rattle.std.specs.Prelude.{ℕ, List, [], ◌∷◌, map, Option, Some, None}
+use Rattle.std.specs.Prelude.{ℕ, List, map}
 use Rattle.htl_text.specs.Nodes.{PlainProgram}
-use Rattle.htl_text.specs.declared.tree.Id.{Id}
 use Rattle.htl_names.specs.declared.key.Key.{Key}
-use Rattle.htl_names.specs.declared.place.ModeAt.{ModeAt}
-use Rattle.htl_names.specs.Keys.{look_up, program_key}
 use Rattle.htl_names.specs.Lists.{map_at}
 use Rattle.htl_names.specs.Programs.{Naming, Graph, program_naming}
 

@@ -1,4 +1,4 @@
-use Rattle.std.proofs.Common.{◌≡◌, ◌∙◌, sym, ap, Option, Some, None}
+use Rattle.std.proofs.Common.{◌∙◌, sym, ap, Option, Some, None}
 use Rattle.htl_text.specs.declared.tree.Id.{Id}
 use Rattle.htl_names.specs.Keys.{look_up, key_in, program_key}
 use Rattle.htl_names.proofs.programs.named_program.Goals as goal
