@@ -4,7 +4,7 @@ ghost use Rattle.htl_model.specs.Lists.{list_to};
 ghost use Rattle.htl_text.specs.Nodes.{mode_of, module_of, program_of, tree_of};
 ghost use Rattle.htl_names.specs.Excess.{IsFirstExcess, capped, excess_from};
 ghost use Rattle.htl_names.specs.LevelTable.{level_by, levels_by};
-ghost use Rattle.htl_names.specs.Limits.{choices, selections, most_invokes, most_positions, counts, limits};
+ghost use Rattle.htl_names.specs.Limits.{selections, most_invokes, most_positions, counts, limits};
 ghost use Rattle.htl_names.specs.Programs.{refined_by};
 ghost use Rattle.htl_names.specs.Tallies.{with_module, with_program, tally};
 
@@ -97,27 +97,19 @@ pub(crate) fn tally_of(tree: &Tree) -> Tally
 
 // ---- root selections
 
-/// How many choices of one mode for each module there are, at most `usize::MAX`.
-fn choices(modules: &[ModuleNode]) -> usize
-    ensures { result ≡ capped (choices (map module_of modules.now)) }
-{
-    let mut n = 1usize;
-    for k in 0..modules.len() {
-        n = n.saturating_mul(modules[k].modes.as_slice().len());
-    }
-    n
-}
-
-/// How many root selections there are, at most `usize::MAX`.
+/// How many root selections there are, at most `usize::MAX`: none without root modules, else a mode of each.
 pub(crate) fn selections(tree: &Tree) -> usize
     ensures { result ≡ capped (selections (tree_of tree.now)) }
 {
     let modules = modules_at(tree, 0);
     if modules.is_empty() {
-        0
-    } else {
-        choices(modules)
+        return 0;
     }
+    let mut n = 1usize;
+    for k in 0..modules.len() {
+        n = n.saturating_mul(modules[k].modes.as_slice().len());
+    }
+    n
 }
 
 /// The most invocations that a mode of a module has.

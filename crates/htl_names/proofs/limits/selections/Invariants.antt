@@ -2,7 +2,7 @@ use Rattle.std.proofs.Common.{◌≡◌, ◌≤◌, ◌*◌, ◌-◌, ◌^◌, m
 use Rattle.htl_text.specs.Nodes.{module_of}
 use Rattle.htl_names.specs.Excess.{capped}
 use Rattle.htl_names.specs.Limits.{choices}
-use Rattle.htl_names.proofs.limits.choices.Given as goal
+use Rattle.htl_names.proofs.limits.selections.Given as goal
 
 abbrev pub invariant-loop-k : goal.invariant-loop-k
 invariant-loop-k l =
