@@ -106,28 +106,20 @@ pub fn put_modules(source: &Source<'_>, into: &mut Vec<Module>) -> Done
     let modules = layout.modules.as_slice();
     for k in 0..modules.len() {
         if let Some(node) = module_at(source.tree, modules[k].program, modules[k].module) {
-            into.push(module(source, k, modules[k], node))?;
+            let at = modules[k];
+            let names = Space::Modes.of(at.program, at.module, 0);
+            let first = before(source, k).modes;
+            into.push(Module {
+                name: node.name.name,
+                parent: match at.parent {
+                    Some(mode) => Some(mode_number(source, mode) as u16),
+                    None => None,
+                },
+                start: (first + source.layout.meaning(names, node.start.name)) as u16,
+            })?;
         }
     }
     Ok(())
-}
-
-fn module(source: &Source<'_>, number: usize, at: ModuleAt, node: &ModuleNode) -> Module
-    requires within { number ≤ length source.now.layout.now.modules }
-    requires parent { IsNarrowParent at.parent }
-    ensures { result ≡ module_item source.now.layout.now (tree_of source.now.tree.now) number at (module_of node.now) }
-{
-    let modes = Space::Modes.of(at.program, at.module, 0);
-    let first = before(source, number).modes;
-    let parent = match at.parent {
-        Some(mode) => Some(mode_number(source, mode) as u16),
-        None => None,
-    };
-    Module {
-        name: node.name.name,
-        parent,
-        start: (first + source.layout.meaning(modes, node.start.name)) as u16,
-    }
 }
 
 /// The ports of a mode.
@@ -175,7 +167,10 @@ fn task(alloc: Global, node: &TaskNode, module: u16) -> Result<Task, AllocError>
         is_abstract: matches!(node.outputs, OutNodes::Abstract { .. }),
         worst: size_of(node.worst.x),
         inputs: Seq::new(types_of(alloc, node.inputs.as_slice())?),
-        outputs: Seq::new(output_types(alloc, &node.outputs)?),
+        outputs: Seq::new(match &node.outputs {
+            OutNodes::Concrete { outs } => concrete_types(alloc, outs.as_slice())?,
+            OutNodes::Abstract { outs } => types_of(alloc, outs.as_slice())?,
+        }),
     })
 }
 
@@ -187,15 +182,6 @@ fn types_of(alloc: Global, params: &[ParamNode]) -> Result<Vec<Ty>, AllocError>
         types.push(params[k].ty)?;
     }
     Ok(types)
-}
-
-fn output_types(alloc: Global, outs: &OutNodes) -> Result<Vec<Ty>, AllocError>
-    ensures { IfOk result (λ v. v.items ≡ types_of (out_params (outs_of outs.now))) }
-{
-    match outs {
-        OutNodes::Concrete { outs } => concrete_types(alloc, outs.as_slice()),
-        OutNodes::Abstract { outs } => types_of(alloc, outs.as_slice()),
-    }
 }
 
 fn concrete_types(alloc: Global, outs: &[OutNode]) -> Result<Vec<Ty>, AllocError>

@@ -1,8 +1,7 @@
 // Places in the tree of a source, what stands there, and the numbers of modules and modes in the tables.
 ghost use Rattle.std.specs.Prelude.{◌≡◌, map, MatchOption, None, Some, ◌≤◌, length};
 ghost use Rattle.htl_text.specs.Nodes.{tree_of, module_of, mode_of, task_of, switch_of};
-ghost use Rattle.htl_names.specs.Flat.{module_number, modes_before, tasks_before, invokes_before, mode_number, refined_mode};
-ghost use Rattle.htl_names.specs.Narrow.{IsNarrowParent};
+ghost use Rattle.htl_names.specs.Flat.{module_number, modes_before, tasks_before, invokes_before, mode_number};
 ghost use Rattle.htl_names.specs.Order.{modules_at, module_at, tasks_at, modes_at, mode_at, ports_at, invokes_at, switches_at};
 
 use crate::tables::{Layout, Source};
@@ -164,17 +163,4 @@ pub fn mode_number(source: &Source<'_>, at: ModeAt) -> usize
     ensures within { result ≤ 512 }
 {
     before(source, module_number(source.layout, at.program, at.module)).modes + at.mode
-}
-
-/// The mode that the program of a module refines.
-pub fn refined_mode(source: &Source<'_>, program: usize, module: usize) -> Option<ModeAt>
-    ensures value { result ≡ refined_mode source.now.layout.now program «module» }
-    ensures narrow { IsNarrowParent result }
-{
-    let layout = source.layout;
-    let number = module_number(layout, program, module);
-    match layout.modules.as_slice().get(number) {
-        Some(module) => module.parent,
-        None => None,
-    }
 }

@@ -222,20 +222,6 @@ pub(crate) fn named_programs(alloc: Global, rows: &[NamingRow]) -> Result<Named,
     Ok(named)
 }
 
-/// Whether a program is out of place.
-fn is_misplaced(rows: &[NamingRow], counts: &[u8], seen: &[bool], p: usize) -> bool
-    requires counts { CountsNamings (graph_by rows.now) counts.now }
-    requires seen { MarksReached (graph_by rows.now) seen.now }
-    requires within { p < length (graph_by rows.now) }
-    ensures { MatchBool result (IsMisplaced (graph_by rows.now) p) (IsMisplaced (graph_by rows.now) p → ⊥) }
-{
-    if p == 0 {
-        0 < counts[p]
-    } else {
-        counts[p] != 1 || !seen[p]
-    }
-}
-
 /// The first program that is out of place. `counts` has how many modes name each.
 pub(crate) fn first_misplaced(
     alloc: Global,
@@ -251,7 +237,12 @@ pub(crate) fn first_misplaced(
     }
     let seen = reach(alloc, rows)?;
     for p in 0..rows.len() {
-        if is_misplaced(rows, counts, &seen, p) {
+        let is_misplaced = if p == 0 {
+            0 < counts[p]
+        } else {
+            counts[p] != 1 || !seen[p]
+        };
+        if is_misplaced {
             return Ok(Some(p as u32));
         }
     }

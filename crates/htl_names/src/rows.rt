@@ -124,12 +124,4 @@ impl Rows {
         self.kinds.push(item)?;
         Ok(())
     }
-
-    /// A name after `parent`.
-    pub fn refine(&mut self, program: usize, id: Id) -> Done
-        ensures { OnOk result (self.new ≡ joined self.old (refining (record { program = program; id = id } ∷ []))) }
-    {
-        self.parents.push(ParentName { program, id })?;
-        Ok(())
-    }
 }

@@ -25,14 +25,6 @@ impl Model for Symbols {
 }
 
 impl Symbols {
-    /// No names, with room for `n`.
-    pub fn with_capacity(alloc: Global, n: usize) -> Result<Symbols, AllocError>
-        ensures { IfOk result (λ s. s ≡ []) }
-    {
-        let map = IndexMap::with_capacity(alloc, n)?;
-        Ok(Symbols { map })
-    }
-
     /// The place of the first entry with this key.
     pub fn get(&self, key: &Key) -> Option<usize>
         ensures { result ≡ look_up key.now self.now }
@@ -54,7 +46,9 @@ impl Symbols {
 pub(crate) fn declare(alloc: Global, entries: &[Entry]) -> Result<Symbols, NameFault>
     ensures { MatchResult result (λ symbols. (symbols ≡ map pair_of entries.now) × AreApart entries.now) (IsRepeat entries.now) }
 {
-    let mut symbols = Symbols::with_capacity(alloc, entries.len())?;
+    let mut symbols = Symbols {
+        map: IndexMap::with_capacity(alloc, entries.len())?,
+    };
     for k in 0..entries.len() {
         let e = entries[k];
         if let Some(_) = symbols.add(e.key, e.number)? {

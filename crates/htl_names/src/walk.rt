@@ -7,7 +7,7 @@ ghost use Rattle.htl_names.specs.declared.key.Scope.{Scope as AScope};
 
 use crate::Done;
 use crate::key::{Scope, Space};
-use crate::rows::{Judged, Rows};
+use crate::rows::{Judged, ParentName, Rows};
 use htl_text::{
     CommNode, EndNode, InvokeNode, ModeNode, ModuleNode, OutNode, OutNodes, ParamNode, ProgramNode,
     SwitchNode, TaskNode, Tree,
@@ -188,7 +188,10 @@ impl Part for InvokeNode {
         add_all(ports, 0, self.writes.as_slice(), into)?;
         match self.parent {
             None => Ok(()),
-            Some(id) => into.refine(program, id),
+            Some(id) => {
+                into.parents.push(ParentName { program, id })?;
+                Ok(())
+            }
         }
     }
 }
