@@ -137,21 +137,6 @@ fn named_by<'a>(rows: &'a [NamingRow], p: usize) -> &'a [Naming]
     }
 }
 
-/// Meets what the program at a place of the list names.
-fn ask(rows: &[NamingRow], i: usize, seen: &mut Vec<bool>, queue: &mut Vec<usize>) -> Done
-    requires marked { IsMarked seen.old.items queue.old.items }
-    requires len { length seen.old.items ≡ length (graph_by rows.now) }
-    ensures queue { OnOk result (queue.new.items ≡ met_by (graph_by rows.now) queue.old.items (slice_get queue.old.items i)) }
-    ensures marked { OnOk result (IsMarked seen.new.items queue.new.items) }
-    ensures len { OnOk result (length seen.new.items ≡ length seen.old.items) }
-{
-    if i >= queue.len() {
-        return Ok(());
-    }
-    let p = queue[i];
-    meet_all(named_by(rows, p), seen, queue)
-}
-
 /// Marks the programs that are reached from the root. Each program is asked once.
 pub(crate) fn reach(alloc: Global, rows: &[NamingRow]) -> Result<Vec<bool>, AllocError>
     requires some { 0 < length rows.now }
@@ -161,7 +146,10 @@ pub(crate) fn reach(alloc: Global, rows: &[NamingRow]) -> Result<Vec<bool>, Allo
     let mut queue = Vec::new(alloc);
     meet(0, &mut seen, &mut queue)?;
     for i in 0..rows.len() {
-        ask(rows, i, &mut seen, &mut queue)?;
+        if i < queue.len() {
+            let row = named_by(rows, queue[i]);
+            meet_all(row, &mut seen, &mut queue)?;
+        }
     }
     Ok(seen)
 }
