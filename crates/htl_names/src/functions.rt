@@ -58,20 +58,14 @@ impl Arguments for Reads<'_> {
     fn place(&self, id: &Id) -> u16 {
         let layout = self.source.layout;
         let comm = layout.meaning(Space::Comms.of(0, 0, 0), id.name);
-        place_in(comm, self.comms) as u16
-    }
-}
-
-// The place of a communicator; their number where it is none of them.
-fn place_in(comm: usize, comms: &[u16]) -> usize
-    ensures { result ≡ place_in (eqb comm) comms.now }
-{
-    for k in 0..comms.len() {
-        if comms[k] as usize == comm {
-            return k;
+        let comms = self.comms;
+        for k in 0..comms.len() {
+            if comms[k] as usize == comm {
+                return k as u16;
+            }
         }
+        comms.len() as u16
     }
-    comms.len()
 }
 
 /// The expression with the places of its names.

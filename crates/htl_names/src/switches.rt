@@ -9,7 +9,7 @@ ghost use Rattle.htl_names.specs.Flat.{comms_in, switch_function, mode_functions
 use crate::Done;
 use crate::functions::{Reads, formula};
 use crate::key::Space;
-use crate::place::{ModeAt, before, module_number, switches_at};
+use crate::place::{ModeAt, before, mode_at, module_number};
 use crate::tables::Source;
 use htl_base::Seq;
 use htl_model::{Function, Switch};
@@ -51,7 +51,10 @@ fn put_mode(
     let module = module_number(source.layout, at.program, at.module);
     let first = before(source, module).modes;
     let modes = Space::Modes.of(at.program, at.module, 0);
-    let nodes = switches_at(source.tree, at);
+    let nodes = match mode_at(source.tree, at) {
+        Some(node) => node.switches.as_slice(),
+        None => &[],
+    };
     for k in 0..nodes.len() {
         let comms = comms_in(source, &nodes[k].cond)?;
         let function = condition(source, comms.as_slice(), &nodes[k])?;
