@@ -105,8 +105,8 @@ pub fn put_modules(source: &Source<'_>, into: &mut Vec<Module>) -> Done
     let layout = source.layout;
     let modules = layout.modules.as_slice();
     for k in 0..modules.len() {
-        if let Some(node) = module_at(source.tree, modules[k].program, modules[k].module) {
-            let at = modules[k];
+        let at = modules[k];
+        if let Some(node) = module_at(source.tree, at.program, at.module) {
             let names = Space::Modes.of(at.program, at.module, 0);
             let first = before(source, k).modes;
             into.push(Module {

@@ -100,20 +100,7 @@ pub(crate) fn naming_rows(
 
 // ---- the programs that are reached
 
-/// Puts a program behind the others, where it is new. A number of no program is passed over.
-fn meet(q: usize, seen: &mut Vec<bool>, queue: &mut Vec<usize>) -> Done
-    requires marked { IsMarked seen.old.items queue.old.items }
-    ensures queue { OnOk result (queue.new.items ≡ met (length seen.old.items) queue.old.items q) }
-    ensures marked { OnOk result (IsMarked seen.new.items queue.new.items) }
-    ensures len { OnOk result (length seen.new.items ≡ length seen.old.items) }
-{
-    if q < seen.len() && !seen[q] {
-        queue.push(q)?;
-        seen[q] = true;
-    }
-    Ok(())
-}
-
+/// Puts the programs that modes name behind the others, where they are new. A number of no program is passed over.
 fn meet_all(qs: &[Naming], seen: &mut Vec<bool>, queue: &mut Vec<usize>) -> Done
     requires marked { IsMarked seen.old.items queue.old.items }
     ensures queue { OnOk result (queue.new.items ≡ fold (met (length seen.old.items)) queue.old.items (targets qs.now)) }
@@ -121,7 +108,11 @@ fn meet_all(qs: &[Naming], seen: &mut Vec<bool>, queue: &mut Vec<usize>) -> Done
     ensures len { OnOk result (length seen.new.items ≡ length seen.old.items) }
 {
     for k in 0..qs.len() {
-        meet(qs[k].1, seen, queue)?;
+        let q = qs[k].1;
+        if q < seen.len() && !seen[q] {
+            queue.push(q)?;
+            seen[q] = true;
+        }
     }
     Ok(())
 }
@@ -144,7 +135,8 @@ pub(crate) fn reach(alloc: Global, rows: &[NamingRow]) -> Result<Vec<bool>, Allo
 {
     let mut seen = vec![in alloc; false; rows.len()]?;
     let mut queue = Vec::new(alloc);
-    meet(0, &mut seen, &mut queue)?;
+    queue.push(0)?;
+    seen[0] = true;
     for i in 0..rows.len() {
         if i < queue.len() {
             let row = named_by(rows, queue[i]);
