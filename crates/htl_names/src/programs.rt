@@ -175,6 +175,7 @@ pub(crate) struct Named {
     pub modes: Vec<Option<ModeAt>>,
 }
 
+/// Notes how the modes of a program name programs.
 fn note_row(row: &[Naming], into: &mut Named)
     ensures counts { into.new.counts.items ≡ counted_all into.old.counts.items (targets row.now) }
     ensures modes { into.new.modes.items ≡ fold filled into.old.modes.items row.now }
