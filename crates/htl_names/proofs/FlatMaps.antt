@@ -1,6 +1,7 @@
 -- Where the items of lists and of their parts stand.
-use Rattle.std.proofs.Common.{◌≡◌, ℕ, zero, suc, ◌+◌, ◌<◌, ◌≤◌, ◌⊎◌, inl, inr, List, [], ◌∷◌, ◌++◌, length, take, slice_get, Some, None, refl, sym, ◌∙◌, ap, subst, arith, length-append, eq-or-lt_of_le, drop, take-append-drop}
+use Rattle.std.proofs.Common.{◌≡◌, ℕ, zero, suc, ◌+◌, ◌<◌, ◌≤◌, ◌⊎◌, inl, inr, List, [], ◌∷◌, ◌++◌, length, take, slice_get, Some, None, refl, sym, ◌∙◌, ap, subst, arith, length-append, eq-or-lt_of_le, drop, take-append-drop, add-one, append_assoc, get_or, map}
 use Rattle.std.specs.List.{flat_map}
+use Rattle.std.proofs.lemmas.List.{drop_more}
 use Rattle.std.proofs.lemmas.Option.{slice_get_within, same_Some, none-some}
 use Rattle.std.proofs.lemmas.Grind.{flat_map-append}
 use Rattle.htl_model.specs.Lists.{list_to}
@@ -208,3 +209,14 @@ flat_part f xs n y e =
       item = p.item;
       number = subst (λ (ys : _). n ≡ length ys + p.place) (flat_map_is f 0 (take p.part xs)) p.number;
     }
+
+-- one item more of a walk along a list
+pub flat_on : {A B C : Type 0} (f : ℕ → B → List C) (g : A → B) (k : ℕ) (xs : List A) (x : A) (old new total : List C) → k < length xs → x ≡ get_or xs k x
+    → new ≡ old ++ f k (g x) → old ++ flat_map_at f k (map g (drop k xs)) ≡ total → new ++ flat_map_at f (k + 1) (map g (drop (k + 1) xs)) ≡ total
+flat_on {A} f g k xs x old new total below is grown going =
+    let rest = map g (drop (k + 1) xs) in
+    ap (λ n. new ++ flat_map_at f n rest) (add-one k)
+    ∙ ap (λ ys. ys ++ flat_map_at f (suc k) rest) grown
+    ∙ append_assoc old (f k (g x)) (flat_map_at f (suc k) rest)
+    ∙ ap (λ (ys : List A). old ++ flat_map_at f k (map g ys)) (sym (drop_more xs k x below ∙ ap (λ y. y ∷ drop (k + 1) xs) (sym is)))
+    ∙ going

@@ -3,7 +3,7 @@ use Rattle.std.proofs.Common.{◌≡◌, ◌<◌, ◌≤◌, ℕ, zero, suc, Lis
 use Rattle.std.proofs.Math.Nat.{eq-or-lt_of_le}
 use Rattle.std.specs.Result.{IsErrAnd}
 use Rattle.htl_text.specs.Nodes.{PlainProgram}
-use Rattle.std.specs.Result.{IfOk}
+use Rattle.std.specs.Result.{IfOk, MatchResult}
 use Rattle.htl_model.specs.Tables.{Tables}
 use Rattle.htl_names.specs.declared.fault.NameFault.{NameFault}
 use Rattle.htl_names.specs.declared.fault.NameFault.TheVariants as fault
@@ -92,6 +92,10 @@ resolved_err ps fault.Memory (inr first) = tt
 pub resolved_by : (ps : List PlainProgram) (r : Result Tables NameFault) (f : NameFault) → IsErrAnd r (λ e. e ≡ f) → IsRefusal ps f → IsResolved ps r
 resolved_by ps (Ok x) f h told = absurd h
 resolved_by ps (Err e) f h told = resolved_err ps e (subst (IsRefusal ps) (sym h) told)
+
+pub refused : {A : Type 0} (P : A → Type 0) (ps : List PlainProgram) (r : Result A NameFault) (f : NameFault) → IsErrAnd r (λ e. e ≡ f) → IsRefusal ps f → MatchResult r P (IsRefusal ps)
+refused P ps (Ok x) f h told = absurd h
+refused P ps (Err e) f h told = subst (IsRefusal ps) (sym h) told
 
 -- where there is an error, no tables are spoken of
 pub no_tables : (P : Tables → Type 0) (r : Result Tables NameFault) (f : NameFault) → IsErrAnd r (λ e. e ≡ f) → IfOk r P

@@ -1,11 +1,11 @@
 -- What the searches of single rules find, in the words of the rules.
-use Rattle.std.proofs.Common.{◌≡◌, ℕ, suc, List, length, Option, Some, None, inr, refl, ◌∙◌, ap, subst, arith, Bool, true, false, cond, sym, ◌≤◌, leb, leb-true, le-leb, ◌<◌, zero, [], ◌∷◌, get_or}
+use Rattle.std.proofs.Common.{◌≡◌, ℕ, suc, List, length, Option, Some, None, inl, inr, refl, ◌∙◌, ap, subst, arith, Bool, true, false, cond, sym, ◌≤◌, leb, leb-true, le-leb, ◌<◌, zero, [], ◌∷◌, get_or}
 use Rattle.std.proofs.lemmas.List.{length-map}
 use Rattle.htl_text.specs.Nodes.{PlainProgram}
 use Rattle.htl_names.specs.declared.key.Key.{Key}
 use Rattle.htl_names.specs.declared.limits.Excess.{Excess}
 use Rattle.htl_names.specs.declared.key.Entry.{Entry}
-use Rattle.htl_names.specs.declared.symbols.Declared.{Declared}
+use Rattle.htl_names.specs.declared.fault.NameFault.{NameFault}
 use Rattle.htl_names.specs.Entries.{entries}
 use Rattle.htl_names.specs.Excess.{IsFirstExcess}
 use Rattle.htl_names.specs.Flat.{symbols_of}
@@ -13,7 +13,7 @@ use Rattle.htl_names.specs.Graph.{naming_rows, graph_by}
 use Rattle.htl_names.specs.Limits.{counts}
 use Rattle.htl_names.specs.Programs.{IsFirstMisplaced, Naming, Graph, links, program_links, refined_by}
 use Rattle.htl_names.specs.NameRules.{RepeatedName, ProgramTree, Limits, WrongKind, UnknownName, ParentName}
-use Rattle.htl_names.specs.Repeats.{IsDeclared}
+use Rattle.htl_names.specs.Repeats.{AreApart, IsFirstRepeat, IsRepeat}
 use Rattle.htl_names.specs.Told.{KeptBelow, IsRefusal, IsSearched}
 use Rattle.htl_names.proofs.Naming.{graph_is}
 use Rattle.htl_names.proofs.ResolveLaws.{none_below, kept_next, first_fault}
@@ -31,17 +31,17 @@ use Rattle.htl_names.specs.declared.place.ModeAt.{ModeAt}
 use Rattle.htl_names.specs.Parents.{absent, orphan_at, orphan_token, ParentUse, invoke_parent, mode_parents, module_parents, program_parents, parents, parent_in, IsOrphan}
 use Rattle.htl_names.proofs.Members.{Each, each_at, each_always, each_flat_map, each_flat_map_at}
 use Rattle.htl_names.specs.declared.fault.NameFault.TheVariants as fault
-use Rattle.htl_names.specs.declared.symbols.Declared.TheVariants as declared
 
-pub names_repeated : (ps : List PlainProgram) (es : List Entry) (d : Declared) (token : ℕ) → es ≡ entries ps → IsDeclared es d → d ≡ declared.Repeated token → IsRefusal ps (fault.Twice token)
-names_repeated ps es d token are h is =
-    let r = subst (IsDeclared (entries ps)) is (subst (λ xs. IsDeclared xs d) are h) in
-    inr (first_fault ps RepeatedName (fault.Twice token) (none_below ps) (r.0, (r.1, r.2, r.3, ap (λ t. fault.Twice t) r.4), λ k g less broken. r.5 k broken.0 less broken.1 broken.2))
+pub names_repeated : (ps : List PlainProgram) (es : List Entry) (f : NameFault) → es ≡ entries ps → IsRepeat es f → IsRefusal ps f
+names_repeated ps es f are (inl memory) = inl memory
+names_repeated ps es f are (inr told) =
+    let r = subst (λ xs. IsFirstRepeat xs told.0) are told.2 in
+    inr (first_fault ps RepeatedName f (none_below ps) (r.0, (r.1, r.2, r.3, told.1 ∙ ap (λ t. fault.Twice t) r.4), λ k g less broken. r.5 k broken.0 less broken.1 broken.2))
 
-pub names_apart : (ps : List PlainProgram) (es : List Entry) (d : Declared) (symbols : _) → es ≡ entries ps → IsDeclared es d → d ≡ declared.Apart symbols → (symbols ≡ symbols_of ps) × KeptBelow ps 2
-names_apart ps es d symbols are h is =
-    let r = subst (IsDeclared (entries ps)) is (subst (λ xs. IsDeclared xs d) are h) in
-    (r.0, kept_next ps RepeatedName (none_below ps) (λ k f broken. r.1 k broken.0 broken.1 broken.2))
+pub names_apart : (ps : List PlainProgram) (es : List Entry) → es ≡ entries ps → AreApart es → KeptBelow ps 2
+names_apart ps es are h =
+    let r = subst AreApart are h in
+    kept_next ps RepeatedName (none_below ps) (λ k f broken. r k broken.0 broken.1 broken.2)
 
 pub tree_searched : (ps : List PlainProgram) (symbols : List (Key × ℕ)) (rows : List (List Naming)) (o : Option ℕ) → symbols ≡ symbols_of ps → rows ≡ naming_rows symbols ps
     → IsFirstMisplaced (graph_by rows) o → IsSearched ps ProgramTree (λ p. fault.NotATree p) o

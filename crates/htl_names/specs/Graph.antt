@@ -1,22 +1,9 @@
 -- What the names in the heads of modes give.
-use Rattle.std.specs.Prelude.{ℕ, List, [], ◌∷◌, map, Option, Some, None}
+use Rattle.std.specs.Prelude.{ℕ, List, map}
 use Rattle.htl_text.specs.Nodes.{PlainProgram}
-use Rattle.htl_text.specs.declared.tree.Id.{Id}
 use Rattle.htl_names.specs.declared.key.Key.{Key}
-use Rattle.htl_names.specs.declared.place.ModeAt.{ModeAt}
-use Rattle.htl_names.specs.Keys.{look_up, program_key}
 use Rattle.htl_names.specs.Lists.{map_at}
 use Rattle.htl_names.specs.Programs.{Naming, Graph, program_naming}
-
--- the number of the program of a name
-abbrev pub program_named : List (Key × ℕ) → Option Id → Option ℕ
-program_named symbols (Some id) = look_up (program_key id.name) symbols
-program_named symbols None = None
-
--- a mode with the number, where there is one
-abbrev pub named_from : ModeAt → Option ℕ → List Naming
-named_from a (Some q) = (a, q) ∷ []
-named_from a None = []
 
 -- the modes that name programs, by the program that they stand in
 abbrev pub naming_rows : List (Key × ℕ) → List PlainProgram → List (List Naming)

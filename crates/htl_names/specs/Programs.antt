@@ -53,9 +53,13 @@ IsMisplaced g (suc p) = (namings g (suc p) ≢ 1) ⊎ (Reached g (suc p) → ⊥
 abbrev pub Naming : Type 0
 Naming = ModeAt × ℕ
 
+-- a mode with the number, where there is one
+abbrev pub named_from : ModeAt → Option ℕ → List Naming
+named_from a (Some q) = (a, q) ∷ []
+named_from a None = []
+
 abbrev pub mode_naming : List (Key × ℕ) → ℕ → ℕ → ℕ → PlainMode → List Naming
-mode_naming symbols p u m x =
-    elim (named_program symbols x) [ Some q ↦ (record { program = p; «module» = u; mode = m }, q) ∷ [] | None ↦ [] ]
+mode_naming symbols p u m x = named_from (record { program = p; «module» = u; mode = m }) (named_program symbols x)
 
 abbrev pub module_naming : List (Key × ℕ) → ℕ → ℕ → PlainModule → List Naming
 module_naming symbols p u x = flat_map_at (mode_naming symbols p u) 0 x.modes

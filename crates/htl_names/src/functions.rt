@@ -8,6 +8,7 @@ ghost use Rattle.htl_text.specs.declared.tree.Id.{Id as AnId};
 ghost use Rattle.htl_names.specs.Flat.{term_by, input_place, read_place, output_function, module_functions};
 ghost use Rattle.htl_names.specs.Lists.{place_in};
 
+use crate::Done;
 use crate::key::Space;
 use crate::place::{ModuleAt, tasks_at};
 use crate::tables::Source;
@@ -57,20 +58,14 @@ impl Arguments for Reads<'_> {
     fn place(&self, id: &Id) -> u16 {
         let layout = self.source.layout;
         let comm = layout.meaning(Space::Comms.of(0, 0, 0), id.name);
-        place_in(comm, self.comms) as u16
-    }
-}
-
-// The place of a communicator; their number where it is none of them.
-fn place_in(comm: usize, comms: &[u16]) -> usize
-    ensures { result ≡ place_in (eqb comm) comms.now }
-{
-    for k in 0..comms.len() {
-        if comms[k] as usize == comm {
-            return k;
+        let comms = self.comms;
+        for k in 0..comms.len() {
+            if comms[k] as usize == comm {
+                return k as u16;
+            }
         }
+        comms.len() as u16
     }
-    comms.len()
 }
 
 /// The expression with the places of its names.
@@ -124,22 +119,21 @@ fn boxed<A: Arguments>(
 
 // ---- the functions of outputs
 
-/// One for each output of each concrete task, in the order of tasks.
-pub fn outputs(source: &Source<'_>) -> Result<Vec<Function>, AllocError>
-    ensures { IfOk result (λ v. map fun_of v.items
-        ≡ flat_map (module_functions source.now.layout.now (tree_of source.now.tree.now)) source.now.layout.now.modules) }
+/// Puts one for each output of each concrete task behind others, in the order of tasks.
+pub fn put_outputs(source: &Source<'_>, into: &mut Vec<Function>) -> Done
+    ensures { OnOk result (map fun_of into.new.items
+        ≡ map fun_of into.old.items ++ flat_map (module_functions source.now.layout.now (tree_of source.now.tree.now)) source.now.layout.now.modules) }
 {
-    let mut into = Vec::new(source.alloc);
     let layout = source.layout;
     let modules = layout.modules.as_slice();
     for k in 0..modules.len() {
-        put_module(source, modules[k], &mut into)?;
+        put_module(source, modules[k], into)?;
     }
-    Ok(into)
+    Ok(())
 }
 
 // Those of the tasks of a module: none of an abstract one.
-fn put_module(source: &Source<'_>, at: ModuleAt, into: &mut Vec<Function>) -> Result<(), AllocError>
+fn put_module(source: &Source<'_>, at: ModuleAt, into: &mut Vec<Function>) -> Done
     ensures { OnOk result (map fun_of into.new.items
         ≡ map fun_of into.old.items ++ module_functions source.now.layout.now (tree_of source.now.tree.now) at) }
 {
@@ -158,11 +152,7 @@ fn put_module(source: &Source<'_>, at: ModuleAt, into: &mut Vec<Function>) -> Re
 }
 
 // Those of a task with these inputs.
-fn put_outs(
-    inputs: &Inputs<'_>,
-    outs: &[OutNode],
-    into: &mut Vec<Function>,
-) -> Result<(), AllocError>
+fn put_outs(inputs: &Inputs<'_>, outs: &[OutNode], into: &mut Vec<Function>) -> Done
     ensures { OnOk result (map fun_of into.new.items ≡ map fun_of into.old.items
         ++ map (output_function inputs.now.source.layout.now inputs.now.at.program inputs.now.at.«module» inputs.now.task) (map out_of outs.now)) }
 {

@@ -4,11 +4,11 @@ ghost use Rattle.htl_text.specs.Nodes.{tree_of};
 ghost use Rattle.htl_names.specs.Flat.{module_number, tasks_before, ports_before, refined_mode, first_parent, end_item, parent_number, invoke_item, mode_invoke_items, invoke_items};
 ghost use Rattle.htl_names.specs.Narrow.{IsNarrowEnd, IsNarrowInvoke, IsNarrowParent};
 
+use crate::Done;
 use crate::items::size_of;
 use crate::key::Space;
 use crate::place::{
-    ModeAt, invokes_at, invokes_before, mode_number, module_number, ports_at, refined_mode,
-    tasks_before,
+    ModeAt, before, invokes_at, invokes_before, mode_number, module_number, ports_at,
 };
 use crate::tables::Source;
 use htl_base::Seq;
@@ -34,58 +34,49 @@ struct Home<'a> {
     ghost parents: { parent ≡ first_parent source.layout.now (tree_of source.tree.now) refined },
 }
 
-/// The invocations: by mode, then in source order.
-pub fn invocations(source: &Source<'_>) -> Result<Vec<Inv>, AllocError>
-    ensures { IfOk result (λ v. v.items ≡ invoke_items source.now.layout.now (tree_of source.now.tree.now)) }
+/// Puts the invocations behind others: by mode, then in source order.
+pub fn put_invocations(source: &Source<'_>, into: &mut Vec<Inv>) -> Done
+    ensures { OnOk result (into.new.items ≡ into.old.items ++ invoke_items source.now.layout.now (tree_of source.now.tree.now)) }
 {
-    let mut found = Vec::new(source.alloc);
     let mut port: usize = 0;
     let layout = source.layout;
     let modes = layout.modes.as_slice();
     for k in 0..modes.len() {
-        put_mode(source, k, modes[k], port, &mut found)?;
+        put_mode(source, k, modes[k], port, into)?;
         port += ports_at(source.tree, modes[k]).len();
     }
-    Ok(found)
+    Ok(())
 }
 
 // Those of a mode, whose first port has this number.
-fn put_mode(
-    source: &Source<'_>,
-    mode: usize,
-    at: ModeAt,
-    port: usize,
-    into: &mut Vec<Inv>,
-) -> Result<(), AllocError>
+fn put_mode(source: &Source<'_>, mode: usize, at: ModeAt, port: usize, into: &mut Vec<Inv>) -> Done
     requires few { mode ≤ 256 }
     requires ports { port ≡ ports_before source.now.layout.now (tree_of source.now.tree.now) mode }
     ensures { OnOk result (into.new.items ≡ into.old.items ++ mode_invoke_items source.now.layout.now (tree_of source.now.tree.now) mode at) }
 {
-    let refined = refined_mode(source, at.program, at.module);
+    let layout = source.layout;
+    let number = module_number(layout, at.program, at.module);
+    let refined = match layout.modules.as_slice().get(number) {
+        Some(module) => module.parent,
+        None => None,
+    };
     let home = Home {
         source: *source,
         mode,
         at,
         port,
-        task: tasks_before(source, module_number(source.layout, at.program, at.module)),
+        task: before(source, number).tasks,
         refined,
-        parent: first_parent(source, refined),
+        parent: match refined {
+            Some(at) => invokes_before(source, mode_number(source, at)),
+            None => 0,
+        },
     };
     let nodes = invokes_at(source.tree, at);
     for k in 0..nodes.len() {
         into.push(invocation(&home, &nodes[k])?)?;
     }
     Ok(())
-}
-
-fn first_parent(source: &Source<'_>, refined: Option<ModeAt>) -> usize
-    requires { IsNarrowParent refined }
-    ensures { result ≡ first_parent source.now.layout.now (tree_of source.now.tree.now) refined }
-{
-    match refined {
-        Some(at) => invokes_before(source, mode_number(source, at)),
-        None => 0,
-    }
 }
 
 fn invocation(home: &Home<'_>, node: &InvokeNode) -> Result<Inv, AllocError>
@@ -96,25 +87,18 @@ fn invocation(home: &Home<'_>, node: &InvokeNode) -> Result<Inv, AllocError>
     Ok(Inv {
         mode: home.mode as u16,
         task: (home.task + home.source.layout.meaning(tasks, node.task.name)) as u16,
-        parent: parent(home, node.parent),
+        parent: match (home.refined, node.parent) {
+            (Some(b), Some(id)) => {
+                let invokes = Space::Invokes.of(b.program, b.module, b.mode);
+                Some((home.parent + home.source.layout.meaning(invokes, id.name)) as u16)
+            }
+            (None, Some(_)) => None,
+            (Some(_), None) => None,
+            (None, None) => None,
+        },
         reads: Seq::new(ends(home, node.reads.as_slice())?),
         writes: Seq::new(ends(home, node.writes.as_slice())?),
     })
-}
-
-// The number of the invocation that an invocation refines.
-fn parent(home: &Home<'_>, name: Option<Id>) -> Option<u16>
-    ensures { result ≡ elim name [ Some id ↦ parent_number home.now.source.layout.now (tree_of home.now.source.tree.now) home.now.refined id | None ↦ None ] }
-{
-    match (home.refined, name) {
-        (Some(b), Some(id)) => {
-            let invokes = Space::Invokes.of(b.program, b.module, b.mode);
-            Some((home.parent + home.source.layout.meaning(invokes, id.name)) as u16)
-        }
-        (None, Some(_)) => None,
-        (Some(_), None) => None,
-        (None, None) => None,
-    }
 }
 
 // Where the inputs of an invocation come from, or its outputs go to.

@@ -9,7 +9,7 @@ ghost use Rattle.htl_names.specs.Narrow.{IsNarrowParent};
 use crate::Done;
 use crate::key::Space;
 use crate::place::{
-    ModeAt, ModuleAt, mode_number, modes_at, modes_before, module_at, ports_at, tasks_at,
+    ModeAt, ModuleAt, before, mode_number, modes_at, module_at, ports_at, tasks_at,
 };
 use crate::tables::{Listing, Source};
 use htl_base::{Seq, Ty, Value};
@@ -45,19 +45,18 @@ pub fn value_of(constant: ConstNode) -> Value
 
 // ---- communicators, modes, modules and ports
 
-/// The communicators, in source order.
-pub fn comms(source: &Source<'_>) -> Result<Vec<Comm>, AllocError>
-    ensures { IfOk result (λ v. v.items ≡ comm_items (tree_of source.now.tree.now)) }
+/// Puts the communicators behind others, in source order.
+pub fn put_comms(source: &Source<'_>, into: &mut Vec<Comm>) -> Done
+    ensures { OnOk result (into.new.items ≡ into.old.items ++ comm_items (tree_of source.now.tree.now)) }
 {
-    let mut into = Vec::new(source.alloc);
     let programs = source.tree.programs.as_slice();
     for k in 0..programs.len() {
-        put_comms(programs[k].comms.as_slice(), &mut into)?;
+        put_program_comms(programs[k].comms.as_slice(), into)?;
     }
-    Ok(into)
+    Ok(())
 }
 
-fn put_comms(nodes: &[CommNode], into: &mut Vec<Comm>) -> Done
+fn put_program_comms(nodes: &[CommNode], into: &mut Vec<Comm>) -> Done
     requires { All (λ (c : ACommNode). size_of c.period.x ≤ 1000000) nodes.now }
     ensures { OnOk result (into.new.items ≡ into.old.items ++ map comm_item nodes.now) }
 {
@@ -99,37 +98,28 @@ fn mode(node: &ModeNode, module: u16) -> Mode
     }
 }
 
-/// The modules, in the order of the layout.
-pub fn modules(source: &Source<'_>) -> Result<Vec<Module>, AllocError>
-    ensures { IfOk result (λ v. v.items ≡ module_items source.now.layout.now (tree_of source.now.tree.now)) }
+/// Puts the modules behind others, in the order of the layout.
+pub fn put_modules(source: &Source<'_>, into: &mut Vec<Module>) -> Done
+    ensures { OnOk result (into.new.items ≡ into.old.items ++ module_items source.now.layout.now (tree_of source.now.tree.now)) }
 {
-    let mut into = Vec::new(source.alloc);
     let layout = source.layout;
     let modules = layout.modules.as_slice();
     for k in 0..modules.len() {
-        if let Some(node) = module_at(source.tree, modules[k].program, modules[k].module) {
-            into.push(module(source, k, modules[k], node))?;
+        let at = modules[k];
+        if let Some(node) = module_at(source.tree, at.program, at.module) {
+            let names = Space::Modes.of(at.program, at.module, 0);
+            let first = before(source, k).modes;
+            into.push(Module {
+                name: node.name.name,
+                parent: match at.parent {
+                    Some(mode) => Some(mode_number(source, mode) as u16),
+                    None => None,
+                },
+                start: (first + source.layout.meaning(names, node.start.name)) as u16,
+            })?;
         }
     }
-    Ok(into)
-}
-
-fn module(source: &Source<'_>, number: usize, at: ModuleAt, node: &ModuleNode) -> Module
-    requires within { number ≤ length source.now.layout.now.modules }
-    requires parent { IsNarrowParent at.parent }
-    ensures { result ≡ module_item source.now.layout.now (tree_of source.now.tree.now) number at (module_of node.now) }
-{
-    let modes = Space::Modes.of(at.program, at.module, 0);
-    let first = modes_before(source, number);
-    let parent = match at.parent {
-        Some(mode) => Some(mode_number(source, mode) as u16),
-        None => None,
-    };
-    Module {
-        name: node.name.name,
-        parent,
-        start: (first + source.layout.meaning(modes, node.start.name)) as u16,
-    }
+    Ok(())
 }
 
 /// The ports of a mode.
@@ -177,7 +167,10 @@ fn task(alloc: Global, node: &TaskNode, module: u16) -> Result<Task, AllocError>
         is_abstract: matches!(node.outputs, OutNodes::Abstract { .. }),
         worst: size_of(node.worst.x),
         inputs: Seq::new(types_of(alloc, node.inputs.as_slice())?),
-        outputs: Seq::new(output_types(alloc, &node.outputs)?),
+        outputs: Seq::new(match &node.outputs {
+            OutNodes::Concrete { outs } => concrete_types(alloc, outs.as_slice())?,
+            OutNodes::Abstract { outs } => types_of(alloc, outs.as_slice())?,
+        }),
     })
 }
 
@@ -189,15 +182,6 @@ fn types_of(alloc: Global, params: &[ParamNode]) -> Result<Vec<Ty>, AllocError>
         types.push(params[k].ty)?;
     }
     Ok(types)
-}
-
-fn output_types(alloc: Global, outs: &OutNodes) -> Result<Vec<Ty>, AllocError>
-    ensures { IfOk result (λ v. v.items ≡ types_of (out_params (outs_of outs.now))) }
-{
-    match outs {
-        OutNodes::Concrete { outs } => concrete_types(alloc, outs.as_slice()),
-        OutNodes::Abstract { outs } => types_of(alloc, outs.as_slice()),
-    }
 }
 
 fn concrete_types(alloc: Global, outs: &[OutNode]) -> Result<Vec<Ty>, AllocError>

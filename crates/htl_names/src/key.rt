@@ -2,7 +2,7 @@
 ghost use Rattle.std.specs.Prelude.{◌≡◌, ◌++◌, ◌∷◌, []};
 ghost use Rattle.std.specs.Cmp.{decided, partial_equiv_from_equiv};
 ghost use Rattle.std.specs.Hash as fed;
-ghost use Rattle.htl_names.specs.Keys.{key_in, same_key, space_code};
+ghost use Rattle.htl_names.specs.Keys.{key_in, same_key};
 ghost use Rattle.htl_names.specs.SameKeys.{same_key_decides, mixed, key_writes, hashed_alike};
 
 use htl_base::Name;
@@ -30,12 +30,6 @@ pub enum Space {
 }
 
 impl Space {
-    fn code(self) -> u8
-        ensures { result ≡ space_code self }
-    {
-        self as u8
-    }
-
     /// The list of this kind that an owner has.
     pub fn of(self, program: usize, module: usize, item: usize) -> Scope
         ensures { result ≡ record { space = self; program = program; «module» = «module»; item = item } }
@@ -90,7 +84,7 @@ impl PartialEq for Key {
     ghost laws = { partial_equiv_from_equiv (decided same_key same_key_decides) };
 
     fn eq(&self, other: &Key) -> bool {
-        self.space.code() == other.space.code()
+        self.space as u8 == other.space as u8
             && self.program == other.program
             && self.module == other.module
             && self.item == other.item
@@ -108,7 +102,7 @@ impl Hash for Key {
     ghost respects_eq = { hashed_alike };
 
     fn hash<H: Hasher>(&self, state: &mut H) {
-        let program = mixed(self.space.code() as usize, self.program);
+        let program = mixed(self.space as usize, self.program);
         state.write_usize(mixed(mixed(program, self.module), self.item));
         state.write(self.name.as_bytes());
     }

@@ -4,9 +4,9 @@ ghost use Rattle.htl_model.specs.Lists.{list_to};
 ghost use Rattle.htl_text.specs.Nodes.{mode_of, module_of, program_of, tree_of};
 ghost use Rattle.htl_names.specs.Excess.{IsFirstExcess, capped, excess_from};
 ghost use Rattle.htl_names.specs.LevelTable.{level_by, levels_by};
-ghost use Rattle.htl_names.specs.Limits.{choices, selections, most_invokes, most_positions, counts, limits};
+ghost use Rattle.htl_names.specs.Limits.{selections, most_invokes, most_positions, counts, limits};
 ghost use Rattle.htl_names.specs.Programs.{refined_by};
-ghost use Rattle.htl_names.specs.Tallies.{with_module, with_program, tally, tally_counts};
+ghost use Rattle.htl_names.specs.Tallies.{with_module, with_program, tally};
 
 use crate::place::{ModeAt, modules_at};
 use crate::programs::refined_at;
@@ -97,27 +97,19 @@ pub(crate) fn tally_of(tree: &Tree) -> Tally
 
 // ---- root selections
 
-/// How many choices of one mode for each module there are, at most `usize::MAX`.
-fn choices(modules: &[ModuleNode]) -> usize
-    ensures { result ≡ capped (choices (map module_of modules.now)) }
-{
-    let mut n = 1usize;
-    for k in 0..modules.len() {
-        n = n.saturating_mul(modules[k].modes.as_slice().len());
-    }
-    n
-}
-
-/// How many root selections there are, at most `usize::MAX`.
+/// How many root selections there are, at most `usize::MAX`: none without root modules, else a mode of each.
 pub(crate) fn selections(tree: &Tree) -> usize
     ensures { result ≡ capped (selections (tree_of tree.now)) }
 {
     let modules = modules_at(tree, 0);
     if modules.is_empty() {
-        0
-    } else {
-        choices(modules)
+        return 0;
     }
+    let mut n = 1usize;
+    for k in 0..modules.len() {
+        n = n.saturating_mul(modules[k].modes.as_slice().len());
+    }
+    n
 }
 
 /// The most invocations that a mode of a module has.
@@ -200,9 +192,23 @@ fn first_excess(first: u8, counts: &[usize], limits: &[usize]) -> Option<Excess>
     None
 }
 
-/// The first excess of what is counted over all modes, limits 1 to 8.
-fn counted_excess(tree: &Tree) -> Option<Excess>
-    ensures { result ≡ excess_from 1 (tally_counts (tally (tree_of tree.now))) (take 8 limits) }
+/// The first excess of levels, root selections and positions, limits 9 to 11.
+fn shape_excess(tree: &Tree, refined: &[Option<ModeAt>]) -> Option<Excess>
+    ensures { result ≡ excess_from 9 (levels_by refined.now ∷ capped (selections (tree_of tree.now)) ∷ capped (most_positions (tree_of tree.now)) ∷ []) (drop 8 limits) }
+{
+    let counts = [levels(refined), selections(tree), most_positions(tree)];
+    let limits = [MAX_LEVELS, MAX_SELECTIONS as usize, MAX_POSITIONS];
+    first_excess(9, &counts, &limits)
+}
+
+/// The first limit that is exceeded. `refined` has of each program the mode that it refines.
+pub(crate) fn first_exceeded(
+    tree: &Tree,
+    symbols: &Symbols,
+    refined: &[Option<ModeAt>],
+) -> Option<Excess>
+    requires { refined.now ≡ list_to (refined_by symbols.now (tree_of tree.now)) (length (tree_of tree.now)) }
+    ensures { IsFirstExcess (counts symbols.now (tree_of tree.now)) result }
 {
     let sum = tally_of(tree);
     let counts = [
@@ -225,28 +231,7 @@ fn counted_excess(tree: &Tree) -> Option<Excess>
         MAX_SWITCHES,
         MAX_MODE_INVOCATIONS,
     ];
-    first_excess(1, &counts, &limits)
-}
-
-/// The first excess of levels, root selections and positions, limits 9 to 11.
-fn shape_excess(tree: &Tree, refined: &[Option<ModeAt>]) -> Option<Excess>
-    ensures { result ≡ excess_from 9 (levels_by refined.now ∷ capped (selections (tree_of tree.now)) ∷ capped (most_positions (tree_of tree.now)) ∷ []) (drop 8 limits) }
-{
-    let counts = [levels(refined), selections(tree), most_positions(tree)];
-    let limits = [MAX_LEVELS, MAX_SELECTIONS as usize, MAX_POSITIONS];
-    first_excess(9, &counts, &limits)
-}
-
-/// The first limit that is exceeded. `refined` has of each program the mode that it refines.
-pub(crate) fn first_exceeded(
-    tree: &Tree,
-    symbols: &Symbols,
-    refined: &[Option<ModeAt>],
-) -> Option<Excess>
-    requires { refined.now ≡ list_to (refined_by symbols.now (tree_of tree.now)) (length (tree_of tree.now)) }
-    ensures { IsFirstExcess (counts symbols.now (tree_of tree.now)) result }
-{
-    match counted_excess(tree) {
+    match first_excess(1, &counts, &limits) {
         Some(found) => Some(found),
         None => shape_excess(tree, refined),
     }

@@ -90,7 +90,7 @@ fn put_kids(
 // ---- modes
 
 /// Puts the modes of a module behind others.
-fn push_modes(tree: &Tree, module: ModuleAt, into: &mut Vec<ModeAt>) -> Result<(), AllocError>
+fn put_module_modes(tree: &Tree, module: ModuleAt, into: &mut Vec<ModeAt>) -> Done
     ensures { OnOk result (into.new.items ≡ into.old.items ++ module_modes (tree_of tree.now) «module») }
 {
     let modes = modes_at(tree, module.program, module.module);
@@ -104,19 +104,14 @@ fn push_modes(tree: &Tree, module: ModuleAt, into: &mut Vec<ModeAt>) -> Result<(
     Ok(())
 }
 
-/// The modes of modules, by module.
-fn ordered_modes(
-    alloc: Global,
-    tree: &Tree,
-    modules: &[ModuleAt],
-) -> Result<Vec<ModeAt>, AllocError>
-    ensures { IfOk result (λ v. v.items ≡ mode_order (tree_of tree.now) modules.now) }
+/// Puts the modes of modules behind others, by module.
+fn put_modes(tree: &Tree, modules: &[ModuleAt], into: &mut Vec<ModeAt>) -> Done
+    ensures { OnOk result (into.new.items ≡ into.old.items ++ mode_order (tree_of tree.now) modules.now) }
 {
-    let mut found = Vec::new(alloc);
     for k in 0..modules.len() {
-        push_modes(tree, modules[k], &mut found)?;
+        put_module_modes(tree, modules[k], into)?;
     }
-    Ok(found)
+    Ok(())
 }
 
 // ---- both
@@ -135,7 +130,8 @@ pub(crate) fn layout_of(alloc: Global, tree: &Tree, symbols: Symbols) -> Result<
         tree.programs.as_slice().len(),
         &mut modules,
     )?;
-    let modes = ordered_modes(alloc, tree, &modules)?;
+    let mut modes = Vec::new(alloc);
+    put_modes(tree, &modules, &mut modes)?;
     Ok(Layout {
         symbols,
         modules,

@@ -1,12 +1,11 @@
 // Places in the tree of a source, what stands there, and the numbers of modules and modes in the tables.
 ghost use Rattle.std.specs.Prelude.{◌≡◌, map, MatchOption, None, Some, ◌≤◌, length};
-ghost use Rattle.htl_text.specs.Nodes.{tree_of, module_of, mode_of, task_of, switch_of};
-ghost use Rattle.htl_names.specs.Flat.{module_number, modes_before, tasks_before, invokes_before, mode_number, refined_mode};
-ghost use Rattle.htl_names.specs.Narrow.{IsNarrowParent};
-ghost use Rattle.htl_names.specs.Order.{modules_at, module_at, tasks_at, modes_at, mode_at, ports_at, invokes_at, switches_at};
+ghost use Rattle.htl_text.specs.Nodes.{tree_of, module_of, mode_of, task_of};
+ghost use Rattle.htl_names.specs.Flat.{module_number, modes_before, tasks_before, invokes_before, mode_number};
+ghost use Rattle.htl_names.specs.Order.{modules_at, module_at, tasks_at, modes_at, mode_at, ports_at, invokes_at};
 
 use crate::tables::{Layout, Source};
-use htl_text::{InvokeNode, ModeNode, ModuleNode, ParamNode, SwitchNode, TaskNode, Tree};
+use htl_text::{InvokeNode, ModeNode, ModuleNode, ParamNode, TaskNode, Tree};
 
 // ---- places
 
@@ -94,16 +93,6 @@ pub fn invokes_at(tree: &Tree, at: ModeAt) -> &[InvokeNode]
     }
 }
 
-/// The switches of a mode.
-pub fn switches_at(tree: &Tree, at: ModeAt) -> &[SwitchNode]
-    ensures { map switch_of result.now ≡ switches_at (tree_of tree.now) at }
-{
-    match mode_at(tree, at) {
-        Some(node) => node.switches.as_slice(),
-        None => &[],
-    }
-}
-
 // ---- numbers in the tables
 
 /// The number of a module; that of modules where it stands nowhere.
@@ -120,32 +109,28 @@ pub fn module_number(layout: &Layout, program: usize, module: usize) -> usize
     modules.len()
 }
 
-/// How many modes the modules below a number have.
-pub fn modes_before(source: &Source<'_>, module: usize) -> usize
-    requires { «module» ≤ length source.now.layout.now.modules }
-    ensures { result ≡ modes_before source.now.layout.now (tree_of source.now.tree.now) «module» }
-{
-    let mut count: usize = 0;
-    let layout = source.layout;
-    let modules = layout.modules.as_slice();
-    for k in 0..module {
-        count += modes_at(source.tree, modules[k].program, modules[k].module).len();
-    }
-    count
+/// How many modes and tasks modules have.
+#[derive(Clone, Copy)]
+pub struct Held {
+    pub modes: usize,
+    pub tasks: usize,
 }
 
-/// How many tasks the modules below a number have.
-pub fn tasks_before(source: &Source<'_>, module: usize) -> usize
+/// How many modes and tasks the modules below a number have.
+pub fn before(source: &Source<'_>, module: usize) -> Held
     requires { «module» ≤ length source.now.layout.now.modules }
-    ensures { result ≡ tasks_before source.now.layout.now (tree_of source.now.tree.now) «module» }
+    ensures modes { result.modes ≡ modes_before source.now.layout.now (tree_of source.now.tree.now) «module» }
+    ensures tasks { result.tasks ≡ tasks_before source.now.layout.now (tree_of source.now.tree.now) «module» }
 {
-    let mut count: usize = 0;
+    let mut sum = Held { modes: 0, tasks: 0 };
     let layout = source.layout;
     let modules = layout.modules.as_slice();
     for k in 0..module {
-        count += tasks_at(source.tree, modules[k].program, modules[k].module).len();
+        let at = modules[k];
+        sum.modes += modes_at(source.tree, at.program, at.module).len();
+        sum.tasks += tasks_at(source.tree, at.program, at.module).len();
     }
-    count
+    sum
 }
 
 /// How many invocations the modes below a number have.
@@ -167,18 +152,5 @@ pub fn mode_number(source: &Source<'_>, at: ModeAt) -> usize
     ensures value { result ≡ mode_number source.now.layout.now (tree_of source.now.tree.now) at }
     ensures within { result ≤ 512 }
 {
-    modes_before(source, module_number(source.layout, at.program, at.module)) + at.mode
-}
-
-/// The mode that the program of a module refines.
-pub fn refined_mode(source: &Source<'_>, program: usize, module: usize) -> Option<ModeAt>
-    ensures value { result ≡ refined_mode source.now.layout.now program «module» }
-    ensures narrow { IsNarrowParent result }
-{
-    let layout = source.layout;
-    let number = module_number(layout, program, module);
-    match layout.modules.as_slice().get(number) {
-        Some(module) => module.parent,
-        None => None,
-    }
+    before(source, module_number(source.layout, at.program, at.module)).modes + at.mode
 }

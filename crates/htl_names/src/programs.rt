@@ -2,8 +2,8 @@
 ghost use Rattle.std.specs.Prelude.{◌≡◌, ◌++◌, OnOk, IfOk, eqb, ◌<◌, length, slice_get, fold, MatchBool, ◌≤◌, ℕ, List, get_or, None};
 ghost use Rattle.htl_model.specs.Lists.{list_to};
 ghost use Rattle.htl_text.specs.Nodes.{mode_of, module_of, program_of, tree_of, PlainProgram};
-ghost use Rattle.htl_names.specs.Graph.{program_named, named_from, naming_rows, targets, graph_by};
-ghost use Rattle.htl_names.specs.Programs.{IsFirstMisplaced, named_program as program_of_mode, mode_naming, module_naming, program_naming, named_by, IsMisplaced, refined_by};
+ghost use Rattle.htl_names.specs.Graph.{naming_rows, targets, graph_by};
+ghost use Rattle.htl_names.specs.Programs.{IsFirstMisplaced, named_program as program_of_mode, named_from, module_naming, program_naming, named_by, IsMisplaced, refined_by};
 ghost use Rattle.htl_names.specs.Namings.{counted, counted_all, CountsNamings};
 ghost use Rattle.htl_names.specs.Reach.{met, met_by, IsMarked, MarksReached};
 ghost use Rattle.htl_names.specs.Refined.{filled};
@@ -14,7 +14,7 @@ use crate::key::Space;
 use crate::place::ModeAt;
 use crate::symbols::Symbols;
 use htl_base::Seq;
-use htl_text::{Id, ModeNode, ModuleNode, ProgramNode, Tree};
+use htl_text::{ModeNode, ModuleNode, ProgramNode, Tree};
 use std::alloc::{AllocError, Global};
 
 // ---- the modes that name programs
@@ -25,21 +25,14 @@ pub(crate) type Naming = (ModeAt, usize);
 /// The modes of a program that name programs, in source order.
 pub(crate) type NamingRow = Seq<Naming>;
 
-/// The number of the program of this name.
-fn number_of(name: Option<Id>, symbols: &Symbols) -> Option<usize>
-    ensures { result ≡ program_named symbols.now name }
-{
-    match name {
-        Some(id) => symbols.get(&Space::Programs.of(0, 0, 0).key(id.name)),
-        None => None,
-    }
-}
-
 /// The number of the program that stands in the head of a mode.
 pub(crate) fn named_program(mode: &ModeNode, symbols: &Symbols) -> Option<usize>
     ensures { result ≡ program_of_mode symbols.now (mode_of mode.now) }
 {
-    number_of(mode.program, symbols)
+    match &mode.program {
+        Some(id) => symbols.get(&Space::Programs.of(0, 0, 0).key(id.name)),
+        None => None,
+    }
 }
 
 fn push_placed(place: ModeAt, found: Option<usize>, into: &mut Vec<Naming>) -> Done
@@ -49,12 +42,6 @@ fn push_placed(place: ModeAt, found: Option<usize>, into: &mut Vec<Naming>) -> D
         into.push((place, q))?;
     }
     Ok(())
-}
-
-fn push_mode_naming(at: ModeAt, mode: &ModeNode, symbols: &Symbols, into: &mut Vec<Naming>) -> Done
-    ensures { OnOk result (into.new.items ≡ into.old.items ++ mode_naming symbols.now at.program at.«module» at.mode (mode_of mode.now)) }
-{
-    push_placed(at, named_program(mode, symbols), into)
 }
 
 fn push_module_naming(
@@ -73,7 +60,7 @@ fn push_module_naming(
             module,
             mode: k,
         };
-        push_mode_naming(place, &modes[k], symbols, into)?;
+        push_placed(place, named_program(&modes[k], symbols), into)?;
     }
     Ok(())
 }
@@ -113,20 +100,7 @@ pub(crate) fn naming_rows(
 
 // ---- the programs that are reached
 
-/// Puts a program behind the others, where it is new. A number of no program is passed over.
-fn meet(q: usize, seen: &mut Vec<bool>, queue: &mut Vec<usize>) -> Done
-    requires marked { IsMarked seen.old.items queue.old.items }
-    ensures queue { OnOk result (queue.new.items ≡ met (length seen.old.items) queue.old.items q) }
-    ensures marked { OnOk result (IsMarked seen.new.items queue.new.items) }
-    ensures len { OnOk result (length seen.new.items ≡ length seen.old.items) }
-{
-    if q < seen.len() && !seen[q] {
-        queue.push(q)?;
-        seen[q] = true;
-    }
-    Ok(())
-}
-
+/// Puts the programs that modes name behind the others, where they are new. A number of no program is passed over.
 fn meet_all(qs: &[Naming], seen: &mut Vec<bool>, queue: &mut Vec<usize>) -> Done
     requires marked { IsMarked seen.old.items queue.old.items }
     ensures queue { OnOk result (queue.new.items ≡ fold (met (length seen.old.items)) queue.old.items (targets qs.now)) }
@@ -134,7 +108,11 @@ fn meet_all(qs: &[Naming], seen: &mut Vec<bool>, queue: &mut Vec<usize>) -> Done
     ensures len { OnOk result (length seen.new.items ≡ length seen.old.items) }
 {
     for k in 0..qs.len() {
-        meet(qs[k].1, seen, queue)?;
+        let q = qs[k].1;
+        if q < seen.len() && !seen[q] {
+            queue.push(q)?;
+            seen[q] = true;
+        }
     }
     Ok(())
 }
@@ -150,21 +128,6 @@ fn named_by<'a>(rows: &'a [NamingRow], p: usize) -> &'a [Naming]
     }
 }
 
-/// Meets what the program at a place of the list names.
-fn ask(rows: &[NamingRow], i: usize, seen: &mut Vec<bool>, queue: &mut Vec<usize>) -> Done
-    requires marked { IsMarked seen.old.items queue.old.items }
-    requires len { length seen.old.items ≡ length (graph_by rows.now) }
-    ensures queue { OnOk result (queue.new.items ≡ met_by (graph_by rows.now) queue.old.items (slice_get queue.old.items i)) }
-    ensures marked { OnOk result (IsMarked seen.new.items queue.new.items) }
-    ensures len { OnOk result (length seen.new.items ≡ length seen.old.items) }
-{
-    if i >= queue.len() {
-        return Ok(());
-    }
-    let p = queue[i];
-    meet_all(named_by(rows, p), seen, queue)
-}
-
 /// Marks the programs that are reached from the root. Each program is asked once.
 pub(crate) fn reach(alloc: Global, rows: &[NamingRow]) -> Result<Vec<bool>, AllocError>
     requires some { 0 < length rows.now }
@@ -172,9 +135,13 @@ pub(crate) fn reach(alloc: Global, rows: &[NamingRow]) -> Result<Vec<bool>, Allo
 {
     let mut seen = vec![in alloc; false; rows.len()]?;
     let mut queue = Vec::new(alloc);
-    meet(0, &mut seen, &mut queue)?;
+    queue.push(0)?;
+    seen[0] = true;
     for i in 0..rows.len() {
-        ask(rows, i, &mut seen, &mut queue)?;
+        if i < queue.len() {
+            let row = named_by(rows, queue[i]);
+            meet_all(row, &mut seen, &mut queue)?;
+        }
     }
     Ok(seen)
 }
@@ -190,57 +157,6 @@ fn count(q: usize, counts: &mut Vec<u8>)
     }
 }
 
-fn count_row(row: &[Naming], counts: &mut Vec<u8>)
-    ensures { counts.new.items ≡ counted_all counts.old.items (targets row.now) }
-{
-    for k in 0..row.len() {
-        count(row[k].1, counts);
-    }
-}
-
-/// How often modes name each program, counted up to 255.
-fn namings(alloc: Global, rows: &[NamingRow]) -> Result<Vec<u8>, AllocError>
-    ensures { IfOk result (λ v. CountsNamings (graph_by rows.now) v.items) }
-{
-    let mut counts = vec![in alloc; 0u8; rows.len()]?;
-    for k in 0..rows.len() {
-        count_row(rows[k].as_slice(), &mut counts);
-    }
-    Ok(counts)
-}
-
-/// Whether a program is out of place.
-fn is_misplaced(rows: &[NamingRow], counts: &[u8], seen: &[bool], p: usize) -> bool
-    requires counts { CountsNamings (graph_by rows.now) counts.now }
-    requires seen { MarksReached (graph_by rows.now) seen.now }
-    requires within { p < length (graph_by rows.now) }
-    ensures { MatchBool result (IsMisplaced (graph_by rows.now) p) (IsMisplaced (graph_by rows.now) p → ⊥) }
-{
-    if p == 0 {
-        0 < counts[p]
-    } else {
-        counts[p] != 1 || !seen[p]
-    }
-}
-
-/// The first program that is out of place.
-pub(crate) fn first_misplaced(alloc: Global, rows: &[NamingRow]) -> Result<Option<u32>, AllocError>
-    requires small { length rows.now ≤ 1048576 }
-    ensures { IfOk result (λ o. IsFirstMisplaced (graph_by rows.now) o) }
-{
-    if rows.is_empty() {
-        return Ok(None);
-    }
-    let counts = namings(alloc, rows)?;
-    let seen = reach(alloc, rows)?;
-    for p in 0..rows.len() {
-        if is_misplaced(rows, &counts, &seen, p) {
-            return Ok(Some(p as u32));
-        }
-    }
-    Ok(None)
-}
-
 /// Puts a mode that names a program at the program's place, where that is free.
 fn fill(mode: ModeAt, program: usize, modes: &mut Vec<Option<ModeAt>>)
     ensures { modes.new.items ≡ filled modes.old.items (mode, program) }
@@ -250,27 +166,68 @@ fn fill(mode: ModeAt, program: usize, modes: &mut Vec<Option<ModeAt>>)
     }
 }
 
-fn fill_row(row: &[Naming], modes: &mut Vec<Option<ModeAt>>)
-    ensures { modes.new.items ≡ fold filled modes.old.items row.now }
+/// How modes name programs, by program.
+#[derive(Drop)]
+pub(crate) struct Named {
+    /// How many modes name it, counted up to 255.
+    pub counts: Vec<u8>,
+    /// The mode that it refines: the first that names it.
+    pub modes: Vec<Option<ModeAt>>,
+}
+
+/// Notes how the modes of a program name programs.
+fn note_row(row: &[Naming], into: &mut Named)
+    ensures counts { into.new.counts.items ≡ counted_all into.old.counts.items (targets row.now) }
+    ensures modes { into.new.modes.items ≡ fold filled into.old.modes.items row.now }
 {
     for k in 0..row.len() {
-        fill(row[k].0, row[k].1, modes);
+        let (mode, program) = row[k];
+        count(program, &mut into.counts);
+        fill(mode, program, &mut into.modes);
     }
 }
 
-/// Of each program the mode that it refines: the first that names it.
-pub(crate) fn refined_modes(
+/// How the modes of a source name each of its programs.
+pub(crate) fn named_programs(alloc: Global, rows: &[NamingRow]) -> Result<Named, AllocError>
+    ensures counts { IfOk result (λ v. CountsNamings (graph_by rows.now) v.counts.items) }
+    ensures modes { (symbols : List (Key × ℕ)) (ps : List PlainProgram) → rows.now ≡ naming_rows symbols ps
+        → IfOk result (λ v. v.modes.items ≡ list_to (refined_by symbols ps) (length ps)) }
+{
+    let mut named = Named {
+        counts: vec![in alloc; 0u8; rows.len()]?,
+        modes: vec![in alloc; None; rows.len()]?,
+    };
+    for k in 0..rows.len() {
+        note_row(rows[k].as_slice(), &mut named);
+    }
+    Ok(named)
+}
+
+/// The first program that is out of place. `counts` has how many modes name each.
+pub(crate) fn first_misplaced(
     alloc: Global,
     rows: &[NamingRow],
-) -> Result<Vec<Option<ModeAt>>, AllocError>
-    ensures { (symbols : List (Key × ℕ)) (ps : List PlainProgram) → rows.now ≡ naming_rows symbols ps
-        → IfOk result (λ v. v.items ≡ list_to (refined_by symbols ps) (length ps)) }
+    counts: &[u8],
+) -> Result<Option<u32>, AllocError>
+    requires small { length rows.now ≤ 1048576 }
+    requires counts { CountsNamings (graph_by rows.now) counts.now }
+    ensures { IfOk result (λ o. IsFirstMisplaced (graph_by rows.now) o) }
 {
-    let mut modes = vec![in alloc; None; rows.len()]?;
-    for k in 0..rows.len() {
-        fill_row(rows[k].as_slice(), &mut modes);
+    if rows.is_empty() {
+        return Ok(None);
     }
-    Ok(modes)
+    let seen = reach(alloc, rows)?;
+    for p in 0..rows.len() {
+        let is_misplaced = if p == 0 {
+            0 < counts[p]
+        } else {
+            counts[p] != 1 || !seen[p]
+        };
+        if is_misplaced {
+            return Ok(Some(p as u32));
+        }
+    }
+    Ok(None)
 }
 
 /// The mode that a program refines, by the table of those modes.

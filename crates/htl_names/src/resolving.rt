@@ -1,21 +1,21 @@
 // From the tree of a source to its tables.
-ghost use Rattle.std.specs.Prelude.{◌≡◌, MatchResult, IfOk};
+ghost use Rattle.std.specs.Prelude.{◌≡◌, List, MatchResult, IfOk};
 ghost use Rattle.htl_model.specs.Broken.{KeepsLimits};
 ghost use Rattle.htl_model.specs.Small.{AreSmall};
-ghost use Rattle.htl_text.specs.Nodes.{tree_of};
+ghost use Rattle.htl_text.specs.Nodes.{tree_of, PlainProgram};
 ghost use Rattle.htl_names.specs.Conditions.{MeetsBounds};
 ghost use Rattle.htl_names.specs.Flat.{symbols_of};
-ghost use Rattle.htl_names.specs.NameRules.{IsResolved};
+ghost use Rattle.htl_names.specs.NameRules.{AreNamesRight, IsResolved};
 ghost use Rattle.htl_names.specs.Rows.{rows as rows_in};
 ghost use Rattle.htl_names.specs.Told.{KeptBelow, IsRefusal, IsJudged};
 
 use crate::fault::NameFault;
 use crate::limits::{Excess, first_exceeded};
 use crate::order::layout_of;
-use crate::programs::{first_misplaced, naming_rows, refined_modes};
+use crate::programs::{first_misplaced, named_programs, naming_rows};
 use crate::rows::Rows;
 use crate::rules::{first_orphan, first_unknown, first_wrong_kind};
-use crate::symbols::{Declared, Symbols, declare};
+use crate::symbols::{Symbols, declare};
 use crate::tables::parts_of;
 use crate::walk::rows_of;
 use htl_model::Tables;
@@ -41,42 +41,46 @@ pub fn resolve(alloc: Global, tree: &Tree) -> Result<Tables, NameFault>
     ensures limits { IfOk result (λ tables. KeepsLimits tables) }
     ensures functions { IfOk result (λ tables. AreSmall tables) }
 {
-    let Names { rows, symbols } = names_of(alloc, tree)?;
-    check(alloc, tree, &rows, &symbols)?;
+    let symbols = names_of(alloc, tree)?;
     let layout = layout_of(alloc, tree, symbols)?;
     let parts = parts_of(alloc, tree, &layout)?;
     Ok(Tables::new(parts))
 }
 
-// The names of a source, none of which repeats: its rows, and what the declared names mean.
-#[derive(Drop)]
-struct Names {
-    rows: Rows,
-    symbols: Symbols,
-}
-
-// The rules on single rows, the first three.
-fn names_of(alloc: Global, tree: &Tree) -> Result<Names, NameFault>
+// What the declared names of a source mean, where its names keep the rules.
+fn names_of(alloc: Global, tree: &Tree) -> Result<Symbols, NameFault>
+    requires bounds { MeetsBounds (tree_of tree.now) }
     ensures { MatchResult result
-        (λ n. (n.rows ≡ rows_in (tree_of tree.now)) × (n.symbols ≡ symbols_of (tree_of tree.now)) × KeptBelow (tree_of tree.now) 4)
-        (IsRefusal (tree_of tree.now)) }
+        (λ symbols. (symbols ≡ symbols_of (tree_of tree.now)) × AreNamesRight (tree_of tree.now)) (IsRefusal (tree_of tree.now)) }
 {
     let rows = rows_of(alloc, tree)?;
-    let symbols = match declare(alloc, rows.entries.as_slice())? {
-        Declared::Apart { symbols } => symbols,
-        Declared::Repeated { token } => return Err(NameFault::Twice { token }),
-    };
-    if let Some(token) = first_unknown(rows.uses.as_slice(), &symbols) {
+    let symbols = declare(alloc, rows.entries.as_slice())?;
+    check_rows(&rows, &symbols)?;
+    check_programs(alloc, tree, &rows, &symbols)?;
+    Ok(symbols)
+}
+
+// The rules on single rows.
+fn check_rows(rows: &Rows, symbols: &Symbols) -> Result<(), NameFault>
+    ensures { (ps : List PlainProgram) → rows.now ≡ rows_in ps → symbols.now ≡ symbols_of ps → KeptBelow ps 2
+        → MatchResult result (λ _. KeptBelow ps 4) (IsRefusal ps) }
+{
+    if let Some(token) = first_unknown(rows.uses.as_slice(), symbols) {
         return Err(NameFault::Unknown { token });
     }
     if let Some(token) = first_wrong_kind(rows.kinds.as_slice()) {
         return Err(NameFault::Kind { token });
     }
-    Ok(Names { rows, symbols })
+    Ok(())
 }
 
 // The rules on the tree of programs, and the limits.
-fn check(alloc: Global, tree: &Tree, rows: &Rows, symbols: &Symbols) -> Result<(), NameFault>
+fn check_programs(
+    alloc: Global,
+    tree: &Tree,
+    rows: &Rows,
+    symbols: &Symbols,
+) -> Result<(), NameFault>
     requires bounds { MeetsBounds (tree_of tree.now) }
     requires rows { rows.now ≡ rows_in (tree_of tree.now) }
     requires symbols { symbols.now ≡ symbols_of (tree_of tree.now) }
@@ -84,14 +88,16 @@ fn check(alloc: Global, tree: &Tree, rows: &Rows, symbols: &Symbols) -> Result<(
     ensures { IsJudged (tree_of tree.now) result }
 {
     let namings = naming_rows(alloc, tree, symbols)?;
-    if let Some(program) = first_misplaced(alloc, namings.as_slice())? {
+    let named = named_programs(alloc, namings.as_slice())?;
+    let misplaced = first_misplaced(alloc, namings.as_slice(), named.counts.as_slice())?;
+    if let Some(program) = misplaced {
         return Err(NameFault::NotATree { program });
     }
-    let refined = refined_modes(alloc, namings.as_slice())?;
-    if let Some(token) = first_orphan(rows.parents.as_slice(), symbols, refined.as_slice()) {
+    let refined = named.modes.as_slice();
+    if let Some(token) = first_orphan(rows.parents.as_slice(), symbols, refined) {
         return Err(NameFault::Unknown { token });
     }
-    if let Some(Excess { which, count }) = first_exceeded(tree, symbols, refined.as_slice()) {
+    if let Some(Excess { which, count }) = first_exceeded(tree, symbols, refined) {
         return Err(NameFault::Limit { which, count });
     }
     Ok(())

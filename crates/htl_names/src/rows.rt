@@ -4,7 +4,7 @@ ghost use Rattle.htl_text.specs.Bounds.{names_of};
 ghost use Rattle.htl_names.specs.Entries.{entry};
 ghost use Rattle.htl_names.specs.Rows.{joined, declaring, using, judging, refining, judged_of};
 ghost use Rattle.htl_names.specs.Keys.{key_in};
-ghost use Rattle.htl_names.specs.Uses.{usage, use_in};
+ghost use Rattle.htl_names.specs.Uses.{use_in};
 
 use crate::Done;
 use crate::key::{Entry, Scope, Use};
@@ -92,18 +92,29 @@ impl Rows {
         Ok(())
     }
 
-    /// A name that is used for any item of its list.
-    pub fn mention(&mut self, scope: Scope, id: &Id) -> Done
-        ensures { OnOk result (self.new ≡ joined self.old (using (usage (key_in scope id.now.name) id.now ∷ []))) }
+    /// A name that is used; where `below` is a number, for an item at a place below it.
+    pub fn mention(&mut self, scope: Scope, below: Option<usize>, id: &Id) -> Done
+        ensures { OnOk result (self.new ≡ joined self.old (using (use_in scope below id.now ∷ []))) }
     {
-        put_name(scope, None, id, &mut self.uses)
+        self.uses.push(Use {
+            key: scope.key(id.name),
+            below,
+            token: id.token,
+        })?;
+        Ok(())
     }
 
-    /// The names of an expression, each of an item at a place below the bound.
+    /// The names of an expression, each used in this way.
     pub fn mention_all(&mut self, scope: Scope, below: Option<usize>, e: &Expression) -> Done
         ensures { OnOk result (self.new ≡ joined self.old (using (map (use_in scope below) (names_of e.now)))) }
     {
-        put_names(scope, below, e, &mut self.uses)
+        let nodes = e.nodes();
+        for k in 0..nodes.len() {
+            if let Node::Named { id } = &nodes[k] {
+                self.mention(scope, below, id)?;
+            }
+        }
+        Ok(())
     }
 
     /// A value or number.
@@ -113,35 +124,4 @@ impl Rows {
         self.kinds.push(item)?;
         Ok(())
     }
-
-    /// A name after `parent`.
-    pub fn refine(&mut self, program: usize, id: Id) -> Done
-        ensures { OnOk result (self.new ≡ joined self.old (refining (record { program = program; id = id } ∷ []))) }
-    {
-        self.parents.push(ParentName { program, id })?;
-        Ok(())
-    }
-}
-
-fn put_names(scope: Scope, below: Option<usize>, e: &Expression, into: &mut Vec<Use>) -> Done
-    ensures { OnOk result (into.new.items ≡ into.old.items ++ map (use_in scope below) (names_of e.now)) }
-{
-    let nodes = e.nodes();
-    for k in 0..nodes.len() {
-        if let Node::Named { id } = &nodes[k] {
-            put_name(scope, below, id, into)?;
-        }
-    }
-    Ok(())
-}
-
-fn put_name(scope: Scope, below: Option<usize>, id: &Id, into: &mut Vec<Use>) -> Done
-    ensures { OnOk result (into.new.items ≡ into.old.items ++ use_in scope below id.now ∷ []) }
-{
-    into.push(Use {
-        key: scope.key(id.name),
-        below,
-        token: id.token,
-    })?;
-    Ok(())
 }

@@ -43,7 +43,18 @@ pub(crate) fn first_wrong_kind(kinds: &[Judged]) -> Option<u32>
 {
     for k in 0..kinds.len() {
         if !is_kind(&kinds[k]) {
-            return Some(token_of(&kinds[k]));
+            return Some(match &kinds[k] {
+                Judged::Span { n } => n.token,
+                Judged::Instance { n } => n.token,
+                Judged::Initial {
+                    c: ConstNode::Int { token, .. },
+                    ..
+                } => *token,
+                Judged::Initial {
+                    c: ConstNode::Bool { token, .. },
+                    ..
+                } => *token,
+            });
         }
     }
     None
@@ -55,7 +66,12 @@ fn is_kind(item: &Judged) -> bool
     match item {
         Judged::Span { n } => is_span(n.x),
         Judged::Instance { n } => is_instance(n.x),
-        Judged::Initial { wanted, c } => has_type(*wanted, *c),
+        Judged::Initial { wanted, c } => match (*wanted, *c) {
+            (Ty::Int, ConstNode::Int { .. }) => true,
+            (Ty::Int, ConstNode::Bool { .. }) => false,
+            (Ty::Bool, ConstNode::Int { .. }) => false,
+            (Ty::Bool, ConstNode::Bool { .. }) => true,
+        },
     }
 }
 
@@ -69,34 +85,6 @@ fn is_instance(x: Value) -> bool
     ensures { result ≡ is_instance x }
 {
     0 <= x && x <= i64::from(MAX_PERIOD)
-}
-
-fn has_type(wanted: Ty, c: ConstNode) -> bool
-    ensures { result ≡ has_type wanted c }
-{
-    match (wanted, c) {
-        (Ty::Int, ConstNode::Int { .. }) => true,
-        (Ty::Int, ConstNode::Bool { .. }) => false,
-        (Ty::Bool, ConstNode::Int { .. }) => false,
-        (Ty::Bool, ConstNode::Bool { .. }) => true,
-    }
-}
-
-fn token_of(item: &Judged) -> u32
-    ensures { result ≡ token_of (judged_of item.now) }
-{
-    match item {
-        Judged::Span { n } => n.token,
-        Judged::Instance { n } => n.token,
-        Judged::Initial {
-            c: ConstNode::Int { token, .. },
-            ..
-        } => *token,
-        Judged::Initial {
-            c: ConstNode::Bool { token, .. },
-            ..
-        } => *token,
-    }
 }
 
 // ---- names after `parent`
@@ -125,21 +113,15 @@ fn orphan(p: usize, id: &Id, symbols: &Symbols, refined: &[Option<ModeAt>]) -> O
     if p == 0 {
         return Some(id.token);
     }
-    match place_in(refined_at(p, refined), id, symbols) {
-        None => Some(id.token),
-        Some(_) => None,
-    }
-}
-
-// The place of the invocation in a mode.
-fn place_in(mode: Option<ModeAt>, id: &Id, symbols: &Symbols) -> Option<usize>
-    ensures { result ≡ parent_in symbols.now mode id.now.name }
-{
-    match mode {
+    let place = match refined_at(p, refined) {
         None => None,
         Some(a) => {
             let key = Space::Invokes.of(a.program, a.module, a.mode).key(id.name);
             symbols.get(&key)
         }
+    };
+    match place {
+        None => Some(id.token),
+        Some(_) => None,
     }
 }

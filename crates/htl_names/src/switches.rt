@@ -6,38 +6,32 @@ ghost use Rattle.htl_text.specs.Nodes.{tree_of, switch_of};
 ghost use Rattle.htl_names.specs.Lists.{with_new};
 ghost use Rattle.htl_names.specs.Flat.{comms_in, switch_function, mode_functions, mode_switch_items, switch_items};
 
+use crate::Done;
 use crate::functions::{Reads, formula};
 use crate::key::Space;
-use crate::place::{ModeAt, modes_before, module_number, switches_at};
+use crate::place::{ModeAt, before, mode_at, module_number};
 use crate::tables::Source;
 use htl_base::Seq;
 use htl_model::{Function, Switch};
 use htl_text::{Expression, Node, SwitchNode};
 use std::alloc::AllocError;
 
-/// The switches, with functions of which the last are theirs.
-#[derive(Drop)]
-pub struct Listed {
-    pub items: Vec<Switch>,
-    pub functions: Vec<Function>,
-}
-
-/// The switches: by mode, then in source order; their functions in the same order behind the given ones.
-pub fn switches(source: &Source<'_>, functions: Vec<Function>) -> Result<Listed, AllocError>
-    ensures items { IfOk result (λ v. v.items.items ≡ switch_items source.now.layout.now (tree_of source.now.tree.now)) }
-    ensures functions { IfOk result (λ v. map fun_of v.functions.items ≡ map fun_of functions.items
+/// Puts the switches behind others: by mode, then in source order; and their functions, in the same order.
+pub fn put_switches(
+    source: &Source<'_>,
+    into: &mut Vec<Switch>,
+    functions: &mut Vec<Function>,
+) -> Done
+    ensures items { OnOk result (into.new.items ≡ into.old.items ++ switch_items source.now.layout.now (tree_of source.now.tree.now)) }
+    ensures functions { OnOk result (map fun_of functions.new.items ≡ map fun_of functions.old.items
         ++ flat_map (mode_functions source.now.layout.now (tree_of source.now.tree.now)) source.now.layout.now.modes) }
 {
-    let mut into = Listed {
-        items: Vec::new(source.alloc),
-        functions,
-    };
     let layout = source.layout;
     let modes = layout.modes.as_slice();
     for k in 0..modes.len() {
-        put_mode(source, k, modes[k], &mut into)?;
+        put_mode(source, k, modes[k], into, functions)?;
     }
-    Ok(into)
+    Ok(())
 }
 
 // Those of a mode: its number, and where it stands.
@@ -45,23 +39,27 @@ fn put_mode(
     source: &Source<'_>,
     mode: usize,
     at: ModeAt,
-    into: &mut Listed,
-) -> Result<(), AllocError>
+    into: &mut Vec<Switch>,
+    functions: &mut Vec<Function>,
+) -> Done
     requires { mode ≤ 256 }
-    ensures items { OnOk result (into.new.items.items
-        ≡ into.old.items.items ++ mode_switch_items source.now.layout.now (tree_of source.now.tree.now) mode at) }
-    ensures functions { OnOk result (map fun_of into.new.functions.items
-        ≡ map fun_of into.old.functions.items ++ mode_functions source.now.layout.now (tree_of source.now.tree.now) at) }
+    ensures items { OnOk result (into.new.items
+        ≡ into.old.items ++ mode_switch_items source.now.layout.now (tree_of source.now.tree.now) mode at) }
+    ensures functions { OnOk result (map fun_of functions.new.items
+        ≡ map fun_of functions.old.items ++ mode_functions source.now.layout.now (tree_of source.now.tree.now) at) }
 {
     let module = module_number(source.layout, at.program, at.module);
-    let first = modes_before(source, module);
+    let first = before(source, module).modes;
     let modes = Space::Modes.of(at.program, at.module, 0);
-    let nodes = switches_at(source.tree, at);
+    let nodes = match mode_at(source.tree, at) {
+        Some(node) => node.switches.as_slice(),
+        None => &[],
+    };
     for k in 0..nodes.len() {
         let comms = comms_in(source, &nodes[k].cond)?;
         let function = condition(source, comms.as_slice(), &nodes[k])?;
-        into.functions.push(function)?;
-        into.items.push(Switch {
+        functions.push(function)?;
+        into.push(Switch {
             mode: mode as u16,
             target: (first + source.layout.meaning(modes, nodes[k].target.name)) as u16,
             reads: Seq::new(comms),
@@ -103,7 +101,7 @@ fn comms_in(source: &Source<'_>, e: &Expression) -> Result<Vec<u16>, AllocError>
     Ok(comms)
 }
 
-fn put_comm(comm: u16, comms: &mut Vec<u16>) -> Result<(), AllocError>
+fn put_comm(comm: u16, comms: &mut Vec<u16>) -> Done
     ensures { OnOk result (comms.new.items ≡ with_new comms.old.items comm) }
 {
     if !comms.contains(&comm) {

@@ -1,22 +1,22 @@
 // The flat tables of a tree by a layout.
-ghost use Rattle.std.specs.Prelude.{◌≡◌, ◌≤◌, ◌++◌, ℕ, List, IfOk, OnOk, length};
-ghost use Rattle.htl_model.specs.Tables.{tables_of};
+ghost use Rattle.std.specs.Prelude.{◌≡◌, ◌≤◌, ◌++◌, ℕ, List, IfOk, OnOk, length, map};
+ghost use Rattle.htl_model.specs.Tables.{fun_of, tables_of};
 ghost use Rattle.htl_text.specs.Nodes.{tree_of};
-ghost use Rattle.htl_names.specs.Flat.{meaning, mode_items, module_items, task_items, port_items, invoke_items, tables_by};
+ghost use Rattle.htl_names.specs.Flat.{meaning, comm_items, mode_items, module_items, task_items, port_items, invoke_items, switch_items, function_items, tables_by};
 ghost use Rattle.htl_names.specs.Keys.{key_in};
 ghost use Rattle.htl_names.specs.Lists.{flat_map_at};
 ghost use Rattle.htl_names.specs.Narrow.{IsNarrow};
 
 use crate::Done;
-use crate::functions::outputs;
-use crate::invocations::invocations;
-use crate::items::{comms, modules};
+use crate::functions::put_outputs;
+use crate::invocations::put_invocations;
+use crate::items::{put_comms, put_modules};
 use crate::key::Scope;
 use crate::place::{ModeAt, ModuleAt};
-use crate::switches::switches;
+use crate::switches::put_switches;
 use crate::symbols::Symbols;
 use htl_base::{Name, Seq};
-use htl_model::{Inv, Mode, Module, Parts, Port, Task};
+use htl_model::{Comm, Function, Inv, Mode, Module, Parts, Port, Switch, Task};
 use htl_text::Tree;
 use std::alloc::{AllocError, Global};
 use std::marker::Model;
@@ -71,63 +71,56 @@ pub trait Listing<A, B> {
         ensures { OnOk result (into.new.items ≡ into.old.items ++ items_of self.now number owner) };
 }
 
-/// The whole list: the items of each owner in order.
-pub fn listed<A: Copy, B: Drop, L: Listing<A, B>>(
-    alloc: Global,
-    listing: &L,
-    owners: &[A],
-) -> Result<Vec<B>, AllocError>
+/// Puts the items of each owner behind others, in order.
+fn put_all<A: Copy, B, L: Listing<A, B>>(listing: &L, owners: &[A], into: &mut Vec<B>) -> Done
     requires { length owners.now ≤ 256 }
-    ensures { IfOk result (λ v. v.items ≡ flat_map_at (L.items_of listing.now) 0 owners.now) }
+    ensures { OnOk result (into.new.items ≡ into.old.items ++ flat_map_at (L.items_of listing.now) 0 owners.now) }
 {
-    let mut into = Vec::new(alloc);
     for k in 0..owners.len() {
-        listing.put(k, owners[k], &mut into)?;
+        listing.put(k, owners[k], into)?;
     }
-    Ok(into)
+    Ok(())
 }
 
 // ---- the tables
 
-/// The lists by module.
+/// The lists of the tables, as they are made.
 #[derive(Drop)]
-struct ByModule {
+struct Lists {
+    comms: Vec<Comm>,
     modes: Vec<Mode>,
     modules: Vec<Module>,
-    tasks: Vec<Task>,
-}
-
-fn by_module(source: &Source<'_>) -> Result<ByModule, AllocError>
-    ensures modes { IfOk result (λ v. v.modes.items ≡ mode_items source.now.layout.now (tree_of source.now.tree.now)) }
-    ensures modules { IfOk result (λ v. v.modules.items ≡ module_items source.now.layout.now (tree_of source.now.tree.now)) }
-    ensures tasks { IfOk result (λ v. v.tasks.items ≡ task_items source.now.layout.now (tree_of source.now.tree.now)) }
-{
-    let layout = source.layout;
-    let owners = layout.modules.as_slice();
-    Ok(ByModule {
-        modes: listed(source.alloc, source, owners)?,
-        modules: modules(source)?,
-        tasks: listed(source.alloc, source, owners)?,
-    })
-}
-
-/// The lists by mode.
-#[derive(Drop)]
-struct ByMode {
     ports: Vec<Port>,
+    tasks: Vec<Task>,
     invs: Vec<Inv>,
+    switches: Vec<Switch>,
+    functions: Vec<Function>,
 }
 
-fn by_mode(source: &Source<'_>) -> Result<ByMode, AllocError>
-    ensures ports { IfOk result (λ v. v.ports.items ≡ port_items source.now.layout.now (tree_of source.now.tree.now)) }
-    ensures invs { IfOk result (λ v. v.invs.items ≡ invoke_items source.now.layout.now (tree_of source.now.tree.now)) }
-{
-    let layout = source.layout;
-    let owners = layout.modes.as_slice();
-    Ok(ByMode {
-        ports: listed(source.alloc, source, owners)?,
-        invs: invocations(source)?,
-    })
+impl Lists {
+    /// Puts the items of a source behind others.
+    fn put_all(&mut self, source: &Source<'_>) -> Done
+        ensures comms { OnOk result (self.new.comms.items ≡ self.old.comms.items ++ comm_items (tree_of source.now.tree.now)) }
+        ensures modes { OnOk result (self.new.modes.items ≡ self.old.modes.items ++ mode_items source.now.layout.now (tree_of source.now.tree.now)) }
+        ensures modules { OnOk result (self.new.modules.items ≡ self.old.modules.items ++ module_items source.now.layout.now (tree_of source.now.tree.now)) }
+        ensures ports { OnOk result (self.new.ports.items ≡ self.old.ports.items ++ port_items source.now.layout.now (tree_of source.now.tree.now)) }
+        ensures tasks { OnOk result (self.new.tasks.items ≡ self.old.tasks.items ++ task_items source.now.layout.now (tree_of source.now.tree.now)) }
+        ensures invs { OnOk result (self.new.invs.items ≡ self.old.invs.items ++ invoke_items source.now.layout.now (tree_of source.now.tree.now)) }
+        ensures switches { OnOk result (self.new.switches.items ≡ self.old.switches.items ++ switch_items source.now.layout.now (tree_of source.now.tree.now)) }
+        ensures functions { OnOk result (map fun_of self.new.functions.items ≡ map fun_of self.old.functions.items ++ function_items source.now.layout.now (tree_of source.now.tree.now)) }
+    {
+        let layout = source.layout;
+        let modules = layout.modules.as_slice();
+        let modes = layout.modes.as_slice();
+        put_comms(source, &mut self.comms)?;
+        put_all(source, modules, &mut self.modes)?;
+        put_modules(source, &mut self.modules)?;
+        put_all(source, modes, &mut self.ports)?;
+        put_all(source, modules, &mut self.tasks)?;
+        put_invocations(source, &mut self.invs)?;
+        put_outputs(source, &mut self.functions)?;
+        put_switches(source, &mut self.switches, &mut self.functions)
+    }
 }
 
 /// The lists of the tables.
@@ -135,24 +128,29 @@ pub(crate) fn parts_of(alloc: Global, tree: &Tree, layout: &Layout) -> Result<Pa
     requires { IsNarrow layout.now (tree_of tree.now) }
     ensures { IfOk result (λ parts. tables_of parts ≡ tables_by layout.now (tree_of tree.now)) }
 {
-    let source = Source {
+    let mut lists = Lists {
+        comms: Vec::new(alloc),
+        modes: Vec::new(alloc),
+        modules: Vec::new(alloc),
+        ports: Vec::new(alloc),
+        tasks: Vec::new(alloc),
+        invs: Vec::new(alloc),
+        switches: Vec::new(alloc),
+        functions: Vec::new(alloc),
+    };
+    lists.put_all(&Source {
         alloc,
         tree,
         layout,
-    };
-    let comms = comms(&source)?;
-    let of_modules = by_module(&source)?;
-    let of_modes = by_mode(&source)?;
-    let outputs = outputs(&source)?;
-    let switches = switches(&source, outputs)?;
+    })?;
     Ok(Parts {
-        comms: Seq::new(comms),
-        modes: Seq::new(of_modules.modes),
-        modules: Seq::new(of_modules.modules),
-        ports: Seq::new(of_modes.ports),
-        tasks: Seq::new(of_modules.tasks),
-        invs: Seq::new(of_modes.invs),
-        switches: Seq::new(switches.items),
-        functions: Seq::new(switches.functions),
+        comms: Seq::new(lists.comms),
+        modes: Seq::new(lists.modes),
+        modules: Seq::new(lists.modules),
+        ports: Seq::new(lists.ports),
+        tasks: Seq::new(lists.tasks),
+        invs: Seq::new(lists.invs),
+        switches: Seq::new(lists.switches),
+        functions: Seq::new(lists.functions),
     })
 }

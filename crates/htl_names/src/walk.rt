@@ -7,7 +7,7 @@ ghost use Rattle.htl_names.specs.declared.key.Scope.{Scope as AScope};
 
 use crate::Done;
 use crate::key::{Scope, Space};
-use crate::rows::{Judged, Rows};
+use crate::rows::{Judged, ParentName, Rows};
 use htl_text::{
     CommNode, EndNode, InvokeNode, ModeNode, ModuleNode, OutNode, OutNodes, ParamNode, ProgramNode,
     SwitchNode, TaskNode, Tree,
@@ -88,7 +88,7 @@ impl Part for ModuleNode {
     fn add(&self, list: Scope, place: usize, into: &mut Rows) -> Done {
         let modes = Space::Modes.of(list.program, place, 0);
         into.declare(Space::Modules.of(0, 0, 0), place, &self.name)?;
-        into.mention(modes, &self.start)?;
+        into.mention(modes, None, &self.start)?;
         add_all(
             Space::Tasks.of(list.program, place, 0),
             0,
@@ -153,7 +153,7 @@ impl Part for ModeNode {
         into.declare(list, place, &self.name)?;
         into.judge(Judged::Span { n: self.period })?;
         if let Some(id) = &self.program {
-            into.mention(Space::Programs.of(0, 0, 0), id)?;
+            into.mention(Space::Programs.of(0, 0, 0), None, id)?;
         }
         add_all(
             Space::Ports.of(program, module, place),
@@ -183,12 +183,15 @@ impl Part for InvokeNode {
         } = list;
         let ports = Space::Ports.of(program, module, item);
         into.declare(list, place, &self.task)?;
-        into.mention(Space::Tasks.of(program, module, 0), &self.task)?;
+        into.mention(Space::Tasks.of(program, module, 0), None, &self.task)?;
         add_all(ports, 0, self.reads.as_slice(), into)?;
         add_all(ports, 0, self.writes.as_slice(), into)?;
         match self.parent {
             None => Ok(()),
-            Some(id) => into.refine(program, id),
+            Some(id) => {
+                into.parents.push(ParentName { program, id })?;
+                Ok(())
+            }
         }
     }
 }
@@ -199,10 +202,10 @@ impl Part for EndNode {
     fn add(&self, list: Scope, _place: usize, into: &mut Rows) -> Done {
         match self {
             EndNode::Comm { comm, instance } => {
-                into.mention(Space::Comms.of(0, 0, 0), comm)?;
+                into.mention(Space::Comms.of(0, 0, 0), None, comm)?;
                 into.judge(Judged::Instance { n: *instance })
             }
-            EndNode::Port { port } => into.mention(list, port),
+            EndNode::Port { port } => into.mention(list, None, port),
         }
     }
 }
@@ -213,6 +216,6 @@ impl Part for SwitchNode {
 
     fn add(&self, list: Scope, _place: usize, into: &mut Rows) -> Done {
         into.mention_all(Space::Comms.of(0, 0, 0), None, &self.cond)?;
-        into.mention(list, &self.target)
+        into.mention(list, None, &self.target)
     }
 }

@@ -13,12 +13,12 @@ use Rattle.htl_names.proofs.ResolveLaws.{resolved_by, no_tables}
 use Rattle.htl_names.proofs.SmallFunctions.{functions_small}
 use Rattle.htl_names.proofs.resolving.resolve.Goals as goal
 
-pub returns-in_err-rows : goal.returns-in_err-rows
-returns-in_err-rows c =
+pub returns-in_err-symbols : goal.returns-in_err-symbols
+returns-in_err-symbols c =
     let ps = tree_of c.args.tree.now in
-    let f = c.in_err-rows.field-0.0 in
+    let f = c.in_err-symbols.field-0.0 in
     record {
-      resolved = resolved_by ps c.from_residual.result f c.from_residual.ensures.1 c.in_err-rows.ensures;
+      resolved = resolved_by ps c.from_residual.result f c.from_residual.ensures.1 c.in_err-symbols.ensures;
       limits = no_tables KeepsLimits c.from_residual.result f c.from_residual.ensures.1;
       functions = no_tables AreSmall c.from_residual.result f c.from_residual.ensures.1;
     }
@@ -26,21 +26,21 @@ returns-in_err-rows c =
 pub parts_of-requires : goal.parts_of-requires
 parts_of-requires c =
     let ps = tree_of c.args.tree.now in
-    subst (λ l. IsNarrow l ps) (sym (layout_is ps c.in_ok-rows.field-0.symbols c.in_ok-layout.layout c.in_ok-rows.ensures.1 c.in_ok-layout.ensures))
-    (names-narrow ps c.requires.bounds c.in_ok-check.ensures)
+    subst (λ l. IsNarrow l ps) (sym (layout_is ps c.in_ok-symbols.symbols c.in_ok-layout.layout c.in_ok-symbols.ensures.0 c.in_ok-layout.ensures))
+    (names-narrow ps c.requires.bounds c.in_ok-symbols.ensures.1)
 
 pub new-requires : goal.new-requires
 new-requires c =
     let ps = tree_of c.args.tree.now in
-    subst AreInRange (sym (tables_are ps c.in_ok-rows.field-0.symbols c.in_ok-layout.layout (tables_of c.in_ok-parts.parts) c.in_ok-rows.ensures.1 c.in_ok-layout.ensures c.in_ok-parts.ensures))
-    (names-in-range ps c.requires.bounds c.in_ok-check.ensures)
+    subst AreInRange (sym (tables_are ps c.in_ok-symbols.symbols c.in_ok-layout.layout (tables_of c.in_ok-parts.parts) c.in_ok-symbols.ensures.0 c.in_ok-layout.ensures c.in_ok-parts.ensures))
+    (names-in-range ps c.requires.bounds c.in_ok-symbols.ensures.1)
 
 pub returns : goal.returns
 returns c =
     let ps = tree_of c.args.tree.now in
-    let right = c.in_ok-check.ensures in
+    let right = c.in_ok-symbols.ensures.1 in
     let same = c.new.ensures
-    ∙ tables_are ps c.in_ok-rows.field-0.symbols c.in_ok-layout.layout (tables_of c.in_ok-parts.parts) c.in_ok-rows.ensures.1 c.in_ok-layout.ensures c.in_ok-parts.ensures in
+    ∙ tables_are ps c.in_ok-symbols.symbols c.in_ok-layout.layout (tables_of c.in_ok-parts.parts) c.in_ok-symbols.ensures.0 c.in_ok-layout.ensures c.in_ok-parts.ensures in
     record {
       resolved = (right, same);
       limits = subst KeepsLimits (sym same) (names-keep-limits ps c.requires.bounds right);

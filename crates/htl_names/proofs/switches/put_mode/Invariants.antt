@@ -7,8 +7,8 @@ use Rattle.htl_names.proofs.switches.put_mode.Given as goal
 abbrev pub invariant-loop-k : goal.invariant-loop-k
 invariant-loop-k l =
     record {
-      items : l.into.items.items ++ map (switch_item l.source.layout.now (tree_of l.source.tree.now) l.mode l.fn.at) (map switch_of (drop l.k l.nodes))
-          ≡ l.initial.into.items.items ++ map (switch_item l.source.layout.now (tree_of l.source.tree.now) l.mode l.fn.at) (map switch_of l.nodes);
-      functions : map fun_of l.into.functions.items ++ map (switch_function l.source.layout.now) (map switch_of (drop l.k l.nodes))
-          ≡ map fun_of l.initial.into.functions.items ++ map (switch_function l.source.layout.now) (map switch_of l.nodes);
+      items : l.into.items ++ map (switch_item l.source.layout.now (tree_of l.source.tree.now) l.mode l.fn.at) (map switch_of (drop l.k l.nodes))
+          ≡ l.initial.into.items ++ map (switch_item l.source.layout.now (tree_of l.source.tree.now) l.mode l.fn.at) (map switch_of l.nodes);
+      functions : map fun_of l.functions.items ++ map (switch_function l.source.layout.now) (map switch_of (drop l.k l.nodes))
+          ≡ map fun_of l.initial.functions.items ++ map (switch_function l.source.layout.now) (map switch_of l.nodes);
     }

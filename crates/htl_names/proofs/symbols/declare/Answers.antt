@@ -1,4 +1,4 @@
-use Rattle.std.proofs.Common.{◌≡◌, ◌∙◌, length, refl, sym, arith, subst, add-one, ℕ}
+use Rattle.std.proofs.Common.{◌≡◌, ◌∙◌, length, refl, sym, arith, subst, add-one, ℕ, inr}
 use Rattle.std.proofs.lemmas.Option.{slice_get_read}
 use Rattle.htl_names.specs.Repeats.{AreApartTo}
 use Rattle.htl_names.proofs.RepeatLaws.{repeats_here, apart_here, all_apart, seen_more, all_seen}
@@ -11,7 +11,7 @@ returns-in-Some c =
     let e = c.index-entries-k.result in
     let here = slice_get_read es (length es) k e refl c.loop-k-test.true c.index-entries-k.is in
     let repeats = repeats_here es k e c.loop-k.symbols c.in-Some.field-0 c.loop-k.invariant.seen (sym c.in-Some.is ∙ c.in_ok-add.ensures.old) in
-    (k, e, here, repeats, refl, c.loop-k.invariant.apart)
+    inr (e.token, refl, (k, e, here, repeats, refl, c.loop-k.invariant.apart))
 
 pub loop-k-preserved : goal.loop-k-preserved
 loop-k-preserved c =

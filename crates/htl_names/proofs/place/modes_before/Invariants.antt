@@ -1,7 +1,0 @@
-use Rattle.std.proofs.Common.{◌≡◌}
-use Rattle.htl_text.specs.Nodes.{tree_of}
-use Rattle.htl_names.specs.Flat.{modes_before}
-use Rattle.htl_names.proofs.place.modes_before.Given as goal
-
-abbrev pub invariant-loop-k : goal.invariant-loop-k
-invariant-loop-k l = l.count ≡ modes_before l.source.layout.now (tree_of l.source.tree.now) l.k

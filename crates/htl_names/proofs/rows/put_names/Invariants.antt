@@ -1,8 +1,0 @@
-use Rattle.std.proofs.Common.{◌≡◌, ◌++◌, drop, map}
-use Rattle.htl_text.specs.Postfix.{names_in}
-use Rattle.htl_names.specs.Uses.{use_in}
-use Rattle.htl_names.proofs.rows.put_names.Given as goal
-
-abbrev pub invariant-loop-k : goal.invariant-loop-k
-invariant-loop-k l =
-    l.into.items ++ map (use_in l.scope l.below) (names_in (drop l.k l.nodes)) ≡ l.initial.into.items ++ map (use_in l.scope l.below) (names_in l.nodes)
