@@ -24,3 +24,4 @@ pub mod Nth
 pub mod Tallies
 pub mod Told
 pub mod Uses
+pub mod Laws

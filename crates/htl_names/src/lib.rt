@@ -20,7 +20,7 @@ mod tables;
 mod walk;
 
 pub use fault::NameFault;
-pub use laws::source_trees_meet_bounds;
+pub use laws::{one_name_fault, source_trees_meet_bounds};
 pub use resolving::resolve;
 use std::alloc::AllocError;
 
