@@ -8,22 +8,22 @@ use Rattle.htl_walk.specs.declared.job.Job.{Job}
 use Rattle.htl_walk.specs.Jobs.{precedes}
 use Rattle.htl_audit.specs.declared.slice.Slice.{Slice}
 use Rattle.htl_audit.specs.declared.slice.LogKind.TheVariants as kind
-use Rattle.htl_audit.specs.Jobs.{Round}
-use Rattle.htl_audit.specs.Legal.{lies_in, ticks, length_at, is_done, is_free, is_over, is_short, any_job, any_short, last_end, is_out_of_order, line_fault}
+use Rattle.htl_audit.specs.Jobs.{BeginningJobs}
+use Rattle.htl_audit.specs.Legal.{lies_in, ticks, job_length, is_done, is_free, is_over, is_short, any_job, any_short, last_end, slice_is_out_of_order, line_fault}
 use Rattle.htl_audit.specs.Agreeing.{Matches, Agree, AreEarly}
 use Rattle.htl_audit.proofs.JobTests.{same_truth, both, all_at_0, all_pass_0, job_found, job_there}
 use Rattle.htl_audit.proofs.Judging.{lies, rest}
 
 -- ticks depend on a round by its start alone
-lies_start : (r s : Round) (j : Job) (x : Slice) → r.start ≡ s.start → lies_in r j x ≡ lies_in s j x
+lies_start : (r s : BeginningJobs) (j : Job) (x : Slice) → r.start ≡ s.start → lies_in r j x ≡ lies_in s j x
 lies_start r s j x e = ap (λ n. j.present && eqb x.inv j.inv && leb (n + j.release) x.from && leb x.to (n + j.end)) e
 
-pub ticks_start : (r s : Round) (j : Job) (log : List Slice) → r.start ≡ s.start → ticks r j log ≡ ticks s j log
+pub ticks_start : (r s : BeginningJobs) (j : Job) (log : List Slice) → r.start ≡ s.start → ticks r j log ≡ ticks s j log
 ticks_start r s j [] e = refl
 ticks_start r s j (x ∷ xs) e = ap₂ (λ b n. cond b (x.to - x.from) 0 + n) (lies_start r s j x e) (ticks_start r s j xs e)
 
 -- a job that is released at `now` or later has no ticks before
-pub no_ticks : (now : ℕ) (r : Round) (j : Job) (log : List Slice) → AreEarly now log → now ≤ r.start + j.release → ticks r j log ≡ 0
+pub no_ticks : (now : ℕ) (r : BeginningJobs) (j : Job) (log : List Slice) → AreEarly now log → now ≤ r.start + j.release → ticks r j log ≡ 0
 no_ticks now r j [] early h = refl
 no_ticks now r j (x ∷ xs) early h =
     let rest : ticks r j xs ≡ 0 = no_ticks now r j xs (λ i y at. early (suc i) y at) h in
@@ -38,20 +38,20 @@ order a b = grind arith
 
 module _ (now : ℕ) (log : List Slice) (early : AreEarly now log) where
   -- whether a job's slices add up
-  pub done_alike : (r s : Round) (p : ℕ) (j : Job) → Matches now r s → slice_get r.jobs p ≡ Some j → j.present ≡ true → is_done r log (p, j) ≡ is_done s log (p, j)
+  pub done_alike : (r s : BeginningJobs) (p : ℕ) (j : Job) → Matches now r s → slice_get r.jobs p ≡ Some j → j.present ≡ true → is_done r log (p, j) ≡ is_done s log (p, j)
   done_alike r s p j m at here = elim (order (r.start + j.release) now) [
     | inl h ↦ ap₂ (λ a b. eqb a b) (ticks_start r s j log m.start) (m.lengths p j at here h)
     | inr h ↦
         let a : ticks r j log ≡ 0 = no_ticks now r j log early h in
         let b : ticks s j log ≡ 0 = sym (ticks_start r s j log m.start) ∙ a in
         let c = m.some p j at here in
-        ap (λ z. eqb z (length_at r p)) a ∙ zero_not (length_at r p) c.0 ∙ sym (ap (λ z. eqb z (length_at s p)) b ∙ zero_not (length_at s p) c.1)
+        ap (λ z. eqb z (job_length r p)) a ∙ zero_not (job_length r p) c.0 ∙ sym (ap (λ z. eqb z (job_length s p)) b ∙ zero_not (job_length s p) c.1)
   ]
     where
       zero_not : (n : ℕ) → 1 ≤ n → eqb 0 n ≡ false
       zero_not n h = grind (arith, nat_tests)
 
-  free_alike : (r s : Round) (j : Job) → Matches now r s → is_free r log j ≡ is_free s log j
+  free_alike : (r s : BeginningJobs) (j : Job) → Matches now r s → is_free r log j ≡ is_free s log j
   free_alike r s j m =
       subst (λ js. is_free r log j ≡ list_all (λ (k : ℕ × Job). not (precedes k.0 j && k.1.present) || is_done s log k) (numbered 0 js)) m.jobs
       (same_truth _ _
@@ -65,9 +65,9 @@ module _ (now : ℕ) (log : List Slice) (early : AreEarly now log) where
       to true false c d f e = refl
       to false b c d f e = refl
 
-  module _ (rounds later : List Round) (agree : Agree now rounds later) (x : Slice) (soon : x.from < now) where
-    any_same : (test other : Round → ℕ × Job → Bool) → ((r s : Round) (p : ℕ) (j : Job) → Matches now r s → slice_get r.jobs p ≡ Some j → test r (p, j) ≡ other s (p, j))
-        → ((s : Round) (p : ℕ) (j : Job) → other s (p, j) ≡ true → lies_in s j x ≡ true) → any_job test rounds ≡ any_job other later
+  module _ (rounds later : List BeginningJobs) (agree : Agree now rounds later) (x : Slice) (soon : x.from < now) where
+    any_same : (test other : BeginningJobs → ℕ × Job → Bool) → ((r s : BeginningJobs) (p : ℕ) (j : Job) → Matches now r s → slice_get r.jobs p ≡ Some j → test r (p, j) ≡ other s (p, j))
+        → ((s : BeginningJobs) (p : ℕ) (j : Job) → other s (p, j) ≡ true → lies_in s j x ≡ true) → any_job test rounds ≡ any_job other later
     any_same test other matched lying = same_truth _ _ there back
       where
         there : any_job test rounds ≡ true → any_job other later ≡ true
@@ -88,7 +88,7 @@ module _ (now : ℕ) (log : List Slice) (early : AreEarly now log) where
             ]
 
     -- a test of the jobs in whose windows the slice lies
-    with_test : (test other : Round → ℕ × Job → Bool) → ((r s : Round) (p : ℕ) (j : Job) → Matches now r s → slice_get r.jobs p ≡ Some j → lies_in r j x ≡ true → test r (p, j) ≡ other s (p, j))
+    with_test : (test other : BeginningJobs → ℕ × Job → Bool) → ((r s : BeginningJobs) (p : ℕ) (j : Job) → Matches now r s → slice_get r.jobs p ≡ Some j → lies_in r j x ≡ true → test r (p, j) ≡ other s (p, j))
         → any_job (λ r j. lies_in r j.1 x && test r j) rounds ≡ any_job (λ r j. lies_in r j.1 x && other r j) later
     with_test test other same =
         any_same (λ r j. lies_in r j.1 x && test r j) (λ r j. lies_in r j.1 x && other r j)
@@ -113,7 +113,7 @@ module _ (now : ℕ) (log : List Slice) (early : AreEarly now log) where
         (with_test (λ r j. not (is_free r log j.1)) (λ r j. not (is_free r log j.1)) (λ r s p j m at e. ap not (free_alike r s j m)))
 
   -- a line that ends by `now`, and before the instant at which it is judged, is judged alike, also at a later instant
-  pub fault_alike : (rounds later : List Round) (first then : ℕ) (x : Slice) → Agree now rounds later → first ≤ then → x.to ≤ now → x.to < first → line_fault rounds first log x ≡ line_fault later then log x
+  pub fault_alike : (rounds later : List BeginningJobs) (first then : ℕ) (x : Slice) → Agree now rounds later → first ≤ then → x.to ≤ now → x.to < first → line_fault rounds first log x ≡ line_fault later then log x
   fault_alike rounds later first then x agree h by_now soon = by (leb x.to x.from) refl
     where
       large : (a b : ℕ) → b < a → leb a b ≡ false
@@ -122,14 +122,14 @@ module _ (now : ℕ) (log : List Slice) (early : AreEarly now log) where
       less : (a b : ℕ) → leb a b ≡ false → b < a
       less a b e = grind (arith, nat_tests)
 
-      sorted : is_out_of_order first log x ≡ is_out_of_order then log x
+      sorted : slice_is_out_of_order first log x ≡ slice_is_out_of_order then log x
       sorted = ap (λ b. leb x.to x.from || ltb x.from (last_end log) || b) (large first x.to soon ∙ sym (large then x.to (omega (arith, h, soon))))
 
       by : (b : Bool) → leb x.to x.from ≡ b → line_fault rounds first log x ≡ line_fault later then log x
       by false e = ap₂ (λ p q. cond p (Some kind.Order) q) sorted (rest_alike rounds later agree x (omega (arith, less x.to x.from e, by_now)))
       by true e =
-          let a : is_out_of_order first log x ≡ true = ap (λ z. z || ltb x.from (last_end log) || leb first x.to) e in
-          let b : is_out_of_order then log x ≡ true = sym sorted ∙ a in
+          let a : slice_is_out_of_order first log x ≡ true = ap (λ z. z || ltb x.from (last_end log) || leb first x.to) e in
+          let b : slice_is_out_of_order then log x ≡ true = sym sorted ∙ a in
           let one : line_fault rounds first log x ≡ Some kind.Order =
           ap (λ z. cond z (Some kind.Order) (rest (any_job (λ r j. lies_in r j.1 x) rounds) (any_job (λ r j. lies_in r j.1 x && is_over r (log ++ x ∷ []) j) rounds) (any_job (λ r j. lies_in r j.1 x && not (is_free r log j.1)) rounds))) a in
           let two : line_fault later then log x ≡ Some kind.Order =
@@ -137,22 +137,22 @@ module _ (now : ℕ) (log : List Slice) (early : AreEarly now log) where
           one ∙ sym two
 
   -- and so is whether a job fell short whose window ended before
-  pub short_alike : (rounds later : List Round) → Agree now rounds later → any_short rounds now log ≡ any_short later now log
+  pub short_alike : (rounds later : List BeginningJobs) → Agree now rounds later → any_short rounds now log ≡ any_short later now log
   short_alike rounds later agree = same_truth _ _ there back
     where
       small : (a b : ℕ) → ltb a b ≡ true → a < b
       small a b e = grind (arith, nat_tests)
 
-      same : (r s : Round) (p : ℕ) (j : Job) → Matches now r s → slice_get r.jobs p ≡ Some j → is_short now r log (p, j) ≡ is_short now s log (p, j)
+      same : (r s : BeginningJobs) (p : ℕ) (j : Job) → Matches now r s → slice_get r.jobs p ≡ Some j → is_short now r log (p, j) ≡ is_short now s log (p, j)
       same r s p j m at = by (j.present) (ltb (r.start + j.end) now) refl refl
         where
           by : (a b : Bool) → j.present ≡ a → ltb (r.start + j.end) now ≡ b → is_short now r log (p, j) ≡ is_short now s log (p, j)
           by false b e f =
-              ap (λ z. z && ltb (r.start + j.end) now && ltb (ticks r j log) (length_at r p)) e
-              ∙ sym (ap (λ z. z && ltb (s.start + j.end) now && ltb (ticks s j log) (length_at s p)) e)
+              ap (λ z. z && ltb (r.start + j.end) now && ltb (ticks r j log) (job_length r p)) e
+              ∙ sym (ap (λ z. z && ltb (s.start + j.end) now && ltb (ticks s j log) (job_length s p)) e)
           by true false e f =
               let g : ltb (s.start + j.end) now ≡ false = ap (λ n. ltb (n + j.end) now) (sym m.start) ∙ f in
-              ap₂ (λ y z. y && z && ltb (ticks r j log) (length_at r p)) e f ∙ sym (ap₂ (λ y z. y && z && ltb (ticks s j log) (length_at s p)) e g)
+              ap₂ (λ y z. y && z && ltb (ticks r j log) (job_length r p)) e f ∙ sym (ap₂ (λ y z. y && z && ltb (ticks s j log) (job_length s p)) e g)
           by true true e f =
               ap₂ (λ n w. j.present && ltb (n + j.end) now && w) m.start
               (ap₂ (λ a b. ltb a b) (ticks_start r s j log m.start) (m.lengths p j at e (omega (arith, m.window p j at e, small (r.start + j.end) now f))))
@@ -172,7 +172,7 @@ module _ (now : ℕ) (log : List Slice) (early : AreEarly now log) where
                 let at : slice_get m.round.jobs f.position ≡ Some f.job = ap (λ js. slice_get js f.position) m.same.jobs ∙ f.is.job in
                 job_there (λ r j. is_short now r log j) rounds m.round f.position f.job (record { number = m.number; at = m.at; job = at }) (same m.round f.round f.position f.job m.same at ∙ f.passes)
             | inr h ↦
-                let two = both (f.job.present && ltb (f.round.start + f.job.end) now) (ltb (ticks f.round f.job log) (length_at f.round f.position)) f.passes in
+                let two = both (f.job.present && ltb (f.round.start + f.job.end) now) (ltb (ticks f.round f.job log) (job_length f.round f.position)) f.passes in
                 let one = both f.job.present (ltb (f.round.start + f.job.end) now) two.0 in
                 absurd (omega (arith, h, small (f.round.start + f.job.end) now one.1))
           ]

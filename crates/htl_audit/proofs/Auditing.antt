@@ -11,7 +11,7 @@ use Rattle.htl_machine.proofs.Events.{sense_sense, took_sense}
 use Rattle.htl_audit.specs.declared.auditor.AuditTotals.{AuditTotals}
 use Rattle.htl_audit.specs.declared.slice.Slice.{Slice}
 use Rattle.htl_audit.specs.declared.slice.LogFault.{LogFault}
-use Rattle.htl_audit.specs.Auditing.{Audit, Follows, IsAudited}
+use Rattle.htl_audit.specs.Auditing.{Audit, AuditFollows, IsAudited}
 use Rattle.htl_audit.specs.Jobs.{all_rounds}
 use Rattle.htl_audit.specs.Keeping.{Kept}
 use Rattle.htl_audit.specs.Legal.{first_fault, jobs_done}
@@ -53,10 +53,10 @@ module _ (t : Tables) (es : List Event) (end : ℕ) (log : List Slice) (k : Kept
 
 -- ---- a sensor
 
-pub sense_follows : (a : Audit) (es : List Event) (c : ℕ) (x : ℤ) (m : machines.Seen) → m ≡ record a.machine { held = shown_as c x a.machine.held } → machines.Follows m (es ++ V.Sense c x ∷ []) → Follows a es
-    → Follows (record a { machine = m }) (es ++ V.Sense c x ∷ [])
+pub sense_follows : (a : Audit) (es : List Event) (c : ℕ) (x : ℤ) (m : machines.Seen) → m ≡ record a.machine { held = shown_as c x a.machine.held } → machines.Follows m (es ++ V.Sense c x ∷ []) → AuditFollows a es
+    → AuditFollows (record a { machine = m }) (es ++ V.Sense c x ∷ [])
 sense_follows a es c x m is machine f =
-    subst (λ z. Follows (record a { machine = z }) fs) (sym is)
+    subst (λ z. AuditFollows (record a { machine = z }) fs) (sym is)
     (record {
       machine = subst (λ z. machines.Follows z fs) is machine;
       shown = f.shown;

@@ -18,8 +18,8 @@ use Rattle.htl_walk.specs.declared.job.Job.{Job}
 use Rattle.htl_walk.specs.Jobs.{precedes}
 use Rattle.htl_refine.specs.Records.{took, modes_at}
 use Rattle.htl_audit.specs.Growing.{HaveRounds}
-use Rattle.htl_audit.specs.Jobs.{Round, round_of, starts_before, all_rounds}
-use Rattle.htl_audit.specs.Keeping.{Kept, has_job, start_at, begins_round, begun}
+use Rattle.htl_audit.specs.Jobs.{BeginningJobs, round_of, starts_before, all_rounds}
+use Rattle.htl_audit.specs.Keeping.{Kept, has_job, start_at, begins_round, lengths_begun}
 use Rattle.htl_audit.specs.Rosters.{IsIn, IsCurrent, HasJob, AreKept, IsSized}
 use Rattle.htl_audit.proofs.Growing.{in_two, in_front, in_back, start_is, round_is}
 use Rattle.htl_audit.proofs.Renewing.{IsNew, IsStill, all_new, all_still, runs_is}
@@ -48,30 +48,30 @@ multiples p a b e g h =
     ]
 
 module _ (t : Tables) (range : AreInRange t) (kept : KeptApart t 16) (rounds : HaveRounds t) (es : List Event) (s : ℕ) (is : begins (root_periods t) s ≡ true) where
-  abbrev pub old : List Round
+  abbrev pub old : List BeginningJobs
   old = all_rounds t es s
 
-  abbrev pub new : Round
+  abbrev pub new : BeginningJobs
   new = round_of t es s
 
   pub grown : all_rounds t es (suc s) ≡ old ++ new ∷ []
   grown = ap (λ b. map (round_of t es) (starts_before t s ++ cond b (s ∷ []) [])) is ∙ map-append (round_of t es) (starts_before t s) (s ∷ [])
 
   -- a job of an earlier round: where a round of it begins, its window has ended
-  pub record IsPast (r : Round) (j : Job) : Type 0 where
+  pub record IsPast (r : BeginningJobs) (j : Job) : Type 0 where
     pub inv : Inv
     pub known : slice_get t.invs j.inv ≡ Some inv
     pub start : r.start < s
     pub ended : begins_round t s j.inv ≡ true → r.start + j.end ≤ s
 
-  pub old_past : (r : Round) (p : ℕ) (j : Job) → IsIn old r p j → IsPast r j
+  pub old_past : (r : BeginningJobs) (p : ℕ) (j : Job) → IsIn old r p j → IsPast r j
   old_past r p j i =
       let a = round_is t es s i.number r i.at in
       let b = start_is (root_periods t) s i.number a.0 a.1 in
-      let job : slice_get (round_of t es a.0).jobs p ≡ Some j = ap (λ (z : Round). slice_get z.jobs p) a.2 ∙ i.job in
+      let job : slice_get (round_of t es a.0).jobs p ≡ Some j = ap (λ (z : BeginningJobs). slice_get z.jobs p) a.2 ∙ i.job in
       let f = fresh t range kept rounds es a.0 p j job i.present in
       let q = mode_period t f.inv.mode in
-      let start : a.0 ≡ r.start = ap (λ (z : Round). z.start) a.2 in
+      let start : a.0 ≡ r.start = ap (λ (z : BeginningJobs). z.start) a.2 in
       record {
         inv = f.inv;
         known = f.known;
@@ -83,7 +83,7 @@ module _ (t : Tables) (range : AreInRange t) (kept : KeptApart t 16) (rounds : H
       }
 
   -- a job is of an earlier round, or of the new one
-  pub split : (r : Round) (p : ℕ) (j : Job) (i : IsIn (old ++ new ∷ []) r p j) → ((o : IsIn old r p j) × (o.number ≡ i.number)) ⊎ ((i.number ≡ length old) × (r ≡ new))
+  pub split : (r : BeginningJobs) (p : ℕ) (j : Job) (i : IsIn (old ++ new ∷ []) r p j) → ((o : IsIn old r p j) × (o.number ≡ i.number)) ⊎ ((i.number ≡ length old) × (r ≡ new))
   split r p j i = by (in_two old (new ∷ []) i.number r i.at)
     where
       last : (m : ℕ) → i.number ≡ length old + m → slice_get (new ∷ []) m ≡ Some r → (i.number ≡ length old) × (r ≡ new)
@@ -96,7 +96,7 @@ module _ (t : Tables) (range : AreInRange t) (kept : KeptApart t 16) (rounds : H
 
   module _ (takes : List ℕ) (takes_are : (i u : ℕ) → i < length t.invs → s ≤ u → took t es i u ≡ get_or takes i 0) (k : Kept) (sized : IsSized (length t.invs) k) where
     abbrev pub then : Kept
-    then = begun t (modes_at t es s) takes s k
+    then = lengths_begun t (modes_at t es s) takes s k
 
     pub is_new : (i : ℕ) → i < length t.invs → begins_round t s i ≡ true → IsNew t (modes_at t es s) takes s (length t.invs) i then
     is_new i h e = all_new t (modes_at t es s) takes s (length t.invs) (length t.invs) i k sized (omega arith) h e
@@ -118,18 +118,18 @@ module _ (t : Tables) (range : AreInRange t) (kept : KeptApart t 16) (rounds : H
         }
 
     -- a job of an earlier round isn't current where a round of it begins, and is what it was where none does
-    pub never_old : (r : Round) (p : ℕ) (j : Job) → IsIn old r p j → begins_round t s j.inv ≡ true → IsCurrent t then.roster r p j → ⊥
+    pub never_old : (r : BeginningJobs) (p : ℕ) (j : Job) → IsIn old r p j → begins_round t s j.inv ≡ true → IsCurrent t then.roster r p j → ⊥
     never_old r p j i e c =
         let a = old_past r p j i in
         let n = is_new j.inv (slice_get_within t.invs j.inv a.inv a.known) e in
         omega (arith, a.start, c.start, n.start)
 
-    pub was_current : (r : Round) (p : ℕ) (j : Job) → begins_round t s j.inv ≡ false → IsCurrent t then.roster r p j → IsCurrent t k.roster r p j
+    pub was_current : (r : BeginningJobs) (p : ℕ) (j : Job) → begins_round t s j.inv ≡ false → IsCurrent t then.roster r p j → IsCurrent t k.roster r p j
     was_current r p j e c =
         let n = is_still j.inv e in
         record { stands = sym n.stands ∙ c.stands; start = c.start ∙ n.start; release = c.release; end = c.end; length = c.length ∙ n.length }
 
-    still_current : (r : Round) (p : ℕ) (j : Job) → begins_round t s j.inv ≡ false → IsCurrent t k.roster r p j → IsCurrent t then.roster r p j
+    still_current : (r : BeginningJobs) (p : ℕ) (j : Job) → begins_round t s j.inv ≡ false → IsCurrent t k.roster r p j → IsCurrent t then.roster r p j
     still_current r p j e c =
         let n = is_still j.inv e in
         record { stands = n.stands ∙ c.stands; start = c.start ∙ sym n.start; release = c.release; end = c.end; length = c.length ∙ sym n.length }
@@ -142,13 +142,13 @@ module _ (t : Tables) (range : AreInRange t) (kept : KeptApart t 16) (rounds : H
         by false e = inr refl
 
     -- a current job of an earlier round, where none of it begins
-    pub old_current : (r : Round) (p : ℕ) (j : Job) → IsIn old r p j → IsCurrent t then.roster r p j → (begins_round t s j.inv ≡ false) × IsCurrent t k.roster r p j
+    pub old_current : (r : BeginningJobs) (p : ℕ) (j : Job) → IsIn old r p j → IsCurrent t then.roster r p j → (begins_round t s j.inv ≡ false) × IsCurrent t k.roster r p j
     old_current r p j o c = elim (begins_or_not j.inv) [ inl b ↦ absurd (never_old r p j o b c) | inr b ↦ (b, was_current r p j b c) ]
 
     both_ways : {P : Type 0} → (i : ℕ) → begins_round t s i ≡ true → begins_round t s i ≡ false → P
     both_ways i e g = absurd (let z : true ≡ false = sym e ∙ g in let y : ⊥ = cc in y)
 
-    in_all : (r : Round) (p : ℕ) (j : Job) → IsIn old r p j → IsIn (old ++ new ∷ []) r p j
+    in_all : (r : BeginningJobs) (p : ℕ) (j : Job) → IsIn old r p j → IsIn (old ++ new ∷ []) r p j
     in_all r p j i = record { number = i.number; at = in_front old (new ∷ []) i.number r i.at; job = i.job; present = i.present }
 
     pub kept_new : AreKept t old k.roster → length then.roster.stands ≡ length t.invs → AreKept t (old ++ new ∷ []) then.roster
@@ -183,16 +183,16 @@ module _ (t : Tables) (range : AreInRange t) (kept : KeptApart t 16) (rounds : H
               }
         ]
 
-        at_new : (r : Round) (p : ℕ) (j : Job) → r ≡ new → IsIn (old ++ new ∷ []) r p j → slice_get new.jobs p ≡ Some j
-        at_new r p j e i = ap (λ (z : Round). slice_get z.jobs p) (sym e) ∙ i.job
+        at_new : (r : BeginningJobs) (p : ℕ) (j : Job) → r ≡ new → IsIn (old ++ new ∷ []) r p j → slice_get new.jobs p ≡ Some j
+        at_new r p j e i = ap (λ (z : BeginningJobs). slice_get z.jobs p) (sym e) ∙ i.job
 
-        now : (r : Round) (p : ℕ) (j : Job) → r ≡ new → IsIn (old ++ new ∷ []) r p j → IsCurrent t then.roster r p j
+        now : (r : BeginningJobs) (p : ℕ) (j : Job) → r ≡ new → IsIn (old ++ new ∷ []) r p j → IsCurrent t then.roster r p j
         now r p j e i = subst (λ z. IsCurrent t then.roster z p j) (sym e) (current p j (at_new r p j e i) i.present)
 
-        new_begins : (r : Round) (p : ℕ) (j : Job) → r ≡ new → IsIn (old ++ new ∷ []) r p j → begins_round t s j.inv ≡ true
+        new_begins : (r : BeginningJobs) (p : ℕ) (j : Job) → r ≡ new → IsIn (old ++ new ∷ []) r p j → begins_round t s j.inv ≡ true
         new_begins r p j e i = fresh_begins t range kept rounds es s p j (fresh t range kept rounds es s p j (at_new r p j e i) i.present)
 
-        only : (r : Round) (p : ℕ) (j : Job) → IsIn (old ++ new ∷ []) r p j → IsCurrent t then.roster r p j ⊎ (r.start + j.end ≤ start_at then.roster j.inv)
+        only : (r : BeginningJobs) (p : ℕ) (j : Job) → IsIn (old ++ new ∷ []) r p j → IsCurrent t then.roster r p j ⊎ (r.start + j.end ≤ start_at then.roster j.inv)
         only r p j i = elim (split r p j i) [
           | inl o ↦ elim (begins_or_not j.inv) [
             | inl b ↦ (let a = old_past r p j o.0 in inr (omega (arith, a.ended b, (is_new j.inv (slice_get_within t.invs j.inv a.inv a.known) b).start)))
@@ -201,7 +201,7 @@ module _ (t : Tables) (range : AreInRange t) (kept : KeptApart t 16) (rounds : H
           | inr n ↦ inl (now r p j n.1 i)
         ]
 
-        together : (r : Round) (p q : ℕ) (j h : Job) → IsIn (old ++ new ∷ []) r p j → IsIn (old ++ new ∷ []) r q h → feeds t h.inv j.inv ≡ true → IsCurrent t then.roster r p j → IsCurrent t then.roster r q h
+        together : (r : BeginningJobs) (p q : ℕ) (j h : Job) → IsIn (old ++ new ∷ []) r p j → IsIn (old ++ new ∷ []) r q h → feeds t h.inv j.inv ≡ true → IsCurrent t then.roster r p j → IsCurrent t then.roster r q h
         together r p q j h i m fed c = elim (split r p j i) [
           | inl o ↦
               (let d = old_current r p j o.0 c in
@@ -210,13 +210,13 @@ module _ (t : Tables) (range : AreInRange t) (kept : KeptApart t 16) (rounds : H
           | inr n ↦ now r q h n.1 m
         ]
 
-        before : (r : Round) (p q : ℕ) (j h : Job) → IsIn (old ++ new ∷ []) r p j → IsIn (old ++ new ∷ []) r q h → precedes q j ≡ feeds t h.inv j.inv
+        before : (r : BeginningJobs) (p q : ℕ) (j h : Job) → IsIn (old ++ new ∷ []) r p j → IsIn (old ++ new ∷ []) r q h → precedes q j ≡ feeds t h.inv j.inv
         before r p q j h i m = elim (split r p j i) [
           | inl o ↦ was.before r p q j h o.0 (record { number = o.0.number; at = o.0.at; job = m.job; present = m.present })
           | inr n ↦ precedes_is t range kept rounds es s p q j h (at_new r p j n.1 i) (at_new r q h n.1 m) i.present m.present
         ]
 
-        mates : (r : Round) (p : ℕ) (j : Job) (i : ℕ) → IsIn (old ++ new ∷ []) r p j → IsCurrent t then.roster r p j → has_job then.roster i ≡ true → feeds t i j.inv ≡ true
+        mates : (r : BeginningJobs) (p : ℕ) (j : Job) (i : ℕ) → IsIn (old ++ new ∷ []) r p j → IsCurrent t then.roster r p j → has_job then.roster i ≡ true → feeds t i j.inv ≡ true
             → (q : ℕ) × (h : Job) × (h.inv ≡ i) × IsIn (old ++ new ∷ []) r q h
         mates r p j i m c stands fed = elim (split r p j m) [
           | inl o ↦
@@ -229,10 +229,10 @@ module _ (t : Tables) (range : AreInRange t) (kept : KeptApart t 16) (rounds : H
               (let g = fresh t range kept rounds es s p j (at_new r p j n.1 m) m.present in
               let b : begins_round t s i ≡ true = feeds_begin t s i j.inv g.inv fed g.known ∙ new_begins r p j n.1 m in
               let f = fresh_at i b stands in
-              (f.0, f.1, f.4, record { number = m.number; at = m.at; job = ap (λ (z : Round). slice_get z.jobs f.0) n.1 ∙ f.2; present = f.3 }))
+              (f.0, f.1, f.4, record { number = m.number; at = m.at; job = ap (λ (z : BeginningJobs). slice_get z.jobs f.0) n.1 ∙ f.2; present = f.3 }))
         ]
 
-        once : (r z : Round) (p q : ℕ) (j h : Job) (a : IsIn (old ++ new ∷ []) r p j) (b : IsIn (old ++ new ∷ []) z q h) → IsCurrent t then.roster r p j → IsCurrent t then.roster z q h → j.inv ≡ h.inv → (a.number ≡ b.number) × (p ≡ q)
+        once : (r z : BeginningJobs) (p q : ℕ) (j h : Job) (a : IsIn (old ++ new ∷ []) r p j) (b : IsIn (old ++ new ∷ []) z q h) → IsCurrent t then.roster r p j → IsCurrent t then.roster z q h → j.inv ≡ h.inv → (a.number ≡ b.number) × (p ≡ q)
         once r z p q j h a b c d same = elim (split r p j a) [
           | inl o ↦ elim (split z q h b) [
             | inl u ↦ (let g = was.once r z p q j h o.0 u.0 (old_current r p j o.0 c).1 (old_current z q h u.0 d).1 same in (sym o.1 ∙ g.0 ∙ u.1, g.1))

@@ -17,8 +17,8 @@ use Rattle.htl_audit.specs.declared.slice.Slice.{Slice}
 use Rattle.htl_audit.specs.declared.slice.LogFault.{LogFault}
 use Rattle.htl_audit.specs.Agreeing.{Agree, AreEarly}
 use Rattle.htl_audit.specs.Growing.{AgreeBefore, HaveRounds}
-use Rattle.htl_audit.specs.Jobs.{Round, round_of, all_rounds}
-use Rattle.htl_audit.specs.Keeping.{Kept, sum_at, begun}
+use Rattle.htl_audit.specs.Jobs.{BeginningJobs, round_of, all_rounds}
+use Rattle.htl_audit.specs.Keeping.{Kept, sum_at, lengths_begun}
 use Rattle.htl_audit.specs.Legal as rules
 use Rattle.htl_audit.specs.Legal.{ticks, line_fault, is_short, any_short, how_many, jobs_done}
 use Rattle.htl_audit.specs.Lines.{IsNext, IsLast, BeganBefore}
@@ -51,19 +51,19 @@ how_none f q (j ∷ js) h =
     let here : f (q, j) ≡ false = subst (λ z. f (z, j) ≡ false) (let z : q + 0 ≡ q = omega arith in z) (h 0 j refl) in
     ap₂ (λ b n. cond b 1 0 + n) here (how_none f (suc q) js (λ d i at. subst (λ z. f (z, i) ≡ false) (let z : q + suc d ≡ suc q + d = omega arith in z) (h (suc d) i at)))
 
-done_both : (xs ys : List Round) (log : List Slice) → jobs_done (xs ++ ys) log ≡ jobs_done xs log + jobs_done ys log
+done_both : (xs ys : List BeginningJobs) (log : List Slice) → jobs_done (xs ++ ys) log ≡ jobs_done xs log + jobs_done ys log
 done_both [] ys log = omega arith
 done_both (x ∷ xs) ys log = omega (arith, done_both xs ys log)
 
 module _ (t : Tables) (range : AreInRange t) (kept : KeptApart t 16) (rounds : HaveRounds t) (es : List Event) (within : AreTookWithin t es) (s : ℕ) (is : begins (root_periods t) s ≡ true) (log : List Slice) (k : Kept)
     (f : LogFollows t (all_rounds t es s) (suc s) log k) where
-  old : List Round
+  old : List BeginningJobs
   old = all_rounds t es s
 
-  new : Round
+  new : BeginningJobs
   new = round_of t es s
 
-  abbrev all : List Round
+  abbrev all : List BeginningJobs
   all = all_rounds t es s ++ round_of t es s ∷ []
 
   abbrev c : ℕ
@@ -86,7 +86,7 @@ module _ (t : Tables) (range : AreInRange t) (kept : KeptApart t 16) (rounds : H
       by n = (n.0, n.1, n.2, sym (fault_alike s (take c log) soon (all_rounds t es s) all (suc s) (suc s) n.0 agree (omega arith) (omega (arith, n.2)) n.2) ∙ n.3, n.4)
 
   -- a new job has no ticks yet, and takes some
-  idle : (p : ℕ) (j : Job) → slice_get (round_of t es s).jobs p ≡ Some j → j.present ≡ true → (ticks (round_of t es s) j (take c log) ≡ 0) × (1 ≤ rules.length_at (round_of t es s) p)
+  idle : (p : ℕ) (j : Job) → slice_get (round_of t es s).jobs p ≡ Some j → j.present ≡ true → (ticks (round_of t es s) j (take c log) ≡ 0) × (1 ≤ rules.job_length (round_of t es s) p)
   idle p j at here =
       let g = fresh t range kept rounds es s p j at here in
       (no_ticks s (round_of t es s) j (take c log) soon (omega arith), omega (arith, g.length_is, some_took t range es within j.inv (s + j.release) g.inv g.known))
@@ -97,12 +97,12 @@ module _ (t : Tables) (range : AreInRange t) (kept : KeptApart t 16) (rounds : H
       other : (a b : ℕ) → a ≡ 0 → 1 ≤ b → eqb a b ≡ false
       other a b e h = grind (arith, nat_tests)
 
-      none : (d : ℕ) (j : Job) → slice_get (round_of t es s).jobs d ≡ Some j → (b : Bool) → j.present ≡ b → (j.present && eqb (ticks (round_of t es s) j (take c log)) (rules.length_at (round_of t es s) (0 + d))) ≡ false
-      none d j at false e = ap (λ b. b && eqb (ticks (round_of t es s) j (take c log)) (rules.length_at (round_of t es s) (0 + d))) e
+      none : (d : ℕ) (j : Job) → slice_get (round_of t es s).jobs d ≡ Some j → (b : Bool) → j.present ≡ b → (j.present && eqb (ticks (round_of t es s) j (take c log)) (rules.job_length (round_of t es s) (0 + d))) ≡ false
+      none d j at false e = ap (λ b. b && eqb (ticks (round_of t es s) j (take c log)) (rules.job_length (round_of t es s) (0 + d))) e
       none d j at true e =
           let i = idle d j at e in
-          let len : 1 ≤ rules.length_at (round_of t es s) (0 + d) = subst (λ z. 1 ≤ rules.length_at (round_of t es s) z) (let z : d ≡ 0 + d = omega arith in z) i.1 in
-          ap₂ (λ a b. a && b) e (other (ticks (round_of t es s) j (take c log)) (rules.length_at (round_of t es s) (0 + d)) i.0 len)
+          let len : 1 ≤ rules.job_length (round_of t es s) (0 + d) = subst (λ z. 1 ≤ rules.job_length (round_of t es s) z) (let z : d ≡ 0 + d = omega arith in z) i.1 in
+          ap₂ (λ a b. a && b) e (other (ticks (round_of t es s) j (take c log)) (rules.job_length (round_of t es s) (0 + d)) i.0 len)
 
   short_new : any_short all (suc s) (take c log) ≡ any_short (all_rounds t es s) (suc s) (take c log)
   short_new = same_truth _ _ there back
@@ -113,16 +113,16 @@ module _ (t : Tables) (range : AreInRange t) (kept : KeptApart t 16) (rounds : H
       there : any_short all (suc s) (take c log) ≡ true → any_short (all_rounds t es s) (suc s) (take c log) ≡ true
       there e =
           let g = job_found (λ r j. is_short (suc s) r (take c log) j) all e in
-          let two = both (g.job.present && ltb (g.round.start + g.job.end) (suc s)) (ltb (ticks g.round g.job (take c log)) (rules.length_at g.round g.position)) g.passes in
+          let two = both (g.job.present && ltb (g.round.start + g.job.end) (suc s)) (ltb (ticks g.round g.job (take c log)) (rules.job_length g.round g.position)) g.passes in
           let one = both g.job.present (ltb (g.round.start + g.job.end) (suc s)) two.0 in
           let ended : g.round.start + g.job.end < suc s = less (g.round.start + g.job.end) (suc s) one.1 in
           let i : IsIn all g.round g.position g.job = record { number = g.is.number; at = g.is.at; job = g.is.job; present = one.0 } in
           elim (split t range kept rounds es s is g.round g.position g.job i) [
             | inl o ↦ job_there (λ r j. is_short (suc s) r (take c log) j) (all_rounds t es s) g.round g.position g.job (record { number = o.0.number; at = o.0.at; job = o.0.job }) g.passes
             | inr n ↦
-                (let at : slice_get (round_of t es s).jobs g.position ≡ Some g.job = ap (λ (z : Round). slice_get z.jobs g.position) (sym n.1) ∙ g.is.job in
+                (let at : slice_get (round_of t es s).jobs g.position ≡ Some g.job = ap (λ (z : BeginningJobs). slice_get z.jobs g.position) (sym n.1) ∙ g.is.job in
                 let w = fresh t range kept rounds es s g.position g.job at one.0 in
-                absurd (omega (arith, ended, w.room, ap (λ (z : Round). z.start) n.1)))
+                absurd (omega (arith, ended, w.room, ap (λ (z : BeginningJobs). z.start) n.1)))
           ]
 
       back : any_short (all_rounds t es s) (suc s) (take c log) ≡ true → any_short all (suc s) (take c log) ≡ true
@@ -149,7 +149,7 @@ module _ (t : Tables) (range : AreInRange t) (kept : KeptApart t 16) (rounds : H
 
   module _ (takes : List ℕ) (takes_are : (i u : ℕ) → i < length t.invs → s ≤ u → took t es i u ≡ get_or takes i 0) (sized : IsSized (length t.invs) k) where
     abbrev then : Kept
-    then = begun t (modes_at t es s) takes s k
+    then = lengths_begun t (modes_at t es s) takes s k
 
     rows : IsSized (length t.invs) then
     rows = renewed_sized t (modes_at t es s) takes s (length t.invs) (length t.invs) k sized
@@ -178,15 +178,15 @@ module _ (t : Tables) (range : AreInRange t) (kept : KeptApart t 16) (rounds : H
           done = same.done ∙ n.done ∙ sym done_new;
         }
       where
-        sums : (r : Round) (p : ℕ) (j : Job) → IsIn all r p j → IsCurrent t then.roster r p j → ticks r j (take c log) ≡ sum_at then.sums j.inv
+        sums : (r : BeginningJobs) (p : ℕ) (j : Job) → IsIn all r p j → IsCurrent t then.roster r p j → ticks r j (take c log) ≡ sum_at then.sums j.inv
         sums r p j i cur = elim (split t range kept rounds es s is r p j i) [
           | inl o ↦
               (let d = old_current t range kept rounds es s is takes takes_are k sized r p j o.0 cur in
               n.sums r p j o.0 d.1 ∙ sym (is_still t range kept rounds es s is takes takes_are k sized j.inv d.0).sum)
           | inr m ↦
-              (let at : slice_get (round_of t es s).jobs p ≡ Some j = ap (λ (z : Round). slice_get z.jobs p) (sym m.1) ∙ i.job in
+              (let at : slice_get (round_of t es s).jobs p ≡ Some j = ap (λ (z : BeginningJobs). slice_get z.jobs p) (sym m.1) ∙ i.job in
               let w = fresh t range kept rounds es s p j at i.present in
-              ap (λ (z : Round). ticks z j (take c log)) m.1 ∙ (idle p j at i.present).0
+              ap (λ (z : BeginningJobs). ticks z j (take c log)) m.1 ∙ (idle p j at i.present).0
               ∙ sym (is_new t range kept rounds es s is takes takes_are k sized j.inv (slice_get_within t.invs j.inv w.inv w.known) (fresh_begins t range kept rounds es s p j w)).sum)
         ]
 

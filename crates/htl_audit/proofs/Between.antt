@@ -36,7 +36,7 @@ use Rattle.htl_machine.specs.declared.numbering.ListAt.{ListAt}
 use Rattle.htl_machine.specs.Calls.{Seen, Follows, GoesBy, IsFinished, text_between}
 use Rattle.htl_machine.specs.Follows.{reading_of, DeskStands, DeskFollows, IsLoaded}
 use Rattle.htl_machine.specs.Lines.{all_records, e_done}
-use Rattle.htl_machine.specs.ListTurns.{Turn, left_before, finished_by}
+use Rattle.htl_machine.specs.ListTurns.{Turn, left_before, turn_finished_by}
 use Rattle.htl_machine.specs.Plans.{finished_before}
 use Rattle.htl_machine.specs.Programs.{schedules_of, before_of, lines_of}
 use Rattle.htl_machine.specs.RunLists.{turn_at}
@@ -106,7 +106,7 @@ module _ (t : Tables) (schedules : List (List SInstr)) (es fs : List Event) (sam
 
     finished_same : (n i : ℕ) → finished_before (turn_at t schedules es) n i ≡ finished_before (turn_at t schedules fs) n i
     finished_same zero i = refl
-    finished_same (suc n) i = ap (λ (u : Turn). finished_by u (left_before u (suc n)) i) (turns n)
+    finished_same (suc n) i = ap (λ (u : Turn). turn_finished_by u (left_before u (suc n)) i) (turns n)
 
     desk_same : (root : Option ℕ) (n : ℕ) (r : Round) → DeskFollows (turn_at t schedules es) root n r → DeskFollows (turn_at t schedules fs) root n r
     desk_same None n r f = f

@@ -6,11 +6,11 @@ use Rattle.htl_model.specs.Lists.{all_some, numbered}
 use Rattle.htl_walk.specs.declared.job.Job.{Job}
 use Rattle.htl_walk.specs.declared.schedule.SInstr.{SInstr}
 use Rattle.htl_walk.specs.declared.schedule.SInstr.TheVariants.{Dispatch, Idle, End}
-use Rattle.htl_walk.specs.Walk.{Point, Left, job_at, begins, time_after, slice_between, slice_of, slice_onto, position_of, next_point, left_by, walk_from, is_position, slices, finish}
+use Rattle.htl_walk.specs.Walk.{Point, Left, job_at, dispatch_begins, time_after, slice_between, slice_of, slice_onto, position_of, next_point, left_by, walk_from, is_position, slices, finish}
 use Rattle.htl_walk.proofs.Steps.{time_rises, left_falls}
 use Rattle.htl_refine.specs.Records.{shifted}
 use Rattle.htl_refine.specs.ServedJobs.{spent}
-use Rattle.htl_refine.specs.RecordCounts.{count_before, Rises}
+use Rattle.htl_refine.specs.RecordCounts.{count_left_before, Rises}
 use Rattle.htl_refine.proofs.DoneRecords.{done_some}
 use Rattle.htl_refine.proofs.RecordOrder.{walk_rises, not_some}
 use Rattle.htl_refine.proofs.SliceOrder.{slice_inside}
@@ -22,7 +22,7 @@ use Rattle.htl_audit.specs.Own.{own_slice}
 
 -- ---- slices have room
 
-room_after : (now w r until : ℕ) → begins now r until < until → begins now r until < time_after now (suc w) r until
+room_after : (now w r until : ℕ) → dispatch_begins now r until < until → dispatch_begins now r until < time_after now (suc w) r until
 room_after now w r until h = omega (arith, h)
 
 pub slice_room : (jobs : List Job) (i : SInstr) (x : Point) (u : ℕ × ℕ) → slice_of jobs i x (next_point jobs i x).time ≡ Some u → u.0 < u.1
@@ -30,16 +30,16 @@ slice_room jobs (Idle h) x u e = not_some u e
 slice_room jobs End x u e = not_some u e
 slice_room jobs (Dispatch p h) x u e = by_work (get_or x.left p 0) e
   where
-    by_work : (w : ℕ) → slice_between (begins x.time (job_at jobs p).release h) h w (time_after x.time w (job_at jobs p).release h) ≡ Some u → u.0 < u.1
+    by_work : (w : ℕ) → slice_between (dispatch_begins x.time (job_at jobs p).release h) h w (time_after x.time w (job_at jobs p).release h) ≡ Some u → u.0 < u.1
     by_work zero e = not_some u e
-    by_work (suc w) e = by_room (ltb (begins x.time (job_at jobs p).release h) h) refl e
+    by_work (suc w) e = by_room (ltb (dispatch_begins x.time (job_at jobs p).release h) h) refl e
       where
-        by_room : (b : Bool) → ltb (begins x.time (job_at jobs p).release h) h ≡ b
-            → ◌≡◌ {A = Option (ℕ × ℕ)} (elim b [ true ↦ Some (begins x.time (job_at jobs p).release h, time_after x.time (suc w) (job_at jobs p).release h) | false ↦ None ]) (Some u) → u.0 < u.1
+        by_room : (b : Bool) → ltb (dispatch_begins x.time (job_at jobs p).release h) h ≡ b
+            → ◌≡◌ {A = Option (ℕ × ℕ)} (elim b [ true ↦ Some (dispatch_begins x.time (job_at jobs p).release h, time_after x.time (suc w) (job_at jobs p).release h) | false ↦ None ]) (Some u) → u.0 < u.1
         by_room false is e = not_some u e
         by_room true is e =
-            let same : ◌≡◌ {A = ℕ × ℕ} (begins x.time (job_at jobs p).release h, time_after x.time (suc w) (job_at jobs p).release h) u = some_same _ _ e in
-            omega (arith, room_after x.time w (job_at jobs p).release h (ltb-true (begins x.time (job_at jobs p).release h) h is), ap (λ (z : ℕ × ℕ). z.0) same, ap (λ (z : ℕ × ℕ). z.1) same)
+            let same : ◌≡◌ {A = ℕ × ℕ} (dispatch_begins x.time (job_at jobs p).release h, time_after x.time (suc w) (job_at jobs p).release h) u = some_same _ _ e in
+            omega (arith, room_after x.time w (job_at jobs p).release h (ltb-true (dispatch_begins x.time (job_at jobs p).release h) h is), ap (λ (z : ℕ × ℕ). z.0) same, ap (λ (z : ℕ × ℕ). z.1) same)
 
 -- and are of a position with work
 slice_works : (jobs : List Job) (i : SInstr) (x : Point) (u : ℕ × ℕ) → slice_of jobs i x (next_point jobs i x).time ≡ Some u → (p : ℕ) × (position_of i ≡ Some p) × (0 < get_or x.left p 0)
@@ -47,7 +47,7 @@ slice_works jobs (Idle h) x u e = not_some u e
 slice_works jobs End x u e = not_some u e
 slice_works jobs (Dispatch p h) x u e = (p, refl, by_work (get_or x.left p 0) refl e)
   where
-    by_work : (w : ℕ) → get_or x.left p 0 ≡ w → slice_between (begins x.time (job_at jobs p).release h) h w (next_point jobs (Dispatch p h) x).time ≡ Some u → 0 < get_or x.left p 0
+    by_work : (w : ℕ) → get_or x.left p 0 ≡ w → slice_between (dispatch_begins x.time (job_at jobs p).release h) h w (next_point jobs (Dispatch p h) x).time ≡ Some u → 0 < get_or x.left p 0
     by_work zero is e = not_some u e
     by_work (suc w) is e = omega (arith, is)
 
@@ -215,14 +215,14 @@ none_given : (p s now a : ℕ) (ls : List Left) → Rises a ls → now ≤ s + a
 none_given p s now a [] r late = refl
 none_given p s now a (l ∷ ls) r late = omega (arith, ap (λ (b : Bool). cond b (gives p l) 0) (le-ltb (s + l.at) now (omega (arith, late, r.0))), none_given p s now l.at ls r.1 (omega (arith, late, r.0)))
 
-given_front : (p s d a : ℕ) (ls : List Left) → Rises a ls → given p s (s + d) ls ≡ spent (slices (take (count_before d ls) ls) p)
+given_front : (p s d a : ℕ) (ls : List Left) → Rises a ls → given p s (s + d) ls ≡ spent (slices (take (count_left_before d ls) ls) p)
 given_front p s d a [] r = refl
 given_front p s d a (l ∷ ls) r = by (ltb l.at d) refl (given_front p s d l.at ls r.1)
   where
-    by : (b : Bool) → ltb l.at d ≡ b → given p s (s + d) ls ≡ spent (slices (take (count_before d ls) ls) p)
-        → cond (ltb (s + l.at) (s + d)) (gives p l) 0 + given p s (s + d) ls ≡ spent (slices (take (cond b (suc (count_before d ls)) 0) (l ∷ ls)) p)
+    by : (b : Bool) → ltb l.at d ≡ b → given p s (s + d) ls ≡ spent (slices (take (count_left_before d ls) ls) p)
+        → cond (ltb (s + l.at) (s + d)) (gives p l) 0 + given p s (s + d) ls ≡ spent (slices (take (cond b (suc (count_left_before d ls)) 0) (l ∷ ls)) p)
     by true is next =
-        omega (arith, ap (λ (b : Bool). cond b (gives p l) 0) (lt-ltb (s + l.at) (s + d) (omega (arith, ltb-true l.at d is))), next, spent_more p l (take (count_before d ls) ls))
+        omega (arith, ap (λ (b : Bool). cond b (gives p l) 0) (lt-ltb (s + l.at) (s + d) (omega (arith, ltb-true l.at d is))), next, spent_more p l (take (count_left_before d ls) ls))
     by false is next =
         omega (arith, ap (λ (b : Bool). cond b (gives p l) 0) (le-ltb (s + l.at) (s + d) (omega (arith, ltb-false l.at d is))), none_given p s (s + d) l.at ls r.1 (omega (arith, ltb-false l.at d is)))
 
@@ -238,7 +238,7 @@ given_all jobs is x p s f now done before =
     let d = now - s in
     let from : s + (now - s) ≡ now = omega (arith, before) in
     let rises = walk_rises jobs is x in
-    let c = count_before (now - s) (walk_from jobs is x) in
+    let c = count_left_before (now - s) (walk_from jobs is x) in
     let by = done_some ls c p (done_exactly d x.time ls p f rises done (omega (arith, before))) in
     ap (λ (n : ℕ). given p s n ls) (sym from) ∙ given_front p s d x.time ls rises ∙ ap (λ (xs : List Left). spent (slices xs p)) (walk_take jobs is x c)
     ∙ spent_is jobs (take c is) x p by.0 (ap (λ (xs : List Left). finish xs p) (sym (walk_take jobs is x c)) ∙ by.1)

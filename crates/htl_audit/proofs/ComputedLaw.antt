@@ -16,7 +16,7 @@ use Rattle.htl_emach.specs.Contents.{Content, first_content, completed}
 use Rattle.htl_emach.proofs.Keeping.{first_shaped}
 use Rattle.htl_refine.specs.Records.{AreTookWithin}
 use Rattle.htl_machine.specs.Programs.{schedules_of}
-use Rattle.htl_machine.specs.Values.{Stands, Ready, ValuesFollow, HasPlaces, and_also}
+use Rattle.htl_machine.specs.Values.{InvStands, Ready, ValuesFollow, HasPlaces, and_also}
 use Rattle.htl_machine.specs.Worlds.{effects, all_reads, all_writes, with_sensors}
 use Rattle.htl_machine.proofs.Carrying.{follows_on, after_shape, holds_values}
 use Rattle.htl_machine.proofs.Finishing.{finish_follows, completed_shape}
@@ -25,7 +25,7 @@ use Rattle.htl_audit.specs.declared.slice.Slice.{Slice}
 use Rattle.htl_audit.specs.Computed.{ended, ending, is_finished, with_lines, Known, next_known, known, GivesTheMeaning, LegalLogGivesTheMeaning}
 use Rattle.htl_audit.specs.Growing.{HaveRounds}
 use Rattle.htl_audit.specs.Jobs.{round_of, all_rounds}
-use Rattle.htl_audit.specs.Legal.{lies_in, ticks, length_at, IsLegal}
+use Rattle.htl_audit.specs.Legal.{lies_in, ticks, job_length, IsLegal}
 use Rattle.htl_audit.proofs.FinishedByLog.{finished_is, finished_stands, alike, own_job, never, lies_own, has_read, all_ready, none_ready, all_carried}
 use Rattle.htl_audit.proofs.Judging.{lies, ticks_more}
 use Rattle.htl_audit.proofs.LegalLogs.{ended_next, ending_at, kept, one_ending, none_first}
@@ -49,12 +49,12 @@ module _ (t : Tables) (lists : List (List SInstr)) (range : AreInRange t) (kept1
     lines = ended (suc n) log
 
     -- where none does, nobody more is finished
-    none_more : ending (suc n) log ≡ [] → (i : ℕ) (x : Inv) (s : ℕ) → Stands t stays i x s → finished (suc n) (suc n) i ≡ finished (suc n) (suc (suc n)) i
+    none_more : ending (suc n) log ≡ [] → (i : ℕ) (x : Inv) (s : ℕ) → InvStands t stays i x s → finished (suc n) (suc n) i ≡ finished (suc n) (suc (suc n)) i
     none_more none i x s st =
         let r = round_of t es s in
         let j = own_job t range kept16 rounds es within end log legal n soon i s x st in
         let same : ticks r j.job (ended (suc (suc n)) log) ≡ ticks r j.job lines = omega (arith, ended_next r j.job (suc n) log, ap (ticks r j.job) none) in
-        finished_is t es stays i s x st j lines ∙ ap (λ k. eqb k (length_at r j.position)) (sym same) ∙ sym (finished_is t es stays i s x st j (ended (suc (suc n)) log))
+        finished_is t es stays i s x st j lines ∙ ap (λ k. eqb k (job_length r j.position)) (sym same) ∙ sym (finished_is t es stays i s x st j (ended (suc (suc n)) log))
 
     module _ (y : Slice) (one : ending (suc n) log ≡ y ∷ []) where
       line : (k : ℕ) × (slice_get log k ≡ Some y) × (y.to ≡ suc n)
@@ -63,7 +63,7 @@ module _ (t : Tables) (lists : List (List SInstr)) (range : AreInRange t) (kept1
       room : y.from < y.to
       room = (kept (all_rounds t es (suc end)) (suc end) log legal line.0 y line.1).room
 
-      module _ (i s : ℕ) (x : Inv) (st : Stands t stays i x s) where
+      module _ (i s : ℕ) (x : Inv) (st : InvStands t stays i x s) where
         abbrev job : HasJobFrom t es s i x
         job = own_job t range kept16 rounds es within end log legal n soon i s x st
 
@@ -75,7 +75,7 @@ module _ (t : Tables) (lists : List (List SInstr)) (range : AreInRange t) (kept1
 
         line_finishes : is_finished t es stays (lines ++ y ∷ []) i ≡ finished (suc n) (suc (suc n)) i
         line_finishes =
-            finished_is t es stays i s x st job (lines ++ y ∷ []) ∙ ap (λ k. eqb k (length_at (round_of t es s) job.position)) with_line
+            finished_is t es stays i s x st job (lines ++ y ∷ []) ∙ ap (λ k. eqb k (job_length (round_of t es s) job.position)) with_line
             ∙ sym (finished_is t es stays i s x st job (ended (suc (suc n)) log))
 
         -- another job has no more ticks
@@ -83,7 +83,7 @@ module _ (t : Tables) (lists : List (List SInstr)) (range : AreInRange t) (kept1
         others_stay other =
             let r = round_of t es s in
             let same : ticks r job.job (lines ++ y ∷ []) ≡ ticks r job.job lines = omega (arith, ticks_more r job.job lines y, ap (λ (b : Bool). cond b (y.to - y.from) 0) out) in
-            finished_is t es stays i s x st job lines ∙ ap (λ k. eqb k (length_at r job.position)) (sym same ∙ with_line) ∙ sym (finished_is t es stays i s x st job (ended (suc (suc n)) log))
+            finished_is t es stays i s x st job lines ∙ ap (λ k. eqb k (job_length r job.position)) (sym same ∙ with_line) ∙ sym (finished_is t es stays i s x st job (ended (suc (suc n)) log))
           where
             out : lies_in (round_of t es s) job.job y ≡ false
             out = by (lies_in (round_of t es s) job.job y) refl
@@ -100,13 +100,13 @@ module _ (t : Tables) (lists : List (List SInstr)) (range : AreInRange t) (kept1
             let most = never t range kept16 rounds es within end log legal n soon i s x st (suc (suc n)) in
             let more = ap (λ (b : Bool). cond b (y.to - y.from) 0) lie in
             finished_is t es stays i s x st job lines
-            ∙ ne_eqb (ticks r job.job lines) (length_at r job.position) (λ e. omega (arith, e, most, with_line, ticks_more r job.job lines y, more, room))
+            ∙ ne_eqb (ticks r job.job lines) (job_length r job.position) (λ e. omega (arith, e, most, with_line, ticks_more r job.job lines y, more, room))
 
       same_or : (a b : ℕ) → (a ≡ b) ⊎ (a ≡ b → ⊥)
       same_or a b = grind arith
 
       -- where it finishes nobody
-      nobody : is_finished t es stays (lines ++ y ∷ []) y.inv ≡ false → (i : ℕ) (x : Inv) (s : ℕ) → Stands t stays i x s → finished (suc n) (suc n) i ≡ finished (suc n) (suc (suc n)) i
+      nobody : is_finished t es stays (lines ++ y ∷ []) y.inv ≡ false → (i : ℕ) (x : Inv) (s : ℕ) → InvStands t stays i x s → finished (suc n) (suc n) i ≡ finished (suc n) (suc (suc n)) i
       nobody not i x s st = by (same_or y.inv i)
         where
           by : (y.inv ≡ i) ⊎ (y.inv ≡ i → ⊥) → finished (suc n) (suc n) i ≡ finished (suc n) (suc (suc n)) i
@@ -114,7 +114,7 @@ module _ (t : Tables) (lists : List (List SInstr)) (range : AreInRange t) (kept1
           by (inr other) = others_stay i s x st other
 
       -- where it finishes the job of its invocation
-      somebody : is_finished t es stays (lines ++ y ∷ []) y.inv ≡ true → (i : ℕ) (x : Inv) (s : ℕ) → Stands t stays i x s → and_also y.inv (finished (suc n) (suc n)) i ≡ finished (suc n) (suc (suc n)) i
+      somebody : is_finished t es stays (lines ++ y ∷ []) y.inv ≡ true → (i : ℕ) (x : Inv) (s : ℕ) → InvStands t stays i x s → and_also y.inv (finished (suc n) (suc n)) i ≡ finished (suc n) (suc (suc n)) i
       somebody done i x s st = by (eqb i y.inv) refl
         where
           by : (b : Bool) → eqb i y.inv ≡ b → (b || finished (suc n) (suc n) i) ≡ finished (suc n) (suc (suc n)) i

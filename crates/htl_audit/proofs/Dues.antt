@@ -6,7 +6,7 @@ use Rattle.htl_audit.specs.declared.slice.Slice.{Slice}
 use Rattle.htl_audit.specs.declared.slice.LogKind.{LogKind}
 use Rattle.htl_audit.specs.declared.slice.LogFault.{LogFault}
 use Rattle.htl_audit.specs.Auditing.{AreDue}
-use Rattle.htl_audit.specs.Keeping.{Kept, Roster, has_job, sum_at, length_at, start_at, end_at, release_at, ticks_of, kind_of, with_kind, judged, judged_to, fell_short, any_fell_short, settled, taken}
+use Rattle.htl_audit.specs.Keeping.{Kept, Roster, has_job, sum_at, length_at, start_at, end_at, release_at, ticks_of, kind_of, with_kind, judged, judged_to, fell_short, any_fell_short, settled, inv_takes}
 use Rattle.htl_audit.proofs.JobTests.{both, and_true}
 use Rattle.htl_audit.proofs.Passing.{judged_leaves}
 use Rattle.htl_audit.proofs.Settling.{short_found, short_there, stands_within}
@@ -106,22 +106,22 @@ next_more t now due new n o less here before i within e = elim (order i n within
 
 -- ---- a length
 
-pub taken_due : (t : Tables) (now i n due end : ℕ) (k : Kept) → i < length k.roster.lengths → end ≤ start_at k.roster i + end_at t i → AreDue t due k → AreDue t (min due end) (taken t now i n k)
+pub taken_due : (t : Tables) (now i n due end : ℕ) (k : Kept) → i < length k.roster.lengths → end ≤ start_at k.roster i + end_at t i → AreDue t due k → AreDue t (min due end) (inv_takes t now i n k)
 taken_due t now i n due end k room least d j e = by (eqb j i) refl
   where
     then : Kept
-    then = taken t now i n k
+    then = inv_takes t now i n k
 
-    start : start_at (taken t now i n k).roster j ≡ start_at k.roster j
+    start : start_at (inv_takes t now i n k).roster j ≡ start_at k.roster j
     start = ap (λ ns. get_or ns j 0) (taken_leaves t now i n k).starts
 
-    by : (b : Bool) → eqb j i ≡ b → (min due end ≤ start_at (taken t now i n k).roster j + end_at t j) ⊎ (sum_at (taken t now i n k).sums j < length_at (taken t now i n k).roster j → (taken t now i n k).short ≡ true)
+    by : (b : Bool) → eqb j i ≡ b → (min due end ≤ start_at (inv_takes t now i n k).roster j + end_at t j) ⊎ (sum_at (inv_takes t now i n k).sums j < length_at (inv_takes t now i n k).roster j → (inv_takes t now i n k).short ≡ true)
     by true is =
         let same : j ≡ i = eqb-true j i is in
         inl (omega (arith, least, start, ap (start_at k.roster) same, ap (end_at t) same))
     by false is =
         let l = taken_leaves t now i n k in
-        let len : length_at (taken t now i n k).roster j ≡ length_at k.roster j = taken_length t now i n j k room ∙ ap (λ b. cond (b && leb now (start_at k.roster i + release_at t i)) n (length_at k.roster j)) is in
+        let len : length_at (inv_takes t now i n k).roster j ≡ length_at k.roster j = taken_length t now i n j k room ∙ ap (λ b. cond (b && leb now (start_at k.roster i + release_at t i)) n (length_at k.roster j)) is in
         elim (d j (ap (λ bs. get_or bs j false) (sym l.stands) ∙ e)) [
           | inl later ↦ inl (omega (arith, later, start))
           | inr noted ↦ inr (λ less. l.short ∙ noted (omega (arith, less, len, ap (λ ns. sum_at ns j) l.sums)))

@@ -9,11 +9,11 @@ use Rattle.htl_audit.specs.declared.slice.Slice.{Slice}
 use Rattle.htl_audit.specs.declared.slice.LogKind.{LogKind}
 use Rattle.htl_audit.specs.declared.slice.LogKind.TheVariants as kind
 use Rattle.htl_audit.specs.declared.slice.LogFault.{LogFault}
-use Rattle.htl_audit.specs.Jobs.{Round, all_rounds}
+use Rattle.htl_audit.specs.Jobs.{BeginningJobs, all_rounds}
 use Rattle.htl_audit.specs.Legal.{line_fault, first_line_fault, first_fault_in, first_fault, end_fault, fault_at, any_short, IsLegalIn, IsLegal}
 use Rattle.htl_audit.specs.Faults.{IsFirstFaultIn, IsFirstFault}
 
-module _ (rounds : List Round) (now : ℕ) where
+module _ (rounds : List BeginningJobs) (now : ℕ) where
   -- a line of those behind the lines `log`, with the lines between
   join : (log : List Slice) (x : Slice) (xs : List Slice) (i : ℕ) (y : Slice) (o : Option LogKind) → line_fault rounds now (log ++ x ∷ [] ++ take i xs) y ≡ o → line_fault rounds now (log ++ (x ∷ take i xs)) y ≡ o
   join log x xs i y o e = ap (λ zs. line_fault rounds now zs y) (sym (append_assoc log (x ∷ []) (take i xs))) ∙ e

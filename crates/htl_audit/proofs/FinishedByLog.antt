@@ -15,15 +15,15 @@ use Rattle.htl_model.specs.Tables.{Tables, mode_module, mode_period, is_concrete
 use Rattle.htl_walk.specs.declared.job.Job.{Job}
 use Rattle.htl_emach.specs.Contents.{Content}
 use Rattle.htl_refine.specs.Records.{AreTookWithin}
-use Rattle.htl_machine.specs.Values.{Stands, IsDue, IsPast, HasRead, Ready, AreCarried, ValuesFollow}
+use Rattle.htl_machine.specs.Values.{InvStands, IsDue, IsPast, HasReadInputs, Ready, AreCarried, ValuesFollow}
 use Rattle.htl_machine.proofs.Casting.{reads_before_release, end_before_writes}
 use Rattle.htl_walk.proofs.Finishes.{some_same}
 use Rattle.htl_refine.proofs.Standing.{standing_at}
 use Rattle.htl_audit.specs.declared.slice.Slice.{Slice}
 use Rattle.htl_audit.specs.Computed.{ended, is_done_in, is_done_from, is_finished}
 use Rattle.htl_audit.specs.Growing.{HaveRounds}
-use Rattle.htl_audit.specs.Jobs.{Round, round_of, all_rounds}
-use Rattle.htl_audit.specs.Legal.{lies_in, ticks, length_at, is_done, IsLegal}
+use Rattle.htl_audit.specs.Jobs.{BeginningJobs, round_of, all_rounds}
+use Rattle.htl_audit.specs.Legal.{lies_in, ticks, job_length, is_done, IsLegal}
 use Rattle.htl_audit.proofs.JobTests.{same_truth, both, and_true, item_found, item_there, IsJobOf, job_found}
 use Rattle.htl_audit.proofs.Judging.{Lies, lies}
 use Rattle.htl_audit.proofs.LegalLogs.{ended_less, ended_front, ended_all, ended_some, kept, ordered, never_more, window_done, waited}
@@ -31,7 +31,7 @@ use Rattle.htl_audit.proofs.StandingJobs.{HasJobFrom, stands_job, stands_fed, sa
 
 -- ---- whoever stands is finished where the slices of his job add up
 
-module _ (t : Tables) (es : List Event) (stays : List (Option Stay)) (i s : ℕ) (x : Inv) (st : Stands t stays i x s) where
+module _ (t : Tables) (es : List Event) (stays : List (Option Stay)) (i s : ℕ) (x : Inv) (st : InvStands t stays i x s) where
   pub done_from : (lines : List Slice) → is_finished t es stays lines i ≡ is_done_in t es s lines i
   done_from lines =
       ap (λ (o : Option Inv). elim o as (λ _. Bool) [ Some y ↦ is_done_from t es lines i (meaning.round_start t stays y) | None ↦ false ]) st.known
@@ -42,10 +42,10 @@ module _ (t : Tables) (es : List Event) (stays : List (Option Stay)) (i s : ℕ)
     abbrev test : ℕ × Job → Bool
     test k = k.1.present && eqb k.1.inv i && is_done (round_of t es s) lines k
 
-    adds_up : is_done_in t es s lines i ≡ eqb (ticks (round_of t es s) j.job lines) (length_at (round_of t es s) j.position)
+    adds_up : is_done_in t es s lines i ≡ eqb (ticks (round_of t es s) j.job lines) (job_length (round_of t es s) j.position)
     adds_up = same_truth _ _ there back
       where
-        there : is_done_in t es s lines i ≡ true → eqb (ticks (round_of t es s) j.job lines) (length_at (round_of t es s) j.position) ≡ true
+        there : is_done_in t es s lines i ≡ true → eqb (ticks (round_of t es s) j.job lines) (job_length (round_of t es s) j.position) ≡ true
         there e =
             let f = item_found test 0 (round_of t es s).jobs e in
             let two = both (f.1.present && eqb f.1.inv i) (is_done (round_of t es s) lines (0 + f.0, f.1)) f.3 in
@@ -53,41 +53,41 @@ module _ (t : Tables) (es : List Event) (stays : List (Option Stay)) (i s : ℕ)
             let place : f.0 ≡ j.position = j.once f.0 f.1 f.2 one.0 (eqb-true f.1.inv i one.1) in
             let same : f.1 ≡ j.job = some_same _ _ (sym f.2 ∙ ap (slice_get (round_of t es s).jobs) place ∙ j.at) in
             let number : 0 + f.0 ≡ j.position = omega (arith, place) in
-            ap₂ (λ (k : Job) (p : ℕ). eqb (ticks (round_of t es s) k lines) (length_at (round_of t es s) p)) (sym same) (sym number) ∙ two.1
+            ap₂ (λ (k : Job) (p : ℕ). eqb (ticks (round_of t es s) k lines) (job_length (round_of t es s) p)) (sym same) (sym number) ∙ two.1
 
-        back : eqb (ticks (round_of t es s) j.job lines) (length_at (round_of t es s) j.position) ≡ true → is_done_in t es s lines i ≡ true
+        back : eqb (ticks (round_of t es s) j.job lines) (job_length (round_of t es s) j.position) ≡ true → is_done_in t es s lines i ≡ true
         back e =
             item_there test 0 (round_of t es s).jobs j.position j.job j.at
             (and_true (j.job.present && eqb j.job.inv i) (is_done (round_of t es s) lines (0 + j.position, j.job))
             (and_true j.job.present (eqb j.job.inv i) j.present (eq-eqb j.job.inv i j.inv))
-            (ap (λ (p : ℕ). eqb (ticks (round_of t es s) j.job lines) (length_at (round_of t es s) p)) (let z : 0 + j.position ≡ j.position = omega arith in z) ∙ e))
+            (ap (λ (p : ℕ). eqb (ticks (round_of t es s) j.job lines) (job_length (round_of t es s) p)) (let z : 0 + j.position ≡ j.position = omega arith in z) ∙ e))
 
-    pub finished_is : is_finished t es stays lines i ≡ eqb (ticks (round_of t es s) j.job lines) (length_at (round_of t es s) j.position)
+    pub finished_is : is_finished t es stays lines i ≡ eqb (ticks (round_of t es s) j.job lines) (job_length (round_of t es s) j.position)
     finished_is = done_from lines ∙ adds_up
 
 -- whoever is finished stands
-pub finished_stands : (t : Tables) (es : List Event) (stays : List (Option Stay)) (lines : List Slice) (i : ℕ) → is_finished t es stays lines i ≡ true → (x : Inv) × (s : ℕ) × Stands t stays i x s
+pub finished_stands : (t : Tables) (es : List Event) (stays : List (Option Stay)) (lines : List Slice) (i : ℕ) → is_finished t es stays lines i ≡ true → (x : Inv) × (s : ℕ) × InvStands t stays i x s
 finished_stands t es stays lines i e = by (slice_get t.invs i) refl e
   where
-    by_stay : (x : Inv) → slice_get t.invs i ≡ Some x → is_concrete t x ≡ true → (o : Option Stay) → stay_of stays (mode_module t x.mode) ≡ o → is_done_from t es lines i (in_round o x.mode) ≡ true → (x : Inv) × (s : ℕ) × Stands t stays i x s
+    by_stay : (x : Inv) → slice_get t.invs i ≡ Some x → is_concrete t x ≡ true → (o : Option Stay) → stay_of stays (mode_module t x.mode) ≡ o → is_done_from t es lines i (in_round o x.mode) ≡ true → (x : Inv) × (s : ℕ) × InvStands t stays i x s
     by_stay x at con None there f = absurd (let z : ⊥ = cc in z)
     by_stay x at con (Some y) there f = by_mode (eqb y.mode x.mode) refl f
       where
-        by_mode : (b : Bool) → eqb y.mode x.mode ≡ b → is_done_from t es lines i (cond b (Some y.start) None) ≡ true → (x : Inv) × (s : ℕ) × Stands t stays i x s
+        by_mode : (b : Bool) → eqb y.mode x.mode ≡ b → is_done_from t es lines i (cond b (Some y.start) None) ≡ true → (x : Inv) × (s : ℕ) × InvStands t stays i x s
         by_mode false g f = absurd (let z : ⊥ = cc in z)
         by_mode true g f =
             (x, y.start, record { known = at; concrete = con; in_round = there ∙ ap (λ (m : ℕ). Some (record { mode = m; start = y.start })) (eqb-true y.mode x.mode g) })
 
-    by_concrete : (x : Inv) → slice_get t.invs i ≡ Some x → (b : Bool) → is_concrete t x ≡ b → is_done_from t es lines i (cond b (in_round (stay_of stays (mode_module t x.mode)) x.mode) None) ≡ true → (x : Inv) × (s : ℕ) × Stands t stays i x s
+    by_concrete : (x : Inv) → slice_get t.invs i ≡ Some x → (b : Bool) → is_concrete t x ≡ b → is_done_from t es lines i (cond b (in_round (stay_of stays (mode_module t x.mode)) x.mode) None) ≡ true → (x : Inv) × (s : ℕ) × InvStands t stays i x s
     by_concrete x at false con f = absurd (let z : ⊥ = cc in z)
     by_concrete x at true con f = by_stay x at con (stay_of stays (mode_module t x.mode)) refl f
 
-    by : (o : Option Inv) → slice_get t.invs i ≡ o → elim o as (λ _. Bool) [ Some y ↦ is_done_from t es lines i (meaning.round_start t stays y) | None ↦ false ] ≡ true → (x : Inv) × (s : ℕ) × Stands t stays i x s
+    by : (o : Option Inv) → slice_get t.invs i ≡ o → elim o as (λ _. Bool) [ Some y ↦ is_done_from t es lines i (meaning.round_start t stays y) | None ↦ false ] ≡ true → (x : Inv) × (s : ℕ) × InvStands t stays i x s
     by None at f = absurd (let z : ⊥ = cc in z)
     by (Some x) at f = by_concrete x at (is_concrete t x) refl f
 
 -- what is finished counts for those that stand alone
-pub alike : (t : Tables) (es : List Event) (now : ℕ) (f g : ℕ → Bool) (w : Content) → ((i : ℕ) (x : Inv) (s : ℕ) → Stands t (before t es now).stays i x s → f i ≡ g i) → ValuesFollow t es now f w → ValuesFollow t es now g w
+pub alike : (t : Tables) (es : List Event) (now : ℕ) (f g : ℕ → Bool) (w : Content) → ((i : ℕ) (x : Inv) (s : ℕ) → InvStands t (before t es now).stays i x s → f i ≡ g i) → ValuesFollow t es now f w → ValuesFollow t es now g w
 alike t es now f g w same follows =
     record {
       values = follows.values;
@@ -98,7 +98,7 @@ alike t es now f g w same follows =
 -- ---- a legal log
 
 module _ (t : Tables) (range : AreInRange t) (kept16 : KeptApart t 16) (rounds : HaveRounds t) (es : List Event) (within : AreTookWithin t es) (end : ℕ) (log : List Slice) (legal : IsLegal t es end log) where
-  abbrev all : List Round
+  abbrev all : List BeginningJobs
   all = all_rounds t es (suc end)
 
   abbrev finished : ℕ → ℕ → ℕ → Bool
@@ -106,8 +106,8 @@ module _ (t : Tables) (range : AreInRange t) (kept16 : KeptApart t 16) (rounds :
 
   -- ---- the job of an invocation that stands at an instant
 
-  module _ (n : ℕ) (soon : n < end) (i s : ℕ) (x : Inv) (st : Stands t (state t es n).stays i x s) where
-    abbrev r : Round
+  module _ (n : ℕ) (soon : n < end) (i s : ℕ) (x : Inv) (st : InvStands t (state t es n).stays i x s) where
+    abbrev r : BeginningJobs
     r = round_of t es s
 
     pub own_job : HasJobFrom t es s i x
@@ -119,7 +119,7 @@ module _ (t : Tables) (range : AreInRange t) (kept16 : KeptApart t 16) (rounds :
     pub job_of : (p : ℕ) (k : Job) → slice_get (round_of t es s).jobs p ≡ Some k → IsJobOf all r p k
     job_of p k at = let m = own_job.known (suc end) (omega (arith, began, soon)) in record { number = m.0; at = m.1; job = at }
 
-    pub never : (m : ℕ) → ticks r own_job.job (ended m log) ≤ length_at r own_job.position
+    pub never : (m : ℕ) → ticks r own_job.job (ended m log) ≤ job_length r own_job.position
     never m = omega (arith, ended_less r own_job.job m log, never_more all (suc end) log legal r own_job.position own_job.job (job_of own_job.position own_job.job own_job.at))
 
     -- a line of the invocation that ends behind the instant is of this job
@@ -130,13 +130,13 @@ module _ (t : Tables) (range : AreInRange t) (kept16 : KeptApart t 16) (rounds :
         let l = lies f.round f.job y f.passes in
         let round : f.round ≡ r =
         same_start t range kept16 rounds es n i s x st (suc end) f.is.number f.round f.is.at (omega (arith, l.from, own.room, to)) f.position f.job f.is.job l.present (sym l.inv ∙ inv) (omega (arith, l.to, to)) in
-        let there : slice_get (round_of t es s).jobs f.position ≡ Some f.job = ap (λ (z : Round). slice_get z.jobs f.position) (sym round) ∙ f.is.job in
+        let there : slice_get (round_of t es s).jobs f.position ≡ Some f.job = ap (λ (z : BeginningJobs). slice_get z.jobs f.position) (sym round) ∙ f.is.job in
         let place = own_job.once f.position f.job there l.present (sym l.inv ∙ inv) in
         let same : f.job ≡ own_job.job = some_same _ _ (sym there ∙ ap (slice_get (round_of t es s).jobs) place ∙ own_job.at) in
-        ap₂ (λ (z : Round) (k : Job). lies_in z k y) (sym round) (sym same) ∙ f.passes
+        ap₂ (λ (z : BeginningJobs) (k : Job). lies_in z k y) (sym round) (sym same) ∙ f.passes
 
     -- who has a line has read all by its end, and what he reads from is finished
-    pub has_read : (k : ℕ) (y : Slice) → slice_get log k ≡ Some y → lies_in r own_job.job y ≡ true → y.to ≤ suc n → (m : ℕ) → y.from < m → HasRead t (suc n) (finished (suc n) m) x s
+    pub has_read : (k : ℕ) (y : Slice) → slice_get log k ≡ Some y → lies_in r own_job.job y ≡ true → y.to ≤ suc n → (m : ℕ) → y.from < m → HasReadInputs t (suc n) (finished (suc n) m) x s
     has_read k y at lie to m from = record { comms = λ q e read. by_end q e read; ports = λ q a w o read writes. by_port q a w o read writes }
       where
         l : Lies (round_of t es s) own_job.job y
@@ -157,8 +157,8 @@ module _ (t : Tables) (range : AreInRange t) (kept16 : KeptApart t 16) (rounds :
             let all_there = waited all (suc end) log legal r own_job.position own_job.job (job_of own_job.position own_job.job own_job.at) k y at lie other.position other.job other.at before other.present in
             let front = ended_front r other.job m k log (λ d z less there. omega (arith, (ordered all (suc end) log legal d k z y less there at).0, from)) in
             let most = never_more all (suc end) log legal r other.position other.job (job_of other.position other.job other.at) in
-            let whole : ticks r other.job (ended m log) ≡ length_at r other.position = omega (arith, all_there, front, ended_less r other.job m log, most) in
-            finished_is t es (state t es n).stays w s fed.writer fed.stands other (ended m log) ∙ eq-eqb (ticks r other.job (ended m log)) (length_at r other.position) whole
+            let whole : ticks r other.job (ended m log) ≡ job_length r other.position = omega (arith, all_there, front, ended_less r other.job m log, most) in
+            finished_is t es (state t es n).stays w s fed.writer fed.stands other (ended m log) ∙ eq-eqb (ticks r other.job (ended m log)) (job_length r other.position) whole
 
   -- ---- what is owed at an instant
 
@@ -178,13 +178,13 @@ module _ (t : Tables) (range : AreInRange t) (kept16 : KeptApart t 16) (rounds :
           let done = window_done all (suc end) log legal r j.position j.job (job_of n soon i due.start due.inv due.stands j.position j.job j.at) j.present (omega (arith, early, soon)) in
           let whole = ended_all r j.job (suc (suc n)) log (λ d y at lie. omega (arith, (lies r j.job y lie).to, early)) in
           finished_is t es (state t es n).stays i due.start due.inv due.stands j (ended (suc (suc n)) log)
-          ∙ eq-eqb (ticks r j.job (ended (suc (suc n)) log)) (length_at r j.position) (whole ∙ done)
+          ∙ eq-eqb (ticks r j.job (ended (suc (suc n)) log)) (job_length r j.position) (whole ∙ done)
 
-      after_reads : (i : ℕ) (x : Inv) (s : ℕ) → Stands t (state t es n).stays i x s → finished (suc n) (suc (suc n)) i ≡ true → HasRead t (suc n) (finished (suc n) (suc (suc n))) x s
+      after_reads : (i : ℕ) (x : Inv) (s : ℕ) → InvStands t (state t es n).stays i x s → finished (suc n) (suc (suc n)) i ≡ true → HasReadInputs t (suc n) (finished (suc n) (suc (suc n))) x s
       after_reads i x s st fin =
           let r = round_of t es s in
           let j = own_job n soon i s x st in
-          let whole = eqb-true (ticks r j.job (ended (suc (suc n)) log)) (length_at r j.position) (sym (finished_is t es (state t es n).stays i s x st j (ended (suc (suc n)) log)) ∙ fin) in
+          let whole = eqb-true (ticks r j.job (ended (suc (suc n)) log)) (job_length r j.position) (sym (finished_is t es (state t es n).stays i s x st j (ended (suc (suc n)) log)) ∙ fin) in
           let f = ended_some r j.job (suc (suc n)) log (omega (arith, whole, j.some)) in
           let room = (kept all (suc end) log legal f.0 f.1 f.2).room in
           has_read n soon i s x st f.0 f.1 f.2 f.4 (omega (arith, f.3)) (suc (suc n)) (omega (arith, f.3, room))
@@ -204,12 +204,12 @@ module _ (t : Tables) (range : AreInRange t) (kept16 : KeptApart t 16) (rounds :
         fresh = fresh;
       }
     where
-      fresh : (i : ℕ) (x : Inv) → Stands t (state t es now).stays i x now → finished (suc now) (suc now) i ≡ false
+      fresh : (i : ℕ) (x : Inv) → InvStands t (state t es now).stays i x now → finished (suc now) (suc now) i ≡ false
       fresh i x st =
           let r = round_of t es now in
           let j = stands_job t range kept16 rounds es now i now x st within in
           finished_is t es (state t es now).stays i now x st j (ended (suc now) log)
-          ∙ ne_eqb (ticks r j.job (ended (suc now) log)) (length_at r j.position)
+          ∙ ne_eqb (ticks r j.job (ended (suc now) log)) (job_length r j.position)
           (λ e.
           let f = ended_some r j.job (suc now) log (omega (arith, e, j.some)) in
           absurd (omega (arith, (lies r j.job f.1 f.4).from, (kept all (suc end) log legal f.0 f.1 f.2).room, f.3)))

@@ -42,13 +42,13 @@ use Rattle.htl_machine.specs.Casts.{IsCast}
 use Rattle.htl_machine.specs.FramePlacing.{frame_start, begun_by}
 use Rattle.htl_machine.specs.FramesGoOn.{AreFrames}
 use Rattle.htl_machine.specs.RunFrames.{now_of}
-use Rattle.htl_machine.specs.Values.{Stands}
+use Rattle.htl_machine.specs.Values.{InvStands}
 use Rattle.htl_machine.proofs.FramePlaced.{entry_is, there_front}
 use Rattle.htl_machine.proofs.RunFrames.{feasible_runs}
 use Rattle.htl_walk.proofs.Finishes.{some_same}
 use Rattle.htl_audit.specs.Growing.{HaveRounds}
 use Rattle.htl_audit.specs.Jobs.{round_of}
-use Rattle.htl_audit.specs.Legal.{length_at}
+use Rattle.htl_audit.specs.Legal.{job_length}
 use Rattle.htl_audit.proofs.Beginning.{multiples}
 use Rattle.htl_audit.proofs.FrameSlices.{frame_plan}
 use Rattle.htl_audit.proofs.Growing.{start_is, length_is}
@@ -148,11 +148,11 @@ module _ (t : Tables) (lists : List (List SInstr)) (es : List Event) (rounds_fit
     pub inv : k.inv ≡ j.inv
     pub release_is : f + k.release ≡ s + j.release
     pub end_is : f + k.end ≡ s + j.end
-    pub length : get_or (lengths_of t es f (frame_jobs t (frame_modes t es f))) q 0 ≡ length_at (round_of t es s) p
+    pub length : get_or (lengths_of t es f (frame_jobs t (frame_modes t es f))) q 0 ≡ job_length (round_of t es s) p
     pub early : s ≤ f + k.release
 
   same_length : (f q : ℕ) (k : Job) (s p : ℕ) (j : Job) → slice_get (frame_jobs t (frame_modes t es f)) q ≡ Some k → slice_get (round_of t es s).jobs p ≡ Some j → k.inv ≡ j.inv → f + k.release ≡ s + j.release
-      → get_or (lengths_of t es f (frame_jobs t (frame_modes t es f))) q 0 ≡ length_at (round_of t es s) p
+      → get_or (lengths_of t es f (frame_jobs t (frame_modes t es f))) q 0 ≡ job_length (round_of t es s) p
   same_length f q k s p j a b inv from =
       length_is t es f q (frame_jobs t (frame_modes t es f)) k a ∙ ap₂ (took t es) inv from ∙ sym (length_is t es s p (round_of t es s).jobs j b)
 
@@ -169,7 +169,7 @@ module _ (t : Tables) (lists : List (List SInstr)) (es : List Event) (rounds_fit
       let per = mode_period t x.inv.mode in
       let last : per * (s / per) ≡ s = omega (arith, div-add-mod s per, x.whole) in
       let began : y.0.start ≡ s = own_starts t run.range (first_rules t run.kept) es s mm y.0 y.1 ∙ ap (λ m. mode_period t m * (s / mode_period t m)) y.2 ∙ last in
-      let st : Stands t (state t es s).stays j.inv x.inv s =
+      let st : InvStands t (state t es s).stays j.inv x.inv s =
       record {
         known = x.known;
         concrete = x.concrete;

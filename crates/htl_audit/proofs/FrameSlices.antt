@@ -10,7 +10,7 @@ use Rattle.htl_model.proofs.Locality.{up_to_same}
 use Rattle.htl_walk.specs.declared.job.Job.{Job}
 use Rattle.htl_walk.specs.declared.schedule.SInstr.{SInstr}
 use Rattle.htl_walk.specs.declared.schedule.SInstr.TheVariants.{Dispatch, Idle, End}
-use Rattle.htl_walk.specs.Paths.{Leg, begun, walks_from, end_to_end, AreInForm, AreChained}
+use Rattle.htl_walk.specs.Paths.{Leg, list_point, walks_from, end_to_end, AreInForm, AreChained}
 use Rattle.htl_walk.specs.Walk.{Point, Left, next_point, walk_from, last_point, first_point, slice_of}
 use Rattle.htl_walk.proofs.Joining as joining
 use Rattle.htl_walk.proofs.Joining.{body, begun_idle, stays}
@@ -70,7 +70,7 @@ module _ (jobs : List Job) (f now : ℕ) where
   closed_joined [] (g ∷ gs) a h n x form chain early = absurd form
   closed_joined (s ∷ ss) [] a h n x form chain early = absurd form
   closed_joined (s ∷ ss) (g ∷ gs) a h n x form chain early =
-      let y = begun g.from x in
+      let y = list_point g.from x in
       let e : next_point jobs (Idle g.from) x ≡ y = begun_idle jobs g.from x (omega (arith, chain.0, early)) in
       let t : (last_point jobs s y).time ≤ g.to = stays jobs g.known g.to s y form.0 chain.1 in
       let rest = closed_joined ss gs g.to h n (last_point jobs s y) form.1 chain.3 t in
@@ -87,22 +87,22 @@ module _ (jobs : List Job) (f now : ℕ) where
       → joined (λ r. all_some (own_slice jobs) (left_in now f r)) (filter (begun_before now) (lists_from number f j ss gs (walks_from jobs ss gs x))) ≡ closed jobs f now (end_to_end (walks_from jobs ss gs x))
   slices_of_lists number j [] gs x = refl
   slices_of_lists number j (s ∷ ss) [] x = refl
-  slices_of_lists number j (s ∷ ss) (g ∷ gs) x = by (ltb (f + g.from) now) refl (slices_of_lists number (suc j) ss gs (last_point jobs s (begun g.from x)))
+  slices_of_lists number j (s ∷ ss) (g ∷ gs) x = by (ltb (f + g.from) now) refl (slices_of_lists number (suc j) ss gs (last_point jobs s (list_point g.from x)))
     where
       here : RunningList
-      here = record { from = f + g.from; node = number j; code = s; walk = walk_from jobs s (begun g.from x) }
+      here = record { from = f + g.from; node = number j; code = s; walk = walk_from jobs s (list_point g.from x) }
 
       by : (b : Bool) → ltb (f + g.from) now ≡ b
-          → joined (λ r. all_some (own_slice jobs) (left_in now f r)) (filter (begun_before now) (lists_from number f (suc j) ss gs (walks_from jobs ss gs (last_point jobs s (begun g.from x))))) ≡ closed jobs f now (end_to_end (walks_from jobs ss gs (last_point jobs s (begun g.from x))))
-          → joined (λ r. all_some (own_slice jobs) (left_in now f r)) (cond b (record { from = f + g.from; node = number j; code = s; walk = walk_from jobs s (begun g.from x) } ∷ filter (begun_before now) (lists_from number f (suc j) ss gs (walks_from jobs ss gs (last_point jobs s (begun g.from x))))) (filter (begun_before now) (lists_from number f (suc j) ss gs (walks_from jobs ss gs (last_point jobs s (begun g.from x))))))
-          ≡ closed jobs f now (walk_from jobs s (begun g.from x) ++ end_to_end (walks_from jobs ss gs (last_point jobs s (begun g.from x))))
+          → joined (λ r. all_some (own_slice jobs) (left_in now f r)) (filter (begun_before now) (lists_from number f (suc j) ss gs (walks_from jobs ss gs (last_point jobs s (list_point g.from x))))) ≡ closed jobs f now (end_to_end (walks_from jobs ss gs (last_point jobs s (list_point g.from x))))
+          → joined (λ r. all_some (own_slice jobs) (left_in now f r)) (cond b (record { from = f + g.from; node = number j; code = s; walk = walk_from jobs s (list_point g.from x) } ∷ filter (begun_before now) (lists_from number f (suc j) ss gs (walks_from jobs ss gs (last_point jobs s (list_point g.from x))))) (filter (begun_before now) (lists_from number f (suc j) ss gs (walks_from jobs ss gs (last_point jobs s (list_point g.from x))))))
+          ≡ closed jobs f now (walk_from jobs s (list_point g.from x) ++ end_to_end (walks_from jobs ss gs (last_point jobs s (list_point g.from x))))
       by true e rest =
-          ap₂ (λ (xs ys : List Slice). xs ++ ys) (closed_is jobs f now 0 (walk_from jobs s (begun g.from x))) rest
-          ∙ sym (closed_both (walk_from jobs s (begun g.from x)) (end_to_end (walks_from jobs ss gs (last_point jobs s (begun g.from x)))))
+          ap₂ (λ (xs ys : List Slice). xs ++ ys) (closed_is jobs f now 0 (walk_from jobs s (list_point g.from x))) rest
+          ∙ sym (closed_both (walk_from jobs s (list_point g.from x)) (end_to_end (walks_from jobs ss gs (last_point jobs s (list_point g.from x)))))
       by false e rest =
           rest
-          ∙ ap (λ (xs : List Slice). xs ++ closed jobs f now (end_to_end (walks_from jobs ss gs (last_point jobs s (begun g.from x))))) (sym (none_closed jobs f now s (begun g.from x) (ltb-false (f + g.from) now e)))
-          ∙ sym (closed_both (walk_from jobs s (begun g.from x)) (end_to_end (walks_from jobs ss gs (last_point jobs s (begun g.from x)))))
+          ∙ ap (λ (xs : List Slice). xs ++ closed jobs f now (end_to_end (walks_from jobs ss gs (last_point jobs s (list_point g.from x))))) (sym (none_closed jobs f now s (list_point g.from x) (ltb-false (f + g.from) now e)))
+          ∙ sym (closed_both (walk_from jobs s (list_point g.from x)) (end_to_end (walks_from jobs ss gs (last_point jobs s (list_point g.from x)))))
 
 -- nothing is left at an instant of records that are all left before
 pub none_past : (jobs : List Job) (f now : ℕ) (ls : List Left) → ((i : ℕ) (l : Left) → slice_get ls i ≡ Some l → f + l.at < now) → closed jobs f now ls ≡ []

@@ -21,9 +21,9 @@ use Rattle.htl_machine.specs.Calls.{text_between}
 use Rattle.htl_machine.specs.Programs.{lines_of}
 use Rattle.htl_machine.proofs.Events.{state_same, reading_more, sense_at, took_at}
 use Rattle.htl_machine.proofs.Passing.{up_to_more}
-use Rattle.htl_audit.specs.Auditing.{Audit, Follows, IsStopped, IsAudited, AreSized}
+use Rattle.htl_audit.specs.Auditing.{Audit, AuditFollows, IsStopped, IsAudited, AreSized}
 use Rattle.htl_audit.specs.Jobs.{all_rounds}
-use Rattle.htl_audit.specs.Keeping.{Kept, passed, begun}
+use Rattle.htl_audit.specs.Keeping.{Kept, passed, lengths_begun}
 use Rattle.htl_audit.specs.Verdicts.{LogFollows, LogEnds}
 use Rattle.htl_audit.proofs.Begun.{agrees, begun_follows, ends}
 use Rattle.htl_audit.proofs.Between.{text_same, passes_between, reads_again, ends_between, modes_before}
@@ -44,7 +44,7 @@ text_more o es show from at to low high =
 
 -- ---- a stop
 
-pub stop_first : (a : Audit) (es : List Event) → IsAccepted a.machine.object → Follows a es → IsStopped a es
+pub stop_first : (a : Audit) (es : List Event) → IsAccepted a.machine.object → AuditFollows a es → IsStopped a es
 stop_first a es accepted f =
     record { machine = reads_again a.machine es accepted f.machine; within = f.machine.kept.within; shown = f.shown; takes = f.takes; log = f.log }
 
@@ -63,7 +63,7 @@ module _ (a : Audit) (es : List Event) (accepted : IsAccepted a.machine.object) 
 
   pub turn_stops : (s : ℕ) (m : machines.Seen) → a.machine.held.reading ≤ s → begins (root_periods a.machine.object.tables) s ≡ true → ((n : ℕ) → a.machine.held.reading ≤ n → n < s → begins (root_periods a.machine.object.tables) n ≡ false)
       → machines.IsSameRun a.machine m → machines.Follows m (es ++ V.At a.machine.held.reading ∷ [] ++ V.At (suc s) ∷ [])
-      → IsStopped (record { machine = m; log = a.log; takes = a.takes; kept = begun m.object.tables m.standing.calendar.modes a.takes s (passed a.machine.object.tables (suc s) (drop a.kept.place a.log) a.kept) }) es
+      → IsStopped (record { machine = m; log = a.log; takes = a.takes; kept = lengths_begun m.object.tables m.standing.calendar.modes a.takes s (passed a.machine.object.tables (suc s) (drop a.kept.place a.log) a.kept) }) es
   turn_stops s m low is none same g =
       record {
         machine = subst (λ n. machines.Follows m (es ++ V.At n ∷ [])) (sym read) on;
@@ -88,23 +88,23 @@ module _ (a : Audit) (es : List Event) (accepted : IsAccepted a.machine.object) 
           ∙ ap (λ (z : State). map (λ (o : Option Stay). option_map (λ (y : Stay). y.mode) o) z.stays)
           (state_same a.machine.object.tables (es ++ V.At (suc s) ∷ []) es (suc s) s (λ c u h. sense_at a.machine.object.tables es (suc s) c u) (omega arith))
 
-      here : LogFollows a.machine.object.tables (all_rounds a.machine.object.tables es (suc s)) (suc s) a.log (begun a.machine.object.tables (modes_at a.machine.object.tables es s) a.takes s (passed a.machine.object.tables (suc s) (drop a.kept.place a.log) a.kept))
+      here : LogFollows a.machine.object.tables (all_rounds a.machine.object.tables es (suc s)) (suc s) a.log (lengths_begun a.machine.object.tables (modes_at a.machine.object.tables es s) a.takes s (passed a.machine.object.tables (suc s) (drop a.kept.place a.log) a.kept))
       here =
           begun_follows a.machine.object.tables (accepted_range a.machine.object accepted) (accepted_kept a.machine.object accepted) (have_rounds a.machine.object accepted) es f.within s is a.log
           (passed a.machine.object.tables (suc s) (drop a.kept.place a.log) a.kept) (log_then s (suc s) low (omega arith) none) a.takes (λ i u h later. f.takes i u h (omega (arith, later, low)))
           (passed_sized (length a.machine.object.tables.invs) a.machine.object.tables (suc s) (drop a.kept.place a.log) a.kept sized)
 
-      log : LogFollows m.object.tables (all_rounds m.object.tables es m.held.reading) m.held.reading a.log (begun m.object.tables m.standing.calendar.modes a.takes s (passed a.machine.object.tables (suc s) (drop a.kept.place a.log) a.kept))
+      log : LogFollows m.object.tables (all_rounds m.object.tables es m.held.reading) m.held.reading a.log (lengths_begun m.object.tables m.standing.calendar.modes a.takes s (passed a.machine.object.tables (suc s) (drop a.kept.place a.log) a.kept))
       log =
-          subst (λ n. LogFollows m.object.tables (all_rounds m.object.tables es n) n a.log (begun m.object.tables m.standing.calendar.modes a.takes s (passed a.machine.object.tables (suc s) (drop a.kept.place a.log) a.kept))) (sym read)
-          (subst (λ (o : Object). LogFollows o.tables (all_rounds o.tables es (suc s)) (suc s) a.log (begun o.tables m.standing.calendar.modes a.takes s (passed a.machine.object.tables (suc s) (drop a.kept.place a.log) a.kept))) (sym same.object)
-          (subst (λ ms. LogFollows a.machine.object.tables (all_rounds a.machine.object.tables es (suc s)) (suc s) a.log (begun a.machine.object.tables ms a.takes s (passed a.machine.object.tables (suc s) (drop a.kept.place a.log) a.kept))) (sym modes) here))
+          subst (λ n. LogFollows m.object.tables (all_rounds m.object.tables es n) n a.log (lengths_begun m.object.tables m.standing.calendar.modes a.takes s (passed a.machine.object.tables (suc s) (drop a.kept.place a.log) a.kept))) (sym read)
+          (subst (λ (o : Object). LogFollows o.tables (all_rounds o.tables es (suc s)) (suc s) a.log (lengths_begun o.tables m.standing.calendar.modes a.takes s (passed a.machine.object.tables (suc s) (drop a.kept.place a.log) a.kept))) (sym same.object)
+          (subst (λ ms. LogFollows a.machine.object.tables (all_rounds a.machine.object.tables es (suc s)) (suc s) a.log (lengths_begun a.machine.object.tables ms a.takes s (passed a.machine.object.tables (suc s) (drop a.kept.place a.log) a.kept))) (sym modes) here))
 
   -- ---- on to a reading
 
   pub stop_follows : (to : ℕ) (m : machines.Seen) → a.machine.held.reading ≤ to → ((n : ℕ) → a.machine.held.reading ≤ n → n < to → begins (root_periods a.machine.object.tables) n ≡ false)
       → machines.IsSameRun a.machine m → machines.Follows m (es ++ V.At a.machine.held.reading ∷ [] ++ V.At to ∷ [])
-      → Follows (record { machine = m; log = a.log; takes = a.takes; kept = passed a.machine.object.tables to (drop a.kept.place a.log) a.kept }) (es ++ V.At to ∷ [])
+      → AuditFollows (record { machine = m; log = a.log; takes = a.takes; kept = passed a.machine.object.tables to (drop a.kept.place a.log) a.kept }) (es ++ V.At to ∷ [])
   stop_follows to m low none same g =
       record {
         machine = passes_between m es a.machine.held.reading to (subst IsAccepted (sym same.object) accepted) (subst (λ (o : Object). AreTookWithin o.tables es) (sym same.object) f.within) g;
@@ -150,7 +150,7 @@ turn_text a a1 es k n s w w1 f0 f1 x accepted is same f puts =
     two
 
 pub turn_done : (a a1 a2 a3 : Audit) (es : List Event) (n s : ℕ) → IsAccepted a.machine.object → AreSized a → a1 ≡ record a { kept = passed a.machine.object.tables n (drop a.kept.place a.log) a.kept } → a2 ≡ record a1 { machine = a2.machine }
-    → a3 ≡ record a2 { kept = begun a2.machine.object.tables a2.machine.standing.calendar.modes a2.takes s a2.kept } → n ≡ suc s → a.machine.held.reading ≤ s → begins (root_periods a.machine.object.tables) s ≡ true
+    → a3 ≡ record a2 { kept = lengths_begun a2.machine.object.tables a2.machine.standing.calendar.modes a2.takes s a2.kept } → n ≡ suc s → a.machine.held.reading ≤ s → begins (root_periods a.machine.object.tables) s ≡ true
     → ((n : ℕ) → a.machine.held.reading ≤ n → n < s → begins (root_periods a.machine.object.tables) n ≡ false) → machines.IsSameRun a1.machine a2.machine
     → ((gs : List Event) → machines.Follows a1.machine gs → machines.Follows a2.machine (gs ++ V.At n ∷ [])) → IsStopped a es → IsStopped a3 es × (a3.machine.held.reading ≡ suc s)
 turn_done a a1 a2 a3 es n s accepted sized e1 e2 e3 same low is none run step f =
@@ -164,17 +164,17 @@ turn_done a a1 a2 a3 es n s accepted sized e1 e2 e3 same low is none run step f 
         subst (λ m. machines.Follows a2.machine (es ++ V.At a.machine.held.reading ∷ [] ++ V.At m ∷ [])) same
         (step (es ++ V.At a.machine.held.reading ∷ []) (subst (λ (z : Audit). machines.Follows z.machine (es ++ V.At a.machine.held.reading ∷ [])) (sym e1) f.machine))
 
-    all : a3 ≡ record { machine = a2.machine; log = a.log; takes = a.takes; kept = begun a2.machine.object.tables a2.machine.standing.calendar.modes a.takes s (passed a.machine.object.tables (suc s) (drop a.kept.place a.log) a.kept) }
+    all : a3 ≡ record { machine = a2.machine; log = a.log; takes = a.takes; kept = lengths_begun a2.machine.object.tables a2.machine.standing.calendar.modes a.takes s (passed a.machine.object.tables (suc s) (drop a.kept.place a.log) a.kept) }
     all =
-        e3 ∙ ap (λ (z : Audit). record z { kept = begun z.machine.object.tables z.machine.standing.calendar.modes z.takes s z.kept })
+        e3 ∙ ap (λ (z : Audit). record z { kept = lengths_begun z.machine.object.tables z.machine.standing.calendar.modes z.takes s z.kept })
         (e2 ∙ ap (λ (z : Audit). record z { machine = a2.machine }) (e1 ∙ ap (λ m. record a { kept = passed a.machine.object.tables m (drop a.kept.place a.log) a.kept }) same))
 
 -- a reading is followed
 pub advance_done : (a a1 a2 : Audit) (es : List Event) (to : ℕ) → IsAccepted a.machine.object → AreSized a → a1 ≡ record a { kept = passed a.machine.object.tables to (drop a.kept.place a.log) a.kept } → a2 ≡ record a1 { machine = a2.machine }
     → a.machine.held.reading ≤ to → ((n : ℕ) → a.machine.held.reading ≤ n → n < to → begins (root_periods a.machine.object.tables) n ≡ false) → machines.IsSameRun a1.machine a2.machine
-    → ((gs : List Event) → machines.Follows a1.machine gs → machines.Follows a2.machine (gs ++ V.At to ∷ [])) → IsStopped a es → Follows a2 (es ++ V.At to ∷ [])
+    → ((gs : List Event) → machines.Follows a1.machine gs → machines.Follows a2.machine (gs ++ V.At to ∷ [])) → IsStopped a es → AuditFollows a2 (es ++ V.At to ∷ [])
 advance_done a a1 a2 es to accepted sized e1 e2 low none run step f =
-    subst (λ z. Follows z (es ++ V.At to ∷ [])) (sym (e2 ∙ ap (λ (z : Audit). record z { machine = a2.machine }) e1))
+    subst (λ z. AuditFollows z (es ++ V.At to ∷ [])) (sym (e2 ∙ ap (λ (z : Audit). record z { machine = a2.machine }) e1))
     (stop_follows a es accepted sized f to a2.machine low none (subst (λ (z : Audit). machines.IsSameRun z.machine a2.machine) e1 run)
     (step (es ++ V.At a.machine.held.reading ∷ []) (subst (λ (z : Audit). machines.Follows z.machine (es ++ V.At a.machine.held.reading ∷ [])) (sym e1) f.machine)))
 
@@ -236,7 +236,7 @@ going_gone a0 a es w0 w f0 f x p st = record { stopped = st; text = p.whole; cou
 
 pub advance_all : {T E : Type 0} (r : Result T E) (a a1 a2 : Audit) (es : List Event) (to : ℕ) → IsAccepted a.machine.object → AreSized a → a1 ≡ record a { kept = passed a.machine.object.tables to (drop a.kept.place a.log) a.kept } → a2 ≡ record a1 { machine = a2.machine }
     → a.machine.held.reading ≤ to → ((n : ℕ) → a.machine.held.reading ≤ n → n < to → begins (root_periods a.machine.object.tables) n ≡ false) → machines.IsSameRun a1.machine a2.machine
-    → ((gs : List Event) → machines.Follows a1.machine gs → OnOk r (machines.Follows a2.machine (gs ++ V.At to ∷ []))) → IsStopped a es → OnOk r (Follows a2 (es ++ V.At to ∷ []))
+    → ((gs : List Event) → machines.Follows a1.machine gs → OnOk r (machines.Follows a2.machine (gs ++ V.At to ∷ []))) → IsStopped a es → OnOk r (AuditFollows a2 (es ++ V.At to ∷ []))
 advance_all (Ok x) a a1 a2 es to accepted sized e1 e2 low none run step f = advance_done a a1 a2 es to accepted sized e1 e2 low none run (λ gs g. step gs g) f
 advance_all (Err x) a a1 a2 es to accepted sized e1 e2 low none run step f = tt
 

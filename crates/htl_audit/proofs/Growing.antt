@@ -20,7 +20,7 @@ use Rattle.htl_walk.specs.Jobs.{absent_job, is_fed_by, job_of, mask}
 use Rattle.htl_refine.specs.ConcreteJobs.{running_invs}
 use Rattle.htl_refine.specs.Records.{took, lengths_of, modes_at}
 use Rattle.htl_refine.proofs.Inherit.{mapped, map_at}
-use Rattle.htl_audit.specs.Jobs.{Round, beginning, jobs_from, round_of, starts_before, all_rounds}
+use Rattle.htl_audit.specs.Jobs.{BeginningJobs, beginning, jobs_from, round_of, starts_before, all_rounds}
 use Rattle.htl_audit.specs.Agreeing.{Matches, HasMatch, IsMatched, Agree}
 use Rattle.htl_audit.specs.Growing.{AgreeBefore, HaveRounds}
 
@@ -113,7 +113,7 @@ length_is t es start p js j at =
 -- ---- the rounds agree
 
 -- a round, and the instant at which it begins
-pub round_is : (t : Tables) (es : List Event) (now m : ℕ) (r : Round) → slice_get (all_rounds t es now) m ≡ Some r → (s : ℕ) × (slice_get (starts_before t now) m ≡ Some s) × (round_of t es s ≡ r)
+pub round_is : (t : Tables) (es : List Event) (now m : ℕ) (r : BeginningJobs) → slice_get (all_rounds t es now) m ≡ Some r → (s : ℕ) × (slice_get (starts_before t now) m ≡ Some s) × (round_of t es s ≡ r)
 round_is t es now m r at = mapped (round_of t es) (starts_before t now) m r at
 
 module _ (t : Tables) (rounds : HaveRounds t) (es fs : List Event) (now : ℕ) (agree : AgreeBefore t es fs now) where
@@ -143,7 +143,7 @@ module _ (t : Tables) (rounds : HaveRounds t) (es fs : List Event) (now : ℕ) (
   pub rounds_agree : (later : ℕ) → now ≤ later → Agree now (all_rounds t es now) (all_rounds t fs later)
   rounds_agree later h = record { there = there; back = back }
     where
-      there : (n : ℕ) (r : Round) → slice_get (all_rounds t es now) n ≡ Some r → IsMatched now (all_rounds t fs later) r
+      there : (n : ℕ) (r : BeginningJobs) → slice_get (all_rounds t es now) n ≡ Some r → IsMatched now (all_rounds t fs later) r
       there n r at =
           let s = round_is t es now n r at in
           let is = start_is (root_periods t) now n s.0 s.1 in
@@ -153,7 +153,7 @@ module _ (t : Tables) (rounds : HaveRounds t) (es fs : List Event) (now : ℕ) (
       less : (a b : ℕ) → (a < b) ⊎ (b ≤ a)
       less a b = grind arith
 
-      back : (n : ℕ) (r : Round) → slice_get (all_rounds t fs later) n ≡ Some r → HasMatch now (all_rounds t es now) r ⊎ (now ≤ r.start)
+      back : (n : ℕ) (r : BeginningJobs) → slice_get (all_rounds t fs later) n ≡ Some r → HasMatch now (all_rounds t es now) r ⊎ (now ≤ r.start)
       back n r at =
           let s = round_is t fs later n r at in
           let is = start_is (root_periods t) later n s.0 s.1 in
@@ -161,7 +161,7 @@ module _ (t : Tables) (rounds : HaveRounds t) (es fs : List Event) (now : ℕ) (
             | inl early ↦
                 let m = start_there (root_periods t) now s.0 early is.1 in
                 inl (record { round = round_of t es s.0; number = m.0; at = map_at (round_of t es) (starts_before t now) m.0 s.0 m.1; same = subst (λ z. Matches now (round_of t es s.0) z) s.2 (matched s.0 early) })
-            | inr late ↦ inr (omega (arith, late, ap (λ (z : Round). z.start) s.2))
+            | inr late ↦ inr (omega (arith, late, ap (λ (z : BeginningJobs). z.start) s.2))
           ]
 
 -- ---- events after which the rounds are the very same
@@ -185,7 +185,7 @@ rounds_same t es fs now senses tooks = map_same (round_of t es) (round_of t fs) 
     one : (s : ℕ) → s < now → round_of t es s ≡ round_of t fs s
     one s h =
         let us = beginning t s in
-        let make : List Job → List ℕ → Round = λ js ns. record { start = s; jobs = js; lengths = ns } in
+        let make : List Job → List ℕ → BeginningJobs = λ js ns. record { start = s; jobs = js; lengths = ns } in
         ap (make (jobs_from t (modes_at t es s) us)) (lengths_are s (jobs_from t (modes_at t es s) us))
         ∙ ap (λ m. make (jobs_from t m us) (lengths_of t fs s (jobs_from t m us))) (modes_are s h)
 

@@ -5,7 +5,7 @@ use Rattle.std.specs.List.{list_all, list_any}
 use Rattle.htl_form.proofs.PartLaws.{none_some}
 use Rattle.htl_model.specs.Lists.{numbered}
 use Rattle.htl_walk.specs.declared.job.Job.{Job}
-use Rattle.htl_audit.specs.Jobs.{Round}
+use Rattle.htl_audit.specs.Jobs.{BeginningJobs}
 use Rattle.htl_audit.specs.Legal.{any_job}
 
 pub same_truth : (a b : Bool) → (a ≡ true → b ≡ true) → (b ≡ true → a ≡ true) → a ≡ b
@@ -80,19 +80,19 @@ all_pass_0 test js f = all_pass test 0 js (λ d j at. subst (λ z. test (z, j) �
 -- ---- the jobs of rounds
 
 -- the job at position p of the round r, which is one of these
-pub record IsJobOf (rounds : List Round) (r : Round) (p : ℕ) (j : Job) : Type 0 where
+pub record IsJobOf (rounds : List BeginningJobs) (r : BeginningJobs) (p : ℕ) (j : Job) : Type 0 where
   pub number : ℕ
   pub at : slice_get rounds number ≡ Some r
   pub job : slice_get r.jobs p ≡ Some j
 
-pub record IsFound (test : Round → ℕ × Job → Bool) (rounds : List Round) : Type 0 where
-  pub round : Round
+pub record IsFound (test : BeginningJobs → ℕ × Job → Bool) (rounds : List BeginningJobs) : Type 0 where
+  pub round : BeginningJobs
   pub position : ℕ
   pub job : Job
   pub is : IsJobOf rounds round position job
   pub passes : test round (position, job) ≡ true
 
-pub job_found : (test : Round → ℕ × Job → Bool) (rounds : List Round) → any_job test rounds ≡ true → IsFound test rounds
+pub job_found : (test : BeginningJobs → ℕ × Job → Bool) (rounds : List BeginningJobs) → any_job test rounds ≡ true → IsFound test rounds
 job_found test [] e = absurd (let z : ⊥ = cc in z)
 job_found test (r ∷ rs) e = by (list_any (test r) (numbered 0 r.jobs)) refl e (λ g. job_found test rs g)
   where
@@ -104,12 +104,12 @@ job_found test (r ∷ rs) e = by (list_any (test r) (numbered 0 r.jobs)) refl e 
         let x = later f in
         record { round = x.round; position = x.position; job = x.job; is = record { number = suc x.is.number; at = x.is.at; job = x.is.job }; passes = x.passes }
 
-pub job_there : (test : Round → ℕ × Job → Bool) (rounds : List Round) (r : Round) (p : ℕ) (j : Job) → IsJobOf rounds r p j → test r (p, j) ≡ true → any_job test rounds ≡ true
+pub job_there : (test : BeginningJobs → ℕ × Job → Bool) (rounds : List BeginningJobs) (r : BeginningJobs) (p : ℕ) (j : Job) → IsJobOf rounds r p j → test r (p, j) ≡ true → any_job test rounds ≡ true
 job_there test rounds r p j is e = by rounds is.number is.at
   where
-    by : (rs : List Round) (n : ℕ) → slice_get rs n ≡ Some r → any_job test rs ≡ true
+    by : (rs : List BeginningJobs) (n : ℕ) → slice_get rs n ≡ Some r → any_job test rs ≡ true
     by [] n at = absurd (none_some r at)
     by (x ∷ rs) zero at =
         let one : x ≡ r = cc in
-        or_left (list_any (test x) (numbered 0 x.jobs)) (any_job test rs) (ap (λ (z : Round). list_any (test z) (numbered 0 z.jobs)) one ∙ item_there (test r) 0 r.jobs p j is.job (subst (λ z. test r (z, j) ≡ true) (let z : p ≡ 0 + p = omega arith in z) e))
+        or_left (list_any (test x) (numbered 0 x.jobs)) (any_job test rs) (ap (λ (z : BeginningJobs). list_any (test z) (numbered 0 z.jobs)) one ∙ item_there (test r) 0 r.jobs p j is.job (subst (λ z. test r (z, j) ≡ true) (let z : p ≡ 0 + p = omega arith in z) e))
     by (x ∷ rs) (suc n) at = or_right (list_any (test x) (numbered 0 x.jobs)) (any_job test rs) (by rs n at)

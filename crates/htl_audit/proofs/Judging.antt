@@ -12,9 +12,9 @@ use Rattle.htl_walk.specs.Jobs.{precedes}
 use Rattle.htl_audit.specs.declared.slice.Slice.{Slice}
 use Rattle.htl_audit.specs.declared.slice.LogKind.{LogKind}
 use Rattle.htl_audit.specs.declared.slice.LogKind.TheVariants as kind
-use Rattle.htl_audit.specs.Jobs.{Round}
+use Rattle.htl_audit.specs.Jobs.{BeginningJobs}
 use Rattle.htl_audit.specs.Legal as rules
-use Rattle.htl_audit.specs.Legal.{lies_in, ticks, is_done, is_free, is_over, any_job, last_end, is_out_of_order, line_fault}
+use Rattle.htl_audit.specs.Legal.{lies_in, ticks, is_done, is_free, is_over, any_job, last_end, slice_is_out_of_order, line_fault}
 use Rattle.htl_audit.specs.Keeping.{Roster, Kept, has_job, sum_at, length_at, start_at, release_at, end_at, is_inside, is_full, is_clear_of, is_free_from, is_free_at, ticks_of, kind_of}
 use Rattle.htl_audit.specs.Rosters.{IsIn, IsCurrent, AreKept, AreSummed}
 use Rattle.htl_audit.proofs.JobTests.{same_truth, both, neither, and_true, all_at_0, all_pass_0, IsJobOf, job_found, job_there}
@@ -22,13 +22,13 @@ use Rattle.htl_audit.proofs.JobTests.{same_truth, both, neither, and_true, all_a
 -- ---- one job and one slice
 
 -- what a slice in a window says
-pub record Lies (r : Round) (j : Job) (x : Slice) : Type 0 where
+pub record Lies (r : BeginningJobs) (j : Job) (x : Slice) : Type 0 where
   pub present : j.present ≡ true
   pub inv : x.inv ≡ j.inv
   pub from : r.start + j.release ≤ x.from
   pub to : x.to ≤ r.start + j.end
 
-pub lies : (r : Round) (j : Job) (x : Slice) → lies_in r j x ≡ true → Lies r j x
+pub lies : (r : BeginningJobs) (j : Job) (x : Slice) → lies_in r j x ≡ true → Lies r j x
 lies r j x e =
     let a = both (j.present && eqb x.inv j.inv && leb (r.start + j.release) x.from) (leb x.to (r.start + j.end)) e in
     let b = both (j.present && eqb x.inv j.inv) (leb (r.start + j.release) x.from) a.0 in
@@ -40,7 +40,7 @@ abbrev pub rest : Bool → Bool → Bool → Option LogKind
 rest a b c = cond (not a) (Some kind.Outside) (cond b (Some kind.Over) (cond c (Some kind.Before) None))
 
 -- what a job waits for, by positions
-abbrev waits_for : Round → List Slice → Job → ℕ × Job → Bool
+abbrev waits_for : BeginningJobs → List Slice → Job → ℕ × Job → Bool
 waits_for r log j h = not (precedes h.0 j && h.1.present) || is_done r log h
 
 -- the test of the invocations, as a test of each
@@ -69,13 +69,13 @@ applied true b e f = e
 applied false b e f = absurd (let z : ⊥ = cc in z)
 
 -- the ticks with one slice more
-pub ticks_more : (r : Round) (j : Job) (log : List Slice) (x : Slice) → ticks r j (log ++ x ∷ []) ≡ ticks r j log + cond (lies_in r j x) (x.to - x.from) 0
+pub ticks_more : (r : BeginningJobs) (j : Job) (log : List Slice) (x : Slice) → ticks r j (log ++ x ∷ []) ≡ ticks r j log + cond (lies_in r j x) (x.to - x.from) 0
 ticks_more r j [] x = omega arith
 ticks_more r j (y ∷ ys) x = omega (arith, ticks_more r j ys x)
 
-module _ (t : Tables) (rounds : List Round) (o : Roster) (kept : AreKept t rounds o) (x : Slice) (later : start_at o x.inv < x.to) where
+module _ (t : Tables) (rounds : List BeginningJobs) (o : Roster) (kept : AreKept t rounds o) (x : Slice) (later : start_at o x.inv < x.to) where
   -- a job in whose window the slice lies is current
-  pub lies_current : (r : Round) (p : ℕ) (j : Job) → IsJobOf rounds r p j → lies_in r j x ≡ true → IsIn rounds r p j × IsCurrent t o r p j
+  pub lies_current : (r : BeginningJobs) (p : ℕ) (j : Job) → IsJobOf rounds r p j → lies_in r j x ≡ true → IsIn rounds r p j × IsCurrent t o r p j
   lies_current r p j is e =
       let l = lies r j x e in
       let i : IsIn rounds r p j = record { number = is.number; at = is.at; job = is.job; present = l.present } in
@@ -85,7 +85,7 @@ module _ (t : Tables) (rounds : List Round) (o : Roster) (kept : AreKept t round
       ]
 
   -- the slice lies in the window of a current job exactly where it does in that of its invocation
-  pub lies_inside : (r : Round) (p : ℕ) (j : Job) → IsIn rounds r p j → IsCurrent t o r p j → x.inv ≡ j.inv → lies_in r j x ≡ is_inside t o x
+  pub lies_inside : (r : BeginningJobs) (p : ℕ) (j : Job) → IsIn rounds r p j → IsCurrent t o r p j → x.inv ≡ j.inv → lies_in r j x ≡ is_inside t o x
   lies_inside r p j i c e =
       let a : (j.present && eqb x.inv j.inv) ≡ has_job o x.inv =
       and_true j.present (eqb x.inv j.inv) i.present (same_number x.inv j.inv e) ∙ sym (ap (has_job o) e ∙ c.stands) in
@@ -115,7 +115,7 @@ module _ (t : Tables) (rounds : List Round) (o : Roster) (kept : AreKept t round
           (lies_inside h.round h.position h.job h.is h.current (sym h.inv) ∙ e)
 
   -- where it lies in a window, a test of the jobs in whose windows it lies is a test of the invocation's job
-  tested : (test : Round → ℕ × Job → Bool) (b : Bool) → is_inside t o x ≡ true → ((r : Round) (p : ℕ) (j : Job) → IsIn rounds r p j → IsCurrent t o r p j → x.inv ≡ j.inv → test r (p, j) ≡ b)
+  tested : (test : BeginningJobs → ℕ × Job → Bool) (b : Bool) → is_inside t o x ≡ true → ((r : BeginningJobs) (p : ℕ) (j : Job) → IsIn rounds r p j → IsCurrent t o r p j → x.inv ≡ j.inv → test r (p, j) ≡ b)
       → any_job (λ r j. lies_in r j.1 x && test r j) rounds ≡ b
   tested test b e same = same_truth _ _ there back
     where
@@ -134,20 +134,20 @@ module _ (t : Tables) (rounds : List Round) (o : Roster) (kept : AreKept t round
           (and_true (lies_in h.round h.job x) (test h.round (h.position, h.job)) (lies_inside h.round h.position h.job h.is h.current (sym h.inv) ∙ e)
           (same h.round h.position h.job h.is h.current (sym h.inv) ∙ g))
 
-  module _ (log : List Slice) (sums : List ℕ) (ticked : (r : Round) (p : ℕ) (j : Job) → IsIn rounds r p j → IsCurrent t o r p j → ticks r j log ≡ sum_at sums j.inv) where
+  module _ (log : List Slice) (sums : List ℕ) (ticked : (r : BeginningJobs) (p : ℕ) (j : Job) → IsIn rounds r p j → IsCurrent t o r p j → ticks r j log ≡ sum_at sums j.inv) where
     over_is : is_inside t o x ≡ true → any_job (λ r j. lies_in r j.1 x && is_over r (log ++ x ∷ []) j) rounds ≡ ltb (length_at o x.inv) (sum_at sums x.inv + ticks_of x)
     over_is e = tested (λ r j. is_over r (log ++ x ∷ []) j) (ltb (length_at o x.inv) (sum_at sums x.inv + ticks_of x)) e same
       where
-        same : (r : Round) (p : ℕ) (j : Job) → IsIn rounds r p j → IsCurrent t o r p j → x.inv ≡ j.inv → ltb (rules.length_at r p) (ticks r j (log ++ x ∷ [])) ≡ ltb (length_at o x.inv) (sum_at sums x.inv + ticks_of x)
+        same : (r : BeginningJobs) (p : ℕ) (j : Job) → IsIn rounds r p j → IsCurrent t o r p j → x.inv ≡ j.inv → ltb (rules.job_length r p) (ticks r j (log ++ x ∷ [])) ≡ ltb (length_at o x.inv) (sum_at sums x.inv + ticks_of x)
         same r p j i c g =
             ap₂ (λ m n. ltb m n) (c.length ∙ ap (length_at o) (sym g))
             (ticks_more r j log x ∙ ap₂ (λ m b. m + cond b (x.to - x.from) 0) (ticked r p j i c ∙ ap (sum_at sums) (sym g)) (lies_inside r p j i c g ∙ e))
 
     -- a job's slices add up to what it takes, by the rounds and by what is kept
-    full_is : (r : Round) (p : ℕ) (j : Job) → IsIn rounds r p j → IsCurrent t o r p j → is_done r log (p, j) ≡ is_full o sums j.inv
+    full_is : (r : BeginningJobs) (p : ℕ) (j : Job) → IsIn rounds r p j → IsCurrent t o r p j → is_done r log (p, j) ≡ is_full o sums j.inv
     full_is r p j i c = ap₂ (λ m n. eqb m n) (ticked r p j i c) c.length
 
-    free_is : (r : Round) (p : ℕ) (j : Job) → IsIn rounds r p j → IsCurrent t o r p j → is_free r log j ≡ is_free_at t o sums j.inv
+    free_is : (r : BeginningJobs) (p : ℕ) (j : Job) → IsIn rounds r p j → IsCurrent t o r p j → is_free r log j ≡ is_free_at t o sums j.inv
     free_is r p j i c = same_truth _ _ there back
       where
         there : is_free r log j ≡ true → is_free_at t o sums j.inv ≡ true
@@ -198,14 +198,14 @@ module _ (t : Tables) (rounds : List Round) (o : Roster) (kept : AreKept t round
             ap (λ a. rest a over early) (inside_is ∙ e) ∙ sym (ap (λ a. rest a (ltb (length_at o x.inv) (sum_at sums x.inv + ticks_of x)) (not (is_free_at t o sums x.inv))) e)
 
 -- the line breaks the same rule, if any
-pub kind_is : (t : Tables) (rounds : List Round) (now : ℕ) (log : List Slice) (k : Kept) (x : Slice) → AreSummed t rounds log k → (x.from < x.to → k.end ≤ x.from → start_at k.roster x.inv < x.to)
+pub kind_is : (t : Tables) (rounds : List BeginningJobs) (now : ℕ) (log : List Slice) (k : Kept) (x : Slice) → AreSummed t rounds log k → (x.from < x.to → k.end ≤ x.from → start_at k.roster x.inv < x.to)
     → line_fault rounds now log x ≡ kind_of t now k x
-kind_is t rounds now log k x s later = by (is_out_of_order now log x) refl
+kind_is t rounds now log k x s later = by (slice_is_out_of_order now log x) refl
   where
-    sorted : is_out_of_order now log x ≡ (leb x.to x.from || ltb x.from k.end || leb now x.to)
+    sorted : slice_is_out_of_order now log x ≡ (leb x.to x.from || ltb x.from k.end || leb now x.to)
     sorted = ap (λ z. leb x.to x.from || ltb x.from z || leb now x.to) (sym s.end)
 
-    broken : is_out_of_order now log x ≡ true → line_fault rounds now log x ≡ Some kind.Order
+    broken : slice_is_out_of_order now log x ≡ true → line_fault rounds now log x ≡ Some kind.Order
     broken g =
         ap (λ z. cond z (Some kind.Order) (rest (any_job (λ r j. lies_in r j.1 x) rounds) (any_job (λ r j. lies_in r j.1 x && is_over r (log ++ x ∷ []) j) rounds) (any_job (λ r j. lies_in r j.1 x && not (is_free r log j.1)) rounds))) g
 
@@ -219,7 +219,7 @@ kind_is t rounds now log k x s later = by (is_out_of_order now log x) refl
     le : (a b : ℕ) → ltb a b ≡ false → b ≤ a
     le a b e = grind (arith, nat_tests)
 
-    by : (b : Bool) → is_out_of_order now log x ≡ b → line_fault rounds now log x ≡ kind_of t now k x
+    by : (b : Bool) → slice_is_out_of_order now log x ≡ b → line_fault rounds now log x ≡ kind_of t now k x
     by true e = broken e ∙ sym (broken_too (sym sorted ∙ e))
     by false e =
         let two = neither (leb x.to x.from || ltb x.from (last_end log)) (leb now x.to) e in

@@ -27,9 +27,9 @@ use Rattle.htl_machine.proofs.Events.{took_took}
 use Rattle.htl_audit.specs.declared.slice.Slice.{Slice}
 use Rattle.htl_audit.specs.declared.slice.LogKind.{LogKind}
 use Rattle.htl_audit.specs.declared.slice.LogFault.{LogFault}
-use Rattle.htl_audit.specs.Auditing.{Audit, Follows, IsAuditor}
+use Rattle.htl_audit.specs.Auditing.{Audit, AuditFollows, IsAuditor}
 use Rattle.htl_audit.specs.Jobs.{all_rounds}
-use Rattle.htl_audit.specs.Keeping.{Kept, judged_to, judged, with_kind, kind_of, passed, begun, taken, first_kept}
+use Rattle.htl_audit.specs.Keeping.{Kept, judged_to, judged, with_kind, kind_of, passed, lengths_begun, inv_takes, first_kept}
 use Rattle.htl_audit.specs.Rosters.{AreKept, AreSummed, IsSized}
 use Rattle.htl_audit.specs.Verdicts.{LogFollows}
 use Rattle.htl_audit.proofs.Passing.{judged_leaves}
@@ -40,7 +40,7 @@ use Rattle.htl_audit.proofs.Taking.{taken_leaves, taken_follows}
 
 -- ---- a beginning
 
-pub begun_auditor : (o : Object) (m : machines.Seen) (takes : List ℕ) (log : List Slice) (k : Kept) (t : Tables) (modes : List (Option ℕ)) (lengths : List ℕ) (s : ℕ) → IsAuditor o m takes log k → IsAuditor o m takes log (begun t modes lengths s k)
+pub begun_auditor : (o : Object) (m : machines.Seen) (takes : List ℕ) (log : List Slice) (k : Kept) (t : Tables) (modes : List (Option ℕ)) (lengths : List ℕ) (s : ℕ) → IsAuditor o m takes log k → IsAuditor o m takes log (lengths_begun t modes lengths s k)
 begun_auditor o m takes log k t modes lengths s i =
     let z = renewed_sized t modes lengths s (length o.tables.invs) (length t.invs) k (record { stands = i.rows; starts = i.starts; lengths = i.lengths; sums = i.sums }) in
     record {
@@ -114,7 +114,7 @@ set_small (x ∷ xs) (suc i) n few small zero = small 0
 set_small (x ∷ xs) (suc i) n few small (suc j) = set_small xs i n few (λ d. small (suc d)) j
 
 pub taken_auditor : (o : Object) (m new : machines.Seen) (takes : List ℕ) (log : List Slice) (k : Kept) (t : Tables) (now i n : ℕ) → n ≤ 1000000 → new.object ≡ m.object → IsAuditor o m takes log k
-    → IsAuditor o new (set takes i n) log (taken t now i n k)
+    → IsAuditor o new (set takes i n) log (inv_takes t now i n k)
 taken_auditor o m new takes log k t now i n few same a =
     let l = taken_leaves t now i n k in
     record {
@@ -222,7 +222,7 @@ first_auditor o accepted m takes log k object takes_are kept lines =
         omega (arith, is, worst.most)
 
 pub audit_first : (m : machines.Seen) (takes : List ℕ) (log : List Slice) (k : Kept) (n : ℕ) → machines.Follows m [] → m.show ≡ Values → takes ≡ map (λ (x : Inv). task_worst m.object.tables x.task) m.object.tables.invs → k ≡ first_kept n
-    → Follows (record { machine = m; log = log; takes = takes; kept = k }) []
+    → AuditFollows (record { machine = m; log = log; takes = takes; kept = k }) []
 audit_first m takes log k n f shown takes_are kept =
     record {
       machine = f;
@@ -236,15 +236,15 @@ audit_first m takes log k n f shown takes_are kept =
 -- ---- a length is followed
 
 pub took_follows : (a : Audit) (es : List Event) (i n : ℕ) (m : machines.Seen) → IsAccepted a.machine.object → IsLength a.machine.object.tables i n → i < length a.takes → i < length a.kept.roster.lengths
-    → m ≡ record a.machine { held = taken_as i n a.machine.held } → machines.Follows m (es ++ V.Took i n ∷ []) → Follows a es
-    → Follows (record { machine = m; log = a.log; takes = set a.takes i n; kept = taken a.machine.object.tables a.machine.held.reading i n a.kept }) (es ++ V.Took i n ∷ [])
+    → m ≡ record a.machine { held = taken_as i n a.machine.held } → machines.Follows m (es ++ V.Took i n ∷ []) → AuditFollows a es
+    → AuditFollows (record { machine = m; log = a.log; takes = set a.takes i n; kept = inv_takes a.machine.object.tables a.machine.held.reading i n a.kept }) (es ++ V.Took i n ∷ [])
 took_follows a es i n m accepted len room rows is machine f =
-    subst (λ z. Follows (record { machine = z; log = a.log; takes = set a.takes i n; kept = taken t a.machine.held.reading i n a.kept }) fs) (sym is)
+    subst (λ z. AuditFollows (record { machine = z; log = a.log; takes = set a.takes i n; kept = inv_takes t a.machine.held.reading i n a.kept }) fs) (sym is)
     (record {
       machine = subst (λ z. machines.Follows z fs) is machine;
       shown = f.shown;
       takes = takes;
-      log = subst (λ r. LogFollows t (all_rounds t fs r) r a.log (taken t r i n a.kept)) (sym f.machine.kept.reading) log;
+      log = subst (λ r. LogFollows t (all_rounds t fs r) r a.log (inv_takes t r i n a.kept)) (sym f.machine.kept.reading) log;
     })
   where
     t : Tables
@@ -256,7 +256,7 @@ took_follows a es i n m accepted len room rows is machine f =
     fits : IsTookWithin t (V.Took i n)
     fits = (len.some, omega (arith, len.worst, (worst_some t i len.inv (accepted_range a.machine.object accepted) len.known).1))
 
-    log : LogFollows t (all_rounds t fs (reading_of 0 es)) (reading_of 0 es) a.log (taken t (reading_of 0 es) i n a.kept)
+    log : LogFollows t (all_rounds t fs (reading_of 0 es)) (reading_of 0 es) a.log (inv_takes t (reading_of 0 es) i n a.kept)
     log =
         taken_follows t (accepted_range a.machine.object accepted) (have_rounds a.machine.object accepted) es f.machine.kept.within i n fits a.log a.kept rows
         (subst (λ r. LogFollows t (all_rounds t es r) r a.log a.kept) f.machine.kept.reading f.log)

@@ -10,8 +10,8 @@ use Rattle.htl_walk.specs.Jobs.{precedes}
 use Rattle.htl_audit.specs.declared.slice.Slice.{Slice}
 use Rattle.htl_audit.specs.declared.slice.LogKind.TheVariants as kind
 use Rattle.htl_audit.specs.Computed.{ended, ending}
-use Rattle.htl_audit.specs.Jobs.{Round}
-use Rattle.htl_audit.specs.Legal.{lies_in, ticks, length_at, is_done, is_free, is_over, is_short, any_job, last_end, is_out_of_order, line_fault, IsLegalIn}
+use Rattle.htl_audit.specs.Jobs.{BeginningJobs}
+use Rattle.htl_audit.specs.Legal.{lies_in, ticks, job_length, is_done, is_free, is_over, is_short, any_job, last_end, slice_is_out_of_order, line_fault, IsLegalIn}
 use Rattle.htl_audit.proofs.JobTests.{neither, and_true, all_at_0, IsJobOf, job_there}
 use Rattle.htl_audit.proofs.Judging.{rest, applied, ticks_more}
 use Rattle.htl_audit.proofs.Passing.{take_next, get_before}
@@ -19,7 +19,7 @@ use Rattle.htl_audit.proofs.Summing.{last_more}
 
 -- ---- the lines that end before an instant
 
-module _ (r : Round) (j : Job) where
+module _ (r : BeginningJobs) (j : Job) where
   pub ended_less : (n : ℕ) (xs : List Slice) → ticks r j (ended n xs) ≤ ticks r j xs
   ended_less n [] = omega arith
   ended_less n (x ∷ xs) = by (ltb x.to n) (ended_less n xs)
@@ -111,7 +111,7 @@ few_ending n (x ∷ xs) ordered = by (eqb x.to n) refl (few_ending n xs (λ i k 
 
 -- ---- a line that breaks no rule
 
-pub record IsKept (rounds : List Round) (now : ℕ) (before : List Slice) (x : Slice) : Type 0 where
+pub record IsKept (rounds : List BeginningJobs) (now : ℕ) (before : List Slice) (x : Slice) : Type 0 where
   pub room : x.from < x.to
   pub order : last_end before ≤ x.from
   pub soon : x.to < now
@@ -119,15 +119,15 @@ pub record IsKept (rounds : List Round) (now : ℕ) (before : List Slice) (x : S
   pub most : any_job (λ r j. lies_in r j.1 x && is_over r (before ++ x ∷ []) j) rounds ≡ false
   pub free : any_job (λ r j. lies_in r j.1 x && not (is_free r before j.1)) rounds ≡ false
 
-kept_line : (rounds : List Round) (now : ℕ) (before : List Slice) (x : Slice) → line_fault rounds now before x ≡ None → IsKept rounds now before x
+kept_line : (rounds : List BeginningJobs) (now : ℕ) (before : List Slice) (x : Slice) → line_fault rounds now before x ≡ None → IsKept rounds now before x
 kept_line rounds now before x e =
-    by (is_out_of_order now before x) (any_job (λ r j. lies_in r j.1 x) rounds) (any_job (λ r j. lies_in r j.1 x && is_over r (before ++ x ∷ []) j) rounds)
+    by (slice_is_out_of_order now before x) (any_job (λ r j. lies_in r j.1 x) rounds) (any_job (λ r j. lies_in r j.1 x && is_over r (before ++ x ∷ []) j) rounds)
     (any_job (λ r j. lies_in r j.1 x && not (is_free r before j.1)) rounds) refl refl refl refl e
   where
     lt : (a b : ℕ) → leb a b ≡ false → b < a
     lt a b e = grind (arith, nat_tests)
 
-    by : (o a b c : Bool) → is_out_of_order now before x ≡ o → any_job (λ r j. lies_in r j.1 x) rounds ≡ a → any_job (λ r j. lies_in r j.1 x && is_over r (before ++ x ∷ []) j) rounds ≡ b
+    by : (o a b c : Bool) → slice_is_out_of_order now before x ≡ o → any_job (λ r j. lies_in r j.1 x) rounds ≡ a → any_job (λ r j. lies_in r j.1 x && is_over r (before ++ x ∷ []) j) rounds ≡ b
         → any_job (λ r j. lies_in r j.1 x && not (is_free r before j.1)) rounds ≡ c → cond o (Some kind.Order) (rest a b c) ≡ None → IsKept rounds now before x
     by true a b c f g h i n = absurd (none_some kind.Order (sym n))
     by false false b c f g h i n = absurd (none_some kind.Outside (sym n))
@@ -149,7 +149,7 @@ order i k h = grind arith
 
 -- ---- a legal log
 
-module _ (rounds : List Round) (now : ℕ) (log : List Slice) (legal : IsLegalIn rounds now log) where
+module _ (rounds : List BeginningJobs) (now : ℕ) (log : List Slice) (legal : IsLegalIn rounds now log) where
   pub kept : (i : ℕ) (x : Slice) → slice_get log i ≡ Some x → IsKept rounds now (take i log) x
   kept i x at = kept_line rounds now (take i log) x (legal.lines i x at)
 
@@ -177,54 +177,54 @@ module _ (rounds : List Round) (now : ℕ) (log : List Slice) (legal : IsLegalIn
 
   -- ---- one job
 
-  module _ (r : Round) (p : ℕ) (j : Job) (is : IsJobOf rounds r p j) where
-    pub never_over : (i : ℕ) → ticks r j (take i log) ≤ length_at r p
+  module _ (r : BeginningJobs) (p : ℕ) (j : Job) (is : IsJobOf rounds r p j) where
+    pub never_over : (i : ℕ) → ticks r j (take i log) ≤ job_length r p
     never_over zero = omega arith
     never_over (suc i) = by (slice_get_cases log i).1 (never_over i)
       where
-        not_over : (x : Slice) → slice_get log i ≡ Some x → lies_in r j x ≡ true → ticks r j (take i log ++ x ∷ []) ≤ length_at r p
+        not_over : (x : Slice) → slice_get log i ≡ Some x → lies_in r j x ≡ true → ticks r j (take i log ++ x ∷ []) ≤ job_length r p
         not_over x at e = by_test (is_over r (take i log ++ x ∷ []) (p, j)) refl
           where
-            by_test : (b : Bool) → is_over r (take i log ++ x ∷ []) (p, j) ≡ b → ticks r j (take i log ++ x ∷ []) ≤ length_at r p
-            by_test false f = ltb-false (length_at r p) (ticks r j (take i log ++ x ∷ [])) f
+            by_test : (b : Bool) → is_over r (take i log ++ x ∷ []) (p, j) ≡ b → ticks r j (take i log ++ x ∷ []) ≤ job_length r p
+            by_test false f = ltb-false (job_length r p) (ticks r j (take i log ++ x ∷ [])) f
             by_test true f =
                 let found = job_there (λ r j. lies_in r j.1 x && is_over r (take i log ++ x ∷ []) j) rounds r p j is (and_true (lies_in r j x) (is_over r (take i log ++ x ∷ []) (p, j)) e f) in
                 let z : true ≡ false = sym found ∙ (kept i x at).most in
                 let y : ⊥ = cc in
                 absurd y
 
-        one : (x : Slice) → slice_get log i ≡ Some x → (b : Bool) → lies_in r j x ≡ b → ticks r j (take i log) ≤ length_at r p → ticks r j (take (suc i) log) ≤ length_at r p
+        one : (x : Slice) → slice_get log i ≡ Some x → (b : Bool) → lies_in r j x ≡ b → ticks r j (take i log) ≤ job_length r p → ticks r j (take (suc i) log) ≤ job_length r p
         one x at true e next = omega (arith, ap (ticks r j) (take_next log i x at), not_over x at e)
         one x at false e next =
             omega (arith, ap (ticks r j) (take_next log i x at), ticks_more r j (take i log) x, ap (λ (b : Bool). cond b (x.to - x.from) 0) e, next)
 
-        by : ((x : Slice) × (i < length log) × (slice_get log i ≡ Some x) × (get_or log i x ≡ x)) ⊎ ((length log ≤ i) × (slice_get log i ≡ None)) → ticks r j (take i log) ≤ length_at r p → ticks r j (take (suc i) log) ≤ length_at r p
+        by : ((x : Slice) × (i < length log) × (slice_get log i ≡ Some x) × (get_or log i x ≡ x)) ⊎ ((length log ≤ i) × (slice_get log i ≡ None)) → ticks r j (take i log) ≤ job_length r p → ticks r j (take (suc i) log) ≤ job_length r p
         by (inl c) next = one c.0 c.2 (lies_in r j c.0) refl next
         by (inr c) next = omega (arith, ap (ticks r j) (take_past log i c.0), next)
 
-    pub never_more : ticks r j log ≤ length_at r p
+    pub never_more : ticks r j log ≤ job_length r p
     never_more = omega (arith, ap (ticks r j) (take-length log), never_over (length log))
 
     -- where its window ended by the end, it has all its ticks
-    pub window_done : j.present ≡ true → r.start + j.end < now → ticks r j log ≡ length_at r p
-    window_done here late = by (ltb (ticks r j log) (length_at r p)) refl
+    pub window_done : j.present ≡ true → r.start + j.end < now → ticks r j log ≡ job_length r p
+    window_done here late = by (ltb (ticks r j log) (job_length r p)) refl
       where
-        by : (b : Bool) → ltb (ticks r j log) (length_at r p) ≡ b → ticks r j log ≡ length_at r p
-        by false e = omega (arith, ltb-false (ticks r j log) (length_at r p) e, never_more)
+        by : (b : Bool) → ltb (ticks r j log) (job_length r p) ≡ b → ticks r j log ≡ job_length r p
+        by false e = omega (arith, ltb-false (ticks r j log) (job_length r p) e, never_more)
         by true e =
             let short : is_short now r log (p, j) ≡ true =
-            and_true (j.present && ltb (r.start + j.end) now) (ltb (ticks r j log) (length_at r p)) (and_true j.present (ltb (r.start + j.end) now) here (lt-ltb (r.start + j.end) now late)) e in
+            and_true (j.present && ltb (r.start + j.end) now) (ltb (ticks r j log) (job_length r p)) (and_true j.present (ltb (r.start + j.end) now) here (lt-ltb (r.start + j.end) now late)) e in
             let found = job_there (λ r j. is_short now r log j) rounds r p j is short in
             let z : true ≡ false = sym found ∙ legal.whole in
             let y : ⊥ = cc in
             absurd y
 
     -- a predecessor has all its ticks before each line of the job
-    pub waited : (k : ℕ) (x : Slice) → slice_get log k ≡ Some x → lies_in r j x ≡ true → (q : ℕ) (h : Job) → slice_get r.jobs q ≡ Some h → precedes q j ≡ true → h.present ≡ true → ticks r h (take k log) ≡ length_at r q
+    pub waited : (k : ℕ) (x : Slice) → slice_get log k ≡ Some x → lies_in r j x ≡ true → (q : ℕ) (h : Job) → slice_get r.jobs q ≡ Some h → precedes q j ≡ true → h.present ≡ true → ticks r h (take k log) ≡ job_length r q
     waited k x at e q h at_q before here =
         let free : is_free r (take k log) j ≡ true = by (is_free r (take k log) j) refl in
         let test = all_at_0 (λ (z : ℕ × Job). not (precedes z.0 j && z.1.present) || is_done r (take k log) z) r.jobs free q h at_q in
-        eqb-true (ticks r h (take k log)) (length_at r q)
+        eqb-true (ticks r h (take k log)) (job_length r q)
         (applied (precedes q j && h.present) (is_done r (take k log) (q, h)) test (and_true (precedes q j) h.present before here))
       where
         by : (b : Bool) → is_free r (take k log) j ≡ b → is_free r (take k log) j ≡ true

@@ -7,7 +7,7 @@ use Rattle.htl_model.specs.Tables.{Tables}
 use Rattle.htl_audit.specs.declared.slice.Slice.{Slice}
 use Rattle.htl_audit.specs.declared.slice.LogKind.{LogKind}
 use Rattle.htl_audit.specs.declared.slice.LogFault.{LogFault}
-use Rattle.htl_audit.specs.Jobs.{Round}
+use Rattle.htl_audit.specs.Jobs.{BeginningJobs}
 use Rattle.htl_audit.specs.Legal.{line_fault, fault_at}
 use Rattle.htl_audit.specs.Keeping.{Kept, start_at, kind_of, with_slice, with_kind, judged, judged_to}
 use Rattle.htl_audit.specs.Rosters.{AreSummed}
@@ -20,7 +20,7 @@ stopped : (t : Tables) (now : ℕ) (xs : List Slice) (k : Kept) (f : LogFault) �
 stopped t now [] k f e = refl
 stopped t now (x ∷ xs) k f e = ap (λ (o : Option LogFault). elim o as (λ _. Kept) [ Some g ↦ k | None ↦ cond (ltb x.to now) (judged_to t now xs (judged t now x k)) k ]) e
 
-module _ (t : Tables) (rounds : List Round) (now bound : ℕ) where
+module _ (t : Tables) (rounds : List BeginningJobs) (now bound : ℕ) where
   -- nothing is judged
   none_judged : (log xs : List Slice) (k : Kept) → AreSummed t rounds log k → k.fault ≡ None → IfSome (slice_get xs 0) (λ x. now ≤ x.to) → AreJudged t rounds now log xs k
   none_judged log xs k s fresh later =

@@ -9,9 +9,9 @@ use Rattle.htl_audit.specs.declared.slice.Slice.{Slice}
 use Rattle.htl_audit.specs.declared.slice.LogKind.TheVariants as kind
 use Rattle.htl_audit.specs.declared.slice.LogFault.{LogFault}
 use Rattle.htl_audit.specs.Agreeing.{Agree, AreEarly}
-use Rattle.htl_audit.specs.Jobs.{Round}
+use Rattle.htl_audit.specs.Jobs.{BeginningJobs}
 use Rattle.htl_audit.specs.Keeping.{Kept, judged_to}
-use Rattle.htl_audit.specs.Legal.{line_fault, lies_in, any_job, is_over, is_free, last_end, is_out_of_order}
+use Rattle.htl_audit.specs.Legal.{line_fault, lies_in, any_job, is_over, is_free, last_end, slice_is_out_of_order}
 use Rattle.htl_audit.specs.Lines.{IsNext, AreJudged, IsLate, BeganBefore}
 use Rattle.htl_audit.specs.Rosters.{AreSummed}
 use Rattle.htl_audit.proofs.Agreeing.{fault_alike}
@@ -41,7 +41,7 @@ in_front (y ∷ xs) (suc n) zero x e = (omega arith, e)
 in_front (y ∷ xs) (suc n) (suc i) x e = let h = in_front xs n i x e in (omega (arith, h.0), h.1)
 
 -- a line that keeps the rules isn't empty
-pub is_some_slice : (rounds : List Round) (now : ℕ) (log : List Slice) (x : Slice) → line_fault rounds now log x ≡ None → x.from < x.to
+pub is_some_slice : (rounds : List BeginningJobs) (now : ℕ) (log : List Slice) (x : Slice) → line_fault rounds now log x ≡ None → x.from < x.to
 is_some_slice rounds now log x e = by (leb x.to x.from) refl
   where
     less : (a b : ℕ) → leb a b ≡ false → b < a
@@ -50,13 +50,13 @@ is_some_slice rounds now log x e = by (leb x.to x.from) refl
     by : (b : Bool) → leb x.to x.from ≡ b → x.from < x.to
     by false g = less x.to x.from g
     by true g =
-        let out : is_out_of_order now log x ≡ true = ap (λ z. z || ltb x.from (last_end log) || leb now x.to) g in
+        let out : slice_is_out_of_order now log x ≡ true = ap (λ z. z || ltb x.from (last_end log) || leb now x.to) g in
         let broken : line_fault rounds now log x ≡ Some kind.Order =
         ap (λ z. cond z (Some kind.Order) (rest (any_job (λ r j. lies_in r j.1 x) rounds) (any_job (λ r j. lies_in r j.1 x && is_over r (log ++ x ∷ []) j) rounds) (any_job (λ r j. lies_in r j.1 x && not (is_free r log j.1)) rounds))) out in
         absurd (none_some kind.Order (sym e ∙ broken))
 
 -- the lines were judged that end before `now`, by the rounds that begin before it or, where a round begins just then, before `at`
-module _ (t : Tables) (rounds : List Round) (now at : ℕ) (near : now ≤ suc at) (log : List Slice) (k : Kept) (f : AreJudged t rounds now [] log k) (others : List Round) (later : ℕ) (agree : Agree at rounds others)
+module _ (t : Tables) (rounds : List BeginningJobs) (now at : ℕ) (near : now ≤ suc at) (log : List Slice) (k : Kept) (f : AreJudged t rounds now [] log k) (others : List BeginningJobs) (later : ℕ) (agree : Agree at rounds others)
     (order : now ≤ later) where
   pub early : (n : ℕ) → n ≤ f.count → AreEarly at (take n log)
   early n h i x here =

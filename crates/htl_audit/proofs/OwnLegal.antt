@@ -20,8 +20,8 @@ use Rattle.htl_machine.specs.Programs.{schedules_of}
 use Rattle.htl_machine.proofs.Telling.{up_to_none}
 use Rattle.htl_audit.specs.declared.slice.Slice.{Slice}
 use Rattle.htl_audit.specs.Growing.{HaveRounds}
-use Rattle.htl_audit.specs.Jobs.{Round, round_of, all_rounds}
-use Rattle.htl_audit.specs.Legal.{lies_in, ticks, length_at, is_done, is_free, is_over, is_short, any_job, any_short, last_end, line_fault, IsLegal, IsLegalIn}
+use Rattle.htl_audit.specs.Jobs.{BeginningJobs, round_of, all_rounds}
+use Rattle.htl_audit.specs.Legal.{lies_in, ticks, job_length, is_done, is_free, is_over, is_short, any_job, any_short, last_end, line_fault, IsLegal, IsLegalIn}
 use Rattle.htl_audit.specs.Own.{own_at, own_log, OwnLogIsLegal}
 use Rattle.htl_audit.proofs.FaultLaws.{is_legal}
 use Rattle.htl_audit.proofs.ClosedSlices.{given}
@@ -38,7 +38,7 @@ use Rattle.htl_audit.proofs.StandingJobs.{round_there}
 
 -- ---- a job by its rounds and by its frame
 
-module _ (r u : Round) (j k : Job) (here : j.present ≡ k.present) (inv : j.inv ≡ k.inv) (from : r.start + j.release ≡ u.start + k.release) (to : r.start + j.end ≡ u.start + k.end) where
+module _ (r u : BeginningJobs) (j k : Job) (here : j.present ≡ k.present) (inv : j.inv ≡ k.inv) (from : r.start + j.release ≡ u.start + k.release) (to : r.start + j.end ≡ u.start + k.end) where
   -- has the same slices
   lies_alike : (x : Slice) → lies_in r j x ≡ lies_in u k x
   lies_alike x =
@@ -62,7 +62,7 @@ module _ (t : Tables) (lists : List (List SInstr)) (es : List Event) (rounds_fit
   runs = frames_run t lists es rounds_fit run
 
   -- a present job of the audit's rounds, by its frame
-  record IsJobAt (r : Round) (p : ℕ) (j : Job) : Type 0 where
+  record IsJobAt (r : BeginningJobs) (p : ℕ) (j : Job) : Type 0 where
     start : ℕ
     of : round_of t es start ≡ r
     frame : ℕ
@@ -73,15 +73,15 @@ module _ (t : Tables) (lists : List (List SInstr)) (es : List Event) (rounds_fit
     is : IsFramed t lists es rounds_fit run frame position job start p j
     lies_is : (x : Slice) → lies_in r j x ≡ lies_in (audited (frame_plan t lists es frame) frame) job x
     ticks_are : (n : ℕ) → ticks r j (up_to (λ now. frame_slices_at (frame_plan t lists es) (frame_of t) now) n) ≡ given position frame n (walk_of (frame_plan t lists es frame))
-    length_is : length_at r p ≡ get_or (frame_plan t lists es frame).lengths position 0
+    length_is : job_length r p ≡ get_or (frame_plan t lists es frame).lengths position 0
     end_is : r.start + j.end ≡ frame + job.end
 
-  job_in_frame : (r : Round) (s p : ℕ) (j : Job) → round_of t es s ≡ r → slice_get r.jobs p ≡ Some j → j.present ≡ true → IsJobAt r p j
+  job_in_frame : (r : BeginningJobs) (s p : ℕ) (j : Job) → round_of t es s ≡ r → slice_get r.jobs p ≡ Some j → j.present ≡ true → IsJobAt r p j
   job_in_frame r s p j of job here =
-      let g = of_round t lists es rounds_fit run s p j (ap (λ (z : Round). slice_get z.jobs p) of ∙ job) here in
+      let g = of_round t lists es rounds_fit run s p j (ap (λ (z : BeginningJobs). slice_get z.jobs p) of ∙ job) here in
       let f = start_of (frame_of t) s in
       let k = g.job in
-      let start : r.start ≡ s = ap (λ (z : Round). z.start) (sym of) in
+      let start : r.start ≡ s = ap (λ (z : BeginningJobs). z.start) (sym of) in
       let from : r.start + j.release ≡ f + k.release = omega (arith, start, g.is.release_is) in
       let to : r.start + j.end ≡ f + k.end = omega (arith, start, g.is.end_is) in
       let present : j.present ≡ k.present = here ∙ sym g.is.here in
@@ -98,11 +98,11 @@ module _ (t : Tables) (lists : List (List SInstr)) (es : List Event) (rounds_fit
         ticks_are = λ n.
             ticks_alike r (audited (frame_plan t lists es f) f) j k present (sym g.is.inv) from to (up_to (λ now. frame_slices_at (frame_plan t lists es) (frame_of t) now) n)
             ∙ ticks_before (frame_plan t lists es) (frame_of t) runs f (again (frame_plan t lists es) (frame_of t) runs s) g.position k g.is.at_frame g.is.here n;
-        length_is = ap (λ (z : Round). length_at z p) (sym of) ∙ sym g.is.length;
+        length_is = ap (λ (z : BeginningJobs). job_length z p) (sym of) ∙ sym g.is.length;
         end_is = to;
       }
 
-  job_known : (now p : ℕ) (r : Round) (j : Job) → IsJobOf (all_rounds t es now) r p j → j.present ≡ true → IsJobAt r p j
+  job_known : (now p : ℕ) (r : BeginningJobs) (j : Job) → IsJobOf (all_rounds t es now) r p j → j.present ≡ true → IsJobAt r p j
   job_known now p r j is here = let a = round_is t es now is.number r is.at in job_in_frame r a.0 p j a.2 is.job here
 
   -- ---- one line
@@ -114,7 +114,7 @@ module _ (t : Tables) (lists : List (List SInstr)) (es : List Event) (rounds_fit
     abbrev r : Plan
     r = frame_plan t lists es (start_of (frame_of t) m)
 
-    abbrev rounds : List Round
+    abbrev rounds : List BeginningJobs
     rounds = all_rounds t es (suc end)
 
     whole : start_of h s ≡ s
@@ -171,13 +171,13 @@ module _ (t : Tables) (lists : List (List SInstr)) (es : List Event) (rounds_fit
         let two = both (lies_in f.round f.job x) (is_over f.round (up_to at (suc m) ++ x ∷ []) (f.position, f.job)) f.passes in
         let present = (lies f.round f.job x two.0).present in
         let k = job_known (suc end) f.position f.round f.job f.is present in
-        let over = ltb-true (length_at f.round f.position) (ticks f.round f.job (up_to at (suc m) ++ x ∷ [])) two.1 in
+        let over = ltb-true (job_length f.round f.position) (ticks f.round f.job (up_to at (suc m) ++ x ∷ [])) two.1 in
         let more : ticks f.round f.job (up_to at (suc m) ++ x ∷ []) ≡ ticks f.round f.job (up_to at (suc (suc m))) = ap (λ xs. ticks f.round f.job (up_to at (suc m) ++ xs)) (sym here) in
         let most = never_over (plan k.frame) k.frame h (runs.sound k.frame k.whole) k.position k.job k.is.at_frame k.is.here (suc (suc m)) in
         omega (arith, over, more, k.ticks_are (suc (suc m)), k.length_is, most)
 
     -- the predecessors of its job are done
-    free : (p : ℕ) (j : Job) (other : Round) → IsJobOf rounds other p j → lies_in other j x ≡ true → is_free other (up_to at (suc m)) j ≡ true
+    free : (p : ℕ) (j : Job) (other : BeginningJobs) → IsJobOf rounds other p j → lies_in other j x ≡ true → is_free other (up_to at (suc m)) j ≡ true
     free p j other is e =
         let l = lies other j x e in
         let k = job_known (suc end) p other j is l.present in
@@ -206,11 +206,11 @@ module _ (t : Tables) (lists : List (List SInstr)) (es : List Event) (rounds_fit
         let early : s + done.0 < suc m = omega (arith, done.2, mine.ends, mine.from.then) in
         let all = all_given r s h sound g.position g.job at_g moved.here done.0 (suc m) done.1 early in
         let one : s ≡ g.frame = same ∙ sym frame in
-        eq-eqb (ticks other i (up_to at (suc m))) (length_at other q)
+        eq-eqb (ticks other i (up_to at (suc m))) (job_length other q)
         (g.ticks_are (suc m) ∙ ap (λ z. given g.position z (suc m) (walk_of (plan z))) (sym one) ∙ all ∙ ap (λ z. get_or (plan z).lengths g.position 0) one ∙ sym g.length_is)))
       where
-        start_same : (a b : ℕ) (other : Round) → round_of t es a ≡ other → round_of t es b ≡ other → a ≡ b
-        start_same a b other e f = ap (λ (z : Round). z.start) (e ∙ sym f)
+        start_same : (a b : ℕ) (other : BeginningJobs) → round_of t es a ≡ other → round_of t es b ≡ other → a ≡ b
+        start_same a b other e f = ap (λ (z : BeginningJobs). z.start) (e ∙ sym f)
 
     always_free : any_job (λ r j. lies_in r j.1 x && not (is_free r (up_to at (suc m)) j.1)) rounds ≡ true → ⊥
     always_free e =
@@ -238,11 +238,11 @@ module _ (t : Tables) (lists : List (List SInstr)) (es : List Event) (rounds_fit
       by false e = refl
       by true e =
           let f = job_found (λ r j. is_short (suc end) r (up_to at (suc end)) j) (all_rounds t es (suc end)) e in
-          let two = both (f.job.present && ltb (f.round.start + f.job.end) (suc end)) (ltb (ticks f.round f.job (up_to at (suc end))) (length_at f.round f.position)) f.passes in
+          let two = both (f.job.present && ltb (f.round.start + f.job.end) (suc end)) (ltb (ticks f.round f.job (up_to at (suc end))) (job_length f.round f.position)) f.passes in
           let one = both f.job.present (ltb (f.round.start + f.job.end) (suc end)) two.0 in
           let k = job_known (suc end) f.position f.round f.job f.is one.0 in
           let late = ltb-true (f.round.start + f.job.end) (suc end) one.1 in
-          let less = ltb-true (ticks f.round f.job (up_to at (suc end))) (length_at f.round f.position) two.1 in
+          let less = ltb-true (ticks f.round f.job (up_to at (suc end))) (job_length f.round f.position) two.1 in
           let all = window_given (plan k.frame) k.frame h (runs.sound k.frame k.whole) k.position k.job k.is.at_frame k.is.here (suc end) (omega (arith, late, k.end_is)) in
           absurd (omega (arith, less, k.ticks_are (suc end), k.length_is, all))
 

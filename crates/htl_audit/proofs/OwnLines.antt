@@ -9,12 +9,12 @@ use Rattle.htl_model.specs.Tables.{Tables}
 use Rattle.htl_model.proofs.Locality.{up_to_same}
 use Rattle.htl_walk.specs.declared.job.Job.{Job}
 use Rattle.htl_walk.specs.declared.schedule.SInstr.{SInstr}
-use Rattle.htl_walk.specs.Paths.{Leg, begun, walks_from}
+use Rattle.htl_walk.specs.Paths.{Leg, list_point, walks_from}
 use Rattle.htl_walk.specs.Walk.{Left, Point, first_point, last_point, walk_from}
 use Rattle.htl_refine.specs.FrameRecords.{RunningList, lists_from, lists_at, left_in, begun_before}
 use Rattle.htl_refine.specs.FrameRuns.{frame_modes, path_of, frame_at}
 use Rattle.htl_refine.specs.Records.{rounds_before, shifted}
-use Rattle.htl_machine.specs.JobLines.{RunLine, printed, is_job_line, begins_as_job, text_lines, slice_of, job_lines_of, list_job_lines, frame_job_lines, job_lines_at, job_lines_to}
+use Rattle.htl_machine.specs.JobLines.{RunLine, printed, is_job_line, begins_as_job, text_lines, closed_slice_line, job_lines_of, list_job_lines, frame_job_lines, job_lines_at, job_lines_to}
 use Rattle.htl_machine.specs.JobLines.RunLine.{SliceLine, DoneLine, InstrLine, ChangeLine, StepLine, TotalsLine}
 use Rattle.htl_machine.specs.Programs.{schedules_of, text_of}
 use Rattle.htl_machine.specs.Texts.{inv_at}
@@ -49,7 +49,7 @@ record_lines : (jobs : List Job) (s k : ℕ) (l : Left) → HasPosition l → (r
 record_lines jobs s k l has rest = by l.position l.slice l.finished has
   where
     by : (o : Option ℕ) (sl : Option (ℕ × ℕ)) (b : Bool) → ((u : ℕ × ℕ) → sl ≡ Some u → (p : ℕ) × (o ≡ Some p))
-        → all_some line_slice (slice_of (inv_at jobs o) (option_map (λ (u : ℕ × ℕ). (s + u.0, s + u.1)) sl) ++ cond b (DoneLine (s + l.at) (inv_at jobs o) ∷ []) []) ++ rest ≡ onto (mine jobs s o sl) rest
+        → all_some line_slice (closed_slice_line (inv_at jobs o) (option_map (λ (u : ℕ × ℕ). (s + u.0, s + u.1)) sl) ++ cond b (DoneLine (s + l.at) (inv_at jobs o) ∷ []) []) ++ rest ≡ onto (mine jobs s o sl) rest
     by None None true has = refl
     by None None false has = refl
     by None (Some u) b has = not_some (has u refl).0 (has u refl).1
@@ -87,7 +87,7 @@ lists_lines number f now j all jobs (s ∷ ss) [] x = refl
 lists_lines number f now j all jobs (s ∷ ss) (g ∷ gs) x = by (ltb (f + g.from) now) (lists_lines number f now (suc j) all jobs ss gs (last_point jobs s start))
   where
     start : Point
-    start = begun g.from x
+    start = list_point g.from x
 
     r : RunningList
     r = record { from = f + g.from; node = number j; code = s; walk = walk_from jobs s start }

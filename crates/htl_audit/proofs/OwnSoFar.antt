@@ -12,8 +12,8 @@ use Rattle.htl_walk.specs.Walk.{first_point}
 use Rattle.htl_machine.proofs.Telling.{none_at_first, rounds_are, up_to_last}
 use Rattle.htl_audit.specs.declared.slice.Slice.{Slice}
 use Rattle.htl_audit.specs.declared.slice.LogKind.TheVariants as kind
-use Rattle.htl_audit.specs.Jobs.{Round}
-use Rattle.htl_audit.specs.Legal.{lies_in, ticks, is_free, is_over, any_job, last_end, is_out_of_order, line_fault}
+use Rattle.htl_audit.specs.Jobs.{BeginningJobs}
+use Rattle.htl_audit.specs.Legal.{lies_in, ticks, is_free, is_over, any_job, last_end, slice_is_out_of_order, line_fault}
 use Rattle.htl_audit.proofs.ClosedSlices.{closed, one_closed, given, given_first}
 use Rattle.htl_audit.proofs.FrameSlices.{frame_slices_at, none_past}
 use Rattle.htl_audit.proofs.Growing.{in_two}
@@ -69,10 +69,10 @@ equal_or a b = grind arith
 
 -- ---- a line that breaks no rule
 
-pub keeps : (rounds : List Round) (now : ℕ) (log : List Slice) (x : Slice) → x.from < x.to → last_end log ≤ x.from → x.to < now → any_job (λ r j. lies_in r j.1 x) rounds ≡ true
+pub keeps : (rounds : List BeginningJobs) (now : ℕ) (log : List Slice) (x : Slice) → x.from < x.to → last_end log ≤ x.from → x.to < now → any_job (λ r j. lies_in r j.1 x) rounds ≡ true
     → (any_job (λ r j. lies_in r j.1 x && is_over r (log ++ x ∷ []) j) rounds ≡ true → ⊥) → (any_job (λ r j. lies_in r j.1 x && not (is_free r log j.1)) rounds ≡ true → ⊥) → line_fault rounds now log x ≡ None
 keeps rounds now log x room order soon lies over early =
-    let sorted : is_out_of_order now log x ≡ false =
+    let sorted : slice_is_out_of_order now log x ≡ false =
     ap₂ (λ a b. a || b || leb now x.to) (lt-leb x.to x.from room) (le-ltb x.from (last_end log) order) ∙ lt-leb now x.to soon in
     ap (λ b. cond b (Some kind.Order) (rest (any_job (λ r j. lies_in r j.1 x) rounds) (any_job (λ r j. lies_in r j.1 x && is_over r (log ++ x ∷ []) j) rounds) (any_job (λ r j. lies_in r j.1 x && not (is_free r log j.1)) rounds))) sorted
     ∙ ap (λ a. rest a (any_job (λ r j. lies_in r j.1 x && is_over r (log ++ x ∷ []) j) rounds) (any_job (λ r j. lies_in r j.1 x && not (is_free r log j.1)) rounds)) lies

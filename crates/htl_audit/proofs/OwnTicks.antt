@@ -11,7 +11,7 @@ use Rattle.htl_refine.proofs.SliceSums.{spent_is}
 use Rattle.htl_walk.proofs.Finishes.{some_same}
 use Rattle.htl_refine.proofs.RecordOrder.{not_some}
 use Rattle.htl_audit.specs.declared.slice.Slice.{Slice}
-use Rattle.htl_audit.specs.Jobs.{Round}
+use Rattle.htl_audit.specs.Jobs.{BeginningJobs}
 use Rattle.htl_audit.specs.Legal.{lies_in, ticks}
 use Rattle.htl_audit.proofs.ClosedSlices.{Runs, runs_at, mine, onto, closed, IsClosed, closed_from, gives, given, given_less, given_all}
 use Rattle.htl_audit.proofs.JobTests.{and_true}
@@ -28,11 +28,11 @@ walk_of r = walk r.jobs r.lengths r.schedule
 
 -- ---- ticks of lists
 
-pub ticks_both : (r : Round) (j : Job) (xs ys : List Slice) → ticks r j (xs ++ ys) ≡ ticks r j xs + ticks r j ys
+pub ticks_both : (r : BeginningJobs) (j : Job) (xs ys : List Slice) → ticks r j (xs ++ ys) ≡ ticks r j xs + ticks r j ys
 ticks_both r j [] ys = omega arith
 ticks_both r j (x ∷ xs) ys = omega (arith, ticks_both r j xs ys)
 
-pub no_ticks : (r : Round) (j : Job) (xs : List Slice) → ((i : ℕ) (x : Slice) → slice_get xs i ≡ Some x → lies_in r j x ≡ true → ⊥) → ticks r j xs ≡ 0
+pub no_ticks : (r : BeginningJobs) (j : Job) (xs : List Slice) → ((i : ℕ) (x : Slice) → slice_get xs i ≡ Some x → lies_in r j x ≡ true → ⊥) → ticks r j xs ≡ 0
 no_ticks r j [] out = refl
 no_ticks r j (x ∷ xs) out = by (lies_in r j x) refl (no_ticks r j xs (λ i y at. out (suc i) y at))
   where
@@ -128,7 +128,7 @@ pub record IsSound (r : Plan) (period : ℕ) : Type 0 where
   pub ends : (p : ℕ) (j : Job) → slice_get r.jobs p ≡ Some j → j.present ≡ true → j.end ≤ period
 
 -- the same, as rounds that begin together
-abbrev pub audited : Plan → ℕ → Round
+abbrev pub audited : Plan → ℕ → BeginningJobs
 audited r s = record { start = s; jobs = r.jobs; lengths = r.lengths }
 
 -- a slice that closes is of a present job, in whose window it lies

@@ -8,8 +8,8 @@ use Rattle.htl_audit.specs.declared.slice.Slice.{Slice}
 use Rattle.htl_audit.specs.declared.slice.LogKind.{LogKind}
 use Rattle.htl_audit.specs.declared.slice.LogKind.TheVariants as kind
 use Rattle.htl_audit.specs.declared.slice.LogFault.{LogFault}
-use Rattle.htl_audit.specs.Jobs.{Round}
-use Rattle.htl_audit.specs.Legal.{any_short, last_end, line_fault, is_out_of_order, any_job, lies_in, is_over, is_free}
+use Rattle.htl_audit.specs.Jobs.{BeginningJobs}
+use Rattle.htl_audit.specs.Legal.{any_short, last_end, line_fault, slice_is_out_of_order, any_job, lies_in, is_over, is_free}
 use Rattle.htl_audit.specs.Agreeing.{Agree}
 use Rattle.htl_audit.specs.Keeping.{Kept, start_at, kind_of, with_kind, judged, judged_to, settled, passed, any_fell_short}
 use Rattle.htl_audit.specs.Lines.{IsNext, AreJudged, IsLate, BeganBefore}
@@ -49,13 +49,13 @@ judged_leaves t now (x ∷ xs) k = by k.fault (ltb x.to now) (judged_leaves t no
 
 -- ---- what fell short is no part of what is judged
 
-pub short_next : (t : Tables) (rounds : List Round) (now : ℕ) (log : List Slice) (next : Option Slice) (k : Kept) (b : Bool) (o : Option LogFault) → IsNext t rounds now log next k o → IsNext t rounds now log next (record k { short = b }) o
+pub short_next : (t : Tables) (rounds : List BeginningJobs) (now : ℕ) (log : List Slice) (next : Option Slice) (k : Kept) (b : Bool) (o : Option LogFault) → IsNext t rounds now log next k o → IsNext t rounds now log next (record k { short = b }) o
 short_next t rounds now log next k b (Some g) n = n
 short_next t rounds now log next k b None n = (record { kept = n.0.kept; place = n.0.place; end = n.0.end; room = n.0.room; sums = n.0.sums; done = n.0.done }, n.1)
 
 -- ---- lines that keep the rules end one after the other
 
-in_order : (rounds : List Round) (now : ℕ) (log : List Slice) (x : Slice) → line_fault rounds now log x ≡ None → last_end log ≤ x.from
+in_order : (rounds : List BeginningJobs) (now : ℕ) (log : List Slice) (x : Slice) → line_fault rounds now log x ≡ None → last_end log ≤ x.from
 in_order rounds now log x e = by (ltb x.from (last_end log)) refl
   where
     large : (a b : ℕ) → ltb a b ≡ false → b ≤ a
@@ -69,7 +69,7 @@ in_order rounds now log x e = by (ltb x.from (last_end log)) refl
     by : (b : Bool) → ltb x.from (last_end log) ≡ b → last_end log ≤ x.from
     by false g = large x.from (last_end log) g
     by true g =
-        let out : is_out_of_order now log x ≡ true = second _ (ltb x.from (last_end log)) _ g in
+        let out : slice_is_out_of_order now log x ≡ true = second _ (ltb x.from (last_end log)) _ g in
         let broken : line_fault rounds now log x ≡ Some kind.Order =
         ap (λ z. cond z (Some kind.Order) (rest (any_job (λ r j. lies_in r j.1 x) rounds) (any_job (λ r j. lies_in r j.1 x && is_over r (log ++ x ∷ []) j) rounds) (any_job (λ r j. lies_in r j.1 x && not (is_free r log j.1)) rounds))) out in
         absurd (none_some kind.Order (sym e ∙ broken))
@@ -85,7 +85,7 @@ get_before (y ∷ xs) zero x e = (y, refl)
 get_before (y ∷ xs) (suc n) x e = get_before xs n x e
 
 -- behind a line that ends at `at` or later, all do
-all_late : (rounds : List Round) (now at c : ℕ) (log : List Slice) (e : ℕ) → ((i : ℕ) (x : Slice) → i < e → slice_get log i ≡ Some x → (line_fault rounds now ([] ++ take i log) x ≡ None) × (x.to < now))
+all_late : (rounds : List BeginningJobs) (now at c : ℕ) (log : List Slice) (e : ℕ) → ((i : ℕ) (x : Slice) → i < e → slice_get log i ≡ Some x → (line_fault rounds now ([] ++ take i log) x ≡ None) × (x.to < now))
     → IfSome (slice_get log c) (λ x. at ≤ x.to) → (d : ℕ) (x : Slice) → c + d < e → slice_get log (c + d) ≡ Some x → at ≤ x.to
 all_late rounds now at c log e keep first zero x h here = subst (λ o. IfSome o (λ (y : Slice). at ≤ y.to)) (ap (slice_get log) (let z : c ≡ c + 0 = omega arith in z) ∙ here) first
 all_late rounds now at c log e keep first (suc d) x h here =
@@ -98,7 +98,7 @@ all_late rounds now at c log e keep first (suc d) x h here =
 
 -- ---- from one instant to a later one
 
-module _ (t : Tables) (rounds : List Round) (at later : ℕ) (order : at ≤ later) (agree : Agree at rounds rounds) (log : List Slice) (k : Kept) (rows : length k.roster.stands ≡ length t.invs) (f : LogFollows t rounds at log k) where
+module _ (t : Tables) (rounds : List BeginningJobs) (at later : ℕ) (order : at ≤ later) (agree : Agree at rounds rounds) (log : List Slice) (k : Kept) (rows : length k.roster.stands ≡ length t.invs) (f : LogFollows t rounds at log k) where
   near : at ≤ suc at
   near = omega arith
 

@@ -8,7 +8,7 @@ use Rattle.htl_emach.specs.Calendars.{list_at}
 use Rattle.htl_model.specs.declared.parts.Inv.{Inv}
 use Rattle.htl_model.specs.Selected.{is_at, Runs}
 use Rattle.htl_model.specs.Tables.{Tables, is_concrete, mode_module}
-use Rattle.htl_audit.specs.Keeping.{Kept, has_job, sum_at, length_at, start_at, runs_in, begins_round, renewed, renewed_to}
+use Rattle.htl_audit.specs.Keeping.{Kept, has_job, sum_at, length_at, start_at, inv_runs_in, begins_round, renewed, renewed_to}
 use Rattle.htl_audit.specs.Rosters.{IsSized}
 use Rattle.htl_audit.proofs.JobTests.{both, and_true}
 
@@ -19,7 +19,7 @@ list_get [] k = refl
 list_get (x ∷ xs) zero = refl
 list_get (x ∷ xs) (suc k) = list_get xs k
 
-pub runs_is : (t : Tables) (modes : List (Option ℕ)) (i : ℕ) (x : Inv) → slice_get t.invs i ≡ Some x → is_concrete t x ≡ true → Runs t modes x.mode → runs_in t modes i ≡ true
+pub runs_is : (t : Tables) (modes : List (Option ℕ)) (i : ℕ) (x : Inv) → slice_get t.invs i ≡ Some x → is_concrete t x ≡ true → Runs t modes x.mode → inv_runs_in t modes i ≡ true
 runs_is t modes i x at concrete runs =
     let here : list_at modes (mode_module t x.mode) ≡ Some x.mode = sym (list_get modes (mode_module t x.mode)) ∙ runs in
     let both_are : (is_concrete t x && is_at (list_at modes (mode_module t x.mode)) x.mode) ≡ true = and_true (is_concrete t x) (is_at (list_at modes (mode_module t x.mode)) x.mode) concrete (ap (λ o. is_at o x.mode) here ∙ same x.mode) in
@@ -28,7 +28,7 @@ runs_is t modes i x at concrete runs =
     same : (n : ℕ) → eqb n n ≡ true
     same n = grind (arith, nat_tests)
 
-pub runs_of : (t : Tables) (modes : List (Option ℕ)) (i : ℕ) → runs_in t modes i ≡ true → (x : Inv) × (slice_get t.invs i ≡ Some x) × (is_concrete t x ≡ true) × Runs t modes x.mode
+pub runs_of : (t : Tables) (modes : List (Option ℕ)) (i : ℕ) → inv_runs_in t modes i ≡ true → (x : Inv) × (slice_get t.invs i ≡ Some x) × (is_concrete t x ≡ true) × Runs t modes x.mode
 runs_of t modes i e = by (slice_get t.invs i) refl e
   where
     found : (o : Option ℕ) (m : ℕ) → is_at o m ≡ true → o ≡ Some m
@@ -56,7 +56,7 @@ module _ (t : Tables) (modes : List (Option ℕ)) (takes : List ℕ) (s count : 
   one_sized : (m i : ℕ) (k : Kept) → IsSized count k → IsSized count (renewed t modes s m i k)
   one_sized m i k z =
       record {
-        stands = length-set k.roster.stands i (runs_in t modes i) ∙ z.stands;
+        stands = length-set k.roster.stands i (inv_runs_in t modes i) ∙ z.stands;
         starts = length-set k.roster.starts i s ∙ z.starts;
         lengths = length-set k.roster.lengths i m ∙ z.lengths;
         sums = length-set k.sums i 0 ∙ z.sums;
@@ -73,7 +73,7 @@ module _ (t : Tables) (modes : List (Option ℕ)) (takes : List ℕ) (s count : 
 
   -- an invocation of which a round begins
   pub record IsNew (i : ℕ) (k : Kept) : Type 0 where
-    pub stands : has_job k.roster i ≡ runs_in t modes i
+    pub stands : has_job k.roster i ≡ inv_runs_in t modes i
     pub start : start_at k.roster i ≡ s
     pub length : length_at k.roster i ≡ get_or takes i 0
     pub sum : sum_at k.sums i ≡ 0
@@ -88,7 +88,7 @@ module _ (t : Tables) (modes : List (Option ℕ)) (takes : List ℕ) (s count : 
   one_new : (n : ℕ) (k : Kept) → IsSized count k → n < count → IsNew n (renewed t modes s (get_or takes n 0) n k)
   one_new n k z h =
       record {
-        stands = get_or-set_same k.roster.stands n (runs_in t modes n) false (omega (arith, h, z.stands));
+        stands = get_or-set_same k.roster.stands n (inv_runs_in t modes n) false (omega (arith, h, z.stands));
         start = get_or-set_same k.roster.starts n s 0 (omega (arith, h, z.starts));
         length = get_or-set_same k.roster.lengths n (get_or takes n 0) 0 (omega (arith, h, z.lengths));
         sum = get_or-set_same k.sums n 0 0 (omega (arith, h, z.sums));
@@ -97,7 +97,7 @@ module _ (t : Tables) (modes : List (Option ℕ)) (takes : List ℕ) (s count : 
   other_still : (m n i : ℕ) (k : Kept) → i ≢ n → IsStill i k (renewed t modes s m n k)
   other_still m n i k differ =
       record {
-        stands = get_or-set_other k.roster.stands n i (runs_in t modes n) false differ;
+        stands = get_or-set_other k.roster.stands n i (inv_runs_in t modes n) false differ;
         start = get_or-set_other k.roster.starts n i s 0 differ;
         length = get_or-set_other k.roster.lengths n i m 0 differ;
         sum = get_or-set_other k.sums n i 0 0 differ;

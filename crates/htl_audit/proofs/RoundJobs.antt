@@ -24,7 +24,7 @@ use Rattle.htl_refine.proofs.StateLaws.{states_are_selections}
 use Rattle.htl_machine.proofs.FrameMembers.{begins_by}
 use Rattle.htl_audit.specs.Growing.{HaveRounds}
 use Rattle.htl_audit.specs.Jobs.{beginning, round_of}
-use Rattle.htl_audit.specs.Keeping.{release_at, end_at, begins_round, runs_in}
+use Rattle.htl_audit.specs.Keeping.{release_at, end_at, begins_round, inv_runs_in}
 use Rattle.htl_audit.specs.Legal as rules
 use Rattle.htl_audit.proofs.Growing.{round_job, length_is, placed}
 use Rattle.htl_audit.proofs.Having.{IsRootAt, whose_round, has_position_of, one_place}
@@ -70,7 +70,7 @@ module _ (t : Tables) (range : AreInRange t) (kept : KeptApart t 16) (rounds : H
     pub end_is : j.end ≡ end_at t j.inv
     pub room : j.release < j.end
     pub within : j.end ≤ mode_period t inv.mode
-    pub length_is : rules.length_at (round_of t es s) p ≡ took t es j.inv (s + j.release)
+    pub length_is : rules.job_length (round_of t es s) p ≡ took t es j.inv (s + j.release)
     pub unit : IsRootAt t range kept (modes_at t es s) (states_are_selections t range es s) s
     pub period : mode_period t inv.mode ≡ unit_period t unit.unit
     pub stands : slice_get (map (chosen t (modes_at t es s)) (flat_map (running_invs t (modes_at t es s)) (beginning t s))) p ≡ Some (Some j.inv)
@@ -116,7 +116,7 @@ module _ (t : Tables) (range : AreInRange t) (kept : KeptApart t 16) (rounds : H
   fresh_start p j f = begins_by t (root_modules t) f.unit.number f.unit.unit s f.unit.at f.unit.whole
 
   -- who is concrete, runs and begins a round has one
-  pub has_fresh : (i : ℕ) → runs_in t (modes_at t es s) i ≡ true → begins_round t s i ≡ true → (p : ℕ) × (j : Job) × (slice_get (round_of t es s).jobs p ≡ Some j) × (j.present ≡ true) × (j.inv ≡ i)
+  pub has_fresh : (i : ℕ) → inv_runs_in t (modes_at t es s) i ≡ true → begins_round t s i ≡ true → (p : ℕ) × (j : Job) × (slice_get (round_of t es s).jobs p ≡ Some j) × (j.present ≡ true) × (j.inv ≡ i)
   has_fresh i e begun =
       let x = runs_of t (modes_at t es s) i e in
       let whole : s % mode_period t x.0.mode ≡ 0 = eqb-true (s % mode_period t x.0.mode) 0 (sym (begins_is t s i x.0 x.1) ∙ begun) in

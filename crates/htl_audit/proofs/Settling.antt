@@ -6,7 +6,7 @@ use Rattle.htl_model.specs.declared.parts.Inv.{Inv}
 use Rattle.htl_model.specs.Tables.{Tables}
 use Rattle.htl_walk.specs.declared.job.Job.{Job}
 use Rattle.htl_audit.specs.declared.slice.Slice.{Slice}
-use Rattle.htl_audit.specs.Jobs.{Round}
+use Rattle.htl_audit.specs.Jobs.{BeginningJobs}
 use Rattle.htl_audit.specs.Legal as rules
 use Rattle.htl_audit.specs.Legal.{lies_in, ticks, is_short, any_short}
 use Rattle.htl_audit.specs.Agreeing.{Agree}
@@ -39,11 +39,11 @@ stands_within (b ∷ bs) (suc i) e = omega (arith, stands_within bs i e)
 
 -- ---- lines behind the end of a window add nothing
 
-pub ticks_both : (r : Round) (j : Job) (xs ys : List Slice) → ticks r j (xs ++ ys) ≡ ticks r j xs + ticks r j ys
+pub ticks_both : (r : BeginningJobs) (j : Job) (xs ys : List Slice) → ticks r j (xs ++ ys) ≡ ticks r j xs + ticks r j ys
 ticks_both r j [] ys = omega arith
 ticks_both r j (x ∷ xs) ys = omega (arith, ticks_both r j xs ys)
 
-pub ticks_behind : (r : Round) (j : Job) (ys : List Slice) → ((i : ℕ) (x : Slice) → slice_get ys i ≡ Some x → r.start + j.end < x.to) → ticks r j ys ≡ 0
+pub ticks_behind : (r : BeginningJobs) (j : Job) (ys : List Slice) → ((i : ℕ) (x : Slice) → slice_get ys i ≡ Some x → r.start + j.end < x.to) → ticks r j ys ≡ 0
 ticks_behind r j [] h = refl
 ticks_behind r j (x ∷ xs) h =
     let rest : ticks r j xs ≡ 0 = ticks_behind r j xs (λ i y at. h (suc i) y at) in
@@ -59,16 +59,16 @@ less a b e = grind (arith, nat_tests)
 is_less : (a b : ℕ) → a < b → ltb a b ≡ true
 is_less a b h = grind (arith, nat_tests)
 
-module _ (t : Tables) (rounds : List Round) (at later : ℕ) (order : at ≤ later) (agree : Agree at rounds rounds) (log more : List Slice) (k : Kept) (s : AreSummed t rounds (log ++ more) k) (rows : length k.roster.stands ≡ length t.invs)
+module _ (t : Tables) (rounds : List BeginningJobs) (at later : ℕ) (order : at ≤ later) (agree : Agree at rounds rounds) (log more : List Slice) (k : Kept) (s : AreSummed t rounds (log ++ more) k) (rows : length k.roster.stands ≡ length t.invs)
     (began : BeganBefore at k) (behind : (i : ℕ) (x : Slice) → slice_get more i ≡ Some x → at ≤ x.to) where
   -- of a job whose window ended before `at` the ticks stay
-  stay : (r : Round) (j : Job) → r.start + j.end < at → ticks r j (log ++ more) ≡ ticks r j log
+  stay : (r : BeginningJobs) (j : Job) → r.start + j.end < at → ticks r j (log ++ more) ≡ ticks r j log
   stay r j h = omega (arith, ticks_both r j log more, ticks_behind r j more (λ i x here. omega (arith, h, behind i x here)))
 
-  room : (r : Round) (p : ℕ) (j : Job) → IsIn rounds r p j → j.release < j.end
+  room : (r : BeginningJobs) (p : ℕ) (j : Job) → IsIn rounds r p j → j.release < j.end
   room r p j i = let m = agree.there i.number r i.at in m.same.window p j i.job i.present
 
-  abbrev test : ℕ → List Slice → Round → ℕ × Job → Bool
+  abbrev test : ℕ → List Slice → BeginningJobs → ℕ × Job → Bool
   test now xs r j = is_short now r xs j
 
   pub short_later : any_short rounds later (log ++ more) ≡ (any_short rounds at log || any_fell_short t later k)
@@ -80,8 +80,8 @@ module _ (t : Tables) (rounds : List Round) (at later : ℕ) (order : at ≤ lat
           f : IsFound (λ r j. is_short later r (log ++ more) j) rounds
           f = job_found (test later (log ++ more)) rounds e
 
-          two : ((f.job.present && ltb (f.round.start + f.job.end) later) ≡ true) × (ltb (ticks f.round f.job (log ++ more)) (rules.length_at f.round f.position) ≡ true)
-          two = both (f.job.present && ltb (f.round.start + f.job.end) later) (ltb (ticks f.round f.job (log ++ more)) (rules.length_at f.round f.position)) f.passes
+          two : ((f.job.present && ltb (f.round.start + f.job.end) later) ≡ true) × (ltb (ticks f.round f.job (log ++ more)) (rules.job_length f.round f.position) ≡ true)
+          two = both (f.job.present && ltb (f.round.start + f.job.end) later) (ltb (ticks f.round f.job (log ++ more)) (rules.job_length f.round f.position)) f.passes
 
           one : (f.job.present ≡ true) × (ltb (f.round.start + f.job.end) later ≡ true)
           one = both f.job.present (ltb (f.round.start + f.job.end) later) two.0
@@ -93,9 +93,9 @@ module _ (t : Tables) (rounds : List Round) (at later : ℕ) (order : at ≤ lat
           old h =
               or_left (any_short rounds at log) (any_fell_short t later k)
               (job_there (test at log) rounds f.round f.position f.job f.is
-              (and_true (f.job.present && ltb (f.round.start + f.job.end) at) (ltb (ticks f.round f.job log) (rules.length_at f.round f.position))
+              (and_true (f.job.present && ltb (f.round.start + f.job.end) at) (ltb (ticks f.round f.job log) (rules.job_length f.round f.position))
               (and_true f.job.present (ltb (f.round.start + f.job.end) at) one.0 (is_less (f.round.start + f.job.end) at h))
-              (ap (λ n. ltb n (rules.length_at f.round f.position)) (sym (stay f.round f.job h)) ∙ two.1)))
+              (ap (λ n. ltb n (rules.job_length f.round f.position)) (sym (stay f.round f.job h)) ∙ two.1)))
 
           by : IsCurrent t k.roster f.round f.position f.job ⊎ (f.round.start + f.job.end ≤ start_at k.roster f.job.inv) → (any_short rounds at log || any_fell_short t later k) ≡ true
           by (inl c) =
@@ -114,13 +114,13 @@ module _ (t : Tables) (rounds : List Round) (at later : ℕ) (order : at ≤ lat
           was : any_short rounds at log ≡ true → any_short rounds later (log ++ more) ≡ true
           was g =
               let f = job_found (test at log) rounds g in
-              let two = both (f.job.present && ltb (f.round.start + f.job.end) at) (ltb (ticks f.round f.job log) (rules.length_at f.round f.position)) f.passes in
+              let two = both (f.job.present && ltb (f.round.start + f.job.end) at) (ltb (ticks f.round f.job log) (rules.job_length f.round f.position)) f.passes in
               let one = both f.job.present (ltb (f.round.start + f.job.end) at) two.0 in
               let h : f.round.start + f.job.end < at = less (f.round.start + f.job.end) at one.1 in
               job_there (test later (log ++ more)) rounds f.round f.position f.job f.is
-              (and_true (f.job.present && ltb (f.round.start + f.job.end) later) (ltb (ticks f.round f.job (log ++ more)) (rules.length_at f.round f.position))
+              (and_true (f.job.present && ltb (f.round.start + f.job.end) later) (ltb (ticks f.round f.job (log ++ more)) (rules.job_length f.round f.position))
               (and_true f.job.present (ltb (f.round.start + f.job.end) later) one.0 (is_less (f.round.start + f.job.end) later (omega (arith, h, order))))
-              (ap (λ n. ltb n (rules.length_at f.round f.position)) (stay f.round f.job h) ∙ two.1))
+              (ap (λ n. ltb n (rules.job_length f.round f.position)) (stay f.round f.job h) ∙ two.1))
 
           is : any_fell_short t later k ≡ true → any_short rounds later (log ++ more) ≡ true
           is g =
@@ -130,10 +130,10 @@ module _ (t : Tables) (rounds : List Round) (at later : ℕ) (order : at ≤ lat
               let h = s.kept.has n.0 one.0 in
               let c = h.current in
               let ended : ltb (h.round.start + h.job.end) later ≡ true = ap₂ (λ a b. ltb (a + b) later) (c.start ∙ ap (start_at k.roster) h.inv) (c.end ∙ ap (end_at t) h.inv) ∙ one.1 in
-              let few : ltb (ticks h.round h.job (log ++ more)) (rules.length_at h.round h.position) ≡ true =
+              let few : ltb (ticks h.round h.job (log ++ more)) (rules.job_length h.round h.position) ≡ true =
               ap₂ (λ a b. ltb a b) (s.sums h.round h.position h.job h.is c ∙ ap (sum_at k.sums) h.inv) (c.length ∙ ap (length_at k.roster) h.inv) ∙ two.1 in
               job_there (test later (log ++ more)) rounds h.round h.position h.job (record { number = h.is.number; at = h.is.at; job = h.is.job })
-              (and_true (h.job.present && ltb (h.round.start + h.job.end) later) (ltb (ticks h.round h.job (log ++ more)) (rules.length_at h.round h.position))
+              (and_true (h.job.present && ltb (h.round.start + h.job.end) later) (ltb (ticks h.round h.job (log ++ more)) (rules.job_length h.round h.position))
               (and_true h.job.present (ltb (h.round.start + h.job.end) later) h.is.present ended) few)
 
           by : (b : Bool) → any_short rounds at log ≡ b → (b || any_fell_short t later k) ≡ true → any_short rounds later (log ++ more) ≡ true

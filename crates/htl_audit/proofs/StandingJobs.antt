@@ -27,7 +27,7 @@ use Rattle.htl_refine.proofs.OwnPeriods.{some_time}
 use Rattle.htl_refine.proofs.OwnRounds.{own_starts, since}
 use Rattle.htl_machine.specs.Casts.{rank}
 use Rattle.htl_machine.specs.RunFrames.{now_of}
-use Rattle.htl_machine.specs.Values.{Stands, Orders}
+use Rattle.htl_machine.specs.Values.{InvStands, Orders}
 use Rattle.htl_machine.proofs.FramePlaced.{entry_is}
 use Rattle.htl_machine.proofs.Outs.{writer_is, writer_stands}
 use Rattle.htl_machine.proofs.Owing.{in_order}
@@ -36,8 +36,8 @@ use Rattle.htl_machine.proofs.RunFrames.{feasible_runs}
 use Rattle.htl_walk.proofs.Finishes.{some_same}
 use Rattle.htl_refine.proofs.Standing.{standing_at}
 use Rattle.htl_audit.specs.Growing.{HaveRounds}
-use Rattle.htl_audit.specs.Jobs.{Round, round_of, starts_before, all_rounds}
-use Rattle.htl_audit.specs.Legal.{length_at}
+use Rattle.htl_audit.specs.Jobs.{BeginningJobs, round_of, starts_before, all_rounds}
+use Rattle.htl_audit.specs.Legal.{job_length}
 use Rattle.htl_audit.proofs.Beginning.{multiples}
 use Rattle.htl_audit.proofs.Begun.{some_took}
 use Rattle.htl_audit.proofs.Growing.{round_is, start_there}
@@ -56,7 +56,7 @@ pub record HasJobFrom (t : Tables) (es : List Event) (s i : ℕ) (x : Inv) : Typ
   pub end : job.end ≡ window_end t x
   pub known : (now : ℕ) → s < now → (m : ℕ) × (slice_get (all_rounds t es now) m ≡ Some (round_of t es s))
   -- it takes some time
-  pub some : 1 ≤ length_at (round_of t es s) position
+  pub some : 1 ≤ job_length (round_of t es s) position
   pub once : (q : ℕ) (h : Job) → slice_get (round_of t es s).jobs q ≡ Some h → h.present ≡ true → h.inv ≡ i → q ≡ position
 
 module _ (t : Tables) (range : AreInRange t) (kept : KeptApart t 16) (rounds : HaveRounds t) (es : List Event) where
@@ -66,7 +66,7 @@ module _ (t : Tables) (range : AreInRange t) (kept : KeptApart t 16) (rounds : H
       let m = start_there (root_periods t) now s early (fresh_start t range kept rounds es s p j f) in
       (m.0, map_at (round_of t es) (starts_before t now) m.0 s m.1)
 
-  module _ (n i s : ℕ) (x : Inv) (st : Stands t (state t es n).stays i x s) where
+  module _ (n i s : ℕ) (x : Inv) (st : InvStands t (state t es n).stays i x s) where
     abbrev stay : Stay
     stay = record { mode = x.mode; start = s }
 
@@ -112,7 +112,7 @@ module _ (t : Tables) (range : AreInRange t) (kept : KeptApart t 16) (rounds : H
     -- the writer of a port stands in the round, and its job precedes the reader's
     pub record IsFed (w : ℕ) : Type 0 where
       pub writer : Inv
-      pub stands : Stands t (state t es n).stays w writer s
+      pub stands : InvStands t (state t es n).stays w writer s
       pub before : (p q : ℕ) (k h : Job) → slice_get (round_of t es s).jobs p ≡ Some k → slice_get (round_of t es s).jobs q ≡ Some h → k.present ≡ true → h.present ≡ true → k.inv ≡ i → h.inv ≡ w → precedes q k ≡ true
 
     pub stands_fed : (k a w o : ℕ) → slice_get x.reads k ≡ Some (E.Port a) → writer_from x.mode a 0 t.invs ≡ Some (w, o) → IsFed w
@@ -126,12 +126,12 @@ module _ (t : Tables) (range : AreInRange t) (kept : KeptApart t 16) (rounds : H
         }
 
     -- a round of the audit in which a job of the invocation has a window that ends behind the instant is its own
-    pub same_start : (now m : ℕ) (r : Round) → slice_get (all_rounds t es now) m ≡ Some r → r.start ≤ n → (p : ℕ) (j : Job) → slice_get r.jobs p ≡ Some j → j.present ≡ true → j.inv ≡ i → n < r.start + j.end → r ≡ round_of t es s
+    pub same_start : (now m : ℕ) (r : BeginningJobs) → slice_get (all_rounds t es now) m ≡ Some r → r.start ≤ n → (p : ℕ) (j : Job) → slice_get r.jobs p ≡ Some j → j.present ≡ true → j.inv ≡ i → n < r.start + j.end → r ≡ round_of t es s
     same_start now m r at began p j job here inv late =
         let a = round_is t es now m r at in
-        let f = fresh t range kept rounds es a.0 p j (ap (λ (z : Round). slice_get z.jobs p) a.2 ∙ job) here in
+        let f = fresh t range kept rounds es a.0 p j (ap (λ (z : BeginningJobs). slice_get z.jobs p) a.2 ∙ job) here in
         let same : f.inv ≡ x = some_same _ _ (sym f.known ∙ ap (slice_get t.invs) inv ∙ st.known) in
-        let start : a.0 ≡ r.start = ap (λ (z : Round). z.start) a.2 in
+        let start : a.0 ≡ r.start = ap (λ (z : BeginningJobs). z.start) a.2 in
         let q = mode_period t x.mode in
         let first : a.0 % q ≡ 0 = ap (λ (z : Inv). a.0 % mode_period t z.mode) (sym same) ∙ f.whole in
         let within : j.end ≤ q = omega (arith, f.within, ap (λ (z : Inv). mode_period t z.mode) same) in

@@ -11,7 +11,7 @@ use Rattle.htl_model.specs.Tables.{Tables}
 use Rattle.htl_walk.specs.declared.job.Job.{Job}
 use Rattle.htl_audit.specs.declared.slice.Slice.{Slice}
 use Rattle.htl_audit.specs.declared.slice.LogKind.TheVariants as kind
-use Rattle.htl_audit.specs.Jobs.{Round}
+use Rattle.htl_audit.specs.Jobs.{BeginningJobs}
 use Rattle.htl_audit.specs.Legal as rules
 use Rattle.htl_audit.specs.Legal.{lies_in, ticks, is_done, last_end, how_many, jobs_done}
 use Rattle.htl_audit.specs.Keeping.{Roster, Kept, has_job, sum_at, length_at, start_at, is_inside, is_free_at, ticks_of, kind_of, with_slice}
@@ -58,24 +58,24 @@ count_one f g b q (h ∷ js) (suc d) j at off on same =
     down e d z = omega (arith, z)
 
 -- the same over rounds
-abbrev pub passes : List Slice → Round → ℕ × Job → Bool
+abbrev pub passes : List Slice → BeginningJobs → ℕ × Job → Bool
 passes log r j = j.1.present && is_done r log j
 
-pub done_same : (rounds : List Round) (log new : List Slice) → ((n : ℕ) (r : Round) (p : ℕ) (j : Job) → slice_get rounds n ≡ Some r → slice_get r.jobs p ≡ Some j → passes log r (p, j) ≡ passes new r (p, j))
+pub done_same : (rounds : List BeginningJobs) (log new : List Slice) → ((n : ℕ) (r : BeginningJobs) (p : ℕ) (j : Job) → slice_get rounds n ≡ Some r → slice_get r.jobs p ≡ Some j → passes log r (p, j) ≡ passes new r (p, j))
     → jobs_done rounds log ≡ jobs_done rounds new
 done_same [] log new h = refl
 done_same (r ∷ rs) log new h =
     ap₂ (λ a b. a + b) (count_same (passes log r) (passes new r) 0 r.jobs (λ d j at. subst (λ z. passes log r (z, j) ≡ passes new r (z, j)) (let z : d ≡ 0 + d = omega arith in z) (h 0 r d j refl at)))
     (done_same rs log new (λ n s p j at is. h (suc n) s p j at is))
 
-done_one : (rounds : List Round) (log new : List Slice) (b : Bool) (n : ℕ) (r : Round) (p : ℕ) (j : Job) → slice_get rounds n ≡ Some r → slice_get r.jobs p ≡ Some j → passes log r (p, j) ≡ false → passes new r (p, j) ≡ b
-    → ((m : ℕ) (s : Round) (q : ℕ) (h : Job) → slice_get rounds m ≡ Some s → slice_get s.jobs q ≡ Some h → (m ≡ n → q ≡ p → ⊥) → passes log s (q, h) ≡ passes new s (q, h))
+done_one : (rounds : List BeginningJobs) (log new : List Slice) (b : Bool) (n : ℕ) (r : BeginningJobs) (p : ℕ) (j : Job) → slice_get rounds n ≡ Some r → slice_get r.jobs p ≡ Some j → passes log r (p, j) ≡ false → passes new r (p, j) ≡ b
+    → ((m : ℕ) (s : BeginningJobs) (q : ℕ) (h : Job) → slice_get rounds m ≡ Some s → slice_get s.jobs q ≡ Some h → (m ≡ n → q ≡ p → ⊥) → passes log s (q, h) ≡ passes new s (q, h))
     → jobs_done rounds new ≡ jobs_done rounds log + of_bool b
 done_one [] log new b n r p j at is off on same = absurd (none_some r at)
 done_one (x ∷ rs) log new b zero r p j at is off on same =
     let one : x ≡ r = cc in
     let here : how_many (passes new x) (numbered 0 x.jobs) ≡ how_many (passes log x) (numbered 0 x.jobs) + of_bool b =
-    subst (λ (z : Round). how_many (passes new z) (numbered 0 z.jobs) ≡ how_many (passes log z) (numbered 0 z.jobs) + of_bool b) (sym one)
+    subst (λ (z : BeginningJobs). how_many (passes new z) (numbered 0 z.jobs) ≡ how_many (passes log z) (numbered 0 z.jobs) + of_bool b) (sym one)
     (count_one (passes log r) (passes new r) b 0 r.jobs p j is (subst (λ z. passes log r (z, j) ≡ false) (let z : p ≡ 0 + p = omega arith in z) off)
     (subst (λ z. passes new r (z, j) ≡ b) (let z : p ≡ 0 + p = omega arith in z) on)
     (λ e i other here. subst (λ z. passes log r (z, i) ≡ passes new r (z, i)) (let z : e ≡ 0 + e = omega arith in z) (same 0 r e i at here (λ m q. other q)))) in
@@ -135,7 +135,7 @@ keeps t now k x e =
           free = h;
         }
 
-module _ (t : Tables) (rounds : List Round) (log : List Slice) (k : Kept) (s : AreSummed t rounds log k) (x : Slice) (now : ℕ) (keep : Keeps t now k x) (later : start_at k.roster x.inv < x.to) where
+module _ (t : Tables) (rounds : List BeginningJobs) (log : List Slice) (k : Kept) (s : AreSummed t rounds log k) (x : Slice) (now : ℕ) (keep : Keeps t now k x) (later : start_at k.roster x.inv < x.to) where
   o : Roster
   o = k.roster
 
@@ -152,7 +152,7 @@ module _ (t : Tables) (rounds : List Round) (log : List Slice) (k : Kept) (s : A
       get_true (b ∷ bs) (suc i) e = omega (arith, get_true bs i e)
 
   -- the ticks of a current job
-  summed : (r : Round) (p : ℕ) (j : Job) → IsIn rounds r p j → IsCurrent t k.roster r p j → ticks r j (log ++ x ∷ []) ≡ sum_at (set k.sums x.inv (sum_at k.sums x.inv + ticks_of x)) j.inv
+  summed : (r : BeginningJobs) (p : ℕ) (j : Job) → IsIn rounds r p j → IsCurrent t k.roster r p j → ticks r j (log ++ x ∷ []) ≡ sum_at (set k.sums x.inv (sum_at k.sums x.inv + ticks_of x)) j.inv
   summed r p j i c = by (eqb x.inv j.inv) refl
     where
       by : (b : Bool) → eqb x.inv j.inv ≡ b → ticks r j (log ++ x ∷ []) ≡ sum_at (set k.sums x.inv (sum_at k.sums x.inv + ticks_of x)) j.inv
@@ -178,9 +178,9 @@ module _ (t : Tables) (rounds : List Round) (log : List Slice) (k : Kept) (s : A
           differ z = let y : eqb x.inv j.inv ≡ true = same_number x.inv j.inv (sym z) in let w : true ≡ false = sym y ∙ e in cc
 
   -- a job in whose window the line doesn't lie stays as it was
-  unchanged : (r : Round) (p : ℕ) (j : Job) → lies_in r j x ≡ false → passes log r (p, j) ≡ passes (log ++ x ∷ []) r (p, j)
+  unchanged : (r : BeginningJobs) (p : ℕ) (j : Job) → lies_in r j x ≡ false → passes log r (p, j) ≡ passes (log ++ x ∷ []) r (p, j)
   unchanged r p j e =
-      ap (λ n. j.present && eqb n (rules.length_at r p)) (sym (ticks_more r j log x ∙ ap (λ b. ticks r j log + cond b (x.to - x.from) 0) e ∙ (let z : ticks r j log + 0 ≡ ticks r j log = omega arith in z)))
+      ap (λ n. j.present && eqb n (rules.job_length r p)) (sym (ticks_more r j log x ∙ ap (λ b. ticks r j log + cond b (x.to - x.from) 0) e ∙ (let z : ticks r j log + 0 ≡ ticks r j log = omega arith in z)))
 
   pub done_more : jobs_done rounds (log ++ x ∷ []) ≡ k.done + of_bool (eqb (sum_at k.sums x.inv + ticks_of x) (length_at k.roster x.inv))
   done_more =
@@ -194,7 +194,7 @@ module _ (t : Tables) (rounds : List Round) (log : List Slice) (k : Kept) (s : A
       off : (h : HasJob t rounds k.roster x.inv) → passes log h.round (h.position, h.job) ≡ false
       off h =
           let sum : ticks h.round h.job log ≡ sum_at k.sums x.inv = s.sums h.round h.position h.job h.is h.current ∙ ap (sum_at k.sums) h.inv in
-          let len : rules.length_at h.round h.position ≡ length_at k.roster x.inv = h.current.length ∙ ap (length_at k.roster) h.inv in
+          let len : rules.job_length h.round h.position ≡ length_at k.roster x.inv = h.current.length ∙ ap (length_at k.roster) h.inv in
           ap (λ b. b && is_done h.round log (h.position, h.job)) h.is.present ∙ ap₂ (λ m n. eqb m n) sum len
           ∙ less (sum_at k.sums x.inv) (length_at k.roster x.inv) (omega (arith, keep.room, keep.some))
 
@@ -202,10 +202,10 @@ module _ (t : Tables) (rounds : List Round) (log : List Slice) (k : Kept) (s : A
       on h =
           let sum : ticks h.round h.job (log ++ x ∷ []) ≡ sum_at k.sums x.inv + ticks_of x =
           summed h.round h.position h.job h.is h.current ∙ ap (λ n. sum_at (set k.sums x.inv (sum_at k.sums x.inv + ticks_of x)) n) h.inv ∙ get_or-set_same k.sums x.inv (sum_at k.sums x.inv + ticks_of x) 0 there in
-          let len : rules.length_at h.round h.position ≡ length_at k.roster x.inv = h.current.length ∙ ap (length_at k.roster) h.inv in
+          let len : rules.job_length h.round h.position ≡ length_at k.roster x.inv = h.current.length ∙ ap (length_at k.roster) h.inv in
           ap (λ b. b && is_done h.round (log ++ x ∷ []) (h.position, h.job)) h.is.present ∙ ap₂ (λ m n. eqb m n) sum len
 
-      others : (h : HasJob t rounds k.roster x.inv) (m : ℕ) (r : Round) (q : ℕ) (j : Job) → slice_get rounds m ≡ Some r → slice_get r.jobs q ≡ Some j → (m ≡ h.is.number → q ≡ h.position → ⊥)
+      others : (h : HasJob t rounds k.roster x.inv) (m : ℕ) (r : BeginningJobs) (q : ℕ) (j : Job) → slice_get rounds m ≡ Some r → slice_get r.jobs q ≡ Some j → (m ≡ h.is.number → q ≡ h.position → ⊥)
           → passes log r (q, j) ≡ passes (log ++ x ∷ []) r (q, j)
       others h m r q j at is other = by (lies_in r j x) refl
         where

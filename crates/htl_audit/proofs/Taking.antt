@@ -22,8 +22,8 @@ use Rattle.htl_audit.specs.declared.slice.Slice.{Slice}
 use Rattle.htl_audit.specs.declared.slice.LogFault.{LogFault}
 use Rattle.htl_audit.specs.Agreeing.{Agree, AreEarly, Matches}
 use Rattle.htl_audit.specs.Growing.{AgreeBefore, HaveRounds}
-use Rattle.htl_audit.specs.Jobs.{Round, beginning, round_of, starts_before, all_rounds}
-use Rattle.htl_audit.specs.Keeping.{Kept, has_job, sum_at, length_at, start_at, release_at, taken}
+use Rattle.htl_audit.specs.Jobs.{BeginningJobs, beginning, round_of, starts_before, all_rounds}
+use Rattle.htl_audit.specs.Keeping.{Kept, has_job, sum_at, length_at, start_at, release_at, inv_takes}
 use Rattle.htl_audit.specs.Legal as rules
 use Rattle.htl_audit.specs.Legal.{ticks, line_fault, any_short, how_many, jobs_done}
 use Rattle.htl_audit.specs.Lines.{IsNext}
@@ -49,7 +49,7 @@ pub record IsTaken (k new : Kept) : Type 0 where
   pub short : new.short ≡ k.short
   pub lengths : length new.roster.lengths ≡ length k.roster.lengths
 
-pub taken_leaves : (t : Tables) (now i n : ℕ) (k : Kept) → IsTaken k (taken t now i n k)
+pub taken_leaves : (t : Tables) (now i n : ℕ) (k : Kept) → IsTaken k (inv_takes t now i n k)
 taken_leaves t now i n k = by (leb now (start_at k.roster i + release_at t i))
   where
     by : (b : Bool) → IsTaken k (cond b (record k { roster = record { stands = k.roster.stands; starts = k.roster.starts; lengths = set k.roster.lengths i n } }) k)
@@ -59,7 +59,7 @@ taken_leaves t now i n k = by (leb now (start_at k.roster i + release_at t i))
 same_number : (a b : ℕ) → a ≡ b → eqb a b ≡ true
 same_number a b e = grind (arith, nat_tests)
 
-pub taken_length : (t : Tables) (now i n m : ℕ) (k : Kept) → i < length k.roster.lengths → length_at (taken t now i n k).roster m ≡ cond (eqb m i && leb now (start_at k.roster i + release_at t i)) n (length_at k.roster m)
+pub taken_length : (t : Tables) (now i n m : ℕ) (k : Kept) → i < length k.roster.lengths → length_at (inv_takes t now i n k).roster m ≡ cond (eqb m i && leb now (start_at k.roster i + release_at t i)) n (length_at k.roster m)
 taken_length t now i n m k h = by (eqb m i) (leb now (start_at k.roster i + release_at t i)) refl
   where
     by : (a b : Bool) → eqb m i ≡ a → length_at (cond b (record k { roster = record { stands = k.roster.stands; starts = k.roster.starts; lengths = set k.roster.lengths i n } }) k).roster m ≡ cond (a && b) n (length_at k.roster m)
@@ -110,23 +110,23 @@ module _ (t : Tables) (range : AreInRange t) (rounds : HaveRounds t) (es : List 
   soon = early t (all_rounds t es now) now now (omega arith) log k f.judged (all_rounds t fs now) now agree (omega arith) c (omega arith)
 
   abbrev then : Kept
-  then = taken t now i n k
+  then = inv_takes t now i n k
 
   same : IsTaken k then
   same = taken_leaves t now i n k
 
   -- a job of a round with the new length, among the rounds with the old one
-  record IsOld (r : Round) (p : ℕ) (j : Job) : Type 0 where
+  record IsOld (r : BeginningJobs) (p : ℕ) (j : Job) : Type 0 where
     start : ℕ
     soon : start < now
     is : round_of t fs start ≡ r
     in_old : IsIn (all_rounds t es now) (round_of t es start) p j
 
-  was : (r : Round) (p : ℕ) (j : Job) (m : IsIn (all_rounds t fs now) r p j) → (o : IsOld r p j) × (o.in_old.number ≡ m.number)
+  was : (r : BeginningJobs) (p : ℕ) (j : Job) (m : IsIn (all_rounds t fs now) r p j) → (o : IsOld r p j) × (o.in_old.number ≡ m.number)
   was r p j m =
       let a = round_is t fs now m.number r m.at in
       let b = start_is (root_periods t) now m.number a.0 a.1 in
-      let job : slice_get (round_of t fs a.0).jobs p ≡ Some j = ap (λ (z : Round). slice_get z.jobs p) a.2 ∙ m.job in (
+      let job : slice_get (round_of t fs a.0).jobs p ≡ Some j = ap (λ (z : BeginningJobs). slice_get z.jobs p) a.2 ∙ m.job in (
         record {
           start = a.0;
           soon = b.0;
@@ -137,16 +137,16 @@ module _ (t : Tables) (range : AreInRange t) (rounds : HaveRounds t) (es : List 
       )
 
   -- and the other way
-  record IsThen (r : Round) (p : ℕ) (j : Job) (number : ℕ) : Type 0 where
+  record IsThen (r : BeginningJobs) (p : ℕ) (j : Job) (number : ℕ) : Type 0 where
     start : ℕ
     is : round_of t es start ≡ r
     in_new : IsIn (all_rounds t fs now) (round_of t fs start) p j
 
-  will : (r : Round) (p : ℕ) (j : Job) (m : IsIn (all_rounds t es now) r p j) → IsThen r p j m.number
+  will : (r : BeginningJobs) (p : ℕ) (j : Job) (m : IsIn (all_rounds t es now) r p j) → IsThen r p j m.number
   will r p j m =
       let a = round_is t es now m.number r m.at in
       let b = start_is (root_periods t) now m.number a.0 a.1 in
-      let job : slice_get (round_of t es a.0).jobs p ≡ Some j = ap (λ (z : Round). slice_get z.jobs p) a.2 ∙ m.job in
+      let job : slice_get (round_of t es a.0).jobs p ≡ Some j = ap (λ (z : BeginningJobs). slice_get z.jobs p) a.2 ∙ m.job in
       record {
         start = a.0;
         is = a.2;
@@ -183,15 +183,15 @@ module _ (t : Tables) (range : AreInRange t) (rounds : HaveRounds t) (es : List 
           absurd (omega (arith, past, cur.start, ap (λ ns. get_or ns j.inv 0) same.starts, x.2, x.3, (rounds.windows j.inv x.0 x.1).0)))
     ]
 
-    old_current : (r : Round) (p : ℕ) (j : Job) (o : IsOld r p j) → IsCurrent t then.roster r p j → IsCurrent t k.roster (round_of t es o.start) p j
+    old_current : (r : BeginningJobs) (p : ℕ) (j : Job) (o : IsOld r p j) → IsCurrent t then.roster r p j → IsCurrent t k.roster (round_of t es o.start) p j
     old_current r p j o cur = back o.start p j o.in_old (subst (λ z. IsCurrent t then.roster z p j) (sym o.is) cur)
 
-    new_in : (r : Round) (p : ℕ) (j : Job) (m : IsIn (all_rounds t fs now) r p j) (o : IsOld r p j) → IsIn (all_rounds t fs now) (round_of t fs o.start) p j
+    new_in : (r : BeginningJobs) (p : ℕ) (j : Job) (m : IsIn (all_rounds t fs now) r p j) (o : IsOld r p j) → IsIn (all_rounds t fs now) (round_of t fs o.start) p j
     new_in r p j m o = subst (λ z. IsIn (all_rounds t fs now) z p j) (sym o.is) m
 
     -- another job of the same round
-    same_round : (r : Round) (q : ℕ) (h : Job) (s : ℕ) → round_of t fs s ≡ r → s < now → (number : ℕ) → slice_get (all_rounds t es now) number ≡ Some (round_of t es s) → IsIn (all_rounds t fs now) r q h → IsIn (all_rounds t es now) (round_of t es s) q h
-    same_round r q h s e soon number at m = record { number = number; at = at; job = ap (λ js. slice_get js q) (match s soon).jobs ∙ ap (λ (z : Round). slice_get z.jobs q) e ∙ m.job; present = m.present }
+    same_round : (r : BeginningJobs) (q : ℕ) (h : Job) (s : ℕ) → round_of t fs s ≡ r → s < now → (number : ℕ) → slice_get (all_rounds t es now) number ≡ Some (round_of t es s) → IsIn (all_rounds t fs now) r q h → IsIn (all_rounds t es now) (round_of t es s) q h
+    same_round r q h s e soon number at m = record { number = number; at = at; job = ap (λ js. slice_get js q) (match s soon).jobs ∙ ap (λ (z : BeginningJobs). slice_get z.jobs q) e ∙ m.job; present = m.present }
 
     kept_then_too : AreKept t (all_rounds t fs now) then.roster
     kept_then_too = record { has = has; only = only; together = together; before = before; mates = mates; once = once }
@@ -213,32 +213,32 @@ module _ (t : Tables) (range : AreInRange t) (rounds : HaveRounds t) (es : List 
               current = on w.start h.position h.job there w.in_new (subst (λ z. IsCurrent t k.roster z h.position h.job) (sym w.is) h.current);
             }
 
-        only : (r : Round) (p : ℕ) (j : Job) → IsIn (all_rounds t fs now) r p j → IsCurrent t then.roster r p j ⊎ (r.start + j.end ≤ start_at then.roster j.inv)
+        only : (r : BeginningJobs) (p : ℕ) (j : Job) → IsIn (all_rounds t fs now) r p j → IsCurrent t then.roster r p j ⊎ (r.start + j.end ≤ start_at then.roster j.inv)
         only r p j m =
             let o = (was r p j m).0 in
             elim (kept.only (round_of t es o.start) p j o.in_old) [
               | inl cur ↦ inl (subst (λ z. IsCurrent t then.roster z p j) o.is (on o.start p j o.in_old (new_in r p j m o) cur))
-              | inr past ↦ inr (omega (arith, past, ap (λ (z : Round). z.start) o.is, ap (λ ns. get_or ns j.inv 0) same.starts))
+              | inr past ↦ inr (omega (arith, past, ap (λ (z : BeginningJobs). z.start) o.is, ap (λ ns. get_or ns j.inv 0) same.starts))
             ]
 
-        together : (r : Round) (p q : ℕ) (j h : Job) → IsIn (all_rounds t fs now) r p j → IsIn (all_rounds t fs now) r q h → feeds t h.inv j.inv ≡ true → IsCurrent t then.roster r p j → IsCurrent t then.roster r q h
+        together : (r : BeginningJobs) (p q : ℕ) (j h : Job) → IsIn (all_rounds t fs now) r p j → IsIn (all_rounds t fs now) r q h → feeds t h.inv j.inv ≡ true → IsCurrent t then.roster r p j → IsCurrent t then.roster r q h
         together r p q j h a b fed cur =
             let o = (was r p j a).0 in
             let m = same_round r q h o.start o.is o.soon o.in_old.number o.in_old.at b in
             let c = kept.together (round_of t es o.start) p q j h o.in_old m fed (old_current r p j o cur) in
             subst (λ z. IsCurrent t then.roster z q h) o.is (on o.start q h m (subst (λ z. IsIn (all_rounds t fs now) z q h) (sym o.is) b) c)
 
-        before : (r : Round) (p q : ℕ) (j h : Job) → IsIn (all_rounds t fs now) r p j → IsIn (all_rounds t fs now) r q h → precedes q j ≡ feeds t h.inv j.inv
+        before : (r : BeginningJobs) (p q : ℕ) (j h : Job) → IsIn (all_rounds t fs now) r p j → IsIn (all_rounds t fs now) r q h → precedes q j ≡ feeds t h.inv j.inv
         before r p q j h a b = let o = (was r p j a).0 in kept.before (round_of t es o.start) p q j h o.in_old (same_round r q h o.start o.is o.soon o.in_old.number o.in_old.at b)
 
-        mates : (r : Round) (p : ℕ) (j : Job) (m : ℕ) → IsIn (all_rounds t fs now) r p j → IsCurrent t then.roster r p j → has_job then.roster m ≡ true → feeds t m j.inv ≡ true
+        mates : (r : BeginningJobs) (p : ℕ) (j : Job) (m : ℕ) → IsIn (all_rounds t fs now) r p j → IsCurrent t then.roster r p j → has_job then.roster m ≡ true → feeds t m j.inv ≡ true
             → (q : ℕ) × (h : Job) × (h.inv ≡ m) × IsIn (all_rounds t fs now) r q h
         mates r p j m a cur e fed =
             let o = (was r p j a).0 in
             let g = kept.mates (round_of t es o.start) p j m o.in_old (old_current r p j o cur) (stood m e) fed in
-            (g.0, g.1, g.2, record { number = a.number; at = a.at; job = ap (λ (z : Round). slice_get z.jobs g.0) (sym o.is) ∙ ap (λ js. slice_get js g.0) (sym (match o.start o.soon).jobs) ∙ g.3.job; present = g.3.present })
+            (g.0, g.1, g.2, record { number = a.number; at = a.at; job = ap (λ (z : BeginningJobs). slice_get z.jobs g.0) (sym o.is) ∙ ap (λ js. slice_get js g.0) (sym (match o.start o.soon).jobs) ∙ g.3.job; present = g.3.present })
 
-        once : (r s : Round) (p q : ℕ) (j h : Job) (a : IsIn (all_rounds t fs now) r p j) (b : IsIn (all_rounds t fs now) s q h) → IsCurrent t then.roster r p j → IsCurrent t then.roster s q h → j.inv ≡ h.inv → (a.number ≡ b.number) × (p ≡ q)
+        once : (r s : BeginningJobs) (p q : ℕ) (j h : Job) (a : IsIn (all_rounds t fs now) r p j) (b : IsIn (all_rounds t fs now) s q h) → IsCurrent t then.roster r p j → IsCurrent t then.roster s q h → j.inv ≡ h.inv → (a.number ≡ b.number) × (p ≡ q)
         once r s p q j h a b x y same_inv =
             let o = was r p j a in
             let u = was s q h b in
@@ -275,10 +275,10 @@ module _ (t : Tables) (range : AreInRange t) (rounds : HaveRounds t) (es : List 
         done = same.done ∙ a.done ∙ done_same;
       }
     where
-      sums : (r : Round) (p : ℕ) (j : Job) → IsIn (all_rounds t fs now) r p j → IsCurrent t then.roster r p j → ticks r j (take c log) ≡ sum_at then.sums j.inv
+      sums : (r : BeginningJobs) (p : ℕ) (j : Job) → IsIn (all_rounds t fs now) r p j → IsCurrent t then.roster r p j → ticks r j (take c log) ≡ sum_at then.sums j.inv
       sums r p j m cur =
           let o = (was r p j m).0 in
-          ticks_start r (round_of t es o.start) j (take c log) (sym (ap (λ (z : Round). z.start) o.is)) ∙ a.sums (round_of t es o.start) p j o.in_old (old_current a.kept r p j o cur)
+          ticks_start r (round_of t es o.start) j (take c log) (sym (ap (λ (z : BeginningJobs). z.start) o.is)) ∙ a.sums (round_of t es o.start) p j o.in_old (old_current a.kept r p j o cur)
           ∙ sym (ap (λ ns. get_or ns j.inv 0) same.sums)
 
   pub taken_follows : LogFollows t (all_rounds t fs now) now log then

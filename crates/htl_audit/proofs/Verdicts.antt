@@ -8,7 +8,7 @@ use Rattle.htl_form.proofs.PartLaws.{none_some}
 use Rattle.htl_audit.specs.declared.slice.Slice.{Slice}
 use Rattle.htl_audit.specs.declared.slice.LogKind.TheVariants as kind
 use Rattle.htl_audit.specs.declared.slice.LogFault.{LogFault}
-use Rattle.htl_audit.specs.Jobs.{Round}
+use Rattle.htl_audit.specs.Jobs.{BeginningJobs}
 use Rattle.htl_audit.specs.Legal.{line_fault, any_short, fault_at, first_fault_in, jobs_done, last_end, any_job, lies_in, is_over, is_free}
 use Rattle.htl_audit.specs.Keeping.{Kept}
 use Rattle.htl_audit.specs.Lines.{IsLast}
@@ -32,7 +32,7 @@ there [] n h = absurd (omega arith)
 there (x ∷ xs) zero h = (x, refl)
 there (x ∷ xs) (suc n) h = there xs n (omega (arith, h))
 
-module _ (rounds : List Round) (now : ℕ) (log : List Slice) (k : Kept) (f : LogEnds rounds now log k) where
+module _ (rounds : List BeginningJobs) (now : ℕ) (log : List Slice) (k : Kept) (f : LogEnds rounds now log k) where
   -- a line that doesn't end before `now` is out of order
   late : (before : List Slice) (x : Slice) → now ≤ x.to → line_fault rounds now before x ≡ Some kind.Order
   late before x h = ap (λ b. cond b (Some kind.Order) (rest (any_job (λ r j. lies_in r j.1 x) rounds) (any_job (λ r j. lies_in r j.1 x && is_over r (before ++ x ∷ []) j) rounds) (any_job (λ r j. lies_in r j.1 x && not (is_free r before j.1)) rounds))) (or_last (leb x.to x.from || ltb x.from (last_end before)) (leb now x.to) (below now x.to h))

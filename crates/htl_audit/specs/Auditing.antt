@@ -32,7 +32,7 @@ IsLogUpTo a es now = LogFollows a.machine.object.tables (all_rounds a.machine.ob
 
 -- an auditor follows events: its machine does, it keeps how long jobs take, and the lines are judged that end before the last reading,
 -- up to the first fault
-pub record Follows (a : Audit) (es : List Event) : Type 0 where
+pub record AuditFollows (a : Audit) (es : List Event) : Type 0 where
   pub machine : machines.Follows a.machine es
   pub shown : a.machine.show ≡ Values
   pub takes : (i u : ℕ) → i < length a.machine.object.tables.invs → a.machine.held.reading ≤ u → took a.machine.object.tables es i u ≡ get_or a.takes i 0

@@ -136,14 +136,14 @@ abbrev pub passed : Tables → ℕ → List Slice → Kept → Kept
 passed t now lines k = settled t now (judged_to t now lines k)
 
 -- the invocation is concrete and its mode runs, where the modules are in these modes
-abbrev pub runs_in : Tables → List (Option ℕ) → ℕ → Bool
-runs_in t modes i = elim (slice_get t.invs i) [ Some x ↦ is_concrete t x && is_at (list_at modes (mode_module t x.mode)) x.mode | None ↦ false ]
+abbrev pub inv_runs_in : Tables → List (Option ℕ) → ℕ → Bool
+inv_runs_in t modes i = elim (slice_get t.invs i) [ Some x ↦ is_concrete t x && is_at (list_at modes (mode_module t x.mode)) x.mode | None ↦ false ]
 
 -- a round of the invocation begins at s, in which a job takes n ticks
 abbrev pub renewed : Tables → List (Option ℕ) → ℕ → ℕ → ℕ → Kept → Kept
 renewed t modes s n i k =
     record k {
-      roster = record { stands = set k.roster.stands i (runs_in t modes i); starts = set k.roster.starts i s; lengths = set k.roster.lengths i n };
+      roster = record { stands = set k.roster.stands i (inv_runs_in t modes i); starts = set k.roster.starts i s; lengths = set k.roster.lengths i n };
       sums = set k.sums i 0;
     }
 
@@ -158,12 +158,12 @@ renewed_to t modes takes s (suc n) k =
     let z = renewed_to t modes takes s n k in
     cond (begins_round t s n) (renewed t modes s (get_or takes n 0) n z) z
 
-abbrev pub begun : Tables → List (Option ℕ) → List ℕ → ℕ → Kept → Kept
-begun t modes takes s k = renewed_to t modes takes s (length t.invs) k
+abbrev pub lengths_begun : Tables → List (Option ℕ) → List ℕ → ℕ → Kept → Kept
+lengths_begun t modes takes s k = renewed_to t modes takes s (length t.invs) k
 
 -- the job of the invocation takes n ticks, where it is released at `now` or later
-abbrev pub taken : Tables → ℕ → ℕ → ℕ → Kept → Kept
-taken t now i n k =
+abbrev pub inv_takes : Tables → ℕ → ℕ → ℕ → Kept → Kept
+inv_takes t now i n k =
     cond (leb now (start_at k.roster i + release_at t i))
     (record k { roster = record { stands = k.roster.stands; starts = k.roster.starts; lengths = set k.roster.lengths i n } }) k
 

@@ -60,9 +60,9 @@ log_of t bytes = log_of_lines t 1 (lines_of bytes)
 -- ---- reading
 
 -- slices in front of what the lines behind them give
-abbrev pub behind : List Slice → Log → Log
-behind xs (Read ys) = Read (xs ++ ys)
-behind xs (Refused n k) = Refused n k
+abbrev pub slices_in_front : List Slice → Log → Log
+slices_in_front xs (Read ys) = Read (xs ++ ys)
+slices_in_front xs (Refused n k) = Refused n k
 
 -- the first line of what is left, and what follows it
 pub record IsFirstLine (bytes text rest : List ℕ) : Type 0 where

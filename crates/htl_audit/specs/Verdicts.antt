@@ -5,20 +5,20 @@ use Rattle.htl_model.specs.Tables.{Tables}
 use Rattle.htl_audit.specs.declared.slice.Slice.{Slice}
 use Rattle.htl_audit.specs.declared.slice.LogKind.TheVariants as kind
 use Rattle.htl_audit.specs.declared.slice.LogFault.{LogFault}
-use Rattle.htl_audit.specs.Jobs.{Round}
+use Rattle.htl_audit.specs.Jobs.{BeginningJobs}
 use Rattle.htl_audit.specs.Legal.{any_short, fault_at}
 use Rattle.htl_audit.specs.Keeping.{Kept}
 use Rattle.htl_audit.specs.Lines.{AreJudged, AreAllJudged, BeganBefore}
 
 -- before instant `now`: the lines that end before it are judged, up to the first fault; where there is none, it is kept whether a
 -- job fell short whose window ended before
-pub record LogFollows (t : Tables) (rounds : List Round) (now : ℕ) (log : List Slice) (k : Kept) : Type 0 where
+pub record LogFollows (t : Tables) (rounds : List BeginningJobs) (now : ℕ) (log : List Slice) (k : Kept) : Type 0 where
   pub judged : AreJudged t rounds now [] log k
   pub short : k.fault ≡ None → k.short ≡ any_short rounds now (take judged.count log)
   pub began : BeganBefore now k
 
 -- the same at the end of a run
-pub record LogEnds (rounds : List Round) (now : ℕ) (log : List Slice) (k : Kept) : Type 0 where
+pub record LogEnds (rounds : List BeginningJobs) (now : ℕ) (log : List Slice) (k : Kept) : Type 0 where
   pub judged : AreAllJudged rounds now log k
   pub short : k.fault ≡ None → k.short ≡ any_short rounds now (take judged.count log)
 

@@ -11,8 +11,8 @@ ghost use Rattle.htl_edge.specs.Content.{Puts};
 ghost use Rattle.htl_machine.specs.Calls as machines;
 ghost use Rattle.htl_model.specs.Frames.{root_periods, begins};
 ghost use Rattle.htl_object.specs.Accepted.{IsAccepted};
-ghost use Rattle.htl_audit.specs.Auditing.{AreSized, AreNone, IsGone, Follows, IsAudited, IsStopped, IsSameAudit, IsNextStart};
-ghost use Rattle.htl_audit.specs.Keeping.{passed, begun};
+ghost use Rattle.htl_audit.specs.Auditing.{AreSized, AreNone, IsGone, AuditFollows, IsAudited, IsStopped, IsSameAudit, IsNextStart};
+ghost use Rattle.htl_audit.specs.Keeping.{passed, lengths_begun};
 ghost use Rattle.htl_audit.specs.Jobs.{all_rounds};
 ghost use Rattle.htl_audit.specs.Legal.{first_fault, jobs_done};
 ghost use Rattle.htl_audit.specs.Verdicts.{verdict_of};
@@ -87,7 +87,7 @@ impl<'a> Auditor<'a> {
     /// audit is taken here; want of it is the one refusal.
     pub fn new(alloc: Global, l: &'a Loaded, log: &'a [Slice]) -> Result<Auditor<'a>, Memory>
         requires lines { All (λ x. x.inv < length l.now.tables.invs) log.now }
-        ensures follows { IfOk result (λ a. Follows a []) }
+        ensures follows { IfOk result (λ a. AuditFollows a []) }
         ensures object { IfOk result (λ a. a.machine.object ≡ l.now) }
         ensures log { IfOk result (λ a. a.log ≡ log.now) }
     {
@@ -116,9 +116,9 @@ impl<'a> Auditor<'a> {
     /// What a sensor shows from the last reading on. The machine isn't spent, the communicator is a sensor, and the value is of its
     /// type.
     pub fn sense(&mut self, comm: u16, x: Value)
-        requires follows { (es : List Told) × Follows self.old es }
+        requires follows { (es : List Told) × AuditFollows self.old es }
         requires sensor { IsSensorValue self.old.machine.object.tables comm x }
-        ensures follows { (es : List Told) → Follows self.old es → Follows self.new (es ++ event.Sense comm x ∷ []) }
+        ensures follows { (es : List Told) → AuditFollows self.old es → AuditFollows self.new (es ++ event.Sense comm x ∷ []) }
         ensures same { IsSameAudit self.old self.new }
     {
         self.machine.sense(comm, x);
@@ -127,9 +127,9 @@ impl<'a> Auditor<'a> {
     /// How many ticks jobs of an invocation take that are released at the last reading or later. The machine isn't spent, the
     /// invocation is concrete, and the length is from 1 to its worst case.
     pub fn took(&mut self, inv: u16, ticks: Time)
-        requires follows { (es : List Told) × Follows self.old es }
+        requires follows { (es : List Told) × AuditFollows self.old es }
         requires ticks { IsLength self.old.machine.object.tables inv ticks }
-        ensures follows { (es : List Told) → Follows self.old es → Follows self.new (es ++ event.Took inv ticks ∷ []) }
+        ensures follows { (es : List Told) → AuditFollows self.old es → AuditFollows self.new (es ++ event.Took inv ticks ∷ []) }
         ensures same { IsSameAudit self.old self.new }
     {
         let now = self.machine.reading();
@@ -157,7 +157,7 @@ impl<'a> Auditor<'a> {
 
     // Begins the rounds of an instant, in the modes of the machine.
     fn begin(&mut self, at: Time)
-        ensures { self.new ≡ record self.old { kept = begun self.old.machine.object.tables self.old.machine.standing.calendar.modes self.old.takes at self.old.kept } }
+        ensures { self.new ≡ record self.old { kept = lengths_begun self.old.machine.object.tables self.old.machine.standing.calendar.modes self.old.takes at self.old.kept } }
     {
         self.ledger.begin(
             self.loaded.tables(),
@@ -271,11 +271,11 @@ impl<'a> Auditor<'a> {
     /// count rose: then a prefix of the lines was written, and the auditor is spent. Beside the instants at which something is due it
     /// goes over those at which rounds begin.
     pub fn advance<W: Sink>(&mut self, to: Time, sink: &mut W) -> Result<(), Failed>
-        requires follows { (es : List Told) × Follows self.old es }
+        requires follows { (es : List Told) × AuditFollows self.old es }
         requires order { self.old.machine.held.reading ≤ to }
         requires at { to ≤ limit.MAX_INSTANT }
-        ensures text { (es : List Told) → Follows self.old es → Puts (W.written sink.old) (W.written sink.new) (W.faults sink.old) (W.faults sink.new) (text_between self.old.machine.object es Values self.old.machine.held.reading to) result }
-        ensures follows { (es : List Told) → Follows self.old es → OnOk result (Follows self.new (es ++ event.At to ∷ [])) }
+        ensures text { (es : List Told) → AuditFollows self.old es → Puts (W.written sink.old) (W.written sink.new) (W.faults sink.old) (W.faults sink.new) (text_between self.old.machine.object es Values self.old.machine.held.reading to) result }
+        ensures follows { (es : List Told) → AuditFollows self.old es → OnOk result (AuditFollows self.new (es ++ event.At to ∷ [])) }
         ensures spent { OnErr result (self.new.machine.held.spent ≡ true) }
         ensures same { IsSameAudit self.old self.new }
     {
@@ -291,11 +291,11 @@ impl<'a> Auditor<'a> {
     /// log that end by then. The machine isn't spent, and `to` is from the reading to 1,000,000,000. `Failed` comes only where the
     /// sink's count rose: then a prefix of the lines was written, and the auditor is spent.
     pub fn finish<W: Sink>(&mut self, to: Time, sink: &mut W) -> Result<(), Failed>
-        requires follows { (es : List Told) × Follows self.old es }
+        requires follows { (es : List Told) × AuditFollows self.old es }
         requires order { self.old.machine.held.reading ≤ to }
         requires at { to ≤ limit.MAX_INSTANT }
-        ensures text { (es : List Told) → Follows self.old es → Puts (W.written sink.old) (W.written sink.new) (W.faults sink.old) (W.faults sink.new) (text_between self.old.machine.object es Values self.old.machine.held.reading (suc to)) result }
-        ensures audited { (es : List Told) → Follows self.old es → OnOk result (IsAudited self.new es to) }
+        ensures text { (es : List Told) → AuditFollows self.old es → Puts (W.written sink.old) (W.written sink.new) (W.faults sink.old) (W.faults sink.new) (text_between self.old.machine.object es Values self.old.machine.held.reading (suc to)) result }
+        ensures audited { (es : List Told) → AuditFollows self.old es → OnOk result (IsAudited self.new es to) }
         ensures spent { OnErr result (self.new.machine.held.spent ≡ true) }
         ensures same { IsSameAudit self.old self.new }
     {

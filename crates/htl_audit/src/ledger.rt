@@ -6,7 +6,7 @@ ghost use Rattle.htl_audit.specs.Feeders.{all_feeders, is_done_at, are_done as a
 ghost use Rattle.htl_audit.specs.Auditing.{AreDue};
 ghost use Rattle.htl_audit.specs.Saying.{Says};
 ghost use Rattle.htl_audit.specs.Verdicts.{verdict_of};
-ghost use Rattle.htl_audit.specs.Keeping.{is_between, is_inside as is_inside_of, kind_of as kind_of_line, judged, judged_to, with_slice, sum_at, length_at, ticks_of, with_kind, fell_short as fell_short_of, any_fell_short as any_fell_short_of, settled, renewed, begun, taken, runs_in, first_kept, has_job, start_at, end_at};
+ghost use Rattle.htl_audit.specs.Keeping.{is_between, is_inside as is_inside_of, kind_of as kind_of_line, judged, judged_to, with_slice, sum_at, length_at, ticks_of, with_kind, fell_short as fell_short_of, any_fell_short as any_fell_short_of, settled, renewed, lengths_begun, inv_takes, inv_runs_in, first_kept, has_job, start_at, end_at};
 
 use crate::auditor::AuditTotals;
 use crate::feeders::Feeders;
@@ -79,7 +79,7 @@ fn stands_in(machine: &Machine<'_>, module: u16, mode: u16) -> bool
 // Whether the invocation is concrete and its mode runs.
 fn runs(t: &Tables, machine: &Machine<'_>, i: usize) -> bool
     requires { i < length t.now.invs }
-    ensures { result ≡ runs_in t.now machine.now.standing.calendar.modes i }
+    ensures { result ≡ inv_runs_in t.now machine.now.standing.calendar.modes i }
 {
     let inv = &t.parts().invs.as_slice()[i];
     is_concrete(t, inv) && stands_in(machine, mode_module(t, inv.mode), inv.mode)
@@ -312,7 +312,7 @@ impl Ledger {
         requires rows { length self.old.roster.stands ≡ length t.now.invs }
         requires takes { length takes.now ≡ length t.now.invs }
         requires small { (i : ℕ) → get_or takes.now i 0 ≤ 1000000 }
-        ensures { self.new ≡ begun t.now machine.now.standing.calendar.modes takes.now at self.old }
+        ensures { self.new ≡ lengths_begun t.now machine.now.standing.calendar.modes takes.now at self.old }
     {
         for i in 0..takes.len() {
             if begins_round(t, at, i) {
@@ -326,7 +326,7 @@ impl Ledger {
         requires inv { inv < length t.now.invs }
         requires rows { length self.old.roster.stands ≡ length t.now.invs }
         requires small { ticks ≤ 1000000 }
-        ensures { self.new ≡ taken t.now now inv ticks self.old }
+        ensures { self.new ≡ inv_takes t.now now inv ticks self.old }
     {
         let i = inv as usize;
         let window = t.window(inv);

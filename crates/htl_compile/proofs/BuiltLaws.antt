@@ -27,7 +27,7 @@ use Rattle.htl_model.specs.FunctionTypes.{FitPlaces}
 use Rattle.htl_model.specs.Ranges.{AreInRange}
 use Rattle.htl_model.specs.Tables.{Tables}
 use Rattle.htl_object.specs.Accepted.{IsAccepted}
-use Rattle.htl_object.specs.Ranges.{IsCode, IsInRange}
+use Rattle.htl_object.specs.Ranges.{IsFunctionCode, IsInRange}
 use Rattle.htl_walk.specs.Feasible.{AreFeasible}
 use Rattle.htl_walk.specs.NodeWalks.{instrs_of}
 use Rattle.htl_walk.specs.declared.job.Job.{Job}
@@ -53,7 +53,7 @@ few_instrs t r =
     let n = length t.modes in
     omega (arith, modes_length t (enter_places t n) n, place_room t n r (omega arith))
 
-pub object_accepted : (platform : Option (List ℕ)) (t : Tables) → AreInRange t → KeepsLimits t → Formed t → FitPlaces t → All IsCode t.functions → AreSchedulable t → IsAccepted (object_for platform t)
+pub object_accepted : (platform : Option (List ℕ)) (t : Tables) → AreInRange t → KeepsLimits t → Formed t → FitPlaces t → All IsFunctionCode t.functions → AreSchedulable t → IsAccepted (object_for platform t)
 object_accepted platform t r limits formed fit code free =
     let n = length t.modes in
     let spells : Spells t (layout t) = (spells_or_departs t (layout t)).1 (layout_departs_not t) in

@@ -19,7 +19,7 @@ use Rattle.htl_model.specs.Ranges.{AreInRange, IsFunInRange}
 use Rattle.htl_model.specs.Small.{IsSmallFunction, AreSmall}
 use Rattle.htl_model.specs.Tables.{Tables, Fun, Formula, Compiled, fun}
 use Rattle.htl_model.specs.declared.form_fault.FormFault.{FormFault}
-use Rattle.htl_object.specs.Ranges.{IsCode}
+use Rattle.htl_object.specs.Ranges.{IsFunctionCode}
 
 -- ---- lists by places
 
@@ -122,7 +122,7 @@ function_range : (f : FunctionType) (g : Fun) → length f.args ≤ 256 → IsFu
 function_range f (Formula first e) few h = absurd h
 function_range f (Compiled code) few h = (h.verified.some_code, h.verified.short, omega (arith, ap length h.args, few))
 
-function_code : (f : FunctionType) (g : Fun) → IsFunctionOf f g → IsCode g
+function_code : (f : FunctionType) (g : Fun) → IsFunctionOf f g → IsFunctionCode g
 function_code f (Formula first e) h = h
 function_code f (Compiled code) h = tt
 
@@ -130,7 +130,7 @@ few_args : (f : FunctionType) (g : Fun) → IsSmallFunction f g → length f.arg
 few_args f (Formula first e) h = h.1
 few_args f (Compiled code) h = absurd h
 
-all_codes : (t : Tables) → AreInRange t → AreSmall t → AreTyped t → (k : ℕ) (d : Fun) → k < length (codes t) → IsFunInRange (get_or (codes t) k d) × IsCode (get_or (codes t) k d)
+all_codes : (t : Tables) → AreInRange t → AreSmall t → AreTyped t → (k : ℕ) (d : Fun) → k < length (codes t) → IsFunInRange (get_or (codes t) k d) × IsFunctionCode (get_or (codes t) k d)
 all_codes t r small typed k d below =
     let less : k < length t.functions = omega (arith, below, length-list_to (code_at t) (length t.functions)) in
     let p = place t k r less in
@@ -142,7 +142,7 @@ pub coded_in_range : (t : Tables) → AreInRange t → AreSmall t → AreTyped t
 coded_in_range t r small typed =
     in_range t (codes t) r (λ k d less. (all_codes t r small typed k d less).0) (length-list_to (code_at t) (length t.functions))
 
-pub codes_are_code : (t : Tables) → AreInRange t → AreSmall t → AreTyped t → All IsCode (codes t)
+pub codes_are_code : (t : Tables) → AreInRange t → AreSmall t → AreTyped t → All IsFunctionCode (codes t)
 codes_are_code t r small typed = λ k d less. (all_codes t r small typed k d less).1
 
 -- ---- rules
@@ -151,7 +151,7 @@ pub first_coded : (t : Tables) (f : FormFault) → IsFirstBroken (coded t) f →
 first_coded t f h = first_same t (codes t) t.functions f h
 
 -- functions that fit their places are code
-pub fitting_are_code : (t : Tables) → AreInRange t → FitPlaces t → All IsCode t.functions
+pub fitting_are_code : (t : Tables) → AreInRange t → FitPlaces t → All IsFunctionCode t.functions
 fitting_are_code t r fit = λ k d less.
     let p = place t k r less in
     let g : Fun = get_or t.functions k d in

@@ -8,7 +8,7 @@ use Rattle.htl_compile.specs.Built.{through, node_schedule, schedules}
 use Rattle.htl_edf.proofs.Cutting.{from_none, from_more}
 use Rattle.htl_edf.proofs.NodeCode.{depth_same}
 use Rattle.htl_edf.proofs.NodeLists.{one_list_of_node}
-use Rattle.htl_edf.specs.Code.{instrs_of as slice_instrs}
+use Rattle.htl_edf.specs.Code.{dispatches_of as slice_instrs}
 use Rattle.htl_edf.specs.Edf.{Slice, longer, edf}
 use Rattle.htl_edf.specs.Lists.{tightened}
 use Rattle.htl_edf.specs.NodePlans.{AreReady, AreNodeLists}
@@ -22,7 +22,7 @@ use Rattle.htl_model.specs.Tables.{Tables}
 use Rattle.htl_object.specs.Ranges.{IsShort}
 use Rattle.htl_walk.proofs.CodeWalk.{list_read}
 use Rattle.htl_walk.proofs.Nodes.{nodes_within}
-use Rattle.htl_walk.specs.FrameLaws.{start_at, end_at}
+use Rattle.htl_walk.specs.FrameLaws.{start_at, start_end_at}
 use Rattle.htl_walk.specs.NodeWalks.{instrs_of}
 use Rattle.htl_walk.specs.PathJobs.{path_jobs, next_of}
 use Rattle.htl_walk.specs.declared.job.Job.{Job}
@@ -152,7 +152,7 @@ module _ (t : Tables) (range : AreInRange t) where
       let i : ℕ = (through (radices t) n).1 in
       let same : i ≡ j = depth_same (radices t) p path i j some_ways (in_radices i of.start) (in_radices j l) of.is in
       let there : node t p j ≡ n = ap (node t p) (sym same) ∙ of.is in
-      listed n less ∙ ap (λ (k : ℕ). part (path_jobs t p) (start_at t k) (end_at t k)) same
+      listed n less ∙ ap (λ (k : ℕ). part (path_jobs t p) (start_at t k) (start_end_at t k)) same
       ∙ one_list_of_node t p path j (ready.each p of.path).order (ready.each path below).order of.path below l there
     where
       in_radices : (k : ℕ) → k < length (starts t) → k < length (radices t)
@@ -217,6 +217,6 @@ pub schedules_short : (t : Tables) → AreInRange t → frame_limit t ≡ None �
 schedules_short t range limit = λ k d less.
     let below : k < nodes t = omega (arith, less, length-list_to (node_schedule t) (nodes t)) in
     let x = through (radices t) k in
-    let end : end_at t x.1 ≤ frame_of t = next_most (frame_of t) (suc x.1) (starts t) (starts_most (root_periods t) (frame_of t)) in
-    let most : length (node_schedule t k).instrs ≤ 4294967295 = omega (arith, part_short (path_jobs t x.0) (start_at t x.1) (end_at t x.1), end, (limits_kept t range limit).frame) in
+    let end : start_end_at t x.1 ≤ frame_of t = next_most (frame_of t) (suc x.1) (starts t) (starts_most (root_periods t) (frame_of t)) in
+    let most : length (node_schedule t k).instrs ≤ 4294967295 = omega (arith, part_short (path_jobs t x.0) (start_at t x.1) (start_end_at t x.1), end, (limits_kept t range limit).frame) in
     subst (λ (s : Schedule). IsShort s) (sym (get_list_to (node_schedule t) (nodes t) k d below)) most

@@ -3,7 +3,7 @@ use Rattle.std.proofs.Common.{◌≡◌, slice_get, refl, ℕ, List, [], ◌∷�
 use Rattle.std.specs.List.{flat_map}
 use Rattle.htl_names.proofs.Members.{Each, each_at, each_append}
 use Rattle.htl_compile.specs.TokenBounds.{AreOperatorsBelow, IsFunctionBelow, AreFunctionsBelow}
-use Rattle.htl_names.specs.Flat.{Layout, layout, term_by, input_place, output_function, outs_functions, task_functions, module_functions, comms_in, read_place, switch_function, mode_functions, function_items, tables_of_tree}
+use Rattle.htl_names.specs.Flat.{Layout, layout, term_by, input_place, flat_output_function, outs_functions, task_functions, module_functions, comms_in, read_place, flat_switch_function, mode_functions, function_items, tables_of_tree}
 use Rattle.htl_names.specs.Order.{modules_at, module_at, tasks_at, modes_at, mode_at, switches_at}
 use Rattle.htl_names.specs.declared.place.ModeAt.{ModeAt}
 use Rattle.htl_names.specs.declared.place.ModuleAt.{ModuleAt}
@@ -26,7 +26,7 @@ module _ (n : ℕ) where
 
   outs_below : (l : Layout) (p u k : ℕ) (o : PlainOuts) → AreOuts n o → Each (IsFunctionBelow n) (outs_functions l p u k o)
   outs_below l p u k (Concrete xs) h =
-      each_map n (IsFunctionBelow n) (IsOut n) (output_function l p u k) (λ o is. (is.first, operators_below (input_place l p u k) o.value is.value.operators)) xs h
+      each_map n (IsFunctionBelow n) (IsOut n) (flat_output_function l p u k) (λ o is. (is.first, operators_below (input_place l p u k) o.value is.value.operators)) xs h
   outs_below l p u k (Abstract xs) h = tt
 
   modules_by : (o : Option PlainProgram) → ((x : PlainProgram) → o ≡ Some x → IsProgramNode n x) → Each (IsModule n) (elim o [ Some x ↦ x.modules | None ↦ [] ])
@@ -63,12 +63,12 @@ module _ (n : ℕ) where
         each_flat_at n (IsFunctionBelow n) (IsTask n) (task_functions l s.program s.«module») (λ k t is. outs_below l s.program s.«module» k t.outputs is.outputs) 0
         (tasks_at ps s.program s.«module») (tasks_by (module_at ps s.program s.«module») (module_there s.program s.«module»))
 
-    switch_below : (l : Layout) (s : PlainSwitch) → IsSwitch n s → IsFunctionBelow n (switch_function l s)
+    switch_below : (l : Layout) (s : PlainSwitch) → IsSwitch n s → IsFunctionBelow n (flat_switch_function l s)
     switch_below l s is = (is.first, operators_below (read_place l (comms_in l s.cond)) s.cond is.cond.operators)
 
     mode_below : (l : Layout) (a : ModeAt) → Each (IsFunctionBelow n) (mode_functions l ps a)
     mode_below l a =
-        each_map n (IsFunctionBelow n) (IsSwitch n) (switch_function l) (switch_below l) (switches_at ps a)
+        each_map n (IsFunctionBelow n) (IsSwitch n) (flat_switch_function l) (switch_below l) (switches_at ps a)
         (switches_by (mode_at ps a) (mode_there a))
 
     items_below : (l : Layout) → Each (IsFunctionBelow n) (function_items l ps)

@@ -23,7 +23,7 @@ use Rattle.htl_parse.specs.Runs.{IsLong, IsFirstLong}
 use Rattle.htl_text.proofs.FirstFault.{Tokens-sound, Faults-unique}
 use Rattle.htl_text.proofs.OneCut.{Tokens-unique}
 use Rattle.htl_text.specs.Nodes.{PlainProgram}
-use Rattle.htl_text.specs.Placed.{numbered}
+use Rattle.htl_text.specs.Placed.{tokens_numbered}
 use Rattle.htl_text.specs.Spans.{Tokens as IsTokens, Faults}
 use Rattle.htl_text.specs.TokenLists.{TokenList}
 use Rattle.htl_text.specs.declared.lexer.LexFault.{LexFault}
@@ -38,7 +38,7 @@ same_list bytes t u one two = Tokens-unique bytes u t two.tokens one.tokens
 -- and the same programs
 same_programs : (bytes : List ℕ) (t u : TokenList) (ps qs : List PlainProgram) → Reads bytes t → Reads bytes u → Spell t.tokens ps → Spell u.tokens qs → ps ≡ qs
 same_programs bytes t u ps qs one two p q =
-    one_tree-law (numbered 0 t.tokens) ps qs p (subst (λ (v : TokenList). Spell v.tokens qs) (same_list bytes t u one two) q)
+    one_tree-law (tokens_numbered 0 t.tokens) ps qs p (subst (λ (v : TokenList). Spell v.tokens qs) (same_list bytes t u one two) q)
 
 begins_once : (t : TokenList) (j k a b : ℕ) → j ≡ k → BeginsAt t j a → BeginsAt t k b → a ≡ b
 begins_once t j k a b same p q =

@@ -8,7 +8,7 @@ use Rattle.htl_base.specs.declared.operator.BinOp.{BinOp}
 use Rattle.htl_text.specs.Expressions.{Expr, Number, Flag, Variable, Prefix, Infix, Choice}
 use Rattle.htl_text.specs.Grammar.{Level, Spells, conj, or, cmp, and, sum, compare, prod, add, unary, multiply, atom, prefix, number, true_word, false_word, name, brackets, choice}
 use Rattle.htl_text.specs.Nodes.{PlainOut, PlainOuts, Concrete, Abstract, PlainTask, PlainSwitch, PlainMode, PlainModule, PlainProgram}
-use Rattle.htl_text.specs.Placed.{Placed, Put, numbered}
+use Rattle.htl_text.specs.Placed.{Placed, Put, tokens_numbered}
 use Rattle.htl_text.specs.Statements.{SpellsMore, no_more, comma, SpellsList, empty, items, SpellsEach, no_other, another, SpellsClause, absent, present, SpellsType, int, bool, SpellsConst, positive, negative, true_word as true_const, false_word as false_const, SpellsComm, communicator, sensor, SpellsParam, param, SpellsOut, out, SpellsTask, concrete, abstract_task, SpellsPort, port, SpellsEnd, comm_end, port_end, SpellsInvoke, invoke, SpellsSwitch, switch, SpellsMode, mode, SpellsModule, a_module, SpellsProgram, program, SpellsSource, source}
 use Rattle.htl_text.specs.declared.token.Token.{Token}
 use Rattle.htl_text.specs.declared.token.Word.{Word}
@@ -294,6 +294,6 @@ module _ (n : ℕ) where
       → Each P (flat_map_at f k xs)
   each_flat_at P Q f of k xs h = each_flat_map_at P f k xs (λ i j x at there. of i x (each_at Q xs j x h there))
 
-pub numbered_below : (n k : ℕ) (ts : List Token) → k + length ts ≤ n → Below n (numbered k ts)
+pub numbered_below : (n k : ℕ) (ts : List Token) → k + length ts ≤ n → Below n (tokens_numbered k ts)
 numbered_below n k [] h = tt
 numbered_below n k (t ∷ ts) h = (omega (arith, h), numbered_below n (k + 1) ts (omega (arith, h)))

@@ -10,7 +10,7 @@ use Rattle.htl_model.specs.Frames.{paths, nodes, nodes_of, radices, ways}
 use Rattle.htl_model.specs.Lists.{list_to}
 use Rattle.htl_model.specs.Tables.{Tables}
 use Rattle.htl_object.specs.declared.object.Object.{Object}
-use Rattle.htl_walk.specs.FrameLaws.{start_at, end_at}
+use Rattle.htl_walk.specs.FrameLaws.{start_at, start_end_at}
 use Rattle.htl_walk.specs.PathJobs.{path_jobs}
 use Rattle.htl_walk.specs.declared.schedule.Schedule.{Schedule}
 
@@ -24,7 +24,7 @@ through (c ∷ cs) n =
 
 -- the schedule of a node: the part of earliest deadline first of the jobs of its paths, from its start to the next one or the frame's end
 abbrev pub node_schedule : Tables → ℕ → Schedule
-node_schedule t n = let x = through (radices t) n in record { instrs = part (path_jobs t x.0) (start_at t x.1) (end_at t x.1) }
+node_schedule t n = let x = through (radices t) n in record { instrs = part (path_jobs t x.0) (start_at t x.1) (start_end_at t x.1) }
 
 abbrev pub schedules : Tables → List Schedule
 schedules t = list_to (node_schedule t) (nodes t)

@@ -12,7 +12,7 @@ use Rattle.htl_ecode.specs.Offsets.{phase_offsets, next_offset}
 use Rattle.htl_ecode.specs.Chains.{Want, Arrives, all_do, enter_calls, enter_chain, waits_for, turn, begin_chain, block_chain, asks_of, tests_of, decide_chain}
 use Rattle.htl_ecode.specs.Jumps.{bind, arrives}
 use Rattle.htl_ecode.specs.Steps.{Step, Reached, read, steps_of, target_of}
-use Rattle.htl_ecode.specs.Departure.{blocks_from, led_on, first_target, fault_of, either, block_faults, enter_fault, begin_fault, phase_fault, decide_fault, mode_fault, departure_before, departure, entered, begun, decided}
+use Rattle.htl_ecode.specs.Departure.{blocks_from, led_on, first_target, fault_of, either, block_faults, enter_fault, begin_fault, phase_fault, decide_fault, mode_fault, departure_before, departure, entered, block_begun, decided}
 use Rattle.htl_ecode.specs.Layout.{laid, blocks_code, phase_code, begin_place, writes_place, reads_place, decide_place, first_block, begin_code, decide_code, mode_code, mode_place, enter_places, layout}
 use Rattle.htl_ecode.proofs.Spelled.{has_wait, goes_on, has_wait_more, waits_there}
 use Rattle.htl_ecode.proofs.Standing.{StandAt, stand_first, stand_second, stand_between, arrives_here, arrives_by_jump, laid_steps, AreLaid, read_laid, laid_target}
@@ -101,7 +101,7 @@ pub either_both : (a b : Option EFault) → a ≡ None → b ≡ None → either
 either_both None b p q = q
 either_both (Some f) b p q = absurd (let z : ⊥ = cc in z)
 
-module _ (t : Tables) (code : ECode) (a m : ℕ) (stands : ModeStands t code.instrs code.enter a m) (enter_is : entered code m ≡ a) (begin_is : begun code m ≡ begin_place t a m)
+module _ (t : Tables) (code : ECode) (a m : ℕ) (stands : ModeStands t code.instrs code.enter a m) (enter_is : entered code m ≡ a) (begin_is : block_begun code m ≡ begin_place t a m)
     (decide_is : decided code m ≡ decide_place t a m) where
   enters_none : enter_fault t code m ≡ None
   enters_none =
@@ -111,7 +111,7 @@ module _ (t : Tables) (code : ECode) (a m : ℕ) (stands : ModeStands t code.ins
       let at : read code.instrs begin (Arrives begin ∷ []) ≡ Ok (record { passed = []; target = begin; side = [] } ∷ []) = anchor_read code.instrs begin begin [] (arrives_here code.instrs begin begin) in
       let at' : read code.instrs (a + length (laid (λ p. 0) a (all_do js))) (Arrives begin ∷ []) ≡ Ok (record { passed = []; target = begin; side = [] } ∷ []) =
       ap (λ n. read code.instrs (a + length n) (Arrives begin ∷ [])) (laid_do (λ p. 0) a js) ∙ at in
-      ap (λ x. fault_of (read code.instrs x (enter_chain t (begun code m) m))) enter_is
+      ap (λ x. fault_of (read code.instrs x (enter_chain t (block_begun code m) m))) enter_is
       ∙ ap (λ x. fault_of (read code.instrs a (enter_chain t x m))) begin_is
       ∙ none_of _ _ (read_laid code.instrs (λ p. 0) (all_do js) (Arrives begin ∷ []) a _ first (do_laid js (enter_no_jumps t m)) at')
 
@@ -126,7 +126,7 @@ module _ (t : Tables) (code : ECode) (a m : ℕ) (stands : ModeStands t code.ins
 
   first_is : (p : ℕ) → has_wait p (begin_chain t (decide_place t a m) m) ≡ true → first_target t code m p ≡ Some (first_to p)
   first_is p h =
-      ap (λ x. target_of p (begin_chain t x m) (steps_of (read code.instrs (begun code m) (begin_chain t x m)))) decide_is
+      ap (λ x. target_of p (begin_chain t x m) (steps_of (read code.instrs (block_begun code m) (begin_chain t x m)))) decide_is
       ∙ ap (λ x. target_of p (begin_chain t (decide_place t a m) m) (steps_of (read code.instrs x (begin_chain t (decide_place t a m) m)))) begin_is
       ∙ target_whole code.instrs first_to p (begin_chain t (decide_place t a m) m) (begin_place t a m) stands.begin (begin_laid t (decide_place t a m) m) h
 
@@ -151,7 +151,7 @@ module _ (t : Tables) (code : ECode) (a m : ℕ) (stands : ModeStands t code.ins
       let ws = asks_of t m ++ tests_of t begin code.enter m in
       let by = arrives_by_jump code.instrs (place + length (laid (λ p. 0) place ws)) begin (place + length (laid (λ p. 0) place ws)) stands.jump in
       let at = anchor_read code.instrs (place + length (laid (λ p. 0) place ws)) begin by.0 by.1 in
-      ap (λ x. fault_of (read code.instrs x (decide_chain t (begun code m) code.enter m))) decide_is
+      ap (λ x. fault_of (read code.instrs x (decide_chain t (block_begun code m) code.enter m))) decide_is
       ∙ ap (λ x. fault_of (read code.instrs place (decide_chain t x code.enter m))) begin_is
       ∙ ap (λ zs. fault_of (read code.instrs place zs)) (sym (append_assoc (asks_of t m) (tests_of t begin code.enter m) (Arrives begin ∷ [])))
       ∙ none_of _ _ (read_laid code.instrs (λ p. 0) ws (Arrives begin ∷ []) place _ stands.decide (decide_laid t begin code.enter m) at)

@@ -7,7 +7,7 @@ use Rattle.htl_ecode.specs.declared.instr.EInstr.{EInstr}
 use Rattle.htl_ecode.specs.declared.fault.EFault.{EFault}
 use Rattle.htl_ecode.specs.Chains.{Want, enter_chain, begin_chain, block_chain, decide_chain}
 use Rattle.htl_ecode.specs.Steps.{Step, read}
-use Rattle.htl_ecode.specs.Departure.{Block, blocks, fault_of, block_faults, mode_fault, departure_before, departure, enter_fault, begin_fault, phase_fault, decide_fault, entered, begun, decided}
+use Rattle.htl_ecode.specs.Departure.{Block, blocks, fault_of, block_faults, mode_fault, departure_before, departure, enter_fault, begin_fault, phase_fault, decide_fault, entered, block_begun, decided}
 use Rattle.htl_ecode.specs.Spelling.{HasPath, SpellsMode, Spells}
 use Rattle.htl_ecode.specs.Laws.{HasBlocks}
 use Rattle.htl_ecode.proofs.Spelled.{Reads, ModeReads, Stands, either_none, spelled_reads}
@@ -60,11 +60,11 @@ spelled_departs_not t code s = before_departs_not t code (length t.modes) s
 reads_mode : (t : Tables) (code : ECode) (m : ℕ) → ModeReads t code m → SpellsMode t code m
 reads_mode t code m r =
     record {
-      enters = read_path code.instrs (entered code m) (enter_chain t (begun code m) m) r.enters;
-      begins = read_path code.instrs (begun code m) (begin_chain t (decided code m) m) r.begins;
+      enters = read_path code.instrs (entered code m) (enter_chain t (block_begun code m) m) r.enters;
+      begins = read_path code.instrs (block_begun code m) (begin_chain t (decided code m) m) r.begins;
       writes = faults_paths t code.instrs m 1 (blocks t code m 1) r.writes;
       reads = faults_paths t code.instrs m 3 (blocks t code m 3) r.reads;
-      decides = read_path code.instrs (decided code m) (decide_chain t (begun code m) code.enter m) r.decides;
+      decides = read_path code.instrs (decided code m) (decide_chain t (block_begun code m) code.enter m) r.decides;
     }
 
 pub departs_not_spells : (t : Tables) (code : ECode) → departure t code ≡ None → Spells t code

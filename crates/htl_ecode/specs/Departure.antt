@@ -11,8 +11,8 @@ use Rattle.htl_ecode.specs.Steps.{read, steps_of, target_of}
 abbrev pub entered : ECode → ℕ → ℕ
 entered code m = get_or code.enter m 0
 
-abbrev pub begun : ECode → ℕ → ℕ
-begun code m = get_or code.begin m 0
+abbrev pub block_begun : ECode → ℕ → ℕ
+block_begun code m = get_or code.begin m 0
 
 abbrev pub decided : ECode → ℕ → ℕ
 decided code m = get_or code.decide m 0
@@ -37,7 +37,7 @@ blocks_from (suc fuel) t code m phase _ _ = []
 abbrev pub first_target : Tables → ECode → ℕ → ℕ → Option ℕ
 first_target t code m phase =
     let ws = begin_chain t (decided code m) m in
-    target_of phase ws (steps_of (read code.instrs (begun code m) ws))
+    target_of phase ws (steps_of (read code.instrs (block_begun code m) ws))
 
 -- there are at most as many blocks as offsets
 abbrev pub blocks : Tables → ECode → ℕ → ℕ → List Block
@@ -68,16 +68,16 @@ block_faults t code m phase (b ∷ bs) =
     either (fault_of (read code b.address (block_chain t m phase b.offset))) (block_faults t code m phase bs)
 
 abbrev pub enter_fault : Tables → ECode → ℕ → Option EFault
-enter_fault t code m = fault_of (read code.instrs (entered code m) (enter_chain t (begun code m) m))
+enter_fault t code m = fault_of (read code.instrs (entered code m) (enter_chain t (block_begun code m) m))
 
 abbrev pub begin_fault : Tables → ECode → ℕ → Option EFault
-begin_fault t code m = fault_of (read code.instrs (begun code m) (begin_chain t (decided code m) m))
+begin_fault t code m = fault_of (read code.instrs (block_begun code m) (begin_chain t (decided code m) m))
 
 abbrev pub phase_fault : Tables → ECode → ℕ → ℕ → Option EFault
 phase_fault t code m phase = block_faults t code.instrs m phase (blocks t code m phase)
 
 abbrev pub decide_fault : Tables → ECode → ℕ → Option EFault
-decide_fault t code m = fault_of (read code.instrs (decided code m) (decide_chain t (begun code m) code.enter m))
+decide_fault t code m = fault_of (read code.instrs (decided code m) (decide_chain t (block_begun code m) code.enter m))
 
 abbrev pub mode_fault : Tables → ECode → ℕ → Option EFault
 mode_fault t code m =

@@ -9,7 +9,7 @@ use Rattle.htl_model.specs.Meaning.{state, before, stay_of, switch_holds, Histor
 use Rattle.htl_ecode.specs.declared.ecode.ECode.{ECode}
 use Rattle.htl_ecode.specs.Chains.{Want, Turns, Tests, Asks, Arrives, enter_chain, begin_chain, block_chain, decide_chain}
 use Rattle.htl_ecode.specs.Steps.{Step, read, steps_of, passed_by}
-use Rattle.htl_ecode.specs.Departure.{block_at, entered, begun, decided}
+use Rattle.htl_ecode.specs.Departure.{block_at, entered, block_begun, decided}
 
 -- an address, and the module in which it is done
 pub record Done : Type 0 where
@@ -20,10 +20,10 @@ abbrev pub chain_path : ECode → ℕ → List Want → List ℕ
 chain_path code a ws = passed_by (steps_of (read code.instrs a ws))
 
 abbrev pub begin_path : Tables → ECode → ℕ → List ℕ
-begin_path t code m = chain_path code (begun code m) (begin_chain t (decided code m) m)
+begin_path t code m = chain_path code (block_begun code m) (begin_chain t (decided code m) m)
 
 abbrev pub enter_path : Tables → ECode → ℕ → List ℕ
-enter_path t code m = chain_path code (entered code m) (enter_chain t (begun code m) m) ++ begin_path t code m
+enter_path t code m = chain_path code (entered code m) (enter_chain t (block_begun code m) m) ++ begin_path t code m
 
 -- the path of the block of a phase at an offset, where there is one
 abbrev pub block_path : Tables → ECode → ℕ → ℕ → ℕ → List ℕ
@@ -52,19 +52,19 @@ turn_step (Turns d x ∷ ws) (s ∷ ss) = s
 turn_step (w ∷ ws) (s ∷ ss) = turn_step ws ss
 turn_step _ _ = record { passed = []; target = 0; side = [] }
 
-abbrev pub turn_of : Tables → ECode → ℕ → Step
-turn_of t code m =
+abbrev pub step_from : Tables → ECode → ℕ → Step
+step_from t code m =
     let ws = begin_chain t (decided code m) m in
-    turn_step ws (steps_of (read code.instrs (begun code m) ws))
+    turn_step ws (steps_of (read code.instrs (block_begun code m) ws))
 
 -- where the end of a round begins; from there jumps lead to the decide chain
 abbrev pub round_end : Tables → ECode → ℕ → ℕ
-round_end t code m = (turn_of t code m).target
+round_end t code m = (step_from t code m).target
 
 abbrev pub decide_path : Tables → ECode → List ℤ → Bool → ℕ → List ℕ
 decide_path t code values stays m =
-    let ws = decide_chain t (begun code m) code.enter m in
-    (turn_of t code m).side ++ followed t code m (holds_in t values) stays ws (steps_of (read code.instrs (decided code m) ws))
+    let ws = decide_chain t (block_begun code m) code.enter m in
+    (step_from t code m).side ++ followed t code m (holds_in t values) stays ws (steps_of (read code.instrs (decided code m) ws))
 
 -- the path of the switch phase, by where a module was and where it is
 abbrev pub switch_path : Tables → ECode → List ℤ → ℕ → Option Stay → Option Stay → List ℕ
@@ -97,9 +97,9 @@ abbrev pub e_path : Tables → ECode → List Event → ℕ → List Done
 e_path t code es now = instant_path t code now (before t es now) (state t es now)
 
 -- the addresses done at the instants up to that of the newest state, each with its instant
-abbrev pub done_of : Tables → ECode → History → List (ℕ × Done)
-done_of t code [] = []
-done_of t code (x ∷ h) = done_of t code h ++ map (λ d. (length h, d)) (instant_path t code (length h) (newest h) x)
+abbrev pub done_so_far : Tables → ECode → History → List (ℕ × Done)
+done_so_far t code [] = []
+done_so_far t code (x ∷ h) = done_so_far t code h ++ map (λ d. (length h, d)) (instant_path t code (length h) (newest h) x)
 
 abbrev pub run_done : Tables → ECode → List Event → ℕ → List (ℕ × Done)
-run_done t code es end = done_of t code (history t (sense t es) end)
+run_done t code es end = done_so_far t code (history t (sense t es) end)

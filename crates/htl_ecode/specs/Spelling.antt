@@ -5,7 +5,7 @@ use Rattle.htl_ecode.specs.declared.ecode.ECode.{ECode}
 use Rattle.htl_ecode.specs.declared.instr.EInstr.{EInstr}
 use Rattle.htl_ecode.specs.Chains.{Want, enter_chain, begin_chain, block_chain, decide_chain}
 use Rattle.htl_ecode.specs.Steps.{read}
-use Rattle.htl_ecode.specs.Departure.{Block, blocks, entered, begun, decided}
+use Rattle.htl_ecode.specs.Departure.{Block, blocks, entered, block_begun, decided}
 
 -- a chain has its path from an address: it is read there without departure
 abbrev pub HasPath : List EInstr → ℕ → List Want → Type 0
@@ -17,11 +17,11 @@ BlocksHavePaths t code m phase = All (λ (b : Block). HasPath code.instrs b.addr
 
 -- every chain of a mode has its path
 pub record SpellsMode (t : Tables) (code : ECode) (m : ℕ) : Type 0 where
-  pub enters : HasPath code.instrs (entered code m) (enter_chain t (begun code m) m)
-  pub begins : HasPath code.instrs (begun code m) (begin_chain t (decided code m) m)
+  pub enters : HasPath code.instrs (entered code m) (enter_chain t (block_begun code m) m)
+  pub begins : HasPath code.instrs (block_begun code m) (begin_chain t (decided code m) m)
   pub writes : BlocksHavePaths t code m 1
   pub reads : BlocksHavePaths t code m 3
-  pub decides : HasPath code.instrs (decided code m) (decide_chain t (begun code m) code.enter m)
+  pub decides : HasPath code.instrs (decided code m) (decide_chain t (block_begun code m) code.enter m)
 
 -- E code spells tables: every chain of every mode has its path
 abbrev pub Spells : Tables → ECode → Type 0

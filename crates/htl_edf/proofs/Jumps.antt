@@ -5,7 +5,7 @@ use Rattle.htl_walk.specs.Jobs.{absent_job}
 use Rattle.htl_edf.specs.declared.rounds.Tight.{Tight}
 use Rattle.htl_edf.specs.Lists.{jobs_of, HoldsAfter, AreTightened, LeftAt, QuietFrom}
 use Rattle.htl_edf.specs.Tight.{release_at, end_at, tight}
-use Rattle.htl_edf.specs.Edf.{earliest, edf, left, slices, run_for}
+use Rattle.htl_edf.specs.Edf.{earliest, edf, left, maximal_slices, run_for}
 use Rattle.htl_walk.specs.declared.job.Job.{Job}
 use Rattle.htl_edf.proofs.Ticks.{earliest-same, jump, jump_runs, wait, wait_idles, chosen, Quiet, slices_run, slices_wait, left_start}
 
@@ -50,12 +50,12 @@ pub left_none : (js : List Job) (ls : List ℕ) (t h : ℕ) → LeftAt js ls t �
 left_none js ls t h lefts e l quiet = record { lefts = λ q b. lefts.lefts q b ∙ sym (let s : t + (h - t) ≡ h = omega arith in rw s at (wait (tight (jobs_of js)) t (h - t) e (quiet_at js t h (omega arith) quiet) (h - t) (omega arith) q)) }
 
 -- the slices after an event
-pub slices_some : (run : ℕ → Option ℕ) (t h p : ℕ) → t < h → ((i : ℕ) → t + i < h → run (t + i) ≡ Some p) → slices run h ≡ run_for p t h (slices run t)
+pub slices_some : (run : ℕ → Option ℕ) (t h p : ℕ) → t < h → ((i : ℕ) → t + i < h → run (t + i) ≡ Some p) → maximal_slices run h ≡ run_for p t h (maximal_slices run t)
 slices_some run t h p l r =
     let e : t + suc (h - t - 1) ≡ h = omega arith in
     rw e at (slices_run run t (h - t - 1) p (λ i b. r i (omega arith)))
 
-pub slices_idle : (run : ℕ → Option ℕ) (t h : ℕ) → t < h → ((i : ℕ) → t + i < h → run (t + i) ≡ None) → slices run h ≡ slices run t
+pub slices_idle : (run : ℕ → Option ℕ) (t h : ℕ) → t < h → ((i : ℕ) → t + i < h → run (t + i) ≡ None) → maximal_slices run h ≡ maximal_slices run t
 slices_idle run t h l r =
     let e : t + (h - t) ≡ h = omega arith in
     rw e at (slices_wait run t (h - t) (λ i b. r i (omega arith)))

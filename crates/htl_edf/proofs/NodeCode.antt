@@ -12,7 +12,7 @@ use Rattle.htl_walk.specs.declared.job.Job.{Job}
 use Rattle.htl_walk.specs.declared.schedule.SInstr.{SInstr}
 use Rattle.htl_walk.specs.declared.schedule.Schedule.{Schedule}
 use Rattle.htl_walk.specs.PathJobs.{path_jobs, next_of}
-use Rattle.htl_walk.specs.FrameLaws.{start_at, end_at}
+use Rattle.htl_walk.specs.FrameLaws.{start_at, start_end_at}
 use Rattle.htl_walk.specs.NodeWalks.{ShareNodes, instrs_of}
 use Rattle.htl_walk.proofs.Steps.{apart}
 use Rattle.htl_walk.proofs.Starts.{Rises, starts_rise}
@@ -82,11 +82,11 @@ set_same (x ∷ xs) (suc n) s l = set_same xs n s (omega (arith, l))
 
 module _ (t : Tables) (ready : AreReady t) where
   -- the part of a node, of whatever path
-  same_part : (p q j : ℕ) → p < paths t → q < paths t → j < length (starts t) → node t p j ≡ node t q j → part (path_jobs t p) (start_at t j) (end_at t j) ≡ part (path_jobs t q) (start_at t j) (end_at t j)
+  same_part : (p q j : ℕ) → p < paths t → q < paths t → j < length (starts t) → node t p j ≡ node t q j → part (path_jobs t p) (start_at t j) (start_end_at t j) ≡ part (path_jobs t q) (start_at t j) (start_end_at t j)
   same_part p q j hp hq l e = one_list_of_node t p q j (ready.each p hp).order (ready.each q hq).order hp hq l e
 
   -- a list that is put where its node is takes no other one away
-  pub put_part : (xs : List Schedule) (p j n : ℕ) (s : Schedule) → p < paths t → j < length (starts t) → length xs ≡ nodes t → n ≡ node t p j → s.instrs ≡ part (path_jobs t p) (start_at t j) (end_at t j)
+  pub put_part : (xs : List Schedule) (p j n : ℕ) (s : Schedule) → p < paths t → j < length (starts t) → length xs ≡ nodes t → n ≡ node t p j → s.instrs ≡ part (path_jobs t p) (start_at t j) (start_end_at t j)
       → (q i : ℕ) → q < paths t → i < length (starts t) → HasPart t (instrs_of xs) q i → HasPart t (instrs_of (set xs n s)) q i
   put_part xs p j n s hp l count is part_is q i hq k has = elim (apart n (node t q i)) [
     | inl e ↦
@@ -94,23 +94,23 @@ module _ (t : Tables) (ready : AreReady t) where
         let depth : j ≡ i = node_depth t p q j i hp l k same in
         let same' : node t p j ≡ node t q j = same ∙ ap (node t q) (sym depth) in
         ap (λ m. get_or (instrs_of (set xs n s)) m []) (sym e) ∙ set_same xs n s (omega (arith, count, is, nodes_within t p j hp l)) ∙ part_is ∙ same_part p q j hp hq l same'
-        ∙ ap (λ m. part (path_jobs t q) (start_at t m) (end_at t m)) depth
+        ∙ ap (λ m. part (path_jobs t q) (start_at t m) (start_end_at t m)) depth
     | inr e ↦ set_other xs n (node t q i) s e ∙ has
   ]
 
-  pub here_part : (xs : List Schedule) (p j n : ℕ) (s : Schedule) → p < paths t → j < length (starts t) → length xs ≡ nodes t → n ≡ node t p j → s.instrs ≡ part (path_jobs t p) (start_at t j) (end_at t j)
+  pub here_part : (xs : List Schedule) (p j n : ℕ) (s : Schedule) → p < paths t → j < length (starts t) → length xs ≡ nodes t → n ≡ node t p j → s.instrs ≡ part (path_jobs t p) (start_at t j) (start_end_at t j)
       → HasPart t (instrs_of (set xs n s)) p j
   here_part xs p j n s hp l count is part_is =
       ap (λ m. get_or (instrs_of (set xs n s)) m []) (sym is) ∙ set_same xs n s (omega (arith, count, is, nodes_within t p j hp l)) ∙ part_is
 
-  pub parts_more : (xs : List Schedule) (p j n : ℕ) (s : Schedule) → p < paths t → j < length (starts t) → length xs ≡ nodes t → n ≡ node t p j → s.instrs ≡ part (path_jobs t p) (start_at t j) (end_at t j)
+  pub parts_more : (xs : List Schedule) (p j n : ℕ) (s : Schedule) → p < paths t → j < length (starts t) → length xs ≡ nodes t → n ≡ node t p j → s.instrs ≡ part (path_jobs t p) (start_at t j) (start_end_at t j)
       → ((i : ℕ) → i < j → HasPart t (instrs_of xs) p i) → (i : ℕ) → i < j + 1 → HasPart t (instrs_of (set xs n s)) p i
   parts_more xs p j n s hp l count is part_is has i b = elim (cases_lt i j) [
     | inl k ↦ put_part xs p j n s hp l count is part_is p i hp (omega (arith, k, l)) (has i k)
     | inr k ↦ let e : j ≡ i = omega (arith, b, k) in subst (λ m. HasPart t (instrs_of (set xs n s)) p m) e (here_part xs p j n s hp l count is part_is)
   ]
 
-  pub before_more : (xs : List Schedule) (p j n : ℕ) (s : Schedule) → p < paths t → j < length (starts t) → length xs ≡ nodes t → n ≡ node t p j → s.instrs ≡ part (path_jobs t p) (start_at t j) (end_at t j)
+  pub before_more : (xs : List Schedule) (p j n : ℕ) (s : Schedule) → p < paths t → j < length (starts t) → length xs ≡ nodes t → n ≡ node t p j → s.instrs ≡ part (path_jobs t p) (start_at t j) (start_end_at t j)
       → HaveParts t (instrs_of xs) p → HaveParts t (instrs_of (set xs n s)) p
   before_more xs p j n s hp l count is part_is has q i b k = put_part xs p j n s hp l count is part_is q i (omega (arith, b, hp)) k (has q i b k)
 
@@ -151,7 +151,7 @@ begin_within t f zero s some l = let leg = leg_within t f 0 s some in omega (ari
 begin_within t f (suc j) s some l = let e : suc j ≡ j + 1 = sym (add-one j) in omega (arith, ap (λ n. get_or f.starts n 0) e, (leg_within t f j s (omega (arith, l))).1)
 
 pub part_read : (t : Tables) (f : Frame) (path j : ℕ) (js : List Job) (is : List SInstr) → IsFrame t f → j < length (starts t) → js ≡ path_jobs t path → is ≡ part js (get_or f.starts j 0) (get_or f.starts (j + 1) 0)
-    → is ≡ part (path_jobs t path) (start_at t j) (end_at t j)
+    → is ≡ part (path_jobs t path) (start_at t j) (start_end_at t j)
 part_read t f path j js is s l e p =
     p ∙ ap (λ ks. part ks (get_or f.starts j 0) (get_or f.starts (j + 1) 0)) e ∙ ap (λ a. part (path_jobs t path) a (get_or f.starts (j + 1) 0)) (start_read t f j s l)
     ∙ ap (part (path_jobs t path) (start_at t j)) (end_read t f j s l)

@@ -3,22 +3,22 @@ use Rattle.std.specs.Prelude.{ℕ, List, [], ◌∷◌, ◌++◌, Option, Some, 
 use Rattle.htl_walk.specs.declared.job.Job.{Job}
 use Rattle.htl_walk.specs.declared.schedule.SInstr.{SInstr}
 use Rattle.htl_walk.specs.declared.schedule.SInstr.TheVariants.{Dispatch, End}
-use Rattle.htl_edf.specs.Edf.{Slice, edf, slices}
+use Rattle.htl_edf.specs.Edf.{Slice, edf, maximal_slices}
 use Rattle.htl_edf.specs.Lists.{tightened}
 
 -- a dispatch for each of the slices, which are listed last first
-abbrev pub instrs_of : List Slice → List SInstr
-instrs_of [] = []
-instrs_of (s ∷ ss) = instrs_of ss ++ (Dispatch s.position s.end ∷ [])
+abbrev pub dispatches_of : List Slice → List SInstr
+dispatches_of [] = []
+dispatches_of (s ∷ ss) = dispatches_of ss ++ (Dispatch s.position s.end ∷ [])
 
 -- the slices of earliest deadline first over the tightened windows, and `End`
 abbrev pub edf_schedule : List Job → ℕ → List SInstr
-edf_schedule js period = instrs_of (slices (edf (tightened js)) period) ++ (End ∷ [])
+edf_schedule js period = dispatches_of (maximal_slices (edf (tightened js)) period) ++ (End ∷ [])
 
 -- the last slice is kept open
 abbrev pub closed_of : List Slice → List SInstr
 closed_of [] = []
-closed_of (s ∷ ss) = instrs_of ss
+closed_of (s ∷ ss) = dispatches_of ss
 
 abbrev pub open_of : List Slice → Option (ℕ × ℕ)
 open_of [] = None

@@ -55,6 +55,6 @@ run_for p t e [] = record { position = p; start = t; end = e } ∷ []
 run_for p t e (s ∷ ss) = cond (eqb p s.position && eqb s.end t) (record s { end = e } ∷ ss) (record { position = p; start = t; end = e } ∷ (s ∷ ss))
 
 -- the maximal slices before tick t, last first
-unfoldable pub slices : (ℕ → Option ℕ) → ℕ → List Slice
-slices run zero = []
-slices run (suc t) = longer (run t) t (slices run t)
+unfoldable pub maximal_slices : (ℕ → Option ℕ) → ℕ → List Slice
+maximal_slices run zero = []
+maximal_slices run (suc t) = longer (run t) t (maximal_slices run t)

@@ -2,7 +2,7 @@
 use Rattle.std.specs.Prelude.{ℕ, List, pos}
 use Rattle.htl_walk.specs.declared.job.Job.{Job}
 use Rattle.htl_walk.specs.declared.schedule.SInstr.{SInstr}
-use Rattle.htl_walk.specs.Walk.{IsAccepted}
+use Rattle.htl_walk.specs.Walk.{ScheduleIsAccepted}
 use Rattle.htl_edf.specs.declared.scheduler.EdfFault.{EdfFault}
 use Rattle.htl_edf.specs.declared.scheduler.EdfFault.TheVariants.{Overload, Memory}
 use Rattle.htl_edf.specs.Windows.{Reported, NoOverload}
@@ -10,7 +10,7 @@ use Rattle.htl_edf.specs.Lists.{tightened}
 
 -- no S code whatever is accepted for the jobs
 abbrev pub NoneIsAccepted : List Job → ℕ → Type 0
-NoneIsAccepted js period = (s : List SInstr) → IsAccepted js period s → ⊥
+NoneIsAccepted js period = (s : List SInstr) → ScheduleIsAccepted js period s → ⊥
 
 -- the reported interval is overloaded and nothing is accepted; want of memory comes only where none is overloaded
 abbrev pub Explains : List Job → ℕ → EdfFault → Type 0

@@ -1,6 +1,6 @@
 // Earliest deadline first.
 ghost use Rattle.std.specs.Prelude.{◌≡◌, ◌≤◌, ◌+◌, ℕ, length, IfOk, OnOk, IfErr};
-ghost use Rattle.htl_walk.specs.Walk.{IsAccepted};
+ghost use Rattle.htl_walk.specs.Walk.{ScheduleIsAccepted};
 ghost use Rattle.htl_edf.specs.Windows.{NoOverload};
 ghost use Rattle.htl_edf.specs.Tight.{NoCycle};
 ghost use Rattle.htl_walk.specs.WellFormed.{AreWellFormed, EndWithin};
@@ -65,7 +65,7 @@ fn schedule(
     requires windows_same { length windows.old ≡ length jobs.now }
     requires left_same { length left.old ≡ length jobs.now }
     ensures schedule { IfOk result (λ s. s.instrs ≡ edf_schedule jobs.now period) }
-    ensures accepted { IfOk result (λ s. IsAccepted jobs.now period s.instrs) }
+    ensures accepted { IfOk result (λ s. ScheduleIsAccepted jobs.now period s.instrs) }
     ensures short { IfOk result (λ s. length s.instrs ≤ period + 1) }
     ensures fits { OnOk result (NoOverload (tightened jobs.now)) }
     ensures fault { IfErr result (λ e. Explains jobs.now period e) }
@@ -114,7 +114,7 @@ pub fn edf(alloc: Global, jobs: &[Job], period: Time) -> Result<Schedule, EdfFau
     requires period { period ≤ 1000000 }
     requires ends { EndWithin jobs.now period }
     ensures schedule { IfOk result (λ s. s.instrs ≡ edf_schedule jobs.now period) }
-    ensures accepted { IfOk result (λ s. IsAccepted jobs.now period s.instrs) }
+    ensures accepted { IfOk result (λ s. ScheduleIsAccepted jobs.now period s.instrs) }
     ensures short { IfOk result (λ s. length s.instrs ≤ period + 1) }
     ensures fits { OnOk result (NoOverload (tightened jobs.now)) }
     ensures fault { IfErr result (λ e. Explains jobs.now period e) }

@@ -16,8 +16,8 @@ use Rattle.htl_ecode.specs.Instructions.{same_instr}
 use Rattle.htl_ecode.specs.Chains.{Want, Does, Waits, Turns, Tests, Asks, Arrives, waits_for, begin_chain, decide_chain, tests_of, asks_for, led_to, test_of}
 use Rattle.htl_ecode.specs.Jumps.{Landing, bind, lands, fault, jump_to}
 use Rattle.htl_ecode.specs.Steps.{Step, Reached, pass, leaving, reach, read, steps_of}
-use Rattle.htl_ecode.specs.Departure.{begun, entered, decided}
-use Rattle.htl_ecode.specs.Paths.{begin_path, enter_path, decide_path, followed, round_end, turn_of, turn_step, holds_in}
+use Rattle.htl_ecode.specs.Departure.{block_begun, entered, decided}
+use Rattle.htl_ecode.specs.Paths.{begin_path, enter_path, decide_path, followed, round_end, step_from, turn_step, holds_in}
 use Rattle.htl_ecode.proofs.Reading.{Jumps, IsLanding, IsReached, bind_ok, land_is, same_is, reach_is, anchor_is, read_is}
 use Rattle.htl_ecode.proofs.Kept.{kept, kept_one, kept_jumps, kept_reached, instr_of}
 use Rattle.htl_ecode.proofs.Spelled.{ModeReads}
@@ -62,10 +62,10 @@ begin_turns p d None (Some y) = refl
 begin_turns p d (Some x) None = refl
 begin_turns p d (Some x) (Some y) = refl
 
-pub turn_jumps : (t : Tables) (code : ECode) (m : ℕ) → ModeReads t code m → Jumps code.instrs (round_end t code m) (turn_of t code m).side (decided code m)
+pub turn_jumps : (t : Tables) (code : ECode) (m : ℕ) → ModeReads t code m → Jumps code.instrs (round_end t code m) (step_from t code m).side (decided code m)
 turn_jumps t code m r =
     subst (λ zs. Jumps code.instrs (turn_step (begin_chain t (decided code m) m) (steps_of zs)).target (turn_step (begin_chain t (decided code m) m) (steps_of zs)).side (decided code m)) (sym r.begins.1)
-    (turn_leads code.instrs (decided code m) (begin_chain t (decided code m) m) (begun code m) r.begins.0 (begin_turns (mode_period t m) (decided code m) (next_offset t m 1 0) (next_offset t m 3 0)) r.begins.1)
+    (turn_leads code.instrs (decided code m) (begin_chain t (decided code m) m) (block_begun code m) r.begins.0 (begin_turns (mode_period t m) (decided code m) (next_offset t m 1 0) (next_offset t m 3 0)) r.begins.1)
 
 -- ---- what is kept
 
@@ -87,8 +87,8 @@ jumps_then t code at k hs rs a b xs ys f j p =
 -- the end of a decide list of mode m
 abbrev pub IsTail : Tables → ECode → ℕ → List Want → Type 0
 IsTail t code m [] = ⊥
-IsTail t code m (Tests j x anchor ∷ ws) = (anchor ≡ led_to (begun code m) code.enter m x) × (j < length t.switches) × ModeReads t code x × IsTail t code m ws
-IsTail t code m (Arrives b ∷ []) = b ≡ begun code m
+IsTail t code m (Tests j x anchor ∷ ws) = (anchor ≡ led_to (block_begun code m) code.enter m x) × (j < length t.switches) × ModeReads t code x × IsTail t code m ws
+IsTail t code m (Arrives b ∷ []) = b ≡ block_begun code m
 IsTail t code m _ = ⊥
 
 -- the mode to which the first test that holds leads
@@ -111,9 +111,9 @@ tail_passes t code at k m hs rs stays (Arrives b ∷ w ∷ ws) a ss mine h e = a
 tail_passes t code at k m hs rs stays (Arrives b ∷ []) a ss mine h e =
     let r = read_is code.instrs a (Arrives b) [] ss e in
     let j : Jumps code.instrs a r.first.step.passed b = (anchor_is code.instrs a b r.first r.reaches).0 in
-    let there : Jumps code.instrs a r.first.step.passed (begun code m) = subst (Jumps code.instrs a r.first.step.passed) h j in
+    let there : Jumps code.instrs a r.first.step.passed (block_begun code m) = subst (Jumps code.instrs a r.first.step.passed) h j in
     let one : Passes t code at k (goes hs rs) a (r.first.step.passed ++ begin_path t code m) (begun_calendar t code at k m) =
-    jumps_then t code at k hs rs a (begun code m) r.first.step.passed (begin_path t code m) (begun_calendar t code at k m) there (begin_passes t code at k m hs rs mine) in
+    jumps_then t code at k hs rs a (block_begun code m) r.first.step.passed (begin_path t code m) (begun_calendar t code at k m) there (begin_passes t code at k m hs rs mine) in
     let two : Passes t code at k (goes hs rs) a (r.first.step.passed ++ begin_path t code m) (moved_calendar t code at k m m) =
     subst (λ b. Passes t code at k (goes hs rs) a (r.first.step.passed ++ begin_path t code m) (λ c. cond b (begun_calendar t code at k m c) (entered_calendar t code at k m c))) (sym (eq-eqb m m refl)) one in
     subst (λ zs. Passes t code at k (goes hs rs) a (followed t code m hs stays (Arrives b ∷ []) zs) (moved_calendar t code at k m m)) (sym r.is) two
@@ -142,10 +142,10 @@ tail_passes t code at k m hs rs stays (Tests j x anchor ∷ ws) a ss mine h e =
       where
         at_anchor : (b : Bool) → eqb x m ≡ b → Passes t code at k (goes hs rs) anchor (cond b (begin_path t code m) (enter_path t code x)) (λ c. cond b (begun_calendar t code at k m c) (entered_calendar t code at k x c))
         at_anchor true is =
-            let to : anchor ≡ begun code m = h.0 ∙ ap (λ b. cond b (begun code m) (entered code x)) is in
+            let to : anchor ≡ block_begun code m = h.0 ∙ ap (λ b. cond b (block_begun code m) (entered code x)) is in
             subst (λ z. Passes t code at k (goes hs rs) z (begin_path t code m) (begun_calendar t code at k m)) (sym to) (begin_passes t code at k m hs rs mine)
         at_anchor false is =
-            let to : anchor ≡ entered code x = h.0 ∙ ap (λ b. cond b (begun code m) (entered code x)) is in
+            let to : anchor ≡ entered code x = h.0 ∙ ap (λ b. cond b (block_begun code m) (entered code x)) is in
             subst (λ z. Passes t code at k (goes hs rs) z (enter_path t code x) (entered_calendar t code at k x)) (sym to) (enter_passes t code at k x hs rs h.2)
 
     by_test : (y : Reached) (rest : List Step) → reach code.instrs a (Tests j x anchor) ≡ Ok y → Passes t code at k (goes hs rs) y.next (followed t code m hs stays ws rest) (moved_calendar t code at k m (chosen hs m ws)) → (b : Bool) → hs j ≡ b →
@@ -202,20 +202,20 @@ leave_passes t code at k hs rs a xs e =
 
 -- the switches of the mode, as the list requires them
 abbrev pub tests_from : ECode → ℕ → ℕ → List Switch → List Want
-tests_from code m n ws = joined (test_of (begun code m) code.enter m) (numbered n ws)
+tests_from code m n ws = joined (test_of (block_begun code m) code.enter m) (numbered n ws)
 
 pub tail_of : (t : Tables) (code : ECode) (m n : ℕ) (ws : List Switch) → n + length ws ≡ length t.switches → ((i : ℕ) (w : Switch) → slice_get ws i ≡ Some w → eqb w.mode m ≡ true → ModeReads t code w.target) →
-    IsTail t code m (tests_from code m n ws ++ Arrives (begun code m) ∷ [])
+    IsTail t code m (tests_from code m n ws ++ Arrives (block_begun code m) ∷ [])
 tail_of t code m n [] len h = refl
 tail_of t code m n (w ∷ ws) len h = by_test (eqb w.mode m) refl (tail_of t code m (suc n) ws (omega (arith, len)) (λ i x e. h (suc i) x e))
   where
-    by_test : (b : Bool) → eqb w.mode m ≡ b → IsTail t code m (tests_from code m (suc n) ws ++ Arrives (begun code m) ∷ []) →
-        IsTail t code m ((cond b (Tests n w.target (led_to (begun code m) code.enter m w.target) ∷ []) [] ++ tests_from code m (suc n) ws) ++ Arrives (begun code m) ∷ [])
+    by_test : (b : Bool) → eqb w.mode m ≡ b → IsTail t code m (tests_from code m (suc n) ws ++ Arrives (block_begun code m) ∷ []) →
+        IsTail t code m ((cond b (Tests n w.target (led_to (block_begun code m) code.enter m w.target) ∷ []) [] ++ tests_from code m (suc n) ws) ++ Arrives (block_begun code m) ∷ [])
     by_test true is rest = (refl, omega (arith, len), h 0 w refl is, rest)
     by_test false is rest = rest
 
 chosen_is : (t : Tables) (code : ECode) (values : List ℤ) (m n : ℕ) (ws : List Switch) → ((i : ℕ) (w : Switch) → slice_get ws i ≡ Some w → slice_get t.switches (n + i) ≡ Some w) →
-    chosen (holds_in t values) m (tests_from code m n ws ++ Arrives (begun code m) ∷ []) ≡ target_from t values m n ws
+    chosen (holds_in t values) m (tests_from code m n ws ++ Arrives (block_begun code m) ∷ []) ≡ target_from t values m n ws
 chosen_is t code values m n [] h = refl
 chosen_is t code values m n (w ∷ ws) h =
     by_test (eqb w.mode m) (chosen_is t code values m (suc n) ws (λ i x e. moved i x (h (suc i) x e)))
@@ -229,10 +229,10 @@ chosen_is t code values m n (w ∷ ws) h =
         let at : slice_get t.switches n ≡ Some w = subst (λ z. slice_get t.switches z ≡ Some w) zero_is (h 0 w refl) in
         ap (λ (o : Option Switch). elim o as (λ _. Bool) [ Some x ↦ switch_holds t values n x | None ↦ false ]) at
 
-    by_test : (b : Bool) → chosen (holds_in t values) m (tests_from code m (suc n) ws ++ Arrives (begun code m) ∷ []) ≡ target_from t values m (suc n) ws →
-        chosen (holds_in t values) m ((cond b (Tests n w.target (led_to (begun code m) code.enter m w.target) ∷ []) [] ++ tests_from code m (suc n) ws) ++ Arrives (begun code m) ∷ [])
+    by_test : (b : Bool) → chosen (holds_in t values) m (tests_from code m (suc n) ws ++ Arrives (block_begun code m) ∷ []) ≡ target_from t values m (suc n) ws →
+        chosen (holds_in t values) m ((cond b (Tests n w.target (led_to (block_begun code m) code.enter m w.target) ∷ []) [] ++ tests_from code m (suc n) ws) ++ Arrives (block_begun code m) ∷ [])
         ≡ cond (b && switch_holds t values n w) w.target (target_from t values m (suc n) ws)
-    by_test true ih = ap (λ b. cond b w.target (chosen (holds_in t values) m (tests_from code m (suc n) ws ++ Arrives (begun code m) ∷ []))) first ∙ ap (λ z. cond (switch_holds t values n w) w.target z) ih
+    by_test true ih = ap (λ b. cond b w.target (chosen (holds_in t values) m (tests_from code m (suc n) ws ++ Arrives (block_begun code m) ∷ []))) first ∙ ap (λ z. cond (switch_holds t values n w) w.target z) ih
     by_test false ih = ih
 
 -- what tables owe to the decide list of mode m, in module k
@@ -245,42 +245,42 @@ pub record Decides (t : Tables) (code : ECode) (m k : ℕ) : Type 0 where
 pub stay_passes : (t : Tables) (code : ECode) (at k m : ℕ) (values : List ℤ) (rs : ℕ → Bool) → Decides t code m k → ((q : ℕ) → parent_of t k ≡ Some q → rs q ≡ true) →
     Passes t code at k (goes (holds_in t values) rs) (round_end t code m) (decide_path t code values true m) (moved_calendar t code at k m (target t values m))
 stay_passes t code at k m values rs d runs =
-    jumps_then t code at k (holds_in t values) rs (round_end t code m) (decided code m) (turn_of t code m).side _ _ (turn_jumps t code m d.mine)
-    (subst (λ z. Passes t code at k (goes (holds_in t values) rs) (decided code m) (followed t code m (holds_in t values) true (decide_chain t (begun code m) code.enter m) (steps_of z)) (moved_calendar t code at k m (target t values m))) (sym d.mine.decides.1)
+    jumps_then t code at k (holds_in t values) rs (round_end t code m) (decided code m) (step_from t code m).side _ _ (turn_jumps t code m d.mine)
+    (subst (λ z. Passes t code at k (goes (holds_in t values) rs) (decided code m) (followed t code m (holds_in t values) true (decide_chain t (block_begun code m) code.enter m) (steps_of z)) (moved_calendar t code at k m (target t values m))) (sym d.mine.decides.1)
     (by_parent (parent_of t (mode_module t m)) (ap (parent_of t) d.owner) d.mine.decides.0 d.mine.decides.1))
   where
-    rest : (a : ℕ) (ss : List Step) → read code.instrs a (tests_of t (begun code m) code.enter m ++ Arrives (begun code m) ∷ []) ≡ Ok ss →
-        Passes t code at k (goes (holds_in t values) rs) a (followed t code m (holds_in t values) true (tests_of t (begun code m) code.enter m ++ Arrives (begun code m) ∷ []) ss) (moved_calendar t code at k m (target t values m))
+    rest : (a : ℕ) (ss : List Step) → read code.instrs a (tests_of t (block_begun code m) code.enter m ++ Arrives (block_begun code m) ∷ []) ≡ Ok ss →
+        Passes t code at k (goes (holds_in t values) rs) a (followed t code m (holds_in t values) true (tests_of t (block_begun code m) code.enter m ++ Arrives (block_begun code m) ∷ []) ss) (moved_calendar t code at k m (target t values m))
     rest a ss e =
-        subst (λ y. Passes t code at k (goes (holds_in t values) rs) a (followed t code m (holds_in t values) true (tests_of t (begun code m) code.enter m ++ Arrives (begun code m) ∷ []) ss) (moved_calendar t code at k m y))
+        subst (λ y. Passes t code at k (goes (holds_in t values) rs) a (followed t code m (holds_in t values) true (tests_of t (block_begun code m) code.enter m ++ Arrives (block_begun code m) ∷ []) ss) (moved_calendar t code at k m y))
         (chosen_is t code values m 0 t.switches (λ i w h. let same : i ≡ 0 + i = omega arith in subst (λ z. slice_get t.switches z ≡ Some w) same h))
-        (tail_passes t code at k m (holds_in t values) rs true (tests_of t (begun code m) code.enter m ++ Arrives (begun code m) ∷ []) a ss d.mine (tail_of t code m 0 t.switches (omega arith) d.others) e)
+        (tail_passes t code at k m (holds_in t values) rs true (tests_of t (block_begun code m) code.enter m ++ Arrives (block_begun code m) ∷ []) a ss d.mine (tail_of t code m 0 t.switches (omega arith) d.others) e)
 
-    by_parent : (o : Option ℕ) → o ≡ parent_of t k → (ss : List Step) → read code.instrs (decided code m) (asks_for o ++ (tests_of t (begun code m) code.enter m ++ Arrives (begun code m) ∷ [])) ≡ Ok ss →
-        Passes t code at k (goes (holds_in t values) rs) (decided code m) (followed t code m (holds_in t values) true (asks_for o ++ (tests_of t (begun code m) code.enter m ++ Arrives (begun code m) ∷ [])) ss) (moved_calendar t code at k m (target t values m))
+    by_parent : (o : Option ℕ) → o ≡ parent_of t k → (ss : List Step) → read code.instrs (decided code m) (asks_for o ++ (tests_of t (block_begun code m) code.enter m ++ Arrives (block_begun code m) ∷ [])) ≡ Ok ss →
+        Passes t code at k (goes (holds_in t values) rs) (decided code m) (followed t code m (holds_in t values) true (asks_for o ++ (tests_of t (block_begun code m) code.enter m ++ Arrives (block_begun code m) ∷ [])) ss) (moved_calendar t code at k m (target t values m))
     by_parent None is ss e = rest (decided code m) ss e
     by_parent (Some q) is ss e =
-        let r = read_is code.instrs (decided code m) (Asks q) (tests_of t (begun code m) code.enter m ++ Arrives (begun code m) ∷ []) ss e in
+        let r = read_is code.instrs (decided code m) (Asks q) (tests_of t (block_begun code m) code.enter m ++ Arrives (block_begun code m) ∷ []) ss e in
         let met = reach_is code.instrs (decided code m) (Asks q) r.first tt r.reaches in
         let first : kept code.instrs r.first.step.passed ≡ I.IfMode q r.first.step.target ∷ [] = kept_first code.instrs (decided code m) (Asks q) r.first r.reaches in
-        subst (λ zs. Passes t code at k (goes (holds_in t values) rs) (decided code m) (followed t code m (holds_in t values) true (Asks q ∷ (tests_of t (begun code m) code.enter m ++ Arrives (begun code m) ∷ [])) zs) (moved_calendar t code at k m (target t values m))) (sym r.is)
-        (leads_then t code at k (holds_in t values) rs (decided code m) r.first.next r.first.step.passed (followed t code m (holds_in t values) true (tests_of t (begun code m) code.enter m ++ Arrives (begun code m) ∷ []) r.rest) (moved_calendar t code at k m (target t values m)) (λ c. c)
+        subst (λ zs. Passes t code at k (goes (holds_in t values) rs) (decided code m) (followed t code m (holds_in t values) true (Asks q ∷ (tests_of t (block_begun code m) code.enter m ++ Arrives (block_begun code m) ∷ [])) zs) (moved_calendar t code at k m (target t values m))) (sym r.is)
+        (leads_then t code at k (holds_in t values) rs (decided code m) r.first.next r.first.step.passed (followed t code m (holds_in t values) true (tests_of t (block_begun code m) code.enter m ++ Arrives (block_begun code m) ∷ []) r.rest) (moved_calendar t code at k m (target t values m)) (λ c. c)
         (reached_leads code.instrs (holds_in t values) rs (decided code m) (Asks q) r.first (runs q (sym is)) met)
         (subst (AllAllowed t 2 k) (sym first) ((refl, d.lower q (sym is)), tt)) (λ c. ap (λ is. calendar_after t code at k is c) first) (rest r.first.next r.rest r.then))
 
 pub gone_passes : (t : Tables) (code : ECode) (at k m q : ℕ) (values : List ℤ) (rs : ℕ → Bool) → Decides t code m k → parent_of t k ≡ Some q → rs q ≡ false →
     Passes t code at k (goes (holds_in t values) rs) (round_end t code m) (decide_path t code values false m) (with_mode k None)
 gone_passes t code at k m q values rs d parent off =
-    jumps_then t code at k (holds_in t values) rs (round_end t code m) (decided code m) (turn_of t code m).side _ _ (turn_jumps t code m d.mine)
-    (subst (λ z. Passes t code at k (goes (holds_in t values) rs) (decided code m) (followed t code m (holds_in t values) false (decide_chain t (begun code m) code.enter m) (steps_of z)) (with_mode k None)) (sym d.mine.decides.1)
+    jumps_then t code at k (holds_in t values) rs (round_end t code m) (decided code m) (step_from t code m).side _ _ (turn_jumps t code m d.mine)
+    (subst (λ z. Passes t code at k (goes (holds_in t values) rs) (decided code m) (followed t code m (holds_in t values) false (decide_chain t (block_begun code m) code.enter m) (steps_of z)) (with_mode k None)) (sym d.mine.decides.1)
     (by_parent (parent_of t (mode_module t m)) (ap (parent_of t) d.owner ∙ parent) d.mine.decides.0 d.mine.decides.1))
   where
-    by_parent : (o : Option ℕ) → o ≡ Some q → (ss : List Step) → read code.instrs (decided code m) (asks_for o ++ (tests_of t (begun code m) code.enter m ++ Arrives (begun code m) ∷ [])) ≡ Ok ss →
-        Passes t code at k (goes (holds_in t values) rs) (decided code m) (followed t code m (holds_in t values) false (asks_for o ++ (tests_of t (begun code m) code.enter m ++ Arrives (begun code m) ∷ [])) ss) (with_mode k None)
+    by_parent : (o : Option ℕ) → o ≡ Some q → (ss : List Step) → read code.instrs (decided code m) (asks_for o ++ (tests_of t (block_begun code m) code.enter m ++ Arrives (block_begun code m) ∷ [])) ≡ Ok ss →
+        Passes t code at k (goes (holds_in t values) rs) (decided code m) (followed t code m (holds_in t values) false (asks_for o ++ (tests_of t (block_begun code m) code.enter m ++ Arrives (block_begun code m) ∷ [])) ss) (with_mode k None)
     by_parent None is ss e = absurd (let z : ⊥ = cc in z)
     by_parent (Some u) is ss e =
         let same : u ≡ q = cc in
-        let r = read_is code.instrs (decided code m) (Asks u) (tests_of t (begun code m) code.enter m ++ Arrives (begun code m) ∷ []) ss e in
+        let r = read_is code.instrs (decided code m) (Asks u) (tests_of t (block_begun code m) code.enter m ++ Arrives (block_begun code m) ∷ []) ss e in
         let met = reach_is code.instrs (decided code m) (Asks u) r.first tt r.reaches in
         let first : kept code.instrs r.first.step.passed ≡ I.IfMode u r.first.step.target ∷ [] = kept_first code.instrs (decided code m) (Asks u) r.first r.reaches in
         let below : mode_module t u < k = subst (λ z. mode_module t z < k) (sym same) (d.lower q parent) in
@@ -288,6 +288,6 @@ gone_passes t code at k m q values rs d parent off =
         ap (goes (holds_in t values) rs met.place) met.meets.0 ∙ ap (λ b. Some (cond b r.first.step.target (suc met.place))) (ap rs same ∙ off) in
         let leads : Leads code.instrs (goes (holds_in t values) rs) (decided code m) r.first.step.passed (suc met.place) =
         subst (λ zs. Leads code.instrs (goes (holds_in t values) rs) (decided code m) zs (suc met.place)) (sym met.passed) (then_at code.instrs (holds_in t values) rs (decided code m) met.place (suc met.place) met.jumps met.instr met.leads met.stands on) in
-        subst (λ zs. Passes t code at k (goes (holds_in t values) rs) (decided code m) (followed t code m (holds_in t values) false (Asks u ∷ (tests_of t (begun code m) code.enter m ++ Arrives (begun code m) ∷ [])) zs) (with_mode k None)) (sym r.is)
+        subst (λ zs. Passes t code at k (goes (holds_in t values) rs) (decided code m) (followed t code m (holds_in t values) false (Asks u ∷ (tests_of t (block_begun code m) code.enter m ++ Arrives (block_begun code m) ∷ [])) zs) (with_mode k None)) (sym r.is)
         (leads_then t code at k (holds_in t values) rs (decided code m) (suc met.place) r.first.step.passed r.first.step.side (with_mode k None) (λ c. c) leads
         (subst (AllAllowed t 2 k) (sym first) ((refl, below), tt)) (λ c. ap (λ is. calendar_after t code at k is c) first) (leave_passes t code at k (holds_in t values) rs (suc met.place) r.first.step.side met.meets.2))

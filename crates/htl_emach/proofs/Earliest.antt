@@ -13,8 +13,8 @@ use Rattle.htl_emach.specs.declared.trigger.Trigger.{Trigger}
 use Rattle.htl_emach.specs.declared.trigger.Block.{Block}
 use Rattle.htl_emach.specs.Calendars.{Calendar, Standing, list_at, triggers_of}
 use Rattle.htl_emach.specs.Due.{IsDueAt, IsEarliest, IsNext, IsNextOf, IsUpToNext, LacksModules, NoneBefore, earlier, earliest, earliest_of}
-use Rattle.htl_emach.specs.Pending.{Entry, entry_at, entry_before, entry_after, opening, written, switched, closed, turning, is_called, entering, ending, old_stay, new_stay, Between}
-use Rattle.htl_emach.specs.Following.{Stands}
+use Rattle.htl_emach.specs.Pending.{Entry, entry_at, entry_before, entry_after, opening, pending_entry, switched, closed, turning, is_called, entering, ending, old_stay, new_stay, Between}
+use Rattle.htl_emach.specs.Following.{PhaseStands}
 use Rattle.htl_emach.proofs.States.{module_at, parent_at}
 use Rattle.htl_emach.proofs.Instants.{roots_run}
 
@@ -168,7 +168,7 @@ turning_some t code now k j None y root =
 before_some : (t : Tables) (code : ECode) (now phase k j : ℕ) (old : Option Stay) (y : Stay) → parent_of t j ≡ None → (x : Trigger) × ((entry_before t code now phase k j old (Some y)).switch ≡ Some x)
 before_some t code now phase k j old y root = by_phase (eqb phase 1) (eqb phase 2)
   where
-    by_phase : (a b : Bool) → (x : Trigger) × ((cond a (opening t code now j old (Some y)) (cond b (written t code now k j old (Some y)) (switched t code now (Some y)))).switch ≡ Some x)
+    by_phase : (a b : Bool) → (x : Trigger) × ((cond a (opening t code now j old (Some y)) (cond b (pending_entry t code now k j old (Some y)) (switched t code now (Some y)))).switch ≡ Some x)
     by_phase true b = turning_some t code now 0 j old y root
     by_phase false true = turning_some t code now k j old y root
     by_phase false false = (ending t code y, refl)
@@ -176,7 +176,7 @@ before_some t code now phase k j old y root = by_phase (eqb phase 1) (eqb phase 
 after_some : (t : Tables) (code : ECode) (now phase j : ℕ) (old : Option Stay) (y : Stay) → parent_of t j ≡ None → (x : Trigger) × ((entry_after t code now phase j old (Some y)).switch ≡ Some x)
 after_some t code now phase j old y root = by_phase (eqb phase 1) (eqb phase 2)
   where
-    by_phase : (a b : Bool) → (x : Trigger) × ((cond a (written t code now 0 j old (Some y)) (cond b (switched t code now (Some y)) (closed t code now (Some y)))).switch ≡ Some x)
+    by_phase : (a b : Bool) → (x : Trigger) × ((cond a (pending_entry t code now 0 j old (Some y)) (cond b (switched t code now (Some y)) (closed t code now (Some y)))).switch ≡ Some x)
     by_phase true b = turning_some t code now 0 j old y root
     by_phase false true = (ending t code y, refl)
     by_phase false false = (ending t code y, refl)
@@ -219,13 +219,13 @@ first_due_at t code es now phase k c r inside b = by_stay (new_stay t es now 0) 
 pub lacks_modules : (m : Standing) (o : Option ℕ) → IsNext m o → o ≡ None → LacksModules m
 lacks_modules m o next none = λ t code es now phase done rest r mid. by_modules t code es now phase rest r mid.stands t.modules refl
   where
-    by_running : (t : Tables) (code : ECode) (es : List Event) (now phase : ℕ) (rest : List Done) (b : Option Block) → AreInRange t → 0 < length t.modules → Stands t code es now phase m.calendar b rest → IsNextOf m.calendar b o → ⊥
+    by_running : (t : Tables) (code : ECode) (es : List Event) (now phase : ℕ) (rest : List Done) (b : Option Block) → AreInRange t → 0 < length t.modules → PhaseStands t code es now phase m.calendar b rest → IsNextOf m.calendar b o → ⊥
     by_running t code es now phase rest (Some b) r inside s is = none_some b.at (sym none ∙ is)
     by_running t code es now phase rest None r inside s is =
         let due = first_due_at t code es now phase s.«module» m.calendar r inside s.calendar in
         subst (λ z. IsNextOf m.calendar None z → ⊥) (sym none) (λ h. h due.0 due.1) is
 
-    by_modules : (t : Tables) (code : ECode) (es : List Event) (now phase : ℕ) (rest : List Done) → AreInRange t → Stands t code es now phase m.calendar m.running rest → (xs : List Module) → t.modules ≡ xs → t.modules ≡ []
+    by_modules : (t : Tables) (code : ECode) (es : List Event) (now phase : ℕ) (rest : List Done) → AreInRange t → PhaseStands t code es now phase m.calendar m.running rest → (xs : List Module) → t.modules ≡ xs → t.modules ≡ []
     by_modules t code es now phase rest r s [] e = e
     by_modules t code es now phase rest r s (x ∷ xs) e =
         let some : 0 < length t.modules = subst (λ (zs : List Module). 0 < length zs) (sym e) (omega arith) in

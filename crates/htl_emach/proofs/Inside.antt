@@ -13,8 +13,8 @@ use Rattle.htl_emach.specs.declared.trigger.Trigger.{Trigger}
 use Rattle.htl_emach.specs.declared.trigger.Block.{Block}
 use Rattle.htl_emach.specs.Calendars.{Calendar, list_at, goes, runs_in, calendar_effect, with_trigger, entry_of, going_on, stepped}
 use Rattle.htl_emach.specs.Leading.{Leads, Ends, goes_at, IsAllowed}
-use Rattle.htl_emach.specs.Pending.{Between, Entry, written, switched, closed, old_stay, new_stay}
-use Rattle.htl_emach.specs.Following.{calendar_at, calendar_replay, phase_path, blocks_to_come, Runs, IsInBlock, Stands, Onward}
+use Rattle.htl_emach.specs.Pending.{Between, Entry, pending_entry, switched, closed, old_stay, new_stay}
+use Rattle.htl_emach.specs.Following.{calendar_at, calendar_replay, phase_path, blocks_to_come, BlockRuns, IsInBlock, PhaseStands, Onward}
 
 no_end : (front : List ℕ) (b : ℕ) → [] ≡ front ++ b ∷ [] → ⊥
 no_end [] b e = cc
@@ -134,7 +134,7 @@ lower_modes t code es now phase k xs c h two j below =
     ∙ by_test (eqb phase 1) refl
     ∙ ap (λ b. (cond b (switched t code now (new_stay t es now j)) (closed t code now (new_stay t es now j))).mode) two
   where
-    by_test : (b : Bool) → eqb phase 1 ≡ b → (cond b (written t code now 0 j (old_stay t es now j) (new_stay t es now j)) (cond (eqb phase 2) (switched t code now (new_stay t es now j)) (closed t code now (new_stay t es now j)))).mode
+    by_test : (b : Bool) → eqb phase 1 ≡ b → (cond b (pending_entry t code now 0 j (old_stay t es now j) (new_stay t es now j)) (cond (eqb phase 2) (switched t code now (new_stay t es now j)) (closed t code now (new_stay t es now j)))).mode
         ≡ (cond (eqb phase 2) (switched t code now (new_stay t es now j)) (closed t code now (new_stay t es now j))).mode
     by_test true e = absurd (not_both phase e two)
     by_test false e = refl
@@ -146,7 +146,7 @@ pub inside : (t : Tables) (code : ECode) (es : List Event) (now phase : ℕ) (c 
     Onward t code es now phase (stepped t code values now c (record { address = b.address; instr = i; «module» = b.«module» })) done rest (Some (record { address = b.address; instr = i; «module» = b.«module» }))
 inside t code es now phase c b values done rest i path h at same = by_path h.path h.runs h.left
   where
-    by_path : (xs : List ℕ) → Runs t code es now phase c b.«module» b.address xs → rest ≡ on b.«module» xs ++ blocks_to_come t code es now phase (suc b.«module») →
+    by_path : (xs : List ℕ) → BlockRuns t code es now phase c b.«module» b.address xs → rest ≡ on b.«module» xs ++ blocks_to_come t code es now phase (suc b.«module») →
         Onward t code es now phase (stepped t code values now c (record { address = b.address; instr = i; «module» = b.«module» })) done rest (Some (record { address = b.address; instr = i; «module» = b.«module» }))
     by_path [] r left = absurd (no_end r.ends.0 r.ends.1 r.ends.3)
     by_path (x ∷ xs) r left =
@@ -162,9 +162,9 @@ inside t code es now phase c b values done rest i path h at same = by_path h.pat
         path ∙ ap (λ z. done ++ z) first ∙ sym (append_assoc done (record { «module» = b.«module»; address = b.address } ∷ []) more) in
         (more, first, at, r.allowed.0 i here, record { path = onward; stands = by_next xs r leads (goes (holds_in t values) (runs_in t c.modes) b.address i) (step_of_block code.instrs (goes_at t es now) b.address x xs i (goes (holds_in t values) (runs_in t c.modes) b.address i) r.ends at led) })
       where
-        by_next : (xs : List ℕ) → Runs t code es now phase c b.«module» b.address (x ∷ xs) → Between t code es now phase (calendar_replay t code now b.«module» xs (calendar_effect t code now b.«module» i c)) (suc b.«module») → (n : Option ℕ) →
+        by_next : (xs : List ℕ) → BlockRuns t code es now phase c b.«module» b.address (x ∷ xs) → Between t code es now phase (calendar_replay t code now b.«module» xs (calendar_effect t code now b.«module» i c)) (suc b.«module») → (n : Option ℕ) →
             ((n ≡ None) × (xs ≡ [])) ⊎ ((e : ℕ) × (n ≡ Some e) × Ends code.instrs (goes_at t es now) e xs) →
-            Stands t code es now phase (calendar_effect t code now b.«module» i c) (going_on b.«module» now n) (on b.«module» xs ++ blocks_to_come t code es now phase (suc b.«module»))
+            PhaseStands t code es now phase (calendar_effect t code now b.«module» i c) (going_on b.«module» now n) (on b.«module» xs ++ blocks_to_come t code es now phase (suc b.«module»))
         by_next xs r leads None (inl h) =
             record {
               «module» = suc b.«module»;

@@ -14,7 +14,7 @@ use Rattle.htl_emach.specs.declared.trigger.Block.{Block}
 use Rattle.std.proofs.lemmas.List.{length-map, length-replicate}
 use Rattle.htl_emach.specs.Calendars.{Calendar, Standing, list_at, done_in, standing_after, first_calendar, first_trigger}
 use Rattle.htl_emach.specs.Pending.{Between, Entry, entry_at, opening, turning, entering, old_stay, new_stay}
-use Rattle.htl_emach.specs.Following.{Midway, Onward, Follows, phase_path, done_of}
+use Rattle.htl_emach.specs.Following.{Midway, Onward, FollowsCode, phase_path, done_of}
 use Rattle.htl_emach.specs.Laws.{PassesInstant}
 use Rattle.htl_emach.proofs.ModuleLaws.{ModuleLaws}
 use Rattle.htl_emach.proofs.CopyPhases.{module_writes, module_reads, none_laws, stay_laws, phase_are, StayLaws}
@@ -79,7 +79,7 @@ starts t code es now phase m idle b = by_running m.calendar m.running idle b
     by_running c None e b = phase_starts t code es now phase c b
     by_running c (Some x) e b = absurd (let z : ⊥ = cc in z)
 
-pub follows_writes : (t : Tables) (code : ECode) (es : List Event) (now : ℕ) (m : Standing) → Follows t code es now m → Midway t code es now 1 m [] (phase_path t code es now 1)
+pub follows_writes : (t : Tables) (code : ECode) (es : List Event) (now : ℕ) (m : Standing) → FollowsCode t code es now m → Midway t code es now 1 m [] (phase_path t code es now 1)
 follows_writes t code es now m f = starts t code es now 1 m f.idle f.calendar
 
 -- a phase in which nothing is due any more is followed by the next
@@ -89,7 +89,7 @@ writes_switches t code es now m done rest o = starts t code es now 2 m o.1 (to_s
 pub switches_reads : (t : Tables) (code : ECode) (es : List Event) (now : ℕ) (m : Standing) (done rest : List Done) → Onward t code es now 2 m done rest None → Midway t code es now 3 m [] (phase_path t code es now 3)
 switches_reads t code es now m done rest o = starts t code es now 3 m o.1 (to_reads t code es now m.calendar o.2)
 
-pub reads_follows : (t : Tables) (code : ECode) (es : List Event) (now : ℕ) (m : Standing) (done rest : List Done) → Sound t code → Onward t code es now 3 m done rest None → Follows t code es (suc now) m
+pub reads_follows : (t : Tables) (code : ECode) (es : List Event) (now : ℕ) (m : Standing) (done rest : List Done) → Sound t code → Onward t code es now 3 m done rest None → FollowsCode t code es (suc now) m
 reads_follows t code es now m done rest h o = record { idle = o.1; calendar = to_next t code es now m.calendar (roots_run t es now h.ranges) o.2 }
 
 -- the three phases are the path of the instant
@@ -108,7 +108,7 @@ list_none zero k = refl
 list_none (suc n) zero = refl
 list_none (suc n) (suc k) = list_none n k
 
-pub first_follows : (t : Tables) (code : ECode) (es : List Event) → Sound t code → Follows t code es 0 (record { calendar = first_calendar t code; running = None })
+pub first_follows : (t : Tables) (code : ECode) (es : List Event) → Sound t code → FollowsCode t code es 0 (record { calendar = first_calendar t code; running = None })
 first_follows t code es h =
     record {
       idle = refl;

@@ -7,7 +7,7 @@ use Rattle.htl_ecode.specs.Paths.{on}
 use Rattle.htl_emach.specs.declared.trigger.Trigger.{Trigger}
 use Rattle.htl_emach.specs.Calendars.{Calendar, with_trigger, target_at}
 use Rattle.htl_emach.specs.Pending.{Entry, Between, entry_before, entry_after, old_stay, new_stay}
-use Rattle.htl_emach.specs.Following.{phase_blocks, Runs}
+use Rattle.htl_emach.specs.Following.{phase_blocks, BlockRuns}
 
 abbrev pub trigger_in : ℕ → Entry → Option Trigger
 trigger_in phase e = cond (eqb phase 1) e.write (cond (eqb phase 2) e.switch e.read)
@@ -25,4 +25,4 @@ pub record ModuleLaws (t : Tables) (code : ECode) (es : List Event) (now phase j
   pub idle : due_target t code es now phase j ≡ None → (phase_blocks t code es now phase j ≡ []) × ((c : Calendar) → Between t code es now phase c j → Between t code es now phase c (suc j))
   -- where it is due its target begins the block
   pub busy : (a : ℕ) → due_target t code es now phase j ≡ Some a →
-      (xs : List ℕ) × (phase_blocks t code es now phase j ≡ on j xs) × ((c : Calendar) → Between t code es now phase c j → Runs t code es now phase (with_trigger phase j None c) j a xs)
+      (xs : List ℕ) × (phase_blocks t code es now phase j ≡ on j xs) × ((c : Calendar) → Between t code es now phase c j → BlockRuns t code es now phase (with_trigger phase j None c) j a xs)

@@ -20,7 +20,7 @@ use Rattle.htl_emach.specs.Calendars.{Calendar, Standing, taken, taken_by, block
 use Rattle.htl_emach.specs.Ready.{Fits, IsReady}
 use Rattle.htl_emach.specs.Leading.{goes_at, IsAllowed}
 use Rattle.htl_emach.specs.Pending.{IsSized}
-use Rattle.htl_emach.specs.Following.{Runs, IsInBlock, Stands, Midway, Onward, phase_path, calendar_at, calendar_replay}
+use Rattle.htl_emach.specs.Following.{BlockRuns, IsInBlock, PhaseStands, Midway, Onward, phase_path, calendar_at, calendar_replay}
 use Rattle.htl_emach.proofs.ModuleLaws.{ModuleLaws}
 use Rattle.htl_emach.proofs.Inside.{next_of_block, inside}
 use Rattle.htl_emach.proofs.Beginning.{no_block, begins}
@@ -39,7 +39,7 @@ pub record Next (t : Tables) (code : ECode) (phase : ℕ) (b : Block) : Type 0 w
 pub next_in : (t : Tables) (code : ECode) (es : List Event) (now phase : ℕ) (c : Calendar) (b : Block) (rest : List Done) → IsInBlock t code es now phase c b rest → Next t code phase b
 next_in t code es now phase c b rest h = by_path h.path h.runs
   where
-    by_path : (xs : List ℕ) → Runs t code es now phase c b.«module» b.address xs → Next t code phase b
+    by_path : (xs : List ℕ) → BlockRuns t code es now phase c b.«module» b.address xs → Next t code phase b
     by_path [] r = absurd (no_end r.ends.0 r.ends.1 r.ends.3)
     by_path (x ∷ xs) r =
         let one = next_of_block code.instrs (goes_at t es now) b.address x xs r.ends in
@@ -57,7 +57,7 @@ module _ (t : Tables) (code : ECode) (es : List Event) (now phase : ℕ) (laws :
       subst (λ o. Onward t code es now phase (standing_after t code values phase now m (done_at b.«module» b.address o)) done rest (done_at b.«module» b.address o)) (sym n.stands) two
 
   pub onward_at : (values : List ℤ) (done rest : List Done) (c : Calendar) (r : Option Block) → phase_path t code es now phase ≡ done ++ rest → (eqb phase 2 ≡ true → values ≡ (state t es now).values) →
-      Stands t code es now phase c r rest →
+      PhaseStands t code es now phase c r rest →
       Onward t code es now phase (standing_after t code values phase now (record { calendar = c; running = r }) (done_in code phase now (record { calendar = c; running = r }))) done rest (done_in code phase now (record { calendar = c; running = r }))
   onward_at values done rest c (Some b) path same h = at_block values done rest path same (record { calendar = c; running = Some b }) c b refl h
   onward_at values done rest c None path same h = by_due (first_due now 0 (triggers_of phase c)) refl
@@ -147,7 +147,7 @@ pub ready : (t : Tables) (code : ECode) (es : List Event) (now phase : ℕ) (law
     AreInRange t → HasEnds t → IsShaped t w → Midway t code es now phase m done rest → IfSome (block_in phase now m) (IsReady t code m.calendar w)
 ready t code es now phase laws m w done rest r e s h = by_running m.calendar m.running h.stands
   where
-    by_running : (c : Calendar) (o : Option Block) → Stands t code es now phase c o rest → IfSome (block_in phase now (record { calendar = c; running = o })) (IsReady t code c w)
+    by_running : (c : Calendar) (o : Option Block) → PhaseStands t code es now phase c o rest → IfSome (block_in phase now (record { calendar = c; running = o })) (IsReady t code c w)
     by_running c (Some b) st = block_ready t code es now phase c c w b rest r e s (replay_sized t code now b.«module» st.path c st.runs.leads.sized) st
     by_running c None st = by_due (first_due now 0 (triggers_of phase c)) refl
       where
@@ -159,6 +159,6 @@ ready t code es now phase laws m w done rest r e s h = by_running m.calendar m.r
 pub midway_sized : (t : Tables) (code : ECode) (es : List Event) (now phase : ℕ) (m : Standing) (done rest : List Done) → Midway t code es now phase m done rest → IsSized t m.calendar
 midway_sized t code es now phase m done rest h = by_running m.calendar m.running h.stands
   where
-    by_running : (c : Calendar) (o : Option Block) → Stands t code es now phase c o rest → IsSized t c
+    by_running : (c : Calendar) (o : Option Block) → PhaseStands t code es now phase c o rest → IsSized t c
     by_running c (Some b) st = replay_sized t code now b.«module» st.path c st.runs.leads.sized
     by_running c None st = st.calendar.sized

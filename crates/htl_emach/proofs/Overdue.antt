@@ -14,8 +14,8 @@ use Rattle.htl_emach.specs.declared.trigger.Block.{Block}
 use Rattle.htl_emach.specs.declared.trigger.Trigger.{Trigger}
 use Rattle.htl_emach.specs.Calendars.{Calendar, list_at, triggers_of}
 use Rattle.htl_emach.specs.Due.{IsNextOf, NoneBefore}
-use Rattle.htl_emach.specs.Pending.{Entry, Between, IsSized, trigger_at, awaited, turning, is_called, entering, ending, ended, opening, written, switched, closed, entry_at, old_stay, new_stay}
-use Rattle.htl_emach.specs.Following.{Stands}
+use Rattle.htl_emach.specs.Pending.{Entry, Between, IsSized, trigger_at, awaited, turning, is_called, entering, ending, ended, opening, pending_entry, switched, closed, entry_at, old_stay, new_stay}
+use Rattle.htl_emach.specs.Following.{PhaseStands}
 use Rattle.htl_emach.specs.Laws.{NothingOverdue}
 use Rattle.htl_emach.proofs.States.{module_at, new_stays, goes_on, begins_now, option_cases}
 use Rattle.htl_emach.proofs.Switching.{positive}
@@ -119,7 +119,7 @@ module _ (t : Tables) (code : ECode) (es : List Event) (now : ℕ) (r : AreInRan
   opening_later false true e = turning_later 0 (old_stay t es now j) (new_stay t es now j) refl e
   opening_later false false e = awaited_later t code 3 now (old_stay t es now j) z e
 
-  written_later : (p q : Bool) (k : ℕ) → pick p q (written t code now k j (old_stay t es now j) (new_stay t es now j)) ≡ Some z → now ≤ z.at
+  written_later : (p q : Bool) (k : ℕ) → pick p q (pending_entry t code now k j (old_stay t es now j) (new_stay t es now j)) ≡ Some z → now ≤ z.at
   written_later true q k e = omega (arith, awaited_later t code 1 (suc now) (old_stay t es now j) z e)
   written_later false true k e = turning_later k (old_stay t es now j) (new_stay t es now j) refl e
   written_later false false k e = awaited_later t code 3 now (old_stay t es now j) z e
@@ -135,13 +135,13 @@ module _ (t : Tables) (code : ECode) (es : List Event) (now : ℕ) (r : AreInRan
   closed_later false false e = omega (arith, awaited_later t code 3 (suc now) (new_stay t es now j) z e)
 
   before_later : (a b p q : Bool) (k : ℕ)
-      → pick p q (cond a (opening t code now j (old_stay t es now j) (new_stay t es now j)) (cond b (written t code now k j (old_stay t es now j) (new_stay t es now j)) (switched t code now (new_stay t es now j)))) ≡ Some z → now ≤ z.at
+      → pick p q (cond a (opening t code now j (old_stay t es now j) (new_stay t es now j)) (cond b (pending_entry t code now k j (old_stay t es now j) (new_stay t es now j)) (switched t code now (new_stay t es now j)))) ≡ Some z → now ≤ z.at
   before_later true b p q k e = opening_later p q e
   before_later false true p q k e = written_later p q k e
   before_later false false p q k e = switched_later p q e
 
   after_later : (a b p q : Bool)
-      → pick p q (cond a (written t code now 0 j (old_stay t es now j) (new_stay t es now j)) (cond b (switched t code now (new_stay t es now j)) (closed t code now (new_stay t es now j)))) ≡ Some z → now ≤ z.at
+      → pick p q (cond a (pending_entry t code now 0 j (old_stay t es now j) (new_stay t es now j)) (cond b (switched t code now (new_stay t es now j)) (closed t code now (new_stay t es now j)))) ≡ Some z → now ≤ z.at
   after_later true b p q e = written_later p q 0 e
   after_later false true p q e = switched_later p q e
   after_later false false p q e = closed_later p q e
@@ -162,7 +162,7 @@ between_later t code es now phase k c r between p j z e =
 pub nothing_overdue : NothingOverdue
 nothing_overdue t code es now phase m done rest r mid = by_running m.running mid.stands
   where
-    by_running : (b : Option Block) → Stands t code es now phase m.calendar b rest → (next : ℕ) → IsNextOf m.calendar b (Some next) → now ≤ next
+    by_running : (b : Option Block) → PhaseStands t code es now phase m.calendar b rest → (next : ℕ) → IsNextOf m.calendar b (Some next) → now ≤ next
     by_running (Some b) s next is = let same : next ≡ b.at = some_same next b.at is in let here = s.at in omega (arith, same, here)
     by_running None s next is =
         let due = is.0 in

@@ -10,7 +10,7 @@ use Rattle.htl_ecode.specs.Offsets.{next_offset, phase_offsets}
 use Rattle.htl_ecode.specs.Chains.{Want, Does, Turns, Arrives, all_do, waits_for, begin_chain, enter_chain, children, is_child}
 use Rattle.htl_ecode.specs.Jumps.{jump_to}
 use Rattle.htl_ecode.specs.Steps.{Step, steps_of, passed_by, target_of}
-use Rattle.htl_ecode.specs.Departure.{begun, entered, decided, block_at}
+use Rattle.htl_ecode.specs.Departure.{block_begun, entered, decided, block_at}
 use Rattle.htl_ecode.specs.Paths.{begin_path, enter_path, chain_path, round_end, turn_step}
 use Rattle.htl_ecode.proofs.Least.{IsLeast, least_is}
 use Rattle.htl_ecode.proofs.Kept.{kept, kept_one, kept_are, instrs_of}
@@ -84,14 +84,14 @@ sets_first t code m p s k c (Some o) x h =
     ∙ ap (λ n. with_trigger p k (Some (record { at = s + n; target = g.0 })) c) same
     ∙ sym (ap (λ z. with_next p k (trigger_at (s + o) z) c) g.1)
 
-pub begin_passes : (t : Tables) (code : ECode) (at k m : ℕ) (hs rs : ℕ → Bool) → ModeReads t code m → Passes t code at k (goes hs rs) (begun code m) (begin_path t code m) (begun_calendar t code at k m)
+pub begin_passes : (t : Tables) (code : ECode) (at k m : ℕ) (hs rs : ℕ → Bool) → ModeReads t code m → Passes t code at k (goes hs rs) (block_begun code m) (begin_path t code m) (begun_calendar t code at k m)
 begin_passes t code at k m hs rs r =
-    subst (λ xs. Passes t code at k (goes hs rs) (begun code m) xs (begun_calendar t code at k m)) (sym path)
+    subst (λ xs. Passes t code at k (goes hs rs) (block_begun code m) xs (begun_calendar t code at k m)) (sym path)
     (record {
-      ends = block_ends code.instrs hs rs (begin_chain t (decided code m) m) (begun code m) r.begins.0 (begin_block code.instrs hs rs (mode_period t m) (decided code m) (next_offset t m 1 0) (next_offset t m 3 0)) r.begins.1;
+      ends = block_ends code.instrs hs rs (begin_chain t (decided code m) m) (block_begun code m) r.begins.0 (begin_block code.instrs hs rs (mode_period t m) (decided code m) (next_offset t m 1 0) (next_offset t m 3 0)) r.begins.1;
       allowed = subst (AllAllowed t 2 k) (sym are) (allowed_instrs t 2 k (begin_chain t (decided code m) m) r.begins.0 (begin_wants t k (mode_period t m) (decided code m) (next_offset t m 1 0) (next_offset t m 3 0)));
       does = λ c. ap (λ is. calendar_after t code at k is c) are
-          ∙ begin_does t code at k (mode_period t m) (decided code m) (next_offset t m 1 0) (next_offset t m 3 0) r.begins.0 c (length_read code.instrs (begin_chain t (decided code m) m) (begun code m) r.begins.0 r.begins.1)
+          ∙ begin_does t code at k (mode_period t m) (decided code m) (next_offset t m 1 0) (next_offset t m 3 0) r.begins.0 c (length_read code.instrs (begin_chain t (decided code m) m) (block_begun code m) r.begins.0 r.begins.1)
           ∙ ap (λ z. with_trigger 2 k (Some (record { at = at + mode_period t m; target = z })) (set_next at k 3 0 (next_offset t m 3 0) (target_of 3 (begin_chain t (decided code m) m) r.begins.0) (set_next at k 1 0 (next_offset t m 1 0) (target_of 1 (begin_chain t (decided code m) m) r.begins.0) c))) (sym turn_is)
           ∙ ap (λ z. with_trigger 2 k (Some (ending t code (record { mode = m; start = at }))) (set_next at k 3 0 (next_offset t m 3 0) (target_of 3 (begin_chain t (decided code m) m) r.begins.0) z)) (sets_first t code m 1 at k c (next_offset t m 1 0) (target_of 1 (begin_chain t (decided code m) m) r.begins.0) first_write)
           ∙ ap (λ z. with_trigger 2 k (Some (ending t code (record { mode = m; start = at }))) z) (sets_first t code m 3 at k (with_next 1 k (next_block t code m 1 at 0) c) (next_offset t m 3 0) (target_of 3 (begin_chain t (decided code m) m) r.begins.0) first_read);
@@ -101,7 +101,7 @@ begin_passes t code at k m hs rs r =
     path = ap (λ z. passed_by (steps_of z)) r.begins.1
 
     are : kept code.instrs (passed_by r.begins.0) ≡ instrs_of (begin_chain t (decided code m) m) r.begins.0
-    are = kept_are code.instrs (begin_chain t (decided code m) m) (begun code m) r.begins.0 r.begins.1
+    are = kept_are code.instrs (begin_chain t (decided code m) m) (block_begun code m) r.begins.0 r.begins.1
 
     turn_is : round_end t code m ≡ (turn_step (begin_chain t (decided code m) m) r.begins.0).target
     turn_is = ap (λ z. (turn_step (begin_chain t (decided code m) m) (steps_of z)).target) r.begins.1
@@ -187,18 +187,18 @@ leads_then t code at k hs rs a b xs ys f g leads allowed does p =
 pub enter_passes : (t : Tables) (code : ECode) (at k m : ℕ) (hs rs : ℕ → Bool) → ModeReads t code m → Passes t code at k (goes hs rs) (entered code m) (enter_path t code m) (entered_calendar t code at k m)
 enter_passes t code at k m hs rs r =
     subst (λ xs. Passes t code at k (goes hs rs) (entered code m) (xs ++ begin_path t code m) (entered_calendar t code at k m)) (sym path)
-    (leads_then t code at k hs rs (entered code m) (begun code m) (passed_by r.enters.0) (begin_path t code m) (begun_calendar t code at k m) (λ c. forked t code at (children t m) (with_mode k (Some m) c))
-    (chain_leads code.instrs hs rs (Does (I.Enter m) ∷ all_do (map (λ j. I.Fork j) (children t m))) (entered code m) (begun code m) r.enters.0 (λ a. refl, forks_go code.instrs hs rs (children t m)) r.enters.1)
-    (subst (AllAllowed t 2 k) (sym are) (allowed_instrs t 2 k (enter_chain t (begun code m) m) r.enters.0 (tt, forks_wants t k (begun code m) (is_child m) 0 t.modules (omega arith))))
-    (λ c. ap (λ is. calendar_after t code at k is c) are ∙ by_steps r.enters.0 (length_read code.instrs (enter_chain t (begun code m) m) (entered code m) r.enters.0 r.enters.1) c)
+    (leads_then t code at k hs rs (entered code m) (block_begun code m) (passed_by r.enters.0) (begin_path t code m) (begun_calendar t code at k m) (λ c. forked t code at (children t m) (with_mode k (Some m) c))
+    (chain_leads code.instrs hs rs (Does (I.Enter m) ∷ all_do (map (λ j. I.Fork j) (children t m))) (entered code m) (block_begun code m) r.enters.0 (λ a. refl, forks_go code.instrs hs rs (children t m)) r.enters.1)
+    (subst (AllAllowed t 2 k) (sym are) (allowed_instrs t 2 k (enter_chain t (block_begun code m) m) r.enters.0 (tt, forks_wants t k (block_begun code m) (is_child m) 0 t.modules (omega arith))))
+    (λ c. ap (λ is. calendar_after t code at k is c) are ∙ by_steps r.enters.0 (length_read code.instrs (enter_chain t (block_begun code m) m) (entered code m) r.enters.0 r.enters.1) c)
     (begin_passes t code at k m hs rs r))
   where
-    path : chain_path code (entered code m) (enter_chain t (begun code m) m) ≡ passed_by r.enters.0
+    path : chain_path code (entered code m) (enter_chain t (block_begun code m) m) ≡ passed_by r.enters.0
     path = ap (λ z. passed_by (steps_of z)) r.enters.1
 
-    are : kept code.instrs (passed_by r.enters.0) ≡ instrs_of (enter_chain t (begun code m) m) r.enters.0
-    are = kept_are code.instrs (enter_chain t (begun code m) m) (entered code m) r.enters.0 r.enters.1
+    are : kept code.instrs (passed_by r.enters.0) ≡ instrs_of (enter_chain t (block_begun code m) m) r.enters.0
+    are = kept_are code.instrs (enter_chain t (block_begun code m) m) (entered code m) r.enters.0 r.enters.1
 
-    by_steps : (ss : List Step) → length ss ≡ length (enter_chain t (begun code m) m) → (c : Calendar) → calendar_after t code at k (instrs_of (enter_chain t (begun code m) m) ss) c ≡ forked t code at (children t m) (with_mode k (Some m) c)
+    by_steps : (ss : List Step) → length ss ≡ length (enter_chain t (block_begun code m) m) → (c : Calendar) → calendar_after t code at k (instrs_of (enter_chain t (block_begun code m) m) ss) c ≡ forked t code at (children t m) (with_mode k (Some m) c)
     by_steps [] e c = absurd (omega (arith, e))
-    by_steps (s ∷ ss) e c = forks_do t code at k (begun code m) (children t m) ss (with_mode k (Some m) c) (omega (arith, e))
+    by_steps (s ∷ ss) e c = forks_do t code at k (block_begun code m) (children t m) ss (with_mode k (Some m) c) (omega (arith, e))

@@ -14,8 +14,8 @@ use Rattle.htl_ecode.specs.Offsets.{next_offset, phase_offsets, holds}
 use Rattle.htl_ecode.specs.Chains.{Want, Does, Waits, Turns, Tests, Asks, Arrives, all_do, waits_for, calls, block_chain, begin_chain, enter_chain, decide_chain, children, is_child, asks_for, tests_of, led_to}
 use Rattle.htl_ecode.specs.Jumps.{bind}
 use Rattle.htl_ecode.specs.Steps.{Step, Reached, pass, leaving, read, reach, steps_of, target_of}
-use Rattle.htl_ecode.specs.Departure.{block_at, begun, entered, decided}
-use Rattle.htl_ecode.specs.Paths.{round_end, turn_of, turn_step}
+use Rattle.htl_ecode.specs.Departure.{block_at, block_begun, entered, decided}
+use Rattle.htl_ecode.specs.Paths.{round_end, step_from, turn_step}
 use Rattle.htl_ecode.proofs.Reading.{Jumps, reach_is, anchor_is, read_is, bind_ok}
 use Rattle.htl_ecode.proofs.Spelled.{ModeReads}
 use Rattle.htl_ecode.proofs.BlockLaws.{IsBlockPhase, spelled_stands, no_block, spelled_links, spelled_first}
@@ -257,11 +257,11 @@ module _ (t : Tables) (code : ECode) (k : ℕ) where
   begin_owes p d (Some u) (Some y) (a ∷ b ∷ x ∷ z ∷ []) l f g h = (f u a.target refl refl, (g y b.target refl refl, (h, inl refl)))
   begin_owes p d (Some u) (Some y) (a ∷ b ∷ x ∷ z ∷ v ∷ xs) l f g h = absurd (omega (arith, l))
 
-  pub begin_safe : (m : ℕ) → ModeReads t code m → m < length t.modes → mode_module t m ≡ k → IsSafe t code k (begun code m)
+  pub begin_safe : (m : ℕ) → ModeReads t code m → m < length t.modes → mode_module t m ≡ k → IsSafe t code k (block_begun code m)
   begin_safe m r known owner =
-      let e : read code.instrs (begun code m) (begin_chain t (decided code m) m) ≡ Ok r.begins.0 = r.begins.1 in
-      chain_safe (begin_chain t (decided code m) m) (begun code m) r.begins.0 e
-      (begin_owes (mode_period t m) (decided code m) (next_offset t m 1 0) (next_offset t m 3 0) r.begins.0 (length_read code.instrs (begin_chain t (decided code m) m) (begun code m) r.begins.0 e)
+      let e : read code.instrs (block_begun code m) (begin_chain t (decided code m) m) ≡ Ok r.begins.0 = r.begins.1 in
+      chain_safe (begin_chain t (decided code m) m) (block_begun code m) r.begins.0 e
+      (begin_owes (mode_period t m) (decided code m) (next_offset t m 1 0) (next_offset t m 3 0) r.begins.0 (length_read code.instrs (begin_chain t (decided code m) m) (block_begun code m) r.begins.0 e)
       (λ o x n to. record { mode = m; known = known; owner = owner; phase = inl refl; starts = inl (o, refl, spelled_first t code m 1 o (inl refl) r n ∙ ap (λ z. target_of 1 (begin_chain t (decided code m) m) (steps_of z)) e ∙ to) })
       (λ o x n to. record { mode = m; known = known; owner = owner; phase = inr (inr refl); starts = inl (o, refl, spelled_first t code m 3 o (inr refl) r n ∙ ap (λ z. target_of 3 (begin_chain t (decided code m) m) (steps_of z)) e ∙ to) })
       (record { mode = m; known = known; owner = owner; phase = inr (inl refl); starts = inr (inl (sym (ap (λ z. (turn_step (begin_chain t (decided code m) m) (steps_of z)).target) e))) }))
@@ -296,13 +296,13 @@ module _ (t : Tables) (code : ECode) (k : ℕ) where
   pub enter_safe : (m : ℕ) → AreInRange t → ModeReads t code m → m < length t.modes → mode_module t m ≡ k → IsSafe t code k (entered code m)
   enter_safe m r reads known owner =
       let forks : List Want = all_do (map (λ j. I.Fork j) (children t m)) in
-      let l : length reads.enters.0 ≡ length (enter_chain t (begun code m) m) = length_read code.instrs (enter_chain t (begun code m) m) (entered code m) reads.enters.0 reads.enters.1 in
+      let l : length reads.enters.0 ≡ length (enter_chain t (block_begun code m) m) = length_read code.instrs (enter_chain t (block_begun code m) m) (entered code m) reads.enters.0 reads.enters.1 in
       let few : length (drop (length (Does (I.Enter m) ∷ all_do (map (λ j. I.Fork j) (children t m)))) reads.enters.0) ≡ 1 =
-      omega (arith, l, length-append (all_do (map (λ j. I.Fork j) (children t m))) (Arrives (begun code m) ∷ []), length-drop (length (Does (I.Enter m) ∷ all_do (map (λ j. I.Fork j) (children t m)))) reads.enters.0) in
-      chain_safe (enter_chain t (begun code m) m) (entered code m) reads.enters.0 reads.enters.1
-      (owes_front (Does (I.Enter m) ∷ all_do (map (λ j. I.Fork j) (children t m))) (Arrives (begun code m)) [] reads.enters.0
+      omega (arith, l, length-append (all_do (map (λ j. I.Fork j) (children t m))) (Arrives (block_begun code m) ∷ []), length-drop (length (Does (I.Enter m) ∷ all_do (map (λ j. I.Fork j) (children t m)))) reads.enters.0) in
+      chain_safe (enter_chain t (block_begun code m) m) (entered code m) reads.enters.0 reads.enters.1
+      (owes_front (Does (I.Enter m) ∷ all_do (map (λ j. I.Fork j) (children t m))) (Arrives (block_begun code m)) [] reads.enters.0
       ((tt, λ a hs rs. refl), forks_always (is_child m) 0 t.modules (λ i x e. forked i x e)) l
-      (anchor_owes (begun code m) (drop (length (Does (I.Enter m) ∷ all_do (map (λ j. I.Fork j) (children t m)))) reads.enters.0) few (begin_safe m reads known owner)))
+      (anchor_owes (block_begun code m) (drop (length (Does (I.Enter m) ∷ all_do (map (λ j. I.Fork j) (children t m)))) reads.enters.0) few (begin_safe m reads known owner)))
     where
       forked : (i : ℕ) (x : Module) → slice_get t.modules i ≡ Some x → IsFit t code k (I.Fork (0 + i))
       forked i x e = let same : i ≡ 0 + i = omega arith in subst (λ z. IsFit t code k (I.Fork z)) same (fork_fits i x r e)
@@ -326,38 +326,38 @@ module _ (t : Tables) (code : ECode) (k : ℕ) where
   tail_owes (Tests j x anchor ∷ v ∷ ws) [] h l = absurd (omega (arith, l))
   tail_owes (Tests j x anchor ∷ v ∷ ws) (s ∷ ss) h l = ((h.0, h.1), tail_owes (v ∷ ws) ss h.2 (omega (arith, l)))
 
-  tests_safe : (m n : ℕ) (ws : List Switch) → n + length ws ≡ length t.switches → IsSafe t code k (begun code m) → ((i : ℕ) (w : Switch) → slice_get ws i ≡ Some w → eqb w.mode m ≡ true → IsSafe t code k (led_to (begun code m) code.enter m w.target)) →
-      TestsSafe (tests_from code m n ws ++ Arrives (begun code m) ∷ [])
+  tests_safe : (m n : ℕ) (ws : List Switch) → n + length ws ≡ length t.switches → IsSafe t code k (block_begun code m) → ((i : ℕ) (w : Switch) → slice_get ws i ≡ Some w → eqb w.mode m ≡ true → IsSafe t code k (led_to (block_begun code m) code.enter m w.target)) →
+      TestsSafe (tests_from code m n ws ++ Arrives (block_begun code m) ∷ [])
   tests_safe m n [] len s h = s
   tests_safe m n (w ∷ ws) len s h = by_test (eqb w.mode m) refl (tests_safe m (suc n) ws (omega (arith, len)) s (λ i x e. h (suc i) x e))
     where
-      by_test : (b : Bool) → eqb w.mode m ≡ b → TestsSafe (tests_from code m (suc n) ws ++ Arrives (begun code m) ∷ []) →
-          TestsSafe ((cond b (Tests n w.target (led_to (begun code m) code.enter m w.target) ∷ []) [] ++ tests_from code m (suc n) ws) ++ Arrives (begun code m) ∷ [])
+      by_test : (b : Bool) → eqb w.mode m ≡ b → TestsSafe (tests_from code m (suc n) ws ++ Arrives (block_begun code m) ∷ []) →
+          TestsSafe ((cond b (Tests n w.target (led_to (block_begun code m) code.enter m w.target) ∷ []) [] ++ tests_from code m (suc n) ws) ++ Arrives (block_begun code m) ∷ [])
       by_test true is rest = (omega (arith, len), h 0 w refl is, rest)
       by_test false is rest = rest
 
   pub turn_safe : (m : ℕ) → AreInRange t → ((x : ℕ) → x < length t.modes → ModeReads t code x) → m < length t.modes → mode_module t m ≡ k → IsSafe t code k (round_end t code m)
   turn_safe m r reads known owner =
-      jumps_safe (round_end t code m) (decided code m) (turn_of t code m).side (turn_jumps t code m (reads m known))
-      (chain_safe (decide_chain t (begun code m) code.enter m) (decided code m) (reads m known).decides.0 (reads m known).decides.1
-      (by_parent (parent_of t (mode_module t m)) (reads m known).decides.0 (length_read code.instrs (decide_chain t (begun code m) code.enter m) (decided code m) (reads m known).decides.0 (reads m known).decides.1)))
+      jumps_safe (round_end t code m) (decided code m) (step_from t code m).side (turn_jumps t code m (reads m known))
+      (chain_safe (decide_chain t (block_begun code m) code.enter m) (decided code m) (reads m known).decides.0 (reads m known).decides.1
+      (by_parent (parent_of t (mode_module t m)) (reads m known).decides.0 (length_read code.instrs (decide_chain t (block_begun code m) code.enter m) (decided code m) (reads m known).decides.0 (reads m known).decides.1)))
     where
-      led : (b : Bool) (x : ℕ) → (x < length t.modes) × (mode_module t x ≡ k) → IsSafe t code k (cond b (begun code m) (entered code x))
+      led : (b : Bool) (x : ℕ) → (x < length t.modes) × (mode_module t x ≡ k) → IsSafe t code k (cond b (block_begun code m) (entered code x))
       led true x h = begin_safe m (reads m known) known owner
       led false x h = enter_safe x r (reads x h.0) h.0 h.1
 
-      of_switch : (i : ℕ) (w : Switch) → slice_get t.switches i ≡ Some w → eqb w.mode m ≡ true → IsSafe t code k (led_to (begun code m) code.enter m w.target)
+      of_switch : (i : ℕ) (w : Switch) → slice_get t.switches i ≡ Some w → eqb w.mode m ≡ true → IsSafe t code k (led_to (block_begun code m) code.enter m w.target)
       of_switch i w e same =
           let mode : w.mode ≡ m = eqb-true w.mode m same in
           led (eqb w.target m) w.target (mode_known t k w.target (subst (λ z. IsModeThat t (λ owner. owner ≡ z) w.target) (ap (mode_module t) mode ∙ owner) (all_at (IsSwitchInRange t) t.switches r.switches i w e).target))
 
-      tests : TestsSafe (tests_of t (begun code m) code.enter m ++ Arrives (begun code m) ∷ [])
+      tests : TestsSafe (tests_of t (block_begun code m) code.enter m ++ Arrives (block_begun code m) ∷ [])
       tests = tests_safe m 0 t.switches (omega arith) (begin_safe m (reads m known) known owner) of_switch
 
-      by_parent : (o : Option ℕ) (ss : List Step) → length ss ≡ length (asks_for o ++ (tests_of t (begun code m) code.enter m ++ Arrives (begun code m) ∷ [])) → Owes (asks_for o ++ (tests_of t (begun code m) code.enter m ++ Arrives (begun code m) ∷ [])) ss
-      by_parent None ss l = tail_owes (tests_of t (begun code m) code.enter m ++ Arrives (begun code m) ∷ []) ss tests l
+      by_parent : (o : Option ℕ) (ss : List Step) → length ss ≡ length (asks_for o ++ (tests_of t (block_begun code m) code.enter m ++ Arrives (block_begun code m) ∷ [])) → Owes (asks_for o ++ (tests_of t (block_begun code m) code.enter m ++ Arrives (block_begun code m) ∷ [])) ss
+      by_parent None ss l = tail_owes (tests_of t (block_begun code m) code.enter m ++ Arrives (block_begun code m) ∷ []) ss tests l
       by_parent (Some q) [] l = absurd (omega (arith, l))
-      by_parent (Some q) (s ∷ ss) l = asked q s (tests_of t (begun code m) code.enter m ++ Arrives (begun code m) ∷ []) ss tests (omega (arith, l))
+      by_parent (Some q) (s ∷ ss) l = asked q s (tests_of t (block_begun code m) code.enter m ++ Arrives (block_begun code m) ∷ []) ss tests (omega (arith, l))
         where
           asked : (q : ℕ) (s : Step) (ws : List Want) (ss : List Step) → TestsSafe ws → length ss ≡ length ws → Owes (Asks q ∷ ws) (s ∷ ss)
           asked q s [] ss h l = absurd h

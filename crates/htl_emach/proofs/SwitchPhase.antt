@@ -17,8 +17,8 @@ use Rattle.htl_ecode.proofs.Kept.{kept}
 use Rattle.htl_emach.specs.declared.trigger.Trigger.{Trigger}
 use Rattle.htl_emach.specs.Calendars.{Calendar, with_trigger, target_at, entry_of}
 use Rattle.htl_emach.specs.Leading.{goes_at}
-use Rattle.htl_emach.specs.Pending.{awaited, ended, is_called, entering, turning, Between, IsSized, Entry, entry_at, written, switched, old_stay, new_stay}
-use Rattle.htl_emach.specs.Following.{Runs, phase_blocks}
+use Rattle.htl_emach.specs.Pending.{awaited, ended, is_called, entering, turning, Between, IsSized, Entry, entry_at, pending_entry, switched, old_stay, new_stay}
+use Rattle.htl_emach.specs.Following.{BlockRuns, phase_blocks}
 use Rattle.htl_emach.proofs.ModuleLaws.{due_target, ModuleLaws}
 use Rattle.htl_emach.proofs.Effects.{replay_kept, allowed_kept, trigger_set_here, trigger_set_other, trigger_set_sized, sized_module}
 use Rattle.htl_emach.proofs.CopyPhases.{not_due, due_here, step_between}
@@ -31,7 +31,7 @@ use Rattle.htl_emach.proofs.Switching.{Sound, bool_cases, positive, fresh_entry,
 -- ---- a path of the phase that runs
 
 passes_runs : (t : Tables) (code : ECode) (es : List Event) (now k a : ℕ) (xs : List ℕ) (f : Calendar → Calendar) (c : Calendar) → k < length t.modules → Passes t code now k (goes_at t es now) a xs f →
-    Between t code es now 2 (f (with_trigger 2 k None c)) (suc k) → Runs t code es now 2 (with_trigger 2 k None c) k a xs
+    Between t code es now 2 (f (with_trigger 2 k None c)) (suc k) → BlockRuns t code es now 2 (with_trigger 2 k None c) k a xs
 passes_runs t code es now k a xs f c inside p h =
     record {
       within = inside;
@@ -42,7 +42,7 @@ passes_runs t code es now k a xs f c inside p h =
 
 -- the entry of module k, with its trigger taken
 taken_entry : (t : Tables) (code : ECode) (es : List Event) (now k : ℕ) (c : Calendar) → k < length t.modules → Between t code es now 2 c k →
-    entry_at (with_trigger 2 k None c) k ≡ record (written t code now k k (old_stay t es now k) (new_stay t es now k)) { switch = None }
+    entry_at (with_trigger 2 k None c) k ≡ record (pending_entry t code now k k (old_stay t es now k) (new_stay t es now k)) { switch = None }
 taken_entry t code es now k c inside b =
     trigger_set_here 2 k None c (sized_module t c k b.sized inside) ∙ ap (λ (e : Entry). record e { switch = None }) (b.above k (omega arith) inside)
 
@@ -141,8 +141,8 @@ enters t code es now k m c mode h inside known owner off new b base =
     with_switch : ℕ → Option Trigger → Entry
     with_switch j z = record { mode = mode_of (old_stay t es now j); write = awaited t code 1 (suc now) (old_stay t es now j); switch = z; read = awaited t code 3 now (old_stay t es now j) }
 
-    higher : (j : ℕ) → suc k ≤ j → j < length t.modules → entry_at c j ≡ written t code now k j (old_stay t es now j) (new_stay t es now j) →
-        entry_at (begun_calendar t code now k m (before_round t code now k m c)) j ≡ written t code now (suc k) j (old_stay t es now j) (new_stay t es now j)
+    higher : (j : ℕ) → suc k ≤ j → j < length t.modules → entry_at c j ≡ pending_entry t code now k j (old_stay t es now j) (new_stay t es now j) →
+        entry_at (begun_calendar t code now k m (before_round t code now k m c)) j ≡ pending_entry t code now (suc k) j (old_stay t es now j) (new_stay t es now j)
     higher j more within e =
         let x = module_at t j within in
         begun_other t code now k m j (before_round t code now k m c) (λ e. omega (arith, e, more))
@@ -151,7 +151,7 @@ enters t code es now k m c mode h inside known owner off new b base =
         ∙ by_child x.0 x.1 (is_child m x.0) refl
       where
         by_child : (x : Module) → slice_get t.modules j ≡ Some x → (a : Bool) → is_child m x ≡ a →
-            cond a (with_switch j (called t code now j)) (written t code now k j (old_stay t es now j) (new_stay t es now j)) ≡ written t code now (suc k) j (old_stay t es now j) (new_stay t es now j)
+            cond a (with_switch j (called t code now j)) (pending_entry t code now k j (old_stay t es now j) (new_stay t es now j)) ≡ pending_entry t code now (suc k) j (old_stay t es now j) (new_stay t es now j)
         by_child x at true is = ap (with_switch j) (child_called t code es now k m j x h.ranges at (child_is m x.parent is) owner off new)
         by_child x at false is = before_same t code es now k j (calls_none_entered t es now k m j x h.ranges at is new)
 
@@ -173,9 +173,9 @@ module _ (t : Tables) (code : ECode) (es : List Event) (now k : ℕ) (h : Sound 
   blocks_by o n old new =
       ap (λ (a : Option Stay). on k (switch_path t code (values_now t es now) now a (new_stay t es now k))) old ∙ ap (λ (b : Option Stay). on k (switch_path t code (values_now t es now) now o b)) new
 
-  written_by : (o n : Option Stay) → old_stay t es now k ≡ o → new_stay t es now k ≡ n → written t code now k k (old_stay t es now k) (new_stay t es now k) ≡ written t code now k k o n
+  written_by : (o n : Option Stay) → old_stay t es now k ≡ o → new_stay t es now k ≡ n → pending_entry t code now k k (old_stay t es now k) (new_stay t es now k) ≡ pending_entry t code now k k o n
   written_by o n old new =
-      ap (λ (a : Option Stay). written t code now k k a (new_stay t es now k)) old ∙ ap (λ (b : Option Stay). written t code now k k o b) new
+      ap (λ (a : Option Stay). pending_entry t code now k k a (new_stay t es now k)) old ∙ ap (λ (b : Option Stay). pending_entry t code now k k o b) new
 
   -- the trigger isn't due again
   not_again : target_at now (ended t code (new_stay t es now k)) ≡ None

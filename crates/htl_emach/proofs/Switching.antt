@@ -14,7 +14,7 @@ use Rattle.htl_ecode.specs.Departure.{block_at}
 use Rattle.htl_ecode.proofs.Least.{IsLeast, least_is}
 use Rattle.htl_ecode.proofs.Spelled.{ModeReads}
 use Rattle.htl_emach.specs.declared.trigger.Trigger.{Trigger}
-use Rattle.htl_emach.specs.Pending.{trigger_at, next_block, awaited, ending, is_called, entering, turning, Entry, entry_before, written, switched, old_stay, new_stay}
+use Rattle.htl_emach.specs.Pending.{trigger_at, next_block, awaited, ending, is_called, entering, turning, Entry, entry_before, pending_entry, switched, old_stay, new_stay}
 use Rattle.htl_emach.proofs.CopyPhases.{off_offset}
 use Rattle.htl_emach.proofs.States.{SamePeriods, runs_some, ran_none, runs_stay, stay_runs, module_at, parent_at, parent_of_runs, option_cases, true_false, some_stay, none_stay, all_at}
 
@@ -80,7 +80,7 @@ fresh_entry t code now m h inside =
 
 -- the entry of a module whose round ends at the instant, with its trigger taken
 pub over_entry : (t : Tables) (code : ECode) (now k j : ℕ) (z : Stay) (new : Option Stay) → Sound t code → z.mode < length t.modes → now ≡ z.start + mode_period t z.mode →
-    record (written t code now k j (Some z) new) { switch = None } ≡ record { mode = Some z.mode; write = None; switch = None; read = None }
+    record (pending_entry t code now k j (Some z) new) { switch = None } ≡ record { mode = Some z.mode; write = None; switch = None; read = None }
 over_entry t code now k j z new h inside end =
     let one : suc now - z.start ≡ suc (mode_period t z.mode) = omega (arith, end) in
     let two : now - z.start ≡ mode_period t z.mode = omega (arith, end) in

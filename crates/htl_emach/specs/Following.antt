@@ -40,7 +40,7 @@ abbrev pub blocks_to_come : Tables → ECode → List Event → ℕ → ℕ → 
 blocks_to_come t code es now phase k = from_module (phase_blocks t code es now phase) (length t.modules - k) k
 
 -- a block of module k runs: the rest of its addresses are passed from a, and lead to the calendar between this block and the next
-pub record Runs (t : Tables) (code : ECode) (es : List Event) (now phase : ℕ) (c : Calendar) (k a : ℕ) (xs : List ℕ) : Type 0 where
+pub record BlockRuns (t : Tables) (code : ECode) (es : List Event) (now phase : ℕ) (c : Calendar) (k a : ℕ) (xs : List ℕ) : Type 0 where
   pub within : k < length t.modules
   pub ends : Ends code.instrs (goes_at t es now) a xs
   pub allowed : AreAllowed t code.instrs phase k xs
@@ -49,7 +49,7 @@ pub record Runs (t : Tables) (code : ECode) (es : List Event) (now phase : ℕ) 
 pub record IsInBlock (t : Tables) (code : ECode) (es : List Event) (now phase : ℕ) (c : Calendar) (b : Block) (rest : List Done) : Type 0 where
   pub at : b.at ≡ now
   pub path : List ℕ
-  pub runs : Runs t code es now phase c b.«module» b.address path
+  pub runs : BlockRuns t code es now phase c b.«module» b.address path
   pub left : rest ≡ on b.«module» path ++ blocks_to_come t code es now phase (suc b.«module»)
 
 pub record IsBetweenBlocks (t : Tables) (code : ECode) (es : List Event) (now phase : ℕ) (c : Calendar) (rest : List Done) : Type 0 where
@@ -58,14 +58,14 @@ pub record IsBetweenBlocks (t : Tables) (code : ECode) (es : List Event) (now ph
   pub calendar : Between t code es now phase c «module»
   pub left : rest ≡ blocks_to_come t code es now phase «module»
 
-abbrev pub Stands : Tables → ECode → List Event → ℕ → ℕ → Calendar → Option Block → List Done → Type 0
-Stands t code es now phase c None rest = IsBetweenBlocks t code es now phase c rest
-Stands t code es now phase c (Some b) rest = IsInBlock t code es now phase c b rest
+abbrev pub PhaseStands : Tables → ECode → List Event → ℕ → ℕ → Calendar → Option Block → List Done → Type 0
+PhaseStands t code es now phase c None rest = IsBetweenBlocks t code es now phase c rest
+PhaseStands t code es now phase c (Some b) rest = IsInBlock t code es now phase c b rest
 
 -- the machine stands in a phase of an instant: these addresses are done, those are to come
 pub record Midway (t : Tables) (code : ECode) (es : List Event) (now phase : ℕ) (m : Standing) (done rest : List Done) : Type 0 where
   pub path : phase_path t code es now phase ≡ done ++ rest
-  pub stands : Stands t code es now phase m.calendar m.running rest
+  pub stands : PhaseStands t code es now phase m.calendar m.running rest
 
 abbrev pub done_of : EDone → Done
 done_of d = record { «module» = d.«module»; address = d.address }
@@ -77,6 +77,6 @@ Onward t code es now phase m done rest (Some d) =
     (more : List Done) × (rest ≡ done_of d ∷ more) × (slice_get code.instrs d.address ≡ Some d.instr) × IsAllowed t phase d.«module» d.instr × Midway t code es now phase m (done ++ done_of d ∷ []) more
 
 -- a machine stands before an instant: no block runs, and each module's mode and triggers are those that the rounds before the instant ask for
-pub record Follows (t : Tables) (code : ECode) (es : List Event) (now : ℕ) (m : Standing) : Type 0 where
+pub record FollowsCode (t : Tables) (code : ECode) (es : List Event) (now : ℕ) (m : Standing) : Type 0 where
   pub idle : m.running ≡ None
   pub calendar : Between t code es now 1 m.calendar 0

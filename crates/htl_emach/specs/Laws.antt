@@ -9,17 +9,17 @@ use Rattle.htl_ecode.specs.Paths.{Done, e_path}
 use Rattle.htl_ecode.specs.Spelling.{Spells}
 use Rattle.htl_emach.specs.Calendars.{Standing}
 use Rattle.htl_emach.specs.Due.{IsUpToNext}
-use Rattle.htl_emach.specs.Following.{Midway, Onward, Follows, phase_path}
+use Rattle.htl_emach.specs.Following.{Midway, Onward, FollowsCode, phase_path}
 
 -- a machine goes from phase to phase of an instant, and to the next instant
 pub record PassesInstant (t : Tables) (code : ECode) (es : List Event) (now : ℕ) : Type 0 where
   -- before the instant it stands at the start of the write phase
-  pub opens : (m : Standing) → Follows t code es now m → Midway t code es now 1 m [] (phase_path t code es now 1)
+  pub opens : (m : Standing) → FollowsCode t code es now m → Midway t code es now 1 m [] (phase_path t code es now 1)
   -- where nothing of a phase is due any more it stands at the start of the next
   pub switches : (m : Standing) (done rest : List Done) → Onward t code es now 1 m done rest None → Midway t code es now 2 m [] (phase_path t code es now 2)
   pub reads : (m : Standing) (done rest : List Done) → Onward t code es now 2 m done rest None → Midway t code es now 3 m [] (phase_path t code es now 3)
   -- and after the last phase before the next instant
-  pub closes : (m : Standing) (done rest : List Done) → Onward t code es now 3 m done rest None → Follows t code es (suc now) m
+  pub closes : (m : Standing) (done rest : List Done) → Onward t code es now 3 m done rest None → FollowsCode t code es (suc now) m
   -- what is done at the instant is what the three phases do
   pub path : e_path t code es now ≡ phase_path t code es now 1 ++ (phase_path t code es now 2 ++ phase_path t code es now 3)
 

@@ -63,8 +63,8 @@ opening t code now j old new =
     record { mode = mode_of old; write = awaited t code 1 now old; switch = turning t code now 0 j old new; read = awaited t code 3 now old }
 
 -- where the switch blocks of the modules below k are done
-abbrev pub written : Tables → ECode → ℕ → ℕ → ℕ → Option Stay → Option Stay → Entry
-written t code now k j old new =
+abbrev pub pending_entry : Tables → ECode → ℕ → ℕ → ℕ → Option Stay → Option Stay → Entry
+pending_entry t code now k j old new =
     record { mode = mode_of old; write = awaited t code 1 (suc now) old; switch = turning t code now k j old new; read = awaited t code 3 now old }
 
 abbrev pub switched : Tables → ECode → ℕ → Option Stay → Entry
@@ -78,11 +78,11 @@ closed t code now new =
 -- the entry of module j in a phase, where the blocks of the modules below k are done
 abbrev pub entry_before : Tables → ECode → ℕ → ℕ → ℕ → ℕ → Option Stay → Option Stay → Entry
 entry_before t code now phase k j old new =
-    cond (eqb phase 1) (opening t code now j old new) (cond (eqb phase 2) (written t code now k j old new) (switched t code now new))
+    cond (eqb phase 1) (opening t code now j old new) (cond (eqb phase 2) (pending_entry t code now k j old new) (switched t code now new))
 
 abbrev pub entry_after : Tables → ECode → ℕ → ℕ → ℕ → Option Stay → Option Stay → Entry
 entry_after t code now phase j old new =
-    cond (eqb phase 1) (written t code now 0 j old new) (cond (eqb phase 2) (switched t code now new) (closed t code now new))
+    cond (eqb phase 1) (pending_entry t code now 0 j old new) (cond (eqb phase 2) (switched t code now new) (closed t code now new))
 
 pub record IsSized (t : Tables) (c : Calendar) : Type 0 where
   pub modes : length c.modes ≡ length t.modules

@@ -6,7 +6,7 @@ use Rattle.htl_ecode.specs.declared.instr.EInstr.{EInstr}
 use Rattle.htl_ecode.specs.declared.fault.EFault.{EFault}
 use Rattle.htl_ecode.specs.Chains.{enter_chain, begin_chain, decide_chain}
 use Rattle.htl_ecode.specs.Steps.{read, steps_of, target_of}
-use Rattle.htl_ecode.specs.Departure.{fault_of, either, entered, begun, decided, first_target, enter_fault, begin_fault, phase_fault, decide_fault, mode_fault, departure_before, departure}
+use Rattle.htl_ecode.specs.Departure.{fault_of, either, entered, block_begun, decided, first_target, enter_fault, begin_fault, phase_fault, decide_fault, mode_fault, departure_before, departure}
 use Rattle.htl_ecode.specs.Spelling.{Spells}
 use Rattle.htl_ecode.proofs.SpellingLaws.{spelled_departs_not, departs_not_spells}
 use Rattle.htl_espell.specs.Checks.{phase_departure, enter_read, begin_read, decide_read}
@@ -19,7 +19,7 @@ either_second : (a b c : Option EFault) → None ≡ a → c ≡ b → c ≡ eit
 either_second a b c h g = g ∙ ap (λ z. either z b) h
 
 module _ (t : Tables) (code : ECode) (m enter begin decide : ℕ) (js : List EInstr) (es : List ℕ) (js_is : js ≡ code.instrs) (es_is : es ≡ code.enter) (enter_is : enter ≡ entered code m)
-    (begin_is : begin ≡ begun code m) (decide_is : decide ≡ decided code m) where
+    (begin_is : begin ≡ block_begun code m) (decide_is : decide ≡ decided code m) where
   entering : (f : Option EFault) → f ≡ fault_of (enter_read js t begin m enter) → f ≡ enter_fault t code m
   entering f h =
       h
@@ -34,12 +34,12 @@ module _ (t : Tables) (code : ECode) (m enter begin decide : ℕ) (js : List EIn
       ∙ ap (λ z. fault_of (begin_read z t decide m begin)) js_is
       ∙ begin_fault_is code.instrs t decide m begin
       ∙ ap (λ a. fault_of (read code.instrs a (begin_chain t decide m))) begin_is
-      ∙ ap (λ d. fault_of (read code.instrs (begun code m) (begin_chain t d m))) decide_is
+      ∙ ap (λ d. fault_of (read code.instrs (block_begun code m) (begin_chain t d m))) decide_is
 
   target_at : (p : ℕ) → target_of p (begin_chain t decide m) (steps_of (read code.instrs begin (begin_chain t decide m))) ≡ first_target t code m p
   target_at p =
       ap (λ a. target_of p (begin_chain t decide m) (steps_of (read code.instrs a (begin_chain t decide m)))) begin_is
-      ∙ ap (λ d. target_of p (begin_chain t d m) (steps_of (read code.instrs (begun code m) (begin_chain t d m)))) decide_is
+      ∙ ap (λ d. target_of p (begin_chain t d m) (steps_of (read code.instrs (block_begun code m) (begin_chain t d m)))) decide_is
 
   deciding : (f : Option EFault) → f ≡ fault_of (decide_read js t begin es m decide) → f ≡ decide_fault t code m
   deciding f h =

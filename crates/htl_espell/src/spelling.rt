@@ -2,7 +2,7 @@
 ghost use Rattle.std.specs.Prelude.{◌≡◌, ◌↔◌, ◌≤◌, ◌<◌, length, IsOk};
 ghost use Rattle.htl_ecode.specs.Conditions.{KeepsOffsets};
 ghost use Rattle.htl_ecode.specs.Offsets.{OffsetsFit};
-ghost use Rattle.htl_ecode.specs.Departure.{fault_of, entered, begun, decided, mode_fault, departure};
+ghost use Rattle.htl_ecode.specs.Departure.{fault_of, entered, block_begun, decided, mode_fault, departure};
 ghost use Rattle.htl_ecode.specs.ModeInvs.{AreInvsOf};
 ghost use Rattle.htl_ecode.specs.Spelling.{Spells};
 
@@ -36,7 +36,7 @@ fn check_mode(
     requires code { length code.now.instrs ≤ 4294967295 }
     requires offsets { OffsetsFit t.now }
     requires enter { at.enter ≡ entered code.now run.mode }
-    requires begin { at.begin ≡ begun code.now run.mode }
+    requires begin { at.begin ≡ block_begun code.now run.mode }
     requires decide { at.decide ≡ decided code.now run.mode }
     ensures fault { fault_of result ≡ mode_fault t.now code.now run.mode }
     ensures same { instrs.new ≡ instrs.old }

@@ -12,13 +12,13 @@ use Rattle.htl_model.specs.declared.parts.End.TheVariants as E
 use Rattle.htl_model.specs.Tables.{Tables}
 use Rattle.htl_model.proofs.Sources.{plain, sensor, mode, module_named, task, call, switch, int_one}
 use Rattle.htl_model.specs.Search.{told}
-use Rattle.htl_form.specs.Search.{of_rule}
+use Rattle.htl_form.specs.Search.{form_fault_of}
 use Rattle.htl_form.specs.declared.rule.Rule.TheVariants as R
 
 -- what nine of the rules tell, each by itself: 1 to 7, 10, 11
 abbrev judged : Tables → List (Option FormFault)
 judged t =
-    map (of_rule t 0) (R.ModulePeriod ∷ R.FrameLimits ∷ R.Divides ∷ R.Offsets ∷ R.Ends ∷ R.Windows ∷ R.WorstCases ∷ R.AbstractPorts ∷ R.Sensors ∷ [])
+    map (form_fault_of t 0) (R.ModulePeriod ∷ R.FrameLimits ∷ R.Divides ∷ R.Offsets ∷ R.Ends ∷ R.Windows ∷ R.WorstCases ∷ R.AbstractPorts ∷ R.Sensors ∷ [])
 
 -- a fault of rule n at an invocation of mode 0 of module 0; at a mode
 abbrev at_inv : ℕ → ℕ → ℕ → ℕ → Option FormFault
@@ -82,7 +82,7 @@ refined_period_agrees = refl
 
 -- what rule 2 alone tells
 abbrev framed : Tables → Option FormFault
-framed t = of_rule t 0 R.FrameLimits
+framed t = form_fault_of t 0 R.FrameLimits
 
 abbrev pub two_roots : ℕ → Tables
 two_roots p = modes_alone (module_named (codes "M") None 0 ∷ module_named (codes "N") None 1 ∷ []) (mode (codes "a") 0 10 ∷ mode (codes "b") 1 p ∷ mode (codes "c") 1 p ∷ [])
@@ -162,10 +162,10 @@ tested_period : judged (tested 0 []) ≡ None ∷ None ∷ at_mode 3 0 0 4 10 �
 tested_period = refl
 
 -- an invocation comes before the switches of its mode, and after those of an earlier mode
-invocation_before_switch : of_rule (tested 0 (call 0 0 None (E.Comm 1 0 ∷ []) (E.Comm 0 2 ∷ []) ∷ [])) 0 R.Divides ≡ at_inv 3 0 4 10
+invocation_before_switch : form_fault_of (tested 0 (call 0 0 None (E.Comm 1 0 ∷ []) (E.Comm 0 2 ∷ []) ∷ [])) 0 R.Divides ≡ at_inv 3 0 4 10
 invocation_before_switch = refl
 
-switch_before_later_mode : of_rule (tested 0 (call 1 0 None (E.Comm 1 0 ∷ []) (E.Comm 0 2 ∷ []) ∷ [])) 0 R.Divides ≡ at_mode 3 0 0 4 10
+switch_before_later_mode : form_fault_of (tested 0 (call 1 0 None (E.Comm 1 0 ∷ []) (E.Comm 0 2 ∷ []) ∷ [])) 0 R.Divides ≡ at_mode 3 0 0 4 10
 switch_before_later_mode = refl
 
 -- ---- rule 4: offsets within the period
@@ -177,7 +177,7 @@ read_at_the_end = refl
 write_behind_the_end : judged (one_call (five_and 5) 1 int_one int_one (E.Comm 0 1 ∷ []) (E.Comm 0 3 ∷ [])) ≡ None ∷ None ∷ None ∷ at_inv 4 0 15 10 ∷ None ∷ None ∷ None ∷ None ∷ None ∷ []
 write_behind_the_end = refl
 
-write_at_the_start : of_rule (one_call (five_and 5) 1 int_one int_one (E.Comm 0 0 ∷ []) (E.Comm 0 0 ∷ [])) 0 R.Offsets ≡ at_inv 4 0 0 10
+write_at_the_start : form_fault_of (one_call (five_and 5) 1 int_one int_one (E.Comm 0 0 ∷ []) (E.Comm 0 0 ∷ [])) 0 R.Offsets ≡ at_inv 4 0 0 10
 write_at_the_start = refl
 
 read_before_the_end : judged (one_call (five_and 5) 1 int_one int_one (E.Comm 0 1 ∷ []) (E.Comm 0 2 ∷ [])) ≡ nothing
@@ -195,13 +195,13 @@ bool_input : judged (one_call (five_and 5) 1 (BoolTy ∷ []) int_one (E.Comm 0 0
 bool_input = refl
 
 -- the count of inputs before that of outputs; counts before types; the type of an input before that of an output
-inputs_counted_first : of_rule (one_call (five_and 5) 1 int_one int_one [] []) 0 R.Ends ≡ at_inv 5 0 0 1
+inputs_counted_first : form_fault_of (one_call (five_and 5) 1 int_one int_one [] []) 0 R.Ends ≡ at_inv 5 0 0 1
 inputs_counted_first = refl
 
-counts_before_types : of_rule (one_call (five_and 5) 1 (BoolTy ∷ []) int_one (E.Comm 0 0 ∷ []) (E.Comm 0 1 ∷ E.Comm 0 2 ∷ [])) 0 R.Ends ≡ at_inv 5 0 2 1
+counts_before_types : form_fault_of (one_call (five_and 5) 1 (BoolTy ∷ []) int_one (E.Comm 0 0 ∷ []) (E.Comm 0 1 ∷ E.Comm 0 2 ∷ [])) 0 R.Ends ≡ at_inv 5 0 2 1
 counts_before_types = refl
 
-input_type_first : of_rule (one_call (sensor (codes "g") BoolTy 5 ∷ five_and 5) 1 int_one (BoolTy ∷ []) (E.Comm 0 0 ∷ []) (E.Comm 1 2 ∷ [])) 0 R.Ends ≡ at_inv 5 0 1 0
+input_type_first : form_fault_of (one_call (sensor (codes "g") BoolTy 5 ∷ five_and 5) 1 int_one (BoolTy ∷ []) (E.Comm 0 0 ∷ []) (E.Comm 1 2 ∷ [])) 0 R.Ends ≡ at_inv 5 0 1 0
 input_type_first = refl
 
 -- ---- rule 6: a window isn't empty

@@ -7,9 +7,9 @@ use Rattle.htl_form.specs.Rules.{rule_number}
 use Rattle.htl_form.specs.Tests.{tests}
 use Rattle.htl_form.specs.declared.rule.Rule.{Rule}
 
-abbrev pub of_rule : Tables → ℕ → Rule → Option FormFault
-of_rule = search.of_rule tests rule_number
+abbrev pub form_fault_of : Tables → ℕ → Rule → Option FormFault
+form_fault_of = search.of_rule tests rule_number
 
 -- the first fault of the rules, in their order
-abbrev pub first_fault : Tables → List Rule → Option FormFault
-first_fault = search.first_fault tests rule_number
+abbrev pub first_form_fault : Tables → List Rule → Option FormFault
+first_form_fault = search.first_fault tests rule_number

@@ -21,7 +21,7 @@ use Rattle.htl_machine.specs.RunLists.{turn_at}
 use Rattle.htl_machine.specs.Follows.{Held, reading_of, DeskFollows, IsLoaded, at_reading, shown_as, desk_taking, taken_as}
 use Rattle.htl_console.specs.declared.shown.Shown.{Shown}
 use Rattle.htl_machine.specs.Texts.{instant_text, records_of}
-use Rattle.htl_machine.specs.Machines.{Counts, Stands, Followed}
+use Rattle.htl_machine.specs.Machines.{Counts, RunStands, Followed}
 use Rattle.htl_machine.proofs.Events.{Alike, sense_at, sense_sense, took_at, took_sense}
 use Rattle.htl_machine.proofs.Following.{read_follows, sense_follows}
 use Rattle.htl_machine.proofs.Taking.{took_follows, instant_follows, alike}
@@ -31,9 +31,9 @@ use Rattle.htl_machine.proofs.Counting.{totals_next, totals_same, records_alike}
 
 module _ (t : Tables) (code : ECode) (schedules : List (List SInstr)) (loaded : IsLoaded t schedules) (show : Shown) where
   -- one instant: the world goes on, the S machine stands before the next, the text of the instant is written
-  pub instant_stands : (es : List Event) (now : ℕ) (m : Held) (n : Counts) (written new : List ℕ) (r : Round) → Stands t code schedules show es now m n written
+  pub instant_stands : (es : List Event) (now : ℕ) (m : Held) (n : Counts) (written new : List ℕ) (r : Round) → RunStands t code schedules show es now m n written
       → IsShaped t (next_world t es (turn_at t schedules es) now m.world) → DeskFollows (turn_at t schedules es) (hyper t) (suc now) r → new ≡ written ++ instant_text t code schedules es show now
-      → Stands t code schedules show es (suc now) (record m { world = next_world t es (turn_at t schedules es) now m.world; desk = r })
+      → RunStands t code schedules show es (suc now) (record m { world = next_world t es (turn_at t schedules es) now m.world; desk = r })
       (record {
         jobs = min (n.jobs + count_by (λ (l : Left). l.finished) (records_of t schedules es (hyper t) now)) (2 ^ 64 - 1);
         e = min (n.e + length (e_path t code es now)) (2 ^ 64 - 1);
@@ -47,7 +47,7 @@ module _ (t : Tables) (code : ECode) (schedules : List (List SInstr)) (loaded : 
       }
 
   -- a reading, once all instants before it are done
-  pub read_stands : (es : List Event) (to : ℕ) (m : Held) (n : Counts) (written : List ℕ) → m.spent ≡ false → Stands t code schedules show es to m n written
+  pub read_stands : (es : List Event) (to : ℕ) (m : Held) (n : Counts) (written : List ℕ) → m.spent ≡ false → RunStands t code schedules show es to m n written
       → Followed t code schedules show (es ++ V.At to ∷ []) (at_reading to m) n written
   read_stands es to m n written open_yet f =
       let fs = es ++ V.At to ∷ [] in

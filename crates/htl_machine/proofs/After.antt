@@ -42,9 +42,9 @@ use Rattle.htl_machine.specs.Readiness.{desk_replay}
 use Rattle.htl_machine.specs.Recording.{Records}
 use Rattle.htl_machine.specs.Running.{replay}
 use Rattle.htl_machine.specs.Sensors.{AreShown}
-use Rattle.htl_machine.specs.Texts.{record_text, some_records, records_of, list_texts, instant_text, text_before}
+use Rattle.htl_machine.specs.Texts.{record_text, some_records, records_of, list_texts, instant_text, listed_text_before}
 use Rattle.htl_machine.specs.Starting.{instrs_of}
-use Rattle.htl_machine.specs.Timing.{begins}
+use Rattle.htl_machine.specs.Timing.{some_round_begins}
 use Rattle.htl_machine.specs.Values.{values_before}
 use Rattle.htl_machine.specs.Wholes.{Whole, Passed}
 use Rattle.htl_machine.specs.Worlds.{with_sensors}
@@ -186,8 +186,8 @@ module _ (m : Seen) (es : List Event) (now : ℕ) (accepted : IsAccepted m.objec
       let s_capped : start.s ≤ 2 ^ 64 - 1 = omega (arith, ap (λ (z : Counts). z.s) was, totals.s_are) in
       let counts : ◌≡◌ {A = Counts} (record { jobs = n.jobs; e = n.e; s = n.s }) (counted t code schedules es now (counts_of m)) =
       counts_are t schedules es now code old new start n are jobs_capped e_capped s_capped is ∙ ap (counted t code schedules es now) (sym was) in
-      let written = text_before t code schedules es m.show now ++ instant_text t code schedules es m.show now in
-      let next = whole_instant t code schedules loaded accepted.spelled.code m.show es now m.standing e1 m.held (counts_of m) (text_before t code schedules es m.show now) written world desk whole passed follows refl in
+      let written = listed_text_before t code schedules es m.show now ++ instant_text t code schedules es m.show now in
+      let next = whole_instant t code schedules loaded accepted.spelled.code m.show es now m.standing e1 m.held (counts_of m) (listed_text_before t code schedules es m.show now) written world desk whole passed follows refl in
       let m1 : Seen = record m { held = record m.held { world = world; desk = desk }; standing = e1; list = last; jobs = n.jobs; e = n.e; s = n.s } in
       record {
         kept =
@@ -214,20 +214,20 @@ module _ (m : Seen) (es : List Event) (now : ℕ) (accepted : IsAccepted m.objec
       own (Some q) e (suc n) g = by ∙ ap (schedule_by m.object idle) g ∙ sym (loaded_code t schedules loaded es u.kept.within q e n)
 
   pub desk_goes_on : (steps idle : List SInstr) → steps ≡ schedule_by m.object idle m.list → idle ≡ [] → IsReadyAt m es now steps → (d1 d2 : Round) (w1 : Content)
-      → begins m.object.tables now ≡ false → Records m.object.tables m.held.desk m.held.world d1 w1 steps now
+      → some_round_begins m.object.tables now ≡ false → Records m.object.tables m.held.desk m.held.world d1 w1 steps now
       → d2 ≡ desk_replay m.object.ecode (phase_path m.object.tables m.object.ecode es now 3) d1 → rounds.Stands d2 steps
       → DeskFollows (turn_at m.object.tables (schedules_of m.object) es) (hyper m.object.tables) (suc now) d2
   desk_goes_on steps idle by none r d1 d2 w1 b rec told st =
       going_desk t code schedules loaded (modes_read t code schedules loaded accepted.spelled.code m.show) es u.kept.within (hyper t) refl now steps m.held.desk d1 d2 m.held.world w1 b
       u.before.records.desk (schedule_own steps idle by none) r.stands rec told st
 
-  pub list_goes_on : begins m.object.tables now ≡ false → GoesBy (turn_at m.object.tables (schedules_of m.object) es) (hyper m.object.tables) (suc now) m.list
+  pub list_goes_on : some_round_begins m.object.tables now ≡ false → GoesBy (turn_at m.object.tables (schedules_of m.object) es) (hyper m.object.tables) (suc now) m.list
   list_goes_on b = going_on t code schedules loaded (modes_read t code schedules loaded accepted.spelled.code m.show) es u.kept.within (hyper t) refl now m.list b u.before.records.goes
 
   -- ---- where a list begins
 
   pub over : (steps idle : List SInstr) → steps ≡ schedule_by m.object idle m.list → idle ≡ [] → IsReadyAt m es now steps → (d1 : Round) (w1 : Content)
-      → begins m.object.tables now ≡ true → Records m.object.tables m.held.desk m.held.world d1 w1 steps now → (d1.running ≡ false) × IsAtEnd m.object.tables (schedules_of m.object) es now d1
+      → some_round_begins m.object.tables now ≡ true → Records m.object.tables m.held.desk m.held.world d1 w1 steps now → (d1.running ≡ false) × IsAtEnd m.object.tables (schedules_of m.object) es now d1
   over steps idle by none r d1 w1 b rec =
       list_over t code schedules loaded (modes_read t code schedules loaded accepted.spelled.code m.show) es u.kept.within (hyper t) refl now steps m.held.desk d1 m.held.world w1 b
       u.before.records.desk (schedule_own steps idle by none) r.stands rec
@@ -240,7 +240,7 @@ module _ (m : Seen) (es : List Event) (now : ℕ) (accepted : IsAccepted m.objec
   ]
 
   -- the list that begins, behind the one that stood
-  pub to_begin : (d1 : Round) → begins m.object.tables now ≡ true → IsAtEnd m.object.tables (schedules_of m.object) es now d1 → IsToBegin m.object.tables m.object.ecode (schedules_of m.object) es now m.held.takes m.list d1
+  pub to_begin : (d1 : Round) → some_round_begins m.object.tables now ≡ true → IsAtEnd m.object.tables (schedules_of m.object) es now d1 → IsToBegin m.object.tables m.object.ecode (schedules_of m.object) es now m.held.takes m.list d1
   to_begin d1 b ends =
       let reads = modes_read t code schedules loaded accepted.spelled.code m.show in
       let h = beginning t code schedules loaded reads es u.kept.within now b in
@@ -251,7 +251,7 @@ module _ (m : Seen) (es : List Event) (now : ℕ) (accepted : IsAccepted m.objec
       (omega (arith, node, many)) (omega (arith, many, ranges.schedules, nodes_few t ranges.tables ranges.frames))
       (subst (λ (is : List SInstr). length is ≤ 4294967295) (sym (loaded_code t schedules loaded es u.kept.within h.0 h.1 now)) (short_at m.object.schedules ranges.short (turn_at t schedules es now).node))
 
-  pub desk_begins_so : (d2 : Round) → begins m.object.tables now ≡ true
+  pub desk_begins_so : (d2 : Round) → some_round_begins m.object.tables now ≡ true
       → (let v = turn_at m.object.tables (schedules_of m.object) es now in DeskAt v.plan v.frame (due_by v.plan v.frame now) (suc now - v.frame) d2)
       → DeskFollows (turn_at m.object.tables (schedules_of m.object) es) (hyper m.object.tables) (suc now) d2
   desk_begins_so d2 b at =
@@ -259,7 +259,7 @@ module _ (m : Seen) (es : List Event) (now : ℕ) (accepted : IsAccepted m.objec
       let h = beginning t code schedules loaded reads es u.kept.within now b in
       begun_desk t code schedules loaded reads es u.kept.within now d2 h.0 h.1 at
 
-  pub list_begins : (list : Option ListAt) → begins m.object.tables now ≡ true → list ≡ Some (turn_list (turn_at m.object.tables (schedules_of m.object) es now))
+  pub list_begins : (list : Option ListAt) → some_round_begins m.object.tables now ≡ true → list ≡ Some (turn_list (turn_at m.object.tables (schedules_of m.object) es now))
       → GoesBy (turn_at m.object.tables (schedules_of m.object) es) (hyper m.object.tables) (suc now) list
   list_begins list b is =
       let reads = modes_read t code schedules loaded accepted.spelled.code m.show in
@@ -273,7 +273,7 @@ module _ (m : Seen) (es : List Event) (now : ℕ) (accepted : IsAccepted m.objec
   owed steps idle by none r =
       sym (owed_are (turn_at t schedules es) (hyper t) now steps m.held.desk u.before.records.desk (schedule_own steps idle by none) r.plan r.start r.place r.offset r.same r.was)
 
-  pub records_go_on : (steps idle : List SInstr) → steps ≡ schedule_by m.object idle m.list → idle ≡ [] → (r : IsReadyAt m es now steps) → begins m.object.tables now ≡ false
+  pub records_go_on : (steps idle : List SInstr) → steps ≡ schedule_by m.object idle m.list → idle ≡ [] → (r : IsReadyAt m es now steps) → some_round_begins m.object.tables now ≡ false
       → records_of m.object.tables (schedules_of m.object) es (hyper m.object.tables) now ≡ some_records r.plan r.start r.place (due_by r.plan r.start now - r.place) ++ []
   records_go_on steps idle by none r b = by_root (hyper t) refl ∙ ap (λ (ls : List Left). ls ++ []) (owed steps idle by none r)
     where
@@ -283,7 +283,7 @@ module _ (m : Seen) (es : List Event) (now : ℕ) (accepted : IsAccepted m.objec
           records_going t schedules es now q e (going t code schedules loaded (modes_read t code schedules loaded accepted.spelled.code m.show) es u.kept.within q now e b)
           ∙ sym (ap (λ o. owed_before (turn_at t schedules es) o now ++ []) e)
 
-  pub records_begin : (steps idle : List SInstr) → steps ≡ schedule_by m.object idle m.list → idle ≡ [] → (r : IsReadyAt m es now steps) → begins m.object.tables now ≡ true
+  pub records_begin : (steps idle : List SInstr) → steps ≡ schedule_by m.object idle m.list → idle ≡ [] → (r : IsReadyAt m es now steps) → some_round_begins m.object.tables now ≡ true
       → records_of m.object.tables (schedules_of m.object) es (hyper m.object.tables) now
       ≡ some_records r.plan r.start r.place (due_by r.plan r.start now - r.place) ++ first_records m.object.tables (schedules_of m.object) es now
   records_begin steps idle by none r b =
@@ -293,7 +293,7 @@ module _ (m : Seen) (es : List Event) (now : ℕ) (accepted : IsAccepted m.objec
       ∙ ap (λ (ls : List Left). ls ++ first_records t schedules es now) (owed steps idle by none r)
 
   -- the lines of the list that begins; none where none does
-  pub text_goes_on : begins m.object.tables now ≡ false → (list_texts m.object.tables (schedules_of m.object) es m.show (hyper m.object.tables) now).1 ≡ []
+  pub text_goes_on : some_round_begins m.object.tables now ≡ false → (list_texts m.object.tables (schedules_of m.object) es m.show (hyper m.object.tables) now).1 ≡ []
   text_goes_on b = by_root (hyper t) refl
     where
       by_root : (o : Option ℕ) → hyper t ≡ o → (list_texts t schedules es m.show (hyper t) now).1 ≡ []
@@ -302,7 +302,7 @@ module _ (m : Seen) (es : List Event) (now : ℕ) (accepted : IsAccepted m.objec
           ap (λ (z : List ℕ × List ℕ). z.1)
           (texts_going t code schedules es m.show now q e (going t code schedules loaded (modes_read t code schedules loaded accepted.spelled.code m.show) es u.kept.within q now e b))
 
-  pub text_begins : begins m.object.tables now ≡ true
+  pub text_begins : some_round_begins m.object.tables now ≡ true
       → (list_texts m.object.tables (schedules_of m.object) es m.show (hyper m.object.tables) now).1 ≡ beginning_text m.object.tables (schedules_of m.object) es m.show now
   text_begins b =
       let h = beginning t code schedules loaded (modes_read t code schedules loaded accepted.spelled.code m.show) es u.kept.within now b in

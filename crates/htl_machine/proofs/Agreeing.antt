@@ -7,7 +7,7 @@ use Rattle.htl_model.specs.declared.state.Stay.{Stay}
 use Rattle.htl_model.specs.Lists.{joined, up_to}
 use Rattle.htl_model.specs.Tables.{Tables}
 use Rattle.htl_model.specs.Ranges.{AreInRange}
-use Rattle.htl_model.specs.Meaning.{state, before, stay_of, mode_of, mode_in, value_lines}
+use Rattle.htl_model.specs.Meaning.{state, before, stay_of, mode_of, mode_in_state, value_lines}
 use Rattle.htl_model.proofs.Locality.{up_to_same}
 use Rattle.htl_smach.specs.declared.left.Left.{Left}
 use Rattle.htl_ecode.specs.declared.ecode.ECode.{ECode}
@@ -32,7 +32,7 @@ none_past : (modes : List (Option ℕ)) (k : ℕ) → length modes ≤ k → lis
 none_past modes k h = ap (λ (o : Option (Option ℕ)). elim o [ Some x ↦ x | None ↦ None ]) (slice_get_past modes k h)
 
 -- the modes once the switch phase is done
-pub modes_switched : (t : Tables) (code : ECode) (es : List Event) (now : ℕ) (c : Calendar) → AreInRange t → Between t code es now 2 c (length t.modules) → (k : ℕ) → list_at c.modes k ≡ mode_in (state t es now) k
+pub modes_switched : (t : Tables) (code : ECode) (es : List Event) (now : ℕ) (c : Calendar) → AreInRange t → Between t code es now 2 c (length t.modules) → (k : ℕ) → list_at c.modes k ≡ mode_in_state (state t es now) k
 modes_switched t code es now c range b k = elim (order k (length t.modules)) [
   | inl h ↦ ap (λ (e : Entry). e.mode) (b.below k h)
   | inr h ↦ none_past c.modes k (omega (arith, h, b.sized.modes)) ∙ sym (nowhere (stay_of (state t es now).stays k) refl h)
@@ -41,12 +41,12 @@ modes_switched t code es now c range b k = elim (order k (length t.modules)) [
     order : (a n : ℕ) → (a < n) ⊎ (n ≤ a)
     order a n = grind arith
 
-    nowhere : (o : Option Stay) → stay_of (state t es now).stays k ≡ o → length t.modules ≤ k → mode_in (state t es now) k ≡ None
+    nowhere : (o : Option Stay) → stay_of (state t es now).stays k ≡ o → length t.modules ≤ k → mode_in_state (state t es now) k ≡ None
     nowhere None e h = ap mode_of e
     nowhere (Some y) e h = absurd (omega (arith, h, (standing_at t range es now).known k y e))
 
 -- and once the read phase is done
-pub modes_closed : (t : Tables) (code : ECode) (es : List Event) (now : ℕ) (c : Calendar) → AreInRange t → Between t code es now 3 c (length t.modules) → (k : ℕ) → list_at c.modes k ≡ mode_in (state t es now) k
+pub modes_closed : (t : Tables) (code : ECode) (es : List Event) (now : ℕ) (c : Calendar) → AreInRange t → Between t code es now 3 c (length t.modules) → (k : ℕ) → list_at c.modes k ≡ mode_in_state (state t es now) k
 modes_closed t code es now c range b k = elim (order k (length t.modules)) [
   | inl h ↦ ap (λ (e : Entry). e.mode) (b.below k h)
   | inr h ↦ none_past c.modes k (omega (arith, h, b.sized.modes)) ∙ sym (nowhere (stay_of (state t es now).stays k) refl h)
@@ -55,12 +55,12 @@ modes_closed t code es now c range b k = elim (order k (length t.modules)) [
     order : (a n : ℕ) → (a < n) ⊎ (n ≤ a)
     order a n = grind arith
 
-    nowhere : (o : Option Stay) → stay_of (state t es now).stays k ≡ o → length t.modules ≤ k → mode_in (state t es now) k ≡ None
+    nowhere : (o : Option Stay) → stay_of (state t es now).stays k ≡ o → length t.modules ≤ k → mode_in_state (state t es now) k ≡ None
     nowhere None e h = ap mode_of e
     nowhere (Some y) e h = absurd (omega (arith, h, (standing_at t range es now).known k y e))
 
 -- the modes before an instant
-pub modes_open : (t : Tables) (code : ECode) (es : List Event) (now : ℕ) (c : Calendar) → Between t code es now 1 c 0 → (k : ℕ) → k < length t.modules → list_at c.modes k ≡ mode_in (before t es now) k
+pub modes_open : (t : Tables) (code : ECode) (es : List Event) (now : ℕ) (c : Calendar) → Between t code es now 1 c 0 → (k : ℕ) → k < length t.modules → list_at c.modes k ≡ mode_in_state (before t es now) k
 modes_open t code es now c b k h = ap (λ (e : Entry). e.mode) (b.above k (omega arith) h)
 
 -- ---- lines
@@ -72,11 +72,11 @@ values_told (suc m) n old was new a = ap (λ z. up_to (value_changes (suc m) z n
 
 -- the lines of values and modes are those of the meaning
 pub changes_are : (t : Tables) (es : List Event) (now : ℕ) (old new : List ℤ) (was is : List (Option ℕ)) → (0 < now → old ≡ (before t es now).values) → new ≡ (state t es now).values
-    → ((k : ℕ) → k < length t.modules → list_at was k ≡ mode_in (before t es now) k) → ((k : ℕ) → list_at is k ≡ mode_in (state t es now) k) → all_changes t now old new was is ≡ value_lines t es now
+    → ((k : ℕ) → k < length t.modules → list_at was k ≡ mode_in_state (before t es now) k) → ((k : ℕ) → list_at is k ≡ mode_in_state (state t es now) k) → all_changes t now old new was is ≡ value_lines t es now
 changes_are t es now old new was is a b c d =
     ap (λ ls. ls ++ up_to (mode_changes now was is) (length t.modules)) (values_told now (length t.comms) old (before t es now).values new a)
     ∙ ap (λ y. all_changes t now (before t es now).values y was is) b
-    ∙ ap (λ ls. up_to (λ k. value_of k) (length t.comms) ++ ls) (up_to_same (mode_changes now was is) (λ k. mode_change now k (mode_in (before t es now) k) (mode_in (state t es now) k)) (length t.modules)
+    ∙ ap (λ ls. up_to (λ k. value_of k) (length t.comms) ++ ls) (up_to_same (mode_changes now was is) (λ k. mode_change now k (mode_in_state (before t es now) k) (mode_in_state (state t es now) k)) (length t.modules)
     (λ k h. ap₂ (λ x y. mode_change now k x y) (c k h) (d k)))
   where
     value_of : ℕ → List Line

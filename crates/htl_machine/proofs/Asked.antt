@@ -12,8 +12,8 @@ use Rattle.htl_ecode.specs.declared.instr.EInstr.{EInstr}
 use Rattle.htl_ecode.specs.declared.instr.EInstr.TheVariants as I
 use Rattle.htl_ecode.specs.Offsets.{meets, counts, places_at, next_offset}
 use Rattle.htl_ecode.specs.Chains.{Want, Does, all_do, waits_for, release_of, releases, block_chain}
-use Rattle.htl_machine.specs.Worlds.{writes_at, reads_at, all_writes, all_reads}
-use Rattle.htl_machine.specs.Values.{IsMet, IsDue, IsRead}
+use Rattle.htl_machine.specs.Worlds.{wanted_writes, wanted_reads, all_writes, all_reads}
+use Rattle.htl_machine.specs.Values.{EndIsMet, IsDue, IsRead}
 use Rattle.htl_refine.proofs.Standing.{IsStanding}
 use Rattle.htl_walk.proofs.Finishes.{some_same}
 use Rattle.htl_machine.proofs.Plain.{split, both}
@@ -287,7 +287,7 @@ no_read_in t m o i k h =
 -- ---- the blocks of all modules
 
 module _ (t : Tables) (stays : List (Option Stay)) (n now : ℕ) (standing : IsStanding t stays n) (past : n ≤ now) where
-  met : (ends : Inv → List End) (u i k : ℕ) (y : Stay) → stay_of stays u ≡ Some y → IsCalled ends t y.mode (now - y.start) i k → (c : ℕ) × IsMet ends t stays now i k c
+  met : (ends : Inv → List End) (u i k : ℕ) (y : Stay) → stay_of stays u ≡ Some y → IsCalled ends t y.mode (now - y.start) i k → (c : ℕ) × EndIsMet ends t stays now i k c
   met ends u i k y at c = (
     c.comm,
     record {
@@ -307,7 +307,7 @@ module _ (t : Tables) (stays : List (Option Stay)) (n now : ℕ) (standing : IsS
     },
   )
 
-  uncalled : (ends : Inv → List End) (i k c : ℕ) (d : IsMet ends t stays now i k c) → IsCalled ends t d.inv.mode (now - d.start) i k
+  uncalled : (ends : Inv → List End) (i k c : ℕ) (d : EndIsMet ends t stays now i k c) → IsCalled ends t d.inv.mode (now - d.start) i k
   uncalled ends i k c d =
       record {
         inv = d.inv;
@@ -321,41 +321,41 @@ module _ (t : Tables) (stays : List (Option Stay)) (n now : ℕ) (standing : IsS
       }
 
   pub due_of : (i k : ℕ) → AsksFor (I.CallWrite i k) (all_writes t now stays) → (c : ℕ) × IsDue t stays now i k c
-  due_of i k h = let r = asks_up_to (I.CallWrite i k) (λ u. writes_at t now (stay_of stays u)) (length t.modules) h in by_stay r.0 (stay_of stays r.0) refl r.2
+  due_of i k h = let r = asks_up_to (I.CallWrite i k) (λ u. wanted_writes t now (stay_of stays u)) (length t.modules) h in by_stay r.0 (stay_of stays r.0) refl r.2
     where
-      by_stay : (u : ℕ) (o : Option Stay) → stay_of stays u ≡ o → AsksFor (I.CallWrite i k) (writes_at t now o) → (c : ℕ) × IsDue t stays now i k c
+      by_stay : (u : ℕ) (o : Option Stay) → stay_of stays u ≡ o → AsksFor (I.CallWrite i k) (wanted_writes t now o) → (c : ℕ) × IsDue t stays now i k c
       by_stay u None is a = absurd a
       by_stay u (Some y) is a = met (λ x. x.writes) u i k y is (write_called t y.mode (now - y.start) i k a)
 
   pub read_of : (i k : ℕ) → AsksFor (I.CallRead i k) (all_reads t now stays) → (c : ℕ) × IsRead t stays now i k c
-  read_of i k h = let r = asks_up_to (I.CallRead i k) (λ u. reads_at t now (stay_of stays u)) (length t.modules) h in by_stay r.0 (stay_of stays r.0) refl r.2
+  read_of i k h = let r = asks_up_to (I.CallRead i k) (λ u. wanted_reads t now (stay_of stays u)) (length t.modules) h in by_stay r.0 (stay_of stays r.0) refl r.2
     where
-      by_stay : (u : ℕ) (o : Option Stay) → stay_of stays u ≡ o → AsksFor (I.CallRead i k) (reads_at t now o) → (c : ℕ) × IsRead t stays now i k c
+      by_stay : (u : ℕ) (o : Option Stay) → stay_of stays u ≡ o → AsksFor (I.CallRead i k) (wanted_reads t now o) → (c : ℕ) × IsRead t stays now i k c
       by_stay u None is a = absurd a
       by_stay u (Some y) is a = met (λ x. x.reads) u i k y is (read_called t y.mode (now - y.start) i k a)
 
   pub due_asks : (i k c : ℕ) → IsDue t stays now i k c → AsksFor (I.CallWrite i k) (all_writes t now stays)
   due_asks i k c d =
-      up_to_asks (I.CallWrite i k) (λ u. writes_at t now (stay_of stays u)) (length t.modules) (mode_module t d.inv.mode)
+      up_to_asks (I.CallWrite i k) (λ u. wanted_writes t now (stay_of stays u)) (length t.modules) (mode_module t d.inv.mode)
       (standing.known (mode_module t d.inv.mode) (record { mode = d.inv.mode; start = d.start }) d.stands.in_round)
-      (subst (λ o. AsksFor (I.CallWrite i k) (writes_at t now o)) (sym d.stands.in_round) (called_write t d.inv.mode (now - d.start) i k (uncalled (λ x. x.writes) i k c d)))
+      (subst (λ o. AsksFor (I.CallWrite i k) (wanted_writes t now o)) (sym d.stands.in_round) (called_write t d.inv.mode (now - d.start) i k (uncalled (λ x. x.writes) i k c d)))
 
   pub read_asks : (i k c : ℕ) → IsRead t stays now i k c → AsksFor (I.CallRead i k) (all_reads t now stays)
   read_asks i k c d =
-      up_to_asks (I.CallRead i k) (λ u. reads_at t now (stay_of stays u)) (length t.modules) (mode_module t d.inv.mode)
+      up_to_asks (I.CallRead i k) (λ u. wanted_reads t now (stay_of stays u)) (length t.modules) (mode_module t d.inv.mode)
       (standing.known (mode_module t d.inv.mode) (record { mode = d.inv.mode; start = d.start }) d.stands.in_round)
-      (subst (λ o. AsksFor (I.CallRead i k) (reads_at t now o)) (sym d.stands.in_round) (called_read t d.inv.mode (now - d.start) i k (uncalled (λ x. x.reads) i k c d)))
+      (subst (λ o. AsksFor (I.CallRead i k) (wanted_reads t now o)) (sym d.stands.in_round) (called_read t d.inv.mode (now - d.start) i k (uncalled (λ x. x.reads) i k c d)))
 
 pub no_write_read : (t : Tables) (now : ℕ) (stays : List (Option Stay)) (i k : ℕ) → AsksFor (I.CallWrite i k) (all_reads t now stays) → ⊥
-no_write_read t now stays i k h = let r = asks_up_to (I.CallWrite i k) (λ u. reads_at t now (stay_of stays u)) (length t.modules) h in by_stay (stay_of stays r.0) r.2
+no_write_read t now stays i k h = let r = asks_up_to (I.CallWrite i k) (λ u. wanted_reads t now (stay_of stays u)) (length t.modules) h in by_stay (stay_of stays r.0) r.2
   where
-    by_stay : (o : Option Stay) → AsksFor (I.CallWrite i k) (reads_at t now o) → ⊥
+    by_stay : (o : Option Stay) → AsksFor (I.CallWrite i k) (wanted_reads t now o) → ⊥
     by_stay None a = a
     by_stay (Some y) a = no_write_in t y.mode (now - y.start) i k a
 
 pub no_read_write : (t : Tables) (now : ℕ) (stays : List (Option Stay)) (i k : ℕ) → AsksFor (I.CallRead i k) (all_writes t now stays) → ⊥
-no_read_write t now stays i k h = let r = asks_up_to (I.CallRead i k) (λ u. writes_at t now (stay_of stays u)) (length t.modules) h in by_stay (stay_of stays r.0) r.2
+no_read_write t now stays i k h = let r = asks_up_to (I.CallRead i k) (λ u. wanted_writes t now (stay_of stays u)) (length t.modules) h in by_stay (stay_of stays r.0) r.2
   where
-    by_stay : (o : Option Stay) → AsksFor (I.CallRead i k) (writes_at t now o) → ⊥
+    by_stay : (o : Option Stay) → AsksFor (I.CallRead i k) (wanted_writes t now o) → ⊥
     by_stay None a = a
     by_stay (Some y) a = no_read_in t y.mode (now - y.start) i k a

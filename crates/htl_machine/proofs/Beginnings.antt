@@ -14,14 +14,14 @@ use Rattle.htl_walk.specs.declared.schedule.SInstr.TheVariants.{Dispatch, Idle, 
 use Rattle.htl_walk.specs.declared.schedule.Schedule.{Schedule}
 use Rattle.htl_walk.specs.Walk.{Point, Left, job_at, time_after, work_after, next_point, left_by, walk_from, finishes_by}
 use Rattle.htl_walk.proofs.Steps.{left_same}
-use Rattle.htl_smach.specs.Rounds.{Round, Stands, begun}
+use Rattle.htl_smach.specs.Rounds.{Round, Stands, round_begun}
 use Rattle.htl_ecode.specs.declared.ecode.ECode.{ECode}
 use Rattle.htl_emach.specs.Calendars.{Calendar}
 use Rattle.htl_emach.specs.Contents.{Content}
 use Rattle.htl_emach.specs.Following.{phase_path}
 use Rattle.htl_emach.specs.Pending.{Between}
 use Rattle.htl_refine.specs.ListPlans.{ListPlan as Plan, list_walk}
-use Rattle.htl_refine.specs.RecordCounts.{count_before}
+use Rattle.htl_refine.specs.RecordCounts.{count_left_before}
 use Rattle.htl_refine.specs.Records.{modes_at}
 use Rattle.htl_console.specs.declared.shown.Shown.{Shown}
 use Rattle.htl_machine.specs.declared.numbering.ListAt.{ListAt}
@@ -80,8 +80,8 @@ module _ (t : Tables) (code : ECode) (ss : List Schedule) (es : List Event) (at 
 
     pub has_begun : (idle steps : List SInstr) (first told : Round) → steps ≡ instrs_by ss idle list → first ≡ list_begun t modes takes at r → told ≡ desk_replay code (phase_path t code es at 3) first
         → ((s : List SInstr) → Stands first s → Stands told s) → HasBegun t (instrs_of ss) es at list steps first told
-    has_begun idle steps first told by begun after keeps =
-        let own : first ≡ list_begun t (modes_at t es at) takes at r = begun ∙ ap (λ z. list_begun t z takes at r) ms in
+    has_begun idle steps first told by round_begun after keeps =
+        let own : first ≡ list_begun t (modes_at t es at) takes at r = round_begun ∙ ap (λ z. list_begun t z takes at r) ms in
         let stands : Stands told u.plan.schedule = keeps u.plan.schedule (subst (λ d. Stands d u.plan.schedule) (sym own) h.begins.stands) in
         let is_told : told ≡ desk_replay code (phase_path t code es at 3) (list_begun t (modes_at t es at) takes at r) = after ∙ ap (desk_replay code (phase_path t code es at 3)) own in
         record {
@@ -133,7 +133,7 @@ finishes_late jobs (Idle until ∷ is) x (suc k) q l at pos fin = omega (arith, 
 finishes_late jobs (End ∷ is) x (suc k) q l at pos fin = finishes_late jobs is x k q l at pos fin
 
 -- so no job is done at once
-still : (t : Tables) (p : Plan) (k : ℕ) (w : Content) → k < count_before (suc p.first.time) (list_walk p) → complete_by t p.jobs (slice_get (list_walk p) k) w ≡ w
+still : (t : Tables) (p : Plan) (k : ℕ) (w : Content) → k < count_left_before (suc p.first.time) (list_walk p) → complete_by t p.jobs (slice_get (list_walk p) k) w ≡ w
 still t p k w h = by_record (slice_get (list_walk p) k) refl
   where
     by_position : (l : Left) → slice_get (list_walk p) k ≡ Some l → l.finished ≡ true → (o : Option ℕ) → l.position ≡ o → complete_at t p.jobs o w ≡ w
@@ -150,7 +150,7 @@ still t p k w h = by_record (slice_get (list_walk p) k) refl
     by_record None e = refl
     by_record (Some l) e = by_done l e l.finished refl
 
-quiet : (t : Tables) (p : Plan) (n k : ℕ) (w : Content) → k + n ≤ count_before (suc p.first.time) (list_walk p) → run_records t p.jobs (list_walk p) n k w ≡ w
+quiet : (t : Tables) (p : Plan) (n k : ℕ) (w : Content) → k + n ≤ count_left_before (suc p.first.time) (list_walk p) → run_records t p.jobs (list_walk p) n k w ≡ w
 quiet t p zero k w h = refl
 quiet t p (suc n) k w h = quiet t p n (suc k) (complete_by t p.jobs (slice_get (list_walk p) k) w) (omega (arith, h)) ∙ still t p k w (omega (arith, h))
 
@@ -165,8 +165,8 @@ module _ (t : Tables) (lists : List (List SInstr)) (es : List Event) (at : ℕ) 
       → DeskAt (turn_at t lists es at).plan (turn_at t lists es at).frame (due_by (turn_at t lists es at).plan (turn_at t lists es at).frame at) (suc at - (turn_at t lists es at).frame) n × (x ≡ w)
   first_done n w x records =
       let all = records v.plan v.frame 0 (suc at - v.frame) h.same (omega (arith, h.past)) (omega arith) h.told_at in
-      let few : 0 + (due_by v.plan v.frame at - 0) ≤ count_before (suc v.plan.first.time) (list_walk v.plan) =
-      omega (arith, ap (λ z. count_before z (list_walk v.plan)) (let z : suc at - v.frame ≡ suc v.plan.first.time = omega (arith, h.past) in z)) in
+      let few : 0 + (due_by v.plan v.frame at - 0) ≤ count_left_before (suc v.plan.first.time) (list_walk v.plan) =
+      omega (arith, ap (λ z. count_left_before z (list_walk v.plan)) (let z : suc at - v.frame ≡ suc v.plan.first.time = omega (arith, h.past) in z)) in
       (all.0, all.1 ∙ quiet t v.plan (due_by v.plan v.frame at - 0) 0 w few)
 
   pub first_counted : (n m : Tally) → Counted told steps at n m → m ≡ with_records (first_records t lists es at) n

@@ -30,7 +30,7 @@ use Rattle.htl_machine.specs.Turns.{position_from}
 use Rattle.htl_machine.specs.Follows.{reading_of, at_reading, shown_as, taken_as, desk_taking, DeskFollows, IsLoaded}
 use Rattle.htl_machine.specs.Machines.{Counts}
 use Rattle.htl_machine.specs.Programs.{schedules_of}
-use Rattle.htl_machine.specs.Texts.{text_before}
+use Rattle.htl_machine.specs.Texts.{listed_text_before}
 use Rattle.htl_machine.specs.Wholes.{Whole, WholeFollowed}
 use Rattle.htl_machine.specs.RunLists.{turn_at, turn_by, list_turn}
 use Rattle.htl_machine.specs.declared.numbering.ListAt.{ListAt}
@@ -56,7 +56,7 @@ counts_of m = record { jobs = m.jobs; e = m.e; s = m.s }
 abbrev pub IsWhole : Seen → List Event → ℕ → Type 0
 IsWhole m es now =
     Whole m.object.tables m.object.ecode (schedules_of m.object) m.show es now m.standing m.held (counts_of m)
-    (text_before m.object.tables m.object.ecode (schedules_of m.object) es m.show now)
+    (listed_text_before m.object.tables m.object.ecode (schedules_of m.object) es m.show now)
 
 pub whole_of : (m : Seen) (es : List Event) (now : ℕ) → IsAccepted m.object → IsKept m.object.tables es m.held → reading_of 0 es ≤ now → IsBefore m es now → IsWhole m es now
 whole_of m es now accepted kept later b =
@@ -113,7 +113,7 @@ before_of m es now written accepted w goes =
 
 followed_of : (m : Seen) (es : List Event) → IsAccepted m.object → Follows m es
     → WholeFollowed m.object.tables m.object.ecode (schedules_of m.object) m.show es m.standing m.held (counts_of m)
-    (text_before m.object.tables m.object.ecode (schedules_of m.object) es m.show m.held.reading)
+    (listed_text_before m.object.tables m.object.ecode (schedules_of m.object) es m.show m.held.reading)
 followed_of m es accepted f =
     let w = whole_of m es m.held.reading accepted f.kept (omega (arith, f.kept.reading)) f.before in
     record { follows = record { fresh = f.kept.fresh; reading = f.kept.reading; up_to = w.stands.up_to }; whole = w }
@@ -160,7 +160,7 @@ sense_follows m es c x accepted sensor f =
     let t = m.object.tables in
     let g =
     whole_sense t m.object.ecode (schedules_of m.object) (accepted_is_loaded m.object accepted) accepted.spelled.code m.show es c x m.standing m.held (counts_of m)
-    (text_before t m.object.ecode (schedules_of m.object) es m.show m.held.reading) (slice_get_within t.comms c sensor.comm sensor.known)
+    (listed_text_before t m.object.ecode (schedules_of m.object) es m.show m.held.reading) (slice_get_within t.comms c sensor.comm sensor.known)
     (subst (λ (o : Option Comm). IfSome o (λ y. FitsType y.ty x)) (sym sensor.known) sensor.fits) (followed_of m es accepted f) in
     follows_of (record m { held = shown_as c x m.held }) (es ++ V.Sense c x ∷ []) _ accepted g
     (goes_alike t (schedules_of m.object) (accepted_is_loaded m.object accepted) es (es ++ V.Sense c x ∷ []) f.kept.within (hyper t) m.held.reading m.list
@@ -209,7 +209,7 @@ took_follows m es i n accepted length keeps f =
     let worst : inv_worst t i ≡ task_worst t length.inv.task = ap (λ (o : Option Inv). elim o [ Some x ↦ task_worst t x.task | None ↦ 0 ]) length.known in
     let g =
     whole_took t m.object.ecode (schedules_of m.object) (accepted_is_loaded m.object accepted) accepted.spelled.code m.show es i n m.standing m.held (counts_of m)
-    (text_before t m.object.ecode (schedules_of m.object) es m.show m.held.reading) (length.some, omega (arith, length.worst, worst)) (slice_get_within t.invs i length.inv length.known) f.kept.count keeps
+    (listed_text_before t m.object.ecode (schedules_of m.object) es m.show m.held.reading) (length.some, omega (arith, length.worst, worst)) (slice_get_within t.invs i length.inv length.known) f.kept.count keeps
     (followed_of m es accepted f) in
     follows_of (record m { held = taken_as i n m.held }) (es ++ V.Took i n ∷ []) _ accepted g
     (goes_alike t (schedules_of m.object) (accepted_is_loaded m.object accepted) es (es ++ V.Took i n ∷ []) f.kept.within (hyper t) m.held.reading m.list (λ d u h. sym (sense_took t es i n d u)) f.before.records.goes)
@@ -221,7 +221,7 @@ read_follows m es to accepted later f =
     let t = m.object.tables in
     let g =
     whole_reading t m.object.ecode (schedules_of m.object) (accepted_is_loaded m.object accepted) accepted.spelled.code m.show es to m.standing m.held (counts_of m)
-    (text_before t m.object.ecode (schedules_of m.object) es m.show to) f.kept.fresh (whole_of m es to accepted f.kept (omega (arith, f.kept.reading, later)) f.before) in
+    (listed_text_before t m.object.ecode (schedules_of m.object) es m.show to) f.kept.fresh (whole_of m es to accepted f.kept (omega (arith, f.kept.reading, later)) f.before) in
     follows_of (record m { held = at_reading to m.held }) (es ++ V.At to ∷ []) _ accepted g
     (goes_alike t (schedules_of m.object) (accepted_is_loaded m.object accepted) es (es ++ V.At to ∷ []) f.kept.within (hyper t) to m.list (λ d u h. sym (sense_at t es to d u)) f.before.records.goes) f.kept.count
 

@@ -14,7 +14,7 @@ use Rattle.htl_ecode.specs.declared.instr.EInstr.TheVariants as I
 use Rattle.htl_emach.specs.Contents.{Content, buffer, comm_of}
 use Rattle.htl_machine.specs.Worlds.{effects, all_writes, all_reads, with_sensors, world_after}
 use Rattle.htl_emach.specs.Contents as contents
-use Rattle.htl_machine.specs.Values.{Stands, AreDistinct, out_val, ValuesFollow, HasPlaces, Ready, AreCarried}
+use Rattle.htl_machine.specs.Values.{InvStands, AreDistinct, out_val, ValuesFollow, HasPlaces, Ready, AreCarried}
 use Rattle.htl_walk.proofs.Finishes.{some_same}
 use Rattle.htl_refine.proofs.Standing.{standing_at, stood}
 use Rattle.htl_machine.proofs.Standing.{standing_before}
@@ -67,7 +67,7 @@ module _ (t : Tables) (range : AreInRange t) (kept : KeptApart t 12) (es : List 
   split : (a b : ℕ) → a < suc b → (a < b) ⊎ (a ≡ b)
   split a b h = grind arith
 
-  stood_inv : (i s : ℕ) (x : Inv) → Stands t (state t es now).stays i x s → s < now → Stands t (before t es now).stays i x s
+  stood_inv : (i s : ℕ) (x : Inv) → InvStands t (state t es now).stays i x s → s < now → InvStands t (before t es now).stays i x s
   stood_inv i s x st h =
       record {
         known = st.known;
@@ -76,7 +76,7 @@ module _ (t : Tables) (range : AreInRange t) (kept : KeptApart t 12) (es : List 
       }
 
   -- what an input that was read at `now` met
-  read_instant : (i k c n s : ℕ) (x : Inv) → Stands t (state t es now).stays i x s → slice_get x.reads k ≡ Some (E.Comm c n) → AsksFor (I.CallRead i k) (all_reads t now (state t es now).stays) → s + n * comm_period t c ≡ now
+  read_instant : (i k c n s : ℕ) (x : Inv) → InvStands t (state t es now).stays i x s → slice_get x.reads k ≡ Some (E.Comm c n) → AsksFor (I.CallRead i k) (all_reads t now (state t es now).stays) → s + n * comm_period t c ≡ now
   read_instant i k c n s x st at a =
       let r = read_of t (state t es now).stays now now (standing_at t range es now) (omega arith) i k a in
       let d = r.1 in
@@ -88,7 +88,7 @@ module _ (t : Tables) (range : AreInRange t) (kept : KeptApart t 12) (es : List 
       let place : d.instance ≡ n = cc in
       ap (λ z. z + n * comm_period t c) (sym (ap (λ (z : Stay). z.start) one)) ∙ ap (λ z. d.start + z * comm_period t c) (sym place) ∙ ap (λ z. d.start + d.instance * comm_period t z) (sym comm) ∙ d.at
 
-  inputs_after : (i : ℕ) (x : Inv) (s k c n : ℕ) → Stands t (state t es now).stays i x s → later i ≡ false → slice_get x.reads k ≡ Some (E.Comm c n)
+  inputs_after : (i : ℕ) (x : Inv) (s k c n : ℕ) → InvStands t (state t es now).stays i x s → later i ≡ false → slice_get x.reads k ≡ Some (E.Comm c n)
       → s + n * comm_period t c < suc now → buffer after.inputs i k ≡ val t es c (s + n * comm_period t c)
   inputs_after i x s k c n st fin at h =
       let row = sensed_shape.inputs i x st.known in
@@ -104,19 +104,19 @@ module _ (t : Tables) (range : AreInRange t) (kept : KeptApart t 12) (es : List 
               absurd (r.0 (read_asks t (state t es now).stays now now (standing_at t range es now) (omega arith) i k c
               (record { inv = x; start = s; instance = n; stands = st; end = at; at = e })))
           by_time (inl g) =
-              let was : Stands t (before t es now).stays i x s = stood_inv i s x st (omega arith) in
+              let was : InvStands t (before t es now).stays i x s = stood_inv i s x st (omega arith) in
               r.1 ∙ ap (λ bs. buffer bs i k) sensed_inputs ∙ follows.inputs i x s k c n was (sym (carried.kept i x s was st) ∙ fin) at g
 
-  outputs_after : (i : ℕ) (x : Inv) (s k : ℕ) → Stands t (state t es now).stays i x s → later i ≡ true → k < length x.writes → buffer after.outputs i k ≡ out_val t es i s k
+  outputs_after : (i : ℕ) (x : Inv) (s k : ℕ) → InvStands t (state t es now).stays i x s → later i ≡ true → k < length x.writes → buffer after.outputs i k ≡ out_val t es i s k
   outputs_after i x s k st fin h = by_time (order s now (standing_at t range es now).past)
     where
       order : (a b : ℕ) → ((k : ℕ) (y : Stay) → stay_of (state t es now).stays k ≡ Some y → y.start ≤ now) → (s < now) ⊎ (s ≡ now)
       order a b p = let q : s ≤ now = p (mode_module t x.mode) (record { mode = x.mode; start = s }) st.in_round in grind arith
 
       by_time : (s < now) ⊎ (s ≡ now) → buffer after.outputs i k ≡ out_val t es i s k
-      by_time (inr e) = absurd (let y : later i ≡ false = carried.fresh i x (subst (λ z. Stands t (state t es now).stays i x z) e st) in let z : true ≡ false = sym fin ∙ y in cc)
+      by_time (inr e) = absurd (let y : later i ≡ false = carried.fresh i x (subst (λ z. InvStands t (state t es now).stays i x z) e st) in let z : true ≡ false = sym fin ∙ y in cc)
       by_time (inl g) =
-          let was : Stands t (before t es now).stays i x s = stood_inv i s x st g in
+          let was : InvStands t (before t es now).stays i x s = stood_inv i s x st g in
           ap (λ bs. buffer bs i k) (outputs_stay t (all_reads t now (state t es now).stays) sensed ∙ outputs_stay t (all_writes t now (before t es now).stays) w)
           ∙ follows.outputs i x s k was (sym (carried.kept i x s was st) ∙ fin) h
 

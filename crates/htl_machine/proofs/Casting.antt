@@ -8,7 +8,7 @@ use Rattle.htl_model.specs.Tables.{Tables, comm_period, offsets, greatest, least
 use Rattle.htl_walk.specs.declared.job.Job.{Job}
 use Rattle.htl_walk.specs.Walk.{job_at}
 use Rattle.htl_machine.specs.Casts.{IsCast}
-use Rattle.htl_machine.specs.Turns.{later_or, position_from, done_at, finished_in}
+use Rattle.htl_machine.specs.Turns.{later_or, position_from, last_position_done, finished_in}
 use Rattle.htl_walk.proofs.Finishes.{some_same}
 use Rattle.htl_refine.proofs.RecordOrder.{not_some}
 
@@ -116,12 +116,12 @@ position_none q (k ∷ js) i d j e at here is = by_rest (position_from (suc q) j
 pub finished_is : (jobs : List Job) (done : ℕ → Bool) (i : ℕ) → finished_in jobs done i ≡ true → (p : ℕ) × (position_from 0 jobs i ≡ Some p) × (done p ≡ true)
 finished_is jobs done i e = by_place (position_from 0 jobs i) refl e
   where
-    by_place : (o : Option ℕ) → position_from 0 jobs i ≡ o → done_at done o ≡ true → (p : ℕ) × (position_from 0 jobs i ≡ Some p) × (done p ≡ true)
+    by_place : (o : Option ℕ) → position_from 0 jobs i ≡ o → last_position_done done o ≡ true → (p : ℕ) × (position_from 0 jobs i ≡ Some p) × (done p ≡ true)
     by_place None f g = absurd (let z : ⊥ = cc in z)
     by_place (Some p) f g = (p, f, g)
 
 pub is_finished : (jobs : List Job) (done : ℕ → Bool) (i p : ℕ) → position_from 0 jobs i ≡ Some p → done p ≡ true → finished_in jobs done i ≡ true
-is_finished jobs done i p at h = ap (done_at done) at ∙ h
+is_finished jobs done i p at h = ap (last_position_done done) at ∙ h
 
 -- ---- jobs that are cast
 

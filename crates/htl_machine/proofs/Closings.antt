@@ -8,7 +8,7 @@ use Rattle.htl_model.specs.declared.line.Line.{Line}
 use Rattle.htl_model.specs.Lines.{lines_text}
 use Rattle.htl_model.specs.Ranges.{AreInRange}
 use Rattle.htl_model.specs.Tables.{Tables}
-use Rattle.htl_model.specs.Meaning.{state, before, stay_of, mode_of, mode_in, value_lines}
+use Rattle.htl_model.specs.Meaning.{state, before, stay_of, mode_of, mode_in_state, value_lines}
 use Rattle.htl_ecode.specs.declared.ecode.ECode.{ECode}
 use Rattle.htl_emach.specs.Calendars.{Calendar, Standing, list_at}
 use Rattle.htl_emach.specs.Pending.{Between}
@@ -55,7 +55,7 @@ reads_fail t code es show at w0 w f0 f x y puts =
 -- the lines of what changed come last
 pub changes_last : {T S E G : Type 0} (t : Tables) (code : ECode) (es : List Event) (show : Shown) (at : ℕ) (w1 w2 w : Option (List ℕ)) (f1 f2 f : ℕ) (v : S) (result : Result T E) (old new : List ℤ) (was : List (Option ℕ)) (c : Calendar)
     → AreInRange t → Puts {T = S} {E = G} w1 w2 f1 f2 (path_lines t code show at (phase_path t code es at 3)) (Ok v)
-    → (0 < at → old ≡ (before t es at).values) → new ≡ (state t es at).values → ((k : ℕ) → k < length t.modules → list_at was k ≡ mode_in (before t es at) k) → Between t code es at 3 c (length t.modules)
+    → (0 < at → old ≡ (before t es at).values) → new ≡ (state t es at).values → ((k : ℕ) → k < length t.modules → list_at was k ≡ mode_in_state (before t es at) k) → Between t code es at 3 c (length t.modules)
     → Puts w2 w f2 f (change_lines t show at old new was c.modes) result → Puts w1 w f1 f (reading_text t code es show at) result
 changes_last t code es show at w1 w2 w f1 f2 f v result old new was c range second a b d between puts =
     let lines = cond (shows_values show) (lines_text t (value_lines t es at)) [] in

@@ -21,7 +21,7 @@ use Rattle.htl_machine.specs.Counts.{one_record, one_instr, with_records, with_i
 use Rattle.htl_machine.specs.Doing.{path_lines}
 use Rattle.htl_machine.specs.Opening.{closing_text, first_records, beginning_text}
 use Rattle.htl_machine.specs.ListTurns.{left_before}
-use Rattle.htl_machine.specs.Texts.{records_text, some_records, old_records, list_texts, instant_text, records_of, old_turn}
+use Rattle.htl_machine.specs.Texts.{records_text, some_records, turn_old_records, list_texts, instant_text, records_of, old_turn}
 use Rattle.htl_emach.proofs.Instants.{whole_path}
 use Rattle.htl_machine.specs.Machines.{Counts}
 use Rattle.htl_machine.specs.RunLists.{turn_at}
@@ -49,21 +49,21 @@ module _ (t : Tables) (code : ECode) (schedules : List (List SInstr)) (es : List
 
   -- where no list begins
   pub texts_going : (period : ℕ) → hyper t ≡ Some period → (turn_at t schedules es now).frame + (turn_at t schedules es now).from ≢ now
-      → list_texts t schedules es show (hyper t) now ≡ (records_text t show (old_turn (turn_at t schedules es) now) (old_records (turn_at t schedules es) now), [])
+      → list_texts t schedules es show (hyper t) now ≡ (records_text t show (old_turn (turn_at t schedules es) now) (turn_old_records (turn_at t schedules es) now), [])
   texts_going period root apart =
       let turn = turn_at t schedules es in
       let u = turn now in
       ap (λ o. list_texts t schedules es show o now) root
-      ∙ ap (λ b. (records_text t show (old_turn turn now) (old_records turn now), records_text t show u (cond b (some_records u.plan u.frame 0 (left_before u (suc now))) []))) (ne_eqb (u.frame + u.from) now apart)
+      ∙ ap (λ b. (records_text t show (old_turn turn now) (turn_old_records turn now), records_text t show u (cond b (some_records u.plan u.frame 0 (left_before u (suc now))) []))) (ne_eqb (u.frame + u.from) now apart)
 
   -- where one begins
   pub texts_beginning : (period : ℕ) → hyper t ≡ Some period → (turn_at t schedules es now).frame + (turn_at t schedules es now).from ≡ now
-      → list_texts t schedules es show (hyper t) now ≡ (records_text t show (old_turn (turn_at t schedules es) now) (old_records (turn_at t schedules es) now), beginning_text t schedules es show now)
+      → list_texts t schedules es show (hyper t) now ≡ (records_text t show (old_turn (turn_at t schedules es) now) (turn_old_records (turn_at t schedules es) now), beginning_text t schedules es show now)
   texts_beginning period root here =
       let turn = turn_at t schedules es in
       let u = turn now in
       ap (λ o. list_texts t schedules es show o now) root
-      ∙ ap (λ b. (records_text t show (old_turn turn now) (old_records turn now), records_text t show u (cond b (some_records u.plan u.frame 0 (left_before u (suc now))) []))) (eq-eqb (u.frame + u.from) now here)
+      ∙ ap (λ b. (records_text t show (old_turn turn now) (turn_old_records turn now), records_text t show u (cond b (some_records u.plan u.frame 0 (left_before u (suc now))) []))) (eq-eqb (u.frame + u.from) now here)
 
   -- without modules
   pub texts_alone : hyper t ≡ None → list_texts t schedules es show (hyper t) now ≡ ([], [])
@@ -151,20 +151,20 @@ path_length t code es now =
 
 module _ (t : Tables) (schedules : List (List SInstr)) (es : List Event) (now : ℕ) where
   pub records_going : (period : ℕ) → hyper t ≡ Some period → (turn_at t schedules es now).frame + (turn_at t schedules es now).from ≢ now
-      → records_of t schedules es (hyper t) now ≡ old_records (turn_at t schedules es) now ++ []
+      → records_of t schedules es (hyper t) now ≡ turn_old_records (turn_at t schedules es) now ++ []
   records_going period root apart =
       let turn = turn_at t schedules es in
       let u = turn now in
       ap (λ o. records_of t schedules es o now) root
-      ∙ ap (λ b. old_records turn now ++ cond b (some_records u.plan u.frame 0 (left_before u (suc now))) []) (ne_eqb (u.frame + u.from) now apart)
+      ∙ ap (λ b. turn_old_records turn now ++ cond b (some_records u.plan u.frame 0 (left_before u (suc now))) []) (ne_eqb (u.frame + u.from) now apart)
 
   pub records_beginning : (period : ℕ) → hyper t ≡ Some period → (turn_at t schedules es now).frame + (turn_at t schedules es now).from ≡ now
-      → records_of t schedules es (hyper t) now ≡ old_records (turn_at t schedules es) now ++ first_records t schedules es now
+      → records_of t schedules es (hyper t) now ≡ turn_old_records (turn_at t schedules es) now ++ first_records t schedules es now
   records_beginning period root here =
       let turn = turn_at t schedules es in
       let u = turn now in
       ap (λ o. records_of t schedules es o now) root
-      ∙ ap (λ b. old_records turn now ++ cond b (some_records u.plan u.frame 0 (left_before u (suc now))) []) (eq-eqb (u.frame + u.from) now here)
+      ∙ ap (λ b. turn_old_records turn now ++ cond b (some_records u.plan u.frame 0 (left_before u (suc now))) []) (eq-eqb (u.frame + u.from) now here)
 
   pub records_alone : hyper t ≡ None → records_of t schedules es (hyper t) now ≡ []
   records_alone root = ap (λ o. records_of t schedules es o now) root

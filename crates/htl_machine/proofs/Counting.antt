@@ -10,7 +10,7 @@ use Rattle.htl_ecode.specs.declared.ecode.ECode.{ECode}
 use Rattle.htl_ecode.specs.Paths.{instant_path, e_path}
 use Rattle.htl_refine.specs.Records.{took, AreTookWithin}
 use Rattle.htl_machine.specs.RunLists.{turn_at}
-use Rattle.htl_machine.specs.Texts.{capped, sum_to, some_records, old_records, records_of, TotalsFollow}
+use Rattle.htl_machine.specs.Texts.{capped, sum_to, some_records, turn_old_records, records_of, TotalsFollow}
 use Rattle.htl_machine.specs.ListTurns.{Turn, left_before}
 use Rattle.htl_machine.specs.Follows.{IsLoaded}
 use Rattle.htl_machine.proofs.Events.{Alike, state_same, before_same}
@@ -61,7 +61,7 @@ records_alike t schedules es fs now alike loaded within tooks (Some period) n h 
     ap₂ (λ a b. a ++ b) (old n h)
     (ap (λ (u : Turn). cond (eqb (u.frame + u.from) n) (some_records u.plan u.frame 0 (left_before u (suc n))) []) (turn_same t schedules es fs now alike loaded within tooks n h))
   where
-    old : (n : ℕ) → n < now → old_records (turn_at t schedules es) n ≡ old_records (turn_at t schedules fs) n
+    old : (n : ℕ) → n < now → turn_old_records (turn_at t schedules es) n ≡ turn_old_records (turn_at t schedules fs) n
     old zero h = refl
     old (suc n) h =
         ap (λ (u : Turn). some_records u.plan u.frame (left_before u (suc n)) (left_before u (suc (suc n)) - left_before u (suc n))) (turn_same t schedules es fs now alike loaded within tooks n (omega (arith, h)))

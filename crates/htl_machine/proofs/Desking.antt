@@ -7,8 +7,8 @@ use Rattle.htl_walk.specs.declared.schedule.SInstr.{SInstr}
 use Rattle.htl_walk.specs.declared.schedule.SInstr.TheVariants.{Dispatch, Idle, End}
 use Rattle.htl_walk.specs.Walk.{Point, Left, job_at, time_after, next_point, walk_from, InForm}
 use Rattle.htl_smach.specs.Rounds as rounds
-use Rattle.htl_smach.specs.Rounds.{Round, begun, told, told_from, records, next_left, left_until, moved}
-use Rattle.htl_refine.specs.RecordCounts.{count_before}
+use Rattle.htl_smach.specs.Rounds.{Round, round_begun, told, told_from, walk_records, next_left, left_until, moved}
+use Rattle.htl_refine.specs.RecordCounts.{count_left_before}
 use Rattle.htl_refine.specs.ListPlans.{ListPlan as Plan, list_walk}
 use Rattle.htl_machine.specs.Follows.{released_before, DeskStands, DeskAt}
 use Rattle.htl_walk.proofs.Finishes.{some_same}
@@ -29,11 +29,11 @@ record_there [] k h = absurd (omega arith)
 record_there (l ∷ ls) zero h = (l, refl)
 record_there (l ∷ ls) (suc k) h = record_there ls k (omega arith)
 
-pub count_within : (e : ℕ) (ls : List Left) → count_before e ls ≤ length ls
+pub count_within : (e : ℕ) (ls : List Left) → count_left_before e ls ≤ length ls
 count_within e [] = omega arith
 count_within e (l ∷ ls) = by_test (ltb l.at e) (count_within e ls)
   where
-    by_test : (b : Bool) → count_before e ls ≤ length ls → cond b (suc (count_before e ls)) 0 ≤ suc (length ls)
+    by_test : (b : Bool) → count_left_before e ls ≤ length ls → cond b (suc (count_left_before e ls)) 0 ≤ suc (length ls)
     by_test true h = omega arith
     by_test false h = omega arith
 
@@ -41,7 +41,7 @@ module _ (p : Plan) (s now d : ℕ) (past : s ≤ now) where
   abbrev pub ls : List Left
   ls = list_walk p
 
-  record_of : (k : ℕ) (r : Round) → DeskAt p s k d r → slice_get (records r p.schedule) r.place ≡ option_map (told s k) (slice_get ls k)
+  record_of : (k : ℕ) (r : Round) → DeskAt p s k d r → slice_get (walk_records r p.schedule) r.place ≡ option_map (told s k) (slice_get ls k)
   record_of k r at =
       ap₂ (λ (js : List Job) (x : Point). slice_get (told_from r.start 0 (walk_from js p.schedule x)) r.place) at.jobs at.first
       ∙ told_get r.start 0 ls r.place
@@ -49,7 +49,7 @@ module _ (p : Plan) (s now d : ℕ) (past : s ≤ now) where
       ∙ ap (λ z. option_map (told s z) (slice_get ls k)) (let e : 0 + k ≡ k = omega arith in e)
 
   -- while records are left up to the instant, the next is answered
-  pub next_some : (k : ℕ) (r : Round) → DeskAt p s k d r → k < count_before (suc now - s) ls → (l : Left) × (slice_get ls k ≡ Some l) × (next_left r p.schedule now ≡ Some (told s k l))
+  pub next_some : (k : ℕ) (r : Round) → DeskAt p s k d r → k < count_left_before (suc now - s) ls → (l : Left) × (slice_get ls k ≡ Some l) × (next_left r p.schedule now ≡ Some (told s k l))
   next_some k r at h =
       let few : k < length ls = omega (arith, count_within (suc now - s) ls) in
       let l = record_there ls k few in
@@ -58,12 +58,12 @@ module _ (p : Plan) (s now d : ℕ) (past : s ≤ now) where
       let within : leb (s + l.0.at) now ≡ true = le-leb (s + l.0.at) now (omega (arith, early)) in (
         l.0,
         l.1,
-        ap (λ b. cond b (left_until now (slice_get (records r p.schedule) r.place)) None) runs
+        ap (λ b. cond b (left_until now (slice_get (walk_records r p.schedule) r.place)) None) runs
             ∙ ap (left_until now) (record_of k r at ∙ ap (option_map (told s k)) l.1) ∙ ap (λ b. cond b (Some (told s k l.0)) None) within,
       )
 
   -- and then none
-  pub next_none : (k : ℕ) (r : Round) → DeskAt p s k d r → k ≡ count_before (suc now - s) ls → next_left r p.schedule now ≡ None
+  pub next_none : (k : ℕ) (r : Round) → DeskAt p s k d r → k ≡ count_left_before (suc now - s) ls → next_left r p.schedule now ≡ None
   next_none k r at e =
       ap (λ o. cond r.running (left_until now o) None) (record_of k r at) ∙ by_record (slice_get ls k) refl r.running
     where
@@ -92,7 +92,7 @@ module _ (p : Plan) (s now d : ℕ) (past : s ≤ now) where
       }
 
 -- before the instant it stands at the records before it
-pub desk_opens : (p : Plan) (s now : ℕ) (r : Round) → DeskStands p s now r → DeskAt p s (count_before (now - s) (list_walk p)) (now - s) r
+pub desk_opens : (p : Plan) (s now : ℕ) (r : Round) → DeskStands p s now r → DeskAt p s (count_left_before (now - s) (list_walk p)) (now - s) r
 desk_opens p s now r f =
     record {
       start = f.start;
@@ -106,7 +106,7 @@ desk_opens p s now r f =
     }
 
 -- and once all records of it are given and all releases told, it stands before the next
-pub desk_closes : (p : Plan) (s now : ℕ) (r : Round) → DeskAt p s (count_before (suc now - s) (list_walk p)) (suc now - s) r → DeskStands p s (suc now) r
+pub desk_closes : (p : Plan) (s now : ℕ) (r : Round) → DeskAt p s (count_left_before (suc now - s) (list_walk p)) (suc now - s) r → DeskStands p s (suc now) r
 desk_closes p s now r at =
     record {
       start = at.start;
@@ -137,12 +137,12 @@ times_within jobs count period (Dispatch q until ∷ is) x f h (suc k) l e =
 times_within jobs count period (Idle until ∷ is) x f h zero l e = omega (arith, h, f.0, ap (λ (z : Left). z.at) (some_same _ _ e))
 times_within jobs count period (Idle until ∷ is) x f h (suc k) l e = times_within jobs count period is (next_point jobs (Idle until) x) f.1 (omega (arith, h, f.0)) k l e
 
-count_all : (e : ℕ) (ls : List Left) → ((k : ℕ) (l : Left) → slice_get ls k ≡ Some l → l.at < e) → count_before e ls ≡ length ls
+count_all : (e : ℕ) (ls : List Left) → ((k : ℕ) (l : Left) → slice_get ls k ≡ Some l → l.at < e) → count_left_before e ls ≡ length ls
 count_all e [] h = refl
-count_all e (l ∷ ls) h = ap (λ b. cond b (suc (count_before e ls)) 0) (lt-ltb l.at e (h 0 l refl)) ∙ ap suc (count_all e ls (λ k m g. h (suc k) m g))
+count_all e (l ∷ ls) h = ap (λ b. cond b (suc (count_left_before e ls)) 0) (lt-ltb l.at e (h 0 l refl)) ∙ ap suc (count_all e ls (λ k m g. h (suc k) m g))
 
 -- then all its records are given
-pub all_given : (p : Plan) (s now count period : ℕ) → InForm count period p.schedule → p.first.time ≤ period → now ≡ s + period → count_before (suc now - s) (list_walk p) ≡ length p.schedule
+pub all_given : (p : Plan) (s now count period : ℕ) → InForm count period p.schedule → p.first.time ≤ period → now ≡ s + period → count_left_before (suc now - s) (list_walk p) ≡ length p.schedule
 all_given p s now count period form early e =
     count_all (suc now - s) (list_walk p)
     (λ k l g. let z : l.at ≤ period = times_within p.jobs count period p.schedule p.first form early k l g in omega arith)

@@ -8,7 +8,7 @@ use Rattle.htl_model.specs.declared.state.Stay.{Stay}
 use Rattle.htl_model.specs.declared.state.Write.{Write}
 use Rattle.htl_model.specs.Tables.{Tables, comm_period, mode_module, is_concrete}
 use Rattle.htl_model.specs.Meaning.{stay_of, end_to, in_round, round_start, write_in, with_start, write_from}
-use Rattle.htl_machine.specs.Values.{Stands, IsDue}
+use Rattle.htl_machine.specs.Values.{InvStands, IsDue}
 use Rattle.htl_walk.proofs.Finishes.{some_same}
 use Rattle.htl_refine.proofs.RecordOrder.{not_some}
 use Rattle.htl_machine.proofs.Plain.{both}
@@ -53,14 +53,14 @@ no_end t c s now q (E.Comm a m ∷ ends) e d n at h = by_test (eqb c a && eqb (s
         all x y e f = grind arith
 
 -- the round in which an invocation stands
-round_stands : (t : Tables) (stays : List (Option Stay)) (i s : ℕ) (x : Inv) → slice_get t.invs i ≡ Some x → round_start t stays x ≡ Some s → Stands t stays i x s
+round_stands : (t : Tables) (stays : List (Option Stay)) (i s : ℕ) (x : Inv) → slice_get t.invs i ≡ Some x → round_start t stays x ≡ Some s → InvStands t stays i x s
 round_stands t stays i s x at e = by_test (is_concrete t x) refl e
   where
-    by_stay : is_concrete t x ≡ true → (o : Option Stay) → stay_of stays (mode_module t x.mode) ≡ o → in_round o x.mode ≡ Some s → Stands t stays i x s
+    by_stay : is_concrete t x ≡ true → (o : Option Stay) → stay_of stays (mode_module t x.mode) ≡ o → in_round o x.mode ≡ Some s → InvStands t stays i x s
     by_stay con None is f = not_some s f
     by_stay con (Some y) is f = by_mode (eqb y.mode x.mode) refl f
       where
-        by_mode : (b : Bool) → eqb y.mode x.mode ≡ b → ◌≡◌ {A = Option ℕ} (cond b (Some y.start) None) (Some s) → Stands t stays i x s
+        by_mode : (b : Bool) → eqb y.mode x.mode ≡ b → ◌≡◌ {A = Option ℕ} (cond b (Some y.start) None) (Some s) → InvStands t stays i x s
         by_mode true m g =
             record {
               known = at;
@@ -69,11 +69,11 @@ round_stands t stays i s x at e = by_test (is_concrete t x) refl e
             }
         by_mode false m g = not_some s g
 
-    by_test : (b : Bool) → is_concrete t x ≡ b → ◌≡◌ {A = Option ℕ} (cond b (in_round (stay_of stays (mode_module t x.mode)) x.mode) None) (Some s) → Stands t stays i x s
+    by_test : (b : Bool) → is_concrete t x ≡ b → ◌≡◌ {A = Option ℕ} (cond b (in_round (stay_of stays (mode_module t x.mode)) x.mode) None) (Some s) → InvStands t stays i x s
     by_test true con g = by_stay con (stay_of stays (mode_module t x.mode)) refl g
     by_test false con g = not_some s g
 
-pub stands_round : (t : Tables) (stays : List (Option Stay)) (i s : ℕ) (x : Inv) → Stands t stays i x s → round_start t stays x ≡ Some s
+pub stands_round : (t : Tables) (stays : List (Option Stay)) (i s : ℕ) (x : Inv) → InvStands t stays i x s → round_start t stays x ≡ Some s
 stands_round t stays i s x st =
     ap (λ b. cond b (in_round (stay_of stays (mode_module t x.mode)) x.mode) None) st.concrete
     ∙ ap (λ o. in_round o x.mode) st.in_round ∙ ap (λ b. cond b (Some s) None) (eq-eqb x.mode x.mode refl)

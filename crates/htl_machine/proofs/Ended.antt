@@ -22,7 +22,7 @@ use Rattle.htl_machine.specs.Programs.{lines_of, schedules_of}
 use Rattle.htl_machine.specs.Starting.{instrs_of}
 use Rattle.htl_walk.specs.declared.schedule.Schedule.{Schedule}
 use Rattle.htl_machine.specs.Texts.{record_text, list_texts, some_records}
-use Rattle.htl_machine.specs.Timing.{begins}
+use Rattle.htl_machine.specs.Timing.{some_round_begins}
 use Rattle.htl_machine.proofs.After.{lines_are_composed, text_goes_on, text_begins}
 use Rattle.htl_machine.proofs.Beginnings.{then_more}
 
@@ -59,13 +59,13 @@ module _ (m : Seen) (es : List Event) (now : ℕ) (accepted : IsAccepted m.objec
         subst (λ z. Puts {T = S} {E = F} w0 w f0 f z result) (lines_are_composed m es now accepted read u steps r new is)
         (Puts-second w0 w1 w f0 f1 f first (closing_text t code es m.show now ++ new) result a.whole a.cause.kept puts)
 
-    pub going_closed : {T S E F : Type 0} (w0 w1 w : Option (List ℕ)) (f0 f1 f : ℕ) (x : T) (result : Result S F) → begins m.object.tables now ≡ false
+    pub going_closed : {T S E F : Type 0} (w0 w1 w : Option (List ℕ)) (f0 f1 f : ℕ) (x : T) (result : Result S F) → some_round_begins m.object.tables now ≡ false
         → Opens {T = T} {E = E} m.object.tables m.object.ecode es m.show (node_by m.list) m.held.desk steps now w0 w1 f0 f1 (Ok x)
         → Puts {T = S} {E = F} w1 w f1 f (closing_text m.object.tables m.object.ecode es m.show now) result → Puts {T = S} {E = F} w0 w f0 f (lines_of m.object es m.show now) result
     going_closed {S = S} {F = F} w0 w1 w f0 f1 f x result b opens puts =
         closed [] w0 w1 w f0 f1 f x result (text_goes_on m es now accepted read u b) opens (subst (λ z. Puts {T = S} {E = F} w1 w f1 f z result) (sym (append-nil (closing_text t code es m.show now))) puts)
 
-    pub begun_closed : {T S E F : Type 0} (w0 w1 w : Option (List ℕ)) (f0 f1 f : ℕ) (x : T) (result : Result S F) → begins m.object.tables now ≡ true
+    pub begun_closed : {T S E F : Type 0} (w0 w1 w : Option (List ℕ)) (f0 f1 f : ℕ) (x : T) (result : Result S F) → some_round_begins m.object.tables now ≡ true
         → Opens {T = T} {E = E} m.object.tables m.object.ecode es m.show (node_by m.list) m.held.desk steps now w0 w1 f0 f1 (Ok x)
         → Puts {T = S} {E = F} w1 w f1 f (closing_text m.object.tables m.object.ecode es m.show now ++ beginning_text m.object.tables (schedules_of m.object) es m.show now) result
         → Puts {T = S} {E = F} w0 w f0 f (lines_of m.object es m.show now) result
@@ -73,7 +73,7 @@ module _ (m : Seen) (es : List Event) (now : ℕ) (accepted : IsAccepted m.objec
 
     -- the same, where the tables, the code and the schedules are named otherwise
     pub begun_closed_at : {T S E F : Type 0} (t1 : Tables) (code1 : ECode) (ss : List Schedule) (w0 w1 w : Option (List ℕ)) (f0 f1 f : ℕ) (x : T) (result : Result S F) → t1 ≡ m.object.tables → code1 ≡ m.object.ecode
-        → ss ≡ m.object.schedules → begins m.object.tables now ≡ true → Opens {T = T} {E = E} m.object.tables m.object.ecode es m.show (node_by m.list) m.held.desk steps now w0 w1 f0 f1 (Ok x)
+        → ss ≡ m.object.schedules → some_round_begins m.object.tables now ≡ true → Opens {T = T} {E = E} m.object.tables m.object.ecode es m.show (node_by m.list) m.held.desk steps now w0 w1 f0 f1 (Ok x)
         → Puts {T = S} {E = F} w1 w f1 f (closing_text t1 code1 es m.show now ++ beginning_text t1 (instrs_of ss) es m.show now) result → Puts {T = S} {E = F} w0 w f0 f (lines_of m.object es m.show now) result
     begun_closed_at {S = S} {F = F} t1 code1 ss w0 w1 w f0 f1 f x result same same_code same_schedules b opens puts =
         begun_closed w0 w1 w f0 f1 f x result b opens

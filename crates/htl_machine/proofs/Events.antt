@@ -14,8 +14,8 @@ use Rattle.htl_model.proofs.Laws.{seen_before}
 use Rattle.htl_model.proofs.Locality.{history_local}
 use Rattle.htl_walk.specs.Walk.{Left, earlier}
 use Rattle.htl_emach.specs.Contents.{Content}
-use Rattle.htl_machine.specs.Values.{Stands, HasRead, ValuesFollow, values_before}
-use Rattle.htl_refine.specs.RecordCounts.{count_before, Rises}
+use Rattle.htl_machine.specs.Values.{InvStands, HasReadInputs, ValuesFollow, values_before}
+use Rattle.htl_refine.specs.RecordCounts.{count_left_before, Rises}
 use Rattle.htl_refine.specs.Records.{last_took, inv_worst, took}
 use Rattle.htl_machine.specs.Follows.{reading_of}
 use Rattle.htl_machine.proofs.Outs.{out_seen}
@@ -97,7 +97,7 @@ seen_same t es fs now a = fun_ext (λ c. fun_ext (λ u. by_test c u (ltb u now) 
 
 -- the world follows on with other events that agree before the instant
 pub values_alike : (t : Tables) (range : AreInRange t) (kept : KeptApart t 12) (es fs : List Event) (now : ℕ) (finished : ℕ → Bool) (w : Content) → Alike t es fs now
-    → ((i : ℕ) (x : Inv) (s : ℕ) → Stands t (before t es now).stays i x s → finished i ≡ true → HasRead t now finished x s)
+    → ((i : ℕ) (x : Inv) (s : ℕ) → InvStands t (before t es now).stays i x s → finished i ≡ true → HasReadInputs t now finished x s)
     → ValuesFollow t es now finished w → ValuesFollow t fs now finished w
 values_alike t range kept es fs now finished w a read f =
     record {
@@ -111,13 +111,13 @@ values_alike t range kept es fs now finished w a read f =
           ∙ out_seen t range kept fs now finished (λ j y r sj fj. read j y r (back j y r sj) fj) (length t.invs) i s k x st fin;
     }
   where
-    back : (i : ℕ) (x : Inv) (s : ℕ) → Stands t (before t fs now).stays i x s → Stands t (before t es now).stays i x s
-    back i x s st = subst (λ (z : State). Stands t z.stays i x s) (sym (before_same t es fs now a)) st
+    back : (i : ℕ) (x : Inv) (s : ℕ) → InvStands t (before t fs now).stays i x s → InvStands t (before t es now).stays i x s
+    back i x s st = subst (λ (z : State). InvStands t z.stays i x s) (sym (before_same t es fs now a)) st
 
 -- ---- lengths that agree for what is released before an offset
 
 -- the records before an offset are those in front
-pub front_is : (a e : ℕ) (ls : List Left) → Rises a ls → take (count_before e ls) ls ≡ earlier e ls
+pub front_is : (a e : ℕ) (ls : List Left) → Rises a ls → take (count_left_before e ls) ls ≡ earlier e ls
 front_is a e [] r = refl
 front_is a e (l ∷ ls) r = by_test (ltb l.at e) refl (front_is l.at e ls r.1)
   where
@@ -126,14 +126,14 @@ front_is a e (l ∷ ls) r = by_test (ltb l.at e) refl (front_is l.at e ls r.1)
     none_later a (m ∷ ms) r h =
         ap (λ b. cond b (m ∷ earlier e ms) (earlier e ms)) (let z : ltb m.at e ≡ false = le-ltb m.at e (omega (arith, r.0)) in z) ∙ none_later m.at ms r.1 (omega (arith, r.0))
 
-    by_test : (b : Bool) → ltb l.at e ≡ b → take (count_before e ls) ls ≡ earlier e ls → take (cond b (suc (count_before e ls)) 0) (l ∷ ls) ≡ cond b (l ∷ earlier e ls) (earlier e ls)
+    by_test : (b : Bool) → ltb l.at e ≡ b → take (count_left_before e ls) ls ≡ earlier e ls → take (cond b (suc (count_left_before e ls)) 0) (l ∷ ls) ≡ cond b (l ∷ earlier e ls) (earlier e ls)
     by_test true g ih = ap (λ z. l ∷ z) ih
     by_test false g ih = sym (none_later l.at ls r.1 (ltb-false l.at e g))
 
-pub length-front : (e : ℕ) (ls : List Left) → length (take (count_before e ls) ls) ≡ count_before e ls
+pub length-front : (e : ℕ) (ls : List Left) → length (take (count_left_before e ls) ls) ≡ count_left_before e ls
 length-front e [] = refl
 length-front e (l ∷ ls) = by_test (ltb l.at e) (length-front e ls)
   where
-    by_test : (b : Bool) → length (take (count_before e ls) ls) ≡ count_before e ls → length (take (cond b (suc (count_before e ls)) 0) (l ∷ ls)) ≡ cond b (suc (count_before e ls)) 0
+    by_test : (b : Bool) → length (take (count_left_before e ls) ls) ≡ count_left_before e ls → length (take (cond b (suc (count_left_before e ls)) 0) (l ∷ ls)) ≡ cond b (suc (count_left_before e ls)) 0
     by_test true ih = ap suc ih
     by_test false ih = refl

@@ -17,7 +17,7 @@ use Rattle.htl_model.specs.Meaning.{before, stay_of, val, out, out_by, input_val
 use Rattle.htl_emach.specs.Contents.{Content, buffer, argument, arguments, made, completed}
 use Rattle.htl_emach.proofs.Completing.{concrete_task}
 use Rattle.htl_emach.proofs.Soundness.{has_ends}
-use Rattle.htl_machine.specs.Values.{Stands, HasRead, Orders, and_also, HasPlaces, ValuesFollow, out_val}
+use Rattle.htl_machine.specs.Values.{InvStands, HasReadInputs, Orders, and_also, HasPlaces, ValuesFollow, out_val}
 use Rattle.htl_walk.proofs.Finishes.{some_same}
 use Rattle.htl_machine.proofs.Outs.{writer_is, writer_stands, out_stable, below, below_less, below_more}
 use Rattle.htl_machine.proofs.Plain.{length-list_to}
@@ -61,7 +61,7 @@ outputs_many t i x range kept at concrete =
 -- ---- one job more
 
 module _ (t : Tables) (range : AreInRange t) (kept : KeptApart t 12) (es : List Event) (now : ℕ) (finished : ℕ → Bool) (w : Content) (follows : ValuesFollow t es now finished w)
-    (i s : ℕ) (x : Inv) (st : Stands t (before t es now).stays i x s) (unfinished : finished i ≡ false) (read : HasRead t now finished x s) (r : ℕ → ℕ) (order : Orders t x.mode r) where
+    (i s : ℕ) (x : Inv) (st : InvStands t (before t es now).stays i x s) (unfinished : finished i ≡ false) (read : HasReadInputs t now finished x s) (r : ℕ → ℕ) (order : Orders t x.mode r) where
   -- the argument at an end, where one step less is enough
   argument_is : (n j : ℕ) (e : End) → length t.invs ≡ suc n → slice_get x.reads j ≡ Some e
       → argument t w x.mode i (j, e) ≡ input_value t (val t es) (λ v o. out n t (val t es) v s o) x.mode s e
@@ -96,7 +96,7 @@ module _ (t : Tables) (range : AreInRange t) (kept : KeptApart t 12) (es : List 
   put : (completed t i w).outputs ≡ set w.outputs i (made t x.task (arguments t w i x))
   put = ap (λ (o : Option Inv). elim o [ Some y ↦ set w.outputs i (made t y.task (arguments t w i y)) | None ↦ w.outputs ]) st.known
 
-  outputs_are : HasPlaces t w → (j : ℕ) (y : Inv) (u k : ℕ) → Stands t (before t es now).stays j y u → and_also i finished j ≡ true → k < length y.writes
+  outputs_are : HasPlaces t w → (j : ℕ) (y : Inv) (u k : ℕ) → InvStands t (before t es now).stays j y u → and_also i finished j ≡ true → k < length y.writes
       → (b : Bool) → eqb j i ≡ b → buffer (completed t i w).outputs j k ≡ out_val t es j u k
   outputs_are shape j y u k sj fin h false is =
       let other : j ≢ i = eqb-false j i is in

@@ -5,7 +5,7 @@ use Rattle.htl_model.specs.Frames.{frame_of}
 use Rattle.htl_model.specs.Tables.{Tables}
 use Rattle.htl_walk.specs.declared.job.Job.{Job}
 use Rattle.htl_smach.specs.Adding.{CanBegin}
-use Rattle.htl_smach.specs.Rounds.{Round, begun, added}
+use Rattle.htl_smach.specs.Rounds.{Round, round_begun, added}
 use Rattle.htl_refine.specs.BegunJobs.{new_jobs}
 use Rattle.htl_machine.specs.ListBegun.{list_begun, CanStart}
 use Rattle.htl_machine.specs.Starting.{kept_lengths}
@@ -50,7 +50,7 @@ module _ (t : Tables) (modes ms : List (Option ℕ)) (takes : List ℕ) (at fram
       let first = new_jobs t modes (at % frame_of t) 0 in
       let new = new_jobs t modes (at % frame_of t) (length r.jobs) in
       is ∙ ap (λ js. added r at js (kept_lengths takes js)) later_jobs
-      ∙ sym (ap (λ b. cond b (begun at first (kept_lengths takes first)) (added r at new (kept_lengths takes new))) (sym (ap (λ f. eqb (at % f) 0) ticks) ∙ more))
+      ∙ sym (ap (λ b. cond b (round_begun at first (kept_lengths takes first)) (added r at new (kept_lengths takes new))) (sym (ap (λ f. eqb (at % f) 0) ticks) ∙ more))
 
   pub later_all : (d : Round) → d ≡ added r at (take (end - from) (drop from out)) (kept_lengths takes (take (end - from) (drop from out))) → (take end out ≡ d.jobs) × (end ≡ length d.jobs)
   later_all d is =

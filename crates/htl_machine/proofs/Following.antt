@@ -15,11 +15,11 @@ use Rattle.htl_model.specs.Meaning.{sense, before}
 use Rattle.htl_walk.specs.declared.schedule.SInstr.{SInstr}
 use Rattle.htl_smach.specs.Rounds.{Round}
 use Rattle.htl_emach.specs.Contents.{Content}
-use Rattle.htl_machine.specs.Values.{Stands, HasRead, ValuesFollow, HasPlaces}
+use Rattle.htl_machine.specs.Values.{InvStands, HasReadInputs, ValuesFollow, HasPlaces}
 use Rattle.htl_refine.specs.Records.{took, IsTookWithin, AreTookWithin}
 use Rattle.htl_machine.specs.Plans.{finished_before, next_world}
-use Rattle.htl_machine.specs.Follows.{Held, reading_of, DeskStands, DeskFollows, UpTo, Follows, IsLoaded, at_reading, shown_as}
-use Rattle.htl_machine.specs.ListTurns.{Turn, left_before, finished_by}
+use Rattle.htl_machine.specs.Follows.{Held, reading_of, DeskStands, DeskFollows, UpTo, HeldFollows, IsLoaded, at_reading, shown_as}
+use Rattle.htl_machine.specs.ListTurns.{Turn, left_before, turn_finished_by}
 use Rattle.htl_machine.specs.RunLists.{turn_by, turn_at}
 use Rattle.htl_machine.proofs.Shaping.{has_places}
 use Rattle.htl_machine.proofs.ListValues.{read_before, values_carried}
@@ -43,7 +43,7 @@ module _ (t : Tables) (schedules : List (List SInstr)) (es fs : List Event) (now
 
   finished_alike : (n i : ℕ) → n ≤ now → finished_before (turn_at t schedules es) n i ≡ finished_before (turn_at t schedules fs) n i
   finished_alike zero i h = refl
-  finished_alike (suc n) i h = ap (λ (u : Turn). finished_by u (left_before u (suc n)) i) (turn_same n (omega (arith, h)))
+  finished_alike (suc n) i h = ap (λ (u : Turn). turn_finished_by u (left_before u (suc n)) i) (turn_same n (omega (arith, h)))
 
   desk_alike : (root : Option ℕ) (n : ℕ) (r : Round) → n ≤ now → DeskFollows (turn_at t schedules es) root n r → DeskFollows (turn_at t schedules fs) root n r
   desk_alike None n r h f = f
@@ -54,7 +54,7 @@ module _ (t : Tables) (schedules : List (List SInstr)) (es fs : List Event) (now
 
 module _ (t : Tables) (schedules : List (List SInstr)) (loaded : IsLoaded t schedules) (es : List Event) (within : AreTookWithin t es) where
   -- who is finished has read
-  pub all_read : (now i : ℕ) (x : Inv) (s : ℕ) → Stands t (before t es now).stays i x s → finished_before (turn_at t schedules es) now i ≡ true → HasRead t now (finished_before (turn_at t schedules es) now) x s
+  pub all_read : (now i : ℕ) (x : Inv) (s : ℕ) → InvStands t (before t es now).stays i x s → finished_before (turn_at t schedules es) now i ≡ true → HasReadInputs t now (finished_before (turn_at t schedules es) now) x s
   all_read now i x s st fin = read_before t loaded.range loaded.kept es (turn_at t schedules es) (loaded_turns t schedules loaded es within) now i x s st fin
 
   values_same : (fs : List Event) (now : ℕ) (w : Content) → Alike t es fs now → ((i u : ℕ) → took t es i u ≡ took t fs i u)
@@ -64,7 +64,7 @@ module _ (t : Tables) (schedules : List (List SInstr)) (loaded : IsLoaded t sche
       (values_alike t loaded.range loaded.kept es fs now (finished_before (turn_at t schedules es) now) w alike (λ i x s st fin. all_read now i x s st fin) f)
 
   -- a reading
-  pub read_follows : (to : ℕ) (m : Held) → m.spent ≡ false → UpTo t schedules es to m → Follows t schedules (es ++ V.At to ∷ []) (at_reading to m)
+  pub read_follows : (to : ℕ) (m : Held) → m.spent ≡ false → UpTo t schedules es to m → HeldFollows t schedules (es ++ V.At to ∷ []) (at_reading to m)
   read_follows to m open_yet up =
       let fs = es ++ V.At to ∷ [] in
       let reading : reading_of 0 fs ≡ to = reading_more 0 es (V.At to) in
@@ -87,7 +87,7 @@ module _ (t : Tables) (schedules : List (List SInstr)) (loaded : IsLoaded t sche
       }
 
   -- a sensor that shows another value from now on
-  pub sense_follows : (d : ℕ) (y : ℤ) (m : Held) → d < length t.comms → IfSome (slice_get t.comms d) (λ x. FitsType x.ty y) → Follows t schedules es m → Follows t schedules (es ++ V.Sense d y ∷ []) (shown_as d y m)
+  pub sense_follows : (d : ℕ) (y : ℤ) (m : Held) → d < length t.comms → IfSome (slice_get t.comms d) (λ x. FitsType x.ty y) → HeldFollows t schedules es m → HeldFollows t schedules (es ++ V.Sense d y ∷ []) (shown_as d y m)
   sense_follows d y m known fits f =
       let fs = es ++ V.Sense d y ∷ [] in
       let more : reading_of 0 fs ≡ reading_of 0 es = reading_more 0 es (V.Sense d y) in

@@ -10,13 +10,13 @@ use Rattle.htl_model.specs.Tables.{Tables}
 use Rattle.htl_model.proofs.Locality.{up_to_same}
 use Rattle.htl_walk.specs.declared.job.Job.{Job}
 use Rattle.htl_walk.specs.declared.schedule.SInstr.{SInstr}
-use Rattle.htl_walk.specs.Paths.{Leg, begun, walks_from, end_to_end}
+use Rattle.htl_walk.specs.Paths.{Leg, list_point, walks_from, end_to_end}
 use Rattle.htl_walk.specs.Walk.{Left, Point, first_point, last_point, walk_from}
 use Rattle.htl_refine.specs.FrameRecords.{RunningList, lists_from, left_in, begun_before}
 use Rattle.htl_refine.specs.FrameRuns.{Frame, frame_modes, path_of, frame_at, walk_of}
 use Rattle.htl_refine.specs.RecordCounts.{Rises}
 use Rattle.htl_refine.specs.Records.{rounds_before, shifted}
-use Rattle.htl_machine.specs.JobLines.{RunLine, slice_of, job_lines_of, frame_job_lines, job_lines_at}
+use Rattle.htl_machine.specs.JobLines.{RunLine, closed_slice_line, job_lines_of, frame_job_lines, job_lines_at}
 use Rattle.htl_machine.specs.JobLines.RunLine.{SliceLine, DoneLine}
 use Rattle.htl_machine.specs.Texts.{inv_at}
 use Rattle.htl_machine.proofs.JobLines.{none_first, begins_silent, joined-up_to}
@@ -87,19 +87,19 @@ module _ {X : Type 0} (h : RunLine → List X) where
       ≡ joined (at_now (owed all f) f now) (end_to_end (walks_from jobs ss gs x))
   of_lists t number f now j all jobs [] gs x = refl
   of_lists t number f now j all jobs (s ∷ ss) [] x = refl
-  of_lists t number f now j all jobs (s ∷ ss) (g ∷ gs) x = by (ltb (f + g.from) now) refl (of_lists t number f now (suc j) all jobs ss gs (last_point jobs s (begun g.from x)))
+  of_lists t number f now j all jobs (s ∷ ss) (g ∷ gs) x = by (ltb (f + g.from) now) refl (of_lists t number f now (suc j) all jobs ss gs (last_point jobs s (list_point g.from x)))
     where
       ls : List Left
-      ls = walk_from jobs s (begun g.from x)
+      ls = walk_from jobs s (list_point g.from x)
 
       more : List Left
-      more = end_to_end (walks_from jobs ss gs (last_point jobs s (begun g.from x)))
+      more = end_to_end (walks_from jobs ss gs (last_point jobs s (list_point g.from x)))
 
       r : RunningList
       r = record { from = f + g.from; node = number j; code = s; walk = ls }
 
       rest : List RunningList
-      rest = filter (begun_before now) (lists_from number f (suc j) ss gs (walks_from jobs ss gs (last_point jobs s (begun g.from x))))
+      rest = filter (begun_before now) (lists_from number f (suc j) ss gs (walks_from jobs ss gs (last_point jobs s (list_point g.from x))))
 
       lines : RunningList → List RunLine
       lines r = joined (job_lines_of all) (left_in now f r)
@@ -115,7 +115,7 @@ module _ {X : Type 0} (h : RunLine → List X) where
       by true e next = joined-append h (lines r) (joined lines rest) ∙ ap₂ (λ (xs ys : List X). xs ++ ys) here next ∙ sym split
       by false e next =
           let late : now ≤ f + g.from = ltb-false (f + g.from) now e in
-          let none : lines r ≡ [] = none_first t all f now 0 ls (λ i l at same. silent_at jobs s (begun g.from x) l.at i l (omega (arith, late, same)) at refl) in
+          let none : lines r ≡ [] = none_first t all f now 0 ls (λ i l at same. silent_at jobs s (list_point g.from x) l.at i l (omega (arith, late, same)) at refl) in
           next ∙ ap (λ (xs : List X). xs ++ joined (at_now (owed all f) f now) more) (sym (ap (joined h) none) ∙ here) ∙ sym split
 
   module _ (t : Tables) (lists : List (List SInstr)) (es : List Event) where
@@ -134,13 +134,13 @@ module _ {X : Type 0} (h : RunLine → List X) where
       -- a record that is left at another time, or does nothing, gives nothing
       gives_none : (jobs : List Job) (f : ℕ) (l : Left) → (DoesWork l → ((ltb s (f + l.at) && leb (f + l.at) e) ≡ false) × ((u : ℕ × ℕ) → l.slice ≡ Some u → u.1 ≡ l.at)) → owed jobs f l ≡ []
       gives_none jobs f l out =
-          joined-append h (slice_of inv (option_map (λ (u : ℕ × ℕ). (f + u.0, f + u.1)) l.slice)) (cond l.finished (DoneLine (f + l.at) inv ∷ []) [])
+          joined-append h (closed_slice_line inv (option_map (λ (u : ℕ × ℕ). (f + u.0, f + u.1)) l.slice)) (cond l.finished (DoneLine (f + l.at) inv ∷ []) [])
           ∙ ap₂ (λ (xs ys : List X). xs ++ ys) (no_slice l.slice refl) (no_done l.finished refl)
         where
           inv : ℕ
           inv = inv_at jobs l.position
 
-          no_slice : (o : Option (ℕ × ℕ)) → l.slice ≡ o → joined h (slice_of inv (option_map (λ (u : ℕ × ℕ). (f + u.0, f + u.1)) o)) ≡ []
+          no_slice : (o : Option (ℕ × ℕ)) → l.slice ≡ o → joined h (closed_slice_line inv (option_map (λ (u : ℕ × ℕ). (f + u.0, f + u.1)) o)) ≡ []
           no_slice None has = refl
           no_slice (Some u) has =
               let w = out (inl (u, has)) in

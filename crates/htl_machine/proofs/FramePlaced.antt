@@ -30,7 +30,7 @@ use Rattle.htl_model.proofs.FrameRules.{frame_divided}
 use Rattle.htl_refine.specs.DerivedPaths.{derived_place}
 use Rattle.htl_refine.specs.FrameRuns.{frame_modes, frame_places}
 use Rattle.htl_refine.specs.FramePlaces.{place, standing_places, AreOrdered}
-use Rattle.htl_machine.specs.Values.{Stands}
+use Rattle.htl_machine.specs.Values.{InvStands}
 use Rattle.htl_walk.proofs.Finishes.{some_same}
 use Rattle.htl_refine.proofs.RecordOrder.{not_some}
 use Rattle.htl_walk.proofs.Work.{all_at}
@@ -227,7 +227,7 @@ module _ (t : Tables) (es : List Event) (n f m : ℕ) (range : AreInRange t) (ke
       (r.0, a, r.1, sum)
 
   -- whoever stands has a place
-  placed : (i : ℕ) (x : Inv) (s : ℕ) → Stands t (state t es n).stays i x s → (p a : ℕ) × (slice_get (take m (standing_places t es f)) p ≡ Some (place i a)) × (f + a ≡ s)
+  placed : (i : ℕ) (x : Inv) (s : ℕ) → InvStands t (state t es n).stays i x s → (p a : ℕ) × (slice_get (take m (standing_places t es f)) p ≡ Some (place i a)) × (f + a ≡ s)
   placed i x s st = by_climb (climb t range kept (modes_at t es s) (selections s) (suc mm) i i (mode_period t x.mode) x (omega arith) st.known runs (itself i x st.known st.concrete) refl)
     where
       mm : ℕ
@@ -260,7 +260,7 @@ module _ (t : Tables) (es : List Event) (n f m : ℕ) (range : AreInRange t) (ke
       by (Some y) g h = (y, g, some_same y.mode q h)
 
   -- until a window has ended, whoever is at the place stands
-  stands_on : (p i a : ℕ) (x : Inv) → slice_get (take m (standing_places t es f)) p ≡ Some (place i a) → slice_get t.invs i ≡ Some x → n < f + a + window_end t x → Stands t (state t es n).stays i x (f + a)
+  stands_on : (p i a : ℕ) (x : Inv) → slice_get (take m (standing_places t es f)) p ≡ Some (place i a) → slice_get t.invs i ≡ Some x → n < f + a + window_end t x → InvStands t (state t es n).stays i x (f + a)
   stands_on p i a x e known open_yet =
       let r = front_there m (standing_places t es f) p (place i a) e in
       let begun : a ≤ n - f = ordered.front p (place i a) r.0 r.1 in
@@ -287,7 +287,7 @@ module _ (t : Tables) (es : List Event) (n f m : ℕ) (range : AreInRange t) (ke
       }
 
   -- of who stands no later round has begun
-  none_later : (p i a s : ℕ) (x : Inv) → slice_get (take m (standing_places t es f)) p ≡ Some (place i a) → Stands t (state t es n).stays i x s → f + a ≤ s
+  none_later : (p i a s : ℕ) (x : Inv) → slice_get (take m (standing_places t es f)) p ≡ Some (place i a) → InvStands t (state t es n).stays i x s → f + a ≤ s
   none_later p i a s x e st =
       let r = front_there m (standing_places t es f) p (place i a) e in
       let begun : a ≤ n - f = ordered.front p (place i a) r.0 r.1 in

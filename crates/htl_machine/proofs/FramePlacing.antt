@@ -16,7 +16,7 @@ use Rattle.htl_walk.proofs.Masks.{mask_bit, get_mapped}
 use Rattle.htl_model.specs.declared.frame.Place.{Place}
 use Rattle.htl_walk.specs.PathJobs.{job_in, placed, placed_job, placed_jobs}
 use Rattle.htl_machine.specs.Turns.{later_or, position_from}
-use Rattle.htl_machine.specs.Values.{Stands}
+use Rattle.htl_machine.specs.Values.{InvStands}
 use Rattle.htl_machine.specs.Casts.{IsJob, IsCast}
 use Rattle.htl_refine.specs.FramePlaces.{place}
 use Rattle.htl_refine.proofs.Fronts.{front_there, take_map}
@@ -106,7 +106,7 @@ module _ (t : Tables) (stays : List (Option Stay)) (frame n m : ℕ) (all : List
       }
 
   -- the position of who stands is the last of its invocation
-  last_one : (i a s : ℕ) (x : Inv) (p : ℕ) → Stands t stays i x s → slice_get places p ≡ Some (place i a) → frame + a ≡ s → position_from 0 jobs i ≡ Some p
+  last_one : (i a s : ℕ) (x : Inv) (p : ℕ) → InvStands t stays i x s → slice_get places p ≡ Some (place i a) → frame + a ≡ s → position_from 0 jobs i ≡ Some p
   last_one i a s x p st at e = by_found (position_from 0 jobs i) refl
     where
       by_found : (o : Option ℕ) → position_from 0 jobs i ≡ o → position_from 0 jobs i ≡ Some p
@@ -170,7 +170,7 @@ module _ (t : Tables) (stays : List (Option Stay)) (frame n m : ℕ) (all : List
         stands = λ p j at here open_yet.
             let r = placed_at p j at here in
             let st = placing.stands p r.0 r.1 r.2 r.3 r.4 (omega (arith, open_yet, r.7)) in
-            (r.2, frame + r.1, subst (λ z. Stands t stays z r.2 (frame + r.1)) (sym r.5) st, subst (λ z. IsJob t jobs frame p z r.2 (frame + r.1)) (sym r.5) (the_job r.0 r.1 (frame + r.1) r.2 p r.4 r.3 refl));
+            (r.2, frame + r.1, subst (λ z. InvStands t stays z r.2 (frame + r.1)) (sym r.5) st, subst (λ z. IsJob t jobs frame p z r.2 (frame + r.1)) (sym r.5) (the_job r.0 r.1 (frame + r.1) r.2 p r.4 r.3 refl));
         once = λ p q i s x jp jq.
             let a = placed_at p jp.job jp.at jp.present in
             let b = placed_at q jq.job jq.at jq.present in

@@ -11,13 +11,13 @@ use Rattle.htl_model.specs.Meaning.{state, before, sense}
 use Rattle.htl_walk.specs.declared.job.Job.{Job}
 use Rattle.htl_walk.specs.Walk.{Left, job_at, is_position}
 use Rattle.htl_emach.specs.Contents.{Content, completed}
-use Rattle.htl_refine.specs.RecordCounts.{Rises, count_before, done_by}
+use Rattle.htl_refine.specs.RecordCounts.{Rises, count_left_before, done_by}
 use Rattle.htl_refine.proofs.FinishingRecords.{done_more}
 use Rattle.htl_refine.proofs.RecordOrder.{counted, not_some}
-use Rattle.htl_machine.specs.FramesGoOn.{Now, finished_before, finished_at, AreFrames, frame_records, next_by_frames}
+use Rattle.htl_machine.specs.FramesGoOn.{Now, present_finished, finished_at, AreFrames, frame_records, next_by_frames}
 use Rattle.htl_machine.specs.Completing.{complete_at, complete_by, run_records}
 use Rattle.htl_machine.specs.Turns.{finished_in}
-use Rattle.htl_machine.specs.Values.{Stands, ValuesFollow, HasPlaces, HasRead, Ready, and_also}
+use Rattle.htl_machine.specs.Values.{InvStands, ValuesFollow, HasPlaces, HasReadInputs, Ready, and_also}
 use Rattle.htl_machine.specs.Worlds.{effects, all_writes, with_sensors}
 use Rattle.htl_machine.proofs.Carrying.{follows_on, after_shape, holds_values}
 use Rattle.htl_machine.proofs.Casting.{job_is}
@@ -28,17 +28,17 @@ use Rattle.htl_machine.proofs.Owing.{is_ready, reads_to, completes}
 use Rattle.htl_machine.proofs.Turning.{before_count}
 
 -- a later offset has more records before it
-pub count_grows : (d e : ℕ) (ls : List Left) → d ≤ e → count_before d ls ≤ count_before e ls
+pub count_grows : (d e : ℕ) (ls : List Left) → d ≤ e → count_left_before d ls ≤ count_left_before e ls
 count_grows d e [] h = omega arith
 count_grows d e (l ∷ ls) h = by_test (ltb l.at d) (ltb l.at e) refl refl (count_grows d e ls h)
   where
-    by_test : (a b : Bool) → ltb l.at d ≡ a → ltb l.at e ≡ b → count_before d ls ≤ count_before e ls → cond a (suc (count_before d ls)) 0 ≤ cond b (suc (count_before e ls)) 0
+    by_test : (a b : Bool) → ltb l.at d ≡ a → ltb l.at e ≡ b → count_left_before d ls ≤ count_left_before e ls → cond a (suc (count_left_before d ls)) 0 ≤ cond b (suc (count_left_before e ls)) 0
     by_test true true f g ih = omega arith
     by_test true false f g ih = absurd (let z : ltb l.at e ≡ true = lt-ltb l.at e (omega (arith, ltb-true l.at d f)) in let y : ⊥ = cc in y)
     by_test false b f g ih = omega arith
 
 -- the records that aren't left before an offset are left then or later
-from_count : (e : ℕ) (ls : List Left) (k : ℕ) (l : Left) → Rises 0 ls → count_before e ls ≤ k → slice_get ls k ≡ Some l → e ≤ l.at
+from_count : (e : ℕ) (ls : List Left) (k : ℕ) (l : Left) → Rises 0 ls → count_left_before e ls ≤ k → slice_get ls k ≡ Some l → e ≤ l.at
 from_count e ls k l rises few at = elim (either l.at e) [ inl b ↦ absurd (omega (arith, few, counted 0 e ls k l rises at b)) | inr b ↦ b ]
   where
     either : (a b : ℕ) → (a < b) ⊎ (b ≤ a)
@@ -90,7 +90,7 @@ module _ (t : Tables) (range : AreInRange t) (kept : KeptApart t 12) (es : List 
             )
 
     -- so many records
-    pub records_follow : (m k : ℕ) (w : Content) → count_before (suc n - frame) ls ≤ k → k + m ≤ count_before (suc (suc n) - frame) ls → ValuesFollow t es (suc n) (finished_by k) w → HasPlaces t w
+    pub records_follow : (m k : ℕ) (w : Content) → count_left_before (suc n - frame) ls ≤ k → k + m ≤ count_left_before (suc (suc n) - frame) ls → ValuesFollow t es (suc n) (finished_by k) w → HasPlaces t w
         → ValuesFollow t es (suc n) (finished_by (k + m)) (run_records t jobs ls m k w) × HasPlaces t (run_records t jobs ls m k w)
     records_follow zero k w few h f shape = (subst (λ z. ValuesFollow t es (suc n) (finished_by z) w) (let e : k ≡ k + 0 = omega arith in e) f, shape)
     records_follow (suc m) k w few h f shape =
@@ -106,18 +106,18 @@ module _ (t : Tables) (range : AreInRange t) (kept : KeptApart t 12) (es : List 
         )
 
   -- after the records of the instant
-  pub records_done : (n : ℕ) (w : Content) → ValuesFollow t es n (finished_before now n) w → HasPlaces t w → ValuesFollow t es n (finished_at now n) (frame_records t now n w) × HasPlaces t (frame_records t now n w)
+  pub records_done : (n : ℕ) (w : Content) → ValuesFollow t es n (present_finished now n) w → HasPlaces t w → ValuesFollow t es n (finished_at now n) (frame_records t now n w) × HasPlaces t (frame_records t now n w)
   records_done zero w f shape = (f, shape)
   records_done (suc n) w f shape =
       let g = now n in
-      let a = count_before (suc n - g.frame) g.walk in
-      let b = count_before (suc (suc n) - g.frame) g.walk in
+      let a = count_left_before (suc n - g.frame) g.walk in
+      let b = count_left_before (suc (suc n) - g.frame) g.walk in
       let more : a ≤ b = count_grows (suc n - g.frame) (suc (suc n) - g.frame) g.walk (omega arith) in
       let r = records_follow n (b - a) a w (omega arith) (omega (arith, more)) f shape in
       (subst (λ z. ValuesFollow t es (suc n) (finished_by n z) (frame_records t now (suc n) w)) (let e : a + (b - a) ≡ b = omega (arith, more) in e) r.0, r.1)
 
   -- who is finished before an instant has read all before it
-  pub read_before : (n i : ℕ) (x : Inv) (s : ℕ) → Stands t (before t es n).stays i x s → finished_before now n i ≡ true → HasRead t n (finished_before now n) x s
+  pub read_before : (n i : ℕ) (x : Inv) (s : ℕ) → InvStands t (before t es n).stays i x s → present_finished now n i ≡ true → HasReadInputs t n (present_finished now n) x s
   read_before zero i x s st fin = not_some (record { mode = x.mode; start = s }) st.in_round
   read_before (suc n) i x s st fin =
       let f = now n in
@@ -132,20 +132,20 @@ module _ (t : Tables) (range : AreInRange t) (kept : KeptApart t 12) (es : List 
   all_ready (suc n) =
       let f = now n in
       let r = is_ready t range kept (state t es n).stays f.frame n f.jobs f.walk (frames.casts n) (frames.runs n) es (suc n) refl (omega (arith, frames.past n)) in
-      subst (λ (z : ℕ). Ready t es (suc n) (finished_in f.jobs (done_by f.walk (count_before z f.walk)))) (let e : suc (suc n - f.frame) ≡ suc (suc n) - f.frame = omega (arith, frames.past n) in e) r
+      subst (λ (z : ℕ). Ready t es (suc n) (finished_in f.jobs (done_by f.walk (count_left_before z f.walk)))) (let e : suc (suc n - f.frame) ≡ suc (suc n) - f.frame = omega (arith, frames.past n) in e) r
 
   -- the value half is carried over the whole instant
-  pub values_carried : (n : ℕ) (w : Content) → ValuesFollow t es n (finished_before now n) w → HasPlaces t w
-      → ValuesFollow t es (suc n) (finished_before now (suc n)) (next_by_frames t es now n w) × HasPlaces t (next_by_frames t es now n w)
+  pub values_carried : (n : ℕ) (w : Content) → ValuesFollow t es n (present_finished now n) w → HasPlaces t w
+      → ValuesFollow t es (suc n) (present_finished now (suc n)) (next_by_frames t es now n w) × HasPlaces t (next_by_frames t es now n w)
   values_carried n w f shape =
       let r = records_done n w f shape in (
-        follows_on t range kept es n (finished_at now n) (finished_before now (suc n)) (frame_records t now n w) r.0 r.1 (all_ready n) (finished_carried t es now range kept frames n),
-        after_shape t range kept es n (finished_at now n) (finished_before now (suc n)) (frame_records t now n w) r.0 r.1 (all_ready n) (finished_carried t es now range kept frames n),
+        follows_on t range kept es n (finished_at now n) (present_finished now (suc n)) (frame_records t now n w) r.0 r.1 (all_ready n) (finished_carried t es now range kept frames n),
+        after_shape t range kept es n (finished_at now n) (present_finished now (suc n)) (frame_records t now n w) r.0 r.1 (all_ready n) (finished_carried t es now range kept frames n),
       )
 
   -- after the records, the writes and the sensors the world holds the values of the instant
-  pub values_now : (n : ℕ) (w : Content) → ValuesFollow t es n (finished_before now n) w → HasPlaces t w
+  pub values_now : (n : ℕ) (w : Content) → ValuesFollow t es n (present_finished now n) w → HasPlaces t w
       → (with_sensors t (sense t es) n (effects t (all_writes t n (before t es n).stays) (frame_records t now n w))).values ≡ (state t es n).values
   values_now n w f shape =
       let r = records_done n w f shape in
-      holds_values t range kept es n (finished_at now n) (finished_before now (suc n)) (frame_records t now n w) r.0 r.1 (all_ready n) (finished_carried t es now range kept frames n)
+      holds_values t range kept es n (finished_at now n) (present_finished now (suc n)) (frame_records t now n w) r.0 r.1 (all_ready n) (finished_carried t es now range kept frames n)

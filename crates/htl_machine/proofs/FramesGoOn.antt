@@ -6,24 +6,24 @@ use Rattle.htl_model.specs.Tables.{Tables, mode_module}
 use Rattle.htl_model.specs.Ranges.{AreInRange}
 use Rattle.htl_model.specs.FrameRules.{KeptApart}
 use Rattle.htl_model.specs.Meaning.{state}
-use Rattle.htl_machine.specs.Values.{Stands}
-use Rattle.htl_refine.specs.RecordCounts.{count_before, done_by}
-use Rattle.htl_machine.specs.Turns.{done_at, finished_in}
+use Rattle.htl_machine.specs.Values.{InvStands}
+use Rattle.htl_refine.specs.RecordCounts.{count_left_before, done_by}
+use Rattle.htl_machine.specs.Turns.{last_position_done, finished_in}
 use Rattle.htl_machine.specs.Casts.{IsJob}
-use Rattle.htl_machine.specs.FramesGoOn.{Now, finished_before, finished_at, AreFrames, FinishedCarried}
+use Rattle.htl_machine.specs.FramesGoOn.{Now, present_finished, finished_at, AreFrames, FinishedCarried}
 use Rattle.htl_refine.proofs.RecordOrder.{not_some}
 use Rattle.htl_machine.proofs.Standing.{began_before}
 use Rattle.htl_machine.proofs.Owing.{not_yet}
 
 module _ (t : Tables) (es : List Event) (now : ℕ → Now) (range : AreInRange t) (kept : KeptApart t 12) (frames : AreFrames t es now) where
   -- who begins isn't finished
-  fresh_open : (n i : ℕ) (x : Inv) → Stands t (state t es n).stays i x n → finished_before now (suc n) i ≡ false
+  fresh_open : (n i : ℕ) (x : Inv) → InvStands t (state t es n).stays i x n → present_finished now (suc n) i ≡ false
   fresh_open n i x st =
       let f = now n in
       not_yet t range kept (state t es n).stays f.frame n f.jobs f.walk (frames.casts n) (frames.runs n) (suc n - f.frame) i x n (omega (arith, frames.past n)) st
 
   -- who goes on has the same position
-  kept_on : (n i : ℕ) (x : Inv) (s : ℕ) → Stands t (state t es n).stays i x s → Stands t (state t es (suc n)).stays i x s → finished_before now (suc (suc n)) i ≡ finished_at now (suc n) i
+  kept_on : (n i : ℕ) (x : Inv) (s : ℕ) → InvStands t (state t es n).stays i x s → InvStands t (state t es (suc n)).stays i x s → present_finished now (suc (suc n)) i ≡ finished_at now (suc n) i
   kept_on n i x s st later = elim (frames.on n) [
     | inl begins ↦
         let h = (frames.casts (suc n)).has i x s later in
@@ -34,7 +34,7 @@ module _ (t : Tables) (es : List Event) (now : ℕ → Now) (range : AreInRange 
         let b = (frames.casts (suc n)).has i x s later in
         let f = now n in
         let g = now (suc n) in
-        let done : ℕ → Bool = done_by f.walk (count_before (suc (suc n) - f.frame) f.walk) in
+        let done : ℕ → Bool = done_by f.walk (count_left_before (suc (suc n) - f.frame) f.walk) in
         let job : IsJob t g.jobs g.frame a.0 i x s = record {
           job = a.1.job;
           at = on.2 a.0 a.1.job a.1.at;
@@ -46,9 +46,9 @@ module _ (t : Tables) (es : List Event) (now : ℕ → Now) (range : AreInRange 
           worst = a.1.worst;
         } in
         let same : b.0 ≡ a.0 = (frames.casts (suc n)).once b.0 a.0 i s x b.1 job in
-        ap (λ k. finished_in g.jobs (done_by g.walk (count_before (suc (suc n) - k) g.walk)) i) on.0
-        ∙ ap (λ w. finished_in g.jobs (done_by w (count_before (suc (suc n) - f.frame) w)) i) on.1
-        ∙ ap (done_at done) b.2 ∙ ap done same ∙ sym (ap (done_at done) a.2)
+        ap (λ k. finished_in g.jobs (done_by g.walk (count_left_before (suc (suc n) - k) g.walk)) i) on.0
+        ∙ ap (λ w. finished_in g.jobs (done_by w (count_left_before (suc (suc n) - f.frame) w)) i) on.1
+        ∙ ap (last_position_done done) b.2 ∙ ap done same ∙ sym (ap (last_position_done done) a.2)
   ]
 
 pub finished_carried : FinishedCarried

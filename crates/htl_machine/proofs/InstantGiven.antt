@@ -8,14 +8,14 @@ use Rattle.htl_ecode.specs.declared.ecode.ECode.{ECode}
 use Rattle.htl_smach.specs.Rounds.{Round}
 use Rattle.htl_emach.specs.Calendars.{Standing}
 use Rattle.htl_emach.specs.Contents.{Content}
-use Rattle.htl_emach.specs.Following.{Follows, Onward, phase_path}
+use Rattle.htl_emach.specs.Following.{FollowsCode, Onward, phase_path}
 use Rattle.htl_object.specs.Accepted.{IsAccepted}
 use Rattle.htl_machine.specs.Asking.{IsToClose, IsToCloseAndBegin}
 use Rattle.htl_machine.specs.Calls.{Seen, IsUpTo, schedule_by}
 use Rattle.htl_machine.specs.Instant.{IsReadyAt}
 use Rattle.htl_machine.specs.Opening.{IsOpened}
 use Rattle.htl_machine.specs.Starting.{instrs_of}
-use Rattle.htl_machine.specs.Timing.{begins}
+use Rattle.htl_machine.specs.Timing.{some_round_begins}
 use Rattle.htl_machine.proofs.After.{over}
 use Rattle.htl_machine.proofs.Ready.{ready}
 use Rattle.htl_machine.proofs.ToClose.{follows_at, to_close, to_close_and_begin}
@@ -29,7 +29,7 @@ pub record IsGiven (m : Seen) (es : List Event) (at : ℕ) (t : Tables) (code : 
   pub later : m.held.reading ≤ at
   pub up : IsUpTo m es at
   pub ready : IsReadyAt m es at (schedule_by m.object idle m.list)
-  pub follows : Follows t code es at m.standing
+  pub follows : FollowsCode t code es at m.standing
 
 -- the machine as its contracts see it is that of its fields
 pub given : (m v : Seen) (es : List Event) (at : ℕ) (t : Tables) (code : ECode) (idle : List SInstr) → m ≡ v → IsAccepted m.object → idle ≡ [] → t ≡ m.object.tables → code ≡ m.object.ecode → v.held.reading ≤ at → IsUpTo v es at
@@ -59,7 +59,7 @@ module _ (m : Seen) (es : List Event) (at : ℕ) (t : Tables) (code : ECode) (id
         to_close m es at t code k.tables k.code_is k.accepted k.later k.up (schedule_by m.object idle m.list) k.ready seen before d1 w3 opened values values_are modes modes_are m1 writes
 
     -- and a list can begin
-    pub given_begins : (ss : List Schedule) (takes : List ℕ) → ss ≡ m.object.schedules → takes ≡ m.held.takes → begins m.object.tables at ≡ true → IsToCloseAndBegin t code (instrs_of ss) es at takes m.list d1 m1 w3 values modes
+    pub given_begins : (ss : List Schedule) (takes : List ℕ) → ss ≡ m.object.schedules → takes ≡ m.held.takes → some_round_begins m.object.tables at ≡ true → IsToCloseAndBegin t code (instrs_of ss) es at takes m.list d1 m1 w3 values modes
     given_begins ss takes same_schedules are b =
         let ends = over m es at k.accepted k.later k.up (schedule_by m.object idle m.list) idle refl k.none k.ready d1 opened.w1 b opened.records in
         to_close_and_begin m es at t code ss takes k.tables k.code_is same_schedules are k.accepted k.later k.up b d1 ends.1 m1 w3 values modes given_closes

@@ -8,7 +8,7 @@ use Rattle.htl_model.specs.Meaning.{state}
 use Rattle.htl_smach.specs.Rounds as rounds
 use Rattle.htl_smach.specs.Rounds.{Round}
 use Rattle.htl_machine.specs.Worlds.{all_reads}
-use Rattle.htl_refine.specs.RecordCounts.{count_before}
+use Rattle.htl_refine.specs.RecordCounts.{count_left_before}
 use Rattle.htl_machine.specs.Casts.{IsCast, HaveWindows}
 use Rattle.htl_refine.specs.ListPlans.{ListPlan as Plan, list_walk}
 use Rattle.htl_machine.specs.Follows.{DeskStands, DeskAt}
@@ -28,7 +28,7 @@ with_flags r bs = record r { released = bs }
 -- before the instant it stands at the records before it; those of the instant are left
 pub desk_left : (p : Plan) (s now : ℕ) (r r1 : Round) → s ≤ now → DeskStands p s now r → Leaves r r1 p.schedule now → DeskAt p s (due_by p s now) (now - s) r1
 desk_left p s now r r1 past f leaves =
-    leaves p s (count_before (now - s) (list_walk p)) (now - s) refl past (count_grows (now - s) (suc now - s) (list_walk p) (omega arith)) (desk_opens p s now r f)
+    leaves p s (count_left_before (now - s) (list_walk p)) (now - s) refl past (count_grows (now - s) (suc now - s) (list_walk p) (omega arith)) (desk_opens p s now r f)
 
 -- the releases of the instant are told
 pub desk_told : (t : Tables) (stays : List (Option Stay)) (n : ℕ) (p : Plan) (s k now : ℕ) (r : Round) → IsStanding t stays n → n ≤ now → s ≤ now → IsCast t stays s now p.jobs → HaveWindows p.jobs → DeskAt p s k (now - s) r

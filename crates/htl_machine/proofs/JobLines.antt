@@ -29,7 +29,7 @@ use Rattle.htl_console.specs.Lines.{done_line, step_line, instr_line}
 use Rattle.htl_console.specs.Shows.{shows_values, shows_jobs, shows_code}
 use Rattle.htl_machine.specs.Texts.{inv_at, slice_lines, e_line}
 use Rattle.htl_machine.specs.Lines.{where_shown, done_lines, step_lines, job_lines, record_lines, list_lines, old_lines, new_lines, e_lines, change_lines, lines, jobs_done, e_done, s_done, text_before, run_text}
-use Rattle.htl_machine.specs.JobLines.{RunLine, printed, is_job_line, begins_as_job, text_lines, HasNames, slice_of, done_of, job_lines_of, list_job_lines, frame_job_lines, job_lines_at, job_lines_to, ShowsJobs}
+use Rattle.htl_machine.specs.JobLines.{RunLine, printed, is_job_line, begins_as_job, text_lines, HasNames, closed_slice_line, job_done_line, job_lines_of, list_job_lines, frame_job_lines, job_lines_at, job_lines_to, ShowsJobs}
 use Rattle.htl_machine.specs.JobLines.RunLine.{InstrLine, ChangeLine, StepLine, TotalsLine, SliceLine, DoneLine}
 use Rattle.htl_machine.proofs.LineBytes.{lines_found, jobs_found}
 use Rattle.htl_machine.proofs.Printing.{joined-append}
@@ -79,14 +79,14 @@ module _ (t : Tables) where
 
   -- ---- the lines of one record
 
-  slice_shows : (i : ℕ) (s : Option (ℕ × ℕ)) → ShowsJobs t (slice_lines t i s) (slice_of i s)
+  slice_shows : (i : ℕ) (s : Option (ℕ × ℕ)) → ShowsJobs t (slice_lines t i s) (closed_slice_line i s)
   slice_shows i (Some s) = one (SliceLine s.0 s.1 i)
   slice_shows i None = none
 
   jobs_show : (js : List Job) (l : ℕ × Left) → ShowsJobs t (job_lines t js l.1) (job_lines_of js l)
   jobs_show js l =
       let i = inv_at js l.1.position in
-      both (slice_lines t i l.1.slice) (done_lines t i l.1) (slice_of i l.1.slice) (done_of i l.1) (slice_shows i l.1.slice)
+      both (slice_lines t i l.1.slice) (done_lines t i l.1) (closed_slice_line i l.1.slice) (job_done_line i l.1) (slice_shows i l.1.slice)
       (where_true l.1.finished (done_line t l.1.at i) (DoneLine l.1.at i ∷ []) (one (DoneLine l.1.at i)))
 
   step_shows : (r : RunningList) (l : ℕ × Left) → ShowsJobs t (step_lines r l) []
@@ -130,7 +130,7 @@ module _ (t : Tables) where
   no_lines : (jobs : List Job) (start k : ℕ) (l : Left) → (l.slice ≡ None) × (l.finished ≡ false) → job_lines_of jobs (k, shifted start l) ≡ []
   no_lines jobs start k l silent =
       let i = inv_at jobs l.position in
-      ap₂ (λ (o : Option (ℕ × ℕ)) (b : Bool). slice_of i (option_map (λ (s : ℕ × ℕ). (start + s.0, start + s.1)) o) ++ cond b (DoneLine (start + l.at) i ∷ []) []) silent.0 silent.1
+      ap₂ (λ (o : Option (ℕ × ℕ)) (b : Bool). closed_slice_line i (option_map (λ (s : ℕ × ℕ). (start + s.0, start + s.1)) o) ++ cond b (DoneLine (start + l.at) i ∷ []) []) silent.0 silent.1
 
   pub none_first : (jobs : List Job) (start now k : ℕ) (ls : List Left) → ((i : ℕ) (l : Left) → slice_get ls i ≡ Some l → start + l.at ≡ now → (l.slice ≡ None) × (l.finished ≡ false))
       → joined (job_lines_of jobs) (filter (λ (l : ℕ × Left). eqb l.1.at now) (numbered k (map (shifted start) ls))) ≡ []
@@ -149,13 +149,13 @@ module _ (t : Tables) where
       → joined (λ r. joined (job_lines_of all) (left_in now f r)) (filter (begins_at now) (lists_from number f j ss gs (walks_from jobs ss gs x))) ≡ []
   lists_silent number f now j all jobs [] gs x = refl
   lists_silent number f now j all jobs (s ∷ ss) [] x = refl
-  lists_silent number f now j all jobs (s ∷ ss) (g ∷ gs) x = by (eqb (f + g.from) now) refl (lists_silent number f now (suc j) all jobs ss gs (last_point jobs s (paths.begun g.from x)))
+  lists_silent number f now j all jobs (s ∷ ss) (g ∷ gs) x = by (eqb (f + g.from) now) refl (lists_silent number f now (suc j) all jobs ss gs (last_point jobs s (paths.list_point g.from x)))
     where
       rest : List RunningList
-      rest = lists_from number f (suc j) ss gs (walks_from jobs ss gs (last_point jobs s (paths.begun g.from x)))
+      rest = lists_from number f (suc j) ss gs (walks_from jobs ss gs (last_point jobs s (paths.list_point g.from x)))
 
       r : RunningList
-      r = record { from = f + g.from; node = number j; code = s; walk = walk_from jobs s (paths.begun g.from x) }
+      r = record { from = f + g.from; node = number j; code = s; walk = walk_from jobs s (paths.list_point g.from x) }
 
       by : (b : Bool) → eqb (f + g.from) now ≡ b → joined (λ r. joined (job_lines_of all) (left_in now f r)) (filter (begins_at now) rest) ≡ []
           → joined (λ r. joined (job_lines_of all) (left_in now f r)) (cond b (r ∷ filter (begins_at now) rest) (filter (begins_at now) rest)) ≡ []
@@ -163,7 +163,7 @@ module _ (t : Tables) where
       by true e next =
           let here = eqb-true (f + g.from) now e in
           ap₂ (λ (xs ys : List RunLine). xs ++ ys)
-          (none_first all f now 0 (walk_from jobs s (paths.begun g.from x)) (λ i l at same. silent_at jobs s (paths.begun g.from x) g.from i l (omega arith) at (omega (arith, here, same)))) next
+          (none_first all f now 0 (walk_from jobs s (paths.list_point g.from x)) (λ i l at same. silent_at jobs s (paths.list_point g.from x) g.from i l (omega arith) at (omega (arith, here, same)))) next
 
   module _ (schedules : List (List SInstr)) (es : List Event) where
     pub begins_silent : (f now : ℕ) → frame_job_lines t schedules es (begins_at now) now f ≡ []
@@ -217,11 +217,11 @@ joined-up_to f g zero = refl
 joined-up_to f g (suc n) = joined-append f (up_to g n) (g n) ∙ ap (λ ys. ys ++ joined f (g n)) (joined-up_to f g n)
 
 module _ (t : Tables) where
-  slice_alone : (i : ℕ) (s : Option (ℕ × ℕ)) → slice_lines t i s ≡ joined (printed t) (slice_of i s)
+  slice_alone : (i : ℕ) (s : Option (ℕ × ℕ)) → slice_lines t i s ≡ joined (printed t) (closed_slice_line i s)
   slice_alone i (Some s) = sym (append-nil (printed t (SliceLine s.0 s.1 i)))
   slice_alone i None = refl
 
-  done_alone : (i : ℕ) (l : Left) → done_lines t i l ≡ joined (printed t) (done_of i l)
+  done_alone : (i : ℕ) (l : Left) → done_lines t i l ≡ joined (printed t) (job_done_line i l)
   done_alone i l = by l.finished
     where
       by : (b : Bool) → cond b (done_line t l.at i) [] ≡ joined (printed t) (cond b (DoneLine l.at i ∷ []) [])
@@ -232,7 +232,7 @@ module _ (t : Tables) where
   record_alone js r l =
       let i = inv_at js l.1.position in
       append-nil (job_lines t js l.1) ∙ ap₂ (λ (xs ys : List ℕ). xs ++ ys) (slice_alone i l.1.slice) (done_alone i l.1)
-      ∙ sym (joined-append (printed t) (slice_of i l.1.slice) (done_of i l.1))
+      ∙ sym (joined-append (printed t) (closed_slice_line i l.1.slice) (job_done_line i l.1))
 
   module _ (schedules : List (List SInstr)) (es : List Event) where
     list_alone : (f now : ℕ) (r : RunningList) → list_lines t schedules es Jobs now f r ≡ joined (printed t) (list_job_lines t schedules es now f r)

@@ -6,7 +6,7 @@ use Rattle.htl_walk.specs.Walk.{Point, next_point}
 use Rattle.htl_walk.proofs.Steps.{left_falls}
 use Rattle.htl_smach.specs.declared.left.Left.{Left}
 use Rattle.htl_smach.specs.declared.state.PosState.TheVariants.{Pending}
-use Rattle.htl_smach.specs.Rounds.{Round, Stands, state_of, next_left, moved, records, left_until}
+use Rattle.htl_smach.specs.Rounds.{Round, Stands, state_of, next_left, moved, walk_records, left_until}
 use Rattle.std.proofs.lemmas.Option.{slice_get_within}
 use Rattle.htl_machine.proofs.Distinct.{there}
 use Rattle.htl_smach.proofs.Telling.{pending_is, is_pending, next_point_is, length-told}
@@ -29,7 +29,7 @@ still_pending r code p i st e pend =
 pub is_running : (r : Round) (code : List SInstr) (at : ℕ) (l : Left) → next_left r code at ≡ Some l → r.running ≡ true
 is_running r code at l e = by_test r.running refl e
   where
-    by_test : (b : Bool) → r.running ≡ b → cond b (left_until at (slice_get (records r code) r.place)) None ≡ Some l → r.running ≡ true
+    by_test : (b : Bool) → r.running ≡ b → cond b (left_until at (slice_get (walk_records r code) r.place)) None ≡ Some l → r.running ≡ true
     by_test true f g = f
     by_test false f g = not_some l g
 
@@ -37,4 +37,4 @@ is_running r code at l e = by_test r.running refl e
 pub instr_there : (r : Round) (code : List SInstr) (at : ℕ) (l : Left) → next_left r code at ≡ Some l → (i : SInstr) × (slice_get code r.place ≡ Some i)
 instr_there r code at l e =
     there code r.place
-    (omega (arith, slice_get_within (records r code) r.place l (answer_is r code at l e), length-told r.start 0 r.jobs code r.first))
+    (omega (arith, slice_get_within (walk_records r code) r.place l (answer_is r code at l e), length-told r.start 0 r.jobs code r.first))

@@ -10,7 +10,7 @@ use Rattle.htl_walk.specs.declared.schedule.SInstr.{SInstr}
 use Rattle.htl_walk.specs.Refinement.{HaveLengths, AreWithinWorst}
 use Rattle.htl_walk.specs.Walk.{Point, work}
 use Rattle.htl_smach.specs.Adding.{CanBegin}
-use Rattle.htl_smach.specs.Rounds.{Round, begun, added}
+use Rattle.htl_smach.specs.Rounds.{Round, round_begun, added}
 use Rattle.htl_smach.proofs.Adding.{stands_added}
 use Rattle.htl_refine.specs.BegunJobs.{new_jobs}
 use Rattle.htl_refine.specs.FrameRuns.{Frame, frame_modes, frame_places, frame_at}
@@ -185,7 +185,7 @@ module _ (t : Tables) (lists : List (List SInstr)) (es : List Event) (run : IsFe
       let new = new_jobs t (modes_at t es (suc n)) (suc n % frame_of t) (length r.jobs) in
       let own : added r (suc n) js (kept_lengths takes js) ≡ list_begun t (modes_at t es (suc n)) takes (suc n) r =
       ap (λ ks. added r (suc n) ks (kept_lengths takes ks)) jobs_are
-      ∙ sym (ap (λ b. cond b (begun (suc n) first (kept_lengths takes first)) (added r (suc n) new (kept_lengths takes new))) (ne_eqb (suc n % frame_of t) 0 more)) in
+      ∙ sym (ap (λ b. cond b (round_begun (suc n) first (kept_lengths takes first)) (added r (suc n) new (kept_lengths takes new))) (ne_eqb (suc n % frame_of t) 0 more)) in
       let next : list_turn t lists es (suc n) ≡ turn_of t lists es f (suc j) = ap₂ (turn_of t lists es) frame_is list_is in
       subst (DeskAt (list_turn t lists es (suc n)).plan (list_turn t lists es (suc n)).frame 0 (suc n - (list_turn t lists es (suc n)).frame)) own
       (subst (λ (w : Turn). DeskAt w.plan w.frame 0 (suc n - w.frame) (added r (suc n) js (kept_lengths takes js))) (sym next)

@@ -12,11 +12,11 @@ use Rattle.htl_walk.specs.Paths.{Leg, AreInForm, path_point}
 use Rattle.htl_walk.specs.Paths as paths
 use Rattle.htl_walk.specs.Refinement.{HaveLengths, AreWithinWorst}
 use Rattle.htl_walk.specs.Walk.{Point, InForm, first_point}
-use Rattle.htl_smach.specs.Rounds.{Round, begun, added}
+use Rattle.htl_smach.specs.Rounds.{Round, round_begun, added}
 use Rattle.htl_smach.proofs.Telling.{stands_begun}
 use Rattle.htl_refine.specs.BegunJobs.{new_jobs}
 use Rattle.htl_refine.specs.FrameRuns.{Frame, frame_modes, frame_places, frame_at}
-use Rattle.htl_refine.specs.ListPlans.{no_leg, leg_at, front_of, point_at}
+use Rattle.htl_refine.specs.ListPlans.{no_leg, leg_at, front_of, list_start}
 use Rattle.htl_refine.specs.Records.{lengths_of, modes_at, took}
 use Rattle.htl_refine.specs.ServedFrames.{IsFeasibleRun}
 use Rattle.htl_refine.proofs.Fronts.{take_map, take_work}
@@ -41,7 +41,7 @@ some_steps count end [] f = absurd f
 some_steps count end (i ∷ is) f = omega arith
 
 -- the first list begins with the work of the frame
-point_first : (jobs : List Job) (ss : List (List SInstr)) (gs : List Leg) (x : Point) → AreInForm ss gs → 0 < length gs → path_point jobs ss gs 0 0 x ≡ paths.begun (get_or gs 0 no_leg).from x
+point_first : (jobs : List Job) (ss : List (List SInstr)) (gs : List Leg) (x : Point) → AreInForm ss gs → 0 < length gs → path_point jobs ss gs 0 0 x ≡ paths.list_point (get_or gs 0 no_leg).from x
 point_first jobs [] [] x f l = absurd (omega (arith, l))
 point_first jobs [] (g ∷ gs) x f l = absurd f
 point_first jobs (s ∷ ss) [] x f l = absurd f
@@ -101,8 +101,8 @@ module _ (t : Tables) (lists : List (List SInstr)) (es : List Event) (run : IsFe
     first_point_is =
         let k = (leg_at p u.list).known in
         let make : ℕ → List ℕ → Point = λ time left. record { time = time; left = left } in
-        let point : point_at p u.list ≡ paths.begun (leg_at p 0).from (first_point p.jobs p.lengths) =
-        ap (point_at p) list_is ∙ point_first p.jobs p.lists p.legs (first_point p.jobs p.lengths) (serving t lists es run at).forms (let s = there_legs in omega (arith, s)) in
+        let point : list_start p u.list ≡ paths.list_point (leg_at p 0).from (first_point p.jobs p.lengths) =
+        ap (list_start p) list_is ∙ point_first p.jobs p.lists p.legs (first_point p.jobs p.lengths) (serving t lists es run at).forms (let s = there_legs in omega (arith, s)) in
         ap (front_of k) point
         ∙ ap₂ make (ap (λ i. (leg_at p i).from) (sym list_is) ∙ from_zero) (sym (take_work k p.jobs p.lengths))
       where
@@ -119,12 +119,12 @@ module _ (t : Tables) (lists : List (List SInstr)) (es : List Event) (run : IsFe
     pub first_desk : (r : Round) → DeskAt (list_turn t lists es at).plan (list_turn t lists es at).frame 0 (at - (list_turn t lists es at).frame) (list_begun t (modes_at t es at) takes at r)
     first_desk r =
         let js = new_jobs t (modes_at t es at) (at % frame_of t) 0 in
-        let own : begun u.frame u.plan.jobs u.plan.lengths ≡ list_begun t (modes_at t es at) takes at r =
-        ap (λ s. begun s u.plan.jobs u.plan.lengths) starts_at ∙ ap₂ (begun at) jobs_are (sym lengths_kept)
-        ∙ sym (ap (λ b. cond b (begun at js (kept_lengths takes js)) (added r at (new_jobs t (modes_at t es at) (at % frame_of t) (length r.jobs)) (kept_lengths takes (new_jobs t (modes_at t es at) (at % frame_of t) (length r.jobs))))) (eq-eqb (at % frame_of t) 0 zero_is)) in
+        let own : round_begun u.frame u.plan.jobs u.plan.lengths ≡ list_begun t (modes_at t es at) takes at r =
+        ap (λ s. round_begun s u.plan.jobs u.plan.lengths) starts_at ∙ ap₂ (round_begun at) jobs_are (sym lengths_kept)
+        ∙ sym (ap (λ b. cond b (round_begun at js (kept_lengths takes js)) (added r at (new_jobs t (modes_at t es at) (at % frame_of t) (length r.jobs)) (kept_lengths takes (new_jobs t (modes_at t es at) (at % frame_of t) (length r.jobs))))) (eq-eqb (at % frame_of t) 0 zero_is)) in
         let none : at - u.frame ≡ 0 = omega (arith, starts_at) in
         subst (DeskAt u.plan u.frame 0 (at - u.frame)) own
-        (subst (λ d. DeskAt u.plan u.frame 0 d (begun u.frame u.plan.jobs u.plan.lengths)) (sym none)
+        (subst (λ d. DeskAt u.plan u.frame 0 d (round_begun u.frame u.plan.jobs u.plan.lengths)) (sym none)
         (record {
           start = refl;
           jobs = refl;

@@ -10,7 +10,7 @@ use Rattle.htl_model.specs.Meaning.{state, before, sense}
 use Rattle.htl_walk.specs.declared.job.Job.{Job}
 use Rattle.htl_walk.specs.Walk.{Left, finish}
 use Rattle.htl_emach.specs.Contents.{Content}
-use Rattle.htl_refine.specs.RecordCounts.{count_before, done_by}
+use Rattle.htl_refine.specs.RecordCounts.{count_left_before, done_by}
 use Rattle.htl_refine.proofs.RecordOrder.{get_in, get_past}
 use Rattle.htl_machine.specs.Completing.{complete_by, run_records}
 use Rattle.htl_machine.specs.FramesGoOn.{Now, finished_at}
@@ -18,7 +18,7 @@ use Rattle.htl_machine.specs.FramesGoOn as frames
 use Rattle.htl_machine.specs.ListTurns.{Turn, turn_walk, records_so_far, left_before, AreTurns}
 use Rattle.htl_machine.specs.Plans.{finished_before, with_records, next_world}
 use Rattle.htl_machine.specs.Turns.{finished_in}
-use Rattle.htl_machine.specs.Values.{Stands, ValuesFollow, HasPlaces, HasRead}
+use Rattle.htl_machine.specs.Values.{InvStands, ValuesFollow, HasPlaces, HasReadInputs}
 use Rattle.htl_machine.specs.Worlds.{effects, all_writes, with_sensors}
 use Rattle.htl_machine.proofs.Carrying.{follows_on, after_shape, holds_values}
 use Rattle.htl_machine.proofs.Desking.{count_within}
@@ -33,22 +33,22 @@ take_front xs ys zero h = refl
 take_front [] ys (suc k) h = absurd (omega (arith, h))
 take_front (x ∷ xs) ys (suc k) h = ap (λ z. x ∷ z) (take_front xs ys k (omega (arith, h)))
 
-pub count_front : (d : ℕ) (ys zs : List Left) → count_before d ys ≤ count_before d (ys ++ zs)
+pub count_front : (d : ℕ) (ys zs : List Left) → count_left_before d ys ≤ count_left_before d (ys ++ zs)
 count_front d [] zs = omega arith
 count_front d (y ∷ ys) zs = by (ltb y.at d) (count_front d ys zs)
   where
-    by : (b : Bool) → count_before d ys ≤ count_before d (ys ++ zs) → cond b (suc (count_before d ys)) 0 ≤ cond b (suc (count_before d (ys ++ zs))) 0
+    by : (b : Bool) → count_left_before d ys ≤ count_left_before d (ys ++ zs) → cond b (suc (count_left_before d ys)) 0 ≤ cond b (suc (count_left_before d (ys ++ zs))) 0
     by true h = omega (arith, h)
     by false h = omega arith
 
 -- where all of the first records are left before, so are those behind them that are
-pub count_behind : (d : ℕ) (xs ys zs : List Left) → length xs ≤ count_before d ((xs ++ ys) ++ zs) → length xs + count_before d ys ≤ count_before d ((xs ++ ys) ++ zs)
+pub count_behind : (d : ℕ) (xs ys zs : List Left) → length xs ≤ count_left_before d ((xs ++ ys) ++ zs) → length xs + count_left_before d ys ≤ count_left_before d ((xs ++ ys) ++ zs)
 count_behind d [] ys zs h = let front = count_front d ys zs in omega (arith, front)
 count_behind d (x ∷ xs) ys zs h = by (ltb x.at d) h (λ more. count_behind d xs ys zs more)
   where
-    by : (b : Bool) → suc (length xs) ≤ cond b (suc (count_before d ((xs ++ ys) ++ zs))) 0
-        → (length xs ≤ count_before d ((xs ++ ys) ++ zs) → length xs + count_before d ys ≤ count_before d ((xs ++ ys) ++ zs))
-        → suc (length xs) + count_before d ys ≤ cond b (suc (count_before d ((xs ++ ys) ++ zs))) 0
+    by : (b : Bool) → suc (length xs) ≤ cond b (suc (count_left_before d ((xs ++ ys) ++ zs))) 0
+        → (length xs ≤ count_left_before d ((xs ++ ys) ++ zs) → length xs + count_left_before d ys ≤ count_left_before d ((xs ++ ys) ++ zs))
+        → suc (length xs) + count_left_before d ys ≤ cond b (suc (count_left_before d ((xs ++ ys) ++ zs))) 0
     by true h ih = let rest = ih (omega (arith, h)) in omega (arith, rest)
     by false h ih = absurd (omega (arith, h))
 
@@ -75,16 +75,16 @@ module _ (t : Tables) (range : AreInRange t) (kept : KeptApart t 12) (es : List 
       ap (λ (ls : List Left). done_by ls k p) (turns.each n).front ∙ ap (λ (ls : List Left). is_some (finish ls p)) (take_front (records_so_far (turn n)) (turns.each n).rest k few)
 
   -- so many records of the frame are left up to the instant behind n, at the least
-  pub count_upto : (n : ℕ) → length (turn n).earlier + left_before (turn n) (suc (suc n)) ≤ count_before (suc (suc n) - (turn n).frame) (turns.walk n)
+  pub count_upto : (n : ℕ) → length (turn n).earlier + left_before (turn n) (suc (suc n)) ≤ count_left_before (suc (suc n) - (turn n).frame) (turns.walk n)
   count_upto n =
       let u = turn n in
       let each = turns.each n in
       let more = count_grows (suc n - u.frame) (suc (suc n) - u.frame) (turns.walk n) (omega arith) in
-      let some : length u.earlier ≤ count_before (suc (suc n) - u.frame) (turns.walk n) = omega (arith, more, each.count) in
-      let all = count_behind (suc (suc n) - u.frame) u.earlier (turn_walk u) each.rest (subst (λ (ls : List Left). length u.earlier ≤ count_before (suc (suc n) - u.frame) ls) each.front some) in
-      subst (λ (ls : List Left). length u.earlier + left_before u (suc (suc n)) ≤ count_before (suc (suc n) - u.frame) ls) (sym each.front) all
+      let some : length u.earlier ≤ count_left_before (suc (suc n) - u.frame) (turns.walk n) = omega (arith, more, each.count) in
+      let all = count_behind (suc (suc n) - u.frame) u.earlier (turn_walk u) each.rest (subst (λ (ls : List Left). length u.earlier ≤ count_left_before (suc (suc n) - u.frame) ls) each.front some) in
+      subst (λ (ls : List Left). length u.earlier + left_before u (suc (suc n)) ≤ count_left_before (suc (suc n) - u.frame) ls) (sym each.front) all
 
-  pub same_before : (n : ℕ) → finished_before turn n ≡ frames.finished_before now n
+  pub same_before : (n : ℕ) → finished_before turn n ≡ frames.present_finished now n
   same_before zero = refl
   same_before (suc n) =
       let u = turn n in
@@ -93,10 +93,10 @@ module _ (t : Tables) (range : AreInRange t) (kept : KeptApart t 12) (es : List 
       ∙ ap (λ k. finished_in u.plan.jobs (done_by (turns.walk n) k) i) (sym (turns.each n).count))
 
   -- who is finished before an instant has read all before it
-  pub read_before : (n i : ℕ) (x : Inv) (s : ℕ) → Stands t (before t es n).stays i x s → finished_before turn n i ≡ true → HasRead t n (finished_before turn n) x s
+  pub read_before : (n i : ℕ) (x : Inv) (s : ℕ) → InvStands t (before t es n).stays i x s → finished_before turn n i ≡ true → HasReadInputs t n (finished_before turn n) x s
   read_before n i x s st fin =
       let same = same_before n in
-      subst (λ (f : ℕ → Bool). HasRead t n f x s) (sym same) (by_frames.read_before t range kept es now turns.frames n i x s st (ap (λ (f : ℕ → Bool). f i) (sym same) ∙ fin))
+      subst (λ (f : ℕ → Bool). HasReadInputs t n f x s) (sym same) (by_frames.read_before t range kept es now turns.frames n i x s st (ap (λ (f : ℕ → Bool). f i) (sym same) ∙ fin))
 
   -- after the records of the instant
   records_done : (n : ℕ) (w : Content) → ValuesFollow t es n (finished_before turn n) w → HasPlaces t w → ValuesFollow t es n (finished_at now n) (with_records t turn n w) × HasPlaces t (with_records t turn n w)
@@ -131,8 +131,8 @@ module _ (t : Tables) (range : AreInRange t) (kept : KeptApart t 12) (es : List 
       let ready = all_ready t range kept es now turns.frames n in
       let carried = finished_carried t es now range kept turns.frames n in (
         subst (λ (z : ℕ → Bool). ValuesFollow t es (suc n) z (next_world t es turn n w)) (sym (same_before (suc n)))
-            (follows_on t range kept es n (finished_at now n) (frames.finished_before now (suc n)) (with_records t turn n w) r.0 r.1 ready carried),
-        after_shape t range kept es n (finished_at now n) (frames.finished_before now (suc n)) (with_records t turn n w) r.0 r.1 ready carried,
+            (follows_on t range kept es n (finished_at now n) (frames.present_finished now (suc n)) (with_records t turn n w) r.0 r.1 ready carried),
+        after_shape t range kept es n (finished_at now n) (frames.present_finished now (suc n)) (with_records t turn n w) r.0 r.1 ready carried,
       )
 
   -- after the records, the writes and the sensors the world holds the values of the instant
@@ -140,4 +140,4 @@ module _ (t : Tables) (range : AreInRange t) (kept : KeptApart t 12) (es : List 
       → (with_sensors t (sense t es) n (effects t (all_writes t n (before t es n).stays) (with_records t turn n w))).values ≡ (state t es n).values
   values_now n w f shape =
       let r = records_done n w f shape in
-      holds_values t range kept es n (finished_at now n) (frames.finished_before now (suc n)) (with_records t turn n w) r.0 r.1 (all_ready t range kept es now turns.frames n) (finished_carried t es now range kept turns.frames n)
+      holds_values t range kept es n (finished_at now n) (frames.present_finished now (suc n)) (with_records t turn n w) r.0 r.1 (all_ready t range kept es now turns.frames n) (finished_carried t es now range kept turns.frames n)

@@ -11,9 +11,9 @@ use Rattle.htl_smach.specs.declared.left.Left.{Left}
 use Rattle.htl_smach.specs.Rounds.{told_from}
 use Rattle.htl_smach.proofs.Telling.{told_from-take}
 use Rattle.htl_refine.specs.ListPlans.{ListPlan as Plan, list_walk}
-use Rattle.htl_refine.specs.RecordCounts.{count_before, done_by}
+use Rattle.htl_refine.specs.RecordCounts.{count_left_before, done_by}
 use Rattle.htl_console.specs.declared.shown.Shown.{Shown}
-use Rattle.htl_machine.specs.ListTurns.{Turn, turn_walk, left_before, finished_by}
+use Rattle.htl_machine.specs.ListTurns.{Turn, turn_walk, left_before, turn_finished_by}
 use Rattle.htl_machine.specs.Texts.{record_text, some_records, records_text}
 use Rattle.htl_machine.specs.Turns.{finished_in}
 
@@ -25,8 +25,8 @@ pub record AreSoFar (u v : Turn) (now : ℕ) : Type 0 where
   pub jobs : u.plan.jobs ≡ v.plan.jobs
   pub code : u.plan.schedule ≡ v.plan.schedule
   pub earlier : u.earlier ≡ v.earlier
-  pub count : (e : ℕ) → u.frame + e ≤ now → count_before e (turn_walk u) ≡ count_before e (turn_walk v)
-  pub front : (e : ℕ) → u.frame + e ≤ now → take (count_before e (turn_walk u)) (turn_walk u) ≡ take (count_before e (turn_walk v)) (turn_walk v)
+  pub count : (e : ℕ) → u.frame + e ≤ now → count_left_before e (turn_walk u) ≡ count_left_before e (turn_walk v)
+  pub front : (e : ℕ) → u.frame + e ≤ now → take (count_left_before e (turn_walk u)) (turn_walk u) ≡ take (count_left_before e (turn_walk v)) (turn_walk v)
 
 -- a slice is one of the front
 slice_front : {A : Type 0} (xs : List A) (a b : ℕ) → take (b - a) (drop a xs) ≡ drop a (take b xs)
@@ -54,13 +54,13 @@ take_past (x ∷ xs) ys k =
 
 module _ (u v : Turn) (now : ℕ) (same : AreSoFar u v now) where
   -- who is finished
-  pub finished_so_far : (n : ℕ) → u.frame ≤ n → n ≤ now → finished_by u (left_before u n) ≡ finished_by v (left_before v n)
+  pub finished_so_far : (n : ℕ) → u.frame ≤ n → n ≤ now → turn_finished_by u (left_before u n) ≡ turn_finished_by v (left_before v n)
   finished_so_far n past early =
       let e = n - u.frame in
       let reached : u.frame + (n - u.frame) ≤ now = omega (arith, past, early) in
       let done : (w : Turn) (k p : ℕ) → done_by (w.earlier ++ turn_walk w) (length w.earlier + k) p ≡ is_some (finish (w.earlier ++ take k (turn_walk w)) p) =
       λ w k p. ap (λ (ls : List walks.Left). is_some (finish ls p)) (take_past w.earlier (turn_walk w) k) in
-      let fronts : take (left_before u n) (turn_walk u) ≡ take (left_before v n) (turn_walk v) = same.front e reached ∙ ap (λ f. take (count_before (n - f) (turn_walk v)) (turn_walk v)) same.frame in
+      let fronts : take (left_before u n) (turn_walk u) ≡ take (left_before v n) (turn_walk v) = same.front e reached ∙ ap (λ f. take (count_left_before (n - f) (turn_walk v)) (turn_walk v)) same.frame in
       fun_ext (λ i.
       ap₂ (λ (js : List Job) (d : ℕ → Bool). finished_in js d i) same.jobs
       (fun_ext (λ p.
@@ -74,10 +74,10 @@ module _ (u v : Turn) (now : ℕ) (same : AreSoFar u v now) where
   between_so_far m n past order early =
       let a = left_before u m in
       let b = left_before u n in
-      let low : left_before u m ≡ left_before v m = same.count (m - u.frame) (omega (arith, past, order, early)) ∙ ap (λ f. count_before (m - f) (turn_walk v)) same.frame in
-      let high : left_before u n ≡ left_before v n = same.count (n - u.frame) (omega (arith, past, order, early)) ∙ ap (λ f. count_before (n - f) (turn_walk v)) same.frame in
+      let low : left_before u m ≡ left_before v m = same.count (m - u.frame) (omega (arith, past, order, early)) ∙ ap (λ f. count_left_before (m - f) (turn_walk v)) same.frame in
+      let high : left_before u n ≡ left_before v n = same.count (n - u.frame) (omega (arith, past, order, early)) ∙ ap (λ f. count_left_before (n - f) (turn_walk v)) same.frame in
       let fronts : take b (turn_walk u) ≡ take b (turn_walk v) =
-      same.front (n - u.frame) (omega (arith, past, order, early)) ∙ ap (λ f. take (count_before (n - f) (turn_walk v)) (turn_walk v)) same.frame ∙ ap (λ z. take z (turn_walk v)) (sym high) in
+      same.front (n - u.frame) (omega (arith, past, order, early)) ∙ ap (λ f. take (count_left_before (n - f) (turn_walk v)) (turn_walk v)) same.frame ∙ ap (λ z. take z (turn_walk v)) (sym high) in
       records_same u.plan v.plan u.frame a b fronts
       ∙ ap (λ f. some_records v.plan f a (b - a)) same.frame
       ∙ ap₂ (λ x y. some_records v.plan v.frame x (y - x)) low high
@@ -85,9 +85,9 @@ module _ (u v : Turn) (now : ℕ) (same : AreSoFar u v now) where
   -- the first records up to an instant
   pub first_so_far : (n : ℕ) → u.frame ≤ n → n ≤ now → some_records u.plan u.frame 0 (left_before u n) ≡ some_records v.plan v.frame 0 (left_before v n)
   first_so_far n past early =
-      let high : left_before u n ≡ left_before v n = same.count (n - u.frame) (omega (arith, past, early)) ∙ ap (λ f. count_before (n - f) (turn_walk v)) same.frame in
+      let high : left_before u n ≡ left_before v n = same.count (n - u.frame) (omega (arith, past, early)) ∙ ap (λ f. count_left_before (n - f) (turn_walk v)) same.frame in
       let fronts : take (left_before u n) (turn_walk u) ≡ take (left_before u n) (turn_walk v) =
-      same.front (n - u.frame) (omega (arith, past, early)) ∙ ap (λ f. take (count_before (n - f) (turn_walk v)) (turn_walk v)) same.frame ∙ ap (λ z. take z (turn_walk v)) (sym high) in
+      same.front (n - u.frame) (omega (arith, past, early)) ∙ ap (λ f. take (count_left_before (n - f) (turn_walk v)) (turn_walk v)) same.frame ∙ ap (λ z. take z (turn_walk v)) (sym high) in
       let whole : (z : ℕ) → z - 0 ≡ z = λ z. omega arith in
       ap (some_records u.plan u.frame 0) (sym (whole (left_before u n)))
       ∙ records_same u.plan v.plan u.frame 0 (left_before u n) fronts

@@ -18,7 +18,7 @@ use Rattle.htl_machine.specs.Follows.{IsLoaded}
 use Rattle.htl_machine.specs.ListTurns.{Turn, AreTurns, AreListed}
 use Rattle.htl_machine.specs.Recording.{AreOf}
 use Rattle.htl_machine.specs.RunLists.{no_turn, turn_by, turn_at, list_turn}
-use Rattle.htl_machine.specs.Timing.{begins}
+use Rattle.htl_machine.specs.Timing.{some_round_begins}
 use Rattle.htl_machine.proofs.NextLists.{lists_begin}
 use Rattle.htl_machine.proofs.RunLists.{are_turns, are_listed, code_is, job_is_of}
 use Rattle.htl_refine.proofs.RecordOrder.{not_some}
@@ -122,6 +122,6 @@ module _ (t : Tables) (schedules : List (List SInstr)) (loaded : IsLoaded t sche
     loaded_code h e n = subst (λ (turn : ℕ → Turn). (turn n).plan.schedule ≡ get_or schedules (turn n).node []) (sym (turn_is h e)) (code_is t schedules es (loaded_run h e) n)
 
     -- the code knows where a list begins
-    pub loaded_begins : (q : ℕ) → hyper t ≡ Some q → (now : ℕ) → begins t now ≡ eqb ((turn_at t schedules es now).frame + (turn_at t schedules es now).from) now
+    pub loaded_begins : (q : ℕ) → hyper t ≡ Some q → (now : ℕ) → some_round_begins t now ≡ eqb ((turn_at t schedules es now).frame + (turn_at t schedules es now).from) now
     loaded_begins q e now =
-        subst (λ (turn : ℕ → Turn). begins t now ≡ eqb ((turn now).frame + (turn now).from) now) (sym (turn_is q e)) (lists_begin t schedules es (loaded_run q e) now).0
+        subst (λ (turn : ℕ → Turn). some_round_begins t now ≡ eqb ((turn now).frame + (turn now).from) now) (sym (turn_is q e)) (lists_begin t schedules es (loaded_run q e) now).0

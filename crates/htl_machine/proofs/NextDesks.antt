@@ -4,7 +4,7 @@ use Rattle.std.proofs.lemmas.Bool.{cases_lt, lt-ltb, le-ltb}
 use Rattle.std.proofs.lemmas.List.{length-take, length-drop, length-map}
 use Rattle.htl_walk.specs.declared.job.Job.{Job}
 use Rattle.htl_walk.specs.Walk.{Point, job_at, last_point, first_point, work}
-use Rattle.htl_walk.specs.Paths.{begun, AgreeAt}
+use Rattle.htl_walk.specs.Paths.{list_point, AgreeAt}
 use Rattle.htl_walk.specs.Refinement.{HaveLengths, AreWithinWorst}
 use Rattle.htl_walk.proofs.GoingOn.{onward_lists}
 use Rattle.htl_walk.proofs.Work.{job_there}
@@ -15,7 +15,7 @@ use Rattle.htl_smach.proofs.Adding.{stands_added}
 use Rattle.htl_smach.proofs.Telling.{pending_is}
 use Rattle.htl_refine.specs.FrameRuns.{Frame}
 use Rattle.htl_refine.specs.ListLaws.{IsFollowed}
-use Rattle.htl_refine.specs.ListPlans.{leg_at, front_of, point_at, list_plan}
+use Rattle.htl_refine.specs.ListPlans.{leg_at, front_of, list_start, list_plan}
 use Rattle.htl_refine.proofs.FrontPlans.{same_lists, point_long, length-work}
 use Rattle.htl_refine.proofs.Fronts.{take_work, get_front}
 use Rattle.htl_refine.proofs.ListWalks.{front_agrees, point_agrees, form_at}
@@ -68,7 +68,7 @@ later_below (suc n) (suc m) (j ∷ js) p k e = let r : n + p < m = later_below n
 
 module _ (f : Frame) (j s : ℕ) (r : Round) (g : IsFollowed f j) (at : DeskAt (list_plan f j) s (length (get_or f.lists j [])) (leg_at f (suc j)).from r) where
   -- the point at which the list before ends, of the positions so far
-  ended : r.point ≡ last_point (take (leg_at f j).known f.jobs) (get_or f.lists j []) (front_of (leg_at f j).known (point_at f j))
+  ended : r.point ≡ last_point (take (leg_at f j).known f.jobs) (get_or f.lists j []) (front_of (leg_at f j).known (list_start f j))
   ended =
       let c = get_or f.lists j [] in
       at.stands.point
@@ -77,12 +77,12 @@ module _ (f : Frame) (j s : ℕ) (r : Round) (g : IsFollowed f j) (at : DeskAt (
       ∙ ap₂ (λ js x. last_point js c x) at.jobs at.first
 
   alike : AgreeAt (length (take (leg_at f j).known f.jobs) + length (more_jobs f j))
-      (record { time = (leg_at f (suc j)).from; left = (last_point (take (leg_at f j).known f.jobs) (get_or f.lists j []) (front_of (leg_at f j).known (point_at f j))).left ++ work (more_jobs f j) (more_lengths f j) })
-      (begun (leg_at f (suc j)).from (last_point f.jobs (get_or f.lists j []) (point_at f j)))
+      (record { time = (leg_at f (suc j)).from; left = (last_point (take (leg_at f j).known f.jobs) (get_or f.lists j []) (front_of (leg_at f j).known (list_start f j))).left ++ work (more_jobs f j) (more_lengths f j) })
+      (list_point (leg_at f (suc j)).from (last_point f.jobs (get_or f.lists j []) (list_start f j)))
   alike =
       let n = (leg_at f j).known in
       let m = (leg_at f (suc j)).known in
-      let y = point_at f j in
+      let y = list_start f j in
       let w = work f.jobs f.lengths in
       let few : length (take n f.jobs) ≡ n = omega (arith, length-take n f.jobs, g.more, g.within) in
       let long : length y.left ≡ length f.jobs = point_long f.jobs f.lists f.legs j (first_point f.jobs f.lengths) ∙ length-work f.jobs f.lengths in
@@ -98,11 +98,11 @@ module _ (f : Frame) (j s : ℕ) (r : Round) (g : IsFollowed f j) (at : DeskAt (
       ∙ sym (ap (λ ws. get_or ws p 0) (drop_work n (take m f.jobs) (take m f.lengths) ∙ ap (drop n) (take_work m f.jobs f.lengths)) ∙ get_behind n (take m w) p ∙ get_front m w (n + p) (omega (arith, h, length-drop n (take m f.jobs), length-take m f.jobs))))).next
 
   first_is : (at' : ℕ) → at' ≡ s + (leg_at f (suc j)).from
-      → record { time = at' - r.start; left = r.point.left ++ work (more_jobs f j) (more_lengths f j) } ≡ front_of (leg_at f (suc j)).known (point_at f (suc j))
+      → record { time = at' - r.start; left = r.point.left ++ work (more_jobs f j) (more_lengths f j) } ≡ front_of (leg_at f (suc j)).known (list_start f (suc j))
   first_is at' e =
       let n = (leg_at f j).known in
       let m = (leg_at f (suc j)).known in
-      let y = point_at f j in
+      let y = list_start f j in
       let a = (leg_at f (suc j)).from in
       let u = last_point (take n f.jobs) (get_or f.lists j []) (front_of n y) in
       let v = last_point f.jobs (get_or f.lists j []) y in
@@ -116,7 +116,7 @@ module _ (f : Frame) (j s : ℕ) (r : Round) (g : IsFollowed f j) (at : DeskAt (
       same_lists (u.left ++ work (more_jobs f j) (more_lengths f j)) (take m v.left) (omega (arith, both, length-take m v.left, long_v, g.within))
       (λ p h. alike.left p (omega (arith, h, both, few, new, g.more)) ∙ sym (get_front m v.left p (omega (arith, h, both)))) in
       let time : at' - r.start ≡ a = omega (arith, e, at.start) in
-      let next : point_at f (suc j) ≡ begun a v = point_next f.jobs f.lists f.legs j (first_point f.jobs f.lengths) g.forms g.there in
+      let next : list_start f (suc j) ≡ list_point a v = point_next f.jobs f.lists f.legs j (first_point f.jobs f.lengths) g.forms g.there in
       let make : ℕ → List ℕ → Point = λ t ws. record { time = t; left = ws } in
       ap (λ t. make t (r.point.left ++ work (more_jobs f j) (more_lengths f j))) time
       ∙ ap (λ (x : Point). make a (x.left ++ work (more_jobs f j) (more_lengths f j))) ended
@@ -171,7 +171,7 @@ module _ (f : Frame) (j s : ℕ) (r : Round) (g : IsFollowed f j) (at : DeskAt (
   pub even : IsEven r
   even =
       let n = (leg_at f j).known in
-      let y = point_at f j in
+      let y = list_start f j in
       let few : length (take n f.jobs) ≡ n = omega (arith, length-take n f.jobs, g.more, g.within) in
       let long : length y.left ≡ length f.jobs = point_long f.jobs f.lists f.legs j (first_point f.jobs f.lengths) ∙ length-work f.jobs f.lengths in
       let left : length r.point.left ≡ n =

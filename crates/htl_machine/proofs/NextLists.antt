@@ -29,9 +29,9 @@ use Rattle.htl_refine.proofs.NodeRead.{nodes_read, node_steps}
 use Rattle.htl_refine.proofs.StateLaws.{states_are_selections}
 use Rattle.htl_machine.specs.FramePlacing.{frame_start}
 use Rattle.htl_machine.specs.ListTurns.{Turn}
-use Rattle.htl_machine.specs.NextLists.{next_list, next_node, IsNext, ListsBegin}
+use Rattle.htl_machine.specs.NextLists.{next_list, next_node, NextListStands, ListsBegin}
 use Rattle.htl_machine.specs.RunLists.{begun_of, list_number, list_turn}
-use Rattle.htl_machine.specs.Timing.{first_period, opens, begins}
+use Rattle.htl_machine.specs.Timing.{first_period, opens, some_round_begins}
 use Rattle.htl_machine.proofs.ListStarts.{begun_next, none_after}
 use Rattle.htl_machine.proofs.Periodic.{divides}
 use Rattle.htl_machine.proofs.Plain.{apart}
@@ -67,13 +67,13 @@ multiple : (h p k q d : ℕ) → p * k ≡ h → h * q + d ≡ d + p * (k * q)
 multiple h p k q d e = ap (λ z. z * q + d) (sym e) ∙ (let m : p * k * q ≡ p * (k * q) = mul_assoc p k q in omega (arith, m))
 
 -- the code's test is that of the periods of the root modules
-pub begins_whole : (t : Tables) (now : ℕ) → AreInRange t → KeptApart t 12 → begins t now ≡ frames.begins (root_periods t) now
+pub begins_whole : (t : Tables) (now : ℕ) → AreInRange t → KeptApart t 12 → some_round_begins t now ≡ frames.begins (root_periods t) now
 begins_whole t now range kept =
     any_mapped (opens t now) (λ p. eqb (now % p) 0) (unit_period t) (root_modules t)
     (λ j u at. let f = first_is t j u range kept at in ap (λ q. not (eqb q 0) && eqb (now % q) 0) f.0 ∙ divides (unit_period t u) now f.1)
 
 -- so that is told by the offset from the frame's start
-begins_at : (t : Tables) (now : ℕ) → AreInRange t → KeptApart t 12 → begins t now ≡ frames.begins (root_periods t) (now % frame_of t)
+begins_at : (t : Tables) (now : ℕ) → AreInRange t → KeptApart t 12 → some_round_begins t now ≡ frames.begins (root_periods t) (now % frame_of t)
 begins_at t now range kept = any_mapped (opens t now) (λ p. eqb ((now % frame_of t) % p) 0) (unit_period t) (root_modules t) each
   where
     each : (j u : ℕ) → slice_get (root_modules t) j ≡ Some u → opens t now u ≡ eqb ((now % frame_of t) % unit_period t u) 0
@@ -136,7 +136,7 @@ module _ (t : Tables) (lists : List (List SInstr)) (es : List Event) (run : IsFe
   offset = let parts : frame_of t * (now / frame_of t) + now % frame_of t ≡ now = div-add-mod now (frame_of t) in omega (arith, parts)
 
   -- a list begins exactly where a round does
-  begins_there : begins t now ≡ eqb ((turn now).frame + (turn now).from) now
+  begins_there : some_round_begins t now ≡ eqb ((turn now).frame + (turn now).from) now
   begins_there =
       let s = stands t lists es run now in
       let down = past t lists es run now in
@@ -237,7 +237,7 @@ module _ (t : Tables) (lists : List (List SInstr)) (es : List Event) (run : IsFe
 pub lists_begin : ListsBegin
 lists_begin t lists es run at = (begins_there t lists es run at, λ here. next at here)
   where
-    next : (at : ℕ) → (list_turn t lists es at).frame + (list_turn t lists es at).from ≡ at → IsNext t lists es at
+    next : (at : ℕ) → (list_turn t lists es at).frame + (list_turn t lists es at).from ≡ at → NextListStands t lists es at
     next zero here =
         let h = first_next t lists es run 0 here (let e : 0 % frame_of t ≡ 0 = omega arith in e) (list_turn t lists es 0).list (list_turn t lists es 0).node in record { list = h.0; node = h.1 }
     next (suc n) here = elim (apart (suc n % frame_of t) 0) [

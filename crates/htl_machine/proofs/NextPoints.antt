@@ -5,7 +5,7 @@ use Rattle.htl_walk.specs.declared.job.Job.{Job}
 use Rattle.htl_walk.specs.declared.schedule.SInstr.{SInstr}
 use Rattle.htl_walk.specs.declared.schedule.SInstr.TheVariants.{Dispatch, Idle, End}
 use Rattle.htl_walk.specs.Walk.{Point, next_point, last_point, work}
-use Rattle.htl_walk.specs.Paths.{Leg, begun, AreInForm, path_point}
+use Rattle.htl_walk.specs.Paths.{Leg, list_point, AreInForm, path_point}
 use Rattle.htl_walk.proofs.GoingOn.{untouched}
 use Rattle.htl_refine.specs.ListPlans.{no_leg}
 
@@ -42,7 +42,7 @@ same_length jobs (End ∷ is) x = same_length jobs is x
 
 -- with the work that the list before it left
 pub point_next : (jobs : List Job) (ss : List (List SInstr)) (gs : List Leg) (j : ℕ) (x : Point) → AreInForm ss gs → suc j < length gs
-    → path_point jobs ss gs (suc j) 0 x ≡ begun (get_or gs (suc j) no_leg).from (last_point jobs (get_or ss j []) (path_point jobs ss gs j 0 x))
+    → path_point jobs ss gs (suc j) 0 x ≡ list_point (get_or gs (suc j) no_leg).from (last_point jobs (get_or ss j []) (path_point jobs ss gs j 0 x))
 point_next jobs [] [] j x f h = absurd (omega arith)
 point_next jobs [] (g ∷ gs) j x f h = absurd f
 point_next jobs (s ∷ ss) [] j x f h = absurd f
@@ -50,7 +50,7 @@ point_next jobs (s ∷ []) (g ∷ []) zero x f h = absurd (omega arith)
 point_next jobs (s ∷ []) (g ∷ k ∷ gs) zero x f h = absurd f.1
 point_next jobs (s ∷ u ∷ ss) (g ∷ []) zero x f h = absurd (omega arith)
 point_next jobs (s ∷ u ∷ ss) (g ∷ k ∷ gs) zero x f h = refl
-point_next jobs (s ∷ ss) (g ∷ gs) (suc j) x f h = point_next jobs ss gs j (last_point jobs s (begun g.from x)) f.1 (omega arith)
+point_next jobs (s ∷ ss) (g ∷ gs) (suc j) x f h = point_next jobs ss gs j (last_point jobs s (list_point g.from x)) f.1 (omega arith)
 
 -- what the lists before it don't know is as it was
 pub point_untouched : (jobs : List Job) (ss : List (List SInstr)) (gs : List Leg) (j : ℕ) (x : Point) (p : ℕ) → AreInForm ss gs → j < length gs → ((i : ℕ) → i < j → (get_or gs i no_leg).known ≤ p)
@@ -60,5 +60,5 @@ point_untouched jobs [] (g ∷ gs) j x p f h k = absurd f
 point_untouched jobs (s ∷ ss) [] j x p f h k = absurd f
 point_untouched jobs (s ∷ ss) (g ∷ gs) zero x p f h k = refl
 point_untouched jobs (s ∷ ss) (g ∷ gs) (suc j) x p f h k =
-    point_untouched jobs ss gs j (last_point jobs s (begun g.from x)) p f.1 (omega arith) (λ i l. k (suc i) (omega (arith, l)))
-    ∙ untouched g.known g.known g.to jobs s (begun g.from x) p f.0 (omega arith) (k 0 (omega arith))
+    point_untouched jobs ss gs j (last_point jobs s (list_point g.from x)) p f.1 (omega arith) (λ i l. k (suc i) (omega (arith, l)))
+    ∙ untouched g.known g.known g.to jobs s (list_point g.from x) p f.0 (omega arith) (k 0 (omega arith))

@@ -23,7 +23,7 @@ use Rattle.htl_ecode.proofs.Spelled.{ModeReads}
 use Rattle.htl_emach.specs.Contents.{Content}
 use Rattle.htl_emach.specs.Following.{phase_path}
 use Rattle.htl_refine.specs.ListPlans.{ListPlan as Plan, list_walk}
-use Rattle.htl_refine.specs.RecordCounts.{count_before}
+use Rattle.htl_refine.specs.RecordCounts.{count_left_before}
 use Rattle.htl_refine.specs.Records.{AreTookWithin}
 use Rattle.htl_machine.specs.declared.numbering.ListAt.{ListAt}
 use Rattle.htl_machine.specs.Calls.{GoesBy}
@@ -31,9 +31,9 @@ use Rattle.htl_machine.specs.Follows.{IsLoaded, DeskAt, DeskStands, DeskFollows}
 use Rattle.htl_machine.specs.Leaving.{due_by, Leaves}
 use Rattle.htl_machine.specs.Readiness.{desk_replay, desk_at}
 use Rattle.htl_machine.specs.Recording.{Records}
-use Rattle.htl_machine.specs.Texts.{some_records, old_records}
+use Rattle.htl_machine.specs.Texts.{some_records, turn_old_records}
 use Rattle.htl_machine.specs.Tellings.{tell_all}
-use Rattle.htl_machine.specs.Timing.{begins}
+use Rattle.htl_machine.specs.Timing.{some_round_begins}
 use Rattle.htl_machine.specs.Worlds.{all_reads}
 use Rattle.htl_machine.specs.ListTurns.{Turn, AreTurns, AreListed, turn_walk}
 use Rattle.htl_machine.specs.RunLists.{turn_at, turn_by, list_turn}
@@ -80,7 +80,7 @@ nowhere_told code (d ∷ ds) = ap (desk_replay code ds) (by_instr (slice_get cod
 -- of the list before an instant
 abbrev pub owed_before : (ℕ → Turn) → Option ℕ → ℕ → List Left
 owed_before turn None now = []
-owed_before turn (Some q) now = old_records turn now
+owed_before turn (Some q) now = turn_old_records turn now
 
 none_left : (s n k : ℕ) → take n (drop k (told_from s 0 [])) ≡ []
 none_left s zero zero = refl
@@ -98,7 +98,7 @@ owed_are turn None now steps desk f own p s k d same at = no_records p s k (due_
 owed_are turn (Some q) zero steps desk f own p s k d same at = no_records p s k (due_by p s 0 - k) (same ∙ own)
 owed_are turn (Some q) (suc n) steps desk f own p s k d same at =
     let u = turn n in
-    let text : List walks.Left → ℕ → ℕ → List Left = λ ls s k. take (count_before (suc (suc n) - s) ls - k) (drop k (told_from s 0 ls)) in
+    let text : List walks.Left → ℕ → ℕ → List Left = λ ls s k. take (count_left_before (suc (suc n) - s) ls - k) (drop k (told_from s 0 ls)) in
     let walked : list_walk p ≡ turn_walk u =
     ap (λ (js : List Job). walk_from js p.schedule p.first) (sym at.jobs ∙ f.jobs)
     ∙ ap₂ (λ (is : List SInstr) (x : Point). walk_from u.plan.jobs is x) (same ∙ own) (sym at.first ∙ f.first) in
@@ -118,25 +118,25 @@ module _ (t : Tables) (code : ECode) (schedules : List (List SInstr)) (loaded : 
   no_root e = ap (λ (us : List Module). places_from is_root 0 us) (loaded_empty t schedules loaded e)
 
   -- where a list begins there is a period, and it begins there
-  pub beginning : (now : ℕ) → begins t now ≡ true → (q : ℕ) × (hyper t ≡ Some q) × ((turn_at t schedules es now).frame + (turn_at t schedules es now).from ≡ now)
+  pub beginning : (now : ℕ) → some_round_begins t now ≡ true → (q : ℕ) × (hyper t ≡ Some q) × ((turn_at t schedules es now).frame + (turn_at t schedules es now).from ≡ now)
   beginning now b = by (hyper t) refl
     where
       by : (o : Option ℕ) → hyper t ≡ o → (q : ℕ) × (hyper t ≡ Some q) × ((turn now).frame + (turn now).from ≡ now)
-      by None e = absurd (let z : begins t now ≡ false = begins_never t now (no_root e) in let y : ⊥ = cc in y)
+      by None e = absurd (let z : some_round_begins t now ≡ false = begins_never t now (no_root e) in let y : ⊥ = cc in y)
       by (Some q) e = (q, e, eqb-true ((turn now).frame + (turn now).from) now (sym (loaded_begins t schedules loaded es within q e now) ∙ b))
 
   -- where none begins the list of the instant before goes on
-  pub going : (q now : ℕ) → hyper t ≡ Some q → begins t now ≡ false → (turn now).frame + (turn now).from ≢ now
+  pub going : (q now : ℕ) → hyper t ≡ Some q → some_round_begins t now ≡ false → (turn now).frame + (turn now).from ≢ now
   going q now root b = eqb-false ((turn now).frame + (turn now).from) now (sym (loaded_begins t schedules loaded es within q root now) ∙ b)
 
-  same_turn : (q n : ℕ) → hyper t ≡ Some q → begins t (suc n) ≡ false → turn (suc n) ≡ turn n
+  same_turn : (q n : ℕ) → hyper t ≡ Some q → some_round_begins t (suc n) ≡ false → turn (suc n) ≡ turn n
   same_turn q n root b = elim ((listed q root).on n) [ inl e ↦ e | inr e ↦ absurd (going q (suc n) root b e.0) ]
 
-  never_first : (q : ℕ) → hyper t ≡ Some q → begins t 0 ≡ false → ⊥
+  never_first : (q : ℕ) → hyper t ≡ Some q → some_round_begins t 0 ≡ false → ⊥
   never_first q root b = going q 0 root b (listed q root).first
 
   -- the S machine after an instant at which none begins
-  pub going_desk : (o : Option ℕ) → hyper t ≡ o → (now : ℕ) (steps : List SInstr) (desk d1 d2 : Round) (w0 w1 : Content) → begins t now ≡ false → DeskFollows (turn_at t schedules es) o now desk
+  pub going_desk : (o : Option ℕ) → hyper t ≡ o → (now : ℕ) (steps : List SInstr) (desk d1 d2 : Round) (w0 w1 : Content) → some_round_begins t now ≡ false → DeskFollows (turn_at t schedules es) o now desk
       → IsScheduleOf (turn_at t schedules es) o now steps → rounds.Stands desk steps → Records t desk w0 d1 w1 steps now → d2 ≡ desk_replay code (phase_path t code es now 3) d1 → rounds.Stands d2 steps
       → DeskFollows (turn_at t schedules es) o (suc now) d2
   going_desk None root now steps desk d1 d2 w0 w1 b f own st rec told st' =
@@ -160,7 +160,7 @@ module _ (t : Tables) (code : ECode) (schedules : List (List SInstr)) (loaded : 
       (desk_on t loaded.range es turn turns (suc n) d1 at (subst (λ z. rounds.Stands z u.plan.schedule) flagged (subst (rounds.Stands d2) is st')))
 
   -- the same list stands
-  pub going_on : (o : Option ℕ) → hyper t ≡ o → (now : ℕ) (last : Option ListAt) → begins t now ≡ false → GoesBy (turn_at t schedules es) o now last → GoesBy (turn_at t schedules es) o (suc now) last
+  pub going_on : (o : Option ℕ) → hyper t ≡ o → (now : ℕ) (last : Option ListAt) → some_round_begins t now ≡ false → GoesBy (turn_at t schedules es) o now last → GoesBy (turn_at t schedules es) o (suc now) last
   going_on None root now last b g = g
   going_on (Some q) root zero last b g = absurd (never_first q root b)
   going_on (Some q) root (suc n) last b g = g ∙ ap (λ (u : Turn). Some (turn_list u)) (sym (same_turn q n root b))
@@ -168,7 +168,7 @@ module _ (t : Tables) (code : ECode) (schedules : List (List SInstr)) (loaded : 
   -- ---- where a list begins
 
   -- the list before is over
-  list_ends : (q n : ℕ) → hyper t ≡ Some q → (steps : List SInstr) (desk d1 : Round) (w0 w1 : Content) → begins t (suc n) ≡ true → DeskStands (turn_at t schedules es n).plan (turn_at t schedules es n).frame (suc n) desk
+  list_ends : (q n : ℕ) → hyper t ≡ Some q → (steps : List SInstr) (desk d1 : Round) (w0 w1 : Content) → some_round_begins t (suc n) ≡ true → DeskStands (turn_at t schedules es n).plan (turn_at t schedules es n).frame (suc n) desk
       → steps ≡ (turn_at t schedules es n).plan.schedule → Records t desk w0 d1 w1 steps (suc n)
       → DeskAt (turn_at t schedules es n).plan (turn_at t schedules es n).frame (length (turn_at t schedules es n).plan.schedule) (suc n - (turn_at t schedules es n).frame) d1
   list_ends q n root steps desk d1 w0 w1 b f own rec =
@@ -181,7 +181,7 @@ module _ (t : Tables) (code : ECode) (schedules : List (List SInstr)) (loaded : 
             (records_leave t desk d1 w0 w1 (turn n).plan.schedule (suc n) (subst (λ c. Records t desk w0 d1 w1 c (suc n)) own rec))
       ]
 
-  pub list_over : (o : Option ℕ) → hyper t ≡ o → (now : ℕ) (steps : List SInstr) (desk d1 : Round) (w0 w1 : Content) → begins t now ≡ true → DeskFollows (turn_at t schedules es) o now desk
+  pub list_over : (o : Option ℕ) → hyper t ≡ o → (now : ℕ) (steps : List SInstr) (desk d1 : Round) (w0 w1 : Content) → some_round_begins t now ≡ true → DeskFollows (turn_at t schedules es) o now desk
       → IsScheduleOf (turn_at t schedules es) o now steps → rounds.Stands desk steps → Records t desk w0 d1 w1 steps now → (d1.running ≡ false) × IsAtEnd t schedules es now d1
   list_over None root now steps desk d1 w0 w1 b f own st rec = absurd (let h = beginning now b in let e : Some h.0 ≡ None = sym h.1 ∙ root in let y : ⊥ = cc in y)
   list_over (Some q) root zero steps desk d1 w0 w1 b f own st rec =

@@ -4,7 +4,7 @@ use Rattle.std.proofs.lemmas.Bool.{eqb-true, lt-ltb}
 use Rattle.htl_model.specs.Lists.{joined}
 use Rattle.htl_walk.specs.declared.job.Job.{Job}
 use Rattle.htl_walk.specs.Walk.{job_at, is_position}
-use Rattle.htl_machine.specs.JobLines.{RunLine, slice_of}
+use Rattle.htl_machine.specs.JobLines.{RunLine, closed_slice_line}
 use Rattle.htl_machine.specs.JobLines.RunLine.{DoneLine}
 use Rattle.htl_machine.specs.JobTimes.{is_in, done_time, slice_time}
 use Rattle.htl_machine.specs.Texts.{inv_at}
@@ -20,7 +20,7 @@ module _ (jobs : List Job) (f q n i start end : ℕ) where
   Count at o = (p : ℕ) × (o ≡ Some p) × (is_in i start end (job_at jobs p).inv (f + at) ≡ eqb p q)
 
   abbrev lines_at : ℕ → Option ℕ → Option (ℕ × ℕ) → Bool → List RunLine
-  lines_at at o sl fin = slice_of (inv_at jobs o) (option_map (shift f) sl) ++ cond fin (DoneLine (f + at) (inv_at jobs o) ∷ []) []
+  lines_at at o sl fin = closed_slice_line (inv_at jobs o) (option_map (shift f) sl) ++ cond fin (DoneLine (f + at) (inv_at jobs o) ∷ []) []
 
   -- what is left before n of something that only q gives
   left_before : {X : Type 0} (at p : ℕ) (xs : List X) → (p ≡ q → f + at < n) → cond (ltb (f + at) n) (cond (eqb p q) xs []) [] ≡ cond (eqb p q) xs []
@@ -50,7 +50,7 @@ module _ (jobs : List Job) (f q n i start end : ℕ) where
       (ap₂ (λ (b : Bool) (xs : List (ℕ × ℕ)). cond b (shift f u ∷ []) [] ++ xs) test (no_slices fin (f + at) inv) ∙ append-nil (cond (eqb p q) (shift f u ∷ []) []))
       ∙ left_before at p (shift f u ∷ []) (λ e. early (ap (λ (z : ℕ). Some z) e) u refl)
 
-  no_dones : (inv : ℕ) (sl : Option (ℕ × ℕ)) → joined (done_time i start end) (slice_of inv (option_map (shift f) sl)) ≡ []
+  no_dones : (inv : ℕ) (sl : Option (ℕ × ℕ)) → joined (done_time i start end) (closed_slice_line inv (option_map (shift f) sl)) ≡ []
   no_dones inv (Some u) = refl
   no_dones inv None = refl
 
@@ -59,7 +59,7 @@ module _ (jobs : List Job) (f q n i start end : ℕ) where
       → cond (ltb (f + at) n) (joined (done_time i start end) (lines_at at o sl fin)) [] ≡ cond (is_position o q && fin) ((f + at) ∷ []) []
   done_claim at o sl false works early =
       let empty : joined (done_time i start end) (lines_at at o sl false) ≡ [] =
-      joined-append (done_time i start end) (slice_of (inv_at jobs o) (option_map (shift f) sl)) [] ∙ ap (λ (xs : List ℕ). xs ++ []) (no_dones (inv_at jobs o) sl) in
+      joined-append (done_time i start end) (closed_slice_line (inv_at jobs o) (option_map (shift f) sl)) [] ∙ ap (λ (xs : List ℕ). xs ++ []) (no_dones (inv_at jobs o) sl) in
       ap (λ (xs : List ℕ). cond (ltb (f + at) n) xs []) empty ∙ nothing (ltb (f + at) n) ∙ sym (never (is_position o q))
     where
       never : (b : Bool) → cond {A = List ℕ} (b && false) ((f + at) ∷ []) [] ≡ []
@@ -72,7 +72,7 @@ module _ (jobs : List Job) (f q n i start end : ℕ) where
       let same : w.0 ≡ p = some_same _ _ (sym w.1) in
       let test : is_in i start end inv (f + at) ≡ eqb p q = ap (λ (z : ℕ). is_in i start end (job_at jobs z).inv (f + at)) (sym same) ∙ w.2 ∙ ap (λ (z : ℕ). eqb z q) same in
       let one : joined (done_time i start end) (lines_at at (Some p) sl true) ≡ cond (eqb p q) ((f + at) ∷ []) [] =
-      joined-append (done_time i start end) (slice_of inv (option_map (shift f) sl)) (DoneLine (f + at) inv ∷ [])
+      joined-append (done_time i start end) (closed_slice_line inv (option_map (shift f) sl)) (DoneLine (f + at) inv ∷ [])
       ∙ ap₂ (λ (xs : List ℕ) (b : Bool). xs ++ (cond b ((f + at) ∷ []) [] ++ [])) (no_dones inv sl) test
       ∙ append-nil (cond (eqb p q) ((f + at) ∷ []) []) in
       ap (λ (xs : List ℕ). cond (ltb (f + at) n) xs []) one ∙ left_before at p ((f + at) ∷ []) (λ e. early (ap (λ (z : ℕ). Some z) e) refl)

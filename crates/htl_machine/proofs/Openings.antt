@@ -10,7 +10,7 @@ use Rattle.htl_smach.specs.Rounds.{Round}
 use Rattle.htl_ecode.specs.declared.ecode.ECode.{ECode}
 use Rattle.htl_emach.specs.Contents.{Content}
 use Rattle.htl_emach.specs.Calendars.{Standing}
-use Rattle.htl_emach.specs.Following.{Follows, phase_path}
+use Rattle.htl_emach.specs.Following.{FollowsCode, phase_path}
 use Rattle.htl_machine.specs.Running.{replay}
 use Rattle.htl_console.specs.declared.shown.Shown.{Shown}
 use Rattle.htl_machine.specs.Leaving.{due_by}
@@ -46,7 +46,7 @@ opened t code es at steps shows values r0 r1 n w0 w1 w2 w3 records desk writes s
     }
 
 -- before an instant the writes come next
-pub writes_start : (t : Tables) (code : ECode) (es : List Event) (at : ℕ) (m : Standing) (w : Content) → Follows t code es at m → IsStarting t code es at 1 m w
+pub writes_start : (t : Tables) (code : ECode) (es : List Event) (at : ℕ) (m : Standing) (w : Content) → FollowsCode t code es at m → IsStarting t code es at 1 m w
 writes_start t code es at m w h = record {
   values = λ two. absurd (omega (arith, two));
   idle = h.idle;

@@ -14,7 +14,7 @@ use Rattle.htl_model.specs.FormRules.{AbstractPorts, Input}
 use Rattle.htl_model.specs.FrameRules.{KeptApart}
 use Rattle.htl_model.specs.Meaning.{before, stay_of, val, out, out_by, input_value, port_output, writer_from}
 use Rattle.htl_model.proofs.Laws.{seen_before}
-use Rattle.htl_machine.specs.Values.{Stands, HasRead, Orders}
+use Rattle.htl_machine.specs.Values.{InvStands, HasReadInputs, Orders}
 use Rattle.htl_walk.proofs.Finishes.{some_same}
 use Rattle.htl_refine.proofs.RecordOrder.{not_some}
 use Rattle.htl_walk.proofs.Work.{all_at}
@@ -134,7 +134,7 @@ module _ (t : Tables) (range : AreInRange t) (kept : KeptApart t 12) where
           absurd (kept AbstractPorts (record { mode = x.mode; inv = Some i; part = Input k }) k 0 (omega arith) (λ e. omega (arith, e))
           (mode.0, mode.1, (x, at, refl, (E.Port p, e, (refl, refl, con, record { number = w; writer = d.inv; at = d.known; abstract = is; place = o; writes = d.end })))))
 
-  pub writer_stands : (stays : List (Option Stay)) (i s : ℕ) (x : Inv) (k p w o : ℕ) → Stands t stays i x s → slice_get x.reads k ≡ Some (E.Port p) → (d : IsWriter t x.mode p w o) → Stands t stays w d.inv s
+  pub writer_stands : (stays : List (Option Stay)) (i s : ℕ) (x : Inv) (k p w o : ℕ) → InvStands t stays i x s → slice_get x.reads k ≡ Some (E.Port p) → (d : IsWriter t x.mode p w o) → InvStands t stays w d.inv s
   writer_stands stays i s x k p w o st e d =
       record {
         known = d.known;
@@ -143,8 +143,8 @@ module _ (t : Tables) (range : AreInRange t) (kept : KeptApart t 12) where
       }
 
   -- what a finished job put out doesn't depend on what is read from `now` on
-  pub out_seen : (es : List Event) (now : ℕ) (finished : ℕ → Bool) → ((i : ℕ) (x : Inv) (s : ℕ) → Stands t (before t es now).stays i x s → finished i ≡ true → HasRead t now finished x s)
-      → (n i s k : ℕ) (x : Inv) → Stands t (before t es now).stays i x s → finished i ≡ true → out n t (seen_before t es now) i s k ≡ out n t (val t es) i s k
+  pub out_seen : (es : List Event) (now : ℕ) (finished : ℕ → Bool) → ((i : ℕ) (x : Inv) (s : ℕ) → InvStands t (before t es now).stays i x s → finished i ≡ true → HasReadInputs t now finished x s)
+      → (n i s k : ℕ) (x : Inv) → InvStands t (before t es now).stays i x s → finished i ≡ true → out n t (seen_before t es now) i s k ≡ out n t (val t es) i s k
   out_seen es now finished read zero i s k x st fin = refl
   out_seen es now finished read (suc n) i s k x st fin =
       let f : ℕ → ℕ → ℤ = λ w o. out n t (seen_before t es now) w s o in
@@ -155,8 +155,8 @@ module _ (t : Tables) (range : AreInRange t) (kept : KeptApart t 12) where
       (λ j e at. by_end (λ w o y sw fw. out_seen es now finished read n w s o y sw fw) j e at (read i x s st fin)))
       ∙ sym (ap (out_by t (val t es) g s k) st.known)
     where
-      by_end : ((w o : ℕ) (y : Inv) → Stands t (before t es now).stays w y s → finished w ≡ true → out n t (seen_before t es now) w s o ≡ out n t (val t es) w s o)
-          → (j : ℕ) (e : End) → slice_get x.reads j ≡ Some e → HasRead t now finished x s
+      by_end : ((w o : ℕ) (y : Inv) → InvStands t (before t es now).stays w y s → finished w ≡ true → out n t (seen_before t es now) w s o ≡ out n t (val t es) w s o)
+          → (j : ℕ) (e : End) → slice_get x.reads j ≡ Some e → HasReadInputs t now finished x s
           → input_value t (seen_before t es now) (λ w o. out n t (seen_before t es now) w s o) x.mode s e ≡ input_value t (val t es) (λ w o. out n t (val t es) w s o) x.mode s e
       by_end ih j (E.Comm c m) at h = ap (λ b. cond b (val t es c (s + m * comm_period t c)) (pos 0)) (lt-ltb (s + m * comm_period t c) now (h.comms j (E.Comm c m) at))
       by_end ih j (E.Port p) at h = by_writer (writer_from x.mode p 0 t.invs) refl

@@ -4,12 +4,12 @@ use Rattle.std.proofs.lemmas.Bool.{ne_eqb}
 use Rattle.std.specs.List.{list_any}
 use Rattle.htl_model.specs.Selections.{root_modules}
 use Rattle.htl_model.specs.Tables.{Tables}
-use Rattle.htl_machine.specs.Timing.{opens, begins}
+use Rattle.htl_machine.specs.Timing.{opens, some_round_begins}
 
 pub divides : (p at : ℕ) → 0 < p → (not (eqb p 0) && eqb (at % p) 0) ≡ eqb (at % p) 0
 divides zero at h = absurd (omega (arith, h))
 divides (suc p) at h = ap (λ b. not b && eqb (at % suc p) 0) (ne_eqb (suc p) 0 (λ e. omega (arith, e)))
 
 -- without modules
-pub begins_never : (t : Tables) (at : ℕ) → root_modules t ≡ [] → begins t at ≡ false
+pub begins_never : (t : Tables) (at : ℕ) → root_modules t ≡ [] → some_round_begins t at ≡ false
 begins_never t at e = ap (list_any (opens t at)) e

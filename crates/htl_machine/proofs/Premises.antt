@@ -8,7 +8,7 @@ use Rattle.htl_smach.specs.Rounds as rounds
 use Rattle.htl_smach.specs.Rounds.{Round, IsTold, no_round}
 use Rattle.htl_smach.proofs.Telling.{pending_is}
 use Rattle.htl_refine.specs.ListPlans.{ListPlan as Plan, list_walk}
-use Rattle.htl_refine.specs.RecordCounts.{count_before}
+use Rattle.htl_refine.specs.RecordCounts.{count_left_before}
 use Rattle.htl_emach.specs.Contents.{Content}
 use Rattle.htl_machine.specs.Follows.{DeskStands, DeskAt}
 use Rattle.htl_machine.specs.Recording.{Records}
@@ -26,7 +26,7 @@ at_told p s k now r past f q pend =
     omega (arith, late, f.start, ap (λ js. (job_at js q).release) f.jobs, past)
 
 pub stands_told : (p : Plan) (s now : ℕ) (r : Round) → s ≤ now → DeskStands p s now r → IsTold r now
-stands_told p s now r past f = at_told p s (count_before (now - s) (list_walk p)) now r past (desk_opens p s now r f)
+stands_told p s now r past f = at_told p s (count_left_before (now - s) (list_walk p)) now r past (desk_opens p s now r f)
 
 -- where there is no list
 abbrev pub no_list : Plan

@@ -11,7 +11,7 @@ use Rattle.htl_model.specs.declared.parts.Comm.{Comm}
 use Rattle.htl_model.specs.Functions.{same}
 use Rattle.htl_model.specs.Lines.{lines_text}
 use Rattle.htl_model.specs.Lists.{joined, up_to}
-use Rattle.htl_model.specs.Meaning.{state, before, value_in, mode_in, value_line, mode_line, value_lines, same_mode}
+use Rattle.htl_model.specs.Meaning.{state, before, value_in, mode_in_state, value_line, mode_line, value_lines, same_mode}
 use Rattle.htl_model.specs.Frames.{hyper}
 use Rattle.htl_model.specs.Tables.{Tables, mode_period}
 use Rattle.htl_walk.specs.declared.schedule.SInstr.{SInstr}
@@ -47,7 +47,7 @@ use Rattle.htl_machine.specs.Running.{replay}
 use Rattle.htl_machine.specs.Readiness.{desk_replay}
 use Rattle.htl_machine.specs.Sensors.{AreShown, ShowsNothing}
 use Rattle.htl_machine.specs.Texts.{e_line, record_text, records_of, some_records}
-use Rattle.htl_machine.specs.Timing.{begins}
+use Rattle.htl_machine.specs.Timing.{some_round_begins}
 use Rattle.htl_machine.proofs.Accepted.{accepted_is_loaded}
 use Rattle.htl_machine.proofs.After.{closed_values, desk_goes_on, lines_are_composed, next_up_to, passed_of, records_go_on, list_goes_on, text_goes_on}
 use Rattle.htl_machine.proofs.Agreeing.{modes_open}
@@ -83,7 +83,7 @@ same_mode_self (Some n) = eqb_self n
     eqb_self : (n : ℕ) → eqb n n ≡ true
     eqb_self n = grind (arith, nat_tests)
 
-no_lines : (t : Tables) (es : List Event) (n : ℕ) → (state t es (suc n)).values ≡ (state t es n).values → ((k : ℕ) → k < length t.modules → mode_in (state t es (suc n)) k ≡ mode_in (state t es n) k)
+no_lines : (t : Tables) (es : List Event) (n : ℕ) → (state t es (suc n)).values ≡ (state t es n).values → ((k : ℕ) → k < length t.modules → mode_in_state (state t es (suc n)) k ≡ mode_in_state (state t es n) k)
     → value_lines t es (suc n) ≡ []
 no_lines t es n values modes =
     ap₂ (λ (a b : List Line). a ++ b) (up_to_none (value_line (suc n) (state t es n) (state t es (suc n))) (length t.comms) (λ c less. value c))
@@ -101,9 +101,9 @@ no_lines t es n values modes =
 
     mode : (k : ℕ) → k < length t.modules → mode_line (suc n) (state t es n) (state t es (suc n)) k ≡ []
     mode k less =
-        let is : same_mode (mode_in (state t es n) k) (mode_in (state t es (suc n)) k) ≡ true =
-        ap (λ (o : Option ℕ). same_mode (mode_in (state t es n) k) o) (modes k less) ∙ same_mode_self (mode_in (state t es n) k) in
-        let line : Line = ModeLine (suc n) k (mode_in (state t es (suc n)) k) in
+        let is : same_mode (mode_in_state (state t es n) k) (mode_in_state (state t es (suc n)) k) ≡ true =
+        ap (λ (o : Option ℕ). same_mode (mode_in_state (state t es n) k) o) (modes k less) ∙ same_mode_self (mode_in_state (state t es n) k) in
+        let line : Line = ModeLine (suc n) k (mode_in_state (state t es (suc n)) k) in
         ap (λ (b : Bool). cond b [] (line ∷ [])) is
 
 no_path_lines : (t : Tables) (code : ECode) (show : Shown) (at : ℕ) (ds : List Done) → ds ≡ [] → path_lines t code show at ds ≡ []
@@ -166,17 +166,17 @@ module _ (m : Seen) (es : List Event) (n : ℕ) (accepted : IsAccepted m.object)
   still = idle t code es (suc n) m.standing is_sound u.before.values.triggers q.triggers
 
   -- where a list begins a round ends, which is a trigger
-  never : begins m.object.tables (suc n) ≡ true → ⊥
+  never : some_round_begins m.object.tables (suc n) ≡ true → ⊥
   never b =
       let e = beginnings_end t es n loaded.range loaded.kept (sym (begins_whole t (suc n) loaded.range loaded.kept) ∙ b) in
       let inside = (standing_at t loaded.range es n).known e.unit e.stay e.is in
       let due = q.triggers (e.stay.start + mode_period t e.stay.mode) (round_ends t code es (suc n) m.standing u.before.values.triggers e.unit e.stay inside e.is) in
       omega (arith, due, e.ends)
 
-  none_begins : begins m.object.tables (suc n) ≡ false
-  none_begins = by (begins t (suc n)) refl
+  none_begins : some_round_begins m.object.tables (suc n) ≡ false
+  none_begins = by (some_round_begins t (suc n)) refl
     where
-      by : (b : Bool) → begins t (suc n) ≡ b → begins t (suc n) ≡ false
+      by : (b : Bool) → some_round_begins t (suc n) ≡ b → some_round_begins t (suc n) ≡ false
       by false e = e
       by true e = absurd (never e)
 
@@ -244,7 +244,7 @@ module _ (m : Seen) (es : List Event) (n : ℕ) (accepted : IsAccepted m.object)
       sym (closed_values m es (suc n) accepted read u steps is_ready m.held.world.values u.before.values.values.values m.held.desk m.held.world opened)
       ∙ ap (λ (w : Content). w.values) (sym world_same) ∙ u.before.values.values.values
 
-  modes_same : (k : ℕ) → k < length m.object.tables.modules → mode_in (state m.object.tables es (suc n)) k ≡ mode_in (state m.object.tables es n) k
+  modes_same : (k : ℕ) → k < length m.object.tables.modules → mode_in_state (state m.object.tables es (suc n)) k ≡ mode_in_state (state m.object.tables es n) k
   modes_same k less =
       sym (modes_open t code es (suc (suc n)) m.standing.calendar still.later.calendar k less) ∙ modes_open t code es (suc n) m.standing.calendar u.before.values.triggers.calendar k less
 
@@ -311,7 +311,7 @@ pass_over m es from to accepted u read order q =
 -- ---- what the code knows
 
 -- from an instant on nothing is due up to the first trigger, the first instruction that is left and the first sensor that is shown another value
-pub quiet_from : (m : Seen) (from shown triggered due : ℕ) (e s : Option ℕ) → 0 < from → m.standing.running ≡ None → IsNext m.standing e → rounds.IsNext m.held.desk (schedule_by m.object [] m.list) s
+pub quiet_from : (m : Seen) (from shown triggered due : ℕ) (e s : Option ℕ) → 0 < from → m.standing.running ≡ None → IsNext m.standing e → rounds.IsNextLeave m.held.desk (schedule_by m.object [] m.list) s
     → ShowsNothing m.object.tables m.held.shows m.held.world.values (length m.object.tables.comms) from shown
     → triggered ≤ shown → IfSome e (λ n. (at : ℕ) → from ≤ at → at < triggered → at < n) → due ≤ triggered → IfSome s (λ n. (at : ℕ) → from ≤ at → at < due → at < n) → AreQuiet m from due
 quiet_from m from shown triggered due e s some idle next leaves same sooner before_e soonest before_s = λ at past less.
@@ -328,7 +328,7 @@ quiet_from m from shown triggered due e s some idle next leaves same sooner befo
     triggers None None is h before at past less other due = absurd (h other due)
     triggers (Some n) None is h before at past less other due = omega (arith, before at past less, h.1 other due)
 
-    leaves_none : (s : Option ℕ) → rounds.IsNext m.held.desk (schedule_by m.object [] m.list) s → IfSome s (λ n. (at : ℕ) → from ≤ at → at < due → at < n) → (at : ℕ) → from ≤ at → at < due
+    leaves_none : (s : Option ℕ) → rounds.IsNextLeave m.held.desk (schedule_by m.object [] m.list) s → IfSome s (λ n. (at : ℕ) → from ≤ at → at < due → at < n) → (at : ℕ) → from ≤ at → at < due
         → next_left m.held.desk (schedule_by m.object [] m.list) at ≡ None
     leaves_none None h before at past less = h at
     leaves_none (Some n) h before at past less = h.1 at (before at past less)

@@ -12,8 +12,8 @@ use Rattle.htl_ecode.specs.declared.instr.EInstr.TheVariants as I
 use Rattle.htl_ecode.specs.Offsets.{counts, next_offset}
 use Rattle.htl_ecode.specs.Chains.{Want, Does, Waits, Turns, Tests, Asks, Arrives, all_do, waits_for, block_chain}
 use Rattle.htl_ecode.specs.Chains as C
-use Rattle.htl_machine.specs.Worlds.{reads_at, all_reads}
-use Rattle.htl_machine.specs.Values.{Stands}
+use Rattle.htl_machine.specs.Worlds.{wanted_reads, all_reads}
+use Rattle.htl_machine.specs.Values.{InvStands}
 use Rattle.htl_machine.specs.Casts.{IsCast, HaveWindows}
 use Rattle.htl_machine.specs.Turns.{position_from}
 use Rattle.htl_machine.specs.Follows.{released_before}
@@ -57,10 +57,10 @@ called_release t m o i x at c r =
 
 module _ (t : Tables) (stays : List (Option Stay)) (n now : ℕ) (standing : IsStanding t stays n) (past : n ≤ now) where
   -- who is asked for stands and is released now
-  pub release_of : (i : ℕ) → AsksFor (I.Release i) (all_reads t now stays) → (x : Inv) × (s : ℕ) × Stands t stays i x s × (s + release t x ≡ now)
-  release_of i h = let r = asks_up_to (I.Release i) (λ u. reads_at t now (stay_of stays u)) (length t.modules) h in by_stay r.0 (stay_of stays r.0) refl r.2
+  pub release_of : (i : ℕ) → AsksFor (I.Release i) (all_reads t now stays) → (x : Inv) × (s : ℕ) × InvStands t stays i x s × (s + release t x ≡ now)
+  release_of i h = let r = asks_up_to (I.Release i) (λ u. wanted_reads t now (stay_of stays u)) (length t.modules) h in by_stay r.0 (stay_of stays r.0) refl r.2
     where
-      by_stay : (u : ℕ) (o : Option Stay) → stay_of stays u ≡ o → AsksFor (I.Release i) (reads_at t now o) → (x : Inv) × (s : ℕ) × Stands t stays i x s × (s + release t x ≡ now)
+      by_stay : (u : ℕ) (o : Option Stay) → stay_of stays u ≡ o → AsksFor (I.Release i) (wanted_reads t now o) → (x : Inv) × (s : ℕ) × InvStands t stays i x s × (s + release t x ≡ now)
       by_stay u None is a = absurd a
       by_stay u (Some y) is a =
           let c = release_called t y.mode (now - y.start) i a in
@@ -76,12 +76,12 @@ module _ (t : Tables) (stays : List (Option Stay)) (n now : ℕ) (standing : IsS
             omega (arith, c.3, standing.past u y is),
           )
 
-  pub release_asks : (i s : ℕ) (x : Inv) → Stands t stays i x s → s + release t x ≡ now → AsksFor (I.Release i) (all_reads t now stays)
+  pub release_asks : (i s : ℕ) (x : Inv) → InvStands t stays i x s → s + release t x ≡ now → AsksFor (I.Release i) (all_reads t now stays)
   release_asks i s x st e =
       let k = mode_module t x.mode in
       let y : Stay = record { mode = x.mode; start = s } in
-      up_to_asks (I.Release i) (λ u. reads_at t now (stay_of stays u)) (length t.modules) k (standing.known k y st.in_round)
-      (subst (λ o. AsksFor (I.Release i) (reads_at t now o)) (sym st.in_round)
+      up_to_asks (I.Release i) (λ u. wanted_reads t now (stay_of stays u)) (length t.modules) k (standing.known k y st.in_round)
+      (subst (λ o. AsksFor (I.Release i) (wanted_reads t now o)) (sym st.in_round)
       (called_release t x.mode (now - s) i x st.known (all_true (eqb x.mode x.mode) (is_concrete t x) (eq-eqb x.mode x.mode refl) st.concrete) (omega (arith, e))))
     where
       all_true : (a b : Bool) → a ≡ true → b ≡ true → (a && b) ≡ true

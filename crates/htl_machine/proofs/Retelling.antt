@@ -17,7 +17,7 @@ use Rattle.htl_machine.specs.RunLists.{turn_at}
 use Rattle.htl_machine.specs.Follows.{reading_of, IsLoaded}
 use Rattle.htl_console.specs.declared.shown.Shown.{Shown}
 use Rattle.htl_console.specs.Shows.{shows_values, shows_code}
-use Rattle.htl_machine.specs.Texts.{e_line, old_turn, old_records, new_records, records_text, list_texts, instant_text, text_before, records_of}
+use Rattle.htl_machine.specs.Texts.{e_line, old_turn, turn_old_records, turn_new_records, records_text, list_texts, instant_text, listed_text_before, records_of}
 use Rattle.htl_machine.proofs.Events.{Alike, state_same, before_same}
 use Rattle.htl_machine.proofs.ListsSoFar.{AreSoFar, between_so_far, new_so_far, texts_so_far}
 use Rattle.htl_machine.proofs.LoadedLists.{loaded_turns}
@@ -25,13 +25,13 @@ use Rattle.htl_machine.proofs.Taking.{alike, so_far}
 
 module _ (t : Tables) (code : ECode) (schedules : List (List SInstr)) (es fs : List Event) (now : ℕ) (alike : Alike t es fs now) (past : (n : ℕ) → (turn_at t schedules es n).frame ≤ n)
     (same : (n : ℕ) → n < now → AreSoFar (turn_at t schedules es n) (turn_at t schedules fs n) now) where
-  old_records_same : (n : ℕ) → n < now → old_records (turn_at t schedules es) n ≡ old_records (turn_at t schedules fs) n
+  old_records_same : (n : ℕ) → n < now → turn_old_records (turn_at t schedules es) n ≡ turn_old_records (turn_at t schedules fs) n
   old_records_same zero h = refl
   old_records_same (suc n) h =
       let down = past n in
       between_so_far (turn_at t schedules es n) (turn_at t schedules fs n) now (same n (omega (arith, h))) (suc n) (suc (suc n)) (omega (arith, down)) (omega arith) (omega (arith, h))
 
-  new_records_same : (n : ℕ) → n < now → new_records (turn_at t schedules es) n ≡ new_records (turn_at t schedules fs) n
+  new_records_same : (n : ℕ) → n < now → turn_new_records (turn_at t schedules es) n ≡ turn_new_records (turn_at t schedules fs) n
   new_records_same n h = new_so_far (turn_at t schedules es n) (turn_at t schedules fs n) now (same n h) n (past n) (omega (arith, h))
 
   -- so the totals stay
@@ -43,16 +43,16 @@ module _ (t : Tables) (code : ECode) (schedules : List (List SInstr)) (es fs : L
       by_root (Some p) = ap₂ (λ x y. x ++ y) (old_records_same n h) (new_records_same n h)
 
   module _ (show : Shown) where
-    old_same : (n : ℕ) → n < now → records_text t show (old_turn (turn_at t schedules es) n) (old_records (turn_at t schedules es) n) ≡ records_text t show (old_turn (turn_at t schedules fs) n) (old_records (turn_at t schedules fs) n)
+    old_same : (n : ℕ) → n < now → records_text t show (old_turn (turn_at t schedules es) n) (turn_old_records (turn_at t schedules es) n) ≡ records_text t show (old_turn (turn_at t schedules fs) n) (turn_old_records (turn_at t schedules fs) n)
     old_same zero h = refl
     old_same (suc n) h =
         ap (records_text t show (turn_at t schedules es n)) (old_records_same (suc n) h)
-        ∙ texts_so_far (turn_at t schedules es n) (turn_at t schedules fs n) now (same n (omega (arith, h))) t show (old_records (turn_at t schedules fs) (suc n))
+        ∙ texts_so_far (turn_at t schedules es n) (turn_at t schedules fs n) now (same n (omega (arith, h))) t show (turn_old_records (turn_at t schedules fs) (suc n))
 
-    new_same : (n : ℕ) → n < now → records_text t show (turn_at t schedules es n) (new_records (turn_at t schedules es) n) ≡ records_text t show (turn_at t schedules fs n) (new_records (turn_at t schedules fs) n)
+    new_same : (n : ℕ) → n < now → records_text t show (turn_at t schedules es n) (turn_new_records (turn_at t schedules es) n) ≡ records_text t show (turn_at t schedules fs n) (turn_new_records (turn_at t schedules fs) n)
     new_same n h =
         ap (records_text t show (turn_at t schedules es n)) (new_records_same n h)
-        ∙ texts_so_far (turn_at t schedules es n) (turn_at t schedules fs n) now (same n h) t show (new_records (turn_at t schedules fs) n)
+        ∙ texts_so_far (turn_at t schedules es n) (turn_at t schedules fs n) now (same n h) t show (turn_new_records (turn_at t schedules fs) n)
 
     lists_same : (n : ℕ) → n < now → list_texts t schedules es show (hyper t) n ≡ list_texts t schedules fs show (hyper t) n
     lists_same n h = by_root (hyper t)
@@ -70,7 +70,7 @@ module _ (t : Tables) (code : ECode) (schedules : List (List SInstr)) (es fs : L
         r.0 ++ cond (shows_code show) (joined (e_line t code n) (instant_path t code n x y)) [] ++ cond (shows_values show) (lines_text t (changes t n x y)) [] ++ r.1 in
         ap (λ r. P r (before t es n) (state t es n)) (lists_same n h) ∙ ap₂ (P (list_texts t schedules fs show (hyper t) n)) old new
 
-    pub text_stays : text_before t code schedules es show now ≡ text_before t code schedules fs show now
+    pub text_stays : listed_text_before t code schedules es show now ≡ listed_text_before t code schedules fs show now
     text_stays = up_to_same (instant_text t code schedules es show) (instant_text t code schedules fs show) now (λ n h. instant_stays n h)
 
 -- when a length comes
@@ -84,7 +84,7 @@ module _ (t : Tables) (code : ECode) (schedules : List (List SInstr)) (loaded : 
   pub instant_same : (m : ℕ) → m < now → instant_text t code schedules es show m ≡ instant_text t code schedules (es ++ V.Took i n ∷ []) show m
   instant_same = instant_stays t code schedules es (es ++ V.Took i n ∷ []) now same past (so_far t schedules loaded es within i n fits now reading) show
 
-  pub took_stays : text_before t code schedules es show now ≡ text_before t code schedules (es ++ V.Took i n ∷ []) show now
+  pub took_stays : listed_text_before t code schedules es show now ≡ listed_text_before t code schedules (es ++ V.Took i n ∷ []) show now
   took_stays = text_stays t code schedules es (es ++ V.Took i n ∷ []) now same past (so_far t schedules loaded es within i n fits now reading) show
 
   pub took_records : (m : ℕ) → m < now → records_of t schedules es (hyper t) m ≡ records_of t schedules (es ++ V.Took i n ∷ []) (hyper t) m

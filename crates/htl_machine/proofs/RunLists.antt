@@ -14,7 +14,7 @@ use Rattle.htl_model.proofs.Listed.{get_list_to}
 use Rattle.htl_walk.specs.declared.job.Job.{Job}
 use Rattle.htl_walk.specs.declared.schedule.SInstr.{SInstr}
 use Rattle.htl_walk.specs.PathJobs.{placed_job, next_of}
-use Rattle.htl_walk.specs.Paths.{Leg, AreInForm, begun, end_to_end, path_point}
+use Rattle.htl_walk.specs.Paths.{Leg, AreInForm, list_point, end_to_end, path_point}
 use Rattle.htl_walk.specs.Refinement.{HaveLengths, AreWithinWorst}
 use Rattle.htl_walk.specs.Walk.{Left, Point, InForm, job_at, work, first_point, last_point, finish}
 use Rattle.htl_walk.proofs.Nodes.{nodes_within}
@@ -24,7 +24,7 @@ use Rattle.htl_refine.specs.DerivedPaths.{derived_place}
 use Rattle.htl_refine.specs.FrameRuns.{Frame, path_of, frame_modes, frame_places, frame_at, walks_of, walk_of}
 use Rattle.htl_refine.specs.FramePlaces.{place, standing_places}
 use Rattle.htl_refine.specs.ListPlans.{no_leg, leg_at, list_plan, list_walk, records_before}
-use Rattle.htl_refine.specs.RecordCounts.{count_before, done_by}
+use Rattle.htl_refine.specs.RecordCounts.{count_left_before, done_by}
 use Rattle.htl_refine.specs.ServedFrames.{IsServing, IsFeasibleRun}
 use Rattle.htl_refine.proofs.Fronts.{front_there, job_front, get_front}
 use Rattle.htl_refine.proofs.Inherit.{mapped}
@@ -69,7 +69,7 @@ point_time jobs [] [] j x f l = absurd (omega (arith, l))
 point_time jobs [] (g ∷ gs) j x f l = absurd f
 point_time jobs (s ∷ ss) [] j x f l = absurd f
 point_time jobs (s ∷ ss) (g ∷ gs) zero x f l = refl
-point_time jobs (s ∷ ss) (g ∷ gs) (suc j) x f l = point_time jobs ss gs j (last_point jobs s (begun g.from x)) f.1 (omega (arith, l))
+point_time jobs (s ∷ ss) (g ∷ gs) (suc j) x f l = point_time jobs ss gs j (last_point jobs s (list_point g.from x)) f.1 (omega (arith, l))
 
 -- the frame's length, by the periods of its root modules
 abbrev frame_by : List ℕ → ℕ
@@ -177,9 +177,9 @@ module _ (t : Tables) (lists : List (List SInstr)) (es : List Event) (run : IsFe
           let r = run_of t (frame_modes t es (frame_start t n)) (rounds t) p x at in
           let root = round_of t r.0 r.1 r.2 in
           let own : x.at ≡ r.1.at = ap (λ (z : Place). z.at) r.6 in
-          let begun : begins (root_periods t) r.1.at ≡ true = begins_by t (root_modules t) root.0 r.1.unit r.1.at root.1 root.2 in
+          let list_point : begins (root_periods t) r.1.at ≡ true = begins_by t (root_modules t) root.0 r.1.unit r.1.at root.1 root.2 in
           let quiet : begins (root_periods t) r.1.at ≡ false = s.quiet r.1.at (omega (arith, between.0, own)) (omega (arith, between.1, own, s.before)) in
-          absurd (let z : true ≡ false = sym begun ∙ quiet in let y : ⊥ = cc in y)
+          absurd (let z : true ≡ false = sym list_point ∙ quiet in let y : ⊥ = cc in y)
 
   pub few : (n : ℕ) → (leg_at (frame n) (turn n).list).known ≤ length (frame n).jobs
   few n =
@@ -215,18 +215,18 @@ module _ (t : Tables) (lists : List (List SInstr)) (es : List Event) (run : IsFe
       let j = (turn n).list in
       let d = n - frame_start t n in
       let rest = split_at (walks_of p) j (list_walk (list_plan p j)) (list_walks p j (serving n).forms (there n)) in
-      let begun : (leg_at p j).from ≤ d = omega (arith, from_is n, s.begun) in
+      let list_point : (leg_at p j).from ≤ d = omega (arith, from_is n, s.begun) in
       let one : suc n - frame_start t n ≡ suc d = omega (arith, past n) in
       let two : suc (suc n) - frame_start t n ≡ suc (suc d) = omega (arith, past n) in
       record {
-        past = omega (arith, begun, past n);
+        past = omega (arith, list_point, past n);
         rest = rest.0;
         front = rest.1;
-        count = count_split p (frame_of t) j (suc n - frame_start t n) (serving n) (there n) (omega (arith, begun, past n)) (omega (arith, s.before, past n));
+        count = count_split p (frame_of t) j (suc n - frame_start t n) (serving n) (there n) (omega (arith, list_point, past n)) (omega (arith, s.before, past n));
         upto = λ q.
-            ap (λ z. done_by (walk_of p) (count_before z (walk_of p)) q) two
-            ∙ done_split p (frame_of t) j (suc d) q (serving n) (there n) (omega (arith, begun)) (omega (arith, s.before))
-            ∙ ap (λ z. done_by (walk_of p) (records_before p j + count_before z (list_walk (list_plan p j))) q) (sym two);
+            ap (λ z. done_by (walk_of p) (count_left_before z (walk_of p)) q) two
+            ∙ done_split p (frame_of t) j (suc d) q (serving n) (there n) (omega (arith, list_point)) (omega (arith, s.before))
+            ∙ ap (λ z. done_by (walk_of p) (records_before p j + count_left_before z (list_walk (list_plan p j))) q) (sym two);
       }
 
   pub are_turns : AreTurns t es (list_turn t lists es)

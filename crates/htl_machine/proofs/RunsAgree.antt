@@ -11,7 +11,7 @@ use Rattle.htl_walk.specs.declared.job.Job.{Job}
 use Rattle.htl_walk.specs.declared.schedule.SInstr.{SInstr}
 use Rattle.htl_walk.specs.Paths.{Leg, AreWithin, end_to_end}
 use Rattle.htl_walk.specs.Walk.{Left}
-use Rattle.htl_refine.specs.AgreeingRuns.{AreAlike, AreSameSoFar, begun_by}
+use Rattle.htl_refine.specs.AgreeingRuns.{AreAlike, AreSameSoFar, begun_by_offset}
 use Rattle.htl_refine.specs.FrameRuns.{Frame, frame_modes, frame_places, frame_at, path_of, walks_of}
 use Rattle.htl_refine.specs.ListPlans.{ListPlan, leg_at, list_plan}
 use Rattle.htl_refine.specs.Records.{took}
@@ -55,7 +55,7 @@ module _ (t : Tables) (lists : List (List SInstr)) (es fs : List Event) (now : �
   frames_alike : AreAlike t es fs (frame_start t n) (n - frame_start t n) (suc (list_number (n - frame_start t n) (starts t)))
   frames_alike = record { modes = modes_same; lists = λ i less. starts_before i (omega (arith, less)) }
 
-  pub so_far : AreSameSoFar (frame_at t lists es (frame_start t n)) (frame_at t lists fs (frame_start t n)) (suc (list_number (n - frame_start t n) (starts t))) (begun_by t es (frame_start t n) (n - frame_start t n))
+  pub so_far : AreSameSoFar (frame_at t lists es (frame_start t n)) (frame_at t lists fs (frame_start t n)) (suc (list_number (n - frame_start t n) (starts t))) (begun_by_offset t es (frame_start t n) (n - frame_start t n))
   so_far = frames_agree t lists es fs f (n - frame_start t n) (suc j) run.range frames_alike
 
   -- the node is that of the modes so far
@@ -66,22 +66,22 @@ module _ (t : Tables) (lists : List (List SInstr)) (es fs : List Event) (now : �
       ∙ sym (nodes_read t (frame_modes t fs f) (λ a. states_are_selections t run.range fs (f + a)) j)
 
   module _ (tooks : (i u : ℕ) → took t es i u ≡ took t fs i u) where
-    lengths_same : take (begun_by t es (frame_start t n) (n - frame_start t n)) (frame_at t lists es (frame_start t n)).lengths ≡ take (begun_by t es (frame_start t n) (n - frame_start t n)) (frame_at t lists fs (frame_start t n)).lengths
+    lengths_same : take (begun_by_offset t es (frame_start t n) (n - frame_start t n)) (frame_at t lists es (frame_start t n)).lengths ≡ take (begun_by_offset t es (frame_start t n) (n - frame_start t n)) (frame_at t lists fs (frame_start t n)).lengths
     lengths_same =
-        let m = begun_by t es f (n - frame_start t n) in
+        let m = begun_by_offset t es f (n - frame_start t n) in
         let long : ℕ → Job → ℕ = λ z k. took t fs k.inv (z + k.release) in
         ap (take m) (ap (λ g. map g p.jobs) (fun_ext (λ (k : Job). tooks k.inv (f + k.release))))
         ∙ take_map (long f) m p.jobs ∙ ap (map (long f)) so_far.jobs ∙ sym (take_map (long f) m q.jobs)
 
-    known_within : AreWithin (begun_by t es (frame_start t n) (n - frame_start t n)) (take (suc (list_number (n - frame_start t n) (starts t))) (frame_at t lists es (frame_start t n)).legs)
+    known_within : AreWithin (begun_by_offset t es (frame_start t n) (n - frame_start t n)) (take (suc (list_number (n - frame_start t n) (starts t))) (frame_at t lists es (frame_start t n)).legs)
     known_within =
         let xs = frame_places t (frame_modes t es f) in
-        legs_within (frame_of t) (begun_by t es f (n - frame_start t n)) (suc j) xs (starts t)
+        legs_within (frame_of t) (begun_by_offset t es f (n - frame_start t n)) (suc j) xs (starts t)
         (λ i a less at. known_grow a (n - frame_start t n) xs (omega (arith, get_or_from_slice_get (starts t) i a 0 at, starts_before i (omega (arith, less)))))
 
     pub list_same : list_turn t lists es n ≡ list_turn t lists fs n
     list_same =
-        let m = begun_by t es f (n - frame_start t n) in
+        let m = begun_by_offset t es f (n - frame_start t n) in
         let known : (leg_at p j).known ≡ m = known_is t lists es run n in
         let forms = (serving t lists es run n).forms in
         let all : m ≤ length p.jobs = let less = few t lists es run n in omega (arith, less, known) in

@@ -17,8 +17,8 @@ use Rattle.htl_ecode.specs.Instructions.{same_instr}
 use Rattle.htl_ecode.specs.Chains.{Want, Does, Waits, Turns, Tests, Asks, Arrives, all_do, waits_for, enter_chain, begin_chain, decide_chain, children, asks_for, test_of, tests_of, led_to}
 use Rattle.htl_ecode.specs.Jumps.{Landing, lands, bind, fault}
 use Rattle.htl_ecode.specs.Steps.{pass, leaving, Step, read, steps_of, passed_by}
-use Rattle.htl_ecode.specs.Departure.{entered, begun, decided}
-use Rattle.htl_ecode.specs.Paths.{turn_step, turn_of, begin_path, enter_path, followed, decide_path, switch_path, switches_done, holds_in, chain_path}
+use Rattle.htl_ecode.specs.Departure.{entered, block_begun, decided}
+use Rattle.htl_ecode.specs.Paths.{turn_step, step_from, begin_path, enter_path, followed, decide_path, switch_path, switches_done, holds_in, chain_path}
 use Rattle.htl_ecode.proofs.Reading.{bind_ok, IsLanding, land_is, same_is, reach_is, read_is}
 use Rattle.htl_ecode.proofs.Spelled.{Reads, ModeReads}
 use Rattle.htl_emach.specs.Contents.{Content, effect}
@@ -76,24 +76,24 @@ quiet_forks : (ks : List ℕ) → AreQuiet (all_do (map (λ k. I.Fork k) ks))
 quiet_forks [] = tt
 quiet_forks (k ∷ ks) = (tt, quiet_forks ks)
 
-quiet_enter : (t : Tables) (code : ECode) (m : ℕ) → AreQuiet (enter_chain t (begun code m) m)
-quiet_enter t code m = (tt, quiet_more (all_do (map (λ k. I.Fork k) (children t m))) (Arrives (begun code m) ∷ []) (quiet_forks (children t m)) (tt, tt))
+quiet_enter : (t : Tables) (code : ECode) (m : ℕ) → AreQuiet (enter_chain t (block_begun code m) m)
+quiet_enter t code m = (tt, quiet_more (all_do (map (λ k. I.Fork k) (children t m))) (Arrives (block_begun code m) ∷ []) (quiet_forks (children t m)) (tt, tt))
 
 quiet_begin : (t : Tables) (code : ECode) (m : ℕ) → AreQuiet (begin_chain t (decided code m) m)
 quiet_begin t code m =
     quiet_more (waits_for 0 1 (next_offset t m 1 0)) (waits_for 0 3 (next_offset t m 3 0) ++ Turns (mode_period t m) (decided code m) ∷ Does I.Return ∷ []) (quiet_waits 0 1 (next_offset t m 1 0))
     (quiet_more (waits_for 0 3 (next_offset t m 3 0)) (Turns (mode_period t m) (decided code m) ∷ Does I.Return ∷ []) (quiet_waits 0 3 (next_offset t m 3 0)) (tt, (tt, tt)))
 
-quiet_decide : (t : Tables) (code : ECode) (m : ℕ) → AreQuiet (decide_chain t (begun code m) code.enter m)
+quiet_decide : (t : Tables) (code : ECode) (m : ℕ) → AreQuiet (decide_chain t (block_begun code m) code.enter m)
 quiet_decide t code m =
-    quiet_more (asks_for (parent_of t (mode_module t m))) (tests_of t (begun code m) code.enter m ++ Arrives (begun code m) ∷ []) (quiet_asks (parent_of t (mode_module t m)))
-    (quiet_more (tests_of t (begun code m) code.enter m) (Arrives (begun code m) ∷ []) (quiet_joined (test_of (begun code m) code.enter m) (numbered 0 t.switches) (λ n. quiet_test n (eqb n.1.mode m))) (tt, tt))
+    quiet_more (asks_for (parent_of t (mode_module t m))) (tests_of t (block_begun code m) code.enter m ++ Arrives (block_begun code m) ∷ []) (quiet_asks (parent_of t (mode_module t m)))
+    (quiet_more (tests_of t (block_begun code m) code.enter m) (Arrives (block_begun code m) ∷ []) (quiet_joined (test_of (block_begun code m) code.enter m) (numbered 0 t.switches) (λ n. quiet_test n (eqb n.1.mode m))) (tt, tt))
   where
     quiet_asks : (o : Option ℕ) → AreQuiet (asks_for o)
     quiet_asks None = tt
     quiet_asks (Some q) = (tt, tt)
 
-    quiet_test : (n : ℕ × Switch) (b : Bool) → AreQuiet (cond b (Tests n.0 n.1.target (led_to (begun code m) code.enter m n.1.target) ∷ []) [])
+    quiet_test : (n : ℕ × Switch) (b : Bool) → AreQuiet (cond b (Tests n.0 n.1.target (led_to (block_begun code m) code.enter m n.1.target) ∷ []) [])
     quiet_test n true = (tt, tt)
     quiet_test n false = tt
 
@@ -103,12 +103,12 @@ module _ (t : Tables) (code : ECode) where
       ap (λ z. replay t code.instrs (passed_by (steps_of z)) w) r.1 ∙ chain_does t code.instrs ws a r.0 w r.1 ∙ quiet_effects t ws w q
 
   begin_quiet : (m : ℕ) (w : Content) → ModeReads t code m → replay t code.instrs (begin_path t code m) w ≡ w
-  begin_quiet m w r = chain_quiet (begin_chain t (decided code m) m) (begun code m) w r.begins (quiet_begin t code m)
+  begin_quiet m w r = chain_quiet (begin_chain t (decided code m) m) (block_begun code m) w r.begins (quiet_begin t code m)
 
   enter_quiet : (m : ℕ) (w : Content) → ModeReads t code m → replay t code.instrs (enter_path t code m) w ≡ w
   enter_quiet m w r =
-      replay_more t code.instrs (chain_path code (entered code m) (enter_chain t (begun code m) m)) (begin_path t code m) w
-      ∙ ap (λ z. replay t code.instrs (begin_path t code m) z) (chain_quiet (enter_chain t (begun code m) m) (entered code m) w r.enters (quiet_enter t code m)) ∙ begin_quiet m w r
+      replay_more t code.instrs (chain_path code (entered code m) (enter_chain t (block_begun code m) m)) (begin_path t code m) w
+      ∙ ap (λ z. replay t code.instrs (begin_path t code m) z) (chain_quiet (enter_chain t (block_begun code m) m) (entered code m) w r.enters (quiet_enter t code m)) ∙ begin_quiet m w r
 
   -- an instruction that was passed, with its jumps
   pass_quiet : (j : EInstr) (a : ℕ) (x : List ℕ × ℕ) (w : Content) → pass code.instrs j a ≡ Ok x → ((v : Content) → effect t j v ≡ v) → replay t code.instrs x.0 w ≡ w
@@ -147,20 +147,20 @@ aimed_more t [] ys p q = q
 aimed_more t (x ∷ xs) ys p q = (p.0, aimed_more t xs ys p.1 q)
 
 aimed_tests : (t : Tables) (code : ECode) (m : ℕ) (ns : List (ℕ × Switch)) → ((n : ℕ × Switch) → In n ns → n.1.target < length t.modes)
-    → AreAimed t (joined (test_of (begun code m) code.enter m) ns)
+    → AreAimed t (joined (test_of (block_begun code m) code.enter m) ns)
 aimed_tests t code m [] h = tt
 aimed_tests t code m (n ∷ ns) h =
-    aimed_more t (cond (eqb n.1.mode m) (Tests n.0 n.1.target (led_to (begun code m) code.enter m n.1.target) ∷ []) []) (joined (test_of (begun code m) code.enter m) ns)
+    aimed_more t (cond (eqb n.1.mode m) (Tests n.0 n.1.target (led_to (block_begun code m) code.enter m n.1.target) ∷ []) []) (joined (test_of (block_begun code m) code.enter m) ns)
     (one (eqb n.1.mode m)) (aimed_tests t code m ns (λ k g. h k (inr g)))
   where
-    one : (b : Bool) → AreAimed t (cond b (Tests n.0 n.1.target (led_to (begun code m) code.enter m n.1.target) ∷ []) [])
+    one : (b : Bool) → AreAimed t (cond b (Tests n.0 n.1.target (led_to (block_begun code m) code.enter m n.1.target) ∷ []) [])
     one true = (h n (inl refl), tt)
     one false = tt
 
-aimed_decide : (t : Tables) (code : ECode) (m : ℕ) → AreInRange t → AreAimed t (decide_chain t (begun code m) code.enter m)
+aimed_decide : (t : Tables) (code : ECode) (m : ℕ) → AreInRange t → AreAimed t (decide_chain t (block_begun code m) code.enter m)
 aimed_decide t code m range =
-    aimed_more t (asks_for (parent_of t (mode_module t m))) (tests_of t (begun code m) code.enter m ++ Arrives (begun code m) ∷ []) (asks (parent_of t (mode_module t m)))
-    (aimed_more t (tests_of t (begun code m) code.enter m) (Arrives (begun code m) ∷ [])
+    aimed_more t (asks_for (parent_of t (mode_module t m))) (tests_of t (block_begun code m) code.enter m ++ Arrives (block_begun code m) ∷ []) (asks (parent_of t (mode_module t m)))
+    (aimed_more t (tests_of t (block_begun code m) code.enter m) (Arrives (block_begun code m) ∷ [])
     (aimed_tests t code m (numbered 0 t.switches)
     (λ n g. let d = numbered_in t.switches 0 n g in let r = (all_at (IsSwitchInRange t) t.switches range.switches d.0 n.1 d.2).target in slice_get_within t.modes n.1.target r.0 r.1))
     (tt, tt))
@@ -243,11 +243,11 @@ module _ (t : Tables) (code : ECode) (reads : (m : ℕ) → m < length t.modes �
     decide_quiet values stays m w real =
         let r = (reads m real).decides in
         let b = (reads m real).begins in
-        let rest = followed t code m (holds_in t values) stays (decide_chain t (begun code m) code.enter m) (steps_of (read code.instrs (decided code m) (decide_chain t (begun code m) code.enter m))) in
-        replay_more t code.instrs (turn_of t code m).side rest w
-        ∙ ap (λ z. replay t code.instrs rest z) (ap (λ z. replay t code.instrs (turn_step (begin_chain t (decided code m) m) (steps_of z)).side w) b.1 ∙ turn_quiet (begin_chain t (decided code m) m) (begun code m) b.0 w b.1)
-        ∙ ap (λ z. replay t code.instrs (followed t code m (holds_in t values) stays (decide_chain t (begun code m) code.enter m) (steps_of z)) w) r.1
-        ∙ followed_quiet m (holds_in t values) stays real (decide_chain t (begun code m) code.enter m) (decided code m) r.0 w r.1 (aimed_decide t code m range) (quiet_decide t code m)
+        let rest = followed t code m (holds_in t values) stays (decide_chain t (block_begun code m) code.enter m) (steps_of (read code.instrs (decided code m) (decide_chain t (block_begun code m) code.enter m))) in
+        replay_more t code.instrs (step_from t code m).side rest w
+        ∙ ap (λ z. replay t code.instrs rest z) (ap (λ z. replay t code.instrs (turn_step (begin_chain t (decided code m) m) (steps_of z)).side w) b.1 ∙ turn_quiet (begin_chain t (decided code m) m) (block_begun code m) b.0 w b.1)
+        ∙ ap (λ z. replay t code.instrs (followed t code m (holds_in t values) stays (decide_chain t (block_begun code m) code.enter m) (steps_of z)) w) r.1
+        ∙ followed_quiet m (holds_in t values) stays real (decide_chain t (block_begun code m) code.enter m) (decided code m) r.0 w r.1 (aimed_decide t code m range) (quiet_decide t code m)
 
     switch_quiet : (values : List ℤ) (now : ℕ) (o p : Option Stay) (w : Content) → ((y : Stay) → o ≡ Some y → y.mode < length t.modes) → ((y : Stay) → p ≡ Some y → y.mode < length t.modes)
         → replay t code.instrs (switch_path t code values now o p) w ≡ w

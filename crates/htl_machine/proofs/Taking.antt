@@ -15,7 +15,7 @@ use Rattle.htl_emach.specs.Contents.{Content}
 use Rattle.htl_machine.specs.Values.{ValuesFollow}
 use Rattle.htl_refine.specs.Records.{inv_worst, took, IsTookWithin, AreTookWithin}
 use Rattle.htl_machine.specs.Plans.{finished_before, next_world}
-use Rattle.htl_machine.specs.Follows.{Held, reading_of, DeskStands, DeskFollows, UpTo, Follows, IsLoaded, desk_taking, taken_as}
+use Rattle.htl_machine.specs.Follows.{Held, reading_of, DeskStands, DeskFollows, UpTo, HeldFollows, IsLoaded, desk_taking, taken_as}
 use Rattle.htl_machine.specs.RunLists.{turn_by, turn_at, list_turn}
 use Rattle.htl_refine.proofs.RecordOrder.{not_some}
 use Rattle.htl_machine.proofs.Events.{Alike, values_alike, reading_more, sense_took, took_took}
@@ -74,7 +74,7 @@ module _ (t : Tables) (schedules : List (List SInstr)) (loaded : IsLoaded t sche
 pub took_follows : (t : Tables) (schedules : List (List SInstr)) (loaded : IsLoaded t schedules) (es : List Event) (within : AreTookWithin t es) (i n : ℕ) (m : Held)
     → IsTookWithin t (V.Took i n) → i < length t.invs → length m.takes ≡ length t.invs
     → ((code : List SInstr) → rounds.Stands m.desk code → rounds.Stands (desk_taking i n m.desk) code)
-    → Follows t schedules es m → Follows t schedules (es ++ V.Took i n ∷ []) (taken_as i n m)
+    → HeldFollows t schedules es m → HeldFollows t schedules (es ++ V.Took i n ∷ []) (taken_as i n m)
 took_follows t schedules loaded es within i n m fits known long keeps f =
     let fs = es ++ V.Took i n ∷ [] in
     let more : reading_of 0 fs ≡ reading_of 0 es = reading_more 0 es (V.Took i n) in
@@ -120,7 +120,7 @@ instant_follows t schedules loaded es within now m r up shape desk =
 -- a new machine follows no events
 pub new_follows : (t : Tables) (schedules : List (List SInstr)) (m : Held) → m.spent ≡ false → m.reading ≡ 0 → HasValues t m.shows
     → ((c : ℕ) → c < length t.comms → get_or m.shows c (pos 0) ≡ initial t c) → ((i : ℕ) → i < length t.invs → get_or m.takes i 0 ≡ inv_worst t i)
-    → m.world.values ≡ map (λ c. c.init) t.comms → IsShaped t m.world → m.desk ≡ rounds.no_round → Follows t schedules [] m
+    → m.world.values ≡ map (λ c. c.init) t.comms → IsShaped t m.world → m.desk ≡ rounds.no_round → HeldFollows t schedules [] m
 new_follows t schedules m open_yet reading fits shows takes values shape desk =
     record {
       fresh = open_yet;

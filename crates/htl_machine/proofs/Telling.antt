@@ -10,14 +10,14 @@ use Rattle.htl_smach.specs.declared.left.Left.{Left}
 use Rattle.htl_smach.specs.Rounds as rounds
 use Rattle.htl_smach.specs.Rounds.{told, told_from}
 use Rattle.htl_refine.specs.Records.{shifted, rounds_before}
-use Rattle.htl_refine.specs.RecordCounts.{count_before, Rises}
+use Rattle.htl_refine.specs.RecordCounts.{count_left_before, Rises}
 
 -- ---- a record, as the S machine tells it
 
 abbrev pub as_told : ℕ × walks.Left → Left
 as_told l = record { at = l.1.at; instr = l.0; position = l.1.position; slice = l.1.slice; finished = l.1.finished }
 
-slice_is : (start : ℕ) (o : Option (ℕ × ℕ)) → rounds.shifted start o ≡ option_map (λ (s : ℕ × ℕ). (start + s.0, start + s.1)) o
+slice_is : (start : ℕ) (o : Option (ℕ × ℕ)) → rounds.slice_shifted start o ≡ option_map (λ (s : ℕ × ℕ). (start + s.0, start + s.1)) o
 slice_is start None = refl
 slice_is start (Some s) = refl
 
@@ -31,39 +31,39 @@ told_is start k l =
 abbrev pub left_then : ℕ → ℕ → ℕ → List walks.Left → List (ℕ × walks.Left)
 left_then start now k ls = filter (λ (l : ℕ × walks.Left). eqb l.1.at now) (numbered k (map (shifted start) ls))
 
-pub none_before : (d a : ℕ) (ls : List walks.Left) → Rises a ls → d ≤ a → count_before d ls ≡ 0
+pub none_before : (d a : ℕ) (ls : List walks.Left) → Rises a ls → d ≤ a → count_left_before d ls ≡ 0
 none_before d a [] r h = refl
 none_before d a (l ∷ ls) r h = by (ltb l.at d) refl
   where
-    by : (b : Bool) → ltb l.at d ≡ b → cond b (suc (count_before d ls)) 0 ≡ 0
+    by : (b : Bool) → ltb l.at d ≡ b → cond b (suc (count_left_before d ls)) 0 ≡ 0
     by true e = absurd (omega (arith, ltb-true l.at d e, r.0))
     by false e = refl
 
 pub piece : (start now d k a : ℕ) (ls : List walks.Left) → now ≡ start + d → Rises a ls
-    → map as_told (left_then start now k ls) ≡ take (count_before (suc d) ls - count_before d ls) (drop (count_before d ls) (told_from start k ls))
+    → map as_told (left_then start now k ls) ≡ take (count_left_before (suc d) ls - count_left_before d ls) (drop (count_left_before d ls) (told_from start k ls))
 piece start now d k a [] is rises = refl
 piece start now d k a (l ∷ ls) is rises =
     by (ltb l.at d) (ltb l.at (suc d)) (eqb (start + l.at) now) refl refl refl (piece start now d (suc k) l.at ls is rises.1)
   where
-    behind : (c : ℕ) → c ≤ l.at → count_before c ls ≡ 0
+    behind : (c : ℕ) → c ≤ l.at → count_left_before c ls ≡ 0
     behind c h = none_before c l.at ls rises.1 h
 
     by : (before upto now_is : Bool) → ltb l.at d ≡ before → ltb l.at (suc d) ≡ upto → eqb (start + l.at) now ≡ now_is
-        → map as_told (left_then start now (suc k) ls) ≡ take (count_before (suc d) ls - count_before d ls) (drop (count_before d ls) (told_from start (suc k) ls))
+        → map as_told (left_then start now (suc k) ls) ≡ take (count_left_before (suc d) ls - count_left_before d ls) (drop (count_left_before d ls) (told_from start (suc k) ls))
         → map as_told (cond now_is ((k, shifted start l) ∷ left_then start now (suc k) ls) (left_then start now (suc k) ls))
-        ≡ take (cond upto (suc (count_before (suc d) ls)) 0 - cond before (suc (count_before d ls)) 0) (drop (cond before (suc (count_before d ls)) 0) (told start k l ∷ told_from start (suc k) ls))
+        ≡ take (cond upto (suc (count_left_before (suc d) ls)) 0 - cond before (suc (count_left_before d ls)) 0) (drop (cond before (suc (count_left_before d ls)) 0) (told start k l ∷ told_from start (suc k) ls))
     by true false now_is e f g next = absurd (omega (arith, ltb-true l.at d e, ltb-false l.at (suc d) f))
     by true true true e f g next = absurd (omega (arith, ltb-true l.at d e, eqb-true (start + l.at) now g, is))
     by true true false e f g next =
-        next ∙ ap (λ n. take n (drop (count_before d ls) (told_from start (suc k) ls))) (one_less (count_before (suc d) ls) (count_before d ls))
+        next ∙ ap (λ n. take n (drop (count_left_before d ls) (told_from start (suc k) ls))) (one_less (count_left_before (suc d) ls) (count_left_before d ls))
       where
         one_less : (m n : ℕ) → m - n ≡ suc m - suc n
         one_less m n = omega arith
     by false true true e f g next =
-        let low : count_before d ls ≡ 0 = behind d (ltb-false l.at d e) in
-        let here = next ∙ ap (λ c. take (count_before (suc d) ls - c) (drop c (told_from start (suc k) ls))) low in
-        ap₂ (λ (x : Left) (xs : List Left). x ∷ xs) (sym (told_is start k l)) (here ∙ ap (λ n. take n (told_from start (suc k) ls)) (less (count_before (suc d) ls)))
-        ∙ ap (λ n. take n (told start k l ∷ told_from start (suc k) ls)) (sym (less (suc (count_before (suc d) ls))))
+        let low : count_left_before d ls ≡ 0 = behind d (ltb-false l.at d e) in
+        let here = next ∙ ap (λ c. take (count_left_before (suc d) ls - c) (drop c (told_from start (suc k) ls))) low in
+        ap₂ (λ (x : Left) (xs : List Left). x ∷ xs) (sym (told_is start k l)) (here ∙ ap (λ n. take n (told_from start (suc k) ls)) (less (count_left_before (suc d) ls)))
+        ∙ ap (λ n. take n (told start k l ∷ told_from start (suc k) ls)) (sym (less (suc (count_left_before (suc d) ls))))
       where
         less : (n : ℕ) → n - 0 ≡ n
         less n = omega arith

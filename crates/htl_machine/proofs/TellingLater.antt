@@ -14,7 +14,7 @@ use Rattle.htl_console.specs.declared.shown.Shown.{Shown}
 use Rattle.htl_machine.specs.Follows.{reading_of, IsLoaded}
 use Rattle.htl_machine.specs.Laws.{AreReadFrom}
 use Rattle.htl_machine.specs.Lines as runs
-use Rattle.htl_machine.specs.Texts.{instant_text, text_before}
+use Rattle.htl_machine.specs.Texts.{instant_text, listed_text_before}
 use Rattle.htl_machine.proofs.Events.{reading_more, sense_at, sense_end, sense_sense, took_at, took_end, took_sense}
 use Rattle.htl_machine.proofs.Retelling.{instant_same}
 use Rattle.htl_machine.proofs.TellingLoaded.{loaded_before}
@@ -31,7 +31,7 @@ front_within t (e ∷ es) later h = (h.0, front_within t es later h.1)
 module _ (t : Tables) (code : ECode) (schedules : List (List SInstr)) (show : Shown) (now : ℕ) (loaded : IsLoaded t schedules) where
   -- one event more
   more : (es : List Event) (e : Event) → AreTookWithin t es → IsTookWithin t e → AreReadFrom now (reading_of 0 es) (e ∷ [])
-      → text_before t code schedules es show now ≡ text_before t code schedules (es ++ e ∷ []) show now
+      → listed_text_before t code schedules es show now ≡ listed_text_before t code schedules (es ++ e ∷ []) show now
   more es (V.At to) within fits from = before_stays t code schedules es (es ++ V.At to ∷ []) show now (λ c u h. sym (sense_at t es to c u)) loaded within (λ i u. sym (took_at t es to i u))
   more es (V.End to) within fits from = before_stays t code schedules es (es ++ V.End to ∷ []) show now (λ c u h. sym (sense_end t es to c u)) loaded within (λ i u. sym (took_end t es to i u))
   more es (V.Sense d y) within fits from = before_stays t code schedules es (es ++ V.Sense d y ∷ []) show now alike loaded within (λ i u. sym (took_sense t es d i u y))
@@ -54,14 +54,14 @@ module _ (t : Tables) (code : ECode) (schedules : List (List SInstr)) (show : Sh
   back_within [] e later h = h.0
   back_within (x ∷ es) e later h = back_within es e later h.1
 
-  stays : (es later : List Event) → AreTookWithin t (es ++ later) → AreReadFrom now (reading_of 0 es) later → text_before t code schedules (es ++ later) show now ≡ text_before t code schedules es show now
-  stays es [] within from = ap (λ xs. text_before t code schedules xs show now) (append-nil es)
+  stays : (es later : List Event) → AreTookWithin t (es ++ later) → AreReadFrom now (reading_of 0 es) later → listed_text_before t code schedules (es ++ later) show now ≡ listed_text_before t code schedules es show now
+  stays es [] within from = ap (λ xs. listed_text_before t code schedules xs show now) (append-nil es)
   stays es (e ∷ later) within from =
       let parts = first_from (reading_of 0 es) e later from in
       let next = es ++ e ∷ [] in
       let same : next ++ later ≡ es ++ e ∷ later = append_assoc es (e ∷ []) later in
       let rest = stays next later (subst (AreTookWithin t) (sym same) within) (subst (λ r. AreReadFrom now r later) (sym (reading_more 0 es e)) parts.1) in
-      ap (λ xs. text_before t code schedules xs show now) (sym same) ∙ rest
+      ap (λ xs. listed_text_before t code schedules xs show now) (sym same) ∙ rest
       ∙ sym (more es e (front_within t es (e ∷ later) within) (back_within es e later within) parts.0)
 
   -- the text as it is defined

@@ -11,13 +11,13 @@ use Rattle.htl_model.specs.Tables.{Tables}
 use Rattle.htl_walk.specs.declared.job.Job.{Job}
 use Rattle.htl_walk.specs.declared.schedule.SInstr.{SInstr}
 use Rattle.htl_walk.specs.declared.schedule.SInstr.TheVariants.{Dispatch, Idle, End}
-use Rattle.htl_walk.specs.Walk.{Point, job_at, begins, time_after, work_after, slice_between, finishes_by, next_point, left_by, walk_from, InForm}
+use Rattle.htl_walk.specs.Walk.{Point, job_at, dispatch_begins, time_after, work_after, slice_between, finishes_by, next_point, left_by, walk_from, InForm}
 use Rattle.htl_walk.specs.Walk as walks
 use Rattle.htl_walk.proofs.Steps.{left_same, time_rises}
 use Rattle.htl_refine.specs.FrameRecords.{RunningList, left_in, lists_at, begun_before, begins_at, in_frame, old_records_by, new_records_by}
 use Rattle.htl_refine.specs.FrameRuns.{frame_at, frame_modes, frame_places}
 use Rattle.htl_refine.specs.ListPlans.{ListPlan, leg_at, list_walk}
-use Rattle.htl_refine.specs.RecordCounts.{count_before, Rises}
+use Rattle.htl_refine.specs.RecordCounts.{count_left_before, Rises}
 use Rattle.htl_refine.specs.RecordLists.{list_at}
 use Rattle.htl_refine.specs.Records.{shifted, rounds_before}
 use Rattle.htl_refine.specs.ServedFrames.{IsFeasibleRun}
@@ -32,7 +32,7 @@ use Rattle.htl_machine.specs.FramePlacing.{frame_start}
 use Rattle.htl_machine.specs.Lines.{where_shown, step_lines, record_lines, list_lines, old_lines, new_lines}
 use Rattle.htl_machine.specs.ListTurns.{Turn, turn_walk, left_before}
 use Rattle.htl_machine.specs.RunLists.{list_turn}
-use Rattle.htl_machine.specs.Texts.{inv_at, slice_lines, record_text, some_records, old_turn, old_records, new_records, records_text}
+use Rattle.htl_machine.specs.Texts.{inv_at, slice_lines, record_text, some_records, old_turn, turn_old_records, turn_new_records, records_text}
 use Rattle.htl_machine.proofs.ListStarts.{ends_next}
 use Rattle.htl_machine.proofs.RunLists.{rise, past, stands, from_is, length-jobs, are_listed}
 use Rattle.htl_walk.proofs.Finishes.{some_same}
@@ -58,18 +58,18 @@ silent_at jobs (Dispatch q until ∷ is) x a zero l low at first =
       ap (λ (m : walks.Left). m.finished) (sym is) ∙ ap (finishes_by (get_or x.left q 0)) (left_same x.left q x.time (job_at jobs q).release until) ∙ both.1,
     )
   where
-    ends : (time release until w : ℕ) → a ≤ time → time_after time (suc w) release until ≡ a → until ≤ begins time release until
+    ends : (time release until w : ℕ) → a ≤ time → time_after time (suc w) release until ≡ a → until ≤ dispatch_begins time release until
     ends time release until w h e = omega (arith, h, e)
 
-    all_left : (time release until w : ℕ) → until ≤ begins time release until → work_after time (suc w) release until ≡ suc w
+    all_left : (time release until w : ℕ) → until ≤ dispatch_begins time release until → work_after time (suc w) release until ≡ suc w
     all_left time release until w h = omega (arith, h)
 
     by : (w to : ℕ) → time_after x.time w (job_at jobs q).release until ≡ a
-        → (slice_between (begins x.time (job_at jobs q).release until) until w to ≡ None) × (finishes_by w (work_after x.time w (job_at jobs q).release until) ≡ false)
+        → (slice_between (dispatch_begins x.time (job_at jobs q).release until) until w to ≡ None) × (finishes_by w (work_after x.time w (job_at jobs q).release until) ≡ false)
     by zero to e = (refl, refl)
     by (suc w) to e =
         let over = ends x.time (job_at jobs q).release until w low e in (
-          ap (λ b. elim b as (λ _. Option (ℕ × ℕ)) [ true ↦ Some (begins x.time (job_at jobs q).release until, to) | false ↦ None ]) (le-ltb (begins x.time (job_at jobs q).release until) until over),
+          ap (λ b. elim b as (λ _. Option (ℕ × ℕ)) [ true ↦ Some (dispatch_begins x.time (job_at jobs q).release until, to) | false ↦ None ]) (le-ltb (dispatch_begins x.time (job_at jobs q).release until) until over),
           ap (finishes_by (suc w)) (all_left x.time (job_at jobs q).release until w over),
         )
 
@@ -114,18 +114,18 @@ shown_apart false f (x ∷ xs) = shown_apart false f xs
 
 -- the records from the first that is left at an instant on
 pub list_piece : (p : ListPlan) (start now : ℕ) → start ≤ now
-    → map as_told (left_then start now 0 (list_walk p)) ≡ some_records p start (count_before (now - start) (list_walk p)) (count_before (suc now - start) (list_walk p) - count_before (now - start) (list_walk p))
+    → map as_told (left_then start now 0 (list_walk p)) ≡ some_records p start (count_left_before (now - start) (list_walk p)) (count_left_before (suc now - start) (list_walk p) - count_left_before (now - start) (list_walk p))
 list_piece p start now past =
     piece start now (now - start) 0 0 (list_walk p) (omega (arith, past)) (rises_zero p.first.time (list_walk p) (walk_rises p.jobs p.schedule p.first))
-    ∙ ap (λ c. some_records p start (count_before (now - start) (list_walk p)) (count_before c (list_walk p) - count_before (now - start) (list_walk p)))
+    ∙ ap (λ c. some_records p start (count_left_before (now - start) (list_walk p)) (count_left_before c (list_walk p) - count_left_before (now - start) (list_walk p)))
     (let e : suc (now - start) ≡ suc now - start = omega (arith, past) in e)
 
 -- where the list begins they are its first
 pub begin_piece : (p : ListPlan) (start now : ℕ) → now - start ≤ p.first.time
-    → some_records p start (count_before (now - start) (list_walk p)) (count_before (suc now - start) (list_walk p) - count_before (now - start) (list_walk p)) ≡ some_records p start 0 (count_before (suc now - start) (list_walk p))
+    → some_records p start (count_left_before (now - start) (list_walk p)) (count_left_before (suc now - start) (list_walk p) - count_left_before (now - start) (list_walk p)) ≡ some_records p start 0 (count_left_before (suc now - start) (list_walk p))
 begin_piece p start now early =
-    ap (λ c. some_records p start c (count_before (suc now - start) (list_walk p) - c)) (none_before (now - start) p.first.time (list_walk p) (walk_rises p.jobs p.schedule p.first) early)
-    ∙ ap (some_records p start 0) (let e : count_before (suc now - start) (list_walk p) - 0 ≡ count_before (suc now - start) (list_walk p) = omega arith in e)
+    ap (λ c. some_records p start c (count_left_before (suc now - start) (list_walk p) - c)) (none_before (now - start) p.first.time (list_walk p) (walk_rises p.jobs p.schedule p.first) early)
+    ∙ ap (some_records p start 0) (let e : count_left_before (suc now - start) (list_walk p) - 0 ≡ count_left_before (suc now - start) (list_walk p) = omega arith in e)
 
 module _ (t : Tables) (lists : List (List SInstr)) (es : List Event) (run : IsFeasibleRun t lists es) where
   abbrev turn : ℕ → Turn
@@ -189,14 +189,14 @@ module _ (t : Tables) (lists : List (List SInstr)) (es : List Event) (run : IsFe
   time_is : (n : ℕ) → (turn n).plan.first.time ≡ (turn n).from
   time_is n = ((are_listed t lists es run).each n).time
 
-  old_told : (now : ℕ) → map as_told (old_records_by t lists es now (Some (frame_of t))) ≡ old_records turn now
+  old_told : (now : ℕ) → map as_told (old_records_by t lists es now (Some (frame_of t))) ≡ turn_old_records turn now
   old_told zero = ap (λ n. map as_told (up_to (λ k. in_frame t lists es (begun_before 0) 0 (k * frame_of t)) n)) (no_frames t lists es run)
   old_told (suc m) =
       let u = turn m in
       let down = past t lists es run m in
       ap (map as_told) (before (λ f r. left_in (suc m) f r) m (λ f r e. e)) ∙ list_piece u.plan u.frame (suc m) (omega (arith, down))
 
-  new_told : (now : ℕ) → map as_told (new_records_by t lists es now (Some (frame_of t))) ≡ new_records turn now
+  new_told : (now : ℕ) → map as_told (new_records_by t lists es now (Some (frame_of t))) ≡ turn_new_records turn now
   new_told now = by (eqb ((turn now).frame + (turn now).from) now) refl
     where
       u : Turn
@@ -210,7 +210,7 @@ module _ (t : Tables) (lists : List (List SInstr)) (es : List Event) (run : IsFe
           ∙ begin_piece (turn now).plan (turn now).frame now (omega (arith, here, time_is now))
       by false e = ap (map as_told) (none_begins (λ f r. left_in now f r) now (λ f r z. z) (eqb-false ((turn now).frame + (turn now).from) now e))
 
-  pub list_records : (now : ℕ) → map as_told (old_records_by t lists es now (Some (frame_of t)) ++ new_records_by t lists es now (Some (frame_of t))) ≡ old_records turn now ++ new_records turn now
+  pub list_records : (now : ℕ) → map as_told (old_records_by t lists es now (Some (frame_of t)) ++ new_records_by t lists es now (Some (frame_of t))) ≡ turn_old_records turn now ++ turn_new_records turn now
   list_records now = map-append as_told (old_records_by t lists es now (Some (frame_of t))) (new_records_by t lists es now (Some (frame_of t))) ∙ ap₂ (λ xs ys. xs ++ ys) (old_told now) (new_told now)
 
   -- ---- its lines
@@ -241,7 +241,7 @@ module _ (t : Tables) (lists : List (List SInstr)) (es : List Event) (run : IsFe
         (inv_front n l.position (position_known n i l at)))
         ∙ sym (joined_map (record_text t show u.plan u.node) as_told (left_then u.frame now 0 (turn_walk u)))
 
-    pub old_list_text : (now : ℕ) → old_lines t lists es show (Some (frame_of t)) now ≡ records_text t show (old_turn turn now) (old_records turn now)
+    pub old_list_text : (now : ℕ) → old_lines t lists es show (Some (frame_of t)) now ≡ records_text t show (old_turn turn now) (turn_old_records turn now)
     old_list_text zero = ap (up_to (λ k. joined (list_lines t lists es show 0 (k * frame_of t)) (filter (begun_before 0) (lists_at t lists es (k * frame_of t))))) (no_frames t lists es run)
     old_list_text (suc m) =
         let u = turn m in
@@ -269,7 +269,7 @@ module _ (t : Tables) (lists : List (List SInstr)) (es : List Event) (run : IsFe
         nothing true = refl
         nothing false = refl
 
-    pub new_list_text : (now : ℕ) → new_lines t lists es show (Some (frame_of t)) now ≡ records_text t show (turn now) (new_records turn now)
+    pub new_list_text : (now : ℕ) → new_lines t lists es show (Some (frame_of t)) now ≡ records_text t show (turn now) (turn_new_records turn now)
     new_list_text now = by (eqb ((turn now).frame + (turn now).from) now) refl
       where
         steps : ℕ → RunningList → List ℕ

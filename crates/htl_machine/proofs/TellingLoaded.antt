@@ -26,7 +26,7 @@ module _ (t : Tables) (schedules : List (List SInstr)) (es : List Event) (loaded
   pub loaded_lines : (code : ECode) (show : Shown) (now : ℕ) → runs.lines t code schedules es show now ≡ texts.instant_text t code schedules es show now
   loaded_lines = lines_are t schedules es runs_so
 
-  pub loaded_before : (code : ECode) (show : Shown) (now : ℕ) → runs.text_before t code schedules es show now ≡ texts.text_before t code schedules es show now
+  pub loaded_before : (code : ECode) (show : Shown) (now : ℕ) → runs.text_before t code schedules es show now ≡ texts.listed_text_before t code schedules es show now
   loaded_before = before_is t schedules es runs_so
 
   pub loaded_jobs : (now : ℕ) → runs.jobs_done t schedules es now ≡ texts.jobs_before t schedules es now

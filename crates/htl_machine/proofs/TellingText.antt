@@ -17,7 +17,7 @@ use Rattle.htl_refine.specs.FrameRecords.{old_records_by, new_records_by, record
 use Rattle.htl_refine.specs.ServedFrames.{IsFeasibleRun}
 use Rattle.htl_console.specs.declared.shown.Shown.{Shown}
 use Rattle.htl_machine.specs.ListTurns.{Turn}
-use Rattle.htl_machine.specs.Texts.{some_records, old_turn, old_records, new_records, records_text, list_texts, instant_text, records_of, sum_to, capped, jobs_before, e_before, s_before}
+use Rattle.htl_machine.specs.Texts.{some_records, old_turn, turn_old_records, turn_new_records, records_text, list_texts, instant_text, records_of, sum_to, capped, jobs_before, e_before, s_before}
 use Rattle.htl_machine.specs.Texts as texts
 use Rattle.htl_machine.specs.Lines.{old_lines, e_lines, change_lines, new_lines, lines, all_records, jobs_done, e_done, s_done}
 use Rattle.htl_machine.specs.Lines as runs
@@ -65,7 +65,7 @@ module _ (t : Tables) (schedules : List (List SInstr)) (es : List Event) (runs_s
       by (Some h) e =
           ap (λ o. map as_told (old_records_by t schedules es now o ++ new_records_by t schedules es now o)) (sym (frame_is h e))
           ∙ list_records t schedules es (runs_so h e) now
-          ∙ ap (λ (turn : ℕ → Turn). old_records turn now ++ new_records turn now) (turn_is h e)
+          ∙ ap (λ (turn : ℕ → Turn). turn_old_records turn now ++ turn_new_records turn now) (turn_is h e)
 
   -- the totals
   pub jobs_are : (now : ℕ) → jobs_done t schedules es now ≡ jobs_before t schedules es now
@@ -94,8 +94,8 @@ module _ (t : Tables) (schedules : List (List SInstr)) (es : List Event) (runs_s
       by (Some h) e =
           ap (λ o. old_lines t schedules es show o now ++ e_lines t code es show now ++ change_lines t es show now ++ new_lines t schedules es show o now) (sym (frame_is h e))
           ∙ ap₂ (λ xs ys. xs ++ e_lines t code es show now ++ change_lines t es show now ++ ys) (old_list_text t schedules es (runs_so h e) show now) (new_list_text t schedules es (runs_so h e) show now)
-          ∙ ap (λ (turn : ℕ → Turn). records_text t show (old_turn turn now) (old_records turn now) ++ e_lines t code es show now ++ change_lines t es show now ++ records_text t show (turn now) (new_records turn now)) (turn_is h e)
+          ∙ ap (λ (turn : ℕ → Turn). records_text t show (old_turn turn now) (turn_old_records turn now) ++ e_lines t code es show now ++ change_lines t es show now ++ records_text t show (turn now) (turn_new_records turn now)) (turn_is h e)
 
   -- the text before an instant, and that of a run
-  pub before_is : (code : ECode) (show : Shown) (now : ℕ) → runs.text_before t code schedules es show now ≡ texts.text_before t code schedules es show now
+  pub before_is : (code : ECode) (show : Shown) (now : ℕ) → runs.text_before t code schedules es show now ≡ texts.listed_text_before t code schedules es show now
   before_is code show now = up_to_same (lines t code schedules es show) (instant_text t code schedules es show) now (λ n less. lines_are code show n)

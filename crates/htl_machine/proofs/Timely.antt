@@ -17,7 +17,7 @@ use Rattle.htl_ecode.specs.Chains.{Want, Does, Waits, Turns, Tests, Asks, Arrive
 use Rattle.htl_ecode.proofs.Spelled.{ModeReads}
 use Rattle.htl_emach.specs.Following.{phase_path}
 use Rattle.htl_machine.specs.Worlds.{all_reads}
-use Rattle.htl_refine.specs.RecordCounts.{count_before, done_by}
+use Rattle.htl_refine.specs.RecordCounts.{count_left_before, done_by}
 use Rattle.htl_machine.specs.ListTurns.{Turn, turn_walk, records_so_far, left_before, AreTurns, IsListed}
 use Rattle.htl_machine.specs.Turns.{position_from}
 use Rattle.htl_machine.specs.Follows.{DeskAt}
@@ -118,8 +118,8 @@ module _ (t : Tables) (es : List Event) (turn : ℕ → Turn) (turns : AreTurns 
       listed.worked k q below (omega (arith, short, length-walk u.plan.jobs u.plan.schedule u.plan.first)) (ap (λ (js : List Job). (job_at js q).present) (sym at.jobs) ∙ here)
       (ap (λ (x : Point). get_or x.left q 0) (sym point) ∙ eqb-true (get_or r.point.left q 0) 0 idle) in
       let one = done_some (turns.walk now) (e + k) q (ap (λ (ls : List Left). is_some (finish ls q)) (front_is (e + k) (omega (arith, short, length-append u.earlier (turn_walk u)))) ∙ done) in
-      let by_now : done_by (turns.walk now) (count_before (suc now - u.frame) (turns.walk now)) q ≡ true =
-      ap is_some (front_more (turns.walk now) (e + k) (count_before (suc now - u.frame) (turns.walk now)) q one.0 (omega (arith, few, (turns.each now).count)) one.1) in
+      let by_now : done_by (turns.walk now) (count_left_before (suc now - u.frame) (turns.walk now)) q ≡ true =
+      ap is_some (front_more (turns.walk now) (e + k) (count_left_before (suc now - u.frame) (turns.walk now)) q one.0 (omega (arith, few, (turns.each now).count)) one.1) in
       let f = records.done_is (suc now - u.frame) (turns.walk now) q by_now in
       let late = (turns.frames.runs now).late q f.0 below f.1 in
       omega (arith, late.0, f.2, turns.frames.past now)

@@ -8,14 +8,14 @@ use Rattle.htl_ecode.specs.declared.ecode.ECode.{ECode}
 use Rattle.htl_smach.specs.Rounds.{Round}
 use Rattle.htl_emach.specs.Calendars.{Standing}
 use Rattle.htl_emach.specs.Contents.{Content}
-use Rattle.htl_emach.specs.Following.{Follows, Onward, phase_path}
+use Rattle.htl_emach.specs.Following.{FollowsCode, Onward, phase_path}
 use Rattle.htl_object.specs.declared.object.Object.{Object}
 use Rattle.htl_object.specs.Accepted.{IsAccepted}
 use Rattle.htl_machine.specs.Asking.{IsToClose, IsToCloseAndBegin}
 use Rattle.htl_machine.specs.Calls.{Seen, IsUpTo}
 use Rattle.htl_machine.specs.Instant.{IsReadyAt}
 use Rattle.htl_machine.specs.Opening.{IsOpened}
-use Rattle.htl_machine.specs.Timing.{begins}
+use Rattle.htl_machine.specs.Timing.{some_round_begins}
 use Rattle.htl_machine.specs.ListBegun.{IsAtEnd}
 use Rattle.htl_machine.specs.Programs.{schedules_of}
 use Rattle.htl_machine.specs.Starting.{instrs_of}
@@ -23,8 +23,8 @@ use Rattle.htl_machine.proofs.After.{opened_values, closed_values, to_begin}
 use Rattle.htl_machine.proofs.Asking.{noted_of, values_at, reads_at, begins_at}
 
 -- the same, where the tables and the code are named otherwise
-pub follows_at : (o : Object) (es : List Event) (at : ℕ) (t : Tables) (code : ECode) (m : Standing) → t ≡ o.tables → code ≡ o.ecode → Follows o.tables o.ecode es at m → Follows t code es at m
-follows_at o es at t code m same same_code f = subst (λ z. Follows z code es at m) (sym same) (subst (λ z. Follows o.tables z es at m) (sym same_code) f)
+pub follows_at : (o : Object) (es : List Event) (at : ℕ) (t : Tables) (code : ECode) (m : Standing) → t ≡ o.tables → code ≡ o.ecode → FollowsCode o.tables o.ecode es at m → FollowsCode t code es at m
+follows_at o es at t code m same same_code f = subst (λ z. FollowsCode z code es at m) (sym same) (subst (λ z. FollowsCode o.tables z es at m) (sym same_code) f)
 
 pub to_close : (m : Seen) (es : List Event) (at : ℕ) (t : Tables) (code : ECode) → t ≡ m.object.tables → code ≡ m.object.ecode → IsAccepted m.object → m.held.reading ≤ at → IsUpTo m es at
     → (steps : List SInstr) → IsReadyAt m es at steps → (seen : List ℤ) → seen ≡ m.held.world.values → (d1 : Round) (w3 : Content)
@@ -40,7 +40,7 @@ to_close m es at t code same same_code ok later u steps r seen before d1 w3 open
     }
 
 pub to_close_and_begin : (m : Seen) (es : List Event) (at : ℕ) (t : Tables) (code : ECode) (ss : List Schedule) (takes : List ℕ) → t ≡ m.object.tables → code ≡ m.object.ecode → ss ≡ m.object.schedules
-    → takes ≡ m.held.takes → IsAccepted m.object → m.held.reading ≤ at → IsUpTo m es at → begins m.object.tables at ≡ true → (d1 : Round) → IsAtEnd m.object.tables (schedules_of m.object) es at d1
+    → takes ≡ m.held.takes → IsAccepted m.object → m.held.reading ≤ at → IsUpTo m es at → some_round_begins m.object.tables at ≡ true → (d1 : Round) → IsAtEnd m.object.tables (schedules_of m.object) es at d1
     → (m1 : Standing) (w3 : Content) (values : List ℤ) (modes : List (Option ℕ))
     → IsToClose t code es at m1 w3 values modes → IsToCloseAndBegin t code (instrs_of ss) es at takes m.list d1 m1 w3 values modes
 to_close_and_begin m es at t code ss takes same same_code same_schedules are ok later u b d1 ends m1 w3 values modes q =

@@ -24,8 +24,8 @@ use Rattle.htl_smach.specs.Rounds as rounds
 use Rattle.htl_smach.specs.Rounds.{Round, state_of, state_by}
 use Rattle.htl_smach.proofs.Telling.{absent_idle}
 use Rattle.htl_refine.specs.FrameRuns.{Frame, frame_modes, frame_places, frame_jobs, frame_at, path_of, walks_of}
-use Rattle.htl_refine.specs.ListPlans.{leg_at, point_at, list_plan}
-use Rattle.htl_refine.specs.RecordCounts.{count_before}
+use Rattle.htl_refine.specs.ListPlans.{leg_at, list_start, list_plan}
+use Rattle.htl_refine.specs.RecordCounts.{count_left_before}
 use Rattle.htl_refine.specs.Records.{lengths_of, took, IsTookWithin, AreTookWithin}
 use Rattle.htl_refine.specs.ServedFrames.{IsServing, IsFeasibleRun}
 use Rattle.htl_refine.proofs.FrontPlans.{same_lists, point_long, length-work}
@@ -160,13 +160,13 @@ module _ (t : Tables) (lists : List (List SInstr)) (es : List Event) (run : IsFe
     same_time : u.plan.first.time ≡ v.plan.first.time
     same_time = later_time p ms (frame_of t) (now - f) j form.forms form.chain here soon least more (agree (now - f) reach)
 
-    at_first : (e : ℕ) → e ≤ (leg_at p j).from → (count_before e (turn_walk u) ≡ 0) × (count_before e (turn_walk v) ≡ 0)
+    at_first : (e : ℕ) → e ≤ (leg_at p j).from → (count_left_before e (turn_walk u) ≡ 0) × (count_left_before e (turn_walk v) ≡ 0)
     at_first e low = (
       none_before e u.plan.first.time (turn_walk u) (walk_rises u.plan.jobs u.plan.schedule u.plan.first) (omega (arith, low, time_is)),
       none_before e v.plan.first.time (turn_walk v) (walk_rises v.plan.jobs v.plan.schedule v.plan.first) (omega (arith, low, time_is, same_time)),
     )
 
-    fronts : (e : ℕ) → f + e ≤ now → take (count_before e (turn_walk u)) (turn_walk u) ≡ take (count_before e (turn_walk v)) (turn_walk v)
+    fronts : (e : ℕ) → f + e ≤ now → take (count_left_before e (turn_walk u)) (turn_walk u) ≡ take (count_left_before e (turn_walk v)) (turn_walk v)
     fronts e early = elim (either (leg_at p j).from e) [
       | inl some ↦
           front_is u.plan.first.time e (turn_walk u) (walk_rises u.plan.jobs u.plan.schedule u.plan.first)
@@ -175,7 +175,7 @@ module _ (t : Tables) (lists : List (List SInstr)) (es : List Event) (run : IsFe
       | inr low ↦ (let z = at_first e low in ap (λ c. take c (turn_walk u)) z.0 ∙ sym (ap (λ c. take c (turn_walk v)) z.1))
     ]
 
-    counts : (e : ℕ) → f + e ≤ now → count_before e (turn_walk u) ≡ count_before e (turn_walk v)
+    counts : (e : ℕ) → f + e ≤ now → count_left_before e (turn_walk u) ≡ count_left_before e (turn_walk v)
     counts e early = sym (length-front e (turn_walk u)) ∙ ap (λ (ls : List Left). length ls) (fronts e early) ∙ length-front e (turn_walk v)
 
     same_so_far : AreSoFar u v now
@@ -205,12 +205,12 @@ module _ (t : Tables) (lists : List (List SInstr)) (es : List Event) (run : IsFe
     length-left : (length u.plan.first.left ≡ known) × (length v.plan.first.left ≡ known)
     length-left =
         let enough = few t lists es run m in (
-          length-take known (point_at p j).left ∙ (let z = point_long p.jobs p.lists p.legs j (first_point p.jobs p.lengths) in let y = length-work p.jobs p.lengths in omega (arith, enough, z, y)),
-          length-take known (point_at g j).left ∙ (let z = point_long p.jobs p.lists p.legs j (first_point p.jobs ms) in let y = length-work p.jobs ms in omega (arith, enough, z, y)),
+          length-take known (list_start p j).left ∙ (let z = point_long p.jobs p.lists p.legs j (first_point p.jobs p.lengths) in let y = length-work p.jobs p.lengths in omega (arith, enough, z, y)),
+          length-take known (list_start g j).left ∙ (let z = point_long p.jobs p.lists p.legs j (first_point p.jobs ms) in let y = length-work p.jobs ms in omega (arith, enough, z, y)),
         )
 
-    fronted : (q : ℕ) → q < known → (get_or u.plan.first.left q 0 ≡ get_or (point_at p j).left q 0) × (get_or v.plan.first.left q 0 ≡ get_or (point_at g j).left q 0)
-    fronted q less = (get_front known (point_at p j).left q less, get_front known (point_at g j).left q less)
+    fronted : (q : ℕ) → q < known → (get_or u.plan.first.left q 0 ≡ get_or (list_start p j).left q 0) × (get_or v.plan.first.left q 0 ≡ get_or (list_start g j).left q 0)
+    fronted q less = (get_front known (list_start p j).left q less, get_front known (list_start g j).left q less)
 
     -- the length of a present position
     own_work : (ns : List ℕ) (q : ℕ) → (job_at p.jobs q).present ≡ true → get_or (work p.jobs ns) q 0 ≡ get_or ns q 0
@@ -232,7 +232,7 @@ module _ (t : Tables) (lists : List (List SInstr)) (es : List Event) (run : IsFe
             let other : (job_at p.jobs q).inv ≢ i = λ mine. let before = early e mine in omega (arith, before, late, down, started) in
             own_work p.lengths q e ∙ is.0 ∙ sym (other_took (job_at p.jobs q).inv (f + (job_at p.jobs q).release) other) ∙ sym is.1 ∙ sym (own_work ms q e)
 
-        by : ((job_at p.jobs q).release < now - f) ⊎ (now - f ≤ (job_at p.jobs q).release) → get_or (point_at p j).left q 0 ≡ get_or (point_at g j).left q 0
+        by : ((job_at p.jobs q).release < now - f) ⊎ (now - f ≤ (job_at p.jobs q).release) → get_or (list_start p j).left q 0 ≡ get_or (list_start g j).left q 0
         by (inl released) = later_released p ms (frame_of t) (now - f) j form.forms form.chain here soon least more (agree (now - f) reach) q released
         by (inr late) =
             let z = later_unreleased p ms (frame_of t) (now - f) j form.forms form.chain here soon least more (agree (now - f) reach) q late in
@@ -321,8 +321,8 @@ module _ (t : Tables) (lists : List (List SInstr)) (es : List Event) (run : IsFe
       -- who has no work left was released
       done_before : (r : Round) (d : ℕ) (k : Job) → DeskStands u.plan f now r → slice_get jobs d ≡ Some k → k.present ≡ true → eqb (get_or r.point.left d 0) 0 ≡ true → f + k.release < now
       done_before r d k s at present idle =
-          let c = count_before (suc m - f) (turn_walk u) in
-          let there : DeskAt u.plan f c (suc m - f) r = subst (λ z. DeskAt u.plan f (count_before (z - f) (turn_walk u)) (z - f) r) next (desk_opens u.plan f now r s) in
+          let c = count_left_before (suc m - f) (turn_walk u) in
+          let there : DeskAt u.plan f c (suc m - f) r = subst (λ z. DeskAt u.plan f (count_left_before (z - f) (turn_walk u)) (z - f) r) next (desk_opens u.plan f now r s) in
           let same : job_at jobs d ≡ k = job_is jobs d k at in
           let present' : (job_at r.jobs d).present ≡ true = ap (λ (js : List Job). (job_at js d).present) s.jobs ∙ ap (λ (z : Job). z.present) same ∙ present in
           let late = done_late t es (list_turn t lists es) (are_turns t lists es run) m c (suc m - f) r ((are_listed t lists es run).each m) there (omega arith) d (slice_get_within jobs d k at) present' idle in

@@ -21,7 +21,7 @@ use Rattle.htl_ecode.proofs.Reading.{Jumps, reach_is, anchor_is, read_is}
 use Rattle.htl_ecode.proofs.Spelled.{ModeReads, Stands}
 use Rattle.htl_ecode.proofs.BlockLaws.{IsBlockPhase, spelled_stands, no_block}
 use Rattle.htl_emach.specs.Contents.{Content, effect}
-use Rattle.htl_machine.specs.Worlds.{want_effect, effects, writes_at, reads_at, all_writes, all_reads}
+use Rattle.htl_machine.specs.Worlds.{want_effect, effects, wanted_writes, wanted_reads, all_writes, all_reads}
 use Rattle.htl_machine.specs.Running.{effect_at}
 use Rattle.htl_machine.proofs.Valued.{effects_more}
 
@@ -165,34 +165,34 @@ addresses_more [] ys = refl
 addresses_more (x ∷ xs) ys = ap (λ z. x.address ∷ z) (addresses_more xs ys)
 
 module _ (t : Tables) (code : ECode) (reads : (m : ℕ) → m < length t.modes → ModeReads t code m) where
-  writes_of_stay : (now : ℕ) (o : Option Stay) → ((y : Stay) → o ≡ Some y → y.mode < length t.modes) → (w : Content) → replay t code.instrs (due_path t code 1 now o) w ≡ effects t (writes_at t now o) w
+  writes_of_stay : (now : ℕ) (o : Option Stay) → ((y : Stay) → o ≡ Some y → y.mode < length t.modes) → (w : Content) → replay t code.instrs (due_path t code 1 now o) w ≡ effects t (wanted_writes t now o) w
   writes_of_stay now None real w = refl
   writes_of_stay now (Some y) real w = block_does t code y.mode 1 (now - y.start) w (inl refl) (reads y.mode (real y refl))
 
-  reads_of_stay : (now : ℕ) (o : Option Stay) → ((y : Stay) → o ≡ Some y → y.mode < length t.modes) → (w : Content) → replay t code.instrs (due_path t code 3 now o) w ≡ effects t (reads_at t now o) w
+  reads_of_stay : (now : ℕ) (o : Option Stay) → ((y : Stay) → o ≡ Some y → y.mode < length t.modes) → (w : Content) → replay t code.instrs (due_path t code 3 now o) w ≡ effects t (wanted_reads t now o) w
   reads_of_stay now None real w = refl
   reads_of_stay now (Some y) real w = block_does t code y.mode 3 (now - y.start) w (inr refl) (reads y.mode (real y refl))
 
   module _ (now : ℕ) (x : State) (real : (k : ℕ) (y : Stay) → stay_of x.stays k ≡ Some y → y.mode < length t.modes) where
-    writes_to : (n : ℕ) (w : Content) → replay t code.instrs (addresses (up_to (writes_done t code now x) n)) w ≡ effects t (up_to (λ k. writes_at t now (stay_of x.stays k)) n) w
+    writes_to : (n : ℕ) (w : Content) → replay t code.instrs (addresses (up_to (writes_done t code now x) n)) w ≡ effects t (up_to (λ k. wanted_writes t now (stay_of x.stays k)) n) w
     writes_to zero w = refl
     writes_to (suc n) w =
         ap (λ xs. replay t code.instrs xs w) (addresses_more (up_to (writes_done t code now x) n) (writes_done t code now x n))
         ∙ replay_more t code.instrs (addresses (up_to (writes_done t code now x) n)) (addresses (writes_done t code now x n)) w
         ∙ ap (λ xs. replay t code.instrs xs (replay t code.instrs (addresses (up_to (writes_done t code now x) n)) w)) (addresses_on n (due_path t code 1 now (stay_of x.stays n)))
         ∙ ap (λ z. replay t code.instrs (due_path t code 1 now (stay_of x.stays n)) z) (writes_to n w)
-        ∙ writes_of_stay now (stay_of x.stays n) (λ y e. real n y e) (effects t (up_to (λ k. writes_at t now (stay_of x.stays k)) n) w)
-        ∙ sym (effects_more t (up_to (λ k. writes_at t now (stay_of x.stays k)) n) (writes_at t now (stay_of x.stays n)) w)
+        ∙ writes_of_stay now (stay_of x.stays n) (λ y e. real n y e) (effects t (up_to (λ k. wanted_writes t now (stay_of x.stays k)) n) w)
+        ∙ sym (effects_more t (up_to (λ k. wanted_writes t now (stay_of x.stays k)) n) (wanted_writes t now (stay_of x.stays n)) w)
 
-    reads_to : (n : ℕ) (w : Content) → replay t code.instrs (addresses (up_to (reads_done t code now x) n)) w ≡ effects t (up_to (λ k. reads_at t now (stay_of x.stays k)) n) w
+    reads_to : (n : ℕ) (w : Content) → replay t code.instrs (addresses (up_to (reads_done t code now x) n)) w ≡ effects t (up_to (λ k. wanted_reads t now (stay_of x.stays k)) n) w
     reads_to zero w = refl
     reads_to (suc n) w =
         ap (λ xs. replay t code.instrs xs w) (addresses_more (up_to (reads_done t code now x) n) (reads_done t code now x n))
         ∙ replay_more t code.instrs (addresses (up_to (reads_done t code now x) n)) (addresses (reads_done t code now x n)) w
         ∙ ap (λ xs. replay t code.instrs xs (replay t code.instrs (addresses (up_to (reads_done t code now x) n)) w)) (addresses_on n (due_path t code 3 now (stay_of x.stays n)))
         ∙ ap (λ z. replay t code.instrs (due_path t code 3 now (stay_of x.stays n)) z) (reads_to n w)
-        ∙ reads_of_stay now (stay_of x.stays n) (λ y e. real n y e) (effects t (up_to (λ k. reads_at t now (stay_of x.stays k)) n) w)
-        ∙ sym (effects_more t (up_to (λ k. reads_at t now (stay_of x.stays k)) n) (reads_at t now (stay_of x.stays n)) w)
+        ∙ reads_of_stay now (stay_of x.stays n) (λ y e. real n y e) (effects t (up_to (λ k. wanted_reads t now (stay_of x.stays k)) n) w)
+        ∙ sym (effects_more t (up_to (λ k. wanted_reads t now (stay_of x.stays k)) n) (wanted_reads t now (stay_of x.stays n)) w)
 
     -- the addresses of the write phase do the writes, those of the read phase the reads
     pub write_phase : (w : Content) → replay t code.instrs (addresses (up_to (writes_done t code now x) (length t.modules))) w ≡ effects t (all_writes t now x.stays) w

@@ -15,7 +15,7 @@ use Rattle.htl_model.specs.Meaning.{state, before, stay_of, sense, out, next_val
 use Rattle.htl_model.proofs.Laws.{state_step, seen_before}
 use Rattle.htl_ecode.specs.Chains.{Want}
 use Rattle.htl_emach.specs.Contents.{Content, buffer, comm_of}
-use Rattle.htl_machine.specs.Worlds.{effects, writes_at, all_writes, want_effect, shown, shown_at}
+use Rattle.htl_machine.specs.Worlds.{effects, wanted_writes, all_writes, want_effect, shown, shown_at}
 use Rattle.htl_emach.specs.Contents as contents
 use Rattle.htl_machine.specs.Values.{IsDue, AreDistinct, values_before}
 use Rattle.htl_refine.proofs.Standing.{IsStanding, standing_at}
@@ -101,9 +101,9 @@ effects_more t (x ∷ xs) ys w = effects_more t xs ys (want_effect t x w)
 no_writes : (t : Tables) (k : ℕ) (w : Content) → effects t (all_writes t 0 []) w ≡ w
 no_writes t k w = by_count (length t.modules)
   where
-    by_count : (n : ℕ) → effects t (up_to (λ k. writes_at t 0 (stay_of [] k)) n) w ≡ w
+    by_count : (n : ℕ) → effects t (up_to (λ k. wanted_writes t 0 (stay_of [] k)) n) w ≡ w
     by_count zero = refl
-    by_count (suc n) = effects_more t (up_to (λ k. writes_at t 0 (stay_of [] k)) n) [] w ∙ by_count n
+    by_count (suc n) = effects_more t (up_to (λ k. wanted_writes t 0 (stay_of [] k)) n) [] w ∙ by_count n
 
 -- the values of every instant, from those before it
 pub values_step : (t : Tables) (range : AreInRange t) (es : List Event) (now : ℕ) (w : Content)

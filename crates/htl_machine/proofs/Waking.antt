@@ -13,7 +13,7 @@ use Rattle.htl_emach.specs.declared.trigger.Trigger.{Trigger}
 use Rattle.htl_emach.specs.Calendars.{Standing}
 use Rattle.htl_emach.specs.Pending.{Entry, opening, awaited, turning, is_called, entering, old_stay, new_stay}
 use Rattle.htl_emach.proofs.States.{parent_runs, parent_at, module_at, active_some, begins_now}
-use Rattle.htl_emach.specs.Following.{Follows}
+use Rattle.htl_emach.specs.Following.{FollowsCode}
 use Rattle.htl_machine.proofs.Events.{Alike, before_same}
 
 module _ (t : Tables) (range : AreInRange t) (now : ℕ) where
@@ -53,7 +53,7 @@ module _ (t : Tables) (range : AreInRange t) (now : ℕ) where
         ∙ ap (λ o. make o (turning t code now 0 j o (new_stay t fs now j))) (old_same j)
 
     -- the E machine follows other events that agree before the instant
-    pub triggers_alike : (m : Standing) → Follows t code es now m → Follows t code fs now m
+    pub triggers_alike : (m : Standing) → FollowsCode t code es now m → FollowsCode t code fs now m
     triggers_alike m f =
         record {
           idle = f.idle;

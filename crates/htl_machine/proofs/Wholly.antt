@@ -31,7 +31,7 @@ use Rattle.htl_machine.specs.RunLists.{turn_at}
 use Rattle.htl_machine.specs.Follows.{Held, reading_of, DeskFollows, IsLoaded, at_reading, shown_as, desk_taking, taken_as}
 use Rattle.htl_console.specs.declared.shown.Shown.{Shown}
 use Rattle.htl_machine.specs.Texts.{instant_text, records_of}
-use Rattle.htl_machine.specs.Machines.{Counts, Stands, Followed}
+use Rattle.htl_machine.specs.Machines.{Counts, RunStands, Followed}
 use Rattle.htl_machine.specs.Wholes.{Whole, WholeFollowed, Passed}
 use Rattle.htl_machine.proofs.Events.{sense_at, sense_took, sense_sense}
 use Rattle.htl_machine.proofs.Meeting.{next_is}
@@ -62,7 +62,7 @@ module _ (t : Tables) (code : ECode) (schedules : List (List SInstr)) (loaded : 
         triggers = reads_follows t code es now e1 (phase_path t code es now 3) [] (sound t code 12 (omega arith) loaded.range loaded.kept ((spells_or_departs t code).0 spelled)) p.ends;
         safe = p.safe;
         stands =
-            subst (λ w. Stands t code schedules show es (suc now) (record m { world = w; desk = r }) (counted t code schedules es now n) new) (sym world)
+            subst (λ w. RunStands t code schedules show es (suc now) (record m { world = w; desk = r }) (counted t code schedules es now n) new) (sym world)
             (instant_stands t code schedules loaded show es now m n written new r f.stands (subst (IsShaped t) world p.shaped) desk text);
       }
 
@@ -124,7 +124,7 @@ module _ (t : Tables) (code : ECode) (schedules : List (List SInstr)) (loaded : 
         follows = f.follows;
         whole =
             record {
-              triggers = subst (λ now. machines.Follows t code [] now (first_standing t code)) (sym f.follows.reading) (first_follows t code [] (sound t code 12 (omega arith) loaded.range loaded.kept ((spells_or_departs t code).0 spelled)));
+              triggers = subst (λ now. machines.FollowsCode t code [] now (first_standing t code)) (sym f.follows.reading) (first_follows t code [] (sound t code 12 (omega arith) loaded.range loaded.kept ((spells_or_departs t code).0 spelled)));
               safe = safe;
               stands = f.stands;
             };

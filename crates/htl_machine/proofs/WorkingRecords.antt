@@ -4,8 +4,8 @@ use Rattle.std.proofs.lemmas.Bool.{cases_lt, ltb-true}
 use Rattle.htl_walk.specs.declared.job.Job.{Job}
 use Rattle.htl_walk.specs.declared.schedule.SInstr.{SInstr}
 use Rattle.htl_walk.specs.declared.schedule.SInstr.TheVariants.{Dispatch, Idle, End}
-use Rattle.htl_walk.specs.Paths.{Leg, begun, walks_from, end_to_end}
-use Rattle.htl_walk.specs.Walk.{Point, Left, job_at, begins, time_after, work_after, slice_between, finishes_by, next_point, left_by, walk_from, last_point}
+use Rattle.htl_walk.specs.Paths.{Leg, list_point, walks_from, end_to_end}
+use Rattle.htl_walk.specs.Walk.{Point, Left, job_at, dispatch_begins, time_after, work_after, slice_between, finishes_by, next_point, left_by, walk_from, last_point}
 use Rattle.htl_walk.proofs.Acceptance.{left_falls_to}
 use Rattle.htl_walk.proofs.Steps.{left_falls, left_same}
 use Rattle.htl_refine.proofs.RecordOrder.{get_in, get_past, not_some}
@@ -26,10 +26,10 @@ pub record Works (jobs : List Job) (x : Point) (l : Left) : Type 0 where
 
 -- ---- one dispatch
 
-late : (now w r until : ℕ) → begins now r until < until → r < time_after now (suc w) r until
+late : (now w r until : ℕ) → dispatch_begins now r until < until → r < time_after now (suc w) r until
 late now w r until h = omega (arith, h)
 
-all_done : (now w r until : ℕ) → work_after now (suc w) r until ≡ 0 → begins now r until < until
+all_done : (now w r until : ℕ) → work_after now (suc w) r until ≡ 0 → dispatch_begins now r until < until
 all_done now w r until e = omega (arith, e)
 
 finish_is : (w n : ℕ) → finishes_by (suc w) n ≡ true → n ≡ 0
@@ -44,16 +44,16 @@ module _ (jobs : List Job) (q until : ℕ) (x : Point) where
   record_of = left_by jobs (Dispatch q until) x after
 
   at_once : (w : ℕ) → get_or x.left q 0 ≡ w → DoesWork record_of → (0 < get_or x.left q 0) × ((job_at jobs q).release < after.time)
-  at_once zero none (inl u) = not_some u.0 (ap (λ w. slice_between (begins x.time (job_at jobs q).release until) until w after.time) (sym none) ∙ u.1)
+  at_once zero none (inl u) = not_some u.0 (ap (λ w. slice_between (dispatch_begins x.time (job_at jobs q).release until) until w after.time) (sym none) ∙ u.1)
   at_once zero none (inr done) = absurd (let z : false ≡ true = ap (λ w. finishes_by w (get_or after.left q 0)) (sym none) ∙ done in let y : ⊥ = cc in y)
-  at_once (suc w) some (inl u) = by (ltb (begins x.time (job_at jobs q).release until) until) refl (ap (λ v. slice_between (begins x.time (job_at jobs q).release until) until v after.time) (sym some) ∙ u.1)
+  at_once (suc w) some (inl u) = by (ltb (dispatch_begins x.time (job_at jobs q).release until) until) refl (ap (λ v. slice_between (dispatch_begins x.time (job_at jobs q).release until) until v after.time) (sym some) ∙ u.1)
     where
-      by : (b : Bool) → ltb (begins x.time (job_at jobs q).release until) until ≡ b
-          → ◌≡◌ {A = Option (ℕ × ℕ)} (elim b [ true ↦ Some (begins x.time (job_at jobs q).release until, after.time) | false ↦ None ]) (Some u.0)
+      by : (b : Bool) → ltb (dispatch_begins x.time (job_at jobs q).release until) until ≡ b
+          → ◌≡◌ {A = Option (ℕ × ℕ)} (elim b [ true ↦ Some (dispatch_begins x.time (job_at jobs q).release until, after.time) | false ↦ None ]) (Some u.0)
           → (0 < get_or x.left q 0) × ((job_at jobs q).release < after.time)
       by false e f = not_some u.0 f
       by true e f =
-          let room = ltb-true (begins x.time (job_at jobs q).release until) until e in
+          let room = ltb-true (dispatch_begins x.time (job_at jobs q).release until) until e in
           let time : after.time ≡ time_after x.time (suc w) (job_at jobs q).release until = ap (λ v. time_after x.time v (job_at jobs q).release until) some in
           (omega (arith, some), omega (arith, late x.time w (job_at jobs q).release until room, time))
   at_once (suc w) some (inr done) =
@@ -89,21 +89,21 @@ works_at jobs (Dispatch q until ∷ is) x zero l at does =
 pub works_in : (jobs : List Job) (ss : List (List SInstr)) (gs : List Leg) (x : Point) (k : ℕ) (l : Left) → slice_get (end_to_end (walks_from jobs ss gs x)) k ≡ Some l → DoesWork l → Works jobs x l
 works_in jobs [] gs x k l at does = not_some l at
 works_in jobs (s ∷ ss) [] x k l at does = not_some l at
-works_in jobs (s ∷ ss) (g ∷ gs) x k l at does = elim (cases_lt k (length (walk_from jobs s (begun g.from x)))) [
+works_in jobs (s ∷ ss) (g ∷ gs) x k l at does = elim (cases_lt k (length (walk_from jobs s (list_point g.from x)))) [
   | inl h ↦ here h
-  | inr h ↦ there h (λ d e. works_in jobs ss gs (last_point jobs s (begun g.from x)) d l e does)
+  | inr h ↦ there h (λ d e. works_in jobs ss gs (last_point jobs s (list_point g.from x)) d l e does)
 ]
   where
-    here : k < length (walk_from jobs s (begun g.from x)) → Works jobs x l
+    here : k < length (walk_from jobs s (list_point g.from x)) → Works jobs x l
     here h =
-        let y = begun g.from x in
+        let y = list_point g.from x in
         let w = works_at jobs s y k l (sym (get_in (walk_from jobs s y) (end_to_end (walks_from jobs ss gs (last_point jobs s y))) k h) ∙ at) does in
         record { position = w.position; of = w.of; some = w.some; released = w.released; ends = w.ends }
 
-    there : length (walk_from jobs s (begun g.from x)) ≤ k
-        → ((d : ℕ) → slice_get (end_to_end (walks_from jobs ss gs (last_point jobs s (begun g.from x)))) d ≡ Some l → Works jobs (last_point jobs s (begun g.from x)) l) → Works jobs x l
+    there : length (walk_from jobs s (list_point g.from x)) ≤ k
+        → ((d : ℕ) → slice_get (end_to_end (walks_from jobs ss gs (last_point jobs s (list_point g.from x)))) d ≡ Some l → Works jobs (last_point jobs s (list_point g.from x)) l) → Works jobs x l
     there h ih =
-        let y = begun g.from x in
+        let y = list_point g.from x in
         let ls = walk_from jobs s y in
         let ms = end_to_end (walks_from jobs ss gs (last_point jobs s y)) in
         let d = k - length ls in

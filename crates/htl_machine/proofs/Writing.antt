@@ -16,18 +16,18 @@ use Rattle.htl_console.specs.declared.shown.Shown.{Shown}
 use Rattle.htl_console.specs.Shows.{shows_values, shows_code}
 use Rattle.htl_machine.specs.ListTurns.{Turn, left_before}
 use Rattle.htl_machine.specs.RunLists.{turn_at}
-use Rattle.htl_machine.specs.Texts.{e_line, some_records, old_turn, old_records, new_records, records_text, list_texts, instant_text, text_before, capped}
+use Rattle.htl_machine.specs.Texts.{e_line, some_records, old_turn, turn_old_records, turn_new_records, records_text, list_texts, instant_text, listed_text_before, capped}
 use Rattle.htl_machine.specs.Follows.{IsLoaded}
 use Rattle.htl_machine.proofs.Events.{Alike, state_same, before_same}
 use Rattle.htl_machine.proofs.Following.{turn_same}
 
 module _ (t : Tables) (code : ECode) (schedules : List (List SInstr)) (es fs : List Event) (show : Shown) (now : ℕ) (alike : Alike t es fs now) (loaded : IsLoaded t schedules) (within : AreTookWithin t es) (tooks : (i u : ℕ) → took t es i u ≡ took t fs i u) where
-  old_same : (n : ℕ) → n < now → records_text t show (old_turn (turn_at t schedules es) n) (old_records (turn_at t schedules es) n) ≡ records_text t show (old_turn (turn_at t schedules fs) n) (old_records (turn_at t schedules fs) n)
+  old_same : (n : ℕ) → n < now → records_text t show (old_turn (turn_at t schedules es) n) (turn_old_records (turn_at t schedules es) n) ≡ records_text t show (old_turn (turn_at t schedules fs) n) (turn_old_records (turn_at t schedules fs) n)
   old_same zero h = refl
   old_same (suc n) h =
       ap (λ (u : Turn). records_text t show u (some_records u.plan u.frame (left_before u (suc n)) (left_before u (suc (suc n)) - left_before u (suc n)))) (turn_same t schedules es fs now alike loaded within tooks n (omega (arith, h)))
 
-  new_same : (n : ℕ) → n < now → records_text t show (turn_at t schedules es n) (new_records (turn_at t schedules es) n) ≡ records_text t show (turn_at t schedules fs n) (new_records (turn_at t schedules fs) n)
+  new_same : (n : ℕ) → n < now → records_text t show (turn_at t schedules es n) (turn_new_records (turn_at t schedules es) n) ≡ records_text t show (turn_at t schedules fs n) (turn_new_records (turn_at t schedules fs) n)
   new_same n h =
       ap (λ (u : Turn). records_text t show u (cond (eqb (u.frame + u.from) n) (some_records u.plan u.frame 0 (left_before u (suc n))) [])) (turn_same t schedules es fs now alike loaded within tooks n h)
 
@@ -45,7 +45,7 @@ module _ (t : Tables) (code : ECode) (schedules : List (List SInstr)) (es fs : L
       r.0 ++ cond (shows_code show) (joined (e_line t code n) (instant_path t code n x y)) [] ++ cond (shows_values show) (lines_text t (changes t n x y)) [] ++ r.1 in
       ap (λ r. P r (before t es n) (state t es n)) (lists_same (hyper t) n h) ∙ ap₂ (P (list_texts t schedules fs show (hyper t) n)) old new
 
-  pub before_stays : text_before t code schedules es show now ≡ text_before t code schedules fs show now
+  pub before_stays : listed_text_before t code schedules es show now ≡ listed_text_before t code schedules fs show now
   before_stays = up_to_same (instant_text t code schedules es show) (instant_text t code schedules fs show) now (λ n h. instant_same n h)
 
 -- a count that stands at its end goes on from the count before

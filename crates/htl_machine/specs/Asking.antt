@@ -4,7 +4,7 @@ use Rattle.htl_model.specs.declared.event.Event.{Event}
 use Rattle.htl_model.specs.FrameRules.{KeptApart}
 use Rattle.htl_model.specs.Frames.{frame_limit}
 use Rattle.htl_model.specs.FunctionTypes.{FitPlaces}
-use Rattle.htl_model.specs.Meaning.{state, before, mode_in}
+use Rattle.htl_model.specs.Meaning.{state, before, mode_in_state}
 use Rattle.htl_model.specs.Tables.{Tables}
 use Rattle.htl_walk.specs.declared.schedule.SInstr.{SInstr}
 use Rattle.htl_ecode.specs.declared.ecode.ECode.{ECode}
@@ -29,7 +29,7 @@ pub record IsSound (t : Tables) (code : ECode) : Type 0 where
 -- the values and the modes that were noted are those before the instant
 pub record AreBefore (t : Tables) (es : List Event) (at : ℕ) (values : List ℤ) (modes : List (Option ℕ)) : Type 0 where
   pub values_are : 0 < at → values ≡ (before t es at).values
-  pub modes_are : (k : ℕ) → k < length t.modules → list_at modes k ≡ mode_in (before t es at) k
+  pub modes_are : (k : ℕ) → k < length t.modules → list_at modes k ≡ mode_in_state (before t es at) k
 
 -- of what was noted before it
 pub record IsNoted (t : Tables) (es : List Event) (at : ℕ) (values : List ℤ) (modes : List (Option ℕ)) : Type 0 where

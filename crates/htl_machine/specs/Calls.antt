@@ -87,7 +87,7 @@ pub record IsKept (t : Tables) (es : List Event) (m : Held) : Type 0 where
 pub record IsValued (t : Tables) (code : ECode) (es : List Event) (now : ℕ) (finished : ℕ → Bool) (w : Content) (m : Standing) (e : ℕ) : Type 0 where
   pub values : ValuesFollow t es now finished w
   pub shaped : IsShaped t w
-  pub triggers : machines.Follows t code es now m
+  pub triggers : machines.FollowsCode t code es now m
   pub safe : StandsSafely t code m
   pub count : e ≡ e_done t code es now
 

@@ -18,7 +18,7 @@ use Rattle.htl_walk.specs.Feasible.{AreFeasible}
 use Rattle.htl_refine.specs.Records.{AreTookWithin, took}
 use Rattle.htl_emach.specs.Contents.{Content}
 use Rattle.htl_machine.specs.Values.{ValuesFollow}
-use Rattle.htl_refine.specs.RecordCounts.{count_before}
+use Rattle.htl_refine.specs.RecordCounts.{count_left_before}
 use Rattle.htl_refine.specs.ListPlans.{ListPlan as Plan, list_walk}
 use Rattle.htl_machine.specs.ListTurns.{Turn}
 use Rattle.htl_machine.specs.Plans.{finished_before}
@@ -56,7 +56,7 @@ pub record DeskStands (p : Plan) (s now : ℕ) (r : Round) : Type 0 where
   pub lengths : length r.lengths ≡ length r.jobs
   -- its walk begins where those of the lists before it end
   pub first : r.first ≡ p.first
-  pub place : r.place ≡ count_before (now - s) (list_walk p)
+  pub place : r.place ≡ count_left_before (now - s) (list_walk p)
   pub running : r.running ≡ ltb r.place (length p.schedule)
   pub released : r.released ≡ released_before (now - s) p.jobs
   pub stands : rounds.Stands r p.schedule
@@ -83,7 +83,7 @@ pub record UpTo (t : Tables) (schedules : List (List SInstr)) (es : List Event) 
   pub desk : DeskFollows (turn_at t schedules es) (hyper t) now m.desk
 
 -- at the last reading
-pub record Follows (t : Tables) (schedules : List (List SInstr)) (es : List Event) (m : Held) : Type 0 where
+pub record HeldFollows (t : Tables) (schedules : List (List SInstr)) (es : List Event) (m : Held) : Type 0 where
   pub fresh : m.spent ≡ false
   pub reading : m.reading ≡ reading_of 0 es
   pub up_to : UpTo t schedules es m.reading m

@@ -13,17 +13,17 @@ use Rattle.htl_walk.specs.PathJobs.{placed_jobs}
 use Rattle.htl_refine.specs.FramePlaces.{place, standing_places, AreOrdered}
 use Rattle.htl_refine.specs.FrameRuns.{frame_modes, frame_places, frame_jobs}
 use Rattle.htl_machine.specs.Casts.{IsCast}
-use Rattle.htl_machine.specs.Values.{Stands}
+use Rattle.htl_machine.specs.Values.{InvStands}
 
 -- the positions so far of the frame from `frame`, where at n the modules are as `stays` says
 pub record IsFramePlacing (t : Tables) (stays : List (Option Stay)) (frame n : ℕ) (places : List Place) : Type 0 where
   -- whoever stands has a position in its module's round
-  pub has : (i : ℕ) (x : Inv) (s : ℕ) → Stands t stays i x s → (p a : ℕ) × (slice_get places p ≡ Some (place i a)) × (frame + a ≡ s)
+  pub has : (i : ℕ) (x : Inv) (s : ℕ) → InvStands t stays i x s → (p a : ℕ) × (slice_get places p ≡ Some (place i a)) × (frame + a ≡ s)
   pub known : (p i a : ℕ) → slice_get places p ≡ Some (place i a) → (x : Inv) × (slice_get t.invs i ≡ Some x)
   -- until the window of a position has ended, whoever is at it stands in that round
-  pub stands : (p i a : ℕ) (x : Inv) → slice_get places p ≡ Some (place i a) → slice_get t.invs i ≡ Some x → n < frame + a + window_end t x → Stands t stays i x (frame + a)
+  pub stands : (p i a : ℕ) (x : Inv) → slice_get places p ≡ Some (place i a) → slice_get t.invs i ≡ Some x → n < frame + a + window_end t x → InvStands t stays i x (frame + a)
   -- of who stands no later round has begun
-  pub latest : (p i a s : ℕ) (x : Inv) → slice_get places p ≡ Some (place i a) → Stands t stays i x s → frame + a ≤ s
+  pub latest : (p i a s : ℕ) (x : Inv) → slice_get places p ≡ Some (place i a) → InvStands t stays i x s → frame + a ≤ s
   -- by the rounds' starts; nobody has two in one round
   pub order : (p q : ℕ) (x y : Place) → p < q → slice_get places p ≡ Some x → slice_get places q ≡ Some y → x.at ≤ y.at
   pub once : (p q i a : ℕ) → slice_get places p ≡ Some (place i a) → slice_get places q ≡ Some (place i a) → p ≡ q

@@ -8,7 +8,7 @@ use Rattle.htl_model.specs.Meaning.{sense, state, before}
 use Rattle.htl_walk.specs.declared.job.Job.{Job}
 use Rattle.htl_walk.specs.Walk.{Left}
 use Rattle.htl_emach.specs.Contents.{Content}
-use Rattle.htl_refine.specs.RecordCounts.{count_before, done_by}
+use Rattle.htl_refine.specs.RecordCounts.{count_left_before, done_by}
 use Rattle.htl_refine.specs.ServedSoFar.{IsServedSoFar}
 use Rattle.htl_machine.specs.Casts.{IsCast}
 use Rattle.htl_machine.specs.Completing.{run_records}
@@ -23,13 +23,13 @@ pub record Now : Type 0 where
   pub walk : List Left
 
 -- the jobs of the present rounds that are finished before an instant, and once its records are done
-abbrev pub finished_before : (ℕ → Now) → ℕ → ℕ → Bool
-finished_before now zero i = false
-finished_before now (suc n) i = let f = now n in finished_in f.jobs (done_by f.walk (count_before (suc n - f.frame) f.walk)) i
+abbrev pub present_finished : (ℕ → Now) → ℕ → ℕ → Bool
+present_finished now zero i = false
+present_finished now (suc n) i = let f = now n in finished_in f.jobs (done_by f.walk (count_left_before (suc n - f.frame) f.walk)) i
 
 abbrev pub finished_at : (ℕ → Now) → ℕ → ℕ → Bool
 finished_at now zero i = false
-finished_at now (suc n) i = let f = now n in finished_in f.jobs (done_by f.walk (count_before (suc (suc n) - f.frame) f.walk)) i
+finished_at now (suc n) i = let f = now n in finished_in f.jobs (done_by f.walk (count_left_before (suc (suc n) - f.frame) f.walk)) i
 
 -- at each instant the jobs so far are cast, and the records serve them; a frame goes on with further jobs, or the next begins
 pub record AreFrames (t : Tables) (es : List Event) (now : ℕ → Now) : Type 0 where
@@ -44,8 +44,8 @@ abbrev pub frame_records : Tables → (ℕ → Now) → ℕ → Content → Cont
 frame_records t now zero w = w
 frame_records t now (suc n) w =
     let f = now n in
-    let a = count_before (suc n - f.frame) f.walk in
-    run_records t f.jobs f.walk (count_before (suc (suc n) - f.frame) f.walk - a) a w
+    let a = count_left_before (suc n - f.frame) f.walk in
+    run_records t f.jobs f.walk (count_left_before (suc (suc n) - f.frame) f.walk - a) a w
 
 -- a whole instant: those records, the writes, the sensors, the reads
 abbrev pub next_by_frames : Tables → List Event → (ℕ → Now) → ℕ → Content → Content
@@ -53,4 +53,4 @@ next_by_frames t es now n w = world_after t (sense t es) n (before t es n).stays
 
 -- what is finished after an instant's records is finished before the next, of the rounds that go on; of those that begin nothing is
 abbrev pub FinishedCarried : Type 0
-FinishedCarried = (t : Tables) (es : List Event) (now : ℕ → Now) → AreInRange t → KeptApart t 12 → AreFrames t es now → (n : ℕ) → AreCarried t es n (finished_at now n) (finished_before now (suc n))
+FinishedCarried = (t : Tables) (es : List Event) (now : ℕ → Now) → AreInRange t → KeptApart t 12 → AreFrames t es now → (n : ℕ) → AreCarried t es n (finished_at now n) (present_finished now (suc n))

@@ -48,15 +48,15 @@ is_job_line (TotalsLine at jobs e s) = false
 -- ---- the job lines of records
 
 -- of the invocation at the record's position: the slice that it closes, and that the job is done
-abbrev pub slice_of : ℕ → Option (ℕ × ℕ) → List RunLine
-slice_of i (Some s) = SliceLine s.0 s.1 i ∷ []
-slice_of i None = []
+abbrev pub closed_slice_line : ℕ → Option (ℕ × ℕ) → List RunLine
+closed_slice_line i (Some s) = SliceLine s.0 s.1 i ∷ []
+closed_slice_line i None = []
 
-abbrev pub done_of : ℕ → Left → List RunLine
-done_of i l = cond l.finished (DoneLine l.at i ∷ []) []
+abbrev pub job_done_line : ℕ → Left → List RunLine
+job_done_line i l = cond l.finished (DoneLine l.at i ∷ []) []
 
 abbrev pub job_lines_of : List Job → ℕ × Left → List RunLine
-job_lines_of jobs l = let i = inv_at jobs l.1.position in slice_of i l.1.slice ++ done_of i l.1
+job_lines_of jobs l = let i = inv_at jobs l.1.position in closed_slice_line i l.1.slice ++ job_done_line i l.1
 
 -- of the records at an instant of a list of the frame from f
 abbrev pub list_job_lines : Tables → List (List SInstr) → List Event → ℕ → ℕ → RunningList → List RunLine

@@ -2,13 +2,13 @@
 use Rattle.std.specs.Prelude.{◌≡◌, ◌≤◌, ℕ, suc, ◌-◌, true, List}
 use Rattle.htl_walk.specs.declared.schedule.SInstr.{SInstr}
 use Rattle.htl_smach.specs.Rounds.{Round, Stands, IsInForm, IsTold}
-use Rattle.htl_refine.specs.RecordCounts.{count_before}
+use Rattle.htl_refine.specs.RecordCounts.{count_left_before}
 use Rattle.htl_refine.specs.ListPlans.{ListPlan as Plan, list_walk}
 use Rattle.htl_machine.specs.Follows.{DeskAt}
 
 -- the records of the list that are left at an instant or before, as a number
 abbrev pub due_by : Plan → ℕ → ℕ → ℕ
-due_by p s at = count_before (suc at - s) (list_walk p)
+due_by p s at = count_left_before (suc at - s) (list_walk p)
 
 -- wherever it stood, it stands in the same list, no record past those that are due
 abbrev pub Goes : Round → Round → List SInstr → ℕ → Type 0

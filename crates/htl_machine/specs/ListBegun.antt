@@ -6,7 +6,7 @@ use Rattle.htl_model.specs.Tables.{Tables}
 use Rattle.htl_walk.specs.declared.schedule.SInstr.{SInstr}
 use Rattle.htl_walk.specs.Refinement.{HaveLengths, AreWithinWorst}
 use Rattle.htl_smach.specs.Adding.{CanBegin}
-use Rattle.htl_smach.specs.Rounds.{Round, begun, added}
+use Rattle.htl_smach.specs.Rounds.{Round, round_begun, added}
 use Rattle.htl_refine.specs.BegunJobs.{new_jobs}
 use Rattle.htl_refine.specs.Records.{modes_at, took}
 use Rattle.htl_refine.specs.ServedFrames.{IsFeasibleRun}
@@ -20,7 +20,7 @@ list_begun t modes takes at r =
     let a = at % frame_of t in
     let first = new_jobs t modes a 0 in
     let more = new_jobs t modes a (length r.jobs) in
-    cond (eqb a 0) (begun at first (kept_lengths takes first)) (added r at more (kept_lengths takes more))
+    cond (eqb a 0) (round_begun at first (kept_lengths takes first)) (added r at more (kept_lengths takes more))
 
 -- what it asks for
 pub record CanStart (t : Tables) (modes : List (Option ℕ)) (takes : List ℕ) (at : ℕ) (r : Round) : Type 0 where

@@ -5,7 +5,7 @@ use Rattle.htl_model.specs.Tables.{Tables}
 use Rattle.htl_walk.specs.Refinement.{HaveLengths, AreWithinWorst}
 use Rattle.htl_walk.specs.Walk.{Left, InForm, job_at, last_point}
 use Rattle.htl_refine.specs.ListPlans.{ListPlan, list_walk}
-use Rattle.htl_refine.specs.RecordCounts.{count_before, done_by}
+use Rattle.htl_refine.specs.RecordCounts.{count_left_before, done_by}
 use Rattle.htl_machine.specs.FramesGoOn.{AreFrames}
 use Rattle.htl_machine.specs.Turns.{finished_in}
 
@@ -34,11 +34,11 @@ records_so_far u = u.earlier ++ turn_walk u
 
 -- how many of its own are left before an instant
 abbrev pub left_before : Turn → ℕ → ℕ
-left_before u now = count_before (now - u.frame) (turn_walk u)
+left_before u now = count_left_before (now - u.frame) (turn_walk u)
 
 -- the jobs that are finished once its first k records are left
-abbrev pub finished_by : Turn → ℕ → ℕ → Bool
-finished_by u k i = finished_in u.plan.jobs (done_by (records_so_far u) (length u.earlier + k)) i
+abbrev pub turn_finished_by : Turn → ℕ → ℕ → Bool
+turn_finished_by u k i = finished_in u.plan.jobs (done_by (records_so_far u) (length u.earlier + k)) i
 
 -- ---- a run, list by list
 
@@ -48,9 +48,9 @@ pub record IsTurn (u : Turn) (walk : List Left) (n : ℕ) : Type 0 where
   pub rest : List Left
   pub front : walk ≡ records_so_far u ++ rest
   -- of them so many are left before the next instant
-  pub count : count_before (suc n - u.frame) walk ≡ length u.earlier + left_before u (suc n)
+  pub count : count_left_before (suc n - u.frame) walk ≡ length u.earlier + left_before u (suc n)
   -- and up to it
-  pub upto : (p : ℕ) → done_by walk (count_before (suc (suc n) - u.frame) walk) p ≡ done_by walk (length u.earlier + left_before u (suc (suc n))) p
+  pub upto : (p : ℕ) → done_by walk (count_left_before (suc (suc n) - u.frame) walk) p ≡ done_by walk (length u.earlier + left_before u (suc (suc n))) p
 
 -- at each instant the jobs so far are cast, the records of the frame serve them, and those of the list that stands are among them
 pub record AreTurns (t : Tables) (es : List Event) (turn : ℕ → Turn) : Type 0 where

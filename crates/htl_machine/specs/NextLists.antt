@@ -9,7 +9,7 @@ use Rattle.htl_refine.specs.FrameRuns.{nodes_below}
 use Rattle.htl_refine.specs.Records.{modes_at}
 use Rattle.htl_refine.specs.ServedFrames.{IsFeasibleRun}
 use Rattle.htl_machine.specs.RunLists.{list_turn}
-use Rattle.htl_machine.specs.Timing.{begins}
+use Rattle.htl_machine.specs.Timing.{some_round_begins}
 
 -- the number in its frame of the list that begins, where that of the list before it was this
 abbrev pub next_list : Tables → ℕ → ℕ → ℕ
@@ -22,7 +22,7 @@ next_node t modes at node list =
     cond (eqb a 0) 0 (suc node) + choice_of t modes a * suc (nodes_below t (drop (suc (next_list t at list)) (starts t)))
 
 -- the list that stands at an instant is the one that comes after that of the instant before
-pub record IsNext (t : Tables) (lists : List (List SInstr)) (es : List Event) (at : ℕ) : Type 0 where
+pub record NextListStands (t : Tables) (lists : List (List SInstr)) (es : List Event) (at : ℕ) : Type 0 where
   pub list : (list_turn t lists es at).list ≡ next_list t at (list_turn t lists es (pred at)).list
   pub node : (list_turn t lists es at).node ≡ next_node t (modes_at t es at) at (list_turn t lists es (pred at)).node (list_turn t lists es (pred at)).list
 
@@ -30,5 +30,5 @@ pub record IsNext (t : Tables) (lists : List (List SInstr)) (es : List Event) (a
 abbrev pub ListsBegin : Type 0
 ListsBegin =
     (t : Tables) (lists : List (List SInstr)) (es : List Event) → IsFeasibleRun t lists es → (at : ℕ)
-    → (begins t at ≡ eqb ((list_turn t lists es at).frame + (list_turn t lists es at).from) at)
-    × ((list_turn t lists es at).frame + (list_turn t lists es at).from ≡ at → IsNext t lists es at)
+    → (some_round_begins t at ≡ eqb ((list_turn t lists es at).frame + (list_turn t lists es at).from) at)
+    × ((list_turn t lists es at).frame + (list_turn t lists es at).from ≡ at → NextListStands t lists es at)

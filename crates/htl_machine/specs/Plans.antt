@@ -5,13 +5,13 @@ use Rattle.htl_model.specs.Tables.{Tables}
 use Rattle.htl_model.specs.Meaning.{sense, state, before}
 use Rattle.htl_emach.specs.Contents.{Content}
 use Rattle.htl_machine.specs.Completing.{run_records}
-use Rattle.htl_machine.specs.ListTurns.{Turn, turn_walk, left_before, finished_by}
+use Rattle.htl_machine.specs.ListTurns.{Turn, turn_walk, left_before, turn_finished_by}
 use Rattle.htl_machine.specs.Worlds.{world_after}
 
 -- the jobs of the present rounds that are finished before an instant
 abbrev pub finished_before : (ℕ → Turn) → ℕ → ℕ → Bool
 finished_before turn zero i = false
-finished_before turn (suc n) i = let u = turn n in finished_by u (left_before u (suc n)) i
+finished_before turn (suc n) i = let u = turn n in turn_finished_by u (left_before u (suc n)) i
 
 -- ---- what records do
 

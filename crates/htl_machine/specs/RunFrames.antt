@@ -10,7 +10,7 @@ use Rattle.htl_emach.specs.Contents.{Content}
 use Rattle.htl_refine.specs.FrameRuns.{frame_modes, frame_jobs, frame_at, walk_of}
 use Rattle.htl_refine.specs.ServedFrames.{IsServing, IsFeasibleRun}
 use Rattle.htl_machine.specs.FramePlacing.{frame_start, begun_by}
-use Rattle.htl_machine.specs.FramesGoOn.{Now, finished_before, finished_at, AreFrames, next_by_frames}
+use Rattle.htl_machine.specs.FramesGoOn.{Now, present_finished, finished_at, AreFrames, next_by_frames}
 use Rattle.htl_machine.specs.Values.{ValuesFollow, HasPlaces, Ready}
 
 -- the frame at an instant: the jobs whose rounds have begun, and the records of its lists
@@ -32,8 +32,8 @@ FeasibleRuns = (t : Tables) (lists : List (List SInstr)) (es : List Event) → I
 -- each instant makes of a world that follows the values before it one that follows those before the next
 abbrev pub ValuesGoOn : Type 0
 ValuesGoOn =
-    (t : Tables) (lists : List (List SInstr)) (es : List Event) → IsFeasibleRun t lists es → (n : ℕ) (w : Content) → let now = now_of t lists es in ValuesFollow t es n (finished_before now n) w → HasPlaces t w
-    → ValuesFollow t es (suc n) (finished_before now (suc n)) (next_by_frames t es now n w) × HasPlaces t (next_by_frames t es now n w)
+    (t : Tables) (lists : List (List SInstr)) (es : List Event) → IsFeasibleRun t lists es → (n : ℕ) (w : Content) → let now = now_of t lists es in ValuesFollow t es n (present_finished now n) w → HasPlaces t w
+    → ValuesFollow t es (suc n) (present_finished now (suc n)) (next_by_frames t es now n w) × HasPlaces t (next_by_frames t es now n w)
 
 -- once the records of an instant are done, what is due is finished, and what is finished has read all
 abbrev pub RunReady : Type 0

@@ -52,16 +52,16 @@ old_turn turn zero = turn 0
 old_turn turn (suc n) = turn n
 
 -- its records
-abbrev pub old_records : (ℕ → Turn) → ℕ → List Left
-old_records turn zero = []
-old_records turn (suc n) =
+abbrev pub turn_old_records : (ℕ → Turn) → ℕ → List Left
+turn_old_records turn zero = []
+turn_old_records turn (suc n) =
     let u = turn n in
     let k = left_before u (suc n) in
     some_records u.plan u.frame k (left_before u (suc (suc n)) - k)
 
 -- of the list that begins at it
-abbrev pub new_records : (ℕ → Turn) → ℕ → List Left
-new_records turn now = let u = turn now in cond (eqb (u.frame + u.from) now) (some_records u.plan u.frame 0 (left_before u (suc now))) []
+abbrev pub turn_new_records : (ℕ → Turn) → ℕ → List Left
+turn_new_records turn now = let u = turn now in cond (eqb (u.frame + u.from) now) (some_records u.plan u.frame 0 (left_before u (suc now))) []
 
 abbrev pub records_text : Tables → Shown → Turn → List Left → List ℕ
 records_text t show u ls = joined (record_text t show u.plan u.node) ls
@@ -73,7 +73,7 @@ abbrev pub list_texts : Tables → List (List SInstr) → List Event → Shown �
 list_texts t schedules es show None now = ([], [])
 list_texts t schedules es show (Some period) now =
     let turn = turn_at t schedules es in
-    (records_text t show (old_turn turn now) (old_records turn now), records_text t show (turn now) (new_records turn now))
+    (records_text t show (old_turn turn now) (turn_old_records turn now), records_text t show (turn now) (turn_new_records turn now))
 
 abbrev pub instant_text : Tables → ECode → List (List SInstr) → List Event → Shown → ℕ → List ℕ
 instant_text t code schedules es show now =
@@ -81,8 +81,8 @@ instant_text t code schedules es show now =
     r.0 ++ cond (shows_code show) (joined (e_line t code now) (e_path t code es now)) [] ++ cond (shows_values show) (lines_text t (value_lines t es now)) [] ++ r.1
 
 -- the text of the instants before `now`
-abbrev pub text_before : Tables → ECode → List (List SInstr) → List Event → Shown → ℕ → List ℕ
-text_before t code schedules es show now = up_to (instant_text t code schedules es show) now
+abbrev pub listed_text_before : Tables → ECode → List (List SInstr) → List Event → Shown → ℕ → List ℕ
+listed_text_before t code schedules es show now = up_to (instant_text t code schedules es show) now
 
 -- ---- totals: each stands once it is at the end of its type
 
@@ -91,7 +91,7 @@ capped n = min n (2 ^ 64 - 1)
 
 abbrev pub records_of : Tables → List (List SInstr) → List Event → Option ℕ → ℕ → List Left
 records_of t schedules es None now = []
-records_of t schedules es (Some period) now = let turn = turn_at t schedules es in old_records turn now ++ new_records turn now
+records_of t schedules es (Some period) now = let turn = turn_at t schedules es in turn_old_records turn now ++ turn_new_records turn now
 
 abbrev pub sum_to : (ℕ → ℕ) → ℕ → ℕ
 sum_to f zero = 0
@@ -108,9 +108,9 @@ abbrev pub s_before : Tables → List (List SInstr) → List Event → ℕ → �
 s_before t schedules es now = capped (sum_to (λ n. length (records_of t schedules es (hyper t) n)) now)
 
 -- the text of a run up to and including `end`
-abbrev pub run_text : Tables → ECode → List (List SInstr) → List Event → Shown → ℕ → List ℕ
-run_text t code schedules es show end =
-    text_before t code schedules es show (suc end)
+abbrev pub listed_run_text : Tables → ECode → List (List SInstr) → List Event → Shown → ℕ → List ℕ
+listed_run_text t code schedules es show end =
+    listed_text_before t code schedules es show (suc end)
     ++ totals_line end (jobs_before t schedules es (suc end)) (e_before t code es (suc end)) (s_before t schedules es (suc end))
 
 -- what is counted stands before an instant

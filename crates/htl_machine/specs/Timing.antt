@@ -13,5 +13,5 @@ abbrev pub opens : Tables → ℕ → ℕ → Bool
 opens t at u = not (eqb (first_period t u) 0) && eqb (at % first_period t u) 0
 
 -- that of some root module does
-abbrev pub begins : Tables → ℕ → Bool
-begins t at = list_any (opens t at) (root_modules t)
+abbrev pub some_round_begins : Tables → ℕ → Bool
+some_round_begins t at = list_any (opens t at) (root_modules t)

@@ -20,20 +20,20 @@ effects t (x ∷ xs) w = effects t xs (want_effect t x w)
 -- ---- what an instant does
 
 -- what a module's block asks for at `now`, where the module is in this stay
-abbrev pub writes_at : Tables → ℕ → Option Stay → List Want
-writes_at t now None = []
-writes_at t now (Some y) = block_chain t y.mode 1 (now - y.start)
+abbrev pub wanted_writes : Tables → ℕ → Option Stay → List Want
+wanted_writes t now None = []
+wanted_writes t now (Some y) = block_chain t y.mode 1 (now - y.start)
 
-abbrev pub reads_at : Tables → ℕ → Option Stay → List Want
-reads_at t now None = []
-reads_at t now (Some y) = block_chain t y.mode 3 (now - y.start)
+abbrev pub wanted_reads : Tables → ℕ → Option Stay → List Want
+wanted_reads t now None = []
+wanted_reads t now (Some y) = block_chain t y.mode 3 (now - y.start)
 
 -- module by module
 abbrev pub all_writes : Tables → ℕ → List (Option Stay) → List Want
-all_writes t now stays = up_to (λ k. writes_at t now (stay_of stays k)) (length t.modules)
+all_writes t now stays = up_to (λ k. wanted_writes t now (stay_of stays k)) (length t.modules)
 
 abbrev pub all_reads : Tables → ℕ → List (Option Stay) → List Want
-all_reads t now stays = up_to (λ k. reads_at t now (stay_of stays k)) (length t.modules)
+all_reads t now stays = up_to (λ k. wanted_reads t now (stay_of stays k)) (length t.modules)
 
 -- what a communicator is once the sensors show their values of `now`
 abbrev pub shown_at : (ℕ → ℕ → ℤ) → ℕ → List ℤ → ℕ → Option Comm → ℤ

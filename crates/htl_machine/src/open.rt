@@ -6,7 +6,7 @@ ghost use Rattle.htl_ecode.specs.Spelling.{Spells};
 ghost use Rattle.htl_model.specs.FunctionTypes.{FitPlaces};
 ghost use Rattle.htl_emach.specs.Shapes.{HasValues, IsShaped};
 ghost use Rattle.htl_emach.specs.Safety.{StandsSafely};
-ghost use Rattle.htl_emach.specs.Following.{Follows, Onward, phase_path};
+ghost use Rattle.htl_emach.specs.Following.{FollowsCode, Onward, phase_path};
 ghost use Rattle.htl_smach.specs.Rounds.{Stands, IsInForm, IsTold};
 ghost use Rattle.htl_machine.specs.Recording.{AreOf};
 ghost use Rattle.htl_machine.specs.Opening.{Opens, AreCounted, IsOpened, IsOpenedIdle};
@@ -50,12 +50,12 @@ pub fn open_instant<W: Sink>(
     requires before { machines.old.noted.values ≡ machines.old.works.world.values }
     requires marked { MarksChanges machines.old.noted machines.old.works.world.values machines.old.emach.calendar.modes }
     requires waiting { MarksWaiting program.now.tables.now sensors.old machines.old.works.world.values }
-    requires follows { (es : List Event) × Follows program.now.tables.now program.now.code.now es at machines.old.emach }
-    ensures text { (es : List Event) → Follows program.now.tables.now program.now.code.now es at machines.old.emach → Opens program.now.tables.now program.now.code.now es program.now.show list.now.node machines.old.works.desk list.now.schedule.now.instrs at (W.written sink.old) (W.written sink.new) (W.faults sink.old) (W.faults sink.new) result }
-    ensures counts { (es : List Event) → Follows program.now.tables.now program.now.code.now es at machines.old.emach → OnOk result (AreCounted program.now.tables.now program.now.code.now es machines.old.works.desk list.now.schedule.now.instrs at machines.old.works.tally machines.new.works.tally) }
-    ensures world { (es : List Event) → Follows program.now.tables.now program.now.code.now es at machines.old.emach → OnOk result (IsOpened program.now.tables.now program.now.code.now es at list.now.schedule.now.instrs sensors.old.shows machines.old.noted.values machines.old.works.desk machines.old.works.world machines.new.works.desk machines.new.works.world) }
-    ensures idle_text { (es : List Event) → Follows program.now.tables.now program.now.code.now es at machines.old.emach → machines.old.works.desk.running ≡ false → Puts (W.written sink.old) (W.written sink.new) (W.faults sink.old) (W.faults sink.new) (path_lines program.now.tables.now program.now.code.now program.now.show at (phase_path program.now.tables.now program.now.code.now es at 1)) result }
-    ensures idle { (es : List Event) → Follows program.now.tables.now program.now.code.now es at machines.old.emach → OnOk result (machines.old.works.desk.running ≡ false → IsOpenedIdle program.now.tables.now program.now.code.now es at sensors.old.shows machines.old.noted.values machines.old.works.desk machines.old.works.world machines.old.works.tally machines.new.works.desk machines.new.works.world machines.new.works.tally) }
+    requires follows { (es : List Event) × FollowsCode program.now.tables.now program.now.code.now es at machines.old.emach }
+    ensures text { (es : List Event) → FollowsCode program.now.tables.now program.now.code.now es at machines.old.emach → Opens program.now.tables.now program.now.code.now es program.now.show list.now.node machines.old.works.desk list.now.schedule.now.instrs at (W.written sink.old) (W.written sink.new) (W.faults sink.old) (W.faults sink.new) result }
+    ensures counts { (es : List Event) → FollowsCode program.now.tables.now program.now.code.now es at machines.old.emach → OnOk result (AreCounted program.now.tables.now program.now.code.now es machines.old.works.desk list.now.schedule.now.instrs at machines.old.works.tally machines.new.works.tally) }
+    ensures world { (es : List Event) → FollowsCode program.now.tables.now program.now.code.now es at machines.old.emach → OnOk result (IsOpened program.now.tables.now program.now.code.now es at list.now.schedule.now.instrs sensors.old.shows machines.old.noted.values machines.old.works.desk machines.old.works.world machines.new.works.desk machines.new.works.world) }
+    ensures idle_text { (es : List Event) → FollowsCode program.now.tables.now program.now.code.now es at machines.old.emach → machines.old.works.desk.running ≡ false → Puts (W.written sink.old) (W.written sink.new) (W.faults sink.old) (W.faults sink.new) (path_lines program.now.tables.now program.now.code.now program.now.show at (phase_path program.now.tables.now program.now.code.now es at 1)) result }
+    ensures idle { (es : List Event) → FollowsCode program.now.tables.now program.now.code.now es at machines.old.emach → OnOk result (machines.old.works.desk.running ≡ false → IsOpenedIdle program.now.tables.now program.now.code.now es at sensors.old.shows machines.old.noted.values machines.old.works.desk machines.old.works.world machines.old.works.tally machines.new.works.desk machines.new.works.world machines.new.works.tally) }
     ensures shows { sensors.new.shows ≡ sensors.old.shows }
     ensures waiting { OnOk result (MarksWaiting program.now.tables.now sensors.new machines.new.works.world.values) }
     ensures marked { OnOk result (MarksChanges machines.new.noted machines.new.works.world.values machines.new.emach.calendar.modes) }
@@ -64,7 +64,7 @@ pub fn open_instant<W: Sink>(
     ensures shaped { OnOk result (IsShaped program.now.tables.now machines.new.works.world) }
     ensures jobs { OnOk result (machines.new.works.desk.jobs ≡ machines.old.works.desk.jobs) }
     ensures stands { OnOk result (Stands machines.new.works.desk list.now.schedule.now.instrs) }
-    ensures writes { (es : List Event) → Follows program.now.tables.now program.now.code.now es at machines.old.emach → OnOk result (Onward program.now.tables.now program.now.code.now es at 1 machines.new.emach (phase_path program.now.tables.now program.now.code.now es at 1) [] None) }
+    ensures writes { (es : List Event) → FollowsCode program.now.tables.now program.now.code.now es at machines.old.emach → OnOk result (Onward program.now.tables.now program.now.code.now es at 1 machines.new.emach (phase_path program.now.tables.now program.now.code.now es at 1) [] None) }
 {
     if let Err(failed) = tell_records(sink, &mut machines.works, program, list, at) {
         return Err(failed);

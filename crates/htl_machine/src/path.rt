@@ -5,7 +5,7 @@ ghost use Rattle.htl_model.specs.Frames.{frame_limit};
 ghost use Rattle.htl_model.specs.Selected.{IsSelection};
 ghost use Rattle.htl_walk.specs.Refinement.{HaveLengths, AreWithinWorst};
 ghost use Rattle.htl_smach.specs.Adding.{CanBegin};
-ghost use Rattle.htl_smach.specs.Rounds.{begun, added};
+ghost use Rattle.htl_smach.specs.Rounds.{round_begun, added};
 ghost use Rattle.htl_machine.specs.ListBegun.{list_begun};
 ghost use Rattle.htl_machine.specs.Numbering.{IsPath};
 ghost use Rattle.htl_machine.specs.StandingList.{instrs_by};
@@ -168,7 +168,7 @@ fn start_jobs(desk: &mut SMach, jobs: &[Job], takes: &[Time], at: Time)
     requires few { length jobs.now ≤ 128 }
     requires lengths { HaveLengths jobs.now (kept_lengths takes.now jobs.now) }
     requires worst { AreWithinWorst jobs.now (kept_lengths takes.now jobs.now) }
-    ensures { desk.new ≡ begun at jobs.now (kept_lengths takes.now jobs.now) }
+    ensures { desk.new ≡ round_begun at jobs.now (kept_lengths takes.now jobs.now) }
 {
     let mut lengths = [0; MAX_POSITIONS];
     let taken = &mut lengths[..jobs.len()];

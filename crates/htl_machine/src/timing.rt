@@ -1,7 +1,7 @@
 // Where a list begins: where a round of some root module does.
 ghost use Rattle.std.specs.Prelude.{◌≡◌, ◌≤◌, length};
 ghost use Rattle.htl_base.specs.declared.limits.TheConstants as limit;
-ghost use Rattle.htl_machine.specs.Timing.{first_period as first_period_of, opens as opens_at, begins};
+ghost use Rattle.htl_machine.specs.Timing.{first_period as first_period_of, opens as opens_at, some_round_begins};
 
 use htl_base::Time;
 use htl_model::Tables;
@@ -27,7 +27,7 @@ fn opens(t: &Tables, at: Time, module: u16) -> bool
 
 /// Whether a round of some root module begins at an instant, in ticks: the period of its first mode divides it. There a list begins.
 pub fn round_begins(t: &Tables, at: Time) -> bool
-    ensures { result ≡ begins t.now at }
+    ensures { result ≡ some_round_begins t.now at }
 {
     t.keeps_ranges();
     let modules = t.parts().modules.as_slice();

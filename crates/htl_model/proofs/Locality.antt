@@ -8,7 +8,7 @@ use Rattle.htl_model.specs.Tables.{Tables}
 use Rattle.htl_model.specs.declared.state.State.{State}
 use Rattle.htl_model.specs.declared.state.Stay.{Stay}
 use Rattle.htl_model.specs.Lists.{up_to, list_to}
-use Rattle.htl_model.specs.Meaning.{run_lines, value_lines, changes, no_state, History, history, newest, next_state, next_values, next_value, written, stays_at, first_state, first_values, first_value, past, sense, last_sense, initial, all_value_lines, lines_of, val}
+use Rattle.htl_model.specs.Meaning.{run_lines, value_lines, changes, no_state, History, history, newest, next_state, next_values, next_value, written, stays_at, first_state, first_values, first_value, past, sense, last_sense, initial, all_value_lines, lines_so_far, val}
 
 round_down : (p now : ℕ) → p * (now / p) ≤ now
 round_down zero now = omega arith
@@ -57,7 +57,7 @@ history_local t f g (suc n) a =
 
 -- equal sensor values up to `now` give equal lines up to `now`
 pub lines_same : (t : Tables) (es fs : List Event) (now : ℕ) → Agree (sense t es) (sense t fs) now → all_value_lines t es now ≡ all_value_lines t fs now
-lines_same t es fs now a = ap (lines_of t) (history_local t (sense t es) (sense t fs) now a)
+lines_same t es fs now a = ap (lines_so_far t) (history_local t (sense t es) (sense t fs) now a)
 
 -- the events without the lengths of jobs
 abbrev pub without_lengths : List Event → List Event

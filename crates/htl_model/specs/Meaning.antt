@@ -142,8 +142,8 @@ target_from t values m k (w ∷ ws) =
 abbrev pub target : Tables → List ℤ → ℕ → ℕ
 target t values m = target_from t values m 0 t.switches
 
-abbrev pub begun : Module → ℕ → Option Stay
-begun x now = Some (record { mode = x.start; start = now })
+abbrev pub stay_begun : Module → ℕ → Option Stay
+stay_begun x now = Some (record { mode = x.start; start = now })
 
 -- where a module goes on that was in a mode at the instant before
 abbrev pub go_on : Tables → List ℤ → ℕ → Stay → Option Stay
@@ -154,7 +154,7 @@ go_on t values now x =
     ]
 
 abbrev pub go_on_or_begin : Tables → List ℤ → ℕ → Module → Option Stay → Option Stay
-go_on_or_begin t values now x None = begun x now
+go_on_or_begin t values now x None = stay_begun x now
 go_on_or_begin t values now x (Some old) = go_on t values now old
 
 -- where a module is at `now`, by where it was, and where the modules of lower number are now
@@ -216,8 +216,8 @@ history t sensed (suc n) = let h = history t sensed n in next_state t sensed h (
 abbrev pub state : Tables → List Event → ℕ → State
 state t es now = newest (history t (sense t es) now)
 
-abbrev pub place : Tables → List Event → ℕ → ℕ → Option Stay
-place t es k now = stay_of (state t es now).stays k
+abbrev pub module_stay : Tables → List Event → ℕ → ℕ → Option Stay
+module_stay t es k now = stay_of (state t es now).stays k
 
 abbrev pub val : Tables → List Event → ℕ → ℕ → ℤ
 val t es c now = get_or (state t es now).values c (pos 0)
@@ -237,8 +237,8 @@ same_mode (Some a) None = false
 abbrev pub value_in : State → ℕ → ℤ
 value_in x c = get_or x.values c (pos 0)
 
-abbrev pub mode_in : State → ℕ → Option ℕ
-mode_in x k = mode_of (stay_of x.stays k)
+abbrev pub mode_in_state : State → ℕ → Option ℕ
+mode_in_state x k = mode_of (stay_of x.stays k)
 
 -- the line of a communicator: at the first instant, and where its value is another than before
 abbrev pub value_line : ℕ → State → State → ℕ → List Line
@@ -247,7 +247,7 @@ value_line now old new c =
 
 -- the line of a module, where its mode is another than before
 abbrev pub mode_line : ℕ → State → State → ℕ → List Line
-mode_line now old new k = cond (same_mode (mode_in old k) (mode_in new k)) [] (ModeLine now k (mode_in new k) ∷ [])
+mode_line now old new k = cond (same_mode (mode_in_state old k) (mode_in_state new k)) [] (ModeLine now k (mode_in_state new k) ∷ [])
 
 -- the lines of an instant, by the state before it and its own
 abbrev pub changes : Tables → ℕ → State → State → List Line
@@ -262,12 +262,12 @@ abbrev pub value_lines : Tables → List Event → ℕ → List Line
 value_lines t es now = changes t now (before t es now) (state t es now)
 
 -- the lines of the instants up to that of the newest state
-abbrev pub lines_of : Tables → History → List Line
-lines_of t [] = []
-lines_of t (x ∷ h) = lines_of t h ++ changes t (length h) (newest h) x
+abbrev pub lines_so_far : Tables → History → List Line
+lines_so_far t [] = []
+lines_so_far t (x ∷ h) = lines_so_far t h ++ changes t (length h) (newest h) x
 
 abbrev pub all_value_lines : Tables → List Event → ℕ → List Line
-all_value_lines t es now = lines_of t (history t (sense t es) now)
+all_value_lines t es now = lines_so_far t (history t (sense t es) now)
 
 -- the lines of the instants 0 to `end`
 abbrev pub run_lines : Tables → List Event → ℕ → List Line

@@ -52,12 +52,12 @@ kept_product false f s ss = omega arith
 
 -- ---- the root modules of a source
 
-root_modules_are : (ps : List PlainProgram) → modules_at ps 0 ≡ tree.root_modules ps
+root_modules_are : (ps : List PlainProgram) → modules_at ps 0 ≡ tree.plain_root_modules ps
 root_modules_are [] = refl
 root_modules_are (p ∷ ps) = refl
 
 -- what is told of the modes of each root module, and of each root module
-of_roots : {C : Type 0} (h : List PlainMode → C) (ps : List PlainProgram) → map (λ s. h (modes_in ps s)) (modules_in ps None 0) ≡ map (λ (x : PlainModule). h x.modes) (tree.root_modules ps)
+of_roots : {C : Type 0} (h : List PlainMode → C) (ps : List PlainProgram) → map (λ s. h (modes_in ps s)) (modules_in ps None 0) ≡ map (λ (x : PlainModule). h x.modes) (tree.plain_root_modules ps)
 of_roots h ps =
     map_places (λ s. h (modes_in ps s)) (nth_module 0 None) (λ (x : PlainModule). h x.modes) (modules_at ps 0) (λ k z e. ap h (modes_there ps 0 k z e))
     ∙ ap (map (λ (x : PlainModule). h x.modes)) (root_modules_are ps)
@@ -192,7 +192,7 @@ module _ (ps : List PlainProgram) (small : MeetsBounds ps) (right : AreNamesRigh
 
   -- the tables have as many root selections as the tree
   same_selections : selection_count (tables_of_tree ps) ≡ selections ps
-  same_selections = by (root_modules t) (tree.root_modules ps) roots all
+  same_selections = by (root_modules t) (tree.plain_root_modules ps) roots all
     where
       t : Tables
       t = tables_of_tree ps
@@ -206,16 +206,16 @@ module _ (ps : List PlainProgram) (small : MeetsBounds ps) (right : AreNamesRigh
       by (k ∷ ks) [] size all = absurd (omega (arith, size))
       by (k ∷ ks) (x ∷ xs) size all = all
 
-      roots : length (root_modules t) ≡ length (tree.root_modules ps)
+      roots : length (root_modules t) ≡ length (tree.plain_root_modules ps)
       roots =
           ap length (same_roots ps exist 0 (layout ps).modules stand_all) ∙ length-places is_root_module 0 (layout ps).modules ∙ sym (length-filter is_root_module (layout ps).modules)
           ∙ ap length (names-ordered ps right).roots ∙ sym (length-map (modules_in ps None 0) (λ s. modes_in ps s))
-          ∙ ap length (of_roots (λ xs. xs) ps) ∙ length-map (tree.root_modules ps) (λ (x : PlainModule). x.modes)
+          ∙ ap length (of_roots (λ xs. xs) ps) ∙ length-map (tree.plain_root_modules ps) (λ (x : PlainModule). x.modes)
 
-      all : choices_from (tables_of_tree ps) 0 (tables_of_tree ps).modules ≡ choices (tree.root_modules ps)
+      all : choices_from (tables_of_tree ps) 0 (tables_of_tree ps).modules ≡ choices (tree.plain_root_modules ps)
       all =
           choices_are ps exist 0 (layout ps).modules stand_all ∙ ap (λ us. product (map (λ s. length (modes_in ps s)) us)) (names-ordered ps right).roots
-          ∙ ap product (of_roots length ps) ∙ sym (choices_product (tree.root_modules ps))
+          ∙ ap product (of_roots length ps) ∙ sym (choices_product (tree.plain_root_modules ps))
 
   few_positions : (sel : ℕ) → length (positions (tables_of_tree ps) sel) ≤ most_positions ps
   few_positions sel =

@@ -8,7 +8,7 @@ use Rattle.htl_names.specs.declared.key.Key.{Key}
 use Rattle.htl_names.specs.declared.key.Entry.{Entry}
 use Rattle.htl_names.specs.Entries.{Repeats}
 use Rattle.htl_names.specs.Keys.{look_up, pair_of}
-use Rattle.htl_names.specs.Repeats.{AreApartTo, AreApart}
+use Rattle.htl_names.specs.Repeats.{AreApartTo, EntriesAreApart}
 use Rattle.htl_names.proofs.FlatMaps.{in_front, at_front}
 use Rattle.htl_names.proofs.Meant.{found, some}
 
@@ -38,7 +38,7 @@ apart_here es k e seen are is here apart j d below there repeats = place j d (om
         let within : j ≤ k = omega (arith, below) in
         elim (eq-or-lt_of_le within) [ inl same ↦ at_last j d same there repeats | inr less ↦ apart j d less there repeats ]
 
-pub all_apart : (es : List Entry) (k : ℕ) → k ≡ length es → AreApartTo k es → AreApart es
+pub all_apart : (es : List Entry) (k : ℕ) → k ≡ length es → AreApartTo k es → EntriesAreApart es
 all_apart es k whole apart j d there = apart j d (let within = slice_get_within es j d there in omega (arith, within, whole)) there
 
 pub seen_more : (es : List Entry) (k : ℕ) (e : Entry) (seen more : List (Key × ℕ)) → k < length es → e ≡ get_or es k e → seen ≡ map pair_of (take k es)

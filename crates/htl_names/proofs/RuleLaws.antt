@@ -13,7 +13,7 @@ use Rattle.htl_names.specs.Graph.{naming_rows, graph_by}
 use Rattle.htl_names.specs.Limits.{counts}
 use Rattle.htl_names.specs.Programs.{IsFirstMisplaced, Naming, Graph, links, program_links, refined_by}
 use Rattle.htl_names.specs.NameRules.{RepeatedName, ProgramTree, Limits, WrongKind, UnknownName, ParentName}
-use Rattle.htl_names.specs.Repeats.{AreApart, IsFirstRepeat, IsRepeat}
+use Rattle.htl_names.specs.Repeats.{EntriesAreApart, IsFirstRepeat, IsRepeat}
 use Rattle.htl_names.specs.Told.{KeptBelow, IsRefusal, IsSearched}
 use Rattle.htl_names.proofs.Naming.{graph_is}
 use Rattle.htl_names.proofs.ResolveLaws.{none_below, kept_next, first_fault}
@@ -38,9 +38,9 @@ names_repeated ps es f are (inr told) =
     let r = subst (λ xs. IsFirstRepeat xs told.0) are told.2 in
     inr (first_fault ps RepeatedName f (none_below ps) (r.0, (r.1, r.2, r.3, told.1 ∙ ap (λ t. fault.Twice t) r.4), λ k g less broken. r.5 k broken.0 less broken.1 broken.2))
 
-pub names_apart : (ps : List PlainProgram) (es : List Entry) → es ≡ entries ps → AreApart es → KeptBelow ps 2
+pub names_apart : (ps : List PlainProgram) (es : List Entry) → es ≡ entries ps → EntriesAreApart es → KeptBelow ps 2
 names_apart ps es are h =
-    let r = subst AreApart are h in
+    let r = subst EntriesAreApart are h in
     kept_next ps RepeatedName (none_below ps) (λ k f broken. r k broken.0 broken.1 broken.2)
 
 pub tree_searched : (ps : List PlainProgram) (symbols : List (Key × ℕ)) (rows : List (List Naming)) (o : Option ℕ) → symbols ≡ symbols_of ps → rows ≡ naming_rows symbols ps

@@ -18,7 +18,7 @@ use Rattle.htl_model.proofs.PlaceLaws.{get_mapped}
 use Rattle.htl_names.proofs.SwitchRanges.{switch_small}
 use Rattle.htl_names.proofs.Used.{known, in_task}
 use Rattle.htl_names.specs.Conditions.{MeetsBounds, MeetsSwitchBounds}
-use Rattle.htl_names.specs.Flat.{Layout, layout, meaning, term_by, types_of, is_abstract, task_item, module_task_items, input_place, output_function, outs_functions, task_functions, module_functions, comms_in, switch_item, mode_switch_items, read_place, switch_function, mode_functions, tables_of_tree}
+use Rattle.htl_names.specs.Flat.{Layout, layout, meaning, term_by, types_of, is_abstract, task_item, module_task_items, input_place, flat_output_function, outs_functions, task_functions, module_functions, comms_in, switch_item, mode_switch_items, read_place, flat_switch_function, mode_functions, tables_of_tree}
 use Rattle.htl_names.specs.Keys.{comm_key}
 use Rattle.htl_names.specs.Lists.{flat_map_at, place_in}
 use Rattle.htl_names.specs.NameRules.{AreNamesRight}
@@ -81,7 +81,7 @@ module _ (ps : List PlainProgram) (small : MeetsBounds ps) (right : AreNamesRigh
 
   outs_paired : (p u n : ℕ) (t : PlainTask) (os : List PlainOut)
       → ((i : ℕ) (o : PlainOut) → slice_get os i ≡ Some o → (tree_nodes o.value ≤ 512) × ((j : ℕ) (id : Id) → slice_get (names_of o.value) j ≡ Some id → input_place (layout ps) p u n id < length t.inputs))
-      → Paired IsNear (map (output_type (types_of t.inputs)) (types_of (map (λ (o : PlainOut). o.param) os))) (map (output_function (layout ps) p u n) os)
+      → Paired IsNear (map (output_type (types_of t.inputs)) (types_of (map (λ (o : PlainOut). o.param) os))) (map (flat_output_function (layout ps) p u n) os)
   outs_paired p u n t [] h = tt
   outs_paired p u n t (o ∷ os) h =
       let own = h 0 o refl in (
@@ -140,7 +140,7 @@ read_below l e i id at =
 
 module _ (ps : List PlainProgram) (small : MeetsBounds ps) where
   switches_paired : (t : Tables) (m : ℕ) (a : ModeAt) (ss : List PlainSwitch) → ((j : ℕ) (s : PlainSwitch) → slice_get ss j ≡ Some s → MeetsSwitchBounds s)
-      → Paired IsNear (map (switch_type t) (map (switch_item (layout ps) ps m a) ss)) (map (switch_function (layout ps)) ss)
+      → Paired IsNear (map (switch_type t) (map (switch_item (layout ps) ps m a) ss)) (map (flat_switch_function (layout ps)) ss)
   switches_paired t m a [] h = tt
   switches_paired t m a (s ∷ ss) h =
       let l : Layout = layout ps in

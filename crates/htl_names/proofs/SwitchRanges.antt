@@ -15,7 +15,7 @@ use Rattle.htl_text.specs.declared.tree.Id.{Id}
 use Rattle.htl_names.specs.Conditions.{MeetsBounds, MeetsSwitchBounds}
 use Rattle.htl_names.specs.declared.place.ModeAt.{ModeAt}
 use Rattle.htl_names.specs.declared.place.ModuleAt.{ModuleAt}
-use Rattle.htl_names.specs.Flat.{Layout, layout, symbols_of, meaning, module_number, modes_before, comms_in, switch_item, mode_switch_items, switch_items, switch_function, mode_functions, task_item, module_task_items, task_items, output_function, outs_functions, task_functions, module_functions, function_items, comm_item, tables_of_tree, is_abstract, types_of}
+use Rattle.htl_names.specs.Flat.{Layout, layout, symbols_of, meaning, module_number, modes_before, comms_in, switch_item, mode_switch_items, switch_items, flat_switch_function, mode_functions, task_item, module_task_items, task_items, flat_output_function, outs_functions, task_functions, module_functions, function_items, comm_item, tables_of_tree, is_abstract, types_of}
 use Rattle.htl_names.specs.Keys.{comm_key, mode_key}
 use Rattle.htl_names.specs.Lists.{flat_map_at}
 use Rattle.htl_names.specs.NameRules.{AreNamesRight}
@@ -129,7 +129,7 @@ own_count l p u j k t = by t.outputs refl
     by (Concrete xs) is =
         let one = length-map (map (λ x. x.param) xs) (λ x. x.ty) in
         let two = length-map xs (λ x. x.param) in
-        let three = length-map xs (output_function l p u j) in
+        let three = length-map xs (flat_output_function l p u j) in
         subst Goal (sym is) (omega (arith, one, two, three))
     by (Abstract xs) is = subst Goal (sym is) refl
 
@@ -155,7 +155,7 @@ functions_counted l ps =
     let size = length-append (flat_map (module_functions l ps) l.modules) (flat_map (mode_functions l ps) l.modes) in
     let tasks = all_count l ps 0 l.modules in
     let counted = count_is (task_items l ps) in
-    let one = same_length (mode_switch_items l ps) (mode_functions l ps) (λ m a. length-map (switches_at ps a) (switch_item l ps m a) ∙ sym (length-map (switches_at ps a) (switch_function l))) 0 l.modes in
+    let one = same_length (mode_switch_items l ps) (mode_functions l ps) (λ m a. length-map (switches_at ps a) (switch_item l ps m a) ∙ sym (length-map (switches_at ps a) (flat_switch_function l))) 0 l.modes in
     omega (arith, size, tasks, counted, one)
 
 pub function_in_range : (l : Layout) (ps : List PlainProgram) → All IsFunInRange (function_items l ps)
@@ -168,12 +168,12 @@ function_in_range l ps =
           of_outs p.owner.program p.owner.«module» q.part q.owner.outputs q.place f q.item
       | inr b ↦
           let p = flat_part (mode_functions l ps) l.modes b.0 f b.2 in
-          let s = of_map (switch_function l) (switches_at ps p.owner) p.place f p.item in
+          let s = of_map (flat_switch_function l) (switches_at ps p.owner) p.place f p.item in
           subst IsFunInRange s.2 tt
     ])
   where
     of_outs : (p u k : ℕ) (o : PlainOuts) (n : ℕ) (f : Fun) → slice_get (outs_functions l p u k o) n ≡ Some f → IsFunInRange f
-    of_outs p u k (Concrete xs) n f e = let x = of_map (output_function l p u k) xs n f e in subst IsFunInRange x.2 tt
+    of_outs p u k (Concrete xs) n f e = let x = of_map (flat_output_function l p u k) xs n f e in subst IsFunInRange x.2 tt
     of_outs p u k (Abstract xs) n f e = absurd (none n e)
       where
         none : (n : ℕ) → slice_get {X = Fun} [] n ≡ Some f → ⊥

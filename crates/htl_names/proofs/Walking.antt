@@ -21,7 +21,7 @@ use Rattle.htl_names.specs.Keys.{program_key, task_key, mode_key, module_key}
 use Rattle.htl_names.specs.Kinds.{Judged, Span, comm_kinds, end_kinds, invoke_kinds, mode_kinds, task_kind, module_kinds, program_kinds}
 use Rattle.htl_names.specs.Lists.{map_at, flat_map_at}
 use Rattle.htl_names.specs.Parents.{ParentUse, invoke_parent, mode_parents, module_parents, program_parents}
-use Rattle.htl_names.specs.Rows.{Rows, rows_with, joined, declaring, using, judging, refining, all_rows, list_of, used, comm_rows, out_rows, outputs_rows, task_rows, end_rows, invoke_rows, switch_rows, mode_rows, module_rows, program_rows}
+use Rattle.htl_names.specs.Rows.{Rows, rows_with, rows_joined, declaring, using, judging, refining, all_rows, list_of, used, comm_rows, out_rows, outputs_rows, task_rows, end_rows, invoke_rows, switch_rows, mode_rows, module_rows, program_rows}
 use Rattle.htl_names.specs.Uses.{usage, output_uses, outputs_uses, task_uses, end_use, invoke_uses, switch_uses, program_use, mode_uses, module_uses, program_uses}
 use Rattle.htl_names.specs.declared.key.Entry.{Entry}
 use Rattle.htl_names.specs.declared.key.Space.TheVariants as space
@@ -44,7 +44,7 @@ same_rows es fs us vs js ks ps qs a b c d =
 pub alike : (a b : Rows) → a.entries ≡ b.entries → a.uses ≡ b.uses → a.kinds ≡ b.kinds → a.parents ≡ b.parents → a ≡ b
 alike a b p q r s = same_rows a.entries b.entries a.uses b.uses a.kinds b.kinds a.parents b.parents p q r s
 
-pub joined-assoc : (a b c : Rows) → joined (joined a b) c ≡ joined a (joined b c)
+pub joined-assoc : (a b c : Rows) → rows_joined (rows_joined a b) c ≡ rows_joined a (rows_joined b c)
 joined-assoc a b c =
     same_rows _ (a.entries ++ (b.entries ++ c.entries)) _ (a.uses ++ (b.uses ++ c.uses)) _ (a.kinds ++ (b.kinds ++ c.kinds)) _ (a.parents ++ (b.parents ++ c.parents))
     (append_assoc a.entries b.entries c.entries) (append_assoc a.uses b.uses c.uses) (append_assoc a.kinds b.kinds c.kinds) (append_assoc a.parents b.parents c.parents)
@@ -52,12 +52,12 @@ joined-assoc a b c =
 -- ---- the rows of a list's items
 
 -- the first item's, and those of the others
-first_then : {A : Type 0} (f : ℕ → A → Rows) (k : ℕ) (x : A) (xs : List A) (a b : Rows) → f k x ≡ a → all_rows f (suc k) xs ≡ b → all_rows f k (x ∷ xs) ≡ joined a b
-first_then f k x xs a b p q = ap (λ r. joined r (all_rows f (suc k) xs)) p ∙ ap (joined a) q
+first_then : {A : Type 0} (f : ℕ → A → Rows) (k : ℕ) (x : A) (xs : List A) (a b : Rows) → f k x ≡ a → all_rows f (suc k) xs ≡ b → all_rows f k (x ∷ xs) ≡ rows_joined a b
+first_then f k x xs a b p q = ap (λ r. rows_joined r (all_rows f (suc k) xs)) p ∙ ap (rows_joined a) q
 
 declared_are : {A : Type 0} (f : ℕ → A → Entry) (k : ℕ) (xs : List A) → all_rows (λ j x. declaring (f j x ∷ [])) k xs ≡ declaring (map_at f k xs)
 declared_are f k [] = refl
-declared_are f k (x ∷ xs) = ap (joined (declaring (f k x ∷ []))) (declared_are f (suc k) xs)
+declared_are f k (x ∷ xs) = ap (rows_joined (declaring (f k x ∷ []))) (declared_are f (suc k) xs)
 
 comms_are : (c : ℕ) (xs : List CommNode) → all_rows (comm_rows (list_of space.Comms 0 0 0)) c xs ≡ rows_with (map_at comm_entry c xs) [] (flat_map comm_kinds xs) []
 comms_are c [] = refl
@@ -80,7 +80,7 @@ outputs_are p u k inputs (outs.Abstract xs) = declared_are (param_entry p u k) i
 task_is : (p u k : ℕ) (x : TaskNode) → task_rows (list_of space.Tasks p u 0) k x ≡ rows_with (task_entries p u k (task_of x)) (task_uses p u k (task_of x)) (task_kind (task_of x) ∷ []) []
 task_is p u k x =
     let e = entry (task_key p u x.name.name) k x.name in
-    let head = λ (r s : Rows). joined (declaring (e ∷ [])) (joined (judging (Span x.worst ∷ [])) (joined r s)) in
+    let head = λ (r s : Rows). rows_joined (declaring (e ∷ [])) (rows_joined (judging (Span x.worst ∷ [])) (rows_joined r s)) in
     let n = length x.inputs in
     let same : n ≡ 0 + n = omega arith in
     ap (λ r. head r (outputs_rows (list_of space.Params p u k) n x.outputs)) (declared_are (param_entry p u k) 0 x.inputs)
@@ -106,7 +106,7 @@ invoke_is : (p u m j : ℕ) (x : InvokeNode)
     → invoke_rows (list_of space.Invokes p u m) j x ≡ rows_with (invoke_entry p u m j x ∷ []) (invoke_uses p u m x) (invoke_kinds x) (invoke_parent p x)
 invoke_is p u m j x =
     let ends = all_rows (end_rows (list_of space.Ports p u m)) 0 in
-    let head = λ (r s : Rows). joined (declaring (invoke_entry p u m j x ∷ [])) (joined (used (list_of space.Tasks p u 0) x.task) (joined r (joined s (refining (invoke_parent p x))))) in
+    let head = λ (r s : Rows). rows_joined (declaring (invoke_entry p u m j x ∷ [])) (rows_joined (used (list_of space.Tasks p u 0) x.task) (rows_joined r (rows_joined s (refining (invoke_parent p x))))) in
     ap (λ r. head r (ends x.writes)) (ends_are p u m 0 x.reads)
     ∙ ap (head (rows_with [] (map (end_use p u m) x.reads) (flat_map end_kinds x.reads) [])) (ends_are p u m 0 x.writes)
     ∙ alike _ _ refl (ap (λ us. usage (task_key p u x.task.name) x.task ∷ (map (end_use p u m) x.reads ++ us)) (append-nil (map (end_use p u m) x.writes)))
@@ -130,7 +130,7 @@ mode_is : (p u m : ℕ) (x : ModeNode)
     → mode_rows (list_of space.Modes p u 0) m x ≡ rows_with (mode_entries p u m (mode_of x)) (mode_uses p u m (mode_of x)) (mode_kinds (mode_of x)) (mode_parents p (mode_of x))
 mode_is p u m x =
     let e = entry (mode_key p u x.name.name) m x.name in
-    let head = λ (r s t : Rows). joined (declaring (e ∷ [])) (joined (judging (Span x.period ∷ [])) (joined (using (program_use x.program)) (joined r (joined s t)))) in
+    let head = λ (r s t : Rows). rows_joined (declaring (e ∷ [])) (rows_joined (judging (Span x.period ∷ [])) (rows_joined (using (program_use x.program)) (rows_joined r (rows_joined s t)))) in
     let ports = map_at (port_entry p u m) 0 x.ports in
     let switches = all_rows (switch_rows (list_of space.Modes p u 0)) 0 x.switches in
     let invokes = all_rows (invoke_rows (list_of space.Invokes p u m)) 0 x.invokes in
@@ -151,7 +151,7 @@ modes_are p u m (x ∷ xs) =
 module_is : (p u : ℕ) (x : ModuleNode)
     → module_rows (list_of space.Modules p 0 0) u x ≡ rows_with (module_entries p u (module_of x)) (module_uses p u (module_of x)) (module_kinds (module_of x)) (module_parents p (module_of x))
 module_is p u x =
-    let head = λ (r s : Rows). joined (declaring (entry (module_key x.name.name) u x.name ∷ [])) (joined (used (list_of space.Modes p u 0) x.start) (joined r s)) in
+    let head = λ (r s : Rows). rows_joined (declaring (entry (module_key x.name.name) u x.name ∷ [])) (rows_joined (used (list_of space.Modes p u 0) x.start) (rows_joined r s)) in
     ap (λ r. head r (all_rows (mode_rows (list_of space.Modes p u 0)) 0 x.modes)) (tasks_are p u 0 x.tasks)
     ∙ ap (head (rows_with (flat_map_at (task_entries p u) 0 (map task_of x.tasks)) (flat_map_at (task_uses p u) 0 (map task_of x.tasks)) (map task_kind (map task_of x.tasks)) [])) (modes_are p u 0 x.modes)
 
@@ -166,7 +166,7 @@ modules_are p u (x ∷ xs) =
 program_is : (p first : ℕ) (x : ProgramNode)
     → program_rows p first x ≡ rows_with (program_entries p first (program_of x)) (program_uses p (program_of x)) (program_kinds (program_of x)) (program_parents p (program_of x))
 program_is p first x =
-    let head = λ (r s : Rows). joined (declaring (entry (program_key x.name.name) p x.name ∷ [])) (joined r s) in
+    let head = λ (r s : Rows). rows_joined (declaring (entry (program_key x.name.name) p x.name ∷ [])) (rows_joined r s) in
     ap (λ r. head r (all_rows (module_rows (list_of space.Modules p 0 0)) 0 x.modules)) (comms_are first x.comms)
     ∙ ap (head (rows_with (map_at comm_entry first x.comms) [] (flat_map comm_kinds x.comms) [])) (modules_are p 0 x.modules)
 
@@ -174,7 +174,7 @@ program_is p first x =
 
 abbrev pub programs_rows : ℕ → ℕ → List ProgramNode → Rows
 programs_rows p first [] = declaring []
-programs_rows p first (x ∷ xs) = joined (program_rows p first x) (programs_rows (suc p) (first + length x.comms) xs)
+programs_rows p first (x ∷ xs) = rows_joined (program_rows p first x) (programs_rows (suc p) (first + length x.comms) xs)
 
 pub programs_are : (p first : ℕ) (xs : List ProgramNode)
     → programs_rows p first xs
@@ -182,28 +182,28 @@ pub programs_are : (p first : ℕ) (xs : List ProgramNode)
 programs_are p first [] = refl
 programs_are p first (x ∷ xs) =
     let own = rows_with (program_entries p first (program_of x)) (program_uses p (program_of x)) (program_kinds (program_of x)) (program_parents p (program_of x)) in
-    ap (λ r. joined r (programs_rows (suc p) (first + length x.comms) xs)) (program_is p first x)
-    ∙ ap (joined own) (programs_are (suc p) (first + length x.comms) xs)
+    ap (λ r. rows_joined r (programs_rows (suc p) (first + length x.comms) xs)) (program_is p first x)
+    ∙ ap (rows_joined own) (programs_are (suc p) (first + length x.comms) xs)
     ∙ alike _ _ refl refl (sym (flat_map-cons program_kinds (program_of x) (map program_of xs))) refl
 
 -- one program more
 pub programs_on : (p next first after : ℕ) (x : ProgramNode) (here rest : List ProgramNode) (old new total : Rows) → next ≡ suc p → after ≡ first + length x.comms → here ≡ x ∷ rest
-    → new ≡ joined old (program_rows p first x) → joined old (programs_rows p first here) ≡ total → joined new (programs_rows next after rest) ≡ total
+    → new ≡ rows_joined old (program_rows p first x) → rows_joined old (programs_rows p first here) ≡ total → rows_joined new (programs_rows next after rest) ≡ total
 programs_on p next first after x here rest old new total follows more is grown going =
-    ap (λ n. joined new (programs_rows n after rest)) follows
-    ∙ ap (λ n. joined new (programs_rows (suc p) n rest)) more
-    ∙ ap (λ r. joined r (programs_rows (suc p) (first + length x.comms) rest)) grown
+    ap (λ n. rows_joined new (programs_rows n after rest)) follows
+    ∙ ap (λ n. rows_joined new (programs_rows (suc p) n rest)) more
+    ∙ ap (λ r. rows_joined r (programs_rows (suc p) (first + length x.comms) rest)) grown
     ∙ joined-assoc old (program_rows p first x) (programs_rows (suc p) (first + length x.comms) rest)
-    ∙ ap (λ xs. joined old (programs_rows p first xs)) (sym is)
+    ∙ ap (λ xs. rows_joined old (programs_rows p first xs)) (sym is)
     ∙ going
 
 pub few_more : (p first after : ℕ) (x : ProgramNode) (old new : Rows) → after ≡ first + length x.comms
-    → new ≡ joined old (program_rows p first x) → first ≤ length old.entries → after ≤ length new.entries
+    → new ≡ rows_joined old (program_rows p first x) → first ≤ length old.entries → after ≤ length new.entries
 few_more p first after x old new more grown few =
     let modules = flat_map_at (module_entries p) 0 (map module_of x.modules) in
     let comms = map_at comm_entry first x.comms in
     let all = program_entries p first (program_of x) in
-    let whole = ap (λ (r : Rows). length r.entries) (grown ∙ ap (joined old) (program_is p first x)) ∙ length-append old.entries all in
+    let whole = ap (λ (r : Rows). length r.entries) (grown ∙ ap (rows_joined old) (program_is p first x)) ∙ length-append old.entries all in
     let head : length all ≡ suc (length (comms ++ modules)) = refl in
     let parts = length-append comms modules in
     let few_comms = length-map_at comm_entry first x.comms in

@@ -219,11 +219,11 @@ term_by place (Choice t c a b) = Choose t (term_by place c) (term_by place a) (t
 abbrev pub input_place : Layout → ℕ → ℕ → ℕ → Id → ℕ
 input_place l p u k id = meaning l (param_key p u k id.name)
 
-abbrev pub output_function : Layout → ℕ → ℕ → ℕ → PlainOut → Fun
-output_function l p u k o = Formula o.first (term_by (input_place l p u k) o.value)
+abbrev pub flat_output_function : Layout → ℕ → ℕ → ℕ → PlainOut → Fun
+flat_output_function l p u k o = Formula o.first (term_by (input_place l p u k) o.value)
 
 abbrev pub outs_functions : Layout → ℕ → ℕ → ℕ → PlainOuts → List Fun
-outs_functions l p u k (Concrete xs) = map (output_function l p u k) xs
+outs_functions l p u k (Concrete xs) = map (flat_output_function l p u k) xs
 outs_functions l p u k (Abstract xs) = []
 
 abbrev pub task_functions : Layout → ℕ → ℕ → ℕ → PlainTask → List Fun
@@ -236,11 +236,11 @@ module_functions l ps s = flat_map_at (task_functions l s.program s.«module») 
 abbrev pub read_place : Layout → List ℕ → Id → ℕ
 read_place l reads id = place_in (eqb (meaning l (comm_key id.name))) reads
 
-abbrev pub switch_function : Layout → PlainSwitch → Fun
-switch_function l s = Formula s.first (term_by (read_place l (comms_in l s.cond)) s.cond)
+abbrev pub flat_switch_function : Layout → PlainSwitch → Fun
+flat_switch_function l s = Formula s.first (term_by (read_place l (comms_in l s.cond)) s.cond)
 
 abbrev pub mode_functions : Layout → List PlainProgram → ModeAt → List Fun
-mode_functions l ps a = map (switch_function l) (switches_at ps a)
+mode_functions l ps a = map (flat_switch_function l) (switches_at ps a)
 
 -- one for each output of each concrete task, in the order of tasks, then one for each switch
 abbrev pub function_items : Layout → List PlainProgram → List Fun

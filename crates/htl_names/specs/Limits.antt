@@ -7,9 +7,9 @@ use Rattle.htl_names.specs.declared.key.Key.{Key}
 use Rattle.htl_names.specs.Programs.{levels}
 
 -- the modules of the root program
-abbrev pub root_modules : List PlainProgram → List PlainModule
-root_modules [] = []
-root_modules (p ∷ ps) = p.modules
+abbrev pub plain_root_modules : List PlainProgram → List PlainModule
+plain_root_modules [] = []
+plain_root_modules (p ∷ ps) = p.modules
 
 -- how many choices of one mode for each module there are
 abbrev pub choices : List PlainModule → ℕ
@@ -18,7 +18,7 @@ choices (x ∷ xs) = length x.modes * choices xs
 
 -- how many root selections there are: none without root modules
 abbrev pub selections : List PlainProgram → ℕ
-selections ps = elim (root_modules ps) [ [] ↦ 0 | x ∷ xs ↦ choices (x ∷ xs) ]
+selections ps = elim (plain_root_modules ps) [ [] ↦ 0 | x ∷ xs ↦ choices (x ∷ xs) ]
 
 -- the most invocations that a mode of a module has
 abbrev pub most_invokes : List PlainMode → ℕ
@@ -26,7 +26,7 @@ most_invokes xs = greatest 0 (map (λ x. length x.invokes) xs)
 
 -- the most positions that a root selection has: of each root module the mode with the most invocations
 abbrev pub most_positions : List PlainProgram → ℕ
-most_positions ps = sum (map (λ x. most_invokes x.modes) (root_modules ps))
+most_positions ps = sum (map (λ x. most_invokes x.modes) (plain_root_modules ps))
 
 -- communicators, modules, modes, ports, tasks, invocations, switches, the most invocations in one mode, levels of
 -- programs, root selections, the most positions in one selection

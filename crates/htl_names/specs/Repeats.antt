@@ -9,8 +9,8 @@ use Rattle.htl_names.specs.Entries.{Repeats}
 abbrev pub AreApartTo : ℕ → List Entry → Type 0
 AreApartTo k es = (j : ℕ) (d : Entry) → j < k → slice_get es j ≡ Some d → Repeats es j d → ⊥
 
-abbrev pub AreApart : List Entry → Type 0
-AreApart es = (j : ℕ) (d : Entry) → slice_get es j ≡ Some d → Repeats es j d → ⊥
+abbrev pub EntriesAreApart : List Entry → Type 0
+EntriesAreApart es = (j : ℕ) (d : Entry) → slice_get es j ≡ Some d → Repeats es j d → ⊥
 
 -- the token is that of the first name that repeats
 abbrev pub IsFirstRepeat : List Entry → ℕ → Type 0

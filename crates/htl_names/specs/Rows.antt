@@ -65,13 +65,13 @@ judging js = rows_with [] [] js []
 abbrev pub refining : List ParentUse → Rows
 refining ps = rows_with [] [] [] ps
 
-abbrev pub joined : Rows → Rows → Rows
-joined a b = rows_with (a.entries ++ b.entries) (a.uses ++ b.uses) (a.kinds ++ b.kinds) (a.parents ++ b.parents)
+abbrev pub rows_joined : Rows → Rows → Rows
+rows_joined a b = rows_with (a.entries ++ b.entries) (a.uses ++ b.uses) (a.kinds ++ b.kinds) (a.parents ++ b.parents)
 
 -- the rows of the items of a list, the first of them at place k
 abbrev pub all_rows : {A : Type 0} → (ℕ → A → Rows) → ℕ → List A → Rows
 all_rows f k [] = declaring []
-all_rows f k (x ∷ xs) = joined (f k x) (all_rows f (suc k) xs)
+all_rows f k (x ∷ xs) = rows_joined (f k x) (all_rows f (suc k) xs)
 
 -- ---- what each part of a source gives, at a place in a list of its owner's
 
@@ -92,7 +92,7 @@ param_rows s j x = declared s j x.name
 
 -- an output of a task that has this number of inputs
 abbrev pub out_rows : Scope → ℕ → ℕ → OutNode → Rows
-out_rows s inputs j x = joined (param_rows s j x.param) (using (map (uses.use_in s (Some inputs)) (names_of x.value)))
+out_rows s inputs j x = rows_joined (param_rows s j x.param) (using (map (uses.use_in s (Some inputs)) (names_of x.value)))
 
 abbrev pub outputs_rows : Scope → ℕ → OutNodes → Rows
 outputs_rows s inputs (outs.Concrete xs) = all_rows (out_rows s inputs) inputs xs
@@ -101,8 +101,8 @@ outputs_rows s inputs (outs.Abstract xs) = all_rows (param_rows s) inputs xs
 abbrev pub task_rows : Scope → ℕ → TaskNode → Rows
 task_rows s k x =
     let params : Scope = list_of space.Params s.program s.«module» k in
-    joined (declared s k x.name) (joined (judging (Span x.worst ∷ []))
-    (joined (all_rows (param_rows params) 0 x.inputs) (outputs_rows params (length x.inputs) x.outputs)))
+    rows_joined (declared s k x.name) (rows_joined (judging (Span x.worst ∷ []))
+    (rows_joined (all_rows (param_rows params) 0 x.inputs) (outputs_rows params (length x.inputs) x.outputs)))
 
 abbrev pub end_rows : Scope → ℕ → EndNode → Rows
 end_rows s k (end.Comm comm instance) = rows_with [] (uses.comm_use comm ∷ []) (Instance instance ∷ []) []
@@ -111,29 +111,29 @@ end_rows s k (end.Port port) = used s port
 abbrev pub invoke_rows : Scope → ℕ → InvokeNode → Rows
 invoke_rows s j x =
     let ports : Scope = list_of space.Ports s.program s.«module» s.item in
-    joined (declared s j x.task) (joined (used (list_of space.Tasks s.program s.«module» 0) x.task)
-    (joined (all_rows (end_rows ports) 0 x.reads) (joined (all_rows (end_rows ports) 0 x.writes) (refining (parents.invoke_parent s.program x)))))
+    rows_joined (declared s j x.task) (rows_joined (used (list_of space.Tasks s.program s.«module» 0) x.task)
+    (rows_joined (all_rows (end_rows ports) 0 x.reads) (rows_joined (all_rows (end_rows ports) 0 x.writes) (refining (parents.invoke_parent s.program x)))))
 
 abbrev pub switch_rows : Scope → ℕ → SwitchNode → Rows
-switch_rows s j x = joined (using (map uses.comm_use (names_of x.cond))) (used s x.target)
+switch_rows s j x = rows_joined (using (map uses.comm_use (names_of x.cond))) (used s x.target)
 
 abbrev pub mode_rows : Scope → ℕ → ModeNode → Rows
 mode_rows s m x =
-    joined (declared s m x.name) (joined (judging (Span x.period ∷ [])) (joined (using (uses.program_use x.program))
-    (joined (all_rows (param_rows (list_of space.Ports s.program s.«module» m)) 0 x.ports)
-    (joined (all_rows (invoke_rows (list_of space.Invokes s.program s.«module» m)) 0 x.invokes) (all_rows (switch_rows s) 0 x.switches)))))
+    rows_joined (declared s m x.name) (rows_joined (judging (Span x.period ∷ [])) (rows_joined (using (uses.program_use x.program))
+    (rows_joined (all_rows (param_rows (list_of space.Ports s.program s.«module» m)) 0 x.ports)
+    (rows_joined (all_rows (invoke_rows (list_of space.Invokes s.program s.«module» m)) 0 x.invokes) (all_rows (switch_rows s) 0 x.switches)))))
 
 abbrev pub module_rows : Scope → ℕ → ModuleNode → Rows
 module_rows s u x =
     let modes : Scope = list_of space.Modes s.program u 0 in
-    joined (declared (list_of space.Modules 0 0 0) u x.name) (joined (used modes x.start)
-    (joined (all_rows (task_rows (list_of space.Tasks s.program u 0)) 0 x.tasks) (all_rows (mode_rows modes) 0 x.modes)))
+    rows_joined (declared (list_of space.Modules 0 0 0) u x.name) (rows_joined (used modes x.start)
+    (rows_joined (all_rows (task_rows (list_of space.Tasks s.program u 0)) 0 x.tasks) (all_rows (mode_rows modes) 0 x.modes)))
 
 -- the first communicator of the program has this number
 abbrev pub program_rows : ℕ → ℕ → ProgramNode → Rows
 program_rows p first x =
-    joined (declared (list_of space.Programs 0 0 0) p x.name)
-    (joined (all_rows (comm_rows (list_of space.Comms 0 0 0)) first x.comms) (all_rows (module_rows (list_of space.Modules p 0 0)) 0 x.modules))
+    rows_joined (declared (list_of space.Programs 0 0 0) p x.name)
+    (rows_joined (all_rows (comm_rows (list_of space.Comms 0 0 0)) first x.comms) (all_rows (module_rows (list_of space.Modules p 0 0)) 0 x.modules))
 
 -- ---- the lists of a source
 

@@ -5,7 +5,7 @@ ghost use Rattle.htl_model.specs.Functions.{term_of};
 ghost use Rattle.htl_model.specs.Tables.{fun_of};
 ghost use Rattle.htl_text.specs.Nodes.{tree_of, out_of};
 ghost use Rattle.htl_text.specs.declared.tree.Id.{Id as AnId};
-ghost use Rattle.htl_names.specs.Flat.{term_by, input_place, read_place, output_function, module_functions};
+ghost use Rattle.htl_names.specs.Flat.{term_by, input_place, read_place, flat_output_function, module_functions};
 ghost use Rattle.htl_names.specs.Lists.{place_in};
 
 use crate::Done;
@@ -154,7 +154,7 @@ fn put_module(source: &Source<'_>, at: ModuleAt, into: &mut Vec<Function>) -> Do
 // Those of a task with these inputs.
 fn put_outs(inputs: &Inputs<'_>, outs: &[OutNode], into: &mut Vec<Function>) -> Done
     ensures { OnOk result (map fun_of into.new.items ≡ map fun_of into.old.items
-        ++ map (output_function inputs.now.source.layout.now inputs.now.at.program inputs.now.at.«module» inputs.now.task) (map out_of outs.now)) }
+        ++ map (flat_output_function inputs.now.source.layout.now inputs.now.at.program inputs.now.at.«module» inputs.now.task) (map out_of outs.now)) }
 {
     for k in 0..outs.len() {
         let e = formula(inputs.source.alloc, inputs, &outs[k].value.whole())?;

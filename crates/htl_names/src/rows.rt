@@ -2,7 +2,7 @@
 ghost use Rattle.std.specs.Prelude.{◌≡◌, ◌≤◌, ◌^◌, ◌-◌, ◌∷◌, [], ◌++◌, OnOk, length, map};
 ghost use Rattle.htl_text.specs.Bounds.{names_of};
 ghost use Rattle.htl_names.specs.Entries.{entry};
-ghost use Rattle.htl_names.specs.Rows.{joined, declaring, using, judging, refining, judged_of};
+ghost use Rattle.htl_names.specs.Rows.{rows_joined, declaring, using, judging, refining, judged_of};
 ghost use Rattle.htl_names.specs.Keys.{key_in};
 ghost use Rattle.htl_names.specs.Uses.{use_in};
 
@@ -81,7 +81,7 @@ impl Rows {
 
     /// A name that is declared, and its place in its list.
     pub fn declare(&mut self, scope: Scope, number: usize, id: &Id) -> Done
-        ensures rows { OnOk result (self.new ≡ joined self.old (declaring (entry (key_in scope id.now.name) number id.now ∷ []))) }
+        ensures rows { OnOk result (self.new ≡ rows_joined self.old (declaring (entry (key_in scope id.now.name) number id.now ∷ []))) }
         ensures few { OnOk result (length self.new.entries ≤ 2 ^ 63 - 1) }
     {
         self.entries.push(Entry {
@@ -94,7 +94,7 @@ impl Rows {
 
     /// A name that is used; where `below` is a number, for an item at a place below it.
     pub fn mention(&mut self, scope: Scope, below: Option<usize>, id: &Id) -> Done
-        ensures { OnOk result (self.new ≡ joined self.old (using (use_in scope below id.now ∷ []))) }
+        ensures { OnOk result (self.new ≡ rows_joined self.old (using (use_in scope below id.now ∷ []))) }
     {
         self.uses.push(Use {
             key: scope.key(id.name),
@@ -106,7 +106,7 @@ impl Rows {
 
     /// The names of an expression, each used in this way.
     pub fn mention_all(&mut self, scope: Scope, below: Option<usize>, e: &Expression) -> Done
-        ensures { OnOk result (self.new ≡ joined self.old (using (map (use_in scope below) (names_of e.now)))) }
+        ensures { OnOk result (self.new ≡ rows_joined self.old (using (map (use_in scope below) (names_of e.now)))) }
     {
         let nodes = e.nodes();
         for k in 0..nodes.len() {
@@ -119,7 +119,7 @@ impl Rows {
 
     /// A value or number.
     pub fn judge(&mut self, item: Judged) -> Done
-        ensures { OnOk result (self.new ≡ joined self.old (judging (judged_of item ∷ []))) }
+        ensures { OnOk result (self.new ≡ rows_joined self.old (judging (judged_of item ∷ []))) }
     {
         self.kinds.push(item)?;
         Ok(())

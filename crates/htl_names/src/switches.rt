@@ -4,7 +4,7 @@ ghost use Rattle.std.specs.List.{flat_map};
 ghost use Rattle.htl_model.specs.Tables.{fun_of};
 ghost use Rattle.htl_text.specs.Nodes.{tree_of, switch_of};
 ghost use Rattle.htl_names.specs.Lists.{with_new};
-ghost use Rattle.htl_names.specs.Flat.{comms_in, switch_function, mode_functions, mode_switch_items, switch_items};
+ghost use Rattle.htl_names.specs.Flat.{comms_in, flat_switch_function, mode_functions, mode_switch_items, switch_items};
 
 use crate::Done;
 use crate::functions::{Reads, formula};
@@ -71,7 +71,7 @@ fn put_mode(
 // The function of a switch, over the communicators of its condition.
 fn condition(source: &Source<'_>, comms: &[u16], node: &SwitchNode) -> Result<Function, AllocError>
     requires { comms.now ≡ comms_in source.now.layout.now node.now.cond }
-    ensures { IfOk result (λ f. fun_of f ≡ switch_function source.now.layout.now (switch_of node.now)) }
+    ensures { IfOk result (λ f. fun_of f ≡ flat_switch_function source.now.layout.now (switch_of node.now)) }
 {
     let reads = Reads {
         source: *source,

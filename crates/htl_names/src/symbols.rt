@@ -1,7 +1,7 @@
 // What declared names mean: a table of symbols, which contracts see as the list of its entries.
 ghost use Rattle.std.specs.Prelude.{◌≡◌, ◌++◌, ◌∷◌, [], IfOk, MatchResult, None, map};
 ghost use Rattle.htl_names.specs.Keys.{look_up, pair_of};
-ghost use Rattle.htl_names.specs.Repeats.{AreApart, IsRepeat};
+ghost use Rattle.htl_names.specs.Repeats.{EntriesAreApart, IsRepeat};
 
 use crate::fault::NameFault;
 use crate::key::{Entry, Key};
@@ -44,7 +44,7 @@ impl Symbols {
 
 /// The table of the declared names, in source order; or the first that repeats an earlier one of its list.
 pub(crate) fn declare(alloc: Global, entries: &[Entry]) -> Result<Symbols, NameFault>
-    ensures { MatchResult result (λ symbols. (symbols ≡ map pair_of entries.now) × AreApart entries.now) (IsRepeat entries.now) }
+    ensures { MatchResult result (λ symbols. (symbols ≡ map pair_of entries.now) × EntriesAreApart entries.now) (IsRepeat entries.now) }
 {
     let mut symbols = Symbols {
         map: IndexMap::with_capacity(alloc, entries.len())?,

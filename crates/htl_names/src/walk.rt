@@ -2,7 +2,7 @@
 ghost use Rattle.std.specs.Prelude.{◌≡◌, ◌+◌, ◌≤◌, ◌^◌, ◌-◌, ℕ, OnOk, IfOk, length};
 ghost use Rattle.htl_text.specs.Nodes.{tree_of};
 ghost use Rattle.htl_names.specs.Rows as rows;
-ghost use Rattle.htl_names.specs.Rows.{Rows as Plain, joined, all_rows};
+ghost use Rattle.htl_names.specs.Rows.{Rows as Plain, rows_joined, all_rows};
 ghost use Rattle.htl_names.specs.declared.key.Scope.{Scope as AScope};
 
 use crate::Done;
@@ -20,13 +20,13 @@ pub(crate) trait Part {
 
     /// Puts the rows of the part, and of its own parts, behind others.
     fn add(&self, list: Scope, place: usize, into: &mut Rows) -> Done
-        ensures { OnOk result (into.new ≡ joined into.old (rows_of list place self.now)) };
+        ensures { OnOk result (into.new ≡ rows_joined into.old (rows_of list place self.now)) };
 }
 
 /// Puts the rows of the parts in a list behind others; the first part stands at this place.
 fn add_all<T: Part>(list: Scope, first: usize, parts: &[T], into: &mut Rows) -> Done
     requires { first + length parts.now ≤ 2 ^ 64 - 1 }
-    ensures { OnOk result (into.new ≡ joined into.old (all_rows (T.rows_of list) first parts.now)) }
+    ensures { OnOk result (into.new ≡ rows_joined into.old (all_rows (T.rows_of list) first parts.now)) }
 {
     for k in 0..parts.len() {
         parts[k].add(list, first + k, into)?;
@@ -51,7 +51,7 @@ pub(crate) fn rows_of(alloc: Global, tree: &Tree) -> Result<Rows, AllocError>
 
 fn add_program(p: usize, first: usize, program: &ProgramNode, into: &mut Rows) -> Done
     requires { first ≤ length into.old.entries }
-    ensures rows { OnOk result (into.new ≡ joined into.old (rows.program_rows p first program.now)) }
+    ensures rows { OnOk result (into.new ≡ rows_joined into.old (rows.program_rows p first program.now)) }
     ensures few { OnOk result (first ≤ 2 ^ 63 - 1) }
 {
     into.declare(Space::Programs.of(0, 0, 0), p, &program.name)?;
@@ -129,7 +129,7 @@ impl Part for ParamNode {
 // Outputs come behind the inputs. An output's expression uses the inputs of its task.
 fn add_outs(params: Scope, inputs: usize, outs: &[OutNode], into: &mut Rows) -> Done
     requires { inputs ≤ 2 ^ 63 - 1 }
-    ensures { OnOk result (into.new ≡ joined into.old (all_rows (rows.out_rows params inputs) inputs outs.now)) }
+    ensures { OnOk result (into.new ≡ rows_joined into.old (all_rows (rows.out_rows params inputs) inputs outs.now)) }
 {
     for j in 0..outs.len() {
         let out = &outs[j];

@@ -19,7 +19,7 @@ use Rattle.htl_walk.specs.declared.schedule.Schedule.{Schedule}
 use Rattle.htl_object.specs.declared.lists.Anchors.{Anchors}
 use Rattle.htl_object.specs.declared.lists.Counts.{Counts}
 use Rattle.htl_object.specs.declared.lists.Lists.{Lists}
-use Rattle.htl_object.specs.Reading.{IsBytes, Read, ◌>>=◌, bad_at, need, count_at}
+use Rattle.htl_object.specs.Reading.{IsBytes, Read, ◌>>=◌, bad_at, need, limited_count}
 use Rattle.htl_object.specs.Comms.{comm_bytes}
 use Rattle.htl_object.specs.Modes.{mode_bytes}
 use Rattle.htl_object.specs.Modules.{module_bytes}
@@ -27,7 +27,7 @@ use Rattle.htl_object.specs.Ports.{port_bytes, task_bytes}
 use Rattle.htl_object.specs.Invocations.{inv_bytes, switch_bytes}
 use Rattle.htl_object.specs.Instructions.{code_bytes}
 use Rattle.htl_object.specs.Items.{Fits16}
-use Rattle.htl_object.specs.Files.{counts_of, counts_bytes, counts_at, AreCounts, anchors_bytes, anchors_at, AreAnchors, is_node_count, e_code_bytes, e_code_at, IsECode, function_count, front_bytes, front_at, IsFront, IsFrontInRange, with_schedules, file_bytes, file_at, IsFileInRange, whole_at, fault_of, first_bad}
+use Rattle.htl_object.specs.Files.{counts_of, counts_bytes, counts_at, AreCounts, anchors_bytes, anchors_at, AreAnchors, is_node_count, e_code_bytes, e_code_at, IsECode, counted_functions, front_bytes, front_at, IsFront, IsFrontInRange, with_schedules, file_bytes, file_at, IsFileInRange, whole_at, fault_of, first_bad}
 use Rattle.htl_object.specs.Lists.{tables_of_lists}
 use Rattle.htl_object.specs.Versions.{head_bytes}
 use Rattle.htl_object.proofs.VersionLaws.{head, tail}
@@ -38,7 +38,7 @@ use Rattle.htl_object.proofs.InstructionLaws.{code, e_instr}
 
 -- ---- parts
 
-count : (limit : ℕ) → IsCodec (to_be_bytes w16) (Fits16 (λ n. nat_le n limit)) (count_at limit)
+count : (limit : ℕ) → IsCodec (to_be_bytes w16) (Fits16 (λ n. nat_le n limit)) (limited_count limit)
 count limit = checked Index (λ n. nat_le n limit) number16
 
 abbrev make_counts : ℕ × (ℕ × (ℕ × (ℕ × (ℕ × (ℕ × ℕ))))) → Counts
@@ -100,7 +100,7 @@ front =
     field (items (task n.modules) n.tasks []) (λ _ tasks.
     field (items (inv n.comms n.invs modes tasks ports) n.invs []) (λ _ invs.
     field (items (switch n.comms modes) n.switches []) (λ _ _.
-    field (items (λ _. code) (function_count tasks n.switches) []) (λ _ _.
+    field (items (λ _. code) (counted_functions tasks n.switches) []) (λ _ _.
     field (items (λ _. anchors) n.modes []) (λ _ _.
     last e_code))))))))))))
     (λ o h.

@@ -41,7 +41,7 @@ use Rattle.htl_object.specs.Invocations.{is_parent, is_read, last_inv_mode, last
 use Rattle.htl_object.specs.Items.{Each, Fits16, IsComm, IsMode, IsOption, IsModule, IsPort, AreTypes, IsTask, IsEnd, AreEnds, IsInv, IsSwitch, IsCode, IsEInstr, IsSInstr, IsFInstr}
 use Rattle.htl_object.specs.Lists.{codes_of, anchors_of, lists_of, tables_of_lists}
 use Rattle.htl_object.specs.Modes.{is_named_mode, last_module}
-use Rattle.htl_object.specs.Modules.{is_named_module, is_mode_of, is_within as is_within_before}
+use Rattle.htl_object.specs.Modules.{is_named_module, is_mode_of, leads_up_within as is_within_before}
 use Rattle.htl_object.specs.Objects.{HasWidths, KeepsFunction, IsObject}
 use Rattle.htl_object.specs.Ports.{is_named_port, is_named_task, last_mode, last_owner}
 use Rattle.htl_object.specs.Ranges.{IsPhased, IsShort}

@@ -16,7 +16,7 @@ use Rattle.htl_object.specs.Reading.{bad_at}
 use Rattle.htl_object.specs.Fields.{is_owner}
 use Rattle.htl_object.specs.Comms.{comm_bytes, comm_at, is_named_comm}
 use Rattle.htl_object.specs.Modes.{mode_bytes, mode_at, is_named_mode, last_module}
-use Rattle.htl_object.specs.Modules.{module_bytes, module_at, is_named_module, is_mode_of, is_within}
+use Rattle.htl_object.specs.Modules.{module_bytes, module_at, is_named_module, is_mode_of, leads_up_within}
 use Rattle.htl_object.specs.Ports.{port_bytes, port_at, last_mode, is_named_port, types_bytes, types_at, task_bytes, task_at, last_owner, is_named_task}
 use Rattle.htl_object.specs.Invocations.{end_bytes, end_table, end_at, ends_bytes, ends_at, is_instance, is_port_of, inv_bytes, inv_at, is_inv_mode, is_inv_task, is_parent, switch_bytes, switch_at, last_switch_mode, is_target, is_read}
 use Rattle.htl_object.specs.Items.{IsComm, IsMode, IsModule, IsPort, AreTypes, IsTask, IsEnd, AreEnds, IsInv, IsSwitch}
@@ -53,7 +53,7 @@ pub unit : (modes : List Mode) (before : List Module) → IsCodec module_bytes (
 unit modes before =
     whole make_module (λ m. (m.name, (m.parent, m.start))) module_bytes (IsModule modes before)
     (field name (λ bytes n. tested (not (is_named_module before n)) (bad_at Spelling bytes)
-    (field (checked Index (is_within 7 modes before) option) (λ _ _. last (checked Index (is_mode_of modes (length before)) number16)))))
+    (field (checked Index (leads_up_within 7 modes before) option) (λ _ _. last (checked Index (is_mode_of modes (length before)) number16)))))
     (λ m f. (refl, refl, (f.name, (f.differs, (f.parent, f.start)))))
     (λ p f. (refl, record { name = f.0; differs = f.1.0; parent = f.1.1.0; start = f.1.1.1 }))
 

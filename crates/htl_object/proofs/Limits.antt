@@ -7,7 +7,7 @@ use Rattle.std.proofs.lemmas.Bool.Decides.{nat_tests}
 use Rattle.std.proofs.lemmas.List.Sums.{sum_by-cons}
 use Rattle.std.proofs.lemmas.Option.{slice_get-get_or, slice_get_within}
 use Rattle.htl_object.specs.Modules.{is_mode_of}
-use Rattle.htl_object.specs.Files.{IsFileInRange, is_root as is_root_at, selections_to, selections_of, widest_to, positions_to, is_node_count}
+use Rattle.htl_object.specs.Files.{IsFileInRange, is_root_number as is_root_at, selections_to, selections_of, widest_to, positions_to, is_node_count}
 use Rattle.htl_object.specs.declared.lists.Lists.{Lists}
 use Rattle.htl_model.proofs.SelectionLaws.{modes_some, no_modules}
 pub use Rattle.htl_model.proofs.SelectionLaws.{place_passes}

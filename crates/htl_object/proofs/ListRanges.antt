@@ -15,7 +15,7 @@ use Rattle.htl_base.specs.declared.Ty.TheVariants as ty
 use Rattle.htl_object.specs.Fields.{is_span, is_owner, is_of}
 use Rattle.htl_object.specs.Comms.{is_named_comm}
 use Rattle.htl_object.specs.Modes.{is_named_mode, last_module}
-use Rattle.htl_object.specs.Modules.{is_named_module, is_mode_of, is_within as is_within_before}
+use Rattle.htl_object.specs.Modules.{is_named_module, is_mode_of, leads_up_within as is_within_before}
 use Rattle.htl_object.specs.Ports.{is_named_port, is_named_task, last_mode, last_owner}
 use Rattle.htl_object.specs.Invocations.{is_port_of, is_inv_task, is_parent, is_target, is_read, last_inv_mode, last_switch_mode}
 use Rattle.htl_object.specs.Instructions.{is_body}

@@ -12,7 +12,7 @@ use Rattle.htl_model.specs.Tables.{Tables, Fun, Formula, Compiled}
 use Rattle.htl_model.specs.declared.function.Code.{Code}
 use Rattle.htl_object.specs.Files.{IsFileInRange}
 use Rattle.htl_object.specs.Lists.{object_of_lists, codes_of, anchors_of, lists_of}
-use Rattle.htl_object.specs.Ranges.{IsCode, IsInRange}
+use Rattle.htl_object.specs.Ranges.{IsFunctionCode, IsInRange}
 use Rattle.htl_object.specs.declared.lists.Anchors.{Anchors}
 use Rattle.htl_object.specs.declared.lists.Lists.{Lists}
 use Rattle.htl_object.specs.declared.object.Object.{Object}
@@ -51,10 +51,10 @@ pub codes_again : (cs : List Code) → codes_of (map (λ c. Compiled c) cs) ≡ 
 codes_again [] = refl
 codes_again (c ∷ cs) = ap (λ ds. c ∷ ds) (codes_again cs)
 
-pub all_codes : (fs : List Fun) → All IsCode fs → map (λ c. Compiled c) (codes_of fs) ≡ fs
+pub all_codes : (fs : List Fun) → All IsFunctionCode fs → map (λ c. Compiled c) (codes_of fs) ≡ fs
 all_codes [] h = refl
-all_codes (Compiled c ∷ fs) h = ap (λ gs. Compiled c ∷ gs) (all_codes fs (All-tail IsCode (Compiled c) fs h))
-all_codes (Formula first e ∷ fs) h = absurd (All-head IsCode (Formula first e) fs h)
+all_codes (Compiled c ∷ fs) h = ap (λ gs. Compiled c ∷ gs) (all_codes fs (All-tail IsFunctionCode (Compiled c) fs h))
+all_codes (Formula first e ∷ fs) h = absurd (All-head IsFunctionCode (Formula first e) fs h)
 
 -- ---- addresses
 

@@ -12,7 +12,7 @@ use Rattle.htl_ecode.specs.declared.instr.EInstr.{EInstr}
 use Rattle.htl_ecode.specs.declared.instr.EInstr.TheVariants as I
 use Rattle.htl_model.specs.Tables.{Compiled}
 use Rattle.htl_model.specs.declared.function.Code.{Code}
-use Rattle.htl_object.specs.Ranges.{IsCode, IsPhased, IsShort, IsInRange}
+use Rattle.htl_object.specs.Ranges.{IsFunctionCode, IsPhased, IsShort, IsInRange}
 use Rattle.htl_object.proofs.Each.{all_of}
 use Rattle.htl_object.proofs.ListRanges.{at_most, left, right, lists_in_range}
 use Rattle.htl_object.proofs.Limits.{lists_keep_limits, frames_kept, counted_schedules}
@@ -37,7 +37,7 @@ lists_are_object l h =
       tables = lists_in_range l h.front;
       limits = lists_keep_limits l h;
       frames = frames_kept l h;
-      coded = All-map IsCode (λ (c : Code). Compiled c) l.functions (λ k d less. tt);
+      coded = All-map IsFunctionCode (λ (c : Code). Compiled c) l.functions (λ k d less. tt);
       enter = length-map l.anchors (λ (a : Anchors). a.enter) ∙ h.front.anchor_count;
       begin = length-map l.anchors (λ (a : Anchors). a.begin) ∙ h.front.anchor_count;
       decide = length-map l.anchors (λ (a : Anchors). a.decide) ∙ h.front.anchor_count;

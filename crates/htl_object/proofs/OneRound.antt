@@ -36,7 +36,7 @@ use Rattle.htl_walk.specs.Jobs.{abstract_jobs}
 use Rattle.htl_walk.specs.PathJobs.{path_jobs, legs}
 use Rattle.htl_walk.specs.PathLaws.{whole}
 use Rattle.htl_walk.specs.Paths.{Leg, IsPathAccepted}
-use Rattle.htl_walk.specs.Walk.{IsAccepted}
+use Rattle.htl_walk.specs.Walk.{ScheduleIsAccepted}
 use Rattle.htl_walk.specs.declared.job.Job.{Job}
 use Rattle.htl_walk.specs.declared.schedule.SInstr.{SInstr}
 
@@ -204,7 +204,7 @@ module _ (t : Tables) (r : AreInRange t) (kept : KeptTo t 12) (one : RootsHaveOn
         ap (λ (xs : List ℕ). list_to (λ j. get_or lists (node t path j) []) (length xs)) a.one_start
         ∙ ap (λ (n : ℕ). get_or lists n [] ∷ []) (a.node path inside)
 
-    pub feasible : ((sel : ℕ) → sel < selection_count t → IsAccepted (abstract_jobs t sel) (round_length t) (get_or lists sel [])) → AreFeasible t lists
+    pub feasible : ((sel : ℕ) → sel < selection_count t → ScheduleIsAccepted (abstract_jobs t sel) (round_length t) (get_or lists sel [])) → AreFeasible t lists
     feasible each path below = elim (none_or_some (length (root_modules t))) [
       | inl none ↦ absurd (no_paths t (root_modules t) refl none path below)
       | inr some ↦
@@ -221,14 +221,14 @@ module _ (t : Tables) (r : AreInRange t) (kept : KeptTo t 12) (one : RootsHaveOn
             (subst (λ (gs : List Leg). IsPathAccepted (abstract_jobs t path) gs (lists_of t lists path)) (sym (a.legs path))
             (subst (λ (ss : List (List SInstr)). IsPathAccepted (abstract_jobs t path) (whole (round_length t) (length (abstract_jobs t path)) ∷ []) ss) (sym (one_of a path inside)) h))
 
-    pub each_round : AreFeasible t lists → (sel : ℕ) → sel < selection_count t → IsAccepted (abstract_jobs t sel) (round_length t) (get_or lists sel [])
+    pub each_round : AreFeasible t lists → (sel : ℕ) → sel < selection_count t → ScheduleIsAccepted (abstract_jobs t sel) (round_length t) (get_or lists sel [])
     each_round all sel inside = elim (none_or_some (length (root_modules t))) [
       | inl none ↦ absurd (no_selection t (root_modules t) refl none sel inside)
       | inr some ↦ round_of_path (are_rounds some) sel inside (all sel (omega (arith, inside, (are_rounds some).paths)))
     ]
       where
         round_of_path : AreRounds t (round_length t) → (sel : ℕ) → sel < selection_count t → IsPathAccepted (path_jobs t sel) (legs t sel) (lists_of t lists sel)
-            → IsAccepted (abstract_jobs t sel) (round_length t) (get_or lists sel [])
+            → ScheduleIsAccepted (abstract_jobs t sel) (round_length t) (get_or lists sel [])
         round_of_path a sel inside here =
             (one_list_accepted (abstract_jobs t sel) (round_length t) (get_or lists sel [])).0
             (subst (λ (ss : List (List SInstr)). IsPathAccepted (abstract_jobs t sel) (whole (round_length t) (length (abstract_jobs t sel)) ∷ []) ss) (one_of a sel inside)

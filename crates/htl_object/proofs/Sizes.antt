@@ -8,7 +8,7 @@ use Rattle.std.proofs.lemmas.List.Sums.{sum_by-append}
 use Rattle.htl_object.specs.declared.malformed.Bad.{Bad}
 use Rattle.htl_object.specs.declared.malformed.MalKind.TheVariants.{Spelling, Index}
 use Rattle.htl_model.specs.declared.parts.Task.{Task}
-use Rattle.htl_object.specs.Reading.{Read, ◌>>=◌, bad_at, need, items_at, count_at, number_at}
+use Rattle.htl_object.specs.Reading.{Read, ◌>>=◌, bad_at, need, items_at, limited_count, number_at}
 use Rattle.htl_object.specs.Fields.{type_at}
 use Rattle.htl_object.specs.Ports.{types_at, task_at, last_owner, is_named_task}
 use Rattle.htl_object.proofs.Lawful.{IsCodec, bound, needed, given-value}
@@ -42,12 +42,12 @@ items-length {X} read (suc n) before bytes xs rest e =
 types-few : Yields (λ ts. length ts ≤ 256) types_at
 types-few = record {
   all = λ bytes ts rest e.
-      let b = bound (count_at 256 bytes) (λ n s. items_at (λ _. type_at) n [] s) ts rest e in
+      let b = bound (limited_count 256 bytes) (λ n s. items_at (λ _. type_at) n [] s) ts rest e in
       let few = count-few.all bytes b.value b.rest b.first in
       omega (arith, few, items-length (λ _. type_at) b.value [] b.rest ts rest b.then);
 }
   where
-    count-few : Yields (λ n. n ≤ 256) (count_at 256)
+    count-few : Yields (λ n. n ≤ 256) (limited_count 256)
     count-few = record {
       all = λ bytes n rest e.
           let b = bound (number_at w16 bytes) (λ x s. need (nat_le x 256) (bad_at Index bytes) (Ok (x, s))) n rest e in

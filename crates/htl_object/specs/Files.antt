@@ -18,7 +18,7 @@ use Rattle.htl_object.specs.declared.lists.Anchors.{Anchors}
 use Rattle.htl_object.specs.declared.lists.Counts.{Counts}
 use Rattle.htl_object.specs.declared.lists.Lists.{Lists}
 use Rattle.htl_object.specs.Lists.{tables_of_lists}
-use Rattle.htl_object.specs.Reading.{Read, ◌>>=◌, bad_at, need, items_at, number_at, count_at}
+use Rattle.htl_object.specs.Reading.{Read, ◌>>=◌, bad_at, need, items_at, number_at, limited_count}
 use Rattle.htl_object.specs.Comms.{comm_bytes, comm_at}
 use Rattle.htl_object.specs.Modes.{mode_bytes, mode_at}
 use Rattle.htl_object.specs.Modules.{module_bytes, module_at, is_mode_of}
@@ -50,13 +50,13 @@ counts_bytes n =
 
 abbrev pub counts_at : List ℕ → Read Counts
 counts_at bytes =
-    count_at MAX_COMMUNICATORS bytes >>= λ comms rest.
-    count_at MAX_MODES rest >>= λ modes rest.
-    count_at MAX_MODULES rest >>= λ modules rest.
-    count_at MAX_PORTS rest >>= λ ports rest.
-    count_at MAX_TASKS rest >>= λ tasks rest.
-    count_at MAX_INVOCATIONS rest >>= λ invs rest.
-    count_at MAX_SWITCHES rest >>= λ switches rest.
+    limited_count MAX_COMMUNICATORS bytes >>= λ comms rest.
+    limited_count MAX_MODES rest >>= λ modes rest.
+    limited_count MAX_MODULES rest >>= λ modules rest.
+    limited_count MAX_PORTS rest >>= λ ports rest.
+    limited_count MAX_TASKS rest >>= λ tasks rest.
+    limited_count MAX_INVOCATIONS rest >>= λ invs rest.
+    limited_count MAX_SWITCHES rest >>= λ switches rest.
     Ok (record { comms = comms; modes = modes; modules = modules; ports = ports; tasks = tasks; invs = invs; switches = switches }, rest)
 
 pub record AreCounts (n : Counts) : Type 0 where
@@ -70,18 +70,18 @@ pub record AreCounts (n : Counts) : Type 0 where
 
 -- ---- what the tables ask for
 
-abbrev pub function_count : List Task → ℕ → ℕ
-function_count tasks switches = sum_by (λ t. cond t.is_abstract 0 (length t.outputs)) tasks + switches
+abbrev pub counted_functions : List Task → ℕ → ℕ
+counted_functions tasks switches = sum_by (λ t. cond t.is_abstract 0 (length t.outputs)) tasks + switches
 
 -- module k is a root
-abbrev pub is_root : List Module → ℕ → Bool
-is_root modules k = elim (slice_get modules k) [ Some m ↦ is_none m.parent | None ↦ false ]
+abbrev pub is_root_number : List Module → ℕ → Bool
+is_root_number modules k = elim (slice_get modules k) [ Some m ↦ is_none m.parent | None ↦ false ]
 
 -- one mode for each root module below n
 abbrev pub selections_to : List Mode → List Module → ℕ → ℕ
 selections_to modes modules zero = 1
 selections_to modes modules (suc n) =
-    selections_to modes modules n * cond (is_root modules n) (count_by (λ q. q.«module» == n) modes) 1
+    selections_to modes modules n * cond (is_root_number modules n) (count_by (λ q. q.«module» == n) modes) 1
 
 -- the most invocations of a mode of module k, of the modes below q
 abbrev pub widest_to : List Mode → List Inv → ℕ → ℕ → ℕ
@@ -93,7 +93,7 @@ widest_to modes invs k (suc q) =
 abbrev pub positions_to : List Mode → List Module → List Inv → ℕ → ℕ
 positions_to modes modules invs zero = 0
 positions_to modes modules invs (suc n) =
-    positions_to modes modules invs n + cond (is_root modules n) (widest_to modes invs n (length modes)) 0
+    positions_to modes modules invs n + cond (is_root_number modules n) (widest_to modes invs n (length modes)) 0
 
 -- how many selections there are, none without modules
 abbrev pub selections_of : List Mode → List Module → ℕ
@@ -155,7 +155,7 @@ front_at bytes =
     items_at (task_at n.modules) n.tasks [] rest >>= λ tasks rest.
     items_at (inv_at n.comms n.invs modes tasks ports) n.invs [] rest >>= λ invs rest.
     items_at (switch_at n.comms modes) n.switches [] rest >>= λ switches rest.
-    items_at (λ _. code_at) (function_count tasks n.switches) [] rest >>= λ functions rest.
+    items_at (λ _. code_at) (counted_functions tasks n.switches) [] rest >>= λ functions rest.
     items_at (λ _. anchors_at) n.modes [] rest >>= λ anchors rest.
     e_code_at rest >>= λ instrs rest.
     Ok (
@@ -186,7 +186,7 @@ pub record IsFront (n : Counts) (o : Lists) : Type 0 where
   pub tasks : Each (IsTask n.modules) [] o.tasks
   pub invs : Each (IsInv n.comms n.invs o.modes o.tasks o.ports) [] o.invs
   pub switches : Each (IsSwitch n.comms o.modes) [] o.switches
-  pub function_count : length o.functions ≡ function_count o.tasks n.switches
+  pub function_count : length o.functions ≡ counted_functions o.tasks n.switches
   pub functions : Every IsCode o.functions
   pub anchor_count : length o.anchors ≡ n.modes
   pub anchors : Every AreAnchors o.anchors

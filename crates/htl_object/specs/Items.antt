@@ -23,7 +23,7 @@ use Rattle.htl_model.specs.declared.function.FInstr.TheVariants as F
 use Rattle.htl_object.specs.Fields.{is_span, is_of, is_owner}
 use Rattle.htl_object.specs.Comms.{is_named_comm}
 use Rattle.htl_object.specs.Modes.{is_named_mode, last_module}
-use Rattle.htl_object.specs.Modules.{is_named_module, is_mode_of, is_within}
+use Rattle.htl_object.specs.Modules.{is_named_module, is_mode_of, leads_up_within}
 use Rattle.htl_object.specs.Ports.{last_mode, is_named_port, last_owner, is_named_task}
 use Rattle.htl_object.specs.Invocations.{is_instance, is_port_of, is_inv_mode, is_inv_task, is_parent, last_switch_mode, is_target, is_read}
 use Rattle.htl_object.specs.Instructions.{is_phase, is_body}
@@ -60,7 +60,7 @@ IsOption o = IfSome o (λ n. n < 65535)
 pub record IsModule (modes : List Mode) (before : List Module) (m : Module) : Type 0 where
   pub name : is_name m.name ≡ true
   pub differs : not (is_named_module before m.name) ≡ true
-  pub parent : IsOption m.parent × (is_within 7 modes before m.parent ≡ true)
+  pub parent : IsOption m.parent × (leads_up_within 7 modes before m.parent ≡ true)
   pub start : Fits16 (is_mode_of modes (length before)) m.start
 
 pub record IsPort (modes : ℕ) (before : List Port) (p : Port) : Type 0 where

@@ -12,7 +12,7 @@ use Rattle.htl_object.specs.declared.object.Object.{Object}
 use Rattle.htl_walk.specs.EqualPeriods.{RootsHaveOnePeriod}
 use Rattle.htl_walk.specs.Feasible.{AreFeasible}
 use Rattle.htl_walk.specs.Jobs.{abstract_jobs}
-use Rattle.htl_walk.specs.Walk.{IsAccepted}
+use Rattle.htl_walk.specs.Walk.{ScheduleIsAccepted}
 use Rattle.htl_walk.specs.declared.schedule.SInstr.{SInstr}
 
 -- Bytes that say an object are its one spelling, and it is in range.
@@ -37,4 +37,4 @@ abbrev pub RoundsAreFrames : Type 0
 RoundsAreFrames =
     (t : Tables) (lists : List (List SInstr)) → AreInRange t → KeptTo t 12 → RootsHaveOnePeriod t → KeepsLimits t
     → (frame_limit t ≡ None) × (nodes t ≡ selection_count t)
-    × (((sel : ℕ) → sel < selection_count t → IsAccepted (abstract_jobs t sel) (round_length t) (get_or lists sel [])) ↔ AreFeasible t lists)
+    × (((sel : ℕ) → sel < selection_count t → ScheduleIsAccepted (abstract_jobs t sel) (round_length t) (get_or lists sel [])) ↔ AreFeasible t lists)

@@ -20,12 +20,12 @@ abbrev pub is_mode_of : List Mode → ℕ → ℕ → Bool
 is_mode_of modes k n = elim (slice_get modes n) [ Some m ↦ m.«module» == k | None ↦ false ]
 
 -- going from parent to parent over the modules before ends within so many steps
-abbrev pub is_within : ℕ → List Mode → List Module → Option ℕ → Bool
-is_within n modes before None = true
-is_within zero modes before (Some q) = false
-is_within (suc n) modes before (Some q) =
+abbrev pub leads_up_within : ℕ → List Mode → List Module → Option ℕ → Bool
+leads_up_within n modes before None = true
+leads_up_within zero modes before (Some q) = false
+leads_up_within (suc n) modes before (Some q) =
     elim (slice_get modes q) [
-      | Some m ↦ elim (slice_get before m.«module») [ Some above ↦ is_within n modes before above.parent | None ↦ false ]
+      | Some m ↦ elim (slice_get before m.«module») [ Some above ↦ leads_up_within n modes before above.parent | None ↦ false ]
       | None ↦ false
     ]
 
@@ -33,6 +33,6 @@ abbrev pub module_at : List Mode → List Module → List ℕ → Read Module
 module_at modes before bytes =
     name_at bytes >>= λ name rest.
     need (not (is_named_module before name)) (bad_at Spelling bytes) (
-    field_at Index (is_within 7 modes before) option_at rest >>= λ parent rest.
+    field_at Index (leads_up_within 7 modes before) option_at rest >>= λ parent rest.
     field_at Index (is_mode_of modes (length before)) (number_at w16) rest >>= λ start rest.
     Ok (record { name = name; parent = parent; start = start }, rest))

@@ -9,9 +9,9 @@ use Rattle.htl_model.specs.Tables.{Fun, Formula, Compiled}
 use Rattle.htl_object.specs.declared.object.Object.{Object}
 use Rattle.htl_walk.specs.declared.schedule.Schedule.{Schedule}
 
-abbrev pub IsCode : Fun → Type 0
-IsCode (Formula first e) = ⊥
-IsCode (Compiled code) = Unit {0}
+abbrev pub IsFunctionCode : Fun → Type 0
+IsFunctionCode (Formula first e) = ⊥
+IsFunctionCode (Compiled code) = Unit {0}
 
 -- a trigger is of one of three phases
 abbrev pub IsPhased : EInstr → Type 0
@@ -26,7 +26,7 @@ pub record IsInRange (o : Object) : Type 0 where
   pub tables : AreInRange o.tables
   pub limits : KeepsLimits o.tables
   pub frames : frame_limit o.tables ≡ None
-  pub coded : All IsCode o.tables.functions
+  pub coded : All IsFunctionCode o.tables.functions
   pub enter : length o.ecode.enter ≡ length o.tables.modes
   pub begin : length o.ecode.begin ≡ length o.tables.modes
   pub decide : length o.ecode.decide ≡ length o.tables.modes

@@ -74,12 +74,12 @@ abbrev pub three_at : {A B C X : Type 0} → (List ℕ → Read A) → (List ℕ
 three_at first second third make bytes = first bytes >>= λ a rest. second rest >>= λ b rest. third rest >>= λ c rest. Ok (make a b c, rest)
 
 -- a count up to a limit
-abbrev pub count_at : ℕ → List ℕ → Read ℕ
-count_at limit = field_at Index (λ n. nat_le n limit) (number_at w16)
+abbrev pub limited_count : ℕ → List ℕ → Read ℕ
+limited_count limit = field_at Index (λ n. nat_le n limit) (number_at w16)
 
 -- such a count, and that many items
 abbrev pub list_at : {X : Type 0} → ℕ → (List X → List ℕ → Read X) → List ℕ → Read (List X)
-list_at limit read bytes = count_at limit bytes >>= λ n rest. items_at read n [] rest
+list_at limit read bytes = limited_count limit bytes >>= λ n rest. items_at read n [] rest
 
 -- ---- what a function of the code answers
 

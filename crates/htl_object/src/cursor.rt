@@ -1,7 +1,7 @@
 // The bytes that are left to read.
 ghost use Rattle.std.specs.Prelude.{◌≡◌, ◌≤◌, IfOk, length};
 ghost use Rattle.std.specs.Int.{w16, w32};
-ghost use Rattle.htl_object.specs.Reading.{Gives, byte_at, number_at, count_at};
+ghost use Rattle.htl_object.specs.Reading.{Gives, byte_at, number_at, limited_count};
 ghost use Rattle.htl_object.specs.Fields.{name_at, type_at, flag_at, value_at, span_at, place_at, owner_at, option_at, init_at};
 ghost use Rattle.htl_object.specs.Versions.{text_at, version_at, head_at};
 ghost use Rattle.htl_object.specs.Instructions.{phase_at};
@@ -220,7 +220,7 @@ impl<'a> Cursor<'a> {
 
     /// A count up to a limit.
     pub fn count(&mut self, limit: usize) -> Result<u16, Stop>
-        ensures reads { Gives (λ x. x) (count_at limit self.old) self.new result }
+        ensures reads { Gives (λ x. x) (limited_count limit self.old) self.new result }
         ensures few { IfOk result (λ n. n ≤ limit) }
     {
         let left = self.left.len();

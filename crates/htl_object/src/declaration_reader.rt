@@ -4,7 +4,7 @@ ghost use Rattle.htl_object.specs.Reading.{Gives, items_at};
 ghost use Rattle.htl_object.specs.Names.{owned, comm_names, mode_names, module_names, port_names, task_names};
 ghost use Rattle.htl_object.specs.Comms.{is_named_comm};
 ghost use Rattle.htl_object.specs.Modes.{is_named_mode, last_module};
-ghost use Rattle.htl_object.specs.Modules.{is_named_module, is_mode_of, is_within};
+ghost use Rattle.htl_object.specs.Modules.{is_named_module, is_mode_of, leads_up_within as is_within};
 ghost use Rattle.htl_object.specs.Ports.{is_named_port, last_mode, is_named_task, last_owner};
 
 use crate::cursor::{Cursor, bad};

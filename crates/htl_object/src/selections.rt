@@ -1,7 +1,7 @@
 // How many functions and schedules the tables ask for.
 ghost use Rattle.std.specs.Prelude.{◌≡◌, ◌<◌, ◌≤◌, ◌^◌, ◌+◌, ◌==◌, ℕ, min, length, get_or, cond, count_by, sum_by};
 ghost use Rattle.htl_object.specs.Modules.{is_mode_of};
-ghost use Rattle.htl_object.specs.Files.{is_root, selections_to, selections_of, widest_to, positions_to, are_few, is_node_count, function_count};
+ghost use Rattle.htl_object.specs.Files.{is_root_number as is_root, selections_to, selections_of, widest_to, positions_to, are_few, is_node_count, counted_functions as function_count};
 
 use crate::declaration_reader::is_mode_of;
 use htl_base::limits::{MAX_MODES, MAX_POSITIONS, MAX_SELECTIONS};

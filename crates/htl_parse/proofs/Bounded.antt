@@ -8,7 +8,7 @@ use Rattle.std.proofs.lemmas.List.Sums.{sum_by-cons}
 use Rattle.htl_base.specs.declared.Ty.{Ty}
 use Rattle.htl_text.specs.Bounds.{tree_nodes, IsBoundedExpr, IsBoundedConst, IsBoundedComm, IsBoundedTask, IsBoundedEnd, IsBoundedInvoke, IsBoundedSwitch, IsBoundedMode, IsBoundedModule, IsBoundedProgram, task_size, invoke_size, switch_size, mode_size, module_size, program_size, tree_size, IsBounded}
 use Rattle.htl_text.specs.Nodes.{PlainOut, PlainTask, PlainSwitch, PlainMode, PlainModule, PlainProgram, tree_of}
-use Rattle.htl_text.specs.Placed.{Placed, Put, numbered}
+use Rattle.htl_text.specs.Placed.{Placed, Put, tokens_numbered}
 use Rattle.htl_text.specs.Spellable.{AreSpellable}
 use Rattle.htl_text.specs.Statements.{SpellsEach, no_other, another, SpellsClause, absent, present, SpellsType, int, bool, SpellsConst, positive, negative, true_word as true_const, false_word as false_const, SpellsComm, communicator, sensor, SpellsParam, SpellsOut, SpellsTask, concrete, abstract_task, SpellsPort, port, SpellsEnd, SpellsInvoke, invoke, SpellsSwitch, switch, SpellsMode, mode, SpellsModule, a_module, SpellsProgram, program, SpellsSource, source}
 use Rattle.htl_text.proofs.Sizes.{length-within, size-few}
@@ -227,12 +227,12 @@ source-bounded (source {ts} {us} {rest} {p} {ps} one more) fit =
 
 pub tree-bounded : (tokens : List Token) (tree : List PlainProgram) → length tokens ≤ 1048576 → AreSpellable tokens → AreShort tokens → Spell tokens tree → IsBounded tree
 tree-bounded tokens tree few spellable short spelled = source-bounded spelled (record {
-  few = let same = ap length same_tokens in omega (arith, few, same, length-plain (numbered 0 tokens));
+  few = let same = ap length same_tokens in omega (arith, few, same, length-plain (tokens_numbered 0 tokens));
   short = subst AreShort (sym same_tokens) short;
   spellable = subst AreSpellable (sym same_tokens) spellable;
 })
   where
-    same_tokens : plain (numbered 0 tokens) ≡ tokens
+    same_tokens : plain (tokens_numbered 0 tokens) ≡ tokens
     same_tokens = plain-numbered 0 tokens
 
 pub result-bounded : (tokens : List Token) (result : Result Tree ParseFault) → length tokens ≤ 1048576 → AreSpellable tokens → IsParsed tokens result

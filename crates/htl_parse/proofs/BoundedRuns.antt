@@ -9,7 +9,7 @@ use Rattle.htl_text.specs.Bounds.{tree_nodes, names_of, HasLiterals, IsBoundedEx
 use Rattle.htl_text.specs.Expressions.{Expr, Number, Flag, Variable, Prefix, Infix, Choice}
 use Rattle.htl_text.specs.Grammar.{Level, Spells, prefix_of, or_of, and_of, compare_of, sum_of, product_of, conj, or, cmp, and, sum, compare, prod, add, unary, multiply, atom, prefix, number, true_word, false_word, name, brackets, choice}
 use Rattle.htl_text.specs.Nodes.{PlainOut}
-use Rattle.htl_text.specs.Placed.{Placed, Put, numbered}
+use Rattle.htl_text.specs.Placed.{Placed, Put, tokens_numbered}
 use Rattle.htl_text.specs.Spellable.{AreSpellable}
 use Rattle.htl_text.specs.Statements.{SpellsMore, no_more, comma, SpellsList, empty, items, int, bool, SpellsParam, param, SpellsOut, out, SpellsEnd, comm_end, port_end}
 use Rattle.htl_text.specs.declared.token.Token.{Token}
@@ -27,7 +27,7 @@ abbrev pub plain : List Placed → List Token
 plain [] = []
 plain (Put k t ∷ ts) = t ∷ plain ts
 
-pub plain-numbered : (n : ℕ) (ts : List Token) → plain (numbered n ts) ≡ ts
+pub plain-numbered : (n : ℕ) (ts : List Token) → plain (tokens_numbered n ts) ≡ ts
 plain-numbered n [] = refl
 plain-numbered n (t ∷ ts) = ap (λ (us : List Token). t ∷ us) (plain-numbered (n + 1) ts)
 

@@ -6,7 +6,7 @@ use Rattle.htl_base.specs.declared.operator.UnOp.{UnOp}
 use Rattle.htl_base.specs.declared.operator.UnOp.TheVariants as un
 use Rattle.htl_base.specs.declared.operator.BinOp.{BinOp}
 use Rattle.htl_base.specs.declared.operator.BinOp.TheVariants as bin
-use Rattle.htl_text.specs.Placed.{Placed, Put, numbered}
+use Rattle.htl_text.specs.Placed.{Placed, Put, tokens_numbered}
 use Rattle.htl_text.specs.Expressions.{Expr, Number, Flag, Variable, Prefix, Infix, Choice}
 use Rattle.htl_text.specs.Grammar.{Or, And, Compare, Sum, Product, Atom, Spells, conj, or, cmp, and, sum, compare, prod, add, unary, multiply, atom, prefix, number, true_word as true_atom, false_word as false_atom, name, brackets, choice}
 use Rattle.htl_text.specs.Nodes.{PlainOut, PlainOuts, Concrete, Abstract, PlainTask, PlainSwitch, PlainMode, PlainModule, PlainProgram}
@@ -33,7 +33,7 @@ use Rattle.htl_text.specs.declared.tree.InvokeNode.{InvokeNode}
 
 -- from n on the tokens spell x with other numbers, and m is the number of the next token
 abbrev pub Again : {X : Type 0} → (List Placed → X → List Placed → Type 0) → Spelling X → (X → X) → ℕ → X → List Token → Type 0
-Again {X} Item tokens bare n x more = (f : X) × (m : ℕ) × (bare f ≡ bare x) × Item (numbered n (tokens x more)) f (numbered m more)
+Again {X} Item tokens bare n x more = (f : X) × (m : ℕ) × (bare f ≡ bare x) × Item (tokens_numbered n (tokens x more)) f (tokens_numbered m more)
 
 both : {X : Type 0} (bare : X → X) (f x : X) (fs xs : List X) → bare f ≡ bare x → map bare fs ≡ map bare xs → map bare (f ∷ fs) ≡ map bare (x ∷ xs)
 both {X} bare f x fs xs one rest = ap (λ (y : X). y ∷ map bare fs) one ∙ ap (λ (ys : List X). bare x ∷ ys) rest
@@ -119,12 +119,12 @@ expr-again (Choice k c a b) n more =
       choice (as_or x.3) (as_or y.3) (as_or z.3),
     )
 
-type-again : (t : Ty) (n : ℕ) (more : List Token) → SpellsType (numbered n (type_tokens t more)) t (numbered (n + 1) more)
+type-again : (t : Ty) (n : ℕ) (more : List Token) → SpellsType (tokens_numbered n (type_tokens t more)) t (tokens_numbered (n + 1) more)
 type-again ty.Int n more = int
 type-again ty.Bool n more = bool
 
 -- the same in one step: the type keeps no number
-type-first : (t : Ty) (n : ℕ) (x : Token) (more : List Token) → SpellsType (numbered n (type_tokens t (x ∷ more))) t (Put (n + 1) x ∷ numbered (n + 1 + 1) more)
+type-first : (t : Ty) (n : ℕ) (x : Token) (more : List Token) → SpellsType (tokens_numbered n (type_tokens t (x ∷ more))) t (Put (n + 1) x ∷ tokens_numbered (n + 1 + 1) more)
 type-first t n x more = type-again t n (x ∷ more)
 
 param-again : (p : ParamNode) (n : ℕ) (more : List Token) → Again SpellsParam param_tokens bare_param n p more
@@ -170,11 +170,11 @@ expr-first (Choice k c a b) more = (
   refl,
 )
 
-out-of : {ts rest : List Placed} {p : ParamNode} {k : ℕ} {f : Expr} (n : ℕ) (e : Expr) (more : List Token) → SpellsParam ts p (Put k (token.Sign sign.Assign) ∷ numbered n (expr_tokens e more))
-    → Spells Or (numbered n (expr_tokens e more)) f rest → SpellsOut ts (record { param = p; first = n; value = f }) rest
+out-of : {ts rest : List Placed} {p : ParamNode} {k : ℕ} {f : Expr} (n : ℕ) (e : Expr) (more : List Token) → SpellsParam ts p (Put k (token.Sign sign.Assign) ∷ tokens_numbered n (expr_tokens e more))
+    → Spells Or (tokens_numbered n (expr_tokens e more)) f rest → SpellsOut ts (record { param = p; first = n; value = f }) rest
 out-of {ts} {rest} {p} {k} {f} n e more sp se =
     let first = expr-first e more in
-    let same : numbered n (expr_tokens e more) ≡ Put n first.0 ∷ numbered (n + 1) first.1 = ap (numbered n) first.2 in
+    let same : tokens_numbered n (expr_tokens e more) ≡ Put n first.0 ∷ tokens_numbered (n + 1) first.1 = ap (tokens_numbered n) first.2 in
     out (subst (λ (ls : List Placed). SpellsParam ts p (Put k (token.Sign sign.Assign) ∷ ls)) same sp) (subst (λ (ls : List Placed). Spells Or ls f rest) same se)
 
 out-again : (o : PlainOut) (n : ℕ) (more : List Token) → Again SpellsOut out_tokens bare_out n o more
@@ -243,11 +243,11 @@ invoke-again i n more =
     )
 
 switch-of : {rest : List Placed} {k o c m d s : ℕ} {f : Expr} {name : List ℕ} (n : ℕ) (e : Expr) (more : List Token)
-    → Spells Or (numbered n (expr_tokens e more)) f (Put c (token.Sign sign.Comma) ∷ Put m (token.Ident name) ∷ Put d (token.Sign sign.CloseParen) ∷ Put s (token.Sign sign.Semicolon) ∷ rest)
-    → SpellsSwitch (Put k (token.Word word.Switch) ∷ Put o (token.Sign sign.OpenParen) ∷ numbered n (expr_tokens e more)) (record { first = n; cond = f; target = record { name = name; token = m } }) rest
+    → Spells Or (tokens_numbered n (expr_tokens e more)) f (Put c (token.Sign sign.Comma) ∷ Put m (token.Ident name) ∷ Put d (token.Sign sign.CloseParen) ∷ Put s (token.Sign sign.Semicolon) ∷ rest)
+    → SpellsSwitch (Put k (token.Word word.Switch) ∷ Put o (token.Sign sign.OpenParen) ∷ tokens_numbered n (expr_tokens e more)) (record { first = n; cond = f; target = record { name = name; token = m } }) rest
 switch-of {rest} {k} {o} {c} {m} {d} {s} {f} {name} n e more se =
     let first = expr-first e more in
-    let same : numbered n (expr_tokens e more) ≡ Put n first.0 ∷ numbered (n + 1) first.1 = ap (numbered n) first.2 in
+    let same : tokens_numbered n (expr_tokens e more) ≡ Put n first.0 ∷ tokens_numbered (n + 1) first.1 = ap (tokens_numbered n) first.2 in
     let to : PlainSwitch = record { first = n; cond = f; target = record { name = name; token = m } } in
     subst (λ (ls : List Placed). SpellsSwitch (Put k (token.Word word.Switch) ∷ Put o (token.Sign sign.OpenParen) ∷ ls) to rest) (sym same)
     (switch (subst (λ (ls : List Placed). Spells Or ls f (Put c (token.Sign sign.Comma) ∷ Put m (token.Ident name) ∷ Put d (token.Sign sign.CloseParen) ∷ Put s (token.Sign sign.Semicolon) ∷ rest)) same se))

@@ -9,7 +9,7 @@ use Rattle.htl_text.specs.declared.token.Kind.{Kind}
 use Rattle.htl_text.specs.declared.token.Kind.TheVariants as kind
 use Rattle.htl_parse.specs.Cursors.{next_kind, NextIs, behind}
 use Rattle.htl_parse.specs.Codes.{sign_code, word_code}
-use Rattle.htl_text.specs.Placed.{Placed, Put, numbered}
+use Rattle.htl_text.specs.Placed.{Placed, Put, tokens_numbered}
 use Rattle.htl_parse.specs.Reading.{◌>>=◌, after_sign, after_word, place_at, name_at, clause_by, clause_at}
 use Rattle.htl_parse.proofs.Coding.{sign_code-equal, word_code-equal, code-same}
 use Rattle.htl_text.specs.declared.token.Token.{Token}
@@ -47,21 +47,21 @@ word-missing wanted old new missing = ap Err (sym missing.0)
 
 pub ruleset stands = (sign-passed, sign-missing, word-passed, word-missing)
 
-pub length-numbered : (n : ℕ) (ts : List Token) → length (numbered n ts) ≡ length ts
+pub length-numbered : (n : ℕ) (ts : List Token) → length (tokens_numbered n ts) ≡ length ts
 length-numbered n [] = refl
 length-numbered n (t ∷ ts) = let e = length-numbered (n + 1) ts in omega (arith, e)
 
 -- ---- the token at a place, and what stands from it on
 
 -- what the first token is
-pub next-first : (n : ℕ) (ts us : List Token) (k : Option Kind) → FirstIs k ts us → NextIs (numbered n ts) k
-next-first n ts us None e = ap (numbered n) e
+pub next-first : (n : ℕ) (ts us : List Token) (k : Option Kind) → FirstIs k ts us → NextIs (tokens_numbered n ts) k
+next-first n ts us None e = ap (tokens_numbered n) e
 next-first n ts us (Some kind.Ident) e =
-    subst (λ (vs : List Token). NextIs (numbered n vs) (Some kind.Ident)) (sym e.1) (e.0, refl)
+    subst (λ (vs : List Token). NextIs (tokens_numbered n vs) (Some kind.Ident)) (sym e.1) (e.0, refl)
 next-first n ts us (Some kind.Number) e =
-    subst (λ (vs : List Token). NextIs (numbered n vs) (Some kind.Number)) (sym e.1) (e.0, refl)
-next-first n ts us (Some (kind.Word w)) e = subst (λ (vs : List Token). NextIs (numbered n vs) (Some (kind.Word w))) (sym e) refl
-next-first n ts us (Some (kind.Sign s)) e = subst (λ (vs : List Token). NextIs (numbered n vs) (Some (kind.Sign s))) (sym e) refl
+    subst (λ (vs : List Token). NextIs (tokens_numbered n vs) (Some kind.Number)) (sym e.1) (e.0, refl)
+next-first n ts us (Some (kind.Word w)) e = subst (λ (vs : List Token). NextIs (tokens_numbered n vs) (Some (kind.Word w))) (sym e) refl
+next-first n ts us (Some (kind.Sign s)) e = subst (λ (vs : List Token). NextIs (tokens_numbered n vs) (Some (kind.Sign s))) (sym e) refl
 
 pub next-kind : (ts : List Placed) (k : Option Kind) → NextIs ts k → k ≡ next_kind ts
 next-kind ts None e = sym (ap next_kind e)
@@ -70,33 +70,33 @@ next-kind ts (Some kind.Number) e = sym (ap next_kind e.1)
 next-kind ts (Some (kind.Word w)) e = sym (ap next_kind e)
 next-kind ts (Some (kind.Sign s)) e = sym (ap next_kind e)
 
-pub kind-at : (n p : ℕ) (ts : List Token) → next_kind (numbered n (drop p ts)) ≡ option_map kind_of (slice_get ts p)
+pub kind-at : (n p : ℕ) (ts : List Token) → next_kind (tokens_numbered n (drop p ts)) ≡ option_map kind_of (slice_get ts p)
 kind-at n zero [] = refl
 kind-at n zero (t ∷ ts) = refl
 kind-at n (suc p) [] = refl
 kind-at n (suc p) (t ∷ ts) = kind-at n p ts
 
-pub next-is : (n : ℕ) (ts us : List Token) (t : Token) → ts ≡ t ∷ us → numbered n ts ≡ Put (place_at (numbered n ts)) t ∷ behind (numbered n ts)
-next-is n ts us t e = subst (λ (vs : List Token). numbered n vs ≡ Put (place_at (numbered n vs)) t ∷ behind (numbered n vs)) (sym e) refl
+pub next-is : (n : ℕ) (ts us : List Token) (t : Token) → ts ≡ t ∷ us → tokens_numbered n ts ≡ Put (place_at (tokens_numbered n ts)) t ∷ behind (tokens_numbered n ts)
+next-is n ts us t e = subst (λ (vs : List Token). tokens_numbered n vs ≡ Put (place_at (tokens_numbered n vs)) t ∷ behind (tokens_numbered n vs)) (sym e) refl
 
-pub behind-at : (n p : ℕ) (ts : List Token) → behind (numbered n (drop p ts)) ≡ numbered (n + 1) (drop (p + 1) ts)
+pub behind-at : (n p : ℕ) (ts : List Token) → behind (tokens_numbered n (drop p ts)) ≡ tokens_numbered (n + 1) (drop (p + 1) ts)
 behind-at n zero [] = refl
 behind-at n zero (t ∷ ts) = refl
-behind-at n (suc p) [] = ap (numbered (n + 1)) (sym (drop_all (suc p + 1) [] (omega arith)))
-behind-at n (suc p) (t ∷ ts) = behind-at n p ts ∙ ap (numbered (n + 1)) (sym (later p t ts))
+behind-at n (suc p) [] = ap (tokens_numbered (n + 1)) (sym (drop_all (suc p + 1) [] (omega arith)))
+behind-at n (suc p) (t ∷ ts) = behind-at n p ts ∙ ap (tokens_numbered (n + 1)) (sym (later p t ts))
   where
     later : (p : ℕ) (t : Token) (ts : List Token) → drop (suc p + 1) (t ∷ ts) ≡ drop (p + 1) ts
     later p t ts = simp unary_clauses
 
-pub place-at : (n p : ℕ) (ts : List Token) → p < length ts → place_at (numbered n (drop p ts)) ≡ n
+pub place-at : (n p : ℕ) (ts : List Token) → p < length ts → place_at (tokens_numbered n (drop p ts)) ≡ n
 place-at n p [] below = absurd (omega (arith, below))
 place-at n zero (t ∷ ts) below = refl
 place-at n (suc p) (t ∷ ts) below = place-at n p ts (omega (arith, below))
 
-pub none-at : (n p : ℕ) (ts : List Token) → length ts ≤ p → numbered n (drop p ts) ≡ []
-none-at n p ts past = ap (numbered n) (drop_all p ts past)
+pub none-at : (n p : ℕ) (ts : List Token) → length ts ≤ p → tokens_numbered n (drop p ts) ≡ []
+none-at n p ts past = ap (tokens_numbered n) (drop_all p ts past)
 
-pub length-at : (n p : ℕ) (ts : List Token) → length (numbered n (drop p ts)) ≡ length ts - p
+pub length-at : (n p : ℕ) (ts : List Token) → length (tokens_numbered n (drop p ts)) ≡ length ts - p
 length-at n p ts = length-numbered n (drop p ts) ∙ length-drop p ts
 
 -- a word that is looked for, and a name behind it

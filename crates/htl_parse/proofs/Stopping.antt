@@ -2,7 +2,7 @@
 use Rattle.std.proofs.Common.{arith, ◌≡◌, ◌≤◌, ◌+◌, ◌-◌, ℕ, suc, List, [], ◌∷◌, ◌++◌, length, Ok, Err, refl, sym, subst, ap, ◌∙◌, inl, inr, length-append, append_assoc}
 use Rattle.std.specs.Prelude.{◌<◌}
 use Rattle.htl_base.proofs.Firsts.{first-unique}
-use Rattle.htl_text.specs.Placed.{Placed, Put, numbered}
+use Rattle.htl_text.specs.Placed.{Placed, Put, tokens_numbered}
 use Rattle.htl_text.specs.Nodes.{PlainProgram}
 use Rattle.htl_text.specs.Statements.{SpellsSource}
 use Rattle.htl_text.specs.declared.token.Token.{Token}
@@ -22,7 +22,7 @@ pub record Cut (n : ℕ) (tokens : List Token) (front left : List Placed) : Type
   pub b : List Token
   pub cut : tokens ≡ a ++ b
   pub before : (other : List Placed) → front ++ other ≡ onto n a other
-  pub after : left ≡ numbered (n + length a) b
+  pub after : left ≡ tokens_numbered (n + length a) b
 
 cut-more : (n : ℕ) (t : Token) (tokens : List Token) (p : Placed) (front left : List Placed) → Put n t ≡ p → Cut (n + 1) tokens front left → Cut n (t ∷ tokens) (p ∷ front) left
 cut-more n t tokens p front left same c =
@@ -32,7 +32,7 @@ cut-more n t tokens p front left same c =
       b = c.b;
       cut = ap (λ (l : List Token). t ∷ l) c.cut;
       before = λ o. ap (λ (q : Placed). q ∷ (front ++ o)) (sym same) ∙ ap (λ (l : List Placed). Put n t ∷ l) (c.before o);
-      after = c.after ∙ ap (λ (i : ℕ). numbered i c.b) e;
+      after = c.after ∙ ap (λ (i : ℕ). tokens_numbered i c.b) e;
     }
 
 head_of : Placed → List Placed → Placed
@@ -43,21 +43,21 @@ tail_of : List Placed → List Placed
 tail_of [] = []
 tail_of (p ∷ ps) = ps
 
-cut-at : (n : ℕ) (tokens : List Token) (front left : List Placed) → numbered n tokens ≡ front ++ left → Cut n tokens front left
+cut-at : (n : ℕ) (tokens : List Token) (front left : List Placed) → tokens_numbered n tokens ≡ front ++ left → Cut n tokens front left
 unfolding head_of tail_of
 cut-at n tokens [] left e =
     let nil : List Token = [] in
     let z : n ≡ n + length nil = omega arith in
-    record { a = []; b = tokens; cut = refl; before = λ o. refl; after = sym e ∙ ap (λ (i : ℕ). numbered i tokens) z }
+    record { a = []; b = tokens; cut = refl; before = λ o. refl; after = sym e ∙ ap (λ (i : ℕ). tokens_numbered i tokens) z }
 cut-at n [] (p ∷ front) left e = absurd cc
 cut-at n (t ∷ tokens) (p ∷ front) left e = cut-more n t tokens p front left (ap (head_of p) e) (cut-at (n + 1) tokens front left (ap tail_of e))
 
-onto-nil : (n : ℕ) (ts : List Token) → onto n ts [] ≡ numbered n ts
+onto-nil : (n : ℕ) (ts : List Token) → onto n ts [] ≡ tokens_numbered n ts
 onto-nil n [] = refl
 onto-nil n (t ∷ ts) = ap (λ (l : List Placed). Put n t ∷ l) (onto-nil (n + 1) ts)
 
-onto-numbered : (n i : ℕ) (a b : List Token) → i ≡ n + length a → onto n a (onto i b []) ≡ numbered n (a ++ b)
-onto-numbered n i [] b e = let z : i ≡ n = omega (arith, e) in onto-nil i b ∙ ap (λ (j : ℕ). numbered j b) z
+onto-numbered : (n i : ℕ) (a b : List Token) → i ≡ n + length a → onto n a (onto i b []) ≡ tokens_numbered n (a ++ b)
+onto-numbered n i [] b e = let z : i ≡ n = omega (arith, e) in onto-nil i b ∙ ap (λ (j : ℕ). tokens_numbered j b) z
 onto-numbered n i (t ∷ a) b e = ap (λ (l : List Placed). Put n t ∷ l) (onto-numbered (n + 1) i a b (omega (arith, e)))
 
 -- two texts that share a and t
@@ -65,15 +65,15 @@ pub record Sharing (n : ℕ) (a : List Token) (t : Token) (c more : List Token) 
   pub m : List Placed
   pub k : List Placed
   pub size : length m ≡ length c
-  pub alike : Alike m k (numbered n (a ++ (t ∷ c))) (numbered n ((a ++ (t ∷ [])) ++ more))
+  pub alike : Alike m k (tokens_numbered n (a ++ (t ∷ c))) (tokens_numbered n ((a ++ (t ∷ [])) ++ more))
 
 sharing : (n : ℕ) (a : List Token) (t : Token) (c more : List Token) → Sharing n a t c more
-sharing n [] t c more = record { m = numbered (n + 1) c; k = numbered (n + 1) more; size = length-numbered (n + 1) c; alike = here (Put n t) }
+sharing n [] t c more = record { m = tokens_numbered (n + 1) c; k = tokens_numbered (n + 1) more; size = length-numbered (n + 1) c; alike = here (Put n t) }
 sharing n (s ∷ a) t c more = let x = sharing (n + 1) a t c more in record {
   m = x.m;
   k = x.k;
   size = x.size;
-  alike = later (Put n s) (numbered (n + 1) (a ++ (t ∷ c))) (numbered (n + 1) ((a ++ (t ∷ [])) ++ more)) x.alike;
+  alike = later (Put n s) (tokens_numbered (n + 1) (a ++ (t ∷ c))) (tokens_numbered (n + 1) ((a ++ (t ∷ [])) ++ more)) x.alike;
 }
 
 no-end : (m k us : List Placed) → Alike m k us [] → ⊥
@@ -90,22 +90,22 @@ not-both m k left (Err l) tree e more (inl same) = same
 not-both m k left r tree e more (inr past) = let h : length (left_of r) ≡ length left = ap length e in let p = past.0 in absurd (omega (arith, h, p, more))
 
 -- the tokens before what is left begin a text, and no text begins with one more
-beyond-law : (tokens a b : List Token) (left : List Placed) → tokens ≡ a ++ b → left_of (source_at (numbered 0 tokens)) ≡ left → left ≡ numbered (0 + length a) b
+beyond-law : (tokens a b : List Token) (left : List Placed) → tokens ≡ a ++ b → left_of (source_at (tokens_numbered 0 tokens)) ≡ left → left ≡ tokens_numbered (0 + length a) b
     → (t : Token) (rest : List Token) → b ≡ t ∷ rest → Begins (a ++ t ∷ []) → ⊥
 beyond-law tokens a b left cut stop after t rest is begins =
     let x = sharing 0 a t rest begins.0 in
     let whole : tokens ≡ a ++ (t ∷ rest) = cut ∙ ap (λ (l : List Token). a ++ l) is in
-    let read : source_at (numbered 0 ((a ++ (t ∷ [])) ++ begins.0)) ≡ Ok (begins.1.0, []) = source-complete begins.1.1 refl in
-    let same : Both x.m x.k (source_at (numbered 0 tokens)) (Ok (begins.1.0, [])) =
-    subst (λ (r : Read (List PlainProgram)). Both x.m x.k (source_at (numbered 0 tokens)) r) read
-    (subst (λ (ts : List Token). Both x.m x.k (source_at (numbered 0 ts)) (source_at (numbered 0 ((a ++ (t ∷ [])) ++ begins.0)))) (sym whole)
-    (source-local.same x.m x.k (numbered 0 (a ++ (t ∷ rest))) (numbered 0 ((a ++ (t ∷ [])) ++ begins.0)) x.alike)) in
+    let read : source_at (tokens_numbered 0 ((a ++ (t ∷ [])) ++ begins.0)) ≡ Ok (begins.1.0, []) = source-complete begins.1.1 refl in
+    let same : Both x.m x.k (source_at (tokens_numbered 0 tokens)) (Ok (begins.1.0, [])) =
+    subst (λ (r : Read (List PlainProgram)). Both x.m x.k (source_at (tokens_numbered 0 tokens)) r) read
+    (subst (λ (ts : List Token). Both x.m x.k (source_at (tokens_numbered 0 ts)) (source_at (tokens_numbered 0 ((a ++ (t ∷ [])) ++ begins.0)))) (sym whole)
+    (source-local.same x.m x.k (tokens_numbered 0 (a ++ (t ∷ rest))) (tokens_numbered 0 ((a ++ (t ∷ [])) ++ begins.0)) x.alike)) in
     let l1 : length left ≡ length b = ap length after ∙ length-numbered (0 + length a) b in
     let l2 : length b ≡ length (t ∷ rest) = ap length is in
     let l3 = x.size in
-    not-both x.m x.k left (source_at (numbered 0 tokens)) begins.1.0 stop (omega (arith, l1, l2, l3)) same
+    not-both x.m x.k left (source_at (tokens_numbered 0 tokens)) begins.1.0 stop (omega (arith, l1, l2, l3)) same
 
-misfit-by : (tokens : List Token) (r : Read (List PlainProgram)) → source_at (numbered 0 tokens) ≡ r → Tells SpellsSource (numbered 0 tokens) r → (k : ℕ) × (IsMisfit tokens k × (length tokens ≡ k + length (left_of r)))
+misfit-by : (tokens : List Token) (r : Read (List PlainProgram)) → source_at (tokens_numbered 0 tokens) ≡ r → Tells SpellsSource (tokens_numbered 0 tokens) r → (k : ℕ) × (IsMisfit tokens k × (length tokens ≡ k + length (left_of r)))
 misfit-by tokens (Ok x) read t =
     let c = cut-at 0 tokens t.fronts.front x.1 (t.fronts.whole ∙ t.fronts.each x.1) in
     let l1 : length tokens ≡ length (c.a ++ c.b) = ap length c.cut in
@@ -151,8 +151,8 @@ misfit-by tokens (Err left) read v =
       ),
     )
 
-misfit-place : (tokens : List Token) → (k : ℕ) × (IsMisfit tokens k × (length tokens ≡ k + length (left_of (source_at (numbered 0 tokens)))))
-misfit-place tokens = misfit-by tokens (source_at (numbered 0 tokens)) refl (source-tells (numbered 0 tokens))
+misfit-place : (tokens : List Token) → (k : ℕ) × (IsMisfit tokens k × (length tokens ≡ k + length (left_of (source_at (tokens_numbered 0 tokens)))))
+misfit-place tokens = misfit-by tokens (source_at (tokens_numbered 0 tokens)) refl (source-tells (tokens_numbered 0 tokens))
 
 -- every list of tokens has a place at which it stops to begin a text
 pub misfit : (tokens : List Token) → (k : ℕ) × IsMisfit tokens k
@@ -163,7 +163,7 @@ pub record StopsAtMisfit (tokens : List Token) (left : List Placed) : Type 0 whe
   pub within : length left ≤ length tokens
   pub misfit : IsMisfit tokens (length tokens - length left)
 
-pub misfit-left : (tokens : List Token) (left : List Placed) → left_of (source_at (numbered 0 tokens)) ≡ left → StopsAtMisfit tokens left
+pub misfit-left : (tokens : List Token) (left : List Placed) → left_of (source_at (tokens_numbered 0 tokens)) ≡ left → StopsAtMisfit tokens left
 misfit-left tokens left stop =
     let x = misfit-place tokens in
     let place : length tokens ≡ x.0 + length left = subst (λ (ls : List Placed). length tokens ≡ x.0 + length ls) stop x.1.1 in

@@ -1,6 +1,6 @@
 -- From the reading of whole sources to what they spell.
 use Rattle.std.proofs.Common.{◌≡◌, ◌-◌, ℕ, List, [], length, Result, Ok, Err, refl, subst, ap, inl, inr}
-use Rattle.htl_text.specs.Placed.{Placed, numbered}
+use Rattle.htl_text.specs.Placed.{Placed, tokens_numbered}
 use Rattle.htl_text.specs.Nodes.{PlainProgram, tree_of}
 use Rattle.htl_text.specs.Statements.{SpellsSource}
 use Rattle.htl_parse.specs.Reading.{Read, left_of}
@@ -51,15 +51,15 @@ read-whole ts t s = source-complete s refl
 abbrev pub IsStopped : List Placed → List Placed → Type 0
 IsStopped left ts = (left_of (source_at ts) ≡ left) × ((t : List PlainProgram) → source_at ts ≡ Ok (t, []) → ⊥)
 
-pub stopped : (tokens : List Token) (left : List Placed) → IsStopped left (numbered 0 tokens) → IsTree tokens (Err (fault.Syntax (length tokens - length left)))
-stopped tokens left stop = (λ t s. stop.1 t (read-whole (numbered 0 tokens) t s), (misfit-left tokens left stop.0).misfit)
+pub stopped : (tokens : List Token) (left : List Placed) → IsStopped left (tokens_numbered 0 tokens) → IsTree tokens (Err (fault.Syntax (length tokens - length left)))
+stopped tokens left stop = (λ t s. stop.1 t (read-whole (tokens_numbered 0 tokens) t s), (misfit-left tokens left stop.0).misfit)
 
 -- at most one tree spells a list of tokens
 pub one_tree-law : (ts : List Placed) (t u : List PlainProgram) → SpellsSource ts t [] → SpellsSource ts u [] → t ≡ u
 one_tree-law ts t u one two = (read-same (source_at ts) t u [] [] (read-whole ts t one) (read-whole ts u two)).0
 
 pub tells-tree : (tokens : List Token) (result : Result Tree ParseFault) → IsParsed tokens result → TellsTree tokens result
-tells-tree tokens (Ok t) is = λ tree short s. one_tree-law (numbered 0 tokens) (tree_of t) tree is.1 s
+tells-tree tokens (Ok t) is = λ tree short s. one_tree-law (tokens_numbered 0 tokens) (tree_of t) tree is.1 s
 tells-tree tokens (Err (fault.Syntax k)) is = λ tree short s. is.1.0 tree s
 tells-tree tokens (Err fault.Memory) is = λ tree short s. tt
 tells-tree tokens (Err (fault.Long k)) is = λ tree short s. short k is.long

@@ -1,7 +1,7 @@
 -- What the parser answers.
 use Rattle.std.specs.Prelude.{ℕ, ◌≡◌, Result, Ok, Err, List, [], ◌∷◌, ◌++◌, length, ◌⊎◌}
 use Rattle.htl_text.specs.Nodes.{PlainProgram, tree_of}
-use Rattle.htl_text.specs.Placed.{numbered}
+use Rattle.htl_text.specs.Placed.{tokens_numbered}
 use Rattle.htl_text.specs.Statements.{SpellsSource}
 use Rattle.htl_text.specs.declared.token.Token.{Token}
 use Rattle.htl_text.specs.declared.tree.Tree.{Tree}
@@ -11,7 +11,7 @@ use Rattle.htl_parse.specs.declared.parser.ParseFault.TheVariants as fault
 
 -- the tokens, numbered from 0, spell this tree, all of them
 abbrev pub Spell : List Token → List PlainProgram → Type 0
-Spell tokens tree = SpellsSource (numbered 0 tokens) tree []
+Spell tokens tree = SpellsSource (tokens_numbered 0 tokens) tree []
 
 -- no tree is spelled
 abbrev pub SpellNone : List Token → Type 0

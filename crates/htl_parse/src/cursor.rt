@@ -1,6 +1,6 @@
 // The tokens that are left to read.
 ghost use Rattle.std.specs.Prelude.{◌≡◌, ◌≤◌, ◌∷◌, [], Some, length, IfSome};
-ghost use Rattle.htl_text.specs.Placed.{Placed, Put, numbered};
+ghost use Rattle.htl_text.specs.Placed.{Placed, Put, tokens_numbered};
 ghost use Rattle.htl_text.specs.Grammar.{prefix_of};
 ghost use Rattle.htl_text.specs.declared.token.Kind.TheVariants as kind;
 ghost use Rattle.htl_parse.specs.Cursors.{next_kind, NextIs, behind, IsDone, IsSimple, Passes, PassesOperator, PassesBinary, Stands, Gives};
@@ -24,11 +24,11 @@ pub struct Cursor<'a> {
 
 impl<'a> Model for Cursor<'a> {
     ghost use Rattle.std.specs.Prelude.{List, length, drop, ◌≤◌};
-    ghost use Rattle.htl_text.specs.Placed.{Placed, numbered};
+    ghost use Rattle.htl_text.specs.Placed.{Placed, tokens_numbered};
 
     ghost Value = { List Placed };
 
-    ghost view = { λ c. numbered c.place (drop c.place c.tokens.now.tokens) };
+    ghost view = { λ c. tokens_numbered c.place (drop c.place c.tokens.now.tokens) };
 
     ghost invariant = { λ c. (c.place ≤ length c.tokens.now.tokens) × (length c.tokens.now.tokens ≤ 1048576) };
 }
@@ -36,7 +36,7 @@ impl<'a> Model for Cursor<'a> {
 impl<'a> Cursor<'a> {
     /// Before the first token.
     pub fn new(tokens: &'a Tokens) -> Cursor<'a>
-        ensures { result ≡ numbered 0 tokens.now.tokens }
+        ensures { result ≡ tokens_numbered 0 tokens.now.tokens }
     {
         let _short = tokens.len();
         Cursor { tokens, place: 0 }

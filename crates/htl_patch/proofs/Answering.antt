@@ -4,9 +4,9 @@ use Rattle.htl_load.specs.Alike.{AskTheSame}
 use Rattle.htl_model.specs.Broken.{KeepsLimits}
 use Rattle.htl_model.specs.Tables.{Tables}
 use Rattle.htl_object.specs.Accepted.{IsAccepted}
-use Rattle.htl_object.specs.Ranges.{IsInRange, IsCode}
+use Rattle.htl_object.specs.Ranges.{IsInRange, IsFunctionCode}
 use Rattle.htl_object.specs.declared.object.Object.{Object}
-use Rattle.htl_patch.specs.Answering.{IsPatched, IsHandedBackBy, IsPatchStop, IsPatchedAs, IsRefusedFor}
+use Rattle.htl_patch.specs.Answering.{IsPatched, IsHandedBackBy, IsPatchStop, IsPatchedAs, PatchIsRefusedFor}
 use Rattle.htl_patch.specs.Joining.{mode_named, graft_by, graft_of, Joins}
 use Rattle.htl_patch.specs.Object.{patched_object, CanPatch}
 use Rattle.htl_patch.specs.Patched.{patched}
@@ -83,11 +83,11 @@ module _ (o d : Object) (unit mode : List ℕ) (g : Graft) (is : graft_of o.tabl
       let w : IsAcceptedWith o (patched g) l = subst (λ (u : Tables). IsAcceptedWith o u l) same h in (g, record { modes = is; joins = j; formed = w.1; functions = w.2 }, w.0)
 
   -- what accepting them asks for
-  pub given : (t : Tables) → t ≡ patched g → Joins g → IsAccepted o → IsInRange d → KeepsLimits t × All IsCode t.functions × AskTheSame t o.tables
+  pub given : (t : Tables) → t ≡ patched g → Joins g → IsAccepted o → IsInRange d → KeepsLimits t × All IsFunctionCode t.functions × AskTheSame t o.tables
   given t same j accepted range =
       let graft_of_both = graft_is o.tables d.tables unit mode g is in (
         subst KeepsLimits (sym same) (tables_keep_limits o d accepted range g graft_of_both j),
-        subst (λ (u : Tables). All IsCode u.functions) (sym same) (tables_are_code o d accepted range g graft_of_both j),
+        subst (λ (u : Tables). All IsFunctionCode u.functions) (sym same) (tables_are_code o d accepted range g graft_of_both j),
         subst (λ (u : Tables). AskTheSame u o.tables) (sym same) (ask_the_same o d accepted range g graft_of_both j),
       )
 
@@ -110,7 +110,7 @@ module _ (o d : Object) (unit mode : List ℕ) (accepted : IsAccepted o) (range 
   only (Err (stop.Refused f t)) p s g can = patch_not_refused o d unit mode g f can s.0
   only (Err stop.Memory) p s g can = tt
 
-  pub refused : (r : Result Object PatchStop) → IfOk r (IsPatched o d unit mode) → IfErr r (IsPatchStop o d unit mode) → (f : PatchFault) → IsPatchFault o d unit mode f → IsRefusedFor f r
+  pub refused : (r : Result Object PatchStop) → IfOk r (IsPatched o d unit mode) → IfErr r (IsPatchStop o d unit mode) → (f : PatchFault) → IsPatchFault o d unit mode f → PatchIsRefusedFor f r
   refused (Ok l) p s f h = patch_not_refused o d unit mode p.0 f p.1 h
   refused (Err (stop.Refused h t)) p s f e = one_patch_fault o d unit mode accepted range f h e s.0
   refused (Err stop.Memory) p s f e = tt

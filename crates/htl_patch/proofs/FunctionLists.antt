@@ -9,7 +9,7 @@ use Rattle.htl_model.specs.Tables.{Tables, Fun, fun_of, function_count, count_at
 use Rattle.htl_model.specs.declared.function.Function.{Function}
 use Rattle.htl_model.specs.declared.parts.Task.{Task}
 use Rattle.htl_object.proofs.FunctionPlaces.{task_there}
-use Rattle.htl_object.specs.Ranges.{IsCode}
+use Rattle.htl_object.specs.Ranges.{IsFunctionCode}
 use Rattle.htl_patch.specs.Firsts.{first_function, firsts_of}
 use Rattle.htl_patch.specs.Renumbered.{functions_of}
 use Rattle.htl_patch.proofs.Grafting.{all_at}
@@ -25,8 +25,8 @@ function_there fs held k f same less is =
     ap (λ (xs : List Fun). slice_get xs k) same
     ∙ get_map fun_of held k f (slice_get-get_or held k f (omega (arith, less, size, count)) ∙ ap (λ (x : Function). Some x) (sym is))
 
-pub function_is_code : (fs : List Fun) (held : List Function) (k : ℕ) (f : Function) → All IsCode fs → fs ≡ map fun_of held → k < length fs → f ≡ get_or held k f → IsCode (fun_of f)
-function_is_code fs held k f all same less is = all_at IsCode fs k (fun_of f) all (function_there fs held k f same less is)
+pub function_is_code : (fs : List Fun) (held : List Function) (k : ℕ) (f : Function) → All IsFunctionCode fs → fs ≡ map fun_of held → k < length fs → f ≡ get_or held k f → IsFunctionCode (fun_of f)
+function_is_code fs held k f all same less is = all_at IsFunctionCode fs k (fun_of f) all (function_there fs held k f same less is)
 
 take_one : {A : Type 0} (first k : ℕ) (xs : List A) (x : A) → slice_get xs (first + k) ≡ Some x → take (k + 1) (drop first xs) ≡ take k (drop first xs) ++ x ∷ []
 take_one {A} zero k xs x e =

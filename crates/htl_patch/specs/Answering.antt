@@ -32,7 +32,7 @@ IsPatchedAs o (Err (stop.Refused f t)) = ⊥
 IsPatchedAs o (Err stop.Memory) = Unit {0}
 
 -- refused for this fault, unless memory runs out
-abbrev pub IsRefusedFor : PatchFault → Result Object PatchStop → Type 0
-IsRefusedFor f (Ok l) = ⊥
-IsRefusedFor f (Err (stop.Refused h t)) = f ≡ h
-IsRefusedFor f (Err stop.Memory) = Unit {0}
+abbrev pub PatchIsRefusedFor : PatchFault → Result Object PatchStop → Type 0
+PatchIsRefusedFor f (Ok l) = ⊥
+PatchIsRefusedFor f (Err (stop.Refused h t)) = f ≡ h
+PatchIsRefusedFor f (Err stop.Memory) = Unit {0}

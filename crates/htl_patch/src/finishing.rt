@@ -3,7 +3,7 @@ ghost use Rattle.std.specs.Prelude.{◌≡◌, All, IfOk, IfErr, OnOk};
 ghost use Rattle.htl_load.specs.Alike.{AskTheSame};
 ghost use Rattle.htl_model.specs.Broken.{Formed, IsFirstBroken, KeepsLimits};
 ghost use Rattle.htl_object.specs.Accepted.{IsAccepted};
-ghost use Rattle.htl_object.specs.Ranges.{IsCode};
+ghost use Rattle.htl_object.specs.Ranges.{IsFunctionCode};
 ghost use Rattle.htl_patch.specs.Stops.{IsTablesStop, IsAcceptedWith, object_with, IsMisfit, misfit_of};
 
 use crate::fault::{PatchFault, PatchStop};
@@ -75,7 +75,7 @@ fn misfit(fault: ObjectFault) -> PatchFault
 /// doesn't fit its place, with the first.
 pub(crate) fn accept(alloc: Global, o: &Loaded, t: Tables) -> Result<Loaded, PatchStop>
     requires limits { KeepsLimits t }
-    requires coded { All IsCode t.functions }
+    requires coded { All IsFunctionCode t.functions }
     requires same { AskTheSame t o.now.tables }
     ensures accepted { IfOk result (λ l. IsAcceptedWith o.now t l) }
     ensures whole { IfOk result IsAccepted }

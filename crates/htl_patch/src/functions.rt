@@ -2,7 +2,7 @@
 ghost use Rattle.std.specs.Prelude.{◌≡◌, ◌<◌, ◌≤◌, ◌+◌, ◌-◌, ◌++◌, ◌∷◌, [], All, length, map, slice_get, take, drop, OnOk, IfOk};
 ghost use Rattle.std.specs.List.{flat_map};
 ghost use Rattle.htl_model.specs.Tables.{fun_of, count_at};
-ghost use Rattle.htl_object.specs.Ranges.{IsCode};
+ghost use Rattle.htl_object.specs.Ranges.{IsFunctionCode};
 ghost use Rattle.htl_patch.specs.Firsts.{firsts_of};
 ghost use Rattle.htl_patch.specs.Numbers.{numbering_of};
 ghost use Rattle.htl_patch.specs.Patched.{new_numbers, patched};
@@ -30,7 +30,7 @@ fn copied_code(alloc: Global, code: &Code) -> Result<Code, AllocError>
 }
 
 fn copied_function(alloc: Global, f: &Function) -> Result<Function, AllocError>
-    requires { IsCode (fun_of f.now) }
+    requires { IsFunctionCode (fun_of f.now) }
     ensures { IfOk result (λ y. fun_of y ≡ fun_of f.now) }
 {
     match f {
@@ -50,7 +50,7 @@ fn push_functions(
     count: usize,
     into: &mut Vec<Function>,
 ) -> Result<(), AllocError>
-    requires coded { All IsCode t.now.functions }
+    requires coded { All IsFunctionCode t.now.functions }
     requires within { first + count ≤ length t.now.functions }
     ensures { OnOk result (map fun_of into.new.items ≡ map fun_of into.old.items ++ take count (drop first t.now.functions)) }
 {
@@ -94,7 +94,7 @@ pub(crate) fn push_of_task(
     k: usize,
     into: &mut Vec<Function>,
 ) -> Result<(), AllocError>
-    requires coded { All IsCode t.now.functions }
+    requires coded { All IsFunctionCode t.now.functions }
     requires firsts { firsts.now ≡ firsts_of t.now }
     requires within { k < length t.now.tasks }
     ensures { OnOk result (map fun_of into.new.items ≡ map fun_of into.old.items ++ functions_of t.now k) }
@@ -120,8 +120,8 @@ fn push_output(
     k: usize,
     into: &mut Vec<Function>,
 ) -> Result<(), AllocError>
-    requires coded { All IsCode g.now.host.now.functions }
-    requires donor_coded { All IsCode g.now.donor.now.functions }
+    requires coded { All IsFunctionCode g.now.host.now.functions }
+    requires donor_coded { All IsFunctionCode g.now.donor.now.functions }
     requires firsts { firsts.now.host.now ≡ firsts_of g.now.host.now }
     requires donor_firsts { firsts.now.donor.now ≡ firsts_of g.now.donor.now }
     requires within { k < length (united (graft g.now.host.now g.now.donor.now g.now.into g.now.from)).tasks }
@@ -145,8 +145,8 @@ fn push_outputs(
     keys: &[u16],
     into: &mut Vec<Function>,
 ) -> Result<(), AllocError>
-    requires coded { All IsCode g.now.host.now.functions }
-    requires donor_coded { All IsCode g.now.donor.now.functions }
+    requires coded { All IsFunctionCode g.now.host.now.functions }
+    requires donor_coded { All IsFunctionCode g.now.donor.now.functions }
     requires firsts { firsts.now.host.now ≡ firsts_of g.now.host.now }
     requires donor_firsts { firsts.now.donor.now ≡ firsts_of g.now.donor.now }
     requires within { All (λ x. x < length (united (graft g.now.host.now g.now.donor.now g.now.into g.now.from)).tasks) keys.now }
@@ -175,7 +175,7 @@ fn push_of_switch(
     k: usize,
     into: &mut Vec<Function>,
 ) -> Result<(), AllocError>
-    requires coded { All IsCode t.now.functions }
+    requires coded { All IsFunctionCode t.now.functions }
     requires within { k < length t.now.switches }
     ensures { OnOk result (map fun_of into.new.items ≡ map fun_of into.old.items ++ function_of_switch t.now k ∷ []) }
 {
@@ -191,8 +191,8 @@ fn push_switch(
     k: usize,
     into: &mut Vec<Function>,
 ) -> Result<(), AllocError>
-    requires coded { All IsCode g.now.host.now.functions }
-    requires donor_coded { All IsCode g.now.donor.now.functions }
+    requires coded { All IsFunctionCode g.now.host.now.functions }
+    requires donor_coded { All IsFunctionCode g.now.donor.now.functions }
     requires within { k < length (united (graft g.now.host.now g.now.donor.now g.now.into g.now.from)).switches }
     ensures { OnOk result (map fun_of into.new.items ≡ map fun_of into.old.items ++ function_of_switch (united (graft g.now.host.now g.now.donor.now g.now.into g.now.from)) k ∷ []) }
 {
@@ -213,8 +213,8 @@ fn push_switches(
     keys: &[u16],
     into: &mut Vec<Function>,
 ) -> Result<(), AllocError>
-    requires coded { All IsCode g.now.host.now.functions }
-    requires donor_coded { All IsCode g.now.donor.now.functions }
+    requires coded { All IsFunctionCode g.now.host.now.functions }
+    requires donor_coded { All IsFunctionCode g.now.donor.now.functions }
     requires within { All (λ x. x < length (united (graft g.now.host.now g.now.donor.now g.now.into g.now.from)).switches) keys.now }
     ensures { OnOk result (map fun_of into.new.items ≡ map fun_of into.old.items ++ map (function_of_switch (united (graft g.now.host.now g.now.donor.now g.now.into g.now.from))) keys.now) }
 {
@@ -230,8 +230,8 @@ pub(crate) fn new_functions(
     g: &Graft<'_>,
     n: &OldNumbers,
 ) -> Result<Vec<Function>, AllocError>
-    requires coded { All IsCode g.now.host.now.functions }
-    requires donor_coded { All IsCode g.now.donor.now.functions }
+    requires coded { All IsFunctionCode g.now.host.now.functions }
+    requires donor_coded { All IsFunctionCode g.now.donor.now.functions }
     requires numbers { numbering_of n.now ≡ new_numbers (graft g.now.host.now g.now.donor.now g.now.into g.now.from) }
     ensures { IfOk result (λ v. map fun_of v.items ≡ (patched (graft g.now.host.now g.now.donor.now g.now.into g.now.from)).functions) }
 {

@@ -2,7 +2,7 @@
 ghost use Rattle.std.specs.Prelude.{◌≡◌, ◌<◌, All, length, IfOk, IfErr};
 ghost use Rattle.htl_object.specs.Accepted.{IsAccepted};
 ghost use Rattle.htl_object.specs.Ranges.{IsInRange};
-ghost use Rattle.htl_patch.specs.Answering.{IsPatched, IsPatchStop, IsPatchedAs, IsRefusedFor};
+ghost use Rattle.htl_patch.specs.Answering.{IsPatched, IsPatchStop, IsPatchedAs, PatchIsRefusedFor};
 ghost use Rattle.htl_patch.specs.Object.{patched_object, CanPatch};
 ghost use Rattle.htl_patch.specs.Stops.{IsPatchFault};
 ghost use Rattle.htl_patch.specs.United.{Graft as GraftOf};
@@ -76,7 +76,7 @@ pub fn patch(
     ensures accepted { IfOk result IsAccepted }
     ensures fault { IfErr result (IsPatchStop o.now donor.now unit.now mode.now) }
     ensures only { (g : GraftOf) → CanPatch o.now donor.now unit.now mode.now g → IsPatchedAs (patched_object o.now g) result }
-    ensures refused { (f : FaultOf) → IsPatchFault o.now donor.now unit.now mode.now f → IsRefusedFor f result }
+    ensures refused { (f : FaultOf) → IsPatchFault o.now donor.now unit.now mode.now f → PatchIsRefusedFor f result }
 {
     let _host = o.object();
     replaced(alloc, o, unit, mode, donor)

@@ -2,7 +2,7 @@
 ghost use Rattle.std.specs.Prelude.{◌≡◌, ◌<◌, All, length, IfOk, MatchResult};
 ghost use Rattle.htl_model.specs.Broken.{Formed};
 ghost use Rattle.htl_model.specs.Ranges.{AreInRange};
-ghost use Rattle.htl_object.specs.Ranges.{IsCode};
+ghost use Rattle.htl_object.specs.Ranges.{IsFunctionCode};
 ghost use Rattle.htl_patch.specs.Calls.{calls_for as calls_for_of};
 ghost use Rattle.htl_patch.specs.Joining.{Joins};
 ghost use Rattle.htl_patch.specs.Numbers.{numbering_of};
@@ -80,8 +80,8 @@ fn assembled(
     requires numbers { numbering_of n.now ≡ new_numbers (graft g.now.host.now g.now.donor.now g.now.into g.now.from) }
     requires places { ArePlaces (united (graft g.now.host.now g.now.donor.now g.now.into g.now.from)) (new_numbers (graft g.now.host.now g.now.donor.now g.now.into g.now.from)) p.now }
     requires calls { calls.now ≡ calls_for_of (graft g.now.host.now g.now.donor.now g.now.into g.now.from) }
-    requires coded { All IsCode g.now.host.now.functions }
-    requires donor_coded { All IsCode g.now.donor.now.functions }
+    requires coded { All IsFunctionCode g.now.host.now.functions }
+    requires donor_coded { All IsFunctionCode g.now.donor.now.functions }
     requires modules { heads.modules.items ≡ (patched (graft g.now.host.now g.now.donor.now g.now.into g.now.from)).modules }
     requires modes { heads.modes.items ≡ (patched (graft g.now.host.now g.now.donor.now g.now.into g.now.from)).modes }
     requires ranges { AreInRange (patched (graft g.now.host.now g.now.donor.now g.now.into g.now.from)) }
@@ -113,8 +113,8 @@ pub(crate) fn grafted(
     requires into { g.now.into < length g.now.host.now.modes }
     requires from { g.now.from < length g.now.donor.now.modes }
     requires formed { Formed g.now.host.now }
-    requires coded { All IsCode g.now.host.now.functions }
-    requires donor_coded { All IsCode g.now.donor.now.functions }
+    requires coded { All IsFunctionCode g.now.host.now.functions }
+    requires donor_coded { All IsFunctionCode g.now.donor.now.functions }
     ensures { IfOk result (λ r. MatchResult r (λ t. (t ≡ patched (graft g.now.host.now g.now.donor.now g.now.into g.now.from)) × Joins (graft g.now.host.now g.now.donor.now g.now.into g.now.from)) (IsEarlyFault (graft g.now.host.now g.now.donor.now g.now.into g.now.from))) }
 {
     g.host.keeps_ranges();

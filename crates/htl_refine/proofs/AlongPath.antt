@@ -16,7 +16,7 @@ use Rattle.htl_model.specs.Tables.{Tables}
 use Rattle.htl_walk.specs.PathJobs.{placed_job, placed_jobs, legs_of, legs}
 use Rattle.htl_walk.specs.Paths.{AreWithin}
 use Rattle.htl_form.proofs.PartLaws.{none_some}
-use Rattle.htl_refine.specs.DerivedPaths.{derived_place, derived_jobs, start_places, standing_place, begun_places, begun_jobs, modes_at, IsAlong}
+use Rattle.htl_refine.specs.DerivedPaths.{derived_place, derived_jobs, start_places, standing_place, begun_places, begun_jobs, start_modes, IsAlong}
 use Rattle.htl_refine.proofs.BegunTimes.{start_below, started_at}
 use Rattle.htl_refine.proofs.Inherit.{mapped}
 use Rattle.htl_refine.proofs.Members.{of_joined, of_flat}
@@ -197,19 +197,19 @@ module _ (t : Tables) where
     | inr f ↦ let j = root_at ms as' f.0 x f.1 in (suc j.0, j.1)
   ]
 
-  stands_as : (ms : List (List (Option ℕ))) (as' : List ℕ) → AreRising as' → begun_places t ms as' ≡ map (derived_place t (modes_at ms as')) (root_places t ms as')
+  stands_as : (ms : List (List (Option ℕ))) (as' : List ℕ) → AreRising as' → begun_places t ms as' ≡ map (derived_place t (start_modes ms as')) (root_places t ms as')
   stands_as [] as' r = refl
   stands_as (m ∷ ms) [] r = refl
   stands_as (m ∷ ms) (a ∷ as') r =
       let xs = start_places t m a (root_modules t) in
       let ys = root_places t ms as' in
-      let whole = modes_at (m ∷ ms) (a ∷ as') in
+      let whole = start_modes (m ∷ ms) (a ∷ as') in
       let here : map (standing_place t m) xs ≡ map (derived_place t whole) xs =
-      same_map (standing_place t m) (derived_place t whole) xs (λ p x e. by_modes x m (whole x.at) (sym (ap (λ b. cond b m (modes_at ms as' x.at)) (eq-eqb x.at a (started_at t m a (root_modules t) p x e))))) in
-      let later : map (derived_place t (modes_at ms as')) ys ≡ map (derived_place t whole) ys =
-      same_map (derived_place t (modes_at ms as')) (derived_place t whole) ys (λ p x e.
+      same_map (standing_place t m) (derived_place t whole) xs (λ p x e. by_modes x m (whole x.at) (sym (ap (λ b. cond b m (start_modes ms as' x.at)) (eq-eqb x.at a (started_at t m a (root_modules t) p x e))))) in
+      let later : map (derived_place t (start_modes ms as')) ys ≡ map (derived_place t whole) ys =
+      same_map (derived_place t (start_modes ms as')) (derived_place t whole) ys (λ p x e.
       let above = r.0 x.at (root_at ms as' p x e) in
-      by_modes x (modes_at ms as' x.at) (whole x.at) (sym (ap (λ b. cond b m (modes_at ms as' x.at)) (ne_eqb x.at a (λ same. omega (arith, above, same)))))) in
+      by_modes x (start_modes ms as' x.at) (whole x.at) (sym (ap (λ b. cond b m (start_modes ms as' x.at)) (ne_eqb x.at a (λ same. omega (arith, above, same)))))) in
       ap (λ zs. zs ++ begun_places t ms as') here ∙ ap (λ zs. map (derived_place t whole) xs ++ zs) (stands_as ms as' r.1 ∙ later) ∙ sym (map_join (derived_place t whole) xs ys)
     where
       by_modes : (x : Place) (p q : List (Option ℕ)) → p ≡ q → standing_place t p x ≡ standing_place t q x
@@ -226,15 +226,15 @@ module _ (t : Tables) (path : ℕ) (sels : List (List (Option ℕ))) (few : leng
   rising = starts_rise (root_periods t) (frame_of t)
 
   as_many : length (begun_places t sels (starts t)) ≡ length (root_places t sels (starts t))
-  as_many = ap (λ (xs : List Place). length xs) (stands_as t sels (starts t) rising) ∙ length-map (root_places t sels (starts t)) (derived_place t (modes_at sels (starts t)))
+  as_many = ap (λ (xs : List Place). length xs) (stands_as t sels (starts t) rising) ∙ length-map (root_places t sels (starts t)) (derived_place t (start_modes sels (starts t)))
 
   front : (n : ℕ) → n ≡ length (begun_places t sels (starts t)) → take n (path_places t path) ≡ root_places t sels (starts t)
   front n e = ap (take n) (along_whole t path sels few along) ∙ take_front (root_places t sels (starts t)) _ n (e ∙ as_many)
 
-  pub jobs_along : (n : ℕ) → n ≡ length (begun_jobs t sels) → begun_jobs t sels ≡ derived_jobs t (modes_at sels (starts t)) (take n (path_places t path))
+  pub jobs_along : (n : ℕ) → n ≡ length (begun_jobs t sels) → begun_jobs t sels ≡ derived_jobs t (start_modes sels (starts t)) (take n (path_places t path))
   jobs_along n e =
-      let places : begun_places t sels (starts t) ≡ map (derived_place t (modes_at sels (starts t))) (take n (path_places t path)) =
-      stands_as t sels (starts t) rising ∙ sym (ap (map (derived_place t (modes_at sels (starts t)))) (front n (e ∙ many))) in
+      let places : begun_places t sels (starts t) ≡ map (derived_place t (start_modes sels (starts t))) (take n (path_places t path)) =
+      stands_as t sels (starts t) rising ∙ sym (ap (map (derived_place t (start_modes sels (starts t)))) (front n (e ∙ many))) in
       ap (placed_jobs t) places
     where
       many : length (begun_jobs t sels) ≡ length (begun_places t sels (starts t))

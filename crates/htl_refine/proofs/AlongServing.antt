@@ -14,20 +14,20 @@ use Rattle.htl_walk.specs.Paths.{IsPathAccepted, AreWithin}
 use Rattle.htl_walk.specs.Refinement.{HaveLengths, AreWithinWorst}
 use Rattle.htl_walk.proofs.Nodes.{some_root}
 use Rattle.htl_walk.proofs.Starts.{legs_follow}
-use Rattle.htl_refine.specs.DerivedPaths.{derived_jobs, begun_places, begun_jobs, modes_at, IsAlong}
+use Rattle.htl_refine.specs.DerivedPaths.{derived_jobs, begun_places, begun_jobs, start_modes, IsAlong}
 use Rattle.htl_refine.proofs.AlongPath.{jobs_along, legs_reached}
 use Rattle.htl_refine.proofs.PathDerived.{path_refinement}
 use Rattle.htl_refine.proofs.PathServing.{path_serves}
 
 module _ (t : Tables) (path : ℕ) (sels : List (List (Option ℕ))) (out : List Job) (range : AreInRange t) (kept : KeptApart t 16) (few : length sels ≤ length (starts t)) (along : IsAlong t path sels) (is : out ≡ begun_jobs t sels) where
   abbrev derived : List Job
-  derived = derived_jobs t (modes_at sels (starts t)) (take (length (begun_jobs t sels)) (path_places t path))
+  derived = derived_jobs t (start_modes sels (starts t)) (take (length (begun_jobs t sels)) (path_places t path))
 
   whole : out ≡ derived
   whole = is ∙ jobs_along t path sels few along (length (begun_jobs t sels)) refl
 
   pub refines_along : RefinesFront out (path_jobs t path)
-  refines_along = subst (λ js. RefinesFront js (path_jobs t path)) (sym whole) (path_refinement t path (length (begun_jobs t sels)) (modes_at sels (starts t)) range kept)
+  refines_along = subst (λ js. RefinesFront js (path_jobs t path)) (sym whole) (path_refinement t path (length (begun_jobs t sels)) (start_modes sels (starts t)) range kept)
 
   pub serves_along : path < paths t → (k : ℕ) → k ≡ length sels → (lengths : List ℕ) (ss : List (List SInstr)) → HaveLengths out lengths → AreWithinWorst out lengths → IsPathAccepted (path_jobs t path) (legs t path) ss
       → IsInherited out (path_jobs t path) lengths ss (legs t path) k
@@ -36,5 +36,5 @@ module _ (t : Tables) (path : ℕ) (sels : List (List (Option ℕ))) (out : List
       let many : length derived ≡ length (begun_places t sels (starts t)) = ap (λ (js : List Job). length js) (sym whole ∙ is) ∙ length-map (begun_places t sels (starts t)) (placed_job t (begun_places t sels (starts t))) in
       let within : AreWithin (length derived) (take k (legs t path)) = subst (λ n. AreWithin (length derived) (take n (legs t path))) (sym e) (legs_reached t path sels few along (length derived) many) in
       subst (λ js. IsInherited js (path_jobs t path) lengths ss (legs t path) k) (sym whole)
-      (path_serves t path (length (begun_jobs t sels)) k (modes_at sels (starts t)) lengths ss range kept (subst (λ js. HaveLengths js lengths) whole least) (subst (λ js. AreWithinWorst js lengths) whole most)
+      (path_serves t path (length (begun_jobs t sels)) k (start_modes sels (starts t)) lengths ss range kept (subst (λ js. HaveLengths js lengths) whole least) (subst (λ js. AreWithinWorst js lengths) whole most)
       (legs_follow t path root (frame_some t range root)) within accepted)

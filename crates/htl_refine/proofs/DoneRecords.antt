@@ -3,7 +3,7 @@ use Rattle.std.proofs.Common.{◌≡◌, ℕ, zero, suc, ◌<◌, Bool, true, fa
 use Rattle.std.proofs.lemmas.Bool.{ltb-true}
 use Rattle.htl_walk.specs.Walk.{Left, is_position, finish}
 use Rattle.htl_walk.proofs.Finishes.{some_same}
-use Rattle.htl_refine.specs.RecordCounts.{count_before, done_by}
+use Rattle.htl_refine.specs.RecordCounts.{count_left_before, done_by}
 use Rattle.htl_refine.proofs.RecordOrder.{not_some}
 
 -- who is done finishes then
@@ -25,17 +25,17 @@ done_some ls k p e = by_case (finish (take k ls) p) refl e
     by_case (Some f) is g = (f, is)
 
 -- who is done by the records before an offset finishes before it
-done_before : (e : ℕ) (ls : List Left) (p f : ℕ) → finish (take (count_before e ls) ls) p ≡ Some f → f < e
+done_before : (e : ℕ) (ls : List Left) (p f : ℕ) → finish (take (count_left_before e ls) ls) p ≡ Some f → f < e
 done_before e [] p f h = not_some f h
 done_before e (m ∷ ls) p f h = by_test (ltb m.at e) refl h (λ g. done_before e ls p f g)
   where
-    by_test : (b : Bool) → ltb m.at e ≡ b → finish (take (cond b (suc (count_before e ls)) 0) (m ∷ ls)) p ≡ Some f → (finish (take (count_before e ls) ls) p ≡ Some f → f < e) → f < e
+    by_test : (b : Bool) → ltb m.at e ≡ b → finish (take (cond b (suc (count_left_before e ls)) 0) (m ∷ ls)) p ≡ Some f → (finish (take (count_left_before e ls) ls) p ≡ Some f → f < e) → f < e
     by_test false is g ih = not_some f g
     by_test true is g ih = by_record (is_position m.position p && m.finished) g
       where
-        by_record : (b : Bool) → cond b (Some m.at) (finish (take (count_before e ls) ls) p) ≡ Some f → f < e
+        by_record : (b : Bool) → cond b (Some m.at) (finish (take (count_left_before e ls) ls) p) ≡ Some f → f < e
         by_record true k = omega (arith, ltb-true m.at e is, some_same _ _ k)
         by_record false k = ih k
 
-pub done_is : (e : ℕ) (ls : List Left) (p : ℕ) → done_by ls (count_before e ls) p ≡ true → (f : ℕ) × (finish ls p ≡ Some f) × (f < e)
-done_is e ls p h = let d = done_some ls (count_before e ls) p h in (d.0, done_finish ls (count_before e ls) p d.0 d.1, done_before e ls p d.0 d.1)
+pub done_is : (e : ℕ) (ls : List Left) (p : ℕ) → done_by ls (count_left_before e ls) p ≡ true → (f : ℕ) × (finish ls p ≡ Some f) × (f < e)
+done_is e ls p h = let d = done_some ls (count_left_before e ls) p h in (d.0, done_finish ls (count_left_before e ls) p d.0 d.1, done_before e ls p d.0 d.1)

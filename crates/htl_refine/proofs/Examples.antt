@@ -25,21 +25,21 @@ use Rattle.htl_walk.specs.declared.schedule.SInstr.TheVariants.{Dispatch, End as
 use Rattle.htl_walk.specs.Jobs.{absent_job, abstract_jobs}
 use Rattle.htl_walk.specs.Walk.{Left}
 use Rattle.htl_refine.specs.ConcreteJobs.{concrete_jobs}
-use Rattle.htl_refine.specs.Records.{took, records}
-use Rattle.htl_refine.specs.Refining.{precedes}
+use Rattle.htl_refine.specs.Records.{took, round_records}
+use Rattle.htl_refine.specs.Refining.{inv_precedes}
 use Rattle.htl_refine.specs.Roots.{selection_of}
-use Rattle.htl_refine.specs.Rules.{all_rules}
-use Rattle.htl_refine.specs.Tests.{first_fault}
+use Rattle.htl_refine.specs.Rules.{refinement_rules}
+use Rattle.htl_refine.specs.Tests.{first_refinement_fault}
 
 -- ---- the rules, one by one
 
 -- what each of the rules 13 to 16 finds by itself
 abbrev faults : Tables → List (Option FormFault)
-faults t = map (λ r. first_fault t (r ∷ [])) all_rules
+faults t = map (λ r. first_refinement_fault t (r ∷ [])) refinement_rules
 
 -- the first broken one of the rules 1 to 12
 abbrev form_fault : Tables → Option FormFault
-form_fault t = form_search.first_fault t form.all_rules
+form_fault t = form_search.first_form_fault t form.all_rules
 
 abbrev none : List (Option FormFault)
 none = None ∷ None ∷ None ∷ None ∷ []
@@ -198,7 +198,7 @@ ported input =
 
 -- the first precedes the third through the second
 in_order : faults (ported (E.Port 0)) ≡ none
-unfolding precedes
+unfolding inv_precedes
 in_order = refl
 
 in_form : form_fault (ported (E.Port 0)) ≡ None
@@ -207,7 +207,7 @@ in_form = refl
 
 -- the second reads something else, and nothing leads from the first to the third
 out_of_order : faults (ported (E.Comm 0 0)) ≡ None ∷ None ∷ None ∷ fault 16 1 1 4 0 2 ∷ []
-unfolding precedes
+unfolding inv_precedes
 out_of_order = refl
 
 -- ---- jobs
@@ -242,7 +242,7 @@ jobs_reentered = refl
 abbrev longer_child : Tables
 longer_child = record refined { tasks = task (codes "plan") 0 true 4 int_one ∷ task (codes "fix") 0 false 2 int_one ∷ task (codes "fast") 1 false 5 int_one ∷ [] }
 
-worst_case_of_the_child : map (λ t. first_fault t all_rules) (refined ∷ longer_child ∷ []) ≡ None ∷ fault 16 1 2 2 5 4 ∷ []
+worst_case_of_the_child : map (λ t. first_refinement_fault t refinement_rules) (refined ∷ longer_child ∷ []) ≡ None ∷ fault 16 1 2 2 5 4 ∷ []
 worst_case_of_the_child = refl
 
 -- ---- selections
@@ -317,15 +317,15 @@ abbrev over : ℕ → ℕ × Left
 over at = (2, record { at = at; position = None; slice = None; finished = false })
 
 -- the first position is absent
-records_off : map (records refined schedules events) (0 ∷ 1 ∷ 2 ∷ []) ≡ (passed_over 0 0 ∷ []) ∷ [] ∷ (ran 0 2 1 ∷ over 2 ∷ []) ∷ []
+records_off : map (round_records refined schedules events) (0 ∷ 1 ∷ 2 ∷ []) ≡ (passed_over 0 0 ∷ []) ∷ [] ∷ (ran 0 2 1 ∷ over 2 ∷ []) ∷ []
 records_off = refl
 
-records_on : map (records refined schedules events) (10 ∷ 11 ∷ 13 ∷ []) ≡ [] ∷ (ran 10 11 0 ∷ []) ∷ (ran 11 13 1 ∷ over 13 ∷ []) ∷ []
+records_on : map (round_records refined schedules events) (10 ∷ 11 ∷ 13 ∷ []) ≡ [] ∷ (ran 10 11 0 ∷ []) ∷ (ran 11 13 1 ∷ over 13 ∷ []) ∷ []
 records_on = refl
 
 -- the controllers of the two tanks, by the worst cases of the abstract one
 abbrev tank_schedules : List (List SInstr)
 tank_schedules = (Dispatch 0 220 ∷ Dispatch 1 320 ∷ Stop ∷ []) ∷ []
 
-records_of_tanks : map (records tanks tank_schedules []) (100 ∷ 160 ∷ 260 ∷ []) ≡ [] ∷ (ran 100 160 0 ∷ []) ∷ (ran 160 260 1 ∷ over 260 ∷ []) ∷ []
+records_of_tanks : map (round_records tanks tank_schedules []) (100 ∷ 160 ∷ 260 ∷ []) ≡ [] ∷ (ran 100 160 0 ∷ []) ∷ (ran 160 260 1 ∷ over 260 ∷ []) ∷ []
 records_of_tanks = refl

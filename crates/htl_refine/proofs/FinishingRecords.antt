@@ -4,8 +4,8 @@ use Rattle.std.proofs.lemmas.Bool.{cases_lt, eqb-true, eq-eqb, ltb-true, lt-ltb}
 use Rattle.htl_walk.specs.declared.job.Job.{Job}
 use Rattle.htl_walk.specs.declared.schedule.SInstr.{SInstr}
 use Rattle.htl_walk.specs.declared.schedule.SInstr.TheVariants.{Dispatch, Idle, End}
-use Rattle.htl_walk.specs.Paths.{Leg, begun, walks_from, end_to_end, AreInForm}
-use Rattle.htl_walk.specs.Walk.{Point, Left, job_at, begins, time_after, work_after, slice_between, slice_onto, finishes_by, next_point, left_by, walk_from, last_point, is_position, finish, slices, InForm}
+use Rattle.htl_walk.specs.Paths.{Leg, list_point, walks_from, end_to_end, AreInForm}
+use Rattle.htl_walk.specs.Walk.{Point, Left, job_at, dispatch_begins, time_after, work_after, slice_between, slice_onto, finishes_by, next_point, left_by, walk_from, last_point, is_position, finish, slices, InForm}
 use Rattle.htl_walk.proofs.Acceptance.{no_finish, left_falls_to}
 use Rattle.htl_walk.proofs.Finishes.{some_same}
 use Rattle.htl_walk.proofs.Steps.{left_falls, left_same}
@@ -41,7 +41,7 @@ finishes_is (suc a) zero e = (omega arith, refl)
 finishes_is (suc a) (suc b) e = absurd (let z : ⊥ = cc in z)
 
 -- the last work is done at an offset behind the release, in a slice that begins before it
-runs_late : (now w r until : ℕ) → 0 < w → work_after now w r until ≡ 0 → (r < time_after now w r until) × (begins now r until < until) × (begins now r until < time_after now w r until)
+runs_late : (now w r until : ℕ) → 0 < w → work_after now w r until ≡ 0 → (r < time_after now w r until) × (dispatch_begins now r until < until) × (dispatch_begins now r until < time_after now w r until)
 runs_late now zero r until h e = absurd (omega arith)
 runs_late now (suc w) r until h e = (omega arith, omega arith, omega arith)
 
@@ -69,17 +69,17 @@ module _ (jobs : List Job) (p : ℕ) where
       y = next_point jobs (Dispatch q h) x
 
       by_work : (w : ℕ) → get_or x.left q 0 ≡ w → time_after x.time w (job_at jobs q).release h ≤ a
-          → (s : ℕ × ℕ) × (slice_get (slice_onto (slice_between (begins x.time (job_at jobs q).release h) h w y.time) (slices ls p)) 0 ≡ Some s) × (s.0 < a)
+          → (s : ℕ × ℕ) × (slice_get (slice_onto (slice_between (dispatch_begins x.time (job_at jobs q).release h) h w y.time) (slices ls p)) 0 ≡ Some s) × (s.0 < a)
       by_work zero is t = r
-      by_work (suc w) is t = by_room (ltb (begins x.time (job_at jobs q).release h) h) refl
+      by_work (suc w) is t = by_room (ltb (dispatch_begins x.time (job_at jobs q).release h) h) refl
         where
-          by_room : (b : Bool) → ltb (begins x.time (job_at jobs q).release h) h ≡ b
-              → (s : ℕ × ℕ) × (slice_get (slice_onto (elim b [ true ↦ Some (begins x.time (job_at jobs q).release h, y.time) | false ↦ None ]) (slices ls p)) 0 ≡ Some s) × (s.0 < a)
-          by_room true e = let room : begins x.time (job_at jobs q).release h < h = ltb-true _ _ e in ((begins x.time (job_at jobs q).release h, y.time), refl, omega arith)
+          by_room : (b : Bool) → ltb (dispatch_begins x.time (job_at jobs q).release h) h ≡ b
+              → (s : ℕ × ℕ) × (slice_get (slice_onto (elim b [ true ↦ Some (dispatch_begins x.time (job_at jobs q).release h, y.time) | false ↦ None ]) (slices ls p)) 0 ≡ Some s) × (s.0 < a)
+          by_room true e = let room : dispatch_begins x.time (job_at jobs q).release h < h = ltb-true _ _ e in ((dispatch_begins x.time (job_at jobs q).release h, y.time), refl, omega arith)
           by_room false e = r
 
       by_position : (b : Bool) → eqb q p ≡ b
-          → (s : ℕ × ℕ) × (slice_get (cond b (slice_onto (slice_between (begins x.time (job_at jobs q).release h) h (get_or x.left q 0) y.time) (slices ls p)) (slices ls p)) 0 ≡ Some s) × (s.0 < a)
+          → (s : ℕ × ℕ) × (slice_get (cond b (slice_onto (slice_between (dispatch_begins x.time (job_at jobs q).release h) h (get_or x.left q 0) y.time) (slices ls p)) (slices ls p)) 0 ≡ Some s) × (s.0 < a)
       by_position true e = by_work (get_or x.left q 0) refl later
       by_position false e = r
 
@@ -91,7 +91,7 @@ module _ (jobs : List Job) (p : ℕ) where
       let f = finishes_is (get_or x.left q 0) (get_or y.left q 0) e in
       let none : work_after x.time (get_or x.left q 0) (job_at jobs q).release h ≡ 0 = sym (left_same x.left q x.time (job_at jobs q).release h) ∙ f.1 in
       let late = runs_late x.time (get_or x.left q 0) (job_at jobs q).release h f.0 none in
-      let from = begins x.time (job_at jobs q).release h in
+      let from = dispatch_begins x.time (job_at jobs q).release h in
       let l = left_by jobs (Dispatch q h) x y in
       record {
         some = subst (λ z. 0 < get_or x.left z 0) same f.0;
@@ -100,11 +100,11 @@ module _ (jobs : List Job) (p : ℕ) where
         first = ((from, y.time), slices_here l (walk_from jobs is y) (from, y.time) (ap (λ z. Some z) same) (slice_is (get_or x.left q 0) f.0 late.1 y.time), late.2);
       }
     where
-      slice_is : (w : ℕ) → 0 < w → begins x.time (job_at jobs q).release h < h → (to : ℕ)
-          → slice_between (begins x.time (job_at jobs q).release h) h w to ≡ Some (begins x.time (job_at jobs q).release h, to)
+      slice_is : (w : ℕ) → 0 < w → dispatch_begins x.time (job_at jobs q).release h < h → (to : ℕ)
+          → slice_between (dispatch_begins x.time (job_at jobs q).release h) h w to ≡ Some (dispatch_begins x.time (job_at jobs q).release h, to)
       slice_is zero a b to = absurd (omega arith)
       slice_is (suc w) a b to =
-          ap (λ c. elim c [ true ↦ Some (begins x.time (job_at jobs q).release h, to) | false ↦ None ]) (lt-ltb (begins x.time (job_at jobs q).release h) h b)
+          ap (λ c. elim c [ true ↦ Some (dispatch_begins x.time (job_at jobs q).release h, to) | false ↦ None ]) (lt-ltb (dispatch_begins x.time (job_at jobs q).release h) h b)
 
   pub last_is : (is : List SInstr) (x : Point) (k : ℕ) (l : Left) → slice_get (walk_from jobs is x) k ≡ Some l → l.position ≡ Some p → l.finished ≡ true → IsLast jobs is x k p l
   last_is [] x k l at pos fin = not_some l at
@@ -233,42 +233,42 @@ pub finishing : (jobs : List Job) (ss : List (List SInstr)) (gs : List Leg) (x :
     → slice_get (end_to_end (walks_from jobs ss gs x)) k ≡ Some l → l.position ≡ Some p → l.finished ≡ true → IsFinishing jobs (end_to_end (walks_from jobs ss gs x)) gs x k p l
 finishing jobs [] gs x k p l f e pos fin = not_some l e
 finishing jobs (s ∷ ss) [] x k p l f e pos fin = absurd f
-finishing jobs (s ∷ ss) (g ∷ gs) x k p l f e pos fin = elim (cases_lt k (length (walk_from jobs s (begun g.from x)))) [
+finishing jobs (s ∷ ss) (g ∷ gs) x k p l f e pos fin = elim (cases_lt k (length (walk_from jobs s (list_point g.from x)))) [
   | inl h ↦ here h
-  | inr h ↦ there h (λ d at. finishing jobs ss gs (last_point jobs s (begun g.from x)) d p l f.1 at pos fin)
+  | inr h ↦ there h (λ d at. finishing jobs ss gs (last_point jobs s (list_point g.from x)) d p l f.1 at pos fin)
 ]
   where
-    here : k < length (walk_from jobs s (begun g.from x)) → IsFinishing jobs (end_to_end (walks_from jobs (s ∷ ss) (g ∷ gs) x)) (g ∷ gs) x k p l
+    here : k < length (walk_from jobs s (list_point g.from x)) → IsFinishing jobs (end_to_end (walks_from jobs (s ∷ ss) (g ∷ gs) x)) (g ∷ gs) x k p l
     here h =
-        let ls = walk_from jobs s (begun g.from x) in
-        let ms = end_to_end (walks_from jobs ss gs (last_point jobs s (begun g.from x))) in
+        let ls = walk_from jobs s (list_point g.from x) in
+        let ms = end_to_end (walks_from jobs ss gs (last_point jobs s (list_point g.from x))) in
         let at : slice_get ls k ≡ Some l = sym (get_in ls ms k h) ∙ e in
-        let last = last_is jobs p s (begun g.from x) k l at pos fin in
+        let last = last_is jobs p s (list_point g.from x) k l at pos fin in
         let one = listed ls p 0 last.first.0 last.first.1 in
-        let from : g.from ≤ last.first.0.0 = slice_from jobs s (begun g.from x) one.0 one.1 last.first.0 one.2 one.3 in
+        let from : g.from ≤ last.first.0.0 = slice_from jobs s (list_point g.from x) one.0 one.1 last.first.0 one.2 one.3 in
         record {
           some = last.some;
           open_yet = done_in ls ms k p h ∙ last.open_yet;
           place = 0;
           there = omega arith;
           before = omega (arith, from, last.first.2);
-          known = known_in jobs g.known g.to s (begun g.from x) k p l f.0 at pos;
+          known = known_in jobs g.known g.to s (list_point g.from x) k p l f.0 at pos;
         }
 
-    there : length (walk_from jobs s (begun g.from x)) ≤ k
-        → ((d : ℕ) → slice_get (end_to_end (walks_from jobs ss gs (last_point jobs s (begun g.from x)))) d ≡ Some l
-        → IsFinishing jobs (end_to_end (walks_from jobs ss gs (last_point jobs s (begun g.from x)))) gs (last_point jobs s (begun g.from x)) d p l)
+    there : length (walk_from jobs s (list_point g.from x)) ≤ k
+        → ((d : ℕ) → slice_get (end_to_end (walks_from jobs ss gs (last_point jobs s (list_point g.from x)))) d ≡ Some l
+        → IsFinishing jobs (end_to_end (walks_from jobs ss gs (last_point jobs s (list_point g.from x)))) gs (last_point jobs s (list_point g.from x)) d p l)
         → IsFinishing jobs (end_to_end (walks_from jobs (s ∷ ss) (g ∷ gs) x)) (g ∷ gs) x k p l
     there h ih =
-        let ls = walk_from jobs s (begun g.from x) in
-        let z = last_point jobs s (begun g.from x) in
+        let ls = walk_from jobs s (list_point g.from x) in
+        let z = last_point jobs s (list_point g.from x) in
         let ms = end_to_end (walks_from jobs ss gs z) in
         let d = k - length ls in
         let is : length ls + d ≡ k = omega (arith, h) in
         let r = ih d (sym (get_past ls ms d) ∙ ap (slice_get (ls ++ ms)) is ∙ e) in
         record {
-          some = omega (arith, r.some, left_falls_to jobs s (begun g.from x) p);
-          open_yet = ap (λ m. done_by (ls ++ ms) m p) (sym is) ∙ done_past ls ms d p (no_finish jobs s (begun g.from x) p r.some) ∙ r.open_yet;
+          some = omega (arith, r.some, left_falls_to jobs s (list_point g.from x) p);
+          open_yet = ap (λ m. done_by (ls ++ ms) m p) (sym is) ∙ done_past ls ms d p (no_finish jobs s (list_point g.from x) p r.some) ∙ r.open_yet;
           place = suc r.place;
           there = omega (arith, r.there);
           before = r.before;

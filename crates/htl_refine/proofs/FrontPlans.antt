@@ -8,7 +8,7 @@ use Rattle.htl_walk.specs.Walk.{Point, job_at, last_point, first_point, work}
 use Rattle.htl_walk.proofs.GoingOn.{same_length}
 use Rattle.htl_refine.specs.AgreeingRuns.{AreSameSoFar}
 use Rattle.htl_refine.specs.FrameRuns.{Frame, walks_of}
-use Rattle.htl_refine.specs.ListPlans.{ListPlan, no_leg, leg_at, front_of, point_at, list_plan}
+use Rattle.htl_refine.specs.ListPlans.{ListPlan, no_leg, leg_at, front_of, list_start, list_plan}
 use Rattle.htl_refine.proofs.Fronts.{job_front, get_front, take_work}
 use Rattle.htl_refine.proofs.PointsAgree.{points_agree}
 use Rattle.htl_refine.proofs.WalksAgree.{fronts_alike}
@@ -71,17 +71,17 @@ module _ (p q : Frame) (j : ℕ) (m : ℕ) (known : (leg_at p j).known ≡ m) (s
   pub front_plan : list_plan p j ≡ list_plan q j
   front_plan =
       let few_q : m ≤ length q.jobs = let e : length (take m p.jobs) ≡ length (take m q.jobs) = ap (λ (js : List Job). length js) same.jobs in omega (arith, e, length-take m p.jobs, length-take m q.jobs, few) in
-      let points : AgreeAt m (point_at p j) (point_at q j) =
+      let points : AgreeAt m (list_start p j) (list_start q j) =
       points_agree m p.jobs q.jobs p.lists q.lists p.legs q.legs j (first_point p.jobs p.lengths) (first_point q.jobs q.lengths) jobs_same begins_same forms within same.lists same.legs in
-      let fronts : front_of m (point_at p j) ≡ front_of m (point_at q j) =
-      front_same m (point_at p j) (point_at q j) points
+      let fronts : front_of m (list_start p j) ≡ front_of m (list_start q j) =
+      front_same m (list_start p j) (list_start q j) points
       (omega (arith, point_long p.jobs p.lists p.legs j (first_point p.jobs p.lengths), length-work p.jobs p.lengths, few))
       (omega (arith, point_long q.jobs q.lists q.legs j (first_point q.jobs q.lengths), length-work q.jobs q.lengths, few_q)) in
       let plan : List Job → List ℕ → Point → List SInstr → ListPlan = λ js ns x c. record { jobs = js; lengths = ns; first = x; schedule = c } in
-      let of : ℕ → Frame → ListPlan = λ n f. plan (take n f.jobs) (take n f.lengths) (front_of n (point_at f j)) (get_or f.lists j []) in
+      let of : ℕ → Frame → ListPlan = λ n f. plan (take n f.jobs) (take n f.lengths) (front_of n (list_start f j)) (get_or f.lists j []) in
       ap (λ n. of n p) known
-      ∙ ap (λ js. plan js (take m p.lengths) (front_of m (point_at p j)) (get_or p.lists j [])) same.jobs
-      ∙ ap (λ ns. plan (take m q.jobs) ns (front_of m (point_at p j)) (get_or p.lists j [])) lengths
+      ∙ ap (λ js. plan js (take m p.lengths) (front_of m (list_start p j)) (get_or p.lists j [])) same.jobs
+      ∙ ap (λ ns. plan (take m q.jobs) ns (front_of m (list_start p j)) (get_or p.lists j [])) lengths
       ∙ ap₂ (λ x c. plan (take m q.jobs) (take m q.lengths) x c) fronts (get_take j p.lists q.lists [] same.lists)
       ∙ ap (λ n. of n q) (sym known ∙ ap (λ (g : Leg). g.known) leg_same)
 

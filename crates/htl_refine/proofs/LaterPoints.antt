@@ -5,14 +5,14 @@ use Rattle.htl_walk.specs.declared.job.Job.{Job}
 use Rattle.htl_walk.specs.declared.schedule.SInstr.{SInstr}
 use Rattle.htl_walk.specs.declared.schedule.SInstr.TheVariants.{Dispatch, Idle, End}
 use Rattle.htl_walk.specs.Laws.{AgreeBefore}
-use Rattle.htl_walk.specs.Paths.{Leg, begun, walks_from, AreInForm, AreChained, path_point}
+use Rattle.htl_walk.specs.Paths.{Leg, list_point, walks_from, AreInForm, AreChained, path_point}
 use Rattle.htl_walk.specs.Refinement.{HaveLengths}
 use Rattle.htl_walk.specs.Walk.{Point, Left, job_at, time_after, work_after, next_point, last_point, first_point, walk_from, work, earlier}
 use Rattle.htl_walk.proofs.Joining.{stays}
 use Rattle.htl_walk.proofs.Steps.{left_same, left_other, apart}
 use Rattle.htl_walk.proofs.Unreleased.{Alike, alike_walks}
 use Rattle.htl_refine.specs.FrameRuns.{Frame, walks_of}
-use Rattle.htl_refine.specs.ListPlans.{no_leg, leg_at, point_at}
+use Rattle.htl_refine.specs.ListPlans.{no_leg, leg_at, list_start}
 use Rattle.htl_refine.proofs.LengthsLater.{waits, waited, nothing, last_later, list_alike, begun_alike, path_alike, first_alike}
 use Rattle.htl_refine.proofs.ListCounts.{chain_to}
 use Rattle.htl_refine.proofs.RecordOrder.{times_within}
@@ -47,7 +47,7 @@ late_path jobs t q [] (g ∷ gs) a h n j x f c l e late = absurd f
 late_path jobs t q (s ∷ ss) [] a h n j x f c l e late = absurd f
 late_path jobs t q (s ∷ ss) (g ∷ gs) a h n zero x f c l e late = refl
 late_path jobs t q (s ∷ ss) (g ∷ gs) a h n (suc j) x f c l e late =
-    let v = begun g.from x in
+    let v = list_point g.from x in
     let ends : (last_point jobs s v).time ≤ g.to = stays jobs g.known g.to s v f.0 c.1 in
     let later : g.to ≤ (get_or gs j no_leg).from = chain_to g.to h n j gs c.3 (omega (arith, l)) in
     late_path jobs t q ss gs g.to h n j (last_point jobs s v) f.1 c.3 (omega (arith, l)) e late ∙ late_last jobs t q s v (omega (arith, ends, later, e)) late
@@ -65,8 +65,8 @@ walks_front jobs t [] (g ∷ gs) a h n j x y f c l e k = absurd f
 walks_front jobs t (s ∷ ss) [] a h n j x y f c l e k = absurd f
 walks_front jobs t (s ∷ ss) (g ∷ gs) a h n zero x y f c l e k = refl
 walks_front jobs t (s ∷ ss) (g ∷ gs) a h n (suc j) x y f c l e k =
-    let v = begun g.from x in
-    let w = begun g.from y in
+    let v = list_point g.from x in
+    let w = list_point g.from y in
     let b = begun_alike jobs t g.from x y k in
     let ends : (last_point jobs s v).time ≤ g.to = stays jobs g.known g.to s v f.0 c.1 in
     let later : g.to ≤ (get_or gs j no_leg).from = chain_to g.to h n j gs c.3 (omega (arith, l)) in
@@ -88,14 +88,14 @@ module _ (f : Frame) (ms : List ℕ) (h t j : ℕ) (forms : AreInForm f.lists f.
   first : Alike f.jobs t (first_point f.jobs f.lengths) (first_point f.jobs ms)
   first = first_alike f.jobs f.lengths ms t least more agree
 
-  pub later_time : (point_at f j).time ≡ (point_at (record f { lengths = ms }) j).time
+  pub later_time : (list_start f j).time ≡ (list_start (record f { lengths = ms }) j).time
   later_time = (path_alike f.jobs t f.lists f.legs 0 h (length f.jobs) j (first_point f.jobs f.lengths) (first_point f.jobs ms) forms chain there early first).time
 
   -- who is released has the same work, who isn't has its own
-  pub later_released : (q : ℕ) → (job_at f.jobs q).release < t → get_or (point_at f j).left q 0 ≡ get_or (point_at (record f { lengths = ms }) j).left q 0
+  pub later_released : (q : ℕ) → (job_at f.jobs q).release < t → get_or (list_start f j).left q 0 ≡ get_or (list_start (record f { lengths = ms }) j).left q 0
   later_released q soon = (path_alike f.jobs t f.lists f.legs 0 h (length f.jobs) j (first_point f.jobs f.lengths) (first_point f.jobs ms) forms chain there early first).released q soon
 
-  pub later_unreleased : (q : ℕ) → t ≤ (job_at f.jobs q).release → (get_or (point_at f j).left q 0 ≡ get_or (work f.jobs f.lengths) q 0) × (get_or (point_at (record f { lengths = ms }) j).left q 0 ≡ get_or (work f.jobs ms) q 0)
+  pub later_unreleased : (q : ℕ) → t ≤ (job_at f.jobs q).release → (get_or (list_start f j).left q 0 ≡ get_or (work f.jobs f.lengths) q 0) × (get_or (list_start (record f { lengths = ms }) j).left q 0 ≡ get_or (work f.jobs ms) q 0)
   later_unreleased q late = (
     late_path f.jobs t q f.lists f.legs 0 h (length f.jobs) j (first_point f.jobs f.lengths) forms chain there early late,
     late_path f.jobs t q f.lists f.legs 0 h (length f.jobs) j (first_point f.jobs ms) forms chain there early late,

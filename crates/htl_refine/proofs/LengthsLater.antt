@@ -4,7 +4,7 @@ use Rattle.htl_walk.specs.declared.job.Job.{Job}
 use Rattle.htl_walk.specs.declared.schedule.SInstr.{SInstr}
 use Rattle.htl_walk.specs.declared.schedule.SInstr.TheVariants.{Dispatch, Idle, End}
 use Rattle.htl_walk.specs.Laws.{AgreeBefore}
-use Rattle.htl_walk.specs.Paths.{Leg, begun, AreInForm, AreChained, path_point}
+use Rattle.htl_walk.specs.Paths.{Leg, list_point, AreInForm, AreChained, path_point}
 use Rattle.htl_walk.specs.Refinement.{HaveLengths}
 use Rattle.htl_walk.specs.Walk.{Point, job_at, time_after, work_after, next_point, last_point, first_point, work, earlier}
 use Rattle.htl_walk.proofs.Joining.{stays}
@@ -13,7 +13,7 @@ use Rattle.htl_walk.proofs.Unreleased.{Alike, alike_walks}
 use Rattle.htl_walk.proofs.Work.{job_there, work_present, present_or_idle}
 use Rattle.htl_refine.specs.FrameRuns.{Frame}
 use Rattle.htl_refine.specs.ListLaws.{LengthsLater}
-use Rattle.htl_refine.specs.ListPlans.{no_leg, point_at}
+use Rattle.htl_refine.specs.ListPlans.{no_leg, list_start}
 use Rattle.htl_refine.proofs.ListCounts.{chain_to}
 use Rattle.htl_refine.proofs.ListWalks.{list_is}
 
@@ -121,7 +121,7 @@ list_alike jobs t (i ∷ is) x y a early =
 
 -- ---- the lists
 
-pub begun_alike : (jobs : List Job) (t b : ℕ) (x y : Point) → Alike jobs t x y → Alike jobs t (begun b x) (begun b y)
+pub begun_alike : (jobs : List Job) (t b : ℕ) (x y : Point) → Alike jobs t x y → Alike jobs t (list_point b x) (list_point b y)
 begun_alike jobs t b x y a = record { time = refl; released = a.released; unreleased = a.unreleased }
 
 pub path_alike : (jobs : List Job) (t : ℕ) (ss : List (List SInstr)) (gs : List Leg) (a h n j : ℕ) (x y : Point) → AreInForm ss gs → AreChained a h n gs → j < length gs → (get_or gs j no_leg).from < t
@@ -131,8 +131,8 @@ path_alike jobs t [] (g ∷ gs) a h n j x y f c l e k = absurd f
 path_alike jobs t (s ∷ ss) [] a h n j x y f c l e k = absurd f
 path_alike jobs t (s ∷ ss) (g ∷ gs) a h n zero x y f c l e k = begun_alike jobs t g.from x y k
 path_alike jobs t (s ∷ ss) (g ∷ gs) a h n (suc j) x y f c l e k =
-    let v = begun g.from x in
-    let w = begun g.from y in
+    let v = list_point g.from x in
+    let w = list_point g.from y in
     let ends : (last_point jobs s v).time ≤ g.to = stays jobs g.known g.to s v f.0 c.1 in
     let later : g.to ≤ (get_or gs j no_leg).from = chain_to g.to h n j gs c.3 (omega arith) in
     path_alike jobs t ss gs g.to h n j (last_point jobs s v) (last_point jobs s w) f.1 c.3 (omega arith) e
@@ -173,6 +173,6 @@ pub lengths_later : LengthsLater
 lengths_later f ms h t i forms chain l early some_ns some_ms agree =
     let g : Frame = record f { lengths = ms } in
     ap (earlier t) (list_is f i forms l)
-    ∙ alike_walks f.jobs t (get_or f.lists i []) (point_at f i) (point_at g i)
+    ∙ alike_walks f.jobs t (get_or f.lists i []) (list_start f i) (list_start g i)
     (path_alike f.jobs t f.lists f.legs 0 h (length f.jobs) i (first_point f.jobs f.lengths) (first_point f.jobs ms) forms chain l early (first_alike f.jobs f.lengths ms t some_ns some_ms agree))
     ∙ sym (ap (earlier t) (list_is g i forms l))

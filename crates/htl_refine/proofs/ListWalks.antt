@@ -2,13 +2,13 @@
 use Rattle.std.proofs.Common.{◌≡◌, ℕ, zero, suc, ◌<◌, List, [], ◌∷◌, length, take, get_or, slice_get, Some, refl, sym, ap, ◌∙◌, arith}
 use Rattle.htl_walk.specs.declared.job.Job.{Job}
 use Rattle.htl_walk.specs.declared.schedule.SInstr.{SInstr}
-use Rattle.htl_walk.specs.Paths.{Leg, begun, walks_from, AreInForm, path_point, AgreeOn, AgreeAt}
+use Rattle.htl_walk.specs.Paths.{Leg, list_point, walks_from, AreInForm, path_point, AgreeOn, AgreeAt}
 use Rattle.htl_walk.specs.Walk.{Point, walk_from, last_point, first_point, InForm}
 use Rattle.htl_walk.proofs.Finishes.{some_same}
 use Rattle.htl_walk.proofs.Locality.{walk_alike}
 use Rattle.htl_refine.specs.FrameRuns.{Frame, walks_of}
 use Rattle.htl_refine.specs.ListLaws.{ListWalks}
-use Rattle.htl_refine.specs.ListPlans.{no_leg, leg_at, front_of, point_at, list_plan, list_walk}
+use Rattle.htl_refine.specs.ListPlans.{no_leg, leg_at, front_of, list_start, list_plan, list_walk}
 use Rattle.htl_refine.proofs.Fronts.{job_front, get_front}
 
 pub front_agrees : (n : ℕ) (js : List Job) → AgreeOn n (take n js) js
@@ -25,7 +25,7 @@ walk_at jobs [] [] j x f h = absurd (omega arith)
 walk_at jobs [] (g ∷ gs) j x f h = absurd f
 walk_at jobs (s ∷ ss) [] j x f h = absurd f
 walk_at jobs (s ∷ ss) (g ∷ gs) zero x f h = refl
-walk_at jobs (s ∷ ss) (g ∷ gs) (suc j) x f h = walk_at jobs ss gs j (last_point jobs s (begun g.from x)) f.1 (omega arith)
+walk_at jobs (s ∷ ss) (g ∷ gs) (suc j) x f h = walk_at jobs ss gs j (last_point jobs s (list_point g.from x)) f.1 (omega arith)
 
 pub form_at : (ss : List (List SInstr)) (gs : List Leg) (j : ℕ) → AreInForm ss gs → j < length gs → InForm (get_or gs j no_leg).known (get_or gs j no_leg).to (get_or ss j [])
 form_at [] [] j f h = absurd (omega arith)
@@ -37,7 +37,7 @@ form_at (s ∷ ss) (g ∷ gs) (suc j) f h = form_at ss gs j f.1 (omega arith)
 pub list_walks : ListWalks
 list_walks f j form h =
     let g = leg_at f j in
-    let x = point_at f j in
+    let x = list_start f j in
     walk_at f.jobs f.lists f.legs j (first_point f.jobs f.lengths) form h
     ∙ ap (λ ls. Some ls) (sym (walk_alike g.known (take g.known f.jobs) f.jobs g.known g.to (get_or f.lists j []) (front_of g.known x) x (front_agrees g.known f.jobs) (point_agrees g.known x) (form_at f.lists f.legs j form h) (omega arith)).0)
 
@@ -50,5 +50,5 @@ walk_is f j forms l = get_of (walks_of f) j (list_walk (list_plan f j)) (list_wa
     get_of (x ∷ xs) (suc k) y e = get_of xs k y e
 
 -- so it is the walk of the frame from the point at which the list begins
-pub list_is : (f : Frame) (j : ℕ) → AreInForm f.lists f.legs → j < length f.legs → list_walk (list_plan f j) ≡ walk_from f.jobs (get_or f.lists j []) (point_at f j)
+pub list_is : (f : Frame) (j : ℕ) → AreInForm f.lists f.legs → j < length f.legs → list_walk (list_plan f j) ≡ walk_from f.jobs (get_or f.lists j []) (list_start f j)
 list_is f j forms l = some_same _ _ (sym (list_walks f j forms l) ∙ walk_at f.jobs f.lists f.legs j (first_point f.jobs f.lengths) forms l)

@@ -9,7 +9,7 @@ use Rattle.htl_model.specs.FormRules.{FormRule, number_of, Part, Site, ComesBefo
 use Rattle.htl_model.specs.FormRules as law
 use Rattle.htl_model.specs.Broken.{breach, BreaksAt, Broken, site_of, IsFirstBroken, KeptTo, Formed}
 use Rattle.htl_form.proofs.OneFault.{SameSite, order, one_at, same_fault, broken_there, one_form_fault}
-use Rattle.htl_refine.specs.Rules.{law_of, all_rules}
+use Rattle.htl_refine.specs.Rules.{refinement_law_of, refinement_rules}
 use Rattle.htl_refine.specs.Tests.{tests}
 use Rattle.htl_refine.proofs.RuleOrder.{place_of}
 use Rattle.htl_refine.proofs.SearchLaws.{judges}
@@ -45,9 +45,9 @@ one_law l m e some =
     let r = place_of m some in
     let s = place_of l (omega (arith, e, some)) in
     let place : s.0 ≡ r.0 = omega (arith, e, r.2, s.2) in
-    let both : Some s.1 ≡ Some r.1 = sym s.3 ∙ ap (slice_get all_rules) place ∙ r.3 in
+    let both : Some s.1 ≡ Some r.1 = sym s.3 ∙ ap (slice_get refinement_rules) place ∙ r.3 in
     let rule : s.1 ≡ r.1 = cc in
-    sym s.4 ∙ ap law_of rule ∙ r.4
+    sym s.4 ∙ ap refinement_law_of rule ∙ r.4
 
 -- at one place the two numbers are one
 one_broken : (t : Tables) → AreInRange t → KeptTo t 12 → (l : FormRule) → 12 < number_of l → (s : Site) (h n a c : ℕ) → Broken t l s h n → Broken t l s a c → (h ≡ a) × (n ≡ c)
@@ -56,7 +56,7 @@ one_broken t range kept l some s h n a c y z =
     let both : ◌≡◌ {A = Option Mode} (Some z.0) (Some y.0) = sym z.1 ∙ y.1 in
     let same : z.0 ≡ y.0 = cc in
     let here : BreaksAt t (breach t l) s.mode y.0 s.inv s.part a c = subst (λ (x : Mode). BreaksAt t (breach t l) s.mode x s.inv s.part a c) same z.2 in
-    one_at t (tests t r.1) (breach t (law_of r.1)) (judges t range kept r.1) s.mode y.0 y.1 s.inv s.part h n a c
+    one_at t (tests t r.1) (breach t (refinement_law_of r.1)) (judges t range kept r.1) s.mode y.0 y.1 s.inv s.part h n a c
     (subst (λ (m : FormRule). BreaksAt t (breach t m) s.mode y.0 s.inv s.part h n) (sym r.4) y.2)
     (subst (λ (m : FormRule). BreaksAt t (breach t m) s.mode y.0 s.inv s.part a c) (sym r.4) here)
 

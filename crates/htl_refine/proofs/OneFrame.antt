@@ -172,19 +172,19 @@ module _ (t : Tables) (period : ℕ) (lists : List (List SInstr)) (es : List Eve
         ∙ ap (λ zs. make (concrete_jobs t (modes_at t es f)) zs gs) lists_same
         ∙ ap (λ hs. make (concrete_jobs t (modes_at t es f)) (get_or lists (selection_of t (modes_at t es f)) [] ∷ []) hs) legs_same
 
-    pub lists_running : lists_at t lists es f ≡ record { from = f + 0; node = node t (path_of t (frame_modes t es f)) 0; code = (round_at t lists es f).schedule; walk = by_rounds.walk_of (round_at t lists es f) } ∷ []
+    pub lists_running : lists_at t lists es f ≡ record { from = f + 0; node = node t (path_of t (frame_modes t es f)) 0; code = (round_at t lists es f).schedule; walk = by_rounds.round_walk (round_at t lists es f) } ∷ []
     lists_running = ap (λ (p : Frame). lists_from (node t (path_of t (frame_modes t es f))) f 0 p.lists p.legs (walks_of p)) frame_same
 
     -- the records of the one list
     pub in_one : (which : RunningList → Bool) (now : ℕ) (b : Bool)
-        → which (record { from = f + 0; node = node t (path_of t (frame_modes t es f)) 0; code = (round_at t lists es f).schedule; walk = by_rounds.walk_of (round_at t lists es f) }) ≡ b
+        → which (record { from = f + 0; node = node t (path_of t (frame_modes t es f)) 0; code = (round_at t lists es f).schedule; walk = by_rounds.round_walk (round_at t lists es f) }) ≡ b
         → in_frame t lists es which now f ≡ cond b (left_at t lists es f now) []
     in_one which now b e =
         ap (λ rs. joined (left_in now f) (filter which rs)) lists_running
         ∙ by b e
       where
-        by : (b : Bool) → which (record { from = f + 0; node = node t (path_of t (frame_modes t es f)) 0; code = (round_at t lists es f).schedule; walk = by_rounds.walk_of (round_at t lists es f) }) ≡ b
-            → joined (left_in now f) (filter which (record { from = f + 0; node = node t (path_of t (frame_modes t es f)) 0; code = (round_at t lists es f).schedule; walk = by_rounds.walk_of (round_at t lists es f) } ∷ [])) ≡ cond b (left_at t lists es f now) []
+        by : (b : Bool) → which (record { from = f + 0; node = node t (path_of t (frame_modes t es f)) 0; code = (round_at t lists es f).schedule; walk = by_rounds.round_walk (round_at t lists es f) }) ≡ b
+            → joined (left_in now f) (filter which (record { from = f + 0; node = node t (path_of t (frame_modes t es f)) 0; code = (round_at t lists es f).schedule; walk = by_rounds.round_walk (round_at t lists es f) } ∷ [])) ≡ cond b (left_at t lists es f now) []
         by true e = rw e (append-nil (left_at t lists es f now))
         by false e = rw e refl
 
@@ -210,18 +210,18 @@ one_frame_records t period lists es now range one root = (old, new)
     h_is : hyper t ≡ Some period
     h_is = (one_period t period one).frame
 
-    old : old_records_by t lists es now (hyper t) ≡ by_rounds.old_records_by t lists es now (root_period t)
+    old : old_records_by t lists es now (hyper t) ≡ by_rounds.old_round_records_by t lists es now (root_period t)
     old =
         ap (old_records_by t lists es now) h_is
         ∙ up_to_same (λ k. in_frame t lists es (begun_before now) now (k * period)) (λ k. left_at t lists es (k * period) now) (rounds_before period now)
         (λ k less. in_one t period lists es range one (k * period) (begun_before now) now true (lt-ltb (k * period + 0) now (begun_below period now k one.positive less)))
-        ∙ sym (ap (by_rounds.old_records_by t lists es now) root)
+        ∙ sym (ap (by_rounds.old_round_records_by t lists es now) root)
 
-    new : new_records_by t lists es now (hyper t) ≡ by_rounds.new_records_by t lists es now (root_period t)
+    new : new_records_by t lists es now (hyper t) ≡ by_rounds.new_round_records_by t lists es now (root_period t)
     new =
         ap (new_records_by t lists es now) h_is
         ∙ by (eqb (now % period) 0) refl
-        ∙ sym (ap (by_rounds.new_records_by t lists es now) root)
+        ∙ sym (ap (by_rounds.new_round_records_by t lists es now) root)
       where
         f : ℕ
         f = period * (now / period)

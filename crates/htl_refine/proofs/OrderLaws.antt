@@ -19,17 +19,17 @@ use Rattle.htl_model.specs.PortOrder.{Leads}
 use Rattle.htl_model.proofs.PortChains.{leads_from, leads_within}
 use Rattle.htl_model.specs.PortOrder.{leads_below}
 use Rattle.htl_refine.specs.Orders.{AreRowsBelow, ArePlaces, IsPut}
-use Rattle.htl_refine.specs.Refining.{precedes, writer_parent}
+use Rattle.htl_refine.specs.Refining.{inv_precedes, writer_parent}
 use Rattle.htl_refine.proofs.PrecedenceLaws.{precedes_is, strangers}
 use Rattle.htl_refine.proofs.RefiningLaws.{parent_writer}
 
 -- ---- closed rows
 
 pub cell_is : (t : Tables) (m base n b a : ℕ) (rows : List ℕ) → IsRangeOf t m base n → n ≤ length rows → AreSteps t base n rows → b < n → a < n
-    → cell (through_all n rows) b a ≡ precedes t (base + a) (base + b)
+    → cell (through_all n rows) b a ≡ inv_precedes t (base + a) (base + b)
 cell_is t m base n b a rows w long steps is_b is_a =
     cell_below rows n b a long (omega arith) ∙ leads_same (cell rows) (follows t base n) n steps n b a (omega arith) is_b is_a
-    ∙ agree (leads_below (follows t base n) n b a) (precedes t (base + a) (base + b))
+    ∙ agree (leads_below (follows t base n) n b a) (inv_precedes t (base + a) (base + b))
     (λ h. (precedes_is t (base + a) (base + b)).1 (way_out t base n b a (leads_from (follows t base n) n b a h)))
     (λ h. leads_within (follows t base n) n (λ x y e. (unfold_follows t base n x y e).1) b a (back (way_in t m base n w (base + a) (base + b) ((precedes_is t (base + a) (base + b)).0 h) b is_b refl)))
   where
@@ -62,7 +62,7 @@ outside t m base n k i w at other = elim (order k) [
     order k = grind arith
 
 pub noted_more : (t : Tables) (m base n : ℕ) (closed rows new_rows places new_places : List ℕ) → IsRangeOf t m base n
-    → ((b a : ℕ) → b < n → a < n → cell closed b a ≡ precedes t (base + a) (base + b))
+    → ((b a : ℕ) → b < n → a < n → cell closed b a ≡ inv_precedes t (base + a) (base + b))
     → IsPut base n (λ q. get_or closed q 0) rows new_rows → IsPut base n (λ q. q) places new_places
     → AreRowsBelow t m rows places → AreRowsBelow t (m + 1) new_rows new_places
 noted_more t m base n closed rows new_rows places new_places w is put_r put_p before a b x y at_a at_b same less = elim (last y.mode m less) [
@@ -80,7 +80,7 @@ noted_more t m base n closed rows new_rows places new_places w is put_r put_p be
       ap (λ r. has_bit r (get_or new_places a 0)) (put_at base n b (λ q. get_or closed q 0) rows new_rows put_r in_b.0 in_b.1)
       ∙ ap (λ p. has_bit (get_or closed (b - base) 0) p) (put_at base n a (λ q. q) places new_places put_p in_a.0 in_a.1)
       ∙ is (b - base) (a - base) (omega (arith, in_b.0, in_b.1)) (omega (arith, in_a.0, in_a.1))
-      ∙ ap (λ z. precedes t z (base + (b - base))) a_is ∙ ap (λ z. precedes t a z) b_is
+      ∙ ap (λ z. inv_precedes t z (base + (b - base))) a_is ∙ ap (λ z. inv_precedes t a z) b_is
 ]
   where
     last : (k n : ℕ) → k < n + 1 → (k < n) ⊎ (k ≡ n)
@@ -106,13 +106,13 @@ nones_at n k = filled_at {A = Option ℕ} None n k
 
 -- ---- the test by the rows
 
-pub past_first : (t : Tables) (a b : ℕ) → length t.invs ≤ a → precedes t a b ≡ false
+pub past_first : (t : Tables) (a b : ℕ) → length t.invs ≤ a → inv_precedes t a b ≡ false
 past_first t a b far = strangers t a b (λ m. let below : a < length t.invs = slice_get_within t.invs a m.first m.at_first in omega arith)
 
-pub past_second : (t : Tables) (a b : ℕ) → length t.invs ≤ b → precedes t a b ≡ false
+pub past_second : (t : Tables) (a b : ℕ) → length t.invs ≤ b → inv_precedes t a b ≡ false
 past_second t a b far = strangers t a b (λ m. let below : b < length t.invs = slice_get_within t.invs b m.second m.at_second in omega arith)
 
-pub other_modes : (t : Tables) (a b : ℕ) (x y : Inv) → slice_get t.invs a ≡ Some x → slice_get t.invs b ≡ Some y → x.mode ≢ y.mode → precedes t a b ≡ false
+pub other_modes : (t : Tables) (a b : ℕ) (x y : Inv) → slice_get t.invs a ≡ Some x → slice_get t.invs b ≡ Some y → x.mode ≢ y.mode → inv_precedes t a b ≡ false
 other_modes t a b x y at_a at_b apart =
     strangers t a b (λ m.
     let item_a : Some x ≡ Some m.first = sym at_a ∙ m.at_first in

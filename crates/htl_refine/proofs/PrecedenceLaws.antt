@@ -7,7 +7,7 @@ use Rattle.htl_model.specs.Tables.{Tables}
 use Rattle.htl_model.specs.PortOrder.{Leads, direct, through, feeds}
 use Rattle.htl_model.proofs.PortChains.{leads_from, leads_within, feeds_within}
 use Rattle.htl_form.proofs.RowLaws.{same_mode}
-use Rattle.htl_refine.specs.Refining.{precedes}
+use Rattle.htl_refine.specs.Refining.{inv_precedes}
 
 -- two invocations of one mode
 pub record AreMates (t : Tables) (a b : ℕ) : Type 0 where
@@ -28,14 +28,14 @@ leads_mates t a b (through _ c _ p q) =
     let is : m.second ≡ n.first = cc in
     record { first = m.first; second = n.second; at_first = m.at_first; at_second = n.at_second; mode = m.mode ∙ ap (λ (i : Inv). i.mode) is ∙ n.mode }
 
-pub precedes_is : (t : Tables) (a b : ℕ) → Decides (precedes t a b) (Leads (feeds t) a b)
-unfolding precedes
+pub precedes_is : (t : Tables) (a b : ℕ) → Decides (inv_precedes t a b) (Leads (feeds t) a b)
+unfolding inv_precedes
 precedes_is t a b = (leads_from (feeds t) (length t.invs) a b, leads_within (feeds t) (length t.invs) (feeds_within t) a b)
 
 -- invocations that aren't of one mode don't precede each other
-pub strangers : (t : Tables) (a b : ℕ) → (AreMates t a b → ⊥) → precedes t a b ≡ false
-strangers t a b apart = by (precedes t a b) refl
+pub strangers : (t : Tables) (a b : ℕ) → (AreMates t a b → ⊥) → inv_precedes t a b ≡ false
+strangers t a b apart = by (inv_precedes t a b) refl
   where
-    by : (c : Bool) → precedes t a b ≡ c → c ≡ false
+    by : (c : Bool) → inv_precedes t a b ≡ c → c ≡ false
     by true e = absurd (apart (leads_mates t a b ((precedes_is t a b).0 e)))
     by false e = refl

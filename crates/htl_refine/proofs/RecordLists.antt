@@ -10,13 +10,13 @@ use Rattle.htl_model.specs.Lists.{joined, numbered, up_to}
 use Rattle.htl_model.specs.Tables.{Tables}
 use Rattle.htl_walk.specs.declared.job.Job.{Job}
 use Rattle.htl_walk.specs.declared.schedule.SInstr.{SInstr}
-use Rattle.htl_walk.specs.Paths.{Leg, begun, walks_from, AreInForm, AreChained, path_point}
+use Rattle.htl_walk.specs.Paths.{Leg, list_point, walks_from, AreInForm, AreChained, path_point}
 use Rattle.htl_walk.specs.Walk.{Point, Left, walk_from, last_point, first_point}
 use Rattle.htl_walk.proofs.Finishes.{some_same}
 use Rattle.htl_walk.proofs.Starts.{Rises, starts_rise}
 use Rattle.htl_refine.specs.FrameRecords.{RunningList, lists_from, lists_at, left_in, begun_before, begins_at, in_frame, old_records_by, new_records_by}
 use Rattle.htl_refine.specs.FrameRuns.{frame_modes, path_of, frame_places, frame_at, walks_of}
-use Rattle.htl_refine.specs.ListPlans.{no_leg, leg_at, point_at}
+use Rattle.htl_refine.specs.ListPlans.{no_leg, leg_at, list_start}
 use Rattle.htl_refine.specs.RecordLists.{list_at, ListsRun, OldRecords, NoOldRecords, NewRecords, NoNewRecords}
 use Rattle.htl_refine.specs.Records.{shifted, rounds_before}
 use Rattle.htl_refine.specs.ServedFrames.{IsServing, IsFeasibleRun}
@@ -76,9 +76,9 @@ lists_there jobs number f n m [] [] x j form l e = absurd (omega (arith, l))
 lists_there jobs number f n m [] (g ∷ gs) x j form l e = absurd form
 lists_there jobs number f n m (s ∷ ss) [] x j form l e = absurd form
 lists_there jobs number f n m (s ∷ ss) (g ∷ gs) x zero form l e =
-    ap (λ (z : ℕ). let r : RunningList = record { from = f + g.from; node = number z; code = s; walk = walk_from jobs s (begun g.from x) } in Some r) (let z : n ≡ m = omega (arith, e) in z)
+    ap (λ (z : ℕ). let r : RunningList = record { from = f + g.from; node = number z; code = s; walk = walk_from jobs s (list_point g.from x) } in Some r) (let z : n ≡ m = omega (arith, e) in z)
 lists_there jobs number f n m (s ∷ ss) (g ∷ gs) x (suc j) form l e =
-    lists_there jobs number f (suc n) m ss gs (last_point jobs s (begun g.from x)) j form.1 (omega (arith, l)) (omega (arith, e))
+    lists_there jobs number f (suc n) m ss gs (last_point jobs s (list_point g.from x)) j form.1 (omega (arith, l)) (omega (arith, e))
 
 lists_within : (number : ℕ → ℕ) (f n : ℕ) (ss : List (List SInstr)) (gs : List Leg) (ws : List (List Left)) (i : ℕ) (y : RunningList) → slice_get (lists_from number f n ss gs ws) i ≡ Some y → i < length gs
 lists_within number f n [] gs ws i y e = not_some y e
@@ -93,7 +93,7 @@ point_time jobs [] [] j x f h = absurd (omega arith)
 point_time jobs [] (g ∷ gs) j x f h = absurd f
 point_time jobs (s ∷ ss) [] j x f h = absurd f
 point_time jobs (s ∷ ss) (g ∷ gs) zero x f h = refl
-point_time jobs (s ∷ ss) (g ∷ gs) (suc j) x f h = point_time jobs ss gs j (last_point jobs s (begun g.from x)) f.1 (omega arith)
+point_time jobs (s ∷ ss) (g ∷ gs) (suc j) x f h = point_time jobs ss gs j (last_point jobs s (list_point g.from x)) f.1 (omega arith)
 
 leg_order : (a h n j : ℕ) (gs : List Leg) → AreChained a h n gs → j < length gs → (get_or gs j no_leg).from ≤ (get_or gs j no_leg).to
 leg_order a h n j [] c l = absurd (omega (arith, l))
@@ -177,9 +177,9 @@ module _ (t : Tables) (lists : List (List SInstr)) (es : List Event) (run : IsFe
       let p = frame_at t lists es f in
       let s = serving f in
       let m = known_leg f i few in
-      let time : (point_at p i).time ≡ (leg_at p i).from = point_time p.jobs p.lists p.legs i (first_point p.jobs p.lengths) s.forms m in
+      let time : (list_start p i).time ≡ (leg_at p i).from = point_time p.jobs p.lists p.legs i (first_point p.jobs p.lengths) s.forms m in
       let order : (leg_at p i).from ≤ (leg_at p i).to = leg_order 0 (frame_of t) (length p.jobs) i p.legs s.chain m in
-      times_within p.jobs (leg_at p i).known (leg_at p i).to (get_or p.lists i []) (point_at p i) (form_at p.lists p.legs i s.forms m) (omega (arith, time, order)) k l
+      times_within p.jobs (leg_at p i).known (leg_at p i).to (get_or p.lists i []) (list_start p i) (form_at p.lists p.legs i s.forms m) (omega (arith, time, order)) k l
       (ap (λ (ls : List Left). slice_get ls k) (sym (list_is p i s.forms m)) ∙ at)
 
   -- ---- the list that begins

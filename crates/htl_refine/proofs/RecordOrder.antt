@@ -4,11 +4,11 @@ use Rattle.std.proofs.lemmas.Bool.{cases_lt, ltb-false}
 use Rattle.htl_walk.specs.declared.job.Job.{Job}
 use Rattle.htl_walk.specs.declared.schedule.SInstr.{SInstr}
 use Rattle.htl_walk.specs.declared.schedule.SInstr.TheVariants.{Dispatch, Idle, End}
-use Rattle.htl_walk.specs.Paths.{Leg, begun, walks_from, end_to_end, AreInForm, AreChained}
+use Rattle.htl_walk.specs.Paths.{Leg, list_point, walks_from, end_to_end, AreInForm, AreChained}
 use Rattle.htl_walk.specs.Walk.{Point, Left, job_at, time_after, next_point, walk_from, last_point, InForm}
 use Rattle.htl_walk.proofs.Finishes.{some_same}
 use Rattle.htl_walk.proofs.Steps.{time_rises}
-use Rattle.htl_refine.specs.RecordCounts.{Rises, count_before}
+use Rattle.htl_refine.specs.RecordCounts.{Rises, count_left_before}
 
 -- nothing is not something
 pub not_some : {A : Type 0} {P : Type 0} (a : A) → ◌≡◌ {A = Option A} None (Some a) → P
@@ -49,7 +49,7 @@ path_rises jobs [] [] a h n x f c = tt
 path_rises jobs [] (g ∷ gs) a h n x f c = absurd f
 path_rises jobs (s ∷ ss) [] a h n x f c = absurd f
 path_rises jobs (s ∷ ss) (g ∷ gs) a h n x f c =
-    let y = begun g.from x in
+    let y = list_point g.from x in
     let own : Rises g.from (walk_from jobs s y) = walk_rises jobs s y in
     rises_later a g.from (end_to_end (walks_from jobs (s ∷ ss) (g ∷ gs) x)) (omega (arith, c.0))
     (rises_join g.from g.to (walk_from jobs s y) (end_to_end (walks_from jobs ss gs (last_point jobs s y))) c.1 own
@@ -76,20 +76,20 @@ pub path_within : (jobs : List Job) (ss : List (List SInstr)) (gs : List Leg) (a
     → slice_get (end_to_end (walks_from jobs ss gs x)) m ≡ Some b → b.at ≤ h
 path_within jobs [] gs a h n x m b f c e = not_some b e
 path_within jobs (s ∷ ss) [] a h n x m b f c e = absurd f
-path_within jobs (s ∷ ss) (g ∷ gs) a h n x m b f c e = elim (cases_lt m (length (walk_from jobs s (begun g.from x)))) [
+path_within jobs (s ∷ ss) (g ∷ gs) a h n x m b f c e = elim (cases_lt m (length (walk_from jobs s (list_point g.from x)))) [
   | inl l ↦ here l
-  | inr l ↦ there l (λ q at. path_within jobs ss gs g.to h n (last_point jobs s (begun g.from x)) q b f.1 c.3 at)
+  | inr l ↦ there l (λ q at. path_within jobs ss gs g.to h n (last_point jobs s (list_point g.from x)) q b f.1 c.3 at)
 ]
   where
-    here : m < length (walk_from jobs s (begun g.from x)) → b.at ≤ h
+    here : m < length (walk_from jobs s (list_point g.from x)) → b.at ≤ h
     here l =
-        let y = begun g.from x in
+        let y = list_point g.from x in
         let ms = end_to_end (walks_from jobs ss gs (last_point jobs s y)) in
         let r : b.at ≤ g.to = times_within jobs g.known g.to s y f.0 c.1 m b (sym (get_in (walk_from jobs s y) ms m l) ∙ e) in omega (arith, r, chain_ends g.to h n gs c.3)
 
-    there : length (walk_from jobs s (begun g.from x)) ≤ m → ((q : ℕ) → slice_get (end_to_end (walks_from jobs ss gs (last_point jobs s (begun g.from x)))) q ≡ Some b → b.at ≤ h) → b.at ≤ h
+    there : length (walk_from jobs s (list_point g.from x)) ≤ m → ((q : ℕ) → slice_get (end_to_end (walks_from jobs ss gs (last_point jobs s (list_point g.from x)))) q ≡ Some b → b.at ≤ h) → b.at ≤ h
     there l ih =
-        let y = begun g.from x in
+        let y = list_point g.from x in
         let ls = walk_from jobs s y in
         let ms = end_to_end (walks_from jobs ss gs (last_point jobs s y)) in
         let q = m - length ls in
@@ -99,7 +99,7 @@ path_within jobs (s ∷ ss) (g ∷ gs) a h n x m b f c e = elim (cases_lt m (len
 -- ---- the records before an offset
 
 -- the records from the count on are left then or later
-past_count : (a e : ℕ) (ls : List Left) (k : ℕ) (l : Left) → Rises a ls → count_before e ls ≤ k → slice_get ls k ≡ Some l → e ≤ l.at
+past_count : (a e : ℕ) (ls : List Left) (k : ℕ) (l : Left) → Rises a ls → count_left_before e ls ≤ k → slice_get ls k ≡ Some l → e ≤ l.at
 past_count a e [] k l r h g = not_some l g
 past_count a e (m ∷ ls) k l r h g = by_test (ltb m.at e) refl k h g (λ j b c. past_count m.at e ls j l r.1 b c)
   where
@@ -108,15 +108,15 @@ past_count a e (m ∷ ls) k l r h g = by_test (ltb m.at e) refl k h g (λ j b c.
     least a (m ∷ ms) zero l r e = omega (arith, r.0, ap (λ (z : Left). z.at) (some_same _ _ e))
     least a (m ∷ ms) (suc j) l r e = omega (arith, r.0, least m.at ms j l r.1 e)
 
-    by_test : (b : Bool) → ltb m.at e ≡ b → (j : ℕ) → cond b (suc (count_before e ls)) 0 ≤ j → slice_get (m ∷ ls) j ≡ Some l
-        → ((j : ℕ) → count_before e ls ≤ j → slice_get ls j ≡ Some l → e ≤ l.at) → e ≤ l.at
+    by_test : (b : Bool) → ltb m.at e ≡ b → (j : ℕ) → cond b (suc (count_left_before e ls)) 0 ≤ j → slice_get (m ∷ ls) j ≡ Some l
+        → ((j : ℕ) → count_left_before e ls ≤ j → slice_get ls j ≡ Some l → e ≤ l.at) → e ≤ l.at
     by_test false is j h g ih = omega (arith, ltb-false m.at e is, least m.at (m ∷ ls) j l (omega arith, r.1) g)
     by_test true is zero h g ih = absurd (omega arith)
     by_test true is (suc j) h g ih = ih j (omega arith) g
 
 -- so a record that is left before is counted
-pub counted : (a e : ℕ) (ls : List Left) (k : ℕ) (l : Left) → Rises a ls → slice_get ls k ≡ Some l → l.at < e → k < count_before e ls
-counted a e ls k l r g h = elim (either k (count_before e ls)) [ inl b ↦ b | inr b ↦ absurd (omega (arith, h, past_count a e ls k l r b g)) ]
+pub counted : (a e : ℕ) (ls : List Left) (k : ℕ) (l : Left) → Rises a ls → slice_get ls k ≡ Some l → l.at < e → k < count_left_before e ls
+counted a e ls k l r g h = elim (either k (count_left_before e ls)) [ inl b ↦ b | inr b ↦ absurd (omega (arith, h, past_count a e ls k l r b g)) ]
   where
     either : (a b : ℕ) → (a < b) ⊎ (b ≤ a)
     either a b = grind arith

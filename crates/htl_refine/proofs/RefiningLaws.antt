@@ -24,7 +24,7 @@ use Rattle.htl_form.proofs.PartLaws.{none_some, taken}
 use Rattle.htl_model.proofs.TestLaws.{both, equal, same_number, not_both}
 use Rattle.std.proofs.lemmas.Option.{slice_get_within}
 use Rattle.htl_model.specs.Selected.{is_at}
-use Rattle.htl_refine.specs.Refining.{refines, is_refined, place_fault, is_abstract_at, parent_fault_by, parent_fault, clashes, clash_before, first_clash, told_clash, shared_fault_by, shared_fault, unless_more, unless_less, excess, excess_at, excess_by, excess_fault, writers_parent, writer_parent, precedes, order_fault_by, order_fault}
+use Rattle.htl_refine.specs.Refining.{refines, is_refined, place_fault, is_abstract_at, parent_fault_by, parent_fault, clashes, clash_before, first_clash, told_clash, shared_fault_by, shared_fault, unless_more, unless_less, excess, excess_at, excess_by, excess_fault, writers_parent, writer_parent, inv_precedes, order_fault_by, order_fault}
 use Rattle.htl_refine.proofs.Kept.{one_writer}
 use Rattle.htl_refine.proofs.PrecedenceLaws.{precedes_is}
 use Rattle.htl_refine.proofs.SelectedLaws.{at_number, number_at}
@@ -355,14 +355,14 @@ order_is t last i (E.Port p) range kept few = by (writer_parent t p) i.parent re
   where
     by : (o q : Option ℕ) → writer_parent t p ≡ o → i.parent ≡ q → Finds (order_fault_by t o q) (Unordered t i (E.Port p))
     by (Some a) (Some b) w is =
-        finds_unless (precedes t a b) a b (Unordered t i (E.Port p))
-        (λ e. (is, parent_writer t p a w, λ l. not_both (precedes t a b) ((precedes_is t a b).1 l) e))
+        finds_unless (inv_precedes t a b) a b (Unordered t i (E.Port p))
+        (λ e. (is, parent_writer t p a w, λ l. not_both (inv_precedes t a b) ((precedes_is t a b).1 l) e))
         (λ h n u.
         let writer : Some a ≡ Some h = sym w ∙ writer_parent_is t last p h range kept few u.1 in
         let h_is : h ≡ a = cc in
         let parent : Some b ≡ Some n = sym is ∙ u.0 in
         let n_is : n ≡ b = cc in
-        (off (precedes t a b) (λ e. u.2 (subst (λ x. Leads (feeds t) x n) (sym h_is) (subst (λ y. Leads (feeds t) a y) (sym n_is) ((precedes_is t a b).0 e)))), h_is, n_is))
+        (off (inv_precedes t a b) (λ e. u.2 (subst (λ x. Leads (feeds t) x n) (sym h_is) (subst (λ y. Leads (feeds t) a y) (sym n_is) ((precedes_is t a b).0 e)))), h_is, n_is))
     by (Some a) None w is = record { says = λ h n e. absurd (none_some (h, n) e); finds = λ h n u. absurd (none_some n (sym is ∙ u.0)) }
     by None q w is =
         record { says = λ h n e. absurd (none_some (h, n) e); finds = λ h n u. absurd (none_some h (sym w ∙ writer_parent_is t last p h range kept few u.1)) }

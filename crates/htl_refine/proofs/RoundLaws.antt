@@ -19,9 +19,9 @@ use Rattle.htl_form.proofs.Places.{all_at}
 use Rattle.htl_model.proofs.TestLaws.{same_number}
 use Rattle.htl_walk.specs.declared.job.Job.{Job}
 use Rattle.htl_walk.specs.declared.schedule.SInstr.{SInstr}
-use Rattle.htl_walk.specs.Jobs.{abstract_jobs, job_of, jobs_of}
+use Rattle.htl_walk.specs.Jobs.{abstract_jobs, job_of, jobs_standing}
 use Rattle.htl_walk.specs.Refinement.{HaveLengths, AreWithinWorst}
-use Rattle.htl_walk.specs.Walk.{IsAccepted, Meets}
+use Rattle.htl_walk.specs.Walk.{ScheduleIsAccepted, Meets}
 use Rattle.htl_refine.specs.ConcreteJobs.{running_invs, running_positions, standing, concrete_jobs}
 use Rattle.htl_refine.specs.Records.{last_took, inv_worst, took, lengths_of, AreTookWithin, modes_at, round_at}
 use Rattle.htl_refine.specs.Roots.{selection_of}
@@ -74,13 +74,13 @@ module _ (t : Tables) (modes : List (Option ℕ)) (es : List Event) (start : ℕ
 no_jobs : (t : Tables) (modes : List (Option ℕ)) → t.modules ≡ [] → concrete_jobs t modes ≡ []
 no_jobs t modes none =
     let positions : running_positions t modes ≡ [] = ap (λ (us : List Module). flat_map (running_invs t modes) (places_from is_root 0 us)) none in
-    ap (λ ps. jobs_of t (map (chosen t modes) ps)) positions
+    ap (λ ps. jobs_standing t (map (chosen t modes) ps)) positions
 
 none_meet : (jobs : List Job) (ns : List ℕ) (s : List SInstr) → jobs ≡ [] → Meets jobs ns s
 none_meet jobs ns s none p j at here = absurd (none_some j (sym (ap (λ js. slice_get js p) none) ∙ at))
 
 pub rounds_meet : (t : Tables) (schedules : List (List SInstr)) (es : List Event) (start period : ℕ) → AreInRange t → KeptTo t 16 → AreTookWithin t es
-    → ((sel : ℕ) → sel < selection_count t → IsAccepted (abstract_jobs t sel) period (get_or schedules sel []))
+    → ((sel : ℕ) → sel < selection_count t → ScheduleIsAccepted (abstract_jobs t sel) period (get_or schedules sel []))
     → let r = round_at t schedules es start in Meets r.jobs r.lengths r.schedule
 rounds_meet t schedules es start period range kept within accepted = by t.modules refl
   where

@@ -13,8 +13,8 @@ use Rattle.htl_form.proofs.Finding.{finds_nothing}
 use Rattle.htl_model.proofs.FirstLaws.{none_at, found_at, IsFirstAt}
 use Rattle.htl_form.proofs.Judging.{Judges}
 use Rattle.htl_form.proofs.SiteLaws.{rule_none, rule_first, IsFirstOfRule}
-use Rattle.htl_refine.specs.Rules.{law_of, rule_number, all_rules, judges_inputs}
-use Rattle.htl_refine.specs.Tests.{tests, of_rule, first_fault}
+use Rattle.htl_refine.specs.Rules.{refinement_law_of, refinement_rule_number, refinement_rules, judges_refined_inputs}
+use Rattle.htl_refine.specs.Tests.{tests, refinement_fault_of, first_refinement_fault}
 use Rattle.htl_refine.specs.declared.rule.Rule.{Rule}
 use Rattle.htl_refine.specs.declared.rule.Rule.TheVariants as R
 use Rattle.htl_refine.proofs.RefiningLaws.{place_is, parent_is, shared_is, exceeds_is, order_is}
@@ -22,7 +22,7 @@ use Rattle.htl_refine.proofs.RuleOrder.{place_of, number_at}
 
 -- ---- what isn't judged
 
-pub input_silent : (t : Tables) (r : Rule) → judges_inputs r ≡ false → (k : ℕ) (i : Inv) (j : ℕ) (e : End) → (tests t r).input k i j e ≡ None
+pub input_silent : (t : Tables) (r : Rule) → judges_refined_inputs r ≡ false → (k : ℕ) (i : Inv) (j : ℕ) (e : End) → (tests t r).input k i j e ≡ None
 input_silent t R.AbstractPlaces h k i j e = refl
 input_silent t R.Parents h k i j e = refl
 input_silent t R.SharedParents h k i j e = refl
@@ -48,7 +48,7 @@ test_silent t R.Inheritance m c = refl
 
 -- ---- each rule's tests find exactly what breaks it
 
-pub judges : (t : Tables) → AreInRange t → KeptTo t 12 → (r : Rule) → Judges t (tests t r) (breach t (law_of r))
+pub judges : (t : Tables) → AreInRange t → KeptTo t 12 → (r : Rule) → Judges t (tests t r) (breach t (refinement_law_of r))
 judges t range kept R.AbstractPlaces =
     record {
       mode = λ m x at. finds_nothing;
@@ -86,24 +86,24 @@ judges t range kept R.Inheritance =
 
 -- a rule at whose place nothing is found
 kept_at : (t : Tables) → AreInRange t → KeptTo t 12 → (law : FormRule)
-    → ((p : ℕ) (r : Rule) → p + 13 ≡ number_of law → slice_get all_rules p ≡ Some r → of_rule t p r ≡ None)
+    → ((p : ℕ) (r : Rule) → p + 13 ≡ number_of law → slice_get refinement_rules p ≡ Some r → refinement_fault_of t p r ≡ None)
     → (s : Site) (h d : ℕ) → Broken t law s h d → ⊥
 kept_at t range kept law none s h d y = elim (order (number_of law)) [
   | inl few ↦ kept law s h d few y
   | inr more ↦
       let q = place_of law more in
-      rule_none t (tests t q.1) (law_of q.1) (judges t range kept q.1) (rule_number q.1) (none q.0 q.1 q.2 q.3) s h d (subst (λ (l : FormRule). Broken t l s h d) (sym q.4) y)
+      rule_none t (tests t q.1) (refinement_law_of q.1) (judges t range kept q.1) (refinement_rule_number q.1) (none q.0 q.1 q.2 q.3) s h d (subst (λ (l : FormRule). Broken t l s h d) (sym q.4) y)
 ]
   where
     order : (n : ℕ) → (n ≤ 12) ⊎ (12 < n)
     order n = grind arith
 
-pub kept_all : (t : Tables) → AreInRange t → KeptTo t 12 → first_fault t all_rules ≡ None → KeptTo t 16
-kept_all t range kept none = λ law s h d few y. kept_at t range kept law (λ p r is at. none_at (of_rule t) all_rules none p r at) s h d y
+pub kept_all : (t : Tables) → AreInRange t → KeptTo t 12 → first_refinement_fault t refinement_rules ≡ None → KeptTo t 16
+kept_all t range kept none = λ law s h d few y. kept_at t range kept law (λ p r is at. none_at (refinement_fault_of t) refinement_rules none p r at) s h d y
 
 -- nothing is broken before the first of a rule, where rules before it find nothing
-least_of_all : (t : Tables) → AreInRange t → KeptTo t 12 → (f : FormFault) (g : IsFirstAt (of_rule t) all_rules f) (first : IsFirstOfRule t (law_of g.item) (rule_number g.item) f)
-    → (law : FormRule) (s : Site) (h d : ℕ) → ComesBefore law s (law_of g.item) (site_of f first.part) → Broken t law s h d → ⊥
+least_of_all : (t : Tables) → AreInRange t → KeptTo t 12 → (f : FormFault) (g : IsFirstAt (refinement_fault_of t) refinement_rules f) (first : IsFirstOfRule t (refinement_law_of g.item) (refinement_rule_number g.item) f)
+    → (law : FormRule) (s : Site) (h d : ℕ) → ComesBefore law s (refinement_law_of g.item) (site_of f first.part) → Broken t law s h d → ⊥
 least_of_all t range kept f g first law s h d (inl less) y =
     let number = number_at g.place g.item g.at in
     kept_at t range kept law (λ p r is at. g.before p r (omega (arith, number.0)) at) s h d y
@@ -111,16 +111,16 @@ least_of_all t range kept f g first law s h d (inr same) y =
     let number = number_at g.place g.item g.at in
     let q = place_of law (omega (arith, number.0)) in
     let place : q.0 ≡ g.place = omega (arith, q.2, number.0) in
-    let item : Some q.1 ≡ Some g.item = sym q.3 ∙ ap (slice_get all_rules) place ∙ g.at in
+    let item : Some q.1 ≡ Some g.item = sym q.3 ∙ ap (slice_get refinement_rules) place ∙ g.at in
     let rule : q.1 ≡ g.item = cc in
-    first.least s h d same.1 (subst (λ (l : FormRule). Broken t l s h d) (sym q.4 ∙ ap law_of rule) y)
+    first.least s h d same.1 (subst (λ (l : FormRule). Broken t l s h d) (sym q.4 ∙ ap refinement_law_of rule) y)
 
-pub first : (t : Tables) → AreInRange t → KeptTo t 12 → (f : FormFault) → first_fault t all_rules ≡ Some f → (13 ≤ f.rule) × (f.rule ≤ 16) × IsFirstBroken t f
+pub first : (t : Tables) → AreInRange t → KeptTo t 12 → (f : FormFault) → first_refinement_fault t refinement_rules ≡ Some f → (13 ≤ f.rule) × (f.rule ≤ 16) × IsFirstBroken t f
 first t range kept f e =
-    let g = found_at (of_rule t) all_rules f e in
+    let g = found_at (refinement_fault_of t) refinement_rules f e in
     let number = number_at g.place g.item g.at in
-    let one = rule_first t (tests t g.item) (law_of g.item) (judges t range kept g.item) (rule_number g.item) f g.gives in (
+    let one = rule_first t (tests t g.item) (refinement_law_of g.item) (judges t range kept g.item) (refinement_rule_number g.item) f g.gives in (
       omega (arith, one.rule, number.0, number.1),
       omega (arith, one.rule, number.0, number.1),
-      record { law = law_of g.item; part = one.part; rule = one.rule; «module» = one.«module»; broken = one.broken; first = least_of_all t range kept f g one },
+      record { law = refinement_law_of g.item; part = one.part; rule = one.rule; «module» = one.«module»; broken = one.broken; first = least_of_all t range kept f g one },
     )

@@ -4,11 +4,11 @@ use Rattle.std.proofs.lemmas.Bool.{cases_lt}
 use Rattle.htl_walk.specs.declared.job.Job.{Job}
 use Rattle.htl_walk.specs.declared.schedule.SInstr.{SInstr}
 use Rattle.htl_walk.specs.declared.schedule.SInstr.TheVariants.{Dispatch, Idle, End}
-use Rattle.htl_walk.specs.Paths.{Leg, begun, walks_from, end_to_end, AreInForm, AreChained}
-use Rattle.htl_walk.specs.Walk.{Point, Left, job_at, begins, slice_between, next_point, walk_from, last_point, slice_of}
+use Rattle.htl_walk.specs.Paths.{Leg, list_point, walks_from, end_to_end, AreInForm, AreChained}
+use Rattle.htl_walk.specs.Walk.{Point, Left, job_at, dispatch_begins, slice_between, next_point, walk_from, last_point, slice_of}
 use Rattle.htl_walk.proofs.Finishes.{some_same}
 use Rattle.htl_walk.proofs.Steps.{time_rises}
-use Rattle.htl_refine.specs.ServedJobs.{AreApart}
+use Rattle.htl_refine.specs.ServedJobs.{SlicesAreApart}
 use Rattle.htl_refine.proofs.RecordOrder.{not_some, times_within, get_in, get_past}
 
 -- ---- in one list
@@ -22,15 +22,15 @@ slice_inside jobs (Dispatch p h) x s e = by_work (get_or x.left p 0) e
     y : Point
     y = next_point jobs (Dispatch p h) x
 
-    by_work : (w : ℕ) → slice_between (begins x.time (job_at jobs p).release h) h w y.time ≡ Some s → (x.time ≤ s.0) × (s.1 ≡ y.time)
+    by_work : (w : ℕ) → slice_between (dispatch_begins x.time (job_at jobs p).release h) h w y.time ≡ Some s → (x.time ≤ s.0) × (s.1 ≡ y.time)
     by_work zero e = not_some s e
-    by_work (suc w) e = by_room (ltb (begins x.time (job_at jobs p).release h) h) e
+    by_work (suc w) e = by_room (ltb (dispatch_begins x.time (job_at jobs p).release h) h) e
       where
-        by_room : (b : Bool) → ◌≡◌ {A = Option (ℕ × ℕ)} (elim b [ true ↦ Some (begins x.time (job_at jobs p).release h, y.time) | false ↦ None ]) (Some s) → (x.time ≤ s.0) × (s.1 ≡ y.time)
+        by_room : (b : Bool) → ◌≡◌ {A = Option (ℕ × ℕ)} (elim b [ true ↦ Some (dispatch_begins x.time (job_at jobs p).release h, y.time) | false ↦ None ]) (Some s) → (x.time ≤ s.0) × (s.1 ≡ y.time)
         by_room false e = not_some s e
         by_room true e =
-            let same : ◌≡◌ {A = ℕ × ℕ} (begins x.time (job_at jobs p).release h, y.time) s = some_same _ _ e in
-            let first : begins x.time (job_at jobs p).release h ≡ s.0 = ap (λ (z : ℕ × ℕ). z.0) same in
+            let same : ◌≡◌ {A = ℕ × ℕ} (dispatch_begins x.time (job_at jobs p).release h, y.time) s = some_same _ _ e in
+            let first : dispatch_begins x.time (job_at jobs p).release h ≡ s.0 = ap (λ (z : ℕ × ℕ). z.0) same in
             (omega arith, sym (ap (λ (z : ℕ × ℕ). z.1) same))
 
 pub slice_from : (jobs : List Job) (is : List SInstr) (x : Point) (m : ℕ) (b : Left) (u : ℕ × ℕ) → slice_get (walk_from jobs is x) m ≡ Some b → b.slice ≡ Some u → x.time ≤ u.0
@@ -38,7 +38,7 @@ slice_from jobs [] x m b u e f = not_some b e
 slice_from jobs (i ∷ is) x zero b u e f = (slice_inside jobs i x u (ap (λ (z : Left). z.slice) (some_same _ _ e) ∙ f)).0
 slice_from jobs (i ∷ is) x (suc m) b u e f = let r : (next_point jobs i x).time ≤ u.0 = slice_from jobs is (next_point jobs i x) m b u e f in omega (arith, r, time_rises jobs i x)
 
-pub slices_apart : (jobs : List Job) (is : List SInstr) (x : Point) → AreApart (walk_from jobs is x)
+pub slices_apart : (jobs : List Job) (is : List SInstr) (x : Point) → SlicesAreApart (walk_from jobs is x)
 slices_apart jobs [] x k m a b s u h e f g d = not_some a e
 slices_apart jobs (i ∷ is) x k zero a b s u h e f g d = absurd (omega arith)
 slices_apart jobs (i ∷ is) x zero (suc m) a b s u h e f g d =
@@ -60,48 +60,48 @@ path_from : (jobs : List Job) (ss : List (List SInstr)) (gs : List Leg) (a h n :
     → slice_get (end_to_end (walks_from jobs ss gs x)) m ≡ Some b → b.slice ≡ Some u → a ≤ u.0
 path_from jobs [] gs a h n x m b u f c e d = not_some b e
 path_from jobs (s ∷ ss) [] a h n x m b u f c e d = absurd f
-path_from jobs (s ∷ ss) (g ∷ gs) a h n x m b u f c e d = elim (cases_lt m (length (walk_from jobs s (begun g.from x)))) [
+path_from jobs (s ∷ ss) (g ∷ gs) a h n x m b u f c e d = elim (cases_lt m (length (walk_from jobs s (list_point g.from x)))) [
   | inl l ↦ here l
-  | inr l ↦ there l (λ q at. path_from jobs ss gs g.to h n (last_point jobs s (begun g.from x)) q b u f.1 c.3 at d)
+  | inr l ↦ there l (λ q at. path_from jobs ss gs g.to h n (last_point jobs s (list_point g.from x)) q b u f.1 c.3 at d)
 ]
   where
-    here : m < length (walk_from jobs s (begun g.from x)) → a ≤ u.0
+    here : m < length (walk_from jobs s (list_point g.from x)) → a ≤ u.0
     here l =
-        let y = begun g.from x in
+        let y = list_point g.from x in
         let ms = end_to_end (walks_from jobs ss gs (last_point jobs s y)) in
         let r : g.from ≤ u.0 = slice_from jobs s y m b u (sym (get_in (walk_from jobs s y) ms m l) ∙ e) d in omega (arith, r, c.0)
 
-    there : length (walk_from jobs s (begun g.from x)) ≤ m → ((q : ℕ) → slice_get (end_to_end (walks_from jobs ss gs (last_point jobs s (begun g.from x)))) q ≡ Some b → g.to ≤ u.0) → a ≤ u.0
+    there : length (walk_from jobs s (list_point g.from x)) ≤ m → ((q : ℕ) → slice_get (end_to_end (walks_from jobs ss gs (last_point jobs s (list_point g.from x)))) q ≡ Some b → g.to ≤ u.0) → a ≤ u.0
     there l ih =
-        let y = begun g.from x in
+        let y = list_point g.from x in
         let ls = walk_from jobs s y in
         let ms = end_to_end (walks_from jobs ss gs (last_point jobs s y)) in
         let q = m - length ls in
         let is : length ls + q ≡ m = omega (arith, l) in
         let r : g.to ≤ u.0 = ih q (sym (get_past ls ms q) ∙ ap (slice_get (ls ++ ms)) is ∙ e) in omega (arith, r, c.0, c.1)
 
-pub path_apart : (jobs : List Job) (ss : List (List SInstr)) (gs : List Leg) (a h n : ℕ) (x : Point) → AreInForm ss gs → AreChained a h n gs → AreApart (end_to_end (walks_from jobs ss gs x))
+pub path_apart : (jobs : List Job) (ss : List (List SInstr)) (gs : List Leg) (a h n : ℕ) (x : Point) → AreInForm ss gs → AreChained a h n gs → SlicesAreApart (end_to_end (walks_from jobs ss gs x))
 path_apart jobs [] gs a h n x f c k m p q s u l e g d i = not_some p e
 path_apart jobs (t ∷ ss) [] a h n x f c k m p q s u l e g d i = absurd f
 path_apart jobs (t ∷ ss) (v ∷ gs) a h n x f c k m p q s u l e g d z =
-    elim (cases_lt m (length (walk_from jobs t (begun v.from x)))) [
+    elim (cases_lt m (length (walk_from jobs t (list_point v.from x)))) [
       | inl b ↦ both b
-      | inr b ↦ elim (cases_lt k (length (walk_from jobs t (begun v.from x)))) [
+      | inr b ↦ elim (cases_lt k (length (walk_from jobs t (list_point v.from x)))) [
         | inl b' ↦ across b' b
-        | inr b' ↦ later b' b (λ i j o at to. path_apart jobs ss gs v.to h n (last_point jobs t (begun v.from x)) f.1 c.3 i j p q s u o at to d z)
+        | inr b' ↦ later b' b (λ i j o at to. path_apart jobs ss gs v.to h n (last_point jobs t (list_point v.from x)) f.1 c.3 i j p q s u o at to d z)
       ]
     ]
   where
-    both : m < length (walk_from jobs t (begun v.from x)) → s.1 ≤ u.0
+    both : m < length (walk_from jobs t (list_point v.from x)) → s.1 ≤ u.0
     both b =
-        let y = begun v.from x in
+        let y = list_point v.from x in
         let ls = walk_from jobs t y in
         let ms = end_to_end (walks_from jobs ss gs (last_point jobs t y)) in
         slices_apart jobs t y k m p q s u l (sym (get_in ls ms k (omega (arith, l, b))) ∙ e) (sym (get_in ls ms m b) ∙ g) d z
 
-    across : k < length (walk_from jobs t (begun v.from x)) → length (walk_from jobs t (begun v.from x)) ≤ m → s.1 ≤ u.0
+    across : k < length (walk_from jobs t (list_point v.from x)) → length (walk_from jobs t (list_point v.from x)) ≤ m → s.1 ≤ u.0
     across b' b =
-        let y = begun v.from x in
+        let y = list_point v.from x in
         let ls = walk_from jobs t y in
         let ms = end_to_end (walks_from jobs ss gs (last_point jobs t y)) in
         let r = m - length ls in
@@ -112,11 +112,11 @@ path_apart jobs (t ∷ ss) (v ∷ gs) a h n x f c k m p q s u l e g d z =
         let late : v.to ≤ u.0 = path_from jobs ss gs v.to h n (last_point jobs t y) r q u f.1 c.3 (sym (get_past ls ms r) ∙ ap (slice_get (ls ++ ms)) is ∙ g) z in
         omega (arith, ends, early, late)
 
-    later : length (walk_from jobs t (begun v.from x)) ≤ k → length (walk_from jobs t (begun v.from x)) ≤ m
-        → ((i j : ℕ) → i < j → slice_get (end_to_end (walks_from jobs ss gs (last_point jobs t (begun v.from x)))) i ≡ Some p → slice_get (end_to_end (walks_from jobs ss gs (last_point jobs t (begun v.from x)))) j ≡ Some q → s.1 ≤ u.0)
+    later : length (walk_from jobs t (list_point v.from x)) ≤ k → length (walk_from jobs t (list_point v.from x)) ≤ m
+        → ((i j : ℕ) → i < j → slice_get (end_to_end (walks_from jobs ss gs (last_point jobs t (list_point v.from x)))) i ≡ Some p → slice_get (end_to_end (walks_from jobs ss gs (last_point jobs t (list_point v.from x)))) j ≡ Some q → s.1 ≤ u.0)
         → s.1 ≤ u.0
     later b' b ih =
-        let y = begun v.from x in
+        let y = list_point v.from x in
         let ls = walk_from jobs t y in
         let ms = end_to_end (walks_from jobs ss gs (last_point jobs t y)) in
         let j = k - length ls in

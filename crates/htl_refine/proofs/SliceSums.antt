@@ -4,21 +4,21 @@ use Rattle.std.proofs.lemmas.Bool.{eq-eqb, ne_eqb, ltb-true, ltb-false}
 use Rattle.htl_walk.specs.declared.job.Job.{Job}
 use Rattle.htl_walk.specs.declared.schedule.SInstr.{SInstr}
 use Rattle.htl_walk.specs.declared.schedule.SInstr.TheVariants.{Dispatch, Idle, End}
-use Rattle.htl_walk.specs.Walk.{Point, job_at, begins, time_after, work_after, slice_between, slice_onto, next_point, walk_from, last_point, finish, slices}
+use Rattle.htl_walk.specs.Walk.{Point, job_at, dispatch_begins, time_after, work_after, slice_between, slice_onto, next_point, walk_from, last_point, finish, slices}
 use Rattle.htl_walk.proofs.Acceptance.{no_finish}
 use Rattle.htl_walk.proofs.Steps.{left_other, left_same, apart}
 use Rattle.htl_refine.specs.ServedJobs.{spent}
 use Rattle.htl_refine.proofs.RecordOrder.{not_some}
 
 -- what one dispatch does of the work
-one_spent : (now w r until : ℕ) (ss : List (ℕ × ℕ)) → spent (slice_onto (slice_between (begins now r until) until w (time_after now w r until)) ss) + work_after now w r until ≡ spent ss + w
+one_spent : (now w r until : ℕ) (ss : List (ℕ × ℕ)) → spent (slice_onto (slice_between (dispatch_begins now r until) until w (time_after now w r until)) ss) + work_after now w r until ≡ spent ss + w
 one_spent now zero r until ss = omega arith
-one_spent now (suc w) r until ss = by_room (ltb (begins now r until) until) refl
+one_spent now (suc w) r until ss = by_room (ltb (dispatch_begins now r until) until) refl
   where
-    by_room : (b : Bool) → ltb (begins now r until) until ≡ b
-        → spent (slice_onto (elim b [ true ↦ Some (begins now r until, time_after now (suc w) r until) | false ↦ None ]) ss) + work_after now (suc w) r until ≡ spent ss + suc w
-    by_room true e = let h : begins now r until < until = ltb-true _ _ e in omega arith
-    by_room false e = let h : until ≤ begins now r until = ltb-false _ _ e in omega arith
+    by_room : (b : Bool) → ltb (dispatch_begins now r until) until ≡ b
+        → spent (slice_onto (elim b [ true ↦ Some (dispatch_begins now r until, time_after now (suc w) r until) | false ↦ None ]) ss) + work_after now (suc w) r until ≡ spent ss + suc w
+    by_room true e = let h : dispatch_begins now r until < until = ltb-true _ _ e in omega arith
+    by_room false e = let h : until ≤ dispatch_begins now r until = ltb-false _ _ e in omega arith
 
 adds_up : (jobs : List Job) (is : List SInstr) (x : Point) (p : ℕ) → spent (slices (walk_from jobs is x) p) + get_or (last_point jobs is x).left p 0 ≡ get_or x.left p 0
 adds_up jobs [] x p = omega arith
@@ -36,18 +36,18 @@ adds_up jobs (Dispatch q h ∷ is) x p = by_position (apart q p) (adds_up jobs i
     r = (job_at jobs q).release
 
     by_position : (q ≡ p) ⊎ (q ≢ p) → spent (slices (walk_from jobs is y) p) + get_or (last_point jobs is y).left p 0 ≡ get_or y.left p 0
-        → spent (cond (eqb q p) (slice_onto (slice_between (begins x.time r h) h w y.time) (slices (walk_from jobs is y) p)) (slices (walk_from jobs is y) p)) + get_or (last_point jobs is y).left p 0 ≡ get_or x.left p 0
+        → spent (cond (eqb q p) (slice_onto (slice_between (dispatch_begins x.time r h) h w y.time) (slices (walk_from jobs is y) p)) (slices (walk_from jobs is y) p)) + get_or (last_point jobs is y).left p 0 ≡ get_or x.left p 0
     by_position (inl e) ih =
         let here : get_or y.left p 0 ≡ work_after x.time w r h = ap (λ z. get_or y.left z 0) (sym e) ∙ left_same x.left q x.time r h in
         let was : get_or x.left p 0 ≡ w = ap (λ z. get_or x.left z 0) (sym e) in
-        let cut : spent (cond (eqb q p) (slice_onto (slice_between (begins x.time r h) h w y.time) (slices (walk_from jobs is y) p)) (slices (walk_from jobs is y) p))
-        ≡ spent (slice_onto (slice_between (begins x.time r h) h w (time_after x.time w r h)) (slices (walk_from jobs is y) p)) =
-        ap (λ b. spent (cond b (slice_onto (slice_between (begins x.time r h) h w y.time) (slices (walk_from jobs is y) p)) (slices (walk_from jobs is y) p))) (eq-eqb q p e) in
+        let cut : spent (cond (eqb q p) (slice_onto (slice_between (dispatch_begins x.time r h) h w y.time) (slices (walk_from jobs is y) p)) (slices (walk_from jobs is y) p))
+        ≡ spent (slice_onto (slice_between (dispatch_begins x.time r h) h w (time_after x.time w r h)) (slices (walk_from jobs is y) p)) =
+        ap (λ b. spent (cond b (slice_onto (slice_between (dispatch_begins x.time r h) h w y.time) (slices (walk_from jobs is y) p)) (slices (walk_from jobs is y) p))) (eq-eqb q p e) in
         omega (arith, ih, here, was, cut, one_spent x.time w r h (slices (walk_from jobs is y) p))
     by_position (inr n) ih =
         let same : get_or y.left p 0 ≡ get_or x.left p 0 = left_other x.left q p (work_after x.time w r h) n in
-        let cut : spent (cond (eqb q p) (slice_onto (slice_between (begins x.time r h) h w y.time) (slices (walk_from jobs is y) p)) (slices (walk_from jobs is y) p)) ≡ spent (slices (walk_from jobs is y) p) =
-        ap (λ b. spent (cond b (slice_onto (slice_between (begins x.time r h) h w y.time) (slices (walk_from jobs is y) p)) (slices (walk_from jobs is y) p))) (ne_eqb q p n) in
+        let cut : spent (cond (eqb q p) (slice_onto (slice_between (dispatch_begins x.time r h) h w y.time) (slices (walk_from jobs is y) p)) (slices (walk_from jobs is y) p)) ≡ spent (slices (walk_from jobs is y) p) =
+        ap (λ b. spent (cond b (slice_onto (slice_between (dispatch_begins x.time r h) h w y.time) (slices (walk_from jobs is y) p)) (slices (walk_from jobs is y) p))) (ne_eqb q p n) in
         omega (arith, ih, same, cut)
 
 -- who finishes did all its work

@@ -8,7 +8,7 @@ use Rattle.htl_model.specs.declared.parts.Mode.{Mode}
 use Rattle.htl_model.specs.declared.parts.Module.{Module}
 use Rattle.htl_model.specs.declared.parts.Switch.{Switch}
 use Rattle.htl_model.specs.declared.state.Stay.{Stay}
-use Rattle.htl_model.specs.Meaning.{state, place, stay_of, stays_to, next_stay, next_stay_at, go_on_or_begin, runs, target, target_from, switch_holds}
+use Rattle.htl_model.specs.Meaning.{state, module_stay, stay_of, stays_to, next_stay, next_stay_at, go_on_or_begin, runs, target, target_from, switch_holds}
 use Rattle.htl_model.specs.Ranges.{AreInRange, IsModeThat, IsSwitchInRange}
 use Rattle.htl_model.specs.Selected.{entry, is_at, is_running, IsModeOf, is_active, IsEntry, IsSelection}
 use Rattle.htl_model.specs.Tables.{Tables, mode_module, mode_period}
@@ -136,7 +136,7 @@ module _ (t : Tables) (range : AreInRange t) where
     }
 
   -- at each instant
-  pub state_own : (es : List Event) (now u : ℕ) → u < length t.modules → IsOwn u (place t es u now)
+  pub state_own : (es : List Event) (now u : ℕ) → u < length t.modules → IsOwn u (module_stay t es u now)
   unfolding stays
   state_own es zero u within = let x = item_at t.modules u within in (stay_right (state t es 0).values 0 [] (λ w h. tt) u x.0 x.1).0
   state_own es (suc n) u within =

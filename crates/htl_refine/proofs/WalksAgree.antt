@@ -4,7 +4,7 @@ use Rattle.std.proofs.lemmas.Option.{get_or_from_slice_get}
 use Rattle.htl_model.specs.Frames.{frame_of, starts, known_by}
 use Rattle.htl_walk.specs.declared.job.Job.{Job}
 use Rattle.htl_walk.specs.declared.schedule.SInstr.{SInstr}
-use Rattle.htl_walk.specs.Paths.{Leg, begun, walks_from, AreInForm}
+use Rattle.htl_walk.specs.Paths.{Leg, list_point, walks_from, AreInForm}
 use Rattle.htl_walk.specs.Walk.{Point, job_at, walk_from, last_point, first_point, work}
 use Rattle.htl_walk.proofs.Locality.{locality, take_walks, take_forms}
 use Rattle.htl_refine.specs.AgreeingRuns.{FrontsAlike, WalksAgree}

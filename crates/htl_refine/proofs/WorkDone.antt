@@ -2,12 +2,12 @@
 use Rattle.std.proofs.Common.{◌≡◌, ℕ, zero, suc, ◌+◌, ◌≤◌, ◌<◌, ◌⊎◌, Bool, true, false, cond, ◌&&◌, is_some, List, [], ◌∷◌, ◌++◌, length, get_or, slice_get, take, Option, Some, None, refl, sym, ap, ◌∙◌, arith, inl, inr, append_assoc}
 use Rattle.htl_walk.specs.declared.job.Job.{Job}
 use Rattle.htl_walk.specs.declared.schedule.SInstr.{SInstr}
-use Rattle.htl_walk.specs.Paths.{Leg, begun, walks_from, end_to_end, AreInForm, path_point}
+use Rattle.htl_walk.specs.Paths.{Leg, list_point, walks_from, end_to_end, AreInForm, path_point}
 use Rattle.htl_walk.specs.Walk.{Point, Left, next_point, left_by, walk_from, last_point, first_point, is_position, finish}
 use Rattle.htl_walk.proofs.Finishes.{some_same, ends, finish_now, finish_later}
 use Rattle.htl_refine.specs.FrameRuns.{walks_of}
 use Rattle.htl_refine.specs.ListLaws.{WorkDone}
-use Rattle.htl_refine.specs.ListPlans.{leg_at, point_at, list_plan, list_walk, records_before}
+use Rattle.htl_refine.specs.ListPlans.{leg_at, list_start, list_plan, list_walk, records_before}
 use Rattle.htl_refine.specs.RecordCounts.{done_by}
 use Rattle.htl_refine.proofs.FinishingRecords.{done_past}
 use Rattle.htl_refine.proofs.Fronts.{get_front}
@@ -82,16 +82,16 @@ path_done jobs [] (g ∷ gs) j p x f l some none = absurd f
 path_done jobs (s ∷ ss) [] j p x f l some none = absurd f
 path_done jobs (s ∷ ss) (g ∷ gs) zero p x f l some none = absurd (omega (arith, some, none))
 path_done jobs (s ∷ ss) (g ∷ gs) (suc j) p x f l some none =
-    by (amount (get_or (last_point jobs s (begun g.from x)).left p 0)) (λ more. path_done jobs ss gs j p (last_point jobs s (begun g.from x)) f.1 (omega arith) more none)
+    by (amount (get_or (last_point jobs s (list_point g.from x)).left p 0)) (λ more. path_done jobs ss gs j p (last_point jobs s (list_point g.from x)) f.1 (omega arith) more none)
   where
-    by : (0 < get_or (last_point jobs s (begun g.from x)).left p 0) ⊎ (get_or (last_point jobs s (begun g.from x)).left p 0 ≡ 0)
-        → (0 < get_or (last_point jobs s (begun g.from x)).left p 0 → (q : ℕ) × (finish (end_to_end (take j (walks_from jobs ss gs (last_point jobs s (begun g.from x))))) p ≡ Some q))
-        → (q : ℕ) × (finish (walk_from jobs s (begun g.from x) ++ end_to_end (take j (walks_from jobs ss gs (last_point jobs s (begun g.from x))))) p ≡ Some q)
+    by : (0 < get_or (last_point jobs s (list_point g.from x)).left p 0) ⊎ (get_or (last_point jobs s (list_point g.from x)).left p 0 ≡ 0)
+        → (0 < get_or (last_point jobs s (list_point g.from x)).left p 0 → (q : ℕ) × (finish (end_to_end (take j (walks_from jobs ss gs (last_point jobs s (list_point g.from x))))) p ≡ Some q))
+        → (q : ℕ) × (finish (walk_from jobs s (list_point g.from x) ++ end_to_end (take j (walks_from jobs ss gs (last_point jobs s (list_point g.from x))))) p ≡ Some q)
     by (inl more) ih =
         let r = ih more in
-        join_later (walk_from jobs s (begun g.from x)) (end_to_end (take j (walks_from jobs ss gs (last_point jobs s (begun g.from x))))) p r.0 r.1
+        join_later (walk_from jobs s (list_point g.from x)) (end_to_end (take j (walks_from jobs ss gs (last_point jobs s (list_point g.from x))))) p r.0 r.1
     by (inr e) ih =
-        let y = begun g.from x in
+        let y = list_point g.from x in
         let r = done_there jobs s y p some e in
         join_some (walk_from jobs s y) (end_to_end (take j (walks_from jobs ss gs (last_point jobs s y)))) p r.0 r.1
 
@@ -121,6 +121,6 @@ work_done f h j k p serving l few long some none =
         ∙ ap (λ zs. is_some (finish zs p)) (take_in ls cut.0 k (omega (arith, long, length-walk (list_plan f j).jobs (list_plan f j).schedule (list_plan f j).first)))
         ∙ ap is_some r.1
     by (inr zero_left) None e =
-        let before : get_or (point_at f j).left p 0 ≡ 0 = sym (get_front (leg_at f j).known (point_at f j).left p few) ∙ zero_left in
+        let before : get_or (list_start f j).left p 0 ≡ 0 = sym (get_front (leg_at f j).known (list_start f j).left p few) ∙ zero_left in
         let r = path_done f.jobs f.lists f.legs j p (first_point f.jobs f.lengths) serving.forms l some before in
         not_some r.0 (sym e ∙ r.1)

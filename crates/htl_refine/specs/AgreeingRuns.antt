@@ -23,8 +23,8 @@ pub record AreAlike (t : Tables) (es fs : List Event) (f d k : ℕ) : Type 0 whe
   pub lists : (j : ℕ) → j < k → get_or (starts t) j 0 ≤ d
 
 -- how many positions have begun by the offset
-abbrev pub begun_by : Tables → List Event → ℕ → ℕ → ℕ
-begun_by t es f d = known_by d (frame_places t (frame_modes t es f))
+abbrev pub begun_by_offset : Tables → List Event → ℕ → ℕ → ℕ
+begun_by_offset t es f d = known_by d (frame_places t (frame_modes t es f))
 
 -- the same jobs at the first m positions, and the same first k lists with their legs
 pub record AreSameSoFar (p q : Frame) (k m : ℕ) : Type 0 where
@@ -36,12 +36,12 @@ pub record AreSameSoFar (p q : Frame) (k m : ℕ) : Type 0 where
 abbrev pub FramesAgree : Type 0
 FramesAgree =
     (t : Tables) (lists : List (List SInstr)) (es fs : List Event) (f d k : ℕ) → AreInRange t → AreAlike t es fs f d k
-    → AreSameSoFar (frame_at t lists es f) (frame_at t lists fs f) k (begun_by t es f d)
+    → AreSameSoFar (frame_at t lists es f) (frame_at t lists fs f) k (begun_by_offset t es f d)
 
 -- and where those jobs take the same, in the records of those lists
 abbrev pub WalksAgree : Type 0
 WalksAgree =
     (t : Tables) (lists : List (List SInstr)) (es fs : List Event) (f d k : ℕ) → AreInRange t → AreAlike t es fs f d k
     → (let p = frame_at t lists es f in AreInForm p.lists p.legs
-    → ((q : ℕ) (j : Job) → q < begun_by t es f d → slice_get p.jobs q ≡ Some j → took t es j.inv (f + j.release) ≡ took t fs j.inv (f + j.release))
+    → ((q : ℕ) (j : Job) → q < begun_by_offset t es f d → slice_get p.jobs q ≡ Some j → took t es j.inv (f + j.release) ≡ took t fs j.inv (f + j.release))
     → take k (walks_of p) ≡ take k (walks_of (frame_at t lists fs f)))

@@ -7,7 +7,7 @@ use Rattle.htl_model.specs.Selected.{entry}
 use Rattle.htl_model.specs.Selections.{root_modules, invs_of, root_mode}
 use Rattle.htl_model.specs.Tables.{Tables}
 use Rattle.htl_walk.specs.declared.job.Job.{Job}
-use Rattle.htl_walk.specs.Jobs.{jobs_of}
+use Rattle.htl_walk.specs.Jobs.{jobs_standing}
 
 -- the invocations in the mode in which a module is
 abbrev pub running_invs : Tables → List (Option ℕ) → ℕ → List ℕ
@@ -23,7 +23,7 @@ standing t modes = map (chosen t modes) (running_positions t modes)
 
 -- the jobs of what stands at the positions
 abbrev pub concrete_jobs : Tables → List (Option ℕ) → List Job
-concrete_jobs t modes = jobs_of t (standing t modes)
+concrete_jobs t modes = jobs_standing t (standing t modes)
 
 -- the root modules are in the modes of the root selection
 abbrev pub IsOfSelection : Tables → ℕ → List (Option ℕ) → Type 0

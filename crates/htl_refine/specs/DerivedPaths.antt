@@ -71,10 +71,10 @@ abbrev pub begun_jobs : Tables → List (List (Option ℕ)) → List Job
 begun_jobs t sels = placed_jobs t (begun_places t sels (starts t))
 
 -- the modes at the start that is this instant
-abbrev pub modes_at : List (List (Option ℕ)) → List ℕ → ℕ → List (Option ℕ)
-modes_at [] as' x = []
-modes_at (m ∷ ms) [] x = []
-modes_at (m ∷ ms) (a ∷ as') x = cond (eqb x a) m (modes_at ms as' x)
+abbrev pub start_modes : List (List (Option ℕ)) → List ℕ → ℕ → List (Option ℕ)
+start_modes [] as' x = []
+start_modes (m ∷ ms) [] x = []
+start_modes (m ∷ ms) (a ∷ as') x = cond (eqb x a) m (start_modes ms as' x)
 
 -- at each start the root modules whose rounds begin are in the path's modes
 abbrev pub IsAlong : Tables → ℕ → List (List (Option ℕ)) → Type 0

@@ -16,7 +16,7 @@ use Rattle.htl_refine.specs.Records as by_rounds
 abbrev pub OneFrameRecords : Type 0
 OneFrameRecords =
     (t : Tables) (period : ℕ) (lists : List (List SInstr)) (es : List Event) (now : ℕ) → AreInRange t → HasOnePeriod t period → root_period t ≡ Some period
-    → (old_records t lists es now ≡ by_rounds.old_records t lists es now) × (new_records t lists es now ≡ by_rounds.new_records t lists es now)
+    → (old_records t lists es now ≡ by_rounds.old_round_records t lists es now) × (new_records t lists es now ≡ by_rounds.new_round_records t lists es now)
 
 -- the positions of the modes that run are those of one path, and there is that path
 pub record IsRead (t : Tables) (modes : ℕ → List (Option ℕ)) : Type 0 where

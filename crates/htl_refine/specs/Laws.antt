@@ -11,7 +11,7 @@ use Rattle.htl_walk.specs.declared.schedule.SInstr.{SInstr}
 use Rattle.htl_walk.specs.Jobs.{abstract_jobs}
 use Rattle.htl_walk.specs.Laws.{IsDominated}
 use Rattle.htl_walk.specs.Refinement.{Refines, HaveLengths, AreWithinWorst}
-use Rattle.htl_walk.specs.Walk.{IsAccepted, Meets}
+use Rattle.htl_walk.specs.Walk.{ScheduleIsAccepted, Meets}
 use Rattle.htl_refine.specs.ConcreteJobs.{concrete_jobs, IsOfSelection}
 use Rattle.htl_refine.specs.Records.{AreTookWithin, round_at, modes_at}
 use Rattle.htl_refine.specs.Roots.{selection_of}
@@ -45,7 +45,7 @@ Refinement = (t : Tables) (sel : ℕ) (modes : List (Option ℕ)) → IsInherite
 abbrev pub Inheritance : Type 0
 Inheritance =
     (t : Tables) (sel : ℕ) (modes : List (Option ℕ)) (lengths : List ℕ) (s : List SInstr) (period : ℕ) → IsInherited t sel modes
-    → HaveLengths (concrete_jobs t modes) lengths → AreWithinWorst (concrete_jobs t modes) lengths → IsAccepted (abstract_jobs t sel) period s
+    → HaveLengths (concrete_jobs t modes) lengths → AreWithinWorst (concrete_jobs t modes) lengths → ScheduleIsAccepted (abstract_jobs t sel) period s
     → IsDominated (concrete_jobs t modes) (abstract_jobs t sel) lengths s
 
 -- the root selection in whose modes the root modules are: there is one, and no other
@@ -66,5 +66,5 @@ StatesAreSelections = (t : Tables) (es : List Event) (now : ℕ) → AreInRange 
 abbrev pub RoundsMeet : Type 0
 RoundsMeet =
     (t : Tables) (schedules : List (List SInstr)) (es : List Event) (start period : ℕ) → AreInRange t → KeptTo t 16 → AreTookWithin t es
-    → ((sel : ℕ) → sel < selection_count t → IsAccepted (abstract_jobs t sel) period (get_or schedules sel []))
+    → ((sel : ℕ) → sel < selection_count t → ScheduleIsAccepted (abstract_jobs t sel) period (get_or schedules sel []))
     → let r = round_at t schedules es start in Meets r.jobs r.lengths r.schedule

@@ -11,7 +11,7 @@ use Rattle.htl_walk.specs.Refinement.{HaveLengths}
 use Rattle.htl_walk.specs.Walk.{last_point, work, earlier}
 use Rattle.htl_refine.specs.FrameRuns.{Frame, frame_at, walks_of, walk_of}
 use Rattle.htl_refine.specs.ListPlans.{leg_at, list_plan, list_walk, records_before}
-use Rattle.htl_refine.specs.RecordCounts.{count_before, done_by}
+use Rattle.htl_refine.specs.RecordCounts.{count_left_before, done_by}
 use Rattle.htl_refine.specs.ServedFrames.{IsServing, IsFeasibleRun}
 
 -- the walk of a list over the positions so far is what the walk of the frame tells of it
@@ -22,13 +22,13 @@ ListWalks = (f : Frame) (j : ℕ) → AreInForm f.lists f.legs → j < length f.
 abbrev pub CountSplit : Type 0
 CountSplit =
     (f : Frame) (h j e : ℕ) → IsServing f h → j < length f.legs → (leg_at f j).from < e → e ≤ (leg_at f j).to
-    → count_before e (walk_of f) ≡ records_before f j + count_before e (list_walk (list_plan f j))
+    → count_left_before e (walk_of f) ≡ records_before f j + count_left_before e (list_walk (list_plan f j))
 
 -- and whoever is done by the records up to an offset is done by those: where the next list begins there, its records at once finish nothing
 abbrev pub DoneSplit : Type 0
 DoneSplit =
     (f : Frame) (h j d p : ℕ) → IsServing f h → j < length f.legs → (leg_at f j).from ≤ d → d ≤ (leg_at f j).to
-    → done_by (walk_of f) (count_before (suc d) (walk_of f)) p ≡ done_by (walk_of f) (records_before f j + count_before (suc d) (list_walk (list_plan f j))) p
+    → done_by (walk_of f) (count_left_before (suc d) (walk_of f)) p ≡ done_by (walk_of f) (records_before f j + count_left_before (suc d) (list_walk (list_plan f j))) p
 
 -- where a job has no work left after k instructions of list j, a record of the frame so far finished it
 abbrev pub WorkDone : Type 0

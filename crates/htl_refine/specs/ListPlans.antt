@@ -15,8 +15,8 @@ abbrev pub leg_at : Frame → ℕ → Leg
 leg_at f j = get_or f.legs j no_leg
 
 -- the point of the frame's walk at which list j begins
-abbrev pub point_at : Frame → ℕ → Point
-point_at f j = path_point_at f.jobs f.lengths f.lists f.legs j 0
+abbrev pub list_start : Frame → ℕ → Point
+list_start f j = path_point_at f.jobs f.lengths f.lists f.legs j 0
 
 -- of the first n positions
 abbrev pub front_of : ℕ → Point → Point
@@ -32,7 +32,7 @@ pub record ListPlan : Type 0 where
 abbrev pub list_plan : Frame → ℕ → ListPlan
 list_plan f j =
     let n = (leg_at f j).known in
-    record { jobs = take n f.jobs; lengths = take n f.lengths; first = front_of n (point_at f j); schedule = get_or f.lists j [] }
+    record { jobs = take n f.jobs; lengths = take n f.lengths; first = front_of n (list_start f j); schedule = get_or f.lists j [] }
 
 abbrev pub list_walk : ListPlan → List Left
 list_walk p = walk_from p.jobs p.schedule p.first

@@ -4,12 +4,12 @@ use Rattle.htl_model.specs.declared.parts.Inv.{Inv}
 use Rattle.htl_model.specs.Tables.{Tables}
 use Rattle.htl_model.specs.Bits.{has_bit}
 use Rattle.htl_refine.specs.declared.order.Order.{Order}
-use Rattle.htl_refine.specs.Refining.{precedes, writer_parent}
+use Rattle.htl_refine.specs.Refining.{inv_precedes, writer_parent}
 
 -- of each invocation in a mode below m the row has a bit for each invocation of its mode that precedes it, by place
 abbrev pub AreRowsBelow : Tables → ℕ → List ℕ → List ℕ → Type 0
 AreRowsBelow t m rows places =
-    (a b : ℕ) (x y : Inv) → slice_get t.invs a ≡ Some x → slice_get t.invs b ≡ Some y → x.mode ≡ y.mode → y.mode < m → has_bit (get_or rows b 0) (get_or places a 0) ≡ precedes t a b
+    (a b : ℕ) (x y : Inv) → slice_get t.invs a ≡ Some x → slice_get t.invs b ≡ Some y → x.mode ≡ y.mode → y.mode < m → has_bit (get_or rows b 0) (get_or places a 0) ≡ inv_precedes t a b
 
 abbrev pub ArePlaces : List ℕ → Type 0
 ArePlaces places = (a : ℕ) → get_or places a 0 < 128

@@ -8,9 +8,9 @@ Rises a [] = Unit {0}
 Rises a (l ∷ ls) = (a ≤ l.at) × Rises l.at ls
 
 -- the records that are left before an offset, as a number of records in front
-abbrev pub count_before : ℕ → List Left → ℕ
-count_before e [] = 0
-count_before e (l ∷ ls) = let rest = count_before e ls in cond (ltb l.at e) (suc rest) 0
+abbrev pub count_left_before : ℕ → List Left → ℕ
+count_left_before e [] = 0
+count_left_before e (l ∷ ls) = let rest = count_left_before e ls in cond (ltb l.at e) (suc rest) 0
 
 -- the position is done by the first k records
 abbrev pub done_by : List Left → ℕ → ℕ → Bool

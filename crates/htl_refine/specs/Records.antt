@@ -53,20 +53,20 @@ abbrev pub modes_at : Tables → List Event → ℕ → List (Option ℕ)
 modes_at t es now = map (λ (o : Option Stay). option_map (λ y. y.mode) o) (state t es now).stays
 
 -- what the processor is given at the start of a round: the jobs, how long each takes, and the schedule of the root selection
-pub record Round : Type 0 where
+pub record GivenRound : Type 0 where
   pub jobs : List Job
   pub lengths : List ℕ
   pub schedule : List SInstr
 
 -- the round that begins at `start`, by the schedules of the root selections
-abbrev pub round_at : Tables → List (List SInstr) → List Event → ℕ → Round
+abbrev pub round_at : Tables → List (List SInstr) → List Event → ℕ → GivenRound
 round_at t schedules es start =
     let modes = modes_at t es start in
     let jobs = concrete_jobs t modes in
     record { jobs = jobs; lengths = lengths_of t es start jobs; schedule = get_or schedules (selection_of t modes) [] }
 
-abbrev pub walk_of : Round → List Left
-walk_of r = walk r.jobs r.lengths r.schedule
+abbrev pub round_walk : GivenRound → List Left
+round_walk r = walk r.jobs r.lengths r.schedule
 
 -- a record of the walk, told by instants
 abbrev pub shifted : ℕ → Left → Left
@@ -77,28 +77,28 @@ shifted start l =
 
 -- the records of the round that begins at `start` which are left at an instant, each with the place of its instruction
 abbrev pub left_at : Tables → List (List SInstr) → List Event → ℕ → ℕ → List (ℕ × Left)
-left_at t schedules es start now = filter (λ (l : ℕ × Left). eqb l.1.at now) (numbered 0 (map (shifted start) (walk_of (round_at t schedules es start))))
+left_at t schedules es start now = filter (λ (l : ℕ × Left). eqb l.1.at now) (numbered 0 (map (shifted start) (round_walk (round_at t schedules es start))))
 
 -- rounds begin at 0, at the period, at twice the period and so on: how many begin before an instant
 abbrev pub rounds_before : ℕ → ℕ → ℕ
 rounds_before period now = (now + period - 1) / period
 
 -- the records at an instant of the rounds that began before it; without modules there are no rounds
-abbrev pub old_records_by : Tables → List (List SInstr) → List Event → ℕ → Option ℕ → List (ℕ × Left)
-old_records_by t schedules es now None = []
-old_records_by t schedules es now (Some period) = up_to (λ k. left_at t schedules es (k * period) now) (rounds_before period now)
+abbrev pub old_round_records_by : Tables → List (List SInstr) → List Event → ℕ → Option ℕ → List (ℕ × Left)
+old_round_records_by t schedules es now None = []
+old_round_records_by t schedules es now (Some period) = up_to (λ k. left_at t schedules es (k * period) now) (rounds_before period now)
 
 -- the records at an instant of the round that begins there
-abbrev pub new_records_by : Tables → List (List SInstr) → List Event → ℕ → Option ℕ → List (ℕ × Left)
-new_records_by t schedules es now None = []
-new_records_by t schedules es now (Some period) = cond (eqb (now % period) 0) (left_at t schedules es now now) []
+abbrev pub new_round_records_by : Tables → List (List SInstr) → List Event → ℕ → Option ℕ → List (ℕ × Left)
+new_round_records_by t schedules es now None = []
+new_round_records_by t schedules es now (Some period) = cond (eqb (now % period) 0) (left_at t schedules es now now) []
 
-abbrev pub old_records : Tables → List (List SInstr) → List Event → ℕ → List (ℕ × Left)
-old_records t schedules es now = old_records_by t schedules es now (root_period t)
+abbrev pub old_round_records : Tables → List (List SInstr) → List Event → ℕ → List (ℕ × Left)
+old_round_records t schedules es now = old_round_records_by t schedules es now (root_period t)
 
-abbrev pub new_records : Tables → List (List SInstr) → List Event → ℕ → List (ℕ × Left)
-new_records t schedules es now = new_records_by t schedules es now (root_period t)
+abbrev pub new_round_records : Tables → List (List SInstr) → List Event → ℕ → List (ℕ × Left)
+new_round_records t schedules es now = new_round_records_by t schedules es now (root_period t)
 
 -- the records at an instant
-abbrev pub records : Tables → List (List SInstr) → List Event → ℕ → List (ℕ × Left)
-records t schedules es now = old_records t schedules es now ++ new_records t schedules es now
+abbrev pub round_records : Tables → List (List SInstr) → List Event → ℕ → List (ℕ × Left)
+round_records t schedules es now = old_round_records t schedules es now ++ new_round_records t schedules es now

@@ -97,11 +97,11 @@ abbrev pub writer_parent : Tables → ℕ → Option ℕ
 writer_parent t p = first_to (λ l. writers_parent p (slice_get t.invs l)) (length t.invs)
 
 -- whether an invocation precedes another by the ports
-unfoldable pub precedes : Tables → ℕ → ℕ → Bool
-precedes t a b = leads_below (feeds t) (length t.invs) a b
+unfoldable pub inv_precedes : Tables → ℕ → ℕ → Bool
+inv_precedes t a b = leads_below (feeds t) (length t.invs) a b
 
 abbrev pub order_fault_by : Tables → Option ℕ → Option ℕ → Found
-order_fault_by t (Some a) (Some b) = unless (precedes t a b) a b
+order_fault_by t (Some a) (Some b) = unless (inv_precedes t a b) a b
 order_fault_by t (Some a) None = None
 order_fault_by t None b = None
 

@@ -4,7 +4,7 @@ use Rattle.htl_walk.specs.declared.job.Job.{Job}
 use Rattle.htl_walk.specs.Jobs.{precedes}
 use Rattle.htl_walk.specs.Walk.{Left, job_at, slices, AllWithin, DoneBy}
 use Rattle.htl_refine.specs.FrameRuns.{Frame, walk_of}
-use Rattle.htl_refine.specs.RecordCounts.{count_before}
+use Rattle.htl_refine.specs.RecordCounts.{count_left_before}
 
 -- the ticks of slices
 abbrev pub spent : List (ℕ × ℕ) → ℕ
@@ -28,22 +28,22 @@ pub record IsServed (jobs : List Job) (lengths : List ℕ) (ls : List Left) (p :
   pub after : (q : ℕ) (s : ℕ × ℕ) → precedes q j ≡ true → (job_at jobs q).present ≡ true → slice_get (slices ls p) 0 ≡ Some s → DoneBy ls q s.0
 
 -- slices of different records don't overlap
-abbrev pub AreApart : List Left → Type 0
-AreApart ls = (k m : ℕ) (a b : Left) (s u : ℕ × ℕ) → k < m → slice_get ls k ≡ Some a → slice_get ls m ≡ Some b → a.slice ≡ Some s → b.slice ≡ Some u → s.1 ≤ u.0
+abbrev pub SlicesAreApart : List Left → Type 0
+SlicesAreApart ls = (k m : ℕ) (a b : Left) (s u : ℕ × ℕ) → k < m → slice_get ls k ≡ Some a → slice_get ls m ≡ Some b → a.slice ≡ Some s → b.slice ≡ Some u → s.1 ≤ u.0
 
 -- the records serve the jobs
 pub record Serves (jobs : List Job) (lengths : List ℕ) (ls : List Left) : Type 0 where
   pub each : (p : ℕ) (j : Job) → slice_get jobs p ≡ Some j → j.present ≡ true → IsServed jobs lengths ls p j
-  pub apart : AreApart ls
+  pub apart : SlicesAreApart ls
 
 -- a job of the frame from s whose window ended by `end`: it is served, and the record that says so is one of those up to then
 pub record IsShown (f : Frame) (s end q : ℕ) (j : Job) : Type 0 where
   pub served : IsServed f.jobs f.lengths (walk_of f) q j
-  pub told : served.record_at < count_before (suc end - s) (walk_of f)
+  pub told : served.record_at < count_left_before (suc end - s) (walk_of f)
 
 -- each job of each frame whose window ended by `end` is served by then, in slices that are its own; frames don't overlap
 pub record AllServed (frames : ℕ → Frame) (h end : ℕ) : Type 0 where
   pub jobs : (k q : ℕ) (j : Job) → let s = k * h in slice_get (frames s).jobs q ≡ Some j → j.present ≡ true → s + j.end ≤ end → IsShown (frames s) s end q j
-  pub apart : (k : ℕ) → AreApart (walk_of (frames (k * h)))
+  pub apart : (k : ℕ) → SlicesAreApart (walk_of (frames (k * h)))
   -- nothing of a frame is left after its end
   pub inside : (k i : ℕ) (l : Left) → slice_get (walk_of (frames (k * h))) i ≡ Some l → l.at ≤ h

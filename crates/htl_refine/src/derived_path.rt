@@ -13,7 +13,7 @@ ghost use Rattle.htl_walk.specs.PathJobs.{path_jobs as path_jobs_of, legs};
 ghost use Rattle.htl_walk.specs.PathLaws.{RefinesFront, IsInherited};
 ghost use Rattle.htl_walk.specs.Paths.{IsPathAccepted};
 ghost use Rattle.htl_walk.specs.Refinement.{HaveLengths, AreWithinWorst};
-ghost use Rattle.htl_refine.specs.DerivedPaths.{begun_mode as begun_mode_of, start_places, standing_place, begun_places, begun_jobs, derived_jobs, modes_at, IsAlong, modes_of_all};
+ghost use Rattle.htl_refine.specs.DerivedPaths.{begun_mode as begun_mode_of, start_places, standing_place, begun_places, begun_jobs, derived_jobs, start_modes, IsAlong, modes_of_all};
 
 use crate::selection::Selection;
 use htl_base::Time;
@@ -160,7 +160,7 @@ pub fn derive_path(t: &Tables, sels: &[Selection], out: &mut [Job; 128]) -> usiz
     ensures count { result ≡ length (begun_jobs t.now (modes_of_all sels.now)) }
     ensures few { result ≤ 128 }
     ensures jobs { take result out.new ≡ begun_jobs t.now (modes_of_all sels.now) }
-    ensures derived { (path : ℕ) → IsAlong t.now path (modes_of_all sels.now) → take result out.new ≡ derived_jobs t.now (modes_at (modes_of_all sels.now) (starts_of t.now)) (take result (path_places t.now path)) }
+    ensures derived { (path : ℕ) → IsAlong t.now path (modes_of_all sels.now) → take result out.new ≡ derived_jobs t.now (start_modes (modes_of_all sels.now) (starts_of t.now)) (take result (path_places t.now path)) }
     ensures refines { (path : ℕ) → IsAlong t.now path (modes_of_all sels.now) → RefinesFront (take result out.new) (path_jobs_of t.now path) }
     ensures serves { (path : ℕ) → path < paths_of t.now → IsAlong t.now path (modes_of_all sels.now) → (lengths : List ℕ) (ss : List (List SInstr)) → HaveLengths (take result out.new) lengths → AreWithinWorst (take result out.new) lengths
         → IsPathAccepted (path_jobs_of t.now path) (legs t.now path) ss → IsInherited (take result out.new) (path_jobs_of t.now path) lengths ss (legs t.now path) (length sels.now) }

@@ -6,7 +6,7 @@ ghost use Rattle.htl_model.specs.PortWriters.{is_port};
 ghost use Rattle.htl_model.specs.First.{or_else};
 ghost use Rattle.htl_form.specs.Rows.{IsRangeOf};
 ghost use Rattle.htl_model.specs.Bits.{cell};
-ghost use Rattle.htl_refine.specs.Refining.{precedes as precedes_of, writer_parent as writer_parent_of};
+ghost use Rattle.htl_refine.specs.Refining.{inv_precedes as precedes_of, writer_parent as writer_parent_of};
 ghost use Rattle.htl_refine.specs.Orders.{AreRowsBelow, ArePlaces, AreParents, IsPut, IsOrderOf};
 
 use htl_base::limits::{MAX_INVOCATIONS, MAX_MODE_INVOCATIONS, MAX_PORTS};

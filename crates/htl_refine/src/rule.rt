@@ -1,6 +1,6 @@
 // The rules that are tested.
 ghost use Rattle.std.specs.Prelude.{◌≡◌};
-ghost use Rattle.htl_refine.specs.Rules.{rule_number, judges_inputs as judges_inputs_of};
+ghost use Rattle.htl_refine.specs.Rules.{refinement_rule_number, judges_refined_inputs as judges_inputs_of};
 
 /// A form rule on refinement.
 #[derive(Clone, Copy)]
@@ -26,7 +26,7 @@ pub const RULES: [Rule; 4] = [
 impl Rule {
     /// The number by which the rule is told, 13 to 16.
     pub fn number(self) -> u8
-        ensures { result ≡ rule_number self }
+        ensures { result ≡ refinement_rule_number self }
     {
         match self {
             Rule::AbstractPlaces => 13,

@@ -7,12 +7,12 @@ use htl_model::{Inv, Mode, Tables};
 
 impl Tries<Rule> for Order {
     ghost use Rattle.htl_refine.specs.Orders.{IsOrderOf};
-    ghost use Rattle.htl_refine.specs.Rules.{rule_number};
+    ghost use Rattle.htl_refine.specs.Rules.{refinement_rule_number};
     ghost use Rattle.htl_refine.specs.Tests.{tests as tests_of};
 
     ghost tests = { tests_of };
 
-    ghost number = { rule_number };
+    ghost number = { refinement_rule_number };
 
     ghost counted = { IsOrderOf };
 

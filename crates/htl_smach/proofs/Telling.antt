@@ -12,7 +12,7 @@ use Rattle.htl_walk.proofs.Finishes.{some_same}
 use Rattle.htl_walk.proofs.Work.{job_there, job_is, work_present, work_some}
 use Rattle.htl_smach.specs.declared.left.Left.{Left}
 use Rattle.htl_smach.specs.declared.state.PosState.TheVariants.{Pending, Ready, Done}
-use Rattle.htl_smach.specs.Rounds.{Round, begun, told, told_from, records, given, left_until, next_left, moved, state_by, state_of, finish_so_far, was_finished, IsFinished, Stands, IsTold}
+use Rattle.htl_smach.specs.Rounds.{Round, round_begun, told, told_from, walk_records, given, left_until, next_left, moved, state_by, state_of, finish_so_far, was_finished, IsFinishedSoFar, Stands, IsTold}
 use Rattle.htl_smach.proofs.Lengths.{with_work, SameWalk, same_walk, some_below}
 use Rattle.htl_smach.proofs.Finishing.{walk-take, finished_where_none, never_finished}
 
@@ -95,12 +95,12 @@ module _ (r : Round) (s : List SInstr) (stands : Stands r s) where
   next_point_is i e = point_step r.jobs s r.place r.first i e ∙ ap (next_point r.jobs i) (sym stands.point)
 
   pub next_record_is : (i : SInstr) → slice_get s r.place ≡ Some i
-      → slice_get (records r s) r.place ≡ Some (told r.start r.place (left_by r.jobs i r.point (next_point r.jobs i r.point)))
+      → slice_get (walk_records r s) r.place ≡ Some (told r.start r.place (left_by r.jobs i r.point (next_point r.jobs i r.point)))
   next_record_is i e =
       told_at r.start 0 r.place r.jobs s r.first i e
       ∙ ap₂ (λ (n : ℕ) (z : Point). Some (told r.start n (left_by r.jobs i z (next_point r.jobs i z)))) (let z : 0 + r.place ≡ r.place = omega arith in z) (sym stands.point)
 
-  pub no_record : slice_get s r.place ≡ None → slice_get (records r s) r.place ≡ None
+  pub no_record : slice_get s r.place ≡ None → slice_get (walk_records r s) r.place ≡ None
   no_record e = told_past r.start 0 r.place r.jobs s r.first e
 
 -- the round after the next instruction stands in the walk too
@@ -243,7 +243,7 @@ idle_done false true c (Some x) e n = absurd (let z : ⊥ = cc in z)
 idle_done a false c o e n = absurd (let z : ⊥ = cc in z)
 
 -- a position is done exactly where an instruction left so far finished it
-pub done_is : (r : Round) (s : List SInstr) (p : ℕ) → Stands r s → (state_of r p ≡ Done) ↔ IsFinished r s p
+pub done_is : (r : Round) (s : List SInstr) (p : ℕ) → Stands r s → (state_of r p ≡ Done) ↔ IsFinishedSoFar r s p
 done_is r s p st =
     elim (either 0 (get_or r.first.left p 0)) [ inl some ↦ working some | inr none ↦ idle (omega arith) ]
   where
@@ -262,7 +262,7 @@ done_is r s p st =
     no_work : (n : ℕ) → n ≡ 0 → eqb n 0 ≡ true
     no_work n h = grind (arith, nat_tests)
 
-    working : 0 < get_or r.first.left p 0 → (state_of r p ≡ Done) ↔ IsFinished r s p
+    working : 0 < get_or r.first.left p 0 → (state_of r p ≡ Done) ↔ IsFinishedSoFar r s p
     working some =
         let d : (state_by true (eqb (get_or r.point.left p 0) 0) told_so ≡ Done) ↔ IsSome (finish_so_far r s p) =
         done_by (eqb (get_or r.point.left p 0) 0) told_so (finish_so_far r s p)
@@ -274,7 +274,7 @@ done_is r s p st =
           λ z. elim z [ inl f ↦ absurd (let w : ⊥ = cc in w) | inr f ↦ here ∙ d.1 f ],
         )
 
-    idle : get_or r.first.left p 0 ≡ 0 → (state_of r p ≡ Done) ↔ IsFinished r s p
+    idle : get_or r.first.left p 0 ≡ 0 → (state_of r p ≡ Done) ↔ IsFinishedSoFar r s p
     idle none =
         let e : get_or r.point.left p 0 ≡ get_or (last_point r.jobs (take r.place s) r.first).left p 0 = ap (λ (z : Point). get_or z.left p 0) st.point in
         let still : get_or r.point.left p 0 ≡ 0 = omega (arith, e, left_falls_to r.jobs (take r.place s) r.first p) in
@@ -346,5 +346,5 @@ moved_is r s i st e =
     ap (λ (x : Point). record r { running = ltb (suc r.place) (length s); place = suc r.place; point = x }) (sym (next_point_is r s st i e))
 
 -- a round that begins
-pub stands_begun : (at : ℕ) (jobs : List Job) (lengths : List ℕ) (s : List SInstr) → HaveLengths jobs lengths → AreWithinWorst jobs lengths → Stands (begun at jobs lengths) s
+pub stands_begun : (at : ℕ) (jobs : List Job) (lengths : List ℕ) (s : List SInstr) → HaveLengths jobs lengths → AreWithinWorst jobs lengths → Stands (round_begun at jobs lengths) s
 stands_begun at jobs lengths s some worst = record { point = refl; work = λ p h. work_some jobs lengths p h; lengths = some; worst = worst; pending = λ p z. omega arith }

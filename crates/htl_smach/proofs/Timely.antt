@@ -8,7 +8,7 @@ use Rattle.htl_walk.specs.Walk.{Point, next_point, left_by, walk_from, last_poin
 use Rattle.htl_walk.proofs.Steps.{time_rises}
 use Rattle.htl_walk.proofs.Waiting.{time_rises_to}
 use Rattle.htl_smach.specs.declared.left.Left.{Left}
-use Rattle.htl_smach.specs.Rounds.{told, told_from, records, left_until}
+use Rattle.htl_smach.specs.Rounds.{told, told_from, walk_records, left_until}
 use Rattle.htl_smach.specs.Order.{left_by_then, RecordsOfLengths, NoneLeftOut}
 use Rattle.htl_smach.proofs.Telling.{next_record_is}
 
@@ -67,6 +67,6 @@ none_left_out r s until st whole by none =
         let y = next_point r.jobs i r.point in
         let l : Left = told r.start r.place (left_by r.jobs i r.point y) in
         let e : cond (leb (r.start + y.time) until) (Some l) None ≡ None =
-        sym (ap (λ o. left_until until o) (next_record_is r s st i at)) ∙ sym (ap (λ b. cond b (left_until until (slice_get (records r s) r.place)) None) here) ∙ none in
+        sym (ap (λ o. left_until until o) (next_record_is r s st i at)) ∙ sym (ap (λ b. cond b (left_until until (slice_get (walk_records r s) r.place)) None) here) ∙ none in
         subst (λ (x : Point). until < r.start + (next_point r.jobs i x).time) st.point (later (r.start + y.time) until (not_answered (leb (r.start + y.time) until) l e))
     next false here i at = elim (slice_get_cases s r.place).1 [ inl c ↦ absurd (let past : length s ≤ r.place = whole here in let below : r.place < length s = c.1 in omega arith) | inr c ↦ absurd (let no : Some i ≡ None = sym at ∙ c.1 in cc) ]

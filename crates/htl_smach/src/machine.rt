@@ -5,7 +5,7 @@ ghost use Rattle.htl_walk.specs.Walk.{job_at, work};
 ghost use Rattle.htl_walk.specs.Refinement.{HaveLengths, AreWithinWorst};
 ghost use Rattle.htl_smach.specs.declared.state.PosState.TheVariants as states;
 ghost use Rattle.htl_smach.specs.Adding.{CanBegin};
-ghost use Rattle.htl_smach.specs.Rounds.{Round, no_round, begun, added, added_from, shifted, records, given, next_left, after, one_more, state_of, IsFinished, Stands, IsInForm, IsTold, IsNext};
+ghost use Rattle.htl_smach.specs.Rounds.{Round, no_round, round_begun, added, added_from, slice_shifted as shifted, walk_records, given, next_left, after, one_more, state_of, IsFinishedSoFar, Stands, IsInForm, IsTold, IsNextLeave};
 ghost use Rattle.htl_smach.specs.Order.{left_by_then, IsWholeWhenOver, IsBy};
 ghost use Rattle.htl_smach.specs.Steps.{point_of};
 
@@ -89,7 +89,7 @@ impl SMach {
         requires same { length lengths.now ≡ length jobs.now }
         requires lengths { HaveLengths jobs.now lengths.now }
         requires worst { AreWithinWorst jobs.now lengths.now }
-        ensures round { self.new ≡ begun at jobs.now lengths.now }
+        ensures round { self.new ≡ round_begun at jobs.now lengths.now }
         ensures stands { (s : List Instr) → Stands self.new s }
     {
         self.count = 0;
@@ -144,7 +144,7 @@ impl SMach {
         requires pending { state_of self.old position ≡ states.Pending }
         ensures round { self.new ≡ record self.old { released = set self.old.released position true } }
         ensures ready { state_of self.new position ≡ states.Ready }
-        ensures records { (s : List Instr) → records self.new s ≡ records self.old s }
+        ensures records { (s : List Instr) → walk_records self.new s ≡ walk_records self.old s }
         ensures stands { (s : List Instr) → Stands self.old s → Stands self.new s }
     {
         self.states.release(position);
@@ -174,7 +174,7 @@ impl SMach {
     pub fn state(&self, position: usize) -> PosState
         requires known { position < length self.now.jobs }
         ensures state { result ≡ state_of self.now position }
-        ensures done { (s : List Instr) → Stands self.now s → (result ≡ states.Done) ↔ IsFinished self.now s position }
+        ensures done { (s : List Instr) → Stands self.now s → (result ≡ states.Done) ↔ IsFinishedSoFar self.now s position }
     {
         self.states.state(position)
     }
@@ -194,7 +194,7 @@ impl SMach {
         ensures round { self.new ≡ after self.old s.now.instrs result }
         ensures given { given self.new s.now.instrs ≡ given self.old s.now.instrs ++ one_more result }
         ensures stands { Stands self.new s.now.instrs }
-        ensures none { result ≡ None → IsWholeWhenOver self.old s.now.instrs → IsBy self.old until → given self.new s.now.instrs ≡ left_by_then until (records self.new s.now.instrs) }
+        ensures none { result ≡ None → IsWholeWhenOver self.old s.now.instrs → IsBy self.old until → given self.new s.now.instrs ≡ left_by_then until (walk_records self.new s.now.instrs) }
         ensures whole { IsWholeWhenOver self.old s.now.instrs → IsWholeWhenOver self.new s.now.instrs }
     {
         if !self.running {
@@ -231,7 +231,7 @@ impl SMach {
         requires form { self.now.running ≡ true → IsInForm self.now s.now.instrs }
         requires instrs { length s.now.instrs ≤ 4294967295 }
         requires same { Stands self.now s.now.instrs }
-        ensures { IsNext self.now s.now.instrs result }
+        ensures { IsNextLeave self.now s.now.instrs result }
     {
         if !self.running {
             return None;

@@ -4,8 +4,8 @@ use Rattle.std.specs.Io.KnownBytes.{append_known}
 use Rattle.std.proofs.lemmas.List.{append-nil}
 use Rattle.htl_audit.proofs.FaultLaws.{first_fault_found, legal_without_fault}
 use Rattle.htl_audit.proofs.Growing.{rounds_same}
-use Rattle.htl_audit.specs.Auditing.{Audit, Follows, IsAudited, IsSameAudit}
-use Rattle.htl_audit.specs.Jobs.{Round, all_rounds}
+use Rattle.htl_audit.specs.Auditing.{Audit, AuditFollows, IsAudited, IsSameAudit}
+use Rattle.htl_audit.specs.Jobs.{BeginningJobs, all_rounds}
 use Rattle.htl_audit.specs.Legal.{first_fault, first_fault_in, jobs_done}
 use Rattle.htl_audit.specs.declared.slice.LogFault.{LogFault}
 use Rattle.htl_audit.specs.declared.slice.Slice.{Slice}
@@ -49,10 +49,10 @@ rounds_end : (t : Tables) (es : List Event) (end now : ℕ) → all_rounds t (es
 rounds_end t es end now = rounds_same t (es ++ event.End end ∷ []) es now (λ c u h. sense_end t es end c u) (λ i u. took_end t es end i u)
 
 fault_end : (t : Tables) (es : List Event) (end : ℕ) (log : List Slice) → first_fault t (es ++ event.End end ∷ []) end log ≡ first_fault t es end log
-fault_end t es end log = ap (λ (rs : List Round). first_fault_in rs (suc end) log) (rounds_end t es end (suc end))
+fault_end t es end log = ap (λ (rs : List BeginningJobs). first_fault_in rs (suc end) log) (rounds_end t es end (suc end))
 
 jobs_end : (t : Tables) (es : List Event) (end : ℕ) (log : List Slice) → jobs_done (all_rounds t (es ++ event.End end ∷ []) (suc end)) log ≡ jobs_done (all_rounds t es (suc end)) log
-jobs_end t es end log = ap (λ (rs : List Round). jobs_done rs log) (rounds_end t es end (suc end))
+jobs_end t es end log = ap (λ (rs : List BeginningJobs). jobs_done rs log) (rounds_end t es end (suc end))
 
 numbers_end : (t : Tables) (es : List Event) (end : ℕ) (log : List Slice) → audited_text t (es ++ event.End end ∷ []) end log ≡ audited_text t es end log
 numbers_end t es end log = ap (λ (n : ℕ). audited_line end n (length log)) (jobs_end t es end log)
@@ -78,13 +78,13 @@ module _ (o : Object) (accepted : IsAccepted o) (log : List Slice) where
 
 -- ---- what one call writes
 
-pub audit_text_at : {T E : Type 0} (a : Audit) (es : List Event) (e : Event) (to : ℕ) (w w1 : Option (List ℕ)) (f f1 : ℕ) (r : Result T E) → Follows a es → e ≡ event.At to
+pub audit_text_at : {T E : Type 0} (a : Audit) (es : List Event) (e : Event) (to : ℕ) (w w1 : Option (List ℕ)) (f f1 : ℕ) (r : Result T E) → AuditFollows a es → e ≡ event.At to
     → Puts w w1 f f1 (text_between a.machine.object es Values a.machine.held.reading to) r → Puts w w1 f f1 (text_more a.machine.object a.machine.show es e) r
 audit_text_at a es e to w w1 f f1 r follows is puts =
     streaming.text_at a.machine es e to w w1 f f1 r follows.machine is
     (subst (λ (s : Shown). Puts w w1 f f1 (text_between a.machine.object es s a.machine.held.reading to) r) (sym follows.shown) puts)
 
-pub audit_text_last : {T E : Type 0} (a : Audit) (es : List Event) (e : Event) (to : ℕ) (w w1 : Option (List ℕ)) (f f1 : ℕ) (r : Result T E) → Follows a es → e ≡ event.End to
+pub audit_text_last : {T E : Type 0} (a : Audit) (es : List Event) (e : Event) (to : ℕ) (w w1 : Option (List ℕ)) (f f1 : ℕ) (r : Result T E) → AuditFollows a es → e ≡ event.End to
     → Puts w w1 f f1 (text_between a.machine.object es Values a.machine.held.reading (suc to)) r → Puts w w1 f f1 (text_more a.machine.object a.machine.show es e) r
 audit_text_last a es e to w w1 f f1 r follows is puts =
     streaming.text_last a.machine es e to w w1 f f1 r follows.machine is
@@ -92,7 +92,7 @@ audit_text_last a es e to w w1 f f1 r follows is puts =
 
 -- ---- the loop
 
-pub audit_start : (t : Tables) (a : Audit) (s : Ahead) (known w : Option (List ℕ)) → Follows a [] → s ≡ at_start → IsAuditPlaying t a a s known known w w
+pub audit_start : (t : Tables) (a : Audit) (s : Ahead) (known w : Option (List ℕ)) → AuditFollows a [] → s ≡ at_start → IsAuditPlaying t a a s known known w w
 audit_start t a s known w follows at =
     let p = streaming.playing_start t a.machine s known w follows.machine at in
     record { run = p; told = first p (streaming.playing_start-told t a.machine s known w follows.machine at); log = refl }
@@ -103,7 +103,7 @@ audit_start t a s known w follows at =
 -- an event was read, and the auditor follows those before it
 pub record IsAuditHeard (t : Tables) (a0 a : Audit) (b : Ahead) (known rest w0 w : Option (List ℕ)) (e : Event) : Type 0 where
   pub heard : IsHeard t a0.machine a.machine b known rest w0 w e
-  pub follows : Follows a heard.told
+  pub follows : AuditFollows a heard.told
   pub log : a.log ≡ a0.log
 
 module _ (t : Tables) (a0 a : Audit) (accepted : IsAccepted a0.machine.object) (tables : t ≡ a0.machine.object.tables) (s b : Ahead) (known rest left w0 w : Option (List ℕ)) where
@@ -113,7 +113,7 @@ module _ (t : Tables) (a0 a : Audit) (accepted : IsAccepted a0.machine.object) (
       let h = streaming.heard t a0.machine a.machine accepted tables s b known rest left w0 w e p.run answer goes in
       let same = streaming.heard-told t a0.machine a.machine accepted tables s b known rest left w0 w e p.run answer goes in
       let running : (past_of p.run.told).end ≡ None = sym (ap (λ (z : Past). z.end) p.run.past) ∙ goes.0.running in
-      record { heard = h; follows = subst (Follows a) (sym same) (subst (IsAuditTold a p.run.told) running p.told); log = p.log }
+      record { heard = h; follows = subst (AuditFollows a) (sym same) (subst (IsAuditTold a p.run.told) running p.told); log = p.log }
 
   -- a line of the script has a fault
   pub audit_faulty : (fault : ScriptFault) → a0.machine.show ≡ Values → IsAuditPlaying t a0 a s known rest w0 w → Gives s.ahead.over b.ahead.over rest left (IsAnswer t s b (Err (stop.Script fault)))

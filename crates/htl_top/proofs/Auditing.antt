@@ -1,8 +1,8 @@
 -- What `audit` answers, by its files and by what it does with an accepted object.
 use Rattle.std.proofs.Common.{arith, ◌≡◌, ◌≤◌, ◌<◌, ◌⊎◌, ℕ, suc, Bool, true, false, cond, not, ◌&&◌, List, [], ◌∷◌, ◌++◌, length, take, Some, None, refl, subst, inl, inr}
 use Rattle.htl_audit.specs.Faults.{IsFirstFault, IsFirstFaultIn}
-use Rattle.htl_audit.specs.Jobs.{Round, all_rounds}
-use Rattle.htl_audit.specs.Legal.{any_job, is_free, is_out_of_order, is_over, lies_in, line_fault}
+use Rattle.htl_audit.specs.Jobs.{BeginningJobs, all_rounds}
+use Rattle.htl_audit.specs.Legal.{any_job, is_free, slice_is_out_of_order, is_over, lies_in, line_fault}
 use Rattle.htl_audit.specs.declared.slice.LogFault.{LogFault}
 use Rattle.htl_audit.specs.declared.slice.LogKind.{LogKind}
 use Rattle.htl_audit.specs.declared.slice.LogKind.TheVariants as kind
@@ -39,12 +39,12 @@ line_kinds false false true d k e is = subst IsOfReading (let z : k ≡ kind.Ove
 line_kinds false false false true k e is = subst IsOfReading (let z : k ≡ kind.Before = cc in z) is
 line_kinds false false false false k e is = absurd (let z : ⊥ = cc in z)
 
-line_kind : (rounds : List Round) (now : ℕ) (log : List Slice) (x : Slice) (k : LogKind) → line_fault rounds now log x ≡ Some k → IsOfReading k → ⊥
+line_kind : (rounds : List BeginningJobs) (now : ℕ) (log : List Slice) (x : Slice) (k : LogKind) → line_fault rounds now log x ≡ Some k → IsOfReading k → ⊥
 line_kind rounds now log x k e is =
-    line_kinds (is_out_of_order now log x) (not (any_job (λ r j. lies_in r j.1 x) rounds)) (any_job (λ r j. lies_in r j.1 x && is_over r (log ++ x ∷ []) j) rounds)
+    line_kinds (slice_is_out_of_order now log x) (not (any_job (λ r j. lies_in r j.1 x) rounds)) (any_job (λ r j. lies_in r j.1 x && is_over r (log ++ x ∷ []) j) rounds)
     (any_job (λ r j. lies_in r j.1 x && not (is_free r log j.1)) rounds) k e is
 
-fault_kind : (rounds : List Round) (now : ℕ) (log : List Slice) (f : LogFault) → IsFirstFaultIn rounds now log f → IsOfReading f.kind → ⊥
+fault_kind : (rounds : List BeginningJobs) (now : ℕ) (log : List Slice) (f : LogFault) → IsFirstFaultIn rounds now log f → IsOfReading f.kind → ⊥
 fault_kind rounds now log f (inl r) is = line_kind rounds now (take r.place log) r.slice f.kind r.kind is
 fault_kind rounds now log f (inr r) is = subst IsOfReading r.kind is
 

@@ -35,7 +35,7 @@ use Rattle.htl_top.specs.Runs.{IsRun}
 use Rattle.htl_top.specs.Shown.{show_text, IsShown}
 use Rattle.htl_top.specs.Slacked.{IsSlacked}
 use Rattle.htl_top.specs.Sources.{answer_of}
-use Rattle.htl_top.specs.Words.{Command, Go, Compile, CompileWith, Run, Check, Plan, Show, Bulk, Slack, Audit, Patch, RunsObject, source_of, platform_file, object_of, second_file}
+use Rattle.htl_top.specs.Words.{Command, Go, Compile, CompileWith, Run, Check, Plan, Show, Bulk, Slack, Audit, Patch, RunsObject, source_of, platform_file, command_object, second_file}
 use Rattle.htl_top.specs.declared.outcome.Outcome.{Outcome}
 use Rattle.htl_top.specs.declared.outcome.Outcome.TheVariants.{Done, Usage, Platform, Object as Refused, Script, Shelf, Read, Write, Memory}
 use Rattle.htl_top.specs.declared.outcome.ShelfCause.{ShelfCause}
@@ -115,7 +115,7 @@ module _ (shelf : Files) (old new : Streams) where
   -- ---- of an answer
 
   pub shelf_failed : (command : Option Command) → IsCall command shelf old new (Shelf Failed)
-      → IsFaultOf (source_of command) shelf.before shelf.after ⊎ IsFaultOf (object_of command) shelf.before shelf.after ⊎ IsFaultOf (platform_file command) shelf.before shelf.after
+      → IsFaultOf (source_of command) shelf.before shelf.after ⊎ IsFaultOf (command_object command) shelf.before shelf.after ⊎ IsFaultOf (platform_file command) shelf.before shelf.after
       ⊎ IsFaultOf (second_file command) shelf.before shelf.after
   shelf_failed None call = absurd (failed_usage call.0)
   shelf_failed (Some (Go name)) call = inl (going.shelf_failed (Some name) shelf old new call)
@@ -131,7 +131,7 @@ module _ (shelf : Files) (old new : Streams) where
   shelf_failed (Some (Bulk n)) call = absurd call
 
   pub shelf_long : (command : Option Command) (seen : ℕ) → IsCall command shelf old new (Shelf (TooLong seen))
-      → IsLongFile MAX_SOURCE (source_of command) shelf.holds seen ⊎ IsLongFile MAX_OBJECT (object_of command) shelf.holds seen ⊎ IsLongFile MAX_SOURCE (platform_file command) shelf.holds seen
+      → IsLongFile MAX_SOURCE (source_of command) shelf.holds seen ⊎ IsLongFile MAX_OBJECT (command_object command) shelf.holds seen ⊎ IsLongFile MAX_SOURCE (platform_file command) shelf.holds seen
       ⊎ IsLongFile MAX_OBJECT (second_file command) shelf.holds seen
   shelf_long None seen call = absurd (long_usage seen call.0)
   shelf_long (Some (Go name)) seen call = inl (going.shelf_long (Some name) shelf old new seen call)
@@ -194,7 +194,7 @@ module _ (shelf : Files) (old new : Streams) where
   platform (Some (Patch name unit mode donor)) f call = absurd (patching.no_platform unit mode (Some name) (Some donor) shelf old new f call)
   platform (Some (Bulk n)) f call = absurd call
 
-  pub object : (command : Option Command) (f : ObjectFault) → IsCall command shelf old new (Refused f) → IsRefusedFile (object_of command) shelf.holds f
+  pub object : (command : Option Command) (f : ObjectFault) → IsCall command shelf old new (Refused f) → IsRefusedFile (command_object command) shelf.holds f
   object None f call = absurd (refused_usage f call.0)
   object (Some (Go name)) f call = absurd (going.no_object (Some name) shelf old new f call)
   object (Some Compile) f call = absurd call

@@ -4,7 +4,7 @@ use Rattle.std.proofs.lemmas.Bool.Decides.{nat_tests}
 use Rattle.std.proofs.lemmas.List.{map-append}
 use Rattle.std.proofs.lemmas.List.Concat.{flat_map-cons}
 use Rattle.htl_compile.proofs.BulkNames.{one_digit, two_digits}
-use Rattle.htl_text.specs.Placed.{numbered}
+use Rattle.htl_text.specs.Placed.{tokens_numbered}
 use Rattle.std.specs.Prelude.{pos, slice_get, Some}
 use Rattle.std.specs.Fmt.{decimal}
 use Rattle.std.specs.List.{flat_map}
@@ -179,7 +179,7 @@ generated_comms n list programs few tokens spelled =
     let again = source-again (bulk_tree n) (some_program n) in
     let same : list ≡ record { tokens = source_tokens (bulk_tree n); offsets = printed.0; end = length (bulk_bytes n) } = Tokens-unique (bulk_bytes n) list _ tokens printed.1 in
     let here : Spell (source_tokens (bulk_tree n)) programs = subst (λ (l : TokenList). Spell l.tokens programs) same spelled in
-    ap comm_items (one_tree-law (numbered 0 (source_tokens (bulk_tree n))) programs again.0 here again.2) ∙ alike_items again.0 (bulk_tree n) again.1
+    ap comm_items (one_tree-law (tokens_numbered 0 (source_tokens (bulk_tree n))) programs again.0 here again.2) ∙ alike_items again.0 (bulk_tree n) again.1
 
 -- the first is the sensor
 pub first_comm : (n : ℕ) → slice_get (comm_items (bulk_tree n)) 0 ≡ Some (comm_item bulk_sensor)

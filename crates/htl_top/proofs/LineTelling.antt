@@ -19,7 +19,7 @@ use Rattle.htl_top.specs.Causes.{IsSource}
 use Rattle.htl_top.specs.Objects.{HasObjectTables, IsObjectFile, IsObjectTables, SpeaksOfObject}
 use Rattle.htl_top.specs.PatchedFiles.{HasPatchedTables, IsDonorTold, IsPatchedTables, SpeaksOfPatch}
 use Rattle.htl_top.specs.Runs.{IsRun}
-use Rattle.htl_top.specs.Sources.{HasTypedTables, IsInput, IsNotCompiled, IsTypedInput, IsTypedProgram, outcome_of, tables_of}
+use Rattle.htl_top.specs.Sources.{HasTypedTables, IsInput, IsNotCompiled, IsTypedInput, IsTypedProgram, outcome_of, tables_of_stop}
 use Rattle.htl_top.specs.SourcesOn.{HasTypedOn, IsTypedOn, IsNotCompiledOn}
 use Rattle.htl_top.specs.Status.{fault_line}
 use Rattle.htl_top.specs.Telling.{SpeaksOf, IsFaultTold, IsPatchFaultTold, IsLineTold}
@@ -68,7 +68,7 @@ SpeaksOf-bulk Sources Objects n old new Write told b = tt
 SpeaksOf-bulk Sources Objects n old new Memory told b = tt
 
 -- what stops a source speaks of its tables
-pub SpeaksOf-stop : (Objects : (Tables → Type 0) → Type 0) (bytes : List ℕ) (s : SourceStop) → IsNotCompiled bytes s → SpeaksOf (HasTypedTables bytes) Objects (outcome_of s) (tables_of s)
+pub SpeaksOf-stop : (Objects : (Tables → Type 0) → Type 0) (bytes : List ℕ) (s : SourceStop) → IsNotCompiled bytes s → SpeaksOf (HasTypedTables bytes) Objects (outcome_of s) (tables_of_stop s)
 SpeaksOf-stop Objects bytes (stop.Fault f) is = tt
 SpeaksOf-stop Objects bytes (stop.IllFormed f u) is =
     let t = is.1 in record { tables = t.tables; of = t.of; can = t.can; fact = ap Some t.fact }
@@ -76,7 +76,7 @@ SpeaksOf-stop Objects bytes (stop.Unschedulable sel a b demand) is = tt
 SpeaksOf-stop Objects bytes (stop.Platform f) is = tt
 SpeaksOf-stop Objects bytes stop.Memory is = tt
 
-pub SpeaksOf-stop-on : (Objects : (Tables → Type 0) → Type 0) (bytes file : List ℕ) (s : SourceStop) → IsNotCompiledOn bytes file s → SpeaksOf (HasTypedOn bytes file) Objects (outcome_of s) (tables_of s)
+pub SpeaksOf-stop-on : (Objects : (Tables → Type 0) → Type 0) (bytes file : List ℕ) (s : SourceStop) → IsNotCompiledOn bytes file s → SpeaksOf (HasTypedOn bytes file) Objects (outcome_of s) (tables_of_stop s)
 SpeaksOf-stop-on Objects bytes file (stop.Fault f) is = tt
 SpeaksOf-stop-on Objects bytes file (stop.Platform f) is = tt
 SpeaksOf-stop-on Objects bytes file (stop.IllFormed f u) is =

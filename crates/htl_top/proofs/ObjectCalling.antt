@@ -33,7 +33,7 @@ use Rattle.htl_top.specs.SelectionInput.{Whole, Bad, input_of}
 use Rattle.htl_top.specs.Shown.{show_text, IsShown}
 use Rattle.htl_top.specs.Slacked.{IsSlacked}
 use Rattle.htl_top.specs.Sources.{HasTables}
-use Rattle.htl_top.specs.Words.{Command, Go, Compile, CompileWith, Run, Check, Plan, Show, Bulk, Slack, Audit, Patch, object_of, second_file}
+use Rattle.htl_top.specs.Words.{Command, Go, Compile, CompileWith, Run, Check, Plan, Show, Bulk, Slack, Audit, Patch, command_object, second_file}
 use Rattle.htl_top.specs.declared.outcome.Outcome.{Outcome}
 use Rattle.htl_top.specs.declared.outcome.Outcome.TheVariants.{Done, Object as Refused, Script, Shelf, Read, Write, Memory}
 use Rattle.htl_top.specs.declared.outcome.ShelfCause.TheVariants.{TooLong}
@@ -41,7 +41,7 @@ use Rattle.htl_top.specs.declared.outcome.ShelfCause.TheVariants.{TooLong}
 module _ (shelf : Files) (old new : Streams) where
   -- ---- of an object that is named
 
-  pub long_object : (command : Option Command) (bytes : List ℕ) (outcome : Outcome) → IsGiven (object_of command) shelf.holds shelf.before shelf.after bytes
+  pub long_object : (command : Option Command) (bytes : List ℕ) (outcome : Outcome) → IsGiven (command_object command) shelf.holds shelf.before shelf.after bytes
       → IsCall command shelf old new outcome → 16777216 < length bytes → IsOrMemory outcome (Shelf (TooLong (length bytes)))
   long_object None bytes outcome given call long = absurd (some_not_none (List ℕ) None given.word given.named refl)
   long_object (Some (Go name)) bytes outcome given call long = absurd (some_not_none (List ℕ) None given.word given.named refl)
@@ -56,7 +56,7 @@ module _ (shelf : Files) (old new : Streams) where
   long_object (Some (Patch name unit mode donor)) bytes outcome given call long = patching.long_object unit mode (Some name) (Some donor) shelf old new bytes given outcome call long
   long_object (Some (Bulk n)) bytes outcome given call long = absurd (some_not_none (List ℕ) None given.word given.named refl)
 
-  pub faulty_object : (command : Option Command) (bytes : List ℕ) (outcome : Outcome) → IsGiven (object_of command) shelf.holds shelf.before shelf.after bytes
+  pub faulty_object : (command : Option Command) (bytes : List ℕ) (outcome : Outcome) → IsGiven (command_object command) shelf.holds shelf.before shelf.after bytes
       → IsCall command shelf old new outcome → ((word : List ℕ) → second_file command ≡ Some word → (others : List ℕ) × IsReadyFile (Some word) shelf.holds shelf.before shelf.after others)
       → (f : ObjectFault) → length bytes ≤ 16777216 → RefusesBytes bytes f → IsOrMemory outcome (Refused f)
   faulty_object None bytes outcome given call second f short refused = absurd (some_not_none (List ℕ) None given.word given.named refl)

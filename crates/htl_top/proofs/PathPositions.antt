@@ -13,7 +13,7 @@ use Rattle.htl_model.specs.Selections.{root_modules, modes_of, invs_of}
 use Rattle.htl_model.specs.Tables.{Tables}
 use Rattle.htl_model.specs.declared.frame.Place.{Place}
 use Rattle.htl_model.specs.declared.frame.Round.{Round}
-use Rattle.htl_top.specs.Checked.{most_positions}
+use Rattle.htl_top.specs.Checked.{most_positions_below}
 
 -- ---- paths through some rounds
 
@@ -95,11 +95,11 @@ module _ (t : Tables) where
 
   -- ---- the greatest of some paths
 
-  no_more : (n most : ℕ) → ((p : ℕ) → p < n → length (path_places t p) ≤ most) → most_positions t n ≤ most
+  no_more : (n most : ℕ) → ((p : ℕ) → p < n → length (path_places t p) ≤ most) → most_positions_below t n ≤ most
   no_more zero most h = omega arith
   no_more (suc n) most h = omega (arith, no_more n most (λ p l. h p (omega (arith, l))), h n (omega arith))
 
-  as_many : (n p : ℕ) → p < n → length (path_places t p) ≤ most_positions t n
+  as_many : (n p : ℕ) → p < n → length (path_places t p) ≤ most_positions_below t n
   as_many zero p l = absurd (omega (arith, l))
   as_many (suc n) p l = elim (cases_lt p n) [
     | inl less ↦ omega (arith, as_many n p less)
@@ -111,16 +111,16 @@ module _ (t : Tables) where
       ap (flat_map (rounds_at t)) (ap (λ (us : List ℕ). starts_below (map (unit_period t) us) (elim (elim (map (unit_period t) us) as (λ _. Option ℕ) [ [] ↦ None | p ∷ ps ↦ Some (multiple_of p ps) ]) as (λ _. ℕ) [ Some h ↦ h | None ↦ 0 ])) e)
 
   -- of all paths it is that of the rounds, each in its widest mode
-  pub most_is : AreInRange t → most_positions t (paths t) ≡ frames.most_positions t (rounds t)
+  pub most_is : AreInRange t → most_positions_below t (paths t) ≡ frames.most_positions t (rounds t)
   most_is range = by (root_modules t) refl
     where
-      all : most_positions t (choices t (rounds t)) ≡ frames.most_positions t (rounds t)
+      all : most_positions_below t (choices t (rounds t)) ≡ frames.most_positions t (rounds t)
       all =
           let wide = widest_path (rounds t) (rounds_have t range) in
           let above = no_more (choices t (rounds t)) (frames.most_positions t (rounds t)) (λ p l. few_places p (rounds t) (rounds_have t range)) in
           let below = as_many (choices t (rounds t)) wide.0 wide.1 in
           omega (arith, above, below, wide.2)
 
-      by : (us : List ℕ) → root_modules t ≡ us → most_positions t (elim us as (λ _. ℕ) [ [] ↦ 0 | u ∷ vs ↦ choices t (rounds t) ]) ≡ frames.most_positions t (rounds t)
+      by : (us : List ℕ) → root_modules t ≡ us → most_positions_below t (elim us as (λ _. ℕ) [ [] ↦ 0 | u ∷ vs ↦ choices t (rounds t) ]) ≡ frames.most_positions t (rounds t)
       by [] e = sym (ap (frames.most_positions t) (no_rounds e))
       by (u ∷ us) e = all

@@ -10,7 +10,7 @@ use Rattle.htl_model.specs.Tables.{Tables}
 use Rattle.htl_walk.specs.declared.job.Job.{Job}
 use Rattle.htl_walk.specs.declared.schedule.SInstr.{SInstr}
 use Rattle.htl_walk.specs.declared.schedule.SInstr.TheVariants.{Dispatch}
-use Rattle.htl_walk.specs.Walk.{Point, Left, walk_from, last_point, work, worst_cases, next_point, finished_by, left_by, dispatched, begins, slice_between, slice_of, finishes_by, work_after, job_at}
+use Rattle.htl_walk.specs.Walk.{Point, Left, walk_from, last_point, work, worst_cases, next_point, finished_by, left_by, dispatched, dispatch_begins, slice_between, slice_of, finishes_by, work_after, job_at}
 use Rattle.htl_top.specs.Planned.{slice_text, done_text, left_text, walk_text, finishes, work_of}
 
 -- ---- the work at first
@@ -74,7 +74,7 @@ Puts-same_cut old new before now text other e d same puts =
 
 module _ (jobs : List Job) (p until time : ℕ) (left after : List ℕ) (at : ℕ) (slice : Option (ℕ × ℕ)) (done : Bool) (below : p < length left)
     (next : record { time = at; left = after } ≡ dispatched jobs p until (record { time = time; left = left }))
-    (ran : slice ≡ slice_between (begins time (job_at jobs p).release until) until (get_or left p 0) at)
+    (ran : slice ≡ slice_between (dispatch_begins time (job_at jobs p).release until) until (get_or left p 0) at)
     (finished : done ≡ finishes_by (get_or left p 0) (work_after time (get_or left p 0) (job_at jobs p).release until)) where
   pub dispatch_finished : done ≡ finished_by (Dispatch p until) (record { time = time; left = left }) (next_point jobs (Dispatch p until) (record { time = time; left = left }))
   dispatch_finished =
@@ -88,7 +88,7 @@ module _ (jobs : List Job) (p until time : ℕ) (left after : List ℕ) (at : �
       let x : Point = record { time = time; left = left } in
       let y = next_point jobs (Dispatch p until) x in
       let same : at ≡ y.time = ap (λ (z : Point). z.time) next in
-      let is : slice ≡ slice_of jobs (Dispatch p until) x y.time = ran ∙ ap (λ (n : ℕ). slice_between (begins time (job_at jobs p).release until) until (get_or left p 0) n) same in
+      let is : slice ≡ slice_of jobs (Dispatch p until) x y.time = ran ∙ ap (λ (n : ℕ). slice_between (dispatch_begins time (job_at jobs p).release until) until (get_or left p 0) n) same in
       ap (λ (s : Option (ℕ × ℕ)). slice_text t inv s ++ done_text t inv at done) is
       ∙ ap (λ (n : ℕ). slice_text t inv (slice_of jobs (Dispatch p until) x y.time) ++ done_text t inv n done) same
       ∙ ap (λ (b : Bool). slice_text t inv (slice_of jobs (Dispatch p until) x y.time) ++ done_text t inv y.time b) dispatch_finished

@@ -9,7 +9,7 @@ use Rattle.htl_script.specs.Lines.{ScriptLine, is_line_feed, lines_of, size_of, 
 use Rattle.htl_script.specs.Statements.{fields_of}
 use Rattle.htl_script.proofs.Splitting.{lines_of-fed, lines_of-last, lines_of-begun}
 use Rattle.htl_top.specs.SelectionInput.{Bad, named_by, entered, judged_text, judged, listed, input_of_lines}
-use Rattle.htl_top.specs.SelectionReaders.{Place, IsPlace, rest_of, next_line, answered}
+use Rattle.htl_top.specs.SelectionReaders.{Place, IsPlace, rest_of, next_line, selection_answered}
 
 -- ---- how a line is judged by its size
 
@@ -92,7 +92,7 @@ line_answered : (t : Tables) (p new : Place) (modes entries : List (Option ℕ))
     → length p.line ≤ 255 → p.start + (length p.line + (if fed then 1 else 0)) ≤ 1073741824
     → lines_of (p.line ++ bytes) ≡ record { text = p.line; fed = fed } ∷ lines_of later
     → r ≡ judged_text t (take p.done modes) p.line → IfOk r (λ e. new ≡ next_line p (if fed then 1 else 0) e) → IfOk r (λ e. take new.done entries ≡ take p.done modes ++ listed e)
-    → rest_of t p modes bytes ≡ answered p.number r (rest_of t new entries later)
+    → rest_of t p modes bytes ≡ selection_answered p.number r (rest_of t new entries later)
 line_answered t p new modes entries fed bytes later (Ok e) short below lines is next front =
     let x : ScriptLine = record { text = p.line; fed = fed } in
     ap (λ (ls : List ScriptLine). input_of_lines t p.number p.start (take p.done modes) ls) lines
@@ -107,7 +107,7 @@ line_answered t p new modes entries fed bytes later (Err k) short below lines is
 pub rest_of-feed : (t : Tables) (p new : Place) (modes entries : List (Option ℕ)) (b : ℕ) (later : List ℕ) (r : Result (Option (Option ℕ)) ScriptKind) → IsPlace p → b ≡ 10
     → p.start + length p.line < 1073741824 → r ≡ judged_text t (take p.done modes) p.line → IfOk r (λ e. new ≡ next_line p 1 e)
     → IfOk r (λ e. take new.done entries ≡ take p.done modes ++ listed e)
-    → rest_of t p modes (b ∷ later) ≡ answered p.number r (rest_of t new entries later)
+    → rest_of t p modes (b ∷ later) ≡ selection_answered p.number r (rest_of t new entries later)
 rest_of-feed t p new modes entries b later r is ten below e next front =
     line_answered t p new modes entries true (b ∷ later) later r is.short (omega (arith, below))
     (ap (λ (c : ℕ). lines_of (p.line ++ c ∷ later)) ten ∙ lines_of-fed p.line later is.plain) e next front
@@ -115,7 +115,7 @@ rest_of-feed t p new modes entries b later r is ten below e next front =
 -- the end of a last line without a line feed
 pub rest_of-last : (t : Tables) (p new : Place) (modes entries : List (Option ℕ)) (r : Result (Option (Option ℕ)) ScriptKind) → IsPlace p → 1 ≤ length p.line
     → r ≡ judged_text t (take p.done modes) p.line → IfOk r (λ e. new ≡ next_line p 0 e) → IfOk r (λ e. take new.done entries ≡ take p.done modes ++ listed e)
-    → rest_of t p modes [] ≡ answered p.number r (rest_of t new entries [])
+    → rest_of t p modes [] ≡ selection_answered p.number r (rest_of t new entries [])
 rest_of-last t p new modes entries r is some e next front =
     line_answered t p new modes entries false [] [] r is.short (omega (arith, is.small))
     (ap (λ (bytes : List ℕ). lines_of bytes) (append-nil p.line) ∙ lines_of-last p.line is.plain some) e next front

@@ -14,7 +14,7 @@ use Rattle.htl_text.proofs.Spellable.{tokens-spellable}
 use Rattle.htl_text.specs.Expressions.{Expr}
 use Rattle.htl_text.specs.Grammar.{Level, Spells, conj, or, cmp, and, sum, compare, prod, add, unary, multiply, atom, prefix, number, true_word, false_word, name, brackets, choice}
 use Rattle.htl_text.specs.Nodes.{PlainOut, PlainTask, PlainSwitch, PlainMode, PlainModule, PlainProgram}
-use Rattle.htl_text.specs.Placed.{Placed, Put, numbered}
+use Rattle.htl_text.specs.Placed.{Placed, Put, tokens_numbered}
 use Rattle.htl_text.specs.Spellable.{IsSpellable, AreSpellable}
 use Rattle.htl_text.specs.Statements.{SpellsMore, no_more, comma, SpellsList, empty, items, SpellsEach, no_other, another, SpellsClause, absent, present, SpellsType, int, bool, SpellsConst, positive, negative, true_word as true_const, false_word as false_const, SpellsComm, communicator, sensor, SpellsParam, param, SpellsOut, out, SpellsTask, concrete, abstract_task, SpellsPort, port, SpellsEnd, comm_end, port_end, SpellsInvoke, invoke, SpellsSwitch, switch, SpellsMode, mode, SpellsModule, a_module, SpellsProgram, program, SpellsSource, source}
 use Rattle.htl_text.specs.declared.token.Token.{Token}
@@ -176,7 +176,7 @@ source_spelled (source p ps) h =
     let first = program_spelled p h in
     (first.0, (each_spelled (λ us vs x. program_spelled) ps first.1).0)
 
-numbered_fit : (k : ℕ) (ts : List Token) → AreSpellable ts → Fit (numbered k ts)
+numbered_fit : (k : ℕ) (ts : List Token) → AreSpellable ts → Fit (tokens_numbered k ts)
 numbered_fit k [] h = tt
 numbered_fit k (t ∷ ts) h = (h.0, numbered_fit (k + 1) ts h.1)
 

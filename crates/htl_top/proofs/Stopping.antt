@@ -8,7 +8,7 @@ use Rattle.htl_compile.specs.Sources.{IsFront}
 use Rattle.htl_compile.specs.declared.building.BackFault.{BackFault}
 use Rattle.htl_compile.specs.declared.building.BackFault.TheVariants as back
 use Rattle.htl_model.specs.Tables.{Tables}
-use Rattle.htl_top.specs.Sources.{IsNotCompiled, IsUnread, IsUnbuilt, outcome_of, stop_of, tables_of}
+use Rattle.htl_top.specs.Sources.{IsNotCompiled, IsUnread, IsUnbuiltSource, outcome_of, stop_of, tables_of_stop}
 use Rattle.htl_top.specs.SourcesOn.{IsNotCompiledOn}
 use Rattle.htl_top.specs.declared.outcome.Outcome.{Outcome}
 use Rattle.htl_top.specs.declared.source.SourceStop.{SourceStop}
@@ -22,7 +22,7 @@ by_fault bytes u (back.IllFormed f) short front is =
 by_fault bytes u (back.Unschedulable sel a b demand) short front is = back_of_source bytes u (back.Unschedulable sel a b demand) short front is
 by_fault bytes u back.Memory short front is = tt
 
-pub IsNotCompiled-unbuilt : (bytes : List ℕ) (u : Tables) (s : SourceStop) → length bytes ≤ 1048576 → IsFront bytes u → IsUnbuilt u s → IsNotCompiled bytes s
+pub IsNotCompiled-unbuilt : (bytes : List ℕ) (u : Tables) (s : SourceStop) → length bytes ≤ 1048576 → IsFront bytes u → IsUnbuiltSource u s → IsNotCompiled bytes s
 IsNotCompiled-unbuilt bytes u s short front h = subst (IsNotCompiled bytes) (sym h.is) (by_fault bytes u h.fault short front h.has)
 
 pub IsNotCompiled-unread : (bytes : List ℕ) (s : SourceStop) → IsUnread bytes s → IsNotCompiled bytes s
@@ -57,13 +57,13 @@ module _ (bytes file : List ℕ) (u v : Tables) (name : List ℕ) (short : lengt
   by_fault_on (back.Unschedulable sel a b demand) is = by_back bytes file u v name short front on (back.Unschedulable sel a b demand) is
   by_fault_on back.Memory is = tt
 
-  pub IsNotCompiledOn-unbuilt : (s : SourceStop) → IsUnbuilt v s → IsNotCompiledOn bytes file s
+  pub IsNotCompiledOn-unbuilt : (s : SourceStop) → IsUnbuiltSource v s → IsNotCompiledOn bytes file s
   IsNotCompiledOn-unbuilt s h = subst (IsNotCompiledOn bytes file) (sym h.is) (by_fault_on h.fault h.has)
 
 -- ---- answers
 
 -- a fact of what stops a source is one of its answer
-pub of_answer : (Fact : Outcome → Option Tables → Type 0) (s : SourceStop) (outcome : Outcome) (tables : Option Tables) → outcome ≡ outcome_of s → tables ≡ tables_of s
-    → Fact (outcome_of s) (tables_of s) → Fact outcome tables
+pub of_answer : (Fact : Outcome → Option Tables → Type 0) (s : SourceStop) (outcome : Outcome) (tables : Option Tables) → outcome ≡ outcome_of s → tables ≡ tables_of_stop s
+    → Fact (outcome_of s) (tables_of_stop s) → Fact outcome tables
 of_answer Fact s outcome tables is same fact =
     subst (λ (o : Outcome). Fact o tables) (sym is) (subst (λ (t : Option Tables). Fact (outcome_of s) t) (sym same) fact)

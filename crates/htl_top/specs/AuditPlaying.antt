@@ -1,7 +1,7 @@
 -- The events of a script, as an auditor is told them one by one, and the end of an audit.
 use Rattle.std.specs.Prelude.{◌≡◌, ℕ, List, [], ◌∷◌, ◌++◌, Option, None, Some}
 use Rattle.std.specs.Io.KnownBytes.{append_known}
-use Rattle.htl_audit.specs.Auditing.{Audit, Follows, IsAudited}
+use Rattle.htl_audit.specs.Auditing.{Audit, AuditFollows, IsAudited}
 use Rattle.htl_audit.specs.Legal.{first_fault}
 use Rattle.htl_audit.specs.declared.slice.Slice.{Slice}
 use Rattle.htl_edge.specs.Causes.{Rose}
@@ -18,14 +18,14 @@ use Rattle.htl_top.specs.declared.outcome.Outcome.TheVariants.{Done, Usage, Sour
 
 -- the auditor behind an event: it follows one more, or its run has ended
 abbrev pub IsAuditBehind : Audit → List Event → Event → Type 0
-IsAuditBehind a told (event.At to) = Follows a (told ++ event.At to ∷ [])
-IsAuditBehind a told (event.Sense c x) = Follows a (told ++ event.Sense c x ∷ [])
-IsAuditBehind a told (event.Took i n) = Follows a (told ++ event.Took i n ∷ [])
+IsAuditBehind a told (event.At to) = AuditFollows a (told ++ event.At to ∷ [])
+IsAuditBehind a told (event.Sense c x) = AuditFollows a (told ++ event.Sense c x ∷ [])
+IsAuditBehind a told (event.Took i n) = AuditFollows a (told ++ event.Took i n ∷ [])
 IsAuditBehind a told (event.End to) = IsAudited a told to
 
 -- the auditor behind the events told: it follows them, or its run has ended where the last is the end
 abbrev pub IsAuditTold : Audit → List Event → Option ℕ → Type 0
-IsAuditTold a told None = Follows a told
+IsAuditTold a told None = AuditFollows a told
 IsAuditTold a told (Some end) = (front : List Event) × (told ≡ front ++ event.End end ∷ []) × IsAudited a front end
 
 -- its machine is told these events as that of a run is, and the auditor with it

@@ -22,8 +22,8 @@ pub data Input : Type 0 where
 -- ---- a line
 
 -- `mode MODULE MODE`, where neither name is empty
-abbrev pub named : List ℕ → List ℕ → List ℕ → Option (List ℕ × List ℕ)
-named word unit mode =
+abbrev pub named_mode : List ℕ → List ℕ → List ℕ → Option (List ℕ × List ℕ)
+named_mode word unit mode =
     if length unit == 0 then None
     else if length mode == 0 then None
     else if bytes_eq word (codes "mode") then Some (unit, mode)
@@ -33,15 +33,15 @@ abbrev pub named_by : List (List ℕ) → Option (List ℕ × List ℕ)
 named_by [] = None
 named_by (word ∷ []) = None
 named_by (word ∷ unit ∷ []) = None
-named_by (word ∷ unit ∷ mode ∷ []) = named word unit mode
+named_by (word ∷ unit ∷ mode ∷ []) = named_mode word unit mode
 named_by (word ∷ unit ∷ mode ∷ more ∷ fields) = None
 
 -- the module with this name
-abbrev pub has_name : List ℕ → Module → Bool
-has_name name x = bytes_eq x.name name
+abbrev pub module_is_named : List ℕ → Module → Bool
+module_is_named name x = bytes_eq x.name name
 
 abbrev pub unit_of : Tables → List ℕ → Option ℕ
-unit_of t name = position_from (has_name name) 0 t.modules
+unit_of t name = position_from (module_is_named name) 0 t.modules
 
 -- the mode of a module with this name
 abbrev pub is_mode : ℕ → List ℕ → Mode → Bool

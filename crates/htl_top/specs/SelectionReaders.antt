@@ -34,9 +34,9 @@ abbrev pub next_line : Place → ℕ → Option (Option ℕ) → Place
 next_line p feed e = record { number = p.number + 1; start = p.start + (length p.line + feed); line = []; done = p.done + length (listed e) }
 
 -- what comes after a line's answer
-abbrev pub answered : {T : Type 0} → ℕ → Result T ScriptKind → Input → Input
-answered line (Ok e) later = later
-answered line (Err k) later = Bad line k
+abbrev pub selection_answered : {T : Type 0} → ℕ → Result T ScriptKind → Input → Input
+selection_answered line (Ok e) later = later
+selection_answered line (Err k) later = Bad line k
 
 -- what a reader does with bytes: all of them are read, or the input has its first fault in them
 abbrev pub Takes : {T : Type 0} → Tables → Place → List (Option ℕ) → Place → List (Option ℕ) → List ℕ → Result T ScriptStop → Type 0

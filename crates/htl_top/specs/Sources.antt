@@ -65,7 +65,7 @@ IsUnread bytes (stop.Unschedulable sel a b demand) = ⊥
 IsUnread bytes stop.Memory = Unit {0}
 
 -- what stops tables with code is a fault of theirs
-pub record IsUnbuilt (u : Tables) (s : SourceStop) : Type 0 where
+pub record IsUnbuiltSource (u : Tables) (s : SourceStop) : Type 0 where
   pub fault : BackFault
   pub has : IsBackFault u fault
   pub is : s ≡ stop_of u fault
@@ -78,12 +78,12 @@ outcome_of (stop.Unschedulable sel a b demand) = Unschedulable sel a b demand
 outcome_of (stop.Platform f) = Platform f
 outcome_of stop.Memory = Memory
 
-abbrev pub tables_of : SourceStop → Option Tables
-tables_of (stop.Fault f) = None
-tables_of (stop.IllFormed f u) = Some u
-tables_of (stop.Unschedulable sel a b demand) = None
-tables_of (stop.Platform f) = None
-tables_of stop.Memory = None
+abbrev pub tables_of_stop : SourceStop → Option Tables
+tables_of_stop (stop.Fault f) = None
+tables_of_stop (stop.IllFormed f u) = Some u
+tables_of_stop (stop.Unschedulable sel a b demand) = None
+tables_of_stop (stop.Platform f) = None
+tables_of_stop stop.Memory = None
 
 -- ---- of a file
 

@@ -68,12 +68,12 @@ task_name t i =
     elim (slice_get t.invs i) [ Some x ↦ elim (slice_get t.tasks x.task) [ Some k ↦ k.name | None ↦ [] ] | None ↦ [] ]
 
 -- `module.mode`
-abbrev pub mode_place : Tables → FormFault → List ℕ
-mode_place t fault = module_name t fault.«module» ++ codes "." ++ mode_name t fault.mode
+abbrev pub mode_place_text : Tables → FormFault → List ℕ
+mode_place_text t fault = module_name t fault.«module» ++ codes "." ++ mode_name t fault.mode
 
 -- `module.mode`, or `module.mode.task` where an invocation is the place
 abbrev pub place_of_fault : Tables → FormFault → List ℕ
-place_of_fault t fault = elim fault.inv [ Some i ↦ mode_place t fault ++ codes "." ++ task_name t i | None ↦ mode_place t fault ]
+place_of_fault t fault = elim fault.inv [ Some i ↦ mode_place_text t fault ++ codes "." ++ task_name t i | None ↦ mode_place_text t fault ]
 
 -- the place by the names of tables; nothing where there are none
 abbrev pub place_in : Option Tables → FormFault → List ℕ

@@ -136,19 +136,19 @@ source_of (Some (Patch name unit mode donor)) = None
 source_of None = None
 
 -- the object that a command is about
-abbrev pub object_of : Option Command → Option (List ℕ)
-object_of (Some (Go name)) = None
-object_of (Some Compile) = None
-object_of (Some (CompileWith platform)) = None
-object_of (Some (Run show name)) = Some name
-object_of (Some (Check name)) = Some name
-object_of (Some (Plan name)) = Some name
-object_of (Some (Show name)) = Some name
-object_of (Some (Bulk n)) = None
-object_of (Some (Slack name owner task)) = Some name
-object_of (Some (Audit name log)) = Some name
-object_of (Some (Patch name unit mode donor)) = Some name
-object_of None = None
+abbrev pub command_object : Option Command → Option (List ℕ)
+command_object (Some (Go name)) = None
+command_object (Some Compile) = None
+command_object (Some (CompileWith platform)) = None
+command_object (Some (Run show name)) = Some name
+command_object (Some (Check name)) = Some name
+command_object (Some (Plan name)) = Some name
+command_object (Some (Show name)) = Some name
+command_object (Some (Bulk n)) = None
+command_object (Some (Slack name owner task)) = Some name
+command_object (Some (Audit name log)) = Some name
+command_object (Some (Patch name unit mode donor)) = Some name
+command_object None = None
 
 -- the platform file that a command compiles for
 abbrev pub platform_file : Option Command → Option (List ℕ)
@@ -183,11 +183,11 @@ second_file None = None
 abbrev pub source_in : List (Bor (List ℕ)) → Option (List ℕ)
 source_in words = source_of (command_in words)
 
-abbrev pub object_in : List (Bor (List ℕ)) → Option (List ℕ)
-object_in words = object_of (command_in words)
+abbrev pub object_word : List (Bor (List ℕ)) → Option (List ℕ)
+object_word words = command_object (command_in words)
 
-abbrev pub platform_in : List (Bor (List ℕ)) → Option (List ℕ)
-platform_in words = platform_file (command_in words)
+abbrev pub platform_word : List (Bor (List ℕ)) → Option (List ℕ)
+platform_word words = platform_file (command_in words)
 
 abbrev pub second_in : List (Bor (List ℕ)) → Option (List ℕ)
 second_in words = second_file (command_in words)

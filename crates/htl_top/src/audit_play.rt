@@ -1,6 +1,6 @@
 // The events of a script, told to an auditor as they are read, and the end of its audit.
 ghost use Rattle.std.specs.Prelude.{◌≡◌, ◌+◌, [], List, OnOk};
-ghost use Rattle.htl_audit.specs.Auditing.{Follows, IsAudited, IsSameAudit};
+ghost use Rattle.htl_audit.specs.Auditing.{AuditFollows, IsAudited, IsSameAudit};
 ghost use Rattle.htl_base.specs.declared.limits.TheConstants as limit;
 ghost use Rattle.htl_edge.specs.Content.{Puts};
 ghost use Rattle.htl_machine.specs.Follows.{reading_of};
@@ -26,7 +26,7 @@ pub fn play_audit<R: Source, W: Sink>(
     input: &mut R,
     out: &mut W,
 ) -> Outcome
-    requires follows { Follows auditor.old [] }
+    requires follows { AuditFollows auditor.old [] }
     requires accepted { IsAccepted auditor.old.machine.object }
     requires tables { t.now ≡ auditor.old.machine.object.tables }
     ensures answer { IsAuditRun auditor.old.log auditor.old.machine.object
@@ -53,9 +53,9 @@ pub fn play_audit<R: Source, W: Sink>(
 
 // Tells an auditor one event behind those told, and writes values and modes of the instants that are past by then.
 fn tell<W: Sink>(auditor: &mut Auditor<'_>, event: Event, out: &mut W) -> Result<(), Failed>
-    requires { (es : List Told) × Follows auditor.old es × IsNext auditor.old.machine.object.tables (reading_of 0 es) event }
-    ensures text { (es : List Told) → Follows auditor.old es → Puts (W.written out.old) (W.written out.new) (W.faults out.old) (W.faults out.new) (text_more auditor.old.machine.object auditor.old.machine.show es event) result }
-    ensures behind { (es : List Told) → Follows auditor.old es → OnOk result (IsAuditBehind auditor.new es event) }
+    requires { (es : List Told) × AuditFollows auditor.old es × IsNext auditor.old.machine.object.tables (reading_of 0 es) event }
+    ensures text { (es : List Told) → AuditFollows auditor.old es → Puts (W.written out.old) (W.written out.new) (W.faults out.old) (W.faults out.new) (text_more auditor.old.machine.object auditor.old.machine.show es event) result }
+    ensures behind { (es : List Told) → AuditFollows auditor.old es → OnOk result (IsAuditBehind auditor.new es event) }
     ensures same { IsSameAudit auditor.old auditor.new }
 {
     match event {

@@ -1,6 +1,6 @@
 // The place of a broken form rule, by names.
 ghost use Rattle.std.specs.Prelude.{◌≡◌, ◌≤◌, length};
-ghost use Rattle.htl_top.specs.Status.{mode_place, place_of_fault};
+ghost use Rattle.htl_top.specs.Status.{mode_place_text as mode_place, place_of_fault};
 
 use crate::lookups::{mode_name, module_name, task_name};
 use htl_edge::LineBuffer;

@@ -5,7 +5,7 @@ ghost use Rattle.htl_edge.specs.Content.{Puts};
 ghost use Rattle.htl_top.specs.Planned.{slice_text, done_text, left_text, walk_text, finishes};
 ghost use Rattle.htl_top.specs.Planned.{work_of as work_of_of};
 ghost use Rattle.htl_walk.specs.Following.{IsKnown};
-ghost use Rattle.htl_walk.specs.Walk.{walk_from, last_point, work, worst_cases, dispatched, begins, slice_between, finishes_by, work_after, job_at, next_point, finished_by, left_by};
+ghost use Rattle.htl_walk.specs.Walk.{walk_from, last_point, work, worst_cases, dispatched, dispatch_begins, slice_between, finishes_by, work_after, job_at, next_point, finished_by, left_by};
 
 use htl_base::Time;
 use htl_console::{line_d, line_j};
@@ -66,7 +66,7 @@ fn run_position(jobs: &[Job], left: &mut [Time], time: Time, p: u16, until: u32)
     requires known { p < length left.old }
     requires same { length left.old ≡ length jobs.now }
     ensures next { record { time = result.time; left = left.new } ≡ dispatched jobs.now p until (record { time = time; left = left.old }) }
-    ensures slice { result.slice ≡ slice_between (begins time (job_at jobs.now p).release until) until (get_or left.old p 0) result.time }
+    ensures slice { result.slice ≡ slice_between (dispatch_begins time (job_at jobs.now p).release until) until (get_or left.old p 0) result.time }
     ensures finished { result.finished ≡ finishes_by (get_or left.old p 0) (work_after time (get_or left.old p 0) (job_at jobs.now p).release until) }
     ensures len { length left.new ≡ length left.old }
 {

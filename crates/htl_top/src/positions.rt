@@ -3,7 +3,7 @@ ghost use Rattle.std.specs.Prelude.{◌≡◌, ◌≤◌, ◌<◌, ℕ, length, 
 ghost use Rattle.htl_model.specs.Frames.{most_invs, paths};
 ghost use Rattle.htl_model.specs.FrameTables.{IsFrame};
 ghost use Rattle.htl_model.specs.Selections.{invs_of, modes_of};
-ghost use Rattle.htl_top.specs.Checked.{most_positions as most_positions_of};
+ghost use Rattle.htl_top.specs.Checked.{most_positions_below as most_positions_of};
 
 use htl_base::limits::MAX_MODES;
 use htl_model::Tables;

@@ -1,7 +1,7 @@
 // One line of a plan's input, judged behind the entries before it.
 ghost use Rattle.std.specs.Prelude.{◌≡◌, Some, Ok, Err};
 ghost use Rattle.htl_script.specs.Statements.{fields_of};
-ghost use Rattle.htl_top.specs.SelectionInput.{named as named_of, named_by, mode_told, is_next as is_next_of, entered_as, entered, judged_text};
+ghost use Rattle.htl_top.specs.SelectionInput.{named_mode as named_of, named_by, mode_told, is_next as is_next_of, entered_as, entered, judged_text};
 
 use crate::selection_lookup::{is_active, mode_of, parent_of, unit_of};
 use htl_model::Tables;

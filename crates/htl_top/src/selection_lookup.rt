@@ -3,7 +3,7 @@ ghost use Rattle.std.specs.Prelude.{◌≡◌, ◌<◌, length, IfSome};
 ghost use Rattle.std.specs.List.{position_from};
 ghost use Rattle.htl_model.specs.Ranges.{parent_of as parent_of_of};
 ghost use Rattle.htl_model.specs.Selected.{is_active as is_active_of};
-ghost use Rattle.htl_top.specs.SelectionInput.{has_name as has_name_of, unit_of as unit_of_of, is_mode as is_mode_of, mode_of as mode_of_of};
+ghost use Rattle.htl_top.specs.SelectionInput.{module_is_named as has_name_of, unit_of as unit_of_of, is_mode as is_mode_of, mode_of as mode_of_of};
 
 use htl_model::choice::is_running;
 use htl_model::{Mode, Module, Tables};

@@ -1,7 +1,7 @@
 // The reader of a plan's input, byte by byte.
 ghost use Rattle.std.specs.Prelude.{◌≡◌, ◌<◌, ◌≤◌, ◌+◌, ◌∷◌, [], ◌++◌, length, take, List, ℕ, IfOk, OnErr, IfSome};
 ghost use Rattle.htl_top.specs.SelectionInput.{judged_text, listed};
-ghost use Rattle.htl_top.specs.SelectionReaders.{rest_of, next_line, answered, first_place};
+ghost use Rattle.htl_top.specs.SelectionReaders.{rest_of, next_line, selection_answered, first_place};
 
 use crate::selection_judge::judge;
 use htl_base::Seq;
@@ -93,7 +93,7 @@ impl SelectionReader {
     ) -> Result<Option<Option<u16>>, ScriptKind>
         requires all { length modes.old ≡ length t.now.modules }
         requires done { self.old.done ≤ length t.now.modules }
-        ensures rest { (later : List ℕ) → rest_of t.now self.old modes.old (b ∷ later) ≡ answered self.old.number result (rest_of t.now self.new modes.new later) }
+        ensures rest { (later : List ℕ) → rest_of t.now self.old modes.old (b ∷ later) ≡ selection_answered self.old.number result (rest_of t.now self.new modes.new later) }
         ensures count { IfOk result (λ e. self.new.start + length self.new.line ≡ self.old.start + length self.old.line + 1) }
         ensures bound { IfOk result (λ e. self.new.start + length self.new.line ≤ 1073741824) }
         ensures number { OnErr result (self.new.number ≡ self.old.number) }
@@ -121,7 +121,7 @@ impl SelectionReader {
     ) -> Result<Option<Option<u16>>, ScriptKind>
         requires all { length modes.old ≡ length t.now.modules }
         requires done { self.old.done ≤ length t.now.modules }
-        ensures rest { rest_of t.now self.old modes.old [] ≡ answered self.old.number result (rest_of t.now self.new modes.new []) }
+        ensures rest { rest_of t.now self.old modes.old [] ≡ selection_answered self.old.number result (rest_of t.now self.new modes.new []) }
         ensures line { IfOk result (λ e. self.new.line ≡ []) }
         ensures number { OnErr result (self.new.number ≡ self.old.number) }
         ensures len { length modes.new ≡ length modes.old }

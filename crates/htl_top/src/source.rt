@@ -6,7 +6,7 @@ ghost use Rattle.htl_compile.specs.OnPlatform.{IsCompiledOn};
 ghost use Rattle.htl_compile.specs.Sources.{IsRead};
 ghost use Rattle.htl_model.specs.Broken.{KeepsLimits};
 ghost use Rattle.htl_model.specs.FunctionTypes.{FitPlaces};
-ghost use Rattle.htl_top.specs.Sources.{IsNotCompiled, IsUnread, IsUnbuilt, outcome_of, tables_of, stop_of};
+ghost use Rattle.htl_top.specs.Sources.{IsNotCompiled, IsUnread, IsUnbuiltSource, outcome_of, tables_of_stop, stop_of};
 ghost use Rattle.htl_top.specs.SourcesOn.{IsNotCompiledOn};
 
 use crate::Outcome;
@@ -47,7 +47,7 @@ impl SourceStop {
     /// The answer that tells of it, with the tables that its line speaks of.
     pub fn answer(self) -> Answer
         ensures outcome { result.outcome ≡ outcome_of self }
-        ensures tables { result.tables ≡ tables_of self }
+        ensures tables { result.tables ≡ tables_of_stop self }
     {
         match self {
             SourceStop::Fault(fault) => Answer::plain(Outcome::Source(fault)),
@@ -117,7 +117,7 @@ fn object_of_tables(
     requires functions { FitPlaces tables }
     requires limits { KeepsLimits tables }
     ensures object { IfOk result (λ v. IsObjectOf platform tables v.items) }
-    ensures fault { IfErr result (IsUnbuilt tables) }
+    ensures fault { IfErr result (IsUnbuiltSource tables) }
 {
     let object = match back_for(alloc, tables, platform) {
         Ok(object) => object,

@@ -61,7 +61,7 @@ ghost use Rattle.htl_top.specs.Slacked.{HasSlack, IsRootNamed, NamesNoTask, IsTa
 ghost use Rattle.htl_top.specs.Sources.{HasTables, IsProgram, IsInputProgram, answer_of};
 ghost use Rattle.htl_top.specs.SourcesOn.{IsProgramOn, answer_on};
 ghost use Rattle.htl_top.specs.Telling.{IsLineTold};
-ghost use Rattle.htl_top.specs.Words.{Go, Compile, CompileWith, Run, Check, Plan, Show, Bulk, Slack, Audit, Patch, command_in, source_in, platform_in, object_in, second_in, most_taken, RunsObject};
+ghost use Rattle.htl_top.specs.Words.{Go, Compile, CompileWith, Run, Check, Plan, Show, Bulk, Slack, Audit, Patch, command_in, source_in, platform_word, object_word, second_in, most_taken, RunsObject};
 ghost use Rattle.htl_top.specs.declared.outcome.ShelfCause.{ShelfCause};
 ghost use Rattle.htl_top.specs.declared.outcome.ShelfCause.TheVariants as cause;
 
@@ -138,12 +138,12 @@ pub fn htl<S: Shelf, R: Source, W: Sink, E: Sink>(
     // The words, and the file that they name: a source, an object or a platform file.
     ensures usage { (result ≡ Outcome.Usage) ↔ (command_in words.now ≡ None) }
     ensures shelf_failed { result ≡ Outcome.Shelf cause.Failed →
-        IsFaultOf (source_in words.now) (S.faults shelf.old) (S.faults shelf.new) ⊎ IsFaultOf (object_in words.now) (S.faults shelf.old) (S.faults shelf.new)
-        ⊎ IsFaultOf (platform_in words.now) (S.faults shelf.old) (S.faults shelf.new)
+        IsFaultOf (source_in words.now) (S.faults shelf.old) (S.faults shelf.new) ⊎ IsFaultOf (object_word words.now) (S.faults shelf.old) (S.faults shelf.new)
+        ⊎ IsFaultOf (platform_word words.now) (S.faults shelf.old) (S.faults shelf.new)
         ⊎ IsFaultOf (second_in words.now) (S.faults shelf.old) (S.faults shelf.new) }
     ensures shelf_long { (seen : ℕ) → result ≡ Outcome.Shelf (cause.TooLong seen) →
-        IsLongFile limit.MAX_SOURCE (source_in words.now) (S.holds shelf.old) seen ⊎ IsLongFile limit.MAX_OBJECT (object_in words.now) (S.holds shelf.old) seen
-        ⊎ IsLongFile limit.MAX_SOURCE (platform_in words.now) (S.holds shelf.old) seen
+        IsLongFile limit.MAX_SOURCE (source_in words.now) (S.holds shelf.old) seen ⊎ IsLongFile limit.MAX_OBJECT (object_word words.now) (S.holds shelf.old) seen
+        ⊎ IsLongFile limit.MAX_SOURCE (platform_word words.now) (S.holds shelf.old) seen
         ⊎ IsLongFile limit.MAX_OBJECT (second_in words.now) (S.holds shelf.old) seen }
 
     // The faults of a source, in a file for `go` and as the input for `compile`; and of a platform file.
@@ -201,25 +201,25 @@ pub fn htl<S: Shelf, R: Source, W: Sink, E: Sink>(
         × IsProgramOn (Some file) (S.holds shelf.old) (R.rest input.old) (λ p t. AppendsPrefix (W.written out.old) (W.written out.new) (compiled_on p t)) }
     ensures compile_on_read { (file : List ℕ) → command_in words.now ≡ Some (CompileWith file) → result ≡ Outcome.Read → Rose (R.faults input.old) (R.faults input.new)
         × (W.written out.new ≡ W.written out.old) }
-    ensures long_platform { (bytes : List ℕ) → IsGiven (platform_in words.now) (S.holds shelf.old) (S.faults shelf.old) (S.faults shelf.new) bytes
+    ensures long_platform { (bytes : List ℕ) → IsGiven (platform_word words.now) (S.holds shelf.old) (S.faults shelf.old) (S.faults shelf.new) bytes
         → limit.MAX_SOURCE < length bytes → IsOrMemory result (Outcome.Shelf (cause.TooLong (length bytes))) }
-    ensures long_input_on { (file : List ℕ) → IsGiven (platform_in words.now) (S.holds shelf.old) (S.faults shelf.old) (S.faults shelf.new) file → length file ≤ limit.MAX_SOURCE
+    ensures long_input_on { (file : List ℕ) → IsGiven (platform_word words.now) (S.holds shelf.old) (S.faults shelf.old) (S.faults shelf.new) file → length file ≤ limit.MAX_SOURCE
         → (bytes : List ℕ) → R.rest input.old ≡ Some bytes → limit.MAX_SOURCE < length bytes
         → (Rose (R.faults input.old) (R.faults input.new) → ⊥) → IsOrMemory result (Outcome.Source (fault_of.TooLong 1048577)) }
-    ensures faulty_on { (file : List ℕ) → IsGiven (platform_in words.now) (S.holds shelf.old) (S.faults shelf.old) (S.faults shelf.new) file → length file ≤ limit.MAX_SOURCE
+    ensures faulty_on { (file : List ℕ) → IsGiven (platform_word words.now) (S.holds shelf.old) (S.faults shelf.old) (S.faults shelf.new) file → length file ≤ limit.MAX_SOURCE
         → (bytes : List ℕ) → R.rest input.old ≡ Some bytes → length bytes ≤ limit.MAX_SOURCE
         → (fault : WithFault) → (fault ≡ on.Compile failing.Memory → ⊥) → IsWithFault bytes file fault → (Rose (R.faults input.old) (R.faults input.new) → ⊥) → IsOrMemory result (answer_on fault) }
-    ensures compile_on_complete { (file : List ℕ) → IsGiven (platform_in words.now) (S.holds shelf.old) (S.faults shelf.old) (S.faults shelf.new) file → length file ≤ limit.MAX_SOURCE
+    ensures compile_on_complete { (file : List ℕ) → IsGiven (platform_word words.now) (S.holds shelf.old) (S.faults shelf.old) (S.faults shelf.new) file → length file ≤ limit.MAX_SOURCE
         → (bytes : List ℕ) → R.rest input.old ≡ Some bytes → length bytes ≤ limit.MAX_SOURCE
         → (t : Tables) (p : Platform) → IsTablesOf bytes t → AreTyped t → platform_of t file ≡ Ok p → Formed (with_worst t p.worst) → AreSchedulable (with_worst t p.worst)
         → (Rose (R.faults input.old) (R.faults input.new) → ⊥) → (Rose (W.faults out.old) (W.faults out.new) → ⊥) → IsOrMemory result Outcome.Done }
 
     // The object of the other commands: its faults, and where this must be the answer, or Memory. Where a second file is named, a log or a
     // donor, that is had before the object is tested.
-    ensures object { (fault : ObjectFault) → result ≡ Outcome.Object fault → IsRefusedFile (object_in words.now) (S.holds shelf.old) fault }
-    ensures long_object { (bytes : List ℕ) → IsGiven (object_in words.now) (S.holds shelf.old) (S.faults shelf.old) (S.faults shelf.new) bytes
+    ensures object { (fault : ObjectFault) → result ≡ Outcome.Object fault → IsRefusedFile (object_word words.now) (S.holds shelf.old) fault }
+    ensures long_object { (bytes : List ℕ) → IsGiven (object_word words.now) (S.holds shelf.old) (S.faults shelf.old) (S.faults shelf.new) bytes
         → limit.MAX_OBJECT < length bytes → IsOrMemory result (Outcome.Shelf (cause.TooLong (length bytes))) }
-    ensures faulty_object { (bytes : List ℕ) → IsGiven (object_in words.now) (S.holds shelf.old) (S.faults shelf.old) (S.faults shelf.new) bytes
+    ensures faulty_object { (bytes : List ℕ) → IsGiven (object_word words.now) (S.holds shelf.old) (S.faults shelf.old) (S.faults shelf.new) bytes
         → ((word : List ℕ) → second_in words.now ≡ Some word → (others : List ℕ) × IsReadyFile (Some word) (S.holds shelf.old) (S.faults shelf.old) (S.faults shelf.new) others)
         → (fault : ObjectFault) → length bytes ≤ limit.MAX_OBJECT → RefusesBytes bytes fault → IsOrMemory result (Outcome.Object fault) }
 

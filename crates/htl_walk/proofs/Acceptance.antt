@@ -9,7 +9,7 @@ use Rattle.htl_walk.specs.declared.miss.Miss.TheVariants as miss
 use Rattle.htl_walk.specs.declared.schedule.SInstr.{SInstr}
 use Rattle.htl_walk.specs.declared.schedule.SInstr.TheVariants.{Dispatch, Idle, End}
 use Rattle.htl_walk.specs.Jobs.{precedes}
-use Rattle.htl_walk.specs.Walk.{Point, job_at, next_point, last_point, walk_from, walk, work, first_point, finish, DoneBy, InOrder, AreDone, InForm, IsAccepted, worst_cases}
+use Rattle.htl_walk.specs.Walk.{Point, job_at, next_point, last_point, walk_from, walk, work, first_point, finish, DoneBy, InOrder, AreDone, InForm, ScheduleIsAccepted, worst_cases}
 use Rattle.htl_walk.specs.Misses.{DepartsBy, DepartsAt, IsFirstDeparture, worst_point, IsCleanBefore, IsFirstMiss}
 use Rattle.htl_walk.specs.Refinement.{HasWork}
 use Rattle.htl_walk.proofs.Steps.{left_falls, either}
@@ -147,7 +147,7 @@ no_finish jobs (i ∷ is) x p some =
 -- ---- accepted, or a first miss
 
 -- a schedule with a first miss is not accepted
-pub refused : (jobs : List Job) (period : ℕ) (s : List SInstr) (m : Miss) → IsFirstMiss jobs period s m → IsAccepted jobs period s → ⊥
+pub refused : (jobs : List Job) (period : ℕ) (s : List SInstr) (m : Miss) → IsFirstMiss jobs period s m → ScheduleIsAccepted jobs period s → ⊥
 refused jobs period s (miss.Order k) f a = departs_nowhere (length jobs) period s k a.form f.here
 refused jobs period s (miss.Before p q k) f a =
     let early = f.1.here in
@@ -175,7 +175,7 @@ refused jobs period s (miss.Unfinished p left) h a =
 
 -- a schedule that is walked to its end without a miss is accepted
 pub accepted : (jobs : List Job) (period : ℕ) (s : List SInstr) → All HasWork jobs → InForm (length jobs) period s → IsCleanBefore jobs s (length s)
-    → ((p : ℕ) → p < length jobs → DoneBy (walk jobs (worst_cases jobs) s) p (job_at jobs p).end) → IsAccepted jobs period s
+    → ((p : ℕ) → p < length jobs → DoneBy (walk jobs (worst_cases jobs) s) p (job_at jobs p).end) → ScheduleIsAccepted jobs period s
 accepted jobs period s all form clean done =
     let x = first_point jobs (worst_cases jobs) in
     let order : InOrder jobs s x =

@@ -13,11 +13,11 @@ use Rattle.htl_walk.specs.declared.schedule.SInstr.{SInstr}
 use Rattle.htl_walk.specs.declared.schedule.Schedule.{Schedule}
 use Rattle.htl_walk.specs.Jobs.{absent_job}
 use Rattle.htl_walk.specs.Walk.{Point, last_point, worst_cases, work}
-use Rattle.htl_walk.specs.Paths.{begun}
+use Rattle.htl_walk.specs.Paths.{list_point}
 use Rattle.htl_walk.specs.PathJobs.{path_jobs, placed_job, next_of}
 use Rattle.htl_walk.proofs.Starts.{known_few}
 use Rattle.htl_walk.specs.PathMisses.{IsListClean, IsListMiss}
-use Rattle.htl_walk.specs.NodeWalks.{list_at, reached, IsCleanAt, IsMissAt, AreCleanTo, AreSaved, AreResumed, ShareNodes, AreWalkable, MissesAt, IsFirstFailing, instrs_of}
+use Rattle.htl_walk.specs.NodeWalks.{list_at, reached, IsCleanAt, IsNodeMissAt, AreCleanTo, AreSaved, AreResumed, ShareNodes, AreWalkable, MissesAt, IsFirstFailing, instrs_of}
 use Rattle.htl_walk.specs.FrameLaws.{start_at}
 use Rattle.htl_walk.specs.Feasible.{AreFeasible}
 use Rattle.htl_walk.proofs.GoingOn.{same_length}
@@ -84,7 +84,7 @@ module _ (t : Tables) (lists : List (List SInstr)) (path j known until from : �
       carry (λ k u js s b l. IsListClean k u js s (record { time = b; left = l })) known (known_by (get_or (starts t) j 0) (path_places t path)) until (next_of (frame_of t) (drop (suc j) (starts t))) jobs (path_jobs t path) list
       (list_at t lists path j) from (get_or (starts t) j 0) left (reached t lists path j).left a.known_is a.until_is a.jobs_is a.list_is a.from_is a.left_is c
 
-  pub miss_here : (m : Miss) → IsAt → IsListMiss known until jobs list (record { time = from; left = left }) m → IsMissAt t lists path j m
+  pub miss_here : (m : Miss) → IsAt → IsListMiss known until jobs list (record { time = from; left = left }) m → IsNodeMissAt t lists path j m
   miss_here m a c =
       carry (λ k u js s b l. IsListMiss k u js s (record { time = b; left = l }) m) known (known_by (get_or (starts t) j 0) (path_places t path)) until (next_of (frame_of t) (drop (suc j) (starts t))) jobs (path_jobs t path) list
       (list_at t lists path j) from (get_or (starts t) j 0) left (reached t lists path j).left a.known_is a.until_is a.jobs_is a.list_is a.from_is a.left_is c
@@ -134,7 +134,7 @@ work_length (j ∷ js) (n ∷ ns) = ap suc (work_length js ns)
 pub reached_length : (t : Tables) (lists : List (List SInstr)) (path j : ℕ) → length (reached t lists path j).left ≡ length (path_jobs t path)
 reached_length t lists path zero = work_length (path_jobs t path) (worst_cases (path_jobs t path))
 reached_length t lists path (suc j) =
-    same_length (path_jobs t path) (list_at t lists path j) (begun (get_or (starts t) j 0) (reached t lists path j)) ∙ reached_length t lists path j
+    same_length (path_jobs t path) (list_at t lists path j) (list_point (get_or (starts t) j 0) (reached t lists path j)) ∙ reached_length t lists path j
 
 list_same : (xs ys : List ℕ) → length xs ≡ length ys → ((k : ℕ) → k < length xs → get_or xs k 0 ≡ get_or ys k 0) → xs ≡ ys
 list_same [] [] e h = refl

@@ -5,7 +5,7 @@ use Rattle.htl_walk.specs.declared.job.Job.{Job}
 use Rattle.htl_walk.specs.declared.schedule.SInstr.{SInstr}
 use Rattle.htl_walk.specs.declared.schedule.SInstr.TheVariants.{Dispatch, Idle, End}
 use Rattle.htl_walk.specs.Jobs.{precedes}
-use Rattle.htl_walk.specs.Walk.{Point, job_at, next_point, point_at, walk_from, walk, work, work_after, first_point, slices, DoneBy, InOrder, AreDone, IsMet, Meets, IsAccepted, worst_cases}
+use Rattle.htl_walk.specs.Walk.{Point, job_at, next_point, point_at, walk_from, walk, work, work_after, first_point, slices, DoneBy, InOrder, AreDone, IsMet, Meets, ScheduleIsAccepted, worst_cases}
 use Rattle.htl_model.specs.PortOrder.{direct, through}
 use Rattle.htl_walk.specs.Refinement.{LeadsTo, RefinesJob, Refines, HasWork, HaveLengths, AreWithinWorst}
 use Rattle.htl_walk.specs.Laws.{Dominance}
@@ -75,7 +75,7 @@ record AsksLess (js ks : List Job) (ns : List ℕ) : Type 0 where
 ahead_at_first : (js ks : List Job) (ns : List ℕ) → AsksLess js ks ns → Ahead js ks (first_point js ns) (first_point ks (worst_cases ks))
 ahead_at_first js ks ns l = record { time = omega arith; left = l.lengths; release = l.release }
 
-meets : (js ks : List Job) (ns : List ℕ) (period : ℕ) (s : List SInstr) → AsksLess js ks ns → IsAccepted ks period s → Meets js ns s
+meets : (js ks : List Job) (ns : List ℕ) (period : ℕ) (s : List SInstr) → AsksLess js ks ns → ScheduleIsAccepted ks period s → Meets js ns s
 meets js ks ns period s l a p j at there =
     let x = first_point js ns in
     let y = first_point ks (worst_cases ks) in

@@ -9,7 +9,7 @@ use Rattle.htl_walk.specs.declared.miss.Miss.TheVariants as miss
 use Rattle.htl_walk.specs.declared.schedule.SInstr.{SInstr}
 use Rattle.htl_walk.specs.declared.schedule.SInstr.TheVariants.{Dispatch, Idle, End}
 use Rattle.htl_walk.specs.Jobs.{precedes}
-use Rattle.htl_walk.specs.Walk.{Point, job_at, next_point, walk, work, work_after, first_point, finish, InForm, IsAccepted, worst_cases}
+use Rattle.htl_walk.specs.Walk.{Point, job_at, next_point, walk, work, work_after, first_point, finish, InForm, ScheduleIsAccepted, worst_cases}
 use Rattle.htl_walk.specs.Misses.{worst_point, DispatchesAt, IsTooEarly, IsTooLate, IsCleanBefore, IsFirstBefore, IsFirstMiss}
 use Rattle.htl_walk.specs.Following.{IsKnown, IsReady, IsInTime, IsFollowed, IsMissAt}
 use Rattle.htl_walk.specs.Refinement.{HasWork}
@@ -164,7 +164,7 @@ unfinished jobs period s x fs p left form f is some lowest = (
 
 -- the walk was followed to its end and nothing is left
 pub followed_all : (jobs : List Job) (period : ℕ) (s : List SInstr) (x : Point) (fs : List ℕ) → All HasWork jobs → InForm (length jobs) period s → IsFollowedTo jobs s (length s) x fs
-    → ((q : ℕ) → get_or x.left q 0 ≡ 0) → IsAccepted jobs period s
+    → ((q : ℕ) → get_or x.left q 0 ≡ 0) → ScheduleIsAccepted jobs period s
 followed_all jobs period s x fs all form f none =
     accepted jobs period s all form f.clean (λ p h. (get_or fs p 0, f.done p h (none p), f.in_time p h (none p)))
 

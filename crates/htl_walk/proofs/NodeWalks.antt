@@ -13,14 +13,14 @@ use Rattle.htl_walk.specs.declared.schedule.SInstr.{SInstr}
 use Rattle.htl_walk.specs.Jobs.{absent_job, precedes, is_fed_by}
 use Rattle.htl_walk.specs.Walk.{Point, job_at, last_point, first_point, worst_cases}
 use Rattle.htl_walk.specs.WellFormed.{AreWellFormed}
-use Rattle.htl_walk.specs.Paths.{begun, IsPathAccepted, AreChained, AgreeOn, AgreeAt}
+use Rattle.htl_walk.specs.Paths.{list_point, IsPathAccepted, AreChained, AgreeOn, AgreeAt}
 use Rattle.htl_walk.specs.PathMisses.{IsListClean, IsListMiss, AreClean, IsPathMiss, counted}
 use Rattle.htl_walk.specs.PathLaws.{WaitWithin}
 use Rattle.htl_walk.specs.PathJobs.{path_jobs, placed_jobs, placed_job, legs_of, legs, next_of}
-use Rattle.htl_walk.specs.FrameLaws.{start_at, end_at}
+use Rattle.htl_walk.specs.FrameLaws.{start_at, start_end_at}
 use Rattle.htl_walk.specs.Feasible.{lists_of, AreFeasible}
 use Rattle.htl_walk.specs.Fronts.{ShareFront, IsRoundFront}
-use Rattle.htl_walk.specs.NodeWalks.{reach, IsCleanIn, IsMissIn, count_to, list_at, reached, IsCleanAt, IsMissAt, AreCleanTo, AreSaved, ShareNodes, AreWalkable, IsFirstFailing}
+use Rattle.htl_walk.specs.NodeWalks.{reach, ListIsClean, IsMissIn, count_to, list_at, reached, IsCleanAt, IsNodeMissAt, AreCleanTo, AreSaved, ShareNodes, AreWalkable, IsFirstFailing}
 use Rattle.htl_walk.proofs.Fine.{job_at_is, first_left}
 use Rattle.htl_walk.proofs.Clean.{accepting}
 use Rattle.htl_walk.proofs.Work.{absent_precedes}
@@ -37,39 +37,39 @@ list_front f zero = refl
 list_front f (suc n) = ap (λ xs. xs ++ f (suc n) ∷ []) (list_front f n)
 
 reach_behind : (js : List Job) (a : ℕ) (later : List ℕ) (f : ℕ → List SInstr) (x : Point) (j : ℕ)
-    → reach js (a ∷ later) f x (suc j) ≡ reach js later (λ k. f (suc k)) (last_point js (f 0) (begun a x)) j
+    → reach js (a ∷ later) f x (suc j) ≡ reach js later (λ k. f (suc k)) (last_point js (f 0) (list_point a x)) j
 reach_behind js a later f x zero = refl
-reach_behind js a later f x (suc j) = ap (λ y. last_point js (f (suc j)) (begun (get_or later j 0) y)) (reach_behind js a later f x j)
+reach_behind js a later f x (suc j) = ap (λ y. last_point js (f (suc j)) (list_point (get_or later j 0) y)) (reach_behind js a later f x j)
 
 count_behind : (f : ℕ → List SInstr) (j : ℕ) → count_to f (suc j) ≡ length (f 0) + count_to (λ k. f (suc k)) j
 count_behind f zero = omega arith
 count_behind f (suc j) = omega (arith, count_behind f j)
 
-clean_behind : (js : List Job) (h : ℕ) (xs : List Place) (a : ℕ) (later : List ℕ) (f : ℕ → List SInstr) (x : Point) (j : ℕ) → IsCleanIn js h xs (a ∷ later) f x (suc j)
-    → IsCleanIn js h xs later (λ k. f (suc k)) (last_point js (f 0) (begun a x)) j
+clean_behind : (js : List Job) (h : ℕ) (xs : List Place) (a : ℕ) (later : List ℕ) (f : ℕ → List SInstr) (x : Point) (j : ℕ) → ListIsClean js h xs (a ∷ later) f x (suc j)
+    → ListIsClean js h xs later (λ k. f (suc k)) (last_point js (f 0) (list_point a x)) j
 clean_behind js h xs a later f x j c =
-    subst (λ y. IsListClean (known_by (get_or later j 0) xs) (next_of h (drop (suc j) later)) js (f (suc j)) (begun (get_or later j 0) y)) (reach_behind js a later f x j) c
+    subst (λ y. IsListClean (known_by (get_or later j 0) xs) (next_of h (drop (suc j) later)) js (f (suc j)) (list_point (get_or later j 0) y)) (reach_behind js a later f x j) c
 
 -- where each list is clean from the point that is reached, the path's lists are
-clean_lists : (js : List Job) (h : ℕ) (xs : List Place) (as' : List ℕ) (f : ℕ → List SInstr) (x : Point) → ((j : ℕ) → j < length as' → IsCleanIn js h xs as' f x j)
+clean_lists : (js : List Job) (h : ℕ) (xs : List Place) (as' : List ℕ) (f : ℕ → List SInstr) (x : Point) → ((j : ℕ) → j < length as' → ListIsClean js h xs as' f x j)
     → AreClean js (list_to f (length as')) (legs_of h xs as') x
 clean_lists js h xs [] f x c = tt
 clean_lists js h xs (a ∷ later) f x c =
     subst (λ ss. AreClean js ss (legs_of h xs (a ∷ later)) x) (sym (list_front f (length later)))
-    (c 0 (omega arith), clean_lists js h xs later (λ k. f (suc k)) (last_point js (f 0) (begun a x)) (λ j l. clean_behind js h xs a later f x j (c (suc j) (omega (arith, l)))))
+    (c 0 (omega arith), clean_lists js h xs later (λ k. f (suc k)) (last_point js (f 0) (list_point a x)) (λ j l. clean_behind js h xs a later f x j (c (suc j) (omega (arith, l)))))
 
 -- the miss of the first list that has one is the path's
-miss_lists : (js : List Job) (h : ℕ) (xs : List Place) (as' : List ℕ) (f : ℕ → List SInstr) (x : Point) (n j : ℕ) (m : Miss) → j < length as' → ((i : ℕ) → i < j → IsCleanIn js h xs as' f x i)
+miss_lists : (js : List Job) (h : ℕ) (xs : List Place) (as' : List ℕ) (f : ℕ → List SInstr) (x : Point) (n j : ℕ) (m : Miss) → j < length as' → ((i : ℕ) → i < j → ListIsClean js h xs as' f x i)
     → IsMissIn js h xs as' f x j m → IsPathMiss js (list_to f (length as')) (legs_of h xs as') n x (counted (n + count_to f j) m)
 miss_lists js h xs [] f x n j m l c e = absurd (omega arith)
 miss_lists js h xs (a ∷ later) f x n zero m l c e =
     let same : n + 0 ≡ n = omega arith in
     subst (λ ss. IsPathMiss js ss (legs_of h xs (a ∷ later)) n x (counted (n + 0) m)) (sym (list_front f (length later))) (inl (m, ap (λ k. counted k m) same, e))
 miss_lists js h xs (a ∷ later) f x n (suc j) m l c e =
-    let y = last_point js (f 0) (begun a x) in
+    let y = last_point js (f 0) (list_point a x) in
     let g : ℕ → List SInstr = λ k. f (suc k) in
     let same : n + length (f 0) + count_to g j ≡ n + count_to f (suc j) = omega (arith, count_behind f j) in
-    let here : IsMissIn js h xs later g y j m = subst (λ z. IsListMiss (known_by (get_or later j 0) xs) (next_of h (drop (suc j) later)) js (f (suc j)) (begun (get_or later j 0) z) m) (reach_behind js a later f x j) e in
+    let here : IsMissIn js h xs later g y j m = subst (λ z. IsListMiss (known_by (get_or later j 0) xs) (next_of h (drop (suc j) later)) js (f (suc j)) (list_point (get_or later j 0) z) m) (reach_behind js a later f x j) e in
     subst (λ ss. IsPathMiss js ss (legs_of h xs (a ∷ later)) n x (counted (n + count_to f (suc j)) m)) (sym (list_front f (length later)))
     (inr (
       c 0 (omega arith),
@@ -78,12 +78,12 @@ miss_lists js h xs (a ∷ later) f x n (suc j) m l c e =
     ))
 
 -- what the first lists don't know is untouched
-untouched_to : (js : List Job) (h : ℕ) (xs : List Place) (as' : List ℕ) (f : ℕ → List SInstr) (x : Point) (j p : ℕ) → ((i : ℕ) → i < j → IsCleanIn js h xs as' f x i)
+untouched_to : (js : List Job) (h : ℕ) (xs : List Place) (as' : List ℕ) (f : ℕ → List SInstr) (x : Point) (j p : ℕ) → ((i : ℕ) → i < j → ListIsClean js h xs as' f x i)
     → ((i : ℕ) → i < j → known_by (get_or as' i 0) xs ≤ p) → get_or (reach js as' f x j).left p 0 ≡ get_or x.left p 0
 untouched_to js h xs as' f x zero p c k = refl
 untouched_to js h xs as' f x (suc j) p c k =
     let n = known_by (get_or as' j 0) xs in
-    untouched n n (next_of h (drop (suc j) as')) js (f j) (begun (get_or as' j 0) (reach js as' f x j)) p (c j (omega arith)).form (omega arith) (k j (omega arith))
+    untouched n n (next_of h (drop (suc j) as')) js (f j) (list_point (get_or as' j 0) (reach js as' f x j)) p (c j (omega arith)).form (omega arith) (k j (omega arith))
     ∙ untouched_to js h xs as' f x j p (λ i l. c i (omega (arith, l))) (λ i l. k i (omega (arith, l)))
 
 -- ---- what has begun by an instant has begun later
@@ -158,8 +158,8 @@ module _ (t : Tables) (lists : List (List SInstr)) (ready : AreWalkable t) where
 
   begin_alike : (p q i : ℕ) → p < paths t → q < paths t → i < length (starts t) → AreCleanTo t lists q i → AreCleanTo t lists p i
       → ((k : ℕ) → suc k ≡ i → AgreeTo p q k × (known_by (start_at t k) (path_places t q) ≡ known_by (start_at t k) (path_places t p)))
-      → ShareFront (path_jobs t q) (path_jobs t p) (known_by (start_at t i) (path_places t q)) (end_at t i)
-      → AgreeAt (known_by (start_at t i) (path_places t q)) (begun (start_at t i) (reached t lists q i)) (begun (start_at t i) (reached t lists p i))
+      → ShareFront (path_jobs t q) (path_jobs t p) (known_by (start_at t i) (path_places t q)) (start_end_at t i)
+      → AgreeAt (known_by (start_at t i) (path_places t q)) (list_point (start_at t i) (reached t lists q i)) (list_point (start_at t i) (reached t lists p i))
   begin_alike p q i hp hq l cq cp before share = record { time = refl; left = λ k b. at i (omega (arith, l)) cq cp before k (share.same k b) }
     where
       fresh : (i : ℕ) → i ≤ length (starts t) → AreCleanTo t lists q i → AreCleanTo t lists p i → (k : ℕ) → get_or (path_jobs t q) k absent_job ≡ get_or (path_jobs t p) k absent_job
@@ -191,14 +191,14 @@ module _ (t : Tables) (lists : List (List SInstr)) (ready : AreWalkable t) where
       → IsCleanAt t lists q i → IsCleanAt t lists p i × AgreeTo p q i
   node_alike p q i hp hq l same cq cp before c =
       let n = known_by (start_at t i) (path_places t q) in
-      let b = end_at t i in
+      let b = start_end_at t i in
       let js = path_jobs t q in
       let ks = path_jobs t p in
       let s = list_at t lists q i in
       let both = nodes_share t q p i hq hp l same in
       let share = both.1 in
-      let x = begun (start_at t i) (reached t lists q i) in
-      let y = begun (start_at t i) (reached t lists p i) in
+      let x = list_point (start_at t i) (reached t lists q i) in
+      let y = list_point (start_at t i) (reached t lists p i) in
       let agree : AgreeOn n js ks = λ k d. job_at_is js k ∙ share.same k d ∙ sym (job_at_is ks k) in
       let list : s ≡ list_at t lists p i = ap (λ m. get_or lists m []) same in
       let late : (k : ℕ) → n ≤ k → (b < (job_at ks k).end) ⊎ (get_or (last_point ks s y).left k 0 ≡ 0) =
@@ -256,7 +256,7 @@ module _ (t : Tables) (lists : List (List SInstr)) (ready : AreWalkable t) where
       (clean_lists (path_jobs t path) (frame_of t) (path_places t path) (starts t) (list_at t lists path) (first_point (path_jobs t path) (worst_cases (path_jobs t path))) c)
 
   pub first_failing : (path j : ℕ) (m : Miss) → path < paths t → j < length (starts t) → ((q : ℕ) → q < path → AreCleanTo t lists q (length (starts t))) → AreCleanTo t lists path j
-      → IsMissAt t lists path j m → IsFirstFailing t lists path (counted (count_to (list_at t lists path) j) m)
+      → IsNodeMissAt t lists path j m → IsFirstFailing t lists path (counted (count_to (list_at t lists path) j) m)
   first_failing path j m h l before c e =
       let js = path_jobs t path in
       let x = first_point js (worst_cases js) in

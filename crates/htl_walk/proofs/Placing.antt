@@ -14,7 +14,7 @@ use Rattle.htl_model.specs.Bits.{has_bit}
 use Rattle.htl_model.specs.Tables.{Tables, task_worst, release, window_end}
 use Rattle.htl_model.proofs.BitLaws.{same_row, has_no_bit}
 use Rattle.htl_walk.specs.declared.job.Job.{Job}
-use Rattle.htl_walk.specs.Jobs.{absent_job, mask, is_fed_by, job_of, jobs_of}
+use Rattle.htl_walk.specs.Jobs.{absent_job, mask, is_fed_by, job_of, jobs_standing}
 use Rattle.htl_walk.specs.PathJobs.{job_in, placed, placed_job, placed_jobs}
 use Rattle.htl_walk.specs.Placing.{standing_of, begins_with, moved, HasTimes}
 use Rattle.htl_walk.specs.WellFormed.{AreWellFormed}
@@ -102,10 +102,10 @@ front_next f out xs p j within below front is =
     ∙ sym (ap (λ n. map f (take n xs)) (add-one p) ∙ ap (map f) (take-suc xs p no_place below) ∙ map-append f (take p xs) (get_or xs p no_place ∷ []))
 
 -- the job at a position of those without rounds
-pub job_before : (t : Tables) (standing : List (Option ℕ)) (xs : List Place) (jobs : List Job) (p : ℕ) (n : ℕ) → standing ≡ standing_of xs → n ≡ length xs → take n jobs ≡ jobs_of t standing → p < length xs → n ≤ length jobs
+pub job_before : (t : Tables) (standing : List (Option ℕ)) (xs : List Place) (jobs : List Job) (p : ℕ) (n : ℕ) → standing ≡ standing_of xs → n ≡ length xs → take n jobs ≡ jobs_standing t standing → p < length xs → n ≤ length jobs
     → get_or jobs p absent_job ≡ job_of t (standing_of xs) (get_or xs p no_place).inv
 job_before t standing xs jobs p n e m f l k =
-    sym (taken n jobs p absent_job (omega (arith, m, l)) k) ∙ ap (λ js. get_or js p absent_job) (f ∙ ap (jobs_of t) e)
+    sym (taken n jobs p absent_job (omega (arith, m, l)) k) ∙ ap (λ js. get_or js p absent_job) (f ∙ ap (jobs_standing t) e)
     ∙ get_or-map (job_of t (standing_of xs)) (standing_of xs) p None absent_job (omega (arith, l, length-map xs (λ (x : Place). x.inv)))
     ∙ ap (job_of t (standing_of xs)) (get_map (λ (x : Place). x.inv) xs p None l)
   where
@@ -118,7 +118,7 @@ job_before t standing xs jobs p n e m f l k =
 -- ---- in the terms of the code
 
 pub place_is : (t : Tables) (xs : List Place) (standing : List (Option ℕ)) (jobs : List Job) (p row : ℕ) → take (length xs) standing ≡ standing_of xs
-    → take (length (take (length xs) standing)) jobs ≡ jobs_of t (take (length xs) standing) → p < length xs → length xs ≤ length jobs → ((q : ℕ) → has_bit row q ≡ begins_with (get_or xs p no_place).at xs q)
+    → take (length (take (length xs) standing)) jobs ≡ jobs_standing t (take (length xs) standing) → p < length xs → length xs ≤ length jobs → ((q : ℕ) → has_bit row q ≡ begins_with (get_or xs p no_place).at xs q)
     → moved (get_or xs p no_place).at row (get_or jobs p absent_job) ≡ placed_job t xs (get_or xs p no_place)
 place_is t xs standing jobs p row e f l k bits =
     let some : length (take (length xs) standing) ≡ length xs = ap (λ (os : List (Option ℕ)). length os) e ∙ length-map xs (λ (y : Place). y.inv) in
@@ -126,7 +126,7 @@ place_is t xs standing jobs p row e f l k bits =
     ∙ moved_is t xs (get_or xs p no_place) row bits
 
 pub place_small : (t : Tables) (xs : List Place) (standing : List (Option ℕ)) (jobs : List Job) (p row : ℕ) → All HasTimes (placed_jobs t xs) → take (length xs) standing ≡ standing_of xs
-    → take (length (take (length xs) standing)) jobs ≡ jobs_of t (take (length xs) standing) → p < length xs → length xs ≤ length jobs → ((q : ℕ) → has_bit row q ≡ begins_with (get_or xs p no_place).at xs q)
+    → take (length (take (length xs) standing)) jobs ≡ jobs_standing t (take (length xs) standing) → p < length xs → length xs ≤ length jobs → ((q : ℕ) → has_bit row q ≡ begins_with (get_or xs p no_place).at xs q)
     → (get_or jobs p absent_job).present ≡ true → ((get_or xs p no_place).at + (get_or jobs p absent_job).release < 2 ^ 64) × ((get_or xs p no_place).at + (get_or jobs p absent_job).end < 2 ^ 64)
 place_small t xs standing jobs p row times e f l k bits =
     let g = times p absent_job (omega (arith, l, length-map xs (placed_job t xs))) in

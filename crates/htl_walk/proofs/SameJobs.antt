@@ -8,7 +8,7 @@ use Rattle.htl_model.specs.declared.parts.Inv.{Inv}
 use Rattle.htl_model.proofs.SameRanges.{positions_same}
 use Rattle.htl_model.proofs.SameRules.{release_same, window_end_same}
 use Rattle.htl_walk.specs.declared.job.Job.{Job}
-use Rattle.htl_walk.specs.Jobs.{absent_job, job_of, jobs_of, abstract_jobs, mask, is_fed_by}
+use Rattle.htl_walk.specs.Jobs.{absent_job, job_of, jobs_standing, abstract_jobs, mask, is_fed_by}
 use Rattle.htl_walk.specs.Laws.{FunctionsDecideNoJob}
 
 module _ (t : Tables) (fs : List Fun) where
@@ -33,13 +33,13 @@ module _ (t : Tables) (fs : List Fun) where
   job_same standing (Some k) =
       ap (λ (f : Inv → Job). elim (slice_get t.invs k) as (λ _. Job) [ None ↦ absent_job | Some i ↦ f i ]) (fun_ext (made_same standing k))
 
-  pub jobs_same : (standing : List (Option ℕ)) → jobs_of t standing ≡ jobs_of (with_functions t fs) standing
+  pub jobs_same : (standing : List (Option ℕ)) → jobs_standing t standing ≡ jobs_standing (with_functions t fs) standing
   jobs_same standing = ap (λ (f : Option ℕ → Job). map f standing) (fun_ext (job_same standing))
 
   pub abstract_jobs_same : (sel : ℕ) → abstract_jobs t sel ≡ abstract_jobs (with_functions t fs) sel
   abstract_jobs_same sel =
       jobs_same (map (λ (k : ℕ). Some k) (positions t sel))
-      ∙ ap (λ (ps : List ℕ). jobs_of (with_functions t fs) (map (λ (k : ℕ). Some k) ps)) (positions_same t fs sel)
+      ∙ ap (λ (ps : List ℕ). jobs_standing (with_functions t fs) (map (λ (k : ℕ). Some k) ps)) (positions_same t fs sel)
 
 pub functions_decide_no_job : FunctionsDecideNoJob
 functions_decide_no_job t fs = record { jobs = jobs_same t fs; selections = abstract_jobs_same t fs }

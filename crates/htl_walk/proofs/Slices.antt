@@ -4,7 +4,7 @@ use Rattle.std.proofs.lemmas.Bool.{eq-eqb, ne_eqb, ltb-true}
 use Rattle.htl_walk.specs.declared.job.Job.{Job}
 use Rattle.htl_walk.specs.declared.schedule.SInstr.{SInstr}
 use Rattle.htl_walk.specs.declared.schedule.SInstr.TheVariants.{Dispatch, Idle, End}
-use Rattle.htl_walk.specs.Walk.{Point, job_at, begins, slice_between, slice_onto, AllWithin, next_point, walk_from, finish, slices, DoneBy}
+use Rattle.htl_walk.specs.Walk.{Point, job_at, dispatch_begins, slice_between, slice_onto, AllWithin, next_point, walk_from, finish, slices, DoneBy}
 use Rattle.htl_walk.proofs.Steps.{apart, left_falls, time_rises}
 use Rattle.htl_walk.proofs.Finishes.{ends, some_same, finish_now, finish_later, finish_after}
 
@@ -21,7 +21,7 @@ no_slices jobs [] x p e = refl
 no_slices jobs (Dispatch r h ∷ is) x p e =
     let y = next_point jobs (Dispatch r h) x in
     let rest : slices (walk_from jobs is y) p ≡ [] = no_slices jobs is y p (omega (arith, left_falls jobs (Dispatch r h) x p)) in
-    let from = begins x.time (job_at jobs r).release h in
+    let from = dispatch_begins x.time (job_at jobs r).release h in
     elim (apart r p) [
       | inl q ↦
           let none : slice_between from h (get_or x.left r 0) y.time ≡ None =
@@ -37,18 +37,18 @@ no_slices jobs (End ∷ is) x p e = no_slices jobs is x p e
 -- the first part of a fact on what a dispatch adds to the slices of p
 slices_dispatch : (jobs : List Job) (r h : ℕ) (is : List SInstr) (x : Point) (p : ℕ) → r ≡ p →
     slices (walk_from jobs (Dispatch r h ∷ is) x) p
-    ≡ slice_onto (slice_between (begins x.time (job_at jobs r).release h) h (get_or x.left r 0) (next_point jobs (Dispatch r h) x).time) (slices (walk_from jobs is (next_point jobs (Dispatch r h) x)) p)
+    ≡ slice_onto (slice_between (dispatch_begins x.time (job_at jobs r).release h) h (get_or x.left r 0) (next_point jobs (Dispatch r h) x).time) (slices (walk_from jobs is (next_point jobs (Dispatch r h) x)) p)
 slices_dispatch jobs r h is x p q =
     let y = next_point jobs (Dispatch r h) x in
-    ap (λ b. cond b (slice_onto (slice_between (begins x.time (job_at jobs r).release h) h (get_or x.left r 0) y.time) (slices (walk_from jobs is y) p)) (slices (walk_from jobs is y) p)) (eq-eqb r p q)
+    ap (λ b. cond b (slice_onto (slice_between (dispatch_begins x.time (job_at jobs r).release h) h (get_or x.left r 0) y.time) (slices (walk_from jobs is y) p)) (slices (walk_from jobs is y) p)) (eq-eqb r p q)
 
 pub slices_other : (jobs : List Job) (r h : ℕ) (is : List SInstr) (x : Point) (p : ℕ) → r ≢ p →
     slices (walk_from jobs (Dispatch r h ∷ is) x) p ≡ slices (walk_from jobs is (next_point jobs (Dispatch r h) x)) p
 slices_other jobs r h is x p q =
     let y = next_point jobs (Dispatch r h) x in
-    ap (λ b. cond b (slice_onto (slice_between (begins x.time (job_at jobs r).release h) h (get_or x.left r 0) y.time) (slices (walk_from jobs is y) p)) (slices (walk_from jobs is y) p)) (ne_eqb r p q)
+    ap (λ b. cond b (slice_onto (slice_between (dispatch_begins x.time (job_at jobs r).release h) h (get_or x.left r 0) y.time) (slices (walk_from jobs is y) p)) (slices (walk_from jobs is y) p)) (ne_eqb r p q)
 
-begins_released : (now r h : ℕ) → begins now r h < h → r ≤ begins now r h
+begins_released : (now r h : ℕ) → dispatch_begins now r h < h → r ≤ dispatch_begins now r h
 begins_released now r h e = omega arith
 
 -- what is done by t has its slices from the release to t
@@ -71,8 +71,8 @@ slices_within jobs (i ∷ is) x p t d =
         elim (apart r p) [
           | inl q ↦
               rw (slices_dispatch jobs r h is x p q)
-              (slice_fits (begins x.time (job_at jobs r).release h) h (get_or x.left r 0) (next_point jobs (Dispatch r h) x).time (job_at jobs p).release t _
-              (λ z. subst (λ k. (job_at jobs k).release ≤ begins x.time (job_at jobs r).release h) q (begins_released x.time (job_at jobs r).release h z)) b s)
+              (slice_fits (dispatch_begins x.time (job_at jobs r).release h) h (get_or x.left r 0) (next_point jobs (Dispatch r h) x).time (job_at jobs p).release t _
+              (λ z. subst (λ k. (job_at jobs k).release ≤ dispatch_begins x.time (job_at jobs r).release h) q (begins_released x.time (job_at jobs r).release h z)) b s)
           | inr n ↦ rw (slices_other jobs r h is x p n) s
         ]
     onto (Idle h) e b s = s
@@ -94,7 +94,7 @@ slices_start jobs (Dispatch r h ∷ is) x p s e =
     let t : x.time ≤ y.time = time_rises jobs (Dispatch r h) x in
     elim (apart r p) [
       | inl q ↦
-          head_onto (begins x.time (job_at jobs r).release h) h (get_or x.left r 0) y.time (slices (walk_from jobs is y) p) s x.time (omega arith)
+          head_onto (dispatch_begins x.time (job_at jobs r).release h) h (get_or x.left r 0) y.time (slices (walk_from jobs is y) p) s x.time (omega arith)
           (λ k. let u : y.time ≤ s.0 = slices_start jobs is y p s k in omega arith)
           (sym (ap (λ l. slice_get l 0) (slices_dispatch jobs r h is x p q)) ∙ e)
       | inr n ↦ let u : y.time ≤ s.0 = slices_start jobs is y p s (sym (ap (λ l. slice_get l 0) (slices_other jobs r h is x p n)) ∙ e) in omega arith

@@ -5,12 +5,12 @@ use Rattle.std.proofs.Math.ListN.{length-set}
 use Rattle.htl_walk.specs.declared.job.Job.{Job}
 use Rattle.htl_walk.specs.declared.schedule.SInstr.{SInstr}
 use Rattle.htl_walk.specs.declared.schedule.SInstr.TheVariants.{Dispatch, Idle, End}
-use Rattle.htl_walk.specs.Walk.{Point, job_at, begins, time_after, work_after, next_point}
+use Rattle.htl_walk.specs.Walk.{Point, job_at, dispatch_begins, time_after, work_after, next_point}
 
 work_below : (a b w v r s h : ℕ) → a ≤ b → w ≤ v → r ≤ s → work_after a w r h ≤ work_after b v s h
 work_below a b w v r s h p q l = omega arith
 
-time_below_running : (a b w v r s h : ℕ) → a ≤ b → w ≤ v → r ≤ s → begins a r h + min w (h - begins a r h) ≤ begins b s h + min v (h - begins b s h)
+time_below_running : (a b w v r s h : ℕ) → a ≤ b → w ≤ v → r ≤ s → dispatch_begins a r h + min w (h - dispatch_begins a r h) ≤ dispatch_begins b s h + min v (h - dispatch_begins b s h)
 time_below_running a b w v r s h p q l = omega arith
 
 pub work_below_running : (a b w v r s h : ℕ) → a ≤ b → w ≤ v → (0 < w → r ≤ s) → work_after a w r h ≤ work_after b v s h
@@ -41,7 +41,7 @@ left_same l p now r h =
       | inl q ↦ get_or-set_same l p (work_after now (get_or l p 0) r h) 0 q
       | inr q ↦
           get_or_past (set l p (work_after now (get_or l p 0) r h)) p 0 (simp length-set q)
-          ∙ sym (ap (λ w. w - (h - begins now r h)) (get_or_past l p 0 q) ∙ zero-sub (h - begins now r h))
+          ∙ sym (ap (λ w. w - (h - dispatch_begins now r h)) (get_or_past l p 0 q) ∙ zero-sub (h - dispatch_begins now r h))
     ]
 
 pub left_other : (l : List ℕ) (p q v : ℕ) → p ≢ q → get_or (set l p v) q 0 ≡ get_or l q 0

@@ -4,7 +4,7 @@ use Rattle.std.proofs.lemmas.Bool.{le-ltb}
 use Rattle.htl_walk.specs.declared.job.Job.{Job}
 use Rattle.htl_walk.specs.declared.schedule.SInstr.{SInstr}
 use Rattle.htl_walk.specs.declared.schedule.SInstr.TheVariants.{Dispatch, Idle, End}
-use Rattle.htl_walk.specs.Walk.{Point, job_at, begins, time_after, work_after, next_point, left_by, walk_from, work, first_point, earlier}
+use Rattle.htl_walk.specs.Walk.{Point, job_at, dispatch_begins, time_after, work_after, next_point, left_by, walk_from, work, first_point, earlier}
 use Rattle.htl_walk.specs.Refinement.{HaveLengths}
 use Rattle.htl_walk.specs.Laws.{AgreeBefore, UnreleasedLengths}
 use Rattle.htl_walk.proofs.Work.{job_there, work_present, present_or_idle}
@@ -34,7 +34,7 @@ record Late (t : ℕ) (x y : Point) : Type 0 where
   one : t ≤ x.time
   two : t ≤ y.time
 
-is_late : (now w r h t : ℕ) → t ≤ r → begins now r h < h → 0 < w → t ≤ time_after now w r h
+is_late : (now w r h t : ℕ) → t ≤ r → dispatch_begins now r h < h → 0 < w → t ≤ time_after now w r h
 is_late now zero r h t a b c = absurd (omega arith)
 is_late now (suc w) r h t a b c = omega arith
 
@@ -95,10 +95,10 @@ module _ (jobs : List Job) (t p h : ℕ) (x y : Point) (a : Alike jobs t x y) wh
             inl (v, sym (same_left e) ∙ v));
       }
 
-  waits : t ≤ (job_at jobs p).release → h ≤ begins x.time (job_at jobs p).release h → 0 < get_or x.left p 0 → 0 < get_or y.left p 0 → Same jobs t (Dispatch p h) x y
+  waits : t ≤ (job_at jobs p).release → h ≤ dispatch_begins x.time (job_at jobs p).release h → 0 < get_or x.left p 0 → 0 < get_or y.left p 0 → Same jobs t (Dispatch p h) x y
   unfolding Rest
   waits k u v w =
-      let u' : h ≤ begins y.time (job_at jobs p).release h = omega (arith, a.time) in
+      let u' : h ≤ dispatch_begins y.time (job_at jobs p).release h = omega (arith, a.time) in
       let vx : get_or (next_point jobs (Dispatch p h) x).left p 0 ≡ get_or x.left p 0 =
       left_same x.left p x.time (job_at jobs p).release h ∙ work_waits x.time (get_or x.left p 0) (job_at jobs p).release h u in
       let vy : get_or (next_point jobs (Dispatch p h) y).left p 0 ≡ get_or y.left p 0 =
@@ -106,10 +106,10 @@ module _ (jobs : List Job) (t p h : ℕ) (x y : Point) (a : Alike jobs t x y) wh
       record {
         told =
             told_waits p (job_at jobs p).release h x.time (get_or x.left p 0) _ v (omega arith) u
-            ∙ ap (λ n. waited p (begins n (job_at jobs p).release h)) a.time
+            ∙ ap (λ n. waited p (dispatch_begins n (job_at jobs p).release h)) a.time
             ∙ sym (told_waits p (job_at jobs p).release h y.time (get_or y.left p 0) _ w (omega arith) u');
         alike = alike_again
-            (time_waits x.time (get_or x.left p 0) (job_at jobs p).release h u v ∙ ap (λ n. begins n (job_at jobs p).release h) a.time ∙ sym (time_waits y.time (get_or y.left p 0) (job_at jobs p).release h u' w))
+            (time_waits x.time (get_or x.left p 0) (job_at jobs p).release h u v ∙ ap (λ n. dispatch_begins n (job_at jobs p).release h) a.time ∙ sym (time_waits y.time (get_or y.left p 0) (job_at jobs p).release h u' w))
             (λ m. absurd (omega arith)) (λ m. inr (omega arith, omega arith));
       }
 
@@ -125,7 +125,7 @@ step jobs t (Dispatch p h) x y a =
           elim (a.unreleased p q) [
             | inl z ↦ inl (same_work jobs t p h x y a (z.0 ∙ sym z.1) (λ _. z.0))
             | inr z ↦
-                elim (either (begins x.time (job_at jobs p).release h) h) [
+                elim (either (dispatch_begins x.time (job_at jobs p).release h) h) [
                   | inl u ↦ inr (record { one = is_late x.time (get_or x.left p 0) (job_at jobs p).release h t q u z.0; two = is_late y.time (get_or y.left p 0) (job_at jobs p).release h t q (omega (arith, a.time)) z.1 })
                   | inr u ↦ inl (waits jobs t p h x y a q u z.0 z.1)
                 ]

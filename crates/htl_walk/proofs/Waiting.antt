@@ -3,14 +3,14 @@ use Rattle.std.proofs.Common.{◌≡◌, ℕ, zero, suc, ◌+◌, ◌-◌, ◌�
 use Rattle.std.proofs.lemmas.Bool.{le-ltb}
 use Rattle.htl_walk.specs.declared.job.Job.{Job}
 use Rattle.htl_walk.specs.declared.schedule.SInstr.{SInstr}
-use Rattle.htl_walk.specs.Walk.{Point, Left, begins, finishes_by, slice_between, time_after, work_after, next_point, last_point}
+use Rattle.htl_walk.specs.Walk.{Point, Left, dispatch_begins, finishes_by, slice_between, time_after, work_after, next_point, last_point}
 use Rattle.htl_walk.proofs.Steps.{time_rises}
 use Rattle.htl_walk.proofs.Finishes.{finishes_no}
 
 -- what is told of a dispatch, by the work before and after it
 abbrev pub told_by : ℕ → ℕ → ℕ → ℕ → ℕ → ℕ → Left
 told_by p now r h w v =
-    record { at = time_after now w r h; position = Some p; slice = slice_between (begins now r h) h w (time_after now w r h); finished = finishes_by w v }
+    record { at = time_after now w r h; position = Some p; slice = slice_between (dispatch_begins now r h) h w (time_after now w r h); finished = finishes_by w v }
 
 pub told_same : (p r h now now' w w' v v' : ℕ) → now ≡ now' → w ≡ w' → v ≡ v' → told_by p now r h w v ≡ told_by p now' r h w' v'
 told_same p r h now now' w w' v v' e f g =
@@ -20,21 +20,21 @@ told_same p r h now now' w w' v v' e f g =
 abbrev pub waited : ℕ → ℕ → Left
 waited p at = record { at = at; position = Some p; slice = None; finished = false }
 
-pub told_waits : (p r h now w v : ℕ) → 0 < w → 0 < v → h ≤ begins now r h → told_by p now r h w v ≡ waited p (begins now r h)
+pub told_waits : (p r h now w v : ℕ) → 0 < w → 0 < v → h ≤ dispatch_begins now r h → told_by p now r h w v ≡ waited p (dispatch_begins now r h)
 told_waits p r h now zero v a b c = absurd (omega arith)
 told_waits p r h now (suc w) v a b c =
-    let slice : ltb (begins now r h) h ≡ false = le-ltb (begins now r h) h c in
-    let time : begins now r h + min (suc w) (h - begins now r h) ≡ begins now r h = omega arith in
+    let slice : ltb (dispatch_begins now r h) h ≡ false = le-ltb (dispatch_begins now r h) h c in
+    let time : dispatch_begins now r h + min (suc w) (h - dispatch_begins now r h) ≡ dispatch_begins now r h = omega arith in
     let P : Bool → ℕ → Bool → Left =
-    λ s n f. record { at = n; position = Some p; slice = elim s [ true ↦ Some (begins now r h, n) | false ↦ None ]; finished = f } in
-    ap (λ s. P s (begins now r h + min (suc w) (h - begins now r h)) (finishes_by (suc w) v)) slice
-    ∙ ap (λ n. P false n (finishes_by (suc w) v)) time ∙ ap (λ f. P false (begins now r h) f) (finishes_no (suc w) v (inr b))
+    λ s n f. record { at = n; position = Some p; slice = elim s [ true ↦ Some (dispatch_begins now r h, n) | false ↦ None ]; finished = f } in
+    ap (λ s. P s (dispatch_begins now r h + min (suc w) (h - dispatch_begins now r h)) (finishes_by (suc w) v)) slice
+    ∙ ap (λ n. P false n (finishes_by (suc w) v)) time ∙ ap (λ f. P false (dispatch_begins now r h) f) (finishes_no (suc w) v (inr b))
 
-pub time_waits : (now w r h : ℕ) → h ≤ begins now r h → 0 < w → time_after now w r h ≡ begins now r h
+pub time_waits : (now w r h : ℕ) → h ≤ dispatch_begins now r h → 0 < w → time_after now w r h ≡ dispatch_begins now r h
 time_waits now zero r h a b = absurd (omega arith)
 time_waits now (suc w) r h a b = omega arith
 
-pub work_waits : (now w r h : ℕ) → h ≤ begins now r h → work_after now w r h ≡ w
+pub work_waits : (now w r h : ℕ) → h ≤ dispatch_begins now r h → work_after now w r h ≡ w
 work_waits now w r h a = omega arith
 
 -- the time at the end of a list is no earlier than at its beginning

@@ -27,14 +27,14 @@ LegsAreFronts = (t : Tables) (path : ℕ) → AreFronts (path_jobs t path) (legs
 abbrev pub start_at : Tables → ℕ → ℕ
 start_at t j = get_or (starts t) j 0
 
-abbrev pub end_at : Tables → ℕ → ℕ
-end_at t j = next_of (frame_of t) (drop (suc j) (starts t))
+abbrev pub start_end_at : Tables → ℕ → ℕ
+start_end_at t j = next_of (frame_of t) (drop (suc j) (starts t))
 
 -- paths through one node have the same jobs as far as these have begun there
 abbrev pub NodesShare : Type 0
 NodesShare =
     (t : Tables) (p q j : ℕ) → p < paths t → q < paths t → j < length (starts t) → node t p j ≡ node t q j
-    → (known_by (start_at t j) (path_places t p) ≡ known_by (start_at t j) (path_places t q)) × ShareFront (path_jobs t p) (path_jobs t q) (known_by (start_at t j) (path_places t p)) (end_at t j)
+    → (known_by (start_at t j) (path_places t p) ≡ known_by (start_at t j) (path_places t q)) × ShareFront (path_jobs t p) (path_jobs t q) (known_by (start_at t j) (path_places t p)) (start_end_at t j)
 
 -- a path's nodes are among those that there are
 abbrev pub NodesWithin : Type 0

@@ -43,9 +43,9 @@ job_of t standing (Some k) =
           }
     ]
 
-abbrev pub jobs_of : Tables → List (Option ℕ) → List Job
-jobs_of t standing = map (job_of t standing) standing
+abbrev pub jobs_standing : Tables → List (Option ℕ) → List Job
+jobs_standing t standing = map (job_of t standing) standing
 
 -- the jobs of a root selection, abstract ones included
 abbrev pub abstract_jobs : Tables → ℕ → List Job
-abstract_jobs t sel = jobs_of t (map (λ k. Some k) (positions t sel))
+abstract_jobs t sel = jobs_standing t (map (λ k. Some k) (positions t sel))

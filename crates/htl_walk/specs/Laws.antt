@@ -3,9 +3,9 @@ use Rattle.std.specs.Prelude.{◌≡◌, ℕ, ◌≤◌, ◌<◌, true, List, ge
 use Rattle.htl_model.specs.Exchanged.{with_functions}
 use Rattle.htl_model.specs.Tables.{Tables, Fun}
 use Rattle.htl_walk.specs.declared.job.Job.{Job}
-use Rattle.htl_walk.specs.Jobs.{jobs_of, abstract_jobs}
+use Rattle.htl_walk.specs.Jobs.{jobs_standing, abstract_jobs}
 use Rattle.htl_walk.specs.declared.schedule.SInstr.{SInstr}
-use Rattle.htl_walk.specs.Walk.{point_at, walk, earlier, worst_cases, Meets, IsAccepted}
+use Rattle.htl_walk.specs.Walk.{point_at, walk, earlier, worst_cases, Meets, ScheduleIsAccepted}
 use Rattle.htl_walk.specs.declared.miss.Miss.{Miss}
 use Rattle.htl_walk.specs.Misses.{IsFirstMiss}
 use Rattle.htl_walk.specs.Refinement.{Refines, HasWork, HaveLengths, AreWithinWorst}
@@ -32,7 +32,7 @@ pub record IsDominated (js ks : List Job) (lengths : List ℕ) (s : List SInstr)
 abbrev pub Dominance : Type 0
 Dominance =
     (js ks : List Job) (lengths : List ℕ) (s : List SInstr) (period : ℕ) → All HasWork ks → Refines js ks → HaveLengths js lengths → AreWithinWorst js lengths
-    → IsAccepted ks period s → IsDominated js ks lengths s
+    → ScheduleIsAccepted ks period s → IsDominated js ks lengths s
 
 -- a schedule has one first miss at most
 abbrev pub OneFirstMiss : Type 0
@@ -40,7 +40,7 @@ OneFirstMiss = (jobs : List Job) (period : ℕ) (s : List SInstr) (m n : Miss) �
 
 -- tables with other functions have the same jobs
 pub record SameJobs (t u : Tables) : Type 0 where
-  pub jobs : (standing : List (Option ℕ)) → jobs_of t standing ≡ jobs_of u standing
+  pub jobs : (standing : List (Option ℕ)) → jobs_standing t standing ≡ jobs_standing u standing
   pub selections : (sel : ℕ) → abstract_jobs t sel ≡ abstract_jobs u sel
 
 abbrev pub FunctionsDecideNoJob : Type 0

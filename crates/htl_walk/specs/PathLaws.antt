@@ -5,7 +5,7 @@ use Rattle.htl_walk.specs.declared.job.Job.{Job}
 use Rattle.htl_walk.specs.declared.schedule.SInstr.{SInstr}
 use Rattle.htl_walk.specs.declared.miss.Miss.{Miss}
 use Rattle.htl_walk.specs.Jobs.{absent_job, precedes}
-use Rattle.htl_walk.specs.Walk.{Point, job_at, last_point, walk, first_point, worst_cases, IsAccepted}
+use Rattle.htl_walk.specs.Walk.{Point, job_at, last_point, walk, first_point, worst_cases, ScheduleIsAccepted}
 use Rattle.htl_walk.specs.Misses.{IsFirstMiss}
 use Rattle.htl_walk.specs.WellFormed.{AreWellFormed, EndWithin}
 use Rattle.htl_walk.specs.Refinement.{Refines, RefinesJob, HasWork, HaveLengths, AreWithinWorst}
@@ -21,7 +21,7 @@ abbrev pub OneList : Type 0
 OneList = (jobs : List Job) (lengths : List ℕ) (period : ℕ) (s : List SInstr) → walk_path jobs lengths (s ∷ []) (whole period (length jobs) ∷ []) ≡ walk jobs lengths s ∷ []
 
 abbrev pub OneListAccepted : Type 0
-OneListAccepted = (jobs : List Job) (period : ℕ) (s : List SInstr) → IsPathAccepted jobs (whole period (length jobs) ∷ []) (s ∷ []) ↔ IsAccepted jobs period s
+OneListAccepted = (jobs : List Job) (period : ℕ) (s : List SInstr) → IsPathAccepted jobs (whole period (length jobs) ∷ []) (s ∷ []) ↔ ScheduleIsAccepted jobs period s
 
 -- the walk of jobs js with these lengths runs ahead of the worst-case walk of ks, and meets
 pub record IsPathDominated (js ks : List Job) (lengths : List ℕ) (ss : List (List SInstr)) (gs : List Leg) : Type 0 where

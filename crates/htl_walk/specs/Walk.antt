@@ -21,17 +21,17 @@ abbrev pub job_at : List Job → ℕ → Job
 job_at jobs p = elim (slice_get jobs p) [ Some j ↦ j | None ↦ absent_job ]
 
 -- when a dispatch begins to run: at the release, and at `until` at the latest
-abbrev pub begins : ℕ → ℕ → ℕ → ℕ
-begins time release until = max time (min release until)
+abbrev pub dispatch_begins : ℕ → ℕ → ℕ → ℕ
+dispatch_begins time release until = max time (min release until)
 
 -- the time after a dispatch, by the time before it, the work left, the release and `until`; at once where no work is left
 abbrev pub time_after : ℕ → ℕ → ℕ → ℕ → ℕ
 time_after now zero release until = now
-time_after now (suc w) release until = begins now release until + min (suc w) (until - begins now release until)
+time_after now (suc w) release until = dispatch_begins now release until + min (suc w) (until - dispatch_begins now release until)
 
 -- the work left after it
 abbrev pub work_after : ℕ → ℕ → ℕ → ℕ → ℕ
-work_after now w release until = w - (until - begins now release until)
+work_after now w release until = w - (until - dispatch_begins now release until)
 
 -- the point after a dispatch
 abbrev pub dispatched : List Job → ℕ → ℕ → Point → Point
@@ -61,7 +61,7 @@ position_of (Idle until) = None
 position_of End = None
 
 abbrev pub slice_of : List Job → SInstr → Point → ℕ → Option (ℕ × ℕ)
-slice_of jobs (Dispatch p until) x to = slice_between (begins x.time (job_at jobs p).release until) until (get_or x.left p 0) to
+slice_of jobs (Dispatch p until) x to = slice_between (dispatch_begins x.time (job_at jobs p).release until) until (get_or x.left p 0) to
 slice_of jobs (Idle until) x to = None
 slice_of jobs End x to = None
 
@@ -159,7 +159,7 @@ abbrev pub worst_cases : List Job → List ℕ
 worst_cases jobs = map (λ j. j.worst) jobs
 
 -- the worst-case walk is accepted
-pub record IsAccepted (jobs : List Job) (period : ℕ) (s : List SInstr) : Type 0 where
+pub record ScheduleIsAccepted (jobs : List Job) (period : ℕ) (s : List SInstr) : Type 0 where
   pub form : InForm (length jobs) period s
   pub meets : Meets jobs (worst_cases jobs) s
   pub order : InOrder jobs s (first_point jobs (worst_cases jobs))

@@ -1,6 +1,6 @@
 //! What a dispatch does: the step that the worst-case walk and the S machine share.
 ghost use Rattle.std.specs.Prelude.{◌≡◌, ◌≤◌, IfSome};
-ghost use Rattle.htl_walk.specs.Walk.{begins, time_after, work_after, slice_between, finishes_by};
+ghost use Rattle.htl_walk.specs.Walk.{dispatch_begins, time_after, work_after, slice_between, finishes_by};
 
 use htl_base::Time;
 
@@ -20,7 +20,7 @@ pub struct Dispatched {
 /// Dispatches a position with this release and this work left, at an offset.
 pub fn dispatch(until: u32, release: Time, work: Time, time: Time) -> Dispatched
     ensures time { result.time ≡ time_after time work release until }
-    ensures slice { result.slice ≡ slice_between (begins time release until) until work (time_after time work release until) }
+    ensures slice { result.slice ≡ slice_between (dispatch_begins time release until) until work (time_after time work release until) }
     ensures finished { result.finished ≡ finishes_by work (work_after time work release until) }
     ensures rest { result.rest ≡ work_after time work release until }
     ensures bound { time ≤ 4294967295 → result.time ≤ 4294967295 }

@@ -5,7 +5,7 @@ ghost use Rattle.htl_model.specs.Bits.{cell};
 ghost use Rattle.htl_model.specs.Selections.{selection_count, positions};
 ghost use Rattle.htl_walk.specs.Refinement.{HasWork};
 ghost use Rattle.htl_walk.specs.Writers.{job_with, stands as stands_of, standing_in};
-ghost use Rattle.htl_walk.specs.Jobs.{jobs_of, abstract_jobs as abstract_jobs_of};
+ghost use Rattle.htl_walk.specs.Jobs.{jobs_standing, abstract_jobs as abstract_jobs_of};
 
 use crate::Job;
 use crate::writers::{fill_writers, predecessors};
@@ -50,7 +50,7 @@ fn fill_by(t: &Tables, standing: &[Option<u16>], table: &mut [u128], out: &mut [
     requires few { length standing.now ≤ 128 }
     requires ports { length t.now.ports ≤ length table.old }
     requires empty { (p q : ℕ) → cell table.old p q ≡ false }
-    ensures jobs { take (length standing.now) out.new ≡ jobs_of t.now standing.now }
+    ensures jobs { take (length standing.now) out.new ≡ jobs_standing t.now standing.now }
     ensures rest { drop (length standing.now) out.new ≡ drop (length standing.now) out.old }
 {
     t.keeps_ranges();
@@ -67,7 +67,7 @@ fn fill_by(t: &Tables, standing: &[Option<u16>], table: &mut [u128], out: &mut [
 /// One pass over the ends of what stands, by a table with a row for each port of the tables: 64 rows, 512 or 4,096.
 pub fn fill_jobs(t: &Tables, standing: &[Option<u16>], out: &mut [Job; MAX_POSITIONS])
     requires { length standing.now ≤ 128 }
-    ensures jobs { take (length standing.now) out.new ≡ jobs_of t.now standing.now }
+    ensures jobs { take (length standing.now) out.new ≡ jobs_standing t.now standing.now }
     ensures rest { drop (length standing.now) out.new ≡ drop (length standing.now) out.old }
 {
     t.keeps_ranges();

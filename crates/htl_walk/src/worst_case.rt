@@ -1,6 +1,6 @@
 // The worst-case walk of a schedule.
 ghost use Rattle.std.specs.Prelude.{◌≡◌, ◌≤◌, ◌<◌, ℕ, length, get_or, All, Some, IfSome, IfErr, IfNone, OnOk, OnErr};
-ghost use Rattle.htl_walk.specs.Walk.{InForm, IsAccepted, work, worst_cases, walk, finish as finish_of};
+ghost use Rattle.htl_walk.specs.Walk.{InForm, ScheduleIsAccepted, work, worst_cases, walk, finish as finish_of};
 ghost use Rattle.htl_walk.specs.Following.{ArePending};
 ghost use Rattle.htl_walk.specs.Misses.{IsFirstMiss};
 ghost use Rattle.htl_walk.specs.Refinement.{HasWork};
@@ -57,10 +57,10 @@ fn follow(
     requires finishes { length finish.old ≡ length jobs.now }
     requires form { InForm (length jobs.now) period instrs.now }
     requires instrs { length instrs.now ≤ 4294967295 }
-    ensures accepted { OnOk result (IsAccepted jobs.now period instrs.now) }
+    ensures accepted { OnOk result (ScheduleIsAccepted jobs.now period instrs.now) }
     ensures finishes { OnOk result ((p : ℕ) → p < length jobs.now → finish_of (walk jobs.now (worst_cases jobs.now) instrs.now) p ≡ Some (get_or finish.new p 0)) }
     ensures missed { IfErr result (λ m. IsFirstMiss jobs.now period instrs.now m) }
-    ensures refused { OnErr result (IsAccepted jobs.now period instrs.now → ⊥) }
+    ensures refused { OnErr result (ScheduleIsAccepted jobs.now period instrs.now → ⊥) }
 {
     let pending = fill_worst(jobs, left);
     let mut now = Moment { time: 0, pending };
@@ -98,10 +98,10 @@ pub fn worst(jobs: &[Job], s: &Schedule, period: Time, finish: &mut [Time]) -> R
     requires present { All HasWork jobs.now }
     requires finishes { length finish.old ≡ length jobs.now }
     requires instrs { length s.now.instrs ≤ 4294967295 }
-    ensures accepted { OnOk result (IsAccepted jobs.now period s.now.instrs) }
+    ensures accepted { OnOk result (ScheduleIsAccepted jobs.now period s.now.instrs) }
     ensures finishes { OnOk result ((p : ℕ) → p < length jobs.now → finish_of (walk jobs.now (worst_cases jobs.now) s.now.instrs) p ≡ Some (get_or finish.new p 0)) }
     ensures missed { IfErr result (λ m. IsFirstMiss jobs.now period s.now.instrs m) }
-    ensures refused { OnErr result (IsAccepted jobs.now period s.now.instrs → ⊥) }
+    ensures refused { OnErr result (ScheduleIsAccepted jobs.now period s.now.instrs → ⊥) }
 {
     let instrs = s.instrs.as_slice();
     if let Some(instr) = first_departure(instrs, jobs.len(), period) {

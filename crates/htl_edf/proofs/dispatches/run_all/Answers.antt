@@ -1,7 +1,7 @@
 use Rattle.std.proofs.Common.{arith, rules, ◌∙◌, refl}
 use Rattle.htl_edf.specs.Lists.{jobs_of}
 use Rattle.htl_edf.specs.Tight.{tight}
-use Rattle.htl_edf.specs.Edf.{edf, slices}
+use Rattle.htl_edf.specs.Edf.{edf, maximal_slices}
 use Rattle.htl_edf.proofs.Ticks.{slices_none}
 use Rattle.htl_edf.proofs.Jumps.{slices_some, slices_idle}
 use Rattle.htl_edf.proofs.ReadyRanks.{ahead_start}
@@ -40,7 +40,7 @@ loop-t-preserved-in_ok-last c =
     let run = edf (tight (jobs_of c.args.ranks.jobs.now)) in
     let m = c.advance-runs.ensures in
     let e = slices_some run c.loop-t.t c.advance-runs.result.1 c.in-Some.p m.later (λ i l. m.runs i l ∙ c.in-Some.is) in
-    let r = c.in_ok-last.ensures (slices run c.loop-t.t) c.loop-t.invariant.closed c.loop-t.invariant.last in
+    let r = c.in_ok-last.ensures (maximal_slices run c.loop-t.t) c.loop-t.invariant.closed c.loop-t.invariant.last in
     record {
       long = m.left_same ∙ c.loop-t.invariant.long;
       lefts = m.lefts;

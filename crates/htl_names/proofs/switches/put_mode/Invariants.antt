@@ -1,7 +1,7 @@
 use Rattle.std.proofs.Common.{◌≡◌, ◌++◌, drop, map}
 use Rattle.htl_model.specs.Tables.{fun_of}
 use Rattle.htl_text.specs.Nodes.{tree_of, switch_of}
-use Rattle.htl_names.specs.Flat.{switch_item, switch_function}
+use Rattle.htl_names.specs.Flat.{switch_item, flat_switch_function}
 use Rattle.htl_names.proofs.switches.put_mode.Given as goal
 
 abbrev pub invariant-loop-k : goal.invariant-loop-k
@@ -9,6 +9,6 @@ invariant-loop-k l =
     record {
       items : l.into.items ++ map (switch_item l.source.layout.now (tree_of l.source.tree.now) l.mode l.fn.at) (map switch_of (drop l.k l.nodes))
           ≡ l.initial.into.items ++ map (switch_item l.source.layout.now (tree_of l.source.tree.now) l.mode l.fn.at) (map switch_of l.nodes);
-      functions : map fun_of l.functions.items ++ map (switch_function l.source.layout.now) (map switch_of (drop l.k l.nodes))
-          ≡ map fun_of l.initial.functions.items ++ map (switch_function l.source.layout.now) (map switch_of l.nodes);
+      functions : map fun_of l.functions.items ++ map (flat_switch_function l.source.layout.now) (map switch_of (drop l.k l.nodes))
+          ≡ map fun_of l.initial.functions.items ++ map (flat_switch_function l.source.layout.now) (map switch_of l.nodes);
     }

@@ -1,13 +1,13 @@
 use Rattle.std.proofs.Common.{◌+◌, ◌∷◌, drop, length, add-one, ap, sym, ◌∙◌, arith}
 use Rattle.std.proofs.lemmas.List.{drop_more}
-use Rattle.htl_names.specs.Rows.{joined}
+use Rattle.htl_names.specs.Rows.{rows_joined}
 use Rattle.htl_names.proofs.Walking.{programs_rows, programs_are, programs_on, few_more}
 use Rattle.htl_names.proofs.walk.rows_of.Goals as goal
 
 pub loop-p-init : goal.loop-p-init
 loop-p-init c =
     let xs = c.as_slice-programs.result.now in
-    record { going = ap (λ r. joined r (programs_rows 0 0 xs)) c.new-into.ensures ∙ programs_are 0 0 xs; few = omega arith }
+    record { going = ap (λ r. rows_joined r (programs_rows 0 0 xs)) c.new-into.ensures ∙ programs_are 0 0 xs; few = omega arith }
 
 pub loop-p-preserved : goal.loop-p-preserved
 loop-p-preserved c =

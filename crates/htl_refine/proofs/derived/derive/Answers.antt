@@ -1,7 +1,7 @@
 use Rattle.std.proofs.Common.{◌≡◌, ◌≤◌, ◌∙◌, ap, length, map, sym, subst, take}
 use Rattle.std.proofs.lemmas.List.{length-map}
 use Rattle.htl_model.specs.Chosen.{chosen}
-use Rattle.htl_walk.specs.Jobs.{jobs_of}
+use Rattle.htl_walk.specs.Jobs.{jobs_standing}
 use Rattle.htl_refine.specs.OnePass.{positions_met}
 use Rattle.htl_refine.proofs.Inherit.{refinement}
 use Rattle.htl_refine.proofs.OnePassLaws.{one_pass}
@@ -31,7 +31,7 @@ returns-clause-jobs c =
     let front = c.put_standing-count.ensures.front in
     let len : length (take n c.put_standing-count.new.standing) ≡ n = ap length front ∙ length-map met (chosen t c.as_slice-modes.result.now) ∙ sym c.put_standing-count.ensures.count in
     ap (λ m. take m c.fill_jobs.new.out) (sym len) ∙ c.fill_jobs.ensures.jobs
-    ∙ ap (jobs_of t) (front ∙ ap (λ ms. map (chosen t ms) (positions_met t ms)) c.as_slice-modes.ensures
+    ∙ ap (jobs_standing t) (front ∙ ap (λ ms. map (chosen t ms) (positions_met t ms)) c.as_slice-modes.ensures
     ∙ ap (map (chosen t modes)) (one_pass t modes c.keeps_ranges.ensures.ranges c.requires.selection))
 
 pub returns-clause-refines : goal.returns-clause-refines

@@ -5,8 +5,8 @@ use Rattle.htl_model.specs.Tables.{Tables}
 use Rattle.htl_object.specs.declared.object.Object.{Object}
 use Rattle.htl_object.specs.Accepted.{IsAccepted}
 use Rattle.htl_machine.specs.Calls as machines
-use Rattle.htl_audit.specs.Auditing.{Audit, AreDue, Follows, IsAuditor}
-use Rattle.htl_audit.specs.Keeping.{start_at, end_at, taken}
+use Rattle.htl_audit.specs.Auditing.{Audit, AreDue, AuditFollows, IsAuditor}
+use Rattle.htl_audit.specs.Keeping.{start_at, end_at, inv_takes}
 use Rattle.htl_audit.proofs.Dues.{taken_due}
 use Rattle.htl_audit.proofs.Keepers.{length_known, length_small, taken_auditor, took_follows}
 use Rattle.htl_audit.proofs.auditor.Auditor.took.Goals as goal
@@ -40,11 +40,11 @@ invariant_of-self c =
     let known = slice_get_within c.self.inside.machine.object.tables.invs c.args.inv len.inv len.known in
     let rows : c.args.inv < length k.roster.lengths = omega (arith, known, c.self.invariant.0.lengths, ap (λ (z : Object). length z.tables.invs) c.self.invariant.0.object) in
     let least : c.window_end.result ≤ start_at k.roster c.args.inv + end_at o c.args.inv = omega (arith, c.window_end.ensures, ap (λ (t : Tables). end_at t c.args.inv) c.tables-t.ensures.value) in
-    let taken_is : c.take.new.self ≡ taken o c.reading-now.result c.args.inv c.args.ticks k = c.take.ensures ∙ ap (λ (t : Tables). taken t c.reading-now.result c.args.inv c.args.ticks k) c.tables-t.ensures.value in
-    let due : AreDue o (min c.self.inside.due c.window_end.result) (taken o c.reading-now.result c.args.inv c.args.ticks k) =
+    let taken_is : c.take.new.self ≡ inv_takes o c.reading-now.result c.args.inv c.args.ticks k = c.take.ensures ∙ ap (λ (t : Tables). inv_takes t c.reading-now.result c.args.inv c.args.ticks k) c.tables-t.ensures.value in
+    let due : AreDue o (min c.self.inside.due c.window_end.result) (inv_takes o c.reading-now.result c.args.inv c.args.ticks k) =
     taken_due o c.reading-now.result c.args.inv c.args.ticks c.self.inside.due c.window_end.result k rows least c.self.invariant.1.due_is in (
       subst (λ z. IsAuditor c.self.inside.loaded.now c.took.new.self c.set.new.self c.self.inside.log.now z) (sym c.take.ensures)
-          (subst (λ z. IsAuditor c.self.inside.loaded.now c.took.new.self z c.self.inside.log.now (taken c.tables-t.result.now c.reading-now.result c.args.inv c.args.ticks c.self.inside.ledger)) (sym c.set.ensures)
+          (subst (λ z. IsAuditor c.self.inside.loaded.now c.took.new.self z c.self.inside.log.now (inv_takes c.tables-t.result.now c.reading-now.result c.args.inv c.args.ticks c.self.inside.ledger)) (sym c.set.ensures)
           (taken_auditor c.self.inside.loaded.now c.self.inside.machine c.took.new.self c.self.inside.takes c.self.inside.log.now c.self.inside.ledger c.tables-t.result.now c.reading-now.result c.args.inv c.args.ticks few
           (ap (λ (z : machines.Seen). z.object) c.took.ensures.seen) c.self.invariant.0)),
       record { feeders_are = c.self.invariant.1.feeders_are; due_is = subst (λ d. AreDue o d c.take.new.self) (sym c.min-self-inside.ensures) (subst (AreDue o (min c.self.inside.due c.window_end.result)) (sym taken_is) due) },
@@ -53,7 +53,7 @@ invariant_of-self c =
 pub returns-clause-follows : goal.returns-clause-follows
 returns-clause-follows c = λ es f.
     let inner : Audit = record { machine = c.self.inside.machine; log = c.self.inside.log.now; takes = c.self.inside.takes; kept = c.self.inside.ledger } in
-    let g : Follows inner es = subst (λ (z : Audit). Follows z es) (sym c.self.view_is) f in
+    let g : AuditFollows inner es = subst (λ (z : Audit). AuditFollows z es) (sym c.self.view_is) f in
     let len : machines.IsLength c.self.inside.machine.object.tables c.args.inv c.args.ticks = subst (λ (z : Audit). machines.IsLength z.machine.object.tables c.args.inv c.args.ticks) (sym c.self.view_is) c.requires.ticks in
     let known = slice_get_within c.self.inside.machine.object.tables.invs c.args.inv len.inv len.known in
     let same : c.self.inside.machine.object.tables ≡ c.tables-t.result.now = ap (λ (o : Object). o.tables) c.self.invariant.0.object ∙ sym c.tables-t.ensures.value in
@@ -61,8 +61,8 @@ returns-clause-follows c = λ es f.
     let rows : c.args.inv < length c.self.inside.ledger.roster.lengths = omega (arith, known, c.self.invariant.0.lengths, ap (λ (o : Object). length o.tables.invs) c.self.invariant.0.object) in
     let accepted : IsAccepted c.self.inside.machine.object = subst IsAccepted (sym c.self.invariant.0.object) c.tables-t.ensures.accepted in
     let made = took_follows inner es c.args.inv c.args.ticks c.took.new.self accepted len room rows c.took.ensures.seen (c.took.ensures.follows es g.machine) g in
-    let kept : c.take.new.self ≡ taken c.self.inside.machine.object.tables c.self.inside.machine.held.reading c.args.inv c.args.ticks c.self.inside.ledger =
-    c.take.ensures ∙ ap (λ t. taken t c.reading-now.result c.args.inv c.args.ticks c.self.inside.ledger) (sym same)
-    ∙ ap (λ now. taken c.self.inside.machine.object.tables now c.args.inv c.args.ticks c.self.inside.ledger) c.reading-now.ensures in
-    subst (λ z. Follows (record { machine = c.took.new.self; log = c.self.inside.log.now; takes = c.set.new.self; kept = z }) (es ++ V.Took c.args.inv c.args.ticks ∷ [])) (sym kept)
-    (subst (λ z. Follows (record { machine = c.took.new.self; log = c.self.inside.log.now; takes = z; kept = taken c.self.inside.machine.object.tables c.self.inside.machine.held.reading c.args.inv c.args.ticks c.self.inside.ledger }) (es ++ V.Took c.args.inv c.args.ticks ∷ [])) (sym c.set.ensures) made)
+    let kept : c.take.new.self ≡ inv_takes c.self.inside.machine.object.tables c.self.inside.machine.held.reading c.args.inv c.args.ticks c.self.inside.ledger =
+    c.take.ensures ∙ ap (λ t. inv_takes t c.reading-now.result c.args.inv c.args.ticks c.self.inside.ledger) (sym same)
+    ∙ ap (λ now. inv_takes c.self.inside.machine.object.tables now c.args.inv c.args.ticks c.self.inside.ledger) c.reading-now.ensures in
+    subst (λ z. AuditFollows (record { machine = c.took.new.self; log = c.self.inside.log.now; takes = c.set.new.self; kept = z }) (es ++ V.Took c.args.inv c.args.ticks ∷ [])) (sym kept)
+    (subst (λ z. AuditFollows (record { machine = c.took.new.self; log = c.self.inside.log.now; takes = z; kept = inv_takes c.self.inside.machine.object.tables c.self.inside.machine.held.reading c.args.inv c.args.ticks c.self.inside.ledger }) (es ++ V.Took c.args.inv c.args.ticks ∷ [])) (sym c.set.ensures) made)

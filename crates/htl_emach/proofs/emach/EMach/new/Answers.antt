@@ -1,7 +1,7 @@
 use Rattle.std.proofs.Common.{◌≡◌, IfOk, rules, arith}
 use Rattle.htl_ecode.proofs.SpellingLaws.{spelled_departs_not}
 use Rattle.htl_emach.specs.Calendars.{first_standing}
-use Rattle.htl_emach.specs.Following.{Follows}
+use Rattle.htl_emach.specs.Following.{FollowsCode}
 use Rattle.htl_emach.specs.Safety.{StandsSafely}
 use Rattle.htl_emach.proofs.Instants.{first_follows}
 use Rattle.htl_emach.proofs.SafeCalls.{first_safely, ok_is}
@@ -20,5 +20,5 @@ returns-clause-safe c =
 pub returns-clause-follows : goal.returns-clause-follows
 returns-clause-follows c =
     let made : IfOk c.map_err.result (λ m. m ≡ first_standing c.args.t.now c.args.code.now) = search rules in
-    ok_is (λ m. KeptApart c.args.t.now 12 → Spells c.args.t.now c.args.code.now → (es : List Event) → Follows c.args.t.now c.args.code.now es 0 m) (first_standing c.args.t.now c.args.code.now) c.map_err.result
+    ok_is (λ m. KeptApart c.args.t.now 12 → Spells c.args.t.now c.args.code.now → (es : List Event) → FollowsCode c.args.t.now c.args.code.now es 0 m) (first_standing c.args.t.now c.args.code.now) c.map_err.result
     (λ kept spelled es. first_follows c.args.t.now c.args.code.now es (sound c.args.t.now c.args.code.now 12 (omega arith) c.keeps_ranges.ensures.ranges kept (spelled_departs_not c.args.t.now c.args.code.now spelled))) made

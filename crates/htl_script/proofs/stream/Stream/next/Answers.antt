@@ -3,7 +3,7 @@ use Rattle.htl_edge.specs.declared.Failed.{Failed}
 use Rattle.htl_model.specs.declared.event.Event.{Event}
 use Rattle.htl_script.specs.Reading.{answered}
 use Rattle.htl_script.specs.Readers.{Here, rest_of}
-use Rattle.htl_script.specs.Streaming.{Ahead, Follows, Gives, GivesByte, IsAnswer, IsSame, LosesPiece}
+use Rattle.htl_script.specs.Streaming.{Ahead, LineFollows, Gives, GivesByte, IsAnswer, IsSame, LosesPiece}
 use Rattle.htl_script.specs.declared.fault.ScriptKind.{ScriptKind}
 use Rattle.htl_script.specs.declared.fault.ScriptStop.{ScriptStop}
 use Rattle.htl_script.specs.declared.fault.ScriptStop.TheVariants as stop
@@ -38,7 +38,7 @@ bytes-preserved g c =
     let gave = subst (λ (o : Option ℕ). GivesByte {E = Failed} c.self.inside.chunk c.byte.new.self rest left (Ok o)) c.in-Ok-Some.field-0-is c.in-Ok-Some.ensures.byte in
     let took = subst (λ (o : Option Event). (later : List ℕ) → rest_of t here (c.in-Ok-Some.b ∷ later) ≡ answered here.number (Ok o) (rest_of t c.take.new.self later)) c.in-Ok-None-take.field-0-is c.in-Ok-None-take.ensures.rest in
     let past : here.past ≡ first.here.past = ap (λ (z : Ahead). z.here.past) c.self.view_is ∙ c.bytes.invariant.1 in
-    let followed = subst (λ (o : Option Event). Follows {E = ScriptKind} t here.past c.take.new.self.past (Ok o)) c.in-Ok-None-take.field-0-is c.in-Ok-None-take.ensures.event in (
+    let followed = subst (λ (o : Option Event). LineFollows {E = ScriptKind} t here.past c.take.new.self.past (Ok o)) c.in-Ok-None-take.field-0-is c.in-Ok-None-take.ensures.event in (
       gives_none t first here c.in-Ok-Some.b here.number c.byte.new.self known left (gives_byte Failed t first here c.self.inside.chunk c.byte.new.self known rest left on c.in-Ok-Some.b gave) c.take.new.self took,
       followed ∙ past,
       omega (arith, ap (λ (z : Ahead). z.here.number) c.self.view_is, c.bytes.invariant.2, c.in-Ok-None-take.ensures.lines),
