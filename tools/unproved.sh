@@ -94,7 +94,7 @@ donor)
 platform) take_file "$3" file ;;
 esac
 need_rt
-about="about a minute, many on a busy one, with nothing proved"
+about="one to two minutes, more on a busy machine, with nothing proved"
 case ${unproved:+asked}$(state) in
 asked*) say "running the unproved build: $about" ;;
 *none) say "no proved program stands, so this is the unproved build, slower and checked as it runs ($about); bin/htl --prove makes the proved one" ;;

@@ -40,7 +40,7 @@ read_before at es = read_where (λ reading. nat_lt reading at) 0 es
 abbrev pub EarlierReadingsDecideValues : Type 0
 EarlierReadingsDecideValues = (t : Tables) (es fs : List Event) (now : ℕ) → read_by now es ≡ read_by now fs → (c : ℕ) → val t es c now ≡ val t fs c now
 
--- two scripts with the same events before an instant give the same text of the instants before it
+-- two scripts with the same events before an instant give the same lines of values and modes, as text, of the instants before it
 abbrev pub EarlierReadingsDecideTexts : Type 0
 EarlierReadingsDecideTexts =
     (t : Tables) (es fs : List Event) (at : ℕ) → read_before at es ≡ read_before at fs → lines_before_text t es at ≡ lines_before_text t fs at

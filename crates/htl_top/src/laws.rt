@@ -14,7 +14,7 @@ pub fn earlier_readings_decide_values()
     ensures { EarlierReadingsDecideValues }
 {}
 
-/// The text of the instants before one depends only on the events that were read before it.
+/// The lines of values and modes of the instants before one, as text, depend only on the events that were read before it.
 pub fn earlier_readings_decide_texts()
     ensures { EarlierReadingsDecideTexts }
 {}
