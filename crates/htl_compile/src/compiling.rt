@@ -26,11 +26,11 @@ pub enum CompileFault {
     Source(SourceFault),
     /// The source has none, and this is the first form rule that its tables break.
     IllFormed(FormFault),
-    /// Its tables break no form rule, and a root selection is overloaded.
+    /// Its tables break no form rule, and a path is overloaded.
     Unschedulable {
-        /// The number of the first such root selection.
+        /// The number of the first such path.
         selection: u32,
-        /// The overloaded interval, in ticks from the start of the round.
+        /// The overloaded interval, in ticks from the start of the frame.
         from: Time,
         /// Its end.
         to: Time,
@@ -106,7 +106,7 @@ fn compile_source(alloc: Global, bytes: &[u8]) -> Result<Vec<u8>, CompileFault>
 }
 
 /// The bytes of the object of a source of at most 1,048,576 bytes. The object is accepted, so loading the bytes gives it back,
-/// or want of memory. It is refused exactly where the source has a fault, its tables break a form rule, or a root selection is
+/// or want of memory. It is refused exactly where the source has a fault, its tables break a form rule, or a path is
 /// overloaded, with the first of these; `TooLong` is never the answer. Want of memory may stand in place of any answer.
 pub fn compile(alloc: Global, bytes: &[u8]) -> Result<Vec<u8>, CompileFault>
     requires { length bytes.now ≤ limit.MAX_SOURCE }

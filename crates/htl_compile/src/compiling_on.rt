@@ -26,7 +26,7 @@ use std::alloc::Global;
 #[derive(Clone, Copy, PartialEq, Eq, Debug)]
 pub enum WithFault {
     /// The source has a fault; or neither the source nor the platform file has one, and the tables with the platform's worst
-    /// cases break a form rule or have an overloaded root selection; or no memory was left.
+    /// cases break a form rule or have an overloaded path; or no memory was left.
     Compile(CompileFault),
     /// The source has no fault, and this is the platform file's first.
     Platform(PlatformFault),
@@ -78,7 +78,7 @@ fn compile_on(alloc: Global, bytes: &[u8], platform: &[u8]) -> Result<Vec<u8>, W
 /// the bytes gives it back, or want of memory.
 ///
 /// It is refused exactly where the source has a fault, else where the file has one for the source's tasks, else where the tables
-/// with the platform's worst cases break a form rule or have an overloaded root selection; with the first of these. `TooLong` is
+/// with the platform's worst cases break a form rule or have an overloaded path; with the first of these. `TooLong` is
 /// never the answer. Want of memory, `CompileFault::Memory`, may stand in place of any answer.
 pub fn compile_with(alloc: Global, bytes: &[u8], platform: &[u8]) -> Result<Vec<u8>, WithFault>
     requires source { length bytes.now ≤ limit.MAX_SOURCE }

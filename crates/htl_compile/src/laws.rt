@@ -1,8 +1,8 @@
 //! The laws of compiling, which crates above build on. Each is a statement that the check has proved; there is nothing to run.
 ghost use Rattle.htl_compile.specs.Laws.{BuiltIsAccepted, CodedRunsTheSame, OneTables, SourceTablesFit, NoneForOverloaded, FrontOnlyMemory, BackOnlyMemory, CompileOnlyMemory, OneFrontFault, OneBackFault, OneCompileFault};
 
-/// The object of tables in range that keep the limits and the form rules, whose functions are typed, and of whose root
-/// selections none is overloaded, is accepted, for whatever platform it is named.
+/// The object of tables in range that keep the limits and the form rules, whose functions are typed, and of whose
+/// paths none is overloaded, is accepted, for whatever platform it is named.
 pub fn built_is_accepted()
     ensures { BuiltIsAccepted }
 {}
@@ -23,7 +23,7 @@ pub fn source_tables_fit()
     ensures { SourceTablesFit }
 {}
 
-/// Where a root selection of tables that keep the limits and the form rules is overloaded, no S code whatever is accepted for it.
+/// Where a path of tables that keep the limits and the form rules is overloaded, no lists whatever are accepted for it.
 pub fn none_for_overloaded()
     ensures { NoneForOverloaded }
 {}
@@ -33,13 +33,13 @@ pub fn front_only_memory()
     ensures { FrontOnlyMemory }
 {}
 
-/// Tables that break no form rule and have no overloaded root selection have no fault, but that memory may run out.
+/// Tables that break no form rule and have no overloaded path have no fault, but that memory may run out.
 pub fn back_only_memory()
     ensures { BackOnlyMemory }
 {}
 
 /// A source has no fault, but that memory may run out, where it has tables whose functions are typed, that break no form rule and
-/// have no overloaded root selection.
+/// have no overloaded path.
 pub fn compile_only_memory()
     ensures { CompileOnlyMemory }
 {}

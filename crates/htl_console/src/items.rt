@@ -192,7 +192,7 @@ pub fn show_instr<W: Sink>(
     put_all(sink, line.as_bytes())
 }
 
-/// Writes the line of an S instruction at its place in the schedule of a selection.
+/// Writes the line of an S instruction at its place in the schedule of a node.
 pub fn show_step<W: Sink>(
     sink: &mut W,
     selection: usize,

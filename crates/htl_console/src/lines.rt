@@ -128,7 +128,7 @@ pub fn line_m<W: Sink>(
     put_all(sink, line.as_bytes())
 }
 
-/// Writes `s T SELECTION:PLACE TEXT`: the S instruction at a place in the schedule of a root selection was left.
+/// Writes `s T NODE:PLACE TEXT`: the S instruction at a place in the list of a node was left.
 pub fn line_s<W: Sink>(
     sink: &mut W,
     at: Time,

@@ -15,7 +15,7 @@ pub enum ObjectFault {
     Function { id: u32 },
     /// The E code doesn't spell the tables: its first departure.
     ECode(EFault),
-    /// The first root selection whose worst-case walk isn't accepted, and the first miss of that walk.
+    /// The first path whose worst-case walk isn't accepted, and the first miss of that walk.
     Schedule { selection: u32, miss: Miss },
 }
 

@@ -61,7 +61,7 @@ impl Model for SpelledObject {
     ghost invariant = { λ s. IsSpelled s.object };
 }
 
-/// An accepted object: it is ready to run, and under the declared worst cases each root selection keeps its deadlines.
+/// An accepted object: it is ready to run, and under the declared worst cases every path keeps its deadlines.
 #[derive(Drop)]
 pub struct Loaded {
     object: Object,
@@ -180,7 +180,7 @@ impl Loaded {
         &self.object.ecode
     }
 
-    /// The schedules, in the order of the root selections.
+    /// The schedules, in the order of the nodes.
     pub fn schedules(&self) -> &[Schedule]
         ensures { result.now ≡ self.now.schedules }
     {

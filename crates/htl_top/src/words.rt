@@ -24,7 +24,7 @@ pub enum Verb {
     Code,
     /// Tests an object.
     Check,
-    /// Writes the round of an object at a selection of running modes.
+    /// Writes a frame of an object at a selection of running modes.
     Plan,
     /// Lists an object.
     Show,
