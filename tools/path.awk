@@ -1,5 +1,5 @@
-# Reads an outline, of a source (outline.awk) or of an object (object.awk): of the modules of the first program module[i], i from 1
-# to modules, with modes[NAME, k], k from 1 to mode_count[NAME], their period[MODULE.MODE], and their invocations
+# Behind common.awk: reads an outline, of a source (outline.awk) or of an object (object.awk): of the modules of the first program
+# module[i], i from 1 to modules, with modes[NAME, k], k from 1 to mode_count[NAME], their period[MODULE.MODE], and their invocations
 # invocation[MODULE.MODE, k], outline lines, k from 1 to invocation_count[MODULE.MODE]; comm_period[NAME]; and the worst cases
 # worst[MODULE.TASK], for which lines `worst TASK TICKS` behind the outline may say others, those of a platform.
 # Behind it, of the rounds of these modules: the length of a frame, its starts, and what a path through it is.
@@ -20,16 +20,6 @@ $1 == "invoke" { invocation[$3 "." $4, ++invocation_count[$3 "." $4]] = $0 }
 
 # The period of a module, which all its modes have.
 function period_of(name) { return period[name "." modes[name, 1]] }
-
-function common(a, b,    rest, product) {
-	product = a * b
-	while (b) {
-		rest = a % b
-		a = b
-		b = rest
-	}
-	return product / a
-}
 
 # Sets `frame`, the least common multiple of the periods, and start[j], j from 1 to starts, where some module's round begins.
 # Fails where there is no such frame, or where it has too many starts.

@@ -9,7 +9,7 @@ overload() {
 	{
 		outline "$1"
 		[ -z "$platform" ] || LC_ALL=C awk -v values=1 -f "$tools/entries.awk" <"$platform"
-	} 2>/dev/null | awk -v path="$2" -v from="$4" -v to="$6" -v demand="$8" -f "$tools/path.awk" -f "$tools/overload.awk" | sed 's/^/    /'
+	} 2>/dev/null | awk -v path="$2" -v from="$4" -v to="$6" -v demand="$8" -f "$tools/common.awk" -f "$tools/path.awk" -f "$tools/overload.awk" | sed 's/^/    /'
 }
 
 # A path of the object $1 that its lists don't serve; $2.. the words of the fault line behind `object schedule`.
@@ -20,8 +20,8 @@ unserved_path() {
 	before) set -- "$1" "$2" "$4 $5" ;;
 	*) set -- "$1" "$2" "" ;;
 	esac
-	object_outline "$1" | awk -v path="$2" -v wanted="$3" -f "$tools/path.awk" -f "$tools/positions.awk" | sed 's/^/    /'
+	object_outline "$1" | awk -v path="$2" -v wanted="$3" -f "$tools/common.awk" -f "$tools/path.awk" -f "$tools/positions.awk" | sed 's/^/    /'
 }
 
 # What each module of the first program of the source $1 asks of a frame.
-frame_rows() { outline "$1" | awk -f "$tools/path.awk" -f "$tools/frame.awk" | sed 's/^/    /'; }
+frame_rows() { outline "$1" | awk -f "$tools/common.awk" -f "$tools/path.awk" -f "$tools/frame.awk" | sed 's/^/    /'; }

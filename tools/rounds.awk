@@ -1,16 +1,7 @@
-# Behind listing.awk and lines.awk: the rounds of module m, which begin at the multiples of round_of[m], and the frames, which begin
-# at those of `frame`, the least common multiple of the periods of the first program's modules. Both are 0 without a listing; `frame`
-# is 0 too where all these periods are one, since each round is a frame then. rounds_told: whether some module has a second one.
-
-function common(a, b,    rest, product) {
-	product = a * b
-	while (b) {
-		rest = a % b
-		a = b
-		b = rest
-	}
-	return product / a
-}
+# Behind listing.awk, lines.awk and common.awk: the rounds of module m, which begin at the multiples of round_of[m], and the frames,
+# which begin at those of `frame`, the least common multiple of the periods of the first program's modules. Both are 0 without a
+# listing; `frame` is 0 too where all these periods are one, since each round is a frame then. rounds_told: whether some module has a
+# second one.
 
 # The first multiple of a length at or behind an instant.
 function multiple(time, length_) { return time + (length_ - time % length_) % length_ }

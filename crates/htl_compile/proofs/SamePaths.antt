@@ -9,7 +9,7 @@ use Rattle.htl_model.specs.Tables.{Tables, Fun, task_worst, release, window_end}
 use Rattle.htl_model.specs.declared.frame.Place.{Place}
 use Rattle.htl_model.specs.declared.parts.Inv.{Inv}
 use Rattle.htl_walk.specs.Jobs.{absent_job, mask, is_fed_by}
-use Rattle.htl_walk.specs.PathJobs.{placed_job, placed_jobs, path_jobs}
+use Rattle.htl_walk.specs.PathJobs.{job_in, placed_job, placed_jobs, path_jobs}
 use Rattle.htl_walk.specs.declared.job.Job.{Job}
 
 module _ (t : Tables) (fs : List Fun) where
@@ -31,15 +31,7 @@ module _ (t : Tables) (fs : List Fun) where
   fed_same k (Some n) = refl
 
   made : Tables → List Place → ℕ → ℕ → Inv → Job
-  made v all a k i =
-      record {
-        present = true;
-        inv = k;
-        release = a + release v i;
-        end = a + window_end v i;
-        worst = task_worst v i.task;
-        preds = mask (map (λ (y : Place). eqb y.at a && is_fed_by v k y.inv) all);
-      }
+  made v all a k i = job_in v all a k (Some i)
 
   made_same : (all : List Place) (a k : ℕ) (i : Inv) → made t all a k i ≡ made u all a k i
   unfolding made

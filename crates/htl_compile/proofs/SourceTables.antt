@@ -59,7 +59,7 @@ source_tables_fit bytes t short h =
 -- ---- an overloaded path
 
 pub none_for_overloaded : NoneForOverloaded
-none_for_overloaded t path a b demand ranges limits formed less over =
+none_for_overloaded t path a b demand ranges formed less over =
     let paths_are = are_ready t ranges formed in
     let here = paths_are.each path less in
     path_refusal (path_jobs t path) (legs t path) (frame_of t) here.jobs here.order (legs_follow t path (some_root t path less) (paths_are.long (omega (arith, less)))) a b demand over

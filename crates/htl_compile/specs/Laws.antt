@@ -14,7 +14,7 @@ use Rattle.htl_compile.specs.declared.source.FrontFault.TheVariants as front
 use Rattle.htl_edf.specs.Lists.{tightened}
 use Rattle.htl_edf.specs.PartLaws.{NoneAreAccepted}
 use Rattle.htl_edf.specs.Windows.{Overloaded}
-use Rattle.htl_model.specs.Broken.{Formed, KeepsLimits}
+use Rattle.htl_model.specs.Broken.{Formed}
 use Rattle.htl_model.specs.Exchanged.{SameRuns}
 use Rattle.htl_model.specs.Frames.{paths}
 use Rattle.htl_model.specs.Ranges.{AreInRange}
@@ -41,7 +41,7 @@ SourceTablesFit = (bytes : List ℕ) (t : Tables) → length bytes ≤ MAX_SOURC
 -- no lists whatever are accepted for a path that is overloaded
 abbrev pub NoneForOverloaded : Type 0
 NoneForOverloaded =
-    (t : Tables) (path a : ℕ) (b : ℤ) (demand : ℕ) → AreInRange t → KeepsLimits t → Formed t → path < paths t
+    (t : Tables) (path a : ℕ) (b : ℤ) (demand : ℕ) → AreInRange t → Formed t → path < paths t
     → Overloaded (tightened (path_jobs t path)) a b demand → NoneAreAccepted (path_jobs t path) (legs t path)
 
 -- ---- completeness

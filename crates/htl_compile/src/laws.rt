@@ -23,7 +23,7 @@ pub fn source_tables_fit()
     ensures { SourceTablesFit }
 {}
 
-/// Where a path of tables that keep the limits and the form rules is overloaded, no lists whatever are accepted for it.
+/// Where a path of tables that keep the form rules is overloaded, no lists whatever are accepted for it.
 pub fn none_for_overloaded()
     ensures { NoneForOverloaded }
 {}

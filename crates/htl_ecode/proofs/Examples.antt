@@ -1,13 +1,8 @@
 -- Worked examples: layouts, addresses that are done, and departures.
-use Rattle.std.specs.Prelude.{◌≡◌, ℕ, true, false, List, [], ◌∷◌, ◌++◌, Some, None, pos, refl, length, set, map, codes}
-use Rattle.htl_base.specs.declared.operator.BinOp.TheVariants.{Sub, Mul, Div, Lt, Gt}
+use Rattle.std.specs.Prelude.{◌≡◌, ℕ, List, [], ◌∷◌, ◌++◌, Some, None, pos, refl, length, set, map}
 use Rattle.htl_model.specs.declared.event.Event.{Event}
 use Rattle.htl_model.specs.declared.event.Event.TheVariants.{At, Sense, End as Ends}
-use Rattle.htl_model.specs.declared.parts.End.TheVariants as E
-use Rattle.htl_base.specs.declared.Ty.TheVariants.{Int as IntTy}
-use Rattle.htl_model.specs.Functions.{Number, Arg, Binary, Choose}
-use Rattle.htl_model.specs.Tables.{Tables}
-use Rattle.htl_model.proofs.Sources.{plain, sensor, mode, module_named, task, call, switch, formula, int_one, doubling, preempted, ports, refined, reentered, alternating}
+use Rattle.htl_model.proofs.Sources.{doubling, preempted, ports, refined, reentered, alternating, tanks}
 use Rattle.htl_ecode.specs.declared.ecode.ECode.{ECode}
 use Rattle.htl_ecode.specs.declared.instr.EInstr.{EInstr}
 use Rattle.htl_ecode.specs.declared.instr.EInstr.TheVariants as I
@@ -16,26 +11,6 @@ use Rattle.htl_ecode.specs.Jumps.{fault}
 use Rattle.htl_ecode.specs.Departure.{departure}
 use Rattle.htl_ecode.specs.Paths.{run_done, Done}
 use Rattle.htl_ecode.specs.Layout.{layout}
-
--- two tanks: the controller of the first is abstract, and a module of two modes refines it
-abbrev tanks : Tables
-tanks =
-    record {
-      comms = sensor (codes "h1") IntTy 100 ∷ sensor (codes "h2") IntTy 100 ∷ plain (codes "u1") 100 (pos 0) ∷ plain (codes "u2") 100 (pos 0) ∷ [];
-      modes = mode (codes "hold") 0 500 ∷ mode (codes "p") 1 500 ∷ mode (codes "pi") 1 500 ∷ mode (codes "hold") 2 500 ∷ [];
-      modules = module_named (codes "T1") None 0 ∷ module_named (codes "C1") (Some 0) 1 ∷ module_named (codes "T2") None 3 ∷ [];
-      ports = [];
-      tasks = task (codes "ctrl") 0 true 120 int_one ∷ task (codes "prop") 1 false 60 int_one ∷ task (codes "damp") 1 false 110 int_one ∷ task (codes "direct") 2 false 100 int_one ∷ [];
-      invs = call 0 0 None (E.Comm 0 1 ∷ []) (E.Comm 2 4 ∷ [])
-          ∷ call 1 1 (Some 0) (E.Comm 0 1 ∷ []) (E.Comm 2 4 ∷ [])
-          ∷ call 2 2 (Some 0) (E.Comm 0 1 ∷ []) (E.Comm 2 4 ∷ [])
-          ∷ call 3 3 None (E.Comm 1 1 ∷ []) (E.Comm 3 4 ∷ []) ∷ [];
-      switches = switch 1 2 2 ∷ [];
-      functions = formula (Binary 0 Mul (Binary 0 Sub (Number 0 (pos 400)) (Arg 0 0)) (Number 0 (pos 2)))
-          ∷ formula (Binary 0 Div (Binary 0 Mul (Binary 0 Sub (Number 0 (pos 400)) (Arg 0 0)) (Number 0 (pos 3))) (Number 0 (pos 2)))
-          ∷ formula (Choose 0 (Binary 0 Lt (Arg 0 0) (Number 0 (pos 350))) (Number 0 (pos 100)) (Number 0 (pos 0)))
-          ∷ formula (Binary 0 Gt (Arg 0 0) (Number 0 (pos 350))) ∷ [];
-    }
 
 -- ---- layouts
 

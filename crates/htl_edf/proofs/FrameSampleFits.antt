@@ -119,6 +119,30 @@ frame_sample_is w cs ms us ks is c m u k i =
 
 -- ---- the form rules
 
+-- what the tables tell of a task, and of the communicator that it writes
+record CallFacts : Type 0 where
+  period : ℕ
+  type : Option Ty
+  sensor : Bool
+  inputs : List Ty
+  outputs : List Ty
+  abstract : Bool
+
+abbrev facts_of_call : ℕ → ℕ → ℕ → ℕ → CallFacts
+facts_of_call w task comm instance =
+    record {
+      period = comm_period (frame_sample w) comm;
+      type = end_type (frame_sample w) (E.Comm comm instance);
+      sensor = is_sensor (frame_sample w) comm;
+      inputs = input_types (frame_sample w) task;
+      outputs = output_types (frame_sample w) task;
+      abstract = task_is_abstract (frame_sample w) task;
+    }
+
+-- an abstract task from int to int, and a communicator of period 10
+abbrev plain_int_call : CallFacts
+plain_int_call = record { period = 10; type = Some ty.Int; sensor = false; inputs = ty.Int ∷ []; outputs = ty.Int ∷ []; abstract = true }
+
 -- what an invocation is: of a mode and the task of the same number, with these facts
 record IsCall (w : ℕ) (i : Inv) : Type 0 where
   mode : ℕ
@@ -129,13 +153,8 @@ record IsCall (w : ℕ) (i : Inv) : Type 0 where
   last : instance * comm_period (frame_sample w) comm ≡ mode_period (frame_sample w) mode
   read_divides : mode_period (frame_sample w) mode % comm_period (frame_sample w) 0 ≡ 0
   divides : mode_period (frame_sample w) mode % comm_period (frame_sample w) comm ≡ 0
-  known : comm_period (frame_sample w) comm ≡ 10
-  type : end_type (frame_sample w) (E.Comm comm instance) ≡ Some ty.Int
-  sensor : is_sensor (frame_sample w) comm ≡ false
-  inputs : input_types (frame_sample w) mode ≡ ty.Int ∷ []
-  outputs : output_types (frame_sample w) mode ≡ ty.Int ∷ []
+  facts : facts_of_call w mode comm instance ≡ plain_int_call
   worst : task_worst (frame_sample w) mode ≤ mode_period (frame_sample w) mode
-  abstract : task_is_abstract (frame_sample w) mode ≡ true
 
 module _ (w : ℕ) (small : w ≤ 20) where
   call_at : (k : ℕ) (i : Inv) → slice_get frame_invs k ≡ Some i → IsCall w i
@@ -148,13 +167,8 @@ module _ (w : ℕ) (small : w ≤ 20) where
     last = refl;
     read_divides = refl;
     divides = refl;
-    known = refl;
-    type = refl;
-    sensor = refl;
-    inputs = refl;
-    outputs = refl;
+    facts = refl;
     worst = omega arith;
-    abstract = refl;
   }
   call_at (suc zero) i e = record {
     mode = 1;
@@ -165,13 +179,8 @@ module _ (w : ℕ) (small : w ≤ 20) where
     last = refl;
     read_divides = refl;
     divides = refl;
-    known = refl;
-    type = refl;
-    sensor = refl;
-    inputs = refl;
-    outputs = refl;
+    facts = refl;
     worst = small;
-    abstract = refl;
   }
   call_at (suc (suc k)) i e = cc
 
@@ -226,8 +235,8 @@ module _ (w : ℕ) (small : w ≤ 20) where
   by_call Offsets k i c have need l h = h
   by_call Ends k i c have need l h =
       elim h [
-        | inl x ↦ x.2 (x.0 ∙ sym (x.1 ∙ ap length c.inputs))
-        | inr x ↦ x.3 (x.1 ∙ sym (x.2 ∙ ap length c.outputs))
+        | inl x ↦ x.2 (x.0 ∙ sym (x.1 ∙ ap (λ (a : CallFacts). length a.inputs) c.facts))
+        | inr x ↦ x.3 (x.1 ∙ sym (x.2 ∙ ap (λ (a : CallFacts). length a.outputs) c.facts))
       ]
   by_call Windows k i c have need l h = omega (arith, h.0, h.1, h.2, c.last, c.some)
   by_call WorstCases k i c have need l h = omega (arith, h.0, h.1, h.2, c.worst)
@@ -253,7 +262,7 @@ module _ (w : ℕ) (small : w ≤ 20) where
   by_input Divides k i c have need l h = divided c.mode 0 have need c.some c.read_divides refl h.0 h.1 h.2
   by_input Offsets k i c have need l h = omega (arith, h.0, h.1, h.2, c.some)
   by_input Ends k i c have need l h =
-      h.2 (sym (some_same 0 have h.0) ∙ some_same 0 need (sym (ap (λ (types : List Ty). option_map type_number (slice_get types 0)) c.inputs) ∙ h.1))
+      h.2 (sym (some_same 0 have h.0) ∙ some_same 0 need (sym (ap (λ (a : CallFacts). option_map type_number (slice_get a.inputs 0)) c.facts) ∙ h.1))
   by_input Windows k i c have need l h = h
   by_input WorstCases k i c have need l h = h
   by_input PortWriters k i c have need l h = h
@@ -270,21 +279,21 @@ module _ (w : ℕ) (small : w ≤ 20) where
       → (breach (frame_sample w) r).output k (frame_inv c.mode c.comm c.instance) 0 (E.Comm c.comm c.instance) have need → ⊥
   by_output ModulePeriod k i c have need l h = h
   by_output FrameLimits k i c have need l h = h
-  by_output Divides k i c have need l h = divided c.mode c.comm have need c.some c.divides c.known h.0 h.1 h.2
+  by_output Divides k i c have need l h = divided c.mode c.comm have need c.some c.divides (ap (λ (a : CallFacts). a.period) c.facts) h.0 h.1 h.2
   by_output Offsets k i c have need l h =
       elim h.2 [
         | inl z ↦ omega (arith, z, h.0, c.last, c.some)
         | inr z ↦ omega (arith, z, h.0, h.1, c.last)
       ]
   by_output Ends k i c have need l h =
-      h.2 (sym (some_same 0 have (sym (ap (option_map type_number) c.type) ∙ h.0)) ∙ some_same 0 need (sym (ap (λ (types : List Ty). option_map type_number (slice_get types 0)) c.outputs) ∙ h.1))
+      h.2 (sym (some_same 0 have (sym (ap (λ (a : CallFacts). option_map type_number a.type) c.facts) ∙ h.0)) ∙ some_same 0 need (sym (ap (λ (a : CallFacts). option_map type_number (slice_get a.outputs 0)) c.facts) ∙ h.1))
   by_output Windows k i c have need l h = h
   by_output WorstCases k i c have need l h = h
   by_output PortWriters k i c have need l h = h
   by_output PortCycles k i c have need l h = h
   by_output AbstractPorts k i c have need l h = h
-  by_output Sensors k i c have need l h = let no : true ≡ false = sym h.2 ∙ c.sensor in cc
-  by_output ConcreteWriters k i c have need l h = let no : false ≡ true = sym (ap not c.abstract) ∙ h.1 in cc
+  by_output Sensors k i c have need l h = let no : true ≡ false = sym h.2 ∙ ap (λ (a : CallFacts). a.sensor) c.facts in cc
+  by_output ConcreteWriters k i c have need l h = let no : false ≡ true = sym (ap (λ (a : CallFacts). not a.abstract) c.facts) ∙ h.1 in cc
   by_output AbstractPlaces k i c have need l h = h
   by_output Parents k i c have need l h = h
   by_output SharedParents k i c have need l h = h

@@ -1,13 +1,13 @@
 -- The event scheduler's steps over lists.
-use Rattle.std.proofs.Common.{arith, ◌≡◌, ℕ, suc, ◌+◌, ◌-◌, ◌<◌, ◌≤◌, length, get_or, set, List, leb, ltb, eqb, ◌&&◌, cond, true, false, sym, ap, ◌∙◌, refl, Option, Some, None, subst, IfSome, get_or-set_same, get_or-set_other, eq-eqb, ne_eqb, ◌⊎◌, inl, inr}
+use Rattle.std.proofs.Common.{arith, ◌≡◌, ℕ, ◌+◌, ◌-◌, ◌<◌, ◌≤◌, length, get_or, set, List, leb, ltb, eqb, ◌&&◌, cond, true, false, sym, ap, ◌∙◌, refl, Option, Some, None, subst, IfSome, get_or-set_same, get_or-set_other, eq-eqb, ne_eqb, ◌⊎◌, inl, inr}
 use Rattle.std.proofs.lemmas.Bool.{cases_eq}
 use Rattle.htl_walk.specs.Jobs.{absent_job}
 use Rattle.htl_edf.specs.declared.rounds.Tight.{Tight}
 use Rattle.htl_edf.specs.Lists.{jobs_of, HoldsAfter, AreTightened, LeftAt, QuietFrom}
 use Rattle.htl_edf.specs.Tight.{release_at, end_at, tight}
-use Rattle.htl_edf.specs.Edf.{earliest, edf, left, maximal_slices, run_for}
+use Rattle.htl_edf.specs.Edf.{earliest, edf, left}
 use Rattle.htl_walk.specs.declared.job.Job.{Job}
-use Rattle.htl_edf.proofs.Ticks.{earliest-same, jump, jump_runs, wait, wait_idles, chosen, Quiet, slices_run, slices_wait, left_start}
+use Rattle.htl_edf.proofs.Ticks.{earliest-same, jump, jump_runs, wait, wait_idles, chosen, Quiet, left_start}
 
 pub edf_from_list : (js : List Job) (ls : List ℕ) (t : ℕ) → LeftAt js ls t → earliest (λ q. leb (release_at (jobs_of js) (length js) q) t && ltb 0 (get_or ls q 0)) (end_at (jobs_of js) (length js)) (length js) ≡ edf (tight (jobs_of js)) t
 unfolding tight edf
@@ -48,17 +48,6 @@ runs_none js t h e l quiet i b = wait_idles (tight (jobs_of js)) t (h - t) e (qu
 
 pub left_none : (js : List Job) (ls : List ℕ) (t h : ℕ) → LeftAt js ls t → edf (tight (jobs_of js)) t ≡ None → t < h → QuietFrom js t h → LeftAt js ls h
 left_none js ls t h lefts e l quiet = record { lefts = λ q b. lefts.lefts q b ∙ sym (let s : t + (h - t) ≡ h = omega arith in rw s at (wait (tight (jobs_of js)) t (h - t) e (quiet_at js t h (omega arith) quiet) (h - t) (omega arith) q)) }
-
--- the slices after an event
-pub slices_some : (run : ℕ → Option ℕ) (t h p : ℕ) → t < h → ((i : ℕ) → t + i < h → run (t + i) ≡ Some p) → maximal_slices run h ≡ run_for p t h (maximal_slices run t)
-slices_some run t h p l r =
-    let e : t + suc (h - t - 1) ≡ h = omega arith in
-    rw e at (slices_run run t (h - t - 1) p (λ i b. r i (omega arith)))
-
-pub slices_idle : (run : ℕ → Option ℕ) (t h : ℕ) → t < h → ((i : ℕ) → t + i < h → run (t + i) ≡ None) → maximal_slices run h ≡ maximal_slices run t
-slices_idle run t h l r =
-    let e : t + (h - t) ≡ h = omega arith in
-    rw e at (slices_wait run t (h - t) (λ i b. r i (omega arith)))
 
 pub left_at_start : (js : List Job) (ls : List ℕ) → ((q : ℕ) → q < length js → get_or ls q 0 ≡ (get_or js q absent_job).worst) → LeftAt js ls 0
 unfolding tight

@@ -1,33 +1,14 @@
-// The slices of earliest deadline first as instructions.
-ghost use Rattle.std.specs.Prelude.{◌≡◌, ◌≤◌, ◌<◌, List, length, IfOk};
-ghost use Rattle.htl_edf.specs.Edf.{Slice, run_for};
+// The slices of earliest deadline first over a whole period as instructions.
+ghost use Rattle.std.specs.Prelude.{◌≡◌, ◌≤◌, length, IfOk};
 ghost use Rattle.htl_edf.specs.Lists.{LeftAt};
 ghost use Rattle.htl_edf.specs.Ranks.{AreRanked};
-ghost use Rattle.htl_edf.specs.Code.{closed_of, open_of, edf_schedule};
+ghost use Rattle.htl_edf.specs.Code.{edf_schedule};
 
-use crate::events::{Ahead, advance, horizon};
+use crate::parts::run_part;
 use crate::ranks::Ranks;
 use htl_base::Time;
 use htl_walk::SInstr;
 use std::alloc::{AllocError, Global};
-
-// Adds that p runs from t to an event. The last slice stays open, since p may go on.
-pub fn record_run(
-    instrs: &mut Vec<SInstr>,
-    last: Option<(u16, u32)>,
-    p: u16,
-    t: u32,
-    event: u32,
-) -> Result<Option<(u16, u32)>, AllocError>
-    ensures { (ss : List Slice) → instrs.old.items ≡ closed_of ss → last ≡ open_of ss → IfOk result (λ o. (o ≡ open_of (run_for p t event ss)) × (instrs.new.items ≡ closed_of (run_for p t event ss))) }
-{
-    if let Some((position, until)) = last {
-        if p != position || until != t {
-            instrs.push(SInstr::Dispatch { position, until })?;
-        }
-    }
-    Ok(Some((p, event)))
-}
 
 /// A dispatch for each maximal slice up to the period, and `End`; the positions have their worst cases left. An event
 /// costs the same however many positions there are; besides, each position is released once.
@@ -43,21 +24,5 @@ pub fn run_all(
     requires period { period ≤ 1000000 }
     ensures { IfOk result (λ v. v.items ≡ edf_schedule ranks.entry.jobs.now period) }
 {
-    let mut instrs = Vec::with_capacity(alloc, ranks.jobs.len() + 1)?;
-    let mut last = None;
-    let mut t = 0;
-    let mut ahead = Ahead::START;
-    while t < period {
-        ahead = horizon(ranks, left, t, ahead, period);
-        let (runs, event) = advance(ranks, left, &mut ahead, t);
-        if let Some(p) = runs {
-            last = record_run(&mut instrs, last, p as u16, t as u32, event as u32)?;
-        }
-        t = event;
-    }
-    if let Some((position, until)) = last {
-        instrs.push(SInstr::Dispatch { position, until })?;
-    }
-    instrs.push(SInstr::End)?;
-    Ok(instrs)
+    run_part(alloc, ranks, left, 0, period, ranks.jobs.len() + 1)
 }

@@ -9,7 +9,7 @@ ghost use Rattle.htl_walk.specs.NodeWalks.{instrs_of as lists_in};
 ghost use Rattle.htl_edf.specs.Windows.{NoOverload, Reported};
 ghost use Rattle.htl_edf.specs.Lists.{tightened, LeftAt};
 ghost use Rattle.htl_edf.specs.Ranks.{AreRanked};
-ghost use Rattle.htl_edf.specs.NodePlans.{AreReady, HasPart, HaveParts, AreNodeLists, ExplainsNodes};
+ghost use Rattle.htl_edf.specs.NodePlans.{AreReady, ArePlannedTo, AreNodeLists, ExplainsNodes};
 
 use crate::events::{Ahead, advance, horizon, start};
 pub use crate::overload::Overload;
@@ -80,21 +80,17 @@ fn plan_lists(
     requires ready { AreReady path.tables.now }
     requires path { path.number < paths_of path.tables.now }
     requires first { first ≤ length (starts_of path.tables.now) }
-    requires count { length v.old.items ≡ nodes_of_frame path.tables.now }
-    requires shared { (i : ℕ) → i < first → HasPart path.tables.now (lists_in v.old.items) path.number i }
-    requires before { HaveParts path.tables.now (lists_in v.old.items) path.number }
+    requires planned { ArePlannedTo path.tables.now v.old.items path.number first }
     requires jobs { ranks.jobs.now ≡ path_jobs_of path.tables.now path.number }
     requires ranked { AreRanked ranks.jobs.now ranks.by_end.now ranks.by_release.now }
     requires left_same { length left.old ≡ length ranks.jobs.now }
     requires lefts { LeftAt ranks.jobs.now left.old 0 }
-    ensures parts { OnOk result ((i : ℕ) → i < length (starts_of path.entry.tables.now) → HasPart path.entry.tables.now (lists_in v.new.items) path.entry.number i) }
-    ensures before { OnOk result (HaveParts path.entry.tables.now (lists_in v.new.items) path.entry.number) }
-    ensures count { OnOk result (length v.new.items ≡ nodes_of_frame path.entry.tables.now) }
+    ensures { OnOk result (ArePlannedTo path.entry.tables.now v.new.items path.entry.number (length (starts_of path.entry.tables.now))) }
 {
     let starts = path.frame.starts;
     run_until(ranks, left, 0, starts[first]);
     for j in first..path.frame.count {
-        let instrs = run_part(alloc, ranks, left, starts[j], starts[j + 1])?;
+        let instrs = run_part(alloc, ranks, left, starts[j], starts[j + 1], 0)?;
         v[node(path.tables, path.frame, path.number, j) as usize] = Schedule {
             instrs: Seq::new(instrs),
         };
@@ -113,12 +109,8 @@ fn plan_path(
     requires ready { AreReady path.tables.now }
     requires path { path.number < paths_of path.tables.now }
     requires first { first ≤ length (starts_of path.tables.now) }
-    requires count { length v.old.items ≡ nodes_of_frame path.tables.now }
-    requires shared { (i : ℕ) → i < first → HasPart path.tables.now (lists_in v.old.items) path.number i }
-    requires before { HaveParts path.tables.now (lists_in v.old.items) path.number }
-    ensures parts { OnOk result ((i : ℕ) → i < length (starts_of path.entry.tables.now) → HasPart path.entry.tables.now (lists_in v.new.items) path.entry.number i) }
-    ensures before { OnOk result (HaveParts path.entry.tables.now (lists_in v.new.items) path.entry.number) }
-    ensures count { OnOk result (length v.new.items ≡ nodes_of_frame path.entry.tables.now) }
+    requires planned { ArePlannedTo path.tables.now v.old.items path.number first }
+    ensures { OnOk result (ArePlannedTo path.entry.tables.now v.new.items path.entry.number (length (starts_of path.entry.tables.now))) }
 {
     let mut room = [Job::ABSENT; MAX_POSITIONS];
     let count = frame_jobs(path.tables, path.frame, path.number, &mut room);

@@ -1,23 +1,44 @@
 //! The parts of earliest deadline first between two starts.
-ghost use Rattle.std.specs.Prelude.{◌≡◌, ◌≤◌, length, IfOk, OnOk};
+ghost use Rattle.std.specs.Prelude.{◌≡◌, ◌≤◌, List, length, IfOk, OnOk};
+ghost use Rattle.htl_edf.specs.Edf.{Slice, run_for};
+ghost use Rattle.htl_edf.specs.Code.{closed_of, open_of};
 ghost use Rattle.htl_edf.specs.Lists.{LeftAt};
 ghost use Rattle.htl_edf.specs.Parts.{part};
 ghost use Rattle.htl_edf.specs.Ranks.{AreRanked};
 
-use crate::dispatches::record_run;
 use crate::events::{Ahead, advance, horizon};
 use crate::ranks::Ranks;
 use htl_base::Time;
 use htl_walk::SInstr;
 use std::alloc::{AllocError, Global};
 
-/// A dispatch for each maximal slice from one instant to another, and `End`; what the positions have left goes on.
+// Adds that p runs from t to an event. The last slice stays open, since p may go on.
+fn record_run(
+    instrs: &mut Vec<SInstr>,
+    last: Option<(u16, u32)>,
+    p: u16,
+    t: u32,
+    event: u32,
+) -> Result<Option<(u16, u32)>, AllocError>
+    ensures { (ss : List Slice) → instrs.old.items ≡ closed_of ss → last ≡ open_of ss → IfOk result (λ o. (o ≡ open_of (run_for p t event ss)) × (instrs.new.items ≡ closed_of (run_for p t event ss))) }
+{
+    if let Some((position, until)) = last {
+        if p != position || until != t {
+            instrs.push(SInstr::Dispatch { position, until })?;
+        }
+    }
+    Ok(Some((p, event)))
+}
+
+/// A dispatch for each maximal slice from one instant to another, and `End`, with room for so many instructions at first; what
+/// the positions have left goes on.
 pub fn run_part(
     alloc: Global,
     ranks: Ranks<'_>,
     left: &mut [Time],
     from: Time,
     to: Time,
+    room: usize,
 ) -> Result<Vec<SInstr>, AllocError>
     requires ranked { AreRanked ranks.jobs.now ranks.by_end.now ranks.by_release.now }
     requires left_same { length left.old ≡ length ranks.jobs.now }
@@ -28,7 +49,7 @@ pub fn run_part(
     ensures left_same { length left.new ≡ length left.old }
     ensures lefts { OnOk result (LeftAt ranks.entry.jobs.now left.new to) }
 {
-    let mut instrs = Vec::new(alloc);
+    let mut instrs = Vec::with_capacity(alloc, room)?;
     let mut last = None;
     let mut t = from;
     let mut ahead = Ahead::START;

@@ -1,22 +1,20 @@
 -- The test for cycles of ports finds what the rule says.
-use Rattle.std.proofs.Common.{◌≡◌, ◌<◌, ◌≤◌, ℕ, zero, suc, ◌+◌, Bool, true, false, not, ◌&&◌, ◌||◌, cond, eqb, List, [], ◌∷◌, length, Option, Some, None, refl, sym, ◌∙◌, ap, subst, arith, inl, inr}
+use Rattle.std.proofs.Common.{◌≡◌, ◌<◌, ◌≤◌, ℕ, zero, suc, Bool, true, false, not, ◌&&◌, ◌||◌, eqb, List, length, Some, refl, sym, ◌∙◌, ap, arith}
 use Rattle.std.specs.Prelude.{slice_get}
 use Rattle.std.specs.List.{list_any}
-use Rattle.std.proofs.lemmas.Bool.Decides.{nat_tests}
 use Rattle.std.proofs.lemmas.Cmp.{nat_eq_equiv}
 use Rattle.std.proofs.lemmas.Map.Made.{length-from_same_keys}
 use Rattle.std.proofs.lemmas.Map.Views.{list_any-from_Contains, Contains-from_any}
-use Rattle.std.proofs.lemmas.Option.{slice_get_within}
-use Rattle.htl_model.proofs.NumbersBelow.{has_number, number_has, numbers_once, length_numbers}
-use Rattle.htl_model.proofs.PortChains.{leads_from, leads_within, feeds_within}
+use Rattle.htl_model.proofs.NumbersBelow.{length_numbers}
+use Rattle.htl_model.proofs.PortChains.{leads_from, leads_within, feeds_within, cycles_listed}
 use Rattle.htl_model.specs.declared.parts.Inv.{Inv}
 use Rattle.htl_model.specs.NumbersBelow.{numbers_below}
-use Rattle.htl_model.specs.PortOrder.{leads_below, feeds, Precedes, IsOnCycle, AreOnCycles, InCycle}
+use Rattle.htl_model.specs.PortOrder.{leads_below, feeds, Precedes, AreOnCycles, InCycle}
 use Rattle.htl_model.specs.Ranges.{AreInRange}
 use Rattle.htl_model.specs.Tables.{Tables}
 use Rattle.htl_form.proofs.Finding.{Finds, finds_unless}
-use Rattle.htl_model.proofs.TestLaws.{either, both, on_left, on_right, and_true, agree, equal, same_number, last}
-use Rattle.htl_form.specs.Cycles.{precedes_itself, is_of_mode, is_on_cycle, cycle_count, cycle_fault}
+use Rattle.htl_model.proofs.TestLaws.{agree, same_number}
+use Rattle.htl_form.specs.Cycles.{precedes_itself, is_on_cycle, cycle_count, cycle_fault}
 
 -- ---- what leads to what
 
@@ -40,28 +38,8 @@ true_precedes t k h = leads_within (feeds t) (length t.invs) (feeds_within t) k 
 
 -- ---- the rule
 
-on_cycle_true : (t : Tables) (m k : ℕ) → is_on_cycle t m k ≡ true → IsOnCycle t m k
-on_cycle_true t m k h =
-    let parts = both (is_of_mode m (slice_get t.invs k)) (precedes_itself t k) h in
-    by (slice_get t.invs k) refl parts.0 (precedes_true t k parts.1)
-  where
-    by : (o : Option Inv) → slice_get t.invs k ≡ o → is_of_mode m o ≡ true → Precedes t k k → IsOnCycle t m k
-    by (Some i) e h p = record { inv = i; at = e; mode = grind (arith, nat_tests); cycle = p }
-    by None e h p = cc
-
-true_on_cycle : (t : Tables) (m k : ℕ) → IsOnCycle t m k → is_on_cycle t m k ≡ true
-true_on_cycle t m k c =
-    ap (λ o. is_of_mode m o && precedes_itself t k) c.at ∙ ap (λ b. eqb c.inv.mode m && b) (true_precedes t k c.cycle) ∙ and_true (eqb c.inv.mode m) true (equal c.inv.mode m c.mode)
-
 listed : (t : Tables) (m : ℕ) → AreOnCycles t m (numbers_below (is_on_cycle t m) (length t.invs))
-listed t m =
-    let p : ℕ → Bool = is_on_cycle t m in
-    let n : ℕ = length t.invs in
-    record {
-      once = numbers_once p n;
-      only = λ k h. on_cycle_true t m k (has_number p n k (list_any-from_Contains nat_eq_equiv k (numbers_below p n) h)).1;
-      all = λ k h. Contains-from_any same_number k (numbers_below p n) (number_has p n k (slice_get_within t.invs k h.inv h.at) (true_on_cycle t m k h));
-    }
+listed t m = cycles_listed t m (precedes_itself t) (precedes_true t) (true_precedes t)
 
 -- two such lists are equally long
 equally_long : (t : Tables) (m : ℕ) (xs ys : List ℕ) → AreOnCycles t m xs → AreOnCycles t m ys → length xs ≡ length ys

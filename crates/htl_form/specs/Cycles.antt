@@ -1,18 +1,14 @@
 -- What the test for cycles of ports finds.
-use Rattle.std.specs.Prelude.{ℕ, Bool, false, eqb, not, ◌&&◌, length, slice_get, Option, Some, None}
+use Rattle.std.specs.Prelude.{ℕ, Bool, not, ◌&&◌, length, slice_get}
 use Rattle.htl_model.specs.declared.parts.Inv.{Inv}
 use Rattle.htl_model.specs.NumbersBelow.{count_below}
-use Rattle.htl_model.specs.PortOrder.{leads_below, feeds}
+use Rattle.htl_model.specs.PortOrder.{leads_below, feeds, is_of_mode}
 use Rattle.htl_model.specs.Tables.{Tables}
 use Rattle.htl_model.specs.Found.{Found, unless}
 
 -- whether an invocation precedes itself by the ports
 unfoldable pub precedes_itself : Tables → ℕ → Bool
 precedes_itself t k = leads_below (feeds t) (length t.invs) k k
-
-abbrev pub is_of_mode : ℕ → Option Inv → Bool
-is_of_mode m (Some i) = eqb i.mode m
-is_of_mode m None = false
 
 -- whether an invocation of the mode precedes itself
 abbrev pub is_on_cycle : Tables → ℕ → ℕ → Bool

@@ -1,11 +1,19 @@
 // The tests of the rules on the ends of invocations.
 ghost use Rattle.std.specs.Prelude.{◌≡◌, ◌*◌, Some, length, slice_get, option_map};
 ghost use Rattle.htl_model.specs.EndRules.{input_types as input_types_of, output_types as output_types_of, type_number as type_number_of, end_type as end_type_of, is_sensor as is_sensor_of};
+ghost use Rattle.htl_model.specs.Found.{unless as unless_of};
 ghost use Rattle.htl_form.specs.EndFaults.{read_offset_fault as read_offset_fault_of, write_offset_fault as write_offset_fault_of, unless_equal as unless_equal_of, count_fault as count_fault_of, type_fault as type_fault_of, sensor_fault as sensor_fault_of};
 
 use htl_base::Ty;
 use htl_model::lookup::{comm_period, mode_period};
 use htl_model::{End, Inv, Tables};
+
+// Nothing where it holds, else what there is and what there ought to be.
+fn unless(holds: bool, have: u64, need: u64) -> Option<(u64, u64)>
+    ensures { result ≡ unless_of holds have need }
+{
+    if holds { None } else { Some((have, need)) }
+}
 
 /// Rule 4 at an input.
 pub fn read_offset_fault(t: &Tables, inv: &Inv, end: End) -> Option<(u64, u64)>
@@ -15,11 +23,7 @@ pub fn read_offset_fault(t: &Tables, inv: &Inv, end: End) -> Option<(u64, u64)>
         End::Comm { comm, instance } => {
             let offset = instance as u64 * comm_period(t, comm) as u64;
             let period = mode_period(t, inv.mode) as u64;
-            if offset < period {
-                None
-            } else {
-                Some((offset, period))
-            }
+            unless(offset < period, offset, period)
         }
         End::Port { .. } => None,
     }
@@ -33,11 +37,7 @@ pub fn write_offset_fault(t: &Tables, inv: &Inv, end: End) -> Option<(u64, u64)>
         End::Comm { comm, instance } => {
             let offset = instance as u64 * comm_period(t, comm) as u64;
             let period = mode_period(t, inv.mode) as u64;
-            if 0 < offset && !(period < offset) {
-                None
-            } else {
-                Some((offset, period))
-            }
+            unless(0 < offset && !(period < offset), offset, period)
         }
         End::Port { .. } => None,
     }
@@ -70,11 +70,7 @@ pub fn output_types(t: &Tables, task: u16) -> &[Ty]
 fn unless_equal(have: u64, need: u64) -> Option<(u64, u64)>
     ensures { result ≡ unless_equal_of have need }
 {
-    if have == need {
-        None
-    } else {
-        Some((have, need))
-    }
+    unless(have == need, have, need)
 }
 
 /// Rule 5 at an invocation: how many inputs, then how many outputs.

@@ -8,6 +8,7 @@ ghost use Rattle.htl_model.specs.PortWriters.{is_port as is_port_of, port_uses, 
 
 use crate::survey::Survey;
 use htl_base::limits::MAX_PORTS;
+use htl_model::search::EndSite;
 use htl_model::{End, Inv, Tables};
 
 /// How many ends are the port.
@@ -158,20 +159,13 @@ pub fn unwritten_fault(t: &Tables, survey: &Survey, end: End) -> Option<(u64, u6
 }
 
 /// An output that writes a port that an earlier output writes.
-pub fn rewritten_fault(
-    t: &Tables,
-    survey: &Survey,
-    k: u16,
-    inv: &Inv,
-    j: usize,
-    end: End,
-) -> Option<(u64, u64)>
+pub fn rewritten_fault(t: &Tables, survey: &Survey, site: EndSite<'_>) -> Option<(u64, u64)>
     requires survey { IsSurveyOf t.now survey.now }
-    requires inv { slice_get t.now.invs k ≡ Some inv.now }
-    requires output { slice_get inv.now.writes j ≡ Some end }
-    ensures { result ≡ rewritten_fault_of t.now k inv.now j end }
+    requires inv { slice_get t.now.invs site.number ≡ Some site.inv.now }
+    requires output { slice_get site.inv.now.writes site.place ≡ Some site.end }
+    ensures { result ≡ rewritten_fault_of t.now site.entry.number site.entry.inv.now site.entry.place site.entry.end }
 {
-    let port = match end {
+    let port = match site.end {
         End::Comm { .. } => return None,
         End::Port { port } => port,
     };
@@ -179,7 +173,7 @@ pub fn rewritten_fault(
     if count < 2 {
         return None;
     }
-    if is_written_before(t, survey, port, k, inv, j) {
+    if is_written_before(t, survey, port, site.number, site.inv, site.place) {
         Some((count as u64, 1))
     } else {
         None

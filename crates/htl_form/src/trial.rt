@@ -90,19 +90,13 @@ impl Tries<Rule> for Overview {
 
     // What it finds at an output of an invocation.
     fn of_output(&self, t: &Tables, rule: Rule, site: EndSite<'_>) -> Option<(u64, u64)> {
-        let EndSite {
-            number,
-            inv,
-            place,
-            end,
-        } = site;
         match rule {
-            Rule::Divides => end_divides_fault(t, inv, end),
-            Rule::Offsets => write_offset_fault(t, inv, end),
-            Rule::Ends => type_fault(t, output_types(t, inv.task), place, end),
-            Rule::PortWriters => rewritten_fault(t, &self.survey, number, inv, place, end),
-            Rule::Sensors => sensor_fault(t, place, end),
-            Rule::ConcreteWriters => writer_fault(t, &self.survey, number, inv, place, end),
+            Rule::Divides => end_divides_fault(t, site.inv, site.end),
+            Rule::Offsets => write_offset_fault(t, site.inv, site.end),
+            Rule::Ends => type_fault(t, output_types(t, site.inv.task), site.place, site.end),
+            Rule::PortWriters => rewritten_fault(t, &self.survey, site),
+            Rule::Sensors => sensor_fault(t, site.place, site.end),
+            Rule::ConcreteWriters => writer_fault(t, &self.survey, site),
             _ => None,
         }
     }

@@ -9,6 +9,7 @@ use crate::paths::stand_together;
 use crate::survey::Survey;
 use htl_model::items::{inv_at, inv_count};
 use htl_model::lookup::is_concrete;
+use htl_model::search::EndSite;
 use htl_model::{End, Inv, Tables};
 
 /// An instance of a communicator.
@@ -89,30 +90,23 @@ fn first_writer(t: &Tables, k: u16, inv: &Inv, j: usize, what: Instance) -> Opti
 }
 
 /// An output of a concrete invocation that writes what an earlier concrete writer writes.
-pub fn writer_fault(
-    t: &Tables,
-    survey: &Survey,
-    k: u16,
-    inv: &Inv,
-    j: usize,
-    end: End,
-) -> Option<(u64, u64)>
+pub fn writer_fault(t: &Tables, survey: &Survey, site: EndSite<'_>) -> Option<(u64, u64)>
     requires survey { IsSurveyOf t.now survey.now }
-    requires inv { slice_get t.now.invs k ≡ Some inv.now }
-    requires output { slice_get inv.now.writes j ≡ Some end }
-    ensures { result ≡ writer_fault_of t.now k inv.now j end }
+    requires inv { slice_get t.now.invs site.number ≡ Some site.inv.now }
+    requires output { slice_get site.inv.now.writes site.place ≡ Some site.end }
+    ensures { result ≡ writer_fault_of t.now site.entry.number site.entry.inv.now site.entry.place site.entry.end }
 {
     t.keeps_ranges();
-    match end {
+    match site.end {
         End::Comm { comm, instance } => {
-            if !is_concrete(t, inv) || survey.apart[k as usize] {
+            if !is_concrete(t, site.inv) || survey.apart[site.number as usize] {
                 return None;
             }
             match first_writer(
                 t,
-                k,
-                inv,
-                j,
+                site.number,
+                site.inv,
+                site.place,
                 Instance {
                     comm,
                     number: instance,

@@ -1,5 +1,5 @@
 -- What the lists of starts, rounds and positions of a frame hold.
-use Rattle.std.proofs.Common.{◌≡◌, ◌<◌, ◌⊎◌, ℕ, zero, suc, ◌+◌, ◌%◌, Bool, true, false, cond, ◌||◌, eqb, List, [], ◌∷◌, ◌++◌, length, map, slice_get, Option, Some, sym, ◌∙◌, ap, subst, arith, inl, inr}
+use Rattle.std.proofs.Common.{◌≡◌, ◌<◌, ◌⊎◌, ℕ, zero, suc, ◌+◌, ◌%◌, Bool, true, false, cond, eqb, List, [], ◌∷◌, ◌++◌, length, slice_get, Option, Some, sym, ◌∙◌, ap, subst, arith, inl, inr}
 use Rattle.std.proofs.lemmas.Bool.{eq-eqb}
 use Rattle.htl_model.specs.declared.frame.Round.{Round}
 use Rattle.htl_model.specs.Frames.{unit_period, root_periods, frame_of, begins, starts_below, starts, rounds_of, rounds_at, rounds, places_of}
@@ -9,6 +9,7 @@ use Rattle.htl_refine.specs.ConcreteJobs.{running_invs}
 use Rattle.htl_refine.specs.FramePlaces.{place}
 use Rattle.htl_refine.specs.FrameRuns.{running_places}
 use Rattle.htl_refine.proofs.Inherit.{map_at}
+use Rattle.htl_refine.proofs.ListsFollow.{begins_by}
 use Rattle.htl_refine.proofs.Members.{front_at, back_at, in_flat}
 use Rattle.htl_walk.proofs.Finishes.{some_same}
 use Rattle.htl_refine.proofs.RecordOrder.{not_some}
@@ -27,18 +28,6 @@ below_start ps (suc h) a l e = by (either a h l) (λ less. below_start ps h a le
     by (inr same) ih =
         let test : begins ps h ≡ true = ap (begins ps) (sym same) ∙ e in
         (length (starts_below ps h) + 0, back_at (starts_below ps h) (cond (begins ps h) (h ∷ []) []) 0 a (ap (λ b. slice_get (cond b (h ∷ []) []) 0) test ∙ ap (λ z. Some z) (sym same)))
-
-pub begins_by : (t : Tables) (us : List ℕ) (j u a : ℕ) → slice_get us j ≡ Some u → a % unit_period t u ≡ 0 → begins (map (unit_period t) us) a ≡ true
-begins_by t [] j u a e g = not_some u e
-begins_by t (v ∷ us) zero u a e g =
-    left (eqb (a % unit_period t v) 0) (begins (map (unit_period t) us) a) (ap (λ z. eqb (a % unit_period t z) 0) (some_same v u e) ∙ eq-eqb (a % unit_period t u) 0 g)
-  where
-    left : (b c : Bool) → b ≡ true → (b || c) ≡ true
-    left b c e = grind arith
-begins_by t (v ∷ us) (suc j) u a e g = right (eqb (a % unit_period t v) 0) (begins (map (unit_period t) us) a) (begins_by t us j u a e g)
-  where
-    right : (b c : Bool) → c ≡ true → (b || c) ≡ true
-    right b c e = grind arith
 
 -- ---- rounds
 

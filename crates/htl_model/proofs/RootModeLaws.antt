@@ -27,10 +27,8 @@ pub modes_rise : (t : Tables) → AreInRange t → Rises (λ (m : Mode). m.«mod
 modes_rise t r = rises (λ (m : Mode). m.«module») t.modes r.modes_by_module
 
 -- all modes are of modules
-pub modes_all : (t : Tables) (modes : List Mode) (n : ℕ) → AreInRange t → modes ≡ t.modes → n ≡ length t.modules → length modes ≡ modes_below modes n
-modes_all t modes n r same count =
-    sym (all_below (λ (m : Mode). m.«module») n modes
-    (λ p x at. let owner = (all_at (IsModeInRange t) t.modes p x r.modes (sym (ap (λ (z : List Mode). slice_get z p) same) ∙ at)).owner in omega arith))
+pub modes_all : (t : Tables) (n : ℕ) → AreInRange t → n ≡ length t.modules → length t.modes ≡ modes_below t.modes n
+modes_all t n r count = sym (all_below (λ (m : Mode). m.«module») n t.modes (λ p x at. let owner = (all_at (IsModeInRange t) t.modes p x r.modes at).owner in omega arith))
 
 -- the modes of a module are those between
 pub modes_between : (t : Tables) (u first end : ℕ) → first ≡ modes_below t.modes u → end ≡ modes_below t.modes (u + 1) → length (modes_of t u) ≡ end - first

@@ -3,7 +3,7 @@ use Rattle.std.specs.Prelude.{ℕ, Bool, true, false, List, [], ◌∷◌, Optio
 use Rattle.htl_base.specs.declared.Ty.{Ty}
 use Rattle.htl_base.specs.declared.Ty.TheVariants.{Int as IntTy, Bool as BoolTy}
 use Rattle.htl_base.specs.declared.operator.UnOp.TheVariants.{Not}
-use Rattle.htl_base.specs.declared.operator.BinOp.TheVariants.{Add, Mul, Ge}
+use Rattle.htl_base.specs.declared.operator.BinOp.TheVariants.{Add, Sub, Mul, Div, Lt, Gt, Ge}
 use Rattle.htl_model.specs.declared.parts.Comm.{Comm}
 use Rattle.htl_model.specs.declared.parts.Mode.{Mode}
 use Rattle.htl_model.specs.declared.parts.Module.{Module}
@@ -12,7 +12,7 @@ use Rattle.htl_model.specs.declared.parts.Inv.{Inv}
 use Rattle.htl_model.specs.declared.parts.Switch.{Switch}
 use Rattle.htl_model.specs.declared.parts.End.{End}
 use Rattle.htl_model.specs.declared.parts.End.TheVariants as E
-use Rattle.htl_model.specs.Functions.{Term, Number, Arg, Unary, Binary}
+use Rattle.htl_model.specs.Functions.{Term, Number, Arg, Unary, Binary, Choose}
 use Rattle.htl_model.specs.Tables.{Tables, Fun, Formula}
 
 abbrev pub plain : List ℕ → ℕ → ℤ → Comm
@@ -149,4 +149,38 @@ alternating =
       functions = formula (Binary 0 Add (Arg 0 0) (Number 0 (pos 1)))
           ∷ formula (Binary 0 Add (Arg 0 0) (Number 0 (pos 100)))
           ∷ formula (Arg 0 0) ∷ formula (Unary 0 Not (Arg 0 0)) ∷ [];
+    }
+
+-- two tanks: the controller of the first is abstract, and a module of two modes refines it
+abbrev pub tanks : Tables
+tanks =
+    record {
+      comms = sensor (codes "h1") IntTy 100 ∷ sensor (codes "h2") IntTy 100 ∷ plain (codes "u1") 100 (pos 0) ∷ plain (codes "u2") 100 (pos 0) ∷ [];
+      modes = mode (codes "hold") 0 500 ∷ mode (codes "p") 1 500 ∷ mode (codes "pi") 1 500 ∷ mode (codes "hold") 2 500 ∷ [];
+      modules = module_named (codes "T1") None 0 ∷ module_named (codes "C1") (Some 0) 1 ∷ module_named (codes "T2") None 3 ∷ [];
+      ports = [];
+      tasks = task (codes "ctrl") 0 true 120 int_one ∷ task (codes "prop") 1 false 60 int_one ∷ task (codes "damp") 1 false 110 int_one ∷ task (codes "direct") 2 false 100 int_one ∷ [];
+      invs = call 0 0 None (E.Comm 0 1 ∷ []) (E.Comm 2 4 ∷ [])
+          ∷ call 1 1 (Some 0) (E.Comm 0 1 ∷ []) (E.Comm 2 4 ∷ [])
+          ∷ call 2 2 (Some 0) (E.Comm 0 1 ∷ []) (E.Comm 2 4 ∷ [])
+          ∷ call 3 3 None (E.Comm 1 1 ∷ []) (E.Comm 3 4 ∷ []) ∷ [];
+      switches = switch 1 2 2 ∷ [];
+      functions = formula (Binary 0 Mul (Binary 0 Sub (Number 0 (pos 400)) (Arg 0 0)) (Number 0 (pos 2)))
+          ∷ formula (Binary 0 Div (Binary 0 Mul (Binary 0 Sub (Number 0 (pos 400)) (Arg 0 0)) (Number 0 (pos 3))) (Number 0 (pos 2)))
+          ∷ formula (Choose 0 (Binary 0 Lt (Arg 0 0) (Number 0 (pos 350))) (Number 0 (pos 100)) (Number 0 (pos 0)))
+          ∷ formula (Binary 0 Gt (Arg 0 0) (Number 0 (pos 350))) ∷ [];
+    }
+
+-- two modules of periods 10 and 20
+abbrev pub two_periods : Tables
+two_periods =
+    record {
+      comms = plain (codes "u") 10 (pos 1) ∷ plain (codes "w") 10 (pos 0) ∷ [];
+      modes = mode (codes "m") 0 10 ∷ mode (codes "m") 1 20 ∷ [];
+      modules = module_named (codes "F") None 0 ∷ module_named (codes "G") None 1 ∷ [];
+      ports = [];
+      tasks = task (codes "a") 0 false 3 int_one ∷ task (codes "b") 1 false 9 int_one ∷ [];
+      invs = call 0 0 None (E.Comm 0 0 ∷ []) (E.Comm 0 1 ∷ []) ∷ call 1 1 None (E.Comm 0 0 ∷ []) (E.Comm 1 2 ∷ []) ∷ [];
+      switches = [];
+      functions = formula (Binary 0 Add (Arg 0 0) (Number 0 (pos 1))) ∷ formula (Binary 0 Mul (Arg 0 0) (Number 0 (pos 10))) ∷ [];
     }

@@ -35,6 +35,10 @@ feeds t a b = feeds_at (slice_get t.invs a) (slice_get t.invs b)
 abbrev pub Precedes : Tables → ℕ → ℕ → Type 0
 Precedes t a b = Leads (feeds t) a b
 
+abbrev pub is_of_mode : ℕ → Option Inv → Bool
+is_of_mode m (Some i) = eqb i.mode m
+is_of_mode m None = false
+
 -- the invocation is one of the mode, and precedes itself
 pub record IsOnCycle (t : Tables) (m k : ℕ) : Type 0 where
   pub inv : Inv

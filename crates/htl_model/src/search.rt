@@ -80,6 +80,17 @@ pub trait Tries<R: Copy> {
 
 // ---- at an invocation
 
+fn site_at<'a>(number: u16, inv: &'a Inv, place: usize, end: End) -> EndSite<'a>
+    ensures { result ≡ record { number = number; inv = inv.entry; place = place; end = end } }
+{
+    EndSite {
+        number,
+        inv,
+        place,
+        end,
+    }
+}
+
 fn first_input<R: Copy, C: Tries<R>>(
     t: &Tables,
     counts: &C,
@@ -95,12 +106,7 @@ fn first_input<R: Copy, C: Tries<R>>(
     }
     let ends = inv.reads.as_slice();
     for j in 0..ends.len() {
-        let site = EndSite {
-            number: k,
-            inv,
-            place: j,
-            end: ends[j],
-        };
+        let site = site_at(k, inv, j, ends[j]);
         if let Some(found) = counts.of_input(t, rule, site) {
             return Some(found);
         }
@@ -124,12 +130,7 @@ fn first_output<R: Copy, C: Tries<R>>(
     }
     let ends = inv.writes.as_slice();
     for j in 0..ends.len() {
-        let site = EndSite {
-            number: k,
-            inv,
-            place: j,
-            end: ends[j],
-        };
+        let site = site_at(k, inv, j, ends[j]);
         if let Some(found) = counts.of_output(t, rule, site) {
             return Some(found);
         }

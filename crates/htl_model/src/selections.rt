@@ -1,6 +1,5 @@
 //! Root selections and their positions.
-ghost use Rattle.std.specs.Prelude.{◌≡◌, ◌≤◌, ◌<◌, ◌+◌, ◌*◌, ◌-◌, ◌/◌, ◌%◌, ◌^◌, min, cond, length, get_or, slice_get, drop, map, None, Some, MatchOption};
-ghost use Rattle.std.specs.List.Sorted.{IsNonDecreasing};
+ghost use Rattle.std.specs.Prelude.{◌≡◌, ◌≤◌, ◌<◌, ◌+◌, ◌*◌, ◌-◌, ◌/◌, ◌%◌, ◌^◌, min, cond, length, get_or, slice_get, drop, None, Some, MatchOption};
 ghost use Rattle.htl_base.specs.declared.limits.TheConstants as limit;
 ghost use Rattle.htl_model.specs.Ranges.{AreInRange};
 ghost use Rattle.htl_model.specs.RootModes.{AreRootModes, modes_below};
@@ -8,7 +7,7 @@ ghost use Rattle.htl_model.specs.Selections.{is_root as is_root_of, root_modules
 
 use crate::choice::is_running;
 use crate::lookup::{lists, mode_period};
-use crate::{Mode, Module, Tables};
+use crate::{Module, Tables};
 use htl_base::Time;
 use htl_base::limits::MAX_MODULES;
 
@@ -68,12 +67,13 @@ pub fn mode_at(t: &Tables, module: u16, place: u32) -> u16
 }
 
 // The first mode of a module whose last one stands in front of `end`.
-fn first_mode(modes: &[Mode], module: u16, end: usize) -> usize
-    requires rising { IsNonDecreasing (map (λ m. m.«module») modes.now) }
-    requires end { end ≡ modes_below modes.now («module» + 1) }
-    ensures first { result ≡ modes_below modes.now «module» }
+fn first_mode(t: &Tables, module: u16, end: usize) -> usize
+    requires { end ≡ modes_below t.now.modes («module» + 1) }
+    ensures first { result ≡ modes_below t.now.modes «module» }
     ensures front { result ≤ end }
 {
+    t.keeps_ranges();
+    let modes = lists(t).modes.as_slice();
     let mut first = end;
     while first > 0 && modes[first - 1].module == module {
         first -= 1;
@@ -108,7 +108,7 @@ pub fn choices(t: &Tables, from: usize) -> u64
     let mut k = modules.len();
     while k > from {
         k -= 1;
-        let first = first_mode(modes, k as u16, end);
+        let first = first_mode(t, k as u16, end);
         n = more_choices(n, (end - first) as u64, &modules[k]);
         end = first;
     }
@@ -145,7 +145,7 @@ pub fn root_modes(t: &Tables, selection: u32) -> [Option<u16>; MAX_MODULES]
     let mut k = modules.len();
     while k > 0 {
         k -= 1;
-        let first = first_mode(modes, k as u16, end);
+        let first = first_mode(t, k as u16, end);
         let (mode, before) = digit(&modules[k], first, end, digits);
         entries[k] = mode;
         digits = before;

@@ -105,28 +105,9 @@ beyond-law tokens a b left cut stop after t rest is begins =
     let l3 = x.size in
     not-both x.m x.k left (source_at (tokens_numbered 0 tokens)) begins.1.0 stop (omega (arith, l1, l2, l3)) same
 
-misfit-by : (tokens : List Token) (r : Read (List PlainProgram)) → source_at (tokens_numbered 0 tokens) ≡ r → Tells SpellsSource (tokens_numbered 0 tokens) r → (k : ℕ) × (IsMisfit tokens k × (length tokens ≡ k + length (left_of r)))
-misfit-by tokens (Ok x) read t =
-    let c = cut-at 0 tokens t.fronts.front x.1 (t.fronts.whole ∙ t.fronts.each x.1) in
-    let l1 : length tokens ≡ length (c.a ++ c.b) = ap length c.cut in
-    let l2 : length x.1 ≡ length c.b = ap length c.after ∙ length-numbered (0 + length c.a) c.b in
-    let l3 = length-append c.a c.b in (
-      length c.a,
-      (
-        record {
-          front = c.a;
-          back = c.b;
-          cut = c.cut;
-          place = refl;
-          begins = ([], (x.0, subst (λ (ts : List Placed). SpellsSource ts x.0 []) (t.fronts.each [] ∙ c.before [] ∙ onto-numbered 0 (0 + length c.a) c.a [] refl) (t.spells [])));
-          beyond = beyond-law tokens c.a c.b x.1 c.cut (ap left_of read) c.after;
-        },
-        omega (arith, l1, l2, l3),
-      ),
-    )
-misfit-by tokens (Err left) read v =
-    let c = cut-at 0 tokens v.fronts.front left (v.fronts.whole ∙ v.fronts.each left) in
-    let e = v.ends (0 + length c.a) [] in
+misfit-cut : (tokens : List Token) (front left : List Placed) (c : Cut 0 tokens front left) → left_of (source_at (tokens_numbered 0 tokens)) ≡ left → Begins c.a
+    → (k : ℕ) × (IsMisfit tokens k × (length tokens ≡ k + length left))
+misfit-cut tokens front left c stop begins =
     let l1 : length tokens ≡ length (c.a ++ c.b) = ap length c.cut in
     let l2 : length left ≡ length c.b = ap length c.after ∙ length-numbered (0 + length c.a) c.b in
     let l3 = length-append c.a c.b in (
@@ -137,17 +118,27 @@ misfit-by tokens (Err left) read v =
           back = c.b;
           cut = c.cut;
           place = refl;
-          begins = (
-            v.fin,
-            (
-              e.0,
-              subst (λ (ts : List Placed). SpellsSource ts e.0 [])
-                  (v.fronts.each (onto (0 + length c.a) v.fin []) ∙ c.before (onto (0 + length c.a) v.fin []) ∙ onto-numbered 0 (0 + length c.a) c.a v.fin refl) e.1,
-            ),
-          );
-          beyond = beyond-law tokens c.a c.b left c.cut (ap left_of read) c.after;
+          begins = begins;
+          beyond = beyond-law tokens c.a c.b left c.cut stop c.after;
         },
         omega (arith, l1, l2, l3),
+      ),
+    )
+
+misfit-by : (tokens : List Token) (r : Read (List PlainProgram)) → source_at (tokens_numbered 0 tokens) ≡ r → Tells SpellsSource (tokens_numbered 0 tokens) r → (k : ℕ) × (IsMisfit tokens k × (length tokens ≡ k + length (left_of r)))
+misfit-by tokens (Ok x) read t =
+    let c = cut-at 0 tokens t.fronts.front x.1 (t.fronts.whole ∙ t.fronts.each x.1) in
+    misfit-cut tokens t.fronts.front x.1 c (ap left_of read)
+    ([], (x.0, subst (λ (ts : List Placed). SpellsSource ts x.0 []) (t.fronts.each [] ∙ c.before [] ∙ onto-numbered 0 (0 + length c.a) c.a [] refl) (t.spells [])))
+misfit-by tokens (Err left) read v =
+    let c = cut-at 0 tokens v.fronts.front left (v.fronts.whole ∙ v.fronts.each left) in
+    let e = v.ends (0 + length c.a) [] in
+    misfit-cut tokens v.fronts.front left c (ap left_of read) (
+      v.fin,
+      (
+        e.0,
+        subst (λ (ts : List Placed). SpellsSource ts e.0 [])
+            (v.fronts.each (onto (0 + length c.a) v.fin []) ∙ c.before (onto (0 + length c.a) v.fin []) ∙ onto-numbered 0 (0 + length c.a) c.a v.fin refl) e.1,
       ),
     )
 

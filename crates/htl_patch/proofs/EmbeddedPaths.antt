@@ -12,7 +12,7 @@ use Rattle.htl_model.specs.Selections.{root_modules, modes_of, invs_of}
 use Rattle.htl_model.specs.Tables.{Tables, mode_period, task_worst, release, window_end}
 use Rattle.htl_walk.specs.declared.job.Job.{Job}
 use Rattle.htl_walk.specs.Jobs.{absent_job, mask, is_fed_by}
-use Rattle.htl_walk.specs.PathJobs.{placed_job, placed_jobs, path_jobs, next_of, legs_of, legs}
+use Rattle.htl_walk.specs.PathJobs.{job_in, placed_job, placed_jobs, path_jobs, next_of, legs_of, legs}
 use Rattle.htl_walk.specs.Paths.{Leg}
 use Rattle.htl_load.specs.Alike.{unnumbered, AreAlike, AskTheSame}
 use Rattle.htl_patch.proofs.Embedded.{IsRootMode, IsRootCall, Embeds, AllRoots, roots_later, mode_by, mode_same, root_mode_has}
@@ -198,15 +198,7 @@ module _ (t u : Tables) (unit mode call : ℕ → ℕ) (e : Embeds t u unit mode
       ∙ ap (λ bs. (eqb x.at a && is_fed_by t k x.inv) ∷ bs) (masks_same a k is xs (λ j y h. all (suc j) y h))
 
   abbrev made : Tables → List Place → ℕ → ℕ → Inv → Job
-  made v all a k i =
-      record {
-        present = true;
-        inv = k;
-        release = a + release v i;
-        end = a + window_end v i;
-        worst = task_worst v i.task;
-        preds = mask (map (λ (y : Place). eqb y.at a && is_fed_by v k y.inv) all);
-      }
+  made v all a k i = job_in v all a k (Some i)
 
   job_is : (v : Tables) (all : List Place) (a k : ℕ) (i : Inv) → slice_get v.invs k ≡ Some i → placed_job v all (record { inv = Some k; at = a }) ≡ made v all a k i
   job_is v all a k i at = ap (λ (o : Option Inv). elim o as (λ _. Job) [ None ↦ absent_job | Some x ↦ made v all a k x ]) at

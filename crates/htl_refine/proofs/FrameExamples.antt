@@ -1,12 +1,8 @@
 -- Worked examples: the records of runs of two root modules of periods 10 and 20.
-use Rattle.std.specs.Prelude.{◌≡◌, ℕ, List, [], ◌∷◌, Some, None, true, false, pos, refl, codes, map}
-use Rattle.htl_base.specs.declared.operator.BinOp.TheVariants.{Add, Mul}
+use Rattle.std.specs.Prelude.{◌≡◌, ℕ, List, [], ◌∷◌, Some, None, true, false, refl, map}
 use Rattle.htl_model.specs.declared.event.Event.{Event}
 use Rattle.htl_model.specs.declared.event.Event.TheVariants.{At, Took, End as Ends}
-use Rattle.htl_model.specs.declared.parts.End.TheVariants as E
-use Rattle.htl_model.specs.Functions.{Number, Arg, Binary}
-use Rattle.htl_model.specs.Tables.{Tables}
-use Rattle.htl_model.proofs.Sources.{plain, mode, module_named, task, call, int_one, formula}
+use Rattle.htl_model.proofs.Sources.{two_periods}
 use Rattle.htl_walk.specs.declared.schedule.SInstr.{SInstr}
 use Rattle.htl_walk.specs.declared.schedule.SInstr.TheVariants.{Dispatch, End}
 use Rattle.htl_walk.specs.Paths.{path_point_at}
@@ -15,20 +11,7 @@ use Rattle.htl_model.specs.Frames.{hyper}
 use Rattle.htl_refine.specs.FrameRuns.{frame_at}
 use Rattle.htl_refine.specs.FrameRecords.{records, old_records, new_records}
 
-abbrev pub two_periods : Tables
-two_periods =
-    record {
-      comms = plain (codes "u") 10 (pos 1) ∷ plain (codes "w") 10 (pos 0) ∷ [];
-      modes = mode (codes "m") 0 10 ∷ mode (codes "m") 1 20 ∷ [];
-      modules = module_named (codes "F") None 0 ∷ module_named (codes "G") None 1 ∷ [];
-      ports = [];
-      tasks = task (codes "a") 0 false 3 int_one ∷ task (codes "b") 1 false 9 int_one ∷ [];
-      invs = call 0 0 None (E.Comm 0 0 ∷ []) (E.Comm 0 1 ∷ []) ∷ call 1 1 None (E.Comm 0 0 ∷ []) (E.Comm 1 2 ∷ []) ∷ [];
-      switches = [];
-      functions = formula (Binary 0 Add (Arg 0 0) (Number 0 (pos 1))) ∷ formula (Binary 0 Mul (Arg 0 0) (Number 0 (pos 10))) ∷ [];
-    }
-
-abbrev pub node_lists : List (List SInstr)
+abbrev node_lists : List (List SInstr)
 node_lists = (Dispatch 0 3 ∷ Dispatch 1 10 ∷ End ∷ []) ∷ (Dispatch 1 12 ∷ Dispatch 2 15 ∷ End ∷ []) ∷ []
 
 abbrev run : List Event

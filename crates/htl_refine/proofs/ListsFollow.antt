@@ -25,7 +25,7 @@ use Rattle.htl_refine.proofs.RecordOrder.{not_some}
 use Rattle.htl_refine.proofs.RoundOrder.{round_of, run_of, frame_by_start, begun_known}
 use Rattle.htl_refine.proofs.ServedFrames.{frames_are_served}
 
-begins_by : (t : Tables) (us : List ℕ) (j u a : ℕ) → slice_get us j ≡ Some u → a % unit_period t u ≡ 0 → begins (map (unit_period t) us) a ≡ true
+pub begins_by : (t : Tables) (us : List ℕ) (j u a : ℕ) → slice_get us j ≡ Some u → a % unit_period t u ≡ 0 → begins (map (unit_period t) us) a ≡ true
 begins_by t [] j u a e g = not_some u e
 begins_by t (v ∷ us) zero u a e g =
     left (eqb (a % unit_period t v) 0) (begins (map (unit_period t) us) a) (ap (λ z. eqb (a % unit_period t z) 0) (some_same v u e) ∙ eq-eqb (a % unit_period t u) 0 g)

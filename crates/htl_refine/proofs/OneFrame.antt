@@ -4,16 +4,15 @@ use Rattle.std.specs.List.{flat_map, filter}
 use Rattle.std.proofs.lemmas.Bool.{eqb-true, eqb-false, eq-eqb, ne_eqb, lt-ltb}
 use Rattle.std.proofs.Math.Nat.{div-add-mod, mul-div-le}
 use Rattle.htl_model.specs.declared.event.Event.{Event}
-use Rattle.htl_model.specs.declared.parts.Inv.{Inv}
 use Rattle.htl_model.specs.declared.parts.Module.{Module}
 use Rattle.htl_model.specs.Chosen.{chosen}
 use Rattle.htl_model.specs.Lists.{joined, list_to, places_from, up_to}
 use Rattle.htl_model.specs.Ranges.{AreInRange}
 use Rattle.htl_model.specs.Selections.{is_root, root_modules, modes_of, choices_from, selection_count, root_period}
-use Rattle.htl_model.specs.Tables.{Tables, release, window_end, task_worst}
+use Rattle.htl_model.specs.Tables.{Tables}
 use Rattle.htl_walk.specs.declared.job.Job.{Job}
 use Rattle.htl_walk.specs.declared.schedule.SInstr.{SInstr}
-use Rattle.htl_walk.specs.Jobs.{absent_job, is_fed_by, mask, job_of}
+use Rattle.htl_walk.specs.Jobs.{is_fed_by, job_of}
 use Rattle.htl_refine.specs.ConcreteJobs.{running_invs, standing, concrete_jobs}
 use Rattle.htl_refine.specs.Records.{lengths_of, modes_at, rounds_before, round_at, left_at}
 use Rattle.htl_refine.specs.Records as by_rounds
@@ -24,10 +23,10 @@ use Rattle.htl_model.specs.declared.frame.Round.{Round}
 use Rattle.htl_model.specs.declared.frame.Place.{Place}
 use Rattle.htl_model.specs.Frames.{hyper, frame_of, unit_period, starts, rounds_of, rounds_at, rounds, choices, node, places_of, known_by}
 use Rattle.htl_walk.specs.Paths.{Leg}
-use Rattle.htl_walk.specs.PathJobs.{job_in, placed_job, placed_jobs, legs_of}
+use Rattle.htl_walk.specs.PathJobs.{placed_job, placed_jobs, legs_of}
 use Rattle.htl_walk.specs.EqualPeriods.{HasOnePeriod}
 use Rattle.htl_refine.specs.DerivedPaths.{derived_place}
-use Rattle.htl_walk.proofs.OnePeriod.{one_period}
+use Rattle.htl_walk.proofs.OnePeriod.{one_period, job_at_start}
 use Rattle.htl_refine.specs.FrameLaws.{OneFrameRecords}
 use Rattle.htl_refine.specs.FrameRecords.{RunningList, lists_from, lists_at, left_in, begun_before, begins_at, in_frame, old_records_by, new_records_by}
 use Rattle.htl_refine.specs.FrameRuns.{frame_modes, path_in, path_of, running_places, frame_places, frame_jobs, Frame, frame_at, walks_of}
@@ -88,29 +87,7 @@ tests_are t k (o ∷ os) = ap (λ bs. is_fed_by t k o ∷ bs) (tests_are t k os)
 
 job_is : (t : Tables) (os : List (Option ℕ)) (o : Option ℕ) → placed_job t (at_first os) (record { inv = o; at = 0 }) ≡ job_of t os o
 job_is t os None = refl
-job_is t os (Some k) = go (slice_get t.invs k)
-  where
-    none : (n : ℕ) → 0 + n ≡ n
-    none n = omega arith
-
-    go : (o : Option Inv) → job_in t (at_first os) 0 k o
-        ≡ elim o [
-          | None ↦ absent_job
-          | Some i ↦
-              record {
-                present = true;
-                inv = k;
-                release = release t i;
-                end = window_end t i;
-                worst = task_worst t i.task;
-                preds = mask (map (is_fed_by t k) os);
-              }
-        ]
-    go None = refl
-    go (Some i) =
-        ap (λ (n : ℕ). let j : Job = record { present = true; inv = k; release = 0 + release t i; end = 0 + window_end t i; worst = task_worst t i.task; preds = n } in j) (ap mask (tests_are t k os))
-        ∙ ap (λ (n : ℕ). let j : Job = record { present = true; inv = k; release = n; end = 0 + window_end t i; worst = task_worst t i.task; preds = mask (map (is_fed_by t k) os) } in j) (none (release t i))
-        ∙ ap (λ (n : ℕ). let j : Job = record { present = true; inv = k; release = release t i; end = n; worst = task_worst t i.task; preds = mask (map (is_fed_by t k) os) } in j) (none (window_end t i))
+job_is t os (Some k) = job_at_start t (at_first os) os k (tests_are t k os) (slice_get t.invs k)
 
 jobs_are : (t : Tables) (all os : List (Option ℕ)) → map (placed_job t (at_first all)) (at_first os) ≡ map (job_of t all) os
 jobs_are t all [] = refl

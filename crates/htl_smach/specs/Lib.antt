@@ -4,3 +4,4 @@ pub mod Order
 pub mod Rounds
 pub mod States
 pub mod Steps
+pub mod Upcoming

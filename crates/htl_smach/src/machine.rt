@@ -8,6 +8,7 @@ ghost use Rattle.htl_smach.specs.Adding.{CanBegin};
 ghost use Rattle.htl_smach.specs.Rounds.{Round, no_round, round_begun, added, added_from, slice_shifted as shifted, walk_records, given, next_left, after, one_more, state_of, IsFinishedSoFar, Stands, IsInForm, IsTold, IsNextLeave};
 ghost use Rattle.htl_smach.specs.Order.{left_by_then, IsWholeWhenOver, IsBy};
 ghost use Rattle.htl_smach.specs.Steps.{point_of};
+ghost use Rattle.htl_smach.specs.Upcoming.{IsUpcoming};
 
 use crate::position_states::PositionStates;
 use crate::step::{Step, next_step};
@@ -197,16 +198,9 @@ impl SMach {
         ensures none { result ≡ None → IsWholeWhenOver self.old s.now.instrs → IsBy self.old until → given self.new s.now.instrs ≡ left_by_then until (walk_records self.new s.now.instrs) }
         ensures whole { IsWholeWhenOver self.old s.now.instrs → IsWholeWhenOver self.new s.now.instrs }
     {
-        if !self.running {
+        let Some(step) = self.upcoming(s) else {
             return None;
-        }
-        let instrs = s.instrs.as_slice();
-        let place = self.place as usize;
-        if place >= instrs.len() {
-            return None;
-        }
-        let jobs = &self.jobs[..self.count];
-        let step = next_step(jobs, &self.left[..self.count], self.time, instrs[place]);
+        };
         let at = self.start + step.time;
         if at > until {
             return None;
@@ -218,7 +212,7 @@ impl SMach {
             slice: shifted(self.start, step.slice),
             finished: step.finished,
         };
-        self.leave(&step, instrs.len());
+        self.leave(&step, s.instrs.as_slice().len());
         Some(left)
     }
 
@@ -233,6 +227,19 @@ impl SMach {
         requires same { Stands self.now s.now.instrs }
         ensures { IsNextLeave self.now s.now.instrs result }
     {
+        let Some(step) = self.upcoming(s) else {
+            return None;
+        };
+        Some(self.start + step.time)
+    }
+
+    // What the next instruction does; None where the list is over.
+    fn upcoming(&self, s: &Schedule) -> Option<Step>
+        requires form { self.now.running ≡ true → IsInForm self.now s.now.instrs }
+        requires same { Stands self.now s.now.instrs }
+        ensures none { result ≡ None → (until : ℕ) → next_left self.now s.now.instrs until ≡ None }
+        ensures some { IfSome result (IsUpcoming self.now s.now.instrs) }
+    {
         if !self.running {
             return None;
         }
@@ -242,8 +249,7 @@ impl SMach {
             return None;
         }
         let jobs = &self.jobs[..self.count];
-        let step = next_step(jobs, &self.left[..self.count], self.time, instrs[place]);
-        Some(self.start + step.time)
+        Some(next_step(jobs, &self.left[..self.count], self.time, instrs[place]))
     }
 
     // Leaves an instruction of so many.

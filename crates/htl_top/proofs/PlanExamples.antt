@@ -1,7 +1,7 @@
 -- The plans of a refinement and of two root modules of different periods, what `check` tells of these, and inputs, worked.
-use Rattle.std.specs.Prelude.{◌≡◌, List, [], ◌∷◌, Some, None, false, pos, refl, codes}
+use Rattle.std.specs.Prelude.{◌≡◌, List, [], ◌∷◌, Some, None, refl, codes}
 use Rattle.std.specs.Fmt.{digits}
-use Rattle.htl_model.proofs.Sources.{refined, plain, mode, module_named, task, call, int_one}
+use Rattle.htl_model.proofs.Sources.{refined, mode, call, two_periods}
 use Rattle.htl_model.specs.Tables.{Tables}
 use Rattle.htl_model.specs.declared.parts.End.TheVariants as E
 use Rattle.htl_script.specs.declared.fault.ScriptKind.TheVariants as kind
@@ -23,19 +23,6 @@ unfolding schedules digits
 plan_off = refl
 
 -- ---- F of period 10 and G of period 20
-
-abbrev two_periods : Tables
-two_periods =
-    record {
-      comms = plain (codes "u") 10 (pos 1) ∷ plain (codes "w") 10 (pos 0) ∷ [];
-      modes = mode (codes "m") 0 10 ∷ mode (codes "m") 1 20 ∷ [];
-      modules = module_named (codes "F") None 0 ∷ module_named (codes "G") None 1 ∷ [];
-      ports = [];
-      tasks = task (codes "a") 0 false 3 int_one ∷ task (codes "b") 1 false 9 int_one ∷ [];
-      invs = call 0 0 None (E.Comm 0 0 ∷ []) (E.Comm 0 1 ∷ []) ∷ call 1 1 None (E.Comm 0 0 ∷ []) (E.Comm 1 2 ∷ []) ∷ [];
-      switches = [];
-      functions = [];
-    }
 
 both_lists : List Schedule
 both_lists = record { instrs = Dispatch 0 3 ∷ Dispatch 1 10 ∷ End ∷ [] } ∷ record { instrs = Dispatch 1 12 ∷ Dispatch 2 15 ∷ End ∷ [] } ∷ []

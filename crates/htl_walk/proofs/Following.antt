@@ -1,5 +1,5 @@
 -- The worst-case walk, followed instruction by instruction.
-use Rattle.std.proofs.Common.{◌≡◌, ℕ, zero, suc, ◌+◌, ◌≤◌, ◌<◌, true, List, [], ◌∷◌, length, get_or, slice_get, Some, refl, sym, ap, ◌∙◌, subst, arith, inl, inr, add-one}
+use Rattle.std.proofs.Common.{◌≡◌, ℕ, zero, suc, ◌≤◌, ◌<◌, List, [], ◌∷◌, length, get_or, slice_get, Some, refl, sym, ap, ◌∙◌, subst, arith, inl, inr}
 use Rattle.std.specs.List.{All}
 use Rattle.std.proofs.lemmas.Option.{slice_get-get_or}
 use Rattle.std.proofs.lemmas.List.{ext_get_or}
@@ -8,15 +8,17 @@ use Rattle.htl_walk.specs.declared.miss.Miss.{Miss}
 use Rattle.htl_walk.specs.declared.miss.Miss.TheVariants as miss
 use Rattle.htl_walk.specs.declared.schedule.SInstr.{SInstr}
 use Rattle.htl_walk.specs.declared.schedule.SInstr.TheVariants.{Dispatch, Idle, End}
-use Rattle.htl_walk.specs.Jobs.{precedes}
 use Rattle.htl_walk.specs.Walk.{Point, job_at, next_point, walk, work, work_after, first_point, finish, InForm, ScheduleIsAccepted, worst_cases}
-use Rattle.htl_walk.specs.Misses.{worst_point, DispatchesAt, IsTooEarly, IsTooLate, IsCleanBefore, IsFirstBefore, IsFirstMiss}
-use Rattle.htl_walk.specs.Following.{IsKnown, IsReady, IsInTime, IsFollowed, IsMissAt}
+use Rattle.htl_walk.specs.Misses.{worst_point, IsCleanBefore, IsFirstMiss}
+use Rattle.htl_walk.specs.Following.{IsKnown, IsInTime, IsFollowed, IsMissAt}
 use Rattle.htl_walk.specs.Refinement.{HasWork}
 use Rattle.htl_walk.proofs.Steps.{either, apart, left_other}
 use Rattle.htl_walk.proofs.Finishes.{some_same}
 use Rattle.htl_walk.proofs.Work.{all_at, work_present, worst_at}
 use Rattle.htl_walk.proofs.Acceptance.{point_step, finish_at, accepted}
+use Rattle.htl_walk.proofs.ListMiss.{clean_to, clean_of, before_to, late_miss_to}
+use Rattle.htl_walk.proofs.Walked as walked
+use Rattle.htl_walk.proofs.Walked.{IsWalked, walked_more}
 
 -- the walk was followed up to instruction k, to this point and these finish offsets
 pub record IsFollowedTo (jobs : List Job) (s : List SInstr) (k : ℕ) (x : Point) (finishes : List ℕ) : Type 0 where
@@ -42,45 +44,14 @@ followed_none jobs s finishes all =
     }
 
 module _ (jobs : List Job) (s : List SInstr) (k : ℕ) (i : SInstr) (at : slice_get s k ≡ Some i) where
-  ready_at : (x : Point) (p until q : ℕ) → IsReady jobs i x → slice_get s k ≡ Some (Dispatch p until) → precedes q (job_at jobs p) ≡ true → get_or x.left q 0 ≡ 0
-  ready_at x p until q ready e w =
-      let same : i ≡ Dispatch p until = some_same _ _ (sym at ∙ e) in
-      subst (λ i. IsReady jobs i x) same ready q w
-
-  in_time_at : (x y : Point) (p until : ℕ) → IsInTime jobs i x y → slice_get s k ≡ Some (Dispatch p until) → 0 < get_or x.left p 0 → get_or y.left p 0 ≡ 0 → y.time ≤ (job_at jobs p).end
-  in_time_at x y p until time e some none =
-      let same : i ≡ Dispatch p until = some_same _ _ (sym at ∙ e) in
-      subst (λ i. IsInTime jobs i x y) same time some none
+  as_walked : (x : Point) (fs : List ℕ) → IsFollowedTo jobs s k x fs → IsWalked jobs s (first_point jobs (worst_cases jobs)) k x
+  as_walked x fs f = record { point = f.point; clean = clean_of jobs s k f.clean }
 
   point_more : (x y : Point) → x ≡ worst_point jobs s k → y ≡ next_point jobs i x → y ≡ worst_point jobs s (suc k)
   point_more x y e f = f ∙ ap (next_point jobs i) e ∙ sym (point_step jobs s k (first_point jobs (worst_cases jobs)) i at)
 
   clean_more : (x y : Point) (fs gs : List ℕ) → IsFollowedTo jobs s k x fs → IsFollowed jobs i x y fs gs → IsCleanBefore jobs s (suc k)
-  clean_more x y fs gs f d =
-      let after : y ≡ worst_point jobs s (suc k) = point_more x y f.point d.next in
-      record {
-        early = λ m p q h e. elim (either m k) [
-          | inl less ↦ f.clean.early m p q less e
-          | inr more ↦
-              let same : m ≡ k = omega arith in
-              let e' : IsTooEarly jobs s k p q = subst (λ n. IsTooEarly jobs s n p q) same e in
-              let none : get_or x.left q 0 ≡ 0 = ready_at x p e'.dispatches.0 q d.ready e'.dispatches.1 e'.waits in
-              let some : 0 < get_or x.left q 0 = subst (λ z. 0 < get_or z.left q 0) (sym f.point) e'.left in
-              omega arith
-        ];
-        late = λ m p g h e. elim (either m k) [
-          | inl less ↦ f.clean.late m p g less e
-          | inr more ↦
-              let same : m ≡ k = omega arith in
-              let e' : IsTooLate jobs s k p g = subst (λ n. IsTooLate jobs s n p g) same e in
-              let some : 0 < get_or x.left p 0 = subst (λ z. 0 < get_or z.left p 0) (sym f.point) e'.left in
-              let here : worst_point jobs s (k + 1) ≡ y = ap (worst_point jobs s) (add-one k) ∙ sym after in
-              let none : get_or y.left p 0 ≡ 0 = subst (λ z. get_or z.left p 0 ≡ 0) here e'.done in
-              let told : g ≡ y.time = subst (λ z. g ≡ z.time) here e'.at in
-              let bound : y.time ≤ (job_at jobs p).end = in_time_at x y p e'.dispatches.0 d.in_time e'.dispatches.1 some none in
-              omega (arith, e'.late)
-        ];
-      }
+  clean_more x y fs gs f d = clean_to jobs s (suc k) (walked_more jobs s (first_point jobs (worst_cases jobs)) k i at x y fs gs (as_walked x fs f) d).clean
 
   finished_now : (x y : Point) → x ≡ worst_point jobs s k → y ≡ worst_point jobs s (suc k) → (p : ℕ) → 0 < get_or x.left p 0 → get_or y.left p 0 ≡ 0
       → finish (walk jobs (worst_cases jobs) s) p ≡ Some y.time
@@ -122,32 +93,9 @@ module _ (jobs : List Job) (s : List SInstr) (k : ℕ) (i : SInstr) (at : slice_
   missed_here period x fs (miss.Order at) form f d = absurd d
   missed_here period x fs (miss.Unfinished p left) form f d = absurd d
   missed_here period x fs (miss.Before p q place) form f d =
-      let b = d.1 in
-      let dispatched : DispatchesAt s k p = (b.dispatches.0, at ∙ ap Some b.dispatches.1) in
-      let first : IsFirstBefore jobs s p q k =
-      record {
-        clean = f.clean;
-        here = record { dispatches = dispatched; waits = b.waits; left = subst (λ z. 0 < get_or z.left q 0) f.point b.left };
-        lowest = λ r h e. let none : get_or x.left r 0 ≡ 0 = b.lowest r h e.waits in let some : 0 < get_or x.left r 0 = subst (λ z. 0 < get_or z.left r 0) (sym f.point) e.left in omega arith;
-      } in
-      (form, subst (IsFirstBefore jobs s p q) (sym d.0) first)
+      before_to jobs s period p q place (walked.missed_here jobs s (first_point jobs (worst_cases jobs)) k i at (length jobs) period x (miss.Before p q place) form (as_walked x fs f) d)
   missed_here period x fs (miss.Late p g window_end) form f d =
-      let after : next_point jobs i x ≡ worst_point jobs s (k + 1) = point_more x (next_point jobs i x) f.point refl ∙ ap (worst_point jobs s) (sym (add-one k)) in (
-        form,
-        record {
-          place = k;
-          clean = f.clean;
-          ready = λ q e. let none : get_or x.left q 0 ≡ 0 = d.ready q e.waits in let some : 0 < get_or x.left q 0 = subst (λ z. 0 < get_or z.left q 0) (sym f.point) e.left in omega arith;
-          here = record {
-            dispatches = (d.dispatches.0, at ∙ ap Some d.dispatches.1);
-            left = subst (λ z. 0 < get_or z.left p 0) f.point d.left;
-            done = subst (λ z. get_or z.left p 0 ≡ 0) after d.done;
-            at = subst (λ z. g ≡ z.time) after d.at;
-            late = d.late;
-          };
-          end = d.end;
-        },
-      )
+      late_miss_to jobs s period p g window_end (walked.missed_here jobs s (first_point jobs (worst_cases jobs)) k i at (length jobs) period x (miss.Late p g window_end) form (as_walked x fs f) d)
 
 -- work that is left at the end
 pub unfinished : (jobs : List Job) (period : ℕ) (s : List SInstr) (x : Point) (fs : List ℕ) (p left : ℕ) → InForm (length jobs) period s → IsFollowedTo jobs s (length s) x fs

@@ -2,6 +2,7 @@
 use Rattle.std.specs.Prelude.{ℕ, ◌+◌, ◌*◌, Bool, true, false, List, [], ◌∷◌, slice_get, map, Option, Some, None}
 use Rattle.htl_model.specs.Bits.{has_bit}
 use Rattle.htl_model.specs.PortOrder.{feeds}
+use Rattle.htl_model.specs.declared.parts.Inv.{Inv}
 use Rattle.htl_walk.specs.declared.job.Job.{Job}
 use Rattle.htl_model.specs.Functions.{of_bool}
 use Rattle.htl_model.specs.Selections.{positions}
@@ -26,22 +27,23 @@ precedes p j = has_bit j.preds p
 abbrev pub absent_job : Job
 absent_job = record { present = false; inv = 0; release = 0; end = 0; worst = 0; preds = 0 }
 
--- the job of an invocation among those that stand at the positions
+-- the job of invocation k among those that stand at the positions
+abbrev pub job_among : Tables → List (Option ℕ) → ℕ → Option Inv → Job
+job_among t standing k None = absent_job
+job_among t standing k (Some i) =
+    record {
+      present = true;
+      inv = k;
+      release = release t i;
+      end = window_end t i;
+      worst = task_worst t i.task;
+      preds = mask (map (is_fed_by t k) standing);
+    }
+
+-- the job of what stands at a position
 abbrev pub job_of : Tables → List (Option ℕ) → Option ℕ → Job
 job_of t standing None = absent_job
-job_of t standing (Some k) =
-    elim (slice_get t.invs k) [
-      | None ↦ absent_job
-      | Some i ↦
-          record {
-            present = true;
-            inv = k;
-            release = release t i;
-            end = window_end t i;
-            worst = task_worst t i.task;
-            preds = mask (map (is_fed_by t k) standing);
-          }
-    ]
+job_of t standing (Some k) = job_among t standing k (slice_get t.invs k)
 
 abbrev pub jobs_standing : Tables → List (Option ℕ) → List Job
 jobs_standing t standing = map (job_of t standing) standing

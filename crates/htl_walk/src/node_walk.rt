@@ -6,7 +6,7 @@ ghost use Rattle.htl_model.specs.FrameTables.{IsFrame};
 ghost use Rattle.htl_walk.specs.Feasible.{AreFeasible};
 ghost use Rattle.htl_walk.specs.PathJobs.{path_jobs as path_jobs_of};
 ghost use Rattle.htl_walk.specs.PathMisses.{counted as counted_of};
-ghost use Rattle.htl_walk.specs.NodeWalks.{AreWalkable, AreCleanTo, AreSaved, AreResumed, ShareNodes, MissesAt, IsFirstFailing, instrs_of, count_to, list_at, reached};
+ghost use Rattle.htl_walk.specs.NodeWalks.{AreWalkable, AreWalkedTo, AreResumed, ShareNodes, MissesAt, IsFirstFailing, instrs_of, count_to, list_at, reached};
 
 use crate::listing::{Span, worst_list};
 use crate::placed::placed_jobs;
@@ -138,8 +138,7 @@ fn begin_left(
     requires places { at.places.now ≡ path_places p.t.now p.path }
     requires jobs { at.jobs.now ≡ path_jobs_of p.t.now p.path }
     requires few { length at.jobs.now ≤ 128 }
-    requires clean { AreCleanTo p.t.now (instrs_of p.lists.now) p.path first }
-    requires saved { AreSaved p.t.now (instrs_of p.lists.now) p.path first states.now }
+    requires walked { AreWalkedTo p.t.now (instrs_of p.lists.now) p.path first states.now }
     requires room { length states.now ≡ 32 }
     ensures { take (length at.entry.jobs.now) left.new ≡ (reached p.entry.t.now (instrs_of p.entry.lists.now) p.entry.path first).left }
 {
@@ -180,11 +179,9 @@ fn walk_jobs(
     requires jobs { at.jobs.now ≡ path_jobs_of p.t.now p.path }
     requires left { left.old ≡ (reached p.t.now (instrs_of p.lists.now) p.path first).left }
     requires finish { length finish.old ≡ length at.jobs.now }
-    requires clean { AreCleanTo p.t.now (instrs_of p.lists.now) p.path first }
-    requires saved { AreSaved p.t.now (instrs_of p.lists.now) p.path first states.old }
+    requires walked { AreWalkedTo p.t.now (instrs_of p.lists.now) p.path first states.old }
     requires room { length states.old ≡ 32 }
-    ensures clean { OnOk result (AreCleanTo p.entry.t.now (instrs_of p.entry.lists.now) p.entry.path (length (starts_of p.entry.t.now))) }
-    ensures saved { OnOk result (AreSaved p.entry.t.now (instrs_of p.entry.lists.now) p.entry.path (length (starts_of p.entry.t.now)) states.new) }
+    ensures walked { OnOk result (AreWalkedTo p.entry.t.now (instrs_of p.entry.lists.now) p.entry.path (length (starts_of p.entry.t.now)) states.new) }
     ensures missed { IfErr result (λ m. MissesAt p.entry.t.now (instrs_of p.entry.lists.now) p.entry.path m) }
     ensures room { length states.new ≡ 32 }
 {
@@ -213,11 +210,9 @@ fn walk_on(p: PathLists<'_>, first: usize, states: &mut States) -> Result<(), Mi
     requires lists { length p.lists.now ≡ nodes_of_frame p.t.now }
     requires instrs { All (λ s. length s.instrs ≤ 4294967295) p.lists.now }
     requires first { first ≤ length (starts_of p.t.now) }
-    requires clean { AreCleanTo p.t.now (instrs_of p.lists.now) p.path first }
-    requires saved { AreSaved p.t.now (instrs_of p.lists.now) p.path first states.old }
+    requires walked { AreWalkedTo p.t.now (instrs_of p.lists.now) p.path first states.old }
     requires room { length states.old ≡ 32 }
-    ensures clean { OnOk result (AreCleanTo p.entry.t.now (instrs_of p.entry.lists.now) p.entry.path (length (starts_of p.entry.t.now))) }
-    ensures saved { OnOk result (AreSaved p.entry.t.now (instrs_of p.entry.lists.now) p.entry.path (length (starts_of p.entry.t.now)) states.new) }
+    ensures walked { OnOk result (AreWalkedTo p.entry.t.now (instrs_of p.entry.lists.now) p.entry.path (length (starts_of p.entry.t.now)) states.new) }
     ensures missed { IfErr result (λ m. MissesAt p.entry.t.now (instrs_of p.entry.lists.now) p.entry.path m) }
     ensures room { length states.new ≡ 32 }
 {

@@ -1,4 +1,4 @@
-use Rattle.std.proofs.Common.{◌≡◌, ℕ, ◌<◌, length, drop, None, sym, ap, ◌∙◌, subst, arith}
+use Rattle.std.proofs.Common.{◌≡◌, ◌<◌, length, drop, None, sym, ap, ◌∙◌, subst, arith}
 use Rattle.htl_model.specs.Tables.{Tables}
 use Rattle.htl_emach.specs.Indices.{writer_of}
 use Rattle.htl_emach.proofs.PortEntries.{writer_on, as_listed}

@@ -3,6 +3,7 @@ use Rattle.std.specs.Prelude.{slice_get}
 use Rattle.std.proofs.lemmas.Option.{slice_get-get_or}
 use Rattle.htl_model.specs.declared.parts.End.{End}
 use Rattle.htl_model.specs.declared.parts.End.TheVariants as E
+use Rattle.htl_model.specs.declared.search.EndSite.{EndSite}
 use Rattle.htl_model.proofs.FirstLaws.{nothing_first}
 use Rattle.htl_model.proofs.search.first_output.Goals as goal
 
@@ -12,5 +13,6 @@ returns-then-not-judges_outputs g c =
 
 pub of_output-requires-clause-output : goal.of_output-requires-clause-output
 of_output-requires-clause-output g c =
-    subst (λ (ends : List End). slice_get ends c.loop-j.j ≡ Some (get_or c.as_slice-ends.result.now c.loop-j.j (E.Comm 0 0))) c.as_slice-ends.ensures
-    (slice_get-get_or c.as_slice-ends.result.now c.loop-j.j (E.Comm 0 0) c.loop-j-test.true)
+    subst (λ (s : EndSite). slice_get s.inv.now.writes s.place ≡ Some s.end) (sym c.site_at-site.ensures)
+    (subst (λ (ends : List End). slice_get ends c.loop-j.j ≡ Some (get_or c.as_slice-ends.result.now c.loop-j.j (E.Comm 0 0))) c.as_slice-ends.ensures
+    (slice_get-get_or c.as_slice-ends.result.now c.loop-j.j (E.Comm 0 0) c.loop-j-test.true))

@@ -8,8 +8,7 @@ invariant-loop-k l =
     record {
       from : l.from ≤ l.k;
       within : l.k ≤ length l.modules;
-      end : l.end ≡ modes_below l.modes l.k;
-      few : l.end ≤ length l.modes;
+      end : l.end ≡ modes_below l.t.modes l.k;
       choices : l.n ≡ min (choices_from l.t l.k (drop l.k l.modules)) (2 ^ 64 - 1);
     }
 

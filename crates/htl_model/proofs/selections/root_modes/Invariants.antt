@@ -8,8 +8,8 @@ abbrev pub invariant-loop-k : goal.invariant-loop-k
 invariant-loop-k l =
     record {
       within : l.k ≤ length l.modules;
-      end : l.end ≡ modes_below l.modes l.k;
-      few : l.end ≤ length l.modes;
+      end : l.end ≡ modes_below l.t.modes l.k;
+      few : l.end ≤ length l.t.modes;
       digits : l.digits ≡ l.selection / choices_from l.t l.k (drop l.k l.modules);
       entries : AreRootModesFrom l.t l.selection l.k l.entries;
       size : length l.entries ≡ 64;

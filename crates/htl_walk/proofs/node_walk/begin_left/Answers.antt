@@ -11,4 +11,4 @@ returns-then-first-eq0 c =
 pub returns : goal.returns
 returns c =
     later_left_is c.args.p.t.now c.args.p.f.now (instrs_of c.args.p.lists.now) c.requires.walkable c.args.p.path c.args.first c.known_by-known.result c.args.at.places.now c.args.states.now c.resume-2.new.left c.args.at.jobs.now c.requires.frame c.requires.path
-    (omega (arith, c.if-first-eq0.false)) c.requires.first c.requires.places c.requires.jobs c.known_by-known.ensures.known c.requires.clean c.requires.saved c.resume-2.ensures.left (omega (arith, c.requires.few, c.resume-2.array_long))
+    (omega (arith, c.if-first-eq0.false)) c.requires.first c.requires.places c.requires.jobs c.known_by-known.ensures.known c.requires.walked.clean c.requires.walked.saved c.resume-2.ensures.left (omega (arith, c.requires.few, c.resume-2.array_long))

@@ -55,3 +55,8 @@ loop-j-preserved c =
       finish = c.worst_list.auto.finish ∙ c.loop-j.invariant.finish;
       room = simp length-set c.loop-j.invariant.room;
     }
+
+pub returns-clause-walked : goal.returns-clause-walked
+returns-clause-walked c =
+    let i = c.loop-j.invariant in
+    record { clean = λ j l. i.clean j (omega (arith, l, c.loop-j-test.false, c.requires.frame.count)); saved = λ j p l b. i.saved j p (omega (arith, l, c.loop-j-test.false, c.requires.frame.count)) b }

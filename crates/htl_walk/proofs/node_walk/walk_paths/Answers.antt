@@ -1,36 +1,26 @@
 use Rattle.std.proofs.Common.{◌<◌, arith, sym, subst}
 use Rattle.htl_model.specs.Frames.{paths}
-use Rattle.htl_walk.specs.NodeWalks.{AreCleanTo, AreSaved, instrs_of}
+use Rattle.htl_walk.specs.NodeWalks.{AreWalkedTo, instrs_of}
 use Rattle.htl_walk.proofs.NodeWalks.{all_accepted}
 use Rattle.htl_walk.proofs.CodeWalk.{fork_clean, fork_saved, clean_paths, saved_path, missed, refused_all}
 use Rattle.htl_walk.proofs.node_walk.walk_paths.Goals.{then-path-eq0, else-path-eq0}
 use Rattle.htl_walk.proofs.node_walk.walk_paths.Goals as goal
 
-pub walk_on-requires-clause-clean : goal.walk_on-requires-clause-clean
-walk_on-requires-clause-clean c =
+pub walk_on-requires-clause-walked : goal.walk_on-requires-clause-walked
+walk_on-requires-clause-walked c =
     let t = c.args.t.now in
     let lists = instrs_of c.args.lists.now in
     let path = c.loop-path.path in
     let h : path < paths t = omega (arith, c.loop-path-test.true, c.survey-f.ensures.paths) in
     elim c.if-path-eq0.branch [
-      | then-path-eq0 w ↦ λ j l. absurd (omega (arith, l, w.first-is))
+      | then-path-eq0 w ↦ record { clean = λ j l. absurd (omega (arith, l, w.first-is)); saved = λ i p l b. absurd (omega (arith, l, w.first-is)) }
       | else-path-eq0 w ↦
-          subst (AreCleanTo t lists path) (sym w.first-is)
-          (fork_clean t lists c.requires.walkable path w.fork-first.result (omega (arith, w.if-path-eq0.false)) h w.fork-first.ensures.within w.fork-first.ensures.shared c.loop-path.invariant.clean)
-    ]
-
-pub walk_on-requires-clause-saved : goal.walk_on-requires-clause-saved
-walk_on-requires-clause-saved c =
-    let t = c.args.t.now in
-    let lists = instrs_of c.args.lists.now in
-    let path = c.loop-path.path in
-    let h : path < paths t = omega (arith, c.loop-path-test.true, c.survey-f.ensures.paths) in
-    elim c.if-path-eq0.branch [
-      | then-path-eq0 w ↦ λ i p l b. absurd (omega (arith, l, w.first-is))
-      | else-path-eq0 w ↦
-          subst (λ d. AreSaved t lists path d c.loop-path.states) (sym w.first-is)
-          (fork_saved t lists c.requires.walkable path w.fork-first.result c.loop-path.states (omega (arith, w.if-path-eq0.false)) h w.fork-first.ensures.within w.fork-first.ensures.shared c.loop-path.invariant.clean
-          c.loop-path.invariant.saved)
+          subst (λ d. AreWalkedTo t lists path d c.loop-path.states) (sym w.first-is)
+          (record {
+            clean = fork_clean t lists c.requires.walkable path w.fork-first.result (omega (arith, w.if-path-eq0.false)) h w.fork-first.ensures.within w.fork-first.ensures.shared c.loop-path.invariant.clean;
+            saved = fork_saved t lists c.requires.walkable path w.fork-first.result c.loop-path.states (omega (arith, w.if-path-eq0.false)) h w.fork-first.ensures.within w.fork-first.ensures.shared c.loop-path.invariant.clean
+                c.loop-path.invariant.saved;
+          })
     ]
 
 pub returns-in-Err-clause-missed : goal.returns-in-Err-clause-missed
@@ -48,8 +38,8 @@ loop-path-preserved c =
     let lists = instrs_of c.args.lists.now in
     let path = c.loop-path.path in
     record {
-      clean = clean_paths t lists c.requires.walkable path c.loop-path.invariant.clean c.in_default.ensures.clean;
-      saved = saved_path t lists c.requires.walkable path c.walk_on.new.states c.in_default.ensures.saved;
+      clean = clean_paths t lists c.requires.walkable path c.loop-path.invariant.clean c.in_default.ensures.walked.clean;
+      saved = saved_path t lists c.requires.walkable path c.walk_on.new.states c.in_default.ensures.walked.saved;
       room = c.in_default.ensures.room;
     }
 
