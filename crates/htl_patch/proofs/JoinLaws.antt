@@ -16,7 +16,7 @@ use Rattle.htl_patch.specs.Joining.{first, is_taken, inv_module, is_met, is_stra
 use Rattle.htl_patch.specs.Patched.{order}
 use Rattle.htl_patch.specs.Placed.{ArePlacesOf}
 use Rattle.htl_patch.specs.Renumbered.{place_among}
-use Rattle.htl_patch.specs.United.{Graft, calls_named, call_name, is_of_mode, donor_parent, united, donor_module}
+use Rattle.htl_patch.specs.United.{Graft, calls_named, call_name, belongs_to_mode, donor_parent, united, donor_module}
 use Rattle.htl_patch.proofs.Grafting.{all_at}
 
 below_some : (n : ℕ) → ltb 0 (suc n) ≡ true
@@ -103,7 +103,7 @@ module _ (g : Graft) (calls : List (Option ℕ)) (are : calls ≡ calls_for g) (
 
   -- none stands for it where it isn't met by name
   pub met_is : is_met g p ≡ elim (call_for g p) as (λ _. Bool) [ Some k ↦ true | None ↦ false ]
-  met_is = by (is_of_mode g.donor g.from p) (calls_named g.host g.into (call_name g.donor p))
+  met_is = by (belongs_to_mode g.donor g.from p) (calls_named g.host g.into (call_name g.donor p))
     where
       by : (b : Bool) (ks : List ℕ) → (b && not (eqb (length ks) 0)) ≡ elim (cond b (first ks) None) as (λ _. Bool) [ Some k ↦ true | None ↦ false ]
       by false ks = refl
@@ -129,7 +129,7 @@ module _ (g : Graft) (calls : List (Option ℕ)) (are : calls ≡ calls_for g) (
       on false = refl
 
 -- the parent that stands for one in the donor's mode
-moved_call : (g : Graft) (p : ℕ) → is_of_mode g.donor g.from p ≡ true → donor_parent g p ≡ elim (call_for g p) as (λ _. ℕ) [ Some k ↦ k | None ↦ 0 ]
+moved_call : (g : Graft) (p : ℕ) → belongs_to_mode g.donor g.from p ≡ true → donor_parent g p ≡ elim (call_for g p) as (λ _. ℕ) [ Some k ↦ k | None ↦ 0 ]
 moved_call g p e =
     ap (λ (b : Bool). cond b (get_or (calls_named g.host g.into (call_name g.donor p)) 0 0) (length g.host.invs + p)) e
     ∙ by (calls_named g.host g.into (call_name g.donor p))
@@ -139,14 +139,14 @@ moved_call g p e =
     by [] = refl
     by (k ∷ ks) = refl
 
-pub moved_met : (g : Graft) (p k : ℕ) → call_for g p ≡ Some k → is_of_mode g.donor g.from p ≡ true → donor_parent g p ≡ k
+pub moved_met : (g : Graft) (p k : ℕ) → call_for g p ≡ Some k → belongs_to_mode g.donor g.from p ≡ true → donor_parent g p ≡ k
 moved_met g p k e on = moved_call g p on ∙ ap (λ (o : Option ℕ). elim o as (λ _. ℕ) [ Some k ↦ k | None ↦ 0 ]) e
 
-pub moved_unmet : (g : Graft) (p : ℕ) → call_for g p ≡ None → is_of_mode g.donor g.from p ≡ true → donor_parent g p ≡ 0
+pub moved_unmet : (g : Graft) (p : ℕ) → call_for g p ≡ None → belongs_to_mode g.donor g.from p ≡ true → donor_parent g p ≡ 0
 moved_unmet g p e on = moved_call g p on ∙ ap (λ (o : Option ℕ). elim o as (λ _. ℕ) [ Some k ↦ k | None ↦ 0 ]) e
 
 -- another stays
-pub moved_own : (g : Graft) (p before : ℕ) → before ≡ length g.host.invs → is_of_mode g.donor g.from p ≡ false → donor_parent g p ≡ before + p
+pub moved_own : (g : Graft) (p before : ℕ) → before ≡ length g.host.invs → belongs_to_mode g.donor g.from p ≡ false → donor_parent g p ≡ before + p
 moved_own g p before is off =
     ap (λ (b : Bool). cond b (get_or (calls_named g.host g.into (call_name g.donor p)) 0 0) (length g.host.invs + p)) off ∙ ap (λ (n : ℕ). n + p) (sym is)
 

@@ -14,7 +14,7 @@ use Rattle.htl_model.specs.declared.parts.Switch.{Switch}
 use Rattle.htl_model.specs.declared.parts.Task.{Task}
 use Rattle.htl_patch.specs.Placed.{ArePlacesOf, ArePlaces, HasPlace, HasPlaces, placed, placed_mode, placed_module, placed_port, placed_task, placed_end, placed_inv, placed_switch}
 use Rattle.htl_patch.specs.Renumbered.{Numbering, place_among, new_mode, new_module, new_port, new_task, new_end, new_inv, new_switch}
-use Rattle.htl_patch.specs.United.{Graft, united, donor_mode, donor_module, donor_port, donor_task, donor_end, donor_inv, donor_switch, refined_mode, donor_parent, calls_named, call_name, is_call, is_of_mode}
+use Rattle.htl_patch.specs.United.{Graft, united, donor_mode, donor_module, donor_port, donor_task, donor_end, donor_inv, donor_switch, refined_mode, donor_parent, calls_named, call_name, is_call, belongs_to_mode}
 use Rattle.htl_patch.specs.declared.numbers.NewNumbers.{NewNumbers}
 use Rattle.htl_patch.proofs.Grafting.{all_at}
 use Rattle.htl_patch.proofs.Members.{Has, map_map, map_on, of_places_0}
@@ -217,7 +217,7 @@ module _ (g : Graft) (host : AreInRange g.host) (donor : AreInRange g.donor) (n 
   -- what stands for a parent of the donor is an invocation of both
   guest_parent : (o : Option ℕ) → IfSome o (λ k. k < length g.donor.invs) → IfSome (option_map (donor_parent g) o) (λ k. k < length (united g).invs)
   guest_parent None less = tt
-  guest_parent (Some k) less = by (is_of_mode g.donor g.from k)
+  guest_parent (Some k) less = by (belongs_to_mode g.donor g.from k)
     where
       by : (b : Bool) → cond b (get_or (calls_named g.host g.into (call_name g.donor k)) 0 0) (length g.host.invs + k) < length (united g).invs
       by true =

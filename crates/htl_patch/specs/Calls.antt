@@ -2,11 +2,11 @@
 use Rattle.std.specs.Prelude.{ℕ, cond, List, length, Option, None}
 use Rattle.htl_model.specs.Lists.{list_to}
 use Rattle.htl_patch.specs.Joining.{first}
-use Rattle.htl_patch.specs.United.{Graft, calls_named, call_name, is_of_mode}
+use Rattle.htl_patch.specs.United.{Graft, calls_named, call_name, belongs_to_mode}
 
 -- the host's invocation that stands for invocation p of the donor, where that is one of the donor's mode
 abbrev pub call_for : Graft → ℕ → Option ℕ
-call_for g p = cond (is_of_mode g.donor g.from p) (first (calls_named g.host g.into (call_name g.donor p))) None
+call_for g p = cond (belongs_to_mode g.donor g.from p) (first (calls_named g.host g.into (call_name g.donor p))) None
 
 -- for each invocation of the donor
 abbrev pub calls_for : Graft → List (Option ℕ)

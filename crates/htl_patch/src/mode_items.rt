@@ -4,7 +4,7 @@ ghost use Rattle.htl_patch.specs.Patched.{new_numbers};
 ghost use Rattle.htl_patch.specs.Calls.{calls_for};
 ghost use Rattle.htl_patch.specs.Placed.{ArePlaces, HasPlace, HasPlaces, placed_end, placed_inv, placed_port, placed_switch};
 ghost use Rattle.htl_patch.specs.Renumbered.{inv_at, port_at, switch_at, new_inv as new_inv_of, new_port as new_port_of, new_switch as new_switch_of};
-ghost use Rattle.htl_patch.specs.United.{graft, united, donor_parent, is_of_mode as is_of_mode_of};
+ghost use Rattle.htl_patch.specs.United.{graft, united, donor_parent, belongs_to_mode as is_of_mode_of};
 
 use crate::graft::Graft;
 use crate::lists::{invs, modes, ports, switches, tasks};
