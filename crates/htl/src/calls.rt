@@ -70,14 +70,17 @@ pub struct Group {
     pub rows: &'static [Row],
 }
 
-/// A call, with streams that differ: for each the status, the output and what is told.
+/// Streams, and the status, the output and what is told with them.
+pub type StreamsRow = (Streams, u8, Content, &'static str);
+
+/// A call, with streams that differ.
 pub struct Tried {
     pub name: &'static str,
     pub words: &'static [&'static str],
     pub place: Place,
     pub contents: (Content, Content),
     pub script: &'static str,
-    pub rows: &'static [(Streams, u8, Content, &'static str)],
+    pub rows: &'static [StreamsRow],
 }
 
 /// A call, and what is wanted.
@@ -279,21 +282,25 @@ pub fn is_answered(alloc: Global, case: &Case<'_>) -> Result<bool, Fail> {
     }
 }
 
+// The call of a row of a group.
+fn case_of_row(group: &Group, row: &Row) -> Case<'static> {
+    let (first, second, script, status, out, told) = *row;
+    Case {
+        words: group.words,
+        place: group.place,
+        streams: group.streams,
+        contents: (first, second),
+        script,
+        status,
+        out,
+        told,
+    }
+}
+
 // The first row of a group with another answer.
 fn wrong_row(alloc: Global, group: &Group) -> Result<Option<usize>, Fail> {
     for (k, row) in group.rows.iter().enumerate() {
-        let (first, second, script, status, out, told) = *row;
-        let case = Case {
-            words: group.words,
-            place: group.place,
-            streams: group.streams,
-            contents: (first, second),
-            script,
-            status,
-            out,
-            told,
-        };
-        if !is_answered(alloc, &case)? {
+        if !is_answered(alloc, &case_of_row(group, row))? {
             return Ok(Some(k));
         }
     }
@@ -310,21 +317,25 @@ pub fn first_wrong(alloc: Global, groups: &[Group]) -> Result<Option<(&'static s
     Ok(None)
 }
 
+// The call of a row of streams.
+fn case_of_streams(tried: &Tried, row: &StreamsRow) -> Case<'static> {
+    let (streams, status, out, told) = *row;
+    Case {
+        words: tried.words,
+        place: tried.place,
+        streams,
+        contents: tried.contents,
+        script: tried.script,
+        status,
+        out,
+        told,
+    }
+}
+
 // The first row with another answer.
 fn other_row(alloc: Global, tried: &Tried) -> Result<Option<usize>, Fail> {
     for (k, row) in tried.rows.iter().enumerate() {
-        let (streams, status, out, told) = *row;
-        let case = Case {
-            words: tried.words,
-            place: tried.place,
-            streams,
-            contents: tried.contents,
-            script: tried.script,
-            status,
-            out,
-            told,
-        };
-        if !is_answered(alloc, &case)? {
+        if !is_answered(alloc, &case_of_streams(tried, row))? {
             return Ok(Some(k));
         }
     }

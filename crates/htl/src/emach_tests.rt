@@ -53,29 +53,35 @@ fn is_up_to_next(m: &EMach, at: Time) -> bool
     }
 }
 
+// A phase of an instant.
+#[derive(Clone, Copy)]
+struct Turn {
+    phase: u8,
+    at: Time,
+}
+
 // All that is due in a phase of an instant; each instruction is told with the instant and its address.
 fn do_phase(
     m: &mut EMach,
     t: &Tables,
     code: &ECode,
     world: &mut World,
-    phase: u8,
-    at: Time,
+    turn: Turn,
     told: &mut Vec<(Time, u32, EInstr)>,
 ) -> Option<()>
     requires run { CanRun t.now code.now m.old world.old }
-    requires phase { (1 ≤ phase) × (phase ≤ 3) }
-    requires at { at ≤ limit.MAX_INSTANT }
+    requires phase { (1 ≤ turn.phase) × (turn.phase ≤ 3) }
+    requires at { turn.at ≤ limit.MAX_INSTANT }
     ensures { CanRun t.now code.now m.new world.new }
 {
     for _ in 0..100 {
-        if !is_up_to_next(m, at) {
+        if !is_up_to_next(m, turn.at) {
             return None;
         }
-        let Some(d) = m.instant(t, code, world, phase, at) else {
+        let Some(d) = m.instant(t, code, world, turn.phase, turn.at) else {
             return Some(());
         };
-        told.push((at, d.address, d.instr)).ok()?;
+        told.push((turn.at, d.address, d.instr)).ok()?;
     }
     None
 }
@@ -93,9 +99,9 @@ fn do_instant(
     requires at { at ≤ limit.MAX_INSTANT }
     ensures { CanRun t.now code.now m.new world.new }
 {
-    do_phase(m, t, code, world, 1, at, told)?;
-    do_phase(m, t, code, world, 2, at, told)?;
-    do_phase(m, t, code, world, 3, at, told)
+    do_phase(m, t, code, world, Turn { phase: 1, at }, told)?;
+    do_phase(m, t, code, world, Turn { phase: 2, at }, told)?;
+    do_phase(m, t, code, world, Turn { phase: 3, at }, told)
 }
 
 // The sensor shows a value.

@@ -5,7 +5,7 @@ ghost use Rattle.htl_model.specs.declared.event.Event.{Event as Told};
 ghost use Rattle.htl_machine.specs.Calls.{Follows, IsSensorValue, IsLength};
 
 use crate::object_bytes::{
-    DOUBLING, PORT, REFINED, RESTARTED, SOMETIMES, TANKS, TWO_JOBS, TWO_MODES,
+    DOUBLING, PORT, REFINED, SOMETIMES, TANKS, TWO_JOBS, TWO_MODES, restarted,
 };
 use htl_base::limits::MAX_INSTANT;
 use htl_base::{Time, Ty, Value};
@@ -245,13 +245,6 @@ const RUNS: &[(&[u8], &[Event], Time, &str)] = &[
         30,
         "v 0 g 0\nv 0 u 0\nm 0 M m\nm 0 N one\nj 0 3 N.one.f\nd 3 N.one.f\nv 10 g 1\nv 10 u 1\nm 10 M rest\nm 10 N -\nv 20 g 0\nm 20 M m\nm 20 N one\nj 20 23 N.one.f\nd 23 N.one.f\nv 30 u 2\nm 30 N two\nend 30 jobs 2 e 50 s 5\n",
     ),
-    // a switch to the same mode keeps what stands below
-    (
-        &RESTARTED,
-        &[Event::At(10), Event::Sense { comm: 0, x: 1 }],
-        20,
-        "v 0 g 0\nv 0 u 0\nm 0 M m\nm 0 N one\nj 0 3 N.one.f\nd 3 N.one.f\nv 10 g 1\nv 10 u 1\nm 10 N two\nj 10 14 N.two.h\nd 14 N.two.h\nv 20 u 101\nend 20 jobs 2 e 41 s 4\n",
-    ),
     // two tanks
     (
         &TANKS,
@@ -272,10 +265,16 @@ const RUNS: &[(&[u8], &[Event], Time, &str)] = &[
     ),
 ];
 
+// A switch to the same mode keeps what stands below.
+const RESTART: [Event; 2] = [Event::At(10), Event::Sense { comm: 0, x: 1 }];
+
+const AFTER_RESTART: &str = "v 0 g 0\nv 0 u 0\nm 0 M m\nm 0 N one\nj 0 3 N.one.f\nd 3 N.one.f\nv 10 g 1\nv 10 u 1\nm 10 N two\nj 10 14 N.two.h\nd 14 N.two.h\nv 20 u 101\nend 20 jobs 2 e 41 s 4\n";
+
 #[test]
 fn runs_are_written(rt: HostRuntime) -> Result<(), Fail> {
     for (object, events, to, text) in RUNS {
         assert!(rt; writes(rt.alloc(), object, events, *to, text), "{text}");
     }
+    assert!(rt; writes(rt.alloc(), &restarted(), &RESTART, 20, AFTER_RESTART));
     Ok(())
 }

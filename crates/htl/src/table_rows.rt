@@ -173,18 +173,7 @@ pub const TWO_MODES: Source = Source {
 };
 
 pub const TWO_PERIODS: Source = Source {
-    text: "program P {
-  communicator int u period 10 init 1;
-  communicator int w period 10 init 0;
-  module F start m {
-    task a input (int i) output (int o = i + 1) worst 3;
-    mode m period 10 { invoke a input ((u, 0)) output ((u, 1)); }
-  }
-  module G start m {
-    task b input (int i) output (int o = i * 10) worst 9;
-    mode m period 20 { invoke b input ((u, 0)) output ((w, 2)); }
-  }
-}",
+    text: samples::TWO_PERIODS,
     comms: &[("u", Ty::Int, false, 10, 1), ("w", Ty::Int, false, 10, 0)],
     modules: &[("F", None, 0), ("G", None, 1)],
     modes: &[("m", 0, 10), ("m", 1, 20)],

@@ -1,9 +1,8 @@
 // The auditor: a machine for the values, and what is kept of a log.
-ghost use Rattle.std.specs.Prelude.{◌≡◌, ◌++◌, ◌∷◌, [], ◌≤◌, ◌<◌, ℕ, suc, List, length, Some, None, Ok, Err, IfOk, IfErr, All, map, drop, ◌%◌, true, false, OnOk, OnErr};
+ghost use Rattle.std.specs.Prelude.{◌≡◌, ◌++◌, ◌∷◌, [], ◌≤◌, ◌<◌, ℕ, suc, List, length, Some, None, Ok, Err, IfOk, IfErr, All, drop, ◌%◌, true, false, OnOk, OnErr};
 ghost use Rattle.htl_model.specs.declared.event.Event.{Event as Told};
 ghost use Rattle.htl_model.specs.declared.event.Event.TheVariants as event;
 ghost use Rattle.htl_machine.specs.Calls.{IsSensorValue, IsLength, text_between};
-ghost use Rattle.htl_model.specs.Tables.{task_worst as task_worst_of};
 ghost use Rattle.htl_machine.specs.Follows.{shown_as};
 ghost use Rattle.htl_base.specs.declared.limits.TheConstants as limit;
 ghost use Rattle.htl_console.specs.declared.shown.Shown.TheVariants.{Values};
@@ -25,10 +24,9 @@ use htl_base::{Memory, Seq, Time, Value};
 use htl_console::Shown;
 use htl_edge::{Failed, Sink};
 use htl_load::Loaded;
-use htl_machine::Machine;
+use htl_machine::{Machine, worst_cases};
 use htl_model::Tables;
-use htl_model::lookup::task_worst;
-use std::alloc::{AllocError, Global};
+use std::alloc::Global;
 use std::marker::Model;
 
 /// The numbers of a legal log.
@@ -68,18 +66,6 @@ impl<'a> Model for Auditor<'a> {
     ghost view = { λ a. record { machine = a.machine; log = a.log.now; takes = a.takes; kept = a.ledger } };
 
     ghost invariant = { λ a. IsAuditor a.loaded.now a.machine a.takes a.log.now a.ledger × IsAware a.loaded.now.tables a.feeders a.due a.ledger };
-}
-
-// The worst cases of the invocations, in ticks.
-fn worst_cases(alloc: Global, t: &Tables) -> Result<Vec<Time>, AllocError>
-    ensures { IfOk result (λ v. v.items ≡ map (λ x. task_worst_of t.now x.task) t.now.invs) }
-{
-    let invs = t.parts().invs.as_slice();
-    let mut worst = Vec::new(alloc);
-    for k in 0..invs.len() {
-        worst.push(task_worst(t, invs[k].task) as u64)?;
-    }
-    Ok(worst)
 }
 
 impl<'a> Auditor<'a> {

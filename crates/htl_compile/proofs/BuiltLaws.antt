@@ -17,11 +17,12 @@ use Rattle.htl_edf.proofs.PathOrder.{ready}
 use Rattle.htl_edf.specs.Lists.{tightened}
 use Rattle.htl_edf.specs.NodePlans.{AreReady}
 use Rattle.htl_edf.specs.Windows.{NoOverload}
+use Rattle.htl_form.proofs.SearchLaws.{kept_12}
 use Rattle.htl_model.proofs.FrameRules.{frames_kept, kept_apart}
 use Rattle.htl_model.proofs.Listed.{length-list_to}
 use Rattle.htl_model.proofs.SameRanges.{limits_same}
 use Rattle.htl_model.proofs.SameRules.{formed_same}
-use Rattle.htl_model.specs.Broken.{Formed, KeepsLimits, KeptTo}
+use Rattle.htl_model.specs.Broken.{Formed, KeepsLimits}
 use Rattle.htl_model.specs.Frames.{nodes, frame_limit}
 use Rattle.htl_model.specs.FunctionTypes.{FitPlaces}
 use Rattle.htl_model.specs.Ranges.{AreInRange}
@@ -31,9 +32,6 @@ use Rattle.htl_object.specs.Ranges.{IsFunctionCode, IsInRange}
 use Rattle.htl_walk.specs.Feasible.{AreFeasible}
 use Rattle.htl_walk.specs.NodeWalks.{instrs_of}
 use Rattle.htl_walk.specs.declared.job.Job.{Job}
-
-pub kept_12 : (t : Tables) → Formed t → KeptTo t 12
-kept_12 t formed = λ r s have need small h. formed r s have need h
 
 -- ---- schedules
 

@@ -108,8 +108,8 @@ pub fn put_instr(line: &mut LineBuffer, t: &Tables, instr: &EInstr)
     }
 }
 
-/// Adds an instruction of S code.
-pub fn put_step(line: &mut LineBuffer, instr: &SInstr)
+// Adds an instruction of S code.
+fn put_step(line: &mut LineBuffer, instr: &SInstr)
     requires room { length line.old + 56 ≤ limit.MAX_LINE }
     ensures bytes { line.new ≡ line.old ++ step_text instr.now }
     ensures len { length line.new ≤ length line.old + 56 }
@@ -127,4 +127,18 @@ pub fn put_step(line: &mut LineBuffer, instr: &SInstr)
         }
         SInstr::End => line.text(b"end"),
     }
+}
+
+/// Ends a line with an instruction of S code, behind the number of its schedule and its place there.
+pub fn put_placed_step(line: &mut LineBuffer, selection: u64, place: u64, instr: &SInstr)
+    requires room { length line.old + 99 ≤ limit.MAX_LINE }
+    ensures bytes { line.new ≡ line.old ++ (decimal selection ++ (codes ":" ++ (decimal place ++ (codes " " ++ (step_text instr.now ++ codes "\n"))))) }
+    ensures len { length line.new ≤ length line.old + 99 }
+{
+    line.number(selection);
+    line.text(b":");
+    line.number(place);
+    line.text(b" ");
+    put_step(line, instr);
+    line.text(b"\n");
 }

@@ -5,7 +5,7 @@ ghost use Rattle.htl_edge.specs.Content.{Puts};
 ghost use Rattle.htl_model.specs.Tables.{fun_of, task_is_abstract};
 ghost use Rattle.htl_console.specs.Listing.{type_word as type_word_of, parent_mode, parent_inv, platform_line, comm_line, module_line, mode_line, inv_line, function_line, code_line, schedule_line};
 
-use crate::instrs::{put_instr, put_step};
+use crate::instrs::{put_instr, put_placed_step};
 use crate::names::{mode_name, module_name, put_full_inv, put_inv, put_mode};
 use htl_base::limits::MAX_LINE;
 use htl_base::{Name, Ty};
@@ -203,11 +203,6 @@ pub fn show_step<W: Sink>(
 {
     let mut line = LineBuffer::new();
     line.text(b"S ");
-    line.number(selection as u64);
-    line.text(b":");
-    line.number(place as u64);
-    line.text(b" ");
-    put_step(&mut line, instr);
-    line.text(b"\n");
+    put_placed_step(&mut line, selection as u64, place as u64, instr);
     put_all(sink, line.as_bytes())
 }

@@ -6,7 +6,7 @@ ghost use Rattle.htl_model.specs.Lines.{line_text, shown_mode, totals_line};
 ghost use Rattle.htl_model.specs.declared.line.Line.TheVariants.{ValueLine, ModeLine};
 ghost use Rattle.htl_console.specs.Lines.{slice_line, done_line, instr_line, step_line, plan_line};
 
-use crate::instrs::{put_instr, put_step};
+use crate::instrs::{put_instr, put_placed_step};
 use crate::names::{comm_name, mode_name, module_name, put_inv};
 use htl_base::{Time, Value};
 use htl_ecode::EInstr;
@@ -142,12 +142,7 @@ pub fn line_s<W: Sink>(
     line.text(b"s ");
     line.number(at);
     line.text(b" ");
-    line.number(selection as u64);
-    line.text(b":");
-    line.number(place as u64);
-    line.text(b" ");
-    put_step(&mut line, instr);
-    line.text(b"\n");
+    put_placed_step(&mut line, selection as u64, place as u64, instr);
     put_all(sink, line.as_bytes())
 }
 

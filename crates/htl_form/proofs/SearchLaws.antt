@@ -5,7 +5,7 @@ use Rattle.htl_model.specs.declared.form_fault.FormFault.{FormFault}
 use Rattle.htl_model.specs.Tables.{Tables}
 use Rattle.htl_model.specs.Ranges.{AreInRange}
 use Rattle.htl_model.specs.FormRules.{FormRule, number_of, Site, ComesBefore}
-use Rattle.htl_model.specs.Broken.{Broken, KeptTo, site_of, IsFirstBroken}
+use Rattle.htl_model.specs.Broken.{Broken, Formed, KeptTo, site_of, IsFirstBroken}
 use Rattle.htl_form.specs.Rules.{law_of, rule_number, all_rules}
 use Rattle.htl_form.specs.Tests.{tests}
 use Rattle.htl_form.specs.Search.{form_fault_of, first_form_fault}
@@ -25,6 +25,10 @@ kept_at t range law few none s h d y =
 
 pub kept : (t : Tables) → AreInRange t → first_form_fault t all_rules ≡ None → KeptTo t 12
 kept t range none = λ law s h d few y. kept_at t range law few (λ p r is at. none_at (form_fault_of t) all_rules none p r at) s h d y
+
+-- tables that keep all rules keep those up to 12
+pub kept_12 : (t : Tables) → Formed t → KeptTo t 12
+kept_12 t formed = λ r s have need small broken. formed r s have need broken
 
 -- nothing is broken before the first of a rule, where rules before it find nothing
 least_of_all : (t : Tables) → AreInRange t → (f : FormFault) (g : IsFirstAt (form_fault_of t) all_rules f) (first : IsFirstOfRule t (law_of g.item) (rule_number g.item) f)

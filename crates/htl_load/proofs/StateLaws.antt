@@ -5,16 +5,11 @@ use Rattle.htl_model.proofs.PlaceLaws.{count_function_types}
 use Rattle.htl_model.specs.FunctionTypes.{FunctionType, function_types, IsFunctionOf, FitPlaces}
 use Rattle.htl_object.specs.Accepted.{IsSpelled, IsAccepted}
 use Rattle.htl_object.specs.declared.object.Object.{Object}
-use Rattle.htl_model.specs.Broken.{KeptTo, Formed}
 use Rattle.htl_model.specs.Ranges.{AreInRange}
 use Rattle.htl_model.specs.Tables.{Tables, Fun}
 use Rattle.htl_refine.proofs.OneFault.{formed}
 use Rattle.htl_walk.specs.Feasible.{AreFeasible}
 use Rattle.htl_walk.specs.NodeWalks.{instrs_of}
-
--- tables that keep all rules keep those up to 12
-pub kept_12 : (t : Tables) → Formed t → KeptTo t 12
-kept_12 t formed = λ r s have need small broken. formed r s have need broken
 
 -- it fits its place
 pub function_fits : (t : Tables) (id : ℕ) (f : Fun) → AreInRange t → FitPlaces t → slice_get t.functions id ≡ Some f → (y : FunctionType) × IsFunctionOf y f

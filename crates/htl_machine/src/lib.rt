@@ -23,5 +23,6 @@ mod timing;
 mod works;
 
 pub use machine::{Machine, Totals};
+pub use memory::worst_cases;
 pub use numbering::ListAt;
 pub use tally::Tally;

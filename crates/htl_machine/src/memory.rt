@@ -26,8 +26,8 @@ pub(crate) fn seen_values(
     Ok(values)
 }
 
-// The worst cases of the invocations.
-pub(crate) fn worst_cases(alloc: Global, t: &Tables) -> Result<Vec<Time>, AllocError>
+/// The worst cases of the invocations, in ticks. Want of memory is the one refusal.
+pub fn worst_cases(alloc: Global, t: &Tables) -> Result<Vec<Time>, AllocError>
     ensures { IfOk result (λ v. v.items ≡ map (λ x. task_worst_of t.now x.task) t.now.invs) }
 {
     let invs = t.parts().invs.as_slice();

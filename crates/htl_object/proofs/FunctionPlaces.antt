@@ -93,15 +93,24 @@ concrete_count x e = ap (λ (b : Bool). cond b 0 (length x.outputs)) e
 pub tasks_of : (t u : Tables) (ts : List Task) → t ≡ u → ts ≡ u.tasks → ts ≡ t.tasks
 tasks_of t u ts same e = e ∙ sym (ap (λ (v : Tables). v.tasks) same)
 
-pub next_count : (t : Tables) (ts : List Task) (k : ℕ) (x : Task) → ts ≡ t.tasks → k < length ts → x ≡ get_or ts k x → count_before (k + 1) t.tasks ≡ count_before k t.tasks + function_count x
+next_count : (t : Tables) (ts : List Task) (k : ℕ) (x : Task) → ts ≡ t.tasks → k < length ts → x ≡ get_or ts k x → count_before (k + 1) t.tasks ≡ count_before k t.tasks + function_count x
 next_count t ts k x same less is =
     let inside : k < length t.tasks = omega (arith, less, ap length same) in
     let here = outputs_count t ts k x same inside is in
     let next : count_before (k + 1) t.tasks ≡ count_before k t.tasks + count_at (slice_get t.tasks k) = ap (λ (n : ℕ). count_before n t.tasks) (add-one k) in
     omega (arith, here, next)
 
-pub count_bound : (t : Tables) (k : ℕ) → AreInRange t → k ≤ length t.tasks → count_before k t.tasks ≤ 1048576
+count_bound : (t : Tables) (k : ℕ) → AreInRange t → k ≤ length t.tasks → count_before k t.tasks ≤ 1048576
 count_bound t k r within = omega (arith, count_small t k r, within, r.few_tasks)
+
+-- behind the functions of a task come those of the next, and their place is among few
+pub place_behind_task : (t u : Tables) (ts : List Task) (k id count : ℕ) (x : Task) → t ≡ u → ts ≡ u.tasks → AreInRange t → k < length ts → x ≡ get_or ts k x → id ≡ count_before k t.tasks → count ≡ function_count x
+    → (id + count ≡ count_before (k + 1) t.tasks) × (id + count ≤ 1048576)
+place_behind_task t u ts k id count x same e r less is place counted =
+    let tasks = tasks_of t u ts same e in
+    let next = next_count t ts k x tasks less is in
+    let bound = count_bound t (k + 1) r (omega (arith, less, ap length tasks)) in
+    (omega (arith, place, counted, next), omega (arith, place, counted, next, bound))
 
 pub at_end : (t : Tables) (ts : List Task) (id k : ℕ) → ts ≡ t.tasks → id ≡ count_before k t.tasks → k ≤ length ts → length ts ≤ k → id ≡ count_before (length t.tasks) t.tasks
 at_end t ts id k same is most least =

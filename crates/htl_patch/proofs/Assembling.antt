@@ -15,7 +15,7 @@ use Rattle.htl_patch.specs.United.{Graft}
 use Rattle.htl_patch.specs.declared.fault.PatchFault.{PatchFault}
 use Rattle.htl_patch.specs.declared.fault.PatchFault.TheVariants as fault
 
-abbrev made : List Comm → List Mode → List Module → List Port → List Task → List Inv → List Switch → List Fun → Tables
+abbrev pub made : List Comm → List Mode → List Module → List Port → List Task → List Inv → List Switch → List Fun → Tables
 made comms modes units ports tasks invs switches functions =
     record { comms = comms; modes = modes; modules = units; ports = ports; tasks = tasks; invs = invs; switches = switches; functions = functions }
 

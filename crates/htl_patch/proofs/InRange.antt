@@ -33,9 +33,6 @@ module _ (u : Tables) (units : List ℕ) (sound : IsSound u) (order : IsOrder u 
   abbrev t : Tables
   t = renumbered u n
 
-  abbrev apart : AreApart units
-  apart = order.apart
-
   -- ---- invocations
 
   -- the task of an invocation that is taken is taken
@@ -73,7 +70,7 @@ module _ (u : Tables) (units : List ℕ) (sound : IsSound u) (order : IsOrder u 
         owner = (mode_below u units sound order parents few) r.2.mode mode;
         task = (
           new_task n (task_at u r.2.task),
-          task_new u units apart r.2.task (task_taken k h),
+          task_new u units order.apart r.2.task (task_taken k h),
           ap (λ (x : Task). place_among x.«module» units) (get_some u.tasks r.2.task s.task.0 _ s.task.1)
               ∙ ap (λ (y : ℕ). place_among y units) (s.task.2 ∙ owner r.2.mode mode)
               ∙ sym ((mode_owner_place u units sound order parents few) r.2.mode mode),
@@ -105,7 +102,7 @@ module _ (u : Tables) (units : List ℕ) (sound : IsSound u) (order : IsOrder u 
   invoked_once =
       different_pairs (map inv_key t.invs)
       (subst AreApart (sym (map_fuse inv_key (λ (k : ℕ). new_inv n (inv_at u k)) n.invs))
-      (apart_image (λ (k : ℕ). inv_key (new_inv n (inv_at u k))) n.invs (invs_apart u units apart) (λ x y h i e. (let a = (inv_of u units sound order parents few) x h in
+      (apart_image (λ (k : ℕ). inv_key (new_inv n (inv_at u k))) n.invs (invs_apart u units order.apart) (λ x y h i e. (let a = (inv_of u units sound order parents few) x h in
       let b = (inv_of u units sound order parents few) y i in
       let p = key_at x h in
       let q = key_at y i in

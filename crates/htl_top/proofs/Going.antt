@@ -19,7 +19,7 @@ use Rattle.htl_load.specs.declared.fault.ObjectFault.{ObjectFault}
 use Rattle.htl_model.specs.Tables.{Tables}
 use Rattle.htl_object.specs.Accepted.{IsAccepted}
 use Rattle.htl_object.specs.declared.object.Object.{Object as ObjectOf}
-use Rattle.htl_top.proofs.ObjectAnswering.{IsOfWork}
+use Rattle.htl_top.proofs.ObjectAnswering.{IsOfWork, early_work}
 use Rattle.htl_top.proofs.Running.{IsRun-source, run_only, run_unwritten}
 use Rattle.htl_platform.specs.declared.fault.PlatformFault.{PlatformFault}
 use Rattle.htl_top.specs.Answers.{Files, Streams, IsBeforeScript, IsBeforeRun}
@@ -93,23 +93,6 @@ uncompiled_before name shelf (Script f) s work = absurd s
 uncompiled_before name shelf (Shelf cause) s work = absurd work
 uncompiled_before name shelf Read s work = absurd s
 uncompiled_before name shelf Write s work = absurd s
-
-early_work : (outcome : Outcome) → IsBeforeScript outcome → IsOfWork outcome → outcome ≡ Task
-early_work Done early work = absurd early
-early_work Usage early work = absurd work
-early_work (Platform f) early work = absurd work
-early_work Task early work = refl
-early_work (Log f) early work = absurd work
-early_work (Patch f) early work = absurd work
-early_work (Source f) early work = absurd work
-early_work (IllFormed f) early work = absurd work
-early_work (Unschedulable sel a b demand) early work = absurd work
-early_work (Refused f) early work = absurd work
-early_work (Script f) early work = absurd early
-early_work (Shelf cause) early work = absurd work
-early_work Read early work = absurd early
-early_work Write early work = absurd early
-early_work Memory early work = absurd early
 
 pub IsProgram-map : (name : Option (List ℕ)) (holds : Option Holdings) (Fact Other : Tables → Type 0) → ((t : Tables) → Fact t → Other t)
     → IsProgram name holds Fact → IsProgram name holds Other

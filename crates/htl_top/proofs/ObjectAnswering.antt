@@ -226,7 +226,7 @@ stopped_before name shelf (Shelf cause) stopped work = absurd work
 stopped_before name shelf Read stopped work = absurd stopped
 stopped_before name shelf Write stopped work = absurd stopped
 
-early_work : (outcome : Outcome) → IsBeforeScript outcome → IsOfWork outcome → outcome ≡ Task
+pub early_work : (outcome : Outcome) → IsBeforeScript outcome → IsOfWork outcome → outcome ≡ Task
 early_work Done early work = absurd early
 early_work Usage early work = absurd work
 early_work (Platform f) early work = absurd work

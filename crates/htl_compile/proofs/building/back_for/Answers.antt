@@ -1,8 +1,9 @@
 use Rattle.std.proofs.Common.{List, refl, ◌∙◌, ap₂, sym, subst}
-use Rattle.htl_compile.proofs.BuiltLaws.{kept_12, no_limit, object_accepted}
+use Rattle.htl_compile.proofs.BuiltLaws.{no_limit, object_accepted}
 use Rattle.htl_compile.proofs.CodedLaws.{fitting_are_code}
 use Rattle.htl_compile.proofs.PlanLaws.{planned_is, unplanned_is}
 use Rattle.htl_ecode.specs.declared.ecode.ECode.{ECode}
+use Rattle.htl_form.proofs.SearchLaws.{kept_12}
 use Rattle.htl_model.proofs.FrameRules.{kept_apart}
 use Rattle.htl_model.specs.FormRules.{Offsets}
 use Rattle.htl_object.specs.Accepted.{IsAccepted}

@@ -1,21 +1,16 @@
-use Rattle.std.proofs.Common.{◌+◌, length, ap, arith}
+use Rattle.std.proofs.Common.{arith}
 use Rattle.htl_compile.proofs.FunctionLaws.{typed_more, typed_to, codes_past, codes_to}
-use Rattle.htl_object.proofs.FunctionPlaces.{tasks_of, next_count, count_bound, at_end}
+use Rattle.htl_object.proofs.FunctionPlaces.{tasks_of, place_behind_task, at_end}
 use Rattle.htl_compile.proofs.functions.push_tasks.Goals as goal
 
 pub overflow_add-id : goal.overflow_add-id
-overflow_add-id c =
-    let tasks = tasks_of c.args.t.now _ c.as_slice-tasks.result.now c.parts.ensures.value c.as_slice-tasks.ensures in
-    let next = next_count c.args.t.now c.as_slice-tasks.result.now c.loop-k.k c.index-tasks-k.result tasks c.loop-k-test.true c.index-tasks-k.is in
-    let bound = count_bound c.args.t.now (c.loop-k.k + 1) c.parts.ensures.ranges (omega (arith, c.loop-k-test.true, ap length tasks)) in
-    omega (arith, c.loop-k.invariant.id, c.function_count.ensures.count, next, bound)
+overflow_add-id c = let next = place_behind_task c.args.t.now _ c.as_slice-tasks.result.now c.loop-k.k c.loop-k.id c.function_count.result c.index-tasks-k.result c.parts.ensures.value c.as_slice-tasks.ensures c.parts.ensures.ranges c.loop-k-test.true c.index-tasks-k.is c.loop-k.invariant.id c.function_count.ensures.count in omega (arith, next.1)
 
 pub loop-k-preserved : goal.loop-k-preserved
 loop-k-preserved c =
     let tasks = tasks_of c.args.t.now _ c.as_slice-tasks.result.now c.parts.ensures.value c.as_slice-tasks.ensures in
-    let next = next_count c.args.t.now c.as_slice-tasks.result.now c.loop-k.k c.index-tasks-k.result tasks c.loop-k-test.true c.index-tasks-k.is in
     record {
-      id = omega (arith, c.loop-k.invariant.id, c.function_count.ensures.count, next);
+      id = (place_behind_task c.args.t.now _ c.as_slice-tasks.result.now c.loop-k.k c.loop-k.id c.function_count.result c.index-tasks-k.result c.parts.ensures.value c.as_slice-tasks.ensures c.parts.ensures.ranges c.loop-k-test.true c.index-tasks-k.is c.loop-k.invariant.id c.function_count.ensures.count).0;
       codes = codes_past c.args.t.now c.as_slice-tasks.result.now c.push_outputs.new.codes.items c.loop-k.k c.loop-k.id c.function_count.result c.index-tasks-k.result tasks c.loop-k-test.true c.index-tasks-k.is c.function_count.ensures.count c.in-Ok.ensures.codes;
       typed = typed_more c.args.t.now c.as_slice-tasks.result.now c.loop-k.k c.loop-k.id c.function_count.result c.index-tasks-k.result tasks c.loop-k-test.true c.index-tasks-k.is c.function_count.ensures.count c.loop-k.invariant.typed c.in-Ok.ensures.typed;
     }

@@ -30,11 +30,7 @@ pub returns-in-Err-Memory-clause-taken : goal.returns-in-Err-Memory-clause-taken
 returns-in-Err-Memory-clause-taken g c = taken_none 1052672 (g.R.Source.rest c.args.input.now)
 
 pub returns-in-Err-TooLong-clause-shelf_count : goal.returns-in-Err-TooLong-clause-shelf_count
-returns-in-Err-TooLong-clause-shelf_count g c =
-    let kept : (other : List ℕ) → g.S.Shelf.faults c.fetch.new.self other ≡ g.S.Shelf.faults c.args.shelf.now other = rw c.in-Err-TooLong.field-0-is at c.in-Err-TooLong.ensures.kept in
-    λ long file. kept file
+returns-in-Err-TooLong-clause-shelf_count g c = λ long. rw c.in-Err-TooLong.field-0-is at c.in-Err-TooLong.ensures.kept
 
 pub returns-in-Err-Memory-clause-shelf_count : goal.returns-in-Err-Memory-clause-shelf_count
-returns-in-Err-Memory-clause-shelf_count g c =
-    let kept : (other : List ℕ) → g.S.Shelf.faults c.fetch.new.self other ≡ g.S.Shelf.faults c.args.shelf.now other = rw c.in-Err-Memory.field-0-is at c.in-Err-Memory.ensures.kept in
-    λ none file. kept file
+returns-in-Err-Memory-clause-shelf_count g c = λ none. rw c.in-Err-Memory.field-0-is at c.in-Err-Memory.ensures.kept

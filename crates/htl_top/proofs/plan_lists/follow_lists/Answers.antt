@@ -1,4 +1,4 @@
-use Rattle.std.proofs.Common.{◌≤◌, ◌<◌, ◌+◌, ◌++◌, ℕ, List, length, drop, get_or, add-one, ap, sym, refl, subst, ◌∙◌, arith}
+use Rattle.std.proofs.Common.{◌≡◌, ◌≤◌, ◌<◌, ◌+◌, ◌++◌, ℕ, suc, List, length, drop, get_or, add-one, ap, sym, refl, subst, ◌∙◌, arith}
 use Rattle.htl_model.specs.Frames.{starts}
 use Rattle.htl_model.specs.Tables.{Tables}
 use Rattle.htl_walk.proofs.CodeWalk.{start_read}
@@ -11,7 +11,9 @@ use Rattle.htl_top.proofs.ListByList.{list_next, lists_end, path_leg, path_legs,
 use Rattle.htl_top.proofs.PlanWalk.{length-walk}
 use Rattle.htl_top.proofs.ToldRecords.{IsTold, IsTold-start, IsTold-step, IsTold-cut, IsTold-all, IsTold-count, IsTold-few, IsTold-many, few_finish}
 use Rattle.htl_top.specs.Planned.{walk_text}
+use Rattle.htl_top.proofs.plan_lists.follow_lists.Given as given
 use Rattle.htl_top.proofs.plan_lists.follow_lists.Goals as goal
+use Rattle.htl_top.proofs.plan_lists.follow_lists.Goals.{After-follow}
 
 pub overflow_add-finished : goal.overflow_add-finished
 overflow_add-finished g c =
@@ -50,24 +52,39 @@ loop-j-init g c =
       few = omega arith;
     }
 
+-- the lists from one on are its own and those from the next on
+from_list_on : (g : given.Over) (c : After-follow g) (new : List ℕ)
+    → new ≡ (last_point c.args.jobs.now c.list_at-instrs.result.now (record { time = get_or c.args.f.now.starts c.loop-j.j 0; left = c.loop-j.left })).left
+    → let t : Tables = c.args.l.now.tables in
+      let jobs = c.args.jobs.now in
+      let ss = lists_of t (instrs_of c.args.l.now.schedules) c.args.path in
+      let gs = legs t c.args.path in
+      let here : Point = record { time = 0; left = c.loop-j.left } in
+      let after : Point = record { time = 0; left = new } in
+      end_to_end (walks_from jobs (drop c.loop-j.j ss) (drop c.loop-j.j gs) here)
+      ≡ walk_from jobs c.list_at-instrs.result.now (record { time = get_or c.args.f.now.starts c.loop-j.j 0; left = c.loop-j.left })
+      ++ end_to_end (walks_from jobs (drop (suc c.loop-j.j) ss) (drop (suc c.loop-j.j) gs) after)
+from_list_on g c new last =
+    let t : Tables = c.args.l.now.tables in
+    let is = instrs_of c.args.l.now.schedules in
+    let j = c.loop-j.j in
+    let there : j < length (starts t) = omega (arith, c.loop-j-test.true, c.requires.frame.count) in
+    list_next c.args.jobs.now (lists_of t is c.args.path) (legs t c.args.path) j (omega (arith, path_lists t is c.args.path, there)) (omega (arith, path_legs t c.args.path, there)) c.list_at-instrs.result.now
+    (get_or c.args.f.now.starts j 0) c.loop-j.left new (c.list_at-instrs.ensures.list ∙ sym (path_list t is c.args.path j there))
+    (start_read t c.args.f.now j c.requires.frame there ∙ sym (path_leg t c.args.path j there)) last
+
 pub loop-j-preserved : goal.loop-j-preserved
 loop-j-preserved g c =
-    let o = c.args.l.now in
-    let t : Tables = o.tables in
-    let path = c.args.path in
+    let t : Tables = c.args.l.now.tables in
     let jobs = c.args.jobs.now in
-    let j = c.loop-j.j in
+    let ss = lists_of t (instrs_of c.args.l.now.schedules) c.args.path in
+    let gs = legs t c.args.path in
     let s = c.list_at-instrs.result.now in
-    let a = get_or c.args.f.now.starts j 0 in
-    let ss = lists_of t (instrs_of o.schedules) path in
-    let gs = legs t path in
-    let x : Point = record { time = a; left = c.loop-j.left } in
+    let x : Point = record { time = get_or c.args.f.now.starts c.loop-j.j 0; left = c.loop-j.left } in
     let after : Point = record { time = 0; left = c.follow.new.left } in
-    let there : j < length (starts t) = omega (arith, c.loop-j-test.true, c.requires.frame.count) in
     let cut =
-    list_next jobs ss gs j (omega (arith, path_lists t (instrs_of o.schedules) path, there)) (omega (arith, path_legs t path, there)) s a c.loop-j.left c.follow.new.left
-    (c.list_at-instrs.ensures.list ∙ sym (path_list t (instrs_of o.schedules) path j there)) (start_read t c.args.f.now j c.requires.frame there ∙ sym (path_leg t path j there)) c.in-Ok.ensures.left
-    ∙ ap (λ n. walk_from jobs s x ++ end_to_end (walks_from jobs (drop n ss) (drop n gs) after)) (sym (add-one j)) in
+    from_list_on g (goal.at.loop-j-preserved g c).After-follow c.follow.new.left c.in-Ok.ensures.left
+    ∙ ap (λ n. walk_from jobs s x ++ end_to_end (walks_from jobs (drop n ss) (drop n gs) after)) (sym (add-one c.loop-j.j)) in
     record {
       told =
           IsTold-step t jobs _ _ (walk_from jobs s x) _ _ c.loop-j.count _ c.loop-j.finished _ _ _ _ _ _ _ _ cut (ap (λ (u : Tables). walk_text u jobs (walk_from jobs s x)) c.tables.ensures.value)
@@ -78,21 +95,12 @@ loop-j-preserved g c =
 
 pub returns-in-Err-clause-put : goal.returns-in-Err-clause-put
 returns-in-Err-clause-put g c =
-    let o = c.args.l.now in
-    let t : Tables = o.tables in
-    let path = c.args.path in
     let jobs = c.args.jobs.now in
-    let j = c.loop-j.j in
     let s = c.list_at-instrs.result.now in
-    let a = get_or c.args.f.now.starts j 0 in
-    let ss = lists_of t (instrs_of o.schedules) path in
-    let gs = legs t path in
-    let x : Point = record { time = a; left = c.loop-j.left } in
-    let there : j < length (starts t) = omega (arith, c.loop-j-test.true, c.requires.frame.count) in
-    let cut =
-    list_next jobs ss gs j (omega (arith, path_lists t (instrs_of o.schedules) path, there)) (omega (arith, path_legs t path, there)) s a c.loop-j.left (last_point jobs s x).left
-    (c.list_at-instrs.ensures.list ∙ sym (path_list t (instrs_of o.schedules) path j there)) (start_read t c.args.f.now j c.requires.frame there ∙ sym (path_leg t path j there)) refl in
-    IsTold-cut t jobs _ _ (walk_from jobs s x) _ _ c.loop-j.count c.loop-j.finished _ _ _ _ _ _ _ _ cut (ap (λ (u : Tables). walk_text u jobs (walk_from jobs s x)) c.tables.ensures.value) c.loop-j.invariant.told c.in-Err.ensures.put
+    let x : Point = record { time = get_or c.args.f.now.starts c.loop-j.j 0; left = c.loop-j.left } in
+    let cut = from_list_on g (goal.at.returns-in-Err-clause-put g c).After-follow (last_point jobs s x).left refl in
+    IsTold-cut c.args.l.now.tables jobs _ _ (walk_from jobs s x) _ _ c.loop-j.count c.loop-j.finished _ _ _ _ _ _ _ _ cut (ap (λ (u : Tables). walk_text u jobs (walk_from jobs s x)) c.tables.ensures.value)
+    c.loop-j.invariant.told c.in-Err.ensures.put
 
 pub returns-clause-finished : goal.returns-clause-finished
 returns-clause-finished g c =
