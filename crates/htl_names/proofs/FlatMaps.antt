@@ -1,12 +1,15 @@
--- Where the items of lists and of their parts stand.
-use Rattle.std.proofs.Common.{◌≡◌, ℕ, zero, suc, ◌+◌, ◌<◌, ◌≤◌, ◌⊎◌, inl, inr, List, [], ◌∷◌, ◌++◌, length, take, slice_get, Some, None, refl, sym, ◌∙◌, ap, subst, arith, length-append, eq-or-lt_of_le, drop, take-append-drop, add-one, append_assoc, get_or, map}
-use Rattle.std.specs.List.{flat_map}
-use Rattle.std.proofs.lemmas.List.{drop_more}
-use Rattle.std.proofs.lemmas.Option.{slice_get_within, same_Some, none-some}
+-- Where the items of lists and of their parts stand, and whose they are.
+use Rattle.std.proofs.Common.{◌≡◌, ℕ, zero, suc, ◌+◌, ◌<◌, ◌≤◌, ◌⊎◌, inl, inr, List, [], ◌∷◌, ◌++◌, length, take, slice_get, Some, None, refl, sym, ◌∙◌, ap, subst, arith, length-append, eq-or-lt_of_le, drop, take-append-drop, add-one, append_assoc, get_or, map, cond, Bool, true, false, eqb, Option, eqb-true, eq-eqb}
+use Rattle.std.specs.List.{flat_map, count_by}
+use Rattle.std.proofs.lemmas.List.{drop_more, length-map}
+use Rattle.std.proofs.lemmas.Option.{slice_get_within, same_Some, none-some, slice_get-get_or}
 use Rattle.std.proofs.lemmas.Grind.{flat_map-append}
 use Rattle.htl_model.specs.Lists.{list_to}
 use Rattle.htl_model.proofs.Listed.{length-list_to}
 use Rattle.htl_names.specs.Lists.{flat_map_at}
+use Rattle.std.specs.List.Sorted.{IsNonDecreasing}
+use Rattle.std.proofs.lemmas.List.Sums.{sum_by-cons, sum_by-append}
+use Rattle.htl_model.proofs.PlaceLaws.{get_mapped}
 
 -- ---- the front and the back of a list
 
@@ -220,3 +223,132 @@ flat_on {A} f g k xs x old new total below is grown going =
     ∙ append_assoc old (f k (g x)) (flat_map_at f (suc k) rest)
     ∙ ap (λ (ys : List A). old ++ flat_map_at f k (map g ys)) (sym (drop_more xs k x below ∙ ap (λ y. y ∷ drop (k + 1) xs) (sym is)))
     ∙ going
+
+-- ---- mapped lists
+
+-- an item of a mapped list is the image of one
+pub of_map : {A B : Type 0} (f : A → B) (xs : List A) (k : ℕ) (y : B) → slice_get (map f xs) k ≡ Some y → (x : A) × (slice_get xs k ≡ Some x) × (f x ≡ y)
+of_map f [] k y e = absurd cc
+of_map f (x ∷ xs) zero y e = (x, refl, cc)
+of_map f (x ∷ xs) (suc k) y e = of_map f xs k y e
+
+-- ---- owners that don't fall
+
+-- each item has the place of its part as owner
+abbrev pub IsOwned : {A B : Type 0} → (ℕ → A → List B) → (B → ℕ) → Type 0
+IsOwned {A} {B} f own = (k : ℕ) (x : A) (j : ℕ) (y : B) → slice_get (f k x) j ≡ Some y → own y ≡ k
+
+pub owner_from : {A B : Type 0} (f : ℕ → A → List B) (own : B → ℕ) → IsOwned f own → (k : ℕ) (xs : List A) (i : ℕ) (y : B) → slice_get (flat_map_at f k xs) i ≡ Some y → k ≤ own y
+owner_from f own owned k xs i y e = let p = part_of f k xs i y e in let is = owned (k + p.part) p.owner p.place y p.item in omega (arith, is)
+
+pub owners_order : {A B : Type 0} (f : ℕ → A → List B) (own : B → ℕ) → IsOwned f own → (k : ℕ) (xs : List A) (i j : ℕ) (y z : B) → i ≤ j
+    → slice_get (flat_map_at f k xs) i ≡ Some y → slice_get (flat_map_at f k xs) j ≡ Some z → own y ≤ own z
+owners_order f own owned k [] i j y z less p q = absurd cc
+owners_order f own owned k (x ∷ xs) i j y z less p q =
+    by (get_either (f k x) (flat_map_at f (suc k) xs) i y p) (get_either (f k x) (flat_map_at f (suc k) xs) j z q) (λ i j. owners_order f own owned (suc k) xs i j y z)
+  where
+    by : (slice_get (f k x) i ≡ Some y) ⊎ ((a : ℕ) × (i ≡ length (f k x) + a) × (slice_get (flat_map_at f (suc k) xs) a ≡ Some y))
+        → (slice_get (f k x) j ≡ Some z) ⊎ ((a : ℕ) × (j ≡ length (f k x) + a) × (slice_get (flat_map_at f (suc k) xs) a ≡ Some z))
+        → ((i j : ℕ) → i ≤ j → slice_get (flat_map_at f (suc k) xs) i ≡ Some y → slice_get (flat_map_at f (suc k) xs) j ≡ Some z → own y ≤ own z) → own y ≤ own z
+    by (inl a) (inl b) later = let one = owned k x i y a in let two = owned k x j z b in omega (arith, one, two)
+    by (inl a) (inr b) later = let one = owned k x i y a in let two = owner_from f own owned (suc k) xs b.0 z b.2 in omega (arith, one, two)
+    by (inr a) (inl b) later = let within = slice_get_within (f k x) j z b in absurd (omega (arith, less, within, a.1))
+    by (inr a) (inr b) later = later a.0 b.0 (omega (arith, less, a.1, b.1)) a.2 b.2
+
+pub non_decreasing : {A B : Type 0} (f : ℕ → A → List B) (own : B → ℕ) → IsOwned f own → (k : ℕ) (xs : List A) → IsNonDecreasing (map own (flat_map_at f k xs))
+non_decreasing f own owned k xs i j d less below =
+    let items = flat_map_at f k xs in
+    let owners = map own items in
+    let y = of_map own items i (get_or owners i d) (slice_get-get_or owners i d (omega (arith, less, below))) in
+    let z = of_map own items j (get_or owners j d) (slice_get-get_or owners j d below) in
+    let order = owners_order f own owned k xs i j y.0 z.0 less y.1 z.1 in
+    omega (arith, order, y.2, z.2)
+
+-- ---- how many items an owner has
+
+module _ {B : Type 0} (own : B → ℕ) (m : ℕ) where
+  counted_first : (y : B) (ys : List B) (b : Bool) → eqb (own y) m ≡ b → count_by (λ z. eqb (own z) m) (y ∷ ys) ≡ cond b 1 0 + count_by (λ z. eqb (own z) m) ys
+  counted_first y ys b is = sum_by-cons (λ z. cond (eqb (own z) m) 1 0) y ys ∙ ap (λ c. cond c 1 0 + count_by (λ z. eqb (own z) m) ys) is
+
+  none_owned : (ys : List B) → ((j : ℕ) (y : B) → slice_get ys j ≡ Some y → own y ≡ m → ⊥) → count_by (λ y. eqb (own y) m) ys ≡ 0
+  none_owned [] none = refl
+  none_owned (y ∷ ys) none =
+      by (eqb (own y) m) refl (none_owned ys (λ j z e. none (suc j) z e))
+    where
+      by : (b : Bool) → eqb (own y) m ≡ b → count_by (λ z. eqb (own z) m) ys ≡ 0 → count_by (λ z. eqb (own z) m) (y ∷ ys) ≡ 0
+      by true is rest = absurd (none 0 y refl (eqb-true (own y) m is))
+      by false is rest = let first = counted_first y ys false is in omega (arith, first, rest)
+
+  all_owned : (ys : List B) → ((j : ℕ) (y : B) → slice_get ys j ≡ Some y → own y ≡ m) → count_by (λ y. eqb (own y) m) ys ≡ length ys
+  all_owned [] all = refl
+  all_owned (y ∷ ys) all =
+      let rest = all_owned ys (λ j z e. all (suc j) z e) in
+      let first = counted_first y ys true (eq-eqb (own y) m (all 0 y refl)) in
+      omega (arith, first, rest)
+
+-- the owner of a part has as many items as the part
+pub owned_count : {A B : Type 0} (f : ℕ → A → List B) (own : B → ℕ) (m : ℕ) → IsOwned f own → (k : ℕ) (xs : List A) (i : ℕ) (x : A) → m ≡ k + i → slice_get xs i ≡ Some x
+    → count_by (λ y. eqb (own y) m) (flat_map_at f k xs) ≡ length (f m x)
+owned_count f own m owned k [] i x same e = absurd cc
+owned_count f own m owned k (z ∷ xs) zero x same e =
+    let here : k ≡ m = omega (arith, same) in
+    let is : z ≡ x = cc in
+    let sum = sum_by-append (λ y. cond (eqb (own y) m) 1 0) (f k z) (flat_map_at f (suc k) xs) in
+    let all = all_owned own m (f k z) (λ j y g. owned k z j y g ∙ here) in
+    let none = none_owned own m (flat_map_at f (suc k) xs) (λ j y g w. let above = owner_from f own owned (suc k) xs j y g in omega (arith, above, w, here)) in
+    let part = ap (λ (n : ℕ). length (f n z)) here ∙ ap (λ w. length (f m w)) is in
+    omega (arith, sum, all, none, part)
+owned_count f own m owned k (z ∷ xs) (suc i) x same e =
+    let sum = sum_by-append (λ y. cond (eqb (own y) m) 1 0) (f k z) (flat_map_at f (suc k) xs) in
+    let none = none_owned own m (f k z) (λ j y g w. let is = owned k z j y g in omega (arith, is, w, same)) in
+    let rest = owned_count f own m owned (suc k) xs i x (omega (arith, same)) e in
+    omega (arith, sum, none, rest)
+
+-- an owner has no more items than its part
+pub few_owned : {A B : Type 0} (f : ℕ → A → List B) (own : B → ℕ) (m most : ℕ) → IsOwned f own → (xs : List A) → ((n : ℕ) (x : A) → length (f n x) ≤ most) → count_by (λ y. eqb (own y) m) (flat_map_at f 0 xs) ≤ most
+few_owned {A} f own m most owned xs few = by (slice_get xs m) refl
+  where
+    by : (o : Option A) → slice_get xs m ≡ o → count_by (λ y. eqb (own y) m) (flat_map_at f 0 xs) ≤ most
+    by (Some x) there = let size = owned_count f own m owned 0 xs m x (omega arith) there in let fits = few m x in omega (arith, size, fits)
+    by None there =
+        let none = none_owned own m (flat_map_at f 0 xs) (λ j y e is.
+        let p = part_of f 0 xs j y e in
+        let owner = owned (0 + p.part) p.owner p.place y p.item in
+        let place : p.part ≡ m = omega (arith, owner, is) in
+        none-some p.owner (sym there ∙ ap (slice_get xs) (sym place) ∙ p.there)) in
+        omega (arith, none)
+
+-- ---- lists by owners, of which each has nodes that give an item each
+
+-- what the nodes of an owner give
+abbrev pub given : {A N B : Type 0} → (ℕ → A → N → B) → (A → List N) → ℕ → A → List B
+given item nodes k x = map (item k x) (nodes x)
+
+pub counted : {A N B : Type 0} (item : ℕ → A → N → B) (nodes : A → List N) (xs : List A) → length (flat_map_at (given item nodes) 0 xs) ≡ length (flat_map nodes xs)
+counted item nodes xs = same_length (given item nodes) nodes (λ k x. length-map (nodes x) (item k x)) 0 xs
+
+-- the item of a node stands behind those of the owners before
+pub stands : {A N B : Type 0} (item : ℕ → A → N → B) (nodes : A → List N) (xs : List A) (k m : ℕ) (x : A) (n : N) → slice_get xs k ≡ Some x → slice_get (nodes x) m ≡ Some n
+    → slice_get (flat_map_at (given item nodes) 0 xs) (length (flat_map nodes (take k xs)) + m) ≡ Some (item k x n)
+stands item nodes xs k m x n there its =
+    subst (λ (i : ℕ). slice_get (flat_map_at (given item nodes) 0 xs) (i + m) ≡ Some (item k x n)) (counted item nodes (take k xs))
+    (at_part_0 (given item nodes) xs k m x (item k x n) there (get_mapped (item k x) (nodes x) m n its))
+
+-- the owner and the node of an item
+pub record From {A N B : Type 0} (item : ℕ → A → N → B) (nodes : A → List N) (xs : List A) (y : B) : Type 0 where
+  pub number : ℕ
+  pub owner : A
+  pub there : slice_get xs number ≡ Some owner
+  pub place : ℕ
+  pub node : N
+  pub its : slice_get (nodes owner) place ≡ Some node
+  pub is : item number owner node ≡ y
+
+pub from : {A N B : Type 0} (item : ℕ → A → N → B) (nodes : A → List N) (xs : List A) (n : ℕ) (y : B) → slice_get (flat_map_at (given item nodes) 0 xs) n ≡ Some y → From item nodes xs y
+from item nodes xs n y e =
+    let p = part_of_0 (given item nodes) xs n y e in
+    let x = of_map (item p.part p.owner) (nodes p.owner) p.place y p.item in
+    record { number = p.part; owner = p.owner; there = p.there; place = p.place; node = x.0; its = x.1; is = x.2 }
+
+pub owned : {A N B : Type 0} (item : ℕ → A → N → B) (nodes : A → List N) (own : B → ℕ) → ((k : ℕ) (x : A) (n : N) → own (item k x n) ≡ k) → IsOwned (given item nodes) own
+owned item nodes own is k x j y e = let r = of_map (item k x) (nodes x) j y e in sym (ap own r.2) ∙ is k x r.0

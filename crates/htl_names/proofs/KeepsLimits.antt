@@ -16,7 +16,6 @@ use Rattle.htl_text.specs.declared.tree.InvokeNode.{InvokeNode}
 use Rattle.htl_names.specs.Conditions.{MeetsBounds}
 use Rattle.htl_names.specs.Flat.{layout, mode_number, mode_item, module_mode_items, module_item, module_items_at, invoke_item, mode_invoke_items, tables_of_tree}
 use Rattle.htl_names.specs.Limits.{most_invokes, most_positions, selections, choices}
-use Rattle.htl_names.specs.Limits as tree
 use Rattle.htl_names.specs.Lists.{flat_map_at}
 use Rattle.htl_names.specs.NameRules.{AreNamesRight}
 use Rattle.htl_names.specs.Order.{modules_at, modes_at, invokes_at, modules_in}
@@ -25,16 +24,13 @@ use Rattle.htl_names.specs.Ordered.{is_root_module}
 use Rattle.htl_names.specs.declared.place.ModeAt.{ModeAt}
 use Rattle.htl_names.specs.declared.place.ModuleAt.{ModuleAt}
 use Rattle.htl_names.proofs.InRange.{names-in-range}
-use Rattle.htl_names.proofs.ModuleRanges.{modules_exist}
-use Rattle.htl_names.proofs.Listings.{owned}
-use Rattle.htl_names.proofs.Numbered.{AreModules, modes_in, mode_count, module_count, mode_of_number, one_module}
+use Rattle.htl_names.proofs.Numbered.{modules_exist, AreModules, modes_in, mode_count, module_count, mode_of_number, one_module}
+use Rattle.htl_names.proofs.FlatMaps.{owned, owned_count, there_is}
 use Rattle.htl_names.proofs.Ordering.{kept_limit, names-ordered}
-use Rattle.htl_names.proofs.Owners.{owned_count}
 use Rattle.htl_model.proofs.PlaceLaws.{get_mapped}
-use Rattle.htl_names.proofs.Totals.{greatest_at, map_places}
-use Rattle.htl_names.proofs.FlatMaps.{there_is}
+use Rattle.htl_names.proofs.ListLaws.{greatest_at, map_places, length-places, Passes, place_passes}
 use Rattle.htl_names.proofs.Places.{modes_there}
-use Rattle.htl_names.proofs.Passing.{length-places, Passes, place_passes}
+use Rattle.htl_names.specs.Limits as tree
 
 -- ---- products
 

@@ -1,24 +1,22 @@
--- The modes that name programs: the links between programs and the refined modes tell the same.
-use Rattle.std.proofs.Common.{◌≡◌, ℕ, zero, suc, ◌≤◌, ◌<◌, Bool, true, false, cond, ◌||◌, eqb, List, [], ◌∷◌, map, length, slice_get, Option, Some, None, refl, sym, ◌∙◌, ap, subst, arith, eqb-true, eq-eqb, ◌+◌, min, get_or, fold}
+-- The modes that name programs, and the levels of programs by the table of refined modes.
+use Rattle.std.proofs.Common.{◌≡◌, ℕ, zero, suc, ◌≤◌, ◌<◌, Bool, true, false, cond, ◌||◌, eqb, List, [], ◌∷◌, map, length, slice_get, Option, Some, None, refl, sym, ◌∙◌, ap, subst, arith, eqb-true, eq-eqb, ◌+◌, ◌-◌, max, ◌++◌, add-one}
 use Rattle.std.specs.List.{flat_map, list_any, sum_by, count_by}
 use Rattle.std.proofs.lemmas.List.Sums.{sum_by-cons}
-use Rattle.std.proofs.lemmas.Bool.Decides.{nat_tests}
-use Rattle.std.proofs.lemmas.Option.{slice_get_within, get_or_from_slice_get, none-some, same_Some}
-use Rattle.std.specs.Prelude.{slice_get}
-use Rattle.std.proofs.lemmas.Grind.{get_or-set_at}
-use Rattle.std.proofs.lemmas.List.{get_or-set_other, get_or-replicate}
-use Rattle.std.proofs.Math.ListN.{set, length-set, replicate, length-replicate}
+use Rattle.std.proofs.lemmas.Option.{slice_get_within, none-some, same_Some}
 use Rattle.htl_text.specs.Nodes.{PlainProgram, PlainMode}
 use Rattle.htl_names.specs.declared.key.Key.{Key}
 use Rattle.htl_names.specs.declared.place.ModeAt.{ModeAt}
 use Rattle.htl_names.specs.Order.{mode_at}
-use Rattle.htl_names.specs.Programs.{named_program, mode_links, module_links, program_links, links, named_by, namings, Naming, mode_naming, module_naming, program_naming, naming, refined_in, refined_by, Graph}
-use Rattle.htl_names.specs.Namings.{counted_at, counted, counted_all, CountsNamings}
+use Rattle.htl_names.specs.Programs.{named_program, mode_links, module_links, program_links, links, named_by, namings, Naming, mode_naming, module_naming, program_naming, naming, refined_in, refined_by, Graph, level, levels}
+use Rattle.htl_names.specs.declared.programs.Named.{Named}
+use Rattle.htl_names.specs.Named.{refined_at, AreRefined}
 use Rattle.htl_names.specs.Graph.{graph_by}
 use Rattle.htl_names.specs.Lists.{map_at}
-use Rattle.htl_names.proofs.FlatMaps.{past}
-use Rattle.htl_names.proofs.Members.{In, Each, each_in, each_part_at, each_flat_map_at, at_place, map_flat_map_at, sum_by_map, sum_by_flat_map}
+use Rattle.htl_names.proofs.Members.{In, Each, each_in, each_part_at, each_flat_map_at, at_place, map_flat_map_at, sum_by_map, sum_by_flat_map, each_weaker}
 use Rattle.htl_names.proofs.Places.{program_of_module, module_of_mode, module_there, modes_there}
+use Rattle.htl_model.specs.Lists.{list_to}
+use Rattle.htl_model.specs.Tables.{greatest}
+use Rattle.htl_names.specs.LevelTable.{level_by, levels_by}
 
 -- ---- the mode that names a program
 
@@ -177,68 +175,65 @@ link_names symbols ps p q h =
     (ap (list_any (eqb q)) (program_seconds symbols p one.0) ∙ one.2) in
     (slice_get_within ps p one.0 one.1, found.0.0, found.1.0, subst (λ (n : ℕ). Names symbols ps found.0.0 n) found.2 found.1.1)
 
--- ---- a table that counts namings up to 255
+-- ---- a mode that names a program stands in a program of the source
 
-differ : (p q : ℕ) → eqb p q ≡ false → p ≡ q → ⊥
-differ p q e h = grind (arith, nat_tests)
+naming_below : (symbols : List (Key × ℕ)) (ps : List PlainProgram) → Each (λ (x : Naming). x.0.program < length ps) (naming symbols ps)
+naming_below symbols ps =
+    each_flat_map_at (λ (x : Naming). x.0.program < length ps) (program_naming symbols) 0 ps (λ p j x is there.
+    let within = slice_get_within ps j x there in
+    each_weaker (λ (y : Naming). (y.0.program ≡ p) × Names symbols ps y.0 y.1) (λ (y : Naming). y.0.program < length ps) (λ y own. let same = own.0 in omega (arith, is, within, same))
+    (program_naming symbols p x) (row_names symbols ps p x (at_place ps p j x is there)))
 
-pub length-counted : (counts : List ℕ) (q : ℕ) → length (counted counts q) ≡ length counts
-length-counted counts q = by (slice_get counts q)
+refined_below : (n q : ℕ) (a : ModeAt) (xs : List Naming) → Each (λ (x : Naming). x.0.program < n) xs → refined_in q xs ≡ Some a → a.program < n
+refined_below n q a [] h e = absurd (none-some {A = ModeAt} a e)
+refined_below n q a (x ∷ xs) h e = by (λ f. refined_below n q a xs h.1 f) (eqb x.1 q) e
   where
-    by : (o : Option ℕ) → length (counted_at counts q o) ≡ length counts
-    by (Some n) = length-set counts q _
-    by None = refl
+    by : (refined_in q xs ≡ Some a → a.program < n) → (b : Bool) → ◌≡◌ {A = Option ModeAt} (elim b [ true ↦ Some x.0 | false ↦ refined_in q xs ]) (Some a) → a.program < n
+    by later true f = subst (λ (y : ModeAt). y.program < n) (same_Some {A = ModeAt} x.0 a f) h.0
+    by later false f = later f
 
-counted-get : (counts : List ℕ) (p q : ℕ) → p < length counts → min (get_or (counted counts q) p 0) 255 ≡ min (get_or counts p 0 + cond (eqb p q) 1 0) 255
-counted-get counts p q small = by (slice_get counts q) refl (eqb p q) refl
+-- ---- steps of the search
+
+pub greatest-push : (x : ℕ) (xs : List ℕ) (y : ℕ) → greatest x (xs ++ y ∷ []) ≡ max (greatest x xs) y
+greatest-push x [] y = refl
+greatest-push x (z ∷ xs) y = greatest-push (max x z) xs y
+
+-- one level up
+pub level-step : (table : List Named) (n k p whole : ℕ) (a : ModeAt) → k < n → refined_at table p ≡ Some a
+    → k + level_by table (n - k) p ≡ whole → k + 1 + level_by table (n - (k + 1)) a.program ≡ whole
+level-step table n k p whole a within up going =
+    let left : n - k ≡ suc (n - (k + 1)) = omega arith in
+    let more = ap (λ (m : ℕ). level_by table m p) left
+    ∙ ap (λ (o : Option ModeAt). elim o as (λ _. ℕ) [ Some b ↦ suc (level_by table (n - (k + 1)) b.program) | None ↦ 1 ]) up in
+    omega (arith, more, going)
+
+-- one program more
+pub levels-step : (f : ℕ → ℕ) (p most here next : ℕ) → most ≡ greatest 0 (list_to f p) → here ≡ f p → next ≡ max most here
+    → next ≡ greatest 0 (list_to f (p + 1))
+levels-step f p most here next so_far is new =
+    new ∙ ap (λ (x : ℕ). max x here) so_far ∙ ap (max (greatest 0 (list_to f p))) is ∙ sym (greatest-push 0 (list_to f p) (f p))
+    ∙ ap (λ (k : ℕ). greatest 0 (list_to f k)) (sym (add-one p))
+
+-- ---- the table agrees with the definition
+
+same_below : (n : ℕ) (f g : ℕ → ℕ) → ((k : ℕ) → k < n → f k ≡ g k) → list_to f n ≡ list_to g n
+same_below zero f g h = refl
+same_below (suc n) f g h =
+    ap (λ (xs : List ℕ). xs ++ f n ∷ []) (same_below n f g (λ k small. h k (omega (arith, small)))) ∙ ap (λ (x : ℕ). list_to g n ++ x ∷ []) (h n (omega arith))
+
+table-level : (symbols : List (Key × ℕ)) (ps : List PlainProgram) (table : List Named) → AreRefined symbols ps table → (n p : ℕ) → p < length ps
+    → level_by table n p ≡ level (naming symbols ps) n p
+table-level symbols ps table are zero p small = refl
+table-level symbols ps table are (suc n) p small =
+    ap (λ (o : Option ModeAt). elim o as (λ _. ℕ) [ Some a ↦ suc (level_by table n a.program) | None ↦ 1 ]) (are.says p small)
+    ∙ by (refined_by symbols ps p) refl (λ q lt. table-level symbols ps table are n q lt)
   where
-    by : (o : Option ℕ) → slice_get counts q ≡ o → (b : Bool) → eqb p q ≡ b → min (get_or (counted_at counts q o) p 0) 255 ≡ min (get_or counts p 0 + cond b 1 0) 255
-    by None at true e = absurd (omega (arith, past counts q at, eqb-true p q e))
-    by None at false e = omega arith
-    by (Some n) at true e =
-        let is = eqb-true p q e in
-        let within = slice_get_within counts q n at in
-        let new : get_or (set counts q (min (n + 1) 255)) p 0 ≡ min (n + 1) 255 = get_or-set_at counts q p (min (n + 1) 255) 0 is within in
-        let old : get_or counts p 0 ≡ n = ap (λ k. get_or counts k 0) is ∙ get_or_from_slice_get counts q n 0 at in
-        omega (arith, new, old)
-    by (Some n) at false e =
-        let new : get_or (set counts q (min (n + 1) 255)) p 0 ≡ get_or counts p 0 = get_or-set_other counts q p (min (n + 1) 255) 0 (differ p q e) in
-        omega (arith, new)
+    by : (o : Option ModeAt) → refined_by symbols ps p ≡ o → ((q : ℕ) → q < length ps → level_by table n q ≡ level (naming symbols ps) n q)
+        → ◌≡◌ {A = ℕ} (elim o as (λ _. ℕ) [ Some a ↦ suc (level_by table n a.program) | None ↦ 1 ]) (elim o as (λ _. ℕ) [ Some a ↦ suc (level (naming symbols ps) n a.program) | None ↦ 1 ])
+    by (Some a) e later = ap suc (later a.program (refined_below (length ps) p a (naming symbols ps) (naming_below symbols ps) e))
+    by None e later = refl
 
-pub length-counted_all : (counts qs : List ℕ) → length (counted_all counts qs) ≡ length counts
-length-counted_all counts [] = refl
-length-counted_all counts (q ∷ qs) = length-counted_all (counted counts q) qs ∙ length-counted counts q
-
-counted_all-get : (counts qs : List ℕ) (p : ℕ) → p < length counts → min (get_or (counted_all counts qs) p 0) 255 ≡ min (get_or counts p 0 + count_by (eqb p) qs) 255
-counted_all-get counts [] p small = let none : count_by (eqb p) [] ≡ 0 = refl in omega (arith, none)
-counted_all-get counts (q ∷ qs) p small =
-    let first = counted-get counts p q small in
-    let rest = counted_all-get (counted counts q) qs p (omega (arith, length-counted counts q)) in
-    let more : count_by (eqb p) (q ∷ qs) ≡ cond (eqb p q) 1 0 + count_by (eqb p) qs = sum_by-cons (λ (x : ℕ). cond (eqb p x) 1 0) q qs in
-    omega (arith, first, rest, more)
-
-pub length-counts : (counts : List ℕ) (g : Graph) → length (fold counted_all counts g) ≡ length counts
-length-counts counts [] = refl
-length-counts counts (r ∷ g) = length-counts (counted_all counts r) g ∙ length-counted_all counts r
-
-pub counts-get : (counts : List ℕ) (g : Graph) (p : ℕ) → p < length counts → min (get_or (fold counted_all counts g) p 0) 255 ≡ min (get_or counts p 0 + namings g p) 255
-counts-get counts [] p small = let none : namings [] p ≡ 0 = refl in omega (arith, none)
-counts-get counts (r ∷ g) p small =
-    let first = counted_all-get counts r p small in
-    let rest = counts-get (counted_all counts r) g p (omega (arith, length-counted_all counts r)) in
-    let more : namings (r ∷ g) p ≡ count_by (eqb p) r + namings g p = sum_by-cons (λ (x : List ℕ). count_by (eqb p) x) r g in
-    omega (arith, first, rest, more)
-
-pub counts_namings : (g : Graph) (counts : List ℕ) → counts ≡ fold counted_all (replicate (length g) 0) g → CountsNamings g counts
-counts_namings g counts is =
-    let zeros : List ℕ = replicate (length g) 0 in
-    let start : length zeros ≡ length g = length-replicate (length g) 0 in
-    let len = ap length is ∙ length-counts zeros g ∙ start in
-    record {
-      len = len;
-      says = λ p small.
-          let none : get_or zeros p 0 ≡ 0 = get_or-replicate (length g) p 0 0 small in
-          let all = counts-get zeros g p (omega (arith, start)) in
-          let same : get_or counts p 0 ≡ get_or (fold counted_all zeros g) p 0 = ap (λ (xs : List ℕ). get_or xs p 0) is in
-          omega (arith, none, all, same);
-    }
+pub table-levels : (symbols : List (Key × ℕ)) (ps : List PlainProgram) (table : List Named) → AreRefined symbols ps table → levels_by table ≡ levels symbols ps
+table-levels symbols ps table are =
+    ap (λ (n : ℕ). greatest 0 (list_to (level_by table n) n)) are.len
+    ∙ ap (greatest 0) (same_below (length ps) (level_by table (length ps)) (level (naming symbols ps) (length ps)) (λ p small. table-level symbols ps table are (length ps) p small))

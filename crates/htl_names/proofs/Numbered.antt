@@ -1,19 +1,34 @@
--- Which items the numbers of the tables name.
-use Rattle.std.proofs.Common.{◌≡◌, ◌<◌, ◌+◌, ℕ, zero, suc, Bool, true, false, cond, List, [], ◌∷◌, length, take, slice_get, Some, None, refl, sym, ◌∙◌, ap, subst, arith, length-append}
+-- Which items the numbers of the tables name; the modules, modes and tasks of the tables are in range.
+use Rattle.std.proofs.Common.{◌≡◌, ◌<◌, ◌+◌, ℕ, zero, suc, Bool, true, false, cond, List, [], ◌∷◌, length, take, slice_get, Some, None, refl, sym, ◌∙◌, ap, subst, arith, length-append, ◌≤◌}
 use Rattle.std.specs.List.{flat_map}
 use Rattle.std.proofs.lemmas.Bool.Decides.{nat_tests}
-use Rattle.std.proofs.lemmas.List.{length-take-le}
+use Rattle.std.proofs.lemmas.List.{length-take-le, length-map}
 use Rattle.std.proofs.lemmas.Option.{slice_get_within}
 use Rattle.htl_text.specs.Nodes.{PlainProgram, PlainModule, PlainMode, PlainTask}
 use Rattle.htl_names.specs.declared.place.ModeAt.{ModeAt}
 use Rattle.htl_names.specs.declared.place.ModuleAt.{ModuleAt}
-use Rattle.htl_names.specs.Flat.{Layout, is_module, module_number, modes_before, mode_item, mode_items, module_item, module_items_at, module_items}
+use Rattle.htl_names.specs.Flat.{Layout, is_module, module_number, modes_before, mode_item, mode_items, module_item, module_items_at, module_items, layout, symbols_of, meaning, mode_number, task_item, task_items, tables_of_tree}
 use Rattle.htl_names.specs.Lists.{flat_map_at, place_in}
-use Rattle.htl_names.specs.Order.{module_at, tasks_at, modes_at, module_modes, mode_order}
-use Rattle.htl_names.specs.Ordered.{Exists}
-use Rattle.htl_names.proofs.FlatMaps.{in_front, at_part_0, at_flat, flat_part, there_is, list_to_at, of_list_to}
-use Rattle.htl_names.proofs.Listings.{counted, stands}
+use Rattle.htl_names.specs.Order.{module_at, tasks_at, modes_at, module_modes, mode_order, order}
+use Rattle.htl_names.specs.Ordered.{Exists, IsOrdered, StandsBefore}
+use Rattle.htl_names.proofs.FlatMaps.{in_front, at_part_0, at_flat, flat_part, there_is, list_to_at, of_list_to, counted, stands, from}
 use Rattle.htl_model.proofs.Listed.{length-list_to}
+use Rattle.std.specs.Prelude.{Option, IfSome}
+use Rattle.htl_model.specs.declared.parts.Mode.{Mode}
+use Rattle.htl_model.specs.declared.parts.Module.{Module}
+use Rattle.htl_model.specs.declared.parts.Task.{Task}
+use Rattle.htl_model.specs.Ranges.{IsModeInRange, IsModeThat, IsModuleInRange, IsTaskInRange, parent_of, is_within}
+use Rattle.htl_model.specs.Tables.{Tables, mode_module}
+use Rattle.htl_text.specs.Bounds.{modules_of, tasks_of, out_params}
+use Rattle.htl_names.specs.Conditions.{MeetsBounds, MeetsTaskBounds}
+use Rattle.htl_names.specs.Keys.{look_up, mode_key}
+use Rattle.htl_names.specs.NameRules.{AreNamesRight}
+use Rattle.htl_names.specs.Programs.{naming, level, refined_in}
+use Rattle.htl_names.specs.Uses.{usage}
+use Rattle.htl_names.proofs.NameUses.{worst_span, mode_period_span, known, start_used}
+use Rattle.htl_names.proofs.EntryLaws.{mode_means}
+use Rattle.htl_names.proofs.Places.{program_of_module, task_in_source}
+use Rattle.htl_names.proofs.Members.{All-at}
 
 -- ---- first places
 
@@ -149,3 +164,163 @@ module_stands l ps exist k s x there is =
     let at = at_part_0 (module_items_at l ps) l.modules k 0 s (module_item l ps k s x) there own in
     let place : length (flat_map_at (module_items_at l ps) 0 (take k l.modules)) + 0 ≡ k = omega (arith, front, size) in
     subst (λ (n : ℕ). slice_get (module_items l ps) n ≡ Some (module_item l ps k s x)) place at
+
+-- ---- what an order gives
+
+pub modules_exist : (ps : List PlainProgram) → IsOrdered (symbols_of ps) ps (order (symbols_of ps) ps) → AreModules ps (layout ps).modules
+modules_exist ps ordered k s e = All-at (Exists ps) (layout ps).modules k s ordered.exist e
+
+pub modules_once : (ps : List PlainProgram) → IsOrdered (symbols_of ps) ps (order (symbols_of ps) ps) → AreOnce (layout ps).modules
+modules_once ps ordered j k s r a b p u = ordered.apart j k s r a b p u
+
+-- the meaning of a name that is found
+pub meaning_is : (ps : List PlainProgram) (key : _) (n : ℕ) → look_up key (symbols_of ps) ≡ Some n → meaning (layout ps) key ≡ n
+meaning_is ps key n e = ap (λ o. elim o [ Some n ↦ n | None ↦ 0 ]) e
+
+-- ---- modes
+
+pub mode_in_range : (ps : List PlainProgram) → AreNamesRight ps → IsOrdered (symbols_of ps) ps (order (symbols_of ps) ps) → (n : ℕ) (y : Mode)
+    → slice_get (mode_items (layout ps) ps) n ≡ Some y → IsModeInRange (tables_of_tree ps) y
+mode_in_range ps right ordered n y e =
+    let f = from (λ k s. mode_item k) (modes_in ps) (layout ps).modules n y e in
+    let within = slice_get_within (layout ps).modules f.number f.owner f.there in
+    let size = module_count (layout ps) ps (modules_exist ps ordered) in
+    subst (IsModeInRange (tables_of_tree ps)) f.is
+    (record { owner = omega (arith, within, size); period = mode_period_span ps right f.owner.program f.owner.«module» f.place f.node f.its })
+
+-- mode m of module k is a mode of module k
+pub its_mode : (ps : List PlainProgram) (k m : ℕ) (s : ModuleAt) (x : PlainMode) (P : ℕ → Type 0) → P k → slice_get (layout ps).modules k ≡ Some s
+    → slice_get (modes_at ps s.program s.«module») m ≡ Some x → IsModeThat (tables_of_tree ps) P (modes_before (layout ps) ps k + m)
+its_mode ps k m s x P holds there its = (mode_item k x, mode_stands (layout ps) ps k m s x there its, holds)
+
+-- ---- modules
+
+start_in_range : (ps : List PlainProgram) → AreNamesRight ps → (k : ℕ) (s : ModuleAt) (x : PlainModule) → slice_get (layout ps).modules k ≡ Some s → module_at ps s.program s.«module» ≡ Some x
+    → IsModeThat (tables_of_tree ps) (λ owner. owner ≡ k) (modes_before (layout ps) ps k + meaning (layout ps) (mode_key s.program s.«module» x.start.name))
+start_in_range ps right k s x there is =
+    let key = mode_key s.program s.«module» x.start.name in
+    let u = usage key x.start in
+    let n = known ps right u (start_used ps s.program s.«module» x is) in
+    let m = mode_means ps s.program s.«module» x.start.name n.0 n.1 in
+    let same = meaning_is ps key n.0 n.1 in
+    subst (λ (j : ℕ). IsModeThat (tables_of_tree ps) (λ owner. owner ≡ k) (modes_before (layout ps) ps k + j)) (sym same)
+    (its_mode ps k n.0 s m.0 (λ owner. owner ≡ k) refl there m.1)
+
+-- the number of a mode that a module before place k has
+parent_stands : (ps : List PlainProgram) → IsOrdered (symbols_of ps) ps (order (symbols_of ps) ps) → (k : ℕ) (a : ModeAt) → (b : StandsBefore ps (layout ps).modules k a)
+    → (x : PlainMode) × (slice_get (mode_items (layout ps) ps) (mode_number (layout ps) ps a) ≡ Some (mode_item b.place x))
+parent_stands ps ordered k a b =
+    let l = layout ps in
+    let number = module_number_is l b.place b.«module» a.program a.«module» (modules_once ps ordered) b.there b.program b.number in
+    let x = there_is (modes_at ps a.program a.«module») a.mode b.mode in
+    let its : slice_get (modes_at ps b.«module».program b.«module».«module») a.mode ≡ Some x.0 =
+    ap (λ (p : ℕ). slice_get (modes_at ps p b.«module».«module») a.mode) b.program ∙ ap (λ (u : ℕ). slice_get (modes_at ps a.program u) a.mode) b.number ∙ x.1 in
+    (x.0, ap (λ (j : ℕ). slice_get (mode_items l ps) (modes_before l ps j + a.mode)) number ∙ mode_stands l ps b.place a.mode b.«module» x.0 b.there its)
+
+parent_in_range : (ps : List PlainProgram) → IsOrdered (symbols_of ps) ps (order (symbols_of ps) ps) → (k : ℕ) (s : ModuleAt) → slice_get (layout ps).modules k ≡ Some s → (o : Option ModeAt) → s.parent ≡ o
+    → IfSome (elim o [ Some a ↦ Some (mode_number (layout ps) ps a) | None ↦ None ]) (IsModeThat (tables_of_tree ps) (λ owner. owner < k))
+parent_in_range ps ordered k s there None is = tt
+parent_in_range ps ordered k s there (Some a) is =
+    let b = ordered.parents k s a there is in
+    let x = parent_stands ps ordered k a b in
+    (mode_item b.place x.0, x.1, b.lower)
+
+-- ---- levels
+
+module_of_mode : (t : Tables) (m : ℕ) (y : Mode) → slice_get t.modes m ≡ Some y → mode_module t m ≡ y.«module»
+module_of_mode t m y e = ap (λ o. elim o [ Some x ↦ x.«module» | None ↦ 0 ]) e
+
+parent_of_module : (t : Tables) (k : ℕ) (y : Module) → slice_get t.modules k ≡ Some y → parent_of t k ≡ y.parent
+parent_of_module t k y e = ap (λ o. elim o [ Some x ↦ x.parent | None ↦ None ]) e
+
+-- the level of the program of a module
+abbrev level_of : List PlainProgram → ℕ → ℕ
+level_of ps p = level (naming (symbols_of ps) ps) (length ps) p
+
+level_some : (ps : List PlainProgram) (p : ℕ) → 0 < length ps → 1 ≤ level_of ps p
+level_some ps p less = by (length ps) less
+  where
+    by : (n : ℕ) → 0 < n → 1 ≤ level (naming (symbols_of ps) ps) n p
+    by zero h = absurd (omega (arith, h))
+    by (suc n) h = named (refined_in p (naming (symbols_of ps) ps))
+      where
+        named : (o : Option ModeAt) → 1 ≤ elim o [ Some a ↦ suc (level (naming (symbols_of ps) ps) n a.program) | None ↦ 1 ]
+        named None = omega arith
+        named (Some a) = omega arith
+
+within_levels : (ps : List PlainProgram) → IsOrdered (symbols_of ps) ps (order (symbols_of ps) ps) → (steps k : ℕ) (s : ModuleAt) → slice_get (layout ps).modules k ≡ Some s → level_of ps s.program ≤ steps + 1
+    → (o : Option ModeAt) → s.parent ≡ o → is_within steps (tables_of_tree ps) (elim o [ Some a ↦ Some (mode_number (layout ps) ps a) | None ↦ None ]) ≡ true
+within_levels ps ordered zero k s there few None is = refl
+within_levels ps ordered (suc steps) k s there few None is = refl
+within_levels ps ordered zero k s there few (Some a) is =
+    let b = ordered.parents k s a there is in
+    let x = modules_exist ps ordered k s there in
+    let o = program_of_module ps s.program s.«module» x.0 x.1 in
+    let within = slice_get_within ps s.program o.0 o.1 in
+    let above = ordered.steps k s a there is in
+    let some = level_some ps a.program (omega (arith, within)) in
+    absurd (omega (arith, few, above, some))
+within_levels ps ordered (suc steps) k s there few (Some a) is =
+    let t = tables_of_tree ps in
+    let b = ordered.parents k s a there is in
+    let x = parent_stands ps ordered k a b in
+    let above = ordered.steps k s a there is in
+    let owner = module_of_mode t (mode_number (layout ps) ps a) (mode_item b.place x.0) x.1 in
+    let y = modules_exist ps ordered b.place b.«module» b.there in
+    let own = parent_of_module t b.place (module_item (layout ps) ps b.place b.«module» y.0) (module_stands (layout ps) ps (modules_exist ps ordered) b.place b.«module» y.0 b.there y.1) in
+    let same = ap (level_of ps) b.program in
+    let rest = within_levels ps ordered steps b.place b.«module» b.there (omega (arith, few, above, same)) b.«module».parent refl in
+    ap (λ (j : ℕ). is_within steps t (parent_of t j)) owner ∙ ap (is_within steps t) own ∙ rest
+
+pub record ModuleFrom (ps : List PlainProgram) (k : ℕ) (y : Module) : Type 0 where
+  pub «module» : ModuleAt
+  pub there : slice_get (layout ps).modules k ≡ Some «module»
+  pub node : PlainModule
+  pub its : module_at ps «module».program «module».«module» ≡ Some node
+  pub is : module_item (layout ps) ps k «module» node ≡ y
+
+pub module_of_program : (ps : List PlainProgram) → IsOrdered (symbols_of ps) ps (order (symbols_of ps) ps) → (k : ℕ) (y : Module) → slice_get (module_items (layout ps) ps) k ≡ Some y → ModuleFrom ps k y
+module_of_program ps ordered k y e =
+    let exist = modules_exist ps ordered in
+    let size = module_count (layout ps) ps exist in
+    let within = slice_get_within (module_items (layout ps) ps) k y e in
+    let s = there_is (layout ps).modules k (omega (arith, size, within)) in
+    let x = exist k s.0 s.1 in
+    let same : Some (module_item (layout ps) ps k s.0 x.0) ≡ Some y = sym (module_stands (layout ps) ps exist k s.0 x.0 s.1 x.1) ∙ e in
+    record { «module» = s.0; there = s.1; node = x.0; its = x.1; is = cc }
+
+pub module_in_range : (ps : List PlainProgram) → AreNamesRight ps → IsOrdered (symbols_of ps) ps (order (symbols_of ps) ps) → (k : ℕ) (y : Module)
+    → slice_get (module_items (layout ps) ps) k ≡ Some y → IsModuleInRange (tables_of_tree ps) k y
+module_in_range ps right ordered k y e =
+    let f = module_of_program ps ordered k y e in
+    let few = ordered.levels k f.«module» f.there in
+    subst (IsModuleInRange (tables_of_tree ps) k) f.is
+    (record {
+      start = start_in_range ps right k f.«module» f.node f.there f.its;
+      parent = parent_in_range ps ordered k f.«module» f.there f.«module».parent refl;
+      levels = within_levels ps ordered 7 k f.«module» f.there (omega (arith, few)) f.«module».parent refl;
+    })
+
+-- ---- tasks
+
+pub task_small : (ps : List PlainProgram) → MeetsBounds ps → (p u k : ℕ) (t : PlainTask) → slice_get (tasks_at ps p u) k ≡ Some t → MeetsTaskBounds t
+task_small ps small p u k t e =
+    let n = task_in_source ps p u k t e in
+    All-at MeetsTaskBounds (tasks_of (modules_of ps)) (n.0 + k) t small.tasks n.1
+
+pub task_in_range : (ps : List PlainProgram) → MeetsBounds ps → AreNamesRight ps → IsOrdered (symbols_of ps) ps (order (symbols_of ps) ps) → (n : ℕ) (y : Task)
+    → slice_get (task_items (layout ps) ps) n ≡ Some y → IsTaskInRange (tables_of_tree ps) y
+task_in_range ps small right ordered n y e =
+    let f = from (λ k s. task_item k) (tasks_in ps) (layout ps).modules n y e in
+    let within = slice_get_within (layout ps).modules f.number f.owner f.there in
+    let size = module_count (layout ps) ps (modules_exist ps ordered) in
+    let few = task_small ps small f.owner.program f.owner.«module» f.place f.node f.its in
+    let inputs = length-map f.node.inputs (λ x. x.ty) in
+    let outputs = length-map (out_params f.node.outputs) (λ x. x.ty) in
+    subst (IsTaskInRange (tables_of_tree ps)) f.is
+    (record {
+      owner = omega (arith, within, size);
+      worst = worst_span ps right f.owner.program f.owner.«module» f.place f.node f.its;
+      few_inputs = omega (arith, inputs, few.inputs);
+      few_outputs = omega (arith, outputs, few.outputs);
+    })

@@ -3,7 +3,7 @@ use Rattle.std.proofs.Common.{◌≡◌, ℕ, ◌<◌, ◌⊎◌, inl, inr, List
 use Rattle.htl_text.specs.Nodes.{PlainProgram}
 use Rattle.htl_names.specs.NameRules.{NameRule, RepeatedName, UnknownName, WrongKind, ProgramTree, ParentName, Limits, order_of, NameBroken, TriedBefore, IsFirstNameFault}
 use Rattle.htl_names.specs.declared.fault.NameFault.{NameFault}
-use Rattle.htl_names.proofs.ResolveLaws.{same_rule}
+use Rattle.htl_names.proofs.RuleLaws.{same_rule}
 
 three : (a b : ℕ) → (a < b) ⊎ (a ≡ b) ⊎ (b < a)
 three a b = grind arith

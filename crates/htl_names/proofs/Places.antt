@@ -1,11 +1,35 @@
--- What stands at a place of a tree, and where it stands among all of its kind.
-use Rattle.std.proofs.Common.{◌≡◌, ℕ, ◌+◌, List, [], length, take, slice_get, Option, Some, None, refl, sym, ◌∙◌, ap}
+-- What tests tell, what stands at a place of a tree, and where among all of its kind.
+use Rattle.std.proofs.Common.{◌≡◌, ℕ, ◌≤◌, ◌<◌, ◌⊎◌, inl, inr, arith, Bool, true, false, ◌&&◌, refl, suc, ◌+◌, List, [], length, take, slice_get, Option, Some, None, ◌∙◌, ap}
+use Rattle.std.proofs.lemmas.Bool.Decides.{eqb_tells}
 use Rattle.std.specs.List.{flat_map}
 use Rattle.std.proofs.lemmas.Option.{none-some}
 use Rattle.htl_text.specs.Bounds.{modules_of, modes_of, tasks_of}
 use Rattle.htl_text.specs.Nodes.{PlainProgram, PlainModule, PlainMode, PlainTask}
 use Rattle.htl_names.specs.Order.{modules_at, module_at, tasks_at, modes_at}
 use Rattle.htl_names.proofs.FlatMaps.{at_flat}
+
+pub stable : (m n : ℕ) → ((m ≡ n → ⊥) → ⊥) → m ≡ n
+stable m n h = elim (eqb_tells m n) [ inl p ↦ p.1 | inr q ↦ absurd (h q.1) ]
+
+pub not_above : (m n : ℕ) → (n < m → ⊥) → m ≤ n
+not_above m n h = by m n (grind arith) h
+  where
+    by : (m n : ℕ) → (m ≤ n) ⊎ (n < m) → (n < m → ⊥) → m ≤ n
+    by m n (inl le) h = le
+    by m n (inr lt) h = absurd (h lt)
+
+pub not_below : (m n : ℕ) → (n ≤ m → ⊥) → m < n
+not_below m n h = let above = not_above (suc m) n (λ lt. h (omega (arith, lt))) in omega (arith, above)
+
+pub order_of : (m n : ℕ) → (m < n) ⊎ ((n < m) ⊎ (m ≡ n))
+order_of m n = grind arith
+
+-- both tests passed
+pub both : (a b : Bool) → (a && b) ≡ true → (a ≡ true) × (b ≡ true)
+both true b h = (refl, h)
+both false b h = cc
+
+-- ---- what stands at a place of a tree, and where it stands among all of its kind
 
 pub modules_there : (ps : List PlainProgram) (p : ℕ) (x : PlainProgram) → slice_get ps p ≡ Some x → modules_at ps p ≡ x.modules
 modules_there ps p x e = ap (λ o. elim o [ Some x ↦ x.modules | None ↦ [] ]) e
@@ -21,26 +45,20 @@ modes_there ps p u y e = ap (λ o. elim o [ Some x ↦ x.modes | None ↦ [] ]) 
 
 -- ---- whose it is
 
+-- an item of a part of what stands there
+part_there : {A B : Type 0} (part : A → List B) (o : Option A) (k : ℕ) (y : B) → slice_get (elim o as (λ _. List B) [ Some x ↦ part x | None ↦ [] ]) k ≡ Some y
+    → (x : A) × (o ≡ Some x) × (slice_get (part x) k ≡ Some y)
+part_there part None k y e = absurd (none-some y e)
+part_there part (Some x) k y e = (x, refl, e)
+
 pub program_of_module : (ps : List PlainProgram) (p u : ℕ) (y : PlainModule) → module_at ps p u ≡ Some y → (x : PlainProgram) × (slice_get ps p ≡ Some x) × (slice_get x.modules u ≡ Some y)
-program_of_module ps p u y e = by (slice_get ps p) refl
-  where
-    by : (o : Option PlainProgram) → slice_get ps p ≡ o → (x : PlainProgram) × (slice_get ps p ≡ Some x) × (slice_get x.modules u ≡ Some y)
-    by None is = absurd (none-some y (sym (ap (λ o. slice_get (elim o [ Some x ↦ x.modules | None ↦ [] ]) u) is) ∙ e))
-    by (Some x) is = (x, is, sym (ap (λ ms. slice_get ms u) (modules_there ps p x is)) ∙ e)
+program_of_module ps p u y e = part_there (λ (x : PlainProgram). x.modules) (slice_get ps p) u y e
 
 pub module_of_task : (ps : List PlainProgram) (p u k : ℕ) (t : PlainTask) → slice_get (tasks_at ps p u) k ≡ Some t → (y : PlainModule) × (module_at ps p u ≡ Some y) × (slice_get y.tasks k ≡ Some t)
-module_of_task ps p u k t e = by (module_at ps p u) refl
-  where
-    by : (o : Option PlainModule) → module_at ps p u ≡ o → (y : PlainModule) × (module_at ps p u ≡ Some y) × (slice_get y.tasks k ≡ Some t)
-    by None is = absurd (none-some t (sym (ap (λ o. slice_get (elim o [ Some x ↦ x.tasks | None ↦ [] ]) k) is) ∙ e))
-    by (Some y) is = (y, is, sym (ap (λ ts. slice_get ts k) (tasks_there ps p u y is)) ∙ e)
+module_of_task ps p u k t e = part_there (λ (x : PlainModule). x.tasks) (module_at ps p u) k t e
 
 pub module_of_mode : (ps : List PlainProgram) (p u m : ℕ) (x : PlainMode) → slice_get (modes_at ps p u) m ≡ Some x → (y : PlainModule) × (module_at ps p u ≡ Some y) × (slice_get y.modes m ≡ Some x)
-module_of_mode ps p u m x e = by (module_at ps p u) refl
-  where
-    by : (o : Option PlainModule) → module_at ps p u ≡ o → (y : PlainModule) × (module_at ps p u ≡ Some y) × (slice_get y.modes m ≡ Some x)
-    by None is = absurd (none-some x (sym (ap (λ o. slice_get (elim o [ Some x ↦ x.modes | None ↦ [] ]) m) is) ∙ e))
-    by (Some y) is = (y, is, sym (ap (λ ms. slice_get ms m) (modes_there ps p u y is)) ∙ e)
+module_of_mode ps p u m x e = part_there (λ (x : PlainModule). x.modes) (module_at ps p u) m x e
 
 -- ---- among all of the source: behind n others, and those before it in its own list
 

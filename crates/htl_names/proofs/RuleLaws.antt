@@ -1,36 +1,170 @@
--- What the searches of single rules find, in the words of the rules.
-use Rattle.std.proofs.Common.{◌≡◌, ℕ, suc, List, length, Option, Some, None, inl, inr, refl, ◌∙◌, ap, subst, arith, Bool, true, false, cond, sym, ◌≤◌, leb, leb-true, le-leb, ◌<◌, zero, [], ◌∷◌, get_or}
-use Rattle.std.proofs.lemmas.List.{length-map}
+-- What the searches of single rules find, and the first fault over all rules.
+use Rattle.std.proofs.Common.{◌≡◌, ◌++◌, ◌<◌, ℕ, zero, suc, List, [], ◌∷◌, slice_get, Option, Some, None, refl, sym, ap, subst, arith, ◌≤◌, Result, Ok, Err, ◌∙◌, inl, inr, length, Bool, true, false, cond, leb, leb-true, le-leb}
+use Rattle.std.specs.Prelude.{MatchOption}
+use Rattle.std.proofs.lemmas.Option.{none-some, slice_get_within}
+use Rattle.htl_model.specs.Lists.{first_some}
+use Rattle.htl_names.specs.declared.fault.NameFault.{NameFault}
+use Rattle.std.proofs.Math.Nat.{eq-or-lt_of_le}
+use Rattle.std.specs.Result.{IsErrAnd, IfOk, MatchResult}
 use Rattle.htl_text.specs.Nodes.{PlainProgram}
+use Rattle.htl_model.specs.Tables.{Tables}
+use Rattle.htl_names.specs.NameRules.{NameRule, RepeatedName, UnknownName, WrongKind, ProgramTree, ParentName, Limits, order_of, NameBroken, IsFirstNameFault, AreNamesRight, IsResolved}
+use Rattle.htl_names.specs.Told.{IsKept, KeptBelow, IsFirstOf, IsSearched, IsRefusal}
+use Rattle.std.proofs.lemmas.List.{length-map}
 use Rattle.htl_names.specs.declared.key.Key.{Key}
 use Rattle.htl_names.specs.declared.limits.Excess.{Excess}
 use Rattle.htl_names.specs.declared.key.Entry.{Entry}
-use Rattle.htl_names.specs.declared.fault.NameFault.{NameFault}
 use Rattle.htl_names.specs.Entries.{entries}
 use Rattle.htl_names.specs.Excess.{IsFirstExcess}
 use Rattle.htl_names.specs.Flat.{symbols_of}
 use Rattle.htl_names.specs.Graph.{naming_rows, graph_by}
 use Rattle.htl_names.specs.Limits.{counts}
+use Rattle.htl_names.specs.declared.programs.Named.{Named}
+use Rattle.htl_names.specs.Named.{refined_at, AreRefined}
 use Rattle.htl_names.specs.Programs.{IsFirstMisplaced, Naming, Graph, links, program_links, refined_by}
-use Rattle.htl_names.specs.NameRules.{RepeatedName, ProgramTree, Limits, WrongKind, UnknownName, ParentName}
 use Rattle.htl_names.specs.Repeats.{EntriesAreApart, IsFirstRepeat, IsRepeat}
-use Rattle.htl_names.specs.Told.{KeptBelow, IsRefusal, IsSearched}
 use Rattle.htl_names.proofs.Naming.{graph_is}
-use Rattle.htl_names.proofs.ResolveLaws.{none_below, kept_next, first_fault}
-use Rattle.std.specs.Prelude.{MatchOption}
-use Rattle.htl_model.specs.Lists.{first_some, list_to}
+use Rattle.htl_names.specs.Rows.{wrong_tokens}
 use Rattle.htl_names.specs.Kinds.{Judged, kinds, token_of, is_kind, IsWrongKind, wrong_token}
-use Rattle.htl_names.proofs.FirstLaws.{first_bad}
 use Rattle.htl_names.specs.declared.key.Use.{Use}
 use Rattle.htl_names.specs.Keys.{look_up}
 use Rattle.htl_names.specs.Uses.{unknown_by, unknown_token, uses, IsUnknown}
-use Rattle.std.proofs.lemmas.Option.{slice_get_within}
-use Rattle.htl_model.proofs.Listed.{get_list_to}
 use Rattle.htl_text.specs.declared.tree.Id.{Id}
 use Rattle.htl_names.specs.declared.place.ModeAt.{ModeAt}
 use Rattle.htl_names.specs.Parents.{absent, orphan_at, orphan_token, ParentUse, invoke_parent, mode_parents, module_parents, program_parents, parents, parent_in, IsOrphan}
 use Rattle.htl_names.proofs.Members.{Each, each_at, each_always, each_flat_map, each_flat_map_at}
 use Rattle.htl_names.specs.declared.fault.NameFault.TheVariants as fault
+
+-- the item at place k is bad, and told by this fault
+abbrev pub IsBadAt : {A : Type 0} → (A → Type 0) → (A → NameFault) → List A → ℕ → NameFault → Type 0
+IsBadAt {A} Bad fault xs k f = (x : A) × (slice_get xs k ≡ Some x) × Bad x × (f ≡ fault x)
+
+-- a test of items gives the tokens of the bad ones, and only theirs
+abbrev pub Tells : {A : Type 0} → (A → Type 0) → (A → ℕ) → (A → Option ℕ) → A → Type 0
+Tells Bad token test x = MatchOption (test x) (Bad x → ⊥) (λ t. Bad x × (t ≡ token x))
+
+-- none is bad; or the first bad one has this token
+abbrev pub IsFirstBad : {A : Type 0} → (A → Type 0) → (A → ℕ) → (ℕ → NameFault) → List A → Option ℕ → Type 0
+IsFirstBad {A} Bad token fault xs o =
+    MatchOption o ((k : ℕ) (f : NameFault) → IsBadAt Bad (λ x. fault (token x)) xs k f → ⊥)
+    (λ t. (place : ℕ) × IsBadAt Bad (λ x. fault (token x)) xs place (fault t)
+    × ((k : ℕ) (f : NameFault) → k < place → IsBadAt Bad (λ x. fault (token x)) xs k f → ⊥))
+
+pub first_bad : {A : Type 0} (Bad : A → Type 0) (token : A → ℕ) (fault : ℕ → NameFault) (test : A → Option ℕ) (xs : List A)
+    → ((k : ℕ) (x : A) → slice_get xs k ≡ Some x → Tells Bad token test x) → IsFirstBad Bad token fault xs (first_some test xs)
+first_bad {A} Bad token fault test [] tells = λ k f at. none-some at.0 at.1
+first_bad {A} Bad token fault test (y ∷ ys) tells = by (test y) (tells 0 y refl) (first_some test ys) (first_bad Bad token fault test ys (λ k x there. tells (suc k) x there))
+  where
+    here : (x : A) → slice_get (y ∷ ys) 0 ≡ Some x → y ≡ x
+    here x there = cc
+
+    by : (o : Option ℕ) → MatchOption o (Bad y → ⊥) (λ t. Bad y × (t ≡ token y)) → (rest : Option ℕ) → IsFirstBad Bad token fault ys rest
+        → IsFirstBad Bad token fault (y ∷ ys) (elim o as (λ _. Option ℕ) [ Some t ↦ Some t | None ↦ rest ])
+    by (Some t) bad rest later = (0, (y, refl, bad.0, ap fault bad.1), λ k f less at. absurd (omega (arith, less)))
+    by None good None later = all
+      where
+        all : (k : ℕ) (f : NameFault) → IsBadAt Bad (λ x. fault (token x)) (y ∷ ys) k f → ⊥
+        all zero f at = good (subst Bad (sym (here at.0 at.1)) at.2)
+        all (suc k) f at = later k f at
+    by None good (Some t) later = (suc later.0, later.1, before)
+      where
+        before : (k : ℕ) (f : NameFault) → k < suc later.0 → IsBadAt Bad (λ x. fault (token x)) (y ∷ ys) k f → ⊥
+        before zero f less at = good (subst Bad (sym (here at.0 at.1)) at.2)
+        before (suc k) f less at = later.2 k f (omega (arith, less)) at
+
+-- ---- the rules by their numbers
+
+abbrev rule_at : ℕ → NameRule
+rule_at zero = RepeatedName
+rule_at (suc zero) = RepeatedName
+rule_at (suc (suc zero)) = UnknownName
+rule_at (suc (suc (suc zero))) = WrongKind
+rule_at (suc (suc (suc (suc zero)))) = ProgramTree
+rule_at (suc (suc (suc (suc (suc zero))))) = ParentName
+rule_at (suc (suc (suc (suc (suc (suc n)))))) = Limits
+
+record Numbered (r : NameRule) : Type 0 where
+  pub back : rule_at (order_of r) ≡ r
+  pub first : 0 < order_of r
+  pub last : order_of r < 7
+
+numbered : (r : NameRule) → Numbered r
+numbered RepeatedName = record { back = refl; first = omega arith; last = omega arith }
+numbered UnknownName = record { back = refl; first = omega arith; last = omega arith }
+numbered WrongKind = record { back = refl; first = omega arith; last = omega arith }
+numbered ProgramTree = record { back = refl; first = omega arith; last = omega arith }
+numbered ParentName = record { back = refl; first = omega arith; last = omega arith }
+numbered Limits = record { back = refl; first = omega arith; last = omega arith }
+
+pub same_rule : (r s : NameRule) → order_of r ≡ order_of s → r ≡ s
+same_rule r s h = sym (numbered r).back ∙ ap rule_at h ∙ (numbered s).back
+
+-- ---- rule after rule
+
+pub none_below : (ps : List PlainProgram) → KeptBelow ps 1
+none_below ps r less = let first = (numbered r).first in absurd (omega (arith, less, first))
+
+pub kept_next : (ps : List PlainProgram) (rule : NameRule) → KeptBelow ps (order_of rule) → IsKept ps rule → KeptBelow ps (suc (order_of rule))
+kept_next ps rule before kept r less =
+    let within : order_of r ≤ order_of rule = omega (arith, less) in
+    elim (eq-or-lt_of_le within) [
+      | inl same ↦ subst (λ (s : NameRule). IsKept ps s) (sym (same_rule r rule same)) kept
+      | inr lower ↦ before r lower
+    ]
+
+pub all_right : (ps : List PlainProgram) → KeptBelow ps 7 → AreNamesRight ps
+all_right ps kept r j f broken = kept r (numbered r).last j f broken
+
+pub first_fault : (ps : List PlainProgram) (rule : NameRule) (f : NameFault) → KeptBelow ps (order_of rule) → IsFirstOf ps rule f → IsFirstNameFault ps f
+first_fault ps rule f kept told =
+    record {
+      rule = rule;
+      place = told.0;
+      broken = told.1;
+      first = λ r j g before broken.
+          elim before [
+            | inl less ↦ kept r less j g broken
+            | inr same ↦ told.2 j g same.1 (subst (λ (s : NameRule). NameBroken ps s j g) (same_rule r rule same.0) broken)
+          ];
+    }
+
+-- a search that found a place is a refusal, and one that found none leaves one rule more that is kept
+pub found : {A : Type 0} (ps : List PlainProgram) (rule : NameRule) (fault : A → NameFault) (o : Option A) (x : A) → KeptBelow ps (order_of rule)
+    → IsSearched ps rule fault o → o ≡ Some x → IsRefusal ps (fault x)
+found {A} ps rule fault o x kept h is = inr (first_fault ps rule (fault x) kept (subst (λ (y : Option A). IsSearched ps rule fault y) is h))
+
+pub passed : {A : Type 0} (ps : List PlainProgram) (rule : NameRule) (fault : A → NameFault) (o : Option A) → KeptBelow ps (order_of rule)
+    → IsSearched ps rule fault o → o ≡ None → KeptBelow ps (suc (order_of rule))
+passed {A} ps rule fault o kept h is = kept_next ps rule kept (subst (λ (y : Option A). IsSearched ps rule fault y) is h)
+
+pub resolved_err : (ps : List PlainProgram) (f : NameFault) → IsRefusal ps f → IsResolved ps (Err f)
+resolved_err ps (fault.Twice token) (inl memory) = absurd cc
+resolved_err ps (fault.Twice token) (inr first) = first
+resolved_err ps (fault.Unknown token) (inl memory) = absurd cc
+resolved_err ps (fault.Unknown token) (inr first) = first
+resolved_err ps (fault.Kind token) (inl memory) = absurd cc
+resolved_err ps (fault.Kind token) (inr first) = first
+resolved_err ps (fault.NotATree program) (inl memory) = absurd cc
+resolved_err ps (fault.NotATree program) (inr first) = first
+resolved_err ps (fault.Limit which count) (inl memory) = absurd cc
+resolved_err ps (fault.Limit which count) (inr first) = first
+resolved_err ps fault.Memory (inl memory) = tt
+resolved_err ps fault.Memory (inr first) = tt
+
+pub resolved_by : (ps : List PlainProgram) (r : Result Tables NameFault) (f : NameFault) → IsErrAnd r (λ e. e ≡ f) → IsRefusal ps f → IsResolved ps r
+resolved_by ps (Ok x) f h told = absurd h
+resolved_by ps (Err e) f h told = resolved_err ps e (subst (IsRefusal ps) (sym h) told)
+
+pub refused : {A : Type 0} (P : A → Type 0) (ps : List PlainProgram) (r : Result A NameFault) (f : NameFault) → IsErrAnd r (λ e. e ≡ f) → IsRefusal ps f → MatchResult r P (IsRefusal ps)
+refused P ps (Ok x) f h told = absurd h
+refused P ps (Err e) f h told = subst (IsRefusal ps) (sym h) told
+
+-- where there is an error, no tables are spoken of
+pub no_tables : (P : Tables → Type 0) (r : Result Tables NameFault) (f : NameFault) → IsErrAnd r (λ e. e ≡ f) → IfOk r P
+no_tables P (Ok x) f h = absurd h
+no_tables P (Err e) f h = tt
+
+-- ---- what the searches of single rules find, in the words of the rules
 
 pub names_repeated : (ps : List PlainProgram) (es : List Entry) (f : NameFault) → es ≡ entries ps → IsRepeat es f → IsRefusal ps f
 names_repeated ps es f are (inl memory) = inl memory
@@ -76,10 +210,18 @@ kind_tells : (kind : Bool) (token : ℕ) → MatchOption (cond kind None (Some t
 kind_tells true token = λ e. cc
 kind_tells false token = (refl, refl)
 
-pub kinds_searched : (ps : List PlainProgram) (js : List Judged) (o : Option ℕ) → js ≡ kinds ps → o ≡ first_some wrong_token js
-    → IsSearched ps WrongKind (λ t. fault.Kind t) o
-kinds_searched ps js o are is =
-    subst (λ (x : Option ℕ). IsSearched ps WrongKind (λ t. fault.Kind t) x) (sym (is ∙ ap (first_some wrong_token) are))
+first_wrong : (js : List Judged) → slice_get (wrong_tokens js) 0 ≡ first_some wrong_token js
+first_wrong [] = refl
+first_wrong (j ∷ js) = by (is_kind j) (first_wrong js)
+  where
+    by : (b : Bool) → slice_get (wrong_tokens js) 0 ≡ first_some wrong_token js
+        → slice_get (cond b [] (token_of j ∷ []) ++ wrong_tokens js) 0 ≡ elim (cond b None (Some (token_of j))) as (λ _. Option ℕ) [ Some t ↦ Some t | None ↦ first_some wrong_token js ]
+    by true later = later
+    by false later = refl
+
+pub kinds_searched : (ps : List PlainProgram) (ts : List ℕ) (o : Option ℕ) → ts ≡ wrong_tokens (kinds ps) → o ≡ slice_get ts 0 → IsSearched ps WrongKind (λ t. fault.Kind t) o
+kinds_searched ps ts o are is =
+    subst (λ (x : Option ℕ). IsSearched ps WrongKind (λ t. fault.Kind t) x) (sym (is ∙ ap (λ xs. slice_get xs 0) are ∙ first_wrong (kinds ps)))
     (first_bad IsWrongKind token_of (λ t. fault.Kind t) wrong_token (kinds ps) (λ k j there. kind_tells (is_kind j) (token_of j)))
 
 -- ---- the first name that stands for nothing, in the words of the rules
@@ -121,11 +263,7 @@ parents_below ps =
     one n p (Some id) less = (less, tt)
     one n p None less = tt
 
--- the list has the mode that each program refines
-abbrev AreRefined : List (Key × ℕ) → List PlainProgram → List (Option ModeAt) → Type 0
-AreRefined symbols ps refined = refined ≡ list_to (refined_by symbols ps) (length ps)
-
-parent_tells : (symbols : List (Key × ℕ)) (ps : List PlainProgram) (refined : List (Option ModeAt)) (p : ℕ) (id : Id) → get_or refined p None ≡ refined_by symbols ps p
+parent_tells : (symbols : List (Key × ℕ)) (ps : List PlainProgram) (refined : List Named) (p : ℕ) (id : Id) → refined_at refined p ≡ refined_by symbols ps p
     → MatchOption (orphan_at symbols refined p id) (IsOrphan symbols ps p id → ⊥) (λ t. IsOrphan symbols ps p id × (t ≡ id.token))
 parent_tells symbols ps refined zero id is = (tt, refl)
 parent_tells symbols ps refined (suc p) id is =
@@ -136,15 +274,14 @@ parent_tells symbols ps refined (suc p) id is =
     by None token = (refl, refl)
     by (Some n) token = λ e. cc
 
-pub parents_searched : (ps : List PlainProgram) (symbols : List (Key × ℕ)) (refined : List (Option ModeAt)) (us : List ParentUse) (o : Option ℕ) → symbols ≡ symbols_of ps
+pub parents_searched : (ps : List PlainProgram) (symbols : List (Key × ℕ)) (refined : List Named) (us : List ParentUse) (o : Option ℕ) → symbols ≡ symbols_of ps
     → AreRefined symbols ps refined → us ≡ parents ps → o ≡ first_some (orphan_token symbols refined) us → IsSearched ps ParentName (λ t. fault.Unknown t) o
 parents_searched ps symbols refined us o same table are is =
     let names = symbols_of ps in
-    let there : AreRefined names ps refined = table ∙ ap (λ s. list_to (refined_by s ps) (length ps)) same in
+    let there : AreRefined names ps refined = subst (λ s. AreRefined s ps refined) same table in
     subst (λ (x : Option ℕ). IsSearched ps ParentName (λ t. fault.Unknown t) x)
     (sym (is ∙ ap (λ s. first_some (orphan_token s refined) us) same ∙ ap (first_some (orphan_token names refined)) are))
     (first_bad (λ (u : ParentUse). IsOrphan names ps u.program u.id) (λ (u : ParentUse). u.id.token) (λ t. fault.Unknown t) (orphan_token names refined) (parents ps)
     (λ k u at.
     parent_tells names ps refined u.program u.id
-    (ap (λ xs. get_or xs u.program None) there
-    ∙ get_list_to (refined_by names ps) (length ps) u.program None (each_at (λ (x : ParentUse). x.program < length ps) (parents ps) k u (parents_below ps) at))))
+    (there.says u.program (each_at (λ (x : ParentUse). x.program < length ps) (parents ps) k u (parents_below ps) at))))

@@ -5,18 +5,16 @@ use Rattle.std.proofs.lemmas.Grind.{flat_map-append}
 use Rattle.std.proofs.lemmas.List.{map-append, length-map}
 use Rattle.htl_model.specs.FunctionTypes.{FunctionType, output_type, task_types, switch_type, comm_type, function_types}
 use Rattle.htl_model.specs.Small.{IsSmallFunction, AreSmall, ArgumentsBelow, nodes}
-use Rattle.htl_names.proofs.Paired.{Paired, paired_append, paired_at}
+use Rattle.htl_names.proofs.ListLaws.{Paired, paired_append, paired_at, all_in}
 use Rattle.htl_model.specs.Ranges.{AreInRange, IsTaskInRange, IsSwitchInRange}
 use Rattle.htl_model.specs.Tables.{Tables, Fun, Formula, Compiled}
 use Rattle.htl_model.specs.declared.parts.Task.{Task}
-use Rattle.htl_names.proofs.Gathered.{all_in}
-use Rattle.htl_names.proofs.FlatMaps.{get_front, get_back, get_either, flat_part, at_flat}
+use Rattle.htl_names.proofs.FlatMaps.{get_front, get_back, get_either, flat_part, at_flat, of_map}
 use Rattle.htl_names.proofs.Members.{All-at}
-use Rattle.htl_names.proofs.ModuleRanges.{task_small}
-use Rattle.htl_names.proofs.Owners.{of_map}
+use Rattle.htl_names.proofs.Numbered.{task_small}
 use Rattle.htl_model.proofs.PlaceLaws.{get_mapped}
-use Rattle.htl_names.proofs.SwitchRanges.{switch_small}
-use Rattle.htl_names.proofs.Used.{known, in_task}
+use Rattle.htl_names.proofs.ModeRanges.{switch_small}
+use Rattle.htl_names.proofs.NameUses.{known, in_task}
 use Rattle.htl_names.specs.Conditions.{MeetsBounds, MeetsSwitchBounds}
 use Rattle.htl_names.specs.Flat.{Layout, layout, meaning, term_by, types_of, is_abstract, task_item, module_task_items, input_place, flat_output_function, outs_functions, task_functions, module_functions, comms_in, switch_item, mode_switch_items, read_place, flat_switch_function, mode_functions, tables_of_tree}
 use Rattle.htl_names.specs.Keys.{comm_key}

@@ -9,14 +9,13 @@ pub mod LevelTable
 pub mod Limits
 pub mod Lists
 pub mod NameRules
-pub mod Namings
 pub mod Narrow
 pub mod Order
 pub mod Ordered
 pub mod Parents
 pub mod Programs
 pub mod Reach
-pub mod Refined
+pub mod Named
 pub mod Repeats
 pub mod Rows
 pub mod SameKeys

@@ -32,8 +32,6 @@ pub record IsOrdered (symbols : List (Key × ℕ)) (ps : List PlainProgram) (mod
   -- a module of another program than the root refines the mode that names its program, of a module that stands before it
   pub parents : (k : ℕ) (s : ModuleAt) (a : ModeAt) → slice_get modules k ≡ Some s → s.parent ≡ Some a → StandsBefore ps modules k a
   pub refined : (k : ℕ) (s : ModuleAt) (a : ModeAt) → slice_get modules k ≡ Some s → s.parent ≡ Some a → refined_by symbols ps s.program ≡ Some a
-  pub root : (k : ℕ) (s : ModuleAt) → slice_get modules k ≡ Some s → s.parent ≡ None → s.program ≡ 0
-  pub root_free : (k : ℕ) (s : ModuleAt) (a : ModeAt) → slice_get modules k ≡ Some s → s.parent ≡ Some a → s.program ≡ 0 → ⊥
   pub roots : filter is_root_module modules ≡ modules_in ps None 0
   -- levels
   pub levels : (k : ℕ) (s : ModuleAt) → slice_get modules k ≡ Some s → level (naming symbols ps) (length ps) s.program ≤ 8

@@ -1,13 +1,15 @@
 -- The names after `parent`, in source order, and those that stand for nothing.
-use Rattle.std.specs.Prelude.{ℕ, zero, suc, ◌≡◌, ◌∷◌, List, [], Option, Some, None, get_or}
+use Rattle.std.specs.Prelude.{ℕ, zero, suc, ◌≡◌, ◌∷◌, List, [], Option, Some, None}
 use Rattle.std.specs.List.{flat_map}
 use Rattle.htl_text.specs.Nodes.{PlainProgram, PlainModule, PlainMode}
 use Rattle.htl_text.specs.declared.tree.Id.{Id}
 use Rattle.htl_text.specs.declared.tree.InvokeNode.{InvokeNode}
 use Rattle.htl_names.specs.declared.key.Key.{Key}
 use Rattle.htl_names.specs.declared.place.ModeAt.{ModeAt}
+use Rattle.htl_names.specs.declared.programs.Named.{Named}
 use Rattle.htl_names.specs.Keys.{look_up, invoke_key}
 use Rattle.htl_names.specs.Lists.{flat_map_at}
+use Rattle.htl_names.specs.Named.{refined_at}
 use Rattle.htl_names.specs.Programs.{refined_by}
 
 -- a name after `parent`, in an invocation of program p
@@ -49,10 +51,10 @@ abbrev pub absent : Option ℕ → ℕ → Option ℕ
 absent None token = Some token
 absent (Some n) token = None
 
--- the token, where the name in a program stands for nothing; `refined` has the modes that the programs refine
-abbrev pub orphan_at : List (Key × ℕ) → List (Option ModeAt) → ℕ → Id → Option ℕ
+-- the token, where the name in a program stands for nothing; by a table of the modes that programs refine
+abbrev pub orphan_at : List (Key × ℕ) → List Named → ℕ → Id → Option ℕ
 orphan_at symbols refined zero id = Some id.token
-orphan_at symbols refined (suc p) id = absent (parent_in symbols (get_or refined (suc p) None) id.name) id.token
+orphan_at symbols refined (suc p) id = absent (parent_in symbols (refined_at refined (suc p)) id.name) id.token
 
-abbrev pub orphan_token : List (Key × ℕ) → List (Option ModeAt) → ParentUse → Option ℕ
+abbrev pub orphan_token : List (Key × ℕ) → List Named → ParentUse → Option ℕ
 orphan_token symbols refined u = orphan_at symbols refined u.program u.id

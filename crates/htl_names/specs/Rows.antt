@@ -1,5 +1,6 @@
 -- What one walk over a source leaves for the name rules: four lists, each in source order.
-use Rattle.std.specs.Prelude.{ℕ, suc, List, [], ◌∷◌, ◌++◌, length, map, Some}
+use Rattle.std.specs.Prelude.{ℕ, suc, List, [], ◌∷◌, ◌++◌, cond, length, map, Some}
+use Rattle.std.specs.List.{flat_map}
 use Rattle.htl_text.specs.Bounds.{names_of}
 use Rattle.htl_text.specs.Nodes.{PlainProgram}
 use Rattle.htl_text.specs.declared.tree.Id.{Id}
@@ -21,8 +22,6 @@ use Rattle.htl_names.specs.declared.key.Space.{Space}
 use Rattle.htl_names.specs.declared.key.Space.TheVariants as space
 use Rattle.htl_names.specs.declared.key.Entry.{Entry}
 use Rattle.htl_names.specs.declared.key.Use.{Use}
-use Rattle.htl_names.specs.declared.rows.Judged.{Judged as Held}
-use Rattle.htl_names.specs.declared.rows.Judged.TheVariants as held
 use Rattle.htl_names.specs.declared.rows.ParentName.{ParentName}
 use Rattle.htl_names.specs.Entries as entries
 use Rattle.htl_names.specs.Kinds as kinds
@@ -35,23 +34,28 @@ use Rattle.htl_names.specs.Uses as uses
 pub record Rows : Type 0 where
   pub entries : List Entry
   pub uses : List Use
-  pub kinds : List Judged
+  pub wrong : List ℕ
   pub parents : List ParentUse
 
 -- ---- items as the code holds them
-
-abbrev pub judged_of : Held → Judged
-judged_of (held.Span n) = Span n
-judged_of (held.Instance n) = Instance n
-judged_of (held.Initial wanted c) = Initial wanted c
 
 abbrev pub parent_use_of : ParentName → ParentUse
 parent_use_of n = record { program = n.program; id = n.id }
 
 -- ---- rows of one list, and rows behind rows
 
+-- the tokens of those that are not of their kind
+abbrev pub wrong_of : Judged → List ℕ
+wrong_of j = cond (kinds.is_kind j) [] (kinds.token_of j ∷ [])
+
+abbrev pub wrong_tokens : List Judged → List ℕ
+wrong_tokens js = flat_map wrong_of js
+
+abbrev pub rows_by : List Entry → List Use → List ℕ → List ParentUse → Rows
+rows_by es us ts ps = record { entries = es; uses = us; wrong = ts; parents = ps }
+
 abbrev pub rows_with : List Entry → List Use → List Judged → List ParentUse → Rows
-rows_with es us js ps = record { entries = es; uses = us; kinds = js; parents = ps }
+rows_with es us js ps = rows_by es us (wrong_tokens js) ps
 
 abbrev pub declaring : List Entry → Rows
 declaring es = rows_with es [] [] []
@@ -66,7 +70,7 @@ abbrev pub refining : List ParentUse → Rows
 refining ps = rows_with [] [] [] ps
 
 abbrev pub rows_joined : Rows → Rows → Rows
-rows_joined a b = rows_with (a.entries ++ b.entries) (a.uses ++ b.uses) (a.kinds ++ b.kinds) (a.parents ++ b.parents)
+rows_joined a b = rows_by (a.entries ++ b.entries) (a.uses ++ b.uses) (a.wrong ++ b.wrong) (a.parents ++ b.parents)
 
 -- the rows of the items of a list, the first of them at place k
 abbrev pub all_rows : {A : Type 0} → (ℕ → A → Rows) → ℕ → List A → Rows

@@ -1,5 +1,5 @@
 -- The test of keys is true exactly where they are the same.
-use Rattle.std.specs.Prelude.{◌≡◌, ◌∷◌, ◌++◌, ◌+◌, ◌*◌, ◌%◌, ◌^◌, ℕ, zero, suc, List, [], IsTrue}
+use Rattle.std.specs.Prelude.{◌≡◌, ◌+◌, ◌*◌, ◌%◌, ◌^◌, ℕ, zero, suc, List, IsTrue, fold}
 use Rattle.std.specs.Bool.{Decides}
 use Rattle.std.specs.Hash as fed
 use Rattle.std.proofs.Common.{refl, sym, ◌∙◌, ap}
@@ -64,9 +64,9 @@ mixed a b = ((a * 1048583) % 2 ^ 64 + b) % 2 ^ 64
 abbrev pub owner_of : Key → ℕ
 owner_of k = mixed (mixed (mixed (space_code k.space) k.program) k.«module») k.item
 
--- what the hash of a key is made from: that number, and the bytes of the name as one piece
+-- what the hash of a key is made from: that number with each byte of the name mixed in
 abbrev pub key_writes : Key → List (List ℕ)
-key_writes k = fed.usize (owner_of k) ++ k.name ∷ []
+key_writes k = fed.usize (fold mixed (owner_of k) k.name)
 
 pub hashed_alike : (a b : Key) → IsTrue (same_key a b) → key_writes a ≡ key_writes b
 hashed_alike a b h = ap key_writes ((same_key_decides a b).0 h)

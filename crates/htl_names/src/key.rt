@@ -103,12 +103,16 @@ impl Hash for Key {
 
     fn hash<H: Hasher>(&self, state: &mut H) {
         let program = mixed(self.space as usize, self.program);
-        state.write_usize(mixed(mixed(program, self.module), self.item));
-        state.write(self.name.as_bytes());
+        let mut sum = mixed(mixed(program, self.module), self.item);
+        let bytes = self.name.as_bytes();
+        for k in 0..bytes.len() {
+            sum = sum.wrapping_mul(1_048_583).wrapping_add(bytes[k] as usize);
+        }
+        state.write_usize(sum);
     }
 }
 
-// The list as one number: lists that have the same number cost time alone.
+// A key as one number: keys that have the same number cost time alone.
 fn mixed(a: usize, b: usize) -> usize
     ensures { result ≡ mixed a b }
 {

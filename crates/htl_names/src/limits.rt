@@ -1,15 +1,14 @@
 // The first limit that a source exceeds: what it has of each kind, and how much it may have.
 ghost use Rattle.std.specs.Prelude.{◌≡◌, map, ◌≤◌, length, ◌+◌, [], ◌∷◌, take, drop};
-ghost use Rattle.htl_model.specs.Lists.{list_to};
 ghost use Rattle.htl_text.specs.Nodes.{mode_of, module_of, program_of, tree_of};
 ghost use Rattle.htl_names.specs.Excess.{IsFirstExcess, capped, excess_from};
 ghost use Rattle.htl_names.specs.LevelTable.{level_by, levels_by};
 ghost use Rattle.htl_names.specs.Limits.{selections, most_invokes, most_positions, counts, limits};
-ghost use Rattle.htl_names.specs.Programs.{refined_by};
+ghost use Rattle.htl_names.specs.Named.{AreRefined};
 ghost use Rattle.htl_names.specs.Tallies.{with_module, with_program, tally};
 
-use crate::place::{ModeAt, modules_at};
-use crate::programs::refined_at;
+use crate::place::modules_at;
+use crate::programs::{Named, refined_at};
 use crate::symbols::Symbols;
 use htl_base::limits::{
     MAX_COMMUNICATORS, MAX_INVOCATIONS, MAX_LEVELS, MAX_MODE_INVOCATIONS, MAX_MODES, MAX_MODULES,
@@ -139,27 +138,27 @@ pub(crate) fn most_positions(tree: &Tree) -> usize
 // ---- levels of programs
 
 /// How many programs lead from the root to a program, both counted.
-fn level(refined: &[Option<ModeAt>], program: usize) -> usize
-    ensures value { result ≡ level_by refined.now (length refined.now) program }
-    ensures few { result ≤ length refined.now }
+fn level(named: &[Named], program: usize) -> usize
+    ensures value { result ≡ level_by named.now (length named.now) program }
+    ensures few { result ≤ length named.now }
 {
     let mut at = program;
-    for k in 0..refined.len() {
-        match refined_at(at, refined) {
+    for k in 0..named.len() {
+        match refined_at(at, named) {
             Some(mode) => at = mode.program,
             None => return k + 1,
         }
     }
-    refined.len()
+    named.len()
 }
 
 /// The greatest level of a program.
-pub(crate) fn levels(refined: &[Option<ModeAt>]) -> usize
-    ensures { result ≡ levels_by refined.now }
+pub(crate) fn levels(named: &[Named]) -> usize
+    ensures { result ≡ levels_by named.now }
 {
     let mut most = 0usize;
-    for p in 0..refined.len() {
-        most = most.max(level(refined, p));
+    for p in 0..named.len() {
+        most = most.max(level(named, p));
     }
     most
 }
@@ -193,21 +192,17 @@ fn first_excess(first: u8, counts: &[usize], limits: &[usize]) -> Option<Excess>
 }
 
 /// The first excess of levels, root selections and positions, limits 9 to 11.
-fn shape_excess(tree: &Tree, refined: &[Option<ModeAt>]) -> Option<Excess>
-    ensures { result ≡ excess_from 9 (levels_by refined.now ∷ capped (selections (tree_of tree.now)) ∷ capped (most_positions (tree_of tree.now)) ∷ []) (drop 8 limits) }
+fn shape_excess(tree: &Tree, named: &[Named]) -> Option<Excess>
+    ensures { result ≡ excess_from 9 (levels_by named.now ∷ capped (selections (tree_of tree.now)) ∷ capped (most_positions (tree_of tree.now)) ∷ []) (drop 8 limits) }
 {
-    let counts = [levels(refined), selections(tree), most_positions(tree)];
+    let counts = [levels(named), selections(tree), most_positions(tree)];
     let limits = [MAX_LEVELS, MAX_SELECTIONS as usize, MAX_POSITIONS];
     first_excess(9, &counts, &limits)
 }
 
-/// The first limit that is exceeded. `refined` has of each program the mode that it refines.
-pub(crate) fn first_exceeded(
-    tree: &Tree,
-    symbols: &Symbols,
-    refined: &[Option<ModeAt>],
-) -> Option<Excess>
-    requires { refined.now ≡ list_to (refined_by symbols.now (tree_of tree.now)) (length (tree_of tree.now)) }
+/// The first limit that is exceeded. `named` has how modes name each program.
+pub(crate) fn first_exceeded(tree: &Tree, symbols: &Symbols, named: &[Named]) -> Option<Excess>
+    requires { AreRefined symbols.now (tree_of tree.now) named.now }
     ensures { IsFirstExcess (counts symbols.now (tree_of tree.now)) result }
 {
     let sum = tally_of(tree);
@@ -233,6 +228,6 @@ pub(crate) fn first_exceeded(
     ];
     match first_excess(1, &counts, &limits) {
         Some(found) => Some(found),
-        None => shape_excess(tree, refined),
+        None => shape_excess(tree, named),
     }
 }

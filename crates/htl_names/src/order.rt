@@ -122,14 +122,8 @@ pub(crate) fn layout_of(alloc: Global, tree: &Tree, symbols: Symbols) -> Result<
     ensures { IfOk result (λ layout. layout ≡ layout_by symbols (order symbols (tree_of tree.now)) (tree_of tree.now)) }
 {
     let mut modules = Vec::new(alloc);
-    put_program(
-        tree,
-        &symbols,
-        None,
-        0,
-        tree.programs.as_slice().len(),
-        &mut modules,
-    )?;
+    let steps = tree.programs.as_slice().len();
+    put_program(tree, &symbols, None, 0, steps, &mut modules)?;
     let mut modes = Vec::new(alloc);
     put_modes(tree, &modules, &mut modes)?;
     Ok(Layout {

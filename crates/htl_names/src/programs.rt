@@ -1,12 +1,10 @@
 // The tree of programs: the modes that name programs, the first program that is out of place, and the mode that each refines.
-ghost use Rattle.std.specs.Prelude.{◌≡◌, ◌++◌, OnOk, IfOk, eqb, ◌<◌, length, slice_get, fold, MatchBool, ◌≤◌, ℕ, List, get_or, None};
-ghost use Rattle.htl_model.specs.Lists.{list_to};
+ghost use Rattle.std.specs.Prelude.{◌≡◌, ◌++◌, OnOk, IfOk, eqb, ◌<◌, length, slice_get, fold, MatchBool, ◌≤◌, ℕ, List};
 ghost use Rattle.htl_text.specs.Nodes.{mode_of, module_of, program_of, tree_of, PlainProgram};
 ghost use Rattle.htl_names.specs.Graph.{naming_rows, targets, graph_by};
-ghost use Rattle.htl_names.specs.Programs.{IsFirstMisplaced, named_program as program_of_mode, named_from, module_naming, program_naming, named_by, IsMisplaced, refined_by};
-ghost use Rattle.htl_names.specs.Namings.{counted, counted_all, CountsNamings};
+ghost use Rattle.htl_names.specs.Programs.{IsFirstMisplaced, named_program as program_of_mode, named_from, module_naming, program_naming, named_by, IsMisplaced};
+ghost use Rattle.htl_names.specs.Named.{noted, refined_at, CountsNamings, AreRefined};
 ghost use Rattle.htl_names.specs.Reach.{met, met_by, IsMarked, MarksReached};
-ghost use Rattle.htl_names.specs.Refined.{filled};
 ghost use Rattle.htl_names.specs.declared.key.Key.{Key};
 
 use crate::Done;
@@ -148,69 +146,63 @@ pub(crate) fn reach(alloc: Global, rows: &[NamingRow]) -> Result<Vec<bool>, Allo
 
 // ---- the tree of programs
 
-/// Counts one more naming of a program. A number of no program is passed over.
-fn count(q: usize, counts: &mut Vec<u8>)
-    ensures { counts.new.items ≡ counted counts.old.items q }
-{
-    if q < counts.len() {
-        counts[q] = counts[q].saturating_add(1);
-    }
-}
-
-/// Puts a mode that names a program at the program's place, where that is free.
-fn fill(mode: ModeAt, program: usize, modes: &mut Vec<Option<ModeAt>>)
-    ensures { modes.new.items ≡ filled modes.old.items (mode, program) }
-{
-    if program < modes.len() && modes[program].is_none() {
-        modes[program] = Some(mode);
-    }
-}
-
-/// How modes name programs, by program.
-#[derive(Drop)]
+/// How modes name a program.
+#[derive(Clone, Copy)]
 pub(crate) struct Named {
     /// How many modes name it, counted up to 255.
-    pub counts: Vec<u8>,
+    pub count: u8,
     /// The mode that it refines: the first that names it.
-    pub modes: Vec<Option<ModeAt>>,
+    pub mode: Option<ModeAt>,
+}
+
+/// Notes that a mode names a program. A number of no program is passed over.
+fn note(mode: ModeAt, program: usize, into: &mut Vec<Named>)
+    ensures { into.new.items ≡ noted into.old.items (mode, program) }
+{
+    if program < into.len() {
+        let old = into[program];
+        into[program] = Named {
+            count: old.count.saturating_add(1),
+            mode: Some(old.mode.unwrap_or(mode)),
+        };
+    }
 }
 
 /// Notes how the modes of a program name programs.
-fn note_row(row: &[Naming], into: &mut Named)
-    ensures counts { into.new.counts.items ≡ counted_all into.old.counts.items (targets row.now) }
-    ensures modes { into.new.modes.items ≡ fold filled into.old.modes.items row.now }
+fn note_row(row: &[Naming], into: &mut Vec<Named>)
+    ensures { into.new.items ≡ fold noted into.old.items row.now }
 {
     for k in 0..row.len() {
         let (mode, program) = row[k];
-        count(program, &mut into.counts);
-        fill(mode, program, &mut into.modes);
+        note(mode, program, into);
     }
 }
 
 /// How the modes of a source name each of its programs.
-pub(crate) fn named_programs(alloc: Global, rows: &[NamingRow]) -> Result<Named, AllocError>
-    ensures counts { IfOk result (λ v. CountsNamings (graph_by rows.now) v.counts.items) }
+pub(crate) fn named_programs(alloc: Global, rows: &[NamingRow]) -> Result<Vec<Named>, AllocError>
+    ensures counts { IfOk result (λ v. CountsNamings (graph_by rows.now) v.items) }
     ensures modes { (symbols : List (Key × ℕ)) (ps : List PlainProgram) → rows.now ≡ naming_rows symbols ps
-        → IfOk result (λ v. v.modes.items ≡ list_to (refined_by symbols ps) (length ps)) }
+        → IfOk result (λ v. AreRefined symbols ps v.items) }
 {
-    let mut named = Named {
-        counts: vec![in alloc; 0u8; rows.len()]?,
-        modes: vec![in alloc; None; rows.len()]?,
+    let unnamed = Named {
+        count: 0,
+        mode: None,
     };
+    let mut named = vec![in alloc; unnamed; rows.len()]?;
     for k in 0..rows.len() {
         note_row(rows[k].as_slice(), &mut named);
     }
     Ok(named)
 }
 
-/// The first program that is out of place. `counts` has how many modes name each.
+/// The first program that is out of place.
 pub(crate) fn first_misplaced(
     alloc: Global,
     rows: &[NamingRow],
-    counts: &[u8],
+    named: &[Named],
 ) -> Result<Option<u32>, AllocError>
     requires small { length rows.now ≤ 1048576 }
-    requires counts { CountsNamings (graph_by rows.now) counts.now }
+    requires counts { CountsNamings (graph_by rows.now) named.now }
     ensures { IfOk result (λ o. IsFirstMisplaced (graph_by rows.now) o) }
 {
     if rows.is_empty() {
@@ -219,9 +211,9 @@ pub(crate) fn first_misplaced(
     let seen = reach(alloc, rows)?;
     for p in 0..rows.len() {
         let is_misplaced = if p == 0 {
-            0 < counts[p]
+            0 < named[p].count
         } else {
-            counts[p] != 1 || !seen[p]
+            named[p].count != 1 || !seen[p]
         };
         if is_misplaced {
             return Ok(Some(p as u32));
@@ -230,9 +222,9 @@ pub(crate) fn first_misplaced(
     Ok(None)
 }
 
-/// The mode that a program refines, by the table of those modes.
-pub(crate) fn refined_at(p: usize, refined: &[Option<ModeAt>]) -> Option<ModeAt>
-    ensures { result ≡ get_or refined.now p None }
+/// The mode that a program refines.
+pub(crate) fn refined_at(p: usize, named: &[Named]) -> Option<ModeAt>
+    ensures { result ≡ refined_at named.now p }
 {
-    if p < refined.len() { refined[p] } else { None }
+    if p < named.len() { named[p].mode } else { None }
 }

@@ -68,7 +68,7 @@ fn check_rows(rows: &Rows, symbols: &Symbols) -> Result<(), NameFault>
     if let Some(token) = first_unknown(rows.uses.as_slice(), symbols) {
         return Err(NameFault::Unknown { token });
     }
-    if let Some(token) = first_wrong_kind(rows.kinds.as_slice()) {
+    if let Some(token) = first_wrong_kind(rows.wrong.as_slice()) {
         return Err(NameFault::Kind { token });
     }
     Ok(())
@@ -89,15 +89,15 @@ fn check_programs(
 {
     let namings = naming_rows(alloc, tree, symbols)?;
     let named = named_programs(alloc, namings.as_slice())?;
-    let misplaced = first_misplaced(alloc, namings.as_slice(), named.counts.as_slice())?;
+    let table = named.as_slice();
+    let misplaced = first_misplaced(alloc, namings.as_slice(), table)?;
     if let Some(program) = misplaced {
         return Err(NameFault::NotATree { program });
     }
-    let refined = named.modes.as_slice();
-    if let Some(token) = first_orphan(rows.parents.as_slice(), symbols, refined) {
+    if let Some(token) = first_orphan(rows.parents.as_slice(), symbols, table) {
         return Err(NameFault::Unknown { token });
     }
-    if let Some(Excess { which, count }) = first_exceeded(tree, symbols, refined) {
+    if let Some(Excess { which, count }) = first_exceeded(tree, symbols, table) {
         return Err(NameFault::Limit { which, count });
     }
     Ok(())

@@ -1,39 +1,19 @@
 // What one walk over a source leaves for the name rules.
-ghost use Rattle.std.specs.Prelude.{◌≡◌, ◌≤◌, ◌^◌, ◌-◌, ◌∷◌, [], ◌++◌, OnOk, length, map};
+ghost use Rattle.std.specs.Prelude.{◌≡◌, ◌≤◌, ◌^◌, ◌-◌, ◌∷◌, [], ◌++◌, OnOk, cond, length, map};
 ghost use Rattle.htl_text.specs.Bounds.{names_of};
 ghost use Rattle.htl_names.specs.Entries.{entry};
-ghost use Rattle.htl_names.specs.Rows.{rows_joined, declaring, using, judging, refining, judged_of};
+ghost use Rattle.htl_names.specs.Rows.{rows_joined, declaring, using, judging, refining, rows_by};
+ghost use Rattle.htl_names.specs.Kinds.{Span, Instance, Initial, is_span, is_instance, is_kind, token_of};
 ghost use Rattle.htl_names.specs.Keys.{key_in};
 ghost use Rattle.htl_names.specs.Uses.{use_in};
 
 use crate::Done;
 use crate::key::{Entry, Scope, Use};
-use htl_base::Ty;
+use htl_base::limits::MAX_PERIOD;
+use htl_base::{Ty, Value};
 use htl_text::{ConstNode, Expression, Id, Node, Num};
 use std::alloc::Global;
 use std::marker::Model;
-
-/// A value or number that has to be of a kind.
-#[derive(Clone, Copy)]
-pub enum Judged {
-    /// A period or worst case, in ticks.
-    Span {
-        /// The number.
-        n: Num,
-    },
-    /// An instance of a communicator.
-    Instance {
-        /// The number.
-        n: Num,
-    },
-    /// An initial value.
-    Initial {
-        /// The type that it has to have.
-        wanted: Ty,
-        /// The value.
-        c: ConstNode,
-    },
-}
 
 /// A name after `parent`, in an invocation of a program.
 #[derive(Clone, Copy)]
@@ -42,26 +22,26 @@ pub struct ParentName {
     pub id: Id,
 }
 
-/// The names that a source declares, those that it uses, its values and numbers, and the names after `parent`, each
-/// list in source order.
+/// The names that a source declares, those that it uses, the tokens of its values and numbers that are not of their
+/// kind, and the names after `parent`, each list in source order.
 #[derive(Drop)]
 pub struct Rows {
     pub entries: Vec<Entry>,
     pub uses: Vec<Use>,
-    pub kinds: Vec<Judged>,
+    pub wrong: Vec<u32>,
     pub parents: Vec<ParentName>,
 }
 
 impl Model for Rows {
     ghost use Rattle.std.specs.Prelude.{map};
-    ghost use Rattle.htl_names.specs.Rows.{Rows as Plain, judged_of, parent_use_of};
+    ghost use Rattle.htl_names.specs.Rows.{Rows as Plain, parent_use_of};
 
     ghost Value = { Plain };
 
     ghost view = { λ r. record {
       entries = r.entries.items;
       uses = r.uses.items;
-      kinds = map judged_of r.kinds.items;
+      wrong = r.wrong.items;
       parents = map parent_use_of r.parents.items;
     } };
 }
@@ -74,7 +54,7 @@ impl Rows {
         Rows {
             entries: Vec::new(alloc),
             uses: Vec::new(alloc),
-            kinds: Vec::new(alloc),
+            wrong: Vec::new(alloc),
             parents: Vec::new(alloc),
         }
     }
@@ -117,11 +97,50 @@ impl Rows {
         Ok(())
     }
 
-    /// A value or number.
-    pub fn judge(&mut self, item: Judged) -> Done
-        ensures { OnOk result (self.new ≡ rows_joined self.old (judging (judged_of item ∷ []))) }
+    /// A period or worst case, in ticks.
+    pub fn span(&mut self, n: &Num) -> Done
+        ensures { OnOk result (self.new ≡ rows_joined self.old (judging (Span n.now ∷ []))) }
     {
-        self.kinds.push(item)?;
+        self.judge(is_span(n.x), n.token)
+    }
+
+    /// An instance of a communicator.
+    pub fn instance(&mut self, n: &Num) -> Done
+        ensures { OnOk result (self.new ≡ rows_joined self.old (judging (Instance n.now ∷ []))) }
+    {
+        self.judge(is_instance(n.x), n.token)
+    }
+
+    /// An initial value, and the type that it has to have.
+    pub fn initial(&mut self, wanted: Ty, c: ConstNode) -> Done
+        ensures { OnOk result (self.new ≡ rows_joined self.old (judging (Initial wanted c ∷ []))) }
+    {
+        match (wanted, c) {
+            (Ty::Int, ConstNode::Int { token, .. }) => self.judge(true, token),
+            (Ty::Int, ConstNode::Bool { token, .. }) => self.judge(false, token),
+            (Ty::Bool, ConstNode::Int { token, .. }) => self.judge(false, token),
+            (Ty::Bool, ConstNode::Bool { token, .. }) => self.judge(true, token),
+        }
+    }
+
+    fn judge(&mut self, is_right: bool, token: u32) -> Done
+        ensures { OnOk result (self.new ≡ rows_joined self.old (rows_by [] [] (cond is_right [] (token ∷ [])) [])) }
+    {
+        if !is_right {
+            self.wrong.push(token)?;
+        }
         Ok(())
     }
+}
+
+fn is_span(x: Value) -> bool
+    ensures { result ≡ is_span x }
+{
+    1 <= x && x <= i64::from(MAX_PERIOD)
+}
+
+fn is_instance(x: Value) -> bool
+    ensures { result ≡ is_instance x }
+{
+    0 <= x && x <= i64::from(MAX_PERIOD)
 }

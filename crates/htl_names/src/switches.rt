@@ -92,10 +92,8 @@ fn comms_in(source: &Source<'_>, e: &Expression) -> Result<Vec<u16>, AllocError>
     let nodes = e.nodes();
     for k in 0..nodes.len() {
         if let Node::Named { id } = &nodes[k] {
-            put_comm(
-                layout.meaning(Space::Comms.of(0, 0, 0), id.name) as u16,
-                &mut comms,
-            )?;
+            let comm = layout.meaning(Space::Comms.of(0, 0, 0), id.name);
+            put_comm(comm as u16, &mut comms)?;
         }
     }
     Ok(comms)

@@ -7,7 +7,7 @@ ghost use Rattle.htl_names.specs.declared.key.Scope.{Scope as AScope};
 
 use crate::Done;
 use crate::key::{Scope, Space};
-use crate::rows::{Judged, ParentName, Rows};
+use crate::rows::{ParentName, Rows};
 use htl_text::{
     CommNode, EndNode, InvokeNode, ModeNode, ModuleNode, OutNode, OutNodes, ParamNode, ProgramNode,
     SwitchNode, TaskNode, Tree,
@@ -55,18 +55,10 @@ fn add_program(p: usize, first: usize, program: &ProgramNode, into: &mut Rows) -
     ensures few { OnOk result (first ≤ 2 ^ 63 - 1) }
 {
     into.declare(Space::Programs.of(0, 0, 0), p, &program.name)?;
-    add_all(
-        Space::Comms.of(0, 0, 0),
-        first,
-        program.comms.as_slice(),
-        into,
-    )?;
-    add_all(
-        Space::Modules.of(p, 0, 0),
-        0,
-        program.modules.as_slice(),
-        into,
-    )
+    let comms = Space::Comms.of(0, 0, 0);
+    add_all(comms, first, program.comms.as_slice(), into)?;
+    let modules = Space::Modules.of(p, 0, 0);
+    add_all(modules, 0, program.modules.as_slice(), into)
 }
 
 impl Part for CommNode {
@@ -74,11 +66,8 @@ impl Part for CommNode {
 
     fn add(&self, list: Scope, place: usize, into: &mut Rows) -> Done {
         into.declare(list, place, &self.name)?;
-        into.judge(Judged::Span { n: self.period })?;
-        into.judge(Judged::Initial {
-            wanted: self.ty,
-            c: self.init,
-        })
+        into.span(&self.period)?;
+        into.initial(self.ty, self.init)
     }
 }
 
@@ -89,12 +78,8 @@ impl Part for ModuleNode {
         let modes = Space::Modes.of(list.program, place, 0);
         into.declare(Space::Modules.of(0, 0, 0), place, &self.name)?;
         into.mention(modes, None, &self.start)?;
-        add_all(
-            Space::Tasks.of(list.program, place, 0),
-            0,
-            self.tasks.as_slice(),
-            into,
-        )?;
+        let tasks = Space::Tasks.of(list.program, place, 0);
+        add_all(tasks, 0, self.tasks.as_slice(), into)?;
         add_all(modes, 0, self.modes.as_slice(), into)
     }
 }
@@ -108,7 +93,7 @@ impl Part for TaskNode {
         let inputs = self.inputs.as_slice();
         let params = Space::Params.of(list.program, list.module, place);
         into.declare(list, place, &self.name)?;
-        into.judge(Judged::Span { n: self.worst })?;
+        into.span(&self.worst)?;
         add_all(params, 0, inputs, into)?;
         match &self.outputs {
             OutNodes::Concrete { outs } => add_outs(params, inputs.len(), outs.as_slice(), into),
@@ -145,28 +130,15 @@ impl Part for ModeNode {
     ghost rows_of = { rows.mode_rows };
 
     fn add(&self, list: Scope, place: usize, into: &mut Rows) -> Done {
-        let Scope {
-            program,
-            module,
-            ..
-        } = list;
+        let ports = Space::Ports.of(list.program, list.module, place);
+        let invokes = Space::Invokes.of(list.program, list.module, place);
         into.declare(list, place, &self.name)?;
-        into.judge(Judged::Span { n: self.period })?;
+        into.span(&self.period)?;
         if let Some(id) = &self.program {
             into.mention(Space::Programs.of(0, 0, 0), None, id)?;
         }
-        add_all(
-            Space::Ports.of(program, module, place),
-            0,
-            self.ports.as_slice(),
-            into,
-        )?;
-        add_all(
-            Space::Invokes.of(program, module, place),
-            0,
-            self.invokes.as_slice(),
-            into,
-        )?;
+        add_all(ports, 0, self.ports.as_slice(), into)?;
+        add_all(invokes, 0, self.invokes.as_slice(), into)?;
         add_all(list, 0, self.switches.as_slice(), into)
     }
 }
@@ -175,20 +147,16 @@ impl Part for InvokeNode {
     ghost rows_of = { rows.invoke_rows };
 
     fn add(&self, list: Scope, place: usize, into: &mut Rows) -> Done {
-        let Scope {
-            program,
-            module,
-            item,
-            ..
-        } = list;
-        let ports = Space::Ports.of(program, module, item);
+        let tasks = Space::Tasks.of(list.program, list.module, 0);
+        let ports = Space::Ports.of(list.program, list.module, list.item);
         into.declare(list, place, &self.task)?;
-        into.mention(Space::Tasks.of(program, module, 0), None, &self.task)?;
+        into.mention(tasks, None, &self.task)?;
         add_all(ports, 0, self.reads.as_slice(), into)?;
         add_all(ports, 0, self.writes.as_slice(), into)?;
         match self.parent {
             None => Ok(()),
             Some(id) => {
+                let program = list.program;
                 into.parents.push(ParentName { program, id })?;
                 Ok(())
             }
@@ -203,7 +171,7 @@ impl Part for EndNode {
         match self {
             EndNode::Comm { comm, instance } => {
                 into.mention(Space::Comms.of(0, 0, 0), None, comm)?;
-                into.judge(Judged::Instance { n: *instance })
+                into.instance(instance)
             }
             EndNode::Port { port } => into.mention(list, None, port),
         }

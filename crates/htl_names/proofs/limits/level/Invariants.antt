@@ -3,4 +3,4 @@ use Rattle.htl_names.specs.LevelTable.{level_by}
 use Rattle.htl_names.proofs.limits.level.Given as goal
 
 abbrev pub invariant-loop-k : goal.invariant-loop-k
-invariant-loop-k l = l.k + level_by l.refined (length l.refined - l.k) l.at ≡ level_by l.refined (length l.refined) l.program
+invariant-loop-k l = l.k + level_by l.named (length l.named - l.k) l.at ≡ level_by l.named (length l.named) l.program

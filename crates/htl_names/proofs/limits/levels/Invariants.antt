@@ -5,4 +5,4 @@ use Rattle.htl_names.specs.LevelTable.{level_by}
 use Rattle.htl_names.proofs.limits.levels.Given as goal
 
 abbrev pub invariant-loop-p : goal.invariant-loop-p
-invariant-loop-p l = l.most ≡ greatest 0 (list_to (level_by l.refined (length l.refined)) l.p)
+invariant-loop-p l = l.most ≡ greatest 0 (list_to (level_by l.named (length l.named)) l.p)

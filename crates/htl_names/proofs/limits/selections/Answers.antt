@@ -1,5 +1,5 @@
 use Rattle.std.proofs.Common.{◌-◌, ◌^◌, arith}
-use Rattle.htl_names.proofs.ChoiceLaws.{choices-step}
+use Rattle.htl_names.proofs.Walking.{choices-step}
 use Rattle.htl_names.proofs.limits.selections.Goals as goal
 
 pub loop-k-preserved : goal.loop-k-preserved

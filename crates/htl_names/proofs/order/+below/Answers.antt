@@ -1,6 +1,6 @@
 use Rattle.std.proofs.Common.{arith}
 use Rattle.htl_text.specs.Nodes.{tree_of}
-use Rattle.htl_names.proofs.Descending.{kids_start}
+use Rattle.htl_names.proofs.Walking.{kids_start}
 use Rattle.htl_names.proofs.order.+below.Goals as goal
 
 pub put_module-loop-k-init : goal.put_module-loop-k-init

@@ -2,7 +2,7 @@ use Rattle.std.proofs.Common.{◌≡◌, length, subst, ap, arith, ◌∙◌}
 use Rattle.std.proofs.lemmas.List.{length-map}
 use Rattle.htl_names.specs.Graph.{targets, graph_by}
 use Rattle.htl_names.specs.Reach.{IsMarked, found_after}
-use Rattle.htl_names.proofs.ReachLaws.{marks_reached}
+use Rattle.htl_names.proofs.Searches.{marks_reached}
 use Rattle.htl_names.proofs.programs.reach.Goals as goal
 
 pub returns : goal.returns

@@ -5,8 +5,7 @@ use Rattle.htl_names.specs.Flat.{symbols_of}
 use Rattle.htl_names.specs.Keys.{pair_of}
 use Rattle.htl_names.specs.NameRules.{AreNamesRight}
 use Rattle.htl_names.specs.Rows.{Rows}
-use Rattle.htl_names.proofs.ResolveLaws.{refused}
-use Rattle.htl_names.proofs.RuleLaws.{names_repeated, names_apart}
+use Rattle.htl_names.proofs.RuleLaws.{refused, names_repeated, names_apart}
 use Rattle.htl_names.proofs.resolving.names_of.Goals as goal
 
 abbrev AreMeant : List PlainProgram → List (Key × ℕ) → Type 0

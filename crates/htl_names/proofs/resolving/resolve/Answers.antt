@@ -7,9 +7,8 @@ use Rattle.htl_text.specs.Nodes.{tree_of}
 use Rattle.htl_names.specs.Narrow.{IsNarrow}
 use Rattle.htl_names.proofs.InRange.{names-in-range}
 use Rattle.htl_names.proofs.KeepsLimits.{names-keep-limits}
-use Rattle.htl_names.proofs.LayoutLaws.{layout_is, tables_are}
-use Rattle.htl_names.proofs.Narrowing.{names-narrow}
-use Rattle.htl_names.proofs.ResolveLaws.{resolved_by, no_tables}
+use Rattle.htl_names.proofs.Ordering.{layout_is, tables_are, names-narrow}
+use Rattle.htl_names.proofs.RuleLaws.{resolved_by, no_tables}
 use Rattle.htl_names.proofs.SmallFunctions.{functions_small}
 use Rattle.htl_names.proofs.resolving.resolve.Goals as goal
 

@@ -1,6 +1,6 @@
 use Rattle.std.proofs.Common.{◌≤◌, sym, subst, List, ℕ}
 use Rattle.htl_names.specs.Flat.{read_place}
-use Rattle.htl_names.proofs.Distinct.{read_place-le}
+use Rattle.htl_names.proofs.ListLaws.{read_place-le}
 use Rattle.htl_names.proofs.switches.condition.Goals as goal
 
 pub formula-requires : goal.formula-requires

@@ -1,7 +1,7 @@
 use Rattle.std.proofs.Common.{◌≡◌, ◌∙◌, length, refl, sym, arith, subst, add-one, ℕ, inr}
 use Rattle.std.proofs.lemmas.Option.{slice_get_read}
 use Rattle.htl_names.specs.Repeats.{AreApartTo}
-use Rattle.htl_names.proofs.RepeatLaws.{repeats_here, apart_here, all_apart, seen_more, all_seen}
+use Rattle.htl_names.proofs.SymbolLaws.{repeats_here, apart_here, all_apart, seen_more, all_seen}
 use Rattle.htl_names.proofs.symbols.declare.Goals as goal
 
 pub returns-in-Some : goal.returns-in-Some

@@ -1,16 +1,22 @@
--- A name that repeats, by a table of symbols.
-use Rattle.std.proofs.Common.{◌≡◌, ◌<◌, ◌≤◌, ◌+◌, ◌++◌, get_or, ℕ, suc, List, [], ◌∷◌, take, map, slice_get, Some, None, sym, ◌∙◌, ap, arith, length, inl, inr}
+-- The table of symbols: its look-ups, and names that repeat.
+use Rattle.std.proofs.Common.{◌≡◌, ℕ, cond, List, [], ◌∷◌, Some, refl, ap, ◌<◌, ◌≤◌, ◌+◌, ◌++◌, get_or, suc, take, map, slice_get, None, sym, ◌∙◌, arith, length, inl, inr}
+use Rattle.std.specs.Map.{lookup}
+use Rattle.htl_names.specs.declared.key.Key.{Key}
+use Rattle.htl_names.specs.Keys.{same_key, look_up, pair_of}
 use Rattle.std.proofs.Math.Nat.{eq-or-lt_of_le}
 use Rattle.std.proofs.lemmas.List.{map-append, take_more}
 use Rattle.std.proofs.Math.Seq.{take-length}
 use Rattle.std.proofs.lemmas.Option.{none-some, slice_get_within}
-use Rattle.htl_names.specs.declared.key.Key.{Key}
 use Rattle.htl_names.specs.declared.key.Entry.{Entry}
 use Rattle.htl_names.specs.Entries.{Repeats}
-use Rattle.htl_names.specs.Keys.{look_up, pair_of}
 use Rattle.htl_names.specs.Repeats.{AreApartTo, EntriesAreApart}
 use Rattle.htl_names.proofs.FlatMaps.{in_front, at_front}
-use Rattle.htl_names.proofs.Meant.{found, some}
+use Rattle.htl_names.proofs.EntryLaws.{found, some}
+use Rattle.htl_names.specs.contracts.key.KeyPartialEq.TheImpl as key_impl
+
+pub lookup_is : (k : Key) (es : List (Key × ℕ)) → lookup ((key_impl.eq-value).it k) es ≡ look_up k es
+lookup_is k [] = refl
+lookup_is k (e ∷ es) = ap (λ o. cond (same_key k e.0) (Some e.1) o) (lookup_is k es)
 
 -- ---- in the words of the definition
 

@@ -1,0 +1,279 @@
+-- Lists: different numbers and how many a switch reads, sums over places, items in pairs, items that pass a test.
+use Rattle.std.proofs.Common.{◌≡◌, ◌⊎◌, inl, inr, ℕ, zero, suc, Bool, true, false, cond, ◌||◌, eqb, List, [], ◌∷◌, ◌++◌, slice_get, Some, fold, refl, sym, ◌∙◌, ap, subst, eq-eqb, eqb-true, ◌≤◌, ◌<◌, map, length, arith, length-append, ◌≢◌, ◌+◌, max, get_or, set, sum_by, sum, length-set, get_or-set_other}
+use Rattle.std.specs.List.{IsDistinct, list_any, flat_map, count_by}
+use Rattle.std.proofs.Math.Bool.{or-false, or-true}
+use Rattle.std.proofs.lemmas.Bool.{or_cases}
+use Rattle.std.proofs.lemmas.Cmp.{nat_eq_equiv}
+use Rattle.std.proofs.lemmas.List.Folds.{list_any-append}
+use Rattle.std.proofs.lemmas.Map.Keys.{IsDistinct-push, apart_from_distinct}
+use Rattle.std.proofs.lemmas.Option.{slice_get_within, get_or_from_slice_get, none-some, same_Some}
+use Rattle.htl_model.specs.Lists.{AreApart, list_to, places_from}
+use Rattle.htl_names.specs.Lists.{with_new, place_in}
+use Rattle.htl_names.proofs.Members.{In, Each, each_weaker}
+use Rattle.std.specs.Str.{bytes_eq}
+use Rattle.std.proofs.lemmas.Slice.Eq.{bytes_eq-Decides}
+use Rattle.std.proofs.lemmas.Map.Steps.{length-le_from_distinct_below}
+use Rattle.htl_text.specs.Bounds.{names_of}
+use Rattle.htl_text.specs.Expressions.{Expr}
+use Rattle.htl_text.specs.Nodes.{PlainProgram}
+use Rattle.htl_text.specs.declared.tree.Id.{Id}
+use Rattle.htl_names.specs.Conditions.{with_new_name, different_names}
+use Rattle.htl_names.specs.Flat.{layout, meaning, comms_in, Layout, read_place}
+use Rattle.htl_names.specs.Keys.{comm_key}
+use Rattle.htl_names.specs.declared.key.Key.{Key}
+use Rattle.htl_names.proofs.FlatMaps.{of_map}
+use Rattle.std.proofs.lemmas.List.Sums.{sum_by-cons, sum_by-set}
+use Rattle.std.proofs.lemmas.Grind.{flat_map-append}
+use Rattle.htl_model.specs.Tables.{greatest}
+
+abbrev pub is_among : List ℕ → ℕ → Bool
+is_among xs x = list_any (eqb x) xs
+
+pub any_end : {A : Type 0} (p : A → Bool) (xs : List A) (x : A) → list_any p (xs ++ x ∷ []) ≡ (list_any p xs || p x)
+any_end p xs x = list_any-append p xs (x ∷ []) ∙ ap (λ b. list_any p xs || b) (or-false (p x))
+
+-- ---- one more
+
+pub new_kept : (x y : ℕ) (acc : List ℕ) → is_among acc x ≡ true → is_among (with_new acc y) x ≡ true
+new_kept x y acc h = by (is_among acc y)
+  where
+    by : (b : Bool) → is_among (cond b acc (acc ++ y ∷ [])) x ≡ true
+    by true = h
+    by false = any_end (eqb x) acc y ∙ ap (λ b. b || eqb x y) h
+
+pub new_in : (x : ℕ) (acc : List ℕ) → is_among (with_new acc x) x ≡ true
+new_in x acc = by (is_among acc x) refl
+  where
+    by : (b : Bool) → is_among acc x ≡ b → is_among (cond b acc (acc ++ x ∷ [])) x ≡ true
+    by true e = e
+    by false e = any_end (eqb x) acc x ∙ ap (λ b. is_among acc x || b) (eq-eqb x x refl) ∙ or-true (is_among acc x)
+
+pub new_from : (x y : ℕ) (acc : List ℕ) → is_among (with_new acc y) x ≡ true → (is_among acc x ≡ true) ⊎ (x ≡ y)
+new_from x y acc h = by (is_among acc y) h
+  where
+    by : (b : Bool) → is_among (cond b acc (acc ++ y ∷ [])) x ≡ true → (is_among acc x ≡ true) ⊎ (x ≡ y)
+    by true h = inl h
+    by false h = elim (or_cases (is_among acc x) (eqb x y) (sym (any_end (eqb x) acc y) ∙ h)) [ inl a ↦ inl a | inr b ↦ inr (eqb-true x y b) ]
+
+pub new_distinct : (x : ℕ) (acc : List ℕ) → IsDistinct eqb acc → IsDistinct eqb (with_new acc x)
+new_distinct x acc d = by (is_among acc x) refl
+  where
+    by : (b : Bool) → is_among acc x ≡ b → IsDistinct eqb (cond b acc (acc ++ x ∷ []))
+    by true there = d
+    by false new = IsDistinct-push nat_eq_equiv acc x d new
+
+-- ---- all of a list
+
+pub all_kept : (x : ℕ) (acc xs : List ℕ) → is_among acc x ≡ true → is_among (fold with_new acc xs) x ≡ true
+all_kept x acc [] h = h
+all_kept x acc (y ∷ xs) h = all_kept x (with_new acc y) xs (new_kept x y acc h)
+
+pub all_in : (x : ℕ) (acc xs : List ℕ) (i : ℕ) → slice_get xs i ≡ Some x → is_among (fold with_new acc xs) x ≡ true
+all_in x acc [] i e = absurd (none-some x e)
+all_in x acc (y ∷ xs) zero e = all_kept x (with_new acc y) xs (subst (λ z. is_among (with_new acc z) x ≡ true) (sym (same_Some y x e)) (new_in x acc))
+all_in x acc (y ∷ xs) (suc i) e = all_in x (with_new acc y) xs i e
+
+pub all_of : (P : ℕ → Type 0) (acc xs : List ℕ) → ((x : ℕ) → is_among acc x ≡ true → P x) → ((x : ℕ) → In x xs → P x) → (y : ℕ) → is_among (fold with_new acc xs) y ≡ true → P y
+all_of P acc [] a b y at = a y at
+all_of P acc (x ∷ xs) a b y at =
+    all_of P (with_new acc x) xs (λ z h. elim (new_from z x acc h) [ inl old ↦ a z old | inr is ↦ subst P (sym is) (b x (0, refl)) ]) (λ z i. b z (suc i.0, i.1)) y at
+
+pub all_distinct : (acc xs : List ℕ) → IsDistinct eqb acc → IsDistinct eqb (fold with_new acc xs)
+all_distinct acc [] d = d
+all_distinct acc (x ∷ xs) d = all_distinct (with_new acc x) xs (new_distinct x acc d)
+
+-- ---- by places
+
+pub none_distinct : IsDistinct eqb []
+unfolding IsDistinct
+none_distinct = tt
+
+pub distinct_apart : (xs : List ℕ) → IsDistinct eqb xs → AreApart xs
+distinct_apart xs d j k y less p q =
+    let differ = apart_from_distinct eqb xs j k y d less (slice_get_within xs k y q) in
+    let same = eq-eqb _ _ (get_or_from_slice_get xs j y y p ∙ sym (get_or_from_slice_get xs k y y q)) in
+    absurd cc
+
+pub among_at : (xs : List ℕ) (k x : ℕ) → slice_get xs k ≡ Some x → is_among xs x ≡ true
+among_at [] k x e = absurd (none-some x e)
+among_at (y ∷ xs) zero x e = ap (λ b. b || is_among xs x) (eq-eqb x y (sym (same_Some y x e)))
+among_at (y ∷ xs) (suc k) x e = ap (λ b. eqb x y || b) (among_at xs k x e) ∙ or-true (eqb x y)
+
+-- ---- there are no more different numbers than different names
+
+-- each name met has its number
+abbrev AreMet : (List ℕ → ℕ) → List (List ℕ) → List ℕ → Type 0
+AreMet g names numbers = (n : List ℕ) → list_any (bytes_eq n) names ≡ true → is_among numbers (g n) ≡ true
+
+few_by : (g : List ℕ → ℕ) (ids : List Id) (names : List (List ℕ)) (numbers : List ℕ) → AreMet g names numbers → length numbers ≤ length names
+    → length (fold with_new numbers (map (λ (id : Id). g id.name) ids)) ≤ length (fold with_new_name names (map (λ (id : Id). id.name) ids))
+few_by g [] names numbers met few = few
+few_by g (id ∷ ids) names numbers met few = few_by g ids (with_new_name names n) (with_new numbers (g n)) met_more fewer
+  where
+    n : List ℕ
+    n = id.name
+
+    met_more : AreMet g (with_new_name names n) (with_new numbers (g n))
+    met_more m = by (list_any (bytes_eq n) names)
+      where
+        by : (b : Bool) → list_any (bytes_eq m) (cond b names (names ++ n ∷ [])) ≡ true → is_among (with_new numbers (g n)) (g m) ≡ true
+        by true h = new_kept (g m) (g n) numbers (met m h)
+        by false h =
+            elim (or_cases (list_any (bytes_eq m) names) (bytes_eq m n) (sym (any_end (bytes_eq m) names n) ∙ h)) [
+              | inl a ↦ new_kept (g m) (g n) numbers (met m a)
+              | inr b ↦ subst (λ k. is_among (with_new numbers (g n)) (g k) ≡ true) (sym ((bytes_eq-Decides m n).0 b)) (new_in (g n) numbers)
+            ]
+
+    fewer : length (with_new numbers (g n)) ≤ length (with_new_name names n)
+    fewer = by (list_any (bytes_eq n) names) (is_among numbers (g n)) refl refl
+      where
+        by : (a b : Bool) → list_any (bytes_eq n) names ≡ a → is_among numbers (g n) ≡ b → length (cond b numbers (numbers ++ g n ∷ [])) ≤ length (cond a names (names ++ n ∷ []))
+        by true true p q = few
+        by true false p q = let there = met n p in absurd cc
+        by false true p q = let one = length-append names (n ∷ []) in omega (arith, few, one)
+        by false false p q = let one = length-append names (n ∷ []) in let two = length-append numbers (g n ∷ []) in omega (arith, few, one, two)
+
+pub few_reads : (ps : List PlainProgram) (e : Expr) → length (comms_in (layout ps) e) ≤ length (different_names (names_of e))
+few_reads ps e = few_by (λ n. meaning (layout ps) (comm_key n)) (names_of e) [] [] (λ n h. absurd (let e : false ≡ true = h in cc)) (omega arith)
+
+-- ---- they are few, where they are below a bound
+
+-- the place of an item is not behind the list's end
+pub place_in-le : {A : Type 0} (p : A → Bool) (xs : List A) → place_in p xs ≤ length xs
+place_in-le p [] = omega arith
+place_in-le p (x ∷ xs) = place_by (p x) (place_in p xs) (length xs) (place_in-le p xs)
+  where
+    place_by : (b : Bool) (n k : ℕ) → n ≤ k → cond b 0 (suc n) ≤ suc k
+    place_by true n k h = omega arith
+    place_by false n k h = omega (arith, h)
+
+few_comms : (l : Layout) → ((key : Key) → meaning l key ≤ 4096) → (e : Expr) → length (comms_in l e) ≤ 4097
+few_comms l low e =
+    let f : Id → ℕ = λ id. meaning l (comm_key id.name) in
+    length-le_from_distinct_below (comms_in l e) 4097 (all_distinct [] (map f (names_of e)) none_distinct)
+    (all_of (λ q. q < 4097) [] (map f (names_of e)) (λ q none. cc) (λ q i. let id = of_map f (names_of e) i.0 q i.1 in omega (arith, low (comm_key id.0.name), id.2)))
+
+-- so is each place among them
+pub read_place-le : (l : Layout) → ((key : Key) → meaning l key ≤ 4096) → (e : Expr) (id : Id) → read_place l (comms_in l e) id ≤ 4097
+read_place-le l low e id =
+    let first = place_in-le (eqb (meaning l (comm_key id.name))) (comms_in l e) in
+    let all = few_comms l low e in
+    omega (arith, first, all)
+
+-- ---- a sum over different places of a list is at most the sum over the list
+
+-- no two items have one place
+abbrev pub Differ : {A : Type 0} → (A → ℕ) → List A → Type 0
+Differ at [] = Unit {0}
+Differ at (x ∷ xs) = Each (λ y. at y ≢ at x) xs × Differ at xs
+
+pub sum_by_same : {A : Type 0} (f g : A → ℕ) (xs : List A) → Each (λ x. f x ≡ g x) xs → sum_by f xs ≡ sum_by g xs
+sum_by_same f g [] h = refl
+sum_by_same f g (x ∷ xs) h = sum_by-cons f x xs ∙ ap (λ n. n + sum_by f xs) h.0 ∙ ap (λ n. g x + n) (sum_by_same f g xs h.1) ∙ sym (sum_by-cons g x xs)
+
+pub sum_at_places : {A : Type 0} (at : A → ℕ) (ws : List ℕ) (xs : List A) → Differ at xs → Each (λ x. at x < length ws) xs → sum_by (λ x. get_or ws (at x) 0) xs ≤ sum ws
+sum_at_places at ws [] d h = omega arith
+sum_at_places {A} at ws (x ∷ xs) d h =
+    let rest = set ws (at x) 0 in
+    let later = sum_at_places at rest xs d.1 (each_weaker (λ y. at y < length ws) (λ y. at y < length rest) (λ y lt. omega (arith, lt, length-set ws (at x) 0)) xs h.1) in
+    let same = sum_by_same (λ y. get_or ws (at y) 0) (λ y. get_or rest (at y) 0) xs
+    (each_weaker (λ y. at y ≢ at x) (λ y. get_or ws (at y) 0 ≡ get_or rest (at y) 0) (λ y ne. sym (get_or-set_other ws (at x) (at y) 0 0 ne)) xs d.0) in
+    let all = sum_by-set (λ n. n) ws (at x) 0 0 h.0 in
+    let here = sum_by-cons (λ y. get_or ws (at y) 0) x xs in
+    omega (arith, later, same, all, here)
+
+-- ---- lists by places
+
+pub flat_map_flat_map : {A B C : Type 0} (f : B → List C) (g : A → List B) (xs : List A) → flat_map f (flat_map g xs) ≡ flat_map (λ x. flat_map f (g x)) xs
+flat_map_flat_map f g [] = refl
+flat_map_flat_map f g (x ∷ xs) = flat_map-append f (g x) (flat_map g xs) ∙ ap (λ l. flat_map f (g x) ++ l) (flat_map_flat_map f g xs)
+
+list_to_front : {A : Type 0} (f : ℕ → A) (n : ℕ) → list_to f (suc n) ≡ f 0 ∷ list_to (λ k. f (suc k)) n
+list_to_front f zero = refl
+list_to_front f (suc n) = ap (λ l. l ++ f (suc n) ∷ []) (list_to_front f n)
+
+-- what is written for each place of a list, and what for each item
+pub flat_map_places : {A B C : Type 0} (h : A → List C) (f : ℕ → A) (e : B → List C) (zs : List B) → ((k : ℕ) (z : B) → slice_get zs k ≡ Some z → h (f k) ≡ e z)
+    → flat_map h (list_to f (length zs)) ≡ flat_map e zs
+flat_map_places h f e [] same = refl
+flat_map_places h f e (z ∷ zs) same =
+    ap (flat_map h) (list_to_front f (length zs))
+    ∙ ap (λ l. l ++ flat_map h (list_to (λ k. f (suc k)) (length zs))) (same 0 z refl)
+    ∙ ap (λ l. e z ++ l) (flat_map_places h (λ k. f (suc k)) e zs (λ k y s. same (suc k) y s))
+
+-- the values at the places of a list, and those of its items
+pub map_places : {A B C : Type 0} (h : A → C) (f : ℕ → A) (e : B → C) (zs : List B) → ((k : ℕ) (z : B) → slice_get zs k ≡ Some z → h (f k) ≡ e z)
+    → map h (list_to f (length zs)) ≡ map e zs
+map_places h f e [] same = refl
+map_places h f e (z ∷ zs) same =
+    ap (map h) (list_to_front f (length zs))
+    ∙ ap (λ w. w ∷ map h (list_to (λ k. f (suc k)) (length zs))) (same 0 z refl)
+    ∙ ap (λ l. e z ∷ l) (map_places h (λ k. f (suc k)) e zs (λ k y s. same (suc k) y s))
+
+pub greatest_start : (d : ℕ) (xs : List ℕ) → d ≤ greatest d xs
+greatest_start d [] = omega arith
+greatest_start d (x ∷ xs) = let h = greatest_start (max d x) xs in omega (arith, h)
+
+-- the greatest is at least each
+pub greatest_at : (d x : ℕ) (xs : List ℕ) (k : ℕ) → slice_get xs k ≡ Some x → x ≤ greatest d xs
+greatest_at d x [] k e = absurd (none-some x e)
+greatest_at d x (y ∷ xs) zero e = let h = greatest_start (max d y) xs in omega (arith, h, same_Some y x e)
+greatest_at d x (y ∷ xs) (suc k) e = greatest_at (max d y) x xs k e
+
+-- ---- lists of one length, item by item
+
+abbrev pub Paired : {A B : Type 0} → (A → B → Type 0) → List A → List B → Type 0
+Paired P [] [] = Unit {0}
+Paired P (x ∷ xs) (y ∷ ys) = P x y × Paired P xs ys
+Paired P [] (y ∷ ys) = ⊥
+Paired P (x ∷ xs) [] = ⊥
+
+pub paired_append : {A B : Type 0} (P : A → B → Type 0) (xs : List A) (ys : List B) (us : List A) (vs : List B) → Paired P xs ys → Paired P us vs → Paired P (xs ++ us) (ys ++ vs)
+paired_append P [] [] us vs h k = k
+paired_append P (x ∷ xs) (y ∷ ys) us vs h k = (h.0, paired_append P xs ys us vs h.1 k)
+paired_append P [] (y ∷ ys) us vs h k = absurd h
+paired_append P (x ∷ xs) [] us vs h k = absurd h
+
+pub paired_at : {A B : Type 0} (P : A → B → Type 0) (xs : List A) (ys : List B) (k : ℕ) (x : A) (y : B) → Paired P xs ys → slice_get xs k ≡ Some x → slice_get ys k ≡ Some y → P x y
+paired_at P [] ys k x y h e f = cc
+paired_at P (a ∷ xs) [] k x y h e f = cc
+paired_at P (a ∷ xs) (b ∷ ys) zero x y h e f =
+    let one : a ≡ x = cc in
+    let two : b ≡ y = cc in
+    subst (λ u. P u y) one (subst (λ v. P a v) two h.0)
+paired_at P (a ∷ xs) (b ∷ ys) (suc k) x y h e f = paired_at P xs ys k x y h.1 e f
+
+-- ---- where the items that pass a test stand, and how many there are
+
+pub length-places : {A : Type 0} (test : A → Bool) (k : ℕ) (xs : List A) → length (places_from test k xs) ≡ count_by test xs
+length-places test k [] = refl
+length-places test k (x ∷ xs) =
+    let rest = length-places test (suc k) xs in
+    let first = sum_by-cons (λ y. cond (test y) 1 0) x xs in
+    let here = front (test x) k (places_from test (suc k) xs) in
+    omega (arith, rest, first, here)
+  where
+    front : (b : Bool) (k : ℕ) (ks : List ℕ) → length (cond b (k ∷ ks) ks) ≡ cond b 1 0 + length ks
+    front true k ks = omega arith
+    front false k ks = omega arith
+
+-- an item that passes the test stands at the place
+pub record Passes {A : Type 0} (test : A → Bool) (k : ℕ) (xs : List A) (p : ℕ) : Type 0 where
+  pub place : ℕ
+  pub number : p ≡ k + place
+  pub item : A
+  pub there : slice_get xs place ≡ Some item
+  pub passes : test item ≡ true
+
+pub place_passes : {A : Type 0} (test : A → Bool) (k : ℕ) (xs : List A) (j p : ℕ) → slice_get (places_from test k xs) j ≡ Some p → Passes test k xs p
+place_passes test k [] j p e = absurd (none-some p e)
+place_passes {A} test k (x ∷ xs) j p e = by (test x) refl j e (λ i g. place_passes test (suc k) xs i p g)
+  where
+    shifted : Passes test (suc k) xs p → Passes test k (x ∷ xs) p
+    shifted r = let number = r.number in record { place = suc r.place; number = omega (arith, number); item = r.item; there = r.there; passes = r.passes }
+
+    by : (b : Bool) → test x ≡ b → (j : ℕ) → slice_get (cond b (k ∷ places_from test (suc k) xs) (places_from test (suc k) xs)) j ≡ Some p
+        → ((i : ℕ) → slice_get (places_from test (suc k) xs) i ≡ Some p → Passes test (suc k) xs p) → Passes test k (x ∷ xs) p
+    by true is zero g later = let same = same_Some k p g in record { place = 0; number = omega (arith, same); item = x; there = refl; passes = is }
+    by true is (suc i) g later = shifted (later i g)
+    by false is i g later = shifted (later i g)

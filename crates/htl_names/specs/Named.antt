@@ -1,0 +1,36 @@
+-- How modes name programs: of each program how many do, counted up to 255, and the first of them.
+use Rattle.std.specs.Prelude.{◌≡◌, ◌<◌, ◌+◌, ℕ, min, List, length, get_or, slice_get, slice_set, Option, Some, None}
+use Rattle.htl_text.specs.Nodes.{PlainProgram}
+use Rattle.htl_names.specs.declared.key.Key.{Key}
+use Rattle.htl_names.specs.declared.place.ModeAt.{ModeAt}
+use Rattle.htl_names.specs.declared.programs.Named.{Named}
+use Rattle.htl_names.specs.Programs.{Graph, namings, Naming, refined_by}
+
+-- named by no mode
+abbrev pub unnamed : Named
+unnamed = record { count = 0; mode = None }
+
+-- named by one mode more
+abbrev pub named_too : ModeAt → Named → Named
+named_too a n = record { count = min (n.count + 1) 255; mode = Some (elim n.mode [ Some b ↦ b | None ↦ a ]) }
+
+-- a number of no program is passed over
+abbrev pub noted_at : List Named → Naming → Option Named → List Named
+noted_at table x (Some n) = slice_set table x.1 (named_too x.0 n)
+noted_at table x None = table
+
+abbrev pub noted : List Named → Naming → List Named
+noted table x = noted_at table x (slice_get table x.1)
+
+-- the mode that a program refines, by the table
+abbrev pub refined_at : List Named → ℕ → Option ModeAt
+refined_at table p = (get_or table p unnamed).mode
+
+pub record CountsNamings (g : Graph) (table : List Named) : Type 0 where
+  pub len : length table ≡ length g
+  pub says : (p : ℕ) → p < length g → min (get_or table p unnamed).count 255 ≡ min (namings g p) 255
+
+-- the table has the mode that each program refines
+pub record AreRefined (symbols : List (Key × ℕ)) (ps : List PlainProgram) (table : List Named) : Type 0 where
+  pub len : length table ≡ length ps
+  pub says : (p : ℕ) → p < length ps → refined_at table p ≡ refined_by symbols ps p
