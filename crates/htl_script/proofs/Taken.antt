@@ -71,6 +71,10 @@ module _ (F S U : Type 0) (first : Ahead) (here : Here) (old new : Pending) (kno
   pub taken_read : {T E : Type 0} (now : Ahead) (y : S) (x : E) → GivesByte {E = S} old new rest left (Err y) → LosesPiece {T = T} {E = E} first now known left (Err x)
   taken_read now y x gave = record { front = was.front; lost = ap (prepend_known was.front) gave.2 ∙ was.lost; few = was.few; counted = tt }
 
+-- bytes that were read ahead are moved to the line
+pub taken_same : (first a b : Ahead) (known rest : Option (List ℕ)) → taken_of b ≡ taken_of a → LosesPiece {T = Unit {0}} {E = Unit {0}} first a known rest (Ok tt) → LosesPiece {T = Unit {0}} {E = Unit {0}} first b known rest (Ok tt)
+taken_same first a b known rest same h = record { front = h.front; lost = h.lost; few = h.few; counted = same ∙ h.counted }
+
 -- ---- more than one call
 
 -- what it gives doesn't matter

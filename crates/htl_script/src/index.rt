@@ -33,10 +33,17 @@ impl Index {
     pub fn new(t: &Tables) -> Index
         ensures { IsIndex t.now result }
     {
-        Index {
-            sensors: NameOrder::of(t, Named::Sensor),
-            invocations: NameOrder::of(t, Named::Invocation),
-        }
+        let mut index = Index::empty();
+        index.fill(t);
+        index
+    }
+
+    /// Makes it the index of tables, in place.
+    pub fn fill(&mut self, t: &Tables)
+        ensures { IsIndex t.now self.new }
+    {
+        self.sensors.fill(t, Named::Sensor);
+        self.invocations.fill(t, Named::Invocation);
     }
 }
 
@@ -69,15 +76,21 @@ impl NameOrder {
         }
     }
 
-    // Those of tables.
-    fn of(t: &Tables, kind: Named) -> NameOrder
-        ensures { AreOrdered (name_of t.now kind) (count_of t.now kind) result }
+    // Makes it those of tables.
+    fn fill(&mut self, t: &Tables, kind: Named)
+        ensures { AreOrdered (name_of t.now kind) (count_of t.now kind) self.new }
     {
-        let mut order = NameOrder::new();
+        self.clear();
         for number in 0..count(t, kind) {
-            order.add(t, kind, number as u16);
+            self.add(t, kind, number as u16);
         }
-        order
+    }
+
+    // Takes all away.
+    fn clear(&mut self)
+        ensures { self.new ≡ [] }
+    {
+        self.count = 0;
     }
 
     // Puts the next number in its place, where its name is new.

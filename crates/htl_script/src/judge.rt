@@ -88,12 +88,10 @@ fn statement(past: Past, names: &Names<'_>, text: &[u8]) -> Result<Event, Script
 fn instant(past: Past, names: &Names<'_>, word: &[u8], digits: &[u8]) -> Result<Event, ScriptKind>
     ensures { result ≡ judged_statement names.now past (instant_statement word.now digits.now) }
 {
-    if word == "at".as_bytes() {
-        at(past, names, digits)
-    } else if word == "end".as_bytes() {
-        end(past, names, digits)
-    } else {
-        Err(ScriptKind::Form)
+    match word {
+        b"at" => at(past, names, digits),
+        b"end" => end(past, names, digits),
+        _ => Err(ScriptKind::Form),
     }
 }
 
@@ -160,12 +158,10 @@ fn named(
     if name.is_empty() {
         return Err(ScriptKind::Form);
     }
-    if word == "sense".as_bytes() {
-        sense(past, names, name, digits)
-    } else if word == "took".as_bytes() {
-        took(past, names, name, digits)
-    } else {
-        Err(ScriptKind::Form)
+    match word {
+        b"sense" => sense(past, names, name, digits),
+        b"took" => took(past, names, name, digits),
+        _ => Err(ScriptKind::Form),
     }
 }
 

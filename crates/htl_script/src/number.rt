@@ -6,6 +6,9 @@ ghost use Rattle.std.specs.Char.{is_ascii_digit};
 ghost use Rattle.htl_script.specs.Reading.{with_digit_capped};
 ghost use Rattle.htl_script.specs.Numbers.{is_numeral, number_of, signed_of, with_digit};
 
+// Ten times a smaller number, and a digit more, are a number of 64 bits.
+const SMALL: u64 = 1_000_000_000_000_000_000;
+
 // The number that a field spells, or 18,446,744,073,709,551,615 where it is larger.
 pub fn number(field: &[u8]) -> Option<u64>
     ensures { result ≡ option_map (λ (n : ℕ). min n (2 ^ 64 - 1)) (number_of field.now) }
@@ -62,8 +65,17 @@ fn value(digits: &[u8]) -> u64
 fn capped(digits: &[u8]) -> u64
     ensures { result ≡ fold with_digit_capped 0 digits.now }
 {
-    digits.iter().fold(0u64, |n, digit| {
-        n.saturating_mul(10)
-            .saturating_add(u64::from(digit.saturating_sub(b'0')))
-    })
+    digits.iter().fold(0u64, |n, digit| with_digit(n, *digit))
+}
+
+// A number with one digit more. Most are far from the end of 64 bits.
+fn with_digit(n: u64, digit: u8) -> u64
+    ensures { result ≡ with_digit_capped n digit }
+{
+    let last = u64::from(digit.saturating_sub(b'0'));
+    if n < SMALL {
+        n * 10 + last
+    } else {
+        n.saturating_mul(10).saturating_add(last)
+    }
 }

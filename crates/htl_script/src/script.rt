@@ -67,7 +67,7 @@ impl Script {
         ensures stream { self.new.stream ≡ self.old.stream }
     {
         if !self.ready {
-            self.index = Index::new(t);
+            self.index.fill(t);
             self.ready = true;
         }
     }

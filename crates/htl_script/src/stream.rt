@@ -1,9 +1,10 @@
 // The reader of a script, event by event, where the names are in order.
-ghost use Rattle.std.specs.Prelude.{◌≡◌, ◌≤◌, ◌<◌, ◌+◌, [], length, IfOk, IfSome, OnOk, None, Some, Ok, Err};
+ghost use Rattle.std.specs.Prelude.{◌≡◌, ◌≤◌, ◌<◌, ◌+◌, [], List, ℕ, length, IfOk, IfSome, OnOk, None, Some, Ok, Err};
 ghost use Rattle.htl_base.specs.declared.limits.TheConstants as limit;
 ghost use Rattle.htl_edge.specs.Causes.{Rose};
+ghost use Rattle.htl_model.specs.Tables.{Tables};
 ghost use Rattle.htl_script.specs.declared.fault.ScriptStop.TheVariants as stop;
-ghost use Rattle.htl_script.specs.Streaming.{Gives, IsAnswer, IsEnd, Goes, LosesPiece, at_start, taken_of};
+ghost use Rattle.htl_script.specs.Streaming.{Gives, IsAnswer, IsEnd, Goes, LosesPiece, at_start, taken_of, still};
 
 use crate::chunk::Chunk;
 use crate::lookup::Names;
@@ -62,10 +63,24 @@ impl Stream {
             };
             match self.reader.take(names, b) {
                 Ok(Some(event)) => return Ok(Some(event)),
-                Ok(None) => {}
+                Ok(None) => self.run_on(),
                 Err(kind) => return Err(self.fault(kind)),
             }
         }
+    }
+
+    // Moves the bytes that were read ahead, up to a line feed, to the line, as far as it may have them.
+    fn run_on(&mut self)
+        ensures same { (t : Tables) (later : List ℕ) → still t self.old later ≡ still t self.new later }
+        ensures taken { taken_of self.new ≡ taken_of self.old }
+        ensures more { self.old.here.start + length self.old.here.line ≤ self.new.here.start + length self.new.here.line }
+        ensures past { self.new.here.past ≡ self.old.here.past }
+        ensures number { self.new.here.number ≡ self.old.here.number }
+        ensures over { self.new.ahead.over ≡ self.old.ahead.over }
+    {
+        let count = self.chunk.plain(self.reader.room());
+        self.reader.push_all(self.chunk.front(count));
+        self.chunk.skip(count);
     }
 
     // The event of a last line without a line feed; None behind it, where an `end` line was read.

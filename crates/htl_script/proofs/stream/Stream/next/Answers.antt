@@ -7,8 +7,8 @@ use Rattle.htl_script.specs.Streaming.{Ahead, LineFollows, Gives, GivesByte, IsA
 use Rattle.htl_script.specs.declared.fault.ScriptKind.{ScriptKind}
 use Rattle.htl_script.specs.declared.fault.ScriptStop.{ScriptStop}
 use Rattle.htl_script.specs.declared.fault.ScriptStop.TheVariants as stop
-use Rattle.htl_script.proofs.Streaming.{gives_start, gives_byte, gives_none, gives_event, gives_fault, gives_end, gives_read}
-use Rattle.htl_script.proofs.Taken.{taken_byte, taken_fault}
+use Rattle.htl_script.proofs.Streaming.{gives_start, gives_byte, gives_none, gives_event, gives_fault, gives_end, gives_read, gives_on}
+use Rattle.htl_script.proofs.Taken.{taken_byte, taken_fault, taken_same}
 use Rattle.htl_script.proofs.stream.Stream.next.Goals as goal
 
 pub returns-in-Ok-Some-take-clause-answer : goal.returns-in-Ok-Some-take-clause-answer
@@ -38,13 +38,17 @@ bytes-preserved g c =
     let gave = subst (λ (o : Option ℕ). GivesByte {E = Failed} c.self.inside.chunk c.byte.new.self rest left (Ok o)) c.in-Ok-Some.field-0-is c.in-Ok-Some.ensures.byte in
     let took = subst (λ (o : Option Event). (later : List ℕ) → rest_of t here (c.in-Ok-Some.b ∷ later) ≡ answered here.number (Ok o) (rest_of t c.take.new.self later)) c.in-Ok-None-take.field-0-is c.in-Ok-None-take.ensures.rest in
     let past : here.past ≡ first.here.past = ap (λ (z : Ahead). z.here.past) c.self.view_is ∙ c.bytes.invariant.1 in
+    let moved : Ahead = record { here = c.take.new.self; ahead = c.byte.new.self } in
     let followed = subst (λ (o : Option Event). LineFollows {E = ScriptKind} t here.past c.take.new.self.past (Ok o)) c.in-Ok-None-take.field-0-is c.in-Ok-None-take.ensures.event in (
-      gives_none t first here c.in-Ok-Some.b here.number c.byte.new.self known left (gives_byte Failed t first here c.self.inside.chunk c.byte.new.self known rest left on c.in-Ok-Some.b gave) c.take.new.self took,
-      followed ∙ past,
-      omega (arith, ap (λ (z : Ahead). z.here.number) c.self.view_is, c.bytes.invariant.2, c.in-Ok-None-take.ensures.lines),
+      gives_on t first moved c.run_on.new.self known left
+          (gives_none t first here c.in-Ok-Some.b here.number c.byte.new.self known left (gives_byte Failed t first here c.self.inside.chunk c.byte.new.self known rest left on c.in-Ok-Some.b gave) c.take.new.self took)
+          (c.run_on.ensures.same t) c.run_on.ensures.over,
+      c.run_on.ensures.past ∙ followed ∙ past,
+      omega (arith, ap (λ (z : Ahead). z.here.number) c.self.view_is, c.bytes.invariant.2, c.in-Ok-None-take.ensures.lines, c.run_on.ensures.number),
       c.in-Ok-Some.ensures.cause.kept ∙ c.bytes.invariant.3,
-      taken_byte (Unit {0}) Failed (Unit {0}) first here c.self.inside.chunk c.byte.new.self known rest left tt lost c.take.new.self c.in-Ok-Some.b tt gave c.in-Ok-Some.ensures.few
-          c.in-Ok-None-take.ensures.count c.in-Ok-None-take.ensures.bound,
+      taken_same first moved c.run_on.new.self known left c.run_on.ensures.taken
+          (taken_byte (Unit {0}) Failed (Unit {0}) first here c.self.inside.chunk c.byte.new.self known rest left tt lost c.take.new.self c.in-Ok-Some.b tt gave c.in-Ok-Some.ensures.few
+          c.in-Ok-None-take.ensures.count c.in-Ok-None-take.ensures.bound),
     )
 
 pub returns-in-Ok-Some-take-clause-taken : goal.returns-in-Ok-Some-take-clause-taken

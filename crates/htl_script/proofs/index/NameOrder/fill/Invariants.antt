@@ -1,7 +1,7 @@
 use Rattle.std.proofs.Common.{◌≤◌, length}
 use Rattle.htl_script.specs.Naming.{name_of}
 use Rattle.htl_script.specs.Orders.{AreOrdered}
-use Rattle.htl_script.proofs.index.NameOrder.of.Given as goal
+use Rattle.htl_script.proofs.index.NameOrder.fill.Given as goal
 
 abbrev pub invariant-loop-number : goal.invariant-loop-number
-invariant-loop-number l = AreOrdered (name_of l.t l.kind) l.number l.order × (length l.order ≤ l.number)
+invariant-loop-number l = AreOrdered (name_of l.t l.kind) l.number l.self × (length l.self ≤ l.number)
