@@ -100,6 +100,7 @@ pub mod Periodic
 pub mod Positions
 pub mod Ready
 pub mod NodesBelow
+pub mod NumberedStarts
 pub mod ToBegin
 pub mod Followed
 pub mod NextStands

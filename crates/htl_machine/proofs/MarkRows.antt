@@ -1,13 +1,16 @@
 -- The bits of rows of 128, as marks of numbers.
-use Rattle.std.proofs.Common.{◌≡◌, ◌≢◌, ℕ, zero, suc, ◌+◌, ◌-◌, ◌*◌, ◌/◌, ◌%◌, ◌^◌, ◌≤◌, ◌<◌, ◌⊎◌, Bool, true, false, cond, eqb, List, length, replicate, get_or, set, min, refl, sym, ap, ◌∙◌, arith, inl, inr, get_or-set_same, get_or-set_other}
+use Rattle.std.proofs.Common.{◌≡◌, ◌≢◌, ℕ, zero, suc, ◌+◌, ◌-◌, ◌*◌, ◌/◌, ◌%◌, ◌^◌, ◌≤◌, ◌<◌, ◌⊎◌, ◌||◌, Bool, true, false, cond, eqb, List, length, replicate, get_or, set, min, refl, sym, ap, ◌∙◌, arith, inl, inr, get_or-set_same, get_or-set_other}
 use Rattle.std.specs.Int.{bit_at}
 use Rattle.std.proofs.lemmas.Bool.Decides.{nat_tests}
+use Rattle.std.proofs.Math.Bool.{or-false, or-true}
 use Rattle.std.proofs.lemmas.Bool.{cases_lt}
 use Rattle.std.proofs.lemmas.Nat.{shr-shr}
 use Rattle.std.proofs.lemmas.Nat.Bits.{bit_at-zero}
 use Rattle.htl_model.specs.Bits.{has_bit}
+use Rattle.htl_model.proofs.BitLaws.{has_no_bit}
 use Rattle.htl_machine.specs.declared.marks.Marks.{Marks}
-use Rattle.htl_machine.specs.Marks.{is_marked}
+use Rattle.htl_machine.specs.Marks.{is_marked, row_of}
+use Rattle.htl_machine.proofs.Plain.{apart}
 
 -- ---- one row
 
@@ -32,26 +35,53 @@ found_at row from low one less =
 -- ---- all rows
 
 pub skipped_row : (m : Marks) (row bit next from : ℕ) → ((k : ℕ) → from ≤ k → k < row * 128 + bit → is_marked m k ≡ false)
-    → ((k : ℕ) → bit ≤ k → k < next → has_bit (get_or m.rows row 0) k ≡ false) → next ≤ 128 → (k : ℕ) → from ≤ k → k < row * 128 + next → is_marked m k ≡ false
+    → ((k : ℕ) → bit ≤ k → k < next → has_bit (row_of m row) k ≡ false) → next ≤ 128 → (k : ℕ) → from ≤ k → k < row * 128 + next → is_marked m k ≡ false
 unfolding is_marked
 skipped_row m row bit next from before here most k low less = elim (cases_lt k (row * 128 + bit)) [
   | inl l ↦ before k low l
   | inr l ↦
       let at : k / 128 ≡ row = omega arith in
-      ap (λ n. has_bit (get_or m.rows n 0) (k % 128)) at ∙ here (k % 128) (omega arith) (omega arith)
+      ap (λ n. has_bit (row_of m n) (k % 128)) at ∙ here (k % 128) (omega arith) (omega arith)
 ]
 
-pub found_row : (m : Marks) (row bit : ℕ) → has_bit (get_or m.rows row 0) bit ≡ true → bit < 128 → is_marked m (row * 128 + bit) ≡ true
+-- rows without marks
+pub skipped_rows : (m : Marks) (row next from : ℕ) → ((k : ℕ) → from ≤ k → k < row * 128 → is_marked m k ≡ false) → ((r : ℕ) → row ≤ r → r < next → row_of m r ≡ 0)
+    → (k : ℕ) → from ≤ k → k < next * 128 → is_marked m k ≡ false
+unfolding is_marked
+skipped_rows m row next from before none k low less = elim (cases_lt k (row * 128)) [
+  | inl l ↦ before k low l
+  | inr l ↦ ap (λ n. has_bit n (k % 128)) (none (k / 128) (omega arith) (omega arith)) ∙ has_no_bit (k % 128)
+]
+
+pub found_row : (m : Marks) (row bit : ℕ) → has_bit (row_of m row) bit ≡ true → bit < 128 → is_marked m (row * 128 + bit) ≡ true
 unfolding is_marked
 found_row m row bit found less =
     let at : (row * 128 + bit) / 128 ≡ row = omega arith in
     let place : (row * 128 + bit) % 128 ≡ bit = omega arith in
-    ap (λ n. has_bit (get_or m.rows n 0) ((row * 128 + bit) % 128)) at ∙ ap (has_bit (get_or m.rows row 0)) place ∙ found
+    ap (λ n. has_bit (row_of m n) ((row * 128 + bit) % 128)) at ∙ ap (has_bit (row_of m row)) place ∙ found
+
+-- the first row that is looked at, and the bit in it
+pub first_row : (m : Marks) (from row bit : ℕ) → from / 128 ≤ row → ((r : ℕ) → from / 128 ≤ r → r < row → row_of m r ≡ 0)
+    → (row ≡ from / 128 → bit ≡ from % 128) → (row ≢ from / 128 → bit ≡ 0) → (from ≤ row * 128 + bit) × ((k : ℕ) → from ≤ k → k < row * 128 + bit → is_marked m k ≡ false)
+unfolding is_marked
+first_row m from row bit up none here later = elim (apart row (from / 128)) [
+  | inl e ↦ let b = here e in (omega (arith, e, b), λ k low less. absurd (omega (arith, e, b, low, less)))
+  | inr d ↦
+      let b = later d in (
+        omega (arith, b, up, d),
+        λ k low less. ap (λ n. has_bit n (k % 128)) (none (k / 128) (omega (arith, low)) (omega (arith, less, b))) ∙ has_no_bit (k % 128),
+      )
+]
+
+-- a row that isn't in use has no marks
+pub unused : (m : Marks) (r : ℕ) → has_bit m.used r ≡ false → row_of m r ≡ 0
+unused m r e = ap (λ b. cond b (get_or m.rows r 0) 0) e
 
 pub put_row : (old new : Marks) (number value : ℕ) (b : Bool) → length old.rows ≡ 8 → number < 1024 → new.rows ≡ set old.rows (number / 128) value
-    → ((k : ℕ) → has_bit value k ≡ cond (eqb k (number % 128)) b (has_bit (get_or old.rows (number / 128) 0) k)) → (k : ℕ) → is_marked new k ≡ cond (eqb k number) b (is_marked old k)
+    → ((q : ℕ) → has_bit new.used q ≡ (has_bit old.used q || eqb q (number / 128)))
+    → ((k : ℕ) → has_bit value k ≡ cond (eqb k (number % 128)) b (has_bit (row_of old (number / 128)) k)) → (k : ℕ) → is_marked new k ≡ cond (eqb k number) b (is_marked old k)
 unfolding is_marked
-put_row old new number value b long room is bits k = by (eqb k number) refl
+put_row old new number value b long room is used bits k = by (eqb k number) refl
   where
     row : ℕ
     row = number / 128
@@ -62,40 +92,34 @@ put_row old new number value b long room is bits k = by (eqb k number) refl
     unequal : (a c : ℕ) → a ≢ c → eqb a c ≡ false
     unequal a c e = grind (arith, nat_tests)
 
-    by : (e : Bool) → eqb k number ≡ e → has_bit (get_or new.rows (k / 128) 0) (k % 128) ≡ cond e b (has_bit (get_or old.rows (k / 128) 0) (k % 128))
+    -- the row of the number
+    own : row_of new (number / 128) ≡ value
+    own =
+        let self : eqb (number / 128) (number / 128) ≡ true = grind (arith, nat_tests) in
+        ap (λ c. cond c (get_or new.rows (number / 128) 0) 0) (used (number / 128) ∙ ap (λ c. has_bit old.used (number / 128) || c) self ∙ or-true (has_bit old.used (number / 128)))
+        ∙ ap (λ (xs : List ℕ). get_or xs (number / 128) 0) is ∙ get_or-set_same old.rows (number / 128) value 0 (omega (arith, long))
+
+    -- every other
+    same : (r : ℕ) → r ≢ number / 128 → row_of new r ≡ row_of old r
+    same r d =
+        ap (λ c. cond c (get_or new.rows r 0) 0) (used r ∙ ap (λ c. has_bit old.used r || c) (unequal r (number / 128) d) ∙ or-false (has_bit old.used r))
+        ∙ ap (λ v. cond (has_bit old.used r) v 0) (ap (λ (xs : List ℕ). get_or xs r 0) is ∙ get_or-set_other old.rows (number / 128) r value 0 d)
+
+    by : (e : Bool) → eqb k number ≡ e → has_bit (row_of new (k / 128)) (k % 128) ≡ cond e b (has_bit (row_of old (k / 128)) (k % 128))
     by true e =
-        let same : k ≡ number = grind (arith, nat_tests) in
+        let equal : k ≡ number = grind (arith, nat_tests) in
         let self : eqb (number % 128) (number % 128) ≡ true = grind (arith, nat_tests) in
-        ap (λ n. has_bit (get_or new.rows (n / 128) 0) (n % 128)) same
-        ∙ ap (λ (xs : List ℕ). has_bit (get_or xs (number / 128) 0) (number % 128)) is
-        ∙ ap (λ n. has_bit n (number % 128)) (get_or-set_same old.rows (number / 128) value 0 (omega (arith, long)))
-        ∙ bits (number % 128) ∙ ap (λ t. cond t b (has_bit (get_or old.rows (number / 128) 0) (number % 128))) self
+        ap (λ n. has_bit (row_of new (n / 128)) (n % 128)) equal ∙ ap (λ n. has_bit n (number % 128)) own
+        ∙ bits (number % 128) ∙ ap (λ t. cond t b (has_bit (row_of old (number / 128)) (number % 128))) self
     by false e = elim (apart (k / 128) (number / 128)) [
       | inl l ↦
           let place : k % 128 ≢ number % 128 = λ p. other k number e (omega (arith, p, l)) in
-          ap (λ (xs : List ℕ). has_bit (get_or xs (k / 128) 0) (k % 128)) is
-          ∙ ap (λ n. has_bit (get_or (set old.rows (number / 128) value) n 0) (k % 128)) l
-          ∙ ap (λ n. has_bit n (k % 128)) (get_or-set_same old.rows (number / 128) value 0 (omega (arith, long)))
-          ∙ bits (k % 128) ∙ ap (λ t. cond t b (has_bit (get_or old.rows (number / 128) 0) (k % 128))) (unequal (k % 128) (number % 128) place)
-          ∙ ap (λ n. has_bit (get_or old.rows n 0) (k % 128)) (sym l)
-      | inr l ↦
-          ap (λ (xs : List ℕ). has_bit (get_or xs (k / 128) 0) (k % 128)) is
-          ∙ ap (λ n. has_bit n (k % 128)) (get_or-set_other old.rows (number / 128) (k / 128) value 0 l)
+          ap (λ n. has_bit (row_of new n) (k % 128)) l ∙ ap (λ n. has_bit n (k % 128)) own
+          ∙ bits (k % 128) ∙ ap (λ t. cond t b (has_bit (row_of old (number / 128)) (k % 128))) (unequal (k % 128) (number % 128) place)
+          ∙ ap (λ n. has_bit (row_of old n) (k % 128)) (sym l)
+      | inr l ↦ ap (λ n. has_bit n (k % 128)) (same (k / 128) l)
     ]
-      where
-        apart : (a c : ℕ) → (a ≡ c) ⊎ (a ≢ c)
-        apart a c = by_test (eqb a c) refl
-          where
-            by_test : (t : Bool) → eqb a c ≡ t → (a ≡ c) ⊎ (a ≢ c)
-            by_test true t = inl (grind (arith, nat_tests))
-            by_test false t = inr (other a c t)
 
-pub unmarked : (m : Marks) (k : ℕ) → m.rows ≡ replicate {A = ℕ} 8 0 → is_marked m k ≡ false
+pub unmarked : (m : Marks) (k : ℕ) → m.used ≡ 0 → is_marked m k ≡ false
 unfolding is_marked
-unmarked m k is =
-    ap (λ (xs : List ℕ). has_bit (get_or xs (k / 128) 0) (k % 128)) is ∙ ap (λ n. has_bit n (k % 128)) (zero_at 8 (k / 128)) ∙ ap (λ b. eqb b 1) (bit_at-zero (k % 128))
-  where
-    zero_at : (n r : ℕ) → get_or (replicate {A = ℕ} n 0) r 0 ≡ 0
-    zero_at zero r = refl
-    zero_at (suc n) zero = refl
-    zero_at (suc n) (suc r) = zero_at n r
+unmarked m k is = ap (λ n. has_bit n (k % 128)) (unused m (k / 128) (ap (λ n. has_bit n (k / 128)) is ∙ has_no_bit (k / 128))) ∙ has_no_bit (k % 128)

@@ -1,10 +1,11 @@
 -- The modes of the modules, as the E machine answers them and as the meaning has them.
-use Rattle.std.proofs.Common.{◌≡◌, ℕ, zero, suc, ◌+◌, ◌<◌, List, [], ◌∷◌, ◌++◌, length, take, get_or, map, set, Option, Some, None, option_map, refl, sym, ap, ap₂, ◌∙◌, arith}
+use Rattle.std.proofs.Common.{◌≡◌, ℕ, zero, suc, ◌+◌, ◌<◌, true, List, [], ◌∷◌, ◌++◌, length, take, get_or, map, set, Option, Some, None, option_map, refl, sym, ap, ap₂, ◌∙◌, arith, inl, inr}
 use Rattle.std.proofs.lemmas.List.{ext_get_or, take_more, take_more_set, length-set}
 use Rattle.htl_model.specs.declared.event.Event.{Event}
 use Rattle.htl_model.specs.declared.state.Stay.{Stay}
 use Rattle.htl_model.specs.Ranges.{AreInRange}
-use Rattle.htl_model.specs.Meaning.{state, stay_of, mode_of}
+use Rattle.std.proofs.lemmas.Bool.{eqb-true, cases_lt}
+use Rattle.htl_model.specs.Meaning.{state, stay_of, mode_of, same_mode}
 use Rattle.htl_model.specs.Tables.{Tables}
 use Rattle.htl_ecode.specs.declared.ecode.ECode.{ECode}
 use Rattle.htl_emach.specs.Calendars.{Calendar, list_at}
@@ -27,6 +28,24 @@ one_noted xs ys zs k o less same front is noted = (
       ∙ sym (take_more ys k None less),
   ap length noted ∙ length-set xs k o ∙ same,
 )
+
+same_is : (a b : Option ℕ) → same_mode a b ≡ true → a ≡ b
+same_is None None e = refl
+same_is None (Some b) e = absurd (let z : ⊥ = cc in z)
+same_is (Some a) None e = absurd (let z : ⊥ = cc in z)
+same_is (Some a) (Some b) e = ap Some (eqb-true a b e)
+
+-- one place more is the same
+pub one_same : (xs ys : List (Option ℕ)) (k : ℕ) (a b : Option ℕ) → ((i : ℕ) → i < k → list_at xs i ≡ list_at ys i) → a ≡ list_at xs k → b ≡ list_at ys k → same_mode a b ≡ true
+    → (i : ℕ) → i < k + 1 → list_at xs i ≡ list_at ys i
+one_same xs ys k a b before first second same i less = elim (cases_lt i k) [
+  | inl l ↦ before i l
+  | inr l ↦ let at : i ≡ k = omega (arith, less, l) in ap (list_at xs) at ∙ sym first ∙ same_is a b same ∙ second ∙ sym (ap (list_at ys) at)
+]
+
+-- all are
+pub all_same : (xs ys : List (Option ℕ)) → length xs ≡ length ys → ((i : ℕ) → i < length xs → list_at xs i ≡ list_at ys i) → xs ≡ ys
+all_same xs ys same each = ext_get_or None xs ys same (λ k h. list_get xs k ∙ each k h ∙ sym (list_get ys k))
 
 mode_there : (ys : List (Option Stay)) (k : ℕ) → mode_of (stay_of ys k) ≡ get_or (map (λ (o : Option Stay). option_map (λ y. y.mode) o) ys) k None
 mode_there [] k = refl

@@ -73,7 +73,7 @@ begins_whole t now range kept =
     (λ j u at. let f = first_is t j u range kept at in ap (λ q. not (eqb q 0) && eqb (now % q) 0) f.0 ∙ divides (unit_period t u) now f.1)
 
 -- so that is told by the offset from the frame's start
-begins_at : (t : Tables) (now : ℕ) → AreInRange t → KeptApart t 12 → some_round_begins t now ≡ frames.begins (root_periods t) (now % frame_of t)
+pub begins_at : (t : Tables) (now : ℕ) → AreInRange t → KeptApart t 12 → some_round_begins t now ≡ frames.begins (root_periods t) (now % frame_of t)
 begins_at t now range kept = any_mapped (opens t now) (λ p. eqb ((now % frame_of t) % p) 0) (unit_period t) (root_modules t) each
   where
     each : (j u : ℕ) → slice_get (root_modules t) j ≡ Some u → opens t now u ≡ eqb ((now % frame_of t) % unit_period t u) 0

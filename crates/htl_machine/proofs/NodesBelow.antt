@@ -1,8 +1,8 @@
 -- How many nodes are below a node behind each start, start by start.
 use Rattle.std.proofs.Common.{◌≡◌, ◌≢◌, ℕ, suc, ◌+◌, ◌-◌, ◌/◌, ◌≤◌, ◌<◌, List, [], ◌∷◌, ◌++◌, length, drop, get_or, set, take, add-one, refl, sym, ap, ◌∙◌, arith, inl, inr}
-use Rattle.std.proofs.Math.Seq.{get_or-append_seam}
+use Rattle.std.proofs.Math.Seq.{get_or-append_seam, take-append_seam}
 use Rattle.std.proofs.lemmas.Grind.{get_or-set_at}
-use Rattle.std.proofs.lemmas.List.{drop-map, get_or-set_other, get_or-take, length-set, length-map}
+use Rattle.std.proofs.lemmas.List.{take-take, drop-map, get_or-set_other, get_or-take, length-set, length-map}
 use Rattle.htl_model.specs.Frames.{ways, nodes_of, frame_of, starts, rounds, rounds_at, choices, radices}
 use Rattle.htl_model.specs.Ranges.{AreInRange}
 use Rattle.htl_model.specs.Tables.{Tables}
@@ -55,3 +55,7 @@ starts_many t cs e = ap length e ∙ length-map (starts t) (λ a. choices t (rou
 -- behind the starts stands the frame's end
 pub frame_end : (t : Tables) (out : List ℕ) (n : ℕ) → n ≡ length (starts t) → take (n + 1) out ≡ starts t ++ frame_of t ∷ [] → get_or out n 0 ≡ frame_of t
 frame_end t out n e f = sym (get_or-take (n + 1) out n 0 (omega arith)) ∙ ap (λ xs. get_or xs n 0) f ∙ ap (λ k. get_or (starts t ++ frame_of t ∷ []) k 0) e ∙ get_or-append_seam (starts t) (frame_of t) [] 0
+
+pub starts_front : (t : Tables) (out : List ℕ) (n : ℕ) → n ≡ length (starts t) → take (n + 1) out ≡ starts t ++ frame_of t ∷ [] → take n out ≡ starts t
+starts_front t out n e f =
+    sym (take-take n (n + 1) out (omega arith)) ∙ ap (take n) f ∙ ap (λ k. take k (starts t ++ frame_of t ∷ [])) e ∙ take-append_seam (starts t) (frame_of t ∷ [])

@@ -88,6 +88,9 @@ up_to_reading m es n read f = subst (λ k. IsUpTo m es k) (sym read) (record { k
 
 -- ---- for every list of events that the machine followed at first
 
+pub all_start : (m : Seen) (from : ℕ) (w : Option (List ℕ)) (faults : ℕ) → ArePassing m m from from w w faults faults
+all_start m from w faults = record { passing = λ es b. passing_start m es from w faults b; same = record { object = refl; show = refl }; read = refl }
+
 pub all_on : {T E : Type 0} (m0 m m1 : Seen) (from at : ℕ) (w0 w w1 : Option (List ℕ)) (f0 f f1 : ℕ) (x : T) → from ≤ at → ArePassing m0 m from at w0 w f0 f
     → ((es : List Event) → IsUpTo m es at → Puts {T = T} {E = E} w w1 f f1 (lines_of m.object es m.show at) (Ok x)) → ((es : List Event) → IsUpTo m es at → IsUpTo m1 es (suc at))
     → IsSameRun m m1 → m1.held.reading ≡ m.held.reading → ArePassing m0 m1 from (suc at) w0 w1 f0 f1

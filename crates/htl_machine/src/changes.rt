@@ -60,7 +60,7 @@ fn put_value<W: Sink>(
 }
 
 // The mode at a place; None where there is none.
-fn mode_at(modes: &[Option<u16>], k: usize) -> Option<u16>
+pub(crate) fn mode_at(modes: &[Option<u16>], k: usize) -> Option<u16>
     ensures { result ≡ list_at modes.now k }
 {
     if k < modes.len() { modes[k] } else { None }
@@ -91,7 +91,7 @@ fn put_values<W: Sink>(
 }
 
 // Whether a module is in the same mode.
-fn same_mode(old: Option<u16>, new: Option<u16>) -> bool
+pub(crate) fn same_mode(old: Option<u16>, new: Option<u16>) -> bool
     ensures { result ≡ same_mode old new }
 {
     match (old, new) {

@@ -39,6 +39,7 @@ pub fn take(desk: &mut SMach, jobs: &[Job], inv: u16, ticks: Time)
     requires some { 1 ≤ ticks }
     requires worst { (p : ℕ) → position_from 0 jobs.now inv ≡ Some p → ticks ≤ (job_at jobs.now p).worst }
     ensures desk { desk.new ≡ desk_taking inv ticks desk.old }
+    ensures jobs { desk.new.jobs ≡ desk.old.jobs }
     ensures stands { (s : List Instr) → Stands desk.old s → Stands desk.new s }
 {
     if let Some(p) = position(jobs, inv) {

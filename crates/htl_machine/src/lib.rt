@@ -19,7 +19,6 @@ mod steps;
 mod tally;
 mod tell;
 mod tellings;
-mod timing;
 mod works;
 
 pub use machine::{Machine, Totals};

@@ -20,7 +20,6 @@ use crate::open::open_instant;
 use crate::path::Path;
 use crate::sensors::Sensors;
 use crate::tally::Tally;
-use crate::timing::round_begins;
 use crate::works::{Machines, Program, StandingList, Works};
 use htl_base::{Memory, Seq, Time, Value};
 use htl_console::Shown;
@@ -207,6 +206,25 @@ impl<'a> Machine<'a> {
         ensures same { IsSameRun self.old self.new }
         ensures reading { self.new.held.reading ≡ self.old.held.reading }
     {
+        let due = self.next_due(from, to);
+        if due == to {
+            return Ok(());
+        }
+        self.pass_due(from, to, sink)
+    }
+
+    // The same, instant by instant.
+    fn pass_due<W: Sink>(&mut self, from: Time, to: Time, sink: &mut W) -> Result<(), Failed>
+        requires before { (es : List Told) × IsUpTo self.old es from }
+        requires read { self.old.held.reading ≤ from }
+        requires order { from ≤ to }
+        requires at { to ≤ limit.MAX_INSTANT + 1 }
+        ensures text { (es : List Told) → IsUpTo self.old es from → Puts (W.written sink.old) (W.written sink.new) (W.faults sink.old) (W.faults sink.new) (text_between self.old.object es self.old.show from to) result }
+        ensures before { (es : List Told) → IsUpTo self.old es from → OnOk result (IsUpTo self.new es to) }
+        ensures spent { OnErr result (self.new.held.spent ≡ true) }
+        ensures same { IsSameRun self.old self.new }
+        ensures reading { self.new.held.reading ≡ self.old.held.reading }
+    {
         let mut at = from;
         'instants: loop {
             at = self.next_due(at, to);
@@ -281,7 +299,7 @@ impl<'a> Machine<'a> {
             self.spent = true;
             return Err(failed);
         }
-        if round_begins(t, at) {
+        if self.path.round_begins(at) {
             let takes = self.takes.as_slice();
             if let Err(failed) = close_and_begin(
                 sink,

@@ -1,13 +1,15 @@
 // Sets of numbers below 1,024, in place.
-ghost use Rattle.std.specs.Prelude.{◌≡◌, ◌≤◌, ◌<◌, ℕ, true, false, cond, eqb};
+ghost use Rattle.std.specs.Prelude.{◌≡◌, ◌≢◌, ◌≤◌, ◌<◌, ◌/◌, ◌%◌, ℕ, true, false, cond, eqb};
 ghost use Rattle.htl_model.specs.Bits.{has_bit as has_bit_of};
-ghost use Rattle.htl_machine.specs.Marks.{is_marked};
+ghost use Rattle.htl_machine.specs.Marks.{is_marked, row_of};
 
-use htl_model::bits::with_bit;
+use htl_model::bits::{has_bit, with_bit};
 
 /// Which of 1,024 numbers are marked, a bit for each.
 #[derive(Clone, Copy)]
 pub struct Marks {
+    // A bit for each row that was marked; what stands in the others doesn't count.
+    used: u128,
     rows: [u128; 8],
 }
 
@@ -16,7 +18,17 @@ impl Marks {
     pub fn new() -> Marks
         ensures { (k : ℕ) → is_marked result k ≡ false }
     {
-        Marks { rows: [0; 8] }
+        Marks {
+            used: 0,
+            rows: [0; 8],
+        }
+    }
+
+    /// No number is marked any more.
+    pub fn clear(&mut self)
+        ensures { (k : ℕ) → is_marked self.new k ≡ false }
+    {
+        self.used = 0;
     }
 
     /// Marks a number, or takes its mark away.
@@ -25,7 +37,15 @@ impl Marks {
         ensures { (k : ℕ) → is_marked self.new k ≡ cond (eqb k number) marked (is_marked self.old k) }
     {
         let row = number / 128;
-        self.rows[row] = put_bit(self.rows[row], (number % 128) as u32, marked);
+        self.rows[row] = put_bit(self.row(row), (number % 128) as u32, marked);
+        self.used = with_bit(self.used, row as u32);
+    }
+
+    /// Whether no number is marked, where that is seen without looking at the rows.
+    pub fn is_clear(&self) -> bool
+        ensures { result ≡ true → (k : ℕ) → is_marked self.now k ≡ false }
+    {
+        self.used == 0
     }
 
     /// The first marked number, from one on; 1,024 where there is none.
@@ -36,17 +56,53 @@ impl Marks {
         ensures skipped { (k : ℕ) → from ≤ k → k < result → is_marked self.now k ≡ false }
         ensures found { result < 1024 → is_marked self.now result ≡ true }
     {
-        let mut row = from / 128;
-        let mut bit = (from % 128) as u32;
+        let start = self.next_row(from / 128);
+        let mut row = start;
+        let mut bit = first_bit(from, start);
         while row < 8 {
-            let next = next_bit(self.rows[row], bit);
+            let next = next_bit(self.row(row), bit);
             if next < 128 {
                 return row * 128 + next as usize;
             }
-            row += 1;
+            row = self.next_row(row + 1);
             bit = 0;
         }
         1024
+    }
+
+    // The marks of a row.
+    fn row(&self, row: usize) -> u128
+        requires { row < 8 }
+        ensures { result ≡ row_of self.now row }
+    {
+        if has_bit(self.used, row as u32) {
+            self.rows[row]
+        } else {
+            0
+        }
+    }
+
+    // The first row with marks, from one on; 128 where there is none.
+    fn next_row(&self, from: usize) -> usize
+        requires { from ≤ 8 }
+        ensures low { from ≤ result }
+        ensures high { result ≤ 128 }
+        ensures skipped { (r : ℕ) → from ≤ r → r < result → row_of self.now r ≡ 0 }
+    {
+        next_bit(self.used, from as u32) as usize
+    }
+}
+
+// The first bit that is looked at in a row, from a number on.
+fn first_bit(from: usize, row: usize) -> u32
+    ensures low { result < 128 }
+    ensures here { row ≡ from / 128 → result ≡ from % 128 }
+    ensures later { row ≢ from / 128 → result ≡ 0 }
+{
+    if row == from / 128 {
+        (from % 128) as u32
+    } else {
+        0
     }
 }
 

@@ -90,6 +90,9 @@ impl Noted {
         if at == 0 {
             return from;
         }
+        if self.written.is_clear() {
+            return count;
+        }
         self.written.next(from).min(count)
     }
 
@@ -101,6 +104,9 @@ impl Noted {
         ensures high { result ≤ count }
         ensures skipped { (k : ℕ) → from ≤ k → k < result → is_marked self.now.decided k ≡ false }
     {
+        if self.decided.is_clear() {
+            return count;
+        }
         self.decided.next(from).min(count)
     }
 
@@ -116,8 +122,8 @@ impl Noted {
     {
         settle_values(&mut self.values, &self.written, world);
         settle_modes(&mut self.modes, &self.decided, m);
-        self.written = Marks::new();
-        self.decided = Marks::new();
+        self.written.clear();
+        self.decided.clear();
     }
 }
 

@@ -1,11 +1,15 @@
 // The number of a list in its frame, and of its node.
 ghost use Rattle.std.specs.Prelude.{◌≡◌, ◌≤◌, ◌<◌, ◌%◌, ℕ, suc, None, cond, eqb, drop, get_or, length};
+ghost use Rattle.std.specs.List.{list_any};
+ghost use Rattle.htl_model.specs.FrameRules.{KeptApart};
 ghost use Rattle.htl_model.specs.Frames.{frame_limit, frame_of, starts, ways, nodes_of};
+ghost use Rattle.htl_model.specs.Ranges.{AreInRange};
 ghost use Rattle.htl_model.specs.Selected.{IsSelection};
 ghost use Rattle.htl_refine.specs.BegunJobs.{choice_of};
 ghost use Rattle.htl_machine.specs.NextLists.{next_list};
 ghost use Rattle.htl_machine.specs.Numbering.{IsNumbering};
 ghost use Rattle.htl_machine.specs.StandingList.{node_by, number_by, next_at};
+ghost use Rattle.htl_machine.specs.Timing.{some_round_begins as begins};
 
 use htl_base::Time;
 use htl_base::limits::MAX_STARTS;
@@ -27,6 +31,9 @@ pub struct ListAt {
 pub struct Numbering {
     /// The hyperperiod, in ticks; 0 without modules.
     pub frame: Time,
+    // Its starts, in ticks, in front.
+    starts: [Time; MAX_STARTS + 1],
+    count: usize,
     // How many nodes are below a node behind each start.
     below: [u32; MAX_STARTS],
 }
@@ -43,8 +50,21 @@ impl Numbering {
         fill_below(&frame.radices[..frame.count], frame.nodes, &mut below);
         Numbering {
             frame: frame.starts[frame.count],
+            starts: frame.starts,
+            count: frame.count,
             below,
         }
+    }
+
+    /// Whether a list begins at an instant, in ticks: where a round of some root module does. It looks at the starts of a frame.
+    pub fn begins(&self, at: Time) -> bool
+        requires { self.now.count ≤ 33 }
+        ensures { (t : Tables) → IsNumbering t self.now → AreInRange t → KeptApart t 12 → result ≡ begins t at }
+    {
+        if self.frame == 0 {
+            return false;
+        }
+        is_among(&self.starts[..self.count], at % self.frame)
     }
 
     /// The list that begins at an instant, in ticks, behind the one that stood before it, by the modes at that instant.
@@ -64,6 +84,13 @@ impl Numbering {
             number: first.number,
         }
     }
+}
+
+// Whether an offset is one of the starts.
+fn is_among(starts: &[Time], offset: Time) -> bool
+    ensures { result ≡ list_any (λ a. eqb a offset) starts.now }
+{
+    starts.iter().any(|start| *start == offset)
 }
 
 // The list behind one, where the first of the choices is taken.

@@ -1,18 +1,23 @@
 // Where a run stands in its frame: the list that stands, and the jobs that the frame has so far.
-ghost use Rattle.std.specs.Prelude.{◌≡◌, ◌≤◌, ◌<◌, ◌+◌, ◌-◌, ◌%◌, [], cond, eqb, length, take, false, get_or, IfOk, IfSome, List, None, Some};
+ghost use Rattle.std.specs.Prelude.{◌≡◌, ◌≤◌, ◌<◌, ◌+◌, ◌-◌, ◌%◌, ◌++◌, [], true, cond, eqb, length, take, false, get_or, IfOk, IfSome, List, None, Some};
 ghost use Rattle.htl_model.specs.FrameRules.{KeptApart};
-ghost use Rattle.htl_model.specs.Frames.{frame_limit};
+ghost use Rattle.htl_model.specs.Frames.{frame_limit, frame_of, starts};
+ghost use Rattle.htl_model.specs.Ranges.{AreInRange};
 ghost use Rattle.htl_model.specs.Selected.{IsSelection};
+ghost use Rattle.htl_refine.specs.BegunJobs.{choice_of, new_jobs};
 ghost use Rattle.htl_walk.specs.Refinement.{HaveLengths, AreWithinWorst};
 ghost use Rattle.htl_smach.specs.Adding.{CanBegin};
 ghost use Rattle.htl_smach.specs.Rounds.{round_begun, added};
 ghost use Rattle.htl_machine.specs.ListBegun.{list_begun};
-ghost use Rattle.htl_machine.specs.Numbering.{IsPath};
+ghost use Rattle.htl_machine.specs.Numbering.{IsNumbering, IsPath, IsAtFirst};
+ghost use Rattle.htl_machine.specs.NextLists.{next_list};
+ghost use Rattle.htl_machine.specs.Timing.{some_round_begins};
 ghost use Rattle.htl_machine.specs.StandingList.{instrs_by};
-ghost use Rattle.htl_machine.specs.StandingList.{node_by, next_at};
+ghost use Rattle.htl_machine.specs.StandingList.{node_by, number_by, next_at};
 ghost use Rattle.htl_machine.specs.Starting.{kept_lengths};
 ghost use Rattle.htl_machine.specs.Beginning.{CanFollow};
 
+use crate::changes::{mode_at, same_mode};
 use crate::memory::no_modes;
 use crate::numbering::{ListAt, Numbering};
 use htl_base::limits::MAX_POSITIONS;
@@ -34,6 +39,8 @@ pub struct Path {
     count: usize,
     // The modes in which the list began.
     modes: Selection,
+    // Whether it is the first of its frame, with the jobs of those modes.
+    first: bool,
     // Where no list stands.
     idle: Schedule,
 }
@@ -55,6 +62,7 @@ impl Path {
             modes: Selection {
                 modes: Seq::new(modes),
             },
+            first: false,
             idle: Schedule {
                 instrs: Seq::new(Vec::new(alloc)),
             },
@@ -90,6 +98,14 @@ impl Path {
         }
     }
 
+    /// Whether a list begins at an instant, in ticks: where a round of some root module does.
+    pub fn round_begins(&self, at: Time) -> bool
+        requires { self.now.numbering.count ≤ 33 }
+        ensures { (t : Tables) → IsNumbering t self.now.numbering → AreInRange t → KeptApart t 12 → result ≡ some_round_begins t at }
+    {
+        self.numbering.begins(at)
+    }
+
     /// A list begins, by the modes in which the modules are: the jobs of the rounds that begin take the lengths that are kept, in
     /// ticks. At a frame's start the S machine begins anew, else it goes on with those jobs. Takes no memory.
     pub fn begin(&mut self, desk: &mut SMach, t: &Tables, m: &EMach, takes: &[Time], at: Time)
@@ -106,17 +122,48 @@ impl Path {
         ensures idle { self.new.idle ≡ self.old.idle }
     {
         t.keeps_ranges();
+        let same = are_modes(self.modes.modes.as_slice(), m);
         note_modes(&mut self.modes, m);
         let offset = at % self.numbering.frame;
-        self.list = Some(self.numbering.next(t, &self.modes, at, self.list));
         let from = kept_positions(offset, self.count);
-        self.count = derive_begun(t, &self.modes, offset, &mut self.jobs, from);
+        self.turn(t, at, from, same);
         let jobs = &self.jobs[from..self.count];
         if offset == 0 {
             start_jobs(desk, jobs, takes, at);
         } else {
             add_jobs(desk, jobs, takes, at);
         }
+    }
+
+    // The list that begins, and its jobs behind the first `from` of the frame. They stand already where the frame's first list
+    // begins again in the same modes.
+    fn turn(&mut self, t: &Tables, at: Time, from: usize, same: bool)
+        requires form { KeptApart t.now 16 }
+        requires numbering { IsNumbering t.now self.old.numbering }
+        requires selection { IsSelection t.now self.old.modes.modes }
+        requires some { 0 < frame_of t.now }
+        requires there { next_list t.now at (number_by self.old.list) < length (starts t.now) }
+        requires choice { choice_of t.now self.old.modes.modes (at % frame_of t.now) < 1024 }
+        requires few { (next_at t.now self.old.modes.modes at self.old.list).node ≤ 4294967295 }
+        requires early { at % self.old.numbering.frame ≤ 1000000 }
+        requires from { from ≡ cond (eqb (at % self.old.numbering.frame) 0) 0 self.old.count }
+        requires room { from + length (new_jobs t.now self.old.modes.modes (at % self.old.numbering.frame) from) ≤ 128 }
+        requires first { same ≡ true → self.old.first ≡ true → IsAtFirst t.now self.old }
+        ensures list { self.new.list ≡ Some (next_at t.now self.old.modes.modes at self.old.list) }
+        ensures count { self.new.count ≡ from + length (new_jobs t.now self.old.modes.modes (at % self.old.numbering.frame) from) }
+        ensures jobs { take self.new.count self.new.jobs ≡ take from self.old.jobs ++ new_jobs t.now self.old.modes.modes (at % self.old.numbering.frame) from }
+        ensures first { self.new.first ≡ true → IsAtFirst t.now self.new }
+        ensures numbering { self.new.numbering ≡ self.old.numbering }
+        ensures modes { self.new.modes ≡ self.old.modes }
+        ensures idle { self.new.idle ≡ self.old.idle }
+    {
+        let offset = at % self.numbering.frame;
+        if same && self.first && offset == 0 {
+            return;
+        }
+        self.list = Some(self.numbering.next(t, &self.modes, at, self.list));
+        self.count = derive_begun(t, &self.modes, offset, &mut self.jobs, from);
+        self.first = offset == 0;
     }
 }
 
@@ -137,6 +184,20 @@ fn note_modes(modes: &mut Selection, m: &EMach)
     for k in 0..count {
         modes.modes.set(k, m.mode(k as u16));
     }
+}
+
+// Whether these are the modes in which the modules are.
+fn are_modes(modes: &[Option<u16>], m: &EMach) -> bool
+    requires few { length modes.now ≤ 64 }
+    requires same { length m.now.calendar.modes ≡ length modes.now }
+    ensures { result ≡ true → modes.now ≡ m.now.calendar.modes }
+{
+    for k in 0..modes.len() {
+        if !same_mode(mode_at(modes, k), m.mode(k as u16)) {
+            return false;
+        }
+    }
+    true
 }
 
 // How long the jobs of an invocation take from now on, in ticks; 0 where there is no such invocation.

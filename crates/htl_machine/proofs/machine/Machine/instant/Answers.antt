@@ -16,6 +16,7 @@ use Rattle.htl_machine.proofs.After.{passed_of, desk_goes_on, list_goes_on, over
 use Rattle.htl_machine.proofs.Asking.{sound_of, noted_of, begun_at, stood_at, counts_at}
 use Rattle.htl_machine.proofs.Beginnings.{ends_so, fails_so}
 use Rattle.htl_machine.proofs.Ended.{open_failed, going_closed, begun_closed_at}
+use Rattle.htl_machine.proofs.NumberedStarts.{begins_so}
 use Rattle.htl_machine.proofs.InstantGiven.{given, given_closes, given_begins}
 use Rattle.htl_machine.proofs.Readying.{replay_only}
 use Rattle.htl_machine.proofs.Ready.{list_known}
@@ -153,6 +154,11 @@ returns-in-Err-clause-text g c = λ es before.
     subst (λ (z : Seen). Puts {T = Unit {0}} {E = Failed} (g.W.Sink.written c.args.sink.now) (g.W.Sink.written c.open_instant.new.sink) (g.W.Sink.faults c.args.sink.now) (g.W.Sink.faults c.open_instant.new.sink) (lines_of z.object es z.show c.args.at) (Err c.in-Err.failed))
     c.self.view_is (open_failed m es c.args.at k.accepted k.later k.up _ k.ready _ _ _ _ _ _ text)
 
+pub round_begins-requires : goal.round_begins-requires
+round_begins-requires g c =
+    let n = (c.self.invariant.stands (ap (λ (z : Seen). z.held.spent) c.self.view_is ∙ (c.requires.before).1.kept.fresh)).numbering in
+    omega (arith, n.starts_many, n.few)
+
 pub close_and_begin-requires-clause-form : goal.close_and_begin-requires-clause-form
 close_and_begin-requires-clause-form g c =
     (sound_of (seen_in c.self.inside) c.tables-t.result.now c.ecode-code.result.now c.tables-t.ensures.value c.ecode-code.ensures c.self.invariant.accepted).kept
@@ -179,7 +185,7 @@ close_and_begin-requires-clause-over g c =
     let m = seen_in c.self.inside in
     let k = given m _ w.0 c.args.at c.tables-t.result.now c.ecode-code.result.now c.self.inside.path.idle.instrs c.self.view_is c.self.invariant.accepted c.self.invariant.empty c.tables-t.ensures.value c.ecode-code.ensures c.requires.read w.1 in
     let opened = rw (c.tables-t.ensures.value, c.ecode-code.ensures, c.schedule.ensures, c.schedules-schedules.ensures) at (c.in_default.ensures.world w.0 k.follows) in
-    let b = sym (rw c.tables-t.ensures.value at c.round_begins.ensures) ∙ c.if-round_begins.true in
+    let b = begins_so m.object c.self.inside.path.numbering c.args.at c.round_begins.result c.self.invariant.accepted (c.self.invariant.stands (ap (λ (z : Seen). z.held.spent) c.self.view_is ∙ (c.requires.before).1.kept.fresh)).numbering c.round_begins.ensures ∙ c.if-round_begins.true in
     (over m w.0 c.args.at k.accepted k.later k.up _ c.self.inside.path.idle.instrs refl c.self.invariant.empty k.ready _ _ b opened.records).0
 
 pub close_and_begin-requires-clause-path : goal.close_and_begin-requires-clause-path
@@ -206,7 +212,7 @@ close_and_begin-requires-clause-begins g c =
     let m = seen_in c.self.inside in
     let k = given m _ w.0 c.args.at c.tables-t.result.now c.ecode-code.result.now c.self.inside.path.idle.instrs c.self.view_is c.self.invariant.accepted c.self.invariant.empty c.tables-t.ensures.value c.ecode-code.ensures c.requires.read w.1 in
     let opened = rw (c.tables-t.ensures.value, c.ecode-code.ensures, c.schedule.ensures, c.schedules-schedules.ensures) at (c.in_default.ensures.world w.0 k.follows) in
-    let b = sym (rw c.tables-t.ensures.value at c.round_begins.ensures) ∙ c.if-round_begins.true in
+    let b = begins_so m.object c.self.inside.path.numbering c.args.at c.round_begins.result c.self.invariant.accepted (c.self.invariant.stands (ap (λ (z : Seen). z.held.spent) c.self.view_is ∙ (c.requires.before).1.kept.fresh)).numbering c.round_begins.ensures ∙ c.if-round_begins.true in
     let q = given_begins m w.0 c.args.at _ _ _ k c.settle.new.self.values c.settle.ensures.values _ _ opened _ (c.in_default.ensures.noted.values ∙ c.settle.ensures.values) _ (c.in_default.ensures.noted.modes ∙ c.settle.ensures.modes) _ (c.in_default.ensures.writes w.0 k.follows) c.schedules-schedules.result.now _ c.schedules-schedules.ensures c.as_slice-takes.ensures b in
     (w.0, q)
 
@@ -258,7 +264,7 @@ returns-in-Err-close_instant-clause-text g c = λ es before.
     let m = seen_in c.self.inside in
     let k = given m _ es c.args.at c.tables-t.result.now c.ecode-code.result.now c.self.inside.path.idle.instrs c.self.view_is c.self.invariant.accepted c.self.invariant.empty c.tables-t.ensures.value c.ecode-code.ensures c.requires.read before in
     let opened = rw (c.tables-t.ensures.value, c.ecode-code.ensures, c.schedule.ensures, c.schedules-schedules.ensures) at (c.in_default.ensures.world es k.follows) in
-    let b = sym (rw c.tables-t.ensures.value at c.round_begins.ensures) ∙ c.if-round_begins.false in
+    let b = begins_so m.object c.self.inside.path.numbering c.args.at c.round_begins.result c.self.invariant.accepted (c.self.invariant.stands (ap (λ (z : Seen). z.held.spent) c.self.view_is ∙ (c.requires.before).1.kept.fresh)).numbering c.round_begins.ensures ∙ c.if-round_begins.false in
     let q = given_closes m es c.args.at _ _ _ k c.settle.new.self.values c.settle.ensures.values _ _ opened _ (c.in_default.ensures.noted.values ∙ c.settle.ensures.values) _ (c.in_default.ensures.noted.modes ∙ c.settle.ensures.modes) _ (c.in_default.ensures.writes es k.follows) in
     let text = rw (c.tables-t.ensures.value, c.ecode-code.ensures, c.schedule.ensures, c.schedules-schedules.ensures, c.node.ensures) at (c.in_default.ensures.text es k.follows) in
     let rest = rw (c.tables-t.ensures.value, c.ecode-code.ensures) at (c.in-Err-close_instant.ensures.text es q) in
@@ -295,7 +301,7 @@ invariant_of-self-in_default-close_and_begin g c =
     let m = seen_in c.self.inside in
     let k = given m _ w.0 c.args.at c.tables-t.result.now c.ecode-code.result.now c.self.inside.path.idle.instrs c.self.view_is c.self.invariant.accepted c.self.invariant.empty c.tables-t.ensures.value c.ecode-code.ensures c.requires.read w.1 in
     let opened = rw (c.tables-t.ensures.value, c.ecode-code.ensures, c.schedule.ensures, c.schedules-schedules.ensures) at (c.in_default.ensures.world w.0 k.follows) in
-    let b = sym (rw c.tables-t.ensures.value at c.round_begins.ensures) ∙ c.if-round_begins.true in
+    let b = begins_so m.object c.self.inside.path.numbering c.args.at c.round_begins.result c.self.invariant.accepted (c.self.invariant.stands (ap (λ (z : Seen). z.held.spent) c.self.view_is ∙ (c.requires.before).1.kept.fresh)).numbering c.round_begins.ensures ∙ c.if-round_begins.true in
     let q = given_begins m w.0 c.args.at _ _ _ k c.settle.new.self.values c.settle.ensures.values _ _ opened _ (c.in_default.ensures.noted.values ∙ c.settle.ensures.values) _ (c.in_default.ensures.noted.modes ∙ c.settle.ensures.modes) _ (c.in_default.ensures.writes w.0 k.follows) c.schedules-schedules.result.now _ c.schedules-schedules.ensures c.as_slice-takes.ensures b in
     let kept = c.self.invariant in
     let desk = c.in_default-close_and_begin.ensures.desk w.0 q in
@@ -317,7 +323,7 @@ returns-in_default-close_and_begin-clause-text g c = λ es before.
     let m = seen_in c.self.inside in
     let k = given m _ es c.args.at c.tables-t.result.now c.ecode-code.result.now c.self.inside.path.idle.instrs c.self.view_is c.self.invariant.accepted c.self.invariant.empty c.tables-t.ensures.value c.ecode-code.ensures c.requires.read before in
     let opened = rw (c.tables-t.ensures.value, c.ecode-code.ensures, c.schedule.ensures, c.schedules-schedules.ensures) at (c.in_default.ensures.world es k.follows) in
-    let b = sym (rw c.tables-t.ensures.value at c.round_begins.ensures) ∙ c.if-round_begins.true in
+    let b = begins_so m.object c.self.inside.path.numbering c.args.at c.round_begins.result c.self.invariant.accepted (c.self.invariant.stands (ap (λ (z : Seen). z.held.spent) c.self.view_is ∙ (c.requires.before).1.kept.fresh)).numbering c.round_begins.ensures ∙ c.if-round_begins.true in
     let q = given_begins m es c.args.at _ _ _ k c.settle.new.self.values c.settle.ensures.values _ _ opened _ (c.in_default.ensures.noted.values ∙ c.settle.ensures.values) _ (c.in_default.ensures.noted.modes ∙ c.settle.ensures.modes) _ (c.in_default.ensures.writes es k.follows) c.schedules-schedules.result.now _ c.schedules-schedules.ensures c.as_slice-takes.ensures b in
     let text = rw (c.tables-t.ensures.value, c.ecode-code.ensures, c.schedule.ensures, c.schedules-schedules.ensures, c.node.ensures) at (c.in_default.ensures.text es k.follows) in
     subst (λ (z : Seen). Puts {T = Unit {0}} {E = Failed} (g.W.Sink.written c.args.sink.now) (g.W.Sink.written c.close_and_begin.new.sink) (g.W.Sink.faults c.args.sink.now) (g.W.Sink.faults c.close_and_begin.new.sink) (lines_of z.object es z.show c.args.at) (Ok _))
@@ -329,7 +335,7 @@ returns-in_default-close_and_begin-clause-before g c = λ es before.
     let k = given m _ es c.args.at c.tables-t.result.now c.ecode-code.result.now c.self.inside.path.idle.instrs c.self.view_is c.self.invariant.accepted c.self.invariant.empty c.tables-t.ensures.value c.ecode-code.ensures c.requires.read before in
     let opened = rw (c.tables-t.ensures.value, c.ecode-code.ensures, c.schedule.ensures, c.schedules-schedules.ensures) at (c.in_default.ensures.world es k.follows) in
     let same = c.settle.ensures.values ∙ k.up.before.values.values.values in
-    let b = sym (rw c.tables-t.ensures.value at c.round_begins.ensures) ∙ c.if-round_begins.true in
+    let b = begins_so m.object c.self.inside.path.numbering c.args.at c.round_begins.result c.self.invariant.accepted (c.self.invariant.stands (ap (λ (z : Seen). z.held.spent) c.self.view_is ∙ (c.requires.before).1.kept.fresh)).numbering c.round_begins.ensures ∙ c.if-round_begins.true in
     let q = given_begins m es c.args.at _ _ _ k c.settle.new.self.values c.settle.ensures.values _ _ opened _ (c.in_default.ensures.noted.values ∙ c.settle.ensures.values) _ (c.in_default.ensures.noted.modes ∙ c.settle.ensures.modes) _ (c.in_default.ensures.writes es k.follows) c.schedules-schedules.result.now _ c.schedules-schedules.ensures c.as_slice-takes.ensures b in
     let counts = rw (c.tables-t.ensures.value, c.ecode-code.ensures, c.schedule.ensures, c.schedules-schedules.ensures) at (c.in_default.ensures.counts es k.follows) in
     let more = counts_at m.object es c.args.at c.tables-t.result.now c.ecode-code.result.now c.schedules-schedules.result.now c.close_and_begin.new.machines.works.tally c.open_instant.new.machines.works.tally c.tables-t.ensures.value c.ecode-code.ensures c.schedules-schedules.ensures (c.in_default-close_and_begin.ensures.counts es q) in
@@ -353,7 +359,7 @@ returns-in-Err-close_and_begin-clause-text g c = λ es before.
     let m = seen_in c.self.inside in
     let k = given m _ es c.args.at c.tables-t.result.now c.ecode-code.result.now c.self.inside.path.idle.instrs c.self.view_is c.self.invariant.accepted c.self.invariant.empty c.tables-t.ensures.value c.ecode-code.ensures c.requires.read before in
     let opened = rw (c.tables-t.ensures.value, c.ecode-code.ensures, c.schedule.ensures, c.schedules-schedules.ensures) at (c.in_default.ensures.world es k.follows) in
-    let b = sym (rw c.tables-t.ensures.value at c.round_begins.ensures) ∙ c.if-round_begins.true in
+    let b = begins_so m.object c.self.inside.path.numbering c.args.at c.round_begins.result c.self.invariant.accepted (c.self.invariant.stands (ap (λ (z : Seen). z.held.spent) c.self.view_is ∙ (c.requires.before).1.kept.fresh)).numbering c.round_begins.ensures ∙ c.if-round_begins.true in
     let q = given_begins m es c.args.at _ _ _ k c.settle.new.self.values c.settle.ensures.values _ _ opened _ (c.in_default.ensures.noted.values ∙ c.settle.ensures.values) _ (c.in_default.ensures.noted.modes ∙ c.settle.ensures.modes) _ (c.in_default.ensures.writes es k.follows) c.schedules-schedules.result.now _ c.schedules-schedules.ensures c.as_slice-takes.ensures b in
     let text = rw (c.tables-t.ensures.value, c.ecode-code.ensures, c.schedule.ensures, c.schedules-schedules.ensures, c.node.ensures) at (c.in_default.ensures.text es k.follows) in
     subst (λ (z : Seen). Puts {T = Unit {0}} {E = Failed} (g.W.Sink.written c.args.sink.now) (g.W.Sink.written c.close_and_begin.new.sink) (g.W.Sink.faults c.args.sink.now) (g.W.Sink.faults c.close_and_begin.new.sink) (lines_of z.object es z.show c.args.at) (Err c.in-Err-close_and_begin.failed))
@@ -364,7 +370,7 @@ returns-in_default-close_instant-clause-text g c = λ es before.
     let m = seen_in c.self.inside in
     let k = given m _ es c.args.at c.tables-t.result.now c.ecode-code.result.now c.self.inside.path.idle.instrs c.self.view_is c.self.invariant.accepted c.self.invariant.empty c.tables-t.ensures.value c.ecode-code.ensures c.requires.read before in
     let opened = rw (c.tables-t.ensures.value, c.ecode-code.ensures, c.schedule.ensures, c.schedules-schedules.ensures) at (c.in_default.ensures.world es k.follows) in
-    let b = sym (rw c.tables-t.ensures.value at c.round_begins.ensures) ∙ c.if-round_begins.false in
+    let b = begins_so m.object c.self.inside.path.numbering c.args.at c.round_begins.result c.self.invariant.accepted (c.self.invariant.stands (ap (λ (z : Seen). z.held.spent) c.self.view_is ∙ (c.requires.before).1.kept.fresh)).numbering c.round_begins.ensures ∙ c.if-round_begins.false in
     let q = given_closes m es c.args.at _ _ _ k c.settle.new.self.values c.settle.ensures.values _ _ opened _ (c.in_default.ensures.noted.values ∙ c.settle.ensures.values) _ (c.in_default.ensures.noted.modes ∙ c.settle.ensures.modes) _ (c.in_default.ensures.writes es k.follows) in
     let text = rw (c.tables-t.ensures.value, c.ecode-code.ensures, c.schedule.ensures, c.schedules-schedules.ensures, c.node.ensures) at (c.in_default.ensures.text es k.follows) in
     let rest = rw (c.tables-t.ensures.value, c.ecode-code.ensures) at (c.in_default-close_instant.ensures.text es q) in
@@ -377,7 +383,7 @@ returns-in_default-close_instant-clause-before g c = λ es before.
     let k = given m _ es c.args.at c.tables-t.result.now c.ecode-code.result.now c.self.inside.path.idle.instrs c.self.view_is c.self.invariant.accepted c.self.invariant.empty c.tables-t.ensures.value c.ecode-code.ensures c.requires.read before in
     let opened = rw (c.tables-t.ensures.value, c.ecode-code.ensures, c.schedule.ensures, c.schedules-schedules.ensures) at (c.in_default.ensures.world es k.follows) in
     let same = c.settle.ensures.values ∙ k.up.before.values.values.values in
-    let b = sym (rw c.tables-t.ensures.value at c.round_begins.ensures) ∙ c.if-round_begins.false in
+    let b = begins_so m.object c.self.inside.path.numbering c.args.at c.round_begins.result c.self.invariant.accepted (c.self.invariant.stands (ap (λ (z : Seen). z.held.spent) c.self.view_is ∙ (c.requires.before).1.kept.fresh)).numbering c.round_begins.ensures ∙ c.if-round_begins.false in
     let q = given_closes m es c.args.at _ _ _ k c.settle.new.self.values c.settle.ensures.values _ _ opened _ (c.in_default.ensures.noted.values ∙ c.settle.ensures.values) _ (c.in_default.ensures.noted.modes ∙ c.settle.ensures.modes) _ (c.in_default.ensures.writes es k.follows) in
     let counts = rw (c.tables-t.ensures.value, c.ecode-code.ensures, c.schedule.ensures, c.schedules-schedules.ensures) at (c.in_default.ensures.counts es k.follows) in
     let more = rw (c.tables-t.ensures.value, c.ecode-code.ensures) at (c.in_default-close_instant.ensures.counts es q) in

@@ -1,8 +1,9 @@
-use Rattle.std.proofs.Common.{◌≡◌, ◌≤◌, ℕ, Some, sym, ap, ◌∙◌, subst, List}
+use Rattle.std.proofs.Common.{◌≡◌, ◌≤◌, ℕ, Some, sym, ap, ◌∙◌, subst, List, length, length-set}
 use Rattle.htl_walk.specs.declared.job.Job.{Job}
 use Rattle.htl_walk.specs.Walk.{job_at}
 use Rattle.htl_smach.specs.Rounds.{Round, Stands}
 use Rattle.htl_machine.specs.Calls.{Seen, Follows, IsLength}
+use Rattle.htl_machine.specs.Numbering.{IsPath}
 use Rattle.htl_machine.specs.Turns.{position_from}
 use Rattle.htl_machine.proofs.Calling.{position_worst, took_follows}
 use Rattle.htl_machine.proofs.machine.Machine.took.Goals as goal
@@ -23,3 +24,9 @@ returns-clause-follows c = λ es f.
     (subst (λ (z : Seen). IsLength z.object.tables c.args.inv c.args.length) (sym c.self.view_is) c.requires.length)
     (λ s h. subst (λ (r : Round). Stands r s) c.take.ensures.desk (c.take.ensures.stands s h))
     (subst (λ (z : Seen). Follows z es) (sym c.self.view_is) f))
+
+pub invariant_of-self : goal.invariant_of-self
+invariant_of-self c =
+    let kept = c.self.invariant in
+    let many : length c.set.new.self ≡ length c.self.inside.takes = ap length c.set.ensures ∙ length-set c.self.inside.takes c.args.inv c.args.length in
+    record { accepted = kept.accepted; all_shows = kept.all_shows; all_takes = many ∙ kept.all_takes; few = kept.few; stands = λ free. subst (IsPath c.self.inside.loaded.now.tables c.self.inside.path) (sym c.take.ensures.jobs) (kept.stands free); marked = kept.marked; waiting = kept.waiting; empty = kept.empty }

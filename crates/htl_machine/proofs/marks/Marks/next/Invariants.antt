@@ -4,11 +4,11 @@ use Rattle.htl_machine.proofs.marks.Marks.next.Given as goal
 
 abbrev pub invariant-loop-row : goal.invariant-loop-row
 invariant-loop-row l = record {
-  within : l.row ≤ 8;
+  within : l.row ≤ 128;
   bit : l.bit < 128;
   past : l.fn.from ≤ l.row * 128 + l.bit;
   skipped : (k : ℕ) → l.fn.from ≤ k → k < l.row * 128 + l.bit → is_marked l.self k ≡ false;
 }
 
 abbrev pub decreases-loop-row : goal.decreases-loop-row
-decreases-loop-row l = 8 - l.row
+decreases-loop-row l = 128 - l.row

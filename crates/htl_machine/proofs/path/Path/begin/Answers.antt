@@ -1,22 +1,35 @@
-use Rattle.std.proofs.Common.{◌<◌, ◌%◌, ne_eqb, length, sym, ap, ◌∙◌, subst, arith}
+use Rattle.std.proofs.Common.{◌<◌, ◌%◌, ℕ, List, Option, Some, ne_eqb, length, sym, ap, ◌∙◌, subst, arith}
 use Rattle.htl_model.specs.Selected.{IsSelection}
 use Rattle.htl_smach.specs.Rounds.{Round}
-use Rattle.htl_refine.specs.BegunJobs.{choice_of}
+use Rattle.htl_refine.specs.BegunJobs.{choice_of, new_jobs}
+use Rattle.htl_refine.specs.declared.selection.Selection.{Selection}
 use Rattle.htl_refine.proofs.BegunLimits.{choice_few, start_early}
+use Rattle.htl_machine.specs.Numbering.{IsNumbering, first_list}
 use Rattle.htl_machine.specs.StandingList.{next_at}
 use Rattle.htl_machine.proofs.Followed.{later_can, later_begun, later_all}
 use Rattle.htl_machine.proofs.path.Path.begin.Goals as goal
 
-pub next-requires-clause-choice : goal.next-requires-clause-choice
-next-requires-clause-choice c =
+pub turn-requires-clause-choice : goal.turn-requires-clause-choice
+turn-requires-clause-choice c =
     let t = c.args.t.now in
     let h = c.requires.follows in
     let j = (next_at t c.args.m.now.calendar.modes c.args.at c.args.self.now.list).number in
     subst (λ a. choice_of t c.note_modes.new.modes.modes a < 1024) h.start
     (choice_few t c.keeps_ranges.ensures.ranges c.requires.limit j h.there c.note_modes.new.modes.modes (subst (IsSelection t) (sym c.note_modes.ensures) c.requires.selection))
 
-pub derive_begun-self-requires-clause-at : goal.derive_begun-self-requires-clause-at
-derive_begun-self-requires-clause-at c =
+pub turn-requires-clause-first : goal.turn-requires-clause-first
+turn-requires-clause-first c = λ yes now.
+    let t = c.args.t.now in
+    let h = c.requires.path.first now in
+    let is = c.note_modes.ensures ∙ sym (sym c.as_slice.ensures ∙ c.are_modes-same.ensures yes) in
+    record {
+      list = h.list ∙ ap (λ (ms : List (Option ℕ)). Some (first_list t ms)) (sym is);
+      many = h.many ∙ ap (λ (ms : List (Option ℕ)). length (new_jobs t ms 0 0)) (sym is);
+      are = h.are ∙ ap (λ (ms : List (Option ℕ)). new_jobs t ms 0 0) (sym is);
+    }
+
+pub turn-requires-clause-early : goal.turn-requires-clause-early
+turn-requires-clause-early c =
     let t = c.args.t.now in
     let h = c.requires.follows in
     let j = (next_at t c.args.m.now.calendar.modes c.args.at c.args.self.now.list).number in
@@ -24,26 +37,27 @@ derive_begun-self-requires-clause-at c =
 
 pub add_jobs-requires-clause-can : goal.add_jobs-requires-clause-can
 add_jobs-requires-clause-can c =
-    (later_can c.args.t.now c.args.m.now.calendar.modes c.note_modes.new.modes.modes c.args.takes.now c.args.at c.args.self.now.numbering.frame c.args.self.now.count c.kept_positions-from.result c.derive_begun-self.result c.args.self.now.jobs c.derive_begun-self.new.out c.args.desk.now
-    c.note_modes.ensures c.requires.path.numbering.frame (ne_eqb _ 0 c.if-offset-eq0.false) c.requires.path.many c.requires.path.are c.kept_positions-from.ensures c.derive_begun-self.ensures.count c.derive_begun-self.ensures.jobs c.requires.follows.can).1
+    (later_can c.args.t.now c.args.m.now.calendar.modes c.note_modes.new.modes.modes c.args.takes.now c.args.at c.args.self.now.numbering.frame c.args.self.now.count c.kept_positions-from.result c.turn.new.self.count c.args.self.now.jobs c.turn.new.self.jobs c.args.desk.now
+    c.note_modes.ensures c.requires.path.numbering.frame (ne_eqb _ 0 c.if-offset-eq0.false) c.requires.path.many c.requires.path.are c.kept_positions-from.ensures c.turn.ensures.count c.turn.ensures.jobs c.requires.follows.can).1
 
 pub returns-else-offset-eq0-clause-path : goal.returns-else-offset-eq0-clause-path
 returns-else-offset-eq0-clause-path c =
     let all =
-    later_all c.args.t.now c.args.m.now.calendar.modes c.note_modes.new.modes.modes c.args.takes.now c.args.at c.args.self.now.numbering.frame c.args.self.now.count c.kept_positions-from.result c.derive_begun-self.result c.args.self.now.jobs c.derive_begun-self.new.out c.args.desk.now
-    c.note_modes.ensures c.requires.path.numbering.frame (ne_eqb _ 0 c.if-offset-eq0.false) c.requires.path.many c.requires.path.are c.kept_positions-from.ensures c.derive_begun-self.ensures.count c.derive_begun-self.ensures.jobs c.add_jobs.new.desk c.add_jobs.ensures in
+    later_all c.args.t.now c.args.m.now.calendar.modes c.note_modes.new.modes.modes c.args.takes.now c.args.at c.args.self.now.numbering.frame c.args.self.now.count c.kept_positions-from.result c.turn.new.self.count c.args.self.now.jobs c.turn.new.self.jobs c.args.desk.now
+    c.note_modes.ensures c.requires.path.numbering.frame (ne_eqb _ 0 c.if-offset-eq0.false) c.requires.path.many c.requires.path.are c.kept_positions-from.ensures c.turn.ensures.count c.turn.ensures.jobs c.add_jobs.new.desk c.add_jobs.ensures in
     let begun =
-    later_begun c.args.t.now c.args.m.now.calendar.modes c.note_modes.new.modes.modes c.args.takes.now c.args.at c.args.self.now.numbering.frame c.args.self.now.count c.kept_positions-from.result c.derive_begun-self.result c.args.self.now.jobs c.derive_begun-self.new.out c.args.desk.now
-    c.note_modes.ensures c.requires.path.numbering.frame (ne_eqb _ 0 c.if-offset-eq0.false) c.requires.path.many c.requires.path.are c.kept_positions-from.ensures c.derive_begun-self.ensures.count c.derive_begun-self.ensures.jobs c.add_jobs.new.desk c.add_jobs.ensures in
+    later_begun c.args.t.now c.args.m.now.calendar.modes c.note_modes.new.modes.modes c.args.takes.now c.args.at c.args.self.now.numbering.frame c.args.self.now.count c.kept_positions-from.result c.turn.new.self.count c.args.self.now.jobs c.turn.new.self.jobs c.args.desk.now
+    c.note_modes.ensures c.requires.path.numbering.frame (ne_eqb _ 0 c.if-offset-eq0.false) c.requires.path.many c.requires.path.are c.kept_positions-from.ensures c.turn.ensures.count c.turn.ensures.jobs c.add_jobs.new.desk c.add_jobs.ensures in
     record {
-      numbering = c.requires.path.numbering;
-      modes = ap length c.note_modes.ensures ∙ c.requires.selection.same;
+      numbering = subst (IsNumbering c.args.t.now) (sym c.turn.ensures.numbering) c.requires.path.numbering;
+      modes = ap (λ (s : Selection). length s.modes) c.turn.ensures.modes ∙ ap length c.note_modes.ensures ∙ c.requires.selection.same;
       few = omega (arith, all.1, ap (λ (d : Round). length d.jobs) begun, c.requires.follows.few);
       many = all.1;
       are = all.0;
+      first = c.turn.ensures.first;
     }
 
 pub returns-else-offset-eq0-clause-desk : goal.returns-else-offset-eq0-clause-desk
 returns-else-offset-eq0-clause-desk c =
-    later_begun c.args.t.now c.args.m.now.calendar.modes c.note_modes.new.modes.modes c.args.takes.now c.args.at c.args.self.now.numbering.frame c.args.self.now.count c.kept_positions-from.result c.derive_begun-self.result c.args.self.now.jobs c.derive_begun-self.new.out c.args.desk.now
-    c.note_modes.ensures c.requires.path.numbering.frame (ne_eqb _ 0 c.if-offset-eq0.false) c.requires.path.many c.requires.path.are c.kept_positions-from.ensures c.derive_begun-self.ensures.count c.derive_begun-self.ensures.jobs c.add_jobs.new.desk c.add_jobs.ensures
+    later_begun c.args.t.now c.args.m.now.calendar.modes c.note_modes.new.modes.modes c.args.takes.now c.args.at c.args.self.now.numbering.frame c.args.self.now.count c.kept_positions-from.result c.turn.new.self.count c.args.self.now.jobs c.turn.new.self.jobs c.args.desk.now
+    c.note_modes.ensures c.requires.path.numbering.frame (ne_eqb _ 0 c.if-offset-eq0.false) c.requires.path.many c.requires.path.are c.kept_positions-from.ensures c.turn.ensures.count c.turn.ensures.jobs c.add_jobs.new.desk c.add_jobs.ensures
