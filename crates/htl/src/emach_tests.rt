@@ -55,7 +55,7 @@ fn is_up_to_next(m: &EMach, at: Time) -> bool
 
 // A phase of an instant.
 #[derive(Clone, Copy)]
-struct Turn {
+struct PhaseOfInstant {
     phase: u8,
     at: Time,
 }
@@ -66,22 +66,22 @@ fn do_phase(
     t: &Tables,
     code: &ECode,
     world: &mut World,
-    turn: Turn,
+    doing: PhaseOfInstant,
     told: &mut Vec<(Time, u32, EInstr)>,
 ) -> Option<()>
     requires run { CanRun t.now code.now m.old world.old }
-    requires phase { (1 ≤ turn.phase) × (turn.phase ≤ 3) }
-    requires at { turn.at ≤ limit.MAX_INSTANT }
+    requires phase { (1 ≤ doing.phase) × (doing.phase ≤ 3) }
+    requires at { doing.at ≤ limit.MAX_INSTANT }
     ensures { CanRun t.now code.now m.new world.new }
 {
     for _ in 0..100 {
-        if !is_up_to_next(m, turn.at) {
+        if !is_up_to_next(m, doing.at) {
             return None;
         }
-        let Some(d) = m.instant(t, code, world, turn.phase, turn.at) else {
+        let Some(d) = m.instant(t, code, world, doing.phase, doing.at) else {
             return Some(());
         };
-        told.push((turn.at, d.address, d.instr)).ok()?;
+        told.push((doing.at, d.address, d.instr)).ok()?;
     }
     None
 }
@@ -99,9 +99,9 @@ fn do_instant(
     requires at { at ≤ limit.MAX_INSTANT }
     ensures { CanRun t.now code.now m.new world.new }
 {
-    do_phase(m, t, code, world, Turn { phase: 1, at }, told)?;
-    do_phase(m, t, code, world, Turn { phase: 2, at }, told)?;
-    do_phase(m, t, code, world, Turn { phase: 3, at }, told)
+    do_phase(m, t, code, world, PhaseOfInstant { phase: 1, at }, told)?;
+    do_phase(m, t, code, world, PhaseOfInstant { phase: 2, at }, told)?;
+    do_phase(m, t, code, world, PhaseOfInstant { phase: 3, at }, told)
 }
 
 // The sensor shows a value.

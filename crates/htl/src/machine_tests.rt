@@ -268,7 +268,8 @@ const RUNS: &[(&[u8], &[Event], Time, &str)] = &[
 // A switch to the same mode keeps what stands below.
 const RESTART: [Event; 2] = [Event::At(10), Event::Sense { comm: 0, x: 1 }];
 
-const AFTER_RESTART: &str = "v 0 g 0\nv 0 u 0\nm 0 M m\nm 0 N one\nj 0 3 N.one.f\nd 3 N.one.f\nv 10 g 1\nv 10 u 1\nm 10 N two\nj 10 14 N.two.h\nd 14 N.two.h\nv 20 u 101\nend 20 jobs 2 e 41 s 4\n";
+const AFTER_RESTART: &str =
+    "v 0 g 0\nv 0 u 0\nm 0 M m\nm 0 N one\nj 0 3 N.one.f\nd 3 N.one.f\nv 10 g 1\nv 10 u 1\nm 10 N two\nj 10 14 N.two.h\nd 14 N.two.h\nv 20 u 101\nend 20 jobs 2 e 41 s 4\n";
 
 #[test]
 fn runs_are_written(rt: HostRuntime) -> Result<(), Fail> {

@@ -56,14 +56,14 @@ loop-j-init g c =
 from_list_on : (g : given.Over) (c : After-follow g) (new : List ℕ)
     → new ≡ (last_point c.args.jobs.now c.list_at-instrs.result.now (record { time = get_or c.args.f.now.starts c.loop-j.j 0; left = c.loop-j.left })).left
     → let t : Tables = c.args.l.now.tables in
-      let jobs = c.args.jobs.now in
-      let ss = lists_of t (instrs_of c.args.l.now.schedules) c.args.path in
-      let gs = legs t c.args.path in
-      let here : Point = record { time = 0; left = c.loop-j.left } in
-      let after : Point = record { time = 0; left = new } in
-      end_to_end (walks_from jobs (drop c.loop-j.j ss) (drop c.loop-j.j gs) here)
-      ≡ walk_from jobs c.list_at-instrs.result.now (record { time = get_or c.args.f.now.starts c.loop-j.j 0; left = c.loop-j.left })
-      ++ end_to_end (walks_from jobs (drop (suc c.loop-j.j) ss) (drop (suc c.loop-j.j) gs) after)
+    let jobs = c.args.jobs.now in
+    let ss = lists_of t (instrs_of c.args.l.now.schedules) c.args.path in
+    let gs = legs t c.args.path in
+    let here : Point = record { time = 0; left = c.loop-j.left } in
+    let after : Point = record { time = 0; left = new } in
+    end_to_end (walks_from jobs (drop c.loop-j.j ss) (drop c.loop-j.j gs) here)
+    ≡ walk_from jobs c.list_at-instrs.result.now (record { time = get_or c.args.f.now.starts c.loop-j.j 0; left = c.loop-j.left })
+    ++ end_to_end (walks_from jobs (drop (suc c.loop-j.j) ss) (drop (suc c.loop-j.j) gs) after)
 from_list_on g c new last =
     let t : Tables = c.args.l.now.tables in
     let is = instrs_of c.args.l.now.schedules in
