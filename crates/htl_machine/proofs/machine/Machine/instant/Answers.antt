@@ -27,20 +27,17 @@ use Rattle.htl_machine.proofs.machine.Machine.instant.Goals as goal
 
 pub settle-requires-clause-comms : goal.settle-requires-clause-comms
 settle-requires-clause-comms g c =
-    let w = c.requires.before in
-    let u = subst (λ (z : Seen). IsUpTo z w.0 c.args.at) (sym c.self.view_is) w.1 in
+    let u = subst (λ (z : Seen). IsUpTo z c.requires.before.0 c.args.at) (sym c.self.view_is) c.requires.before.1 in
     omega (arith, u.before.values.shaped.values.count, c.self.invariant.accepted.spelled.formed.ranges.tables.few_comms)
 
 pub settle-requires-clause-modules : goal.settle-requires-clause-modules
 settle-requires-clause-modules g c =
-    let w = c.requires.before in
-    let u = subst (λ (z : Seen). IsUpTo z w.0 c.args.at) (sym c.self.view_is) w.1 in
+    let u = subst (λ (z : Seen). IsUpTo z c.requires.before.0 c.args.at) (sym c.self.view_is) c.requires.before.1 in
     omega (arith, u.before.values.triggers.calendar.sized.modes, c.self.invariant.accepted.spelled.formed.ranges.tables.few_modules)
 
 pub settle-requires-clause-marked : goal.settle-requires-clause-marked
 settle-requires-clause-marked g c =
-    let w = c.requires.before in
-    c.self.invariant.marked (ap (λ (z : Seen). z.held.spent) c.self.view_is ∙ w.1.kept.fresh)
+    c.self.invariant.marked (ap (λ (z : Seen). z.held.spent) c.self.view_is ∙ c.requires.before.1.kept.fresh)
 
 pub open_instant-requires-clause-marked : goal.open_instant-requires-clause-marked
 open_instant-requires-clause-marked g c = noted_marks c.settle.new.self _ _ c.settle.ensures.values c.settle.ensures.modes
@@ -53,9 +50,8 @@ open_instant-requires-clause-waiting g c =
 pub schedule-requires : goal.schedule-requires
 schedule-requires g c =
     let w = c.requires.before in
-    let ok = c.self.invariant.accepted in
     let u = subst (λ (z : Seen). IsUpTo z w.0 c.args.at) (sym c.self.view_is) w.1 in
-    rw c.schedules-schedules.ensures (list_known (seen_in c.self.inside) w.0 c.args.at ok u)
+    rw c.schedules-schedules.ensures (list_known (seen_in c.self.inside) w.0 c.args.at c.self.invariant.accepted u)
 
 pub open_instant-requires-clause-form : goal.open_instant-requires-clause-form
 open_instant-requires-clause-form g c =
