@@ -70,6 +70,17 @@ script_row() {
 	row "$label" line 1000000 "$input" "$base" run "$room/object"
 }
 
+# A run whose script has a line `at` for each of the first million ticks, by `jobs`: $1 its label, then the plant.
+readings_row() {
+	label=$1
+	is_chosen "$label" || return 0
+	shift
+	plant_object "$@" || return 0
+	input=$room/script
+	make at lines=1000000 names=1
+	row "$label" line 1000000 "$input" "$base" jobs "$room/object"
+}
+
 # A run: $1 its label, $2 the word, $3 its rounds, $4 its last instant, then the plant.
 run_row() {
 	label=$1 command=$2 rounds=$3 last=$4
