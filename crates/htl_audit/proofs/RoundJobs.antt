@@ -21,7 +21,7 @@ use Rattle.htl_refine.specs.ConcreteJobs.{running_invs}
 use Rattle.htl_refine.specs.Records.{took, modes_at}
 use Rattle.htl_refine.proofs.Inherit.{mapped, map_at}
 use Rattle.htl_refine.proofs.StateLaws.{states_are_selections}
-use Rattle.htl_machine.proofs.FrameMembers.{begins_by}
+use Rattle.htl_refine.proofs.ListsFollow.{begins_by}
 use Rattle.htl_audit.specs.Growing.{HaveRounds}
 use Rattle.htl_audit.specs.Jobs.{beginning, round_of}
 use Rattle.htl_audit.specs.Keeping.{release_at, end_at, begins_round, inv_runs_in}
