@@ -40,7 +40,7 @@ use Rattle.htl_machine.specs.Follows.{IsLoaded}
 use Rattle.htl_machine.specs.Instant.{IsReadyAt}
 use Rattle.htl_machine.specs.Leaving.{due_by}
 use Rattle.htl_machine.specs.Opening.{IsOpened, closing_text}
-use Rattle.htl_machine.specs.Passing.{IsPassing, ArePassing}
+use Rattle.htl_machine.specs.Passing.{IsPassing, ArePassing, IsGoing}
 use Rattle.htl_machine.specs.Programs.{lines_of, schedules_of}
 use Rattle.htl_machine.specs.Recording.{Records}
 use Rattle.htl_machine.specs.Running.{replay}
@@ -333,6 +333,14 @@ quiet_from m from shown triggered due e s some idle next leaves same sooner befo
     leaves_none None h before at past less = h at
     leaves_none (Some n) h before at past less = h.1 at (before at past less)
 
+-- before instant 0 nothing is due
+pub nothing_due : (m : Seen) (from : ℕ) → AreQuiet m from 0
+nothing_due m from = λ at past less. absurd (omega (arith, less))
+
+-- the reading doesn't decide what is due
+pub quiet_then : (m : Seen) (to from due : ℕ) → AreQuiet m from due → AreQuiet (record m { held = record m.held { reading = to } }) from due
+quiet_then m to from due q = λ at past less. (let z = q at past less in record { later = z.later; triggers = z.triggers; leaves = z.leaves; sensors = z.sensors })
+
 -- what was written up to an instant is what is written up to a later one, where nothing is due between
 pub passing_quiet : (m0 m : Seen) (es : List Event) (from at to : ℕ) (w0 w : Option (List ℕ)) (f0 f : ℕ) → IsAccepted m.object → m.held.reading ≤ at → from ≤ at → at ≤ to → AreQuiet m at to
     → IsPassing m0 m es from at w0 w f0 f → IsPassing m0 m es from to w0 w f0 f
@@ -362,3 +370,7 @@ pub all_quiet : (m0 m : Seen) (from at to : ℕ) (w0 w : Option (List ℕ)) (f0 
     → ArePassing m0 m from at w0 w f0 f → ArePassing m0 m from to w0 w f0 f
 all_quiet m0 m from at to w0 w f0 f accepted read begun order q p =
     record { passing = λ es b. passing_quiet m0 m es from at to w0 w f0 f accepted read begun order q (p.passing es b); same = p.same; read = p.read }
+
+pub gone_to : (m0 m : Seen) (at due to until : ℕ) (w0 w : Option (List ℕ)) (f0 f : ℕ) → IsGoing m0 m at due to w0 w f0 f → at ≤ until → until ≤ due → ArePassing m0 m m0.held.reading until w0 w f0 f
+gone_to m0 m at due to until w0 w f0 f g later quiet =
+    all_quiet m0 m m0.held.reading at until w0 w f0 f g.accepted (omega (arith, g.done.read, g.begun)) g.begun later (λ n past less. g.quiet n past (omega (arith, less, quiet))) g.done

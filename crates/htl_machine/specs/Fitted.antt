@@ -1,25 +1,41 @@
--- What a machine's fields keep whatever it follows: a place for each item of the tables, the jobs of the S machine, and marks
--- of what is another than was noted, and of the sensors that wait.
+-- What a machine's fields keep whatever it follows: a place for each item of the tables, the jobs of the S machine, marks of
+-- what is another than was noted, and of the sensors that wait, and an instant before which nothing is due.
 use Rattle.std.specs.Prelude.{◌≡◌, ◌≤◌, ℕ, Bool, false, List, [], length}
 use Rattle.htl_object.specs.declared.object.Object.{Object}
 use Rattle.htl_object.specs.Accepted.{IsAccepted}
-use Rattle.htl_smach.specs.Rounds.{Round}
-use Rattle.htl_emach.specs.Calendars.{Standing}
-use Rattle.htl_emach.specs.Contents.{Content}
+use Rattle.htl_console.specs.declared.shown.Shown.{Shown}
+use Rattle.htl_machine.specs.Calls.{Seen}
 use Rattle.htl_machine.specs.Noting.{MarksChanges}
+use Rattle.htl_machine.specs.Numbering.{IsPath}
+use Rattle.htl_machine.specs.Quiet.{AreQuiet}
 use Rattle.htl_machine.specs.Waiting.{MarksWaiting}
 use Rattle.htl_machine.specs.declared.noted.Noted.{Noted}
-use Rattle.htl_machine.specs.declared.sensors.Sensors.{Sensors}
 use Rattle.htl_machine.specs.declared.path.Path.{Path}
-use Rattle.htl_machine.specs.Numbering.{IsPath}
+use Rattle.htl_machine.specs.declared.sensors.Sensors.{Sensors}
+use Rattle.htl_machine.specs.declared.works.Machines.{Machines}
 
-pub record IsFitted (o : Object) (spent : Bool) (sensors : Sensors) (takes : List ℕ) (noted : Noted) (world : Content) (standing : Standing) (path : Path) (desk : Round) : Type 0 where
-  pub accepted : IsAccepted o
-  pub all_shows : length sensors.shows ≡ length o.tables.comms
-  pub all_takes : length takes ≡ length o.tables.invs
+-- what contracts see of a machine with these fields
+abbrev pub seen_by : Object → Shown → Bool → ℕ → Sensors → List ℕ → Machines → Path → Seen
+seen_by o show spent reading sensors takes machines path =
+    record {
+      object = o;
+      show = show;
+      held = record { spent = spent; reading = reading; shows = sensors.shows; takes = takes; world = machines.works.world; desk = machines.works.desk };
+      standing = machines.emach;
+      list = path.list;
+      jobs = machines.works.tally.jobs;
+      e = machines.works.tally.e;
+      s = machines.works.tally.s;
+    }
+
+pub record IsFitted (m : Seen) (sensors : Sensors) (noted : Noted) (path : Path) (due : ℕ) : Type 0 where
+  pub accepted : IsAccepted m.object
+  pub all_shows : length sensors.shows ≡ length m.object.tables.comms
+  pub all_takes : length m.held.takes ≡ length m.object.tables.invs
   pub few : path.count ≤ 128
-  pub stands : spent ≡ false → IsPath o.tables path desk.jobs
+  pub stands : m.held.spent ≡ false → IsPath m.object.tables path m.held.desk.jobs
   -- outside the marks, what was noted is what the world and the E machine have, and a sensor has what it is shown
-  pub marked : spent ≡ false → MarksChanges noted world.values standing.calendar.modes
-  pub waiting : spent ≡ false → MarksWaiting o.tables sensors world.values
+  pub marked : m.held.spent ≡ false → MarksChanges noted m.held.world.values m.standing.calendar.modes
+  pub waiting : m.held.spent ≡ false → MarksWaiting m.object.tables sensors m.held.world.values
   pub empty : path.idle.instrs ≡ []
+  pub quiet : m.held.spent ≡ false → AreQuiet m m.held.reading due

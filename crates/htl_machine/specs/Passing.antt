@@ -1,8 +1,10 @@
 -- The machine while it goes from instant to instant.
-use Rattle.std.specs.Prelude.{◌≡◌, ℕ, List, Option}
+use Rattle.std.specs.Prelude.{◌≡◌, ◌≤◌, ℕ, List, Option}
 use Rattle.std.specs.Io.KnownBytes.{append_known}
 use Rattle.htl_model.specs.declared.event.Event.{Event}
+use Rattle.htl_object.specs.Accepted.{IsAccepted}
 use Rattle.htl_machine.specs.Calls.{Seen, IsUpTo, IsSameRun, text_between}
+use Rattle.htl_machine.specs.Quiet.{AreQuiet}
 
 -- all instants from `from` up to before `at` are done and written
 pub record IsPassing (first now : Seen) (es : List Event) (from at : ℕ) (w0 w : Option (List ℕ)) (f0 f : ℕ) : Type 0 where
@@ -17,3 +19,12 @@ pub record ArePassing (first now : Seen) (from at : ℕ) (w0 w : Option (List �
   pub passing : (es : List Event) → IsUpTo first es from → IsPassing first now es from at w0 w f0 f
   pub same : IsSameRun first now
   pub read : now.held.reading ≡ first.held.reading
+
+-- the same from the reading, and from there up to before another instant nothing is due
+pub record IsGoing (first now : Seen) (at due to : ℕ) (w0 w : Option (List ℕ)) (f0 f : ℕ) : Type 0 where
+  pub done : ArePassing first now first.held.reading at w0 w f0 f
+  pub begun : first.held.reading ≤ at
+  pub within : at ≤ to
+  pub order : at ≤ due
+  pub quiet : AreQuiet now at due
+  pub accepted : IsAccepted now.object

@@ -21,6 +21,7 @@ use crate::path::Path;
 use crate::sensors::Sensors;
 use crate::tally::Tally;
 use crate::works::{Machines, Program, StandingList, Works};
+use htl_base::limits::MAX_INSTANT;
 use htl_base::{Memory, Seq, Time, Value};
 use htl_console::Shown;
 use htl_edge::{Failed, Sink};
@@ -57,11 +58,13 @@ pub struct Machine<'a> {
     machines: Machines,
     // The list that stands, and the jobs of the frame so far.
     path: Path,
+    // Nothing is due from the reading up to before this instant, in ticks; 0 where that isn't known.
+    due: Time,
 }
 
 impl<'a> Model for Machine<'a> {
     ghost use Rattle.htl_machine.specs.Calls.{Seen};
-    ghost use Rattle.htl_machine.specs.Fitted.{IsFitted};
+    ghost use Rattle.htl_machine.specs.Fitted.{IsFitted, seen_by};
     ghost use Rattle.htl_object.specs.contracts.object.Object as object_row;
     ghost use Rattle.std.specs.Coded.{codes};
 
@@ -69,9 +72,9 @@ impl<'a> Model for Machine<'a> {
 
     ghost coded = { Prim.hlevel (codes, object_row.the_row.coded) };
 
-    ghost view = { λ m. record { object = m.loaded.now; show = m.show; held = record { spent = m.spent; reading = m.reading; shows = m.sensors.shows; takes = m.takes; world = m.machines.works.world; desk = m.machines.works.desk }; standing = m.machines.emach; list = m.path.list; jobs = m.machines.works.tally.jobs; e = m.machines.works.tally.e; s = m.machines.works.tally.s } };
+    ghost view = { λ m. seen_by m.loaded.now m.show m.spent m.reading m.sensors m.takes m.machines m.path };
 
-    ghost invariant = { λ m. IsFitted m.loaded.now m.spent m.sensors m.takes m.machines.noted m.machines.works.world m.machines.emach m.path m.machines.works.desk };
+    ghost invariant = { λ m. IsFitted (seen_by m.loaded.now m.show m.spent m.reading m.sensors m.takes m.machines m.path) m.sensors m.machines.noted m.path m.due };
 }
 
 impl<'a> Machine<'a> {
@@ -127,6 +130,7 @@ impl<'a> Machine<'a> {
                 noted: Noted::new(values, modes),
             },
             path,
+            due: 0,
         })
     }
 
@@ -138,6 +142,7 @@ impl<'a> Machine<'a> {
         ensures follows { (es : List Told) → Follows self.old es → Follows self.new (es ++ event.Sense comm x ∷ []) }
         ensures seen { self.new ≡ record self.old { held = shown_as comm x self.old.held } }
     {
+        self.due = 0;
         let has = self.machines.works.world.value(comm);
         self.sensors.sense(comm, x, has);
     }
@@ -150,6 +155,7 @@ impl<'a> Machine<'a> {
         ensures follows { (es : List Told) → Follows self.old es → Follows self.new (es ++ event.Took inv length ∷ []) }
         ensures seen { self.new ≡ record self.old { held = taken_as inv length self.old.held } }
     {
+        self.due = 0;
         self.takes.set(inv as usize, length);
         take(&mut self.machines.works.desk, self.path.jobs(), inv, length);
     }
@@ -166,10 +172,12 @@ impl<'a> Machine<'a> {
         ensures spent { OnErr result (self.new.held.spent ≡ true) }
         ensures same { IsSameRun self.old self.new }
     {
-        if let Err(failed) = self.pass(self.reading, to, sink) {
-            return Err(failed);
-        }
+        let due = match self.pass(to, sink) {
+            Ok(due) => due,
+            Err(failed) => return Err(failed),
+        };
         self.reading = to;
+        self.due = due;
         Ok(())
     }
 
@@ -186,7 +194,7 @@ impl<'a> Machine<'a> {
         ensures spent { OnErr result (self.new.held.spent ≡ true) }
         ensures same { IsSameRun self.old self.new }
     {
-        if let Err(failed) = self.pass(self.reading, to + 1, sink) {
+        if let Err(failed) = self.pass(to + 1, sink) {
             return Err(failed);
         }
         self.reading = to;
@@ -194,72 +202,65 @@ impl<'a> Machine<'a> {
         Ok(())
     }
 
-    // Does the instants from `from` up to before `to`.
-    fn pass<W: Sink>(&mut self, from: Time, to: Time, sink: &mut W) -> Result<(), Failed>
-        requires before { (es : List Told) × IsUpTo self.old es from }
-        requires read { self.old.held.reading ≤ from }
-        requires order { from ≤ to }
+    // Does the instants from the reading up to before `to`, and tells up to before which instant nothing is due from there on.
+    fn pass<W: Sink>(&mut self, to: Time, sink: &mut W) -> Result<Time, Failed>
+        requires follows { (es : List Told) × Follows self.old es }
+        requires order { self.old.held.reading ≤ to }
         requires at { to ≤ limit.MAX_INSTANT + 1 }
-        ensures text { (es : List Told) → IsUpTo self.old es from → Puts (W.written sink.old) (W.written sink.new) (W.faults sink.old) (W.faults sink.new) (text_between self.old.object es self.old.show from to) result }
-        ensures before { (es : List Told) → IsUpTo self.old es from → OnOk result (IsUpTo self.new es to) }
+        ensures text { (es : List Told) → Follows self.old es → Puts (W.written sink.old) (W.written sink.new) (W.faults sink.old) (W.faults sink.new) (text_between self.old.object es self.old.show self.old.held.reading to) result }
+        ensures before { (es : List Told) → Follows self.old es → OnOk result (IsUpTo self.new es to) }
+        ensures quiet { IfOk result (λ due. AreQuiet self.new to due) }
         ensures spent { OnErr result (self.new.held.spent ≡ true) }
         ensures same { IsSameRun self.old self.new }
         ensures reading { self.new.held.reading ≡ self.old.held.reading }
     {
-        let due = self.next_due(from, to);
-        if due == to {
-            return Ok(());
-        }
-        self.pass_due(from, to, sink)
-    }
-
-    // The same, instant by instant.
-    fn pass_due<W: Sink>(&mut self, from: Time, to: Time, sink: &mut W) -> Result<(), Failed>
-        requires before { (es : List Told) × IsUpTo self.old es from }
-        requires read { self.old.held.reading ≤ from }
-        requires order { from ≤ to }
-        requires at { to ≤ limit.MAX_INSTANT + 1 }
-        ensures text { (es : List Told) → IsUpTo self.old es from → Puts (W.written sink.old) (W.written sink.new) (W.faults sink.old) (W.faults sink.new) (text_between self.old.object es self.old.show from to) result }
-        ensures before { (es : List Told) → IsUpTo self.old es from → OnOk result (IsUpTo self.new es to) }
-        ensures spent { OnErr result (self.new.held.spent ≡ true) }
-        ensures same { IsSameRun self.old self.new }
-        ensures reading { self.new.held.reading ≡ self.old.held.reading }
-    {
-        let mut at = from;
-        'instants: loop {
-            at = self.next_due(at, to);
-            if at == to {
-                return Ok(());
-            }
-            if let Err(failed) = self.instant(at, sink) {
+        let mut at = self.reading;
+        let mut due = self.known_due();
+        while due < to {
+            if let Err(failed) = self.instant(due, sink) {
                 return Err(failed);
             }
-            at += 1;
+            at = due + 1;
+            due = self.next_due(at);
+        }
+        Ok(due)
+    }
+
+    // An instant before which nothing is due from the reading on: the one that is known, where it is no earlier.
+    fn known_due(&self) -> Time
+        requires follows { (es : List Told) × Follows self.now es }
+        requires at { self.now.held.reading ≤ limit.MAX_INSTANT + 1 }
+        ensures low { self.now.held.reading ≤ result }
+        ensures quiet { AreQuiet self.now self.now.held.reading result }
+        ensures accepted { IsAccepted self.now.object }
+    {
+        if self.reading <= self.due {
+            self.due
+        } else {
+            self.next_due(self.reading)
         }
     }
 
-    // The first instant, from one on, at which something is due: a trigger, an instruction that is left, or a sensor that is shown
-    // another value than it has; `to` where there is none before. At instant 0 something always is.
-    fn next_due(&self, from: Time, to: Time) -> Time
+    // The first instant, from one behind the first on, at which something is due: a trigger, an instruction that is left, or a
+    // sensor that is shown another value than it has; 1,000,000,001 where there is none.
+    fn next_due(&self, from: Time) -> Time
         requires before { (es : List Told) × IsUpTo self.now es from }
         requires read { self.now.held.reading ≤ from }
-        requires order { from ≤ to }
-        requires to { to ≤ limit.MAX_INSTANT + 1 }
+        requires later { 0 < from }
+        requires at { from ≤ limit.MAX_INSTANT + 1 }
         ensures low { from ≤ result }
-        ensures high { result ≤ to }
         ensures quiet { AreQuiet self.now from result }
         ensures accepted { IsAccepted self.now.object }
     {
-        let l = self.loaded;
-        if from == 0 {
-            return 0;
-        }
         let machines = &self.machines;
-        let shown = self
-            .sensors
-            .next(&machines.works.world, l.tables(), from, to);
+        let shown = self.sensors.next(
+            &machines.works.world,
+            self.loaded.tables(),
+            from,
+            MAX_INSTANT + 1,
+        );
         let triggered = sooner(machines.emach.next(), from, shown);
-        let schedule = self.path.schedule(l.schedules());
+        let schedule = self.path.schedule(self.loaded.schedules());
         sooner(machines.works.desk.next(schedule), from, triggered)
     }
 
@@ -275,6 +276,7 @@ impl<'a> Machine<'a> {
         ensures same { IsSameRun self.old self.new }
         ensures reading { self.new.held.reading ≡ self.old.held.reading }
     {
+        self.due = 0;
         let l = self.loaded;
         let t = l.tables();
         let code = l.ecode();
@@ -301,14 +303,8 @@ impl<'a> Machine<'a> {
         }
         if self.path.round_begins(at) {
             let takes = self.takes.as_slice();
-            if let Err(failed) = close_and_begin(
-                sink,
-                machines,
-                &program,
-                &mut self.path,
-                takes,
-                at,
-            ) {
+            let path = &mut self.path;
+            if let Err(failed) = close_and_begin(sink, machines, &program, path, takes, at) {
                 self.spent = true;
                 return Err(failed);
             }

@@ -5,6 +5,7 @@ use Rattle.htl_model.specs.Tables.{task_worst}
 use Rattle.htl_smach.specs.Rounds.{Round}
 use Rattle.htl_machine.specs.Numbering.{IsPath}
 use Rattle.htl_machine.proofs.Calling.{first_is}
+use Rattle.htl_machine.proofs.Quiet.{nothing_due}
 use Rattle.htl_machine.proofs.ShownOn.{noted_marks, none_waits}
 use Rattle.htl_machine.proofs.machine.Machine.at_start.Goals as goal
 
@@ -26,4 +27,5 @@ invariant_of-result c =
           (c.new-5.ensures.modes ∙ c.in_ok-modes.ensures ∙ ap (λ z. replicate (length z.modules) None) c.tables-t.ensures.value ∙ sym c.requires.modes);
       waiting = λ free. none_waits c.args.l.now.tables c.new-2.result c.args.world.values (c.new-2.ensures.shows ∙ c.in_ok-shows.ensures);
       empty = c.in_ok-path.ensures.idle;
+      quiet = λ free. nothing_due _ _;
     }

@@ -17,6 +17,7 @@ use Rattle.htl_machine.proofs.Asking.{sound_of, noted_of, begun_at, stood_at, co
 use Rattle.htl_machine.proofs.Beginnings.{ends_so, fails_so}
 use Rattle.htl_machine.proofs.Ended.{open_failed, going_closed, begun_closed_at}
 use Rattle.htl_machine.proofs.NumberedStarts.{begins_so}
+use Rattle.htl_machine.proofs.Quiet.{nothing_due}
 use Rattle.htl_machine.proofs.InstantGiven.{given, given_closes, given_begins}
 use Rattle.htl_machine.proofs.Readying.{replay_only}
 use Rattle.htl_machine.proofs.Ready.{list_known}
@@ -289,6 +290,7 @@ invariant_of-self-in_default-close_instant g c =
           waiting_at m.object.tables c.tables-t.result.now c.open_instant.new.sensors c.close_instant.new.machines.works.world.values (sym c.tables-t.ensures.value)
           (waiting_stays c.tables-t.result.now c.open_instant.new.sensors c.open_instant.new.machines.works.world.values c.close_instant.new.machines.works.world.values c.in_default.ensures.waiting c.in_default-close_instant.ensures.sensors);
       empty = kept.empty;
+      quiet = λ free. nothing_due _ _;
     }
 
 pub invariant_of-self-in_default-close_and_begin : goal.invariant_of-self-in_default-close_and_begin
@@ -312,6 +314,7 @@ invariant_of-self-in_default-close_and_begin g c =
           waiting_at m.object.tables c.tables-t.result.now c.open_instant.new.sensors c.close_and_begin.new.machines.works.world.values (sym c.tables-t.ensures.value)
           (waiting_stays c.tables-t.result.now c.open_instant.new.sensors c.open_instant.new.machines.works.world.values c.close_and_begin.new.machines.works.world.values c.in_default.ensures.waiting c.in_default-close_and_begin.ensures.sensors);
       empty = ap (λ (x : Schedule). x.instrs) c.in_default-close_and_begin.ensures.idle ∙ kept.empty;
+      quiet = λ free. nothing_due _ _;
     }
 
 pub returns-in_default-close_and_begin-clause-text : goal.returns-in_default-close_and_begin-clause-text

@@ -4,6 +4,7 @@ use Rattle.htl_model.specs.Functions.{same}
 use Rattle.htl_machine.specs.Calls.{Seen, Follows, IsSensorValue}
 use Rattle.htl_machine.specs.Marks.{is_marked}
 use Rattle.htl_machine.proofs.Calling.{sense_follows}
+use Rattle.htl_machine.proofs.Quiet.{nothing_due}
 use Rattle.htl_machine.proofs.ShownOn.{sensed_waits}
 use Rattle.htl_machine.proofs.machine.Machine.sense.Goals as goal
 
@@ -33,4 +34,5 @@ invariant_of-self c =
       waiting = λ free.
           sensed_waits c.self.inside.loaded.now.tables c.self.inside.sensors c.sense.new.self c.self.inside.machines.works.world.values c.args.comm c.args.x c.value-has.result (kept.waiting free) room e had marks;
       empty = kept.empty;
+      quiet = λ free. nothing_due _ _;
     }

@@ -6,6 +6,7 @@ use Rattle.htl_machine.specs.Calls.{Seen, Follows, IsLength}
 use Rattle.htl_machine.specs.Numbering.{IsPath}
 use Rattle.htl_machine.specs.Turns.{position_from}
 use Rattle.htl_machine.proofs.Calling.{position_worst, took_follows}
+use Rattle.htl_machine.proofs.Quiet.{nothing_due}
 use Rattle.htl_machine.proofs.machine.Machine.took.Goals as goal
 
 pub take-requires-clause-worst : goal.take-requires-clause-worst
@@ -29,4 +30,4 @@ pub invariant_of-self : goal.invariant_of-self
 invariant_of-self c =
     let kept = c.self.invariant in
     let many : length c.set.new.self ≡ length c.self.inside.takes = ap length c.set.ensures ∙ length-set c.self.inside.takes c.args.inv c.args.length in
-    record { accepted = kept.accepted; all_shows = kept.all_shows; all_takes = many ∙ kept.all_takes; few = kept.few; stands = λ free. subst (IsPath c.self.inside.loaded.now.tables c.self.inside.path) (sym c.take.ensures.jobs) (kept.stands free); marked = kept.marked; waiting = kept.waiting; empty = kept.empty }
+    record { accepted = kept.accepted; all_shows = kept.all_shows; all_takes = many ∙ kept.all_takes; few = kept.few; stands = λ free. subst (IsPath c.self.inside.loaded.now.tables c.self.inside.path) (sym c.take.ensures.jobs) (kept.stands free); marked = kept.marked; waiting = kept.waiting; empty = kept.empty; quiet = λ free. nothing_due _ _ }
