@@ -7,7 +7,7 @@ use Rattle.htl_walk.specs.declared.schedule.SInstr.{SInstr}
 use Rattle.htl_walk.specs.declared.schedule.SInstr.TheVariants.{Dispatch, Idle, End}
 use Rattle.htl_walk.specs.Walk.{Point, Left, job_at, time_after, next_point, walk_from, InForm}
 use Rattle.htl_smach.specs.Rounds as rounds
-use Rattle.htl_smach.specs.Rounds.{Round, round_begun, told, told_from, walk_records, next_left, left_until, moved}
+use Rattle.htl_smach.specs.Rounds.{Round, told, told_from, walk_records, next_left, left_until, moved}
 use Rattle.htl_refine.specs.RecordCounts.{count_left_before}
 use Rattle.htl_refine.specs.ListPlans.{ListPlan as Plan, list_walk}
 use Rattle.htl_machine.specs.Follows.{released_before, DeskStands, DeskAt}

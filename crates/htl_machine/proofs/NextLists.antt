@@ -8,7 +8,7 @@ use Rattle.htl_model.specs.declared.event.Event.{Event}
 use Rattle.htl_model.specs.declared.parts.Mode.{Mode}
 use Rattle.htl_model.specs.FrameRules.{KeptApart}
 use Rattle.htl_model.specs.Frames as frames
-use Rattle.htl_model.specs.Frames.{frame_of, starts, unit_period, root_periods, rounds_of, rounds_at, choices, node}
+use Rattle.htl_model.specs.Frames.{frame_of, starts, unit_period, root_periods, rounds_of, choices, node}
 use Rattle.htl_model.specs.Lists.{places_from}
 use Rattle.htl_model.specs.Ranges.{AreInRange, IsModeInRange}
 use Rattle.htl_model.specs.Selections.{is_root, root_modules, modes_of, mode_of_module}

@@ -177,9 +177,9 @@ module _ (t : Tables) (lists : List (List SInstr)) (es : List Event) (run : IsFe
           let r = run_of t (frame_modes t es (frame_start t n)) (rounds t) p x at in
           let root = round_of t r.0 r.1 r.2 in
           let own : x.at ≡ r.1.at = ap (λ (z : Place). z.at) r.6 in
-          let list_point : begins (root_periods t) r.1.at ≡ true = begins_by t (root_modules t) root.0 r.1.unit r.1.at root.1 root.2 in
+          let begins_there : begins (root_periods t) r.1.at ≡ true = begins_by t (root_modules t) root.0 r.1.unit r.1.at root.1 root.2 in
           let quiet : begins (root_periods t) r.1.at ≡ false = s.quiet r.1.at (omega (arith, between.0, own)) (omega (arith, between.1, own, s.before)) in
-          absurd (let z : true ≡ false = sym list_point ∙ quiet in let y : ⊥ = cc in y)
+          absurd (let z : true ≡ false = sym begins_there ∙ quiet in let y : ⊥ = cc in y)
 
   pub few : (n : ℕ) → (leg_at (frame n) (turn n).list).known ≤ length (frame n).jobs
   few n =
@@ -215,17 +215,17 @@ module _ (t : Tables) (lists : List (List SInstr)) (es : List Event) (run : IsFe
       let j = (turn n).list in
       let d = n - frame_start t n in
       let rest = split_at (walks_of p) j (list_walk (list_plan p j)) (list_walks p j (serving n).forms (there n)) in
-      let list_point : (leg_at p j).from ≤ d = omega (arith, from_is n, s.begun) in
+      let begins_before : (leg_at p j).from ≤ d = omega (arith, from_is n, s.begun) in
       let one : suc n - frame_start t n ≡ suc d = omega (arith, past n) in
       let two : suc (suc n) - frame_start t n ≡ suc (suc d) = omega (arith, past n) in
       record {
-        past = omega (arith, list_point, past n);
+        past = omega (arith, begins_before, past n);
         rest = rest.0;
         front = rest.1;
-        count = count_split p (frame_of t) j (suc n - frame_start t n) (serving n) (there n) (omega (arith, list_point, past n)) (omega (arith, s.before, past n));
+        count = count_split p (frame_of t) j (suc n - frame_start t n) (serving n) (there n) (omega (arith, begins_before, past n)) (omega (arith, s.before, past n));
         upto = λ q.
             ap (λ z. done_by (walk_of p) (count_left_before z (walk_of p)) q) two
-            ∙ done_split p (frame_of t) j (suc d) q (serving n) (there n) (omega (arith, list_point)) (omega (arith, s.before))
+            ∙ done_split p (frame_of t) j (suc d) q (serving n) (there n) (omega (arith, begins_before)) (omega (arith, s.before))
             ∙ ap (λ z. done_by (walk_of p) (records_before p j + count_left_before z (list_walk (list_plan p j))) q) (sym two);
       }
 

@@ -9,7 +9,7 @@ use Rattle.htl_model.specs.Tables.{Tables}
 use Rattle.htl_model.specs.Meaning.{initial}
 use Rattle.htl_walk.specs.declared.schedule.SInstr.{SInstr}
 use Rattle.htl_smach.specs.Rounds as rounds
-use Rattle.htl_smach.specs.Rounds.{Round, state_of, state_by}
+use Rattle.htl_smach.specs.Rounds.{Round}
 use Rattle.htl_emach.specs.Shapes.{HasValues, IsShaped}
 use Rattle.htl_emach.specs.Contents.{Content}
 use Rattle.htl_machine.specs.Values.{ValuesFollow}

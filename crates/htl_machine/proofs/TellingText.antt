@@ -17,9 +17,9 @@ use Rattle.htl_refine.specs.FrameRecords.{old_records_by, new_records_by, record
 use Rattle.htl_refine.specs.ServedFrames.{IsFeasibleRun}
 use Rattle.htl_console.specs.declared.shown.Shown.{Shown}
 use Rattle.htl_machine.specs.ListTurns.{Turn}
-use Rattle.htl_machine.specs.Texts.{some_records, old_turn, turn_old_records, turn_new_records, records_text, list_texts, instant_text, records_of, sum_to, capped, jobs_before, e_before, s_before}
+use Rattle.htl_machine.specs.Texts.{old_turn, turn_old_records, turn_new_records, records_text, list_texts, instant_text, records_of, sum_to, capped, jobs_before, e_before, s_before}
 use Rattle.htl_machine.specs.Texts as texts
-use Rattle.htl_machine.specs.Lines.{old_lines, e_lines, change_lines, new_lines, lines, all_records, jobs_done, e_done, s_done}
+use Rattle.htl_machine.specs.Lines.{old_lines, e_lines, change_lines, new_lines, lines, jobs_done, e_done, s_done}
 use Rattle.htl_machine.specs.Lines as runs
 use Rattle.htl_machine.specs.RunLists.{turn_by, turn_at, list_turn}
 use Rattle.htl_machine.proofs.Counting.{sum_same}

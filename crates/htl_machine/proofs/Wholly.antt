@@ -20,7 +20,7 @@ use Rattle.htl_ecode.proofs.Spelled.{ModeReads, spelled_reads}
 use Rattle.htl_emach.specs.Calendars.{Standing, first_standing}
 use Rattle.htl_emach.specs.Safety.{StandsSafely}
 use Rattle.htl_emach.specs.Shapes.{IsShaped}
-use Rattle.htl_emach.specs.Following.{Midway, phase_path}
+use Rattle.htl_emach.specs.Following.{phase_path}
 use Rattle.htl_emach.proofs.Soundness.{sound}
 use Rattle.htl_emach.proofs.Instants.{reads_follows, first_follows}
 use Rattle.htl_emach.specs.Following as machines

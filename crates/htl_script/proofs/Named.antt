@@ -1,5 +1,5 @@
 -- The first item with a name, found among names in order.
-use Rattle.std.proofs.Common.{inl, inr, ◌≡◌, ◌≢◌, ◌+◌, ◌<◌, ◌≤◌, ℕ, zero, suc, Bool, true, false, ◌&&◌, not, cond, List, [], ◌∷◌, ◌++◌, length, get_or, Option, Some, None, Ok, Err, refl, sym, ap, ◌∙◌, subst, arith}
+use Rattle.std.proofs.Common.{inl, inr, ◌≡◌, ◌≢◌, ◌+◌, ◌<◌, ℕ, zero, suc, Bool, true, false, ◌&&◌, not, cond, List, [], ◌∷◌, ◌++◌, length, get_or, Option, Some, None, Ok, Err, refl, ap, ◌∙◌, arith}
 use Rattle.std.specs.Prelude.{slice_get}
 use Rattle.std.specs.List.{position_from}
 use Rattle.std.specs.Str.{bytes_eq}
@@ -12,7 +12,7 @@ use Rattle.htl_model.specs.declared.parts.Mode.{Mode}
 use Rattle.htl_model.specs.declared.parts.Module.{Module}
 use Rattle.htl_model.specs.declared.parts.Task.{Task}
 use Rattle.htl_model.specs.Tables.{Tables}
-use Rattle.htl_script.specs.Judging.{is_sensor, is_invocation, sensor_of, invocation_of}
+use Rattle.htl_script.specs.Judging.{is_sensor, is_invocation}
 use Rattle.htl_script.specs.Naming.{dotted, sensor_name, through, name_of, count_of, number_named}
 use Rattle.htl_script.specs.Orders.{AreOrdered, IsPlace}
 use Rattle.htl_script.specs.declared.naming.Named.{Named}

@@ -1,5 +1,5 @@
 -- A script says the same of tables, whatever functions they have.
-use Rattle.std.proofs.Common.{◌≡◌, ℕ, ◌+◌, Bool, true, false, List, [], ◌∷◌, ◌++◌, Option, Some, None, Ok, Err, refl, ap, ap₂, ◌∙◌}
+use Rattle.std.proofs.Common.{◌≡◌, ℕ, ◌+◌, Bool, List, [], ◌∷◌, ◌++◌, Option, Some, None, Ok, Err, refl, ap, ap₂, ◌∙◌}
 use Rattle.std.specs.Prelude.{is_some, if◌then◌else◌}
 use Rattle.std.specs.declared.result.Result.{Result}
 use Rattle.htl_model.specs.Exchanged.{with_functions}
@@ -8,7 +8,7 @@ use Rattle.htl_model.specs.declared.event.Event.{Event}
 use Rattle.htl_script.specs.Laws.{FunctionsDecideNoScript}
 use Rattle.htl_script.specs.Judging.{is_unknown, is_out_of_range, is_out_of_order, overrun_of, fault_of, event_of, event_unless, judged_statement, judged_text, judged, as_some, past_of}
 use Rattle.htl_script.specs.Lines.{ScriptLine, lines_of, size_of, is_past_limit, is_long, is_passed_over}
-use Rattle.htl_script.specs.Script.{Script, Bad, listed, ended, script_of_lines, script_of}
+use Rattle.htl_script.specs.Script.{Script, Bad, listed, script_of_lines}
 use Rattle.htl_script.specs.Statements.{Statement, At, Sense, Took, End, statement_of}
 use Rattle.htl_script.specs.declared.fault.ScriptKind.{ScriptKind}
 use Rattle.htl_script.specs.declared.fault.ScriptKind.TheVariants as kind

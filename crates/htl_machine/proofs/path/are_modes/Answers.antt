@@ -1,5 +1,4 @@
 use Rattle.std.proofs.Common.{sym, ◌∙◌, arith}
-use Rattle.htl_emach.specs.Calendars.{list_at}
 use Rattle.htl_machine.proofs.Modes.{all_same, one_same}
 use Rattle.htl_machine.proofs.path.are_modes.Goals as goal
 

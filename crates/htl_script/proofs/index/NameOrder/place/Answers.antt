@@ -1,4 +1,4 @@
-use Rattle.std.proofs.Common.{◌≡◌, ◌+◌, ◌-◌, ◌/◌, ◌<◌, ◌≤◌, ℕ, List, length, get_or, take, Option, Some, None, Ok, Err, sym, ap, ◌∙◌, subst, arith}
+use Rattle.std.proofs.Common.{◌+◌, ◌-◌, ◌/◌, ℕ, List, get_or, take, Option, Ok, Err, sym, subst, arith}
 use Rattle.htl_model.specs.Tables.{tables_of}
 use Rattle.htl_script.specs.Naming.{name_of}
 use Rattle.htl_script.specs.Orders.{AreRising, IsPlace}

@@ -1,4 +1,3 @@
-use Rattle.std.proofs.Common.{◌≡◌}
 use Rattle.htl_script.proofs.script.Script.next.Goals as goal
 
 pub returns-clause-answer : goal.returns-clause-answer

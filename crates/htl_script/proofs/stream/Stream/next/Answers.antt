@@ -1,4 +1,4 @@
-use Rattle.std.proofs.Common.{◌≡◌, ◌≤◌, ◌+◌, ◌∷◌, ℕ, List, Option, Some, Ok, Err, length, arith, sym, ap, ◌∙◌, subst}
+use Rattle.std.proofs.Common.{◌≡◌, ◌∷◌, ℕ, List, Option, Some, Ok, Err, arith, sym, ap, ◌∙◌, subst}
 use Rattle.htl_edge.specs.declared.Failed.{Failed}
 use Rattle.htl_model.specs.declared.event.Event.{Event}
 use Rattle.htl_script.specs.Reading.{answered}
@@ -7,7 +7,7 @@ use Rattle.htl_script.specs.Streaming.{Ahead, LineFollows, Gives, GivesByte, IsA
 use Rattle.htl_script.specs.declared.fault.ScriptKind.{ScriptKind}
 use Rattle.htl_script.specs.declared.fault.ScriptStop.{ScriptStop}
 use Rattle.htl_script.specs.declared.fault.ScriptStop.TheVariants as stop
-use Rattle.htl_script.proofs.Streaming.{gives_start, gives_byte, gives_none, gives_event, gives_fault, gives_end, gives_read, gives_on}
+use Rattle.htl_script.proofs.Streaming.{gives_byte, gives_none, gives_event, gives_fault, gives_on}
 use Rattle.htl_script.proofs.Taken.{taken_byte, taken_fault, taken_same}
 use Rattle.htl_script.proofs.stream.Stream.next.Given as given
 use Rattle.htl_script.proofs.stream.Stream.next.Goals as goal

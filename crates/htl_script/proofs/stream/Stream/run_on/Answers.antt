@@ -1,5 +1,4 @@
 use Rattle.std.proofs.Common.{◌++◌, sym, ap, ◌∙◌}
-use Rattle.htl_script.specs.Readers.{rest_of}
 use Rattle.htl_script.specs.Streaming.{Ahead, still}
 use Rattle.htl_script.proofs.Streaming.{run_same}
 use Rattle.htl_script.proofs.stream.Stream.run_on.Goals as goal
