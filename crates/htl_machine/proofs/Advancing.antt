@@ -90,7 +90,6 @@ module _ (t : Tables) (code : ECode) (schedules : List (List SInstr)) (loaded : 
       → ((c : List SInstr) → rounds.Stands m.desk c → rounds.Stands (desk_taking i k m.desk) c) → Followed t code schedules show es m n written
       → Followed t code schedules show (es ++ V.Took i k ∷ []) (taken_as i k m) n written
   took_stands es i k m n written fits known long keeps f =
-      let fs = es ++ V.Took i k ∷ [] in
       let follows = took_follows t schedules loaded es f.stands.up_to.within i k m fits known long keeps f.follows in
       record {
         follows = follows;
@@ -98,7 +97,7 @@ module _ (t : Tables) (code : ECode) (schedules : List (List SInstr)) (loaded : 
             record {
               up_to = follows.up_to;
               totals =
-                  totals_same t code schedules es fs m.reading n.jobs n.e n.s (λ j h. took_records t code schedules loaded es f.stands.up_to.within i k fits m.reading f.follows.reading show j h)
+                  totals_same t code schedules es (es ++ V.Took i k ∷ []) m.reading n.jobs n.e n.s (λ j h. took_records t code schedules loaded es f.stands.up_to.within i k fits m.reading f.follows.reading show j h)
                   (alike t schedules loaded es f.stands.up_to.within i k fits m.reading f.follows.reading) f.stands.totals;
               text = f.stands.text ∙ took_stays t code schedules loaded es f.stands.up_to.within i k fits m.reading f.follows.reading show;
             };

@@ -268,12 +268,11 @@ module _ (t : Tables) (es : List Event) (n f m : ℕ) (range : AreInRange t) (ke
       let one : w.inv ≡ x = some_same _ _ (sym w.known ∙ known) in
       let s = f + a in
       let mm = mode_module t x.mode in
-      let per = mode_period t x.mode in
       let runs : Runs t (modes_at t es s) x.mode = subst (λ (z : Inv). Runs t (modes_at t es s) z.mode) one w.runs in
       let y = stay_there s mm x.mode runs in
       let real : y.0.mode < length t.modes = (standing_at t range es s).real mm y.0 y.1 in
       let some : 0 < mode_period t y.0.mode = some_time t range first12 y.0.mode real in
-      let same : mode_period t y.0.mode ≡ per = ap (mode_period t) y.2 in
+      let same : mode_period t y.0.mode ≡ mode_period t x.mode = ap (mode_period t) y.2 in
       let times : s ≡ mode_period t y.0.mode * w.times = w.multiple_of ∙ ap (λ (z : Inv). mode_period t z.mode * w.times) one ∙ ap (λ z. z * w.times) (sym same) in
       let start : y.0.start ≡ s =
       own_starts t range first12 es s mm y.0 y.1 ∙ ap (λ z. mode_period t y.0.mode * (z / mode_period t y.0.mode)) times ∙ multiple (mode_period t y.0.mode) w.times some ∙ sym times in

@@ -109,10 +109,9 @@ module _ (t : Tables) (lists : List (List SInstr)) (es : List Event) (run : IsFe
   jobs_are : more_jobs (frame_at t lists es (frame_start t n)) (list_turn t lists es n).list ≡ new_jobs t (modes_at t es (suc n)) (suc n % frame_of t) (length r.jobs)
   jobs_are =
       let places = frame_places t (frame_modes t es f) in
-      let down = past t lists es run n in
       let before : length r.jobs ≡ known_by (get_or (starts t) j 0) places =
       ap (λ (js : List Job). length js) ends.jobs ∙ length-jobs t lists es run n ∙ leg_knows (frame_of t) places (starts t) j (omega (arith, there_next)) in
-      let same : f + get_or (starts t) (suc j) 0 ≡ suc n = omega (arith, start_is, down) in
+      let same : f + get_or (starts t) (suc j) 0 ≡ suc n = omega (arith, start_is, past t lists es run n) in
       ap₂ (λ a b. drop a (take b p.jobs)) (leg_knows (frame_of t) places (starts t) j (omega (arith, there_next))) (leg_knows (frame_of t) places (starts t) (suc j) there_next)
       ∙ next_jobs t (frame_modes t es f) j there_next
       ∙ ap₂ (λ m a. new_jobs t (modes_at t es m) a (known_by (get_or (starts t) j 0) places)) same (start_is ∙ sym offset_is)
@@ -138,9 +137,8 @@ module _ (t : Tables) (lists : List (List SInstr)) (es : List Event) (run : IsFe
       → get_or (kept_lengths takes (more_jobs (frame_at t lists es (frame_start t n)) (list_turn t lists es n).list)) q 0 ≡ get_or (more_lengths (frame_at t lists es (frame_start t n)) (list_turn t lists es n).list) q 0
   kept_same q k at present =
       let late = gone.0.later q k at present in
-      let down = past t lists es run n in
       get_map (λ (z : Job). get_or takes z.inv 0) js q k 0 at
-      ∙ takes_are k.inv (f + k.release) (omega (arith, late, ends.start, down))
+      ∙ takes_are k.inv (f + k.release) (omega (arith, late, ends.start, past t lists es run n))
       ∙ sym (get_map (λ (z : Job). took t es z.inv (f + z.release)) js q k 0 at) ∙ sym (ap (λ ns. get_or ns q 0) lengths_are)
 
   counted : length (kept_lengths takes (more_jobs (frame_at t lists es (frame_start t n)) (list_turn t lists es n).list)) ≡ length (more_lengths (frame_at t lists es (frame_start t n)) (list_turn t lists es n).list)

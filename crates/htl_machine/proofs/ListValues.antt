@@ -108,10 +108,9 @@ module _ (t : Tables) (range : AreInRange t) (kept : KeptApart t 12) (es : List 
       let a = left_before u (suc n) in
       let b = left_before u (suc (suc n)) in
       let more : a ≤ b = count_grows (suc n - u.frame) (suc (suc n) - u.frame) (turn_walk u) (omega arith) in
-      let upto = count_upto n in
       let first : ValuesFollow t es (suc n) (finished_in u.plan.jobs (done_by (turns.walk n) (e + a))) w =
       subst (λ k. ValuesFollow t es (suc n) (finished_in u.plan.jobs (done_by (turns.walk n) k)) w) each.count (subst (λ (z : ℕ → Bool). ValuesFollow t es (suc n) z w) (same_before (suc n)) f) in
-      let r = records_follow t range kept es now turns.frames n (b - a) (e + a) w (omega (arith, each.count)) (omega (arith, more, upto)) first shape in
+      let r = records_follow t range kept es now turns.frames n (b - a) (e + a) w (omega (arith, each.count)) (omega (arith, more, count_upto n)) first shape in
       let is : run_records t u.plan.jobs (turns.walk n) (b - a) (e + a) w ≡ with_records t turn (suc n) w =
       ap (λ (ls : List Left). run_records t u.plan.jobs ls (b - a) (e + a) w) each.front
       ∙ run_behind t u.plan.jobs u.earlier (turn_walk u) each.rest (b - a) a w (omega (arith, more, count_within (suc (suc n) - u.frame) (turn_walk u))) in

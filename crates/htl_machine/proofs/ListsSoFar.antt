@@ -56,11 +56,10 @@ module _ (u v : Turn) (now : ℕ) (same : AreSoFar u v now) where
   -- who is finished
   pub finished_so_far : (n : ℕ) → u.frame ≤ n → n ≤ now → turn_finished_by u (left_before u n) ≡ turn_finished_by v (left_before v n)
   finished_so_far n past early =
-      let e = n - u.frame in
       let reached : u.frame + (n - u.frame) ≤ now = omega (arith, past, early) in
       let done : (w : Turn) (k p : ℕ) → done_by (w.earlier ++ turn_walk w) (length w.earlier + k) p ≡ is_some (finish (w.earlier ++ take k (turn_walk w)) p) =
       λ w k p. ap (λ (ls : List walks.Left). is_some (finish ls p)) (take_past w.earlier (turn_walk w) k) in
-      let fronts : take (left_before u n) (turn_walk u) ≡ take (left_before v n) (turn_walk v) = same.front e reached ∙ ap (λ f. take (count_left_before (n - f) (turn_walk v)) (turn_walk v)) same.frame in
+      let fronts : take (left_before u n) (turn_walk u) ≡ take (left_before v n) (turn_walk v) = same.front (n - u.frame) reached ∙ ap (λ f. take (count_left_before (n - f) (turn_walk v)) (turn_walk v)) same.frame in
       fun_ext (λ i.
       ap₂ (λ (js : List Job) (d : ℕ → Bool). finished_in js d i) same.jobs
       (fun_ext (λ p.

@@ -137,7 +137,6 @@ module _ (f : Frame) (j s : ℕ) (r : Round) (g : IsFollowed f j) (at : DeskAt (
   told p pending =
       let d = (leg_at f (suc j)).from in
       let is = pending_is r p pending in
-      let job = job_at r.jobs p in
       let there : slice_get r.jobs p ≡ Some (job_at r.jobs p) = job_there r.jobs p is.present in
       let here : slice_get (list_plan f j).jobs p ≡ Some (job_at r.jobs p) = sym (ap (λ (js : List Job). slice_get js p) at.jobs) ∙ there in
       let flag : ((job_at r.jobs p).present && ltb (job_at r.jobs p).release d) ≡ false =
@@ -186,14 +185,12 @@ module _ (f : Frame) (j s : ℕ) (r : Round) (g : IsFollowed f j) (at : DeskAt (
 pub desks_go_on : DesksGoOn
 desks_go_on f j s r g least most at =
     let at' = s + (leg_at f (suc j)).from in
-    let n = (leg_at f j).known in
-    let m = (leg_at f (suc j)).known in
     let can = can_begin f j s r g at at' refl least most in
     let next = added r at' (more_jobs f j) (more_lengths f j) in (
       can,
       record {
         start = at.start;
-        jobs = ap (λ js. js ++ more_jobs f j) at.jobs ∙ front_more n m f.jobs g.more;
+        jobs = ap (λ js. js ++ more_jobs f j) at.jobs ∙ front_more (leg_at f j).known (leg_at f (suc j)).known f.jobs g.more;
         lengths = length-append r.lengths (more_lengths f j) ∙ (let z : length r.lengths + length (more_lengths f j) ≡ length r.jobs + length (more_jobs f j) = omega (arith, at.lengths, can.same) in z) ∙ sym (length-append r.jobs (more_jobs f j));
         first = first_is f j s r g at at' refl;
         place = refl;

@@ -171,8 +171,7 @@ module _ (t : Tables) (lists : List (List SInstr)) (es : List Event) (run : IsFe
     -- the choice at its start, by the modes of the instant
     choice_is : choice_at t (frame_modes t es (frame_start t now)) (get_or (starts t) (turn now).list 0) ≡ choice_of t (modes_at t es now) (now % frame_of t)
     choice_is =
-        let down = past t lists es run now in
-        let same : frame_start t now + now % frame_of t ≡ now = omega (arith, offset, down) in
+        let same : frame_start t now + now % frame_of t ≡ now = omega (arith, offset, past t lists es run now) in
         ap (choice_at t modes) at_is ∙ choice_same t modes (now % frame_of t) ∙ ap (λ n. choice_of t (modes_at t es n) (now % frame_of t)) same
 
     -- as a frame begins
@@ -229,10 +228,8 @@ module _ (t : Tables) (lists : List (List SInstr)) (es : List Event) (run : IsFe
           by d (inr next) = ap (λ z. list_number z (starts t)) d ∙ ap pred next.0 ∙ (number t lists es run n).1 ∙ ap suc (sym (number_is t lists es run n))
           by d (inl same) =
               let list : (turn now).list ≡ (turn n).list = ap (λ z. list_number z (starts t)) d ∙ ap pred same in
-              let s = stands t lists es run n in
               let from : (turn now).from ≡ get_or (starts t) (turn n).list 0 = from_is t lists es run now ∙ ap (λ i. get_or (starts t) i 0) list in
-              let down = past t lists es run n in
-              absurd (omega (arith, here, from, s.begun, same_frame n e more here, e, down))
+              absurd (omega (arith, here, from, (stands t lists es run n).begun, same_frame n e more here, e, past t lists es run n))
 
 pub lists_begin : ListsBegin
 lists_begin t lists es run at = (begins_there t lists es run at, λ here. next at here)

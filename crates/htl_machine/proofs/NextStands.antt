@@ -146,7 +146,6 @@ module _ (t : Tables) (code : ECode) (schedules : List (List SInstr)) (loaded : 
       ∙ nowhere_told code (phase_path t code es now 3)
   going_desk (Some q) root zero steps desk d1 d2 w0 w1 b f own st rec told st' = absurd (never_first q root b)
   going_desk (Some q) root (suc n) steps desk d1 d2 w0 w1 b f own st rec told st' =
-      let now = suc n in
       let u = turn (suc n) in
       let same : turn (suc n) ≡ turn n = same_turn q n root b in
       let is : steps ≡ u.plan.schedule = own ∙ sym (ap (λ (z : Turn). z.plan.schedule) same) in

@@ -40,7 +40,7 @@ use Rattle.htl_machine.specs.Follows.{IsLoaded}
 use Rattle.htl_machine.specs.Instant.{IsReadyAt}
 use Rattle.htl_machine.specs.Leaving.{due_by}
 use Rattle.htl_machine.specs.Opening.{IsOpened, closing_text}
-use Rattle.htl_machine.specs.Passing.{IsPassing, ArePassing, IsGoing}
+use Rattle.htl_machine.specs.Passing.{IsPassing, ArePassing, IsOnward}
 use Rattle.htl_machine.specs.Programs.{lines_of, schedules_of}
 use Rattle.htl_machine.specs.Recording.{Records}
 use Rattle.htl_machine.specs.Running.{replay}
@@ -371,6 +371,6 @@ pub all_quiet : (m0 m : Seen) (from at to : ℕ) (w0 w : Option (List ℕ)) (f0 
 all_quiet m0 m from at to w0 w f0 f accepted read begun order q p =
     record { passing = λ es b. passing_quiet m0 m es from at to w0 w f0 f accepted read begun order q (p.passing es b); same = p.same; read = p.read }
 
-pub gone_to : (m0 m : Seen) (at due to until : ℕ) (w0 w : Option (List ℕ)) (f0 f : ℕ) → IsGoing m0 m at due to w0 w f0 f → at ≤ until → until ≤ due → ArePassing m0 m m0.held.reading until w0 w f0 f
+pub gone_to : (m0 m : Seen) (at due to until : ℕ) (w0 w : Option (List ℕ)) (f0 f : ℕ) → IsOnward m0 m at due to w0 w f0 f → at ≤ until → until ≤ due → ArePassing m0 m m0.held.reading until w0 w f0 f
 gone_to m0 m at due to until w0 w f0 f g later quiet =
     all_quiet m0 m m0.held.reading at until w0 w f0 f g.accepted (omega (arith, g.done.read, g.begun)) g.begun later (λ n past less. g.quiet n past (omega (arith, less, quiet))) g.done

@@ -151,7 +151,6 @@ ready m es now idle accepted up later nothing =
     by : (o : Option ℕ) → hyper m.object.tables ≡ o → (at : ℕ) → IsUpTo m es at → DeskFollows (turn_at m.object.tables (schedules_of m.object) es) o at m.held.desk → GoesBy (turn_at m.object.tables (schedules_of m.object) es) o at m.list
         → IsReadyAt m es at (schedule_by m.object idle m.list)
     by None root at u desk goes =
-        let loaded = accepted_is_loaded m.object accepted in
         subst (IsReadyAt m es at) (none_is goes)
         (ready_none m es at desk (λ w. sym (records_nothing m.object.tables (schedules_of m.object) es root at w))
         (ap (λ o. (list_texts m.object.tables (schedules_of m.object) es m.show o at).0) (sym root)))

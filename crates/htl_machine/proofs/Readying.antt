@@ -1,5 +1,5 @@
 -- The read phase goes on by one instruction, and what it releases is told.
-use Rattle.std.proofs.Common.{◌≡◌, ℕ, List, [], ◌∷◌, ◌++◌, slice_get, Option, Some, None, refl, ap, ◌∙◌}
+use Rattle.std.proofs.Common.{◌≡◌, ℕ, List, [], ◌∷◌, slice_get, Option, Some, None, refl, ap, ◌∙◌}
 use Rattle.htl_smach.specs.declared.state.PosState.{PosState}
 use Rattle.htl_smach.specs.declared.state.PosState.TheVariants.{Absent, Pending, Ready, Done as Finished}
 use Rattle.htl_smach.specs.Rounds.{Round, state_of}
@@ -50,7 +50,3 @@ replay_only code (d ∷ ds) r =
     let one = at_only (slice_get code.instrs d.address) r in
     let rest = replay_only code ds (desk_at (slice_get code.instrs d.address) r) in
     (rest.0 ∙ one.0, rest.1 ∙ one.1)
-
-desk_more : (code : ECode) (ds : List Done) (d : Done) (r : Round) → desk_replay code (ds ++ d ∷ []) r ≡ desk_at (slice_get code.instrs d.address) (desk_replay code ds r)
-desk_more code [] d r = refl
-desk_more code (x ∷ ds) d r = desk_more code ds d (desk_at (slice_get code.instrs x.address) r)

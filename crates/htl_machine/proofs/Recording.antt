@@ -51,8 +51,7 @@ answer_of r code at l e =
 pub finished_job : (r : Round) (code : List SInstr) (at p : ℕ) (l : Left) → Stands r code → next_left r code at ≡ Some l → l.finished ≡ true → l.position ≡ Some p → (slice_get r.jobs p ≡ Some (job_at r.jobs p)) × ((job_at r.jobs p).present ≡ true)
 finished_job r code at p l st e fin pos =
     let a = answer_of r code at l e in
-    let x = a.record_of in
-    let last = last_is r.jobs p code r.first r.place x a.at (ap (λ (z : Left). z.position) (sym a.is) ∙ pos) (ap (λ (z : Left). z.finished) (sym a.is) ∙ fin) in
+    let last = last_is r.jobs p code r.first r.place a.record_of a.at (ap (λ (z : Left). z.position) (sym a.is) ∙ pos) (ap (λ (z : Left). z.finished) (sym a.is) ∙ fin) in
     let here : (job_at r.jobs p).present ≡ true = st.work p last.some in
     (job_there r.jobs p here, here)
 

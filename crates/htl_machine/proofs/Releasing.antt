@@ -1,5 +1,5 @@
 -- The releases of an instant: exactly the invocations that stand and are released then, and the flags afterwards.
-use Rattle.std.proofs.Common.{◌≡◌, ◌≢◌, ℕ, zero, suc, ◌+◌, ◌-◌, ◌≤◌, ◌<◌, Bool, true, false, cond, ◌&&◌, eqb, ltb, List, [], ◌∷◌, ◌++◌, length, get_or, slice_get, set, Option, Some, None, refl, sym, ap, ap₂, ◌∙◌, subst, arith, ◌⊎◌, inl, inr}
+use Rattle.std.proofs.Common.{◌≡◌, ◌≢◌, ℕ, zero, suc, ◌+◌, ◌-◌, ◌≤◌, ◌<◌, Bool, true, false, cond, ◌&&◌, eqb, ltb, List, [], ◌∷◌, ◌++◌, length, get_or, slice_get, Option, Some, None, refl, sym, ap, ap₂, ◌∙◌, subst, arith, ◌⊎◌, inl, inr}
 use Rattle.std.proofs.lemmas.Bool.{eqb-true, eq-eqb, lt-ltb, le-ltb}
 use Rattle.std.proofs.lemmas.List.{get_or-set_same, get_or-set_other, length-set, length-map}
 use Rattle.htl_model.specs.declared.parts.Inv.{Inv}
@@ -128,21 +128,6 @@ abbrev pub Flagged : List Job → List Want → List Bool → ℕ → Type 0
 Flagged jobs ws bs p =
     (((i : ℕ) → AsksFor (I.Release i) ws → position_from 0 jobs i ≡ Some p → ⊥) × (get_or (tell_all jobs ws bs) p false ≡ get_or bs p false))
     ⊎ ((i : ℕ) × AsksFor (I.Release i) ws × (position_from 0 jobs i ≡ Some p) × (get_or (tell_all jobs ws bs) p false ≡ true))
-
-true_stays : (jobs : List Job) (ws : List Want) (bs : List Bool) (p : ℕ) → p < length bs → get_or bs p false ≡ true → get_or (tell_all jobs ws bs) p false ≡ true
-true_stays jobs [] bs p h e = e
-true_stays jobs (x ∷ xs) bs p h e = true_stays jobs xs (tell_want jobs x bs) p (omega (arith, want_length jobs x bs (kind_of x))) (by_kind (kind_of x))
-  where
-    by_kind : Kind x → get_or (tell_want jobs x bs) p false ≡ true
-    by_kind (idles f g) = ap (λ z. get_or z p false) (f jobs bs) ∙ e
-    by_kind (releases i f) = ap (λ z. get_or (tell_want jobs z bs) p false) f ∙ by_place (position_from 0 jobs i)
-      where
-        by_place : (o : Option ℕ) → get_or (tell_at o bs) p false ≡ true
-        by_place None = e
-        by_place (Some q) = elim (apart q p) [
-          | inl g ↦ ap (λ z. get_or (set bs z true) p false) g ∙ get_or-set_same bs p true false h
-          | inr n ↦ get_or-set_other bs q p true false (λ g. n (sym g)) ∙ e
-        ]
 
 pub are_flagged : (jobs : List Job) (ws : List Want) (bs : List Bool) (p : ℕ) → p < length bs → Flagged jobs ws bs p
 are_flagged jobs [] bs p h = inl (λ i a e. a, refl)

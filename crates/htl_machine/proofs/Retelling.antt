@@ -28,8 +28,7 @@ module _ (t : Tables) (code : ECode) (schedules : List (List SInstr)) (es fs : L
   old_records_same : (n : ℕ) → n < now → turn_old_records (turn_at t schedules es) n ≡ turn_old_records (turn_at t schedules fs) n
   old_records_same zero h = refl
   old_records_same (suc n) h =
-      let down = past n in
-      between_so_far (turn_at t schedules es n) (turn_at t schedules fs n) now (same n (omega (arith, h))) (suc n) (suc (suc n)) (omega (arith, down)) (omega arith) (omega (arith, h))
+      between_so_far (turn_at t schedules es n) (turn_at t schedules fs n) now (same n (omega (arith, h))) (suc n) (suc (suc n)) (omega (arith, past n)) (omega arith) (omega (arith, h))
 
   new_records_same : (n : ℕ) → n < now → turn_new_records (turn_at t schedules es) n ≡ turn_new_records (turn_at t schedules fs) n
   new_records_same n h = new_so_far (turn_at t schedules es n) (turn_at t schedules fs n) now (same n h) n (past n) (omega (arith, h))

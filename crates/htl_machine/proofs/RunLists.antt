@@ -160,9 +160,8 @@ module _ (t : Tables) (lists : List (List SInstr)) (es : List Event) (run : IsFe
 
   pub known_is : (n : ℕ) → (leg_at (frame n) (turn n).list).known ≡ begun_by t es (frame_start t n) n
   known_is n =
-      let s = stands n in
       let a = get_or (starts t) (turn n).list 0 in
-      leg_knows (frame_of t) (places n) (starts t) (turn n).list s.there ∙ known_same a (n - frame_start t n) (places n) (λ p x at. same p x at (three x.at a (n - frame_start t n)))
+      leg_knows (frame_of t) (places n) (starts t) (turn n).list (stands n).there ∙ known_same a (n - frame_start t n) (places n) (λ p x at. same p x at (three x.at a (n - frame_start t n)))
     where
       three : (x a d : ℕ) → (x ≤ a) ⊎ (((a < x) × (x ≤ d)) ⊎ ((a < x) × (d < x)))
       three x a d = grind arith
@@ -194,7 +193,6 @@ module _ (t : Tables) (lists : List (List SInstr)) (es : List Event) (run : IsFe
   pub job_is_of : (n p : ℕ) (j : Job) → slice_get (turn n).plan.jobs p ≡ Some j → j.present ≡ true → (x : Inv) × (slice_get t.invs j.inv ≡ Some x) × (is_concrete t x ≡ true) × (j.worst ≡ task_worst t x.task)
   job_is_of n p j at here =
       let f = frame_start t n in
-      let modes = frame_modes t es f in
       let ys = standing_places t es f in
       let m = known_by (n - f) (places n) in
       let r = front_there (leg_at (frame n) (turn n).list).known (frame n).jobs p j at in

@@ -76,8 +76,7 @@ pub took_follows : (t : Tables) (schedules : List (List SInstr)) (loaded : IsLoa
     → ((code : List SInstr) → rounds.Stands m.desk code → rounds.Stands (desk_taking i n m.desk) code)
     → HeldFollows t schedules es m → HeldFollows t schedules (es ++ V.Took i n ∷ []) (taken_as i n m)
 took_follows t schedules loaded es within i n m fits known long keeps f =
-    let fs = es ++ V.Took i n ∷ [] in
-    let more : reading_of 0 fs ≡ reading_of 0 es = reading_more 0 es (V.Took i n) in
+    let more : reading_of 0 (es ++ V.Took i n ∷ []) ≡ reading_of 0 es = reading_more 0 es (V.Took i n) in
     record {
       fresh = f.fresh;
       reading = f.reading ∙ sym more;

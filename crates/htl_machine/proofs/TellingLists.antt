@@ -157,11 +157,10 @@ module _ (t : Tables) (lists : List (List SInstr)) (es : List Event) (run : IsFe
   beginning : {A : Type 0} (g : ℕ → RunningList → List A) (now : ℕ) → ((f : ℕ) (r : RunningList) → left_in now f r ≡ [] → g f r ≡ []) → (turn now).frame + (turn now).from ≡ now
       → joined (g (frame_of t * (now / frame_of t))) (filter (begins_at now) (lists_at t lists es (frame_of t * (now / frame_of t)))) ≡ g (frame_start t now) (own now)
   beginning g now quiet starts_here =
-      let s = stands t lists es run now in
       let h = frame_of t in
       let j = (turn now).list in
       let is : now ≡ (list_at t lists es (now / h * h) j).from = sym starts_here ∙ ap (λ f. (list_at t lists es f j).from) (sym (frame_is now)) in
-      let r = new_joined t lists es run g now quiet (now / h) j s.there is in
+      let r = new_joined t lists es run g now quiet (now / h) j (stands t lists es run now).there is in
       ap (λ f. joined (g f) (filter (begins_at now) (lists_at t lists es f))) (sym (frame_is now)) ∙ r.1 ∙ ap (λ f. g f (list_at t lists es f j)) (frame_is now)
 
   none_begins : {A : Type 0} (g : ℕ → RunningList → List A) (now : ℕ) → ((f : ℕ) (r : RunningList) → left_in now f r ≡ [] → g f r ≡ []) → (turn now).frame + (turn now).from ≢ now
@@ -177,8 +176,7 @@ module _ (t : Tables) (lists : List (List SInstr)) (es : List Event) (run : IsFe
         | inr high ↦ (
             let next = ends_next (frame_of t) (frame_places t (frame_modes t es (frame_start t now))) (starts t) (turn now).list (omega (arith, high, less)) in
             let up = rises_up (root_periods t) (frame_of t) (starts t) (suc (turn now).list) i (rise t lists es run) high less in
-            let soon = s.before in
-            absurd (omega (arith, next, up, at, soon, down)))
+            absurd (omega (arith, next, up, at, s.before, down)))
       ])
     where
       order : (a b : ℕ) → (a ≤ b) ⊎ (suc b ≤ a)
@@ -193,8 +191,7 @@ module _ (t : Tables) (lists : List (List SInstr)) (es : List Event) (run : IsFe
   old_told zero = ap (λ n. map as_told (up_to (λ k. in_frame t lists es (begun_before 0) 0 (k * frame_of t)) n)) (no_frames t lists es run)
   old_told (suc m) =
       let u = turn m in
-      let down = past t lists es run m in
-      ap (map as_told) (before (λ f r. left_in (suc m) f r) m (λ f r e. e)) ∙ list_piece u.plan u.frame (suc m) (omega (arith, down))
+      ap (map as_told) (before (λ f r. left_in (suc m) f r) m (λ f r e. e)) ∙ list_piece u.plan u.frame (suc m) (omega (arith, past t lists es run m))
 
   new_told : (now : ℕ) → map as_told (new_records_by t lists es now (Some (frame_of t))) ≡ turn_new_records turn now
   new_told now = by (eqb ((turn now).frame + (turn now).from) now) refl
@@ -245,10 +242,9 @@ module _ (t : Tables) (lists : List (List SInstr)) (es : List Event) (run : IsFe
     old_list_text zero = ap (up_to (λ k. joined (list_lines t lists es show 0 (k * frame_of t)) (filter (begun_before 0) (lists_at t lists es (k * frame_of t))))) (no_frames t lists es run)
     old_list_text (suc m) =
         let u = turn m in
-        let down = past t lists es run m in
         before (list_lines t lists es show (suc m)) m (λ f r e. ap (joined (record_lines t show (frame_at t lists es f).jobs r)) e)
         ∙ list_text m (suc m)
-        ∙ ap (joined (record_text t show u.plan u.node)) (list_piece u.plan u.frame (suc m) (omega (arith, down)))
+        ∙ ap (joined (record_text t show u.plan u.node)) (list_piece u.plan u.frame (suc m) (omega (arith, past t lists es run m)))
 
     -- of the list that begins there are s lines alone
     steps_only : (now : ℕ) → (turn now).frame + (turn now).from ≡ now

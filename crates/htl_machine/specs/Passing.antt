@@ -21,7 +21,7 @@ pub record ArePassing (first now : Seen) (from at : ℕ) (w0 w : Option (List �
   pub read : now.held.reading ≡ first.held.reading
 
 -- the same from the reading, and from there up to before another instant nothing is due
-pub record IsGoing (first now : Seen) (at due to : ℕ) (w0 w : Option (List ℕ)) (f0 f : ℕ) : Type 0 where
+pub record IsOnward (first now : Seen) (at due to : ℕ) (w0 w : Option (List ℕ)) (f0 f : ℕ) : Type 0 where
   pub done : ArePassing first now first.held.reading at w0 w f0 f
   pub begun : first.held.reading ≤ at
   pub within : at ≤ to

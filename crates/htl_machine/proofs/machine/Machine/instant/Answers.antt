@@ -45,14 +45,12 @@ open_instant-requires-clause-marked g c = noted_marks c.settle.new.self _ _ c.se
 
 pub open_instant-requires-clause-waiting : goal.open_instant-requires-clause-waiting
 open_instant-requires-clause-waiting g c =
-    let w = c.requires.before in
-    waiting_at c.tables-t.result.now c.self.inside.loaded.now.tables c.self.inside.sensors _ c.tables-t.ensures.value (c.self.invariant.waiting (ap (λ (z : Seen). z.held.spent) c.self.view_is ∙ w.1.kept.fresh))
+    waiting_at c.tables-t.result.now c.self.inside.loaded.now.tables c.self.inside.sensors _ c.tables-t.ensures.value (c.self.invariant.waiting (ap (λ (z : Seen). z.held.spent) c.self.view_is ∙ c.requires.before.1.kept.fresh))
 
 pub schedule-requires : goal.schedule-requires
 schedule-requires g c =
-    let w = c.requires.before in
-    let u = subst (λ (z : Seen). IsUpTo z w.0 c.args.at) (sym c.self.view_is) w.1 in
-    rw c.schedules-schedules.ensures (list_known (seen_in c.self.inside) w.0 c.args.at c.self.invariant.accepted u)
+    let u = subst (λ (z : Seen). IsUpTo z c.requires.before.0 c.args.at) (sym c.self.view_is) c.requires.before.1 in
+    rw c.schedules-schedules.ensures (list_known (seen_in c.self.inside) c.requires.before.0 c.args.at c.self.invariant.accepted u)
 
 pub open_instant-requires-clause-form : goal.open_instant-requires-clause-form
 open_instant-requires-clause-form g c =
@@ -84,8 +82,7 @@ open_instant-requires-clause-safe g c =
 
 pub open_instant-requires-clause-jobs : goal.open_instant-requires-clause-jobs
 open_instant-requires-clause-jobs g c =
-    let w = c.requires.before in
-    let fresh = ap (λ (z : Seen). z.held.spent) c.self.view_is ∙ w.1.kept.fresh in
+    let fresh = ap (λ (z : Seen). z.held.spent) c.self.view_is ∙ c.requires.before.1.kept.fresh in
     sym (c.jobs.ensures ∙ (c.self.invariant.stands fresh).are)
 
 pub open_instant-requires-clause-of : goal.open_instant-requires-clause-of
@@ -99,29 +96,25 @@ open_instant-requires-clause-of g c =
 pub open_instant-requires-clause-round : goal.open_instant-requires-clause-round
 open_instant-requires-clause-round g c =
     let w = c.requires.before in
-    let m = seen_in c.self.inside in
-    let k = given m _ w.0 c.args.at c.tables-t.result.now c.ecode-code.result.now c.self.inside.path.idle.instrs c.self.view_is c.self.invariant.accepted c.self.invariant.empty c.tables-t.ensures.value c.ecode-code.ensures c.requires.read w.1 in
+    let k = given (seen_in c.self.inside) _ w.0 c.args.at c.tables-t.result.now c.ecode-code.result.now c.self.inside.path.idle.instrs c.self.view_is c.self.invariant.accepted c.self.invariant.empty c.tables-t.ensures.value c.ecode-code.ensures c.requires.read w.1 in
     rw (c.schedule.ensures, c.schedules-schedules.ensures) k.ready.form
 
 pub open_instant-requires-clause-slots : goal.open_instant-requires-clause-slots
 open_instant-requires-clause-slots g c =
     let w = c.requires.before in
-    let m = seen_in c.self.inside in
-    let k = given m _ w.0 c.args.at c.tables-t.result.now c.ecode-code.result.now c.self.inside.path.idle.instrs c.self.view_is c.self.invariant.accepted c.self.invariant.empty c.tables-t.ensures.value c.ecode-code.ensures c.requires.read w.1 in
+    let k = given (seen_in c.self.inside) _ w.0 c.args.at c.tables-t.result.now c.ecode-code.result.now c.self.inside.path.idle.instrs c.self.view_is c.self.invariant.accepted c.self.invariant.empty c.tables-t.ensures.value c.ecode-code.ensures c.requires.read w.1 in
     rw (c.schedule.ensures, c.schedules-schedules.ensures) k.ready.short
 
 pub open_instant-requires-clause-stands : goal.open_instant-requires-clause-stands
 open_instant-requires-clause-stands g c =
     let w = c.requires.before in
-    let m = seen_in c.self.inside in
-    let k = given m _ w.0 c.args.at c.tables-t.result.now c.ecode-code.result.now c.self.inside.path.idle.instrs c.self.view_is c.self.invariant.accepted c.self.invariant.empty c.tables-t.ensures.value c.ecode-code.ensures c.requires.read w.1 in
+    let k = given (seen_in c.self.inside) _ w.0 c.args.at c.tables-t.result.now c.ecode-code.result.now c.self.inside.path.idle.instrs c.self.view_is c.self.invariant.accepted c.self.invariant.empty c.tables-t.ensures.value c.ecode-code.ensures c.requires.read w.1 in
     rw (c.schedule.ensures, c.schedules-schedules.ensures) k.ready.stands
 
 pub open_instant-requires-clause-told : goal.open_instant-requires-clause-told
 open_instant-requires-clause-told g c =
     let w = c.requires.before in
-    let m = seen_in c.self.inside in
-    let k = given m _ w.0 c.args.at c.tables-t.result.now c.ecode-code.result.now c.self.inside.path.idle.instrs c.self.view_is c.self.invariant.accepted c.self.invariant.empty c.tables-t.ensures.value c.ecode-code.ensures c.requires.read w.1 in
+    let k = given (seen_in c.self.inside) _ w.0 c.args.at c.tables-t.result.now c.ecode-code.result.now c.self.inside.path.idle.instrs c.self.view_is c.self.invariant.accepted c.self.invariant.empty c.tables-t.ensures.value c.ecode-code.ensures c.requires.read w.1 in
     k.ready.told
 
 pub open_instant-requires-clause-shows : goal.open_instant-requires-clause-shows
@@ -139,8 +132,7 @@ open_instant-requires-clause-values g c =
 pub open_instant-requires-clause-follows : goal.open_instant-requires-clause-follows
 open_instant-requires-clause-follows g c =
     let w = c.requires.before in
-    let m = seen_in c.self.inside in
-    let k = given m _ w.0 c.args.at c.tables-t.result.now c.ecode-code.result.now c.self.inside.path.idle.instrs c.self.view_is c.self.invariant.accepted c.self.invariant.empty c.tables-t.ensures.value c.ecode-code.ensures c.requires.read w.1 in
+    let k = given (seen_in c.self.inside) _ w.0 c.args.at c.tables-t.result.now c.ecode-code.result.now c.self.inside.path.idle.instrs c.self.view_is c.self.invariant.accepted c.self.invariant.empty c.tables-t.ensures.value c.ecode-code.ensures c.requires.read w.1 in
     (w.0, k.follows)
 
 pub returns-in-Err-clause-text : goal.returns-in-Err-clause-text
@@ -187,8 +179,7 @@ close_and_begin-requires-clause-over g c =
 
 pub close_and_begin-requires-clause-path : goal.close_and_begin-requires-clause-path
 close_and_begin-requires-clause-path g c =
-    let w = c.requires.before in
-    let fresh = ap (λ (z : Seen). z.held.spent) c.self.view_is ∙ w.1.kept.fresh in
+    let fresh = ap (λ (z : Seen). z.held.spent) c.self.view_is ∙ c.requires.before.1.kept.fresh in
     subst (λ t. IsPath t c.self.inside.path c.open_instant.new.machines.works.desk.jobs) (sym c.tables-t.ensures.value) (subst (IsPath c.self.inside.loaded.now.tables c.self.inside.path) (sym c.in_default.ensures.jobs) (c.self.invariant.stands fresh))
 
 pub close_and_begin-requires-clause-few : goal.close_and_begin-requires-clause-few
@@ -231,8 +222,7 @@ close_instant-requires-clause-code g c =
 
 pub close_instant-requires-clause-jobs : goal.close_instant-requires-clause-jobs
 close_instant-requires-clause-jobs g c =
-    let w = c.requires.before in
-    let fresh = ap (λ (z : Seen). z.held.spent) c.self.view_is ∙ w.1.kept.fresh in
+    let fresh = ap (λ (z : Seen). z.held.spent) c.self.view_is ∙ c.requires.before.1.kept.fresh in
     c.in_default.ensures.jobs ∙ sym (c.jobs-else-round_begins.ensures ∙ (c.self.invariant.stands fresh).are)
 
 pub close_instant-requires-clause-few : goal.close_instant-requires-clause-few
@@ -302,7 +292,6 @@ invariant_of-self-in_default-close_and_begin g c =
     let b = begins_so m.object c.self.inside.path.numbering c.args.at c.round_begins.result c.self.invariant.accepted (c.self.invariant.stands (ap (λ (z : Seen). z.held.spent) c.self.view_is ∙ (c.requires.before).1.kept.fresh)).numbering c.round_begins.ensures ∙ c.if-round_begins.true in
     let q = given_begins m w.0 c.args.at _ _ _ k c.settle.new.self.values c.settle.ensures.values _ _ opened _ (c.in_default.ensures.noted.values ∙ c.settle.ensures.values) _ (c.in_default.ensures.noted.modes ∙ c.settle.ensures.modes) _ (c.in_default.ensures.writes w.0 k.follows) c.schedules-schedules.result.now _ c.schedules-schedules.ensures c.as_slice-takes.ensures b in
     let kept = c.self.invariant in
-    let desk = c.in_default-close_and_begin.ensures.desk w.0 q in
     record {
       accepted = kept.accepted;
       all_shows = ap length c.in_default.ensures.shows ∙ kept.all_shows;

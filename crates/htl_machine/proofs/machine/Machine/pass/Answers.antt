@@ -1,6 +1,6 @@
 use Rattle.std.proofs.Common.{◌<◌, ◌≤◌, ℕ, refl, sym, ap, subst, arith, add-one}
 use Rattle.htl_machine.specs.Calls.{Seen}
-use Rattle.htl_machine.specs.Passing.{IsGoing}
+use Rattle.htl_machine.specs.Passing.{IsOnward}
 use Rattle.htl_machine.proofs.Passing.{all_on, all_start, passing_failed, passing_whole, up_to_reading}
 use Rattle.htl_machine.proofs.Quiet.{gone_to}
 use Rattle.htl_machine.proofs.machine.Machine.pass.Goals as goal
@@ -10,7 +10,7 @@ loop-due-init g c =
     let first = c.args.self.now in
     let w = g.W.Sink.written c.args.sink.now in
     let f = g.W.Sink.faults c.args.sink.now in
-    subst (λ (n : ℕ). IsGoing first first n c.known_due-due.result c.args.to w w f f) (sym (ap (λ (z : Seen). z.held.reading) c.self.view_is))
+    subst (λ (n : ℕ). IsOnward first first n c.known_due-due.result c.args.to w w f f) (sym (ap (λ (z : Seen). z.held.reading) c.self.view_is))
     (record {
       done = all_start first first.held.reading w f;
       begun = omega arith;
