@@ -1,7 +1,6 @@
 -- The lines of a log, one by one.
-use Rattle.std.proofs.Common.{◌≡◌, ◌+◌, ◌≤◌, ℕ, suc, true, false, List, [], ◌∷◌, ◌++◌, length, take, drop, Some, None, Result, Ok, Err, refl, sym, ap, ◌∙◌, subst, arith, ◌<◌}
+use Rattle.std.proofs.Common.{◌≡◌, ◌+◌, ◌≤◌, ℕ, suc, true, false, List, [], ◌∷◌, length, take, drop, Some, None, Result, Ok, Err, refl, sym, ap, ◌∙◌, subst, arith, ◌<◌}
 use Rattle.std.specs.List.{slice_split, position_from, position_or_len}
-use Rattle.std.proofs.lemmas.List.{append_assoc, append-nil}
 use Rattle.std.proofs.lemmas.List.Quantifiers.{position-Some}
 use Rattle.std.proofs.lemmas.List.Sums.{position_or_len_is}
 use Rattle.std.proofs.lemmas.List.Splits.{slice_split_first, length-slice_split}
@@ -16,7 +15,7 @@ use Rattle.htl_script.specs.Judging.{is_invocation, invocation_of}
 use Rattle.htl_audit.specs.declared.slice.Slice.{Slice}
 use Rattle.htl_audit.specs.declared.slice.LogKind.{LogKind}
 use Rattle.htl_audit.specs.declared.slice.LogKind.TheVariants as kind
-use Rattle.htl_audit.specs.Logs.{Log, Read, Refused, in_front, line_of_fields, line_of, log_of_lines, slices_in_front, IsFirstLine}
+use Rattle.htl_audit.specs.Logs.{Log, Refused, in_front, line_of_fields, line_of, log_of_lines, IsFirstLine}
 
 -- five fields or more
 pub many_fields : (t : Tables) (text a b name word from to more last : List ℕ) → fields_of text ≡ word ∷ fields_of a → fields_of a ≡ from ∷ fields_of b → fields_of b ≡ to ∷ fields_of name → fields_of name ≡ more ∷ fields_of last
@@ -56,29 +55,11 @@ is_last bytes (b ∷ rest) e some none = absurd (omega (arith, none))
 
 -- ---- reading on
 
-behind_more : (xs : List Slice) (x : Slice) (l : Log) → slices_in_front xs (in_front x l) ≡ slices_in_front (xs ++ x ∷ []) l
-behind_more xs x (Read ys) = ap Read (sym (append_assoc xs (x ∷ []) ys))
-behind_more xs x (Refused n k) = refl
-
 abbrev judged_line : Tables → ℕ → List ScriptLine → Result Slice LogKind → Log
 judged_line t n xs r = elim r [ Ok s ↦ in_front s (log_of_lines t (suc n) xs) | Err k ↦ Refused n k ]
 
 first_is : (t : Tables) (n : ℕ) (left text rest : List ℕ) (r : Result Slice LogKind) → IsFirstLine left text rest → r ≡ line_of t text → log_of_lines t n (lines_of left) ≡ judged_line t n (lines_of rest) r
 first_is t n left text rest r f e = ap (log_of_lines t n) f.lines ∙ ap (judged_line t n (lines_of rest)) (sym e)
-
-pub read_end : (t : Tables) (n : ℕ) (xs : List Slice) (left : List ℕ) (whole : Log) → length left ≡ 0 → whole ≡ slices_in_front xs (log_of_lines t n (lines_of left)) → whole ≡ Read xs
-read_end t n xs [] whole none e = e ∙ ap Read (append-nil xs)
-read_end t n xs (b ∷ left) whole none e = absurd (omega (arith, none))
-
-pub read_refused : (t : Tables) (n : ℕ) (xs : List Slice) (left text rest : List ℕ) (k : LogKind) (whole : Log) → IsFirstLine left text rest → Err k ≡ line_of t text
-    → whole ≡ slices_in_front xs (log_of_lines t n (lines_of left)) → whole ≡ Refused n k
-read_refused t n xs left text rest k whole f e w = w ∙ ap (slices_in_front xs) (first_is t n left text rest (Err k) f e)
-
-pub read_step : (t : Tables) (n : ℕ) (xs : List Slice) (left text rest : List ℕ) (s : Slice) (whole : Log) → IsFirstLine left text rest → Ok s ≡ line_of t text
-    → whole ≡ slices_in_front xs (log_of_lines t n (lines_of left)) → whole ≡ slices_in_front (xs ++ s ∷ []) (log_of_lines t (n + 1) (lines_of rest))
-read_step t n xs left text rest s whole f e w =
-    w ∙ ap (slices_in_front xs) (first_is t n left text rest (Ok s) f e) ∙ behind_more xs s (log_of_lines t (suc n) (lines_of rest))
-    ∙ ap (λ m. slices_in_front (xs ++ s ∷ []) (log_of_lines t m (lines_of rest))) (let z : suc n ≡ n + 1 = omega arith in z)
 
 -- ---- names that are known
 

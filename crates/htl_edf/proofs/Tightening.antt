@@ -137,11 +137,5 @@ least_skipped s f z m (suc n) l h = ⊎_elim
 pub greatest_more_yes : (s : ℕ → Bool) (f : ℕ → ℕ) (z n : ℕ) → s n ≡ true → greatest_below s f z (n + 1) ≡ max (greatest_below s f z n) (f n)
 greatest_more_yes s f z n e = rw (add-one, e)
 
-pub greatest_more_no : (s : ℕ → Bool) (f : ℕ → ℕ) (z n : ℕ) → s n ≡ false → greatest_below s f z (n + 1) ≡ greatest_below s f z n
-greatest_more_no s f z n e = rw (add-one, e)
-
 pub least_more_yes : (s : ℕ → Bool) (f : ℕ → ℤ) (z : ℤ) (n : ℕ) → s n ≡ true → least_below s f z (n + 1) ≡ int_min (least_below s f z n) (f n)
 least_more_yes s f z n e = rw (add-one, e)
-
-pub least_more_no : (s : ℕ → Bool) (f : ℕ → ℤ) (z : ℤ) (n : ℕ) → s n ≡ false → least_below s f z (n + 1) ≡ least_below s f z n
-least_more_no s f z n e = rw (add-one, e)

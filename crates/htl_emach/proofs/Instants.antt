@@ -1,5 +1,5 @@
 -- A machine that follows is anywhere inside an instant where the meaning says, and after it before the next one.
-use Rattle.std.proofs.Common.{◌≡◌, ℕ, zero, suc, ◌<◌, ◌≤◌, Bool, true, false, cond, eqb, ltb, List, [], ◌∷◌, ◌++◌, length, slice_get, map, replicate, Option, Some, None, ℤ, refl, sym, ap, ◌∙◌, subst, arith, ◌⊎◌, inl, inr}
+use Rattle.std.proofs.Common.{◌≡◌, ℕ, zero, suc, ◌<◌, Bool, true, false, cond, eqb, ltb, List, [], ◌∷◌, ◌++◌, length, slice_get, map, replicate, Option, Some, None, ℤ, refl, sym, ap, ◌∙◌, subst, arith, ◌⊎◌, inl, inr}
 use Rattle.htl_model.specs.declared.event.Event.{Event}
 use Rattle.htl_model.specs.declared.parts.Module.{Module}
 use Rattle.htl_model.specs.declared.state.Stay.{Stay}
@@ -14,7 +14,7 @@ use Rattle.htl_emach.specs.declared.trigger.Block.{Block}
 use Rattle.std.proofs.lemmas.List.{length-map, length-replicate}
 use Rattle.htl_emach.specs.Calendars.{Calendar, Standing, list_at, done_in, standing_after, first_calendar, first_trigger}
 use Rattle.htl_emach.specs.Pending.{Between, Entry, entry_at, opening, turning, entering, old_stay, new_stay}
-use Rattle.htl_emach.specs.Following.{Midway, Onward, FollowsCode, phase_path, done_of}
+use Rattle.htl_emach.specs.Following.{Midway, Onward, FollowsCode, phase_path}
 use Rattle.htl_emach.specs.Laws.{PassesInstant}
 use Rattle.htl_emach.proofs.ModuleLaws.{ModuleLaws}
 use Rattle.htl_emach.proofs.CopyPhases.{module_writes, module_reads, none_laws, stay_laws, phase_are, StayLaws}
@@ -23,7 +23,6 @@ use Rattle.htl_emach.proofs.SwitchPhase.{module_switches}
 use Rattle.htl_emach.proofs.States.{old_stays, new_stays, module_at, parent_at, option_cases, active_some, begins_now, parent_runs, none_stay}
 use Rattle.htl_emach.proofs.Onward.{onward}
 use Rattle.htl_model.specs.Ranges.{AreInRange}
-use Rattle.htl_emach.specs.declared.trigger.EDone.{EDone}
 use Rattle.htl_emach.proofs.Phases.{RootsRun, to_switches, to_reads, to_next, phase_starts}
 
 abbrev pub IsPhase : ℕ → Type 0
@@ -158,21 +157,6 @@ abbrev pub steps : ℕ → Tables → ECode → List ℤ → ℕ → ℕ → Sta
 steps zero t code values phase at m = 0
 steps (suc n) t code values phase at m =
     elim (done_in code phase at m) [ Some d ↦ suc (steps n t code values phase at (standing_after t code values phase at m (Some d))) | None ↦ 0 ]
-
-pub steps_are : (t : Tables) (code : ECode) (es : List Event) (now phase : ℕ) (n : ℕ) (m : Standing) (done rest : List Done) → Sound t code → IsPhase phase → length rest ≤ n → Midway t code es now phase m done rest →
-    steps n t code (state t es now).values phase now m ≡ length rest
-steps_are t code es now phase zero m done [] h p few mid = refl
-steps_are t code es now phase zero m done (d ∷ rest) h p few mid = absurd (omega (arith, few))
-steps_are t code es now phase (suc n) m done rest h p few mid =
-    by_result (λ x ds rs small at. steps_are t code es now phase n x ds rs h p small at) (done_in code phase now m) (call_onward t code es now phase (state t es now).values m done rest h p (λ e. refl) mid)
-  where
-    by_result : ((x : Standing) (ds rs : List Done) → length rs ≤ n → Midway t code es now phase x ds rs → steps n t code (state t es now).values phase now x ≡ length rs) → (o : Option EDone) →
-        Onward t code es now phase (standing_after t code (state t es now).values phase now m o) done rest o →
-        ◌≡◌ {A = ℕ} (elim o [ Some d ↦ suc (steps n t code (state t es now).values phase now (standing_after t code (state t es now).values phase now m (Some d))) | None ↦ 0 ]) (length rest)
-    by_result ih None on = sym (ap length on.0)
-    by_result ih (Some d) on =
-        let less : length on.0 ≤ n = (let l : length rest ≡ suc (length on.0) = ap length on.1 in omega (arith, few, l)) in
-        ap suc (ih (standing_after t code (state t es now).values phase now m (Some d)) (done ++ done_of d ∷ []) on.0 less on.4) ∙ sym (ap length on.1)
 
 -- ---- a whole instant
 

@@ -154,11 +154,3 @@ ready t code es now phase laws m w done rest r e s h = by_running m.calendar m.r
         by_due : (f : Option (ℕ × ℕ)) → first_due now 0 (triggers_of phase c) ≡ f → IfSome (block_from now f) (IsReady t code c w)
         by_due None is = tt
         by_due (Some p) is = block_ready t code es now phase c (with_trigger phase p.0 None c) w (record { «module» = p.0; address = p.1; at = now }) rest r e s st.calendar.sized (begins t code es now phase laws c rest p st is)
-
--- a machine that stands inside an instant has an entry for each module
-pub midway_sized : (t : Tables) (code : ECode) (es : List Event) (now phase : ℕ) (m : Standing) (done rest : List Done) → Midway t code es now phase m done rest → IsSized t m.calendar
-midway_sized t code es now phase m done rest h = by_running m.calendar m.running h.stands
-  where
-    by_running : (c : Calendar) (o : Option Block) → PhaseStands t code es now phase c o rest → IsSized t c
-    by_running c (Some b) st = replay_sized t code now b.«module» st.path c st.runs.leads.sized
-    by_running c None st = st.calendar.sized

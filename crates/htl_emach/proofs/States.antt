@@ -150,11 +150,6 @@ old_stays t es now k y r h e = old_all t es now r k y h e
 pub new_stays : (t : Tables) (es : List Event) (now k : ℕ) (y : Stay) → AreInRange t → k < length t.modules → new_stay t es now k ≡ Some y → IsStay t now k y
 new_stays t es now k y r h e = let x = module_at t k h in stay_moves t es now k x.0 y r (old_all t es now r) x.1 e
 
--- a round that runs began before the instant
-pub old_start : (t : Tables) (es : List Event) (now k : ℕ) (y : Stay) → AreInRange t → k < length t.modules → old_stay t es now k ≡ Some y → y.start < now
-old_start t es zero k y r h e = absurd (none_stay y e)
-old_start t es (suc n) k y r h e = let s = new_stays t es n k y r h e in omega (arith, s.start)
-
 -- ---- children
 
 -- a module is active exactly where what it refines runs

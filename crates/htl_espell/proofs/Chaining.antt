@@ -71,10 +71,6 @@ ends_are t phase o i k (e ∷ ends) = by_test (meets t o e) (ends_are t phase o 
     by_test true h = ap (λ zs. Does (call_of phase i k) ∷ zs) h
     by_test false h = h
 
--- what an invocation asks for: nothing, or what its ends ask for
-pub inv_skipped : (code : List EInstr) (t : Tables) (m phase o a : ℕ) (n : ℕ × Inv) → counts t m n.1 ≡ false → Ok a ≡ next_of code a (call_wants t m phase o n)
-inv_skipped code t m phase o a n is = sym (ap (λ b. next_of code a (all_do (cond b (map (call_of phase n.0) (places_at t o 0 (ends_in phase n.1))) []))) is)
-
 pub inv_counted : (code : List EInstr) (t : Tables) (m phase o a : ℕ) (n : ℕ × Inv) (ends : List End) (r : Result ℕ EFault) → counts t m n.1 ≡ true → ends ≡ ends_in phase n.1 →
     r ≡ next_of code a (joined (end_wants t phase o n.0) (numbered 0 ends)) → r ≡ next_of code a (call_wants t m phase o n)
 inv_counted code t m phase o a n ends r is ends_is e =

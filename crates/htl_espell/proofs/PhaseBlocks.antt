@@ -118,9 +118,6 @@ module _ (t : Tables) (code : List EInstr) (m phase o a : ℕ) (whole : Option E
       let before : left_of t m phase block ≡ count_from o (phase_offsets t m phase) = ap (left_of t m phase) is in
       omega arith
 
-pub checking_ends : (t : Tables) (code : List EInstr) (m phase : ℕ) (whole : Option EFault) (block : Option (ℕ × ℕ)) → IsChecking t code m phase whole block → block ≡ None → None ≡ whole
-checking_ends t code m phase whole block h is = sym (ap (λ b. block_faults t code m phase (blocks_at t code m phase b)) is) ∙ h.rest
-
 -- the next offset isn't before
 pub next_not_before : (t : Tables) (m phase o : ℕ) (next : Option ℕ) → OffsetsFit t → next ≡ next_offset t m phase (o + 1) → IfSome next (λ p. o ≤ p)
 next_not_before t m phase o next fit is = by_next next (next_after t m phase o next fit is)

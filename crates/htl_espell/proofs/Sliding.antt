@@ -1,8 +1,7 @@
 -- Chains of plain jumps of which it is known where they lead.
-use Rattle.std.proofs.Common.{◌≡◌, ◌<◌, ◌≤◌, ◌⊎◌, ◌+◌, ◌-◌, arith, length, ℕ, zero, suc, Bool, true, false, eqb, List, Option, Some, None, get_or, set, replicate, refl, sym, ap, subst, ◌∙◌, inl, inr}
+use Rattle.std.proofs.Common.{◌≡◌, ◌≤◌, ◌+◌, ◌-◌, arith, ℕ, zero, suc, Bool, true, false, eqb, List, Option, Some, None, get_or, replicate, refl, sym, ap, subst, ◌∙◌}
 use Rattle.std.specs.Prelude.{slice_get}
 use Rattle.std.proofs.lemmas.Bool.{eqb-true, eq-eqb}
-use Rattle.std.proofs.lemmas.List.{get_or-set_same, get_or-set_other}
 use Rattle.htl_ecode.specs.declared.instr.EInstr.{EInstr}
 use Rattle.htl_ecode.specs.declared.instr.EInstr.TheVariants as I
 use Rattle.htl_ecode.specs.Jumps.{jump_to, land, lands, arrive}
@@ -14,13 +13,6 @@ use Rattle.htl_espell.proofs.Jumping.{arrived, arrive_by_jump, land_by_jump}
 
 jumps_to : (code : List EInstr) (at target : ℕ) → slice_get code at ≡ Some (I.Jump target) → jump_at code at ≡ Some target
 jumps_to code at target there = ap (λ (o : Option EInstr). elim o as (λ _. Option ℕ) [ Some i ↦ jump_to i | None ↦ None ]) there
-
--- one jump less
-pub slid_on : (code : List EInstr) (at target left anchor : ℕ) → slice_get code at ≡ Some (I.Jump target) → 0 < left → slid code at left ≡ Some anchor → slid code target (left - 1) ≡ Some anchor
-slid_on code at target zero anchor there some e = absurd (omega arith)
-slid_on code at target (suc n) anchor there some e =
-    let less : suc n - 1 ≡ n = omega arith in
-    ap (slid code target) less ∙ sym (ap (λ (o : Option ℕ). elim o as (λ _. Option ℕ) [ Some x ↦ slid code x n | None ↦ None ]) (jumps_to code at target there)) ∙ e
 
 -- one chain behind another
 pub slid_joined : (code : List EInstr) (n m from at anchor : ℕ) → slid code from n ≡ Some at → slid code at m ≡ Some anchor → slid code from (n + m) ≡ Some anchor
@@ -108,23 +100,6 @@ slides_in code asker anchor from (suc n) left at e few = by_test (eqb at anchor)
     by_test false g later = by_jump (slice_get code at) refl (other g) later e
 
 -- ---- what is held
-
--- one more is held
-pub slide_put : (code : List EInstr) (cells : List Slide) (k : ℕ) (s : Slide) → AreSlides code cells → k < length cells → slid code s.place s.jumps ≡ Some s.anchor → AreSlides code (set cells k s)
-slide_put code cells k s all within holds j = by (order j k)
-  where
-    order : (j k : ℕ) → (j ≡ k) ⊎ ((j ≡ k) → ⊥)
-    order j k = by_eqb (eqb j k) refl
-      where
-        by_eqb : (b : Bool) → eqb j k ≡ b → (j ≡ k) ⊎ ((j ≡ k) → ⊥)
-        by_eqb true e = inl (eqb-true j k e)
-        by_eqb false e = inr (λ same. (let no : true ≡ false = sym (eq-eqb j k same) ∙ e in cc))
-
-    by : (j ≡ k) ⊎ ((j ≡ k) → ⊥) → slid code (get_or (set cells k s) j no_slide).place (get_or (set cells k s) j no_slide).jumps ≡ Some (get_or (set cells k s) j no_slide).anchor
-    by (inl same) =
-        let there : get_or (set cells k s) j no_slide ≡ s = ap (λ i. get_or (set cells k s) i no_slide) same ∙ get_or-set_same cells k s no_slide within in
-        subst (λ (x : Slide). slid code x.place x.jumps ≡ Some x.anchor) (sym there) holds
-    by (inr apart) = subst (λ (x : Slide). slid code x.place x.jumps ≡ Some x.anchor) (sym (get_or-set_other cells k j s no_slide apart)) (all j)
 
 -- nothing is held
 pub no_slides : (code : List EInstr) (n : ℕ) → AreSlides code (replicate n no_slide)

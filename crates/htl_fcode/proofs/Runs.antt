@@ -1,6 +1,6 @@
 -- Code is verified exactly where its run over types ends with the declared one alone; its run over values then
 -- ends with the function's value alone.
-use Rattle.std.proofs.Common.{◌≡◌, ℕ, zero, suc, ◌+◌, ◌≤◌, ◌<◌, true, option_map, List, [], ◌∷◌, length, drop, get_or, map, Option, Some, None, IsSome, ℤ, pos, negsuc, refl, sym, ap, ◌∙◌, subst, arith, inl, inr, add-one, drop-cons}
+use Rattle.std.proofs.Common.{◌≡◌, ℕ, zero, suc, ◌≤◌, ◌<◌, true, option_map, List, [], ◌∷◌, length, drop, get_or, map, Option, Some, None, IsSome, ℤ, pos, negsuc, refl, sym, ap, ◌∙◌, subst, arith, inl, inr, drop-cons}
 use Rattle.std.specs.Coded.{coded_option, coded_list, coded_ℤ}
 use Rattle.std.proofs.Math.Logic.{∥∥₁_elim, ∥∥₁_map}
 use base.Stored.{Coded-set}
@@ -190,12 +190,6 @@ IsSome-values_after values is k d vs us below h =
     goes_on : (o : Option (List ℤ)) → values_on values (drop (suc k) is) o ≡ Some us → IsSome o
     goes_on None e = cc
     goes_on (Some ws) e = refl
-
-pub values_run-next : (values : List ℤ) (is : List FInstr) (k : ℕ) (d : FInstr) (vs ws : List ℤ) → k < length is
-    → values_after values (operation_of (get_or is k d)) vs ≡ Some ws → values_run values (drop (k + 1) is) ws ≡ values_run values (drop k is) vs
-values_run-next values is k d vs ws below e =
-    ap (λ n. values_run values (drop n is) ws) (add-one k)
-    ∙ sym (ap (λ l. values_run values l vs) (drop-cons is k d below) ∙ ap (values_on values (drop (suc k) is)) e)
 
 pub values_run-end : (values : List ℤ) (is : List FInstr) (k : ℕ) (vs : List ℤ) → length is ≤ k → values_run values (drop k is) vs ≡ Some vs
 values_run-end values is k vs past = ap (λ l. values_run values l vs) (drop_all k is past)

@@ -32,9 +32,6 @@ multiple_here p n = ap (λ m. eqb m 0) (mul-mod_left (n + 1) p)
 
 -- ---- a test that fails for all
 
-pub begins_cut : (f : ℕ → ℕ) (us : List ℕ) (k x : ℕ) → k < length us → begins (map f (drop k us)) x ≡ (eqb (x % f (get_or us k 0)) 0 || begins (map f (drop (k + 1) us)) x)
-begins_cut f us k x l = rw add-one (ap (λ vs. begins (map f vs) x) (drop-cons us k 0 l))
-
 pub starts_gap : (ps : List ℕ) (a k : ℕ) → ((x : ℕ) → a ≤ x → x < a + k → begins ps x ≡ false) → starts_below ps (a + k) ≡ starts_below ps a
 starts_gap ps a zero h = let e : a + 0 ≡ a = omega arith in ap (starts_below ps) e
 starts_gap ps a (suc k) h =

@@ -23,12 +23,6 @@ first_yes a b x e = ap (λ o. first_of o b) e
 first_no : {A : Type 0} (a b : Option A) → a ≡ None → first_of a b ≡ b
 first_no a b e = ap (λ o. first_of o b) e
 
-pub starts_over : (t : Tables) (h : ℕ) → h ≡ length (starts t) → 32 < h → Some (h, 32) ≡ other_limit t
-starts_over t h e l =
-    let c : ℕ = length (starts t) in
-    let z : over c 32 ≡ Some (c, 32) = over_yes c 32 (omega (arith, e, l)) in
-    ap (λ n. Some (n, 32)) e ∙ sym (first_yes (over c 32) (first_of (over (min (choices t (rounds t)) 4294967295) 1024) (over (most_positions t (rounds t)) 128)) (c, 32) z)
-
 pub paths_over : (t : Tables) (h : ℕ) → length (starts t) ≤ 32 → h ≡ min (choices t (rounds t)) 4294967295 → 1024 < h → Some (h, 1024) ≡ other_limit t
 paths_over t h s e l =
     let c : ℕ = min (choices t (rounds t)) 4294967295 in

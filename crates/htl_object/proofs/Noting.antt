@@ -5,7 +5,7 @@ use Rattle.std.specs.List.{list_any}
 use Rattle.std.proofs.lemmas.Bool.Decides.{nat_tests}
 use Rattle.std.proofs.lemmas.List.Sums.{sum_by-cons}
 use Rattle.htl_model.specs.declared.parts.Inv.{Inv}
-use Rattle.htl_object.specs.Notes.{MarksRead, CountsMode, IsNoted, IsAdded}
+use Rattle.htl_object.specs.Notes.{CountsMode, IsNoted, IsAdded}
 use Rattle.htl_object.specs.declared.notes.InvNotes.{InvNotes}
 
 pub nothing_marked : (n k : ℕ) → get_or (replicate n false) k false ≡ false
@@ -42,10 +42,6 @@ count_more p (y ∷ ys) x e =
     let part : count_by p (y ∷ ys) ≡ cond (p y) 1 0 + count_by p ys = count_step p y ys in
     let sum : cond (p y) 1 0 + count_by p (ys ++ x ∷ []) ≡ count_by p (y ∷ ys) + 1 = omega (arith, later, part) in
     whole ∙ sum
-
-pub reads_more : (old new : List Bool) (before : List ℕ) (n : ℕ) → MarksRead old before → ((c : ℕ) → c < 1024 → get_or new c false ≡ (get_or old c false || (n == c)))
-    → MarksRead new (before ++ n ∷ [])
-reads_more old new before n marks made c few = made c few ∙ ap (λ b. b || (n == c)) (marks c few) ∙ sym (any_more (λ d. d == c) before n)
 
 -- ---- invocations
 

@@ -21,11 +21,9 @@ use Rattle.htl_model.specs.declared.parts.Mode.{Mode}
 use Rattle.htl_model.specs.declared.parts.Module.{Module}
 use Rattle.htl_object.proofs.Limits.{count_places, dropped, root_same}
 use Rattle.htl_object.proofs.Widest.{most_few}
-use Rattle.htl_object.specs.Accepted.{IsFormed}
 use Rattle.htl_object.specs.Files.{widest_to, positions_to}
 use Rattle.htl_object.specs.Laws.{RoundsAreFrames}
 use Rattle.htl_object.specs.Modules.{is_mode_of}
-use Rattle.htl_object.specs.declared.object.Object.{Object}
 use Rattle.htl_walk.proofs.Accepted.{one_list_accepted}
 use Rattle.htl_walk.proofs.EqualPeriods.{first_round}
 use Rattle.htl_walk.proofs.EqualPeriods.{one_round as round_period}
@@ -234,10 +232,6 @@ module _ (t : Tables) (r : AreInRange t) (kept : KeptTo t 12) (one : RootsHaveOn
             (subst (λ (ss : List (List SInstr)). IsPathAccepted (abstract_jobs t sel) (whole (round_length t) (length (abstract_jobs t sel)) ∷ []) ss) (one_of a sel inside)
             (subst (λ (gs : List Leg). IsPathAccepted (abstract_jobs t sel) gs (lists_of t lists sel)) (a.legs sel)
             (subst (λ (js : List Job). IsPathAccepted js (legs t sel) (lists_of t lists sel)) (a.jobs sel) here)))
-
--- an object that breaks no form rule, and whose root modules have one period, has as many schedules as root selections
-pub schedules_are : (o : Object) → IsFormed o → RootsHaveOnePeriod o.tables → length o.schedules ≡ selection_count o.tables
-schedules_are o h one = h.ranges.schedules ∙ nodes_are o.tables h.ranges.tables (λ r s have need small broken. h.formed r s have need broken) one
 
 pub rounds_are_frames : RoundsAreFrames
 rounds_are_frames t lists r kept one limits = (no_limit t r kept one limits, nodes_are t r kept one, (feasible t r kept one lists, each_round t r kept one lists))

@@ -4,14 +4,14 @@ use Rattle.htl_base.specs.declared.operator.UnOp.TheVariants as un
 use Rattle.htl_base.specs.declared.operator.BinOp.{BinOp}
 use Rattle.htl_text.specs.Placed.{Placed, Put}
 use Rattle.htl_text.specs.Expressions.{Expr, Prefix, Infix, Choice}
-use Rattle.htl_text.specs.Grammar.{Or, Unary, Atom, Spells, or_of, and_of, compare_of, sum_of, product_of}
+use Rattle.htl_text.specs.Grammar.{Or, Unary, Spells, or_of, and_of, compare_of, sum_of, product_of}
 use Rattle.htl_text.specs.declared.token.Token.TheVariants as token
 use Rattle.htl_text.specs.declared.token.Sign.{Sign}
 use Rattle.htl_text.specs.declared.token.Sign.TheVariants as sign
 use Rattle.htl_text.specs.declared.token.Word.TheVariants as word
 use Rattle.htl_parse.specs.Reading.{Reader, ◌>>=◌, left_of}
 use Rattle.htl_parse.specs.ReadingExpressions.{bracketed, chosen, atom_by, unary_by, grown, tail, chain, compared, product_by, sum_by, compare_by, and_by, or_by, expr_at}
-use Rattle.htl_parse.proofs.ViableExpressions.{IsTelling, atom-tells, unary-tells, expr-tells}
+use Rattle.htl_parse.proofs.ViableExpressions.{IsTelling, unary-tells, expr-tells}
 use Rattle.htl_parse.proofs.Locality.{Alike, here, later, Both, Local, less-then, both-then, local-ok, local-then, local-sign, tells-less}
 
 bracketed-local : (nested : Reader Expr) → Local nested → Local (bracketed nested)
@@ -23,9 +23,6 @@ chosen-local nested l k =
     local-sign sign.Comma _ (local-then nested _ l (λ a.
     local-sign sign.Comma _ (local-then nested _ l (λ b.
     local-sign sign.CloseParen _ (local-ok (Choice k c a b))))))))
-
-atom-less : (nested : Reader Expr) → IsTelling Or nested → (us : List Placed) → length (left_of (atom_by nested us)) ≤ length us
-atom-less nested tells us = tells-less (Spells Atom) us (atom_by nested us) (atom-tells nested tells us)
 
 atom-same : (nested : Reader Expr) → Local nested → (m k us vs : List Placed) → Alike m k us vs → Both m k (atom_by nested us) (atom_by nested vs)
 atom-same nested l m k _ _ (here (Put j (token.Number x))) = inr (omega arith, omega arith)

@@ -18,21 +18,9 @@ run-before ts begin place above fits is one =
     subst (λ (n : ℕ). IsStatementRun (take n (drop (place - 1) ts))) more
     (subst (λ (us : List Token). IsStatementRun (take (suc (begin + 513 - place)) us)) (sym cut) (one.tells, is))
 
-pub run-none : (ts : List Token) (begin place : ℕ) → place ≡ begin + 513 → IsStatementRun (take (begin + 513 - place) (drop place ts))
-run-none ts begin place e =
-    let none : 0 ≡ begin + 513 - place = omega (arith, e) in subst (λ (n : ℕ). IsStatementRun (take n (drop place ts))) none tt
-
-pub run-whole : (ts : List Token) (begin place : ℕ) → begin ≡ place → IsStatementRun (take (begin + 513 - place) (drop place ts)) → IsStatementRun (take 513 (drop begin ts))
-run-whole ts begin place e is =
-    let all : begin + 513 - place ≡ 513 = omega (arith, e) in
-    subst (λ (n : ℕ). IsStatementRun (take n (drop begin ts))) all (subst (λ (k : ℕ). IsStatementRun (take (begin + 513 - place) (drop k ts))) (sym e) is)
-
 -- each long run stands behind the first tokens
 abbrev pub AreBehind : List Token → ℕ → Type 0
 AreBehind ts begin = (j : ℕ) → IsLong ts j → begin + 512 ≤ j
-
-pub behind-none : (ts : List Token) → AreBehind ts 0
-behind-none ts = λ j long. omega (arith, long.last)
 
 -- no token of a run ends one
 run-at : (front run rest : List Token) (p : ℕ) → length front ≤ p → p < length front + length run → IsStatementRun run → (t : Token)

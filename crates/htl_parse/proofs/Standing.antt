@@ -63,13 +63,6 @@ next-first n ts us (Some kind.Number) e =
 next-first n ts us (Some (kind.Word w)) e = subst (λ (vs : List Token). NextIs (tokens_numbered n vs) (Some (kind.Word w))) (sym e) refl
 next-first n ts us (Some (kind.Sign s)) e = subst (λ (vs : List Token). NextIs (tokens_numbered n vs) (Some (kind.Sign s))) (sym e) refl
 
-pub next-kind : (ts : List Placed) (k : Option Kind) → NextIs ts k → k ≡ next_kind ts
-next-kind ts None e = sym (ap next_kind e)
-next-kind ts (Some kind.Ident) e = sym (ap next_kind e.1)
-next-kind ts (Some kind.Number) e = sym (ap next_kind e.1)
-next-kind ts (Some (kind.Word w)) e = sym (ap next_kind e)
-next-kind ts (Some (kind.Sign s)) e = sym (ap next_kind e)
-
 pub kind-at : (n p : ℕ) (ts : List Token) → next_kind (tokens_numbered n (drop p ts)) ≡ option_map kind_of (slice_get ts p)
 kind-at n zero [] = refl
 kind-at n zero (t ∷ ts) = refl

@@ -6,7 +6,6 @@ use Rattle.htl_text.specs.Statements.{SpellsSource}
 use Rattle.htl_parse.specs.Reading.{Read, left_of}
 use Rattle.htl_parse.specs.ReadingStatements.{source_at}
 use Rattle.htl_parse.specs.Runs.{IsLong}
-use Rattle.htl_parse.specs.Cursors.{Gives, GivesWhole}
 use Rattle.htl_parse.specs.Answers.{IsTree, IsParsed, TellsTree, TellsLong, TellsSyntax}
 use Rattle.htl_base.proofs.Firsts.{first-unique}
 use Rattle.htl_parse.proofs.Sound.{Holds}
@@ -16,7 +15,6 @@ use Rattle.htl_text.specs.declared.token.Token.{Token}
 use Rattle.htl_text.specs.declared.tree.Tree.{Tree}
 use Rattle.htl_parse.specs.declared.parser.ParseFault.{ParseFault}
 use Rattle.htl_parse.specs.declared.parser.ParseFault.TheVariants as fault
-use Rattle.htl_parse.specs.declared.stop.Stop.{Stop}
 use Rattle.htl_parse.specs.declared.stop.Stop.TheVariants as stop
 
 read-same : {Y : Type 0} (r : Read Y) (t u : Y) (vs ws : List Placed) → r ≡ Ok (t, vs) → r ≡ Ok (u, ws) → (t ≡ u) × (vs ≡ ws)
@@ -25,13 +23,6 @@ read-same {Y} r t u vs ws one two =
     (ap (λ (x : Y × List Placed). x.0) both, ap (λ (x : Y × List Placed). x.1) both)
 
 -- ---- a reader behind which nothing may stand
-
-whole-err : {Y : Type 0} (read : Read Y) (left : List Placed) → read ≡ Err left → (left_of read ≡ left) × ((y : Y) → read ≡ Ok (y, []) → ⊥)
-whole-err read left stop = (ap left_of stop, λ y e. cc)
-
-pub whole-stopped : {X Y : Type 0} (view : X → Y) (e : Stop) (left : List Placed) (read : Read Y) → Gives view (Err e) left read → GivesWhole view (Err e) left read
-whole-stopped view stop.Syntax left read gives = whole-err read left gives
-whole-stopped view stop.Memory left read gives = tt
 
 pub whole-ended : {Y : Type 0} (read : Read Y) (y : Y) (left : List Placed) → read ≡ Ok (y, left) → left ≡ [] → read ≡ Ok (y, [])
 whole-ended read y left gives done = subst (λ (us : List Placed). read ≡ Ok (y, us)) done gives

@@ -31,14 +31,6 @@ told : (o d : Object) (unit mode : List ℕ) → graft_of o.tables d.tables unit
 told o d unit mode e =
     (subst (λ (x : Option Graft). IsFaultBy x fault.Mode) (sym e) refl, subst (λ (x : Option Graft). IsHandedBackBy x fault.Mode None) (sym e) refl)
 
-pub no_host : (o d : Object) (unit mode : List ℕ) → None ≡ mode_named o.tables unit mode → IsPatchStop o d unit mode (stop.Refused fault.Mode None)
-no_host o d unit mode p = told o d unit mode (ap (λ (x : Option ℕ). graft_by o.tables d.tables x (mode_named d.tables unit mode)) (sym p))
-
-pub no_donor : (o d : Object) (unit mode : List ℕ) (m : ℕ) → Some m ≡ mode_named o.tables unit mode → None ≡ mode_named d.tables unit mode → IsPatchStop o d unit mode (stop.Refused fault.Mode None)
-no_donor o d unit mode m p q =
-    told o d unit mode
-    (ap (λ (x : Option ℕ). graft_by o.tables d.tables x (mode_named d.tables unit mode)) (sym p) ∙ ap (graft_by o.tables d.tables (Some m)) (sym q))
-
 -- ---- faults
 
 both : (g : Graft) (f : PatchFault) → IsEarlyFault g f → IsGraftFault g f × IsHandedBack (patched g) f None

@@ -50,13 +50,6 @@ taken_is g k before units places less is all a =
     ∙ ap (λ (xs : List ℕ). ltb (place_among (length g.host.modules + k) (order g)) (length xs)) all
     ∙ taken_place (length g.host.modules + k) (order g)
 
-pub taken_within : (g : Graft) (k before : ℕ) (places : List ℕ) → k < length g.donor.modules → before ≡ length g.host.modules
-    → ArePlacesOf (length (united g).modules) (order g) places → before + k < length places
-taken_within g k before places less is a =
-    let both = length-append g.host.modules (map (donor_module g) g.donor.modules) in
-    let back = length-map g.donor.modules (donor_module g) in
-    let size = a.size in omega (arith, less, both, back, is, size)
-
 -- the module of a mode is a module
 pub unit_within : (t : Tables) (m : ℕ) → AreInRange t → m < length t.modes → mode_module t m < length t.modules
 unit_within t m r less = by (slice_get t.modes m) refl

@@ -1,12 +1,12 @@
 -- What one owner owns stands in one run of the list, where owners don't fall.
-use Rattle.std.proofs.Common.{◌≡◌, ◌≤◌, ◌<◌, ◌⊎◌, inl, inr, ℕ, zero, suc, ◌+◌, Bool, true, false, cond, eqb, eq-eqb, List, [], ◌∷◌, ◌++◌, length, map, drop, get_or, slice_get, Some, refl, sym, ◌∙◌, ap, subst, arith, append_assoc, append-nil}
+use Rattle.std.proofs.Common.{◌≡◌, ◌≤◌, ◌<◌, ◌⊎◌, inl, inr, ℕ, zero, suc, ◌+◌, Bool, true, false, cond, eqb, List, [], ◌∷◌, ◌++◌, length, map, drop, get_or, slice_get, Some, refl, sym, ◌∙◌, ap, subst, arith, append-nil}
 use Rattle.std.specs.List.Sorted.{IsNonDecreasing}
 use Rattle.std.proofs.lemmas.Option.{slice_get_within, slice_get-get_or}
 use Rattle.htl_model.specs.Lists.{places_from}
 use Rattle.htl_patch.specs.Owners.{is_owner, owned_by}
 use Rattle.htl_patch.specs.Renumbered.{place_among}
 use Rattle.htl_patch.proofs.Grafting.{get_drop}
-use Rattle.htl_patch.proofs.KidLaws.{places_step, places_end}
+use Rattle.htl_patch.proofs.KidLaws.{places_end}
 use Rattle.htl_patch.proofs.Members.{Has, same_or, differ, get_some, of_map, place_get, places_nothing}
 
 -- nothing stands before the first place
@@ -84,17 +84,6 @@ rise_both h xs ys p q low i j d le within =
         let f = get_some ys b.0 b.1 0 b.3 in
         let r = q a.0 b.0 0 (omega (arith, le, a.2, b.2)) (slice_get_within ys b.0 b.1 b.3) in
         omega (arith, e, f, r, a.4, b.4)
-
--- one more of the run
-pub owned_more : (m k : ℕ) (xs found next all : List ℕ) → k < length xs → get_or xs k 0 ≡ m → next ≡ found ++ k ∷ [] → found ++ places_from (is_owner m) k (drop k xs) ≡ all
-    → next ++ places_from (is_owner m) (k + 1) (drop (k + 1) xs) ≡ all
-owned_more m k xs found next all less here is going =
-    let rest = places_from (is_owner m) (k + 1) (drop (k + 1) xs) in
-    let pass : is_owner m (get_or xs k 0) ≡ true = eq-eqb (get_or xs k 0) m here in
-    ap (λ (ys : List ℕ). ys ++ rest) is
-    ∙ append_assoc found (k ∷ []) rest
-    ∙ ap (λ (ys : List ℕ). found ++ ys) (sym (places_step (is_owner m) 0 xs k less ∙ ap (λ (b : Bool). cond b (k ∷ rest) rest) pass))
-    ∙ going
 
 -- a slot of the run comes before its end
 pub owned_stop : (m first k : ℕ) (xs found all : List ℕ) → IsNonDecreasing xs → first ≡ place_among m xs → first ≤ k → k ≤ length xs → ((k < length xs) → get_or xs k 0 ≡ m → ⊥)

@@ -1,5 +1,5 @@
 -- Items with the new numbers that lists of new numbers tell are the renumbered ones.
-use Rattle.std.proofs.Common.{◌≡◌, ◌≤◌, ◌<◌, ◌+◌, ◌-◌, ℕ, zero, suc, cond, Bool, true, false, eqb, List, [], ◌∷◌, ◌++◌, length, length-append, map, get_or, slice_get, Option, Some, None, IfSome, option_map, All, refl, sym, ◌∙◌, ap, subst, arith}
+use Rattle.std.proofs.Common.{◌≡◌, ◌≤◌, ◌<◌, ◌+◌, ◌-◌, ℕ, zero, suc, cond, Bool, true, false, eqb, List, [], ◌∷◌, ◌++◌, length, length-append, map, get_or, slice_get, Option, Some, None, IfSome, option_map, All, refl, sym, ◌∙◌, ap, arith}
 use Rattle.std.proofs.lemmas.List.{length-map}
 use Rattle.std.proofs.lemmas.Option.{slice_get_within, slice_get-get_or}
 use Rattle.htl_model.specs.Ranges.{AreInRange, IsInvInRange, IsEndInRange}
@@ -25,19 +25,6 @@ pub at_front : {A : Type 0} (xs ys : List A) (k : ℕ) (x d : A) → k < length 
 at_front [] ys k x d less is = absurd (omega (arith, less))
 at_front (z ∷ xs) ys zero x d less is = sym is
 at_front (z ∷ xs) ys (suc k) x d less is = at_front xs ys k x d (omega (arith, less)) is
-
-pub at_back : {A B : Type 0} (f : B → A) (xs : List A) (ys : List B) (k : ℕ) (y : B) (d : A) → length xs ≤ k → k - length xs < length ys → y ≡ get_or ys (k - length xs) y
-    → get_or (xs ++ map f ys) k d ≡ f y
-at_back f [] ys k y d le less is = let same : k - 0 ≡ k = omega arith in image f ys k y d (subst (λ (n : ℕ). n < length ys) same less) (is ∙ ap (λ (n : ℕ). get_or ys n y) same)
-  where
-    image : {A B : Type 0} (f : B → A) (ys : List B) (k : ℕ) (y : B) (d : A) → k < length ys → y ≡ get_or ys k y → get_or (map f ys) k d ≡ f y
-    image f [] k y d less is = absurd (omega (arith, less))
-    image f (z ∷ ys) zero y d less is = ap f (sym is)
-    image f (z ∷ ys) (suc k) y d less is = image f ys k y d (omega (arith, less)) is
-at_back f (z ∷ xs) ys zero y d le less is = absurd (omega (arith, le))
-at_back f (z ∷ xs) ys (suc k) y d le less is =
-    let same : suc k - length (z ∷ xs) ≡ k - length xs = omega arith in
-    at_back f xs ys k y d (omega (arith, le)) (subst (λ (n : ℕ). n < length ys) same less) (is ∙ ap (λ (n : ℕ). get_or ys n y) same)
 
 pub has_item : {A : Type 0} (xs : List A) (k : ℕ) (x : A) → k < length xs → x ≡ get_or xs k x → slice_get xs k ≡ Some x
 has_item xs k x less is = slice_get-get_or xs k x less ∙ ap (λ y. Some y) (sym is)

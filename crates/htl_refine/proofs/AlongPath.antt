@@ -44,11 +44,6 @@ starts_rise ps (suc n) = joined_rise (starts_below ps n) (cond (begins ps n) (n 
     only true x (suc i, e) = absurd (none_some x e)
     only false x h = absurd (none_some x h.1)
 
-later_rises : (k : ℕ) (xs : List ℕ) → AreRising xs → AreRising (drop k xs)
-later_rises zero xs r = r
-later_rises (suc k) [] r = r
-later_rises (suc k) (x ∷ xs) r = later_rises k xs r.1
-
 -- ---- a round in the frame
 
 rounds_append : (t : Tables) (a : ℕ) (us vs : List ℕ) → rounds_of t a (us ++ vs) ≡ rounds_of t a us ++ rounds_of t a vs

@@ -4,7 +4,6 @@ use Rattle.std.specs.Prelude.{slice_get}
 use Rattle.htl_model.specs.declared.form_fault.FormFault.{FormFault}
 use Rattle.htl_model.specs.declared.parts.Inv.{Inv}
 use Rattle.htl_model.specs.declared.parts.End.{End}
-use Rattle.htl_model.specs.declared.parts.Mode.{Mode}
 use Rattle.htl_model.specs.Tables.{Tables}
 use Rattle.htl_model.specs.Ranges.{AreInRange}
 use Rattle.htl_model.specs.FormRules.{FormRule, number_of, Site, ComesBefore}
@@ -33,12 +32,6 @@ output_silent t R.AbstractPlaces k i j e = refl
 output_silent t R.Parents k i j e = refl
 output_silent t R.SharedParents k i j e = refl
 output_silent t R.Inheritance k i j e = refl
-
-pub mode_silent : (t : Tables) (r : Rule) (m : ℕ) (x : Mode) → (tests t r).mode m x ≡ None
-mode_silent t R.AbstractPlaces m x = refl
-mode_silent t R.Parents m x = refl
-mode_silent t R.SharedParents m x = refl
-mode_silent t R.Inheritance m x = refl
 
 pub test_silent : (t : Tables) (r : Rule) (m c : ℕ) → (tests t r).test m c ≡ None
 test_silent t R.AbstractPlaces m c = refl

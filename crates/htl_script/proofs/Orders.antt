@@ -248,14 +248,6 @@ module _ (name : ℕ → Option (List ℕ)) (count : ℕ) (xs : List ℕ) (o : A
     ];
   }
 
--- none below 0
-pub ordered_none : (name : ℕ → Option (List ℕ)) → AreOrdered name 0 []
-ordered_none name = record {
-  rising = record { named = λ i h. absurd (omega arith); rising = λ i j a b l h. absurd (omega arith) };
-  below = λ i h. absurd (omega arith);
-  whole = λ n a h. absurd (omega arith);
-}
-
 -- ---- what is found is the first number with the name
 
 module _ (name : ℕ → Option (List ℕ)) (count : ℕ) (xs text : List ℕ) (o : AreOrdered name count xs) where

@@ -11,7 +11,7 @@ use Rattle.htl_edf.specs.NodePlans.{AreReady, ExplainsNodes}
 use Rattle.htl_edf.proofs.FrameTasks.{frame_with_worst}
 use Rattle.htl_edf.proofs.ReadyTasks.{own_worst, ready_with_worst}
 use Rattle.htl_slack.specs.declared.report.Above.{Above}
-use Rattle.htl_slack.specs.Slack.{NoneOverloaded, IsFirstOverload, StandsAbove, IsKnown}
+use Rattle.htl_slack.specs.Slack.{NoneOverloaded, IsFirstOverload, IsKnown}
 
 -- the own worst case is the first that is known to fit
 pub own_fits : (t : Tables) (task : ℕ) → NoneOverloaded t → Fits t task (task_worst t task)
@@ -30,10 +30,6 @@ is_greatest t task limit low high None fits order within next known =
 is_greatest t task limit low high (Some a) fits order within next known =
     greatest_by_one_more t task limit low (omega (arith, order, within)) fits
     (λ less f. more_fails t task low a (next_first t task low high a (omega (arith, order, next)) known.1) f)
-
-pub stands_above : (t : Tables) (task limit low high : ℕ) (o : Option Above) → low < high → high ≤ suc low → IsKnown t task limit high o → StandsAbove t task limit low o
-stands_above t task limit low high None order next known = omega (arith, order, next, known)
-stands_above t task limit low high (Some a) order next known = (omega (arith, order, known.0), next_first t task low high a (omega (arith, order, next)) known.1)
 
 -- ---- a try
 

@@ -76,9 +76,6 @@ pub work_filled : (js : List Job) (ns left : List ℕ) → length left ≡ lengt
 work_filled js ns left same each =
     ext_get_or 0 left (work js ns) (same ∙ sym (length-work js ns)) (λ q h. each q (omega arith))
 
-pub below_taken : {X : Type 0} (n p : ℕ) (xs : List X) → p < n → n ≤ 128 → length xs ≡ 128 → p < length (take n xs)
-below_taken n p xs h k l = omega (arith, length-take n xs)
-
 pub work_more : (js : List Job) (ns left : List ℕ) (p x : ℕ) → p < length left → ((q : ℕ) → q < p → get_or left q 0 ≡ get_or (work js ns) q 0)
     → x ≡ get_or (work js ns) p 0 → (q : ℕ) → q < p + 1 → get_or (set left p x) q 0 ≡ get_or (work js ns) q 0
 work_more js ns left p x below old new q h =

@@ -231,10 +231,6 @@ done_by true c o e = (λ _. sym e, λ _. refl)
 done_by false true o e = (λ z. cc, λ h. cc)
 done_by false false o e = (λ z. cc, λ h. cc)
 
-absent_never : {X : Type 0} (b c : Bool) (o : Option X) → o ≡ None → (state_by false b c ≡ Done) ↔ IsSome o
-absent_never b c None e = (λ z. cc, λ h. cc)
-absent_never b c (Some x) e = cc
-
 -- who had no work where the list began is done exactly where it is present
 idle_done : (a b c : Bool) {X : Type 0} (o : Option X) → b ≡ true → o ≡ None → (state_by a b c ≡ Done) ↔ (((a && true) ≡ true) ⊎ IsSome o)
 idle_done true true c o e n = (λ _. inl refl, λ _. refl)
@@ -296,13 +292,6 @@ none_before r s p st first = by_present (job_at r.jobs p).present refl
         let work_is : get_or r.first.left p 0 ≡ get_or (work r.jobs r.lengths) p 0 = ap (λ (z : Point). get_or z.left p 0) first in
         let length_is : get_or (work r.jobs r.lengths) p 0 ≡ get_or r.lengths p 0 = work_present r.jobs r.lengths p (job_at r.jobs p) (job_there r.jobs p e) e in
         some_work (get_or r.first.left p 0) (omega (arith, its, work_is, length_is))
-
--- there a position is done exactly where an instruction of the list finished it
-pub done_first : (r : Round) (s : List SInstr) (p : ℕ) → Stands r s → r.first ≡ first_point r.jobs r.lengths → (state_of r p ≡ Done) ↔ IsSome (finish_so_far r s p)
-done_first r s p st first =
-    let d = done_is r s p st in
-    let never : was_finished r p ≡ false = none_before r s p st first in
-    (λ h. elim (d.0 h) [ inl f ↦ absurd (let w : ⊥ = cc in w) | inr f ↦ f ], λ f. d.1 (inr f))
 
 -- ---- what a call answers
 

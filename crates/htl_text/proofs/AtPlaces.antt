@@ -47,20 +47,6 @@ first-at ts place k e = subst (λ (k : Option Kind). FirstIs k (drop place ts) (
     by (Some (token.Word w)) e = drop-at ts place (token.Word w) e
     by (Some (token.Sign s)) e = drop-at ts place (token.Sign s) e
 
-pub kind-word : (w : AWord) (o : Option Token) → ◌≡◌ {A = Option Kind} (Some (kind.Word w)) (option_map kind_of o) → o ≡ Some (token.Word w)
-kind-word w None e = absurd cc
-kind-word w (Some (token.Ident n)) e = absurd cc
-kind-word w (Some (token.Number x)) e = absurd cc
-kind-word w (Some (token.Word v)) e = cc
-kind-word w (Some (token.Sign s)) e = absurd cc
-
-pub kind-sign : (s : ASign) (o : Option Token) → ◌≡◌ {A = Option Kind} (Some (kind.Sign s)) (option_map kind_of o) → o ≡ Some (token.Sign s)
-kind-sign s None e = absurd cc
-kind-sign s (Some (token.Ident n)) e = absurd cc
-kind-sign s (Some (token.Number x)) e = absurd cc
-kind-sign s (Some (token.Word w)) e = absurd cc
-kind-sign s (Some (token.Sign v)) e = cc
-
 -- a token that is spelled is of its kind, and what is spelled of a kind is that token
 kind_of-spelled : (k : Kind) (text : List ℕ) → kind_of (spelled k text) ≡ k
 kind_of-spelled kind.Ident text = refl

@@ -1,10 +1,8 @@
 -- The input, read piece by piece.
-use Rattle.std.proofs.Common.{arith, ◌≡◌, ◌≤◌, ◌<◌, ◌+◌, ℕ, List, [], ◌++◌, length, Option, None, Some, refl, sym, ap, ◌∙◌, subst, length-append, append_assoc, append-nil}
-use Rattle.std.specs.Prelude.{IfSome}
+use Rattle.std.proofs.Common.{arith, ◌≡◌, ◌≤◌, ◌+◌, ℕ, List, [], ◌++◌, length, Option, None, Some, refl, sym, ap, ◌∙◌, length-append, append_assoc}
 use Rattle.std.specs.Io.KnownBytes.{prepend_known, IsAtEnd}
 use Rattle.htl_edge.specs.Content.{none_left}
 use Rattle.htl_script.specs.Reading.{LosesFront}
-use Rattle.htl_top.specs.Sources.{IsInput}
 
 -- these bytes were read
 abbrev pub AreRead : List ℕ → Option (List ℕ) → Option (List ℕ) → Type 0
@@ -19,21 +17,9 @@ pub read_more : (bytes piece : List ℕ) (initial rest left : Option (List ℕ))
 read_more bytes piece initial rest None are is = are ∙ ap (prepend_known bytes) (sym is)
 read_more bytes piece initial rest (Some later) are is = are ∙ ap (prepend_known bytes) (sym is) ∙ ap Some (sym (append_assoc bytes piece later))
 
--- all were read
-pub read_all : (bytes : List ℕ) (initial rest : Option (List ℕ)) → AreRead bytes initial rest → IsAtEnd rest → length bytes ≤ 1048576 → IsInput initial bytes
-read_all bytes initial None are end short = record { told = subst (λ (o : Option (List ℕ)). IfSome o (λ given. given ≡ bytes)) (sym are) tt; short = short }
-read_all bytes initial (Some later) are end short =
-    record { told = subst (λ (o : Option (List ℕ)). IfSome o (λ given. given ≡ bytes)) (sym are) (ap (λ (l : List ℕ). bytes ++ l) end ∙ append-nil bytes); short = short }
-
 pub left_none : (bytes : List ℕ) (initial rest left : Option (List ℕ)) → AreRead bytes initial rest → IsAtEnd rest → left ≡ rest → left ≡ none_left initial
 left_none bytes initial None left are end same = same ∙ sym (ap none_left are)
 left_none bytes initial (Some later) left are end same = same ∙ ap Some end ∙ sym (ap none_left are)
-
--- more than a source may have was read
-pub read_long : (bytes : List ℕ) (initial rest : Option (List ℕ)) → AreRead bytes initial rest → 1048576 < length bytes → IfSome initial (λ given. 1048576 < length given)
-read_long bytes initial None are long = subst (λ (o : Option (List ℕ)). IfSome o (λ given. 1048576 < length given)) (sym are) tt
-read_long bytes initial (Some later) are long =
-    subst (λ (o : Option (List ℕ)). IfSome o (λ given. 1048576 < length given)) (sym are) (omega (arith, long, length-append bytes later))
 
 -- ---- how much was taken
 

@@ -114,12 +114,6 @@ SpeaksOf-source Sources Others Objects Read told map speaks = tt
 SpeaksOf-source Sources Others Objects Write told map speaks = tt
 SpeaksOf-source Sources Others Objects Memory told map speaks = tt
 
-pub in_file : (name : Option (List ℕ)) (holds : Option Holdings) (bytes : List ℕ) → IsSource name holds bytes → (Fact : Tables → Type 0) → HasTypedTables bytes Fact → IsTypedProgram name holds Fact
-in_file name holds bytes source Fact has = record { bytes = bytes; source = source; has = has }
-
-pub in_input : (rest : Option (List ℕ)) (bytes : List ℕ) → IsInput rest bytes → (Fact : Tables → Type 0) → HasTypedTables bytes Fact → IsTypedInput rest Fact
-in_input rest bytes input Fact has = record { bytes = bytes; input = input; has = has }
-
 pub in_files : (name : Option (List ℕ)) (holds : Option Holdings) (rest : Option (List ℕ)) (file bytes : List ℕ) → IsSource name holds file → IsInput rest bytes
     → (Fact : Tables → Type 0) → HasTypedOn bytes file Fact → IsTypedOn name holds rest Fact
 in_files name holds rest file bytes held input Fact has = record { file = file; held = held; bytes = bytes; input = input; has = has }

@@ -1,14 +1,13 @@
 -- The first line of what is left of a plan's input.
-use Rattle.std.proofs.Common.{inl, inr, ◌≡◌, ◌+◌, ◌≤◌, ◌<◌, ℕ, min, Bool, true, false, cond, List, [], ◌∷◌, ◌++◌, length, take, Option, Some, None, Result, Ok, Err, refl, sym, ap, ◌∙◌, arith, eqb, append-nil, append_assoc}
+use Rattle.std.proofs.Common.{inl, inr, ◌≡◌, ◌+◌, ◌≤◌, ◌<◌, ℕ, min, Bool, true, false, cond, List, [], ◌∷◌, ◌++◌, length, take, Option, Result, Ok, Err, sym, ap, ◌∙◌, arith, append-nil, append_assoc}
 use Rattle.std.specs.Prelude.{IfOk, if◌then◌else◌}
-use Rattle.std.proofs.lemmas.Bool.{cases_Bool, le-leb, lt-ltb, le-ltb, and_from, and_right, eqb-true, eqb-false}
+use Rattle.std.proofs.lemmas.Bool.{cases_Bool, le-leb, lt-ltb, le-ltb, and_from, and_right, eqb-true}
 use Rattle.htl_model.specs.Tables.{Tables}
 use Rattle.htl_script.specs.declared.fault.ScriptKind.{ScriptKind}
 use Rattle.htl_script.specs.declared.fault.ScriptKind.TheVariants as kind
-use Rattle.htl_script.specs.Lines.{ScriptLine, is_line_feed, lines_of, size_of, is_past_limit, is_long, is_passed_over}
-use Rattle.htl_script.specs.Statements.{fields_of}
+use Rattle.htl_script.specs.Lines.{ScriptLine, is_line_feed, lines_of, size_of, is_past_limit, is_long}
 use Rattle.htl_script.proofs.Splitting.{lines_of-fed, lines_of-last, lines_of-begun}
-use Rattle.htl_top.specs.SelectionInput.{Bad, named_by, entered, judged_text, judged, listed, input_of_lines}
+use Rattle.htl_top.specs.SelectionInput.{Bad, judged_text, judged, listed, input_of_lines}
 use Rattle.htl_top.specs.SelectionReaders.{Place, IsPlace, rest_of, next_line, selection_answered}
 
 -- ---- how a line is judged by its size
@@ -121,12 +120,3 @@ rest_of-last t p new modes entries r is some e next front =
     (ap (λ (bytes : List ℕ). lines_of bytes) (append-nil p.line) ∙ lines_of-last p.line is.plain some) e next front
 
 -- ---- room for an entry
-
-pub has_room : (t : Tables) (modes : List (Option ℕ)) (text : List ℕ) (e : Option ℕ) → judged_text t modes text ≡ Ok (Some e) → length modes ≤ length t.modules → length modes < length t.modules
-has_room t modes text e h few = by (is_passed_over text) (eqb (length modes) (length t.modules)) refl h
-  where
-    by : (a b : Bool) → eqb (length modes) (length t.modules) ≡ b
-        → cond a (Ok None) (cond b (Err kind.After) (entered t modes (named_by (fields_of text)))) ≡ Ok (Some e) → length modes < length t.modules
-    by true b f g = cc
-    by false true f g = cc
-    by false false f g = let apart = eqb-false (length modes) (length t.modules) f in omega (arith, apart, few)

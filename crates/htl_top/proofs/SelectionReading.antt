@@ -3,14 +3,13 @@ use Rattle.std.proofs.Common.{◌≡◌, ◌≤◌, ◌<◌, ◌+◌, ℕ, Bool,
 use Rattle.std.specs.Prelude.{IfSome, OnOk, unwrap_or}
 use Rattle.std.specs.Io.KnownBytes.{prepend_known, IsAtEnd}
 use Rattle.std.proofs.Math.Seq.{drop-cons}
-use Rattle.std.proofs.lemmas.Bool.{ne_eqb, eq-eqb}
-use Rattle.std.proofs.lemmas.List.{take_all, length-take-le}
+use Rattle.std.proofs.lemmas.Bool.{eq-eqb}
+use Rattle.std.proofs.lemmas.List.{take_all}
 use Rattle.htl_edge.specs.Content.{none_left}
 use Rattle.htl_model.specs.Ranges.{AreInRange}
 use Rattle.htl_model.specs.Tables.{Tables}
 use Rattle.htl_model.specs.Selected.{IsSelection}
 use Rattle.htl_script.specs.declared.fault.ScriptFault.{ScriptFault}
-use Rattle.htl_script.specs.declared.fault.ScriptKind.{ScriptKind}
 use Rattle.htl_script.specs.declared.fault.ScriptKind.TheVariants as kind
 use Rattle.htl_script.specs.Lines.{lines_of}
 use Rattle.htl_script.specs.Reading.{OfScript, LosesFront}
@@ -39,12 +38,6 @@ pub taking_step : (t : Tables) (first now next : Place) (modes entries newer : L
 taking_step t first now next modes entries newer bytes i d below taking one =
     record { follows = λ later. taking.follows later ∙ ap (λ left. rest_of t now entries (left ++ later)) (cut bytes i d below) ∙ one (drop (i + 1) bytes ++ later) }
 
-pub taking_fault : (t : Tables) (first now : Place) (modes entries : List (Option ℕ)) (bytes : List ℕ) (i d line : ℕ) (k : ScriptKind) → i < length bytes
-    → IsTaking t first modes now entries bytes (drop i bytes) → ((later : List ℕ) → rest_of t now entries (get_or bytes i d ∷ later) ≡ Bad line k)
-    → (later : List ℕ) → rest_of t first modes (bytes ++ later) ≡ Bad line k
-taking_fault t first now modes entries bytes i d line k below taking one later =
-    taking.follows later ∙ ap (λ left. rest_of t now entries (left ++ later)) (cut bytes i d below) ∙ one (drop (i + 1) bytes ++ later)
-
 -- ---- the end
 
 pub end_is : (t : Tables) (p : Place) (modes : List (Option ℕ)) → p.line ≡ [] → rest_of t p modes [] ≡ ended t p.number (take p.done modes)
@@ -57,16 +50,6 @@ pub end_whole : (t : Tables) (p : Place) (modes : List (Option ℕ)) → p.line 
 end_whole t p modes none all done =
     let whole : take p.done modes ≡ modes = all_taken modes p.done (done ∙ sym all) in
     end_is t p modes none ∙ ap (ended t p.number) whole ∙ ap (λ (b : Bool). cond b (Whole modes) (Bad p.number kind.NoEnd)) (eq-eqb (length modes) (length t.modules) all)
-
-pub end_short : (t : Tables) (p : Place) (modes : List (Option ℕ)) → p.line ≡ [] → length modes ≡ length t.modules → p.done ≤ length t.modules → (p.done ≡ length t.modules → ⊥)
-    → rest_of t p modes [] ≡ Bad p.number kind.NoEnd
-end_short t p modes none all few apart =
-    let size : length (take p.done modes) ≡ p.done = length_taken p.done modes (omega arith) in
-    end_is t p modes none
-    ∙ ap (λ (b : Bool). cond b (Whole (take p.done modes)) (Bad p.number kind.NoEnd)) (ne_eqb (length (take p.done modes)) (length t.modules) (λ e. apart (sym size ∙ e)))
-  where
-    length_taken : (n : ℕ) (xs : List (Option ℕ)) → n ≤ length xs → length (take n xs) ≡ n
-    length_taken n xs h = length-take-le n xs h
 
 -- ---- what a source gave
 

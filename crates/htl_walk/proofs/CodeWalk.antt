@@ -199,12 +199,6 @@ module _ (t : Tables) (lists : List (List SInstr)) (ready : AreWalkable t) where
   pub refused_all : (path : ℕ) (m : Miss) → IsFirstFailing t lists path m → AreFeasible t lists → ⊥
   refused_all path m e f = e.refused (f path e.within)
 
-pub share_more : (t : Tables) (p q j : ℕ) → ShareNodes t p q j → node t p j ≡ node t q j → ShareNodes t p q (j + 1)
-share_more t p q j s e i l = elim (cases_lt i j) [
-  | inl k ↦ s i k
-  | inr k ↦ let same : j ≡ i = omega (arith, l, k) in subst (λ n. node t p n ≡ node t q n) same e
-]
-
 -- ---- the code at list j
 
 pub at_list : (t : Tables) (f : Frame) (lists : List Schedule) (path j known n : ℕ) (places : List Place) (jobs : List Job) (r : Schedule) (left : List ℕ) → IsFrame t f → j < length (starts t) → n < length lists

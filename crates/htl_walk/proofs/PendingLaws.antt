@@ -1,11 +1,11 @@
 -- The row of the positions with work left.
-use Rattle.std.proofs.Common.{◌≡◌, ◌≢◌, ℕ, ◌+◌, ◌||◌, ◌*◌, ◌%◌, ◌^◌, ◌≤◌, ◌<◌, ◌⊎◌, Bool, true, false, cond, ◌&&◌, eqb, ltb, List, length, get_or, set, min, refl, sym, ap, ◌∙◌, arith, inl, inr}
+use Rattle.std.proofs.Common.{◌≡◌, ◌≢◌, ℕ, ◌*◌, ◌%◌, ◌^◌, ◌≤◌, ◌<◌, ◌⊎◌, Bool, true, false, cond, ◌&&◌, eqb, ltb, List, length, get_or, min, refl, sym, ap, ◌∙◌, arith, inl, inr}
 use Rattle.std.specs.Int.{bit_at, bit_not, w128}
 use Rattle.std.specs.Int.Bits.{bit_and}
 use Rattle.std.specs.List.{All}
-use Rattle.std.proofs.lemmas.Bool.{lt-ltb, le-ltb, ltb-true, ltb-false}
+use Rattle.std.proofs.lemmas.Bool.{lt-ltb, le-ltb, ltb-false}
 use Rattle.std.proofs.lemmas.Bool.Decides.{nat_tests}
-use Rattle.std.proofs.lemmas.List.{get_or_past, get_or-set_same, get_or-set_other}
+use Rattle.std.proofs.lemmas.List.{get_or_past}
 use Rattle.std.proofs.lemmas.Nat.{and_le_r}
 use Rattle.std.proofs.lemmas.Nat.Bits.{bit_at_and, bit_at-lt, bit_at_above, bit_at_clear_same, bit_at_clear_other}
 use Rattle.htl_model.specs.Bits.{has_bit}
@@ -14,9 +14,6 @@ use Rattle.htl_walk.specs.Following.{ArePending}
 use Rattle.htl_walk.specs.Refinement.{HasWork}
 use Rattle.htl_walk.specs.Walk.{work, worst_cases}
 use Rattle.htl_walk.proofs.Following.{work_at}
-
-pub work_left : (row : ℕ) (left : List ℕ) (q : ℕ) → ArePending row left → has_bit row q ≡ true → 0 < get_or left q 0
-work_left row left q are e = ltb-true 0 (get_or left q 0) (sym (are q) ∙ e)
 
 pub none_left : (row : ℕ) (left : List ℕ) (q : ℕ) → ArePending row left → has_bit row q ≡ false → get_or left q 0 ≡ 0
 none_left row left q are e = let none = ltb-false 0 (get_or left q 0) (sym (are q) ∙ e) in omega (arith, none)
@@ -91,24 +88,6 @@ not_kept row p q left new none e = e ∙ ap (λ b. cond (eqb q p) b (has_bit row
 
 -- ---- after a dispatch, and at the start
 
-pub pending_after : (row new p now : ℕ) (left after : List ℕ) → ArePending row left → p < length left → after ≡ set left p now → now ≤ get_or left p 0
-    → ((q : ℕ) → has_bit new q ≡ cond (eqb q p) (has_bit row p && ltb 0 (get_or after p 0)) (has_bit row q)) → ArePending new after
-pending_after row new p now left after are room is less bits q = bits q ∙ by (eqb q p) refl
-  where
-    here : get_or after p 0 ≡ now
-    here = ap (λ (z : List ℕ). get_or z p 0) is ∙ get_or-set_same left p now 0 room
-
-    both_ways : (a b : ℕ) → b ≤ a → (ltb 0 a && ltb 0 b) ≡ ltb 0 b
-    both_ways a b h = grind (arith, nat_tests)
-
-    by : (b : Bool) → eqb q p ≡ b → cond b (has_bit row p && ltb 0 (get_or after p 0)) (has_bit row q) ≡ ltb 0 (get_or after q 0)
-    by true e =
-        let same : q ≡ p = grind (arith, nat_tests) in
-        ap (λ b. b && ltb 0 (get_or after p 0)) (are p) ∙ both_ways (get_or left p 0) (get_or after p 0) (omega (arith, here, less)) ∙ ap (λ i. ltb 0 (get_or after i 0)) (sym same)
-    by false e =
-        let apart : q ≢ p = grind (arith, nat_tests) in
-        are q ∙ ap (ltb 0) (sym (get_or-set_other left p q now 0 apart) ∙ sym (ap (λ (z : List ℕ). get_or z q 0) is))
-
 pub pending_first : (jobs : List Job) (row n : ℕ) (left : List ℕ) → All HasWork jobs → left ≡ work jobs (worst_cases jobs) → length left ≡ length jobs → n ≡ length jobs
     → ((q : ℕ) → has_bit row q ≡ ltb q n) → ArePending row left
 pending_first jobs row n left all is len count bits q = elim (order q n) [
@@ -117,9 +96,3 @@ pending_first jobs row n left all is len count bits q = elim (order q n) [
       bits q ∙ lt-ltb q n h ∙ sym (lt-ltb 0 (get_or left q 0) (omega (arith, some, ap (λ (z : List ℕ). get_or z q 0) is)))
   | inr h ↦ bits q ∙ le-ltb q n h ∙ sym (le-ltb 0 (get_or left q 0) (omega (arith, get_or_past left q 0 (omega (arith, len, count)))))
 ]
-
-pub one_pending_more : (row new p q : ℕ) → has_bit row q ≡ ltb q p → has_bit new q ≡ (has_bit row q || eqb q p) → has_bit new q ≡ ltb q (p + 1)
-one_pending_more row new p q e f = f ∙ ap (λ b. b || eqb q p) e ∙ by q p
-  where
-    by : (q p : ℕ) → (ltb q p || eqb q p) ≡ ltb q (p + 1)
-    by q p = grind (arith, nat_tests)
