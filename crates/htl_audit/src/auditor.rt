@@ -24,8 +24,9 @@ use htl_base::{Memory, Seq, Time, Value};
 use htl_console::Shown;
 use htl_edge::{Failed, Sink};
 use htl_load::Loaded;
-use htl_machine::{Machine, worst_cases};
+use htl_machine::Machine;
 use htl_model::Tables;
+use htl_model::lookup::worst_cases;
 use std::alloc::Global;
 use std::marker::Model;
 
@@ -42,7 +43,6 @@ pub struct AuditTotals {
 
 /// An accepted object and a job log. It follows events as a machine does: its values and modes are those of a machine that it holds,
 /// whatever the log says, and it judges the lines of the log against the jobs of the rounds.
-#[derive(Drop)]
 pub struct Auditor<'a> {
     loaded: &'a Loaded,
     machine: Machine<'a>,
@@ -52,6 +52,20 @@ pub struct Auditor<'a> {
     // No window ends before it of a job that may fall short and isn't noted yet.
     due: Time,
     ledger: Ledger,
+}
+
+impl Drop for Auditor<'_> {
+    fn drop(self) {
+        let Self {
+            loaded: _,
+            machine: _,
+            log: _,
+            takes: _,
+            feeders: _,
+            due: _,
+            ledger: _,
+        } = self;
+    }
 }
 
 impl<'a> Model for Auditor<'a> {

@@ -20,7 +20,6 @@ use std::alloc::{AllocError, Global};
 use std::marker::Model;
 
 /// The lines that were judged and the jobs of the rounds that began last, by invocation.
-#[derive(Drop)]
 pub struct Ledger {
     place: usize,
     fault: Option<LogFault>,
@@ -31,6 +30,22 @@ pub struct Ledger {
     sums: Seq<Time>,
     done: u64,
     short: bool,
+}
+
+impl Drop for Ledger {
+    fn drop(self) {
+        let Self {
+            place: _,
+            fault: _,
+            end: _,
+            stands: _,
+            starts: _,
+            lengths: _,
+            sums: _,
+            done: _,
+            short: _,
+        } = self;
+    }
 }
 
 impl Model for Ledger {

@@ -75,11 +75,20 @@ fn put_begin(
 }
 
 /// The code of a mode, and where its rounds begin and end.
-#[derive(Drop)]
 pub(crate) struct ModeCode {
     pub begin: u32,
     pub decide: u32,
     pub instrs: Vec<EInstr>,
+}
+
+impl Drop for ModeCode {
+    fn drop(self) {
+        let Self {
+            begin: _,
+            decide: _,
+            instrs: _,
+        } = self;
+    }
 }
 
 // Puts the start of a mode: it, and the modules of its refinement.

@@ -14,12 +14,22 @@ use std::marker::Model;
 
 /// A shelf in memory. It fails at the calls that it was told, which count from 1, and at names that it doesn't
 /// hold. One counter serves all names. It tells what it holds.
-#[derive(Drop)]
 pub struct Drawer {
     items: Vec<(String, Vec<u8>)>,
     fails: Vec<u64>,
     calls: u64,
     faults: u64,
+}
+
+impl Drop for Drawer {
+    fn drop(self) {
+        let Self {
+            items: _,
+            fails: _,
+            calls: _,
+            faults: _,
+        } = self;
+    }
 }
 
 impl Model for Drawer {

@@ -11,13 +11,24 @@ use std::marker::Model;
 
 /// A sink in memory. A write takes what fits of the piece; one of a nonempty piece fails where no room is left
 /// and at the calls that it was told, which count from 1. It tells what was written.
-#[derive(Drop)]
 pub struct Page {
     bytes: Vec<u8>,
     len: usize,
     fails: Vec<u64>,
     calls: u64,
     faults: u64,
+}
+
+impl Drop for Page {
+    fn drop(self) {
+        let Self {
+            bytes: _,
+            len: _,
+            fails: _,
+            calls: _,
+            faults: _,
+        } = self;
+    }
 }
 
 impl Model for Page {

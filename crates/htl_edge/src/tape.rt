@@ -11,7 +11,6 @@ use std::marker::Model;
 
 /// A source in memory. It gives at most `step` bytes at a call, and fails at the calls that it was told,
 /// where the buffer isn't empty; calls count from 1. It tells what is left.
-#[derive(Drop)]
 pub struct Tape {
     bytes: Vec<u8>,
     at: usize,
@@ -19,6 +18,19 @@ pub struct Tape {
     fails: Vec<u64>,
     calls: u64,
     faults: u64,
+}
+
+impl Drop for Tape {
+    fn drop(self) {
+        let Self {
+            bytes: _,
+            at: _,
+            step: _,
+            fails: _,
+            calls: _,
+            faults: _,
+        } = self;
+    }
 }
 
 impl Model for Tape {

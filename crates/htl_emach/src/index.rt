@@ -15,11 +15,20 @@ use std::alloc::{AllocError, Global};
 use std::marker::Model;
 
 /// The first function of each task, how many functions the tasks have, and the writer of each port in its mode.
-#[derive(Drop)]
 pub struct Index {
     firsts: Seq<u32>,
     count: u32,
     writers: Seq<Option<(u16, u16)>>,
+}
+
+impl Drop for Index {
+    fn drop(self) {
+        let Self {
+            firsts: _,
+            count: _,
+            writers: _,
+        } = self;
+    }
 }
 
 impl Model for Index {

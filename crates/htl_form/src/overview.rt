@@ -8,12 +8,21 @@ use crate::survey::Survey;
 use htl_model::{FormFault, Tables};
 
 /// What is counted once over the tables, so that each part is judged in a few steps.
-#[derive(Drop)]
 pub struct Overview {
     pub survey: Survey,
     pub abstract_ports: AbstractPorts,
     /// What the limits of frames answer.
     pub frame: Result<(), FormFault>,
+}
+
+impl Drop for Overview {
+    fn drop(self) {
+        let Self {
+            survey: _,
+            abstract_ports: _,
+            frame: _,
+        } = self;
+    }
 }
 
 impl Overview {

@@ -22,6 +22,5 @@ mod tellings;
 mod works;
 
 pub use machine::{Machine, Totals};
-pub use memory::worst_cases;
 pub use numbering::ListAt;
 pub use tally::Tally;

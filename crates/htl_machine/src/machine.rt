@@ -14,7 +14,7 @@ ghost use Rattle.htl_object.specs.Accepted.{IsAccepted};
 use crate::beginning::close_and_begin;
 use crate::close::close_instant;
 use crate::lengths::take;
-use crate::memory::{no_modes, seen_values, worst_cases};
+use crate::memory::{no_modes, seen_values};
 use crate::noted::Noted;
 use crate::open::open_instant;
 use crate::path::Path;
@@ -27,6 +27,7 @@ use htl_console::Shown;
 use htl_edge::{Failed, Sink};
 use htl_emach::{EMach, World};
 use htl_load::Loaded;
+use htl_model::lookup::worst_cases;
 use htl_smach::SMach;
 use std::alloc::{AllocError, Global};
 use std::marker::Model;
@@ -47,7 +48,6 @@ pub struct Totals {
 /// Both machines on one accepted object. It follows a list of events: what sensors show, how long jobs take, and how far the clock
 /// has come. Contracts see the object, what is shown, what the machine keeps of the calls, its world and S machine, its E machine, the
 /// list that stands and its numbers.
-#[derive(Drop)]
 pub struct Machine<'a> {
     loaded: &'a Loaded,
     show: Shown,
@@ -60,6 +60,22 @@ pub struct Machine<'a> {
     path: Path,
     // Nothing is due from the reading up to before this instant, in ticks; 0 where that isn't known.
     due: Time,
+}
+
+impl Drop for Machine<'_> {
+    fn drop(self) {
+        let Self {
+            loaded: _,
+            show: _,
+            spent: _,
+            reading: _,
+            sensors: _,
+            takes: _,
+            machines: _,
+            path: _,
+            due: _,
+        } = self;
+    }
 }
 
 impl<'a> Model for Machine<'a> {

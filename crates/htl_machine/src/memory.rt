@@ -1,11 +1,9 @@
 // What a machine keeps beside its two machines: all of it is taken at its beginning.
-ghost use Rattle.std.specs.Prelude.{◌≡◌, length, map, replicate, IfOk, None};
-ghost use Rattle.htl_model.specs.Tables.{task_worst as task_worst_of};
+ghost use Rattle.std.specs.Prelude.{◌≡◌, length, replicate, IfOk, None};
 
-use htl_base::{Time, Value};
+use htl_base::Value;
 use htl_emach::World;
 use htl_model::Tables;
-use htl_model::lookup::task_worst;
 use std::alloc::{AllocError, Global};
 
 // The values of the communicators.
@@ -24,18 +22,6 @@ pub(crate) fn seen_values(
         values.push(world.value(c as u16))?;
     }
     Ok(values)
-}
-
-/// The worst cases of the invocations, in ticks. Want of memory is the one refusal.
-pub fn worst_cases(alloc: Global, t: &Tables) -> Result<Vec<Time>, AllocError>
-    ensures { IfOk result (λ v. v.items ≡ map (λ x. task_worst_of t.now x.task) t.now.invs) }
-{
-    let invs = t.parts().invs.as_slice();
-    let mut worst = Vec::new(alloc);
-    for k in 0..invs.len() {
-        worst.push(task_worst(t, invs[k].task) as u64)?;
-    }
-    Ok(worst)
 }
 
 // No mode for each module: before instant 0 all are inactive.

@@ -14,12 +14,22 @@ use htl_model::{End, Tables};
 
 /// The values and the modes as they were before an instant, and which of them may be others since: the communicators that
 /// an instruction wrote or whose sensor was set, and the modules that entered or left a mode.
-#[derive(Drop)]
 pub struct Noted {
     values: Seq<Value>,
     modes: Seq<Option<u16>>,
     written: Marks,
     decided: Marks,
+}
+
+impl Drop for Noted {
+    fn drop(self) {
+        let Self {
+            values: _,
+            modes: _,
+            written: _,
+            decided: _,
+        } = self;
+    }
 }
 
 impl Noted {

@@ -30,7 +30,6 @@ use htl_walk::{Job, Schedule};
 use std::alloc::{AllocError, Global};
 
 /// Where a run stands in its frame.
-#[derive(Drop)]
 pub struct Path {
     numbering: Numbering,
     list: Option<ListAt>,
@@ -43,6 +42,20 @@ pub struct Path {
     first: bool,
     // Where no list stands.
     idle: Schedule,
+}
+
+impl Drop for Path {
+    fn drop(self) {
+        let Self {
+            numbering: _,
+            list: _,
+            jobs: _,
+            count: _,
+            modes: _,
+            first: _,
+            idle: _,
+        } = self;
+    }
 }
 
 impl Path {

@@ -9,19 +9,37 @@ use htl_smach::SMach;
 use htl_walk::{Job, Schedule};
 
 /// What the records of a list change: the S machine, the world and the counts.
-#[derive(Drop)]
 pub struct Works {
     pub desk: SMach,
     pub world: World,
     pub tally: Tally,
 }
 
+impl Drop for Works {
+    fn drop(self) {
+        let Self {
+            desk: _,
+            world: _,
+            tally: _,
+        } = self;
+    }
+}
+
 /// What an instant changes: the E machine, what records change, and what was noted before the instant.
-#[derive(Drop)]
 pub struct Machines {
     pub emach: EMach,
     pub works: Works,
     pub noted: Noted,
+}
+
+impl Drop for Machines {
+    fn drop(self) {
+        let Self {
+            emach: _,
+            works: _,
+            noted: _,
+        } = self;
+    }
 }
 
 /// What runs, and what of it is shown.

@@ -67,7 +67,6 @@ pub enum FInstr {
 }
 
 /// The code of a function in postfix order: operands from left to right, then the operation.
-#[derive(Drop)]
 pub struct Code {
     /// The types of the arguments, at most 256.
     pub args: Seq<Ty>,
@@ -75,6 +74,16 @@ pub struct Code {
     pub want: Ty,
     /// 1 to 512 instructions.
     pub instrs: Seq<FInstr>,
+}
+
+impl Drop for Code {
+    fn drop(self) {
+        let Self {
+            args: _,
+            want: _,
+            instrs: _,
+        } = self;
+    }
 }
 
 /// A function of tables.

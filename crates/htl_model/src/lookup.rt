@@ -1,5 +1,5 @@
 //! Look-ups by number, with 0 or false for what isn't there.
-ghost use Rattle.std.specs.Prelude.{◌≡◌, ◌≤◌, length, All, map, take, drop};
+ghost use Rattle.std.specs.Prelude.{◌≡◌, ◌≤◌, length, All, map, take, drop, IfOk};
 ghost use Rattle.htl_base.specs.declared.limits.TheConstants as limit;
 ghost use Rattle.htl_model.specs.FunctionTypes.{comm_type as comm_type_of};
 ghost use Rattle.htl_model.specs.Ranges.{parent_of as parent_of_module};
@@ -7,8 +7,9 @@ ghost use Rattle.htl_model.specs.SecondWriters.{parent_mode as parent_mode_of};
 ghost use Rattle.htl_model.specs.Tables.{tables_of, count_before, function_count as function_count_of, comm_period as comm_period_of, mode_module as mode_module_of, mode_period as mode_period_of, task_worst as task_worst_of, is_concrete as is_concrete_of};
 
 use crate::{Inv, Parts, Switch, Tables, Task};
-use htl_base::Ty;
 use htl_base::limits::MAX_ARGUMENTS;
+use htl_base::{Time, Ty};
+use std::alloc::{AllocError, Global};
 
 // The lists of the tables, without a word on their ranges.
 pub(crate) fn lists(t: &Tables) -> &Parts
@@ -114,6 +115,18 @@ pub fn task_worst(t: &Tables, task: u16) -> u32
     } else {
         0
     }
+}
+
+/// The worst cases of the tasks of all invocations, in ticks. Want of memory is the one refusal.
+pub fn worst_cases(alloc: Global, t: &Tables) -> Result<Vec<Time>, AllocError>
+    ensures { IfOk result (λ v. v.items ≡ map (λ x. task_worst_of t.now x.task) t.now.invs) }
+{
+    let invs = t.parts().invs.as_slice();
+    let mut worst = Vec::new(alloc);
+    for k in 0..invs.len() {
+        worst.push(task_worst(t, invs[k].task) as u64)?;
+    }
+    Ok(worst)
 }
 
 /// Whether an invocation is of a concrete task.

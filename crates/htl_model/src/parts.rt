@@ -44,7 +44,6 @@ pub struct Port {
 }
 
 /// A task of a module.
-#[derive(Drop)]
 pub struct Task {
     pub name: Name,
     pub module: u16,
@@ -58,6 +57,19 @@ pub struct Task {
     pub outputs: Seq<Ty>,
 }
 
+impl Drop for Task {
+    fn drop(self) {
+        let Self {
+            name: _,
+            module: _,
+            is_abstract: _,
+            worst: _,
+            inputs: _,
+            outputs: _,
+        } = self;
+    }
+}
+
 /// Where an input of an invocation comes from, or an output goes to.
 #[derive(Clone, Copy, PartialEq, Eq, Debug)]
 pub enum End {
@@ -68,7 +80,6 @@ pub enum End {
 }
 
 /// An invocation of a task in a mode.
-#[derive(Drop)]
 pub struct Inv {
     pub mode: u16,
     pub task: u16,
@@ -80,8 +91,19 @@ pub struct Inv {
     pub writes: Seq<End>,
 }
 
+impl Drop for Inv {
+    fn drop(self) {
+        let Self {
+            mode: _,
+            task: _,
+            parent: _,
+            reads: _,
+            writes: _,
+        } = self;
+    }
+}
+
 /// A switch of a mode, tried at the end of each round, in order.
-#[derive(Drop)]
 pub struct Switch {
     pub mode: u16,
     /// The mode in which the module goes on where the condition holds; one of the same module.
@@ -89,6 +111,16 @@ pub struct Switch {
     /// The distinct communicators of the condition in order of first occurrence, the arguments of its
     /// function; at most 256.
     pub reads: Seq<u16>,
+}
+
+impl Drop for Switch {
+    fn drop(self) {
+        let Self {
+            mode: _,
+            target: _,
+            reads: _,
+        } = self;
+    }
 }
 
 /// The flat lists.

@@ -9,10 +9,18 @@ pub struct Stay {
 }
 
 /// One instant: the value of each communicator, and where each module is; None where it is inactive.
-#[derive(Drop)]
 pub struct State {
     pub values: Seq<Value>,
     pub stays: Seq<Option<Stay>>,
+}
+
+impl Drop for State {
+    fn drop(self) {
+        let Self {
+            values: _,
+            stays: _,
+        } = self;
+    }
 }
 
 /// A write that is due: the place of an output of an invocation in the round that began at `start`.

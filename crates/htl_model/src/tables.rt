@@ -8,9 +8,14 @@ use std::marker::Model;
 
 /// The flat lists of a program within their ranges. Contracts see them as one plain record of lists, free
 /// of pointers.
-#[derive(Drop)]
 pub struct Tables {
     parts: Parts,
+}
+
+impl Drop for Tables {
+    fn drop(self) {
+        let Self { parts: _ } = self;
+    }
 }
 
 impl Model for Tables {
@@ -64,6 +69,7 @@ impl Tables {
         ensures value { self ≡ tables_of result }
         ensures ranges { AreInRange self }
     {
-        self.parts
+        let Self { parts } = self;
+        parts
     }
 }

@@ -17,7 +17,6 @@ use crate::places::places;
 use std::alloc::{AllocError, Global};
 
 /// The old numbers of the modules that are taken, and of all that they own, in the new order.
-#[derive(Drop)]
 pub(crate) struct OldNumbers {
     pub units: Vec<u16>,
     pub modes: Vec<u16>,
@@ -27,14 +26,38 @@ pub(crate) struct OldNumbers {
     pub switches: Vec<u16>,
 }
 
+impl Drop for OldNumbers {
+    fn drop(self) {
+        let Self {
+            units: _,
+            modes: _,
+            ports: _,
+            tasks: _,
+            invs: _,
+            switches: _,
+        } = self;
+    }
+}
+
 /// The new numbers by the old ones; of what isn't taken a number that no item has.
-#[derive(Drop)]
 pub(crate) struct NewNumbers {
     pub units: Vec<u16>,
     pub modes: Vec<u16>,
     pub ports: Vec<u16>,
     pub tasks: Vec<u16>,
     pub invs: Vec<u16>,
+}
+
+impl Drop for NewNumbers {
+    fn drop(self) {
+        let Self {
+            units: _,
+            modes: _,
+            ports: _,
+            tasks: _,
+            invs: _,
+        } = self;
+    }
 }
 
 // The modes of modules, by module.

@@ -14,10 +14,18 @@ use std::cmp::Ordering;
 use std::marker::Model;
 
 /// The sensors and the concrete invocations of tables, in the order of their names.
-#[derive(Drop)]
 pub struct Index {
     pub sensors: NameOrder,
     pub invocations: NameOrder,
+}
+
+impl Drop for Index {
+    fn drop(self) {
+        let Self {
+            sensors: _,
+            invocations: _,
+        } = self;
+    }
 }
 
 impl Index {

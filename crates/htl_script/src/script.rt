@@ -15,12 +15,21 @@ use htl_model::{Event, Tables};
 
 /// Reads a script event by event, over a buffer of 256 bytes, and finds names by halves in an index of its own. It takes no
 /// memory.
-#[derive(Drop)]
 pub struct Script {
     stream: Stream,
     // that of the tables, once it is ready
     index: Index,
     ready: bool,
+}
+
+impl Drop for Script {
+    fn drop(self) {
+        let Self {
+            stream: _,
+            index: _,
+            ready: _,
+        } = self;
+    }
 }
 
 impl Script {

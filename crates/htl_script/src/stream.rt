@@ -15,10 +15,18 @@ use htl_model::Event;
 use std::marker::Model;
 
 /// Reads a script event by event, over a buffer of 256 bytes. Contracts see where it is and what it has read ahead.
-#[derive(Drop)]
 pub struct Stream {
     reader: Reader,
     chunk: Chunk,
+}
+
+impl Drop for Stream {
+    fn drop(self) {
+        let Self {
+            reader: _,
+            chunk: _,
+        } = self;
+    }
 }
 
 impl Model for Stream {

@@ -17,7 +17,6 @@ pub struct Above {
 }
 
 /// How far the worst case of a task can be raised.
-#[derive(Drop)]
 pub struct SlackReport {
     /// The greatest worst case, in ticks, up to the period of the task's module, for which no path is overloaded.
     pub greatest: u32,
@@ -25,4 +24,14 @@ pub struct SlackReport {
     pub lists: Vec<Schedule>,
     /// What stands in the way of one tick more; None where the greatest is the period of the task's module.
     pub above: Option<Above>,
+}
+
+impl Drop for SlackReport {
+    fn drop(self) {
+        let Self {
+            greatest: _,
+            lists: _,
+            above: _,
+        } = self;
+    }
 }

@@ -15,12 +15,21 @@ use htl_model::lookup::task_worst;
 use std::alloc::Global;
 
 /// What the search found.
-#[derive(Drop)]
 pub struct Found {
     /// The tables with the greatest worst case.
     pub tables: Tables,
     pub greatest: u32,
     pub above: Option<Above>,
+}
+
+impl Drop for Found {
+    fn drop(self) {
+        let Self {
+            tables: _,
+            greatest: _,
+            above: _,
+        } = self;
+    }
 }
 
 // The first path of the tables that is overloaded.

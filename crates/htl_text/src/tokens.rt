@@ -15,10 +15,18 @@ use std::marker::Model;
 
 /// The tokens of a source, each with the place of its first byte, and the length of the source. A copy of the
 /// source is held, and twelve bytes for each token. No call takes memory.
-#[derive(Drop)]
 pub struct Tokens {
     source: Vec<u8>,
     entries: Vec<Entry>,
+}
+
+impl Drop for Tokens {
+    fn drop(self) {
+        let Self {
+            source: _,
+            entries: _,
+        } = self;
+    }
 }
 
 impl Model for Tokens {

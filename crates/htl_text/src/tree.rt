@@ -29,7 +29,6 @@ pub struct Tree {
 }
 
 /// `program NAME { COMMUNICATORS MODULES }`
-#[derive(Drop)]
 pub struct ProgramNode {
     /// The program's name.
     pub name: Id,
@@ -37,6 +36,16 @@ pub struct ProgramNode {
     pub comms: Seq<CommNode>,
     /// Its modules, in order.
     pub modules: Seq<ModuleNode>,
+}
+
+impl Drop for ProgramNode {
+    fn drop(self) {
+        let Self {
+            name: _,
+            comms: _,
+            modules: _,
+        } = self;
+    }
 }
 
 /// `communicator TYPE NAME period NUMBER init CONSTANT ;`, or the same with `sensor`
@@ -76,7 +85,6 @@ pub enum ConstNode {
 }
 
 /// `module NAME start NAME { TASKS MODES }`
-#[derive(Drop)]
 pub struct ModuleNode {
     /// The module's name.
     pub name: Id,
@@ -88,8 +96,18 @@ pub struct ModuleNode {
     pub modes: Seq<ModeNode>,
 }
 
+impl Drop for ModuleNode {
+    fn drop(self) {
+        let Self {
+            name: _,
+            start: _,
+            tasks: _,
+            modes: _,
+        } = self;
+    }
+}
+
 /// `task NAME input ( INPUTS ) output ( OUTPUTS ) worst NUMBER ;`, or the same with `abstract` before it
-#[derive(Drop)]
 pub struct TaskNode {
     /// The task's name.
     pub name: Id,
@@ -99,6 +117,17 @@ pub struct TaskNode {
     pub outputs: OutNodes,
     /// Its worst-case execution time, in ticks.
     pub worst: Num,
+}
+
+impl Drop for TaskNode {
+    fn drop(self) {
+        let Self {
+            name: _,
+            inputs: _,
+            outputs: _,
+            worst: _,
+        } = self;
+    }
 }
 
 /// `TYPE NAME`
@@ -126,7 +155,6 @@ pub enum OutNodes {
 }
 
 /// `TYPE NAME = EXPRESSION`
-#[derive(Drop)]
 pub struct OutNode {
     /// The output's type and name.
     pub param: ParamNode,
@@ -136,9 +164,18 @@ pub struct OutNode {
     pub value: Expression,
 }
 
+impl Drop for OutNode {
+    fn drop(self) {
+        let Self {
+            param: _,
+            first: _,
+            value: _,
+        } = self;
+    }
+}
+
 /// `mode NAME period NUMBER { PORTS INVOCATIONS SWITCHES }`, with `program NAME` before the brace where a
 /// program refines the mode
-#[derive(Drop)]
 pub struct ModeNode {
     /// The mode's name.
     pub name: Id,
@@ -154,9 +191,21 @@ pub struct ModeNode {
     pub switches: Seq<SwitchNode>,
 }
 
+impl Drop for ModeNode {
+    fn drop(self) {
+        let Self {
+            name: _,
+            period: _,
+            program: _,
+            ports: _,
+            invokes: _,
+            switches: _,
+        } = self;
+    }
+}
+
 /// `invoke NAME input ( ENDS ) output ( ENDS ) ;`, with `parent NAME` before the `;` where the invocation
 /// refines another
-#[derive(Drop)]
 pub struct InvokeNode {
     /// The name of the task.
     pub task: Id,
@@ -166,6 +215,17 @@ pub struct InvokeNode {
     pub writes: Seq<EndNode>,
     /// The abstract task whose invocation it refines.
     pub parent: Option<Id>,
+}
+
+impl Drop for InvokeNode {
+    fn drop(self) {
+        let Self {
+            task: _,
+            reads: _,
+            writes: _,
+            parent: _,
+        } = self;
+    }
 }
 
 /// Where an input of an invocation comes from, or an output goes.
@@ -186,7 +246,6 @@ pub enum EndNode {
 }
 
 /// `switch ( EXPRESSION , NAME ) ;`
-#[derive(Drop)]
 pub struct SwitchNode {
     /// The number of the condition's first token, brackets counted.
     pub first: u32,
@@ -194,4 +253,14 @@ pub struct SwitchNode {
     pub cond: Expression,
     /// The mode to which the module then switches.
     pub target: Id,
+}
+
+impl Drop for SwitchNode {
+    fn drop(self) {
+        let Self {
+            first: _,
+            cond: _,
+            target: _,
+        } = self;
+    }
 }

@@ -5,10 +5,18 @@ use crate::Outcome;
 use htl_model::Tables;
 
 /// An answer, and the tables that its line speaks of: where a form rule is broken, those that break it.
-#[derive(Drop)]
 pub struct Answer {
     pub outcome: Outcome,
     pub tables: Option<Tables>,
+}
+
+impl Drop for Answer {
+    fn drop(self) {
+        let Self {
+            outcome: _,
+            tables: _,
+        } = self;
+    }
 }
 
 impl Answer {

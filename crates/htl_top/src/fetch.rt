@@ -11,12 +11,20 @@ use htl_edge::{Shelf, ShelfFault};
 use std::alloc::Global;
 
 /// The bytes of two files.
-#[derive(Drop)]
 pub struct BothFiles {
     /// Those of an object.
     pub object: Vec<u8>,
     /// Those of a job log, or of another object.
     pub second: Vec<u8>,
+}
+
+impl Drop for BothFiles {
+    fn drop(self) {
+        let Self {
+            object: _,
+            second: _,
+        } = self;
+    }
 }
 
 // A file of at most 16,777,216 bytes, or the answer where it isn't had.

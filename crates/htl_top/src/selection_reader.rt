@@ -12,7 +12,6 @@ use htl_script::ScriptKind;
 use std::marker::Model;
 
 /// Where the reader is.
-#[derive(Drop)]
 pub struct SelectionReader {
     // The number of the line that is being read, from 1.
     number: u64,
@@ -22,6 +21,17 @@ pub struct SelectionReader {
     line: LineBuffer,
     // How many entries there are.
     done: usize,
+}
+
+impl Drop for SelectionReader {
+    fn drop(self) {
+        let Self {
+            number: _,
+            start: _,
+            line: _,
+            done: _,
+        } = self;
+    }
 }
 
 impl Model for SelectionReader {
