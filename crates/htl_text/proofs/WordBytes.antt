@@ -1,24 +1,14 @@
 -- Which bytes are of words, and how many stand first.
-use Rattle.std.proofs.Common.{arith, ◌≡◌, ◌<◌, ◌≤◌, ◌+◌, ◌-◌, ℕ, Bool, true, false, ◌&&◌, eqb, cond, List, length, take, drop, map, get_or, refl, sym, ap, ◌∙◌}
+use Rattle.std.proofs.Common.{arith, ◌≡◌, ◌<◌, ◌≤◌, ◌+◌, ◌-◌, ℕ, Bool, true, false, ◌&&◌, List, length, take, drop, map, get_or, refl, sym, ap, ◌∙◌}
 use Rattle.std.specs.List.{prefix_len, range_with_len}
 use Rattle.std.proofs.lemmas.List.Sums.{prefix_len-drop_yes}
 use Rattle.std.proofs.lemmas.List.{length-drop}
 use Rattle.std.proofs.Math.Seq.{take-length}
 use Rattle.std.proofs.lemmas.List.FromFn.{get_or-map-range_with_len}
-use Rattle.htl_base.specs.Names.{is_word_byte}
-use Rattle.htl_text.specs.Spans.{is_blank}
 
--- what each byte is: 1 a blank, 2 a byte of words, 0 another
-abbrev pub byte_kind : ℕ → ℕ
-byte_kind b = cond (is_blank b) 1 (cond (is_word_byte b) 2 0)
-
--- a table over all bytes has this kind for those that pass
-pub kind-bytes : (f : ℕ → ℕ) (kinds : List ℕ) (kind : ℕ) (p : ℕ → Bool) → kinds ≡ map f (range_with_len 0 256) → map (λ b. eqb (f b) kind) (range_with_len 0 256) ≡ map p (range_with_len 0 256)
-    → (b : ℕ) → b < 256 → eqb (get_or kinds b 0) kind ≡ p b
-kind-bytes f kinds kind p e same b below =
-    ap (λ (t : List ℕ). eqb (get_or t b 0) kind) e ∙ ap (λ k. eqb k kind) (get_or-map-range_with_len f 0 256 b b 0 below (omega arith))
-    ∙ sym (get_or-map-range_with_len (λ b. eqb (f b) kind) 0 256 b b false below (omega arith))
-    ∙ ap (λ (t : List Bool). get_or t b false) same ∙ get_or-map-range_with_len p 0 256 b b false below (omega arith)
+-- a table of what passes, over all bytes
+pub in_table : (p : ℕ → Bool) (marks : List Bool) → marks ≡ map p (range_with_len 0 256) → (b : ℕ) → b < 256 → get_or marks b false ≡ p b
+in_table p marks e b below = ap (λ (t : List Bool). get_or t b false) e ∙ get_or-map-range_with_len p 0 256 b b false below (omega arith)
 
 -- four elements that pass stand before those of the rest
 pub record IsBehindFour (p : ℕ → Bool) (xs rest : List ℕ) : Type 0 where
