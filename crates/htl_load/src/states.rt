@@ -62,9 +62,14 @@ impl Model for SpelledObject {
 }
 
 /// An accepted object: it is ready to run, and under the declared worst cases every path keeps its deadlines.
-#[derive(Drop)]
 pub struct Loaded {
     object: Object,
+}
+
+impl Drop for Loaded {
+    fn drop(self) {
+        let Self { object: _ } = self;
+    }
 }
 
 impl Model for Loaded {
