@@ -2,8 +2,10 @@
 use Rattle.std.specs.Prelude.{ℕ, List, [], ◌∷◌, length, map, get_or}
 use Rattle.htl_ecode.specs.declared.ecode.ECode.{ECode}
 use Rattle.htl_model.specs.Lists.{list_to}
-use Rattle.htl_model.specs.Tables.{Tables, Fun, Formula, Compiled}
+use Rattle.htl_model.specs.Tables.{Tables, Fun, Formula, Compiled, tables_of}
 use Rattle.htl_model.specs.declared.function.Code.{Code}
+use Rattle.htl_model.specs.declared.function.Function.{Function}
+use Rattle.htl_model.specs.declared.parts.Parts.{Parts}
 use Rattle.htl_object.specs.declared.lists.Anchors.{Anchors}
 use Rattle.htl_object.specs.declared.lists.Counts.{Counts}
 use Rattle.htl_object.specs.declared.lists.Lists.{Lists}
@@ -22,6 +24,30 @@ tables_of_lists l =
       invs = l.invs;
       switches = l.switches;
       functions = map (λ c. Compiled c) l.functions;
+    }
+
+-- the lists with these functions in the place of the code
+abbrev pub parts_with : Lists → List Function → Parts
+parts_with l functions =
+    record {
+      comms = l.comms;
+      modes = l.modes;
+      modules = l.modules;
+      ports = l.ports;
+      tasks = l.tasks;
+      invs = l.invs;
+      switches = l.switches;
+      functions = functions;
+    }
+
+-- the object with these functions and addresses
+abbrev pub object_with : Lists → List Function → List ℕ → List ℕ → List ℕ → Object
+object_with l functions enter begin decide =
+    record {
+      tables = tables_of (parts_with l functions);
+      ecode = record { enter = enter; begin = begin; decide = decide; instrs = l.instrs };
+      schedules = l.schedules;
+      platform = l.platform;
     }
 
 -- tables with code, three lists of addresses for one by mode, schedules, and the platform

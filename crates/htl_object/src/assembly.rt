@@ -9,8 +9,9 @@ use crate::lists::{Anchors, Lists};
 use crate::object::Object;
 use htl_base::Seq;
 use htl_ecode::ECode;
-use htl_model::{Code, Function, Parts, Tables};
+use htl_model::{Code, Function};
 use std::alloc::{AllocError, Global};
+use std::mem;
 
 fn functions(alloc: Global, codes: Vec<Code>) -> Result<Vec<Function>, AllocError>
     ensures { IfOk result (λ v. map fun_of v.items ≡ map (λ c. Compiled c) codes.items) }
@@ -52,34 +53,30 @@ fn decide(alloc: Global, anchors: &[Anchors]) -> Result<Vec<u32>, AllocError>
     Ok(found)
 }
 
+// The addresses of all modes, as E code whose instructions are still to come.
+fn addresses(alloc: Global, anchors: &[Anchors]) -> Result<ECode, AllocError>
+    ensures enter { IfOk result (λ e. e.enter ≡ map (λ (a : AnchorsOf). a.enter) anchors.now) }
+    ensures begin { IfOk result (λ e. e.begin ≡ map (λ (a : AnchorsOf). a.begin) anchors.now) }
+    ensures decide { IfOk result (λ e. e.decide ≡ map (λ (a : AnchorsOf). a.decide) anchors.now) }
+{
+    let enter = enter(alloc, anchors)?;
+    let begin = begin(alloc, anchors)?;
+    let decide = decide(alloc, anchors)?;
+    Ok(ECode {
+        enter: Seq::new(enter),
+        begin: Seq::new(begin),
+        decide: Seq::new(decide),
+        instrs: Seq::new(Vec::new(alloc)),
+    })
+}
+
 /// The object of the lists of a file, which are in range but for the schedules.
-pub fn assemble(alloc: Global, l: Lists) -> Result<Object, AllocError>
+pub fn assemble(alloc: Global, mut l: Lists) -> Result<Object, AllocError>
     requires { IsFrontInRange l }
     ensures { IfOk result (λ o. o ≡ object_of_lists l) }
 {
-    let enter = enter(alloc, l.anchors.as_slice())?;
-    let begin = begin(alloc, l.anchors.as_slice())?;
-    let decide = decide(alloc, l.anchors.as_slice())?;
-    let functions = functions(alloc, l.functions.into_vec())?;
-    let tables = Tables::new(Parts {
-        comms: l.comms,
-        modes: l.modes,
-        modules: l.modules,
-        ports: l.ports,
-        tasks: l.tasks,
-        invs: l.invs,
-        switches: l.switches,
-        functions: Seq::new(functions),
-    });
-    Ok(Object {
-        tables,
-        ecode: ECode {
-            enter: Seq::new(enter),
-            begin: Seq::new(begin),
-            decide: Seq::new(decide),
-            instrs: l.instrs,
-        },
-        schedules: l.schedules,
-        platform: l.platform,
-    })
+    let ecode = addresses(alloc, l.anchors.as_slice())?;
+    let codes = mem::replace(&mut l.functions, Seq::new(Vec::new(alloc)));
+    let functions = functions(alloc, codes.into_vec())?;
+    Ok(l.into_object(functions, ecode))
 }

@@ -1,7 +1,13 @@
 // What a file holds: plain lists, before they are tables.
+ghost use Rattle.std.specs.Prelude.{◌≡◌};
+ghost use Rattle.htl_model.specs.Ranges.{AreInRange};
+ghost use Rattle.htl_model.specs.Tables.{tables_of};
+ghost use Rattle.htl_object.specs.Lists.{object_with, parts_with};
+
+use crate::object::Object;
 use htl_base::{Name, Seq};
-use htl_ecode::EInstr;
-use htl_model::{Code, Comm, Inv, Mode, Module, Port, Switch, Task};
+use htl_ecode::{ECode, EInstr};
+use htl_model::{Code, Comm, Function, Inv, Mode, Module, Parts, Port, Switch, Tables, Task};
 use htl_walk::Schedule;
 
 /// The addresses of a mode in E code.
@@ -25,7 +31,6 @@ pub struct Counts {
 }
 
 /// The lists of a file.
-#[derive(Drop)]
 pub struct Lists {
     pub comms: Seq<Comm>,
     pub modes: Seq<Mode>,
@@ -40,4 +45,63 @@ pub struct Lists {
     pub instrs: Seq<EInstr>,
     pub schedules: Seq<Schedule>,
     pub platform: Option<Name>,
+}
+
+impl Drop for Lists {
+    fn drop(self) {
+        let Self {
+            comms: _,
+            modes: _,
+            modules: _,
+            ports: _,
+            tasks: _,
+            invs: _,
+            switches: _,
+            functions: _,
+            anchors: _,
+            instrs: _,
+            schedules: _,
+            platform: _,
+        } = self;
+    }
+}
+
+impl Lists {
+    /// The object with these functions, and with the addresses of this E code.
+    pub fn into_object(self, functions: Vec<Function>, mut ecode: ECode) -> Object
+        requires { AreInRange (tables_of (parts_with self functions.items)) }
+        ensures { result ≡ object_with self functions.items ecode.enter ecode.begin ecode.decide }
+    {
+        let Self {
+            comms,
+            modes,
+            modules,
+            ports,
+            tasks,
+            invs,
+            switches,
+            functions: _,
+            anchors: _,
+            instrs,
+            schedules,
+            platform,
+        } = self;
+        ecode.instrs = instrs;
+        let tables = Tables::new(Parts {
+            comms,
+            modes,
+            modules,
+            ports,
+            tasks,
+            invs,
+            switches,
+            functions: Seq::new(functions),
+        });
+        Object {
+            tables,
+            ecode,
+            schedules,
+            platform,
+        }
+    }
 }
