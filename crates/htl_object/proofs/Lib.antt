@@ -12,6 +12,7 @@ pub mod VersionLaws
 pub mod FileLaws
 pub mod Sizes
 pub mod Appends
+pub mod Rounds
 pub mod Spelled
 pub mod Each
 pub mod ListRanges

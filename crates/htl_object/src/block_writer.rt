@@ -79,6 +79,5 @@ pub fn put_blocks(
 {
     let mut blocks: IndexSet<Vec<u8>> = IndexSet::new(alloc);
     put_numbers(alloc, out, schedules, &mut blocks)?;
-    put_spellings(out, blocks.as_slice())?;
-    Ok(())
+    put_spellings(out, blocks.as_slice())
 }
