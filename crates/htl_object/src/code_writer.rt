@@ -1,10 +1,40 @@
 // Functions, E code and S code at the end of bytes.
+ghost use Rattle.std.specs.Prelude.{◌≡◌, get_or};
+ghost use Rattle.htl_object.specs.Instructions.{e_bytes, f_bytes};
+
 use crate::lists::Anchors;
 use crate::writer::{Spelled, put_list, put_long_list, put_value, put16, put32};
 use htl_ecode::EInstr;
 use htl_model::{Code, FInstr, Function};
 use htl_walk::{SInstr, Schedule};
 use std::alloc::AllocError;
+
+// The tag of an instruction of a function: the first byte of its spelling.
+fn f_tag(instr: &FInstr) -> u8
+    ensures { result ≡ get_or (f_bytes instr.now) 0 0 }
+{
+    match instr {
+        FInstr::Int { .. } => 1,
+        FInstr::Bool { .. } => 2,
+        FInstr::Arg { .. } => 3,
+        FInstr::Neg => 4,
+        FInstr::Not => 5,
+        FInstr::Add => 6,
+        FInstr::Sub => 7,
+        FInstr::Mul => 8,
+        FInstr::Div => 9,
+        FInstr::Rem => 10,
+        FInstr::Lt => 11,
+        FInstr::Le => 12,
+        FInstr::Gt => 13,
+        FInstr::Ge => 14,
+        FInstr::Eq => 15,
+        FInstr::Ne => 16,
+        FInstr::And => 17,
+        FInstr::Or => 18,
+        FInstr::Choose => 19,
+    }
+}
 
 impl Spelled for FInstr {
     ghost use Rattle.htl_object.specs.Instructions.{f_bytes};
@@ -15,37 +45,13 @@ impl Spelled for FInstr {
     ghost keeps = { IsFInstr };
 
     fn put(&self, out: &mut Vec<u8>) -> Result<(), AllocError> {
+        out.push(f_tag(self))?;
         match self {
-            FInstr::Int { x } => {
-                out.push(1)?;
-                put_value(out, x)?;
-            }
-            FInstr::Bool { x } => {
-                out.push(2)?;
-                out.push(*x)?;
-            }
-            FInstr::Arg { k } => {
-                out.push(3)?;
-                put16(out, *k)?;
-            }
-            FInstr::Neg => out.push(4)?,
-            FInstr::Not => out.push(5)?,
-            FInstr::Add => out.push(6)?,
-            FInstr::Sub => out.push(7)?,
-            FInstr::Mul => out.push(8)?,
-            FInstr::Div => out.push(9)?,
-            FInstr::Rem => out.push(10)?,
-            FInstr::Lt => out.push(11)?,
-            FInstr::Le => out.push(12)?,
-            FInstr::Gt => out.push(13)?,
-            FInstr::Ge => out.push(14)?,
-            FInstr::Eq => out.push(15)?,
-            FInstr::Ne => out.push(16)?,
-            FInstr::And => out.push(17)?,
-            FInstr::Or => out.push(18)?,
-            FInstr::Choose => out.push(19)?,
+            FInstr::Int { x } => put_value(out, x),
+            FInstr::Bool { x } => Ok(out.push(*x)?),
+            FInstr::Arg { k } => put16(out, *k),
+            _ => Ok(()),
         }
-        Ok(())
     }
 }
 
@@ -97,6 +103,25 @@ impl Spelled for Anchors {
     }
 }
 
+// The tag of an instruction of E code.
+fn e_tag(instr: &EInstr) -> u8
+    ensures { result ≡ get_or (e_bytes instr.now) 0 0 }
+{
+    match instr {
+        EInstr::CallWrite { .. } => 1,
+        EInstr::CallRead { .. } => 2,
+        EInstr::Release { .. } => 3,
+        EInstr::Future { .. } => 4,
+        EInstr::JumpIf { .. } => 5,
+        EInstr::Jump { .. } => 6,
+        EInstr::IfMode { .. } => 7,
+        EInstr::Enter { .. } => 8,
+        EInstr::Leave => 9,
+        EInstr::Fork { .. } => 10,
+        EInstr::Return => 11,
+    }
+}
+
 impl Spelled for EInstr {
     ghost use Rattle.htl_object.specs.Instructions.{e_bytes};
     ghost use Rattle.htl_object.specs.Objects.{HasWidths};
@@ -106,61 +131,38 @@ impl Spelled for EInstr {
     ghost keeps = { HasWidths };
 
     fn put(&self, out: &mut Vec<u8>) -> Result<(), AllocError> {
+        out.push(e_tag(self))?;
         match *self {
             EInstr::CallWrite { inv, output } => {
-                out.push(1)?;
                 put16(out, inv)?;
                 put16(out, output)
             }
             EInstr::CallRead { inv, input } => {
-                out.push(2)?;
                 put16(out, inv)?;
                 put16(out, input)
             }
-            EInstr::Release { inv } => {
-                out.push(3)?;
-                put16(out, inv)
-            }
+            EInstr::Release { inv } => put16(out, inv),
             EInstr::Future {
                 delay,
                 phase,
                 target,
             } => {
-                out.push(4)?;
                 put32(out, delay)?;
                 out.push(phase)?;
                 put32(out, target)
             }
             EInstr::JumpIf { switch, target } => {
-                out.push(5)?;
                 put16(out, switch)?;
                 put32(out, target)
             }
-            EInstr::Jump { target } => {
-                out.push(6)?;
-                put32(out, target)
-            }
+            EInstr::Jump { target } => put32(out, target),
             EInstr::IfMode { mode, target } => {
-                out.push(7)?;
                 put16(out, mode)?;
                 put32(out, target)
             }
-            EInstr::Enter { mode } => {
-                out.push(8)?;
-                put16(out, mode)
-            }
-            EInstr::Leave => {
-                out.push(9)?;
-                Ok(())
-            }
-            EInstr::Fork { module } => {
-                out.push(10)?;
-                put16(out, module)
-            }
-            EInstr::Return => {
-                out.push(11)?;
-                Ok(())
-            }
+            EInstr::Enter { mode } => put16(out, mode),
+            EInstr::Fork { module } => put16(out, module),
+            EInstr::Leave | EInstr::Return => Ok(()),
         }
     }
 }
