@@ -133,15 +133,10 @@ impl Spelled for EInstr {
     fn put(&self, out: &mut Vec<u8>) -> Result<(), AllocError> {
         out.push(e_tag(self))?;
         match *self {
-            EInstr::CallWrite { inv, output } => {
+            EInstr::CallWrite { inv, output: port } | EInstr::CallRead { inv, input: port } => {
                 put16(out, inv)?;
-                put16(out, output)
+                put16(out, port)
             }
-            EInstr::CallRead { inv, input } => {
-                put16(out, inv)?;
-                put16(out, input)
-            }
-            EInstr::Release { inv } => put16(out, inv),
             EInstr::Future {
                 delay,
                 phase,
@@ -151,17 +146,14 @@ impl Spelled for EInstr {
                 out.push(phase)?;
                 put32(out, target)
             }
-            EInstr::JumpIf { switch, target } => {
-                put16(out, switch)?;
+            EInstr::JumpIf { switch: n, target } | EInstr::IfMode { mode: n, target } => {
+                put16(out, n)?;
                 put32(out, target)
             }
             EInstr::Jump { target } => put32(out, target),
-            EInstr::IfMode { mode, target } => {
-                put16(out, mode)?;
-                put32(out, target)
+            EInstr::Release { inv: n } | EInstr::Enter { mode: n } | EInstr::Fork { module: n } => {
+                put16(out, n)
             }
-            EInstr::Enter { mode } => put16(out, mode),
-            EInstr::Fork { module } => put16(out, module),
             EInstr::Leave | EInstr::Return => Ok(()),
         }
     }
