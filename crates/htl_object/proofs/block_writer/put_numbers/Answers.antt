@@ -1,8 +1,6 @@
 use Rattle.std.proofs.Common.{map, All}
 use Rattle.std.specs.Int.{w16, to_be_bytes}
-use Rattle.std.specs.List.{flat_map}
 use Rattle.std.specs.Str.{bytes_eq}
-use Rattle.htl_object.specs.Blocks.{blocks_from, numbers_from}
 use Rattle.htl_object.specs.Items.{IsSInstr}
 use Rattle.htl_object.specs.Schedules.{schedule_bytes}
 use Rattle.htl_object.proofs.Rounds.{kept, numbered, blocked}
