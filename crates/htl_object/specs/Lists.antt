@@ -2,10 +2,8 @@
 use Rattle.std.specs.Prelude.{ℕ, List, [], ◌∷◌, length, map, get_or}
 use Rattle.htl_ecode.specs.declared.ecode.ECode.{ECode}
 use Rattle.htl_model.specs.Lists.{list_to}
-use Rattle.htl_model.specs.Tables.{Tables, Fun, Formula, Compiled, tables_of}
+use Rattle.htl_model.specs.Tables.{Tables, Fun, Formula, Compiled}
 use Rattle.htl_model.specs.declared.function.Code.{Code}
-use Rattle.htl_model.specs.declared.function.Function.{Function}
-use Rattle.htl_model.specs.declared.parts.Parts.{Parts}
 use Rattle.htl_object.specs.declared.lists.Anchors.{Anchors}
 use Rattle.htl_object.specs.declared.lists.Counts.{Counts}
 use Rattle.htl_object.specs.declared.lists.Lists.{Lists}
@@ -13,22 +11,9 @@ use Rattle.htl_object.specs.declared.object.Object.{Object}
 
 -- ---- the object of lists
 
-abbrev pub tables_of_lists : Lists → Tables
-tables_of_lists l =
-    record {
-      comms = l.comms;
-      modes = l.modes;
-      modules = l.modules;
-      ports = l.ports;
-      tasks = l.tasks;
-      invs = l.invs;
-      switches = l.switches;
-      functions = map (λ c. Compiled c) l.functions;
-    }
-
--- the lists with these functions in the place of the code
-abbrev pub parts_with : Lists → List Function → Parts
-parts_with l functions =
+-- the tables of lists, with these functions
+abbrev pub tables_from : Lists → List Fun → Tables
+tables_from l functions =
     record {
       comms = l.comms;
       modes = l.modes;
@@ -40,11 +25,15 @@ parts_with l functions =
       functions = functions;
     }
 
--- the object with these functions and addresses
-abbrev pub object_with : Lists → List Function → List ℕ → List ℕ → List ℕ → Object
-object_with l functions enter begin decide =
+-- whose functions are the code of the lists
+abbrev pub tables_of_lists : Lists → Tables
+tables_of_lists l = tables_from l (map (λ c. Compiled c) l.functions)
+
+-- the object of lists, with these functions and these addresses by mode
+abbrev pub object_from : Lists → List Fun → List ℕ → List ℕ → List ℕ → Object
+object_from l functions enter begin decide =
     record {
-      tables = tables_of (parts_with l functions);
+      tables = tables_from l functions;
       ecode = record { enter = enter; begin = begin; decide = decide; instrs = l.instrs };
       schedules = l.schedules;
       platform = l.platform;
@@ -53,17 +42,8 @@ object_with l functions enter begin decide =
 -- tables with code, three lists of addresses for one by mode, schedules, and the platform
 abbrev pub object_of_lists : Lists → Object
 object_of_lists l =
-    record {
-      tables = tables_of_lists l;
-      ecode = record {
-        enter = map (λ (a : Anchors). a.enter) l.anchors;
-        begin = map (λ (a : Anchors). a.begin) l.anchors;
-        decide = map (λ (a : Anchors). a.decide) l.anchors;
-        instrs = l.instrs;
-      };
-      schedules = l.schedules;
-      platform = l.platform;
-    }
+    object_from l (map (λ c. Compiled c) l.functions) (map (λ (a : Anchors). a.enter) l.anchors) (map (λ (a : Anchors). a.begin) l.anchors)
+    (map (λ (a : Anchors). a.decide) l.anchors)
 
 -- ---- the lists of an object
 

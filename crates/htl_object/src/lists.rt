@@ -1,8 +1,8 @@
 // What a file holds: plain lists, before they are tables.
-ghost use Rattle.std.specs.Prelude.{◌≡◌};
+ghost use Rattle.std.specs.Prelude.{◌≡◌, map};
 ghost use Rattle.htl_model.specs.Ranges.{AreInRange};
-ghost use Rattle.htl_model.specs.Tables.{tables_of};
-ghost use Rattle.htl_object.specs.Lists.{object_with, parts_with};
+ghost use Rattle.htl_model.specs.Tables.{fun_of};
+ghost use Rattle.htl_object.specs.Lists.{object_from, tables_from};
 
 use crate::object::Object;
 use htl_base::{Name, Seq};
@@ -69,8 +69,8 @@ impl Drop for Lists {
 impl Lists {
     /// The object with these functions, and with the addresses of this E code.
     pub fn into_object(self, functions: Vec<Function>, mut ecode: ECode) -> Object
-        requires { AreInRange (tables_of (parts_with self functions.items)) }
-        ensures { result ≡ object_with self functions.items ecode.enter ecode.begin ecode.decide }
+        requires { AreInRange (tables_from self (map fun_of functions.items)) }
+        ensures { result ≡ object_from self (map fun_of functions.items) ecode.enter ecode.begin ecode.decide }
     {
         let Self {
             comms,

@@ -1,6 +1,6 @@
 use Rattle.std.proofs.Common.{map, ◌∙◌, ap, subst}
 use Rattle.htl_model.specs.Ranges.{AreInRange}
-use Rattle.htl_model.specs.Tables.{Tables, Compiled}
+use Rattle.htl_model.specs.Tables.{Tables, Compiled, fun_of}
 use Rattle.htl_model.specs.declared.function.Code.{Code}
 use Rattle.htl_object.specs.declared.lists.Anchors.{Anchors}
 use Rattle.htl_object.proofs.Assembled.{assembled, whole}
@@ -10,13 +10,13 @@ use Rattle.htl_object.proofs.assembly.assemble.Goals as goal
 pub into_object-requires : goal.into_object-requires
 into_object-requires c =
     subst (λ (t : Tables). AreInRange t)
-    (assembled c.args.l c.in_ok-functions.functions.items (c.in_ok-functions.ensures ∙ ap (map (λ (x : Code). Compiled x)) (c.into_vec.ensures ∙ c.replace-codes.ensures.value)))
+    (assembled c.args.l (map fun_of c.in_ok-functions.functions.items) (c.in_ok-functions.ensures ∙ ap (map (λ (x : Code). Compiled x)) (c.into_vec.ensures ∙ c.replace-codes.ensures.value)))
     (lists_in_range c.args.l c.requires)
 
 pub returns : goal.returns
 returns c =
     c.into_object.ensures
-    ∙ whole c.args.l c.in_ok-functions.functions.items c.in_ok-ecode.ecode.enter c.in_ok-ecode.ecode.begin c.in_ok-ecode.ecode.decide
+    ∙ whole c.args.l (map fun_of c.in_ok-functions.functions.items) c.in_ok-ecode.ecode.enter c.in_ok-ecode.ecode.begin c.in_ok-ecode.ecode.decide
     (c.in_ok-functions.ensures ∙ ap (map (λ (x : Code). Compiled x)) (c.into_vec.ensures ∙ c.replace-codes.ensures.value))
     (c.in_ok-ecode.ensures.enter ∙ ap (map (λ (a : Anchors). a.enter)) c.as_slice.ensures)
     (c.in_ok-ecode.ensures.begin ∙ ap (map (λ (a : Anchors). a.begin)) c.as_slice.ensures)
