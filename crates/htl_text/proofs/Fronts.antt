@@ -11,7 +11,7 @@ use Rattle.std.proofs.lemmas.Bool.Decides.{nat_tests}
 use Rattle.htl_base.specs.Names.{is_letter, is_word_byte, is_identifier, is_reserved, is_name}
 use Rattle.htl_text.specs.Kinds.{kind_of}
 use Rattle.htl_text.specs.Texts.{look_up, or_else, words, word_of, signs, sign_of, is_numeral, number_of, token_of}
-use Rattle.htl_text.specs.Scanning.{name_len, number_len, sign_len, token_len, IsFront}
+use Rattle.htl_text.specs.Scanning.{name_len, number_len, sign_len, token_len, IsFront, IsFrontSign}
 use Rattle.htl_text.proofs.Cutting.{look_up-none}
 use Rattle.htl_text.proofs.Lengths.{name-taken, number-taken}
 use Rattle.htl_text.proofs.Numbers.{number_of-short}
@@ -60,6 +60,20 @@ sign_len-none text two one =
     ap (λ (o : Option ASign). cond (is_some o) (length (take 2 text)) (cond (is_some (sign_of (take 1 text))) (length (take 1 text)) 0)) two
     ∙ ap (λ (o : Option ASign). cond (is_some o) (length (take 1 text)) 0) one
 
+first-taken : (text : List ℕ) (n : ℕ) → 0 < n → slice_index (take n text) 0 ≡ slice_index text 0
+first-taken text zero some = absurd (omega (arith, some))
+first-taken [] (suc n) some = refl
+first-taken (b ∷ bs) (suc n) some = refl
+
+no-numeral : (w : List ℕ) → is_ascii_digit (slice_index w 0) ≡ false → is_numeral w ≡ false
+no-numeral [] e = refl
+no-numeral (c ∷ cs) e = both (nat_lt 0 (length (c ∷ cs))) (is_ascii_digit c) e
+  where
+    both : (x y : Bool) → y ≡ false → (x && (y && list_all is_ascii_digit cs)) ≡ false
+    both true false e = refl
+    both false y e = refl
+    both true true e = absurd cc
+
 -- a text that begins with a letter begins with a name or a reserved word
 pub record IsWordFront (text : List ℕ) (len : ℕ) : Type 0 where
   pub some : 0 < len
@@ -78,7 +92,7 @@ word-front (b ∷ bs) letter =
     let number : number_len text ≡ 0 = ap (λ (c : Bool). cond c (1 + prefix_len is_ascii_digit bs) 0) (letter-no-digit b letter) in
     let sign : sign_len text ≡ 0 = sign_len-none text (look_up-unlike begins_with_letter (take 2 text) letter signs refl) (look_up-unlike begins_with_letter (take 1 text) letter signs refl) in
     let some : 0 < prefix_len is_word_byte text = omega (arith, one) in
-    let word = take-some b bs (prefix_len is_word_byte text) some in
+    let word = first-taken text (prefix_len is_word_byte text) some in
     record {
       some = some;
       longest = omega (arith, name, number, sign);
@@ -87,19 +101,6 @@ word-front (b ∷ bs) letter =
       identifier = subst (λ (n : ℕ). is_identifier (take n text) ≡ true) name (name-taken text (omega (arith, name, some)));
       long = length-prefix_len is_word_byte text;
     }
-  where
-    take-some : (b : ℕ) (bs : List ℕ) (n : ℕ) → 0 < n → slice_index (take n (b ∷ bs)) 0 ≡ b
-    take-some b bs zero some = absurd (omega (arith, some))
-    take-some b bs (suc n) some = refl
-
-    no-numeral : (w : List ℕ) → is_ascii_digit (slice_index w 0) ≡ false → is_numeral w ≡ false
-    no-numeral [] e = refl
-    no-numeral (c ∷ cs) e = both (nat_lt 0 (length (c ∷ cs))) (is_ascii_digit c) e
-      where
-        both : (x y : Bool) → y ≡ false → (x && (y && list_all is_ascii_digit cs)) ≡ false
-        both true false e = refl
-        both false y e = refl
-        both true true e = absurd cc
 
 -- what follows the test for a number in `token_of`
 abbrev other : Option AWord → List ℕ → Option Token
@@ -232,3 +233,31 @@ module _ (text w : List ℕ) (len : ℕ) (digit : is_ascii_digit (slice_index te
       let f = number-front text digit in
       let same : w ≡ take (token_len text) text = at-digits ∙ ap (λ (k : ℕ). take k text) (sym f.longest) in
       (omega (arith, f.some, f.longest), subst (λ (t : List ℕ). is_numeral t ≡ true) same front-digits, subst (λ (t : List ℕ). token_of t ≡ None) same (number-none w front-digits e))
+
+-- a text that begins with no letter and no digit begins with a sign or with no token
+module _ (text : List ℕ) (letter : is_letter (slice_index text 0) ≡ false) (digit : is_ascii_digit (slice_index text 0) ≡ false) where
+  abbrev begins_with_no_letter : List ℕ → Bool
+  begins_with_no_letter t = not (begins_with_letter t)
+
+  longest-sign : token_len text ≡ sign_len text
+  longest-sign =
+      let name : name_len text ≡ 0 = ap (λ (c : Bool). cond c (prefix_len is_word_byte text) 0) letter in
+      let number : number_len text ≡ 0 = no-digits text digit in
+      omega (arith, name, number)
+    where
+      no-digits : (bs : List ℕ) → is_ascii_digit (slice_index bs 0) ≡ false → prefix_len is_ascii_digit bs ≡ 0
+      no-digits [] e = refl
+      no-digits (b ∷ bs) e = ap (λ (c : Bool). cond c (1 + prefix_len is_ascii_digit bs) 0) e
+
+  pub front-sign : (s : ASign) (len : ℕ) → IsFrontSign text (Some (s, len)) → IsFront text (front.Token (kind.Sign s) len)
+  front-sign s len found =
+      let w = take len text in
+      let first = first-taken text len found.0 in
+      let no_word : word_of w ≡ None = look_up-unlike begins_with_no_letter w (ap (λ (b : ℕ). not (is_letter b)) first ∙ ap not letter) words refl in
+      let token : token_of w ≡ Some (Sign s) =
+      unnumbered w (no-numeral w (ap is_ascii_digit first ∙ digit)) ∙ ap (λ (o : Option AWord). other o w) no_word
+      ∙ ap (λ (o : Option ASign). or_else (option_map Sign o) (cond (is_name w) (Some (Ident w)) None)) found.2 in
+      (found.0, found.1 ∙ sym longest-sign, ap (option_map kind_of) token)
+
+  pub front-nothing : sign_len text ≡ 0 → IsFront text front.Nothing
+  front-nothing none = longest-sign ∙ none

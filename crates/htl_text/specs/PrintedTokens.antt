@@ -62,12 +62,6 @@ infix_sign bin.Ne = sign.NotEqual
 infix_sign bin.And = sign.And
 infix_sign bin.Or = sign.Or
 
-abbrev pub prefix_tokens : Spelling UnOp
-prefix_tokens op more = token.Sign (prefix_sign op) ∷ more
-
-abbrev pub infix_tokens : Spelling BinOp
-infix_tokens op more = token.Sign (infix_sign op) ∷ more
-
 abbrev pub number_tokens : Spelling ℤ
 number_tokens x more = token.Number x ∷ more
 

@@ -1,8 +1,8 @@
 // The printed form of a tree.
-ghost use Rattle.std.specs.Prelude.{◌≡◌, OnOk, IfOk};
+ghost use Rattle.std.specs.Prelude.{◌≡◌, ◌++◌, OnOk, IfOk};
 ghost use Rattle.htl_text.specs.Nodes.{out_of, outs_of, task_of, switch_of, mode_of, module_of, program_of, tree_of};
 ghost use Rattle.htl_text.specs.PrintedBytes.{Adds, printed_bytes};
-ghost use Rattle.htl_text.specs.PrintedTokens.{abstract_tokens, clause_tokens, comm_tokens, const_tokens, end_tokens, expr_tokens, infix_sign, invoke_tokens, mode_tokens, module_tokens, out_tokens, outs_tokens, param_tokens, port_tokens, prefix_sign, program_tokens, source_tokens, switch_tokens, task_tokens, truth_tokens, type_tokens, kind_tokens, minus_tokens, number_tokens, prefix_tokens, infix_tokens, each};
+ghost use Rattle.htl_text.specs.PrintedTokens.{abstract_tokens, clause_tokens, comm_tokens, const_tokens, end_tokens, expr_tokens, infix_sign, invoke_tokens, mode_tokens, module_tokens, out_tokens, outs_tokens, param_tokens, port_tokens, prefix_sign, program_tokens, source_tokens, switch_tokens, task_tokens, truth_tokens, type_tokens, kind_tokens, minus_tokens, number_tokens, each};
 
 use crate::expression::{Operand, Part};
 use crate::printer::{Print, Printer, each, in_brackets};
@@ -190,8 +190,7 @@ impl Print for OutNode {
 
     fn print(&self, out: &mut Printer) -> Result<(), Memory> {
         self.param.print(out)?;
-        out.tokens(&[Token::Sign(Sign::Assign)])?;
-        term(&self.value.whole(), out)
+        term(&[Token::Sign(Sign::Assign)], &self.value.whole(), out)
     }
 }
 
@@ -275,8 +274,12 @@ impl Print for SwitchNode {
     ghost tokens = { λ s. switch_tokens (switch_of s) };
 
     fn print(&self, out: &mut Printer) -> Result<(), Memory> {
-        out.tokens(&[Token::Word(Word::Switch), Token::Sign(Sign::OpenParen)])?;
-        term(&self.cond.whole(), out)?;
+        let word = Token::Word(Word::Switch);
+        term(
+            &[word, Token::Sign(Sign::OpenParen)],
+            &self.cond.whole(),
+            out,
+        )?;
         out.tokens(&[
             Token::Sign(Sign::Comma),
             Token::Ident(self.target.name),
@@ -286,44 +289,32 @@ impl Print for SwitchNode {
     }
 }
 
-// An expression. It calls itself once for each level of operators.
-fn term(e: &Operand<'_>, out: &mut Printer) -> Result<(), Memory>
-    ensures { OnOk result (Adds (expr_tokens e.now) out.old out.new) }
+// Tokens and an expression behind them. It calls itself once for each level of operators.
+fn term(before: &[Token], e: &Operand<'_>, out: &mut Printer) -> Result<(), Memory>
+    ensures { OnOk result (Adds (λ more. before.now ++ expr_tokens e.now more) out.old out.new) }
 {
+    out.tokens(before)?;
     match e.part() {
         Part::Int { x, .. } => x.print(out),
         Part::Bool { x, .. } => truth(x, out),
         Part::Named { id } => out.tokens(&[Token::Ident(id.name)]),
         Part::Unary { op, e, .. } => {
-            out.tokens(&[Token::Sign(Sign::OpenParen)])?;
-            op.print(out)?;
-            term(&e, out)?;
+            let sign = Token::Sign(prefix_sign(op));
+            term(&[Token::Sign(Sign::OpenParen), sign], &e, out)?;
             out.tokens(&[Token::Sign(Sign::CloseParen)])
         }
         Part::Binary { op, l, r, .. } => {
-            out.tokens(&[Token::Sign(Sign::OpenParen)])?;
-            term(&l, out)?;
-            op.print(out)?;
-            term(&r, out)?;
+            term(&[Token::Sign(Sign::OpenParen)], &l, out)?;
+            term(&[Token::Sign(infix_sign(op))], &r, out)?;
             out.tokens(&[Token::Sign(Sign::CloseParen)])
         }
         Part::Choose { c, a, b, .. } => {
-            out.tokens(&[Token::Word(Word::If), Token::Sign(Sign::OpenParen)])?;
-            term(&c, out)?;
-            out.tokens(&[Token::Sign(Sign::Comma)])?;
-            term(&a, out)?;
-            out.tokens(&[Token::Sign(Sign::Comma)])?;
-            term(&b, out)?;
+            let word = Token::Word(Word::If);
+            term(&[word, Token::Sign(Sign::OpenParen)], &c, out)?;
+            term(&[Token::Sign(Sign::Comma)], &a, out)?;
+            term(&[Token::Sign(Sign::Comma)], &b, out)?;
             out.tokens(&[Token::Sign(Sign::CloseParen)])
         }
-    }
-}
-
-impl Print for UnOp {
-    ghost tokens = { prefix_tokens };
-
-    fn print(&self, out: &mut Printer) -> Result<(), Memory> {
-        out.tokens(&[Token::Sign(prefix_sign(*self))])
     }
 }
 
@@ -333,14 +324,6 @@ fn prefix_sign(op: UnOp) -> Sign
     match op {
         UnOp::Neg => Sign::Minus,
         UnOp::Not => Sign::Not,
-    }
-}
-
-impl Print for BinOp {
-    ghost tokens = { infix_tokens };
-
-    fn print(&self, out: &mut Printer) -> Result<(), Memory> {
-        out.tokens(&[Token::Sign(infix_sign(*self))])
     }
 }
 
