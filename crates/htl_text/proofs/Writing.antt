@@ -58,6 +58,18 @@ Adds-tokens tokens i t below is first old new so e more =
     ∙ ap (λ (ts : List Token). first ++ printed_bytes ts)
     (sym (append_assoc (take i tokens) (t ∷ []) more) ∙ ap (λ (ts : List Token). ts ++ more) (sym (take-next tokens i t below is)))
 
+-- what stands between brackets was written, and the brackets
+module _ {X : Type 0} (item : Spelling X) (items : List X) (old mid end new : List ℕ) (opened : Adds (λ more. token.Sign sign.OpenParen ∷ more) old mid)
+    (closed : Adds (λ more. token.Sign sign.CloseParen ∷ more) end new) where
+  pub Adds-no_items : items ≡ [] → end ≡ mid → Adds (in_brackets item items) old new
+  Adds-no_items none same more =
+      closed more ∙ ap (λ (bs : List ℕ). bs ++ printed_bytes (token.Sign sign.CloseParen ∷ more)) same ∙ opened _
+      ∙ ap (λ (xs : List X). old ++ printed_bytes (in_brackets item xs more)) (sym none)
+
+  pub Adds-items : (x : X) (xs : List X) → items ≡ x ∷ xs → (first : List ℕ) → Adds (item x) mid first → Adds (after_commas item xs) first end → Adds (in_brackets item items) old new
+  Adds-items x xs some first one others more =
+      closed more ∙ others _ ∙ one _ ∙ opened _ ∙ ap (λ (ys : List X). old ++ printed_bytes (in_brackets item ys more)) (sym some)
+
 -- a last step that may fail
 pub OnOk-then : {T E : Type 0} (r : Result T E) {P Q : Type 0} → OnOk r P → (P → Q) → OnOk r Q
 OnOk-then (Ok x) h f = f h
