@@ -7,6 +7,7 @@ mod Examples
 mod LimitLaws
 mod RuleLaws
 mod FlatMaps
+mod Growing
 pub mod InRange
 mod ModeRanges
 pub mod KeepsLimits

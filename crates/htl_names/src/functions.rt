@@ -88,19 +88,19 @@ pub fn formula<A: Arguments>(
         Part::Unary { token, op, e } => Ok(Expr::Unary {
             token,
             op,
-            e: boxed(alloc, arguments, &e)?,
+            e: boxed(alloc, arguments, e)?,
         }),
         Part::Binary { token, op, l, r } => Ok(Expr::Binary {
             token,
             op,
-            l: boxed(alloc, arguments, &l)?,
-            r: boxed(alloc, arguments, &r)?,
+            l: boxed(alloc, arguments, l)?,
+            r: boxed(alloc, arguments, r)?,
         }),
         Part::Choose { token, c, a, b } => Ok(Expr::Choose {
             token,
-            c: boxed(alloc, arguments, &c)?,
-            a: boxed(alloc, arguments, &a)?,
-            b: boxed(alloc, arguments, &b)?,
+            c: boxed(alloc, arguments, c)?,
+            a: boxed(alloc, arguments, a)?,
+            b: boxed(alloc, arguments, b)?,
         }),
     }
 }
@@ -109,12 +109,12 @@ pub fn formula<A: Arguments>(
 fn boxed<A: Arguments>(
     alloc: Global,
     arguments: &A,
-    e: &Operand<'_>,
+    e: Operand<'_>,
 ) -> Result<Box<Expr>, AllocError>
     requires { (id : AnId) → A.place arguments.now id ≤ 4097 }
-    ensures { IfOk result (λ x. term_of x.value ≡ term_by (A.place arguments.now) e.now) }
+    ensures { IfOk result (λ x. term_of x.value ≡ term_by (A.place arguments.now) e.entry) }
 {
-    Ok(Box::new(alloc, formula(alloc, arguments, e)?)?)
+    Ok(Box::new(alloc, formula(alloc, arguments, &e)?)?)
 }
 
 // ---- the functions of outputs

@@ -60,6 +60,10 @@ fn put_mode(source: &Source<'_>, mode: usize, at: ModeAt, port: usize, into: &mu
         Some(module) => module.parent,
         None => None,
     };
+    let parent = match refined {
+        Some(at) => invokes_before(source, mode_number(source, at)),
+        None => 0,
+    };
     let home = Home {
         source: *source,
         mode,
@@ -67,10 +71,7 @@ fn put_mode(source: &Source<'_>, mode: usize, at: ModeAt, port: usize, into: &mu
         port,
         task: before(source, number).tasks,
         refined,
-        parent: match refined {
-            Some(at) => invokes_before(source, mode_number(source, at)),
-            None => 0,
-        },
+        parent,
     };
     let nodes = invokes_at(source.tree, at);
     for k in 0..nodes.len() {

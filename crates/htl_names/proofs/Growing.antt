@@ -1,0 +1,38 @@
+-- What a loop puts behind a list, item by item.
+use Rattle.std.proofs.Common.{arith, ◌≡◌, ◌+◌, ◌<◌, ℕ, suc, List, [], ◌∷◌, ◌++◌, length, length-append, take, drop, get_or, refl, sym, ap, ◌∙◌, append_assoc}
+use Rattle.std.specs.List.{flat_map}
+use Rattle.std.proofs.Math.Seq.{take-suc}
+use Rattle.std.proofs.lemmas.List.{drop_more}
+use Rattle.std.proofs.lemmas.Grind.{flat_map-append}
+use Rattle.htl_names.specs.Lists.{flat_map_at}
+
+-- the part of the item at place k was put; `all` is what the items from there on give, and `later` what those behind it do
+pub put-at : {A B : Type 0} (xs : List A) (k : ℕ) (d : A) → k < length xs → (all later : List A → List B) (part : List B)
+    → ((ys : List A) → all (get_or xs k d ∷ ys) ≡ part ++ later ys) → (old new whole : List B) → new ≡ old ++ part → old ++ all (drop k xs) ≡ whole
+    → new ++ later (drop (k + 1) xs) ≡ whole
+put-at {A} {B} xs k d below all later part cut old new whole grew so =
+    ap (λ (bs : List B). bs ++ later (drop (k + 1) xs)) grew ∙ append_assoc old part (later (drop (k + 1) xs))
+    ∙ ap (λ (bs : List B). old ++ bs) (sym (cut (drop (k + 1) xs)) ∙ ap all (sym (drop_more xs k d below))) ∙ so
+
+-- the same, where the item has a name
+pub put-item : {A B : Type 0} (xs : List A) (k : ℕ) (x : A) → k < length xs → x ≡ get_or xs k x → (all later : List A → List B) (part : List B)
+    → ((ys : List A) → all (x ∷ ys) ≡ part ++ later ys) → (old new whole : List B) → new ≡ old ++ part → old ++ all (drop k xs) ≡ whole
+    → new ++ later (drop (k + 1) xs) ≡ whole
+put-item {A} xs k x below is all later part cut = put-at xs k x below all later part (λ ys. ap (λ (y : A). all (y ∷ ys)) (sym is) ∙ cut ys)
+
+pub first-part : {A B : Type 0} (f : ℕ → A → List B) (k : ℕ) (x : A) (ys : List A) → flat_map_at f k (x ∷ ys) ≡ f k x ++ flat_map_at f (k + 1) ys
+first-part {B = B} f k x ys = let next : suc k ≡ k + 1 = omega arith in ap (λ (n : ℕ). f k x ++ flat_map_at f n ys) next
+
+-- how many items the first k + 1 parts have
+pub count-more : {A B : Type 0} (f : A → List B) (xs ys : List A) → ys ≡ xs → (k : ℕ) (d : A) → k < length ys → (part : List B) → part ≡ f (get_or ys k d)
+    → length (flat_map f (take (k + 1) xs)) ≡ length (flat_map f (take k xs)) + length part
+count-more {A} f xs ys same k d below part is =
+    let next : k + 1 ≡ suc k = omega arith in
+    let here = get_or ys k d in
+    let one : take (k + 1) ys ≡ take k ys ++ here ∷ [] = ap (λ (n : ℕ). take n ys) next ∙ take-suc ys k d below in
+    let whole = ap (λ (zs : List A). length (flat_map f zs)) one ∙ ap length (flat_map-append f (take k ys) (here ∷ [])) ∙ length-append (flat_map f (take k ys)) (f here ++ []) in
+    let last = length-append (f here) [] in
+    let size = ap length is in
+    let front = ap (λ (zs : List A). length (flat_map f (take k zs))) same in
+    let back = ap (λ (zs : List A). length (flat_map f (take (k + 1) zs))) same in
+    omega (arith, whole, last, size, front, back)
