@@ -1,9 +1,10 @@
 -- What a loop puts behind a list, item by item.
-use Rattle.std.proofs.Common.{arith, ◌≡◌, ◌+◌, ◌<◌, ℕ, suc, List, [], ◌∷◌, ◌++◌, length, length-append, take, drop, get_or, refl, sym, ap, ◌∙◌, append_assoc}
+use Rattle.std.proofs.Common.{arith, ◌≡◌, ◌+◌, ◌<◌, ℕ, suc, List, [], ◌∷◌, ◌++◌, length, length-append, take, drop, get_or, sym, ap, ◌∙◌, append_assoc, append-nil}
 use Rattle.std.specs.List.{flat_map}
 use Rattle.std.proofs.Math.Seq.{take-suc}
 use Rattle.std.proofs.lemmas.List.{drop_more}
 use Rattle.std.proofs.lemmas.Grind.{flat_map-append}
+use Rattle.htl_model.specs.Lists.{list_to}
 use Rattle.htl_names.specs.Lists.{flat_map_at}
 
 -- the part of the item at place k was put; `all` is what the items from there on give, and `later` what those behind it do
@@ -36,3 +37,18 @@ count-more {A} f xs ys same k d below part is =
     let front = ap (λ (zs : List A). length (flat_map f (take k zs))) same in
     let back = ap (λ (zs : List A). length (flat_map f (take (k + 1) zs))) same in
     omega (arith, whole, last, size, front, back)
+
+-- the part of item n of a list by places was put
+pub put-next : {A B : Type 0} (f : ℕ → A) (g : A → List B) (n : ℕ) (old new first : List B) → new ≡ old ++ g (f n) → old ≡ first ++ flat_map g (list_to f n)
+    → new ≡ first ++ flat_map g (list_to f (n + 1))
+put-next {B = B} f g n old new first grew so =
+    let next : suc n ≡ n + 1 = omega arith in
+    let last : flat_map g (list_to f n ++ f n ∷ []) ≡ flat_map g (list_to f n) ++ g (f n) =
+    flat_map-append g (list_to f n) (f n ∷ []) ∙ ap (λ (bs : List B). flat_map g (list_to f n) ++ bs) (append-nil (g (f n))) in
+    grew ∙ ap (λ (bs : List B). bs ++ g (f n)) so ∙ append_assoc first (flat_map g (list_to f n)) (g (f n)) ∙ ap (λ (bs : List B). first ++ bs) (sym last)
+    ∙ ap (λ (k : ℕ). first ++ flat_map g (list_to f k)) next
+
+pub put-last : {A : Type 0} (f : ℕ → A) (n : ℕ) (old new first : List A) → new ≡ old ++ f n ∷ [] → old ≡ first ++ list_to f n → new ≡ first ++ list_to f (n + 1)
+put-last {A} f n old new first grew so =
+    let next : suc n ≡ n + 1 = omega arith in
+    grew ∙ ap (λ (xs : List A). xs ++ f n ∷ []) so ∙ append_assoc first (list_to f n) (f n ∷ []) ∙ ap (λ (k : ℕ). first ++ list_to f k) next

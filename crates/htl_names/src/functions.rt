@@ -157,8 +157,9 @@ fn put_outs(inputs: &Inputs<'_>, outs: &[OutNode], into: &mut Vec<Function>) -> 
         ++ map (flat_output_function inputs.now.source.layout.now inputs.now.at.program inputs.now.at.«module» inputs.now.task) (map out_of outs.now)) }
 {
     for k in 0..outs.len() {
-        let e = formula(inputs.source.alloc, inputs, &outs[k].value.whole())?;
-        let first = outs[k].first;
+        let out = &outs[k];
+        let e = formula(inputs.source.alloc, inputs, &out.value.whole())?;
+        let first = out.first;
         into.push(Function::Expr { first, e })?;
     }
     Ok(())
