@@ -4,6 +4,7 @@ ghost use Rattle.htl_model.specs.Frames.{frame_limit, starts as starts_of, paths
 ghost use Rattle.htl_model.specs.FrameRules.{KeptApart};
 ghost use Rattle.htl_model.specs.FrameTables.{IsFrame};
 ghost use Rattle.htl_walk.specs.PathJobs.{path_jobs as path_jobs_of};
+ghost use Rattle.htl_walk.specs.WellFormed.{AreWellFormed};
 ghost use Rattle.htl_walk.specs.Feasible.{AreFeasible};
 ghost use Rattle.htl_walk.specs.NodeWalks.{instrs_of as lists_in};
 ghost use Rattle.htl_edf.specs.Windows.{NoOverload, Reported};
@@ -98,6 +99,19 @@ fn plan_lists(
     Ok(())
 }
 
+// Writes the positions by end and the ranks by release of these jobs' tightened windows, as `Ranks` has them.
+fn rank_jobs(jobs: &[Job], by_end: &mut [u64], by_release: &mut [u64])
+    requires jobs { AreWellFormed jobs.now }
+    requires ends_same { length by_end.old ≡ length jobs.now }
+    requires releases_same { length by_release.old ≡ length jobs.now }
+    ensures { AreRanked jobs.now by_end.new by_release.new }
+{
+    let mut windows = [Tight { release: 0, end: 0 }; MAX_POSITIONS];
+    let tight = &mut windows[..jobs.len()];
+    tighten(jobs, tight);
+    rank(jobs, tight, by_end, by_release);
+}
+
 // Makes the lists of a path from list `first` on.
 fn plan_path(
     alloc: Global,
@@ -115,22 +129,20 @@ fn plan_path(
     let mut room = [Job::ABSENT; MAX_POSITIONS];
     let count = frame_jobs(path.tables, path.frame, path.number, &mut room);
     let jobs = &room[..count];
-    let mut windows = [Tight { release: 0, end: 0 }; MAX_POSITIONS];
     let mut left = [0; MAX_POSITIONS];
     let mut ends = [0; MAX_POSITIONS];
     let mut releases = [0; MAX_POSITIONS];
-    let tight = &mut windows[..count];
+    let left = &mut left[..count];
     let by_end = &mut ends[..count];
     let by_release = &mut releases[..count];
-    tighten(jobs, tight);
-    rank(jobs, tight, by_end, by_release);
+    rank_jobs(jobs, by_end, by_release);
+    start(jobs, left);
     let ranks = Ranks {
         jobs,
         by_end,
         by_release,
     };
-    start(jobs, &mut left[..count]);
-    plan_lists(alloc, path, first, ranks, &mut left[..count], v)
+    plan_lists(alloc, path, first, ranks, left, v)
 }
 
 // As many empty schedules.
