@@ -1,5 +1,6 @@
 // From the new tables to an accepted object.
 ghost use Rattle.std.specs.Prelude.{◌≡◌, All, IfOk, IfErr, OnOk};
+ghost use Rattle.htl_ecode.specs.Layout.{layout};
 ghost use Rattle.htl_load.specs.Alike.{AskTheSame};
 ghost use Rattle.htl_model.specs.Broken.{Formed, IsFirstBroken, KeepsLimits};
 ghost use Rattle.htl_object.specs.Accepted.{IsAccepted};
@@ -8,7 +9,7 @@ ghost use Rattle.htl_patch.specs.Stops.{IsTablesStop, IsAcceptedWith, object_wit
 
 use crate::fault::{PatchFault, PatchStop};
 use htl_base::{Memory, Seq};
-use htl_ecode::generate_e;
+use htl_ecode::{ECode, generate_e};
 use htl_load::{FormedObject, Loaded, ObjectFault, inherit, spelled};
 use htl_model::{FormFault, Tables};
 use htl_object::Object;
@@ -35,18 +36,29 @@ fn copied(alloc: Global, schedules: &[Schedule]) -> Result<Vec<Schedule>, AllocE
     Ok(found)
 }
 
+// The generated layout of tables, and a copy of another's schedules.
+fn laid(alloc: Global, o: &Loaded, t: &Tables) -> Result<(ECode, Vec<Schedule>), Memory>
+    requires { Formed t.now }
+    ensures { IfOk result (λ x. (x.0 ≡ layout t.now) × (x.1.items ≡ o.now.schedules)) }
+{
+    let ecode = match generate_e(alloc, t) {
+        Ok(ecode) => ecode,
+        Err(Memory) => return Err(Memory),
+    };
+    match copied(alloc, o.schedules()) {
+        Ok(schedules) => Ok((ecode, schedules)),
+        Err(_) => Err(Memory),
+    }
+}
+
 // The object of tables, with the generated layout and another's schedules and platform.
 fn relaid(alloc: Global, o: &Loaded, t: Tables) -> Result<Object, Memory>
     requires { Formed t }
     ensures { IfOk result (λ p. p ≡ object_with o.now t) }
 {
-    let ecode = match generate_e(alloc, &t) {
-        Ok(ecode) => ecode,
+    let (ecode, schedules) = match laid(alloc, o, &t) {
+        Ok(both) => both,
         Err(Memory) => return Err(Memory),
-    };
-    let schedules = match copied(alloc, o.schedules()) {
-        Ok(schedules) => schedules,
-        Err(_) => return Err(Memory),
     };
     Ok(Object {
         tables: t,
