@@ -1,11 +1,12 @@
 // From the new tables to an accepted object.
-ghost use Rattle.std.specs.Prelude.{◌≡◌, All, IfOk, IfErr, OnOk};
+ghost use Rattle.std.specs.Prelude.{◌≡◌, All, None, IfOk, IfErr, OnOk};
 ghost use Rattle.htl_ecode.specs.Layout.{layout};
 ghost use Rattle.htl_load.specs.Alike.{AskTheSame};
 ghost use Rattle.htl_model.specs.Broken.{Formed, IsFirstBroken, KeepsLimits};
-ghost use Rattle.htl_object.specs.Accepted.{IsAccepted};
+ghost use Rattle.htl_model.specs.FunctionTypes.{FitPlaces};
+ghost use Rattle.htl_object.specs.Accepted.{IsFormed, IsAccepted};
 ghost use Rattle.htl_object.specs.Ranges.{IsFunctionCode};
-ghost use Rattle.htl_patch.specs.Stops.{IsTablesStop, IsAcceptedWith, object_with, IsMisfit, misfit_of};
+ghost use Rattle.htl_patch.specs.Stops.{IsTablesFault, IsTablesStop, IsAcceptedWith, object_with, IsMisfit, misfit_of};
 
 use crate::fault::{PatchFault, PatchStop};
 use htl_base::{Memory, Seq};
@@ -82,6 +83,22 @@ fn misfit(fault: ObjectFault) -> PatchFault
     }
 }
 
+// The object of tables that break no form rule, as accepted under another's schedules; or the fault of the first function that
+// doesn't fit its place.
+fn fitted(o: &Loaded, object: Object) -> Result<Loaded, PatchFault>
+    requires formed { IsFormed object }
+    requires laid { object ≡ object_with o.now object.tables }
+    requires same { AskTheSame object.tables o.now.tables }
+    ensures accepted { IfOk result (λ l. (l ≡ object) × FitPlaces object.tables) }
+    ensures whole { IfOk result IsAccepted }
+    ensures fault { IfErr result (λ f. IsTablesFault object.tables f None) }
+{
+    match spelled(FormedObject::of(object)) {
+        Ok(spelled) => Ok(inherit(spelled, o)),
+        Err((_object, fault)) => Err(misfit(fault)),
+    }
+}
+
 /// The object of the new tables under the schedules of another that is accepted. It is accepted without a walk, since its tables ask the
 /// processor for the same. A refusal comes exactly where a form rule is broken, with the first and the tables, or else where a function
 /// doesn't fit its place, with the first.
@@ -102,8 +119,8 @@ pub(crate) fn accept(alloc: Global, o: &Loaded, t: Tables) -> Result<Loaded, Pat
         Ok(object) => object,
         Err(Memory) => return Err(PatchStop::Memory),
     };
-    match spelled(FormedObject::of(object)) {
-        Ok(spelled) => Ok(inherit(spelled, o)),
-        Err((_object, fault)) => Err(PatchStop::Refused(misfit(fault), None)),
+    match fitted(o, object) {
+        Ok(loaded) => Ok(loaded),
+        Err(fault) => Err(PatchStop::Refused(fault, None)),
     }
 }
