@@ -8,7 +8,7 @@ ghost use Rattle.htl_patch.specs.Joining.{Joins};
 ghost use Rattle.htl_patch.specs.Numbers.{numbering_of};
 ghost use Rattle.htl_patch.specs.Patched.{new_numbers, patched};
 ghost use Rattle.htl_patch.specs.Placed.{ArePlaces};
-ghost use Rattle.htl_patch.specs.Stops.{IsEarlyFault};
+ghost use Rattle.htl_patch.specs.Stops.{AreMet, IsEarlyFault};
 ghost use Rattle.htl_patch.specs.United.{graft, united};
 
 use crate::calls::calls_for;
@@ -105,6 +105,36 @@ fn assembled(
     }))
 }
 
+// The patched tables of a refinement whose parents and names are met, or the first limit that they exceed.
+fn limited(
+    alloc: Global,
+    g: &Graft<'_>,
+    n: &OldNumbers,
+    p: &NewNumbers,
+    calls: &[Option<u16>],
+) -> Result<Result<Tables, PatchFault>, AllocError>
+    requires into { g.now.into < length g.now.host.now.modes }
+    requires from { g.now.from < length g.now.donor.now.modes }
+    requires formed { Formed g.now.host.now }
+    requires coded { All IsFunctionCode g.now.host.now.functions }
+    requires donor_coded { All IsFunctionCode g.now.donor.now.functions }
+    requires numbers { numbering_of n.now ≡ new_numbers (graft g.now.host.now g.now.donor.now g.now.into g.now.from) }
+    requires places { ArePlaces (united (graft g.now.host.now g.now.donor.now g.now.into g.now.from)) (new_numbers (graft g.now.host.now g.now.donor.now g.now.into g.now.from)) p.now }
+    requires calls { calls.now ≡ calls_for_of (graft g.now.host.now g.now.donor.now g.now.into g.now.from) }
+    requires met { AreMet (graft g.now.host.now g.now.donor.now g.now.into g.now.from) }
+    ensures { IfOk result (λ r. MatchResult r (λ t. (t ≡ patched (graft g.now.host.now g.now.donor.now g.now.into g.now.from)) × Joins (graft g.now.host.now g.now.donor.now g.now.into g.now.from)) (IsEarlyFault (graft g.now.host.now g.now.donor.now g.now.into g.now.from))) }
+{
+    g.host.keeps_ranges();
+    g.donor.keeps_ranges();
+    let heads = heads_of(alloc, g, n, p)?;
+    let count = levels(heads.modules.as_slice(), heads.modes.as_slice(), 16);
+    if let Some((which, count)) = first_limit(n, count) {
+        return Ok(Err(PatchFault::Limit { which, count }));
+    }
+    let tables = assembled(alloc, g, n, p, calls, heads)?;
+    Ok(Ok(tables))
+}
+
 /// The tables in which the refinement of the host's mode is the donor's, or the first fault for which it isn't taken over.
 pub(crate) fn grafted(
     alloc: Global,
@@ -117,8 +147,6 @@ pub(crate) fn grafted(
     requires donor_coded { All IsFunctionCode g.now.donor.now.functions }
     ensures { IfOk result (λ r. MatchResult r (λ t. (t ≡ patched (graft g.now.host.now g.now.donor.now g.now.into g.now.from)) × Joins (graft g.now.host.now g.now.donor.now g.now.into g.now.from)) (IsEarlyFault (graft g.now.host.now g.now.donor.now g.now.into g.now.from))) }
 {
-    g.host.keeps_ranges();
-    g.donor.keeps_ranges();
     let n = old_numbers(alloc, g)?;
     let p = renumber(alloc, g, &n)?;
     let calls = calls_for(alloc, g)?;
@@ -129,11 +157,5 @@ pub(crate) fn grafted(
     if let Some(fault) = join_fault(g, &taken, calls.as_slice()) {
         return Ok(Err(fault));
     }
-    let heads = heads_of(alloc, g, &n, &p)?;
-    let count = levels(heads.modules.as_slice(), heads.modes.as_slice(), 16);
-    if let Some((which, count)) = first_limit(&n, count) {
-        return Ok(Err(PatchFault::Limit { which, count }));
-    }
-    let tables = assembled(alloc, g, &n, &p, calls.as_slice(), heads)?;
-    Ok(Ok(tables))
+    limited(alloc, g, &n, &p, calls.as_slice())
 }

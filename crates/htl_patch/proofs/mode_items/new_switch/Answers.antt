@@ -1,5 +1,6 @@
-use Rattle.std.proofs.Common.{length, ap, arith}
+use Rattle.std.proofs.Common.{◌≡◌, IfOk, length, ap, subst, arith}
 use Rattle.std.proofs.lemmas.Bool.Decides.{nat_tests}
+use Rattle.htl_model.specs.declared.parts.Switch.{Switch}
 use Rattle.htl_patch.specs.Patched.{new_numbers}
 use Rattle.htl_patch.specs.United.{graft}
 use Rattle.htl_patch.proofs.NewItems.{switch_here, switch_there}
@@ -24,3 +25,15 @@ pub copied_switch-requires-2-clause-target : goal.copied_switch-requires-2-claus
 copied_switch-requires-2-clause-target c =
     let g = graft c.args.g.now.host.now c.args.g.now.donor.now c.args.g.now.into c.args.g.now.from in
     (switch_there g c.keeps_ranges.ensures.ranges c.keeps_ranges-2.ensures.ranges (new_numbers g) c.args.p.now c.requires.places c.switches-front.result.now c.switches-back.result.now c.args.k (length c.modes-before.result.now) c.index-back-k.result c.as_slice-2.result.now c.switches-front.ensures.value c.switches-back.ensures.value (grind (arith, nat_tests, c.if-k-front.false)) c.requires.within c.index-back-k.is c.as_slice-2.ensures.value (ap length c.modes-before.ensures.value)).1
+
+pub returns-then-k-front : goal.returns-then-k-front
+returns-then-k-front c =
+    let g = graft c.args.g.now.host.now c.args.g.now.donor.now c.args.g.now.into c.args.g.now.from in
+    subst (λ (z : Switch). IfOk c.copied_switch.result (λ y. y ≡ z)) (switch_here g c.keeps_ranges.ensures.ranges c.keeps_ranges-2.ensures.ranges (new_numbers g) c.args.p.now c.requires.places c.switches-front.result.now c.args.k c.index-front-k.result c.as_slice.result.now c.switches-front.ensures.value (grind (arith, nat_tests, c.if-k-front.true)) c.index-front-k.is c.as_slice.ensures.value).2
+    c.copied_switch.ensures
+
+pub returns : goal.returns
+returns c =
+    let g = graft c.args.g.now.host.now c.args.g.now.donor.now c.args.g.now.into c.args.g.now.from in
+    subst (λ (z : Switch). IfOk c.copied_switch-2.result (λ y. y ≡ z)) (switch_there g c.keeps_ranges.ensures.ranges c.keeps_ranges-2.ensures.ranges (new_numbers g) c.args.p.now c.requires.places c.switches-front.result.now c.switches-back.result.now c.args.k (length c.modes-before.result.now) c.index-back-k.result c.as_slice-2.result.now c.switches-front.ensures.value c.switches-back.ensures.value (grind (arith, nat_tests, c.if-k-front.false)) c.requires.within c.index-back-k.is c.as_slice-2.ensures.value (ap length c.modes-before.ensures.value)).2
+    c.copied_switch-2.ensures
