@@ -1,5 +1,5 @@
 -- The owners of the items of two programs side by side.
-use Rattle.std.proofs.Common.{◌≡◌, ◌≤◌, ◌<◌, ℕ, zero, suc, ◌+◌, List, [], ◌∷◌, ◌++◌, length, length-append, map, take, refl, sym, ◌∙◌, ap, subst, arith}
+use Rattle.std.proofs.Common.{◌≡◌, ◌≤◌, ◌<◌, ℕ, zero, suc, ◌+◌, List, [], ◌∷◌, ◌++◌, length, length-append, get_or, map, take, refl, sym, ◌∙◌, ap, subst, arith}
 use Rattle.std.proofs.lemmas.List.{length-map}
 use Rattle.std.specs.List.Sorted.{IsNonDecreasing}
 use Rattle.htl_model.specs.Ranges.{AreInRange, IsModeInRange, IsPortInRange, IsTaskInRange, IsInvInRange, IsSwitchInRange}
@@ -10,6 +10,7 @@ use Rattle.htl_model.specs.declared.parts.Switch.{Switch}
 use Rattle.htl_model.specs.declared.parts.Task.{Task}
 use Rattle.htl_patch.specs.Owners.{mode_owners, port_owners, task_owners, inv_owners, switch_owners}
 use Rattle.htl_patch.specs.United.{Graft, united, donor_mode, donor_port, donor_task, donor_inv, donor_switch}
+use Rattle.htl_patch.proofs.FunctionLists.{map_more}
 use Rattle.htl_patch.proofs.Grafting.{all_at}
 use Rattle.htl_patch.proofs.Members.{Has, map_append, map_map, of_map}
 use Rattle.htl_patch.proofs.OwnerLaws.{rise_both}
@@ -33,6 +34,14 @@ pub both_owners : {A : Type 0} (own : A → ℕ) (f : A → A) (h : ℕ) (xs ys 
     → found ≡ map own xs ++ map (λ x. h + own x) (take k ys) → ((x : A) → own (f x) ≡ h + own x) → found ≡ map own (xs ++ map f ys)
 both_owners own f h xs ys k found most is moved =
     is ∙ ap (λ zs. map own xs ++ map (λ x. h + own x) zs) (take_all k ys most) ∙ sym (owners_joined own f h xs ys moved)
+
+-- one owner more of the second program
+pub owners_more : {A : Type 0} (own : A → ℕ) (h before : ℕ) (front found after : List ℕ) (ys back : List A) (k : ℕ) (d : A) → before ≡ h → back ≡ ys → k < length back
+    → after ≡ found ++ (before + own (get_or back k d)) ∷ [] → found ≡ front ++ map (λ y. h + own y) (take k ys) → after ≡ front ++ map (λ y. h + own y) (take (k + 1) ys)
+owners_more {A} own h before front found after ys back k d same other less is going =
+    let all = ap length other in
+    map_more (λ y. h + own y) ys d k found after front (omega (arith, less, all))
+    (is ∙ ap (λ (b : ℕ). found ++ (b + own (get_or back k d)) ∷ []) same ∙ ap (λ zs. found ++ (h + own (get_or zs k d)) ∷ []) other) going
 
 rise : {A : Type 0} (own : A → ℕ) (f : A → A) (h : ℕ) (xs ys : List A) → ((x : A) → own (f x) ≡ h + own x) → IsNonDecreasing (map own xs) → IsNonDecreasing (map own ys)
     → ((x : A) → Has xs x → own x < h) → IsNonDecreasing (map own (xs ++ map f ys))

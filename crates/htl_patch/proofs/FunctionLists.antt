@@ -101,18 +101,18 @@ flat_more f keys k before after initial less is going =
     one (x ∷ xs) zero less = ap (λ ys. f x ++ ys) (none xs) ∙ append-nil (f x)
     one (x ∷ xs) (suc k) less = ap (λ ys. f x ++ ys) (one xs k (omega (arith, less))) ∙ sym (append_assoc (f x) (flat_map f (take k xs)) (f (get_or xs k 0)))
 
-pub map_more : {A : Type 0} (f : ℕ → A) (keys : List ℕ) (k : ℕ) (before after initial : List A) → k < length keys → after ≡ before ++ f (get_or keys k 0) ∷ [] → before ≡ initial ++ map f (take k keys)
-    → after ≡ initial ++ map f (take (k + 1) keys)
-map_more f keys k before after initial less is going =
+pub map_more : {A B : Type 0} (f : B → A) (keys : List B) (d : B) (k : ℕ) (before after initial : List A) → k < length keys → after ≡ before ++ f (get_or keys k d) ∷ []
+    → before ≡ initial ++ map f (take k keys) → after ≡ initial ++ map f (take (k + 1) keys)
+map_more {A} {B} f keys d k before after initial less is going =
     let next : suc k ≡ k + 1 = omega arith in
-    is ∙ ap (λ xs. xs ++ f (get_or keys k 0) ∷ []) going ∙ append_assoc initial (map f (take k keys)) (f (get_or keys k 0) ∷ []) ∙ ap (λ xs. initial ++ xs) (sym (one keys k less))
+    is ∙ ap (λ xs. xs ++ f (get_or keys k d) ∷ []) going ∙ append_assoc initial (map f (take k keys)) (f (get_or keys k d) ∷ []) ∙ ap (λ xs. initial ++ xs) (sym (one keys k less))
     ∙ ap (λ (n : ℕ). initial ++ map f (take n keys)) next
   where
-    none : (xs : List ℕ) → map f (take 0 xs) ≡ []
+    none : (xs : List B) → map f (take 0 xs) ≡ []
     none [] = refl
     none (x ∷ xs) = refl
 
-    one : (keys : List ℕ) (k : ℕ) → k < length keys → map f (take (suc k) keys) ≡ map f (take k keys) ++ f (get_or keys k 0) ∷ []
+    one : (keys : List B) (k : ℕ) → k < length keys → map f (take (suc k) keys) ≡ map f (take k keys) ++ f (get_or keys k d) ∷ []
     one [] k less = absurd (omega (arith, less))
     one (x ∷ xs) zero less = ap (λ ys. f x ∷ ys) (none xs)
     one (x ∷ xs) (suc k) less = ap (λ ys. f x ∷ ys) (one xs k (omega (arith, less)))

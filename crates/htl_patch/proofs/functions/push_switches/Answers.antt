@@ -10,5 +10,5 @@ pub loop-k-preserved : goal.loop-k-preserved
 loop-k-preserved c =
     let g = graft c.args.g.now.host.now c.args.g.now.donor.now c.args.g.now.into c.args.g.now.from in
     let less : c.loop-k.k < length c.args.keys.now = grind (arith, nat_tests, c.loop-k-test.true) in
-    map_more (function_of_switch (united g)) c.args.keys.now c.loop-k.k (map fun_of c.loop-k.into.items) (map fun_of c.push_switch.new.into.items) (map fun_of c.args.into.now.items) less
+    map_more (function_of_switch (united g)) c.args.keys.now 0 c.loop-k.k (map fun_of c.loop-k.into.items) (map fun_of c.push_switch.new.into.items) (map fun_of c.args.into.now.items) less
     c.in_ok-push_switch.ensures c.loop-k.invariant

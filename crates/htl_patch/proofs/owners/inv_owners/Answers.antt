@@ -3,7 +3,7 @@ use Rattle.std.proofs.lemmas.Bool.Decides.{nat_tests}
 use Rattle.std.specs.List.Sorted.{IsNonDecreasing}
 use Rattle.htl_model.specs.declared.parts.Inv.{Inv}
 use Rattle.htl_patch.specs.United.{graft, donor_inv}
-use Rattle.htl_patch.proofs.BothOwners.{both_owners, invs_rise, invs_few}
+use Rattle.htl_patch.proofs.BothOwners.{both_owners, owners_more, invs_rise, invs_few}
 use Rattle.htl_patch.proofs.owners.inv_owners.Goals as goal
 
 pub returns-clause-owners : goal.returns-clause-owners
@@ -27,3 +27,8 @@ returns-clause-few c =
     let size = ap length is in
     let few = invs_few g c.modes.ensures.ranges c.invs-back.ensures.ranges in
     omega (arith, size, few)
+
+pub loop-k-preserved : goal.loop-k-preserved
+loop-k-preserved c =
+    owners_more (λ (x : Inv). x.mode) (length c.args.g.now.host.now.modes) (length c.modes.result.now) _ c.loop-k.found.items c.push.new.self.items c.args.g.now.donor.now.invs c.invs-back.result.now c.loop-k.k c.index-back-k.result
+    (ap length c.modes.ensures.value) c.invs-back.ensures.value c.loop-k-test.true c.in_ok-push.ensures.items c.loop-k.invariant

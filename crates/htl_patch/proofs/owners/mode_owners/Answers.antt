@@ -3,7 +3,7 @@ use Rattle.std.proofs.lemmas.Bool.Decides.{nat_tests}
 use Rattle.std.specs.List.Sorted.{IsNonDecreasing}
 use Rattle.htl_model.specs.declared.parts.Mode.{Mode}
 use Rattle.htl_patch.specs.United.{graft, donor_mode}
-use Rattle.htl_patch.proofs.BothOwners.{both_owners, modes_rise, modes_few}
+use Rattle.htl_patch.proofs.BothOwners.{both_owners, owners_more, modes_rise, modes_few}
 use Rattle.htl_patch.proofs.owners.mode_owners.Goals as goal
 
 pub returns-clause-owners : goal.returns-clause-owners
@@ -27,3 +27,8 @@ returns-clause-few c =
     let size = ap length is in
     let few = modes_few g c.modules.ensures.ranges c.modes-back.ensures.ranges in
     omega (arith, size, few)
+
+pub loop-k-preserved : goal.loop-k-preserved
+loop-k-preserved c =
+    owners_more (λ (x : Mode). x.«module») (length c.args.g.now.host.now.modules) (length c.modules.result.now) _ c.loop-k.found.items c.push.new.self.items c.args.g.now.donor.now.modes c.modes-back.result.now c.loop-k.k c.index-back-k.result
+    (ap length c.modules.ensures.value) c.modes-back.ensures.value c.loop-k-test.true c.in_ok-push.ensures.items c.loop-k.invariant

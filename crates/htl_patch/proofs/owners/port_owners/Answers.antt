@@ -3,7 +3,7 @@ use Rattle.std.proofs.lemmas.Bool.Decides.{nat_tests}
 use Rattle.std.specs.List.Sorted.{IsNonDecreasing}
 use Rattle.htl_model.specs.declared.parts.Port.{Port}
 use Rattle.htl_patch.specs.United.{graft, donor_port}
-use Rattle.htl_patch.proofs.BothOwners.{both_owners, ports_rise, ports_few}
+use Rattle.htl_patch.proofs.BothOwners.{both_owners, owners_more, ports_rise, ports_few}
 use Rattle.htl_patch.proofs.owners.port_owners.Goals as goal
 
 pub returns-clause-owners : goal.returns-clause-owners
@@ -27,3 +27,8 @@ returns-clause-few c =
     let size = ap length is in
     let few = ports_few g c.modes.ensures.ranges c.ports-back.ensures.ranges in
     omega (arith, size, few)
+
+pub loop-k-preserved : goal.loop-k-preserved
+loop-k-preserved c =
+    owners_more (λ (x : Port). x.mode) (length c.args.g.now.host.now.modes) (length c.modes.result.now) _ c.loop-k.found.items c.push.new.self.items c.args.g.now.donor.now.ports c.ports-back.result.now c.loop-k.k c.index-back-k.result
+    (ap length c.modes.ensures.value) c.ports-back.ensures.value c.loop-k-test.true c.in_ok-push.ensures.items c.loop-k.invariant
