@@ -2,6 +2,7 @@ pub mod Examples
 pub mod ModuleLaws
 pub mod Preparing
 pub mod Filling
+pub mod FirstLists
 pub mod Inside
 pub mod Beginning
 pub mod Blocks
