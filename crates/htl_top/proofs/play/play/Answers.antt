@@ -10,7 +10,7 @@ use Rattle.htl_top.proofs.Streaming.{IsHeard, playing_start, heard, told_on, tol
 use Rattle.htl_top.specs.Runs.{IsFaultyRun}
 use Rattle.htl_top.proofs.play.play.Given as given
 use Rattle.htl_top.proofs.play.play.Goals as goal
-use Rattle.htl_top.proofs.play.play.Goals.{After-next, In-Ok-Some, In-Ok-None}
+use Rattle.htl_top.proofs.play.play.Goals.{After-next, In-Ok-Some, In-Ok-None, in-Ok, in-Err-write_totals}
 
 pub events-init : goal.events-init
 events-init g c = (
@@ -72,17 +72,16 @@ events-preserved g c =
       λ ready. c.next.ensures.index,
     )
 
-pub returns-in-Ok-clause-answer : goal.returns-in-Ok-clause-answer
-returns-in-Ok-clause-answer g c =
-    over_done _ _ _ _ _ _ (g.W.Sink.written c.write_totals.new.out) (g.W.Sink.faults c.events.out) (g.W.Sink.faults c.write_totals.new.out) (script_over g (goal.at.returns-in-Ok-clause-answer g c).In-Ok-None) c.in-Ok.field-0
-    c.in-Ok.ensures
-
-pub returns-in-Err-write_totals-clause-answer : goal.returns-in-Err-write_totals-clause-answer
-returns-in-Err-write_totals-clause-answer g c =
-    let h = script_over g (goal.at.returns-in-Err-write_totals-clause-answer g c).In-Ok-None in (
-      rose_since (g.W.Sink.faults c.args.out.now) (g.W.Sink.faults c.events.out) (g.W.Sink.faults c.write_totals.new.out) c.events.invariant.2 c.in-Err-write_totals.ensures.cause.refused,
-      over_cut _ _ _ _ _ _ (g.W.Sink.written c.write_totals.new.out) (g.W.Sink.faults c.events.out) (g.W.Sink.faults c.write_totals.new.out) h c.in-Err-write_totals.field-0 c.in-Err-write_totals.ensures,
-    )
+pub returns-in-Ok-None-clause-answer : goal.returns-in-Ok-None-clause-answer
+returns-in-Ok-None-clause-answer g c =
+    let h = script_over g (goal.at.returns-in-Ok-None-clause-answer g c).In-Ok-None in
+    elim c.match-write_totals.branch [
+      | in-Ok w ↦ rw w.result-is (over_done _ _ _ _ _ _ (g.W.Sink.written c.write_totals.new.out) (g.W.Sink.faults c.events.out) (g.W.Sink.faults c.write_totals.new.out) h w.in-Ok.field-0 w.in-Ok.ensures)
+      | in-Err-write_totals w ↦ rw w.result-is (
+        rose_since (g.W.Sink.faults c.args.out.now) (g.W.Sink.faults c.events.out) (g.W.Sink.faults c.write_totals.new.out) c.events.invariant.2 w.in-Err-write_totals.ensures.cause.refused,
+        over_cut _ _ _ _ _ _ (g.W.Sink.written c.write_totals.new.out) (g.W.Sink.faults c.events.out) (g.W.Sink.faults c.write_totals.new.out) h w.in-Err-write_totals.field-0 w.in-Err-write_totals.ensures,
+      )
+    ]
 
 pub returns-in-Err-Script-clause-answer : goal.returns-in-Err-Script-clause-answer
 returns-in-Err-Script-clause-answer g c =
@@ -103,11 +102,8 @@ returns-in-Err-Read-clause-answer g c = (
 pub returns-in-Err-clause-taken : goal.returns-in-Err-clause-taken
 returns-in-Err-clause-taken g c = input_lost g (goal.at.returns-in-Err-clause-taken g c).After-next
 
-pub returns-in-Ok-clause-taken : goal.returns-in-Ok-clause-taken
-returns-in-Ok-clause-taken g c = input_lost g (goal.at.returns-in-Ok-clause-taken g c).After-next
-
-pub returns-in-Err-write_totals-clause-taken : goal.returns-in-Err-write_totals-clause-taken
-returns-in-Err-write_totals-clause-taken g c = input_lost g (goal.at.returns-in-Err-write_totals-clause-taken g c).After-next
+pub returns-in-Ok-None-clause-taken : goal.returns-in-Ok-None-clause-taken
+returns-in-Ok-None-clause-taken g c = input_lost g (goal.at.returns-in-Ok-None-clause-taken g c).After-next
 
 pub returns-in-Err-Script-clause-taken : goal.returns-in-Err-Script-clause-taken
 returns-in-Err-Script-clause-taken g c = input_lost g (goal.at.returns-in-Err-Script-clause-taken g c).After-next
