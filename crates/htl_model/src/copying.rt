@@ -137,19 +137,44 @@ fn copies<T: Item>(alloc: Global, items: &Seq<T>) -> Result<Seq<T>, AllocError>
     Ok(Seq::new(found))
 }
 
+type Names = (Seq<Comm>, Seq<Mode>, Seq<Module>, Seq<Port>);
+
+type Work = (Seq<Task>, Seq<Inv>, Seq<Switch>, Seq<Function>);
+
+fn copy_names(alloc: Global, parts: &Parts) -> Result<Names, AllocError>
+    ensures { IfOk result (λ n. (n.0 ≡ parts.now.comms) × (n.1 ≡ parts.now.modes) × (n.2 ≡ parts.now.modules) × (n.3 ≡ parts.now.ports)) }
+{
+    let comms = copies(alloc, &parts.comms)?;
+    let modes = copies(alloc, &parts.modes)?;
+    let modules = copies(alloc, &parts.modules)?;
+    Ok((comms, modes, modules, copies(alloc, &parts.ports)?))
+}
+
+fn copy_work(alloc: Global, parts: &Parts) -> Result<Work, AllocError>
+    requires { All HoldsCode parts.now.functions }
+    ensures { IfOk result (λ w. (w.0 ≡ parts.now.tasks) × (w.1 ≡ parts.now.invs) × (w.2 ≡ parts.now.switches) × (w.3 ≡ parts.now.functions)) }
+{
+    let tasks = copies(alloc, &parts.tasks)?;
+    let invs = copies(alloc, &parts.invs)?;
+    let switches = copies(alloc, &parts.switches)?;
+    Ok((tasks, invs, switches, copies(alloc, &parts.functions)?))
+}
+
 fn copy_parts(alloc: Global, parts: &Parts) -> Result<Parts, AllocError>
     requires { All HoldsCode parts.now.functions }
     ensures { IfOk result (λ p. p ≡ parts.now) }
 {
+    let (comms, modes, modules, ports) = copy_names(alloc, parts)?;
+    let (tasks, invs, switches, functions) = copy_work(alloc, parts)?;
     Ok(Parts {
-        comms: copies(alloc, &parts.comms)?,
-        modes: copies(alloc, &parts.modes)?,
-        modules: copies(alloc, &parts.modules)?,
-        ports: copies(alloc, &parts.ports)?,
-        tasks: copies(alloc, &parts.tasks)?,
-        invs: copies(alloc, &parts.invs)?,
-        switches: copies(alloc, &parts.switches)?,
-        functions: copies(alloc, &parts.functions)?,
+        comms,
+        modes,
+        modules,
+        ports,
+        tasks,
+        invs,
+        switches,
+        functions,
     })
 }
 

@@ -16,6 +16,21 @@ loop-i-init c = record {
 pub nonzero_div-n : goal.nonzero_div-n
 nonzero_div-n c = (node_step c.args.radices.now c.loop-i.i c.args.path c.loop-i.behind c.loop-i.below (omega (arith, c.requires.within)) c.loop-i.invariant.behind c.loop-i.invariant.some c.loop-i.invariant.below).1
 
+pub overflow_mul-n : goal.overflow_mul-n
+overflow_mul-n c =
+    let s = node_step c.args.radices.now c.loop-i.i c.args.path c.loop-i.behind c.loop-i.below (omega (arith, c.requires.within)) c.loop-i.invariant.behind c.loop-i.invariant.some c.loop-i.invariant.below in
+    omega (arith, s.4, c.loop-i.invariant.small)
+
+pub overflow_add-n-in-loop-i : goal.overflow_add-n-in-loop-i
+overflow_add-n-in-loop-i c =
+    let s = node_step c.args.radices.now c.loop-i.i c.args.path c.loop-i.behind c.loop-i.below (omega (arith, c.requires.within)) c.loop-i.invariant.behind c.loop-i.invariant.some c.loop-i.invariant.below in
+    omega (arith, s.4, c.loop-i.invariant.small)
+
+pub overflow_add-n-in-loop-i-2 : goal.overflow_add-n-in-loop-i-2
+overflow_add-n-in-loop-i-2 c =
+    let s = node_step c.args.radices.now c.loop-i.i c.args.path c.loop-i.behind c.loop-i.below (omega (arith, c.requires.within)) c.loop-i.invariant.behind c.loop-i.invariant.some c.loop-i.invariant.below in
+    omega (arith, s.4, c.loop-i.invariant.small, c.loop-i.invariant.few, c.requires.within, c.requires.short)
+
 pub loop-i-preserved : goal.loop-i-preserved
 loop-i-preserved c =
     let s = node_step c.args.radices.now c.loop-i.i c.args.path c.loop-i.behind c.loop-i.below (omega (arith, c.requires.within)) c.loop-i.invariant.behind c.loop-i.invariant.some c.loop-i.invariant.below in
@@ -34,6 +49,12 @@ pub nonzero_div-result : goal.nonzero_div-result
 nonzero_div-result c =
     let end : c.loop-i.i ≡ c.args.j = omega arith in
     (node_step c.args.radices.now c.args.j c.args.path c.loop-i.behind c.loop-i.below c.requires.within (c.loop-i.invariant.behind ∙ ap (λ i. ways (drop i c.args.radices.now)) end) c.loop-i.invariant.some (c.loop-i.invariant.below ∙ ap (λ i. nodes_of (drop i c.args.radices.now)) end)).1
+
+pub overflow_mul-result : goal.overflow_mul-result
+overflow_mul-result c =
+    let end : c.loop-i.i ≡ c.args.j = omega arith in
+    let s = node_step c.args.radices.now c.args.j c.args.path c.loop-i.behind c.loop-i.below c.requires.within (c.loop-i.invariant.behind ∙ ap (λ i. ways (drop i c.args.radices.now)) end) c.loop-i.invariant.some (c.loop-i.invariant.below ∙ ap (λ i. nodes_of (drop i c.args.radices.now)) end) in
+    omega (arith, s.4, c.loop-i.invariant.small)
 
 pub overflow_add-result-2 : goal.overflow_add-result-2
 overflow_add-result-2 c =
