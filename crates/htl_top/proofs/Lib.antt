@@ -11,6 +11,7 @@ pub mod Counts
 pub mod EarlierReadings
 pub mod Executing
 pub mod Fetching
+pub mod Found
 pub mod Generated
 pub mod GeneratedLength
 pub mod Going

@@ -11,7 +11,7 @@ use htl_edge::Source;
 use std::alloc::Global;
 
 /// Why the input wasn't had whole.
-#[derive(Clone, Copy, PartialEq, Eq, Debug)]
+#[derive(Clone, Copy)]
 pub enum InputStop {
     /// It has more bytes than a source may have.
     TooLong,

@@ -5,14 +5,14 @@ ghost use Rattle.std.specs.List.{position_from};
 ghost use Rattle.std.specs.Option.{option_map};
 ghost use Rattle.std.specs.Str.{bytes_eq};
 ghost use Rattle.htl_base.specs.declared.limits.TheConstants as limit;
-ghost use Rattle.htl_top.specs.Words.{verb_of as verb_of_of, command_in, compile_with, modules_in, of_two, of_three, slack_of, is_dot, both_names as both_names_of, joined_names as joined_names_of, patch_of, of_four, asked_for, AreFewModules};
+ghost use Rattle.htl_top.specs.Words.{verb_of as verb_of_of, command_in, modules_in, of_two, of_three, slack_of, is_dot, both_names as both_names_of, joined_names as joined_names_of, patch_of, of_four, asked_for, AreFewModules};
 
 use htl_base::Name;
 use htl_base::limits::MAX_MODULES;
 use itoa::Buffer;
 
 /// What a command does with the file that it names.
-#[derive(Clone, Copy, PartialEq, Eq, Debug)]
+#[derive(Clone, Copy)]
 pub enum Verb {
     /// Compiles a source and runs it.
     Go,
@@ -79,22 +79,15 @@ pub enum Asked<'a> {
 fn verb_of(word: &str) -> Option<Verb>
     ensures { result ≡ verb_of_of word.now }
 {
-    if word == "go" {
-        Some(Verb::Go)
-    } else if word == "run" {
-        Some(Verb::Run)
-    } else if word == "jobs" {
-        Some(Verb::Jobs)
-    } else if word == "code" {
-        Some(Verb::Code)
-    } else if word == "check" {
-        Some(Verb::Check)
-    } else if word == "plan" {
-        Some(Verb::Plan)
-    } else if word == "show" {
-        Some(Verb::Show)
-    } else {
-        None
+    match word {
+        "go" => Some(Verb::Go),
+        "run" => Some(Verb::Run),
+        "jobs" => Some(Verb::Jobs),
+        "code" => Some(Verb::Code),
+        "check" => Some(Verb::Check),
+        "plan" => Some(Verb::Plan),
+        "show" => Some(Verb::Show),
+        _ => None,
     }
 }
 
@@ -142,15 +135,14 @@ fn read_three<'a>(first: &str, second: &'a str, third: &'a str) -> Option<Asked<
     ensures command { of_three first.now second.now third.now ≡ option_map asked_for result }
     ensures few { IfSome result AreFewModules }
 {
-    if first == "slack" {
-        read_slack(second, third)
-    } else if first == "audit" {
-        Some(Asked::Audit {
+    match (first, second) {
+        ("slack", _) => read_slack(second, third),
+        ("audit", _) => Some(Asked::Audit {
             name: second,
             log: third,
-        })
-    } else {
-        read_compile_with(first, second, third)
+        }),
+        ("compile", "with") => Some(Asked::CompileWith { platform: third }),
+        _ => None,
     }
 }
 
@@ -175,26 +167,9 @@ fn read_four<'a>(first: &str, second: &'a str, third: &str, fourth: &'a str) -> 
     ensures command { of_four first.now second.now third.now fourth.now ≡ option_map asked_for result }
     ensures few { IfSome result AreFewModules }
 {
-    if first == "patch" {
-        read_patch(second, third, fourth)
-    } else {
-        None
-    }
-}
-
-// What is asked for by two words and the name of a platform file.
-fn read_compile_with<'a>(first: &str, second: &str, platform: &'a str) -> Option<Asked<'a>>
-    ensures command { compile_with first.now second.now platform.now ≡ option_map asked_for result }
-    ensures few { IfSome result AreFewModules }
-{
-    if first == "compile" {
-        if second == "with" {
-            Some(Asked::CompileWith { platform })
-        } else {
-            None
-        }
-    } else {
-        None
+    match first {
+        "patch" => read_patch(second, third, fourth),
+        _ => None,
     }
 }
 
@@ -224,16 +199,15 @@ fn read_two<'a>(word: &str, other: &'a str) -> Option<Asked<'a>>
     ensures command { of_two word.now other.now ≡ option_map asked_for result }
     ensures few { IfSome result AreFewModules }
 {
-    if word == "bulk" {
-        match modules_in(other) {
+    match word {
+        "bulk" => match modules_in(other) {
             Some(modules) => Some(Asked::Bulk { modules }),
             None => None,
-        }
-    } else {
-        match verb_of(word) {
+        },
+        _ => match verb_of(word) {
             Some(verb) => Some(Asked::File { verb, name: other }),
             None => None,
-        }
+        },
     }
 }
 
