@@ -1,10 +1,36 @@
-use Rattle.std.proofs.Common.{◌≡◌, ◌<◌, List, ℕ, length, take, map, arith, sym, ap, ◌∙◌}
+use Rattle.std.proofs.Common.{◌≡◌, ◌<◌, ◌∷◌, [], ◌++◌, List, ℕ, length, take, map, arith, refl, sym, ap, ◌∙◌}
 use Rattle.std.specs.List.{flat_map}
-use Rattle.htl_model.specs.Frames.{rounds_at, choices, nodes_of}
+use Rattle.htl_model.specs.Frames.{rounds_at, choices, frame_of, nodes_of}
 use Rattle.htl_model.specs.Selections.{root_modules}
 use Rattle.htl_model.proofs.FrameLimits.{limits_kept}
-use Rattle.htl_model.proofs.FrameBuild.{end_is, frame_some, starts_are, starts_told, radices_few, paths_are, ways_some, ways_few}
+use Rattle.htl_model.proofs.FrameBuild.{no_longer, no_frame, no_starts, no_rounds, no_radices, no_paths, end_is, frame_some, starts_are, starts_told, radices_few, paths_are, ways_some, ways_few}
 use Rattle.htl_model.proofs.frame.Frame.survey.Goals as goal
+
+pub returns-then-modules-eq0 : goal.returns-then-modules-eq0
+returns-then-modules-eq0 c =
+    let t = c.args.t.now in
+    let none : 0 ≡ length (root_modules t) = omega (arith, c.fill_roots-modules.ensures.count, c.if-modules-eq0.true) in
+    record {
+      limits = limits_kept t c.keeps_ranges.ensures.ranges c.requires;
+      count = sym (ap (λ (xs : List ℕ). length xs) (no_starts t none));
+      starts = sym (ap (λ xs. xs ++ frame_of t ∷ []) (no_starts t none) ∙ ap (λ n. n ∷ []) (no_frame t none));
+      room = refl;
+      round_count = omega arith;
+      rounds = sym (no_rounds t none);
+      radices = sym (no_radices t none);
+      radix_room = refl;
+      paths = sym (no_paths t none);
+      nodes = sym (ap nodes_of (no_radices t none));
+    }
+
+pub hyperperiod-end-requires : goal.hyperperiod-end-requires
+hyperperiod-end-requires c =
+    let t = c.args.t.now in
+    let some : 0 < length (root_modules t) = omega (arith, c.fill_roots-modules.ensures.count, c.if-modules-eq0.false) in
+    no_longer t c.keeps_ranges.ensures.ranges c.requires some _ c.fill_roots-modules.ensures.roots
+
+pub overflow_cast-paths : goal.overflow_cast-paths
+overflow_cast-paths c = omega (arith, c.round_choices-paths.ensures)
 
 pub fill_starts-count-requires-clause-long : goal.fill_starts-count-requires-clause-long
 fill_starts-count-requires-clause-long c =
