@@ -139,16 +139,9 @@ paths_ways t p h = go (root_modules t) h ∙ choices_starts t (starts t)
 
 -- ---- no root modules
 
-empty : {A : Type 0} (xs : List A) → 0 ≡ length xs → xs ≡ []
-empty [] e = refl
-empty (x ∷ xs) e = absurd (omega (arith, e))
-
-module _ (t : Tables) (none : 0 ≡ length (root_modules t)) where
-  no_roots : root_modules t ≡ []
-  no_roots = empty (root_modules t) none
-
-  pub no_hyper : hyper t ≡ None
-  no_hyper = ap (λ (us : List ℕ). elim (map (unit_period t) us) as (λ _. Option ℕ) [ [] ↦ None | p ∷ ps ↦ Some (multiple_of p ps) ]) no_roots
+module _ (t : Tables) (none : root_modules t ≡ []) where
+  no_hyper : hyper t ≡ None
+  no_hyper = ap (λ (us : List ℕ). elim (map (unit_period t) us) as (λ _. Option ℕ) [ [] ↦ None | p ∷ ps ↦ Some (multiple_of p ps) ]) none
 
   pub no_frame : frame_of t ≡ 0
   no_frame = ap (λ (h : Option ℕ). elim h as (λ _. ℕ) [ Some n ↦ n | None ↦ 0 ]) no_hyper
@@ -163,4 +156,4 @@ module _ (t : Tables) (none : 0 ≡ length (root_modules t)) where
   no_radices = ap (map (λ (a : ℕ). choices t (rounds_at t a))) no_starts
 
   pub no_paths : paths t ≡ 0
-  no_paths = ap (λ (us : List ℕ). elim us as (λ _. ℕ) [ [] ↦ 0 | u ∷ vs ↦ choices t (rounds t) ]) no_roots
+  no_paths = ap (λ (us : List ℕ). elim us as (λ _. ℕ) [ [] ↦ 0 | u ∷ vs ↦ choices t (rounds t) ]) none

@@ -1,4 +1,5 @@
 use Rattle.std.proofs.Common.{◌≡◌, ◌<◌, ◌∷◌, [], ◌++◌, List, ℕ, length, take, map, arith, refl, sym, ap, ◌∙◌}
+use Rattle.std.proofs.lemmas.List.{nil_from_length}
 use Rattle.std.specs.List.{flat_map}
 use Rattle.htl_model.specs.Frames.{rounds_at, choices, frame_of, nodes_of}
 use Rattle.htl_model.specs.Selections.{root_modules}
@@ -9,7 +10,7 @@ use Rattle.htl_model.proofs.frame.Frame.survey.Goals as goal
 pub returns-then-modules-eq0 : goal.returns-then-modules-eq0
 returns-then-modules-eq0 c =
     let t = c.args.t.now in
-    let none : 0 ≡ length (root_modules t) = omega (arith, c.fill_roots-modules.ensures.count, c.if-modules-eq0.true) in
+    let none = nil_from_length (root_modules t) (omega (arith, c.fill_roots-modules.ensures.count, c.if-modules-eq0.true)) in
     record {
       limits = limits_kept t c.keeps_ranges.ensures.ranges c.requires;
       count = sym (ap (λ (xs : List ℕ). length xs) (no_starts t none));
