@@ -1,5 +1,5 @@
 -- Numbers of one digit or two as text, the nodes of a generated task's expression, and lists one longer.
-use Rattle.std.proofs.Common.{◌≡◌, ◌<◌, ◌≤◌, ◌+◌, ◌/◌, ◌%◌, ◌^◌, ◌++◌, ◌∷◌, ◌∙◌, ℕ, suc, List, [], map, ap, sym, arith}
+use Rattle.std.proofs.Common.{◌≡◌, ◌<◌, ◌≤◌, ◌+◌, ◌/◌, ◌%◌, ◌^◌, ◌++◌, ◌∷◌, ◌∙◌, ℕ, suc, List, [], None, map, ap, sym, arith}
 use Rattle.std.proofs.lemmas.Fmt.{decimal_digit, decimal_step}
 use Rattle.std.proofs.lemmas.List.{map-append}
 use Rattle.std.specs.Fmt.{decimal}
@@ -9,8 +9,12 @@ use Rattle.htl_model.specs.Lists.{list_to}
 use Rattle.htl_text.specs.Postfix.{nodes_of}
 use Rattle.htl_text.specs.declared.expression.Node.{Node}
 use Rattle.htl_text.specs.declared.expression.Node.TheVariants as node
+use Rattle.htl_text.specs.Nodes.{PlainMode, PlainSwitch}
 use Rattle.htl_text.specs.declared.tree.Id.{Id}
-use Rattle.htl_compile.specs.BulkTree.{named, scaled_sum}
+use Rattle.htl_text.specs.declared.tree.InvokeNode.{InvokeNode}
+use Rattle.htl_text.specs.declared.tree.Num.{Num}
+use Rattle.htl_text.specs.declared.tree.ParamNode.{ParamNode}
+use Rattle.htl_compile.specs.BulkTree.{named, number, int_named, scaling_invoke, copying_invoke, bulk_mode, scaled_sum}
 
 -- ---- digits
 
@@ -46,3 +50,20 @@ pub map_further : {A B : Type 0} (see : A → B) (f : ℕ → B) (xs : List A) (
     → map see xs ≡ list_to f k → see x ≡ f k → map see (xs ++ x ∷ []) ≡ list_to f (k + 1)
 map_further see f xs x k before here =
     map-append see xs (x ∷ []) ∙ ap (λ ys. ys ++ see x ∷ []) before ∙ ap (λ y. list_to f k ++ y ∷ []) here ∙ sym (list_further f k)
+
+-- ---- the mode of its parts
+
+abbrev plain : Id → Num → List ParamNode → List InvokeNode → List PlainSwitch → PlainMode
+plain name period ports invokes switches = record { name = name; period = period; program = None; ports = ports; invokes = invokes; switches = switches }
+
+pub mode_made : (n k : ℕ) (name : Id) (period : Num) (ports : List ParamNode) (invokes : List InvokeNode) (switches : List PlainSwitch)
+    → name ≡ named (codes "m") → period ≡ number (pos 1000) → ports ≡ int_named (codes "p") ∷ [] → invokes ≡ scaling_invoke n k ∷ copying_invoke k ∷ [] → switches ≡ []
+    → plain name period ports invokes switches ≡ bulk_mode n k
+mode_made n k name period ports invokes switches a b c d e =
+    let m = named (codes "m") in
+    let p = int_named (codes "p") ∷ [] in
+    ap (λ x. plain x period ports invokes switches) a
+    ∙ ap (λ x. plain m x ports invokes switches) b
+    ∙ ap (λ x. plain m (number (pos 1000)) x invokes switches) c
+    ∙ ap (λ x. plain m (number (pos 1000)) p x switches) d
+    ∙ ap (plain m (number (pos 1000)) p (scaling_invoke n k ∷ copying_invoke k ∷ [])) e

@@ -191,7 +191,7 @@ fn mode(alloc: Global, n: u32, k: u32) -> Result<ModeNode, AllocError>
     ensures { IfOk result (λ m. mode_of m ≡ bulk_mode n k) }
 {
     let ports = vec![in alloc; int_named(b"p")]?;
-    let invokes = vec![in alloc; scaling_invoke(alloc, n, k)?, copying_invoke(alloc, k)?]?;
+    let invokes = invokes(alloc, n, k)?;
     Ok(ModeNode {
         name: named(b"m"),
         period: number(1000),
@@ -200,6 +200,17 @@ fn mode(alloc: Global, n: u32, k: u32) -> Result<ModeNode, AllocError>
         invokes: Seq::new(invokes),
         switches: Seq::new(Vec::new(alloc)),
     })
+}
+
+// The invocations of module k of n.
+fn invokes(alloc: Global, n: u32, k: u32) -> Result<Vec<InvokeNode>, AllocError>
+    requires k { k < n }
+    requires few { n ≤ 64 }
+    ensures { IfOk result (λ v. v.items ≡ scaling_invoke n k ∷ copying_invoke k ∷ []) }
+{
+    let scaling = scaling_invoke(alloc, n, k)?;
+    let copying = copying_invoke(alloc, k)?;
+    Ok(vec![in alloc; scaling, copying]?)
 }
 
 // What the scaling task reads, and its port.
