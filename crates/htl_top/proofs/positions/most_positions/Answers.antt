@@ -1,13 +1,25 @@
-use Rattle.std.proofs.Common.{◌≡◌, take, sym, ap, ◌∙◌, arith}
-use Rattle.std.proofs.lemmas.List.{drop_all, length-take}
+use Rattle.std.proofs.Common.{◌≡◌, ◌≤◌, ◌<◌, ◌+◌, ℕ, List, length, get_or, take, drop, add-one, sym, ap, ◌∙◌, arith}
+use Rattle.std.proofs.Math.Seq.{drop-cons}
+use Rattle.std.proofs.lemmas.List.{drop_all, get_or-take, length-take}
 use Rattle.std.specs.Prelude.{count_by}
 use Rattle.htl_model.specs.Frames as frames
-use Rattle.htl_model.specs.Selections.{inv_of_mode}
+use Rattle.htl_model.specs.Selections.{inv_of_mode, modes_of}
 use Rattle.htl_model.specs.Tables.{Tables}
+use Rattle.htl_model.specs.declared.frame.Round.{Round}
 use Rattle.htl_object.proofs.Limits.{count_places}
 use Rattle.htl_object.proofs.Noting.{none_filled}
 use Rattle.htl_top.proofs.PathPositions.{most_is}
 use Rattle.htl_top.proofs.positions.most_positions.Goals as goal
+
+-- a round more
+one_more : (t : Tables) (n wide k count : ℕ) (rounds : List Round) (x : Round) (total : ℕ) → count ≤ length rounds → k < count → wide ≡ frames.most_invs t (modes_of t (get_or rounds k x).unit)
+    → n + frames.most_positions t (drop k (take count rounds)) ≡ total → n + wide + frames.most_positions t (drop (k + 1) (take count rounds)) ≡ total
+one_more t n wide k count rounds x total all less is so_far =
+    let some = take count rounds in
+    let inside : k < length some = let e = length-take count rounds in omega (arith, e, all, less) in
+    let here = ap (frames.most_positions t) (drop-cons some k x inside) in
+    let same = ap (λ (r : Round). frames.most_invs t (modes_of t r.unit)) (get_or-take count rounds k x less) in
+    rw add-one (omega (arith, here, same, is, so_far))
 
 pub count_invs-requires : goal.count_invs-requires
 count_invs-requires c = λ m. none_filled 256 m
@@ -23,3 +35,12 @@ returns c =
     let past = drop_all c.loop-k.k (take c.args.f.now.round_count c.args.f.now.rounds) (let e = length-take c.args.f.now.round_count c.args.f.now.rounds in omega (arith, e, c.loop-k-test.false)) in
     let none = ap (frames.most_positions t) past in
     omega (arith, none, c.loop-k.invariant, most_is t c.keeps_ranges.ensures.ranges)
+
+pub overflow_add-n : goal.overflow_add-n
+overflow_add-n c =
+    let next = one_more c.args.t.now c.loop-k.n c.widest-n.result c.loop-k.k c.args.f.now.round_count c.args.f.now.rounds _ _ (omega arith) c.loop-k-test.true c.widest-n.ensures c.loop-k.invariant in
+    omega (arith, next, c.requires.limits.most)
+
+pub loop-k-preserved : goal.loop-k-preserved
+loop-k-preserved c =
+    one_more c.args.t.now c.loop-k.n c.widest-n.result c.loop-k.k c.args.f.now.round_count c.args.f.now.rounds _ _ (omega arith) c.loop-k-test.true c.widest-n.ensures c.loop-k.invariant
