@@ -2,43 +2,41 @@
 use htl_base::{Name, Seq};
 use std::test::Fail;
 
-#[test]
-fn names_are_told_apart(rt: HostRuntime) -> Result<(), Fail> {
-    let longest = [b'a'; 48];
-    let too_long = [b'a'; 49];
-    let table: [(&[u8], bool); 12] = [
-        (b"x", true),
-        (b"_", true),
-        (b"a1_B", true),
-        (&longest, true),
-        (b"programs", true),
-        (&too_long, false),
-        (b"", false),
-        (b"1a", false),
-        (b"a-b", false),
-        (b"program", false),
-        (b"if", false),
-        (b"a b", false),
-    ];
-    for (bytes, is_name) in table {
-        match Name::new(bytes) {
-            Some(name) => {
-                assert!(rt; is_name);
-                assert_eq!(rt; name.as_bytes(), bytes);
-            }
-            None => assert!(rt; !is_name),
-        }
+// Bytes, and whether they are a name.
+const TEXTS: [(&[u8], bool); 12] = [
+    (b"x", true),
+    (b"_", true),
+    (b"a1_B", true),
+    (&[b'a'; 48], true),
+    (b"programs", true),
+    (&[b'a'; 49], false),
+    (b"", false),
+    (b"1a", false),
+    (b"a-b", false),
+    (b"program", false),
+    (b"if", false),
+    (b"a b", false),
+];
+
+fn is_told(bytes: &[u8], is_name: bool) -> bool {
+    match Name::new(bytes) {
+        Some(name) => is_name && name.as_bytes() == bytes,
+        None => !is_name,
     }
-    Ok(())
 }
 
 #[test]
-fn known_names_are_the_same(rt: HostRuntime) -> Result<(), Fail> {
+fn names_are_told_apart(rt: HostRuntime) {
+    for (bytes, is_name) in TEXTS {
+        assert!(rt; is_told(bytes, is_name), "{bytes:?}");
+    }
+}
+
+#[test]
+fn known_names_are_the_same(rt: HostRuntime) {
     let bytes = b"level_3";
     let name = Name::from_known(bytes);
-    assert_eq!(rt; name.as_bytes(), bytes.as_slice());
-    assert!(rt; Name::new(bytes) == Some(name));
-    Ok(())
+    assert!(rt; name.as_bytes() == bytes.as_slice() && Name::new(bytes) == Some(name));
 }
 
 #[test]

@@ -1,69 +1,90 @@
 // The fakes, call by call.
-use htl_edge::{Drawer, Failed, LineBuffer, Page, Shelf, ShelfFault, Sink, Source, Tape, put_all};
-use std::alloc::Global;
+use crate::calls::shelf_of;
+use htl_edge::{Failed, LineBuffer, Page, Shelf, ShelfFault, Sink, Source, Tape, put_all};
 use std::test::Fail;
+
+// What a read with so much room answers, and what is in the buffer then.
+fn read(tape: &mut Tape, room: usize) -> (Result<usize, Failed>, [u8; 3]) {
+    let mut buf = [0u8; 3];
+    let answer = tape.read(&mut buf[..room.min(3)]);
+    (answer, buf)
+}
+
+// Reads of `abcde` by two bytes, of which the third fails.
+const READS: [(usize, (Result<usize, Failed>, [u8; 3])); 6] = [
+    (0, (Ok(0), [0, 0, 0])),
+    (3, (Ok(2), [b'a', b'b', 0])),
+    (3, (Err(Failed), [0, 0, 0])),
+    (3, (Ok(2), [b'c', b'd', 0])),
+    (3, (Ok(1), [b'e', 0, 0])),
+    (3, (Ok(0), [0, 0, 0])),
+];
 
 #[test]
 fn tape_gives_its_bytes_by_steps(rt: HostRuntime) -> Result<(), Fail> {
     let mut tape = Tape::new(rt.alloc(), b"abcde", 2, &[3])?;
-    let mut buf = [0u8; 3];
-    assert_eq!(rt; tape.read(&mut []), Ok(0));
-    assert_eq!(rt; tape.read(&mut buf), Ok(2));
-    assert_eq!(rt; tape.read(&mut buf), Err(Failed));
-    assert_eq!(rt; tape.read(&mut buf), Ok(2));
-    assert_eq!(rt; &buf[..2], b"cd".as_slice());
-    assert_eq!(rt; tape.read(&mut buf), Ok(1));
-    assert_eq!(rt; tape.read(&mut buf), Ok(0));
+    for (room, wanted) in READS {
+        assert_eq!(rt; read(&mut tape, room), wanted);
+    }
     Ok(())
 }
+
+// Pieces for a page of five bytes whose second write fails.
+const WRITES: [(&[u8], Result<usize, Failed>); 3] = [
+    (b"abc", Ok(3)),
+    (b"d", Err(Failed)),
+    (b"", Ok(0)),
+];
 
 #[test]
 fn page_takes_what_fits(rt: HostRuntime) -> Result<(), Fail> {
     let mut page = Page::new(rt.alloc(), 5, &[2])?;
-    assert_eq!(rt; page.write(b"abc"), Ok(3));
-    assert_eq!(rt; page.write(b"d"), Err(Failed));
-    assert_eq!(rt; page.write(b""), Ok(0));
-    assert_eq!(rt; put_all(&mut page, b"defg"), Err(Failed));
-    assert_eq!(rt; page.bytes(), b"abcde".as_slice());
+    for (piece, wanted) in WRITES {
+        assert_eq!(rt; page.write(piece), wanted);
+    }
+    assert!(rt; put_all(&mut page, b"defg") == Err(Failed) && page.bytes() == b"abcde".as_slice());
     Ok(())
 }
 
 #[test]
 fn pieces_are_put_whole(rt: HostRuntime) -> Result<(), Fail> {
     let mut page = Page::new(rt.alloc(), 5, &[])?;
-    assert_eq!(rt; put_all(&mut page, b"abcde"), Ok(()));
-    assert_eq!(rt; page.bytes(), b"abcde".as_slice());
+    assert!(rt; put_all(&mut page, b"abcde") == Ok(()) && page.bytes() == b"abcde".as_slice());
     Ok(())
 }
 
-fn drawer(alloc: Global, fails: &[u64]) -> Result<Drawer, Fail> {
-    let first = (
-        String::from_str(alloc, "a")?,
-        Vec::from_slice(alloc, b"12")?,
-    );
-    let second = (
-        String::from_str(alloc, "b")?,
-        Vec::from_slice(alloc, b"345")?,
-    );
-    let items = vec![in alloc; first, second]?;
-    Ok(Drawer::new(alloc, items, fails)?)
+/// Whether a fetch gives these bytes, or this fault.
+pub fn is_fetched(
+    answer: Result<Vec<u8>, ShelfFault>,
+    wanted: Result<&'static [u8], ShelfFault>,
+) -> bool {
+    match (answer, wanted) {
+        (Ok(bytes), Ok(held)) => bytes.as_slice() == held,
+        (Err(fault), Err(known)) => fault == known,
+        _ => false,
+    }
 }
+
+// Fetches of files A and B with two and three bytes, of which the fourth fails: the name, and the most bytes.
+const FETCHES: [(&str, u64, Result<&[u8], ShelfFault>); 5] = [
+    ("B", 3, Ok(b"345")),
+    ("B", 2, Err(ShelfFault::TooLong { seen: 3 })),
+    ("C", 3, Err(ShelfFault::Failed)),
+    ("A", 3, Err(ShelfFault::Failed)),
+    ("A", 2, Ok(b"12")),
+];
 
 #[test]
 fn drawer_gives_files_by_name(rt: HostRuntime) -> Result<(), Fail> {
     let alloc = rt.alloc();
-    let mut shelf = drawer(alloc, &[4])?;
-    let bytes = shelf.fetch(alloc, "b", 3)?;
-    assert_eq!(rt; bytes.as_slice(), b"345".as_slice());
-    assert!(rt;
-        matches!(
-            &shelf.fetch(alloc, "b", 2),
-            Err(ShelfFault::TooLong { seen: 3 })
-        )
-    );
-    assert!(rt; matches!(&shelf.fetch(alloc, "c", 3), Err(ShelfFault::Failed)));
-    assert!(rt; matches!(&shelf.fetch(alloc, "a", 3), Err(ShelfFault::Failed)));
-    assert!(rt; shelf.fetch(alloc, "a", 2).is_ok());
+    let first = Vec::from_slice(alloc, b"12")?;
+    let mut shelf = shelf_of(alloc, first, Vec::from_slice(alloc, b"345")?, &[4])?;
+    for (name, limit, wanted) in FETCHES {
+        assert!(rt;
+            is_fetched(shelf.fetch(alloc, name, limit), wanted),
+            "{name} {limit}"
+        );
+    }
     Ok(())
 }
 

@@ -62,31 +62,35 @@ fn passes(code: &Code) -> bool {
     verify(code).is_some()
 }
 
+const ONE: FInstr = FInstr::Int { x: 1 };
+
+const YES: FInstr = FInstr::Bool { x: 1 };
+
+// Code of an int and a bool, its result, and whether it is right.
+const CODES: [(&[FInstr], Ty, bool); 18] = [
+    (&[], Ty::Int, false),
+    (&[ONE], Ty::Int, true),
+    (&[ONE], Ty::Bool, false),
+    (&[YES], Ty::Bool, true),
+    (&[FInstr::Bool { x: 0 }], Ty::Bool, true),
+    (&[FInstr::Bool { x: 2 }], Ty::Bool, false),
+    (&[FInstr::Arg { k: 1 }], Ty::Bool, true),
+    (&[FInstr::Arg { k: 2 }], Ty::Bool, false),
+    (&[ONE, ONE], Ty::Int, false),
+    (&[FInstr::Neg], Ty::Int, false),
+    (&[ONE, FInstr::Neg], Ty::Int, true),
+    (&[ONE, FInstr::Not], Ty::Bool, false),
+    (&[ONE, FInstr::Add], Ty::Int, false),
+    (&[ONE, YES, FInstr::Eq], Ty::Bool, false),
+    (&[YES, YES, FInstr::Eq], Ty::Bool, true),
+    (&[YES, ONE, ONE, FInstr::Choose], Ty::Int, true),
+    (&[ONE, ONE, ONE, FInstr::Choose], Ty::Int, false),
+    (&[YES, ONE, YES, FInstr::Choose], Ty::Int, false),
+];
+
 #[test]
 fn wrong_code_is_refused(rt: HostRuntime) -> Result<(), Fail> {
-    let one = FInstr::Int { x: 1 };
-    let yes = FInstr::Bool { x: 1 };
-    let table: [(&[FInstr], Ty, bool); 18] = [
-        (&[], Ty::Int, false),
-        (&[one], Ty::Int, true),
-        (&[one], Ty::Bool, false),
-        (&[yes], Ty::Bool, true),
-        (&[FInstr::Bool { x: 0 }], Ty::Bool, true),
-        (&[FInstr::Bool { x: 2 }], Ty::Bool, false),
-        (&[FInstr::Arg { k: 1 }], Ty::Bool, true),
-        (&[FInstr::Arg { k: 2 }], Ty::Bool, false),
-        (&[one, one], Ty::Int, false),
-        (&[FInstr::Neg], Ty::Int, false),
-        (&[one, FInstr::Neg], Ty::Int, true),
-        (&[one, FInstr::Not], Ty::Bool, false),
-        (&[one, FInstr::Add], Ty::Int, false),
-        (&[one, yes, FInstr::Eq], Ty::Bool, false),
-        (&[yes, yes, FInstr::Eq], Ty::Bool, true),
-        (&[yes, one, one, FInstr::Choose], Ty::Int, true),
-        (&[one, one, one, FInstr::Choose], Ty::Int, false),
-        (&[yes, one, yes, FInstr::Choose], Ty::Int, false),
-    ];
-    for (instrs, want, right) in table {
+    for (instrs, want, right) in CODES {
         let code = code(rt.alloc(), &[Ty::Int, Ty::Bool], want, instrs)?;
         assert_eq!(rt; passes(&code), right, "{instrs:?}");
     }
@@ -95,10 +99,10 @@ fn wrong_code_is_refused(rt: HostRuntime) -> Result<(), Fail> {
 
 #[test]
 fn limits_are_kept(rt: HostRuntime) -> Result<(), Fail> {
-    assert!(rt; passes(&sum(rt.alloc(), 64)?));
-    assert!(rt; !passes(&sum(rt.alloc(), 65)?));
-    assert!(rt; passes(&negated(rt.alloc(), 511)?));
-    assert!(rt; !passes(&negated(rt.alloc(), 512)?));
+    for (ones, times, right) in [(64, 511, true), (65, 512, false)] {
+        assert_eq!(rt; passes(&sum(rt.alloc(), ones)?), right);
+        assert_eq!(rt; passes(&negated(rt.alloc(), times)?), right);
+    }
     Ok(())
 }
 

@@ -7,7 +7,7 @@ ghost use Rattle.htl_model.specs.Small.{ArgumentsBelow, nodes};
 use htl_base::{BinOp, Ty, UnOp, Value};
 use htl_fcode::{Verified, eval};
 use htl_func::{FnFault, compile_fn};
-use htl_model::{Expr, FInstr};
+use htl_model::{Code, Expr, FInstr};
 use std::alloc::{AllocError, Global};
 use std::test::Fail;
 
@@ -222,14 +222,24 @@ fn fault_of(alloc: Global, e: &Expr, args: &[Ty], want: Ty) -> Option<FnFault>
     }
 }
 
+// The value of an operator on two numbers.
+fn of_numbers(
+    alloc: Global,
+    op: BinOp,
+    (x, y): (Value, Value),
+    want: Ty,
+) -> Result<Option<Value>, AllocError> {
+    let e = binary(alloc, 1, op, number(x), number(y))?;
+    Ok(value_of(alloc, &e, want))
+}
+
 #[test]
 fn arithmetic_wraps(rt: HostRuntime) -> Result<(), Fail> {
     for (op, rows) in ARITHMETIC {
         for i in 0..6 {
             for j in 0..6 {
-                let e = binary(rt.alloc(), 1, op, number(EDGES[i]), number(EDGES[j]))?;
                 assert_eq!(rt;
-                    value_of(rt.alloc(), &e, Ty::Int),
+                    of_numbers(rt.alloc(), op, (EDGES[i], EDGES[j]), Ty::Int)?,
                     Some(rows[i][j]),
                     "{op:?} at {i}, {j}"
                 );
@@ -239,22 +249,25 @@ fn arithmetic_wraps(rt: HostRuntime) -> Result<(), Fail> {
     Ok(())
 }
 
+// What is answered where the first number is below, at or above the second.
+fn compared(i: usize, j: usize, results: [Value; 3]) -> Value {
+    if i < j {
+        results[0]
+    } else if i == j {
+        results[1]
+    } else {
+        results[2]
+    }
+}
+
 #[test]
 fn comparisons_are_signed(rt: HostRuntime) -> Result<(), Fail> {
     for (op, results) in COMPARISONS {
         for i in 0..6 {
             for j in 0..6 {
-                let e = binary(rt.alloc(), 1, op, number(EDGES[i]), number(EDGES[j]))?;
-                let want = if i < j {
-                    results[0]
-                } else if i == j {
-                    results[1]
-                } else {
-                    results[2]
-                };
                 assert_eq!(rt;
-                    value_of(rt.alloc(), &e, Ty::Bool),
-                    Some(want),
+                    of_numbers(rt.alloc(), op, (EDGES[i], EDGES[j]), Ty::Bool)?,
+                    Some(compared(i, j, results)),
                     "{op:?} at {i}, {j}"
                 );
             }
@@ -263,149 +276,194 @@ fn comparisons_are_signed(rt: HostRuntime) -> Result<(), Fail> {
     Ok(())
 }
 
+// The value of an operator on two truth values.
+fn of_truths(alloc: Global, op: BinOp, x: bool, y: bool) -> Result<Option<Value>, AllocError> {
+    let e = binary(alloc, 1, op, truth(x), truth(y))?;
+    Ok(value_of(alloc, &e, Ty::Bool))
+}
+
+// The values of not a truth value, and of the choice between 5 and 6 by it.
+fn of_truth(alloc: Global, x: bool) -> Result<[Option<Value>; 2], AllocError> {
+    let denied = unary(alloc, 1, UnOp::Not, truth(x))?;
+    let chosen = choose(alloc, 1, truth(x), number(5), number(6))?;
+    Ok([
+        value_of(alloc, &denied, Ty::Bool),
+        value_of(alloc, &chosen, Ty::Int),
+    ])
+}
+
 #[test]
 fn bools_are_joined(rt: HostRuntime) -> Result<(), Fail> {
     for (op, results) in OF_BOOLS {
         for k in 0..4usize {
-            let e = binary(rt.alloc(), 1, op, truth(k >= 2), truth(k % 2 == 1))?;
             assert_eq!(rt;
-                value_of(rt.alloc(), &e, Ty::Bool),
+                of_truths(rt.alloc(), op, k >= 2, k % 2 == 1)?,
                 Some(results[k]),
                 "{op:?} at {k}"
             );
         }
     }
-    for k in 0..2u8 {
-        let e = unary(rt.alloc(), 1, UnOp::Not, truth(k == 1))?;
-        assert_eq!(rt; value_of(rt.alloc(), &e, Ty::Bool), Some(1 - k as Value));
-        let e = choose(rt.alloc(), 1, truth(k == 1), number(5), number(6))?;
-        assert_eq!(rt; value_of(rt.alloc(), &e, Ty::Int), Some(6 - k as Value));
-    }
+    assert_eq!(rt; of_truth(rt.alloc(), false)?, [Some(1), Some(6)]);
+    assert_eq!(rt; of_truth(rt.alloc(), true)?, [Some(0), Some(5)]);
     Ok(())
+}
+
+const WRITTEN: [(BinOp, Value, Value, Value); 7] = [
+    (BinOp::Div, MIN, -1, MIN),
+    (BinOp::Div, 1, 0, 0),
+    (BinOp::Rem, 7, 0, 0),
+    (BinOp::Rem, MIN, -1, 0),
+    (BinOp::Div, -7, 2, -3),
+    (BinOp::Rem, -7, 2, -1),
+    (BinOp::Add, MAX, 1, MIN),
+];
+
+const NEGATED: [(Value, Value); 5] = [(MIN, MIN), (-7, 7), (0, 0), (2, -2), (MAX, MIN + 1)];
+
+// The value of an operator on two numbers as a source writes them.
+fn of_written(alloc: Global, op: BinOp, x: Value, y: Value) -> Result<Option<Value>, AllocError> {
+    let left = written(alloc, x)?;
+    let right = written(alloc, y)?;
+    let e = binary(alloc, 1, op, left, right)?;
+    Ok(value_of(alloc, &e, Ty::Int))
+}
+
+// The value of minus a number as a source writes it.
+fn minus_written(alloc: Global, x: Value) -> Result<Option<Value>, AllocError> {
+    let e = unary(alloc, 1, UnOp::Neg, written(alloc, x)?)?;
+    Ok(value_of(alloc, &e, Ty::Int))
 }
 
 #[test]
 fn numbers_are_written_with_signs(rt: HostRuntime) -> Result<(), Fail> {
-    let table = [
-        (BinOp::Div, MIN, -1, MIN),
-        (BinOp::Div, 1, 0, 0),
-        (BinOp::Rem, 7, 0, 0),
-        (BinOp::Rem, MIN, -1, 0),
-        (BinOp::Div, -7, 2, -3),
-        (BinOp::Rem, -7, 2, -1),
-        (BinOp::Add, MAX, 1, MIN),
-    ];
-    for (op, x, y, want) in table {
-        let e = binary(
-            rt.alloc(),
-            1,
-            op,
-            written(rt.alloc(), x)?,
-            written(rt.alloc(), y)?,
-        )?;
+    for (op, x, y, want) in WRITTEN {
         assert_eq!(rt;
-            value_of(rt.alloc(), &e, Ty::Int),
+            of_written(rt.alloc(), op, x, y)?,
             Some(want),
             "{op:?} of {x} and {y}"
         );
     }
-    for (x, want) in [(MIN, MIN), (-7, 7), (0, 0), (2, -2), (MAX, MIN + 1)] {
-        let e = unary(rt.alloc(), 1, UnOp::Neg, written(rt.alloc(), x)?)?;
-        assert_eq!(rt; value_of(rt.alloc(), &e, Ty::Int), Some(want), "- of {x}");
+    for (x, want) in NEGATED {
+        assert_eq!(rt; minus_written(rt.alloc(), x)?, Some(want), "- of {x}");
     }
     Ok(())
 }
 
+fn value_of_nested(alloc: Global, depth: u32) -> Result<Option<Value>, AllocError>
+    requires { depth ≤ 250 }
+{
+    let e = nested(alloc, depth)?;
+    Ok(value_of(alloc, &e, Ty::Int))
+}
+
+fn fault_of_nested(alloc: Global, depth: u32, want: Ty) -> Result<Option<FnFault>, AllocError>
+    requires { depth ≤ 250 }
+{
+    let e = nested(alloc, depth)?;
+    Ok(fault_of(alloc, &e, &[], want))
+}
+
+fn value_of_negated(alloc: Global, depth: u32) -> Result<Option<Value>, AllocError>
+    requires { depth ≤ 511 }
+{
+    let e = negated(alloc, depth)?;
+    Ok(value_of(alloc, &e, Ty::Int))
+}
+
+const DEEP: Option<FnFault> = Some(FnFault::Deep { token: 100 });
+
 #[test]
 fn sixty_four_values_are_held(rt: HostRuntime) -> Result<(), Fail> {
-    let e = nested(rt.alloc(), 63)?;
-    assert_eq!(rt; value_of(rt.alloc(), &e, Ty::Int), Some(64));
-    let e = nested(rt.alloc(), 64)?;
-    assert_eq!(rt;
-        fault_of(rt.alloc(), &e, &[], Ty::Int),
-        Some(FnFault::Deep { token: 100 })
-    );
-    assert_eq!(rt;
-        fault_of(rt.alloc(), &e, &[], Ty::Bool),
-        Some(FnFault::IllTyped { token: 100 })
-    );
+    let alloc = rt.alloc();
+    assert_eq!(rt; value_of_nested(alloc, 63)?, Some(64));
+    assert_eq!(rt; value_of_negated(alloc, 500)?, Some(1));
+    assert_eq!(rt; fault_of_nested(alloc, 64, Ty::Int)?, DEEP);
+    assert_eq!(rt; fault_of_nested(alloc, 250, Ty::Int)?, DEEP);
+    assert_eq!(rt; fault_of_nested(alloc, 64, Ty::Bool)?, ill_typed(100));
     Ok(())
 }
 
-#[test]
-fn long_chains_are_compiled(rt: HostRuntime) -> Result<(), Fail> {
-    let e = negated(rt.alloc(), 500)?;
-    assert_eq!(rt; value_of(rt.alloc(), &e, Ty::Int), Some(1));
-    let e = nested(rt.alloc(), 250)?;
-    assert_eq!(rt;
-        fault_of(rt.alloc(), &e, &[], Ty::Int),
-        Some(FnFault::Deep { token: 100 })
-    );
-    Ok(())
+// The faults of x < 2: as an int of an int and of a bool, and as a bool.
+fn faults_of_comparison(alloc: Global) -> Result<[Option<FnFault>; 3], AllocError> {
+    let e = binary(alloc, 101, BinOp::Lt, argument(100, 0), number(2))?;
+    Ok([
+        fault_of(alloc, &e, &[Ty::Int], Ty::Int),
+        fault_of(alloc, &e, &[Ty::Bool], Ty::Int),
+        fault_of(alloc, &e, &[Ty::Int], Ty::Bool),
+    ])
+}
+
+// The fault of 1 + (!2).
+fn fault_of_denied_number(alloc: Global) -> Result<Option<FnFault>, AllocError> {
+    let inner = unary(alloc, 103, UnOp::Not, number(2))?;
+    let e = binary(alloc, 101, BinOp::Add, number(1), inner)?;
+    Ok(fault_of(alloc, &e, &[], Ty::Int))
+}
+
+// The fault of (-true) + (!2).
+fn fault_of_two(alloc: Global) -> Result<Option<FnFault>, AllocError> {
+    let left = unary(alloc, 101, UnOp::Neg, truth(true))?;
+    let right = unary(alloc, 105, UnOp::Not, number(2))?;
+    let e = binary(alloc, 103, BinOp::Add, left, right)?;
+    Ok(fault_of(alloc, &e, &[], Ty::Int))
+}
+
+// The fault of if(true, 1, false == (0 == 0)).
+fn fault_of_choice(alloc: Global) -> Result<Option<FnFault>, AllocError> {
+    let inner = binary(alloc, 110, BinOp::Eq, number(0), number(0))?;
+    let last = binary(alloc, 107, BinOp::Eq, truth(false), inner)?;
+    let e = choose(alloc, 100, truth(true), number(1), last)?;
+    Ok(fault_of(alloc, &e, &[], Ty::Int))
+}
+
+fn ill_typed(token: u32) -> Option<FnFault> {
+    Some(FnFault::IllTyped { token })
 }
 
 #[test]
 fn the_first_wrong_type_is_named(rt: HostRuntime) -> Result<(), Fail> {
-    // x < 2, where an int is wanted
-    let e = binary(rt.alloc(), 101, BinOp::Lt, argument(100, 0), number(2))?;
+    let alloc = rt.alloc();
     assert_eq!(rt;
-        fault_of(rt.alloc(), &e, &[Ty::Int], Ty::Int),
-        Some(FnFault::IllTyped { token: 100 })
+        faults_of_comparison(alloc)?,
+        [ill_typed(100), ill_typed(101), None]
     );
-    assert_eq!(rt;
-        fault_of(rt.alloc(), &e, &[Ty::Bool], Ty::Int),
-        Some(FnFault::IllTyped { token: 101 })
-    );
-    assert_eq!(rt; fault_of(rt.alloc(), &e, &[Ty::Int], Ty::Bool), None);
-    // 1 + (!2), with an operand of a wrong type and then one without a type
-    let inner = unary(rt.alloc(), 103, UnOp::Not, number(2))?;
-    let e = binary(rt.alloc(), 101, BinOp::Add, number(1), inner)?;
-    assert_eq!(rt;
-        fault_of(rt.alloc(), &e, &[], Ty::Int),
-        Some(FnFault::IllTyped { token: 103 })
-    );
-    // (-true) + (!2)
-    let left = unary(rt.alloc(), 101, UnOp::Neg, truth(true))?;
-    let right = unary(rt.alloc(), 105, UnOp::Not, number(2))?;
-    let e = binary(rt.alloc(), 103, BinOp::Add, left, right)?;
-    assert_eq!(rt;
-        fault_of(rt.alloc(), &e, &[], Ty::Int),
-        Some(FnFault::IllTyped { token: 101 })
-    );
-    // if(true, 1, false == (0 == 0))
-    let inner = binary(rt.alloc(), 110, BinOp::Eq, number(0), number(0))?;
-    let last = binary(rt.alloc(), 107, BinOp::Eq, truth(false), inner)?;
-    let e = choose(rt.alloc(), 100, truth(true), number(1), last)?;
-    assert_eq!(rt;
-        fault_of(rt.alloc(), &e, &[], Ty::Int),
-        Some(FnFault::IllTyped { token: 100 })
-    );
+    // an operand of a wrong type before one without a type, and behind one
+    assert_eq!(rt; fault_of_denied_number(alloc)?, ill_typed(103));
+    assert_eq!(rt; fault_of_two(alloc)?, ill_typed(101));
+    assert_eq!(rt; fault_of_choice(alloc)?, ill_typed(100));
     Ok(())
+}
+
+const POSTFIX: [FInstr; 6] = [
+    FInstr::Arg { k: 0 },
+    FInstr::Int { x: 1 },
+    FInstr::Lt,
+    FInstr::Arg { k: 1 },
+    FInstr::Int { x: 7 },
+    FInstr::Choose,
+];
+
+fn is_postfix(code: &Code) -> bool {
+    code.instrs.as_slice() == POSTFIX.as_slice()
+        && code.args.as_slice() == [Ty::Int, Ty::Int].as_slice()
+        && code.want == Ty::Int
+}
+
+// The values of if(x < 1, y, 7) for two pairs of arguments, where its code is the postfix form.
+fn values_of_postfix(alloc: Global) -> Result<Option<[Value; 2]>, AllocError> {
+    let test = binary(alloc, 3, BinOp::Lt, argument(2, 0), number(1))?;
+    let e = choose(alloc, 0, test, argument(6, 1), number(7))?;
+    match compile_fn(alloc, 0, &e, &[Ty::Int, Ty::Int], Ty::Int) {
+        Ok(code) if is_postfix(&code) => Ok(Some([
+            eval(Verified::of(&code), &[0, 5]),
+            eval(Verified::of(&code), &[1, 5]),
+        ])),
+        _ => Ok(None),
+    }
 }
 
 #[test]
 fn code_is_the_postfix_form(rt: HostRuntime) -> Result<(), Fail> {
-    // if(x < 1, y, 7)
-    let test = binary(rt.alloc(), 3, BinOp::Lt, argument(2, 0), number(1))?;
-    let e = choose(rt.alloc(), 0, test, argument(6, 1), number(7))?;
-    let types = [Ty::Int, Ty::Int];
-    match compile_fn(rt.alloc(), 0, &e, &types, Ty::Int) {
-        Ok(code) => {
-            let instrs = [
-                FInstr::Arg { k: 0 },
-                FInstr::Int { x: 1 },
-                FInstr::Lt,
-                FInstr::Arg { k: 1 },
-                FInstr::Int { x: 7 },
-                FInstr::Choose,
-            ];
-            assert_eq!(rt; code.instrs.as_slice(), instrs.as_slice());
-            assert_eq!(rt; code.args.as_slice(), types.as_slice());
-            assert_eq!(rt; code.want, Ty::Int);
-            assert_eq!(rt; eval(Verified::of(&code), &[0, 5]), 5);
-            assert_eq!(rt; eval(Verified::of(&code), &[1, 5]), 7);
-        }
-        Err(fault) => assert!(rt; false, "{fault:?}"),
-    }
+    assert_eq!(rt; values_of_postfix(rt.alloc())?, Some([5, 7]));
     Ok(())
 }

@@ -278,10 +278,7 @@ const LAST_RUNS: &[Row] = &[
 ];
 
 // Whether `go` runs these sources, and `jobs` their objects; the first row that comes to something else.
-fn first_other_run(
-    alloc: Global,
-    rows: &'static [Row],
-) -> Result<Option<(&'static str, usize)>, Fail> {
+fn _run(alloc: Global, rows: &'static [Row]) -> Result<Option<(&'static str, usize)>, Fail> {
     let groups = [
         Group {
             name: "`go` runs sources",
@@ -368,33 +365,13 @@ const TRIED: &[Tried] = &[
     },
 ];
 
-#[test]
-fn the_first_sources_run(rt: HostRuntime) -> Result<(), Fail> {
-    assert_eq!(rt; first_other_run(rt.alloc(), FIRST_RUNS)?, None);
-    Ok(())
-}
+const RUNS: [&[Row]; 5] = [FIRST_RUNS, SECOND_RUNS, THIRD_RUNS, FOURTH_RUNS, LAST_RUNS];
 
 #[test]
-fn the_second_sources_run(rt: HostRuntime) -> Result<(), Fail> {
-    assert_eq!(rt; first_other_run(rt.alloc(), SECOND_RUNS)?, None);
-    Ok(())
-}
-
-#[test]
-fn the_third_sources_run(rt: HostRuntime) -> Result<(), Fail> {
-    assert_eq!(rt; first_other_run(rt.alloc(), THIRD_RUNS)?, None);
-    Ok(())
-}
-
-#[test]
-fn the_fourth_sources_run(rt: HostRuntime) -> Result<(), Fail> {
-    assert_eq!(rt; first_other_run(rt.alloc(), FOURTH_RUNS)?, None);
-    Ok(())
-}
-
-#[test]
-fn the_last_sources_run(rt: HostRuntime) -> Result<(), Fail> {
-    assert_eq!(rt; first_other_run(rt.alloc(), LAST_RUNS)?, None);
+fn sources_run(rt: HostRuntime) -> Result<(), Fail> {
+    for rows in RUNS {
+        assert_eq!(rt; _run(rt.alloc(), rows)?, None);
+    }
     Ok(())
 }
 

@@ -63,17 +63,6 @@ pub fn bad_field(offset: u64, kind: MalKind) -> Answer {
     Err(ObjectFault::Malformed(Malformed { offset, kind }))
 }
 
-fn departs(address: u32) -> Answer {
-    Err(ObjectFault::ECode(EFault {
-        address,
-        kind: EKind::Action,
-    }))
-}
-
-fn misses(selection: u32, miss: Miss) -> Answer {
-    Err(ObjectFault::Schedule { selection, miss })
-}
-
 // The object with other bytes from a place on; what lies behind them is kept, or left out.
 pub fn changed(
     alloc: Global,
@@ -109,150 +98,223 @@ pub fn answer(alloc: Global, bytes: &[u8]) -> Option<Answer> {
     }
 }
 
+// An object, the place of other bytes, these bytes, whether the rest is kept, and the answer.
+type ChangedRow = (&'static [u8], usize, &'static [u8], bool, Answer);
+
+const CHANGED: [ChangedRow; 25] = [
+    // objects as they are
+    (&NO_MODULE, 0, &[], true, Ok((0, 0))),
+    (&DOUBLING, 0, &[], true, Ok((1, 1))),
+    (&JUMPING, 0, &[], true, Ok((1, 1))),
+    (&TWO_JOBS, 0, &[], true, Ok((1, 2))),
+    (&PORT, 0, &[], true, Ok((1, 2))),
+    (&TWO_MODES, 0, &[], true, Ok((2, 1))),
+    (&REFINED, 0, &[], true, Ok((2, 1))),
+    // its last byte is missing
+    (
+        &NO_MODULE,
+        41,
+        &[],
+        false,
+        Err(ObjectFault::Malformed(Malformed {
+            offset: 41,
+            kind: MalKind::Short,
+        })),
+    ),
+    // a byte behind it
+    (
+        &NO_MODULE,
+        42,
+        &[0],
+        true,
+        Err(ObjectFault::Malformed(Malformed {
+            offset: 42,
+            kind: MalKind::Trailing,
+        })),
+    ),
+    // another text
+    (
+        &NO_MODULE,
+        0,
+        &[73],
+        true,
+        Err(ObjectFault::Malformed(Malformed {
+            offset: 0,
+            kind: MalKind::Magic,
+        })),
+    ),
+    // another version
+    (
+        &NO_MODULE,
+        5,
+        &[3],
+        true,
+        Err(ObjectFault::Malformed(Malformed {
+            offset: 4,
+            kind: MalKind::Version,
+        })),
+    ),
+    // no name
+    (
+        &NO_MODULE,
+        21,
+        &[49],
+        true,
+        Err(ObjectFault::Malformed(Malformed {
+            offset: 20,
+            kind: MalKind::Spelling,
+        })),
+    ),
+    // no type
+    (
+        &NO_MODULE,
+        22,
+        &[2],
+        true,
+        Err(ObjectFault::Malformed(Malformed {
+            offset: 22,
+            kind: MalKind::Tag,
+        })),
+    ),
+    // a period of 0
+    (
+        &NO_MODULE,
+        27,
+        &[0],
+        true,
+        Err(ObjectFault::Malformed(Malformed {
+            offset: 24,
+            kind: MalKind::Index,
+        })),
+    ),
+    // a worst case above the period
+    (
+        &DOUBLING,
+        73,
+        &[0, 0, 0, 21],
+        true,
+        Err(ObjectFault::IllFormed(LONG)),
+    ),
+    // a worst case above that of the refined task
+    (
+        &REFINED,
+        125,
+        &[0, 0, 0, 5],
+        true,
+        Err(ObjectFault::IllFormed(LONGER_THAN_REFINED)),
+    ),
+    // `not` in place of `mul`
+    (
+        &DOUBLING,
+        125,
+        &[5],
+        true,
+        Err(ObjectFault::Function { id: 0 }),
+    ),
+    // a switch by a number
+    (
+        &TWO_MODES,
+        212,
+        &[0, 0],
+        true,
+        Err(ObjectFault::Function { id: 2 }),
+    ),
+    // `leave` in place of `return`
+    (
+        &DOUBLING,
+        181,
+        &[9],
+        true,
+        Err(ObjectFault::ECode(EFault {
+            address: 6,
+            kind: EKind::Action,
+        })),
+    ),
+    // a job that is dispatched twice more
+    (
+        &TWO_JOBS,
+        305,
+        &[
+            0, 0, 0, 5, 1, 0, 0, 0, 0, 0, 1, 1, 0, 0, 0, 0, 0, 2, 1, 0, 1, 0, 0, 0, 5, 1, 0, 0, 0,
+            0, 0, 10, 3,
+        ],
+        false,
+        Ok((1, 2)),
+    ),
+    // a last dispatch that ends too soon
+    (
+        &TWO_JOBS,
+        326,
+        &[0, 0, 0, 9],
+        true,
+        Err(ObjectFault::Schedule {
+            selection: 0,
+            miss: Miss::Unfinished {
+                position: 0,
+                left: 1,
+            },
+        }),
+    ),
+    // the second job runs last
+    (
+        &TWO_JOBS,
+        305,
+        &[0, 0, 0, 3, 1, 0, 0, 0, 0, 0, 10, 1, 0, 1, 0, 0, 0, 10, 3],
+        false,
+        Err(ObjectFault::Schedule {
+            selection: 0,
+            miss: Miss::Late {
+                position: 1,
+                finish: 10,
+                window_end: 6,
+            },
+        }),
+    ),
+    // a dispatch past the round
+    (
+        &TWO_JOBS,
+        305,
+        &[0, 0, 0, 3, 1, 0, 0, 0, 0, 0, 11, 1, 0, 1, 0, 0, 0, 10, 3],
+        false,
+        Err(ObjectFault::Schedule {
+            selection: 0,
+            miss: Miss::Order { instr: 0 },
+        }),
+    ),
+    // the reader runs first
+    (
+        &PORT,
+        254,
+        &[0, 0, 0, 3, 1, 0, 0, 0, 0, 0, 10, 1, 0, 1, 0, 0, 0, 10, 3],
+        false,
+        Err(ObjectFault::Schedule {
+            selection: 0,
+            miss: Miss::Before {
+                position: 0,
+                predecessor: 1,
+                at: 0,
+            },
+        }),
+    ),
+    // too little for the second selection
+    (
+        &TWO_MODES,
+        400,
+        &[0, 0, 0, 3],
+        true,
+        Err(ObjectFault::Schedule {
+            selection: 1,
+            miss: Miss::Unfinished {
+                position: 0,
+                left: 1,
+            },
+        }),
+    ),
+];
+
 #[test]
 fn objects_and_their_first_faults(rt: HostRuntime) -> Result<(), Fail> {
-    let table: [(&[u8], usize, &[u8], bool, Answer); 25] = [
-        // objects as they are
-        (&NO_MODULE, 0, &[], true, Ok((0, 0))),
-        (&DOUBLING, 0, &[], true, Ok((1, 1))),
-        (&JUMPING, 0, &[], true, Ok((1, 1))),
-        (&TWO_JOBS, 0, &[], true, Ok((1, 2))),
-        (&PORT, 0, &[], true, Ok((1, 2))),
-        (&TWO_MODES, 0, &[], true, Ok((2, 1))),
-        (&REFINED, 0, &[], true, Ok((2, 1))),
-        // its last byte is missing
-        (&NO_MODULE, 41, &[], false, bad_field(41, MalKind::Short)),
-        // a byte behind it
-        (&NO_MODULE, 42, &[0], true, bad_field(42, MalKind::Trailing)),
-        // another text
-        (&NO_MODULE, 0, &[73], true, bad_field(0, MalKind::Magic)),
-        // another version
-        (&NO_MODULE, 5, &[3], true, bad_field(4, MalKind::Version)),
-        // no name
-        (
-            &NO_MODULE,
-            21,
-            &[49],
-            true,
-            bad_field(20, MalKind::Spelling),
-        ),
-        // no type
-        (&NO_MODULE, 22, &[2], true, bad_field(22, MalKind::Tag)),
-        // a period of 0
-        (&NO_MODULE, 27, &[0], true, bad_field(24, MalKind::Index)),
-        // a worst case above the period
-        (
-            &DOUBLING,
-            73,
-            &[0, 0, 0, 21],
-            true,
-            Err(ObjectFault::IllFormed(LONG)),
-        ),
-        // a worst case above that of the refined task
-        (
-            &REFINED,
-            125,
-            &[0, 0, 0, 5],
-            true,
-            Err(ObjectFault::IllFormed(LONGER_THAN_REFINED)),
-        ),
-        // `not` in place of `mul`
-        (
-            &DOUBLING,
-            125,
-            &[5],
-            true,
-            Err(ObjectFault::Function { id: 0 }),
-        ),
-        // a switch by a number
-        (
-            &TWO_MODES,
-            212,
-            &[0, 0],
-            true,
-            Err(ObjectFault::Function { id: 2 }),
-        ),
-        // `leave` in place of `return`
-        (&DOUBLING, 181, &[9], true, departs(6)),
-        // a job that is dispatched twice more
-        (
-            &TWO_JOBS,
-            305,
-            &[
-                0, 0, 0, 5, 1, 0, 0, 0, 0, 0, 1, 1, 0, 0, 0, 0, 0, 2, 1, 0, 1, 0, 0, 0, 5, 1, 0, 0,
-                0, 0, 0, 10, 3,
-            ],
-            false,
-            Ok((1, 2)),
-        ),
-        // a last dispatch that ends too soon
-        (
-            &TWO_JOBS,
-            326,
-            &[0, 0, 0, 9],
-            true,
-            misses(
-                0,
-                Miss::Unfinished {
-                    position: 0,
-                    left: 1,
-                },
-            ),
-        ),
-        // the second job runs last
-        (
-            &TWO_JOBS,
-            305,
-            &[0, 0, 0, 3, 1, 0, 0, 0, 0, 0, 10, 1, 0, 1, 0, 0, 0, 10, 3],
-            false,
-            misses(
-                0,
-                Miss::Late {
-                    position: 1,
-                    finish: 10,
-                    window_end: 6,
-                },
-            ),
-        ),
-        // a dispatch past the round
-        (
-            &TWO_JOBS,
-            305,
-            &[0, 0, 0, 3, 1, 0, 0, 0, 0, 0, 11, 1, 0, 1, 0, 0, 0, 10, 3],
-            false,
-            misses(0, Miss::Order { instr: 0 }),
-        ),
-        // the reader runs first
-        (
-            &PORT,
-            254,
-            &[0, 0, 0, 3, 1, 0, 0, 0, 0, 0, 10, 1, 0, 1, 0, 0, 0, 10, 3],
-            false,
-            misses(
-                0,
-                Miss::Before {
-                    position: 0,
-                    predecessor: 1,
-                    at: 0,
-                },
-            ),
-        ),
-        // too little for the second selection
-        (
-            &TWO_MODES,
-            400,
-            &[0, 0, 0, 3],
-            true,
-            misses(
-                1,
-                Miss::Unfinished {
-                    position: 0,
-                    left: 1,
-                },
-            ),
-        ),
-    ];
-    for (object, at, by, rest, want) in table {
+    for (object, at, by, rest, want) in CHANGED {
         let bytes = changed(rt.alloc(), object, at, by, rest)?;
         assert_eq!(rt; answer(rt.alloc(), &bytes), Some(want));
     }
@@ -299,29 +361,46 @@ fn a_platform_is_handed_out(rt: HostRuntime) -> Result<(), Fail> {
     Ok(())
 }
 
-#[test]
-fn one_test_after_the_other(rt: HostRuntime) -> Result<(), Fail> {
+// How many of four broken places are mended, from the first on, and the answer: one test after the other.
+const MENDED: [(usize, Answer); 4] = [
+    (0, Err(ObjectFault::IllFormed(LONG))),
+    (1, Err(ObjectFault::Function { id: 0 })),
+    (
+        2,
+        Err(ObjectFault::ECode(EFault {
+            address: 6,
+            kind: EKind::Action,
+        })),
+    ),
+    (
+        3,
+        Err(ObjectFault::Schedule {
+            selection: 0,
+            miss: Miss::Unfinished {
+                position: 0,
+                left: 1,
+            },
+        }),
+    ),
+];
+
+// The places, and the bytes that break them.
+const BROKEN: [(usize, u8); 4] = [(76, 21), (125, 5), (181, 9), (208, 3)];
+
+fn broken_behind(mended: usize) -> [u8; DOUBLING.len()] {
     let mut bytes = DOUBLING;
-    bytes[76] = 21;
-    bytes[125] = 5;
-    bytes[181] = 9;
-    bytes[208] = 3;
-    assert_eq!(rt;
-        answer(rt.alloc(), &bytes),
-        Some(Err(ObjectFault::IllFormed(LONG)))
-    );
-    bytes[76] = 4;
-    assert_eq!(rt;
-        answer(rt.alloc(), &bytes),
-        Some(Err(ObjectFault::Function { id: 0 }))
-    );
-    bytes[125] = 8;
-    assert_eq!(rt; answer(rt.alloc(), &bytes), Some(departs(6)));
-    bytes[181] = 11;
-    let left = Miss::Unfinished {
-        position: 0,
-        left: 1,
-    };
-    assert_eq!(rt; answer(rt.alloc(), &bytes), Some(misses(0, left)));
-    Ok(())
+    for k in mended..BROKEN.len() {
+        let (at, byte) = BROKEN[k];
+        if at < bytes.len() {
+            bytes[at] = byte;
+        }
+    }
+    bytes
+}
+
+#[test]
+fn one_test_after_the_other(rt: HostRuntime) {
+    for (mended, want) in MENDED {
+        assert_eq!(rt; answer(rt.alloc(), &broken_behind(mended)), Some(want));
+    }
 }

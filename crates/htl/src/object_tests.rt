@@ -61,102 +61,111 @@ fn changed(alloc: Global, at: usize, byte: u8) -> Result<Vec<u8>, AllocError> {
     Ok(bytes)
 }
 
+// A byte's place, its new value, and the bad field.
+const BAD_FIELDS: [(usize, u8, MalKind, u64); 77] = [
+    (0, 73, MalKind::Magic, 0), // magic
+    (5, 3, MalKind::Version, 4), // version
+    (5, 2, MalKind::Spelling, 6), // platform: no name
+    (6, 255, MalKind::Index, 6), // count of comms
+    (8, 255, MalKind::Index, 8), // count of modes
+    (10, 255, MalKind::Index, 10), // count of modules
+    (12, 255, MalKind::Index, 12), // count of ports
+    (14, 255, MalKind::Index, 14), // count of tasks
+    (16, 255, MalKind::Index, 16), // count of invs
+    (18, 255, MalKind::Index, 18), // count of switches
+    (21, 49, MalKind::Spelling, 20), // comm: no name
+    (20, 0, MalKind::Spelling, 20), // comm: an empty name
+    (37, 97, MalKind::Spelling, 36), // comm: repeated
+    (22, 2, MalKind::Tag, 22), // comm: type
+    (23, 2, MalKind::Tag, 23), // comm: flag
+    (27, 0, MalKind::Index, 24), // comm: period 0
+    (24, 1, MalKind::Index, 24), // comm: long period
+    (51, 2, MalKind::Spelling, 44), // comm: init of a bool
+    (53, 46, MalKind::Spelling, 52), // mode: no name
+    (61, 109, MalKind::Spelling, 60), // mode: repeated
+    (71, 2, MalKind::Index, 70), // mode: owner
+    (55, 1, MalKind::Index, 62), // mode: owner falls
+    (59, 0, MalKind::Index, 56), // mode: period
+    (77, 46, MalKind::Spelling, 76), // module: no name
+    (83, 77, MalKind::Spelling, 82), // module: repeated
+    (85, 2, MalKind::Index, 84), // module: parent of no lower number
+    (84, 1, MalKind::Index, 84), // module: parent
+    (81, 2, MalKind::Index, 80), // module: start
+    (89, 46, MalKind::Spelling, 88), // port: no name
+    (94, 107, MalKind::Spelling, 93), // port: repeated
+    (96, 3, MalKind::Index, 95), // port: owner
+    (91, 1, MalKind::Index, 95), // port: owner falls
+    (97, 2, MalKind::Tag, 97), // port: type
+    (99, 46, MalKind::Spelling, 98), // task: no name
+    (114, 102, MalKind::Spelling, 113), // task: repeated
+    (131, 2, MalKind::Index, 130), // task: owner
+    (101, 1, MalKind::Index, 115), // task: owner falls
+    (102, 2, MalKind::Tag, 102), // task: flag
+    (106, 0, MalKind::Index, 103), // task: worst case
+    (107, 1, MalKind::Index, 107), // task: inputs
+    (109, 2, MalKind::Tag, 109), // task: input type
+    (110, 1, MalKind::Index, 110), // task: outputs
+    (112, 2, MalKind::Tag, 112), // task: output type
+    (184, 3, MalKind::Index, 183), // inv: mode
+    (144, 1, MalKind::Index, 167), // inv: mode falls
+    (146, 3, MalKind::Index, 145), // inv: task
+    (146, 2, MalKind::Index, 145), // inv: task of another module
+    (170, 0, MalKind::Index, 169), // inv: task again
+    (188, 3, MalKind::Index, 187), // inv: parent
+    (149, 1, MalKind::Index, 149), // inv: reads
+    (158, 1, MalKind::Index, 158), // inv: writes
+    (151, 2, MalKind::Tag, 151), // end: tag
+    (153, 2, MalKind::Index, 152), // end: comm
+    (154, 1, MalKind::Index, 154), // end: instance
+    (177, 2, MalKind::Index, 176), // end: port
+    (96, 1, MalKind::Index, 181), // end: port of another mode
+    (216, 3, MalKind::Index, 215), // switch: mode
+    (208, 1, MalKind::Index, 215), // switch: mode falls
+    (210, 3, MalKind::Index, 209), // switch: target
+    (210, 2, MalKind::Index, 209), // switch: target of another module
+    (211, 1, MalKind::Index, 211), // switch: reads
+    (214, 2, MalKind::Index, 213), // switch: comm
+    (224, 0, MalKind::Index, 223), // switch: comm again
+    (225, 1, MalKind::Index, 225), // function: arguments
+    (227, 2, MalKind::Tag, 227), // function: argument type
+    (228, 2, MalKind::Tag, 228), // function: result type
+    (249, 0, MalKind::Index, 248), // function: no instruction
+    (248, 2, MalKind::Index, 248), // function: 513 instructions
+    (231, 20, MalKind::Tag, 231), // function: instruction
+    (311, 12, MalKind::Tag, 311), // E code: instruction
+    (311, 0, MalKind::Tag, 311), // E code: instruction 0
+    (329, 4, MalKind::Tag, 329), // E code: phase
+    (329, 0, MalKind::Tag, 329), // E code: phase 0
+    (362, 1, MalKind::Index, 361), // too few selections
+    (362, 3, MalKind::Index, 361), // too many selections
+    (367, 4, MalKind::Tag, 367), // S code: instruction
+    (OBJECT.len(), 0, MalKind::Trailing, OBJECT.len() as u64), // a byte too many
+];
+
+// Whether the worked object with one byte changed has this bad field.
+fn is_told(alloc: Global, at: usize, byte: u8, told: Malformed) -> Result<bool, AllocError> {
+    let bytes = changed(alloc, at, byte)?;
+    Ok(bad_field(alloc, &bytes) == Some(told))
+}
+
 #[test]
 fn bad_fields_are_told(rt: HostRuntime) -> Result<(), Fail> {
-    let alloc = rt.alloc();
-    // A byte's place, its new value, and the bad field.
-    let table = [
-        (0, 73, MalKind::Magic, 0), // magic
-        (5, 3, MalKind::Version, 4), // version
-        (5, 2, MalKind::Spelling, 6), // platform: no name
-        (6, 255, MalKind::Index, 6), // count of comms
-        (8, 255, MalKind::Index, 8), // count of modes
-        (10, 255, MalKind::Index, 10), // count of modules
-        (12, 255, MalKind::Index, 12), // count of ports
-        (14, 255, MalKind::Index, 14), // count of tasks
-        (16, 255, MalKind::Index, 16), // count of invs
-        (18, 255, MalKind::Index, 18), // count of switches
-        (21, 49, MalKind::Spelling, 20), // comm: no name
-        (20, 0, MalKind::Spelling, 20), // comm: an empty name
-        (37, 97, MalKind::Spelling, 36), // comm: repeated
-        (22, 2, MalKind::Tag, 22), // comm: type
-        (23, 2, MalKind::Tag, 23), // comm: flag
-        (27, 0, MalKind::Index, 24), // comm: period 0
-        (24, 1, MalKind::Index, 24), // comm: long period
-        (51, 2, MalKind::Spelling, 44), // comm: init of a bool
-        (53, 46, MalKind::Spelling, 52), // mode: no name
-        (61, 109, MalKind::Spelling, 60), // mode: repeated
-        (71, 2, MalKind::Index, 70), // mode: owner
-        (55, 1, MalKind::Index, 62), // mode: owner falls
-        (59, 0, MalKind::Index, 56), // mode: period
-        (77, 46, MalKind::Spelling, 76), // module: no name
-        (83, 77, MalKind::Spelling, 82), // module: repeated
-        (85, 2, MalKind::Index, 84), // module: parent of no lower number
-        (84, 1, MalKind::Index, 84), // module: parent
-        (81, 2, MalKind::Index, 80), // module: start
-        (89, 46, MalKind::Spelling, 88), // port: no name
-        (94, 107, MalKind::Spelling, 93), // port: repeated
-        (96, 3, MalKind::Index, 95), // port: owner
-        (91, 1, MalKind::Index, 95), // port: owner falls
-        (97, 2, MalKind::Tag, 97), // port: type
-        (99, 46, MalKind::Spelling, 98), // task: no name
-        (114, 102, MalKind::Spelling, 113), // task: repeated
-        (131, 2, MalKind::Index, 130), // task: owner
-        (101, 1, MalKind::Index, 115), // task: owner falls
-        (102, 2, MalKind::Tag, 102), // task: flag
-        (106, 0, MalKind::Index, 103), // task: worst case
-        (107, 1, MalKind::Index, 107), // task: inputs
-        (109, 2, MalKind::Tag, 109), // task: input type
-        (110, 1, MalKind::Index, 110), // task: outputs
-        (112, 2, MalKind::Tag, 112), // task: output type
-        (184, 3, MalKind::Index, 183), // inv: mode
-        (144, 1, MalKind::Index, 167), // inv: mode falls
-        (146, 3, MalKind::Index, 145), // inv: task
-        (146, 2, MalKind::Index, 145), // inv: task of another module
-        (170, 0, MalKind::Index, 169), // inv: task again
-        (188, 3, MalKind::Index, 187), // inv: parent
-        (149, 1, MalKind::Index, 149), // inv: reads
-        (158, 1, MalKind::Index, 158), // inv: writes
-        (151, 2, MalKind::Tag, 151), // end: tag
-        (153, 2, MalKind::Index, 152), // end: comm
-        (154, 1, MalKind::Index, 154), // end: instance
-        (177, 2, MalKind::Index, 176), // end: port
-        (96, 1, MalKind::Index, 181), // end: port of another mode
-        (216, 3, MalKind::Index, 215), // switch: mode
-        (208, 1, MalKind::Index, 215), // switch: mode falls
-        (210, 3, MalKind::Index, 209), // switch: target
-        (210, 2, MalKind::Index, 209), // switch: target of another module
-        (211, 1, MalKind::Index, 211), // switch: reads
-        (214, 2, MalKind::Index, 213), // switch: comm
-        (224, 0, MalKind::Index, 223), // switch: comm again
-        (225, 1, MalKind::Index, 225), // function: arguments
-        (227, 2, MalKind::Tag, 227), // function: argument type
-        (228, 2, MalKind::Tag, 228), // function: result type
-        (249, 0, MalKind::Index, 248), // function: no instruction
-        (248, 2, MalKind::Index, 248), // function: 513 instructions
-        (231, 20, MalKind::Tag, 231), // function: instruction
-        (311, 12, MalKind::Tag, 311), // E code: instruction
-        (311, 0, MalKind::Tag, 311), // E code: instruction 0
-        (329, 4, MalKind::Tag, 329), // E code: phase
-        (329, 0, MalKind::Tag, 329), // E code: phase 0
-        (362, 1, MalKind::Index, 361), // too few selections
-        (362, 3, MalKind::Index, 361), // too many selections
-        (367, 4, MalKind::Tag, 367), // S code: instruction
-        (OBJECT.len(), 0, MalKind::Trailing, OBJECT.len() as u64), // a byte too many
-    ];
-    for (at, byte, kind, offset) in table {
-        let bytes = changed(alloc, at, byte)?;
-        let told = Some(Malformed { offset, kind });
-        assert_eq!(rt; bad_field(alloc, &bytes), told, "byte {at} is {byte}");
+    for (at, byte, kind, offset) in BAD_FIELDS {
+        let told = Malformed { offset, kind };
+        assert!(rt; is_told(rt.alloc(), at, byte, told)?, "byte {at} is {byte}");
     }
+    Ok(())
+}
+
+#[test]
+fn cut_objects_are_short(rt: HostRuntime) {
     for n in 0..OBJECT.len() {
         let told = Some(Malformed {
             offset: n as u64,
             kind: MalKind::Short,
         });
-        assert_eq!(rt; bad_field(alloc, &OBJECT[..n]), told);
+        assert_eq!(rt; bad_field(rt.alloc(), &OBJECT[..n]), told);
     }
-    Ok(())
 }
 
 #[test]
@@ -192,15 +201,29 @@ fn many(alloc: Global, modules: u8, schedules: u16) -> Result<Vec<u8>, AllocErro
     Ok(bytes)
 }
 
+// Numbers of root modules and of schedules that don't fit.
+const MISCOUNTED: [(u8, u16); 4] = [(10, 1_023), (11, 1_024), (11, 2_048), (0, 1)];
+
+// Whether an object of so many modules and schedules has a number that is out of range.
+fn is_miscounted(alloc: Global, modules: u8, schedules: u16) -> Result<bool, AllocError>
+    requires { modules ≤ 11 }
+{
+    let bytes = many(alloc, modules, schedules)?;
+    match bad_field(alloc, &bytes) {
+        Some(told) => Ok(told.kind == MalKind::Index),
+        None => Ok(false),
+    }
+}
+
 #[test]
 fn selections_are_counted(rt: HostRuntime) -> Result<(), Fail> {
     let alloc = rt.alloc();
-    let most = many(alloc, 10, 1_024)?;
-    assert!(rt; decode(alloc, &most).is_ok());
-    for (modules, schedules) in [(10u8, 1_023u16), (11, 1_024), (11, 2_048), (0, 1)] {
-        let bytes = many(alloc, modules, schedules)?;
-        let kind = bad_field(alloc, &bytes).map(|m| m.kind);
-        assert_eq!(rt; kind, Some(MalKind::Index), "{modules} {schedules}");
+    assert!(rt; decode(alloc, many(alloc, 10, 1_024)?.as_slice()).is_ok());
+    for (modules, schedules) in MISCOUNTED {
+        assert!(rt;
+            is_miscounted(alloc, modules, schedules)?,
+            "{modules} {schedules}"
+        );
     }
     Ok(())
 }

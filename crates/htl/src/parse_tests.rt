@@ -24,6 +24,36 @@ fn joined(alloc: Global, pieces: &[(&[u8], usize)]) -> Result<Vec<u8>, AllocErro
     Ok(text)
 }
 
+// What is answered of a text.
+#[derive(Clone, Copy, PartialEq, Eq)]
+enum Kind {
+    Tree,
+    Syntax,
+    Long,
+}
+
+fn kind_of(alloc: Global, text: &[u8]) -> Option<Kind> {
+    match answer(alloc, text)? {
+        Ok(_) => Some(Kind::Tree),
+        Err(ParseFault::Syntax { .. }) => Some(Kind::Syntax),
+        Err(ParseFault::Long { .. }) => Some(Kind::Long),
+        Err(ParseFault::Memory) => None,
+    }
+}
+
+// Whether the answer to the joined pieces is one of these.
+fn is_answered(
+    alloc: Global,
+    pieces: &[(&[u8], usize)],
+    kinds: &[Kind],
+) -> Result<bool, AllocError> {
+    let text = joined(alloc, pieces)?;
+    match kind_of(alloc, &text) {
+        Some(kind) => Ok(kinds.contains(&kind)),
+        None => Ok(false),
+    }
+}
+
 const FORMS: &[u8] = b"program P {
  communicator int a period 10 init -007; sensor bool b period 20 init true;
  module M start m {
@@ -66,12 +96,16 @@ program Q {
 }
 ";
 
+// The printed form of a text that is a tree.
+fn printed(alloc: Global, text: &[u8]) -> Option<Vec<u8>> {
+    let tree = answer(alloc, text)?.ok()?;
+    print(alloc, &tree).ok()
+}
+
 #[test]
 fn each_form_parses(rt: HostRuntime) -> Result<(), Fail> {
     for text in [FORMS, PRINTED] {
-        let found = answer(rt.alloc(), text).expect(&rt, "tokens");
-        let tree = found.expect(&rt, "a tree");
-        let printed = print(rt.alloc(), &tree).expect(&rt, "memory");
+        let printed = printed(rt.alloc(), text).expect(&rt, "a tree");
         assert_eq!(rt; printed.as_slice(), PRINTED);
     }
     Ok(())
@@ -98,18 +132,19 @@ fn is_refused(alloc: Global, text: &[u8]) -> bool {
     matches!(answer(alloc, text), Some(Err(ParseFault::Syntax { .. })))
 }
 
-#[test]
-fn prefixes_are_refused(rt: HostRuntime) -> Result<(), Fail> {
-    let texts: [&[u8]; 2] = [
-        b"program P { communicator int a period 1 init -1; module M start m {
+const WHOLE: [&[u8]; 2] = [
+    b"program P { communicator int a period 1 init -1; module M start m {
         task t input (int x, bool y) output (int z = if(!y, x*-3, (2)), int w = 1) worst 3;
         mode m period 1 program Q { port int p; invoke t input ((a, 0), p) output (p) parent u;
         switch (a >= 3 || false, m); } } }",
-        b"program P { sensor int s period 10 init 0; communicator int u period 10 init 7;
+    b"program P { sensor int s period 10 init 0; communicator int u period 10 init 7;
         module M start m { task dbl input (int x) output (int y = x * 2) worst 4;
         mode m period 20 { invoke dbl input ((s, 0)) output ((u, 1)); } } }",
-    ];
-    for text in texts {
+];
+
+#[test]
+fn prefixes_are_refused(rt: HostRuntime) -> Result<(), Fail> {
+    for text in WHOLE {
         assert!(rt; needs_each_token(rt.alloc(), text));
     }
     assert!(rt; !needs_each_token(rt.alloc(), b"program P {} program Q {}"));
@@ -121,76 +156,53 @@ const BEFORE: &[u8] = b"program P { module M start m { task t input () output (i
 
 const BEHIND: &[u8] = b") worst 1; } }";
 
-#[test]
-fn a_run_of_512_tokens_is_short(rt: HostRuntime) -> Result<(), Fail> {
-    let short = joined(
-        rt.alloc(),
-        &[(BEFORE, 1), (b"1", 1), (b"+1", 249), (BEHIND, 1)],
-    )?;
-    let found = answer(rt.alloc(), &short).expect(&rt, "tokens");
-    assert!(rt; found.is_ok());
-    Ok(())
+// A run of 512 tokens.
+const SHORT: &[(&[u8], usize)] = &[(BEFORE, 1), (b"1", 1), (b"+1", 249), (BEHIND, 1)];
+
+// Runs of 513 tokens, and the last of these.
+const LONG: [(&[(&[u8], usize)], u32); 3] = [
+    (&[(BEFORE, 1), (b"1", 1), (b"+1", 250), (BEHIND, 1)], 520),
+    (
+        &[(BEFORE, 1), (b"} x ; {", 1), (b"+1", 250), (BEHIND, 1)],
+        524,
+    ),
+    (&[(BEFORE, 1), (b"-1", 1), (b"+1", 250), (BEHIND, 1)], 520),
+];
+
+// The token at which the joined pieces are a run that is too long.
+fn long_at(alloc: Global, pieces: &[(&[u8], usize)]) -> Result<Option<u32>, AllocError> {
+    let text = joined(alloc, pieces)?;
+    match answer(alloc, &text) {
+        Some(Err(ParseFault::Long { token })) => Ok(Some(token)),
+        _ => Ok(None),
+    }
 }
 
 #[test]
 fn the_513th_token_of_a_run_is_too_many(rt: HostRuntime) -> Result<(), Fail> {
-    let table: [(&[u8], &[u8], u32); 3] = [
-        (b"", b"1", 520),
-        (b"} x ; {", b"1", 524),
-        (b"", b"-1", 520),
-    ];
-    for (front, first, wanted) in table {
-        let text = joined(
-            rt.alloc(),
-            &[
-                (front, 1),
-                (BEFORE, 1),
-                (first, 1),
-                (b"+1", 250),
-                (BEHIND, 1),
-            ],
-        )?;
-        let found = answer(rt.alloc(), &text).expect(&rt, "tokens");
-        assert!(rt; matches!(found, Err(ParseFault::Long { token }) if token == wanted));
+    assert!(rt; is_answered(rt.alloc(), SHORT, &[Kind::Tree])?);
+    for (pieces, wanted) in LONG {
+        assert_eq!(rt; long_at(rt.alloc(), pieces)?, Some(wanted));
     }
     Ok(())
+}
+
+// Whether the token at this place is this one.
+fn has_token(alloc: Global, text: &[u8], place: usize, token: Token) -> bool {
+    if text.len() > 1_048_576 {
+        return false;
+    }
+    match lex(alloc, text) {
+        Ok(tokens) => place < tokens.len() && tokens.token(place) == token,
+        Err(_) => false,
+    }
 }
 
 #[test]
 fn the_token_of_a_long_run_is_told(rt: HostRuntime) -> Result<(), Fail> {
-    let text = joined(
-        rt.alloc(),
-        &[(BEFORE, 1), (b"1", 1), (b"+1", 250), (BEHIND, 1)],
-    )?;
-    assert!(rt; text.len() <= 1_048_576);
-    let tokens = lex(rt.alloc(), &text).expect(&rt, "tokens");
-    assert!(rt; tokens.len() > 520);
-    assert!(rt; tokens.token(520) == Token::Word(Word::Worst));
+    let text = joined(rt.alloc(), LONG[0].0)?;
+    assert!(rt; has_token(rt.alloc(), &text, 520, Token::Word(Word::Worst)));
     Ok(())
-}
-
-// What is answered of a text.
-#[derive(Clone, Copy, PartialEq, Eq)]
-enum Kind {
-    Tree,
-    Syntax,
-    Long,
-}
-
-fn kind_of(alloc: Global, text: &[u8]) -> Option<Kind> {
-    match answer(alloc, text)? {
-        Ok(_) => Some(Kind::Tree),
-        Err(ParseFault::Syntax { .. }) => Some(Kind::Syntax),
-        Err(ParseFault::Long { .. }) => Some(Kind::Long),
-        Err(ParseFault::Memory) => None,
-    }
-}
-
-// Whether the answer to the joined pieces is one of these.
-fn is_answered(alloc: Global, pieces: &[(&[u8], usize)], kinds: &[Kind]) -> Option<bool> {
-    let text = joined(alloc, pieces).ok()?;
-    let kind = kind_of(alloc, &text)?;
-    Some(kinds.contains(&kind))
 }
 
 const DEEP: [(&[(&[u8], usize)], &[Kind]); 8] = [
@@ -230,52 +242,58 @@ const DEEP: [(&[(&[u8], usize)], &[Kind]); 8] = [
 #[test]
 fn deep_statements_end(rt: HostRuntime) -> Result<(), Fail> {
     for (pieces, kinds) in DEEP {
-        assert_eq!(rt; is_answered(rt.alloc(), pieces, kinds), Some(true));
+        assert!(rt; is_answered(rt.alloc(), pieces, kinds)?);
     }
     Ok(())
 }
 
-#[test]
-fn a_large_source_parses(rt: HostRuntime) -> Result<(), Fail> {
-    let open = joined(rt.alloc(), &[(b"(", 249), (b"1", 1), (b")", 249)])?;
-    let pieces: [(&[u8], usize); 3] = [
-        (b"task t input () output (int y = ", 1),
-        (&open, 1),
-        (b") worst 1;", 1),
-    ];
-    let task = joined(rt.alloc(), &pieces)?;
-    let text = joined(
-        rt.alloc(),
+// A source of 200 tasks with deep expressions.
+fn large(alloc: Global) -> Result<Vec<u8>, AllocError> {
+    let task = joined(
+        alloc,
+        &[
+            (b"task t input () output (int y = ", 1),
+            (b"(", 249),
+            (b"1", 1),
+            (b")", 249),
+            (b") worst 1;", 1),
+        ],
+    )?;
+    joined(
+        alloc,
         &[
             (b"program P { module M start m {", 1),
             (&task, 200),
             (b"} }", 1),
         ],
-    )?;
-    let found = answer(rt.alloc(), &text).expect(&rt, "tokens");
-    assert!(rt; found.is_ok());
-    Ok(())
+    )
 }
 
 #[test]
-fn these_are_refused(rt: HostRuntime) -> Result<(), Fail> {
-    let table: [&[u8]; 12] = [
-        b"",
-        b"program P {} program",
-        b"program P {};",
-        b"program P { module M start m {} communicator int a period 1 init 1; }",
-        b"program P { communicator int a period 1 init - true; }",
-        b"program P { communicator int a period -1 init 1; }",
-        b"program P { module M start m { mode m period 1 {} task t input () output () worst 1; } }",
-        b"program P { module M start m { task t input (int x,) output () worst 1; } }",
-        b"program P { module M start m { task t input () output (int y) worst 1; } }",
-        b"program P { module M start m { abstract task t input () output (int y = 1) worst 1; } }",
-        b"program P { module M start m { task t input () output (bool y = 1 < 2 < 3) worst 1; } }",
-        b"program P { module M start m { mode m period 1 { switch (true, m); port int p; } } }",
-    ];
-    for text in table {
-        let found = answer(rt.alloc(), text).expect(&rt, "tokens");
-        assert!(rt; matches!(found, Err(ParseFault::Syntax { .. })));
-    }
+fn a_large_source_parses(rt: HostRuntime) -> Result<(), Fail> {
+    let text = large(rt.alloc())?;
+    assert!(rt; kind_of(rt.alloc(), &text) == Some(Kind::Tree));
     Ok(())
+}
+
+const REFUSED: [&[u8]; 12] = [
+    b"",
+    b"program P {} program",
+    b"program P {};",
+    b"program P { module M start m {} communicator int a period 1 init 1; }",
+    b"program P { communicator int a period 1 init - true; }",
+    b"program P { communicator int a period -1 init 1; }",
+    b"program P { module M start m { mode m period 1 {} task t input () output () worst 1; } }",
+    b"program P { module M start m { task t input (int x,) output () worst 1; } }",
+    b"program P { module M start m { task t input () output (int y) worst 1; } }",
+    b"program P { module M start m { abstract task t input () output (int y = 1) worst 1; } }",
+    b"program P { module M start m { task t input () output (bool y = 1 < 2 < 3) worst 1; } }",
+    b"program P { module M start m { mode m period 1 { switch (true, m); port int p; } } }",
+];
+
+#[test]
+fn these_are_refused(rt: HostRuntime) {
+    for text in REFUSED {
+        assert!(rt; kind_of(rt.alloc(), text) == Some(Kind::Syntax));
+    }
 }

@@ -1,11 +1,12 @@
 // Whole programs over fakes, and over readers and writers in memory: the status, and what each stream got.
 ghost use Rattle.std.specs.Prelude.{None};
 
+use crate::calls::shelf_of;
 use crate::folder::{Folder, Open};
 use crate::input::Input;
 use crate::output::Output;
 use crate::program::command;
-use htl_edge::{Drawer, Page, Tape};
+use htl_edge::{Page, Tape};
 use std::alloc::Global;
 use std::env::Args;
 use std::io;
@@ -47,74 +48,77 @@ fn arguments(alloc: Global, words: &[&str]) -> Result<Args, Fail> {
     Ok(args.into_iter())
 }
 
-// The status of a program with these arguments, and what it wrote and told.
-fn ended(alloc: Global, args: io::Result<Args>) -> Result<(u8, Page, Page), Fail> {
+// The status, and what is written and told.
+type Ended = (u8, &'static str, &'static str);
+
+// Whether a program with these arguments ends so.
+fn ends(alloc: Global, args: io::Result<Args>, wanted: Ended) -> Result<bool, Fail> {
     let source = Vec::from_slice(alloc, SOURCE.as_bytes())?;
-    let items = vec![in alloc; (String::from_str(alloc, "A")?, source)]?;
-    let mut shelf = Drawer::new(alloc, items, &[])?;
+    let mut shelf = shelf_of(alloc, source, Vec::new(alloc), &[])?;
     let mut input = Tape::new(alloc, SCRIPT, 7, &[])?;
     let mut out = Page::new(alloc, 100, &[])?;
     let mut err = Page::new(alloc, 100, &[])?;
     let status = command(args, alloc, &mut shelf, &mut input, &mut out, &mut err);
-    Ok((status, out, err))
+    let (ended, written, told) = wanted;
+    Ok(status == ended && out.bytes() == written.as_bytes() && err.bytes() == told.as_bytes())
 }
+
+const CALLS: [(&[&str], Ended); 4] = [
+    (&["htl", "go", "A"], (0, LINES, "")),
+    (&["htl", "go", "C"], (8, "", "htl: shelf failed\n")),
+    (&["htl", "A"], (2, "", "htl: usage\n")),
+    (&[], (2, "", "htl: usage\n")),
+];
 
 #[test]
 fn words_are_done(rt: HostRuntime) -> Result<(), Fail> {
     let alloc = rt.alloc();
-    let table: [(&[&str], u8, &str, &str); 4] = [
-        (&["htl", "go", "A"], 0, LINES, ""),
-        (&["htl", "go", "B"], 8, "", "htl: shelf failed\n"),
-        (&["htl", "A"], 2, "", "htl: usage\n"),
-        (&[], 2, "", "htl: usage\n"),
-    ];
-    for (words, status, written, told) in table {
+    for (words, wanted) in CALLS {
         let args = arguments(alloc, words)?;
-        let (ended, out, err) = ended(alloc, Ok(args))?;
-        assert_eq!(rt; ended, status);
-        assert_eq!(rt; out.bytes(), written.as_bytes());
-        assert_eq!(rt; err.bytes(), told.as_bytes());
+        assert!(rt; ends(alloc, Ok(args), wanted)?, "{words:?}");
     }
     Ok(())
 }
 
+const NO_ARGUMENTS: [(io::ErrorKind, Ended); 2] = [
+    (io::ErrorKind::InvalidData, (2, "", "htl: usage\n")),
+    (io::ErrorKind::OutOfMemory, (11, "", "htl: memory\n")),
+];
+
 #[test]
 fn arguments_that_are_not_there_are_told(rt: HostRuntime) -> Result<(), Fail> {
-    let alloc = rt.alloc();
-    let table = [
-        (io::ErrorKind::InvalidData, 2, "htl: usage\n"),
-        (io::ErrorKind::OutOfMemory, 11, "htl: memory\n"),
-    ];
-    for (kind, status, told) in table {
-        let (ended, out, err) = ended(alloc, Err(kind.into()))?;
-        assert_eq!(rt; ended, status);
-        assert_eq!(rt; out.bytes(), b"".as_slice());
-        assert_eq!(rt; err.bytes(), told.as_bytes());
+    for (kind, wanted) in NO_ARGUMENTS {
+        assert!(rt; ends(rt.alloc(), Err(kind.into()), wanted)?);
     }
     Ok(())
+}
+
+// Whether a program over readers and writers in memory, with a file A, runs a file of this name so.
+fn serves(alloc: Global, name: &str, wanted: Ended) -> Result<bool, Fail> {
+    let mut shelf = Folder::new(OneFile {
+        name: "A",
+        bytes: SOURCE.as_bytes(),
+    });
+    let mut input = Input::new(SCRIPT);
+    let mut lines = Vec::new(alloc);
+    let mut faults = Vec::new(alloc);
+    let args = arguments(alloc, &["htl", "go", name])?;
+    let status = {
+        let mut out = Output::new(&mut lines);
+        let mut err = Output::new(&mut faults);
+        command(Ok(args), alloc, &mut shelf, &mut input, &mut out, &mut err)
+    };
+    let (ended, written, told) = wanted;
+    Ok(
+        status == ended
+            && lines.as_slice() == written.as_bytes()
+            && faults.as_slice() == told.as_bytes(),
+    )
 }
 
 #[test]
 fn readers_and_writers_in_memory_serve(rt: HostRuntime) -> Result<(), Fail> {
-    let alloc = rt.alloc();
-    let table = [("A", 0, LINES, ""), ("B", 8, "", "htl: shelf failed\n")];
-    for (name, status, written, told) in table {
-        let mut shelf = Folder::new(OneFile {
-            name: "A",
-            bytes: SOURCE.as_bytes(),
-        });
-        let mut input = Input::new(SCRIPT);
-        let mut lines = Vec::new(alloc);
-        let mut faults = Vec::new(alloc);
-        let args = arguments(alloc, &["htl", "go", name])?;
-        let ended = {
-            let mut out = Output::new(&mut lines);
-            let mut err = Output::new(&mut faults);
-            command(Ok(args), alloc, &mut shelf, &mut input, &mut out, &mut err)
-        };
-        assert_eq!(rt; ended, status);
-        assert_eq!(rt; lines.as_slice(), written.as_bytes());
-        assert_eq!(rt; faults.as_slice(), told.as_bytes());
-    }
+    assert!(rt; serves(rt.alloc(), "A", (0, LINES, ""))?);
+    assert!(rt; serves(rt.alloc(), "B", (8, "", "htl: shelf failed\n"))?);
     Ok(())
 }

@@ -205,77 +205,154 @@ fn round(
     if all == slow { Ok(Some(all)) } else { Ok(None) }
 }
 
-fn left(
-    at: Time,
-    instr: u32,
-    position: Option<u16>,
-    slice: Option<(Time, Time)>,
-    finished: bool,
-) -> Left {
-    Left {
-        at,
-        instr,
-        position,
-        slice,
-        finished,
+// When an instruction was left, its number, its position, the slice that was run, and whether the job finished.
+type LeftRow = (Time, u32, Option<u16>, Option<(Time, Time)>, bool);
+
+fn is_left(left: &Left, row: &LeftRow) -> bool {
+    let (at, instr, position, slice, finished) = *row;
+    left.at == at
+        && left.instr == instr
+        && left.position == position
+        && left.slice == slice
+        && left.finished == finished
+}
+
+fn are_left(all: &[Left], rows: &[LeftRow]) -> bool {
+    for k in 0..all.len() {
+        if k >= rows.len() || !is_left(&all[k], &rows[k]) {
+            return false;
+        }
+    }
+    all.len() == rows.len()
+}
+
+// Whether a position is present, its release, the end of its window, and its worst case.
+type JobRow = (bool, u64, u64, u64);
+
+fn job_of(row: JobRow) -> Job {
+    let (present, release, end, worst) = row;
+    job(present, release, end, worst)
+}
+
+// Two jobs that are accepted and two that run, their lengths, the list, and what is left.
+struct RoundRow {
+    whole: [JobRow; 2],
+    jobs: [JobRow; 2],
+    lengths: [Time; 2],
+    list: &'static [SInstr],
+    wanted: &'static [LeftRow],
+}
+
+const INTERRUPTED: &[SInstr] = &[
+    SInstr::Dispatch {
+        position: 0,
+        until: 2,
+    },
+    SInstr::Dispatch {
+        position: 1,
+        until: 5,
+    },
+    SInstr::Dispatch {
+        position: 0,
+        until: 10,
+    },
+    SInstr::End,
+];
+
+const LONG_AND_SHORT: [JobRow; 2] = [(true, 0, 10, 7), (true, 2, 6, 3)];
+
+const LATE: [JobRow; 2] = [(true, 0, 10, 3), (true, 4, 9, 3)];
+
+const ROUNDS: &[RoundRow] = &[
+    RoundRow {
+        whole: LONG_AND_SHORT,
+        jobs: LONG_AND_SHORT,
+        lengths: [1, 3],
+        list: INTERRUPTED,
+        wanted: &[
+            (101, 0, Some(0), Some((100, 101)), true),
+            (105, 1, Some(1), Some((102, 105)), true),
+            (105, 2, Some(0), None, false),
+            (105, 3, None, None, false),
+        ],
+    },
+    // work done in an earlier slice
+    RoundRow {
+        whole: LONG_AND_SHORT,
+        jobs: LONG_AND_SHORT,
+        lengths: [7, 2],
+        list: INTERRUPTED,
+        wanted: &[
+            (102, 0, Some(0), Some((100, 102)), false),
+            (104, 1, Some(1), Some((102, 104)), true),
+            (109, 2, Some(0), Some((104, 109)), true),
+            (109, 3, None, None, false),
+        ],
+    },
+    // a position that is absent
+    RoundRow {
+        whole: LONG_AND_SHORT,
+        jobs: [(true, 0, 10, 7), (false, 0, 0, 3)],
+        lengths: [7, 2],
+        list: INTERRUPTED,
+        wanted: &[
+            (102, 0, Some(0), Some((100, 102)), false),
+            (102, 1, Some(1), None, false),
+            (107, 2, Some(0), Some((102, 107)), true),
+            (107, 3, None, None, false),
+        ],
+    },
+    // an idle, and a dispatch that ends before its position is released
+    RoundRow {
+        whole: LATE,
+        jobs: LATE,
+        lengths: [3, 1],
+        list: &[
+            SInstr::Dispatch {
+                position: 0,
+                until: 2,
+            },
+            SInstr::Dispatch {
+                position: 1,
+                until: 3,
+            },
+            SInstr::Idle { until: 5 },
+            SInstr::Dispatch {
+                position: 1,
+                until: 8,
+            },
+            SInstr::Dispatch {
+                position: 0,
+                until: 10,
+            },
+            SInstr::End,
+        ],
+        wanted: &[
+            (102, 0, Some(0), Some((100, 102)), false),
+            (103, 1, Some(1), None, false),
+            (105, 2, None, None, false),
+            (106, 3, Some(1), Some((105, 106)), true),
+            (107, 4, Some(0), Some((106, 107)), true),
+            (107, 5, None, None, false),
+        ],
+    },
+];
+
+// Whether the round goes as wanted.
+fn goes(alloc: Global, row: &RoundRow) -> Result<bool, AllocError> {
+    let whole = [job_of(row.whole[0]), job_of(row.whole[1])];
+    let jobs = [job_of(row.jobs[0]), job_of(row.jobs[1])];
+    match round(alloc, &whole, &jobs, &row.lengths, row.list)? {
+        Some(all) => Ok(are_left(all.as_slice(), row.wanted)),
+        None => Ok(false),
     }
 }
 
 #[test]
 fn rounds(rt: HostRuntime) -> Result<(), Fail> {
-    let whole = [job(true, 0, 10, 7), job(true, 2, 6, 3)];
-    let list = [run(0, 2), run(1, 5), run(0, 10), SInstr::End];
-    assert_eq!(rt;
-        round(rt.alloc(), &whole, &whole, &[1, 3], &list)?,
-        Some(vec![in rt.alloc();
-            left(101, 0, Some(0), Some((100, 101)), true),
-            left(105, 1, Some(1), Some((102, 105)), true),
-            left(105, 2, Some(0), None, false),
-            left(105, 3, None, None, false),
-        ]?)
-    );
-    // work done in an earlier slice
-    assert_eq!(rt;
-        round(rt.alloc(), &whole, &whole, &[7, 2], &list)?,
-        Some(vec![in rt.alloc();
-            left(102, 0, Some(0), Some((100, 102)), false),
-            left(104, 1, Some(1), Some((102, 104)), true),
-            left(109, 2, Some(0), Some((104, 109)), true),
-            left(109, 3, None, None, false),
-        ]?)
-    );
-    // a position that is absent
-    let one = [job(true, 0, 10, 7), job(false, 0, 0, 3)];
-    assert_eq!(rt;
-        round(rt.alloc(), &whole, &one, &[7, 2], &list)?,
-        Some(vec![in rt.alloc();
-            left(102, 0, Some(0), Some((100, 102)), false),
-            left(102, 1, Some(1), None, false),
-            left(107, 2, Some(0), Some((102, 107)), true),
-            left(107, 3, None, None, false),
-        ]?)
-    );
-    // an idle, and a dispatch that ends before its position is released
-    let short = [job(true, 0, 10, 3), job(true, 4, 9, 3)];
-    let list = [
-        run(0, 2),
-        run(1, 3),
-        idle(5),
-        run(1, 8),
-        run(0, 10),
-        SInstr::End,
-    ];
-    assert_eq!(rt;
-        round(rt.alloc(), &short, &short, &[3, 1], &list)?,
-        Some(vec![in rt.alloc();
-            left(102, 0, Some(0), Some((100, 102)), false),
-            left(103, 1, Some(1), None, false),
-            left(105, 2, None, None, false),
-            left(106, 3, Some(1), Some((105, 106)), true),
-            left(107, 4, Some(0), Some((106, 107)), true),
-            left(107, 5, None, None, false),
-        ]?)
-    );
+    for row in ROUNDS {
+        assert!(rt; goes(rt.alloc(), row)?, "{:?}", row.lengths);
+    }
     Ok(())
 }
 
@@ -350,41 +427,85 @@ fn seen_with(
     Ok(Some(seen(alloc, &mut m, jobs, &s, untils)?))
 }
 
+// What is left, and the states of the two positions then.
+type SeenRow = (Option<LeftRow>, PosState, PosState);
+
+fn is_seen(seen: &Seen, row: &SeenRow) -> bool {
+    let left = match (&seen.0, &row.0) {
+        (Some(left), Some(row)) => is_left(left, row),
+        (None, None) => true,
+        _ => false,
+    };
+    left && seen.1 == row.1 && seen.2 == row.2
+}
+
+fn are_seen(all: &[Seen], rows: &[SeenRow]) -> bool {
+    for k in 0..all.len() {
+        if k >= rows.len() || !is_seen(&all[k], &rows[k]) {
+            return false;
+        }
+    }
+    all.len() == rows.len()
+}
+
+// Whether this is seen of two jobs.
+fn shows(
+    alloc: Global,
+    rows: [JobRow; 2],
+    ticks: Time,
+    untils: &[Time],
+    wanted: &[SeenRow],
+) -> Result<bool, AllocError> {
+    let whole = [job_of(LONG_AND_SHORT[0]), job_of(LONG_AND_SHORT[1])];
+    let jobs = [job_of(rows[0]), job_of(rows[1])];
+    match seen_with(alloc, &whole, &jobs, ticks, untils)? {
+        Some(all) => Ok(are_seen(all.as_slice(), wanted)),
+        None => Ok(false),
+    }
+}
+
+const SEEN: [SeenRow; 8] = [
+    (None, PosState::Pending, PosState::Pending),
+    (
+        Some((101, 0, Some(0), Some((100, 101)), true)),
+        PosState::Done,
+        PosState::Pending,
+    ),
+    (None, PosState::Done, PosState::Pending),
+    (None, PosState::Done, PosState::Ready),
+    (
+        Some((104, 1, Some(1), Some((102, 104)), true)),
+        PosState::Done,
+        PosState::Done,
+    ),
+    (
+        Some((104, 2, Some(0), None, false)),
+        PosState::Done,
+        PosState::Done,
+    ),
+    (
+        Some((104, 3, None, None, false)),
+        PosState::Done,
+        PosState::Done,
+    ),
+    (None, PosState::Done, PosState::Done),
+];
+
+const PASSED: [SeenRow; 2] = [
+    (
+        Some((100, 0, Some(0), None, false)),
+        PosState::Absent,
+        PosState::Pending,
+    ),
+    (None, PosState::Absent, PosState::Pending),
+];
+
 #[test]
 fn states(rt: HostRuntime) -> Result<(), Fail> {
-    let jobs = [job(true, 0, 10, 7), job(true, 2, 6, 3)];
-    let absent = [job(false, 0, 0, 7), job(true, 2, 6, 3)];
-    let first = Some(left(101, 0, Some(0), Some((100, 101)), true));
-    let second = Some(left(104, 1, Some(1), Some((102, 104)), true));
-    let third = Some(left(104, 2, Some(0), None, false));
-    let last = Some(left(104, 3, None, None, false));
-    assert_eq!(rt;
-        seen_with(
-            rt.alloc(),
-            &jobs,
-            &jobs,
-            2,
-            &[100, 101, 101, 103, 104, 104, 110, 110]
-        )?,
-        Some(vec![in rt.alloc();
-            (None, PosState::Pending, PosState::Pending),
-            (first, PosState::Done, PosState::Pending),
-            (None, PosState::Done, PosState::Pending),
-            (None, PosState::Done, PosState::Ready),
-            (second, PosState::Done, PosState::Done),
-            (third, PosState::Done, PosState::Done),
-            (last, PosState::Done, PosState::Done),
-            (None, PosState::Done, PosState::Done),
-        ]?)
-    );
-    let passed = Some(left(100, 0, Some(0), None, false));
-    assert_eq!(rt;
-        seen_with(rt.alloc(), &jobs, &absent, 1, &[100, 102])?,
-        Some(vec![in rt.alloc();
-            (passed, PosState::Absent, PosState::Pending),
-            (None, PosState::Absent, PosState::Pending),
-        ]?)
-    );
+    let untils = [100, 101, 101, 103, 104, 104, 110, 110];
+    assert!(rt; shows(rt.alloc(), LONG_AND_SHORT, 2, &untils, &SEEN)?);
+    let absent = [(false, 0, 0, 7), (true, 2, 6, 3)];
+    assert!(rt; shows(rt.alloc(), absent, 1, &[100, 102], &PASSED)?);
     Ok(())
 }
 
@@ -527,62 +648,70 @@ fn in_lists(
     Ok(Some((all, states)))
 }
 
+// The third job, the lengths, what is left, and the states where the second list begins.
+type ListsRow = (JobRow, [Time; 3], &'static [LeftRow], [PosState; 3]);
+
+const LISTS: [ListsRow; 3] = [
+    // a position that goes on in the next list
+    (
+        (true, 10, 20, 3),
+        [3, 9, 3],
+        &[
+            (103, 0, Some(0), Some((100, 103)), true),
+            (110, 1, Some(1), Some((103, 110)), false),
+            (110, 2, None, None, false),
+            (112, 0, Some(1), Some((110, 112)), true),
+            (115, 1, Some(2), Some((112, 115)), true),
+            (115, 2, None, None, false),
+        ],
+        [PosState::Done, PosState::Ready, PosState::Pending],
+    ),
+    // one that the list before finished
+    (
+        (true, 10, 20, 3),
+        [2, 5, 1],
+        &[
+            (102, 0, Some(0), Some((100, 102)), true),
+            (107, 1, Some(1), Some((102, 107)), true),
+            (107, 2, None, None, false),
+            (110, 0, Some(1), None, false),
+            (111, 1, Some(2), Some((110, 111)), true),
+            (111, 2, None, None, false),
+        ],
+        [PosState::Done, PosState::Done, PosState::Pending],
+    ),
+    // a further position that is absent
+    (
+        (false, 10, 20, 3),
+        [3, 9, 3],
+        &[
+            (103, 0, Some(0), Some((100, 103)), true),
+            (110, 1, Some(1), Some((103, 110)), false),
+            (110, 2, None, None, false),
+            (112, 0, Some(1), Some((110, 112)), true),
+            (112, 1, Some(2), None, false),
+            (112, 2, None, None, false),
+        ],
+        [PosState::Done, PosState::Ready, PosState::Absent],
+    ),
+];
+
+// Whether two lists go as wanted.
+fn go(alloc: Global, row: &ListsRow) -> Result<bool, AllocError> {
+    let (third, lengths, wanted, states) = *row;
+    let jobs = [job(true, 0, 10, 3), job(true, 0, 20, 9), job_of(third)];
+    match in_lists(alloc, &jobs, &lengths)? {
+        Some((all, seen)) => {
+            Ok(are_left(all.as_slice(), wanted) && seen.as_slice() == states.as_slice())
+        }
+        None => Ok(false),
+    }
+}
+
 #[test]
 fn lists(rt: HostRuntime) -> Result<(), Fail> {
-    let jobs = [
-        job(true, 0, 10, 3),
-        job(true, 0, 20, 9),
-        job(true, 10, 20, 3),
-    ];
-    // a position that goes on in the next list
-    assert_eq!(rt;
-        in_lists(rt.alloc(), &jobs, &[3, 9, 3])?,
-        Some((
-            vec![in rt.alloc();
-                left(103, 0, Some(0), Some((100, 103)), true),
-                left(110, 1, Some(1), Some((103, 110)), false),
-                left(110, 2, None, None, false),
-                left(112, 0, Some(1), Some((110, 112)), true),
-                left(115, 1, Some(2), Some((112, 115)), true),
-                left(115, 2, None, None, false),
-            ]?,
-            vec![in rt.alloc(); PosState::Done, PosState::Ready, PosState::Pending]?
-        ))
-    );
-    // one that the list before finished
-    assert_eq!(rt;
-        in_lists(rt.alloc(), &jobs, &[2, 5, 1])?,
-        Some((
-            vec![in rt.alloc();
-                left(102, 0, Some(0), Some((100, 102)), true),
-                left(107, 1, Some(1), Some((102, 107)), true),
-                left(107, 2, None, None, false),
-                left(110, 0, Some(1), None, false),
-                left(111, 1, Some(2), Some((110, 111)), true),
-                left(111, 2, None, None, false),
-            ]?,
-            vec![in rt.alloc(); PosState::Done, PosState::Done, PosState::Pending]?
-        ))
-    );
-    // a further position that is absent
-    let absent = [
-        job(true, 0, 10, 3),
-        job(true, 0, 20, 9),
-        job(false, 10, 20, 3),
-    ];
-    assert_eq!(rt;
-        in_lists(rt.alloc(), &absent, &[3, 9, 3])?,
-        Some((
-            vec![in rt.alloc();
-                left(103, 0, Some(0), Some((100, 103)), true),
-                left(110, 1, Some(1), Some((103, 110)), false),
-                left(110, 2, None, None, false),
-                left(112, 0, Some(1), Some((110, 112)), true),
-                left(112, 1, Some(2), None, false),
-                left(112, 2, None, None, false),
-            ]?,
-            vec![in rt.alloc(); PosState::Done, PosState::Ready, PosState::Absent]?
-        ))
-    );
+    for row in LISTS {
+        assert!(rt; go(rt.alloc(), &row)?, "{:?}", row.1);
+    }
     Ok(())
 }

@@ -175,54 +175,25 @@ fn first_unlike(alloc: Global, want: &Source) -> Option<&'static str> {
     }
 }
 
-#[test]
-fn one_doubling_task_has_its_tables(rt: HostRuntime) {
-    assert_eq!(rt; first_unlike(rt.alloc(), &ONE_DOUBLING_TASK), None);
-}
+const SOURCES: [Source; 10] = [
+    ONE_DOUBLING_TASK,
+    NO_TASK,
+    PREEMPTION,
+    A_PORT,
+    A_REFINED_TASK,
+    A_LEFT_REFINEMENT,
+    TWO_MODES,
+    TWO_PERIODS,
+    TWO_TANKS,
+    // modules are numbered in preorder
+    THREE_LEVELS,
+];
 
 #[test]
-fn no_task_has_its_tables(rt: HostRuntime) {
-    assert_eq!(rt; first_unlike(rt.alloc(), &NO_TASK), None);
-}
-
-#[test]
-fn preemption_has_its_tables(rt: HostRuntime) {
-    assert_eq!(rt; first_unlike(rt.alloc(), &PREEMPTION), None);
-}
-
-#[test]
-fn a_port_has_its_tables(rt: HostRuntime) {
-    assert_eq!(rt; first_unlike(rt.alloc(), &A_PORT), None);
-}
-
-#[test]
-fn a_refined_task_has_its_tables(rt: HostRuntime) {
-    assert_eq!(rt; first_unlike(rt.alloc(), &A_REFINED_TASK), None);
-}
-
-#[test]
-fn a_left_refinement_has_its_tables(rt: HostRuntime) {
-    assert_eq!(rt; first_unlike(rt.alloc(), &A_LEFT_REFINEMENT), None);
-}
-
-#[test]
-fn two_modes_have_their_tables(rt: HostRuntime) {
-    assert_eq!(rt; first_unlike(rt.alloc(), &TWO_MODES), None);
-}
-
-#[test]
-fn two_periods_have_their_tables(rt: HostRuntime) {
-    assert_eq!(rt; first_unlike(rt.alloc(), &TWO_PERIODS), None);
-}
-
-#[test]
-fn two_tanks_have_their_tables(rt: HostRuntime) {
-    assert_eq!(rt; first_unlike(rt.alloc(), &TWO_TANKS), None);
-}
-
-#[test]
-fn three_levels_are_numbered_in_preorder(rt: HostRuntime) {
-    assert_eq!(rt; first_unlike(rt.alloc(), &THREE_LEVELS), None);
+fn sources_have_their_tables(rt: HostRuntime) {
+    for source in SOURCES {
+        assert_eq!(rt; first_unlike(rt.alloc(), &source), None, "{}", source.text);
+    }
 }
 
 // What stands for the first root invocation of the first selection where the child is in this mode.

@@ -1,8 +1,10 @@
 // Readers and writers that fail, and files.
+use crate::edge_tests::is_fetched;
 use crate::folder::{Disk, Folder, read_up_to};
 use crate::input::Input;
 use crate::output::Output;
 use htl_edge::{Failed, Shelf, ShelfFault, Sink, Source};
+use std::alloc::Global;
 use std::io::{Read, Write};
 use std::test::Fail;
 use std::{fs, io, process};
@@ -62,19 +64,41 @@ impl Write for Script {
     }
 }
 
+// Reads with so much room, what they answer, and what is in the buffer then.
+const READS: [(usize, Result<usize, Failed>, [u8; 4]); 5] = [
+    (0, Ok(0), [0; 4]),
+    (4, Ok(2), [b'x', b'x', 0, 0]),
+    (4, Err(Failed), [0; 4]),
+    (4, Ok(4), [b'x'; 4]),
+    (4, Ok(0), [0; 4]),
+];
+
 #[test]
 fn input_reads_and_fails(rt: HostRuntime) {
     let mut input = Input::new(Script {
         turns: &[Turn::Take(2), Turn::Refuse, Turn::Take(9)],
     });
-    let mut buf = [0u8; 4];
-    assert_eq!(rt; input.read(&mut []), Ok(0));
-    assert_eq!(rt; input.read(&mut buf), Ok(2));
-    assert_eq!(rt; buf, *b"xx\0\0");
-    assert_eq!(rt; input.read(&mut buf), Err(Failed));
-    assert_eq!(rt; input.read(&mut buf), Ok(4));
-    assert_eq!(rt; input.read(&mut buf), Ok(0));
+    for (room, wanted, bytes) in READS {
+        let mut buf = [0u8; 4];
+        let answer = input.read(&mut buf[..room.min(4)]);
+        assert!(rt; answer == wanted && buf == bytes);
+    }
 }
+
+// Pieces that are written, and what is answered.
+const WRITES: [(&[u8], Result<usize, Failed>); 7] = [
+    (b"", Ok(0)),
+    (b"line", Ok(2)),
+    // refused
+    (b"line", Err(Failed)),
+    // nothing taken
+    (b"line", Err(Failed)),
+    // not flushed
+    (b"line", Err(Failed)),
+    // refused
+    (b"line", Err(Failed)),
+    (b"line", Ok(4)),
+];
 
 #[test]
 fn output_writes_and_fails(rt: HostRuntime) {
@@ -88,13 +112,24 @@ fn output_writes_and_fails(rt: HostRuntime) {
             Turn::Take(9),
         ],
     });
-    assert_eq!(rt; out.write(b""), Ok(0));
-    assert_eq!(rt; out.write(b"line"), Ok(2));
-    assert_eq!(rt; out.write(b"line"), Err(Failed), "refused");
-    assert_eq!(rt; out.write(b"line"), Err(Failed), "nothing taken");
-    assert_eq!(rt; out.write(b"line"), Err(Failed), "not flushed");
-    assert_eq!(rt; out.write(b"line"), Err(Failed), "refused");
-    assert_eq!(rt; out.write(b"line"), Ok(4));
+    for (piece, wanted) in WRITES {
+        assert_eq!(rt; out.write(piece), wanted);
+    }
+}
+
+// Whether a read that fails counts, and one that gets to the end doesn't.
+fn counts_faults(alloc: Global) -> bool {
+    let mut faults = 0;
+    let mut file = Script {
+        turns: &[Turn::Take(3), Turn::Refuse, Turn::Take(1)],
+    };
+    let cut = read_up_to(alloc, &mut file, 5, &mut faults);
+    let counted = faults;
+    let rest = read_up_to(alloc, &mut file, 5, &mut faults);
+    is_fetched(cut, Err(ShelfFault::Failed))
+        && counted == 1
+        && is_fetched(rest, Ok(b"x"))
+        && faults == 1
 }
 
 #[test]
@@ -105,26 +140,11 @@ fn files_are_read_up_to_a_limit(rt: HostRuntime) -> Result<(), Fail> {
     let path = name.as_str();
     fs::write(&rt, path, "12345")?;
     let mut folder = Folder::new(Disk::new(&rt));
-    let held = folder.fetch(alloc, path, 5);
-    assert!(rt; matches!(held, Ok(ref bytes) if bytes.as_slice() == b"12345".as_slice()));
-    assert!(rt;
-        matches!(
-            folder.fetch(alloc, path, 4),
-            Err(ShelfFault::TooLong { seen: 5 })
-        )
-    );
+    let held = is_fetched(folder.fetch(alloc, path, 5), Ok(b"12345"));
+    let long = ShelfFault::TooLong { seen: 5 };
+    let cut = is_fetched(folder.fetch(alloc, path, 4), Err(long));
     fs::remove_file(&rt, path)?;
-    assert!(rt; matches!(folder.fetch(alloc, path, 5), Err(ShelfFault::Failed)));
-
-    let mut faults = 0;
-    let mut file = Script {
-        turns: &[Turn::Take(3), Turn::Refuse, Turn::Take(1)],
-    };
-    let cut = read_up_to(alloc, &mut file, 5, &mut faults);
-    assert!(rt; matches!(cut, Err(ShelfFault::Failed)));
-    assert_eq!(rt; faults, 1);
-    let rest = read_up_to(alloc, &mut file, 5, &mut faults);
-    assert!(rt; matches!(rest, Ok(ref bytes) if bytes.as_slice() == b"x".as_slice()));
-    assert_eq!(rt; faults, 1);
+    let gone = is_fetched(folder.fetch(alloc, path, 5), Err(ShelfFault::Failed));
+    assert_eq!(rt; [held, cut, gone, counts_faults(alloc)], [true; 4]);
     Ok(())
 }
