@@ -2,6 +2,7 @@
 ghost use Rattle.std.specs.Prelude.{◌≡◌, ◌<◌, true, None as NoLimit, length};
 ghost use Rattle.htl_model.specs.Frames.{frame_limit, paths, starts};
 
+use crate::asserts::holds;
 use crate::texts::tables_of;
 use htl_base::Time;
 use htl_model::Tables;
@@ -217,14 +218,14 @@ pub fn read(alloc: Global, text: &str) -> Option<Tables> {
 #[test]
 fn items_have_their_numbers(rt: HostRuntime) -> Result<(), Fail> {
     let t = read(rt.alloc(), ITEMS).expect(&rt, "tables");
-    assert!(rt; has_items(&t));
+    holds(&rt, has_items(&t));
     Ok(())
 }
 
 #[test]
 fn frames_have_their_starts_and_nodes(rt: HostRuntime) -> Result<(), Fail> {
     let t = read(rt.alloc(), LOOPS).expect(&rt, "tables");
-    assert!(rt; has_frames(&t));
-    assert!(rt; has_positions(&t));
+    holds(&rt, has_frames(&t));
+    holds(&rt, has_positions(&t));
     Ok(())
 }

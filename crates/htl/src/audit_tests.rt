@@ -1,4 +1,5 @@
 // `audit` over objects of sources and job logs in memory: a log of each kind, and the answers that come before its verdict.
+use crate::asserts::same;
 use crate::calls::{Content, EMPTY, Group, Place, Row, Streams, first_wrong};
 use crate::samples::{PORT, TWO_JOBS};
 use std::test::Fail;
@@ -151,6 +152,6 @@ const GROUPS: &[Group] = &[
 
 #[test]
 fn calls_are_answered(rt: HostRuntime) -> Result<(), Fail> {
-    assert_eq!(rt; first_wrong(rt.alloc(), GROUPS)?, None);
+    same(&rt, first_wrong(rt.alloc(), GROUPS)?, None);
     Ok(())
 }

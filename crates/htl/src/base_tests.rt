@@ -1,4 +1,5 @@
 // Names at their limits, and a list.
+use crate::asserts::{holds, holds_in, same};
 use htl_base::{Name, Seq};
 use std::test::Fail;
 
@@ -28,7 +29,7 @@ fn is_told(bytes: &[u8], is_name: bool) -> bool {
 #[test]
 fn names_are_told_apart(rt: HostRuntime) {
     for (bytes, is_name) in TEXTS {
-        assert!(rt; is_told(bytes, is_name), "{bytes:?}");
+        holds_in(&rt, bytes, is_told(bytes, is_name));
     }
 }
 
@@ -36,14 +37,17 @@ fn names_are_told_apart(rt: HostRuntime) {
 fn known_names_are_the_same(rt: HostRuntime) {
     let bytes = b"level_3";
     let name = Name::from_known(bytes);
-    assert!(rt; name.as_bytes() == bytes.as_slice() && Name::new(bytes) == Some(name));
+    holds(
+        &rt,
+        name.as_bytes() == bytes.as_slice() && Name::new(bytes) == Some(name),
+    );
 }
 
 #[test]
 fn lists_keep_their_items(rt: HostRuntime) -> Result<(), Fail> {
     let mut list = Seq::new(vec![in rt.alloc(); 1u32, 2, 3]?);
     list.set(1, 7);
-    assert_eq!(rt; list.as_slice(), [1u32, 7, 3].as_slice());
-    assert_eq!(rt; list.into_vec().len(), 3);
+    same(&rt, list.as_slice(), [1u32, 7, 3].as_slice());
+    same(&rt, list.into_vec().len(), 3);
     Ok(())
 }

@@ -1,4 +1,5 @@
 // Whole calls of `bulk`: its rows, and an output that fails.
+use crate::asserts::same;
 use crate::calls::{Content, EMPTY, Group, Place, Row, Streams, Tried, first_other, first_wrong};
 use std::test::Fail;
 
@@ -68,7 +69,7 @@ const TRIED: &[Tried] = &[Tried {
 
 #[test]
 fn calls_are_answered(rt: HostRuntime) -> Result<(), Fail> {
-    assert_eq!(rt; first_wrong(rt.alloc(), GROUPS)?, None);
-    assert_eq!(rt; first_other(rt.alloc(), TRIED)?, None);
+    same(&rt, first_wrong(rt.alloc(), GROUPS)?, None);
+    same(&rt, first_other(rt.alloc(), TRIED)?, None);
     Ok(())
 }

@@ -1,4 +1,5 @@
 // Whole calls of the top call: words and files, and streams that fail at each place.
+use crate::asserts::{holds, holds_in};
 use crate::calls::{Case, Content, EMPTY, Place, Streams, is_answered, is_answered_on, shelf_of};
 use crate::samples::{DOUBLED, DOUBLED_BEFORE, DOUBLING, READINGS};
 use std::test::Fail;
@@ -71,7 +72,7 @@ fn other_words_and_files_are_refused(rt: HostRuntime) -> Result<(), Fail> {
             out: EMPTY,
             told,
         };
-        assert!(rt; is_answered(rt.alloc(), &case)?, "{words:?}");
+        holds_in(&rt, words, is_answered(rt.alloc(), &case)?);
     }
     Ok(())
 }
@@ -99,12 +100,12 @@ fn an_output_is_filled(rt: HostRuntime) -> Result<(), Fail> {
     for room in 0..DOUBLED.len() {
         case.streams = Streams::Room(room);
         case.out = Content::Front(DOUBLED.as_bytes(), room);
-        assert!(rt; is_answered(rt.alloc(), &case)?, "{room} bytes");
+        holds_in(&rt, room, is_answered(rt.alloc(), &case)?);
     }
     // eight writes, and no ninth
     let mut whole = DOUBLES;
     whole.streams = Streams::RoomFails(DOUBLED.len(), 9);
-    assert!(rt; is_answered(rt.alloc(), &whole)?);
+    holds(&rt, is_answered(rt.alloc(), &whole)?);
     Ok(())
 }
 
@@ -134,12 +135,12 @@ fn a_byte_is_not_read(rt: HostRuntime) -> Result<(), Fail> {
     for read in 1..=READINGS.len() as u64 + 1 {
         case.streams = Streams::StepFails(1, read);
         case.out = written_at(read);
-        assert!(rt; is_answered(rt.alloc(), &case)?, "read {read}");
+        holds_in(&rt, read, is_answered(rt.alloc(), &case)?);
     }
     // a read more than there is
     let mut whole = DOUBLES;
     whole.streams = Streams::StepFails(1, READINGS.len() as u64 + 2);
-    assert!(rt; is_answered(rt.alloc(), &whole)?);
+    holds(&rt, is_answered(rt.alloc(), &whole)?);
     Ok(())
 }
 
@@ -163,10 +164,10 @@ fn a_shelf_fails_at_first(rt: HostRuntime) -> Result<(), Fail> {
     let source = Vec::from_slice(rt.alloc(), DOUBLING.as_bytes())?;
     let mut shelf = shelf_of(rt.alloc(), source, Vec::new(rt.alloc()), &[1, 2])?;
     for case in FETCHES {
-        assert!(rt;
+        holds_in(
+            &rt,
+            case.status,
             is_answered_on(rt.alloc(), case, &mut shelf, READINGS.as_bytes())?,
-            "status {}",
-            case.status
         );
     }
     Ok(())
@@ -201,7 +202,7 @@ fn cut_sources_have_their_fault_at_the_end(rt: HostRuntime) -> Result<(), Fail> 
                     out: EMPTY,
                     told: told.as_str(),
                 };
-                assert!(rt; is_answered(rt.alloc(), &case)?, "{at}");
+                holds_in(&rt, at, is_answered(rt.alloc(), &case)?);
             }
         }
     }

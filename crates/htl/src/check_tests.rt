@@ -1,4 +1,5 @@
 // `check` over objects in memory.
+use crate::asserts::same;
 use crate::calls::{Content, EMPTY, Group, Place, Row, Streams, first_wrong};
 use crate::object_bytes::{DOUBLING, NO_MODULE, PORT, REFINED, TWO_JOBS, TWO_MODES};
 use std::test::Fail;
@@ -327,6 +328,6 @@ const GROUPS: &[Group] = &[
 
 #[test]
 fn calls_are_answered(rt: HostRuntime) -> Result<(), Fail> {
-    assert_eq!(rt; first_wrong(rt.alloc(), GROUPS)?, None);
+    same(&rt, first_wrong(rt.alloc(), GROUPS)?, None);
     Ok(())
 }

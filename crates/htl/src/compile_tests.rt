@@ -1,4 +1,5 @@
 // The objects that `compile` writes, and what the commands on objects say of these.
+use crate::asserts::same;
 use crate::calls::{Content, EMPTY, Group, Place, Row, Streams, Tried, first_other, first_wrong};
 use crate::object_bytes;
 use crate::samples::{DOUBLING, PORT, REFINED, SOMETIMES, TANKS, TWO_JOBS, TWO_MODES, TWO_MODULES};
@@ -229,7 +230,7 @@ const TRIED: &[Tried] = &[Tried {
 
 #[test]
 fn calls_are_answered(rt: HostRuntime) -> Result<(), Fail> {
-    assert_eq!(rt; first_wrong(rt.alloc(), GROUPS)?, None);
-    assert_eq!(rt; first_other(rt.alloc(), TRIED)?, None);
+    same(&rt, first_wrong(rt.alloc(), GROUPS)?, None);
+    same(&rt, first_other(rt.alloc(), TRIED)?, None);
     Ok(())
 }

@@ -1,4 +1,5 @@
 // Sources with their faults and with their objects.
+use crate::asserts::{holds, holds_in};
 use crate::object_bytes::{DOUBLING, NO_MODULE};
 use crate::pieces::{Piece, joined};
 use crate::source_tests::{MORE_SELECTIONS, SELECTIONS};
@@ -178,7 +179,7 @@ const FAULTS: &[(&[Piece], SourceFault)] = &[
 fn sources_have_their_faults(rt: HostRuntime) -> Result<(), Fail> {
     for (k, (pieces, at)) in FAULTS.iter().enumerate() {
         let text = joined(rt.alloc(), pieces)?;
-        assert!(rt; is_fault(rt.alloc(), text.as_bytes(), *at), "fault {k}");
+        holds_in(&rt, k, is_fault(rt.alloc(), text.as_bytes(), *at));
     }
     Ok(())
 }
@@ -212,7 +213,7 @@ const CODED: &[(&[Piece], usize)] = &[
 fn functions_are_code(rt: HostRuntime) -> Result<(), Fail> {
     for (pieces, count) in CODED {
         let text = joined(rt.alloc(), pieces)?;
-        assert!(rt; codes(rt.alloc(), text.as_bytes()) == Some(*count));
+        holds(&rt, codes(rt.alloc(), text.as_bytes()) == Some(*count));
     }
     Ok(())
 }
@@ -303,19 +304,21 @@ const LONGER_AT: FormFault = FormFault {
 
 #[test]
 fn tables_have_their_faults(rt: HostRuntime) {
-    assert!(rt;
+    holds(
+        &rt,
         is_back_fault(
             rt.alloc(),
             UNDIVIDED.as_bytes(),
-            BackFault::IllFormed(UNDIVIDED_AT)
-        )
+            BackFault::IllFormed(UNDIVIDED_AT),
+        ),
     );
-    assert!(rt;
+    holds(
+        &rt,
         is_back_fault(
             rt.alloc(),
             LONGER.as_bytes(),
-            BackFault::IllFormed(LONGER_AT)
-        )
+            BackFault::IllFormed(LONGER_AT),
+        ),
     );
     let overloaded = BackFault::Unschedulable {
         selection: 0,
@@ -323,7 +326,10 @@ fn tables_have_their_faults(rt: HostRuntime) {
         to: 10,
         demand: 11,
     };
-    assert!(rt; is_back_fault(rt.alloc(), OVERLOADED.as_bytes(), overloaded));
+    holds(
+        &rt,
+        is_back_fault(rt.alloc(), OVERLOADED.as_bytes(), overloaded),
+    );
 }
 
 #[test]
@@ -333,7 +339,7 @@ fn selections_are_at_most_1024(rt: HostRuntime) -> Result<(), Fail> {
         Some(Ok(object)) => object.schedules.as_slice().len(),
         _ => 0,
     };
-    assert!(rt; schedules == 1_024);
+    holds(&rt, schedules == 1_024);
     Ok(())
 }
 
@@ -377,20 +383,23 @@ const DOUBLING_SOURCE: &str = "program P {
 
 #[test]
 fn sources_have_their_bytes(rt: HostRuntime) {
-    assert!(rt; is_compiled(rt.alloc(), NO_MODULE_SOURCE, &NO_MODULE));
-    assert!(rt; is_compiled(rt.alloc(), DOUBLING_SOURCE, &DOUBLING));
+    holds(&rt, is_compiled(rt.alloc(), NO_MODULE_SOURCE, &NO_MODULE));
+    holds(&rt, is_compiled(rt.alloc(), DOUBLING_SOURCE, &DOUBLING));
 }
 
 #[test]
 fn compiling_tells_each_fault(rt: HostRuntime) {
     let char = CompileFault::Source(SourceFault::Char { at: 12 });
-    assert!(rt; is_refused(rt.alloc(), "program P { #", char));
-    assert!(rt; is_refused(rt.alloc(), LONGER, CompileFault::IllFormed(LONGER_AT)));
+    holds(&rt, is_refused(rt.alloc(), "program P { #", char));
+    holds(
+        &rt,
+        is_refused(rt.alloc(), LONGER, CompileFault::IllFormed(LONGER_AT)),
+    );
     let overloaded = CompileFault::Unschedulable {
         selection: 0,
         from: 0,
         to: 10,
         demand: 11,
     };
-    assert!(rt; is_refused(rt.alloc(), OVERLOADED, overloaded));
+    holds(&rt, is_refused(rt.alloc(), OVERLOADED, overloaded));
 }

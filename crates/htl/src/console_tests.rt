@@ -1,6 +1,7 @@
 // The lines of a run, and the listing, of a source with one invocation.
 ghost use Rattle.std.specs.Prelude.{◌≡◌, ◌<◌, length, true, IfSome};
 
+use crate::asserts::same;
 use crate::made::made;
 use crate::samples::DOUBLING;
 use htl_base::{Name, Seq, Time, Value};
@@ -159,7 +160,7 @@ fn instructions_are_told(rt: HostRuntime) -> Result<(), Fail> {
 e 0 7 call read M.m.dbl 0
 e 20 10 jumpif 9 3
 ";
-    assert_eq!(rt; page.bytes(), text.as_slice());
+    same(&rt, page.bytes(), text.as_slice());
     Ok(())
 }
 
@@ -186,7 +187,7 @@ s 4 0:1 dispatch 0 until 4
 end 10 jobs 1 e 10 s 2
 plan 20 jobs 1 s 2
 ";
-    assert_eq!(rt; page.bytes(), text.as_slice());
+    same(&rt, page.bytes(), text.as_slice());
     Ok(())
 }
 
@@ -237,8 +238,8 @@ E 10 jump 1
 S 0:0 dispatch 0 until 4
 S 0:1 end
 ";
-    assert_eq!(rt; answer, Some(Ok(())));
-    assert_eq!(rt; page.bytes(), text.as_slice());
+    same(&rt, answer, Some(Ok(())));
+    same(&rt, page.bytes(), text.as_slice());
     Ok(())
 }
 
@@ -247,8 +248,12 @@ fn a_platform_is_named_first(rt: HostRuntime) -> Result<(), Fail> {
     let name = Name::new(b"fast").expect(&rt, "name");
     let mut page = Page::new(rt.alloc(), 30, &[])?;
     let answer = listed(rt.alloc(), &mut page, Some(&name), &[]);
-    assert_eq!(rt; answer, Some(Err(Failed)));
-    assert_eq!(rt; page.bytes(), b"platform fast\nsensor s int per".as_slice());
+    same(&rt, answer, Some(Err(Failed)));
+    same(
+        &rt,
+        page.bytes(),
+        b"platform fast\nsensor s int per".as_slice(),
+    );
     Ok(())
 }
 
@@ -256,10 +261,11 @@ fn a_platform_is_named_first(rt: HostRuntime) -> Result<(), Fail> {
 fn a_page_that_is_too_short(rt: HostRuntime) -> Result<(), Fail> {
     let mut page = Page::new(rt.alloc(), 40, &[])?;
     let answer = listed(rt.alloc(), &mut page, None, &[]);
-    assert_eq!(rt; answer, Some(Err(Failed)));
-    assert_eq!(rt;
+    same(&rt, answer, Some(Err(Failed)));
+    same(
+        &rt,
         page.bytes(),
-        b"sensor s int period 10 init 0\ncomm u int".as_slice()
+        b"sensor s int period 10 init 0\ncomm u int".as_slice(),
     );
     Ok(())
 }
@@ -279,7 +285,7 @@ const KINDS: [(Shown, (bool, bool, bool)); 4] = [
 #[test]
 fn what_is_shown(rt: HostRuntime) -> Result<(), Fail> {
     for (shown, wanted) in KINDS {
-        assert_eq!(rt; kinds(shown), wanted);
+        same(&rt, kinds(shown), wanted);
     }
     Ok(())
 }

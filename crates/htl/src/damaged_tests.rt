@@ -1,4 +1,5 @@
 // Damaged objects: cut ones, and ones with another byte, in both versions.
+use crate::asserts::{holds, same};
 use crate::load_tests::{answer, bad_field, changed};
 use crate::object_bytes::{DOUBLING, SOMETIMES};
 use htl_base::Name;
@@ -64,8 +65,8 @@ fn cut_objects_of_nodes_are_short(rt: HostRuntime) -> Result<(), Fail> {
     let alloc = rt.alloc();
     let loops = named(alloc, &LOOPS).expect(&rt, "an object");
     for object in [LOOPS.as_slice(), loops.as_slice()] {
-        assert_eq!(rt; first_not_short(alloc, object), None);
-        assert!(rt; is_object(alloc, object));
+        same(&rt, first_not_short(alloc, object), None);
+        holds(&rt, is_object(alloc, object));
     }
     Ok(())
 }
@@ -81,8 +82,8 @@ fn cut_objects_are_short(rt: HostRuntime) -> Result<(), Fail> {
         doubling.as_slice(),
         sometimes.as_slice(),
     ] {
-        assert_eq!(rt; first_not_short(alloc, object), None);
-        assert!(rt; answer(alloc, object).is_some_and(|a| a.is_ok()));
+        same(&rt, first_not_short(alloc, object), None);
+        holds(&rt, answer(alloc, object).is_some_and(|a| a.is_ok()));
     }
     Ok(())
 }
@@ -122,7 +123,7 @@ fn a_changed_byte_is_refused_or_said(rt: HostRuntime) -> Result<(), Fail> {
     let alloc = rt.alloc();
     let doubling = named(alloc, &DOUBLING).expect(&rt, "an object");
     for object in [DOUBLING.as_slice(), doubling.as_slice()] {
-        assert_eq!(rt; first_other(alloc, object)?, None);
+        same(&rt, first_other(alloc, object)?, None);
     }
     Ok(())
 }
@@ -132,7 +133,7 @@ fn a_changed_byte_of_an_object_of_nodes_is_refused_or_said(rt: HostRuntime) -> R
     let alloc = rt.alloc();
     let loops = named(alloc, &LOOPS).expect(&rt, "an object");
     for object in [LOOPS.as_slice(), loops.as_slice()] {
-        assert_eq!(rt; first_other(alloc, object)?, None);
+        same(&rt, first_other(alloc, object)?, None);
     }
     Ok(())
 }

@@ -4,6 +4,7 @@ ghost use Rattle.std.specs.List.{list_all};
 ghost use Rattle.htl_model.specs.Ranges.{IsSpan};
 ghost use Rattle.htl_edf.specs.FrameSamples.{IsFramed};
 
+use crate::asserts::same;
 use crate::frame_tables::tables;
 use htl_base::Seq;
 use htl_base::limits::MAX_POSITIONS;
@@ -141,14 +142,14 @@ fn overload_at(alloc: Global, worst: u32) -> Option<PlanFault>
 fn each_node_has_a_list(rt: HostRuntime) -> Result<(), Fail> {
     let first = [run(0, 3), run(1, 10), SInstr::End];
     let second = [run(1, 12), run(2, 15), SInstr::End];
-    assert_eq!(rt; are_planned(rt.alloc(), &first, &second), Some(true));
+    same(&rt, are_planned(rt.alloc(), &first, &second), Some(true));
     Ok(())
 }
 
 #[test]
 fn a_path_has_the_jobs_of_its_rounds(rt: HostRuntime) -> Result<(), Fail> {
     let wanted = [whole(0, 0, 10, 3), whole(1, 0, 20, 9), whole(0, 10, 20, 3)];
-    assert_eq!(rt; has_jobs(rt.alloc(), &wanted), Some(true));
+    same(&rt, has_jobs(rt.alloc(), &wanted), Some(true));
     Ok(())
 }
 
@@ -161,12 +162,13 @@ fn paths_accept_lists_or_miss(rt: HostRuntime) -> Result<(), Fail> {
         position: 1,
         left: 1,
     };
-    assert_eq!(rt; judged(rt.alloc(), &first, &second), Some(Ok(())));
-    assert_eq!(rt;
+    same(&rt, judged(rt.alloc(), &first, &second), Some(Ok(())));
+    same(
+        &rt,
         judged(rt.alloc(), &second, &first),
-        Some(Err((0, Miss::Order { instr: 0 })))
+        Some(Err((0, Miss::Order { instr: 0 }))),
     );
-    assert_eq!(rt; judged(rt.alloc(), &first, &cut), Some(Err((0, left))));
+    same(&rt, judged(rt.alloc(), &first, &cut), Some(Err((0, left))));
     Ok(())
 }
 
@@ -178,6 +180,6 @@ fn an_overload_is_that_of_a_whole_frame(rt: HostRuntime) -> Result<(), Fail> {
         to: 20,
         demand: 21,
     };
-    assert_eq!(rt; overload_at(rt.alloc(), 15), Some(over));
+    same(&rt, overload_at(rt.alloc(), 15), Some(over));
     Ok(())
 }

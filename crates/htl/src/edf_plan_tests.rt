@@ -1,6 +1,7 @@
 // A schedule for each selection of a module with three modes.
 ghost use Rattle.htl_model.specs.Broken.{KeepsLimits};
 
+use crate::asserts::same;
 use crate::made::made_of;
 use crate::pieces::Text;
 use htl_edf::{PlanFault, edf_all};
@@ -95,7 +96,7 @@ const PLANNED: [SInstr; 8] = [
 #[test]
 fn each_selection_has_a_schedule(rt: HostRuntime) -> Result<(), Fail> {
     let text = Text::Whole(THREE_MODES);
-    assert_eq!(rt; are_planned(rt.alloc(), text, &PLANNED), Some(true));
+    same(&rt, are_planned(rt.alloc(), text, &PLANNED), Some(true));
     Ok(())
 }
 
@@ -115,7 +116,7 @@ fn the_first_overloaded_selection_is_named(rt: HostRuntime) -> Result<(), Fail> 
             demand,
         };
         let text = Text::Edited(THREE_MODES, edits);
-        assert_eq!(rt; overload(rt.alloc(), text), Some(over));
+        same(&rt, overload(rt.alloc(), text), Some(over));
     }
     Ok(())
 }

@@ -4,6 +4,7 @@ ghost use Rattle.htl_edf.specs.Tight.{NoCycle};
 ghost use Rattle.htl_edf.specs.Lists.{jobs_of};
 ghost use Rattle.htl_walk.specs.WellFormed.{IsWellFormed, AreWellFormed, EndWithin};
 
+use crate::asserts::{holds, holds_in, same};
 use crate::edf_rows::{JobRow, OVERLOADS, SCHEDULES};
 use htl_edf::{EdfFault, Tight, edf, tighten};
 use htl_model::bits::has_bit;
@@ -157,11 +158,8 @@ fn planned(
 fn schedules(rt: HostRuntime) -> Result<(), Fail> {
     for (k, (jobs, places, period, dispatches)) in SCHEDULES.iter().enumerate() {
         let wanted = instrs_of(rt.alloc(), dispatches)?;
-        assert_eq!(rt;
-            planned(rt.alloc(), jobs, places, *period)?,
-            Some(Ok(wanted)),
-            "schedule {k}"
-        );
+        let answer = planned(rt.alloc(), jobs, places, *period)?;
+        holds_in(&rt, k, answer == Some(Ok(wanted)));
     }
     Ok(())
 }
@@ -174,11 +172,8 @@ fn overloads(rt: HostRuntime) -> Result<(), Fail> {
             to: *to,
             demand: *demand,
         };
-        assert_eq!(rt;
-            planned(rt.alloc(), jobs, places, *period)?,
-            Some(Err(fault)),
-            "overload {k}"
-        );
+        let answer = planned(rt.alloc(), jobs, places, *period)?;
+        holds_in(&rt, k, answer == Some(Err(fault)));
     }
     Ok(())
 }
@@ -191,7 +186,7 @@ fn tightened_windows(rt: HostRuntime) -> Result<(), Fail> {
         tighten(&jobs, &mut out);
     }
     let wanted = [Tight { release: 5, end: 3 }, Tight { release: 8, end: 4 }];
-    assert_eq!(rt; out, wanted);
+    same(&rt, out, wanted);
     let chain = [
         job(0, 12, 2, 2),
         job(0, 12, 3, 4),
@@ -217,7 +212,7 @@ fn tightened_windows(rt: HostRuntime) -> Result<(), Fail> {
         },
         Tight { release: 9, end: 3 },
     ];
-    assert_eq!(rt; out, wanted);
+    same(&rt, out, wanted);
     Ok(())
 }
 
@@ -238,16 +233,14 @@ fn a_full_processor(rt: HostRuntime) -> Result<(), Fail> {
         Some(Ok(instrs)) => instrs.len(),
         _ => 0,
     };
-    assert!(rt; count >= 129);
+    holds(&rt, count >= 129);
     jobs[0].worst = 7_877;
     let fault = EdfFault::Overload {
         from: 0,
         to: 1_000_000,
         demand: 1_000_001,
     };
-    assert_eq!(rt;
-        plan(rt.alloc(), &jobs, &places, 1_000_000)?,
-        Some(Err(fault))
-    );
+    let answer = plan(rt.alloc(), &jobs, &places, 1_000_000)?;
+    holds(&rt, answer == Some(Err(fault)));
     Ok(())
 }

@@ -1,4 +1,5 @@
 // The fakes, call by call.
+use crate::asserts::{holds, holds_in, same};
 use crate::calls::shelf_of;
 use htl_edge::{Failed, LineBuffer, Page, Shelf, ShelfFault, Sink, Source, Tape, put_all};
 use std::test::Fail;
@@ -24,7 +25,7 @@ const READS: [(usize, (Result<usize, Failed>, [u8; 3])); 6] = [
 fn tape_gives_its_bytes_by_steps(rt: HostRuntime) -> Result<(), Fail> {
     let mut tape = Tape::new(rt.alloc(), b"abcde", 2, &[3])?;
     for (room, wanted) in READS {
-        assert_eq!(rt; read(&mut tape, room), wanted);
+        same(&rt, read(&mut tape, room), wanted);
     }
     Ok(())
 }
@@ -40,16 +41,22 @@ const WRITES: [(&[u8], Result<usize, Failed>); 3] = [
 fn page_takes_what_fits(rt: HostRuntime) -> Result<(), Fail> {
     let mut page = Page::new(rt.alloc(), 5, &[2])?;
     for (piece, wanted) in WRITES {
-        assert_eq!(rt; page.write(piece), wanted);
+        same(&rt, page.write(piece), wanted);
     }
-    assert!(rt; put_all(&mut page, b"defg") == Err(Failed) && page.bytes() == b"abcde".as_slice());
+    holds(
+        &rt,
+        put_all(&mut page, b"defg") == Err(Failed) && page.bytes() == b"abcde".as_slice(),
+    );
     Ok(())
 }
 
 #[test]
 fn pieces_are_put_whole(rt: HostRuntime) -> Result<(), Fail> {
     let mut page = Page::new(rt.alloc(), 5, &[])?;
-    assert!(rt; put_all(&mut page, b"abcde") == Ok(()) && page.bytes() == b"abcde".as_slice());
+    holds(
+        &rt,
+        put_all(&mut page, b"abcde") == Ok(()) && page.bytes() == b"abcde".as_slice(),
+    );
     Ok(())
 }
 
@@ -80,9 +87,10 @@ fn drawer_gives_files_by_name(rt: HostRuntime) -> Result<(), Fail> {
     let first = Vec::from_slice(alloc, b"12")?;
     let mut shelf = shelf_of(alloc, first, Vec::from_slice(alloc, b"345")?, &[4])?;
     for (name, limit, wanted) in FETCHES {
-        assert!(rt;
+        holds_in(
+            &rt,
+            (name, limit),
             is_fetched(shelf.fetch(alloc, name, limit), wanted),
-            "{name} {limit}"
         );
     }
     Ok(())
@@ -98,9 +106,10 @@ fn a_line_is_put_together(rt: HostRuntime) -> Result<(), Fail> {
     line.number(18_446_744_073_709_551_615);
     line.push(b' ');
     line.signed(-9_223_372_036_854_775_808);
-    assert_eq!(rt;
+    same(
+        &rt,
         line.as_bytes(),
-        b"v at 18446744073709551615 -9223372036854775808".as_slice()
+        b"v at 18446744073709551615 -9223372036854775808".as_slice(),
     );
     Ok(())
 }

@@ -10,6 +10,7 @@ ghost use Rattle.htl_ecode.specs.Spelling.{Spells};
 ghost use Rattle.htl_emach.specs.Due.{IsUpToNext};
 ghost use Rattle.htl.specs.Running.{CanRun};
 
+use crate::asserts::same;
 use crate::made::{is_formed, keeps_offsets, made_of};
 use crate::pieces::Text;
 use crate::samples::DOUBLING;
@@ -328,7 +329,7 @@ const STATES: States = [
 #[test]
 fn one_invocation(rt: HostRuntime) -> Result<(), Fail> {
     let mut told = Vec::new(rt.alloc());
-    assert_eq!(rt; run(rt.alloc(), &mut told), Some(STATES));
-    assert_eq!(rt; told.as_slice(), &TOLD[..]);
+    same(&rt, run(rt.alloc(), &mut told), Some(STATES));
+    same(&rt, told.as_slice(), &TOLD[..]);
     Ok(())
 }

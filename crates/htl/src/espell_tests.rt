@@ -1,6 +1,7 @@
 // The code of a source with one invocation, and departures of changed code.
 ghost use Rattle.std.specs.Prelude.{◌≡◌, ◌≤◌, length, true};
 
+use crate::asserts::same;
 use crate::made::{keeps_offsets, made};
 use htl_base::Seq;
 use htl_ecode::{ECode, EFault, EInstr, EKind, generate_e};
@@ -142,7 +143,7 @@ fn has_made(alloc: Global, text: &str) -> Option<bool> {
 
 #[test]
 fn the_code_of_one_invocation(rt: HostRuntime) -> Result<(), Fail> {
-    assert_eq!(rt; has_made(rt.alloc(), ONE_INVOCATION), Some(true));
+    same(&rt, has_made(rt.alloc(), ONE_INVOCATION), Some(true));
     Ok(())
 }
 
@@ -204,10 +205,10 @@ const DEPARTURES: [(usize, EInstr, u32, EKind); 8] = [
 
 #[test]
 fn first_departures(rt: HostRuntime) -> Result<(), Fail> {
-    assert_eq!(rt; changed(rt.alloc(), 4, EInstr::Return), Some(Ok(())));
+    same(&rt, changed(rt.alloc(), 4, EInstr::Return), Some(Ok(())));
     for (place, i, address, kind) in DEPARTURES {
         let fault = EFault { address, kind };
-        assert_eq!(rt; changed(rt.alloc(), place, i), Some(Err(fault)));
+        same(&rt, changed(rt.alloc(), place, i), Some(Err(fault)));
     }
     Ok(())
 }
@@ -219,19 +220,20 @@ fn long_chains_of_jumps(rt: HostRuntime) -> Result<(), Fail> {
         phase: 1,
         target: 5,
     };
-    assert_eq!(rt; chained(rt.alloc(), first), Some(Ok(())));
+    same(&rt, chained(rt.alloc(), first), Some(Ok(())));
     let late = EFault {
         address: 65_532,
         kind: EKind::Action,
     };
-    assert_eq!(rt; chained(rt.alloc(), EInstr::Return), Some(Err(late)));
+    same(&rt, chained(rt.alloc(), EInstr::Return), Some(Err(late)));
     let round = EFault {
         address: 1,
         kind: EKind::Endless,
     };
-    assert_eq!(rt;
+    same(
+        &rt,
         chained(rt.alloc(), EInstr::Jump { target: 11 }),
-        Some(Err(round))
+        Some(Err(round)),
     );
     Ok(())
 }

@@ -1,4 +1,5 @@
 // Scripts over small tables.
+use crate::asserts::same;
 use crate::made::made;
 use htl_base::Memory;
 use htl_edge::Tape;
@@ -105,7 +106,7 @@ fn the_first_fault_is_named(rt: HostRuntime) -> Result<(), Fail> {
     for (script, line, kind) in REFUSED {
         for step in [1usize, 7, 4096] {
             let fault = ScriptStop::Script(ScriptFault { line, kind });
-            assert_eq!(rt; ended(rt.alloc(), script, step, &[]), Some(Err(fault)));
+            same(&rt, ended(rt.alloc(), script, step, &[]), Some(Err(fault)));
         }
     }
     Ok(())
@@ -122,9 +123,9 @@ fn long_lines_are_refused(rt: HostRuntime) -> Result<(), Fail> {
     script[256..].copy_from_slice(b"\nend 5\n");
     for step in [1usize, 7, 4096] {
         let long = ended(rt.alloc(), &script, step, &[]);
-        assert_eq!(rt; long, Some(Err(ScriptStop::Script(LONG))));
+        same(&rt, long, Some(Err(ScriptStop::Script(LONG))));
         let short = has_events(rt.alloc(), &script[1..], step, &[Event::End(5)]);
-        assert_eq!(rt; short, Some(true));
+        same(&rt, short, Some(true));
     }
     Ok(())
 }
@@ -148,7 +149,11 @@ const EVENTS: [Event; 7] = [
 #[test]
 fn a_whole_script_gives_its_events(rt: HostRuntime) -> Result<(), Fail> {
     for step in [1usize, 7, 4096] {
-        assert_eq!(rt; has_events(rt.alloc(), WHOLE, step, &EVENTS), Some(true));
+        same(
+            &rt,
+            has_events(rt.alloc(), WHOLE, step, &EVENTS),
+            Some(true),
+        );
         // The last line may lack its line feed.
         let last = has_events(
             rt.alloc(),
@@ -156,7 +161,7 @@ fn a_whole_script_gives_its_events(rt: HostRuntime) -> Result<(), Fail> {
             step,
             &[Event::At(3), Event::End(3)],
         );
-        assert_eq!(rt; last, Some(true));
+        same(&rt, last, Some(true));
     }
     Ok(())
 }
@@ -177,8 +182,8 @@ fn is_cut(alloc: Global, call: u64) -> Option<bool> {
 fn a_fault_of_the_source_is_told(rt: HostRuntime) -> Result<(), Fail> {
     // The script comes in 16 pieces of 7 bytes, and one more call meets its end.
     for call in 1..18u64 {
-        assert_eq!(rt; is_cut(rt.alloc(), call), Some(true));
+        same(&rt, is_cut(rt.alloc(), call), Some(true));
     }
-    assert_eq!(rt; ended(rt.alloc(), WHOLE, 7, &[18]), Some(Ok(())));
+    same(&rt, ended(rt.alloc(), WHOLE, 7, &[18]), Some(Ok(())));
     Ok(())
 }

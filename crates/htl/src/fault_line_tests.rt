@@ -1,4 +1,5 @@
 // The lines that tell of answers that no call of the tests has.
+use crate::asserts::same;
 use htl_edge::Page;
 use htl_script::{ScriptFault, ScriptKind};
 use htl_top::{Outcome, report};
@@ -28,7 +29,7 @@ fn lines_are_told(rt: HostRuntime) -> Result<(), Fail> {
     for (outcome, line) in TOLD {
         let mut page = Page::new(alloc, 100, &[])?;
         report(&mut page, None, outcome);
-        assert_eq!(rt; page.bytes(), line.as_bytes());
+        same(&rt, page.bytes(), line.as_bytes());
     }
     Ok(())
 }

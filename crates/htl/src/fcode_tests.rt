@@ -1,6 +1,7 @@
 // Code that is verified, code that isn't, and values.
 ghost use Rattle.std.specs.Prelude.{◌≡◌, [], IfOk};
 
+use crate::asserts::{same, same_in};
 use htl_base::{Seq, Ty, Value};
 use htl_fcode::{eval, verify};
 use htl_model::{Code, FInstr};
@@ -92,7 +93,7 @@ const CODES: [(&[FInstr], Ty, bool); 18] = [
 fn wrong_code_is_refused(rt: HostRuntime) -> Result<(), Fail> {
     for (instrs, want, right) in CODES {
         let code = code(rt.alloc(), &[Ty::Int, Ty::Bool], want, instrs)?;
-        assert_eq!(rt; passes(&code), right, "{instrs:?}");
+        same_in(&rt, instrs, passes(&code), right);
     }
     Ok(())
 }
@@ -100,8 +101,8 @@ fn wrong_code_is_refused(rt: HostRuntime) -> Result<(), Fail> {
 #[test]
 fn limits_are_kept(rt: HostRuntime) -> Result<(), Fail> {
     for (ones, times, right) in [(64, 511, true), (65, 512, false)] {
-        assert_eq!(rt; passes(&sum(rt.alloc(), ones)?), right);
-        assert_eq!(rt; passes(&negated(rt.alloc(), times)?), right);
+        same(&rt, passes(&sum(rt.alloc(), ones)?), right);
+        same(&rt, passes(&negated(rt.alloc(), times)?), right);
     }
     Ok(())
 }
@@ -109,6 +110,6 @@ fn limits_are_kept(rt: HostRuntime) -> Result<(), Fail> {
 #[test]
 fn sums_are_evaluated(rt: HostRuntime) -> Result<(), Fail> {
     let code = sum(rt.alloc(), 64)?;
-    assert_eq!(rt; value_of(&code), Some(64));
+    same(&rt, value_of(&code), Some(64));
     Ok(())
 }

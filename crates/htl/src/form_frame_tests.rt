@@ -1,4 +1,5 @@
 // The limits of frames, and the numbers of a frame: worked out outside this program.
+use crate::asserts::same;
 use crate::made::made;
 use crate::pieces::{Piece, joined};
 use htl_base::Time;
@@ -66,7 +67,7 @@ const FRAMES: [(&'static str, &'static str, Result<Numbers, (u64, u64)>); 6] = [
 fn limits_and_numbers_of_frames(rt: HostRuntime) -> Result<(), Fail> {
     for (p, q, wanted) in FRAMES {
         let wanted = wanted.map_err(|(have, need)| exceeded(have, need));
-        assert_eq!(rt; answer(rt.alloc(), p, q), Some(wanted));
+        same(&rt, answer(rt.alloc(), p, q), Some(wanted));
     }
     Ok(())
 }

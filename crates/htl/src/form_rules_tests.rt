@@ -1,4 +1,5 @@
 // The first broken rule of a module with two modes.
+use crate::asserts::same;
 use crate::made::made;
 use htl_form::form;
 use htl_model::FormFault;
@@ -28,7 +29,11 @@ fn verdict(alloc: Global, text: &str) -> Option<Result<(), FormFault>> {
 
 #[test]
 fn the_first_broken_rule_is_told(rt: HostRuntime) -> Result<(), Fail> {
-    assert_eq!(rt; verdict(rt.alloc(), EQUAL_PERIODS), Some(Ok(())));
-    assert_eq!(rt; verdict(rt.alloc(), UNEQUAL_PERIODS), Some(Err(UNEQUAL)));
+    same(&rt, verdict(rt.alloc(), EQUAL_PERIODS), Some(Ok(())));
+    same(
+        &rt,
+        verdict(rt.alloc(), UNEQUAL_PERIODS),
+        Some(Err(UNEQUAL)),
+    );
     Ok(())
 }

@@ -1,4 +1,5 @@
 // Sources that break one form rule each, and sources that just keep it.
+use crate::asserts::holds_in;
 use crate::form_times_tests::{ENDS, SEVERAL, TIMES};
 use crate::texts::tables_of;
 use htl_form::form;
@@ -305,7 +306,7 @@ const WRITERS: &[Row] = &[
 fn broken_rules_are_told(rt: HostRuntime) {
     for rows in [TIMES, ENDS, PORTS, WRITERS, SEVERAL] {
         for row in rows {
-            assert!(rt; is_broken(rt.alloc(), row), "{}", row.0);
+            holds_in(&rt, row.0, is_broken(rt.alloc(), row));
         }
     }
 }
@@ -364,6 +365,6 @@ const KEPT: &[&str] = &[
 #[test]
 fn rules_are_just_kept(rt: HostRuntime) {
     for text in KEPT {
-        assert!(rt; is_kept(rt.alloc(), text), "{text}");
+        holds_in(&rt, text, is_kept(rt.alloc(), text));
     }
 }

@@ -4,6 +4,7 @@ ghost use Rattle.std.specs.Prelude.{◌≡◌, ◌≤◌, ◌+◌, ◌*◌, IfOk
 ghost use Rattle.htl_model.specs.Functions.{Number, Truth, Arg, Unary, Binary, Choose, term_of};
 ghost use Rattle.htl_model.specs.Small.{ArgumentsBelow, nodes};
 
+use crate::asserts::{same, same_in};
 use htl_base::{BinOp, Ty, UnOp, Value};
 use htl_fcode::{Verified, eval};
 use htl_func::{FnFault, compile_fn};
@@ -238,10 +239,11 @@ fn arithmetic_wraps(rt: HostRuntime) -> Result<(), Fail> {
     for (op, rows) in ARITHMETIC {
         for i in 0..6 {
             for j in 0..6 {
-                assert_eq!(rt;
+                same_in(
+                    &rt,
+                    (op, i, j),
                     of_numbers(rt.alloc(), op, (EDGES[i], EDGES[j]), Ty::Int)?,
                     Some(rows[i][j]),
-                    "{op:?} at {i}, {j}"
                 );
             }
         }
@@ -265,10 +267,11 @@ fn comparisons_are_signed(rt: HostRuntime) -> Result<(), Fail> {
     for (op, results) in COMPARISONS {
         for i in 0..6 {
             for j in 0..6 {
-                assert_eq!(rt;
+                same_in(
+                    &rt,
+                    (op, i, j),
                     of_numbers(rt.alloc(), op, (EDGES[i], EDGES[j]), Ty::Bool)?,
                     Some(compared(i, j, results)),
-                    "{op:?} at {i}, {j}"
                 );
             }
         }
@@ -296,15 +299,16 @@ fn of_truth(alloc: Global, x: bool) -> Result<[Option<Value>; 2], AllocError> {
 fn bools_are_joined(rt: HostRuntime) -> Result<(), Fail> {
     for (op, results) in OF_BOOLS {
         for k in 0..4usize {
-            assert_eq!(rt;
+            same_in(
+                &rt,
+                (op, k),
                 of_truths(rt.alloc(), op, k >= 2, k % 2 == 1)?,
                 Some(results[k]),
-                "{op:?} at {k}"
             );
         }
     }
-    assert_eq!(rt; of_truth(rt.alloc(), false)?, [Some(1), Some(6)]);
-    assert_eq!(rt; of_truth(rt.alloc(), true)?, [Some(0), Some(5)]);
+    same(&rt, of_truth(rt.alloc(), false)?, [Some(1), Some(6)]);
+    same(&rt, of_truth(rt.alloc(), true)?, [Some(0), Some(5)]);
     Ok(())
 }
 
@@ -337,14 +341,15 @@ fn minus_written(alloc: Global, x: Value) -> Result<Option<Value>, AllocError> {
 #[test]
 fn numbers_are_written_with_signs(rt: HostRuntime) -> Result<(), Fail> {
     for (op, x, y, want) in WRITTEN {
-        assert_eq!(rt;
+        same_in(
+            &rt,
+            (op, x, y),
             of_written(rt.alloc(), op, x, y)?,
             Some(want),
-            "{op:?} of {x} and {y}"
         );
     }
     for (x, want) in NEGATED {
-        assert_eq!(rt; minus_written(rt.alloc(), x)?, Some(want), "- of {x}");
+        same_in(&rt, x, minus_written(rt.alloc(), x)?, Some(want));
     }
     Ok(())
 }
@@ -375,11 +380,11 @@ const DEEP: Option<FnFault> = Some(FnFault::Deep { token: 100 });
 #[test]
 fn sixty_four_values_are_held(rt: HostRuntime) -> Result<(), Fail> {
     let alloc = rt.alloc();
-    assert_eq!(rt; value_of_nested(alloc, 63)?, Some(64));
-    assert_eq!(rt; value_of_negated(alloc, 500)?, Some(1));
-    assert_eq!(rt; fault_of_nested(alloc, 64, Ty::Int)?, DEEP);
-    assert_eq!(rt; fault_of_nested(alloc, 250, Ty::Int)?, DEEP);
-    assert_eq!(rt; fault_of_nested(alloc, 64, Ty::Bool)?, ill_typed(100));
+    same(&rt, value_of_nested(alloc, 63)?, Some(64));
+    same(&rt, value_of_negated(alloc, 500)?, Some(1));
+    same(&rt, fault_of_nested(alloc, 64, Ty::Int)?, DEEP);
+    same(&rt, fault_of_nested(alloc, 250, Ty::Int)?, DEEP);
+    same(&rt, fault_of_nested(alloc, 64, Ty::Bool)?, ill_typed(100));
     Ok(())
 }
 
@@ -423,14 +428,15 @@ fn ill_typed(token: u32) -> Option<FnFault> {
 #[test]
 fn the_first_wrong_type_is_named(rt: HostRuntime) -> Result<(), Fail> {
     let alloc = rt.alloc();
-    assert_eq!(rt;
+    same(
+        &rt,
         faults_of_comparison(alloc)?,
-        [ill_typed(100), ill_typed(101), None]
+        [ill_typed(100), ill_typed(101), None],
     );
     // an operand of a wrong type before one without a type, and behind one
-    assert_eq!(rt; fault_of_denied_number(alloc)?, ill_typed(103));
-    assert_eq!(rt; fault_of_two(alloc)?, ill_typed(101));
-    assert_eq!(rt; fault_of_choice(alloc)?, ill_typed(100));
+    same(&rt, fault_of_denied_number(alloc)?, ill_typed(103));
+    same(&rt, fault_of_two(alloc)?, ill_typed(101));
+    same(&rt, fault_of_choice(alloc)?, ill_typed(100));
     Ok(())
 }
 
@@ -464,6 +470,6 @@ fn values_of_postfix(alloc: Global) -> Result<Option<[Value; 2]>, AllocError> {
 
 #[test]
 fn code_is_the_postfix_form(rt: HostRuntime) -> Result<(), Fail> {
-    assert_eq!(rt; values_of_postfix(rt.alloc())?, Some([5, 7]));
+    same(&rt, values_of_postfix(rt.alloc())?, Some([5, 7]));
     Ok(())
 }

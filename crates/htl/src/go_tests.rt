@@ -1,4 +1,5 @@
 // Runs of sources, by `go` and by `jobs` on their objects.
+use crate::asserts::same;
 use crate::calls::{
     Content, EMPTY, Group, Place, Row, Streams, Text, Tried, first_other, first_wrong,
 };
@@ -370,13 +371,13 @@ const RUNS: [&[Row]; 5] = [FIRST_RUNS, SECOND_RUNS, THIRD_RUNS, FOURTH_RUNS, LAS
 #[test]
 fn sources_run(rt: HostRuntime) -> Result<(), Fail> {
     for rows in RUNS {
-        assert_eq!(rt; _run(rt.alloc(), rows)?, None);
+        same(&rt, _run(rt.alloc(), rows)?, None);
     }
     Ok(())
 }
 
 #[test]
 fn scripts_are_read_by_pieces(rt: HostRuntime) -> Result<(), Fail> {
-    assert_eq!(rt; first_other(rt.alloc(), TRIED)?, None);
+    same(&rt, first_other(rt.alloc(), TRIED)?, None);
     Ok(())
 }

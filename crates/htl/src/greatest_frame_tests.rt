@@ -2,6 +2,7 @@
 ghost use Rattle.htl_model.specs.FunctionCode.{AreCode};
 ghost use Rattle.htl_edf.specs.FrameSamples.{IsFramed};
 
+use crate::asserts::same;
 use crate::frame_tables::tables;
 use htl_edf::edf_nodes;
 use htl_model::Tables;
@@ -37,7 +38,7 @@ fn a_task_of_two_rounds_counts_twice(rt: HostRuntime) -> Result<(), Fail> {
         to: 20,
         demand: 21,
     };
-    assert_eq!(rt; answer(rt.alloc(), 0), Some((5, Some(above))));
-    assert_eq!(rt; answer(rt.alloc(), 1), Some((14, Some(above))));
+    same(&rt, answer(rt.alloc(), 0), Some((5, Some(above))));
+    same(&rt, answer(rt.alloc(), 1), Some((14, Some(above))));
     Ok(())
 }

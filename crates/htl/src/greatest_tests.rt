@@ -1,6 +1,7 @@
 // The slack of tasks of one module with one mode.
 ghost use Rattle.htl_model.specs.FunctionCode.{AreCode};
 
+use crate::asserts::same;
 use crate::made::{is_formed, made_of};
 use crate::pieces::Text;
 use htl_edf::edf_nodes;
@@ -99,7 +100,7 @@ const SLACKS: [(Text, u16, Option<(u32, Option<Above>)>); 5] = [
 #[test]
 fn what_stands_above(rt: HostRuntime) -> Result<(), Fail> {
     for (text, task, wanted) in SLACKS {
-        assert_eq!(rt; answer(rt.alloc(), text, task), wanted);
+        same(&rt, answer(rt.alloc(), text, task), wanted);
     }
     Ok(())
 }
@@ -115,6 +116,6 @@ const LIST: [SInstr; 2] = [
 #[test]
 fn the_schedule_of_the_greatest_worst_case(rt: HostRuntime) -> Result<(), Fail> {
     let list = has_list(rt.alloc(), Text::Whole(SINGLE), 0, &LIST);
-    assert_eq!(rt; list, Some(true));
+    same(&rt, list, Some(true));
     Ok(())
 }

@@ -1,4 +1,5 @@
 // Sources that are no tree of programs, and sources at the limits.
+use crate::asserts::{holds_in, same_in};
 use crate::pieces::{Piece, push};
 use crate::texts::{judged, judged_text};
 use htl_top::SourceFault;
@@ -291,7 +292,7 @@ fn sources_are_judged(rt: HostRuntime) -> Result<(), Fail> {
         ("an unknown parent stands before a limit", ORPHAN),
     ];
     for (name, sources) in tables {
-        assert_eq!(rt; first_wrong(rt.alloc(), sources)?, None, "{name}");
+        same_in(&rt, name, first_wrong(rt.alloc(), sources)?, None);
     }
     Ok(())
 }
@@ -364,9 +365,10 @@ fn invocations_end_at_their_limits(rt: HostRuntime) -> Result<(), Fail> {
             Some((which, count)) => Err(SourceFault::Limit { which, count }),
             None => Ok(()),
         };
-        assert!(rt;
+        holds_in(
+            &rt,
+            exceeded,
             judged_text(rt.alloc(), text.as_bytes()) == Some(want),
-            "{exceeded:?}"
         );
     }
     Ok(())

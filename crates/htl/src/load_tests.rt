@@ -1,4 +1,5 @@
 // Objects that are accepted, and the first faults of changed ones.
+use crate::asserts::{holds, same};
 use crate::object_bytes::{DOUBLING, NO_MODULE, PORT, REFINED, TWO_JOBS, TWO_MODES};
 use htl_base::Name;
 use htl_ecode::{EFault, EKind};
@@ -316,7 +317,7 @@ const CHANGED: [ChangedRow; 25] = [
 fn objects_and_their_first_faults(rt: HostRuntime) -> Result<(), Fail> {
     for (object, at, by, rest, want) in CHANGED {
         let bytes = changed(rt.alloc(), object, at, by, rest)?;
-        assert_eq!(rt; answer(rt.alloc(), &bytes), Some(want));
+        same(&rt, answer(rt.alloc(), &bytes), Some(want));
     }
     Ok(())
 }
@@ -342,7 +343,7 @@ fn what_is_loaded_is_handed_out(rt: HostRuntime) -> Result<(), Fail> {
     let loaded = load(rt.alloc(), &TWO_JOBS)
         .ok()
         .expect(&rt, "an accepted object");
-    assert_eq!(rt; sizes(&loaded), Some((18, 4, 3, 1)));
+    same(&rt, sizes(&loaded), Some((18, 4, 3, 1)));
     Ok(())
 }
 
@@ -356,8 +357,8 @@ fn a_platform_is_handed_out(rt: HostRuntime) -> Result<(), Fail> {
     let mut named = Vec::new(rt.alloc());
     named.extend_from_slice(b"HTLO\x00\x02\x04fast")?;
     named.extend_from_slice(&NO_MODULE[6..])?;
-    assert!(rt; platform(rt.alloc(), &named) == Name::new(b"fast"));
-    assert!(rt; platform(rt.alloc(), &NO_MODULE).is_none());
+    holds(&rt, platform(rt.alloc(), &named) == Name::new(b"fast"));
+    holds(&rt, platform(rt.alloc(), &NO_MODULE).is_none());
     Ok(())
 }
 
@@ -401,6 +402,6 @@ fn broken_behind(mended: usize) -> [u8; DOUBLING.len()] {
 #[test]
 fn one_test_after_the_other(rt: HostRuntime) {
     for (mended, want) in MENDED {
-        assert_eq!(rt; answer(rt.alloc(), &broken_behind(mended)), Some(want));
+        same(&rt, answer(rt.alloc(), &broken_behind(mended)), Some(want));
     }
 }

@@ -4,6 +4,7 @@ ghost use Rattle.htl_base.specs.declared.limits.TheConstants as limit;
 ghost use Rattle.htl_model.specs.declared.event.Event.{Event as Told};
 ghost use Rattle.htl_machine.specs.Calls.{Follows, IsSensorValue, IsLength};
 
+use crate::asserts::{holds, holds_in, same};
 use crate::object_bytes::{
     DOUBLING, PORT, REFINED, SOMETIMES, TANKS, TWO_JOBS, TWO_MODES, restarted,
 };
@@ -160,7 +161,11 @@ fn shown(m: &Machine<'_>, t: &Tables, comm: u16) -> Option<(Value, Value, Time, 
 
 #[test]
 fn a_machine_shows_what_stands_before_instant_0(rt: HostRuntime) -> Result<(), Fail> {
-    assert_eq!(rt; at_first(rt.alloc(), &DOUBLING, 1), Some((7, 7, 0, false)));
+    same(
+        &rt,
+        at_first(rt.alloc(), &DOUBLING, 1),
+        Some((7, 7, 0, false)),
+    );
     Ok(())
 }
 
@@ -274,8 +279,11 @@ const AFTER_RESTART: &str =
 #[test]
 fn runs_are_written(rt: HostRuntime) -> Result<(), Fail> {
     for (object, events, to, text) in RUNS {
-        assert!(rt; writes(rt.alloc(), object, events, *to, text), "{text}");
+        holds_in(&rt, text, writes(rt.alloc(), object, events, *to, text));
     }
-    assert!(rt; writes(rt.alloc(), &restarted(), &RESTART, 20, AFTER_RESTART));
+    holds(
+        &rt,
+        writes(rt.alloc(), &restarted(), &RESTART, 20, AFTER_RESTART),
+    );
     Ok(())
 }

@@ -4,6 +4,8 @@
 #[cfg(test)]
 mod accessors_tests;
 #[cfg(test)]
+mod asserts;
+#[cfg(test)]
 mod audit_tests;
 #[cfg(test)]
 mod base_tests;

@@ -1,4 +1,5 @@
 // Sources whose names break a rule.
+use crate::asserts::holds_in;
 use crate::pieces::Piece;
 use crate::texts::judged;
 use htl_top::SourceFault;
@@ -337,7 +338,7 @@ fn broken_names_are_told(rt: HostRuntime) -> Result<(), Fail> {
         for (front, back) in *rows {
             let fault = told.at(front.len() as u64);
             let pieces = [Piece::Once(front), Piece::Once(back)];
-            assert!(rt; judged(rt.alloc(), &pieces)? == Some(Err(fault)), "{front}");
+            holds_in(&rt, front, judged(rt.alloc(), &pieces)? == Some(Err(fault)));
         }
     }
     Ok(())

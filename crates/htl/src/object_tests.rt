@@ -1,6 +1,7 @@
 // A worked object with each kind of item, its bad fields, and objects with many selections.
 ghost use Rattle.std.specs.Prelude.{◌≤◌};
 
+use crate::asserts::{holds, holds_in, same};
 use htl_object::{DecodeFault, MalKind, Malformed, decode, encode};
 use std::alloc::{AllocError, Global};
 use std::test::Fail;
@@ -152,7 +153,7 @@ fn is_told(alloc: Global, at: usize, byte: u8, told: Malformed) -> Result<bool, 
 fn bad_fields_are_told(rt: HostRuntime) -> Result<(), Fail> {
     for (at, byte, kind, offset) in BAD_FIELDS {
         let told = Malformed { offset, kind };
-        assert!(rt; is_told(rt.alloc(), at, byte, told)?, "byte {at} is {byte}");
+        holds_in(&rt, (at, byte), is_told(rt.alloc(), at, byte, told)?);
     }
     Ok(())
 }
@@ -164,7 +165,7 @@ fn cut_objects_are_short(rt: HostRuntime) {
             offset: n as u64,
             kind: MalKind::Short,
         });
-        assert_eq!(rt; bad_field(rt.alloc(), &OBJECT[..n]), told);
+        same(&rt, bad_field(rt.alloc(), &OBJECT[..n]), told);
     }
 }
 
@@ -172,7 +173,7 @@ fn cut_objects_are_short(rt: HostRuntime) {
 fn what_is_decoded_is_encoded_again(rt: HostRuntime) -> Result<(), Fail> {
     let object = decode(rt.alloc(), &OBJECT)?;
     let bytes = encode(rt.alloc(), &object)?;
-    assert!(rt; bytes.as_slice() == OBJECT.as_slice());
+    holds(&rt, bytes.as_slice() == OBJECT.as_slice());
     Ok(())
 }
 
@@ -218,11 +219,15 @@ fn is_miscounted(alloc: Global, modules: u8, schedules: u16) -> Result<bool, All
 #[test]
 fn selections_are_counted(rt: HostRuntime) -> Result<(), Fail> {
     let alloc = rt.alloc();
-    assert!(rt; decode(alloc, many(alloc, 10, 1_024)?.as_slice()).is_ok());
+    holds(
+        &rt,
+        decode(alloc, many(alloc, 10, 1_024)?.as_slice()).is_ok(),
+    );
     for (modules, schedules) in MISCOUNTED {
-        assert!(rt;
+        holds_in(
+            &rt,
+            (modules, schedules),
             is_miscounted(alloc, modules, schedules)?,
-            "{modules} {schedules}"
         );
     }
     Ok(())

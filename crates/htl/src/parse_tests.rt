@@ -1,4 +1,5 @@
 // Sources with each form of the language, and sources at the edges of the rules.
+use crate::asserts::{holds, same};
 use htl_parse::{ParseFault, parse};
 use htl_text::{Token, Tree, Word, lex, print};
 use std::alloc::{AllocError, Global};
@@ -106,7 +107,7 @@ fn printed(alloc: Global, text: &[u8]) -> Option<Vec<u8>> {
 fn each_form_parses(rt: HostRuntime) -> Result<(), Fail> {
     for text in [FORMS, PRINTED] {
         let printed = printed(rt.alloc(), text).expect(&rt, "a tree");
-        assert_eq!(rt; printed.as_slice(), PRINTED);
+        same(&rt, printed.as_slice(), PRINTED);
     }
     Ok(())
 }
@@ -145,9 +146,12 @@ const WHOLE: [&[u8]; 2] = [
 #[test]
 fn prefixes_are_refused(rt: HostRuntime) -> Result<(), Fail> {
     for text in WHOLE {
-        assert!(rt; needs_each_token(rt.alloc(), text));
+        holds(&rt, needs_each_token(rt.alloc(), text));
     }
-    assert!(rt; !needs_each_token(rt.alloc(), b"program P {} program Q {}"));
+    holds(
+        &rt,
+        !needs_each_token(rt.alloc(), b"program P {} program Q {}"),
+    );
     Ok(())
 }
 
@@ -180,9 +184,9 @@ fn long_at(alloc: Global, pieces: &[(&[u8], usize)]) -> Result<Option<u32>, Allo
 
 #[test]
 fn the_513th_token_of_a_run_is_too_many(rt: HostRuntime) -> Result<(), Fail> {
-    assert!(rt; is_answered(rt.alloc(), SHORT, &[Kind::Tree])?);
+    holds(&rt, is_answered(rt.alloc(), SHORT, &[Kind::Tree])?);
     for (pieces, wanted) in LONG {
-        assert_eq!(rt; long_at(rt.alloc(), pieces)?, Some(wanted));
+        same(&rt, long_at(rt.alloc(), pieces)?, Some(wanted));
     }
     Ok(())
 }
@@ -201,7 +205,10 @@ fn has_token(alloc: Global, text: &[u8], place: usize, token: Token) -> bool {
 #[test]
 fn the_token_of_a_long_run_is_told(rt: HostRuntime) -> Result<(), Fail> {
     let text = joined(rt.alloc(), LONG[0].0)?;
-    assert!(rt; has_token(rt.alloc(), &text, 520, Token::Word(Word::Worst)));
+    holds(
+        &rt,
+        has_token(rt.alloc(), &text, 520, Token::Word(Word::Worst)),
+    );
     Ok(())
 }
 
@@ -242,7 +249,7 @@ const DEEP: [(&[(&[u8], usize)], &[Kind]); 8] = [
 #[test]
 fn deep_statements_end(rt: HostRuntime) -> Result<(), Fail> {
     for (pieces, kinds) in DEEP {
-        assert!(rt; is_answered(rt.alloc(), pieces, kinds)?);
+        holds(&rt, is_answered(rt.alloc(), pieces, kinds)?);
     }
     Ok(())
 }
@@ -272,7 +279,7 @@ fn large(alloc: Global) -> Result<Vec<u8>, AllocError> {
 #[test]
 fn a_large_source_parses(rt: HostRuntime) -> Result<(), Fail> {
     let text = large(rt.alloc())?;
-    assert!(rt; kind_of(rt.alloc(), &text) == Some(Kind::Tree));
+    holds(&rt, kind_of(rt.alloc(), &text) == Some(Kind::Tree));
     Ok(())
 }
 
@@ -294,6 +301,6 @@ const REFUSED: [&[u8]; 12] = [
 #[test]
 fn these_are_refused(rt: HostRuntime) {
     for text in REFUSED {
-        assert!(rt; kind_of(rt.alloc(), text) == Some(Kind::Syntax));
+        holds(&rt, kind_of(rt.alloc(), text) == Some(Kind::Syntax));
     }
 }

@@ -1,4 +1,5 @@
 // Objects whose refinement is replaced, and the first faults of donors.
+use crate::asserts::same;
 use crate::object_bytes::REFINED;
 use htl_base::Name;
 use htl_load::{Loaded, load};
@@ -130,7 +131,7 @@ const DONORS: [(&[u8], &[u8], usize, u8, Answer); 10] = [
 fn donors_and_their_first_faults(rt: HostRuntime) -> Result<(), Fail> {
     for (unit, mode, at, by, wanted) in DONORS {
         let donor = changed(rt.alloc(), at, by)?;
-        assert_eq!(rt; answer(rt.alloc(), unit, mode, &donor), Some(wanted));
+        same(&rt, answer(rt.alloc(), unit, mode, &donor), Some(wanted));
     }
     Ok(())
 }

@@ -1,4 +1,5 @@
 // `patch` over the objects of sources in memory: what it writes is the object of the whole source, and runs.
+use crate::asserts::same;
 use crate::calls::{Content, EMPTY, Group, Place, Row, Streams, Text, first_wrong};
 use crate::samples::{NESTED, REFINED, SOMETIMES, TANKS};
 use std::test::Fail;
@@ -262,6 +263,6 @@ const GROUPS: &[Group] = &[
 
 #[test]
 fn calls_are_answered(rt: HostRuntime) -> Result<(), Fail> {
-    assert_eq!(rt; first_wrong(rt.alloc(), GROUPS)?, None);
+    same(&rt, first_wrong(rt.alloc(), GROUPS)?, None);
     Ok(())
 }

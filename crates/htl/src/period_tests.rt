@@ -1,4 +1,5 @@
 // Root modules of different periods, from their source to their run.
+use crate::asserts::same;
 use crate::calls::{Content, EMPTY, Group, Place, Row, Streams, Text, first_wrong};
 use crate::samples::{TWO_PERIODS, TWO_PERIODS_AND_MODES};
 use std::test::Fail;
@@ -130,6 +131,6 @@ const GROUPS: &[Group] = &[
 
 #[test]
 fn root_modules_of_two_periods_run(rt: HostRuntime) -> Result<(), Fail> {
-    assert_eq!(rt; first_wrong(rt.alloc(), GROUPS)?, None);
+    same(&rt, first_wrong(rt.alloc(), GROUPS)?, None);
     Ok(())
 }

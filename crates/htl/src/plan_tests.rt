@@ -1,4 +1,5 @@
 // `plan` over objects in memory.
+use crate::asserts::same;
 use crate::calls::{Content, EMPTY, Group, Place, Row, Streams, Tried, first_other, first_wrong};
 use crate::object_bytes::{NO_MODULE, REFINED};
 use std::test::Fail;
@@ -138,7 +139,7 @@ const TRIED: &[Tried] = &[Tried {
 
 #[test]
 fn calls_are_answered(rt: HostRuntime) -> Result<(), Fail> {
-    assert_eq!(rt; first_wrong(rt.alloc(), GROUPS)?, None);
-    assert_eq!(rt; first_other(rt.alloc(), TRIED)?, None);
+    same(&rt, first_wrong(rt.alloc(), GROUPS)?, None);
+    same(&rt, first_other(rt.alloc(), TRIED)?, None);
     Ok(())
 }

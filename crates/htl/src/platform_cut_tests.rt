@@ -1,4 +1,5 @@
 // Platform files that are cut.
+use crate::asserts::holds_in;
 use crate::platform_file_tests::tables;
 use htl_model::Tables;
 use htl_platform::{PlatformFault, PlatformStop, read_platform};
@@ -38,7 +39,7 @@ fn a_cut_file_gives_no_other_worst_case(rt: HostRuntime) -> Result<(), Fail> {
     let alloc = rt.alloc();
     let t = tables(alloc).expect(&rt, "tables");
     for n in 0..=FILE.len() {
-        assert!(rt; is_read(alloc, &t, &FILE[..n], wanted(n)), "{n} bytes");
+        holds_in(&rt, n, is_read(alloc, &t, &FILE[..n], wanted(n)));
     }
     Ok(())
 }

@@ -1,4 +1,5 @@
 // Platform files for a module M with a task a of worst case 7 and a task b of 3.
+use crate::asserts::same;
 use crate::made::made;
 use htl_model::Tables;
 use htl_model::lookup::task_worst;
@@ -34,7 +35,7 @@ fn has(alloc: Global, bytes: &[u8], name: &[u8], worst: &[u32]) -> Option<bool> 
 #[test]
 fn an_entry_is_the_worst_case_of_its_task(rt: HostRuntime) -> Result<(), Fail> {
     let file = b"name = \"fast\"\n[worst]\n\"M.a\" = 6\n";
-    assert_eq!(rt; has(rt.alloc(), file, b"fast", &[6, 3]), Some(true));
+    same(&rt, has(rt.alloc(), file, b"fast", &[6, 3]), Some(true));
     Ok(())
 }
 
@@ -53,7 +54,7 @@ fn applied(alloc: Global, bytes: &[u8]) -> Option<(u32, u32)> {
 #[test]
 fn the_tables_have_the_worst_cases_of_the_platform(rt: HostRuntime) -> Result<(), Fail> {
     let file = b"worst = {'M.b' = 1_000_000}\nname = 'slow'";
-    assert_eq!(rt; applied(rt.alloc(), file), Some((7, 1_000_000)));
+    same(&rt, applied(rt.alloc(), file), Some((7, 1_000_000)));
     Ok(())
 }
 
@@ -91,7 +92,7 @@ const FAULTS: [(&[u8], PlatformFault); 6] = [
 #[test]
 fn the_first_fault_is_told(rt: HostRuntime) -> Result<(), Fail> {
     for (bytes, wanted) in FAULTS {
-        assert_eq!(rt; fault(rt.alloc(), bytes), Some(wanted));
+        same(&rt, fault(rt.alloc(), bytes), Some(wanted));
     }
     Ok(())
 }

@@ -1,4 +1,5 @@
 // Platform files: what `compile with` answers of them, and what is said of the objects that it writes.
+use crate::asserts::{holds, same};
 use crate::calls::{Content, EMPTY, Group, Place, Row, Streams, Text, compiled_on, first_wrong};
 use crate::samples::TWO_JOBS;
 use htl_base::limits::MAX_SOURCE;
@@ -181,7 +182,7 @@ const GROUPS: &[Group] = &[
 
 #[test]
 fn calls_are_answered(rt: HostRuntime) -> Result<(), Fail> {
-    assert_eq!(rt; first_wrong(rt.alloc(), GROUPS)?, None);
+    same(&rt, first_wrong(rt.alloc(), GROUPS)?, None);
     Ok(())
 }
 
@@ -198,6 +199,6 @@ fn one_call_makes_the_object_for_a_platform(rt: HostRuntime) -> Result<(), Fail>
     let alloc = rt.alloc();
     let object = compiled_on(alloc, TWO_JOBS.as_bytes(), FAST)?;
     let made = made_on(alloc, TWO_JOBS.as_bytes(), FAST.as_bytes());
-    assert!(rt; made.is_some_and(|bytes| bytes == object));
+    holds(&rt, made.is_some_and(|bytes| bytes == object));
     Ok(())
 }

@@ -1,6 +1,7 @@
 // Whole programs over fakes, and over readers and writers in memory: the status, and what each stream got.
 ghost use Rattle.std.specs.Prelude.{None};
 
+use crate::asserts::{holds, holds_in};
 use crate::calls::shelf_of;
 use crate::folder::{Folder, Open};
 use crate::input::Input;
@@ -75,7 +76,7 @@ fn words_are_done(rt: HostRuntime) -> Result<(), Fail> {
     let alloc = rt.alloc();
     for (words, wanted) in CALLS {
         let args = arguments(alloc, words)?;
-        assert!(rt; ends(alloc, Ok(args), wanted)?, "{words:?}");
+        holds_in(&rt, words, ends(alloc, Ok(args), wanted)?);
     }
     Ok(())
 }
@@ -88,7 +89,7 @@ const NO_ARGUMENTS: [(io::ErrorKind, Ended); 2] = [
 #[test]
 fn arguments_that_are_not_there_are_told(rt: HostRuntime) -> Result<(), Fail> {
     for (kind, wanted) in NO_ARGUMENTS {
-        assert!(rt; ends(rt.alloc(), Err(kind.into()), wanted)?);
+        holds(&rt, ends(rt.alloc(), Err(kind.into()), wanted)?);
     }
     Ok(())
 }
@@ -118,7 +119,10 @@ fn serves(alloc: Global, name: &str, wanted: Ended) -> Result<bool, Fail> {
 
 #[test]
 fn readers_and_writers_in_memory_serve(rt: HostRuntime) -> Result<(), Fail> {
-    assert!(rt; serves(rt.alloc(), "A", (0, LINES, ""))?);
-    assert!(rt; serves(rt.alloc(), "B", (8, "", "htl: shelf failed\n"))?);
+    holds(&rt, serves(rt.alloc(), "A", (0, LINES, ""))?);
+    holds(
+        &rt,
+        serves(rt.alloc(), "B", (8, "", "htl: shelf failed\n"))?,
+    );
     Ok(())
 }

@@ -4,6 +4,7 @@ ghost use Rattle.std.specs.List.{All};
 ghost use Rattle.htl_model.specs.Broken.{KeptTo, KeepsLimits};
 ghost use Rattle.htl_model.specs.Selected.{IsSelection};
 
+use crate::asserts::same;
 use crate::made::{made, made_of};
 use crate::pieces::Text;
 use htl_base::Seq;
@@ -145,8 +146,8 @@ fn a_child_asks_for_no_more(rt: HostRuntime) -> Result<(), Fail> {
         need: 4,
     };
     let longer = Text::Edited(REFINED, &[("worst 3", "worst 5")]);
-    assert_eq!(rt; verdict(rt.alloc(), longer), Some(Err(fault)));
-    assert_eq!(rt; verdict(rt.alloc(), Text::Whole(REFINED)), Some(Ok(())));
+    same(&rt, verdict(rt.alloc(), longer), Some(Err(fault)));
+    same(&rt, verdict(rt.alloc(), Text::Whole(REFINED)), Some(Ok(())));
     Ok(())
 }
 
@@ -219,8 +220,8 @@ const DERIVED: &[(Of, &[Option<u16>], Option<(u32, usize)>, [Job; 2])] = &[
 fn jobs_are_derived(rt: HostRuntime) -> Result<(), Fail> {
     let mut jobs = [FAST; 128];
     for (of, children, wanted, front) in DERIVED {
-        assert_eq!(rt; derived(rt.alloc(), *of, children, &mut jobs), *wanted);
-        assert_eq!(rt; [jobs[0], jobs[1]], *front);
+        same(&rt, derived(rt.alloc(), *of, children, &mut jobs), *wanted);
+        same(&rt, [jobs[0], jobs[1]], *front);
     }
     Ok(())
 }

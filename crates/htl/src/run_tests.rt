@@ -1,4 +1,5 @@
 // `run`, `jobs` and `code` over objects in memory.
+use crate::asserts::same;
 use crate::calls::{Content, EMPTY, Group, Place, Row, Streams, Tried, first_other, first_wrong};
 use crate::lines_tests::{DIVIDED, DIVIDED_VALUES, IDLED, INSTRUCTIONS, JUMPED};
 use crate::object_bytes::{DOUBLING, IDLING, NO_MODULE, TWO_JOBS};
@@ -375,7 +376,7 @@ const TRIED: &[Tried] = &[Tried {
 
 #[test]
 fn calls_are_answered(rt: HostRuntime) -> Result<(), Fail> {
-    assert_eq!(rt; first_wrong(rt.alloc(), GROUPS)?, None);
-    assert_eq!(rt; first_other(rt.alloc(), TRIED)?, None);
+    same(&rt, first_wrong(rt.alloc(), GROUPS)?, None);
+    same(&rt, first_other(rt.alloc(), TRIED)?, None);
     Ok(())
 }

@@ -1,4 +1,5 @@
 // `show` over objects in memory.
+use crate::asserts::same;
 use crate::calls::{Content, EMPTY, Group, Place, Row, Streams, Text, first_wrong};
 use crate::object_bytes::{DOUBLING, IDLING, NO_MODULE, REFINED};
 use std::test::Fail;
@@ -190,6 +191,6 @@ const GROUPS: &[Group] = &[
 
 #[test]
 fn calls_are_answered(rt: HostRuntime) -> Result<(), Fail> {
-    assert_eq!(rt; first_wrong(rt.alloc(), GROUPS)?, None);
+    same(&rt, first_wrong(rt.alloc(), GROUPS)?, None);
     Ok(())
 }

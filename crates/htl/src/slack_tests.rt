@@ -1,4 +1,5 @@
 // `slack` over objects of sources in memory: its rows, and names of no such task.
+use crate::asserts::same;
 use crate::calls::{Content, EMPTY, Group, Place, Row, Streams, Text, first_wrong};
 use crate::samples::{DOUBLING, TWO_JOBS};
 use std::test::Fail;
@@ -87,6 +88,6 @@ const GROUPS: &[Group] = &[
 
 #[test]
 fn calls_are_answered(rt: HostRuntime) -> Result<(), Fail> {
-    assert_eq!(rt; first_wrong(rt.alloc(), GROUPS)?, None);
+    same(&rt, first_wrong(rt.alloc(), GROUPS)?, None);
     Ok(())
 }

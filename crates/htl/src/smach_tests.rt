@@ -8,6 +8,7 @@ ghost use Rattle.htl_smach.specs.Rounds.{Round, Stands, IsInForm, IsTold, state_
 ghost use Rattle.htl_smach.specs.declared.state.PosState.TheVariants as states;
 ghost use Rattle.htl_walk.specs.declared.schedule.SInstr.{SInstr as Instr};
 
+use crate::asserts::{holds, holds_in};
 use htl_base::{Seq, Time};
 use htl_smach::{Left, PosState, SMach};
 use htl_walk::listing::{Span, worst_list};
@@ -351,7 +352,7 @@ fn goes(alloc: Global, row: &RoundRow) -> Result<bool, AllocError> {
 #[test]
 fn rounds(rt: HostRuntime) -> Result<(), Fail> {
     for row in ROUNDS {
-        assert!(rt; goes(rt.alloc(), row)?, "{:?}", row.lengths);
+        holds_in(&rt, row.lengths, goes(rt.alloc(), row)?);
     }
     Ok(())
 }
@@ -503,9 +504,9 @@ const PASSED: [SeenRow; 2] = [
 #[test]
 fn states(rt: HostRuntime) -> Result<(), Fail> {
     let untils = [100, 101, 101, 103, 104, 104, 110, 110];
-    assert!(rt; shows(rt.alloc(), LONG_AND_SHORT, 2, &untils, &SEEN)?);
+    holds(&rt, shows(rt.alloc(), LONG_AND_SHORT, 2, &untils, &SEEN)?);
     let absent = [(false, 0, 0, 7), (true, 2, 6, 3)];
-    assert!(rt; shows(rt.alloc(), absent, 1, &[100, 102], &PASSED)?);
+    holds(&rt, shows(rt.alloc(), absent, 1, &[100, 102], &PASSED)?);
     Ok(())
 }
 
@@ -711,7 +712,7 @@ fn go(alloc: Global, row: &ListsRow) -> Result<bool, AllocError> {
 #[test]
 fn lists(rt: HostRuntime) -> Result<(), Fail> {
     for row in LISTS {
-        assert!(rt; go(rt.alloc(), &row)?, "{:?}", row.1);
+        holds_in(&rt, row.1, go(rt.alloc(), &row)?);
     }
     Ok(())
 }

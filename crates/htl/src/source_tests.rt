@@ -1,4 +1,5 @@
 // Sources that `go` and `compile` refuse, and sources at their limits.
+use crate::asserts::same;
 use crate::calls::{Content, EMPTY, Group, Piece, Place, Row, Streams, Text, first_wrong};
 use crate::samples::{DOUBLING, SOMETIMES, TWO_JOBS, TWO_MODULES};
 use std::test::Fail;
@@ -410,24 +411,24 @@ const LAST_GROUPS: &[Group] = &[
 
 #[test]
 fn calls_are_answered(rt: HostRuntime) -> Result<(), Fail> {
-    assert_eq!(rt; first_wrong(rt.alloc(), FIRST_GROUPS)?, None);
+    same(&rt, first_wrong(rt.alloc(), FIRST_GROUPS)?, None);
     Ok(())
 }
 
 #[test]
 fn further_calls_are_answered(rt: HostRuntime) -> Result<(), Fail> {
-    assert_eq!(rt; first_wrong(rt.alloc(), SECOND_GROUPS)?, None);
+    same(&rt, first_wrong(rt.alloc(), SECOND_GROUPS)?, None);
     Ok(())
 }
 
 #[test]
 fn later_calls_are_answered(rt: HostRuntime) -> Result<(), Fail> {
-    assert_eq!(rt; first_wrong(rt.alloc(), THIRD_GROUPS)?, None);
+    same(&rt, first_wrong(rt.alloc(), THIRD_GROUPS)?, None);
     Ok(())
 }
 
 #[test]
 fn last_calls_are_answered(rt: HostRuntime) -> Result<(), Fail> {
-    assert_eq!(rt; first_wrong(rt.alloc(), LAST_GROUPS)?, None);
+    same(&rt, first_wrong(rt.alloc(), LAST_GROUPS)?, None);
     Ok(())
 }

@@ -1,5 +1,6 @@
 // What an object, tables and an input go through, call by call.
 use crate::accessors_tests::{ITEMS, LOOPS, read};
+use crate::asserts::{holds, same};
 use crate::object_bytes::DOUBLING;
 use htl_base::{Seq, Time};
 use htl_compile::{bulk_source, front};
@@ -22,7 +23,7 @@ fn accepted(alloc: Global, bytes: &[u8]) -> Option<Loaded> {
 #[test]
 fn an_object_is_formed_spelled_and_scheduled(rt: HostRuntime) -> Result<(), Fail> {
     let loaded = accepted(rt.alloc(), &DOUBLING).expect(&rt, "an object");
-    assert_eq!(rt; loaded.schedules().len(), 1);
+    same(&rt, loaded.schedules().len(), 1);
     Ok(())
 }
 
@@ -38,11 +39,15 @@ fn window(t: &Tables, inv: u16) -> Option<(Time, Time)> {
 #[test]
 fn tables_have_windows_and_parts(rt: HostRuntime) -> Result<(), Fail> {
     let t = read(rt.alloc(), LOOPS).expect(&rt, "tables");
-    assert_eq!(rt;
+    same(
+        &rt,
         [window(&t, 0), window(&t, 1), window(&t, 2)],
-        [Some((0, 10)), Some((0, 20)), None]
+        [Some((0, 10)), Some((0, 20)), None],
     );
-    assert!(rt; t.period() == Some(10) && t.into_parts().invs.as_slice().len() == 2);
+    holds(
+        &rt,
+        t.period() == Some(10) && t.into_parts().invs.as_slice().len() == 2,
+    );
     Ok(())
 }
 
@@ -64,13 +69,15 @@ fn an_input_says_a_selection(rt: HostRuntime) -> Result<(), Fail> {
     let alloc = rt.alloc();
     let t = read(alloc, ITEMS).expect(&rt, "tables");
     let wanted: &[Option<u16>] = &[Some(0), Some(3)];
-    assert_eq!(rt;
+    same(
+        &rt,
         is_said(alloc, &t, b"mode A a\nmode B d\n", Some(wanted)),
-        Some(true)
+        Some(true),
     );
-    assert_eq!(rt;
+    same(
+        &rt,
         is_said(alloc, &t, b"mode A a\nmode B a\n", None),
-        Some(true)
+        Some(true),
     );
     Ok(())
 }
@@ -85,6 +92,6 @@ fn is_generated(alloc: Global) -> bool {
 
 #[test]
 fn a_generated_source_has_tables(rt: HostRuntime) -> Result<(), Fail> {
-    assert!(rt; is_generated(rt.alloc()));
+    holds(&rt, is_generated(rt.alloc()));
     Ok(())
 }

@@ -1,4 +1,5 @@
 // The flat tables of sources, against those written by hand.
+use crate::asserts::{holds, same, same_in};
 use crate::samples;
 use crate::table_rows::{
     A_LEFT_REFINEMENT, A_PORT, A_REFINED_TASK, CommRow, InvRow, ModeRow, ModuleRow, NO_TASK,
@@ -192,7 +193,7 @@ const SOURCES: [Source; 10] = [
 #[test]
 fn sources_have_their_tables(rt: HostRuntime) {
     for source in SOURCES {
-        assert_eq!(rt; first_unlike(rt.alloc(), &source), None, "{}", source.text);
+        same_in(&rt, source.text, first_unlike(rt.alloc(), &source), None);
     }
 }
 
@@ -216,7 +217,7 @@ fn standing_in(alloc: Global, child: Option<u16>) -> Option<Option<u16>> {
 #[test]
 fn the_mode_of_a_child_says_what_stands(rt: HostRuntime) {
     for (child, wanted) in [(Some(2), Some(1)), (Some(3), Some(2)), (None, None)] {
-        assert_eq!(rt; standing_in(rt.alloc(), child), Some(wanted));
+        same(&rt, standing_in(rt.alloc(), child), Some(wanted));
     }
 }
 
@@ -299,5 +300,8 @@ fn has_functions(alloc: Global, text: &[u8]) -> bool {
 
 #[test]
 fn functions_are_those_of_outputs_then_switches(rt: HostRuntime) {
-    assert!(rt; has_functions(rt.alloc(), A_REFINED_TASK.text.as_bytes()));
+    holds(
+        &rt,
+        has_functions(rt.alloc(), A_REFINED_TASK.text.as_bytes()),
+    );
 }

@@ -1,4 +1,5 @@
 // Readers and writers that fail, and files.
+use crate::asserts::{holds, same};
 use crate::edge_tests::is_fetched;
 use crate::folder::{Disk, Folder, read_up_to};
 use crate::input::Input;
@@ -81,7 +82,7 @@ fn input_reads_and_fails(rt: HostRuntime) {
     for (room, wanted, bytes) in READS {
         let mut buf = [0u8; 4];
         let answer = input.read(&mut buf[..room.min(4)]);
-        assert!(rt; answer == wanted && buf == bytes);
+        holds(&rt, answer == wanted && buf == bytes);
     }
 }
 
@@ -113,7 +114,7 @@ fn output_writes_and_fails(rt: HostRuntime) {
         ],
     });
     for (piece, wanted) in WRITES {
-        assert_eq!(rt; out.write(piece), wanted);
+        same(&rt, out.write(piece), wanted);
     }
 }
 
@@ -145,6 +146,6 @@ fn files_are_read_up_to_a_limit(rt: HostRuntime) -> Result<(), Fail> {
     let cut = is_fetched(folder.fetch(alloc, path, 4), Err(long));
     fs::remove_file(&rt, path)?;
     let gone = is_fetched(folder.fetch(alloc, path, 5), Err(ShelfFault::Failed));
-    assert_eq!(rt; [held, cut, gone, counts_faults(alloc)], [true; 4]);
+    same(&rt, [held, cut, gone, counts_faults(alloc)], [true; 4]);
     Ok(())
 }

@@ -1,4 +1,5 @@
 // Texts at the edges of the rules, and a printed program.
+use crate::asserts::{holds, holds_in, same};
 use htl_base::{Name, Seq, Ty, Value};
 use htl_text::{
     CommNode, ConstNode, Id, Kind, LexFault, Num, ProgramNode, Sign, Token, Tokens, Tree, Word,
@@ -50,8 +51,14 @@ fn tokens_have_their_places(rt: HostRuntime) -> Result<(), Fail> {
         Token::Sign(Sign::LessEqual),
         Token::Number(7),
     ];
-    assert!(rt; are_tokens(&tokens, &wanted) && begin_at(&tokens, &[0, 3, 13, 15, 20]));
-    assert!(rt; tokens.kind(1) == Some(Kind::Ident) && tokens.kind(4) == None);
+    holds(
+        &rt,
+        are_tokens(&tokens, &wanted) && begin_at(&tokens, &[0, 3, 13, 15, 20]),
+    );
+    holds(
+        &rt,
+        tokens.kind(1) == Some(Kind::Ident) && tokens.kind(4) == None,
+    );
     Ok(())
 }
 
@@ -101,7 +108,7 @@ const TEXTS: [(&[u8], &[u8]); 12] = [
 #[test]
 fn texts_have_these_tokens(rt: HostRuntime) {
     for (text, kinds) in TEXTS {
-        assert!(rt; has_kinds(rt.alloc(), text, kinds), "{kinds:?}");
+        holds_in(&rt, kinds, has_kinds(rt.alloc(), text, kinds));
     }
 }
 
@@ -127,7 +134,7 @@ fn texts_have_these_faults(rt: HostRuntime) {
             Some(Err(fault)) => Some(fault),
             _ => None,
         };
-        assert_eq!(rt; fault, Some(wanted));
+        same(&rt, fault, Some(wanted));
     }
 }
 
@@ -166,9 +173,10 @@ fn printed(alloc: Global) -> Option<Vec<u8>> {
 #[test]
 fn a_program_is_printed(rt: HostRuntime) -> Result<(), Fail> {
     let printed = printed(rt.alloc()).expect(&rt, "memory");
-    assert_eq!(rt;
+    same(
+        &rt,
         printed.as_slice(),
-        b"program P {\ncommunicator int u period 10 init 7 ;\n}\n".as_slice()
+        b"program P {\ncommunicator int u period 10 init 7 ;\n}\n".as_slice(),
     );
     Ok(())
 }

@@ -3,6 +3,7 @@ ghost use Rattle.std.specs.Prelude.{◌≡◌, ◌<◌, true};
 ghost use Rattle.htl_model.specs.Broken.{KeepsLimits};
 ghost use Rattle.htl_model.specs.Selections.{selection_count};
 
+use crate::asserts::same;
 use crate::made::made;
 use htl_model::Tables;
 use htl_walk::{Job, abstract_jobs};
@@ -71,8 +72,8 @@ fn jobs_in(alloc: Global, text: &str, jobs: &mut [Job; 128]) -> Option<usize> {
 #[test]
 fn a_port_and_abstract_invocations(rt: HostRuntime) -> Result<(), Fail> {
     let mut jobs = [NO_JOB; 128];
-    assert_eq!(rt; jobs_in(rt.alloc(), A_PORT, &mut jobs), Some(3));
+    same(&rt, jobs_in(rt.alloc(), A_PORT, &mut jobs), Some(3));
     let wanted = [job(0, 0, 4, 2), job(1, 0, 3, 0), job(2, 2, 2, 0), NO_JOB];
-    assert_eq!(rt; &jobs[..4], &wanted[..]);
+    same(&rt, &jobs[..4], &wanted[..]);
     Ok(())
 }

@@ -2,6 +2,7 @@
 ghost use Rattle.std.specs.Prelude.{◌≡◌, ◌≤◌, ℕ, length, true, All};
 ghost use Rattle.htl_walk.specs.Refinement.{HasWork};
 
+use crate::asserts::holds_in;
 use htl_base::Seq;
 use htl_walk::{Job, Miss, SInstr, Schedule, worst};
 use std::alloc::{AllocError, Global};
@@ -352,7 +353,7 @@ fn is_wanted(answer: &Option<Result<Vec<u64>, Miss>>, want: &Result<&[u64], Miss
 fn schedules_are_walked(rt: HostRuntime) -> Result<(), Fail> {
     for (k, (jobs, steps, period, want)) in WALKS.iter().enumerate() {
         let answer = walked(rt.alloc(), jobs, steps, *period)?;
-        assert!(rt; is_wanted(&answer, want), "walk {k}");
+        holds_in(&rt, k, is_wanted(&answer, want));
     }
     Ok(())
 }
