@@ -1,33 +1,40 @@
 -- Steps of reading repeated items.
-use Rattle.std.proofs.Common.{arith, ◌≡◌, ◌<◌, Bool, true, false, List, [], ◌∷◌, ◌++◌, length, Ok, refl, ap, ◌∙◌}
+use Rattle.std.proofs.Common.{arith, ◌≡◌, ◌<◌, Bool, true, false, List, [], ◌∷◌, ◌++◌, length, map, Ok, Err, refl, ap, ◌∙◌}
+use Rattle.std.specs.Prelude.{IfOk}
+use Rattle.std.proofs.lemmas.List.{map-append}
 use Rattle.htl_text.specs.Placed.{Placed}
 use Rattle.htl_text.specs.Statements.{SpellsComm, SpellsTask, SpellsPort, SpellsInvoke, SpellsSwitch, SpellsMode, SpellsModule, SpellsProgram}
 use Rattle.htl_parse.specs.Reading.{Read, Reader, ◌>>=◌}
 use Rattle.htl_parse.specs.ReadingLists.{again_at, repeated_at}
+use Rattle.htl_parse.specs.Repeats.{CanRepeat}
+use Rattle.htl_text.specs.Nodes.{task_of, switch_of, mode_of, module_of}
+use Rattle.htl_parse.proofs.Sound.{Holds}
 use Rattle.htl_parse.specs.ReadingStatements.{begins_comm, comm_at, begins_task, task_at, begins_port, port_at, begins_invoke, invoke_at, begins_switch, switch_at, begins_mode, mode_at, begins_module, module_at, begins_program, program_at}
 use Rattle.htl_parse.proofs.Items.{Less, with_front, front-append, less-of}
 use Rattle.htl_parse.proofs.Parts.{comm-sound, comm-part, task-sound, task-part, port-sound, port-part, invoke-sound, invoke-part, switch-sound, switch-part}
 use Rattle.htl_parse.proofs.Repeating.{repeated-is}
 use Rattle.htl_parse.proofs.Sources.{mode-sound, mode-part, module-sound, module-part, program-sound, program-part}
 
--- an item leaves less, and nothing begins where nothing is left
-pub record IsItem {X : Type 0} (begins : List Placed → Bool) (item : Reader X) : Type 0 where
-  pub less : Less item
-  pub nothing : begins [] ≡ false
+less-if : {X : Type 0} (ts : List Placed) (r : Read X) → IfOk r (λ x. length x.1 < length ts) → Holds (λ (x : X × List Placed). length x.1 < length ts) r
+less-if ts (Ok x) less = less
+less-if ts (Err left) less = tt
+
+pub less-given : {X : Type 0} (item : Reader X) → ((ts : List Placed) → IfOk (item ts) (λ x. length x.1 < length ts)) → Less item
+less-given item less ts = less-if ts (item ts) (less ts)
 
 -- the whole reading, all, has read these items, and goes on with those that begin in what is left
 pub record IsRepeating {X : Type 0} (begins : List Placed → Bool) (item : Reader X) (all : Read (List X)) (left : List Placed) (found : List X) : Type 0 where
   pub reads : all ≡ with_front found (repeated_at begins item left)
 
-module _ {X : Type 0} (begins : List Placed → Bool) (item : Reader X) (is : IsItem begins item) (all : Read (List X)) (left : List Placed) (found : List X)
+module _ {X : Type 0} (begins : List Placed → Bool) (item : Reader X) (less : Less item) (nothing : begins [] ≡ false) (all : Read (List X)) (left : List Placed) (found : List X)
     (so : IsRepeating begins item all left found) where
   some : (ts : List Placed) → begins ts ≡ true → 0 < length ts
-  some [] e = let none = is.nothing in absurd cc
+  some [] e = absurd cc
   some (t ∷ ts) e = omega arith
 
   again : begins left ≡ true → all ≡ with_front found (item left >>= λ x. repeated_at begins item x.1 >>= λ xs. Ok (x.0 ∷ xs.0, xs.1))
   again here =
-      so.reads ∙ ap (with_front found) (repeated-is begins item is.less some left ∙ ap (again_at (repeated_at begins item) item left) here)
+      so.reads ∙ ap (with_front found) (repeated-is begins item less some left ∙ ap (again_at (repeated_at begins item) item left) here)
 
   pub repeat-more : (new : List Placed) (x : X) → begins left ≡ true → item left ≡ Ok (x, new) → IsRepeating begins item all new (found ++ x ∷ [])
   repeat-more new x here e = record {
@@ -36,26 +43,38 @@ module _ {X : Type 0} (begins : List Placed → Bool) (item : Reader X) (is : Is
         ∙ front-append found x (repeated_at begins item new);
   }
 
-pub comm-item : IsItem begins_comm comm_at
-comm-item = record { less = less-of SpellsComm comm_at comm-sound comm-part.shorter; nothing = refl }
+less-once : {X : Type 0} (ts : List Placed) (r : Read X) → Holds (λ (x : X × List Placed). length x.1 < length ts) r → IfOk r (λ x. length x.1 < length ts)
+less-once ts (Ok x) less = less
+less-once ts (Err left) less = tt
 
-pub task-item : IsItem begins_task task_at
-task-item = record { less = less-of SpellsTask task_at task-sound task-part.shorter; nothing = refl }
+-- items that are seen as they are
+same-items : {X : Type 0} (begins : List Placed → Bool) (item : Reader X) → Less item → begins [] ≡ false → CanRepeat (λ (x : X). x) (λ (xs : List X). xs) begins item
+same-items begins item less nothing = record { less = λ ts. less-once ts (item ts) (less ts); nothing = nothing; none = refl; more = λ xs x. refl }
 
-pub port-item : IsItem begins_port port_at
-port-item = record { less = less-of SpellsPort port_at port-sound port-part.shorter; nothing = refl }
+-- items that are seen by a function
+seen-items : {S X : Type 0} (plain : S → X) (begins : List Placed → Bool) (item : Reader X) → Less item → begins [] ≡ false → CanRepeat plain (map plain) begins item
+seen-items plain begins item less nothing = record { less = λ ts. less-once ts (item ts) (less ts); nothing = nothing; none = refl; more = λ xs x. map-append plain xs (x ∷ []) }
 
-pub invoke-item : IsItem begins_invoke invoke_at
-invoke-item = record { less = less-of SpellsInvoke invoke_at invoke-sound invoke-part.shorter; nothing = refl }
+pub comm-items : CanRepeat (λ x. x) (λ xs. xs) begins_comm comm_at
+comm-items = same-items begins_comm comm_at (less-of SpellsComm comm_at comm-sound comm-part.shorter) refl
 
-pub switch-item : IsItem begins_switch switch_at
-switch-item = record { less = less-of SpellsSwitch switch_at switch-sound switch-part.shorter; nothing = refl }
+pub task-items : CanRepeat task_of (map task_of) begins_task task_at
+task-items = seen-items task_of begins_task task_at (less-of SpellsTask task_at task-sound task-part.shorter) refl
 
-pub mode-item : IsItem begins_mode mode_at
-mode-item = record { less = less-of SpellsMode mode_at mode-sound mode-part.shorter; nothing = refl }
+pub port-items : CanRepeat (λ x. x) (λ xs. xs) begins_port port_at
+port-items = same-items begins_port port_at (less-of SpellsPort port_at port-sound port-part.shorter) refl
 
-pub module-item : IsItem begins_module module_at
-module-item = record { less = less-of SpellsModule module_at module-sound module-part.shorter; nothing = refl }
+pub invoke-items : CanRepeat (λ x. x) (λ xs. xs) begins_invoke invoke_at
+invoke-items = same-items begins_invoke invoke_at (less-of SpellsInvoke invoke_at invoke-sound invoke-part.shorter) refl
 
-pub program-item : IsItem begins_program program_at
-program-item = record { less = less-of SpellsProgram program_at program-sound program-part.shorter; nothing = refl }
+pub switch-items : CanRepeat switch_of (map switch_of) begins_switch switch_at
+switch-items = seen-items switch_of begins_switch switch_at (less-of SpellsSwitch switch_at switch-sound switch-part.shorter) refl
+
+pub mode-items : CanRepeat mode_of (map mode_of) begins_mode mode_at
+mode-items = seen-items mode_of begins_mode mode_at (less-of SpellsMode mode_at mode-sound mode-part.shorter) refl
+
+pub module-items : CanRepeat module_of (map module_of) begins_module module_at
+module-items = seen-items module_of begins_module module_at (less-of SpellsModule module_at module-sound module-part.shorter) refl
+
+pub program-less : Less program_at
+program-less = less-of SpellsProgram program_at program-sound program-part.shorter

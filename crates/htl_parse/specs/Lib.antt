@@ -8,4 +8,5 @@ pub mod Reading
 pub mod ReadingExpressions
 pub mod ReadingLists
 pub mod ReadingStatements
+pub mod Repeats
 pub mod Runs

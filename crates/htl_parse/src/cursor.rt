@@ -5,7 +5,7 @@ ghost use Rattle.htl_text.specs.Grammar.{prefix_of};
 ghost use Rattle.htl_text.specs.declared.token.Kind.TheVariants as kind;
 ghost use Rattle.htl_parse.specs.Cursors.{next_kind, NextIs, behind, IsDone, IsSimple, Passes, PassesOperator, PassesBinary, Stands, Gives};
 ghost use Rattle.htl_parse.specs.Reading.{after_sign, after_word, place_at, type_at, name_at, number_at, const_at, clause_at};
-ghost use Rattle.htl_parse.specs.ReadingStatements.{kind_at, begins_comm, begins_task, begins_port, begins_invoke, begins_switch, begins_mode, begins_module, begins_program};
+ghost use Rattle.htl_parse.specs.ReadingStatements.{kind_at, begins_program};
 ghost use Rattle.htl_text.specs.declared.token.Token.TheVariants as token;
 
 use crate::operator::{binary_of, prefix_of};
@@ -315,58 +315,6 @@ impl<'a> Cursor<'a> {
             }
             _ => Err(Stop::Syntax),
         }
-    }
-
-    /// Whether a communicator begins here.
-    pub fn begins_comm(&self) -> bool
-        ensures { result ≡ begins_comm self.now }
-    {
-        matches!(
-            self.next(),
-            Some(Kind::Word(Word::Communicator | Word::Sensor))
-        )
-    }
-
-    /// Whether a task begins here.
-    pub fn begins_task(&self) -> bool
-        ensures { result ≡ begins_task self.now }
-    {
-        matches!(self.next(), Some(Kind::Word(Word::Abstract | Word::Task)))
-    }
-
-    /// Whether a port begins here.
-    pub fn begins_port(&self) -> bool
-        ensures { result ≡ begins_port self.now }
-    {
-        matches!(self.next(), Some(Kind::Word(Word::Port)))
-    }
-
-    /// Whether an invocation begins here.
-    pub fn begins_invoke(&self) -> bool
-        ensures { result ≡ begins_invoke self.now }
-    {
-        matches!(self.next(), Some(Kind::Word(Word::Invoke)))
-    }
-
-    /// Whether a switch begins here.
-    pub fn begins_switch(&self) -> bool
-        ensures { result ≡ begins_switch self.now }
-    {
-        matches!(self.next(), Some(Kind::Word(Word::Switch)))
-    }
-
-    /// Whether a mode begins here.
-    pub fn begins_mode(&self) -> bool
-        ensures { result ≡ begins_mode self.now }
-    {
-        matches!(self.next(), Some(Kind::Word(Word::Mode)))
-    }
-
-    /// Whether a module begins here.
-    pub fn begins_module(&self) -> bool
-        ensures { result ≡ begins_module self.now }
-    {
-        matches!(self.next(), Some(Kind::Word(Word::Module)))
     }
 
     /// Whether a program begins here.

@@ -6,49 +6,84 @@ ghost use Rattle.htl_parse.specs.ReadingLists.{repeated_at};
 ghost use Rattle.htl_parse.specs.ReadingStatements.{begins_comm, comm_at, begins_task, task_at, begins_port, port_at, begins_invoke, invoke_at, begins_switch, switch_at, begins_mode, mode_at, begins_module, module_at, begins_program, program_at, source_at};
 
 use crate::cursor::Cursor;
+use crate::repeated::{Repeatable, repeated};
 use crate::statement::{comm, invoke, port, switch, task};
 use crate::stop::Stop;
 use htl_base::Seq;
 use htl_text::{
-    CommNode, InvokeNode, ModeNode, ModuleNode, ParamNode, ProgramNode, Sign, SwitchNode, TaskNode,
-    Word,
+    CommNode, InvokeNode, Kind, ModeNode, ModuleNode, ParamNode, ProgramNode, Sign, SwitchNode,
+    TaskNode, Word,
 };
 use std::alloc::Global;
 
-// { port }
-fn ports(alloc: Global, cursor: &mut Cursor<'_>) -> Result<Seq<ParamNode>, Stop>
-    ensures { Gives (λ v. v) result cursor.new (repeated_at begins_port port_at cursor.old) }
-{
-    let mut found = Vec::new(alloc);
-    while cursor.begins_port() {
-        let next = port(cursor)?;
-        found.push(next)?;
+impl Repeatable for ParamNode {
+    ghost use Rattle.htl_text.specs.declared.tree.ParamNode.{ParamNode as Node};
+    ghost use Rattle.htl_parse.specs.ReadingStatements.{begins_port, port_at};
+
+    ghost Plain = { Node };
+
+    ghost plain = { λ x. x };
+
+    ghost plains = { λ xs. xs };
+
+    ghost starts = { begins_port };
+
+    ghost reading = { port_at };
+
+    fn begins(cursor: &Cursor<'_>) -> bool {
+        matches!(cursor.next(), Some(Kind::Word(Word::Port)))
     }
-    Ok(Seq::new(found))
+
+    fn read(_alloc: Global, cursor: &mut Cursor<'_>) -> Result<ParamNode, Stop> {
+        port(cursor)
+    }
 }
 
-// { invoke }
-fn invokes(alloc: Global, cursor: &mut Cursor<'_>) -> Result<Seq<InvokeNode>, Stop>
-    ensures { Gives (λ v. v) result cursor.new (repeated_at begins_invoke invoke_at cursor.old) }
-{
-    let mut found = Vec::new(alloc);
-    while cursor.begins_invoke() {
-        let next = invoke(alloc, cursor)?;
-        found.push(next)?;
+impl Repeatable for InvokeNode {
+    ghost use Rattle.htl_text.specs.declared.tree.InvokeNode.{InvokeNode as Node};
+    ghost use Rattle.htl_parse.specs.ReadingStatements.{begins_invoke, invoke_at};
+
+    ghost Plain = { Node };
+
+    ghost plain = { λ x. x };
+
+    ghost plains = { λ xs. xs };
+
+    ghost starts = { begins_invoke };
+
+    ghost reading = { invoke_at };
+
+    fn begins(cursor: &Cursor<'_>) -> bool {
+        matches!(cursor.next(), Some(Kind::Word(Word::Invoke)))
     }
-    Ok(Seq::new(found))
+
+    fn read(alloc: Global, cursor: &mut Cursor<'_>) -> Result<InvokeNode, Stop> {
+        invoke(alloc, cursor)
+    }
 }
 
-// { switch }
-fn switches(alloc: Global, cursor: &mut Cursor<'_>) -> Result<Seq<SwitchNode>, Stop>
-    ensures { Gives (λ v. map switch_of v) result cursor.new (repeated_at begins_switch switch_at cursor.old) }
-{
-    let mut found = Vec::new(alloc);
-    while cursor.begins_switch() {
-        let next = switch(alloc, cursor)?;
-        found.push(next)?;
+impl Repeatable for SwitchNode {
+    ghost use Rattle.std.specs.Prelude.{map};
+    ghost use Rattle.htl_text.specs.Nodes.{PlainSwitch, switch_of};
+    ghost use Rattle.htl_parse.specs.ReadingStatements.{begins_switch, switch_at};
+
+    ghost Plain = { PlainSwitch };
+
+    ghost plain = { switch_of };
+
+    ghost plains = { map switch_of };
+
+    ghost starts = { begins_switch };
+
+    ghost reading = { switch_at };
+
+    fn begins(cursor: &Cursor<'_>) -> bool {
+        matches!(cursor.next(), Some(Kind::Word(Word::Switch)))
     }
-    Ok(Seq::new(found))
+
+    fn read(alloc: Global, cursor: &mut Cursor<'_>) -> Result<SwitchNode, Stop> {
+        switch(alloc, cursor)
+    }
 }
 
 // mode = "mode" name "period" number [ "program" name ] "{" { port } { invoke } { switch } "}"
@@ -62,9 +97,9 @@ fn mode(alloc: Global, cursor: &mut Cursor<'_>) -> Result<ModeNode, Stop>
     let period = cursor.number()?;
     let program = cursor.clause(Word::Program)?;
     cursor.expect(Sign::OpenBrace)?;
-    let ports = ports(alloc, cursor)?;
-    let invokes = invokes(alloc, cursor)?;
-    let switches = switches(alloc, cursor)?;
+    let ports = repeated(alloc, cursor)?;
+    let invokes = repeated(alloc, cursor)?;
+    let switches = repeated(alloc, cursor)?;
     cursor.expect(Sign::CloseBrace)?;
     Ok(ModeNode {
         name,
@@ -76,28 +111,52 @@ fn mode(alloc: Global, cursor: &mut Cursor<'_>) -> Result<ModeNode, Stop>
     })
 }
 
-// { task }
-fn tasks(alloc: Global, cursor: &mut Cursor<'_>) -> Result<Seq<TaskNode>, Stop>
-    ensures { Gives (λ v. map task_of v) result cursor.new (repeated_at begins_task task_at cursor.old) }
-{
-    let mut found = Vec::new(alloc);
-    while cursor.begins_task() {
-        let next = task(alloc, cursor)?;
-        found.push(next)?;
+impl Repeatable for TaskNode {
+    ghost use Rattle.std.specs.Prelude.{map};
+    ghost use Rattle.htl_text.specs.Nodes.{PlainTask, task_of};
+    ghost use Rattle.htl_parse.specs.ReadingStatements.{begins_task, task_at};
+
+    ghost Plain = { PlainTask };
+
+    ghost plain = { task_of };
+
+    ghost plains = { map task_of };
+
+    ghost starts = { begins_task };
+
+    ghost reading = { task_at };
+
+    fn begins(cursor: &Cursor<'_>) -> bool {
+        matches!(cursor.next(), Some(Kind::Word(Word::Abstract | Word::Task)))
     }
-    Ok(Seq::new(found))
+
+    fn read(alloc: Global, cursor: &mut Cursor<'_>) -> Result<TaskNode, Stop> {
+        task(alloc, cursor)
+    }
 }
 
-// { mode }
-fn modes(alloc: Global, cursor: &mut Cursor<'_>) -> Result<Seq<ModeNode>, Stop>
-    ensures { Gives (λ v. map mode_of v) result cursor.new (repeated_at begins_mode mode_at cursor.old) }
-{
-    let mut found = Vec::new(alloc);
-    while cursor.begins_mode() {
-        let next = mode(alloc, cursor)?;
-        found.push(next)?;
+impl Repeatable for ModeNode {
+    ghost use Rattle.std.specs.Prelude.{map};
+    ghost use Rattle.htl_text.specs.Nodes.{PlainMode, mode_of};
+    ghost use Rattle.htl_parse.specs.ReadingStatements.{begins_mode, mode_at};
+
+    ghost Plain = { PlainMode };
+
+    ghost plain = { mode_of };
+
+    ghost plains = { map mode_of };
+
+    ghost starts = { begins_mode };
+
+    ghost reading = { mode_at };
+
+    fn begins(cursor: &Cursor<'_>) -> bool {
+        matches!(cursor.next(), Some(Kind::Word(Word::Mode)))
     }
-    Ok(Seq::new(found))
+
+    fn read(alloc: Global, cursor: &mut Cursor<'_>) -> Result<ModeNode, Stop> {
+        mode(alloc, cursor)
+    }
 }
 
 // module = "module" name "start" name "{" { task } { mode } "}"
@@ -110,8 +169,8 @@ fn module(alloc: Global, cursor: &mut Cursor<'_>) -> Result<ModuleNode, Stop>
     cursor.expect_word(Word::Start)?;
     let start = cursor.name()?;
     cursor.expect(Sign::OpenBrace)?;
-    let tasks = tasks(alloc, cursor)?;
-    let modes = modes(alloc, cursor)?;
+    let tasks = repeated(alloc, cursor)?;
+    let modes = repeated(alloc, cursor)?;
     cursor.expect(Sign::CloseBrace)?;
     Ok(ModuleNode {
         name,
@@ -121,28 +180,54 @@ fn module(alloc: Global, cursor: &mut Cursor<'_>) -> Result<ModuleNode, Stop>
     })
 }
 
-// { comm }
-fn comms(alloc: Global, cursor: &mut Cursor<'_>) -> Result<Seq<CommNode>, Stop>
-    ensures { Gives (λ v. v) result cursor.new (repeated_at begins_comm comm_at cursor.old) }
-{
-    let mut found = Vec::new(alloc);
-    while cursor.begins_comm() {
-        let next = comm(cursor)?;
-        found.push(next)?;
+impl Repeatable for CommNode {
+    ghost use Rattle.htl_text.specs.declared.tree.CommNode.{CommNode as Node};
+    ghost use Rattle.htl_parse.specs.ReadingStatements.{begins_comm, comm_at};
+
+    ghost Plain = { Node };
+
+    ghost plain = { λ x. x };
+
+    ghost plains = { λ xs. xs };
+
+    ghost starts = { begins_comm };
+
+    ghost reading = { comm_at };
+
+    fn begins(cursor: &Cursor<'_>) -> bool {
+        matches!(
+            cursor.next(),
+            Some(Kind::Word(Word::Communicator | Word::Sensor))
+        )
     }
-    Ok(Seq::new(found))
+
+    fn read(_alloc: Global, cursor: &mut Cursor<'_>) -> Result<CommNode, Stop> {
+        comm(cursor)
+    }
 }
 
-// { module }
-fn modules(alloc: Global, cursor: &mut Cursor<'_>) -> Result<Seq<ModuleNode>, Stop>
-    ensures { Gives (λ v. map module_of v) result cursor.new (repeated_at begins_module module_at cursor.old) }
-{
-    let mut found = Vec::new(alloc);
-    while cursor.begins_module() {
-        let next = module(alloc, cursor)?;
-        found.push(next)?;
+impl Repeatable for ModuleNode {
+    ghost use Rattle.std.specs.Prelude.{map};
+    ghost use Rattle.htl_text.specs.Nodes.{PlainModule, module_of};
+    ghost use Rattle.htl_parse.specs.ReadingStatements.{begins_module, module_at};
+
+    ghost Plain = { PlainModule };
+
+    ghost plain = { module_of };
+
+    ghost plains = { map module_of };
+
+    ghost starts = { begins_module };
+
+    ghost reading = { module_at };
+
+    fn begins(cursor: &Cursor<'_>) -> bool {
+        matches!(cursor.next(), Some(Kind::Word(Word::Module)))
     }
-    Ok(Seq::new(found))
+
+    fn read(alloc: Global, cursor: &mut Cursor<'_>) -> Result<ModuleNode, Stop> {
+        module(alloc, cursor)
+    }
 }
 
 // program = "program" name "{" { comm } { module } "}"
@@ -153,8 +238,8 @@ fn program(alloc: Global, cursor: &mut Cursor<'_>) -> Result<ProgramNode, Stop>
     cursor.expect_word(Word::Program)?;
     let name = cursor.name()?;
     cursor.expect(Sign::OpenBrace)?;
-    let comms = comms(alloc, cursor)?;
-    let modules = modules(alloc, cursor)?;
+    let comms = repeated(alloc, cursor)?;
+    let modules = repeated(alloc, cursor)?;
     cursor.expect(Sign::CloseBrace)?;
     Ok(ProgramNode {
         name,
