@@ -157,3 +157,6 @@ module _ (t : Tables) (none : root_modules t ≡ []) where
 
   pub no_paths : paths t ≡ 0
   no_paths = ap (λ (us : List ℕ). elim us as (λ _. ℕ) [ [] ↦ 0 | u ∷ vs ↦ choices t (rounds t) ]) none
+
+pub some_roots : (t : Tables) (n : ℕ) → n ≡ length (root_modules t) → (n ≡ 0 → ⊥) → 0 < length (root_modules t)
+some_roots t n e some = omega (arith, e, some)

@@ -12,7 +12,7 @@ use htl_base::Time;
 use htl_base::limits::{MAX_MODULES, MAX_POSITIONS, MAX_ROUNDS, MAX_STARTS};
 
 /// A round of a root module.
-#[derive(Clone, Copy, PartialEq, Eq, Debug)]
+#[derive(Clone, Copy)]
 pub struct Round {
     /// When it begins, in ticks from the frame's start.
     pub at: Time,
@@ -21,7 +21,7 @@ pub struct Round {
 }
 
 /// What stands at a position of a path, and when its round begins.
-#[derive(Clone, Copy, PartialEq, Eq, Debug)]
+#[derive(Clone, Copy)]
 pub struct Place {
     /// The invocation.
     pub inv: Option<u16>,

@@ -2,7 +2,7 @@
 use htl_base::{Time, Value};
 
 /// A line that tells of a value or a mode at an instant.
-#[derive(Clone, Copy, PartialEq, Eq, Debug)]
+#[derive(Clone, Copy)]
 pub enum Line {
     /// A communicator's value: of each at instant 0, later of one whose value isn't that of the instant before.
     ValueLine {

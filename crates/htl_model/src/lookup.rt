@@ -1,4 +1,4 @@
-//! Look-ups by number, with 0 or false for what isn't there.
+//! Look-ups by number, with 0 or false for what isn't there, and the worst cases of all invocations.
 ghost use Rattle.std.specs.Prelude.{◌≡◌, ◌≤◌, length, All, map, take, drop, IfOk};
 ghost use Rattle.htl_base.specs.declared.limits.TheConstants as limit;
 ghost use Rattle.htl_model.specs.FunctionTypes.{comm_type as comm_type_of};

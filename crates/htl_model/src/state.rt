@@ -2,7 +2,7 @@
 use htl_base::{Seq, Time, Value};
 
 /// The mode in which a module is, and the instant at which its round began.
-#[derive(Clone, Copy, PartialEq, Eq, Debug)]
+#[derive(Clone, Copy)]
 pub struct Stay {
     pub mode: u16,
     pub start: Time,
@@ -24,7 +24,7 @@ impl Drop for State {
 }
 
 /// A write that is due: the place of an output of an invocation in the round that began at `start`.
-#[derive(Clone, Copy, PartialEq, Eq, Debug)]
+#[derive(Clone, Copy)]
 pub struct Write {
     pub inv: u16,
     pub start: Time,

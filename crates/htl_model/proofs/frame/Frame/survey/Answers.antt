@@ -4,7 +4,7 @@ use Rattle.std.specs.List.{flat_map}
 use Rattle.htl_model.specs.Frames.{rounds_at, choices, frame_of, nodes_of}
 use Rattle.htl_model.specs.Selections.{root_modules}
 use Rattle.htl_model.proofs.FrameLimits.{limits_kept}
-use Rattle.htl_model.proofs.FrameBuild.{no_longer, no_frame, no_starts, no_rounds, no_radices, no_paths, end_is, frame_some, starts_are, starts_told, radices_few, paths_are, ways_some, ways_few}
+use Rattle.htl_model.proofs.FrameBuild.{some_roots, no_longer, no_frame, no_starts, no_rounds, no_radices, no_paths, end_is, frame_some, starts_are, starts_told, radices_few, paths_are, ways_some, ways_few}
 use Rattle.htl_model.proofs.frame.Frame.survey.Goals as goal
 
 pub returns-then-modules-eq0 : goal.returns-then-modules-eq0
@@ -27,7 +27,7 @@ returns-then-modules-eq0 c =
 pub hyperperiod-end-requires : goal.hyperperiod-end-requires
 hyperperiod-end-requires c =
     let t = c.args.t.now in
-    let some : 0 < length (root_modules t) = omega (arith, c.fill_roots-modules.ensures.count, c.if-modules-eq0.false) in
+    let some = some_roots t c.fill_roots-modules.result c.fill_roots-modules.ensures.count c.if-modules-eq0.false in
     no_longer t c.keeps_ranges.ensures.ranges c.requires some _ c.fill_roots-modules.ensures.roots
 
 pub overflow_cast-paths : goal.overflow_cast-paths
@@ -36,26 +36,26 @@ overflow_cast-paths c = omega (arith, c.round_choices-paths.ensures)
 pub fill_starts-count-requires-clause-long : goal.fill_starts-count-requires-clause-long
 fill_starts-count-requires-clause-long c =
     let t = c.args.t.now in
-    let some : 0 < length (root_modules t) = omega (arith, c.fill_roots-modules.ensures.count, c.if-modules-eq0.false) in
+    let some = some_roots t c.fill_roots-modules.result c.fill_roots-modules.ensures.count c.if-modules-eq0.false in
     omega (arith, end_is t c.keeps_ranges.ensures.ranges c.requires some _ c.hyperperiod-end.result c.fill_roots-modules.ensures.roots c.hyperperiod-end.ensures, frame_some t c.keeps_ranges.ensures.ranges some)
 
 pub fill_starts-count-requires-clause-frame : goal.fill_starts-count-requires-clause-frame
 fill_starts-count-requires-clause-frame c =
     let t = c.args.t.now in
-    let some : 0 < length (root_modules t) = omega (arith, c.fill_roots-modules.ensures.count, c.if-modules-eq0.false) in
+    let some = some_roots t c.fill_roots-modules.result c.fill_roots-modules.ensures.count c.if-modules-eq0.false in
     omega (arith, end_is t c.keeps_ranges.ensures.ranges c.requires some _ c.hyperperiod-end.result c.fill_roots-modules.ensures.roots c.hyperperiod-end.ensures, (limits_kept t c.keeps_ranges.ensures.ranges c.requires).frame)
 
 pub fill_starts-count-requires-clause-few : goal.fill_starts-count-requires-clause-few
 fill_starts-count-requires-clause-few c =
     let t = c.args.t.now in
-    let some : 0 < length (root_modules t) = omega (arith, c.fill_roots-modules.ensures.count, c.if-modules-eq0.false) in
+    let some = some_roots t c.fill_roots-modules.result c.fill_roots-modules.ensures.count c.if-modules-eq0.false in
     let end = end_is t c.keeps_ranges.ensures.ranges c.requires some _ c.hyperperiod-end.result c.fill_roots-modules.ensures.roots c.hyperperiod-end.ensures in
     omega (arith, ap (λ (xs : List ℕ). length xs) (starts_are t c.keeps_ranges.ensures.ranges c.requires some _ c.hyperperiod-end.result c.fill_roots-modules.ensures.roots end), (limits_kept t c.keeps_ranges.ensures.ranges c.requires).starts)
 
 pub fill_radices-requires-clause-small : goal.fill_radices-requires-clause-small
 fill_radices-requires-clause-small c =
     let t = c.args.t.now in
-    let some : 0 < length (root_modules t) = omega (arith, c.fill_roots-modules.ensures.count, c.if-modules-eq0.false) in
+    let some = some_roots t c.fill_roots-modules.result c.fill_roots-modules.ensures.count c.if-modules-eq0.false in
     let end = end_is t c.keeps_ranges.ensures.ranges c.requires some _ c.hyperperiod-end.result c.fill_roots-modules.ensures.roots c.hyperperiod-end.ensures in
     let told = starts_told t c.keeps_ranges.ensures.ranges c.requires some _ c.hyperperiod-end.result c.fill_starts-count.result c.fill_starts-count.new.out c.fill_roots-modules.ensures.roots end c.fill_starts-count.ensures.starts c.fill_starts-count.ensures.count in
     radices_few t c.keeps_ranges.ensures.ranges c.requires some (take c.fill_starts-count.result c.fill_starts-count.new.out) told.2
@@ -63,7 +63,7 @@ fill_radices-requires-clause-small c =
 pub node_count-nodes-requires-clause-some : goal.node_count-nodes-requires-clause-some
 node_count-nodes-requires-clause-some c =
     let t = c.args.t.now in
-    let some : 0 < length (root_modules t) = omega (arith, c.fill_roots-modules.ensures.count, c.if-modules-eq0.false) in
+    let some = some_roots t c.fill_roots-modules.result c.fill_roots-modules.ensures.count c.if-modules-eq0.false in
     let end = end_is t c.keeps_ranges.ensures.ranges c.requires some _ c.hyperperiod-end.result c.fill_roots-modules.ensures.roots c.hyperperiod-end.ensures in
     let told = starts_told t c.keeps_ranges.ensures.ranges c.requires some _ c.hyperperiod-end.result c.fill_starts-count.result c.fill_starts-count.new.out c.fill_roots-modules.ensures.roots end c.fill_starts-count.ensures.starts c.fill_starts-count.ensures.count in
     let many : length (take c.fill_starts-count.result c.fill_starts-count.new.out) ≡ c.fill_starts-count.result = ap (λ (xs : List ℕ). length xs) told.2 ∙ sym told.1 in
@@ -73,7 +73,7 @@ node_count-nodes-requires-clause-some c =
 pub node_count-nodes-requires-clause-ways : goal.node_count-nodes-requires-clause-ways
 node_count-nodes-requires-clause-ways c =
     let t = c.args.t.now in
-    let some : 0 < length (root_modules t) = omega (arith, c.fill_roots-modules.ensures.count, c.if-modules-eq0.false) in
+    let some = some_roots t c.fill_roots-modules.result c.fill_roots-modules.ensures.count c.if-modules-eq0.false in
     let end = end_is t c.keeps_ranges.ensures.ranges c.requires some _ c.hyperperiod-end.result c.fill_roots-modules.ensures.roots c.hyperperiod-end.ensures in
     let told = starts_told t c.keeps_ranges.ensures.ranges c.requires some _ c.hyperperiod-end.result c.fill_starts-count.result c.fill_starts-count.new.out c.fill_roots-modules.ensures.roots end c.fill_starts-count.ensures.starts c.fill_starts-count.ensures.count in
     let many : length (take c.fill_starts-count.result c.fill_starts-count.new.out) ≡ c.fill_starts-count.result = ap (λ (xs : List ℕ). length xs) told.2 ∙ sym told.1 in
@@ -83,7 +83,7 @@ node_count-nodes-requires-clause-ways c =
 pub returns : goal.returns
 returns c =
     let t = c.args.t.now in
-    let some : 0 < length (root_modules t) = omega (arith, c.fill_roots-modules.ensures.count, c.if-modules-eq0.false) in
+    let some = some_roots t c.fill_roots-modules.result c.fill_roots-modules.ensures.count c.if-modules-eq0.false in
     let limits = limits_kept t c.keeps_ranges.ensures.ranges c.requires in
     let end = end_is t c.keeps_ranges.ensures.ranges c.requires some _ c.hyperperiod-end.result c.fill_roots-modules.ensures.roots c.hyperperiod-end.ensures in
     let told = starts_told t c.keeps_ranges.ensures.ranges c.requires some _ c.hyperperiod-end.result c.fill_starts-count.result c.fill_starts-count.new.out c.fill_roots-modules.ensures.roots end c.fill_starts-count.ensures.starts c.fill_starts-count.ensures.count in
