@@ -2,7 +2,7 @@
 use htl_base::{Name, Value};
 
 /// A reserved word.
-#[derive(Clone, Copy, PartialEq, Eq, Debug)]
+#[derive(Clone, Copy, PartialEq, Eq)]
 pub enum Word {
     /// `program`
     Program,
@@ -51,7 +51,7 @@ pub enum Word {
 }
 
 /// A sign.
-#[derive(Clone, Copy, PartialEq, Eq, Debug)]
+#[derive(Clone, Copy, PartialEq, Eq)]
 pub enum Sign {
     /// `{`
     OpenBrace,
@@ -111,7 +111,7 @@ pub enum Token {
 }
 
 /// What a token is, without the bytes of a name or the value of a number.
-#[derive(Clone, Copy, PartialEq, Eq, Debug)]
+#[derive(Clone, Copy, PartialEq, Eq)]
 pub enum Kind {
     /// An identifier that is no reserved word.
     Ident,
