@@ -9,7 +9,7 @@ use Rattle.htl_parse.specs.ReadingLists.{again_at, repeated_at}
 use Rattle.htl_parse.specs.Repeats.{CanRepeat}
 use Rattle.htl_text.specs.Nodes.{task_of, switch_of, mode_of, module_of}
 use Rattle.htl_parse.proofs.Sound.{Holds}
-use Rattle.htl_parse.specs.ReadingStatements.{begins_comm, comm_at, begins_task, task_at, begins_port, port_at, begins_invoke, invoke_at, begins_switch, switch_at, begins_mode, mode_at, begins_module, module_at, begins_program, program_at}
+use Rattle.htl_parse.specs.ReadingStatements.{begins_comm, comm_at, begins_task, task_at, begins_port, port_at, begins_invoke, invoke_at, begins_switch, switch_at, begins_mode, mode_at, begins_module, module_at, program_at}
 use Rattle.htl_parse.proofs.Items.{Less, with_front, front-append, less-of}
 use Rattle.htl_parse.proofs.Parts.{comm-sound, comm-part, task-sound, task-part, port-sound, port-part, invoke-sound, invoke-part, switch-sound, switch-part}
 use Rattle.htl_parse.proofs.Repeating.{repeated-is}

@@ -15,7 +15,6 @@ use Rattle.htl_text.specs.declared.token.Token.{Token}
 use Rattle.htl_text.specs.declared.tree.Tree.{Tree}
 use Rattle.htl_parse.specs.declared.parser.ParseFault.{ParseFault}
 use Rattle.htl_parse.specs.declared.parser.ParseFault.TheVariants as fault
-use Rattle.htl_parse.specs.declared.stop.Stop.TheVariants as stop
 
 read-same : {Y : Type 0} (r : Read Y) (t u : Y) (vs ws : List Placed) → r ≡ Ok (t, vs) → r ≡ Ok (u, ws) → (t ≡ u) × (vs ≡ ws)
 read-same {Y} r t u vs ws one two =

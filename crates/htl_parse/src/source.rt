@@ -1,9 +1,8 @@
 // Modes, modules, programs and the whole source.
-ghost use Rattle.std.specs.Prelude.{map, ◌++◌};
-ghost use Rattle.htl_text.specs.Nodes.{task_of, switch_of, mode_of, module_of, program_of};
+ghost use Rattle.std.specs.Prelude.{map};
+ghost use Rattle.htl_text.specs.Nodes.{mode_of, module_of, program_of};
 ghost use Rattle.htl_parse.specs.Cursors.{Gives};
-ghost use Rattle.htl_parse.specs.ReadingLists.{repeated_at};
-ghost use Rattle.htl_parse.specs.ReadingStatements.{begins_comm, comm_at, begins_task, task_at, begins_port, port_at, begins_invoke, invoke_at, begins_switch, switch_at, begins_mode, mode_at, begins_module, module_at, begins_program, program_at, source_at};
+ghost use Rattle.htl_parse.specs.ReadingStatements.{mode_at, module_at, program_at, source_at};
 
 use crate::cursor::Cursor;
 use crate::repeated::{Repeatable, repeated};
