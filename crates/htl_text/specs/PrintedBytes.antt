@@ -1,6 +1,7 @@
 -- The bytes of printed tokens.
-use Rattle.std.specs.Prelude.{◌≡◌, ℕ, List, [], ◌∷◌, ◌++◌, codes}
+use Rattle.std.specs.Prelude.{◌≡◌, ℕ, Option, Some, List, [], ◌∷◌, ◌++◌, codes}
 use Rattle.std.specs.Fmt.{signed_decimal}
+use Rattle.std.specs.Io.KnownBytes.{append_known}
 use Rattle.std.specs.List.{flat_map}
 use Rattle.htl_text.specs.declared.token.Token.{Token}
 use Rattle.htl_text.specs.declared.token.Token.TheVariants as token
@@ -76,6 +77,11 @@ token_bytes t = token_text t ++ separator t ∷ []
 unfoldable pub printed_bytes : List Token → List ℕ
 printed_bytes ts = flat_map token_bytes ts
 
--- what was written grew by these tokens, whatever other tokens follow
-abbrev pub Adds : (List Token → List Token) → List ℕ → List ℕ → Type 0
-Adds tokens old new = (more : List Token) → new ++ printed_bytes more ≡ old ++ printed_bytes (tokens more)
+-- What was written grew by these bytes, unless memory was lacking: what it comes to with later bytes behind it, it
+-- came to before with these and the later ones behind it.
+abbrev pub Writes : List ℕ → Option (List ℕ) → Option (List ℕ) → Type 0
+Writes bytes old new = (later all : List ℕ) → append_known new later ≡ Some all → append_known old (bytes ++ later) ≡ Some all
+
+-- what was written grew by these tokens, unless memory was lacking, whatever other tokens follow
+abbrev pub Adds : (List Token → List Token) → Option (List ℕ) → Option (List ℕ) → Type 0
+Adds tokens old new = (more : List Token) (all : List ℕ) → append_known new (printed_bytes more) ≡ Some all → append_known old (printed_bytes (tokens more)) ≡ Some all

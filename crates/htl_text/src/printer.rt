@@ -1,6 +1,6 @@
 // Writing tokens, each with what separates it from the next.
-ghost use Rattle.std.specs.Prelude.{◌≡◌, ◌++◌, ◌∷◌, [], OnOk, List};
-ghost use Rattle.htl_text.specs.PrintedBytes.{Adds, separator, token_bytes, token_text};
+ghost use Rattle.std.specs.Prelude.{◌≡◌, ◌++◌, ◌∷◌, [], IfOk, List, Some};
+ghost use Rattle.htl_text.specs.PrintedBytes.{Adds, Writes, separator, token_bytes, token_text};
 ghost use Rattle.htl_text.specs.PrintedTokens.{each, after_commas, in_brackets};
 ghost use Rattle.htl_text.specs.declared.token.Token.{Token as AToken};
 ghost use Rattle.htl_text.specs.declared.token.Token.TheVariants as token;
@@ -12,55 +12,59 @@ use itoa::Buffer;
 use std::alloc::Global;
 use std::marker::Model;
 
-/// What was written so far.
+/// What was written so far. Once memory was lacking nothing more is written, and the end tells so.
 #[derive(Drop)]
 pub struct Printer {
     bytes: Vec<u8>,
+    lacks_memory: bool,
 }
 
 impl Model for Printer {
-    ghost use Rattle.std.specs.Prelude.{List, ℕ};
+    ghost use Rattle.std.specs.Prelude.{List, ℕ, None, Option, Some, cond};
 
-    ghost Value = { List ℕ };
+    ghost Value = { Option (List ℕ) };
 
-    ghost view = { λ p. p.bytes.items };
+    ghost view = { λ p. cond p.lacks_memory None (Some p.bytes.items) };
 }
 
 impl Printer {
     pub fn new(alloc: Global) -> Printer
-        ensures { result ≡ [] }
+        ensures { result ≡ Some [] }
     {
         Printer {
             bytes: Vec::new(alloc),
+            lacks_memory: false,
         }
     }
 
-    /// What was written.
-    pub fn into_bytes(self) -> Vec<u8>
-        ensures { result.items ≡ self }
+    /// What was written; Memory where memory was lacking.
+    pub fn into_bytes(self) -> Result<Vec<u8>, Memory>
+        ensures { IfOk result (λ bytes. self ≡ Some bytes.items) }
     {
-        self.bytes
+        if self.lacks_memory {
+            return Err(Memory);
+        }
+        Ok(self.bytes)
     }
 
-    fn text(&mut self, text: &[u8]) -> Result<(), Memory>
-        ensures { OnOk result (self.new ≡ self.old ++ text.now) }
+    fn text(&mut self, text: &[u8])
+        ensures { Writes text.now self.old self.new }
     {
-        match self.bytes.extend_from_slice(text) {
-            Ok(()) => Ok(()),
-            Err(_) => Err(Memory),
+        if !self.lacks_memory {
+            self.lacks_memory = self.bytes.extend_from_slice(text).is_err();
         }
     }
 
-    fn digits(&mut self, x: Value) -> Result<(), Memory>
-        ensures { OnOk result (self.new ≡ self.old ++ token_text (token.Number x)) }
+    fn digits(&mut self, x: Value)
+        ensures { Writes (token_text (token.Number x)) self.old self.new }
     {
         let mut buffer = Buffer::new();
-        self.text(buffer.format(x).as_bytes())
+        self.text(buffer.format(x).as_bytes());
     }
 
     // A token without what follows it.
-    fn bare(&mut self, token: &Token) -> Result<(), Memory>
-        ensures { OnOk result (self.new ≡ self.old ++ token_text token.now) }
+    fn bare(&mut self, token: &Token)
+        ensures { Writes (token_text token.now) self.old self.new }
     {
         match token {
             Token::Ident(name) => self.text(name.as_bytes()),
@@ -71,21 +75,20 @@ impl Printer {
     }
 
     /// Writes a token and what separates it from the next.
-    pub fn token(&mut self, token: &Token) -> Result<(), Memory>
-        ensures { OnOk result (self.new ≡ self.old ++ token_bytes token.now) }
+    pub fn token(&mut self, token: &Token)
+        ensures { Writes (token_bytes token.now) self.old self.new }
     {
-        self.bare(token)?;
-        self.text(&[separator(token)])
+        self.bare(token);
+        self.text(&[separator(token)]);
     }
 
     /// Writes tokens in order.
-    pub fn tokens(&mut self, tokens: &[Token]) -> Result<(), Memory>
-        ensures { OnOk result (Adds (λ more. tokens.now ++ more) self.old self.new) }
+    pub fn tokens(&mut self, tokens: &[Token])
+        ensures { Adds (λ more. tokens.now ++ more) self.old self.new }
     {
         for token in tokens {
-            self.token(token)?;
+            self.token(token);
         }
-        Ok(())
     }
 }
 
@@ -106,38 +109,36 @@ pub trait Print {
     ghost tokens: { Self → List AToken → List AToken };
 
     /// Writes the part's tokens.
-    fn print(&self, out: &mut Printer) -> Result<(), Memory>
-        ensures { OnOk result (Adds (tokens self.now) out.old out.new) };
+    fn print(&self, out: &mut Printer)
+        ensures { Adds (tokens self.now) out.old out.new };
 }
 
 /// Writes items one after another.
-pub fn each<T: Print>(items: &Seq<T>, out: &mut Printer) -> Result<(), Memory>
-    ensures { OnOk result (Adds (each T.tokens items.now) out.old out.new) }
+pub fn each<T: Print>(items: &Seq<T>, out: &mut Printer)
+    ensures { Adds (each T.tokens items.now) out.old out.new }
 {
     for item in items.as_slice() {
-        item.print(out)?;
+        item.print(out);
     }
-    Ok(())
 }
 
-fn after_commas<T: Print>(items: &[T], out: &mut Printer) -> Result<(), Memory>
-    ensures { OnOk result (Adds (after_commas T.tokens items.now) out.old out.new) }
+fn after_commas<T: Print>(items: &[T], out: &mut Printer)
+    ensures { Adds (after_commas T.tokens items.now) out.old out.new }
 {
     for item in items {
-        out.tokens(&[Token::Sign(Sign::Comma)])?;
-        item.print(out)?;
+        out.tokens(&[Token::Sign(Sign::Comma)]);
+        item.print(out);
     }
-    Ok(())
 }
 
 /// Writes items in brackets, with commas between them.
-pub fn in_brackets<T: Print>(items: &Seq<T>, out: &mut Printer) -> Result<(), Memory>
-    ensures { OnOk result (Adds (in_brackets T.tokens items.now) out.old out.new) }
+pub fn in_brackets<T: Print>(items: &Seq<T>, out: &mut Printer)
+    ensures { Adds (in_brackets T.tokens items.now) out.old out.new }
 {
-    out.tokens(&[Token::Sign(Sign::OpenParen)])?;
+    out.tokens(&[Token::Sign(Sign::OpenParen)]);
     if let Some((first, rest)) = items.as_slice().split_first() {
-        first.print(out)?;
-        after_commas(rest, out)?;
+        first.print(out);
+        after_commas(rest, out);
     }
-    out.tokens(&[Token::Sign(Sign::CloseParen)])
+    out.tokens(&[Token::Sign(Sign::CloseParen)]);
 }

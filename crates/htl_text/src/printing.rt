@@ -1,5 +1,5 @@
 // The printed form of a tree.
-ghost use Rattle.std.specs.Prelude.{◌≡◌, ◌++◌, OnOk, IfOk};
+ghost use Rattle.std.specs.Prelude.{◌≡◌, ◌++◌, IfOk};
 ghost use Rattle.htl_text.specs.Nodes.{out_of, outs_of, task_of, switch_of, mode_of, module_of, program_of, tree_of};
 ghost use Rattle.htl_text.specs.PrintedBytes.{Adds, printed_bytes};
 ghost use Rattle.htl_text.specs.PrintedTokens.{abstract_tokens, clause_tokens, comm_tokens, const_tokens, end_tokens, expr_tokens, infix_sign, invoke_tokens, mode_tokens, module_tokens, out_tokens, outs_tokens, param_tokens, port_tokens, prefix_sign, program_tokens, source_tokens, switch_tokens, task_tokens, truth_tokens, type_tokens, kind_tokens, minus_tokens, number_tokens, each};
@@ -21,62 +21,62 @@ pub fn print(alloc: Global, tree: &Tree) -> Result<Vec<u8>, Memory>
     ensures { IfOk result (λ bytes. bytes.items ≡ printed_bytes (source_tokens (tree_of tree.now))) }
 {
     let mut out = Printer::new(alloc);
-    each(&tree.programs, &mut out)?;
-    Ok(out.into_bytes())
+    each(&tree.programs, &mut out);
+    out.into_bytes()
 }
 
 impl Print for ProgramNode {
     ghost tokens = { λ p. program_tokens (program_of p) };
 
-    fn print(&self, out: &mut Printer) -> Result<(), Memory> {
+    fn print(&self, out: &mut Printer) {
         out.tokens(&[
             Token::Word(Word::Program),
             Token::Ident(self.name.name),
             Token::Sign(Sign::OpenBrace),
-        ])?;
-        each(&self.comms, out)?;
-        each(&self.modules, out)?;
-        out.tokens(&[Token::Sign(Sign::CloseBrace)])
+        ]);
+        each(&self.comms, out);
+        each(&self.modules, out);
+        out.tokens(&[Token::Sign(Sign::CloseBrace)]);
     }
 }
 
 impl Print for CommNode {
     ghost tokens = { comm_tokens };
 
-    fn print(&self, out: &mut Printer) -> Result<(), Memory> {
-        kind(self.sensor, out)?;
-        self.ty.print(out)?;
-        out.tokens(&[Token::Ident(self.name.name), Token::Word(Word::Period)])?;
-        self.period.x.print(out)?;
-        out.tokens(&[Token::Word(Word::Init)])?;
-        self.init.print(out)?;
-        out.tokens(&[Token::Sign(Sign::Semicolon)])
+    fn print(&self, out: &mut Printer) {
+        kind(self.sensor, out);
+        self.ty.print(out);
+        out.tokens(&[Token::Ident(self.name.name), Token::Word(Word::Period)]);
+        self.period.x.print(out);
+        out.tokens(&[Token::Word(Word::Init)]);
+        self.init.print(out);
+        out.tokens(&[Token::Sign(Sign::Semicolon)]);
     }
 }
 
 // Whether a communicator is a sensor.
-fn kind(sensor: bool, out: &mut Printer) -> Result<(), Memory>
-    ensures { OnOk result (Adds (kind_tokens sensor) out.old out.new) }
+fn kind(sensor: bool, out: &mut Printer)
+    ensures { Adds (kind_tokens sensor) out.old out.new }
 {
     if sensor {
-        out.tokens(&[Token::Word(Word::Sensor)])
+        out.tokens(&[Token::Word(Word::Sensor)]);
     } else {
-        out.tokens(&[Token::Word(Word::Communicator)])
+        out.tokens(&[Token::Word(Word::Communicator)]);
     }
 }
 
 impl Print for Value {
     ghost tokens = { number_tokens };
 
-    fn print(&self, out: &mut Printer) -> Result<(), Memory> {
-        out.token(&Token::Number(*self))
+    fn print(&self, out: &mut Printer) {
+        out.token(&Token::Number(*self));
     }
 }
 
 impl Print for Ty {
     ghost tokens = { type_tokens };
 
-    fn print(&self, out: &mut Printer) -> Result<(), Memory> {
+    fn print(&self, out: &mut Printer) {
         match self {
             Ty::Int => out.tokens(&[Token::Word(Word::Int)]),
             Ty::Bool => out.tokens(&[Token::Word(Word::Bool)]),
@@ -85,79 +85,79 @@ impl Print for Ty {
 }
 
 // A truth value.
-fn truth(x: bool, out: &mut Printer) -> Result<(), Memory>
-    ensures { OnOk result (Adds (truth_tokens x) out.old out.new) }
+fn truth(x: bool, out: &mut Printer)
+    ensures { Adds (truth_tokens x) out.old out.new }
 {
     if x {
-        out.tokens(&[Token::Word(Word::True)])
+        out.tokens(&[Token::Word(Word::True)]);
     } else {
-        out.tokens(&[Token::Word(Word::False)])
+        out.tokens(&[Token::Word(Word::False)]);
     }
 }
 
 impl Print for ConstNode {
     ghost tokens = { const_tokens };
 
-    fn print(&self, out: &mut Printer) -> Result<(), Memory> {
+    fn print(&self, out: &mut Printer) {
         match self {
             ConstNode::Int { minus, x, .. } => {
-                minus_sign(*minus, out)?;
-                x.print(out)
+                minus_sign(*minus, out);
+                x.print(out);
             }
             ConstNode::Bool { x, .. } => truth(*x, out),
         }
     }
 }
 
-fn minus_sign(minus: bool, out: &mut Printer) -> Result<(), Memory>
-    ensures { OnOk result (Adds (minus_tokens minus) out.old out.new) }
+fn minus_sign(minus: bool, out: &mut Printer)
+    ensures { Adds (minus_tokens minus) out.old out.new }
 {
     if minus {
-        out.tokens(&[Token::Sign(Sign::Minus)])
+        out.tokens(&[Token::Sign(Sign::Minus)]);
     } else {
-        out.tokens(&[])
+        out.tokens(&[]);
     }
 }
 
 impl Print for ModuleNode {
     ghost tokens = { λ m. module_tokens (module_of m) };
 
-    fn print(&self, out: &mut Printer) -> Result<(), Memory> {
+    fn print(&self, out: &mut Printer) {
         out.tokens(&[
             Token::Word(Word::Module),
             Token::Ident(self.name.name),
             Token::Word(Word::Start),
             Token::Ident(self.start.name),
             Token::Sign(Sign::OpenBrace),
-        ])?;
-        each(&self.tasks, out)?;
-        each(&self.modes, out)?;
-        out.tokens(&[Token::Sign(Sign::CloseBrace)])
+        ]);
+        each(&self.tasks, out);
+        each(&self.modes, out);
+        out.tokens(&[Token::Sign(Sign::CloseBrace)]);
     }
 }
 
 impl Print for TaskNode {
     ghost tokens = { λ t. task_tokens (task_of t) };
 
-    fn print(&self, out: &mut Printer) -> Result<(), Memory> {
-        abstract_word(&self.outputs, out)?;
+    fn print(&self, out: &mut Printer) {
+        abstract_word(&self.outputs, out);
         out.tokens(&[
             Token::Word(Word::Task),
             Token::Ident(self.name.name),
             Token::Word(Word::Input),
-        ])?;
-        in_brackets(&self.inputs, out)?;
-        out.tokens(&[Token::Word(Word::Output)])?;
-        self.outputs.print(out)?;
-        out.tokens(&[Token::Word(Word::Worst)])?;
-        self.worst.x.print(out)?;
-        out.tokens(&[Token::Sign(Sign::Semicolon)])
+        ]);
+        in_brackets(&self.inputs, out);
+        out.tokens(&[Token::Word(Word::Output)]);
+        self.outputs.print(out);
+        out.tokens(&[Token::Word(Word::Worst)]);
+        self.worst.x.print(out);
+        out.tokens(&[Token::Sign(Sign::Semicolon)]);
     }
 }
 
 // The word of an abstract task.
-fn abstract_word(outputs: &OutNodes, out: &mut Printer) -> Result<(), Memory>
-    ensures { OnOk result (Adds (abstract_tokens (outs_of outputs.now)) out.old out.new) }
+fn abstract_word(outputs: &OutNodes, out: &mut Printer)
+    ensures { Adds (abstract_tokens (outs_of outputs.now)) out.old out.new }
 {
     match outputs {
         OutNodes::Concrete { .. } => out.tokens(&[]),
@@ -168,16 +168,16 @@ fn abstract_word(outputs: &OutNodes, out: &mut Printer) -> Result<(), Memory>
 impl Print for ParamNode {
     ghost tokens = { param_tokens };
 
-    fn print(&self, out: &mut Printer) -> Result<(), Memory> {
-        self.ty.print(out)?;
-        out.tokens(&[Token::Ident(self.name.name)])
+    fn print(&self, out: &mut Printer) {
+        self.ty.print(out);
+        out.tokens(&[Token::Ident(self.name.name)]);
     }
 }
 
 impl Print for OutNodes {
     ghost tokens = { λ o. outs_tokens (outs_of o) };
 
-    fn print(&self, out: &mut Printer) -> Result<(), Memory> {
+    fn print(&self, out: &mut Printer) {
         match self {
             OutNodes::Concrete { outs } => in_brackets(outs, out),
             OutNodes::Abstract { outs } => in_brackets(outs, out),
@@ -188,34 +188,34 @@ impl Print for OutNodes {
 impl Print for OutNode {
     ghost tokens = { λ o. out_tokens (out_of o) };
 
-    fn print(&self, out: &mut Printer) -> Result<(), Memory> {
-        self.param.print(out)?;
-        term(&[Token::Sign(Sign::Assign)], &self.value.whole(), out)
+    fn print(&self, out: &mut Printer) {
+        self.param.print(out);
+        term(&[Token::Sign(Sign::Assign)], &self.value.whole(), out);
     }
 }
 
 impl Print for ModeNode {
     ghost tokens = { λ m. mode_tokens (mode_of m) };
 
-    fn print(&self, out: &mut Printer) -> Result<(), Memory> {
+    fn print(&self, out: &mut Printer) {
         out.tokens(&[
             Token::Word(Word::Mode),
             Token::Ident(self.name.name),
             Token::Word(Word::Period),
-        ])?;
-        self.period.x.print(out)?;
-        clause(Word::Program, &self.program, out)?;
-        out.tokens(&[Token::Sign(Sign::OpenBrace)])?;
-        ports(&self.ports, out)?;
-        each(&self.invokes, out)?;
-        each(&self.switches, out)?;
-        out.tokens(&[Token::Sign(Sign::CloseBrace)])
+        ]);
+        self.period.x.print(out);
+        clause(Word::Program, &self.program, out);
+        out.tokens(&[Token::Sign(Sign::OpenBrace)]);
+        ports(&self.ports, out);
+        each(&self.invokes, out);
+        each(&self.switches, out);
+        out.tokens(&[Token::Sign(Sign::CloseBrace)]);
     }
 }
 
 // A word and a name, where there is a name.
-fn clause(word: Word, name: &Option<Id>, out: &mut Printer) -> Result<(), Memory>
-    ensures { OnOk result (Adds (clause_tokens word name.now) out.old out.new) }
+fn clause(word: Word, name: &Option<Id>, out: &mut Printer)
+    ensures { Adds (clause_tokens word name.now) out.old out.new }
 {
     match name {
         Some(id) => out.tokens(&[Token::Word(word), Token::Ident(id.name)]),
@@ -223,47 +223,46 @@ fn clause(word: Word, name: &Option<Id>, out: &mut Printer) -> Result<(), Memory
     }
 }
 
-fn ports(ports: &Seq<ParamNode>, out: &mut Printer) -> Result<(), Memory>
-    ensures { OnOk result (Adds (each port_tokens ports.now) out.old out.new) }
+fn ports(ports: &Seq<ParamNode>, out: &mut Printer)
+    ensures { Adds (each port_tokens ports.now) out.old out.new }
 {
     for port in ports.as_slice() {
-        out.tokens(&[Token::Word(Word::Port)])?;
-        port.print(out)?;
-        out.tokens(&[Token::Sign(Sign::Semicolon)])?;
+        out.tokens(&[Token::Word(Word::Port)]);
+        port.print(out);
+        out.tokens(&[Token::Sign(Sign::Semicolon)]);
     }
-    Ok(())
 }
 
 impl Print for InvokeNode {
     ghost tokens = { invoke_tokens };
 
-    fn print(&self, out: &mut Printer) -> Result<(), Memory> {
+    fn print(&self, out: &mut Printer) {
         out.tokens(&[
             Token::Word(Word::Invoke),
             Token::Ident(self.task.name),
             Token::Word(Word::Input),
-        ])?;
-        in_brackets(&self.reads, out)?;
-        out.tokens(&[Token::Word(Word::Output)])?;
-        in_brackets(&self.writes, out)?;
-        clause(Word::Parent, &self.parent, out)?;
-        out.tokens(&[Token::Sign(Sign::Semicolon)])
+        ]);
+        in_brackets(&self.reads, out);
+        out.tokens(&[Token::Word(Word::Output)]);
+        in_brackets(&self.writes, out);
+        clause(Word::Parent, &self.parent, out);
+        out.tokens(&[Token::Sign(Sign::Semicolon)]);
     }
 }
 
 impl Print for EndNode {
     ghost tokens = { end_tokens };
 
-    fn print(&self, out: &mut Printer) -> Result<(), Memory> {
+    fn print(&self, out: &mut Printer) {
         match self {
             EndNode::Comm { comm, instance } => {
                 out.tokens(&[
                     Token::Sign(Sign::OpenParen),
                     Token::Ident(comm.name),
                     Token::Sign(Sign::Comma),
-                ])?;
-                instance.x.print(out)?;
-                out.tokens(&[Token::Sign(Sign::CloseParen)])
+                ]);
+                instance.x.print(out);
+                out.tokens(&[Token::Sign(Sign::CloseParen)]);
             }
             EndNode::Port { port } => out.tokens(&[Token::Ident(port.name)]),
         }
@@ -273,47 +272,47 @@ impl Print for EndNode {
 impl Print for SwitchNode {
     ghost tokens = { λ s. switch_tokens (switch_of s) };
 
-    fn print(&self, out: &mut Printer) -> Result<(), Memory> {
+    fn print(&self, out: &mut Printer) {
         let word = Token::Word(Word::Switch);
         term(
             &[word, Token::Sign(Sign::OpenParen)],
             &self.cond.whole(),
             out,
-        )?;
+        );
         out.tokens(&[
             Token::Sign(Sign::Comma),
             Token::Ident(self.target.name),
             Token::Sign(Sign::CloseParen),
             Token::Sign(Sign::Semicolon),
-        ])
+        ]);
     }
 }
 
 // Tokens and an expression behind them. It calls itself once for each level of operators.
-fn term(before: &[Token], e: &Operand<'_>, out: &mut Printer) -> Result<(), Memory>
-    ensures { OnOk result (Adds (λ more. before.now ++ expr_tokens e.now more) out.old out.new) }
+fn term(before: &[Token], e: &Operand<'_>, out: &mut Printer)
+    ensures { Adds (λ more. before.now ++ expr_tokens e.now more) out.old out.new }
 {
-    out.tokens(before)?;
+    out.tokens(before);
     match e.part() {
         Part::Int { x, .. } => x.print(out),
         Part::Bool { x, .. } => truth(x, out),
         Part::Named { id } => out.tokens(&[Token::Ident(id.name)]),
         Part::Unary { op, e, .. } => {
             let sign = Token::Sign(prefix_sign(op));
-            term(&[Token::Sign(Sign::OpenParen), sign], &e, out)?;
-            out.tokens(&[Token::Sign(Sign::CloseParen)])
+            term(&[Token::Sign(Sign::OpenParen), sign], &e, out);
+            out.tokens(&[Token::Sign(Sign::CloseParen)]);
         }
         Part::Binary { op, l, r, .. } => {
-            term(&[Token::Sign(Sign::OpenParen)], &l, out)?;
-            term(&[Token::Sign(infix_sign(op))], &r, out)?;
-            out.tokens(&[Token::Sign(Sign::CloseParen)])
+            term(&[Token::Sign(Sign::OpenParen)], &l, out);
+            term(&[Token::Sign(infix_sign(op))], &r, out);
+            out.tokens(&[Token::Sign(Sign::CloseParen)]);
         }
         Part::Choose { c, a, b, .. } => {
             let word = Token::Word(Word::If);
-            term(&[word, Token::Sign(Sign::OpenParen)], &c, out)?;
-            term(&[Token::Sign(Sign::Comma)], &a, out)?;
-            term(&[Token::Sign(Sign::Comma)], &b, out)?;
-            out.tokens(&[Token::Sign(Sign::CloseParen)])
+            term(&[word, Token::Sign(Sign::OpenParen)], &c, out);
+            term(&[Token::Sign(Sign::Comma)], &a, out);
+            term(&[Token::Sign(Sign::Comma)], &b, out);
+            out.tokens(&[Token::Sign(Sign::CloseParen)]);
         }
     }
 }

@@ -1,8 +1,4 @@
-use Rattle.std.proofs.Common.{◌∙◌}
-use Rattle.htl_text.proofs.Writing.{OnOk-then}
 use Rattle.htl_text.proofs.printing.CommNodePrint.print.Goals as goal
 
 pub returns : goal.returns
-returns c =
-    OnOk-then c.tokens-3.result c.tokens-3.ensures (λ last more.
-    last more ∙ c.in_ok-print-3.ensures _ ∙ c.in_ok-tokens-2.ensures _ ∙ c.in_ok-print-2.ensures _ ∙ c.in_ok-tokens.ensures _ ∙ c.in_ok-print.ensures _ ∙ c.in_ok-kind.ensures _)
+returns c more all e = c.kind.ensures _ all (c.print.ensures _ all (c.tokens.ensures _ all (c.print-2.ensures _ all (c.tokens-2.ensures _ all (c.print-3.ensures _ all (c.tokens-3.ensures more all e))))))

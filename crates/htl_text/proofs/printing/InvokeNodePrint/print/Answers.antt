@@ -1,8 +1,4 @@
-use Rattle.std.proofs.Common.{◌∙◌}
-use Rattle.htl_text.proofs.Writing.{OnOk-then}
 use Rattle.htl_text.proofs.printing.InvokeNodePrint.print.Goals as goal
 
 pub returns : goal.returns
-returns c =
-    OnOk-then c.tokens-3.result c.tokens-3.ensures (λ last more.
-    last more ∙ c.in_ok-clause.ensures _ ∙ c.in_ok-in_brackets-2.ensures _ ∙ c.in_ok-tokens-2.ensures _ ∙ c.in_ok-in_brackets.ensures _ ∙ c.in_ok-tokens.ensures _)
+returns c more all e = c.tokens.ensures _ all (c.in_brackets.ensures _ all (c.tokens-2.ensures _ all (c.in_brackets-2.ensures _ all (c.clause.ensures _ all (c.tokens-3.ensures more all e)))))
