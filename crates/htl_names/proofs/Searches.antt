@@ -11,7 +11,7 @@ use Rattle.std.proofs.lemmas.Option.{slice_get_within, same_Some, get_or_from_sl
 use Rattle.htl_names.proofs.FlatMaps.{get_front, past, there_is}
 use Rattle.htl_names.proofs.ListLaws.{among_at, new_in, new_from, new_distinct, none_distinct}
 use Rattle.htl_names.specs.Lists.{with_new, map_at, flat_map_at}
-use Rattle.htl_names.specs.Programs.{Graph, named_by, Reached, root, below, namings, Naming, program_naming, naming, refined_in}
+use Rattle.htl_names.specs.Programs.{Graph, named_by, Reached, root, below, namings, IsMisplaced, Naming, program_naming, naming, refined_in}
 use Rattle.htl_names.specs.Reach.{is_in, met, met_by, found_after, IsMarked, MarksReached}
 use Rattle.std.proofs.lemmas.Grind.{get_or-set_at}
 use Rattle.std.proofs.lemmas.List.Sums.{fold-append, sum_by-cons}
@@ -23,7 +23,7 @@ use Rattle.htl_names.specs.declared.place.ModeAt.{ModeAt}
 use Rattle.htl_names.specs.Graph.{naming_rows, targets, graph_by}
 use Rattle.htl_names.proofs.Walking.{length-map_at}
 use Rattle.htl_names.specs.declared.programs.Named.{Named}
-use Rattle.htl_names.specs.Named.{unnamed, named_too, noted_at, noted, refined_at, CountsNamings, AreRefined}
+use Rattle.htl_names.specs.Named.{unnamed, named_too, noted_at, noted, refined_at, is_misplaced, CountsNamings, AreRefined}
 
 -- ---- one more
 
@@ -309,3 +309,29 @@ refined_rows symbols ps rows table are is =
           ap (λ (t : List Named). refined_at t p) whole ∙ row-mode free (naming symbols ps) p (omega (arith, start, small))
           ∙ ap (λ (n : Named). or_refined n.mode (refined_in p (naming symbols ps))) (get_or-replicate (length ps) p unnamed unnamed small);
     }
+
+-- ---- the test whether a program is out of place
+
+pub misplaced_here : (g : Graph) (table : List Named) (seen : List Bool) → CountsNamings g table → MarksReached g seen → (p : ℕ) → p < length g
+    → is_misplaced p (get_or table p unnamed).count (get_or seen p false) ≡ true → IsMisplaced g p
+misplaced_here g table seen counts marks zero lt h =
+    let said = counts.says 0 lt in
+    let some : 0 < (get_or table 0 unnamed).count = grind (arith, nat_tests) in
+    omega (arith, said, some)
+misplaced_here g table seen counts marks (suc p) lt h = by (get_or seen (suc p) false) refl h
+  where
+    by : (r : Bool) → get_or seen (suc p) false ≡ r → (not (eqb (get_or table (suc p) unnamed).count 1) || not r) ≡ true → IsMisplaced g (suc p)
+    by true e t = inl (λ one. let said = counts.says (suc p) lt in let same : (get_or table (suc p) unnamed).count ≡ 1 = omega (arith, said, one) in grind (arith, nat_tests))
+    by false e t = inr (λ reached. let mark = marks.marks (suc p) lt reached in absurd cc)
+
+pub placed_here : (g : Graph) (table : List Named) (seen : List Bool) → CountsNamings g table → MarksReached g seen → (p : ℕ) → p < length g
+    → is_misplaced p (get_or table p unnamed).count (get_or seen p false) ≡ false → IsMisplaced g p → ⊥
+placed_here g table seen counts marks zero lt h some =
+    let said = counts.says 0 lt in
+    let none : (get_or table 0 unnamed).count ≡ 0 = grind (arith, nat_tests) in
+    omega (arith, said, none, some)
+placed_here g table seen counts marks (suc p) lt h (inl other) =
+    let said = counts.says (suc p) lt in
+    let once : (get_or table (suc p) unnamed).count ≡ 1 = grind (arith, nat_tests) in
+    other (omega (arith, said, once))
+placed_here g table seen counts marks (suc p) lt h (inr lost) = lost (marks.says (suc p) lt (grind (arith, nat_tests)))

@@ -1,5 +1,5 @@
 -- How modes name programs: of each program how many do, counted up to 255, and the first of them.
-use Rattle.std.specs.Prelude.{◌≡◌, ◌<◌, ◌+◌, ℕ, min, List, length, get_or, slice_get, slice_set, Option, Some, None}
+use Rattle.std.specs.Prelude.{◌≡◌, ◌<◌, ◌+◌, ◌||◌, ℕ, zero, suc, Bool, not, eqb, ltb, min, List, length, get_or, slice_get, slice_set, Option, Some, None}
 use Rattle.htl_text.specs.Nodes.{PlainProgram}
 use Rattle.htl_names.specs.declared.key.Key.{Key}
 use Rattle.htl_names.specs.declared.place.ModeAt.{ModeAt}
@@ -25,6 +25,11 @@ noted table x = noted_at table x (slice_get table x.1)
 -- the mode that a program refines, by the table
 abbrev pub refined_at : List Named → ℕ → Option ModeAt
 refined_at table p = (get_or table p unnamed).mode
+
+-- whether a program is out of place, by how many modes name it, and whether it is reached
+abbrev pub is_misplaced : ℕ → ℕ → Bool → Bool
+is_misplaced zero count is_reached = ltb 0 count
+is_misplaced (suc p) count is_reached = not (eqb count 1) || not is_reached
 
 pub record CountsNamings (g : Graph) (table : List Named) : Type 0 where
   pub len : length table ≡ length g

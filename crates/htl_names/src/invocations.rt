@@ -85,6 +85,8 @@ fn invocation(home: &Home<'_>, node: &InvokeNode) -> Result<Inv, AllocError>
     ensures { IfOk result (λ i. i ≡ invoke_item home.now.source.layout.now (tree_of home.now.source.tree.now) home.now.mode home.now.at node.now) }
 {
     let tasks = Space::Tasks.of(home.at.program, home.at.module, 0);
+    let reads = ends(home, node.reads.as_slice())?;
+    let writes = ends(home, node.writes.as_slice())?;
     Ok(Inv {
         mode: home.mode as u16,
         task: (home.task + home.source.layout.meaning(tasks, node.task.name)) as u16,
@@ -97,8 +99,8 @@ fn invocation(home: &Home<'_>, node: &InvokeNode) -> Result<Inv, AllocError>
             (Some(_), None) => None,
             (None, None) => None,
         },
-        reads: Seq::new(ends(home, node.reads.as_slice())?),
-        writes: Seq::new(ends(home, node.writes.as_slice())?),
+        reads: Seq::new(reads),
+        writes: Seq::new(writes),
     })
 }
 

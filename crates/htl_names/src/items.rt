@@ -107,19 +107,29 @@ pub fn put_modules(source: &Source<'_>, into: &mut Vec<Module>) -> Done
     for k in 0..modules.len() {
         let at = modules[k];
         if let Some(node) = module_at(source.tree, at.program, at.module) {
-            let names = Space::Modes.of(at.program, at.module, 0);
-            let first = before(source, k).modes;
-            into.push(Module {
-                name: node.name.name,
-                parent: match at.parent {
-                    Some(mode) => Some(mode_number(source, mode) as u16),
-                    None => None,
-                },
-                start: (first + source.layout.meaning(names, node.start.name)) as u16,
-            })?;
+            into.push(flat_module(source, k, at, node))?;
         }
     }
     Ok(())
+}
+
+fn flat_module(source: &Source<'_>, number: usize, at: ModuleAt, node: &ModuleNode) -> Module
+    requires there { number ≤ length source.now.layout.now.modules }
+    requires parent { IsNarrowParent at.parent }
+    ensures { result ≡ module_item source.now.layout.now (tree_of source.now.tree.now) number at (module_of node.now) }
+{
+    let names = Space::Modes.of(at.program, at.module, 0);
+    let first = before(source, number).modes;
+    let start = (first + source.layout.meaning(names, node.start.name)) as u16;
+    let parent = match at.parent {
+        Some(mode) => Some(mode_number(source, mode) as u16),
+        None => None,
+    };
+    Module {
+        name: node.name.name,
+        parent,
+        start,
+    }
 }
 
 /// The ports of a mode.
@@ -161,17 +171,25 @@ fn task(alloc: Global, node: &TaskNode, module: u16) -> Result<Task, AllocError>
     requires { size_of node.now.worst.x ≤ 1000000 }
     ensures { IfOk result (λ t. t ≡ task_item «module» (task_of node.now)) }
 {
+    let inputs = types_of(alloc, node.inputs.as_slice())?;
+    let outputs = output_types(alloc, &node.outputs)?;
     Ok(Task {
         name: node.name.name,
         module,
         is_abstract: matches!(node.outputs, OutNodes::Abstract { .. }),
         worst: size_of(node.worst.x),
-        inputs: Seq::new(types_of(alloc, node.inputs.as_slice())?),
-        outputs: Seq::new(match &node.outputs {
-            OutNodes::Concrete { outs } => concrete_types(alloc, outs.as_slice())?,
-            OutNodes::Abstract { outs } => types_of(alloc, outs.as_slice())?,
-        }),
+        inputs: Seq::new(inputs),
+        outputs: Seq::new(outputs),
     })
+}
+
+fn output_types(alloc: Global, outputs: &OutNodes) -> Result<Vec<Ty>, AllocError>
+    ensures { IfOk result (λ v. v.items ≡ types_of (out_params (outs_of outputs.now))) }
+{
+    match outputs {
+        OutNodes::Concrete { outs } => concrete_types(alloc, outs.as_slice()),
+        OutNodes::Abstract { outs } => types_of(alloc, outs.as_slice()),
+    }
 }
 
 fn types_of(alloc: Global, params: &[ParamNode]) -> Result<Vec<Ty>, AllocError>

@@ -1,11 +1,11 @@
 // Places in the tree of a source, what stands there, and the numbers of modules and modes in the tables.
 ghost use Rattle.std.specs.Prelude.{◌≡◌, map, MatchOption, None, Some, ◌≤◌, length};
-ghost use Rattle.htl_text.specs.Nodes.{tree_of, module_of, mode_of, task_of};
+ghost use Rattle.htl_text.specs.Nodes.{tree_of, module_of, mode_of, task_of, switch_of};
 ghost use Rattle.htl_names.specs.Flat.{module_number, modes_before, tasks_before, invokes_before, mode_number};
-ghost use Rattle.htl_names.specs.Order.{modules_at, module_at, tasks_at, modes_at, mode_at, ports_at, invokes_at};
+ghost use Rattle.htl_names.specs.Order.{modules_at, module_at, tasks_at, modes_at, mode_at, ports_at, invokes_at, switches_at};
 
 use crate::tables::{Layout, Source};
-use htl_text::{InvokeNode, ModeNode, ModuleNode, ParamNode, TaskNode, Tree};
+use htl_text::{InvokeNode, ModeNode, ModuleNode, ParamNode, SwitchNode, TaskNode, Tree};
 
 // ---- places
 
@@ -89,6 +89,16 @@ pub fn invokes_at(tree: &Tree, at: ModeAt) -> &[InvokeNode]
 {
     match mode_at(tree, at) {
         Some(node) => node.invokes.as_slice(),
+        None => &[],
+    }
+}
+
+/// The switches of a mode.
+pub fn switches_at(tree: &Tree, at: ModeAt) -> &[SwitchNode]
+    ensures { map switch_of result.now ≡ switches_at (tree_of tree.now) at }
+{
+    match mode_at(tree, at) {
+        Some(node) => node.switches.as_slice(),
         None => &[],
     }
 }

@@ -3,7 +3,7 @@ ghost use Rattle.std.specs.Prelude.{◌≡◌, ◌++◌, OnOk, IfOk, eqb, ◌<�
 ghost use Rattle.htl_text.specs.Nodes.{mode_of, module_of, program_of, tree_of, PlainProgram};
 ghost use Rattle.htl_names.specs.Graph.{naming_rows, targets, graph_by};
 ghost use Rattle.htl_names.specs.Programs.{IsFirstMisplaced, named_program as program_of_mode, named_from, module_naming, program_naming, named_by, IsMisplaced};
-ghost use Rattle.htl_names.specs.Named.{noted, refined_at, CountsNamings, AreRefined};
+ghost use Rattle.htl_names.specs.Named.{noted, refined_at, is_misplaced, CountsNamings, AreRefined};
 ghost use Rattle.htl_names.specs.Reach.{met, met_by, IsMarked, MarksReached};
 ghost use Rattle.htl_names.specs.declared.key.Key.{Key};
 
@@ -210,16 +210,22 @@ pub(crate) fn first_misplaced(
     }
     let seen = reach(alloc, rows)?;
     for p in 0..rows.len() {
-        let is_misplaced = if p == 0 {
-            0 < named[p].count
-        } else {
-            named[p].count != 1 || !seen[p]
-        };
-        if is_misplaced {
+        if is_misplaced(p, named[p].count, seen[p]) {
             return Ok(Some(p as u32));
         }
     }
     Ok(None)
+}
+
+// Whether a program is out of place, by how many modes name it, and whether it is reached.
+fn is_misplaced(p: usize, count: u8, is_reached: bool) -> bool
+    ensures { result ≡ is_misplaced p count is_reached }
+{
+    if p == 0 {
+        0 < count
+    } else {
+        count != 1 || !is_reached
+    }
 }
 
 /// The mode that a program refines.

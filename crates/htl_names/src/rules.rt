@@ -3,7 +3,7 @@ ghost use Rattle.std.specs.Prelude.{◌≡◌, map, slice_get};
 ghost use Rattle.htl_model.specs.Lists.{first_some};
 ghost use Rattle.htl_names.specs.Parents.{orphan_at, orphan_token, parent_in};
 ghost use Rattle.htl_names.specs.Rows.{parent_use_of};
-ghost use Rattle.htl_names.specs.Uses.{unknown_token};
+ghost use Rattle.htl_names.specs.Uses.{above, unknown_token};
 
 use crate::key::{Space, Use};
 use crate::programs::{Named, refined_at};
@@ -18,16 +18,30 @@ pub(crate) fn first_unknown(uses: &[Use], symbols: &Symbols) -> Option<u32>
     ensures { result ≡ first_some (unknown_token symbols.now) uses.now }
 {
     for k in 0..uses.len() {
-        let used = &uses[k];
-        match (symbols.get(&used.key), used.below) {
-            (None, _) => return Some(used.token),
-            (Some(_), None) => {}
-            (Some(n), Some(bound)) => if bound <= n {
-                return Some(used.token);
-            },
+        if let Some(token) = unknown(&uses[k], symbols) {
+            return Some(token);
         }
     }
     None
+}
+
+fn unknown(used: &Use, symbols: &Symbols) -> Option<u32>
+    ensures { result ≡ unknown_token symbols.now used.now }
+{
+    match symbols.get(&used.key) {
+        None => Some(used.token),
+        Some(n) => above(n, used.below, used.token),
+    }
+}
+
+// The token, where a place is not below a bound.
+fn above(n: usize, below: Option<usize>, token: u32) -> Option<u32>
+    ensures { result ≡ above n below token }
+{
+    match below {
+        None => None,
+        Some(bound) => if bound <= n { Some(token) } else { None },
+    }
 }
 
 // ---- values and numbers that are not of their kind
@@ -66,15 +80,14 @@ fn orphan(p: usize, id: &Id, symbols: &Symbols, named: &[Named]) -> Option<u32>
     if p == 0 {
         return Some(id.token);
     }
-    let place = match refined_at(p, named) {
-        None => None,
+    match refined_at(p, named) {
+        None => Some(id.token),
         Some(a) => {
             let key = Space::Invokes.of(a.program, a.module, a.mode).key(id.name);
-            symbols.get(&key)
+            match symbols.get(&key) {
+                None => Some(id.token),
+                Some(_) => None,
+            }
         }
-    };
-    match place {
-        None => Some(id.token),
-        Some(_) => None,
     }
 }

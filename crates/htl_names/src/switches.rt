@@ -9,7 +9,7 @@ ghost use Rattle.htl_names.specs.Flat.{comms_in, flat_switch_function, mode_func
 use crate::Done;
 use crate::functions::{Reads, formula};
 use crate::key::Space;
-use crate::place::{ModeAt, before, mode_at, module_number};
+use crate::place::{ModeAt, before, module_number, switches_at};
 use crate::tables::Source;
 use htl_base::Seq;
 use htl_model::{Function, Switch};
@@ -51,17 +51,15 @@ fn put_mode(
     let module = module_number(source.layout, at.program, at.module);
     let first = before(source, module).modes;
     let modes = Space::Modes.of(at.program, at.module, 0);
-    let nodes = match mode_at(source.tree, at) {
-        Some(node) => node.switches.as_slice(),
-        None => &[],
-    };
+    let nodes = switches_at(source.tree, at);
     for k in 0..nodes.len() {
-        let comms = comms_in(source, &nodes[k].cond)?;
-        let function = condition(source, comms.as_slice(), &nodes[k])?;
+        let node = &nodes[k];
+        let comms = comms_in(source, &node.cond)?;
+        let function = condition(source, comms.as_slice(), node)?;
         functions.push(function)?;
         into.push(Switch {
             mode: mode as u16,
-            target: (first + source.layout.meaning(modes, nodes[k].target.name)) as u16,
+            target: (first + source.layout.meaning(modes, node.target.name)) as u16,
             reads: Seq::new(comms),
         })?;
     }
