@@ -23,45 +23,20 @@ fn functions(alloc: Global, codes: Vec<Code>) -> Result<Vec<Function>, AllocErro
     Ok(found)
 }
 
-fn enter(alloc: Global, anchors: &[Anchors]) -> Result<Vec<u32>, AllocError>
-    ensures { IfOk result (λ v. v.items ≡ map (λ (a : AnchorsOf). a.enter) anchors.now) }
-{
-    let mut found = Vec::new(alloc);
-    for a in anchors {
-        found.push(a.enter)?;
-    }
-    Ok(found)
-}
-
-fn begin(alloc: Global, anchors: &[Anchors]) -> Result<Vec<u32>, AllocError>
-    ensures { IfOk result (λ v. v.items ≡ map (λ (a : AnchorsOf). a.begin) anchors.now) }
-{
-    let mut found = Vec::new(alloc);
-    for a in anchors {
-        found.push(a.begin)?;
-    }
-    Ok(found)
-}
-
-fn decide(alloc: Global, anchors: &[Anchors]) -> Result<Vec<u32>, AllocError>
-    ensures { IfOk result (λ v. v.items ≡ map (λ (a : AnchorsOf). a.decide) anchors.now) }
-{
-    let mut found = Vec::new(alloc);
-    for a in anchors {
-        found.push(a.decide)?;
-    }
-    Ok(found)
-}
-
 // The addresses of all modes, as E code whose instructions are still to come.
 fn addresses(alloc: Global, anchors: &[Anchors]) -> Result<ECode, AllocError>
     ensures enter { IfOk result (λ e. e.enter ≡ map (λ (a : AnchorsOf). a.enter) anchors.now) }
     ensures begin { IfOk result (λ e. e.begin ≡ map (λ (a : AnchorsOf). a.begin) anchors.now) }
     ensures decide { IfOk result (λ e. e.decide ≡ map (λ (a : AnchorsOf). a.decide) anchors.now) }
 {
-    let enter = enter(alloc, anchors)?;
-    let begin = begin(alloc, anchors)?;
-    let decide = decide(alloc, anchors)?;
+    let mut enter = Vec::new(alloc);
+    let mut begin = Vec::new(alloc);
+    let mut decide = Vec::new(alloc);
+    for a in anchors {
+        enter.push(a.enter)?;
+        begin.push(a.begin)?;
+        decide.push(a.decide)?;
+    }
     Ok(ECode {
         enter: Seq::new(enter),
         begin: Seq::new(begin),

@@ -1,5 +1,5 @@
 // The bytes that are left to read.
-ghost use Rattle.std.specs.Prelude.{◌≡◌, ◌≤◌, IfOk, length};
+ghost use Rattle.std.specs.Prelude.{◌≡◌, ◌≤◌, ◌==◌, IfOk, length};
 ghost use Rattle.std.specs.Int.{w16, w32};
 ghost use Rattle.htl_object.specs.Reading.{Gives, byte_at, number_at, limited_count};
 ghost use Rattle.htl_object.specs.Fields.{name_at, type_at, flag_at, value_at, span_at, place_at, owner_at, option_at, init_at};
@@ -43,6 +43,13 @@ impl<'a> Cursor<'a> {
         ensures { result ≡ length self.now }
     {
         self.left.len()
+    }
+
+    /// Whether no byte is left.
+    pub fn is_at_end(&self) -> bool
+        ensures { result ≡ (length self.now == 0) }
+    {
+        self.left.len() == 0
     }
 
     /// The bytes that are left.

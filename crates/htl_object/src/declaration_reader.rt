@@ -86,10 +86,6 @@ fn last_module(before: &[Mode]) -> u16
     }
 }
 
-/// How many modules there are.
-#[derive(Drop)]
-pub struct ModuleCount(pub u16);
-
 // Notes the name of a mode, and tells whether no mode of its owner before has it.
 fn note_mode(
     noted: &mut Names,
@@ -104,24 +100,24 @@ fn note_mode(
     noted.add(module, name)
 }
 
-impl NotedItem<ModuleCount, Names> for Mode {
+impl NotedItem<u16, Names> for Mode {
     ghost use Rattle.std.specs.Prelude.{◌≡◌};
     ghost use Rattle.htl_object.specs.Modes.{mode_at};
     ghost use Rattle.htl_object.specs.Names.{mode_names};
 
-    ghost item_at = { λ around. mode_at around.0 };
+    ghost item_at = { mode_at };
 
     ghost notes = { λ noted before. noted ≡ mode_names before };
 
     fn read(
         cursor: &mut Cursor<'_>,
-        around: &ModuleCount,
+        modules: &u16,
         before: &[Mode],
         noted: &mut Names,
     ) -> Result<Mode, Stop> {
         let left = cursor.left();
         let name = cursor.name()?;
-        let module = cursor.owner(around.0 as usize, last_module(before))?;
+        let module = cursor.owner(*modules as usize, last_module(before))?;
         if !note_mode(noted, before, module, name)? {
             return Err(bad(MalKind::Spelling, left));
         }
@@ -229,10 +225,6 @@ fn last_mode(before: &[Port]) -> u16
     }
 }
 
-/// How many modes there are.
-#[derive(Drop)]
-pub struct ModeCount(pub u16);
-
 // Notes the name of a port, and tells whether no port of its owner before has it.
 fn note_port(noted: &mut Names, _before: &[Port], mode: u16, name: Name) -> Result<bool, AllocError>
     requires { noted.old ≡ port_names _before.now }
@@ -242,24 +234,24 @@ fn note_port(noted: &mut Names, _before: &[Port], mode: u16, name: Name) -> Resu
     noted.add(mode, name)
 }
 
-impl NotedItem<ModeCount, Names> for Port {
+impl NotedItem<u16, Names> for Port {
     ghost use Rattle.std.specs.Prelude.{◌≡◌};
     ghost use Rattle.htl_object.specs.Ports.{port_at};
     ghost use Rattle.htl_object.specs.Names.{port_names};
 
-    ghost item_at = { λ around. port_at around.0 };
+    ghost item_at = { port_at };
 
     ghost notes = { λ noted before. noted ≡ port_names before };
 
     fn read(
         cursor: &mut Cursor<'_>,
-        around: &ModeCount,
+        modes: &u16,
         before: &[Port],
         noted: &mut Names,
     ) -> Result<Port, Stop> {
         let left = cursor.left();
         let name = cursor.name()?;
-        let mode = cursor.owner(around.0 as usize, last_mode(before))?;
+        let mode = cursor.owner(*modes as usize, last_mode(before))?;
         if !note_port(noted, before, mode, name)? {
             return Err(bad(MalKind::Spelling, left));
         }

@@ -10,7 +10,7 @@ use crate::assembly::assemble;
 use crate::block_reader::blocks;
 use crate::code_reader::e_code;
 use crate::cursor::{Cursor, bad};
-use crate::declaration_reader::{ModeCount, ModuleAround, ModuleCount, TaskAround, named_items};
+use crate::declaration_reader::{ModuleAround, TaskAround, named_items};
 use crate::invocation_reader::{InvAround, SwitchAround};
 use crate::items::{items, noted_items};
 use crate::lists::{Counts, Lists};
@@ -39,6 +39,7 @@ pub enum DecodeFault {
 fn counts(cursor: &mut Cursor<'_>) -> Result<Counts, Stop>
     ensures reads { Gives (λ x. x) (counts_at cursor.old) cursor.new result }
     ensures few { IfOk result (λ n. n.tasks ≤ 4096) }
+    ensures few_comms { IfOk result (λ n. n.comms ≤ 1024) }
 {
     let comms = cursor.count(MAX_COMMUNICATORS)?;
     let modes = cursor.count(MAX_MODES)?;
@@ -97,10 +98,10 @@ fn front(alloc: Global, cursor: &mut Cursor<'_>) -> Result<Lists, Stop>
     let platform = cursor.head()?;
     let n = counts(cursor)?;
     let comms = named_items(alloc, cursor, &(), n.comms)?;
-    let modes = named_items(alloc, cursor, &ModuleCount(n.modules), n.modes)?;
+    let modes = named_items(alloc, cursor, &n.modules, n.modes)?;
     let around = ModuleAround { modes: &modes };
     let modules = named_items(alloc, cursor, &around, n.modules)?;
-    let ports = named_items(alloc, cursor, &ModeCount(n.modes), n.ports)?;
+    let ports = named_items(alloc, cursor, &n.modes, n.ports)?;
     let around = TaskAround {
         alloc,
         modules: n.modules,
@@ -150,9 +151,8 @@ fn object(alloc: Global, cursor: &mut Cursor<'_>) -> Result<Object, Stop>
     let lists = front(alloc, cursor)?;
     let o = assemble(alloc, lists)?;
     let schedules = tail(alloc, cursor, &o.platform, &o.tables)?;
-    let left = cursor.left();
-    if left != 0 {
-        return Err(bad(MalKind::Trailing, left));
+    if !cursor.is_at_end() {
+        return Err(bad(MalKind::Trailing, cursor.left()));
     }
     Ok(Object {
         tables: o.tables,

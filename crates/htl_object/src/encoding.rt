@@ -1,5 +1,5 @@
 // An object to its bytes.
-ghost use Rattle.std.specs.Prelude.{◌≡◌, ◌++◌, ◌<◌, length, IfOk, OnOk, Ok, All};
+ghost use Rattle.std.specs.Prelude.{◌≡◌, ◌++◌, ◌<◌, [], length, IfOk, OnOk, Ok, All};
 ghost use Rattle.std.specs.List.{flat_map};
 ghost use Rattle.htl_model.specs.Tables.{tables_of};
 ghost use Rattle.htl_model.specs.Lists.{list_to};
@@ -8,7 +8,7 @@ ghost use Rattle.htl_object.specs.Lists.{anchors_of, counts_in};
 ghost use Rattle.htl_object.specs.Objects.{object_bytes, object_in, KeepsTypes, IsObject};
 ghost use Rattle.htl_object.specs.Items.{IsSInstr};
 ghost use Rattle.htl_object.specs.Ranges.{IsInRange, IsShort};
-ghost use Rattle.htl_object.specs.Versions.{head_bytes, tail_bytes, IsPlatformName};
+ghost use Rattle.htl_object.specs.Versions.{head_bytes, schedules_bytes, tail_bytes, IsPlatformName};
 
 use crate::block_writer::put_blocks;
 use crate::lists::Anchors;
@@ -36,6 +36,23 @@ fn put_head(out: &mut Vec<u8>, platform: &Option<Name>) -> Result<(), AllocError
 }
 
 // The schedules one by one, or equal ones once where the object names a platform.
+fn put_schedules(
+    alloc: Global,
+    out: &mut Vec<u8>,
+    platform: &Option<Name>,
+    schedules: &[Schedule],
+) -> Result<(), AllocError>
+    requires { All IsShort schedules.now }
+    ensures spelled { OnOk result (out.new.items ≡ out.old.items ++ schedules_bytes platform.now schedules.now) }
+    ensures types { OnOk result (All (λ s. All IsSInstr s.instrs) schedules.now) }
+{
+    match platform {
+        None => put_all(out, schedules),
+        Some(_) => put_blocks(alloc, out, schedules),
+    }
+}
+
+// How many schedules there are, and these.
 fn put_tail(
     alloc: Global,
     out: &mut Vec<u8>,
@@ -47,24 +64,25 @@ fn put_tail(
     ensures types { OnOk result (All (λ s. All IsSInstr s.instrs) schedules.now) }
 {
     put_count(out, schedules.len())?;
-    match platform {
-        None => put_all(out, schedules),
-        Some(_) => put_blocks(alloc, out, schedules),
-    }
+    put_schedules(alloc, out, platform, schedules)
 }
 
 // The number of items of each list.
 fn put_counts(out: &mut Vec<u8>, parts: &Parts) -> Result<(), AllocError>
     ensures { OnOk result (out.new.items ≡ out.old.items ++ counts_bytes (counts_in (tables_of parts.now))) }
 {
-    put_count(out, parts.comms.as_slice().len())?;
-    put_count(out, parts.modes.as_slice().len())?;
-    put_count(out, parts.modules.as_slice().len())?;
-    put_count(out, parts.ports.as_slice().len())?;
-    put_count(out, parts.tasks.as_slice().len())?;
-    put_count(out, parts.invs.as_slice().len())?;
-    put_count(out, parts.switches.as_slice().len())?;
-    Ok(())
+    put_all(
+        out,
+        &[
+            parts.comms.as_slice().len(),
+            parts.modes.as_slice().len(),
+            parts.modules.as_slice().len(),
+            parts.ports.as_slice().len(),
+            parts.tasks.as_slice().len(),
+            parts.invs.as_slice().len(),
+            parts.switches.as_slice().len(),
+        ],
+    )
 }
 
 // The addresses of each mode.
@@ -89,27 +107,27 @@ fn put_anchors(out: &mut Vec<u8>, code: &ECode, modes: usize) -> Result<(), Allo
     Ok(())
 }
 
-fn encoded(alloc: Global, o: &Object) -> Result<Vec<u8>, AllocError>
-    requires { IsInRange o.now }
-    ensures spelled { IfOk result (λ bytes. bytes.items ≡ object_bytes o.now) }
-    ensures types { IfOk result (λ _. KeepsTypes o.now) }
+// Puts the spelling of an object where nothing stands yet.
+fn put_object(alloc: Global, out: &mut Vec<u8>, o: &Object) -> Result<(), AllocError>
+    requires range { IsInRange o.now }
+    requires empty { out.old.items ≡ [] }
+    ensures spelled { OnOk result (out.new.items ≡ object_bytes o.now) }
+    ensures types { OnOk result (KeepsTypes o.now) }
 {
-    let mut out = Vec::new(alloc);
     let parts = o.tables.parts();
-    put_head(&mut out, &o.platform)?;
-    put_counts(&mut out, parts)?;
-    put_all(&mut out, parts.comms.as_slice())?;
-    put_all(&mut out, parts.modes.as_slice())?;
-    put_all(&mut out, parts.modules.as_slice())?;
-    put_all(&mut out, parts.ports.as_slice())?;
-    put_all(&mut out, parts.tasks.as_slice())?;
-    put_all(&mut out, parts.invs.as_slice())?;
-    put_all(&mut out, parts.switches.as_slice())?;
-    put_all(&mut out, parts.functions.as_slice())?;
-    put_anchors(&mut out, &o.ecode, parts.modes.as_slice().len())?;
-    put_long_list(&mut out, o.ecode.instrs.as_slice())?;
-    put_tail(alloc, &mut out, &o.platform, o.schedules.as_slice())?;
-    Ok(out)
+    put_head(out, &o.platform)?;
+    put_counts(out, parts)?;
+    put_all(out, parts.comms.as_slice())?;
+    put_all(out, parts.modes.as_slice())?;
+    put_all(out, parts.modules.as_slice())?;
+    put_all(out, parts.ports.as_slice())?;
+    put_all(out, parts.tasks.as_slice())?;
+    put_all(out, parts.invs.as_slice())?;
+    put_all(out, parts.switches.as_slice())?;
+    put_all(out, parts.functions.as_slice())?;
+    put_anchors(out, &o.ecode, parts.modes.as_slice().len())?;
+    put_long_list(out, o.ecode.instrs.as_slice())?;
+    put_tail(alloc, out, &o.platform, o.schedules.as_slice())
 }
 
 /// The one spelling of an object in range. It says this object: decoded, it is this object again, or want of memory. Memory
@@ -121,8 +139,9 @@ pub fn encode(alloc: Global, o: &Object) -> Result<Vec<u8>, Memory>
     ensures object { IfOk result (λ _. IsObject o.now) }
     ensures again { IfOk result (λ bytes. object_in bytes.items ≡ Ok o.now) }
 {
-    match encoded(alloc, o) {
-        Ok(bytes) => Ok(bytes),
+    let mut bytes = Vec::new(alloc);
+    match put_object(alloc, &mut bytes, o) {
+        Ok(()) => Ok(bytes),
         Err(_) => Err(Memory),
     }
 }

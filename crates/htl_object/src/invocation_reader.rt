@@ -1,5 +1,5 @@
 // Invocations and switches out of bytes, each read by what stands before it.
-ghost use Rattle.std.specs.Prelude.{◌≡◌, ◌<◌, ◌≤◌, ◌==◌, ◌&&◌, true, count_by};
+ghost use Rattle.std.specs.Prelude.{◌≡◌, ◌<◌, ◌≤◌, ◌==◌, ◌&&◌, true, length, count_by};
 ghost use Rattle.std.specs.List.{list_any};
 ghost use Rattle.htl_object.specs.Reading.{Gives};
 ghost use Rattle.htl_object.specs.Invocations.{is_port_of, is_inv_mode, is_inv_task, is_parent, last_switch_mode, is_target, is_read};
@@ -87,22 +87,18 @@ fn is_inv_mode(modes: usize, noted: &InvNotes, before: &[Inv], mode: u16) -> boo
         && count_in(noted, before, mode) < MAX_MODE_INVOCATIONS
 }
 
-fn is_invoked(noted: &InvNotes, before: &[Inv], task: u16) -> bool
-    requires { CountsMode noted.now before.now }
-    ensures { result ≡ list_any (λ i. (i.mode == noted.now.mode) && (i.task == task)) before.now }
+fn is_invoked(noted: &InvNotes, _before: &[Inv], task: u16) -> bool
+    requires noted { CountsMode noted.now _before.now }
+    requires few { task < 4096 }
+    ensures { result ≡ list_any (λ i. (i.mode == noted.now.mode) && (i.task == task)) _before.now }
 {
-    if (task as usize) < noted.invoked.len() {
-        noted.invoked[task as usize]
-    } else {
-        before
-            .iter()
-            .any(|i| i.mode == noted.mode && i.task == task)
-    }
+    noted.invoked[task as usize]
 }
 
 // The task is one of the mode's module, and the mode doesn't invoke it yet.
 fn is_inv_task(modes: &[Mode], tasks: &[Task], noted: &InvNotes, before: &[Inv], task: u16) -> bool
-    requires { CountsMode noted.now before.now }
+    requires noted { CountsMode noted.now before.now }
+    requires few { length tasks.now ≤ 4096 }
     ensures { result ≡ is_inv_task modes.now tasks.now before.now noted.now.mode task }
 {
     match tasks.get(task as usize) {
@@ -132,6 +128,7 @@ pub struct InvAround<'a> {
     pub modes: &'a [Mode],
     pub tasks: &'a [Task],
     pub ports: &'a [Port],
+    ghost few: { length tasks.now ≤ 4096 },
 }
 
 impl<'a> NotedItem<InvAround<'a>, InvNotes> for Inv {
@@ -203,19 +200,17 @@ fn is_target(modes: &[Mode], mode: u16, target: u16) -> bool
     }
 }
 
-fn is_already_read(noted: &ReadMarks, before: &[u16], comm: u16) -> bool
-    requires { MarksRead noted.now.marks before.now }
-    ensures { result ≡ list_any (λ c. c == comm) before.now }
+fn is_already_read(noted: &ReadMarks, _before: &[u16], comm: u16) -> bool
+    requires noted { MarksRead noted.now.marks _before.now }
+    requires few { comm < 1024 }
+    ensures { result ≡ list_any (λ c. c == comm) _before.now }
 {
-    if (comm as usize) < noted.marks.len() {
-        noted.marks[comm as usize]
-    } else {
-        before.iter().any(|c| *c == comm)
-    }
+    noted.marks[comm as usize]
 }
 
 fn is_read(comms: u16, noted: &ReadMarks, before: &[u16], comm: u16) -> bool
-    requires { MarksRead noted.now.marks before.now }
+    requires noted { MarksRead noted.now.marks before.now }
+    requires few { comms ≤ 1024 }
     ensures { result ≡ is_read comms before.now comm }
 {
     comm < comms && !is_already_read(noted, before, comm)
@@ -223,7 +218,10 @@ fn is_read(comms: u16, noted: &ReadMarks, before: &[u16], comm: u16) -> bool
 
 /// How many communicators there are.
 #[derive(Drop)]
-pub struct CommCount(pub u16);
+pub struct CommCount {
+    pub comms: u16,
+    ghost few: { comms ≤ 1024 },
+}
 
 impl NotedItem<CommCount, ReadMarks> for u16 {
     ghost use Rattle.std.specs.Prelude.{ℕ};
@@ -233,7 +231,7 @@ impl NotedItem<CommCount, ReadMarks> for u16 {
     ghost use Rattle.htl_object.specs.Reading.{field_at, number_at};
     ghost use Rattle.htl_object.specs.Invocations.{is_read};
 
-    ghost item_at = { λ around before. field_at Index (is_read around.0 before) (number_at w16) };
+    ghost item_at = { λ around before. field_at Index (is_read around.comms before) (number_at w16) };
 
     ghost notes = { λ noted before. MarksRead noted.marks before };
 
@@ -245,7 +243,7 @@ impl NotedItem<CommCount, ReadMarks> for u16 {
     ) -> Result<u16, Stop> {
         let left = cursor.left();
         let n = cursor.u16()?;
-        if !is_read(around.0, noted, before, n) {
+        if !is_read(around.comms, noted, before, n) {
             return Err(bad(MalKind::Index, left));
         }
         noted.mark(n);
@@ -259,6 +257,7 @@ pub struct SwitchAround<'a> {
     pub alloc: Global,
     pub comms: u16,
     pub modes: &'a [Mode],
+    ghost few: { comms ≤ 1024 },
 }
 
 impl<'a> Item<SwitchAround<'a>> for Switch {
@@ -279,13 +278,10 @@ impl<'a> Item<SwitchAround<'a>> for Switch {
             return Err(bad(MalKind::Index, left));
         }
         let mut noted = ReadMarks::new();
-        let reads = noted_list(
-            around.alloc,
-            cursor,
-            MAX_ARGUMENTS,
-            &CommCount(around.comms),
-            &mut noted,
-        )?;
+        let count = CommCount {
+            comms: around.comms,
+        };
+        let reads = noted_list(around.alloc, cursor, MAX_ARGUMENTS, &count, &mut noted)?;
         Ok(Switch {
             mode,
             target,

@@ -1,5 +1,6 @@
 // How many functions and schedules the tables ask for.
-ghost use Rattle.std.specs.Prelude.{◌≡◌, ◌<◌, ◌≤◌, ◌^◌, ◌+◌, ◌==◌, ℕ, min, length, get_or, cond, count_by, sum_by};
+ghost use Rattle.std.specs.Prelude.{◌≡◌, ◌<◌, ◌≤◌, ◌^◌, ◌+◌, ◌==◌, ◌&&◌, ℕ, is_none, min, length, get_or, cond, count_by, sum_by};
+ghost use Rattle.htl_model.specs.Frames.{frame_limit, nodes};
 ghost use Rattle.htl_object.specs.Modules.{is_mode_of};
 ghost use Rattle.htl_object.specs.Files.{is_root_number as is_root, selections_to, selections_of, widest_to, positions_to, are_few, is_node_count, counted_functions as function_count};
 
@@ -23,15 +24,12 @@ fn mode_count(modes: &[Mode], k: usize) -> usize
     modes.iter().filter(|q| q.module as usize == k).count()
 }
 
-fn inv_count(counts: &[usize], invs: &[Inv], mode: usize) -> usize
-    requires { (m : ℕ) → m < length counts.now → get_or counts.now m 0 ≡ count_by (λ i. i.mode == m) invs.now }
-    ensures { result ≡ count_by (λ i. i.mode == mode) invs.now }
+fn inv_count(counts: &[usize], _invs: &[Inv], mode: usize) -> usize
+    requires counted { (m : ℕ) → m < length counts.now → get_or counts.now m 0 ≡ count_by (λ i. i.mode == m) _invs.now }
+    requires within { mode < length counts.now }
+    ensures { result ≡ count_by (λ i. i.mode == mode) _invs.now }
 {
-    if mode < counts.len() {
-        counts[mode]
-    } else {
-        invs.iter().filter(|i| i.mode as usize == mode).count()
-    }
+    counts[mode]
 }
 
 // The number of selections, up to 1,025.
@@ -62,7 +60,8 @@ fn count(modes: &[Mode], modules: &[Module]) -> u64
 
 // The most invocations of a mode of the module.
 fn widest(modes: &[Mode], counts: &[usize], invs: &[Inv], k: usize) -> usize
-    requires { (m : ℕ) → m < length counts.now → get_or counts.now m 0 ≡ count_by (λ i. i.mode == m) invs.now }
+    requires counted { (m : ℕ) → m < length counts.now → get_or counts.now m 0 ≡ count_by (λ i. i.mode == m) invs.now }
+    requires few { length modes.now ≤ length counts.now }
     ensures { result ≡ widest_to modes.now invs.now k (length modes.now) }
 {
     let mut found = 0;
@@ -76,6 +75,7 @@ fn widest(modes: &[Mode], counts: &[usize], invs: &[Inv], k: usize) -> usize
 
 // The most positions of a selection, up to 129.
 fn positions(modes: &[Mode], modules: &[Module], invs: &[Inv]) -> usize
+    requires { length modes.now ≤ 256 }
     ensures { result ≡ min (positions_to modes.now modules.now invs.now (length modules.now)) 129 }
 {
     let mut counts = [0usize; MAX_MODES];
@@ -93,10 +93,21 @@ fn positions(modes: &[Mode], modules: &[Module], invs: &[Inv]) -> usize
 
 // There are at most `MAX_SELECTIONS` selections, and none has more than `MAX_POSITIONS` positions.
 fn are_few(modes: &[Mode], modules: &[Module], invs: &[Inv]) -> bool
+    requires { length modes.now ≤ 256 }
     ensures { result ≡ are_few modes.now modules.now invs.now }
 {
     count(modes, modules) <= MAX_SELECTIONS as u64
         && positions(modes, modules, invs) <= MAX_POSITIONS
+}
+
+// A frame of the tables has so many nodes, and no limit of frames is exceeded.
+fn has_nodes(t: &Tables, n: u16) -> bool
+    ensures { result ≡ (is_none (frame_limit t.now) && (n == nodes t.now)) }
+{
+    match t.frame_limits() {
+        Ok(()) => n as u32 == t.nodes(),
+        Err(_) => false,
+    }
 }
 
 /// A frame of the tables has so many nodes, and no limit on selections, positions or frames is exceeded.
@@ -104,17 +115,8 @@ pub fn is_node_count(t: &Tables, n: u16) -> bool
     ensures { result ≡ is_node_count t.now n }
 {
     let parts = t.parts();
-    if !are_few(
-        parts.modes.as_slice(),
-        parts.modules.as_slice(),
-        parts.invs.as_slice(),
-    ) {
-        return false;
-    }
-    match t.frame_limits() {
-        Ok(()) => n as u32 == t.nodes(),
-        Err(_) => false,
-    }
+    let modes = parts.modes.as_slice();
+    are_few(modes, parts.modules.as_slice(), parts.invs.as_slice()) && has_nodes(t, n)
 }
 
 /// One for each output of a concrete task, and one for each switch, up to a limit.

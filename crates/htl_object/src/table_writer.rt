@@ -1,5 +1,7 @@
 // Items of tables at the end of bytes.
-use crate::writer::{Spelled, put_flag, put_list, put_name, put_option, put_value, put16, put32};
+use crate::writer::{
+    Spelled, put_count, put_flag, put_list, put_name, put_option, put_value, put16, put32,
+};
 use htl_base::Ty;
 use htl_model::{Comm, End, Inv, Mode, Module, Port, Switch, Task};
 use std::alloc::AllocError;
@@ -156,6 +158,19 @@ impl Spelled for u16 {
 
     fn put(&self, out: &mut Vec<u8>) -> Result<(), AllocError> {
         put16(out, *self)
+    }
+}
+
+// A count, by its two low bytes.
+impl Spelled for usize {
+    ghost use Rattle.std.specs.Int.{w16, to_be_bytes};
+
+    ghost spelling = { to_be_bytes w16 };
+
+    ghost keeps = { λ _. Unit {0} };
+
+    fn put(&self, out: &mut Vec<u8>) -> Result<(), AllocError> {
+        put_count(out, *self)
     }
 }
 

@@ -2,7 +2,7 @@ use Rattle.std.proofs.Common.{◌≡◌, [], Ok, refl, arith}
 use Rattle.htl_object.specs.Reading.{items_at}
 use Rattle.htl_object.specs.Ports.{task_at}
 use Rattle.htl_object.proofs.Loops.{onward}
-use Rattle.htl_object.proofs.Sizes.{tasks-few}
+use Rattle.htl_object.proofs.Sizes.{items-length, tasks-few}
 use Rattle.htl_object.proofs.decoding.front.Goals as goal
 
 pub function_count-count-requires : goal.function_count-count-requires
@@ -11,6 +11,13 @@ function_count-count-requires c =
     let e : items_at (task_at n.modules) n.tasks [] c.named_items-4.new.cursor ≡ Ok (c.in_ok-tasks.tasks.items, c.named_items-5.new.cursor) = c.in_ok-tasks.ensures in
     let few = tasks-few n.modules n.tasks [] c.named_items-4.new.cursor c.in_ok-tasks.tasks.items c.named_items-5.new.cursor e in
     rw c.deref-6.ensures.value (omega (arith, few, c.in_ok-n.ensures.few))
+
+pub invariant_of-around : goal.invariant_of-around
+invariant_of-around c =
+    let n = c.in_ok-n.n in
+    let e : items_at (task_at n.modules) n.tasks [] c.named_items-4.new.cursor ≡ Ok (c.in_ok-tasks.tasks.items, c.named_items-5.new.cursor) = c.in_ok-tasks.ensures in
+    let size = items-length (task_at n.modules) n.tasks [] c.named_items-4.new.cursor c.in_ok-tasks.tasks.items c.named_items-5.new.cursor e in
+    rw c.deref-3.ensures.value (omega (arith, size, c.in_ok-n.ensures.few))
 
 pub returns : goal.returns
 returns c =

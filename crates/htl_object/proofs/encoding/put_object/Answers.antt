@@ -1,11 +1,12 @@
 use Rattle.std.proofs.Common.{◌≡◌, ℕ, List, [], ◌++◌, map, length, sym, ap, subst, ◌∙◌}
 use Rattle.std.specs.List.{flat_map}
 use Rattle.std.proofs.lemmas.List.Elements.{All-map}
+use Rattle.std.proofs.lemmas.Result.{on_ok_weaker}
 use Rattle.htl_model.specs.Lists.{list_to}
 use Rattle.htl_model.specs.Tables.{Tables, fun_of, tables_of}
 use Rattle.htl_object.proofs.Appends.{appends}
 use Rattle.htl_object.proofs.Spelled.{functions_spelled, enter_kept, begin_kept, decide_kept}
-use Rattle.htl_object.proofs.encoding.encoded.Goals as goal
+use Rattle.htl_object.proofs.encoding.put_object.Goals as goal
 use Rattle.htl_object.specs.Comms.{comm_bytes}
 use Rattle.htl_object.specs.Files.{counts_bytes, anchors_bytes, e_code_bytes}
 use Rattle.htl_object.specs.Instructions.{code_bytes}
@@ -19,6 +20,7 @@ use Rattle.htl_object.specs.Versions.{head_bytes, tail_bytes}
 
 pub returns-clause-spelled : goal.returns-clause-spelled
 returns-clause-spelled c =
+    on_ok_weaker c.put_tail.result (λ spelled.
     let o = c.args.o.now in
     let p = c.parts-parts.result.now in
     let t = tables_of p in
@@ -59,7 +61,7 @@ returns-clause-spelled c =
     let f11 : o11 ≡ o10 ++ (flat_map code_bytes (codes_of (map fun_of p.functions))) = (rw c.as_slice-8.ensures at c.in_ok-put_all-8.ensures.spelled) ∙ ap (λ (x : List ℕ). o10 ++ x) (functions_spelled p.functions) in
     let f12 : o12 ≡ o11 ++ (flat_map anchors_bytes (list_to (anchors_of o.ecode) ms)) = (rw c.as_slice-9.ensures at c.in_ok-put_anchors.ensures.spelled) in
     let f13 : o13 ≡ o12 ++ (e_code_bytes o.ecode.instrs) = (rw c.as_slice-10.ensures at c.in_ok-put_long_list.ensures.spelled) in
-    let f14 : o14 ≡ o13 ++ (tail_bytes o.platform o.schedules) = (rw c.as_slice-11.ensures at c.in_ok-put_tail.ensures.spelled) in
+    let f14 : o14 ≡ o13 ++ (tail_bytes o.platform o.schedules) = (rw c.as_slice-11.ensures at spelled) in
     let e13 : o13 ≡ o12 ++ t13 = f13 in
     let e12 : o13 ≡ o11 ++ t12 = appends o11 o12 o13 (flat_map anchors_bytes (list_to (anchors_of o.ecode) ms)) t13 f12 e13 in
     let e11 : o13 ≡ o10 ++ t11 = appends o10 o11 o13 (flat_map code_bytes (codes_of (map fun_of p.functions))) t12 f11 e12 in
@@ -71,12 +73,14 @@ returns-clause-spelled c =
     let e5 : o13 ≡ o4 ++ t5 = appends o4 o5 o13 (flat_map mode_bytes p.modes) t6 f5 e6 in
     let e4 : o13 ≡ o3 ++ t4 = appends o3 o4 o13 (flat_map comm_bytes p.comms) t5 f4 e5 in
     let e3 : o13 ≡ o2 ++ t3 = appends o2 o3 o13 (counts_bytes (counts_in t)) t4 f3 e4 in
-    let start : o2 ≡ [] ++ head_bytes o.platform = c.in_ok-put_head.ensures.spelled ∙ ap (λ (x : List ℕ). x ++ head_bytes o.platform) c.new-out.ensures.items in
+    let start : o2 ≡ [] ++ head_bytes o.platform = c.in_ok-put_head.ensures.spelled ∙ ap (λ (x : List ℕ). x ++ head_bytes o.platform) c.requires.empty in
     f14 ∙ ap (λ (x : List ℕ). x ++ t14) (appends [] o2 o13 (head_bytes o.platform) t3 start e3)
-    ∙ ap (λ (x : Tables). object_bytes (record { tables = x; ecode = o.ecode; schedules = o.schedules; platform = o.platform })) (sym c.parts-parts.ensures.value)
+    ∙ ap (λ (x : Tables). object_bytes (record { tables = x; ecode = o.ecode; schedules = o.schedules; platform = o.platform })) (sym c.parts-parts.ensures.value))
+    c.put_tail.ensures.spelled
 
 pub returns-clause-types : goal.returns-clause-types
 returns-clause-types c =
+    on_ok_weaker c.put_tail.result (λ schedules.
     let o = c.args.o.now in
     let p = c.parts-parts.result.now in
     let typed : KeepsTypes (record { tables = tables_of p; ecode = o.ecode; schedules = o.schedules; platform = o.platform }) = (
@@ -90,12 +94,13 @@ returns-clause-types c =
       ports = rw c.as_slice-4.ensures at c.in_ok-put_all-4.ensures.types;
       tasks = rw c.as_slice-5.ensures at c.in_ok-put_all-5.ensures.types;
       functions = All-map KeepsFunction fun_of p.functions (rw c.as_slice-8.ensures at c.in_ok-put_all-8.ensures.types);
-      enter = enter_kept o.ecode n (c.requires.enter ∙ same) anchors;
-      begin = begin_kept o.ecode n (c.requires.begin ∙ same) anchors;
-      decide = decide_kept o.ecode n (c.requires.decide ∙ same) anchors;
+      enter = enter_kept o.ecode n (c.requires.range.enter ∙ same) anchors;
+      begin = begin_kept o.ecode n (c.requires.range.begin ∙ same) anchors;
+      decide = decide_kept o.ecode n (c.requires.range.decide ∙ same) anchors;
       instrs = rw c.as_slice-10.ensures at c.in_ok-put_long_list.ensures.types;
-      schedules = rw c.as_slice-11.ensures at c.in_ok-put_tail.ensures.types;
+      schedules = rw c.as_slice-11.ensures at schedules;
       platform = c.in_ok-put_head.ensures.types;
     }
     ) in
-    subst (λ (x : Tables). KeepsTypes (record { tables = x; ecode = o.ecode; schedules = o.schedules; platform = o.platform })) (sym c.parts-parts.ensures.value) typed
+    subst (λ (x : Tables). KeepsTypes (record { tables = x; ecode = o.ecode; schedules = o.schedules; platform = o.platform })) (sym c.parts-parts.ensures.value) typed)
+    c.put_tail.ensures.types

@@ -1,6 +1,0 @@
-use Rattle.std.proofs.Common.{◌≡◌, map, take}
-use Rattle.htl_object.specs.declared.lists.Anchors.{Anchors}
-use Rattle.htl_object.proofs.assembly.decide.Given as goal
-
-abbrev pub invariant-loop-a : goal.invariant-loop-a
-invariant-loop-a l = l.found.items ≡ map (λ (a : Anchors). a.decide) (take l.a-index l.anchors)

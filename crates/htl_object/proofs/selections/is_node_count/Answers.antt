@@ -1,0 +1,7 @@
+use Rattle.std.proofs.Common.{length, ap, arith}
+use Rattle.htl_model.specs.Tables.{Tables}
+use Rattle.htl_object.proofs.selections.is_node_count.Goals as goal
+
+pub are_few-requires : goal.are_few-requires
+are_few-requires c =
+    omega (arith, c.parts-parts.ensures.ranges.few_modes, ap length c.as_slice-modes.ensures, ap (λ (t : Tables). length t.modes) c.parts-parts.ensures.value)
