@@ -1,6 +1,6 @@
 -- One item more of the lists that are made for each invocation and for each task.
-use Rattle.std.proofs.Common.{◌≡◌, ◌<◌, ◌+◌, ℕ, ℤ, zero, suc, List, [], ◌∷◌, ◌++◌, Vec, Global, Some, length, map, take, get_or, ap, sym, ◌∙◌, refl, arith}
-use Rattle.std.proofs.lemmas.List.{map-append}
+use Rattle.std.proofs.Common.{◌≡◌, ◌<◌, ◌+◌, ℕ, ℤ, suc, List, [], ◌∷◌, ◌++◌, Vec, Global, Some, length, map, take, get_or, ap, sym, ◌∙◌, arith}
+use Rattle.std.proofs.lemmas.List.{map-append, map_more}
 use Rattle.std.proofs.lemmas.Option.{slice_get-get_or}
 use Rattle.htl_model.specs.declared.parts.Inv.{Inv}
 use Rattle.htl_model.specs.declared.parts.Task.{Task}
@@ -11,18 +11,7 @@ pub rows_more : (f : Inv → List ℤ) (rows after : List (Vec ℤ Global)) (row
     → map (λ (r : Vec ℤ Global). r.items) rows ≡ map f (take k invs) → map (λ (r : Vec ℤ Global). r.items) after ≡ map f (take (k + 1) invs)
 rows_more f rows after row invs k d less more is before =
     let items : Vec ℤ Global → List ℤ = λ r. r.items in
-    let next : suc k ≡ k + 1 = omega arith in
-    ap (map items) more ∙ map-append items rows (row ∷ []) ∙ ap (λ xs. xs ++ row.items ∷ []) before ∙ ap (λ r. map f (take k invs) ++ r ∷ []) is
-    ∙ one invs k less ∙ ap (λ (n : ℕ). map f (take n invs)) next
-  where
-    none : (xs : List Inv) → [] ≡ map f (take 0 xs)
-    none [] = refl
-    none (y ∷ ys) = refl
-
-    one : (xs : List Inv) (k : ℕ) → k < length xs → map f (take k xs) ++ f (get_or xs k d) ∷ [] ≡ map f (take (suc k) xs)
-    one [] k less = absurd (omega (arith, less))
-    one (y ∷ ys) zero less = ap (λ zs. f y ∷ zs) (none ys)
-    one (y ∷ ys) (suc k) less = ap (λ zs. f y ∷ zs) (one ys k (omega (arith, less)))
+    ap (map items) more ∙ map-append items rows (row ∷ []) ∙ ap (λ xs. xs ++ row.items ∷ []) before ∙ ap (λ r. map f (take k invs) ++ r ∷ []) is ∙ sym (map_more f invs k d less)
 
 pub sums_more : (ts : List Task) (k sum : ℕ) (list after : List ℕ) → after ≡ list ++ sum ∷ [] → list ≡ list_to (λ n. count_before n ts) k → sum ≡ count_before k ts
     → after ≡ list_to (λ n. count_before n ts) (k + 1)
