@@ -3,7 +3,7 @@ use htl_base::Time;
 use htl_ecode::EInstr;
 
 /// A block that is to begin.
-#[derive(Clone, Copy, PartialEq, Eq, Debug)]
+#[derive(Clone, Copy)]
 pub struct Trigger {
     /// The instant at which it is due, in ticks.
     pub at: Time,
@@ -12,7 +12,7 @@ pub struct Trigger {
 }
 
 /// A block that has begun and hasn't returned.
-#[derive(Clone, Copy, PartialEq, Eq, Debug)]
+#[derive(Clone, Copy)]
 pub struct Block {
     /// The module in which it runs.
     pub module: u16,
