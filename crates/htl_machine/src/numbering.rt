@@ -18,7 +18,7 @@ use htl_model::frame::Frame;
 use htl_refine::{Selection, begun_choice};
 
 /// The list of the processor that stands.
-#[derive(Clone, Copy, PartialEq, Eq, Debug)]
+#[derive(Clone, Copy)]
 pub struct ListAt {
     /// The node whose list it is.
     pub node: u32,
