@@ -104,7 +104,10 @@ impl<'a> Machine<'a> {
         let t = l.tables();
         let world = World::new(alloc, t)?;
         let emach = EMach::new(alloc, t, l.ecode())?;
-        Machine::at_start(alloc, l, show, world, emach).map_err(|_| Memory)
+        let Ok(machine) = Machine::at_start(alloc, l, show, world, emach) else {
+            return Err(Memory);
+        };
+        Ok(machine)
     }
 
     // The machine before instant 0, around its world and its E machine.
