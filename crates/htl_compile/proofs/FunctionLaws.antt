@@ -1,10 +1,11 @@
 -- Compiling the functions one after the other.
-use Rattle.std.proofs.Common.{◌≡◌, ◌<◌, ◌+◌, ◌↔◌, ℕ, List, [], length, map, get_or, slice_get, Some, Result, Err, sym, ◌∙◌, ap, ap₂, subst, arith, inl, inr}
+use Rattle.std.proofs.Common.{◌≡◌, ◌<◌, ◌+◌, ◌↔◌, ℕ, Bool, true, cond, List, [], length, map, get_or, slice_get, Some, Result, Err, sym, ◌∙◌, ap, ap₂, subst, arith, inl, inr}
+use Rattle.std.proofs.lemmas.Option.{slice_get_within}
 use Rattle.htl_base.specs.declared.Ty.{Ty}
 use Rattle.htl_model.specs.Exchanged.{with_functions}
 use Rattle.htl_model.specs.FunctionTypes.{FunctionType, function_types}
 use Rattle.htl_compile.proofs.CodedLaws.{code_is}
-use Rattle.htl_compile.specs.Coded.{code_at, codes, coded, IsTyped, IsTypedAt, TypedBetween}
+use Rattle.htl_compile.specs.Coded.{code_at, codes, coded, AreTyped, IsTyped, IsTypedAt, TypedBetween}
 use Rattle.htl_compile.specs.FunctionFaults.{IsFaultOf}
 use Rattle.htl_func.specs.Compiled.{IsFunction, IsCompiled}
 use Rattle.htl_func.specs.Expressions.{ill_typed}
@@ -69,6 +70,25 @@ pub typed_more : (t : Tables) (ts : List Task) (k id count : ℕ) (x : Task) →
 typed_more t ts k id count x same less is counted h g =
     let e = task_end t ts k id count x same less is counted in
     typed_on t 0 id (id + count) h (typed_to t id (id + count_at (slice_get t.tasks k)) (id + count) e g)
+
+-- nothing stands between a place and itself
+pub typed_none : (t : Tables) (from to : ℕ) → from ≡ to → TypedBetween t from to
+typed_none t from to e = λ k a b. absurd (omega (arith, e, a, b))
+
+-- one more
+pub typed_further : (t : Tables) (from to next : ℕ) → next ≡ to + 1 → TypedBetween t from to → IsTypedAt t to → TypedBetween t from next
+typed_further t from to next e h here = λ k a b. elim (either k to) [
+  | inl less ↦ h k a less
+  | inr more ↦ subst (IsTypedAt t) (let same : to ≡ k = omega (arith, e, more, b) in same) here
+]
+
+-- and all of them
+pub typed_all : (t : Tables) (to : ℕ) → length t.functions ≡ to → TypedBetween t 0 to → AreTyped t
+typed_all t to e h = λ k f g a b. h k (omega arith) (omega (arith, e, slice_get_within t.functions k g b)) f g a b
+
+-- an abstract task has no function
+pub abstract_count : (x : Task) → x.is_abstract ≡ true → function_count x ≡ 0
+abstract_count x e = ap (λ (b : Bool). cond b 0 (length x.outputs)) e
 
 -- ---- the list of codes
 
