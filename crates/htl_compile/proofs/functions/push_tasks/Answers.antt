@@ -1,6 +1,7 @@
-use Rattle.std.proofs.Common.{arith}
-use Rattle.htl_compile.proofs.FunctionLaws.{typed_more, typed_to, codes_past, codes_to}
+use Rattle.std.proofs.Common.{map, refl, ap, arith}
+use Rattle.htl_compile.proofs.FunctionLaws.{typed_none, typed_on, typed_more, typed_to, codes_past, codes_to}
 use Rattle.htl_object.proofs.FunctionPlaces.{tasks_of, place_behind_task, at_end}
+use Rattle.htl_model.specs.Tables.{fun_of}
 use Rattle.htl_compile.proofs.functions.push_tasks.Goals as goal
 
 pub overflow_add-id : goal.overflow_add-id
@@ -26,3 +27,11 @@ returns-clause-typed c =
     let tasks = tasks_of c.args.t.now _ c.as_slice-tasks.result.now c.parts.ensures.value c.as_slice-tasks.ensures in
     let end = at_end c.args.t.now c.as_slice-tasks.result.now c.loop-k.id c.loop-k.k tasks c.loop-k.invariant.id c.loop-k.auto.k-end c.loop-k-test.false in
     typed_to c.args.t.now 0 c.loop-k.id _ end c.loop-k.invariant.typed
+
+pub loop-k-init : goal.loop-k-init
+loop-k-init c = record { id = refl; codes = ap (map fun_of) c.requires.empty; typed = typed_none c.args.t.now 0 0 refl }
+
+pub returns-in-Err-clause-fault : goal.returns-in-Err-clause-fault
+returns-in-Err-clause-fault c =
+    let fault = c.in-Err.ensures.fault in
+    record { place = fault.place; behind = omega arith; here = fault.here; first = typed_on c.args.t.now 0 c.loop-k.id fault.place c.loop-k.invariant.typed fault.first }
