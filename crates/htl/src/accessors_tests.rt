@@ -7,7 +7,6 @@ use crate::texts::tables_of;
 use htl_base::Time;
 use htl_model::Tables;
 use std::alloc::Global;
-use std::test::Fail;
 
 // Two loops: a round of 10 ticks beside one of 20, with a task each.
 pub const LOOPS: &str = "program P {
@@ -154,15 +153,17 @@ const SWITCHES: &[(u16, Option<u32>)] = &[(0, Some(3)), (1, Some(4)), (2, None)]
 // The loops have the starts 0 and 10, one path and two nodes.
 const STARTS: &[(usize, Option<Time>)] = &[(0, Some(0)), (1, Some(10)), (2, None)];
 
-// By path and start: the node, the modes of both modules, and how many positions have begun.
-const NODES: &[(
+// A path and a start, and there: the node, the modes of both modules, and how many positions have begun.
+type NodeRow = (
     u32,
     usize,
     Option<u32>,
     Option<u16>,
     Option<u16>,
     Option<usize>,
-)] = &[
+);
+
+const NODES: &[NodeRow] = &[
     (0, 0, Some(0), Some(0), Some(1), Some(2)),
     (0, 1, Some(1), Some(0), Some(1), Some(3)),
     (0, 2, None, None, None, None),
@@ -178,37 +179,66 @@ const POSITIONS: &[(usize, usize, Option<(u16, Time)>)] = &[
     (1, 3, None),
 ];
 
-fn has_items(t: &Tables) -> bool {
-    let modes = MODES.iter().all(|row| root_mode(t, row.0, row.1) == row.2);
-    let outputs = OUTPUTS
-        .iter()
-        .all(|row| output_function(t, row.0, row.1) == row.2);
-    let switches = SWITCHES
-        .iter()
-        .all(|row| switch_function(t, row.0) == row.1);
-    modes && outputs && switches
+fn has_modes(t: &Tables) -> bool {
+    for (selection, module, mode) in MODES {
+        if root_mode(t, *selection, *module) != *mode {
+            return false;
+        }
+    }
+    true
 }
 
-fn has_frames(t: &Tables) -> bool {
-    let starts = STARTS.iter().all(|row| start(t, row.0) == row.1);
-    let nodes = NODES.iter().all(|row| node(t, row.0, row.1) == row.2);
-    let first = NODES
-        .iter()
-        .all(|row| path_mode(t, row.0, row.1, 0) == row.3);
-    let second = NODES
-        .iter()
-        .all(|row| path_mode(t, row.0, row.1, 1) == row.4);
-    starts && nodes && first && second
+fn has_outputs(t: &Tables) -> bool {
+    for (task, output, number) in OUTPUTS {
+        if output_function(t, *task, *output) != *number {
+            return false;
+        }
+    }
+    true
+}
+
+fn has_switches(t: &Tables) -> bool {
+    for (switch, number) in SWITCHES {
+        if switch_function(t, *switch) != *number {
+            return false;
+        }
+    }
+    true
+}
+
+fn has_starts(t: &Tables) -> bool {
+    for (j, at) in STARTS {
+        if start(t, *j) != *at {
+            return false;
+        }
+    }
+    true
+}
+
+fn is_node(t: &Tables, row: &NodeRow) -> bool {
+    let (path, j, number, first, second, count) = *row;
+    node(t, path, j) == number
+        && path_mode(t, path, j, 0) == first
+        && path_mode(t, path, j, 1) == second
+        && path_positions(t, path, j) == count
+}
+
+fn has_nodes(t: &Tables) -> bool {
+    for row in NODES {
+        if !is_node(t, row) {
+            return false;
+        }
+    }
+    true
 }
 
 fn has_positions(t: &Tables) -> bool {
-    let counts = NODES
-        .iter()
-        .all(|row| path_positions(t, row.0, row.1) == row.5);
-    let places = POSITIONS
-        .iter()
-        .all(|row| path_position(t, 0, row.0, row.1) == row.2);
-    counts && places
+    for (j, p, wanted) in POSITIONS {
+        if path_position(t, 0, *j, *p) != *wanted {
+            return false;
+        }
+    }
+    true
 }
 
 pub fn read(alloc: Global, text: &str) -> Option<Tables> {
@@ -216,16 +246,13 @@ pub fn read(alloc: Global, text: &str) -> Option<Tables> {
 }
 
 #[test]
-fn items_have_their_numbers(rt: HostRuntime) -> Result<(), Fail> {
+fn items_have_their_numbers(rt: HostRuntime) {
     let t = read(rt.alloc(), ITEMS).expect(&rt, "tables");
-    holds(&rt, has_items(&t));
-    Ok(())
+    holds(&rt, has_modes(&t) && has_outputs(&t) && has_switches(&t));
 }
 
 #[test]
-fn frames_have_their_starts_and_nodes(rt: HostRuntime) -> Result<(), Fail> {
+fn frames_have_their_starts_and_nodes(rt: HostRuntime) {
     let t = read(rt.alloc(), LOOPS).expect(&rt, "tables");
-    holds(&rt, has_frames(&t));
-    holds(&rt, has_positions(&t));
-    Ok(())
+    holds(&rt, has_starts(&t) && has_nodes(&t) && has_positions(&t));
 }

@@ -2,7 +2,6 @@
 use crate::asserts::same;
 use crate::calls::{Content, EMPTY, Group, Place, Row, Streams, first_wrong};
 use crate::samples::{PORT, TWO_JOBS};
-use std::test::Fail;
 
 const LINES: &str = "v 0 x 1\nv 0 y 0\nv 0 z 0\nm 0 M m\nv 6 y 5\nv 10 z 2\n";
 
@@ -151,7 +150,6 @@ const GROUPS: &[Group] = &[
 ];
 
 #[test]
-fn calls_are_answered(rt: HostRuntime) -> Result<(), Fail> {
-    same(&rt, first_wrong(rt.alloc(), GROUPS)?, None);
-    Ok(())
+fn calls_are_answered(rt: HostRuntime) {
+    same(&rt, first_wrong(rt.alloc(), GROUPS), None);
 }

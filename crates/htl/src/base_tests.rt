@@ -1,7 +1,6 @@
 // Names at their limits, and a list.
 use crate::asserts::{holds, holds_in, same};
 use htl_base::{Name, Seq};
-use std::test::Fail;
 
 // Bytes, and whether they are a name.
 const TEXTS: [(&[u8], bool); 12] = [
@@ -44,10 +43,10 @@ fn known_names_are_the_same(rt: HostRuntime) {
 }
 
 #[test]
-fn lists_keep_their_items(rt: HostRuntime) -> Result<(), Fail> {
-    let mut list = Seq::new(vec![in rt.alloc(); 1u32, 2, 3]?);
+fn lists_keep_their_items(rt: HostRuntime) {
+    let items = vec![in rt.alloc(); 1u32, 2, 3].expect(&rt, "memory");
+    let mut list = Seq::new(items);
     list.set(1, 7);
     same(&rt, list.as_slice(), [1u32, 7, 3].as_slice());
     same(&rt, list.into_vec().len(), 3);
-    Ok(())
 }

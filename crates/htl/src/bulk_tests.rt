@@ -1,7 +1,6 @@
 // Whole calls of `bulk`: its rows, and an output that fails.
 use crate::asserts::same;
 use crate::calls::{Content, EMPTY, Group, Place, Row, Streams, Tried, first_other, first_wrong};
-use std::test::Fail;
 
 // The lines of one module.
 const ONE_LINES: &str = "v 100000 s 99\nv 100000 c0 4950\nend 100000 jobs 200 e 1210 s 300\n";
@@ -68,8 +67,7 @@ const TRIED: &[Tried] = &[Tried {
 }];
 
 #[test]
-fn calls_are_answered(rt: HostRuntime) -> Result<(), Fail> {
-    same(&rt, first_wrong(rt.alloc(), GROUPS)?, None);
-    same(&rt, first_other(rt.alloc(), TRIED)?, None);
-    Ok(())
+fn calls_are_answered(rt: HostRuntime) {
+    same(&rt, first_wrong(rt.alloc(), GROUPS), None);
+    same(&rt, first_other(rt.alloc(), TRIED), None);
 }

@@ -1,8 +1,8 @@
 // Whole calls of the top call: words and files, and streams that fail at each place.
-use crate::asserts::{holds, holds_in};
+use crate::asserts::{holds, holds_in, same};
 use crate::calls::{Case, Content, EMPTY, Place, Streams, is_answered, is_answered_on, shelf_of};
 use crate::samples::{DOUBLED, DOUBLED_BEFORE, DOUBLING, READINGS};
-use std::test::Fail;
+use std::alloc::Global;
 
 // ---- words and files
 
@@ -60,7 +60,7 @@ const UNSERVED: &[(&[&str], u8, &str)] = &[
 ];
 
 #[test]
-fn other_words_and_files_are_refused(rt: HostRuntime) -> Result<(), Fail> {
+fn other_words_and_files_are_refused(rt: HostRuntime) {
     for (words, status, told) in UNSERVED {
         let case = Case {
             words,
@@ -72,9 +72,8 @@ fn other_words_and_files_are_refused(rt: HostRuntime) -> Result<(), Fail> {
             out: EMPTY,
             told,
         };
-        holds_in(&rt, words, is_answered(rt.alloc(), &case)?);
+        holds_in(&rt, words, is_answered(rt.alloc(), &case));
     }
-    Ok(())
 }
 
 // ---- streams that fail at each place
@@ -93,20 +92,19 @@ const DOUBLES: Case<'static> = Case {
 
 // The output has room for so many bytes.
 #[test]
-fn an_output_is_filled(rt: HostRuntime) -> Result<(), Fail> {
+fn an_output_is_filled(rt: HostRuntime) {
     let mut case = DOUBLES;
     case.status = 10;
     case.told = "htl: write\n";
     for room in 0..DOUBLED.len() {
         case.streams = Streams::Room(room);
         case.out = Content::Front(DOUBLED.as_bytes(), room);
-        holds_in(&rt, room, is_answered(rt.alloc(), &case)?);
+        holds_in(&rt, room, is_answered(rt.alloc(), &case));
     }
     // eight writes, and no ninth
     let mut whole = DOUBLES;
     whole.streams = Streams::RoomFails(DOUBLED.len(), 9);
-    holds(&rt, is_answered(rt.alloc(), &whole)?);
-    Ok(())
+    holds(&rt, is_answered(rt.alloc(), &whole));
 }
 
 // What was written where a read of one byte below this one fails: nothing before the second reading was read, all lines
@@ -128,24 +126,23 @@ fn written_at(read: u64) -> Content {
 
 // Reads give one byte each, and one fails.
 #[test]
-fn a_byte_is_not_read(rt: HostRuntime) -> Result<(), Fail> {
+fn a_byte_is_not_read(rt: HostRuntime) {
     let mut case = DOUBLES;
     case.status = 9;
     case.told = "htl: read\n";
     for read in 1..=READINGS.len() as u64 + 1 {
         case.streams = Streams::StepFails(1, read);
         case.out = written_at(read);
-        holds_in(&rt, read, is_answered(rt.alloc(), &case)?);
+        holds_in(&rt, read, is_answered(rt.alloc(), &case));
     }
     // a read more than there is
     let mut whole = DOUBLES;
     whole.streams = Streams::StepFails(1, READINGS.len() as u64 + 2);
-    holds(&rt, is_answered(rt.alloc(), &whole)?);
-    Ok(())
+    holds(&rt, is_answered(rt.alloc(), &whole));
 }
 
 // Two fetches fail, and then none does. Each look at an answer makes two calls.
-const FETCHES: &[Case<'static>] = &[
+const FETCHES: [Case<'static>; 2] = [
     Case {
         words: &["go", "A"],
         place: Place::Files,
@@ -159,18 +156,19 @@ const FETCHES: &[Case<'static>] = &[
     DOUBLES,
 ];
 
+// Whether the two calls are answered so, one after the other.
+fn answers_of_fetches(alloc: Global) -> Option<[bool; 2]> {
+    let source = Vec::from_slice(alloc, DOUBLING.as_bytes()).ok()?;
+    let mut shelf = shelf_of(alloc, source, Vec::new(alloc), &[1, 2])?;
+    let input = READINGS.as_bytes();
+    let failed = is_answered_on(alloc, &FETCHES[0], &mut shelf, input)?;
+    let done = is_answered_on(alloc, &FETCHES[1], &mut shelf, input)?;
+    Some([failed, done])
+}
+
 #[test]
-fn a_shelf_fails_at_first(rt: HostRuntime) -> Result<(), Fail> {
-    let source = Vec::from_slice(rt.alloc(), DOUBLING.as_bytes())?;
-    let mut shelf = shelf_of(rt.alloc(), source, Vec::new(rt.alloc()), &[1, 2])?;
-    for case in FETCHES {
-        holds_in(
-            &rt,
-            case.status,
-            is_answered_on(rt.alloc(), case, &mut shelf, READINGS.as_bytes())?,
-        );
-    }
-    Ok(())
+fn a_shelf_fails_at_first(rt: HostRuntime) {
+    same(&rt, answers_of_fetches(rt.alloc()), Some([true, true]));
 }
 
 // ---- sources that are cut
@@ -185,26 +183,31 @@ const PRODUCTIONS: [(&str, usize); 2] = [
     ("program P { } program Q { }", 14),
 ];
 
-// A source that is cut at a blank has its fault there.
+// Whether a source that is cut here has its fault here.
+fn is_told_when_cut(alloc: Global, source: &'static str, at: usize) -> bool {
+    let Ok(told) = format!(in alloc; "htl: source syntax {at}\n") else {
+        return false;
+    };
+    let case = Case {
+        words: &["compile"],
+        place: Place::Input,
+        streams: Streams::Usual,
+        contents: (Content::Front(source.as_bytes(), at), EMPTY),
+        script: "",
+        status: 3,
+        out: EMPTY,
+        told: told.as_str(),
+    };
+    is_answered(alloc, &case)
+}
+
 #[test]
-fn cut_sources_have_their_fault_at_the_end(rt: HostRuntime) -> Result<(), Fail> {
+fn cut_sources_have_their_fault_at_the_end(rt: HostRuntime) {
     for (source, from) in PRODUCTIONS {
         for (at, byte) in source.as_bytes().iter().enumerate() {
             if at >= from && *byte == b' ' {
-                let told = format!(in rt.alloc(); "htl: source syntax {at}\n")?;
-                let case = Case {
-                    words: &["compile"],
-                    place: Place::Input,
-                    streams: Streams::Usual,
-                    contents: (Content::Front(source.as_bytes(), at), EMPTY),
-                    script: "",
-                    status: 3,
-                    out: EMPTY,
-                    told: told.as_str(),
-                };
-                holds_in(&rt, at, is_answered(rt.alloc(), &case)?);
+                holds_in(&rt, at, is_told_when_cut(rt.alloc(), source, at));
             }
         }
     }
-    Ok(())
 }

@@ -4,8 +4,7 @@ use crate::pieces::text_of;
 pub use crate::pieces::{Piece, Text};
 use htl_edge::{Drawer, Page, Tape};
 use htl_top::{htl, status};
-use std::alloc::{AllocError, Global};
-use std::test::Fail;
+use std::alloc::Global;
 
 /// Bytes of a file, an input or an output.
 #[derive(Clone, Copy)]
@@ -108,7 +107,7 @@ fn numbers(streams: Streams) -> (usize, usize, u64, u64) {
     }
 }
 
-// The status of a call.
+// The status of a call; None where no memory is left, here and below.
 fn call(
     alloc: Global,
     (words, streams): (&[&str], Streams),
@@ -116,54 +115,43 @@ fn call(
     input: &[u8],
     out: &mut Page,
     err: &mut Page,
-) -> Result<u8, Fail> {
+) -> Option<u8> {
     let (step, _, read, _) = numbers(streams);
-    let mut input = Tape::new(alloc, input, step.max(1), &[read])?;
-    Ok(status(&htl(alloc, words, shelf, &mut input, out, err)))
+    let mut input = Tape::new(alloc, input, step.max(1), &[read]).ok()?;
+    Some(status(&htl(alloc, words, shelf, &mut input, out, err)))
 }
 
 /// A shelf that holds these bytes under the names A and B, and whose fetches of these numbers fail.
-pub fn shelf_of(alloc: Global, a: Vec<u8>, b: Vec<u8>, fails: &[u64]) -> Result<Drawer, Fail> {
-    let first = String::from_str(alloc, "A")?;
-    let second = String::from_str(alloc, "B")?;
-    let items = vec![in alloc; (first, a), (second, b)]?;
-    Ok(Drawer::new(alloc, items, fails)?)
+pub fn shelf_of(alloc: Global, a: Vec<u8>, b: Vec<u8>, fails: &[u64]) -> Option<Drawer> {
+    let first = String::from_str(alloc, "A").ok()?;
+    let second = String::from_str(alloc, "B").ok()?;
+    let items = vec![in alloc; (first, a), (second, b)].ok()?;
+    Drawer::new(alloc, items, fails).ok()
 }
 
 // What a call writes, or what is told, where it isn't done.
-fn written(
-    alloc: Global,
-    words: &[&str],
-    shelf: &mut Drawer,
-    input: &[u8],
-) -> Result<Vec<u8>, Fail> {
-    let mut out = Page::new(alloc, 8192, &[])?;
-    let mut err = Page::new(alloc, 100, &[])?;
+fn written(alloc: Global, words: &[&str], shelf: &mut Drawer, input: &[u8]) -> Option<Vec<u8>> {
+    let mut out = Page::new(alloc, 8192, &[]).ok()?;
+    let mut err = Page::new(alloc, 100, &[]).ok()?;
     let asked = (words, Streams::Usual);
     let page = match call(alloc, asked, shelf, input, &mut out, &mut err)? {
         0 => &out,
         _ => &err,
     };
-    Ok(Vec::from_slice(alloc, page.bytes())?)
+    Vec::from_slice(alloc, page.bytes()).ok()
 }
 
 // The object of a source.
-fn compiled(alloc: Global, source: &[u8]) -> Result<Vec<u8>, Fail> {
+fn compiled(alloc: Global, source: &[u8]) -> Option<Vec<u8>> {
     let mut shelf = shelf_of(alloc, Vec::new(alloc), Vec::new(alloc), &[])?;
     written(alloc, &["compile"], &mut shelf, source)
 }
 
 /// The object of a source for a platform.
-pub fn compiled_on(alloc: Global, source: &[u8], file: &str) -> Result<Vec<u8>, Fail> {
-    let file = Vec::from_slice(alloc, file.as_bytes())?;
+pub fn compiled_on(alloc: Global, source: &[u8], file: &str) -> Option<Vec<u8>> {
+    let file = Vec::from_slice(alloc, file.as_bytes()).ok()?;
     let mut shelf = shelf_of(alloc, file, Vec::new(alloc), &[])?;
     written(alloc, &["compile", "with", "A"], &mut shelf, source)
-}
-
-// The object with the refinement that a donor gives a mode.
-fn patched(alloc: Global, object: Vec<u8>, mode: &str, donor: Vec<u8>) -> Result<Vec<u8>, Fail> {
-    let mut shelf = shelf_of(alloc, object, donor, &[])?;
-    written(alloc, &["patch", "A", mode, "B"], &mut shelf, b"")
 }
 
 // How many bytes the first lines have.
@@ -180,38 +168,44 @@ fn first_lines(text: &str, count: usize) -> usize {
     text.len()
 }
 
-fn front(alloc: Global, bytes: &[u8], count: usize) -> Result<Vec<u8>, AllocError> {
-    Vec::from_slice(alloc, bytes.split_at(count.min(bytes.len())).0)
+fn front(alloc: Global, bytes: &[u8], count: usize) -> Option<Vec<u8>> {
+    Vec::from_slice(alloc, bytes.split_at(count.min(bytes.len())).0).ok()
 }
 
 // The object of a source.
-fn object_of(alloc: Global, source: Text) -> Result<Vec<u8>, Fail> {
-    let source = text_of(alloc, source)?;
+fn object_of(alloc: Global, source: Text) -> Option<Vec<u8>> {
+    let source = text_of(alloc, source).ok()?;
     compiled(alloc, source.as_bytes())
 }
 
-fn bytes_of(alloc: Global, content: Content) -> Result<Vec<u8>, Fail> {
+fn object_on(alloc: Global, source: Text, file: &str) -> Option<Vec<u8>> {
+    let source = text_of(alloc, source).ok()?;
+    compiled_on(alloc, source.as_bytes(), file)
+}
+
+// The object of a source with the refinement that a donor gives a mode.
+fn patched(alloc: Global, source: Text, mode: &str, donor: Text) -> Option<Vec<u8>> {
+    let object = object_of(alloc, source)?;
+    let mut shelf = shelf_of(alloc, object, object_of(alloc, donor)?, &[])?;
+    written(alloc, &["patch", "A", mode, "B"], &mut shelf, b"")
+}
+
+// The bytes of a text.
+fn made(alloc: Global, text: Text) -> Option<Vec<u8>> {
+    Some(text_of(alloc, text).ok()?.into_bytes())
+}
+
+fn bytes_of(alloc: Global, content: Content) -> Option<Vec<u8>> {
     match content {
-        Content::Text(text) => Ok(Vec::from_slice(alloc, text.as_bytes())?),
-        Content::Made(text) => {
-            let text = text_of(alloc, text)?;
-            Ok(Vec::from_slice(alloc, text.as_bytes())?)
-        }
-        Content::Changed(object, at, by, rest) => Ok(changed(alloc, object, at, by, rest)?),
-        Content::Front(bytes, count) => Ok(front(alloc, bytes, count)?),
-        Content::Lines(text, count) => {
-            Ok(front(alloc, text.as_bytes(), first_lines(text, count))?)
-        }
-        Content::Filled(byte, count) => Ok(vec![in alloc; byte; count]?),
+        Content::Text(text) => Vec::from_slice(alloc, text.as_bytes()).ok(),
+        Content::Made(text) => made(alloc, text),
+        Content::Changed(object, at, by, rest) => changed(alloc, object, at, by, rest).ok(),
+        Content::Front(bytes, count) => front(alloc, bytes, count),
+        Content::Lines(text, count) => front(alloc, text.as_bytes(), first_lines(text, count)),
+        Content::Filled(byte, count) => vec![in alloc; byte; count].ok(),
         Content::Object(source) => object_of(alloc, source),
-        Content::ObjectOn(source, file) => {
-            let source = text_of(alloc, source)?;
-            compiled_on(alloc, source.as_bytes(), file)
-        }
-        Content::Patched(source, mode, donor) => {
-            let object = object_of(alloc, source)?;
-            patched(alloc, object, mode, object_of(alloc, donor)?)
-        }
+        Content::ObjectOn(source, file) => object_on(alloc, source, file),
+        Content::Patched(source, mode, donor) => patched(alloc, source, mode, donor),
     }
 }
 
@@ -223,12 +217,12 @@ fn comes_to(
     input: &[u8],
     (status, want, told): (u8, &[u8], &str),
     tell: u64,
-) -> Result<bool, Fail> {
+) -> Option<bool> {
     let (_, room, _, write) = numbers(streams);
-    let mut out = Page::new(alloc, room, &[write])?;
-    let mut err = Page::new(alloc, 100, &[tell])?;
+    let mut out = Page::new(alloc, room, &[write]).ok()?;
+    let mut err = Page::new(alloc, 100, &[tell]).ok()?;
     let came = call(alloc, (words, streams), shelf, input, &mut out, &mut err)?;
-    Ok(came == status && out.bytes() == want && err.bytes() == told.as_bytes())
+    Some(came == status && out.bytes() == want && err.bytes() == told.as_bytes())
 }
 
 // Whether a call comes to this, also where its telling fails, which changes nothing else.
@@ -238,10 +232,10 @@ fn comes_to_both(
     shelf: &mut Drawer,
     input: &[u8],
     (status, want, told): (u8, &[u8], &str),
-) -> Result<bool, Fail> {
+) -> Option<bool> {
     let heard = comes_to(alloc, asked, shelf, input, (status, want, told), 0)?;
     let unheard = comes_to(alloc, asked, shelf, input, (status, want, ""), 1)?;
-    Ok(heard && unheard)
+    Some(heard && unheard)
 }
 
 /// Whether a call over this shelf and input is answered so.
@@ -250,7 +244,7 @@ pub fn is_answered_on(
     case: &Case<'_>,
     shelf: &mut Drawer,
     input: &[u8],
-) -> Result<bool, Fail> {
+) -> Option<bool> {
     let want = bytes_of(alloc, case.out)?;
     let asked = (case.words, case.streams);
     let wanted = (case.status, want.as_slice(), case.told);
@@ -258,7 +252,7 @@ pub fn is_answered_on(
 }
 
 // The same with the files A and B, of which this is the first, and the script.
-fn is_answered_of(alloc: Global, case: &Case<'_>, first: Vec<u8>) -> Result<bool, Fail> {
+fn is_answered_of(alloc: Global, case: &Case<'_>, first: Vec<u8>) -> Option<bool> {
     let second = bytes_of(alloc, case.contents.1)?;
     let fails = match case.streams {
         Streams::Fetches(fails) => fails,
@@ -268,18 +262,26 @@ fn is_answered_of(alloc: Global, case: &Case<'_>, first: Vec<u8>) -> Result<bool
     is_answered_on(alloc, case, &mut shelf, case.script.as_bytes())
 }
 
-/// Whether a call is answered so.
-pub fn is_answered(alloc: Global, case: &Case<'_>) -> Result<bool, Fail> {
+// The same with the file A and this input.
+fn is_answered_with(alloc: Global, case: &Case<'_>, input: &[u8]) -> Option<bool> {
+    let file = bytes_of(alloc, case.contents.1)?;
+    let mut shelf = shelf_of(alloc, file, Vec::new(alloc), &[])?;
+    is_answered_on(alloc, case, &mut shelf, input)
+}
+
+// The same, wherever the contents stand.
+fn answer_is_so(alloc: Global, case: &Case<'_>) -> Option<bool> {
     let first = bytes_of(alloc, case.contents.0)?;
     match case.place {
         Place::Files => is_answered_of(alloc, case, first),
         Place::Compiled => is_answered_of(alloc, case, compiled(alloc, first.as_slice())?),
-        Place::Input => {
-            let file = bytes_of(alloc, case.contents.1)?;
-            let mut shelf = shelf_of(alloc, file, Vec::new(alloc), &[])?;
-            is_answered_on(alloc, case, &mut shelf, first.as_slice())
-        }
+        Place::Input => is_answered_with(alloc, case, first.as_slice()),
     }
+}
+
+/// Whether a call is answered so.
+pub fn is_answered(alloc: Global, case: &Case<'_>) -> bool {
+    answer_is_so(alloc, case) == Some(true)
 }
 
 // The call of a row of a group.
@@ -298,23 +300,23 @@ fn case_of_row(group: &Group, row: &Row) -> Case<'static> {
 }
 
 // The first row of a group with another answer.
-fn wrong_row(alloc: Global, group: &Group) -> Result<Option<usize>, Fail> {
+fn wrong_row(alloc: Global, group: &Group) -> Option<usize> {
     for (k, row) in group.rows.iter().enumerate() {
-        if !is_answered(alloc, &case_of_row(group, row))? {
-            return Ok(Some(k));
+        if !is_answered(alloc, &case_of_row(group, row)) {
+            return Some(k);
         }
     }
-    Ok(None)
+    None
 }
 
 /// The first group with a row that has another answer, and the number of the row.
-pub fn first_wrong(alloc: Global, groups: &[Group]) -> Result<Option<(&'static str, usize)>, Fail> {
+pub fn first_wrong(alloc: Global, groups: &[Group]) -> Option<(&'static str, usize)> {
     for group in groups {
-        if let Some(k) = wrong_row(alloc, group)? {
-            return Ok(Some((group.name, k)));
+        if let Some(k) = wrong_row(alloc, group) {
+            return Some((group.name, k));
         }
     }
-    Ok(None)
+    None
 }
 
 // The call of a row of streams.
@@ -333,21 +335,21 @@ fn case_of_streams(tried: &Tried, row: &StreamsRow) -> Case<'static> {
 }
 
 // The first row with another answer.
-fn other_row(alloc: Global, tried: &Tried) -> Result<Option<usize>, Fail> {
+fn other_row(alloc: Global, tried: &Tried) -> Option<usize> {
     for (k, row) in tried.rows.iter().enumerate() {
-        if !is_answered(alloc, &case_of_streams(tried, row))? {
-            return Ok(Some(k));
+        if !is_answered(alloc, &case_of_streams(tried, row)) {
+            return Some(k);
         }
     }
-    Ok(None)
+    None
 }
 
 /// The same of calls with streams that differ.
-pub fn first_other(alloc: Global, tries: &[Tried]) -> Result<Option<(&'static str, usize)>, Fail> {
+pub fn first_other(alloc: Global, tries: &[Tried]) -> Option<(&'static str, usize)> {
     for tried in tries {
-        if let Some(k) = other_row(alloc, tried)? {
-            return Ok(Some((tried.name, k)));
+        if let Some(k) = other_row(alloc, tried) {
+            return Some((tried.name, k));
         }
     }
-    Ok(None)
+    None
 }

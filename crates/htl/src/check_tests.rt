@@ -2,7 +2,6 @@
 use crate::asserts::same;
 use crate::calls::{Content, EMPTY, Group, Place, Row, Streams, first_wrong};
 use crate::object_bytes::{DOUBLING, NO_MODULE, PORT, REFINED, TWO_JOBS, TWO_MODES};
-use std::test::Fail;
 
 const ACCEPTED: &[Row] = &[
     (
@@ -327,7 +326,6 @@ const GROUPS: &[Group] = &[
 ];
 
 #[test]
-fn calls_are_answered(rt: HostRuntime) -> Result<(), Fail> {
-    same(&rt, first_wrong(rt.alloc(), GROUPS)?, None);
-    Ok(())
+fn calls_are_answered(rt: HostRuntime) {
+    same(&rt, first_wrong(rt.alloc(), GROUPS), None);
 }

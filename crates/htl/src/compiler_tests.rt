@@ -1,5 +1,5 @@
 // Sources with their faults and with their objects.
-use crate::asserts::{holds, holds_in};
+use crate::asserts::{holds, same, same_in};
 use crate::object_bytes::{DOUBLING, NO_MODULE};
 use crate::pieces::{Piece, joined};
 use crate::source_tests::{MORE_SELECTIONS, SELECTIONS};
@@ -7,8 +7,7 @@ use htl_base::limits::MAX_SOURCE;
 use htl_compile::{BackFault, CompileFault, FrontFault, SourceFault, back, compile, front};
 use htl_model::{FormFault, Function, Tables};
 use htl_object::Object;
-use std::alloc::Global;
-use std::test::Fail;
+use std::alloc::{AllocError, Global};
 
 // The tables of a text with code, or its fault.
 fn tables(alloc: Global, text: &[u8]) -> Option<Result<Tables, SourceFault>> {
@@ -22,11 +21,12 @@ fn tables(alloc: Global, text: &[u8]) -> Option<Result<Tables, SourceFault>> {
     }
 }
 
-// This is the text's fault.
-fn is_fault(alloc: Global, text: &[u8], at: SourceFault) -> bool {
-    match tables(alloc, text) {
-        Some(Err(fault)) => fault == at,
-        _ => false,
+// This is the fault of the text in these pieces.
+fn is_fault(alloc: Global, pieces: &[Piece], at: SourceFault) -> Result<bool, AllocError> {
+    let text = joined(alloc, pieces)?;
+    match tables(alloc, text.as_bytes()) {
+        Some(Err(fault)) => Ok(fault == at),
+        _ => Ok(false),
     }
 }
 
@@ -43,6 +43,12 @@ fn codes(alloc: Global, text: &[u8]) -> Option<usize> {
         }
         _ => None,
     }
+}
+
+// The same of the text in these pieces.
+fn codes_in(alloc: Global, pieces: &[Piece]) -> Result<Option<usize>, AllocError> {
+    let text = joined(alloc, pieces)?;
+    Ok(codes(alloc, text.as_bytes()))
 }
 
 fn is_code(f: &Function) -> bool {
@@ -176,12 +182,10 @@ const FAULTS: &[(&[Piece], SourceFault)] = &[
 ];
 
 #[test]
-fn sources_have_their_faults(rt: HostRuntime) -> Result<(), Fail> {
+fn sources_have_their_faults(rt: HostRuntime) {
     for (k, (pieces, at)) in FAULTS.iter().enumerate() {
-        let text = joined(rt.alloc(), pieces)?;
-        holds_in(&rt, k, is_fault(rt.alloc(), text.as_bytes(), *at));
+        same_in(&rt, k, is_fault(rt.alloc(), pieces, *at), Ok(true));
     }
-    Ok(())
 }
 
 // Texts with the number of their functions: outputs and a switch, and 64 values in brackets.
@@ -210,12 +214,10 @@ const CODED: &[(&[Piece], usize)] = &[
 ];
 
 #[test]
-fn functions_are_code(rt: HostRuntime) -> Result<(), Fail> {
+fn functions_are_code(rt: HostRuntime) {
     for (pieces, count) in CODED {
-        let text = joined(rt.alloc(), pieces)?;
-        holds(&rt, codes(rt.alloc(), text.as_bytes()) == Some(*count));
+        same(&rt, codes_in(rt.alloc(), pieces), Ok(Some(*count)));
     }
-    Ok(())
 }
 
 // The object of a text, or the fault of its tables; None where there is another fault, or where the tables aren't handed back.
@@ -332,15 +334,18 @@ fn tables_have_their_faults(rt: HostRuntime) {
     );
 }
 
+// How many schedules the object of the text in these pieces has.
+fn schedules_of(alloc: Global, pieces: &[Piece]) -> Result<usize, AllocError> {
+    let text = joined(alloc, pieces)?;
+    match object(alloc, text.as_bytes()) {
+        Some(Ok(object)) => Ok(object.schedules.as_slice().len()),
+        _ => Ok(0),
+    }
+}
+
 #[test]
-fn selections_are_at_most_1024(rt: HostRuntime) -> Result<(), Fail> {
-    let text = joined(rt.alloc(), SELECTIONS)?;
-    let schedules = match object(rt.alloc(), text.as_bytes()) {
-        Some(Ok(object)) => object.schedules.as_slice().len(),
-        _ => 0,
-    };
-    holds(&rt, schedules == 1_024);
-    Ok(())
+fn selections_are_at_most_1024(rt: HostRuntime) {
+    same(&rt, schedules_of(rt.alloc(), SELECTIONS), Ok(1_024));
 }
 
 // The bytes of a text's object, or its fault.

@@ -13,7 +13,6 @@ use htl_edge::{Failed, Page};
 use htl_model::Tables;
 use htl_walk::{SInstr, Schedule};
 use std::alloc::{AllocError, Global};
-use std::test::Fail;
 
 const INSTRS: [EInstr; 11] = [
     EInstr::Enter { mode: 0 },
@@ -154,14 +153,13 @@ const INSTRUCTIONS: [Line; 3] = [
 ];
 
 #[test]
-fn instructions_are_told(rt: HostRuntime) -> Result<(), Fail> {
+fn instructions_are_told(rt: HostRuntime) {
     let page = told(rt.alloc(), &INSTRUCTIONS).expect(&rt, "lines");
     let text = b"e 0 0 enter M.m
 e 0 7 call read M.m.dbl 0
 e 20 10 jumpif 9 3
 ";
     same(&rt, page.bytes(), text.as_slice());
-    Ok(())
 }
 
 const JOBS_AND_VALUES: [Line; 8] = [
@@ -176,7 +174,7 @@ const JOBS_AND_VALUES: [Line; 8] = [
 ];
 
 #[test]
-fn jobs_and_values_are_told(rt: HostRuntime) -> Result<(), Fail> {
+fn jobs_and_values_are_told(rt: HostRuntime) {
     let page = told(rt.alloc(), &JOBS_AND_VALUES).expect(&rt, "lines");
     let text = b"v 0 s -3
 m 0 M m
@@ -188,7 +186,6 @@ end 10 jobs 1 e 10 s 2
 plan 20 jobs 1 s 2
 ";
     same(&rt, page.bytes(), text.as_slice());
-    Ok(())
 }
 
 // What is answered of a listing with these schedules.
@@ -214,9 +211,9 @@ fn listed(
 }
 
 #[test]
-fn an_object_is_listed(rt: HostRuntime) -> Result<(), Fail> {
-    let schedules = [schedule(rt.alloc())?];
-    let mut page = Page::new(rt.alloc(), 1000, &[])?;
+fn an_object_is_listed(rt: HostRuntime) {
+    let schedules = [schedule(rt.alloc()).expect(&rt, "memory")];
+    let mut page = Page::new(rt.alloc(), 1000, &[]).expect(&rt, "memory");
     let answer = listed(rt.alloc(), &mut page, None, &schedules);
     let text = b"sensor s int period 10 init 0
 comm u int period 10 init 7
@@ -240,13 +237,12 @@ S 0:1 end
 ";
     same(&rt, answer, Some(Ok(())));
     same(&rt, page.bytes(), text.as_slice());
-    Ok(())
 }
 
 #[test]
-fn a_platform_is_named_first(rt: HostRuntime) -> Result<(), Fail> {
+fn a_platform_is_named_first(rt: HostRuntime) {
     let name = Name::new(b"fast").expect(&rt, "name");
-    let mut page = Page::new(rt.alloc(), 30, &[])?;
+    let mut page = Page::new(rt.alloc(), 30, &[]).expect(&rt, "memory");
     let answer = listed(rt.alloc(), &mut page, Some(&name), &[]);
     same(&rt, answer, Some(Err(Failed)));
     same(
@@ -254,12 +250,11 @@ fn a_platform_is_named_first(rt: HostRuntime) -> Result<(), Fail> {
         page.bytes(),
         b"platform fast\nsensor s int per".as_slice(),
     );
-    Ok(())
 }
 
 #[test]
-fn a_page_that_is_too_short(rt: HostRuntime) -> Result<(), Fail> {
-    let mut page = Page::new(rt.alloc(), 40, &[])?;
+fn a_page_that_is_too_short(rt: HostRuntime) {
+    let mut page = Page::new(rt.alloc(), 40, &[]).expect(&rt, "memory");
     let answer = listed(rt.alloc(), &mut page, None, &[]);
     same(&rt, answer, Some(Err(Failed)));
     same(
@@ -267,7 +262,6 @@ fn a_page_that_is_too_short(rt: HostRuntime) -> Result<(), Fail> {
         page.bytes(),
         b"sensor s int period 10 init 0\ncomm u int".as_slice(),
     );
-    Ok(())
 }
 
 // Whether values, jobs and code are shown.
@@ -283,9 +277,8 @@ const KINDS: [(Shown, (bool, bool, bool)); 4] = [
 ];
 
 #[test]
-fn what_is_shown(rt: HostRuntime) -> Result<(), Fail> {
+fn what_is_shown(rt: HostRuntime) {
     for (shown, wanted) in KINDS {
         same(&rt, kinds(shown), wanted);
     }
-    Ok(())
 }

@@ -13,7 +13,6 @@ use htl_model::Tables;
 use htl_model::frame::Frame;
 use htl_walk::{Job, Miss, SInstr, Schedule, path_jobs, worst_all};
 use std::alloc::{AllocError, Global};
-use std::test::Fail;
 
 fn are_short(lists: &[Schedule]) -> bool
     ensures { result ≡ list_all (λ s. leb (length s.instrs) 1000) lists.now }
@@ -139,22 +138,20 @@ fn overload_at(alloc: Global, worst: u32) -> Option<PlanFault>
 }
 
 #[test]
-fn each_node_has_a_list(rt: HostRuntime) -> Result<(), Fail> {
+fn each_node_has_a_list(rt: HostRuntime) {
     let first = [run(0, 3), run(1, 10), SInstr::End];
     let second = [run(1, 12), run(2, 15), SInstr::End];
     same(&rt, are_planned(rt.alloc(), &first, &second), Some(true));
-    Ok(())
 }
 
 #[test]
-fn a_path_has_the_jobs_of_its_rounds(rt: HostRuntime) -> Result<(), Fail> {
+fn a_path_has_the_jobs_of_its_rounds(rt: HostRuntime) {
     let wanted = [whole(0, 0, 10, 3), whole(1, 0, 20, 9), whole(0, 10, 20, 3)];
     same(&rt, has_jobs(rt.alloc(), &wanted), Some(true));
-    Ok(())
 }
 
 #[test]
-fn paths_accept_lists_or_miss(rt: HostRuntime) -> Result<(), Fail> {
+fn paths_accept_lists_or_miss(rt: HostRuntime) {
     let first = [run(0, 3), run(1, 10), SInstr::End];
     let second = [run(1, 12), run(2, 15), SInstr::End];
     let cut = [run(1, 11), run(2, 14), SInstr::End];
@@ -169,11 +166,10 @@ fn paths_accept_lists_or_miss(rt: HostRuntime) -> Result<(), Fail> {
         Some(Err((0, Miss::Order { instr: 0 }))),
     );
     same(&rt, judged(rt.alloc(), &first, &cut), Some(Err((0, left))));
-    Ok(())
 }
 
 #[test]
-fn an_overload_is_that_of_a_whole_frame(rt: HostRuntime) -> Result<(), Fail> {
+fn an_overload_is_that_of_a_whole_frame(rt: HostRuntime) {
     let over = PlanFault::Overload {
         selection: 0,
         from: 0,
@@ -181,5 +177,4 @@ fn an_overload_is_that_of_a_whole_frame(rt: HostRuntime) -> Result<(), Fail> {
         demand: 21,
     };
     same(&rt, overload_at(rt.alloc(), 15), Some(over));
-    Ok(())
 }

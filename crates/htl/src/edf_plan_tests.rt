@@ -9,7 +9,6 @@ use htl_form::form;
 use htl_model::Tables;
 use htl_walk::{SInstr, Schedule, roots_have_one_period};
 use std::alloc::Global;
-use std::test::Fail;
 
 // The mode k invokes a, the mode l a and b, the mode m b and c.
 const THREE_MODES: &str = "program P {
@@ -94,10 +93,9 @@ const PLANNED: [SInstr; 8] = [
 ];
 
 #[test]
-fn each_selection_has_a_schedule(rt: HostRuntime) -> Result<(), Fail> {
+fn each_selection_has_a_schedule(rt: HostRuntime) {
     let text = Text::Whole(THREE_MODES);
     same(&rt, are_planned(rt.alloc(), text, &PLANNED), Some(true));
-    Ok(())
 }
 
 // Edits of the text, the selection that is overloaded first, and its demand.
@@ -107,7 +105,7 @@ const OVERLOADED: [(&[(&str, &str)], u32, u64); 2] = [
 ];
 
 #[test]
-fn the_first_overloaded_selection_is_named(rt: HostRuntime) -> Result<(), Fail> {
+fn the_first_overloaded_selection_is_named(rt: HostRuntime) {
     for (edits, selection, demand) in OVERLOADED {
         let over = PlanFault::Overload {
             selection,
@@ -118,5 +116,4 @@ fn the_first_overloaded_selection_is_named(rt: HostRuntime) -> Result<(), Fail> 
         let text = Text::Edited(THREE_MODES, edits);
         same(&rt, overload(rt.alloc(), text), Some(over));
     }
-    Ok(())
 }

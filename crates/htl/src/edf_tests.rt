@@ -10,7 +10,6 @@ use htl_edf::{EdfFault, Tight, edf, tighten};
 use htl_model::bits::has_bit;
 use htl_walk::{Job, SInstr};
 use std::alloc::{AllocError, Global};
-use std::test::Fail;
 
 fn job(release: u64, end: u64, worst: u64, preds: u128) -> Job {
     Job {
@@ -107,22 +106,22 @@ fn plan(
     jobs: &[Job],
     places: &[usize],
     period: u64,
-) -> Result<Option<Result<Vec<SInstr>, EdfFault>>, AllocError> {
+) -> Option<Result<Vec<SInstr>, EdfFault>> {
     if !are_well_formed(jobs)
         || !are_in_order(jobs, places)
         || !end_within(jobs, period)
         || period > 1_000_000
     {
-        return Ok(None);
+        return None;
     }
     match edf(alloc, jobs, period) {
-        Ok(schedule) => Ok(Some(Ok(schedule.instrs.into_vec()))),
-        Err(fault) => Ok(Some(Err(fault))),
+        Ok(schedule) => Some(Ok(schedule.instrs.into_vec())),
+        Err(fault) => Some(Err(fault)),
     }
 }
 
-// The jobs of rows.
-fn jobs_in(alloc: Global, rows: &[JobRow]) -> Result<Vec<Job>, AllocError> {
+/// The jobs of rows.
+pub fn jobs_in(alloc: Global, rows: &[JobRow]) -> Result<Vec<Job>, AllocError> {
     let mut jobs = Vec::new(alloc);
     for (release, end, worst, preds) in rows {
         jobs.push(job(*release, *end, *worst, *preds))?;
@@ -149,37 +148,35 @@ fn planned(
     rows: &[JobRow],
     places: &[usize],
     period: u64,
-) -> Result<Option<Result<Vec<SInstr>, EdfFault>>, AllocError> {
-    let jobs = jobs_in(alloc, rows)?;
+) -> Option<Result<Vec<SInstr>, EdfFault>> {
+    let jobs = jobs_in(alloc, rows).ok()?;
     plan(alloc, jobs.as_slice(), places, period)
 }
 
 #[test]
-fn schedules(rt: HostRuntime) -> Result<(), Fail> {
+fn schedules(rt: HostRuntime) {
     for (k, (jobs, places, period, dispatches)) in SCHEDULES.iter().enumerate() {
-        let wanted = instrs_of(rt.alloc(), dispatches)?;
-        let answer = planned(rt.alloc(), jobs, places, *period)?;
+        let wanted = instrs_of(rt.alloc(), dispatches).expect(&rt, "memory");
+        let answer = planned(rt.alloc(), jobs, places, *period);
         holds_in(&rt, k, answer == Some(Ok(wanted)));
     }
-    Ok(())
 }
 
 #[test]
-fn overloads(rt: HostRuntime) -> Result<(), Fail> {
+fn overloads(rt: HostRuntime) {
     for (k, (jobs, places, period, (from, to, demand))) in OVERLOADS.iter().enumerate() {
         let fault = EdfFault::Overload {
             from: *from,
             to: *to,
             demand: *demand,
         };
-        let answer = planned(rt.alloc(), jobs, places, *period)?;
+        let answer = planned(rt.alloc(), jobs, places, *period);
         holds_in(&rt, k, answer == Some(Err(fault)));
     }
-    Ok(())
 }
 
 #[test]
-fn tightened_windows(rt: HostRuntime) -> Result<(), Fail> {
+fn tightened_windows(rt: HostRuntime) {
     let jobs = [job(5, 10, 3, 0), job(0, 4, 1, 1)];
     let mut out = [Tight { release: 0, end: 0 }; 2];
     if are_well_formed(&jobs) {
@@ -213,11 +210,10 @@ fn tightened_windows(rt: HostRuntime) -> Result<(), Fail> {
         Tight { release: 9, end: 3 },
     ];
     same(&rt, out, wanted);
-    Ok(())
 }
 
 #[test]
-fn a_full_processor(rt: HostRuntime) -> Result<(), Fail> {
+fn a_full_processor(rt: HostRuntime) {
     // position q is released at q, and waits for the one before it where q is odd
     let mut jobs = [job(0, 1_000_000, 7_812, 0); 128];
     let mut places = [0; 128];
@@ -228,7 +224,7 @@ fn a_full_processor(rt: HostRuntime) -> Result<(), Fail> {
         }
         places[q] = q;
     }
-    let answer = plan(rt.alloc(), &jobs, &places, 1_000_000)?;
+    let answer = plan(rt.alloc(), &jobs, &places, 1_000_000);
     let count = match answer {
         Some(Ok(instrs)) => instrs.len(),
         _ => 0,
@@ -240,7 +236,6 @@ fn a_full_processor(rt: HostRuntime) -> Result<(), Fail> {
         to: 1_000_000,
         demand: 1_000_001,
     };
-    let answer = plan(rt.alloc(), &jobs, &places, 1_000_000)?;
+    let answer = plan(rt.alloc(), &jobs, &places, 1_000_000);
     holds(&rt, answer == Some(Err(fault)));
-    Ok(())
 }

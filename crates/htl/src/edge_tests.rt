@@ -1,8 +1,8 @@
 // The fakes, call by call.
 use crate::asserts::{holds, holds_in, same};
 use crate::calls::shelf_of;
-use htl_edge::{Failed, LineBuffer, Page, Shelf, ShelfFault, Sink, Source, Tape, put_all};
-use std::test::Fail;
+use htl_edge::{Drawer, Failed, LineBuffer, Page, Shelf, ShelfFault, Sink, Source, Tape, put_all};
+use std::alloc::Global;
 
 // What a read with so much room answers, and what is in the buffer then.
 fn read(tape: &mut Tape, room: usize) -> (Result<usize, Failed>, [u8; 3]) {
@@ -22,12 +22,11 @@ const READS: [(usize, (Result<usize, Failed>, [u8; 3])); 6] = [
 ];
 
 #[test]
-fn tape_gives_its_bytes_by_steps(rt: HostRuntime) -> Result<(), Fail> {
-    let mut tape = Tape::new(rt.alloc(), b"abcde", 2, &[3])?;
+fn tape_gives_its_bytes_by_steps(rt: HostRuntime) {
+    let mut tape = Tape::new(rt.alloc(), b"abcde", 2, &[3]).expect(&rt, "memory");
     for (room, wanted) in READS {
         same(&rt, read(&mut tape, room), wanted);
     }
-    Ok(())
 }
 
 // Pieces for a page of five bytes whose second write fails.
@@ -38,8 +37,8 @@ const WRITES: [(&[u8], Result<usize, Failed>); 3] = [
 ];
 
 #[test]
-fn page_takes_what_fits(rt: HostRuntime) -> Result<(), Fail> {
-    let mut page = Page::new(rt.alloc(), 5, &[2])?;
+fn page_takes_what_fits(rt: HostRuntime) {
+    let mut page = Page::new(rt.alloc(), 5, &[2]).expect(&rt, "memory");
     for (piece, wanted) in WRITES {
         same(&rt, page.write(piece), wanted);
     }
@@ -47,17 +46,15 @@ fn page_takes_what_fits(rt: HostRuntime) -> Result<(), Fail> {
         &rt,
         put_all(&mut page, b"defg") == Err(Failed) && page.bytes() == b"abcde".as_slice(),
     );
-    Ok(())
 }
 
 #[test]
-fn pieces_are_put_whole(rt: HostRuntime) -> Result<(), Fail> {
-    let mut page = Page::new(rt.alloc(), 5, &[])?;
+fn pieces_are_put_whole(rt: HostRuntime) {
+    let mut page = Page::new(rt.alloc(), 5, &[]).expect(&rt, "memory");
     holds(
         &rt,
         put_all(&mut page, b"abcde") == Ok(()) && page.bytes() == b"abcde".as_slice(),
     );
-    Ok(())
 }
 
 /// Whether a fetch gives these bytes, or this fault.
@@ -81,11 +78,16 @@ const FETCHES: [(&str, u64, Result<&[u8], ShelfFault>); 5] = [
     ("A", 2, Ok(b"12")),
 ];
 
+// The files, where the fourth fetch fails.
+fn two_files(alloc: Global) -> Option<Drawer> {
+    let first = Vec::from_slice(alloc, b"12").ok()?;
+    shelf_of(alloc, first, Vec::from_slice(alloc, b"345").ok()?, &[4])
+}
+
 #[test]
-fn drawer_gives_files_by_name(rt: HostRuntime) -> Result<(), Fail> {
+fn drawer_gives_files_by_name(rt: HostRuntime) {
     let alloc = rt.alloc();
-    let first = Vec::from_slice(alloc, b"12")?;
-    let mut shelf = shelf_of(alloc, first, Vec::from_slice(alloc, b"345")?, &[4])?;
+    let mut shelf = two_files(alloc).expect(&rt, "memory");
     for (name, limit, wanted) in FETCHES {
         holds_in(
             &rt,
@@ -93,11 +95,10 @@ fn drawer_gives_files_by_name(rt: HostRuntime) -> Result<(), Fail> {
             is_fetched(shelf.fetch(alloc, name, limit), wanted),
         );
     }
-    Ok(())
 }
 
 #[test]
-fn a_line_is_put_together(rt: HostRuntime) -> Result<(), Fail> {
+fn a_line_is_put_together(rt: HostRuntime) {
     let mut line = LineBuffer::new();
     line.text(b"left");
     line.clear();
@@ -111,5 +112,4 @@ fn a_line_is_put_together(rt: HostRuntime) -> Result<(), Fail> {
         line.as_bytes(),
         b"v at 18446744073709551615 -9223372036854775808".as_slice(),
     );
-    Ok(())
 }

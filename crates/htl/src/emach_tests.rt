@@ -20,7 +20,6 @@ use htl_emach::{EMach, World};
 use htl_model::Tables;
 use htl_model::lookup::is_concrete;
 use std::alloc::Global;
-use std::test::Fail;
 
 // Whether there is a communicator of integers.
 fn is_int(t: &Tables, comm: u16) -> bool
@@ -327,9 +326,8 @@ const STATES: States = [
 ];
 
 #[test]
-fn one_invocation(rt: HostRuntime) -> Result<(), Fail> {
+fn one_invocation(rt: HostRuntime) {
     let mut told = Vec::new(rt.alloc());
     same(&rt, run(rt.alloc(), &mut told), Some(STATES));
     same(&rt, told.as_slice(), &TOLD[..]);
-    Ok(())
 }

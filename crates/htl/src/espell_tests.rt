@@ -8,7 +8,6 @@ use htl_ecode::{ECode, EFault, EInstr, EKind, generate_e};
 use htl_espell::spells;
 use htl_model::Tables;
 use std::alloc::Global;
-use std::test::Fail;
 
 // In each 20 ticks `dbl` reads s at 0 and writes u at 10.
 const ONE_INVOCATION: &str = "program P {
@@ -142,9 +141,8 @@ fn has_made(alloc: Global, text: &str) -> Option<bool> {
 }
 
 #[test]
-fn the_code_of_one_invocation(rt: HostRuntime) -> Result<(), Fail> {
+fn the_code_of_one_invocation(rt: HostRuntime) {
     same(&rt, has_made(rt.alloc(), ONE_INVOCATION), Some(true));
-    Ok(())
 }
 
 const DEPARTURES: [(usize, EInstr, u32, EKind); 8] = [
@@ -204,17 +202,16 @@ const DEPARTURES: [(usize, EInstr, u32, EKind); 8] = [
 ];
 
 #[test]
-fn first_departures(rt: HostRuntime) -> Result<(), Fail> {
+fn first_departures(rt: HostRuntime) {
     same(&rt, changed(rt.alloc(), 4, EInstr::Return), Some(Ok(())));
     for (place, i, address, kind) in DEPARTURES {
         let fault = EFault { address, kind };
         same(&rt, changed(rt.alloc(), place, i), Some(Err(fault)));
     }
-    Ok(())
 }
 
 #[test]
-fn long_chains_of_jumps(rt: HostRuntime) -> Result<(), Fail> {
+fn long_chains_of_jumps(rt: HostRuntime) {
     let first = EInstr::Future {
         delay: 10,
         phase: 1,
@@ -235,5 +232,4 @@ fn long_chains_of_jumps(rt: HostRuntime) -> Result<(), Fail> {
         chained(rt.alloc(), EInstr::Jump { target: 11 }),
         Some(Err(round)),
     );
-    Ok(())
 }

@@ -6,7 +6,6 @@ use htl_edge::Tape;
 use htl_model::{Event, Tables};
 use htl_script::{Script, ScriptFault, ScriptKind, ScriptStop};
 use std::alloc::Global;
-use std::test::Fail;
 
 // The sensors s (int) and g (bool), a communicator u, and in the mode M.m the invocations of dbl with
 // worst case 4 and of the abstract hold.
@@ -102,14 +101,13 @@ const REFUSED: [(&[u8], u64, ScriptKind); 10] = [
 ];
 
 #[test]
-fn the_first_fault_is_named(rt: HostRuntime) -> Result<(), Fail> {
+fn the_first_fault_is_named(rt: HostRuntime) {
     for (script, line, kind) in REFUSED {
         for step in [1usize, 7, 4096] {
             let fault = ScriptStop::Script(ScriptFault { line, kind });
             same(&rt, ended(rt.alloc(), script, step, &[]), Some(Err(fault)));
         }
     }
-    Ok(())
 }
 
 const LONG: ScriptFault = ScriptFault {
@@ -118,7 +116,7 @@ const LONG: ScriptFault = ScriptFault {
 };
 
 #[test]
-fn long_lines_are_refused(rt: HostRuntime) -> Result<(), Fail> {
+fn long_lines_are_refused(rt: HostRuntime) {
     let mut script = [b'#'; 263];
     script[256..].copy_from_slice(b"\nend 5\n");
     for step in [1usize, 7, 4096] {
@@ -127,7 +125,6 @@ fn long_lines_are_refused(rt: HostRuntime) -> Result<(), Fail> {
         let short = has_events(rt.alloc(), &script[1..], step, &[Event::End(5)]);
         same(&rt, short, Some(true));
     }
-    Ok(())
 }
 
 const WHOLE: &[u8] =
@@ -147,7 +144,7 @@ const EVENTS: [Event; 7] = [
 ];
 
 #[test]
-fn a_whole_script_gives_its_events(rt: HostRuntime) -> Result<(), Fail> {
+fn a_whole_script_gives_its_events(rt: HostRuntime) {
     for step in [1usize, 7, 4096] {
         same(
             &rt,
@@ -163,7 +160,6 @@ fn a_whole_script_gives_its_events(rt: HostRuntime) -> Result<(), Fail> {
         );
         same(&rt, last, Some(true));
     }
-    Ok(())
 }
 
 // Whether the source fails at this call behind some of the first seven events, or behind none.
@@ -179,11 +175,10 @@ fn is_cut(alloc: Global, call: u64) -> Option<bool> {
 }
 
 #[test]
-fn a_fault_of_the_source_is_told(rt: HostRuntime) -> Result<(), Fail> {
+fn a_fault_of_the_source_is_told(rt: HostRuntime) {
     // The script comes in 16 pieces of 7 bytes, and one more call meets its end.
     for call in 1..18u64 {
         same(&rt, is_cut(rt.alloc(), call), Some(true));
     }
     same(&rt, ended(rt.alloc(), WHOLE, 7, &[18]), Some(Ok(())));
-    Ok(())
 }

@@ -3,7 +3,6 @@ use crate::asserts::same;
 use htl_edge::Page;
 use htl_script::{ScriptFault, ScriptKind};
 use htl_top::{Outcome, report};
-use std::test::Fail;
 
 const TOLD: &[(Outcome, &str)] = &[
     (
@@ -24,12 +23,10 @@ const TOLD: &[(Outcome, &str)] = &[
 ];
 
 #[test]
-fn lines_are_told(rt: HostRuntime) -> Result<(), Fail> {
-    let alloc = rt.alloc();
+fn lines_are_told(rt: HostRuntime) {
     for (outcome, line) in TOLD {
-        let mut page = Page::new(alloc, 100, &[])?;
+        let mut page = Page::new(rt.alloc(), 100, &[]).expect(&rt, "memory");
         report(&mut page, None, outcome);
         same(&rt, page.bytes(), line.as_bytes());
     }
-    Ok(())
 }

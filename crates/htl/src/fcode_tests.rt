@@ -6,7 +6,6 @@ use htl_base::{Seq, Ty, Value};
 use htl_fcode::{eval, verify};
 use htl_model::{Code, FInstr};
 use std::alloc::{AllocError, Global};
-use std::test::Fail;
 
 fn code(alloc: Global, args: &[Ty], want: Ty, instrs: &[FInstr]) -> Result<Code, AllocError> {
     Ok(Code {
@@ -90,26 +89,28 @@ const CODES: [(&[FInstr], Ty, bool); 18] = [
 ];
 
 #[test]
-fn wrong_code_is_refused(rt: HostRuntime) -> Result<(), Fail> {
+fn wrong_code_is_refused(rt: HostRuntime) {
     for (instrs, want, right) in CODES {
-        let code = code(rt.alloc(), &[Ty::Int, Ty::Bool], want, instrs)?;
+        let code = code(rt.alloc(), &[Ty::Int, Ty::Bool], want, instrs).expect(&rt, "memory");
         same_in(&rt, instrs, passes(&code), right);
     }
-    Ok(())
 }
 
 #[test]
-fn limits_are_kept(rt: HostRuntime) -> Result<(), Fail> {
+fn limits_are_kept(rt: HostRuntime) {
     for (ones, times, right) in [(64, 511, true), (65, 512, false)] {
-        same(&rt, passes(&sum(rt.alloc(), ones)?), right);
-        same(&rt, passes(&negated(rt.alloc(), times)?), right);
+        let sum = sum(rt.alloc(), ones).expect(&rt, "memory");
+        let negated = negated(rt.alloc(), times).expect(&rt, "memory");
+        same(&rt, [passes(&sum), passes(&negated)], [right, right]);
     }
-    Ok(())
+}
+
+fn value_of_sum(alloc: Global, ones: u32) -> Result<Option<Value>, AllocError> {
+    let code = sum(alloc, ones)?;
+    Ok(value_of(&code))
 }
 
 #[test]
-fn sums_are_evaluated(rt: HostRuntime) -> Result<(), Fail> {
-    let code = sum(rt.alloc(), 64)?;
-    same(&rt, value_of(&code), Some(64));
-    Ok(())
+fn sums_are_evaluated(rt: HostRuntime) {
+    same(&rt, value_of_sum(rt.alloc(), 64), Ok(Some(64)));
 }

@@ -6,7 +6,6 @@ use htl_base::Time;
 use htl_form::frames;
 use htl_model::{FormFault, Tables};
 use std::alloc::Global;
-use std::test::Fail;
 
 // Two root modules, the first with two modes of period p, the second with one of period q.
 fn two_modules(alloc: Global, p: &'static str, q: &'static str) -> Option<Tables> {
@@ -49,8 +48,18 @@ fn exceeded(have: u64, need: u64) -> FormFault {
     }
 }
 
-// The periods, and the numbers of the frame, or what there is and what there may be.
-const FRAMES: [(&'static str, &'static str, Result<Numbers, (u64, u64)>); 6] = [
+// The numbers of a frame, or what there is and what there may be.
+type Wanted = Result<Numbers, (u64, u64)>;
+
+fn told(wanted: Wanted) -> Result<Numbers, FormFault> {
+    match wanted {
+        Ok(numbers) => Ok(numbers),
+        Err((have, need)) => Err(exceeded(have, need)),
+    }
+}
+
+// The periods, and what is answered.
+const FRAMES: [(&'static str, &'static str, Wanted); 6] = [
     // a multiple of a million at most
     ("1000000", "999999", Err((999_999_000_000, 1_000_000))),
     // at most 32 starts
@@ -64,10 +73,8 @@ const FRAMES: [(&'static str, &'static str, Result<Numbers, (u64, u64)>); 6] = [
 ];
 
 #[test]
-fn limits_and_numbers_of_frames(rt: HostRuntime) -> Result<(), Fail> {
+fn limits_and_numbers_of_frames(rt: HostRuntime) {
     for (p, q, wanted) in FRAMES {
-        let wanted = wanted.map_err(|(have, need)| exceeded(have, need));
-        same(&rt, answer(rt.alloc(), p, q), Some(wanted));
+        same(&rt, answer(rt.alloc(), p, q), Some(told(wanted)));
     }
-    Ok(())
 }

@@ -8,7 +8,6 @@ use htl_edf::edf_nodes;
 use htl_model::Tables;
 use htl_slack::{Above, SlackReport, is_root_task, slack};
 use std::alloc::Global;
-use std::test::Fail;
 
 fn report(alloc: Global, t: &Tables, task: u16) -> Option<SlackReport>
     requires framed { IsFramed t.now }
@@ -31,7 +30,7 @@ fn answer(alloc: Global, task: u16) -> Option<(u32, Option<Above>)> {
 }
 
 #[test]
-fn a_task_of_two_rounds_counts_twice(rt: HostRuntime) -> Result<(), Fail> {
+fn a_task_of_two_rounds_counts_twice(rt: HostRuntime) {
     let above = Above {
         selection: 0,
         from: 0,
@@ -40,5 +39,4 @@ fn a_task_of_two_rounds_counts_twice(rt: HostRuntime) -> Result<(), Fail> {
     };
     same(&rt, answer(rt.alloc(), 0), Some((5, Some(above))));
     same(&rt, answer(rt.alloc(), 1), Some((14, Some(above))));
-    Ok(())
 }

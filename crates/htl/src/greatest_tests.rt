@@ -9,7 +9,6 @@ use htl_model::Tables;
 use htl_slack::{Above, SlackReport, is_root_task, slack};
 use htl_walk::SInstr;
 use std::alloc::Global;
-use std::test::Fail;
 
 // A task of worst case 4, with a window of 10 ticks.
 const SINGLE: &str = "program P {
@@ -98,11 +97,10 @@ const SLACKS: [(Text, u16, Option<(u32, Option<Above>)>); 5] = [
 ];
 
 #[test]
-fn what_stands_above(rt: HostRuntime) -> Result<(), Fail> {
+fn what_stands_above(rt: HostRuntime) {
     for (text, task, wanted) in SLACKS {
         same(&rt, answer(rt.alloc(), text, task), wanted);
     }
-    Ok(())
 }
 
 const LIST: [SInstr; 2] = [
@@ -114,8 +112,7 @@ const LIST: [SInstr; 2] = [
 ];
 
 #[test]
-fn the_schedule_of_the_greatest_worst_case(rt: HostRuntime) -> Result<(), Fail> {
+fn the_schedule_of_the_greatest_worst_case(rt: HostRuntime) {
     let list = has_list(rt.alloc(), Text::Whole(SINGLE), 0, &LIST);
     same(&rt, list, Some(true));
-    Ok(())
 }

@@ -1,10 +1,9 @@
 // Sources that are no tree of programs, and sources at the limits.
-use crate::asserts::{holds_in, same_in};
-use crate::pieces::{Piece, push};
+use crate::asserts::{same, same_in};
+use crate::pieces::{Piece, push, push_number};
 use crate::texts::{judged, judged_text};
 use htl_top::SourceFault;
 use std::alloc::{AllocError, Global};
-use std::test::Fail;
 
 // A text, and its fault where it has no tables.
 type Source = (&'static [Piece], Option<SourceFault>);
@@ -269,21 +268,21 @@ const ORPHAN: &[Source] = &[(
 )];
 
 // The number of the first source that has another answer.
-fn first_wrong(alloc: Global, sources: &[Source]) -> Result<Option<usize>, AllocError> {
+fn first_wrong(alloc: Global, sources: &[Source]) -> Option<usize> {
     for (k, (pieces, fault)) in sources.iter().enumerate() {
         let want = match fault {
             Some(fault) => Err(*fault),
             None => Ok(()),
         };
-        if judged(alloc, pieces)? != Some(want) {
-            return Ok(Some(k));
+        if judged(alloc, pieces) != Ok(Some(want)) {
+            return Some(k);
         }
     }
-    Ok(None)
+    None
 }
 
 #[test]
-fn sources_are_judged(rt: HostRuntime) -> Result<(), Fail> {
+fn sources_are_judged(rt: HostRuntime) {
     let tables = [
         ("programs that are no tree", NO_TREES),
         ("names that keep the rules", KEPT),
@@ -292,9 +291,8 @@ fn sources_are_judged(rt: HostRuntime) -> Result<(), Fail> {
         ("an unknown parent stands before a limit", ORPHAN),
     ];
     for (name, sources) in tables {
-        same_in(&rt, name, first_wrong(rt.alloc(), sources)?, None);
+        same_in(&rt, name, first_wrong(rt.alloc(), sources), None);
     }
-    Ok(())
 }
 
 // For each module, how many tasks each of its modes invokes.
@@ -329,6 +327,19 @@ const INVOCATIONS: &[(Counts, Option<(u8, u32)>)] = &[
     (&[&[129], &[0; 256]], Some((3, 257))),
 ];
 
+// Puts a mode that invokes so many tasks behind a text.
+fn push_mode(
+    alloc: Global,
+    text: &mut String,
+    number: usize,
+    count: usize,
+) -> Result<(), AllocError> {
+    push_number(alloc, text, number, (" mode m", " period 1 {"))?;
+    let invoked = Piece::Numbered(count, " invoke t", " input () output ();");
+    push(alloc, text, invoked)?;
+    text.push_str(" }")
+}
+
 // A module with 129 tasks and these modes.
 fn push_module(
     alloc: Global,
@@ -336,14 +347,11 @@ fn push_module(
     number: usize,
     modes: &[usize],
 ) -> Result<(), AllocError> {
-    text.push_str(format!(in alloc; " module M{number} start m0 {{")?.as_str())?;
+    push_number(alloc, text, number, (" module M", " start m0 {"))?;
     let tasks = Piece::Numbered(129, " task t", " input () output () worst 1;");
     push(alloc, text, tasks)?;
     for (k, count) in modes.iter().enumerate() {
-        text.push_str(format!(in alloc; " mode m{k} period 1 {{")?.as_str())?;
-        let invoked = Piece::Numbered(*count, " invoke t", " input () output ();");
-        push(alloc, text, invoked)?;
-        text.push_str(" }")?;
+        push_mode(alloc, text, k, *count)?;
     }
     text.push_str(" }")
 }
@@ -357,19 +365,22 @@ fn modules(alloc: Global, counts: &[&[usize]]) -> Result<String, AllocError> {
     Ok(text)
 }
 
+// Whether these modules are a source, or the first name rule that they break.
+fn judged_modules(
+    alloc: Global,
+    counts: &[&[usize]],
+) -> Result<Option<Result<(), SourceFault>>, AllocError> {
+    let text = modules(alloc, counts)?;
+    Ok(judged_text(alloc, text.as_bytes()))
+}
+
 #[test]
-fn invocations_end_at_their_limits(rt: HostRuntime) -> Result<(), Fail> {
+fn invocations_end_at_their_limits(rt: HostRuntime) {
     for (counts, exceeded) in INVOCATIONS {
-        let text = modules(rt.alloc(), counts)?;
         let want = match *exceeded {
             Some((which, count)) => Err(SourceFault::Limit { which, count }),
             None => Ok(()),
         };
-        holds_in(
-            &rt,
-            exceeded,
-            judged_text(rt.alloc(), text.as_bytes()) == Some(want),
-        );
+        same(&rt, judged_modules(rt.alloc(), counts), Ok(Some(want)));
     }
-    Ok(())
 }

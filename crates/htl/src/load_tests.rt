@@ -1,6 +1,6 @@
 // Objects that are accepted, and the first faults of changed ones.
 use crate::asserts::{holds, same};
-use crate::object_bytes::{DOUBLING, NO_MODULE, PORT, REFINED, TWO_JOBS, TWO_MODES};
+use crate::object_bytes::{DOUBLING, NO_MODULE, PORT, REFINED, TWO_JOBS, TWO_MODES, changed};
 use htl_base::Name;
 use htl_ecode::{EFault, EKind};
 use htl_load::{LoadFault, Loaded, ObjectFault, load};
@@ -8,7 +8,6 @@ use htl_model::{FormFault, Tables};
 use htl_object::{MalKind, Malformed};
 use htl_walk::Miss;
 use std::alloc::{AllocError, Global};
-use std::test::Fail;
 
 // The object of one invocation, with a plain jump to the block that reads.
 const JUMPING: [u8; 215] = [
@@ -62,24 +61,6 @@ const LONGER_THAN_REFINED: FormFault = FormFault {
 
 pub fn bad_field(offset: u64, kind: MalKind) -> Answer {
     Err(ObjectFault::Malformed(Malformed { offset, kind }))
-}
-
-// The object with other bytes from a place on; what lies behind them is kept, or left out.
-pub fn changed(
-    alloc: Global,
-    object: &[u8],
-    at: usize,
-    by: &[u8],
-    rest: bool,
-) -> Result<Vec<u8>, AllocError> {
-    let mut bytes = Vec::new(alloc);
-    let (front, back) = object.split_at(at.min(object.len()));
-    bytes.extend_from_slice(front)?;
-    bytes.extend_from_slice(by)?;
-    if rest && by.len() <= back.len() {
-        bytes.extend_from_slice(&back[by.len()..])?;
-    }
-    Ok(bytes)
 }
 
 fn extent(t: &Tables) -> (u32, usize) {
@@ -314,12 +295,11 @@ const CHANGED: [ChangedRow; 25] = [
 ];
 
 #[test]
-fn objects_and_their_first_faults(rt: HostRuntime) -> Result<(), Fail> {
+fn objects_and_their_first_faults(rt: HostRuntime) {
     for (object, at, by, rest, want) in CHANGED {
-        let bytes = changed(rt.alloc(), object, at, by, rest)?;
+        let bytes = changed(rt.alloc(), object, at, by, rest).expect(&rt, "memory");
         same(&rt, answer(rt.alloc(), &bytes), Some(want));
     }
-    Ok(())
 }
 
 // The numbers of instructions of the E code, of the last schedule and of the first function, and of schedules.
@@ -339,12 +319,11 @@ fn sizes(loaded: &Loaded) -> Option<(usize, usize, usize, usize)> {
 }
 
 #[test]
-fn what_is_loaded_is_handed_out(rt: HostRuntime) -> Result<(), Fail> {
+fn what_is_loaded_is_handed_out(rt: HostRuntime) {
     let loaded = load(rt.alloc(), &TWO_JOBS)
         .ok()
         .expect(&rt, "an accepted object");
     same(&rt, sizes(&loaded), Some((18, 4, 3, 1)));
-    Ok(())
 }
 
 // The platform that what is loaded names.
@@ -352,14 +331,19 @@ fn platform(alloc: Global, bytes: &[u8]) -> Option<Name> {
     load(alloc, bytes).ok()?.platform()
 }
 
-#[test]
-fn a_platform_is_handed_out(rt: HostRuntime) -> Result<(), Fail> {
-    let mut named = Vec::new(rt.alloc());
+// NO_MODULE for a platform.
+fn named(alloc: Global) -> Result<Vec<u8>, AllocError> {
+    let mut named = Vec::new(alloc);
     named.extend_from_slice(b"HTLO\x00\x02\x04fast")?;
     named.extend_from_slice(&NO_MODULE[6..])?;
+    Ok(named)
+}
+
+#[test]
+fn a_platform_is_handed_out(rt: HostRuntime) {
+    let named = named(rt.alloc()).expect(&rt, "memory");
     holds(&rt, platform(rt.alloc(), &named) == Name::new(b"fast"));
     holds(&rt, platform(rt.alloc(), &NO_MODULE).is_none());
-    Ok(())
 }
 
 // How many of four broken places are mended, from the first on, and the answer: one test after the other.

@@ -17,7 +17,6 @@ use htl_machine::Machine;
 use htl_model::lookup::{is_concrete, task_worst};
 use htl_model::{Event, Tables};
 use std::alloc::Global;
-use std::test::Fail;
 
 // Whether a communicator is a sensor and a value is of its type.
 fn is_sensor_value(t: &Tables, comm: u16, x: Value) -> bool
@@ -160,13 +159,12 @@ fn shown(m: &Machine<'_>, t: &Tables, comm: u16) -> Option<(Value, Value, Time, 
 }
 
 #[test]
-fn a_machine_shows_what_stands_before_instant_0(rt: HostRuntime) -> Result<(), Fail> {
+fn a_machine_shows_what_stands_before_instant_0(rt: HostRuntime) {
     same(
         &rt,
         at_first(rt.alloc(), &DOUBLING, 1),
         Some((7, 7, 0, false)),
     );
-    Ok(())
 }
 
 // An object, events, the end of the run, and what is written.
@@ -277,7 +275,7 @@ const AFTER_RESTART: &str =
     "v 0 g 0\nv 0 u 0\nm 0 M m\nm 0 N one\nj 0 3 N.one.f\nd 3 N.one.f\nv 10 g 1\nv 10 u 1\nm 10 N two\nj 10 14 N.two.h\nd 14 N.two.h\nv 20 u 101\nend 20 jobs 2 e 41 s 4\n";
 
 #[test]
-fn runs_are_written(rt: HostRuntime) -> Result<(), Fail> {
+fn runs_are_written(rt: HostRuntime) {
     for (object, events, to, text) in RUNS {
         holds_in(&rt, text, writes(rt.alloc(), object, events, *to, text));
     }
@@ -285,5 +283,4 @@ fn runs_are_written(rt: HostRuntime) -> Result<(), Fail> {
         &rt,
         writes(rt.alloc(), &restarted(), &RESTART, 20, AFTER_RESTART),
     );
-    Ok(())
 }

@@ -1,9 +1,8 @@
 // Sources whose names break a rule.
-use crate::asserts::holds_in;
+use crate::asserts::same_in;
 use crate::pieces::Piece;
 use crate::texts::judged;
 use htl_top::SourceFault;
-use std::test::Fail;
 
 // A text in two pieces, the second of which begins at the place of a fault.
 type Cut = (&'static str, &'static str);
@@ -333,13 +332,17 @@ const TOLD: &[(Told, &[Cut])] = &[
 ];
 
 #[test]
-fn broken_names_are_told(rt: HostRuntime) -> Result<(), Fail> {
+fn broken_names_are_told(rt: HostRuntime) {
     for (told, rows) in TOLD {
         for (front, back) in *rows {
             let fault = told.at(front.len() as u64);
             let pieces = [Piece::Once(front), Piece::Once(back)];
-            holds_in(&rt, front, judged(rt.alloc(), &pieces)? == Some(Err(fault)));
+            same_in(
+                &rt,
+                front,
+                judged(rt.alloc(), &pieces),
+                Ok(Some(Err(fault))),
+            );
         }
     }
-    Ok(())
 }

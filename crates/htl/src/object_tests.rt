@@ -1,10 +1,9 @@
 // A worked object with each kind of item, its bad fields, and objects with many selections.
 ghost use Rattle.std.specs.Prelude.{◌≤◌};
 
-use crate::asserts::{holds, holds_in, same};
-use htl_object::{DecodeFault, MalKind, Malformed, decode, encode};
+use crate::asserts::{holds, same, same_in};
+use htl_object::{DecodeFault, MalKind, Malformed, Object, decode, encode};
 use std::alloc::{AllocError, Global};
-use std::test::Fail;
 
 const OBJECT: [u8; 385] = [
     // the text and the version
@@ -150,16 +149,20 @@ fn is_told(alloc: Global, at: usize, byte: u8, told: Malformed) -> Result<bool, 
 }
 
 #[test]
-fn bad_fields_are_told(rt: HostRuntime) -> Result<(), Fail> {
+fn bad_fields_are_told(rt: HostRuntime) {
     for (at, byte, kind, offset) in BAD_FIELDS {
         let told = Malformed { offset, kind };
-        holds_in(&rt, (at, byte), is_told(rt.alloc(), at, byte, told)?);
+        same_in(
+            &rt,
+            (at, byte),
+            is_told(rt.alloc(), at, byte, told),
+            Ok(true),
+        );
     }
-    Ok(())
 }
 
 #[test]
-fn cut_objects_are_short(rt: HostRuntime) {
+fn the_worked_object_is_short_where_it_is_cut(rt: HostRuntime) {
     for n in 0..OBJECT.len() {
         let told = Some(Malformed {
             offset: n as u64,
@@ -169,12 +172,25 @@ fn cut_objects_are_short(rt: HostRuntime) {
     }
 }
 
+/// Whether an object has these bytes.
+pub fn is_encoded(alloc: Global, object: &Object, bytes: &[u8]) -> bool {
+    match encode(alloc, object) {
+        Ok(again) => again.as_slice() == bytes,
+        Err(_) => false,
+    }
+}
+
+// Whether the object that these bytes say has these bytes.
+fn is_encoded_again(alloc: Global, bytes: &[u8]) -> bool {
+    match decode(alloc, bytes) {
+        Ok(object) => is_encoded(alloc, &object, bytes),
+        Err(_) => false,
+    }
+}
+
 #[test]
-fn what_is_decoded_is_encoded_again(rt: HostRuntime) -> Result<(), Fail> {
-    let object = decode(rt.alloc(), &OBJECT)?;
-    let bytes = encode(rt.alloc(), &object)?;
-    holds(&rt, bytes.as_slice() == OBJECT.as_slice());
-    Ok(())
+fn what_is_decoded_is_encoded_again(rt: HostRuntime) {
+    holds(&rt, is_encoded_again(rt.alloc(), &OBJECT));
 }
 
 // Root modules of two empty modes each, and schedules that end at once.
@@ -205,30 +221,23 @@ fn many(alloc: Global, modules: u8, schedules: u16) -> Result<Vec<u8>, AllocErro
 // Numbers of root modules and of schedules that don't fit.
 const MISCOUNTED: [(u8, u16); 4] = [(10, 1_023), (11, 1_024), (11, 2_048), (0, 1)];
 
-// Whether an object of so many modules and schedules has a number that is out of range.
-fn is_miscounted(alloc: Global, modules: u8, schedules: u16) -> Result<bool, AllocError>
+// What is answered of an object of so many modules and schedules.
+fn counted(alloc: Global, modules: u8, schedules: u16) -> Option<Result<(), MalKind>>
     requires { modules ≤ 11 }
 {
-    let bytes = many(alloc, modules, schedules)?;
-    match bad_field(alloc, &bytes) {
-        Some(told) => Ok(told.kind == MalKind::Index),
-        None => Ok(false),
+    let bytes = many(alloc, modules, schedules).ok()?;
+    match decode(alloc, &bytes) {
+        Ok(_) => Some(Ok(())),
+        Err(DecodeFault::Malformed(told)) => Some(Err(told.kind)),
+        Err(DecodeFault::Memory) => None,
     }
 }
 
 #[test]
-fn selections_are_counted(rt: HostRuntime) -> Result<(), Fail> {
-    let alloc = rt.alloc();
-    holds(
-        &rt,
-        decode(alloc, many(alloc, 10, 1_024)?.as_slice()).is_ok(),
-    );
+fn selections_are_counted(rt: HostRuntime) {
+    same(&rt, counted(rt.alloc(), 10, 1_024), Some(Ok(())));
     for (modules, schedules) in MISCOUNTED {
-        holds_in(
-            &rt,
-            (modules, schedules),
-            is_miscounted(alloc, modules, schedules)?,
-        );
+        let answer = counted(rt.alloc(), modules, schedules);
+        same_in(&rt, (modules, schedules), answer, Some(Err(MalKind::Index)));
     }
-    Ok(())
 }

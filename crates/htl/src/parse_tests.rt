@@ -3,7 +3,6 @@ use crate::asserts::{holds, same};
 use htl_parse::{ParseFault, parse};
 use htl_text::{Token, Tree, Word, lex, print};
 use std::alloc::{AllocError, Global};
-use std::test::Fail;
 
 // The answer to a text that has tokens.
 fn answer(alloc: Global, text: &[u8]) -> Option<Result<Tree, ParseFault>> {
@@ -104,12 +103,11 @@ fn printed(alloc: Global, text: &[u8]) -> Option<Vec<u8>> {
 }
 
 #[test]
-fn each_form_parses(rt: HostRuntime) -> Result<(), Fail> {
+fn each_form_parses(rt: HostRuntime) {
     for text in [FORMS, PRINTED] {
         let printed = printed(rt.alloc(), text).expect(&rt, "a tree");
         same(&rt, printed.as_slice(), PRINTED);
     }
-    Ok(())
 }
 
 // Whether the first tokens of a text spell nothing, however many they are, and all of them a tree.
@@ -144,7 +142,7 @@ const WHOLE: [&[u8]; 2] = [
 ];
 
 #[test]
-fn prefixes_are_refused(rt: HostRuntime) -> Result<(), Fail> {
+fn prefixes_are_refused(rt: HostRuntime) {
     for text in WHOLE {
         holds(&rt, needs_each_token(rt.alloc(), text));
     }
@@ -152,7 +150,6 @@ fn prefixes_are_refused(rt: HostRuntime) -> Result<(), Fail> {
         &rt,
         !needs_each_token(rt.alloc(), b"program P {} program Q {}"),
     );
-    Ok(())
 }
 
 // Before and behind the expression of an output: 8 tokens and 10 of its statement, and 3 of its statement.
@@ -189,12 +186,11 @@ fn long_at(alloc: Global, pieces: &[(&[u8], usize)]) -> Result<Option<u32>, Allo
 }
 
 #[test]
-fn the_513th_token_of_a_run_is_too_many(rt: HostRuntime) -> Result<(), Fail> {
-    holds(&rt, is_answered(rt.alloc(), SHORT, &[Kind::Tree])?);
+fn the_513th_token_of_a_run_is_too_many(rt: HostRuntime) {
+    same(&rt, is_answered(rt.alloc(), SHORT, &[Kind::Tree]), Ok(true));
     for (pieces, wanted) in LONG {
-        same(&rt, long_at(rt.alloc(), pieces)?, Some(wanted));
+        same(&rt, long_at(rt.alloc(), pieces), Ok(Some(wanted)));
     }
-    Ok(())
 }
 
 // Whether the token at this place is this one.
@@ -208,14 +204,15 @@ fn has_token(alloc: Global, text: &[u8], place: usize, token: Token) -> bool {
     }
 }
 
+// Whether the token of the joined pieces at this place is `worst`.
+fn is_worst(alloc: Global, pieces: &[(&[u8], usize)], place: usize) -> Result<bool, AllocError> {
+    let text = joined(alloc, pieces)?;
+    Ok(has_token(alloc, &text, place, Token::Word(Word::Worst)))
+}
+
 #[test]
-fn the_token_of_a_long_run_is_told(rt: HostRuntime) -> Result<(), Fail> {
-    let text = joined(rt.alloc(), LONG[0].0)?;
-    holds(
-        &rt,
-        has_token(rt.alloc(), &text, 520, Token::Word(Word::Worst)),
-    );
-    Ok(())
+fn the_token_of_a_long_run_is_told(rt: HostRuntime) {
+    same(&rt, is_worst(rt.alloc(), LONG[0].0, 520), Ok(true));
 }
 
 const DEEP: [(&[(&[u8], usize)], &[Kind]); 8] = [
@@ -253,11 +250,10 @@ const DEEP: [(&[(&[u8], usize)], &[Kind]); 8] = [
 ];
 
 #[test]
-fn deep_statements_end(rt: HostRuntime) -> Result<(), Fail> {
+fn deep_statements_end(rt: HostRuntime) {
     for (pieces, kinds) in DEEP {
-        holds(&rt, is_answered(rt.alloc(), pieces, kinds)?);
+        same(&rt, is_answered(rt.alloc(), pieces, kinds), Ok(true));
     }
-    Ok(())
 }
 
 // A source of 200 tasks with deep expressions.
@@ -283,10 +279,9 @@ fn large(alloc: Global) -> Result<Vec<u8>, AllocError> {
 }
 
 #[test]
-fn a_large_source_parses(rt: HostRuntime) -> Result<(), Fail> {
-    let text = large(rt.alloc())?;
+fn a_large_source_parses(rt: HostRuntime) {
+    let text = large(rt.alloc()).expect(&rt, "a text");
     holds(&rt, kind_of(rt.alloc(), &text) == Some(Kind::Tree));
-    Ok(())
 }
 
 const REFUSED: [&[u8]; 12] = [

@@ -1,13 +1,12 @@
 // Objects whose refinement is replaced, and the first faults of donors.
 use crate::asserts::same;
-use crate::object_bytes::REFINED;
+use crate::object_bytes::{REFINED, changed};
 use htl_base::Name;
 use htl_load::{Loaded, load};
 use htl_model::{FormFault, Tables};
 use htl_object::decode;
 use htl_patch::{PatchFault, PatchStop, patch};
-use std::alloc::{AllocError, Global};
-use std::test::Fail;
+use std::alloc::Global;
 
 // The worst case of the first task of the refinement; or the fault, and whether the new tables were handed back.
 type Answer = Result<u32, (PatchFault, bool)>;
@@ -20,18 +19,6 @@ const LONGER_THAN_REFINED: FormFault = FormFault {
     have: 5,
     need: 4,
 };
-
-// The object with another byte.
-fn changed(alloc: Global, at: usize, by: u8) -> Result<Vec<u8>, AllocError> {
-    let mut bytes = Vec::new(alloc);
-    let (front, back) = REFINED.split_at(at.min(REFINED.len()));
-    bytes.extend_from_slice(front)?;
-    bytes.push(by)?;
-    if !back.is_empty() {
-        bytes.extend_from_slice(&back[1..])?;
-    }
-    Ok(bytes)
-}
 
 // What patching answers; None where the donor's bytes are no object.
 fn patched(
@@ -128,10 +115,9 @@ const DONORS: [(&[u8], &[u8], usize, u8, Answer); 10] = [
 ];
 
 #[test]
-fn donors_and_their_first_faults(rt: HostRuntime) -> Result<(), Fail> {
+fn donors_and_their_first_faults(rt: HostRuntime) {
     for (unit, mode, at, by, wanted) in DONORS {
-        let donor = changed(rt.alloc(), at, by)?;
+        let donor = changed(rt.alloc(), &REFINED, at, &[by], true).expect(&rt, "memory");
         same(&rt, answer(rt.alloc(), unit, mode, &donor), Some(wanted));
     }
-    Ok(())
 }

@@ -2,7 +2,6 @@
 use crate::asserts::same;
 use crate::calls::{Content, EMPTY, Group, Place, Row, Streams, Text, first_wrong};
 use crate::samples::{NESTED, REFINED, SOMETIMES, TANKS};
-use std::test::Fail;
 
 // Mode `rest` of M is refined by a program with one module, and by an empty one.
 const RESTING: &str = "program P {
@@ -262,7 +261,6 @@ const GROUPS: &[Group] = &[
 ];
 
 #[test]
-fn calls_are_answered(rt: HostRuntime) -> Result<(), Fail> {
-    same(&rt, first_wrong(rt.alloc(), GROUPS)?, None);
-    Ok(())
+fn calls_are_answered(rt: HostRuntime) {
+    same(&rt, first_wrong(rt.alloc(), GROUPS), None);
 }

@@ -23,15 +23,40 @@ pub enum Text {
 /// Puts a piece behind a text.
 pub fn push(alloc: Global, text: &mut String, piece: Piece) -> Result<(), AllocError> {
     match piece {
-        Piece::Once(once) => text.push_str(once)?,
-        Piece::Copies(count, one) => for _ in 0..count {
-            text.push_str(one)?;
-        },
-        Piece::Numbered(count, left, right) => for k in 0..count {
-            text.push_str(format!(in alloc; "{left}{k}{right}")?.as_str())?;
-        },
+        Piece::Once(once) => text.push_str(once),
+        Piece::Copies(count, one) => push_copies(text, count, one),
+        Piece::Numbered(count, left, right) => push_numbered(alloc, text, count, (left, right)),
+    }
+}
+
+fn push_copies(text: &mut String, count: usize, one: &str) -> Result<(), AllocError> {
+    for _ in 0..count {
+        text.push_str(one)?;
     }
     Ok(())
+}
+
+fn push_numbered(
+    alloc: Global,
+    text: &mut String,
+    count: usize,
+    around: (&str, &str),
+) -> Result<(), AllocError> {
+    for k in 0..count {
+        push_number(alloc, text, k, around)?;
+    }
+    Ok(())
+}
+
+/// Puts a number between two pieces behind a text.
+pub fn push_number(
+    alloc: Global,
+    text: &mut String,
+    k: usize,
+    (left, right): (&str, &str),
+) -> Result<(), AllocError> {
+    let piece = format!(in alloc; "{left}{k}{right}")?;
+    text.push_str(piece.as_str())
 }
 
 /// The pieces, one after the other.

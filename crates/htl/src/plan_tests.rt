@@ -2,7 +2,6 @@
 use crate::asserts::same;
 use crate::calls::{Content, EMPTY, Group, Place, Row, Streams, Tried, first_other, first_wrong};
 use crate::object_bytes::{NO_MODULE, REFINED};
-use std::test::Fail;
 
 // A module of two modes, of which the first is refined by a module of two modes; and no module.
 const PLANS: &[Row] = &[
@@ -138,8 +137,7 @@ const TRIED: &[Tried] = &[Tried {
 }];
 
 #[test]
-fn calls_are_answered(rt: HostRuntime) -> Result<(), Fail> {
-    same(&rt, first_wrong(rt.alloc(), GROUPS)?, None);
-    same(&rt, first_other(rt.alloc(), TRIED)?, None);
-    Ok(())
+fn calls_are_answered(rt: HostRuntime) {
+    same(&rt, first_wrong(rt.alloc(), GROUPS), None);
+    same(&rt, first_other(rt.alloc(), TRIED), None);
 }

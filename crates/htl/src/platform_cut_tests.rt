@@ -4,7 +4,6 @@ use crate::platform_file_tests::tables;
 use htl_model::Tables;
 use htl_platform::{PlatformFault, PlatformStop, read_platform};
 use std::alloc::Global;
-use std::test::Fail;
 
 const FILE: &[u8] = b"name = \"fast\"\n[worst]\n\"M.a\" = 6\n\"M.b\" = 2\n";
 
@@ -35,11 +34,10 @@ fn is_read(alloc: Global, t: &Tables, bytes: &[u8], reading: Reading) -> bool {
 }
 
 #[test]
-fn a_cut_file_gives_no_other_worst_case(rt: HostRuntime) -> Result<(), Fail> {
+fn a_cut_file_gives_no_other_worst_case(rt: HostRuntime) {
     let alloc = rt.alloc();
     let t = tables(alloc).expect(&rt, "tables");
     for n in 0..=FILE.len() {
         holds_in(&rt, n, is_read(alloc, &t, &FILE[..n], wanted(n)));
     }
-    Ok(())
 }

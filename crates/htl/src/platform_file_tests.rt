@@ -5,7 +5,6 @@ use htl_model::Tables;
 use htl_model::lookup::task_worst;
 use htl_platform::{PlatformFault, PlatformStop, apply, read_platform};
 use std::alloc::Global;
-use std::test::Fail;
 
 const TWO_TASKS: &str = "program P {
   module M start m {
@@ -33,10 +32,9 @@ fn has(alloc: Global, bytes: &[u8], name: &[u8], worst: &[u32]) -> Option<bool> 
 }
 
 #[test]
-fn an_entry_is_the_worst_case_of_its_task(rt: HostRuntime) -> Result<(), Fail> {
+fn an_entry_is_the_worst_case_of_its_task(rt: HostRuntime) {
     let file = b"name = \"fast\"\n[worst]\n\"M.a\" = 6\n";
     same(&rt, has(rt.alloc(), file, b"fast", &[6, 3]), Some(true));
-    Ok(())
 }
 
 // The worst cases of the tasks on the platform of a file.
@@ -52,10 +50,9 @@ fn applied(alloc: Global, bytes: &[u8]) -> Option<(u32, u32)> {
 }
 
 #[test]
-fn the_tables_have_the_worst_cases_of_the_platform(rt: HostRuntime) -> Result<(), Fail> {
+fn the_tables_have_the_worst_cases_of_the_platform(rt: HostRuntime) {
     let file = b"worst = {'M.b' = 1_000_000}\nname = 'slow'";
     same(&rt, applied(rt.alloc(), file), Some((7, 1_000_000)));
-    Ok(())
 }
 
 fn fault_of(alloc: Global, t: &Tables, bytes: &[u8]) -> Option<PlatformFault> {
@@ -90,9 +87,8 @@ const FAULTS: [(&[u8], PlatformFault); 6] = [
 ];
 
 #[test]
-fn the_first_fault_is_told(rt: HostRuntime) -> Result<(), Fail> {
+fn the_first_fault_is_told(rt: HostRuntime) {
     for (bytes, wanted) in FAULTS {
         same(&rt, fault(rt.alloc(), bytes), Some(wanted));
     }
-    Ok(())
 }

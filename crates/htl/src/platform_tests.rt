@@ -5,7 +5,6 @@ use crate::samples::TWO_JOBS;
 use htl_base::limits::MAX_SOURCE;
 use htl_compile::compile_with;
 use std::alloc::Global;
-use std::test::Fail;
 
 const ILL_FORMED: &str =
     "program P { module M start a { mode a period 10 { } mode b period 20 { } } }";
@@ -181,9 +180,8 @@ const GROUPS: &[Group] = &[
 ];
 
 #[test]
-fn calls_are_answered(rt: HostRuntime) -> Result<(), Fail> {
-    same(&rt, first_wrong(rt.alloc(), GROUPS)?, None);
-    Ok(())
+fn calls_are_answered(rt: HostRuntime) {
+    same(&rt, first_wrong(rt.alloc(), GROUPS), None);
 }
 
 // What one call makes of a source on the platform that a file says; None where they are too long or it is refused.
@@ -195,10 +193,11 @@ fn made_on(alloc: Global, source: &[u8], file: &[u8]) -> Option<Vec<u8>> {
 }
 
 #[test]
-fn one_call_makes_the_object_for_a_platform(rt: HostRuntime) -> Result<(), Fail> {
-    let alloc = rt.alloc();
-    let object = compiled_on(alloc, TWO_JOBS.as_bytes(), FAST)?;
-    let made = made_on(alloc, TWO_JOBS.as_bytes(), FAST.as_bytes());
-    holds(&rt, made.is_some_and(|bytes| bytes == object));
-    Ok(())
+fn one_call_makes_the_object_for_a_platform(rt: HostRuntime) {
+    let source = TWO_JOBS.as_bytes();
+    let object = compiled_on(rt.alloc(), source, FAST).expect(&rt, "an object");
+    holds(
+        &rt,
+        made_on(rt.alloc(), source, FAST.as_bytes()) == Some(object),
+    );
 }

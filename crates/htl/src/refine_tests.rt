@@ -16,7 +16,6 @@ use htl_refine::{
 };
 use htl_walk::Job;
 use std::alloc::Global;
-use std::test::Fail;
 
 const REFINED: &str = "program P {
   module M start m {
@@ -136,7 +135,7 @@ fn verdict(alloc: Global, text: Text) -> Option<Result<(), FormFault>> {
 }
 
 #[test]
-fn a_child_asks_for_no_more(rt: HostRuntime) -> Result<(), Fail> {
+fn a_child_asks_for_no_more(rt: HostRuntime) {
     let fault = FormFault {
         rule: 16,
         module: 1,
@@ -148,7 +147,6 @@ fn a_child_asks_for_no_more(rt: HostRuntime) -> Result<(), Fail> {
     let longer = Text::Edited(REFINED, &[("worst 3", "worst 5")]);
     same(&rt, verdict(rt.alloc(), longer), Some(Err(fault)));
     same(&rt, verdict(rt.alloc(), Text::Whole(REFINED)), Some(Ok(())));
-    Ok(())
 }
 
 // The selections of these modes of the child.
@@ -217,11 +215,10 @@ const DERIVED: &[(Of, &[Option<u16>], Option<(u32, usize)>, [Job; 2])] = &[
 ];
 
 #[test]
-fn jobs_are_derived(rt: HostRuntime) -> Result<(), Fail> {
+fn jobs_are_derived(rt: HostRuntime) {
     let mut jobs = [FAST; 128];
     for (of, children, wanted, front) in DERIVED {
         same(&rt, derived(rt.alloc(), *of, children, &mut jobs), *wanted);
         same(&rt, [jobs[0], jobs[1]], *front);
     }
-    Ok(())
 }

@@ -4,7 +4,6 @@ use crate::calls::{Content, EMPTY, Group, Place, Row, Streams, Tried, first_othe
 use crate::lines_tests::{DIVIDED, DIVIDED_VALUES, IDLED, INSTRUCTIONS, JUMPED};
 use crate::object_bytes::{DOUBLING, IDLING, NO_MODULE, TWO_JOBS};
 use crate::samples::{DOUBLED_BEFORE, READINGS};
-use std::test::Fail;
 
 // The values and modes of DOUBLING over READINGS.
 const VALUES: &str = "v 0 s 3
@@ -375,8 +374,7 @@ const TRIED: &[Tried] = &[Tried {
 }];
 
 #[test]
-fn calls_are_answered(rt: HostRuntime) -> Result<(), Fail> {
-    same(&rt, first_wrong(rt.alloc(), GROUPS)?, None);
-    same(&rt, first_other(rt.alloc(), TRIED)?, None);
-    Ok(())
+fn calls_are_answered(rt: HostRuntime) {
+    same(&rt, first_wrong(rt.alloc(), GROUPS), None);
+    same(&rt, first_other(rt.alloc(), TRIED), None);
 }

@@ -4,7 +4,6 @@ use crate::calls::{Content, EMPTY, Group, Place, Row, Streams, Tried, first_othe
 use crate::samples::{
     DOUBLED, DOUBLED_BEFORE, DOUBLING, EMPTY_MODE, READINGS, SOMETIMES, TWO_MODES,
 };
-use std::test::Fail;
 
 // The lines of EMPTY_MODE before its sensor changes, and until then.
 const STARTED: &str = "v 0 s 3\nv 0 u 7\nm 0 M m\n";
@@ -340,8 +339,7 @@ const TRIED: &[Tried] = &[
 ];
 
 #[test]
-fn calls_are_answered(rt: HostRuntime) -> Result<(), Fail> {
-    same(&rt, first_wrong(rt.alloc(), GROUPS)?, None);
-    same(&rt, first_other(rt.alloc(), TRIED)?, None);
-    Ok(())
+fn calls_are_answered(rt: HostRuntime) {
+    same(&rt, first_wrong(rt.alloc(), GROUPS), None);
+    same(&rt, first_other(rt.alloc(), TRIED), None);
 }

@@ -2,7 +2,6 @@
 use crate::asserts::same;
 use crate::calls::{Content, EMPTY, Group, Place, Row, Streams, Text, first_wrong};
 use crate::samples::{DOUBLING, TWO_JOBS};
-use std::test::Fail;
 
 const DOUBLED: &[Row] = &[(
     Content::Text(DOUBLING),
@@ -87,7 +86,6 @@ const GROUPS: &[Group] = &[
 ];
 
 #[test]
-fn calls_are_answered(rt: HostRuntime) -> Result<(), Fail> {
-    same(&rt, first_wrong(rt.alloc(), GROUPS)?, None);
-    Ok(())
+fn calls_are_answered(rt: HostRuntime) {
+    same(&rt, first_wrong(rt.alloc(), GROUPS), None);
 }

@@ -8,13 +8,13 @@ ghost use Rattle.htl_smach.specs.Rounds.{Round, Stands, IsInForm, IsTold, state_
 ghost use Rattle.htl_smach.specs.declared.state.PosState.TheVariants as states;
 ghost use Rattle.htl_walk.specs.declared.schedule.SInstr.{SInstr as Instr};
 
-use crate::asserts::{holds, holds_in};
+use crate::asserts::{same, same_in};
+use crate::walk_tests::have_work;
 use htl_base::{Seq, Time};
 use htl_smach::{Left, PosState, SMach};
 use htl_walk::listing::{Span, worst_list};
 use htl_walk::{Job, SInstr, Schedule, worst};
 use std::alloc::{AllocError, Global};
-use std::test::Fail;
 
 fn job(present: bool, release: u64, end: u64, worst: u64) -> Job {
     Job {
@@ -33,18 +33,6 @@ fn run(position: u16, until: u32) -> SInstr {
 
 fn idle(until: u32) -> SInstr {
     SInstr::Idle { until }
-}
-
-// Whether each job is present, with some work.
-fn have_work(jobs: &[Job]) -> bool
-    ensures { result ≡ true → All HasWork jobs.now }
-{
-    for k in 0..jobs.len() {
-        if !jobs[k].present || jobs[k].worst == 0 {
-            return false;
-        }
-    }
-    true
 }
 
 // Whether each length is from 1 to the worst case.
@@ -350,11 +338,10 @@ fn goes(alloc: Global, row: &RoundRow) -> Result<bool, AllocError> {
 }
 
 #[test]
-fn rounds(rt: HostRuntime) -> Result<(), Fail> {
+fn rounds(rt: HostRuntime) {
     for row in ROUNDS {
-        holds_in(&rt, row.lengths, goes(rt.alloc(), row)?);
+        same_in(&rt, row.lengths, goes(rt.alloc(), row), Ok(true));
     }
-    Ok(())
 }
 
 // Sets the length of a position that is Pending; whether it did.
@@ -502,12 +489,13 @@ const PASSED: [SeenRow; 2] = [
 ];
 
 #[test]
-fn states(rt: HostRuntime) -> Result<(), Fail> {
+fn states(rt: HostRuntime) {
     let untils = [100, 101, 101, 103, 104, 104, 110, 110];
-    holds(&rt, shows(rt.alloc(), LONG_AND_SHORT, 2, &untils, &SEEN)?);
-    let absent = [(false, 0, 0, 7), (true, 2, 6, 3)];
-    holds(&rt, shows(rt.alloc(), absent, 1, &[100, 102], &PASSED)?);
-    Ok(())
+    let present = shows(rt.alloc(), LONG_AND_SHORT, 2, &untils, &SEEN);
+    same(&rt, present, Ok(true));
+    let rows = [(false, 0, 0, 7), (true, 2, 6, 3)];
+    let absent = shows(rt.alloc(), rows, 1, &[100, 102], &PASSED);
+    same(&rt, absent, Ok(true));
 }
 
 // A list of so many positions that ends by an offset; None where it isn't in form.
@@ -710,9 +698,8 @@ fn go(alloc: Global, row: &ListsRow) -> Result<bool, AllocError> {
 }
 
 #[test]
-fn lists(rt: HostRuntime) -> Result<(), Fail> {
+fn lists(rt: HostRuntime) {
     for row in LISTS {
-        holds_in(&rt, row.1, go(rt.alloc(), &row)?);
+        same_in(&rt, row.1, go(rt.alloc(), &row), Ok(true));
     }
-    Ok(())
 }

@@ -11,7 +11,6 @@ use htl_object::decode;
 use htl_refine::Selection;
 use htl_top::read_selection;
 use std::alloc::Global;
-use std::test::Fail;
 
 fn accepted(alloc: Global, bytes: &[u8]) -> Option<Loaded> {
     let object = decode(alloc, bytes).ok()?;
@@ -21,10 +20,9 @@ fn accepted(alloc: Global, bytes: &[u8]) -> Option<Loaded> {
 }
 
 #[test]
-fn an_object_is_formed_spelled_and_scheduled(rt: HostRuntime) -> Result<(), Fail> {
+fn an_object_is_formed_spelled_and_scheduled(rt: HostRuntime) {
     let loaded = accepted(rt.alloc(), &DOUBLING).expect(&rt, "an object");
     same(&rt, loaded.schedules().len(), 1);
-    Ok(())
 }
 
 // The window of an invocation, from the start of its round.
@@ -37,7 +35,7 @@ fn window(t: &Tables, inv: u16) -> Option<(Time, Time)> {
 }
 
 #[test]
-fn tables_have_windows_and_parts(rt: HostRuntime) -> Result<(), Fail> {
+fn tables_have_windows_and_parts(rt: HostRuntime) {
     let t = read(rt.alloc(), LOOPS).expect(&rt, "tables");
     same(
         &rt,
@@ -48,7 +46,6 @@ fn tables_have_windows_and_parts(rt: HostRuntime) -> Result<(), Fail> {
         &rt,
         t.period() == Some(10) && t.into_parts().invs.as_slice().len() == 2,
     );
-    Ok(())
 }
 
 // Whether an input says these modes, or has a fault where none are told.
@@ -65,7 +62,7 @@ fn is_said(alloc: Global, t: &Tables, input: &[u8], modes: Option<&[Option<u16>]
 }
 
 #[test]
-fn an_input_says_a_selection(rt: HostRuntime) -> Result<(), Fail> {
+fn an_input_says_a_selection(rt: HostRuntime) {
     let alloc = rt.alloc();
     let t = read(alloc, ITEMS).expect(&rt, "tables");
     let wanted: &[Option<u16>] = &[Some(0), Some(3)];
@@ -79,7 +76,6 @@ fn an_input_says_a_selection(rt: HostRuntime) -> Result<(), Fail> {
         is_said(alloc, &t, b"mode A a\nmode B a\n", None),
         Some(true),
     );
-    Ok(())
 }
 
 // Whether the source of a generated program has tables.
@@ -91,7 +87,6 @@ fn is_generated(alloc: Global) -> bool {
 }
 
 #[test]
-fn a_generated_source_has_tables(rt: HostRuntime) -> Result<(), Fail> {
+fn a_generated_source_has_tables(rt: HostRuntime) {
     holds(&rt, is_generated(rt.alloc()));
-    Ok(())
 }

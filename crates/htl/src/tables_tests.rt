@@ -25,11 +25,12 @@ fn is_comm(comm: &Comm, row: &CommRow) -> bool {
 }
 
 fn are_comms(comms: &[Comm], rows: &[CommRow]) -> bool {
+    for k in 0..comms.len() {
+        if k >= rows.len() || !is_comm(&comms[k], &rows[k]) {
+            return false;
+        }
+    }
     comms.len() == rows.len()
-        && comms
-            .iter()
-            .zip(rows.iter())
-            .all(|(x, row)| is_comm(x, row))
 }
 
 fn is_module(module: &Module, row: &ModuleRow) -> bool {
@@ -38,11 +39,12 @@ fn is_module(module: &Module, row: &ModuleRow) -> bool {
 }
 
 fn are_modules(modules: &[Module], rows: &[ModuleRow]) -> bool {
+    for k in 0..modules.len() {
+        if k >= rows.len() || !is_module(&modules[k], &rows[k]) {
+            return false;
+        }
+    }
     modules.len() == rows.len()
-        && modules
-            .iter()
-            .zip(rows.iter())
-            .all(|(x, row)| is_module(x, row))
 }
 
 fn is_mode(mode: &Mode, row: &ModeRow) -> bool {
@@ -51,11 +53,12 @@ fn is_mode(mode: &Mode, row: &ModeRow) -> bool {
 }
 
 fn are_modes(modes: &[Mode], rows: &[ModeRow]) -> bool {
+    for k in 0..modes.len() {
+        if k >= rows.len() || !is_mode(&modes[k], &rows[k]) {
+            return false;
+        }
+    }
     modes.len() == rows.len()
-        && modes
-            .iter()
-            .zip(rows.iter())
-            .all(|(x, row)| is_mode(x, row))
 }
 
 fn is_port(port: &Port, row: &PortRow) -> bool {
@@ -64,11 +67,12 @@ fn is_port(port: &Port, row: &PortRow) -> bool {
 }
 
 fn are_ports(ports: &[Port], rows: &[PortRow]) -> bool {
+    for k in 0..ports.len() {
+        if k >= rows.len() || !is_port(&ports[k], &rows[k]) {
+            return false;
+        }
+    }
     ports.len() == rows.len()
-        && ports
-            .iter()
-            .zip(rows.iter())
-            .all(|(x, row)| is_port(x, row))
 }
 
 fn is_task(task: &Task, row: &TaskRow) -> bool {
@@ -82,11 +86,12 @@ fn is_task(task: &Task, row: &TaskRow) -> bool {
 }
 
 fn are_tasks(tasks: &[Task], rows: &[TaskRow]) -> bool {
+    for k in 0..tasks.len() {
+        if k >= rows.len() || !is_task(&tasks[k], &rows[k]) {
+            return false;
+        }
+    }
     tasks.len() == rows.len()
-        && tasks
-            .iter()
-            .zip(rows.iter())
-            .all(|(x, row)| is_task(x, row))
 }
 
 fn is_end(end: End, place: Place) -> bool {
@@ -99,11 +104,12 @@ fn is_end(end: End, place: Place) -> bool {
 }
 
 fn are_ends(ends: &[End], places: &[Place]) -> bool {
+    for k in 0..ends.len() {
+        if k >= places.len() || !is_end(ends[k], places[k]) {
+            return false;
+        }
+    }
     ends.len() == places.len()
-        && ends
-            .iter()
-            .zip(places.iter())
-            .all(|(x, place)| is_end(*x, *place))
 }
 
 fn is_inv(inv: &Inv, row: &InvRow) -> bool {
@@ -116,7 +122,12 @@ fn is_inv(inv: &Inv, row: &InvRow) -> bool {
 }
 
 fn are_invs(invs: &[Inv], rows: &[InvRow]) -> bool {
-    invs.len() == rows.len() && invs.iter().zip(rows.iter()).all(|(x, row)| is_inv(x, row))
+    for k in 0..invs.len() {
+        if k >= rows.len() || !is_inv(&invs[k], &rows[k]) {
+            return false;
+        }
+    }
+    invs.len() == rows.len()
 }
 
 fn is_switch(switch: &Switch, row: &SwitchRow) -> bool {
@@ -125,11 +136,12 @@ fn is_switch(switch: &Switch, row: &SwitchRow) -> bool {
 }
 
 fn are_switches(switches: &[Switch], rows: &[SwitchRow]) -> bool {
+    for k in 0..switches.len() {
+        if k >= rows.len() || !is_switch(&switches[k], &rows[k]) {
+            return false;
+        }
+    }
     switches.len() == rows.len()
-        && switches
-            .iter()
-            .zip(rows.iter())
-            .all(|(x, row)| is_switch(x, row))
 }
 
 // The first list that isn't the source's.

@@ -6,7 +6,6 @@ use htl_text::{
     lex, print,
 };
 use std::alloc::Global;
-use std::test::Fail;
 
 // Whether these are the tokens.
 fn are_tokens(tokens: &Tokens, wanted: &[Token]) -> bool {
@@ -43,7 +42,7 @@ fn tokens_of(alloc: Global, text: &[u8]) -> Option<Result<Tokens, LexFault>> {
 }
 
 #[test]
-fn tokens_have_their_places(rt: HostRuntime) -> Result<(), Fail> {
+fn tokens_have_their_places(rt: HostRuntime) {
     let tokens = lex(rt.alloc(), b"if x1 // y\r\n\t<=007//").expect(&rt, "tokens");
     let wanted = [
         Token::Word(Word::If),
@@ -59,7 +58,6 @@ fn tokens_have_their_places(rt: HostRuntime) -> Result<(), Fail> {
         &rt,
         tokens.kind(1) == Some(Kind::Ident) && tokens.kind(4) == None,
     );
-    Ok(())
 }
 
 // 0 for a name, 1 a number, 2 a word, 3 a sign.
@@ -171,12 +169,11 @@ fn printed(alloc: Global) -> Option<Vec<u8>> {
 }
 
 #[test]
-fn a_program_is_printed(rt: HostRuntime) -> Result<(), Fail> {
+fn a_program_is_printed(rt: HostRuntime) {
     let printed = printed(rt.alloc()).expect(&rt, "memory");
     same(
         &rt,
         printed.as_slice(),
         b"program P {\ncommunicator int u period 10 init 7 ;\n}\n".as_slice(),
     );
-    Ok(())
 }

@@ -5,7 +5,6 @@ use crate::calls::{
 };
 use crate::object_bytes::{NO_MODULE, REFINED as REFINED_BYTES};
 use crate::samples::SOMETIMES;
-use std::test::Fail;
 
 // The abstract task has another name than the host's.
 const STRAY: &str = "program P {
@@ -287,8 +286,7 @@ const TRIED: &[Tried] = &[
 ];
 
 #[test]
-fn calls_are_answered(rt: HostRuntime) -> Result<(), Fail> {
-    same(&rt, first_wrong(rt.alloc(), GROUPS)?, None);
-    same(&rt, first_other(rt.alloc(), TRIED)?, None);
-    Ok(())
+fn calls_are_answered(rt: HostRuntime) {
+    same(&rt, first_wrong(rt.alloc(), GROUPS), None);
+    same(&rt, first_other(rt.alloc(), TRIED), None);
 }

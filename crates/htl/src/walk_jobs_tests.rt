@@ -8,7 +8,6 @@ use crate::made::made;
 use htl_model::Tables;
 use htl_walk::{Job, abstract_jobs};
 use std::alloc::Global;
-use std::test::Fail;
 
 // The first invocation reads the port that the second writes, both of abstract tasks; the third reads a communicator
 // of period 2 at its instance 1.
@@ -70,10 +69,9 @@ fn jobs_in(alloc: Global, text: &str, jobs: &mut [Job; 128]) -> Option<usize> {
 }
 
 #[test]
-fn a_port_and_abstract_invocations(rt: HostRuntime) -> Result<(), Fail> {
+fn a_port_and_abstract_invocations(rt: HostRuntime) {
     let mut jobs = [NO_JOB; 128];
     same(&rt, jobs_in(rt.alloc(), A_PORT, &mut jobs), Some(3));
     let wanted = [job(0, 0, 4, 2), job(1, 0, 3, 0), job(2, 2, 2, 0), NO_JOB];
     same(&rt, &jobs[..4], &wanted[..]);
-    Ok(())
 }

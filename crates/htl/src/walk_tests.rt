@@ -3,24 +3,14 @@ ghost use Rattle.std.specs.Prelude.{◌≡◌, ◌≤◌, ℕ, length, true, All
 ghost use Rattle.htl_walk.specs.Refinement.{HasWork};
 
 use crate::asserts::holds_in;
+use crate::edf_rows::JobRow;
+use crate::edf_tests::jobs_in;
 use htl_base::Seq;
 use htl_walk::{Job, Miss, SInstr, Schedule, worst};
 use std::alloc::{AllocError, Global};
-use std::test::Fail;
 
-fn job(release: u64, end: u64, worst: u64, preds: u128) -> Job {
-    Job {
-        present: true,
-        inv: 0,
-        release,
-        end,
-        worst,
-        preds,
-    }
-}
-
-// Whether each job is present, with some work.
-fn have_work(jobs: &[Job]) -> bool
+/// Whether each job is present, with some work.
+pub fn have_work(jobs: &[Job]) -> bool
     ensures { result ≡ true → All HasWork jobs.now }
 {
     for k in 0..jobs.len() {
@@ -50,9 +40,6 @@ fn walk(
         Err(miss) => Ok(Some(Err(miss))),
     }
 }
-
-// A job by its release, the end of its window, its worst case and its predecessors.
-type JobRow = (u64, u64, u64, u128);
 
 // An instruction of a schedule.
 #[derive(Clone, Copy)]
@@ -308,14 +295,6 @@ const WALKS: &[(&[JobRow], &[Step], u64, Result<&[u64], Miss>)] = &[
     ),
 ];
 
-fn jobs_of(alloc: Global, rows: &[JobRow]) -> Result<Vec<Job>, AllocError> {
-    let mut jobs = Vec::new(alloc);
-    for (release, end, worst, preds) in rows {
-        jobs.push(job(*release, *end, *worst, *preds))?;
-    }
-    Ok(jobs)
-}
-
 fn instrs_of(alloc: Global, steps: &[Step]) -> Result<Vec<SInstr>, AllocError> {
     let mut instrs = Vec::new(alloc);
     for step in steps {
@@ -335,7 +314,7 @@ fn walked(
     steps: &[Step],
     period: u64,
 ) -> Result<Option<Result<Vec<u64>, Miss>>, AllocError> {
-    let jobs = jobs_of(alloc, rows)?;
+    let jobs = jobs_in(alloc, rows)?;
     let instrs = instrs_of(alloc, steps)?;
     walk(alloc, jobs.as_slice(), instrs.as_slice(), period)
 }
@@ -350,10 +329,9 @@ fn is_wanted(answer: &Option<Result<Vec<u64>, Miss>>, want: &Result<&[u64], Miss
 }
 
 #[test]
-fn schedules_are_walked(rt: HostRuntime) -> Result<(), Fail> {
+fn schedules_are_walked(rt: HostRuntime) {
     for (k, (jobs, steps, period, want)) in WALKS.iter().enumerate() {
-        let answer = walked(rt.alloc(), jobs, steps, *period)?;
+        let answer = walked(rt.alloc(), jobs, steps, *period).expect(&rt, "memory");
         holds_in(&rt, k, is_wanted(&answer, want));
     }
-    Ok(())
 }
