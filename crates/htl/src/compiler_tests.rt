@@ -1,7 +1,8 @@
 // Sources with their faults and with their objects.
-use crate::asserts::{holds, same, same_in};
+use crate::asserts::{holds, holds_in, same, same_in};
 use crate::object_bytes::{DOUBLING, NO_MODULE};
 use crate::pieces::{Piece, joined};
+use crate::samples::DOUBLING as DOUBLING_SOURCE;
 use crate::source_tests::{MORE_SELECTIONS, SELECTIONS};
 use htl_base::limits::MAX_SOURCE;
 use htl_compile::{BackFault, CompileFault, FrontFault, SourceFault, back, compile, front};
@@ -304,34 +305,30 @@ const LONGER_AT: FormFault = FormFault {
     need: 4,
 };
 
+// Texts, and the faults of their tables.
+const UNTIMELY: [(&str, BackFault); 3] = [
+    (UNDIVIDED, BackFault::IllFormed(UNDIVIDED_AT)),
+    (LONGER, BackFault::IllFormed(LONGER_AT)),
+    (
+        OVERLOADED,
+        BackFault::Unschedulable {
+            selection: 0,
+            from: 0,
+            to: 10,
+            demand: 11,
+        },
+    ),
+];
+
 #[test]
 fn tables_have_their_faults(rt: HostRuntime) {
-    holds(
-        &rt,
-        is_back_fault(
-            rt.alloc(),
-            UNDIVIDED.as_bytes(),
-            BackFault::IllFormed(UNDIVIDED_AT),
-        ),
-    );
-    holds(
-        &rt,
-        is_back_fault(
-            rt.alloc(),
-            LONGER.as_bytes(),
-            BackFault::IllFormed(LONGER_AT),
-        ),
-    );
-    let overloaded = BackFault::Unschedulable {
-        selection: 0,
-        from: 0,
-        to: 10,
-        demand: 11,
-    };
-    holds(
-        &rt,
-        is_back_fault(rt.alloc(), OVERLOADED.as_bytes(), overloaded),
-    );
+    for (text, fault) in UNTIMELY {
+        holds_in(
+            &rt,
+            fault,
+            is_back_fault(rt.alloc(), text.as_bytes(), fault),
+        );
+    }
 }
 
 // How many schedules the object of the text in these pieces has.
@@ -375,16 +372,6 @@ fn is_refused(alloc: Global, text: &str, wanted: CompileFault) -> bool {
 
 // One communicator and no module.
 const NO_MODULE_SOURCE: &str = "program P { communicator int u period 10 init 7; }";
-
-// One invocation in one mode.
-const DOUBLING_SOURCE: &str = "program P {
-  sensor int s period 10 init 0;
-  communicator int u period 10 init 7;
-  module M start m {
-    task dbl input (int x) output (int y = x * 2) worst 4;
-    mode m period 20 { invoke dbl input ((s, 0)) output ((u, 1)); }
-  }
-}";
 
 #[test]
 fn sources_have_their_bytes(rt: HostRuntime) {

@@ -7,11 +7,10 @@ use crate::output::Output;
 use htl_edge::{Failed, Shelf, ShelfFault, Sink, Source};
 use std::alloc::Global;
 use std::io::{Read, Write};
-use std::test::Fail;
 use std::{fs, io, process};
 
 /// What a reader or a writer does at a call.
-#[derive(Clone, Copy, PartialEq, Eq, Debug)]
+#[derive(Clone, Copy)]
 enum Turn {
     Refuse,
     RefuseFlush,
@@ -133,19 +132,25 @@ fn counts_faults(alloc: Global) -> bool {
         && faults == 1
 }
 
-#[test]
-fn files_are_read_up_to_a_limit(rt: HostRuntime) -> Result<(), Fail> {
+// Whether a file of five bytes is fetched, is too long for four, and fails once it is gone.
+fn fetches(rt: &HostRuntime, path: &str) -> io::Result<[bool; 3]> {
     let alloc = rt.alloc();
-    // A file of this process alone.
-    let name = format!(in alloc; "/tmp/htl_adapter_test_{}", process::id(rt.process()))?;
-    let path = name.as_str();
-    fs::write(&rt, path, "12345")?;
-    let mut folder = Folder::new(Disk::new(&rt));
+    fs::write(rt, path, "12345")?;
+    let mut folder = Folder::new(Disk::new(rt));
     let held = is_fetched(folder.fetch(alloc, path, 5), Ok(b"12345"));
     let long = ShelfFault::TooLong { seen: 5 };
     let cut = is_fetched(folder.fetch(alloc, path, 4), Err(long));
-    fs::remove_file(&rt, path)?;
+    fs::remove_file(rt, path)?;
     let gone = is_fetched(folder.fetch(alloc, path, 5), Err(ShelfFault::Failed));
-    same(&rt, [held, cut, gone, counts_faults(alloc)], [true; 4]);
-    Ok(())
+    Ok([held, cut, gone])
+}
+
+#[test]
+fn files_are_read_up_to_a_limit(rt: HostRuntime) {
+    // A file of this process alone.
+    let name = format!(in rt.alloc(); "/tmp/htl_adapter_test_{}", process::id(rt.process())).expect(
+        &rt, "memory",
+    );
+    same(&rt, fetches(&rt, name.as_str()).ok(), Some([true; 3]));
+    holds(&rt, counts_faults(rt.alloc()));
 }
