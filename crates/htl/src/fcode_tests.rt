@@ -90,9 +90,11 @@ const CODES: [(&[FInstr], Ty, bool); 18] = [
 
 #[test]
 fn wrong_code_is_refused(rt: HostRuntime) {
-    for (instrs, want, right) in CODES {
+    let codes = CODES;
+    for row in 0..codes.len() {
+        let (instrs, want, right) = codes[row];
         let code = code(rt.alloc(), &[Ty::Int, Ty::Bool], want, instrs).expect(&rt, "memory");
-        same_in(&rt, instrs, passes(&code), right);
+        same_in(&rt, row, passes(&code), right);
     }
 }
 

@@ -31,7 +31,7 @@ use std::alloc::Global;
 use std::marker::Model;
 
 /// The numbers of a legal log.
-#[derive(Clone, Copy, PartialEq, Eq, Debug)]
+#[derive(Clone, Copy)]
 pub struct AuditTotals {
     /// The end of the run, in ticks.
     pub at: Time,

@@ -17,7 +17,7 @@ use htl_script::number::number;
 use std::alloc::Global;
 
 /// Why a log isn't read.
-#[derive(Clone, Copy, PartialEq, Eq, Debug)]
+#[derive(Clone, Copy, Debug)]
 pub enum LogStop {
     /// A line has another form, or names no concrete invocation.
     Refused(LogFault),

@@ -1,7 +1,7 @@
 // The operators of expressions.
 
 /// An operator with one operand.
-#[derive(Clone, Copy, PartialEq, Eq, Debug)]
+#[derive(Clone, Copy)]
 pub enum UnOp {
     /// `-`, from int to int; it wraps.
     Neg,
@@ -10,7 +10,7 @@ pub enum UnOp {
 }
 
 /// An operator with two operands.
-#[derive(Clone, Copy, PartialEq, Eq, Debug)]
+#[derive(Clone, Copy, Debug)]
 pub enum BinOp {
     /// `+`, of two int; it wraps.
     Add,

@@ -23,7 +23,7 @@ use htl_platform::{PlatformFault, PlatformStop, apply, read_platform};
 use std::alloc::Global;
 
 /// Why a source isn't compiled for a platform.
-#[derive(Clone, Copy, PartialEq, Eq, Debug)]
+#[derive(Clone, Copy, Debug)]
 pub enum WithFault {
     /// The source has a fault; or neither the source nor the platform file has one, and the tables with the platform's worst
     /// cases break a form rule or have an overloaded path; or no memory was left.

@@ -24,7 +24,7 @@ use htl_text::{LexFault, Tokens, Tree, lex};
 use std::alloc::Global;
 
 /// Why a source has no tables with code.
-#[derive(Clone, Copy, PartialEq, Eq, Debug)]
+#[derive(Clone, Copy, Debug)]
 pub enum FrontFault {
     /// The source's one fault.
     Source(SourceFault),

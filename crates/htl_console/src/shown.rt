@@ -3,7 +3,7 @@ ghost use Rattle.std.specs.Prelude.{◌≡◌};
 ghost use Rattle.htl_console.specs.Shows.{shows_values, shows_jobs, shows_code};
 
 /// Which lines of a run are shown; the totals line always is.
-#[derive(Clone, Copy, PartialEq, Eq, Debug)]
+#[derive(Clone, Copy)]
 pub enum Shown {
     /// The totals alone.
     Nothing,

@@ -23,7 +23,7 @@ pub struct Block {
 }
 
 /// An instruction that was done.
-#[derive(Clone, Copy, PartialEq, Eq, Debug)]
+#[derive(Clone, Copy)]
 pub struct EDone {
     /// Its address.
     pub address: u32,

@@ -20,7 +20,7 @@ pub enum ObjectFault {
 }
 
 /// Why bytes aren't loaded.
-#[derive(Clone, Copy, PartialEq, Eq, Debug)]
+#[derive(Clone, Copy, Debug)]
 pub enum LoadFault {
     /// No accepted object has these bytes.
     Refused(ObjectFault),

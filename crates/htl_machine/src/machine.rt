@@ -33,7 +33,7 @@ use std::alloc::{AllocError, Global};
 use std::marker::Model;
 
 /// The numbers of a run up to its last reading. Each stands once it is at 18,446,744,073,709,551,615.
-#[derive(Clone, Copy, PartialEq, Eq, Debug)]
+#[derive(Clone, Copy)]
 pub struct Totals {
     /// The last reading, in ticks.
     pub at: Time,

@@ -2,7 +2,7 @@
 use htl_base::{Time, Value};
 
 /// One line of a script.
-#[derive(Clone, Copy, PartialEq, Eq, Debug)]
+#[derive(Clone, Copy, PartialEq, Eq)]
 pub enum Event {
     /// A clock reading, in ticks, 0 to 1,000,000,000; what follows belongs to it.
     At(Time),

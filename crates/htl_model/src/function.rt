@@ -39,7 +39,7 @@ pub enum Expr {
 }
 
 /// An instruction of function code, which works on a stack of values.
-#[derive(Clone, Copy, PartialEq, Eq, Debug)]
+#[derive(Clone, Copy, PartialEq, Eq)]
 pub enum FInstr {
     /// Puts a number.
     Int { x: Value },

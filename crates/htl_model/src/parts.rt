@@ -71,7 +71,7 @@ impl Drop for Task {
 }
 
 /// Where an input of an invocation comes from, or an output goes to.
-#[derive(Clone, Copy, PartialEq, Eq, Debug)]
+#[derive(Clone, Copy)]
 pub enum End {
     /// An instance of a communicator, 0 to 1,000,000: at the offset `instance` times its period in the round.
     Comm { comm: u16, instance: u32 },

@@ -8,7 +8,7 @@ use crate::{End, Inv, Tables};
 use htl_base::Time;
 
 /// The half-open window of an invocation, as offsets from the start of its round, in ticks.
-#[derive(Clone, Copy, PartialEq, Eq, Debug)]
+#[derive(Clone, Copy)]
 pub struct Window {
     /// The latest offset at which it reads a communicator; 0 without one.
     pub release: Time,

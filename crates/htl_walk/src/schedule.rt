@@ -2,7 +2,7 @@
 use htl_base::Seq;
 
 /// An instruction for the processor (schedule-carrying code: Henzinger, Kirsch, Matic, EMSOFT 2003).
-#[derive(Clone, Copy, PartialEq, Eq, Debug)]
+#[derive(Clone, Copy, PartialEq, Eq)]
 pub enum SInstr {
     /// Waits for the release of the position, at most until the offset `until`, and then runs it until it is
     /// done or the time is `until`. It is left at once where the position is absent or done, or the time is
