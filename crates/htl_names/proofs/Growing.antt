@@ -1,8 +1,8 @@
 -- What a loop puts behind a list, item by item.
-use Rattle.std.proofs.Common.{arith, ◌≡◌, ◌+◌, ◌<◌, ℕ, suc, List, [], ◌∷◌, ◌++◌, length, length-append, take, drop, get_or, sym, ap, ◌∙◌, append_assoc, append-nil}
+use Rattle.std.proofs.Common.{arith, ◌≡◌, ◌+◌, ◌<◌, ◌≤◌, ℕ, suc, List, [], ◌∷◌, ◌++◌, length, length-append, take, drop, get_or, sym, ap, ◌∙◌, append_assoc, append-nil}
 use Rattle.std.specs.List.{flat_map}
 use Rattle.std.proofs.Math.Seq.{take-suc}
-use Rattle.std.proofs.lemmas.List.{drop_more}
+use Rattle.std.proofs.lemmas.List.{drop_more, drop_all}
 use Rattle.std.proofs.lemmas.Grind.{flat_map-append}
 use Rattle.htl_model.specs.Lists.{list_to}
 use Rattle.htl_names.specs.Lists.{flat_map_at}
@@ -20,6 +20,10 @@ pub put-item : {A B : Type 0} (xs : List A) (k : ℕ) (x : A) → k < length xs 
     → ((ys : List A) → all (x ∷ ys) ≡ part ++ later ys) → (old new whole : List B) → new ≡ old ++ part → old ++ all (drop k xs) ≡ whole
     → new ++ later (drop (k + 1) xs) ≡ whole
 put-item {A} xs k x below is all later part cut = put-at xs k x below all later part (λ ys. ap (λ (y : A). all (y ∷ ys)) (sym is) ∙ cut ys)
+
+-- all parts were put
+pub put-end : {A B : Type 0} (xs : List A) (k : ℕ) → length xs ≤ k → (all : List A → List B) → all [] ≡ [] → (old whole : List B) → old ++ all (drop k xs) ≡ whole → old ≡ whole
+put-end {A} {B} xs k past all none old whole so = sym (append-nil old) ∙ ap (λ (bs : List B). old ++ bs) (sym none ∙ ap all (sym (drop_all k xs past))) ∙ so
 
 pub first-part : {A B : Type 0} (f : ℕ → A → List B) (k : ℕ) (x : A) (ys : List A) → flat_map_at f k (x ∷ ys) ≡ f k x ++ flat_map_at f (k + 1) ys
 first-part {B = B} f k x ys = let next : suc k ≡ k + 1 = omega arith in ap (λ (n : ℕ). f k x ++ flat_map_at f n ys) next

@@ -21,5 +21,6 @@ mod ModulePlaces
 mod Numbered
 pub mod OneFault
 mod Searches
+mod Meeting
 pub mod SmallFunctions
 pub mod TreeBounds

@@ -1,4 +1,4 @@
-use Rattle.std.proofs.Common.{◌≡◌, ◌<◌, ◌∙◌, false, true, length, get_or, inl, inr, sym, ap, subst, arith}
+use Rattle.std.proofs.Common.{◌<◌, ◌∙◌, false, length, get_or, inl, inr, sym, ap, subst, arith}
 use Rattle.std.proofs.lemmas.List.{length-map, get_or_default}
 use Rattle.htl_names.specs.Graph.{graph_by, targets}
 use Rattle.htl_names.specs.Named.{is_misplaced, unnamed}
