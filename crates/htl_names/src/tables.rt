@@ -1,8 +1,9 @@
 // The flat tables of a tree by a layout.
-ghost use Rattle.std.specs.Prelude.{◌≡◌, ◌≤◌, ◌++◌, ℕ, List, IfOk, OnOk, length, map};
-ghost use Rattle.htl_model.specs.Tables.{fun_of, tables_of};
+ghost use Rattle.std.specs.Prelude.{◌≡◌, ◌≤◌, ◌++◌, ℕ, List, IfOk, OnOk, length};
+ghost use Rattle.htl_model.specs.Tables.{tables_of};
 ghost use Rattle.htl_text.specs.Nodes.{tree_of};
-ghost use Rattle.htl_names.specs.Flat.{meaning, comm_items, mode_items, module_items, task_items, port_items, invoke_items, switch_items, function_items, tables_by};
+ghost use Rattle.htl_names.specs.Filled.{AreFilled};
+ghost use Rattle.htl_names.specs.Flat.{meaning, tables_by};
 ghost use Rattle.htl_names.specs.Keys.{key_in};
 ghost use Rattle.htl_names.specs.Lists.{flat_map_at};
 ghost use Rattle.htl_names.specs.Narrow.{IsNarrow};
@@ -109,14 +110,7 @@ struct Lists {
 impl Lists {
     /// Puts the items of a source behind others.
     fn put_all(&mut self, source: &Source<'_>) -> Done
-        ensures comms { OnOk result (self.new.comms.items ≡ self.old.comms.items ++ comm_items (tree_of source.now.tree.now)) }
-        ensures modes { OnOk result (self.new.modes.items ≡ self.old.modes.items ++ mode_items source.now.layout.now (tree_of source.now.tree.now)) }
-        ensures modules { OnOk result (self.new.modules.items ≡ self.old.modules.items ++ module_items source.now.layout.now (tree_of source.now.tree.now)) }
-        ensures ports { OnOk result (self.new.ports.items ≡ self.old.ports.items ++ port_items source.now.layout.now (tree_of source.now.tree.now)) }
-        ensures tasks { OnOk result (self.new.tasks.items ≡ self.old.tasks.items ++ task_items source.now.layout.now (tree_of source.now.tree.now)) }
-        ensures invs { OnOk result (self.new.invs.items ≡ self.old.invs.items ++ invoke_items source.now.layout.now (tree_of source.now.tree.now)) }
-        ensures switches { OnOk result (self.new.switches.items ≡ self.old.switches.items ++ switch_items source.now.layout.now (tree_of source.now.tree.now)) }
-        ensures functions { OnOk result (map fun_of self.new.functions.items ≡ map fun_of self.old.functions.items ++ function_items source.now.layout.now (tree_of source.now.tree.now)) }
+        ensures { OnOk result (AreFilled source.now.layout.now (tree_of source.now.tree.now) self.old self.new) }
     {
         let layout = source.layout;
         let modules = layout.modules.as_slice();
