@@ -1,6 +1,6 @@
-use Rattle.std.proofs.Common.{◌≡◌, ◌<◌, get_or, length, fold, false, true, ap, sym, subst, ◌∙◌, arith}
+use Rattle.std.proofs.Common.{◌≡◌, ◌<◌, ℕ, List, get_or, length, fold, false, true, ap, sym, subst, ◌∙◌, arith}
 use Rattle.std.proofs.Math.ListN.{set, length-set}
-use Rattle.std.proofs.lemmas.List.{get_or_default}
+use Rattle.std.proofs.lemmas.List.{get_or_default, drop_all}
 use Rattle.htl_names.specs.Graph.{targets}
 use Rattle.htl_names.specs.Programs.{Naming}
 use Rattle.htl_names.specs.Reach.{met, IsMarked}
@@ -45,3 +45,9 @@ loop-k-preserved c =
             len = ap length seen-is ∙ old.len;
           }
     ]
+
+pub returns : goal.returns
+returns c =
+    let old = c.loop-k.invariant in
+    let all : List Naming → List ℕ = λ qs. fold (met (length c.args.seen.now.items)) c.loop-k.queue.items (targets qs) in
+    record { queue = ap all (sym (drop_all c.loop-k.k c.args.qs.now c.loop-k-test.false)) ∙ old.queue; marked = old.marked; len = old.len }

@@ -1,12 +1,12 @@
 use Rattle.std.proofs.Common.{◌≡◌, ◌+◌, ◌∷◌, ◌∙◌, ℕ, List, map, drop, fold, refl, sym, ap}
-use Rattle.std.proofs.lemmas.List.{at_drop_more}
+use Rattle.std.proofs.lemmas.List.{at_drop_more, drop_all}
 use Rattle.htl_text.specs.Postfix.{names_in}
 use Rattle.htl_text.specs.declared.expression.Node.{Node}
 use Rattle.htl_text.specs.declared.expression.Node.TheVariants as node
 use Rattle.htl_text.specs.declared.tree.Id.{Id}
 use Rattle.htl_names.specs.Flat.{meaning}
 use Rattle.htl_names.specs.Keys.{comm_key, key_in}
-use Rattle.htl_names.specs.Lists.{with_new}
+use Rattle.htl_names.specs.Lists.{with_new, distinct}
 use Rattle.htl_names.proofs.switches.comms_in.Goals as goal
 use Rattle.htl_names.proofs.switches.comms_in.Goals.{in-Named+in_ok-put_comm, in_default}
 
@@ -38,3 +38,10 @@ loop-k-preserved c =
           ap (λ comms. all comms.items rest) w.comms-is ∙ ap (λ (ids : List Id). fold with_new old (map number ids)) (sym (other_node x rest w.in_default.not-Named))
           ∙ so ∙ c.loop-k.invariant
     ]
+
+pub returns : goal.returns
+returns c =
+    let number : Id → ℕ = λ id. meaning c.args.source.now.layout.now (comm_key id.name) in
+    let nodes = c.nodes-nodes.result.now in
+    ap (λ (xs : List Node). fold with_new c.loop-k.comms.items (map number (names_in xs))) (sym (drop_all c.loop-k.k nodes c.loop-k-test.false)) ∙ c.loop-k.invariant
+    ∙ ap (λ (ids : List Id). distinct (map number ids)) c.nodes-nodes.ensures.names
