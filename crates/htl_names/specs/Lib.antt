@@ -18,6 +18,7 @@ pub mod Programs
 pub mod Reach
 pub mod Named
 pub mod Repeats
+pub mod Recorded
 pub mod Rows
 pub mod SameKeys
 pub mod Nth

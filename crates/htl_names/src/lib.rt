@@ -11,6 +11,7 @@ mod limits;
 mod order;
 mod place;
 mod programs;
+mod recorder;
 mod resolving;
 mod rows;
 mod rules;

@@ -2,12 +2,14 @@
 ghost use Rattle.std.specs.Prelude.{◌≡◌, ◌+◌, ◌≤◌, ◌^◌, ◌-◌, ℕ, OnOk, IfOk, length};
 ghost use Rattle.htl_text.specs.Nodes.{tree_of};
 ghost use Rattle.htl_names.specs.Rows as rows;
+ghost use Rattle.htl_names.specs.Recorded.{Adds};
 ghost use Rattle.htl_names.specs.Rows.{Rows as Plain, rows_joined, all_rows};
 ghost use Rattle.htl_names.specs.declared.key.Scope.{Scope as AScope};
 
 use crate::Done;
 use crate::key::{Scope, Space};
-use crate::rows::{ParentName, Rows};
+use crate::recorder::Recorder;
+use crate::rows::Rows;
 use htl_text::{
     CommNode, EndNode, InvokeNode, ModeNode, ModuleNode, OutNode, OutNodes, ParamNode, ProgramNode,
     SwitchNode, TaskNode, Tree,
@@ -19,19 +21,18 @@ pub(crate) trait Part {
     ghost rows_of: { AScope → ℕ → Self → Plain };
 
     /// Puts the rows of the part, and of its own parts, behind others.
-    fn add(&self, list: Scope, place: usize, into: &mut Rows) -> Done
-        ensures { OnOk result (into.new ≡ rows_joined into.old (rows_of list place self.now)) };
+    fn add(&self, list: Scope, place: usize, into: &mut Recorder)
+        ensures { Adds (rows_of list place self.now) into.old into.new };
 }
 
 /// Puts the rows of the parts in a list behind others; the first part stands at this place.
-fn add_all<T: Part>(list: Scope, first: usize, parts: &[T], into: &mut Rows) -> Done
+fn add_all<T: Part>(list: Scope, first: usize, parts: &[T], into: &mut Recorder)
     requires { first + length parts.now ≤ 2 ^ 64 - 1 }
-    ensures { OnOk result (into.new ≡ rows_joined into.old (all_rows (T.rows_of list) first parts.now)) }
+    ensures { Adds (all_rows (T.rows_of list) first parts.now) into.old into.new }
 {
     for k in 0..parts.len() {
-        parts[k].add(list, first + k, into)?;
+        parts[k].add(list, first + k, into);
     }
-    Ok(())
 }
 
 /// The rows of a source. Communicators are numbered over the whole of it.
@@ -39,48 +40,50 @@ pub(crate) fn rows_of(alloc: Global, tree: &Tree) -> Result<Rows, AllocError>
     ensures { IfOk result (λ r. r ≡ rows.rows (tree_of tree.now)) }
 {
     let programs = tree.programs.as_slice();
-    let mut into = Rows::new(alloc);
+    let mut into = Recorder::new(alloc);
     let mut first = 0;
     for p in 0..programs.len() {
         let program = &programs[p];
         add_program(p, first, program, &mut into)?;
         first += program.comms.as_slice().len();
     }
-    Ok(into)
+    Ok(into.into_rows())
 }
 
-fn add_program(p: usize, first: usize, program: &ProgramNode, into: &mut Rows) -> Done
-    requires { first ≤ length into.old.entries }
-    ensures rows { OnOk result (into.new ≡ rows_joined into.old (rows.program_rows p first program.now)) }
+fn add_program(p: usize, first: usize, program: &ProgramNode, into: &mut Recorder) -> Done
+    requires { first ≤ length into.old.rows.entries }
+    ensures rows { OnOk result (into.new.rows ≡ rows_joined into.old.rows (rows.program_rows p first program.now)) }
     ensures few { OnOk result (first ≤ 2 ^ 63 - 1) }
 {
-    into.declare(Space::Programs.of(0, 0, 0), p, &program.name)?;
+    into.declare(Space::Programs.of(0, 0, 0), p, &program.name);
+    into.done()?;
     let comms = Space::Comms.of(0, 0, 0);
-    add_all(comms, first, program.comms.as_slice(), into)?;
+    add_all(comms, first, program.comms.as_slice(), into);
     let modules = Space::Modules.of(p, 0, 0);
-    add_all(modules, 0, program.modules.as_slice(), into)
+    add_all(modules, 0, program.modules.as_slice(), into);
+    into.done()
 }
 
 impl Part for CommNode {
     ghost rows_of = { rows.comm_rows };
 
-    fn add(&self, list: Scope, place: usize, into: &mut Rows) -> Done {
-        into.declare(list, place, &self.name)?;
-        into.span(&self.period)?;
-        into.initial(self.ty, self.init)
+    fn add(&self, list: Scope, place: usize, into: &mut Recorder) {
+        into.declare(list, place, &self.name);
+        into.span(&self.period);
+        into.initial(self.ty, self.init);
     }
 }
 
 impl Part for ModuleNode {
     ghost rows_of = { rows.module_rows };
 
-    fn add(&self, list: Scope, place: usize, into: &mut Rows) -> Done {
+    fn add(&self, list: Scope, place: usize, into: &mut Recorder) {
         let modes = Space::Modes.of(list.program, place, 0);
-        into.declare(Space::Modules.of(0, 0, 0), place, &self.name)?;
-        into.mention(modes, None, &self.start)?;
+        into.declare(Space::Modules.of(0, 0, 0), place, &self.name);
+        into.mention(modes, None, &self.start);
         let tasks = Space::Tasks.of(list.program, place, 0);
-        add_all(tasks, 0, self.tasks.as_slice(), into)?;
-        add_all(modes, 0, self.modes.as_slice(), into)
+        add_all(tasks, 0, self.tasks.as_slice(), into);
+        add_all(modes, 0, self.modes.as_slice(), into);
     }
 }
 
@@ -89,12 +92,12 @@ impl Part for ModuleNode {
 impl Part for TaskNode {
     ghost rows_of = { rows.task_rows };
 
-    fn add(&self, list: Scope, place: usize, into: &mut Rows) -> Done {
+    fn add(&self, list: Scope, place: usize, into: &mut Recorder) {
         let inputs = self.inputs.as_slice();
         let params = Space::Params.of(list.program, list.module, place);
-        into.declare(list, place, &self.name)?;
-        into.span(&self.worst)?;
-        add_all(params, 0, inputs, into)?;
+        into.declare(list, place, &self.name);
+        into.span(&self.worst);
+        add_all(params, 0, inputs, into);
         match &self.outputs {
             OutNodes::Concrete { outs } => add_outs(params, inputs.len(), outs.as_slice(), into),
             OutNodes::Abstract { outs } => add_all(params, inputs.len(), outs.as_slice(), into),
@@ -106,22 +109,21 @@ impl Part for TaskNode {
 impl Part for ParamNode {
     ghost rows_of = { rows.param_rows };
 
-    fn add(&self, list: Scope, place: usize, into: &mut Rows) -> Done {
-        into.declare(list, place, &self.name)
+    fn add(&self, list: Scope, place: usize, into: &mut Recorder) {
+        into.declare(list, place, &self.name);
     }
 }
 
 // Outputs come behind the inputs. An output's expression uses the inputs of its task.
-fn add_outs(params: Scope, inputs: usize, outs: &[OutNode], into: &mut Rows) -> Done
+fn add_outs(params: Scope, inputs: usize, outs: &[OutNode], into: &mut Recorder)
     requires { inputs ≤ 2 ^ 63 - 1 }
-    ensures { OnOk result (into.new ≡ rows_joined into.old (all_rows (rows.out_rows params inputs) inputs outs.now)) }
+    ensures { Adds (all_rows (rows.out_rows params inputs) inputs outs.now) into.old into.new }
 {
     for j in 0..outs.len() {
         let out = &outs[j];
-        into.declare(params, inputs + j, &out.param.name)?;
-        into.mention_all(params, Some(inputs), &out.value)?;
+        into.declare(params, inputs + j, &out.param.name);
+        into.mention_all(params, Some(inputs), &out.value);
     }
-    Ok(())
 }
 
 // ---- modes
@@ -129,37 +131,32 @@ fn add_outs(params: Scope, inputs: usize, outs: &[OutNode], into: &mut Rows) -> 
 impl Part for ModeNode {
     ghost rows_of = { rows.mode_rows };
 
-    fn add(&self, list: Scope, place: usize, into: &mut Rows) -> Done {
+    fn add(&self, list: Scope, place: usize, into: &mut Recorder) {
         let ports = Space::Ports.of(list.program, list.module, place);
         let invokes = Space::Invokes.of(list.program, list.module, place);
-        into.declare(list, place, &self.name)?;
-        into.span(&self.period)?;
+        into.declare(list, place, &self.name);
+        into.span(&self.period);
         if let Some(id) = &self.program {
-            into.mention(Space::Programs.of(0, 0, 0), None, id)?;
+            into.mention(Space::Programs.of(0, 0, 0), None, id);
         }
-        add_all(ports, 0, self.ports.as_slice(), into)?;
-        add_all(invokes, 0, self.invokes.as_slice(), into)?;
-        add_all(list, 0, self.switches.as_slice(), into)
+        add_all(ports, 0, self.ports.as_slice(), into);
+        add_all(invokes, 0, self.invokes.as_slice(), into);
+        add_all(list, 0, self.switches.as_slice(), into);
     }
 }
 
 impl Part for InvokeNode {
     ghost rows_of = { rows.invoke_rows };
 
-    fn add(&self, list: Scope, place: usize, into: &mut Rows) -> Done {
+    fn add(&self, list: Scope, place: usize, into: &mut Recorder) {
         let tasks = Space::Tasks.of(list.program, list.module, 0);
         let ports = Space::Ports.of(list.program, list.module, list.item);
-        into.declare(list, place, &self.task)?;
-        into.mention(tasks, None, &self.task)?;
-        add_all(ports, 0, self.reads.as_slice(), into)?;
-        add_all(ports, 0, self.writes.as_slice(), into)?;
-        match self.parent {
-            None => Ok(()),
-            Some(id) => {
-                let program = list.program;
-                into.parents.push(ParentName { program, id })?;
-                Ok(())
-            }
+        into.declare(list, place, &self.task);
+        into.mention(tasks, None, &self.task);
+        add_all(ports, 0, self.reads.as_slice(), into);
+        add_all(ports, 0, self.writes.as_slice(), into);
+        if let Some(id) = self.parent {
+            into.refine(list.program, id);
         }
     }
 }
@@ -167,10 +164,10 @@ impl Part for InvokeNode {
 impl Part for EndNode {
     ghost rows_of = { rows.end_rows };
 
-    fn add(&self, list: Scope, _place: usize, into: &mut Rows) -> Done {
+    fn add(&self, list: Scope, _place: usize, into: &mut Recorder) {
         match self {
             EndNode::Comm { comm, instance } => {
-                into.mention(Space::Comms.of(0, 0, 0), None, comm)?;
+                into.mention(Space::Comms.of(0, 0, 0), None, comm);
                 into.instance(instance)
             }
             EndNode::Port { port } => into.mention(list, None, port),
@@ -182,8 +179,8 @@ impl Part for EndNode {
 impl Part for SwitchNode {
     ghost rows_of = { rows.switch_rows };
 
-    fn add(&self, list: Scope, _place: usize, into: &mut Rows) -> Done {
-        into.mention_all(Space::Comms.of(0, 0, 0), None, &self.cond)?;
-        into.mention(list, None, &self.target)
+    fn add(&self, list: Scope, _place: usize, into: &mut Recorder) {
+        into.mention_all(Space::Comms.of(0, 0, 0), None, &self.cond);
+        into.mention(list, None, &self.target);
     }
 }

@@ -1,0 +1,10 @@
+use Rattle.std.proofs.Common.{drop, map}
+use Rattle.htl_text.specs.Postfix.{names_in}
+use Rattle.htl_names.specs.Recorded.{AddsWith}
+use Rattle.htl_names.specs.Rows.{using}
+use Rattle.htl_names.specs.Uses.{use_in}
+use Rattle.htl_names.proofs.recorder.Recorder.mention_all.Given as goal
+
+abbrev pub invariant-loop-k : goal.invariant-loop-k
+invariant-loop-k l =
+    AddsWith (using (map (use_in l.scope l.below) (names_in (drop l.k l.nodes)))) (using (map (use_in l.scope l.below) (names_in l.nodes))) l.initial.self l.self
