@@ -20,12 +20,13 @@ use Rattle.htl_names.specs.Keys.{program_key, task_key, mode_key, module_key}
 use Rattle.htl_names.specs.Kinds.{Judged, Span, comm_kinds, end_kinds, invoke_kinds, mode_kinds, task_kind, module_kinds, program_kinds}
 use Rattle.htl_names.specs.Lists.{map_at, flat_map_at}
 use Rattle.htl_names.specs.Parents.{ParentUse, invoke_parent, mode_parents, module_parents, program_parents}
-use Rattle.htl_names.specs.Rows.{Rows, wrong_of, wrong_tokens, rows_by, rows_with, rows_joined, declaring, using, judging, refining, all_rows, list_of, used, comm_rows, out_rows, outputs_rows, task_rows, end_rows, invoke_rows, switch_rows, mode_rows, module_rows, program_rows}
+use Rattle.htl_names.specs.Rows.{Rows, parent_use_of, wrong_of, wrong_tokens, rows_by, rows_with, rows_joined, declaring, using, judging, refining, all_rows, list_of, used, comm_rows, out_rows, outputs_rows, task_rows, end_rows, invoke_rows, switch_rows, mode_rows, module_rows, program_rows}
 use Rattle.htl_names.specs.Uses.{usage, output_uses, outputs_uses, task_uses, end_use, invoke_uses, switch_uses, program_use, mode_uses, module_uses, program_uses}
 use Rattle.htl_names.specs.declared.key.Entry.{Entry}
 use Rattle.htl_names.specs.declared.key.Use.{Use}
+use Rattle.htl_names.specs.declared.rows.ParentName.{ParentName}
 use Rattle.std.proofs.Math.Nat.{mul_assoc}
-use Rattle.std.proofs.lemmas.List.{length-map}
+use Rattle.std.proofs.lemmas.List.{length-map, map-append}
 use Rattle.htl_model.proofs.ChoiceLaws.{capped}
 use Rattle.htl_names.specs.Limits.{choices}
 use Rattle.htl_names.specs.declared.key.Key.{Key}
@@ -56,6 +57,12 @@ pub joined-assoc : (a b c : Rows) → rows_joined (rows_joined a b) c ≡ rows_j
 joined-assoc a b c =
     same_rows _ (a.entries ++ (b.entries ++ c.entries)) _ (a.uses ++ (b.uses ++ c.uses)) _ (a.wrong ++ (b.wrong ++ c.wrong)) _ (a.parents ++ (b.parents ++ c.parents))
     (append_assoc a.entries b.entries c.entries) (append_assoc a.uses b.uses c.uses) (append_assoc a.wrong b.wrong c.wrong) (append_assoc a.parents b.parents c.parents)
+
+-- a name after `parent` more
+pub one_parent : (es : List Entry) (us : List Use) (ts : List ℕ) (old new : List ParentName) (n : ParentName) → new ≡ old ++ n ∷ []
+    → rows_by es us ts (map parent_use_of new) ≡ rows_joined (rows_by es us ts (map parent_use_of old)) (refining (parent_use_of n ∷ []))
+one_parent es us ts old new n is =
+    same_rows es _ us _ ts _ _ _ (sym (append-nil es)) (sym (append-nil us)) (sym (append-nil ts)) (ap (map parent_use_of) is ∙ map-append parent_use_of old (n ∷ []))
 
 -- ---- tokens of what is not of its kind
 
