@@ -1,11 +1,14 @@
 use Rattle.std.proofs.Common.{◌≡◌, ◌≤◌, ◌<◌, ◌+◌, ◌++◌, ℕ, suc, List, length, drop, get_or, add-one, ap, sym, refl, subst, ◌∙◌, arith}
+use Rattle.htl_model.specs.FrameTables.{IsFrame}
 use Rattle.htl_model.specs.Frames.{starts}
 use Rattle.htl_model.specs.Tables.{Tables}
+use Rattle.htl_model.specs.declared.frame.Frame.{Frame}
 use Rattle.htl_walk.proofs.CodeWalk.{start_read}
 use Rattle.htl_walk.specs.Feasible.{lists_of}
 use Rattle.htl_walk.specs.NodeWalks.{instrs_of}
 use Rattle.htl_walk.specs.PathJobs.{legs}
 use Rattle.htl_walk.specs.Paths.{end_to_end, walk_path, walks_from}
+use Rattle.htl_walk.specs.declared.schedule.SInstr.{SInstr}
 use Rattle.htl_walk.specs.Walk.{Point, last_point, walk_from, worst_cases}
 use Rattle.htl_top.proofs.ListByList.{list_next, lists_end, path_leg, path_legs, path_list, path_lists}
 use Rattle.htl_top.proofs.PlanWalk.{length-walk}
@@ -14,6 +17,10 @@ use Rattle.htl_top.specs.Planned.{walk_text}
 use Rattle.htl_top.proofs.plan_lists.follow_lists.Given as given
 use Rattle.htl_top.proofs.plan_lists.follow_lists.Goals as goal
 use Rattle.htl_top.proofs.plan_lists.follow_lists.Goals.{After-follow}
+
+-- behind the last start there is no list
+no_list_behind : (t : Tables) (f : Frame) (lists : List (List SInstr)) (path j : ℕ) → IsFrame t f → f.count ≤ j → length (lists_of t lists path) ≤ j
+no_list_behind t f lists path j frame past = omega (arith, path_lists t lists path, past, frame.count)
 
 pub overflow_add-finished : goal.overflow_add-finished
 overflow_add-finished g c =
@@ -106,19 +113,19 @@ pub returns-clause-finished : goal.returns-clause-finished
 returns-clause-finished g c =
     let t : Tables = c.args.l.now.tables in
     let ss = lists_of t (instrs_of c.args.l.now.schedules) c.args.path in
-    let past : length ss ≤ c.loop-j.j = omega (arith, path_lists t (instrs_of c.args.l.now.schedules) c.args.path, c.loop-j-test.false, c.requires.frame.count) in
+    let past = no_list_behind t c.args.f.now (instrs_of c.args.l.now.schedules) c.args.path c.loop-j.j c.requires.frame c.loop-j-test.false in
     IsTold-count t c.args.jobs.now _ _ _ _ _ _ _ _ c.loop-j.invariant.told (lists_end c.args.jobs.now ss _ c.loop-j.j _ past)
 
 pub returns-clause-count : goal.returns-clause-count
 returns-clause-count g c =
     let t : Tables = c.args.l.now.tables in
     let ss = lists_of t (instrs_of c.args.l.now.schedules) c.args.path in
-    let past : length ss ≤ c.loop-j.j = omega (arith, path_lists t (instrs_of c.args.l.now.schedules) c.args.path, c.loop-j-test.false, c.requires.frame.count) in
+    let past = no_list_behind t c.args.f.now (instrs_of c.args.l.now.schedules) c.args.path c.loop-j.j c.requires.frame c.loop-j-test.false in
     IsTold-many t c.args.jobs.now _ _ _ _ _ _ _ _ c.loop-j.invariant.told (lists_end c.args.jobs.now ss _ c.loop-j.j _ past)
 
 pub returns-clause-put : goal.returns-clause-put
 returns-clause-put g c =
     let t : Tables = c.args.l.now.tables in
     let ss = lists_of t (instrs_of c.args.l.now.schedules) c.args.path in
-    let past : length ss ≤ c.loop-j.j = omega (arith, path_lists t (instrs_of c.args.l.now.schedules) c.args.path, c.loop-j-test.false, c.requires.frame.count) in
+    let past = no_list_behind t c.args.f.now (instrs_of c.args.l.now.schedules) c.args.path c.loop-j.j c.requires.frame c.loop-j-test.false in
     IsTold-all t c.args.jobs.now _ _ _ _ _ _ _ _ c.loop-j.invariant.told (lists_end c.args.jobs.now ss _ c.loop-j.j _ past) _

@@ -99,6 +99,15 @@ returns-in-Err-Read-clause-answer g c = (
   read_cut c.args.t.now c.args.machine.now c.events.machine c.requires.accepted c.requires.tables c.events.script.stream c.next.new.self.stream (g.R.Source.rest c.args.input.now) (g.R.Source.rest c.events.input) (g.R.Source.rest c.next.new.src) (g.W.Sink.written c.args.out.now) (g.W.Sink.written c.events.out) c.events.invariant.0,
 )
 
+pub returns-in-Err-Read-clause-read_count : goal.returns-in-Err-Read-clause-read_count
+returns-in-Err-Read-clause-read_count g c = λ other. absurd (other refl)
+
+pub returns-in-Ok-None-clause-write_count : goal.returns-in-Ok-None-clause-write_count
+returns-in-Ok-None-clause-write_count g c = elim c.match-write_totals.branch [
+  | in-Ok w ↦ λ other. w.in-Ok.ensures.cause.kept ∙ c.events.invariant.2
+  | in-Err-write_totals w ↦ rw w.result-is (λ other. absurd (other refl))
+]
+
 pub returns-in-Err-clause-taken : goal.returns-in-Err-clause-taken
 returns-in-Err-clause-taken g c = input_lost g (goal.at.returns-in-Err-clause-taken g c).After-next
 
