@@ -1,7 +1,9 @@
--- Answers while files are fetched speak of no tables.
-use Rattle.std.proofs.Common.{Option}
+-- Answers while files are fetched speak of no tables, and tell why no object was had.
+use Rattle.std.proofs.Common.{Option, List, ℕ}
 use Rattle.htl_model.specs.Tables.{Tables}
-use Rattle.htl_top.specs.Fetching.{IsOfFetch}
+use Rattle.htl_top.specs.Answers.{Files}
+use Rattle.htl_top.specs.Fetching.{IsOfFetch, IsUnfetched}
+use Rattle.htl_top.specs.Objects.{IsStopped}
 use Rattle.htl_top.specs.Telling.{SpeaksOf}
 use Rattle.htl_top.specs.declared.outcome.Outcome.{Outcome}
 use Rattle.htl_top.specs.declared.outcome.Outcome.TheVariants.{Done, Usage, Source, IllFormed, Unschedulable, Platform, Task, Log, Patch, Object as Refused, Script, Shelf, Read, Write, Memory}
@@ -22,3 +24,20 @@ fetching_speaks Sources Objects (Refused f) tables is = absurd is
 fetching_speaks Sources Objects (Script f) tables is = absurd is
 fetching_speaks Sources Objects Read tables is = absurd is
 fetching_speaks Sources Objects Write tables is = absurd is
+
+pub unfetched_stops : (name : Option (List ℕ)) (shelf : Files) (outcome : Outcome) → IsUnfetched name shelf outcome → IsStopped name shelf outcome
+unfetched_stops name shelf (Shelf cause) why = why
+unfetched_stops name shelf Memory why = why
+unfetched_stops name shelf Done why = absurd why
+unfetched_stops name shelf Usage why = absurd why
+unfetched_stops name shelf (Platform f) why = absurd why
+unfetched_stops name shelf Task why = absurd why
+unfetched_stops name shelf (Log f) why = absurd why
+unfetched_stops name shelf (Patch f) why = absurd why
+unfetched_stops name shelf (Source f) why = absurd why
+unfetched_stops name shelf (IllFormed f) why = absurd why
+unfetched_stops name shelf (Unschedulable sel a b demand) why = absurd why
+unfetched_stops name shelf (Refused f) why = absurd why
+unfetched_stops name shelf (Script f) why = absurd why
+unfetched_stops name shelf Read why = absurd why
+unfetched_stops name shelf Write why = absurd why

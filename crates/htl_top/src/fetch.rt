@@ -1,4 +1,4 @@
-// Files that the shelf gives: an object, and a second file beside it.
+// Files that the shelf gives: an object, or an object and a second file beside it.
 ghost use Rattle.std.specs.Prelude.{◌≡◌, List, ℕ, Some, IfOk, IfErr};
 ghost use Rattle.htl_top.specs.Answers.{files};
 ghost use Rattle.htl_top.specs.Fetching.{IsUnfetched, IsUnhad, IsOfFetch};
@@ -27,8 +27,8 @@ impl Drop for BothFiles {
     }
 }
 
-// A file of at most 16,777,216 bytes, or the answer where it isn't had.
-fn fetch_file<S: Shelf>(alloc: Global, name: &str, shelf: &mut S) -> Result<Vec<u8>, Outcome>
+/// A file of at most 16,777,216 bytes, or the answer where it isn't had.
+pub fn fetch_file<S: Shelf>(alloc: Global, name: &str, shelf: &mut S) -> Result<Vec<u8>, Outcome>
     ensures fetched { IfOk result (λ bytes. IsObjectFile (Some name.now) (S.holds shelf.old) bytes.items) }
     ensures stopped { IfErr result (λ o. IsUnfetched (Some name.now) (files S.holds S.faults shelf.old shelf.new) o) }
     ensures fetching { IfErr result IsOfFetch }

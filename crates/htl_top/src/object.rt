@@ -8,10 +8,10 @@ ghost use Rattle.htl_top.specs.Objects.{IsObjectRead, IsAcceptedFile, IsObjectTa
 ghost use Rattle.htl_top.specs.Telling.{SpeaksOf};
 ghost use Rattle.htl_top.specs.declared.outcome.ShelfCause.TheVariants as cause;
 
+use crate::Outcome;
 use crate::answer::Answer;
-use crate::{Outcome, ShelfCause};
-use htl_base::limits::MAX_OBJECT;
-use htl_edge::{Shelf, ShelfFault};
+use crate::fetch::fetch_file;
+use htl_edge::Shelf;
 use htl_load::{Loaded, ObjectFault, formed, scheduled, spelled};
 use htl_model::Tables;
 use htl_object::{DecodeFault, Object, decode};
@@ -83,13 +83,9 @@ pub fn open<S: Shelf>(alloc: Global, name: &str, shelf: &mut S) -> Result<Loaded
     ensures opened_count { IfOk result (λ l. (file : List ℕ) → S.faults shelf.new file ≡ S.faults shelf.old file) }
     ensures stopped_count { IfErr result (λ a. (a.outcome ≡ Outcome.Shelf cause.Failed → ⊥) → (file : List ℕ) → S.faults shelf.new file ≡ S.faults shelf.old file) }
 {
-    let bytes = match shelf.fetch(alloc, name, MAX_OBJECT) {
+    let bytes = match fetch_file(alloc, name, shelf) {
         Ok(bytes) => bytes,
-        Err(ShelfFault::Failed) => return Err(Answer::plain(Outcome::Shelf(ShelfCause::Failed))),
-        Err(ShelfFault::TooLong { seen }) => {
-            return Err(Answer::plain(Outcome::Shelf(ShelfCause::TooLong { seen })));
-        }
-        Err(ShelfFault::Memory) => return Err(Answer::plain(Outcome::Memory)),
+        Err(outcome) => return Err(Answer::plain(outcome)),
     };
     match read_object(alloc, bytes.as_slice()) {
         Ok(loaded) => Ok(loaded),

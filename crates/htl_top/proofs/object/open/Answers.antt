@@ -1,7 +1,18 @@
+use Rattle.std.proofs.Common.{Some, sym, subst}
+use Rattle.htl_top.proofs.Fetching.{fetching_speaks, unfetched_stops}
+use Rattle.htl_top.specs.Answers.{files}
+use Rattle.htl_top.specs.Objects.{IsObjectTables, IsStopped}
+use Rattle.htl_top.specs.Telling.{SpeaksOf}
+use Rattle.htl_top.specs.declared.outcome.Outcome.{Outcome}
 use Rattle.htl_top.proofs.object.open.Goals as goal
 
-pub returns-in-Err-TooLong-clause-stopped_count : goal.returns-in-Err-TooLong-clause-stopped_count
-returns-in-Err-TooLong-clause-stopped_count g c = λ long. rw c.in-Err-TooLong.field-0-is at c.in-Err-TooLong.ensures.kept
+pub returns-in-Err-clause-stopped : goal.returns-in-Err-clause-stopped
+returns-in-Err-clause-stopped g c =
+    let shelf = files g.S.Shelf.holds g.S.Shelf.faults c.args.shelf.now c.fetch_file.new.shelf in
+    subst (λ (o : Outcome). IsStopped (Some c.args.name.now) shelf o) (sym c.plain.ensures.outcome) (unfetched_stops (Some c.args.name.now) shelf c.in-Err.outcome c.in-Err.ensures.stopped)
 
-pub returns-in-Err-Memory-clause-stopped_count : goal.returns-in-Err-Memory-clause-stopped_count
-returns-in-Err-Memory-clause-stopped_count g c = λ none. rw c.in-Err-Memory.field-0-is at c.in-Err-Memory.ensures.kept
+pub returns-in-Err-clause-tables : goal.returns-in-Err-clause-tables
+returns-in-Err-clause-tables g c =
+    let HasObject = IsObjectTables (Some c.args.name.now) (g.S.Shelf.holds c.args.shelf.now) in
+    subst (λ (o : Outcome). SpeaksOf (λ fact. ⊥) HasObject o c.plain.result.tables) (sym c.plain.ensures.outcome)
+    (fetching_speaks (λ fact. ⊥) HasObject c.in-Err.outcome c.plain.result.tables c.in-Err.ensures.fetching)
