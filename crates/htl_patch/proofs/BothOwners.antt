@@ -1,5 +1,5 @@
 -- The owners of the items of two programs side by side.
-use Rattle.std.proofs.Common.{◌≡◌, ◌≤◌, ◌<◌, ℕ, zero, suc, ◌+◌, List, [], ◌∷◌, ◌++◌, length, length-append, get_or, map, take, refl, sym, ◌∙◌, ap, subst, arith}
+use Rattle.std.proofs.Common.{◌≡◌, ◌≤◌, ◌<◌, ℕ, ◌+◌, List, [], ◌∷◌, ◌++◌, length, length-append, map, All, refl, sym, ◌∙◌, ap, subst, arith}
 use Rattle.std.proofs.lemmas.List.{length-map}
 use Rattle.std.specs.List.Sorted.{IsNonDecreasing}
 use Rattle.htl_model.specs.Ranges.{AreInRange, IsModeInRange, IsPortInRange, IsTaskInRange, IsInvInRange, IsSwitchInRange}
@@ -8,20 +8,14 @@ use Rattle.htl_model.specs.declared.parts.Mode.{Mode}
 use Rattle.htl_model.specs.declared.parts.Port.{Port}
 use Rattle.htl_model.specs.declared.parts.Switch.{Switch}
 use Rattle.htl_model.specs.declared.parts.Task.{Task}
+use Rattle.htl_model.specs.Tables.{Tables}
 use Rattle.htl_patch.specs.Owners.{mode_owners, port_owners, task_owners, inv_owners, switch_owners}
 use Rattle.htl_patch.specs.United.{Graft, united, donor_mode, donor_port, donor_task, donor_inv, donor_switch}
-use Rattle.htl_patch.proofs.FunctionLists.{map_more}
 use Rattle.htl_patch.proofs.Grafting.{all_at}
 use Rattle.htl_patch.proofs.Members.{Has, map_append, map_map, of_map}
 use Rattle.htl_patch.proofs.OwnerLaws.{rise_both}
 
-take_all : {A : Type 0} (k : ℕ) (xs : List A) → length xs ≤ k → take k xs ≡ xs
-take_all zero [] le = refl
-take_all (suc k) [] le = refl
-take_all zero (x ∷ xs) le = absurd (omega (arith, le))
-take_all (suc k) (x ∷ xs) le = ap (λ ys. x ∷ ys) (take_all k xs (omega (arith, le)))
-
-map_same : {A B : Type 0} (f g : A → B) (xs : List A) → ((x : A) → f x ≡ g x) → map f xs ≡ map g xs
+pub map_same : {A B : Type 0} (f g : A → B) (xs : List A) → ((x : A) → f x ≡ g x) → map f xs ≡ map g xs
 map_same f g [] h = refl
 map_same f g (x ∷ xs) h = ap (λ y. y ∷ map f xs) (h x) ∙ ap (λ ys. g x ∷ ys) (map_same f g xs h)
 
@@ -30,24 +24,67 @@ owners_joined : {A : Type 0} (own : A → ℕ) (f : A → A) (h : ℕ) (xs ys : 
 owners_joined own f h xs ys moved =
     map_append own xs (map f ys) ∙ ap (λ zs. map own xs ++ zs) (map_map own f ys ∙ map_same (λ x. own (f x)) (λ x. h + own x) ys moved)
 
-pub both_owners : {A : Type 0} (own : A → ℕ) (f : A → A) (h : ℕ) (xs ys : List A) (k : ℕ) (found : List ℕ) → length ys ≤ k
-    → found ≡ map own xs ++ map (λ x. h + own x) (take k ys) → ((x : A) → own (f x) ≡ h + own x) → found ≡ map own (xs ++ map f ys)
-both_owners own f h xs ys k found most is moved =
-    is ∙ ap (λ zs. map own xs ++ map (λ x. h + own x) zs) (take_all k ys most) ∙ sym (owners_joined own f h xs ys moved)
-
--- one owner more of the second program
-pub owners_more : {A : Type 0} (own : A → ℕ) (h before : ℕ) (front found after : List ℕ) (ys back : List A) (k : ℕ) (d : A) → before ≡ h → back ≡ ys → k < length back
-    → after ≡ found ++ (before + own (get_or back k d)) ∷ [] → found ≡ front ++ map (λ y. h + own y) (take k ys) → after ≡ front ++ map (λ y. h + own y) (take (k + 1) ys)
-owners_more {A} own h before front found after ys back k d same other less is going =
-    let all = ap length other in
-    map_more (λ y. h + own y) ys d k found after front (omega (arith, less, all))
-    (is ∙ ap (λ (b : ℕ). found ++ (b + own (get_or back k d)) ∷ []) same ∙ ap (λ zs. found ++ (h + own (get_or zs k d)) ∷ []) other) going
+-- the owners as they are read, where the numbers of the second program's stand behind those of the first
+pub both_owners : {A : Type 0} (own : A → ℕ) (f : A → A) (h by : ℕ) (xs front ys back : List A) → front ≡ xs → back ≡ ys → by ≡ h → ((x : A) → own (f x) ≡ h + own x)
+    → map own front ++ map (λ x. by + own x) back ≡ map own (xs ++ map f ys)
+both_owners {A} own f h by xs front ys back a b e moved =
+    ap (λ (zs : List A). map own zs ++ map (λ x. by + own x) back) a
+    ∙ ap (λ (zs : List A). map own xs ++ map (λ x. by + own x) zs) b
+    ∙ ap (λ (n : ℕ). map own xs ++ map (λ x. n + own x) ys) e
+    ∙ sym (owners_joined own f h xs ys moved)
 
 rise : {A : Type 0} (own : A → ℕ) (f : A → A) (h : ℕ) (xs ys : List A) → ((x : A) → own (f x) ≡ h + own x) → IsNonDecreasing (map own xs) → IsNonDecreasing (map own ys)
     → ((x : A) → Has xs x → own x < h) → IsNonDecreasing (map own (xs ++ map f ys))
 rise own f h xs ys moved p q low =
     subst IsNonDecreasing (ap (λ zs. map own xs ++ zs) (map_map (λ (y : ℕ). h + y) own ys) ∙ sym (owners_joined own f h xs ys moved))
     (rise_both h (map own xs) (map own ys) p q (λ x i. (let r = of_map own xs i.0 x i.1 in subst (λ (n : ℕ). n < h) r.2 (low r.0 (i.0, r.1)))))
+
+-- owners are below what a program has of them
+low : {A : Type 0} (own : A → ℕ) (h : ℕ) (xs front : List A) → front ≡ xs → h ≤ 512 → All (λ x. own x < h) xs → All (λ x. own x ≤ 512) front
+low {A} own h xs front e most all =
+    subst (λ (zs : List A). All (λ x. own x ≤ 512) zs) (sym e) (λ k d less. (let a = all k d less in omega (arith, a, most)))
+
+module _ (t : Tables) (r : AreInRange t) where
+  pub modes_low : (front : List Mode) → front ≡ t.modes → All (λ (x : Mode). x.«module» ≤ 512) front
+  modes_low front e = let few = r.few_modules in low (λ (x : Mode). x.«module») (length t.modules) t.modes front e (omega (arith, few)) (λ k d less. (r.modes k d less).owner)
+
+  pub ports_low : (front : List Port) → front ≡ t.ports → All (λ (x : Port). x.mode ≤ 512) front
+  ports_low front e = let few = r.few_modes in low (λ (x : Port). x.mode) (length t.modes) t.ports front e (omega (arith, few)) r.ports
+
+  pub tasks_low : (front : List Task) → front ≡ t.tasks → All (λ (x : Task). x.«module» ≤ 512) front
+  tasks_low front e = let few = r.few_modules in low (λ (x : Task). x.«module») (length t.modules) t.tasks front e (omega (arith, few)) (λ k d less. (r.tasks k d less).owner)
+
+  pub invs_low : (front : List Inv) → front ≡ t.invs → All (λ (x : Inv). x.mode ≤ 512) front
+  invs_low front e = let few = r.few_modes in low (λ (x : Inv). x.mode) (length t.modes) t.invs front e (omega (arith, few)) (λ k d less. (r.invs k d less).owner)
+
+  pub switches_low : (front : List Switch) → front ≡ t.switches → All (λ (x : Switch). x.mode ≤ 512) front
+  switches_low front e = let few = r.few_modes in low (λ (x : Switch). x.mode) (length t.modes) t.switches front e (omega (arith, few)) (λ k d less. (r.switches k d less).owner)
+
+module _ (g : Graft) (before : ℕ) where
+  pub modes_joined : (front back : List Mode) → front ≡ g.host.modes → back ≡ g.donor.modes → before ≡ length g.host.modules
+      → map (λ (x : Mode). x.«module») front ++ map (λ (x : Mode). before + x.«module») back ≡ mode_owners (united g)
+  modes_joined front back a b e =
+      both_owners (λ (x : Mode). x.«module») (donor_mode g) (length g.host.modules) before g.host.modes front g.donor.modes back a b e (λ x. refl)
+
+  pub ports_joined : (front back : List Port) → front ≡ g.host.ports → back ≡ g.donor.ports → before ≡ length g.host.modes
+      → map (λ (x : Port). x.mode) front ++ map (λ (x : Port). before + x.mode) back ≡ port_owners (united g)
+  ports_joined front back a b e =
+      both_owners (λ (x : Port). x.mode) (donor_port g) (length g.host.modes) before g.host.ports front g.donor.ports back a b e (λ x. refl)
+
+  pub tasks_joined : (front back : List Task) → front ≡ g.host.tasks → back ≡ g.donor.tasks → before ≡ length g.host.modules
+      → map (λ (x : Task). x.«module») front ++ map (λ (x : Task). before + x.«module») back ≡ task_owners (united g)
+  tasks_joined front back a b e =
+      both_owners (λ (x : Task). x.«module») (donor_task g) (length g.host.modules) before g.host.tasks front g.donor.tasks back a b e (λ x. refl)
+
+  pub invs_joined : (front back : List Inv) → front ≡ g.host.invs → back ≡ g.donor.invs → before ≡ length g.host.modes
+      → map (λ (x : Inv). x.mode) front ++ map (λ (x : Inv). before + x.mode) back ≡ inv_owners (united g)
+  invs_joined front back a b e =
+      both_owners (λ (x : Inv). x.mode) (donor_inv g) (length g.host.modes) before g.host.invs front g.donor.invs back a b e (λ x. refl)
+
+  pub switches_joined : (front back : List Switch) → front ≡ g.host.switches → back ≡ g.donor.switches → before ≡ length g.host.modes
+      → map (λ (x : Switch). x.mode) front ++ map (λ (x : Switch). before + x.mode) back ≡ switch_owners (united g)
+  switches_joined front back a b e =
+      both_owners (λ (x : Switch). x.mode) (donor_switch g) (length g.host.modes) before g.host.switches front g.donor.switches back a b e (λ x. refl)
 
 module _ (g : Graft) (host : AreInRange g.host) (donor : AreInRange g.donor) where
   pub modes_rise : IsNonDecreasing (mode_owners (united g))

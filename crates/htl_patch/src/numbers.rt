@@ -9,10 +9,10 @@ ghost use Rattle.htl_patch.specs.Renumbered.{place_among, ports_of, tasks_of, sw
 ghost use Rattle.htl_patch.specs.United.{graft, united};
 
 use crate::graft::{Graft, mode_count, module_count};
-use crate::lists::{invs, ports, tasks};
+use crate::lists::{invs, modes, modules, ports, switches, tasks};
 use crate::order::order;
 use crate::owned::owned;
-use crate::owners::{inv_owners, mode_owners, port_owners, switch_owners, task_owners};
+use crate::owners::owners_of;
 use crate::places::places;
 use std::alloc::{AllocError, Global};
 
@@ -61,53 +61,58 @@ impl Drop for NewNumbers {
 }
 
 // The modes of modules, by module.
-fn modes_in(alloc: Global, g: &Graft<'_>, units: &[u16]) -> Result<Vec<u16>, AllocError>
-    requires { All (λ x. x < length (united (graft g.now.host.now g.now.donor.now g.now.into g.now.from)).modules) units.now }
-    ensures { IfOk result (λ v. v.items ≡ flat_map (modes_of (united (graft g.now.host.now g.now.donor.now g.now.into g.now.from))) units.now) }
+fn modes_in(alloc: Global, g: &Graft<'_>, keys: &[u16]) -> Result<Vec<u16>, AllocError>
+    requires { All (λ x. x < length (united (graft g.now.host.now g.now.donor.now g.now.into g.now.from)).modules) keys.now }
+    ensures { IfOk result (λ v. v.items ≡ flat_map (modes_of (united (graft g.now.host.now g.now.donor.now g.now.into g.now.from))) keys.now) }
 {
-    let owners = mode_owners(alloc, g)?;
+    let before = modules(g.host).len() as u16;
+    let owners = owners_of(alloc, modes(g.host), modes(g.donor), before)?;
     let count = module_count(g);
-    owned(alloc, owners.as_slice(), count, units)
+    owned(alloc, owners.as_slice(), count, keys)
 }
 
 // The ports of modes, by mode.
-fn ports_in(alloc: Global, g: &Graft<'_>, modes: &[u16]) -> Result<Vec<u16>, AllocError>
-    requires { All (λ x. x < length (united (graft g.now.host.now g.now.donor.now g.now.into g.now.from)).modes) modes.now }
-    ensures { IfOk result (λ v. v.items ≡ flat_map (ports_of (united (graft g.now.host.now g.now.donor.now g.now.into g.now.from))) modes.now) }
+fn ports_in(alloc: Global, g: &Graft<'_>, keys: &[u16]) -> Result<Vec<u16>, AllocError>
+    requires { All (λ x. x < length (united (graft g.now.host.now g.now.donor.now g.now.into g.now.from)).modes) keys.now }
+    ensures { IfOk result (λ v. v.items ≡ flat_map (ports_of (united (graft g.now.host.now g.now.donor.now g.now.into g.now.from))) keys.now) }
 {
-    let owners = port_owners(alloc, g)?;
+    let before = modes(g.host).len() as u16;
+    let owners = owners_of(alloc, ports(g.host), ports(g.donor), before)?;
     let count = mode_count(g);
-    owned(alloc, owners.as_slice(), count, modes)
+    owned(alloc, owners.as_slice(), count, keys)
 }
 
 // The tasks of modules, by module.
-fn tasks_in(alloc: Global, g: &Graft<'_>, units: &[u16]) -> Result<Vec<u16>, AllocError>
-    requires { All (λ x. x < length (united (graft g.now.host.now g.now.donor.now g.now.into g.now.from)).modules) units.now }
-    ensures { IfOk result (λ v. v.items ≡ flat_map (tasks_of (united (graft g.now.host.now g.now.donor.now g.now.into g.now.from))) units.now) }
+fn tasks_in(alloc: Global, g: &Graft<'_>, keys: &[u16]) -> Result<Vec<u16>, AllocError>
+    requires { All (λ x. x < length (united (graft g.now.host.now g.now.donor.now g.now.into g.now.from)).modules) keys.now }
+    ensures { IfOk result (λ v. v.items ≡ flat_map (tasks_of (united (graft g.now.host.now g.now.donor.now g.now.into g.now.from))) keys.now) }
 {
-    let owners = task_owners(alloc, g)?;
+    let before = modules(g.host).len() as u16;
+    let owners = owners_of(alloc, tasks(g.host), tasks(g.donor), before)?;
     let count = module_count(g);
-    owned(alloc, owners.as_slice(), count, units)
+    owned(alloc, owners.as_slice(), count, keys)
 }
 
 // The invocations of modes, by mode.
-fn invs_in(alloc: Global, g: &Graft<'_>, modes: &[u16]) -> Result<Vec<u16>, AllocError>
-    requires { All (λ x. x < length (united (graft g.now.host.now g.now.donor.now g.now.into g.now.from)).modes) modes.now }
-    ensures { IfOk result (λ v. v.items ≡ flat_map (invs_of (united (graft g.now.host.now g.now.donor.now g.now.into g.now.from))) modes.now) }
+fn invs_in(alloc: Global, g: &Graft<'_>, keys: &[u16]) -> Result<Vec<u16>, AllocError>
+    requires { All (λ x. x < length (united (graft g.now.host.now g.now.donor.now g.now.into g.now.from)).modes) keys.now }
+    ensures { IfOk result (λ v. v.items ≡ flat_map (invs_of (united (graft g.now.host.now g.now.donor.now g.now.into g.now.from))) keys.now) }
 {
-    let owners = inv_owners(alloc, g)?;
+    let before = modes(g.host).len() as u16;
+    let owners = owners_of(alloc, invs(g.host), invs(g.donor), before)?;
     let count = mode_count(g);
-    owned(alloc, owners.as_slice(), count, modes)
+    owned(alloc, owners.as_slice(), count, keys)
 }
 
 // The switches of modes, by mode.
-fn switches_in(alloc: Global, g: &Graft<'_>, modes: &[u16]) -> Result<Vec<u16>, AllocError>
-    requires { All (λ x. x < length (united (graft g.now.host.now g.now.donor.now g.now.into g.now.from)).modes) modes.now }
-    ensures { IfOk result (λ v. v.items ≡ flat_map (switches_of (united (graft g.now.host.now g.now.donor.now g.now.into g.now.from))) modes.now) }
+fn switches_in(alloc: Global, g: &Graft<'_>, keys: &[u16]) -> Result<Vec<u16>, AllocError>
+    requires { All (λ x. x < length (united (graft g.now.host.now g.now.donor.now g.now.into g.now.from)).modes) keys.now }
+    ensures { IfOk result (λ v. v.items ≡ flat_map (switches_of (united (graft g.now.host.now g.now.donor.now g.now.into g.now.from))) keys.now) }
 {
-    let owners = switch_owners(alloc, g)?;
+    let before = modes(g.host).len() as u16;
+    let owners = owners_of(alloc, switches(g.host), switches(g.donor), before)?;
     let count = mode_count(g);
-    owned(alloc, owners.as_slice(), count, modes)
+    owned(alloc, owners.as_slice(), count, keys)
 }
 
 /// The old numbers in the new order. The time is linear in both programs.

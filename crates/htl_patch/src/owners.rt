@@ -1,99 +1,86 @@
-// The owners of the items of both programs, in the order of their numbers.
-ghost use Rattle.std.specs.Prelude.{◌≡◌, ◌≤◌, length, IfOk};
-ghost use Rattle.std.specs.List.Sorted.{IsNonDecreasing};
-ghost use Rattle.htl_patch.specs.Owners.{mode_owners as mode_owners_of, port_owners as port_owners_of, task_owners as task_owners_of, inv_owners as inv_owners_of, switch_owners as switch_owners_of};
-ghost use Rattle.htl_patch.specs.United.{graft, united};
+// The owners of the items of both programs, in the order of the items' numbers.
+ghost use Rattle.std.specs.Prelude.{◌≡◌, ◌≤◌, ◌+◌, ◌++◌, All, map, OnOk, IfOk};
 
-use crate::graft::Graft;
-use crate::lists::{invs, modes, modules, ports, switches, tasks};
+use htl_model::{Inv, Mode, Port, Switch, Task};
 use std::alloc::{AllocError, Global};
 
-/// The module of each mode.
-pub(crate) fn mode_owners(alloc: Global, g: &Graft<'_>) -> Result<Vec<u16>, AllocError>
-    ensures owners { IfOk result (λ v. v.items ≡ mode_owners_of (united (graft g.now.host.now g.now.donor.now g.now.into g.now.from))) }
-    ensures rising { IfOk result (λ v. IsNonDecreasing v.items) }
-    ensures few { IfOk result (λ v. length v.items ≤ 16384) }
-{
-    let before = modules(g.host).len() as u16;
-    let mut found = modes(g.host)
-        .iter()
-        .map(|x| x.module)
-        .collect::<Vec<u16>>(alloc)?;
-    let back = modes(g.donor);
-    for k in 0..back.len() {
-        found.push(before + back[k].module)?;
-    }
-    Ok(found)
+/// An item of a module or of a mode.
+pub(crate) trait HasOwner {
+    ghost use Rattle.std.specs.Prelude.{◌≡◌, ℕ};
+
+    ghost owner_of: { Self → ℕ };
+
+    /// The number of the module or mode.
+    fn owner(&self) -> u16
+        ensures { result ≡ owner_of self.now };
 }
 
-/// The mode of each port.
-pub(crate) fn port_owners(alloc: Global, g: &Graft<'_>) -> Result<Vec<u16>, AllocError>
-    ensures owners { IfOk result (λ v. v.items ≡ port_owners_of (united (graft g.now.host.now g.now.donor.now g.now.into g.now.from))) }
-    ensures rising { IfOk result (λ v. IsNonDecreasing v.items) }
-    ensures few { IfOk result (λ v. length v.items ≤ 16384) }
-{
-    let before = modes(g.host).len() as u16;
-    let mut found = ports(g.host)
-        .iter()
-        .map(|x| x.mode)
-        .collect::<Vec<u16>>(alloc)?;
-    let back = ports(g.donor);
-    for k in 0..back.len() {
-        found.push(before + back[k].mode)?;
+impl HasOwner for Mode {
+    ghost owner_of = { λ x. x.«module» };
+
+    fn owner(&self) -> u16 {
+        self.module
     }
-    Ok(found)
 }
 
-/// The module of each task.
-pub(crate) fn task_owners(alloc: Global, g: &Graft<'_>) -> Result<Vec<u16>, AllocError>
-    ensures owners { IfOk result (λ v. v.items ≡ task_owners_of (united (graft g.now.host.now g.now.donor.now g.now.into g.now.from))) }
-    ensures rising { IfOk result (λ v. IsNonDecreasing v.items) }
-    ensures few { IfOk result (λ v. length v.items ≤ 16384) }
-{
-    let before = modules(g.host).len() as u16;
-    let mut found = tasks(g.host)
-        .iter()
-        .map(|x| x.module)
-        .collect::<Vec<u16>>(alloc)?;
-    let back = tasks(g.donor);
-    for k in 0..back.len() {
-        found.push(before + back[k].module)?;
+impl HasOwner for Port {
+    ghost owner_of = { λ x. x.mode };
+
+    fn owner(&self) -> u16 {
+        self.mode
     }
-    Ok(found)
 }
 
-/// The mode of each invocation.
-pub(crate) fn inv_owners(alloc: Global, g: &Graft<'_>) -> Result<Vec<u16>, AllocError>
-    ensures owners { IfOk result (λ v. v.items ≡ inv_owners_of (united (graft g.now.host.now g.now.donor.now g.now.into g.now.from))) }
-    ensures rising { IfOk result (λ v. IsNonDecreasing v.items) }
-    ensures few { IfOk result (λ v. length v.items ≤ 16384) }
-{
-    let before = modes(g.host).len() as u16;
-    let mut found = invs(g.host)
-        .iter()
-        .map(|x| x.mode)
-        .collect::<Vec<u16>>(alloc)?;
-    let back = invs(g.donor);
-    for k in 0..back.len() {
-        found.push(before + back[k].mode)?;
+impl HasOwner for Task {
+    ghost owner_of = { λ x. x.«module» };
+
+    fn owner(&self) -> u16 {
+        self.module
     }
-    Ok(found)
 }
 
-/// The mode of each switch.
-pub(crate) fn switch_owners(alloc: Global, g: &Graft<'_>) -> Result<Vec<u16>, AllocError>
-    ensures owners { IfOk result (λ v. v.items ≡ switch_owners_of (united (graft g.now.host.now g.now.donor.now g.now.into g.now.from))) }
-    ensures rising { IfOk result (λ v. IsNonDecreasing v.items) }
-    ensures few { IfOk result (λ v. length v.items ≤ 16384) }
-{
-    let before = modes(g.host).len() as u16;
-    let mut found = switches(g.host)
-        .iter()
-        .map(|x| x.mode)
-        .collect::<Vec<u16>>(alloc)?;
-    let back = switches(g.donor);
-    for k in 0..back.len() {
-        found.push(before + back[k].mode)?;
+impl HasOwner for Inv {
+    ghost owner_of = { λ x. x.mode };
+
+    fn owner(&self) -> u16 {
+        self.mode
     }
+}
+
+impl HasOwner for Switch {
+    ghost owner_of = { λ x. x.mode };
+
+    fn owner(&self) -> u16 {
+        self.mode
+    }
+}
+
+// Puts the owners of items behind others; so many owners stand before them.
+fn push_owners<T: HasOwner>(items: &[T], before: u16, into: &mut Vec<u16>) -> Result<(), AllocError>
+    requires before { before ≤ 512 }
+    requires low { All (λ x. T.owner_of x ≤ 512) items.now }
+    ensures { OnOk result (into.new.items ≡ into.old.items ++ map (λ x. before + T.owner_of x) items.now) }
+{
+    for item in items {
+        into.push(before + item.owner())?;
+    }
+    Ok(())
+}
+
+/// The owners of the host's items, and behind them those of the donor's; so many owners are the host's.
+pub(crate) fn owners_of<T: HasOwner>(
+    alloc: Global,
+    host: &[T],
+    donor: &[T],
+    before: u16,
+) -> Result<Vec<u16>, AllocError>
+    requires before { before ≤ 512 }
+    requires host { All (λ x. T.owner_of x ≤ 512) host.now }
+    requires donor { All (λ x. T.owner_of x ≤ 512) donor.now }
+    ensures { IfOk result (λ v. v.items ≡ map T.owner_of host.now ++ map (λ x. before + T.owner_of x) donor.now) }
+{
+    let mut found = Vec::new(alloc);
+    push_owners(host, 0, &mut found)?;
+    push_owners(donor, before, &mut found)?;
     Ok(found)
 }

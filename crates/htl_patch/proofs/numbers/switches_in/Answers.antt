@@ -1,15 +1,40 @@
-use Rattle.std.proofs.Common.{◌≡◌, ◌<◌, ℕ, List, get_or, ap, subst, sym, ◌∙◌, IfOk}
+use Rattle.std.proofs.Common.{◌≡◌, ◌<◌, ℕ, List, length, get_or, ap, subst, sym, ◌∙◌, IfOk, arith}
 use Rattle.std.specs.List.{flat_map}
+use Rattle.std.specs.List.Sorted.{IsNonDecreasing}
 use Rattle.htl_patch.specs.Owners.{owned_by}
 use Rattle.htl_patch.specs.United.{graft, united}
+use Rattle.htl_patch.proofs.BothOwners.{switches_low, switches_joined, switches_rise, switches_few}
 use Rattle.htl_patch.proofs.NumberLaws.{owned_switches}
 use Rattle.htl_patch.proofs.numbers.switches_in.Goals as goal
 
+pub owners_of-requires-clause-before : goal.owners_of-requires-clause-before
+owners_of-requires-clause-before c = let size = ap length c.modes.ensures.value in let few = c.modes.ensures.ranges.few_modes in omega (arith, size, few)
+
+pub owners_of-requires-clause-host : goal.owners_of-requires-clause-host
+owners_of-requires-clause-host c = switches_low c.args.g.now.host.now c.switches.ensures.ranges c.switches.result.now c.switches.ensures.value
+
+pub owners_of-requires-clause-donor : goal.owners_of-requires-clause-donor
+owners_of-requires-clause-donor c = switches_low c.args.g.now.donor.now c.switches-2.ensures.ranges c.switches-2.result.now c.switches-2.ensures.value
+
+pub owned-requires-clause-few : goal.owned-requires-clause-few
+owned-requires-clause-few c =
+    let g = graft c.args.g.now.host.now c.args.g.now.donor.now c.args.g.now.into c.args.g.now.from in
+    let owners = c.as_slice.ensures.value ∙ c.in_ok-owners.ensures ∙ switches_joined g (length c.modes.result.now) c.switches.result.now c.switches-2.result.now c.switches.ensures.value c.switches-2.ensures.value (ap length c.modes.ensures.value) in
+    let size = ap length owners in
+    let few = switches_few g c.switches.ensures.ranges c.switches-2.ensures.ranges in
+    omega (arith, size, few)
+
+pub owned-requires-clause-rising : goal.owned-requires-clause-rising
+owned-requires-clause-rising c =
+    let g = graft c.args.g.now.host.now c.args.g.now.donor.now c.args.g.now.into c.args.g.now.from in
+    let owners = c.as_slice.ensures.value ∙ c.in_ok-owners.ensures ∙ switches_joined g (length c.modes.result.now) c.switches.result.now c.switches-2.result.now c.switches.ensures.value c.switches-2.ensures.value (ap length c.modes.ensures.value) in
+    subst IsNonDecreasing (sym owners) (switches_rise g c.switches.ensures.ranges c.switches-2.ensures.ranges)
+
 pub owned-requires-clause-keys : goal.owned-requires-clause-keys
-owned-requires-clause-keys c = λ k d less. subst (λ (n : ℕ). get_or c.args.modes.now k d < n) (sym c.mode_count-count.ensures.count) (c.requires k d less)
+owned-requires-clause-keys c = λ k d less. subst (λ (n : ℕ). get_or c.args.keys.now k d < n) (sym c.mode_count-count.ensures.count) (c.requires k d less)
 
 pub returns : goal.returns
 returns c =
-    let u = united (graft c.args.g.now.host.now c.args.g.now.donor.now c.args.g.now.into c.args.g.now.from) in
-    let owners = c.as_slice.ensures.value ∙ c.in_ok-owners.ensures.owners in
-    subst (λ (xs : List ℕ). IfOk c.owned.result (λ v. v.items ≡ xs)) (ap (λ (os : List ℕ). flat_map (owned_by os) c.args.modes.now) owners ∙ owned_switches u c.args.modes.now) c.owned.ensures
+    let g = graft c.args.g.now.host.now c.args.g.now.donor.now c.args.g.now.into c.args.g.now.from in
+    let owners = c.as_slice.ensures.value ∙ c.in_ok-owners.ensures ∙ switches_joined g (length c.modes.result.now) c.switches.result.now c.switches-2.result.now c.switches.ensures.value c.switches-2.ensures.value (ap length c.modes.ensures.value) in
+    subst (λ (xs : List ℕ). IfOk c.owned.result (λ v. v.items ≡ xs)) (ap (λ (os : List ℕ). flat_map (owned_by os) c.args.keys.now) owners ∙ owned_switches (united g) c.args.keys.now) c.owned.ensures
