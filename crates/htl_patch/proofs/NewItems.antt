@@ -20,13 +20,13 @@ use Rattle.htl_patch.proofs.Members.{get_front, get_back, get_map, get_some}
 use Rattle.htl_patch.proofs.PlacedLaws.{has_item, units_size, modes_size, host_mode, guest_mode, host_task, guest_task, host_module, guest_module, refined_within, host_port, guest_port, host_switch, guest_switch, host_inv, guest_inv, host_has_places, guest_has_places}
 
 -- an item that lies in front
-here : {A : Type 0} (xs ys front : List A) (k : ℕ) (x d : A) → front ≡ xs → k < length front → x ≡ get_or front k x → (slice_get xs k ≡ Some x) × (get_or (xs ++ ys) k d ≡ x)
+pub here : {A : Type 0} (xs ys front : List A) (k : ℕ) (x d : A) → front ≡ xs → k < length front → x ≡ get_or front k x → (slice_get xs k ≡ Some x) × (get_or (xs ++ ys) k d ≡ x)
 here xs ys front k x d same less is =
     let at = subst (λ zs. slice_get zs k ≡ Some x) same (has_item front k x less is) in
     (at, get_some (xs ++ ys) k x d (get_front xs ys k x at))
 
 -- an item that lies behind
-there : {A B : Type 0} (f : B → A) (xs front : List A) (ys back : List B) (k : ℕ) (x : B) (d : A) → front ≡ xs → back ≡ ys → length front ≤ k → k < length (xs ++ map f ys)
+pub there : {A B : Type 0} (f : B → A) (xs front : List A) (ys back : List B) (k : ℕ) (x : B) (d : A) → front ≡ xs → back ≡ ys → length front ≤ k → k < length (xs ++ map f ys)
     → x ≡ get_or back (k - length front) x → (slice_get ys (k - length front) ≡ Some x) × (get_or (xs ++ map f ys) k d ≡ f x)
 there f xs front ys back k x d same other le less is =
     let size = ap length same in

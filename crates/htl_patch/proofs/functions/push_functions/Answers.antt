@@ -1,4 +1,4 @@
-use Rattle.std.proofs.Common.{◌<◌, ◌+◌, length, map, ap, sym, ◌∙◌, refl, arith}
+use Rattle.std.proofs.Common.{◌≡◌, ◌<◌, ◌+◌, ◌++◌, ℕ, length, map, take, drop, ap, sym, ◌∙◌, refl, arith}
 use Rattle.std.proofs.lemmas.Bool.Decides.{nat_tests}
 use Rattle.htl_model.specs.Tables.{Tables, fun_of}
 use Rattle.htl_patch.proofs.FunctionLists.{function_is_code, function_pushed}
@@ -16,3 +16,8 @@ loop-k-preserved c =
     let less : c.args.first + c.loop-k.k < length c.args.t.now.functions = grind (arith, nat_tests, c.loop-k-test.true, c.requires.within) in
     function_pushed c.args.t.now.functions (map fun_of c.args.into.now.items) c.as_slice-functions.result.now c.loop-k.into.items c.push.new.self.items c.args.first c.loop-k.k (c.args.first + c.loop-k.k)
     c.index-functions-id.result c.in_ok-f.f same less refl c.index-functions-id.is c.in_ok-f.ensures c.in_ok-push.ensures.items c.loop-k.invariant
+
+pub returns : goal.returns
+returns c =
+    let all : c.loop-k.k ≡ c.args.count = omega (arith, c.loop-k-test.false, c.loop-k.auto.k-end) in
+    c.loop-k.invariant ∙ ap (λ (n : ℕ). map fun_of c.args.into.now.items ++ take n (drop c.args.first c.args.t.now.functions)) all

@@ -1,5 +1,6 @@
-use Rattle.std.proofs.Common.{length, ap, arith}
+use Rattle.std.proofs.Common.{◌≡◌, length, ap, subst, IfOk, arith}
 use Rattle.std.proofs.lemmas.Bool.Decides.{nat_tests}
+use Rattle.htl_model.specs.declared.parts.Task.{Task}
 use Rattle.htl_patch.specs.Patched.{new_numbers}
 use Rattle.htl_patch.specs.United.{graft}
 use Rattle.htl_patch.proofs.NewItems.{task_here, task_there}
@@ -14,3 +15,15 @@ pub copied_task-requires-2 : goal.copied_task-requires-2
 copied_task-requires-2 c =
     let g = graft c.args.g.now.host.now c.args.g.now.donor.now c.args.g.now.into c.args.g.now.from in
     (task_there g c.keeps_ranges.ensures.ranges c.keeps_ranges-2.ensures.ranges (new_numbers g) c.args.p.now c.requires.places c.tasks-front.result.now c.tasks-back.result.now c.args.k (length c.modules-before.result.now) c.index-back-k.result c.as_slice-2.result.now c.tasks-front.ensures.value c.tasks-back.ensures.value (grind (arith, nat_tests, c.if-k-front.false)) c.requires.within c.index-back-k.is c.as_slice-2.ensures.value (ap length c.modules-before.ensures.value)).0
+
+pub returns-then-k-front : goal.returns-then-k-front
+returns-then-k-front c =
+    let g = graft c.args.g.now.host.now c.args.g.now.donor.now c.args.g.now.into c.args.g.now.from in
+    let is = (task_here g c.keeps_ranges.ensures.ranges c.keeps_ranges-2.ensures.ranges (new_numbers g) c.args.p.now c.requires.places c.tasks-front.result.now c.args.k c.index-front-k.result c.as_slice.result.now c.tasks-front.ensures.value (grind (arith, nat_tests, c.if-k-front.true)) c.index-front-k.is c.as_slice.ensures.value).1 in
+    subst (λ (x : Task). IfOk c.copied_task.result (λ y. y ≡ x)) is c.copied_task.ensures
+
+pub returns : goal.returns
+returns c =
+    let g = graft c.args.g.now.host.now c.args.g.now.donor.now c.args.g.now.into c.args.g.now.from in
+    let is = (task_there g c.keeps_ranges.ensures.ranges c.keeps_ranges-2.ensures.ranges (new_numbers g) c.args.p.now c.requires.places c.tasks-front.result.now c.tasks-back.result.now c.args.k (length c.modules-before.result.now) c.index-back-k.result c.as_slice-2.result.now c.tasks-front.ensures.value c.tasks-back.ensures.value (grind (arith, nat_tests, c.if-k-front.false)) c.requires.within c.index-back-k.is c.as_slice-2.ensures.value (ap length c.modules-before.ensures.value)).1 in
+    subst (λ (x : Task). IfOk c.copied_task-2.result (λ y. y ≡ x)) is c.copied_task-2.ensures

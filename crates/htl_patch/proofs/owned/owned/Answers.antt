@@ -1,0 +1,8 @@
+use Rattle.std.proofs.Common.{[]}
+use Rattle.htl_patch.specs.Owners.{owned_by}
+use Rattle.htl_patch.proofs.FunctionLists.{flat_more}
+use Rattle.htl_patch.proofs.owned.owned.Goals as goal
+
+pub loop-k-preserved : goal.loop-k-preserved
+loop-k-preserved c =
+    flat_more (owned_by c.args.owners.now) c.args.keys.now c.loop-k.k c.loop-k.found.items c.push_owned.new.into.items [] c.loop-k-test.true c.in_ok-push_owned.ensures c.loop-k.invariant
