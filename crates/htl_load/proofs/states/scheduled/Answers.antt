@@ -8,3 +8,6 @@ invariant_of-result c = accepted_with c.s.inside.object c.s.invariant c.in-Ok.en
 
 pub returns-in-Ok-clause-loaded : goal.returns-in-Ok-clause-loaded
 returns-in-Ok-clause-loaded c = (c.s.view_is, subst IsAccepted c.s.view_is (accepted_with c.s.inside.object c.s.invariant c.in-Ok.ensures.accepted))
+
+pub returns-in-Ok-clause-fault : goal.returns-in-Ok-clause-fault
+returns-in-Ok-clause-fault c = tt
