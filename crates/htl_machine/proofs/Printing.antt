@@ -25,6 +25,7 @@ use Rattle.htl_machine.specs.Texts.{inv_at, slice_lines, record_text, some_recor
 use Rattle.htl_machine.specs.RecordLines.{place_lines, job_lines, record_lines}
 use Rattle.htl_walk.proofs.Finishes.{some_same}
 use Rattle.htl_refine.proofs.RecordOrder.{not_some}
+use Rattle.htl_machine.proofs.Putting.{Puts-first}
 use Rattle.htl_machine.proofs.Desking.{next_some, next_none, told_get}
 
 -- ---- the lines of one record
@@ -37,6 +38,15 @@ job_told t show jobs l i b old mid new before between now result is shows inv wa
     subst (λ z. Puts old new before now z result)
     (ap lines inv ∙ sym (ap (λ z. cond z (lines (inv_at jobs l.position)) []) (sym is ∙ shows)))
     (Puts-second old mid new before between now (slice_lines t i l.slice) (cond l.finished (done_line t l.at i) []) result was kept puts)
+
+-- the slice of a job fails
+pub job_failed : {T S E F : Type 0} (t : Tables) (show : Shown) (jobs : List Job) (l : Left) (i : ℕ) (b : Bool) (old new : Option (List ℕ)) (before now : ℕ) (e : E) (f : F)
+    → b ≡ shows_jobs show → b ≡ true → i ≡ inv_at jobs l.position → Puts {T = S} old new before now (slice_lines t i l.slice) (Err e) → Puts {T = T} old new before now (job_lines t show jobs l) (Err f)
+job_failed {T = T} {F = F} t show jobs l i b old new before now e f is shows inv puts =
+    let lines : ℕ → List ℕ = λ i. slice_lines t i l.slice ++ cond l.finished (done_line t l.at i) [] in
+    subst (λ z. Puts {T = T} {E = F} old new before now z (Err f))
+    (ap lines inv ∙ sym (ap (λ z. cond z (lines (inv_at jobs l.position)) []) (sym is ∙ shows)))
+    (Puts-first old new before now (slice_lines t i l.slice) (cond l.finished (done_line t l.at i) []) e f puts)
 
 -- nothing is to be written
 pub nothing_put : {T E : Type 0} (old : Option (List ℕ)) (before : ℕ) (text : List ℕ) (u : T) → text ≡ [] → Puts {T = T} {E = E} old old before before text (Ok u)

@@ -9,7 +9,7 @@ use Rattle.htl_emach.specs.Contents.{Content}
 use Rattle.htl_emach.specs.Shapes.{SensorsStay}
 use Rattle.htl_machine.specs.Marks.{is_marked}
 use Rattle.htl_machine.specs.Noting.{MarksChanges, KeepsNoted}
-use Rattle.htl_machine.specs.Sensors.{shown_then, AreSet}
+use Rattle.htl_machine.specs.Sensors.{shown_then, AreSet, ShowsNothing}
 use Rattle.htl_machine.specs.Waiting.{MarksWaiting, takes_now}
 use Rattle.htl_machine.specs.declared.marks.Marks.{Marks}
 use Rattle.htl_machine.specs.declared.noted.Noted.{Noted}
@@ -239,3 +239,24 @@ module _ (t : Tables) (old : List ℤ) (now : ℕ) (s0 : Sensors) (w0 : Content)
           marked = one.marked;
           kept = one.kept;
         }
+
+-- ---- the first instant at which they show another value than they have
+
+pub nothing_start : (t : Tables) (s : Sensors) (values : List ℤ) (from to n : ℕ) → MarksWaiting t s values → ((c : ℕ) → 0 ≤ c → c < n → is_marked s.waiting c ≡ false) → ShowsNothing t s.shows values n from to
+nothing_start t s values from to n waits skipped = λ at low high c x less get sensor divides. waits c x get sensor (skipped c (omega arith) less)
+
+pub nothing_step : (t : Tables) (s : Sensors) (values shows : List ℤ) (from least next new n m : ℕ) (x : Comm) → MarksWaiting t s values → ShowsNothing t s.shows values n from least → shows ≡ s.shows → slice_get t.comms n ≡ Some x
+    → ((at : ℕ) → from ≤ at → at < next → x.sensor ≡ true → eqb (at % x.period) 0 ≡ true → get_or shows n (pos 0) ≡ get_or values n (pos 0))
+    → new ≤ least → new ≤ next → ((c : ℕ) → n + 1 ≤ c → c < m → is_marked s.waiting c ≡ false) → ShowsNothing t s.shows values m from new
+nothing_step t s values shows from least next new n m x waits before same is here least_is next_is skipped = λ at low high c y less get sensor divides.
+    elim (cases_lt c n) [
+      | inl below ↦ before at low (omega (arith, high, least_is)) c y below get sensor divides
+      | inr up ↦ elim (cases_lt n c) [
+        | inl behind ↦ waits c y get sensor (skipped c (omega (arith, behind)) less)
+        | inr down ↦
+            let c_is : c ≡ n = omega (arith, up, down) in
+            let y_is : y ≡ x = some_same _ _ (sym get ∙ ap (slice_get t.comms) c_is ∙ is) in
+            subst (λ k. get_or s.shows k (pos 0) ≡ get_or values k (pos 0)) (sym c_is)
+            (sym (ap (λ xs. get_or xs n (pos 0)) same) ∙ here at low (omega (arith, high, next_is)) (sym (ap (λ (z : Comm). z.sensor) y_is) ∙ sensor) (sym (ap (λ (z : Comm). eqb (at % z.period) 0) y_is) ∙ divides))
+      ]
+    ]
