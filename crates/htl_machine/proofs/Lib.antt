@@ -113,3 +113,4 @@ pub mod Marking
 pub mod Settling
 pub mod Waits
 pub mod ShownOn
+pub mod Spent

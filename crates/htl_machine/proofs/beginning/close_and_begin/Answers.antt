@@ -1,11 +1,13 @@
 use Rattle.std.proofs.Common.{ℕ, List, sym, ap, ◌∙◌, subst, length, ◌≤◌, suc, arith}
 use Rattle.htl_model.specs.Selected.{IsSelection}
 use Rattle.htl_walk.specs.declared.schedule.SInstr.{SInstr}
-use Rattle.htl_smach.specs.Rounds.{IsInForm, Stands}
+use Rattle.htl_smach.specs.Rounds.{Round, IsInForm, Stands}
 use Rattle.htl_emach.specs.Following.{phase_path}
 use Rattle.htl_refine.proofs.StateLaws.{states_are_selections}
 use Rattle.htl_machine.specs.Beginning.{CanFollow}
 use Rattle.htl_machine.specs.Counts.{with_instrs, with_records}
+use Rattle.htl_machine.specs.Noting.{MarksChanges}
+use Rattle.htl_machine.specs.Numbering.{IsPath}
 use Rattle.htl_machine.specs.Opening.{first_records}
 use Rattle.htl_machine.specs.Recording.{AreOf}
 use Rattle.htl_machine.specs.RunLists.{turn_at}
@@ -183,3 +185,54 @@ returns-clause-sensors g c =
     sensors_then c.args.program.now.tables.now c.args.machines.now.works.world.values c.read_instant.new.machines.works.world.values c.tell_records.new.works.world.values
     (sensors_then c.args.program.now.tables.now c.args.machines.now.works.world.values c.do_instrs.new.machines.works.world.values c.read_instant.new.machines.works.world.values c.in_default.ensures.sensors c.in_default-read_instant.ensures.sensors)
     (sensors_same c.args.program.now.tables.now c.read_instant.new.machines.works.world.values c.tell_records.new.works.world.values c.in_default-tell_records.ensures.values)
+
+pub returns-clause-marked : goal.returns-clause-marked
+returns-clause-marked g c =
+    subst (λ vs. MarksChanges c.read_instant.new.machines.noted vs c.read_instant.new.machines.emach.calendar.modes) (sym c.in_default-tell_records.ensures.values) c.in_default-read_instant.ensures.marked
+
+pub returns-clause-safe : goal.returns-clause-safe
+returns-clause-safe g c = c.in_default-read_instant.ensures.safe
+
+pub returns-clause-shaped : goal.returns-clause-shaped
+returns-clause-shaped g c = c.in_default-tell_records.ensures.shaped
+
+pub returns-clause-path : goal.returns-clause-path
+returns-clause-path g c =
+    subst (IsPath c.args.program.now.tables.now c.begin.new.self) (sym (c.in_default-tell_records.ensures.jobs ∙ c.in_default-read_instant.ensures.jobs)) c.begin.ensures.path
+
+pub returns-clause-few : goal.returns-clause-few
+returns-clause-few g c = c.begin.ensures.path.few
+
+pub returns-clause-idle : goal.returns-clause-idle
+returns-clause-idle g c = c.begin.ensures.idle
+
+pub returns-in-Err-read_instant-clause-few : goal.returns-in-Err-read_instant-clause-few
+returns-in-Err-read_instant-clause-few g c = c.begin.ensures.path.few
+
+pub returns-in-Err-read_instant-clause-idle : goal.returns-in-Err-read_instant-clause-idle
+returns-in-Err-read_instant-clause-idle g c = c.begin.ensures.idle
+
+pub returns-in-Err-tell_records-clause-few : goal.returns-in-Err-tell_records-clause-few
+returns-in-Err-tell_records-clause-few g c = c.begin.ensures.path.few
+
+pub returns-in-Err-tell_records-clause-idle : goal.returns-in-Err-tell_records-clause-idle
+returns-in-Err-tell_records-clause-idle g c = c.begin.ensures.idle
+
+pub begin-requires-clause-path : goal.begin-requires-clause-path
+begin-requires-clause-path g c = subst (IsPath c.args.program.now.tables.now c.args.path.now) (sym c.in_default.ensures.jobs) c.requires.path
+
+pub begin-requires-clause-over : goal.begin-requires-clause-over
+begin-requires-clause-over g c =
+    let es = c.requires.begins.0 in
+    let q = c.requires.begins.1 in
+    let s = switches_start c.args.program.now.tables.now c.args.program.now.code.now es c.args.at c.args.machines.now.emach c.args.machines.now.works.world q.closes.now q.closes.writes in
+    ap (λ (r : Round). r.running) (c.in_default.ensures.desk es s) ∙ c.requires.over
+
+pub read_instant-requires-clause-jobs : goal.read_instant-requires-clause-jobs
+read_instant-requires-clause-jobs g c = sym (c.jobs-2.ensures ∙ c.begin.ensures.path.are)
+
+pub tell_records-requires-clause-jobs : goal.tell_records-requires-clause-jobs
+tell_records-requires-clause-jobs g c = c.in_default-read_instant.ensures.jobs ∙ sym (c.jobs-3.ensures ∙ c.begin.ensures.path.are)
+
+pub tell_records-requires-clause-shaped : goal.tell_records-requires-clause-shaped
+tell_records-requires-clause-shaped g c = c.in_default-read_instant.ensures.shaped

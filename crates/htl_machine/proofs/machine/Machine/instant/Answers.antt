@@ -22,6 +22,7 @@ use Rattle.htl_machine.proofs.InstantGiven.{given, given_closes, given_begins}
 use Rattle.htl_machine.proofs.Readying.{replay_only}
 use Rattle.htl_machine.proofs.Ready.{list_known}
 use Rattle.htl_machine.proofs.ShownOn.{next_shown_up_to, noted_marks}
+use Rattle.htl_machine.proofs.Spent.{spent_fits}
 use Rattle.htl_machine.proofs.Viewing.{seen_in}
 use Rattle.htl_machine.proofs.Waits.{waiting_at, waiting_stays}
 use Rattle.htl_machine.proofs.machine.Machine.instant.Goals as goal
@@ -389,3 +390,33 @@ returns-in_default-close_instant-clause-before g c = λ es before.
     (records_go_on m es c.args.at k.accepted k.later k.up _ c.self.inside.path.idle.instrs refl c.self.invariant.empty k.ready b)
     refl
     (more ∙ ap tail (counts k.ready.plan k.ready.start k.ready.place k.ready.offset k.ready.same k.ready.past k.ready.few k.ready.was))
+
+pub invariant_of-self : goal.invariant_of-self
+invariant_of-self g c =
+    let kept = c.self.invariant in
+    spent_fits _ c.open_instant.new.sensors _ c.self.inside.path _ refl kept.accepted (ap length c.in-Err.ensures.shows ∙ kept.all_shows) kept.all_takes kept.few kept.empty
+
+pub invariant_of-self-in-Err-close_and_begin : goal.invariant_of-self-in-Err-close_and_begin
+invariant_of-self-in-Err-close_and_begin g c =
+    let kept = c.self.invariant in
+    spent_fits _ c.open_instant.new.sensors _ c.close_and_begin.new.path _ refl kept.accepted (ap length c.in_default.ensures.shows ∙ kept.all_shows) kept.all_takes c.in-Err-close_and_begin.ensures.few (ap (λ (x : Schedule). x.instrs) c.in-Err-close_and_begin.ensures.idle ∙ kept.empty)
+
+pub invariant_of-self-in-Err-close_instant : goal.invariant_of-self-in-Err-close_instant
+invariant_of-self-in-Err-close_instant g c =
+    let kept = c.self.invariant in
+    spent_fits _ c.open_instant.new.sensors _ c.self.inside.path _ refl kept.accepted (ap length c.in_default.ensures.shows ∙ kept.all_shows) kept.all_takes kept.few kept.empty
+
+pub returns-in-Err-clause-same : goal.returns-in-Err-clause-same
+returns-in-Err-clause-same g c = record { object = ap (λ (z : Seen). z.object) c.self.view_is; show = ap (λ (z : Seen). z.show) c.self.view_is }
+
+pub returns-in-Err-close_and_begin-clause-same : goal.returns-in-Err-close_and_begin-clause-same
+returns-in-Err-close_and_begin-clause-same g c = record { object = ap (λ (z : Seen). z.object) c.self.view_is; show = ap (λ (z : Seen). z.show) c.self.view_is }
+
+pub returns-in-Err-close_instant-clause-same : goal.returns-in-Err-close_instant-clause-same
+returns-in-Err-close_instant-clause-same g c = record { object = ap (λ (z : Seen). z.object) c.self.view_is; show = ap (λ (z : Seen). z.show) c.self.view_is }
+
+pub returns-in_default-close_and_begin-clause-same : goal.returns-in_default-close_and_begin-clause-same
+returns-in_default-close_and_begin-clause-same g c = record { object = ap (λ (z : Seen). z.object) c.self.view_is; show = ap (λ (z : Seen). z.show) c.self.view_is }
+
+pub returns-in_default-close_instant-clause-same : goal.returns-in_default-close_instant-clause-same
+returns-in_default-close_instant-clause-same g c = record { object = ap (λ (z : Seen). z.object) c.self.view_is; show = ap (λ (z : Seen). z.show) c.self.view_is }

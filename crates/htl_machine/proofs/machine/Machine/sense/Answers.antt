@@ -2,6 +2,7 @@ use Rattle.std.proofs.Common.{◌≡◌, ◌<◌, ◌∙◌, ℕ, cond, eqb, get
 use Rattle.std.proofs.lemmas.Option.{slice_get_within}
 use Rattle.htl_model.specs.Functions.{same}
 use Rattle.htl_machine.specs.Calls.{Seen, Follows, IsSensorValue}
+use Rattle.htl_machine.specs.Follows.{shown_as}
 use Rattle.htl_machine.specs.Marks.{is_marked}
 use Rattle.htl_machine.proofs.Calling.{sense_follows}
 use Rattle.htl_machine.proofs.Quiet.{nothing_due}
@@ -36,3 +37,24 @@ invariant_of-self c =
       empty = kept.empty;
       quiet = λ free. nothing_due _ _;
     }
+
+pub value-has-requires : goal.value-has-requires
+value-has-requires c =
+    let s = subst (λ (z : Seen). IsSensorValue z.object.tables c.args.comm c.args.x) (sym c.self.view_is) c.requires.sensor in
+    let f = subst (λ (z : Seen). Follows z c.requires.follows.0) (sym c.self.view_is) c.requires.follows.1 in
+    omega (arith, slice_get_within c.self.inside.loaded.now.tables.comms c.args.comm s.comm s.known, f.before.values.shaped.values.count)
+
+pub sense-requires-clause-few : goal.sense-requires-clause-few
+sense-requires-clause-few c =
+    let s = subst (λ (z : Seen). IsSensorValue z.object.tables c.args.comm c.args.x) (sym c.self.view_is) c.requires.sensor in
+    omega (arith, slice_get_within c.self.inside.loaded.now.tables.comms c.args.comm s.comm s.known, c.self.invariant.accepted.spelled.formed.ranges.tables.few_comms)
+
+pub sense-requires-clause-known : goal.sense-requires-clause-known
+sense-requires-clause-known c =
+    let s = subst (λ (z : Seen). IsSensorValue z.object.tables c.args.comm c.args.x) (sym c.self.view_is) c.requires.sensor in
+    omega (arith, slice_get_within c.self.inside.loaded.now.tables.comms c.args.comm s.comm s.known, c.self.invariant.all_shows)
+
+pub returns-clause-seen : goal.returns-clause-seen
+returns-clause-seen c =
+    let e : c.sense.new.self.shows ≡ set c.self.inside.sensors.shows c.args.comm c.args.x = search rules in
+    rw e (ap (λ (z : Seen). record z { held = shown_as c.args.comm c.args.x z.held }) c.self.view_is)

@@ -1,4 +1,4 @@
-use Rattle.std.proofs.Common.{◌<◌, ◌%◌, ℕ, List, Option, Some, ne_eqb, length, sym, ap, ◌∙◌, subst, arith}
+use Rattle.std.proofs.Common.{◌<◌, ◌≤◌, ◌%◌, ℕ, List, Option, Some, ne_eqb, length, sym, ap, ◌∙◌, subst, arith}
 use Rattle.htl_model.specs.Selected.{IsSelection}
 use Rattle.htl_smach.specs.Rounds.{Round}
 use Rattle.htl_refine.specs.BegunJobs.{choice_of, new_jobs}
@@ -6,7 +6,7 @@ use Rattle.htl_refine.specs.declared.selection.Selection.{Selection}
 use Rattle.htl_refine.proofs.BegunLimits.{choice_few, start_early}
 use Rattle.htl_machine.specs.Numbering.{IsNumbering, first_list}
 use Rattle.htl_machine.specs.StandingList.{next_at}
-use Rattle.htl_machine.proofs.Followed.{later_can, later_begun, later_all}
+use Rattle.htl_machine.proofs.Followed.{later_can, later_begun, later_all, first_can, first_begun, first_all, room_there}
 use Rattle.htl_machine.proofs.path.Path.begin.Goals as goal
 
 pub turn-requires-clause-choice : goal.turn-requires-clause-choice
@@ -61,3 +61,55 @@ pub returns-else-offset-eq0-clause-desk : goal.returns-else-offset-eq0-clause-de
 returns-else-offset-eq0-clause-desk c =
     later_begun c.args.t.now c.args.m.now.calendar.modes c.note_modes.new.modes.modes c.args.takes.now c.args.at c.args.self.now.numbering.frame c.args.self.now.count c.kept_positions-from.result c.turn.new.self.count c.args.self.now.jobs c.turn.new.self.jobs c.args.desk.now
     c.note_modes.ensures c.requires.path.numbering.frame (ne_eqb _ 0 c.if-offset-eq0.false) c.requires.path.many c.requires.path.are c.kept_positions-from.ensures c.turn.ensures.count c.turn.ensures.jobs c.add_jobs.new.desk c.add_jobs.ensures
+
+pub turn-requires-clause-there : goal.turn-requires-clause-there
+turn-requires-clause-there c = c.requires.follows.there
+
+pub turn-requires-clause-few : goal.turn-requires-clause-few
+turn-requires-clause-few c =
+    subst (λ (ms : List (Option ℕ)). (next_at c.args.t.now ms c.args.at c.args.self.now.list).node ≤ 4294967295) (sym c.note_modes.ensures) c.requires.follows.node
+
+pub turn-requires-clause-room : goal.turn-requires-clause-room
+turn-requires-clause-room c =
+    room_there c.args.t.now c.args.m.now.calendar.modes c.note_modes.new.modes.modes c.args.takes.now c.args.at c.args.self.now.numbering.frame c.args.self.now.count c.kept_positions-from.result c.args.desk.now
+    c.note_modes.ensures c.requires.path.numbering.frame c.requires.path.many c.kept_positions-from.ensures c.requires.follows.few
+
+pub start_jobs-requires-clause-lengths : goal.start_jobs-requires-clause-lengths
+start_jobs-requires-clause-lengths c =
+    (first_can c.args.t.now c.args.m.now.calendar.modes c.note_modes.new.modes.modes c.args.takes.now c.args.at c.args.self.now.numbering.frame c.args.self.now.count c.kept_positions-from.result c.turn.new.self.count c.args.self.now.jobs c.turn.new.self.jobs c.args.desk.now
+    c.note_modes.ensures c.requires.path.numbering.frame c.if-offset-eq0.true c.kept_positions-from.ensures c.turn.ensures.count c.turn.ensures.jobs c.requires.follows.can).0
+
+pub start_jobs-requires-clause-worst : goal.start_jobs-requires-clause-worst
+start_jobs-requires-clause-worst c =
+    (first_can c.args.t.now c.args.m.now.calendar.modes c.note_modes.new.modes.modes c.args.takes.now c.args.at c.args.self.now.numbering.frame c.args.self.now.count c.kept_positions-from.result c.turn.new.self.count c.args.self.now.jobs c.turn.new.self.jobs c.args.desk.now
+    c.note_modes.ensures c.requires.path.numbering.frame c.if-offset-eq0.true c.kept_positions-from.ensures c.turn.ensures.count c.turn.ensures.jobs c.requires.follows.can).1
+
+pub returns-then-offset-eq0-clause-path : goal.returns-then-offset-eq0-clause-path
+returns-then-offset-eq0-clause-path c =
+    let all =
+    first_all c.args.t.now c.args.m.now.calendar.modes c.note_modes.new.modes.modes c.args.takes.now c.args.at c.args.self.now.numbering.frame c.args.self.now.count c.kept_positions-from.result c.turn.new.self.count c.args.self.now.jobs c.turn.new.self.jobs c.args.desk.now
+    c.note_modes.ensures c.requires.path.numbering.frame c.if-offset-eq0.true c.kept_positions-from.ensures c.turn.ensures.count c.turn.ensures.jobs c.start_jobs.new.desk c.start_jobs.ensures in
+    let begun =
+    first_begun c.args.t.now c.args.m.now.calendar.modes c.note_modes.new.modes.modes c.args.takes.now c.args.at c.args.self.now.numbering.frame c.args.self.now.count c.kept_positions-from.result c.turn.new.self.count c.args.self.now.jobs c.turn.new.self.jobs c.args.desk.now
+    c.note_modes.ensures c.requires.path.numbering.frame c.if-offset-eq0.true c.kept_positions-from.ensures c.turn.ensures.count c.turn.ensures.jobs c.start_jobs.new.desk c.start_jobs.ensures in
+    record {
+      numbering = subst (IsNumbering c.args.t.now) (sym c.turn.ensures.numbering) c.requires.path.numbering;
+      modes = ap (λ (s : Selection). length s.modes) c.turn.ensures.modes ∙ ap length c.note_modes.ensures ∙ c.requires.selection.same;
+      few = omega (arith, all.1, ap (λ (d : Round). length d.jobs) begun, c.requires.follows.few);
+      many = all.1;
+      are = all.0;
+      first = c.turn.ensures.first;
+    }
+
+pub returns-then-offset-eq0-clause-desk : goal.returns-then-offset-eq0-clause-desk
+returns-then-offset-eq0-clause-desk c =
+    first_begun c.args.t.now c.args.m.now.calendar.modes c.note_modes.new.modes.modes c.args.takes.now c.args.at c.args.self.now.numbering.frame c.args.self.now.count c.kept_positions-from.result c.turn.new.self.count c.args.self.now.jobs c.turn.new.self.jobs c.args.desk.now
+    c.note_modes.ensures c.requires.path.numbering.frame c.if-offset-eq0.true c.kept_positions-from.ensures c.turn.ensures.count c.turn.ensures.jobs c.start_jobs.new.desk c.start_jobs.ensures
+
+pub returns-then-offset-eq0-clause-list : goal.returns-then-offset-eq0-clause-list
+returns-then-offset-eq0-clause-list c =
+    c.turn.ensures.list ∙ ap (λ (ms : List (Option ℕ)). Some (next_at c.args.t.now ms c.args.at c.args.self.now.list)) c.note_modes.ensures
+
+pub returns-else-offset-eq0-clause-list : goal.returns-else-offset-eq0-clause-list
+returns-else-offset-eq0-clause-list c =
+    c.turn.ensures.list ∙ ap (λ (ms : List (Option ℕ)). Some (next_at c.args.t.now ms c.args.at c.args.self.now.list)) c.note_modes.ensures
