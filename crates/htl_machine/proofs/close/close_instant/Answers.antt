@@ -62,3 +62,18 @@ read_instant-requires-clause-modules g c = ap length c.in_default.ensures.noted.
 pub returns-clause-sensors : goal.returns-clause-sensors
 returns-clause-sensors g c =
     on_ok_weaker c.read_instant.result (λ z. sensors_then c.args.program.now.tables.now c.args.machines.now.works.world.values c.do_instrs.new.machines.works.world.values c.read_instant.new.machines.works.world.values c.in_default.ensures.sensors z) c.read_instant.ensures.sensors
+
+pub read_instant-requires-clause-jobs : goal.read_instant-requires-clause-jobs
+read_instant-requires-clause-jobs g c = c.in_default.ensures.jobs ∙ c.requires.jobs
+
+pub returns-clause-marked : goal.returns-clause-marked
+returns-clause-marked g c = c.read_instant.ensures.marked
+
+pub returns-clause-safe : goal.returns-clause-safe
+returns-clause-safe g c = c.read_instant.ensures.safe
+
+pub returns-clause-shaped : goal.returns-clause-shaped
+returns-clause-shaped g c = c.read_instant.ensures.shaped
+
+pub returns-clause-stands : goal.returns-clause-stands
+returns-clause-stands g c = on_ok_weaker c.read_instant.result (λ z s h. z s (c.in_default.ensures.stands s h)) c.read_instant.ensures.stands

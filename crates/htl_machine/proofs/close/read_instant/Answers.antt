@@ -58,3 +58,15 @@ returns-clause-marked g c = on_ok_weaker c.put_changes.result (λ _. c.in_defaul
 
 pub returns-clause-sensors : goal.returns-clause-sensors
 returns-clause-sensors g c = on_ok_weaker c.put_changes.result (λ _. c.in_default.ensures.sensors) c.put_changes.ensures.whole
+
+pub returns-clause-safe : goal.returns-clause-safe
+returns-clause-safe g c = on_ok_weaker c.put_changes.result (λ _. c.in_default.ensures.safe) c.put_changes.ensures.whole
+
+pub returns-clause-shaped : goal.returns-clause-shaped
+returns-clause-shaped g c = on_ok_weaker c.put_changes.result (λ _. c.in_default.ensures.shaped) c.put_changes.ensures.whole
+
+pub returns-clause-jobs : goal.returns-clause-jobs
+returns-clause-jobs g c = on_ok_weaker c.put_changes.result (λ _. c.in_default.ensures.jobs) c.put_changes.ensures.whole
+
+pub returns-clause-stands : goal.returns-clause-stands
+returns-clause-stands g c = on_ok_weaker c.put_changes.result (λ _. c.in_default.ensures.stands) c.put_changes.ensures.whole

@@ -106,3 +106,21 @@ returns-clause-idle g c = λ es q over.
 pub returns-clause-writes : goal.returns-clause-writes
 returns-clause-writes g c = λ es q.
     c.in_default-do_instrs.ensures.ends es (writes_start c.args.program.now.tables.now c.args.program.now.code.now es c.args.at c.args.machines.now.emach c.tell_records.new.works.world q)
+
+pub do_instrs-requires-clause-jobs : goal.do_instrs-requires-clause-jobs
+do_instrs-requires-clause-jobs g c = c.in_default.ensures.jobs ∙ c.requires.jobs
+
+pub returns-clause-safe : goal.returns-clause-safe
+returns-clause-safe g c = c.in_default-do_instrs.ensures.safe
+
+pub returns-clause-jobs : goal.returns-clause-jobs
+returns-clause-jobs g c = c.in_default-do_instrs.ensures.jobs ∙ c.in_default.ensures.jobs
+
+pub returns-clause-stands : goal.returns-clause-stands
+returns-clause-stands g c = c.in_default-do_instrs.ensures.stands c.args.list.now.schedule.now.instrs c.in_default.ensures.stands
+
+pub returns-clause-shows : goal.returns-clause-shows
+returns-clause-shows g c = c.show.ensures.shows
+
+pub returns-clause-waiting : goal.returns-clause-waiting
+returns-clause-waiting g c = c.show.ensures.waiting
