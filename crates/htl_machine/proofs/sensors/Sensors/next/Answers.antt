@@ -1,4 +1,4 @@
-use Rattle.std.proofs.Common.{◌≤◌, ◌<◌, ap, arith, length, slice_get, sym, refl, ◌∙◌}
+use Rattle.std.proofs.Common.{ap, arith, length, slice_get, sym, refl, ◌∙◌}
 use Rattle.std.proofs.lemmas.Option.{slice_get_read}
 use Rattle.htl_machine.proofs.Waits.{nothing_start, nothing_step}
 use Rattle.htl_machine.proofs.sensors.Sensors.next.Goals as goal
