@@ -6,11 +6,11 @@ use Rattle.htl_text.specs.Placed.{Placed}
 use Rattle.htl_text.specs.Statements.{SpellsComm, SpellsTask, SpellsPort, SpellsInvoke, SpellsSwitch, SpellsMode, SpellsModule, SpellsProgram}
 use Rattle.htl_parse.specs.Reading.{Read, Reader, ◌>>=◌}
 use Rattle.htl_parse.specs.ReadingLists.{again_at, repeated_at}
-use Rattle.htl_parse.specs.Repeats.{CanRepeat}
-use Rattle.htl_text.specs.Nodes.{task_of, switch_of, mode_of, module_of}
+use Rattle.htl_parse.specs.Repeats.{CanList, CanRepeat}
+use Rattle.htl_text.specs.Nodes.{out_of, task_of, switch_of, mode_of, module_of}
 use Rattle.htl_parse.proofs.Sound.{Holds}
-use Rattle.htl_parse.specs.ReadingStatements.{begins_comm, comm_at, begins_task, task_at, begins_port, port_at, begins_invoke, invoke_at, begins_switch, switch_at, begins_mode, mode_at, begins_module, module_at, program_at}
-use Rattle.htl_parse.proofs.Items.{Less, with_front, front-append, less-of}
+use Rattle.htl_parse.specs.ReadingStatements.{param_at, out_at, end_at, begins_comm, comm_at, begins_task, task_at, begins_port, port_at, begins_invoke, invoke_at, begins_switch, switch_at, begins_mode, mode_at, begins_module, module_at, program_at}
+use Rattle.htl_parse.proofs.Items.{Less, with_front, front-append, less-of, param-less, out-less, end-less}
 use Rattle.htl_parse.proofs.Parts.{comm-sound, comm-part, task-sound, task-part, port-sound, port-part, invoke-sound, invoke-part, switch-sound, switch-part}
 use Rattle.htl_parse.proofs.Repeating.{repeated-is}
 use Rattle.htl_parse.proofs.Sources.{mode-sound, mode-part, module-sound, module-part, program-sound, program-part}
@@ -48,33 +48,42 @@ less-once ts (Ok x) less = less
 less-once ts (Err left) less = tt
 
 -- items that are seen as they are
-same-items : {X : Type 0} (begins : List Placed → Bool) (item : Reader X) → Less item → begins [] ≡ false → CanRepeat (λ (x : X). x) (λ (xs : List X). xs) begins item
-same-items begins item less nothing = record { less = λ ts. less-once ts (item ts) (less ts); nothing = nothing; none = refl; more = λ xs x. refl }
+same-items : {X : Type 0} (item : Reader X) → Less item → CanList (λ (x : X). x) (λ (xs : List X). xs) item
+same-items item less = record { less = λ ts. less-once ts (item ts) (less ts); none = refl; more = λ xs x. refl }
 
 -- items that are seen by a function
-seen-items : {S X : Type 0} (plain : S → X) (begins : List Placed → Bool) (item : Reader X) → Less item → begins [] ≡ false → CanRepeat plain (map plain) begins item
-seen-items plain begins item less nothing = record { less = λ ts. less-once ts (item ts) (less ts); nothing = nothing; none = refl; more = λ xs x. map-append plain xs (x ∷ []) }
+seen-items : {S X : Type 0} (plain : S → X) (item : Reader X) → Less item → CanList plain (map plain) item
+seen-items plain item less = record { less = λ ts. less-once ts (item ts) (less ts); none = refl; more = λ xs x. map-append plain xs (x ∷ []) }
+
+pub param-items : CanList (λ x. x) (λ xs. xs) param_at
+param-items = same-items param_at param-less
+
+pub out-items : CanList out_of (map out_of) out_at
+out-items = seen-items out_of out_at out-less
+
+pub end-items : CanList (λ x. x) (λ xs. xs) end_at
+end-items = same-items end_at end-less
 
 pub comm-items : CanRepeat (λ x. x) (λ xs. xs) begins_comm comm_at
-comm-items = same-items begins_comm comm_at (less-of SpellsComm comm_at comm-sound comm-part.shorter) refl
+comm-items = record { items = same-items comm_at (less-of SpellsComm comm_at comm-sound comm-part.shorter); nothing = refl }
 
 pub task-items : CanRepeat task_of (map task_of) begins_task task_at
-task-items = seen-items task_of begins_task task_at (less-of SpellsTask task_at task-sound task-part.shorter) refl
+task-items = record { items = seen-items task_of task_at (less-of SpellsTask task_at task-sound task-part.shorter); nothing = refl }
 
 pub port-items : CanRepeat (λ x. x) (λ xs. xs) begins_port port_at
-port-items = same-items begins_port port_at (less-of SpellsPort port_at port-sound port-part.shorter) refl
+port-items = record { items = same-items port_at (less-of SpellsPort port_at port-sound port-part.shorter); nothing = refl }
 
 pub invoke-items : CanRepeat (λ x. x) (λ xs. xs) begins_invoke invoke_at
-invoke-items = same-items begins_invoke invoke_at (less-of SpellsInvoke invoke_at invoke-sound invoke-part.shorter) refl
+invoke-items = record { items = same-items invoke_at (less-of SpellsInvoke invoke_at invoke-sound invoke-part.shorter); nothing = refl }
 
 pub switch-items : CanRepeat switch_of (map switch_of) begins_switch switch_at
-switch-items = seen-items switch_of begins_switch switch_at (less-of SpellsSwitch switch_at switch-sound switch-part.shorter) refl
+switch-items = record { items = seen-items switch_of switch_at (less-of SpellsSwitch switch_at switch-sound switch-part.shorter); nothing = refl }
 
 pub mode-items : CanRepeat mode_of (map mode_of) begins_mode mode_at
-mode-items = seen-items mode_of begins_mode mode_at (less-of SpellsMode mode_at mode-sound mode-part.shorter) refl
+mode-items = record { items = seen-items mode_of mode_at (less-of SpellsMode mode_at mode-sound mode-part.shorter); nothing = refl }
 
 pub module-items : CanRepeat module_of (map module_of) begins_module module_at
-module-items = seen-items module_of begins_module module_at (less-of SpellsModule module_at module-sound module-part.shorter) refl
+module-items = record { items = seen-items module_of module_at (less-of SpellsModule module_at module-sound module-part.shorter); nothing = refl }
 
 pub program-less : Less program_at
 program-less = less-of SpellsProgram program_at program-sound program-part.shorter

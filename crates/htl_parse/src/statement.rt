@@ -1,14 +1,12 @@
 // The statements of a source, each up to its `;`.
-ghost use Rattle.std.specs.Prelude.{map};
 ghost use Rattle.htl_text.specs.Nodes.{out_of, outs_of, task_of, switch_of};
 ghost use Rattle.htl_parse.specs.Cursors.{Gives};
-ghost use Rattle.htl_parse.specs.ReadingLists.{items_at, list_at};
 ghost use Rattle.htl_parse.specs.ReadingStatements.{param_at, out_at, comm_at, outputs_at, task_by, task_at, port_at, instance_at, port_end_at, end_at, invoke_at, switch_at};
 
 use crate::cursor::Cursor;
 use crate::expr::expr;
+use crate::repeated::{Listable, listed};
 use crate::stop::Stop;
-use htl_base::Seq;
 use htl_text::{
     CommNode, EndNode, InvokeNode, OutNode, OutNodes, ParamNode, Sign, SwitchNode, TaskNode, Word,
 };
@@ -40,58 +38,39 @@ fn out(alloc: Global, cursor: &mut Cursor<'_>) -> Result<OutNode, Stop>
     })
 }
 
-// Parameters behind an opening bracket, the first of which must stand here.
-fn param_items(alloc: Global, cursor: &mut Cursor<'_>) -> Result<Vec<ParamNode>, Stop>
-    ensures { Gives (λ v. v.items) result cursor.new (items_at param_at cursor.old) }
-{
-    let mut found = Vec::new(alloc);
-    let first = param(cursor)?;
-    found.push(first)?;
-    while let Some(_) = cursor.sign(Sign::Comma) {
-        let next = param(cursor)?;
-        found.push(next)?;
+impl Listable for ParamNode {
+    ghost use Rattle.htl_text.specs.declared.tree.ParamNode.{ParamNode as Node};
+    ghost use Rattle.htl_parse.specs.ReadingStatements.{param_at};
+
+    ghost Plain = { Node };
+
+    ghost plain = { λ x. x };
+
+    ghost plains = { λ xs. xs };
+
+    ghost reading = { param_at };
+
+    fn read(_alloc: Global, cursor: &mut Cursor<'_>) -> Result<ParamNode, Stop> {
+        param(cursor)
     }
-    Ok(found)
 }
 
-// "(" [ in { "," in } ] ")"
-fn param_list(alloc: Global, cursor: &mut Cursor<'_>) -> Result<Seq<ParamNode>, Stop>
-    ensures { Gives (λ v. v) result cursor.new (list_at param_at cursor.old) }
-{
-    cursor.expect(Sign::OpenParen)?;
-    if let Some(_) = cursor.sign(Sign::CloseParen) {
-        return Ok(Seq::new(Vec::new(alloc)));
-    }
-    let found = param_items(alloc, cursor)?;
-    cursor.expect(Sign::CloseParen)?;
-    Ok(Seq::new(found))
-}
+impl Listable for OutNode {
+    ghost use Rattle.std.specs.Prelude.{map};
+    ghost use Rattle.htl_text.specs.Nodes.{PlainOut, out_of};
+    ghost use Rattle.htl_parse.specs.ReadingStatements.{out_at};
 
-// Outputs behind an opening bracket, the first of which must stand here.
-fn out_items(alloc: Global, cursor: &mut Cursor<'_>) -> Result<Vec<OutNode>, Stop>
-    ensures { Gives (λ v. map out_of v.items) result cursor.new (items_at out_at cursor.old) }
-{
-    let mut found = Vec::new(alloc);
-    let first = out(alloc, cursor)?;
-    found.push(first)?;
-    while let Some(_) = cursor.sign(Sign::Comma) {
-        let next = out(alloc, cursor)?;
-        found.push(next)?;
-    }
-    Ok(found)
-}
+    ghost Plain = { PlainOut };
 
-// "(" [ out { "," out } ] ")"
-fn out_list(alloc: Global, cursor: &mut Cursor<'_>) -> Result<Seq<OutNode>, Stop>
-    ensures { Gives (λ v. map out_of v) result cursor.new (list_at out_at cursor.old) }
-{
-    cursor.expect(Sign::OpenParen)?;
-    if let Some(_) = cursor.sign(Sign::CloseParen) {
-        return Ok(Seq::new(Vec::new(alloc)));
+    ghost plain = { out_of };
+
+    ghost plains = { map out_of };
+
+    ghost reading = { out_at };
+
+    fn read(alloc: Global, cursor: &mut Cursor<'_>) -> Result<OutNode, Stop> {
+        out(alloc, cursor)
     }
-    let found = out_items(alloc, cursor)?;
-    cursor.expect(Sign::CloseParen)?;
-    Ok(Seq::new(found))
 }
 
 /// comm = ( "communicator" | "sensor" ) type name "period" number "init" const ";"
@@ -121,10 +100,10 @@ fn outputs(alloc: Global, cursor: &mut Cursor<'_>, is_abstract: bool) -> Result<
     ensures { Gives outs_of result cursor.new (outputs_at is_abstract cursor.old) }
 {
     if is_abstract {
-        let outs = param_list(alloc, cursor)?;
+        let outs = listed(alloc, cursor)?;
         Ok(OutNodes::Abstract { outs })
     } else {
-        let outs = out_list(alloc, cursor)?;
+        let outs = listed(alloc, cursor)?;
         Ok(OutNodes::Concrete { outs })
     }
 }
@@ -137,7 +116,7 @@ fn task_behind(alloc: Global, cursor: &mut Cursor<'_>, is_abstract: bool) -> Res
     cursor.expect_word(Word::Task)?;
     let name = cursor.name()?;
     cursor.expect_word(Word::Input)?;
-    let inputs = param_list(alloc, cursor)?;
+    let inputs = listed(alloc, cursor)?;
     cursor.expect_word(Word::Output)?;
     let outputs = outputs(alloc, cursor, is_abstract)?;
     cursor.expect_word(Word::Worst)?;
@@ -202,31 +181,21 @@ fn end(cursor: &mut Cursor<'_>) -> Result<EndNode, Stop>
     }
 }
 
-// Ends behind an opening bracket, the first of which must stand here.
-fn end_items(alloc: Global, cursor: &mut Cursor<'_>) -> Result<Vec<EndNode>, Stop>
-    ensures { Gives (λ v. v.items) result cursor.new (items_at end_at cursor.old) }
-{
-    let mut found = Vec::new(alloc);
-    let first = end(cursor)?;
-    found.push(first)?;
-    while let Some(_) = cursor.sign(Sign::Comma) {
-        let next = end(cursor)?;
-        found.push(next)?;
-    }
-    Ok(found)
-}
+impl Listable for EndNode {
+    ghost use Rattle.htl_text.specs.declared.tree.EndNode.{EndNode as Node};
+    ghost use Rattle.htl_parse.specs.ReadingStatements.{end_at};
 
-// "(" [ end { "," end } ] ")"
-fn end_list(alloc: Global, cursor: &mut Cursor<'_>) -> Result<Seq<EndNode>, Stop>
-    ensures { Gives (λ v. v) result cursor.new (list_at end_at cursor.old) }
-{
-    cursor.expect(Sign::OpenParen)?;
-    if let Some(_) = cursor.sign(Sign::CloseParen) {
-        return Ok(Seq::new(Vec::new(alloc)));
+    ghost Plain = { Node };
+
+    ghost plain = { λ x. x };
+
+    ghost plains = { λ xs. xs };
+
+    ghost reading = { end_at };
+
+    fn read(_alloc: Global, cursor: &mut Cursor<'_>) -> Result<EndNode, Stop> {
+        end(cursor)
     }
-    let found = end_items(alloc, cursor)?;
-    cursor.expect(Sign::CloseParen)?;
-    Ok(Seq::new(found))
 }
 
 /// invoke = "invoke" name "input" "(" ends ")" "output" "(" ends ")" [ "parent" name ] ";"
@@ -237,9 +206,9 @@ pub fn invoke(alloc: Global, cursor: &mut Cursor<'_>) -> Result<InvokeNode, Stop
     cursor.expect_word(Word::Invoke)?;
     let task = cursor.name()?;
     cursor.expect_word(Word::Input)?;
-    let reads = end_list(alloc, cursor)?;
+    let reads = listed(alloc, cursor)?;
     cursor.expect_word(Word::Output)?;
-    let writes = end_list(alloc, cursor)?;
+    let writes = listed(alloc, cursor)?;
     let parent = cursor.clause(Word::Parent)?;
     cursor.expect(Sign::Semicolon)?;
     Ok(InvokeNode {
