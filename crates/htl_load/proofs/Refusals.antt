@@ -1,5 +1,5 @@
 -- An accepted object has no fault, and an object in range has one first fault at most, which is never that of the limits of frames.
-use Rattle.std.proofs.Common.{◌≡◌, ◌≤◌, ◌<◌, ◌⊎◌, ℕ, List, Option, Some, None, sym, ◌∙◌, ap, subst, arith, inl, inr}
+use Rattle.std.proofs.Common.{◌≡◌, ◌<◌, ◌⊎◌, ℕ, List, Option, Some, None, sym, ◌∙◌, ap, subst, arith, inl, inr}
 use Rattle.htl_ecode.proofs.SpellingLaws.{spells_or_departs}
 use Rattle.htl_ecode.specs.Departure.{departure}
 use Rattle.htl_ecode.specs.declared.fault.EFault.{EFault}
@@ -10,9 +10,8 @@ use Rattle.htl_load.specs.Unfit.{IsFirstUnfit}
 use Rattle.htl_load.specs.declared.fault.ObjectFault.{ObjectFault}
 use Rattle.htl_load.specs.declared.fault.ObjectFault.TheVariants as fault
 use Rattle.htl_model.proofs.FrameRules.{frames_unbroken}
-use Rattle.htl_model.specs.Broken.{Broken, Formed, KeptTo, IsFirstBroken, site_of}
+use Rattle.htl_model.specs.Broken.{Broken, Formed, IsFirstBroken, site_of}
 use Rattle.htl_model.specs.FormRules.{FormRule, FrameLimits}
-use Rattle.htl_model.specs.Ranges.{AreInRange}
 use Rattle.htl_model.specs.Tables.{Tables}
 use Rattle.htl_model.specs.declared.form_fault.FormFault.{FormFault}
 use Rattle.htl_object.specs.declared.object.Object.{Object}

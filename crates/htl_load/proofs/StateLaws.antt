@@ -1,5 +1,5 @@
 -- Small laws of the typed states.
-use Rattle.std.proofs.Common.{◌≡◌, ◌<◌, ℕ, length, slice_get, Some, None, sym, ◌∙◌, arith, inl, inr, Result, Ok, Err, OnOk}
+use Rattle.std.proofs.Common.{◌≡◌, ◌<◌, ℕ, length, slice_get, Some, None, sym, ◌∙◌, arith, inl, inr}
 use Rattle.std.proofs.lemmas.Option.{slice_get_cases}
 use Rattle.htl_model.proofs.PlaceLaws.{count_function_types}
 use Rattle.htl_model.specs.FunctionTypes.{FunctionType, function_types, IsFunctionOf, FitPlaces}

@@ -1,6 +1,6 @@
 use Rattle.std.proofs.Common.{◌≡◌, List, get_or, slice_get, true, false, Some, sym, ap, ◌∙◌, subst}
 use Rattle.htl_model.specs.FunctionTypes.{FunctionType, output_type, IsFunctionOf}
-use Rattle.htl_model.specs.Tables.{Tables, Fun, fun_of}
+use Rattle.htl_model.specs.Tables.{Tables, fun_of}
 use Rattle.htl_model.specs.declared.function.Function.{Function}
 use Rattle.htl_object.proofs.FunctionPlaces.{function_at}
 use Rattle.htl_load.proofs.functions.fits_at.Goals as goal
