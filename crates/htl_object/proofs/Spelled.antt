@@ -1,5 +1,5 @@
 -- What is put at the end of bytes, piece by piece.
-use Rattle.std.proofs.Common.{◌≡◌, ℕ, ◌+◌, suc, List, [], ◌∷◌, ◌++◌, map, length, get_or, All, Some, refl, ap, sym, subst, ◌∙◌, append-nil, arith}
+use Rattle.std.proofs.Common.{◌≡◌, ℕ, ◌+◌, suc, List, [], ◌∷◌, ◌++◌, map, length, get_or, All, Option, Some, refl, ap, sym, subst, ◌∙◌, append-nil, arith}
 use Rattle.std.specs.List.{flat_map}
 use Rattle.std.proofs.lemmas.List.Concat.{flat_map-append}
 use Rattle.std.proofs.lemmas.List.Elements.{All-append, All-cons, All-nil}
@@ -9,22 +9,24 @@ use Rattle.htl_model.proofs.Listed.{length-list_to, get_list_to}
 use Rattle.htl_model.specs.Lists.{list_to}
 use Rattle.htl_model.specs.Tables.{Fun, Formula, Compiled, fun_of}
 use Rattle.htl_model.specs.declared.function.Function.{Function}
-use Rattle.htl_object.proofs.Appends.{appends}
+use Rattle.htl_object.proofs.Appends.{appends, puts_same}
+use Rattle.htl_object.specs.Bytes.{Puts}
 use Rattle.htl_object.specs.Files.{anchors_bytes, AreAnchors}
 use Rattle.htl_object.specs.Instructions.{code_bytes, function_bytes}
 use Rattle.htl_object.specs.Items.{Is32}
 use Rattle.htl_object.specs.Lists.{codes_of, anchors_of}
 use Rattle.htl_object.specs.declared.lists.Anchors.{Anchors}
 
-pub anchors_more : (f : ℕ → Anchors) (m : ℕ) (old mid new : List ℕ) → mid ≡ old ++ flat_map anchors_bytes (list_to f m) → new ≡ mid ++ anchors_bytes (f m)
-    → new ≡ old ++ flat_map anchors_bytes (list_to f (m + 1))
+pub anchors_more : (f : ℕ → Anchors) (m : ℕ) (old mid new : Option (List ℕ)) → Puts (flat_map anchors_bytes (list_to f m)) old mid → Puts (anchors_bytes (f m)) mid new
+    → Puts (flat_map anchors_bytes (list_to f (m + 1))) old new
 anchors_more f m old mid new p q =
     let next : suc m ≡ m + 1 = omega arith in
     let one : anchors_bytes (f m) ≡ flat_map anchors_bytes (f m ∷ []) = sym (append-nil (anchors_bytes (f m))) in
-    appends old mid new (flat_map anchors_bytes (list_to f m)) (anchors_bytes (f m)) p q
-    ∙ ap (λ (x : List ℕ). old ++ (flat_map anchors_bytes (list_to f m) ++ x)) one
-    ∙ ap (λ (x : List ℕ). old ++ x) (sym (flat_map-append anchors_bytes (list_to f m) (f m ∷ [])))
-    ∙ ap (λ (n : ℕ). old ++ flat_map anchors_bytes (list_to f n)) next
+    let all : flat_map anchors_bytes (list_to f m) ++ anchors_bytes (f m) ≡ flat_map anchors_bytes (list_to f (m + 1)) = (
+    ap (λ (x : List ℕ). flat_map anchors_bytes (list_to f m) ++ x) one
+    ∙ sym (flat_map-append anchors_bytes (list_to f m) (f m ∷ []))
+    ∙ ap (λ (n : ℕ). flat_map anchors_bytes (list_to f n)) next) in
+    puts_same _ _ old new all (appends (flat_map anchors_bytes (list_to f m)) (anchors_bytes (f m)) old mid new p q)
 
 first_code : (g : Fun) (gs : List Fun) → function_bytes g ++ flat_map code_bytes (codes_of gs) ≡ flat_map code_bytes (codes_of (g ∷ gs))
 first_code (Compiled c) gs = refl

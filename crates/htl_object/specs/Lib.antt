@@ -1,5 +1,6 @@
 pub mod Accepted
 pub mod Blocks
+pub mod Bytes
 pub mod Comms
 pub mod Fields
 pub mod Files

@@ -2,12 +2,12 @@
 ghost use Rattle.std.specs.Prelude.{◌≡◌, get_or};
 ghost use Rattle.htl_object.specs.Instructions.{e_bytes, f_bytes};
 
+use crate::bytes::Bytes;
 use crate::lists::Anchors;
 use crate::writer::{Spelled, put_list, put_long_list, put_value, put16, put32};
 use htl_ecode::EInstr;
 use htl_model::{Code, FInstr, Function};
 use htl_walk::{SInstr, Schedule};
-use std::alloc::AllocError;
 
 // The tag of an instruction of a function: the first byte of its spelling.
 fn f_tag(instr: &FInstr) -> u8
@@ -44,13 +44,13 @@ impl Spelled for FInstr {
 
     ghost keeps = { IsFInstr };
 
-    fn put(&self, out: &mut Vec<u8>) -> Result<(), AllocError> {
-        out.push(f_tag(self))?;
+    fn put(&self, out: &mut Bytes) {
+        out.push(f_tag(self));
         match self {
             FInstr::Int { x } => put_value(out, x),
-            FInstr::Bool { x } => Ok(out.push(*x)?),
+            FInstr::Bool { x } => out.push(*x),
             FInstr::Arg { k } => put16(out, *k),
-            _ => Ok(()),
+            _ => {}
         }
     }
 }
@@ -64,10 +64,10 @@ impl Spelled for Code {
 
     ghost keeps = { λ c. All IsFInstr c.instrs };
 
-    fn put(&self, out: &mut Vec<u8>) -> Result<(), AllocError> {
-        put_list(out, self.args.as_slice())?;
-        self.want.put(out)?;
-        put_list(out, self.instrs.as_slice())
+    fn put(&self, out: &mut Bytes) {
+        put_list(out, self.args.as_slice());
+        self.want.put(out);
+        put_list(out, self.instrs.as_slice());
     }
 }
 
@@ -80,10 +80,10 @@ impl Spelled for Function {
 
     ghost keeps = { λ f. KeepsFunction (fun_of f) };
 
-    fn put(&self, out: &mut Vec<u8>) -> Result<(), AllocError> {
+    fn put(&self, out: &mut Bytes) {
         match self {
             Function::Code(code) => code.put(out),
-            Function::Expr { .. } => Ok(()),
+            Function::Expr { .. } => {}
         }
     }
 }
@@ -96,10 +96,10 @@ impl Spelled for Anchors {
 
     ghost keeps = { AreAnchors };
 
-    fn put(&self, out: &mut Vec<u8>) -> Result<(), AllocError> {
-        put32(out, self.enter)?;
-        put32(out, self.begin)?;
-        put32(out, self.decide)
+    fn put(&self, out: &mut Bytes) {
+        put32(out, self.enter);
+        put32(out, self.begin);
+        put32(out, self.decide);
     }
 }
 
@@ -130,31 +130,31 @@ impl Spelled for EInstr {
 
     ghost keeps = { HasWidths };
 
-    fn put(&self, out: &mut Vec<u8>) -> Result<(), AllocError> {
-        out.push(e_tag(self))?;
+    fn put(&self, out: &mut Bytes) {
+        out.push(e_tag(self));
         match *self {
             EInstr::CallWrite { inv, output: port } | EInstr::CallRead { inv, input: port } => {
-                put16(out, inv)?;
-                put16(out, port)
+                put16(out, inv);
+                put16(out, port);
             }
             EInstr::Future {
                 delay,
                 phase,
                 target,
             } => {
-                put32(out, delay)?;
-                out.push(phase)?;
-                put32(out, target)
+                put32(out, delay);
+                out.push(phase);
+                put32(out, target);
             }
             EInstr::JumpIf { switch: n, target } | EInstr::IfMode { mode: n, target } => {
-                put16(out, n)?;
-                put32(out, target)
+                put16(out, n);
+                put32(out, target);
             }
             EInstr::Jump { target } => put32(out, target),
             EInstr::Release { inv: n } | EInstr::Enter { mode: n } | EInstr::Fork { module: n } => {
-                put16(out, n)
+                put16(out, n);
             }
-            EInstr::Leave | EInstr::Return => Ok(()),
+            EInstr::Leave | EInstr::Return => {}
         }
     }
 }
@@ -167,20 +167,19 @@ impl Spelled for SInstr {
 
     ghost keeps = { IsSInstr };
 
-    fn put(&self, out: &mut Vec<u8>) -> Result<(), AllocError> {
+    fn put(&self, out: &mut Bytes) {
         match *self {
             SInstr::Dispatch { position, until } => {
-                out.push(1)?;
-                put16(out, position)?;
-                put32(out, until)
+                out.push(1);
+                put16(out, position);
+                put32(out, until);
             }
             SInstr::Idle { until } => {
-                out.push(2)?;
-                put32(out, until)
+                out.push(2);
+                put32(out, until);
             }
             SInstr::End => {
-                out.push(3)?;
-                Ok(())
+                out.push(3);
             }
         }
     }
@@ -195,7 +194,7 @@ impl Spelled for Schedule {
 
     ghost keeps = { λ s. All IsSInstr s.instrs };
 
-    fn put(&self, out: &mut Vec<u8>) -> Result<(), AllocError> {
-        put_long_list(out, self.instrs.as_slice())
+    fn put(&self, out: &mut Bytes) {
+        put_long_list(out, self.instrs.as_slice());
     }
 }

@@ -4,6 +4,7 @@
 mod assembly;
 mod block_reader;
 mod block_writer;
+mod bytes;
 mod code_reader;
 mod code_writer;
 mod cursor;

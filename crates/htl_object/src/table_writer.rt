@@ -1,10 +1,10 @@
 // Items of tables at the end of bytes.
+use crate::bytes::Bytes;
 use crate::writer::{
     Spelled, put_count, put_flag, put_list, put_name, put_option, put_value, put16, put32,
 };
 use htl_base::Ty;
 use htl_model::{Comm, End, Inv, Mode, Module, Port, Switch, Task};
-use std::alloc::AllocError;
 
 impl Spelled for Ty {
     ghost use Rattle.htl_object.specs.Fields.{type_bytes};
@@ -13,12 +13,11 @@ impl Spelled for Ty {
 
     ghost keeps = { λ _. Unit {0} };
 
-    fn put(&self, out: &mut Vec<u8>) -> Result<(), AllocError> {
+    fn put(&self, out: &mut Bytes) {
         match self {
-            Ty::Int => out.push(0)?,
-            Ty::Bool => out.push(1)?,
+            Ty::Int => out.push(0),
+            Ty::Bool => out.push(1),
         }
-        Ok(())
     }
 }
 
@@ -32,13 +31,12 @@ impl Spelled for Comm {
 
     ghost keeps = { λ c. (is_name c.name ≡ true) × FitsSigned w64 c.init };
 
-    fn put(&self, out: &mut Vec<u8>) -> Result<(), AllocError> {
-        put_name(out, &self.name)?;
-        self.ty.put(out)?;
-        put_flag(out, self.sensor)?;
-        put32(out, self.period)?;
-        put_value(out, &self.init)?;
-        Ok(())
+    fn put(&self, out: &mut Bytes) {
+        put_name(out, &self.name);
+        self.ty.put(out);
+        put_flag(out, self.sensor);
+        put32(out, self.period);
+        put_value(out, &self.init);
     }
 }
 
@@ -51,10 +49,10 @@ impl Spelled for Mode {
 
     ghost keeps = { λ x. is_name x.name ≡ true };
 
-    fn put(&self, out: &mut Vec<u8>) -> Result<(), AllocError> {
-        put_name(out, &self.name)?;
-        put16(out, self.module)?;
-        put32(out, self.period)
+    fn put(&self, out: &mut Bytes) {
+        put_name(out, &self.name);
+        put16(out, self.module);
+        put32(out, self.period);
     }
 }
 
@@ -67,10 +65,10 @@ impl Spelled for Module {
 
     ghost keeps = { λ x. is_name x.name ≡ true };
 
-    fn put(&self, out: &mut Vec<u8>) -> Result<(), AllocError> {
-        put_name(out, &self.name)?;
-        put_option(out, self.parent)?;
-        put16(out, self.start)
+    fn put(&self, out: &mut Bytes) {
+        put_name(out, &self.name);
+        put_option(out, self.parent);
+        put16(out, self.start);
     }
 }
 
@@ -83,10 +81,10 @@ impl Spelled for Port {
 
     ghost keeps = { λ x. is_name x.name ≡ true };
 
-    fn put(&self, out: &mut Vec<u8>) -> Result<(), AllocError> {
-        put_name(out, &self.name)?;
-        put16(out, self.mode)?;
-        self.ty.put(out)
+    fn put(&self, out: &mut Bytes) {
+        put_name(out, &self.name);
+        put16(out, self.mode);
+        self.ty.put(out);
     }
 }
 
@@ -99,14 +97,13 @@ impl Spelled for Task {
 
     ghost keeps = { λ x. is_name x.name ≡ true };
 
-    fn put(&self, out: &mut Vec<u8>) -> Result<(), AllocError> {
-        put_name(out, &self.name)?;
-        put16(out, self.module)?;
-        put_flag(out, self.is_abstract)?;
-        put32(out, self.worst)?;
-        put_list(out, self.inputs.as_slice())?;
-        put_list(out, self.outputs.as_slice())?;
-        Ok(())
+    fn put(&self, out: &mut Bytes) {
+        put_name(out, &self.name);
+        put16(out, self.module);
+        put_flag(out, self.is_abstract);
+        put32(out, self.worst);
+        put_list(out, self.inputs.as_slice());
+        put_list(out, self.outputs.as_slice());
     }
 }
 
@@ -117,16 +114,16 @@ impl Spelled for End {
 
     ghost keeps = { λ _. Unit {0} };
 
-    fn put(&self, out: &mut Vec<u8>) -> Result<(), AllocError> {
+    fn put(&self, out: &mut Bytes) {
         match *self {
             End::Comm { comm, instance } => {
-                out.push(0)?;
-                put16(out, comm)?;
-                put32(out, instance)
+                out.push(0);
+                put16(out, comm);
+                put32(out, instance);
             }
             End::Port { port } => {
-                out.push(1)?;
-                put16(out, port)
+                out.push(1);
+                put16(out, port);
             }
         }
     }
@@ -139,13 +136,12 @@ impl Spelled for Inv {
 
     ghost keeps = { λ _. Unit {0} };
 
-    fn put(&self, out: &mut Vec<u8>) -> Result<(), AllocError> {
-        put16(out, self.mode)?;
-        put16(out, self.task)?;
-        put_option(out, self.parent)?;
-        put_list(out, self.reads.as_slice())?;
-        put_list(out, self.writes.as_slice())?;
-        Ok(())
+    fn put(&self, out: &mut Bytes) {
+        put16(out, self.mode);
+        put16(out, self.task);
+        put_option(out, self.parent);
+        put_list(out, self.reads.as_slice());
+        put_list(out, self.writes.as_slice());
     }
 }
 
@@ -156,7 +152,7 @@ impl Spelled for u16 {
 
     ghost keeps = { λ _. Unit {0} };
 
-    fn put(&self, out: &mut Vec<u8>) -> Result<(), AllocError> {
+    fn put(&self, out: &mut Bytes) {
         put16(out, *self)
     }
 }
@@ -169,8 +165,8 @@ impl Spelled for usize {
 
     ghost keeps = { λ _. Unit {0} };
 
-    fn put(&self, out: &mut Vec<u8>) -> Result<(), AllocError> {
-        put_count(out, *self)
+    fn put(&self, out: &mut Bytes) {
+        put_count(out, *self);
     }
 }
 
@@ -181,9 +177,9 @@ impl Spelled for Switch {
 
     ghost keeps = { λ _. Unit {0} };
 
-    fn put(&self, out: &mut Vec<u8>) -> Result<(), AllocError> {
-        put16(out, self.mode)?;
-        put16(out, self.target)?;
-        put_list(out, self.reads.as_slice())
+    fn put(&self, out: &mut Bytes) {
+        put16(out, self.mode);
+        put16(out, self.target);
+        put_list(out, self.reads.as_slice());
     }
 }

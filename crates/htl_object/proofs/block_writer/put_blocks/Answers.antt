@@ -1,10 +1,19 @@
-use Rattle.std.proofs.lemmas.Result.{on_ok_weaker}
+use Rattle.std.proofs.Common.{[], ◌++◌, map, refl}
+use Rattle.std.specs.Int.{w16, to_be_bytes}
+use Rattle.std.specs.List.{flat_map}
+use Rattle.std.specs.Str.{bytes_eq}
+use Rattle.htl_object.proofs.Appends.{appends, puts_same}
 use Rattle.htl_object.proofs.ScheduleLaws.{put_as_blocks}
 use Rattle.htl_object.proofs.block_writer.put_blocks.Goals as goal
+use Rattle.htl_object.specs.Blocks.{numbers_from}
+use Rattle.htl_object.specs.Schedules.{schedule_bytes}
 
 pub returns-clause-spelled : goal.returns-clause-spelled
 returns-clause-spelled c =
-    on_ok_weaker c.put_spellings.result (λ spelled. put_as_blocks (λ b. b.items) c.args.out.now.items c.put_numbers.new.out.items c.put_spellings.new.out.items c.args.schedules.now c.new-blocks.result.keys c.put_numbers.new.blocks.keys
-    c.new-blocks.ensures.empty c.requires c.in_ok-put_numbers.ensures.types c.in_ok-put_numbers.ensures.numbers c.in_ok-put_numbers.ensures.blocks
-    (rw c.as_slice.ensures.keys at spelled))
-    c.put_spellings.ensures
+    let numbers = flat_map (to_be_bytes w16) (numbers_from bytes_eq (map (λ b. b.items) c.new-blocks.result.keys) (map schedule_bytes c.args.schedules.now)) in
+    let spellings = flat_map (λ s. s.items) c.put_numbers.new.blocks.keys in
+    let all = put_as_blocks (λ b. b.items) [] numbers (numbers ++ spellings) c.args.schedules.now c.new-blocks.result.keys c.put_numbers.new.blocks.keys
+    c.new-blocks.ensures.empty c.requires c.in_ok-put_numbers.ensures.types refl c.in_ok-put_numbers.ensures.blocks refl in
+    puts_same _ _ c.args.out.now c.put_spellings.new.out all
+    (appends numbers spellings c.args.out.now c.put_numbers.new.out c.put_spellings.new.out c.in_ok-put_numbers.ensures.numbers
+    (rw c.as_slice.ensures.keys at c.put_spellings.ensures))

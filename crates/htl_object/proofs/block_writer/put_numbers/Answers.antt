@@ -13,8 +13,8 @@ loop-schedule-preserved c =
     let after = map (λ b. b.items) c.put_number.new.blocks.keys in
     record {
       numbers =
-          numbered items c.loop-schedule.schedule-index c.schedule-item.result c.loop-schedule-test.true c.schedule-item.is bytes_eq schedule_bytes (to_be_bytes w16) before after c.loop-schedule.out.items
-          c.put_number.new.out.items _ c.in_ok-put_number.ensures.blocks c.loop-schedule.invariant.numbers c.in_ok-put_number.ensures.number;
+          numbered items c.loop-schedule.schedule-index c.schedule-item.result c.loop-schedule-test.true c.schedule-item.is bytes_eq schedule_bytes (to_be_bytes w16) before after c.args.out.now c.loop-schedule.out
+          c.put_number.new.out _ c.in_ok-put_number.ensures.blocks c.loop-schedule.invariant.numbers c.in_ok-put_number.ensures.number;
       blocks =
           blocked items c.loop-schedule.schedule-index c.schedule-item.result c.loop-schedule-test.true c.schedule-item.is bytes_eq schedule_bytes before after _ c.in_ok-put_number.ensures.blocks
           c.loop-schedule.invariant.blocks;

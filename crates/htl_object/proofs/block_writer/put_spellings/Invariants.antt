@@ -1,6 +1,7 @@
-use Rattle.std.proofs.Common.{◌≡◌, ◌++◌, take}
+use Rattle.std.proofs.Common.{take}
 use Rattle.std.specs.List.{flat_map}
+use Rattle.htl_object.specs.Bytes.{Puts}
 use Rattle.htl_object.proofs.block_writer.put_spellings.Given as goal
 
 abbrev pub invariant-loop-spelling : goal.invariant-loop-spelling
-invariant-loop-spelling l = l.out.items ≡ l.fn.out.items ++ flat_map (λ s. s.items) (take l.spelling-index l.spellings)
+invariant-loop-spelling l = Puts (flat_map (λ s. s.items) (take l.spelling-index l.spellings)) l.fn.out l.out

@@ -1,6 +1,7 @@
-use Rattle.std.proofs.Common.{◌≡◌, ◌++◌, take, All}
+use Rattle.std.proofs.Common.{take, All}
 use Rattle.std.specs.List.{flat_map}
+use Rattle.htl_object.specs.Bytes.{Puts}
 use Rattle.htl_object.proofs.writer.put_all.Given as goal
 
 abbrev pub invariant-loop-x : goal.invariant-loop-x
-invariant-loop-x g l = (l.out.items ≡ l.fn.out.items ++ flat_map g.T.Spelled.spelling (take l.x-index l.items)) × All g.T.Spelled.keeps (take l.x-index l.items)
+invariant-loop-x g l = Puts (flat_map g.T.Spelled.spelling (take l.x-index l.items)) l.fn.out l.out × All g.T.Spelled.keeps (take l.x-index l.items)

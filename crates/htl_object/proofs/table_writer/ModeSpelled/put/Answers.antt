@@ -1,0 +1,12 @@
+use Rattle.std.proofs.Common.{◌++◌}
+use Rattle.std.specs.Int.{w16, w32, to_be_bytes}
+use Rattle.htl_object.specs.Fields.{name_bytes}
+use Rattle.htl_object.proofs.Appends.{appends}
+use Rattle.htl_object.proofs.table_writer.ModeSpelled.put.Goals as goal
+
+pub returns-clause-spelled : goal.returns-clause-spelled
+returns-clause-spelled c =
+    let n = c.args.self.now in
+    let unit = to_be_bytes w16 n.«module» in
+    let period = to_be_bytes w32 n.period in
+    appends (name_bytes n.name) (unit ++ period) _ _ _ c.put_name.ensures.spelled (appends unit period _ _ _ c.put16.ensures.spelled c.put32.ensures.spelled)

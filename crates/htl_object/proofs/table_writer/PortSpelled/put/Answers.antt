@@ -1,0 +1,12 @@
+use Rattle.std.proofs.Common.{◌++◌}
+use Rattle.std.specs.Int.{w16, w32, to_be_bytes}
+use Rattle.htl_object.specs.Fields.{name_bytes, type_bytes}
+use Rattle.htl_object.proofs.Appends.{appends}
+use Rattle.htl_object.proofs.table_writer.PortSpelled.put.Goals as goal
+
+pub returns-clause-spelled : goal.returns-clause-spelled
+returns-clause-spelled c =
+    let n = c.args.self.now in
+    let mode = to_be_bytes w16 n.mode in
+    let type = type_bytes n.ty in
+    appends (name_bytes n.name) (mode ++ type) _ _ _ c.put_name.ensures.spelled (appends mode type _ _ _ c.put16.ensures.spelled c.put.ensures.spelled)
