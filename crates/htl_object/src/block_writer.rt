@@ -1,5 +1,5 @@
 // Schedules at the end of bytes, of which equal ones are written once.
-ghost use Rattle.std.specs.Prelude.{◌≡◌, ◌++◌, [], map, IfOk, OnOk, All, Vec};
+ghost use Rattle.std.specs.Prelude.{◌≡◌, map, IfOk, OnOk, All, Vec};
 ghost use Rattle.std.specs.List.{flat_map};
 ghost use Rattle.std.specs.Int.{w16, to_be_bytes};
 ghost use Rattle.std.specs.Str.{bytes_eq};

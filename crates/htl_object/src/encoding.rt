@@ -1,5 +1,5 @@
 // An object to its bytes.
-ghost use Rattle.std.specs.Prelude.{◌≡◌, ◌++◌, ◌<◌, length, IfOk, OnOk, Ok, All};
+ghost use Rattle.std.specs.Prelude.{◌≡◌, length, IfOk, OnOk, Ok, All};
 ghost use Rattle.std.specs.List.{flat_map};
 ghost use Rattle.htl_model.specs.Tables.{tables_of};
 ghost use Rattle.htl_model.specs.Lists.{list_to};
