@@ -143,8 +143,6 @@ pub fn encode(alloc: Global, o: &Object) -> Result<Vec<u8>, Memory>
     ensures again { IfOk result (λ bytes. object_in bytes.items ≡ Ok o.now) }
 {
     let mut out = Bytes::new(alloc);
-    match put_object(alloc, &mut out, o) {
-        Ok(()) => out.into_items(),
-        Err(_) => Err(Memory),
-    }
+    put_object(alloc, &mut out, o)?;
+    out.into_items()
 }

@@ -5,13 +5,13 @@ use Rattle.htl_object.proofs.ObjectLaws.{says_itself}
 use Rattle.htl_object.proofs.encoding.encode.Goals as goal
 use Rattle.htl_object.specs.Objects.{object_bytes, object_in}
 
-pub returns-in-Ok-clause-spelled : goal.returns-in-Ok-clause-spelled
-returns-in-Ok-clause-spelled c =
-    IfOk-weaker c.into_items.result _ _ (λ bytes. puts_whole (object_bytes c.args.o.now) bytes.items c.new-out.result c.put_object.new.out c.new-out.ensures c.in-Ok.ensures.spelled) c.into_items.ensures
+pub returns-clause-spelled : goal.returns-clause-spelled
+returns-clause-spelled c =
+    IfOk-weaker c.into_items.result _ _ (λ bytes. puts_whole (object_bytes c.args.o.now) bytes.items c.new-out.result c.put_object.new.out c.new-out.ensures c.in_ok-put_object.ensures.spelled) c.into_items.ensures
 
-pub returns-in-Ok-clause-again : goal.returns-in-Ok-clause-again
-returns-in-Ok-clause-again c =
+pub returns-clause-again : goal.returns-clause-again
+returns-clause-again c =
     let o = c.args.o.now in
     IfOk-weaker c.into_items.result _ _ (λ bytes all.
-    ap object_in (puts_whole (object_bytes o) bytes.items c.new-out.result c.put_object.new.out c.new-out.ensures c.in-Ok.ensures.spelled all)
-    ∙ says_itself o (record { types = c.in-Ok.ensures.types; ranges = c.requires })) c.into_items.ensures
+    ap object_in (puts_whole (object_bytes o) bytes.items c.new-out.result c.put_object.new.out c.new-out.ensures c.in_ok-put_object.ensures.spelled all)
+    ∙ says_itself o (record { types = c.in_ok-put_object.ensures.types; ranges = c.requires })) c.into_items.ensures
