@@ -9,7 +9,9 @@ use Rattle.htl_smach.specs.Adding.{CanBegin}
 use Rattle.htl_smach.specs.Rounds.{Round, round_begun, added}
 use Rattle.htl_refine.specs.BegunJobs.{new_jobs}
 use Rattle.htl_machine.specs.ListBegun.{list_begun, CanStart}
+use Rattle.htl_machine.specs.Numbering.{IsNumbering, IsPath, IsAtFirst}
 use Rattle.htl_machine.specs.Starting.{kept_lengths}
+use Rattle.htl_machine.specs.declared.path.Path.{Path}
 
 drop_front : {A : Type 0} (xs ys : List A) → drop (length xs) (xs ++ ys) ≡ ys
 drop_front [] ys = refl
@@ -114,3 +116,7 @@ room_there t modes ms takes at frame count from r noted ticks many kept few = by
     by false e =
         let all : from ≡ length r.jobs = kept ∙ ap (λ f. cond (eqb (at % f) 0) 0 count) ticks ∙ ap (λ b. cond b 0 count) e ∙ many in
         omega (arith, few, all, ap length (own (length r.jobs) all), ap (λ b. length (jobs b)) e, length-append r.jobs new)
+
+-- so a run stands in its frame
+pub stands_on : (t : Tables) (p : Path) (jobs : List Job) → IsNumbering t p.numbering → length p.modes.modes ≡ length t.modules → length jobs ≤ 128 → (take p.count p.jobs ≡ jobs) × (p.count ≡ length jobs) → (p.first ≡ true → IsAtFirst t p) → IsPath t p jobs
+stands_on t p jobs numbering modes few all first = record { numbering = numbering; modes = modes; few = omega (arith, all.1, few); many = all.1; are = all.0; first = first }

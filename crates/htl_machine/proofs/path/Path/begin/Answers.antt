@@ -6,7 +6,7 @@ use Rattle.htl_refine.specs.declared.selection.Selection.{Selection}
 use Rattle.htl_refine.proofs.BegunLimits.{choice_few, start_early}
 use Rattle.htl_machine.specs.Numbering.{IsNumbering, first_list}
 use Rattle.htl_machine.specs.StandingList.{next_at}
-use Rattle.htl_machine.proofs.Followed.{later_can, later_begun, later_all, first_can, first_begun, first_all, room_there}
+use Rattle.htl_machine.proofs.Followed.{later_can, later_begun, later_all, first_can, first_begun, first_all, room_there, stands_on}
 use Rattle.htl_machine.proofs.path.Path.begin.Goals as goal
 
 pub turn-requires-clause-choice : goal.turn-requires-clause-choice
@@ -48,14 +48,9 @@ returns-else-offset-eq0-clause-path c =
     let begun =
     later_begun c.args.t.now c.args.m.now.calendar.modes c.note_modes.new.modes.modes c.args.takes.now c.args.at c.args.self.now.numbering.frame c.args.self.now.count c.kept_positions-from.result c.turn.new.self.count c.args.self.now.jobs c.turn.new.self.jobs c.args.desk.now
     c.note_modes.ensures c.requires.path.numbering.frame (ne_eqb _ 0 c.if-offset-eq0.false) c.requires.path.many c.requires.path.are c.kept_positions-from.ensures c.turn.ensures.count c.turn.ensures.jobs c.add_jobs.new.desk c.add_jobs.ensures in
-    record {
-      numbering = subst (IsNumbering c.args.t.now) (sym c.turn.ensures.numbering) c.requires.path.numbering;
-      modes = ap (λ (s : Selection). length s.modes) c.turn.ensures.modes ∙ ap length c.note_modes.ensures ∙ c.requires.selection.same;
-      few = omega (arith, all.1, ap (λ (d : Round). length d.jobs) begun, c.requires.follows.few);
-      many = all.1;
-      are = all.0;
-      first = c.turn.ensures.first;
-    }
+    stands_on c.args.t.now c.turn.new.self c.add_jobs.new.desk.jobs (subst (IsNumbering c.args.t.now) (sym c.turn.ensures.numbering) c.requires.path.numbering)
+    (ap (λ (s : Selection). length s.modes) c.turn.ensures.modes ∙ ap length c.note_modes.ensures ∙ c.requires.selection.same)
+    (subst (λ (d : Round). length d.jobs ≤ 128) (sym begun) c.requires.follows.few) all c.turn.ensures.first
 
 pub returns-else-offset-eq0-clause-desk : goal.returns-else-offset-eq0-clause-desk
 returns-else-offset-eq0-clause-desk c =
@@ -92,14 +87,9 @@ returns-then-offset-eq0-clause-path c =
     let begun =
     first_begun c.args.t.now c.args.m.now.calendar.modes c.note_modes.new.modes.modes c.args.takes.now c.args.at c.args.self.now.numbering.frame c.args.self.now.count c.kept_positions-from.result c.turn.new.self.count c.args.self.now.jobs c.turn.new.self.jobs c.args.desk.now
     c.note_modes.ensures c.requires.path.numbering.frame c.if-offset-eq0.true c.kept_positions-from.ensures c.turn.ensures.count c.turn.ensures.jobs c.start_jobs.new.desk c.start_jobs.ensures in
-    record {
-      numbering = subst (IsNumbering c.args.t.now) (sym c.turn.ensures.numbering) c.requires.path.numbering;
-      modes = ap (λ (s : Selection). length s.modes) c.turn.ensures.modes ∙ ap length c.note_modes.ensures ∙ c.requires.selection.same;
-      few = omega (arith, all.1, ap (λ (d : Round). length d.jobs) begun, c.requires.follows.few);
-      many = all.1;
-      are = all.0;
-      first = c.turn.ensures.first;
-    }
+    stands_on c.args.t.now c.turn.new.self c.start_jobs.new.desk.jobs (subst (IsNumbering c.args.t.now) (sym c.turn.ensures.numbering) c.requires.path.numbering)
+    (ap (λ (s : Selection). length s.modes) c.turn.ensures.modes ∙ ap length c.note_modes.ensures ∙ c.requires.selection.same)
+    (subst (λ (d : Round). length d.jobs ≤ 128) (sym begun) c.requires.follows.few) all c.turn.ensures.first
 
 pub returns-then-offset-eq0-clause-desk : goal.returns-then-offset-eq0-clause-desk
 returns-then-offset-eq0-clause-desk c =
