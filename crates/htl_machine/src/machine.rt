@@ -45,8 +45,9 @@ pub struct Totals {
     pub s: u64,
 }
 
-/// Both machines on one accepted object, which follow events: what sensors show, how long jobs take, how far the clock has come.
-/// Contracts see the object, what is shown, what is kept of the calls, both machines and their world, the list and its numbers.
+/// Both machines on one accepted object. It follows a list of events: what sensors show, how long jobs take, and how far the clock
+/// has come. Contracts see the object, what is shown, what the machine keeps of the calls, its world and S machine, its E machine, the
+/// list that stands and its numbers.
 pub struct Machine<'a> {
     loaded: &'a Loaded,
     show: Shown,
@@ -55,7 +56,6 @@ pub struct Machine<'a> {
     sensors: Sensors,
     takes: Seq<Time>,
     machines: Machines,
-    // The list that stands, and the jobs of the frame so far.
     path: Path,
     // Nothing is due from the reading up to before this instant, in ticks; 0 where that isn't known.
     due: Time,
@@ -93,7 +93,7 @@ impl<'a> Model for Machine<'a> {
 }
 
 impl<'a> Machine<'a> {
-    /// Stands before instant 0, at reading 0, after no event. All memory of the run is taken here, and its want alone is refused.
+    /// Stands before instant 0, with reading 0, and has followed no event. All memory is taken here; want of it is the one refusal.
     pub fn new(alloc: Global, l: &'a Loaded, show: Shown) -> Result<Machine<'a>, Memory>
         ensures follows { IfOk result (λ m. Follows m []) }
         ensures object { IfOk result (λ m. m.object ≡ l.now) }
@@ -200,7 +200,7 @@ impl<'a> Machine<'a> {
 
     /// Does all instants up to and including `to`, in ticks, writes their lines, makes `to` the reading, and spends the machine: its
     /// values are then those at `to`, its numbers those of the run. The machine isn't spent, and `to` is from the reading to
-    /// 1,000,000,000. `Failed` comes only where the sink's count rose: then a prefix of the lines was written, and it is spent.
+    /// 1,000,000,000. `Failed` comes only where the sink's count rose: then a prefix of the lines was written; the machine is spent.
     pub fn finish<W: Sink>(&mut self, to: Time, sink: &mut W) -> Result<(), Failed>
         requires follows { (es : List Told) × Follows self.old es }
         requires order { self.old.held.reading ≤ to }

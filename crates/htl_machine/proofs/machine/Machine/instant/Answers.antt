@@ -38,15 +38,13 @@ settle-requires-clause-modules g c =
     omega (arith, u.before.values.triggers.calendar.sized.modes, c.self.invariant.accepted.spelled.formed.ranges.tables.few_modules)
 
 pub settle-requires-clause-marked : goal.settle-requires-clause-marked
-settle-requires-clause-marked g c =
-    c.self.invariant.marked (ap (λ (z : Seen). z.held.spent) c.self.view_is ∙ c.requires.before.1.kept.fresh)
+settle-requires-clause-marked g c = c.self.invariant.marked (ap (λ (z : Seen). z.held.spent) c.self.view_is ∙ c.requires.before.1.kept.fresh)
 
 pub open_instant-requires-clause-marked : goal.open_instant-requires-clause-marked
 open_instant-requires-clause-marked g c = noted_marks c.settle.new.self _ _ c.settle.ensures.values c.settle.ensures.modes
 
 pub open_instant-requires-clause-waiting : goal.open_instant-requires-clause-waiting
-open_instant-requires-clause-waiting g c =
-    waiting_at c.tables-t.result.now c.self.inside.loaded.now.tables c.self.inside.sensors _ c.tables-t.ensures.value (c.self.invariant.waiting (ap (λ (z : Seen). z.held.spent) c.self.view_is ∙ c.requires.before.1.kept.fresh))
+open_instant-requires-clause-waiting g c = waiting_at c.tables-t.result.now c.self.inside.loaded.now.tables c.self.inside.sensors _ c.tables-t.ensures.value (c.self.invariant.waiting (ap (λ (z : Seen). z.held.spent) c.self.view_is ∙ c.requires.before.1.kept.fresh))
 
 pub schedule-requires : goal.schedule-requires
 schedule-requires g c =
@@ -54,20 +52,16 @@ schedule-requires g c =
     rw c.schedules-schedules.ensures (list_known (seen_in c.self.inside) c.requires.before.0 c.args.at c.self.invariant.accepted u)
 
 pub open_instant-requires-clause-form : goal.open_instant-requires-clause-form
-open_instant-requires-clause-form g c =
-    (sound_of (seen_in c.self.inside) c.tables-t.result.now c.ecode-code.result.now c.tables-t.ensures.value c.ecode-code.ensures c.self.invariant.accepted).form
+open_instant-requires-clause-form g c = (sound_of (seen_in c.self.inside) c.tables-t.result.now c.ecode-code.result.now c.tables-t.ensures.value c.ecode-code.ensures c.self.invariant.accepted).form
 
 pub open_instant-requires-clause-spells : goal.open_instant-requires-clause-spells
-open_instant-requires-clause-spells g c =
-    (sound_of (seen_in c.self.inside) c.tables-t.result.now c.ecode-code.result.now c.tables-t.ensures.value c.ecode-code.ensures c.self.invariant.accepted).spells
+open_instant-requires-clause-spells g c = (sound_of (seen_in c.self.inside) c.tables-t.result.now c.ecode-code.result.now c.tables-t.ensures.value c.ecode-code.ensures c.self.invariant.accepted).spells
 
 pub open_instant-requires-clause-instrs : goal.open_instant-requires-clause-instrs
-open_instant-requires-clause-instrs g c =
-    (sound_of (seen_in c.self.inside) c.tables-t.result.now c.ecode-code.result.now c.tables-t.ensures.value c.ecode-code.ensures c.self.invariant.accepted).instrs
+open_instant-requires-clause-instrs g c = (sound_of (seen_in c.self.inside) c.tables-t.result.now c.ecode-code.result.now c.tables-t.ensures.value c.ecode-code.ensures c.self.invariant.accepted).instrs
 
 pub open_instant-requires-clause-code : goal.open_instant-requires-clause-code
-open_instant-requires-clause-code g c =
-    (sound_of (seen_in c.self.inside) c.tables-t.result.now c.ecode-code.result.now c.tables-t.ensures.value c.ecode-code.ensures c.self.invariant.accepted).places
+open_instant-requires-clause-code g c = (sound_of (seen_in c.self.inside) c.tables-t.result.now c.ecode-code.result.now c.tables-t.ensures.value c.ecode-code.ensures c.self.invariant.accepted).places
 
 pub open_instant-requires-clause-shaped : goal.open_instant-requires-clause-shaped
 open_instant-requires-clause-shaped g c =
@@ -150,24 +144,19 @@ round_begins-requires g c =
     omega (arith, n.starts_many, n.few)
 
 pub close_and_begin-requires-clause-form : goal.close_and_begin-requires-clause-form
-close_and_begin-requires-clause-form g c =
-    (sound_of (seen_in c.self.inside) c.tables-t.result.now c.ecode-code.result.now c.tables-t.ensures.value c.ecode-code.ensures c.self.invariant.accepted).kept
+close_and_begin-requires-clause-form g c = (sound_of (seen_in c.self.inside) c.tables-t.result.now c.ecode-code.result.now c.tables-t.ensures.value c.ecode-code.ensures c.self.invariant.accepted).kept
 
 pub close_and_begin-requires-clause-limit : goal.close_and_begin-requires-clause-limit
-close_and_begin-requires-clause-limit g c =
-    (sound_of (seen_in c.self.inside) c.tables-t.result.now c.ecode-code.result.now c.tables-t.ensures.value c.ecode-code.ensures c.self.invariant.accepted).limit
+close_and_begin-requires-clause-limit g c = (sound_of (seen_in c.self.inside) c.tables-t.result.now c.ecode-code.result.now c.tables-t.ensures.value c.ecode-code.ensures c.self.invariant.accepted).limit
 
 pub close_and_begin-requires-clause-spells : goal.close_and_begin-requires-clause-spells
-close_and_begin-requires-clause-spells g c =
-    (sound_of (seen_in c.self.inside) c.tables-t.result.now c.ecode-code.result.now c.tables-t.ensures.value c.ecode-code.ensures c.self.invariant.accepted).spells
+close_and_begin-requires-clause-spells g c = (sound_of (seen_in c.self.inside) c.tables-t.result.now c.ecode-code.result.now c.tables-t.ensures.value c.ecode-code.ensures c.self.invariant.accepted).spells
 
 pub close_and_begin-requires-clause-instrs : goal.close_and_begin-requires-clause-instrs
-close_and_begin-requires-clause-instrs g c =
-    (sound_of (seen_in c.self.inside) c.tables-t.result.now c.ecode-code.result.now c.tables-t.ensures.value c.ecode-code.ensures c.self.invariant.accepted).instrs
+close_and_begin-requires-clause-instrs g c = (sound_of (seen_in c.self.inside) c.tables-t.result.now c.ecode-code.result.now c.tables-t.ensures.value c.ecode-code.ensures c.self.invariant.accepted).instrs
 
 pub close_and_begin-requires-clause-code : goal.close_and_begin-requires-clause-code
-close_and_begin-requires-clause-code g c =
-    (sound_of (seen_in c.self.inside) c.tables-t.result.now c.ecode-code.result.now c.tables-t.ensures.value c.ecode-code.ensures c.self.invariant.accepted).places
+close_and_begin-requires-clause-code g c = (sound_of (seen_in c.self.inside) c.tables-t.result.now c.ecode-code.result.now c.tables-t.ensures.value c.ecode-code.ensures c.self.invariant.accepted).places
 
 pub close_and_begin-requires-clause-over : goal.close_and_begin-requires-clause-over
 close_and_begin-requires-clause-over g c =
@@ -206,20 +195,16 @@ close_and_begin-requires-clause-begins g c =
     (w.0, q)
 
 pub close_instant-requires-clause-form : goal.close_instant-requires-clause-form
-close_instant-requires-clause-form g c =
-    (sound_of (seen_in c.self.inside) c.tables-t.result.now c.ecode-code.result.now c.tables-t.ensures.value c.ecode-code.ensures c.self.invariant.accepted).form
+close_instant-requires-clause-form g c = (sound_of (seen_in c.self.inside) c.tables-t.result.now c.ecode-code.result.now c.tables-t.ensures.value c.ecode-code.ensures c.self.invariant.accepted).form
 
 pub close_instant-requires-clause-spells : goal.close_instant-requires-clause-spells
-close_instant-requires-clause-spells g c =
-    (sound_of (seen_in c.self.inside) c.tables-t.result.now c.ecode-code.result.now c.tables-t.ensures.value c.ecode-code.ensures c.self.invariant.accepted).spells
+close_instant-requires-clause-spells g c = (sound_of (seen_in c.self.inside) c.tables-t.result.now c.ecode-code.result.now c.tables-t.ensures.value c.ecode-code.ensures c.self.invariant.accepted).spells
 
 pub close_instant-requires-clause-instrs : goal.close_instant-requires-clause-instrs
-close_instant-requires-clause-instrs g c =
-    (sound_of (seen_in c.self.inside) c.tables-t.result.now c.ecode-code.result.now c.tables-t.ensures.value c.ecode-code.ensures c.self.invariant.accepted).instrs
+close_instant-requires-clause-instrs g c = (sound_of (seen_in c.self.inside) c.tables-t.result.now c.ecode-code.result.now c.tables-t.ensures.value c.ecode-code.ensures c.self.invariant.accepted).instrs
 
 pub close_instant-requires-clause-code : goal.close_instant-requires-clause-code
-close_instant-requires-clause-code g c =
-    (sound_of (seen_in c.self.inside) c.tables-t.result.now c.ecode-code.result.now c.tables-t.ensures.value c.ecode-code.ensures c.self.invariant.accepted).places
+close_instant-requires-clause-code g c = (sound_of (seen_in c.self.inside) c.tables-t.result.now c.ecode-code.result.now c.tables-t.ensures.value c.ecode-code.ensures c.self.invariant.accepted).places
 
 pub close_instant-requires-clause-jobs : goal.close_instant-requires-clause-jobs
 close_instant-requires-clause-jobs g c =
@@ -392,19 +377,13 @@ returns-in_default-close_instant-clause-before g c = λ es before.
     (more ∙ ap tail (counts k.ready.plan k.ready.start k.ready.place k.ready.offset k.ready.same k.ready.past k.ready.few k.ready.was))
 
 pub invariant_of-self : goal.invariant_of-self
-invariant_of-self g c =
-    let kept = c.self.invariant in
-    spent_fits _ c.open_instant.new.sensors _ c.self.inside.path _ refl kept.accepted (ap length c.in-Err.ensures.shows ∙ kept.all_shows) kept.all_takes kept.few kept.empty
+invariant_of-self g c = spent_fits _ c.open_instant.new.sensors _ c.self.inside.path _ refl c.self.invariant.accepted (ap length c.in-Err.ensures.shows ∙ c.self.invariant.all_shows) c.self.invariant.all_takes c.self.invariant.few c.self.invariant.empty
 
 pub invariant_of-self-in-Err-close_and_begin : goal.invariant_of-self-in-Err-close_and_begin
-invariant_of-self-in-Err-close_and_begin g c =
-    let kept = c.self.invariant in
-    spent_fits _ c.open_instant.new.sensors _ c.close_and_begin.new.path _ refl kept.accepted (ap length c.in_default.ensures.shows ∙ kept.all_shows) kept.all_takes c.in-Err-close_and_begin.ensures.few (ap (λ (x : Schedule). x.instrs) c.in-Err-close_and_begin.ensures.idle ∙ kept.empty)
+invariant_of-self-in-Err-close_and_begin g c = spent_fits _ c.open_instant.new.sensors _ c.close_and_begin.new.path _ refl c.self.invariant.accepted (ap length c.in_default.ensures.shows ∙ c.self.invariant.all_shows) c.self.invariant.all_takes c.in-Err-close_and_begin.ensures.few (ap (λ (x : Schedule). x.instrs) c.in-Err-close_and_begin.ensures.idle ∙ c.self.invariant.empty)
 
 pub invariant_of-self-in-Err-close_instant : goal.invariant_of-self-in-Err-close_instant
-invariant_of-self-in-Err-close_instant g c =
-    let kept = c.self.invariant in
-    spent_fits _ c.open_instant.new.sensors _ c.self.inside.path _ refl kept.accepted (ap length c.in_default.ensures.shows ∙ kept.all_shows) kept.all_takes kept.few kept.empty
+invariant_of-self-in-Err-close_instant g c = spent_fits _ c.open_instant.new.sensors _ c.self.inside.path _ refl c.self.invariant.accepted (ap length c.in_default.ensures.shows ∙ c.self.invariant.all_shows) c.self.invariant.all_takes c.self.invariant.few c.self.invariant.empty
 
 pub returns-in-Err-clause-same : goal.returns-in-Err-clause-same
 returns-in-Err-clause-same g c = record { object = ap (λ (z : Seen). z.object) c.self.view_is; show = ap (λ (z : Seen). z.show) c.self.view_is }
