@@ -77,8 +77,7 @@ open_instant-requires-clause-safe g c =
 
 pub open_instant-requires-clause-jobs : goal.open_instant-requires-clause-jobs
 open_instant-requires-clause-jobs g c =
-    let fresh = ap (λ (z : Seen). z.held.spent) c.self.view_is ∙ c.requires.before.1.kept.fresh in
-    sym (c.jobs.ensures ∙ (c.self.invariant.stands fresh).are)
+    let fresh = ap (λ (z : Seen). z.held.spent) c.self.view_is ∙ c.requires.before.1.kept.fresh in sym (c.jobs.ensures ∙ (c.self.invariant.stands fresh).are)
 
 pub open_instant-requires-clause-of : goal.open_instant-requires-clause-of
 open_instant-requires-clause-of g c =
