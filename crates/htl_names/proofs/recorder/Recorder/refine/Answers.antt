@@ -9,6 +9,8 @@ pub returns : goal.returns
 returns c e =
     let n : ParentName = record { program = c.args.program; id = c.args.id } in
     let old = c.self.inside.0.0 in
-    let pushed : (c.args.self.now.lacks_memory ≡ false) × (c.push.new.self.items ≡ old.parents.items ++ n ∷ []) = search rules in
-    (pushed.0, one_parent old.entries.items old.uses.items old.wrong.items old.parents.items c.push.new.self.items n pushed.1
-    ∙ ap (λ (r : Recorder). rows_joined r.rows (refining (parent_use_of n ∷ []))) c.self.view_is)
+    let pushed : (c.args.self.now.lacks_memory ≡ false) × (c.push.new.self.items ≡ old.parents.items ++ n ∷ []) = search rules in (
+      pushed.0,
+      one_parent old.entries.items old.uses.items old.wrong.items old.parents.items c.push.new.self.items n pushed.1
+          ∙ ap (λ (r : Recorder). rows_joined r.rows (refining (parent_use_of n ∷ []))) c.self.view_is,
+    )
