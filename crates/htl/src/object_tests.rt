@@ -1,5 +1,6 @@
 // A worked object with each kind of item, its bad fields, and objects with many selections.
 ghost use Rattle.std.specs.Prelude.{◌≤◌};
+ghost use Rattle.htl_object.specs.Objects.{IsObject};
 
 use crate::asserts::{holds, same, same_in};
 use htl_object::{DecodeFault, MalKind, Malformed, Object, decode, encode};
@@ -173,7 +174,9 @@ fn the_worked_object_is_short_where_it_is_cut(rt: HostRuntime) {
 }
 
 /// Whether an object has these bytes.
-pub fn is_encoded(alloc: Global, object: &Object, bytes: &[u8]) -> bool {
+pub fn is_encoded(alloc: Global, object: &Object, bytes: &[u8]) -> bool
+    requires { IsObject object.now }
+{
     match encode(alloc, object) {
         Ok(again) => again.as_slice() == bytes,
         Err(_) => false,
