@@ -29,9 +29,6 @@ returns-in-Ok-generate_e-clause-built c =
     let make : ECode → List Schedule → Object = λ code ss. record { tables = c.args.t; ecode = code; schedules = ss; platform = c.args.platform } in
     ap₂ make c.in-Ok-generate_e.ensures.layout (c.new.ensures ∙ planned_is c.args.t c.in-Ok.schedules.items c.keeps_ranges.ensures.ranges c.in-Ok.ensures.count c.in-Ok.ensures.lists)
 
-pub returns-in-Ok-generate_e-clause-formed : goal.returns-in-Ok-generate_e-clause-formed
-returns-in-Ok-generate_e-clause-formed c = c.in_default.ensures.formed
-
 pub returns-in-Ok-generate_e-clause-schedulable : goal.returns-in-Ok-generate_e-clause-schedulable
 returns-in-Ok-generate_e-clause-schedulable c = c.in-Ok.ensures.fits
 
