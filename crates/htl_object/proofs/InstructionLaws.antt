@@ -13,7 +13,7 @@ use Rattle.htl_model.specs.declared.function.Code.{Code}
 use Rattle.htl_object.specs.Instructions.{is_phase, phase_at, e_bytes, e_table, e_instr_at, s_bytes, s_table, s_instr_at, f_bytes, f_table, f_instr_at, is_body, code_bytes, code_at}
 use Rattle.htl_object.specs.Items.{IsPhase, IsEInstr, IsSInstr, IsFInstr, IsCode}
 use Rattle.htl_object.proofs.Lawful.{IsCodec, field, last, checked, counted, whole}
-use Rattle.htl_object.proofs.Tagged.{TableTakes, of_plain, of_parts, tagged}
+use Rattle.htl_object.proofs.Tagged.{TableTakes, ◌&◌, of_plain, of_parts, tagged}
 use Rattle.htl_object.proofs.FieldLaws.{byte, number16, number32, value, type}
 
 phase : IsCodec (λ n. n ∷ []) IsPhase phase_at
@@ -35,40 +35,19 @@ e-again (E.Fork unit) rest f = (last {make = λ n. E.Fork n} number16).again uni
 e-again E.Return rest f = refl
 
 e-takes : TableTakes e_bytes IsEInstr e_table
-e-takes = (
-  of_parts e_bytes IsEInstr 1 (λ p. E.CallWrite p.0 p.1) (field number16 (λ _ _. last number16)) (λ _. refl) (λ _ f. f),
-  (
-    of_parts e_bytes IsEInstr 2 (λ p. E.CallRead p.0 p.1) (field number16 (λ _ _. last number16)) (λ _. refl) (λ _ f. f),
-    (
-      of_parts e_bytes IsEInstr 3 (λ n. E.Release n) (last number16) (λ _. refl) (λ _ f. f),
-      (
-        of_parts e_bytes IsEInstr 4 (λ p. E.Future p.0 p.1.0 p.1.1) (field number32 (λ _ _. field phase (λ _ _. last number32))) (λ _. refl) (λ _ f. f),
-        (
-          of_parts e_bytes IsEInstr 5 (λ p. E.JumpIf p.0 p.1) (field number16 (λ _ _. last number32)) (λ _. refl) (λ _ f. f),
-          (
-            of_parts e_bytes IsEInstr 6 (λ n. E.Jump n) (last number32) (λ _. refl) (λ _ f. f),
-            (
-              of_parts e_bytes IsEInstr 7 (λ p. E.IfMode p.0 p.1) (field number16 (λ _ _. last number32)) (λ _. refl) (λ _ f. f),
-              (
-                of_parts e_bytes IsEInstr 8 (λ n. E.Enter n) (last number16) (λ _. refl) (λ _ f. f),
-                (
-                  of_plain e_bytes IsEInstr 9 E.Leave refl tt,
-                  (
-                    of_parts e_bytes IsEInstr 10 (λ n. E.Fork n) (last number16) (λ _. refl) (λ _ f. f),
-                    (
-                      of_plain e_bytes IsEInstr 11 E.Return refl tt,
-                      tt,
-                    ),
-                  ),
-                ),
-              ),
-            ),
-          ),
-        ),
-      ),
-    ),
-  ),
-)
+e-takes =
+    of_parts e_bytes IsEInstr 1 (λ p. E.CallWrite p.0 p.1) (field number16 (λ _ _. last number16)) (λ _. refl) (λ _ f. f)
+    & of_parts e_bytes IsEInstr 2 (λ p. E.CallRead p.0 p.1) (field number16 (λ _ _. last number16)) (λ _. refl) (λ _ f. f)
+    & of_parts e_bytes IsEInstr 3 (λ n. E.Release n) (last number16) (λ _. refl) (λ _ f. f)
+    & of_parts e_bytes IsEInstr 4 (λ p. E.Future p.0 p.1.0 p.1.1) (field number32 (λ _ _. field phase (λ _ _. last number32))) (λ _. refl) (λ _ f. f)
+    & of_parts e_bytes IsEInstr 5 (λ p. E.JumpIf p.0 p.1) (field number16 (λ _ _. last number32)) (λ _. refl) (λ _ f. f)
+    & of_parts e_bytes IsEInstr 6 (λ n. E.Jump n) (last number32) (λ _. refl) (λ _ f. f)
+    & of_parts e_bytes IsEInstr 7 (λ p. E.IfMode p.0 p.1) (field number16 (λ _ _. last number32)) (λ _. refl) (λ _ f. f)
+    & of_parts e_bytes IsEInstr 8 (λ n. E.Enter n) (last number16) (λ _. refl) (λ _ f. f)
+    & of_plain e_bytes IsEInstr 9 E.Leave refl tt
+    & of_parts e_bytes IsEInstr 10 (λ n. E.Fork n) (last number16) (λ _. refl) (λ _ f. f)
+    & of_plain e_bytes IsEInstr 11 E.Return refl tt
+    & tt
 
 pub e_instr : IsCodec e_bytes IsEInstr e_instr_at
 e_instr = tagged e_bytes IsEInstr e_table e-again e-takes
@@ -81,16 +60,11 @@ s-again (S.Idle until) rest f = (last {make = λ n. S.Idle n} number32).again un
 s-again S.End rest f = refl
 
 s-takes : TableTakes s_bytes IsSInstr s_table
-s-takes = (
-  of_parts s_bytes IsSInstr 1 (λ p. S.Dispatch p.0 p.1) (field number16 (λ _ _. last number32)) (λ _. refl) (λ _ f. f),
-  (
-    of_parts s_bytes IsSInstr 2 (λ n. S.Idle n) (last number32) (λ _. refl) (λ _ f. f),
-    (
-      of_plain s_bytes IsSInstr 3 S.End refl tt,
-      tt,
-    ),
-  ),
-)
+s-takes =
+    of_parts s_bytes IsSInstr 1 (λ p. S.Dispatch p.0 p.1) (field number16 (λ _ _. last number32)) (λ _. refl) (λ _ f. f)
+    & of_parts s_bytes IsSInstr 2 (λ n. S.Idle n) (last number32) (λ _. refl) (λ _ f. f)
+    & of_plain s_bytes IsSInstr 3 S.End refl tt
+    & tt
 
 pub s_instr : IsCodec s_bytes IsSInstr s_instr_at
 s_instr = tagged s_bytes IsSInstr s_table s-again s-takes
@@ -119,64 +93,27 @@ f-again F.Or rest f = refl
 f-again F.Choose rest f = refl
 
 f-takes : TableTakes f_bytes IsFInstr f_table
-f-takes = (
-  of_parts f_bytes IsFInstr 1 (λ n. F.Int n) (last value) (λ _. refl) (λ _ f. f),
-  (
-    of_parts f_bytes IsFInstr 2 (λ n. F.Bool n) (last byte) (λ _. refl) (λ _ f. f),
-    (
-      of_parts f_bytes IsFInstr 3 (λ n. F.Arg n) (last number16) (λ _. refl) (λ _ f. f),
-      (
-        of_plain f_bytes IsFInstr 4 F.Neg refl tt,
-        (
-          of_plain f_bytes IsFInstr 5 F.Not refl tt,
-          (
-            of_plain f_bytes IsFInstr 6 F.Add refl tt,
-            (
-              of_plain f_bytes IsFInstr 7 F.Sub refl tt,
-              (
-                of_plain f_bytes IsFInstr 8 F.Mul refl tt,
-                (
-                  of_plain f_bytes IsFInstr 9 F.Div refl tt,
-                  (
-                    of_plain f_bytes IsFInstr 10 F.Rem refl tt,
-                    (
-                      of_plain f_bytes IsFInstr 11 F.Lt refl tt,
-                      (
-                        of_plain f_bytes IsFInstr 12 F.Le refl tt,
-                        (
-                          of_plain f_bytes IsFInstr 13 F.Gt refl tt,
-                          (
-                            of_plain f_bytes IsFInstr 14 F.Ge refl tt,
-                            (
-                              of_plain f_bytes IsFInstr 15 F.Eq refl tt,
-                              (
-                                of_plain f_bytes IsFInstr 16 F.Ne refl tt,
-                                (
-                                  of_plain f_bytes IsFInstr 17 F.And refl tt,
-                                  (
-                                    of_plain f_bytes IsFInstr 18 F.Or refl tt,
-                                    (
-                                      of_plain f_bytes IsFInstr 19 F.Choose refl tt,
-                                      tt,
-                                    ),
-                                  ),
-                                ),
-                              ),
-                            ),
-                          ),
-                        ),
-                      ),
-                    ),
-                  ),
-                ),
-              ),
-            ),
-          ),
-        ),
-      ),
-    ),
-  ),
-)
+f-takes =
+    of_parts f_bytes IsFInstr 1 (λ n. F.Int n) (last value) (λ _. refl) (λ _ f. f)
+    & of_parts f_bytes IsFInstr 2 (λ n. F.Bool n) (last byte) (λ _. refl) (λ _ f. f)
+    & of_parts f_bytes IsFInstr 3 (λ n. F.Arg n) (last number16) (λ _. refl) (λ _ f. f)
+    & of_plain f_bytes IsFInstr 4 F.Neg refl tt
+    & of_plain f_bytes IsFInstr 5 F.Not refl tt
+    & of_plain f_bytes IsFInstr 6 F.Add refl tt
+    & of_plain f_bytes IsFInstr 7 F.Sub refl tt
+    & of_plain f_bytes IsFInstr 8 F.Mul refl tt
+    & of_plain f_bytes IsFInstr 9 F.Div refl tt
+    & of_plain f_bytes IsFInstr 10 F.Rem refl tt
+    & of_plain f_bytes IsFInstr 11 F.Lt refl tt
+    & of_plain f_bytes IsFInstr 12 F.Le refl tt
+    & of_plain f_bytes IsFInstr 13 F.Gt refl tt
+    & of_plain f_bytes IsFInstr 14 F.Ge refl tt
+    & of_plain f_bytes IsFInstr 15 F.Eq refl tt
+    & of_plain f_bytes IsFInstr 16 F.Ne refl tt
+    & of_plain f_bytes IsFInstr 17 F.And refl tt
+    & of_plain f_bytes IsFInstr 18 F.Or refl tt
+    & of_plain f_bytes IsFInstr 19 F.Choose refl tt
+    & tt
 
 pub f_instr : IsCodec f_bytes IsFInstr f_instr_at
 f_instr = tagged f_bytes IsFInstr f_table f-again f-takes

@@ -14,6 +14,11 @@ abbrev pub TableTakes : {X : Type 0} → (X → List ℕ) → (X → Type 0) →
 TableTakes w g [] = Unit {0}
 TableTakes w g (entry ∷ more) = TagTakes w g entry.0 entry.1 × TableTakes w g more
 
+-- an alternative, and those behind it
+infixr 10 ◌&◌
+abbrev pub ◌&◌ : {A B : Type 0} → A → B → A × B
+a & b = (a, b)
+
 pub of_plain : {X : Type 0} (w : X → List ℕ) (g : X → Type 0) (tag : ℕ) (x : X) → w x ≡ tag ∷ [] → g x → TagTakes w g tag (plain_at x)
 of_plain w g tag x spelled fit bytes y rest are e =
     let v = given-value x y bytes rest e in
