@@ -31,11 +31,12 @@ use Rattle.htl_machine.proofs.Printing.{joined-append}
 none_past : (modes : List (Option ℕ)) (k : ℕ) → length modes ≤ k → list_at modes k ≡ None
 none_past modes k h = ap (λ (o : Option (Option ℕ)). elim o [ Some x ↦ x | None ↦ None ]) (slice_get_past modes k h)
 
--- the modes once the switch phase is done
-pub modes_switched : (t : Tables) (code : ECode) (es : List Event) (now : ℕ) (c : Calendar) → AreInRange t → Between t code es now 2 c (length t.modules) → (k : ℕ) → list_at c.modes k ≡ mode_in_state (state t es now) k
-modes_switched t code es now c range b k = elim (order k (length t.modules)) [
-  | inl h ↦ ap (λ (e : Entry). e.mode) (b.below k h)
-  | inr h ↦ none_past c.modes k (omega (arith, h, b.sized.modes)) ∙ sym (nowhere (stay_of (state t es now).stays k) refl h)
+-- where the modules of the tables have the modes of an instant, so have all numbers
+modes_stand : (t : Tables) (es : List Event) (now : ℕ) (c : Calendar) → AreInRange t → length c.modes ≤ length t.modules
+    → ((k : ℕ) → k < length t.modules → list_at c.modes k ≡ mode_in_state (state t es now) k) → (k : ℕ) → list_at c.modes k ≡ mode_in_state (state t es now) k
+modes_stand t es now c range sized below k = elim (order k (length t.modules)) [
+  | inl h ↦ below k h
+  | inr h ↦ none_past c.modes k (omega (arith, h, sized)) ∙ sym (nowhere (stay_of (state t es now).stays k) refl h)
 ]
   where
     order : (a n : ℕ) → (a < n) ⊎ (n ≤ a)
@@ -44,20 +45,14 @@ modes_switched t code es now c range b k = elim (order k (length t.modules)) [
     nowhere : (o : Option Stay) → stay_of (state t es now).stays k ≡ o → length t.modules ≤ k → mode_in_state (state t es now) k ≡ None
     nowhere None e h = ap mode_of e
     nowhere (Some y) e h = absurd (omega (arith, h, (standing_at t range es now).known k y e))
+
+-- the modes once the switch phase is done
+pub modes_switched : (t : Tables) (code : ECode) (es : List Event) (now : ℕ) (c : Calendar) → AreInRange t → Between t code es now 2 c (length t.modules) → (k : ℕ) → list_at c.modes k ≡ mode_in_state (state t es now) k
+modes_switched t code es now c range b = modes_stand t es now c range (omega (arith, b.sized.modes)) (λ k h. ap (λ (e : Entry). e.mode) (b.below k h))
 
 -- and once the read phase is done
 pub modes_closed : (t : Tables) (code : ECode) (es : List Event) (now : ℕ) (c : Calendar) → AreInRange t → Between t code es now 3 c (length t.modules) → (k : ℕ) → list_at c.modes k ≡ mode_in_state (state t es now) k
-modes_closed t code es now c range b k = elim (order k (length t.modules)) [
-  | inl h ↦ ap (λ (e : Entry). e.mode) (b.below k h)
-  | inr h ↦ none_past c.modes k (omega (arith, h, b.sized.modes)) ∙ sym (nowhere (stay_of (state t es now).stays k) refl h)
-]
-  where
-    order : (a n : ℕ) → (a < n) ⊎ (n ≤ a)
-    order a n = grind arith
-
-    nowhere : (o : Option Stay) → stay_of (state t es now).stays k ≡ o → length t.modules ≤ k → mode_in_state (state t es now) k ≡ None
-    nowhere None e h = ap mode_of e
-    nowhere (Some y) e h = absurd (omega (arith, h, (standing_at t range es now).known k y e))
+modes_closed t code es now c range b = modes_stand t es now c range (omega (arith, b.sized.modes)) (λ k h. ap (λ (e : Entry). e.mode) (b.below k h))
 
 -- the modes before an instant
 pub modes_open : (t : Tables) (code : ECode) (es : List Event) (now : ℕ) (c : Calendar) → Between t code es now 1 c 0 → (k : ℕ) → k < length t.modules → list_at c.modes k ≡ mode_in_state (before t es now) k
