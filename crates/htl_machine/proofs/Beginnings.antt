@@ -48,10 +48,6 @@ use Rattle.htl_walk.proofs.Finishes.{some_same}
 use Rattle.htl_refine.proofs.RecordOrder.{not_some}
 use Rattle.htl_machine.proofs.Turning.{before_count}
 
--- the first rules are among all
-pub apart_twelve : (t : Tables) → KeptApart t 16 → KeptApart t 12
-apart_twelve t kept = λ r s have need few other broken. kept r s have need (omega (arith, few)) other broken
-
 -- ---- the list
 
 -- the list of the events has begun, and the releases of the instant are told

@@ -15,7 +15,9 @@ use Rattle.htl_emach.specs.Contents.{Content}
 use Rattle.htl_emach.specs.Following.{Onward, phase_path}
 use Rattle.htl_machine.specs.Running.{replay}
 use Rattle.htl_machine.specs.Beginning.{IsToBegin}
+use Rattle.htl_machine.specs.Doing.{IsStarting}
 use Rattle.htl_machine.specs.declared.numbering.ListAt.{ListAt}
+use Rattle.htl_machine.specs.declared.works.Machines.{Machines}
 
 -- of the object
 pub record IsSound (t : Tables) (code : ECode) : Type 0 where
@@ -56,3 +58,22 @@ pub record IsToClose (t : Tables) (code : ECode) (es : List Event) (at : ℕ) (m
 pub record IsToCloseAndBegin (t : Tables) (code : ECode) (schedules : List (List SInstr)) (es : List Event) (at : ℕ) (takes : List ℕ) (last : Option ListAt) (r : Round) (m : Standing) (w : Content) (values : List ℤ) (modes : List (Option ℕ)) : Type 0 where
   pub closes : IsToClose t code es at m w values modes
   pub begins : IsToBegin t code schedules es at takes last r
+
+-- ---- of the machines, as an instant works on them
+
+-- a phase begins
+abbrev pub AreStarting : Tables → ECode → List Event → ℕ → ℕ → Machines → Type 0
+AreStarting t code es at phase m = IsStarting t code es at phase m.emach m.works.world
+
+-- the reads come next
+abbrev pub AreToRead : Tables → ECode → List Event → ℕ → Machines → Type 0
+AreToRead t code es at m = IsToRead t code es at m.emach m.works.world m.noted.values m.noted.modes
+
+-- the switches come next
+abbrev pub AreToClose : Tables → ECode → List Event → ℕ → Machines → Type 0
+AreToClose t code es at m = IsToClose t code es at m.emach m.works.world m.noted.values m.noted.modes
+
+-- the same, where a list begins behind the last one
+abbrev pub AreToCloseAndBegin : Tables → ECode → List (List SInstr) → List Event → ℕ → List ℕ → Option ListAt → Machines → Type 0
+AreToCloseAndBegin t code schedules es at takes last m =
+    IsToCloseAndBegin t code schedules es at takes last m.works.desk m.emach m.works.world m.noted.values m.noted.modes

@@ -1,13 +1,11 @@
 // The first part of an instant: records, writes and sensors.
 ghost use Rattle.std.specs.Prelude.{◌≡◌, ◌≤◌, List, [], length, true, false, None, OnOk};
 ghost use Rattle.htl_model.specs.declared.event.Event.{Event};
-ghost use Rattle.htl_model.specs.FrameRules.{KeptApart};
-ghost use Rattle.htl_ecode.specs.Spelling.{Spells};
-ghost use Rattle.htl_model.specs.FunctionTypes.{FitPlaces};
 ghost use Rattle.htl_emach.specs.Shapes.{HasValues, IsShaped};
 ghost use Rattle.htl_emach.specs.Safety.{StandsSafely};
 ghost use Rattle.htl_emach.specs.Following.{FollowsCode, Onward, phase_path};
 ghost use Rattle.htl_smach.specs.Rounds.{Stands, IsInForm, IsTold};
+ghost use Rattle.htl_machine.specs.Asking.{IsSound};
 ghost use Rattle.htl_machine.specs.Recording.{AreOf};
 ghost use Rattle.htl_machine.specs.Opening.{Opens, AreCounted, IsOpened, IsOpenedIdle};
 ghost use Rattle.htl_machine.specs.Noting.{MarksChanges, KeepsNoted};
@@ -32,11 +30,8 @@ pub fn open_instant<W: Sink>(
     sensors: &mut Sensors,
     at: Time,
 ) -> Result<(), Failed>
-    requires form { KeptApart program.now.tables.now 12 }
-    requires spells { Spells program.now.tables.now program.now.code.now }
+    requires sound { IsSound program.now.tables.now program.now.code.now }
     requires at { at ≤ 1000000000 }
-    requires instrs { length program.now.code.now.instrs ≤ 4294967295 }
-    requires code { FitPlaces program.now.tables.now }
     requires shaped { IsShaped program.now.tables.now machines.old.works.world }
     requires safe { StandsSafely program.now.tables.now program.now.code.now machines.old.emach }
     requires jobs { machines.old.works.desk.jobs ≡ list.now.jobs.now }

@@ -13,15 +13,12 @@ use Rattle.htl_machine.specs.Recording.{AreOf}
 use Rattle.htl_machine.specs.RunLists.{turn_at}
 use Rattle.htl_machine.specs.Running.{replay}
 use Rattle.htl_machine.specs.Starting.{instrs_of}
-use Rattle.htl_machine.proofs.Beginnings.{apart_twelve, may_follow, node_there, has_begun_so, first_done, first_counted, first_told, then_more, fails_so, ends_so, began_last}
+use Rattle.htl_machine.proofs.Beginnings.{may_follow, node_there, has_begun_so, first_done, first_counted, first_told, then_more, fails_so, ends_so, began_last}
 use Rattle.htl_machine.proofs.Closings.{switches_fail, reads_second, switches_start}
 use Rattle.htl_machine.proofs.Marking.{closes_noted, sensors_then, sensors_same}
 use Rattle.htl_machine.proofs.Modes.{modes_are}
 use Rattle.htl_machine.proofs.Premises.{at_told}
 use Rattle.htl_machine.proofs.beginning.close_and_begin.Goals as goal
-
-pub do_instrs-requires-clause-form : goal.do_instrs-requires-clause-form
-do_instrs-requires-clause-form g c = apart_twelve c.args.program.now.tables.now c.requires.form
 
 pub do_instrs-requires-clause-starts : goal.do_instrs-requires-clause-starts
 do_instrs-requires-clause-starts g c =
@@ -53,9 +50,6 @@ begin-requires-clause-follows g c =
     subst (CanFollow c.args.program.now.tables.now modes c.args.takes.now c.args.at c.args.path.now.list) (sym (c.in_default.ensures.desk es s))
     (may_follow c.args.program.now.tables.now c.args.program.now.code.now c.args.program.now.schedules.now es c.args.at c.args.takes.now c.args.path.now.list c.args.machines.now.works.desk modes ms q.begins)
 
-pub read_instant-requires-clause-form : goal.read_instant-requires-clause-form
-read_instant-requires-clause-form g c = apart_twelve c.args.program.now.tables.now c.requires.form
-
 pub read_instant-requires-clause-reads : goal.read_instant-requires-clause-reads
 read_instant-requires-clause-reads g c =
     let es = c.requires.begins.0 in
@@ -79,7 +73,7 @@ schedule-requires g c =
     node_there c.args.program.now.tables.now c.args.program.now.code.now c.args.program.now.schedules.now es c.args.at c.args.takes.now c.args.path.now.list c.args.machines.now.works.desk c.do_instrs.new.machines.emach.calendar.modes ms q.begins c.begin.new.self.list c.begin.ensures.list
 
 pub tell_records-requires-clause-kept : goal.tell_records-requires-clause-kept
-tell_records-requires-clause-kept g c = apart_twelve c.args.program.now.tables.now c.requires.form
+tell_records-requires-clause-kept g c = c.requires.sound.form
 
 pub tell_records-requires-clause-of : goal.tell_records-requires-clause-of
 tell_records-requires-clause-of g c =

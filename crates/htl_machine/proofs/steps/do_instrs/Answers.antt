@@ -28,7 +28,7 @@ instant-requires-clause-order g c =
 pub note-requires : goal.note-requires
 note-requires g c =
     let inside =
-    module_done c.args.program.now.tables.now c.args.program.now.code.now c.args.phase c.args.at c.loop-done.machines.emach c.loop-done.machines.works.world c.in-Some.done c.parts-parts.ensures.ranges c.requires.form c.requires.spells c.requires.phase c.loop-done.invariant.shaped c.loop-done.invariant.safe
+    module_done c.args.program.now.tables.now c.args.program.now.code.now c.args.phase c.args.at c.loop-done.machines.emach c.loop-done.machines.works.world c.in-Some.done c.parts-parts.ensures.ranges c.requires.sound.form c.requires.sound.spells c.requires.phase c.loop-done.invariant.shaped c.loop-done.invariant.safe
     c.in-Some.ensures.answer in
     omega (arith, inside, c.parts-parts.ensures.ranges.few_modules)
 
@@ -43,7 +43,7 @@ loop-done-smaller g c =
     let w = c.requires.starts in
     let here = c.loop-done.invariant.doing w.0 w.1 in
     fewer_then c.args.program.now.tables.now c.args.program.now.code.now w.0 c.args.at c.args.phase c.args.machines.now.works.world.values c.loop-done.machines.emach c.instant.new.self c.in-Some.done here.running.done here.running.rest c.args.machines.now.emach.calendar c.parts-parts.ensures.ranges
-    c.requires.form c.requires.spells c.requires.phase w.1.values w.1.calendar here.running.midway
+    c.requires.sound.form c.requires.sound.spells c.requires.phase w.1.values w.1.calendar here.running.midway
     (c.in-Some.ensures.onward w.0 here.running.done here.running.rest (λ two. here.running.values two ∙ w.1.values two) here.running.midway)
 
 pub loop-done-preserved : goal.loop-done-preserved

@@ -51,17 +51,8 @@ schedule-requires g c =
     let u = subst (λ (z : Seen). IsUpTo z c.requires.before.0 c.args.at) (sym c.self.view_is) c.requires.before.1 in
     rw c.schedules-schedules.ensures (list_known (seen_in c.self.inside) c.requires.before.0 c.args.at c.self.invariant.accepted u)
 
-pub open_instant-requires-clause-form : goal.open_instant-requires-clause-form
-open_instant-requires-clause-form g c = (sound_of (seen_in c.self.inside) c.tables-t.result.now c.ecode-code.result.now c.tables-t.ensures.value c.ecode-code.ensures c.self.invariant.accepted).form
-
-pub open_instant-requires-clause-spells : goal.open_instant-requires-clause-spells
-open_instant-requires-clause-spells g c = (sound_of (seen_in c.self.inside) c.tables-t.result.now c.ecode-code.result.now c.tables-t.ensures.value c.ecode-code.ensures c.self.invariant.accepted).spells
-
-pub open_instant-requires-clause-instrs : goal.open_instant-requires-clause-instrs
-open_instant-requires-clause-instrs g c = (sound_of (seen_in c.self.inside) c.tables-t.result.now c.ecode-code.result.now c.tables-t.ensures.value c.ecode-code.ensures c.self.invariant.accepted).instrs
-
-pub open_instant-requires-clause-code : goal.open_instant-requires-clause-code
-open_instant-requires-clause-code g c = (sound_of (seen_in c.self.inside) c.tables-t.result.now c.ecode-code.result.now c.tables-t.ensures.value c.ecode-code.ensures c.self.invariant.accepted).places
+pub open_instant-requires-clause-sound : goal.open_instant-requires-clause-sound
+open_instant-requires-clause-sound g c = sound_of (seen_in c.self.inside) c.tables-t.result.now c.ecode-code.result.now c.tables-t.ensures.value c.ecode-code.ensures c.self.invariant.accepted
 
 pub open_instant-requires-clause-shaped : goal.open_instant-requires-clause-shaped
 open_instant-requires-clause-shaped g c =
@@ -142,20 +133,8 @@ round_begins-requires g c =
     let n = (c.self.invariant.stands (ap (λ (z : Seen). z.held.spent) c.self.view_is ∙ (c.requires.before).1.kept.fresh)).numbering in
     omega (arith, n.starts_many, n.few)
 
-pub close_and_begin-requires-clause-form : goal.close_and_begin-requires-clause-form
-close_and_begin-requires-clause-form g c = (sound_of (seen_in c.self.inside) c.tables-t.result.now c.ecode-code.result.now c.tables-t.ensures.value c.ecode-code.ensures c.self.invariant.accepted).kept
-
-pub close_and_begin-requires-clause-limit : goal.close_and_begin-requires-clause-limit
-close_and_begin-requires-clause-limit g c = (sound_of (seen_in c.self.inside) c.tables-t.result.now c.ecode-code.result.now c.tables-t.ensures.value c.ecode-code.ensures c.self.invariant.accepted).limit
-
-pub close_and_begin-requires-clause-spells : goal.close_and_begin-requires-clause-spells
-close_and_begin-requires-clause-spells g c = (sound_of (seen_in c.self.inside) c.tables-t.result.now c.ecode-code.result.now c.tables-t.ensures.value c.ecode-code.ensures c.self.invariant.accepted).spells
-
-pub close_and_begin-requires-clause-instrs : goal.close_and_begin-requires-clause-instrs
-close_and_begin-requires-clause-instrs g c = (sound_of (seen_in c.self.inside) c.tables-t.result.now c.ecode-code.result.now c.tables-t.ensures.value c.ecode-code.ensures c.self.invariant.accepted).instrs
-
-pub close_and_begin-requires-clause-code : goal.close_and_begin-requires-clause-code
-close_and_begin-requires-clause-code g c = (sound_of (seen_in c.self.inside) c.tables-t.result.now c.ecode-code.result.now c.tables-t.ensures.value c.ecode-code.ensures c.self.invariant.accepted).places
+pub close_and_begin-requires-clause-sound : goal.close_and_begin-requires-clause-sound
+close_and_begin-requires-clause-sound g c = sound_of (seen_in c.self.inside) c.tables-t.result.now c.ecode-code.result.now c.tables-t.ensures.value c.ecode-code.ensures c.self.invariant.accepted
 
 pub close_and_begin-requires-clause-over : goal.close_and_begin-requires-clause-over
 close_and_begin-requires-clause-over g c =
@@ -193,17 +172,8 @@ close_and_begin-requires-clause-begins g c =
     let q = given_begins m w.0 c.args.at _ _ _ k c.settle.new.self.values c.settle.ensures.values _ _ opened _ (c.in_default.ensures.noted.values ∙ c.settle.ensures.values) _ (c.in_default.ensures.noted.modes ∙ c.settle.ensures.modes) _ (c.in_default.ensures.writes w.0 k.follows) c.schedules-schedules.result.now _ c.schedules-schedules.ensures c.as_slice-takes.ensures b in
     (w.0, q)
 
-pub close_instant-requires-clause-form : goal.close_instant-requires-clause-form
-close_instant-requires-clause-form g c = (sound_of (seen_in c.self.inside) c.tables-t.result.now c.ecode-code.result.now c.tables-t.ensures.value c.ecode-code.ensures c.self.invariant.accepted).form
-
-pub close_instant-requires-clause-spells : goal.close_instant-requires-clause-spells
-close_instant-requires-clause-spells g c = (sound_of (seen_in c.self.inside) c.tables-t.result.now c.ecode-code.result.now c.tables-t.ensures.value c.ecode-code.ensures c.self.invariant.accepted).spells
-
-pub close_instant-requires-clause-instrs : goal.close_instant-requires-clause-instrs
-close_instant-requires-clause-instrs g c = (sound_of (seen_in c.self.inside) c.tables-t.result.now c.ecode-code.result.now c.tables-t.ensures.value c.ecode-code.ensures c.self.invariant.accepted).instrs
-
-pub close_instant-requires-clause-code : goal.close_instant-requires-clause-code
-close_instant-requires-clause-code g c = (sound_of (seen_in c.self.inside) c.tables-t.result.now c.ecode-code.result.now c.tables-t.ensures.value c.ecode-code.ensures c.self.invariant.accepted).places
+pub close_instant-requires-clause-sound : goal.close_instant-requires-clause-sound
+close_instant-requires-clause-sound g c = sound_of (seen_in c.self.inside) c.tables-t.result.now c.ecode-code.result.now c.tables-t.ensures.value c.ecode-code.ensures c.self.invariant.accepted
 
 pub close_instant-requires-clause-jobs : goal.close_instant-requires-clause-jobs
 close_instant-requires-clause-jobs g c =
