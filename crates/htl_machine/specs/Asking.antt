@@ -13,9 +13,12 @@ use Rattle.htl_ecode.specs.Spelling.{Spells}
 use Rattle.htl_emach.specs.Calendars.{Standing, list_at}
 use Rattle.htl_emach.specs.Contents.{Content}
 use Rattle.htl_emach.specs.Following.{Onward, phase_path}
+use Rattle.htl_emach.specs.Safety.{StandsSafely}
+use Rattle.htl_emach.specs.Shapes.{IsShaped}
 use Rattle.htl_machine.specs.Running.{replay}
 use Rattle.htl_machine.specs.Beginning.{IsToBegin}
 use Rattle.htl_machine.specs.Doing.{IsStarting}
+use Rattle.htl_machine.specs.Noting.{MarksChanges}
 use Rattle.htl_machine.specs.declared.numbering.ListAt.{ListAt}
 use Rattle.htl_machine.specs.declared.works.Machines.{Machines}
 
@@ -38,6 +41,15 @@ pub record IsNoted (t : Tables) (es : List Event) (at : ℕ) (values : List ℤ)
   pub few : length values ≡ length t.comms
   pub modules : length modes ≡ length t.modules
   pub noted : AreBefore t es at values modes
+
+-- of the machines, whatever they follow: the world and the triggers fit the tables; of each item something was noted, and what is another now is
+-- marked
+pub record AreFitted (t : Tables) (code : ECode) (m : Machines) : Type 0 where
+  pub shaped : IsShaped t m.works.world
+  pub safe : StandsSafely t code m.emach
+  pub few : length m.noted.values ≡ length t.comms
+  pub modules : length m.noted.modes ≡ length t.modules
+  pub marked : MarksChanges m.noted m.works.world.values m.emach.calendar.modes
 
 -- ---- of the events
 

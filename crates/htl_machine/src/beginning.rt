@@ -2,13 +2,11 @@
 ghost use Rattle.std.specs.Prelude.{◌≡◌, ◌≤◌, ◌++◌, ◌-◌, suc, List, [], length, take, false, None, Some, OnOk};
 ghost use Rattle.htl_edge.specs.Content.{Puts};
 ghost use Rattle.htl_model.specs.declared.event.Event.{Event};
-ghost use Rattle.htl_emach.specs.Shapes.{IsShaped, SensorsStay};
-ghost use Rattle.htl_emach.specs.Safety.{StandsSafely};
+ghost use Rattle.htl_emach.specs.Shapes.{SensorsStay};
 ghost use Rattle.htl_emach.specs.Following.{Onward, phase_path};
-ghost use Rattle.htl_machine.specs.Noting.{MarksChanges};
 ghost use Rattle.htl_machine.specs.Numbering.{IsPath};
 ghost use Rattle.htl_machine.specs.Running.{replay};
-ghost use Rattle.htl_machine.specs.Asking.{IsSound, AreToCloseAndBegin};
+ghost use Rattle.htl_machine.specs.Asking.{IsSound, AreFitted, AreToCloseAndBegin};
 ghost use Rattle.htl_machine.specs.Counts.{with_instrs, with_records};
 ghost use Rattle.htl_machine.specs.Follows.{DeskAt};
 ghost use Rattle.htl_machine.specs.Leaving.{due_by};
@@ -38,21 +36,15 @@ pub fn close_and_begin<W: Sink>(
 ) -> Result<(), Failed>
     requires sound { IsSound program.now.tables.now program.now.code.now }
     requires at { at ≤ 1000000000 }
-    requires shaped { IsShaped program.now.tables.now machines.old.works.world }
-    requires safe { StandsSafely program.now.tables.now program.now.code.now machines.old.emach }
+    requires fitted { AreFitted program.now.tables.now program.now.code.now machines.old }
     requires path { IsPath program.now.tables.now path.old machines.old.works.desk.jobs }
     requires over { machines.old.works.desk.running ≡ false }
-    requires few { length machines.old.noted.values ≡ length program.now.tables.now.comms }
-    requires modules { length machines.old.noted.modes ≡ length program.now.tables.now.modules }
-    requires marked { MarksChanges machines.old.noted machines.old.works.world.values machines.old.emach.calendar.modes }
     requires begins { (es : List Event) × AreToCloseAndBegin program.now.tables.now program.now.code.now (instrs_of program.now.schedules.now) es at takes.now path.old.list machines.old }
     ensures text { (es : List Event) → AreToCloseAndBegin program.now.tables.now program.now.code.now (instrs_of program.now.schedules.now) es at takes.now path.old.list machines.old → Puts (W.written sink.old) (W.written sink.new) (W.faults sink.old) (W.faults sink.new) (closing_text program.now.tables.now program.now.code.now es program.now.show at ++ beginning_text program.now.tables.now (instrs_of program.now.schedules.now) es program.now.show at) result }
     ensures counts { (es : List Event) → AreToCloseAndBegin program.now.tables.now program.now.code.now (instrs_of program.now.schedules.now) es at takes.now path.old.list machines.old → OnOk result (machines.new.works.tally ≡ with_records (first_records program.now.tables.now (instrs_of program.now.schedules.now) es at) (with_instrs (length (phase_path program.now.tables.now program.now.code.now es at 3)) (with_instrs (length (phase_path program.now.tables.now program.now.code.now es at 2)) machines.old.works.tally))) }
     ensures world { (es : List Event) → AreToCloseAndBegin program.now.tables.now program.now.code.now (instrs_of program.now.schedules.now) es at takes.now path.old.list machines.old → OnOk result (machines.new.works.world ≡ replay program.now.tables.now program.now.code.now (phase_path program.now.tables.now program.now.code.now es at 3) (replay program.now.tables.now program.now.code.now (phase_path program.now.tables.now program.now.code.now es at 2) machines.old.works.world)) }
-    ensures marked { OnOk result (MarksChanges machines.new.noted machines.new.works.world.values machines.new.emach.calendar.modes) }
+    ensures fitted { OnOk result (AreFitted program.now.tables.now program.now.code.now machines.new) }
     ensures sensors { OnOk result (SensorsStay program.now.tables.now machines.old.works.world.values machines.new.works.world.values) }
-    ensures safe { OnOk result (StandsSafely program.now.tables.now program.now.code.now machines.new.emach) }
-    ensures shaped { OnOk result (IsShaped program.now.tables.now machines.new.works.world) }
     ensures desk { (es : List Event) → AreToCloseAndBegin program.now.tables.now program.now.code.now (instrs_of program.now.schedules.now) es at takes.now path.old.list machines.old → OnOk result (let u = turn_at program.now.tables.now (instrs_of program.now.schedules.now) es at in DeskAt u.plan u.frame (due_by u.plan u.frame at) (suc at - u.frame) machines.new.works.desk) }
     ensures path { OnOk result (IsPath program.now.tables.now path.new machines.new.works.desk.jobs) }
     ensures few { path.new.count ≤ 128 }

@@ -4,13 +4,11 @@ ghost use Rattle.htl_edge.specs.Content.{Puts};
 ghost use Rattle.htl_model.specs.declared.event.Event.{Event};
 ghost use Rattle.htl_walk.specs.declared.schedule.SInstr.{SInstr as Instr};
 ghost use Rattle.htl_smach.specs.Rounds.{Stands};
-ghost use Rattle.htl_emach.specs.Shapes.{IsShaped, SensorsStay};
-ghost use Rattle.htl_emach.specs.Safety.{StandsSafely};
+ghost use Rattle.htl_emach.specs.Shapes.{SensorsStay};
 ghost use Rattle.htl_emach.specs.Following.{Onward, phase_path};
-ghost use Rattle.htl_machine.specs.Noting.{MarksChanges};
 ghost use Rattle.htl_machine.specs.Running.{replay};
 ghost use Rattle.htl_machine.specs.Readiness.{desk_replay};
-ghost use Rattle.htl_machine.specs.Asking.{IsSound, AreToRead, AreToClose};
+ghost use Rattle.htl_machine.specs.Asking.{IsSound, AreFitted, AreToRead, AreToClose};
 ghost use Rattle.htl_machine.specs.Counts.{with_instrs};
 ghost use Rattle.htl_machine.specs.Opening.{reading_text, closing_text};
 
@@ -32,20 +30,14 @@ pub fn read_instant<W: Sink>(
 ) -> Result<(), Failed>
     requires sound { IsSound program.now.tables.now program.now.code.now }
     requires at { at ≤ 1000000000 }
-    requires shaped { IsShaped program.now.tables.now machines.old.works.world }
-    requires safe { StandsSafely program.now.tables.now program.now.code.now machines.old.emach }
+    requires fitted { AreFitted program.now.tables.now program.now.code.now machines.old }
     requires jobs { machines.old.works.desk.jobs ≡ jobs.now }
-    requires few { length machines.old.noted.values ≡ length program.now.tables.now.comms }
-    requires modules { length machines.old.noted.modes ≡ length program.now.tables.now.modules }
-    requires marked { MarksChanges machines.old.noted machines.old.works.world.values machines.old.emach.calendar.modes }
     requires reads { (es : List Event) × AreToRead program.now.tables.now program.now.code.now es at machines.old }
     ensures text { (es : List Event) → AreToRead program.now.tables.now program.now.code.now es at machines.old → Puts (W.written sink.old) (W.written sink.new) (W.faults sink.old) (W.faults sink.new) (reading_text program.now.tables.now program.now.code.now es program.now.show at) result }
     ensures counts { (es : List Event) → AreToRead program.now.tables.now program.now.code.now es at machines.old → OnOk result (machines.new.works.tally ≡ with_instrs (length (phase_path program.now.tables.now program.now.code.now es at 3)) machines.old.works.tally) }
     ensures world { (es : List Event) → AreToRead program.now.tables.now program.now.code.now es at machines.old → OnOk result (machines.new.works.world ≡ replay program.now.tables.now program.now.code.now (phase_path program.now.tables.now program.now.code.now es at 3) machines.old.works.world) }
-    ensures marked { OnOk result (MarksChanges machines.new.noted machines.new.works.world.values machines.new.emach.calendar.modes) }
+    ensures fitted { OnOk result (AreFitted program.now.tables.now program.now.code.now machines.new) }
     ensures sensors { OnOk result (SensorsStay program.now.tables.now machines.old.works.world.values machines.new.works.world.values) }
-    ensures safe { OnOk result (StandsSafely program.now.tables.now program.now.code.now machines.new.emach) }
-    ensures shaped { OnOk result (IsShaped program.now.tables.now machines.new.works.world) }
     ensures desk { (es : List Event) → AreToRead program.now.tables.now program.now.code.now es at machines.old → OnOk result (machines.new.works.desk ≡ desk_replay program.now.code.now (phase_path program.now.tables.now program.now.code.now es at 3) machines.old.works.desk) }
     ensures jobs { OnOk result (machines.new.works.desk.jobs ≡ machines.old.works.desk.jobs) }
     ensures stands { OnOk result ((s : List Instr) → Stands machines.old.works.desk s → Stands machines.new.works.desk s) }
@@ -67,22 +59,16 @@ pub fn close_instant<W: Sink>(
     jobs: &[Job],
     at: Time,
 ) -> Result<(), Failed>
+    requires closes { (es : List Event) × AreToClose program.now.tables.now program.now.code.now es at machines.old }
     requires sound { IsSound program.now.tables.now program.now.code.now }
     requires at { at ≤ 1000000000 }
-    requires shaped { IsShaped program.now.tables.now machines.old.works.world }
-    requires safe { StandsSafely program.now.tables.now program.now.code.now machines.old.emach }
+    requires fitted { AreFitted program.now.tables.now program.now.code.now machines.old }
     requires jobs { machines.old.works.desk.jobs ≡ jobs.now }
-    requires few { length machines.old.noted.values ≡ length program.now.tables.now.comms }
-    requires modules { length machines.old.noted.modes ≡ length program.now.tables.now.modules }
-    requires marked { MarksChanges machines.old.noted machines.old.works.world.values machines.old.emach.calendar.modes }
-    requires closes { (es : List Event) × AreToClose program.now.tables.now program.now.code.now es at machines.old }
     ensures text { (es : List Event) → AreToClose program.now.tables.now program.now.code.now es at machines.old → Puts (W.written sink.old) (W.written sink.new) (W.faults sink.old) (W.faults sink.new) (closing_text program.now.tables.now program.now.code.now es program.now.show at) result }
     ensures counts { (es : List Event) → AreToClose program.now.tables.now program.now.code.now es at machines.old → OnOk result (machines.new.works.tally ≡ with_instrs (length (phase_path program.now.tables.now program.now.code.now es at 3)) (with_instrs (length (phase_path program.now.tables.now program.now.code.now es at 2)) machines.old.works.tally)) }
     ensures world { (es : List Event) → AreToClose program.now.tables.now program.now.code.now es at machines.old → OnOk result (machines.new.works.world ≡ replay program.now.tables.now program.now.code.now (phase_path program.now.tables.now program.now.code.now es at 3) (replay program.now.tables.now program.now.code.now (phase_path program.now.tables.now program.now.code.now es at 2) machines.old.works.world)) }
-    ensures marked { OnOk result (MarksChanges machines.new.noted machines.new.works.world.values machines.new.emach.calendar.modes) }
+    ensures fitted { OnOk result (AreFitted program.now.tables.now program.now.code.now machines.new) }
     ensures sensors { OnOk result (SensorsStay program.now.tables.now machines.old.works.world.values machines.new.works.world.values) }
-    ensures safe { OnOk result (StandsSafely program.now.tables.now program.now.code.now machines.new.emach) }
-    ensures shaped { OnOk result (IsShaped program.now.tables.now machines.new.works.world) }
     ensures desk { (es : List Event) → AreToClose program.now.tables.now program.now.code.now es at machines.old → OnOk result (machines.new.works.desk ≡ desk_replay program.now.code.now (phase_path program.now.tables.now program.now.code.now es at 3) machines.old.works.desk) }
     ensures stands { OnOk result ((s : List Instr) → Stands machines.old.works.desk s → Stands machines.new.works.desk s) }
     ensures reads { (es : List Event) → AreToClose program.now.tables.now program.now.code.now es at machines.old → OnOk result (Onward program.now.tables.now program.now.code.now es at 3 machines.new.emach (phase_path program.now.tables.now program.now.code.now es at 3) [] None) }

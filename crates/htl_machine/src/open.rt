@@ -1,14 +1,13 @@
 // The first part of an instant: records, writes and sensors.
 ghost use Rattle.std.specs.Prelude.{◌≡◌, ◌≤◌, List, [], length, true, false, None, OnOk};
 ghost use Rattle.htl_model.specs.declared.event.Event.{Event};
-ghost use Rattle.htl_emach.specs.Shapes.{HasValues, IsShaped};
-ghost use Rattle.htl_emach.specs.Safety.{StandsSafely};
+ghost use Rattle.htl_emach.specs.Shapes.{HasValues};
 ghost use Rattle.htl_emach.specs.Following.{FollowsCode, Onward, phase_path};
 ghost use Rattle.htl_smach.specs.Rounds.{Stands, IsInForm, IsTold};
-ghost use Rattle.htl_machine.specs.Asking.{IsSound};
+ghost use Rattle.htl_machine.specs.Asking.{IsSound, AreFitted};
 ghost use Rattle.htl_machine.specs.Recording.{AreOf};
 ghost use Rattle.htl_machine.specs.Opening.{Opens, AreCounted, IsOpened, IsOpenedIdle};
-ghost use Rattle.htl_machine.specs.Noting.{MarksChanges, KeepsNoted};
+ghost use Rattle.htl_machine.specs.Noting.{KeepsNoted};
 ghost use Rattle.htl_machine.specs.Waiting.{MarksWaiting};
 ghost use Rattle.htl_machine.specs.Doing.{path_lines};
 ghost use Rattle.htl_edge.specs.Content.{Puts};
@@ -32,8 +31,7 @@ pub fn open_instant<W: Sink>(
 ) -> Result<(), Failed>
     requires sound { IsSound program.now.tables.now program.now.code.now }
     requires at { at ≤ 1000000000 }
-    requires shaped { IsShaped program.now.tables.now machines.old.works.world }
-    requires safe { StandsSafely program.now.tables.now program.now.code.now machines.old.emach }
+    requires fitted { AreFitted program.now.tables.now program.now.code.now machines.old }
     requires jobs { machines.old.works.desk.jobs ≡ list.now.jobs.now }
     requires of { AreOf program.now.tables.now list.now.jobs.now }
     requires round { machines.old.works.desk.running ≡ true → IsInForm machines.old.works.desk list.now.schedule.now.instrs }
@@ -43,7 +41,6 @@ pub fn open_instant<W: Sink>(
     requires shows { HasValues program.now.tables.now sensors.old.shows }
     requires values { HasValues program.now.tables.now machines.old.noted.values }
     requires before { machines.old.noted.values ≡ machines.old.works.world.values }
-    requires marked { MarksChanges machines.old.noted machines.old.works.world.values machines.old.emach.calendar.modes }
     requires waiting { MarksWaiting program.now.tables.now sensors.old machines.old.works.world.values }
     requires follows { (es : List Event) × FollowsCode program.now.tables.now program.now.code.now es at machines.old.emach }
     ensures text { (es : List Event) → FollowsCode program.now.tables.now program.now.code.now es at machines.old.emach → Opens program.now.tables.now program.now.code.now es program.now.show list.now.node machines.old.works.desk list.now.schedule.now.instrs at (W.written sink.old) (W.written sink.new) (W.faults sink.old) (W.faults sink.new) result }
@@ -53,10 +50,8 @@ pub fn open_instant<W: Sink>(
     ensures idle { (es : List Event) → FollowsCode program.now.tables.now program.now.code.now es at machines.old.emach → OnOk result (machines.old.works.desk.running ≡ false → IsOpenedIdle program.now.tables.now program.now.code.now es at sensors.old.shows machines.old.noted.values machines.old.works.desk machines.old.works.world machines.old.works.tally machines.new.works.desk machines.new.works.world machines.new.works.tally) }
     ensures shows { sensors.new.shows ≡ sensors.old.shows }
     ensures waiting { OnOk result (MarksWaiting program.now.tables.now sensors.new machines.new.works.world.values) }
-    ensures marked { OnOk result (MarksChanges machines.new.noted machines.new.works.world.values machines.new.emach.calendar.modes) }
+    ensures fitted { OnOk result (AreFitted program.now.tables.now program.now.code.now machines.new) }
     ensures noted { OnOk result (KeepsNoted machines.old.noted machines.new.noted) }
-    ensures safe { OnOk result (StandsSafely program.now.tables.now program.now.code.now machines.new.emach) }
-    ensures shaped { OnOk result (IsShaped program.now.tables.now machines.new.works.world) }
     ensures jobs { OnOk result (machines.new.works.desk.jobs ≡ machines.old.works.desk.jobs) }
     ensures stands { OnOk result (Stands machines.new.works.desk list.now.schedule.now.instrs) }
     ensures writes { (es : List Event) → FollowsCode program.now.tables.now program.now.code.now es at machines.old.emach → OnOk result (Onward program.now.tables.now program.now.code.now es at 1 machines.new.emach (phase_path program.now.tables.now program.now.code.now es at 1) [] None) }

@@ -4,15 +4,14 @@ ghost use Rattle.htl_edge.specs.Content.{Puts};
 ghost use Rattle.htl_model.specs.declared.event.Event.{Event};
 ghost use Rattle.htl_walk.specs.declared.schedule.SInstr.{SInstr as Instr};
 ghost use Rattle.htl_smach.specs.Rounds.{Stands};
-ghost use Rattle.htl_emach.specs.Shapes.{IsShaped, SensorsStay};
-ghost use Rattle.htl_emach.specs.Safety.{StandsSafely};
+ghost use Rattle.htl_emach.specs.Shapes.{SensorsStay};
 ghost use Rattle.htl_emach.specs.Following.{Onward, phase_path};
-ghost use Rattle.htl_machine.specs.Asking.{IsSound, AreStarting};
+ghost use Rattle.htl_machine.specs.Asking.{IsSound, AreFitted, AreStarting};
 ghost use Rattle.htl_machine.specs.Running.{replay};
 ghost use Rattle.htl_machine.specs.Counts.{with_instrs};
 ghost use Rattle.htl_machine.specs.Readiness.{desk_does};
 ghost use Rattle.htl_machine.specs.Doing.{instr_lines, path_lines, told_in_phase};
-ghost use Rattle.htl_machine.specs.Noting.{MarksChanges, KeepsNoted};
+ghost use Rattle.htl_machine.specs.Noting.{KeepsNoted};
 
 use crate::lengths::position;
 use crate::works::{Machines, Program};
@@ -84,21 +83,17 @@ pub fn do_instrs<W: Sink>(
     requires sound { IsSound program.now.tables.now program.now.code.now }
     requires phase { (1 ≤ phase) × (phase ≤ 3) }
     requires at { at ≤ 1000000000 }
-    requires shaped { IsShaped program.now.tables.now machines.old.works.world }
+    requires fitted { AreFitted program.now.tables.now program.now.code.now machines.old }
     requires jobs { machines.old.works.desk.jobs ≡ jobs.now }
-    requires safe { StandsSafely program.now.tables.now program.now.code.now machines.old.emach }
-    requires marked { MarksChanges machines.old.noted machines.old.works.world.values machines.old.emach.calendar.modes }
     requires starts { (es : List Event) × AreStarting program.now.tables.now program.now.code.now es at phase machines.old }
     ensures text { (es : List Event) → AreStarting program.now.tables.now program.now.code.now es at phase machines.old → Puts (W.written sink.old) (W.written sink.new) (W.faults sink.old) (W.faults sink.new) (path_lines program.now.tables.now program.now.code.now program.now.show at (phase_path program.now.tables.now program.now.code.now es at phase)) result }
     ensures counts { (es : List Event) → AreStarting program.now.tables.now program.now.code.now es at phase machines.old → OnOk result (machines.new.works.tally ≡ with_instrs (length (phase_path program.now.tables.now program.now.code.now es at phase)) machines.old.works.tally) }
     ensures desk { (es : List Event) → AreStarting program.now.tables.now program.now.code.now es at phase machines.old → OnOk result (machines.new.works.desk ≡ told_in_phase phase program.now.code.now (phase_path program.now.tables.now program.now.code.now es at phase) machines.old.works.desk) }
     ensures jobs { OnOk result (machines.new.works.desk.jobs ≡ machines.old.works.desk.jobs) }
     ensures stands { OnOk result ((s : List Instr) → Stands machines.old.works.desk s → Stands machines.new.works.desk s) }
-    ensures safe { OnOk result (StandsSafely program.now.tables.now program.now.code.now machines.new.emach) }
-    ensures shaped { OnOk result (IsShaped program.now.tables.now machines.new.works.world) }
+    ensures fitted { OnOk result (AreFitted program.now.tables.now program.now.code.now machines.new) }
     ensures world { (es : List Event) → AreStarting program.now.tables.now program.now.code.now es at phase machines.old → OnOk result (machines.new.works.world ≡ replay program.now.tables.now program.now.code.now (phase_path program.now.tables.now program.now.code.now es at phase) machines.old.works.world) }
     ensures values { OnOk result (phase ≡ 2 → machines.new.works.world.values ≡ machines.old.works.world.values) }
-    ensures marked { OnOk result (MarksChanges machines.new.noted machines.new.works.world.values machines.new.emach.calendar.modes) }
     ensures noted { OnOk result (KeepsNoted machines.old.noted machines.new.noted) }
     ensures sensors { OnOk result (SensorsStay program.now.tables.now machines.old.works.world.values machines.new.works.world.values) }
     ensures ends { (es : List Event) → AreStarting program.now.tables.now program.now.code.now es at phase machines.old → OnOk result (Onward program.now.tables.now program.now.code.now es at phase machines.new.emach (phase_path program.now.tables.now program.now.code.now es at phase) [] None) }

@@ -180,16 +180,6 @@ returns-clause-sensors g c =
     (sensors_then c.args.program.now.tables.now c.args.machines.now.works.world.values c.do_instrs.new.machines.works.world.values c.read_instant.new.machines.works.world.values c.in_default.ensures.sensors c.in_default-read_instant.ensures.sensors)
     (sensors_same c.args.program.now.tables.now c.read_instant.new.machines.works.world.values c.tell_records.new.works.world.values c.in_default-tell_records.ensures.values)
 
-pub returns-clause-marked : goal.returns-clause-marked
-returns-clause-marked g c =
-    subst (λ vs. MarksChanges c.read_instant.new.machines.noted vs c.read_instant.new.machines.emach.calendar.modes) (sym c.in_default-tell_records.ensures.values) c.in_default-read_instant.ensures.marked
-
-pub returns-clause-safe : goal.returns-clause-safe
-returns-clause-safe g c = c.in_default-read_instant.ensures.safe
-
-pub returns-clause-shaped : goal.returns-clause-shaped
-returns-clause-shaped g c = c.in_default-tell_records.ensures.shaped
-
 pub returns-clause-path : goal.returns-clause-path
 returns-clause-path g c =
     subst (IsPath c.args.program.now.tables.now c.begin.new.self) (sym (c.in_default-tell_records.ensures.jobs ∙ c.in_default-read_instant.ensures.jobs)) c.begin.ensures.path
@@ -228,5 +218,13 @@ read_instant-requires-clause-jobs g c = sym (c.jobs-2.ensures ∙ c.begin.ensure
 pub tell_records-requires-clause-jobs : goal.tell_records-requires-clause-jobs
 tell_records-requires-clause-jobs g c = c.in_default-read_instant.ensures.jobs ∙ sym (c.jobs-3.ensures ∙ c.begin.ensures.path.are)
 
-pub tell_records-requires-clause-shaped : goal.tell_records-requires-clause-shaped
-tell_records-requires-clause-shaped g c = c.in_default-read_instant.ensures.shaped
+pub returns-clause-fitted : goal.returns-clause-fitted
+returns-clause-fitted g c =
+    let read = c.in_default-read_instant.ensures.fitted in
+    record {
+      shaped = c.in_default-tell_records.ensures.shaped;
+      safe = read.safe;
+      few = read.few;
+      modules = read.modules;
+      marked = subst (λ vs. MarksChanges c.read_instant.new.machines.noted vs c.read_instant.new.machines.emach.calendar.modes) (sym c.in_default-tell_records.ensures.values) read.marked;
+    }

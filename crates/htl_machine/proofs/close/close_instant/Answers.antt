@@ -53,12 +53,6 @@ returns-clause-reads g c = λ es q.
     let r = closes_noted c.args.program.now.tables.now c.args.program.now.code.now es c.args.at c.args.machines.now.emach c.do_instrs.new.machines.emach c.args.machines.now.works.world c.do_instrs.new.machines.works.world c.args.machines.now.noted c.do_instrs.new.machines.noted c.in_default.ensures.noted q (c.in_default.ensures.ends es s) (c.in_default.ensures.world es s) in
     c.read_instant.ensures.reads es r
 
-pub read_instant-requires-clause-few : goal.read_instant-requires-clause-few
-read_instant-requires-clause-few g c = ap length c.in_default.ensures.noted.values ∙ c.requires.few
-
-pub read_instant-requires-clause-modules : goal.read_instant-requires-clause-modules
-read_instant-requires-clause-modules g c = ap length c.in_default.ensures.noted.modes ∙ c.requires.modules
-
 pub returns-clause-sensors : goal.returns-clause-sensors
 returns-clause-sensors g c =
     on_ok_weaker c.read_instant.result (λ z. sensors_then c.args.program.now.tables.now c.args.machines.now.works.world.values c.do_instrs.new.machines.works.world.values c.read_instant.new.machines.works.world.values c.in_default.ensures.sensors z) c.read_instant.ensures.sensors
@@ -66,14 +60,8 @@ returns-clause-sensors g c =
 pub read_instant-requires-clause-jobs : goal.read_instant-requires-clause-jobs
 read_instant-requires-clause-jobs g c = c.in_default.ensures.jobs ∙ c.requires.jobs
 
-pub returns-clause-marked : goal.returns-clause-marked
-returns-clause-marked g c = c.read_instant.ensures.marked
-
-pub returns-clause-safe : goal.returns-clause-safe
-returns-clause-safe g c = c.read_instant.ensures.safe
-
-pub returns-clause-shaped : goal.returns-clause-shaped
-returns-clause-shaped g c = c.read_instant.ensures.shaped
+pub returns-clause-fitted : goal.returns-clause-fitted
+returns-clause-fitted g c = c.read_instant.ensures.fitted
 
 pub returns-clause-stands : goal.returns-clause-stands
 returns-clause-stands g c = on_ok_weaker c.read_instant.result (λ z s h. z s (c.in_default.ensures.stands s h)) c.read_instant.ensures.stands

@@ -47,23 +47,11 @@ returns-clause-reads g c = λ es q.
     let s = reads_start c.args.program.now.tables.now c.args.program.now.code.now es c.args.at c.args.machines.now.emach c.args.machines.now.works.world q.switches in
     on_ok_weaker c.put_changes.result (λ _. c.in_default.ensures.ends es s) c.put_changes.ensures.whole
 
-pub put_changes-requires-clause-values : goal.put_changes-requires-clause-values
-put_changes-requires-clause-values g c = ap length c.in_default.ensures.noted.values ∙ c.requires.few
-
-pub put_changes-requires-clause-modes : goal.put_changes-requires-clause-modes
-put_changes-requires-clause-modes g c = ap length c.in_default.ensures.noted.modes ∙ c.requires.modules
-
-pub returns-clause-marked : goal.returns-clause-marked
-returns-clause-marked g c = on_ok_weaker c.put_changes.result (λ _. c.in_default.ensures.marked) c.put_changes.ensures.whole
+pub returns-clause-fitted : goal.returns-clause-fitted
+returns-clause-fitted g c = on_ok_weaker c.put_changes.result (λ _. c.in_default.ensures.fitted) c.put_changes.ensures.whole
 
 pub returns-clause-sensors : goal.returns-clause-sensors
 returns-clause-sensors g c = on_ok_weaker c.put_changes.result (λ _. c.in_default.ensures.sensors) c.put_changes.ensures.whole
-
-pub returns-clause-safe : goal.returns-clause-safe
-returns-clause-safe g c = on_ok_weaker c.put_changes.result (λ _. c.in_default.ensures.safe) c.put_changes.ensures.whole
-
-pub returns-clause-shaped : goal.returns-clause-shaped
-returns-clause-shaped g c = on_ok_weaker c.put_changes.result (λ _. c.in_default.ensures.shaped) c.put_changes.ensures.whole
 
 pub returns-clause-jobs : goal.returns-clause-jobs
 returns-clause-jobs g c = on_ok_weaker c.put_changes.result (λ _. c.in_default.ensures.jobs) c.put_changes.ensures.whole

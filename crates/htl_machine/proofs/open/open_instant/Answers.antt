@@ -18,12 +18,17 @@ do_instrs-requires-clause-starts g c =
     let w = c.requires.follows in
     (w.0, writes_start c.args.program.now.tables.now c.args.program.now.code.now w.0 c.args.at c.args.machines.now.emach c.tell_records.new.works.world w.1)
 
-pub do_instrs-requires-clause-marked : goal.do_instrs-requires-clause-marked
-do_instrs-requires-clause-marked g c =
-    subst (λ (xs : List ℤ). MarksChanges c.args.machines.now.noted xs c.args.machines.now.emach.calendar.modes) (sym c.in_default.ensures.values) c.requires.marked
+pub do_instrs-requires-clause-fitted : goal.do_instrs-requires-clause-fitted
+do_instrs-requires-clause-fitted g c = record {
+  shaped = c.in_default.ensures.shaped;
+  safe = c.requires.fitted.safe;
+  few = c.requires.fitted.few;
+  modules = c.requires.fitted.modules;
+  marked = subst (λ (xs : List ℤ). MarksChanges c.args.machines.now.noted xs c.args.machines.now.emach.calendar.modes) (sym c.in_default.ensures.values) c.requires.fitted.marked;
+}
 
 pub show-requires-clause-values : goal.show-requires-clause-values
-show-requires-clause-values g c = c.in_default-do_instrs.ensures.shaped.values.count
+show-requires-clause-values g c = c.in_default-do_instrs.ensures.fitted.shaped.values.count
 
 pub show-requires-clause-shows : goal.show-requires-clause-shows
 show-requires-clause-shows g c = c.requires.shows.count
@@ -38,9 +43,6 @@ show-requires-clause-before g c =
     let kept = c.in_default-do_instrs.ensures.noted.values ∙ c.requires.before in
     sensors_then c.args.program.now.tables.now c.do_instrs.new.machines.noted.values c.tell_records.new.works.world.values c.do_instrs.new.machines.works.world.values
     (sensors_same c.args.program.now.tables.now c.do_instrs.new.machines.noted.values c.tell_records.new.works.world.values (c.in_default.ensures.values ∙ sym kept)) c.in_default-do_instrs.ensures.sensors
-
-pub returns-clause-marked : goal.returns-clause-marked
-returns-clause-marked g c = c.show.ensures.marked c.do_instrs.new.machines.emach.calendar.modes c.in_default-do_instrs.ensures.marked
 
 pub returns-clause-noted : goal.returns-clause-noted
 returns-clause-noted g c =
@@ -66,10 +68,6 @@ returns-clause-world g c = λ es q.
     let starts = writes_start c.args.program.now.tables.now c.args.program.now.code.now es c.args.at c.args.machines.now.emach c.tell_records.new.works.world q in
     opened c.args.program.now.tables.now c.args.program.now.code.now es c.args.at c.args.list.now.schedule.now.instrs c.args.sensors.now.shows c.args.machines.now.noted.values c.args.machines.now.works.desk c.tell_records.new.works.desk c.do_instrs.new.machines.works.desk c.args.machines.now.works.world c.tell_records.new.works.world c.do_instrs.new.machines.works.world c.show.new.world
     c.in_default.ensures.records (c.in_default-do_instrs.ensures.desk es starts) (c.in_default-do_instrs.ensures.world es starts) (subst (λ (xs : List ℤ). AreShown c.args.program.now.tables.now c.args.sensors.now.shows xs c.args.at c.do_instrs.new.machines.works.world c.show.new.world) c.in_default-do_instrs.ensures.noted.values c.show.ensures.shown)
-
-pub returns-clause-shaped : goal.returns-clause-shaped
-returns-clause-shaped g c =
-    sensors_shaped c.args.program.now.tables.now c.args.sensors.now.shows c.args.machines.now.noted.values c.args.at c.do_instrs.new.machines.works.world c.show.new.world c.requires.shows c.requires.values c.in_default-do_instrs.ensures.shaped (subst (λ (xs : List ℤ). AreShown c.args.program.now.tables.now c.args.sensors.now.shows xs c.args.at c.do_instrs.new.machines.works.world c.show.new.world) c.in_default-do_instrs.ensures.noted.values c.show.ensures.shown)
 
 pub returns-clause-counts : goal.returns-clause-counts
 returns-clause-counts g c = λ es q p s k d same past few was.
@@ -110,9 +108,6 @@ returns-clause-writes g c = λ es q.
 pub do_instrs-requires-clause-jobs : goal.do_instrs-requires-clause-jobs
 do_instrs-requires-clause-jobs g c = c.in_default.ensures.jobs ∙ c.requires.jobs
 
-pub returns-clause-safe : goal.returns-clause-safe
-returns-clause-safe g c = c.in_default-do_instrs.ensures.safe
-
 pub returns-clause-jobs : goal.returns-clause-jobs
 returns-clause-jobs g c = c.in_default-do_instrs.ensures.jobs ∙ c.in_default.ensures.jobs
 
@@ -124,3 +119,14 @@ returns-clause-shows g c = c.show.ensures.shows
 
 pub returns-clause-waiting : goal.returns-clause-waiting
 returns-clause-waiting g c = c.show.ensures.waiting
+
+pub returns-clause-fitted : goal.returns-clause-fitted
+returns-clause-fitted g c =
+    let done = c.in_default-do_instrs.ensures.fitted in
+    record {
+      shaped = sensors_shaped c.args.program.now.tables.now c.args.sensors.now.shows c.args.machines.now.noted.values c.args.at c.do_instrs.new.machines.works.world c.show.new.world c.requires.shows c.requires.values c.in_default-do_instrs.ensures.fitted.shaped (subst (λ (xs : List ℤ). AreShown c.args.program.now.tables.now c.args.sensors.now.shows xs c.args.at c.do_instrs.new.machines.works.world c.show.new.world) c.in_default-do_instrs.ensures.noted.values c.show.ensures.shown);
+      safe = done.safe;
+      few = ap length c.show.ensures.kept.values ∙ done.few;
+      modules = ap length c.show.ensures.kept.modes ∙ done.modules;
+      marked = c.show.ensures.marked c.do_instrs.new.machines.emach.calendar.modes done.marked;
+    }

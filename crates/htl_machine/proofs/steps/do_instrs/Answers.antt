@@ -8,13 +8,13 @@ use Rattle.htl_machine.proofs.steps.do_instrs.Goals as goal
 
 pub loop-done-init : goal.loop-done-init
 loop-done-init g c = record {
-  doing = λ es s. doing_start c.args.program.now.tables.now c.args.program.now.code.now es c.args.at c.args.phase c.args.program.now.show c.args.machines.now.emach c.args.machines.now.works.world c.args.machines.now.works.desk _ _ _ (midway_start c.args.program.now.tables.now c.args.program.now.code.now es c.args.at c.args.phase c.args.machines.now.emach s.idle s.calendar) c.requires.safe c.requires.shaped;
-  safe = c.requires.safe;
-  shaped = c.requires.shaped;
+  doing = λ es s. doing_start c.args.program.now.tables.now c.args.program.now.code.now es c.args.at c.args.phase c.args.program.now.show c.args.machines.now.emach c.args.machines.now.works.world c.args.machines.now.works.desk _ _ _ (midway_start c.args.program.now.tables.now c.args.program.now.code.now es c.args.at c.args.phase c.args.machines.now.emach s.idle s.calendar) c.requires.fitted.safe c.requires.fitted.shaped;
+  safe = c.requires.fitted.safe;
+  shaped = c.requires.fitted.shaped;
   values = λ two. refl;
   stands = λ s st. st;
   jobs = refl;
-  marked = c.requires.marked;
+  marked = c.requires.fitted.marked;
   noted_stays = record { values = refl; modes = refl };
   sensors = λ k x at is. refl;
 }

@@ -40,8 +40,18 @@ settle-requires-clause-modules g c =
 pub settle-requires-clause-marked : goal.settle-requires-clause-marked
 settle-requires-clause-marked g c = c.self.invariant.marked (ap (λ (z : Seen). z.held.spent) c.self.view_is ∙ c.requires.before.1.kept.fresh)
 
-pub open_instant-requires-clause-marked : goal.open_instant-requires-clause-marked
-open_instant-requires-clause-marked g c = noted_marks c.settle.new.self _ _ c.settle.ensures.values c.settle.ensures.modes
+pub open_instant-requires-clause-fitted : goal.open_instant-requires-clause-fitted
+open_instant-requires-clause-fitted g c =
+    let w = c.requires.before in
+    let u = subst (λ (z : Seen). IsUpTo z w.0 c.args.at) (sym c.self.view_is) w.1 in
+    let noted = noted_of (seen_in c.self.inside) w.0 c.args.at c.tables-t.result.now _ _ u c.tables-t.ensures.value c.settle.ensures.values c.settle.ensures.modes in
+    record {
+      shaped = rw c.tables-t.ensures.value u.before.values.shaped;
+      safe = rw (c.tables-t.ensures.value, c.ecode-code.ensures) u.before.values.safe;
+      few = noted.few;
+      modules = noted.modules;
+      marked = noted_marks c.settle.new.self _ _ c.settle.ensures.values c.settle.ensures.modes;
+    }
 
 pub open_instant-requires-clause-waiting : goal.open_instant-requires-clause-waiting
 open_instant-requires-clause-waiting g c = waiting_at c.tables-t.result.now c.self.inside.loaded.now.tables c.self.inside.sensors _ c.tables-t.ensures.value (c.self.invariant.waiting (ap (λ (z : Seen). z.held.spent) c.self.view_is ∙ c.requires.before.1.kept.fresh))
@@ -53,18 +63,6 @@ schedule-requires g c =
 
 pub open_instant-requires-clause-sound : goal.open_instant-requires-clause-sound
 open_instant-requires-clause-sound g c = sound_of (seen_in c.self.inside) c.tables-t.result.now c.ecode-code.result.now c.tables-t.ensures.value c.ecode-code.ensures c.self.invariant.accepted
-
-pub open_instant-requires-clause-shaped : goal.open_instant-requires-clause-shaped
-open_instant-requires-clause-shaped g c =
-    let w = c.requires.before in
-    let u = subst (λ (z : Seen). IsUpTo z w.0 c.args.at) (sym c.self.view_is) w.1 in
-    rw c.tables-t.ensures.value u.before.values.shaped
-
-pub open_instant-requires-clause-safe : goal.open_instant-requires-clause-safe
-open_instant-requires-clause-safe g c =
-    let w = c.requires.before in
-    let u = subst (λ (z : Seen). IsUpTo z w.0 c.args.at) (sym c.self.view_is) w.1 in
-    rw (c.tables-t.ensures.value, c.ecode-code.ensures) u.before.values.safe
 
 pub open_instant-requires-clause-jobs : goal.open_instant-requires-clause-jobs
 open_instant-requires-clause-jobs g c =
@@ -150,18 +148,6 @@ close_and_begin-requires-clause-path g c =
     let fresh = ap (λ (z : Seen). z.held.spent) c.self.view_is ∙ c.requires.before.1.kept.fresh in
     subst (λ t. IsPath t c.self.inside.path c.open_instant.new.machines.works.desk.jobs) (sym c.tables-t.ensures.value) (subst (IsPath c.self.inside.loaded.now.tables c.self.inside.path) (sym c.in_default.ensures.jobs) (c.self.invariant.stands fresh))
 
-pub close_and_begin-requires-clause-few : goal.close_and_begin-requires-clause-few
-close_and_begin-requires-clause-few g c =
-    let w = c.requires.before in
-    let u = subst (λ (z : Seen). IsUpTo z w.0 c.args.at) (sym c.self.view_is) w.1 in
-    (noted_of (seen_in c.self.inside) w.0 c.args.at c.tables-t.result.now _ _ u c.tables-t.ensures.value (c.in_default.ensures.noted.values ∙ c.settle.ensures.values) (c.in_default.ensures.noted.modes ∙ c.settle.ensures.modes)).few
-
-pub close_and_begin-requires-clause-modules : goal.close_and_begin-requires-clause-modules
-close_and_begin-requires-clause-modules g c =
-    let w = c.requires.before in
-    let u = subst (λ (z : Seen). IsUpTo z w.0 c.args.at) (sym c.self.view_is) w.1 in
-    (noted_of (seen_in c.self.inside) w.0 c.args.at c.tables-t.result.now _ _ u c.tables-t.ensures.value (c.in_default.ensures.noted.values ∙ c.settle.ensures.values) (c.in_default.ensures.noted.modes ∙ c.settle.ensures.modes)).modules
-
 pub close_and_begin-requires-clause-begins : goal.close_and_begin-requires-clause-begins
 close_and_begin-requires-clause-begins g c =
     let w = c.requires.before in
@@ -179,18 +165,6 @@ pub close_instant-requires-clause-jobs : goal.close_instant-requires-clause-jobs
 close_instant-requires-clause-jobs g c =
     let fresh = ap (λ (z : Seen). z.held.spent) c.self.view_is ∙ c.requires.before.1.kept.fresh in
     c.in_default.ensures.jobs ∙ sym (c.jobs-else-round_begins.ensures ∙ (c.self.invariant.stands fresh).are)
-
-pub close_instant-requires-clause-few : goal.close_instant-requires-clause-few
-close_instant-requires-clause-few g c =
-    let w = c.requires.before in
-    let u = subst (λ (z : Seen). IsUpTo z w.0 c.args.at) (sym c.self.view_is) w.1 in
-    (noted_of (seen_in c.self.inside) w.0 c.args.at c.tables-t.result.now _ _ u c.tables-t.ensures.value (c.in_default.ensures.noted.values ∙ c.settle.ensures.values) (c.in_default.ensures.noted.modes ∙ c.settle.ensures.modes)).few
-
-pub close_instant-requires-clause-modules : goal.close_instant-requires-clause-modules
-close_instant-requires-clause-modules g c =
-    let w = c.requires.before in
-    let u = subst (λ (z : Seen). IsUpTo z w.0 c.args.at) (sym c.self.view_is) w.1 in
-    (noted_of (seen_in c.self.inside) w.0 c.args.at c.tables-t.result.now _ _ u c.tables-t.ensures.value (c.in_default.ensures.noted.values ∙ c.settle.ensures.values) (c.in_default.ensures.noted.modes ∙ c.settle.ensures.modes)).modules
 
 pub close_instant-requires-clause-closes : goal.close_instant-requires-clause-closes
 close_instant-requires-clause-closes g c =
@@ -230,7 +204,7 @@ invariant_of-self-in_default-close_instant g c =
       stands = λ free.
           subst (IsPath m.object.tables c.self.inside.path)
           (sym (ap (λ (z : Round). z.jobs) desk ∙ (replay_only c.ecode-code.result.now (phase_path c.tables-t.result.now c.ecode-code.result.now w.0 c.args.at 3) c.open_instant.new.machines.works.desk).0 ∙ c.in_default.ensures.jobs)) (kept.stands free);
-      marked = λ free. c.in_default-close_instant.ensures.marked;
+      marked = λ free. c.in_default-close_instant.ensures.fitted.marked;
       waiting = λ free.
           waiting_at m.object.tables c.tables-t.result.now c.open_instant.new.sensors c.close_instant.new.machines.works.world.values (sym c.tables-t.ensures.value)
           (waiting_stays c.tables-t.result.now c.open_instant.new.sensors c.open_instant.new.machines.works.world.values c.close_instant.new.machines.works.world.values c.in_default.ensures.waiting c.in_default-close_instant.ensures.sensors);
@@ -253,7 +227,7 @@ invariant_of-self-in_default-close_and_begin g c =
       all_takes = kept.all_takes;
       few = c.in_default-close_and_begin.ensures.few;
       stands = λ free. subst (λ t. IsPath t c.close_and_begin.new.path c.close_and_begin.new.machines.works.desk.jobs) c.tables-t.ensures.value c.in_default-close_and_begin.ensures.path;
-      marked = λ free. c.in_default-close_and_begin.ensures.marked;
+      marked = λ free. c.in_default-close_and_begin.ensures.fitted.marked;
       waiting = λ free.
           waiting_at m.object.tables c.tables-t.result.now c.open_instant.new.sensors c.close_and_begin.new.machines.works.world.values (sym c.tables-t.ensures.value)
           (waiting_stays c.tables-t.result.now c.open_instant.new.sensors c.open_instant.new.machines.works.world.values c.close_and_begin.new.machines.works.world.values c.in_default.ensures.waiting c.in_default-close_and_begin.ensures.sensors);
@@ -283,8 +257,8 @@ returns-in_default-close_and_begin-clause-before g c = λ es before.
     let counts = rw (c.tables-t.ensures.value, c.ecode-code.ensures, c.schedule.ensures, c.schedules-schedules.ensures) at (c.in_default.ensures.counts es k.follows) in
     let more = counts_at m.object es c.args.at c.tables-t.result.now c.ecode-code.result.now c.schedules-schedules.result.now c.close_and_begin.new.machines.works.tally c.open_instant.new.machines.works.tally c.tables-t.ensures.value c.ecode-code.ensures c.schedules-schedules.ensures (c.in_default-close_and_begin.ensures.counts es q) in
     let world = rw (c.tables-t.ensures.value, c.ecode-code.ensures) at (c.in_default-close_and_begin.ensures.world es q) in
-    let safe = rw (c.tables-t.ensures.value, c.ecode-code.ensures) at c.in_default-close_and_begin.ensures.safe in
-    let shaped = rw c.tables-t.ensures.value at c.in_default-close_and_begin.ensures.shaped in
+    let safe = rw (c.tables-t.ensures.value, c.ecode-code.ensures) at c.in_default-close_and_begin.ensures.fitted.safe in
+    let shaped = rw c.tables-t.ensures.value at c.in_default-close_and_begin.ensures.fitted.shaped in
     let reads = rw (c.tables-t.ensures.value, c.ecode-code.ensures) at (c.in_default-close_and_begin.ensures.reads es q) in
     let desk = begun_at m.object es c.args.at c.tables-t.result.now c.schedules-schedules.result.now c.close_and_begin.new.machines.works.desk c.tables-t.ensures.value c.schedules-schedules.ensures (c.in_default-close_and_begin.ensures.desk es q) in
     let stood = stood_at m.object es c.args.at c.tables-t.result.now c.schedules-schedules.result.now c.close_and_begin.new.path.list c.tables-t.ensures.value c.schedules-schedules.ensures (c.in_default-close_and_begin.ensures.list es q) in
@@ -331,8 +305,8 @@ returns-in_default-close_instant-clause-before g c = λ es before.
     let counts = rw (c.tables-t.ensures.value, c.ecode-code.ensures, c.schedule.ensures, c.schedules-schedules.ensures) at (c.in_default.ensures.counts es k.follows) in
     let more = rw (c.tables-t.ensures.value, c.ecode-code.ensures) at (c.in_default-close_instant.ensures.counts es q) in
     let world = rw (c.tables-t.ensures.value, c.ecode-code.ensures) at (c.in_default-close_instant.ensures.world es q) in
-    let safe = rw (c.tables-t.ensures.value, c.ecode-code.ensures) at c.in_default-close_instant.ensures.safe in
-    let shaped = rw c.tables-t.ensures.value at c.in_default-close_instant.ensures.shaped in
+    let safe = rw (c.tables-t.ensures.value, c.ecode-code.ensures) at c.in_default-close_instant.ensures.fitted.safe in
+    let shaped = rw c.tables-t.ensures.value at c.in_default-close_instant.ensures.fitted.shaped in
     let reads = rw (c.tables-t.ensures.value, c.ecode-code.ensures) at (c.in_default-close_instant.ensures.reads es q) in
     let desk = rw (c.tables-t.ensures.value, c.ecode-code.ensures) at (c.in_default-close_instant.ensures.desk es q) in
     let stands = c.in_default-close_instant.ensures.stands _ (rw (c.schedule.ensures, c.schedules-schedules.ensures) at c.in_default.ensures.stands) in
