@@ -1,7 +1,8 @@
-use Rattle.std.proofs.Common.{◌∙◌, sym, ap, arith, subst, length, map, List}
+use Rattle.std.proofs.Common.{◌≡◌, ◌∙◌, None, sym, ap, arith, subst, length, map, List}
 use Rattle.htl_text.specs.Nodes.{tree_of}
 use Rattle.htl_names.specs.declared.limits.Excess.{Excess}
 use Rattle.htl_names.specs.NameRules.{ProgramTree, ParentName, Limits}
+use Rattle.htl_names.specs.Told.{KeptBelow, IsSearched}
 use Rattle.htl_names.specs.Graph.{graph_by}
 use Rattle.htl_names.specs.Named.{CountsNamings, AreRefined}
 use Rattle.htl_names.specs.Programs.{IsFirstMisplaced, Naming, program_naming}
@@ -10,6 +11,7 @@ use Rattle.htl_names.proofs.RuleLaws.{parents_searched, tree_searched, limits_se
 use Rattle.htl_names.proofs.Walking.{length-map_at}
 use Rattle.htl_names.specs.declared.fault.NameFault.TheVariants as fault
 use Rattle.htl_names.proofs.resolving.check_programs.Goals as goal
+use Rattle.htl_names.proofs.resolving.check_programs.Goals.{In_ok-misplaced, After-first_orphan, After-first_exceeded}
 
 pub first_misplaced-requires : goal.first_misplaced-requires
 first_misplaced-requires c =
@@ -21,43 +23,49 @@ first_misplaced-requires c =
           (subst (CountsNamings (graph_by c.as_slice.result.now)) (sym c.as_slice-table.ensures.value) c.in_ok-named.ensures.counts);
     }
 
-pub returns-in-Some : goal.returns-in-Some
-returns-in-Some c =
+-- ---- what each of the three searches tells, and what is kept behind it
+
+tree_told : (c : In_ok-misplaced) → IsSearched (tree_of c.args.tree.now) ProgramTree (λ p. fault.NotATree p) c.in_ok-misplaced.misplaced
+tree_told c =
+    tree_searched (tree_of c.args.tree.now) c.args.symbols.now c.in_ok-namings.namings.items c.in_ok-misplaced.misplaced c.requires.symbols c.in_ok-namings.ensures
+    (subst (λ (rs : List (List Naming)). IsFirstMisplaced (graph_by rs) c.in_ok-misplaced.misplaced) c.as_slice-2.ensures.value c.in_ok-misplaced.ensures)
+
+tree_kept : (c : In_ok-misplaced) → c.in_ok-misplaced.misplaced ≡ None → KeptBelow (tree_of c.args.tree.now) 5
+tree_kept c none = passed (tree_of c.args.tree.now) ProgramTree (λ p. fault.NotATree p) c.in_ok-misplaced.misplaced c.requires.kept (tree_told c) none
+
+parents_told : (c : After-first_orphan) → IsSearched (tree_of c.args.tree.now) ParentName (λ t. fault.Unknown t) c.first_orphan.result
+parents_told c =
     let ps = tree_of c.args.tree.now in
     let names = c.args.symbols.now in
-    let tree = tree_searched ps names c.in_ok-namings.namings.items c.in_ok-misplaced.misplaced c.requires.symbols c.in_ok-namings.ensures (subst (λ (rs : List (List Naming)). IsFirstMisplaced (graph_by rs) c.in_ok-misplaced.misplaced) c.as_slice-2.ensures.value c.in_ok-misplaced.ensures) in
-    found ps ProgramTree (λ p. fault.NotATree p) c.in_ok-misplaced.misplaced c.in-Some.program c.requires.kept tree c.in-Some.is
+    let table = subst (AreRefined names ps) (sym c.as_slice-table.ensures.value) (c.in_ok-named.ensures.modes names ps (c.as_slice.ensures.value ∙ c.in_ok-namings.ensures)) in
+    let rows = ap (map parent_use_of) c.as_slice-3.ensures.value ∙ ap (λ (r : Rows). r.parents) (c.rows.view_is ∙ c.requires.rows) in
+    parents_searched ps names c.as_slice-table.result.now (map parent_use_of c.as_slice-3.result.now) c.first_orphan.result c.requires.symbols table rows c.first_orphan.ensures
+
+parents_kept : (c : After-first_orphan) → KeptBelow (tree_of c.args.tree.now) 5 → c.first_orphan.result ≡ None → KeptBelow (tree_of c.args.tree.now) 6
+parents_kept c kept none = passed (tree_of c.args.tree.now) ParentName (λ t. fault.Unknown t) c.first_orphan.result kept (parents_told c) none
+
+limits_told : (c : After-first_exceeded) → IsSearched (tree_of c.args.tree.now) Limits (λ (e : Excess). fault.Limit e.which e.count) c.first_exceeded.result
+limits_told c = limits_searched (tree_of c.args.tree.now) c.args.symbols.now c.first_exceeded.result c.requires.symbols c.first_exceeded.ensures
+
+-- ---- the answers
+
+pub returns-in-Some : goal.returns-in-Some
+returns-in-Some c =
+    found (tree_of c.args.tree.now) ProgramTree (λ p. fault.NotATree p) c.in_ok-misplaced.misplaced c.in-Some.program c.requires.kept (tree_told (goal.at.returns-in-Some c).In_ok-misplaced) c.in-Some.is
 
 pub returns-in-Some-first_orphan : goal.returns-in-Some-first_orphan
 returns-in-Some-first_orphan c =
-    let ps = tree_of c.args.tree.now in
-    let names = c.args.symbols.now in
-    let rows = c.rows.view_is ∙ c.requires.rows in
-    let tree = tree_searched ps names c.in_ok-namings.namings.items c.in_ok-misplaced.misplaced c.requires.symbols c.in_ok-namings.ensures (subst (λ (rs : List (List Naming)). IsFirstMisplaced (graph_by rs) c.in_ok-misplaced.misplaced) c.as_slice-2.ensures.value c.in_ok-misplaced.ensures) in
-    let four = passed ps ProgramTree (λ p. fault.NotATree p) c.in_ok-misplaced.misplaced c.requires.kept tree c.in_default.is in
-    let parents = parents_searched ps names c.as_slice-table.result.now (map parent_use_of c.as_slice-3.result.now) c.first_orphan.result c.requires.symbols (subst (AreRefined names ps) (sym c.as_slice-table.ensures.value) (c.in_ok-named.ensures.modes names ps (c.as_slice.ensures.value ∙ c.in_ok-namings.ensures))) (ap (map parent_use_of) c.as_slice-3.ensures.value ∙ ap (λ (r : Rows). r.parents) rows) c.first_orphan.ensures in
-    found ps ParentName (λ t. fault.Unknown t) c.first_orphan.result c.in-Some-first_orphan.token four parents c.in-Some-first_orphan.is
+    let at = goal.at.returns-in-Some-first_orphan c in
+    found (tree_of c.args.tree.now) ParentName (λ t. fault.Unknown t) c.first_orphan.result c.in-Some-first_orphan.token (tree_kept at.In_ok-misplaced c.in_default.is) (parents_told at.After-first_orphan) c.in-Some-first_orphan.is
 
 pub returns-in-Some-first_exceeded : goal.returns-in-Some-first_exceeded
 returns-in-Some-first_exceeded c =
-    let ps = tree_of c.args.tree.now in
-    let names = c.args.symbols.now in
-    let rows = c.rows.view_is ∙ c.requires.rows in
-    let tree = tree_searched ps names c.in_ok-namings.namings.items c.in_ok-misplaced.misplaced c.requires.symbols c.in_ok-namings.ensures (subst (λ (rs : List (List Naming)). IsFirstMisplaced (graph_by rs) c.in_ok-misplaced.misplaced) c.as_slice-2.ensures.value c.in_ok-misplaced.ensures) in
-    let four = passed ps ProgramTree (λ p. fault.NotATree p) c.in_ok-misplaced.misplaced c.requires.kept tree c.in_default.is in
-    let parents = parents_searched ps names c.as_slice-table.result.now (map parent_use_of c.as_slice-3.result.now) c.first_orphan.result c.requires.symbols (subst (AreRefined names ps) (sym c.as_slice-table.ensures.value) (c.in_ok-named.ensures.modes names ps (c.as_slice.ensures.value ∙ c.in_ok-namings.ensures))) (ap (map parent_use_of) c.as_slice-3.ensures.value ∙ ap (λ (r : Rows). r.parents) rows) c.first_orphan.ensures in
-    let five = passed ps ParentName (λ t. fault.Unknown t) c.first_orphan.result four parents c.in_default-first_orphan.is in
-    let limits = limits_searched ps names c.first_exceeded.result c.requires.symbols c.first_exceeded.ensures in
-    found ps Limits (λ (e : Excess). fault.Limit e.which e.count) c.first_exceeded.result c.in-Some-first_exceeded.field-0 five limits c.in-Some-first_exceeded.is
+    let at = goal.at.returns-in-Some-first_exceeded c in
+    let kept = parents_kept at.After-first_orphan (tree_kept at.In_ok-misplaced c.in_default.is) c.in_default-first_orphan.is in
+    found (tree_of c.args.tree.now) Limits (λ (e : Excess). fault.Limit e.which e.count) c.first_exceeded.result c.in-Some-first_exceeded.field-0 kept (limits_told at.After-first_exceeded) c.in-Some-first_exceeded.is
 
 pub returns : goal.returns
 returns c =
-    let ps = tree_of c.args.tree.now in
-    let names = c.args.symbols.now in
-    let rows = c.rows.view_is ∙ c.requires.rows in
-    let tree = tree_searched ps names c.in_ok-namings.namings.items c.in_ok-misplaced.misplaced c.requires.symbols c.in_ok-namings.ensures (subst (λ (rs : List (List Naming)). IsFirstMisplaced (graph_by rs) c.in_ok-misplaced.misplaced) c.as_slice-2.ensures.value c.in_ok-misplaced.ensures) in
-    let four = passed ps ProgramTree (λ p. fault.NotATree p) c.in_ok-misplaced.misplaced c.requires.kept tree c.in_default.is in
-    let parents = parents_searched ps names c.as_slice-table.result.now (map parent_use_of c.as_slice-3.result.now) c.first_orphan.result c.requires.symbols (subst (AreRefined names ps) (sym c.as_slice-table.ensures.value) (c.in_ok-named.ensures.modes names ps (c.as_slice.ensures.value ∙ c.in_ok-namings.ensures))) (ap (map parent_use_of) c.as_slice-3.ensures.value ∙ ap (λ (r : Rows). r.parents) rows) c.first_orphan.ensures in
-    let five = passed ps ParentName (λ t. fault.Unknown t) c.first_orphan.result four parents c.in_default-first_orphan.is in
-    let limits = limits_searched ps names c.first_exceeded.result c.requires.symbols c.first_exceeded.ensures in
-    all_right ps (passed ps Limits (λ (e : Excess). fault.Limit e.which e.count) c.first_exceeded.result five limits c.in_default-first_exceeded.is)
+    let at = goal.at.returns c in
+    let kept = parents_kept at.After-first_orphan (tree_kept at.In_ok-misplaced c.in_default.is) c.in_default-first_orphan.is in
+    all_right (tree_of c.args.tree.now) (passed (tree_of c.args.tree.now) Limits (λ (e : Excess). fault.Limit e.which e.count) c.first_exceeded.result kept (limits_told at.After-first_exceeded) c.in_default-first_exceeded.is)
