@@ -5,7 +5,6 @@ use Rattle.htl_edge.specs.Content.{Puts}
 use Rattle.htl_edge.proofs.Puts.{append_known-start, Puts-failed, Puts-second}
 use Rattle.htl_model.specs.declared.event.Event.{Event}
 use Rattle.htl_model.specs.Lists.{joined}
-use Rattle.htl_model.specs.FrameRules.{KeptApart}
 use Rattle.htl_model.specs.Ranges.{AreInRange}
 use Rattle.htl_model.specs.Tables.{Tables}
 use Rattle.htl_walk.specs.declared.job.Job.{Job}

@@ -1,5 +1,5 @@
 -- The last part of an instant at which no round begins, put together.
-use Rattle.std.proofs.Common.{◌≡◌, ℕ, ◌<◌, ℤ, cond, List, [], length, Option, Some, None, IfSome, Result, Ok, Err, refl, sym, ap, ◌∙◌, subst, arith}
+use Rattle.std.proofs.Common.{◌≡◌, ℕ, ◌<◌, ℤ, cond, List, [], length, Option, Some, None, IfSome, Result, Ok, Err, refl, sym, ap, subst, arith}
 use Rattle.htl_edge.specs.Content.{Puts}
 use Rattle.htl_edge.proofs.Puts.{append_known-start, Puts-failed, Puts-second}
 use Rattle.htl_model.specs.declared.event.Event.{Event}
@@ -13,7 +13,7 @@ use Rattle.htl_ecode.specs.declared.ecode.ECode.{ECode}
 use Rattle.htl_emach.specs.Calendars.{Calendar, Standing, list_at}
 use Rattle.htl_emach.specs.Pending.{Between}
 use Rattle.htl_emach.specs.Contents.{Content}
-use Rattle.htl_emach.specs.Following.{Onward, phase_path}
+use Rattle.htl_emach.specs.Following.{phase_path}
 use Rattle.htl_emach.proofs.Phases.{to_switches, to_reads}
 use Rattle.htl_console.specs.declared.shown.Shown.{Shown}
 use Rattle.htl_console.specs.Shows.{shows_values}
@@ -21,7 +21,6 @@ use Rattle.htl_machine.specs.Asking.{IsToRead, IsToClose}
 use Rattle.htl_machine.specs.Changing.{change_lines}
 use Rattle.htl_machine.specs.Doing.{IsStarting, path_lines}
 use Rattle.htl_machine.specs.Opening.{reading_text, closing_text}
-use Rattle.htl_machine.specs.Running.{replay}
 use Rattle.htl_refine.proofs.Standing.{standing_at}
 use Rattle.htl_machine.proofs.Agreeing.{modes_closed, changes_are}
 
@@ -64,25 +63,16 @@ changes_last t code es show at w1 w2 w f1 f2 f v result old new was c range seco
     Puts-second w1 w2 w f1 f2 f (path_lines t code show at (phase_path t code es at 3)) lines result second.whole second.cause.kept (subst (λ z. Puts w2 w f2 f z result) same puts)
 
 -- phase follows phase
-pub switches_start : (t : Tables) (code : ECode) (es : List Event) (now : ℕ) (m : Standing) (w : Content) → w.values ≡ (state t es now).values → Onward t code es now 1 m (phase_path t code es now 1) [] None → IsStarting t code es now 2 m w
-switches_start t code es now m w values h = record {
-  values = λ two. values;
-  idle = h.1;
-  calendar = to_switches t code es now m.calendar h.2;
+pub switches_start : {t : Tables} {code : ECode} {es : List Event} {now : ℕ} {m : Standing} {w : Content} {values : List ℤ} {modes : List (Option ℕ)} → IsToClose t code es now m w values modes → IsStarting t code es now 2 m w
+switches_start {t} {code} {es} {now} {m} h = record {
+  values = λ two. h.now;
+  idle = h.writes.1;
+  calendar = to_switches t code es now m.calendar h.writes.2;
 }
 
-pub reads_start : (t : Tables) (code : ECode) (es : List Event) (now : ℕ) (m : Standing) (w : Content) → Onward t code es now 2 m (phase_path t code es now 2) [] None → IsStarting t code es now 3 m w
-reads_start t code es now m w h = record {
+pub reads_start : {t : Tables} {code : ECode} {es : List Event} {now : ℕ} {m : Standing} {w : Content} {values : List ℤ} {modes : List (Option ℕ)} → IsToRead t code es now m w values modes → IsStarting t code es now 3 m w
+reads_start {t} {code} {es} {now} {m} h = record {
   values = λ two. absurd (omega (arith, two));
-  idle = h.1;
-  calendar = to_reads t code es now m.calendar h.2;
-}
-
--- once the switches are done the reads come next
-pub closes_reads : (t : Tables) (code : ECode) (es : List Event) (at : ℕ) (m next : Standing) (w after : Content) (values : List ℤ) (modes : List (Option ℕ)) → IsToClose t code es at m w values modes
-    → Onward t code es at 2 next (phase_path t code es at 2) [] None → after ≡ replay t code (phase_path t code es at 2) w → IsToRead t code es at next after values modes
-closes_reads t code es at m next w after values modes h on is = record {
-  switches = on;
-  noted = h.noted;
-  reads = ap (λ (z : Content). (replay t code (phase_path t code es at 3) z).values) is ∙ h.reads;
+  idle = h.switches.1;
+  calendar = to_reads t code es now m.calendar h.switches.2;
 }

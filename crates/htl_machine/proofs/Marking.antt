@@ -26,7 +26,6 @@ use Rattle.htl_machine.specs.Marks.{is_marked}
 use Rattle.htl_machine.specs.Noting.{MarksChanges, KeepsNoted, is_written, decides}
 use Rattle.htl_machine.specs.Running.{replay}
 use Rattle.htl_machine.specs.declared.noted.Noted.{Noted}
-use Rattle.htl_machine.proofs.Closings.{closes_reads}
 
 unmarked : (a b : Bool) → (a || b) ≡ false → (a ≡ false) × (b ≡ false)
 unmarked true b e = cc
@@ -164,18 +163,16 @@ sensors_then t a b c f g = λ k x at is. g k x at is ∙ f k x at is
 pub sensors_same : (t : Tables) (a b : List ℤ) → b ≡ a → SensorsStay t a b
 sensors_same t a b e = λ k x at is. ap (λ xs. get_or xs k (pos 0)) e
 
--- ---- what was noted stays while the switches are done
+-- ---- what was noted stays while the switches are done, behind which the reads come next
 
-pub closes_noted : (t : Tables) (code : ECode) (es : List Event) (at : ℕ) (m next : Standing) (w after : Content) (n kept : Noted) → KeepsNoted n kept → IsToClose t code es at m w n.values n.modes
+pub reads_next : {t : Tables} {code : ECode} {es : List Event} {at : ℕ} {m next : Standing} {w after : Content} {n kept : Noted} → KeepsNoted n kept → IsToClose t code es at m w n.values n.modes
     → Onward t code es at 2 next (phase_path t code es at 2) [] None → after ≡ replay t code (phase_path t code es at 2) w → IsToRead t code es at next after kept.values kept.modes
-closes_noted t code es at m next w after n kept same h on is =
-    let r = closes_reads t code es at m next w after n.values n.modes h on is in
-    record {
-      switches = r.switches;
-      noted =
-          record {
-            values_are = λ some. same.values ∙ r.noted.values_are some;
-            modes_are = λ k less. ap (λ (xs : List (Option ℕ)). list_at xs k) same.modes ∙ r.noted.modes_are k less;
-          };
-      reads = r.reads;
-    }
+reads_next {t} {code} {es} {at} same h on is = record {
+  switches = on;
+  noted =
+      record {
+        values_are = λ some. same.values ∙ h.noted.values_are some;
+        modes_are = λ k less. ap (λ (xs : List (Option ℕ)). list_at xs k) same.modes ∙ h.noted.modes_are k less;
+      };
+  reads = ap (λ (z : Content). (replay t code (phase_path t code es at 3) z).values) is ∙ h.reads;
+}

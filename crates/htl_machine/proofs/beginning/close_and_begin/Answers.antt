@@ -1,9 +1,12 @@
-use Rattle.std.proofs.Common.{ℕ, List, sym, ap, ◌∙◌, subst, length, ◌≤◌, suc, arith}
+use Rattle.std.proofs.Common.{◌≡◌, ℕ, List, sym, ap, ◌∙◌, subst, length, ◌≤◌, suc, arith}
 use Rattle.htl_model.specs.Selected.{IsSelection}
 use Rattle.htl_walk.specs.declared.schedule.SInstr.{SInstr}
 use Rattle.htl_smach.specs.Rounds.{Round, IsInForm, Stands}
 use Rattle.htl_emach.specs.Following.{phase_path}
 use Rattle.htl_refine.proofs.StateLaws.{states_are_selections}
+use Rattle.htl_refine.specs.Records.{modes_at}
+use Rattle.htl_model.specs.declared.event.Event.{Event}
+use Rattle.htl_machine.specs.Asking.{AreToRead, AreToCloseAndBegin}
 use Rattle.htl_machine.specs.Beginning.{CanFollow}
 use Rattle.htl_machine.specs.Counts.{with_instrs, with_records}
 use Rattle.htl_machine.specs.Noting.{MarksChanges}
@@ -13,39 +16,67 @@ use Rattle.htl_machine.specs.Recording.{AreOf}
 use Rattle.htl_machine.specs.RunLists.{turn_at}
 use Rattle.htl_machine.specs.Running.{replay}
 use Rattle.htl_machine.specs.Starting.{instrs_of}
-use Rattle.htl_machine.proofs.Beginnings.{may_follow, node_there, has_begun_so, first_done, first_counted, first_told, then_more, fails_so, ends_so, began_last}
+use Rattle.htl_machine.proofs.Beginnings.{HasBegun, may_follow, node_there, has_begun_so, first_done, first_counted, first_told, then_more, fails_so, ends_so, began_last}
 use Rattle.htl_machine.proofs.Closings.{switches_fail, reads_second, switches_start}
-use Rattle.htl_machine.proofs.Marking.{closes_noted, sensors_then, sensors_same}
+use Rattle.htl_machine.proofs.Marking.{reads_next, sensors_then, sensors_same}
 use Rattle.htl_machine.proofs.Modes.{modes_are}
 use Rattle.htl_machine.proofs.Premises.{at_told}
+use Rattle.htl_machine.proofs.beginning.close_and_begin.Given as given
 use Rattle.htl_machine.proofs.beginning.close_and_begin.Goals as goal
+use Rattle.htl_machine.proofs.beginning.close_and_begin.Goals.{In_default, After-schedule}
+
+-- ---- where events ask for it: the modes behind the switches, what the reads ask for, and the list that has begun
+
+modes_now : (g : given.Over) (c : In_default g) {es : List Event}
+    → AreToCloseAndBegin c.args.program.now.tables.now c.args.program.now.code.now (instrs_of c.args.program.now.schedules.now) es c.args.at c.args.takes.now c.args.path.now.list c.args.machines.now
+    → c.do_instrs.new.machines.emach.calendar.modes ≡ modes_at c.args.program.now.tables.now es c.args.at
+modes_now g c {es} q =
+    modes_are c.args.program.now.tables.now c.args.program.now.code.now es c.args.at c.do_instrs.new.machines.emach.calendar c.parts-parts.ensures.ranges (c.in_default.ensures.ends es (switches_start q.closes)).2
+
+reads_come : (g : given.Over) (c : In_default g) {es : List Event}
+    → AreToCloseAndBegin c.args.program.now.tables.now c.args.program.now.code.now (instrs_of c.args.program.now.schedules.now) es c.args.at c.args.takes.now c.args.path.now.list c.args.machines.now
+    → AreToRead c.args.program.now.tables.now c.args.program.now.code.now es c.args.at c.do_instrs.new.machines
+reads_come g c {es} q =
+    let s = switches_start q.closes in
+    reads_next c.in_default.ensures.noted q.closes (c.in_default.ensures.ends es s) (c.in_default.ensures.world es s)
+
+has_begun_here : (g : given.Over) (c : After-schedule g) {es : List Event}
+    → AreToCloseAndBegin c.args.program.now.tables.now c.args.program.now.code.now (instrs_of c.args.program.now.schedules.now) es c.args.at c.args.takes.now c.args.path.now.list c.args.machines.now
+    → HasBegun c.args.program.now.tables.now (instrs_of c.args.program.now.schedules.now) es c.args.at c.begin.new.self.list c.schedule.result.now.instrs c.begin.new.desk c.read_instant.new.machines.works.desk
+has_begun_here g c {es} q =
+    let s = switches_start q.closes in
+    let r = reads_next c.in_default.ensures.noted q.closes (c.in_default.ensures.ends es s) (c.in_default.ensures.world es s) in
+    has_begun_so c.args.program.now.tables.now c.args.program.now.code.now c.args.program.now.schedules.now es c.args.at c.args.takes.now c.args.path.now.list c.args.machines.now.works.desk c.do_instrs.new.machines.emach.calendar c.parts-parts.ensures.ranges (c.in_default.ensures.ends es s).2
+    q.begins c.begin.new.self.list c.begin.ensures.list c.begin.new.self.idle.instrs c.schedule.result.now.instrs c.do_instrs.new.machines.works.desk c.begin.new.desk c.read_instant.new.machines.works.desk (c.in_default.ensures.desk es s) c.begin.ensures.desk
+    (c.in_default-read_instant.ensures.desk es r) c.schedule.ensures c.in_default-read_instant.ensures.stands
+
+-- ---- the answers
 
 pub do_instrs-requires-clause-starts : goal.do_instrs-requires-clause-starts
 do_instrs-requires-clause-starts g c =
     let es = c.requires.begins.0 in
     let q = c.requires.begins.1 in
-    let s = switches_start c.args.program.now.tables.now c.args.program.now.code.now es c.args.at c.args.machines.now.emach c.args.machines.now.works.world q.closes.now q.closes.writes in
+    let s = switches_start q.closes in
     (es, s)
 
 pub returns-in-Err-clause-text : goal.returns-in-Err-clause-text
 returns-in-Err-clause-text g c = λ es q.
-    let s = switches_start c.args.program.now.tables.now c.args.program.now.code.now es c.args.at c.args.machines.now.emach c.args.machines.now.works.world q.closes.now q.closes.writes in
+    let s = switches_start q.closes in
     then_more {T = ℕ} _ _ _ _ _ _ c.in-Err.failed _ (switches_fail c.args.program.now.tables.now c.args.program.now.code.now es c.args.program.now.show c.args.at _ _ _ _ _ c.in-Err.failed (c.in-Err.ensures.text es s))
 
 pub begin-requires-clause-selection : goal.begin-requires-clause-selection
 begin-requires-clause-selection g c =
     let es = c.requires.begins.0 in
     let q = c.requires.begins.1 in
-    let s = switches_start c.args.program.now.tables.now c.args.program.now.code.now es c.args.at c.args.machines.now.emach c.args.machines.now.works.world q.closes.now q.closes.writes in
-    let ms = modes_are c.args.program.now.tables.now c.args.program.now.code.now es c.args.at c.do_instrs.new.machines.emach.calendar c.parts-parts.ensures.ranges (c.in_default.ensures.ends es s).2 in
+    let ms = modes_now g (goal.at.begin-requires-clause-selection g c).In_default q in
     subst (IsSelection c.args.program.now.tables.now) (sym ms) (states_are_selections c.args.program.now.tables.now c.parts-parts.ensures.ranges es c.args.at)
 
 pub begin-requires-clause-follows : goal.begin-requires-clause-follows
 begin-requires-clause-follows g c =
     let es = c.requires.begins.0 in
     let q = c.requires.begins.1 in
-    let s = switches_start c.args.program.now.tables.now c.args.program.now.code.now es c.args.at c.args.machines.now.emach c.args.machines.now.works.world q.closes.now q.closes.writes in
-    let ms = modes_are c.args.program.now.tables.now c.args.program.now.code.now es c.args.at c.do_instrs.new.machines.emach.calendar c.parts-parts.ensures.ranges (c.in_default.ensures.ends es s).2 in
+    let s = switches_start q.closes in
+    let ms = modes_now g (goal.at.begin-requires-clause-follows g c).In_default q in
     let modes = c.do_instrs.new.machines.emach.calendar.modes in
     subst (CanFollow c.args.program.now.tables.now modes c.args.takes.now c.args.at c.args.path.now.list) (sym (c.in_default.ensures.desk es s))
     (may_follow c.args.program.now.tables.now c.args.program.now.code.now c.args.program.now.schedules.now es c.args.at c.args.takes.now c.args.path.now.list c.args.machines.now.works.desk modes ms q.begins)
@@ -54,22 +85,20 @@ pub read_instant-requires-clause-reads : goal.read_instant-requires-clause-reads
 read_instant-requires-clause-reads g c =
     let es = c.requires.begins.0 in
     let q = c.requires.begins.1 in
-    let s = switches_start c.args.program.now.tables.now c.args.program.now.code.now es c.args.at c.args.machines.now.emach c.args.machines.now.works.world q.closes.now q.closes.writes in
-    let r = closes_noted c.args.program.now.tables.now c.args.program.now.code.now es c.args.at c.args.machines.now.emach c.do_instrs.new.machines.emach c.args.machines.now.works.world c.do_instrs.new.machines.works.world c.args.machines.now.noted c.do_instrs.new.machines.noted c.in_default.ensures.noted q.closes (c.in_default.ensures.ends es s) (c.in_default.ensures.world es s) in
+    let r = reads_come g (goal.at.read_instant-requires-clause-reads g c).In_default q in
     (es, r)
 
 pub returns-in-Err-read_instant-clause-text : goal.returns-in-Err-read_instant-clause-text
 returns-in-Err-read_instant-clause-text g c = λ es q.
-    let s = switches_start c.args.program.now.tables.now c.args.program.now.code.now es c.args.at c.args.machines.now.emach c.args.machines.now.works.world q.closes.now q.closes.writes in
-    let r = closes_noted c.args.program.now.tables.now c.args.program.now.code.now es c.args.at c.args.machines.now.emach c.do_instrs.new.machines.emach c.args.machines.now.works.world c.do_instrs.new.machines.works.world c.args.machines.now.noted c.do_instrs.new.machines.noted c.in_default.ensures.noted q.closes (c.in_default.ensures.ends es s) (c.in_default.ensures.world es s) in
+    let s = switches_start q.closes in
+    let r = reads_come g (goal.at.returns-in-Err-read_instant-clause-text g c).In_default q in
     then_more _ _ _ _ _ _ c.in-Err-read_instant.failed _ (reads_second c.args.program.now.tables.now c.args.program.now.code.now es c.args.program.now.show c.args.at _ _ _ _ _ _ _ _ (c.in_default.ensures.text es s) (c.in-Err-read_instant.ensures.text es r))
 
 pub schedule-requires : goal.schedule-requires
 schedule-requires g c =
     let es = c.requires.begins.0 in
     let q = c.requires.begins.1 in
-    let s = switches_start c.args.program.now.tables.now c.args.program.now.code.now es c.args.at c.args.machines.now.emach c.args.machines.now.works.world q.closes.now q.closes.writes in
-    let ms = modes_are c.args.program.now.tables.now c.args.program.now.code.now es c.args.at c.do_instrs.new.machines.emach.calendar c.parts-parts.ensures.ranges (c.in_default.ensures.ends es s).2 in
+    let ms = modes_now g (goal.at.schedule-requires g c).In_default q in
     node_there c.args.program.now.tables.now c.args.program.now.code.now c.args.program.now.schedules.now es c.args.at c.args.takes.now c.args.path.now.list c.args.machines.now.works.desk c.do_instrs.new.machines.emach.calendar.modes ms q.begins c.begin.new.self.list c.begin.ensures.list
 
 pub tell_records-requires-clause-kept : goal.tell_records-requires-clause-kept
@@ -77,101 +106,86 @@ tell_records-requires-clause-kept g c = c.requires.sound.form
 
 pub tell_records-requires-clause-of : goal.tell_records-requires-clause-of
 tell_records-requires-clause-of g c =
-    let es = c.requires.begins.0 in
     let q = c.requires.begins.1 in
-    let s = switches_start c.args.program.now.tables.now c.args.program.now.code.now es c.args.at c.args.machines.now.emach c.args.machines.now.works.world q.closes.now q.closes.writes in
-    let r = closes_noted c.args.program.now.tables.now c.args.program.now.code.now es c.args.at c.args.machines.now.emach c.do_instrs.new.machines.emach c.args.machines.now.works.world c.do_instrs.new.machines.works.world c.args.machines.now.noted c.do_instrs.new.machines.noted c.in_default.ensures.noted q.closes (c.in_default.ensures.ends es s) (c.in_default.ensures.world es s) in
-    let b = has_begun_so c.args.program.now.tables.now c.args.program.now.code.now c.args.program.now.schedules.now es c.args.at c.args.takes.now c.args.path.now.list c.args.machines.now.works.desk c.do_instrs.new.machines.emach.calendar c.parts-parts.ensures.ranges (c.in_default.ensures.ends es s).2 q.begins c.begin.new.self.list c.begin.ensures.list c.begin.new.self.idle.instrs c.schedule.result.now.instrs c.do_instrs.new.machines.works.desk c.begin.new.desk c.read_instant.new.machines.works.desk (c.in_default.ensures.desk es s) c.begin.ensures.desk (c.in_default-read_instant.ensures.desk es r) c.schedule.ensures c.in_default-read_instant.ensures.stands in
+    let b = has_begun_here g (goal.at.tell_records-requires-clause-of g c).After-schedule q in
     subst (AreOf c.args.program.now.tables.now) (sym (c.jobs-3.ensures ∙ c.begin.ensures.path.are ∙ b.jobs)) q.begins.of
 
 pub tell_records-requires-clause-form : goal.tell_records-requires-clause-form
 tell_records-requires-clause-form g c =
-    let es = c.requires.begins.0 in
     let q = c.requires.begins.1 in
-    let s = switches_start c.args.program.now.tables.now c.args.program.now.code.now es c.args.at c.args.machines.now.emach c.args.machines.now.works.world q.closes.now q.closes.writes in
-    let r = closes_noted c.args.program.now.tables.now c.args.program.now.code.now es c.args.at c.args.machines.now.emach c.do_instrs.new.machines.emach c.args.machines.now.works.world c.do_instrs.new.machines.works.world c.args.machines.now.noted c.do_instrs.new.machines.noted c.in_default.ensures.noted q.closes (c.in_default.ensures.ends es s) (c.in_default.ensures.world es s) in
-    let b = has_begun_so c.args.program.now.tables.now c.args.program.now.code.now c.args.program.now.schedules.now es c.args.at c.args.takes.now c.args.path.now.list c.args.machines.now.works.desk c.do_instrs.new.machines.emach.calendar c.parts-parts.ensures.ranges (c.in_default.ensures.ends es s).2 q.begins c.begin.new.self.list c.begin.ensures.list c.begin.new.self.idle.instrs c.schedule.result.now.instrs c.do_instrs.new.machines.works.desk c.begin.new.desk c.read_instant.new.machines.works.desk (c.in_default.ensures.desk es s) c.begin.ensures.desk (c.in_default-read_instant.ensures.desk es r) c.schedule.ensures c.in_default-read_instant.ensures.stands in
+    let b = has_begun_here g (goal.at.tell_records-requires-clause-form g c).After-schedule q in
     λ runs. subst (IsInForm c.read_instant.new.machines.works.desk) b.same (q.begins.form c.read_instant.new.machines.works.desk (c.in_default-read_instant.ensures.jobs ∙ b.jobs))
 
 pub tell_records-requires-clause-instrs : goal.tell_records-requires-clause-instrs
 tell_records-requires-clause-instrs g c =
-    let es = c.requires.begins.0 in
     let q = c.requires.begins.1 in
-    let s = switches_start c.args.program.now.tables.now c.args.program.now.code.now es c.args.at c.args.machines.now.emach c.args.machines.now.works.world q.closes.now q.closes.writes in
-    let r = closes_noted c.args.program.now.tables.now c.args.program.now.code.now es c.args.at c.args.machines.now.emach c.do_instrs.new.machines.emach c.args.machines.now.works.world c.do_instrs.new.machines.works.world c.args.machines.now.noted c.do_instrs.new.machines.noted c.in_default.ensures.noted q.closes (c.in_default.ensures.ends es s) (c.in_default.ensures.world es s) in
-    let b = has_begun_so c.args.program.now.tables.now c.args.program.now.code.now c.args.program.now.schedules.now es c.args.at c.args.takes.now c.args.path.now.list c.args.machines.now.works.desk c.do_instrs.new.machines.emach.calendar c.parts-parts.ensures.ranges (c.in_default.ensures.ends es s).2 q.begins c.begin.new.self.list c.begin.ensures.list c.begin.new.self.idle.instrs c.schedule.result.now.instrs c.do_instrs.new.machines.works.desk c.begin.new.desk c.read_instant.new.machines.works.desk (c.in_default.ensures.desk es s) c.begin.ensures.desk (c.in_default-read_instant.ensures.desk es r) c.schedule.ensures c.in_default-read_instant.ensures.stands in
+    let b = has_begun_here g (goal.at.tell_records-requires-clause-instrs g c).After-schedule q in
     subst (λ (z : List SInstr). length z ≤ 4294967295) b.same q.begins.short
 
 pub tell_records-requires-clause-stands : goal.tell_records-requires-clause-stands
 tell_records-requires-clause-stands g c =
-    let es = c.requires.begins.0 in
     let q = c.requires.begins.1 in
-    let s = switches_start c.args.program.now.tables.now c.args.program.now.code.now es c.args.at c.args.machines.now.emach c.args.machines.now.works.world q.closes.now q.closes.writes in
-    let r = closes_noted c.args.program.now.tables.now c.args.program.now.code.now es c.args.at c.args.machines.now.emach c.do_instrs.new.machines.emach c.args.machines.now.works.world c.do_instrs.new.machines.works.world c.args.machines.now.noted c.do_instrs.new.machines.noted c.in_default.ensures.noted q.closes (c.in_default.ensures.ends es s) (c.in_default.ensures.world es s) in
-    let b = has_begun_so c.args.program.now.tables.now c.args.program.now.code.now c.args.program.now.schedules.now es c.args.at c.args.takes.now c.args.path.now.list c.args.machines.now.works.desk c.do_instrs.new.machines.emach.calendar c.parts-parts.ensures.ranges (c.in_default.ensures.ends es s).2 q.begins c.begin.new.self.list c.begin.ensures.list c.begin.new.self.idle.instrs c.schedule.result.now.instrs c.do_instrs.new.machines.works.desk c.begin.new.desk c.read_instant.new.machines.works.desk (c.in_default.ensures.desk es s) c.begin.ensures.desk (c.in_default-read_instant.ensures.desk es r) c.schedule.ensures c.in_default-read_instant.ensures.stands in
+    let b = has_begun_here g (goal.at.tell_records-requires-clause-stands g c).After-schedule q in
     subst (Stands c.read_instant.new.machines.works.desk) b.same b.told_at.stands
 
 pub tell_records-requires-clause-told : goal.tell_records-requires-clause-told
 tell_records-requires-clause-told g c =
     let es = c.requires.begins.0 in
     let q = c.requires.begins.1 in
-    let s = switches_start c.args.program.now.tables.now c.args.program.now.code.now es c.args.at c.args.machines.now.emach c.args.machines.now.works.world q.closes.now q.closes.writes in
-    let r = closes_noted c.args.program.now.tables.now c.args.program.now.code.now es c.args.at c.args.machines.now.emach c.do_instrs.new.machines.emach c.args.machines.now.works.world c.do_instrs.new.machines.works.world c.args.machines.now.noted c.do_instrs.new.machines.noted c.in_default.ensures.noted q.closes (c.in_default.ensures.ends es s) (c.in_default.ensures.world es s) in
-    let b = has_begun_so c.args.program.now.tables.now c.args.program.now.code.now c.args.program.now.schedules.now es c.args.at c.args.takes.now c.args.path.now.list c.args.machines.now.works.desk c.do_instrs.new.machines.emach.calendar c.parts-parts.ensures.ranges (c.in_default.ensures.ends es s).2 q.begins c.begin.new.self.list c.begin.ensures.list c.begin.new.self.idle.instrs c.schedule.result.now.instrs c.do_instrs.new.machines.works.desk c.begin.new.desk c.read_instant.new.machines.works.desk (c.in_default.ensures.desk es s) c.begin.ensures.desk (c.in_default-read_instant.ensures.desk es r) c.schedule.ensures c.in_default-read_instant.ensures.stands in
+    let b = has_begun_here g (goal.at.tell_records-requires-clause-told g c).After-schedule q in
     let u = turn_at c.args.program.now.tables.now (instrs_of c.args.program.now.schedules.now) es c.args.at in
     λ p pend. let late = at_told u.plan u.frame 0 (suc c.args.at) c.read_instant.new.machines.works.desk (omega (arith, b.past)) b.told_at p pend in omega (arith, late)
 
 pub returns-in-Err-tell_records-clause-text : goal.returns-in-Err-tell_records-clause-text
 returns-in-Err-tell_records-clause-text g c = λ es q.
-    let s = switches_start c.args.program.now.tables.now c.args.program.now.code.now es c.args.at c.args.machines.now.emach c.args.machines.now.works.world q.closes.now q.closes.writes in
-    let r = closes_noted c.args.program.now.tables.now c.args.program.now.code.now es c.args.at c.args.machines.now.emach c.do_instrs.new.machines.emach c.args.machines.now.works.world c.do_instrs.new.machines.works.world c.args.machines.now.noted c.do_instrs.new.machines.noted c.in_default.ensures.noted q.closes (c.in_default.ensures.ends es s) (c.in_default.ensures.world es s) in
-    let b = has_begun_so c.args.program.now.tables.now c.args.program.now.code.now c.args.program.now.schedules.now es c.args.at c.args.takes.now c.args.path.now.list c.args.machines.now.works.desk c.do_instrs.new.machines.emach.calendar c.parts-parts.ensures.ranges (c.in_default.ensures.ends es s).2 q.begins c.begin.new.self.list c.begin.ensures.list c.begin.new.self.idle.instrs c.schedule.result.now.instrs c.do_instrs.new.machines.works.desk c.begin.new.desk c.read_instant.new.machines.works.desk (c.in_default.ensures.desk es s) c.begin.ensures.desk (c.in_default-read_instant.ensures.desk es r) c.schedule.ensures c.in_default-read_instant.ensures.stands in
+    let at = goal.at.returns-in-Err-tell_records-clause-text g c in
+    let s = switches_start q.closes in
+    let r = reads_come g at.In_default q in
+    let b = has_begun_here g at.After-schedule q in
     began_last c.args.program.now.tables.now c.args.program.now.code.now (instrs_of c.args.program.now.schedules.now) es c.args.program.now.show c.args.at _ _ _ _ _ _ _ _ _ _ _ (c.in_default.ensures.text es s) (c.in_default-read_instant.ensures.text es r)
     (fails_so _ _ _ _ _ c.in-Err-tell_records.failed c.in-Err-tell_records.failed (first_told c.args.program.now.tables.now (instrs_of c.args.program.now.schedules.now) es c.args.at c.begin.new.self.list c.schedule.result.now.instrs c.begin.new.desk c.read_instant.new.machines.works.desk b c.args.program.now.show c.node.result _ _ _ _ _ c.node.ensures c.in-Err-tell_records.ensures.text))
 
 pub returns-clause-text : goal.returns-clause-text
 returns-clause-text g c = λ es q.
-    let s = switches_start c.args.program.now.tables.now c.args.program.now.code.now es c.args.at c.args.machines.now.emach c.args.machines.now.works.world q.closes.now q.closes.writes in
-    let r = closes_noted c.args.program.now.tables.now c.args.program.now.code.now es c.args.at c.args.machines.now.emach c.do_instrs.new.machines.emach c.args.machines.now.works.world c.do_instrs.new.machines.works.world c.args.machines.now.noted c.do_instrs.new.machines.noted c.in_default.ensures.noted q.closes (c.in_default.ensures.ends es s) (c.in_default.ensures.world es s) in
-    let b = has_begun_so c.args.program.now.tables.now c.args.program.now.code.now c.args.program.now.schedules.now es c.args.at c.args.takes.now c.args.path.now.list c.args.machines.now.works.desk c.do_instrs.new.machines.emach.calendar c.parts-parts.ensures.ranges (c.in_default.ensures.ends es s).2 q.begins c.begin.new.self.list c.begin.ensures.list c.begin.new.self.idle.instrs c.schedule.result.now.instrs c.do_instrs.new.machines.works.desk c.begin.new.desk c.read_instant.new.machines.works.desk (c.in_default.ensures.desk es s) c.begin.ensures.desk (c.in_default-read_instant.ensures.desk es r) c.schedule.ensures c.in_default-read_instant.ensures.stands in
+    let at = goal.at.returns-clause-text g c in
+    let s = switches_start q.closes in
+    let r = reads_come g at.In_default q in
+    let b = has_begun_here g at.After-schedule q in
     began_last c.args.program.now.tables.now c.args.program.now.code.now (instrs_of c.args.program.now.schedules.now) es c.args.program.now.show c.args.at _ _ _ _ _ _ _ _ _ _ _ (c.in_default.ensures.text es s) (c.in_default-read_instant.ensures.text es r)
     (ends_so _ _ _ _ _ _ _ (first_told c.args.program.now.tables.now (instrs_of c.args.program.now.schedules.now) es c.args.at c.begin.new.self.list c.schedule.result.now.instrs c.begin.new.desk c.read_instant.new.machines.works.desk b c.args.program.now.show c.node.result _ _ _ _ _ c.node.ensures c.in_default-tell_records.ensures.text))
 
 pub returns-clause-counts : goal.returns-clause-counts
 returns-clause-counts g c = λ es q.
-    let s = switches_start c.args.program.now.tables.now c.args.program.now.code.now es c.args.at c.args.machines.now.emach c.args.machines.now.works.world q.closes.now q.closes.writes in
-    let r = closes_noted c.args.program.now.tables.now c.args.program.now.code.now es c.args.at c.args.machines.now.emach c.do_instrs.new.machines.emach c.args.machines.now.works.world c.do_instrs.new.machines.works.world c.args.machines.now.noted c.do_instrs.new.machines.noted c.in_default.ensures.noted q.closes (c.in_default.ensures.ends es s) (c.in_default.ensures.world es s) in
-    let b = has_begun_so c.args.program.now.tables.now c.args.program.now.code.now c.args.program.now.schedules.now es c.args.at c.args.takes.now c.args.path.now.list c.args.machines.now.works.desk c.do_instrs.new.machines.emach.calendar c.parts-parts.ensures.ranges (c.in_default.ensures.ends es s).2 q.begins c.begin.new.self.list c.begin.ensures.list c.begin.new.self.idle.instrs c.schedule.result.now.instrs c.do_instrs.new.machines.works.desk c.begin.new.desk c.read_instant.new.machines.works.desk (c.in_default.ensures.desk es s) c.begin.ensures.desk (c.in_default-read_instant.ensures.desk es r) c.schedule.ensures c.in_default-read_instant.ensures.stands in
+    let at = goal.at.returns-clause-counts g c in
+    let s = switches_start q.closes in
+    let r = reads_come g at.In_default q in
+    let b = has_begun_here g at.After-schedule q in
     first_counted c.args.program.now.tables.now (instrs_of c.args.program.now.schedules.now) es c.args.at c.begin.new.self.list c.schedule.result.now.instrs c.begin.new.desk c.read_instant.new.machines.works.desk b c.read_instant.new.machines.works.tally c.tell_records.new.works.tally c.in_default-tell_records.ensures.counts
     ∙ ap (λ n. with_records (first_records c.args.program.now.tables.now (instrs_of c.args.program.now.schedules.now) es c.args.at) n)
     ((c.in_default-read_instant.ensures.counts es r) ∙ ap (with_instrs (length (phase_path c.args.program.now.tables.now c.args.program.now.code.now es c.args.at 3))) (c.in_default.ensures.counts es s))
 
 pub returns-clause-world : goal.returns-clause-world
 returns-clause-world g c = λ es q.
-    let s = switches_start c.args.program.now.tables.now c.args.program.now.code.now es c.args.at c.args.machines.now.emach c.args.machines.now.works.world q.closes.now q.closes.writes in
-    let r = closes_noted c.args.program.now.tables.now c.args.program.now.code.now es c.args.at c.args.machines.now.emach c.do_instrs.new.machines.emach c.args.machines.now.works.world c.do_instrs.new.machines.works.world c.args.machines.now.noted c.do_instrs.new.machines.noted c.in_default.ensures.noted q.closes (c.in_default.ensures.ends es s) (c.in_default.ensures.world es s) in
-    let b = has_begun_so c.args.program.now.tables.now c.args.program.now.code.now c.args.program.now.schedules.now es c.args.at c.args.takes.now c.args.path.now.list c.args.machines.now.works.desk c.do_instrs.new.machines.emach.calendar c.parts-parts.ensures.ranges (c.in_default.ensures.ends es s).2 q.begins c.begin.new.self.list c.begin.ensures.list c.begin.new.self.idle.instrs c.schedule.result.now.instrs c.do_instrs.new.machines.works.desk c.begin.new.desk c.read_instant.new.machines.works.desk (c.in_default.ensures.desk es s) c.begin.ensures.desk (c.in_default-read_instant.ensures.desk es r) c.schedule.ensures c.in_default-read_instant.ensures.stands in
+    let at = goal.at.returns-clause-world g c in
+    let s = switches_start q.closes in
+    let r = reads_come g at.In_default q in
+    let b = has_begun_here g at.After-schedule q in
     (first_done c.args.program.now.tables.now (instrs_of c.args.program.now.schedules.now) es c.args.at c.begin.new.self.list c.schedule.result.now.instrs c.begin.new.desk c.read_instant.new.machines.works.desk b c.tell_records.new.works.desk c.read_instant.new.machines.works.world c.tell_records.new.works.world c.in_default-tell_records.ensures.records).1
     ∙ (c.in_default-read_instant.ensures.world es r) ∙ ap (replay c.args.program.now.tables.now c.args.program.now.code.now (phase_path c.args.program.now.tables.now c.args.program.now.code.now es c.args.at 3)) (c.in_default.ensures.world es s)
 
 pub returns-clause-desk : goal.returns-clause-desk
 returns-clause-desk g c = λ es q.
-    let s = switches_start c.args.program.now.tables.now c.args.program.now.code.now es c.args.at c.args.machines.now.emach c.args.machines.now.works.world q.closes.now q.closes.writes in
-    let r = closes_noted c.args.program.now.tables.now c.args.program.now.code.now es c.args.at c.args.machines.now.emach c.do_instrs.new.machines.emach c.args.machines.now.works.world c.do_instrs.new.machines.works.world c.args.machines.now.noted c.do_instrs.new.machines.noted c.in_default.ensures.noted q.closes (c.in_default.ensures.ends es s) (c.in_default.ensures.world es s) in
-    let b = has_begun_so c.args.program.now.tables.now c.args.program.now.code.now c.args.program.now.schedules.now es c.args.at c.args.takes.now c.args.path.now.list c.args.machines.now.works.desk c.do_instrs.new.machines.emach.calendar c.parts-parts.ensures.ranges (c.in_default.ensures.ends es s).2 q.begins c.begin.new.self.list c.begin.ensures.list c.begin.new.self.idle.instrs c.schedule.result.now.instrs c.do_instrs.new.machines.works.desk c.begin.new.desk c.read_instant.new.machines.works.desk (c.in_default.ensures.desk es s) c.begin.ensures.desk (c.in_default-read_instant.ensures.desk es r) c.schedule.ensures c.in_default-read_instant.ensures.stands in
+    let b = has_begun_here g (goal.at.returns-clause-desk g c).After-schedule q in
     (first_done c.args.program.now.tables.now (instrs_of c.args.program.now.schedules.now) es c.args.at c.begin.new.self.list c.schedule.result.now.instrs c.begin.new.desk c.read_instant.new.machines.works.desk b c.tell_records.new.works.desk c.read_instant.new.machines.works.world c.tell_records.new.works.world c.in_default-tell_records.ensures.records).0
 
 pub returns-clause-list : goal.returns-clause-list
 returns-clause-list g c = λ es q.
-    let s = switches_start c.args.program.now.tables.now c.args.program.now.code.now es c.args.at c.args.machines.now.emach c.args.machines.now.works.world q.closes.now q.closes.writes in
-    let r = closes_noted c.args.program.now.tables.now c.args.program.now.code.now es c.args.at c.args.machines.now.emach c.do_instrs.new.machines.emach c.args.machines.now.works.world c.do_instrs.new.machines.works.world c.args.machines.now.noted c.do_instrs.new.machines.noted c.in_default.ensures.noted q.closes (c.in_default.ensures.ends es s) (c.in_default.ensures.world es s) in
-    let b = has_begun_so c.args.program.now.tables.now c.args.program.now.code.now c.args.program.now.schedules.now es c.args.at c.args.takes.now c.args.path.now.list c.args.machines.now.works.desk c.do_instrs.new.machines.emach.calendar c.parts-parts.ensures.ranges (c.in_default.ensures.ends es s).2 q.begins c.begin.new.self.list c.begin.ensures.list c.begin.new.self.idle.instrs c.schedule.result.now.instrs c.do_instrs.new.machines.works.desk c.begin.new.desk c.read_instant.new.machines.works.desk (c.in_default.ensures.desk es s) c.begin.ensures.desk (c.in_default-read_instant.ensures.desk es r) c.schedule.ensures c.in_default-read_instant.ensures.stands in
+    let b = has_begun_here g (goal.at.returns-clause-list g c).After-schedule q in
     b.list_is
 
 pub returns-clause-reads : goal.returns-clause-reads
 returns-clause-reads g c = λ es q.
-    let s = switches_start c.args.program.now.tables.now c.args.program.now.code.now es c.args.at c.args.machines.now.emach c.args.machines.now.works.world q.closes.now q.closes.writes in
-    let r = closes_noted c.args.program.now.tables.now c.args.program.now.code.now es c.args.at c.args.machines.now.emach c.do_instrs.new.machines.emach c.args.machines.now.works.world c.do_instrs.new.machines.works.world c.args.machines.now.noted c.do_instrs.new.machines.noted c.in_default.ensures.noted q.closes (c.in_default.ensures.ends es s) (c.in_default.ensures.world es s) in
+    let r = reads_come g (goal.at.returns-clause-reads g c).In_default q in
     c.in_default-read_instant.ensures.reads es r
 
 pub returns-clause-sensors : goal.returns-clause-sensors
@@ -209,7 +223,8 @@ pub begin-requires-clause-over : goal.begin-requires-clause-over
 begin-requires-clause-over g c =
     let es = c.requires.begins.0 in
     let q = c.requires.begins.1 in
-    let s = switches_start c.args.program.now.tables.now c.args.program.now.code.now es c.args.at c.args.machines.now.emach c.args.machines.now.works.world q.closes.now q.closes.writes in
+    let s = switches_start q.closes in
+    let r = reads_come g (goal.at.begin-requires-clause-over g c).In_default q in
     ap (λ (r : Round). r.running) (c.in_default.ensures.desk es s) ∙ c.requires.over
 
 pub read_instant-requires-clause-jobs : goal.read_instant-requires-clause-jobs

@@ -1,4 +1,4 @@
-use Rattle.std.proofs.Common.{ℕ, List, Option, length, ap, ◌∙◌}
+use Rattle.std.proofs.Common.{ℕ, List, Option, ap, ◌∙◌}
 use Rattle.std.proofs.lemmas.Result.{on_ok_weaker}
 use Rattle.htl_emach.specs.Calendars.{list_at}
 use Rattle.htl_emach.specs.Contents.{Content}
@@ -8,43 +8,43 @@ use Rattle.htl_machine.proofs.close.read_instant.Goals as goal
 pub do_instrs-requires-clause-starts : goal.do_instrs-requires-clause-starts
 do_instrs-requires-clause-starts g c =
     let w = c.requires.reads in
-    (w.0, reads_start c.args.program.now.tables.now c.args.program.now.code.now w.0 c.args.at c.args.machines.now.emach c.args.machines.now.works.world w.1.switches)
+    (w.0, reads_start w.1)
 
 pub returns-in-Err-clause-text : goal.returns-in-Err-clause-text
 returns-in-Err-clause-text g c = λ es q.
-    reads_fail c.args.program.now.tables.now c.args.program.now.code.now es c.args.program.now.show c.args.at _ _ _ _ _ _ (c.in-Err.ensures.text es (reads_start c.args.program.now.tables.now c.args.program.now.code.now es c.args.at c.args.machines.now.emach c.args.machines.now.works.world q.switches))
+    reads_fail c.args.program.now.tables.now c.args.program.now.code.now es c.args.program.now.show c.args.at _ _ _ _ _ _ (c.in-Err.ensures.text es (reads_start q))
 
 pub put_changes-requires-clause-known : goal.put_changes-requires-clause-known
 put_changes-requires-clause-known g c =
     let w = c.requires.reads in
-    let s = reads_start c.args.program.now.tables.now c.args.program.now.code.now w.0 c.args.at c.args.machines.now.emach c.args.machines.now.works.world w.1.switches in
+    let s = reads_start w.1 in
     modes_known c.args.program.now.tables.now c.args.program.now.code.now w.0 c.args.at c.do_instrs.new.machines.emach.calendar c.parts-parts.ensures.ranges (c.in_default.ensures.ends w.0 s).2
 
 pub returns-clause-text : goal.returns-clause-text
 returns-clause-text g c = λ es q.
     let kept = c.in_default.ensures.noted in
-    let s = reads_start c.args.program.now.tables.now c.args.program.now.code.now es c.args.at c.args.machines.now.emach c.args.machines.now.works.world q.switches in
+    let s = reads_start q in
     changes_last c.args.program.now.tables.now c.args.program.now.code.now es c.args.program.now.show c.args.at _ _ _ _ _ _ _ _ c.do_instrs.new.machines.noted.values c.do_instrs.new.machines.works.world.values c.do_instrs.new.machines.noted.modes c.do_instrs.new.machines.emach.calendar c.parts-parts.ensures.ranges (c.in_default.ensures.text es s)
     (λ some. kept.values ∙ q.noted.values_are some) (ap (λ (z : Content). z.values) (c.in_default.ensures.world es s) ∙ q.reads) (λ k less. ap (λ (xs : List (Option ℕ)). list_at xs k) kept.modes ∙ q.noted.modes_are k less) (c.in_default.ensures.ends es s).2 c.put_changes.ensures
 
 pub returns-clause-counts : goal.returns-clause-counts
 returns-clause-counts g c = λ es q.
-    let s = reads_start c.args.program.now.tables.now c.args.program.now.code.now es c.args.at c.args.machines.now.emach c.args.machines.now.works.world q.switches in
+    let s = reads_start q in
     on_ok_weaker c.put_changes.result (λ _. c.in_default.ensures.counts es s) c.put_changes.ensures.whole
 
 pub returns-clause-world : goal.returns-clause-world
 returns-clause-world g c = λ es q.
-    let s = reads_start c.args.program.now.tables.now c.args.program.now.code.now es c.args.at c.args.machines.now.emach c.args.machines.now.works.world q.switches in
+    let s = reads_start q in
     on_ok_weaker c.put_changes.result (λ _. c.in_default.ensures.world es s) c.put_changes.ensures.whole
 
 pub returns-clause-desk : goal.returns-clause-desk
 returns-clause-desk g c = λ es q.
-    let s = reads_start c.args.program.now.tables.now c.args.program.now.code.now es c.args.at c.args.machines.now.emach c.args.machines.now.works.world q.switches in
+    let s = reads_start q in
     on_ok_weaker c.put_changes.result (λ _. c.in_default.ensures.desk es s) c.put_changes.ensures.whole
 
 pub returns-clause-reads : goal.returns-clause-reads
 returns-clause-reads g c = λ es q.
-    let s = reads_start c.args.program.now.tables.now c.args.program.now.code.now es c.args.at c.args.machines.now.emach c.args.machines.now.works.world q.switches in
+    let s = reads_start q in
     on_ok_weaker c.put_changes.result (λ _. c.in_default.ensures.ends es s) c.put_changes.ensures.whole
 
 pub returns-clause-fitted : goal.returns-clause-fitted
