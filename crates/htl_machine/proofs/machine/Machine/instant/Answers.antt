@@ -1,15 +1,19 @@
-use Rattle.std.proofs.Common.{◌∙◌, [], length, Err, Ok, refl, sym, ap, subst, arith}
+use Rattle.std.proofs.Common.{◌≡◌, ◌∙◌, List, [], true, length, Err, Ok, refl, sym, ap, subst, arith}
 use Rattle.htl_edge.specs.Content.{Puts}
 use Rattle.htl_edge.specs.declared.Failed.{Failed}
 use Rattle.htl_smach.specs.Rounds.{Round}
 use Rattle.htl_emach.specs.Following.{phase_path}
 use Rattle.htl_emach.specs.Shapes.{HasValues}
 use Rattle.htl_walk.specs.declared.schedule.Schedule.{Schedule}
-use Rattle.htl_machine.specs.Calls.{Seen, IsUpTo}
+use Rattle.htl_machine.specs.Asking.{AreToClose, AreToCloseAndBegin}
+use Rattle.htl_machine.specs.Calls.{Seen, IsUpTo, schedule_by}
 use Rattle.htl_machine.specs.Counts.{with_instrs, with_records}
 use Rattle.htl_machine.specs.Numbering.{IsPath}
-use Rattle.htl_machine.specs.Opening.{first_records}
+use Rattle.htl_machine.specs.Opening.{first_records, IsOpened}
 use Rattle.htl_machine.specs.Recording.{AreOf}
+use Rattle.htl_machine.specs.Starting.{instrs_of}
+use Rattle.htl_machine.specs.Timing.{some_round_begins}
+use Rattle.htl_model.specs.declared.event.Event.{Event}
 use Rattle.htl_machine.specs.Programs.{lines_of, schedules_of}
 use Rattle.htl_machine.specs.declared.tally.Tally.{Tally}
 use Rattle.htl_machine.proofs.After.{passed_of, desk_goes_on, list_goes_on, over, desk_begins_so, list_begins, records_go_on, records_begin}
@@ -18,14 +22,52 @@ use Rattle.htl_machine.proofs.Beginnings.{ends_so, fails_so}
 use Rattle.htl_machine.proofs.Ended.{open_failed, going_closed, begun_closed_at}
 use Rattle.htl_machine.proofs.NumberedStarts.{begins_so}
 use Rattle.htl_machine.proofs.Quiet.{nothing_due}
-use Rattle.htl_machine.proofs.InstantGiven.{given, given_closes, given_begins}
+use Rattle.htl_machine.proofs.InstantGiven.{IsGiven, given, given_closes, given_begins}
 use Rattle.htl_machine.proofs.Readying.{replay_only}
 use Rattle.htl_machine.proofs.Ready.{list_known}
 use Rattle.htl_machine.proofs.ShownOn.{next_shown_up_to, noted_marks}
 use Rattle.htl_machine.proofs.Spent.{spent_fits}
 use Rattle.htl_machine.proofs.Viewing.{seen_in}
 use Rattle.htl_machine.proofs.Waits.{waiting_at, waiting_stays}
+use Rattle.htl_machine.proofs.machine.Machine.instant.Given as here
 use Rattle.htl_machine.proofs.machine.Machine.instant.Goals as goal
+use Rattle.htl_machine.proofs.machine.Machine.instant.Goals.{After-ecode-code, In_default, After-round_begins, After-as_slice-takes}
+
+-- ---- of each list of events that the machine follows: what an instant is given, what its first part leaves, what its last part asks for
+
+given_here : (g : here.Over) (c : After-ecode-code g) {es : List Event} → IsUpTo c.args.self.now es c.args.at
+    → IsGiven (seen_in c.self.inside) es c.args.at c.tables-t.result.now c.ecode-code.result.now c.self.inside.path.idle.instrs
+given_here g c {es} before =
+    given (seen_in c.self.inside) _ es c.args.at c.tables-t.result.now c.ecode-code.result.now c.self.inside.path.idle.instrs c.self.view_is c.self.invariant.accepted c.self.invariant.empty c.tables-t.ensures.value c.ecode-code.ensures
+    c.requires.read before
+
+opened_here : (g : here.Over) (c : In_default g) {es : List Event} → IsGiven (seen_in c.self.inside) es c.args.at c.tables-t.result.now c.ecode-code.result.now c.self.inside.path.idle.instrs
+    → (let m = seen_in c.self.inside in
+    IsOpened m.object.tables m.object.ecode es c.args.at (schedule_by m.object c.self.inside.path.idle.instrs m.list) m.held.shows c.settle.new.self.values m.held.desk m.held.world c.open_instant.new.machines.works.desk
+    c.open_instant.new.machines.works.world)
+opened_here g c {es} k = rw (c.tables-t.ensures.value, c.ecode-code.ensures, c.schedule.ensures, c.schedules-schedules.ensures) at (c.in_default.ensures.world es k.follows)
+
+closes_here : (g : here.Over) (c : In_default g) {es : List Event} → IsGiven (seen_in c.self.inside) es c.args.at c.tables-t.result.now c.ecode-code.result.now c.self.inside.path.idle.instrs
+    → AreToClose c.tables-t.result.now c.ecode-code.result.now es c.args.at c.open_instant.new.machines
+closes_here g c {es} k =
+    given_closes (seen_in c.self.inside) es c.args.at _ _ _ k c.settle.new.self.values c.settle.ensures.values _ _ (opened_here g c k) _ (c.in_default.ensures.noted.values ∙ c.settle.ensures.values) _ (c.in_default.ensures.noted.modes ∙ c.settle.ensures.modes) _
+    (c.in_default.ensures.writes es k.follows)
+
+-- whether a round begins is what the code found
+begins_told : (g : here.Over) (c : After-round_begins g) → some_round_begins (seen_in c.self.inside).object.tables c.args.at ≡ c.round_begins.result
+begins_told g c =
+    let fresh = ap (λ (z : Seen). z.held.spent) c.self.view_is ∙ c.requires.before.1.kept.fresh in
+    begins_so (seen_in c.self.inside).object c.self.inside.path.numbering c.args.at c.round_begins.result c.self.invariant.accepted (c.self.invariant.stands fresh).numbering c.round_begins.ensures
+
+begins_here : (g : here.Over) (c : After-as_slice-takes g) {es : List Event} → IsGiven (seen_in c.self.inside) es c.args.at c.tables-t.result.now c.ecode-code.result.now c.self.inside.path.idle.instrs
+    → some_round_begins (seen_in c.self.inside).object.tables c.args.at ≡ true
+    → AreToCloseAndBegin c.tables-t.result.now c.ecode-code.result.now (instrs_of c.schedules-schedules.result.now) es c.args.at c.as_slice-takes.result.now c.self.inside.path.list c.open_instant.new.machines
+begins_here g c {es} k b =
+    let opened = rw (c.tables-t.ensures.value, c.ecode-code.ensures, c.schedule.ensures, c.schedules-schedules.ensures) at (c.in_default.ensures.world es k.follows) in
+    given_begins (seen_in c.self.inside) es c.args.at _ _ _ k c.settle.new.self.values c.settle.ensures.values _ _ opened _ (c.in_default.ensures.noted.values ∙ c.settle.ensures.values) _ (c.in_default.ensures.noted.modes ∙ c.settle.ensures.modes) _
+    (c.in_default.ensures.writes es k.follows) c.schedules-schedules.result.now _ c.schedules-schedules.ensures c.as_slice-takes.ensures b
+
+-- ---- the answers
 
 pub settle-requires-clause-comms : goal.settle-requires-clause-comms
 settle-requires-clause-comms g c =
@@ -72,32 +114,32 @@ pub open_instant-requires-clause-of : goal.open_instant-requires-clause-of
 open_instant-requires-clause-of g c =
     let w = c.requires.before in
     let m = seen_in c.self.inside in
-    let k = given m _ w.0 c.args.at c.tables-t.result.now c.ecode-code.result.now c.self.inside.path.idle.instrs c.self.view_is c.self.invariant.accepted c.self.invariant.empty c.tables-t.ensures.value c.ecode-code.ensures c.requires.read w.1 in
+    let k = given_here g (goal.at.open_instant-requires-clause-of g c).After-ecode-code w.1 in
     let fresh = ap (λ (z : Seen). z.held.spent) c.self.view_is ∙ w.1.kept.fresh in
     rw c.tables-t.ensures.value (subst (AreOf m.object.tables) (sym (c.jobs.ensures ∙ (c.self.invariant.stands fresh).are)) k.ready.of)
 
 pub open_instant-requires-clause-round : goal.open_instant-requires-clause-round
 open_instant-requires-clause-round g c =
     let w = c.requires.before in
-    let k = given (seen_in c.self.inside) _ w.0 c.args.at c.tables-t.result.now c.ecode-code.result.now c.self.inside.path.idle.instrs c.self.view_is c.self.invariant.accepted c.self.invariant.empty c.tables-t.ensures.value c.ecode-code.ensures c.requires.read w.1 in
+    let k = given_here g (goal.at.open_instant-requires-clause-round g c).After-ecode-code w.1 in
     rw (c.schedule.ensures, c.schedules-schedules.ensures) k.ready.form
 
 pub open_instant-requires-clause-slots : goal.open_instant-requires-clause-slots
 open_instant-requires-clause-slots g c =
     let w = c.requires.before in
-    let k = given (seen_in c.self.inside) _ w.0 c.args.at c.tables-t.result.now c.ecode-code.result.now c.self.inside.path.idle.instrs c.self.view_is c.self.invariant.accepted c.self.invariant.empty c.tables-t.ensures.value c.ecode-code.ensures c.requires.read w.1 in
+    let k = given_here g (goal.at.open_instant-requires-clause-slots g c).After-ecode-code w.1 in
     rw (c.schedule.ensures, c.schedules-schedules.ensures) k.ready.short
 
 pub open_instant-requires-clause-stands : goal.open_instant-requires-clause-stands
 open_instant-requires-clause-stands g c =
     let w = c.requires.before in
-    let k = given (seen_in c.self.inside) _ w.0 c.args.at c.tables-t.result.now c.ecode-code.result.now c.self.inside.path.idle.instrs c.self.view_is c.self.invariant.accepted c.self.invariant.empty c.tables-t.ensures.value c.ecode-code.ensures c.requires.read w.1 in
+    let k = given_here g (goal.at.open_instant-requires-clause-stands g c).After-ecode-code w.1 in
     rw (c.schedule.ensures, c.schedules-schedules.ensures) k.ready.stands
 
 pub open_instant-requires-clause-told : goal.open_instant-requires-clause-told
 open_instant-requires-clause-told g c =
     let w = c.requires.before in
-    let k = given (seen_in c.self.inside) _ w.0 c.args.at c.tables-t.result.now c.ecode-code.result.now c.self.inside.path.idle.instrs c.self.view_is c.self.invariant.accepted c.self.invariant.empty c.tables-t.ensures.value c.ecode-code.ensures c.requires.read w.1 in
+    let k = given_here g (goal.at.open_instant-requires-clause-told g c).After-ecode-code w.1 in
     k.ready.told
 
 pub open_instant-requires-clause-shows : goal.open_instant-requires-clause-shows
@@ -115,13 +157,13 @@ open_instant-requires-clause-values g c =
 pub open_instant-requires-clause-follows : goal.open_instant-requires-clause-follows
 open_instant-requires-clause-follows g c =
     let w = c.requires.before in
-    let k = given (seen_in c.self.inside) _ w.0 c.args.at c.tables-t.result.now c.ecode-code.result.now c.self.inside.path.idle.instrs c.self.view_is c.self.invariant.accepted c.self.invariant.empty c.tables-t.ensures.value c.ecode-code.ensures c.requires.read w.1 in
+    let k = given_here g (goal.at.open_instant-requires-clause-follows g c).After-ecode-code w.1 in
     (w.0, k.follows)
 
 pub returns-in-Err-clause-text : goal.returns-in-Err-clause-text
 returns-in-Err-clause-text g c = λ es before.
     let m = seen_in c.self.inside in
-    let k = given m _ es c.args.at c.tables-t.result.now c.ecode-code.result.now c.self.inside.path.idle.instrs c.self.view_is c.self.invariant.accepted c.self.invariant.empty c.tables-t.ensures.value c.ecode-code.ensures c.requires.read before in
+    let k = given_here g (goal.at.returns-in-Err-clause-text g c).After-ecode-code before in
     let text = rw (c.tables-t.ensures.value, c.ecode-code.ensures, c.schedule.ensures, c.schedules-schedules.ensures, c.node.ensures) at (c.in-Err.ensures.text es k.follows) in
     subst (λ (z : Seen). Puts {T = Unit {0}} {E = Failed} (g.W.Sink.written c.args.sink.now) (g.W.Sink.written c.open_instant.new.sink) (g.W.Sink.faults c.args.sink.now) (g.W.Sink.faults c.open_instant.new.sink) (lines_of z.object es z.show c.args.at) (Err c.in-Err.failed))
     c.self.view_is (open_failed m es c.args.at k.accepted k.later k.up _ k.ready _ _ _ _ _ _ text)
@@ -136,11 +178,12 @@ close_and_begin-requires-clause-sound g c = sound_of (seen_in c.self.inside) c.t
 
 pub close_and_begin-requires-clause-over : goal.close_and_begin-requires-clause-over
 close_and_begin-requires-clause-over g c =
+    let at = goal.at.close_and_begin-requires-clause-over g c in
     let w = c.requires.before in
     let m = seen_in c.self.inside in
-    let k = given m _ w.0 c.args.at c.tables-t.result.now c.ecode-code.result.now c.self.inside.path.idle.instrs c.self.view_is c.self.invariant.accepted c.self.invariant.empty c.tables-t.ensures.value c.ecode-code.ensures c.requires.read w.1 in
-    let opened = rw (c.tables-t.ensures.value, c.ecode-code.ensures, c.schedule.ensures, c.schedules-schedules.ensures) at (c.in_default.ensures.world w.0 k.follows) in
-    let b = begins_so m.object c.self.inside.path.numbering c.args.at c.round_begins.result c.self.invariant.accepted (c.self.invariant.stands (ap (λ (z : Seen). z.held.spent) c.self.view_is ∙ (c.requires.before).1.kept.fresh)).numbering c.round_begins.ensures ∙ c.if-round_begins.true in
+    let k = given_here g at.After-ecode-code w.1 in
+    let opened = opened_here g at.In_default k in
+    let b = begins_told g at.After-round_begins ∙ c.if-round_begins.true in
     (over m w.0 c.args.at k.accepted k.later k.up _ c.self.inside.path.idle.instrs refl c.self.invariant.empty k.ready _ _ b opened.records).0
 
 pub close_and_begin-requires-clause-path : goal.close_and_begin-requires-clause-path
@@ -150,13 +193,11 @@ close_and_begin-requires-clause-path g c =
 
 pub close_and_begin-requires-clause-begins : goal.close_and_begin-requires-clause-begins
 close_and_begin-requires-clause-begins g c =
+    let at = goal.at.close_and_begin-requires-clause-begins g c in
     let w = c.requires.before in
-    let m = seen_in c.self.inside in
-    let k = given m _ w.0 c.args.at c.tables-t.result.now c.ecode-code.result.now c.self.inside.path.idle.instrs c.self.view_is c.self.invariant.accepted c.self.invariant.empty c.tables-t.ensures.value c.ecode-code.ensures c.requires.read w.1 in
-    let opened = rw (c.tables-t.ensures.value, c.ecode-code.ensures, c.schedule.ensures, c.schedules-schedules.ensures) at (c.in_default.ensures.world w.0 k.follows) in
-    let b = begins_so m.object c.self.inside.path.numbering c.args.at c.round_begins.result c.self.invariant.accepted (c.self.invariant.stands (ap (λ (z : Seen). z.held.spent) c.self.view_is ∙ (c.requires.before).1.kept.fresh)).numbering c.round_begins.ensures ∙ c.if-round_begins.true in
-    let q = given_begins m w.0 c.args.at _ _ _ k c.settle.new.self.values c.settle.ensures.values _ _ opened _ (c.in_default.ensures.noted.values ∙ c.settle.ensures.values) _ (c.in_default.ensures.noted.modes ∙ c.settle.ensures.modes) _ (c.in_default.ensures.writes w.0 k.follows) c.schedules-schedules.result.now _ c.schedules-schedules.ensures c.as_slice-takes.ensures b in
-    (w.0, q)
+    let k = given_here g at.After-ecode-code w.1 in
+    let b = begins_told g at.After-round_begins ∙ c.if-round_begins.true in
+    (w.0, begins_here g at.After-as_slice-takes k b)
 
 pub close_instant-requires-clause-sound : goal.close_instant-requires-clause-sound
 close_instant-requires-clause-sound g c = sound_of (seen_in c.self.inside) c.tables-t.result.now c.ecode-code.result.now c.tables-t.ensures.value c.ecode-code.ensures c.self.invariant.accepted
@@ -168,20 +209,18 @@ close_instant-requires-clause-jobs g c =
 
 pub close_instant-requires-clause-closes : goal.close_instant-requires-clause-closes
 close_instant-requires-clause-closes g c =
+    let at = goal.at.close_instant-requires-clause-closes g c in
     let w = c.requires.before in
-    let m = seen_in c.self.inside in
-    let k = given m _ w.0 c.args.at c.tables-t.result.now c.ecode-code.result.now c.self.inside.path.idle.instrs c.self.view_is c.self.invariant.accepted c.self.invariant.empty c.tables-t.ensures.value c.ecode-code.ensures c.requires.read w.1 in
-    let opened = rw (c.tables-t.ensures.value, c.ecode-code.ensures, c.schedule.ensures, c.schedules-schedules.ensures) at (c.in_default.ensures.world w.0 k.follows) in
-    let q = given_closes m w.0 c.args.at _ _ _ k c.settle.new.self.values c.settle.ensures.values _ _ opened _ (c.in_default.ensures.noted.values ∙ c.settle.ensures.values) _ (c.in_default.ensures.noted.modes ∙ c.settle.ensures.modes) _ (c.in_default.ensures.writes w.0 k.follows) in
-    (w.0, q)
+    let k = given_here g at.After-ecode-code w.1 in
+    (w.0, closes_here g at.In_default k)
 
 pub returns-in-Err-close_instant-clause-text : goal.returns-in-Err-close_instant-clause-text
 returns-in-Err-close_instant-clause-text g c = λ es before.
+    let at = goal.at.returns-in-Err-close_instant-clause-text g c in
     let m = seen_in c.self.inside in
-    let k = given m _ es c.args.at c.tables-t.result.now c.ecode-code.result.now c.self.inside.path.idle.instrs c.self.view_is c.self.invariant.accepted c.self.invariant.empty c.tables-t.ensures.value c.ecode-code.ensures c.requires.read before in
-    let opened = rw (c.tables-t.ensures.value, c.ecode-code.ensures, c.schedule.ensures, c.schedules-schedules.ensures) at (c.in_default.ensures.world es k.follows) in
-    let b = begins_so m.object c.self.inside.path.numbering c.args.at c.round_begins.result c.self.invariant.accepted (c.self.invariant.stands (ap (λ (z : Seen). z.held.spent) c.self.view_is ∙ (c.requires.before).1.kept.fresh)).numbering c.round_begins.ensures ∙ c.if-round_begins.false in
-    let q = given_closes m es c.args.at _ _ _ k c.settle.new.self.values c.settle.ensures.values _ _ opened _ (c.in_default.ensures.noted.values ∙ c.settle.ensures.values) _ (c.in_default.ensures.noted.modes ∙ c.settle.ensures.modes) _ (c.in_default.ensures.writes es k.follows) in
+    let k = given_here g at.After-ecode-code before in
+    let b = begins_told g at.After-round_begins ∙ c.if-round_begins.false in
+    let q = closes_here g at.In_default k in
     let text = rw (c.tables-t.ensures.value, c.ecode-code.ensures, c.schedule.ensures, c.schedules-schedules.ensures, c.node.ensures) at (c.in_default.ensures.text es k.follows) in
     let rest = rw (c.tables-t.ensures.value, c.ecode-code.ensures) at (c.in-Err-close_instant.ensures.text es q) in
     subst (λ (z : Seen). Puts {T = Unit {0}} {E = Failed} (g.W.Sink.written c.args.sink.now) (g.W.Sink.written c.close_instant.new.sink) (g.W.Sink.faults c.args.sink.now) (g.W.Sink.faults c.close_instant.new.sink) (lines_of z.object es z.show c.args.at) (Err c.in-Err-close_instant.failed))
@@ -189,11 +228,11 @@ returns-in-Err-close_instant-clause-text g c = λ es before.
 
 pub invariant_of-self-in_default-close_instant : goal.invariant_of-self-in_default-close_instant
 invariant_of-self-in_default-close_instant g c =
+    let at = goal.at.invariant_of-self-in_default-close_instant g c in
     let w = c.requires.before in
     let m = seen_in c.self.inside in
-    let k = given m _ w.0 c.args.at c.tables-t.result.now c.ecode-code.result.now c.self.inside.path.idle.instrs c.self.view_is c.self.invariant.accepted c.self.invariant.empty c.tables-t.ensures.value c.ecode-code.ensures c.requires.read w.1 in
-    let opened = rw (c.tables-t.ensures.value, c.ecode-code.ensures, c.schedule.ensures, c.schedules-schedules.ensures) at (c.in_default.ensures.world w.0 k.follows) in
-    let q = given_closes m w.0 c.args.at _ _ _ k c.settle.new.self.values c.settle.ensures.values _ _ opened _ (c.in_default.ensures.noted.values ∙ c.settle.ensures.values) _ (c.in_default.ensures.noted.modes ∙ c.settle.ensures.modes) _ (c.in_default.ensures.writes w.0 k.follows) in
+    let k = given_here g at.After-ecode-code w.1 in
+    let q = closes_here g at.In_default k in
     let kept = c.self.invariant in
     let desk = c.in_default-close_instant.ensures.desk w.0 q in
     record {
@@ -214,12 +253,7 @@ invariant_of-self-in_default-close_instant g c =
 
 pub invariant_of-self-in_default-close_and_begin : goal.invariant_of-self-in_default-close_and_begin
 invariant_of-self-in_default-close_and_begin g c =
-    let w = c.requires.before in
     let m = seen_in c.self.inside in
-    let k = given m _ w.0 c.args.at c.tables-t.result.now c.ecode-code.result.now c.self.inside.path.idle.instrs c.self.view_is c.self.invariant.accepted c.self.invariant.empty c.tables-t.ensures.value c.ecode-code.ensures c.requires.read w.1 in
-    let opened = rw (c.tables-t.ensures.value, c.ecode-code.ensures, c.schedule.ensures, c.schedules-schedules.ensures) at (c.in_default.ensures.world w.0 k.follows) in
-    let b = begins_so m.object c.self.inside.path.numbering c.args.at c.round_begins.result c.self.invariant.accepted (c.self.invariant.stands (ap (λ (z : Seen). z.held.spent) c.self.view_is ∙ (c.requires.before).1.kept.fresh)).numbering c.round_begins.ensures ∙ c.if-round_begins.true in
-    let q = given_begins m w.0 c.args.at _ _ _ k c.settle.new.self.values c.settle.ensures.values _ _ opened _ (c.in_default.ensures.noted.values ∙ c.settle.ensures.values) _ (c.in_default.ensures.noted.modes ∙ c.settle.ensures.modes) _ (c.in_default.ensures.writes w.0 k.follows) c.schedules-schedules.result.now _ c.schedules-schedules.ensures c.as_slice-takes.ensures b in
     let kept = c.self.invariant in
     record {
       accepted = kept.accepted;
@@ -237,23 +271,24 @@ invariant_of-self-in_default-close_and_begin g c =
 
 pub returns-in_default-close_and_begin-clause-text : goal.returns-in_default-close_and_begin-clause-text
 returns-in_default-close_and_begin-clause-text g c = λ es before.
+    let at = goal.at.returns-in_default-close_and_begin-clause-text g c in
     let m = seen_in c.self.inside in
-    let k = given m _ es c.args.at c.tables-t.result.now c.ecode-code.result.now c.self.inside.path.idle.instrs c.self.view_is c.self.invariant.accepted c.self.invariant.empty c.tables-t.ensures.value c.ecode-code.ensures c.requires.read before in
-    let opened = rw (c.tables-t.ensures.value, c.ecode-code.ensures, c.schedule.ensures, c.schedules-schedules.ensures) at (c.in_default.ensures.world es k.follows) in
-    let b = begins_so m.object c.self.inside.path.numbering c.args.at c.round_begins.result c.self.invariant.accepted (c.self.invariant.stands (ap (λ (z : Seen). z.held.spent) c.self.view_is ∙ (c.requires.before).1.kept.fresh)).numbering c.round_begins.ensures ∙ c.if-round_begins.true in
-    let q = given_begins m es c.args.at _ _ _ k c.settle.new.self.values c.settle.ensures.values _ _ opened _ (c.in_default.ensures.noted.values ∙ c.settle.ensures.values) _ (c.in_default.ensures.noted.modes ∙ c.settle.ensures.modes) _ (c.in_default.ensures.writes es k.follows) c.schedules-schedules.result.now _ c.schedules-schedules.ensures c.as_slice-takes.ensures b in
+    let k = given_here g at.After-ecode-code before in
+    let b = begins_told g at.After-round_begins ∙ c.if-round_begins.true in
+    let q = begins_here g at.After-as_slice-takes k b in
     let text = rw (c.tables-t.ensures.value, c.ecode-code.ensures, c.schedule.ensures, c.schedules-schedules.ensures, c.node.ensures) at (c.in_default.ensures.text es k.follows) in
     subst (λ (z : Seen). Puts {T = Unit {0}} {E = Failed} (g.W.Sink.written c.args.sink.now) (g.W.Sink.written c.close_and_begin.new.sink) (g.W.Sink.faults c.args.sink.now) (g.W.Sink.faults c.close_and_begin.new.sink) (lines_of z.object es z.show c.args.at) (Ok _))
     c.self.view_is (begun_closed_at m es c.args.at k.accepted k.later k.up _ k.ready c.tables-t.result.now c.ecode-code.result.now c.schedules-schedules.result.now _ _ _ _ _ _ _ _ c.tables-t.ensures.value c.ecode-code.ensures c.schedules-schedules.ensures b text (ends_so _ _ _ _ _ _ _ (c.in_default-close_and_begin.ensures.text es q)))
 
 pub returns-in_default-close_and_begin-clause-before : goal.returns-in_default-close_and_begin-clause-before
 returns-in_default-close_and_begin-clause-before g c = λ es before.
+    let at = goal.at.returns-in_default-close_and_begin-clause-before g c in
     let m = seen_in c.self.inside in
-    let k = given m _ es c.args.at c.tables-t.result.now c.ecode-code.result.now c.self.inside.path.idle.instrs c.self.view_is c.self.invariant.accepted c.self.invariant.empty c.tables-t.ensures.value c.ecode-code.ensures c.requires.read before in
-    let opened = rw (c.tables-t.ensures.value, c.ecode-code.ensures, c.schedule.ensures, c.schedules-schedules.ensures) at (c.in_default.ensures.world es k.follows) in
+    let k = given_here g at.After-ecode-code before in
+    let opened = opened_here g at.In_default k in
     let same = c.settle.ensures.values ∙ k.up.before.values.values.values in
-    let b = begins_so m.object c.self.inside.path.numbering c.args.at c.round_begins.result c.self.invariant.accepted (c.self.invariant.stands (ap (λ (z : Seen). z.held.spent) c.self.view_is ∙ (c.requires.before).1.kept.fresh)).numbering c.round_begins.ensures ∙ c.if-round_begins.true in
-    let q = given_begins m es c.args.at _ _ _ k c.settle.new.self.values c.settle.ensures.values _ _ opened _ (c.in_default.ensures.noted.values ∙ c.settle.ensures.values) _ (c.in_default.ensures.noted.modes ∙ c.settle.ensures.modes) _ (c.in_default.ensures.writes es k.follows) c.schedules-schedules.result.now _ c.schedules-schedules.ensures c.as_slice-takes.ensures b in
+    let b = begins_told g at.After-round_begins ∙ c.if-round_begins.true in
+    let q = begins_here g at.After-as_slice-takes k b in
     let counts = rw (c.tables-t.ensures.value, c.ecode-code.ensures, c.schedule.ensures, c.schedules-schedules.ensures) at (c.in_default.ensures.counts es k.follows) in
     let more = counts_at m.object es c.args.at c.tables-t.result.now c.ecode-code.result.now c.schedules-schedules.result.now c.close_and_begin.new.machines.works.tally c.open_instant.new.machines.works.tally c.tables-t.ensures.value c.ecode-code.ensures c.schedules-schedules.ensures (c.in_default-close_and_begin.ensures.counts es q) in
     let world = rw (c.tables-t.ensures.value, c.ecode-code.ensures) at (c.in_default-close_and_begin.ensures.world es q) in
@@ -273,22 +308,22 @@ returns-in_default-close_and_begin-clause-before g c = λ es before.
 
 pub returns-in-Err-close_and_begin-clause-text : goal.returns-in-Err-close_and_begin-clause-text
 returns-in-Err-close_and_begin-clause-text g c = λ es before.
+    let at = goal.at.returns-in-Err-close_and_begin-clause-text g c in
     let m = seen_in c.self.inside in
-    let k = given m _ es c.args.at c.tables-t.result.now c.ecode-code.result.now c.self.inside.path.idle.instrs c.self.view_is c.self.invariant.accepted c.self.invariant.empty c.tables-t.ensures.value c.ecode-code.ensures c.requires.read before in
-    let opened = rw (c.tables-t.ensures.value, c.ecode-code.ensures, c.schedule.ensures, c.schedules-schedules.ensures) at (c.in_default.ensures.world es k.follows) in
-    let b = begins_so m.object c.self.inside.path.numbering c.args.at c.round_begins.result c.self.invariant.accepted (c.self.invariant.stands (ap (λ (z : Seen). z.held.spent) c.self.view_is ∙ (c.requires.before).1.kept.fresh)).numbering c.round_begins.ensures ∙ c.if-round_begins.true in
-    let q = given_begins m es c.args.at _ _ _ k c.settle.new.self.values c.settle.ensures.values _ _ opened _ (c.in_default.ensures.noted.values ∙ c.settle.ensures.values) _ (c.in_default.ensures.noted.modes ∙ c.settle.ensures.modes) _ (c.in_default.ensures.writes es k.follows) c.schedules-schedules.result.now _ c.schedules-schedules.ensures c.as_slice-takes.ensures b in
+    let k = given_here g at.After-ecode-code before in
+    let b = begins_told g at.After-round_begins ∙ c.if-round_begins.true in
+    let q = begins_here g at.After-as_slice-takes k b in
     let text = rw (c.tables-t.ensures.value, c.ecode-code.ensures, c.schedule.ensures, c.schedules-schedules.ensures, c.node.ensures) at (c.in_default.ensures.text es k.follows) in
     subst (λ (z : Seen). Puts {T = Unit {0}} {E = Failed} (g.W.Sink.written c.args.sink.now) (g.W.Sink.written c.close_and_begin.new.sink) (g.W.Sink.faults c.args.sink.now) (g.W.Sink.faults c.close_and_begin.new.sink) (lines_of z.object es z.show c.args.at) (Err c.in-Err-close_and_begin.failed))
     c.self.view_is (begun_closed_at m es c.args.at k.accepted k.later k.up _ k.ready c.tables-t.result.now c.ecode-code.result.now c.schedules-schedules.result.now _ _ _ _ _ _ _ _ c.tables-t.ensures.value c.ecode-code.ensures c.schedules-schedules.ensures b text (fails_so _ _ _ _ _ _ c.in-Err-close_and_begin.failed (c.in-Err-close_and_begin.ensures.text es q)))
 
 pub returns-in_default-close_instant-clause-text : goal.returns-in_default-close_instant-clause-text
 returns-in_default-close_instant-clause-text g c = λ es before.
+    let at = goal.at.returns-in_default-close_instant-clause-text g c in
     let m = seen_in c.self.inside in
-    let k = given m _ es c.args.at c.tables-t.result.now c.ecode-code.result.now c.self.inside.path.idle.instrs c.self.view_is c.self.invariant.accepted c.self.invariant.empty c.tables-t.ensures.value c.ecode-code.ensures c.requires.read before in
-    let opened = rw (c.tables-t.ensures.value, c.ecode-code.ensures, c.schedule.ensures, c.schedules-schedules.ensures) at (c.in_default.ensures.world es k.follows) in
-    let b = begins_so m.object c.self.inside.path.numbering c.args.at c.round_begins.result c.self.invariant.accepted (c.self.invariant.stands (ap (λ (z : Seen). z.held.spent) c.self.view_is ∙ (c.requires.before).1.kept.fresh)).numbering c.round_begins.ensures ∙ c.if-round_begins.false in
-    let q = given_closes m es c.args.at _ _ _ k c.settle.new.self.values c.settle.ensures.values _ _ opened _ (c.in_default.ensures.noted.values ∙ c.settle.ensures.values) _ (c.in_default.ensures.noted.modes ∙ c.settle.ensures.modes) _ (c.in_default.ensures.writes es k.follows) in
+    let k = given_here g at.After-ecode-code before in
+    let b = begins_told g at.After-round_begins ∙ c.if-round_begins.false in
+    let q = closes_here g at.In_default k in
     let text = rw (c.tables-t.ensures.value, c.ecode-code.ensures, c.schedule.ensures, c.schedules-schedules.ensures, c.node.ensures) at (c.in_default.ensures.text es k.follows) in
     let rest = rw (c.tables-t.ensures.value, c.ecode-code.ensures) at (c.in_default-close_instant.ensures.text es q) in
     subst (λ (z : Seen). Puts {T = Unit {0}} {E = Failed} (g.W.Sink.written c.args.sink.now) (g.W.Sink.written c.close_instant.new.sink) (g.W.Sink.faults c.args.sink.now) (g.W.Sink.faults c.close_instant.new.sink) (lines_of z.object es z.show c.args.at) (Ok _))
@@ -296,12 +331,13 @@ returns-in_default-close_instant-clause-text g c = λ es before.
 
 pub returns-in_default-close_instant-clause-before : goal.returns-in_default-close_instant-clause-before
 returns-in_default-close_instant-clause-before g c = λ es before.
+    let at = goal.at.returns-in_default-close_instant-clause-before g c in
     let m = seen_in c.self.inside in
-    let k = given m _ es c.args.at c.tables-t.result.now c.ecode-code.result.now c.self.inside.path.idle.instrs c.self.view_is c.self.invariant.accepted c.self.invariant.empty c.tables-t.ensures.value c.ecode-code.ensures c.requires.read before in
-    let opened = rw (c.tables-t.ensures.value, c.ecode-code.ensures, c.schedule.ensures, c.schedules-schedules.ensures) at (c.in_default.ensures.world es k.follows) in
+    let k = given_here g at.After-ecode-code before in
+    let opened = opened_here g at.In_default k in
     let same = c.settle.ensures.values ∙ k.up.before.values.values.values in
-    let b = begins_so m.object c.self.inside.path.numbering c.args.at c.round_begins.result c.self.invariant.accepted (c.self.invariant.stands (ap (λ (z : Seen). z.held.spent) c.self.view_is ∙ (c.requires.before).1.kept.fresh)).numbering c.round_begins.ensures ∙ c.if-round_begins.false in
-    let q = given_closes m es c.args.at _ _ _ k c.settle.new.self.values c.settle.ensures.values _ _ opened _ (c.in_default.ensures.noted.values ∙ c.settle.ensures.values) _ (c.in_default.ensures.noted.modes ∙ c.settle.ensures.modes) _ (c.in_default.ensures.writes es k.follows) in
+    let b = begins_told g at.After-round_begins ∙ c.if-round_begins.false in
+    let q = closes_here g at.In_default k in
     let counts = rw (c.tables-t.ensures.value, c.ecode-code.ensures, c.schedule.ensures, c.schedules-schedules.ensures) at (c.in_default.ensures.counts es k.follows) in
     let more = rw (c.tables-t.ensures.value, c.ecode-code.ensures) at (c.in_default-close_instant.ensures.counts es q) in
     let world = rw (c.tables-t.ensures.value, c.ecode-code.ensures) at (c.in_default-close_instant.ensures.world es q) in
