@@ -1,39 +1,71 @@
 -- How many items of each kind a tree has, counted up to 2 ^ 64 - 1 in one pass.
-use Rattle.std.specs.Prelude.{ℕ, ◌+◌, ◌-◌, ◌^◌, min, max, List, [], ◌∷◌, length, fold}
+use Rattle.std.specs.Prelude.{ℕ, ◌≡◌, ◌+◌, ◌*◌, ◌-◌, ◌^◌, min, max, List, length, fold}
+use Rattle.htl_text.specs.Bounds.{comms_of, modules_of, modes_of, ports_of, tasks_of, invokes_of, switches_of}
 use Rattle.htl_text.specs.Nodes.{PlainProgram, PlainModule, PlainMode}
+use Rattle.htl_names.specs.Limits.{selections, most_invokes, most_positions}
+use Rattle.htl_names.specs.declared.limits.ModeTally.{ModeTally}
+use Rattle.htl_names.specs.declared.limits.ModuleTally.{ModuleTally}
+use Rattle.htl_names.specs.declared.limits.RootTally.{RootTally}
 use Rattle.htl_names.specs.declared.limits.Tally.{Tally}
 
--- a sum, up to the greatest count
-abbrev pub plus : ℕ → ℕ → ℕ
-plus a b = min (a + b) (2 ^ 64 - 1)
+-- up to the greatest count
+abbrev pub capped : ℕ → ℕ
+capped n = min n (2 ^ 64 - 1)
 
-abbrev pub no_tally : Tally
-no_tally = record { comms = 0; modules = 0; modes = 0; ports = 0; tasks = 0; invokes = 0; switches = 0; most_invokes = 0 }
+-- no items
+abbrev pub no_modes : ModeTally
+no_modes = record { ports = 0; invokes = 0; switches = 0; most_invokes = 0 }
 
-abbrev pub with_mode : Tally → PlainMode → Tally
+abbrev pub no_modules : ModuleTally
+no_modules = record { modes = 0; tasks = 0; of_modes = no_modes }
+
+abbrev pub no_tally : RootTally → Tally
+no_tally root = record { comms = 0; modules = 0; of_modules = no_modules; of_root = root }
+
+abbrev pub with_mode : ModeTally → PlainMode → ModeTally
 with_mode t x =
-    record t {
-      ports = plus t.ports (length x.ports);
-      invokes = plus t.invokes (length x.invokes);
-      switches = plus t.switches (length x.switches);
+    record {
+      ports = capped (t.ports + length x.ports);
+      invokes = capped (t.invokes + length x.invokes);
+      switches = capped (t.switches + length x.switches);
       most_invokes = max t.most_invokes (length x.invokes);
     }
 
-abbrev pub with_sizes : Tally → ℕ → ℕ → Tally
-with_sizes t modes tasks = record t { modes = plus t.modes modes; tasks = plus t.tasks tasks }
-
-abbrev pub with_module : Tally → PlainModule → Tally
-with_module t x = fold with_mode (with_sizes t (length x.modes) (length x.tasks)) x.modes
-
-abbrev pub with_items : Tally → ℕ → ℕ → Tally
-with_items t comms modules = record t { comms = plus t.comms comms; modules = plus t.modules modules }
+abbrev pub with_module : ModuleTally → PlainModule → ModuleTally
+with_module t x =
+    record {
+      modes = capped (t.modes + length x.modes);
+      tasks = capped (t.tasks + length x.tasks);
+      of_modes = fold with_mode t.of_modes x.modes;
+    }
 
 abbrev pub with_program : Tally → PlainProgram → Tally
-with_program t p = fold with_module (with_items t (length p.comms) (length p.modules)) p.modules
+with_program t x =
+    record t {
+      comms = capped (t.comms + length x.comms);
+      modules = capped (t.modules + length x.modules);
+      of_modules = fold with_module t.of_modules x.modules;
+    }
 
-abbrev pub tally : List PlainProgram → Tally
-tally ps = fold with_program no_tally ps
+abbrev pub with_root : RootTally → PlainModule → RootTally
+with_root t x =
+    record {
+      selections = capped (t.selections * length x.modes);
+      positions = capped (t.positions + (fold with_mode no_modes x.modes).most_invokes);
+    }
 
--- the first eight counts, in the order of the limits
-abbrev pub tally_counts : Tally → List ℕ
-tally_counts t = t.comms ∷ t.modules ∷ t.modes ∷ t.ports ∷ t.tasks ∷ t.invokes ∷ t.switches ∷ t.most_invokes ∷ []
+abbrev pub root_tally : List PlainModule → RootTally
+root_tally xs = fold with_root (record { selections = min (length xs) 1; positions = 0 }) xs
+
+-- each count is that of the tree, up to the greatest
+pub record IsTally (ps : List PlainProgram) (t : Tally) : Type 0 where
+  pub comms : capped t.comms ≡ capped (length (comms_of ps))
+  pub modules : capped t.modules ≡ capped (length (modules_of ps))
+  pub modes : capped t.of_modules.modes ≡ capped (length (modes_of (modules_of ps)))
+  pub ports : capped t.of_modules.of_modes.ports ≡ capped (length (ports_of (modes_of (modules_of ps))))
+  pub tasks : capped t.of_modules.tasks ≡ capped (length (tasks_of (modules_of ps)))
+  pub invokes : capped t.of_modules.of_modes.invokes ≡ capped (length (invokes_of (modes_of (modules_of ps))))
+  pub switches : capped t.of_modules.of_modes.switches ≡ capped (length (switches_of (modes_of (modules_of ps))))
+  pub most_invokes : capped t.of_modules.of_modes.most_invokes ≡ capped (most_invokes (modes_of (modules_of ps)))
+  pub selections : capped t.of_root.selections ≡ capped (selections ps)
+  pub positions : capped t.of_root.positions ≡ capped (most_positions ps)

@@ -1,11 +1,11 @@
 // The first limit that a source exceeds: what it has of each kind, and how much it may have.
-ghost use Rattle.std.specs.Prelude.{◌≡◌, map, ◌≤◌, length, ◌+◌, [], ◌∷◌, take, drop};
-ghost use Rattle.htl_text.specs.Nodes.{mode_of, module_of, program_of, tree_of};
-ghost use Rattle.htl_names.specs.Excess.{IsFirstExcess, capped, excess_from};
+ghost use Rattle.std.specs.Prelude.{◌≡◌, map, fold, get_or, ◌≤◌, ◌<◌, length};
+ghost use Rattle.htl_text.specs.Nodes.{mode_of, module_of, tree_of};
+ghost use Rattle.htl_names.specs.Excess.{IsFirstExcess};
 ghost use Rattle.htl_names.specs.LevelTable.{level_by, levels_by};
-ghost use Rattle.htl_names.specs.Limits.{selections, most_invokes, most_positions, counts, limits};
+ghost use Rattle.htl_names.specs.Limits.{counts, limits};
 ghost use Rattle.htl_names.specs.Named.{AreRefined};
-ghost use Rattle.htl_names.specs.Tallies.{with_module, with_program, tally};
+ghost use Rattle.htl_names.specs.Tallies.{capped, with_mode, with_module, root_tally, IsTally};
 
 use crate::place::modules_at;
 use crate::programs::{Named, refined_at};
@@ -14,123 +14,126 @@ use htl_base::limits::{
     MAX_COMMUNICATORS, MAX_INVOCATIONS, MAX_LEVELS, MAX_MODE_INVOCATIONS, MAX_MODES, MAX_MODULES,
     MAX_PORTS, MAX_POSITIONS, MAX_SELECTIONS, MAX_SWITCHES, MAX_TASKS,
 };
-use htl_text::{ModuleNode, ProgramNode, Tree};
+use htl_text::{ModeNode, ModuleNode, Tree};
 
-// ---- counts of items
+// ---- counts of items, each of which stops at `usize::MAX`
 
-/// How many items of each kind there are, and the most invocations in one mode. Each stops at `usize::MAX`.
+/// How many items modes have, and the most invocations in one mode.
 #[derive(Clone, Copy)]
-pub(crate) struct Tally {
-    pub comms: usize,
-    pub modules: usize,
-    pub modes: usize,
-    pub ports: usize,
-    pub tasks: usize,
-    pub invokes: usize,
-    pub switches: usize,
-    pub most_invokes: usize,
+struct ModeTally {
+    ports: usize,
+    invokes: usize,
+    switches: usize,
+    most_invokes: usize,
 }
 
-impl Tally {
-    const NONE: Tally = Tally {
-        comms: 0,
-        modules: 0,
-        modes: 0,
+impl ModeTally {
+    const NONE: ModeTally = ModeTally {
         ports: 0,
-        tasks: 0,
         invokes: 0,
         switches: 0,
         most_invokes: 0,
     };
 }
 
-fn with_module(t: Tally, module: &ModuleNode) -> Tally
-    ensures { result ≡ with_module t (module_of «module».now) }
+/// How many items modules have.
+#[derive(Clone, Copy)]
+struct ModuleTally {
+    modes: usize,
+    tasks: usize,
+    of_modes: ModeTally,
+}
+
+/// How many root selections there are, none without root modules, and the most positions that one has.
+#[derive(Clone, Copy)]
+struct RootTally {
+    selections: usize,
+    positions: usize,
+}
+
+/// How much a source has.
+#[derive(Clone, Copy)]
+struct Tally {
+    comms: usize,
+    modules: usize,
+    of_modules: ModuleTally,
+    of_root: RootTally,
+}
+
+fn with_modes(t: ModeTally, modes: &[ModeNode]) -> ModeTally
+    ensures { result ≡ fold with_mode t (map mode_of modes.now) }
 {
-    let modes = module.modes.as_slice();
-    let mut sum = Tally {
-        modes: t.modes.saturating_add(modes.len()),
-        tasks: t.tasks.saturating_add(module.tasks.as_slice().len()),
-        ..t
-    };
+    let mut sum = t;
     for k in 0..modes.len() {
         let mode = &modes[k];
         let invokes = mode.invokes.as_slice().len();
-        sum = Tally {
+        sum = ModeTally {
             ports: sum.ports.saturating_add(mode.ports.as_slice().len()),
             invokes: sum.invokes.saturating_add(invokes),
             switches: sum.switches.saturating_add(mode.switches.as_slice().len()),
             most_invokes: sum.most_invokes.max(invokes),
-            ..sum
         };
     }
     sum
 }
 
-fn with_program(t: Tally, program: &ProgramNode) -> Tally
-    ensures { result ≡ with_program t (program_of program.now) }
+fn with_modules(t: ModuleTally, modules: &[ModuleNode]) -> ModuleTally
+    ensures { result ≡ fold with_module t (map module_of modules.now) }
 {
-    let modules = program.modules.as_slice();
-    let mut sum = Tally {
-        comms: t.comms.saturating_add(program.comms.as_slice().len()),
-        modules: t.modules.saturating_add(modules.len()),
-        ..t
+    let mut sum = t;
+    for k in 0..modules.len() {
+        let modes = modules[k].modes.as_slice();
+        sum = ModuleTally {
+            modes: sum.modes.saturating_add(modes.len()),
+            tasks: sum.tasks.saturating_add(modules[k].tasks.as_slice().len()),
+            of_modes: with_modes(sum.of_modes, modes),
+        };
+    }
+    sum
+}
+
+/// The tally of the root modules: a selection takes a mode of each.
+fn root_tally(modules: &[ModuleNode]) -> RootTally
+    ensures { result ≡ root_tally (map module_of modules.now) }
+{
+    let mut sum = RootTally {
+        selections: modules.len().min(1),
+        positions: 0,
     };
     for k in 0..modules.len() {
-        sum = with_module(sum, &modules[k]);
+        let modes = modules[k].modes.as_slice();
+        let most = with_modes(ModeTally::NONE, modes).most_invokes;
+        sum = RootTally {
+            selections: sum.selections.saturating_mul(modes.len()),
+            positions: sum.positions.saturating_add(most),
+        };
     }
     sum
 }
 
-/// The counts of a whole source.
-pub(crate) fn tally_of(tree: &Tree) -> Tally
-    ensures { result ≡ tally (tree_of tree.now) }
+fn tally_of(tree: &Tree) -> Tally
+    ensures { IsTally (tree_of tree.now) result }
 {
     let programs = tree.programs.as_slice();
-    let mut sum = Tally::NONE;
+    let mut sum = Tally {
+        comms: 0,
+        modules: 0,
+        of_modules: ModuleTally {
+            modes: 0,
+            tasks: 0,
+            of_modes: ModeTally::NONE,
+        },
+        of_root: root_tally(modules_at(tree, 0)),
+    };
     for k in 0..programs.len() {
-        sum = with_program(sum, &programs[k]);
-    }
-    sum
-}
-
-// ---- root selections
-
-/// How many root selections there are, at most `usize::MAX`: none without root modules, else a mode of each.
-pub(crate) fn selections(tree: &Tree) -> usize
-    ensures { result ≡ capped (selections (tree_of tree.now)) }
-{
-    let modules = modules_at(tree, 0);
-    if modules.is_empty() {
-        return 0;
-    }
-    let mut n = 1usize;
-    for k in 0..modules.len() {
-        n = n.saturating_mul(modules[k].modes.as_slice().len());
-    }
-    n
-}
-
-/// The most invocations that a mode of a module has.
-fn most_invokes(module: &ModuleNode) -> usize
-    ensures { result ≡ most_invokes (map mode_of «module».now.modes) }
-{
-    let modes = module.modes.as_slice();
-    let mut most = 0usize;
-    for k in 0..modes.len() {
-        most = most.max(modes[k].invokes.as_slice().len());
-    }
-    most
-}
-
-/// The most positions that a root selection has, at most `usize::MAX`.
-pub(crate) fn most_positions(tree: &Tree) -> usize
-    ensures { result ≡ capped (most_positions (tree_of tree.now)) }
-{
-    let modules = modules_at(tree, 0);
-    let mut sum = 0usize;
-    for k in 0..modules.len() {
-        sum = sum.saturating_add(most_invokes(&modules[k]));
+        let program = &programs[k];
+        let modules = program.modules.as_slice();
+        sum = Tally {
+            comms: sum.comms.saturating_add(program.comms.as_slice().len()),
+            modules: sum.modules.saturating_add(modules.len()),
+            of_modules: with_modules(sum.of_modules, modules),
+            ..sum
+        };
     }
     sum
 }
@@ -174,60 +177,52 @@ pub(crate) struct Excess {
     pub count: u32,
 }
 
-/// The first excess of counts over their limits, which are numbered from `first` on.
-fn first_excess(first: u8, counts: &[usize], limits: &[usize]) -> Option<Excess>
-    requires few { first + length counts.now ≤ 20 }
-    requires paired { length counts.now ≡ length limits.now }
-    ensures { result ≡ excess_from first counts.now limits.now }
+/// What there is of the kind that a limit is set to, and the limit; the limits are counted from 0.
+fn count_and_limit(
+    limit: u8,
+    sum: &Tally,
+    tree: &Tree,
+    symbols: &Symbols,
+    named: &[Named],
+) -> (usize, usize)
+    requires counted { IsTally (tree_of tree.now) sum.now }
+    requires refined { AreRefined symbols.now (tree_of tree.now) named.now }
+    requires within { limit < 11 }
+    ensures count { capped result.0 ≡ capped (get_or (counts symbols.now (tree_of tree.now)) limit 0) }
+    ensures limit { result.1 ≡ get_or limits limit 0 }
+    ensures small { result.1 ≤ 4096 }
 {
-    let mut which = first;
-    for k in 0..counts.len() {
-        if limits[k] < counts[k] {
-            let count = counts[k].min(u32::MAX as usize) as u32;
-            return Some(Excess { which, count });
-        }
-        which += 1;
+    match limit {
+        0 => (sum.comms, MAX_COMMUNICATORS),
+        1 => (sum.modules, MAX_MODULES),
+        2 => (sum.of_modules.modes, MAX_MODES),
+        3 => (sum.of_modules.of_modes.ports, MAX_PORTS),
+        4 => (sum.of_modules.tasks, MAX_TASKS),
+        5 => (sum.of_modules.of_modes.invokes, MAX_INVOCATIONS),
+        6 => (sum.of_modules.of_modes.switches, MAX_SWITCHES),
+        7 => (sum.of_modules.of_modes.most_invokes, MAX_MODE_INVOCATIONS),
+        8 => (levels(named), MAX_LEVELS),
+        9 => (sum.of_root.selections, MAX_SELECTIONS as usize),
+        _ => (sum.of_root.positions, MAX_POSITIONS),
     }
-    None
 }
 
-/// The first excess of levels, root selections and positions, limits 9 to 11.
-fn shape_excess(tree: &Tree, named: &[Named]) -> Option<Excess>
-    ensures { result ≡ excess_from 9 (levels_by named.now ∷ capped (selections (tree_of tree.now)) ∷ capped (most_positions (tree_of tree.now)) ∷ []) (drop 8 limits) }
-{
-    let counts = [levels(named), selections(tree), most_positions(tree)];
-    let limits = [MAX_LEVELS, MAX_SELECTIONS as usize, MAX_POSITIONS];
-    first_excess(9, &counts, &limits)
-}
-
-/// The first limit that is exceeded. `named` has how modes name each program.
+/// The first limit that is exceeded. `named` has how modes name each program. Levels are counted only where the limits
+/// before theirs are kept, so that there are few programs from which to climb.
 pub(crate) fn first_exceeded(tree: &Tree, symbols: &Symbols, named: &[Named]) -> Option<Excess>
     requires { AreRefined symbols.now (tree_of tree.now) named.now }
     ensures { IsFirstExcess (counts symbols.now (tree_of tree.now)) result }
 {
     let sum = tally_of(tree);
-    let counts = [
-        sum.comms,
-        sum.modules,
-        sum.modes,
-        sum.ports,
-        sum.tasks,
-        sum.invokes,
-        sum.switches,
-        sum.most_invokes,
-    ];
-    let limits = [
-        MAX_COMMUNICATORS,
-        MAX_MODULES,
-        MAX_MODES,
-        MAX_PORTS,
-        MAX_TASKS,
-        MAX_INVOCATIONS,
-        MAX_SWITCHES,
-        MAX_MODE_INVOCATIONS,
-    ];
-    match first_excess(1, &counts, &limits) {
-        Some(found) => Some(found),
-        None => shape_excess(tree, named),
+    for k in 0..11u8 {
+        let (count, limit) = count_and_limit(k, &sum, tree, symbols, named);
+        if limit < count {
+            let count = count.min(u32::MAX as usize) as u32;
+            return Some(Excess {
+                which: k + 1,
+                count,
+            });
+        }
     }
+    None
 }
