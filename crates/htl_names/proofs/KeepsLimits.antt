@@ -10,12 +10,12 @@ use Rattle.htl_model.specs.Selections.{is_root, root_modules, mode_of_module, in
 use Rattle.htl_model.specs.Tables.{Tables}
 use Rattle.htl_model.specs.declared.parts.Inv.{Inv}
 use Rattle.htl_model.specs.declared.parts.Mode.{Mode}
-use Rattle.htl_model.proofs.SelectionLaws.{modes_some}
+use Rattle.htl_model.proofs.SelectionLaws.{modes_some, place_passes_0}
 use Rattle.htl_text.specs.Nodes.{PlainProgram, PlainModule, PlainMode}
 use Rattle.htl_text.specs.declared.tree.InvokeNode.{InvokeNode}
 use Rattle.htl_names.specs.Conditions.{MeetsBounds}
-use Rattle.htl_names.specs.Flat.{layout, mode_number, mode_item, module_mode_items, module_item, module_items_at, invoke_item, mode_invoke_items, tables_of_tree}
-use Rattle.htl_names.specs.Limits.{most_invokes, most_positions, selections, choices}
+use Rattle.htl_names.specs.Flat.{Layout, layout, mode_number, mode_item, module_mode_items, module_item, module_items_at, invoke_item, mode_invoke_items, tables_of_tree}
+use Rattle.htl_names.specs.Limits.{most_invokes, most_positions, selections, choices, plain_root_modules}
 use Rattle.htl_names.specs.Lists.{flat_map_at}
 use Rattle.htl_names.specs.NameRules.{AreNamesRight}
 use Rattle.htl_names.specs.Order.{modules_at, modes_at, invokes_at, modules_in}
@@ -28,207 +28,139 @@ use Rattle.htl_names.proofs.Numbered.{modules_exist, AreModules, modes_in, mode_
 use Rattle.htl_names.proofs.FlatMaps.{owned, owned_count, there_is}
 use Rattle.htl_names.proofs.Ordering.{kept_limit, names-ordered}
 use Rattle.htl_model.proofs.PlaceLaws.{get_mapped}
-use Rattle.htl_names.proofs.ListLaws.{greatest_at, map_places, length-places, Passes, place_passes}
+use Rattle.htl_names.proofs.ListLaws.{greatest_at, map_places, length-places, Paired}
 use Rattle.htl_names.proofs.Places.{modes_there}
-use Rattle.htl_names.specs.Limits as tree
+use Rattle.htl_names.proofs.LimitLaws.{root_modules_are}
+use Rattle.htl_names.proofs.Members.{at_place}
+use Rattle.htl_model.specs.declared.parts.Module.{Module}
 
--- ---- products
+-- root module u of the tables has so many modes, and in each selection no more positions than the most of one of these
+record IsRoot (t : Tables) (u : ℕ) (xs : List PlainMode) : Type 0 where
+  modes : length (modes_of t u) ≡ length xs
+  few : (sel : ℕ) → length (invs_of t (root_mode t sel u)) ≤ most_invokes xs
 
-abbrev product : List ℕ → ℕ
-product [] = 1
-product (n ∷ ns) = n * product ns
+-- ---- from root modules to selections
 
-choices_product : (xs : List PlainModule) → choices xs ≡ product (map (λ (x : PlainModule). length x.modes) xs)
-choices_product [] = refl
-choices_product (x ∷ xs) = ap (λ (n : ℕ). length x.modes * n) (choices_product xs)
+module _ (t : Tables) where
+  abbrev product : List ℕ → ℕ
+  product [] = 1
+  product (u ∷ us) = length (modes_of t u) * product us
 
-kept_product : (b : Bool) (f : ModuleAt → ℕ) (s : ModuleAt) (ss : List ModuleAt) → cond b (f s) 1 * product (map f ss) ≡ product (map f (cond b (s ∷ ss) ss))
-kept_product true f s ss = refl
-kept_product false f s ss = omega arith
+  choices_by_roots : (k : ℕ) (xs : List Module) → choices_from t k xs ≡ product (places_from is_root k xs)
+  choices_by_roots k [] = refl
+  choices_by_roots k (x ∷ xs) = by (is_root x) _ _ (choices_by_roots (suc k) xs)
+    where
+      by : (b : Bool) (n : ℕ) (us : List ℕ) → n ≡ product us → cond b (length (modes_of t k)) 1 * n ≡ product (cond b (k ∷ us) us)
+      by true n us is = ap (λ m. length (modes_of t k) * m) is
+      by false n us is = omega (arith, is)
 
--- ---- the root modules of a source
+  -- these root modules give what those modules of a source give
+  record AreAlike (us : List ℕ) (xs : List PlainModule) : Type 0 where
+    same : product us ≡ choices xs
+    counted : (n : ℕ) → n ≡ choices xs → ◌≡◌ {A = ℕ} (elim us [ [] ↦ 0 | u ∷ vs ↦ n ]) (elim xs [ [] ↦ 0 | y ∷ ys ↦ choices (y ∷ ys) ])
+    few : (sel : ℕ) → length (flat_map (λ u. invs_of t (root_mode t sel u)) us) ≤ sum (map (λ (x : PlainModule). most_invokes x.modes) xs)
 
-root_modules_are : (ps : List PlainProgram) → modules_at ps 0 ≡ tree.plain_root_modules ps
-root_modules_are [] = refl
-root_modules_are (p ∷ ps) = refl
+  alike : (us : List ℕ) (xs : List PlainModule) → Paired (IsRoot t) us (map (λ (x : PlainModule). x.modes) xs) → AreAlike us xs
+  alike [] [] h = record { same = refl; counted = λ n is. refl; few = λ sel. omega arith }
+  alike [] (x ∷ xs) h = absurd h
+  alike (u ∷ us) [] h = absurd h
+  alike (u ∷ us) (x ∷ xs) h =
+      let rest = alike us xs h.1 in
+      record {
+        same = ap (λ n. n * product us) h.0.modes ∙ ap (λ n. length x.modes * n) rest.same;
+        counted = λ n is. is;
+        few = λ sel.
+            let size = length-append (invs_of t (root_mode t sel u)) (flat_map (λ v. invs_of t (root_mode t sel v)) us) in
+            let total = sum_by-cons (λ (n : ℕ). n) (most_invokes x.modes) (map (λ (y : PlainModule). most_invokes y.modes) xs) in
+            omega (arith, size, total, h.0.few sel, rest.few sel);
+      }
 
--- what is told of the modes of each root module, and of each root module
-of_roots : {C : Type 0} (h : List PlainMode → C) (ps : List PlainProgram) → map (λ s. h (modes_in ps s)) (modules_in ps None 0) ≡ map (λ (x : PlainModule). h x.modes) (tree.plain_root_modules ps)
-of_roots h ps =
-    map_places (λ s. h (modes_in ps s)) (nth_module 0 None) (λ (x : PlainModule). h x.modes) (modules_at ps 0) (λ k z e. ap h (modes_there ps 0 k z e))
-    ∙ ap (map (λ (x : PlainModule). h x.modes)) (root_modules_are ps)
-
-abbrev is_none : {A : Type 0} → Option A → Bool
-is_none (Some x) = false
-is_none None = true
-
-root_item : (ps : List PlainProgram) (k : ℕ) (s : ModuleAt) (x : PlainModule) → is_root (module_item (layout ps) ps k s x) ≡ is_root_module s
-root_item ps k s x = by s.parent
-  where
-    by : (o : Option ModeAt) → is_none (elim o [ Some a ↦ Some (mode_number (layout ps) ps a) | None ↦ None ]) ≡ is_none o
-    by None = refl
-    by (Some a) = refl
-
--- ---- modes and invocations of the tables
-
-modes_counted : (ps : List PlainProgram) (k : ℕ) (s : ModuleAt) → slice_get (layout ps).modules k ≡ Some s → length (modes_of (tables_of_tree ps) k) ≡ length (modes_in ps s)
-modes_counted ps k s there =
-    length-places (mode_of_module k) 0 (tables_of_tree ps).modes
-    ∙ owned_count (module_mode_items ps) (λ (m : Mode). m.«module») k (owned (λ k s. mode_item k) (modes_in ps) (λ (m : Mode). m.«module») (λ k s x. refl)) 0 (layout ps).modules k s (omega arith) there
-    ∙ length-map (modes_in ps s) (mode_item k)
-
-invokes_counted : (ps : List PlainProgram) (m : ℕ) (a : ModeAt) → slice_get (layout ps).modes m ≡ Some a → length (invs_of (tables_of_tree ps) m) ≡ length (invokes_at ps a)
-invokes_counted ps m a there =
-    length-places (inv_of_mode m) 0 (tables_of_tree ps).invs
-    ∙ owned_count (mode_invoke_items (layout ps) ps) (λ (i : Inv). i.mode) m (owned (invoke_item (layout ps) ps) (invokes_at ps) (λ (i : Inv). i.mode) (λ m a x. refl)) 0 (layout ps).modes m a (omega arith) there
-    ∙ length-map (invokes_at ps a) (invoke_item (layout ps) ps m a)
-
--- ---- along the modules
-
--- these modules stand from place k on
-abbrev StandFrom : List PlainProgram → ℕ → List ModuleAt → Type 0
-StandFrom ps k us = (i : ℕ) (s : ModuleAt) → slice_get us i ≡ Some s → slice_get (layout ps).modules (k + i) ≡ Some s
-
-stand_first : (ps : List PlainProgram) (k : ℕ) (s : ModuleAt) (us : List ModuleAt) → StandFrom ps k (s ∷ us) → slice_get (layout ps).modules k ≡ Some s
-stand_first ps k s us stand = let same : k + 0 ≡ k = omega arith in ap (slice_get (layout ps).modules) (sym same) ∙ stand 0 s refl
-
-stand_rest : (ps : List PlainProgram) (k : ℕ) (s : ModuleAt) (us : List ModuleAt) → StandFrom ps k (s ∷ us) → StandFrom ps (suc k) us
-stand_rest ps k s us stand i r e = let same : k + suc i ≡ suc k + i = omega arith in ap (slice_get (layout ps).modules) (sym same) ∙ stand (suc i) r e
-
-module _ (ps : List PlainProgram) (exist : AreModules ps (layout ps).modules) where
-  -- each root module has the place of its module
-  same_roots : (k : ℕ) (us : List ModuleAt) → StandFrom ps k us → places_from is_root k (flat_map_at (module_items_at (layout ps) ps) k us) ≡ places_from is_root_module k us
-  same_roots k [] stand = refl
-  same_roots k (s ∷ us) stand =
-      let x = exist k s (stand_first ps k s us stand) in
-      let later = flat_map_at (module_items_at (layout ps) ps) (suc k) us in
-      let rest = places_from is_root (suc k) later in
-      ap (λ ms. places_from is_root k (ms ++ later)) (one_module (layout ps) ps k s x.0 x.1)
-      ∙ ap (λ b. cond b (k ∷ rest) rest) (root_item ps k s x.0)
-      ∙ ap (λ ks. cond (is_root_module s) (k ∷ ks) ks) (same_roots (suc k) us (stand_rest ps k s us stand))
-
-  choices_are : (k : ℕ) (us : List ModuleAt) → StandFrom ps k us
-      → choices_from (tables_of_tree ps) k (flat_map_at (module_items_at (layout ps) ps) k us) ≡ product (map (λ s. length (modes_in ps s)) (filter is_root_module us))
-  choices_are k [] stand = refl
-  choices_are k (s ∷ us) stand =
-      let t = tables_of_tree ps in
-      let there = stand_first ps k s us stand in
-      let x = exist k s there in
-      let later = flat_map_at (module_items_at (layout ps) ps) (suc k) us in
-      let size = length (modes_of t k) in
-      ap (λ ms. choices_from t k (ms ++ later)) (one_module (layout ps) ps k s x.0 x.1)
-      ∙ ap (λ b. cond b size 1 * choices_from t (suc k) later) (root_item ps k s x.0)
-      ∙ ap (λ (n : ℕ). cond (is_root_module s) n 1 * choices_from t (suc k) later) (modes_counted ps k s there)
-      ∙ ap (λ (n : ℕ). cond (is_root_module s) (length (modes_in ps s)) 1 * n) (choices_are (suc k) us (stand_rest ps k s us stand))
-      ∙ kept_product (is_root_module s) (λ s. length (modes_in ps s)) s (filter is_root_module us)
-
--- what the places of the roots give is no more than what is allowed for each
-few_by_roots : {B : Type 0} (g : ℕ → List B) (most : ModuleAt → ℕ) (k : ℕ) (us : List ModuleAt) → ((i : ℕ) (s : ModuleAt) → slice_get us i ≡ Some s → length (g (k + i)) ≤ most s)
-    → length (flat_map g (places_from is_root_module k us)) ≤ sum (map most (filter is_root_module us))
-few_by_roots g most k [] few = omega arith
-few_by_roots {B} g most k (s ∷ us) few =
-    by (is_root_module s) (few_by_roots g most (suc k) us (λ i r e. let same : k + suc i ≡ suc k + i = omega arith in subst (λ (n : ℕ). length (g n) ≤ most r) same (few (suc i) r e)))
-  where
-    by : (b : Bool) → length (flat_map g (places_from is_root_module (suc k) us)) ≤ sum (map most (filter is_root_module us))
-        → length (flat_map g (cond b (k ∷ places_from is_root_module (suc k) us) (places_from is_root_module (suc k) us)))
-        ≤ sum (map most (cond b (s ∷ filter is_root_module us) (filter is_root_module us)))
-    by true later =
-        let size = length-append (g k) (flat_map g (places_from is_root_module (suc k) us)) in
-        let total = sum_by-cons (λ (n : ℕ). n) (most s) (map most (filter is_root_module us)) in
-        let same : k + 0 ≡ k = omega arith in
-        let own : length (g k) ≤ most s = subst (λ (n : ℕ). length (g n) ≤ most s) same (few 0 s refl) in
-        omega (arith, later, size, total, own)
-    by false later = later
-
--- ---- the modes of a selection
+-- ---- the tables of a tree
 
 module _ (ps : List PlainProgram) (small : MeetsBounds ps) (right : AreNamesRight ps) where
-  exist : AreModules ps (layout ps).modules
+  abbrev t : Tables
+  t = tables_of_tree ps
+
+  abbrev l : Layout
+  l = layout ps
+
+  exist : AreModules ps l.modules
   exist = modules_exist ps (names-ordered ps right)
 
-  -- the mode of a module in a selection is one of the module's
-  root_mode_is : (sel k : ℕ) (s : ModuleAt) → slice_get (layout ps).modules k ≡ Some s → Passes (mode_of_module k) 0 (tables_of_tree ps).modes (root_mode (tables_of_tree ps) sel k)
-  root_mode_is sel k s there =
-      let t = tables_of_tree ps in
-      let within = slice_get_within (layout ps).modules k s there in
-      let size = module_count (layout ps) ps exist in
-      let some : 0 < length (modes_of t k) = modes_some t k (names-in-range ps small right) (omega (arith, within, size)) in
-      let place = sel / choices_from t (k + 1) (drop (k + 1) t.modules) % length (modes_of t k) in
-      let inside : place < length (modes_of t k) = omega (arith, some) in
-      place_passes (mode_of_module k) 0 t.modes place (root_mode t sel k) (slice_get-get_or (modes_of t k) place 0 inside)
+  modes_counted : (k : ℕ) (s : ModuleAt) → slice_get l.modules k ≡ Some s → length (modes_of t k) ≡ length (modes_in ps s)
+  modes_counted k s there =
+      length-places (mode_of_module k) 0 t.modes
+      ∙ owned_count (module_mode_items ps) (λ (m : Mode). m.«module») k (owned (λ k s. mode_item k) (modes_in ps) (λ (m : Mode). m.«module») (λ k s x. refl)) 0 l.modules k s (omega arith) there
+      ∙ length-map (modes_in ps s) (mode_item k)
 
-  -- it has no more invocations than the most of a mode of the module
-  few_in_root : (sel k : ℕ) (s : ModuleAt) → slice_get (layout ps).modules k ≡ Some s → length (invs_of (tables_of_tree ps) (root_mode (tables_of_tree ps) sel k)) ≤ most_invokes (modes_in ps s)
-  few_in_root sel k s there =
-      let t = tables_of_tree ps in
-      let r = root_mode_is sel k s there in
-      let number = r.number in
-      let place : r.place ≡ root_mode t sel k = omega (arith, number) in
-      let within = slice_get_within t.modes r.place r.item r.there in
-      let size = mode_count (layout ps) ps refl in
-      let a = there_is (layout ps).modes (root_mode t sel k) (omega (arith, within, size, place)) in
-      let m = mode_of_number (layout ps) ps refl (root_mode t sel k) a.0 a.1 in
-      let item : r.item ≡ mode_item m.number m.node = same_Some r.item (mode_item m.number m.node) (sym r.there ∙ ap (slice_get t.modes) place ∙ m.item) in
-      let «module» : m.number ≡ k = ap (λ (x : Mode). x.«module») (sym item) ∙ eqb-true r.item.«module» k r.passes in
-      let same : m.«module» ≡ s = same_Some m.«module» s (sym m.there ∙ ap (slice_get (layout ps).modules) «module» ∙ there) in
+  invokes_counted : (m : ℕ) (a : ModeAt) → slice_get l.modes m ≡ Some a → length (invs_of t m) ≡ length (invokes_at ps a)
+  invokes_counted m a there =
+      length-places (inv_of_mode m) 0 t.invs
+      ∙ owned_count (mode_invoke_items l ps) (λ (i : Inv). i.mode) m (owned (invoke_item l ps) (invokes_at ps) (λ (i : Inv). i.mode) (λ m a x. refl)) 0 l.modes m a (omega arith) there
+      ∙ length-map (invokes_at ps a) (invoke_item l ps m a)
+
+  -- a mode of a module has no more invocations than the most of one
+  few_in_mode : (k n : ℕ) (s : ModuleAt) (x : Mode) → slice_get l.modules k ≡ Some s → slice_get t.modes n ≡ Some x → x.«module» ≡ k → length (invs_of t n) ≤ most_invokes (modes_in ps s)
+  few_in_mode k n s x there at owner =
+      let within = slice_get_within t.modes n x at in
+      let size = mode_count l ps refl in
+      let a = there_is l.modes n (omega (arith, within, size)) in
+      let m = mode_of_number l ps refl n a.0 a.1 in
+      let number : m.number ≡ k = ap (λ (y : Mode). y.«module») (sym (same_Some x (mode_item m.number m.node) (sym at ∙ m.item))) ∙ owner in
+      let same : m.«module» ≡ s = same_Some m.«module» s (sym m.there ∙ ap (slice_get l.modules) number ∙ there) in
       let its : modes_at ps a.0.program a.0.«module» ≡ modes_in ps s =
-      ap (λ p. modes_at ps p a.0.«module») (sym m.program) ∙ ap (λ u. modes_at ps m.«module».program u) (sym m.place) ∙ ap (modes_in ps) same in
-      let node : slice_get (modes_in ps s) a.0.mode ≡ Some m.node = ap (λ xs. slice_get xs a.0.mode) (sym its) ∙ m.its in
-      let invokes : Option PlainMode → List InvokeNode = λ o. elim o [ Some x ↦ x.invokes | None ↦ [] ] in
-      let counted : length (invs_of t (root_mode t sel k)) ≡ length m.node.invokes =
-      invokes_counted ps (root_mode t sel k) a.0 a.1 ∙ ap (λ o. length (invokes o)) m.its in
-      let few = greatest_at 0 (length m.node.invokes) (map (λ (x : PlainMode). length x.invokes) (modes_in ps s)) a.0.mode
-      (get_mapped (λ (x : PlainMode). length x.invokes) (modes_in ps s) a.0.mode m.node node) in
-      omega (arith, counted, few)
+      ap (λ p. modes_at ps p a.0.«module») (sym m.program) ∙ ap (modes_at ps m.«module».program) (sym m.place) ∙ ap (modes_in ps) same in
+      let invokes : PlainMode → ℕ = λ x. length x.invokes in
+      let few = greatest_at 0 (invokes m.node) (map invokes (modes_at ps a.0.program a.0.«module»)) a.0.mode (get_mapped invokes _ a.0.mode m.node m.its) in
+      let counted = invokes_counted n a.0 a.1 ∙ ap (λ o. length (elim o as (λ _. List InvokeNode) [ Some x ↦ x.invokes | None ↦ [] ])) m.its in
+      omega (arith, counted, few, ap most_invokes its)
 
-  -- ---- the limits
+  root_is : (k : ℕ) (s : ModuleAt) → slice_get l.modules k ≡ Some s → IsRoot t k (modes_in ps s)
+  root_is k s there =
+      record {
+        modes = modes_counted k s there;
+        few = λ sel.
+            let within = slice_get_within l.modules k s there in
+            let size = module_count l ps exist in
+            let some : 0 < length (modes_of t k) = modes_some t k (names-in-range ps small right) (omega (arith, within, size)) in
+            let place = sel / choices_from t (k + 1) (drop (k + 1) t.modules) % length (modes_of t k) in
+            let inside : place < length (modes_of t k) = omega (arith, some) in
+            let mode = place_passes_0 (mode_of_module k) place (root_mode t sel k) t.modes (slice_get-get_or (modes_of t k) place 0 inside) in
+            few_in_mode k (root_mode t sel k) s mode.0 there mode.1 (eqb-true mode.0.«module» k mode.2);
+      }
 
-  stand_all : StandFrom ps 0 (layout ps).modules
-  stand_all i s e = let same : i ≡ 0 + i = omega arith in ap (slice_get (layout ps).modules) (sym same) ∙ e
-
-  -- the tables have as many root selections as the tree
-  same_selections : selection_count (tables_of_tree ps) ≡ selections ps
-  same_selections = by (root_modules t) (tree.plain_root_modules ps) roots all
+  -- the root modules among the modules from place k on
+  roots_from : (k : ℕ) (us : List ModuleAt) → ((i j : ℕ) (s : ModuleAt) → i ≡ k + j → slice_get us j ≡ Some s → slice_get l.modules i ≡ Some s)
+      → Paired (IsRoot t) (places_from is_root k (flat_map_at (module_items_at l ps) k us)) (map (modes_in ps) (filter is_root_module us))
+  roots_from k [] stand = tt
+  roots_from k (s ∷ us) stand =
+      let there = stand k 0 s (omega arith) refl in
+      let x = exist k s there in
+      let later = flat_map_at (module_items_at l ps) (suc k) us in
+      let rest = roots_from (suc k) us (λ i j r is e. stand i (suc j) r (omega (arith, is)) e) in
+      subst (λ ms. Paired (IsRoot t) (places_from is_root k (ms ++ later)) (map (modes_in ps) (filter is_root_module (s ∷ us)))) (sym (one_module l ps k s x.0 x.1))
+      (by x.0 s.parent _ _ (root_is k s there) rest)
     where
-      t : Tables
-      t = tables_of_tree ps
+      by : (x : PlainModule) (o : Option ModeAt) (ks : List ℕ) (ss : List ModuleAt) → IsRoot t k (modes_in ps s) → Paired (IsRoot t) ks (map (modes_in ps) ss)
+          → (let r : ModuleAt = record s { parent = o } in
+          Paired (IsRoot t) (cond (is_root (module_item l ps k r x)) (k ∷ ks) ks) (map (modes_in ps) (cond (is_root_module r) (s ∷ ss) ss)))
+      by x None ks ss here rest = (here, rest)
+      by x (Some a) ks ss here rest = rest
 
-      by : (ks : List ℕ) (xs : List PlainModule) → length ks ≡ length xs → choices_from (tables_of_tree ps) 0 (tables_of_tree ps).modules ≡ choices xs
-          → (let here : ℕ = elim ks [ [] ↦ 0 | k ∷ ls ↦ choices_from (tables_of_tree ps) 0 (tables_of_tree ps).modules ] in
-          let there : ℕ = elim xs [ [] ↦ 0 | y ∷ ys ↦ choices (y ∷ ys) ] in
-          here ≡ there)
-      by [] [] size all = refl
-      by [] (x ∷ xs) size all = absurd (omega (arith, size))
-      by (k ∷ ks) [] size all = absurd (omega (arith, size))
-      by (k ∷ ks) (x ∷ xs) size all = all
+  roots_alike : AreAlike t (root_modules t) (plain_root_modules ps)
+  roots_alike =
+      let modes : PlainModule → List PlainMode = λ x. x.modes in
+      let roots : map (modes_in ps) (filter is_root_module l.modules) ≡ map modes (plain_root_modules ps) =
+      ap (map (modes_in ps)) (names-ordered ps right).roots ∙ map_places (modes_in ps) (nth_module 0 None) modes (modules_at ps 0) (modes_there ps 0)
+      ∙ ap (map modes) (root_modules_are ps) in
+      alike t (root_modules t) (plain_root_modules ps) (subst (Paired (IsRoot t) (root_modules t)) roots (roots_from 0 l.modules (at_place l.modules)))
 
-      roots : length (root_modules t) ≡ length (tree.plain_root_modules ps)
-      roots =
-          ap length (same_roots ps exist 0 (layout ps).modules stand_all) ∙ length-places is_root_module 0 (layout ps).modules ∙ sym (length-filter is_root_module (layout ps).modules)
-          ∙ ap length (names-ordered ps right).roots ∙ sym (length-map (modules_in ps None 0) (λ s. modes_in ps s))
-          ∙ ap length (of_roots (λ xs. xs) ps) ∙ length-map (tree.plain_root_modules ps) (λ (x : PlainModule). x.modes)
-
-      all : choices_from (tables_of_tree ps) 0 (tables_of_tree ps).modules ≡ choices (tree.plain_root_modules ps)
-      all =
-          choices_are ps exist 0 (layout ps).modules stand_all ∙ ap (λ us. product (map (λ s. length (modes_in ps s)) us)) (names-ordered ps right).roots
-          ∙ ap product (of_roots length ps) ∙ sym (choices_product (tree.plain_root_modules ps))
-
-  few_positions : (sel : ℕ) → length (positions (tables_of_tree ps) sel) ≤ most_positions ps
-  few_positions sel =
-      let t = tables_of_tree ps in
-      let g : ℕ → List ℕ = λ u. invs_of t (root_mode t sel u) in
-      let most : ModuleAt → ℕ = λ s. most_invokes (modes_in ps s) in
-      let few = few_by_roots g most 0 (layout ps).modules (λ i s e. let same : i ≡ 0 + i = omega arith in subst (λ (n : ℕ). length (g n) ≤ most s) same (few_in_root sel i s e)) in
-      let roots = ap (λ ks. length (flat_map g ks)) (same_roots ps exist 0 (layout ps).modules stand_all) in
-      let total = ap (λ us. sum (map most us)) (names-ordered ps right).roots ∙ ap sum (of_roots most_invokes ps) in
-      omega (arith, few, roots, total)
-
-pub names-keep-limits : (ps : List PlainProgram) → MeetsBounds ps → AreNamesRight ps → KeepsLimits (tables_of_tree ps)
-names-keep-limits ps small right =
-    let same = same_selections ps small right in
-    let few = kept_limit ps right 9 (selections ps) 1024 refl refl in
-    let most = kept_limit ps right 10 (most_positions ps) 128 refl refl in
-    record {
-      selections = omega (arith, same, few);
-      positions = λ sel below. let fits = few_positions ps small right sel in omega (arith, fits, most);
-    }
+  pub names-keep-limits : KeepsLimits (tables_of_tree ps)
+  names-keep-limits =
+      let same = roots_alike.counted _ (choices_by_roots t 0 t.modules ∙ roots_alike.same) in
+      let few = kept_limit ps right 9 (selections ps) 1024 refl refl in
+      let most = kept_limit ps right 10 (most_positions ps) 128 refl refl in
+      record {
+        selections = omega (arith, same, few);
+        positions = λ sel below. omega (arith, roots_alike.few sel, most);
+      }
