@@ -2,11 +2,11 @@
 use Rattle.std.proofs.Common.{◌≡◌, ◌<◌, ◌≤◌, ◌+◌, ◌*◌, ◌/◌, ◌%◌, cond, eqb-true, ℕ, suc, Bool, true, false, List, [], ◌∷◌, ◌++◌, map, length, drop, slice_get, Option, Some, None, filter, sum, refl, sym, ◌∙◌, ap, subst, arith, length-append}
 use Rattle.std.specs.List.{flat_map}
 use Rattle.std.proofs.lemmas.List.{length-map}
-use Rattle.std.proofs.lemmas.List.Sums.{sum_by-cons, length-filter}
+use Rattle.std.proofs.lemmas.List.Sums.{sum_by-cons}
 use Rattle.std.proofs.lemmas.Option.{slice_get_within, slice_get-get_or, same_Some}
 use Rattle.htl_model.specs.Broken.{KeepsLimits}
 use Rattle.htl_model.specs.Lists.{places_from}
-use Rattle.htl_model.specs.Selections.{is_root, root_modules, mode_of_module, inv_of_mode, modes_of, invs_of, choices_from, selection_count, root_mode, positions}
+use Rattle.htl_model.specs.Selections.{is_root, root_modules, mode_of_module, inv_of_mode, modes_of, invs_of, choices_from, root_mode}
 use Rattle.htl_model.specs.Tables.{Tables}
 use Rattle.htl_model.specs.declared.parts.Inv.{Inv}
 use Rattle.htl_model.specs.declared.parts.Mode.{Mode}
@@ -14,11 +14,11 @@ use Rattle.htl_model.proofs.SelectionLaws.{modes_some, place_passes_0}
 use Rattle.htl_text.specs.Nodes.{PlainProgram, PlainModule, PlainMode}
 use Rattle.htl_text.specs.declared.tree.InvokeNode.{InvokeNode}
 use Rattle.htl_names.specs.Conditions.{MeetsBounds}
-use Rattle.htl_names.specs.Flat.{Layout, layout, mode_number, mode_item, module_mode_items, module_item, module_items_at, invoke_item, mode_invoke_items, tables_of_tree}
+use Rattle.htl_names.specs.Flat.{Layout, layout, mode_item, module_mode_items, module_item, module_items_at, invoke_item, mode_invoke_items, tables_of_tree}
 use Rattle.htl_names.specs.Limits.{most_invokes, most_positions, selections, choices, plain_root_modules}
 use Rattle.htl_names.specs.Lists.{flat_map_at}
 use Rattle.htl_names.specs.NameRules.{AreNamesRight}
-use Rattle.htl_names.specs.Order.{modules_at, modes_at, invokes_at, modules_in}
+use Rattle.htl_names.specs.Order.{modules_at, modes_at, invokes_at}
 use Rattle.htl_names.specs.Nth.{nth_module}
 use Rattle.htl_names.specs.Ordered.{is_root_module}
 use Rattle.htl_names.specs.declared.place.ModeAt.{ModeAt}

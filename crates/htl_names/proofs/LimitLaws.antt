@@ -1,10 +1,10 @@
 -- A tally has the lengths of the lists of items, and the loop over the limits finds the first that is exceeded.
-use Rattle.std.proofs.Common.{◌≡◌, inl, inr, ◌+◌, ◌*◌, ◌-◌, ◌^◌, ℕ, min, List, [], ◌∷◌, length, map, fold, refl, sym, ◌∙◌, ap, arith, mul_assoc, ◌≤◌, ◌<◌, suc, Some, sum, get_or, length-append}
+use Rattle.std.proofs.Common.{◌≡◌, ◌+◌, ◌*◌, ◌-◌, ◌^◌, ℕ, min, List, [], ◌∷◌, length, map, fold, refl, sym, ◌∙◌, ap, arith, mul_assoc, ◌≤◌, ◌<◌, suc, Some, sum, get_or, None, length-append}
 use Rattle.std.specs.List.{flat_map}
-use Rattle.std.proofs.Math.Nat.{eq-or-lt_of_le, one-mul, zero-add}
+use Rattle.std.proofs.Math.Nat.{one-mul, zero-add}
 use Rattle.std.proofs.lemmas.Grind.{fold-append}
 use Rattle.std.proofs.lemmas.List.Sums.{sum_by-cons}
-use Rattle.std.proofs.lemmas.Option.{get_or_from_slice_get, slice_get-get_or}
+use Rattle.std.proofs.lemmas.Option.{get_or_from_slice_get, slice_get_within, slice_get-get_or}
 use Rattle.htl_model.proofs.ChoiceLaws.{capped as product_capped}
 use Rattle.htl_model.specs.Tables.{greatest}
 use Rattle.htl_text.specs.Bounds.{modules_of, modes_of}
@@ -26,15 +26,17 @@ module _ {A B T : Type 0} (count : T → ℕ) (step : T → A → T) (part : A �
   grown t [] = omega arith
   grown t (x ∷ xs) = omega (arith, grows t x, grown (step t x) xs, length-append (part x) (flat_map part xs))
 
-  counted : (t : T) (xs : List A) → count t ≡ 0 → capped (count (fold step t xs)) ≡ capped (length (flat_map part xs))
-  counted t xs none = omega (arith, none, grown t xs)
+  counted : (t : T) (xs : List A) (u : T) → u ≡ fold step t xs → count t ≡ 0 → capped (count u) ≡ capped (length (flat_map part xs))
+  counted t xs u is none = omega (arith, none, grown t xs, ap (λ (v : T). count v) is)
 
 -- a field that each step folds over a part is folded over all parts
-folded : {A B T U : Type 0} (field : T → U) (step : T → A → T) (inner : U → B → U) (part : A → List B) → ((t : T) (x : A) → field (step t x) ≡ fold inner (field t) (part x))
-    → (t : T) (xs : List A) → field (fold step t xs) ≡ fold inner (field t) (flat_map part xs)
-folded field step inner part grows t [] = refl
-folded {A} {B} {T} {U} field step inner part grows t (x ∷ xs) =
-    folded field step inner part grows (step t x) xs ∙ ap (λ (u : U). fold inner u (flat_map part xs)) (grows t x) ∙ sym (fold-append inner (field t) (part x) (flat_map part xs))
+module _ {A B T U : Type 0} (field : T → U) (step : T → A → T) (inner : U → B → U) (part : A → List B) (grows : (t : T) (x : A) → field (step t x) ≡ fold inner (field t) (part x)) where
+  along : (t : T) (xs : List A) → field (fold step t xs) ≡ fold inner (field t) (flat_map part xs)
+  along t [] = refl
+  along t (x ∷ xs) = along (step t x) xs ∙ ap (λ (u : U). fold inner u (flat_map part xs)) (grows t x) ∙ sym (fold-append inner (field t) (part x) (flat_map part xs))
+
+  folded : (t : T) (xs : List A) (u : T) → u ≡ fold step t xs → field u ≡ fold inner (field t) (flat_map part xs)
+  folded t xs u is = ap field is ∙ along t xs
 
 most_of_modes : (t : ModeTally) (xs : List PlainMode) → (fold with_mode t xs).most_invokes ≡ greatest t.most_invokes (map (λ (x : PlainMode). length x.invokes) xs)
 most_of_modes t [] = refl
@@ -71,39 +73,33 @@ some_chosen (x ∷ xs) = let one : min (suc (length xs)) 1 ≡ 1 = omega arith i
 pub tallied : (ps : List PlainProgram) (root : RootTally) (t : Tally) → root ≡ root_tally (modules_at ps 0) → t ≡ fold with_program (no_tally root) ps → IsTally ps t
 tallied ps root t of_root is =
     let us = modules_of ps in
-    let ms = modes_of us in
     let rs = plain_root_modules ps in
-    let modules = ap (λ (t : Tally). t.of_modules) is ∙ folded (λ (t : Tally). t.of_modules) with_program with_module (λ p. p.modules) (λ t p. refl) (no_tally root) ps in
-    let modes = ap (λ (t : ModuleTally). t.of_modes) modules ∙ folded (λ (t : ModuleTally). t.of_modes) with_module with_mode (λ u. u.modes) (λ t u. refl) no_modules us in
+    let modules = folded (λ (t : Tally). t.of_modules) with_program with_module (λ p. p.modules) (λ t p. refl) (no_tally root) ps t is in
+    let modes = folded (λ (t : ModuleTally). t.of_modes) with_module with_mode (λ u. u.modes) (λ t u. refl) no_modules us t.of_modules modules in
     let roots = ap (λ (t : Tally). t.of_root) is ∙ rooted (no_tally root) ps ∙ of_root ∙ ap root_tally (root_modules_are ps) in
     record {
-      comms = ap (λ (t : Tally). capped t.comms) is ∙ counted (λ (t : Tally). t.comms) with_program (λ p. p.comms) (λ t p. refl) (no_tally root) ps refl;
-      modules = ap (λ (t : Tally). capped t.modules) is ∙ counted (λ (t : Tally). t.modules) with_program (λ p. p.modules) (λ t p. refl) (no_tally root) ps refl;
-      modes = ap (λ (t : ModuleTally). capped t.modes) modules ∙ counted (λ (t : ModuleTally). t.modes) with_module (λ u. u.modes) (λ t u. refl) no_modules us refl;
-      ports = ap (λ (t : ModeTally). capped t.ports) modes ∙ counted (λ (t : ModeTally). t.ports) with_mode (λ m. m.ports) (λ t m. refl) no_modes ms refl;
-      tasks = ap (λ (t : ModuleTally). capped t.tasks) modules ∙ counted (λ (t : ModuleTally). t.tasks) with_module (λ u. u.tasks) (λ t u. refl) no_modules us refl;
-      invokes = ap (λ (t : ModeTally). capped t.invokes) modes ∙ counted (λ (t : ModeTally). t.invokes) with_mode (λ m. m.invokes) (λ t m. refl) no_modes ms refl;
-      switches = ap (λ (t : ModeTally). capped t.switches) modes ∙ counted (λ (t : ModeTally). t.switches) with_mode (λ m. m.switches) (λ t m. refl) no_modes ms refl;
-      most_invokes = ap (λ (t : ModeTally). capped t.most_invokes) modes ∙ ap capped (most_of_modes no_modes ms);
+      comms = counted (λ (t : Tally). t.comms) with_program (λ p. p.comms) (λ t p. refl) (no_tally root) ps t is refl;
+      modules = counted (λ (t : Tally). t.modules) with_program (λ p. p.modules) (λ t p. refl) (no_tally root) ps t is refl;
+      modes = counted (λ (t : ModuleTally). t.modes) with_module (λ u. u.modes) (λ t u. refl) no_modules us t.of_modules modules refl;
+      ports = counted (λ (t : ModeTally). t.ports) with_mode (λ m. m.ports) (λ t m. refl) no_modes (modes_of us) t.of_modules.of_modes modes refl;
+      tasks = counted (λ (t : ModuleTally). t.tasks) with_module (λ u. u.tasks) (λ t u. refl) no_modules us t.of_modules modules refl;
+      invokes = counted (λ (t : ModeTally). t.invokes) with_mode (λ m. m.invokes) (λ t m. refl) no_modes (modes_of us) t.of_modules.of_modes modes refl;
+      switches = counted (λ (t : ModeTally). t.switches) with_mode (λ m. m.switches) (λ t m. refl) no_modes (modes_of us) t.of_modules.of_modes modes refl;
+      most_invokes = ap (λ (t : ModeTally). capped t.most_invokes) modes ∙ ap capped (most_of_modes no_modes (modes_of us));
       selections = ap (λ (r : RootTally). capped r.selections) roots ∙ chosen _ rs ∙ ap capped (some_chosen rs);
       positions = ap (λ (r : RootTally). capped r.positions) roots ∙ placed _ rs ∙ ap capped (zero-add (most_positions ps));
     }
 
 -- ---- the first limit that is exceeded
 
--- the counts before place n are within their limits, and the count and the limit at place n are these
-module _ (cs : List ℕ) (n count limit : ℕ) (before : AreWithin cs n) (counted : capped count ≡ capped (get_or cs n 0)) (is : limit ≡ get_or limits n 0) (small : limit ≤ 4096) where
-  pub within_next : count ≤ limit → AreWithin cs (n + 1)
-  within_next fits k c m below p q =
-      let up : k ≤ n = omega arith in
-      elim (eq-or-lt_of_le up) [
-        | inl same ↦
-            let one : get_or cs k 0 ≡ c = get_or_from_slice_get cs k c 0 p in
-            let two : get_or limits k 0 ≡ m = get_or_from_slice_get limits k m 0 q in
-            omega (arith, fits, counted, is, small, one, two, ap (λ (j : ℕ). get_or cs j 0) same, ap (λ (j : ℕ). get_or limits j 0) same)
-        | inr less ↦ before k c m less p q
-      ]
+module _ (cs : List ℕ) (n : ℕ) (before : (k : ℕ) → k < n → get_or cs k 0 ≤ get_or limits k 0) where
+  all_within : AreWithin cs n
+  all_within k c m below p q = omega (arith, before k below, get_or_from_slice_get cs k c 0 p, get_or_from_slice_get limits k m 0 q)
 
-  pub exceeded : n < length cs → n < length limits → limit < count → (told : ℕ) → told ≡ min count (2 ^ 32 - 1) → IsFirstExcess cs (Some (record { which = n + 1; count = told }))
-  exceeded inside in_limits over told same =
-      (n, get_or cs n 0, get_or limits n 0, slice_get-get_or cs n 0 inside, slice_get-get_or limits n 0 in_limits, omega arith, omega arith, omega arith, before)
+  pub none_exceeded : length cs ≤ n → IsFirstExcess cs None
+  none_exceeded past k c m p q = all_within k c m (let inside = slice_get_within cs k c p in omega (arith, inside, past)) p q
+
+  pub exceeded : n < length cs → n < length limits → (count limit told : ℕ) → capped count ≡ capped (get_or cs n 0) → limit ≡ get_or limits n 0 → limit ≤ 4096 → limit < count → told ≡ min count (2 ^ 32 - 1)
+      → IsFirstExcess cs (Some (record { which = n + 1; count = told }))
+  exceeded inside in_limits count limit told counted is small over same =
+      (n, get_or cs n 0, get_or limits n 0, slice_get-get_or cs n 0 inside, slice_get-get_or limits n 0 in_limits, omega arith, omega arith, omega arith, all_within)

@@ -1,13 +1,12 @@
 -- The trees that a source gives meet the conditions under which names are resolved.
-use Rattle.std.proofs.Common.{◌≡◌, ◌≤◌, ℕ, ◌+◌, cond, List, [], ◌∷◌, ◌++◌, length, map, fold, All, arith, length-append}
-use Rattle.std.specs.List.{list_any, flat_map}
-use Rattle.std.specs.Str.{bytes_eq}
+use Rattle.std.proofs.Common.{◌≤◌, ℕ, ◌+◌, List, [], ◌∷◌, length, map, fold, All, arith, length-append}
+use Rattle.std.specs.List.{flat_map}
 use Rattle.std.proofs.lemmas.List.{length-map}
 use Rattle.std.proofs.lemmas.List.Elements.{All-weaker}
 use Rattle.htl_names.proofs.Members.{Each, each_flat_map, each_weaker, each_all, each_of_all}
 use Rattle.htl_names.specs.Conditions.{with_new_name, different_names, MeetsTaskBounds, MeetsInvokeBounds, MeetsSwitchBounds, MeetsBounds}
-use Rattle.htl_text.specs.Bounds.{names_of, modules_of, modes_of, IsBoundedExpr, IsBoundedTask, IsBoundedInvoke, IsBoundedSwitch, IsBoundedMode, IsBoundedModule, IsBoundedProgram, IsBounded}
-use Rattle.htl_text.specs.Nodes.{PlainProgram, PlainModule, PlainMode, PlainTask, PlainSwitch}
+use Rattle.htl_text.specs.Bounds.{names_of, modules_of, modes_of, IsBoundedTask, IsBoundedInvoke, IsBoundedSwitch, IsBoundedMode, IsBoundedModule, IsBoundedProgram, IsBounded}
+use Rattle.htl_text.specs.Nodes.{PlainProgram, PlainTask, PlainSwitch}
 use Rattle.htl_text.specs.declared.tree.Id.{Id}
 use Rattle.htl_text.specs.declared.tree.InvokeNode.{InvokeNode}
 
