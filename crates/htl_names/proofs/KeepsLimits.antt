@@ -1,16 +1,17 @@
 -- The root selections of a tree's tables are as many as the tree's, and have no more positions than the limit.
-use Rattle.std.proofs.Common.{◌≡◌, ◌<◌, ◌≤◌, ◌+◌, ◌*◌, ◌/◌, ◌%◌, cond, eqb-true, ℕ, suc, Bool, true, false, List, [], ◌∷◌, ◌++◌, map, length, drop, slice_get, Option, Some, None, filter, sum, refl, sym, ◌∙◌, ap, subst, arith, length-append}
+use Rattle.std.proofs.Common.{◌≡◌, ◌<◌, ◌≤◌, ◌+◌, ◌*◌, cond, ℕ, suc, Bool, true, false, List, [], ◌∷◌, ◌++◌, map, length, slice_get, Option, Some, None, filter, sum, refl, sym, ◌∙◌, ap, subst, arith, length-append}
 use Rattle.std.specs.List.{flat_map}
 use Rattle.std.proofs.lemmas.List.{length-map}
 use Rattle.std.proofs.lemmas.List.Sums.{sum_by-cons}
-use Rattle.std.proofs.lemmas.Option.{slice_get_within, slice_get-get_or, same_Some}
+use Rattle.std.proofs.lemmas.Option.{slice_get_within, same_Some}
 use Rattle.htl_model.specs.Broken.{KeepsLimits}
 use Rattle.htl_model.specs.Lists.{places_from}
 use Rattle.htl_model.specs.Selections.{is_root, root_modules, mode_of_module, inv_of_mode, modes_of, invs_of, choices_from, root_mode}
-use Rattle.htl_model.specs.Tables.{Tables}
+use Rattle.htl_model.specs.Tables.{Tables, mode_module}
 use Rattle.htl_model.specs.declared.parts.Inv.{Inv}
 use Rattle.htl_model.specs.declared.parts.Mode.{Mode}
-use Rattle.htl_model.proofs.SelectionLaws.{modes_some, place_passes_0}
+use Rattle.htl_model.proofs.SelectionLaws.{root_mode_below}
+use Rattle.htl_model.proofs.RootModeLaws.{own_mode}
 use Rattle.htl_text.specs.Nodes.{PlainProgram, PlainModule, PlainMode}
 use Rattle.htl_text.specs.declared.tree.InvokeNode.{InvokeNode}
 use Rattle.htl_names.specs.Conditions.{MeetsBounds}
@@ -100,13 +101,12 @@ module _ (ps : List PlainProgram) (small : MeetsBounds ps) (right : AreNamesRigh
       ∙ length-map (invokes_at ps a) (invoke_item l ps m a)
 
   -- a mode of a module has no more invocations than the most of one
-  few_in_mode : (k n : ℕ) (s : ModuleAt) (x : Mode) → slice_get l.modules k ≡ Some s → slice_get t.modes n ≡ Some x → x.«module» ≡ k → length (invs_of t n) ≤ most_invokes (modes_in ps s)
-  few_in_mode k n s x there at owner =
-      let within = slice_get_within t.modes n x at in
+  few_in_mode : (k n : ℕ) (s : ModuleAt) → slice_get l.modules k ≡ Some s → n < length t.modes → mode_module t n ≡ k → length (invs_of t n) ≤ most_invokes (modes_in ps s)
+  few_in_mode k n s there below owner =
       let size = mode_count l ps refl in
-      let a = there_is l.modes n (omega (arith, within, size)) in
+      let a = there_is l.modes n (omega (arith, below, size)) in
       let m = mode_of_number l ps refl n a.0 a.1 in
-      let number : m.number ≡ k = ap (λ (y : Mode). y.«module») (sym (same_Some x (mode_item m.number m.node) (sym at ∙ m.item))) ∙ owner in
+      let number : m.number ≡ k = sym (ap (λ o. elim o as (λ _. ℕ) [ Some x ↦ x.«module» | None ↦ 0 ]) m.item) ∙ owner in
       let same : m.«module» ≡ s = same_Some m.«module» s (sym m.there ∙ ap (slice_get l.modules) number ∙ there) in
       let its : modes_at ps a.0.program a.0.«module» ≡ modes_in ps s =
       ap (λ p. modes_at ps p a.0.«module») (sym m.program) ∙ ap (modes_at ps m.«module».program) (sym m.place) ∙ ap (modes_in ps) same in
@@ -117,16 +117,13 @@ module _ (ps : List PlainProgram) (small : MeetsBounds ps) (right : AreNamesRigh
 
   root_is : (k : ℕ) (s : ModuleAt) → slice_get l.modules k ≡ Some s → IsRoot t k (modes_in ps s)
   root_is k s there =
+      let range = names-in-range ps small right in
+      let within = slice_get_within l.modules k s there in
+      let size = module_count l ps exist in
+      let below : k < length t.modules = omega (arith, within, size) in
       record {
         modes = modes_counted k s there;
-        few = λ sel.
-            let within = slice_get_within l.modules k s there in
-            let size = module_count l ps exist in
-            let some : 0 < length (modes_of t k) = modes_some t k (names-in-range ps small right) (omega (arith, within, size)) in
-            let place = sel / choices_from t (k + 1) (drop (k + 1) t.modules) % length (modes_of t k) in
-            let inside : place < length (modes_of t k) = omega (arith, some) in
-            let mode = place_passes_0 (mode_of_module k) place (root_mode t sel k) t.modes (slice_get-get_or (modes_of t k) place 0 inside) in
-            few_in_mode k (root_mode t sel k) s mode.0 there mode.1 (eqb-true mode.0.«module» k mode.2);
+        few = λ sel. few_in_mode k (root_mode t sel k) s there (root_mode_below t sel k range below) (own_mode t sel k range below);
       }
 
   -- the root modules among the modules from place k on
