@@ -92,6 +92,7 @@ tallied ps root t of_root is =
 
 -- ---- the first limit that is exceeded
 
+-- the counts before place n are within their limits
 module _ (cs : List ℕ) (n : ℕ) (before : (k : ℕ) → k < n → get_or cs k 0 ≤ get_or limits k 0) where
   all_within : AreWithin cs n
   all_within k c m below p q = omega (arith, before k below, get_or_from_slice_get cs k c 0 p, get_or_from_slice_get limits k m 0 q)

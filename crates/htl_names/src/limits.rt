@@ -60,6 +60,7 @@ struct Tally {
     of_root: RootTally,
 }
 
+/// The tally with these modes too.
 fn with_modes(t: ModeTally, modes: &[ModeNode]) -> ModeTally
     ensures { result ≡ fold with_mode t (map mode_of modes.now) }
 {
@@ -77,6 +78,7 @@ fn with_modes(t: ModeTally, modes: &[ModeNode]) -> ModeTally
     sum
 }
 
+/// The tally with these modules too.
 fn with_modules(t: ModuleTally, modules: &[ModuleNode]) -> ModuleTally
     ensures { result ≡ fold with_module t (map module_of modules.now) }
 {
@@ -156,7 +158,7 @@ fn level(named: &[Named], program: usize) -> usize
 }
 
 /// The greatest level of a program.
-pub(crate) fn levels(named: &[Named]) -> usize
+fn levels(named: &[Named]) -> usize
     ensures { result ≡ levels_by named.now }
 {
     let mut most = 0usize;
