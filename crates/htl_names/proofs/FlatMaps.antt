@@ -1,5 +1,5 @@
 -- Where the items of lists and of their parts stand, and whose they are.
-use Rattle.std.proofs.Common.{◌≡◌, ℕ, zero, suc, ◌+◌, ◌<◌, ◌≤◌, ◌⊎◌, inl, inr, List, [], ◌∷◌, ◌++◌, length, take, slice_get, Some, None, refl, sym, ◌∙◌, ap, subst, arith, length-append, eq-or-lt_of_le, drop, take-append-drop, add-one, append_assoc, get_or, map, cond, Bool, true, false, eqb, Option, eqb-true, eq-eqb}
+use Rattle.std.proofs.Common.{◌≡◌, ℕ, zero, suc, ◌+◌, ◌<◌, ◌≤◌, ◌⊎◌, inl, inr, List, [], ◌∷◌, ◌++◌, length, take, slice_get, Some, None, refl, sym, ◌∙◌, ap, ap₂, subst, arith, length-append, eq-or-lt_of_le, drop, take-append-drop, add-one, append_assoc, get_or, map, cond, Bool, true, false, eqb, Option, eqb-true, eq-eqb}
 use Rattle.std.specs.List.{flat_map, count_by}
 use Rattle.std.proofs.lemmas.List.{drop_more, length-map}
 use Rattle.std.proofs.lemmas.Option.{slice_get_within, same_Some, none-some, slice_get-get_or}
@@ -96,6 +96,22 @@ at_part f k (z ∷ xs) (suc i) j x y e g =
     get_back (f k z) (flat_map_at f (suc k) xs) (length front + j) ∙ later in
     subst (λ (n : ℕ). slice_get (f k z ++ flat_map_at f (suc k) xs) n ≡ Some y) place whole
 
+-- a part stands before the later ones
+pub part_before : {A B : Type 0} (f : ℕ → A → List B) (k : ℕ) (xs : List A) (i j n : ℕ) (x : A) → n ≡ k + i → i < j → slice_get xs i ≡ Some x
+    → length (flat_map_at f k (take i xs)) + length (f n x) ≤ length (flat_map_at f k (take j xs))
+part_before f k [] i j n x is less there = absurd (none-some x there)
+part_before f k (z ∷ xs) i zero n x is less there = absurd (omega (arith, less))
+part_before f k (z ∷ xs) zero (suc j) n x is less there =
+    let here : n ≡ k = omega (arith, is) in
+    let own = ap (λ (m : ℕ). length (f m x)) here ∙ ap (λ w. length (f k w)) (sym (same_Some z x there)) in
+    let size = length-append (f k z) (flat_map_at f (suc k) (take j xs)) in
+    omega (arith, own, size)
+part_before f k (z ∷ xs) (suc i) (suc j) n x is less there =
+    let later = part_before f (suc k) xs i j n x (omega (arith, is)) (omega (arith, less)) there in
+    let one = length-append (f k z) (flat_map_at f (suc k) (take i xs)) in
+    let two = length-append (f k z) (flat_map_at f (suc k) (take j xs)) in
+    omega (arith, later, one, two)
+
 -- where an item stands
 pub record Part {A B : Type 0} (f : ℕ → A → List B) (k : ℕ) (xs : List A) (n : ℕ) (y : B) : Type 0 where
   pub part : ℕ
@@ -185,6 +201,12 @@ part_of_0 f xs n y e =
 pub flat_map_is : {A B : Type 0} (f : A → List B) (k : ℕ) (xs : List A) → flat_map_at (λ k x. f x) k xs ≡ flat_map f xs
 flat_map_is f k [] = refl
 flat_map_is f k (x ∷ xs) = ap (λ ys. f x ++ ys) (flat_map_is f (suc k) xs)
+
+-- parts of the parts
+pub flat_map_parts : {A B C : Type 0} (h : B → List C) (f : ℕ → A → List B) (g : A → List C) → ((k : ℕ) (x : A) → flat_map h (f k x) ≡ g x)
+    → (k : ℕ) (xs : List A) → flat_map h (flat_map_at f k xs) ≡ flat_map g xs
+flat_map_parts h f g same k [] = refl
+flat_map_parts h f g same k (x ∷ xs) = flat_map-append h (f k x) (flat_map_at f (suc k) xs) ∙ ap₂ (λ ys zs. ys ++ zs) (same k x) (flat_map_parts h f g same (suc k) xs)
 
 pub at_flat : {A B : Type 0} (f : A → List B) (xs : List A) (i j : ℕ) (x : A) (y : B) → slice_get xs i ≡ Some x → slice_get (f x) j ≡ Some y
     → slice_get (flat_map f xs) (length (flat_map f (take i xs)) + j) ≡ Some y
@@ -333,22 +355,6 @@ pub stands : {A N B : Type 0} (item : ℕ → A → N → B) (nodes : A → List
 stands item nodes xs k m x n there its =
     subst (λ (i : ℕ). slice_get (flat_map_at (given item nodes) 0 xs) (i + m) ≡ Some (item k x n)) (counted item nodes (take k xs))
     (at_part_0 (given item nodes) xs k m x (item k x n) there (get_mapped (item k x) (nodes x) m n its))
-
--- the owner and the node of an item
-pub record From {A N B : Type 0} (item : ℕ → A → N → B) (nodes : A → List N) (xs : List A) (y : B) : Type 0 where
-  pub number : ℕ
-  pub owner : A
-  pub there : slice_get xs number ≡ Some owner
-  pub place : ℕ
-  pub node : N
-  pub its : slice_get (nodes owner) place ≡ Some node
-  pub is : item number owner node ≡ y
-
-pub from : {A N B : Type 0} (item : ℕ → A → N → B) (nodes : A → List N) (xs : List A) (n : ℕ) (y : B) → slice_get (flat_map_at (given item nodes) 0 xs) n ≡ Some y → From item nodes xs y
-from item nodes xs n y e =
-    let p = part_of_0 (given item nodes) xs n y e in
-    let x = of_map (item p.part p.owner) (nodes p.owner) p.place y p.item in
-    record { number = p.part; owner = p.owner; there = p.there; place = p.place; node = x.0; its = x.1; is = x.2 }
 
 pub owned : {A N B : Type 0} (item : ℕ → A → N → B) (nodes : A → List N) (own : B → ℕ) → ((k : ℕ) (x : A) (n : N) → own (item k x n) ≡ k) → IsOwned (given item nodes) own
 owned item nodes own is k x j y e = let r = of_map (item k x) (nodes x) j y e in sym (ap own r.2) ∙ is k x r.0

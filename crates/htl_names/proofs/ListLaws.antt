@@ -1,6 +1,10 @@
 -- Lists: different numbers and how many a switch reads, sums over places, items in pairs, items that pass a test.
 use Rattle.std.proofs.Common.{◌≡◌, ◌⊎◌, inl, inr, ℕ, zero, suc, Bool, true, false, cond, ◌||◌, eqb, List, [], ◌∷◌, ◌++◌, slice_get, Some, fold, refl, sym, ◌∙◌, ap, subst, eq-eqb, eqb-true, ◌≤◌, ◌<◌, map, length, arith, length-append, ◌≢◌, ◌+◌, max, get_or, set, sum_by, sum, length-set, get_or-set_other}
-use Rattle.std.specs.List.{IsDistinct, list_any, flat_map, count_by}
+use Rattle.std.specs.Prelude.{Option, MatchOption}
+use Rattle.std.specs.Option.{IsSomeAnd}
+use Rattle.std.proofs.lemmas.Slice.Zip.{AllZip-left}
+use Rattle.htl_names.specs.Lists.{flat_map_at}
+use Rattle.std.specs.List.{AllZip, IsDistinct, list_any, flat_map, count_by}
 use Rattle.std.proofs.Math.Bool.{or-false, or-true}
 use Rattle.std.proofs.lemmas.Bool.{or_cases}
 use Rattle.std.proofs.lemmas.Cmp.{nat_eq_equiv}
@@ -222,26 +226,26 @@ greatest_at d x (y ∷ xs) (suc k) e = greatest_at (max d y) x xs k e
 
 -- ---- lists of one length, item by item
 
-abbrev pub Paired : {A B : Type 0} → (A → B → Type 0) → List A → List B → Type 0
-Paired P [] [] = Unit {0}
-Paired P (x ∷ xs) (y ∷ ys) = P x y × Paired P xs ys
-Paired P [] (y ∷ ys) = ⊥
-Paired P (x ∷ xs) [] = ⊥
+module _ {A B : Type 0} (R : A → B → Type 0) where
+  pub zip_append : (xs : List A) (ys : List B) (us : List A) (vs : List B) → AllZip R xs ys → AllZip R us vs → AllZip R (xs ++ us) (ys ++ vs)
+  zip_append [] [] us vs h k = k
+  zip_append (x ∷ xs) (y ∷ ys) us vs h k = (h.0, zip_append xs ys us vs h.1 k)
+  zip_append [] (y ∷ ys) us vs h k = absurd h
+  zip_append (x ∷ xs) [] us vs h k = absurd h
 
-pub paired_append : {A B : Type 0} (P : A → B → Type 0) (xs : List A) (ys : List B) (us : List A) (vs : List B) → Paired P xs ys → Paired P us vs → Paired P (xs ++ us) (ys ++ vs)
-paired_append P [] [] us vs h k = k
-paired_append P (x ∷ xs) (y ∷ ys) us vs h k = (h.0, paired_append P xs ys us vs h.1 k)
-paired_append P [] (y ∷ ys) us vs h k = absurd h
-paired_append P (x ∷ xs) [] us vs h k = absurd h
+  pub zip_map : {X : Type 0} (f : X → A) (g : X → B) (xs : List X) → ((k : ℕ) (x : X) → slice_get xs k ≡ Some x → R (f x) (g x)) → AllZip R (map f xs) (map g xs)
+  zip_map f g [] h = tt
+  zip_map f g (x ∷ xs) h = (h 0 x refl, zip_map f g xs (λ k y e. h (suc k) y e))
 
-pub paired_at : {A B : Type 0} (P : A → B → Type 0) (xs : List A) (ys : List B) (k : ℕ) (x : A) (y : B) → Paired P xs ys → slice_get xs k ≡ Some x → slice_get ys k ≡ Some y → P x y
-paired_at P [] ys k x y h e f = cc
-paired_at P (a ∷ xs) [] k x y h e f = cc
-paired_at P (a ∷ xs) (b ∷ ys) zero x y h e f =
-    let one : a ≡ x = cc in
-    let two : b ≡ y = cc in
-    subst (λ u. P u y) one (subst (λ v. P a v) two h.0)
-paired_at P (a ∷ xs) (b ∷ ys) (suc k) x y h e f = paired_at P xs ys k x y h.1 e f
+  pub zip_parts : {X : Type 0} (f : X → List A) (g : ℕ → X → List B) (k : ℕ) (xs : List X) → ((i j : ℕ) (x : X) → i ≡ k + j → slice_get xs j ≡ Some x → AllZip R (f x) (g i x))
+      → AllZip R (flat_map f xs) (flat_map_at g k xs)
+  zip_parts f g k [] h = tt
+  zip_parts f g k (x ∷ xs) h =
+      zip_append (f x) (g k x) (flat_map f xs) (flat_map_at g (suc k) xs) (h k 0 x (omega arith) refl) (zip_parts f g (suc k) xs (λ i j y is e. h i (suc j) y (omega (arith, is)) e))
+
+  pub zip_at : (xs : List A) (ys : List B) (k : ℕ) (x : A) (y : B) → AllZip R xs ys → slice_get xs k ≡ Some x → slice_get ys k ≡ Some y → R x y
+  zip_at xs ys k x y h e f =
+      subst (λ (o : Option B). IsSomeAnd o (R x)) f (subst (λ (o : Option A). MatchOption o (Unit {0}) (λ x. IsSomeAnd (slice_get ys k) (R x))) e (AllZip-left R xs ys h k))
 
 -- ---- where the items that pass a test stand, and how many there are
 

@@ -9,6 +9,8 @@ use Rattle.htl_model.specs.Lists.{list_to}
 use Rattle.htl_names.specs.Lists.{flat_map_at, map_at}
 use Rattle.std.proofs.lemmas.List.Concat.{get_or-flat_map}
 use Rattle.std.proofs.lemmas.List.Folds.{length-flat_map-take}
+use Rattle.htl_model.proofs.PlaceLaws.{get_mapped}
+use Rattle.htl_names.proofs.FlatMaps.{get_front, get_back, at_part, at_part_0, at_flat, part_of_0, of_map, given}
 
 -- P holds of each item
 abbrev pub Each : {A : Type 0} → (A → Type 0) → List A → Type 0
@@ -18,6 +20,33 @@ Each P (x ∷ xs) = P x × Each P xs
 -- y is an item
 abbrev pub In : {A : Type 0} → A → List A → Type 0
 In y xs = (k : ℕ) × (slice_get xs k ≡ Some y)
+
+-- ---- an item of a part is an item of the whole
+
+pub in_next : {A : Type 0} {y : A} (x : A) (xs : List A) → In y xs → In y (x ∷ xs)
+in_next x xs h = (suc h.0, h.1)
+
+pub in_front : {A : Type 0} {y : A} (xs ys : List A) → In y xs → In y (xs ++ ys)
+in_front xs ys h = (h.0, get_front xs ys h.0 _ h.1)
+
+pub in_back : {A : Type 0} {y : A} (xs ys : List A) → In y ys → In y (xs ++ ys)
+in_back xs ys h = (length xs + h.0, get_back xs ys h.0 ∙ h.1)
+
+pub in_mapped : {A B : Type 0} (f : B → A) (xs : List B) (k : ℕ) (x : B) → slice_get xs k ≡ Some x → In (f x) (map f xs)
+in_mapped f xs k x there = (k, get_mapped f xs k x there)
+
+pub in_mapped_at : {A B : Type 0} (f : ℕ → B → A) (k : ℕ) (xs : List B) (i j : ℕ) (x : B) → i ≡ k + j → slice_get xs j ≡ Some x → In (f i x) (map_at f k xs)
+in_mapped_at f k [] i j x is there = absurd (none-some x there)
+in_mapped_at f k (y ∷ xs) i zero x is there =
+    let same : k ≡ i = omega (arith, is) in
+    (0, ap (λ z. Some (f k z)) (same_Some y x there) ∙ ap (λ (n : ℕ). Some (f n x)) same)
+in_mapped_at f k (y ∷ xs) i (suc j) x is there = in_next _ _ (in_mapped_at f (suc k) xs i j x (omega (arith, is)) there)
+
+pub in_part : {A B : Type 0} {y : A} (f : B → List A) (xs : List B) (i : ℕ) (x : B) → slice_get xs i ≡ Some x → In y (f x) → In y (flat_map f xs)
+in_part {y = y} f xs i x there h = (_, at_flat f xs i h.0 x y there h.1)
+
+pub in_part_at : {A B : Type 0} {y : A} (f : ℕ → B → List A) (xs : List B) (i : ℕ) (x : B) → slice_get xs i ≡ Some x → In y (f i x) → In y (flat_map_at f 0 xs)
+in_part_at {y = y} f xs i x there h = (_, at_part_0 f xs i h.0 x y there h.1)
 
 pub at_place : {B : Type 0} (xs : List B) (i j : ℕ) (x : B) → i ≡ 0 + j → slice_get xs j ≡ Some x → slice_get xs i ≡ Some x
 at_place xs i j x is there = let same : i ≡ j = omega (arith, is) in ap (slice_get xs) same ∙ there
@@ -63,36 +92,9 @@ module _ {A : Type 0} (P : A → Type 0) where
   each_of_places [] h = tt
   each_of_places (x ∷ xs) h = (h 0 x refl, each_of_places xs (λ k y e. h (suc k) y e))
 
-  pub each_front : (xs ys : List A) → Each P (xs ++ ys) → Each P xs
-  each_front [] ys h = tt
-  each_front (x ∷ xs) ys h = (h.0, each_front xs ys h.1)
-
-  pub each_back : (xs ys : List A) → Each P (xs ++ ys) → Each P ys
-  each_back [] ys h = h
-  each_back (x ∷ xs) ys h = each_back xs ys h.1
-
-  pub each_part : {B : Type 0} (f : B → List A) (xs : List B) (i : ℕ) (x : B) → slice_get xs i ≡ Some x → Each P (flat_map f xs) → Each P (f x)
-  each_part f [] i x e h = absurd (none-some x e)
-  each_part f (y ∷ xs) zero x e h = subst (λ z. Each P (f z)) (same_Some y x e) (each_front (f y) (flat_map f xs) h)
-  each_part f (y ∷ xs) (suc i) x e h = each_part f xs i x e (each_back (f y) (flat_map f xs) h)
-
   pub each_part_at : {B : Type 0} (f : ℕ → B → List A) (k : ℕ) (xs : List B) (i j : ℕ) (x : B) → i ≡ k + j → slice_get xs j ≡ Some x → Each P (flat_map_at f k xs) → Each P (f i x)
-  each_part_at f k [] i j x is e h = absurd (none-some x e)
-  each_part_at f k (y ∷ xs) i zero x is e h =
-      let same : k ≡ i = omega (arith, is) in
-      subst (λ n. Each P (f n x)) same (subst (λ z. Each P (f k z)) (same_Some y x e) (each_front (f k y) (flat_map_at f (suc k) xs) h))
-  each_part_at f k (y ∷ xs) i (suc j) x is e h = each_part_at f (suc k) xs i j x (omega (arith, is)) e (each_back (f k y) (flat_map_at f (suc k) xs) h)
-
-  pub each_mapped : {B : Type 0} (f : B → A) (xs : List B) (i : ℕ) (x : B) → slice_get xs i ≡ Some x → Each P (map f xs) → P (f x)
-  each_mapped f [] i x e h = absurd (none-some x e)
-  each_mapped f (y ∷ xs) zero x e h = subst (λ z. P (f z)) (same_Some y x e) h.0
-  each_mapped f (y ∷ xs) (suc i) x e h = each_mapped f xs i x e h.1
-
-  pub each_mapped_at : {B : Type 0} (f : ℕ → B → A) (k : ℕ) (xs : List B) (i j : ℕ) (x : B) → i ≡ k + j → slice_get xs j ≡ Some x → Each P (map_at f k xs) → P (f i x)
-  each_mapped_at f k [] i j x is e h = absurd (none-some x e)
-  each_mapped_at f k (y ∷ xs) i zero x is e h =
-      let same : k ≡ i = omega (arith, is) in subst (λ n. P (f n x)) same (subst (λ z. P (f k z)) (same_Some y x e) h.0)
-  each_mapped_at f k (y ∷ xs) i (suc j) x is e h = each_mapped_at f (suc k) xs i j x (omega (arith, is)) e h.1
+  each_part_at f k xs i j x is e h =
+      each_of_places (f i x) (λ n y at. each_at (flat_map_at f k xs) _ y h (at_part f k xs j n x y e (subst (λ (m : ℕ). slice_get (f m x) n ≡ Some y) is at)))
 
 pub each_in : {A : Type 0} (xs : List A) → Each (λ x. In x xs) xs
 each_in xs = each_of_places (λ x. In x xs) xs (λ k x e. (k, e))
@@ -108,6 +110,15 @@ each_of_all P (x ∷ xs) h = (h 0 x (omega arith), each_of_all P xs (λ k d belo
 -- what holds at each place holds of each item
 pub All-from_places : {A : Type 0} (P : A → Type 0) (xs : List A) → ((k : ℕ) (x : A) → slice_get xs k ≡ Some x → P x) → All P xs
 All-from_places P xs h k d below = h k _ (slice_get-get_or xs k d below)
+
+-- what holds of the item of each node of each owner holds of each item
+pub all_given : {A N B : Type 0} (P : B → Type 0) (item : ℕ → A → N → B) (nodes : A → List N) (xs : List A)
+    → ((k : ℕ) (x : A) (j : ℕ) (n : N) → slice_get xs k ≡ Some x → slice_get (nodes x) j ≡ Some n → P (item k x n)) → All P (flat_map_at (given item nodes) 0 xs)
+all_given P item nodes xs h =
+    All-from_places P (flat_map_at (given item nodes) 0 xs) (λ i y e.
+    let p = part_of_0 (given item nodes) xs i y e in
+    let n = of_map (item p.part p.owner) (nodes p.owner) p.place y p.item in
+    subst P n.2 (h p.part p.owner p.place n.0 p.there n.1))
 
 pub All-at : {A : Type 0} (P : A → Type 0) (xs : List A) (k : ℕ) (x : A) → All P xs → slice_get xs k ≡ Some x → P x
 All-at P xs k x all e = subst P (get_or_from_slice_get xs k x x e) (All-get_or P xs k x (slice_get_within xs k x e) all)

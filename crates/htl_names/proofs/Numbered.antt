@@ -11,24 +11,23 @@ use Rattle.htl_names.specs.Flat.{Layout, is_module, module_number, modes_before,
 use Rattle.htl_names.specs.Lists.{flat_map_at, place_in}
 use Rattle.htl_names.specs.Order.{module_at, tasks_at, modes_at, module_modes, mode_order, order}
 use Rattle.htl_names.specs.Ordered.{Exists, IsOrdered, StandsBefore}
-use Rattle.htl_names.proofs.FlatMaps.{in_front, at_part_0, at_flat, flat_part, there_is, list_to_at, of_list_to, counted, stands, from}
+use Rattle.htl_names.proofs.FlatMaps.{in_front, at_part_0, at_flat, flat_part, flat_map_is, same_length, there_is, list_to_at, of_list_to, counted, stands}
 use Rattle.htl_model.proofs.Listed.{length-list_to}
-use Rattle.std.specs.Prelude.{Option, IfSome}
+use Rattle.std.specs.Prelude.{Option, IfSome, All}
 use Rattle.htl_model.specs.declared.parts.Mode.{Mode}
 use Rattle.htl_model.specs.declared.parts.Module.{Module}
-use Rattle.htl_model.specs.declared.parts.Task.{Task}
 use Rattle.htl_model.specs.Ranges.{IsModeInRange, IsModeThat, IsModuleInRange, IsTaskInRange, parent_of, is_within}
 use Rattle.htl_model.specs.Tables.{Tables, mode_module}
 use Rattle.htl_text.specs.Bounds.{modules_of, tasks_of, out_params}
 use Rattle.htl_names.specs.Conditions.{MeetsBounds, MeetsTaskBounds}
-use Rattle.htl_names.specs.Keys.{look_up, mode_key}
+use Rattle.htl_names.specs.Keys.{mode_key}
 use Rattle.htl_names.specs.NameRules.{AreNamesRight}
 use Rattle.htl_names.specs.Programs.{naming, level, refined_in}
 use Rattle.htl_names.specs.Uses.{usage}
-use Rattle.htl_names.proofs.NameUses.{worst_span, mode_period_span, known, start_used}
-use Rattle.htl_names.proofs.EntryLaws.{mode_means}
+use Rattle.htl_names.proofs.NameUses.{worst_span, mode_period_span, known, used_in_module}
+use Rattle.htl_names.specs.Nth.{mode_in}
 use Rattle.htl_names.proofs.Places.{program_of_module, task_in_source}
-use Rattle.htl_names.proofs.Members.{All-at}
+use Rattle.htl_names.proofs.Members.{All-at, all_given}
 
 -- ---- first places
 
@@ -74,30 +73,13 @@ mode_stands l ps = stands (λ k s. mode_item k) (modes_in ps) l.modules
 
 -- ---- modes by their numbers
 
-abbrev pub at_mode : ModuleAt → ℕ → ModeAt
-at_mode s m = record { program = s.program; «module» = s.«module»; mode = m }
-
-module_mode_parts : (ps : List PlainProgram) (modules : List ModuleAt) → length (flat_map (module_modes ps) modules) ≡ length (flat_map (λ (s : ModuleAt). modes_at ps s.program s.«module») modules)
-module_mode_parts ps [] = refl
-module_mode_parts ps (s ∷ ss) =
-    let one = length-append (module_modes ps s) (flat_map (module_modes ps) ss) in
-    let two = length-append (modes_at ps s.program s.«module») (flat_map (λ (r : ModuleAt). modes_at ps r.program r.«module») ss) in
-    let own = length-list_to (λ m. at_mode s m) (length (modes_at ps s.program s.«module»)) in
-    let rest = module_mode_parts ps ss in
-    omega (arith, one, two, own, rest)
+module_mode_parts : (ps : List PlainProgram) (modules : List ModuleAt) → length (flat_map (module_modes ps) modules) ≡ length (flat_map (modes_in ps) modules)
+module_mode_parts ps modules =
+    ap length (sym (flat_map_is (module_modes ps) 0 modules)) ∙ same_length (λ k. module_modes ps) (modes_in ps) (λ k s. length-list_to (mode_in s) (length (modes_in ps s))) 0 modules
 
 -- a layout whose modes are those of its modules
 abbrev pub IsLaid : Layout → List PlainProgram → Type 0
 IsLaid l ps = l.modes ≡ mode_order ps l.modules
-
-pub mode_count : (l : Layout) (ps : List PlainProgram) → IsLaid l ps → length (mode_items l ps) ≡ length l.modes
-mode_count l ps laid = counted (λ k s. mode_item k) (modes_in ps) l.modules ∙ sym (module_mode_parts ps l.modules) ∙ sym (ap length laid)
-
-pub mode_numbered : (l : Layout) (ps : List PlainProgram) → IsLaid l ps → (k m : ℕ) (s : ModuleAt) → slice_get l.modules k ≡ Some s → m < length (modes_at ps s.program s.«module»)
-    → slice_get l.modes (modes_before l ps k + m) ≡ Some (at_mode s m)
-mode_numbered l ps laid k m s there less =
-    let at = at_flat (module_modes ps) l.modules k m s (at_mode s m) there (list_to_at (λ m. at_mode s m) (length (modes_at ps s.program s.«module»)) m less) in
-    ap (λ ms. slice_get ms (modes_before l ps k + m)) laid ∙ subst (λ (n : ℕ). slice_get (mode_order ps l.modules) (n + m) ≡ Some (at_mode s m)) (module_mode_parts ps (take k l.modules)) at
 
 -- the mode of a number: its module's number and place
 pub record ModeOf (l : Layout) (ps : List PlainProgram) (n : ℕ) (a : ModeAt) : Type 0 where
@@ -111,28 +93,40 @@ pub record ModeOf (l : Layout) (ps : List PlainProgram) (n : ℕ) (a : ModeAt) :
   pub is : n ≡ modes_before l ps number + a.mode
   pub item : slice_get (mode_items l ps) n ≡ Some (mode_item number node)
 
-pub mode_of_number : (l : Layout) (ps : List PlainProgram) → IsLaid l ps → (n : ℕ) (a : ModeAt) → slice_get l.modes n ≡ Some a → ModeOf l ps n a
-mode_of_number l ps laid n a e =
-    let p = flat_part (module_modes ps) l.modules n a (sym (ap (λ ms. slice_get ms n) laid) ∙ e) in
-    let s = p.owner in
-    let m = of_list_to (λ m. at_mode s m) (length (modes_at ps s.program s.«module»)) p.place a p.item in
-    let x = there_is (modes_at ps s.program s.«module») p.place m.0 in
-    let mode : p.place ≡ a.mode = ap (λ (b : ModeAt). b.mode) m.1 in
-    let program : s.program ≡ a.program = ap (λ (b : ModeAt). b.program) m.1 in
-    let «module» : s.«module» ≡ a.«module» = ap (λ (b : ModeAt). b.«module») m.1 in
-    let first = module_mode_parts ps (take p.part l.modules) in
-    let number : n ≡ modes_before l ps p.part + p.place = omega (arith, p.number, first) in
-    record {
-      number = p.part;
-      «module» = s;
-      there = p.there;
-      program = program;
-      place = «module»;
-      node = x.0;
-      its = subst (λ (b : ModeAt). slice_get (modes_at ps b.program b.«module») b.mode ≡ Some x.0) m.1 x.1;
-      is = omega (arith, number, mode);
-      item = ap (slice_get (mode_items l ps)) number ∙ mode_stands l ps p.part p.place s x.0 p.there x.1;
-    }
+module _ (l : Layout) (ps : List PlainProgram) (laid : IsLaid l ps) where
+  pub mode_count : length (mode_items l ps) ≡ length l.modes
+  mode_count = counted (λ k s. mode_item k) (modes_in ps) l.modules ∙ sym (module_mode_parts ps l.modules) ∙ sym (ap length laid)
+
+  pub mode_numbered : (k m : ℕ) (s : ModuleAt) → slice_get l.modules k ≡ Some s → m < length (modes_in ps s) → slice_get l.modes (modes_before l ps k + m) ≡ Some (mode_in s m)
+  mode_numbered k m s there less =
+      let at = at_flat (module_modes ps) l.modules k m s (mode_in s m) there (list_to_at (mode_in s) (length (modes_in ps s)) m less) in
+      ap (λ ms. slice_get ms (modes_before l ps k + m)) laid ∙ subst (λ (n : ℕ). slice_get (mode_order ps l.modules) (n + m) ≡ Some (mode_in s m)) (module_mode_parts ps (take k l.modules)) at
+
+  -- what holds of each mode of each module holds of the mode of each number
+  pub each_mode : (P : ℕ → ModeAt → Type 0)
+      → ((k m : ℕ) (s : ModuleAt) (x : PlainMode) → slice_get l.modules k ≡ Some s → slice_get (modes_in ps s) m ≡ Some x → P (modes_before l ps k + m) (mode_in s m))
+      → (n : ℕ) (a : ModeAt) → slice_get l.modes n ≡ Some a → P n a
+  each_mode P holds n a e =
+      let p = flat_part (module_modes ps) l.modules n a (sym (ap (λ ms. slice_get ms n) laid) ∙ e) in
+      let m = of_list_to (mode_in p.owner) (length (modes_in ps p.owner)) p.place a p.item in
+      let x = there_is (modes_in ps p.owner) p.place m.0 in
+      let first = module_mode_parts ps (take p.part l.modules) in
+      let number : modes_before l ps p.part + p.place ≡ n = omega (arith, p.number, first) in
+      subst (P n) m.1 (subst (λ (i : ℕ). P i (mode_in p.owner p.place)) number (holds p.part p.place p.owner x.0 p.there x.1))
+
+  pub mode_of_number : (n : ℕ) (a : ModeAt) → slice_get l.modes n ≡ Some a → ModeOf l ps n a
+  mode_of_number =
+      each_mode (ModeOf l ps) (λ k m s x there its. record {
+        number = k;
+        «module» = s;
+        there = there;
+        program = refl;
+        place = refl;
+        node = x;
+        its = its;
+        is = refl;
+        item = mode_stands l ps k m s x there its;
+      })
 
 -- ---- modules by their numbers
 
@@ -170,27 +164,34 @@ module_stands l ps exist k s x there is =
 pub modules_exist : (ps : List PlainProgram) → IsOrdered (symbols_of ps) ps (order (symbols_of ps) ps) → AreModules ps (layout ps).modules
 modules_exist ps ordered k s e = All-at (Exists ps) (layout ps).modules k s ordered.exist e
 
-pub modules_once : (ps : List PlainProgram) → IsOrdered (symbols_of ps) ps (order (symbols_of ps) ps) → AreOnce (layout ps).modules
-modules_once ps ordered j k s r a b p u = ordered.apart j k s r a b p u
+pub number_is : (ps : List PlainProgram) → IsOrdered (symbols_of ps) ps (order (symbols_of ps) ps) → (k : ℕ) (s : ModuleAt) → slice_get (layout ps).modules k ≡ Some s
+    → module_number (layout ps) s.program s.«module» ≡ k
+number_is ps ordered k s there = module_number_is (layout ps) k s s.program s.«module» (λ i j a b. ordered.apart i j a b) there refl refl
 
--- the meaning of a name that is found
-pub meaning_is : (ps : List PlainProgram) (key : _) (n : ℕ) → look_up key (symbols_of ps) ≡ Some n → meaning (layout ps) key ≡ n
-meaning_is ps key n e = ap (λ o. elim o [ Some n ↦ n | None ↦ 0 ]) e
+-- the mode of a module that stands before a place is in the tables
+pub record ModeBefore (ps : List PlainProgram) (a : ModeAt) (place : ℕ) : Type 0 where
+  pub node : PlainMode
+  pub item : slice_get (mode_items (layout ps) ps) (mode_number (layout ps) ps a) ≡ Some (mode_item place node)
+  pub there : slice_get (layout ps).modes (mode_number (layout ps) ps a) ≡ Some a
 
--- ---- modes
-
-pub mode_in_range : (ps : List PlainProgram) → AreNamesRight ps → IsOrdered (symbols_of ps) ps (order (symbols_of ps) ps) → (n : ℕ) (y : Mode)
-    → slice_get (mode_items (layout ps) ps) n ≡ Some y → IsModeInRange (tables_of_tree ps) y
-mode_in_range ps right ordered n y e =
-    let f = from (λ k s. mode_item k) (modes_in ps) (layout ps).modules n y e in
-    let within = slice_get_within (layout ps).modules f.number f.owner f.there in
-    let size = module_count (layout ps) ps (modules_exist ps ordered) in
-    subst (IsModeInRange (tables_of_tree ps)) f.is
-    (record { owner = omega (arith, within, size); period = mode_period_span ps right f.owner.program f.owner.«module» f.place f.node f.its })
+pub mode_before : (ps : List PlainProgram) → IsOrdered (symbols_of ps) ps (order (symbols_of ps) ps) → (k : ℕ) (a : ModeAt) → (b : StandsBefore ps (layout ps).modules k a) → ModeBefore ps a b.place
+mode_before ps ordered k a b =
+    let l = layout ps in
+    let s = b.«module» in
+    let is : mode_in s a.mode ≡ a = ap (λ (p : ℕ). mode_in (record s { program = p }) a.mode) b.program ∙ ap (λ (u : ℕ). mode_in (record { program = a.program; «module» = u; parent = s.parent }) a.mode) b.number in
+    let less : a.mode < length (modes_in ps s) = subst (λ (c : ModeAt). a.mode < length (modes_at ps c.program c.«module»)) (sym is) b.mode in
+    let x = there_is (modes_in ps s) a.mode less in
+    let number : modes_before l ps b.place + a.mode ≡ mode_number l ps (mode_in s a.mode) = ap (λ (j : ℕ). modes_before l ps j + a.mode) (sym (number_is ps ordered b.place s b.there)) in
+    subst (λ (c : ModeAt). ModeBefore ps c b.place) is
+    (record {
+      node = x.0;
+      item = ap (slice_get (mode_items l ps)) (sym number) ∙ mode_stands l ps b.place a.mode s x.0 b.there x.1;
+      there = ap (slice_get l.modes) (sym number) ∙ mode_numbered l ps refl b.place a.mode s b.there less;
+    })
 
 -- mode m of module k is a mode of module k
 pub its_mode : (ps : List PlainProgram) (k m : ℕ) (s : ModuleAt) (x : PlainMode) (P : ℕ → Type 0) → P k → slice_get (layout ps).modules k ≡ Some s
-    → slice_get (modes_at ps s.program s.«module») m ≡ Some x → IsModeThat (tables_of_tree ps) P (modes_before (layout ps) ps k + m)
+    → slice_get (modes_in ps s) m ≡ Some x → IsModeThat (tables_of_tree ps) P (modes_before (layout ps) ps k + m)
 its_mode ps k m s x P holds there its = (mode_item k x, mode_stands (layout ps) ps k m s x there its, holds)
 
 -- ---- modules
@@ -198,32 +199,17 @@ its_mode ps k m s x P holds there its = (mode_item k x, mode_stands (layout ps) 
 start_in_range : (ps : List PlainProgram) → AreNamesRight ps → (k : ℕ) (s : ModuleAt) (x : PlainModule) → slice_get (layout ps).modules k ≡ Some s → module_at ps s.program s.«module» ≡ Some x
     → IsModeThat (tables_of_tree ps) (λ owner. owner ≡ k) (modes_before (layout ps) ps k + meaning (layout ps) (mode_key s.program s.«module» x.start.name))
 start_in_range ps right k s x there is =
-    let key = mode_key s.program s.«module» x.start.name in
-    let u = usage key x.start in
-    let n = known ps right u (start_used ps s.program s.«module» x is) in
-    let m = mode_means ps s.program s.«module» x.start.name n.0 n.1 in
-    let same = meaning_is ps key n.0 n.1 in
-    subst (λ (j : ℕ). IsModeThat (tables_of_tree ps) (λ owner. owner ≡ k) (modes_before (layout ps) ps k + j)) (sym same)
-    (its_mode ps k n.0 s m.0 (λ owner. owner ≡ k) refl there m.1)
-
--- the number of a mode that a module before place k has
-parent_stands : (ps : List PlainProgram) → IsOrdered (symbols_of ps) ps (order (symbols_of ps) ps) → (k : ℕ) (a : ModeAt) → (b : StandsBefore ps (layout ps).modules k a)
-    → (x : PlainMode) × (slice_get (mode_items (layout ps) ps) (mode_number (layout ps) ps a) ≡ Some (mode_item b.place x))
-parent_stands ps ordered k a b =
-    let l = layout ps in
-    let number = module_number_is l b.place b.«module» a.program a.«module» (modules_once ps ordered) b.there b.program b.number in
-    let x = there_is (modes_at ps a.program a.«module») a.mode b.mode in
-    let its : slice_get (modes_at ps b.«module».program b.«module».«module») a.mode ≡ Some x.0 =
-    ap (λ (p : ℕ). slice_get (modes_at ps p b.«module».«module») a.mode) b.program ∙ ap (λ (u : ℕ). slice_get (modes_at ps a.program u) a.mode) b.number ∙ x.1 in
-    (x.0, ap (λ (j : ℕ). slice_get (mode_items l ps) (modes_before l ps j + a.mode)) number ∙ mode_stands l ps b.place a.mode b.«module» x.0 b.there its)
+    let use_of = usage (mode_key s.program s.«module» x.start.name) x.start in
+    let m = (known ps right use_of (used_in_module ps use_of s.program s.«module» x is (0, refl))).0 in
+    its_mode ps k (meaning (layout ps) use_of.key) s m.0 (λ owner. owner ≡ k) refl there m.1
 
 parent_in_range : (ps : List PlainProgram) → IsOrdered (symbols_of ps) ps (order (symbols_of ps) ps) → (k : ℕ) (s : ModuleAt) → slice_get (layout ps).modules k ≡ Some s → (o : Option ModeAt) → s.parent ≡ o
     → IfSome (elim o [ Some a ↦ Some (mode_number (layout ps) ps a) | None ↦ None ]) (IsModeThat (tables_of_tree ps) (λ owner. owner < k))
 parent_in_range ps ordered k s there None is = tt
 parent_in_range ps ordered k s there (Some a) is =
     let b = ordered.parents k s a there is in
-    let x = parent_stands ps ordered k a b in
-    (mode_item b.place x.0, x.1, b.lower)
+    let x = mode_before ps ordered k a b in
+    (mode_item b.place x.node, x.item, b.lower)
 
 -- ---- levels
 
@@ -263,9 +249,9 @@ within_levels ps ordered zero k s there few (Some a) is =
 within_levels ps ordered (suc steps) k s there few (Some a) is =
     let t = tables_of_tree ps in
     let b = ordered.parents k s a there is in
-    let x = parent_stands ps ordered k a b in
+    let x = mode_before ps ordered k a b in
     let above = ordered.steps k s a there is in
-    let owner = module_of_mode t (mode_number (layout ps) ps a) (mode_item b.place x.0) x.1 in
+    let owner = module_of_mode t (mode_number (layout ps) ps a) (mode_item b.place x.node) x.item in
     let y = modules_exist ps ordered b.place b.«module» b.there in
     let own = parent_of_module t b.place (module_item (layout ps) ps b.place b.«module» y.0) (module_stands (layout ps) ps (modules_exist ps ordered) b.place b.«module» y.0 b.there y.1) in
     let same = ap (level_of ps) b.program in
@@ -301,26 +287,33 @@ module_in_range ps right ordered k y e =
       levels = within_levels ps ordered 7 k f.«module» f.there (omega (arith, few)) f.«module».parent refl;
     })
 
--- ---- tasks
+-- ---- modes and tasks
 
-pub task_small : (ps : List PlainProgram) → MeetsBounds ps → (p u k : ℕ) (t : PlainTask) → slice_get (tasks_at ps p u) k ≡ Some t → MeetsTaskBounds t
-task_small ps small p u k t e =
-    let n = task_in_source ps p u k t e in
-    All-at MeetsTaskBounds (tasks_of (modules_of ps)) (n.0 + k) t small.tasks n.1
+module _ (ps : List PlainProgram) (small : MeetsBounds ps) where
+  pub task_small : (p u k : ℕ) (t : PlainTask) → slice_get (tasks_at ps p u) k ≡ Some t → MeetsTaskBounds t
+  task_small p u k t e = let n = task_in_source ps p u k t e in All-at MeetsTaskBounds (tasks_of (modules_of ps)) (n.0 + k) t small.tasks n.1
 
-pub task_in_range : (ps : List PlainProgram) → MeetsBounds ps → AreNamesRight ps → IsOrdered (symbols_of ps) ps (order (symbols_of ps) ps) → (n : ℕ) (y : Task)
-    → slice_get (task_items (layout ps) ps) n ≡ Some y → IsTaskInRange (tables_of_tree ps) y
-task_in_range ps small right ordered n y e =
-    let f = from (λ k s. task_item k) (tasks_in ps) (layout ps).modules n y e in
-    let within = slice_get_within (layout ps).modules f.number f.owner f.there in
-    let size = module_count (layout ps) ps (modules_exist ps ordered) in
-    let few = task_small ps small f.owner.program f.owner.«module» f.place f.node f.its in
-    let inputs = length-map f.node.inputs (λ x. x.ty) in
-    let outputs = length-map (out_params f.node.outputs) (λ x. x.ty) in
-    subst (IsTaskInRange (tables_of_tree ps)) f.is
-    (record {
-      owner = omega (arith, within, size);
-      worst = worst_span ps right f.owner.program f.owner.«module» f.place f.node f.its;
-      few_inputs = omega (arith, inputs, few.inputs);
-      few_outputs = omega (arith, outputs, few.outputs);
-    })
+  module _ (right : AreNamesRight ps) (ordered : IsOrdered (symbols_of ps) ps (order (symbols_of ps) ps)) where
+    owner_within : (k : ℕ) (s : ModuleAt) → slice_get (layout ps).modules k ≡ Some s → k < length (module_items (layout ps) ps)
+    owner_within k s there =
+        let within = slice_get_within (layout ps).modules k s there in
+        let size = module_count (layout ps) ps (modules_exist ps ordered) in
+        omega (arith, within, size)
+
+    pub modes_in_range : All (IsModeInRange (tables_of_tree ps)) (mode_items (layout ps) ps)
+    modes_in_range =
+        all_given (IsModeInRange (tables_of_tree ps)) (λ k s. mode_item k) (modes_in ps) (layout ps).modules (λ k s m x there its.
+        record { owner = owner_within k s there; period = mode_period_span ps right s.program s.«module» m x its })
+
+    pub tasks_in_range : All (IsTaskInRange (tables_of_tree ps)) (task_items (layout ps) ps)
+    tasks_in_range =
+        all_given (IsTaskInRange (tables_of_tree ps)) (λ k s. task_item k) (tasks_in ps) (layout ps).modules (λ k s j t there its.
+        let few = task_small s.program s.«module» j t its in
+        let inputs = length-map t.inputs (λ x. x.ty) in
+        let outputs = length-map (out_params t.outputs) (λ x. x.ty) in
+        record {
+          owner = owner_within k s there;
+          worst = worst_span ps right s.program s.«module» j t its;
+          few_inputs = omega (arith, inputs, few.inputs);
+          few_outputs = omega (arith, outputs, few.outputs);
+        })

@@ -1,11 +1,12 @@
 -- What tests tell, what stands at a place of a tree, and where among all of its kind.
-use Rattle.std.proofs.Common.{◌≡◌, ℕ, ◌≤◌, ◌<◌, ◌⊎◌, inl, inr, arith, Bool, true, false, ◌&&◌, refl, suc, ◌+◌, List, [], length, take, slice_get, Option, Some, None, ◌∙◌, ap}
+use Rattle.std.proofs.Common.{◌≡◌, ℕ, ◌≤◌, ◌<◌, ◌⊎◌, inl, inr, arith, Bool, true, false, ◌&&◌, refl, suc, ◌+◌, List, [], slice_get, Option, Some, None, ◌∙◌, ap}
 use Rattle.std.proofs.lemmas.Bool.Decides.{eqb_tells}
 use Rattle.std.specs.List.{flat_map}
 use Rattle.std.proofs.lemmas.Option.{none-some}
 use Rattle.htl_text.specs.Bounds.{modules_of, modes_of, tasks_of}
 use Rattle.htl_text.specs.Nodes.{PlainProgram, PlainModule, PlainMode, PlainTask}
-use Rattle.htl_names.specs.Order.{modules_at, module_at, tasks_at, modes_at}
+use Rattle.htl_names.specs.Order.{modules_at, module_at, tasks_at, modes_at, mode_at}
+use Rattle.htl_names.specs.declared.place.ModeAt.{ModeAt}
 use Rattle.htl_names.proofs.FlatMaps.{at_flat}
 
 pub stable : (m n : ℕ) → ((m ≡ n → ⊥) → ⊥) → m ≡ n
@@ -43,10 +44,15 @@ tasks_there ps p u y e = ap (λ o. elim o [ Some x ↦ x.tasks | None ↦ [] ]) 
 pub modes_there : (ps : List PlainProgram) (p u : ℕ) (y : PlainModule) → module_at ps p u ≡ Some y → modes_at ps p u ≡ y.modes
 modes_there ps p u y e = ap (λ o. elim o [ Some x ↦ x.modes | None ↦ [] ]) e
 
+-- what a mode has of a kind
+pub part_is : {A : Type 0} (ps : List PlainProgram) (a : ModeAt) (x : PlainMode) (part : PlainMode → List A) → mode_at ps a ≡ Some x
+    → elim (mode_at ps a) [ Some y ↦ part y | None ↦ [] ] ≡ part x
+part_is ps a x part e = ap (λ o. elim o [ Some y ↦ part y | None ↦ [] ]) e
+
 -- ---- whose it is
 
 -- an item of a part of what stands there
-part_there : {A B : Type 0} (part : A → List B) (o : Option A) (k : ℕ) (y : B) → slice_get (elim o as (λ _. List B) [ Some x ↦ part x | None ↦ [] ]) k ≡ Some y
+pub part_there : {A B : Type 0} (part : A → List B) (o : Option A) (k : ℕ) (y : B) → slice_get (elim o as (λ _. List B) [ Some x ↦ part x | None ↦ [] ]) k ≡ Some y
     → (x : A) × (o ≡ Some x) × (slice_get (part x) k ≡ Some y)
 part_there part None k y e = absurd (none-some y e)
 part_there part (Some x) k y e = (x, refl, e)
@@ -63,25 +69,24 @@ module_of_mode ps p u m x e = part_there (λ (x : PlainModule). x.modes) (module
 -- ---- among all of the source: behind n others, and those before it in its own list
 
 pub module_in_source : (ps : List PlainProgram) (p u : ℕ) (y : PlainModule) → module_at ps p u ≡ Some y → (n : ℕ) × (slice_get (modules_of ps) (n + u) ≡ Some y)
-module_in_source ps p u y e =
-    let q = program_of_module ps p u y e in
-    (length (flat_map (λ (x : PlainProgram). x.modules) (take p ps)), at_flat (λ (x : PlainProgram). x.modules) ps p u q.0 y q.1 q.2)
+module_in_source ps p u y e = let q = program_of_module ps p u y e in (_, at_flat (λ (x : PlainProgram). x.modules) ps p u q.0 y q.1 q.2)
 
 pub task_in_source : (ps : List PlainProgram) (p u k : ℕ) (t : PlainTask) → slice_get (tasks_at ps p u) k ≡ Some t → (n : ℕ) × (slice_get (tasks_of (modules_of ps)) (n + k) ≡ Some t)
 task_in_source ps p u k t e =
     let o = module_of_task ps p u k t e in
     let n = module_in_source ps p u o.0 o.1 in
-    (length (flat_map (λ (y : PlainModule). y.tasks) (take (n.0 + u) (modules_of ps))), at_flat (λ (y : PlainModule). y.tasks) (modules_of ps) (n.0 + u) k o.0 t n.1 o.2)
+    (_, at_flat (λ (y : PlainModule). y.tasks) (modules_of ps) (n.0 + u) k o.0 t n.1 o.2)
 
 pub mode_in_source : (ps : List PlainProgram) (p u m : ℕ) (x : PlainMode) → slice_get (modes_at ps p u) m ≡ Some x → (n : ℕ) × (slice_get (modes_of (modules_of ps)) (n + m) ≡ Some x)
 mode_in_source ps p u m x e =
     let o = module_of_mode ps p u m x e in
     let n = module_in_source ps p u o.0 o.1 in
-    (length (flat_map (λ (y : PlainModule). y.modes) (take (n.0 + u) (modules_of ps))), at_flat (λ (y : PlainModule). y.modes) (modules_of ps) (n.0 + u) m o.0 x n.1 o.2)
+    (_, at_flat (λ (y : PlainModule). y.modes) (modules_of ps) (n.0 + u) m o.0 x n.1 o.2)
 
 -- a port, an invocation, a switch
-pub part_in_source : {B : Type 0} (part : PlainMode → List B) (ps : List PlainProgram) (p u m j : ℕ) (x : PlainMode) (y : B) → slice_get (modes_at ps p u) m ≡ Some x → slice_get (part x) j ≡ Some y
-    → (n : ℕ) × (slice_get (flat_map part (modes_of (modules_of ps))) (n + j) ≡ Some y)
-part_in_source part ps p u m j x y e its =
-    let n = mode_in_source ps p u m x e in
-    (length (flat_map part (take (n.0 + m) (modes_of (modules_of ps)))), at_flat part (modes_of (modules_of ps)) (n.0 + m) j x y n.1 its)
+pub part_in_source : {B : Type 0} (part : PlainMode → List B) (ps : List PlainProgram) (a : ModeAt) (j : ℕ) (y : B)
+    → slice_get (elim (mode_at ps a) as (λ _. List B) [ Some x ↦ part x | None ↦ [] ]) j ≡ Some y → (n : ℕ) × (slice_get (flat_map part (modes_of (modules_of ps))) (n + j) ≡ Some y)
+part_in_source part ps a j y its =
+    let x = part_there part (mode_at ps a) j y its in
+    let n = mode_in_source ps a.program a.«module» a.mode x.0 x.1 in
+    (_, at_flat part (modes_of (modules_of ps)) (n.0 + a.mode) j x.0 y n.1 x.2)

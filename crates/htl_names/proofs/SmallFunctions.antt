@@ -1,39 +1,39 @@
 -- The functions of a source have few nodes, and arguments that are there.
-use Rattle.std.proofs.Common.{◌≡◌, ◌≤◌, ◌<◌, ◌+◌, ◌||◌, ℕ, suc, Bool, true, false, cond, eqb, List, [], ◌∷◌, ◌++◌, length, map, take, slice_get, Option, Some, None, refl, sym, ◌∙◌, ap, ap₂, subst, arith, inl, inr}
-use Rattle.std.specs.List.{flat_map, list_any, All}
-use Rattle.std.proofs.lemmas.Grind.{flat_map-append}
-use Rattle.std.proofs.lemmas.List.{map-append, length-map}
+use Rattle.std.proofs.Common.{◌≡◌, ◌≤◌, ◌<◌, ◌+◌, ◌||◌, ℕ, zero, suc, Bool, length-append, true, false, cond, eqb, List, [], ◌∷◌, ◌++◌, length, map, slice_get, Option, Some, None, refl, sym, ◌∙◌, ap, ap₂, subst, arith}
+use Rattle.std.specs.List.{flat_map, list_any, All, AllZip}
+use Rattle.std.proofs.lemmas.List.Folds.{flat_map-map}
+use Rattle.std.proofs.lemmas.Simd.{map-map}
+use Rattle.std.proofs.lemmas.Slice.Zip.{AllZip-right, AllZip-long}
+use Rattle.std.specs.Option.{IsSomeAnd}
+use Rattle.std.specs.Prelude.{MatchOption}
+use Rattle.htl_base.specs.declared.Ty.TheVariants.{Bool as BoolTy}
+use Rattle.htl_text.specs.declared.tree.ParamNode.{ParamNode}
+use Rattle.std.proofs.lemmas.List.{length-map}
 use Rattle.htl_model.specs.FunctionTypes.{FunctionType, output_type, task_types, switch_type, comm_type, function_types}
 use Rattle.htl_model.specs.Small.{IsSmallFunction, AreSmall, ArgumentsBelow, nodes}
-use Rattle.htl_names.proofs.ListLaws.{Paired, paired_append, paired_at, all_in}
-use Rattle.htl_model.specs.Ranges.{AreInRange, IsTaskInRange, IsSwitchInRange}
-use Rattle.htl_model.specs.Tables.{Tables, Fun, Formula, Compiled}
+use Rattle.htl_names.proofs.ListLaws.{zip_append, zip_map, zip_parts, zip_at, all_in, few_reads}
+use Rattle.htl_model.specs.Ranges.{AreInRange, IsFunInRange}
+use Rattle.htl_model.specs.Tables.{Tables, Fun, Formula, Compiled, function_count, count_before}
 use Rattle.htl_model.specs.declared.parts.Task.{Task}
-use Rattle.htl_names.proofs.FlatMaps.{get_front, get_back, get_either, flat_part, at_flat, of_map}
-use Rattle.htl_names.proofs.Members.{All-at}
-use Rattle.htl_names.proofs.Numbered.{task_small}
+use Rattle.htl_names.proofs.FlatMaps.{get_front, get_back, flat_map_is, flat_map_parts}
+use Rattle.htl_names.proofs.Members.{In, in_part, in_mapped, at_place, All-at, All-from_places, map_flat_map_at}
+use Rattle.htl_names.proofs.Numbered.{task_small, tasks_in}
 use Rattle.htl_model.proofs.PlaceLaws.{get_mapped}
 use Rattle.htl_names.proofs.ModeRanges.{switch_small}
-use Rattle.htl_names.proofs.NameUses.{known, in_task}
-use Rattle.htl_names.specs.Conditions.{MeetsBounds, MeetsSwitchBounds}
-use Rattle.htl_names.specs.Flat.{Layout, layout, meaning, term_by, types_of, is_abstract, task_item, module_task_items, input_place, flat_output_function, outs_functions, task_functions, module_functions, comms_in, switch_item, mode_switch_items, read_place, flat_switch_function, mode_functions, tables_of_tree}
+use Rattle.htl_names.proofs.NameUses.{known, used_in_task}
+use Rattle.htl_names.specs.Conditions.{MeetsBounds, MeetsTaskBounds}
+use Rattle.htl_names.specs.Flat.{Layout, layout, meaning, term_by, types_of, is_abstract, task_item, task_items, module_task_items, switch_items, function_items, input_place, flat_output_function, outs_functions, task_functions, module_functions, comms_in, switch_item, mode_switch_items, read_place, flat_switch_function, mode_functions, tables_of_tree}
 use Rattle.htl_names.specs.Keys.{comm_key}
-use Rattle.htl_names.specs.Lists.{flat_map_at, place_in}
+use Rattle.htl_names.specs.Lists.{place_in}
 use Rattle.htl_names.specs.NameRules.{AreNamesRight}
-use Rattle.htl_names.specs.Order.{tasks_at, mode_at, switches_at}
-use Rattle.htl_names.specs.Uses.{input_use, output_uses, outputs_uses, task_uses}
-use Rattle.htl_names.specs.declared.key.Use.{Use}
+use Rattle.htl_names.specs.Order.{tasks_at, switches_at}
+use Rattle.htl_names.specs.Uses.{input_use, output_uses, outputs_uses}
 use Rattle.htl_names.specs.declared.place.ModeAt.{ModeAt}
 use Rattle.htl_names.specs.declared.place.ModuleAt.{ModuleAt}
 use Rattle.htl_text.specs.Bounds.{names_of, out_params, out_values, tree_nodes}
 use Rattle.htl_text.specs.Expressions.{Expr, Number, Flag, Variable, Prefix, Infix, Choice}
-use Rattle.htl_text.specs.Nodes.{PlainProgram, PlainMode, PlainTask, PlainOut, PlainOuts, PlainSwitch, Concrete, Abstract}
+use Rattle.htl_text.specs.Nodes.{PlainProgram, PlainTask, PlainOut, PlainOuts, PlainSwitch, Concrete, Abstract}
 use Rattle.htl_text.specs.declared.tree.Id.{Id}
-
--- few nodes, and arguments below the number of the types
-abbrev pub IsNear : FunctionType → Fun → Type 0
-IsNear f (Formula first e) = (nodes e ≤ 512) × ArgumentsBelow (length f.args) e
-IsNear f (Compiled code) = ⊥
 
 -- ---- expressions
 
@@ -59,65 +59,51 @@ args_below place n (Choice t c a b) h =
       args_below place n b (λ i id at. h (length (names_of c) + (length (names_of a) + i)) id (get_back (names_of c) later (length (names_of a) + i) ∙ get_back (names_of a) (names_of b) i ∙ at)),
     )
 
-near_by : (f : FunctionType) (first n : ℕ) (place : Id → ℕ) (e : Expr) → n ≡ length f.args → tree_nodes e ≤ 512 → ((i : ℕ) (id : Id) → slice_get (names_of e) i ≡ Some id → place id < n) → IsNear f (Formula first (term_by place e))
-near_by f first n place e same few h = (omega (arith, nodes_same place e, few), subst (λ (m : ℕ). ArgumentsBelow m (term_by place e)) same (args_below place n e h))
+small_by : (f : FunctionType) (first n : ℕ) (place : Id → ℕ) (e : Expr) → n ≡ length f.args → n ≤ 256 → tree_nodes e ≤ 512 → ((i : ℕ) (id : Id) → slice_get (names_of e) i ≡ Some id → place id < n)
+    → IsSmallFunction f (Formula first (term_by place e))
+small_by f first n place e same args few h = (omega (arith, nodes_same place e, few), omega (arith, same, args), subst (λ (m : ℕ). ArgumentsBelow m (term_by place e)) same (args_below place n e h))
 
 -- ---- outputs
+
+-- the types of a task's outputs in its node
+abbrev node_types : PlainTask → List FunctionType
+node_types t = task_types (task_item 0 t)
 
 module _ (ps : List PlainProgram) (small : MeetsBounds ps) (right : AreNamesRight ps) where
   input_below : (p u n : ℕ) (t : PlainTask) (os : List PlainOut) (i j : ℕ) (o : PlainOut) (id : Id) → slice_get (tasks_at ps p u) n ≡ Some t → t.outputs ≡ Concrete os → slice_get os i ≡ Some o
       → slice_get (names_of o.value) j ≡ Some id → input_place (layout ps) p u n id < length t.inputs
   input_below p u n t os i j o id at is its named =
-      let used_here : Use = input_use p u n (length t.inputs) id in
-      let place : ℕ = length (flat_map (output_uses p u n (length t.inputs)) (take i os)) + j in
-      let inner : slice_get (flat_map (output_uses p u n (length t.inputs)) os) place ≡ Some used_here =
-      at_flat (output_uses p u n (length t.inputs)) os i j o used_here its (get_mapped (input_use p u n (length t.inputs)) (names_of o.value) j id named) in
-      let used : slice_get (task_uses p u n t) place ≡ Some used_here = ap (λ (x : PlainOuts). slice_get (outputs_uses p u n (length t.inputs) x) place) is ∙ inner in
-      let k = known ps right used_here (in_task ps p u n place t used_here at used) in
-      let means : input_place (layout ps) p u n id ≡ k.0 = ap (λ (x : Option ℕ). elim x as (λ _. ℕ) [ Some m ↦ m | None ↦ 0 ]) k.1 in
-      omega (arith, means, k.2)
+      let use_of = input_use p u n (length t.inputs) id in
+      let own : In use_of (flat_map (output_uses p u n (length t.inputs)) os) =
+      in_part (output_uses p u n (length t.inputs)) os i o its (in_mapped (input_use p u n (length t.inputs)) (names_of o.value) j id named) in
+      (known ps right use_of (used_in_task ps use_of p u n t at (subst (λ (x : PlainOuts). In use_of (outputs_uses p u n (length t.inputs) x)) (sym is) own))).1
 
-  outs_paired : (p u n : ℕ) (t : PlainTask) (os : List PlainOut)
-      → ((i : ℕ) (o : PlainOut) → slice_get os i ≡ Some o → (tree_nodes o.value ≤ 512) × ((j : ℕ) (id : Id) → slice_get (names_of o.value) j ≡ Some id → input_place (layout ps) p u n id < length t.inputs))
-      → Paired IsNear (map (output_type (types_of t.inputs)) (types_of (map (λ (o : PlainOut). o.param) os))) (map (flat_output_function (layout ps) p u n) os)
-  outs_paired p u n t [] h = tt
-  outs_paired p u n t (o ∷ os) h =
-      let own = h 0 o refl in (
-        near_by (output_type (types_of t.inputs) o.param.ty) o.first (length t.inputs) (input_place (layout ps) p u n) o.value (sym (length-map t.inputs (λ x. x.ty))) own.0 own.1,
-        outs_paired p u n t os (λ i x at. h (suc i) x at),
-      )
-
-  task_paired : (k p u n : ℕ) (t : PlainTask) → slice_get (tasks_at ps p u) n ≡ Some t → Paired IsNear (task_types (task_item k t)) (task_functions (layout ps) p u n t)
-  task_paired k p u n t at = by t.outputs refl
+  task_zipped : (p u n : ℕ) (t : PlainTask) → slice_get (tasks_at ps p u) n ≡ Some t → AllZip IsSmallFunction (node_types t) (task_functions (layout ps) p u n t)
+  task_zipped p u n t at = by t.outputs refl
     where
-      by : (x : PlainOuts) → t.outputs ≡ x → Paired IsNear (cond (is_abstract x) [] (map (output_type (types_of t.inputs)) (types_of (out_params x)))) (outs_functions (layout ps) p u n x)
+      bounds : MeetsTaskBounds t
+      bounds = task_small ps small p u n t at
+
+      by : (x : PlainOuts) → t.outputs ≡ x → AllZip IsSmallFunction (cond (is_abstract x) [] (map (output_type (types_of t.inputs)) (types_of (out_params x)))) (outs_functions (layout ps) p u n x)
       by (Abstract xs) e = tt
       by (Concrete os) e =
-          let values : All (λ (v : Expr). tree_nodes v ≤ 512) (map (λ (o : PlainOut). o.value) os) =
-          subst (λ (x : PlainOuts). All (λ (v : Expr). tree_nodes v ≤ 512) (out_values x)) e (task_small ps small p u n t at).values in
-          outs_paired p u n t os (λ i o its. (
-            All-at (λ (v : Expr). tree_nodes v ≤ 512) (map (λ (y : PlainOut). y.value) os) i o.value values (get_mapped (λ (y : PlainOut). y.value) os i o its),
-            λ j id named. input_below p u n t os i j o id at e its named,
-          ))
+          let fits : Expr → Type 0 = λ v. tree_nodes v ≤ 512 in
+          let values = subst (λ (x : PlainOuts). All fits (out_values x)) e bounds.values in
+          let types = ap (map (output_type (types_of t.inputs))) (map-map (λ (x : ParamNode). x.ty) (λ (o : PlainOut). o.param) os) ∙ map-map (output_type (types_of t.inputs)) (λ (o : PlainOut). o.param.ty) os in
+          subst (λ (fs : List FunctionType). AllZip IsSmallFunction fs (map (flat_output_function (layout ps) p u n) os)) (sym types)
+          (zip_map IsSmallFunction (λ (o : PlainOut). output_type (types_of t.inputs) o.param.ty) (flat_output_function (layout ps) p u n) os (λ i o its.
+          small_by (output_type (types_of t.inputs) o.param.ty) o.first (length t.inputs) (input_place (layout ps) p u n) o.value (sym (length-map t.inputs (λ x. x.ty))) bounds.inputs
+          (All-at fits (map (λ (y : PlainOut). y.value) os) i o.value values (get_mapped (λ (y : PlainOut). y.value) os i o its)) (λ j id named. input_below p u n t os i j o id at e its named)))
 
-  tasks_paired : (k p u j : ℕ) (ts : List PlainTask) → ((i : ℕ) (t : PlainTask) → slice_get ts i ≡ Some t → slice_get (tasks_at ps p u) (j + i) ≡ Some t)
-      → Paired IsNear (flat_map task_types (map (task_item k) ts)) (flat_map_at (task_functions (layout ps) p u) j ts)
-  tasks_paired k p u j [] h = tt
-  tasks_paired k p u j (t ∷ ts) h =
-      let zero_ : j + 0 ≡ j = omega arith in
-      paired_append IsNear (task_types (task_item k t)) (task_functions (layout ps) p u j t) (flat_map task_types (map (task_item k) ts)) (flat_map_at (task_functions (layout ps) p u) (suc j) ts)
-      (task_paired k p u j t (ap (slice_get (tasks_at ps p u)) (sym zero_) ∙ h 0 t refl))
-      (tasks_paired k p u (suc j) ts (λ i x at. let next : suc j + i ≡ j + suc i = omega arith in ap (slice_get (tasks_at ps p u)) next ∙ h (suc i) x at))
-
-  modules_paired : (k : ℕ) (us : List ModuleAt) → Paired IsNear (flat_map task_types (flat_map_at (module_task_items ps) k us)) (flat_map (module_functions (layout ps) ps) us)
-  modules_paired k [] = tt
-  modules_paired k (s ∷ us) =
-      subst (λ (xs : List FunctionType). Paired IsNear xs (flat_map (module_functions (layout ps) ps) (s ∷ us)))
-      (sym (flat_map-append task_types (module_task_items ps k s) (flat_map_at (module_task_items ps) (suc k) us)))
-      (paired_append IsNear (flat_map task_types (module_task_items ps k s)) (module_functions (layout ps) ps s) (flat_map task_types (flat_map_at (module_task_items ps) (suc k) us))
-      (flat_map (module_functions (layout ps) ps) us)
-      (tasks_paired k s.program s.«module» 0 (tasks_at ps s.program s.«module») (λ i t at. let same : 0 + i ≡ i = omega arith in ap (slice_get (tasks_at ps s.program s.«module»)) same ∙ at))
-      (modules_paired (suc k) us))
+  tasks_zipped : AllZip IsSmallFunction (flat_map task_types (task_items (layout ps) ps)) (flat_map (module_functions (layout ps) ps) (layout ps).modules)
+  tasks_zipped =
+      let modules = (layout ps).modules in
+      let f : ModuleAt → List FunctionType = λ s. flat_map node_types (tasks_in ps s) in
+      let types = flat_map_parts task_types (module_task_items ps) f (λ k s. flat_map-map task_types (task_item k) (tasks_in ps s)) 0 modules in
+      subst (λ (fs : List FunctionType). AllZip IsSmallFunction fs (flat_map (module_functions (layout ps) ps) modules)) (sym types)
+      (subst (AllZip IsSmallFunction (flat_map f modules)) (flat_map_is (module_functions (layout ps) ps) 0 modules)
+      (zip_parts IsSmallFunction f (λ k. module_functions (layout ps) ps) 0 modules (λ k j s is at.
+      zip_parts IsSmallFunction node_types (task_functions (layout ps) s.program s.«module») 0 (tasks_in ps s) (λ n i t same its. task_zipped s.program s.«module» n t (at_place (tasks_in ps s) n i t same its)))))
 
 -- ---- the places of a switch's communicators
 
@@ -136,63 +122,75 @@ read_below l e i id at =
 
 -- ---- switches
 
+-- the type of a switch's function, by its node
+abbrev node_type : Layout → Tables → PlainSwitch → FunctionType
+node_type l t w = record { args = map (comm_type t) (comms_in l w.cond); want = BoolTy }
+
 module _ (ps : List PlainProgram) (small : MeetsBounds ps) where
-  switches_paired : (t : Tables) (m : ℕ) (a : ModeAt) (ss : List PlainSwitch) → ((j : ℕ) (s : PlainSwitch) → slice_get ss j ≡ Some s → MeetsSwitchBounds s)
-      → Paired IsNear (map (switch_type t) (map (switch_item (layout ps) ps m a) ss)) (map (flat_switch_function (layout ps)) ss)
-  switches_paired t m a [] h = tt
-  switches_paired t m a (s ∷ ss) h =
-      let l : Layout = layout ps in
-      let reads : List ℕ = comms_in l s.cond in (
-        near_by (switch_type t (switch_item l ps m a s)) s.first (length reads) (read_place l reads) s.cond (sym (length-map reads (comm_type t))) (h 0 s refl).cond (λ i id at. read_below l s.cond i id at),
-        switches_paired t m a ss (λ j x at. h (suc j) x at),
-      )
-
-  mode_paired : (t : Tables) (m : ℕ) (a : ModeAt) → Paired IsNear (map (switch_type t) (mode_switch_items (layout ps) ps m a)) (mode_functions (layout ps) ps a)
-  mode_paired t m a = switches_paired t m a (switches_at ps a) (λ j s at. by (mode_at ps a) refl j s at)
-    where
-      by : (o : Option PlainMode) → mode_at ps a ≡ o → (j : ℕ) (s : PlainSwitch) → slice_get (elim o as (λ _. List PlainSwitch) [ Some x ↦ x.switches | None ↦ [] ]) j ≡ Some s → MeetsSwitchBounds s
-      by (Some x) e j s at = switch_small ps small a.program a.«module» a.mode j x s e at
-      by None e j s at = cc
-
-  modes_paired : (t : Tables) (m : ℕ) (rest : List ModeAt) → Paired IsNear (map (switch_type t) (flat_map_at (mode_switch_items (layout ps) ps) m rest)) (flat_map (mode_functions (layout ps) ps) rest)
-  modes_paired t m [] = tt
-  modes_paired t m (a ∷ rest) =
-      subst (λ (xs : List FunctionType). Paired IsNear xs (flat_map (mode_functions (layout ps) ps) (a ∷ rest)))
-      (sym (map-append (switch_type t) (mode_switch_items (layout ps) ps m a) (flat_map_at (mode_switch_items (layout ps) ps) (suc m) rest)))
-      (paired_append IsNear (map (switch_type t) (mode_switch_items (layout ps) ps m a)) (mode_functions (layout ps) ps a) (map (switch_type t) (flat_map_at (mode_switch_items (layout ps) ps) (suc m) rest))
-      (flat_map (mode_functions (layout ps) ps) rest) (mode_paired t m a) (modes_paired t (suc m) rest))
-
--- ---- how many arguments there are
-
-few_of_task : (k : Task) (j : ℕ) (f : FunctionType) → length k.inputs ≤ 256 → slice_get (task_types k) j ≡ Some f → length f.args ≤ 256
-few_of_task k j f few e = by k.is_abstract e
-  where
-    by : (b : Bool) → slice_get (cond b [] (map (output_type k.inputs) k.outputs)) j ≡ Some f → length f.args ≤ 256
-    by true e = cc
-    by false e = let r = of_map (output_type k.inputs) k.outputs j f e in omega (arith, few, ap (λ (y : FunctionType). length y.args) r.2)
-
-pub few_arguments : (t : Tables) (k : ℕ) (f : FunctionType) → AreInRange t → slice_get (function_types t) k ≡ Some f → length f.args ≤ 256
-few_arguments t k f r e =
-    elim (get_either (flat_map task_types t.tasks) (map (switch_type t) t.switches) k f e) [
-      | inl a ↦
-          let p = flat_part task_types t.tasks k f a in
-          few_of_task p.owner p.place f (All-at (IsTaskInRange t) t.tasks p.part p.owner r.tasks p.there).few_inputs p.item
-      | inr b ↦
-          let w = of_map (switch_type t) t.switches b.0 f b.2 in
-          omega (arith, (All-at (IsSwitchInRange t) t.switches b.0 w.0 r.switches w.1).few_reads, ap (λ (y : FunctionType). length y.args) w.2, length-map w.0.reads (comm_type t))
-    ]
-
-near_small : (f : FunctionType) (g : Fun) → length f.args ≤ 256 → IsNear f g → IsSmallFunction f g
-near_small f (Formula first e) few h = (h.0, few, h.1)
-near_small f (Compiled code) few h = absurd h
+  switches_zipped : (t : Tables) → AllZip IsSmallFunction (map (switch_type t) (switch_items (layout ps) ps)) (flat_map (mode_functions (layout ps) ps) (layout ps).modes)
+  switches_zipped t =
+      let l = layout ps in
+      let f : ModeAt → List FunctionType = λ a. map (node_type l t) (switches_at ps a) in
+      let types = map_flat_map_at (switch_type t) (mode_switch_items l ps) f (λ m a. map-map (switch_type t) (switch_item l ps m a) (switches_at ps a)) 0 l.modes in
+      subst (λ (fs : List FunctionType). AllZip IsSmallFunction fs (flat_map (mode_functions l ps) l.modes)) (sym types)
+      (subst (AllZip IsSmallFunction (flat_map f l.modes)) (flat_map_is (mode_functions l ps) 0 l.modes)
+      (zip_parts IsSmallFunction f (λ m. mode_functions l ps) 0 l.modes (λ m i a is there.
+      zip_map IsSmallFunction (node_type l t) (flat_switch_function l) (switches_at ps a) (λ j w at.
+      let bounds = switch_small ps small a j w at in
+      let reads = comms_in l w.cond in
+      let few = few_reads ps w.cond in
+      small_by (node_type l t w) w.first (length reads) (read_place l reads) w.cond (sym (length-map reads (comm_type t))) (omega (arith, few, bounds.names)) bounds.cond
+      (λ i id at. read_below l w.cond i id at)))))
 
 -- ---- the law
 
+all_zipped : (ps : List PlainProgram) → MeetsBounds ps → AreNamesRight ps → AllZip IsSmallFunction (function_types (tables_of_tree ps)) (function_items (layout ps) ps)
+all_zipped ps small right =
+    let l = layout ps in
+    let t = tables_of_tree ps in
+    zip_append IsSmallFunction (flat_map task_types t.tasks) (flat_map (module_functions l ps) l.modules) (map (switch_type t) t.switches) (flat_map (mode_functions l ps) l.modes)
+    (tasks_zipped ps small right) (switches_zipped ps small t)
+
 pub functions_small : (ps : List PlainProgram) → MeetsBounds ps → AreNamesRight ps → AreInRange (tables_of_tree ps) → AreSmall (tables_of_tree ps)
-functions_small ps small right ranges = λ k f g a b.
-    let l : Layout = layout ps in
-    let t : Tables = tables_of_tree ps in
-    let all : Paired IsNear (function_types t) t.functions =
-    paired_append IsNear (flat_map task_types t.tasks) (flat_map (module_functions l ps) l.modules) (map (switch_type t) t.switches) (flat_map (mode_functions l ps) l.modes)
-    (modules_paired ps small right 0 l.modules) (modes_paired ps small t 0 l.modes) in
-    near_small f g (few_arguments t k f ranges a) (paired_at IsNear (function_types t) t.functions k f g all a b)
+functions_small ps small right ranges = λ k f g a b. zip_at IsSmallFunction (function_types (tables_of_tree ps)) (function_items (layout ps) ps) k f g (all_zipped ps small right) a b
+
+-- ---- they are in range, and so many
+
+pub functions_in_range : (ps : List PlainProgram) → MeetsBounds ps → AreNamesRight ps → All IsFunInRange (function_items (layout ps) ps)
+functions_in_range ps small right =
+    All-from_places IsFunInRange (function_items (layout ps) ps) (λ k g at.
+    by g (slice_get types k) (subst (λ (o : Option Fun). MatchOption o (Unit {0}) (λ y. IsSomeAnd (slice_get types k) (λ x. IsSmallFunction x y))) at
+    (AllZip-right IsSmallFunction types (function_items (layout ps) ps) (all_zipped ps small right) k)))
+  where
+    types : List FunctionType
+    types = function_types (tables_of_tree ps)
+
+    by : (g : Fun) (o : Option FunctionType) → IsSomeAnd o (λ f. IsSmallFunction f g) → IsFunInRange g
+    by (Formula first e) o h = tt
+    by (Compiled code) (Some f) h = absurd h
+    by (Compiled code) None h = absurd h
+
+types_of_task : (t : Task) → length (task_types t) ≡ function_count t
+types_of_task t = by t.is_abstract
+  where
+    by : (b : Bool) → length (cond b [] (map (output_type t.inputs) t.outputs)) ≡ cond b 0 (length t.outputs)
+    by true = refl
+    by false = length-map t.outputs (output_type t.inputs)
+
+count_first : (t : Task) (ts : List Task) (n : ℕ) → count_before (suc n) (t ∷ ts) ≡ function_count t + count_before n ts
+count_first t ts zero = omega arith
+count_first t ts (suc n) = let rest = count_first t ts n in omega (arith, rest)
+
+types_counted : (ts : List Task) → length (flat_map task_types ts) ≡ count_before (length ts) ts
+types_counted [] = refl
+types_counted (t ∷ ts) =
+    let size = length-append (task_types t) (flat_map task_types ts) in
+    omega (arith, size, types_of_task t, types_counted ts, count_first t ts (length ts))
+
+pub functions_counted : (ps : List PlainProgram) → MeetsBounds ps → AreNamesRight ps
+    → length (function_items (layout ps) ps) ≡ count_before (length (task_items (layout ps) ps)) (task_items (layout ps) ps) + length (switch_items (layout ps) ps)
+functions_counted ps small right =
+    let t = tables_of_tree ps in
+    let size = length-append (flat_map task_types t.tasks) (map (switch_type t) t.switches) in
+    let all = AllZip-long IsSmallFunction (function_types t) (function_items (layout ps) ps) (all_zipped ps small right) in
+    omega (arith, all, size, types_counted t.tasks, length-map t.switches (switch_type t))
