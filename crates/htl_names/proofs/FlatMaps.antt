@@ -5,9 +5,10 @@ use Rattle.std.proofs.lemmas.List.{drop_more, length-map}
 use Rattle.std.proofs.lemmas.Option.{slice_get_within, same_Some, none-some, slice_get-get_or}
 use Rattle.std.proofs.lemmas.Grind.{flat_map-append}
 use Rattle.htl_model.specs.Lists.{list_to}
-use Rattle.htl_model.proofs.Listed.{length-list_to}
+use Rattle.htl_model.proofs.Listed.{length-list_to, get_list_to}
 use Rattle.htl_names.specs.Lists.{flat_map_at}
 use Rattle.std.specs.List.Sorted.{IsNonDecreasing}
+use Rattle.std.proofs.lemmas.Bool.{cases_lt, ne_eqb}
 use Rattle.std.proofs.lemmas.List.Sums.{sum_by-cons, sum_by-append}
 use Rattle.htl_model.proofs.PlaceLaws.{get_mapped}
 
@@ -59,14 +60,7 @@ at_front (x ∷ es) (suc k) (suc j) d below e = at_front es k j d (omega (arith,
 -- ---- lists by places
 
 pub list_to_at : {A : Type 0} (f : ℕ → A) (n k : ℕ) → k < n → slice_get (list_to f n) k ≡ Some (f k)
-list_to_at f zero k less = absurd (omega (arith, less))
-list_to_at f (suc n) k less =
-    elim (eq-or-lt_of_le {n = k} {m = n} (omega (arith, less))) [
-      | inl is ↦
-          let place : k ≡ length (list_to f n) + 0 = let size = length-list_to f n in omega (arith, size, is) in
-          ap (slice_get (list_to f n ++ f n ∷ [])) place ∙ get_back (list_to f n) (f n ∷ []) 0 ∙ ap (λ (i : ℕ). Some (f i)) (sym is)
-      | inr a ↦ get_front (list_to f n) (f n ∷ []) k (f k) (list_to_at f n k a)
-    ]
+list_to_at f n k less = let size = length-list_to f n in slice_get-get_or (list_to f n) k (f k) (omega (arith, less, size)) ∙ ap (λ y. Some y) (get_list_to f n k (f k) less)
 
 -- an item of a list by places is the value there
 pub of_list_to : {A : Type 0} (f : ℕ → A) (n k : ℕ) (y : A) → slice_get (list_to f n) k ≡ Some y → (k < n) × (f k ≡ y)
@@ -79,22 +73,21 @@ of_list_to f n k y e =
 -- ---- the parts of a list
 
 -- item j of part i stands behind the parts before
-pub at_part : {A B : Type 0} (f : ℕ → A → List B) (k : ℕ) (xs : List A) (i j : ℕ) (x : A) (y : B) → slice_get xs i ≡ Some x → slice_get (f (k + i) x) j ≡ Some y
+pub at_part : {A B : Type 0} (f : ℕ → A → List B) (k : ℕ) (xs : List A) (i j n : ℕ) (x : A) (y : B) → n ≡ k + i → slice_get xs i ≡ Some x → slice_get (f n x) j ≡ Some y
     → slice_get (flat_map_at f k xs) (length (flat_map_at f k (take i xs)) + j) ≡ Some y
-at_part f k [] i j x y e g = absurd cc
-at_part f k (z ∷ xs) zero j x y e g =
-    let is : z ≡ x = cc in
-    let own : slice_get (f k z) j ≡ Some y = ap (λ w. slice_get (f k w) j) is ∙ ap (λ (n : ℕ). slice_get (f n x) j) (omega arith) ∙ g in
-    let same : j ≡ 0 + j = omega arith in
-    subst (λ (n : ℕ). slice_get (f k z ++ flat_map_at f (suc k) xs) n ≡ Some y) same (get_front (f k z) (flat_map_at f (suc k) xs) j y own)
-at_part f k (z ∷ xs) (suc i) j x y e g =
-    let later = at_part f (suc k) xs i j x y e (ap (λ (n : ℕ). slice_get (f n x) j) (omega arith) ∙ g) in
+at_part f k [] i j n x y is e g = absurd (none-some x e)
+at_part f k (z ∷ xs) zero j n x y is e g =
+    let here : k ≡ n = omega (arith, is) in
+    let own : slice_get (f k z) j ≡ Some y = ap (λ w. slice_get (f k w) j) (same_Some z x e) ∙ ap (λ (m : ℕ). slice_get (f m x) j) here ∙ g in
+    let place : 0 + j ≡ j = omega arith in
+    ap (slice_get (f k z ++ flat_map_at f (suc k) xs)) place ∙ get_front (f k z) (flat_map_at f (suc k) xs) j y own
+at_part f k (z ∷ xs) (suc i) j n x y is e g =
     let front = flat_map_at f (suc k) (take i xs) in
     let size = length-append (f k z) front in
-    let place : length (f k z) + (length front + j) ≡ length (f k z ++ front) + j = omega (arith, size) in
-    let whole : slice_get (f k z ++ flat_map_at f (suc k) xs) (length (f k z) + (length front + j)) ≡ Some y =
-    get_back (f k z) (flat_map_at f (suc k) xs) (length front + j) ∙ later in
-    subst (λ (n : ℕ). slice_get (f k z ++ flat_map_at f (suc k) xs) n ≡ Some y) place whole
+    let place : length (f k z ++ front) + j ≡ length (f k z) + (length front + j) = omega (arith, size) in
+    ap (slice_get (f k z ++ flat_map_at f (suc k) xs)) place
+    ∙ get_back (f k z) (flat_map_at f (suc k) xs) (length front + j)
+    ∙ at_part f (suc k) xs i j n x y (omega (arith, is)) e g
 
 -- a part stands before the later ones
 pub part_before : {A B : Type 0} (f : ℕ → A → List B) (k : ℕ) (xs : List A) (i j n : ℕ) (x : A) → n ≡ k + i → i < j → slice_get xs i ≡ Some x
@@ -112,34 +105,38 @@ part_before f k (z ∷ xs) (suc i) (suc j) n x is less there =
     let two = length-append (f k z) (flat_map_at f (suc k) (take j xs)) in
     omega (arith, later, one, two)
 
--- where an item stands
-pub record Part {A B : Type 0} (f : ℕ → A → List B) (k : ℕ) (xs : List A) (n : ℕ) (y : B) : Type 0 where
+-- where an item stands: in which part, at which place of it, and behind how many items
+pub record Part {A B : Type 0} (f : ℕ → A → List B) (before : ℕ → ℕ) (xs : List A) (n : ℕ) (y : B) : Type 0 where
   pub part : ℕ
   pub owner : A
   pub there : slice_get xs part ≡ Some owner
   pub place : ℕ
-  pub item : slice_get (f (k + part) owner) place ≡ Some y
-  pub number : n ≡ length (flat_map_at f k (take part xs)) + place
+  pub item : slice_get (f part owner) place ≡ Some y
+  pub number : n ≡ before part + place
 
-pub part_of : {A B : Type 0} (f : ℕ → A → List B) (k : ℕ) (xs : List A) (n : ℕ) (y : B) → slice_get (flat_map_at f k xs) n ≡ Some y → Part f k xs n y
-part_of f k [] n y e = absurd cc
-part_of {B = B} f k (z ∷ xs) n y e = by (get_either (f k z) (flat_map_at f (suc k) xs) n y e) (part_of f (suc k) xs)
-  where
-    by : (slice_get (f k z) n ≡ Some y) ⊎ ((j : ℕ) × (n ≡ length (f k z) + j) × (slice_get (flat_map_at f (suc k) xs) j ≡ Some y))
-        → ((m : ℕ) (y : B) → slice_get (flat_map_at f (suc k) xs) m ≡ Some y → Part f (suc k) xs m y) → Part f k (z ∷ xs) n y
-    by (inl own) later =
-        record { part = 0; owner = z; there = refl; place = n; item = ap (λ (m : ℕ). slice_get (f m z) n) (omega arith) ∙ own; number = omega arith }
-    by (inr b) later =
-        let p = later b.0 y b.2 in
-        let size = length-append (f k z) (flat_map_at f (suc k) (take p.part xs)) in
-        record {
-          part = suc p.part;
-          owner = p.owner;
-          there = p.there;
-          place = p.place;
-          item = ap (λ (m : ℕ). slice_get (f m p.owner) p.place) (omega arith) ∙ p.item;
-          number = omega (arith, b.1, p.number, size);
-        }
+part_from : {A B : Type 0} (f : ℕ → A → List B) (k : ℕ) (xs : List A) (n : ℕ) (y : B) → slice_get (flat_map_at f k xs) n ≡ Some y
+    → Part (λ i. f (k + i)) (λ i. length (flat_map_at f k (take i xs))) xs n y
+part_from f k [] n y e = absurd cc
+part_from f k (z ∷ xs) n y e =
+    elim (get_either (f k z) (flat_map_at f (suc k) xs) n y e) [
+      | inl own ↦ record { part = 0; owner = z; there = refl; place = n; item = ap (λ (m : ℕ). slice_get (f m z) n) (omega arith) ∙ own; number = omega arith }
+      | inr b ↦
+          let p = part_from f (suc k) xs b.0 y b.2 in
+          let size = length-append (f k z) (flat_map_at f (suc k) (take p.part xs)) in
+          record {
+            part = suc p.part;
+            owner = p.owner;
+            there = p.there;
+            place = p.place;
+            item = ap (λ (m : ℕ). slice_get (f m p.owner) p.place) (omega arith) ∙ p.item;
+            number = omega (arith, b.1, p.number, size);
+          }
+    ]
+
+pub part_of : {A B : Type 0} (f : ℕ → A → List B) (xs : List A) (n : ℕ) (y : B) → slice_get (flat_map_at f 0 xs) n ≡ Some y → Part f (λ i. length (flat_map_at f 0 (take i xs))) xs n y
+part_of f xs n y e =
+    let p = part_from f 0 xs n y e in
+    record { part = p.part; owner = p.owner; there = p.there; place = p.place; item = ap (λ (m : ℕ). slice_get (f m p.owner) p.place) (omega arith) ∙ p.item; number = p.number }
 
 -- ---- lengths
 
@@ -156,11 +153,7 @@ same_length f g same k (x ∷ xs) =
 
 -- what a front gives is no longer
 pub take_length : {A B : Type 0} (f : A → List B) (k : ℕ) (xs : List A) → length (flat_map f (take k xs)) ≤ length (flat_map f xs)
-take_length f k xs =
-    let e = ap (λ l. length (flat_map f l)) (take-append-drop k xs) in
-    let a = ap length (flat_map-append f (take k xs) (drop k xs)) in
-    let n = length-append (flat_map f (take k xs)) (flat_map f (drop k xs)) in
-    omega (arith, e, a, n)
+take_length f k xs = omega (arith, simp (flat_map-append, length-append) at (ap (λ l. length (flat_map f l)) (take-append-drop k xs)))
 
 -- at most as many from each item
 pub flat_map_shorter : {A B C : Type 0} (f : A → List B) (g : A → List C) → ((x : A) → length (f x) ≤ length (g x)) → (xs : List A) → length (flat_map f xs) ≤ length (flat_map g xs)
@@ -175,26 +168,6 @@ flat_map_shorter f g le (x ∷ xs) =
 pub flat_map_single_shorter : {A B : Type 0} (f : A → List B) → ((x : A) → length (f x) ≤ 1) → (xs : List A) → length (flat_map f xs) ≤ length xs
 flat_map_single_shorter f le [] = omega arith
 flat_map_single_shorter f le (x ∷ xs) = let a = length-append (f x) (flat_map f xs) in let c = le x in let d = flat_map_single_shorter f le xs in omega (arith, a, c, d)
-
--- ---- parts that are numbered from 0
-
-pub at_part_0 : {A B : Type 0} (f : ℕ → A → List B) (xs : List A) (i j : ℕ) (x : A) (y : B) → slice_get xs i ≡ Some x → slice_get (f i x) j ≡ Some y
-    → slice_get (flat_map_at f 0 xs) (length (flat_map_at f 0 (take i xs)) + j) ≡ Some y
-at_part_0 f xs i j x y e g = let same : i ≡ 0 + i = omega arith in at_part f 0 xs i j x y e (subst (λ (n : ℕ). slice_get (f n x) j ≡ Some y) same g)
-
-pub record Part0 {A B : Type 0} (f : ℕ → A → List B) (xs : List A) (n : ℕ) (y : B) : Type 0 where
-  pub part : ℕ
-  pub owner : A
-  pub there : slice_get xs part ≡ Some owner
-  pub place : ℕ
-  pub item : slice_get (f part owner) place ≡ Some y
-  pub number : n ≡ length (flat_map_at f 0 (take part xs)) + place
-
-pub part_of_0 : {A B : Type 0} (f : ℕ → A → List B) (xs : List A) (n : ℕ) (y : B) → slice_get (flat_map_at f 0 xs) n ≡ Some y → Part0 f xs n y
-part_of_0 f xs n y e =
-    let p = part_of f 0 xs n y e in
-    let same : 0 + p.part ≡ p.part = omega arith in
-    record { part = p.part; owner = p.owner; there = p.there; place = p.place; item = subst (λ (m : ℕ). slice_get (f m p.owner) p.place ≡ Some y) same p.item; number = p.number }
 
 -- ---- parts that know nothing of their place
 
@@ -211,29 +184,12 @@ flat_map_parts h f g same k (x ∷ xs) = flat_map-append h (f k x) (flat_map_at 
 pub at_flat : {A B : Type 0} (f : A → List B) (xs : List A) (i j : ℕ) (x : A) (y : B) → slice_get xs i ≡ Some x → slice_get (f x) j ≡ Some y
     → slice_get (flat_map f xs) (length (flat_map f (take i xs)) + j) ≡ Some y
 at_flat f xs i j x y e g =
-    let at = at_part (λ k x. f x) 0 xs i j x y e g in
-    subst (λ (ys : _). slice_get ys (length (flat_map f (take i xs)) + j) ≡ Some y) (flat_map_is f 0 xs)
-    (subst (λ (ys : _). slice_get (flat_map_at (λ k x. f x) 0 xs) (length ys + j) ≡ Some y) (flat_map_is f 0 (take i xs)) at)
+    ap₂ (λ ys zs. slice_get ys (length zs + j)) (sym (flat_map_is f 0 xs)) (sym (flat_map_is f 0 (take i xs))) ∙ at_part (λ k. f) 0 xs i j i x y (omega arith) e g
 
-pub record FlatPart {A B : Type 0} (f : A → List B) (xs : List A) (n : ℕ) (y : B) : Type 0 where
-  pub part : ℕ
-  pub owner : A
-  pub there : slice_get xs part ≡ Some owner
-  pub place : ℕ
-  pub item : slice_get (f owner) place ≡ Some y
-  pub number : n ≡ length (flat_map f (take part xs)) + place
-
-pub flat_part : {A B : Type 0} (f : A → List B) (xs : List A) (n : ℕ) (y : B) → slice_get (flat_map f xs) n ≡ Some y → FlatPart f xs n y
+pub flat_part : {A B : Type 0} (f : A → List B) (xs : List A) (n : ℕ) (y : B) → slice_get (flat_map f xs) n ≡ Some y → Part (λ k. f) (λ i. length (flat_map f (take i xs))) xs n y
 flat_part f xs n y e =
-    let p = part_of (λ k x. f x) 0 xs n y (subst (λ (ys : _). slice_get ys n ≡ Some y) (sym (flat_map_is f 0 xs)) e) in
-    record {
-      part = p.part;
-      owner = p.owner;
-      there = p.there;
-      place = p.place;
-      item = p.item;
-      number = subst (λ (ys : _). n ≡ length ys + p.place) (flat_map_is f 0 (take p.part xs)) p.number;
-    }
+    let p = part_from (λ k. f) 0 xs n y (ap (λ ys. slice_get ys n) (flat_map_is f 0 xs) ∙ e) in
+    record { part = p.part; owner = p.owner; there = p.there; place = p.place; item = p.item; number = p.number ∙ ap (λ ys. length ys + p.place) (flat_map_is f 0 (take p.part xs)) }
 
 -- one item more of a walk along a list
 pub flat_on : {A B C : Type 0} (f : ℕ → B → List C) (g : A → B) (k : ℕ) (xs : List A) (x : A) (old new total : List C) → k < length xs → x ≡ get_or xs k x
@@ -254,91 +210,48 @@ of_map f [] k y e = absurd cc
 of_map f (x ∷ xs) zero y e = (x, refl, cc)
 of_map f (x ∷ xs) (suc k) y e = of_map f xs k y e
 
--- ---- owners that don't fall
+-- ---- how many items an owner has
 
 -- each item has the place of its part as owner
 abbrev pub IsOwned : {A B : Type 0} → (ℕ → A → List B) → (B → ℕ) → Type 0
 IsOwned {A} {B} f own = (k : ℕ) (x : A) (j : ℕ) (y : B) → slice_get (f k x) j ≡ Some y → own y ≡ k
 
-pub owner_from : {A B : Type 0} (f : ℕ → A → List B) (own : B → ℕ) → IsOwned f own → (k : ℕ) (xs : List A) (i : ℕ) (y : B) → slice_get (flat_map_at f k xs) i ≡ Some y → k ≤ own y
-owner_from f own owned k xs i y e = let p = part_of f k xs i y e in let is = owned (k + p.part) p.owner p.place y p.item in omega (arith, is)
-
-pub owners_order : {A B : Type 0} (f : ℕ → A → List B) (own : B → ℕ) → IsOwned f own → (k : ℕ) (xs : List A) (i j : ℕ) (y z : B) → i ≤ j
-    → slice_get (flat_map_at f k xs) i ≡ Some y → slice_get (flat_map_at f k xs) j ≡ Some z → own y ≤ own z
-owners_order f own owned k [] i j y z less p q = absurd cc
-owners_order f own owned k (x ∷ xs) i j y z less p q =
-    by (get_either (f k x) (flat_map_at f (suc k) xs) i y p) (get_either (f k x) (flat_map_at f (suc k) xs) j z q) (λ i j. owners_order f own owned (suc k) xs i j y z)
+-- all items pass the test, or none does
+count_alike : {B : Type 0} (test : B → Bool) (b : Bool) (ys : List B) → ((j : ℕ) (y : B) → slice_get ys j ≡ Some y → test y ≡ b) → count_by test ys ≡ cond b (length ys) 0
+count_alike test true [] alike = refl
+count_alike test false [] alike = refl
+count_alike test b (y ∷ ys) alike = by b first (count_alike test b ys (λ j z e. alike (suc j) z e))
   where
-    by : (slice_get (f k x) i ≡ Some y) ⊎ ((a : ℕ) × (i ≡ length (f k x) + a) × (slice_get (flat_map_at f (suc k) xs) a ≡ Some y))
-        → (slice_get (f k x) j ≡ Some z) ⊎ ((a : ℕ) × (j ≡ length (f k x) + a) × (slice_get (flat_map_at f (suc k) xs) a ≡ Some z))
-        → ((i j : ℕ) → i ≤ j → slice_get (flat_map_at f (suc k) xs) i ≡ Some y → slice_get (flat_map_at f (suc k) xs) j ≡ Some z → own y ≤ own z) → own y ≤ own z
-    by (inl a) (inl b) later = let one = owned k x i y a in let two = owned k x j z b in omega (arith, one, two)
-    by (inl a) (inr b) later = let one = owned k x i y a in let two = owner_from f own owned (suc k) xs b.0 z b.2 in omega (arith, one, two)
-    by (inr a) (inl b) later = let within = slice_get_within (f k x) j z b in absurd (omega (arith, less, within, a.1))
-    by (inr a) (inr b) later = later a.0 b.0 (omega (arith, less, a.1, b.1)) a.2 b.2
+    first : count_by test (y ∷ ys) ≡ cond b 1 0 + count_by test ys
+    first = sum_by-cons (λ z. cond (test z) 1 0) y ys ∙ ap (λ c. cond c 1 0 + count_by test ys) (alike 0 y refl)
 
-pub non_decreasing : {A B : Type 0} (f : ℕ → A → List B) (own : B → ℕ) → IsOwned f own → (k : ℕ) (xs : List A) → IsNonDecreasing (map own (flat_map_at f k xs))
-non_decreasing f own owned k xs i j d less below =
-    let items = flat_map_at f k xs in
-    let owners = map own items in
-    let y = of_map own items i (get_or owners i d) (slice_get-get_or owners i d (omega (arith, less, below))) in
-    let z = of_map own items j (get_or owners j d) (slice_get-get_or owners j d below) in
-    let order = owners_order f own owned k xs i j y.0 z.0 less y.1 z.1 in
-    omega (arith, order, y.2, z.2)
+    by : (b : Bool) → count_by test (y ∷ ys) ≡ cond b 1 0 + count_by test ys → count_by test ys ≡ cond b (length ys) 0 → count_by test (y ∷ ys) ≡ cond b (suc (length ys)) 0
+    by true first rest = omega (arith, first, rest)
+    by false first rest = omega (arith, first, rest)
 
--- ---- how many items an owner has
-
-module _ {B : Type 0} (own : B → ℕ) (m : ℕ) where
-  counted_first : (y : B) (ys : List B) (b : Bool) → eqb (own y) m ≡ b → count_by (λ z. eqb (own z) m) (y ∷ ys) ≡ cond b 1 0 + count_by (λ z. eqb (own z) m) ys
-  counted_first y ys b is = sum_by-cons (λ z. cond (eqb (own z) m) 1 0) y ys ∙ ap (λ c. cond c 1 0 + count_by (λ z. eqb (own z) m) ys) is
-
-  none_owned : (ys : List B) → ((j : ℕ) (y : B) → slice_get ys j ≡ Some y → own y ≡ m → ⊥) → count_by (λ y. eqb (own y) m) ys ≡ 0
-  none_owned [] none = refl
-  none_owned (y ∷ ys) none =
-      by (eqb (own y) m) refl (none_owned ys (λ j z e. none (suc j) z e))
-    where
-      by : (b : Bool) → eqb (own y) m ≡ b → count_by (λ z. eqb (own z) m) ys ≡ 0 → count_by (λ z. eqb (own z) m) (y ∷ ys) ≡ 0
-      by true is rest = absurd (none 0 y refl (eqb-true (own y) m is))
-      by false is rest = let first = counted_first y ys false is in omega (arith, first, rest)
-
-  all_owned : (ys : List B) → ((j : ℕ) (y : B) → slice_get ys j ≡ Some y → own y ≡ m) → count_by (λ y. eqb (own y) m) ys ≡ length ys
-  all_owned [] all = refl
-  all_owned (y ∷ ys) all =
-      let rest = all_owned ys (λ j z e. all (suc j) z e) in
-      let first = counted_first y ys true (eq-eqb (own y) m (all 0 y refl)) in
-      omega (arith, first, rest)
-
--- the owner of a part has as many items as the part
-pub owned_count : {A B : Type 0} (f : ℕ → A → List B) (own : B → ℕ) (m : ℕ) → IsOwned f own → (k : ℕ) (xs : List A) (i : ℕ) (x : A) → m ≡ k + i → slice_get xs i ≡ Some x
-    → count_by (λ y. eqb (own y) m) (flat_map_at f k xs) ≡ length (f m x)
-owned_count f own m owned k [] i x same e = absurd cc
-owned_count f own m owned k (z ∷ xs) zero x same e =
+-- as many as its part, where there is one
+owned_size : {A B : Type 0} (f : ℕ → A → List B) (own : B → ℕ) (m : ℕ) → IsOwned f own → (k : ℕ) (xs : List A) (i : ℕ) → m ≡ k + i
+    → count_by (λ y. eqb (own y) m) (flat_map_at f k xs) ≡ elim (slice_get xs i) [ Some x ↦ length (f m x) | None ↦ 0 ]
+owned_size f own m owned k [] i same = refl
+owned_size f own m owned k (z ∷ xs) zero same =
+    let sum = sum_by-append (λ y. cond (eqb (own y) m) 1 0) (f k z) (flat_map_at f (suc k) xs) in
+    let all = count_alike (λ y. eqb (own y) m) true (f k z) (λ j y g. let is = owned k z j y g in eq-eqb (own y) m (omega (arith, is, same))) in
+    let none = count_alike (λ y. eqb (own y) m) false (flat_map_at f (suc k) xs) (λ j y g.
+    let p = part_from f (suc k) xs j y g in
+    let is = owned (suc k + p.part) p.owner p.place y p.item in
+    ne_eqb (own y) m (λ e. omega (arith, is, same, e))) in
     let here : k ≡ m = omega (arith, same) in
-    let is : z ≡ x = cc in
-    let sum = sum_by-append (λ y. cond (eqb (own y) m) 1 0) (f k z) (flat_map_at f (suc k) xs) in
-    let all = all_owned own m (f k z) (λ j y g. owned k z j y g ∙ here) in
-    let none = none_owned own m (flat_map_at f (suc k) xs) (λ j y g w. let above = owner_from f own owned (suc k) xs j y g in omega (arith, above, w, here)) in
-    let part = ap (λ (n : ℕ). length (f n z)) here ∙ ap (λ w. length (f m w)) is in
+    let part = ap (λ (n : ℕ). length (f n z)) here in
     omega (arith, sum, all, none, part)
-owned_count f own m owned k (z ∷ xs) (suc i) x same e =
+owned_size f own m owned k (z ∷ xs) (suc i) same =
     let sum = sum_by-append (λ y. cond (eqb (own y) m) 1 0) (f k z) (flat_map_at f (suc k) xs) in
-    let none = none_owned own m (f k z) (λ j y g w. let is = owned k z j y g in omega (arith, is, w, same)) in
-    let rest = owned_count f own m owned (suc k) xs i x (omega (arith, same)) e in
+    let none = count_alike (λ y. eqb (own y) m) false (f k z) (λ j y g. let is = owned k z j y g in ne_eqb (own y) m (λ e. omega (arith, is, same, e))) in
+    let rest = owned_size f own m owned (suc k) xs i (omega (arith, same)) in
     omega (arith, sum, none, rest)
 
--- an owner has no more items than its part
-pub few_owned : {A B : Type 0} (f : ℕ → A → List B) (own : B → ℕ) (m most : ℕ) → IsOwned f own → (xs : List A) → ((n : ℕ) (x : A) → length (f n x) ≤ most) → count_by (λ y. eqb (own y) m) (flat_map_at f 0 xs) ≤ most
-few_owned {A} f own m most owned xs few = by (slice_get xs m) refl
-  where
-    by : (o : Option A) → slice_get xs m ≡ o → count_by (λ y. eqb (own y) m) (flat_map_at f 0 xs) ≤ most
-    by (Some x) there = let size = owned_count f own m owned 0 xs m x (omega arith) there in let fits = few m x in omega (arith, size, fits)
-    by None there =
-        let none = none_owned own m (flat_map_at f 0 xs) (λ j y e is.
-        let p = part_of f 0 xs j y e in
-        let owner = owned (0 + p.part) p.owner p.place y p.item in
-        let place : p.part ≡ m = omega (arith, owner, is) in
-        none-some p.owner (sym there ∙ ap (slice_get xs) (sym place) ∙ p.there)) in
-        omega (arith, none)
+pub owned_count : {A B : Type 0} (f : ℕ → A → List B) (own : B → ℕ) (m : ℕ) → IsOwned f own → (k : ℕ) (xs : List A) (i : ℕ) (x : A) → m ≡ k + i → slice_get xs i ≡ Some x
+    → count_by (λ y. eqb (own y) m) (flat_map_at f k xs) ≡ length (f m x)
+owned_count f own m owned k xs i x same e = owned_size f own m owned k xs i same ∙ ap (λ o. elim o [ Some z ↦ length (f m z) | None ↦ 0 ]) e
 
 -- ---- lists by owners, of which each has nodes that give an item each
 
@@ -354,7 +267,36 @@ pub stands : {A N B : Type 0} (item : ℕ → A → N → B) (nodes : A → List
     → slice_get (flat_map_at (given item nodes) 0 xs) (length (flat_map nodes (take k xs)) + m) ≡ Some (item k x n)
 stands item nodes xs k m x n there its =
     subst (λ (i : ℕ). slice_get (flat_map_at (given item nodes) 0 xs) (i + m) ≡ Some (item k x n)) (counted item nodes (take k xs))
-    (at_part_0 (given item nodes) xs k m x (item k x n) there (get_mapped (item k x) (nodes x) m n its))
+    (at_part (given item nodes) 0 xs k m k x (item k x n) (omega arith) there (get_mapped (item k x) (nodes x) m n its))
 
 pub owned : {A N B : Type 0} (item : ℕ → A → N → B) (nodes : A → List N) (own : B → ℕ) → ((k : ℕ) (x : A) (n : N) → own (item k x n) ≡ k) → IsOwned (given item nodes) own
 owned item nodes own is k x j y e = let r = of_map (item k x) (nodes x) j y e in sym (ap own r.2) ∙ is k x r.0
+
+-- no owner has more items than nodes
+pub few_owned : {A N B : Type 0} (item : ℕ → A → N → B) (nodes : A → List N) (own : B → ℕ) → ((k : ℕ) (x : A) (n : N) → own (item k x n) ≡ k)
+    → (m most : ℕ) (xs : List A) → ((x : A) → length (nodes x) ≤ most) → count_by (λ y. eqb (own y) m) (flat_map_at (given item nodes) 0 xs) ≤ most
+few_owned {A} item nodes own is m most xs few = let size = owned_size (given item nodes) own m (owned item nodes own is) 0 xs m (omega arith) in let low = by (slice_get xs m) in omega (arith, size, low)
+  where
+    by : (o : Option A) → elim o [ Some x ↦ length (given item nodes m x) | None ↦ 0 ] ≤ most
+    by (Some x) = let size = length-map (nodes x) (item m x) in let low = few x in omega (arith, size, low)
+    by None = omega arith
+
+-- owners don't fall
+pub owners_order : {A N B : Type 0} (item : ℕ → A → N → B) (nodes : A → List N) (own : B → ℕ) → ((k : ℕ) (x : A) (n : N) → own (item k x n) ≡ k)
+    → (xs : List A) → IsNonDecreasing (map own (flat_map_at (given item nodes) 0 xs))
+owners_order item nodes own is xs i j d less below =
+    let f = given item nodes in
+    let owners = map own (flat_map_at f 0 xs) in
+    let y = of_map own (flat_map_at f 0 xs) i (get_or owners i d) (slice_get-get_or owners i d (omega (arith, less, below))) in
+    let z = of_map own (flat_map_at f 0 xs) j (get_or owners j d) (slice_get-get_or owners j d below) in
+    let p = part_of f xs i y.0 y.1 in
+    let q = part_of f xs j z.0 z.1 in
+    let one = owned item nodes own is p.part p.owner p.place y.0 p.item in
+    let two = owned item nodes own is q.part q.owner q.place z.0 q.item in
+    elim (cases_lt q.part p.part) [
+      | inl lower ↦
+          let before = part_before f 0 xs q.part p.part q.part q.owner (omega arith) lower q.there in
+          let within = slice_get_within (f q.part q.owner) q.place z.0 q.item in
+          absurd (omega (arith, less, before, within, p.number, q.number))
+      | inr order ↦ omega (arith, order, one, two, y.2, z.2)
+    ]

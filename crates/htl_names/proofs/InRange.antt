@@ -23,7 +23,7 @@ use Rattle.htl_names.specs.Order.{order, module_at, tasks_at, ports_at, invokes_
 use Rattle.htl_names.specs.Ordered.{IsOrdered}
 use Rattle.htl_names.specs.Uses.{usage}
 use Rattle.htl_names.proofs.EntryLaws.{declared, one_place, one_entry, source_entries, entries_are, Origin, of_comm, of_module, of_task, of_mode as mode_origin, of_port, of_invoke}
-use Rattle.htl_names.proofs.FlatMaps.{at_part_0, part_before, part_of_0, given, owned, of_map, counted, few_owned, non_decreasing}
+use Rattle.htl_names.proofs.FlatMaps.{at_part, part_before, part_of, given, of_map, counted, few_owned, owners_order}
 use Rattle.htl_names.proofs.ModeRanges.{ports_in_range, invokes_in_range, switches_in_range}
 use Rattle.htl_names.proofs.SmallFunctions.{functions_in_range, functions_counted}
 use Rattle.htl_names.proofs.Numbered.{module_of_program, modes_in, tasks_in, modules_exist, modes_in_range, module_in_range, tasks_in_range, mode_count, module_count}
@@ -52,8 +52,8 @@ apart_by_owner : {A N B C : Type 0} (item : ℕ → A → N → B) (nodes : A �
     → AreApart {A = ℕ × C} (map (λ y. (own y, called y)) (flat_map_at (given item nodes) 0 xs))
 apart_by_owner {C = C} item nodes own called told xs is one =
     apart_by {N = ℕ × C} (λ y. (own y, called y)) (flat_map_at (given item nodes) 0 xs) (λ j k y z p q same.
-    let r = part_of_0 (given item nodes) xs j y p in
-    let s = part_of_0 (given item nodes) xs k z q in
+    let r = part_of (given item nodes) xs j y p in
+    let s = part_of (given item nodes) xs k z q in
     let v = of_map (item r.part r.owner) (nodes r.owner) r.place y r.item in
     let w = of_map (item s.part s.owner) (nodes s.owner) s.place z s.item in
     let first = is r.part r.owner v.0 in
@@ -94,8 +94,8 @@ module _ (ps : List PlainProgram) (right : AreNamesRight ps) where
       let g = entry_in q v w b in
       let i = length (flat_map_at (source_entries ps) 0 (take p ps)) + f.2.0 in
       let j = length (flat_map_at (source_entries ps) 0 (take q ps)) + g.2.0 in
-      let one = at_part_0 (source_entries ps) ps p f.2.0 f.0 (module_entry u y) f.1 f.2.1 in
-      let two = at_part_0 (source_entries ps) ps q g.2.0 g.0 (module_entry v w) g.1 g.2.1 in
+      let one = at_part (source_entries ps) 0 ps p f.2.0 p f.0 (module_entry u y) (omega arith) f.1 f.2.1 in
+      let two = at_part (source_entries ps) 0 ps q g.2.0 q g.0 (module_entry v w) (omega arith) g.1 g.2.1 in
       let same = one_place ps right i j (module_entry u y) (module_entry v w) (ap (λ es. slice_get es i) (entries_are ps) ∙ one) (ap (λ es. slice_get es j) (entries_are ps) ∙ two) (ap (λ (m : List ℕ). module_key m) names) in
       let before = part_before (source_entries ps) 0 ps p q p f.0 (omega arith) less f.1 in
       let within = slice_get_within (source_entries ps p f.0) f.2.0 (module_entry u y) f.2.1 in
@@ -163,10 +163,10 @@ module _ (ps : List PlainProgram) (right : AreNamesRight ps) where
 
 -- ---- all of them
 
-in_range_by_order : (ps : List PlainProgram) → MeetsBounds ps → AreNamesRight ps → IsOrdered (symbols_of ps) ps (order (symbols_of ps) ps) → AreInRange (tables_of_tree ps)
-in_range_by_order ps small right ordered =
+pub names-in-range : (ps : List PlainProgram) → MeetsBounds ps → AreNamesRight ps → AreInRange (tables_of_tree ps)
+names-in-range ps small right =
     let l = layout ps in
-    let t = tables_of_tree ps in
+    let ordered = names-ordered ps right in
     let comms = length-map (comms_of ps) comm_item in
     let few_comms = kept_limit ps right 0 (length (comms_of ps)) 1024 refl refl in
     let modules = module_count l ps (modules_exist ps ordered) in
@@ -175,7 +175,6 @@ in_range_by_order ps small right ordered =
     let tasks = counted (λ k s. task_item k) (tasks_in ps) l.modules in
     let invs = counted (invoke_item l ps) (invokes_at ps) l.modes in
     let switches = counted (switch_item l ps) (switches_at ps) l.modes in
-    let invoked = owned (invoke_item l ps) (invokes_at ps) (λ (i : Inv). i.mode) (λ m a i. refl) in
     record {
       few_comms = omega (arith, comms, few_comms);
       few_modules = omega (arith, modules, ordered.few_modules);
@@ -184,21 +183,18 @@ in_range_by_order ps small right ordered =
       few_tasks = omega (arith, tasks, ordered.few_tasks);
       few_invs = omega (arith, invs, ordered.few_invokes);
       few_switches = omega (arith, switches, ordered.few_switches);
-      few_in_mode = λ m. few_owned (mode_invoke_items l ps) (λ (i : Inv). i.mode) m 128 invoked l.modes (λ n a.
-          let size = length-map (invokes_at ps a) (invoke_item l ps n a) in
-          let few = ordered.few_in_mode a in
-          omega (arith, size, few));
+      few_in_mode = λ m. few_owned (invoke_item l ps) (invokes_at ps) (λ (i : Inv). i.mode) (λ n a i. refl) m 128 l.modes ordered.few_in_mode;
       comm_names = different (map (λ (c : Comm). c.name) (comm_items ps)) (comm_names_apart ps right);
       module_names = different (map (λ (x : Module). x.name) (module_items l ps)) (module_names_apart ps right ordered);
       mode_names = different_owned (map (λ (m : Mode). (m.«module», m.name)) (mode_items l ps)) (mode_names_apart ps right);
       port_names = different_owned (map (λ (q : Port). (q.mode, q.name)) (port_items l ps)) (port_names_apart ps right);
       task_names = different_owned (map (λ (k : Task). (k.«module», k.name)) (task_items l ps)) (task_names_apart ps right);
       invoked_once = different_pairs (map (λ (i : Inv). (i.mode, i.task)) (invoke_items l ps)) (invoked_apart ps right);
-      modes_by_module = non_decreasing (module_mode_items ps) (λ (m : Mode). m.«module») (owned (λ k s. mode_item k) (modes_in ps) (λ (m : Mode). m.«module») (λ k s x. refl)) 0 l.modules;
-      ports_by_mode = non_decreasing (mode_port_items ps) (λ (q : Port). q.mode) (owned (λ m a. port_item m) (ports_at ps) (λ (q : Port). q.mode) (λ m a x. refl)) 0 l.modes;
-      tasks_by_module = non_decreasing (module_task_items ps) (λ (k : Task). k.«module») (owned (λ k s. task_item k) (tasks_in ps) (λ (k : Task). k.«module») (λ k s x. refl)) 0 l.modules;
-      invs_by_mode = non_decreasing (mode_invoke_items l ps) (λ (i : Inv). i.mode) invoked 0 l.modes;
-      switches_by_mode = non_decreasing (mode_switch_items l ps) (λ (w : Switch). w.mode) (owned (switch_item l ps) (switches_at ps) (λ (w : Switch). w.mode) (λ m a x. refl)) 0 l.modes;
+      modes_by_module = owners_order (λ k s. mode_item k) (modes_in ps) (λ (m : Mode). m.«module») (λ k s x. refl) l.modules;
+      ports_by_mode = owners_order (λ m a. port_item m) (ports_at ps) (λ (q : Port). q.mode) (λ m a x. refl) l.modes;
+      tasks_by_module = owners_order (λ k s. task_item k) (tasks_in ps) (λ (k : Task). k.«module») (λ k s x. refl) l.modules;
+      invs_by_mode = owners_order (invoke_item l ps) (invokes_at ps) (λ (i : Inv). i.mode) (λ m a i. refl) l.modes;
+      switches_by_mode = owners_order (switch_item l ps) (switches_at ps) (λ (w : Switch). w.mode) (λ m a x. refl) l.modes;
       comms = comms_in_range ps right;
       modes = modes_in_range ps small right ordered;
       modules = module_in_range ps right ordered;
@@ -209,6 +205,3 @@ in_range_by_order ps small right ordered =
       functions = functions_in_range ps small right;
       function_count = functions_counted ps small right;
     }
-
-pub names-in-range : (ps : List PlainProgram) → MeetsBounds ps → AreNamesRight ps → AreInRange (tables_of_tree ps)
-names-in-range ps small right = in_range_by_order ps small right (names-ordered ps right)

@@ -10,7 +10,7 @@ use Rattle.htl_names.specs.Lists.{flat_map_at, map_at}
 use Rattle.std.proofs.lemmas.List.Concat.{get_or-flat_map}
 use Rattle.std.proofs.lemmas.List.Folds.{length-flat_map-take}
 use Rattle.htl_model.proofs.PlaceLaws.{get_mapped}
-use Rattle.htl_names.proofs.FlatMaps.{get_front, get_back, at_part, at_part_0, at_flat, part_of_0, of_map, given}
+use Rattle.htl_names.proofs.FlatMaps.{get_front, get_back, at_part, at_flat, part_of, of_map, given}
 
 -- P holds of each item
 abbrev pub Each : {A : Type 0} → (A → Type 0) → List A → Type 0
@@ -46,7 +46,7 @@ pub in_part : {A B : Type 0} {y : A} (f : B → List A) (xs : List B) (i : ℕ) 
 in_part {y = y} f xs i x there h = (_, at_flat f xs i h.0 x y there h.1)
 
 pub in_part_at : {A B : Type 0} {y : A} (f : ℕ → B → List A) (xs : List B) (i : ℕ) (x : B) → slice_get xs i ≡ Some x → In y (f i x) → In y (flat_map_at f 0 xs)
-in_part_at {y = y} f xs i x there h = (_, at_part_0 f xs i h.0 x y there h.1)
+in_part_at {y = y} f xs i x there h = (_, at_part f 0 xs i h.0 i x y (omega arith) there h.1)
 
 pub at_place : {B : Type 0} (xs : List B) (i j : ℕ) (x : B) → i ≡ 0 + j → slice_get xs j ≡ Some x → slice_get xs i ≡ Some x
 at_place xs i j x is there = let same : i ≡ j = omega (arith, is) in ap (slice_get xs) same ∙ there
@@ -94,7 +94,7 @@ module _ {A : Type 0} (P : A → Type 0) where
 
   pub each_part_at : {B : Type 0} (f : ℕ → B → List A) (k : ℕ) (xs : List B) (i j : ℕ) (x : B) → i ≡ k + j → slice_get xs j ≡ Some x → Each P (flat_map_at f k xs) → Each P (f i x)
   each_part_at f k xs i j x is e h =
-      each_of_places (f i x) (λ n y at. each_at (flat_map_at f k xs) _ y h (at_part f k xs j n x y e (subst (λ (m : ℕ). slice_get (f m x) n ≡ Some y) is at)))
+      each_of_places (f i x) (λ n y at. each_at (flat_map_at f k xs) _ y h (at_part f k xs j n i x y is e at))
 
 pub each_in : {A : Type 0} (xs : List A) → Each (λ x. In x xs) xs
 each_in xs = each_of_places (λ x. In x xs) xs (λ k x e. (k, e))
@@ -116,7 +116,7 @@ pub all_given : {A N B : Type 0} (P : B → Type 0) (item : ℕ → A → N → 
     → ((k : ℕ) (x : A) (j : ℕ) (n : N) → slice_get xs k ≡ Some x → slice_get (nodes x) j ≡ Some n → P (item k x n)) → All P (flat_map_at (given item nodes) 0 xs)
 all_given P item nodes xs h =
     All-from_places P (flat_map_at (given item nodes) 0 xs) (λ i y e.
-    let p = part_of_0 (given item nodes) xs i y e in
+    let p = part_of (given item nodes) xs i y e in
     let n = of_map (item p.part p.owner) (nodes p.owner) p.place y p.item in
     subst P n.2 (h p.part p.owner p.place n.0 p.there n.1))
 

@@ -11,7 +11,7 @@ use Rattle.htl_names.specs.Flat.{Layout, is_module, module_number, modes_before,
 use Rattle.htl_names.specs.Lists.{flat_map_at, place_in}
 use Rattle.htl_names.specs.Order.{module_at, tasks_at, modes_at, module_modes, mode_order, order}
 use Rattle.htl_names.specs.Ordered.{Exists, IsOrdered, StandsBefore}
-use Rattle.htl_names.proofs.FlatMaps.{in_front, at_part_0, at_flat, flat_part, flat_map_is, same_length, there_is, list_to_at, of_list_to, counted, stands}
+use Rattle.htl_names.proofs.FlatMaps.{in_front, at_part, at_flat, flat_part, flat_map_is, same_length, there_is, list_to_at, of_list_to, counted, stands}
 use Rattle.htl_model.proofs.Listed.{length-list_to}
 use Rattle.std.specs.Prelude.{Option, IfSome, All}
 use Rattle.htl_model.specs.declared.parts.Mode.{Mode}
@@ -155,7 +155,7 @@ module_stands l ps exist k s x there is =
     let front = singles (module_items_at l ps) (take k l.modules) (λ i r e n. let y = exist i r (in_front l.modules k i r e).1 in ap length (one_module l ps n r y.0 y.1)) 0 in
     let size = length-take-le k l.modules (omega (arith, within)) in
     let own : slice_get (module_items_at l ps k s) 0 ≡ Some (module_item l ps k s x) = ap (λ ms. slice_get ms 0) (one_module l ps k s x is) in
-    let at = at_part_0 (module_items_at l ps) l.modules k 0 s (module_item l ps k s x) there own in
+    let at = at_part (module_items_at l ps) 0 l.modules k 0 k s (module_item l ps k s x) (omega arith) there own in
     let place : length (flat_map_at (module_items_at l ps) 0 (take k l.modules)) + 0 ≡ k = omega (arith, front, size) in
     subst (λ (n : ℕ). slice_get (module_items l ps) n ≡ Some (module_item l ps k s x)) place at
 
