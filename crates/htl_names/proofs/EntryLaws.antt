@@ -14,7 +14,8 @@ use Rattle.htl_names.specs.declared.place.ModeAt.{ModeAt}
 use Rattle.htl_names.proofs.FlatMaps.{at_flat, flat_part}
 use Rattle.htl_names.proofs.Members.{at_place, Each, each_at, each_append, each_flat_map_at, In, in_next, in_front, in_back, in_mapped_at, in_part_at, All-at}
 use Rattle.htl_names.proofs.Places.{part_is, part_there, module_there, tasks_there, modes_there, program_of_module, module_of_task, module_of_mode, order_of, module_in_source, task_in_source, mode_in_source, part_in_source}
-use Rattle.std.proofs.lemmas.Option.{slice_get_within}
+use Rattle.std.proofs.lemmas.Bool.{cond_both, cond-true}
+use Rattle.std.proofs.lemmas.Option.{slice_get_within, none-some, same_Some}
 use Rattle.htl_names.specs.declared.key.Key.{Key}
 use Rattle.htl_names.specs.declared.key.Space.{Space}
 use Rattle.htl_names.specs.Flat.{symbols_of, layout, meaning}
@@ -158,27 +159,18 @@ one_entry ps right e d a b same =
 
 -- what is found is an entry with the key
 pub found : (key : Key) (es : List Entry) (n : ℕ) → look_up key (map pair_of es) ≡ Some n → (e : Entry) × In e es × (e.key ≡ key) × (e.number ≡ n)
-found key [] n e = absurd cc
-found key (x ∷ xs) n e = by (same_key key x.key) refl e (found key xs n)
-  where
-    by : (b : Bool) → same_key key x.key ≡ b → cond b (Some x.number) (look_up key (map pair_of xs)) ≡ Some n
-        → (look_up key (map pair_of xs) ≡ Some n → (e : Entry) × In e xs × (e.key ≡ key) × (e.number ≡ n)) → (e : Entry) × In e (x ∷ xs) × (e.key ≡ key) × (e.number ≡ n)
-    by true is got later = let number : x.number ≡ n = cc in (x, (0, refl), sym ((same_key_decides key x.key).0 is), number)
-    by false is got later = let r = later got in (r.0, (suc r.1.0, r.1.1), r.2, r.3)
+found key [] n = λ e. absurd (none-some n e)
+found key (x ∷ xs) n =
+    cond_both (same_key key x.key) (Some x.number) (look_up key (map pair_of xs)) (λ o. o ≡ Some n → (e : Entry) × In e (x ∷ xs) × (e.key ≡ key) × (e.number ≡ n))
+    (λ same got. (x, (0, refl), sym ((same_key_decides key x.key).0 same), same_Some x.number n got))
+    (λ other got. let r = found key xs n got in (r.0, in_next x xs r.1, r.2, r.3))
 
 -- an entry's key is found
 pub some : (es : List Entry) (k : ℕ) (e : Entry) → slice_get es k ≡ Some e → (n : ℕ) × (look_up e.key (map pair_of es) ≡ Some n)
-some [] k e at = absurd cc
-some (x ∷ xs) k e at = by (same_key e.key x.key) refl k at (some xs)
-  where
-    by : (b : Bool) → same_key e.key x.key ≡ b → (k : ℕ) → slice_get (x ∷ xs) k ≡ Some e
-        → ((k : ℕ) (d : Entry) → slice_get xs k ≡ Some d → (n : ℕ) × (look_up d.key (map pair_of xs) ≡ Some n)) → (n : ℕ) × (cond (same_key e.key x.key) (Some x.number) (look_up e.key (map pair_of xs)) ≡ Some n)
-    by true is k at later = (x.number, ap (λ b. cond b (Some x.number) (look_up e.key (map pair_of xs))) is)
-    by false is zero at later =
-        let same : x ≡ e = cc in
-        let yes : same_key e.key x.key ≡ true = (same_key_decides e.key x.key).1 (ap (λ (d : Entry). d.key) (sym same)) in
-        absurd cc
-    by false is (suc k) at later = let r = later k e at in (r.0, ap (λ b. cond b (Some x.number) (look_up e.key (map pair_of xs))) is ∙ r.1)
+some [] k e at = absurd (none-some e at)
+some (x ∷ xs) zero e at = (x.number, cond-true _ (Some x.number) _ ((same_key_decides e.key x.key).1 (ap (λ (d : Entry). d.key) (sym (same_Some x e at)))))
+some (x ∷ xs) (suc k) e at =
+    cond_both (same_key e.key x.key) (Some x.number) (look_up e.key (map pair_of xs)) (λ o. (n : ℕ) × (o ≡ Some n)) (λ same. (x.number, refl)) (λ other. some xs k e at)
 
 -- ---- what is found stands in its list
 

@@ -1,18 +1,17 @@
 -- Lists: different numbers and how many a switch reads, sums over places, items in pairs, items that pass a test.
-use Rattle.std.proofs.Common.{◌≡◌, ◌⊎◌, inl, inr, ℕ, zero, suc, Bool, true, false, cond, ◌||◌, eqb, List, [], ◌∷◌, ◌++◌, slice_get, Some, fold, refl, sym, ◌∙◌, ap, subst, eq-eqb, eqb-true, ◌≤◌, ◌<◌, map, length, arith, length-append, ◌≢◌, ◌+◌, max, get_or, set, sum_by, sum, length-set, get_or-set_other}
+use Rattle.std.proofs.Common.{◌≡◌, ◌⊎◌, inl, inr, ℕ, zero, suc, Bool, true, false, cond, ◌||◌, eqb, List, [], ◌∷◌, ◌++◌, slice_get, Some, fold, refl, sym, ◌∙◌, ap, ap₂, subst, eq-eqb, eqb-true, ◌≤◌, ◌<◌, map, length, arith, length-append, ◌≢◌, ◌+◌, max, get_or, set, sum_by, sum, length-set, get_or-set_other}
 use Rattle.std.specs.Prelude.{Option, MatchOption}
 use Rattle.std.specs.Option.{IsSomeAnd}
 use Rattle.std.proofs.lemmas.Slice.Zip.{AllZip-left}
-use Rattle.htl_names.specs.Lists.{flat_map_at}
+use Rattle.htl_names.specs.Lists.{flat_map_at, with_new, place_in}
 use Rattle.std.specs.List.{AllZip, IsDistinct, list_any, flat_map, count_by}
 use Rattle.std.proofs.Math.Bool.{or-false, or-true}
-use Rattle.std.proofs.lemmas.Bool.{or_cases}
+use Rattle.std.proofs.lemmas.Bool.{or_cases, or_left, or_right, cond_both, cond-true, false≢true}
 use Rattle.std.proofs.lemmas.Cmp.{nat_eq_equiv}
-use Rattle.std.proofs.lemmas.List.Folds.{list_any-append}
-use Rattle.std.proofs.lemmas.Map.Keys.{IsDistinct-push, apart_from_distinct}
-use Rattle.std.proofs.lemmas.Option.{slice_get_within, get_or_from_slice_get, none-some, same_Some}
+use Rattle.std.proofs.lemmas.List.Folds.{list_any-append, flat_map-map}
+use Rattle.std.proofs.lemmas.Map.Keys.{IsDistinct-push, apart_from_distinct, any_passes_from_place}
+use Rattle.std.proofs.lemmas.Option.{MatchOption-at_some, slice_get_within, get_or_from_slice_get, none-some, same_Some}
 use Rattle.htl_model.specs.Lists.{AreApart, list_to, places_from}
-use Rattle.htl_names.specs.Lists.{with_new, place_in}
 use Rattle.htl_names.proofs.Members.{In, Each, each_weaker}
 use Rattle.std.specs.Str.{bytes_eq}
 use Rattle.std.proofs.lemmas.Slice.Eq.{bytes_eq-Decides}
@@ -39,32 +38,18 @@ any_end p xs x = list_any-append p xs (x ∷ []) ∙ ap (λ b. list_any p xs || 
 -- ---- one more
 
 pub new_kept : (x y : ℕ) (acc : List ℕ) → is_among acc x ≡ true → is_among (with_new acc y) x ≡ true
-new_kept x y acc h = by (is_among acc y)
-  where
-    by : (b : Bool) → is_among (cond b acc (acc ++ y ∷ [])) x ≡ true
-    by true = h
-    by false = any_end (eqb x) acc y ∙ ap (λ b. b || eqb x y) h
+new_kept x y acc h = cond_both (is_among acc y) acc (acc ++ y ∷ []) (λ ys. is_among ys x ≡ true) (λ old. h) (λ new. any_end (eqb x) acc y ∙ or_left _ _ h)
 
 pub new_in : (x : ℕ) (acc : List ℕ) → is_among (with_new acc x) x ≡ true
-new_in x acc = by (is_among acc x) refl
-  where
-    by : (b : Bool) → is_among acc x ≡ b → is_among (cond b acc (acc ++ x ∷ [])) x ≡ true
-    by true e = e
-    by false e = any_end (eqb x) acc x ∙ ap (λ b. is_among acc x || b) (eq-eqb x x refl) ∙ or-true (is_among acc x)
+new_in x acc = cond_both (is_among acc x) acc (acc ++ x ∷ []) (λ ys. is_among ys x ≡ true) (λ old. old) (λ new. any_end (eqb x) acc x ∙ or_right _ _ (eq-eqb x x refl))
 
 pub new_from : (x y : ℕ) (acc : List ℕ) → is_among (with_new acc y) x ≡ true → (is_among acc x ≡ true) ⊎ (x ≡ y)
-new_from x y acc h = by (is_among acc y) h
-  where
-    by : (b : Bool) → is_among (cond b acc (acc ++ y ∷ [])) x ≡ true → (is_among acc x ≡ true) ⊎ (x ≡ y)
-    by true h = inl h
-    by false h = elim (or_cases (is_among acc x) (eqb x y) (sym (any_end (eqb x) acc y) ∙ h)) [ inl a ↦ inl a | inr b ↦ inr (eqb-true x y b) ]
+new_from x y acc =
+    cond_both (is_among acc y) acc (acc ++ y ∷ []) (λ ys. is_among ys x ≡ true → (is_among acc x ≡ true) ⊎ (x ≡ y)) (λ old h. inl h) (λ new h.
+    elim (or_cases (is_among acc x) (eqb x y) (sym (any_end (eqb x) acc y) ∙ h)) [ inl a ↦ inl a | inr b ↦ inr (eqb-true x y b) ])
 
 pub new_distinct : (x : ℕ) (acc : List ℕ) → IsDistinct eqb acc → IsDistinct eqb (with_new acc x)
-new_distinct x acc d = by (is_among acc x) refl
-  where
-    by : (b : Bool) → is_among acc x ≡ b → IsDistinct eqb (cond b acc (acc ++ x ∷ []))
-    by true there = d
-    by false new = IsDistinct-push nat_eq_equiv acc x d new
+new_distinct x acc d = cond_both (is_among acc x) acc (acc ++ x ∷ []) (λ ys. IsDistinct eqb ys) (λ old. d) (λ new. IsDistinct-push nat_eq_equiv acc x d new)
 
 -- ---- all of a list
 
@@ -99,9 +84,7 @@ distinct_apart xs d j k y less p q =
     absurd cc
 
 pub among_at : (xs : List ℕ) (k x : ℕ) → slice_get xs k ≡ Some x → is_among xs x ≡ true
-among_at [] k x e = absurd (none-some x e)
-among_at (y ∷ xs) zero x e = ap (λ b. b || is_among xs x) (eq-eqb x y (sym (same_Some y x e)))
-among_at (y ∷ xs) (suc k) x e = ap (λ b. eqb x y || b) (among_at xs k x e) ∙ or-true (eqb x y)
+among_at xs k x e = any_passes_from_place (eqb x) xs k x e (eq-eqb x x refl)
 
 -- ---- there are no more different numbers than different names
 
@@ -118,24 +101,24 @@ few_by g (id ∷ ids) names numbers met few = few_by g ids (with_new_name names 
     n = id.name
 
     met_more : AreMet g (with_new_name names n) (with_new numbers (g n))
-    met_more m = by (list_any (bytes_eq n) names)
-      where
-        by : (b : Bool) → list_any (bytes_eq m) (cond b names (names ++ n ∷ [])) ≡ true → is_among (with_new numbers (g n)) (g m) ≡ true
-        by true h = new_kept (g m) (g n) numbers (met m h)
-        by false h =
-            elim (or_cases (list_any (bytes_eq m) names) (bytes_eq m n) (sym (any_end (bytes_eq m) names n) ∙ h)) [
-              | inl a ↦ new_kept (g m) (g n) numbers (met m a)
-              | inr b ↦ subst (λ k. is_among (with_new numbers (g n)) (g k) ≡ true) (sym ((bytes_eq-Decides m n).0 b)) (new_in (g n) numbers)
-            ]
+    met_more m =
+        cond_both (list_any (bytes_eq n) names) names (names ++ n ∷ []) (λ ns. list_any (bytes_eq m) ns ≡ true → is_among (with_new numbers (g n)) (g m) ≡ true)
+        (λ old h. new_kept (g m) (g n) numbers (met m h)) (λ new h.
+        elim (or_cases (list_any (bytes_eq m) names) (bytes_eq m n) (sym (any_end (bytes_eq m) names n) ∙ h)) [
+          | inl a ↦ new_kept (g m) (g n) numbers (met m a)
+          | inr b ↦ subst (λ k. is_among (with_new numbers (g n)) (g k) ≡ true) (sym ((bytes_eq-Decides m n).0 b)) (new_in (g n) numbers)
+        ])
+
+    one_more : length (with_new numbers (g n)) ≤ suc (length numbers)
+    one_more =
+        cond_both (is_among numbers (g n)) numbers (numbers ++ g n ∷ []) (λ ks. length ks ≤ suc (length numbers)) (λ old. omega arith)
+        (λ new. let size = length-append numbers (g n ∷ []) in omega (arith, size))
 
     fewer : length (with_new numbers (g n)) ≤ length (with_new_name names n)
-    fewer = by (list_any (bytes_eq n) names) (is_among numbers (g n)) refl refl
-      where
-        by : (a b : Bool) → list_any (bytes_eq n) names ≡ a → is_among numbers (g n) ≡ b → length (cond b numbers (numbers ++ g n ∷ [])) ≤ length (cond a names (names ++ n ∷ []))
-        by true true p q = few
-        by true false p q = let there = met n p in absurd cc
-        by false true p q = let one = length-append names (n ∷ []) in omega (arith, few, one)
-        by false false p q = let one = length-append names (n ∷ []) in let two = length-append numbers (g n ∷ []) in omega (arith, few, one, two)
+    fewer =
+        cond_both (list_any (bytes_eq n) names) names (names ++ n ∷ []) (λ ns. length (with_new numbers (g n)) ≤ length ns)
+        (λ old. let same = ap length (cond-true (is_among numbers (g n)) numbers (numbers ++ g n ∷ []) (met n old)) in omega (arith, few, same))
+        (λ new. let size = length-append names (n ∷ []) in omega (arith, few, one_more, size))
 
 pub few_reads : (ps : List PlainProgram) (e : Expr) → length (comms_in (layout ps) e) ≤ length (different_names (names_of e))
 few_reads ps e = few_by (λ n. meaning (layout ps) (comm_key n)) (names_of e) [] [] (λ n h. absurd (let e : false ≡ true = h in cc)) (omega arith)
@@ -143,13 +126,18 @@ few_reads ps e = few_by (λ n. meaning (layout ps) (comm_key n)) (names_of e) []
 -- ---- they are few, where they are below a bound
 
 -- the place of an item is not behind the list's end
-pub place_in-le : {A : Type 0} (p : A → Bool) (xs : List A) → place_in p xs ≤ length xs
+place_in-le : {A : Type 0} (p : A → Bool) (xs : List A) → place_in p xs ≤ length xs
 place_in-le p [] = omega arith
-place_in-le p (x ∷ xs) = place_by (p x) (place_in p xs) (length xs) (place_in-le p xs)
-  where
-    place_by : (b : Bool) (n k : ℕ) → n ≤ k → cond b 0 (suc n) ≤ suc k
-    place_by true n k h = omega arith
-    place_by false n k h = omega (arith, h)
+place_in-le p (x ∷ xs) =
+    let rest = place_in-le p xs in
+    cond_both (p x) 0 (suc (place_in p xs)) (λ n. n ≤ suc (length xs)) (λ passed. omega arith) (λ failed. omega (arith, rest))
+
+-- where one passes, the first that does stands there
+pub place_found : {A : Type 0} (p : A → Bool) (xs : List A) → list_any p xs ≡ true → (y : A) × (slice_get xs (place_in p xs) ≡ Some y) × (p y ≡ true)
+place_found p [] h = absurd (false≢true h)
+place_found {A} p (x ∷ xs) h =
+    cond_both (p x) 0 (suc (place_in p xs)) (λ n. (y : A) × (slice_get (x ∷ xs) n ≡ Some y) × (p y ≡ true)) (λ passed. (x, refl, passed))
+    (λ failed. place_found p xs (sym (ap (λ b. b || list_any p xs) failed) ∙ h))
 
 few_comms : (l : Layout) → ((key : Key) → meaning l key ≤ 4096) → (e : Expr) → length (comms_in l e) ≤ 4097
 few_comms l low e =
@@ -196,23 +184,17 @@ list_to_front : {A : Type 0} (f : ℕ → A) (n : ℕ) → list_to f (suc n) ≡
 list_to_front f zero = refl
 list_to_front f (suc n) = ap (λ l. l ++ f (suc n) ∷ []) (list_to_front f n)
 
--- what is written for each place of a list, and what for each item
-pub flat_map_places : {A B C : Type 0} (h : A → List C) (f : ℕ → A) (e : B → List C) (zs : List B) → ((k : ℕ) (z : B) → slice_get zs k ≡ Some z → h (f k) ≡ e z)
-    → flat_map h (list_to f (length zs)) ≡ flat_map e zs
-flat_map_places h f e [] same = refl
-flat_map_places h f e (z ∷ zs) same =
-    ap (flat_map h) (list_to_front f (length zs))
-    ∙ ap (λ l. l ++ flat_map h (list_to (λ k. f (suc k)) (length zs))) (same 0 z refl)
-    ∙ ap (λ l. e z ++ l) (flat_map_places h (λ k. f (suc k)) e zs (λ k y s. same (suc k) y s))
-
 -- the values at the places of a list, and those of its items
 pub map_places : {A B C : Type 0} (h : A → C) (f : ℕ → A) (e : B → C) (zs : List B) → ((k : ℕ) (z : B) → slice_get zs k ≡ Some z → h (f k) ≡ e z)
     → map h (list_to f (length zs)) ≡ map e zs
 map_places h f e [] same = refl
-map_places h f e (z ∷ zs) same =
-    ap (map h) (list_to_front f (length zs))
-    ∙ ap (λ w. w ∷ map h (list_to (λ k. f (suc k)) (length zs))) (same 0 z refl)
-    ∙ ap (λ l. e z ∷ l) (map_places h (λ k. f (suc k)) e zs (λ k y s. same (suc k) y s))
+map_places h f e (z ∷ zs) same = ap (map h) (list_to_front f (length zs)) ∙ ap₂ (λ w ws. w ∷ ws) (same 0 z refl) (map_places h (λ k. f (suc k)) e zs (λ k y s. same (suc k) y s))
+
+-- what is written for each place of a list, and what for each item
+pub flat_map_places : {A B C : Type 0} (h : A → List C) (f : ℕ → A) (e : B → List C) (zs : List B) → ((k : ℕ) (z : B) → slice_get zs k ≡ Some z → h (f k) ≡ e z)
+    → flat_map h (list_to f (length zs)) ≡ flat_map e zs
+flat_map_places h f e zs same =
+    sym (flat_map-map (λ ys. ys) h (list_to f (length zs))) ∙ ap (flat_map (λ ys. ys)) (map_places h f e zs same) ∙ flat_map-map (λ ys. ys) e zs
 
 pub greatest_start : (d : ℕ) (xs : List ℕ) → d ≤ greatest d xs
 greatest_start d [] = omega arith
@@ -245,7 +227,7 @@ module _ {A B : Type 0} (R : A → B → Type 0) where
 
   pub zip_at : (xs : List A) (ys : List B) (k : ℕ) (x : A) (y : B) → AllZip R xs ys → slice_get xs k ≡ Some x → slice_get ys k ≡ Some y → R x y
   zip_at xs ys k x y h e f =
-      subst (λ (o : Option B). IsSomeAnd o (R x)) f (subst (λ (o : Option A). MatchOption o (Unit {0}) (λ x. IsSomeAnd (slice_get ys k) (R x))) e (AllZip-left R xs ys h k))
+      subst (λ (o : Option B). IsSomeAnd o (R x)) f (MatchOption-at_some (Unit {0}) (λ x. IsSomeAnd (slice_get ys k) (R x)) x e (AllZip-left R xs ys h k))
 
 -- ---- where the items that pass a test stand, and how many there are
 
@@ -270,14 +252,15 @@ pub record Passes {A : Type 0} (test : A → Bool) (k : ℕ) (xs : List A) (p : 
   pub passes : test item ≡ true
 
 pub place_passes : {A : Type 0} (test : A → Bool) (k : ℕ) (xs : List A) (j p : ℕ) → slice_get (places_from test k xs) j ≡ Some p → Passes test k xs p
-place_passes test k [] j p e = absurd (none-some p e)
-place_passes {A} test k (x ∷ xs) j p e = by (test x) refl j e (λ i g. place_passes test (suc k) xs i p g)
+place_passes test k [] j p = λ e. absurd (none-some p e)
+place_passes test k (x ∷ xs) j p =
+    cond_both (test x) (k ∷ places_from test (suc k) xs) (places_from test (suc k) xs) (λ ks. slice_get ks j ≡ Some p → Passes test k (x ∷ xs) p)
+    (λ passed. here passed j (λ i. place_passes test (suc k) xs i p)) (λ failed e. behind (place_passes test (suc k) xs j p e))
   where
-    shifted : Passes test (suc k) xs p → Passes test k (x ∷ xs) p
-    shifted r = let number = r.number in record { place = suc r.place; number = omega (arith, number); item = r.item; there = r.there; passes = r.passes }
+    behind : Passes test (suc k) xs p → Passes test k (x ∷ xs) p
+    behind r = let number = r.number in record { place = suc r.place; number = omega (arith, number); item = r.item; there = r.there; passes = r.passes }
 
-    by : (b : Bool) → test x ≡ b → (j : ℕ) → slice_get (cond b (k ∷ places_from test (suc k) xs) (places_from test (suc k) xs)) j ≡ Some p
-        → ((i : ℕ) → slice_get (places_from test (suc k) xs) i ≡ Some p → Passes test (suc k) xs p) → Passes test k (x ∷ xs) p
-    by true is zero g later = let same = same_Some k p g in record { place = 0; number = omega (arith, same); item = x; there = refl; passes = is }
-    by true is (suc i) g later = shifted (later i g)
-    by false is i g later = shifted (later i g)
+    here : test x ≡ true → (j : ℕ) → ((i : ℕ) → slice_get (places_from test (suc k) xs) i ≡ Some p → Passes test (suc k) xs p)
+        → slice_get (k ∷ places_from test (suc k) xs) j ≡ Some p → Passes test k (x ∷ xs) p
+    here passed zero later e = let same = same_Some k p e in record { place = 0; number = omega (arith, same); item = x; there = refl; passes = passed }
+    here passed (suc i) later e = behind (later i e)

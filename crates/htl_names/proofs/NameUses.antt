@@ -15,7 +15,8 @@ use Rattle.htl_names.specs.NameRules.{AreNamesRight, UnknownName, WrongKind}
 use Rattle.htl_names.specs.Order.{module_at, tasks_at, modes_at, mode_at, invokes_at, switches_at}
 use Rattle.htl_names.specs.Uses.{task_uses, invoke_uses, switch_uses, program_use, mode_uses, module_uses, program_uses, uses, IsUnknown}
 use Rattle.htl_names.proofs.Members.{In, in_next, in_front, in_back, in_mapped, in_part, in_part_at}
-use Rattle.htl_names.proofs.Places.{part_there, program_of_module, module_of_task, module_of_mode, not_below, both}
+use Rattle.htl_names.proofs.Places.{part_there, program_of_module, module_of_task, module_of_mode, not_below}
+use Rattle.std.proofs.lemmas.Bool.{and_parts, true_from_ne_false}
 use Rattle.htl_base.specs.declared.Ty.{Ty}
 use Rattle.htl_model.specs.Ranges.{IsSpan, FitsType}
 use Rattle.htl_text.specs.declared.tree.CommNode.{CommNode}
@@ -37,21 +38,13 @@ Within (Some below) n = n < below
 -- what the name means stands in its list, at a place that is allowed
 pub known : (ps : List PlainProgram) → AreNamesRight ps → (u : Use) → In u (uses ps)
     → Stands ps u.key.space u.key (meaning (layout ps) u.key) × Within u.below (meaning (layout ps) u.key)
-known ps right u at = by (look_up u.key (symbols_of ps)) refl
+known ps right u at = by (look_up u.key (symbols_of ps)) u.below refl (λ is. right UnknownName at.0 (fault.Unknown u.token) (u, at.1, is, refl))
   where
-    unknown : IsUnknown (symbols_of ps) u → ⊥
-    unknown is = right UnknownName at.0 (fault.Unknown u.token) (u, at.1, is, refl)
-
-    within : (n : ℕ) → look_up u.key (symbols_of ps) ≡ Some n → (o : Option ℕ) → u.below ≡ o → Within o n
-    within n is None b = tt
-    within n is (Some below) b =
-        not_below n below (λ more. unknown (subst (λ (o : Option ℕ). MatchOption o (Unit {0}) (λ n. MatchOption u.below ⊥ (λ below. below ≤ n))) (sym is)
-        (subst (λ (o : Option ℕ). MatchOption o ⊥ (λ below. below ≤ n)) (sym b) more)))
-
-    by : (o : Option ℕ) → look_up u.key (symbols_of ps) ≡ o → Stands ps u.key.space u.key (meaning (layout ps) u.key) × Within u.below (meaning (layout ps) u.key)
-    by None is = absurd (unknown (subst (λ (o : Option ℕ). MatchOption o (Unit {0}) (λ n. MatchOption u.below ⊥ (λ below. below ≤ n))) (sym is) tt))
-    by (Some n) is =
-        (means ps u.key n is, subst (Within u.below) (ap (λ (o : Option ℕ). elim o as (λ _. ℕ) [ Some k ↦ k | None ↦ 0 ]) (sym is)) (within n is u.below refl))
+    by : (o b : Option ℕ) → look_up u.key (symbols_of ps) ≡ o → (MatchOption o (Unit {0}) (λ n. MatchOption b ⊥ (λ below. below ≤ n)) → ⊥)
+        → Stands ps u.key.space u.key (meaning (layout ps) u.key) × Within b (elim o as (λ _. ℕ) [ Some n ↦ n | None ↦ 0 ])
+    by None b is wrong = absurd (wrong tt)
+    by (Some n) None is wrong = (means ps u.key n is, tt)
+    by (Some n) (Some below) is wrong = (means ps u.key n is, not_below n below wrong)
 
 -- ---- the uses of a module, a task, a mode, an invocation, a switch
 
@@ -97,16 +90,12 @@ module _ (ps : List PlainProgram) (right : AreNamesRight ps) (j : Judged) where
 
 -- ---- numbers and values
 
-is_true : (b : Bool) → (b ≡ false → ⊥) → b ≡ true
-is_true true h = refl
-is_true false h = absurd (h refl)
-
 span : (x : ℤ) → (is_span x ≡ false → ⊥) → IsSpan (size_of x)
-span (pos n) h = let tests = both (leb 1 n) (leb n 1000000) (is_true _ h) in record { some = leb-true 1 n tests.0; most = leb-true n 1000000 tests.1 }
+span (pos n) h = let tests = and_parts (leb 1 n) (leb n 1000000) (true_from_ne_false _ h) in record { some = leb-true 1 n tests.0; most = leb-true n 1000000 tests.1 }
 span (negsuc n) h = absurd (h refl)
 
 instance_most : (x : ℤ) → (is_instance x ≡ false → ⊥) → size_of x ≤ 1000000
-instance_most (pos n) h = leb-true n 1000000 (is_true _ h)
+instance_most (pos n) h = leb-true n 1000000 (true_from_ne_false _ h)
 instance_most (negsuc n) h = absurd (h refl)
 
 fits : (t : Ty) (c : ConstNode) → (has_type t c ≡ false → ⊥) → FitsType t (value_of c)

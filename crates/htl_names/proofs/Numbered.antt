@@ -26,20 +26,10 @@ use Rattle.htl_names.specs.Programs.{naming, level, refined_in}
 use Rattle.htl_names.specs.Uses.{usage}
 use Rattle.htl_names.proofs.NameUses.{worst_span, mode_period_span, known, used_in_module}
 use Rattle.htl_names.specs.Nth.{mode_in}
+use Rattle.htl_names.proofs.ListLaws.{place_found}
+use Rattle.std.proofs.lemmas.Map.Keys.{any_passes_from_place}
 use Rattle.htl_names.proofs.Places.{program_of_module, task_in_source}
 use Rattle.htl_names.proofs.Members.{All-at, all_given}
-
--- ---- first places
-
-pub place_found : {A : Type 0} (p : A → Bool) (xs : List A) (k : ℕ) (x : A) → slice_get xs k ≡ Some x → p x ≡ true → (y : A) × (slice_get xs (place_in p xs) ≡ Some y) × (p y ≡ true)
-place_found p [] k x e h = absurd cc
-place_found {A} p (z ∷ xs) k x e h = by (p z) refl k e (place_found p xs)
-  where
-    by : (b : Bool) → p z ≡ b → (k : ℕ) → slice_get (z ∷ xs) k ≡ Some x → ((k : ℕ) (x : A) → slice_get xs k ≡ Some x → p x ≡ true → (y : A) × (slice_get xs (place_in p xs) ≡ Some y) × (p y ≡ true))
-        → (y : A) × (slice_get (z ∷ xs) (cond (p z) 0 (suc (place_in p xs))) ≡ Some y) × (p y ≡ true)
-    by true is k e later = (z, ap (λ b. slice_get (z ∷ xs) (cond b 0 (suc (place_in p xs)))) is, is)
-    by false is zero e later = let same : z ≡ x = cc in let true_there : p z ≡ true = ap p same ∙ h in absurd cc
-    by false is (suc k) e later = let r = later k x e h in (r.0, ap (λ b. slice_get (z ∷ xs) (cond b 0 (suc (place_in p xs)))) is ∙ r.1, r.2)
 
 -- ---- modules
 
@@ -55,7 +45,7 @@ is_module_is p u s h = grind (arith, nat_tests)
 
 pub module_number_is : (l : Layout) (k : ℕ) (s : ModuleAt) (p u : ℕ) → AreOnce l.modules → slice_get l.modules k ≡ Some s → s.program ≡ p → s.«module» ≡ u → module_number l p u ≡ k
 module_number_is l k s p u once there a b =
-    let f = place_found (is_module p u) l.modules k s there (is_module_true p u s a b) in
+    let f = place_found (is_module p u) l.modules (any_passes_from_place (is_module p u) l.modules k s there (is_module_true p u s a b)) in
     let g = is_module_is p u f.0 f.2 in
     once (module_number l p u) k f.0 s f.1 there (g.0 ∙ sym a) (g.1 ∙ sym b)
 

@@ -1,5 +1,6 @@
 -- What tests tell, what stands at a place of a tree, and where among all of its kind.
 use Rattle.std.proofs.Common.{◌≡◌, ℕ, ◌≤◌, ◌<◌, ◌⊎◌, inl, inr, arith, Bool, true, false, ◌&&◌, refl, suc, ◌+◌, List, [], slice_get, Option, Some, None, ◌∙◌, ap}
+use Rattle.std.proofs.lemmas.Bool.{and_parts}
 use Rattle.std.proofs.lemmas.Bool.Decides.{eqb_tells}
 use Rattle.std.specs.List.{flat_map}
 use Rattle.std.proofs.lemmas.Option.{none-some}
@@ -27,8 +28,7 @@ order_of m n = grind arith
 
 -- both tests passed
 pub both : (a b : Bool) → (a && b) ≡ true → (a ≡ true) × (b ≡ true)
-both true b h = (refl, h)
-both false b h = cc
+both a b h = and_parts a b h
 
 -- ---- what stands at a place of a tree, and where it stands among all of its kind
 

@@ -3,6 +3,7 @@ use Rattle.std.proofs.Common.{◌≡◌, ◌≤◌, ◌<◌, ◌+◌, ◌||◌, 
 use Rattle.std.specs.List.{flat_map, list_any, All, AllZip}
 use Rattle.std.proofs.lemmas.List.Folds.{flat_map-map}
 use Rattle.std.proofs.lemmas.Simd.{map-map}
+use Rattle.std.proofs.lemmas.Option.{MatchOption-at_some, slice_get_within}
 use Rattle.std.proofs.lemmas.Slice.Zip.{AllZip-right, AllZip-long}
 use Rattle.std.specs.Option.{IsSomeAnd}
 use Rattle.std.specs.Prelude.{MatchOption}
@@ -11,7 +12,7 @@ use Rattle.htl_text.specs.declared.tree.ParamNode.{ParamNode}
 use Rattle.std.proofs.lemmas.List.{length-map}
 use Rattle.htl_model.specs.FunctionTypes.{FunctionType, output_type, task_types, switch_type, comm_type, function_types}
 use Rattle.htl_model.specs.Small.{IsSmallFunction, AreSmall, ArgumentsBelow, nodes}
-use Rattle.htl_names.proofs.ListLaws.{zip_append, zip_map, zip_parts, zip_at, all_in, few_reads}
+use Rattle.htl_names.proofs.ListLaws.{zip_append, zip_map, zip_parts, zip_at, all_in, place_found, few_reads}
 use Rattle.htl_model.specs.Ranges.{AreInRange, IsFunInRange}
 use Rattle.htl_model.specs.Tables.{Tables, Fun, Formula, Compiled, function_count, count_before}
 use Rattle.htl_model.specs.declared.parts.Task.{Task}
@@ -107,18 +108,10 @@ module _ (ps : List PlainProgram) (small : MeetsBounds ps) (right : AreNamesRigh
 
 -- ---- the places of a switch's communicators
 
-place_less : (x : ℕ) (xs : List ℕ) → list_any (eqb x) xs ≡ true → place_in (eqb x) xs < length xs
-place_less x [] h = cc
-place_less x (y ∷ xs) h = by (eqb x y) h (place_less x xs)
-  where
-    by : (b : Bool) → (b || list_any (eqb x) xs) ≡ true → (list_any (eqb x) xs ≡ true → place_in (eqb x) xs < length xs) → cond b 0 (suc (place_in (eqb x) xs)) < suc (length xs)
-    by true h later = omega arith
-    by false h later = let r : place_in (eqb x) xs < length xs = later h in omega arith
-
 read_below : (l : Layout) (e : Expr) (i : ℕ) (id : Id) → slice_get (names_of e) i ≡ Some id → read_place l (comms_in l e) id < length (comms_in l e)
 read_below l e i id at =
     let f : Id → ℕ = λ x. meaning l (comm_key x.name) in
-    place_less (f id) (comms_in l e) (all_in (f id) [] (map f (names_of e)) i (get_mapped f (names_of e) i id at))
+    slice_get_within (comms_in l e) _ _ (place_found (eqb (f id)) (comms_in l e) (all_in (f id) [] (map f (names_of e)) i (get_mapped f (names_of e) i id at))).1
 
 -- ---- switches
 
@@ -159,7 +152,7 @@ functions_small ps small right ranges = λ k f g a b. zip_at IsSmallFunction (fu
 pub functions_in_range : (ps : List PlainProgram) → MeetsBounds ps → AreNamesRight ps → All IsFunInRange (function_items (layout ps) ps)
 functions_in_range ps small right =
     All-from_places IsFunInRange (function_items (layout ps) ps) (λ k g at.
-    by g (slice_get types k) (subst (λ (o : Option Fun). MatchOption o (Unit {0}) (λ y. IsSomeAnd (slice_get types k) (λ x. IsSmallFunction x y))) at
+    by g (slice_get types k) (MatchOption-at_some (Unit {0}) (λ y. IsSomeAnd (slice_get types k) (λ x. IsSmallFunction x y)) g at
     (AllZip-right IsSmallFunction types (function_items (layout ps) ps) (all_zipped ps small right) k)))
   where
     types : List FunctionType
