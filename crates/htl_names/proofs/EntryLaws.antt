@@ -142,12 +142,11 @@ module _ (ps : List PlainProgram) where
 -- ---- one place for one key
 
 pub one_place : (ps : List PlainProgram) → AreNamesRight ps → (j k : ℕ) (e d : Entry) → slice_get (entries ps) j ≡ Some e → slice_get (entries ps) k ≡ Some d → e.key ≡ d.key → j ≡ k
-one_place ps right j k e d at there same = by (order_of j k)
-  where
-    by : (j < k) ⊎ ((k < j) ⊎ (j ≡ k)) → j ≡ k
-    by (inl less) = absurd (right RepeatedName k (fault.Twice d.token) (d, there, (j, e, less, at, same), refl))
-    by (inr (inl more)) = absurd (right RepeatedName j (fault.Twice e.token) (e, at, (k, d, more, there, sym same), refl))
-    by (inr (inr is)) = is
+one_place ps right j k e d at there same =
+    elim (order_of j k) [
+      | inl less ↦ absurd (right RepeatedName k (fault.Twice d.token) (d, there, (j, e, less, at, same), refl))
+      | inr r ↦ elim r [ inl more ↦ absurd (right RepeatedName j (fault.Twice e.token) (e, at, (k, d, more, there, sym same), refl)) | inr is ↦ is ]
+    ]
 
 pub one_entry : (ps : List PlainProgram) → AreNamesRight ps → (e d : Entry) → In e (entries ps) → In d (entries ps) → e.key ≡ d.key → e ≡ d
 one_entry ps right e d a b same =

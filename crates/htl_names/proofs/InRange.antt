@@ -26,7 +26,7 @@ use Rattle.htl_names.proofs.EntryLaws.{declared, one_place, one_entry, source_en
 use Rattle.htl_names.proofs.FlatMaps.{at_part, part_before, part_of, given, of_map, counted, few_owned, owners_order}
 use Rattle.htl_names.proofs.ModeRanges.{ports_in_range, invokes_in_range, switches_in_range}
 use Rattle.htl_names.proofs.SmallFunctions.{functions_in_range, functions_counted}
-use Rattle.htl_names.proofs.Numbered.{module_of_program, modes_in, tasks_in, modules_exist, modes_in_range, module_in_range, tasks_in_range, mode_count, module_count}
+use Rattle.htl_names.proofs.Numbered.{each_module, modes_in, tasks_in, modules_exist, modes_in_range, module_in_range, tasks_in_range, mode_count, module_count}
 use Rattle.htl_names.proofs.Members.{In, in_next, in_back, in_part_at, All-from_places}
 use Rattle.htl_names.proofs.NameUses.{known, used_in_invoke, comm_period_span, initial_fits}
 use Rattle.htl_names.proofs.Places.{program_of_module, order_of}
@@ -103,23 +103,19 @@ module _ (ps : List PlainProgram) (right : AreNamesRight ps) where
 
   -- two modules of one name are one
   one_program : (p u q v : ℕ) (y w : PlainModule) → module_at ps p u ≡ Some y → module_at ps q v ≡ Some w → y.name.name ≡ w.name.name → p ≡ q
-  one_program p u q v y w a b names = by (order_of p q)
-    where
-      by : (p < q) ⊎ ((q < p) ⊎ (p ≡ q)) → p ≡ q
-      by (inl less) = absurd (not_later p u q v y w a b names less)
-      by (inr (inl more)) = absurd (not_later q v p u w y b a (sym names) more)
-      by (inr (inr is)) = is
+  one_program p u q v y w a b names =
+      elim (order_of p q) [
+        | inl less ↦ absurd (not_later p u q v y w a b names less)
+        | inr r ↦ elim r [ inl more ↦ absurd (not_later q v p u w y b a (sym names) more) | inr is ↦ is ]
+      ]
 
   module_names_apart : IsOrdered (symbols_of ps) ps (order (symbols_of ps) ps) → AreApart (map (λ (x : Module). x.name) (module_items (layout ps) ps))
   module_names_apart ordered =
-      apart_by (λ (x : Module). x.name) (module_items (layout ps) ps) (λ j k x w p q names.
-      let f = module_of_program ps ordered j x p in
-      let g = module_of_program ps ordered k w q in
-      let s = f.«module» in
-      let r = g.«module» in
-      let same : f.node.name.name ≡ g.node.name.name = ap (λ (x : Module). x.name) f.is ∙ names ∙ sym (ap (λ (x : Module). x.name) g.is) in
-      let number = same_number _ _ (of_module s.program s.«module» f.node f.its) (of_module r.program r.«module» g.node g.its) (ap (λ (m : List ℕ). module_key m) same) in
-      ordered.apart j k s r f.there g.there (one_program s.program s.«module» r.program r.«module» f.node g.node f.its g.its same) number)
+      apart_by (λ (x : Module). x.name) (module_items (layout ps) ps) (λ j k x z p q.
+      each_module ps ordered (λ j x. x.name ≡ z.name → j ≡ k) (λ j s y there its.
+      each_module ps ordered (λ k z. y.name.name ≡ z.name → j ≡ k) (λ k r w at own names.
+      let same = same_number _ _ (of_module s.program s.«module» y its) (of_module r.program r.«module» w own) (ap (λ (m : List ℕ). module_key m) names) in
+      ordered.apart j k s r there at (one_program s.program s.«module» r.program r.«module» y w its own names) same) k z q) j x p)
 
   -- ---- names of an owner
 

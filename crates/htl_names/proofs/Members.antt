@@ -7,10 +7,10 @@ use Rattle.std.proofs.lemmas.List.Sums.{sum_by-cons, sum_by-append}
 use Rattle.std.proofs.lemmas.Option.{none-some, same_Some, slice_get_within, slice_get-get_or, get_or_from_slice_get}
 use Rattle.htl_model.specs.Lists.{list_to}
 use Rattle.htl_names.specs.Lists.{flat_map_at, map_at}
-use Rattle.std.proofs.lemmas.List.Concat.{get_or-flat_map}
+use Rattle.std.proofs.lemmas.List.Concat.{get_or-flat_map, flat_map_single}
 use Rattle.std.proofs.lemmas.List.Folds.{length-flat_map-take}
 use Rattle.htl_model.proofs.PlaceLaws.{get_mapped}
-use Rattle.htl_names.proofs.FlatMaps.{get_front, get_back, at_part, at_flat, part_of, of_map, given}
+use Rattle.htl_names.proofs.FlatMaps.{get_front, get_back, at_part, at_flat, part_of, of_map, given, flat_map_parts}
 
 -- P holds of each item
 abbrev pub Each : {A : Type 0} → (A → Type 0) → List A → Type 0
@@ -127,9 +127,8 @@ All-at P xs k x all e = subst P (get_or_from_slice_get xs k x x e) (All-get_or P
 
 pub map_flat_map_at : {A B C : Type 0} (h : B → C) (f : ℕ → A → List B) (g : A → List C) → ((k : ℕ) (x : A) → map h (f k x) ≡ g x)
     → (k : ℕ) (xs : List A) → map h (flat_map_at f k xs) ≡ flat_map g xs
-map_flat_map_at h f g e k [] = refl
-map_flat_map_at h f g e k (x ∷ xs) =
-    map-append h (f k x) (flat_map_at f (suc k) xs) ∙ ap (λ l. l ++ map h (flat_map_at f (suc k) xs)) (e k x) ∙ ap (λ l. g x ++ l) (map_flat_map_at h f g e (suc k) xs)
+map_flat_map_at h f g e k xs =
+    sym (flat_map_single h (flat_map_at f k xs)) ∙ flat_map_parts (λ y. h y ∷ []) f g (λ i x. flat_map_single h (f i x) ∙ e i x) k xs
 
 pub sum_by_map : {A B : Type 0} (f : B → ℕ) (h : A → B) (xs : List A) → sum_by f (map h xs) ≡ sum_by (λ x. f (h x)) xs
 sum_by_map f h [] = refl

@@ -1,9 +1,10 @@
 -- Which items the numbers of the tables name; the modules, modes and tasks of the tables are in range.
 use Rattle.std.proofs.Common.{◌≡◌, ◌<◌, ◌+◌, ℕ, zero, suc, Bool, true, false, cond, List, [], ◌∷◌, length, take, slice_get, Some, None, refl, sym, ◌∙◌, ap, subst, arith, length-append, ◌≤◌}
 use Rattle.std.specs.List.{flat_map}
-use Rattle.std.proofs.lemmas.Bool.Decides.{nat_tests}
+use Rattle.std.proofs.lemmas.Bool.{and_from, and_parts, eq-eqb, eqb-true}
+use Rattle.std.specs.Prelude.{eqb}
 use Rattle.std.proofs.lemmas.List.{length-take-le, length-map}
-use Rattle.std.proofs.lemmas.Option.{slice_get_within}
+use Rattle.std.proofs.lemmas.Option.{slice_get_within, same_Some}
 use Rattle.htl_text.specs.Nodes.{PlainProgram, PlainModule, PlainMode, PlainTask}
 use Rattle.htl_names.specs.declared.place.ModeAt.{ModeAt}
 use Rattle.htl_names.specs.declared.place.ModuleAt.{ModuleAt}
@@ -22,7 +23,7 @@ use Rattle.htl_text.specs.Bounds.{modules_of, tasks_of, out_params}
 use Rattle.htl_names.specs.Conditions.{MeetsBounds, MeetsTaskBounds}
 use Rattle.htl_names.specs.Keys.{mode_key}
 use Rattle.htl_names.specs.NameRules.{AreNamesRight}
-use Rattle.htl_names.specs.Programs.{naming, level, refined_in}
+use Rattle.htl_names.specs.Programs.{naming, Naming, level, refined_in}
 use Rattle.htl_names.specs.Uses.{usage}
 use Rattle.htl_names.proofs.NameUses.{worst_span, mode_period_span, known, used_in_module}
 use Rattle.htl_names.specs.Nth.{mode_in}
@@ -30,24 +31,6 @@ use Rattle.htl_names.proofs.ListLaws.{place_found}
 use Rattle.std.proofs.lemmas.Map.Keys.{any_passes_from_place}
 use Rattle.htl_names.proofs.Places.{program_of_module, task_in_source}
 use Rattle.htl_names.proofs.Members.{All-at, all_given}
-
--- ---- modules
-
--- the modules stand once
-abbrev pub AreOnce : List ModuleAt → Type 0
-AreOnce modules = (j k : ℕ) (s r : ModuleAt) → slice_get modules j ≡ Some s → slice_get modules k ≡ Some r → s.program ≡ r.program → s.«module» ≡ r.«module» → j ≡ k
-
-is_module_true : (p u : ℕ) (s : ModuleAt) → s.program ≡ p → s.«module» ≡ u → is_module p u s ≡ true
-is_module_true p u s a b = grind (arith, nat_tests)
-
-is_module_is : (p u : ℕ) (s : ModuleAt) → is_module p u s ≡ true → (s.program ≡ p) × (s.«module» ≡ u)
-is_module_is p u s h = grind (arith, nat_tests)
-
-pub module_number_is : (l : Layout) (k : ℕ) (s : ModuleAt) (p u : ℕ) → AreOnce l.modules → slice_get l.modules k ≡ Some s → s.program ≡ p → s.«module» ≡ u → module_number l p u ≡ k
-module_number_is l k s p u once there a b =
-    let f = place_found (is_module p u) l.modules (any_passes_from_place (is_module p u) l.modules k s there (is_module_true p u s a b)) in
-    let g = is_module_is p u f.0 f.2 in
-    once (module_number l p u) k f.0 s f.1 there (g.0 ∙ sym a) (g.1 ∙ sym b)
 
 -- ---- modes and tasks of a module
 
@@ -154,9 +137,15 @@ module_stands l ps exist k s x there is =
 pub modules_exist : (ps : List PlainProgram) → IsOrdered (symbols_of ps) ps (order (symbols_of ps) ps) → AreModules ps (layout ps).modules
 modules_exist ps ordered k s e = All-at (Exists ps) (layout ps).modules k s ordered.exist e
 
+-- the number of a module is its place
 pub number_is : (ps : List PlainProgram) → IsOrdered (symbols_of ps) ps (order (symbols_of ps) ps) → (k : ℕ) (s : ModuleAt) → slice_get (layout ps).modules k ≡ Some s
     → module_number (layout ps) s.program s.«module» ≡ k
-number_is ps ordered k s there = module_number_is (layout ps) k s s.program s.«module» (λ i j a b. ordered.apart i j a b) there refl refl
+number_is ps ordered k s there =
+    let is_there = is_module s.program s.«module» in
+    let here = and_from (eqb s.program s.program) (eqb s.«module» s.«module») (eq-eqb s.program s.program refl) (eq-eqb s.«module» s.«module» refl) in
+    let f = place_found is_there (layout ps).modules (any_passes_from_place is_there (layout ps).modules k s there here) in
+    let same = and_parts (eqb f.0.program s.program) (eqb f.0.«module» s.«module») f.2 in
+    ordered.apart (module_number (layout ps) s.program s.«module») k f.0 s f.1 there (eqb-true f.0.program s.program same.0) (eqb-true f.0.«module» s.«module» same.1)
 
 -- the mode of a module that stands before a place is in the tables
 pub record ModeBefore (ps : List PlainProgram) (a : ModeAt) (place : ℕ) : Type 0 where
@@ -213,16 +202,13 @@ parent_of_module t k y e = ap (λ o. elim o [ Some x ↦ x.parent | None ↦ Non
 abbrev level_of : List PlainProgram → ℕ → ℕ
 level_of ps p = level (naming (symbols_of ps) ps) (length ps) p
 
-level_some : (ps : List PlainProgram) (p : ℕ) → 0 < length ps → 1 ≤ level_of ps p
-level_some ps p less = by (length ps) less
+level_some : (xs : List Naming) (n p : ℕ) → 0 < n → 1 ≤ level xs n p
+level_some xs zero p h = absurd (omega (arith, h))
+level_some xs (suc n) p h = by (refined_in p xs)
   where
-    by : (n : ℕ) → 0 < n → 1 ≤ level (naming (symbols_of ps) ps) n p
-    by zero h = absurd (omega (arith, h))
-    by (suc n) h = named (refined_in p (naming (symbols_of ps) ps))
-      where
-        named : (o : Option ModeAt) → 1 ≤ elim o [ Some a ↦ suc (level (naming (symbols_of ps) ps) n a.program) | None ↦ 1 ]
-        named None = omega arith
-        named (Some a) = omega arith
+    by : (o : Option ModeAt) → 1 ≤ elim o [ Some a ↦ suc (level xs n a.program) | None ↦ 1 ]
+    by None = omega arith
+    by (Some a) = omega arith
 
 within_levels : (ps : List PlainProgram) → IsOrdered (symbols_of ps) ps (order (symbols_of ps) ps) → (steps k : ℕ) (s : ModuleAt) → slice_get (layout ps).modules k ≡ Some s → level_of ps s.program ≤ steps + 1
     → (o : Option ModeAt) → s.parent ≡ o → is_within steps (tables_of_tree ps) (elim o [ Some a ↦ Some (mode_number (layout ps) ps a) | None ↦ None ]) ≡ true
@@ -234,7 +220,7 @@ within_levels ps ordered zero k s there few (Some a) is =
     let o = program_of_module ps s.program s.«module» x.0 x.1 in
     let within = slice_get_within ps s.program o.0 o.1 in
     let above = ordered.steps k s a there is in
-    let some = level_some ps a.program (omega (arith, within)) in
+    let some = level_some (naming (symbols_of ps) ps) (length ps) a.program (omega (arith, within)) in
     absurd (omega (arith, few, above, some))
 within_levels ps ordered (suc steps) k s there few (Some a) is =
     let t = tables_of_tree ps in
@@ -248,33 +234,27 @@ within_levels ps ordered (suc steps) k s there few (Some a) is =
     let rest = within_levels ps ordered steps b.place b.«module» b.there (omega (arith, few, above, same)) b.«module».parent refl in
     ap (λ (j : ℕ). is_within steps t (parent_of t j)) owner ∙ ap (is_within steps t) own ∙ rest
 
-pub record ModuleFrom (ps : List PlainProgram) (k : ℕ) (y : Module) : Type 0 where
-  pub «module» : ModuleAt
-  pub there : slice_get (layout ps).modules k ≡ Some «module»
-  pub node : PlainModule
-  pub its : module_at ps «module».program «module».«module» ≡ Some node
-  pub is : module_item (layout ps) ps k «module» node ≡ y
-
-pub module_of_program : (ps : List PlainProgram) → IsOrdered (symbols_of ps) ps (order (symbols_of ps) ps) → (k : ℕ) (y : Module) → slice_get (module_items (layout ps) ps) k ≡ Some y → ModuleFrom ps k y
-module_of_program ps ordered k y e =
+-- what holds of each module at its place holds of each of the tables
+pub each_module : (ps : List PlainProgram) → IsOrdered (symbols_of ps) ps (order (symbols_of ps) ps) → (P : ℕ → Module → Type 0)
+    → ((k : ℕ) (s : ModuleAt) (x : PlainModule) → slice_get (layout ps).modules k ≡ Some s → module_at ps s.program s.«module» ≡ Some x → P k (module_item (layout ps) ps k s x))
+    → (k : ℕ) (y : Module) → slice_get (module_items (layout ps) ps) k ≡ Some y → P k y
+each_module ps ordered P holds k y e =
     let exist = modules_exist ps ordered in
     let size = module_count (layout ps) ps exist in
     let within = slice_get_within (module_items (layout ps) ps) k y e in
     let s = there_is (layout ps).modules k (omega (arith, size, within)) in
     let x = exist k s.0 s.1 in
-    let same : Some (module_item (layout ps) ps k s.0 x.0) ≡ Some y = sym (module_stands (layout ps) ps exist k s.0 x.0 s.1 x.1) ∙ e in
-    record { «module» = s.0; there = s.1; node = x.0; its = x.1; is = cc }
+    subst (P k) (same_Some _ _ (sym (module_stands (layout ps) ps exist k s.0 x.0 s.1 x.1) ∙ e)) (holds k s.0 x.0 s.1 x.1)
 
 pub module_in_range : (ps : List PlainProgram) → AreNamesRight ps → IsOrdered (symbols_of ps) ps (order (symbols_of ps) ps) → (k : ℕ) (y : Module)
     → slice_get (module_items (layout ps) ps) k ≡ Some y → IsModuleInRange (tables_of_tree ps) k y
-module_in_range ps right ordered k y e =
-    let f = module_of_program ps ordered k y e in
-    let few = ordered.levels k f.«module» f.there in
-    subst (IsModuleInRange (tables_of_tree ps) k) f.is
-    (record {
-      start = start_in_range ps right k f.«module» f.node f.there f.its;
-      parent = parent_in_range ps ordered k f.«module» f.there f.«module».parent refl;
-      levels = within_levels ps ordered 7 k f.«module» f.there (omega (arith, few)) f.«module».parent refl;
+module_in_range ps right ordered =
+    each_module ps ordered (IsModuleInRange (tables_of_tree ps)) (λ k s x there its.
+    let few = ordered.levels k s there in
+    record {
+      start = start_in_range ps right k s x there its;
+      parent = parent_in_range ps ordered k s there s.parent refl;
+      levels = within_levels ps ordered 7 k s there (omega (arith, few)) s.parent refl;
     })
 
 -- ---- modes and tasks

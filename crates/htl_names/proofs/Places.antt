@@ -1,6 +1,6 @@
 -- What tests tell, what stands at a place of a tree, and where among all of its kind.
 use Rattle.std.proofs.Common.{◌≡◌, ℕ, ◌≤◌, ◌<◌, ◌⊎◌, inl, inr, arith, Bool, true, false, ◌&&◌, refl, suc, ◌+◌, List, [], slice_get, Option, Some, None, ◌∙◌, ap}
-use Rattle.std.proofs.lemmas.Bool.{and_parts}
+use Rattle.std.proofs.lemmas.Bool.{and_parts, cases_eq, cases_lt}
 use Rattle.std.proofs.lemmas.Bool.Decides.{eqb_tells}
 use Rattle.std.specs.List.{flat_map}
 use Rattle.std.proofs.lemmas.Option.{none-some}
@@ -11,17 +11,13 @@ use Rattle.htl_names.specs.declared.place.ModeAt.{ModeAt}
 use Rattle.htl_names.proofs.FlatMaps.{at_flat}
 
 pub stable : (m n : ℕ) → ((m ≡ n → ⊥) → ⊥) → m ≡ n
-stable m n h = elim (eqb_tells m n) [ inl p ↦ p.1 | inr q ↦ absurd (h q.1) ]
+stable m n h = elim (cases_eq m n) [ inl p ↦ p | inr q ↦ absurd (h q) ]
 
 pub not_above : (m n : ℕ) → (n < m → ⊥) → m ≤ n
-not_above m n h = by m n (grind arith) h
-  where
-    by : (m n : ℕ) → (m ≤ n) ⊎ (n < m) → (n < m → ⊥) → m ≤ n
-    by m n (inl le) h = le
-    by m n (inr lt) h = absurd (h lt)
+not_above m n h = elim (cases_lt n m) [ inl p ↦ absurd (h p) | inr q ↦ q ]
 
 pub not_below : (m n : ℕ) → (n ≤ m → ⊥) → m < n
-not_below m n h = let above = not_above (suc m) n (λ lt. h (omega (arith, lt))) in omega (arith, above)
+not_below m n h = elim (cases_lt m n) [ inl p ↦ p | inr q ↦ absurd (h q) ]
 
 pub order_of : (m n : ℕ) → (m < n) ⊎ ((n < m) ⊎ (m ≡ n))
 order_of m n = grind arith
