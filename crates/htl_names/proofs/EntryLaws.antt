@@ -1,5 +1,5 @@
 -- The names that a source declares: where they stand, what they mean, how their numbers are bounded.
-use Rattle.std.proofs.Common.{◌≡◌, ℕ, suc, ◌+◌, List, [], ◌∷◌, length, take, slice_get, Some, refl, ◌∙◌, ap, arith, length-append, zero, subst, Bool, true, false, cond, map, sym, ◌<◌, ◌⊎◌, inl, inr, ◌≤◌, Option, None, All, ap₂, ◌++◌}
+use Rattle.std.proofs.Common.{◌≡◌, ℕ, suc, ◌+◌, List, [], ◌∷◌, length, take, slice_get, Some, refl, ◌∙◌, ap, arith, length-append, zero, subst, map, sym, inl, inr, ◌≤◌, Option, None, All, ap₂, ◌++◌}
 use Rattle.htl_text.specs.Bounds.{comms_of, modules_of, modes_of, tasks_of, ports_of, invokes_of, out_params}
 use Rattle.htl_text.specs.Nodes.{PlainProgram, PlainModule, PlainMode, PlainTask}
 use Rattle.htl_text.specs.declared.tree.CommNode.{CommNode}

@@ -1,5 +1,5 @@
 -- The names of the tables of a tree differ, and the tables are in range.
-use Rattle.std.proofs.Common.{◌≡◌, ◌<◌, ◌⊎◌, inl, inr, ◌+◌, ℕ, List, map, length, take, slice_get, Some, refl, sym, ◌∙◌, ap, subst, arith}
+use Rattle.std.proofs.Common.{◌≡◌, ◌<◌, inl, inr, ◌+◌, ℕ, List, map, length, take, slice_get, Some, refl, sym, ◌∙◌, ap, subst, arith, [], None}
 use Rattle.std.proofs.lemmas.Option.{slice_get_within, same_Some}
 use Rattle.htl_model.specs.Lists.{AreApart}
 use Rattle.htl_model.specs.declared.parts.Comm.{Comm}
@@ -8,34 +8,42 @@ use Rattle.htl_model.specs.declared.parts.Module.{Module}
 use Rattle.htl_model.specs.declared.parts.Port.{Port}
 use Rattle.htl_model.specs.declared.parts.Task.{Task}
 use Rattle.htl_model.specs.declared.parts.Inv.{Inv}
-use Rattle.htl_text.specs.Bounds.{comms_of}
+use Rattle.htl_text.specs.Bounds.{comms_of, modules_of, modes_of, invokes_of, names_of}
 use Rattle.htl_text.specs.declared.tree.InvokeNode.{InvokeNode}
 use Rattle.htl_names.specs.declared.place.ModeAt.{ModeAt}
 use Rattle.std.specs.List.{All}
-use Rattle.htl_text.specs.Nodes.{PlainProgram, PlainModule, PlainTask}
+use Rattle.htl_text.specs.Nodes.{PlainProgram, PlainModule, PlainTask, PlainMode, PlainSwitch}
 use Rattle.htl_names.specs.declared.key.Entry.{Entry}
 use Rattle.htl_names.specs.Entries.{entry, module_entries, comm_entry}
-use Rattle.htl_names.specs.Flat.{layout, symbols_of, meaning, comm_item, comm_items, mode_item, mode_items, module_items, port_item, port_items, task_item, task_items, invoke_item, invoke_items, module_mode_items, mode_port_items, module_task_items, mode_invoke_items, switch_item, mode_switch_items, tables_of_tree}
+use Rattle.htl_names.specs.Flat.{layout, symbols_of, meaning, comm_item, comm_items, mode_item, mode_items, module_items, port_item, port_items, task_item, task_items, invoke_item, invoke_items, switch_item, tables_of_tree, module_number, modes_before, tasks_before, mode_number, end_item, refined_mode, parent_number, comms_in, switch_items}
 use Rattle.htl_names.specs.Keys.{comm_key, module_key, task_key, mode_key, port_key, invoke_key}
 use Rattle.htl_names.specs.Lists.{flat_map_at}
 use Rattle.htl_names.specs.NameRules.{AreNamesRight}
 use Rattle.htl_names.specs.Order.{order, module_at, tasks_at, ports_at, invokes_at, switches_at}
 use Rattle.htl_names.specs.Ordered.{IsOrdered}
-use Rattle.htl_names.specs.Uses.{usage}
+use Rattle.htl_names.specs.Uses.{usage, uses, comm_use, end_use}
 use Rattle.htl_names.proofs.EntryLaws.{declared, one_place, one_entry, source_entries, entries_are, Origin, of_comm, of_module, of_task, of_mode as mode_origin, of_port, of_invoke}
-use Rattle.htl_names.proofs.FlatMaps.{at_part, part_before, part_of, given, of_map, counted, few_owned, owners_order}
-use Rattle.htl_names.proofs.ModeRanges.{ports_in_range, invokes_in_range, switches_in_range}
+use Rattle.htl_names.proofs.FlatMaps.{at_part, part_before, part_of, given, of_map, counted, few_owned, owners_order, stands}
 use Rattle.htl_names.proofs.SmallFunctions.{functions_in_range, functions_counted}
-use Rattle.htl_names.proofs.Numbered.{each_module, modes_in, tasks_in, modules_exist, modes_in_range, module_in_range, tasks_in_range, mode_count, module_count}
-use Rattle.htl_names.proofs.Members.{In, in_next, in_back, in_part_at, All-from_places}
-use Rattle.htl_names.proofs.NameUses.{known, used_in_invoke, comm_period_span, initial_fits}
-use Rattle.htl_names.proofs.Places.{program_of_module, order_of}
+use Rattle.htl_names.proofs.Numbered.{switch_small, each_module, modes_in, tasks_in, modules_exist, modes_in_range, module_in_range, tasks_in_range, mode_count, module_count, number_is, mode_before, each_mode, mode_numbered, mode_stands, its_mode}
+use Rattle.htl_names.proofs.Members.{In, in_next, in_back, in_part_at, All-from_places, in_front, in_mapped, All-at, all_given}
+use Rattle.htl_names.proofs.NameUses.{known, used_in_invoke, comm_period_span, initial_fits, used_in_switch, parent_stands}
+use Rattle.htl_names.proofs.Places.{program_of_module, order_of, part_in_source}
 use Rattle.std.proofs.lemmas.List.{length-map}
 use Rattle.htl_model.specs.declared.parts.Switch.{Switch}
-use Rattle.htl_model.proofs.Apart.{different, different_owned, different_pairs}
-use Rattle.htl_model.specs.Ranges.{IsCommInRange, AreInRange}
-use Rattle.htl_names.specs.Conditions.{MeetsBounds}
-use Rattle.htl_names.proofs.Ordering.{kept_limit, names-ordered}
+use Rattle.htl_model.proofs.Apart.{different, different_owned, different_pairs, different_numbers}
+use Rattle.htl_model.specs.Ranges.{IsCommInRange, AreInRange, IsPortInRange, IsEndInRange, IsInvInRange, IsModeThat, IsSwitchInRange}
+use Rattle.htl_names.specs.Conditions.{MeetsBounds, MeetsInvokeBounds}
+use Rattle.htl_names.proofs.Ordering.{kept_limit, names-ordered, instances}
+use Rattle.std.specs.Prelude.{Option, IfSome, All}
+use Rattle.htl_model.specs.Tables.{mode_module}
+use Rattle.htl_text.specs.declared.tree.Id.{Id}
+use Rattle.htl_text.specs.declared.tree.EndNode.{EndNode}
+use Rattle.htl_names.specs.Narrow.{IsNarrowEnd, IsNarrowInvoke}
+use Rattle.htl_names.specs.Nth.{mode_in}
+use Rattle.htl_names.specs.declared.place.ModuleAt.{ModuleAt}
+use Rattle.htl_names.proofs.ListLaws.{few_reads, all_of, all_distinct, none_distinct, distinct_apart, among_at}
+use Rattle.htl_text.specs.declared.tree.EndNode.TheVariants as end
 
 -- items differ by what they are called, where those called alike stand at one place
 apart_by : {B N : Type 0} (called : B → N) (ys : List B) → ((j k : ℕ) (y z : B) → slice_get ys j ≡ Some y → slice_get ys k ≡ Some z → called y ≡ called z → j ≡ k) → AreApart (map called ys)
@@ -156,6 +164,160 @@ module _ (ps : List PlainProgram) (right : AreNamesRight ps) where
       All-from_places IsCommInRange (comm_items ps) (λ k y e.
       let x = of_map comm_item (comms_of ps) k y e in
       subst IsCommInRange x.2 (record { period = comm_period_span ps right k x.0 x.1; init = initial_fits ps right k x.0 x.1 }))
+
+-- ---- ports
+
+pub ports_in_range : (ps : List PlainProgram) → All (IsPortInRange (tables_of_tree ps)) (port_items (layout ps) ps)
+ports_in_range ps =
+    all_given (IsPortInRange (tables_of_tree ps)) (λ m a. port_item m) (ports_at ps) (layout ps).modes (λ m a j x there its.
+    let within = slice_get_within (layout ps).modes m a there in
+    let size = mode_count (layout ps) ps refl in
+    omega (arith, within, size))
+
+-- ---- what a communicator's name means
+
+comm_below : (ps : List PlainProgram) → AreNamesRight ps → (id : Id) → In (comm_use id) (uses ps) → meaning (layout ps) (comm_key id.name) < length (comm_items ps)
+comm_below ps right id used =
+    let x = (known ps right (comm_use id) used).0 in
+    let within = slice_get_within (comms_of ps) (meaning (layout ps) (comm_key id.name)) x.0 x.1 in
+    let size = length-map (comms_of ps) comm_item in
+    omega (arith, within, size)
+
+-- ---- what stands in mode m of module k
+
+module _ (ps : List PlainProgram) (right : AreNamesRight ps) (ordered : IsOrdered (symbols_of ps) ps (order (symbols_of ps) ps))
+    (k m : ℕ) (s : ModuleAt) (x : PlainMode) (there : slice_get (layout ps).modules k ≡ Some s) (its : slice_get (modes_in ps s) m ≡ Some x) where
+  abbrev a : ModeAt
+  a = mode_in s m
+
+  abbrev n : ℕ
+  n = modes_before (layout ps) ps k + m
+
+  stands_there : slice_get (layout ps).modes n ≡ Some a
+  stands_there = mode_numbered (layout ps) ps refl k m s there (slice_get_within (modes_in ps s) m x its)
+
+  owner : mode_module (tables_of_tree ps) n ≡ k
+  owner = ap (λ o. elim o [ Some x ↦ x.«module» | None ↦ 0 ]) (mode_stands (layout ps) ps k m s x there its)
+
+  number : module_number (layout ps) s.program s.«module» ≡ k
+  number = number_is ps ordered k s there
+
+  within : n < length (mode_items (layout ps) ps)
+  within = slice_get_within (mode_items (layout ps) ps) n _ (mode_stands (layout ps) ps k m s x there its)
+
+  task_in_module : (j : ℕ) (i : InvokeNode) → slice_get (invokes_at ps a) j ≡ Some i
+      → (t : Task) × (slice_get (task_items (layout ps) ps) (tasks_before (layout ps) ps (module_number (layout ps) s.program s.«module») + meaning (layout ps) (task_key s.program s.«module» i.task.name)) ≡ Some t)
+      × (t.«module» ≡ mode_module (tables_of_tree ps) n)
+  task_in_module j i at =
+      let l = layout ps in
+      let use_of = usage (task_key s.program s.«module» i.task.name) i.task in
+      let t = (known ps right use_of (used_in_invoke ps use_of a j i at (0, refl))).0 in (
+        task_item k t.0,
+        ap (λ (q : ℕ). slice_get (task_items l ps) (tasks_before l ps q + meaning l use_of.key)) number
+            ∙ stands (λ k s. task_item k) (tasks_in ps) l.modules k (meaning l use_of.key) s t.0 there t.1,
+        sym owner,
+      )
+
+  end_in_range : (e : EndNode) → In (end_use s.program s.«module» m e) (uses ps) → IsNarrowEnd e → IsEndInRange (tables_of_tree ps) n (end_item (layout ps) ps n a e)
+  end_in_range (end.Comm comm instance) used few = (comm_below ps right comm used, few)
+  end_in_range (end.Port port) used few =
+      let key = port_key s.program s.«module» m port.name in
+      let y = (known ps right (usage key port) used).0 in
+      (port_item n y.0, stands (λ m a. port_item m) (ports_at ps) (layout ps).modes n (meaning (layout ps) key) a y.0 stands_there y.1, refl)
+
+  ends_in_range : (es : List EndNode) → ((j : ℕ) (e : EndNode) → slice_get es j ≡ Some e → In (end_use s.program s.«module» m e) (uses ps)) → All IsNarrowEnd es
+      → All (IsEndInRange (tables_of_tree ps) n) (map (end_item (layout ps) ps n a) es)
+  ends_in_range es used narrow =
+      All-from_places (IsEndInRange (tables_of_tree ps) n) (map (end_item (layout ps) ps n a) es) (λ j y at.
+      let e = of_map (end_item (layout ps) ps n a) es j y at in
+      subst (IsEndInRange (tables_of_tree ps) n) e.2 (end_in_range e.0 (used j e.0 e.1) (All-at IsNarrowEnd es j e.0 narrow e.1)))
+
+  parent_within : (j : ℕ) (i : InvokeNode) → slice_get (invokes_at ps a) j ≡ Some i → (o : Option Id) → i.parent ≡ o
+      → IfSome (elim o [ Some id ↦ parent_number (layout ps) ps (refined_mode (layout ps) s.program s.«module») id | None ↦ None ]) (λ p. p < length (invoke_items (layout ps) ps))
+  parent_within j i at None is = tt
+  parent_within j i at (Some id) is = subst Goal (sym refined_is) (by s.parent refl)
+    where
+      Goal : Option ModeAt → Type 0
+      Goal o = IfSome (parent_number (layout ps) ps o id) (λ p. p < length (invoke_items (layout ps) ps))
+
+      refined_is : refined_mode (layout ps) s.program s.«module» ≡ s.parent
+      refined_is =
+          ap (λ (q : ℕ). elim (slice_get (layout ps).modules q) [ Some r ↦ r.parent | None ↦ None ]) number ∙ ap (λ o. elim o [ Some r ↦ r.parent | None ↦ None ]) there
+
+      by : (o : Option ModeAt) → s.parent ≡ o → Goal o
+      by None none = tt
+      by (Some b) some =
+          let before = mode_before ps ordered k b (ordered.parents k s b there some) in
+          let y = parent_stands ps right a j i id at is b (ordered.refined k s b there some) in
+          slice_get_within (invoke_items (layout ps) ps) _ _ (stands (invoke_item (layout ps) ps) (invokes_at ps) (layout ps).modes (mode_number (layout ps) ps b) _ b y.0 before.there y.1)
+
+  module _ (small : MeetsBounds ps) where
+    invoke_in_range : (j : ℕ) (i : InvokeNode) → slice_get (invokes_at ps a) j ≡ Some i → IsInvInRange (tables_of_tree ps) (invoke_item (layout ps) ps n a i)
+    invoke_in_range j i at =
+        let q = part_in_source (λ (z : PlainMode). z.invokes) ps a j i at in
+        let few = All-at MeetsInvokeBounds (invokes_of (modes_of (modules_of ps))) (q.0 + j) i small.invokes q.1 in
+        let narrow = All-at IsNarrowInvoke (invokes_at ps a) j i (instances ps right a) at in
+        let reads = length-map i.reads (end_item (layout ps) ps n a) in
+        let writes = length-map i.writes (end_item (layout ps) ps n a) in
+        record {
+          owner = within;
+          task = task_in_module j i at;
+          parent = parent_within j i at i.parent refl;
+          reads = ends_in_range i.reads (λ p e own. used_in_invoke ps _ a j i at (in_next _ _ (in_front _ _ (in_mapped (end_use s.program s.«module» m) i.reads p e own)))) narrow.reads;
+          writes = ends_in_range i.writes (λ p e own. used_in_invoke ps _ a j i at (in_next _ _ (in_back _ _ (in_mapped (end_use s.program s.«module» m) i.writes p e own)))) narrow.writes;
+          few_reads = omega (arith, reads, few.reads);
+          few_writes = omega (arith, writes, few.writes);
+        }
+
+    switch_in_range : (j : ℕ) (w : PlainSwitch) → slice_get (switches_at ps a) j ≡ Some w → IsSwitchInRange (tables_of_tree ps) (switch_item (layout ps) ps n a w)
+    switch_in_range j w at =
+        let names = (switch_small ps small a j w at).names in
+        let fewer = few_reads ps w.cond in
+        record {
+          owner = within;
+          target = target;
+          reads = reads;
+          different = different_numbers (comms_in (layout ps) w.cond) (distinct_apart (comms_in (layout ps) w.cond) (all_distinct [] (map number_of (names_of w.cond)) none_distinct));
+          few_reads = omega (arith, fewer, names);
+        }
+      where
+        target : IsModeThat (tables_of_tree ps) (λ o. o ≡ mode_module (tables_of_tree ps) n)
+            (modes_before (layout ps) ps (module_number (layout ps) s.program s.«module») + meaning (layout ps) (mode_key s.program s.«module» w.target.name))
+        target =
+            let use_of = usage (mode_key s.program s.«module» w.target.name) w.target in
+            let y = (known ps right use_of (used_in_switch ps use_of a j w at (in_back (map comm_use (names_of w.cond)) _ (0, refl)))).0 in
+            let is_own : ℕ → Type 0 = λ o. o ≡ mode_module (tables_of_tree ps) n in
+            subst (λ (q : ℕ). IsModeThat (tables_of_tree ps) is_own (modes_before (layout ps) ps q + meaning (layout ps) use_of.key)) (sym number)
+            (its_mode ps k (meaning (layout ps) use_of.key) s y.0 is_own (sym owner) there y.1)
+
+        number_of : Id → ℕ
+        number_of id = meaning (layout ps) (comm_key id.name)
+
+        is_comm : ℕ → Type 0
+        is_comm c = c < length (comm_items ps)
+
+        reads : All is_comm (comms_in (layout ps) w.cond)
+        reads =
+            All-from_places is_comm (comms_in (layout ps) w.cond) (λ q c e.
+            all_of is_comm [] (map number_of (names_of w.cond)) (λ y none. cc) (λ y i.
+            let id = of_map number_of (names_of w.cond) i.0 y i.1 in
+            subst is_comm id.2 (comm_below ps right id.0 (used_in_switch ps _ a j w at (in_front _ _ (in_mapped comm_use (names_of w.cond) i.0 id.0 id.1)))))
+            c (among_at (comms_in (layout ps) w.cond) q c e))
+
+-- ---- invocations and switches
+
+module _ (ps : List PlainProgram) (small : MeetsBounds ps) (right : AreNamesRight ps) (ordered : IsOrdered (symbols_of ps) ps (order (symbols_of ps) ps)) where
+  pub invokes_in_range : All (IsInvInRange (tables_of_tree ps)) (invoke_items (layout ps) ps)
+  invokes_in_range =
+      all_given (IsInvInRange (tables_of_tree ps)) (invoke_item (layout ps) ps) (invokes_at ps) (layout ps).modes (λ n a j i at its.
+      each_mode (layout ps) ps refl (λ n a. (j : ℕ) (i : InvokeNode) → slice_get (invokes_at ps a) j ≡ Some i → IsInvInRange (tables_of_tree ps) (invoke_item (layout ps) ps n a i))
+      (λ k m s x there own. invoke_in_range ps right ordered k m s x there own small) n a at j i its)
+
+  pub switches_in_range : All (IsSwitchInRange (tables_of_tree ps)) (switch_items (layout ps) ps)
+  switches_in_range =
+      all_given (IsSwitchInRange (tables_of_tree ps)) (switch_item (layout ps) ps) (switches_at ps) (layout ps).modes (λ n a j w at its.
+      each_mode (layout ps) ps refl (λ n a. (j : ℕ) (w : PlainSwitch) → slice_get (switches_at ps a) j ≡ Some w → IsSwitchInRange (tables_of_tree ps) (switch_item (layout ps) ps n a w))
+      (λ k m s x there own. switch_in_range ps right ordered k m s x there own small) n a at j w its)
 
 -- ---- all of them
 

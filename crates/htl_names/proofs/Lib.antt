@@ -9,7 +9,6 @@ mod RuleLaws
 mod FlatMaps
 mod Growing
 pub mod InRange
-mod ModeRanges
 pub mod KeepsLimits
 mod SymbolLaws
 mod NameUses

@@ -1,5 +1,5 @@
 -- Where no name rule is broken the names that a tree uses are known, and its numbers and values of their kinds.
-use Rattle.std.proofs.Common.{◌≡◌, ◌<◌, ◌≤◌, ℕ, List, slice_get, Some, None, refl, sym, subst, ap, inl, inr, ℤ, pos, negsuc, Bool, true, false, leb, leb-true}
+use Rattle.std.proofs.Common.{◌≡◌, ◌<◌, ◌≤◌, ℕ, List, slice_get, Some, None, refl, ap, inl, inr, ℤ, pos, negsuc, true, false, leb, leb-true, zero, suc, [], ◌∷◌, ◌∙◌}
 use Rattle.std.specs.Prelude.{Option, MatchOption}
 use Rattle.std.specs.List.{flat_map}
 use Rattle.htl_text.specs.Bounds.{comms_of}
@@ -10,10 +10,10 @@ use Rattle.htl_names.specs.declared.key.Use.{Use}
 use Rattle.htl_names.specs.Flat.{symbols_of, layout, meaning, size_of, value_of}
 use Rattle.htl_names.proofs.EntryLaws.{Stands, means}
 use Rattle.htl_names.specs.declared.place.ModeAt.{ModeAt}
-use Rattle.htl_names.specs.Keys.{look_up}
-use Rattle.htl_names.specs.NameRules.{AreNamesRight, UnknownName, WrongKind}
+use Rattle.htl_names.specs.Keys.{look_up, invoke_key}
+use Rattle.htl_names.specs.NameRules.{AreNamesRight, UnknownName, WrongKind, ParentName}
 use Rattle.htl_names.specs.Order.{module_at, tasks_at, modes_at, mode_at, invokes_at, switches_at}
-use Rattle.htl_names.specs.Uses.{task_uses, invoke_uses, switch_uses, program_use, mode_uses, module_uses, program_uses, uses, IsUnknown}
+use Rattle.htl_names.specs.Uses.{task_uses, invoke_uses, switch_uses, program_use, mode_uses, module_uses, program_uses, uses}
 use Rattle.htl_names.proofs.Members.{In, in_next, in_front, in_back, in_mapped, in_part, in_part_at}
 use Rattle.htl_names.proofs.Places.{part_there, program_of_module, module_of_task, module_of_mode, not_below}
 use Rattle.std.proofs.lemmas.Bool.{and_parts, true_from_ne_false}
@@ -28,6 +28,9 @@ use Rattle.htl_names.specs.declared.fault.NameFault.TheVariants as fault
 use Rattle.htl_base.specs.declared.Ty.TheVariants as ty
 use Rattle.htl_text.specs.declared.tree.ConstNode.TheVariants as const
 use Rattle.htl_text.specs.declared.tree.EndNode.TheVariants as end
+use Rattle.htl_names.specs.Parents.{ParentUse, parents, IsOrphan, parent_in, invoke_parent, mode_parents, module_parents, program_parents}
+use Rattle.htl_names.specs.Programs.{refined_by}
+use Rattle.htl_names.specs.declared.key.Key.{Key}
 
 -- ---- a use is known
 
@@ -69,6 +72,37 @@ module _ (ps : List PlainProgram) (u : Use) where
   used_in_switch a j s there at =
       let x = part_there (λ (z : PlainMode). z.switches) (mode_at ps a) j s there in
       used_in_mode a x.0 x.1 (in_back (program_use x.0.program) _ (in_back _ _ (in_part (switch_uses a.program a.«module») x.0.switches j s x.2 at)))
+
+-- ---- a name after `parent` that is no orphan
+
+abbrev use_of : ℕ → Id → ParentUse
+use_of p id = record { program = p; id = id }
+
+-- in an invocation of a program that refines mode b
+pub parent_stands : (ps : List PlainProgram) → AreNamesRight ps → (a : ModeAt) (j : ℕ) (i : InvokeNode) (id : Id) → slice_get (invokes_at ps a) j ≡ Some i → i.parent ≡ Some id
+    → (b : ModeAt) → refined_by (symbols_of ps) ps a.program ≡ Some b
+    → (y : InvokeNode) × (slice_get (invokes_at ps b) (meaning (layout ps) (invoke_key b.program b.«module» b.mode id.name)) ≡ Some y)
+parent_stands ps right a j i id its is b refined = by (look_up key (symbols_of ps)) refl
+  where
+    key : Key
+    key = invoke_key b.program b.«module» b.mode id.name
+
+    used : In (use_of a.program id) (parents ps)
+    used =
+        let x = part_there (λ (z : PlainMode). z.invokes) (mode_at ps a) j i its in
+        let o = module_of_mode ps a.program a.«module» a.mode x.0 x.1 in
+        let q = program_of_module ps a.program a.«module» o.0 o.1 in
+        let own : In (use_of a.program id) (invoke_parent a.program i) = (0, ap (λ o. slice_get (elim o [ Some n ↦ use_of a.program n ∷ [] | None ↦ [] ]) 0) is) in
+        in_part_at program_parents ps a.program q.0 q.1 (in_part (module_parents a.program) q.0.modules a.«module» o.0 q.2
+        (in_part (mode_parents a.program) o.0.modes a.mode x.0 o.2 (in_part (invoke_parent a.program) x.0.invokes j i x.2 own)))
+
+    orphan : (p : ℕ) → refined_by (symbols_of ps) ps p ≡ Some b → look_up key (symbols_of ps) ≡ None → IsOrphan (symbols_of ps) ps p id
+    orphan zero r none = tt
+    orphan (suc p) r none = ap (λ o. parent_in (symbols_of ps) o id.name) r ∙ none
+
+    by : (o : Option ℕ) → look_up key (symbols_of ps) ≡ o → (y : InvokeNode) × (slice_get (invokes_at ps b) (meaning (layout ps) key) ≡ Some y)
+    by None none = absurd (right ParentName used.0 (fault.Unknown id.token) (use_of a.program id, used.1, orphan a.program refined none, refl))
+    by (Some n) some = let y = means ps key n some in (y.0, y.1)
 
 -- ---- what is judged is of its kind
 

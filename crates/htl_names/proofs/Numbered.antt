@@ -1,26 +1,25 @@
 -- Which items the numbers of the tables name; the modules, modes and tasks of the tables are in range.
-use Rattle.std.proofs.Common.{◌≡◌, ◌<◌, ◌+◌, ℕ, zero, suc, Bool, true, false, cond, List, [], ◌∷◌, length, take, slice_get, Some, None, refl, sym, ◌∙◌, ap, subst, arith, length-append, ◌≤◌}
+use Rattle.std.proofs.Common.{◌≡◌, ◌<◌, ◌+◌, ℕ, zero, suc, true, List, [], ◌∷◌, length, take, slice_get, Some, None, refl, sym, ◌∙◌, ap, subst, arith, length-append, ◌≤◌}
 use Rattle.std.specs.List.{flat_map}
 use Rattle.std.proofs.lemmas.Bool.{and_from, and_parts, eq-eqb, eqb-true}
-use Rattle.std.specs.Prelude.{eqb}
+use Rattle.std.specs.Prelude.{eqb, Option, IfSome, All}
 use Rattle.std.proofs.lemmas.List.{length-take-le, length-map}
 use Rattle.std.proofs.lemmas.Option.{slice_get_within, same_Some}
-use Rattle.htl_text.specs.Nodes.{PlainProgram, PlainModule, PlainMode, PlainTask}
+use Rattle.htl_text.specs.Nodes.{PlainProgram, PlainModule, PlainMode, PlainTask, PlainSwitch}
 use Rattle.htl_names.specs.declared.place.ModeAt.{ModeAt}
 use Rattle.htl_names.specs.declared.place.ModuleAt.{ModuleAt}
 use Rattle.htl_names.specs.Flat.{Layout, is_module, module_number, modes_before, mode_item, mode_items, module_item, module_items_at, module_items, layout, symbols_of, meaning, mode_number, task_item, task_items, tables_of_tree}
-use Rattle.htl_names.specs.Lists.{flat_map_at, place_in}
-use Rattle.htl_names.specs.Order.{module_at, tasks_at, modes_at, module_modes, mode_order, order}
+use Rattle.htl_names.specs.Lists.{flat_map_at}
+use Rattle.htl_names.specs.Order.{module_at, tasks_at, modes_at, module_modes, mode_order, order, switches_at}
 use Rattle.htl_names.specs.Ordered.{Exists, IsOrdered, StandsBefore}
 use Rattle.htl_names.proofs.FlatMaps.{in_front, at_part, at_flat, flat_part, flat_map_is, same_length, there_is, list_to_at, of_list_to, counted, stands}
 use Rattle.htl_model.proofs.Listed.{length-list_to}
-use Rattle.std.specs.Prelude.{Option, IfSome, All}
 use Rattle.htl_model.specs.declared.parts.Mode.{Mode}
 use Rattle.htl_model.specs.declared.parts.Module.{Module}
 use Rattle.htl_model.specs.Ranges.{IsModeInRange, IsModeThat, IsModuleInRange, IsTaskInRange, parent_of, is_within}
 use Rattle.htl_model.specs.Tables.{Tables, mode_module}
-use Rattle.htl_text.specs.Bounds.{modules_of, tasks_of, out_params}
-use Rattle.htl_names.specs.Conditions.{MeetsBounds, MeetsTaskBounds}
+use Rattle.htl_text.specs.Bounds.{modules_of, tasks_of, out_params, switches_of, modes_of}
+use Rattle.htl_names.specs.Conditions.{MeetsBounds, MeetsTaskBounds, MeetsSwitchBounds}
 use Rattle.htl_names.specs.Keys.{mode_key}
 use Rattle.htl_names.specs.NameRules.{AreNamesRight}
 use Rattle.htl_names.specs.Programs.{naming, Naming, level, refined_in}
@@ -29,7 +28,7 @@ use Rattle.htl_names.proofs.NameUses.{worst_span, mode_period_span, known, used_
 use Rattle.htl_names.specs.Nth.{mode_in}
 use Rattle.htl_names.proofs.ListLaws.{place_found}
 use Rattle.std.proofs.lemmas.Map.Keys.{any_passes_from_place}
-use Rattle.htl_names.proofs.Places.{program_of_module, task_in_source}
+use Rattle.htl_names.proofs.Places.{program_of_module, task_in_source, part_in_source}
 use Rattle.htl_names.proofs.Members.{All-at, all_given}
 
 -- ---- modes and tasks of a module
@@ -262,6 +261,11 @@ module_in_range ps right ordered =
 module _ (ps : List PlainProgram) (small : MeetsBounds ps) where
   pub task_small : (p u k : ℕ) (t : PlainTask) → slice_get (tasks_at ps p u) k ≡ Some t → MeetsTaskBounds t
   task_small p u k t e = let n = task_in_source ps p u k t e in All-at MeetsTaskBounds (tasks_of (modules_of ps)) (n.0 + k) t small.tasks n.1
+
+  pub switch_small : (a : ModeAt) (j : ℕ) (w : PlainSwitch) → slice_get (switches_at ps a) j ≡ Some w → MeetsSwitchBounds w
+  switch_small a j w at =
+      let n = part_in_source (λ (z : PlainMode). z.switches) ps a j w at in
+      All-at MeetsSwitchBounds (switches_of (modes_of (modules_of ps))) (n.0 + j) w small.switches n.1
 
   module _ (right : AreNamesRight ps) (ordered : IsOrdered (symbols_of ps) ps (order (symbols_of ps) ps)) where
     owner_within : (k : ℕ) (s : ModuleAt) → slice_get (layout ps).modules k ≡ Some s → k < length (module_items (layout ps) ps)

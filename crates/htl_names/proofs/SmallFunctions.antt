@@ -1,12 +1,11 @@
 -- The functions of a source have few nodes, and arguments that are there.
-use Rattle.std.proofs.Common.{◌≡◌, ◌≤◌, ◌<◌, ◌+◌, ◌||◌, ℕ, zero, suc, Bool, length-append, true, false, cond, eqb, List, [], ◌∷◌, ◌++◌, length, map, slice_get, Option, Some, None, refl, sym, ◌∙◌, ap, ap₂, subst, arith}
-use Rattle.std.specs.List.{flat_map, list_any, All, AllZip}
+use Rattle.std.proofs.Common.{◌≡◌, ◌≤◌, ◌<◌, ◌+◌, ℕ, zero, suc, Bool, length-append, true, false, cond, eqb, List, [], ◌∷◌, ◌++◌, length, map, slice_get, Option, Some, None, refl, sym, ◌∙◌, ap, ap₂, subst, arith}
+use Rattle.std.specs.List.{flat_map, All, AllZip}
 use Rattle.std.proofs.lemmas.List.Folds.{flat_map-map}
 use Rattle.std.proofs.lemmas.Simd.{map-map}
 use Rattle.std.proofs.lemmas.Option.{MatchOption-at_some, slice_get_within}
 use Rattle.std.proofs.lemmas.Slice.Zip.{AllZip-right, AllZip-long}
 use Rattle.std.specs.Option.{IsSomeAnd}
-use Rattle.std.specs.Prelude.{MatchOption}
 use Rattle.htl_base.specs.declared.Ty.TheVariants.{Bool as BoolTy}
 use Rattle.htl_text.specs.declared.tree.ParamNode.{ParamNode}
 use Rattle.std.proofs.lemmas.List.{length-map}
@@ -18,14 +17,12 @@ use Rattle.htl_model.specs.Tables.{Tables, Fun, Formula, Compiled, function_coun
 use Rattle.htl_model.specs.declared.parts.Task.{Task}
 use Rattle.htl_names.proofs.FlatMaps.{get_front, get_back, flat_map_is, flat_map_parts}
 use Rattle.htl_names.proofs.Members.{In, in_part, in_mapped, at_place, All-at, All-from_places, map_flat_map_at}
-use Rattle.htl_names.proofs.Numbered.{task_small, tasks_in}
+use Rattle.htl_names.proofs.Numbered.{task_small, switch_small, tasks_in}
 use Rattle.htl_model.proofs.PlaceLaws.{get_mapped}
-use Rattle.htl_names.proofs.ModeRanges.{switch_small}
 use Rattle.htl_names.proofs.NameUses.{known, used_in_task}
 use Rattle.htl_names.specs.Conditions.{MeetsBounds, MeetsTaskBounds}
 use Rattle.htl_names.specs.Flat.{Layout, layout, meaning, term_by, types_of, is_abstract, task_item, task_items, module_task_items, switch_items, function_items, input_place, flat_output_function, outs_functions, task_functions, module_functions, comms_in, switch_item, mode_switch_items, read_place, flat_switch_function, mode_functions, tables_of_tree}
 use Rattle.htl_names.specs.Keys.{comm_key}
-use Rattle.htl_names.specs.Lists.{place_in}
 use Rattle.htl_names.specs.NameRules.{AreNamesRight}
 use Rattle.htl_names.specs.Order.{tasks_at, switches_at}
 use Rattle.htl_names.specs.Uses.{input_use, output_uses, outputs_uses}
