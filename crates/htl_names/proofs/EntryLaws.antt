@@ -12,7 +12,7 @@ use Rattle.htl_names.specs.Lists.{flat_map_at, map_at}
 use Rattle.htl_names.specs.Order.{module_at, tasks_at, modes_at, mode_at, ports_at, invokes_at}
 use Rattle.htl_names.specs.declared.place.ModeAt.{ModeAt}
 use Rattle.htl_names.proofs.FlatMaps.{at_flat, flat_part}
-use Rattle.htl_names.proofs.Members.{at_place, Each, each_at, each_append, each_flat_map_at, In, in_next, in_front, in_back, in_mapped_at, in_part_at, All-at}
+use Rattle.htl_names.proofs.Members.{at_place, Each, each_at, each_append, each_part, In, in_next, in_front, in_back, in_mapped_at, in_part_at, All-at}
 use Rattle.htl_names.proofs.Places.{part_is, part_there, module_there, tasks_there, modes_there, program_of_module, module_of_task, module_of_mode, order_of, module_in_source, task_in_source, mode_in_source, part_in_source}
 use Rattle.std.proofs.lemmas.Bool.{cond_both, cond-true}
 use Rattle.std.proofs.lemmas.Option.{slice_get_within, none-some, same_Some}
@@ -66,48 +66,44 @@ each_map_at : {B : Type 0} (P : Entry → Type 0) (f : ℕ → B → Entry) (k :
 each_map_at P f k [] h = tt
 each_map_at P f k (x ∷ xs) h = (h k 0 x (omega arith) refl, each_map_at P f (suc k) xs (λ i j y is there. h i (suc j) y (omega (arith, is)) there))
 
+each_mapped : {B : Type 0} (P : Entry → Type 0) (f : ℕ → B → Entry) (xs : List B) → ((j : ℕ) (x : B) → slice_get xs j ≡ Some x → P (f j x)) → Each P (map_at f 0 xs)
+each_mapped P f xs h = each_map_at P f 0 xs (λ i j x is its. h i x (at_place xs i j x is its))
+
 module _ (ps : List PlainProgram) where
   in_task : (p u k : ℕ) (t : PlainTask) → slice_get (tasks_at ps p u) k ≡ Some t → Each (Origin ps) (task_entries p u k t)
-  in_task p u k t there = (
-    of_task p u k t there,
-    each_map_at (Origin ps) (param_entry p u k) 0 (params_of t) (λ i j x is its. of_param p u k t there i x (at_place (params_of t) i j x is its)),
-  )
+  in_task p u k t there = (of_task p u k t there, each_mapped (Origin ps) (param_entry p u k) (params_of t) (of_param p u k t there))
 
   in_mode : (a : ModeAt) (x : PlainMode) → mode_at ps a ≡ Some x → Each (Origin ps) (mode_entries a.program a.«module» a.mode x)
   in_mode a x there = (
     of_mode a.program a.«module» a.mode x there,
-    each_append (Origin ps) (map_at (port_entry a.program a.«module» a.mode) 0 x.ports) (map_at (invoke_entry a.program a.«module» a.mode) 0 x.invokes)
-        (each_map_at (Origin ps) (port_entry a.program a.«module» a.mode) 0 x.ports (λ i j y is its.
-        of_port a i y (ap (λ qs. slice_get qs i) (part_is ps a x (λ z. z.ports) there) ∙ at_place x.ports i j y is its)))
-        (each_map_at (Origin ps) (invoke_entry a.program a.«module» a.mode) 0 x.invokes (λ i j y is its.
-        of_invoke a i y (ap (λ qs. slice_get qs i) (part_is ps a x (λ z. z.invokes) there) ∙ at_place x.invokes i j y is its))),
+    each_append (Origin ps) _ _
+        (each_mapped (Origin ps) (port_entry a.program a.«module» a.mode) x.ports (λ j y its. of_port a j y (ap (λ qs. slice_get qs j) (part_is ps a x (λ z. z.ports) there) ∙ its)))
+        (each_mapped (Origin ps) (invoke_entry a.program a.«module» a.mode) x.invokes (λ j y its. of_invoke a j y (ap (λ qs. slice_get qs j) (part_is ps a x (λ z. z.invokes) there) ∙ its))),
   )
 
   in_module : (p u : ℕ) (x : PlainModule) → module_at ps p u ≡ Some x → Each (Origin ps) (module_entries p u x)
   in_module p u x there = (
     of_module p u x there,
-    each_append (Origin ps) (flat_map_at (task_entries p u) 0 x.tasks) (flat_map_at (mode_entries p u) 0 x.modes)
-        (each_flat_map_at (Origin ps) (task_entries p u) 0 x.tasks (λ k j t is its.
-        in_task p u k t (ap (λ ts. slice_get ts k) (tasks_there ps p u x there) ∙ at_place x.tasks k j t is its)))
-        (each_flat_map_at (Origin ps) (mode_entries p u) 0 x.modes (λ m j y is its.
-        in_mode (record { program = p; «module» = u; mode = m }) y (ap (λ ms. slice_get ms m) (modes_there ps p u x there) ∙ at_place x.modes m j y is its))),
+    each_append (Origin ps) _ _
+        (each_part (Origin ps) (task_entries p u) x.tasks (λ k t its. in_task p u k t (ap (λ ts. slice_get ts k) (tasks_there ps p u x there) ∙ its)))
+        (each_part (Origin ps) (mode_entries p u) x.modes (λ m y its.
+        in_mode (record { program = p; «module» = u; mode = m }) y (ap (λ ms. slice_get ms m) (modes_there ps p u x there) ∙ its))),
   )
 
   in_program : (p : ℕ) (x : PlainProgram) → slice_get ps p ≡ Some x → Each (Origin ps) (source_entries ps p x)
-  in_program p x there =
-      let first = length (comms_of (take p ps)) in (
-        of_program p x there,
-        each_append (Origin ps) (map_at comm_entry first x.comms) (flat_map_at (module_entries p) 0 x.modules)
-            (each_map_at (Origin ps) comm_entry first x.comms (λ c j y is its.
-            of_comm c y (ap (slice_get (comms_of ps)) is ∙ at_flat (λ (q : PlainProgram). q.comms) ps p j x y there its)))
-            (each_flat_map_at (Origin ps) (module_entries p) 0 x.modules (λ u j y is its. in_module p u y (module_there ps p u x y there (at_place x.modules u j y is its)))),
-      )
+  in_program p x there = (
+    of_program p x there,
+    each_append (Origin ps) _ _
+        (each_map_at (Origin ps) comm_entry (length (comms_of (take p ps))) x.comms (λ c j y is its.
+        of_comm c y (ap (slice_get (comms_of ps)) is ∙ at_flat (λ (q : PlainProgram). q.comms) ps p j x y there its)))
+        (each_part (Origin ps) (module_entries p) x.modules (λ u y its. in_module p u y (module_there ps p u x y there its))),
+  )
 
   -- each entry comes from somewhere
   pub origin : (n : ℕ) (e : Entry) → slice_get (entries ps) n ≡ Some e → Origin ps e
   origin n e at =
       each_at (Origin ps) (flat_map_at (source_entries ps) 0 ps) n e
-      (each_flat_map_at (Origin ps) (source_entries ps) 0 ps (λ p j x is its. in_program p x (at_place ps p j x is its))) (ap (λ es. slice_get es n) (sym (entries_are ps)) ∙ at)
+      (each_part (Origin ps) (source_entries ps) ps in_program) (ap (λ es. slice_get es n) (sym (entries_are ps)) ∙ at)
 
   -- ---- each item is declared
 

@@ -101,9 +101,7 @@ part_before f k (z ∷ xs) zero (suc j) n x is less there =
     omega (arith, own, size)
 part_before f k (z ∷ xs) (suc i) (suc j) n x is less there =
     let later = part_before f (suc k) xs i j n x (omega (arith, is)) (omega (arith, less)) there in
-    let one = length-append (f k z) (flat_map_at f (suc k) (take i xs)) in
-    let two = length-append (f k z) (flat_map_at f (suc k) (take j xs)) in
-    omega (arith, later, one, two)
+    omega (arith, later, length-append (f k z) (flat_map_at f (suc k) (take i xs)), length-append (f k z) (flat_map_at f (suc k) (take j xs)))
 
 -- where an item stands: in which part, at which place of it, and behind how many items
 pub record Part {A B : Type 0} (f : ℕ → A → List B) (before : ℕ → ℕ) (xs : List A) (n : ℕ) (y : B) : Type 0 where
@@ -145,11 +143,7 @@ pub same_length : {A B C : Type 0} (f : ℕ → A → List B) (g : A → List C)
     → length (flat_map_at f k xs) ≡ length (flat_map g xs)
 same_length f g same k [] = refl
 same_length f g same k (x ∷ xs) =
-    let one = length-append (f k x) (flat_map_at f (suc k) xs) in
-    let two = length-append (g x) (flat_map g xs) in
-    let own = same k x in
-    let rest = same_length f g same (suc k) xs in
-    omega (arith, one, two, own, rest)
+    omega (arith, length-append (f k x) (flat_map_at f (suc k) xs), length-append (g x) (flat_map g xs), same k x, same_length f g same (suc k) xs)
 
 -- what a front gives is no longer
 pub take_length : {A B : Type 0} (f : A → List B) (k : ℕ) (xs : List A) → length (flat_map f (take k xs)) ≤ length (flat_map f xs)
@@ -159,15 +153,11 @@ take_length f k xs = omega (arith, simp (flat_map-append, length-append) at (ap 
 pub flat_map_shorter : {A B C : Type 0} (f : A → List B) (g : A → List C) → ((x : A) → length (f x) ≤ length (g x)) → (xs : List A) → length (flat_map f xs) ≤ length (flat_map g xs)
 flat_map_shorter f g le [] = omega arith
 flat_map_shorter f g le (x ∷ xs) =
-    let a = length-append (f x) (flat_map f xs) in
-    let b = length-append (g x) (flat_map g xs) in
-    let c = le x in
-    let d = flat_map_shorter f g le xs in
-    omega (arith, a, b, c, d)
+    omega (arith, length-append (f x) (flat_map f xs), length-append (g x) (flat_map g xs), le x, flat_map_shorter f g le xs)
 
 pub flat_map_single_shorter : {A B : Type 0} (f : A → List B) → ((x : A) → length (f x) ≤ 1) → (xs : List A) → length (flat_map f xs) ≤ length xs
 flat_map_single_shorter f le [] = omega arith
-flat_map_single_shorter f le (x ∷ xs) = let a = length-append (f x) (flat_map f xs) in let c = le x in let d = flat_map_single_shorter f le xs in omega (arith, a, c, d)
+flat_map_single_shorter f le (x ∷ xs) = omega (arith, length-append (f x) (flat_map f xs), le x, flat_map_single_shorter f le xs)
 
 -- ---- parts that know nothing of their place
 

@@ -11,7 +11,6 @@ use Rattle.htl_model.specs.declared.parts.Inv.{Inv}
 use Rattle.htl_text.specs.Bounds.{comms_of, modules_of, modes_of, invokes_of, names_of}
 use Rattle.htl_text.specs.declared.tree.InvokeNode.{InvokeNode}
 use Rattle.htl_names.specs.declared.place.ModeAt.{ModeAt}
-use Rattle.std.specs.List.{All}
 use Rattle.htl_text.specs.Nodes.{PlainProgram, PlainModule, PlainTask, PlainMode, PlainSwitch}
 use Rattle.htl_names.specs.declared.key.Entry.{Entry}
 use Rattle.htl_names.specs.Entries.{entry, module_entries, comm_entry}
@@ -257,28 +256,24 @@ module _ (ps : List PlainProgram) (right : AreNamesRight ps) (ordered : IsOrdere
         let q = part_in_source (λ (z : PlainMode). z.invokes) ps a j i at in
         let few = All-at MeetsInvokeBounds (invokes_of (modes_of (modules_of ps))) (q.0 + j) i small.invokes q.1 in
         let narrow = All-at IsNarrowInvoke (invokes_at ps a) j i (instances ps right a) at in
-        let reads = length-map i.reads (end_item (layout ps) ps n a) in
-        let writes = length-map i.writes (end_item (layout ps) ps n a) in
         record {
           owner = within;
           task = task_in_module j i at;
           parent = parent_within j i at i.parent refl;
           reads = ends_in_range i.reads (λ p e own. used_in_invoke ps _ a j i at (in_next _ _ (in_front _ _ (in_mapped (end_use s.program s.«module» m) i.reads p e own)))) narrow.reads;
           writes = ends_in_range i.writes (λ p e own. used_in_invoke ps _ a j i at (in_next _ _ (in_back _ _ (in_mapped (end_use s.program s.«module» m) i.writes p e own)))) narrow.writes;
-          few_reads = omega (arith, reads, few.reads);
-          few_writes = omega (arith, writes, few.writes);
+          few_reads = omega (arith, length-map i.reads (end_item (layout ps) ps n a), few.reads);
+          few_writes = omega (arith, length-map i.writes (end_item (layout ps) ps n a), few.writes);
         }
 
     switch_in_range : (j : ℕ) (w : PlainSwitch) → slice_get (switches_at ps a) j ≡ Some w → IsSwitchInRange (tables_of_tree ps) (switch_item (layout ps) ps n a w)
     switch_in_range j w at =
-        let names = (switch_small ps small a j w at).names in
-        let fewer = few_reads ps w.cond in
         record {
           owner = within;
           target = target;
           reads = reads;
           different = different_numbers (comms_in (layout ps) w.cond) (distinct_apart (comms_in (layout ps) w.cond) (all_distinct [] (map number_of (names_of w.cond)) none_distinct));
-          few_reads = omega (arith, fewer, names);
+          few_reads = omega (arith, few_reads ps w.cond, (switch_small ps small a j w at).names);
         }
       where
         target : IsModeThat (tables_of_tree ps) (λ o. o ≡ mode_module (tables_of_tree ps) n)
@@ -325,22 +320,14 @@ pub names-in-range : (ps : List PlainProgram) → MeetsBounds ps → AreNamesRig
 names-in-range ps small right =
     let l = layout ps in
     let ordered = names-ordered ps right in
-    let comms = length-map (comms_of ps) comm_item in
-    let few_comms = kept_limit ps right 0 (length (comms_of ps)) 1024 refl refl in
-    let modules = module_count l ps (modules_exist ps ordered) in
-    let modes = mode_count l ps refl in
-    let ports = counted (λ m a. port_item m) (ports_at ps) l.modes in
-    let tasks = counted (λ k s. task_item k) (tasks_in ps) l.modules in
-    let invs = counted (invoke_item l ps) (invokes_at ps) l.modes in
-    let switches = counted (switch_item l ps) (switches_at ps) l.modes in
     record {
-      few_comms = omega (arith, comms, few_comms);
-      few_modules = omega (arith, modules, ordered.few_modules);
-      few_modes = omega (arith, modes, ordered.few_modes);
-      few_ports = omega (arith, ports, ordered.few_ports);
-      few_tasks = omega (arith, tasks, ordered.few_tasks);
-      few_invs = omega (arith, invs, ordered.few_invokes);
-      few_switches = omega (arith, switches, ordered.few_switches);
+      few_comms = omega (arith, length-map (comms_of ps) comm_item, kept_limit ps right 0 (length (comms_of ps)) 1024 refl refl);
+      few_modules = omega (arith, module_count l ps (modules_exist ps ordered), ordered.few_modules);
+      few_modes = omega (arith, mode_count l ps refl, ordered.few_modes);
+      few_ports = omega (arith, counted (λ m a. port_item m) (ports_at ps) l.modes, ordered.few_ports);
+      few_tasks = omega (arith, counted (λ k s. task_item k) (tasks_in ps) l.modules, ordered.few_tasks);
+      few_invs = omega (arith, counted (invoke_item l ps) (invokes_at ps) l.modes, ordered.few_invokes);
+      few_switches = omega (arith, counted (switch_item l ps) (switches_at ps) l.modes, ordered.few_switches);
       few_in_mode = λ m. few_owned (invoke_item l ps) (invokes_at ps) (λ (i : Inv). i.mode) (λ n a i. refl) m 128 l.modes ordered.few_in_mode;
       comm_names = different (map (λ (c : Comm). c.name) (comm_items ps)) (comm_names_apart ps right);
       module_names = different (map (λ (x : Module). x.name) (module_items l ps)) (module_names_apart ps right ordered);

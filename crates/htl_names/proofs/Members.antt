@@ -86,6 +86,10 @@ module _ {A : Type 0} (P : A → Type 0) where
       each_append (f k x) (flat_map_at f (suc k) xs) (h k 0 x (omega arith) refl)
       (each_flat_map_at f (suc k) xs (λ i j y e s. h i (suc j) y (omega (arith, e)) s))
 
+  -- of each part, numbered from 0
+  pub each_part : {B : Type 0} (f : ℕ → B → List A) (xs : List B) → ((i : ℕ) (x : B) → slice_get xs i ≡ Some x → Each P (f i x)) → Each P (flat_map_at f 0 xs)
+  each_part f xs h = each_flat_map_at f 0 xs (λ i j x is there. h i x (at_place xs i j x is there))
+
   -- ---- from all to one
 
   pub each_of_places : (xs : List A) → ((k : ℕ) (x : A) → slice_get xs k ≡ Some x → P x) → Each P xs

@@ -105,10 +105,7 @@ module _ (l : Layout) (ps : List PlainProgram) (laid : IsLaid l ps) where
 singles : {A B : Type 0} (f : ℕ → A → List B) (xs : List A) → ((i : ℕ) (x : A) → slice_get xs i ≡ Some x → (k : ℕ) → length (f k x) ≡ 1) → (k : ℕ) → length (flat_map_at f k xs) ≡ length xs
 singles f [] one k = refl
 singles f (x ∷ xs) one k =
-    let size = length-append (f k x) (flat_map_at f (suc k) xs) in
-    let own = one 0 x refl k in
-    let rest = singles f xs (λ i y e. one (suc i) y e) (suc k) in
-    omega (arith, size, own, rest)
+    omega (arith, length-append (f k x) (flat_map_at f (suc k) xs), one 0 x refl k, singles f xs (λ i y e. one (suc i) y e) (suc k))
 
 -- each module is a module of the source
 abbrev pub AreModules : List PlainProgram → List ModuleAt → Type 0
@@ -270,9 +267,7 @@ module _ (ps : List PlainProgram) (small : MeetsBounds ps) where
   module _ (right : AreNamesRight ps) (ordered : IsOrdered (symbols_of ps) ps (order (symbols_of ps) ps)) where
     owner_within : (k : ℕ) (s : ModuleAt) → slice_get (layout ps).modules k ≡ Some s → k < length (module_items (layout ps) ps)
     owner_within k s there =
-        let within = slice_get_within (layout ps).modules k s there in
-        let size = module_count (layout ps) ps (modules_exist ps ordered) in
-        omega (arith, within, size)
+        omega (arith, slice_get_within (layout ps).modules k s there, module_count (layout ps) ps (modules_exist ps ordered))
 
     pub modes_in_range : All (IsModeInRange (tables_of_tree ps)) (mode_items (layout ps) ps)
     modes_in_range =
@@ -283,11 +278,9 @@ module _ (ps : List PlainProgram) (small : MeetsBounds ps) where
     tasks_in_range =
         all_given (IsTaskInRange (tables_of_tree ps)) (λ k s. task_item k) (tasks_in ps) (layout ps).modules (λ k s j t there its.
         let few = task_small s.program s.«module» j t its in
-        let inputs = length-map t.inputs (λ x. x.ty) in
-        let outputs = length-map (out_params t.outputs) (λ x. x.ty) in
         record {
           owner = owner_within k s there;
           worst = worst_span ps right s.program s.«module» j t its;
-          few_inputs = omega (arith, inputs, few.inputs);
-          few_outputs = omega (arith, outputs, few.outputs);
+          few_inputs = omega (arith, length-map t.inputs (λ x. x.ty), few.inputs);
+          few_outputs = omega (arith, length-map (out_params t.outputs) (λ x. x.ty), few.outputs);
         })
