@@ -28,6 +28,7 @@ use Rattle.htl_names.proofs.FlatMaps.{of_map}
 use Rattle.std.proofs.lemmas.List.Sums.{sum_by-cons, sum_by-set}
 use Rattle.std.proofs.lemmas.Grind.{flat_map-append}
 use Rattle.htl_model.specs.Tables.{greatest}
+use Rattle.htl_model.proofs.SelectionLaws.{place_passes as passes_there}
 
 abbrev pub is_among : List ℕ → ℕ → Bool
 is_among xs x = list_any (eqb x) xs
@@ -252,15 +253,4 @@ pub record Passes {A : Type 0} (test : A → Bool) (k : ℕ) (xs : List A) (p : 
   pub passes : test item ≡ true
 
 pub place_passes : {A : Type 0} (test : A → Bool) (k : ℕ) (xs : List A) (j p : ℕ) → slice_get (places_from test k xs) j ≡ Some p → Passes test k xs p
-place_passes test k [] j p = λ e. absurd (none-some p e)
-place_passes test k (x ∷ xs) j p =
-    cond_both (test x) (k ∷ places_from test (suc k) xs) (places_from test (suc k) xs) (λ ks. slice_get ks j ≡ Some p → Passes test k (x ∷ xs) p)
-    (λ passed. here passed j (λ i. place_passes test (suc k) xs i p)) (λ failed e. behind (place_passes test (suc k) xs j p e))
-  where
-    behind : Passes test (suc k) xs p → Passes test k (x ∷ xs) p
-    behind r = let number = r.number in record { place = suc r.place; number = omega (arith, number); item = r.item; there = r.there; passes = r.passes }
-
-    here : test x ≡ true → (j : ℕ) → ((i : ℕ) → slice_get (places_from test (suc k) xs) i ≡ Some p → Passes test (suc k) xs p)
-        → slice_get (k ∷ places_from test (suc k) xs) j ≡ Some p → Passes test k (x ∷ xs) p
-    here passed zero later e = let same = same_Some k p e in record { place = 0; number = omega (arith, same); item = x; there = refl; passes = passed }
-    here passed (suc i) later e = behind (later i e)
+place_passes test k xs j p e = let h = passes_there test k j p xs e in record { place = h.0; number = h.1; item = h.2; there = h.3; passes = h.4 }

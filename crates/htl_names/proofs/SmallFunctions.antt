@@ -15,8 +15,8 @@ use Rattle.htl_names.proofs.ListLaws.{zip_append, zip_map, zip_parts, zip_at, al
 use Rattle.htl_model.specs.Ranges.{AreInRange, IsFunInRange}
 use Rattle.htl_model.specs.Tables.{Tables, Fun, Formula, Compiled, function_count, count_before}
 use Rattle.htl_model.specs.declared.parts.Task.{Task}
-use Rattle.htl_names.proofs.FlatMaps.{get_front, get_back, flat_map_is, flat_map_parts}
-use Rattle.htl_names.proofs.Members.{In, in_part, in_mapped, at_place, All-at, All-from_places, map_flat_map_at}
+use Rattle.htl_names.proofs.FlatMaps.{flat_map_is, flat_map_parts}
+use Rattle.htl_names.proofs.Members.{In, in_front, in_back, in_part, in_mapped, at_place, All-at, All-from_places, map_flat_map_at}
 use Rattle.htl_names.proofs.Numbered.{task_small, switch_small, tasks_in}
 use Rattle.htl_model.proofs.PlaceLaws.{get_mapped}
 use Rattle.htl_names.proofs.NameUses.{known, used_in_task}
@@ -43,21 +43,19 @@ nodes_same place (Prefix t op e) = ap (λ (n : ℕ). n + 1) (nodes_same place e)
 nodes_same place (Infix t op l r) = ap₂ (λ (n m : ℕ). n + m + 1) (nodes_same place l) (nodes_same place r)
 nodes_same place (Choice t c a b) = ap₂ (λ (n m : ℕ). n + m + 1) (ap₂ (λ (n m : ℕ). n + m) (nodes_same place c) (nodes_same place a)) (nodes_same place b)
 
-args_below : (place : Id → ℕ) (n : ℕ) (e : Expr) → ((i : ℕ) (id : Id) → slice_get (names_of e) i ≡ Some id → place id < n) → ArgumentsBelow n (term_by place e)
+args_below : (place : Id → ℕ) (n : ℕ) (e : Expr) → ((id : Id) → In id (names_of e) → place id < n) → ArgumentsBelow n (term_by place e)
 args_below place n (Number t x) h = tt
 args_below place n (Flag t x) h = tt
-args_below place n (Variable id) h = h 0 id refl
+args_below place n (Variable id) h = h id (0, refl)
 args_below place n (Prefix t op e) h = args_below place n e h
-args_below place n (Infix t op l r) h =
-    (args_below place n l (λ i id at. h i id (get_front (names_of l) (names_of r) i id at)), args_below place n r (λ i id at. h (length (names_of l) + i) id (get_back (names_of l) (names_of r) i ∙ at)))
-args_below place n (Choice t c a b) h =
-    let later = names_of a ++ names_of b in (
-      args_below place n c (λ i id at. h i id (get_front (names_of c) later i id at)),
-      args_below place n a (λ i id at. h (length (names_of c) + i) id (get_back (names_of c) later i ∙ get_front (names_of a) (names_of b) i id at)),
-      args_below place n b (λ i id at. h (length (names_of c) + (length (names_of a) + i)) id (get_back (names_of c) later (length (names_of a) + i) ∙ get_back (names_of a) (names_of b) i ∙ at)),
-    )
+args_below place n (Infix t op l r) h = (args_below place n l (λ id at. h id (in_front _ _ at)), args_below place n r (λ id at. h id (in_back (names_of l) _ at)))
+args_below place n (Choice t c a b) h = (
+  args_below place n c (λ id at. h id (in_front _ _ at)),
+  args_below place n a (λ id at. h id (in_back (names_of c) _ (in_front _ _ at))),
+  args_below place n b (λ id at. h id (in_back (names_of c) _ (in_back (names_of a) _ at))),
+)
 
-small_by : (f : FunctionType) (first n : ℕ) (place : Id → ℕ) (e : Expr) → n ≡ length f.args → n ≤ 256 → tree_nodes e ≤ 512 → ((i : ℕ) (id : Id) → slice_get (names_of e) i ≡ Some id → place id < n)
+small_by : (f : FunctionType) (first n : ℕ) (place : Id → ℕ) (e : Expr) → n ≡ length f.args → n ≤ 256 → tree_nodes e ≤ 512 → ((id : Id) → In id (names_of e) → place id < n)
     → IsSmallFunction f (Formula first (term_by place e))
 small_by f first n place e same args few h = (omega (arith, nodes_same place e, few), omega (arith, same, args), subst (λ (m : ℕ). ArgumentsBelow m (term_by place e)) same (args_below place n e h))
 
@@ -68,12 +66,12 @@ abbrev node_types : PlainTask → List FunctionType
 node_types t = task_types (task_item 0 t)
 
 module _ (ps : List PlainProgram) (small : MeetsBounds ps) (right : AreNamesRight ps) where
-  input_below : (p u n : ℕ) (t : PlainTask) (os : List PlainOut) (i j : ℕ) (o : PlainOut) (id : Id) → slice_get (tasks_at ps p u) n ≡ Some t → t.outputs ≡ Concrete os → slice_get os i ≡ Some o
-      → slice_get (names_of o.value) j ≡ Some id → input_place (layout ps) p u n id < length t.inputs
-  input_below p u n t os i j o id at is its named =
+  input_below : (p u n : ℕ) (t : PlainTask) (os : List PlainOut) (i : ℕ) (o : PlainOut) (id : Id) → slice_get (tasks_at ps p u) n ≡ Some t → t.outputs ≡ Concrete os → slice_get os i ≡ Some o
+      → In id (names_of o.value) → input_place (layout ps) p u n id < length t.inputs
+  input_below p u n t os i o id at is its named =
       let use_of = input_use p u n (length t.inputs) id in
       let own : In use_of (flat_map (output_uses p u n (length t.inputs)) os) =
-      in_part (output_uses p u n (length t.inputs)) os i o its (in_mapped (input_use p u n (length t.inputs)) (names_of o.value) j id named) in
+      in_part (output_uses p u n (length t.inputs)) os i o its (in_mapped (input_use p u n (length t.inputs)) (names_of o.value) named.0 id named.1) in
       (known ps right use_of (used_in_task ps use_of p u n t at (subst (λ (x : PlainOuts). In use_of (outputs_uses p u n (length t.inputs) x)) (sym is) own))).1
 
   task_zipped : (p u n : ℕ) (t : PlainTask) → slice_get (tasks_at ps p u) n ≡ Some t → AllZip IsSmallFunction (node_types t) (task_functions (layout ps) p u n t)
@@ -91,7 +89,7 @@ module _ (ps : List PlainProgram) (small : MeetsBounds ps) (right : AreNamesRigh
           subst (λ (fs : List FunctionType). AllZip IsSmallFunction fs (map (flat_output_function (layout ps) p u n) os)) (sym types)
           (zip_map IsSmallFunction (λ (o : PlainOut). output_type (types_of t.inputs) o.param.ty) (flat_output_function (layout ps) p u n) os (λ i o its.
           small_by (output_type (types_of t.inputs) o.param.ty) o.first (length t.inputs) (input_place (layout ps) p u n) o.value (sym (length-map t.inputs (λ x. x.ty))) bounds.inputs
-          (All-at fits (map (λ (y : PlainOut). y.value) os) i o.value values (get_mapped (λ (y : PlainOut). y.value) os i o its)) (λ j id named. input_below p u n t os i j o id at e its named)))
+          (All-at fits (map (λ (y : PlainOut). y.value) os) i o.value values (get_mapped (λ (y : PlainOut). y.value) os i o its)) (λ id named. input_below p u n t os i o id at e its named)))
 
   tasks_zipped : AllZip IsSmallFunction (flat_map task_types (task_items (layout ps) ps)) (flat_map (module_functions (layout ps) ps) (layout ps).modules)
   tasks_zipped =
@@ -105,10 +103,10 @@ module _ (ps : List PlainProgram) (small : MeetsBounds ps) (right : AreNamesRigh
 
 -- ---- the places of a switch's communicators
 
-read_below : (l : Layout) (e : Expr) (i : ℕ) (id : Id) → slice_get (names_of e) i ≡ Some id → read_place l (comms_in l e) id < length (comms_in l e)
-read_below l e i id at =
+read_below : (l : Layout) (e : Expr) (id : Id) → In id (names_of e) → read_place l (comms_in l e) id < length (comms_in l e)
+read_below l e id at =
     let f : Id → ℕ = λ x. meaning l (comm_key x.name) in
-    slice_get_within (comms_in l e) _ _ (place_found (eqb (f id)) (comms_in l e) (all_in (f id) [] (map f (names_of e)) i (get_mapped f (names_of e) i id at))).1
+    slice_get_within (comms_in l e) _ _ (place_found (eqb (f id)) (comms_in l e) (all_in (f id) [] (map f (names_of e)) at.0 (get_mapped f (names_of e) at.0 id at.1))).1
 
 -- ---- switches
 
@@ -130,7 +128,7 @@ module _ (ps : List PlainProgram) (small : MeetsBounds ps) where
       let reads = comms_in l w.cond in
       let few = few_reads ps w.cond in
       small_by (node_type l t w) w.first (length reads) (read_place l reads) w.cond (sym (length-map reads (comm_type t))) (omega (arith, few, bounds.names)) bounds.cond
-      (λ i id at. read_below l w.cond i id at)))))
+      (λ id named. read_below l w.cond id named)))))
 
 -- ---- the law
 
