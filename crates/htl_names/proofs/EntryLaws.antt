@@ -55,8 +55,7 @@ pub entries_are : (ps : List PlainProgram) → entries ps ≡ flat_map_at (sourc
 entries_are ps =
     entries_by (source_entries ps) 0 0 ps (λ i q c x is start.
     let same : i ≡ q = omega (arith, is) in
-    let before = ap (λ (n : ℕ). length (comms_of (take n ps))) same in
-    let first : c ≡ length (comms_of (take q ps)) = omega (arith, start, before) in
+    let first : c ≡ length (comms_of (take q ps)) = omega (arith, start, ap (λ (n : ℕ). length (comms_of (take n ps))) same) in
     ap (λ (n : ℕ). program_entries q n x) first)
 
 -- ---- from an entry to its place
@@ -226,9 +225,7 @@ entry_low ps h e (of_task p u k t there) = low_at (tasks_of (modules_of ps)) k t
 entry_low ps h e (of_param p u k t there j x at) =
     let n = task_in_source ps p u k t there in
     let small = All-at MeetsTaskBounds (tasks_of (modules_of ps)) (n.0 + k) t h.small n.1 in
-    let within = slice_get_within (params_of t) j x at in
-    let size = length-append t.inputs (out_params t.outputs) in
-    omega (arith, within, size, small.inputs, small.outputs)
+    omega (arith, slice_get_within (params_of t) j x at, length-append t.inputs (out_params t.outputs), small.inputs, small.outputs)
 entry_low ps h e (of_mode p u m x there) = low_at (modes_of (modules_of ps)) m x (mode_in_source ps p u m x there) h.modes
 entry_low ps h e (of_port a j y at) = low_at (ports_of (modes_of (modules_of ps))) j y (part_in_source (λ (z : PlainMode). z.ports) ps a j y at) h.ports
 entry_low ps h e (of_invoke a j y at) = low_at (invokes_of (modes_of (modules_of ps))) j y (part_in_source (λ (z : PlainMode). z.invokes) ps a j y at) h.invokes
@@ -241,5 +238,4 @@ meaning_low ps h key = by (look_up key (symbols_of ps)) refl
     by None is = omega arith
     by (Some n) is =
         let f = found key (entries ps) n is in
-        let low = entry_low ps h f.0 (origin ps f.1.0 f.0 f.1.1) in
-        omega (arith, low, f.3)
+        omega (arith, entry_low ps h f.0 (origin ps f.1.0 f.0 f.1.1), f.3)

@@ -1,8 +1,8 @@
 -- Where the items of lists and of their parts stand, and whose they are.
 use Rattle.std.proofs.Common.{◌≡◌, ℕ, zero, suc, ◌+◌, ◌<◌, ◌≤◌, ◌⊎◌, inl, inr, List, [], ◌∷◌, ◌++◌, length, take, slice_get, Some, None, refl, sym, ◌∙◌, ap, ap₂, subst, arith, length-append, drop, take-append-drop, add-one, append_assoc, get_or, map, cond, Bool, true, false, eqb, Option, eq-eqb}
 use Rattle.std.specs.List.{flat_map, count_by}
-use Rattle.std.proofs.lemmas.List.{drop_more, length-map}
-use Rattle.std.proofs.lemmas.Option.{slice_get_within, same_Some, none-some, slice_get-get_or}
+use Rattle.std.proofs.lemmas.List.{drop_more, length-map, length-take, get_or-take}
+use Rattle.std.proofs.lemmas.Option.{slice_get_within, same_Some, none-some, slice_get-get_or, get_or_from_slice_get}
 use Rattle.std.proofs.lemmas.Grind.{flat_map-append}
 use Rattle.htl_model.specs.Lists.{list_to}
 use Rattle.htl_model.proofs.Listed.{length-list_to, get_list_to}
@@ -46,16 +46,15 @@ there_is (x ∷ xs) (suc k) less = there_is xs k (omega (arith, less))
 
 -- items before place k
 pub in_front : {A : Type 0} (es : List A) (k j : ℕ) (d : A) → slice_get (take k es) j ≡ Some d → (j < k) × (slice_get es j ≡ Some d)
-in_front es zero j d e = absurd (none-some d e)
-in_front [] (suc k) j d e = absurd (none-some d e)
-in_front (x ∷ es) (suc k) zero d e = (omega arith, e)
-in_front (x ∷ es) (suc k) (suc j) d e = let r = in_front es k j d e in let below = r.0 in (omega (arith, below), r.1)
+in_front es k j d e =
+    let within = slice_get_within (take k es) j d e in
+    let below : (j < k) × (j < length es) = (omega (arith, within, length-take k es), omega (arith, within, length-take k es)) in
+    (below.0, slice_get-get_or es j d below.1 ∙ ap (λ x. Some x) (sym (get_or-take k es j d below.0) ∙ get_or_from_slice_get (take k es) j d d e))
 
 pub at_front : {A : Type 0} (es : List A) (k j : ℕ) (d : A) → j < k → slice_get es j ≡ Some d → slice_get (take k es) j ≡ Some d
-at_front es zero j d below e = absurd (omega (arith, below))
-at_front [] (suc k) j d below e = absurd (none-some d e)
-at_front (x ∷ es) (suc k) zero d below e = e
-at_front (x ∷ es) (suc k) (suc j) d below e = at_front es k j d (omega (arith, below)) e
+at_front es k j d below e =
+    slice_get-get_or (take k es) j d (omega (arith, below, slice_get_within es j d e, length-take k es))
+    ∙ ap (λ x. Some x) (get_or-take k es j d below ∙ get_or_from_slice_get es j d d e)
 
 -- ---- lists by places
 
@@ -65,9 +64,7 @@ list_to_at f n k less = let size = length-list_to f n in slice_get-get_or (list_
 -- an item of a list by places is the value there
 pub of_list_to : {A : Type 0} (f : ℕ → A) (n k : ℕ) (y : A) → slice_get (list_to f n) k ≡ Some y → (k < n) × (f k ≡ y)
 of_list_to f n k y e =
-    let size = length-list_to f n in
-    let within = slice_get_within (list_to f n) k y e in
-    let less : k < n = omega (arith, size, within) in
+    let less : k < n = omega (arith, length-list_to f n, slice_get_within (list_to f n) k y e) in
     (less, same_Some (f k) y (sym (list_to_at f n k less) ∙ e))
 
 -- ---- the parts of a list
@@ -83,8 +80,7 @@ at_part f k (z ∷ xs) zero j n x y is e g =
     ap (slice_get (f k z ++ flat_map_at f (suc k) xs)) place ∙ get_front (f k z) (flat_map_at f (suc k) xs) j y own
 at_part f k (z ∷ xs) (suc i) j n x y is e g =
     let front = flat_map_at f (suc k) (take i xs) in
-    let size = length-append (f k z) front in
-    let place : length (f k z ++ front) + j ≡ length (f k z) + (length front + j) = omega (arith, size) in
+    let place : length (f k z ++ front) + j ≡ length (f k z) + (length front + j) = omega (arith, length-append (f k z) front) in
     ap (slice_get (f k z ++ flat_map_at f (suc k) xs)) place
     ∙ get_back (f k z) (flat_map_at f (suc k) xs) (length front + j)
     ∙ at_part f (suc k) xs i j n x y (omega (arith, is)) e g
@@ -96,9 +92,7 @@ part_before f k [] i j n x is less there = absurd (none-some x there)
 part_before f k (z ∷ xs) i zero n x is less there = absurd (omega (arith, less))
 part_before f k (z ∷ xs) zero (suc j) n x is less there =
     let here : n ≡ k = omega (arith, is) in
-    let own = ap (λ (m : ℕ). length (f m x)) here ∙ ap (λ w. length (f k w)) (sym (same_Some z x there)) in
-    let size = length-append (f k z) (flat_map_at f (suc k) (take j xs)) in
-    omega (arith, own, size)
+    omega (arith, ap (λ (m : ℕ). length (f m x)) here ∙ ap (λ w. length (f k w)) (sym (same_Some z x there)), length-append (f k z) (flat_map_at f (suc k) (take j xs)))
 part_before f k (z ∷ xs) (suc i) (suc j) n x is less there =
     let later = part_before f (suc k) xs i j n x (omega (arith, is)) (omega (arith, less)) there in
     omega (arith, later, length-append (f k z) (flat_map_at f (suc k) (take i xs)), length-append (f k z) (flat_map_at f (suc k) (take j xs)))
@@ -228,16 +222,12 @@ owned_size f own m owned k (z ∷ xs) zero same =
     let all = count_alike (λ y. eqb (own y) m) true (f k z) (λ j y g. let is = owned k z j y g in eq-eqb (own y) m (omega (arith, is, same))) in
     let none = count_alike (λ y. eqb (own y) m) false (flat_map_at f (suc k) xs) (λ j y g.
     let p = part_from f (suc k) xs j y g in
-    let is = owned (suc k + p.part) p.owner p.place y p.item in
-    ne_eqb (own y) m (λ e. omega (arith, is, same, e))) in
+    ne_eqb (own y) m (λ e. omega (arith, owned (suc k + p.part) p.owner p.place y p.item, same, e))) in
     let here : k ≡ m = omega (arith, same) in
-    let part = ap (λ (n : ℕ). length (f n z)) here in
-    omega (arith, sum, all, none, part)
+    omega (arith, sum, all, none, ap (λ (n : ℕ). length (f n z)) here)
 owned_size f own m owned k (z ∷ xs) (suc i) same =
-    let sum = sum_by-append (λ y. cond (eqb (own y) m) 1 0) (f k z) (flat_map_at f (suc k) xs) in
     let none = count_alike (λ y. eqb (own y) m) false (f k z) (λ j y g. let is = owned k z j y g in ne_eqb (own y) m (λ e. omega (arith, is, same, e))) in
-    let rest = owned_size f own m owned (suc k) xs i (omega (arith, same)) in
-    omega (arith, sum, none, rest)
+    omega (arith, sum_by-append (λ y. cond (eqb (own y) m) 1 0) (f k z) (flat_map_at f (suc k) xs), none, owned_size f own m owned (suc k) xs i (omega (arith, same)))
 
 pub owned_count : {A B : Type 0} (f : ℕ → A → List B) (own : B → ℕ) (m : ℕ) → IsOwned f own → (k : ℕ) (xs : List A) (i : ℕ) (x : A) → m ≡ k + i → slice_get xs i ≡ Some x
     → count_by (λ y. eqb (own y) m) (flat_map_at f k xs) ≡ length (f m x)
@@ -285,8 +275,7 @@ owners_order item nodes own is xs i j d less below =
     let two = owned item nodes own is q.part q.owner q.place z.0 q.item in
     elim (cases_lt q.part p.part) [
       | inl lower ↦
-          let before = part_before f 0 xs q.part p.part q.part q.owner (omega arith) lower q.there in
           let within = slice_get_within (f q.part q.owner) q.place z.0 q.item in
-          absurd (omega (arith, less, before, within, p.number, q.number))
+          absurd (omega (arith, less, part_before f 0 xs q.part p.part q.part q.owner (omega arith) lower q.there, within, p.number, q.number))
       | inr order ↦ omega (arith, order, one, two, y.2, z.2)
     ]

@@ -49,8 +49,7 @@ apart_by : {B N : Type 0} (called : B → N) (ys : List B) → ((j k : ℕ) (y z
 apart_by called ys one j k n less p q =
     let y = of_map called ys j n p in
     let z = of_map called ys k n q in
-    let same = one j k y.0 z.0 y.1 z.1 (y.2 ∙ sym z.2) in
-    omega (arith, less, same)
+    omega (arith, less, one j k y.0 z.0 y.1 z.1 (y.2 ∙ sym z.2))
 
 -- the same of the items of nodes, which differ by their owner and what they are told by among its nodes
 apart_by_owner : {A N B C : Type 0} (item : ℕ → A → N → B) (nodes : A → List N) (own : B → ℕ) (called : B → C) (told : A → N → C) (xs : List A)
@@ -68,8 +67,8 @@ apart_by_owner {C = C} item nodes own called told xs is one =
     let part : s.part ≡ r.part = sym second.0 ∙ ap own w.2 ∙ sym (ap (λ (t : ℕ × C). t.0) same) ∙ sym (ap own v.2) ∙ first.0 in
     let owner : s.owner ≡ r.owner = same_Some _ _ (sym s.there ∙ ap (slice_get xs) part ∙ r.there) in
     let names = sym first.1 ∙ ap called v.2 ∙ ap (λ (t : ℕ × C). t.1) same ∙ sym (ap called w.2) ∙ second.1 ∙ ap (λ x. told x w.0) owner in
-    let place = one r.part r.owner r.there r.place s.place v.0 w.0 v.1 (ap (λ x. slice_get (nodes x) s.place) (sym owner) ∙ w.1) names in
     let starts = ap (λ (m : ℕ). length (flat_map_at (given item nodes) 0 (take m xs))) part in
+    let place = one r.part r.owner r.there r.place s.place v.0 w.0 v.1 (ap (λ x. slice_get (nodes x) s.place) (sym owner) ∙ w.1) names in
     omega (arith, r.number, s.number, place, starts))
 
 module _ (ps : List PlainProgram) (right : AreNamesRight ps) where
@@ -104,9 +103,7 @@ module _ (ps : List PlainProgram) (right : AreNamesRight ps) where
       let one = at_part (source_entries ps) 0 ps p f.2.0 p f.0 (module_entry u y) (omega arith) f.1 f.2.1 in
       let two = at_part (source_entries ps) 0 ps q g.2.0 q g.0 (module_entry v w) (omega arith) g.1 g.2.1 in
       let same = one_place ps right i j (module_entry u y) (module_entry v w) (ap (λ es. slice_get es i) (entries_are ps) ∙ one) (ap (λ es. slice_get es j) (entries_are ps) ∙ two) (ap (λ (m : List ℕ). module_key m) names) in
-      let before = part_before (source_entries ps) 0 ps p q p f.0 (omega arith) less f.1 in
-      let within = slice_get_within (source_entries ps p f.0) f.2.0 (module_entry u y) f.2.1 in
-      omega (arith, same, before, within)
+      omega (arith, same, part_before (source_entries ps) 0 ps p q p f.0 (omega arith) less f.1, slice_get_within (source_entries ps p f.0) f.2.0 (module_entry u y) f.2.1)
 
   -- two modules of one name are one
   one_program : (p u q v : ℕ) (y w : PlainModule) → module_at ps p u ≡ Some y → module_at ps q v ≡ Some w → y.name.name ≡ w.name.name → p ≡ q
@@ -169,18 +166,14 @@ module _ (ps : List PlainProgram) (right : AreNamesRight ps) where
 pub ports_in_range : (ps : List PlainProgram) → All (IsPortInRange (tables_of_tree ps)) (port_items (layout ps) ps)
 ports_in_range ps =
     all_given (IsPortInRange (tables_of_tree ps)) (λ m a. port_item m) (ports_at ps) (layout ps).modes (λ m a j x there its.
-    let within = slice_get_within (layout ps).modes m a there in
-    let size = mode_count (layout ps) ps refl in
-    omega (arith, within, size))
+    omega (arith, slice_get_within (layout ps).modes m a there, mode_count (layout ps) ps refl))
 
 -- ---- what a communicator's name means
 
 comm_below : (ps : List PlainProgram) → AreNamesRight ps → (id : Id) → In (comm_use id) (uses ps) → meaning (layout ps) (comm_key id.name) < length (comm_items ps)
 comm_below ps right id used =
     let x = (known ps right (comm_use id) used).0 in
-    let within = slice_get_within (comms_of ps) (meaning (layout ps) (comm_key id.name)) x.0 x.1 in
-    let size = length-map (comms_of ps) comm_item in
-    omega (arith, within, size)
+    omega (arith, slice_get_within (comms_of ps) (meaning (layout ps) (comm_key id.name)) x.0 x.1, length-map (comms_of ps) comm_item)
 
 -- ---- what stands in mode m of module k
 

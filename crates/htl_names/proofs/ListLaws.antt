@@ -24,7 +24,7 @@ use Rattle.htl_names.specs.Conditions.{with_new_name, different_names}
 use Rattle.htl_names.specs.Flat.{layout, meaning, comms_in, Layout, read_place}
 use Rattle.htl_names.specs.Keys.{comm_key}
 use Rattle.htl_names.specs.declared.key.Key.{Key}
-use Rattle.htl_names.proofs.FlatMaps.{of_map}
+use Rattle.htl_names.proofs.FlatMaps.{of_map, flat_map_is, flat_map_parts}
 use Rattle.std.proofs.lemmas.List.Sums.{sum_by-cons, sum_by-set}
 use Rattle.std.proofs.lemmas.Grind.{flat_map-append}
 use Rattle.htl_model.specs.Tables.{greatest}
@@ -130,8 +130,7 @@ few_reads ps e = few_by (λ n. meaning (layout ps) (comm_key n)) (names_of e) []
 place_in-le : {A : Type 0} (p : A → Bool) (xs : List A) → place_in p xs ≤ length xs
 place_in-le p [] = omega arith
 place_in-le p (x ∷ xs) =
-    let rest = place_in-le p xs in
-    cond_both (p x) 0 (suc (place_in p xs)) (λ n. n ≤ suc (length xs)) (λ passed. omega arith) (λ failed. omega (arith, rest))
+    cond_both (p x) 0 (suc (place_in p xs)) (λ n. n ≤ suc (length xs)) (λ passed. omega arith) (λ failed. omega (arith, place_in-le p xs))
 
 -- where one passes, the first that does stands there
 pub place_found : {A : Type 0} (p : A → Bool) (xs : List A) → list_any p xs ≡ true → (y : A) × (slice_get xs (place_in p xs) ≡ Some y) × (p y ≡ true)
@@ -149,9 +148,7 @@ few_comms l low e =
 -- so is each place among them
 pub read_place-le : (l : Layout) → ((key : Key) → meaning l key ≤ 4096) → (e : Expr) (id : Id) → read_place l (comms_in l e) id ≤ 4097
 read_place-le l low e id =
-    let first = place_in-le (eqb (meaning l (comm_key id.name))) (comms_in l e) in
-    let all = few_comms l low e in
-    omega (arith, first, all)
+    omega (arith, place_in-le (eqb (meaning l (comm_key id.name))) (comms_in l e), few_comms l low e)
 
 -- ---- a sum over different places of a list is at most the sum over the list
 
@@ -171,15 +168,12 @@ sum_at_places {A} at ws (x ∷ xs) d h =
     let later = sum_at_places at rest xs d.1 (each_weaker (λ y. at y < length ws) (λ y. at y < length rest) (λ y lt. omega (arith, lt, length-set ws (at x) 0)) xs h.1) in
     let same = sum_by_same (λ y. get_or ws (at y) 0) (λ y. get_or rest (at y) 0) xs
     (each_weaker (λ y. at y ≢ at x) (λ y. get_or ws (at y) 0 ≡ get_or rest (at y) 0) (λ y ne. sym (get_or-set_other ws (at x) (at y) 0 0 ne)) xs d.0) in
-    let all = sum_by-set (λ n. n) ws (at x) 0 0 h.0 in
-    let here = sum_by-cons (λ y. get_or ws (at y) 0) x xs in
-    omega (arith, later, same, all, here)
+    omega (arith, later, same, sum_by-set (λ n. n) ws (at x) 0 0 h.0, sum_by-cons (λ y. get_or ws (at y) 0) x xs)
 
 -- ---- lists by places
 
 pub flat_map_flat_map : {A B C : Type 0} (f : B → List C) (g : A → List B) (xs : List A) → flat_map f (flat_map g xs) ≡ flat_map (λ x. flat_map f (g x)) xs
-flat_map_flat_map f g [] = refl
-flat_map_flat_map f g (x ∷ xs) = flat_map-append f (g x) (flat_map g xs) ∙ ap (λ l. flat_map f (g x) ++ l) (flat_map_flat_map f g xs)
+flat_map_flat_map f g xs = ap (flat_map f) (sym (flat_map_is g 0 xs)) ∙ flat_map_parts f (λ k. g) (λ x. flat_map f (g x)) (λ k x. refl) 0 xs
 
 list_to_front : {A : Type 0} (f : ℕ → A) (n : ℕ) → list_to f (suc n) ≡ f 0 ∷ list_to (λ k. f (suc k)) n
 list_to_front f zero = refl
@@ -235,10 +229,7 @@ module _ {A B : Type 0} (R : A → B → Type 0) where
 pub length-places : {A : Type 0} (test : A → Bool) (k : ℕ) (xs : List A) → length (places_from test k xs) ≡ count_by test xs
 length-places test k [] = refl
 length-places test k (x ∷ xs) =
-    let rest = length-places test (suc k) xs in
-    let first = sum_by-cons (λ y. cond (test y) 1 0) x xs in
-    let here = front (test x) k (places_from test (suc k) xs) in
-    omega (arith, rest, first, here)
+    omega (arith, length-places test (suc k) xs, sum_by-cons (λ y. cond (test y) 1 0) x xs, front (test x) k (places_from test (suc k) xs))
   where
     front : (b : Bool) (k : ℕ) (ks : List ℕ) → length (cond b (k ∷ ks) ks) ≡ cond b 1 0 + length ks
     front true k ks = omega arith

@@ -1,9 +1,11 @@
 -- Lists: what holds of each item, and which items there are.
 use Rattle.std.proofs.Common.{◌≡◌, ℕ, zero, suc, ◌+◌, ◌<◌, List, [], ◌∷◌, ◌++◌, map, slice_get, Some, All, refl, sym, ◌∙◌, ap, subst, arith, length, take, get_or}
 use Rattle.std.specs.List.{flat_map, sum_by, All}
+use Rattle.std.specs.Prelude.{sum}
 use Rattle.std.proofs.lemmas.List.{get_or-map, length-map}
 use Rattle.std.proofs.lemmas.List.Elements.{All-nil, All-cons, All-get_or}
-use Rattle.std.proofs.lemmas.List.Sums.{sum_by-cons, sum_by-append}
+use Rattle.std.proofs.lemmas.List.Sums.{sum_by-cons, sum_by-append, sum-map}
+use Rattle.std.proofs.lemmas.Simd.{map-map}
 use Rattle.std.proofs.lemmas.Option.{none-some, same_Some, slice_get_within, slice_get-get_or, get_or_from_slice_get}
 use Rattle.htl_model.specs.Lists.{list_to}
 use Rattle.htl_names.specs.Lists.{flat_map_at, map_at}
@@ -135,8 +137,7 @@ map_flat_map_at h f g e k xs =
     sym (flat_map_single h (flat_map_at f k xs)) ∙ flat_map_parts (λ y. h y ∷ []) f g (λ i x. flat_map_single h (f i x) ∙ e i x) k xs
 
 pub sum_by_map : {A B : Type 0} (f : B → ℕ) (h : A → B) (xs : List A) → sum_by f (map h xs) ≡ sum_by (λ x. f (h x)) xs
-sum_by_map f h [] = refl
-sum_by_map f h (x ∷ xs) = sum_by-cons f (h x) (map h xs) ∙ ap (λ n. f (h x) + n) (sum_by_map f h xs) ∙ sym (sum_by-cons (λ y. f (h y)) x xs)
+sum_by_map f h xs = sym (sum-map f (map h xs)) ∙ ap sum (map-map f h xs) ∙ sum-map (λ x. f (h x)) xs
 
 pub sum_by_flat_map : {A B : Type 0} (f : B → ℕ) (h : A → List B) (xs : List A) → sum_by f (flat_map h xs) ≡ sum_by (λ x. sum_by f (h x)) xs
 sum_by_flat_map f h [] = refl
@@ -155,5 +156,4 @@ pub all_part : {X Y : Type 0} (P : Y → Type 0) (f : X → List Y) (xs : List X
     → All P (f (get_or xs k x))
 all_part P f xs k x below all = λ j d within.
     let place = length (flat_map f (take k xs)) + j in
-    let room = length-flat_map-take f xs k x below in
-    subst P (get_or-flat_map f xs k j x d below within) (all place d (omega (arith, room, within)))
+    subst P (get_or-flat_map f xs k j x d below within) (all place d (omega (arith, length-flat_map-take f xs k x below, within)))

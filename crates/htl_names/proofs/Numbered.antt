@@ -82,8 +82,7 @@ module _ (l : Layout) (ps : List PlainProgram) (laid : IsLaid l ps) where
       let p = flat_part (module_modes ps) l.modules n a (sym (ap (λ ms. slice_get ms n) laid) ∙ e) in
       let m = of_list_to (mode_in p.owner) (length (modes_in ps p.owner)) p.place a p.item in
       let x = there_is (modes_in ps p.owner) p.place m.0 in
-      let first = module_mode_parts ps (take p.part l.modules) in
-      let number : modes_before l ps p.part + p.place ≡ n = omega (arith, p.number, first) in
+      let number : modes_before l ps p.part + p.place ≡ n = omega (arith, p.number, module_mode_parts ps (take p.part l.modules)) in
       subst (P n) m.1 (subst (λ (i : ℕ). P i (mode_in p.owner p.place)) number (holds p.part p.place p.owner x.0 p.there x.1))
 
   pub mode_of_number : (n : ℕ) (a : ModeAt) → slice_get l.modes n ≡ Some a → ModeOf l ps n a
@@ -120,9 +119,8 @@ module_count l ps exist = singles (module_items_at l ps) l.modules (λ i s e k. 
 pub module_stands : (l : Layout) (ps : List PlainProgram) → AreModules ps l.modules → (k : ℕ) (s : ModuleAt) (x : PlainModule) → slice_get l.modules k ≡ Some s → module_at ps s.program s.«module» ≡ Some x
     → slice_get (module_items l ps) k ≡ Some (module_item l ps k s x)
 module_stands l ps exist k s x there is =
-    let within = slice_get_within l.modules k s there in
     let front = singles (module_items_at l ps) (take k l.modules) (λ i r e n. let y = exist i r (in_front l.modules k i r e).1 in ap length (one_module l ps n r y.0 y.1)) 0 in
-    let size = length-take-le k l.modules (omega (arith, within)) in
+    let size = length-take-le k l.modules (omega (arith, slice_get_within l.modules k s there)) in
     let own : slice_get (module_items_at l ps k s) 0 ≡ Some (module_item l ps k s x) = ap (λ ms. slice_get ms 0) (one_module l ps k s x is) in
     let at = at_part (module_items_at l ps) 0 l.modules k 0 k s (module_item l ps k s x) (omega arith) there own in
     let place : length (flat_map_at (module_items_at l ps) 0 (take k l.modules)) + 0 ≡ k = omega (arith, front, size) in
@@ -214,20 +212,16 @@ within_levels ps ordered zero k s there few (Some a) is =
     let b = ordered.parents k s a there is in
     let x = modules_exist ps ordered k s there in
     let o = program_of_module ps s.program s.«module» x.0 x.1 in
-    let within = slice_get_within ps s.program o.0 o.1 in
-    let above = ordered.steps k s a there is in
-    let some = level_some (naming (symbols_of ps) ps) (length ps) a.program (omega (arith, within)) in
-    absurd (omega (arith, few, above, some))
+    let some = level_some (naming (symbols_of ps) ps) (length ps) a.program (omega (arith, slice_get_within ps s.program o.0 o.1)) in
+    absurd (omega (arith, few, ordered.steps k s a there is, some))
 within_levels ps ordered (suc steps) k s there few (Some a) is =
     let t = tables_of_tree ps in
     let b = ordered.parents k s a there is in
     let x = mode_before ps ordered k a b in
-    let above = ordered.steps k s a there is in
     let owner = module_of_mode t (mode_number (layout ps) ps a) (mode_item b.place x.node) x.item in
     let y = modules_exist ps ordered b.place b.«module» b.there in
     let own = parent_of_module t b.place (module_item (layout ps) ps b.place b.«module» y.0) (module_stands (layout ps) ps (modules_exist ps ordered) b.place b.«module» y.0 b.there y.1) in
-    let same = ap (level_of ps) b.program in
-    let rest = within_levels ps ordered steps b.place b.«module» b.there (omega (arith, few, above, same)) b.«module».parent refl in
+    let rest = within_levels ps ordered steps b.place b.«module» b.there (omega (arith, few, ordered.steps k s a there is, ap (level_of ps) b.program)) b.«module».parent refl in
     ap (λ (j : ℕ). is_within steps t (parent_of t j)) owner ∙ ap (is_within steps t) own ∙ rest
 
 -- what holds of each module at its place holds of each of the tables
@@ -236,9 +230,7 @@ pub each_module : (ps : List PlainProgram) → IsOrdered (symbols_of ps) ps (ord
     → (k : ℕ) (y : Module) → slice_get (module_items (layout ps) ps) k ≡ Some y → P k y
 each_module ps ordered P holds k y e =
     let exist = modules_exist ps ordered in
-    let size = module_count (layout ps) ps exist in
-    let within = slice_get_within (module_items (layout ps) ps) k y e in
-    let s = there_is (layout ps).modules k (omega (arith, size, within)) in
+    let s = there_is (layout ps).modules k (omega (arith, module_count (layout ps) ps exist, slice_get_within (module_items (layout ps) ps) k y e)) in
     let x = exist k s.0 s.1 in
     subst (P k) (same_Some _ _ (sym (module_stands (layout ps) ps exist k s.0 x.0 s.1 x.1) ∙ e)) (holds k s.0 x.0 s.1 x.1)
 

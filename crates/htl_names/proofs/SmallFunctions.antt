@@ -172,13 +172,11 @@ count_first t ts (suc n) = let rest = count_first t ts n in omega (arith, rest)
 types_counted : (ts : List Task) → length (flat_map task_types ts) ≡ count_before (length ts) ts
 types_counted [] = refl
 types_counted (t ∷ ts) =
-    let size = length-append (task_types t) (flat_map task_types ts) in
-    omega (arith, size, types_of_task t, types_counted ts, count_first t ts (length ts))
+    omega (arith, length-append (task_types t) (flat_map task_types ts), types_of_task t, types_counted ts, count_first t ts (length ts))
 
 pub functions_counted : (ps : List PlainProgram) → MeetsBounds ps → AreNamesRight ps
     → length (function_items (layout ps) ps) ≡ count_before (length (task_items (layout ps) ps)) (task_items (layout ps) ps) + length (switch_items (layout ps) ps)
 functions_counted ps small right =
     let t = tables_of_tree ps in
-    let size = length-append (flat_map task_types t.tasks) (map (switch_type t) t.switches) in
     let all = AllZip-long IsSmallFunction (function_types t) (function_items (layout ps) ps) (all_zipped ps small right) in
-    omega (arith, all, size, types_counted t.tasks, length-map t.switches (switch_type t))
+    omega (arith, all, length-append (flat_map task_types t.tasks) (map (switch_type t) t.switches), types_counted t.tasks, length-map t.switches (switch_type t))
