@@ -1,5 +1,5 @@
 -- The names of the tables of a tree differ, and the tables are in range.
-use Rattle.std.proofs.Common.{◌≡◌, ◌<◌, inl, inr, ◌+◌, ℕ, List, map, length, take, slice_get, Some, refl, sym, ◌∙◌, ap, subst, arith, [], None}
+use Rattle.std.proofs.Common.{◌≡◌, ◌<◌, inl, inr, ◌+◌, ℕ, List, map, length, take, slice_get, Some, refl, sym, ◌∙◌, ap, subst, arith, [], None, Option, IfSome, All}
 use Rattle.std.proofs.lemmas.Option.{slice_get_within, same_Some}
 use Rattle.htl_model.specs.Lists.{AreApart}
 use Rattle.htl_model.specs.declared.parts.Comm.{Comm}
@@ -34,7 +34,6 @@ use Rattle.htl_model.proofs.Apart.{different, different_owned, different_pairs, 
 use Rattle.htl_model.specs.Ranges.{IsCommInRange, AreInRange, IsPortInRange, IsEndInRange, IsInvInRange, IsModeThat, IsSwitchInRange}
 use Rattle.htl_names.specs.Conditions.{MeetsBounds, MeetsInvokeBounds}
 use Rattle.htl_names.proofs.Ordering.{kept_limit, names-ordered, instances}
-use Rattle.std.specs.Prelude.{Option, IfSome, All}
 use Rattle.htl_model.specs.Tables.{mode_module}
 use Rattle.htl_text.specs.declared.tree.Id.{Id}
 use Rattle.htl_text.specs.declared.tree.EndNode.{EndNode}

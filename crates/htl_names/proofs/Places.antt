@@ -5,7 +5,7 @@ use Rattle.std.specs.List.{flat_map}
 use Rattle.std.proofs.lemmas.Option.{none-some}
 use Rattle.htl_text.specs.Bounds.{modules_of, modes_of, tasks_of}
 use Rattle.htl_text.specs.Nodes.{PlainProgram, PlainModule, PlainMode, PlainTask}
-use Rattle.htl_names.specs.Order.{modules_at, module_at, tasks_at, modes_at, mode_at}
+use Rattle.htl_names.specs.Order.{module_at, tasks_at, modes_at, mode_at}
 use Rattle.htl_names.specs.declared.place.ModeAt.{ModeAt}
 use Rattle.htl_names.proofs.FlatMaps.{at_flat}
 
@@ -27,11 +27,8 @@ both a b h = and_parts a b h
 
 -- ---- what stands at a place of a tree, and where it stands among all of its kind
 
-pub modules_there : (ps : List PlainProgram) (p : ℕ) (x : PlainProgram) → slice_get ps p ≡ Some x → modules_at ps p ≡ x.modules
-modules_there ps p x e = ap (λ o. elim o [ Some x ↦ x.modules | None ↦ [] ]) e
-
 pub module_there : (ps : List PlainProgram) (p u : ℕ) (x : PlainProgram) (y : PlainModule) → slice_get ps p ≡ Some x → slice_get x.modules u ≡ Some y → module_at ps p u ≡ Some y
-module_there ps p u x y e g = ap (λ ms. slice_get ms u) (modules_there ps p x e) ∙ g
+module_there ps p u x y e g = ap (λ o. slice_get (elim o as (λ _. List PlainModule) [ Some z ↦ z.modules | None ↦ [] ]) u) e ∙ g
 
 pub tasks_there : (ps : List PlainProgram) (p u : ℕ) (y : PlainModule) → module_at ps p u ≡ Some y → tasks_at ps p u ≡ y.tasks
 tasks_there ps p u y e = ap (λ o. elim o [ Some x ↦ x.tasks | None ↦ [] ]) e
