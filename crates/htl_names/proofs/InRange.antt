@@ -24,7 +24,7 @@ use Rattle.htl_names.specs.Uses.{usage, uses, comm_use, end_use}
 use Rattle.htl_names.proofs.EntryLaws.{declared, one_place, one_entry, source_entries, entries_are, Origin, of_comm, of_module, of_task, of_mode as mode_origin, of_port, of_invoke}
 use Rattle.htl_names.proofs.FlatMaps.{at_part, part_before, part_of, given, of_map, counted, few_owned, owners_order, stands}
 use Rattle.htl_names.proofs.SmallFunctions.{functions_in_range, functions_counted}
-use Rattle.htl_names.proofs.Numbered.{switch_small, each_module, modes_in, tasks_in, modules_exist, modes_in_range, module_in_range, tasks_in_range, mode_count, module_count, number_is, mode_before, each_mode, mode_numbered, mode_stands, its_mode}
+use Rattle.htl_names.proofs.Numbered.{switch_small, each_module, modes_in, tasks_in, modules_exist, modes_in_range, module_in_range, tasks_in_range, mode_count, module_count, number_is, mode_before, all_in_modes, mode_numbered, mode_stands, its_mode}
 use Rattle.htl_names.proofs.Members.{In, in_next, in_back, in_part_at, All-from_places, in_front, in_mapped, All-at, all_given}
 use Rattle.htl_names.proofs.NameUses.{known, used_in_invoke, comm_period_span, initial_fits, used_in_switch, parent_stands}
 use Rattle.htl_names.proofs.Places.{program_of_module, order_of, part_in_source}
@@ -176,7 +176,7 @@ comm_below ps right id used =
 
 -- ---- what stands in mode m of module k
 
-module _ (ps : List PlainProgram) (right : AreNamesRight ps) (ordered : IsOrdered (symbols_of ps) ps (order (symbols_of ps) ps))
+module _ (ps : List PlainProgram) (small : MeetsBounds ps) (right : AreNamesRight ps) (ordered : IsOrdered (symbols_of ps) ps (order (symbols_of ps) ps))
     (k m : ℕ) (s : ModuleAt) (x : PlainMode) (there : slice_get (layout ps).modules k ≡ Some s) (its : slice_get (modes_in ps s) m ≡ Some x) where
   abbrev a : ModeAt
   a = mode_in s m
@@ -242,75 +242,60 @@ module _ (ps : List PlainProgram) (right : AreNamesRight ps) (ordered : IsOrdere
           let y = parent_stands ps right a j i id at is b (ordered.refined k s b there some) in
           slice_get_within (invoke_items (layout ps) ps) _ _ (stands (invoke_item (layout ps) ps) (invokes_at ps) (layout ps).modes (mode_number (layout ps) ps b) _ b y.0 before.there y.1)
 
-  module _ (small : MeetsBounds ps) where
-    invoke_in_range : (j : ℕ) (i : InvokeNode) → slice_get (invokes_at ps a) j ≡ Some i → IsInvInRange (tables_of_tree ps) (invoke_item (layout ps) ps n a i)
-    invoke_in_range j i at =
-        let q = part_in_source (λ (z : PlainMode). z.invokes) ps a j i at in
-        let few = All-at MeetsInvokeBounds (invokes_of (modes_of (modules_of ps))) (q.0 + j) i small.invokes q.1 in
-        let narrow = All-at IsNarrowInvoke (invokes_at ps a) j i (instances ps right a) at in
-        record {
-          owner = within;
-          task = task_in_module j i at;
-          parent = parent_within j i at i.parent refl;
-          reads = ends_in_range i.reads (λ p e own. used_in_invoke ps _ a j i at (in_next _ _ (in_front _ _ (in_mapped (end_use s.program s.«module» m) i.reads p e own)))) narrow.reads;
-          writes = ends_in_range i.writes (λ p e own. used_in_invoke ps _ a j i at (in_next _ _ (in_back _ _ (in_mapped (end_use s.program s.«module» m) i.writes p e own)))) narrow.writes;
-          few_reads = omega (arith, length-map i.reads (end_item (layout ps) ps n a), few.reads);
-          few_writes = omega (arith, length-map i.writes (end_item (layout ps) ps n a), few.writes);
-        }
+  invoke_in_range : (j : ℕ) (i : InvokeNode) → slice_get (invokes_at ps a) j ≡ Some i → IsInvInRange (tables_of_tree ps) (invoke_item (layout ps) ps n a i)
+  invoke_in_range j i at =
+      let q = part_in_source (λ (z : PlainMode). z.invokes) ps a j i at in
+      let few = All-at MeetsInvokeBounds (invokes_of (modes_of (modules_of ps))) (q.0 + j) i small.invokes q.1 in
+      let narrow = All-at IsNarrowInvoke (invokes_at ps a) j i (instances ps right a) at in
+      record {
+        owner = within;
+        task = task_in_module j i at;
+        parent = parent_within j i at i.parent refl;
+        reads = ends_in_range i.reads (λ p e own. used_in_invoke ps _ a j i at (in_next _ _ (in_front _ _ (in_mapped (end_use s.program s.«module» m) i.reads p e own)))) narrow.reads;
+        writes = ends_in_range i.writes (λ p e own. used_in_invoke ps _ a j i at (in_next _ _ (in_back _ _ (in_mapped (end_use s.program s.«module» m) i.writes p e own)))) narrow.writes;
+        few_reads = omega (arith, length-map i.reads (end_item (layout ps) ps n a), few.reads);
+        few_writes = omega (arith, length-map i.writes (end_item (layout ps) ps n a), few.writes);
+      }
 
-    switch_in_range : (j : ℕ) (w : PlainSwitch) → slice_get (switches_at ps a) j ≡ Some w → IsSwitchInRange (tables_of_tree ps) (switch_item (layout ps) ps n a w)
-    switch_in_range j w at =
-        record {
-          owner = within;
-          target = target;
-          reads = reads;
-          different = different_numbers (comms_in (layout ps) w.cond) (distinct_apart (comms_in (layout ps) w.cond) (all_distinct [] (map number_of (names_of w.cond)) none_distinct));
-          few_reads = omega (arith, few_reads ps w.cond, (switch_small ps small a j w at).names);
-        }
-      where
-        target : IsModeThat (tables_of_tree ps) (λ o. o ≡ mode_module (tables_of_tree ps) n)
-            (modes_before (layout ps) ps (module_number (layout ps) s.program s.«module») + meaning (layout ps) (mode_key s.program s.«module» w.target.name))
-        target =
-            let use_of = usage (mode_key s.program s.«module» w.target.name) w.target in
-            let y = (known ps right use_of (used_in_switch ps use_of a j w at (in_back (map comm_use (names_of w.cond)) _ (0, refl)))).0 in
-            let is_own : ℕ → Type 0 = λ o. o ≡ mode_module (tables_of_tree ps) n in
-            subst (λ (q : ℕ). IsModeThat (tables_of_tree ps) is_own (modes_before (layout ps) ps q + meaning (layout ps) use_of.key)) (sym number)
-            (its_mode ps k (meaning (layout ps) use_of.key) s y.0 is_own (sym owner) there y.1)
+  switch_in_range : (j : ℕ) (w : PlainSwitch) → slice_get (switches_at ps a) j ≡ Some w → IsSwitchInRange (tables_of_tree ps) (switch_item (layout ps) ps n a w)
+  switch_in_range j w at =
+      record {
+        owner = within;
+        target = target;
+        reads = reads;
+        different = different_numbers (comms_in (layout ps) w.cond) (distinct_apart (comms_in (layout ps) w.cond) (all_distinct [] (map number_of (names_of w.cond)) none_distinct));
+        few_reads = omega (arith, few_reads ps w.cond, (switch_small ps small a j w at).names);
+      }
+    where
+      target : IsModeThat (tables_of_tree ps) (λ o. o ≡ mode_module (tables_of_tree ps) n)
+          (modes_before (layout ps) ps (module_number (layout ps) s.program s.«module») + meaning (layout ps) (mode_key s.program s.«module» w.target.name))
+      target =
+          let use_of = usage (mode_key s.program s.«module» w.target.name) w.target in
+          let y = (known ps right use_of (used_in_switch ps use_of a j w at (in_back (map comm_use (names_of w.cond)) _ (0, refl)))).0 in
+          let is_own : ℕ → Type 0 = λ o. o ≡ mode_module (tables_of_tree ps) n in
+          subst (λ (q : ℕ). IsModeThat (tables_of_tree ps) is_own (modes_before (layout ps) ps q + meaning (layout ps) use_of.key)) (sym number)
+          (its_mode ps k (meaning (layout ps) use_of.key) s y.0 is_own (sym owner) there y.1)
 
-        number_of : Id → ℕ
-        number_of id = meaning (layout ps) (comm_key id.name)
+      number_of : Id → ℕ
+      number_of id = meaning (layout ps) (comm_key id.name)
 
-        is_comm : ℕ → Type 0
-        is_comm c = c < length (comm_items ps)
+      is_comm : ℕ → Type 0
+      is_comm c = c < length (comm_items ps)
 
-        reads : All is_comm (comms_in (layout ps) w.cond)
-        reads =
-            All-from_places is_comm (comms_in (layout ps) w.cond) (λ q c e.
-            all_of is_comm [] (map number_of (names_of w.cond)) (λ y none. cc) (λ y i.
-            let id = of_map number_of (names_of w.cond) i.0 y i.1 in
-            subst is_comm id.2 (comm_below ps right id.0 (used_in_switch ps _ a j w at (in_front _ _ (in_mapped comm_use (names_of w.cond) i.0 id.0 id.1)))))
-            c (among_at (comms_in (layout ps) w.cond) q c e))
-
--- ---- invocations and switches
-
-module _ (ps : List PlainProgram) (small : MeetsBounds ps) (right : AreNamesRight ps) (ordered : IsOrdered (symbols_of ps) ps (order (symbols_of ps) ps)) where
-  pub invokes_in_range : All (IsInvInRange (tables_of_tree ps)) (invoke_items (layout ps) ps)
-  invokes_in_range =
-      all_given (IsInvInRange (tables_of_tree ps)) (invoke_item (layout ps) ps) (invokes_at ps) (layout ps).modes (λ n a j i at its.
-      each_mode (layout ps) ps refl (λ n a. (j : ℕ) (i : InvokeNode) → slice_get (invokes_at ps a) j ≡ Some i → IsInvInRange (tables_of_tree ps) (invoke_item (layout ps) ps n a i))
-      (λ k m s x there own. invoke_in_range ps right ordered k m s x there own small) n a at j i its)
-
-  pub switches_in_range : All (IsSwitchInRange (tables_of_tree ps)) (switch_items (layout ps) ps)
-  switches_in_range =
-      all_given (IsSwitchInRange (tables_of_tree ps)) (switch_item (layout ps) ps) (switches_at ps) (layout ps).modes (λ n a j w at its.
-      each_mode (layout ps) ps refl (λ n a. (j : ℕ) (w : PlainSwitch) → slice_get (switches_at ps a) j ≡ Some w → IsSwitchInRange (tables_of_tree ps) (switch_item (layout ps) ps n a w))
-      (λ k m s x there own. switch_in_range ps right ordered k m s x there own small) n a at j w its)
+      reads : All is_comm (comms_in (layout ps) w.cond)
+      reads =
+          All-from_places is_comm (comms_in (layout ps) w.cond) (λ q c e.
+          all_of is_comm [] (map number_of (names_of w.cond)) (λ y none. cc) (λ y i.
+          let id = of_map number_of (names_of w.cond) i.0 y i.1 in
+          subst is_comm id.2 (comm_below ps right id.0 (used_in_switch ps _ a j w at (in_front _ _ (in_mapped comm_use (names_of w.cond) i.0 id.0 id.1)))))
+          c (among_at (comms_in (layout ps) w.cond) q c e))
 
 -- ---- all of them
 
 pub names-in-range : (ps : List PlainProgram) → MeetsBounds ps → AreNamesRight ps → AreInRange (tables_of_tree ps)
 names-in-range ps small right =
     let l = layout ps in
+    let t = tables_of_tree ps in
     let ordered = names-ordered ps right in
     record {
       few_comms = omega (arith, length-map (comms_of ps) comm_item, kept_limit ps right 0 (length (comms_of ps)) 1024 refl refl);
@@ -337,8 +322,8 @@ names-in-range ps small right =
       modules = module_in_range ps right ordered;
       ports = ports_in_range ps;
       tasks = tasks_in_range ps small right ordered;
-      invs = invokes_in_range ps small right ordered;
-      switches = switches_in_range ps small right ordered;
+      invs = all_in_modes l ps refl (IsInvInRange t) (invoke_item l ps) (invokes_at ps) (invoke_in_range ps small right ordered);
+      switches = all_in_modes l ps refl (IsSwitchInRange t) (switch_item l ps) (switches_at ps) (switch_in_range ps small right ordered);
       functions = functions_in_range ps small right;
       function_count = functions_counted ps small right;
     }

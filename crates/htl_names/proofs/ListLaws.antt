@@ -1,6 +1,5 @@
 -- Lists: different numbers and how many a switch reads, sums over places, items in pairs, items that pass a test.
-use Rattle.std.proofs.Common.{◌≡◌, ◌⊎◌, inl, inr, ℕ, zero, suc, Bool, true, false, cond, ◌||◌, eqb, List, [], ◌∷◌, ◌++◌, slice_get, Some, fold, refl, sym, ◌∙◌, ap, ap₂, subst, eq-eqb, eqb-true, ◌≤◌, ◌<◌, map, length, arith, length-append, ◌≢◌, ◌+◌, max, get_or, set, sum_by, sum, length-set, get_or-set_other, Option}
-use Rattle.std.specs.Option.{IsSomeAnd}
+use Rattle.std.proofs.Common.{◌≡◌, ◌⊎◌, inl, inr, ℕ, zero, suc, Bool, true, false, cond, ◌||◌, eqb, List, [], ◌∷◌, ◌++◌, slice_get, Some, fold, refl, sym, ◌∙◌, ap, ap₂, subst, eq-eqb, eqb-true, ◌≤◌, ◌<◌, map, length, arith, length-append, ◌≢◌, ◌+◌, max, get_or, set, sum_by, sum, length-set, get_or-set_other, Option, IsSomeAnd}
 use Rattle.std.proofs.lemmas.Slice.Zip.{AllZip-left}
 use Rattle.htl_names.specs.Lists.{flat_map_at, with_new, place_in}
 use Rattle.std.specs.List.{AllZip, IsDistinct, list_any, flat_map, count_by}

@@ -1,6 +1,5 @@
 -- Lists: what holds of each item, and which items there are.
-use Rattle.std.proofs.Common.{◌≡◌, ℕ, zero, suc, ◌+◌, ◌<◌, List, [], ◌∷◌, ◌++◌, map, slice_get, Some, All, refl, sym, ◌∙◌, ap, subst, arith, length, take, get_or, sum}
-use Rattle.std.specs.List.{flat_map, sum_by, All}
+use Rattle.std.proofs.Common.{◌≡◌, ℕ, zero, suc, ◌+◌, ◌<◌, List, [], ◌∷◌, ◌++◌, map, slice_get, Some, All, refl, sym, ◌∙◌, ap, subst, arith, length, take, get_or, sum, flat_map, sum_by}
 use Rattle.std.proofs.lemmas.List.{get_or-map, length-map}
 use Rattle.std.proofs.lemmas.List.Elements.{All-nil, All-cons, All-get_or}
 use Rattle.std.proofs.lemmas.List.Sums.{sum_by-cons, sum_by-append, sum-map}

@@ -1,7 +1,6 @@
 -- Where no name rule is broken, what the names mean that a tree uses stands in their lists, those after `parent` too, and
 -- its numbers and values are of their kinds.
-use Rattle.std.proofs.Common.{◌≡◌, ◌<◌, ◌≤◌, ℕ, List, slice_get, Some, None, refl, ap, inl, inr, ℤ, pos, negsuc, true, false, leb, leb-true, zero, suc, [], ◌∷◌, ◌∙◌, Option, MatchOption}
-use Rattle.std.specs.List.{flat_map}
+use Rattle.std.proofs.Common.{◌≡◌, ◌<◌, ◌≤◌, ℕ, List, slice_get, Some, None, refl, ap, inl, inr, ℤ, pos, negsuc, true, false, leb, leb-true, zero, suc, [], ◌∷◌, ◌∙◌, Option, MatchOption, flat_map}
 use Rattle.htl_text.specs.Bounds.{comms_of}
 use Rattle.htl_text.specs.Nodes.{PlainProgram, PlainModule, PlainMode, PlainTask, PlainSwitch}
 use Rattle.htl_text.specs.declared.tree.Id.{Id}

@@ -1,6 +1,5 @@
 -- Which items the numbers of the tables name; the modules, modes and tasks of the tables are in range.
-use Rattle.std.proofs.Common.{◌≡◌, ◌<◌, ◌+◌, ℕ, zero, suc, true, List, [], ◌∷◌, length, take, slice_get, Some, None, refl, sym, ◌∙◌, ap, subst, arith, length-append, ◌≤◌, eqb, Option, IfSome, All}
-use Rattle.std.specs.List.{flat_map}
+use Rattle.std.proofs.Common.{◌≡◌, ◌<◌, ◌+◌, ℕ, zero, suc, true, List, [], ◌∷◌, length, take, slice_get, Some, None, refl, sym, ◌∙◌, ap, subst, arith, length-append, ◌≤◌, eqb, Option, IfSome, All, flat_map}
 use Rattle.std.proofs.lemmas.Bool.{and_from, and_parts, eq-eqb, eqb-true}
 use Rattle.std.proofs.lemmas.List.{length-take-le, length-map}
 use Rattle.std.proofs.lemmas.Option.{slice_get_within, same_Some}
@@ -11,7 +10,7 @@ use Rattle.htl_names.specs.Flat.{Layout, is_module, module_number, modes_before,
 use Rattle.htl_names.specs.Lists.{flat_map_at}
 use Rattle.htl_names.specs.Order.{module_at, tasks_at, modes_at, module_modes, mode_order, order, switches_at}
 use Rattle.htl_names.specs.Ordered.{Exists, IsOrdered, StandsBefore}
-use Rattle.htl_names.proofs.FlatMaps.{in_front, at_part, at_flat, flat_part, flat_map_is, same_length, there_is, list_to_at, of_list_to, counted, stands}
+use Rattle.htl_names.proofs.FlatMaps.{in_front, at_part, at_flat, flat_part, flat_map_is, same_length, there_is, list_to_at, of_list_to, counted, given, stands}
 use Rattle.htl_model.proofs.Listed.{length-list_to}
 use Rattle.htl_model.specs.declared.parts.Mode.{Mode}
 use Rattle.htl_model.specs.declared.parts.Module.{Module}
@@ -74,7 +73,7 @@ module _ (l : Layout) (ps : List PlainProgram) (laid : IsLaid l ps) where
       ap (λ ms. slice_get ms (modes_before l ps k + m)) laid ∙ subst (λ (n : ℕ). slice_get (mode_order ps l.modules) (n + m) ≡ Some (mode_in s m)) (module_mode_parts ps (take k l.modules)) at
 
   -- what holds of each mode of each module holds of the mode of each number
-  pub each_mode : (P : ℕ → ModeAt → Type 0)
+  each_mode : (P : ℕ → ModeAt → Type 0)
       → ((k m : ℕ) (s : ModuleAt) (x : PlainMode) → slice_get l.modules k ≡ Some s → slice_get (modes_in ps s) m ≡ Some x → P (modes_before l ps k + m) (mode_in s m))
       → (n : ℕ) (a : ModeAt) → slice_get l.modes n ≡ Some a → P n a
   each_mode P holds n a e =
@@ -83,6 +82,14 @@ module _ (l : Layout) (ps : List PlainProgram) (laid : IsLaid l ps) where
       let x = there_is (modes_in ps p.owner) p.place m.0 in
       let number : modes_before l ps p.part + p.place ≡ n = omega (arith, p.number, module_mode_parts ps (take p.part l.modules)) in
       subst (P n) m.1 (subst (λ (i : ℕ). P i (mode_in p.owner p.place)) number (holds p.part p.place p.owner x.0 p.there x.1))
+
+  -- what holds of the item of each node of each mode holds of each item
+  pub all_in_modes : {N B : Type 0} (P : B → Type 0) (item : ℕ → ModeAt → N → B) (nodes : ModeAt → List N)
+      → ((k m : ℕ) (s : ModuleAt) (x : PlainMode) → slice_get l.modules k ≡ Some s → slice_get (modes_in ps s) m ≡ Some x → (j : ℕ) (n : N) → slice_get (nodes (mode_in s m)) j ≡ Some n
+      → P (item (modes_before l ps k + m) (mode_in s m) n))
+      → All P (flat_map_at (given item nodes) 0 l.modes)
+  all_in_modes {N = N} P item nodes holds =
+      all_given P item nodes l.modes (λ i a j n at its. each_mode (λ i a. (j : ℕ) (n : N) → slice_get (nodes a) j ≡ Some n → P (item i a n)) holds i a at j n its)
 
   pub mode_of_number : (n : ℕ) (a : ModeAt) → slice_get l.modes n ≡ Some a → ModeOf l ps n a
   mode_of_number =

@@ -1,7 +1,6 @@
 -- What tests tell, what stands at a place of a tree, and where among all of its kind.
-use Rattle.std.proofs.Common.{◌≡◌, ℕ, ◌≤◌, ◌<◌, ◌⊎◌, inl, inr, arith, Bool, true, ◌&&◌, refl, ◌+◌, List, [], slice_get, Option, Some, None, ◌∙◌, ap}
+use Rattle.std.proofs.Common.{◌≡◌, ℕ, ◌≤◌, ◌<◌, ◌⊎◌, inl, inr, arith, Bool, true, ◌&&◌, refl, ◌+◌, List, [], slice_get, Option, Some, None, ◌∙◌, ap, flat_map}
 use Rattle.std.proofs.lemmas.Bool.{and_parts, cases_eq, cases_lt}
-use Rattle.std.specs.List.{flat_map}
 use Rattle.std.proofs.lemmas.Option.{none-some}
 use Rattle.htl_text.specs.Bounds.{modules_of, modes_of, tasks_of}
 use Rattle.htl_text.specs.Nodes.{PlainProgram, PlainModule, PlainMode, PlainTask}

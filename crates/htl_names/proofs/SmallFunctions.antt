@@ -1,11 +1,10 @@
 -- The functions of a source have few nodes, and arguments that are there.
-use Rattle.std.proofs.Common.{◌≡◌, ◌≤◌, ◌<◌, ◌+◌, ℕ, zero, suc, Bool, length-append, true, false, cond, eqb, List, [], ◌∷◌, ◌++◌, length, map, slice_get, Option, Some, None, refl, sym, ◌∙◌, ap, ap₂, subst, arith}
+use Rattle.std.proofs.Common.{◌≡◌, ◌≤◌, ◌<◌, ◌+◌, ℕ, zero, suc, Bool, length-append, true, false, cond, eqb, List, [], ◌∷◌, ◌++◌, length, map, slice_get, Option, Some, None, refl, sym, ◌∙◌, ap, ap₂, subst, arith, IsSomeAnd}
 use Rattle.std.specs.List.{flat_map, All, AllZip}
 use Rattle.std.proofs.lemmas.List.Folds.{flat_map-map}
 use Rattle.std.proofs.lemmas.Simd.{map-map}
 use Rattle.std.proofs.lemmas.Option.{MatchOption-at_some, slice_get_within}
 use Rattle.std.proofs.lemmas.Slice.Zip.{AllZip-right, AllZip-long}
-use Rattle.std.specs.Option.{IsSomeAnd}
 use Rattle.htl_base.specs.declared.Ty.TheVariants.{Bool as BoolTy}
 use Rattle.htl_text.specs.declared.tree.ParamNode.{ParamNode}
 use Rattle.std.proofs.lemmas.List.{length-map}
