@@ -12,7 +12,7 @@ use Rattle.htl_names.specs.Lists.{flat_map_at, map_at}
 use Rattle.htl_names.specs.Order.{module_at, tasks_at, modes_at, mode_at, ports_at, invokes_at}
 use Rattle.htl_names.specs.declared.place.ModeAt.{ModeAt}
 use Rattle.htl_names.proofs.FlatMaps.{at_flat, flat_part}
-use Rattle.htl_names.proofs.Members.{at_place, Each, each_at, each_append, each_part, In, in_next, in_front, in_back, in_mapped_at, in_part_at, All-at}
+use Rattle.htl_names.proofs.Members.{at_place, Each, each_at, each_append, each_part, In, in_next, in_first, in_second, in_mapped_at, in_part_at, All-at}
 use Rattle.htl_names.proofs.Places.{part_is, part_there, module_there, tasks_there, modes_there, program_of_module, module_of_task, module_of_mode, order_of, module_in_source, task_in_source, mode_in_source, part_in_source}
 use Rattle.std.proofs.lemmas.Bool.{cond_both, cond-true}
 use Rattle.std.proofs.lemmas.Option.{slice_get_within, none-some, same_Some}
@@ -110,29 +110,29 @@ module _ (ps : List PlainProgram) where
   program_declares p x there e at = subst (In e) (sym (entries_are ps)) (in_part_at (source_entries ps) ps p x there at)
 
   module_declares : (p u : ℕ) (y : PlainModule) → module_at ps p u ≡ Some y → (e : Entry) → In e (module_entries p u y) → In e (entries ps)
-  module_declares p u y there e at = let o = program_of_module ps p u y there in program_declares p o.0 o.1 e (in_next _ _ (in_back _ _ (in_part_at (module_entries p) o.0.modules u y o.2 at)))
+  module_declares p u y there e at = let o = program_of_module ps p u y there in program_declares p o.0 o.1 e (in_next _ _ (in_second _ _ (in_part_at (module_entries p) o.0.modules u y o.2 at)))
 
   task_declares : (p u k : ℕ) (t : PlainTask) → slice_get (tasks_at ps p u) k ≡ Some t → (e : Entry) → In e (task_entries p u k t) → In e (entries ps)
-  task_declares p u k t there e at = let o = module_of_task ps p u k t there in module_declares p u o.0 o.1 e (in_next _ _ (in_front _ _ (in_part_at (task_entries p u) o.0.tasks k t o.2 at)))
+  task_declares p u k t there e at = let o = module_of_task ps p u k t there in module_declares p u o.0 o.1 e (in_next _ _ (in_first _ _ (in_part_at (task_entries p u) o.0.tasks k t o.2 at)))
 
   mode_declares : (p u m : ℕ) (x : PlainMode) → slice_get (modes_at ps p u) m ≡ Some x → (e : Entry) → In e (mode_entries p u m x) → In e (entries ps)
-  mode_declares p u m x there e at = let o = module_of_mode ps p u m x there in module_declares p u o.0 o.1 e (in_next _ _ (in_back _ _ (in_part_at (mode_entries p u) o.0.modes m x o.2 at)))
+  mode_declares p u m x there e at = let o = module_of_mode ps p u m x there in module_declares p u o.0 o.1 e (in_next _ _ (in_second _ _ (in_part_at (mode_entries p u) o.0.modes m x o.2 at)))
 
   pub declared : (e : Entry) → Origin ps e → In e (entries ps)
   declared e (of_program p x there) = program_declares p x there e (0, refl)
   declared e (of_comm c x there) =
       let r = flat_part (λ (q : PlainProgram). q.comms) ps c x there in
-      program_declares r.part r.owner r.there e (in_next _ _ (in_front _ _ (in_mapped_at comm_entry (length (comms_of (take r.part ps))) r.owner.comms c r.place x r.number r.item)))
+      program_declares r.part r.owner r.there e (in_next _ _ (in_first _ _ (in_mapped_at comm_entry (length (comms_of (take r.part ps))) r.owner.comms c r.place x r.number r.item)))
   declared e (of_module p u x there) = module_declares p u x there e (0, refl)
   declared e (of_task p u k t there) = task_declares p u k t there e (0, refl)
   declared e (of_param p u k t there j x at) = task_declares p u k t there e (in_next _ _ (in_mapped_at (param_entry p u k) 0 (params_of t) j j x (omega arith) at))
   declared e (of_mode p u m x there) = mode_declares p u m x there e (0, refl)
   declared e (of_port a j y at) =
       let o = part_there (λ (z : PlainMode). z.ports) (mode_at ps a) j y at in
-      mode_declares a.program a.«module» a.mode o.0 o.1 e (in_next _ _ (in_front _ _ (in_mapped_at (port_entry a.program a.«module» a.mode) 0 o.0.ports j j y (omega arith) o.2)))
+      mode_declares a.program a.«module» a.mode o.0 o.1 e (in_next _ _ (in_first _ _ (in_mapped_at (port_entry a.program a.«module» a.mode) 0 o.0.ports j j y (omega arith) o.2)))
   declared e (of_invoke a j y at) =
       let o = part_there (λ (z : PlainMode). z.invokes) (mode_at ps a) j y at in
-      mode_declares a.program a.«module» a.mode o.0 o.1 e (in_next _ _ (in_back _ _ (in_mapped_at (invoke_entry a.program a.«module» a.mode) 0 o.0.invokes j j y (omega arith) o.2)))
+      mode_declares a.program a.«module» a.mode o.0 o.1 e (in_next _ _ (in_second _ _ (in_mapped_at (invoke_entry a.program a.«module» a.mode) 0 o.0.invokes j j y (omega arith) o.2)))
 
 -- ---- one place for one key
 

@@ -113,14 +113,13 @@ part_from f k (z ∷ xs) n y e =
       | inl own ↦ record { part = 0; owner = z; there = refl; place = n; item = ap (λ (m : ℕ). slice_get (f m z) n) (omega arith) ∙ own; number = omega arith }
       | inr b ↦
           let p = part_from f (suc k) xs b.0 y b.2 in
-          let size = length-append (f k z) (flat_map_at f (suc k) (take p.part xs)) in
           record {
             part = suc p.part;
             owner = p.owner;
             there = p.there;
             place = p.place;
             item = ap (λ (m : ℕ). slice_get (f m p.owner) p.place) (omega arith) ∙ p.item;
-            number = omega (arith, b.1, p.number, size);
+            number = omega (arith, b.1, p.number, length-append (f k z) (flat_map_at f (suc k) (take p.part xs)));
           }
     ]
 

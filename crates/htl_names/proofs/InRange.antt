@@ -25,7 +25,7 @@ use Rattle.htl_names.proofs.EntryLaws.{declared, one_place, one_entry, source_en
 use Rattle.htl_names.proofs.FlatMaps.{at_part, part_before, part_of, given, of_map, counted, few_owned, owners_order, stands}
 use Rattle.htl_names.proofs.SmallFunctions.{functions_in_range, functions_counted}
 use Rattle.htl_names.proofs.Numbered.{switch_small, each_module, modes_in, tasks_in, modules_exist, modes_in_range, module_in_range, tasks_in_range, mode_count, module_count, number_is, mode_before, all_in_modes, mode_numbered, mode_stands, its_mode}
-use Rattle.htl_names.proofs.Members.{In, in_next, in_back, in_part_at, All-from_places, in_front, in_mapped, All-at, all_given}
+use Rattle.htl_names.proofs.Members.{In, in_next, in_second, in_part_at, All-from_places, in_first, in_mapped, All-at, all_given}
 use Rattle.htl_names.proofs.NameUses.{known, used_in_invoke, comm_period_span, initial_fits, used_in_switch, parent_stands}
 use Rattle.htl_names.proofs.Places.{program_of_module, order_of, part_in_source}
 use Rattle.std.proofs.lemmas.List.{length-map}
@@ -90,7 +90,7 @@ module _ (ps : List PlainProgram) (right : AreNamesRight ps) where
 
   -- among the entries of its program
   entry_in : (p u : ℕ) (y : PlainModule) → module_at ps p u ≡ Some y → (x : PlainProgram) × (slice_get ps p ≡ Some x) × In (module_entry u y) (source_entries ps p x)
-  entry_in p u y there = let o = program_of_module ps p u y there in (o.0, o.1, in_next _ _ (in_back _ _ (in_part_at (module_entries p) o.0.modules u y o.2 (0, refl))))
+  entry_in p u y there = let o = program_of_module ps p u y there in (o.0, o.1, in_next _ _ (in_second _ _ (in_part_at (module_entries p) o.0.modules u y o.2 (0, refl))))
 
   -- no later program has a module of the name
   not_later : (p u q v : ℕ) (y w : PlainModule) → module_at ps p u ≡ Some y → module_at ps q v ≡ Some w → y.name.name ≡ w.name.name → p < q → ⊥
@@ -251,8 +251,8 @@ module _ (ps : List PlainProgram) (small : MeetsBounds ps) (right : AreNamesRigh
         owner = within;
         task = task_in_module j i at;
         parent = parent_within j i at i.parent refl;
-        reads = ends_in_range i.reads (λ p e own. used_in_invoke ps _ a j i at (in_next _ _ (in_front _ _ (in_mapped (end_use s.program s.«module» m) i.reads p e own)))) narrow.reads;
-        writes = ends_in_range i.writes (λ p e own. used_in_invoke ps _ a j i at (in_next _ _ (in_back _ _ (in_mapped (end_use s.program s.«module» m) i.writes p e own)))) narrow.writes;
+        reads = ends_in_range i.reads (λ p e own. used_in_invoke ps _ a j i at (in_next _ _ (in_first _ _ (in_mapped (end_use s.program s.«module» m) i.reads p e own)))) narrow.reads;
+        writes = ends_in_range i.writes (λ p e own. used_in_invoke ps _ a j i at (in_next _ _ (in_second _ _ (in_mapped (end_use s.program s.«module» m) i.writes p e own)))) narrow.writes;
         few_reads = omega (arith, length-map i.reads (end_item (layout ps) ps n a), few.reads);
         few_writes = omega (arith, length-map i.writes (end_item (layout ps) ps n a), few.writes);
       }
@@ -271,7 +271,7 @@ module _ (ps : List PlainProgram) (small : MeetsBounds ps) (right : AreNamesRigh
           (modes_before (layout ps) ps (module_number (layout ps) s.program s.«module») + meaning (layout ps) (mode_key s.program s.«module» w.target.name))
       target =
           let use_of = usage (mode_key s.program s.«module» w.target.name) w.target in
-          let y = (known ps right use_of (used_in_switch ps use_of a j w at (in_back (map comm_use (names_of w.cond)) _ (0, refl)))).0 in
+          let y = (known ps right use_of (used_in_switch ps use_of a j w at (in_second (map comm_use (names_of w.cond)) _ (0, refl)))).0 in
           let is_own : ℕ → Type 0 = λ o. o ≡ mode_module (tables_of_tree ps) n in
           subst (λ (q : ℕ). IsModeThat (tables_of_tree ps) is_own (modes_before (layout ps) ps q + meaning (layout ps) use_of.key)) (sym number)
           (its_mode ps k (meaning (layout ps) use_of.key) s y.0 is_own (sym owner) there y.1)
@@ -287,7 +287,7 @@ module _ (ps : List PlainProgram) (small : MeetsBounds ps) (right : AreNamesRigh
           All-from_places is_comm (comms_in (layout ps) w.cond) (λ q c e.
           all_of is_comm [] (map number_of (names_of w.cond)) (λ y none. cc) (λ y i.
           let id = of_map number_of (names_of w.cond) i.0 y i.1 in
-          subst is_comm id.2 (comm_below ps right id.0 (used_in_switch ps _ a j w at (in_front _ _ (in_mapped comm_use (names_of w.cond) i.0 id.0 id.1)))))
+          subst is_comm id.2 (comm_below ps right id.0 (used_in_switch ps _ a j w at (in_first _ _ (in_mapped comm_use (names_of w.cond) i.0 id.0 id.1)))))
           c (among_at (comms_in (layout ps) w.cond) q c e))
 
 -- ---- all of them

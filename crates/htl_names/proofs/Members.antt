@@ -26,11 +26,11 @@ In y xs = (k : ℕ) × (slice_get xs k ≡ Some y)
 pub in_next : {A : Type 0} {y : A} (x : A) (xs : List A) → In y xs → In y (x ∷ xs)
 in_next x xs h = (suc h.0, h.1)
 
-pub in_front : {A : Type 0} {y : A} (xs ys : List A) → In y xs → In y (xs ++ ys)
-in_front xs ys h = (h.0, get_front xs ys h.0 _ h.1)
+pub in_first : {A : Type 0} {y : A} (xs ys : List A) → In y xs → In y (xs ++ ys)
+in_first xs ys h = (h.0, get_front xs ys h.0 _ h.1)
 
-pub in_back : {A : Type 0} {y : A} (xs ys : List A) → In y ys → In y (xs ++ ys)
-in_back xs ys h = (length xs + h.0, get_back xs ys h.0 ∙ h.1)
+pub in_second : {A : Type 0} {y : A} (xs ys : List A) → In y ys → In y (xs ++ ys)
+in_second xs ys h = (length xs + h.0, get_back xs ys h.0 ∙ h.1)
 
 pub in_mapped : {A B : Type 0} (f : B → A) (xs : List B) (k : ℕ) (x : B) → slice_get xs k ≡ Some x → In (f x) (map f xs)
 in_mapped f xs k x there = (k, get_mapped f xs k x there)
@@ -107,10 +107,6 @@ pub each_weaker : {A : Type 0} (P Q : A → Type 0) → ((x : A) → P x → Q x
 each_weaker P Q f [] h = tt
 each_weaker P Q f (x ∷ xs) h = (f x h.0, each_weaker P Q f xs h.1)
 
-pub each_of_all : {A : Type 0} (P : A → Type 0) (xs : List A) → All P xs → Each P xs
-each_of_all P [] h = tt
-each_of_all P (x ∷ xs) h = (h 0 x (omega arith), each_of_all P xs (λ k d below. h (suc k) d (omega (arith, below))))
-
 -- what holds at each place holds of each item
 pub All-from_places : {A : Type 0} (P : A → Type 0) (xs : List A) → ((k : ℕ) (x : A) → slice_get xs k ≡ Some x → P x) → All P xs
 All-from_places P xs h k d below = h k _ (slice_get-get_or xs k d below)
@@ -126,6 +122,9 @@ all_given P item nodes xs h =
 
 pub All-at : {A : Type 0} (P : A → Type 0) (xs : List A) (k : ℕ) (x : A) → All P xs → slice_get xs k ≡ Some x → P x
 All-at P xs k x all e = subst P (get_or_from_slice_get xs k x x e) (All-get_or P xs k x (slice_get_within xs k x e) all)
+
+pub each_of_all : {A : Type 0} (P : A → Type 0) (xs : List A) → All P xs → Each P xs
+each_of_all P xs h = each_of_places P xs (λ k x e. All-at P xs k x h e)
 
 -- ---- maps
 

@@ -13,7 +13,7 @@ use Rattle.htl_names.specs.Keys.{look_up, invoke_key}
 use Rattle.htl_names.specs.NameRules.{AreNamesRight, UnknownName, WrongKind, ParentName}
 use Rattle.htl_names.specs.Order.{module_at, tasks_at, modes_at, mode_at, invokes_at, switches_at}
 use Rattle.htl_names.specs.Uses.{task_uses, invoke_uses, switch_uses, program_use, mode_uses, module_uses, program_uses, uses}
-use Rattle.htl_names.proofs.Members.{In, in_next, in_front, in_back, in_mapped, in_part, in_part_at}
+use Rattle.htl_names.proofs.Members.{In, in_next, in_first, in_second, in_mapped, in_part, in_part_at}
 use Rattle.htl_names.proofs.Places.{part_there, program_of_module, module_of_task, module_of_mode, not_below}
 use Rattle.std.proofs.lemmas.Bool.{and_parts, true_from_ne_false}
 use Rattle.htl_base.specs.declared.Ty.{Ty}
@@ -55,22 +55,22 @@ module _ (ps : List PlainProgram) (u : Use) where
   used_in_module p v y there at = let o = program_of_module ps p v y there in in_part_at program_uses ps p o.0 o.1 (in_part_at (module_uses p) o.0.modules v y o.2 at)
 
   pub used_in_task : (p v k : ℕ) (t : PlainTask) → slice_get (tasks_at ps p v) k ≡ Some t → In u (task_uses p v k t) → In u (uses ps)
-  used_in_task p v k t there at = let o = module_of_task ps p v k t there in used_in_module p v o.0 o.1 (in_next _ _ (in_front _ _ (in_part_at (task_uses p v) o.0.tasks k t o.2 at)))
+  used_in_task p v k t there at = let o = module_of_task ps p v k t there in used_in_module p v o.0 o.1 (in_next _ _ (in_first _ _ (in_part_at (task_uses p v) o.0.tasks k t o.2 at)))
 
   used_in_mode : (a : ModeAt) (x : PlainMode) → mode_at ps a ≡ Some x → In u (mode_uses a.program a.«module» a.mode x) → In u (uses ps)
   used_in_mode a x there at =
       let o = module_of_mode ps a.program a.«module» a.mode x there in
-      used_in_module a.program a.«module» o.0 o.1 (in_next _ _ (in_back _ _ (in_part_at (mode_uses a.program a.«module») o.0.modes a.mode x o.2 at)))
+      used_in_module a.program a.«module» o.0 o.1 (in_next _ _ (in_second _ _ (in_part_at (mode_uses a.program a.«module») o.0.modes a.mode x o.2 at)))
 
   pub used_in_invoke : (a : ModeAt) (j : ℕ) (i : InvokeNode) → slice_get (invokes_at ps a) j ≡ Some i → In u (invoke_uses a.program a.«module» a.mode i) → In u (uses ps)
   used_in_invoke a j i there at =
       let x = part_there (λ (z : PlainMode). z.invokes) (mode_at ps a) j i there in
-      used_in_mode a x.0 x.1 (in_back (program_use x.0.program) _ (in_front _ _ (in_part (invoke_uses a.program a.«module» a.mode) x.0.invokes j i x.2 at)))
+      used_in_mode a x.0 x.1 (in_second (program_use x.0.program) _ (in_first _ _ (in_part (invoke_uses a.program a.«module» a.mode) x.0.invokes j i x.2 at)))
 
   pub used_in_switch : (a : ModeAt) (j : ℕ) (s : PlainSwitch) → slice_get (switches_at ps a) j ≡ Some s → In u (switch_uses a.program a.«module» s) → In u (uses ps)
   used_in_switch a j s there at =
       let x = part_there (λ (z : PlainMode). z.switches) (mode_at ps a) j s there in
-      used_in_mode a x.0 x.1 (in_back (program_use x.0.program) _ (in_back _ _ (in_part (switch_uses a.program a.«module») x.0.switches j s x.2 at)))
+      used_in_mode a x.0 x.1 (in_second (program_use x.0.program) _ (in_second _ _ (in_part (switch_uses a.program a.«module») x.0.switches j s x.2 at)))
 
 -- ---- a name after `parent` that is no orphan
 
@@ -113,13 +113,13 @@ module _ (ps : List PlainProgram) (right : AreNamesRight ps) (j : Judged) where
   right_in_program p x there at wrong = let k = in_part program_kinds ps p x there at in right WrongKind k.0 (fault.Kind (token_of j)) (j, k.1, wrong, refl)
 
   right_in_comm : (c : ℕ) (x : CommNode) → slice_get (comms_of ps) c ≡ Some x → In j (comm_kinds x) → IsRight j
-  right_in_comm c x there at = let r = flat_part (λ (q : PlainProgram). q.comms) ps c x there in right_in_program r.part r.owner r.there (in_front _ _ (in_part comm_kinds r.owner.comms r.place x r.item at))
+  right_in_comm c x there at = let r = flat_part (λ (q : PlainProgram). q.comms) ps c x there in right_in_program r.part r.owner r.there (in_first _ _ (in_part comm_kinds r.owner.comms r.place x r.item at))
 
   right_in_module : (p u : ℕ) (y : PlainModule) → module_at ps p u ≡ Some y → In j (module_kinds y) → IsRight j
-  right_in_module p u y there at = let o = program_of_module ps p u y there in right_in_program p o.0 o.1 (in_back _ _ (in_part module_kinds o.0.modules u y o.2 at))
+  right_in_module p u y there at = let o = program_of_module ps p u y there in right_in_program p o.0 o.1 (in_second _ _ (in_part module_kinds o.0.modules u y o.2 at))
 
   right_in_mode : (p u m : ℕ) (x : PlainMode) → slice_get (modes_at ps p u) m ≡ Some x → In j (mode_kinds x) → IsRight j
-  right_in_mode p u m x there at = let o = module_of_mode ps p u m x there in right_in_module p u o.0 o.1 (in_back _ _ (in_part mode_kinds o.0.modes m x o.2 at))
+  right_in_mode p u m x there at = let o = module_of_mode ps p u m x there in right_in_module p u o.0 o.1 (in_second _ _ (in_part mode_kinds o.0.modes m x o.2 at))
 
 -- ---- numbers and values
 
@@ -145,7 +145,7 @@ module _ (ps : List PlainProgram) (right : AreNamesRight ps) where
   initial_fits c x there = fits x.ty x.init (right_in_comm ps right (Initial x.ty x.init) c x there (1, refl))
 
   pub worst_span : (p u k : ℕ) (t : PlainTask) → slice_get (tasks_at ps p u) k ≡ Some t → IsSpan (size_of t.worst.x)
-  worst_span p u k t there = let o = module_of_task ps p u k t there in span t.worst.x (right_in_module ps right (task_kind t) p u o.0 o.1 (in_front _ _ (in_mapped task_kind o.0.tasks k t o.2)))
+  worst_span p u k t there = let o = module_of_task ps p u k t there in span t.worst.x (right_in_module ps right (task_kind t) p u o.0 o.1 (in_first _ _ (in_mapped task_kind o.0.tasks k t o.2)))
 
   pub mode_period_span : (p u m : ℕ) (x : PlainMode) → slice_get (modes_at ps p u) m ≡ Some x → IsSpan (size_of x.period.x)
   mode_period_span p u m x there = span x.period.x (right_in_mode ps right (Span x.period) p u m x there (0, refl))
@@ -155,7 +155,7 @@ module _ (ps : List PlainProgram) (right : AreNamesRight ps) where
     instance_in at = instance_most instance.x (right_in_mode ps right (Instance instance) p u m x there (in_next _ _ (in_part invoke_kinds x.invokes k i its at)))
 
     pub read_instance : slice_get i.reads n ≡ Some (end.Comm comm instance) → size_of instance.x ≤ 1000000
-    read_instance at = instance_in (in_front _ _ (in_part end_kinds i.reads n (end.Comm comm instance) at (0, refl)))
+    read_instance at = instance_in (in_first _ _ (in_part end_kinds i.reads n (end.Comm comm instance) at (0, refl)))
 
     pub write_instance : slice_get i.writes n ≡ Some (end.Comm comm instance) → size_of instance.x ≤ 1000000
-    write_instance at = instance_in (in_back (flat_map end_kinds i.reads) _ (in_part end_kinds i.writes n (end.Comm comm instance) at (0, refl)))
+    write_instance at = instance_in (in_second (flat_map end_kinds i.reads) _ (in_part end_kinds i.writes n (end.Comm comm instance) at (0, refl)))

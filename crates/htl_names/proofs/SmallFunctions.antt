@@ -15,7 +15,7 @@ use Rattle.htl_model.specs.Ranges.{AreInRange, IsFunInRange}
 use Rattle.htl_model.specs.Tables.{Tables, Fun, Formula, Compiled, function_count, count_before}
 use Rattle.htl_model.specs.declared.parts.Task.{Task}
 use Rattle.htl_names.proofs.FlatMaps.{flat_map_is, flat_map_parts}
-use Rattle.htl_names.proofs.Members.{In, in_front, in_back, in_part, in_mapped, at_place, All-at, All-from_places, map_flat_map_at}
+use Rattle.htl_names.proofs.Members.{In, in_first, in_second, in_part, in_mapped, at_place, All-at, All-from_places, map_flat_map_at}
 use Rattle.htl_names.proofs.Numbered.{task_small, switch_small, tasks_in}
 use Rattle.htl_model.proofs.PlaceLaws.{get_mapped}
 use Rattle.htl_names.proofs.NameUses.{known, used_in_task}
@@ -47,11 +47,11 @@ args_below place n (Number t x) h = tt
 args_below place n (Flag t x) h = tt
 args_below place n (Variable id) h = h id (0, refl)
 args_below place n (Prefix t op e) h = args_below place n e h
-args_below place n (Infix t op l r) h = (args_below place n l (λ id at. h id (in_front _ _ at)), args_below place n r (λ id at. h id (in_back (names_of l) _ at)))
+args_below place n (Infix t op l r) h = (args_below place n l (λ id at. h id (in_first _ _ at)), args_below place n r (λ id at. h id (in_second (names_of l) _ at)))
 args_below place n (Choice t c a b) h = (
-  args_below place n c (λ id at. h id (in_front _ _ at)),
-  args_below place n a (λ id at. h id (in_back (names_of c) _ (in_front _ _ at))),
-  args_below place n b (λ id at. h id (in_back (names_of c) _ (in_back (names_of a) _ at))),
+  args_below place n c (λ id at. h id (in_first _ _ at)),
+  args_below place n a (λ id at. h id (in_second (names_of c) _ (in_first _ _ at))),
+  args_below place n b (λ id at. h id (in_second (names_of c) _ (in_second (names_of a) _ at))),
 )
 
 small_by : (f : FunctionType) (first n : ℕ) (place : Id → ℕ) (e : Expr) → n ≡ length f.args → n ≤ 256 → tree_nodes e ≤ 512 → ((id : Id) → In id (names_of e) → place id < n)
