@@ -1,5 +1,7 @@
 -- The names that a source declares: where they stand, what they mean, how their numbers are bounded.
 use Rattle.std.proofs.Common.{◌≡◌, ℕ, suc, ◌+◌, List, [], ◌∷◌, length, take, slice_get, Some, refl, ◌∙◌, ap, arith, length-append, zero, subst, map, sym, inl, inr, ◌≤◌, Option, None, All, ap₂, ◌++◌}
+use Rattle.std.proofs.lemmas.Bool.{cond_both, cond-true}
+use Rattle.std.proofs.lemmas.Option.{slice_get_within, none-some, same_Some}
 use Rattle.htl_text.specs.Bounds.{comms_of, modules_of, modes_of, tasks_of, ports_of, invokes_of, out_params}
 use Rattle.htl_text.specs.Nodes.{PlainProgram, PlainModule, PlainMode, PlainTask}
 use Rattle.htl_text.specs.declared.tree.CommNode.{CommNode}
@@ -11,11 +13,6 @@ use Rattle.htl_names.specs.Keys.{program_key, module_key, task_key, mode_key, sa
 use Rattle.htl_names.specs.Lists.{flat_map_at, map_at}
 use Rattle.htl_names.specs.Order.{module_at, tasks_at, modes_at, mode_at, ports_at, invokes_at}
 use Rattle.htl_names.specs.declared.place.ModeAt.{ModeAt}
-use Rattle.htl_names.proofs.FlatMaps.{at_flat, flat_part}
-use Rattle.htl_names.proofs.Members.{at_place, Each, each_at, each_append, each_part, In, in_next, in_first, in_second, in_mapped_at, in_part_at, All-at}
-use Rattle.htl_names.proofs.Places.{part_is, part_there, module_there, tasks_there, modes_there, program_of_module, module_of_task, module_of_mode, order_of, module_in_source, task_in_source, mode_in_source, part_in_source}
-use Rattle.std.proofs.lemmas.Bool.{cond_both, cond-true}
-use Rattle.std.proofs.lemmas.Option.{slice_get_within, none-some, same_Some}
 use Rattle.htl_names.specs.declared.key.Key.{Key}
 use Rattle.htl_names.specs.declared.key.Space.{Space}
 use Rattle.htl_names.specs.Flat.{symbols_of, layout, meaning}
@@ -24,6 +21,9 @@ use Rattle.htl_names.specs.SameKeys.{same_key_decides}
 use Rattle.htl_names.specs.Conditions.{MeetsTaskBounds}
 use Rattle.htl_names.specs.declared.fault.NameFault.TheVariants as fault
 use Rattle.htl_names.specs.declared.key.Space.TheVariants as space
+use Rattle.htl_names.proofs.FlatMaps.{at_flat, flat_part}
+use Rattle.htl_names.proofs.Members.{at_place, Each, each_at, each_append, each_part, In, in_next, in_first, in_second, in_mapped_at, in_part_at, All-at}
+use Rattle.htl_names.proofs.Places.{part_is, part_there, module_there, tasks_there, modes_there, program_of_module, module_of_task, module_of_mode, order_of, module_in_source, task_in_source, mode_in_source, part_in_source}
 
 -- where an entry comes from
 pub data Origin (ps : List PlainProgram) : Entry → Type 0 where

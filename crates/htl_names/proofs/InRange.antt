@@ -1,6 +1,7 @@
 -- The names of the tables of a tree differ, and the tables are in range.
 use Rattle.std.proofs.Common.{◌≡◌, ◌<◌, inl, inr, ◌+◌, ℕ, List, map, length, take, slice_get, Some, refl, sym, ◌∙◌, ap, subst, arith, [], None, Option, IfSome, All}
 use Rattle.std.proofs.lemmas.Option.{slice_get_within, same_Some}
+use Rattle.std.proofs.lemmas.List.{length-map}
 use Rattle.htl_model.specs.Lists.{AreApart}
 use Rattle.htl_model.specs.declared.parts.Comm.{Comm}
 use Rattle.htl_model.specs.declared.parts.Mode.{Mode}
@@ -8,19 +9,30 @@ use Rattle.htl_model.specs.declared.parts.Module.{Module}
 use Rattle.htl_model.specs.declared.parts.Port.{Port}
 use Rattle.htl_model.specs.declared.parts.Task.{Task}
 use Rattle.htl_model.specs.declared.parts.Inv.{Inv}
+use Rattle.htl_model.specs.declared.parts.Switch.{Switch}
+use Rattle.htl_model.proofs.Apart.{different, different_owned, different_pairs, different_numbers}
+use Rattle.htl_model.specs.Ranges.{IsCommInRange, AreInRange, IsPortInRange, IsEndInRange, IsInvInRange, IsModeThat, IsSwitchInRange}
+use Rattle.htl_model.specs.Tables.{mode_module}
 use Rattle.htl_text.specs.Bounds.{comms_of, modules_of, modes_of, invokes_of, names_of}
 use Rattle.htl_text.specs.declared.tree.InvokeNode.{InvokeNode}
-use Rattle.htl_names.specs.declared.place.ModeAt.{ModeAt}
 use Rattle.htl_text.specs.Nodes.{PlainProgram, PlainModule, PlainTask, PlainMode, PlainSwitch}
+use Rattle.htl_text.specs.declared.tree.Id.{Id}
+use Rattle.htl_text.specs.declared.tree.EndNode.{EndNode}
+use Rattle.htl_text.specs.declared.tree.EndNode.TheVariants as end
+use Rattle.htl_names.specs.declared.place.ModeAt.{ModeAt}
 use Rattle.htl_names.specs.declared.key.Entry.{Entry}
 use Rattle.htl_names.specs.Entries.{entry, module_entries, comm_entry}
-use Rattle.htl_names.specs.Flat.{layout, symbols_of, meaning, comm_item, comm_items, mode_item, mode_items, module_items, port_item, port_items, task_item, task_items, invoke_item, invoke_items, switch_item, tables_of_tree, module_number, modes_before, tasks_before, mode_number, end_item, refined_mode, parent_number, comms_in, switch_items}
+use Rattle.htl_names.specs.Flat.{layout, symbols_of, meaning, comm_item, comm_items, mode_item, mode_items, module_items, port_item, port_items, task_item, task_items, invoke_item, invoke_items, switch_item, tables_of_tree, module_number, modes_before, tasks_before, mode_number, end_item, refined_mode, parent_number, comms_in}
 use Rattle.htl_names.specs.Keys.{comm_key, module_key, task_key, mode_key, port_key, invoke_key}
 use Rattle.htl_names.specs.Lists.{flat_map_at}
 use Rattle.htl_names.specs.NameRules.{AreNamesRight}
 use Rattle.htl_names.specs.Order.{order, module_at, tasks_at, ports_at, invokes_at, switches_at}
 use Rattle.htl_names.specs.Ordered.{IsOrdered}
 use Rattle.htl_names.specs.Uses.{usage, uses, comm_use, end_use}
+use Rattle.htl_names.specs.Conditions.{MeetsBounds, MeetsInvokeBounds}
+use Rattle.htl_names.specs.Narrow.{IsNarrowEnd, IsNarrowInvoke}
+use Rattle.htl_names.specs.Nth.{mode_in}
+use Rattle.htl_names.specs.declared.place.ModuleAt.{ModuleAt}
 use Rattle.htl_names.proofs.EntryLaws.{declared, one_place, one_entry, source_entries, entries_are, Origin, of_comm, of_module, of_task, of_mode as mode_origin, of_port, of_invoke}
 use Rattle.htl_names.proofs.FlatMaps.{at_part, part_before, part_of, given, of_map, counted, few_owned, owners_order, stands}
 use Rattle.htl_names.proofs.SmallFunctions.{functions_in_range, functions_counted}
@@ -28,20 +40,8 @@ use Rattle.htl_names.proofs.Numbered.{switch_small, each_module, modes_in, tasks
 use Rattle.htl_names.proofs.Members.{In, in_next, in_second, in_part_at, All-from_places, in_first, in_mapped, All-at, all_given}
 use Rattle.htl_names.proofs.NameUses.{known, used_in_invoke, comm_period_span, initial_fits, used_in_switch, parent_stands}
 use Rattle.htl_names.proofs.Places.{program_of_module, order_of, part_in_source}
-use Rattle.std.proofs.lemmas.List.{length-map}
-use Rattle.htl_model.specs.declared.parts.Switch.{Switch}
-use Rattle.htl_model.proofs.Apart.{different, different_owned, different_pairs, different_numbers}
-use Rattle.htl_model.specs.Ranges.{IsCommInRange, AreInRange, IsPortInRange, IsEndInRange, IsInvInRange, IsModeThat, IsSwitchInRange}
-use Rattle.htl_names.specs.Conditions.{MeetsBounds, MeetsInvokeBounds}
 use Rattle.htl_names.proofs.Ordering.{kept_limit, names-ordered, instances}
-use Rattle.htl_model.specs.Tables.{mode_module}
-use Rattle.htl_text.specs.declared.tree.Id.{Id}
-use Rattle.htl_text.specs.declared.tree.EndNode.{EndNode}
-use Rattle.htl_names.specs.Narrow.{IsNarrowEnd, IsNarrowInvoke}
-use Rattle.htl_names.specs.Nth.{mode_in}
-use Rattle.htl_names.specs.declared.place.ModuleAt.{ModuleAt}
 use Rattle.htl_names.proofs.ListLaws.{few_reads, all_of, all_distinct, none_distinct, distinct_apart, among_at}
-use Rattle.htl_text.specs.declared.tree.EndNode.TheVariants as end
 
 -- items differ by what they are called, where those called alike stand at one place
 apart_by : {B N : Type 0} (called : B → N) (ys : List B) → ((j k : ℕ) (y z : B) → slice_get ys j ≡ Some y → slice_get ys k ≡ Some z → called y ≡ called z → j ≡ k) → AreApart (map called ys)

@@ -1,32 +1,32 @@
 -- Lists: different numbers and how many a switch reads, sums over places, items in pairs, items that pass a test.
 use Rattle.std.proofs.Common.{◌≡◌, ◌⊎◌, inl, inr, ℕ, zero, suc, Bool, true, false, cond, ◌||◌, eqb, List, [], ◌∷◌, ◌++◌, slice_get, Some, fold, refl, sym, ◌∙◌, ap, ap₂, subst, eq-eqb, eqb-true, ◌≤◌, ◌<◌, map, length, arith, length-append, ◌≢◌, ◌+◌, max, get_or, set, sum_by, sum, length-set, get_or-set_other, Option, IsSomeAnd}
 use Rattle.std.proofs.lemmas.Slice.Zip.{AllZip-left}
-use Rattle.htl_names.specs.Lists.{flat_map_at, with_new, place_in}
-use Rattle.std.specs.List.{AllZip, IsDistinct, list_any, flat_map, count_by}
+use Rattle.std.specs.List.{All, AllZip, IsDistinct, list_any, flat_map, count_by}
 use Rattle.std.proofs.Math.Bool.{or-false}
 use Rattle.std.proofs.lemmas.Bool.{or_cases, or_left, or_right, cond_both, cond-true, false≢true}
 use Rattle.std.proofs.lemmas.Cmp.{nat_eq_equiv}
+use Rattle.std.proofs.lemmas.List.Elements.{All-nil, All-cons}
 use Rattle.std.proofs.lemmas.List.Folds.{list_any-append, flat_map-map}
 use Rattle.std.proofs.lemmas.Map.Keys.{IsDistinct-push, apart_from_distinct, any_passes_from_place}
 use Rattle.std.proofs.lemmas.Option.{MatchOption-at_some, slice_get_within, get_or_from_slice_get, none-some, same_Some}
-use Rattle.htl_model.specs.Lists.{AreApart, list_to, places_from}
-use Rattle.htl_names.proofs.Members.{In, Each, each_weaker}
 use Rattle.std.specs.Str.{bytes_eq}
 use Rattle.std.proofs.lemmas.Slice.Eq.{bytes_eq-Decides}
 use Rattle.std.proofs.lemmas.Map.Steps.{length-le_from_distinct_below}
+use Rattle.std.proofs.lemmas.List.Sums.{sum_by-cons, sum_by-set}
+use Rattle.htl_model.specs.Lists.{AreApart, list_to, places_from}
+use Rattle.htl_model.specs.Tables.{greatest}
+use Rattle.htl_model.proofs.SelectionLaws.{place_passes as passes_there}
 use Rattle.htl_text.specs.Bounds.{names_of}
 use Rattle.htl_text.specs.Expressions.{Expr}
 use Rattle.htl_text.specs.Nodes.{PlainProgram}
 use Rattle.htl_text.specs.declared.tree.Id.{Id}
+use Rattle.htl_names.specs.Lists.{flat_map_at, with_new, place_in}
 use Rattle.htl_names.specs.Conditions.{with_new_name, different_names}
 use Rattle.htl_names.specs.Flat.{layout, meaning, comms_in, Layout, read_place}
 use Rattle.htl_names.specs.Keys.{comm_key}
 use Rattle.htl_names.specs.declared.key.Key.{Key}
+use Rattle.htl_names.proofs.Members.{In, Each, each_weaker}
 use Rattle.htl_names.proofs.FlatMaps.{of_map, flat_map_is, flat_map_parts}
-use Rattle.std.proofs.lemmas.List.Sums.{sum_by-cons, sum_by-set}
-use Rattle.std.proofs.lemmas.Grind.{flat_map-append}
-use Rattle.htl_model.specs.Tables.{greatest}
-use Rattle.htl_model.proofs.SelectionLaws.{place_passes as passes_there}
 
 abbrev pub is_among : List ℕ → ℕ → Bool
 is_among xs x = list_any (eqb x) xs
@@ -207,6 +207,13 @@ module _ {A B : Type 0} (R : A → B → Type 0) where
   zip_append (x ∷ xs) (y ∷ ys) us vs h k = (h.0, zip_append xs ys us vs h.1 k)
   zip_append [] (y ∷ ys) us vs h k = absurd h
   zip_append (x ∷ xs) [] us vs h k = absurd h
+
+  -- what the relation gives of each of the second list
+  pub zip_all : (P : B → Type 0) → ((x : A) (y : B) → R x y → P y) → (xs : List A) (ys : List B) → AllZip R xs ys → All P ys
+  zip_all P f [] [] h = All-nil P
+  zip_all P f (x ∷ xs) (y ∷ ys) h = All-cons P y ys (f x y h.0) (zip_all P f xs ys h.1)
+  zip_all P f [] (y ∷ ys) h = absurd h
+  zip_all P f (x ∷ xs) [] h = absurd h
 
   pub zip_map : {X : Type 0} (f : X → A) (g : X → B) (xs : List X) → ((k : ℕ) (x : X) → slice_get xs k ≡ Some x → R (f x) (g x)) → AllZip R (map f xs) (map g xs)
   zip_map f g [] h = tt

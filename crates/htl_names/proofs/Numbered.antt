@@ -3,29 +3,29 @@ use Rattle.std.proofs.Common.{◌≡◌, ◌<◌, ◌+◌, ℕ, zero, suc, true,
 use Rattle.std.proofs.lemmas.Bool.{and_from, and_parts, eq-eqb, eqb-true}
 use Rattle.std.proofs.lemmas.List.{length-take-le, length-map}
 use Rattle.std.proofs.lemmas.Option.{slice_get_within, same_Some}
+use Rattle.std.proofs.lemmas.Map.Keys.{any_passes_from_place}
+use Rattle.htl_model.proofs.Listed.{length-list_to}
+use Rattle.htl_model.specs.declared.parts.Mode.{Mode}
+use Rattle.htl_model.specs.declared.parts.Module.{Module}
+use Rattle.htl_model.specs.Ranges.{IsModeInRange, IsModeThat, IsModuleInRange, IsTaskInRange, parent_of, is_within}
+use Rattle.htl_model.specs.Tables.{Tables, mode_module}
 use Rattle.htl_text.specs.Nodes.{PlainProgram, PlainModule, PlainMode, PlainTask, PlainSwitch}
+use Rattle.htl_text.specs.Bounds.{modules_of, tasks_of, out_params, switches_of, modes_of}
 use Rattle.htl_names.specs.declared.place.ModeAt.{ModeAt}
 use Rattle.htl_names.specs.declared.place.ModuleAt.{ModuleAt}
 use Rattle.htl_names.specs.Flat.{Layout, is_module, module_number, modes_before, mode_item, mode_items, module_item, module_items_at, module_items, layout, symbols_of, meaning, mode_number, task_item, task_items, tables_of_tree}
 use Rattle.htl_names.specs.Lists.{flat_map_at}
 use Rattle.htl_names.specs.Order.{module_at, tasks_at, modes_at, module_modes, mode_order, order, switches_at}
 use Rattle.htl_names.specs.Ordered.{Exists, IsOrdered, StandsBefore}
-use Rattle.htl_names.proofs.FlatMaps.{in_front, at_part, at_flat, flat_part, flat_map_is, same_length, there_is, list_to_at, of_list_to, counted, given, stands}
-use Rattle.htl_model.proofs.Listed.{length-list_to}
-use Rattle.htl_model.specs.declared.parts.Mode.{Mode}
-use Rattle.htl_model.specs.declared.parts.Module.{Module}
-use Rattle.htl_model.specs.Ranges.{IsModeInRange, IsModeThat, IsModuleInRange, IsTaskInRange, parent_of, is_within}
-use Rattle.htl_model.specs.Tables.{Tables, mode_module}
-use Rattle.htl_text.specs.Bounds.{modules_of, tasks_of, out_params, switches_of, modes_of}
 use Rattle.htl_names.specs.Conditions.{MeetsBounds, MeetsTaskBounds, MeetsSwitchBounds}
 use Rattle.htl_names.specs.Keys.{mode_key}
 use Rattle.htl_names.specs.NameRules.{AreNamesRight}
 use Rattle.htl_names.specs.Programs.{naming, Naming, level, refined_in}
 use Rattle.htl_names.specs.Uses.{usage}
-use Rattle.htl_names.proofs.NameUses.{worst_span, mode_period_span, known, used_in_module}
 use Rattle.htl_names.specs.Nth.{mode_in}
+use Rattle.htl_names.proofs.FlatMaps.{in_front, at_part, at_flat, flat_part, flat_map_is, same_length, there_is, list_to_at, of_list_to, counted, given, stands}
+use Rattle.htl_names.proofs.NameUses.{worst_span, mode_period_span, known, used_in_module}
 use Rattle.htl_names.proofs.ListLaws.{place_found}
-use Rattle.std.proofs.lemmas.Map.Keys.{any_passes_from_place}
 use Rattle.htl_names.proofs.Places.{program_of_module, task_in_source, part_in_source}
 use Rattle.htl_names.proofs.Members.{All-at, all_given}
 

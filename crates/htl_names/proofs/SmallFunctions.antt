@@ -1,24 +1,23 @@
 -- The functions of a source have few nodes, and arguments that are there.
-use Rattle.std.proofs.Common.{◌≡◌, ◌≤◌, ◌<◌, ◌+◌, ℕ, zero, suc, Bool, length-append, true, false, cond, eqb, List, [], ◌∷◌, ◌++◌, length, map, slice_get, Option, Some, None, refl, sym, ◌∙◌, ap, ap₂, subst, arith, IsSomeAnd}
+use Rattle.std.proofs.Common.{◌≡◌, ◌≤◌, ◌<◌, ◌+◌, ℕ, zero, suc, Bool, length-append, true, false, cond, eqb, List, [], ◌∷◌, length, map, slice_get, Some, refl, sym, ◌∙◌, ap, ap₂, subst, arith}
 use Rattle.std.specs.List.{flat_map, All, AllZip}
 use Rattle.std.proofs.lemmas.List.Folds.{flat_map-map}
 use Rattle.std.proofs.lemmas.Simd.{map-map}
-use Rattle.std.proofs.lemmas.Option.{MatchOption-at_some, slice_get_within}
-use Rattle.std.proofs.lemmas.Slice.Zip.{AllZip-right, AllZip-long}
-use Rattle.htl_base.specs.declared.Ty.TheVariants.{Bool as BoolTy}
-use Rattle.htl_text.specs.declared.tree.ParamNode.{ParamNode}
+use Rattle.std.proofs.lemmas.Option.{slice_get_within}
+use Rattle.std.proofs.lemmas.Slice.Zip.{AllZip-long}
 use Rattle.std.proofs.lemmas.List.{length-map}
+use Rattle.htl_base.specs.declared.Ty.TheVariants.{Bool as BoolTy}
 use Rattle.htl_model.specs.FunctionTypes.{FunctionType, output_type, task_types, switch_type, comm_type, function_types}
 use Rattle.htl_model.specs.Small.{IsSmallFunction, AreSmall, ArgumentsBelow, nodes}
-use Rattle.htl_names.proofs.ListLaws.{zip_append, zip_map, zip_parts, zip_at, all_in, place_found, few_reads}
 use Rattle.htl_model.specs.Ranges.{AreInRange, IsFunInRange}
 use Rattle.htl_model.specs.Tables.{Tables, Fun, Formula, Compiled, function_count, count_before}
 use Rattle.htl_model.specs.declared.parts.Task.{Task}
-use Rattle.htl_names.proofs.FlatMaps.{flat_map_is, flat_map_parts}
-use Rattle.htl_names.proofs.Members.{In, in_first, in_second, in_part, in_mapped, at_place, All-at, All-from_places, map_flat_map_at}
-use Rattle.htl_names.proofs.Numbered.{task_small, switch_small, tasks_in}
 use Rattle.htl_model.proofs.PlaceLaws.{get_mapped}
-use Rattle.htl_names.proofs.NameUses.{known, used_in_task}
+use Rattle.htl_text.specs.declared.tree.ParamNode.{ParamNode}
+use Rattle.htl_text.specs.Bounds.{names_of, out_params, out_values, tree_nodes}
+use Rattle.htl_text.specs.Expressions.{Expr, Number, Flag, Variable, Prefix, Infix, Choice}
+use Rattle.htl_text.specs.Nodes.{PlainProgram, PlainTask, PlainOut, PlainOuts, PlainSwitch, Concrete, Abstract}
+use Rattle.htl_text.specs.declared.tree.Id.{Id}
 use Rattle.htl_names.specs.Conditions.{MeetsBounds, MeetsTaskBounds}
 use Rattle.htl_names.specs.Flat.{Layout, layout, meaning, term_by, types_of, is_abstract, task_item, task_items, module_task_items, switch_items, function_items, input_place, flat_output_function, outs_functions, task_functions, module_functions, comms_in, switch_item, mode_switch_items, read_place, flat_switch_function, mode_functions, tables_of_tree}
 use Rattle.htl_names.specs.Keys.{comm_key}
@@ -27,10 +26,11 @@ use Rattle.htl_names.specs.Order.{tasks_at, switches_at}
 use Rattle.htl_names.specs.Uses.{input_use, output_uses, outputs_uses}
 use Rattle.htl_names.specs.declared.place.ModeAt.{ModeAt}
 use Rattle.htl_names.specs.declared.place.ModuleAt.{ModuleAt}
-use Rattle.htl_text.specs.Bounds.{names_of, out_params, out_values, tree_nodes}
-use Rattle.htl_text.specs.Expressions.{Expr, Number, Flag, Variable, Prefix, Infix, Choice}
-use Rattle.htl_text.specs.Nodes.{PlainProgram, PlainTask, PlainOut, PlainOuts, PlainSwitch, Concrete, Abstract}
-use Rattle.htl_text.specs.declared.tree.Id.{Id}
+use Rattle.htl_names.proofs.ListLaws.{zip_append, zip_map, zip_parts, zip_at, zip_all, all_in, place_found, few_reads}
+use Rattle.htl_names.proofs.FlatMaps.{flat_map_is, flat_map_parts}
+use Rattle.htl_names.proofs.Members.{In, in_first, in_second, in_part, in_mapped, at_place, All-at, map_flat_map_at}
+use Rattle.htl_names.proofs.Numbered.{task_small, switch_small, tasks_in}
+use Rattle.htl_names.proofs.NameUses.{known, used_in_task}
 
 -- ---- expressions
 
@@ -145,17 +145,11 @@ functions_small ps small right ranges = λ k f g a b. zip_at IsSmallFunction (fu
 
 pub functions_in_range : (ps : List PlainProgram) → MeetsBounds ps → AreNamesRight ps → All IsFunInRange (function_items (layout ps) ps)
 functions_in_range ps small right =
-    All-from_places IsFunInRange (function_items (layout ps) ps) (λ k g at.
-    by g (slice_get types k) (MatchOption-at_some (Unit {0}) (λ y. IsSomeAnd (slice_get types k) (λ x. IsSmallFunction x y)) g at
-    (AllZip-right IsSmallFunction types (function_items (layout ps) ps) (all_zipped ps small right) k)))
+    zip_all IsSmallFunction IsFunInRange by (function_types (tables_of_tree ps)) (function_items (layout ps) ps) (all_zipped ps small right)
   where
-    types : List FunctionType
-    types = function_types (tables_of_tree ps)
-
-    by : (g : Fun) (o : Option FunctionType) → IsSomeAnd o (λ f. IsSmallFunction f g) → IsFunInRange g
-    by (Formula first e) o h = tt
-    by (Compiled code) (Some f) h = absurd h
-    by (Compiled code) None h = absurd h
+    by : (f : FunctionType) (g : Fun) → IsSmallFunction f g → IsFunInRange g
+    by f (Formula first e) h = tt
+    by f (Compiled code) h = absurd h
 
 types_of_task : (t : Task) → length (task_types t) ≡ function_count t
 types_of_task t = by t.is_abstract
