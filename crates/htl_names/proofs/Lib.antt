@@ -20,6 +20,6 @@ mod ModulePlaces
 mod Numbered
 pub mod OneFault
 mod Searches
-mod Meeting
+mod Reaching
 pub mod SmallFunctions
 pub mod TreeBounds

@@ -1,9 +1,9 @@
--- What the names in the heads of modes give.
-use Rattle.std.specs.Prelude.{ℕ, List, map}
+-- What the names in the heads of modes give, and which programs are reached.
+use Rattle.std.specs.Prelude.{◌≡◌, ◌<◌, ℕ, Bool, true, false, List, length, map, get_or}
 use Rattle.htl_text.specs.Nodes.{PlainProgram}
 use Rattle.htl_names.specs.declared.key.Key.{Key}
 use Rattle.htl_names.specs.Lists.{map_at}
-use Rattle.htl_names.specs.Programs.{Naming, Graph, program_naming}
+use Rattle.htl_names.specs.Programs.{Naming, Graph, Reached, program_naming}
 
 -- the modes that name programs, by the program that they stand in
 abbrev pub naming_rows : List (Key × ℕ) → List PlainProgram → List (List Naming)
@@ -15,3 +15,9 @@ targets row = map (λ (x : Naming). x.1) row
 
 abbrev pub graph_by : List (List Naming) → Graph
 graph_by rows = map targets rows
+
+-- the marks are at the programs that are reached, and only there
+pub record MarksReached (g : Graph) (seen : List Bool) : Type 0 where
+  pub len : length seen ≡ length g
+  pub says : (p : ℕ) → p < length g → get_or seen p false ≡ true → Reached g p
+  pub marks : (p : ℕ) → p < length g → Reached g p → get_or seen p false ≡ true

@@ -15,7 +15,6 @@ pub mod Order
 pub mod Ordered
 pub mod Parents
 pub mod Programs
-pub mod Reach
 pub mod Named
 pub mod Repeats
 pub mod Recorded

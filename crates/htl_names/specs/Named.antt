@@ -1,5 +1,5 @@
 -- How modes name programs: of each program how many do, counted up to 255, and the first of them.
-use Rattle.std.specs.Prelude.{◌≡◌, ◌<◌, ◌+◌, ◌||◌, ℕ, zero, suc, Bool, not, eqb, ltb, min, List, length, get_or, slice_get, slice_set, Option, Some, None}
+use Rattle.std.specs.Prelude.{◌≡◌, ◌<◌, ◌+◌, ◌||◌, ℕ, zero, suc, Bool, not, eqb, ltb, min, List, length, get_or, slice_set, Option, Some, None}
 use Rattle.htl_text.specs.Nodes.{PlainProgram}
 use Rattle.htl_names.specs.declared.key.Key.{Key}
 use Rattle.htl_names.specs.declared.place.ModeAt.{ModeAt}
@@ -15,12 +15,8 @@ abbrev pub named_too : ModeAt → Named → Named
 named_too a n = record { count = min (n.count + 1) 255; mode = Some (elim n.mode [ Some b ↦ b | None ↦ a ]) }
 
 -- a number of no program is passed over
-abbrev pub noted_at : List Named → Naming → Option Named → List Named
-noted_at table x (Some n) = slice_set table x.1 (named_too x.0 n)
-noted_at table x None = table
-
 abbrev pub noted : List Named → Naming → List Named
-noted table x = noted_at table x (slice_get table x.1)
+noted table x = slice_set table x.1 (named_too x.0 (get_or table x.1 unnamed))
 
 -- the mode that a program refines, by the table
 abbrev pub refined_at : List Named → ℕ → Option ModeAt

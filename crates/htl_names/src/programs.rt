@@ -1,10 +1,9 @@
 // The tree of programs: the modes that name programs, the first program that is out of place, and the mode that each refines.
 ghost use Rattle.std.specs.Prelude.{◌≡◌, ◌++◌, OnOk, IfOk, eqb, ◌<◌, length, slice_get, fold, MatchBool, ◌≤◌, ℕ, List};
 ghost use Rattle.htl_text.specs.Nodes.{mode_of, module_of, program_of, tree_of, PlainProgram};
-ghost use Rattle.htl_names.specs.Graph.{naming_rows, targets, graph_by};
+ghost use Rattle.htl_names.specs.Graph.{naming_rows, targets, graph_by, MarksReached};
 ghost use Rattle.htl_names.specs.Programs.{IsFirstMisplaced, named_program as program_of_mode, named_from, module_naming, program_naming, named_by, IsMisplaced};
 ghost use Rattle.htl_names.specs.Named.{noted, refined_at, is_misplaced, CountsNamings, AreRefined};
-ghost use Rattle.htl_names.specs.Reach.{met, met_by, IsMarked, MarksReached};
 ghost use Rattle.htl_names.specs.declared.key.Key.{Key};
 
 use crate::Done;
@@ -98,47 +97,27 @@ pub(crate) fn naming_rows(
 
 // ---- the programs that are reached
 
-/// Puts the programs that modes name behind the others, where they are new. A number of no program is passed over.
-fn meet_all(qs: &[Naming], seen: &mut Vec<bool>, queue: &mut Vec<usize>) -> Done
-    requires marked { IsMarked seen.old.items queue.old.items }
-    ensures queue { OnOk result (queue.new.items ≡ fold (met (length seen.old.items)) queue.old.items (targets qs.now)) }
-    ensures marked { OnOk result (IsMarked seen.new.items queue.new.items) }
-    ensures len { OnOk result (length seen.new.items ≡ length seen.old.items) }
+/// Puts the programs that modes name behind others.
+fn put_named(row: &[Naming], into: &mut Vec<usize>) -> Done
+    ensures { OnOk result (into.new.items ≡ into.old.items ++ targets row.now) }
 {
-    for k in 0..qs.len() {
-        let q = qs[k].1;
-        if q < seen.len() && !seen[q] {
-            queue.push(q)?;
-            seen[q] = true;
-        }
+    for k in 0..row.len() {
+        into.push(row[k].1)?;
     }
     Ok(())
 }
 
-/// The programs that the modes of a program name.
-fn named_by<'a>(rows: &'a [NamingRow], p: usize) -> &'a [Naming]
-    ensures { targets result.now ≡ named_by (graph_by rows.now) p }
-{
-    if p < rows.len() {
-        rows[p].as_slice()
-    } else {
-        &[]
-    }
-}
-
-/// Marks the programs that are reached from the root. Each program is asked once.
-pub(crate) fn reach(alloc: Global, rows: &[NamingRow]) -> Result<Vec<bool>, AllocError>
-    requires some { 0 < length rows.now }
+/// Marks the programs that are reached from the root. Each is asked once. A number of no program is passed over.
+fn reach(alloc: Global, rows: &[NamingRow]) -> Result<Vec<bool>, AllocError>
     ensures { IfOk result (λ v. MarksReached (graph_by rows.now) v.items) }
 {
     let mut seen = vec![in alloc; false; rows.len()]?;
-    let mut queue = Vec::new(alloc);
-    queue.push(0)?;
-    seen[0] = true;
-    for i in 0..rows.len() {
-        if i < queue.len() {
-            let row = named_by(rows, queue[i]);
-            meet_all(row, &mut seen, &mut queue)?;
+    let mut waiting = Vec::new(alloc);
+    waiting.push(0)?;
+    while let Some(p) = waiting.pop() {
+        if p < seen.len() && !seen[p] {
+            seen[p] = true;
+            put_named(rows[p].as_slice(), &mut waiting)?;
         }
     }
     Ok(seen)
@@ -205,9 +184,6 @@ pub(crate) fn first_misplaced(
     requires counts { CountsNamings (graph_by rows.now) named.now }
     ensures { IfOk result (λ o. IsFirstMisplaced (graph_by rows.now) o) }
 {
-    if rows.is_empty() {
-        return Ok(None);
-    }
     let seen = reach(alloc, rows)?;
     for p in 0..rows.len() {
         if is_misplaced(p, named[p].count, seen[p]) {
