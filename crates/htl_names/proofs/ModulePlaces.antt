@@ -1,5 +1,5 @@
 -- The modules in the order of the tables: where each stands, what it refines, and what stands before it.
-use Rattle.std.proofs.Common.{◌≡◌, ℕ, zero, suc, ◌+◌, ◌<◌, true, false, cond, List, [], ◌∷◌, ◌++◌, length, slice_get, Option, Some, None, filter, refl, ◌∙◌, ap, subst, arith, ◌⊎◌, inl, inr, sym}
+use Rattle.std.proofs.Common.{◌≡◌, ℕ, zero, suc, ◌+◌, ◌<◌, true, false, cond, List, [], ◌∷◌, ◌++◌, length, take, slice_get, Option, Some, None, filter, refl, ◌∙◌, ap, subst, arith, ◌⊎◌, inl, inr, sym}
 use Rattle.std.specs.List.{flat_map}
 use Rattle.std.proofs.lemmas.List.Elements.{filter-append}
 use Rattle.std.proofs.lemmas.Option.{slice_get_within, none-some, same_Some}
@@ -11,9 +11,9 @@ use Rattle.htl_names.specs.Order.{modules_at, modes_at, modules_in, mode_kids, k
 use Rattle.htl_names.specs.Ordered.{Exists, is_root_module, StandsBefore}
 use Rattle.htl_names.specs.Programs.{named_program}
 use Rattle.htl_names.specs.Nth.{nth_module}
-use Rattle.htl_names.proofs.Members.{Each, each_weaker, each_list_to, each_flat_map, each_flat_map_at}
+use Rattle.htl_names.proofs.Members.{Each, each_at, each_weaker, each_list_to, each_flat_map, each_flat_map_at}
 use Rattle.htl_names.proofs.Naming.{Names}
-use Rattle.htl_names.proofs.FlatMaps.{there_is}
+use Rattle.htl_names.proofs.FlatMaps.{there_is, at_flat, flat_part, get_back}
 use Rattle.htl_names.proofs.Places.{program_of_module}
 
 -- a module of the root has no parent; one of another program has the mode that names the program
@@ -125,70 +125,50 @@ module _ (symbols : List (Key × ℕ)) (ps : List PlainProgram) where
 
 -- ---- the module of a refined mode stands before the modules that refine it
 
--- a is a mode of s
-record IsModeOf (ps : List PlainProgram) (a : ModeAt) (s : ModuleAt) : Type 0 where
-  program : s.program ≡ a.program
-  number : s.«module» ≡ a.«module»
-  mode : a.mode < length (modes_at ps a.program a.«module»)
-
 module _ (symbols : List (Key × ℕ)) (ps : List PlainProgram) where
-  -- the parent of each is a mode that Q holds of, or one of a module that stands before it
-  abbrev Follows : List ModuleAt → (ModeAt → Type 0) → Type 0
-  Follows [] Q = Unit {0}
-  Follows (s ∷ xs) Q = ((a : ModeAt) → s.parent ≡ Some a → Q a) × Follows xs (λ a. Q a ⊎ IsModeOf ps a s)
+  -- what stands before a place of a list stands before the places behind it
+  later : (xs ys : List ModuleAt) (k n : ℕ) (a : ModeAt) → ((j : ℕ) (s : ModuleAt) → slice_get xs j ≡ Some s → slice_get ys (n + j) ≡ Some s) → StandsBefore ps xs k a → StandsBefore ps ys (n + k) a
+  later xs ys k n a moved b =
+      let lower = b.lower in
+      record { place = n + b.place; lower = omega (arith, lower); «module» = b.«module»; there = moved b.place b.«module» b.there; program = b.program; number = b.number; mode = b.mode }
 
-  follows_weaker : (xs : List ModuleAt) (Q R : ModeAt → Type 0) → ((a : ModeAt) → Q a → R a) → Follows xs Q → Follows xs R
-  follows_weaker [] Q R f h = tt
-  follows_weaker (s ∷ xs) Q R f h =
-      (λ a e. f a (h.0 a e), follows_weaker xs (λ a. Q a ⊎ IsModeOf ps a s) (λ a. R a ⊎ IsModeOf ps a s) (λ a q. either a q) h.1)
-    where
-      either : (a : ModeAt) → Q a ⊎ IsModeOf ps a s → R a ⊎ IsModeOf ps a s
-      either a (inl q) = inl (f a q)
-      either a (inr m) = inr m
+  -- the parent of a module below others is that of one of them, or stands before it
+  before_flat : (n : ℕ) (xs : List ModuleAt) → ((s r : ModuleAt) (k : ℕ) (a : ModeAt) → slice_get (below n symbols ps s) k ≡ Some r → r.parent ≡ Some a → (s.parent ≡ Some a) ⊎ StandsBefore ps (below n symbols ps s) k a)
+      → (r : ModuleAt) (k : ℕ) (a : ModeAt) → slice_get (flat_map (below n symbols ps) xs) k ≡ Some r → r.parent ≡ Some a
+      → ((j : ℕ) × (s : ModuleAt) × (slice_get xs j ≡ Some s) × (s.parent ≡ Some a)) ⊎ StandsBefore ps (flat_map (below n symbols ps) xs) k a
+  before_flat n xs own r k a e p =
+      let f = below n symbols ps in
+      let at = flat_part f xs k r e in
+      let front = length (flat_map f (take at.part xs)) in
+      elim (own at.owner r at.place a at.item p) [
+        | inl above ↦ inl (at.part, at.owner, at.there, above)
+        | inr b ↦
+            inr (subst (λ m. StandsBefore ps (flat_map f xs) m a) (sym at.number)
+            (later (f at.owner) (flat_map f xs) at.place front a (λ j s there. at_flat f xs at.part j at.owner s at.there there) b))
+      ]
 
-  follows_append : (xs ys : List ModuleAt) (Q : ModeAt → Type 0) → Follows xs Q → Follows ys Q → Follows (xs ++ ys) Q
-  follows_append [] ys Q h k = k
-  follows_append (s ∷ xs) ys Q h k =
-      (h.0, follows_append xs ys (λ a. Q a ⊎ IsModeOf ps a s) h.1 (follows_weaker ys Q (λ a. Q a ⊎ IsModeOf ps a s) (λ a q. inl q) k))
-
-  follows_flat_map : (f : ModuleAt → List ModuleAt) (xs : List ModuleAt) (Q : ModeAt → Type 0) → Each (λ s. Follows (f s) Q) xs → Follows (flat_map f xs) Q
-  follows_flat_map f [] Q h = tt
-  follows_flat_map f (s ∷ xs) Q h = follows_append (f s) (flat_map f xs) Q h.0 (follows_flat_map f xs Q h.1)
-
-  kid_parent : (s r : ModuleAt) (a : ModeAt) → IsKid symbols ps s r → r.parent ≡ Some a → IsModeOf ps a s
-  kid_parent s r a k e =
-      let b : ModeAt = record { program = s.program; «module» = s.«module»; mode = k.mode } in
-      let same : b ≡ a = same_Some b a (sym k.parent ∙ e) in
-      subst (λ c. IsModeOf ps c s) same (record { program = refl; number = refl; mode = k.inside })
-
-  follows_below : (n : ℕ) (s : ModuleAt) (Q : ModeAt → Type 0) → ((a : ModeAt) → s.parent ≡ Some a → Q a) → Follows (below n symbols ps s) Q
-  follows_below zero s Q h = (h, tt)
-  follows_below (suc n) s Q h = (
-    h,
-    follows_flat_map (below n symbols ps) (kids symbols ps s) (λ a. Q a ⊎ IsModeOf ps a s)
-        (each_weaker (IsKid symbols ps s) (λ r. Follows (below n symbols ps r) (λ a. Q a ⊎ IsModeOf ps a s))
-        (λ r k. follows_below n r (λ a. Q a ⊎ IsModeOf ps a s) (λ a e. inr (kid_parent s r a k e))) (kids symbols ps s) (kids_are symbols ps s)),
-  )
-
-  order_follows : Follows (order symbols ps) (λ a. ⊥)
-  order_follows =
-      follows_flat_map (below (length ps) symbols ps) (modules_in ps None 0) (λ a. ⊥)
-      (each_weaker (λ (s : ModuleAt). IsPlaced symbols ps s × (s.parent ≡ None)) (λ r. Follows (below (length ps) symbols ps r) (λ a. ⊥))
-      (λ r p. follows_below (length ps) r (λ a. ⊥) (λ a e. none-some a (sym p.1 ∙ e))) (modules_in ps None 0) (roots_are symbols ps))
-
-  follows_at : (xs : List ModuleAt) (Q : ModeAt → Type 0) → Follows xs Q → (k : ℕ) (s : ModuleAt) (a : ModeAt) → slice_get xs k ≡ Some s → s.parent ≡ Some a → Q a ⊎ StandsBefore ps xs k a
-  follows_at [] Q h k s a e p = absurd (none-some s e)
-  follows_at (x ∷ xs) Q h zero s a e p = inl (h.0 a (ap (λ (r : ModuleAt). r.parent) (same_Some x s e) ∙ p))
-  follows_at (x ∷ xs) Q h (suc k) s a e p = further (follows_at xs (λ b. Q b ⊎ IsModeOf ps b x) h.1 k s a e p)
-    where
-      further : (Q a ⊎ IsModeOf ps a x) ⊎ StandsBefore ps xs k a → Q a ⊎ StandsBefore ps (x ∷ xs) (suc k) a
-      further (inl (inl q)) = inl q
-      further (inl (inr m)) = inr (record { place = 0; lower = omega arith; «module» = x; there = refl; program = m.program; number = m.number; mode = m.mode })
-      further (inr b) = let lt = b.lower in inr (record { place = suc b.place; lower = omega (arith, lt); «module» = b.«module»; there = b.there; program = b.program; number = b.number; mode = b.mode })
+  before_below : (n : ℕ) (s r : ModuleAt) (k : ℕ) (a : ModeAt) → slice_get (below n symbols ps s) k ≡ Some r → r.parent ≡ Some a → (s.parent ≡ Some a) ⊎ StandsBefore ps (below n symbols ps s) k a
+  before_below zero s r zero a e p = inl (ap (λ (t : ModuleAt). t.parent) (same_Some s r e) ∙ p)
+  before_below zero s r (suc k) a e p = absurd (none-some r e)
+  before_below (suc n) s r zero a e p = inl (ap (λ (t : ModuleAt). t.parent) (same_Some s r e) ∙ p)
+  before_below (suc n) s r (suc k) a e p =
+      elim (before_flat n (kids symbols ps s) (before_below n) r k a e p) [
+        | inl top ↦
+            let kid = each_at (IsKid symbols ps s) (kids symbols ps s) top.0 top.1 (kids_are symbols ps s) top.2 in
+            let one : ModeAt = record { program = s.program; «module» = s.«module»; mode = kid.mode } in
+            let same : one ≡ a = same_Some one a (sym kid.parent ∙ top.3) in
+            inr (subst (λ b. StandsBefore ps (below (suc n) symbols ps s) (suc k) b) same
+            (record { place = 0; lower = omega arith; «module» = s; there = refl; program = refl; number = refl; mode = kid.inside }))
+        | inr b ↦
+            inr (subst (λ m. StandsBefore ps (below (suc n) symbols ps s) m a) (omega arith)
+            (later (flat_map (below n symbols ps) (kids symbols ps s)) (below (suc n) symbols ps s) k 1 a (λ j t there. get_back (s ∷ []) (flat_map (below n symbols ps) (kids symbols ps s)) j ∙ there) b))
+      ]
 
   pub parents_before : (k : ℕ) (s : ModuleAt) (a : ModeAt) → slice_get (order symbols ps) k ≡ Some s → s.parent ≡ Some a → StandsBefore ps (order symbols ps) k a
-  parents_before k s a e p = no (follows_at (order symbols ps) (λ b. ⊥) order_follows k s a e p)
-    where
-      no : ⊥ ⊎ StandsBefore ps (order symbols ps) k a → StandsBefore ps (order symbols ps) k a
-      no (inl f) = absurd f
-      no (inr b) = b
+  parents_before k s a e p =
+      elim (before_flat (length ps) (modules_in ps None 0) (before_below (length ps)) s k a e p) [
+        | inl top ↦
+            let root = each_at (λ (r : ModuleAt). IsPlaced symbols ps r × (r.parent ≡ None)) (modules_in ps None 0) top.0 top.1 (roots_are symbols ps) top.2 in
+            absurd (none-some a (sym root.1 ∙ top.3))
+        | inr b ↦ b
+      ]

@@ -1,9 +1,10 @@
 -- A tree of programs: its levels, how many programs it has, and the table of refined modes.
-use Rattle.std.proofs.Common.{◌≡◌, ℕ, zero, suc, ◌+◌, ◌≤◌, ◌<◌, inl, inr, Bool, true, false, eqb, List, [], ◌∷◌, length, get_or, Option, Some, None, refl, sym, ◌∙◌, ap, subst, arith, cond, eqb-true}
+use Rattle.std.proofs.Common.{◌≡◌, ℕ, zero, suc, ◌+◌, ◌≤◌, ◌<◌, inl, inr, Bool, true, eqb, List, [], ◌∷◌, length, Option, Some, None, refl, sym, ◌∙◌, ap, subst, arith, cond, eq-or-lt_of_le}
 use Rattle.std.specs.List.{list_any, flat_map, count_by}
 use Rattle.std.proofs.lemmas.Bool.Decides.{nat_tests}
-use Rattle.std.proofs.lemmas.Map.Keys.{IsDistinct-from_apart}
-use Rattle.std.proofs.lemmas.Map.Steps.{length-le_from_distinct_below}
+use Rattle.std.proofs.lemmas.Map.Steps.{le-length_from_below}
+use Rattle.htl_model.specs.Lists.{list_to}
+use Rattle.htl_model.proofs.Listed.{length-list_to}
 use Rattle.htl_text.specs.Nodes.{PlainProgram, PlainModule, PlainMode}
 use Rattle.htl_names.specs.declared.key.Key.{Key}
 use Rattle.htl_names.specs.declared.place.ModeAt.{ModeAt}
@@ -13,8 +14,8 @@ use Rattle.htl_names.proofs.Naming.{Names, refined_is, refined_none, named_count
 use Rattle.std.proofs.lemmas.List.Sums.{sum_by-cons}
 use Rattle.htl_text.specs.Bounds.{modules_of, modes_of}
 use Rattle.htl_names.proofs.Members.{sum_by_map, sum_by_flat_map}
-use Rattle.htl_names.proofs.ListLaws.{flat_map_flat_map}
-use Rattle.htl_names.proofs.FlatMaps.{flat_map_shorter, flat_map_single_shorter}
+use Rattle.htl_names.proofs.ListLaws.{among_at, flat_map_flat_map}
+use Rattle.htl_names.proofs.FlatMaps.{list_to_at, flat_map_shorter, flat_map_single_shorter}
 
 -- the programs make a tree
 abbrev pub IsTree : List (Key × ℕ) → List PlainProgram → Type 0
@@ -45,66 +46,49 @@ module _ (symbols : List (Key × ℕ)) (ps : List PlainProgram) (tree : IsTree s
   abbrev Deep : ℕ → ℕ → Type 0
   Deep d q = (m : ℕ) → d < m → level (naming symbols ps) m q ≡ suc d
 
-  -- a program, then the program of the mode that it refines, and so on
-  abbrev Chain : List ℕ → Type 0
-  Chain [] = Unit {0}
-  Chain (q ∷ c) = Deep (length c) q × (q < length ps) × Chain c
-
-  level_none : (m q : ℕ) → refined_by symbols ps q ≡ None → level (naming symbols ps) (suc m) q ≡ 1
-  level_none m q e = ap (λ (o : Option ModeAt). elim o [ Some a ↦ suc (level (naming symbols ps) m a.program) | None ↦ 1 ]) e
-
   level_some : (m q : ℕ) (a : ModeAt) → refined_by symbols ps q ≡ Some a → level (naming symbols ps) (suc m) q ≡ suc (level (naming symbols ps) m a.program)
   level_some m q a e = ap (λ (o : Option ModeAt). elim o [ Some b ↦ suc (level (naming symbols ps) m b.program) | None ↦ 1 ]) e
 
   deep_root : 0 < length ps → Deep 0 0
   deep_root some zero lt = absurd (omega arith)
-  deep_root some (suc m) lt = level_none m 0 (refined_none symbols ps 0 (root_unnamed some))
+  deep_root some (suc m) lt =
+      ap (λ (o : Option ModeAt). elim o [ Some a ↦ suc (level (naming symbols ps) m a.program) | None ↦ 1 ]) (refined_none symbols ps 0 (root_unnamed some))
 
   deep_more : (d q : ℕ) (a : ModeAt) → refined_by symbols ps q ≡ Some a → Deep d a.program → Deep (suc d) q
   deep_more d q a e h zero lt = absurd (omega arith)
   deep_more d q a e h (suc m) lt = level_some m q a e ∙ ap suc (h m (omega arith))
 
-  chain_of : (q : ℕ) → Reached (links symbols ps) q → q < length ps → (c : List ℕ) × Chain (q ∷ c)
-  chain_of q root lt = ([], (deep_root lt, lt, tt))
+  -- at each depth down to d stands a program
+  abbrev Chain : ℕ → Type 0
+  Chain d = (k : ℕ) → k ≤ d → (p : ℕ) × (p < length ps) × Deep k p
+
+  chain_of : (q : ℕ) → Reached (links symbols ps) q → q < length ps → (d : ℕ) × Deep d q × Chain d
+  chain_of q root lt = (0, deep_root lt, λ k le. (0, lt, subst (λ j. Deep j 0) (omega (arith, le)) (deep_root lt)))
   chain_of q (beneath p r up by) lt =
       let n = link_names symbols ps p q by in
       let c = chain_of p up n.0 in
-      (p ∷ c.0, (deep_more (length c.0) q n.1 (refined_at n.1 q lt n.3) (subst (Deep (length c.0)) (sym n.2) c.1.0), lt, c.1))
+      let here = deep_more c.0 q n.1 (refined_at n.1 q lt n.3) (subst (Deep c.0) (sym n.2) c.1) in (
+        suc c.0,
+        here,
+        λ k le. elim (eq-or-lt_of_le {n = k} {m = suc c.0} le) [ inl is ↦ (q, lt, subst (λ j. Deep j q) (sym is) here) | inr less ↦ c.2 k (omega (arith, less)) ],
+      )
 
-  chain_at : (c : List ℕ) (i d : ℕ) → Chain c → i < length c → (k : ℕ) × (k + suc i ≡ length c) × Deep k (get_or c i d)
-  chain_at [] i d h lt = absurd (omega arith)
-  chain_at (q ∷ c) zero d h lt = (length c, omega arith, h.0)
-  chain_at (q ∷ c) (suc i) d h lt = let r = chain_at c i d h.2 (omega arith) in (r.0, omega (arith, r.1), r.2)
-
-  chain_below : (c : List ℕ) → Chain c → (q : ℕ) → list_any (eqb q) c ≡ true → q < length ps
-  chain_below [] h q e = cc
-  chain_below (x ∷ c) h q e = by (chain_below c h.2 q) (eqb q x) refl
+  -- so no program is as deep as there are programs
+  chain_short : (d : ℕ) → Chain d → d < length ps
+  chain_short d c =
+      let size = length-list_to deep (length ps) in
+      let all = le-length_from_below (0 ∷ list_to deep (length ps)) (suc (suc d)) there in
+      omega (arith, size, all)
     where
-      by : (list_any (eqb q) c ≡ true → q < length ps) → (b : Bool) → eqb q x ≡ b → q < length ps
-      by later true t = let same : q ≡ x = grind (arith, nat_tests) in subst (λ y. y < length ps) (sym same) h.1
-      by later false t = later (let e2 : list_any (eqb q) (x ∷ c) ≡ list_any (eqb q) c = rw t refl in sym e2 ∙ e)
+      deep : ℕ → ℕ
+      deep = level (naming symbols ps) (suc d)
 
-  chain_short : (c : List ℕ) → Chain c → length c ≤ length ps
-  chain_short c h = length-le_from_distinct_below c (length ps) (IsDistinct-from_apart eqb c apart) (chain_below c h)
-    where
-      apart : (i j d : ℕ) → i < j → j < length c → eqb (get_or c i d) (get_or c j d) ≡ false
-      apart i j d lt in_c = by (eqb (get_or c i d) (get_or c j d)) refl
-        where
-          by : (b : Bool) → eqb (get_or c i d) (get_or c j d) ≡ b → b ≡ false
-          by false e = refl
-          by true e =
-              let same : get_or c i d ≡ get_or c j d = grind (arith, nat_tests) in
-              let x = chain_at c i d h (omega arith) in
-              let y = chain_at c j d h in_c in
-              let m = suc (x.0 + y.0) in
-              let one = x.2 m (omega arith) in
-              let two = y.2 m (omega arith) in
-              let three = ap (level (naming symbols ps) m) same in
-              absurd (omega (arith, one, two, three, x.1, y.1))
-
-  -- a program that is reached stands at a depth below the number of programs
-  depth_of : (q : ℕ) → q < length ps → Reached (links symbols ps) q → (d : ℕ) × (d < length ps) × Deep d q
-  depth_of q lt r = let c = chain_of q r lt in let short = chain_short (q ∷ c.0) c.1 in (length c.0, omega (arith, short), c.1.0)
+      there : (k : ℕ) → k < suc (suc d) → list_any (eqb k) (0 ∷ list_to deep (length ps)) ≡ true
+      there zero lt = refl
+      there (suc k) lt =
+          let p = c k (omega (arith, lt)) in
+          let at = list_to_at deep (length ps) p.0 p.1 ∙ ap (λ (x : ℕ). Some x) (p.2 (suc d) (omega (arith, lt))) in
+          among_at (0 ∷ list_to deep (length ps)) (suc p.0) (suc k) at
 
   -- one level more than the program of the mode that it refines
   pub level_step : (q : ℕ) (a : ModeAt) → q < length ps → Names symbols ps a q
@@ -112,60 +96,18 @@ module _ (symbols : List (Key × ℕ)) (ps : List PlainProgram) (tree : IsTree s
   level_step zero a lt h = absurd (root_not_named lt a h)
   level_step (suc q) a lt h =
       stable _ _ (λ no. tree (suc q) lt (inr (λ r.
-      let d = depth_of (suc q) lt r in
-      let one = d.2 (length ps) d.1 in
-      let two = d.2 (suc (length ps)) (omega (arith, d.1)) in
+      let d = chain_of (suc q) r lt in
+      let short = chain_short d.0 d.2 in
+      let one = d.1 (length ps) short in
+      let two = d.1 (suc (length ps)) (omega (arith, short)) in
       let three = level_some (length ps) (suc q) a (refined_at a (suc q) lt h) in
       no (omega (arith, one, two, three)))))
 
 -- ---- a tree of programs has at most one program more than modes
 
--- how often the numbers below n stand in a list
-abbrev hits : ℕ → List ℕ → ℕ
-hits zero xs = 0
-hits (suc n) xs = hits n xs + count_by (eqb n) xs
-
-abbrev hit : ℕ → ℕ → ℕ
-hit zero x = 0
-hit (suc n) x = hit n x + cond (eqb n x) 1 0
-
-hits_none : (n : ℕ) → hits n [] ≡ 0
-hits_none zero = refl
-hits_none (suc n) = let h = hits_none n in omega (arith, h)
-
-hits_cons : (n x : ℕ) (xs : List ℕ) → hits n (x ∷ xs) ≡ hits n xs + hit n x
-hits_cons zero x xs = omega arith
-hits_cons (suc n) x xs = let h = hits_cons n x xs in let c = sum_by-cons (λ y. cond (eqb n y) 1 0) x xs in omega (arith, h, c)
-
-hit_past : (n x : ℕ) → n ≤ x → hit n x ≡ 0
-hit_past zero x le = refl
-hit_past (suc n) x le =
-    let h = hit_past n x (omega (arith, le)) in
-    let e : eqb n x ≡ false = grind (arith, nat_tests) in
-    let c : ◌≡◌ {A = ℕ} (cond (eqb n x) 1 0) 0 = rw e refl in
-    omega (arith, h, c)
-
-hit_one : (n x : ℕ) → hit n x ≤ 1
-hit_one zero x = omega arith
-hit_one (suc n) x = by (hit_one n x) (eqb n x) refl
-  where
-    by : hit n x ≤ 1 → (b : Bool) → eqb n x ≡ b → hit (suc n) x ≤ 1
-    by h true e =
-        let same = eqb-true n x e in
-        let none = hit_past n x (omega (arith, same)) in
-        let c : ◌≡◌ {A = ℕ} (cond (eqb n x) 1 0) 1 = rw e refl in
-        omega (arith, none, c)
-    by h false e = let c : ◌≡◌ {A = ℕ} (cond (eqb n x) 1 0) 0 = rw e refl in omega (arith, h, c)
-
-hits_length : (n : ℕ) (xs : List ℕ) → hits n xs ≤ length xs
-hits_length n [] = let h = hits_none n in omega (arith, h)
-hits_length n (x ∷ xs) = let h = hits_length n xs in let a = hits_cons n x xs in let b = hit_one n x in omega (arith, h, a, b)
-
--- all but 0 stand there
-hits_all : (n : ℕ) (xs : List ℕ) → ((q : ℕ) → suc q < n → count_by (eqb (suc q)) xs ≡ 1) → n ≤ hits n xs + 1
-hits_all zero xs h = omega arith
-hits_all (suc zero) xs h = omega arith
-hits_all (suc (suc n)) xs h = let r = hits_all (suc n) xs (λ q lt. h q (omega (arith, lt))) in let c = h n (omega arith) in omega (arith, r, c)
+any_counted : {A : Type 0} (test : A → Bool) (xs : List A) → 0 < count_by test xs → list_any test xs ≡ true
+any_counted test [] h = absurd (let none : count_by test [] ≡ 0 = refl in omega (arith, h, none))
+any_counted test (x ∷ xs) h = let first = sum_by-cons (λ y. cond (test y) 1 0) x xs in grind (arith, any_counted test xs)
 
 mode_links_one : (symbols : List (Key × ℕ)) (x : PlainMode) → length (mode_links symbols x) ≤ 1
 mode_links_one symbols x = by (named_program symbols x)
@@ -189,8 +131,11 @@ module _ (symbols : List (Key × ℕ)) (ps : List PlainProgram) where
 
   pub few_programs : IsTree symbols ps → length ps ≤ length (modes_of (modules_of ps)) + 1
   few_programs tree =
-      let xs = flat_map (program_links symbols) ps in
-      let one = hits_all (length ps) xs (λ q lt. links_count (suc q) ∙ named_once symbols ps tree q lt) in
-      let two = hits_length (length ps) xs in
-      let three = links_length in
-      omega (arith, one, two, three)
+      let all = le-length_from_below (0 ∷ flat_map (program_links symbols) ps) (length ps) there in
+      omega (arith, all, links_length)
+    where
+      there : (q : ℕ) → q < length ps → list_any (eqb q) (0 ∷ flat_map (program_links symbols) ps) ≡ true
+      there zero lt = refl
+      there (suc q) lt =
+          let named = any_counted (eqb (suc q)) (flat_map (program_links symbols) ps) (omega (arith, links_count (suc q), named_once symbols ps tree q lt)) in
+          grind (arith, nat_tests)
