@@ -76,13 +76,18 @@ module _ (symbols : List (Key × ℕ)) (ps : List PlainProgram) where
           each_weaker (λ r. (k : IsKid symbols ps s r) × (k.mode ≡ j)) (IsKid symbols ps s) (λ r k. k.0) (mode_kids symbols ps s.program s.«module» j x) (mode_kids_are s j x at)
 
   -- what passes on to kids holds of all below
-  pub each_below : (P : ModuleAt → Type 0) → ((s r : ModuleAt) → IsKid symbols ps s r → P s → P r) → (n : ℕ) (s : ModuleAt) → P s → Each P (below n symbols ps s)
-  each_below P step zero s p = (p, tt)
-  each_below P step (suc n) s p = (
-    p,
-    each_flat_map P (below n symbols ps) (kids symbols ps s)
-        (each_weaker (IsKid symbols ps s) (λ r. Each P (below n symbols ps r)) (λ r k. each_below P step n r (step s r k p)) (kids symbols ps s) (kids_are s)),
-  )
+  module _ (P : ModuleAt → Type 0) (step : (s r : ModuleAt) → IsKid symbols ps s r → P s → P r) where
+    pub each_below : (n : ℕ) (s : ModuleAt) → P s → Each P (below n symbols ps s)
+    each_below zero s p = (p, tt)
+    each_below (suc n) s p =
+        (p, each_flat_map P (below n symbols ps) (kids symbols ps s) (each_weaker (IsKid symbols ps s) (λ r. Each P (below n symbols ps r)) (λ r k. each_below n r (step s r k p)) (kids symbols ps s) (kids_are s)))
+
+    -- and what holds of some, of all below them
+    pub each_beyond : (n : ℕ) (xs : List ModuleAt) → Each P xs → Each P (flat_map (below n symbols ps) xs)
+    each_beyond n xs h = each_flat_map P (below n symbols ps) xs (each_weaker P (λ r. Each P (below n symbols ps r)) (each_below n) xs h)
+
+    pub each_kid : (n : ℕ) (s : ModuleAt) → ((r : ModuleAt) → IsKid symbols ps s r → P r) → Each P (flat_map (below n symbols ps) (kids symbols ps s))
+    each_kid n s h = each_beyond n (kids symbols ps s) (each_weaker (IsKid symbols ps s) P h (kids symbols ps s) (kids_are s))
 
   pub roots_are : Each (λ (s : ModuleAt). IsPlaced symbols ps s × (s.parent ≡ None)) (modules_in ps None 0)
   roots_are =
@@ -91,9 +96,8 @@ module _ (symbols : List (Key × ℕ)) (ps : List PlainProgram) where
 
   pub modules_placed : Each (IsPlaced symbols ps) (order symbols ps)
   modules_placed =
-      each_flat_map (IsPlaced symbols ps) (below (length ps) symbols ps) (modules_in ps None 0)
-      (each_weaker (λ (s : ModuleAt). IsPlaced symbols ps s × (s.parent ≡ None)) (λ r. Each (IsPlaced symbols ps) (below (length ps) symbols ps r))
-      (λ r p. each_below (IsPlaced symbols ps) (λ s t k q. k.placed) (length ps) r p.0) (modules_in ps None 0) roots_are)
+      each_beyond (IsPlaced symbols ps) (λ s t k q. k.placed) (length ps) (modules_in ps None 0)
+      (each_weaker (λ (s : ModuleAt). IsPlaced symbols ps s × (s.parent ≡ None)) (IsPlaced symbols ps) (λ r p. p.0) (modules_in ps None 0) roots_are)
 
   -- ---- the root modules
 
@@ -107,10 +111,8 @@ module _ (symbols : List (Key × ℕ)) (ps : List PlainProgram) where
   below_roots : (n : ℕ) (s : ModuleAt) → s.parent ≡ None → filter is_root_module (below n symbols ps s) ≡ s ∷ []
   below_roots zero s e = ap (λ (o : Option ModeAt). cond (elim o [ Some a ↦ false | None ↦ true ]) (s ∷ []) []) e
   below_roots (suc n) s e =
-      let P : ModuleAt → Type 0 = λ r. is_root_module r ≡ false in
       let rest = flat_map (below n symbols ps) (kids symbols ps s) in
-      let no = none_kept rest (each_flat_map P (below n symbols ps) (kids symbols ps s)
-      (each_weaker (IsKid symbols ps s) (λ r. Each P (below n symbols ps r)) (λ r k. each_below P (λ t q l p. kid_no_root t q l) n r (kid_no_root s r k)) (kids symbols ps s) (kids_are s))) in
+      let no = none_kept rest (each_kid (λ r. is_root_module r ≡ false) (λ t q l p. kid_no_root t q l) n s (kid_no_root s)) in
       ap (λ (o : Option ModeAt). cond (elim o [ Some a ↦ false | None ↦ true ]) (s ∷ filter is_root_module rest) (filter is_root_module rest)) e ∙ ap (λ l. s ∷ l) no
 
   all_roots : (n : ℕ) (xs : List ModuleAt) → Each (λ (s : ModuleAt). IsPlaced symbols ps s × (s.parent ≡ None)) xs → filter is_root_module (flat_map (below n symbols ps) xs) ≡ xs

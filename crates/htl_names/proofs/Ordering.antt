@@ -10,7 +10,7 @@ use Rattle.htl_names.specs.NameRules.{AreNamesRight, ProgramTree, Limits}
 use Rattle.htl_names.specs.Order.{order, mode_order, mode_at, modes_at, tasks_at, ports_at, invokes_at}
 use Rattle.htl_names.specs.Ordered.{Exists, IsOrdered}
 use Rattle.htl_names.specs.Programs.{naming, level, levels}
-use Rattle.htl_names.proofs.Apart.{spread_at, order_spread, few_modules_than, few_modes_than, few_tasks_than, few_in_modes, few_in_mode_than, few}
+use Rattle.htl_names.proofs.Apart.{order_apart, few_modules_than, few_modes_than, few_tasks_than, few_in_modes, few_in_mode_than, few}
 use Rattle.htl_names.proofs.Places.{not_above, modes_there, mode_in_source}
 use Rattle.htl_names.proofs.FlatMaps.{list_to_at, take_length}
 use Rattle.htl_names.proofs.TreeLevels.{IsTree, refined_at, level_step, few_programs}
@@ -67,22 +67,22 @@ names-ordered ps right =
     let symbols = symbols_of ps in
     let modules = order symbols ps in
     let tree = right_tree ps right in
-    let spread = order_spread symbols ps tree in
+    let apart = order_apart symbols ps tree in
     let here = all ps right in
     record {
       exist = each_all (Exists ps) modules here;
-      apart = spread_at modules spread;
+      apart = apart;
       parents = parents_before symbols ps;
       refined = λ k s a e p. refined_at symbols ps tree a s.program (within ps right k s e) (named ps right k s a e p);
       roots = roots_of symbols ps;
       levels = λ k s e. low ps right s.program (within ps right k s e);
       steps = λ k s a e p. level_step symbols ps tree s.program a (within ps right k s e) (named ps right k s a e p);
-      few_modules = le_trans (few_modules_than ps modules here spread) (kept_limit ps right 1 _ 64 refl refl);
-      few_modes = le_trans (few_modes_than ps modules here spread) (kept_limit ps right 2 _ 256 refl refl);
-      few_tasks = le_trans (few_tasks_than ps modules here spread) (kept_limit ps right 4 _ 4096 refl refl);
-      few_ports = le_trans (few_in_modes ps (λ (x : PlainMode). x.ports) modules here spread) (kept_limit ps right 3 _ 4096 refl refl);
-      few_invokes = le_trans (few_in_modes ps (λ (x : PlainMode). x.invokes) modules here spread) (kept_limit ps right 5 _ 2048 refl refl);
-      few_switches = le_trans (few_in_modes ps (λ (x : PlainMode). x.switches) modules here spread) (kept_limit ps right 6 _ 4096 refl refl);
+      few_modules = le_trans (few_modules_than ps modules here apart) (kept_limit ps right 1 _ 64 refl refl);
+      few_modes = le_trans (few_modes_than ps modules here apart) (kept_limit ps right 2 _ 256 refl refl);
+      few_tasks = le_trans (few_tasks_than ps modules here apart) (kept_limit ps right 4 _ 4096 refl refl);
+      few_ports = le_trans (few_in_modes ps modules here apart (λ (x : PlainMode). x.ports)) (kept_limit ps right 3 _ 4096 refl refl);
+      few_invokes = le_trans (few_in_modes ps modules here apart (λ (x : PlainMode). x.invokes)) (kept_limit ps right 5 _ 2048 refl refl);
+      few_switches = le_trans (few_in_modes ps modules here apart (λ (x : PlainMode). x.switches)) (kept_limit ps right 6 _ 4096 refl refl);
       few_in_mode = λ a. le_trans (few_in_mode_than ps a) (kept_limit ps right 7 _ 128 refl refl);
     }
 
@@ -151,9 +151,8 @@ module _ (ps : List PlainProgram) (right : AreNamesRight ps) where
 
   few_modes : length (flat_map (λ (s : ModuleAt). modes_at ps s.program s.«module») modules) ≤ length (modes_of (modules_of ps))
   few_modes =
-      few ps (λ (s : ModuleAt). modes_at ps s.program s.«module») (λ (y : PlainModule). y.modes) modules (λ s y e. ap length (modes_there ps s.program s.«module» y e))
-      (each_weaker (IsPlaced (symbols_of ps) ps) (Exists ps) (λ s h. h.there) modules (modules_placed (symbols_of ps) ps))
-      (order_spread (symbols_of ps) ps (right_tree ps right))
+      few ps modules (all ps right) (order_apart (symbols_of ps) ps (right_tree ps right)) (λ (s : ModuleAt). modes_at ps s.program s.«module») (λ (y : PlainModule). y.modes)
+      (λ s y e. ap length (modes_there ps s.program s.«module» y e))
 
 pub names-narrow : (ps : List PlainProgram) → MeetsBounds ps → AreNamesRight ps → IsNarrow (layout ps) ps
 names-narrow ps small right =
