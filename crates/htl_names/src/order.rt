@@ -1,16 +1,16 @@
 // The modules and modes of a source in the order of the tables.
 ghost use Rattle.std.specs.List.{flat_map};
 ghost use Rattle.std.specs.Prelude.{◌≡◌, ◌++◌, OnOk, IfOk};
-ghost use Rattle.htl_text.specs.Nodes.{mode_of, tree_of};
+ghost use Rattle.htl_text.specs.Nodes.{tree_of};
 ghost use Rattle.htl_names.specs.Flat.{layout_by};
-ghost use Rattle.htl_names.specs.Order.{modules_in, mode_kids, below, order, module_modes, mode_order};
+ghost use Rattle.htl_names.specs.Order.{modules_in, below, order, module_modes, mode_order};
 
 use crate::Done;
 use crate::place::{ModeAt, ModuleAt, modes_at, modules_at};
 use crate::programs::named_program;
 use crate::symbols::Symbols;
 use crate::tables::Layout;
-use htl_text::{ModeNode, Tree};
+use htl_text::Tree;
 use std::alloc::{AllocError, Global};
 
 // ---- modules
@@ -58,33 +58,16 @@ fn put_module(
     }
     let modes = modes_at(tree, module.program, module.module);
     for k in 0..modes.len() {
-        let place = ModeAt {
-            program: module.program,
-            module: module.module,
-            mode: k,
-        };
-        put_kids(tree, symbols, place, &modes[k], steps - 1, into)?;
+        if let Some(q) = named_program(&modes[k], symbols) {
+            let place = ModeAt {
+                program: module.program,
+                module: module.module,
+                mode: k,
+            };
+            put_program(tree, symbols, Some(place), q, steps - 1, into)?;
+        }
     }
     Ok(())
-}
-
-/// Puts the modules of the program that refines a mode, with those below them.
-#[cycle(below)]
-fn put_kids(
-    tree: &Tree,
-    symbols: &Symbols,
-    place: ModeAt,
-    mode: &ModeNode,
-    steps: usize,
-    into: &mut Vec<ModuleAt>,
-) -> Done
-    ensures { OnOk result (into.new.items ≡ into.old.items
-        ++ flat_map (below steps symbols.now (tree_of tree.now)) (mode_kids symbols.now (tree_of tree.now) place.program place.«module» place.mode (mode_of mode.now))) }
-{
-    match named_program(mode, symbols) {
-        Some(q) => put_program(tree, symbols, Some(place), q, steps, into),
-        None => Ok(()),
-    }
 }
 
 // ---- modes

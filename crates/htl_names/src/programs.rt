@@ -2,7 +2,7 @@
 ghost use Rattle.std.specs.Prelude.{◌≡◌, ◌++◌, OnOk, IfOk, eqb, ◌<◌, length, slice_get, fold, MatchBool, ◌≤◌, ℕ, List};
 ghost use Rattle.htl_text.specs.Nodes.{mode_of, module_of, program_of, tree_of, PlainProgram};
 ghost use Rattle.htl_names.specs.Graph.{naming_rows, targets, graph_by, MarksReached};
-ghost use Rattle.htl_names.specs.Programs.{IsFirstMisplaced, named_program as program_of_mode, named_from, module_naming, program_naming, named_by, IsMisplaced};
+ghost use Rattle.htl_names.specs.Programs.{IsFirstMisplaced, named_program as program_of_mode, module_naming, program_naming, named_by, IsMisplaced};
 ghost use Rattle.htl_names.specs.Named.{noted, refined_at, is_misplaced, CountsNamings, AreRefined};
 ghost use Rattle.htl_names.specs.declared.key.Key.{Key};
 
@@ -32,15 +32,6 @@ pub(crate) fn named_program(mode: &ModeNode, symbols: &Symbols) -> Option<usize>
     }
 }
 
-fn push_placed(place: ModeAt, found: Option<usize>, into: &mut Vec<Naming>) -> Done
-    ensures { OnOk result (into.new.items ≡ into.old.items ++ named_from place found) }
-{
-    if let Some(q) = found {
-        into.push((place, q))?;
-    }
-    Ok(())
-}
-
 fn push_module_naming(
     program: usize,
     module: usize,
@@ -52,12 +43,14 @@ fn push_module_naming(
 {
     let modes = node.modes.as_slice();
     for k in 0..modes.len() {
-        let place = ModeAt {
-            program,
-            module,
-            mode: k,
-        };
-        push_placed(place, named_program(&modes[k], symbols), into)?;
+        if let Some(q) = named_program(&modes[k], symbols) {
+            let place = ModeAt {
+                program,
+                module,
+                mode: k,
+            };
+            into.push((place, q))?;
+        }
     }
     Ok(())
 }
@@ -134,26 +127,19 @@ pub(crate) struct Named {
     pub mode: Option<ModeAt>,
 }
 
-/// Notes that a mode names a program. A number of no program is passed over.
-fn note(mode: ModeAt, program: usize, into: &mut Vec<Named>)
-    ensures { into.new.items ≡ noted into.old.items (mode, program) }
-{
-    if program < into.len() {
-        let old = into[program];
-        into[program] = Named {
-            count: old.count.saturating_add(1),
-            mode: Some(old.mode.unwrap_or(mode)),
-        };
-    }
-}
-
-/// Notes how the modes of a program name programs.
+/// Notes how the modes of a program name programs. A number of no program is passed over.
 fn note_row(row: &[Naming], into: &mut Vec<Named>)
     ensures { into.new.items ≡ fold noted into.old.items row.now }
 {
     for k in 0..row.len() {
         let (mode, program) = row[k];
-        note(mode, program, into);
+        if program < into.len() {
+            let old = into[program];
+            into[program] = Named {
+                count: old.count.saturating_add(1),
+                mode: Some(old.mode.unwrap_or(mode)),
+            };
+        }
     }
 }
 

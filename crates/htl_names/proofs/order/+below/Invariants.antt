@@ -8,13 +8,10 @@ use Rattle.htl_names.specs.Order.{below, mode_kids}
 use Rattle.htl_names.proofs.order.+below.Given as goal
 
 abbrev pub decreases-put_module : goal.decreases-put_module
-decreases-put_module l = l.steps * 4
+decreases-put_module l = l.steps * 2
 
 abbrev pub decreases-put_program : goal.decreases-put_program
-decreases-put_program l = l.steps * 4 + 1
-
-abbrev pub decreases-put_kids : goal.decreases-put_kids
-decreases-put_kids l = l.steps * 4 + 2
+decreases-put_program l = l.steps * 2 + 1
 
 abbrev pub invariant-put_program-loop-u : goal.invariant-put_program-loop-u
 invariant-put_program-loop-u l =

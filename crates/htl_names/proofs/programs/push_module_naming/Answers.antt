@@ -1,12 +1,21 @@
-use Rattle.std.proofs.Common.{◌++◌, ◌∙◌, ap}
+use Rattle.std.proofs.Common.{◌≡◌, ◌++◌, ◌∙◌, ap, sym, append-nil, map, ℕ, List, Option, Some, None}
 use Rattle.htl_text.specs.Nodes.{mode_of}
-use Rattle.htl_names.specs.Programs.{mode_naming, named_from}
+use Rattle.htl_names.specs.Lists.{flat_map_at}
+use Rattle.htl_names.specs.Programs.{Naming, mode_naming, named_from}
 use Rattle.htl_names.proofs.FlatMaps.{flat_on}
 use Rattle.htl_names.proofs.programs.push_module_naming.Goals as goal
+use Rattle.htl_names.proofs.programs.push_module_naming.Goals.{in-Some+in_ok-push, in_default}
 
 pub loop-k-preserved : goal.loop-k-preserved
 loop-k-preserved c =
-    flat_on (mode_naming c.args.symbols.now c.args.program c.args.«module») mode_of c.loop-k.k c.as_slice-modes.result.now c.index-modes-k.result
-    c.loop-k.into.items c.push_placed.new.into.items _ c.loop-k-test.true c.index-modes-k.is
-    (c.in_ok-push_placed.ensures ∙ ap (λ o. c.loop-k.into.items ++ named_from (record { program = c.args.program; «module» = c.args.«module»; mode = c.loop-k.k }) o) c.named_program.ensures)
-    c.loop-k.invariant
+    let modes = c.as_slice-modes.result.now in
+    let naming = mode_naming c.args.symbols.now c.args.program c.args.«module» in
+    let old = c.loop-k.into.items in
+    let with : Option ℕ → List Naming = λ o. old ++ named_from (record { program = c.args.program; «module» = c.args.«module»; mode = c.loop-k.k }) o in
+    let next = λ (o : Option ℕ) (is : c.named_program.result ≡ o) (grown : c.match-named_program.into.items ≡ with o).
+    flat_on naming mode_of c.loop-k.k modes c.index-modes-k.result old c.match-named_program.into.items (c.args.into.now.items ++ flat_map_at naming 0 (map mode_of modes))
+    c.loop-k-test.true c.index-modes-k.is (grown ∙ ap with (sym is ∙ c.named_program.ensures)) c.loop-k.invariant in
+    elim c.match-named_program.branch [
+      | in-Some+in_ok-push w ↦ next (Some w.in-Some.q) w.in-Some.is (ap (λ v. v.items) w.into-is ∙ w.in_ok-push.ensures.items)
+      | in_default w ↦ next None w.in_default.is (ap (λ v. v.items) w.into-is ∙ sym (append-nil old))
+    ]
