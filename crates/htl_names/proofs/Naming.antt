@@ -1,18 +1,19 @@
 -- The modes that name programs, and the levels of programs by the table of refined modes.
-use Rattle.std.proofs.Common.{◌≡◌, ℕ, zero, suc, ◌≤◌, ◌<◌, Bool, true, false, cond, ◌||◌, eqb, List, [], ◌∷◌, map, length, slice_get, Option, Some, None, refl, sym, ◌∙◌, ap, subst, arith, eqb-true, eq-eqb, ◌+◌, ◌-◌, max, ◌++◌, add-one}
-use Rattle.std.specs.List.{flat_map, list_any, sum_by, count_by}
-use Rattle.std.proofs.lemmas.List.Sums.{sum_by-cons}
+use Rattle.std.proofs.Common.{◌≡◌, ℕ, zero, suc, ◌≤◌, ◌<◌, Bool, true, false, cond, ◌||◌, eqb, List, [], ◌∷◌, map, length, slice_get, Option, Some, None, refl, sym, ◌∙◌, ap, subst, arith, eqb-true, ◌+◌, ◌-◌, max, ◌++◌, add-one}
+use Rattle.std.specs.List.{flat_map, list_any, count_by}
+use Rattle.std.proofs.lemmas.Bool.Decides.{nat_tests}
+use Rattle.std.proofs.lemmas.List.Sums.{sum_by-append, sum_by-cons}
 use Rattle.std.proofs.lemmas.Option.{slice_get_within, none-some, same_Some}
 use Rattle.htl_text.specs.Nodes.{PlainProgram, PlainMode}
 use Rattle.htl_names.specs.declared.key.Key.{Key}
 use Rattle.htl_names.specs.declared.place.ModeAt.{ModeAt}
 use Rattle.htl_names.specs.Order.{mode_at}
-use Rattle.htl_names.specs.Programs.{named_program, mode_links, module_links, program_links, links, named_by, namings, Naming, mode_naming, module_naming, program_naming, naming, refined_in, refined_by, Graph, level, levels}
+use Rattle.htl_names.specs.Programs.{named_program, mode_links, module_links, program_links, links, named_by, namings, Naming, mode_naming, module_naming, program_naming, naming, refined_in, refined_by, level, levels}
 use Rattle.htl_names.specs.declared.programs.Named.{Named}
 use Rattle.htl_names.specs.Named.{refined_at, AreRefined}
-use Rattle.htl_names.specs.Graph.{graph_by}
-use Rattle.htl_names.specs.Lists.{map_at}
-use Rattle.htl_names.proofs.Members.{In, Each, each_in, each_part_at, each_flat_map_at, at_place, map_flat_map_at, sum_by_map, sum_by_flat_map, each_weaker}
+use Rattle.htl_names.specs.Graph.{naming_rows, targets, graph_by}
+use Rattle.htl_names.specs.Lists.{map_at, flat_map_at}
+use Rattle.htl_names.proofs.Members.{In, Each, each_in, each_part_at, each_flat_map_at, at_place, map_flat_map_at, sum_by_map, each_weaker}
 use Rattle.htl_names.proofs.Places.{program_of_module, module_of_mode, module_there, modes_there}
 use Rattle.htl_model.specs.Lists.{list_to}
 use Rattle.htl_model.specs.Tables.{greatest}
@@ -42,11 +43,7 @@ in_naming symbols ps a q h =
 -- ---- how often a program is named
 
 mode_seconds : (symbols : List (Key × ℕ)) (p u m : ℕ) (x : PlainMode) → map (λ (y : Naming). y.1) (mode_naming symbols p u m x) ≡ mode_links symbols x
-mode_seconds symbols p u m x = by (named_program symbols x)
-  where
-    by : (o : Option ℕ) → map (λ (y : Naming). y.1) (elim o [ Some q ↦ (place_of p u m, q) ∷ [] | None ↦ [] ]) ≡ elim o [ Some q ↦ q ∷ [] | None ↦ [] ]
-    by None = refl
-    by (Some q) = refl
+mode_seconds symbols p u m x = grind arith
 
 program_seconds : (symbols : List (Key × ℕ)) (p : ℕ) (x : PlainProgram) → map (λ (y : Naming). y.1) (program_naming symbols p x) ≡ program_links symbols x
 program_seconds symbols p x =
@@ -54,57 +51,53 @@ program_seconds symbols p x =
     (λ u y. map_flat_map_at (λ (y : Naming). y.1) (mode_naming symbols p u) (mode_links symbols) (λ m z. mode_seconds symbols p u m z) 0 y.modes)
     0 x.modules
 
-naming_seconds : (symbols : List (Key × ℕ)) (ps : List PlainProgram) → map (λ (y : Naming). y.1) (naming symbols ps) ≡ flat_map (program_links symbols) ps
-naming_seconds symbols ps = map_flat_map_at (λ (y : Naming). y.1) (program_naming symbols) (program_links symbols) (program_seconds symbols) 0 ps
-
 pub graph_is : (symbols : List (Key × ℕ)) (k : ℕ) (ps : List PlainProgram) → graph_by (map_at (program_naming symbols) k ps) ≡ links symbols ps
 graph_is symbols k [] = refl
-graph_is symbols k (x ∷ ps) = ap (λ (r : List ℕ). r ∷ graph_by (map_at (program_naming symbols) (suc k) ps)) (program_seconds symbols k x) ∙ ap (λ (g : Graph). program_links symbols x ∷ g) (graph_is symbols (suc k) ps)
+graph_is symbols k (x ∷ ps) = let own = program_seconds symbols k x in let rest = graph_is symbols (suc k) ps in cc
 
-pub naming_count : (symbols : List (Key × ℕ)) (ps : List PlainProgram) (q : ℕ) → count_by (λ (x : Naming). eqb q x.1) (naming symbols ps) ≡ namings (links symbols ps) q
+abbrev pub flat : List (List Naming) → List Naming
+flat rows = flat_map (λ (r : List Naming). r) rows
+
+pub flat-rows : (g : ℕ → PlainProgram → List Naming) (k : ℕ) (ps : List PlainProgram) → flat (map_at g k ps) ≡ flat_map_at g k ps
+flat-rows g k [] = refl
+flat-rows g k (x ∷ ps) = ap (λ xs. g k x ++ xs) (flat-rows g (suc k) ps)
+
+pub flat-count : (rows : List (List Naming)) (p : ℕ) → namings (graph_by rows) p ≡ count_by (λ (x : Naming). eqb p x.1) (flat rows)
+flat-count [] p = refl
+flat-count (r ∷ rows) p =
+    let test : ℕ → ℕ = λ q. cond (eqb p q) 1 0 in
+    let first = sum_by-cons (λ (qs : List ℕ). count_by (eqb p) qs) (targets r) (graph_by rows) in
+    let own = sum_by_map test (λ (x : Naming). x.1) r in
+    let all = sum_by-append (λ (x : Naming). test x.1) r (flat rows) in
+    omega (arith, first, own, all, flat-count rows p)
+
+naming_count : (symbols : List (Key × ℕ)) (ps : List PlainProgram) (q : ℕ) → count_by (λ (x : Naming). eqb q x.1) (naming symbols ps) ≡ namings (links symbols ps) q
 naming_count symbols ps q =
-    let test : ℕ → ℕ = λ y. cond (eqb q y) 1 0 in
-    sym (sum_by_map test (λ (x : Naming). x.1) (naming symbols ps))
-    ∙ ap (sum_by test) (naming_seconds symbols ps)
-    ∙ sum_by_flat_map test (program_links symbols) ps
-    ∙ sym (sum_by_map (λ (r : List ℕ). sum_by test r) (program_links symbols) ps)
+    ap (count_by (λ (x : Naming). eqb q x.1)) (sym (flat-rows (program_naming symbols) 0 ps)) ∙ sym (flat-count (naming_rows symbols ps) q) ∙ ap (λ g. namings g q) (graph_is symbols 0 ps)
 
 -- ---- the one mode
 
-naming_counts : (a : ModeAt) (q : ℕ) (xs : List Naming) (k : ℕ) → slice_get xs k ≡ Some (a, q) → 1 ≤ count_by (λ (x : Naming). eqb q x.1) xs
+-- the test whether a naming is of program q
+abbrev names_it : ℕ → Naming → Bool
+names_it q x = eqb q x.1
+
+naming_counts : (a : ModeAt) (q : ℕ) (xs : List Naming) (k : ℕ) → slice_get xs k ≡ Some (a, q) → 1 ≤ count_by (names_it q) xs
 naming_counts a q [] k h = absurd (none-some {A = Naming} (a, q) h)
-naming_counts a q (x ∷ xs) zero h =
-    let test : Naming → ℕ = λ y. cond (eqb q y.1) 1 0 in
-    let one : eqb q x.1 ≡ true = eq-eqb q x.1 (sym (ap (λ (y : Naming). y.1) (same_Some {A = Naming} x (a, q) h))) in
-    let c : test x ≡ 1 = rw one refl in
-    omega (arith, sum_by-cons test x xs, c)
-naming_counts a q (x ∷ xs) (suc k) h = let test : Naming → ℕ = λ y. cond (eqb q y.1) 1 0 in omega (arith, sum_by-cons test x xs, naming_counts a q xs k h)
+naming_counts a q (x ∷ xs) zero h = let is = ap (λ (y : Naming). y.1) (same_Some x (a, q) h) in grind (arith, nat_tests, sum_by-cons (λ y. cond (names_it q y) 1 0) x xs)
+naming_counts a q (x ∷ xs) (suc k) h = grind (arith, sum_by-cons (λ y. cond (names_it q y) 1 0) x xs, naming_counts a q xs k h)
 
-refined_one : (a : ModeAt) (q : ℕ) (xs : List Naming) (k : ℕ) → slice_get xs k ≡ Some (a, q) → count_by (λ (x : Naming). eqb q x.1) xs ≡ 1 → refined_in q xs ≡ Some a
+refined_one : (a : ModeAt) (q : ℕ) (xs : List Naming) (k : ℕ) → slice_get xs k ≡ Some (a, q) → count_by (names_it q) xs ≡ 1 → refined_in q xs ≡ Some a
 refined_one a q [] k h c = absurd (none-some {A = Naming} (a, q) h)
-refined_one a q (x ∷ xs) k h c = by (λ j e. refined_one a q xs j e) (eqb x.1 q) refl
-  where
-    by : ((j : ℕ) → slice_get xs j ≡ Some (a, q) → count_by (λ (y : Naming). eqb q y.1) xs ≡ 1 → refined_in q xs ≡ Some a) → (b : Bool) → eqb x.1 q ≡ b → refined_in q (x ∷ xs) ≡ Some a
-    by later true e = rw (e, refined_in) (first k h)
-      where
-        c1 : ◌≡◌ {A = ℕ} (cond (eqb q x.1) 1 0) 1
-        c1 = let o = eq-eqb q x.1 (sym (eqb-true x.1 q e)) in rw o refl
-
-        first : (j : ℕ) → slice_get (x ∷ xs) j ≡ Some (a, q) → Some x.0 ≡ Some a
-        first zero s = ap (λ (y : Naming). Some y.0) (same_Some {A = Naming} x (a, q) s)
-        first (suc j) m = absurd (omega (arith, sum_by-cons (λ (y : Naming). cond (eqb q y.1) 1 0) x xs, c, c1, naming_counts a q xs j m))
-    by later false e = rw (e, refined_in) (rest k h)
-      where
-        other : (s : ◌≡◌ {A = Naming} x (a, q)) → ⊥
-        other s = let t : eqb x.1 q ≡ true = eq-eqb x.1 q (ap (λ (y : Naming). y.1) s) in cc
-
-        c0 : (b : Bool) → eqb q x.1 ≡ b → ◌≡◌ {A = ℕ} (cond (eqb q x.1) 1 0) 0
-        c0 true t = let u : eqb x.1 q ≡ true = eq-eqb x.1 q (sym (eqb-true q x.1 t)) in cc
-        c0 false t = rw t refl
-
-        rest : (j : ℕ) → slice_get (x ∷ xs) j ≡ Some (a, q) → refined_in q xs ≡ Some a
-        rest zero s = absurd (other (same_Some {A = Naming} x (a, q) s))
-        rest (suc j) m = later j m (omega (arith, sum_by-cons (λ (y : Naming). cond (eqb q y.1) 1 0) x xs, c, c0 (eqb q x.1) refl))
+refined_one a q (x ∷ xs) zero h c =
+    let same = same_Some x (a, q) h in
+    let mode = ap (λ (y : Naming). y.0) same in
+    let program = ap (λ (y : Naming). y.1) same in
+    grind (arith, nat_tests)
+refined_one a q (x ∷ xs) (suc k) h c =
+    let first = sum_by-cons (λ y. cond (names_it q y) 1 0) x xs in
+    let here = naming_counts a q xs k h in
+    let rest = refined_one a q xs k h in
+    grind (arith, nat_tests)
 
 -- a program that one mode names refines that mode
 pub refined_is : (symbols : List (Key × ℕ)) (ps : List PlainProgram) (a : ModeAt) (q : ℕ) → Names symbols ps a q → namings (links symbols ps) q ≡ 1 → refined_by symbols ps q ≡ Some a
@@ -118,19 +111,9 @@ named_counts symbols ps a q h = let n = in_naming symbols ps a q h in omega (ari
 pub refined_none : (symbols : List (Key × ℕ)) (ps : List PlainProgram) (q : ℕ) → namings (links symbols ps) q ≡ 0 → refined_by symbols ps q ≡ None
 refined_none symbols ps q c = along (naming symbols ps) (naming_count symbols ps q ∙ c)
   where
-    here : (x : Naming) (b : Bool) → eqb x.1 q ≡ b → ◌≡◌ {A = ℕ} (cond (eqb q x.1) 1 0) 0 → eqb x.1 q ≡ false
-    here x true e z =
-        let o : eqb q x.1 ≡ true = eq-eqb q x.1 (sym (eqb-true x.1 q e)) in
-        let c1 : ◌≡◌ {A = ℕ} (cond (eqb q x.1) 1 0) 1 = rw o refl in
-        absurd (omega (arith, c1, z))
-    here x false e z = e
-
-    along : (xs : List Naming) → count_by (λ (x : Naming). eqb q x.1) xs ≡ 0 → refined_in q xs ≡ None
+    along : (xs : List Naming) → count_by (names_it q) xs ≡ 0 → refined_in q xs ≡ None
     along [] h = refl
-    along (x ∷ xs) h =
-        let s = sum_by-cons (λ (y : Naming). cond (eqb q y.1) 1 0) x xs in
-        let e = here x (eqb x.1 q) refl (omega (arith, s, h)) in
-        rw (e, refined_in) (along xs (omega (arith, s, h)))
+    along (x ∷ xs) h = let first = sum_by-cons (λ y. cond (names_it q y) 1 0) x xs in grind (arith, nat_tests, along xs)
 
 -- ---- links are modes
 
@@ -186,11 +169,7 @@ naming_below symbols ps =
 
 refined_below : (n q : ℕ) (a : ModeAt) (xs : List Naming) → Each (λ (x : Naming). x.0.program < n) xs → refined_in q xs ≡ Some a → a.program < n
 refined_below n q a [] h e = absurd (none-some {A = ModeAt} a e)
-refined_below n q a (x ∷ xs) h e = by (λ f. refined_below n q a xs h.1 f) (eqb x.1 q) e
-  where
-    by : (refined_in q xs ≡ Some a → a.program < n) → (b : Bool) → ◌≡◌ {A = Option ModeAt} (elim b [ true ↦ Some x.0 | false ↦ refined_in q xs ]) (Some a) → a.program < n
-    by later true f = subst (λ (y : ModeAt). y.program < n) (same_Some {A = ModeAt} x.0 a f) h.0
-    by later false f = later f
+refined_below n q a (x ∷ xs) h e = let here = h.0 in let later = refined_below n q a xs h.1 in grind arith
 
 -- ---- steps of the search
 
@@ -218,20 +197,20 @@ levels-step f p most here next so_far is new =
 
 same_below : (n : ℕ) (f g : ℕ → ℕ) → ((k : ℕ) → k < n → f k ≡ g k) → list_to f n ≡ list_to g n
 same_below zero f g h = refl
-same_below (suc n) f g h =
-    ap (λ (xs : List ℕ). xs ++ f n ∷ []) (same_below n f g (λ k small. h k (omega (arith, small)))) ∙ ap (λ (x : ℕ). list_to g n ++ x ∷ []) (h n (omega arith))
+same_below (suc n) f g h = let front = same_below n f g (λ k small. h k (omega (arith, small))) in let last = h n (omega arith) in cc
 
 table-level : (symbols : List (Key × ℕ)) (ps : List PlainProgram) (table : List Named) → AreRefined symbols ps table → (n p : ℕ) → p < length ps
     → level_by table n p ≡ level (naming symbols ps) n p
 table-level symbols ps table are zero p small = refl
-table-level symbols ps table are (suc n) p small =
-    ap (λ (o : Option ModeAt). elim o as (λ _. ℕ) [ Some a ↦ suc (level_by table n a.program) | None ↦ 1 ]) (are.says p small)
-    ∙ by (refined_by symbols ps p) refl (λ q lt. table-level symbols ps table are n q lt)
+table-level symbols ps table are (suc n) p small = by (refined_by symbols ps p) refl (table-level symbols ps table are n)
   where
     by : (o : Option ModeAt) → refined_by symbols ps p ≡ o → ((q : ℕ) → q < length ps → level_by table n q ≡ level (naming symbols ps) n q)
-        → ◌≡◌ {A = ℕ} (elim o as (λ _. ℕ) [ Some a ↦ suc (level_by table n a.program) | None ↦ 1 ]) (elim o as (λ _. ℕ) [ Some a ↦ suc (level (naming symbols ps) n a.program) | None ↦ 1 ])
-    by (Some a) e later = ap suc (later a.program (refined_below (length ps) p a (naming symbols ps) (naming_below symbols ps) e))
-    by None e later = refl
+        → level_by table (suc n) p ≡ level (naming symbols ps) (suc n) p
+    by None e later = let same = are.says p small in grind arith
+    by (Some a) e later =
+        let same = are.says p small in
+        let above = later a.program (refined_below (length ps) p a (naming symbols ps) (naming_below symbols ps) e) in
+        grind arith
 
 pub table-levels : (symbols : List (Key × ℕ)) (ps : List PlainProgram) (table : List Named) → AreRefined symbols ps table → levels_by table ≡ levels symbols ps
 table-levels symbols ps table are =

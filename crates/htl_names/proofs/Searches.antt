@@ -1,20 +1,19 @@
 -- How modes name programs, and the test whether a program is out of place.
-use Rattle.std.proofs.Common.{◌≡◌, ◌<◌, ℕ, suc, zero, Bool, true, false, cond, eqb, List, [], ◌∷◌, ◌++◌, length, Option, Some, None, refl, sym, ◌∙◌, ap, arith, inl, inr, get_or, fold, min, ◌+◌}
-use Rattle.std.specs.List.{count_by, flat_map}
+use Rattle.std.proofs.Common.{◌≡◌, ◌<◌, ℕ, suc, zero, Bool, true, false, cond, eqb, List, [], ◌∷◌, length, Option, Some, None, refl, sym, ◌∙◌, ap, arith, inl, inr, get_or, fold, min, ◌+◌}
+use Rattle.std.specs.List.{count_by}
 use Rattle.std.proofs.Math.ListN.{replicate}
 use Rattle.std.proofs.lemmas.Bool.Decides.{nat_tests}
 use Rattle.std.proofs.lemmas.Grind.{common_steps}
 use Rattle.std.proofs.lemmas.List.{length-map}
-use Rattle.std.proofs.lemmas.List.Sums.{fold-append, sum_by-append, sum_by-cons}
+use Rattle.std.proofs.lemmas.List.Sums.{fold-append, sum_by-cons}
 use Rattle.htl_text.specs.Nodes.{PlainProgram}
 use Rattle.htl_names.specs.declared.key.Key.{Key}
 use Rattle.htl_names.specs.declared.place.ModeAt.{ModeAt}
 use Rattle.htl_names.specs.declared.programs.Named.{Named}
 use Rattle.htl_names.specs.Graph.{naming_rows, targets, graph_by, MarksReached}
-use Rattle.htl_names.specs.Lists.{map_at, flat_map_at}
 use Rattle.htl_names.specs.Named.{unnamed, named_too, noted, refined_at, is_misplaced, CountsNamings, AreRefined}
-use Rattle.htl_names.specs.Programs.{Graph, namings, IsMisplaced, Naming, program_naming, naming, refined_in}
-use Rattle.htl_names.proofs.Members.{sum_by_map}
+use Rattle.htl_names.specs.Programs.{Graph, IsMisplaced, Naming, program_naming, naming, refined_in}
+use Rattle.htl_names.proofs.Naming.{flat, flat-count, flat-rows}
 use Rattle.htl_names.proofs.Walking.{length-map_at}
 
 -- ---- one program of the table
@@ -49,43 +48,15 @@ or_refined (Some a) o = Some a
 or_refined None o = o
 
 mode_of : (p : ℕ) (n : Named) (xs : List Naming) → (named_by p n xs).mode ≡ or_refined n.mode (refined_in p xs)
-mode_of p n [] = by n.mode
-  where
-    by : (o : Option ModeAt) → o ≡ or_refined o None
-    by (Some a) = refl
-    by None = refl
-mode_of p n (x ∷ xs) = mode_of p (cond (eqb x.1 p) (named_too x.0 n) n) xs ∙ by (eqb x.1 p)
-  where
-    kept : (o : Option ModeAt) → or_refined (Some (elim o as (λ _. ModeAt) [ Some a ↦ a | None ↦ x.0 ])) (refined_in p xs) ≡ or_refined o (Some x.0)
-    kept (Some a) = refl
-    kept None = refl
-
-    by : (b : Bool) → or_refined (cond b (named_too x.0 n) n).mode (refined_in p xs) ≡ or_refined n.mode (elim b as (λ _. Option ModeAt) [ true ↦ Some x.0 | false ↦ refined_in p xs ])
-    by true = kept n.mode
-    by false = refl
+mode_of p n [] = grind arith
+mode_of p n (x ∷ xs) = let rest = mode_of p (cond (eqb x.1 p) (named_too x.0 n) n) xs in grind (arith, nat_tests)
 
 -- ---- the whole table
-
-abbrev flat : List (List Naming) → List Naming
-flat rows = flat_map (λ (r : List Naming). r) rows
 
 -- the modes of one program after the other
 flat-noted : (table : List Named) (rows : List (List Naming)) → fold (fold noted) table rows ≡ fold noted table (flat rows)
 flat-noted table [] = refl
 flat-noted table (r ∷ rows) = flat-noted (fold noted table r) rows ∙ sym (fold-append noted table r (flat rows))
-
-flat-count : (rows : List (List Naming)) (p : ℕ) → namings (graph_by rows) p ≡ count_by (λ (x : Naming). eqb p x.1) (flat rows)
-flat-count [] p = refl
-flat-count (r ∷ rows) p =
-    let test : ℕ → ℕ = λ q. cond (eqb p q) 1 0 in
-    let first = sum_by-cons (λ (qs : List ℕ). count_by (eqb p) qs) (targets r) (graph_by rows) in
-    let own = sum_by_map test (λ (x : Naming). x.1) r in
-    let all = sum_by-append (λ (x : Naming). test x.1) r (flat rows) in
-    omega (arith, first, own, all, flat-count rows p)
-
-flat-rows : (g : ℕ → PlainProgram → List Naming) (k : ℕ) (ps : List PlainProgram) → flat (map_at g k ps) ≡ flat_map_at g k ps
-flat-rows g k [] = refl
-flat-rows g k (x ∷ ps) = ap (λ xs. g k x ++ xs) (flat-rows g (suc k) ps)
 
 pub counts_namings : (rows : List (List Naming)) (table : List Named) → table ≡ fold (fold noted) (replicate (length rows) unnamed) rows → CountsNamings (graph_by rows) table
 counts_namings rows table is =
