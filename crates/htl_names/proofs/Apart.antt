@@ -13,7 +13,7 @@ use Rattle.htl_names.specs.Programs.{named_program, naming, refined_by, level}
 use Rattle.htl_names.specs.Nth.{nth_module, mode_in}
 use Rattle.htl_names.proofs.Members.{Each, each_at, each_weaker, each_of_places}
 use Rattle.htl_names.proofs.TreeLevels.{IsTree, refined_at, level_step}
-use Rattle.htl_names.proofs.ModulePlaces.{IsPlaced, IsKid, placed_within, placed_names, placed_root, mode_kids_are, kids_are, each_below, each_kid, roots_are}
+use Rattle.htl_names.proofs.ModulePlaces.{IsPlaced, IsKid, placed_within, placed_names, placed_root, mode_kids_are, each_below, each_below_kids, each_kid, each_root}
 use Rattle.std.proofs.lemmas.List.{length-map}
 use Rattle.std.proofs.lemmas.List.Concat.{length-flat_map, flat_map_single}
 use Rattle.std.proofs.lemmas.List.Sums.{sum-map}
@@ -145,7 +145,7 @@ module _ (symbols : List (Key × ℕ)) (ps : List PlainProgram) (tree : IsTree s
   once_below zero s z = once_cons (λ (r : ModuleAt). spot r ≡ z) s [] (λ k r e. absurd (none-some r e)) (λ j k r q a. absurd (none-some r a))
   once_below (suc n) s z =
       once_cons (λ (r : ModuleAt). spot r ≡ z) s (flat_map (below n symbols ps) (kids symbols ps s)) lower
-      (once_over n (suc (depth (spot s))) (kids symbols ps s) (each_weaker (IsKid symbols ps s) (λ r. depth (spot r) ≡ suc (depth (spot s))) (kid_depth s) (kids symbols ps s) (kids_are symbols ps s))
+      (once_over n (suc (depth (spot s))) (kids symbols ps s) (each_kid symbols ps (λ r. depth (spot r) ≡ suc (depth (spot s))) s (kid_depth s))
       (kids_once s) (once_below n) z)
     where
       Deeper : ModuleAt → Type 0
@@ -153,7 +153,7 @@ module _ (symbols : List (Key × ℕ)) (ps : List PlainProgram) (tree : IsTree s
 
       lower : (k : ℕ) (r : ModuleAt) → slice_get (flat_map (below n symbols ps) (kids symbols ps s)) k ≡ Some r → spot s ≡ z → spot r ≡ z → ⊥
       lower k r e p q =
-          let deep = each_kid symbols ps Deeper (λ t r k lt. let one = kid_depth t r k in omega (arith, one, lt)) n s (λ t k. let one = kid_depth s t k in omega (arith, one)) in
+          let deep = each_below_kids symbols ps Deeper (λ t r k lt. let one = kid_depth t r k in omega (arith, one, lt)) n s (λ t k. let one = kid_depth s t k in omega (arith, one)) in
           let below_s = each_at Deeper (flat_map (below n symbols ps) (kids symbols ps s)) k r deep e in
           let same = ap depth (p ∙ sym q) in
           omega (arith, below_s, same)
@@ -161,8 +161,7 @@ module _ (symbols : List (Key × ℕ)) (ps : List PlainProgram) (tree : IsTree s
   pub order_apart : Apart (order symbols ps)
   order_apart j k s r a b p u =
       once_over (length ps) (depth (0, 0)) (modules_in ps None 0)
-      (each_weaker (λ (s : ModuleAt). IsPlaced symbols ps s × (s.parent ≡ None)) (λ x. depth (spot x) ≡ depth (0, 0)) (λ x h. ap (level (naming symbols ps) (length ps)) (placed_root symbols ps x h.0 h.1))
-      (modules_in ps None 0) (roots_are symbols ps))
+      (each_root symbols ps (λ x. depth (spot x) ≡ depth (0, 0)) (λ x placed top. ap (level (naming symbols ps) (length ps)) (placed_root symbols ps x placed top)))
       (modules_once 0 None (length (modules_at ps 0))) (once_below (length ps)) (spot r) j k s r a b (cc) refl
 
 -- ---- the modules in order have no more of a kind than the source

@@ -1,6 +1,7 @@
 -- The modules in the order of the tables: where each stands, what it refines, and what stands before it.
 use Rattle.std.proofs.Common.{◌≡◌, ℕ, zero, suc, ◌+◌, ◌<◌, true, false, cond, List, [], ◌∷◌, ◌++◌, length, take, slice_get, Option, Some, None, filter, refl, ◌∙◌, ap, subst, arith, ◌⊎◌, inl, inr, sym}
 use Rattle.std.specs.List.{flat_map}
+use Rattle.std.proofs.lemmas.Grind.{common_steps}
 use Rattle.std.proofs.lemmas.List.Elements.{filter-append}
 use Rattle.std.proofs.lemmas.Option.{slice_get_within, none-some, same_Some}
 use Rattle.htl_text.specs.Nodes.{PlainProgram, PlainMode}
@@ -10,8 +11,8 @@ use Rattle.htl_names.specs.declared.place.ModuleAt.{ModuleAt}
 use Rattle.htl_names.specs.Order.{modules_at, modes_at, modules_in, mode_kids, kids, below, order}
 use Rattle.htl_names.specs.Ordered.{Exists, is_root_module, StandsBefore}
 use Rattle.htl_names.specs.Programs.{named_program}
-use Rattle.htl_names.specs.Nth.{nth_module}
-use Rattle.htl_names.proofs.Members.{Each, each_at, each_weaker, each_list_to, each_flat_map, each_flat_map_at}
+use Rattle.htl_names.specs.Nth.{nth_module, mode_in}
+use Rattle.htl_names.proofs.Members.{Each, at_place, each_at, each_weaker, each_list_to, each_flat_map, each_flat_map_at}
 use Rattle.htl_names.proofs.Naming.{Names}
 use Rattle.htl_names.proofs.FlatMaps.{there_is, at_flat, flat_part, get_back}
 use Rattle.htl_names.proofs.Places.{program_of_module}
@@ -29,7 +30,7 @@ pub record IsPlaced (symbols : List (Key × ℕ)) (ps : List PlainProgram) (s : 
 pub record IsKid (symbols : List (Key × ℕ)) (ps : List PlainProgram) (s r : ModuleAt) : Type 0 where
   pub mode : ℕ
   pub inside : mode < length (modes_at ps s.program s.«module»)
-  pub parent : r.parent ≡ Some (record { program = s.program; «module» = s.«module»; mode = mode })
+  pub parent : r.parent ≡ Some (mode_in s mode)
   pub placed : IsPlaced symbols ps r
 
 module _ (symbols : List (Key × ℕ)) (ps : List PlainProgram) where
@@ -43,87 +44,74 @@ module _ (symbols : List (Key × ℕ)) (ps : List PlainProgram) where
   pub placed_root : (s : ModuleAt) → IsPlaced symbols ps s → s.parent ≡ None → s.program ≡ 0
   placed_root s h e = subst (λ o. IsParent symbols ps o s.program) e h.parent
 
+  -- what holds of the modules of a program
+  each_in_program : (P : ModuleAt → Type 0) (parent : Option ModeAt) (q : ℕ) → IsParent symbols ps parent q → ((r : ModuleAt) → IsPlaced symbols ps r → r.parent ≡ parent → P r)
+      → Each P (modules_in ps parent q)
+  each_in_program P parent q is h =
+      each_list_to P (nth_module q parent) (length (modules_at ps q)) (λ u lt. h (nth_module q parent u) (record { there = there_is (modules_at ps q) u lt; parent = is }) refl)
+
+  pub each_root : (P : ModuleAt → Type 0) → ((r : ModuleAt) → IsPlaced symbols ps r → r.parent ≡ None → P r) → Each P (modules_in ps None 0)
+  each_root P = each_in_program P None 0 refl
+
   -- those of mode m refine mode m
   pub mode_kids_are : (s : ModuleAt) (m : ℕ) (x : PlainMode) → slice_get (modes_at ps s.program s.«module») m ≡ Some x
       → Each (λ r. (k : IsKid symbols ps s r) × (k.mode ≡ m)) (mode_kids symbols ps s.program s.«module» m x)
   mode_kids_are s m x at = by (named_program symbols x) refl
     where
-      by : (o : Option ℕ) → named_program symbols x ≡ o
-          → Each (λ r. (k : IsKid symbols ps s r) × (k.mode ≡ m)) (elim o [ Some q ↦ modules_in ps (Some (record { program = s.program; «module» = s.«module»; mode = m })) q | None ↦ [] ])
+      by : (o : Option ℕ) → named_program symbols x ≡ o → Each (λ r. (k : IsKid symbols ps s r) × (k.mode ≡ m)) (elim o [ Some q ↦ modules_in ps (Some (mode_in s m)) q | None ↦ [] ])
       by None e = tt
       by (Some q) e =
-          each_list_to (λ r. (k : IsKid symbols ps s r) × (k.mode ≡ m)) (nth_module q (Some (record { program = s.program; «module» = s.«module»; mode = m }))) (length (modules_at ps q))
-          (λ u lt. (
-            record {
-              mode = m;
-              inside = slice_get_within (modes_at ps s.program s.«module») m x at;
-              parent = refl;
-              placed = record { there = there_is (modules_at ps q) u lt; parent = record { mode = x; there = at; named = e } };
-            },
-            refl,
-          ))
+          each_in_program (λ r. (k : IsKid symbols ps s r) × (k.mode ≡ m)) (Some (mode_in s m)) q (record { mode = x; there = at; named = e })
+          (λ r placed parent. (record { mode = m; inside = slice_get_within (modes_at ps s.program s.«module») m x at; parent = parent; placed = placed }, refl))
 
-  pub kids_are : (s : ModuleAt) → Each (IsKid symbols ps s) (kids symbols ps s)
-  kids_are s =
-      each_flat_map_at (IsKid symbols ps s) (mode_kids symbols ps s.program s.«module») 0 (modes_at ps s.program s.«module»)
-      (λ i j x e at. subst (λ k. Each (IsKid symbols ps s) (mode_kids symbols ps s.program s.«module» k x)) (same i j e) (one j x at))
-    where
-      same : (i j : ℕ) → i ≡ 0 + j → j ≡ i
-      same i j e = omega (arith, e)
-
-      one : (j : ℕ) (x : PlainMode) → slice_get (modes_at ps s.program s.«module») j ≡ Some x → Each (IsKid symbols ps s) (mode_kids symbols ps s.program s.«module» j x)
-      one j x at =
-          each_weaker (λ r. (k : IsKid symbols ps s r) × (k.mode ≡ j)) (IsKid symbols ps s) (λ r k. k.0) (mode_kids symbols ps s.program s.«module» j x) (mode_kids_are s j x at)
+  pub each_kid : (P : ModuleAt → Type 0) (s : ModuleAt) → ((r : ModuleAt) → IsKid symbols ps s r → P r) → Each P (kids symbols ps s)
+  each_kid P s h =
+      let modes = modes_at ps s.program s.«module» in
+      let kids = mode_kids symbols ps s.program s.«module» in
+      each_flat_map_at P kids 0 modes
+      (λ m j x is at. each_weaker (λ r. (k : IsKid symbols ps s r) × (k.mode ≡ m)) P (λ r k. h r k.0) (kids m x) (mode_kids_are s m x (at_place modes m j x is at)))
 
   -- what passes on to kids holds of all below
   module _ (P : ModuleAt → Type 0) (step : (s r : ModuleAt) → IsKid symbols ps s r → P s → P r) where
     pub each_below : (n : ℕ) (s : ModuleAt) → P s → Each P (below n symbols ps s)
     each_below zero s p = (p, tt)
     each_below (suc n) s p =
-        (p, each_flat_map P (below n symbols ps) (kids symbols ps s) (each_weaker (IsKid symbols ps s) (λ r. Each P (below n symbols ps r)) (λ r k. each_below n r (step s r k p)) (kids symbols ps s) (kids_are s)))
+        (p, each_flat_map P (below n symbols ps) (kids symbols ps s) (each_kid (λ r. Each P (below n symbols ps r)) s (λ r k. each_below n r (step s r k p))))
 
-    -- and what holds of some, of all below them
-    pub each_beyond : (n : ℕ) (xs : List ModuleAt) → Each P xs → Each P (flat_map (below n symbols ps) xs)
-    each_beyond n xs h = each_flat_map P (below n symbols ps) xs (each_weaker P (λ r. Each P (below n symbols ps r)) (each_below n) xs h)
-
-    pub each_kid : (n : ℕ) (s : ModuleAt) → ((r : ModuleAt) → IsKid symbols ps s r → P r) → Each P (flat_map (below n symbols ps) (kids symbols ps s))
-    each_kid n s h = each_beyond n (kids symbols ps s) (each_weaker (IsKid symbols ps s) P h (kids symbols ps s) (kids_are s))
-
-  pub roots_are : Each (λ (s : ModuleAt). IsPlaced symbols ps s × (s.parent ≡ None)) (modules_in ps None 0)
-  roots_are =
-      each_list_to (λ (s : ModuleAt). IsPlaced symbols ps s × (s.parent ≡ None)) (nth_module 0 None) (length (modules_at ps 0))
-      (λ u lt. (record { there = there_is (modules_at ps 0) u lt; parent = refl }, refl))
+    pub each_below_kids : (n : ℕ) (s : ModuleAt) → ((r : ModuleAt) → IsKid symbols ps s r → P r) → Each P (flat_map (below n symbols ps) (kids symbols ps s))
+    each_below_kids n s h = each_flat_map P (below n symbols ps) (kids symbols ps s) (each_kid (λ r. Each P (below n symbols ps r)) s (λ r k. each_below n r (h r k)))
 
   pub modules_placed : Each (IsPlaced symbols ps) (order symbols ps)
   modules_placed =
-      each_beyond (IsPlaced symbols ps) (λ s t k q. k.placed) (length ps) (modules_in ps None 0)
-      (each_weaker (λ (s : ModuleAt). IsPlaced symbols ps s × (s.parent ≡ None)) (IsPlaced symbols ps) (λ r p. p.0) (modules_in ps None 0) roots_are)
+      each_flat_map (IsPlaced symbols ps) (below (length ps) symbols ps) (modules_in ps None 0)
+      (each_root (λ r. Each (IsPlaced symbols ps) (below (length ps) symbols ps r)) (λ r placed top. each_below (IsPlaced symbols ps) (λ s t k q. k.placed) (length ps) r placed))
 
   -- ---- the root modules
 
   none_kept : (xs : List ModuleAt) → Each (λ s. is_root_module s ≡ false) xs → filter is_root_module xs ≡ []
   none_kept [] h = refl
-  none_kept (x ∷ xs) h = ap (λ b. cond b (x ∷ filter is_root_module xs) (filter is_root_module xs)) h.0 ∙ none_kept xs h.1
+  none_kept (x ∷ xs) h = let here = h.0 in let rest = none_kept xs h.1 in grind (arith, common_steps)
 
   kid_no_root : (s r : ModuleAt) → IsKid symbols ps s r → is_root_module r ≡ false
   kid_no_root s r k = ap (λ (o : Option ModeAt). elim o [ Some a ↦ false | None ↦ true ]) k.parent
 
   below_roots : (n : ℕ) (s : ModuleAt) → s.parent ≡ None → filter is_root_module (below n symbols ps s) ≡ s ∷ []
-  below_roots zero s e = ap (λ (o : Option ModeAt). cond (elim o [ Some a ↦ false | None ↦ true ]) (s ∷ []) []) e
+  below_roots zero s e = grind (arith, common_steps)
   below_roots (suc n) s e =
       let rest = flat_map (below n symbols ps) (kids symbols ps s) in
-      let no = none_kept rest (each_kid (λ r. is_root_module r ≡ false) (λ t q l p. kid_no_root t q l) n s (kid_no_root s)) in
-      ap (λ (o : Option ModeAt). cond (elim o [ Some a ↦ false | None ↦ true ]) (s ∷ filter is_root_module rest) (filter is_root_module rest)) e ∙ ap (λ l. s ∷ l) no
+      let no = none_kept rest (each_below_kids (λ r. is_root_module r ≡ false) (λ t q l p. kid_no_root t q l) n s (kid_no_root s)) in
+      grind (arith, common_steps)
 
-  all_roots : (n : ℕ) (xs : List ModuleAt) → Each (λ (s : ModuleAt). IsPlaced symbols ps s × (s.parent ≡ None)) xs → filter is_root_module (flat_map (below n symbols ps) xs) ≡ xs
+  all_roots : (n : ℕ) (xs : List ModuleAt) → Each (λ (s : ModuleAt). s.parent ≡ None) xs → filter is_root_module (flat_map (below n symbols ps) xs) ≡ xs
   all_roots n [] h = refl
   all_roots n (x ∷ xs) h =
-      filter-append is_root_module (below n symbols ps x) (flat_map (below n symbols ps) xs)
-      ∙ ap (λ l. l ++ filter is_root_module (flat_map (below n symbols ps) xs)) (below_roots n x h.0.1)
-      ∙ ap (λ l. x ∷ l) (all_roots n xs h.1)
+      let both = filter-append is_root_module (below n symbols ps x) (flat_map (below n symbols ps) xs) in
+      let first = below_roots n x h.0 in
+      let rest = all_roots n xs h.1 in
+      cc
 
   pub roots_of : filter is_root_module (order symbols ps) ≡ modules_in ps None 0
-  roots_of = all_roots (length ps) (modules_in ps None 0) roots_are
+  roots_of = all_roots (length ps) (modules_in ps None 0) (each_root (λ (s : ModuleAt). s.parent ≡ None) (λ r placed top. top))
 
 -- ---- the module of a refined mode stands before the modules that refine it
 
@@ -156,9 +144,8 @@ module _ (symbols : List (Key × ℕ)) (ps : List PlainProgram) where
   before_below (suc n) s r (suc k) a e p =
       elim (before_flat n (kids symbols ps s) (before_below n) r k a e p) [
         | inl top ↦
-            let kid = each_at (IsKid symbols ps s) (kids symbols ps s) top.0 top.1 (kids_are symbols ps s) top.2 in
-            let one : ModeAt = record { program = s.program; «module» = s.«module»; mode = kid.mode } in
-            let same : one ≡ a = same_Some one a (sym kid.parent ∙ top.3) in
+            let kid = each_at (IsKid symbols ps s) (kids symbols ps s) top.0 top.1 (each_kid symbols ps (IsKid symbols ps s) s (λ r k. k)) top.2 in
+            let same = same_Some (mode_in s kid.mode) a (sym kid.parent ∙ top.3) in
             inr (subst (λ b. StandsBefore ps (below (suc n) symbols ps s) (suc k) b) same
             (record { place = 0; lower = omega arith; «module» = s; there = refl; program = refl; number = refl; mode = kid.inside }))
         | inr b ↦
@@ -170,7 +157,7 @@ module _ (symbols : List (Key × ℕ)) (ps : List PlainProgram) where
   parents_before k s a e p =
       elim (before_flat (length ps) (modules_in ps None 0) (before_below (length ps)) s k a e p) [
         | inl top ↦
-            let root = each_at (λ (r : ModuleAt). IsPlaced symbols ps r × (r.parent ≡ None)) (modules_in ps None 0) top.0 top.1 (roots_are symbols ps) top.2 in
-            absurd (none-some a (sym root.1 ∙ top.3))
+            let root = each_at (λ (r : ModuleAt). r.parent ≡ None) (modules_in ps None 0) top.0 top.1 (each_root symbols ps (λ (r : ModuleAt). r.parent ≡ None) (λ r placed none. none)) top.2 in
+            absurd (none-some a (sym root ∙ top.3))
         | inr b ↦ b
       ]
